@@ -1,0 +1,5 @@
+pub mod Growth
+pub mod Written
+mod Listed
+mod Entries
+mod Examples

@@ -1,0 +1,6 @@
+pub mod Counts
+pub mod Trees
+pub mod Sinks
+pub mod Calls
+pub mod MemoryFiles
+pub mod MemorySink
