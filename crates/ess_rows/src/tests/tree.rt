@@ -4,7 +4,7 @@ ghost use Rattle.std.specs.Prelude.{◌≡◌, IfOk};
 use super::*;
 use std::alloc::Global;
 
-#[derive(Debug, Drop, PartialEq, Eq, PartialOrd, Ord)]
+#[derive(Drop, PartialEq)]
 enum Tree {
     Leaf(Text),
     Not(Boxed<Tree>),
@@ -54,14 +54,13 @@ fn a_tree_is_copied_compared_and_changed(rt: HostRuntime) -> Result<(), Fail> {
     let alloc = rt.alloc();
     let tree = sample(alloc, "a")?;
     let mut copied = tree.copy(alloc)?;
-    assert_eq!(rt; copied, tree);
-    assert_ne!(rt; copied, sample(alloc, "c")?);
-    assert!(rt; tree < sample(alloc, "c")?);
+    assert!(rt; copied == tree);
+    assert!(rt; copied != sample(alloc, "c")?);
     if let Tree::All(trees) = &mut copied {
         if let Some(first) = trees.get_mut(0) {
             *first = Tree::Leaf(Text::from_str(alloc, "c")?);
         }
     }
-    assert_eq!(rt; copied, sample(alloc, "c")?);
+    assert!(rt; copied == sample(alloc, "c")?);
     Ok(())
 }
