@@ -1,5 +1,5 @@
 -- Cells behind an index list: one index after the other, at a prefix of tables, and as slices of tables.
-use Rattle.std.proofs.Common.{◌≡◌, refl, sym, ap, ◌∙◌, ℕ, zero, suc, List, [], ◌∷◌, ◌++◌, map, take, drop, length, ℤ, Option, Some, None}
+use Rattle.std.proofs.Common.{◌≡◌, refl, sym, ap, ◌∙◌, ℕ, zero, suc, List, [], ◌∷◌, ◌++◌, map, take, drop, length, ℤ, Option, Some, None, option_map}
 use Rattle.std.proofs.Math.Path.{fun_ext}
 use Rattle.ess_semantics.specs.Lists.{and_then, or_default, each_of}
 use Rattle.ess_semantics.specs.Trees.{Repr}
@@ -81,8 +81,8 @@ pub values-slices : (r : Repr) (d : Domain) (ts : Tables) (js : List (List ℤ))
     each_of js (λ j. value_of_cells r d (behind j (cells_of ts))) ≡ each_of (map (slices ts) js) (λ us. value_of_cells r d (cells_of us))
 values-slices r d ts [] = refl
 values-slices r d ts (j ∷ js) =
-    ap (λ c. and_then (value_of_cells r d c) (λ v. Rattle.std.specs.Prelude.option_map (λ vs. v ∷ vs) (each_of js (λ j. value_of_cells r d (behind j (cells_of ts)))))) (sym (cells_of-slices ts j))
-    ∙ ap (λ o. and_then (value_of_cells r d (cells_of (slices ts j))) (λ v. Rattle.std.specs.Prelude.option_map (λ vs. v ∷ vs) o)) (values-slices r d ts js)
+    ap (λ c. and_then (value_of_cells r d c) (λ v. option_map (λ vs. v ∷ vs) (each_of js (λ j. value_of_cells r d (behind j (cells_of ts)))))) (sym (cells_of-slices ts j))
+    ∙ ap (λ o. and_then (value_of_cells r d (cells_of (slices ts j))) (λ v. option_map (λ vs. v ∷ vs) o)) (values-slices r d ts js)
 
 -- ---- joined tables
 

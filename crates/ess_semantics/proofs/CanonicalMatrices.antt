@@ -1,5 +1,5 @@
 -- Matrices are right over finite index domains, where their elements' representation is.
-use Rattle.std.proofs.Common.{◌≡◌, refl, sym, ap, ◌∙◌, subst, ℕ, zero, suc, ◌+◌, ◌*◌, ◌-◌, ◌≤◌, ◌<◌, Bool, true, false, ◌&&◌, List, [], ◌∷◌, ◌++◌, map, take, drop, length, ℤ, Option, Some, None, option_map, is_some, IsTrue, nat_eq, arith, suc-mul}
+use Rattle.std.proofs.Common.{◌≡◌, refl, sym, ap, ◌∙◌, ℕ, zero, suc, ◌+◌, ◌*◌, Bool, true, ◌&&◌, List, [], ◌∷◌, ◌++◌, map, take, drop, length, Option, Some, None, option_map, is_some, IsTrue, nat_eq, arith, suc-mul, zero-mul, length-append}
 use Rattle.std.proofs.lemmas.Bool.{eq-eqb}
 use Rattle.std.specs.List.{list_all}
 use Rattle.std.specs.Ordering.{is_eq}
@@ -53,7 +53,7 @@ parts-there f n h (suc k) vs e =
 -- where f tells lists of n items apart, its answers tell lists of k times n items apart
 parts-once : {B : Type 0} (f : List Value → Option B) (n : ℕ) → ((xs xs' : List Value) (y : B) → length xs ≡ n → length xs' ≡ n → f xs ≡ Some y → f xs' ≡ Some y → xs ≡ xs') →
     (k : ℕ) (vs vs' : List Value) (ys : List B) → length vs ≡ k * n → length vs' ≡ k * n → each_of (in_lists_of k n vs) f ≡ Some ys → each_of (in_lists_of k n vs') f ≡ Some ys → vs ≡ vs'
-parts-once f n h zero vs vs' ys e e' p q = none vs vs' (e ∙ Rattle.std.proofs.Common.zero-mul n) (e' ∙ Rattle.std.proofs.Common.zero-mul n)
+parts-once f n h zero vs vs' ys e e' p q = none vs vs' (e ∙ zero-mul n) (e' ∙ zero-mul n)
   where
     none : (vs vs' : List Value) → length vs ≡ 0 → length vs' ≡ 0 → vs ≡ vs'
     none [] [] a b = refl
@@ -175,9 +175,9 @@ nested-member (more_domains d ds) a f vs v e h p =
 -- ---- places
 
 heads-length : {A : Type 0} (xs : List A) (ls : List (List A)) → length (add_heads xs ls) ≡ length xs * length ls
-heads-length [] ls = sym (Rattle.std.proofs.Common.zero-mul (length ls))
+heads-length [] ls = sym (zero-mul (length ls))
 heads-length (x ∷ xs) ls =
-    Rattle.std.proofs.Common.length-append (map (λ l. x ∷ l) ls) (add_heads xs ls)
+    length-append (map (λ l. x ∷ l) ls) (add_heads xs ls)
     ∙ (let a = map-long (λ l. x ∷ l) ls in let b = heads-length xs ls in let c = suc-mul (length xs) (length ls) in omega arith)
   where
     map-long : {A B : Type 0} (f : A → B) (xs : List A) → length (map f xs) ≡ length xs

@@ -1,6 +1,6 @@
 -- Layers whose places are all in use, in an order of their own: the children's values decide their rows, are members, and
 -- are orderly, where the children are right.
-use Rattle.std.proofs.Common.{◌≡◌, refl, sym, ap, ◌∙◌, ℕ, zero, suc, Bool, true, false, ◌&&◌, ◌||◌, not, List, [], ◌∷◌, ◌++◌, map, take, drop, length, ℤ, Option, Some, None, option_map, nat_eq}
+use Rattle.std.proofs.Common.{◌≡◌, refl, sym, ap, ◌∙◌, Bool, true, ◌&&◌, ◌||◌, List, [], ◌∷◌, ◌++◌, map, take, drop, length, ℤ, Option, Some, None, option_map, nat_eq, subst}
 use Rattle.std.specs.List.{list_all}
 use Rattle.ess_semantics.specs.Lists.{and_then, each_of, is_some_and}
 use Rattle.ess_semantics.specs.Values.{Value}
@@ -183,7 +183,7 @@ module _ (ds : List Domain) (bs : Axes) (f : Cells → List (List Value) → Opt
       (children-members own rs es a.1 (drop (width r) c) x.others (and-right (child_is_canonical all_places own (axes_of r e) (canonical r e) (take (width r) c)) (children_are_canonical all_places own rs es (drop (width r) c)) h) x.rest)
     where
       go : {vs : List Value} {others : List (List Value)} (vss : List (List Value)) → vss ≡ vs ∷ others → list_all (member e) vs ≡ true → AllMembers es others → AllMembers (e ∷ es) vss
-      go {vs} {others} vss w p q = Rattle.std.proofs.Common.subst (AllMembers (e ∷ es)) (sym w) (p, q)
+      go {vs} {others} vss w p q = subst (AllMembers (e ∷ es)) (sym w) (p, q)
 
   pub children-orderly : (own : Cells) (rs : Reprs) (es : List Domain) → AllRight rs es → (c : Cells) →
       children_are_canonical all_places own rs es c ≡ true → are_orderly all_places rs es c (lists_of bs) ≡ true

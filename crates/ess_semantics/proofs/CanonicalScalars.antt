@@ -34,13 +34,13 @@ boolean-stands m h = go (same_int m (pos 0)) refl h
     go true q h = let e = same_int-equal m (pos 0) q in (truth false, ap (λ n. option_map truth (truth_of n)) e, refl, sym e)
     go false q h = let e = same_int-equal m (pos 1) h in (truth true, ap (λ n. option_map truth (truth_of n)) e, refl, sym e)
 
-integer-stands : (ss : List Span) (m : ℤ) → is_cell (integers ss) m ≡ true → Stands (integers ss) m
+pub integer-stands : (ss : List Span) (m : ℤ) → is_cell (integers ss) m ≡ true → Stands (integers ss) m
 integer-stands ss m h = (number m, refl, h, refl)
 
 same-text-itself : (t : Text) → same_text t t ≡ true
 same-text-itself t = ap is_eq (tied_itself text_total t)
 
-named-stands : (t : Text) (n : ℕ) (m : ℤ) → is_cell (as_cell (named t n)) m ≡ true → Stands (named t n) m
+pub named-stands : (t : Text) (n : ℕ) (m : ℤ) → is_cell (as_cell (named t n)) m ≡ true → Stands (named t n) m
 named-stands t n (negsuc k) h = cc
 named-stands t n (pos k) h = go (within (nat_le 1 k) (nat_le k n) h)
   where

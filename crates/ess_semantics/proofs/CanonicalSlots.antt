@@ -1,36 +1,32 @@
 -- Sets as slots: what canonical cells of slots say, where those of the inner domain are right. The first n slots are in
 -- use, whatever says so; their values make a member, differ, and decide the rows of all slots.
-use Rattle.std.proofs.Common.{◌≡◌, refl, sym, ap, ◌∙◌, ℕ, zero, suc, ◌+◌, Bool, true, ◌&&◌, ◌||◌, not, List, [], ◌∷◌, take, length, ℤ, pos, Option, Some, arith, nat_eq}
+use Rattle.std.proofs.Common.{◌≡◌, refl, sym, ap, ◌∙◌, ℕ, ◌+◌, Bool, true, ◌&&◌, ◌||◌, not, List, [], ◌∷◌, take, length, ℤ, pos, Option, Some, arith, nat_eq}
 use Rattle.std.proofs.lemmas.Bool.{le-leb, lt-leb}
 use Rattle.std.specs.List.{list_all}
 use Rattle.std.specs.Ordering.{is_lt}
 use Rattle.ess_semantics.specs.Lists.{each_of, is_some_and}
 use Rattle.ess_semantics.specs.Values.{Value, of_list, to_list, itself}
 use Rattle.ess_semantics.specs.Collections.{holds, strictly, set_of, rises, no_twice}
-use Rattle.ess_semantics.specs.Numbers.{run_from, one_to}
+use Rattle.ess_semantics.specs.Numbers.{one_to}
 use Rattle.ess_semantics.specs.Trees.{Repr, Reprs, no_reprs, more_reprs}
 use Rattle.ess_semantics.specs.Domains.{Attribute, Domain, sets, lists_of}
 use Rattle.ess_semantics.specs.Attributes.{set_attributes_hold}
 use Rattle.ess_semantics.specs.Membership.{member}
 use Rattle.ess_semantics.specs.Tables.{Tables}
 use Rattle.ess_semantics.specs.Cells.{Cells, behind, are_zero, rows, order_rows}
-use Rattle.ess_semantics.specs.Layers.{OwnTable, Layer, Use, Slot}
+use Rattle.ess_semantics.specs.Layers.{OwnTable, Layer, Use, Slot, only_child}
 use Rattle.ess_semantics.specs.SetLayers.{slots_layer}
 use Rattle.ess_semantics.specs.Representations.{width, is_used, places_in_use, value_of_cells}
 use Rattle.ess_semantics.specs.Declarations.{axes_of}
 use Rattle.ess_semantics.specs.CanonicalTest.{next_slot, in_use_first, slots_rise, child_is_canonical, canonical}
 use Rattle.ess_semantics.specs.Tidy.{is_orderly, are_orderly}
-use Rattle.ess_semantics.proofs.Tests.{and-left, and-right, and-both, if-so, if-not, run-all}
+use Rattle.ess_semantics.proofs.Tests.{and-left, and-right, and-both, if-so, if-not, run-all, run-length}
 use Rattle.ess_semantics.proofs.Orders.{to_list-of_list}
 use Rattle.ess_semantics.proofs.Sorting.{less-of, strictly-rises, all-strictly, strictly-length, holds-strictly, distinct-twice}
 use Rattle.ess_semantics.proofs.RowsOfCells.{EachIndex, axes_of_children}
 use Rattle.ess_semantics.proofs.SlotsUsed.{SlotsUsed, as_place, slots-are, all-map, each_of-map, each-slot, each-run}
 use Rattle.ess_semantics.proofs.OneForm.{Filled, filled-once, filled-distinct, values-length, each-value}
 use Rattle.ess_semantics.proofs.CanonicalParts.{Right, Parts, value_of_layer, value-of-parts, only-child, only-child-rows}
-
-run-length : (a n : ℕ) → length (run_from a n) ≡ n
-run-length a zero = refl
-run-length a (suc n) = ap suc (run-length (suc a) n)
 
 -- ---- slots in use, from one layer of the inner domain
 
@@ -133,7 +129,7 @@ module _ (r : Repr) (e : Domain) (right : Right r e) (S : ℕ) (use_of_slots : U
           full = filled own (take (width r) inner) n o.vs u o.inside q;
           places = u.found;
           values = q;
-          value = value-of-parts whole child own inner p ∙ ap (λ vss. Some (set_of (Rattle.ess_semantics.specs.Layers.only_child vss))) o.only;
+          value = value-of-parts whole child own inner p ∙ ap (λ vss. Some (set_of (only_child vss))) o.only;
           long = o.long;
         }
 

@@ -1,5 +1,5 @@
 -- Worked examples of one layer up and down, and of cells at an index prefix.
-use Rattle.std.specs.Prelude.{◌≡◌, refl, ℕ, true, false, List, [], ◌∷◌, ℤ, pos, Some, None}
+use Rattle.std.specs.Prelude.{◌≡◌, refl, true, false, [], ◌∷◌, pos, Some, None, negsuc}
 use Rattle.ess_semantics.specs.declared.words.Key.{Key}
 use Rattle.ess_semantics.specs.declared.words.ReprKind.{ReprKind}
 use Rattle.ess_semantics.specs.Values.{Value}
@@ -48,7 +48,7 @@ no_slots = refl
 marker_above : inner_tables ReprKind.ExplicitVarSizeWithMarker two_sets (one_cell (pos 3) ∷ table2 (1 ∷ 2 ∷ []) (1 ∷ 2 ∷ []) (0 ∷ 1 ∷ 1 ∷ 0 ∷ []) ∷ []) ≡ None
 marker_above = refl
 
-marker_below_0 : layer_value ReprKind.ExplicitVarSizeWithMarker two_sets (one_cell (Rattle.std.specs.Prelude.negsuc 0) ∷ []) [] ≡ None
+marker_below_0 : layer_value ReprKind.ExplicitVarSizeWithMarker two_sets (one_cell (negsuc 0) ∷ []) [] ≡ None
 marker_below_0 = refl
 
 -- ---- behind an index

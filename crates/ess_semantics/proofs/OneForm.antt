@@ -12,67 +12,13 @@ use Rattle.ess_semantics.specs.Numbers.{run_from, one_to}
 use Rattle.ess_semantics.specs.Cells.{Cells, Axes, are_zero, rows, order_rows}
 use Rattle.ess_semantics.proofs.Tests.{or-yes}
 use Rattle.ess_semantics.proofs.Orders.{rows_total, same-itself, same-equal}
-use Rattle.ess_semantics.proofs.Sorting.{Below, Rising, Has, one-list, not-itself, Distinct}
+use Rattle.ess_semantics.proofs.Sorting.{Rising, Has, one-list, not-itself, Distinct}
+use Rattle.ess_semantics.proofs.Runs.{from_to, rising-from, has-at, found, same-at, below-at, apart-at}
 use Rattle.ess_semantics.proofs.RowsOfCells.{zeros-same}
 
 -- The rows of a value's cells.
 abbrev pub Rows : Type 0
 Rows = List (List ℤ)
-
--- ---- a function's values at the numbers from a on, as a list
-
-abbrev pub from_to : {A : Type 0} → (ℕ → A) → ℕ → ℕ → List A
-from_to f a zero = []
-from_to f a (suc n) = f a ∷ from_to f (suc a) n
-
-abbrev R< : Rows → Rows → Type 0
-R< x y = order_rows x y ≡ Less
-
-below-from : (f : ℕ → Rows) (x : Rows) (a n : ℕ) → R< x (f a) → ((k : ℕ) → a ≤ k → k + 1 < a + n → R< (f k) (f (k + 1))) → Below rows_total x (from_to f a n)
-below-from f x a zero p h = tt
-below-from f x a (suc zero) p h = (p, tt)
-below-from f x a (suc (suc n)) p h = (
-  p,
-  below-from f x (suc a) (suc n)
-      (let s : R< (f a) (f (suc a)) = let e : a + 1 ≡ suc a = omega arith in subst (λ j. R< (f a) (f j)) e (h a (le_refl a) (omega arith)) in rows_total.trans x (f a) (f (suc a)) p s)
-      (λ k u v. h k (omega arith) (omega arith)),
-)
-
-pub rising-from : (f : ℕ → Rows) (a n : ℕ) → ((k : ℕ) → a ≤ k → k + 1 < a + n → R< (f k) (f (k + 1))) → Rising rows_total (from_to f a n)
-rising-from f a zero h = tt
-rising-from f a (suc zero) h = (tt, tt)
-rising-from f a (suc (suc n)) h = (
-  below-from f (f a) (suc a) (suc n) (let e : a + 1 ≡ suc a = omega arith in subst (λ j. R< (f a) (f j)) e (h a (le_refl a) (omega arith))) (λ k u v. h k (omega arith) (omega arith)),
-  rising-from f (suc a) (suc n) (λ k u v. h k (omega arith) (omega arith)),
-)
-
-has-at : (f : ℕ → Rows) (a n k : ℕ) → a ≤ k → k < a + n → Has rows_total (from_to f a n) (f k)
-has-at f a zero k p q = absurd (omega arith)
-has-at f a (suc n) k p q = go (eq-or-lt_of_le p) (λ h. has-at f (suc a) n k h (omega arith))
-  where
-    go : (a ≡ k) ⊎ (a < k) → (a < k → Has rows_total (from_to f (suc a) n) (f k)) → (f a ≡ f k) ⊎ Has rows_total (from_to f (suc a) n) (f k)
-    go (inl h) r = inl (ap f h)
-    go (inr h) r = inr (r h)
-
-abbrev Found : (ℕ → Rows) → ℕ → ℕ → Rows → Type 0
-Found f a n x = (k : ℕ) × (a ≤ k) × (k < a + n) × (f k ≡ x)
-
-found : (f : ℕ → Rows) (a n : ℕ) (x : Rows) → Has rows_total (from_to f a n) x → Found f a n x
-found f a zero x h = absurd h
-found f a (suc n) x (inl e) = (a, le_refl a, omega arith, e)
-found f a (suc n) x (inr h) = let r = found f (suc a) n x h in (r.0, (let s = r.1 in omega arith), (let s = r.2 in omega arith), r.3)
-
-same-at : (f g : ℕ → Rows) (a n m : ℕ) → from_to f a n ≡ from_to g a m → (n ≡ m) × ((k : ℕ) → a ≤ k → k < a + n → f k ≡ g k)
-same-at f g a zero zero e = (refl, λ k p q. absurd (omega arith))
-same-at f g a zero (suc m) e = cc
-same-at f g a (suc n) zero e = cc
-same-at f g a (suc n) (suc m) e =
-    let h : f a ≡ g a = cc in let t : from_to f (suc a) n ≡ from_to g (suc a) m = cc in let r = same-at f g (suc a) n m t in
-    (ap suc r.0, λ k p q. go k (eq-or-lt_of_le p) h (λ s. r.1 k s (omega arith)))
-  where
-    go : (k : ℕ) → (a ≡ k) ⊎ (a < k) → f a ≡ g a → (a < k → f k ≡ g k) → f k ≡ g k
-    go k (inl e) h r = subst (λ j. f j ≡ g j) e h
-    go k (inr s) h r = r s
 
 -- ---- the values of slots
 
@@ -150,20 +96,20 @@ module _ (ass : List Axes) (p : Cells → Bool) (st : Cells → Option Value)
   abbrev R : (ℤ → Cells) → ℕ → Rows
   R g k = rows ass (g (pos k))
 
-  rising : (g : ℤ → Cells) (S n : ℕ) (vs : List Value) → Filled g S n vs → Rising rows_total (from_to (R g) 1 n)
-  rising g S n vs f = rising-from (R g) 1 n (λ k a b. f.rise k a (omega arith))
+  pub rising : (g : ℤ → Cells) (S n : ℕ) (vs : List Value) → Filled g S n vs → Rising rows_total (from_to (R g) 1 n)
+  rising g S n vs f = rising-from rows_total (R g) 1 n (λ k a b. f.rise k a (omega arith))
 
   within : (g g' : ℤ → Cells) (S S' n n' : ℕ) (vs vs' : List Value) → Filled g S n vs → Filled g' S' n' vs' → ((w : Value) → holds vs w ≡ true → holds vs' w ≡ true) →
       (x : Rows) → Has rows_total (from_to (R g) 1 n) x → Has rows_total (from_to (R g') 1 n') x
   within g g' S S' n n' vs vs' f f' inc x h =
-      let r = found (R g) 1 n x h in
+      let r = found rows_total (R g) 1 n x h in
       let a : r.0 ≤ n = let m = r.2 in omega arith in
       let w = sound (g (pos r.0)) (f.inside r.0 r.1 a) in
       let k = held-value (λ j. st (g' j)) 1 n' vs' w.0 f'.values (inc w.0 (value-held (λ j. st (g j)) 1 n r.0 vs w.0 f.values r.1 r.2 w.1)) in
       let b : k.0 ≤ n' = let m = k.2 in omega arith in
       let e = unique (g (pos r.0)) (g' (pos k.0)) (f.inside r.0 r.1 a) (f'.inside k.0 k.1 b) (w.1 ∙ sym k.3) in
       let same : R g' k.0 ≡ x = sym e ∙ r.3 in
-      subst (Has rows_total (from_to (R g') 1 n')) same (has-at (R g') 1 n' k.0 k.1 k.2)
+      subst (Has rows_total (from_to (R g') 1 n')) same (has-at rows_total (R g') 1 n' k.0 k.1 k.2)
 
   -- Two canonical forms with the same values are one.
   pub filled-once : (g g' : ℤ → Cells) (S n n' : ℕ) (vs vs' : List Value) → Filled g S n vs → Filled g' S n' vs' → ((w : Value) → holds vs w ≡ holds vs' w) →
@@ -179,14 +125,6 @@ module _ (ass : List Axes) (p : Cells → Bool) (st : Cells → Option Value)
       go m r k a b (inr c) = r k a (omega arith)
 
   -- the values of slots that rise differ
-  below-at : (R : ℕ → Rows) (x : Rows) (a n k : ℕ) → Below rows_total x (from_to R a n) → a ≤ k → k < a + n → order_rows x (R k) ≡ Less
-  below-at R x a zero k b p q = absurd (omega arith)
-  below-at R x a (suc n) k b p q = go (eq-or-lt_of_le p) (λ s. below-at R x (suc a) n k b.1 s (omega arith))
-    where
-      go : (a ≡ k) ⊎ (a < k) → (a < k → order_rows x (R k) ≡ Less) → order_rows x (R k) ≡ Less
-      go (inl e) r = subst (λ j. order_rows x (R j) ≡ Less) e b.0
-      go (inr s) r = r s
-
   distinct-from : (f : ℤ → Option Value) (R : ℕ → Rows) (a n : ℕ) (vs : List Value) → each_of (run_from a n) f ≡ Some vs → Rising rows_total (from_to R a n) →
       ((j k : ℕ) → a ≤ j → j < a + n → a ≤ k → k < a + n → f (pos j) ≡ f (pos k) → R j ≡ R k) → Distinct vs
   distinct-from f R a zero vs e r u = let q : [] ≡ vs = cc in subst Distinct q tt
@@ -198,7 +136,7 @@ module _ (ass : List Axes) (p : Cells → Bool) (st : Cells → Option Value)
       no v zs x y true q =
           let s = held-value f (suc a) n zs v y q in
           let e = u a s.0 (le_refl a) (omega arith) (let m = s.1 in omega arith) (let m = s.2 in omega arith) (x ∙ sym s.3) in
-          let l = below-at R (R a) (suc a) n s.0 r.0 s.1 s.2 in
+          let l = below-at rows_total R (R a) (suc a) n s.0 r.0 s.1 s.2 in
           absurd (not-itself rows_total (R a) (ap (order_rows (R a)) e ∙ l))
 
       go : (o : Option Value) (c : Option (List Value)) → f (pos a) ≡ o → each_of (run_from (suc a) n) f ≡ c → and_then o (λ y. option_map (λ ys. y ∷ ys) c) ≡ Some vs →
@@ -211,3 +149,7 @@ module _ (ass : List Axes) (p : Cells → Bool) (st : Cells → Option Value)
   filled-distinct g S n vs f =
       distinct-from (λ j. st (g j)) (R g) 1 n vs f.values (rising g S n vs f)
       (λ j k p1 p2 p3 p4 q. unique (g (pos j)) (g (pos k)) (f.inside j p1 (omega arith)) (f.inside k p3 (omega arith)) q)
+
+  -- the rows of two slots in use that are one are those of one slot
+  pub filled-apart : (g : ℤ → Cells) (S n : ℕ) (vs : List Value) → Filled g S n vs → (j k : ℕ) → 1 ≤ j → j ≤ n → 1 ≤ k → k ≤ n → rows ass (g (pos j)) ≡ rows ass (g (pos k)) → j ≡ k
+  filled-apart g S n vs f j k a b c d e = apart-at rows_total (R g) 1 n (rising g S n vs f) j k a (omega arith) c (omega arith) e

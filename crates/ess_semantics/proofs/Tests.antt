@@ -1,5 +1,5 @@
 -- Small laws of truth values and of tests on lists.
-use Rattle.std.proofs.Common.{◌≡◌, refl, sym, ap, ◌∙◌, ℕ, zero, suc, ◌+◌, ◌≤◌, ◌<◌, Bool, true, false, ◌&&◌, ◌||◌, not, ℤ, pos, Option, Some, None, arith, le_refl, eq-or-lt_of_le, ◌⊎◌, inl, inr}
+use Rattle.std.proofs.Common.{◌≡◌, refl, sym, ap, ◌∙◌, ℕ, zero, suc, ◌+◌, ◌≤◌, ◌<◌, Bool, true, false, ◌&&◌, ◌||◌, not, ℤ, pos, Option, Some, None, arith, le_refl, eq-or-lt_of_le, ◌⊎◌, inl, inr, length}
 use Rattle.std.specs.List.{list_all}
 use Rattle.ess_semantics.specs.Lists.{is_some_and}
 use Rattle.ess_semantics.specs.Numbers.{run_from}
@@ -65,3 +65,7 @@ all-run f a (suc n) k e p q = go (eq-or-lt_of_le p) (λ h. all-run f (suc a) n k
 pub run-all : (f : ℤ → Bool) (a n : ℕ) → ((k : ℕ) → a ≤ k → k < a + n → f (pos k) ≡ true) → list_all f (run_from a n) ≡ true
 run-all f a zero h = refl
 run-all f a (suc n) h = and-both (f (pos a)) (list_all f (run_from (suc a) n)) (h a (le_refl a) (omega arith)) (run-all f (suc a) n (λ k p q. h k (omega arith) (omega arith)))
+
+pub run-length : (a n : ℕ) → length (run_from a n) ≡ n
+run-length a zero = refl
+run-length a (suc n) = ap suc (run-length (suc a) n)

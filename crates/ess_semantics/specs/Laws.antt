@@ -13,6 +13,8 @@ use Rattle.ess_semantics.specs.Typing.{type_of}
 use Rattle.ess_semantics.specs.Resolving.{resolve}
 use Rattle.ess_semantics.specs.Substitution.{NamesAre}
 use Rattle.ess_semantics.specs.Meaning.{Env, meaning}
+use Rattle.ess_semantics.specs.Contexts.{In, fill, Where}
+use Rattle.ess_semantics.specs.Kept.{Kept}
 use Rattle.ess_semantics.specs.Assignments.{Assignment}
 use Rattle.ess_semantics.specs.Parameters.{Param, fits_param, param_verdict}
 use Rattle.ess_semantics.specs.Solutions.{Sol, valid, verdict}
@@ -40,6 +42,14 @@ BooleansHaveTruthValues = (b : Bool) (op : Op) (es : Exs) (g : Names Ty) (env : 
 abbrev pub UnusedNamesChangeNothing : Type 0
 UnusedNamesChangeNothing = (x : Text) (v : Value) (e : Ex) (env : Env) → NamesAre (λ a. not (same_text x a)) (λ a. true) e →
     meaning e (record env { vals = (x, v) ∷ env.vals }) ≡ meaning e env
+
+-- A part of a tree may be replaced by one that means the same wherever the context of the part holds.
+abbrev pub PartsMayBeReplaced : Type 0
+PartsMayBeReplaced = (c : In) (a b : Ex) (env : Env) → Where c env (λ here. meaning a here ≡ meaning b here) → meaning (fill c a) env ≡ meaning (fill c b) env
+
+-- A rule that keeps a part, used anywhere in a tree, keeps the whole.
+abbrev pub KeptPartsKeepTheWhole : Type 0
+KeptPartsKeepTheWhole = (c : In) (old new : Ex) → Kept old new → Kept (fill c old) (fill c new)
 
 -- A parameter is one exactly where the verdict says that it fits.
 abbrev pub ParameterFits : Type 0

@@ -45,6 +45,7 @@ pub mod Occurrences
 -- Contexts, structures, scope, and what rules keep
 pub mod Contexts
 pub mod Meets
+pub mod Kept
 pub mod Full
 pub mod Totality
 pub mod Refined

@@ -1,6 +1,6 @@
 //! Laws over the definitions, each the contract of a function that does nothing.
 
-ghost use Rattle.ess_semantics.specs.Laws.{OrderIsTotal, SetsHaveTheirMembers, BooleansHaveTruthValues, ParameterFits, SolutionIsValid, StoodForIsSolution, UnusedNamesChangeNothing};
+ghost use Rattle.ess_semantics.specs.Laws.{OrderIsTotal, SetsHaveTheirMembers, BooleansHaveTruthValues, ParameterFits, SolutionIsValid, StoodForIsSolution, UnusedNamesChangeNothing, PartsMayBeReplaced, KeptPartsKeepTheWhole};
 
 /// The order of values is total, and Equal only at equal values.
 pub fn order_is_total()
@@ -21,6 +21,18 @@ pub fn booleans_have_truth_values()
 /// nowhere else.
 pub fn unused_names_change_nothing()
     ensures { UnusedNamesChangeNothing }
+{}
+
+/// A part of a tree may be replaced by one that means the same wherever the context of the part holds: at the bindings
+/// of the generators in scope at which the conditions before it hold, and where the left operands of `/\` and `->` are
+/// true whose right operands hold it.
+pub fn parts_may_be_replaced()
+    ensures { PartsMayBeReplaced }
+{}
+
+/// A rule that keeps a part, used anywhere in a tree, keeps the whole: its meaning, and that tables meet its structures.
+pub fn kept_parts_keep_the_whole()
+    ensures { KeptPartsKeepTheWhole }
 {}
 
 /// A parameter is one exactly where the verdict says that it fits.
@@ -48,6 +60,8 @@ mod tests {
         sets_have_their_members();
         booleans_have_truth_values();
         unused_names_change_nothing();
+        parts_may_be_replaced();
+        kept_parts_keep_the_whole();
         parameter_fits();
         solution_is_valid();
         stood_for_is_solution();
