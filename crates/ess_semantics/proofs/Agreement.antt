@@ -71,6 +71,7 @@ module _ (pl : Bool) (ts : List TypeEntry) (cs : Names Table) (n : Text → Bool
   pub itself-named : (a : Text) (g h : Vals) → IsTrue (n a) → AgreeOn n g h → meaning (name_ex a) (E pl ts cs h) ≡ look g a
   itself-named a g h o s = sym (s a o)
 
+  -- The same at a name that is bound.
   pub itself-bound : (a : Text) (v : Value) (g h : Vals) → IsTrue (any a) → AgreeOn n g h → AgreeOn n ((a, v) ∷ g) ((a, v) ∷ h)
   itself-bound a v g h o s = agree-bound n a v g h s
 
@@ -110,6 +111,7 @@ module _ (pl : Bool) (ts : List TypeEntry) (cs : Names Table) (s : Text → Bool
       go true q = p.1 ∙ ap (look g) (same_text-equal x a q)
       go false q = sym (p.0 a (ap not q))
 
+  -- The same at a name that is bound.
   pub put-bound : (a : Text) (v : Value) (g h : Vals) → IsTrue (outside s a) → Put g h → Put ((a, v) ∷ g) ((a, v) ∷ h)
   put-bound a v g h o p =
       (agree-bound (but x) a v g h p.0, meaning-agree pl ts cs s w h ((a, v) ∷ h) scoped (agree-outside s a v h o) ∙ p.1 ∙ agree-outside s a v g o x here)

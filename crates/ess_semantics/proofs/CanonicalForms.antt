@@ -22,25 +22,7 @@ use Rattle.ess_semantics.proofs.CanonicalCounted.{mset-flags-right}
 use Rattle.ess_semantics.proofs.CanonicalPartitions.{partition-as-set-right}
 use Rattle.ess_semantics.proofs.CanonicalNumbers.{partition-occurrence-right}
 use Rattle.ess_semantics.proofs.TupleMembers.{AllListed}
-use Rattle.ess_semantics.proofs.MemberLists.{Listed, booleans-listed, integers-listed, named-listed}
-
--- an atom
-abbrev pub IsAtom : Domain → Type 0
-IsAtom booleans = Unit {0}
-IsAtom (integers ss) = Unit {0}
-IsAtom (named t n) = Unit {0}
-IsAtom _ = ⊥
-
-atom-listed : (d : Domain) → IsAtom d → Listed d
-atom-listed booleans a = booleans-listed
-atom-listed (integers ss) a = integers-listed ss
-atom-listed (named t n) a = named-listed t n
-atom-listed _ a = absurd a
-
--- each component is an atom
-abbrev pub AreAtoms : Domains → Type 0
-AreAtoms no_domains = Unit {0}
-AreAtoms (more_domains d ds) = IsAtom d × AreAtoms ds
+use Rattle.ess_semantics.proofs.MemberLists.{IsAtom, AreAtoms, atom-listed}
 
 atoms-listed : (ds : Domains) → AreAtoms ds → AllListed ds
 atoms-listed no_domains a = tt
@@ -69,7 +51,7 @@ abbrev mutual
   Covered (repr ReprKind.Atom no_reprs) d = IsAtom d
   Covered (repr ReprKind.Tuple rs) (tuples ds) = AllCovered rs (domain_list ds)
   Covered (repr ReprKind.Rec rs) (records fs ds) = AllCovered rs (domain_list ds)
-  Covered (repr ReprKind.Matrix (more_reprs r no_reprs)) (matrices is d) = AllFinite is × Covered r d
+  Covered (repr ReprKind.Matrix (more_reprs r no_reprs)) (matrices is d) = AreAtoms is × AllFinite is × Covered r d
   Covered (repr ReprKind.Occurrence no_reprs) (sets ks d) = IsAtom d
   Covered (repr ReprKind.Explicit (more_reprs r no_reprs)) (sets ks d) = Covered r d
   Covered (repr ReprKind.ExplicitVarSizeWithMarker (more_reprs r no_reprs)) (sets ks d) = Covered r d
@@ -106,7 +88,7 @@ mutual
   right (repr ReprKind.Atom no_reprs) d h = atom-right d h
   right (repr ReprKind.Tuple rs) (tuples ds) h = tuple-right rs ds (all-right rs (domain_list ds) h)
   right (repr ReprKind.Rec rs) (records fs ds) h = record-right rs fs ds (all-right rs (domain_list ds) h)
-  right (repr ReprKind.Matrix (more_reprs r no_reprs)) (matrices is d) h = matrix-right r is d h.0 (right r d h.1)
+  right (repr ReprKind.Matrix (more_reprs r no_reprs)) (matrices is d) h = matrix-right r is d h.1 (right r d h.2)
   right (repr ReprKind.Occurrence no_reprs) (sets ks d) h = occurrence-right d ks (atom-listed d h)
   right (repr ReprKind.Explicit (more_reprs r no_reprs)) (sets ks d) h = explicit-right r d ks (right r d h)
   right (repr ReprKind.ExplicitVarSizeWithMarker (more_reprs r no_reprs)) (sets ks d) h = marker-right r d ks (right r d h)

@@ -60,6 +60,12 @@ flags = refl
 dummy : checked (alone ReprKind.ExplicitVarSizeWithDummy) (sets [] (upto 2)) subsets ≡ (9, 4, true)
 dummy = refl
 
+abbrev colours : List ℕ → Value
+colours ks = set_of (map (item (codes "C")) ks)
+
+dummy_above_colours : checked (alone ReprKind.ExplicitVarSizeWithDummy) (sets [] (named (codes "C") 2)) (colours [] ∷ colours (1 ∷ []) ∷ colours (2 ∷ []) ∷ colours (1 ∷ 2 ∷ []) ∷ []) ≡ (9, 4, true)
+dummy_above_colours = refl
+
 -- ---- multisets
 
 abbrev bags : List Value

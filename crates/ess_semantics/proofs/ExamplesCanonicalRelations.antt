@@ -1,13 +1,15 @@
 -- Worked examples: the same for relations and partitions.
-use Rattle.std.specs.Prelude.{◌≡◌, refl, ℕ, Bool, true, List, [], ◌∷◌, map, filter, pos}
+use Rattle.std.specs.Prelude.{◌≡◌, refl, ℕ, Bool, true, false, List, [], ◌∷◌, map, filter, pos}
 use Rattle.ess_semantics.specs.declared.words.Key.{Key}
 use Rattle.ess_semantics.specs.declared.words.ReprKind.{ReprKind}
 use Rattle.ess_semantics.specs.Values.{a_partition, Value, node, of_list, pair}
 use Rattle.ess_semantics.specs.Collections.{set_of, relation_of}
+use Rattle.ess_semantics.specs.Lists.{is_some_and}
+use Rattle.ess_semantics.specs.Canonical.{tables_of_value}
 use Rattle.ess_semantics.specs.Choice.{alone, over_child}
 use Rattle.ess_semantics.specs.Domains.{Attribute, numbered, flagged, Domain, relations, partitions, sets}
 use Rattle.ess_semantics.specs.Membership.{member}
-use Rattle.ess_semantics.proofs.CellWords.{n, upto, with, of2, atom, both, key, set, some_of, checked}
+use Rattle.ess_semantics.proofs.CellWords.{n, upto, with, of2, atom, both, key, set, some_of, is_canonical, checked}
 
 -- ---- relations of int(1..2) and int(1..2)
 
@@ -127,7 +129,21 @@ regular_sets_of_parts = refl
 more_parts_than_members : as_sets ReprKind.Explicit (with Key.NumParts 3) ≡ (64, 0, true)
 more_parts_than_members = refl
 
+-- the set of the parts doesn't say that they have one size, the partition does
+abbrev regular_of_three : List (List ℕ) → Bool
+regular_of_three ls =
+    is_some_and (tables_of_value (over_child ReprKind.PartitionAsSet (over_child ReprKind.ExplicitVarSizeWithMarker (alone ReprKind.Occurrence))) (of_three []) (parts ls))
+    (is_canonical (over_child ReprKind.PartitionAsSet (over_child ReprKind.ExplicitVarSizeWithMarker (alone ReprKind.Occurrence))) (of_three (key Key.Regular)))
+
+parts_of_one_size : map regular_of_three (((1 ∷ []) ∷ (2 ∷ []) ∷ (3 ∷ []) ∷ []) ∷ ((1 ∷ 2 ∷ []) ∷ (3 ∷ []) ∷ []) ∷ []) ≡ true ∷ false ∷ []
+parts_of_one_size = refl
+
 -- a set of partitions
 golfers : checked (over_child ReprKind.Explicit (alone ReprKind.PartitionOccurrence)) (sets (with Key.Size 1) (partitions (flagged Key.Regular ∷ numbered Key.NumParts (pos 2) ∷ numbered Key.PartSize (pos 1) ∷ []) (upto 2)))
     (set_of (parts ((1 ∷ []) ∷ (2 ∷ []) ∷ []) ∷ []) ∷ []) ≡ (12, 1, true)
 golfers = refl
+
+-- out of use, all members have the part 0
+parts_out_of_use : checked (over_child ReprKind.ExplicitVarSizeWithMarker (alone ReprKind.PartitionOccurrence)) (sets (with Key.MaxSize 1) (partitions [] (upto 2)))
+    (set_of [] ∷ map (λ p. set_of (p ∷ [])) two_partitions) ≡ (54, 3, true)
+parts_out_of_use = refl

@@ -8,8 +8,8 @@ use Rattle.ess_semantics.specs.Trees.{both_ends, flag, valued, Mark, Repr, Exs, 
 use Rattle.ess_semantics.specs.Kinds.{fits}
 use Rattle.ess_semantics.specs.Choice.{alone, over_child, default_repr}
 use Rattle.ess_semantics.specs.TableNames.{Named, table_names, named_tables}
-use Rattle.ess_semantics.specs.Domains.{booleans, numbered, flagged, matrices, sets, msets, functions, relations, partitions}
-use Rattle.ess_semantics.specs.Sizes.{bound, slots_of_set, slots_of_mset, child_relation, child_parts}
+use Rattle.ess_semantics.specs.Domains.{booleans, numbered, flagged, tuples, matrices, sets, msets, functions, relations, partitions}
+use Rattle.ess_semantics.specs.Sizes.{bound, slots_of_set, slots_of_mset, child_relation, child_set, child_parts}
 use Rattle.ess_semantics.proofs.CellWords.{upto, with, of2, atom, both}
 
 abbrev e : ℕ → Exs
@@ -144,10 +144,16 @@ slots_of_msets : map (λ ks. slots_of_mset ks (upto 2)) (with Key.MaxOccur 3 ∷
 slots_of_msets = refl
 
 -- the set of the parts has a bound of its own only without `numParts` and `maxNumParts`
-sets_of_parts : map (λ ks. child_parts ks (upto 3)) ([] ∷ with Key.NumParts 2 ∷ with Key.MaxNumParts 2 ∷ with Key.MinPartSize 2 ∷ []) ≡
+sets_of_parts : map (λ ks. child_parts ks (upto 3)) ([] ∷ with Key.NumParts 2 ∷ with Key.MaxNumParts 2 ∷ with Key.MinNumParts 2 ∷ with Key.MinPartSize 2 ∷ with Key.MaxPartSize 2 ∷ with Key.PartSize 2 ∷ []) ≡
     sets (with Key.MaxSize 3) (sets [] (upto 3)) ∷ sets (with Key.Size 2) (sets [] (upto 3)) ∷ sets (with Key.MaxSize 2) (sets [] (upto 3)) ∷
-    sets (with Key.MaxSize 3) (sets (with Key.MinSize 2) (upto 3)) ∷ []
+    sets (numbered Key.MinSize (pos 2) ∷ numbered Key.MaxSize (pos 3) ∷ []) (sets [] (upto 3)) ∷ sets (with Key.MaxSize 3) (sets (with Key.MinSize 2) (upto 3)) ∷
+    sets (with Key.MaxSize 3) (sets (with Key.MaxSize 2) (upto 3)) ∷ sets (with Key.MaxSize 3) (sets (with Key.Size 2) (upto 3)) ∷ []
 sets_of_parts = refl
+
+-- the set of a relation's tuples has the relation's sizes
+sets_of_tuples : map (λ ks. child_set ks (both (upto 2) booleans)) ([] ∷ with Key.Size 2 ∷ with Key.MinSize 2 ∷ with Key.MaxSize 2 ∷ (flagged Key.Symmetric ∷ []) ∷ []) ≡
+    map (λ ks. sets ks (tuples (both (upto 2) booleans))) ([] ∷ with Key.Size 2 ∷ with Key.MinSize 2 ∷ with Key.MaxSize 2 ∷ [] ∷ [])
+sets_of_tuples = refl
 
 relations_of_pairs : map (λ ks. child_relation ks (upto 2) booleans) ([] ∷ (flagged Key.Total ∷ []) ∷ with Key.Size 1 ∷ with Key.MinSize 1 ∷ (flagged Key.Total ∷ numbered Key.Size (pos 1) ∷ []) ∷ []) ≡
     relations (with Key.MaxSize 2) (both (upto 2) booleans) ∷ relations (with Key.Size 2) (both (upto 2) booleans) ∷ relations (with Key.Size 1) (both (upto 2) booleans) ∷

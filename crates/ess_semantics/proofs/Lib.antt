@@ -37,6 +37,8 @@ pub mod Overlaps
 pub mod PartNumbers
 pub mod CanonicalNumbers
 pub mod CanonicalForms
+pub mod TablesAndCells
+pub mod AxesOfTables
 pub mod Verdicts
 pub mod EmptyModel
 pub mod Truths
@@ -45,11 +47,19 @@ pub mod Bindings
 pub mod Replacement
 pub mod Steps
 pub mod Kept
+pub mod Places
 pub mod Agreement
 pub mod MeetsSimulation
 pub mod UsedNames
 pub mod ViewDomains
 pub mod Scopes
+pub mod Permutations
+pub mod Unordered
+pub mod LeastGreatest
+pub mod Listing
+pub mod Connectives
+pub mod Guards
+pub mod Horizontal
 -- Worked examples
 pub mod Shorthands
 pub mod CellWords
@@ -77,3 +87,4 @@ pub mod ExamplesViews
 pub mod ExamplesCorners
 pub mod ExamplesTypes
 pub mod ExamplesEdges
+pub mod ExamplesKept

@@ -15,6 +15,7 @@ Within s t = (a : Text) → IsTrue (s a) → IsTrue (t a)
 
 module _ (u u' b b' : Text → Bool) (used : Within u u') (bound : Within b b') where
   mutual
+    -- The same of the names that a pattern binds.
     pub binds-map : (p : Pat) → Binds b p → Binds b' p
     binds-map (name_pat a) h = bound a h
     binds-map (tuple_pat ps) h = all-bind-map ps h
@@ -35,16 +36,19 @@ module _ (u u' b b' : Text → Bool) (used : Within u u') (bound : Within b b') 
     names-map (cell_ex t n es) h = names-map-exs es h
     names-map (seen_ex r d ns es) h = (names-map-dom d h.0, names-map-exs es h.1)
 
+    -- The same of several expressions.
     pub names-map-exs : (es : Exs) → NamesAreExs u b es → NamesAreExs u' b' es
     names-map-exs no_exs h = tt
     names-map-exs (more_exs e es) h = (names-map e h.0, names-map-exs es h.1)
 
+    -- The same of generators.
     pub names-map-gens : (gs : Gens) → NamesAreGens u b gs → NamesAreGens u' b' gs
     names-map-gens no_gens h = tt
     names-map-gens (over p d gs) h = (binds-map p h.0, names-map-dom d h.1, names-map-gens gs h.2)
     names-map-gens (from p e gs) h = (binds-map p h.0, names-map e h.1, names-map-gens gs h.2)
     names-map-gens (cond e gs) h = (names-map e h.0, names-map-gens gs h.1)
 
+    -- The same of a domain.
     pub names-map-dom : (d : Dom) → NamesAreDom u b d → NamesAreDom u' b' d
     names-map-dom bool_dom h = tt
     names-map-dom (int_dom rs es) h = names-map-exs es h
@@ -77,16 +81,19 @@ module _ (f f' : Text → Ex) (n b : Text → Bool) (agree : (a : Text) → IsTr
     substitute-agree (cell_ex t c es) o = ap (cell_ex t c) (exs-agree es o)
     substitute-agree (seen_ex r d ns es) o = ap (λ x. seen_ex r x ns (substitute_exs f es)) (dom-agree d o.0) ∙ ap (seen_ex r (substitute_dom f' d) ns) (exs-agree es o.1)
 
+    -- The same of several expressions.
     pub exs-agree : (es : Exs) → NamesAreExs n b es → substitute_exs f es ≡ substitute_exs f' es
     exs-agree no_exs o = refl
     exs-agree (more_exs e es) o = ap (λ x. more_exs x (substitute_exs f es)) (substitute-agree e o.0) ∙ ap (more_exs (substitute f' e)) (exs-agree es o.1)
 
+    -- The same of generators.
     pub gens-agree : (gs : Gens) → NamesAreGens n b gs → substitute_gens f gs ≡ substitute_gens f' gs
     gens-agree no_gens o = refl
     gens-agree (over p d gs) o = ap (λ x. over p x (substitute_gens f gs)) (dom-agree d o.1) ∙ ap (over p (substitute_dom f' d)) (gens-agree gs o.2)
     gens-agree (from p e gs) o = ap (λ x. from p x (substitute_gens f gs)) (substitute-agree e o.1) ∙ ap (from p (substitute f' e)) (gens-agree gs o.2)
     gens-agree (cond e gs) o = ap (λ x. cond x (substitute_gens f gs)) (substitute-agree e o.0) ∙ ap (cond (substitute f' e)) (gens-agree gs o.1)
 
+    -- The same of a domain.
     pub dom-agree : (d : Dom) → NamesAreDom n b d → substitute_dom f d ≡ substitute_dom f' d
     dom-agree bool_dom o = refl
     dom-agree (int_dom rs es) o = ap (int_dom rs) (exs-agree es o)

@@ -61,6 +61,7 @@ module _ (P : Dom → Type 0) (x : Text) (w : Ex) (kept : (d : Dom) → P d → 
   name-views a false = tt
 
   mutual
+    -- What is so of the domains of all views stays so with w put for x.
     pub views-put : (e : Ex) → ViewDomains P e → ViewDomains P (substitute f e)
     views-put (number_ex n) h = tt
     views-put (truth_ex t) h = tt
@@ -75,6 +76,7 @@ module _ (P : Dom → Type 0) (x : Text) (w : Ex) (kept : (d : Dom) → P d → 
     views-put-exs no_exs h = tt
     views-put-exs (more_exs e es) h = (views-put e h.0, views-put-exs es h.1)
 
+    -- The same of generators.
     pub views-put-gens : (gs : Gens) → ViewDomainsGens P gs → ViewDomainsGens P (substitute_gens f gs)
     views-put-gens no_gens h = tt
     views-put-gens (over p d gs) h = (views-put-dom d h.0, views-put-gens gs h.1)

@@ -1,0 +1,9 @@
+mod Examples
+pub mod NameLaws
+pub mod LineLaws
+pub mod Scans
+pub mod WritingLaws
+pub mod ReadingLaws
+pub mod NamingLaws
+pub mod PieceLaws
+pub mod EndingLaws

@@ -1,0 +1,7 @@
+use Rattle.std.proofs.Common.{◌≡◌, ◌++◌, take}
+use Rattle.conjure_cli.specs.Writing.{find_lines, plain_declaration}
+use Rattle.conjure_cli.specs.Lines.{statements}
+use Rattle.conjure_cli.proofs.writer.put_declarations.Given as goal
+
+abbrev pub invariant-loop-line : goal.invariant-loop-line
+invariant-loop-line l = l.text.items ≡ l.initial.text.items ++ find_lines plain_declaration (statements (take l.line-index l.lines))

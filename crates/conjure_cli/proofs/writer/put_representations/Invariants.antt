@@ -1,0 +1,8 @@
+use Rattle.std.proofs.Common.{◌≡◌, ◌++◌, take}
+use Rattle.conjure_cli.specs.ModelText.{header_representation}
+use Rattle.conjure_cli.specs.Writing.{find_lines}
+use Rattle.conjure_cli.specs.Lines.{statements}
+use Rattle.conjure_cli.proofs.writer.put_representations.Given as goal
+
+abbrev pub invariant-loop-line : goal.invariant-loop-line
+invariant-loop-line l = l.text.items ≡ l.initial.text.items ++ find_lines header_representation (statements (take l.line-index l.lines))

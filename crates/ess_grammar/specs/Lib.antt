@@ -1,0 +1,17 @@
+pub mod Words
+pub mod Places
+pub mod Tokens
+pub mod Load
+pub mod Kinds
+pub mod Levels
+pub mod Patterns
+pub mod Grammar
+pub mod Statements
+pub mod Representations
+pub mod Readable
+pub mod Models
+pub mod ModelTexts
+pub mod CellTexts
+pub mod Texts
+pub mod ValueTexts
+pub mod HeaderTexts

@@ -1,0 +1,7 @@
+mod Values
+mod TableSearch
+mod FrontTokens
+mod LexerSteps
+mod NextToken
+mod StackLaws
+mod Loads
