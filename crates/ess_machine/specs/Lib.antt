@@ -1,0 +1,16 @@
+pub mod Frames
+pub mod Modes
+pub mod Reversed
+pub mod Reducing
+pub mod Items
+pub mod StatementEnds
+pub mod AfterOperands
+pub mod AfterDomains
+pub mod Operands
+pub mod Domains
+pub mod AttributeSteps
+pub mod StatementSteps
+pub mod Machine
+pub mod Laws
+pub mod Lettings
+pub mod RepresentationMachine

@@ -1,0 +1,2 @@
+-- Ranks of values
+pub mod Forms

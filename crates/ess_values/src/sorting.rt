@@ -1,0 +1,26 @@
+ghost use Rattle.std.specs.Prelude.{◌≡◌, map, IfOk};
+ghost use Rattle.ess_semantics.specs.Collections.{rising, strictly};
+ghost use Rattle.ess_core.specs.ValueViews.{pure_val, pure_pair};
+
+use crate::comparing::{order, order_pair};
+use ess_core::{NoMemory, Pair, Row, Val};
+use std::cmp::Ordering;
+
+/// Values in rising order, with repeats. `NoMemory` where there is no room to sort them.
+pub fn sorted(items: Row<Val>) -> Result<Row<Val>, NoMemory>
+    ensures { IfOk result (λ r. map pure_val r ≡ rising (map pure_val items)) }
+{
+    let mut items = items.into_vec();
+    items.sort_by(|a, b| order(a, b))?;
+    Ok(Row::from_vec(items))
+}
+
+/// Values in strictly rising order, each once. `NoMemory` where there is no room to sort them.
+pub fn sorted_once(items: Row<Val>) -> Result<Row<Val>, NoMemory>
+    ensures { IfOk result (λ r. map pure_val r ≡ strictly (map pure_val items)) }
+{
+    let mut items = items.into_vec();
+    items.sort_by(|a, b| order(a, b))?;
+    items.dedup_by(|a, b| order(a, b) == Ordering::Equal);
+    Ok(Row::from_vec(items))
+}
