@@ -1,0 +1,13 @@
+//! Models in Essence Prime as trees: their declarations, objective and constraints, and what these stand for in the
+//! definitions of their meaning.
+#![tactic(auto)]
+
+mod copies;
+pub mod expressions;
+pub mod models;
+pub mod words;
+
+pub use ess_rows::{Boxed, NoMemory, Row, Text};
+pub use expressions::{PDom, PEx, PGen, PList, PRange};
+pub use models::{PDecl, PGoal, PModel};
+pub use words::{PFun, POp1, POp2};
