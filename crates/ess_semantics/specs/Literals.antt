@@ -1,6 +1,6 @@
 -- Literals: the values that files spell. A literal has no operator but `-` before a number; a name in it is one of a value
 -- of an enumerated type, or `T_k` for the k-th value of the unnamed type T.
-use Rattle.std.specs.Prelude.{ℕ, suc, ◌+◌, ◌*◌, ◌-◌, Bool, true, false, ◌&&◌, not, if◌then◌else◌, List, [], ◌∷◌, ◌++◌, neg_ℤ, Option, Some, None, nat_le, is_some, codes}
+use Rattle.std.specs.Prelude.{ℕ, suc, ◌+◌, ◌*◌, ◌-◌, Bool, true, false, ◌&&◌, not, if◌then◌else◌, List, [], ◌∷◌, ◌++◌, neg_ℤ, Option, Some, None, pos, nat_le, is_some, codes}
 use Rattle.std.specs.List.{list_all}
 use Rattle.ess_semantics.specs.declared.words.Op1.{Op1}
 use Rattle.ess_semantics.specs.Lists.{and_then, or_else, when, all_some, is_some_and, is_empty}
@@ -59,10 +59,10 @@ is_literal_op matrix_literal = true
 is_literal_op (record_literal fs) = all_distinct fs
 is_literal_op op = false
 
--- A number, or `-` before one.
+-- A number without a sign, or `-` before one.
 abbrev pub is_number_literal : Ex → Bool
-is_number_literal (number_ex n) = true
-is_number_literal (node_ex b (unary Op1.Minus) (more_exs (number_ex n) no_exs)) = true
+is_number_literal (number_ex (pos n)) = true
+is_number_literal (node_ex b (unary Op1.Minus) (more_exs (number_ex (pos n)) no_exs)) = true
 is_number_literal e = false
 
 -- The same of all expressions.
@@ -86,7 +86,7 @@ is_literal_index d = false
 abbrev mutual
   -- The type of a literal, where it is one.
   pub type_of_literal : Ex → Env → Option Ty
-  type_of_literal (number_ex n) env = Some Ty.int_ty
+  type_of_literal (number_ex (pos n)) env = Some Ty.int_ty
   type_of_literal (truth_ex b) env = Some Ty.bool_ty
   type_of_literal (name_ex a) env = type_of_item (item_of_name env.types a)
   type_of_literal (node_ex b (unary Op1.Minus) es) env = when (is_number_literal (node_ex b (unary Op1.Minus) es)) Ty.int_ty
@@ -102,13 +102,13 @@ abbrev mutual
 
 -- The negative of a number.
 abbrev pub minus_number : Exs → Option Value
-minus_number (more_exs (number_ex n) no_exs) = Some (number (neg_ℤ n))
+minus_number (more_exs (number_ex (pos n)) no_exs) = Some (number (neg_ℤ (pos n)))
 minus_number es = None
 
 abbrev mutual
   -- The value of a literal, or nothing where it is none or has no value.
   pub value_of_literal : Ex → Env → Option Value
-  value_of_literal (number_ex n) env = Some (number n)
+  value_of_literal (number_ex (pos n)) env = Some (number (pos n))
   value_of_literal (truth_ex b) env = Some (truth b)
   value_of_literal (name_ex a) env = item_of_name env.types a
   value_of_literal (node_ex b (unary Op1.Minus) es) env = minus_number es
