@@ -4,8 +4,9 @@ use Rattle.ess_semantics.specs.Values.{Text}
 use Rattle.ess_semantics.specs.Names.{Names, keys}
 use Rattle.ess_semantics.specs.Lists.{append_all}
 use Rattle.ess_semantics.specs.Trees as pure
-use Rattle.ess_semantics.specs.Trees.{by_value, to_component, to_field, Op, unary, binary, word, index, application, tuple_literal, set_literal, mset_literal, function_literal, relation_literal, partition_literal, matrix_literal, record_literal, Ends, one_value, both_ends, low_end, high_end, Mark, flag, valued, repr, name_pat, tuple_pat, no_pats, more_pats, number_ex, truth_ex, name_ex, node_ex, matrix_ex, comp_ex, cell_ex, seen_ex, no_exs, more_exs, no_gens, over, from, cond, bool_dom, int_dom, name_dom, tuple_dom, record_dom, matrix_dom, set_dom, mset_dom, function_dom, relation_dom, partition_dom, ex1, ex2, is_truth_op1, is_truth_op2, is_truth_word}
+use Rattle.ess_semantics.specs.Trees.{by_value, to_component, to_field, Op, unary, binary, word, index, application, tuple_literal, set_literal, mset_literal, function_literal, relation_literal, partition_literal, matrix_literal, record_literal, Ends, one_value, both_ends, low_end, high_end, Mark, flag, valued, repr, no_reprs, name_pat, tuple_pat, no_pats, more_pats, number_ex, truth_ex, name_ex, node_ex, matrix_ex, comp_ex, cell_ex, seen_ex, no_exs, more_exs, no_gens, over, from, cond, bool_dom, int_dom, name_dom, tuple_dom, record_dom, matrix_dom, set_dom, mset_dom, function_dom, relation_dom, partition_dom, ex1, ex2, is_truth_op1, is_truth_op2, is_truth_word}
 use Rattle.ess_semantics.specs.declared.words.Key.{Key}
+use Rattle.ess_semantics.specs.declared.words.ReprKind.{ReprKind}
 use Rattle.ess_semantics.specs.Kinds.{doms_of}
 use Rattle.ess_semantics.specs.Choice.{reprs_of}
 use Rattle.ess_core.specs.declared.representations.Repr.{Repr}
@@ -91,9 +92,13 @@ abbrev pub matrix_literal_of : List pure.Ex → Option pure.Dom → pure.Ex
 matrix_literal_of es None = node_ex false matrix_literal (exs_of es)
 matrix_literal_of es (Some d) = matrix_ex (exs_of es) d
 
--- A range. One without bounds is none of the grammar: it counts as one whose bounds are missing, and has no meaning.
+-- What stands for a bound that is missing where both are: a view of a domain without a meaning, which has none itself.
+abbrev pub no_bound : pure.Ex
+no_bound = seen_ex (repr ReprKind.Atom no_reprs) (int_dom (both_ends ∷ []) no_exs) [] no_exs
+
+-- A range. One without bounds is none of the grammar: it counts as one whose bounds have no meaning.
 abbrev pub span : Option pure.Ex → Option pure.Ex → With Ends
-span None None = (both_ends, [])
+span None None = (both_ends, no_bound ∷ no_bound ∷ [])
 span None (Some b) = (high_end, b ∷ [])
 span (Some a) None = (low_end, a ∷ [])
 span (Some a) (Some b) = (both_ends, a ∷ b ∷ [])
