@@ -5,3 +5,4 @@ pub mod Parts
 pub mod Expressions
 pub mod Statements
 pub mod Texts
+pub mod Touching
