@@ -4,3 +4,8 @@ pub mod NameRuns
 pub mod SymbolEnds
 pub mod TokensBack
 pub mod LexedPieces
+pub mod NamesBack
+pub mod Representations
+pub mod Derived
+pub mod Literals
+pub mod Nodes
