@@ -11,6 +11,10 @@ use Rattle.ess_texts.specs.Brackets.{is_operators, is_written_as_pattern, are_wr
 use Rattle.ess_texts.specs.Parts.{comma_space, commas, bracketed}
 use Rattle.ess_texts.specs.Expressions.{wholes, ex_pieces, operands, dom_pieces}
 
+-- No condition that is false holds.
+pub never : {A : Type 0} → false ≡ true → A
+never h = cc
+
 -- ---- expressions
 
 -- A derivation, of a shape that says whether the text is written as a pattern.

@@ -9,3 +9,7 @@ pub mod Representations
 pub mod Derived
 pub mod Literals
 pub mod Nodes
+pub mod Patterns
+pub mod Generators
+pub mod Domains
+pub mod Expressions

@@ -50,10 +50,15 @@ starts_generator (over p d gs) = true
 starts_generator (from p e gs) = true
 starts_generator _ = false
 
+-- Whether a domain is one of the attribute words.
+abbrev pub is_attribute_word : Dom → Bool
+is_attribute_word (name_dom a) = is_some (key_of a)
+is_attribute_word d = false
+
 -- Whether the first domain of a function is a tuple that begins with an attribute word: in brackets alone it would be read as
 -- attributes.
 abbrev pub begins_as_attributes : Dom → Bool
-begins_as_attributes (tuple_dom (more_doms (name_dom a) (more_doms d ds))) = is_some (key_of a)
+begins_as_attributes (tuple_dom (more_doms d (more_doms c ds))) = is_attribute_word d
 begins_as_attributes d = false
 
 -- Whether the first operand of a call stands in brackets: `sum (x, y)` with two or more patterns would begin a quantifier.
