@@ -1,12 +1,12 @@
 -- What it means that the printed tokens of a tree are derived, whatever follows, and small facts on it.
-use Rattle.std.proofs.Common.{◌≡◌, refl, sym, ap, ◌∙◌, ℕ, suc, ◌≤◌, Bool, true, false, ◌&&◌, not, List, [], ◌∷◌, lit≤}
+use Rattle.std.proofs.Common.{◌≡◌, refl, sym, ap, ◌∙◌, ℕ, suc, ◌≤◌, Bool, true, false, ◌&&◌, not, List, ◌∷◌, lit≤}
 use Rattle.ess_semantics.specs.declared.words.Op2.{Op2}
 use Rattle.ess_semantics.specs.Trees.{Ex, Exs, node_ex, no_exs, more_exs, Gens, no_gens, over, from, cond, Dom, Doms, no_doms, more_doms}
 use Rattle.ess_grammar.specs.Words.{Token, symbol, comma, close_round}
 use Rattle.ess_grammar.specs.Levels.{Rank, power_rank, product_rank, sum_rank, comparison_rank, and_rank, or_rank, implies_rank, iff_rank, from_left, from_right, from_neither, side, height, rank, left_least, right_least}
 use Rattle.ess_grammar.specs.Patterns.{Shape, atom_shape, is_pattern}
 use Rattle.ess_grammar.specs.Grammar.{Atom, Expression, Expressions, Domain, bracketed_atom, atom_expression, last_expression, next_expression}
-use Rattle.ess_texts.specs.Pieces.{Piece, Printer, sign, tokens_of}
+use Rattle.ess_texts.specs.Pieces.{Piece, sign, tokens_of}
 use Rattle.ess_texts.specs.Brackets.{is_operators, is_written_as_pattern, are_written_as_patterns}
 use Rattle.ess_texts.specs.Parts.{comma_space, commas, bracketed}
 use Rattle.ess_texts.specs.Expressions.{wholes, ex_pieces, operands, dom_pieces}

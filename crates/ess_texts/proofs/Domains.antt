@@ -1,22 +1,19 @@
 -- The printed tokens of a domain are derived, where those of its parts are.
-use Rattle.std.proofs.Common.{◌≡◌, refl, sym, ap, ◌∙◌, subst, ℕ, Bool, true, false, ◌&&◌, not, List, [], ◌∷◌}
-use Rattle.std.specs.Option.{is_some}
-use Rattle.std.proofs.lemmas.Bool.{and_parts}
+use Rattle.std.proofs.Common.{◌≡◌, refl, sym, ap, ◌∙◌, subst, Bool, true, false, List, [], ◌∷◌}
 use Rattle.ess_semantics.specs.declared.words.Op2.{Op2}
-use Rattle.ess_semantics.specs.declared.words.Key.{Key}
 use Rattle.ess_semantics.specs.Values.{Text}
-use Rattle.ess_semantics.specs.Trees.{Ends, one_value, both_ends, low_end, high_end, Mark, flag, valued, Ex, Exs, no_exs, more_exs, Dom, bool_dom, int_dom, name_dom, tuple_dom, record_dom, matrix_dom, set_dom, mset_dom, function_dom, relation_dom, partition_dom, Doms, no_doms, more_doms}
-use Rattle.ess_grammar.specs.Words.{Token, word, operator, symbol, of_word, from_word, tuple_word, function_word, open_round, close_round, close_square, close_curly, comma, colon, dots, maps_to, key_of}
-use Rattle.ess_grammar.specs.Grammar.{starts_attributes, Domain, Domains, FieldDomains, MaybeAttributes, Attributes, Attribute, Ranges, Range, bool_domain, int_domain, ranges_domain, name_domain, pair_domain, tuple_domain, record_domain, matrix_domain, set_domain, mset_domain, partition_domain, relation_domain, function_domain, plain_function_domain, last_domain, next_domain, last_field_domain, next_field_domain, no_attributes, some_attributes, last_attribute, next_attribute, flag_attribute, valued_attribute, last_range, next_range, value_range, both_range, low_range, high_range}
-use Rattle.ess_grammar.specs.Readable.{some_doms, several_doms, fit_domains, fit_marks, fit_ranges, are_name_tokens, names_rise}
+use Rattle.ess_semantics.specs.Trees.{Ends, one_value, both_ends, low_end, high_end, Mark, flag, valued, Exs, no_exs, more_exs, Dom, bool_dom, int_dom, name_dom, tuple_dom, record_dom, matrix_dom, set_dom, mset_dom, function_dom, relation_dom, partition_dom, Doms, no_doms, more_doms}
+use Rattle.ess_grammar.specs.Words.{Token, word, operator, symbol, of_word, from_word, tuple_word, function_word, open_round, close_round, close_square, close_curly, comma, dots, maps_to}
+use Rattle.ess_grammar.specs.Grammar.{starts_attributes, Domain, Domains, FieldDomains, MaybeAttributes, Attributes, Attribute, Ranges, Range, int_domain, ranges_domain, pair_domain, tuple_domain, record_domain, matrix_domain, set_domain, mset_domain, partition_domain, relation_domain, function_domain, plain_function_domain, last_domain, next_domain, last_field_domain, next_field_domain, no_attributes, some_attributes, last_attribute, next_attribute, flag_attribute, valued_attribute, last_range, next_range, value_range, both_range, low_range, high_range}
+use Rattle.ess_grammar.specs.Readable.{some_doms, several_doms, fit_domains, fit_marks, fit_ranges, names_rise}
 use Rattle.ess_grammar.proofs.RecordFields.{sorted-record-itself}
-use Rattle.ess_texts.specs.Pieces.{Piece, token, space, Printer, reserved, sign, named, listed, within, tokens_of}
+use Rattle.ess_texts.specs.Pieces.{Piece, space, Printer, reserved, sign, named, listed, tokens_of}
 use Rattle.ess_texts.specs.TokenTexts.{key_text}
 use Rattle.ess_texts.specs.Brackets.{begins_as_attributes}
 use Rattle.ess_texts.specs.Parts.{comma_space, commas, times, worded}
-use Rattle.ess_texts.specs.Expressions.{Operand, range_printers, mark_printers, attributes_pieces, argument_pieces, field_domains, ex_pieces, operands, dom_pieces, domains}
+use Rattle.ess_texts.specs.Expressions.{range_printers, mark_printers, attributes_pieces, field_domains, ex_pieces, operands, dom_pieces, domains}
 use Rattle.ess_texts.proofs.NamesBack.{key-back}
-use Rattle.ess_texts.proofs.Derived.{never, Printed, Each, DomDerived, EachDom}
+use Rattle.ess_texts.proofs.Derived.{never, Each, DomDerived, EachDom}
 
 -- ---- lists of printers
 

@@ -1,12 +1,12 @@
 -- The printed tokens of a readable expression, and of a readable domain, are derived by the rules for exactly that tree, whatever
 -- follows.
-use Rattle.std.proofs.Common.{◌≡◌, refl, true, false, ◌&&◌, ◌∷◌, ℕ, pos, negsuc, List}
+use Rattle.std.proofs.Common.{◌≡◌, true, false, ◌&&◌, ◌∷◌, pos, negsuc}
 use Rattle.std.proofs.lemmas.Bool.{and_parts}
 use Rattle.ess_semantics.specs.Trees.{Ex, Exs, number_ex, truth_ex, name_ex, node_ex, matrix_ex, comp_ex, cell_ex, seen_ex, no_exs, more_exs, Gens, no_gens, over, from, cond, Dom, bool_dom, int_dom, name_dom, tuple_dom, record_dom, matrix_dom, set_dom, mset_dom, function_dom, relation_dom, partition_dom, Doms, no_doms, more_doms}
 use Rattle.ess_grammar.specs.Words.{bar, semicolon, close_square}
 use Rattle.ess_grammar.specs.Grammar.{number_atom, true_atom, false_atom, name_atom, matrix_atom, comprehension_atom, bool_domain, name_domain}
 use Rattle.ess_grammar.specs.Readable.{some_exs, some_gens, some_doms, several_doms, are_name_tokens, fit_domains, fit_marks, ReadableEx, ReadableExs, ReadableGens, ReadableDom, ReadableDoms}
-use Rattle.ess_texts.specs.Pieces.{Piece, space, sign}
+use Rattle.ess_texts.specs.Pieces.{space, sign}
 use Rattle.ess_texts.specs.Expressions.{dom_pieces, gens_pieces}
 use Rattle.ess_texts.proofs.Derived.{Printed, Each, Inner, from-atom, list-reads, DomDerived, EachDom, EachGen}
 use Rattle.ess_texts.proofs.Nodes.{node-printed}

@@ -1,5 +1,5 @@
 -- The printed tokens of generators and conditions are derived as those of a comprehension.
-use Rattle.std.proofs.Common.{◌≡◌, refl, sym, ap, ◌∙◌, subst, ℕ, Bool, true, false, ◌&&◌, not, List, [], ◌∷◌, ◌++◌}
+use Rattle.std.proofs.Common.{◌≡◌, refl, ap, ◌∙◌, subst, ℕ, Bool, true, false, ◌&&◌, not, List, [], ◌∷◌, ◌++◌}
 use Rattle.ess_semantics.specs.Values.{Text}
 use Rattle.ess_semantics.specs.Trees.{Pat, Ex, Gens, no_gens, over, from, cond, Dom}
 use Rattle.ess_grammar.specs.Words.{Token, colon, drawn_from, symbol, comma}
@@ -8,9 +8,8 @@ use Rattle.ess_grammar.specs.Grammar.{one_ex, Expression, Items, Generator, last
 use Rattle.ess_grammar.specs.Readable.{ReadablePat, ReadableGens, some_gens}
 use Rattle.ess_texts.specs.Pieces.{Piece, space, sign, tokens_of}
 use Rattle.ess_texts.specs.Brackets.{is_written_as_pattern, starts_generator, begins_as_pattern}
-use Rattle.ess_texts.specs.Parts.{comma_space, pat_pieces, bracketed}
 use Rattle.ess_texts.specs.Expressions.{ex_pieces, dom_pieces, gens_pieces, before_items}
-use Rattle.ess_texts.proofs.Derived.{Printed, DomDerived, EachGen, Reads, as-bracketed, and-true, and-false}
+use Rattle.ess_texts.proofs.Derived.{Printed, DomDerived, EachGen, as-bracketed}
 use Rattle.ess_texts.proofs.Patterns.{pattern_ex, pattern-itself, pat-derived}
 
 -- What follows an item: nothing, or a comma and items. The names are those that the items before it bind.

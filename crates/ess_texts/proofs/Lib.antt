@@ -13,3 +13,5 @@ pub mod Patterns
 pub mod Generators
 pub mod Domains
 pub mod Expressions
+pub mod Statements
+pub mod Appended

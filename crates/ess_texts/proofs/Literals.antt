@@ -1,13 +1,13 @@
 -- The printed tokens of function and record literals are derived.
-use Rattle.std.proofs.Common.{◌≡◌, refl, sym, ap, subst, Bool, true, false, ◌&&◌, List, [], ◌∷◌, map}
+use Rattle.std.proofs.Common.{◌≡◌, sym, subst, Bool, true, List, [], ◌∷◌, map}
 use Rattle.ess_semantics.specs.Values.{Text}
-use Rattle.ess_semantics.specs.Trees.{Op, unary, binary, index, application, tuple_literal, set_literal, mset_literal, function_literal, relation_literal, partition_literal, matrix_literal, record_literal, Ex, Exs, number_ex, truth_ex, name_ex, node_ex, matrix_ex, comp_ex, cell_ex, seen_ex, no_exs, more_exs, plain_node}
+use Rattle.ess_semantics.specs.Trees.{tuple_literal, function_literal, record_literal, Ex, Exs, number_ex, truth_ex, name_ex, node_ex, matrix_ex, comp_ex, cell_ex, seen_ex, no_exs, more_exs, plain_node}
 use Rattle.ess_grammar.specs.Words.{Token, close_round, close_curly, maps_to}
-use Rattle.ess_grammar.specs.Grammar.{two_exs, pair_ex, Pairs, Fields, last_pair, next_pair, last_field, next_field, function_atom, empty_function_atom, record_atom}
+use Rattle.ess_grammar.specs.Grammar.{two_exs, Pairs, Fields, last_pair, next_pair, last_field, next_field, function_atom, empty_function_atom, record_atom}
 use Rattle.ess_grammar.specs.Readable.{fit_fields, are_pairs, ReadableEx, ReadableExs}
 use Rattle.ess_texts.specs.Pieces.{Piece, Printer, space, sign, tokens_of}
 use Rattle.ess_texts.specs.Parts.{comma_space, commas}
-use Rattle.ess_texts.specs.Expressions.{Operand, field_printers, ex_pieces, pair_pieces, operands}
+use Rattle.ess_texts.specs.Expressions.{field_printers, ex_pieces, pair_pieces, operands}
 use Rattle.ess_texts.proofs.Derived.{Printed, Each, Inner, from-atom}
 
 -- ---- functions

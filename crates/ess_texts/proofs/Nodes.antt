@@ -4,19 +4,18 @@ use Rattle.std.proofs.lemmas.Bool.{and_parts}
 use Rattle.ess_semantics.specs.declared.words.Op1.{Op1}
 use Rattle.ess_semantics.specs.declared.words.Op2.{Op2}
 use Rattle.ess_semantics.specs.declared.words.Fun.{Fun}
-use Rattle.ess_semantics.specs.Values.{Text}
-use Rattle.ess_semantics.specs.Trees.{Step, by_value, to_component, to_field, Op, unary, binary, index, application, tuple_literal, set_literal, mset_literal, function_literal, relation_literal, partition_literal, matrix_literal, record_literal, Ex, Exs, node_ex, no_exs, more_exs, is_truth_op, plain_node}
-use Rattle.ess_grammar.specs.Words.{Token, operator, function, symbol, open_round, close_round, close_square, close_curly, bar}
+use Rattle.ess_semantics.specs.Trees.{Step, by_value, to_component, to_field, Op, unary, binary, index, application, tuple_literal, set_literal, mset_literal, function_literal, relation_literal, partition_literal, matrix_literal, record_literal, Ex, Exs, node_ex, no_exs, more_exs, plain_node}
+use Rattle.ess_grammar.specs.Words.{operator, function, symbol, open_round, close_round, close_square, close_curly, bar}
 use Rattle.ess_grammar.specs.Levels.{level}
 use Rattle.ess_grammar.specs.Patterns.{Shape, pattern_shape, member_shape, other_shape, atom_shape, is_pattern, binary_shape, is_member, is_sum, are_several, may_hold}
-use Rattle.ess_grammar.specs.Grammar.{steps_of, unary_ex, binary_ex, indexed, applied, Opens, opens_tuple, opens_set, opens_mset, opens_relation, opens_partition, opens_matrix, opens_call, Atom, pair_atom, list_atom, empty_atom, bar_atom, index_atom, application_atom, atom_expression, minus_expression, not_expression, binary_expression}
+use Rattle.ess_grammar.specs.Grammar.{steps_of, unary_ex, binary_ex, indexed, applied, opens_tuple, opens_set, opens_mset, opens_relation, opens_partition, opens_matrix, opens_call, Atom, pair_atom, list_atom, empty_atom, bar_atom, index_atom, application_atom, atom_expression, minus_expression, not_expression, binary_expression}
 use Rattle.ess_grammar.specs.Readable.{fit_operands, fit_steps, fit_fields, are_name_tokens, ReadableEx, ReadableExs}
 use Rattle.std.proofs.Common.{lit≤}
 use Rattle.ess_texts.specs.Pieces.{Piece, token, space, sign, tokens_of}
-use Rattle.ess_texts.specs.Brackets.{is_operators, is_written_as_pattern, are_written_as_patterns, begins_as_quantifier}
+use Rattle.ess_texts.specs.Brackets.{is_operators, is_written_as_pattern, are_written_as_patterns}
 use Rattle.ess_texts.specs.Parts.{comma_space, commas, bracketed}
 use Rattle.ess_texts.specs.Expressions.{wholes, call_printers, ex_pieces, operands}
-use Rattle.ess_texts.proofs.Derived.{Reads, Printed, Each, AsOperand, as-operand, as-bracketed, from-atom, from-operator, ReadsAll, one-reads, more-read, list-reads, left-low, right-low, and-true, and-false}
+use Rattle.ess_texts.proofs.Derived.{Printed, Each, as-operand, as-bracketed, from-atom, from-operator, ReadsAll, one-reads, more-read, list-reads, left-low, right-low, and-true, and-false}
 use Rattle.ess_texts.proofs.Literals.{function-printed, record-printed}
 
 -- ---- operators
@@ -61,7 +60,7 @@ call-printed f e es d ds = from-atom (λ us. go (may_hold (Op.word f) (are_writt
   where
     go : (m : Bool) → may_hold (Op.word f) (are_written_as_patterns (more_exs e es)) (more_exs e es) ≡ m → (us : List Piece) →
         Atom false (plain_node (Op.word f) (more_exs e es))
-            (function f ∷ symbol open_round ∷ tokens_of (commas (call_printers (not m) (operands (more_exs e es))) (sign close_round ∷ us))) (tokens_of us)
+        (function f ∷ symbol open_round ∷ tokens_of (commas (call_printers (not m) (operands (more_exs e es))) (sign close_round ∷ us))) (tokens_of us)
     go true h us =
         let q = call-list f e es false d ds (sign close_round ∷ us) in
         let is : q.flag ≡ are_written_as_patterns (more_exs e es) = q.is ∙ ap (λ b. b && are_written_as_patterns es) (and-true (is_written_as_pattern e)) in

@@ -1,5 +1,5 @@
 -- The printed tokens of a pattern are derived as a pattern: as an expression that is written as one.
-use Rattle.std.proofs.Common.{◌≡◌, refl, ap, Bool, true, List, [], ◌∷◌}
+use Rattle.std.proofs.Common.{◌≡◌, refl, ap, true, List, ◌∷◌}
 use Rattle.ess_semantics.specs.Trees.{tuple_literal, Pat, Pats, name_pat, tuple_pat, no_pats, more_pats, Ex, Exs, name_ex, no_exs, more_exs, plain_node}
 use Rattle.ess_grammar.specs.Words.{close_round}
 use Rattle.ess_grammar.specs.Patterns.{as_pattern, as_patterns}
