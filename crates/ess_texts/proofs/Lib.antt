@@ -15,3 +15,7 @@ pub mod Domains
 pub mod Expressions
 pub mod Statements
 pub mod Appended
+pub mod Closing
+pub mod SafeParts
+pub mod SafeNodes
+pub mod SafeTrees
