@@ -52,10 +52,13 @@ name-stops : (r : Text) → stops_name r ≡ true → stops is_name_byte r ≡ t
 name-stops [] h = refl
 name-stops (b ∷ bs) h = (and_parts (not (is_name_byte b)) (not (nat_eq b 39)) h).0
 
+-- where a token with these first bytes ends, by its first byte
+abbrev ends_if : Bool → Bool → Text → ℕ → Bool
+ends_if letter digit s b = elim letter [ true ↦ not (is_name_byte b) && not (nat_eq b 39) | false ↦ elim digit [ true ↦ not (is_digit b) | false ↦ symbol_ends s b ] ]
+
 letter-ends : (c : ℕ) (cs r : Text) → is_letter c ≡ true → ends_before (c ∷ cs) r ≡ true → stops_name r ≡ true
 letter-ends c cs [] h k = refl
-letter-ends c cs (b ∷ bs) h k =
-    sym (ap (λ i. elim i [ true ↦ not (is_name_byte b) && not (nat_eq b 39) | false ↦ elim (is_digit c) [ true ↦ not (is_digit b) | false ↦ symbol_ends (c ∷ cs) b ] ]) h) ∙ k
+letter-ends c cs (b ∷ bs) h k = let e : ends_before (c ∷ cs) (b ∷ bs) ≡ ends_if true (is_digit c) (c ∷ cs) b = ap (λ i. ends_if i (is_digit c) (c ∷ cs) b) h in sym e ∙ k
 
 pub letter-plain : (c : ℕ) → is_letter c ≡ true → Plain c
 letter-plain c h = (grind (arith, nat_tests), grind (arith, nat_tests))
@@ -81,8 +84,9 @@ digit-ends : (c : ℕ) (cs r : Text) → is_digit c ≡ true → ends_before (c 
 digit-ends c cs [] h k = refl
 digit-ends c cs (b ∷ bs) h k =
     let no : is_letter c ≡ false = grind (arith, nat_tests) in
-    sym (ap (λ i. elim i [ true ↦ not (is_name_byte b) && not (nat_eq b 39) | false ↦ elim (is_digit c) [ true ↦ not (is_digit b) | false ↦ symbol_ends (c ∷ cs) b ] ]) no
-    ∙ ap (λ i. elim i [ true ↦ not (is_digit b) | false ↦ symbol_ends (c ∷ cs) b ]) h) ∙ k
+    let e : ends_before (c ∷ cs) (b ∷ bs) ≡ ends_if false (is_digit c) (c ∷ cs) b = ap (λ i. ends_if i (is_digit c) (c ∷ cs) b) no in
+    let f : ends_if false (is_digit c) (c ∷ cs) b ≡ not (is_digit b) = ap (λ i. ends_if false i (c ∷ cs) b) h in
+    sym f ∙ (sym e ∙ k)
 
 -- digits are read as their value
 pub digits-are-read : (c : ℕ) (cs r : Text) → list_all is_digit (c ∷ cs) ≡ true → ends_before (c ∷ cs) r ≡ true →

@@ -6,3 +6,4 @@ pub mod Expressions
 pub mod Statements
 pub mod Texts
 pub mod Touching
+pub mod Laws
