@@ -19,3 +19,5 @@ pub mod Closing
 pub mod SafeParts
 pub mod SafeNodes
 pub mod SafeTrees
+pub mod Prints
+pub mod ValueTexts

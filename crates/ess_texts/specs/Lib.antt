@@ -6,4 +6,5 @@ pub mod Expressions
 pub mod Statements
 pub mod Texts
 pub mod Touching
+pub mod Spelled
 pub mod Laws
