@@ -21,3 +21,4 @@ pub mod SafeNodes
 pub mod SafeTrees
 pub mod Prints
 pub mod ValueTexts
+pub mod SpelledReadable

@@ -1,5 +1,5 @@
 -- The text of a value that is spelled is the printed text of its literal.
-use Rattle.std.proofs.Common.{◌≡◌, refl, sym, ap, ◌∙◌, subst, ℕ, suc, Bool, true, false, ◌&&◌, if◌then◌else◌, List, [], ◌∷◌, ◌++◌, map, ℤ, pos, negsuc, codes, append_assoc}
+use Rattle.std.proofs.Common.{◌≡◌, refl, sym, ap, ◌∙◌, ℕ, Bool, true, false, ◌&&◌, if◌then◌else◌, List, [], ◌∷◌, ◌++◌, ℤ, pos, negsuc, codes, append_assoc}
 use Rattle.std.proofs.lemmas.Bool.{and_parts}
 use Rattle.std.specs.Prelude.{◌+ℤ◌}
 use Rattle.std.specs.Ordering.{int_eq}
@@ -7,14 +7,14 @@ use Rattle.ess_semantics.specs.Values.{Text, Kind, a_tuple, a_matrix, a_set, a_m
 use Rattle.ess_semantics.specs.Trees.{int_dom}
 use Rattle.ess_semantics.specs.declared.words.Op2.{Op2}
 use Rattle.ess_grammar.specs.Words.{operator, tuple_word, record_word, mset_word, function_word, relation_word, partition_word, comma, semicolon, dots, maps_to, open_round, close_round, open_square, close_square, open_curly, close_curly}
-use Rattle.ess_grammar.specs.ValueTexts.{Run, before_runs, runs_of, number_text, runs_text, index_text, with_commas, field_texts, tuple_text, matrix_text, compound_text, value_text, value_texts, pair_texts, number_literal, run_bounds, run_ends, index_literal, matrix_literal_of, compound_literal, literal_of, literals_of}
+use Rattle.ess_grammar.specs.ValueTexts.{Run, before_runs, runs_of, number_text, runs_text, index_text, with_commas, field_texts, tuple_text, matrix_text, value_text, value_texts, pair_texts, number_literal, run_bounds, run_ends, index_literal, matrix_literal_of, literal_of, literals_of}
 use Rattle.ess_texts.specs.Pieces.{token, space, reserved, sign, named}
 use Rattle.ess_texts.specs.Parts.{commas, tuple_pieces}
 use Rattle.ess_texts.specs.Expressions.{wholes, field_printers, range_printers, ex_pieces, operands, dom_pieces}
 use Rattle.ess_texts.specs.Texts.{ex_text}
 use Rattle.ess_texts.specs.Spelled.{are_spelled_indices, are_pairs_of_values, may_have, is_spelled, are_spelled}
 use Rattle.ess_texts.proofs.Derived.{never}
-use Rattle.ess_texts.proofs.Prints.{Prints, as-text, alone, nothing-prints, one-prints, front-prints, then-prints, within-prints, AllPrint, commas-print}
+use Rattle.ess_texts.proofs.Prints.{Prints, as-text, alone, one-prints, front-prints, then-prints, within-prints, AllPrint, commas-print}
 use Rattle.ess_texts.proofs.Literals.{pairs}
 
 -- ---- numbers and runs of them
@@ -100,10 +100,10 @@ module _ (name_of : Text → ℕ → Text) where
       (as-text (sym (append_assoc a (codes " = ") (value_text name_of v))) (record { law = q.law }), fields-print ns vs parts.1 k.2)
 
   -- A tuple of two.
-  data IsPair : Value → Type 0 where
+  pub data IsPair : Value → Type 0 where
     is_pair : {a b : Value} → IsPair (node a_tuple (cons a (cons b nil)))
 
-  pair-first : (v : Value) (vs : Values) → are_pairs_of_values (cons v vs) ≡ true → IsPair v
+  pub pair-first : (v : Value) (vs : Values) → are_pairs_of_values (cons v vs) ≡ true → IsPair v
   pair-first (node a_tuple nil) vs h = never h
   pair-first (node a_tuple (cons a nil)) vs h = never h
   pair-first (node a_tuple (cons a (cons b nil))) vs h = is_pair
@@ -113,7 +113,7 @@ module _ (name_of : Text → ℕ → Text) where
   pair-first (truth b) vs h = never h
   pair-first (item t k) vs h = never h
 
-  pair-rest : (v : Value) (vs : Values) → IsPair v → are_pairs_of_values (cons v vs) ≡ true → are_pairs_of_values vs ≡ true
+  pub pair-rest : (v : Value) (vs : Values) → IsPair v → are_pairs_of_values (cons v vs) ≡ true → are_pairs_of_values vs ≡ true
   pair-rest v vs is_pair h = h
 
   one-pair : (v : Value) (vs : Values) → IsPair v → is_spelled name_of v ≡ true → InnerLaw v → AllPrint (pairs (literals_of name_of vs)) (pair_texts name_of vs) →

@@ -2,7 +2,7 @@
 -- files). Numbers and their opposites are below 2^63, names are name tokens, tuples and records have parts, the entries of a
 -- function are pairs, and a matrix with items has indices.
 use Rattle.std.specs.Prelude.{ℕ, suc, Bool, true, false, ◌&&◌, List, [], ◌∷◌, ℤ, pos, negsuc}
-use Rattle.ess_semantics.specs.Values.{Text, Kind, a_tuple, a_matrix, a_set, a_mset, a_function, a_relation, a_partition, a_record, Value, Values, number, truth, item, node, nil, cons}
+use Rattle.ess_semantics.specs.Values.{Text, Kind, a_tuple, a_matrix, a_function, a_record, Value, Values, number, truth, item, node, nil, cons}
 use Rattle.ess_grammar.specs.Readable.{is_name_token, are_name_tokens, is_number_token}
 
 -- Whether the number has a literal.

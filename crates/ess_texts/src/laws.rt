@@ -1,6 +1,6 @@
 //! Laws of printed texts, each the contract of a function that does nothing.
 
-ghost use Rattle.ess_texts.specs.Laws.{PiecesAreRead, ExpressionsAreRead, DomainsAreRead, StatementsAreRead, RepresentationsAreRead, TextsStandFirst};
+ghost use Rattle.ess_texts.specs.Laws.{PiecesAreRead, ExpressionsAreRead, DomainsAreRead, StatementsAreRead, RepresentationsAreRead, ValuesAreRead, TextsStandFirst};
 
 /// The tokens of a text of pieces are those of its pieces, where each token ends before what follows it and is one that a
 /// text of the profile may have.
@@ -29,6 +29,11 @@ pub fn representations_are_read()
     ensures { RepresentationsAreRead }
 {}
 
+/// The text of a value that is spelled is that of its literal, which is readable and derived as itself.
+pub fn values_are_read()
+    ensures { ValuesAreRead }
+{}
+
 /// What is printed of a tree before other pieces is its own text, and then theirs. So a printer may write each part behind
 /// what it has written.
 pub fn texts_stand_first()
@@ -46,6 +51,7 @@ mod tests {
         domains_are_read();
         statements_are_read();
         representations_are_read();
+        values_are_read();
         texts_stand_first();
         assert!(rt; true);
     }
