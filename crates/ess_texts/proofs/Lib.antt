@@ -1,4 +1,5 @@
 mod ExamplesTexts
+mod ExamplesSpelled
 pub mod Digits
 pub mod NameRuns
 pub mod SymbolEnds
