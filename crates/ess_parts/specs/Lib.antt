@@ -1,0 +1,3 @@
+-- The numbered parts of trees
+pub mod Numbered
+pub mod Parts
