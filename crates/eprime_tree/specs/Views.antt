@@ -4,10 +4,11 @@ use Rattle.std.specs.Prelude.{false, List, [], ◌∷◌, ◌++◌, map, Option,
 use Rattle.ess_semantics.specs.declared.words.Op1.{Op1}
 use Rattle.ess_semantics.specs.declared.words.Op2.{Op2}
 use Rattle.ess_semantics.specs.declared.words.Fun.{Fun}
+use Rattle.ess_semantics.specs.declared.words.ReprKind.{ReprKind}
 use Rattle.ess_semantics.specs.Values.{Text}
 use Rattle.ess_semantics.specs.Lists.{append_all}
 use Rattle.ess_semantics.specs.Trees as pure
-use Rattle.ess_semantics.specs.Trees.{Op, unary, binary, word, matrix_literal, Ends, one_value, both_ends, low_end, high_end, name_pat, number_ex, truth_ex, name_ex, node_ex, comp_ex, cell_ex, no_exs, more_exs, no_gens, over, cond, bool_dom, int_dom, plain_node}
+use Rattle.ess_semantics.specs.Trees.{Op, unary, binary, word, matrix_literal, Ends, one_value, both_ends, low_end, high_end, name_pat, number_ex, truth_ex, name_ex, node_ex, comp_ex, cell_ex, seen_ex, repr, no_reprs, no_exs, more_exs, no_gens, over, cond, bool_dom, int_dom, plain_node}
 use Rattle.ess_semantics.specs.DeclaredTables.{TableDecl}
 use Rattle.ess_semantics.specs.ModelTrees.{Goal, no_goal, least, greatest, Model}
 use Rattle.ess_grammar.specs.Models.{Scope, empty_scope, with_given, with_find, scope_behind, is_truth_table}
@@ -90,9 +91,13 @@ gens_of [] = no_gens
 gens_of (over_item a d ∷ gs) = over (name_pat a) d (gens_of gs)
 gens_of (cond_item e ∷ gs) = cond e (gens_of gs)
 
--- A range. One without bounds is none of the grammar: it counts as one whose bounds are missing, and has no meaning.
+-- What stands for a bound that is missing where both are: a view of a domain without a meaning, which has none itself.
+abbrev pub no_bound : pure.Ex
+no_bound = seen_ex (repr ReprKind.Atom no_reprs) (int_dom (both_ends ∷ []) no_exs) [] no_exs
+
+-- A range. One without bounds is none of the grammar: it counts as one whose bounds have no meaning.
 abbrev pub span : Option pure.Ex → Option pure.Ex → Bounds
-span None None = (both_ends, [])
+span None None = (both_ends, no_bound ∷ no_bound ∷ [])
 span None (Some b) = (high_end, b ∷ [])
 span (Some a) None = (low_end, a ∷ [])
 span (Some a) (Some b) = (both_ends, a ∷ b ∷ [])

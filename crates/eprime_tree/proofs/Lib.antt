@@ -1,0 +1,14 @@
+pub mod Equations
+pub mod ReadBack
+pub mod ReadableModels
+pub mod ModelsRead
+pub mod HeaderLines
+mod Putting
+mod RangesFit
+mod PrintedExpressions
+mod Loops
+mod PrintedLists
+mod NextItem
+mod PrintedModels
+pub mod WholeModels
+mod ExamplesModels
