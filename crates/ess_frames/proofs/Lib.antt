@@ -1,0 +1,4 @@
+pub mod StackLaws
+pub mod RowLaws
+pub mod FieldLaws
+pub mod PatternLaws

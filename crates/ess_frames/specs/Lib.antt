@@ -1,0 +1,6 @@
+pub mod Roles
+pub mod Rows
+pub mod Patterns
+pub mod Views
+pub mod Stack
+pub mod Reduced
