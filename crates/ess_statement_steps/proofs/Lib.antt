@@ -1,0 +1,3 @@
+mod GivenNames
+mod OtherTokens
+mod Declarations
