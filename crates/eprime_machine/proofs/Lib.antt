@@ -1,0 +1,8 @@
+pub mod OwnTokens
+pub mod Growing
+pub mod PartRuns
+pub mod Complete
+pub mod Sound
+pub mod Tails
+pub mod Stops
+mod ExamplesModels

@@ -1,0 +1,2 @@
+pub mod ModelMachine
+pub mod Laws
