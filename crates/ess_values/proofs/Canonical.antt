@@ -1,6 +1,6 @@
 -- What is left of items that are sorted, and of which repeats are then dropped, is their canonical list. The items are
 -- those of a list in memory, and f says which value each one stands for.
-use Rattle.std.proofs.Common.{◌≡◌, refl, sym, ap, ◌∙◌, ℕ, zero, suc, ◌+◌, Bool, true, false, ◌||◌, ◌&&◌, not, if◌then◌else◌, cond, List, [], ◌∷◌, map, arith}
+use Rattle.std.proofs.Common.{◌≡◌, refl, sym, ap, ◌∙◌, suc, ◌+◌, Bool, true, false, ◌||◌, not, if◌then◌else◌, cond, List, [], ◌∷◌, map, arith}
 use Rattle.std.specs.Prelude.{slice_index_or}
 use Rattle.std.specs.List.{sum_by, dedup, dedup_from}
 use Rattle.std.specs.List.Sorted.{IsPermutation, IsSorted}
@@ -12,8 +12,8 @@ use Rattle.std.specs.declared.cmp.Ordering.TheVariants.{Less, Equal, Greater}
 use Rattle.ess_semantics.specs.Values.{Value, itself}
 use Rattle.ess_semantics.specs.Order.{order, same, below}
 use Rattle.ess_semantics.specs.Collections.{holds, count, rising, strictly, rises, rises_weakly}
-use Rattle.ess_semantics.proofs.Tests.{and-left, and-right, and-both, not-true}
-use Rattle.ess_semantics.proofs.Orders.{order_total, same-equal}
+use Rattle.ess_semantics.proofs.Tests.{and-left, and-right, and-both}
+use Rattle.ess_semantics.proofs.Orders.{order_total, same-equal, same-itself}
 use Rattle.ess_semantics.proofs.Sorting.{one-rising-list, one-set, strictly-rises, holds-strictly}
 use Rattle.ess_semantics.proofs.Multisets.{one-rising-bag, count-rising, rising-rises, same-members}
 
@@ -23,13 +23,21 @@ or-idem : (a b : Bool) → a || b ≡ a || (a || b)
 or-idem true b = refl
 or-idem false b = refl
 
-next-below : (x y : Value) → not (below y x) ≡ true → same y x ≡ false → below x y ≡ true
+pub next-below : (x y : Value) → not (below y x) ≡ true → same y x ≡ false → below x y ≡ true
 next-below x y p q = go (order y x) refl
   where
     go : (o : Ordering) → order y x ≡ o → below x y ≡ true
     go Less e = let z : not (is_lt Less) ≡ true = ap (λ o. not (is_lt o)) (sym e) ∙ p in cc
     go Equal e = let z : is_eq Equal ≡ false = ap is_eq (sym e) ∙ q in cc
     go Greater e = ap is_lt (order_total.antisymm x y ∙ ap ordering_reverse e)
+
+-- values that differ differ the other way round
+pub one-turned : (x y : Value) → same x y ≡ false → same y x ≡ false
+one-turned x y h = go (same y x) refl
+  where
+    go : (b : Bool) → same y x ≡ b → same y x ≡ false
+    go true e = let z : same y y ≡ false = ap (λ w. same w y) (same-equal y x e) ∙ h in let w = same-itself y in cc
+    go false e = e
 
 module _ {A : Type 0} (f : A → Value) where
   -- The order of two items.

@@ -1,2 +1,10 @@
 pub mod Orders
 pub mod Canonical
+pub mod Repeated
+pub mod Arguments
+pub mod Parts
+pub mod Commas
+pub mod Entries
+pub mod NumberRuns
+pub mod Written
+pub mod ReadTexts

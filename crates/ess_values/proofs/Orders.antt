@@ -1,5 +1,5 @@
 -- The order of two lists, where the left one has ended.
-use Rattle.std.proofs.Common.{◌≡◌, ℕ, zero, suc, ◌<◌, ◌≤◌, List, [], ◌∷◌, length, drop, map, refl, arith, Ordering, Less}
+use Rattle.std.proofs.Common.{◌≡◌, ℕ, zero, suc, ◌<◌, ◌≤◌, List, [], ◌∷◌, length, drop, map, refl, arith, Less}
 use Rattle.std.proofs.lemmas.List.{drop_all}
 use Rattle.ess_semantics.specs.Values.{Value, of_list}
 use Rattle.ess_semantics.specs.Names.{keys}

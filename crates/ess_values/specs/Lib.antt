@@ -1,2 +1,7 @@
--- Ranks of values
+-- What the contracts of this crate say beside the definitions of the meaning
 pub mod Forms
+pub mod ItemNames
+pub mod Neighbours
+pub mod Parts
+pub mod Printing
+pub mod Runs

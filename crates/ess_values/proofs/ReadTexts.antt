@@ -1,0 +1,20 @@
+-- The text of a value that is spelled is read as its literal.
+use Rattle.std.proofs.Common.{◌≡◌, ◌∙◌, ℕ, [], refl, sym, subst}
+use Rattle.std.specs.Prelude.{IsTrue}
+use Rattle.ess_semantics.specs.Values.{Text, Value}
+use Rattle.ess_grammar.specs.ValueTexts.{value_text, literal_of}
+use Rattle.ess_texts.specs.Expressions.{ex_pieces}
+use Rattle.ess_texts.specs.Laws.{ReadsInProfile, IsClosedExpression}
+use Rattle.ess_texts.specs.Spelled.{is_spelled}
+use Rattle.ess_texts.proofs.LexedPieces.{printed-tokens, printed-inside}
+use Rattle.ess_texts.proofs.SafeTrees.{ex-safe}
+use Rattle.ess_texts.proofs.Expressions.{ex-printed}
+use Rattle.ess_texts.proofs.ValueTexts.{value-text-is}
+use Rattle.ess_texts.proofs.SpelledReadable.{value-readable}
+
+pub value_is_read : (name_of : Text → ℕ → Text) (v : Value) (t : Text) → t ≡ value_text name_of v → IsTrue (is_spelled name_of v) → ReadsInProfile t (IsClosedExpression (literal_of name_of v))
+value_is_read name_of v t is h =
+    let e = literal_of name_of v in
+    let s = (ex-safe e (value-readable name_of v h)).law [] refl tt in
+    let r = (ex-printed e (value-readable name_of v h)).reads [] in
+    subst (λ u. ReadsInProfile u (IsClosedExpression e)) (value-text-is name_of v h ∙ sym is) ((_, printed-tokens (ex_pieces e []) s, (r.shape, r.level, r.derivation)), printed-inside (ex_pieces e []) s)
