@@ -1,0 +1,9 @@
+pub mod Equations
+pub mod LineLaws
+pub mod NodeViews
+pub mod Sweeps
+pub mod ModelNodes
+pub mod ModelLists
+pub mod Readables
+pub mod Conversions
+pub mod ListForms
