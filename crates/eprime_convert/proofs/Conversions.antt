@@ -1,5 +1,5 @@
 -- What the parts of a tree were converted to, put together, is what the tree is converted to.
-use Rattle.std.proofs.Common.{◌≡◌, refl, sym, ap, ◌∙◌, subst, ℕ, ◌≤◌, ◌<◌, Bool, true, false, ◌&&◌, ◌||◌, not, List, [], ◌∷◌, ◌++◌, map, length, get_or, Option, Some, None, Ok, Err, IfOk, IsTrue, arith}
+use Rattle.std.proofs.Common.{◌≡◌, refl, sym, ap, ◌∙◌, subst, Bool, true, false, ◌&&◌, ◌||◌, not, List, [], ◌∷◌, ◌++◌, map, length, get_or, Option, Some, None, Ok, Err, IfOk, arith}
 use Rattle.std.specs.Option.{option_map}
 use Rattle.std.specs.declared.result.Result.{Result}
 use Rattle.ess_semantics.specs.declared.words.Op1.{Op1}
@@ -13,11 +13,10 @@ use Rattle.ess_semantics.specs.Trees.{Op, unary, binary, plain_node}
 use Rattle.ess_grammar.specs.Grammar.{one_ex}
 use Rattle.ess_grammar.specs.Readable.{is_name_token, ReadableEx}
 use Rattle.ess_grammar.specs.Models.{Scope, is_truth_table, may_stand, names_of_gens, is_lex_operator, is_plain_operator, is_fold}
-use Rattle.ess_core.specs.TreeViews.{With, within, words_of, exs_of, Item, pure_ex, pure_exs, pure_gen, pure_gens, pure_dom, pure_range, pure_step}
+use Rattle.ess_core.specs.TreeViews.{With, within, Item, pure_ex, pure_exs, pure_gen, pure_gens, pure_dom, pure_range}
 use Rattle.ess_core.specs.declared.expressions.Ex.{Ex}
 use Rattle.ess_core.specs.declared.expressions.Gen.{Gen}
 use Rattle.ess_core.specs.declared.expressions.Pat.{Pat}
-use Rattle.ess_core.specs.declared.expressions.Step.{Step}
 use Rattle.ess_core.specs.declared.domains.Dom.{Dom}
 use Rattle.ess_core.specs.declared.domains.Range.{Range}
 use Rattle.ess_core.specs.declared.expressions.Ex.TheVariants as ex
@@ -25,7 +24,7 @@ use Rattle.ess_core.specs.declared.expressions.Gen.TheVariants as gen
 use Rattle.ess_core.specs.declared.expressions.Pat.TheVariants as pat
 use Rattle.ess_core.specs.declared.domains.Dom.TheVariants as dom
 use Rattle.ess_core.specs.declared.domains.Range.TheVariants as range
-use Rattle.ess_core.proofs.ExpressionEquations.{pure_one, pure_two, pure_at, pure_comp, pure_plain_matrix}
+use Rattle.ess_core.proofs.ExpressionEquations.{pure_one, pure_two, pure_comp, pure_plain_matrix}
 use Rattle.ess_core.proofs.PartEquations.{pure_gen_over, pure_gen_if, pure_pat_name, pure_range_one, pure_range_span}
 use Rattle.ess_core.proofs.DomainEquations.{pure_int}
 use Rattle.eprime_tree.specs.declared.words.POp1.{POp1}
@@ -33,7 +32,7 @@ use Rattle.eprime_tree.specs.declared.words.POp2.{POp2}
 use Rattle.eprime_tree.specs.declared.words.PFun.{PFun}
 use Rattle.eprime_tree.specs.Views as P
 use Rattle.eprime_tree.specs.Views.{pure_op1, pure_op2, pure_fun}
-use Rattle.eprime_convert.specs.Converted.{bounds, model_ex, model_list, model_item, model_items, model_dom, model_range, under, between, comprehension, table_at, access, items_ex, name_in, some_ranges, as_value, as_span, as_low, as_high, ReadableItem}
+use Rattle.eprime_convert.specs.Converted.{bounds, model_ex, model_list, model_item, model_items, model_dom, model_range, under, between, comprehension, access, items_ex, name_in, some_ranges, as_value, as_span, as_low, as_high, ReadableItem}
 use Rattle.eprime_convert.proofs.ModelNodes.{model-unary, model-lex, model-plain, model-to_int, model-fold, model-items, model-access, model-no_table, model-no_operand, model-several}
 use Rattle.eprime_convert.proofs.ModelLists.{model-comp, model-int}
 use Rattle.eprime_convert.proofs.Readables.{ranges_fit, name_is}

@@ -1,12 +1,11 @@
 -- What the newest lines declare.
-use Rattle.std.proofs.Common.{◌≡◌, refl, ap, Bool, true, false, ◌&&◌, ◌||◌, if◌then◌else◌, cond, List, [], ◌∷◌, map, reverse, filter, Option, Some, None}
+use Rattle.std.proofs.Common.{◌≡◌, refl, ap, Bool, true, false, ◌&&◌, ◌||◌, if◌then◌else◌, cond, List, [], ◌∷◌, map, filter, Some}
 use Rattle.std.specs.Option.{option_map}
 use Rattle.std.specs.List.{find, list_any}
 use Rattle.ess_semantics.specs.Values.{Text}
 use Rattle.ess_semantics.specs.Order.{same_text}
 use Rattle.ess_semantics.specs.Names.{look, is_among}
 use Rattle.eprime_convert.specs.declared.lines.Line.{Line}
-use Rattle.eprime_convert.specs.Lines.{scope_of}
 
 pub look_newest : (ls : List Line) (a : Text) → look (map (λ l. (l.name, l.truth)) ls) a ≡ option_map (λ l. l.truth) (find (λ l. same_text l.name a) ls)
 look_newest [] a = refl

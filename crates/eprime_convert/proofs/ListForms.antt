@@ -1,5 +1,5 @@
 -- Which expressions are lists.
-use Rattle.std.proofs.Common.{◌≡◌, sym, ap, ◌∙◌, subst, Bool, false, List, Option, Some, None}
+use Rattle.std.proofs.Common.{◌≡◌, sym, ap, ◌∙◌, subst, false, List, Option}
 use Rattle.ess_core.specs.TreeViews.{pure_ex}
 use Rattle.ess_core.specs.declared.domains.Dom.{Dom}
 use Rattle.ess_core.specs.declared.domains.Range.{Range}

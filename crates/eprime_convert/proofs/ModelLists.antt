@@ -1,16 +1,16 @@
 -- What comprehensions and domains are in a model.
-use Rattle.std.proofs.Common.{◌≡◌, refl, sym, ap, ◌∙◌, subst, Bool, true, false, ◌&&◌, ◌||◌, not, List, [], ◌∷◌, ◌++◌, map, Option, Some, None, append_assoc}
+use Rattle.std.proofs.Common.{◌≡◌, refl, sym, ap, ◌∙◌, Bool, true, false, ◌&&◌, ◌||◌, List, [], ◌∷◌, ◌++◌, map, Option, Some, None}
 use Rattle.std.specs.Option.{option_map}
 use Rattle.std.specs.List.{list_all}
 use Rattle.ess_semantics.specs.Values.{Text}
 use Rattle.ess_semantics.specs.Lists.{when, and_then, each_of, append_all}
 use Rattle.ess_semantics.specs.Kinds.{is_closed_end, is_bounded}
-use Rattle.ess_semantics.specs.Trees.{Ends, one_value, both_ends, low_end, high_end, Pat, name_pat, tuple_pat, Ex, Exs, comp_ex, no_exs, more_exs, Gens, no_gens, over, from, cond, Dom, bool_dom, int_dom}
-use Rattle.ess_grammar.specs.Readable.{some_gens, fit_ranges, ReadableEx, ReadableExs}
+use Rattle.ess_semantics.specs.Trees.{Ends, one_value, both_ends, low_end, high_end, name_pat, tuple_pat, Ex, Exs, comp_ex, no_exs, more_exs, Gens, no_gens, over, from, cond, Dom, int_dom}
+use Rattle.ess_grammar.specs.Readable.{some_gens, fit_ranges}
 use Rattle.ess_grammar.specs.Models.{Scope, names_of_gens, name_of_pat, with_cells, all_with_cells, gens_with_cells, dom_with_cells, may_stand, is_model_ex, are_model_exs, are_model_gens, is_model_dom}
 use Rattle.ess_core.specs.TreeViews.{With, words_of, within, exs_of, Item, over_item, from_item, cond_item, gens_of}
 use Rattle.eprime_tree.specs.Views as P
-use Rattle.eprime_convert.specs.Converted.{bounds, model_ex, model_list, model_item, model_items, model_dom, model_range, comprehension, names_of_item, some_ranges}
+use Rattle.eprime_convert.specs.Converted.{bounds, model_ex, model_list, model_items, model_dom, model_range, comprehension, some_ranges}
 use Rattle.eprime_convert.proofs.ModelNodes.{is_one, are-all, all-cells, each-when, map-when, put-first}
 
 -- ---- generators and conditions
@@ -211,15 +211,9 @@ model-int s h g rs f k =
     let es : Exs = all_with_cells s g (exs_of (within rs)) in
     ap (λ b. when b (int_dom (words_of rs) es))
     (middle-true (h || is_bounded (words_of rs)) (fit_ranges (words_of rs) es) (are_model_exs s false g es) (fit-kept s g (words_of rs) (exs_of (within rs)) (fit-all rs f))
-      ∙ ap (λ b. b && are_model_exs s false g es) (bounded-test h rs k)
-      ∙ ap (λ b. list_all (λ r. h || is_closed_end r.0) rs && b) (are-all s false g (within rs))
-      ∙ sym (range-tests s h g rs))
+    ∙ ap (λ b. b && are_model_exs s false g es) (bounded-test h rs k)
+    ∙ ap (λ b. list_all (λ r. h || is_closed_end r.0) rs && b) (are-all s false g (within rs))
+    ∙ sym (range-tests s h g rs))
     ∙ ap (λ d. when (list_all (is_range s h g) rs) d) (tree-with s g rs)
     ∙ map-when P.int_of (list_all (is_range s h g) rs) (map (range_with s g) rs)
     ∙ ap (option_map P.int_of) (sym (ranges-when s h g rs))
-
--- Without ranges it is none, where a bound may not be left out.
-pub model-no_ranges : (s : Scope) (h : Bool) (g : List Text) (rs : List (With Ends)) → (h || some_ranges rs) ≡ false → model_dom s h g (int_dom (words_of rs) (exs_of (within rs))) ≡ None
-model-no_ranges s true g rs k = cc
-model-no_ranges s false g [] k = refl
-model-no_ranges s false g (r ∷ rs) k = cc

@@ -1,21 +1,20 @@
 -- What a tree as it is read is in a model, form by form.
-use Rattle.std.proofs.Common.{◌≡◌, refl, sym, ap, ◌∙◌, subst, Bool, true, false, ◌&&◌, ◌||◌, not, if◌then◌else◌, List, [], ◌∷◌, ◌++◌, map, Option, Some, None, IsTrue}
-use Rattle.std.specs.Option.{option_map, is_some}
+use Rattle.std.proofs.Common.{◌≡◌, refl, sym, ap, ◌∙◌, Bool, true, false, ◌&&◌, if◌then◌else◌, List, [], ◌∷◌, map, Option, Some, None, IsTrue}
+use Rattle.std.specs.Option.{option_map}
 use Rattle.std.specs.List.{list_all}
 use Rattle.ess_semantics.specs.declared.words.Op1.{Op1}
 use Rattle.ess_semantics.specs.declared.words.Op2.{Op2}
 use Rattle.ess_semantics.specs.declared.words.Fun.{Fun}
 use Rattle.ess_semantics.specs.Values.{Text}
-use Rattle.ess_semantics.specs.Lists.{when, and_then, each_of, append_all}
-use Rattle.ess_semantics.specs.Kinds.{is_closed_end, is_bounded}
+use Rattle.ess_semantics.specs.Lists.{when, and_then, each_of}
 use Rattle.ess_semantics.specs.Names.{look, is_among}
-use Rattle.ess_semantics.specs.Trees.{Op, unary, binary, index, matrix_literal, Step, Ends, one_value, both_ends, low_end, high_end, Pat, name_pat, tuple_pat, Ex, Exs, number_ex, truth_ex, name_ex, node_ex, matrix_ex, comp_ex, cell_ex, seen_ex, no_exs, more_exs, Gens, no_gens, over, from, cond, Dom, bool_dom, int_dom, plain_node, is_truth_op, is_truth_op2, ex2}
+use Rattle.ess_semantics.specs.Trees.{Op, unary, binary, index, matrix_literal, Step, Ex, Exs, number_ex, truth_ex, name_ex, node_ex, matrix_ex, comp_ex, cell_ex, seen_ex, no_exs, more_exs, plain_node, is_truth_op}
 use Rattle.ess_grammar.specs.Grammar.{one_ex, two_exs}
-use Rattle.ess_grammar.specs.Readable.{is_name_token, some_exs, some_gens, fit_ranges, fit_operands, fit_steps, ReadableEx, ReadableExs}
-use Rattle.ess_grammar.specs.Models.{Scope, is_truth_table, names_of_gens, name_of_pat, named_cell, cell_or_name, cell_or_node, with_cells, all_with_cells, gens_with_cells, dom_with_cells, is_plain_operator, is_lex_operator, is_fold, same_truth, may_stand, is_model_ex, is_model_node, is_model_list, are_model_exs, are_model_gens, is_model_dom}
-use Rattle.ess_core.specs.TreeViews.{With, words_of, within, exs_of, Item, over_item, from_item, cond_item, gens_of}
+use Rattle.ess_grammar.specs.Readable.{fit_operands, fit_steps, ReadableEx, ReadableExs}
+use Rattle.ess_grammar.specs.Models.{Scope, is_truth_table, named_cell, cell_or_name, cell_or_node, with_cells, all_with_cells, is_plain_operator, is_lex_operator, is_fold, same_truth, may_stand, is_model_ex, is_model_node, is_model_list, are_model_exs}
+use Rattle.ess_core.specs.TreeViews.{With, words_of, within, exs_of}
 use Rattle.eprime_tree.specs.Views as P
-use Rattle.eprime_convert.specs.Converted.{Each, model_ex, model_exs, model_list, model_gens, model_item, model_items, model_dom, model_range, under, between, comprehension, table_at, access, items_ex, names_of_item, name_in}
+use Rattle.eprime_convert.specs.Converted.{model_ex, model_list, under, between, table_at, access, items_ex, name_in}
 
 -- ---- truth values and options
 
@@ -67,18 +66,8 @@ pub model-plain : (s : Scope) (f : Bool) (g : List Text) (o : Op2) (a b : Ex) �
 model-plain s f g o a b h p =
     marked (binary o) (is_model_node s f g (binary o) (two_exs (with_cells s g a) (with_cells s g b))) (plain_node (binary o) (two_exs (with_cells s g a) (with_cells s g b)))
     ∙ when-of _ _ (plain_node (binary o) (two_exs (with_cells s g a) (with_cells s g b)))
-      (other (is_lex_operator o) _ _ h ∙ plain-both (is_plain_operator o) (is_model_ex s f g (with_cells s g a)) (is_model_ex s f g (with_cells s g b)) p)
+    (other (is_lex_operator o) _ _ h ∙ plain-both (is_plain_operator o) (is_model_ex s f g (with_cells s g a)) (is_model_ex s f g (with_cells s g b)) p)
     ∙ between-when (binary o) (is_model_ex s f g (with_cells s g a)) (is_model_ex s f g (with_cells s g b)) (with_cells s g a) (with_cells s g b)
-
-no-sign : (p c d : Bool) → p ≡ false → ((p && c) && d) ≡ false
-no-sign p c d h = ap (λ p. (p && c) && d) h
-
--- Any other operator is none of a model.
-pub model-no_operator : (s : Scope) (f : Bool) (g : List Text) (o : Op2) (a b : Ex) → is_lex_operator o ≡ false → is_plain_operator o ≡ false → model_ex s f g (plain_node (binary o) (two_exs a b)) ≡ None
-model-no_operator s f g o a b h p =
-    marked (binary o) (is_model_node s f g (binary o) (two_exs (with_cells s g a) (with_cells s g b))) (plain_node (binary o) (two_exs (with_cells s g a) (with_cells s g b)))
-    ∙ when-of _ _ (plain_node (binary o) (two_exs (with_cells s g a) (with_cells s g b)))
-      (other (is_lex_operator o) _ _ h ∙ no-sign (is_plain_operator o) (is_model_ex s f g (with_cells s g a)) (is_model_ex s f g (with_cells s g b)) p)
 
 -- ---- words
 
@@ -163,7 +152,7 @@ some-table : (s : Scope) (f : Bool) (g : List Text) (a : Text) (e : Ex) (es : Li
 some-table s f g a e es =
     when-of _ _ (cell_ex (is_truth_table s a) a (all_with_cells s g (exs_of (e ∷ es))))
     (joined-test (may_stand s f a) (same_truth (is_truth_table s a) (is_truth_table s a)) (is_one s f g e) (are_model_exs s f g (all_with_cells s g (exs_of es))) (same-itself (is_truth_table s a))
-      ∙ ap (λ b. may_stand s f a && (is_one s f g e && b)) (are-all s f g es))
+    ∙ ap (λ b. may_stand s f a && (is_one s f g e && b)) (are-all s f g es))
     ∙ ap (λ xs. when (may_stand s f a && list_all (is_one s f g) (e ∷ es)) (cell_ex (is_truth_table s a) a xs)) (all-cells s g (e ∷ es))
     ∙ table-when s (may_stand s f a) (list_all (is_one s f g) (e ∷ es)) a (map (with_cells s g) (e ∷ es))
     ∙ ap (λ o. table_at s f a o) (sym (each-when (is_one s f g) (with_cells s g) (e ∷ es)))

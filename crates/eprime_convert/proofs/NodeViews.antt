@@ -1,5 +1,5 @@
 -- What the nodes of a model stand for.
-use Rattle.std.proofs.Common.{◌≡◌, refl, ap, List, map, Option, Some, None}
+use Rattle.std.proofs.Common.{◌≡◌, ap, List, map, Some, None}
 use Rattle.std.specs.Option.{option_map}
 use Rattle.ess_semantics.specs.Trees.{Op, binary, cell_ex}
 use Rattle.ess_grammar.specs.Models.{Scope, is_truth_table}

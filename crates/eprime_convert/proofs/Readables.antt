@@ -1,10 +1,9 @@
 -- Parts of trees of the grammar are trees of the grammar.
-use Rattle.std.proofs.Common.{◌≡◌, refl, sym, ap, ◌∙◌, subst, true, false, Bool, List, [], ◌∷◌, ◌++◌, map, Option, Some, None, IsTrue, ◌&&◌}
+use Rattle.std.proofs.Common.{◌≡◌, refl, ap, ◌∙◌, subst, true, false, Bool, List, [], ◌∷◌, ◌++◌, map, Some, None, ◌&&◌}
 use Rattle.std.specs.List.{list_all}
-use Rattle.std.specs.Option.{option_map}
 use Rattle.ess_semantics.specs.Trees as pure
-use Rattle.ess_grammar.specs.Readable.{ReadableEx, ReadableExs, ReadableGens, ReadableDom, fit_ranges}
-use Rattle.ess_core.specs.TreeViews.{With, words_of, within, exs_of, Item, over_item, from_item, cond_item, gens_of, span, pure_range, pure_dom, pure_ex}
+use Rattle.ess_grammar.specs.Readable.{ReadableExs, ReadableGens}
+use Rattle.ess_core.specs.TreeViews.{within, exs_of, Item, over_item, from_item, cond_item, gens_of, pure_range}
 use Rattle.ess_semantics.specs.Values.{Text}
 use Rattle.ess_core.specs.declared.expressions.Ex.{Ex}
 use Rattle.ess_core.specs.declared.expressions.Gen.{Gen}
@@ -17,11 +16,9 @@ use Rattle.ess_core.specs.declared.domains.FieldDom.{FieldDom}
 use Rattle.ess_core.specs.declared.domains.Range.{Range}
 use Rattle.ess_core.specs.declared.domains.Dom.{Dom}
 use Rattle.ess_core.specs.declared.domains.Range.TheVariants as range
-use Rattle.ess_core.specs.declared.domains.Dom.TheVariants as dom
 use Rattle.ess_core.specs.declared.domains.Dom.TheOpen.{Range-F}
 use Rattle.ess_core.specs.declared.domains.Dom.TheViews.{out-Range, roll-Range, roll-out-Range}
 use Rattle.ess_core.proofs.PartEquations.{pure_range_one, pure_range_span}
-use Rattle.ess_core.proofs.DomainEquations.{pure_int}
 use Rattle.eprime_convert.specs.Converted.{Each, ReadableItem, ReadableRange, name_in}
 use Rattle.eprime_convert.proofs.ModelLists.{is_fit}
 

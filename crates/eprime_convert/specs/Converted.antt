@@ -1,12 +1,12 @@
 -- The trees of models that trees as they are read stand for: names with their cells, where the whole is then a model's.
-use Rattle.std.specs.Prelude.{Bool, true, false, ◌||◌, List, [], ◌∷◌, ◌++◌, map, Option, Some, None, option_map, IsTrue}
+use Rattle.std.specs.Prelude.{Bool, true, false, ◌||◌, List, [], ◌∷◌, ◌++◌, Option, Some, None, option_map, IsTrue}
 use Rattle.ess_semantics.specs.Values.{Text}
 use Rattle.ess_semantics.specs.Lists.{when, and_then, each_of}
 use Rattle.ess_semantics.specs.Kinds.{is_closed_end}
-use Rattle.ess_semantics.specs.Trees.{Op, index, matrix_literal, Ends, one_value, both_ends, low_end, high_end, Step, Exs, Gens, Ex, Dom, name_ex, comp_ex, cell_ex, node_ex, more_exs, plain_node, name_pat}
+use Rattle.ess_semantics.specs.Trees.{Op, index, matrix_literal, Ends, one_value, both_ends, low_end, high_end, Step, Ex, Dom, name_ex, comp_ex, cell_ex, node_ex, more_exs, plain_node, name_pat}
 use Rattle.ess_grammar.specs.Grammar.{one_ex, two_exs}
 use Rattle.ess_grammar.specs.Readable.{fit_steps, ReadablePat, ReadableEx, ReadableExs, ReadableDom}
-use Rattle.ess_grammar.specs.Models.{Scope, is_truth_table, may_stand, name_of_pat, with_cells, all_with_cells, gens_with_cells, dom_with_cells, is_model_ex, is_model_list, are_model_exs, are_model_gens, is_model_dom}
+use Rattle.ess_grammar.specs.Models.{Scope, is_truth_table, may_stand, name_of_pat, with_cells, dom_with_cells, is_model_ex, is_model_list, is_model_dom}
 use Rattle.ess_core.specs.TreeViews.{With, words_of, within, exs_of, Item, over_item, from_item, cond_item}
 use Rattle.eprime_tree.specs.Views as P
 
@@ -14,17 +14,9 @@ use Rattle.eprime_tree.specs.Views as P
 abbrev pub model_ex : Scope → Bool → List Text → Ex → Option Ex
 model_ex s f g e = when (is_model_ex s f g (with_cells s g e)) (with_cells s g e)
 
--- Several expressions.
-abbrev pub model_exs : Scope → Bool → List Text → Exs → Option Exs
-model_exs s f g es = when (are_model_exs s f g (all_with_cells s g es)) (all_with_cells s g es)
-
 -- A list.
 abbrev pub model_list : Scope → Bool → List Text → Ex → Option Ex
 model_list s f g e = when (is_model_list s f g (with_cells s g e)) (with_cells s g e)
-
--- Generators and conditions.
-abbrev pub model_gens : Scope → List Text → Gens → Option Gens
-model_gens s g gs = when (are_model_gens s g (gens_with_cells s g gs)) (gens_with_cells s g gs)
 
 -- A domain, in which a bound may be left out where h says so.
 abbrev pub model_dom : Scope → Bool → List Text → Dom → Option Dom
@@ -39,7 +31,7 @@ abbrev pub between : Op → Option Ex → Option Ex → Option Ex
 between op (Some a) (Some b) = Some (plain_node op (two_exs a b))
 between op _ _ = None
 
--- The same of an item of a comprehension. A generator has a name alone, and is over a domain.
+-- An item of a comprehension, inside those that bind g: a generator of a name over a domain, or a condition.
 abbrev pub model_item : Scope → List Text → Item → Option P.Item
 model_item s g (over_item (name_pat a) d) = and_then (when (may_stand s false a) a) (λ a. option_map (P.over_item a) (model_dom s false g d))
 model_item s g (cond_item e) = option_map P.cond_item (model_ex s false g e)

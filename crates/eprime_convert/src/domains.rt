@@ -21,9 +21,17 @@ fn has_ranges(half_open: bool, ranges: &[Range]) -> bool
     half_open || !ranges.is_empty()
 }
 
-/// A domain, in whose ranges a bound may be left out where `half_open` says so.
+/// Converts a domain that a text was read as, in the same way: `bool` or `int(..)`, in whose ranges a bound may be left out
+/// where `half_open` says so. No find may stand in it. The answer is None where it is no domain of a model, and `NoMemory`
+/// comes where there is no room for the copy.
 #[cycle(convert)]
-pub fn convert_dom(alloc: Global, lines: &Row<Line>, half_open: bool, bound: &Row<Text>, dom: &Dom) -> Result<Option<PDom>, NoMemory>
+pub fn convert_dom(
+    alloc: Global,
+    lines: &Row<Line>,
+    half_open: bool,
+    bound: &Row<Text>,
+    dom: &Dom,
+) -> Result<Option<PDom>, NoMemory>
     requires { ReadableDom (read_dom dom.now) }
     ensures { IfOk result (λ o. option_map (pure_dom (scope_of lines.now)) o ≡ model_dom (scope_of lines.now) half_open bound.now (read_dom dom.now)) }
 {
@@ -42,7 +50,13 @@ pub fn convert_dom(alloc: Global, lines: &Row<Line>, half_open: bool, bound: &Ro
 
 /// The ranges of an int domain.
 #[cycle(convert)]
-fn convert_ranges(alloc: Global, lines: &Row<Line>, half_open: bool, bound: &Row<Text>, ranges: &[Range]) -> Result<Option<Row<PRange>>, NoMemory>
+fn convert_ranges(
+    alloc: Global,
+    lines: &Row<Line>,
+    half_open: bool,
+    bound: &Row<Text>,
+    ranges: &[Range],
+) -> Result<Option<Row<PRange>>, NoMemory>
     requires { ReadableExs (exs_of (within (map read_range ranges.now))) }
     ensures { IfOk result (λ o. option_map (map (pure_range (scope_of lines.now))) o ≡ each_of (map read_range ranges.now) (model_range (scope_of lines.now) half_open bound.now)) }
 {
@@ -58,7 +72,13 @@ fn convert_ranges(alloc: Global, lines: &Row<Line>, half_open: bool, bound: &Row
 
 /// A range.
 #[cycle(convert)]
-fn convert_range(alloc: Global, lines: &Row<Line>, half_open: bool, bound: &Row<Text>, range: &Range) -> Result<Option<PRange>, NoMemory>
+fn convert_range(
+    alloc: Global,
+    lines: &Row<Line>,
+    half_open: bool,
+    bound: &Row<Text>,
+    range: &Range,
+) -> Result<Option<PRange>, NoMemory>
     requires { ReadableRange (read_range range.now) }
     ensures { IfOk result (λ o. option_map (pure_range (scope_of lines.now)) o ≡ model_range (scope_of lines.now) half_open bound.now (read_range range.now)) }
 {

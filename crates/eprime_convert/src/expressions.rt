@@ -18,9 +18,18 @@ use ess_core::{Ex, Fun, Step};
 use ess_rows::{NoMemory, Row, Text};
 use std::alloc::Global;
 
-/// The expression of a model.
+/// Converts an expression that a text was read as, inside generators that bind the names `bound`, where these lines declare
+/// names: a declared name, and an access to a table, becomes a cell. The answer is None where the expression with its cells
+/// is none of a model's, as where it has an operator on sets, where a lex sign stands between two names, or where a find
+/// stands in it and `finds` is false. `NoMemory` where there is no room for the copy.
 #[cycle(convert)]
-pub fn convert_ex(alloc: Global, lines: &Row<Line>, finds: bool, bound: &Row<Text>, ex: &Ex) -> Result<Option<PEx>, NoMemory>
+pub fn convert_ex(
+    alloc: Global,
+    lines: &Row<Line>,
+    finds: bool,
+    bound: &Row<Text>,
+    ex: &Ex,
+) -> Result<Option<PEx>, NoMemory>
     requires { ReadableEx (read_ex ex.now) }
     ensures { IfOk result (λ o. option_map (pure_ex (scope_of lines.now)) o ≡ model_ex (scope_of lines.now) finds bound.now (read_ex ex.now)) }
 {
@@ -28,7 +37,11 @@ pub fn convert_ex(alloc: Global, lines: &Row<Line>, finds: bool, bound: &Row<Tex
         Ex::Num(number) => Ok(Some(PEx::Num(*number))),
         Ex::Truth(truth) => Ok(Some(PEx::Truth(*truth))),
         Ex::Name(name) => converted_name(alloc, lines, finds, bound, name),
-        Ex::One(op, a) => one(alloc, prefix(*op), convert_ex(alloc, lines, finds, bound, a.get())?),
+        Ex::One(op, a) => one(
+            alloc,
+            prefix(*op),
+            convert_ex(alloc, lines, finds, bound, a.get())?,
+        ),
         Ex::Two(op, a, b) => match infix(*op) {
             None => Ok(None),
             Some(sign) if is_lex(*op) => {
@@ -43,14 +56,28 @@ pub fn convert_ex(alloc: Global, lines: &Row<Line>, finds: bool, bound: &Row<Tex
             }
         },
         Ex::Call(_, fun, args) => convert_call(alloc, lines, finds, bound, *fun, args.as_slice()),
-        Ex::At(_, table, steps) => convert_access(alloc, lines, finds, bound, steps.as_slice(), table.get()),
+        Ex::At(_, table, steps) => convert_access(
+            alloc,
+            lines,
+            finds,
+            bound,
+            steps.as_slice(),
+            table.get(),
+        ),
         _ => Ok(None),
     }
 }
 
 /// A function word with its operands.
 #[cycle(convert)]
-fn convert_call(alloc: Global, lines: &Row<Line>, finds: bool, bound: &Row<Text>, fun: Fun, args: &[Ex]) -> Result<Option<PEx>, NoMemory>
+fn convert_call(
+    alloc: Global,
+    lines: &Row<Line>,
+    finds: bool,
+    bound: &Row<Text>,
+    fun: Fun,
+    args: &[Ex],
+) -> Result<Option<PEx>, NoMemory>
     requires { ReadableExs (read_exs args.now) }
     ensures { IfOk result (λ o. option_map (pure_ex (scope_of lines.now)) o ≡ model_ex (scope_of lines.now) finds bound.now (plain_node (Op.word fun) (read_exs args.now))) }
 {
@@ -62,12 +89,23 @@ fn convert_call(alloc: Global, lines: &Row<Line>, finds: bool, bound: &Row<Text>
 
 /// A function word over one operand.
 #[cycle(convert)]
-fn convert_word(alloc: Global, lines: &Row<Line>, finds: bool, bound: &Row<Text>, fun: Fun, only: &Ex) -> Result<Option<PEx>, NoMemory>
+fn convert_word(
+    alloc: Global,
+    lines: &Row<Line>,
+    finds: bool,
+    bound: &Row<Text>,
+    fun: Fun,
+    only: &Ex,
+) -> Result<Option<PEx>, NoMemory>
     requires { ReadableEx (read_ex only.now) }
     ensures { IfOk result (λ o. option_map (pure_ex (scope_of lines.now)) o ≡ model_ex (scope_of lines.now) finds bound.now (plain_node (Op.word fun) (one_ex (read_ex only.now)))) }
 {
     match fun {
-        Fun::ToInt => one(alloc, POp1::ToInt, convert_ex(alloc, lines, finds, bound, only)?),
+        Fun::ToInt => one(
+            alloc,
+            POp1::ToInt,
+            convert_ex(alloc, lines, finds, bound, only)?,
+        ),
         _ => match fold_word(fun) {
             None => Ok(None),
             Some(word) => Ok(fold(word, convert_list(alloc, lines, finds, bound, only)?)),
@@ -77,7 +115,14 @@ fn convert_word(alloc: Global, lines: &Row<Line>, finds: bool, bound: &Row<Text>
 
 /// A table at its indices.
 #[cycle(convert)]
-fn convert_access(alloc: Global, lines: &Row<Line>, finds: bool, bound: &Row<Text>, steps: &[Step], table: &Ex) -> Result<Option<PEx>, NoMemory>
+fn convert_access(
+    alloc: Global,
+    lines: &Row<Line>,
+    finds: bool,
+    bound: &Row<Text>,
+    steps: &[Step],
+    table: &Ex,
+) -> Result<Option<PEx>, NoMemory>
     requires { ReadableEx (access (read_ex table.now) (map read_step steps.now)) }
     ensures { IfOk result (λ o. option_map (pure_ex (scope_of lines.now)) o ≡ model_ex (scope_of lines.now) finds bound.now (access (read_ex table.now) (map read_step steps.now))) }
 {
@@ -95,7 +140,13 @@ fn convert_access(alloc: Global, lines: &Row<Line>, finds: bool, bound: &Row<Tex
 
 /// The values of steps.
 #[cycle(convert)]
-fn convert_steps(alloc: Global, lines: &Row<Line>, finds: bool, bound: &Row<Text>, steps: &[Step]) -> Result<Option<Row<PEx>>, NoMemory>
+fn convert_steps(
+    alloc: Global,
+    lines: &Row<Line>,
+    finds: bool,
+    bound: &Row<Text>,
+    steps: &[Step],
+) -> Result<Option<Row<PEx>>, NoMemory>
     requires { ReadableSteps (map read_step steps.now) }
     ensures { IfOk result (λ o. option_map (map (pure_ex (scope_of lines.now))) o ≡ each_of (within (map read_step steps.now)) (model_ex (scope_of lines.now) finds bound.now)) }
 {

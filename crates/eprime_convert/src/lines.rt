@@ -50,7 +50,10 @@ pub fn truth_of(lines: &Row<Line>, name: &Text) -> Option<bool>
 fn finds(lines: &[Line], name: &Text) -> bool
     ensures { result ≡ list_any (λ l. l.found && same_text l.name name.now) (reverse lines.now) }
 {
-    lines.iter().rev().any(|line| line.found && same_name(&line.name, name))
+    lines
+        .iter()
+        .rev()
+        .any(|line| line.found && same_name(&line.name, name))
 }
 
 /// Whether a line declares the name as a find.

@@ -18,7 +18,13 @@ use std::alloc::Global;
 
 /// A list: items, or a comprehension.
 #[cycle(convert)]
-pub(crate) fn convert_list(alloc: Global, lines: &Row<Line>, finds: bool, bound: &Row<Text>, ex: &Ex) -> Result<Option<PList>, NoMemory>
+pub(crate) fn convert_list(
+    alloc: Global,
+    lines: &Row<Line>,
+    finds: bool,
+    bound: &Row<Text>,
+    ex: &Ex,
+) -> Result<Option<PList>, NoMemory>
     requires { ReadableEx (read_ex ex.now) }
     ensures { IfOk result (λ o. option_map (pure_list (scope_of lines.now)) o ≡ model_list (scope_of lines.now) finds bound.now (read_ex ex.now)) }
 {
@@ -39,7 +45,13 @@ pub(crate) fn convert_list(alloc: Global, lines: &Row<Line>, finds: bool, bound:
 
 /// Several expressions.
 #[cycle(convert)]
-fn convert_exs(alloc: Global, lines: &Row<Line>, finds: bool, bound: &Row<Text>, exs: &[Ex]) -> Result<Option<Row<PEx>>, NoMemory>
+fn convert_exs(
+    alloc: Global,
+    lines: &Row<Line>,
+    finds: bool,
+    bound: &Row<Text>,
+    exs: &[Ex],
+) -> Result<Option<Row<PEx>>, NoMemory>
     requires { ReadableExs (read_exs exs.now) }
     ensures { IfOk result (λ o. option_map (map (pure_ex (scope_of lines.now))) o ≡ each_of (map read_ex exs.now) (model_ex (scope_of lines.now) finds bound.now)) }
 {
@@ -55,7 +67,12 @@ fn convert_exs(alloc: Global, lines: &Row<Line>, finds: bool, bound: &Row<Text>,
 
 /// Generators and conditions, each inside those before it.
 #[cycle(convert)]
-fn convert_gens(alloc: Global, lines: &Row<Line>, bound: &Row<Text>, gens: &[Gen]) -> Result<Option<Row<PGen>>, NoMemory>
+fn convert_gens(
+    alloc: Global,
+    lines: &Row<Line>,
+    bound: &Row<Text>,
+    gens: &[Gen],
+) -> Result<Option<Row<PGen>>, NoMemory>
     requires { ReadableGens (read_gens gens.now) }
     ensures { IfOk result (λ o. option_map (map (pure_gen (scope_of lines.now))) o ≡ model_items (scope_of lines.now) bound.now (map read_gen gens.now)) }
 {
@@ -73,7 +90,12 @@ fn convert_gens(alloc: Global, lines: &Row<Line>, bound: &Row<Text>, gens: &[Gen
 
 /// A generator or a condition.
 #[cycle(convert)]
-fn convert_gen(alloc: Global, lines: &Row<Line>, bound: &Row<Text>, part: &Gen) -> Result<Option<PGen>, NoMemory>
+fn convert_gen(
+    alloc: Global,
+    lines: &Row<Line>,
+    bound: &Row<Text>,
+    part: &Gen,
+) -> Result<Option<PGen>, NoMemory>
     requires { ReadableItem (read_gen part.now) }
     ensures { IfOk result (λ o. option_map (pure_gen (scope_of lines.now)) o ≡ model_item (scope_of lines.now) bound.now (read_gen part.now)) }
 {

@@ -12,7 +12,13 @@ use ess_rows::{Boxed, NoMemory, Row, Text};
 use std::alloc::Global;
 
 /// A name: one that a generator binds, a declared cell, or any other.
-pub fn converted_name(alloc: Global, lines: &Row<Line>, finds: bool, bound: &Row<Text>, name: &Text) -> Result<Option<PEx>, NoMemory>
+pub fn converted_name(
+    alloc: Global,
+    lines: &Row<Line>,
+    finds: bool,
+    bound: &Row<Text>,
+    name: &Text,
+) -> Result<Option<PEx>, NoMemory>
     requires { IsTrue (is_name_token name.now) }
     ensures { IfOk result (λ o. option_map (pure_ex (scope_of lines.now)) o ≡ model_ex (scope_of lines.now) finds bound.now (name_ex name.now)) }
 {
@@ -42,7 +48,11 @@ pub fn two(alloc: Global, op: POp2, a: Option<PEx>, b: Option<PEx>) -> Result<Op
     ensures { IfOk result (λ o. (s : Scope) → option_map (pure_ex s) o ≡ between (binary (pure_op2 op)) (option_map (pure_ex s) a) (option_map (pure_ex s) b)) }
 {
     match (a, b) {
-        (Some(left), Some(right)) => Ok(Some(PEx::Two(op, Boxed::new(alloc, left)?, Boxed::new(alloc, right)?))),
+        (Some(left), Some(right)) => Ok(Some(PEx::Two(
+            op,
+            Boxed::new(alloc, left)?,
+            Boxed::new(alloc, right)?,
+        ))),
         (_, _) => Ok(None),
     }
 }
@@ -93,7 +103,11 @@ pub fn items_of(items: Option<Row<PEx>>) -> Option<PList>
 
 /// A comprehension, where its body and its items are those of a model.
 #[tactic(auto, using(crate::proofs::NodeViews::comp_there))]
-pub fn comp(alloc: Global, body: Option<PEx>, items: Option<Row<PGen>>) -> Result<Option<PList>, NoMemory>
+pub fn comp(
+    alloc: Global,
+    body: Option<PEx>,
+    items: Option<Row<PGen>>,
+) -> Result<Option<PList>, NoMemory>
     ensures { IfOk result (λ o. (s : Scope) → option_map (pure_list s) o ≡ comprehension (option_map (pure_ex s) body) (option_map (map (pure_gen s)) items)) }
 {
     match (body, items) {

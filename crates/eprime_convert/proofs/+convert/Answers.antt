@@ -1,4 +1,4 @@
-use Rattle.std.proofs.Common.{rules, arith, ◌≡◌, sym, ap, ◌∙◌, map}
+use Rattle.std.proofs.Common.{sym, ap, ◌∙◌, map}
 use Rattle.std.specs.Option.{option_map, option_copied}
 use Rattle.ess_core.specs.TreeViews.{pure_step, pure_ex}
 use Rattle.ess_core.specs.TreeViews as R
@@ -41,7 +41,6 @@ expressions::convert_word-returns-in_ok-convert_list-in-Some t c =
 pub lists::convert_list-returns-in_ok-items-in-Comp : goal.lists::convert_list-returns-in_ok-items-in-Comp
 lists::convert_list-returns-in_ok-items-in-Comp t c =
     if_ok c.comp.result c.comp.ensures (λ o h. comp_converted (scope_of c.args.lines.now) c.args.finds c.args.bound.now c.args.ex.now _ _ _ _ _ _ _ _ _ c.in-Comp.is c.get.ensures c.as_slice-in-Comp.ensures c.as_slice-in-Comp-2.ensures c.requires c.in_ok-inner-in-Comp.ensures c.in_ok-item-in-Comp.ensures c.in_ok-items-in-Comp.ensures (h (scope_of c.args.lines.now)))
-
 
 pub domains::convert_range-returns-in_ok-last-in-Some-high : goal.domains::convert_range-returns-in_ok-last-in-Some-high
 domains::convert_range-returns-in_ok-last-in-Some-high t c =

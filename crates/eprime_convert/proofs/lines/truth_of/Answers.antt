@@ -1,4 +1,4 @@
-use Rattle.std.proofs.Common.{◌≡◌, sym, ap, ◌∙◌, reverse}
+use Rattle.std.proofs.Common.{reverse}
 use Rattle.eprime_convert.proofs.LineLaws.{look_newest}
 use Rattle.eprime_convert.proofs.lines.truth_of.Goals as goal
 
