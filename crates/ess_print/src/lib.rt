@@ -19,3 +19,6 @@ mod words;
 pub use ess_core::{NoMemory, Repr, Stm, Text};
 pub use representations::print_repr;
 pub use statements::print_stm;
+
+#[cfg(test)]
+mod tests;
