@@ -4,7 +4,7 @@ use Rattle.std.specs.Fmt.{digits}
 use Rattle.ess_semantics.specs.declared.words.Op2.{Op2}
 use Rattle.ess_semantics.specs.declared.words.Fun.{Fun}
 use Rattle.ess_semantics.specs.Values.{Text}
-use Rattle.ess_semantics.specs.Trees.{word, matrix_literal, both_ends, name_pat, Ex, number_ex, truth_ex, name_ex, comp_ex, cell_ex, no_exs, more_exs, no_gens, over, cond, Dom, bool_dom, int_dom, plain_node}
+use Rattle.ess_semantics.specs.Trees.{word, both_ends, name_pat, Ex, number_ex, name_ex, comp_ex, cell_ex, no_exs, no_gens, over, cond, Dom, bool_dom, int_dom, plain_node}
 use Rattle.ess_semantics.specs.ModelTrees.{no_goal, least, Model}
 use Rattle.ess_grammar.specs.Grammar.{one_ex, two_exs, binary_ex, indexed}
 use Rattle.ess_grammar.specs.Models.{is_readable_model}

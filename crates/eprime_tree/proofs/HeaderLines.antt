@@ -1,5 +1,5 @@
 -- The lines of a printed model's header are read again.
-use Rattle.std.proofs.Common.{◌≡◌, refl, sym, ap, ◌∙◌, subst, ℕ, zero, suc, ◌+◌, ◌≤◌, ◌<◌, Bool, true, false, ◌&&◌, not, List, [], ◌∷◌, ◌++◌, length, take, drop, Option, Some, None, nat_eq, arith, length-append}
+use Rattle.std.proofs.Common.{◌≡◌, refl, ap, ◌∙◌, ℕ, zero, suc, ◌≤◌, Bool, true, false, ◌&&◌, not, List, [], ◌∷◌, ◌++◌, length, take, drop, Option, Some, None, nat_eq, arith, length-append}
 use Rattle.std.specs.Prelude.{codes, if◌then◌else◌}
 use Rattle.std.specs.List.{list_all, position_or_len}
 use Rattle.std.specs.Str.{is_utf8}
@@ -16,7 +16,7 @@ use Rattle.ess_grammar.specs.Words.{Token, number, prime_word, word, symbol, lan
 use Rattle.ess_grammar.proofs.Runs.{run-yes, run-no}
 use Rattle.ess_texts.specs.Pieces.{Piece, text_of}
 use Rattle.ess_texts.proofs.TokensBack.{token-back}
-use Rattle.eprime_tree.specs.ModelText.{language_line, head_lines, declaration_lines, goal_line, such_that_lines, model_pieces, model_text, is_head_line}
+use Rattle.eprime_tree.specs.ModelText.{language_line, head_lines, declaration_lines, goal_line, such_that_lines, model_text, is_head_line}
 
 abbrev plain_byte : ℕ → Bool
 plain_byte b = not (is_line_feed b)

@@ -1,12 +1,11 @@
 -- Loops that append one item after the other: how far they have come, and what is left.
-use Rattle.std.proofs.Common.{◌≡◌, refl, sym, ap, ◌∙◌, subst, ℕ, zero, suc, ◌+◌, ◌<◌, ◌≤◌, Bool, true, false, ◌&&◌, List, [], ◌∷◌, ◌++◌, map, length, get_or, drop, append_assoc, append-nil, add-one, arith, length-drop}
+use Rattle.std.proofs.Common.{◌≡◌, refl, sym, ap, ◌∙◌, subst, ℕ, zero, suc, ◌+◌, ◌<◌, ◌≤◌, Bool, List, [], ◌∷◌, ◌++◌, map, length, get_or, drop, append_assoc, append-nil, add-one, arith, length-drop}
 use Rattle.std.specs.Prelude.{codes}
 use Rattle.std.proofs.lemmas.List.{drop_more}
 use Rattle.ess_semantics.specs.Values.{Text}
-use Rattle.ess_semantics.specs.Trees.{Gens, no_gens, over, from, cond}
+use Rattle.ess_semantics.specs.Trees.{Gens, no_gens}
 use Rattle.ess_grammar.specs.Models.{Scope}
-use Rattle.ess_grammar.specs.Words.{comma}
-use Rattle.ess_texts.specs.Pieces.{Piece, space, text_of, Printer, sign}
+use Rattle.ess_texts.specs.Pieces.{Piece, text_of, Printer}
 use Rattle.ess_texts.specs.Parts.{comma_space, commas}
 use Rattle.ess_texts.specs.Brackets.{starts_generator}
 use Rattle.ess_texts.specs.Expressions.{gens_pieces, before_items}

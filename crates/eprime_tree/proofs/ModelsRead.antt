@@ -1,11 +1,10 @@
 -- The pieces of a readable model are separate, and the rules derive exactly that model from their tokens.
-use Rattle.std.proofs.Common.{◌≡◌, refl, sym, ap, ◌∙◌, subst, Bool, true, false, ◌&&◌, not, List, [], ◌∷◌, ◌++◌, map}
+use Rattle.std.proofs.Common.{◌≡◌, refl, sym, subst, true, not, List, [], ◌∷◌, ◌++◌, map}
 use Rattle.std.specs.List.{list_all}
 use Rattle.std.specs.Str.{is_utf8}
 use Rattle.std.specs.Fmt.{digits}
 use Rattle.ess_semantics.specs.Values.{Text}
-use Rattle.ess_semantics.specs.Names.{Names}
-use Rattle.ess_semantics.specs.Trees.{Ex, Dom, Doms, no_doms, more_doms, matrix_dom}
+use Rattle.ess_semantics.specs.Trees.{Ex, Dom}
 use Rattle.ess_semantics.specs.DeclaredTables.{TableDecl}
 use Rattle.ess_semantics.specs.ModelTrees.{Goal, no_goal, least, greatest, Model}
 use Rattle.ess_semantics.proofs.Tests.{and-left, and-right}
@@ -13,8 +12,8 @@ use Rattle.ess_grammar.specs.Models.{Scope, empty_scope, with_given, with_find, 
 use Rattle.ess_grammar.specs.ModelTexts.{Declarations, no_declarations, more_declarations, Objective, no_objective, minimising, maximising, Constraints, last_constraint, next_constraint, SuchThat, no_constraints, constraints, HasModelParts, model_parts, IsModel}
 use Rattle.ess_grammar.specs.Places.{is_line_feed}
 use Rattle.ess_grammar.specs.Readable.{is_name_token, ReadableEx, ReadableDom, ReadableDoms}
-use Rattle.ess_grammar.specs.Words.{Token, Word, given_word, find_word, comma, colon}
-use Rattle.ess_texts.specs.Pieces.{Piece, space, next_line, text_of, tokens_of, Printer, reserved, sign, named}
+use Rattle.ess_grammar.specs.Words.{Word, given_word, find_word, comma, colon}
+use Rattle.ess_texts.specs.Pieces.{Piece, space, next_line, text_of, tokens_of, reserved, sign, named}
 use Rattle.ess_texts.specs.Expressions.{dom_pieces}
 use Rattle.ess_texts.specs.Touching.{Separate}
 use Rattle.ess_texts.proofs.Closing.{free-ends}
@@ -23,7 +22,7 @@ use Rattle.ess_texts.proofs.SafeParts.{Safe, plain, spaced, free, safe}
 use Rattle.ess_texts.proofs.SafeTrees.{ex-safe, dom-safe}
 use Rattle.eprime_tree.specs.Written.{written, dom_written, doms_written, matrix_over, table_written}
 use Rattle.eprime_tree.specs.ModelText.{language_line, head_lines, declaration_line, declaration_lines, goal_line, constraint_lines, such_that_lines, model_pieces, is_head_line}
-use Rattle.eprime_tree.proofs.ReadableModels.{Each, ReadableTable, ReadableGoal, TableIs, first-table, tables-readable, read_tables, goal-readable, read_goal, rules-readable, whole_scope, parts-are, read_model, model-back}
+use Rattle.eprime_tree.proofs.ReadableModels.{Each, ReadableGoal, first-table, tables-readable, read_tables, goal-readable, read_goal, rules-readable, whole_scope, parts-are, read_model, model-back}
 
 -- ---- tables
 

@@ -1,5 +1,5 @@
 -- Whether a generator comes next, and whether a condition is a name alone.
-use Rattle.std.proofs.Common.{◌≡◌, refl, sym, ap, ◌∙◌, subst, ℕ, ◌+◌, ◌<◌, ◌≤◌, Bool, true, false, List, [], ◌∷◌, map, length, get_or, drop, Option, Some, None, arith, length-drop}
+use Rattle.std.proofs.Common.{◌≡◌, refl, sym, ap, ◌∙◌, ℕ, ◌+◌, ◌<◌, Bool, true, false, List, [], ◌∷◌, map, length, drop, Some, None, arith, length-drop}
 use Rattle.std.specs.Prelude.{IsTrue, ◌↔◌}
 use Rattle.std.specs.List.{slice_get}
 use Rattle.std.proofs.lemmas.Option.{slice_get_within, get_or_from_slice_get, slice_get-get_or}
@@ -12,11 +12,11 @@ use Rattle.eprime_tree.specs.declared.expressions.PDom.{PDom}
 use Rattle.eprime_tree.specs.declared.expressions.PGen.{PGen}
 use Rattle.eprime_tree.specs.declared.expressions.PEx.TheVariants.{Cell}
 use Rattle.eprime_tree.specs.declared.expressions.PGen.TheVariants.{Over, If}
-use Rattle.eprime_tree.specs.Views.{Item, exs_of, pure_ex, pure_gen, gens_of}
+use Rattle.eprime_tree.specs.Views.{exs_of, pure_ex, pure_gen, gens_of}
 use Rattle.eprime_tree.specs.Written.{written, gens_written}
 use Rattle.eprime_tree.specs.Printed.{read_ex}
 use Rattle.eprime_tree.proofs.Equations.{pure_ex-Cell, pure_gen-Over, pure_gen-If}
-use Rattle.eprime_tree.proofs.Loops.{read_gens, left-more, left-none}
+use Rattle.eprime_tree.proofs.Loops.{read_gens, left-more}
 
 next-is : (gs : List PGen) (i : ℕ) (x : PGen) → Some x ≡ slice_get gs i → drop i gs ≡ x ∷ drop (i + 1) gs
 next-is gs i x e = left-more gs i x (slice_get_within gs i x (sym e)) (sym (get_or_from_slice_get gs i x x (sym e)))

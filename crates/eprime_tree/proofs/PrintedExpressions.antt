@@ -2,7 +2,6 @@
 use Rattle.std.proofs.Common.{◌≡◌, refl, sym, ap, ◌∙◌, subst, Bool, true, false, List, [], ◌∷◌, ◌++◌, map, append_assoc}
 use Rattle.std.specs.Prelude.{ℤ, pos, negsuc, codes}
 use Rattle.std.specs.Fmt.{decimal, signed_decimal}
-use Rattle.ess_semantics.specs.declared.words.Op1.{Op1}
 use Rattle.ess_semantics.specs.declared.words.Op2.{Op2}
 use Rattle.ess_semantics.specs.declared.words.Fun.{Fun}
 use Rattle.ess_semantics.specs.Values.{Text}
@@ -10,9 +9,9 @@ use Rattle.ess_semantics.specs.Trees as pure
 use Rattle.ess_semantics.specs.Trees.{binary, word, matrix_literal, Ex, number_ex, truth_ex, name_ex, node_ex, comp_ex, cell_ex, plain_node}
 use Rattle.ess_grammar.specs.Grammar.{one_ex, two_exs}
 use Rattle.ess_grammar.specs.Models.{Scope, is_truth_table}
-use Rattle.ess_grammar.specs.Words.{number, operator, function, open_round, close_round, open_square, close_square, bar, exclamation}
+use Rattle.ess_grammar.specs.Words.{operator, function, open_round, close_round, open_square, close_square, bar, exclamation}
 use Rattle.ess_texts.specs.TokenTexts.{function_text}
-use Rattle.ess_texts.specs.Pieces.{Piece, token, space, piece_text, text_of, Printer, sign, named}
+use Rattle.ess_texts.specs.Pieces.{token, space, piece_text, text_of, sign, named}
 use Rattle.ess_texts.specs.Parts.{commas, bracketed, number_pieces, truth_piece}
 use Rattle.ess_texts.specs.Brackets.{is_operators}
 use Rattle.ess_texts.specs.Expressions.{ex_pieces, gens_pieces, call_printers, operands, wholes}

@@ -1,15 +1,13 @@
 -- What is appended where items, generators, domains and ranges of a model are printed, form by form.
-use Rattle.std.proofs.Common.{◌≡◌, refl, sym, ap, ◌∙◌, subst, ℕ, ◌+◌, ◌<◌, ◌≤◌, Bool, true, false, ◌&&◌, List, [], ◌∷◌, ◌++◌, map, length, get_or, Option, Some, None}
+use Rattle.std.proofs.Common.{◌≡◌, refl, sym, ap, ◌∙◌, subst, ℕ, ◌+◌, ◌<◌, ◌≤◌, Bool, ◌&&◌, List, [], ◌∷◌, ◌++◌, map, length, get_or, Option, Some, None}
 use Rattle.std.specs.Prelude.{codes}
-use Rattle.std.specs.List.{list_all}
 use Rattle.ess_semantics.specs.Values.{Text}
-use Rattle.ess_semantics.specs.Trees.{Ex, Dom, bool_dom, both_ends}
 use Rattle.ess_grammar.specs.Models.{Scope}
 use Rattle.ess_grammar.specs.Words.{bool_word, int_word, open_round, close_round, colon, dots}
-use Rattle.ess_texts.specs.Pieces.{Piece, space, text_of, Printer, reserved, sign, named}
+use Rattle.ess_texts.specs.Pieces.{space, reserved, sign, named}
 use Rattle.ess_texts.specs.Parts.{commas, bracketed}
 use Rattle.ess_texts.specs.Brackets.{is_written_as_pattern}
-use Rattle.ess_texts.specs.Expressions.{ex_pieces, gens_pieces, dom_pieces}
+use Rattle.ess_texts.specs.Expressions.{ex_pieces, dom_pieces}
 use Rattle.eprime_tree.specs.declared.expressions.PEx.{PEx}
 use Rattle.eprime_tree.specs.declared.expressions.PGen.{PGen}
 use Rattle.eprime_tree.specs.declared.expressions.PDom.{PDom}
@@ -17,12 +15,12 @@ use Rattle.eprime_tree.specs.declared.expressions.PRange.{PRange}
 use Rattle.eprime_tree.specs.declared.expressions.PGen.TheVariants.{Over, If}
 use Rattle.eprime_tree.specs.declared.expressions.PDom.TheVariants as dom
 use Rattle.eprime_tree.specs.declared.expressions.PRange.TheVariants as range
-use Rattle.eprime_tree.specs.Views.{Item, over_item, cond_item, Bounds, span, int_of, pure_ex, pure_gen, pure_dom, pure_range}
-use Rattle.eprime_tree.specs.Written.{written, dom_written}
+use Rattle.eprime_tree.specs.Views.{pure_dom, pure_range}
+use Rattle.eprime_tree.specs.Written.{dom_written}
 use Rattle.eprime_tree.specs.Printed.{Puts, read_ex, PrintsEx, PrintsBracketed, PrintsExs, PrintsGens, item_pieces, PrintsItem, PrintsDom, bounds_pieces, PrintsRange, PrintsBound, PrintsRanges, comma_before}
 use Rattle.eprime_tree.proofs.Equations.{pure_gen-Over, pure_gen-If, pure_dom-Bool, pure_dom-Int, pure_range-One, pure_range-Span}
 use Rattle.eprime_tree.proofs.Putting.{puts-text, puts-then, puts-between}
-use Rattle.eprime_tree.proofs.RangesFit.{is_range, ranges-are, all_bounds, all_ends, ranges-fit}
+use Rattle.eprime_tree.proofs.RangesFit.{ranges-are, ranges-fit}
 use Rattle.eprime_tree.proofs.Loops.{Listed, listed-none, listed-more, listed-all, GensListed, gens_listed-all}
 
 -- ---- loops

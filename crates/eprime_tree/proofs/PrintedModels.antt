@@ -1,15 +1,14 @@
 -- What is appended where a model is printed, part by part.
-use Rattle.std.proofs.Common.{◌≡◌, refl, sym, ap, ◌∙◌, subst, ℕ, zero, suc, ◌+◌, ◌<◌, ◌≤◌, Bool, true, false, List, [], ◌∷◌, ◌++◌, map, length, get_or, drop, append_assoc, append-nil, add-one}
+use Rattle.std.proofs.Common.{◌≡◌, refl, sym, ap, ◌∙◌, subst, ℕ, zero, suc, ◌+◌, ◌<◌, ◌≤◌, List, [], ◌∷◌, ◌++◌, map, length, get_or, drop, append_assoc, append-nil, add-one}
 use Rattle.std.specs.Prelude.{codes}
 use Rattle.std.specs.Fmt.{digits}
 use Rattle.ess_semantics.specs.Values.{Text}
 use Rattle.ess_semantics.specs.Trees.{Ex, Dom}
 use Rattle.ess_semantics.specs.DeclaredTables.{TableDecl}
-use Rattle.ess_semantics.specs.ModelTrees.{Goal, no_goal, least, greatest, Model}
 use Rattle.ess_grammar.specs.Models.{Scope, empty_scope, with_given, with_find}
 use Rattle.ess_grammar.specs.Words.{Word, given_word, find_word, matrix_word, indexed_word, by_word, of_word, such_word, that_word, minimising_word, maximising_word, open_square, close_square, comma, colon}
 use Rattle.ess_texts.specs.TokenTexts.{word_text}
-use Rattle.ess_texts.specs.Pieces.{Piece, space, next_line, indented_line, comment, text_of, Printer, reserved, sign, named}
+use Rattle.ess_texts.specs.Pieces.{Piece, space, next_line, comment, text_of, Printer, reserved, sign, named}
 use Rattle.ess_texts.specs.Parts.{commas}
 use Rattle.ess_texts.specs.Expressions.{ex_pieces, dom_pieces, domains}
 use Rattle.eprime_tree.specs.declared.expressions.PEx.{PEx}
@@ -19,8 +18,8 @@ use Rattle.eprime_tree.specs.declared.models.PGoal.{PGoal}
 use Rattle.eprime_tree.specs.declared.models.PGoal.TheVariants.{Free, Minimise, Maximise}
 use Rattle.eprime_tree.specs.declared.models.PModel.{PModel}
 use Rattle.eprime_tree.specs.Views.{pure_ex, pure_dom, pure_decl, pure_decls, pure_goal, scope_of_givens, scope_of, pure_model}
-use Rattle.eprime_tree.specs.Written.{written, dom_written, doms_written, matrix_over, table_written}
-use Rattle.eprime_tree.specs.ModelText.{language_line, head_lines, declaration_line, declaration_lines, goal_line, constraint_lines, such_that_lines, model_text}
+use Rattle.eprime_tree.specs.Written.{written, dom_written, doms_written, matrix_over}
+use Rattle.eprime_tree.specs.ModelText.{head_lines, declaration_lines, goal_line, constraint_lines, such_that_lines, model_text}
 use Rattle.eprime_tree.specs.Printed.{Puts, read_ex, PrintsEx, PrintsDom, PrintsDoms, axes_pieces, PrintsAxes, PrintsDecl, PrintsDecls, PrintsGoal, PrintsRules, PrintsHead, comma_before, line_before}
 use Rattle.eprime_tree.proofs.Putting.{puts-text, puts-then, puts-between}
 use Rattle.eprime_tree.proofs.Loops.{left-more, left-none, Listed, listed-none, listed-more, listed-all}

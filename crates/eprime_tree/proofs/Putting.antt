@@ -1,12 +1,12 @@
 -- How what is appended to a text is put together.
-use Rattle.std.proofs.Common.{◌≡◌, refl, sym, ap, ◌∙◌, subst, Bool, true, false, ◌&&◌, not, List, [], ◌∷◌, ◌++◌, map, append_assoc}
+use Rattle.std.proofs.Common.{◌≡◌, refl, sym, ap, ◌∙◌, Bool, true, false, ◌&&◌, not, List, [], ◌∷◌, ◌++◌, map, append_assoc}
 use Rattle.std.specs.Prelude.{codes}
 use Rattle.ess_semantics.specs.declared.words.Op2.{Op2}
 use Rattle.ess_semantics.specs.declared.words.Fun.{Fun}
 use Rattle.ess_semantics.specs.Values.{Text}
-use Rattle.ess_semantics.specs.Trees.{Op, Ex, Exs}
+use Rattle.ess_semantics.specs.Trees.{Op, Ex}
 use Rattle.ess_grammar.specs.Grammar.{one_ex}
-use Rattle.ess_grammar.specs.Patterns.{is_sum, are_several}
+use Rattle.ess_grammar.specs.Patterns.{is_sum}
 use Rattle.ess_grammar.specs.Words.{operator}
 use Rattle.ess_texts.specs.TokenTexts.{operator_text}
 use Rattle.ess_texts.specs.Pieces.{Piece, token, space, text_of, Printer}

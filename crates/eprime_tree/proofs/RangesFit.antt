@@ -1,12 +1,11 @@
 -- Ranges of an int domain: each has its bounds in its view, and is printed with them.
-use Rattle.std.proofs.Common.{◌≡◌, refl, sym, ap, ◌∙◌, subst, ℕ, zero, suc, ◌+◌, ◌≤◌, Bool, true, false, ◌&&◌, List, [], ◌∷◌, map, Option, Some, None, arith}
+use Rattle.std.proofs.Common.{◌≡◌, refl, ap, subst, Bool, true, false, List, [], ◌∷◌, map, Some, None}
 use Rattle.std.specs.List.{list_all}
 use Rattle.ess_semantics.specs.Lists.{append_all}
 use Rattle.ess_semantics.specs.Trees as pure
 use Rattle.ess_semantics.specs.Trees.{Ends, one_value, both_ends, low_end, high_end, Exs, no_exs, more_exs}
-use Rattle.ess_semantics.proofs.Tests.{and-left, and-right, and-both}
+use Rattle.ess_semantics.proofs.Tests.{and-both}
 use Rattle.ess_grammar.specs.Models.{Scope}
-use Rattle.ess_texts.specs.Pieces.{Printer}
 use Rattle.ess_texts.specs.Expressions.{operands, range_printers}
 use Rattle.eprime_tree.specs.declared.expressions.PRange.{PRange}
 use Rattle.eprime_tree.specs.declared.expressions.PEx.{PEx}
@@ -17,7 +16,7 @@ use Rattle.eprime_tree.specs.declared.expressions.PDom.TheOpen.{PRange-F}
 use Rattle.eprime_tree.specs.declared.expressions.PDom.TheViews.{out-PRange, roll-PRange, roll-out-PRange}
 use Rattle.eprime_tree.specs.declared.expressions.PDom.TheFolds.{fold-roll-PRange}
 use Rattle.eprime_tree.specs.Views.{Item, Bounds, exs_of, ex_step, list_step, gen_step, dom_step, range_step, pure_range}
-use Rattle.eprime_tree.specs.Written.{written, all_written}
+use Rattle.eprime_tree.specs.Written.{all_written}
 use Rattle.eprime_tree.specs.Printed.{bounds_pieces}
 
 -- whether the bounds are those of a range

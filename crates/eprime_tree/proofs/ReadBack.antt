@@ -1,17 +1,16 @@
 -- The tree as it is read of an expression of a model is one of the grammar, and has the expression's cells again.
-use Rattle.std.proofs.Common.{◌≡◌, refl, sym, ap, ◌∙◌, subst, Bool, true, false, ◌&&◌, ◌||◌, not, List, [], ◌∷◌, ◌++◌, map, Option, Some, None}
+use Rattle.std.proofs.Common.{◌≡◌, refl, sym, ap, ◌∙◌, Bool, true, false, ◌&&◌, ◌||◌, not, List, [], ◌∷◌, ◌++◌, Option, Some, None}
 use Rattle.std.specs.Prelude.{if◌then◌else◌}
 use Rattle.std.specs.Option.{is_some}
-use Rattle.ess_semantics.specs.declared.words.Op1.{Op1}
 use Rattle.ess_semantics.specs.declared.words.Op2.{Op2}
 use Rattle.ess_semantics.specs.declared.words.Fun.{Fun}
 use Rattle.ess_semantics.specs.Values.{Text}
-use Rattle.ess_semantics.specs.Names.{Names, look, is_among}
-use Rattle.ess_semantics.specs.Trees.{Step, Op, unary, binary, index, application, tuple_literal, set_literal, mset_literal, function_literal, relation_literal, partition_literal, matrix_literal, record_literal, Ends, one_value, both_ends, low_end, high_end, Pat, name_pat, tuple_pat, Ex, Exs, number_ex, truth_ex, name_ex, node_ex, matrix_ex, comp_ex, cell_ex, seen_ex, no_exs, more_exs, Gens, no_gens, over, from, cond, Dom, bool_dom, int_dom, name_dom, tuple_dom, record_dom, matrix_dom, set_dom, mset_dom, function_dom, relation_dom, partition_dom, is_truth_op}
+use Rattle.ess_semantics.specs.Names.{look, is_among}
+use Rattle.ess_semantics.specs.Trees.{Step, Op, unary, binary, index, application, tuple_literal, set_literal, mset_literal, function_literal, relation_literal, partition_literal, matrix_literal, record_literal, Ends, one_value, both_ends, low_end, high_end, name_pat, tuple_pat, Ex, Exs, number_ex, truth_ex, name_ex, node_ex, matrix_ex, comp_ex, cell_ex, seen_ex, no_exs, more_exs, Gens, no_gens, over, from, cond, Dom, bool_dom, int_dom, name_dom, tuple_dom, record_dom, matrix_dom, set_dom, mset_dom, function_dom, relation_dom, partition_dom, is_truth_op}
 use Rattle.ess_semantics.specs.Kinds.{is_bounded}
 use Rattle.ess_semantics.proofs.Tests.{and-left, and-right, not-true}
-use Rattle.ess_grammar.specs.Grammar.{steps_of, indexed}
-use Rattle.ess_grammar.specs.Models.{Scope, is_truth_table, cell_or_name, named_cell, cell_or_node, with_cells, all_with_cells, gens_with_cells, dom_with_cells, names_of_gens, same_truth, may_stand, is_plain_cell, is_lex_operator, is_plain_operator, is_fold, is_model_ex, is_model_node, is_model_list, are_model_exs, are_model_gens, is_model_dom}
+use Rattle.ess_grammar.specs.Grammar.{steps_of}
+use Rattle.ess_grammar.specs.Models.{Scope, is_truth_table, cell_or_name, named_cell, cell_or_node, with_cells, all_with_cells, gens_with_cells, dom_with_cells, names_of_gens, same_truth, may_stand, is_plain_cell, is_lex_operator, is_plain_operator, is_model_ex, is_model_node, is_model_list, are_model_exs, are_model_gens, is_model_dom}
 use Rattle.ess_grammar.specs.Readable.{is_name_token, some_gens, fit_steps, fit_ranges, fit_operands, ReadableEx, ReadableExs, ReadableGens, ReadableDom}
 use Rattle.eprime_tree.specs.Written.{written, all_written, gens_written, dom_written}
 

@@ -1,5 +1,5 @@
 -- A readable model's parts are trees of the grammar, and the model that is read of them.
-use Rattle.std.proofs.Common.{◌≡◌, refl, sym, ap, ◌∙◌, subst, Bool, true, false, ◌&&◌, ◌||◌, not, List, [], ◌∷◌, map}
+use Rattle.std.proofs.Common.{◌≡◌, refl, sym, ap, ◌∙◌, true, ◌&&◌, not, List, [], ◌∷◌, map}
 use Rattle.std.specs.List.{list_all}
 use Rattle.std.specs.Option.{is_some}
 use Rattle.ess_semantics.specs.Values.{Text}
@@ -11,9 +11,6 @@ use Rattle.ess_semantics.specs.ModelTrees.{Goal, no_goal, least, greatest, Model
 use Rattle.ess_semantics.proofs.Tests.{and-left, and-right}
 use Rattle.ess_grammar.specs.Models.{Scope, empty_scope, with_given, with_find, scope_behind, with_cells, dom_with_cells, is_model_ex, is_model_dom, table_of, tables_of, ReadModel, model_of, goal_with_cells, are_model_tables, is_model_goal, is_readable_model}
 use Rattle.ess_grammar.specs.Readable.{is_name_token, ReadableEx, ReadableDom}
-use Rattle.eprime_tree.specs.declared.expressions.PEx.{PEx}
-use Rattle.eprime_tree.specs.declared.models.PModel.{PModel}
-use Rattle.eprime_tree.specs.Views.{pure_ex, scope_of, pure_model}
 use Rattle.eprime_tree.specs.Written.{written, dom_written, doms_written, matrix_over, table_written}
 use Rattle.eprime_tree.proofs.ReadBack.{back-ex, back-dom}
 

@@ -4,7 +4,7 @@ use Rattle.std.specs.Prelude.{ℕ, zero, suc, ◌≡◌, Bool, ◌&&◌, List, [
 use Rattle.ess_semantics.specs.declared.words.Op2.{Op2}
 use Rattle.ess_semantics.specs.declared.words.Fun.{Fun}
 use Rattle.ess_semantics.specs.Values.{Text}
-use Rattle.ess_semantics.specs.Trees.{Ends, one_value, both_ends, low_end, high_end, Ex, Dom}
+use Rattle.ess_semantics.specs.Trees.{one_value, both_ends, low_end, high_end, Ex, Dom}
 use Rattle.ess_semantics.specs.DeclaredTables.{TableDecl}
 use Rattle.ess_grammar.specs.Words.{Word, matrix_word, indexed_word, by_word, of_word, open_square, close_square, colon, dots}
 use Rattle.ess_grammar.specs.Models.{Scope}

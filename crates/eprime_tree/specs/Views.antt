@@ -1,6 +1,6 @@
 -- The pure trees that models and their expressions stand for. A declared name is a cell, and so is an access to a table;
 -- what earlier lines declare says whether their cells are truth values. A name that a generator binds is a name.
-use Rattle.std.specs.Prelude.{false, List, [], ◌∷◌, ◌++◌, map, Option, Some, None}
+use Rattle.std.specs.Prelude.{false, List, [], ◌∷◌, map, Option, Some, None}
 use Rattle.ess_semantics.specs.declared.words.Op1.{Op1}
 use Rattle.ess_semantics.specs.declared.words.Op2.{Op2}
 use Rattle.ess_semantics.specs.declared.words.Fun.{Fun}

@@ -1,6 +1,6 @@
 -- The tree as it is read of an expression of a model: there a declared name is a name, and an access to a table an index. What
 -- earlier lines declare makes cells of them again.
-use Rattle.std.specs.Prelude.{List, [], ◌∷◌, map}
+use Rattle.std.specs.Prelude.{List, [], ◌∷◌}
 use Rattle.ess_semantics.specs.Trees.{Ex, Exs, name_ex, node_ex, comp_ex, cell_ex, no_exs, more_exs, Gens, no_gens, over, from, cond, Dom, int_dom, matrix_dom, Doms, no_doms, more_doms}
 use Rattle.ess_semantics.specs.DeclaredTables.{TableDecl}
 use Rattle.ess_grammar.specs.Grammar.{indexed}

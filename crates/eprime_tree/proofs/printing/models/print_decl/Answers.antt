@@ -1,4 +1,4 @@
-use Rattle.std.proofs.Common.{◌≡◌, ap, ◌∙◌, ◌++◌}
+use Rattle.std.proofs.Common.{ap, ◌∙◌, ◌++◌}
 use Rattle.eprime_tree.proofs.PrintedModels.{prints-decl}
 use Rattle.eprime_tree.proofs.printing.models.print_decl.Goals as goal
 

@@ -1,4 +1,4 @@
-use Rattle.std.proofs.Common.{◌≡◌, ap, ◌∙◌, subst, ◌++◌, refl}
+use Rattle.std.proofs.Common.{ap, ◌∙◌, subst, ◌++◌, refl}
 use Rattle.eprime_tree.specs.Printed.{PrintsHead}
 use Rattle.eprime_tree.proofs.PrintedModels.{head_listed-more, prints-head}
 use Rattle.eprime_tree.proofs.printing.models.print_head.Goals as goal

@@ -1,4 +1,4 @@
-use Rattle.std.proofs.Common.{◌≡◌, ◌∙◌, sym, subst, List, []}
+use Rattle.std.proofs.Common.{◌∙◌, sym, subst}
 use Rattle.eprime_tree.specs.Printed.{PrintsRules}
 use Rattle.eprime_tree.proofs.PrintedModels.{rules_listed-none, rules_listed-more, prints-no_rules, prints-rules}
 use Rattle.eprime_tree.proofs.printing.models.print_rules.Goals as goal
