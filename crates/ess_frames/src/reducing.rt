@@ -51,7 +51,11 @@ pub fn one_operand(alloc: Global, operator: Op1, operand: Ex) -> Result<Ex, NoMe
 pub fn two_operands(alloc: Global, operator: Op2, left: Ex, right: Ex) -> Result<Ex, NoMemory>
     ensures { IfOk result (λ e. pure_ex e ≡ binary_ex operator (pure_ex left) (pure_ex right)) }
 {
-    Ok(Ex::Two(operator, Boxed::new(alloc, left)?, Boxed::new(alloc, right)?))
+    Ok(Ex::Two(
+        operator,
+        Boxed::new(alloc, left)?,
+        Boxed::new(alloc, right)?,
+    ))
 }
 
 /// A quantifier: a fold over a comprehension. `NoMemory` where there is no room for it.
@@ -65,7 +69,12 @@ pub fn quantifier(alloc: Global, fold: Fun, items: Row<Gen>, body: Ex) -> Result
 
 /// Closes the frames whose right operand ends before an operator of the level `least`. Before a token that is no operator
 /// that is 0. `NoMemory` where there is no room.
-pub fn reduce(alloc: Global, least: u8, frames: Row<Frame>, operand: Operand) -> Result<Reduced, NoMemory>
+pub fn reduce(
+    alloc: Global,
+    least: u8,
+    frames: Row<Frame>,
+    operand: Operand,
+) -> Result<Reduced, NoMemory>
     ensures { IfOk result (Reduces (reduce least (view_frames frames) false (is_pattern_operand operand) 10 (view_operand operand))) }
 {
     let mut frames = frames;
@@ -98,12 +107,22 @@ pub fn reduce(alloc: Global, least: u8, frames: Row<Frame>, operand: Operand) ->
         };
         operand = Operand::Other(ended);
     }
-    Ok(Reduced { frames, ends_in_body, level, operand })
+    Ok(Reduced {
+        frames,
+        ends_in_body,
+        level,
+        operand,
+    })
 }
 
 /// A domain of a kind with one inner domain. `NoMemory` where there is no room for it.
 #[tactic(auto, using(ess_core::proofs::DomainEquations::pure_set, ess_core::proofs::DomainEquations::pure_mset, ess_core::proofs::DomainEquations::pure_partition), unfolding(crate::specs::Rows::marks_of, crate::specs::Rows::numbers_of))]
-pub fn one_domain(alloc: Global, inner: Inner, attributes: Row<Attr>, domain: Dom) -> Result<Dom, NoMemory>
+pub fn one_domain(
+    alloc: Global,
+    inner: Inner,
+    attributes: Row<Attr>,
+    domain: Dom,
+) -> Result<Dom, NoMemory>
     ensures { IfOk result (λ d. pure_dom d ≡ inner_domain (view_inner inner) (marks_of attributes) (numbers_of attributes) (pure_dom domain)) }
 {
     let domain = Boxed::new(alloc, domain)?;
@@ -124,14 +143,23 @@ fn matrix_domain(alloc: Global, axes: Row<Dom>, item: Dom) -> Result<Dom, NoMemo
 
 /// A function between domains. `NoMemory` where there is no room for it.
 #[tactic(auto, using(ess_core::proofs::DomainEquations::pure_function), unfolding(crate::specs::Rows::marks_of, crate::specs::Rows::numbers_of))]
-fn function_domain(alloc: Global, attributes: Row<Attr>, from: Dom, to: Dom) -> Result<Dom, NoMemory>
+fn function_domain(
+    alloc: Global,
+    attributes: Row<Attr>,
+    from: Dom,
+    to: Dom,
+) -> Result<Dom, NoMemory>
     ensures { IfOk result (λ d. pure_dom d ≡ function_dom (marks_of attributes) (numbers_of attributes) (pure_dom from) (pure_dom to)) }
 {
     Ok(Dom::Function(attributes, Boxed::new(alloc, from)?, Boxed::new(alloc, to)?))
 }
 
 /// Closes the frames that end with a domain. `NoMemory` where there is no room.
-pub fn reduce_domain(alloc: Global, frames: Row<Frame>, domain: Dom) -> Result<ReducedDomain, NoMemory>
+pub fn reduce_domain(
+    alloc: Global,
+    frames: Row<Frame>,
+    domain: Dom,
+) -> Result<ReducedDomain, NoMemory>
     ensures { IfOk result (ReducesDomain (reduce_domain (view_frames frames) (pure_dom domain))) }
 {
     let mut frames = frames;

@@ -48,7 +48,11 @@ pub fn record_of_fields(fields: Row<FieldEx>) -> Ex
 
 /// Puts a field of a record domain behind the others. `NoMemory` where there is no room for it.
 #[tactic(auto, using(crate::proofs::FieldLaws::dom_name_push, crate::proofs::FieldLaws::field_dom_push))]
-pub fn with_field_domain(fields: Row<FieldDom>, name: Text, dom: Dom) -> Result<Row<FieldDom>, NoMemory>
+pub fn with_field_domain(
+    fields: Row<FieldDom>,
+    name: Text,
+    dom: Dom,
+) -> Result<Row<FieldDom>, NoMemory>
     ensures names { IfOk result (λ r. back_dom_names r ≡ name ∷ back_dom_names fields) }
     ensures domains { IfOk result (λ r. back_field_doms r ≡ more_doms (pure_dom dom) (back_field_doms fields)) }
 {
@@ -127,7 +131,10 @@ pub fn with_number(attributes: Row<Attr>, key: Key, value: Ex) -> Result<Row<Att
     ensures numbers { IfOk result (λ r. back_numbers r ≡ more_exs (pure_ex value) (back_numbers attributes)) }
 {
     let mut attributes = attributes;
-    attributes.push(Attr { key, value: Some(value) })?;
+    attributes.push(Attr {
+        key,
+        value: Some(value),
+    })?;
     Ok(attributes)
 }
 
