@@ -22,7 +22,7 @@ use Rattle.ess_parts.specs.Parts.{range_parts, parted_range, parted_attr, parted
 use Rattle.ess_parts.proofs.DomainParts.{bool_split, int_split, name_split, tuple_split, record_split, matrix_split, set_split, mset_split, function_split, relation_split, partition_split, field_split}
 use Rattle.ess_parts.proofs.Lawful.{Lawful, bare-lawful, itself-lawful, made-lawful, both-lawful, row-lawful-of, row-lawful, maybe-lawful, beside-lawful}
 
-range-split : (x : Range-F Dom Range Ex Gen Step Attr FieldDom FieldEx PairEx View) (r : Range) → roll-Range x ≡ r → parted_range r ≡ range_parts x
+pub range-split : (x : Range-F Dom Range Ex Gen Step Attr FieldDom FieldEx PairEx View) (r : Range) → roll-Range x ≡ r → parted_range r ≡ range_parts x
 range-split x r is = ap parted_range (sym is) ∙ ap range_parts (out-roll-Range x)
 
 range-layer : (x : Range-F Dom Range Ex Gen Step Attr FieldDom FieldEx PairEx View) → Lawful parted_range (roll-Range x)
@@ -126,7 +126,7 @@ view-lawful v = subst (Lawful parted_view) (roll-out-View v) (view-layer (out-Vi
 
 -- ---- expressions
 
-ex-split : (x : Ex-F Dom Range Ex Gen Step Attr FieldDom FieldEx PairEx View) (e : Ex) → roll-Ex x ≡ e → parted_ex e ≡ ex_parts x
+pub ex-split : (x : Ex-F Dom Range Ex Gen Step Attr FieldDom FieldEx PairEx View) (e : Ex) → roll-Ex x ≡ e → parted_ex e ≡ ex_parts x
 ex-split x e is = ap parted_ex (sym is) ∙ ap ex_parts (out-roll-Ex x)
 
 ex-layer : (x : Ex-F Dom Range Ex Gen Step Attr FieldDom FieldEx PairEx View) → Lawful parted_ex (roll-Ex x)

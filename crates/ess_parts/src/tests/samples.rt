@@ -8,38 +8,57 @@ pub fn name(alloc: Global, text: &str) -> Result<Ex, NoMemory> {
     Ok(Ex::Name(Text::from_str(alloc, text)?))
 }
 
+fn boxed_name(alloc: Global, text: &str) -> Result<Boxed<Ex>, NoMemory> {
+    Boxed::new(alloc, name(alloc, text)?)
+}
+
 /// `a + b * c` with these names.
 pub fn sum(alloc: Global, a: &str, b: &str, c: &str) -> Result<Ex, NoMemory> {
-    let b = Boxed::new(alloc, name(alloc, b)?)?;
-    let c = Boxed::new(alloc, name(alloc, c)?)?;
+    let b = boxed_name(alloc, b)?;
+    let c = boxed_name(alloc, c)?;
+    let a = boxed_name(alloc, a)?;
     let product = Boxed::new(alloc, Ex::Two(Op2::Times, b, c))?;
-    let a = Boxed::new(alloc, name(alloc, a)?)?;
     Ok(Ex::Two(Op2::Plus, a, product))
 }
 
-/// `set (size SIZE) of int(LOW..HIGH)`
-pub fn set_of(alloc: Global, size: Ex, low: Ex, high: Ex) -> Result<Dom, NoMemory> {
+/// `(size SIZE)`
+fn size(alloc: Global, size: &str) -> Result<Row<Attr>, NoMemory> {
     let size = Attr {
         key: Key::Size,
-        value: Some(size),
+        value: Some(name(alloc, size)?),
     };
-    let range = Range::Span(Some(low), Some(high));
-    let numbers = Dom::Int(Row::from_array(alloc, [range])?);
-    Ok(Dom::Set(Row::from_array(alloc, [size])?, Boxed::new(alloc, numbers)?))
+    Row::from_array(alloc, [size])
+}
+
+/// `int(low..high)`
+fn numbers(alloc: Global) -> Result<Boxed<Dom>, NoMemory> {
+    let low = name(alloc, "low")?;
+    let high = name(alloc, "high")?;
+    let ranges = Row::from_array(alloc, [Range::Span(Some(low), Some(high))])?;
+    Boxed::new(alloc, Dom::Int(ranges))
+}
+
+/// `set (size n) of int(low..high)`
+pub fn sets(alloc: Global) -> Result<Dom, NoMemory> {
+    let size = size(alloc, "n")?;
+    let numbers = numbers(alloc)?;
+    Ok(Dom::Set(size, numbers))
+}
+
+/// `x : set (size n) of int(low..high), test`
+fn generators(alloc: Global) -> Result<Row<Gen>, NoMemory> {
+    let mut gens = Row::with_capacity(alloc, 2)?;
+    let x = Text::from_str(alloc, "x")?;
+    gens.push(Gen::Over(Pat::Name(x), sets(alloc)?))?;
+    gens.push(Gen::If(name(alloc, "test")?))?;
+    Ok(gens)
 }
 
 /// `[x | x : set (size n) of int(low..high), test]`
 pub fn comprehension(alloc: Global) -> Result<Ex, NoMemory> {
-    let sets = set_of(
-        alloc,
-        name(alloc, "n")?,
-        name(alloc, "low")?,
-        name(alloc, "high")?,
-    )?;
-    let x = Pat::Name(Text::from_str(alloc, "x")?);
-    let gens = [Gen::Over(x, sets), Gen::If(name(alloc, "test")?)];
-    let body = Boxed::new(alloc, name(alloc, "x")?)?;
-    Ok(Ex::Comp(body, Row::from_array(alloc, gens)?))
+    let body = boxed_name(alloc, "x")?;
+    let gens = generators(alloc)?;
+    Ok(Ex::Comp(body, gens))
 }
 
 /// `Explicit[Occurrence]`
@@ -54,13 +73,17 @@ pub fn explicit(alloc: Global) -> Result<Repr, NoMemory> {
     })
 }
 
-/// A view of `set (size 2) of int(1..3)` at the index `i`.
+/// A view of `set (size n) of int(low..high)` at the index `i`.
 pub fn view(alloc: Global) -> Result<Ex, NoMemory> {
+    let repr = explicit(alloc)?;
+    let cells = Row::from_array(alloc, [Text::from_str(alloc, "s_Explicit")?])?;
+    let at = Row::from_array(alloc, [name(alloc, "i")?])?;
+    let dom = sets(alloc)?;
     let view = View {
-        repr: explicit(alloc)?,
-        dom: set_of(alloc, Ex::Num(2), Ex::Num(1), Ex::Num(3))?,
-        cells: Row::from_array(alloc, [Text::from_str(alloc, "s_Explicit")?])?,
-        at: Row::from_array(alloc, [name(alloc, "i")?])?,
+        repr,
+        dom,
+        cells,
+        at,
     };
     Ok(Ex::Seen(Boxed::new(alloc, view)?))
 }
