@@ -1,0 +1,13 @@
+pub mod FirstRefusals
+pub mod Runs
+pub mod Clauses
+mod KindSearch
+mod RepresentationSteps
+mod RepresentationLaws
+pub mod StateLaws
+mod LettingsLaws
+pub mod ReadableAnswers
+pub mod Narrowing
+pub mod AsciiTokens
+pub mod Turns
+mod ExamplesReaders

@@ -1,0 +1,5 @@
+pub mod Refusals
+pub mod Readers
+pub mod Runs
+pub mod Machines
+pub mod RepresentationViews
