@@ -7,3 +7,4 @@ pub mod ModelLists
 pub mod Readables
 pub mod Conversions
 pub mod ListForms
+pub mod Tables

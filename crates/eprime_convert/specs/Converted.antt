@@ -1,12 +1,15 @@
 -- The trees of models that trees as they are read stand for: names with their cells, where the whole is then a model's.
-use Rattle.std.specs.Prelude.{Bool, true, false, ◌||◌, List, [], ◌∷◌, ◌++◌, Option, Some, None, option_map, IsTrue}
+use Rattle.std.specs.Prelude.{Bool, true, false, ◌||◌, ◌&&◌, List, [], ◌∷◌, ◌++◌, Option, Some, None, option_map, IsTrue}
+use Rattle.std.specs.List.{list_all}
 use Rattle.ess_semantics.specs.Values.{Text}
+use Rattle.ess_semantics.specs.Names.{look}
+use Rattle.ess_semantics.specs.DeclaredTables.{TableDecl}
 use Rattle.ess_semantics.specs.Lists.{when, and_then, each_of}
 use Rattle.ess_semantics.specs.Kinds.{is_closed_end}
 use Rattle.ess_semantics.specs.Trees.{Op, index, matrix_literal, Ends, one_value, both_ends, low_end, high_end, Step, Ex, Dom, name_ex, comp_ex, cell_ex, node_ex, more_exs, plain_node, name_pat}
 use Rattle.ess_grammar.specs.Grammar.{one_ex, two_exs}
 use Rattle.ess_grammar.specs.Readable.{fit_steps, ReadablePat, ReadableEx, ReadableExs, ReadableDom}
-use Rattle.ess_grammar.specs.Models.{Scope, is_truth_table, may_stand, name_of_pat, with_cells, dom_with_cells, is_model_ex, is_model_list, is_model_dom}
+use Rattle.ess_grammar.specs.Models.{Scope, table_of, is_truth_table, may_stand, name_of_pat, with_cells, dom_with_cells, is_model_ex, is_model_list, is_model_dom}
 use Rattle.ess_core.specs.TreeViews.{With, words_of, within, exs_of, Item, over_item, from_item, cond_item}
 use Rattle.eprime_tree.specs.Views as P
 
@@ -115,3 +118,16 @@ as_low o = option_map (λ e. bounds low_end (e ∷ [])) o
 
 abbrev pub as_high : Option Ex → Option P.Bounds
 as_high o = option_map (λ e. bounds high_end (e ∷ [])) o
+
+-- The declared table of a name over this domain, where its axes and its cells are those of a model.
+abbrev pub table_model : Scope → Text → Dom → Option TableDecl
+table_model s a d = let t : TableDecl = table_of s a d in when (list_all (is_model_dom s true []) t.axes && is_model_dom s true [] t.cell) t
+
+-- The same where no earlier line declares the name.
+abbrev pub declared_table : Scope → Text → Dom → Option TableDecl
+declared_table s a d = elim (look s.tables a) [ Some b ↦ None | None ↦ table_model s a d ]
+
+-- A declared table of its parts, where these are there.
+abbrev pub table_of_parts : Text → Option (List Dom) → Option Dom → Option TableDecl
+table_of_parts a (Some ds) (Some d) = Some (record { name = a; axes = ds; cell = d })
+table_of_parts a _ _ = None

@@ -5,6 +5,7 @@
 //! finished expression and domain: the answer is None where the tree is none of a model's.
 #![tactic(auto)]
 
+pub mod declarations;
 pub mod domains;
 pub mod expressions;
 pub mod lines;
