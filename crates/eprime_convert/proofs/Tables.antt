@@ -1,13 +1,12 @@
 -- Declared tables of converted parts.
-use Rattle.std.proofs.Common.{◌≡◌, sym, ap, refl, ◌∙◌, Bool, true, false, ◌&&◌, List, [], ◌∷◌, map, Option, Some, None}
+use Rattle.std.proofs.Common.{◌≡◌, sym, ap, refl, ◌∙◌, Bool, true, false, ◌&&◌, List, [], ◌∷◌, map, Option}
 use Rattle.std.specs.List.{list_all}
-use Rattle.std.specs.Option.{option_map}
 use Rattle.ess_semantics.specs.Values.{Text}
 use Rattle.ess_semantics.specs.Lists.{when, each_of}
 use Rattle.ess_semantics.specs.Kinds.{dom_list, doms_of}
 use Rattle.ess_semantics.specs.Trees as pure
 use Rattle.ess_semantics.specs.DeclaredTables.{TableDecl}
-use Rattle.ess_grammar.specs.Models.{Scope, table_of, dom_with_cells, is_model_dom}
+use Rattle.ess_grammar.specs.Models.{Scope, dom_with_cells, is_model_dom}
 use Rattle.ess_core.specs.TreeViews.{pure_dom}
 use Rattle.ess_core.specs.declared.domains.Dom.{Dom}
 use Rattle.ess_core.specs.declared.domains.Dom.TheVariants as dom
