@@ -12,120 +12,101 @@ fn numbers(alloc: Global, numbers: &[i64]) -> Result<Row<Val>, NoMemory> {
     Ok(row)
 }
 
-/// The enumerated type `colour` of `red` and `green`, and the unnamed type `U` of 12 values.
-fn types(alloc: Global) -> Result<Env, NoMemory> {
-    let mut names = Row::new(alloc);
-    names.push(Text::from_str(alloc, "red")?)?;
-    names.push(Text::from_str(alloc, "green")?)?;
-    let mut types = Row::new(alloc);
-    types.push(TypeEntry {
-        name: Text::from_str(alloc, "colour")?,
-        count: 2,
-        names,
-    })?;
-    types.push(TypeEntry {
+fn truths(alloc: Global) -> Result<Row<Val>, NoMemory> {
+    Ok(Row::from_array(alloc, [Val::Truth(true), Val::Truth(false)])?)
+}
+
+fn alone(alloc: Global, val: Val) -> Result<Row<Val>, NoMemory> {
+    Ok(Row::from_array(alloc, [val])?)
+}
+
+/// The function that has 2 at 1.
+fn function(alloc: Global) -> Result<Val, NoMemory> {
+    let pair = Pair {
+        from: Val::Num(1),
+        to: Val::Num(2),
+    };
+    Ok(Val::Function(Row::from_array(alloc, [pair])?))
+}
+
+/// The record whose field `a` is 1.
+fn record(alloc: Global) -> Result<Val, NoMemory> {
+    let field = FieldVal {
+        name: Text::from_str(alloc, "a")?,
+        val: Val::Num(1),
+    };
+    Ok(Val::Rec(Row::from_array(alloc, [field])?))
+}
+
+/// The unnamed type `U` of 12 values.
+fn unnamed(alloc: Global) -> Result<Row<TypeEntry>, NoMemory> {
+    let entry = TypeEntry {
         name: Text::from_str(alloc, "U")?,
         count: 12,
         names: Row::new(alloc),
-    })?;
-    Ok(Env {
-        types,
+    };
+    Ok(Row::from_array(alloc, [entry])?)
+}
+
+/// Whether a value prints as this text, beside the type `U`.
+fn prints(alloc: Global, val: Val, want: &str) -> Result<bool, NoMemory> {
+    let env = Env {
+        types: unnamed(alloc)?,
         vals: Row::new(alloc),
-    })
+    };
+    let text = print_val(alloc, &val, &env)?;
+    Ok(text.as_str() == want)
 }
 
 #[test]
-fn numbers_and_items_print_as_their_words(rt: HostRuntime) -> Result<(), Fail> {
+fn numbers_truth_values_and_items_print_as_their_words(rt: HostRuntime) -> Result<(), Fail> {
     let alloc = rt.alloc();
-    let env = types(alloc)?;
-    let (colour, unnamed) = (
-        Text::from_str(alloc, "colour")?,
-        Text::from_str(alloc, "U")?,
-    );
-    for (val, want) in [
-        (Val::Num(7), "7"),
-        (Val::Num(-12), "-12"),
-        (Val::Truth(true), "true"),
-        (Val::Truth(false), "false"),
-        (Val::Item(colour, 2), "green"),
-        (Val::Item(unnamed, 11), "U_11"),
-    ] {
-        assert_eq!(rt; print_val(alloc, &val, &env)?.as_str(), want);
-    }
+    assert!(rt; prints(alloc, Val::Num(-12), "-12")?);
+    assert!(rt; prints(alloc, Val::Truth(true), "true")?);
+    assert!(rt; prints(alloc, Val::Item(Text::from_str(alloc, "U")?, 11), "U_11")?);
     Ok(())
 }
 
 #[test]
 fn collections_print_as_their_literals(rt: HostRuntime) -> Result<(), Fail> {
     let alloc = rt.alloc();
-    let env = types(alloc)?;
-    let mut parts = Row::new(alloc);
-    parts.push(Val::Set(numbers(alloc, &[1])?))?;
-    parts.push(Val::Set(numbers(alloc, &[2, 3])?))?;
-    let mut tuples = Row::new(alloc);
-    tuples.push(Val::Tuple(numbers(alloc, &[1, 2])?))?;
-    let mut pairs = Row::new(alloc);
-    pairs.push(Pair {
-        from: Val::Num(1),
-        to: Val::Num(2),
-    })?;
-    pairs.push(Pair {
-        from: Val::Num(3),
-        to: Val::Num(-4),
-    })?;
-    let mut fields = Row::new(alloc);
-    fields.push(FieldVal {
-        name: Text::from_str(alloc, "a")?,
-        val: Val::Num(1),
-    })?;
-    fields.push(FieldVal {
-        name: Text::from_str(alloc, "b")?,
-        val: Val::Truth(true),
-    })?;
-    for (val, want) in [
-        (Val::Set(numbers(alloc, &[1, 2])?), "{1, 2}"),
-        (Val::Set(Row::new(alloc)), "{}"),
-        (Val::MSet(numbers(alloc, &[1, 1])?), "mset(1, 1)"),
-        (Val::Tuple(numbers(alloc, &[1, 2])?), "(1, 2)"),
-        (Val::Tuple(numbers(alloc, &[1])?), "tuple (1)"),
-        (Val::Partition(parts), "partition({1}, {2, 3})"),
-        (Val::Relation(tuples), "relation((1, 2))"),
-        (Val::Function(pairs), "function(1 --> 2, 3 --> -4)"),
-        (Val::Rec(fields), "record {a = 1, b = true}"),
-    ] {
-        assert_eq!(rt; print_val(alloc, &val, &env)?.as_str(), want);
-    }
+    assert!(rt; prints(alloc, Val::Set(numbers(alloc, &[1, 2])?), "{1, 2}")?);
+    assert!(rt; prints(alloc, Val::MSet(numbers(alloc, &[1, 1])?), "mset(1, 1)")?);
+    assert!(rt; prints(alloc, Val::Tuple(numbers(alloc, &[1])?), "tuple (1)")?);
+    assert!(rt; prints(alloc, function(alloc)?, "function(1 --> 2)")?);
+    assert!(rt; prints(alloc, record(alloc)?, "record {a = 1}")?);
+    Ok(())
+}
+
+#[test]
+fn collections_of_collections_print_as_their_literals(rt: HostRuntime) -> Result<(), Fail> {
+    let alloc = rt.alloc();
+    let tuple = Val::Tuple(numbers(alloc, &[1, 2])?);
+    assert!(rt;
+        prints(
+            alloc,
+            Val::Relation(alone(alloc, tuple)?),
+            "relation((1, 2))"
+        )?
+    );
+    let part = Val::Set(numbers(alloc, &[2, 3])?);
+    assert!(rt;
+        prints(
+            alloc,
+            Val::Partition(alone(alloc, part)?),
+            "partition({2, 3})"
+        )?
+    );
     Ok(())
 }
 
 #[test]
 fn matrices_print_with_their_index_domains(rt: HostRuntime) -> Result<(), Fail> {
     let alloc = rt.alloc();
-    let env = types(alloc)?;
-    let mut truths = Row::new(alloc);
-    truths.push(Val::Truth(true))?;
-    truths.push(Val::Truth(false))?;
-    let mut both = Row::new(alloc);
-    both.push(Val::Truth(false))?;
-    both.push(Val::Truth(true))?;
-    let mut colours = Row::new(alloc);
-    colours.push(Val::Item(Text::from_str(alloc, "colour")?, 1))?;
-    colours.push(Val::Item(Text::from_str(alloc, "colour")?, 2))?;
-    for (index, items, want) in [
-        (numbers(alloc, &[1, 2])?, truths, "[true, false; int(1..2)]"),
-        (
-            numbers(alloc, &[-1, 0, 3])?,
-            numbers(alloc, &[7, 8, 9])?,
-            "[7, 8, 9; int(-1..0, 3..3)]",
-        ),
-        (both, numbers(alloc, &[5, 6])?, "[5, 6; bool]"),
-        (colours, numbers(alloc, &[5, 6])?, "[5, 6; colour]"),
-        (Row::new(alloc), Row::new(alloc), "[]"),
-    ] {
-        assert_eq!(rt;
-            print_val(alloc, &Val::Matrix(index, items), &env)?.as_str(),
-            want
-        );
-    }
+    let truth = Val::Matrix(numbers(alloc, &[1, 2])?, truths(alloc)?);
+    assert!(rt; prints(alloc, truth, "[true, false; int(1..2)]")?);
+    let runs = Val::Matrix(numbers(alloc, &[-1, 0, 3])?, numbers(alloc, &[7, 8, 9])?);
+    assert!(rt; prints(alloc, runs, "[7, 8, 9; int(-1..0, 3..3)]")?);
+    assert!(rt; prints(alloc, Val::Matrix(Row::new(alloc), Row::new(alloc)), "[]")?);
     Ok(())
 }
