@@ -97,60 +97,64 @@ fn sets_are_ordered_by_their_first_difference(rt: HostRuntime) -> Result<(), Fai
     Ok(())
 }
 
+/// The matrix of two items over 1 and 2.
+fn matrix(alloc: Global, items: &[i64]) -> Result<Val, NoMemory> {
+    Ok(Val::Matrix(numbers(alloc, &[1, 2])?, numbers(alloc, items)?))
+}
+
+/// Whether two values stand in this order, and the other way round in the other one.
+fn are_ordered(a: Val, b: Val, want: Ordering) -> bool {
+    order(&a, &b) == want && order(&b, &a) == want.reverse()
+}
+
 #[test]
-fn nested_values_are_ordered_part_by_part(rt: HostRuntime) -> Result<(), Fail> {
+fn sets_of_sets_are_ordered_member_by_member(rt: HostRuntime) -> Result<(), Fail> {
     let alloc = rt.alloc();
-    for (a, b, want) in [
-        (
-            Val::Set(sets(alloc, &[&[], &[1]])?),
-            Val::Set(sets(alloc, &[&[1]])?),
-            Ordering::Less,
-        ),
-        (
-            Val::Set(sets(alloc, &[&[1, 3]])?),
-            Val::Set(sets(alloc, &[&[1], &[2]])?),
-            Ordering::Greater,
-        ),
-        (
-            Val::Set(sets(alloc, &[&[1], &[2]])?),
-            Val::Set(sets(alloc, &[&[1], &[2]])?),
-            Ordering::Equal,
-        ),
-        (
-            Val::MSet(numbers(alloc, &[1, 1, 2])?),
-            Val::MSet(numbers(alloc, &[1, 2])?),
-            Ordering::Less,
-        ),
-        (
-            Val::Tuple(numbers(alloc, &[1, 3])?),
-            Val::Tuple(numbers(alloc, &[2, 1])?),
-            Ordering::Less,
-        ),
-        (
-            Val::Matrix(numbers(alloc, &[1, 2])?, numbers(alloc, &[5, 6])?),
-            Val::Matrix(numbers(alloc, &[1, 2])?, numbers(alloc, &[5, 4])?),
-            Ordering::Greater,
-        ),
-        (
-            Val::Function(pairs(alloc, &[(1, 5)])?),
-            Val::Function(pairs(alloc, &[(1, 4), (2, 1)])?),
-            Ordering::Greater,
-        ),
-        (
-            Val::Relation(sets(alloc, &[&[1]])?),
-            Val::Relation(sets(alloc, &[&[1], &[2]])?),
-            Ordering::Less,
-        ),
-        (
-            Val::Partition(sets(alloc, &[&[1, 2]])?),
-            Val::Partition(sets(alloc, &[&[1], &[2]])?),
-            Ordering::Greater,
-        ),
-        (record(alloc, 1, 2)?, record(alloc, 1, 3)?, Ordering::Less),
-    ] {
-        assert_eq!(rt; order(&a, &b), want);
-        assert_eq!(rt; order(&b, &a), want.reverse());
-    }
+    let (a, b) = (
+        Val::Set(sets(alloc, &[&[], &[1]])?),
+        Val::Set(sets(alloc, &[&[1]])?),
+    );
+    assert!(rt; are_ordered(a, b, Ordering::Less));
+    let (a, b) = (
+        Val::Set(sets(alloc, &[&[1, 3]])?),
+        Val::Set(sets(alloc, &[&[1], &[2]])?),
+    );
+    assert!(rt; are_ordered(a, b, Ordering::Greater));
+    let (a, b) = (
+        Val::Relation(sets(alloc, &[&[1]])?),
+        Val::Relation(sets(alloc, &[&[1], &[2]])?),
+    );
+    assert!(rt; are_ordered(a, b, Ordering::Less));
+    let (a, b) = (
+        Val::Partition(sets(alloc, &[&[1, 2]])?),
+        Val::Partition(sets(alloc, &[&[1], &[2]])?),
+    );
+    assert!(rt; are_ordered(a, b, Ordering::Greater));
+    Ok(())
+}
+
+#[test]
+fn compound_values_are_ordered_part_by_part(rt: HostRuntime) -> Result<(), Fail> {
+    let alloc = rt.alloc();
+    let (a, b) = (
+        Val::MSet(numbers(alloc, &[1, 1, 2])?),
+        Val::MSet(numbers(alloc, &[1, 2])?),
+    );
+    assert!(rt; are_ordered(a, b, Ordering::Less));
+    let (a, b) = (
+        Val::Tuple(numbers(alloc, &[1, 3])?),
+        Val::Tuple(numbers(alloc, &[2, 1])?),
+    );
+    assert!(rt; are_ordered(a, b, Ordering::Less));
+    let (a, b) = (
+        Val::Function(pairs(alloc, &[(1, 5)])?),
+        Val::Function(pairs(alloc, &[(1, 4), (2, 1)])?),
+    );
+    assert!(rt; are_ordered(a, b, Ordering::Greater));
+    let (a, b) = (record(alloc, 1, 2)?, record(alloc, 1, 3)?);
+    assert!(rt; are_ordered(a, b, Ordering::Less));
+    let (a, b) = (matrix(alloc, &[5, 6])?, matrix(alloc, &[5, 4])?);
+    assert!(rt; are_ordered(a, b, Ordering::Greater));
     Ok(())
 }
 
