@@ -36,20 +36,12 @@ use Rattle.ess_frames.specs.declared.states.Answer.TheVariants as A
 
 -- ---- the parts of frames
 
--- The node of a literal.
+-- The node of a literal that a word begins.
 abbrev pub literal_op : Literal → Op
 literal_op L.Tuple = tuple_literal
-literal_op L.Set = set_literal
 literal_op L.MSet = mset_literal
 literal_op L.Relation = relation_literal
 literal_op L.Partition = partition_literal
-literal_op L.Matrix = matrix_literal
-
--- The symbol that closes a literal.
-abbrev pub literal_end : Literal → Symbol
-literal_end L.Set = close_curly
-literal_end L.Matrix = close_square
-literal_end _ = close_round
 
 -- What a list becomes.
 abbrev pub view_listing : Listing → machine.Listing
@@ -58,11 +50,14 @@ view_listing (K.Index e) = index_list
 view_listing (K.Application e) = node_list application
 view_listing (K.Call f) = node_list (word f)
 view_listing (K.Literal l) = node_list (literal_op l)
+view_listing K.Set = node_list set_literal
+view_listing K.Matrix = node_list matrix_literal
 
 -- The symbol that closes a list.
 abbrev pub list_end : Listing → Symbol
 list_end (K.Index e) = close_square
-list_end (K.Literal l) = literal_end l
+list_end K.Set = close_curly
+list_end K.Matrix = close_square
 list_end _ = close_round
 
 -- What stands before the items of a list, as its first item.

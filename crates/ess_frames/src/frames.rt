@@ -2,21 +2,17 @@ use crate::Listed;
 use ess_core::{Attr, Dom, Ex, FieldDom, FieldEx, Fun, Gen, Key, Op2, PairEx, Pat, Range, Stm};
 use ess_rows::{Row, Text};
 
-/// The literals with a list of expressions in brackets.
+/// The literals that a word begins, before a list of expressions in round brackets.
 #[derive(Clone, Copy, Debug, PartialEq, Eq)]
 pub enum Literal {
     /// `tuple (..)`
     Tuple,
-    /// `{..}`
-    Set,
     /// `mset (..)`
     MSet,
     /// `relation (..)`
     Relation,
     /// `partition (..)`
     Partition,
-    /// `[..]`
-    Matrix,
 }
 
 /// What a list in brackets becomes.
@@ -30,8 +26,12 @@ pub enum Listing {
     Application(Ex),
     /// The operands of a function word.
     Call(Fun),
-    /// A literal.
+    /// A literal that a word begins.
     Literal(Literal),
+    /// A set, in curly brackets.
+    Set,
+    /// A matrix, in square brackets.
+    Matrix,
 }
 
 /// The kinds of domains with one inner domain.
