@@ -1,4 +1,4 @@
-ghost use Rattle.std.specs.Prelude.{◌≡◌, IfOk, [], true, map, option_map};
+ghost use Rattle.std.specs.Prelude.{◌≡◌, IfOk, true, map, option_map};
 ghost use Rattle.ess_semantics.specs.Lists.{each_of};
 ghost use Rattle.ess_grammar.specs.Models.{Scope};
 ghost use Rattle.ess_grammar.specs.Readable.{ReadableDom, ReadableDoms};

@@ -1,5 +1,5 @@
 ghost use Rattle.std.specs.Prelude.{◌≡◌, IfOk, IsTrue, map, option_map};
-ghost use Rattle.ess_semantics.specs.Trees.{Op, binary, cell_ex, name_ex, node_ex, matrix_literal};
+ghost use Rattle.ess_semantics.specs.Trees.{Op, binary, cell_ex, name_ex};
 ghost use Rattle.ess_grammar.specs.Readable.{is_name_token};
 ghost use Rattle.ess_grammar.specs.Models.{Scope, is_truth_table};
 ghost use Rattle.eprime_tree.specs.Views.{pure_ex, pure_list, pure_gen, pure_dom, pure_range, pure_op1, pure_op2, pure_fun, exs_of, over_item, cond_item, int_of as dom_of};

@@ -1,26 +1,25 @@
 //! Behind a domain that goes no further.
 #![tactic(auto, using(ess_frames::proofs::PatternLaws::pats_none, ess_frames::proofs::RowLaws::names_none))]
 
-ghost use Rattle.std.specs.Prelude.{◌≡◌, List, ◌∷◌, false, not, ◌||◌, IfOk};
-ghost use Rattle.ess_semantics.specs.Trees.{comp_ex, matrix_ex, tuple_dom, relation_dom, no_doms, more_doms};
+ghost use Rattle.std.specs.Prelude.{◌≡◌, List, ◌∷◌, false, ◌||◌, IfOk};
+ghost use Rattle.ess_semantics.specs.Trees.{comp_ex, matrix_ex};
 ghost use Rattle.ess_grammar.specs.Words.{Text};
 ghost use Rattle.ess_grammar.specs.Kinds.{token};
 ghost use Rattle.ess_machine.specs.Frames as machine;
-ghost use Rattle.ess_machine.specs.Frames.{tuple_domains_frame, relation_domains_frame, generator_domain_frame};
-ghost use Rattle.ess_machine.specs.Modes.{at_state, domain_read};
-ghost use Rattle.ess_machine.specs.Reversed.{reverse_doms};
+ghost use Rattle.ess_machine.specs.Frames.{generator_domain_frame};
 ghost use Rattle.ess_machine.specs.Reducing.{reduce_domain};
 ghost use Rattle.ess_machine.specs.AfterDomains.{domain_then, reduced_domain_then, domain_then_comma, domain_then_dot, domain_then_close_square, domain_then_close_round, domain_then_close_curly, domain_then_maps_to, domain_then_times};
-ghost use Rattle.ess_core.specs.TreeViews.{pure_ex, pure_exs, pure_dom, pure_doms, pure_gens};
-ghost use Rattle.ess_frames.specs.Rows.{back_doms, back_gens, marks_of, numbers_of};
+ghost use Rattle.ess_core.specs.TreeViews.{pure_ex, pure_exs, pure_dom, pure_gens};
+ghost use Rattle.ess_frames.specs.Rows.{back_gens};
 ghost use Rattle.ess_frames.specs.Patterns.{view_operand, is_pattern_operand, pats_in_order};
 ghost use Rattle.ess_frames.specs.Views.{view_frame, view_frames, view_head, Steps};
-ghost use Rattle.ess_domain_steps.specs.Several.{are_any, goes_on};
+ghost use Rattle.ess_domain_steps.specs.Several.{goes_on};
 
 use crate::generators::{all_over, over_each, with_all_names};
+use crate::products::{all_domains, domain_then_close_round};
 use crate::records::sorted_record;
 use crate::stopping::stop;
-use ess_core::{Attr, Dom, Ex, Gen, Pat, Stm};
+use ess_core::{Dom, Ex, Gen, Pat, Stm};
 use ess_frames::reducing::{ReducedDomain, reduce_domain};
 use ess_frames::rows::{with_domain, with_field_domain, with_statement};
 use ess_frames::stack::{Top, at, innermost, inside, outside};
@@ -211,103 +210,6 @@ pub fn domain_then_close_square(
             inside(Mode::AxesRead, Frame::Element(domains), frames)
         }
         other => stop(other),
-    }
-}
-
-/// All domains, in order, the last of which is `last`. `NoMemory` where there is no room for it.
-#[tactic(auto, using(ess_frames::proofs::RowLaws::doms_whole))]
-fn all_domains(domains: Row<Dom>, last: Dom) -> Result<Row<Dom>, NoMemory>
-    ensures { IfOk result (λ ds. reverse_doms (back_doms domains) (more_doms (pure_dom last) no_doms) ≡ pure_doms ds) }
-{
-    let mut domains = domains;
-    domains.push(last)?;
-    Ok(domains)
-}
-
-/// Are there any domains?
-fn are_any(domains: &Row<Dom>) -> bool
-    ensures { result ≡ are_any (back_doms domains.now) }
-{
-    !domains.is_empty()
-}
-
-/// May a tuple end with one domain more? `two`: does it need two?
-fn has_enough(two: bool, domains: &Row<Dom>) -> bool
-    ensures { result ≡ (not two || are_any (back_doms domains.now)) }
-{
-    !two || are_any(domains)
-}
-
-/// A closing round bracket ends a tuple or a relation. A tuple without its word, and a relation, have two domains or more.
-/// `NoMemory` where there is no room.
-pub fn domain_then_close_round(
-    frame: Frame,
-    frames: Row<Frame>,
-    domain: Dom,
-) -> Result<Option<State>, NoMemory>
-    ensures { IfOk result (Steps (domain_then_close_round (view_frame frame ∷ view_frames frames) (pure_dom domain))) }
-{
-    match frame {
-        Frame::TupleDomains(two, domains) => end_tuple(two, domains, domain, frames),
-        Frame::RelationDomains(attributes, domains) => end_relation(
-            attributes, domains, domain, frames,
-        ),
-        other => stop(other),
-    }
-}
-
-/// Behind the tuple of all domains, the last of which is `last`. `NoMemory` where there is no room.
-#[tactic(auto, using(ess_core::proofs::DomainEquations::pure_tuple))]
-fn tuple_read(domains: Row<Dom>, last: Dom, frames: Row<Frame>) -> Result<Option<State>, NoMemory>
-    ensures { IfOk result (Steps (at_state (domain_read (tuple_dom (reverse_doms (back_doms domains) (more_doms (pure_dom last) no_doms)))) (view_frames frames))) }
-{
-    let domains = all_domains(domains, last)?;
-    Ok(at(Mode::DomainRead(Dom::Tuple(domains)), frames))
-}
-
-/// Behind all domains of a tuple, the last of which is `last`. `two`: does it need two? `NoMemory` where there is no room.
-fn end_tuple(
-    two: bool,
-    domains: Row<Dom>,
-    last: Dom,
-    frames: Row<Frame>,
-) -> Result<Option<State>, NoMemory>
-    ensures { IfOk result (Steps (domain_then_close_round (tuple_domains_frame two (back_doms domains) ∷ view_frames frames) (pure_dom last))) }
-{
-    if has_enough(two, &domains) {
-        tuple_read(domains, last, frames)
-    } else {
-        Ok(None)
-    }
-}
-
-/// Behind the relation of all domains, the last of which is `last`. `NoMemory` where there is no room.
-#[tactic(auto, using(ess_core::proofs::DomainEquations::pure_relation), unfolding(ess_frames::specs::Rows::marks_of, ess_frames::specs::Rows::numbers_of))]
-fn relation_read(
-    attributes: Row<Attr>,
-    domains: Row<Dom>,
-    last: Dom,
-    frames: Row<Frame>,
-) -> Result<Option<State>, NoMemory>
-    ensures { IfOk result (Steps (at_state (domain_read (relation_dom (marks_of attributes) (numbers_of attributes) (reverse_doms (back_doms domains) (more_doms (pure_dom last) no_doms)))) (view_frames frames))) }
-{
-    let domains = all_domains(domains, last)?;
-    Ok(at(Mode::DomainRead(Dom::Relation(attributes, domains)), frames))
-}
-
-/// Behind all domains of a relation, the last of which is `last`. `NoMemory` where there is no room.
-fn end_relation(
-    attributes: Row<Attr>,
-    domains: Row<Dom>,
-    last: Dom,
-    frames: Row<Frame>,
-) -> Result<Option<State>, NoMemory>
-    ensures { IfOk result (Steps (domain_then_close_round (relation_domains_frame (marks_of attributes) (numbers_of attributes) (back_doms domains) ∷ view_frames frames) (pure_dom last))) }
-{
-    if are_any(&domains) {
-        relation_read(attributes, domains, last, frames)
-    } else {
-        Ok(None)
     }
 }
 

@@ -10,6 +10,7 @@
 pub mod attributes;
 pub mod ends;
 pub mod generators;
+mod products;
 pub mod ranges;
 pub mod records;
 mod stopping;

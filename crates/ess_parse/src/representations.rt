@@ -1,7 +1,6 @@
 ghost use Rattle.std.specs.Prelude.{◌≡◌};
 ghost use Rattle.ess_grammar.specs.Representations.{IsRepresentation};
 ghost use Rattle.ess_core.specs.TreeViews.{pure_repr};
-ghost use Rattle.ess_machine.specs.RepresentationMachine.{repr_finish};
 ghost use Rattle.ess_parse.specs.Readers.{IsRefusedFirst, IsDerived, IsAnswered, IsUnread, IsPlaced};
 ghost use Rattle.ess_parse.specs.Runs.{IsReading};
 ghost use Rattle.ess_parse.specs.Machines.{step_representation, finish_representation, start_representation};

@@ -10,7 +10,7 @@ use crate::domains::put_dom;
 use crate::generators::put_gens;
 use crate::parts::put_comma;
 use crate::words::{operator_between, truth_text, word_text};
-use ess_core::{Boxed, Dom, Ex, Fun, NoMemory, Op1, Row, Step, Text};
+use ess_core::{Boxed, Dom, Ex, Fun, NoMemory, Op1, Step, Text};
 
 /// Writes an expression. A view, which no text has, is written as nothing.
 #[cycle(put)]

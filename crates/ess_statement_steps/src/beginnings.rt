@@ -1,9 +1,8 @@
 #![tactic(auto, using(ess_frames::proofs::RowLaws::names_none))]
 
-ghost use Rattle.std.specs.Prelude.{◌≡◌, IfOk, Option, Some, None};
+ghost use Rattle.std.specs.Prelude.{◌≡◌, IfOk, Option, None};
 ghost use Rattle.ess_semantics.specs.Values.{Text};
 ghost use Rattle.ess_grammar.specs.Kinds.{token};
-ghost use Rattle.ess_machine.specs.StatementEnds.{begin_statement, begin_after};
 ghost use Rattle.ess_machine.specs.StatementSteps.{another_part, step_statement_read};
 ghost use Rattle.ess_frames.specs.Rows.{back_stms};
 ghost use Rattle.ess_frames.specs.Views.{Steps, opening_word};

@@ -1,7 +1,7 @@
 use Rattle.std.proofs.Common.{sym, ◌∙◌}
 use Rattle.ess_domain_steps.proofs.AttributeWords.{carried}
 use Rattle.ess_domain_steps.proofs.Domains.{relation-enough, relation-short}
-use Rattle.ess_domain_steps.proofs.ends.end_relation.Goals as goal
+use Rattle.ess_domain_steps.proofs.products.end_relation.Goals as goal
 
 pub returns-then-are_any : goal.returns-then-are_any
 returns-then-are_any c = carried _ _ _ (relation-enough _ _ _ _ _ (sym c.are_any.ensures ∙ c.if-are_any.true)) c.relation_read.ensures

@@ -1,7 +1,7 @@
 use Rattle.std.proofs.Common.{sym, ◌∙◌}
 use Rattle.ess_domain_steps.proofs.AttributeWords.{carried}
 use Rattle.ess_domain_steps.proofs.Domains.{tuple-enough, tuple-short}
-use Rattle.ess_domain_steps.proofs.ends.end_tuple.Goals as goal
+use Rattle.ess_domain_steps.proofs.products.end_tuple.Goals as goal
 
 pub returns-then-has_enough : goal.returns-then-has_enough
 returns-then-has_enough c = carried _ _ _ (tuple-enough _ _ _ _ (sym c.has_enough.ensures ∙ c.if-has_enough.true)) c.tuple_read.ensures
