@@ -15,11 +15,10 @@ ghost use Rattle.ess_frames.specs.Rows.{back_marks, back_numbers};
 ghost use Rattle.ess_frames.specs.Views.{view_owner, view_frames, Steps};
 ghost use Rattle.ess_domain_steps.specs.Attributes.{shown_keys, key_named, attribute_in, before_value};
 
-use crate::stopping::stop;
 use crate::words::step_domain_wanted;
 use ess_core::{Attr, Key};
 use ess_frames::rows::with_flag;
-use ess_frames::stack::{Top, at, innermost, inside, within};
+use ess_frames::stack::{Top, at, innermost, inside, stop, within};
 use ess_frames::{Frame, Mode, Owner, State};
 use ess_grammar::Kind;
 use ess_rows::{NoMemory, Row, Text};

@@ -13,5 +13,4 @@ pub mod generators;
 mod products;
 pub mod ranges;
 pub mod records;
-mod stopping;
 pub mod words;

@@ -12,9 +12,8 @@ ghost use Rattle.ess_frames.specs.Rows.{back_doms, marks_of, numbers_of};
 ghost use Rattle.ess_frames.specs.Views.{view_frame, view_frames, Steps};
 ghost use Rattle.ess_domain_steps.specs.Several.{are_any};
 
-use crate::stopping::stop;
 use ess_core::{Attr, Dom};
-use ess_frames::stack::at;
+use ess_frames::stack::{at, stop};
 use ess_frames::{Frame, Mode, State};
 use ess_rows::{NoMemory, Row};
 

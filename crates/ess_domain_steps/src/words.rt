@@ -8,9 +8,8 @@ ghost use Rattle.ess_machine.specs.Domains.{step_domain_wanted, step_matrix_begu
 ghost use Rattle.ess_machine.specs.Operands.{is_open_round};
 ghost use Rattle.ess_frames.specs.Views.{view_inner, view_frames, Steps};
 
-use crate::stopping::stop;
 use ess_core::Dom;
-use ess_frames::stack::{Top, at, innermost, inside, within};
+use ess_frames::stack::{Top, at, innermost, inside, stop, within};
 use ess_frames::{Frame, Inner, Mode, Owner, State};
 use ess_grammar::Kind;
 use ess_rows::{NoMemory, Row, Text};

@@ -1,6 +1,6 @@
 #![tactic(auto, using(crate::proofs::StackLaws::frames_push, crate::proofs::StackLaws::frames_none))]
 
-ghost use Rattle.std.specs.Prelude.{◌≡◌, [], ◌∷◌, IfOk};
+ghost use Rattle.std.specs.Prelude.{◌≡◌, [], ◌∷◌, Ok, None, IfOk};
 ghost use Rattle.ess_machine.specs.Modes.{at_state};
 ghost use Rattle.ess_frames.specs.Views.{view_frame, view_mode, view_frames, Steps};
 ghost use Rattle.ess_frames.specs.Stack.{frames_of};
@@ -62,4 +62,12 @@ pub fn alone(alloc: Global, mode: Mode, frame: Frame) -> Result<Option<State>, N
     ensures { IfOk result (Steps (at_state (view_mode mode) (view_frame frame ∷ []))) }
 {
     inside(mode, frame, Row::new(alloc))
+}
+
+/// No text goes on so. What was read of it is let go.
+pub fn stop<T: Drop>(read: T) -> Result<Option<State>, NoMemory>
+    ensures { result ≡ Ok None }
+{
+    drop(read);
+    Ok(None)
 }
