@@ -1,0 +1,5 @@
+-- Lemmas on the definitions
+pub mod Options
+pub mod TypeOrder
+pub mod JoinedTypes
+pub mod Printed
