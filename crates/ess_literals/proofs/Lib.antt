@@ -3,3 +3,5 @@ pub mod Options
 pub mod TypeOrder
 pub mod JoinedTypes
 pub mod Printed
+pub mod LiteralTypes
+pub mod SetLiterals
