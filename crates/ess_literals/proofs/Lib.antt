@@ -5,3 +5,8 @@ pub mod JoinedTypes
 pub mod Printed
 pub mod LiteralTypes
 pub mod SetLiterals
+pub mod TupleLiterals
+pub mod IntervalRuns
+pub mod IndexDomains
+pub mod MatrixLiterals
+pub mod NamesOfItems
