@@ -10,3 +10,4 @@ pub mod IntervalRuns
 pub mod IndexDomains
 pub mod MatrixLiterals
 pub mod NamesOfItems
+pub mod KeptValues

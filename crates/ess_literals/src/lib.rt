@@ -4,4 +4,4 @@
 //! which some literal has it. So a file of printed values is read back as the same values.
 #![tactic(auto)]
 
-// pub mod laws;
+pub mod laws;
