@@ -11,3 +11,4 @@ pub mod IndexDomains
 pub mod MatrixLiterals
 pub mod NamesOfItems
 pub mod KeptValues
+pub mod NameTokens

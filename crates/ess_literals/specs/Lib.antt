@@ -1,2 +1,3 @@
 pub mod ItemNames
+pub mod Spellable
 pub mod Laws
