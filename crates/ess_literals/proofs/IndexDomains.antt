@@ -44,7 +44,7 @@ module _ (env : Env) where
           ∙ ap (λ l. Some (strictly l)) (runs-members ws h) ∙ ap Some (strictly-itself ws r);
       }
 
-  all-numbers : (ss : List Span) (vs : List Value) → list_all (member (integers ss)) vs ≡ true → AllNumbers vs
+  pub all-numbers : (ss : List Span) (vs : List Value) → list_all (member (integers ss)) vs ≡ true → AllNumbers vs
   all-numbers ss [] h = tt
   all-numbers ss (number n ∷ vs) h = all-numbers ss vs (and-right (member (integers ss) (number n)) (list_all (member (integers ss)) vs) h)
   all-numbers ss (truth b ∷ vs) h = cc

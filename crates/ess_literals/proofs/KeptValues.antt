@@ -47,7 +47,7 @@ module _ (env : Env) (names : HasItemNames env) where
   -- ---- operators' nodes
 
   -- the parts of a literal are printed
-  abbrev PartsPrinted : Exs → Type 0
+  abbrev pub PartsPrinted : Exs → Type 0
   PartsPrinted es = (ts : List Ty) (vs : List Value) → all_some (types_of_literals es env) ≡ Some ts → all_some (values_of_literals es env) ≡ Some vs → PrintedEach env vs ts
 
   from-parts : (op : Op) (es : Exs) (t : Ty) (v : Value) → PartsPrinted es → and_then (all_some (types_of_literals es env)) (type_of_op op) ≡ Some t →
@@ -128,7 +128,7 @@ module _ (env : Env) (names : HasItemNames env) where
     printed (cell_ex b n es) t v p q = cc
     printed (seen_ex r d ns es) t v p q = cc
 
-    printed-each : (es : Exs) → PartsPrinted es
+    pub printed-each : (es : Exs) → PartsPrinted es
     printed-each no_exs = no-parts
     printed-each (more_exs e es) = more-parts e es (printed e) (printed-each es)
 

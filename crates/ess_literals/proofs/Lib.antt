@@ -12,3 +12,4 @@ pub mod MatrixLiterals
 pub mod NamesOfItems
 pub mod KeptValues
 pub mod NameTokens
+pub mod PairValues

@@ -28,7 +28,7 @@ two-within k (compound l (more_tys c no_tys)) a b h p = absurd (h.1).1
 two-within k (compound l (more_tys c (more_tys d no_tys))) a b h p = (c, d, ap (λ j. compound2 j c d) h.0, (h.1).0, ((h.1).1).0)
 two-within k (compound l (more_tys c (more_tys d (more_tys e us)))) a b h p = absurd ((h.1).1).1
 
-none-within : (w : Ty) → Within w any_ty → w ≡ any_ty
+pub none-within : (w : Ty) → Within w any_ty → w ≡ any_ty
 none-within any_ty h = refl
 none-within bool_ty h = absurd h
 none-within int_ty h = absurd h
@@ -37,7 +37,7 @@ none-within (compound k us) h = absurd h
 
 -- ---- functions
 
-function-form : (s t : Ty) → function_ty s ≡ Some t →
+pub function-form : (s t : Ty) → function_ty s ≡ Some t →
     ((s ≡ any_ty) × (compound2 a_function any_ty any_ty ≡ t)) ⊎ ((a : Ty) × (b : Ty) × (s ≡ compound2 a_tuple a b) × (compound2 a_function a b ≡ t))
 function-form any_ty t e = inl (refl, cc)
 function-form (compound2 a_tuple a b) t e = inr (a, b, refl, cc)
