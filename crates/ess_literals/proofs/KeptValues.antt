@@ -40,7 +40,7 @@ module _ (env : Env) (names : HasItemNames env) where
       subst (λ w. Printed env w t) (sym r.2) (subst (Printed env x) f (record { u = named_ty r.0; typed = ap type_of_item e; valued = e; within = refl; parts = λ h. h }))
 
   -- the opposite of a number is one
-  minus-value : (es : Exs) (v : Value) → minus_number es ≡ Some v → (n : ℤ) × (number n ≡ v)
+  pub minus-value : (es : Exs) (v : Value) → minus_number es ≡ Some v → (n : ℤ) × (number n ≡ v)
   minus-value (more_exs (number_ex (pos n)) no_exs) v e = (neg_ℤ (pos n), cc)
   minus-value es v e = cc
 

@@ -13,3 +13,8 @@ pub mod NamesOfItems
 pub mod KeptValues
 pub mod NameTokens
 pub mod PairValues
+pub mod SpelledParts
+pub mod SpelledIndices
+pub mod SpelledValues
+pub mod SpelledLiterals
+pub mod ReadBack

@@ -51,7 +51,7 @@ module _ (env : Env) where
   no-indices [] e = refl
   no-indices (i ∷ is) e = let f = equal-numbers (length (i ∷ is)) 0 e in absurd (omega arith)
 
-  some-indices : (is : List Value) (n : ℕ) → nat_eq (length is) (suc n) ≡ true → is_empty is ≡ false
+  pub some-indices : (is : List Value) (n : ℕ) → nat_eq (length is) (suc n) ≡ true → is_empty is ≡ false
   some-indices [] n e = let f = equal-numbers 0 (suc n) e in absurd (omega arith)
   some-indices (i ∷ is) n e = refl
 
