@@ -1,5 +1,5 @@
 -- The runs of a list of numbers, as ranges of an index domain, hold exactly its numbers.
-use Rattle.std.proofs.Common.{◌≡◌, refl, sym, ap, ◌∙◌, subst, ℕ, zero, suc, Bool, true, false, ◌&&◌, not, if◌then◌else◌, List, [], ◌∷◌, ◌++◌, map, ℤ, pos, negsuc, ◌+ℤ◌, ◌-ℤ◌, ◌≤ℤ◌, Option, Some, None, option_map, arith}
+use Rattle.std.proofs.Common.{◌≡◌, refl, sym, ap, ◌∙◌, zero, suc, Bool, true, false, ◌&&◌, if◌then◌else◌, List, [], ◌∷◌, ◌++◌, map, ℤ, pos, negsuc, ◌+ℤ◌, ◌-ℤ◌, ◌≤ℤ◌, Some, option_map, arith}
 use Rattle.std.proofs.lemmas.Int.{ints}
 use Rattle.std.specs.Ordering.{int_eq}
 use Rattle.std.specs.List.{list_all}
@@ -7,7 +7,7 @@ use Rattle.ess_semantics.specs.Lists.{and_then, all_some, append_all, is_empty}
 use Rattle.ess_semantics.specs.Values.{Value, number, truth, item, node, of_list}
 use Rattle.ess_semantics.specs.Collections.{strictly}
 use Rattle.ess_semantics.specs.Numbers.{natural}
-use Rattle.ess_semantics.specs.Trees.{Ends, both_ends, int_dom}
+use Rattle.ess_semantics.specs.Trees.{int_dom}
 use Rattle.ess_semantics.specs.Domains.{Span, numbers_up, interval, span_members, int_members}
 use Rattle.ess_semantics.specs.Meaning.{Env, meaning, meanings, as_int, with_span, spans_of}
 use Rattle.ess_semantics.specs.Literals.{is_number_literal, are_number_literals, is_one_or_both, is_literal_index}

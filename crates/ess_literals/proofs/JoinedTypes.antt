@@ -1,10 +1,10 @@
 -- The join of a list of types: the least that says what each says. Where it has parts, one of them has.
-use Rattle.std.proofs.Common.{◌≡◌, refl, sym, ap, ◌∙◌, subst, Bool, true, false, if◌then◌else◌, List, [], ◌∷◌, Option, Some, None, ◌⊎◌, inl, inr}
+use Rattle.std.proofs.Common.{◌≡◌, refl, ap, ◌∙◌, Bool, true, false, List, [], ◌∷◌, Some, ◌⊎◌, inl, inr}
 use Rattle.ess_semantics.specs.Lists.{and_then}
-use Rattle.ess_semantics.specs.Types.{Ty, any_ty, bool_ty, int_ty, named_ty, compound, Tys, no_tys, more_tys, tys_of, join, join_all}
+use Rattle.ess_semantics.specs.Types.{Ty, any_ty, bool_ty, int_ty, named_ty, compound, no_tys, more_tys, join, join_all}
 use Rattle.ess_semantics.specs.Order.{same_kind}
 use Rattle.ess_literals.proofs.Options.{then-some, when-some}
-use Rattle.ess_literals.proofs.TypeOrder.{Within, AllWithin, within-itself, within-on, join-says, join-within}
+use Rattle.ess_literals.proofs.TypeOrder.{Within, within-on, join-says, join-within}
 
 -- v says all that each type says
 abbrev pub EachWithin : List Ty → Ty → Type 0

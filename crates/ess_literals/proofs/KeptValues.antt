@@ -1,15 +1,15 @@
 -- A value that some literal has is printed as a literal that has it: by the parts of the literal that has it first.
-use Rattle.std.proofs.Common.{◌≡◌, refl, sym, ap, ◌∙◌, subst, ℕ, Bool, true, false, if◌then◌else◌, List, [], ◌∷◌, ℤ, pos, negsuc, Option, Some, None, option_map, is_some}
+use Rattle.std.proofs.Common.{◌≡◌, refl, sym, ap, ◌∙◌, subst, Bool, true, if◌then◌else◌, List, [], ◌∷◌, ℤ, pos, negsuc, Option, Some, None, option_map, is_some}
 use Rattle.std.specs.Prelude.{neg_ℤ}
 use Rattle.ess_semantics.specs.declared.words.Op1.{Op1}
-use Rattle.ess_semantics.specs.Lists.{and_then, all_some, when, is_some_and}
+use Rattle.ess_semantics.specs.Lists.{and_then, all_some, is_some_and}
 use Rattle.ess_semantics.specs.Values.{Text, a_matrix, a_tuple, Value, number, truth, item, of_list, tuple}
-use Rattle.ess_semantics.specs.Collections.{set_of, mset_of, relation_of, function_of, partition_of}
-use Rattle.ess_semantics.specs.Names.{all_distinct, by_name}
+use Rattle.ess_semantics.specs.Collections.{set_of, mset_of, relation_of}
+use Rattle.ess_semantics.specs.Names.{all_distinct}
 use Rattle.ess_semantics.specs.Trees.{Op, unary, binary, word, index, application, tuple_literal, set_literal, mset_literal, function_literal, relation_literal, partition_literal, matrix_literal, record_literal, Ex, Exs, number_ex, truth_ex, name_ex, node_ex, matrix_ex, comp_ex, cell_ex, seen_ex, no_exs, more_exs, Dom}
 use Rattle.ess_semantics.specs.Types.{Ty, bool_ty, int_ty, named_ty, compound, compound2, tys_of, type_of_dom, join, join_all}
-use Rattle.ess_semantics.specs.OperatorTypes.{type_of_op, record_ty}
-use Rattle.ess_semantics.specs.Operators.{value_of_op, list_value, record_value}
+use Rattle.ess_semantics.specs.OperatorTypes.{type_of_op}
+use Rattle.ess_semantics.specs.Operators.{value_of_op, list_value}
 use Rattle.ess_semantics.specs.Meaning.{Env, members_in, domain_of, matrix_value}
 use Rattle.ess_semantics.specs.Literals.{item_of_name, type_of_item, is_literal_index, is_number_literal, type_of_literal, types_of_literals, minus_number, value_of_literal, values_of_literals, literal_value}
 use Rattle.ess_semantics.proofs.Tests.{some-and}

@@ -18,3 +18,5 @@ pub mod SpelledIndices
 pub mod SpelledValues
 pub mod SpelledLiterals
 pub mod ReadBack
+-- Worked examples
+pub mod ExamplesLiterals

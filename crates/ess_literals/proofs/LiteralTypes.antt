@@ -1,6 +1,6 @@
 -- The types of functions, relations and partitions by those of their pairs, tuples and parts: where these say less, so do
 -- the types, and they are there.
-use Rattle.std.proofs.Common.{◌≡◌, refl, sym, ap, ◌∙◌, subst, Bool, true, false, Option, Some, None, ◌⊎◌, inl, inr}
+use Rattle.std.proofs.Common.{◌≡◌, refl, sym, ap, ◌∙◌, subst, true, Some, ◌⊎◌, inl, inr}
 use Rattle.ess_semantics.specs.Values.{Kind, a_tuple, a_set, a_function, a_relation, a_partition}
 use Rattle.ess_semantics.specs.Types.{Ty, any_ty, bool_ty, int_ty, named_ty, compound, Tys, no_tys, more_tys, compound1, compound2}
 use Rattle.ess_semantics.specs.OperatorTypes.{function_ty, relation_ty, partition_ty}

@@ -1,18 +1,18 @@
 -- Matrices that a literal has are printed as literals that have them, with the index domain of their indices.
-use Rattle.std.proofs.Common.{◌≡◌, refl, sym, ap, ◌∙◌, subst, ℕ, zero, suc, Bool, true, false, if◌then◌else◌, List, [], ◌∷◌, length, Option, Some, None, option_map, nat_eq, arith}
+use Rattle.std.proofs.Common.{◌≡◌, refl, ap, ◌∙◌, subst, ℕ, suc, true, false, if◌then◌else◌, List, [], ◌∷◌, length, Option, Some, None, nat_eq, arith}
 use Rattle.ess_semantics.specs.Lists.{and_then, all_some, when, is_empty}
 use Rattle.ess_semantics.specs.Values.{a_matrix, Value, of_list, matrix}
-use Rattle.ess_semantics.specs.Trees.{Ex, Dom, matrix_literal}
+use Rattle.ess_semantics.specs.Trees.{Dom, matrix_literal}
 use Rattle.ess_semantics.specs.Types.{Ty, any_ty, int_ty, compound2, type_of_dom, join_all}
 use Rattle.ess_semantics.specs.OperatorTypes.{type_of_op}
 use Rattle.ess_semantics.specs.Operators.{list_value, numbers_from}
 use Rattle.ess_semantics.specs.Meaning.{Env, members_in, domain_of, matrix_value}
-use Rattle.ess_semantics.specs.Literals.{is_literal_index, types_of_literals, values_of_literals}
+use Rattle.ess_semantics.specs.Literals.{is_literal_index, types_of_literals}
 use Rattle.ess_grammar.specs.ValueTexts.{index_literal, literals_of}
 use Rattle.ess_literals.specs.ItemNames.{item_name}
-use Rattle.ess_literals.proofs.Options.{then-some, map-some, when-some, if-some}
+use Rattle.ess_literals.proofs.Options.{then-some, map-some, when-some}
 use Rattle.ess_literals.proofs.TypeOrder.{within-itself}
-use Rattle.ess_literals.proofs.Printed.{Printed, PrintedEach, Together, together}
+use Rattle.ess_literals.proofs.Printed.{Printed, PrintedEach, together}
 use Rattle.ess_literals.proofs.IndexDomains.{IndexPrinted, index-printed, list-index-printed}
 
 module _ (env : Env) where
@@ -30,13 +30,13 @@ module _ (env : Env) where
       record {
         u = compound2 a_matrix i j.w;
         typed =
-          ap (λ b. if b then and_then types (λ us. and_then (join_all us) (λ t. Some (compound2 a_matrix (type_of_dom e) t))) else None) d.literal
-          ∙ ap (λ o. and_then o (λ us. and_then (join_all us) (λ t. Some (compound2 a_matrix (type_of_dom e) t)))) j.types
-          ∙ ap (λ o. and_then o (λ t. Some (compound2 a_matrix (type_of_dom e) t))) j.join
-          ∙ ap (λ t. Some (compound2 a_matrix t j.w)) d.type;
+            ap (λ b. if b then and_then types (λ us. and_then (join_all us) (λ t. Some (compound2 a_matrix (type_of_dom e) t))) else None) d.literal
+            ∙ ap (λ o. and_then o (λ us. and_then (join_all us) (λ t. Some (compound2 a_matrix (type_of_dom e) t)))) j.types
+            ∙ ap (λ o. and_then o (λ t. Some (compound2 a_matrix (type_of_dom e) t))) j.join
+            ∙ ap (λ t. Some (compound2 a_matrix t j.w)) d.type;
         valued =
-          ap (λ o. and_then o (matrix_value (members_in (domain_of e env)))) j.values
-          ∙ ap (λ o. matrix_value o (x ∷ xs)) d.members ∙ ap (λ b. when b (matrix (of_list is) (of_list (x ∷ xs)))) l;
+            ap (λ o. and_then o (matrix_value (members_in (domain_of e env)))) j.values
+            ∙ ap (λ o. matrix_value o (x ∷ xs)) d.members ∙ ap (λ b. when b (matrix (of_list is) (of_list (x ∷ xs)))) l;
         within = (refl, (within-itself i, (j.within, tt)));
         parts = λ h. refl;
       }
@@ -72,7 +72,7 @@ module _ (env : Env) where
           let h = when-some (nat_eq (length is) (length xs)) (matrix (of_list is) (of_list xs)) v f in
           let g : compound2 a_matrix (type_of_dom d) s.0 ≡ t = let k = s.2 in cc in
           subst (λ w. Printed env w t) h.1 (subst (Printed env (matrix (of_list is) (of_list xs))) g
-              (indexed-printed is xs ts (type_of_dom d) s.0 p s.1 (index-printed env d is n l q) h.0))
+          (indexed-printed is xs ts (type_of_dom d) s.0 p s.1 (index-printed env d is n l q) h.0))
 
   -- ---- lists
 
@@ -90,4 +90,4 @@ module _ (env : Env) where
   list-literal-printed (x ∷ xs) (t ∷ ts) u p e =
       let s = map-some (join_all (t ∷ ts)) (compound2 a_matrix int_ty) u e in
       subst (Printed env (list_value (x ∷ xs))) s.2
-          (items-printed (numbers_from 1 (x ∷ xs)) x xs (t ∷ ts) int_ty s.0 p s.1 (list-index-printed env x xs) (list-length 1 (x ∷ xs)))
+      (items-printed (numbers_from 1 (x ∷ xs)) x xs (t ∷ ts) int_ty s.0 p s.1 (list-index-printed env x xs) (list-length 1 (x ∷ xs)))

@@ -1,12 +1,12 @@
 -- The names of the values of a named type are name tokens, where its own name is one, and those that it lists.
-use Rattle.std.proofs.Common.{◌≡◌, refl, sym, ap, ◌∙◌, subst, ℕ, zero, suc, Bool, true, false, ◌&&◌, ◌||◌, not, if◌then◌else◌, List, [], ◌∷◌, ◌++◌, length, take, drop, Option, Some, None, nat_le, arith, append_assoc}
+use Rattle.std.proofs.Common.{◌≡◌, refl, sym, ap, ◌∙◌, ℕ, suc, Bool, true, false, ◌&&◌, ◌||◌, not, if◌then◌else◌, List, [], ◌∷◌, ◌++◌, length, take, drop, Option, Some, None, nat_le, arith}
 use Rattle.std.specs.Prelude.{codes}
 use Rattle.std.specs.List.{list_all, list_any}
 use Rattle.std.specs.Option.{is_some}
 use Rattle.std.proofs.lemmas.Bool.Decides.{nat_tests}
 use Rattle.std.proofs.lemmas.Map.Text.{is_eq-slice_cmp}
 use Rattle.std.proofs.lemmas.List.{take-append-drop}
-use Rattle.ess_semantics.specs.Lists.{and_then, or_else, when, is_empty}
+use Rattle.ess_semantics.specs.Lists.{or_else, when, is_empty}
 use Rattle.ess_semantics.specs.Values.{Text, Value, item}
 use Rattle.ess_semantics.specs.Order.{same_text}
 use Rattle.ess_semantics.specs.Meaning.{TypeEntry, type_entry}
@@ -154,7 +154,7 @@ pub item-token : (ts : List TypeEntry) (a : Text) (v : Value) → have_name_toke
 item-token [] a v h e = cc
 item-token (t ∷ ts) a v h e =
     go (is_empty t.names) (unnamed-token t a v own) (named-token t.name 1 t.names a v listed) e
-        (item-token ts a v (and-right (is_name_token t.name && are_name_tokens t.names) (have_name_tokens ts) h))
+    (item-token ts a v (and-right (is_name_token t.name && are_name_tokens t.names) (have_name_tokens ts) h))
   where
     own : is_name_token t.name ≡ true
     own = and-left (is_name_token t.name) (are_name_tokens t.names) (and-left (is_name_token t.name && are_name_tokens t.names) (have_name_tokens ts) h)

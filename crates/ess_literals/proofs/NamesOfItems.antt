@@ -1,7 +1,7 @@
 -- A name of a value of a named type is the name that the value has, where no two types have one name.
-use Rattle.std.proofs.Common.{◌≡◌, refl, sym, ap, ◌∙◌, subst, ℕ, zero, suc, ◌+◌, Bool, true, false, ◌&&◌, ◌||◌, not, if◌then◌else◌, List, [], ◌∷◌, ◌++◌, map, Option, Some, None, nat_le, arith}
+use Rattle.std.proofs.Common.{◌≡◌, refl, sym, ap, ◌∙◌, ℕ, suc, ◌+◌, Bool, true, false, ◌&&◌, ◌||◌, not, if◌then◌else◌, List, [], ◌∷◌, ◌++◌, map, Option, Some, None, nat_le, arith}
 use Rattle.std.specs.Prelude.{codes}
-use Rattle.ess_semantics.specs.Lists.{and_then, or_else, when, is_empty, or_default, item_number}
+use Rattle.ess_semantics.specs.Lists.{or_else, when, is_empty, or_default, item_number}
 use Rattle.ess_semantics.specs.Values.{Text, Value, item}
 use Rattle.ess_semantics.specs.Order.{same_text}
 use Rattle.ess_semantics.specs.Names.{is_among, all_distinct}
@@ -9,7 +9,7 @@ use Rattle.ess_semantics.specs.Meaning.{TypeEntry, type_entry}
 use Rattle.ess_semantics.specs.Judgements.{are_digits, after_prefix}
 use Rattle.ess_semantics.specs.Assignments.{unnamed_name}
 use Rattle.ess_semantics.specs.Literals.{number_of, unnamed_item, named_item, item_of_name}
-use Rattle.ess_semantics.proofs.Tests.{and-left, and-right, or-yes, not-true}
+use Rattle.ess_semantics.proofs.Tests.{and-left, and-right, not-true}
 use Rattle.ess_literals.specs.ItemNames.{name_at, entry_name, item_name}
 use Rattle.ess_literals.proofs.Options.{then-some, when-some}
 use Rattle.ess_literals.proofs.TypeOrder.{same-text-equal, same-text-itself}
@@ -68,7 +68,7 @@ pub item-names : (ts : List TypeEntry) (a : Text) (v : Value) → all_distinct (
 item-names [] a v d e = cc
 item-names (t ∷ ts) a v d e =
     go (if is_empty t.names then unnamed_item t a else named_item t.name 1 t.names a) refl e
-        (item-names ts a v (and-right (not (is_among (map (λ t. t.name) ts) t.name)) (all_distinct (map (λ t. t.name) ts)) d))
+    (item-names ts a v (and-right (not (is_among (map (λ t. t.name) ts) t.name)) (all_distinct (map (λ t. t.name) ts)) d))
   where
     other : (u : Text) → is_among (map (λ t. t.name) ts) u ≡ true → same_text t.name u ≡ false
     other u m = go' (same_text t.name u) refl

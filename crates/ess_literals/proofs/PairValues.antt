@@ -1,24 +1,24 @@
 -- The entries of a function that a literal has are pairs, where none is an empty tuple.
-use Rattle.std.proofs.Common.{◌≡◌, refl, sym, ap, ◌∙◌, subst, Bool, true, false, ◌&&◌, if◌then◌else◌, List, [], ◌∷◌, map, ℤ, pos, negsuc, Option, Some, None, option_map, ◌⊎◌, inl, inr}
+use Rattle.std.proofs.Common.{◌≡◌, refl, sym, ap, ◌∙◌, subst, true, List, [], ◌∷◌, map, pos, negsuc, Option, Some, option_map, ◌⊎◌, inl, inr}
 use Rattle.std.specs.List.{list_all}
 use Rattle.ess_semantics.specs.Lists.{and_then, all_some, zip}
 use Rattle.ess_semantics.specs.Values.{Text, Kind, a_tuple, a_matrix, a_set, a_mset, a_function, a_relation, a_partition, a_record, Value, Values, number, truth, item, node, nil, cons, pair, of_list}
 use Rattle.ess_semantics.specs.Names.{keys, all_distinct, by_name}
-use Rattle.ess_semantics.specs.Trees.{Exs, no_exs, more_exs, Dom, Op, tuple_literal, set_literal, mset_literal, function_literal, relation_literal, partition_literal, matrix_literal, record_literal, plain_node}
-use Rattle.ess_semantics.specs.Types.{Ty, any_ty, bool_ty, int_ty, named_ty, compound, Tys, no_tys, more_tys, compound1, compound2, tys_of, join_all, type_of_dom}
+use Rattle.ess_semantics.specs.Trees.{Exs, no_exs, more_exs, Dom, tuple_literal, set_literal, mset_literal, function_literal, relation_literal, partition_literal, matrix_literal, record_literal, plain_node}
+use Rattle.ess_semantics.specs.Types.{Ty, any_ty, bool_ty, int_ty, named_ty, compound, Tys, no_tys, compound1, compound2, tys_of, join_all, type_of_dom}
 use Rattle.ess_semantics.specs.OperatorTypes.{type_of_op, function_ty, relation_ty, partition_ty, record_ty}
 use Rattle.ess_semantics.specs.Membership.{is_pair}
 use Rattle.ess_semantics.specs.Meaning.{Env}
 use Rattle.ess_semantics.specs.Literals.{item_of_name, type_of_item, is_literal_index, type_of_literal, types_of_literals}
 use Rattle.ess_semantics.proofs.Tests.{and-left, and-right, and-both}
-use Rattle.ess_grammar.specs.ValueTexts.{number_literal, index_literal, matrix_literal_of, literal_of, literals_of}
+use Rattle.ess_grammar.specs.ValueTexts.{index_literal, matrix_literal_of, literal_of, literals_of}
 use Rattle.ess_texts.specs.Spelled.{are_pairs_of_values, is_spelled}
 use Rattle.ess_literals.specs.ItemNames.{item_name}
 use Rattle.ess_literals.proofs.Options.{then-some, map-some, if-some}
-use Rattle.ess_literals.proofs.TypeOrder.{Within, AllWithin, within-on}
+use Rattle.ess_literals.proofs.TypeOrder.{Within, within-on}
 use Rattle.ess_literals.proofs.JoinedTypes.{EachWithin}
 use Rattle.ess_literals.proofs.LiteralTypes.{function-form, none-within}
-use Rattle.ess_literals.proofs.Printed.{HasType, Printed, PrintedEach}
+use Rattle.ess_literals.proofs.Printed.{HasType, PrintedEach}
 
 -- ---- the form of a literal's type
 
@@ -183,7 +183,7 @@ module _ (env : Env) where
       let r = p.0 in
       let n = is_spelled (item_name env.types) in
       and-both (is_pair x) (list_all is_pair xs) (go (function-form s t f) r.typed (within-on r.u y s r.within w.0) (and-left (n x) (list_all n xs) h))
-          (entries-pairs xs ys s t p.1 w.1 f (and-right (n x) (list_all n xs) h))
+      (entries-pairs xs ys s t p.1 w.1 f (and-right (n x) (list_all n xs) h))
     where
       go : {u : Ty} → ((s ≡ any_ty) × (compound2 a_function any_ty any_ty ≡ t)) ⊎ ((a : Ty) × (b : Ty) × (s ≡ compound2 a_tuple a b) × (compound2 a_function a b ≡ t)) →
           HasType env x u → Within u s → is_spelled (item_name env.types) x ≡ true → is_pair x ≡ true

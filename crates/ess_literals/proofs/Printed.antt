@@ -1,5 +1,5 @@
 -- What printing keeps of a value that a literal has: its literal has it again, and a type that says no more.
-use Rattle.std.proofs.Common.{◌≡◌, refl, sym, ap, ◌∙◌, subst, Bool, true, List, [], ◌∷◌, Option, Some, None, option_map, ◌⊎◌, inl, inr}
+use Rattle.std.proofs.Common.{◌≡◌, refl, sym, ap, ◌∙◌, subst, true, List, [], ◌∷◌, Some, option_map, ◌⊎◌, inl, inr}
 use Rattle.ess_semantics.specs.Lists.{and_then, all_some}
 use Rattle.ess_semantics.specs.Values.{Value, of_list}
 use Rattle.ess_semantics.specs.Types.{Ty, tys_of, join_all}

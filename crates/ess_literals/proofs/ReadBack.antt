@@ -1,5 +1,5 @@
 -- A value that a literal has is spelled, and its text is read back as the value.
-use Rattle.std.proofs.Common.{◌≡◌, refl, subst, Bool, true, false, ◌&&◌, [], Some}
+use Rattle.std.proofs.Common.{◌≡◌, refl, subst, true, false, [], Some}
 use Rattle.ess_semantics.specs.Values.{Value}
 use Rattle.ess_semantics.specs.Trees.{Ex}
 use Rattle.ess_semantics.specs.Types.{Ty}

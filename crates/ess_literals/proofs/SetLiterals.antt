@@ -1,23 +1,21 @@
 -- Sets, multisets, relations, functions and partitions that a literal has are printed as literals that have them: their
 -- members in order, without repeats where the value has none.
-use Rattle.std.proofs.Common.{◌≡◌, refl, sym, ap, ◌∙◌, subst, ℕ, zero, suc, Bool, true, false, ◌&&◌, ◌||◌, not, List, [], ◌∷◌, Option, Some, None, option_map, ◌⊎◌, inl, inr}
+use Rattle.std.proofs.Common.{◌≡◌, refl, sym, ap, ◌∙◌, subst, Bool, true, false, ◌&&◌, ◌||◌, not, List, [], ◌∷◌, Some, option_map}
 use Rattle.std.specs.List.{list_all}
 use Rattle.ess_semantics.specs.Lists.{and_then, when, is_empty}
-use Rattle.ess_semantics.specs.Values.{Kind, a_tuple, a_set, a_mset, a_function, a_relation, a_partition, Value, node, of_list, from_of, items_of}
-use Rattle.ess_semantics.specs.Collections.{holds, count, strictly, rising, set_of, mset_of, relation_of, function_of, partition_of, no_twice, has_double_argument, has_empty_part, has_overlap}
+use Rattle.ess_semantics.specs.Values.{a_set, a_mset, a_function, a_relation, a_partition, Value, node, of_list, from_of, items_of}
+use Rattle.ess_semantics.specs.Collections.{strictly, rising, set_of, mset_of, relation_of, function_of, partition_of, no_twice, has_double_argument, has_empty_part, has_overlap}
 use Rattle.ess_semantics.specs.Trees.{set_literal, mset_literal, function_literal, relation_literal, partition_literal}
-use Rattle.ess_semantics.specs.Types.{Ty, any_ty, bool_ty, int_ty, named_ty, compound, Tys, no_tys, more_tys, compound1, compound2, join_all}
+use Rattle.ess_semantics.specs.Types.{Ty, compound1, join_all}
 use Rattle.ess_semantics.specs.OperatorTypes.{type_of_op, function_ty, relation_ty, partition_ty}
 use Rattle.ess_semantics.specs.Operators.{value_of_op}
 use Rattle.ess_semantics.specs.Meaning.{Env}
 use Rattle.ess_semantics.proofs.Orders.{order_total}
-use Rattle.ess_semantics.proofs.Tests.{and-left, and-right, and-both, or-left-no, or-right-no, not-true, both-ways}
+use Rattle.ess_semantics.proofs.Tests.{and-left, and-right, and-both, not-true}
 use Rattle.ess_semantics.proofs.Sorting.{Has, has-holds, holds-has, holds-strictly, strictly-rises, strictly-itself, all-strictly}
 use Rattle.ess_semantics.proofs.Multisets.{rising-rises, rising-itself, count-rising, same-members}
-use Rattle.ess_semantics.proofs.Overlaps.{all_members, apart-distinct, strictly-apart, no-overlap, overlap-none}
+use Rattle.ess_semantics.proofs.Overlaps.{apart-distinct, strictly-apart, no-overlap, overlap-none}
 use Rattle.ess_literals.proofs.Options.{then-some, map-some, when-some}
-use Rattle.ess_literals.proofs.TypeOrder.{Within}
-use Rattle.ess_literals.proofs.JoinedTypes.{has_parts}
 use Rattle.ess_literals.proofs.LiteralTypes.{function-within, relation-within, partition-within}
 use Rattle.ess_literals.proofs.Printed.{Printed, PrintedEach, Together, together}
 
@@ -111,7 +109,7 @@ module _ (env : Env) (xs : List Value) (ts : List Ty) (p : PrintedEach env xs ts
       let r = function-within s.0 t j.w s.2 j.within j.parts in
       let h = when-some (not (has_double_argument xs)) (node a_function (of_list (strictly xs))) v f in
       let again : function_of (strictly xs) ≡ Some (node a_function (of_list (strictly xs))) =
-          ap (λ l. when (not (not (no_twice from_of l))) (node a_function (of_list l))) (strictly-again xs) ∙ ap (λ b. when b (node a_function (of_list (strictly xs)))) h.0 in
+      ap (λ l. when (not (not (no_twice from_of l))) (node a_function (of_list l))) (strictly-again xs) ∙ ap (λ b. when b (node a_function (of_list (strictly xs)))) h.0 in
       subst (λ w. Printed env w t) h.1 (record {
         u = r.0;
         typed = ap (λ o. and_then o (type_of_op function_literal)) j.types ∙ ap (λ o. and_then o function_ty) j.join ∙ r.1;

@@ -1,10 +1,10 @@
 -- The indices of a matrix that a literal has are spelled, where its numbers and names fit.
-use Rattle.std.proofs.Common.{◌≡◌, refl, sym, ap, ◌∙◌, subst, ℕ, zero, suc, Bool, true, false, ◌&&◌, List, [], ◌∷◌, ℤ, pos, Option, Some, None, option_map}
+use Rattle.std.proofs.Common.{◌≡◌, refl, sym, ap, ◌∙◌, subst, ℕ, zero, suc, Bool, true, false, List, [], ◌∷◌, Option, Some, None, option_map}
 use Rattle.std.specs.List.{list_all}
 use Rattle.ess_semantics.specs.Lists.{is_empty, list_or_none}
 use Rattle.ess_semantics.specs.Values.{Text, Value, number, truth, item, node, of_list}
 use Rattle.ess_semantics.specs.Operators.{numbers_from}
-use Rattle.ess_semantics.specs.Trees.{Ends, Exs, Dom, Doms, bool_dom, int_dom, name_dom, tuple_dom, record_dom, matrix_dom, set_dom, mset_dom, function_dom, relation_dom, partition_dom}
+use Rattle.ess_semantics.specs.Trees.{Dom, bool_dom, int_dom, name_dom, tuple_dom, record_dom, matrix_dom, set_dom, mset_dom, function_dom, relation_dom, partition_dom}
 use Rattle.ess_semantics.specs.Domains.{Span, integers, items_from}
 use Rattle.ess_semantics.specs.Membership.{member}
 use Rattle.ess_semantics.specs.Meaning.{Env, TypeEntry, type_entry, named_domain, members_in, domain_of, meanings, spans_of}

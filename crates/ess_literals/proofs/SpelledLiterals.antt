@@ -1,22 +1,20 @@
 -- By the parts of a literal: a value that it has is spelled where its numbers fit, and its names do.
-use Rattle.std.proofs.Common.{◌≡◌, refl, sym, ap, ◌∙◌, subst, Bool, true, false, ◌&&◌, ◌||◌, not, if◌then◌else◌, List, [], ◌∷◌, length, ℤ, pos, negsuc, Option, Some, None, option_map, nat_eq}
+use Rattle.std.proofs.Common.{◌≡◌, refl, subst, Bool, true, false, ◌&&◌, ◌||◌, not, List, [], ◌∷◌, length, pos, negsuc, Option, Some, None, option_map, nat_eq}
 use Rattle.ess_semantics.specs.declared.words.Op1.{Op1}
-use Rattle.ess_semantics.specs.Lists.{and_then, all_some, when, is_empty, is_some_and}
+use Rattle.ess_semantics.specs.Lists.{and_then, all_some, is_empty, is_some_and}
 use Rattle.std.specs.Option.{is_some}
-use Rattle.ess_semantics.specs.Values.{Text, a_matrix, a_function, a_partition, Value, number, truth, node, of_list, tuple, matrix}
-use Rattle.ess_semantics.specs.Collections.{strictly, set_of, mset_of, relation_of, function_of, has_double_argument, has_empty_part, has_overlap}
-use Rattle.ess_semantics.specs.Names.{all_distinct, by_name}
+use Rattle.ess_semantics.specs.Values.{a_matrix, a_function, a_partition, Value, number, truth, node, of_list, tuple, matrix}
+use Rattle.ess_semantics.specs.Collections.{strictly, set_of, mset_of, relation_of, has_double_argument, has_empty_part, has_overlap}
+use Rattle.ess_semantics.specs.Names.{all_distinct}
 use Rattle.ess_semantics.specs.Trees.{Op, unary, binary, word, index, application, tuple_literal, set_literal, mset_literal, function_literal, relation_literal, partition_literal, matrix_literal, record_literal, Ex, Exs, number_ex, truth_ex, name_ex, node_ex, matrix_ex, comp_ex, cell_ex, seen_ex, no_exs, more_exs, Dom}
 use Rattle.ess_semantics.specs.Types.{Ty, compound2, type_of_dom, join, join_all}
 use Rattle.ess_semantics.specs.OperatorTypes.{type_of_op}
-use Rattle.ess_semantics.specs.Operators.{value_of_op, list_value, record_value}
+use Rattle.ess_semantics.specs.Operators.{value_of_op, list_value}
 use Rattle.ess_semantics.specs.Meaning.{Env, members_in, domain_of, matrix_value}
 use Rattle.ess_semantics.specs.Literals.{is_literal_index, type_of_literal, types_of_literals, value_of_literal, values_of_literals, literal_value}
 use Rattle.ess_semantics.proofs.Tests.{and-left, some-and}
 use Rattle.ess_grammar.specs.Readable.{ReadableEx, ReadableExs, ReadableDom}
-use Rattle.ess_texts.specs.Spelled.{is_spelled_number, is_spelled}
-use Rattle.ess_literals.specs.ItemNames.{item_name}
-use Rattle.ess_literals.specs.Spellable.{numbers_fit, parts_fit}
+use Rattle.ess_texts.specs.Spelled.{is_spelled_number}
 use Rattle.ess_literals.specs.Laws.{HasItemNames}
 use Rattle.ess_literals.proofs.Options.{then-some, map-some, when-some, if-some}
 use Rattle.ess_literals.proofs.Printed.{PrintedEach}

@@ -1,5 +1,5 @@
 -- The parts of a value that a literal has are spelled, where its numbers and names fit.
-use Rattle.std.proofs.Common.{◌≡◌, refl, sym, ap, ◌∙◌, subst, Bool, true, false, ◌&&◌, ◌||◌, if◌then◌else◌, List, [], ◌∷◌, map, Option, Some, None, option_map}
+use Rattle.std.proofs.Common.{◌≡◌, refl, sym, ap, ◌∙◌, Bool, true, false, ◌&&◌, ◌||◌, List, [], ◌∷◌, map, Some, option_map}
 use Rattle.std.specs.List.{list_all}
 use Rattle.std.specs.declared.cmp.Ordering.{Ordering}
 use Rattle.std.specs.declared.cmp.Ordering.TheVariants.{Less, Equal, Greater}
@@ -7,11 +7,11 @@ use Rattle.ess_semantics.specs.Lists.{all_some, zip}
 use Rattle.ess_semantics.specs.Values.{Text, Value, of_list}
 use Rattle.ess_semantics.specs.Order.{order_text}
 use Rattle.ess_semantics.specs.Names.{Names, keys, insert_by, insert_name, by_name}
-use Rattle.ess_semantics.specs.Trees.{Ex, Exs, Dom, no_exs, more_exs}
+use Rattle.ess_semantics.specs.Trees.{Ex, Exs, more_exs}
 use Rattle.ess_semantics.specs.Meaning.{Env}
 use Rattle.ess_semantics.specs.Literals.{value_of_literal, values_of_literals}
 use Rattle.ess_semantics.proofs.Tests.{and-left, and-right, and-both}
-use Rattle.ess_grammar.specs.Readable.{is_name_token, are_name_tokens, ReadableEx, ReadableExs, ReadableDom}
+use Rattle.ess_grammar.specs.Readable.{is_name_token, are_name_tokens}
 use Rattle.ess_texts.specs.Spelled.{some_values, fit_values, is_spelled, are_spelled}
 use Rattle.ess_literals.specs.ItemNames.{item_name}
 use Rattle.ess_literals.specs.Spellable.{numbers_fit, all_numbers_fit, parts_fit, all_parts_fit, have_name_tokens}

@@ -1,36 +1,34 @@
 -- A value that a literal has is spelled where its numbers fit, and its names do: those of a readable literal, or those of an
 -- env with name tokens.
-use Rattle.std.proofs.Common.{◌≡◌, refl, sym, ap, ◌∙◌, subst, Bool, true, false, ◌&&◌, ◌||◌, not, if◌then◌else◌, List, [], ◌∷◌, length, ℤ, pos, negsuc, Option, Some, None, option_map, nat_eq}
+use Rattle.std.proofs.Common.{◌≡◌, refl, sym, ap, ◌∙◌, subst, Bool, true, false, ◌&&◌, ◌||◌, List, [], ◌∷◌, Some}
 use Rattle.std.specs.List.{list_all}
-use Rattle.ess_semantics.specs.declared.words.Op1.{Op1}
-use Rattle.ess_semantics.specs.Lists.{and_then, all_some, when, is_empty, zip}
-use Rattle.ess_semantics.specs.Values.{Text, Kind, a_tuple, a_matrix, a_set, a_mset, a_function, a_relation, a_partition, a_record, Value, Values, number, truth, item, node, of_list, tuple, matrix}
-use Rattle.ess_semantics.specs.Collections.{strictly, rising, set_of, mset_of, relation_of, function_of, partition_of, has_double_argument, has_empty_part, has_overlap}
-use Rattle.ess_semantics.specs.Names.{keys, all_distinct, by_name}
-use Rattle.ess_semantics.specs.Trees.{Op, unary, binary, word, index, application, tuple_literal, set_literal, mset_literal, function_literal, relation_literal, partition_literal, matrix_literal, record_literal, Ex, Exs, number_ex, truth_ex, name_ex, node_ex, matrix_ex, comp_ex, cell_ex, seen_ex, no_exs, more_exs, Dom}
-use Rattle.ess_semantics.specs.Types.{Ty, compound2, type_of_dom, join_all}
+use Rattle.ess_semantics.specs.Lists.{all_some, is_empty, zip}
+use Rattle.ess_semantics.specs.Values.{Text, a_function, Value, node, of_list, tuple, matrix}
+use Rattle.ess_semantics.specs.Collections.{strictly, rising}
+use Rattle.ess_semantics.specs.Names.{keys, by_name}
+use Rattle.ess_semantics.specs.Trees.{tuple_literal, function_literal, record_literal, Exs, name_ex, node_ex, no_exs, more_exs}
+use Rattle.ess_semantics.specs.Types.{Ty, join_all}
 use Rattle.ess_semantics.specs.OperatorTypes.{type_of_op, function_ty}
-use Rattle.ess_semantics.specs.Operators.{value_of_op, list_value, record_value, numbers_from}
+use Rattle.ess_semantics.specs.Operators.{list_value, record_value, numbers_from}
 use Rattle.ess_semantics.specs.Membership.{is_pair}
-use Rattle.ess_semantics.specs.Meaning.{Env, members_in, domain_of, matrix_value}
-use Rattle.ess_semantics.specs.Literals.{item_of_name, is_literal_index, type_of_literal, types_of_literals, minus_number, value_of_literal, values_of_literals}
+use Rattle.ess_semantics.specs.Meaning.{Env}
+use Rattle.ess_semantics.specs.Literals.{item_of_name, values_of_literals}
 use Rattle.ess_semantics.proofs.Tests.{and-left, and-right, and-both}
 use Rattle.ess_semantics.proofs.Sorting.{all-strictly}
 use Rattle.ess_semantics.proofs.Multisets.{rising-all}
-use Rattle.ess_grammar.specs.Readable.{is_name_token, are_name_tokens, fit_fields, ReadableEx, ReadableExs, ReadableDom}
+use Rattle.ess_grammar.specs.Readable.{is_name_token, are_name_tokens, fit_fields, ReadableEx}
 use Rattle.ess_texts.specs.Spelled.{some_values, fit_values, are_pairs_of_values, are_spelled_indices, is_spelled, are_spelled}
 use Rattle.ess_literals.specs.ItemNames.{item_name}
-use Rattle.ess_literals.specs.Spellable.{numbers_fit, all_numbers_fit, parts_fit, all_parts_fit, have_name_tokens}
+use Rattle.ess_literals.specs.Spellable.{all_numbers_fit, all_parts_fit}
 use Rattle.ess_literals.specs.Laws.{HasItemNames}
-use Rattle.ess_literals.proofs.Options.{then-some, map-some, when-some, if-some}
+use Rattle.ess_literals.proofs.Options.{then-some}
 use Rattle.ess_literals.proofs.JoinedTypes.{join-all-says}
 use Rattle.ess_literals.proofs.Printed.{PrintedEach}
 use Rattle.ess_literals.proofs.NamesOfItems.{item-names}
 use Rattle.ess_literals.proofs.NameTokens.{item-token}
-use Rattle.ess_literals.proofs.KeptValues.{printed-each}
 use Rattle.ess_literals.proofs.PairValues.{entries-pairs, pairs-of-values}
 use Rattle.ess_literals.proofs.SpelledParts.{fits, fits-each, or-behind, spelled-list, Asked, SpelledIf, EachSpelledIf, each-spelled, members-spelled, some-operands, fields-tokens, fields-fit, field_values, some-fields, fields-each}
-use Rattle.ess_literals.proofs.SpelledIndices.{list-indices-spelled, index-spelled}
+use Rattle.ess_literals.proofs.SpelledIndices.{list-indices-spelled}
 
 module _ (env : Env) (names : HasItemNames env) where
   -- ---- names
@@ -79,7 +77,7 @@ module _ (env : Env) (names : HasItemNames env) where
   fields-have true b (n ∷ ns) (more_exs x es) xs q e h =
       let y = some-operands env x es xs e in
       subst (FieldsHave (n ∷ ns)) y.2
-          (some-fields n ns y.0 y.1, fields-tokens (n ∷ ns) (y.0 ∷ y.1) (and-left (are_name_tokens (n ∷ ns)) (fit_fields (n ∷ ns) (more_exs x es)) q.1))
+      (some-fields n ns y.0 y.1, fields-tokens (n ∷ ns) (y.0 ∷ y.1) (and-left (are_name_tokens (n ∷ ns)) (fit_fields (n ∷ ns) (more_exs x es)) q.1))
   fields-have false b ns es xs q e h =
       let vs = of_list (field_values (fields ns xs)) in
       let ks = keys (fields ns xs) in

@@ -1,10 +1,10 @@
 -- Tuples and records that a literal has are printed as literals that have them: a record with its fields by name.
-use Rattle.std.proofs.Common.{◌≡◌, refl, sym, ap, ◌∙◌, subst, Bool, true, false, ◌&&◌, ◌||◌, not, if◌then◌else◌, List, [], ◌∷◌, map, Option, Some, None}
+use Rattle.std.proofs.Common.{◌≡◌, refl, ap, ◌∙◌, subst, true, false, ◌||◌, not, if◌then◌else◌, List, [], ◌∷◌, map, Some, None}
 use Rattle.std.specs.declared.cmp.Ordering.{Ordering}
 use Rattle.std.specs.declared.cmp.Ordering.TheVariants.{Less, Equal, Greater}
 use Rattle.std.specs.Ordering.{is_eq}
 use Rattle.ess_semantics.specs.Lists.{and_then, all_some, zip}
-use Rattle.ess_semantics.specs.Values.{Text, Kind, a_tuple, a_record, Value, node, tuple, of_list}
+use Rattle.ess_semantics.specs.Values.{Text, Kind, a_tuple, a_record, Value, tuple, of_list}
 use Rattle.ess_semantics.specs.Order.{order_text, same_text}
 use Rattle.ess_semantics.specs.Names.{Names, keys, is_among, all_distinct, insert_by, insert_name, by_name}
 use Rattle.ess_semantics.specs.Trees.{tuple_literal, record_literal}
@@ -18,9 +18,9 @@ use Rattle.ess_grammar.specs.ValueTexts.{literals_of}
 use Rattle.ess_grammar.specs.Readable.{names_rise}
 use Rattle.ess_grammar.proofs.RecordFields.{by-name-rises, by-name-itself}
 use Rattle.ess_literals.specs.ItemNames.{item_name}
-use Rattle.ess_literals.proofs.TypeOrder.{Within, AllWithin, all-within-parts}
+use Rattle.ess_literals.proofs.TypeOrder.{AllWithin, all-within-parts}
 use Rattle.ess_literals.proofs.JoinedTypes.{has_parts}
-use Rattle.ess_literals.proofs.Printed.{Printed, PrintedEach, HaveTypes, InOrder, in-order}
+use Rattle.ess_literals.proofs.Printed.{Printed, PrintedEach, in-order}
 
 -- types that say no more of each part have parts
 each-has-parts : (k l : Kind) (us ts : Tys) → AllWithin us ts → has_parts (compound k ts) ≡ true → has_parts (compound l us) ≡ true
@@ -131,8 +131,8 @@ module _ (env : Env) where
   insert-printed x t (y ∷ ys) [] e p h = absurd h
   insert-printed x t (y ∷ ys) (u ∷ us) e p h =
       subst (λ o. FieldsPrinted (insert_name x (y ∷ ys)) (insert_by o t u us (insert_name t us)))
-          (ap (λ a. order_text a y.0) e ∙ ap (order_text t.0) h.0)
-          (go (order_text x.0 y.0) (insert-printed x t ys us e p h.2))
+      (ap (λ a. order_text a y.0) e ∙ ap (order_text t.0) h.0)
+      (go (order_text x.0 y.0) (insert-printed x t ys us e p h.2))
     where
       go : (o : Ordering) → FieldsPrinted (insert_name x ys) (insert_name t us) → FieldsPrinted (insert_by o x y ys (insert_name x ys)) (insert_by o t u us (insert_name t us))
       go Less ih = (e, p, h)
@@ -181,15 +181,15 @@ module _ (env : Env) where
       record {
         u = compound (a_record (keys fs)) (tys_of r.us);
         typed =
-          ap (λ c. if c then and_then (all_some (types_of_literals (literals_of (item_name env.types) (of_list (map (λ x. x.1) fs))) env)) (type_of_op (record_literal (keys fs))) else None) (fields-distinct ns xs d)
-          ∙ ap (λ o. and_then o (type_of_op (record_literal (keys fs)))) r.types
-          ∙ ap (λ l. Some (record_ty l)) own
-          ∙ ap (λ ks. Some (compound (a_record ks) (tys_of (map (λ z. z.1) zs)))) b.0
-          ∙ ap (λ vs. Some (compound (a_record (keys fs)) (tys_of vs))) b.1;
+            ap (λ c. if c then and_then (all_some (types_of_literals (literals_of (item_name env.types) (of_list (map (λ x. x.1) fs))) env)) (type_of_op (record_literal (keys fs))) else None) (fields-distinct ns xs d)
+            ∙ ap (λ o. and_then o (type_of_op (record_literal (keys fs)))) r.types
+            ∙ ap (λ l. Some (record_ty l)) own
+            ∙ ap (λ ks. Some (compound (a_record ks) (tys_of (map (λ z. z.1) zs)))) b.0
+            ∙ ap (λ vs. Some (compound (a_record (keys fs)) (tys_of vs))) b.1;
         valued =
-          ap (λ o. and_then o (value_of_op (record_literal (keys fs)))) r.values
-          ∙ ap (λ l. Some (record_value (by_name l))) (zip-itself fs)
-          ∙ ap (λ l. Some (record_value l)) (by-name-itself fs (by-name-rises (zip ns xs)));
+            ap (λ o. and_then o (value_of_op (record_literal (keys fs)))) r.values
+            ∙ ap (λ l. Some (record_value (by_name l))) (zip-itself fs)
+            ∙ ap (λ l. Some (record_value l)) (by-name-itself fs (by-name-rises (zip ns xs)));
         within = (ap a_record (one-keys fs gs h), all-within-parts (tys_of r.us) (tys_of (map (λ t. t.1) gs)) r.within);
         parts = each-has-parts (a_record (keys gs)) (a_record (keys fs)) (tys_of r.us) (tys_of (map (λ t. t.1) gs)) r.within;
       }

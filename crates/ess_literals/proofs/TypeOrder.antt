@@ -1,6 +1,6 @@
 -- Types by how much they say: `any_ty` says nothing, and a compound type without parts nothing of its parts. The join of two
 -- types is the least that says what both say, so a join goes on being there where parts say less.
-use Rattle.std.proofs.Common.{◌≡◌, refl, sym, ap, ◌∙◌, subst, ℕ, Bool, true, false, if◌then◌else◌, List, [], ◌∷◌, Option, Some, None, option_map, ◌⊎◌, inl, inr, arith}
+use Rattle.std.proofs.Common.{◌≡◌, refl, sym, ap, ◌∙◌, subst, ℕ, true, if◌then◌else◌, Some, None, option_map, ◌⊎◌, inl, inr, arith}
 use Rattle.std.specs.Ordering.{is_eq, ordering_then}
 use Rattle.std.proofs.lemmas.Cmp.{tied_itself}
 use Rattle.std.specs.declared.cmp.Ordering.{Ordering}
@@ -8,7 +8,7 @@ use Rattle.std.specs.declared.cmp.Ordering.TheVariants.{Less, Equal, Greater}
 use Rattle.ess_semantics.specs.Lists.{and_then, when}
 use Rattle.ess_semantics.specs.Values.{Text, Kind, node, nil}
 use Rattle.ess_semantics.specs.Order.{same_text, same_kind, order_text, order_kind}
-use Rattle.ess_semantics.specs.Types.{Ty, any_ty, bool_ty, int_ty, named_ty, compound, Tys, no_tys, more_tys, join, joins, join_all}
+use Rattle.ess_semantics.specs.Types.{Ty, any_ty, bool_ty, int_ty, named_ty, compound, Tys, no_tys, more_tys, join, joins}
 use Rattle.ess_semantics.proofs.Orders.{text_exact, text_total, order_exact, same-itself, equal-of}
 use Rattle.ess_literals.proofs.Options.{then-some, map-some, when-some, if-some}
 
@@ -164,7 +164,7 @@ mutual
       let p = join-says t u w.0 w.1 in
       let q = joins-say ts us ws.0 ws.1 in
       subst (λ x. Within (compound k (more_tys t ts)) x × Within (compound l (more_tys u us)) x) ws.2
-          ((refl, (p.0, q.0)), (sym (same-kind-equal k l h.0), (p.1, q.1)))
+      ((refl, (p.0, q.0)), (sym (same-kind-equal k l h.0), (p.1, q.1)))
 
   joins-say : (ts us vs : Tys) → joins ts us ≡ Some vs → AllWithin ts vs × AllWithin us vs
   joins-say no_tys no_tys vs e = let f : no_tys ≡ vs = cc in subst (λ x. AllWithin no_tys x × AllWithin no_tys x) f (tt, tt)

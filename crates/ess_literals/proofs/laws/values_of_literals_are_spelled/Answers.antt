@@ -1,5 +1,4 @@
 use Rattle.ess_literals.proofs.laws.values_of_literals_are_spelled.Goals as goal
-use Rattle.std.proofs.Common.{true, false}
 use Rattle.ess_literals.proofs.ReadBack.{readable-spelled, named-spelled}
 
 pub returns : goal.returns
