@@ -1,6 +1,6 @@
 -- Laws of printed literals, each stated at a function that does nothing, so that its proof is checked with the code.
 use Rattle.std.specs.Prelude.{◌≡◌, false, true, map, Some, IsTrue}
-use Rattle.ess_semantics.specs.Values.{Value}
+use Rattle.ess_semantics.specs.Values.{Text, Value}
 use Rattle.ess_semantics.specs.Names.{all_distinct}
 use Rattle.ess_semantics.specs.Trees.{Ex}
 use Rattle.ess_semantics.specs.Types.{Ty}
@@ -30,11 +30,18 @@ pub record ValuesOfLiteralsAreSpelled : Type 0 where
   pub of_named : (e : Ex) (t : Ty) (v : Value) (env : Env) → HasItemNames env → IsTrue (have_name_tokens env.types) → literal_value e t env ≡ Some v →
       IsTrue (numbers_fit v) → IsTrue (parts_fit v) → IsTrue (is_spelled (item_name env.types) v)
 
+-- The text is read as the literal that is printed for the value, and this literal of type t has the value.
+abbrev pub ReadsAsValue : Text → Env → Ty → Value → Type 0
+ReadsAsValue text env t v =
+    ReadsInProfile text (IsClosedExpression (literal_of (item_name env.types) v)) × (literal_value (literal_of (item_name env.types) v) t env ≡ Some v)
+
 -- The text of a value is read as a literal of type t that has it.
 abbrev pub IsReadBack : Env → Ty → Value → Type 0
-IsReadBack env t v =
-    ReadsInProfile (value_text (item_name env.types) v) (IsClosedExpression (literal_of (item_name env.types) v)) ×
-    (literal_value (literal_of (item_name env.types) v) t env ≡ Some v)
+IsReadBack env t v = ReadsAsValue (value_text (item_name env.types) v) env t v
+
+-- A text of a value is read as the value, in each type in which a literal that some text has has the value.
+abbrev pub ReadsBack : Env → Value → Text → Type 0
+ReadsBack env v text = (e : Ex) (t : Ty) → HasItemNames env → ReadableEx e → literal_value e t env ≡ Some v → IsTrue (numbers_fit v) → ReadsAsValue text env t v
 
 -- So its text is read back as that value.
 pub record PrintedValuesAreReadBack : Type 0 where

@@ -1,4 +1,4 @@
--- The text of a value that is spelled is read as its literal.
+-- The text of a value that is spelled is read as its literal, and so is that of a value that a literal has.
 use Rattle.std.proofs.Common.{◌≡◌, ◌∙◌, ℕ, [], refl, sym, subst}
 use Rattle.std.specs.Prelude.{IsTrue}
 use Rattle.ess_semantics.specs.Values.{Text, Value}
@@ -6,6 +6,10 @@ use Rattle.ess_grammar.specs.ValueTexts.{value_text, literal_of}
 use Rattle.ess_texts.specs.Expressions.{ex_pieces}
 use Rattle.ess_texts.specs.Laws.{ReadsInProfile, IsClosedExpression}
 use Rattle.ess_texts.specs.Spelled.{is_spelled}
+use Rattle.ess_semantics.specs.Meaning.{Env}
+use Rattle.ess_literals.specs.ItemNames.{item_name}
+use Rattle.ess_literals.specs.Laws.{ReadsBack, ReadsAsValue}
+use Rattle.ess_literals.proofs.ReadBack.{read-back, readable-spelled}
 use Rattle.ess_texts.proofs.LexedPieces.{printed-tokens, printed-inside}
 use Rattle.ess_texts.proofs.SafeTrees.{ex-safe}
 use Rattle.ess_texts.proofs.Expressions.{ex-printed}
@@ -18,3 +22,7 @@ value_is_read name_of v t is h =
     let s = (ex-safe e (value-readable name_of v h)).law [] refl tt in
     let r = (ex-printed e (value-readable name_of v h)).reads [] in
     subst (λ u. ReadsInProfile u (IsClosedExpression e)) (value-text-is name_of v h ∙ sym is) ((_, printed-tokens (ex_pieces e []) s, (r.shape, r.level, r.derivation)), printed-inside (ex_pieces e []) s)
+
+pub value_is_read_back : (env : Env) (v : Value) (text : Text) → text ≡ value_text (item_name env.types) v → ReadsBack env v text
+value_is_read_back env v text is e t names r h n =
+    subst (λ u. ReadsAsValue u env t v) (sym is) (read-back e t v env names h (readable-spelled e t v env names r h n))

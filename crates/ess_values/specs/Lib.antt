@@ -1,6 +1,5 @@
 -- What the contracts of this crate say beside the definitions of the meaning
 pub mod Forms
-pub mod ItemNames
 pub mod Neighbours
 pub mod Parts
 pub mod Printing
