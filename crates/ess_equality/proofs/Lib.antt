@@ -1,0 +1,12 @@
+pub mod Known
+pub mod KnownPatterns
+pub mod KnownRepresentations
+pub mod KnownRows
+pub mod KnownStatements
+pub mod KnownTables
+pub mod KnownTrees
+pub mod KnownTypes
+pub mod KnownValues
+pub mod KnownWords
+pub mod Laws
+pub mod TreeLayers
