@@ -1,0 +1,4 @@
+pub mod ListLaws
+pub mod FrameLaws
+pub mod TokenLaws
+pub mod OtherTokens
