@@ -1,42 +1,32 @@
 -- Lists of operands: with no item, and with some.
-use Rattle.std.proofs.Common.{◌≡◌, refl, sym, ap, ◌∙◌, Bool, true, false, ◌&&◌, ◌<◌, ◌≤◌, length, List, [], ◌∷◌, ◌++◌, map, Option, Some, None, arith}
+use Rattle.std.proofs.Common.{◌≡◌, refl, ap, ◌∙◌, Bool, true, false, ◌&&◌, ◌<◌, ◌≤◌, length, List, [], ◌∷◌, ◌++◌, map, None, arith}
 use Rattle.ess_semantics.specs.Values.{Text}
 use Rattle.ess_semantics.specs.Trees as pure
-use Rattle.ess_semantics.specs.Trees.{no_exs, more_exs, plain_node, tuple_literal}
+use Rattle.ess_semantics.specs.Trees.{no_exs, more_exs, plain_node, tuple_literal, by_value, index, word}
+use Rattle.ess_semantics.specs.declared.words.Fun.{Fun}
 use Rattle.ess_grammar.specs.Words.{close_round, close_square}
 use Rattle.ess_grammar.specs.Patterns.{is_one_bound, is_bound_name}
+use Rattle.ess_grammar.specs.Grammar.{indexed, steps_of}
 use Rattle.ess_machine.specs.Frames as machine
 use Rattle.ess_machine.specs.Frames.{list_frame, round_list, index_list, pair_left_frame}
 use Rattle.ess_machine.specs.Operands.{nothing_then_close_round}
-use Rattle.ess_core.specs.declared.expressions.PairEx.{PairEx}
-use Rattle.ess_core.specs.TreeViews.{pure_pair_ex}
-use Rattle.ess_frames.specs.Rows.{back_pairs}
 use Rattle.ess_machine.specs.Modes.{at_state, operand_read}
 use Rattle.ess_machine.specs.Reversed.{reverse_exs}
-use Rattle.ess_machine.specs.AfterOperands.{operand_then_close_round, operand_then_close_square, indexed_of}
-use Rattle.ess_core.specs.TreeViews.{pure_pat, exs_of}
+use Rattle.ess_machine.specs.AfterOperands.{operand_then_close_round, operand_then_close_square, indexed_of, end_list}
+use Rattle.ess_core.specs.TreeViews.{pure_pair_ex, pure_pat, exs_of, pure_ex, pure_exs, pure_step, words_of, within}
+use Rattle.ess_core.specs.declared.expressions.PairEx.{PairEx}
 use Rattle.ess_core.specs.declared.expressions.Pat.{Pat}
-use Rattle.ess_frames.specs.Patterns.{pattern_ex, view_pats, pats_in_order, back_pats}
-use Rattle.ess_frames.proofs.PatternLaws.{pats_whole}
-use Rattle.ess_frames.specs.Patterns.{pattern_exs, back_listed}
-use Rattle.ess_frames.specs.declared.operands.Listed.{Listed}
-use Rattle.ess_frames.specs.declared.operands.Listed.TheVariants as listed
-use Rattle.ess_frames.specs.Rows.{back_exs}
-use Rattle.ess_frames.specs.Views.{view_frames}
-use Rattle.ess_frames.proofs.PatternLaws.{pats_are_exs}
-use Rattle.ess_semantics.specs.declared.words.Fun.{Fun}
-use Rattle.ess_semantics.specs.Trees.{Op, Step, by_value, index, word}
-use Rattle.ess_grammar.specs.Patterns.{may_hold}
-use Rattle.ess_grammar.specs.Grammar.{indexed, steps_of}
-use Rattle.ess_machine.specs.Items.{may_quantify}
-use Rattle.ess_machine.specs.AfterOperands.{end_list}
-use Rattle.ess_core.specs.TreeViews.{pure_ex, pure_exs, pure_step, words_of, within, pats_of}
 use Rattle.ess_core.proofs.ExpressionEquations.{pure_at}
 use Rattle.ess_core.proofs.PartEquations.{pure_pat_tuple}
 use Rattle.ess_core.specs.declared.expressions.Ex.{Ex}
 use Rattle.ess_core.specs.declared.expressions.Ex.TheVariants as ex
-use Rattle.ess_core.specs.declared.expressions.Step.{Step as CodeStep}
+use Rattle.ess_core.specs.declared.expressions.Step.{Step}
 use Rattle.ess_core.specs.declared.expressions.Pat.TheVariants as pat
+use Rattle.ess_frames.specs.Rows.{back_pairs, back_exs}
+use Rattle.ess_frames.specs.Patterns.{pattern_ex, view_pats, pats_in_order, back_pats, back_listed}
+use Rattle.ess_frames.proofs.PatternLaws.{pats_whole, pats_are_exs}
+use Rattle.ess_frames.specs.declared.operands.Listed.{Listed}
+use Rattle.ess_frames.specs.declared.operands.Listed.TheVariants as listed
 use Rattle.ess_expression_steps.specs.Lists.{has_no_items, step_by, begin_sum}
 
 -- no items
@@ -125,7 +115,7 @@ within_by [] = refl
 within_by (e ∷ es) = ap (more_exs (pure_ex e)) (within_by es)
 
 -- an index by values
-pub index_by_values : (a : Ex) (es : List Ex) (ss : List CodeStep) → map pure_step ss ≡ map step_by es → pure_ex (ex.At false a ss) ≡ indexed (pure_ex a) (pure_exs es)
+pub index_by_values : (a : Ex) (es : List Ex) (ss : List Step) → map pure_step ss ≡ map step_by es → pure_ex (ex.At false a ss) ≡ indexed (pure_ex a) (pure_exs es)
 index_by_values a es ss h = pure_at false a ss
     ∙ ap (λ ws. plain_node (index (words_of ws)) (more_exs (pure_ex a) (exs_of (within ws)))) h
     ∙ ap (λ ws. plain_node (index ws) (more_exs (pure_ex a) (exs_of (within (map step_by es))))) (words_by es)

@@ -1,9 +1,8 @@
--- What a token is by its role, and numbers of tokens.
-use Rattle.std.proofs.Common.{◌≡◌, refl, ℕ, ℤ, pos, negsuc, ◌<ℤ◌, ◌≤ℤ◌, Option, Some, None, arith}
+-- What a token is by its role.
+use Rattle.std.proofs.Common.{◌≡◌, Some}
 use Rattle.ess_semantics.specs.declared.words.Op2.{Op2}
 use Rattle.ess_semantics.specs.declared.words.Fun.{Fun}
 use Rattle.ess_grammar.specs.Words.{Token, number, name, prime_word, word, operator, function, symbol}
-use Rattle.ess_grammar.specs.Kinds.{nat_of}
 use Rattle.ess_frames.specs.Roles.{operator_in, function_in}
 
 pub is_operator : (t : Token) (o : Op2) → operator_in t ≡ Some o → t ≡ operator o

@@ -1,5 +1,5 @@
 //! Tokens behind an expression that goes no further.
-#![tactic(auto, using(crate::proofs::TokenLaws::is_operator, crate::proofs::FrameLaws::frames_last, crate::proofs::FrameLaws::no_last_frame, ess_frames::proofs::StackLaws::frames_none, crate::proofs::ListLaws::no_items, ess_frames::proofs::RowLaws::gens_none, ess_frames::proofs::RowLaws::gens_closed, ess_frames::proofs::RowLaws::exs_closed, ess_frames::proofs::PatternLaws::pats_none, ess_frames::proofs::PatternLaws::pats_whole))]
+#![tactic(auto, using(crate::proofs::TokenLaws::is_operator, crate::proofs::FrameLaws::frames_last, crate::proofs::FrameLaws::no_last_frame, ess_frames::proofs::StackLaws::frames_none))]
 
 ghost use Rattle.std.specs.Prelude.{◌≡◌, List, ◌∷◌, Bool, true, false, IfOk, ℕ, None};
 ghost use Rattle.ess_grammar.specs.Words.{Text};

@@ -129,10 +129,12 @@ pub(crate) fn operand_then_close_square(
 {
     match frame {
         Frame::List(listing, listed) => close_square_list(alloc, listing, listed, frames, operand),
-        Frame::Items(head, _, items, patterns) if !ends_in_body =>
-            close_items(alloc, head, items, patterns, frames, operand),
-        Frame::GeneratorSource(head, _, items, patterns) if !ends_in_body =>
-            close_generator(alloc, head, items, patterns, frames, operand),
+        Frame::Items(head, _, items, patterns) if !ends_in_body => close_items(
+            alloc, head, items, patterns, frames, operand,
+        ),
+        Frame::GeneratorSource(head, _, items, patterns) if !ends_in_body => close_generator(
+            alloc, head, items, patterns, frames, operand,
+        ),
         other => stop(other),
     }
 }

@@ -1,5 +1,5 @@
 //! Commas behind an expression.
-#![tactic(auto, using(ess_frames::proofs::RowLaws::gens_none, ess_frames::proofs::PatternLaws::pats_none, ess_frames::proofs::RowLaws::stms_push))]
+#![tactic(auto, using(ess_frames::proofs::RowLaws::gens_none, ess_frames::proofs::PatternLaws::pats_none))]
 
 ghost use Rattle.std.specs.Prelude.{[], ◌∷◌, false, IfOk};
 ghost use Rattle.ess_machine.specs.AfterOperands.{operand_then_comma};

@@ -1,3 +1,4 @@
+//! The items of quantifiers and comprehensions: generators and conditions, and the patterns that wait for a generator's sign.
 #![tactic(auto, using(crate::proofs::FrameLaws::frames_at, crate::proofs::FrameLaws::frames_all, ess_frames::proofs::StackLaws::frames_none, ess_frames::proofs::PatternLaws::pats_none, ess_frames::proofs::PatternLaws::pats_push, ess_frames::proofs::PatternLaws::pats_whole, ess_frames::proofs::RowLaws::gens_none, crate::proofs::ListLaws::one_is_bound, crate::proofs::ListLaws::several_are_not_bound))]
 
 ghost use Rattle.std.specs.Prelude.{◌≡◌, ◌∷◌, List, IfOk};

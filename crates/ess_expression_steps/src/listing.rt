@@ -1,3 +1,4 @@
+//! Lists in brackets, behind their last item.
 #![tactic(auto, using(ess_frames::proofs::RowLaws::exs_closed, ess_frames::proofs::PatternLaws::pats_closed, crate::proofs::ListLaws::no_items, crate::proofs::ListLaws::some_items))]
 
 ghost use Rattle.std.specs.Prelude.{◌≡◌, ◌∷◌, Bool, true, false, map, IfOk};
@@ -63,7 +64,7 @@ pub(crate) fn tuple_of(listed: Listed) -> Operand
 }
 
 /// The literal with these members.
-#[tactic(auto, using(ess_core::proofs::ExpressionEquations::pure_tuple, ess_core::proofs::ExpressionEquations::pure_set, ess_core::proofs::ExpressionEquations::pure_mset, ess_core::proofs::ExpressionEquations::pure_relation, ess_core::proofs::ExpressionEquations::pure_partition, ess_core::proofs::ExpressionEquations::pure_plain_matrix))]
+#[tactic(auto, using(ess_core::proofs::ExpressionEquations::pure_tuple, ess_core::proofs::ExpressionEquations::pure_mset, ess_core::proofs::ExpressionEquations::pure_relation, ess_core::proofs::ExpressionEquations::pure_partition))]
 pub(crate) fn literal_of(literal: Literal, members: Row<Ex>) -> Ex
     ensures { pure_ex result ≡ plain_node (literal_op literal) (pure_exs members) }
 {

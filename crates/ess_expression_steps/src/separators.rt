@@ -1,5 +1,5 @@
 //! Symbols behind an expression that neither close a bracket nor go on with a list.
-#![tactic(auto, using(crate::proofs::ListLaws::no_items, ess_frames::proofs::RowLaws::gens_none, ess_frames::proofs::RowLaws::gens_closed, ess_frames::proofs::RowLaws::exs_closed, ess_frames::proofs::PatternLaws::pats_none, ess_frames::proofs::PatternLaws::pats_whole))]
+#![tactic(auto, using(crate::proofs::ListLaws::no_items, ess_frames::proofs::RowLaws::gens_none, ess_frames::proofs::RowLaws::gens_closed, ess_frames::proofs::PatternLaws::pats_none, ess_frames::proofs::PatternLaws::pats_whole))]
 
 ghost use Rattle.std.specs.Prelude.{◌∷◌, Bool, false, IfOk};
 ghost use Rattle.ess_machine.specs.AfterOperands.{operand_then_dot, operand_then_bar, operand_then_semicolon, operand_then_maps_to, operand_then_colon, operand_then_drawn_from, operand_then_dots};
@@ -19,7 +19,10 @@ use ess_rows::{NoMemory, Row};
 use std::alloc::Global;
 
 /// `<-` makes patterns those of a generator over a value. `NoMemory` where there is no room.
-pub(crate) fn operand_then_drawn_from(frames: Row<Frame>, operand: Operand) -> Result<Option<State>, NoMemory>
+pub(crate) fn operand_then_drawn_from(
+    frames: Row<Frame>,
+    operand: Operand,
+) -> Result<Option<State>, NoMemory>
     ensures { IfOk result (Steps (operand_then_drawn_from (view_frames frames) false (is_pattern_operand operand) (view_operand operand))) }
 {
     match operand {
