@@ -1,15 +1,14 @@
 -- The bytes of a text's tokens are ASCII.
-use Rattle.std.proofs.Common.{◌≡◌, refl, sym, ap, ◌∙◌, subst, ℕ, zero, suc, ◌<◌, Bool, true, false, ◌&&◌, ◌||◌, not, List, [], ◌∷◌, ◌++◌, take, drop, length, Option, Some, None, nat_lt, arith}
+use Rattle.std.proofs.Common.{◌≡◌, refl, sym, subst, ℕ, zero, suc, ◌<◌, Bool, true, false, ◌&&◌, not, List, [], ◌∷◌, ◌++◌, take, drop, length, Option, Some, None, nat_lt, arith}
 use Rattle.std.proofs.lemmas.Bool.Decides.{nat_tests}
 use Rattle.std.proofs.lemmas.Bool.{ltb-true}
 use Rattle.std.proofs.lemmas.Slice.Eq.{bytes_eq-Decides}
 use Rattle.std.specs.List.{list_all}
 use Rattle.std.specs.Str.{IsAscii}
-use Rattle.std.specs.Prelude.{slice_index}
 use Rattle.ess_rows.specs.declared.place.Place.{Place}
 use Rattle.ess_semantics.specs.Values.{Text}
 use Rattle.ess_semantics.proofs.Tests.{and-left, and-right}
-use Rattle.ess_grammar.specs.Words.{Token, number, name, prime_word, look, same_text, words, symbols, lex_symbols}
+use Rattle.ess_grammar.specs.Words.{Token, number, prime_word, look, same_text, symbols, lex_symbols}
 use Rattle.ess_grammar.specs.Places.{place}
 use Rattle.ess_grammar.specs.Tokens.{is_digit, is_letter, is_name_byte, is_name, is_number, is_white, begins_comment, begins_with_name_byte, comment_length, value_of, or_else, only_if, name_or_word, symbol_of, prime_text, token_of, longest, longest_token, is_wide, Lexed, the_end, bad_byte, wide_number, next_token, token_first, first, lexed_in, lexed}
 

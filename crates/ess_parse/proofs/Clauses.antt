@@ -1,21 +1,20 @@
 -- The clauses of a reader that runs a machine, from the laws of the machine.
-use Rattle.std.proofs.Common.{◌≡◌, refl, sym, ap, ◌∙◌, subst, Bool, true, false, ◌⊎◌, inl, inr, List, [], ◌∷◌, ◌++◌, append_assoc, Option, Some, None, Ok, Err}
+use Rattle.std.proofs.Common.{◌≡◌, refl, sym, ap, ◌∙◌, subst, true, false, inl, inr, List, [], ◌∷◌, ◌++◌, append_assoc, Option, Some, None, Ok, Err}
 use Rattle.std.specs.declared.result.Result.{Result}
 use Rattle.ess_rows.specs.declared.place.Place.{Place}
 use Rattle.ess_semantics.specs.Values.{Text}
-use Rattle.ess_grammar.specs.Words.{Token, Word, word}
-use Rattle.ess_grammar.specs.Tokens.{Lexed, lexed, tokens, first_outside}
+use Rattle.ess_grammar.specs.Words.{Token}
+use Rattle.ess_grammar.specs.Tokens.{lexed, tokens, first_outside}
 use Rattle.ess_grammar.specs.Load.{too_deep}
 use Rattle.ess_grammar.specs.Places.{end_place}
 use Rattle.ess_grammar.specs.Texts.{Reads, IsWithinLimits}
-use Rattle.ess_machine.specs.StatementEnds.{begins_statement}
 use Rattle.ess_lex.specs.Lexing.{refusal}
 use Rattle.ess_parse.specs.declared.refusal.ReadNo.{ReadNo}
 use Rattle.ess_parse.specs.Refusals.{refused_first}
-use Rattle.ess_parse.specs.Readers.{first_tokens, token_behind, IsWholeBeforeStatements, IsWrongToken, IsCutShort, IsRefusedFirst, IsDerived, IsThisTree, IsAnswered, IsUnread, IsPlaced}
+use Rattle.ess_parse.specs.Readers.{first_tokens, IsWholeBeforeStatements, IsWrongToken, IsCutShort, IsRefusedFirst, IsDerived, IsThisTree, IsAnswered, IsUnread, IsPlaced}
 use Rattle.ess_parse.specs.Runs.{run_over, unless_refused, reading, IsAnswer, IsReading}
 use Rattle.ess_parse.proofs.FirstRefusals.{is_first, none-first, first-none, some-first}
-use Rattle.ess_parse.proofs.Runs.{from_state, state_behind, tree_of, IsMachineFor, behind-more, all_tokens, all-these, AreTokens, these-all, ok-tree, tree-ok, StopsAt, EndsShort, err-place, late}
+use Rattle.ess_parse.proofs.Runs.{from_state, state_behind, tree_of, IsMachineFor, behind-more, all_tokens, all-these, these-all, ok-tree, tree-ok, StopsAt, EndsShort, err-place, late}
 
 -- ---- the answer and the first refusal
 

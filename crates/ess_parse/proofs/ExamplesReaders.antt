@@ -1,5 +1,5 @@
 -- Texts with the places of their errors, and what comes before the grammar, computed.
-use Rattle.std.proofs.Common.{◌≡◌, refl, ℕ, List, [], ◌∷◌, Option, Some, None, Ok, Err}
+use Rattle.std.proofs.Common.{◌≡◌, refl, ℕ, List, [], ◌∷◌, Some, None, Ok, Err}
 use Rattle.std.specs.Prelude.{codes}
 use Rattle.std.specs.declared.result.Result.{Result}
 use Rattle.ess_semantics.specs.declared.words.ReprKind.{ReprKind}

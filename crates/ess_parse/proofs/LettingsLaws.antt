@@ -7,8 +7,8 @@ use Rattle.ess_grammar.specs.Readable.{is_plain_letting}
 use Rattle.ess_grammar.specs.Statements.{IsLettingsFile}
 use Rattle.ess_grammar.proofs.LettingsFiles.{are_plain, file-specification}
 use Rattle.ess_machine.specs.Frames.{Frame}
-use Rattle.ess_machine.specs.Modes.{Answer, specification_answer, Mode, State, nothing_read}
-use Rattle.ess_machine.specs.Machine.{finish, then_run, then_state_after}
+use Rattle.ess_machine.specs.Modes.{Answer, Mode, State}
+use Rattle.ess_machine.specs.Machine.{then_run, then_state_after}
 use Rattle.ess_machine.specs.Lettings.{is_type_word, lettings_step, lettings_run, lettings_state_after, read_lettings}
 use Rattle.ess_machine.proofs.LettingsRuns.{lettings-complete, lettings-sound, no-file}
 use Rattle.ess_machine.proofs.WholeTexts.{whole-file}

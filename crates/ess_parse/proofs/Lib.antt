@@ -10,4 +10,5 @@ pub mod ReadableAnswers
 pub mod Narrowing
 pub mod AsciiTokens
 pub mod Turns
+mod LettingStatements
 mod ExamplesReaders

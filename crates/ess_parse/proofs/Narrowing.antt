@@ -1,5 +1,5 @@
 -- Answers of readers that count only some trees of the parser.
-use Rattle.std.proofs.Common.{◌≡◌, refl, sym, ap, ◌∙◌, subst, List, Option, Some, None, Ok, Err}
+use Rattle.std.proofs.Common.{◌≡◌, sym, ap, ◌∙◌, subst, Option, Some, None, Ok, Err}
 use Rattle.std.specs.Result.{IsErrAnd}
 use Rattle.std.specs.declared.result.Result.{Result}
 use Rattle.ess_rows.specs.declared.place.Place.{Place}

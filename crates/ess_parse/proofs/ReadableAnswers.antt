@@ -1,5 +1,5 @@
 -- The answers of readers are readable trees.
-use Rattle.std.proofs.Common.{◌≡◌, List, Option, Some, None, Ok, Err}
+use Rattle.std.proofs.Common.{◌≡◌, List, None, Ok, Err}
 use Rattle.std.specs.declared.result.Result.{Result}
 use Rattle.ess_semantics.specs.Values.{Text}
 use Rattle.ess_semantics.specs.Trees.{Dom, Stm}

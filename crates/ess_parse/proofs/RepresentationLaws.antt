@@ -1,5 +1,5 @@
 -- The laws of the machine of representations.
-use Rattle.std.proofs.Common.{◌≡◌, refl, sym, ap, ◌∙◌, List, [], ◌∷◌, ◌++◌, Option, Some, None}
+use Rattle.std.proofs.Common.{◌≡◌, refl, sym, ◌∙◌, List, [], ◌∷◌, Option, Some, None}
 use Rattle.ess_semantics.specs.Trees.{Repr}
 use Rattle.ess_grammar.specs.Words.{Token, Word, word}
 use Rattle.ess_grammar.specs.Representations.{IsRepresentation}

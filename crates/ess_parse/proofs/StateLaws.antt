@@ -1,8 +1,8 @@
 -- The laws of the machine of domains and of specifications.
 use Rattle.std.proofs.Common.{◌≡◌, refl, sym, ap, ◌∙◌, subst, Bool, true, false, List, [], ◌∷◌, ◌++◌, Option, Some, None}
-use Rattle.ess_semantics.specs.Trees.{Dom, Ex, Stm}
+use Rattle.ess_semantics.specs.Trees.{Dom, Stm}
 use Rattle.ess_grammar.specs.Words.{Token, Word, word, language_word, given_word, find_word, letting_word, where_word, such_word, minimising_word, maximising_word}
-use Rattle.ess_grammar.specs.Statements.{Begins, begins_given, begins_find, begins_letting, begins_where, begins_such_that, Statement, parts_statement, minimising_statement, maximising_statement, Statements, no_statements, more_statements, LanguageLine, no_language_line, language_line, IsSpecification, specification, IsDomain}
+use Rattle.ess_grammar.specs.Statements.{begins_given, begins_find, begins_letting, begins_where, begins_such_that, Statement, parts_statement, minimising_statement, maximising_statement, Statements, no_statements, more_statements, no_language_line, language_line, IsSpecification, specification, IsDomain}
 use Rattle.ess_machine.specs.Frames.{Frame}
 use Rattle.ess_machine.specs.Modes.{Answer, expression_answer, domain_answer, specification_answer, Mode, State, domain_wanted, nothing_read}
 use Rattle.ess_machine.specs.StatementEnds.{begins_statement}

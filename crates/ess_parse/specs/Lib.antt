@@ -3,3 +3,4 @@ pub mod Readers
 pub mod Runs
 pub mod Machines
 pub mod RepresentationViews
+pub mod LettingViews

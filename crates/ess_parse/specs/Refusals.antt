@@ -1,5 +1,5 @@
 -- Why a text is refused before its grammar is looked at.
-use Rattle.std.specs.Prelude.{Option, Some, None}
+use Rattle.std.specs.Prelude.{Option}
 use Rattle.std.specs.Option.{option_map}
 use Rattle.ess_semantics.specs.Values.{Text}
 use Rattle.ess_grammar.specs.Tokens.{lexed, first_outside, or_else}

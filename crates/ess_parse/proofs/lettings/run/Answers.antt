@@ -1,0 +1,39 @@
+use Rattle.std.proofs.Common.{◌≡◌, sym, ap, ◌∙◌, subst}
+use Rattle.std.specs.Option.{option_map}
+use Rattle.ess_grammar.specs.Kinds.{token}
+use Rattle.ess_grammar.specs.Tokens.{lexed, next_token}
+use Rattle.ess_grammar.specs.Places.{end_place}
+use Rattle.ess_lex.specs.Lexing.{left}
+use Rattle.ess_parse.specs.LettingViews.{view_machine}
+use Rattle.ess_parse.specs.Runs.{run_over}
+use Rattle.ess_parse.specs.Machines.{step_lettings, finish_lettings, start_lettings}
+use Rattle.ess_parse.proofs.AsciiTokens.{AreAscii, lexed-ascii, front-ascii}
+use Rattle.ess_parse.proofs.Turns.{turn}
+use Rattle.ess_parse.proofs.lettings.run.Goals as goal
+
+pub loop-machine-init : goal.loop-machine-init
+loop-machine-init c =
+    record {
+      same =
+          ap (λ l. run_over step_lettings finish_lettings (end_place c.args.text.now) l start_lettings) (sym c.new-lexer.ensures)
+          ∙ ap (λ s. run_over step_lettings finish_lettings (end_place c.args.text.now) (left c.new-lexer.result) s) (sym c.new-machine.ensures);
+      ascii = subst AreAscii (sym c.new-lexer.ensures) (lexed-ascii c.args.text.now);
+    }
+
+pub step-requires : goal.step-requires
+step-requires c =
+    let found = c.in-Some.token in
+    let come : next_token (token found.kind found.text.now) found.text.now found.place (left c.next.new.self) ≡ left c.loop-machine.lexer = rw c.in-Some.is at c.in_ok-token.ensures.next in
+    (front-ascii (token found.kind found.text.now) found.text.now found.place (left c.next.new.self) (left c.loop-machine.lexer) come (c.loop-machine.invariant).ascii).0
+
+pub loop-machine-preserved : goal.loop-machine-preserved
+loop-machine-preserved c =
+    let found = c.in-Some.token in
+    let come : next_token (token found.kind found.text.now) found.text.now found.place (left c.next.new.self) ≡ left c.loop-machine.lexer = rw c.in-Some.is at c.in_ok-token.ensures.next in
+    record {
+      same =
+          turn step_lettings finish_lettings (end_place c.args.text.now) (run_over step_lettings finish_lettings (end_place c.args.text.now) (lexed c.args.text.now) start_lettings)
+          (token found.kind found.text.now) found.text.now found.place (left c.next.new.self) (left c.loop-machine.lexer) (view_machine c.loop-machine.machine) (view_machine c.in-Some-2.next)
+          (c.loop-machine.invariant).same come (c.in_ok-next.ensures ∙ ap (option_map view_machine) c.in-Some-2.is);
+      ascii = (front-ascii (token found.kind found.text.now) found.text.now found.place (left c.next.new.self) (left c.loop-machine.lexer) come (c.loop-machine.invariant).ascii).1;
+    }

@@ -1,0 +1,37 @@
+use Rattle.std.proofs.Common.{◌≡◌, sym, ap, ◌∙◌, subst}
+use Rattle.std.specs.Option.{option_map}
+use Rattle.ess_grammar.specs.Kinds.{token}
+use Rattle.ess_grammar.specs.Tokens.{lexed, next_token}
+use Rattle.ess_grammar.specs.Places.{end_place}
+use Rattle.ess_lex.specs.Lexing.{left}
+use Rattle.ess_parser.specs.Parsers.{view_parser}
+use Rattle.ess_parse.specs.Runs.{run_over}
+use Rattle.ess_parse.specs.Machines.{step_state, finish_state}
+use Rattle.ess_parse.proofs.AsciiTokens.{AreAscii, lexed-ascii, front-ascii}
+use Rattle.ess_parse.proofs.Turns.{turn}
+use Rattle.ess_parse.proofs.parsing.parse.Goals as goal
+
+pub loop-parser-init : goal.loop-parser-init
+loop-parser-init c =
+    record {
+      same = ap (λ l. run_over step_state finish_state (end_place c.args.text.now) l (view_parser c.args.start)) (sym c.new-lexer.ensures);
+      ascii = subst AreAscii (sym c.new-lexer.ensures) (lexed-ascii c.args.text.now);
+    }
+
+pub step-requires : goal.step-requires
+step-requires c =
+    let found = c.in-Some.token in
+    let come : next_token (token found.kind found.text.now) found.text.now found.place (left c.next.new.self) ≡ left c.loop-parser.lexer = rw c.in-Some.is at c.in_ok-token.ensures.next in
+    (front-ascii (token found.kind found.text.now) found.text.now found.place (left c.next.new.self) (left c.loop-parser.lexer) come (c.loop-parser.invariant).ascii).0
+
+pub loop-parser-preserved : goal.loop-parser-preserved
+loop-parser-preserved c =
+    let found = c.in-Some.token in
+    let come : next_token (token found.kind found.text.now) found.text.now found.place (left c.next.new.self) ≡ left c.loop-parser.lexer = rw c.in-Some.is at c.in_ok-token.ensures.next in
+    record {
+      same =
+          turn step_state finish_state (end_place c.args.text.now) (run_over step_state finish_state (end_place c.args.text.now) (lexed c.args.text.now) (view_parser c.args.start))
+          (token found.kind found.text.now) found.text.now found.place (left c.next.new.self) (left c.loop-parser.lexer) (view_parser c.loop-parser.parser) (view_parser c.in-Some-2.next)
+          (c.loop-parser.invariant).same come (c.in_ok-next.ensures ∙ ap (option_map view_parser) c.in-Some-2.is);
+      ascii = (front-ascii (token found.kind found.text.now) found.text.now found.place (left c.next.new.self) (left c.loop-parser.lexer) come (c.loop-parser.invariant).ascii).1;
+    }

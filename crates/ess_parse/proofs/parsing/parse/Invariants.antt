@@ -1,0 +1,19 @@
+use Rattle.std.proofs.Common.{◌≡◌}
+use Rattle.ess_grammar.specs.Tokens.{lexed, token_count}
+use Rattle.ess_grammar.specs.Places.{end_place}
+use Rattle.ess_lex.specs.Lexing.{left}
+use Rattle.ess_parser.specs.Parsers.{view_parser}
+use Rattle.ess_parse.specs.Runs.{run_over}
+use Rattle.ess_parse.specs.Machines.{step_state, finish_state}
+use Rattle.ess_parse.proofs.AsciiTokens.{AreAscii}
+use Rattle.ess_parse.proofs.parsing.parse.Given as goal
+
+abbrev pub invariant-loop-parser : goal.invariant-loop-parser
+invariant-loop-parser l =
+    record {
+      same : run_over step_state finish_state (end_place l.text) (lexed l.text) (view_parser l.fn.start) ≡ run_over step_state finish_state (end_place l.text) (left l.lexer) (view_parser l.parser);
+      ascii : AreAscii (left l.lexer);
+    }
+
+abbrev pub decreases-loop-parser : goal.decreases-loop-parser
+decreases-loop-parser l = token_count (left l.lexer)
