@@ -8,3 +8,16 @@ pub mod Entries
 pub mod NumberRuns
 pub mod Written
 pub mod ReadTexts
+pub mod Ahead
+pub mod ShapeEquations
+pub mod Joins
+pub mod ItemLemmas
+pub mod FieldLemmas
+pub mod KindLemmas
+pub mod Reading
+pub mod RecordReading
+pub mod SetLemmas
+pub mod IndexLemmas
+pub mod NumberLiterals
+pub mod LongerLists
+pub mod RangeLemmas

@@ -4,6 +4,7 @@ ghost use Rattle.std.specs.List.{list_all};
 ghost use Rattle.ess_core.specs.ValueViews.{pure_val};
 ghost use Rattle.ess_values.specs.Parts.{is_set};
 
+mod literals;
 mod printing;
 
 use super::*;
