@@ -1,0 +1,11 @@
+pub mod Booleans
+pub mod LineScopes
+pub mod DraftModels
+pub mod Growth
+pub mod PartTokens
+pub mod PartStatements
+pub mod ModelLaws
+pub mod FitTokens
+pub mod FreeTexts
+pub mod FifthToken
+pub mod MarkedLines

@@ -1,0 +1,13 @@
+use Rattle.eprime_read.proofs.Growth.{given_more, given_sound}
+use Rattle.eprime_read.proofs.growing.push_given.Goals as goal
+
+pub invariant_of-result : goal.invariant_of-result
+invariant_of-result c =
+    record {
+      sound =
+          given_sound c.args.draft.model c.args.draft.lines c.push-2.new.self c.in_ok-line.line c.args.decl c.push.new.self c.requires.fits c.args.draft.sound c.requires.readable c.in_ok-push.ensures.ok
+          (record { name = c.in_ok-line.ensures.name; truth = c.in_ok-line.ensures.truth; found = c.in_ok-line.ensures.found }) c.in_ok-push-2.ensures.ok;
+    }
+
+pub returns-clause-model : goal.returns-clause-model
+returns-clause-model c = given_more c.args.draft.model c.args.draft.lines c.args.decl c.push.new.self c.requires.fits c.args.draft.sound c.in_ok-push.ensures.ok

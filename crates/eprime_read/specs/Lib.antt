@@ -1,0 +1,5 @@
+pub mod Openings
+pub mod Drafts
+pub mod Statements
+pub mod Views
+pub mod FrontTokens
