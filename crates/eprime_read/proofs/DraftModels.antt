@@ -10,8 +10,8 @@ use Rattle.ess_semantics.specs.DeclaredTables.{TableDecl}
 use Rattle.ess_semantics.specs.ModelTrees.{Goal, no_goal, least, greatest, Model}
 use Rattle.ess_grammar.specs.Readable.{is_name_token}
 use Rattle.ess_grammar.specs.Models.{Scope, empty_scope, with_given, with_find, scope_behind, with_cells, table_of, are_model_tables, is_model_ex, is_model_dom, is_model_goal, is_readable_model}
-use Rattle.eprime_machine.specs.ModelMachine.{givens_scope, model_scope, more_given, more_find, with_objective, readable, constraints_of, constrained}
-use Rattle.eprime_convert.specs.Converted.{model_ex, declared_table}
+use Rattle.eprime_read_laws.specs.ModelMachine.{givens_scope, model_scope, more_given, more_find, with_objective, readable, constraints_of, constrained}
+use Rattle.eprime_read_convert.specs.Converted.{model_ex, declared_table}
 use Rattle.eprime_read.specs.Drafts.{given_on, find_on, goal_on, rules_on}
 use Rattle.eprime_read.specs.Statements.{model_rules}
 use Rattle.eprime_read.proofs.PartStatements.{rules_by}

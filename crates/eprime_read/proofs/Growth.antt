@@ -9,16 +9,16 @@ use Rattle.ess_semantics.specs.ModelTrees.{no_goal, least, greatest, Model}
 use Rattle.ess_grammar.specs.Words.{given_word, find_word}
 use Rattle.ess_grammar.specs.Readable.{is_name_token}
 use Rattle.ess_grammar.specs.Models.{Scope, empty_scope, with_given, with_find, scope_behind, is_readable_model}
-use Rattle.eprime_machine.specs.ModelMachine.{givens_scope, model_scope, more_given, more_find, with_objective, with_constraints, readable, constraints_of, constrained}
+use Rattle.eprime_read_laws.specs.ModelMachine.{givens_scope, model_scope, more_given, more_find, with_objective, with_constraints, readable, constraints_of, constrained}
 use Rattle.eprime_tree.specs.declared.expressions.PEx.{PEx}
 use Rattle.eprime_tree.specs.declared.models.PDecl.{PDecl}
 use Rattle.eprime_tree.specs.declared.models.PGoal.{PGoal}
 use Rattle.eprime_tree.specs.declared.models.PGoal.TheVariants.{Free, Minimise, Maximise}
 use Rattle.eprime_tree.specs.declared.models.PModel.{PModel}
 use Rattle.eprime_tree.specs.Views.{pure_ex, pure_dom, pure_decl, pure_decls, pure_goal, pure_model}
-use Rattle.eprime_convert.specs.declared.lines.Line.{Line}
-use Rattle.eprime_convert.specs.Lines.{scope_of}
-use Rattle.eprime_convert.specs.Converted.{model_ex, declared_table}
+use Rattle.eprime_read_convert.specs.declared.lines.Line.{Line}
+use Rattle.eprime_read_convert.specs.Lines.{scope_of}
+use Rattle.eprime_read_convert.specs.Converted.{model_ex, declared_table}
 use Rattle.eprime_read.specs.Drafts.{IsSound, Fits, given_on, find_on, goal_on, rules_on}
 use Rattle.eprime_read.specs.Statements.{model_rules}
 use Rattle.eprime_read.proofs.LineScopes.{scope_given, scope_find}

@@ -4,8 +4,8 @@ use Rattle.std.proofs.lemmas.List.{reverse-append}
 use Rattle.ess_semantics.specs.Meaning.{is_bool_dom}
 use Rattle.ess_semantics.specs.DeclaredTables.{TableDecl}
 use Rattle.ess_grammar.specs.Models.{Scope, with_given, with_find}
-use Rattle.eprime_convert.specs.declared.lines.Line.{Line}
-use Rattle.eprime_convert.specs.Lines.{scope_of}
+use Rattle.eprime_read_convert.specs.declared.lines.Line.{Line}
+use Rattle.eprime_read_convert.specs.Lines.{scope_of}
 
 -- The scope of lines, the newest first.
 abbrev scope_back : List Line → Scope

@@ -9,10 +9,10 @@ use Rattle.ess_grammar.specs.Models.{is_readable_model}
 use Rattle.ess_parse.specs.declared.refusal.ReadNo.{ReadNo}
 use Rattle.ess_parse.specs.Readers.{IsDerived, IsReadable}
 use Rattle.ess_parse.proofs.Runs.{from_state, state_behind, tree_of, IsMachineFor}
-use Rattle.eprime_machine.specs.ModelMachine.{Stage, at_begin, model_step, model_finish, then_model, model_run, then_stage, stage_after}
-use Rattle.eprime_machine.proofs.Complete.{complete-model}
-use Rattle.eprime_machine.proofs.Tails.{sound-model}
-use Rattle.eprime_machine.proofs.Stops.{no-model, whole-model}
+use Rattle.eprime_read_laws.specs.ModelMachine.{Stage, at_begin, model_step, model_finish, then_model, model_run, then_stage, stage_after}
+use Rattle.eprime_read_laws.proofs.Complete.{complete-model}
+use Rattle.eprime_read_laws.proofs.Tails.{sound-model}
+use Rattle.eprime_read_laws.proofs.Stops.{no-model, whole-model}
 
 then-tree : (o : Option Stage) (j k : Stage → Option Model) → ((s : Stage) → j s ≡ k s) → from_state j o ≡ then_model o k
 then-tree None j k f = refl

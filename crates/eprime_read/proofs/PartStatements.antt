@@ -11,8 +11,8 @@ use Rattle.ess_grammar.specs.Models.{Scope}
 use Rattle.ess_grammar.specs.Readable.{is_name_token, ReadableEx, ReadableDom, ReadableStm, ReadableStms}
 use Rattle.ess_core.specs.declared.statements.Stm as core
 use Rattle.ess_core.specs.StatementViews.{pure_stm}
-use Rattle.eprime_machine.specs.ModelMachine.{more_given, more_find, with_objective, readable, constraint_before, constraints_of, with_part}
-use Rattle.eprime_convert.specs.Converted.{model_ex}
+use Rattle.eprime_read_laws.specs.ModelMachine.{more_given, more_find, with_objective, readable, constraint_before, constraints_of, with_part}
+use Rattle.eprime_read_convert.specs.Converted.{model_ex}
 use Rattle.eprime_read.specs.Statements.{only, given_in, find_in, least_in, greatest_in, constraint_in, model_rules}
 
 -- ---- one statement alone

@@ -5,17 +5,17 @@ use Rattle.ess_grammar.specs.Words.{Token, number, name, prime_word, word, opera
 use Rattle.ess_grammar.specs.Readable.{ReadableStms}
 use Rattle.ess_grammar.proofs.ReadableTrees.{is_proper, Proper}
 use Rattle.ess_grammar.proofs.ReadableStatements.{specification-readable}
-use Rattle.ess_machine.specs.Modes.{State, Answer, specification_answer, nothing_read}
-use Rattle.ess_machine.specs.StatementEnds.{begin_statement}
-use Rattle.ess_machine.specs.Machine.{step, finish, then_state_after, state_after, read_specification}
-use Rattle.ess_machine.proofs.Sound.{IsSound, sound-specification}
-use Rattle.ess_machine.proofs.WholeTexts.{run-ends, state-goes-on}
+use Rattle.ess_parse_laws.specs.Modes.{State, Answer, specification_answer, nothing_read}
+use Rattle.ess_parse_laws.specs.StatementEnds.{begin_statement}
+use Rattle.ess_parse_laws.specs.Machine.{step, finish, then_state_after, state_after, read_specification}
+use Rattle.ess_parse_laws.proofs.Sound.{IsSound, sound-specification}
+use Rattle.ess_parse_laws.proofs.WholeTexts.{run-ends, state-goes-on}
 use Rattle.ess_semantics.specs.ModelTrees.{Model}
 use Rattle.ess_semantics.specs.Lists.{and_then}
-use Rattle.ess_machine.specs.Modes.{expression_answer, domain_answer}
+use Rattle.ess_parse_laws.specs.Modes.{expression_answer, domain_answer}
 use Rattle.ess_parse.specs.Machines.{statements_of}
 use Rattle.ess_parse.proofs.StateLaws.{is-specification}
-use Rattle.eprime_machine.specs.ModelMachine.{with_part, part_ended, may_follow}
+use Rattle.eprime_read_laws.specs.ModelMachine.{with_part, part_ended, may_follow}
 use Rattle.eprime_tree.specs.declared.models.PModel.{PModel}
 use Rattle.eprime_read.specs.declared.openings.Opening.{Opening}
 use Rattle.eprime_read.specs.Openings.{word_of}

@@ -6,14 +6,14 @@ use Rattle.ess_semantics.specs.ModelTrees.{Goal, Model}
 use Rattle.ess_grammar.specs.Words.{Token, number, name, Word, given_word, find_word}
 use Rattle.ess_grammar.specs.Readable.{is_name_token, is_number_token}
 use Rattle.ess_grammar.specs.Models.{is_readable_model}
-use Rattle.ess_machine.specs.Modes.{State, nothing_read}
-use Rattle.ess_machine.specs.Machine.{state_after}
-use Rattle.eprime_machine.specs.ModelMachine.{model_scope}
+use Rattle.ess_parse_laws.specs.Modes.{State, nothing_read}
+use Rattle.ess_parse_laws.specs.Machine.{state_after}
+use Rattle.eprime_read_laws.specs.ModelMachine.{model_scope}
 use Rattle.eprime_tree.specs.declared.models.PModel.{PModel}
 use Rattle.eprime_tree.specs.declared.models.PGoal.TheVariants.{Free}
 use Rattle.eprime_tree.specs.Views.{pure_model}
-use Rattle.eprime_convert.specs.declared.lines.Line.{Line}
-use Rattle.eprime_convert.specs.Lines.{scope_of}
+use Rattle.eprime_read_convert.specs.declared.lines.Line.{Line}
+use Rattle.eprime_read_convert.specs.Lines.{scope_of}
 
 -- The lines declare what the model does, and the model is one that some text has.
 pub record IsSound (m : PModel) (ls : List Line) : Type 0 where

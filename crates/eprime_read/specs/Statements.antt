@@ -7,7 +7,7 @@ use Rattle.ess_core.specs.declared.domains.Dom.{Dom}
 use Rattle.ess_core.specs.TreeViews.{pure_dom}
 use Rattle.ess_semantics.specs.Lists.{and_then, each_of}
 use Rattle.ess_grammar.specs.Models.{Scope}
-use Rattle.eprime_convert.specs.Converted.{model_ex}
+use Rattle.eprime_read_convert.specs.Converted.{model_ex}
 
 -- The item of a list that has one.
 abbrev pub only : {A : Type 0} → List A → Option A

@@ -1,7 +1,7 @@
 -- The models and stages that drafts and the machine stand for.
 use Rattle.ess_semantics.specs.ModelTrees.{Model}
-use Rattle.ess_parser.specs.Parsers.{view_parser}
-use Rattle.eprime_machine.specs.ModelMachine.{Stage, at_begin, behind_language, behind_prime, behind_first_number, behind_dot, in_part, first_part}
+use Rattle.ess_parse_machine.specs.Parsers.{view_parser}
+use Rattle.eprime_read_laws.specs.ModelMachine.{Stage, at_begin, behind_language, behind_prime, behind_first_number, behind_dot, in_part, first_part}
 use Rattle.eprime_tree.specs.Views.{pure_model}
 use Rattle.eprime_read.specs.declared.drafts.Draft.{Draft}
 use Rattle.eprime_read.specs.declared.parts.Part.{Part}

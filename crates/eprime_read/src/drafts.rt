@@ -1,6 +1,6 @@
 ghost use Rattle.eprime_read.specs.Drafts.{IsSound};
 
-use eprime_convert::Line;
+use eprime_read_convert::Line;
 use eprime_tree::PModel;
 use ess_rows::Row;
 

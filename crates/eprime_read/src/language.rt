@@ -2,7 +2,7 @@ ghost use Rattle.std.specs.Prelude.{◌≡◌, IfSome};
 ghost use Rattle.std.specs.Option.{option_map};
 ghost use Rattle.ess_semantics.specs.Values.{Text};
 ghost use Rattle.ess_grammar.specs.Kinds.{token};
-ghost use Rattle.eprime_machine.specs.ModelMachine.{model_step};
+ghost use Rattle.eprime_read_laws.specs.ModelMachine.{model_step};
 ghost use Rattle.eprime_read.specs.Views.{view_language, view_machine, IsMachine};
 
 use crate::machine::{LanguageLine, Machine};

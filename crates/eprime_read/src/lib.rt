@@ -2,7 +2,7 @@
 //!
 //! A model is read in parts: a declaration, the objective, the constraints. Each part goes from the word that begins it to
 //! the next word that begins a statement, and is read as a specification of its own; where it ends it is converted, with
-//! the names that earlier lines declare. `Machine` takes token by token, exactly as the machine of `eprime_machine` does,
+//! the names that earlier lines declare. `Machine` takes token by token, exactly as the machine of `eprime_read_laws` does,
 //! and `read_model` runs it over a text.
 #![tactic(auto)]
 

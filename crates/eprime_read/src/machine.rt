@@ -2,7 +2,7 @@ ghost use Rattle.std.specs.Prelude.{◌≡◌, IfOk, IfSome, IsTrue};
 ghost use Rattle.std.specs.Option.{option_map};
 ghost use Rattle.std.specs.Str.{IsAscii};
 ghost use Rattle.ess_grammar.specs.Kinds.{token};
-ghost use Rattle.eprime_machine.specs.ModelMachine.{at_begin, first_part, model_step, model_finish};
+ghost use Rattle.eprime_read_laws.specs.ModelMachine.{at_begin, first_part, model_step, model_finish};
 ghost use Rattle.eprime_tree.specs.Views.{pure_model};
 ghost use Rattle.eprime_read.specs.Drafts.{is_fit_token};
 ghost use Rattle.eprime_read.specs.Views.{view_part, view_machine, IsPart, IsMachine};

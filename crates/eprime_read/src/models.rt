@@ -3,7 +3,7 @@ ghost use Rattle.ess_grammar.specs.ModelTexts.{IsModel, header_lines};
 ghost use Rattle.ess_grammar.specs.Models.{is_readable_model};
 ghost use Rattle.ess_parse.specs.Readers.{IsRefusedFirst, IsDerived, IsAnswered, IsUnread, IsPlaced, IsReadable};
 ghost use Rattle.ess_parse.specs.Runs.{IsReading};
-ghost use Rattle.eprime_machine.specs.ModelMachine.{at_begin, model_step, model_finish};
+ghost use Rattle.eprime_read_laws.specs.ModelMachine.{at_begin, model_step, model_finish};
 ghost use Rattle.eprime_tree.specs.Views.{pure_model};
 
 use crate::header::header_lines;

@@ -3,7 +3,7 @@ ghost use Rattle.std.specs.Option.{option_map};
 ghost use Rattle.ess_semantics.specs.Values.{Text};
 ghost use Rattle.ess_grammar.specs.Words.{word};
 ghost use Rattle.ess_grammar.specs.Kinds.{token};
-ghost use Rattle.eprime_machine.specs.ModelMachine.{begins_part, may_follow, statement_word};
+ghost use Rattle.eprime_read_laws.specs.ModelMachine.{begins_part, may_follow, statement_word};
 ghost use Rattle.eprime_read.specs.Openings.{word_of};
 
 use ess_lex::Kind;

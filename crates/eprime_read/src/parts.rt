@@ -1,6 +1,6 @@
 use crate::drafts::Draft;
 use crate::openings::Opening;
-use ess_parser::Parser;
+use ess_parse_machine::Parser;
 
 /// A part of a model that is being read: a declaration, the objective, or the constraints.
 #[derive(Drop)]

@@ -2,12 +2,12 @@ ghost use Rattle.std.specs.Prelude.{◌≡◌, Some, map};
 ghost use Rattle.std.specs.Option.{option_map};
 ghost use Rattle.ess_core.specs.TreeViews.{pure_ex};
 ghost use Rattle.ess_core.specs.StatementViews.{pure_stm};
-ghost use Rattle.ess_frames.specs.Views.{view_answer};
+ghost use Rattle.ess_parse_frames.specs.Views.{view_answer};
 ghost use Rattle.ess_parse.specs.Machines.{statements_of};
 ghost use Rattle.eprime_read.specs.Statements.{only, given_in, find_in, least_in, greatest_in, pure_named};
 
 use ess_core::{Dom, Ex, Stm};
-use ess_frames::Answer;
+use ess_parse_frames::Answer;
 use ess_rows::{Row, Text};
 
 /// The statements of an answer, if it has any.

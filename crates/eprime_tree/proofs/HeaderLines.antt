@@ -14,8 +14,8 @@ use Rattle.ess_grammar.specs.Places.{is_line_feed}
 use Rattle.ess_grammar.specs.Tokens.{longest_token}
 use Rattle.ess_grammar.specs.Words.{Token, number, prime_word, word, symbol, language_word, dot, given_word, find_word}
 use Rattle.ess_grammar.proofs.Runs.{run-yes, run-no}
-use Rattle.ess_texts.specs.Pieces.{Piece, text_of}
-use Rattle.ess_texts.proofs.TokensBack.{token-back}
+use Rattle.ess_print_laws.specs.Pieces.{Piece, text_of}
+use Rattle.ess_print_laws.proofs.TokensBack.{token-back}
 use Rattle.eprime_tree.specs.ModelText.{language_line, head_lines, declaration_lines, goal_line, such_that_lines, model_text, is_head_line}
 
 abbrev plain_byte : ℕ → Bool

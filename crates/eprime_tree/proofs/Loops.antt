@@ -5,10 +5,10 @@ use Rattle.std.proofs.lemmas.List.{drop_more}
 use Rattle.ess_semantics.specs.Values.{Text}
 use Rattle.ess_semantics.specs.Trees.{Gens, no_gens}
 use Rattle.ess_grammar.specs.Models.{Scope}
-use Rattle.ess_texts.specs.Pieces.{Piece, text_of, Printer}
-use Rattle.ess_texts.specs.Parts.{comma_space, commas}
-use Rattle.ess_texts.specs.Brackets.{starts_generator}
-use Rattle.ess_texts.specs.Expressions.{gens_pieces, before_items}
+use Rattle.ess_print_laws.specs.Pieces.{Piece, text_of, Printer}
+use Rattle.ess_print_laws.specs.Parts.{comma_space, commas}
+use Rattle.ess_print_laws.specs.Brackets.{starts_generator}
+use Rattle.ess_print_laws.specs.Expressions.{gens_pieces, before_items}
 use Rattle.eprime_tree.specs.declared.expressions.PGen.{PGen}
 use Rattle.eprime_tree.specs.Views.{Item, over_item, cond_item, gens_of, pure_gen}
 use Rattle.eprime_tree.specs.Written.{gens_written}

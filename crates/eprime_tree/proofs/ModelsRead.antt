@@ -13,13 +13,13 @@ use Rattle.ess_grammar.specs.ModelTexts.{Declarations, no_declarations, more_dec
 use Rattle.ess_grammar.specs.Places.{is_line_feed}
 use Rattle.ess_grammar.specs.Readable.{is_name_token, ReadableEx, ReadableDom, ReadableDoms}
 use Rattle.ess_grammar.specs.Words.{Word, given_word, find_word, comma, colon}
-use Rattle.ess_texts.specs.Pieces.{Piece, space, next_line, text_of, tokens_of, reserved, sign, named}
-use Rattle.ess_texts.specs.Expressions.{dom_pieces}
-use Rattle.ess_texts.specs.Touching.{Separate}
-use Rattle.ess_texts.proofs.Closing.{free-ends}
-use Rattle.ess_texts.proofs.Expressions.{ex-printed, dom-derived}
-use Rattle.ess_texts.proofs.SafeParts.{Safe, plain, spaced, free, safe}
-use Rattle.ess_texts.proofs.SafeTrees.{ex-safe, dom-safe}
+use Rattle.ess_print_laws.specs.Pieces.{Piece, space, next_line, text_of, tokens_of, reserved, sign, named}
+use Rattle.ess_print_laws.specs.Expressions.{dom_pieces}
+use Rattle.ess_print_laws.specs.Touching.{Separate}
+use Rattle.ess_print_laws.proofs.Closing.{free-ends}
+use Rattle.ess_print_laws.proofs.Expressions.{ex-printed, dom-derived}
+use Rattle.ess_print_laws.proofs.SafeParts.{Safe, plain, spaced, free, safe}
+use Rattle.ess_print_laws.proofs.SafeTrees.{ex-safe, dom-safe}
 use Rattle.eprime_tree.specs.Written.{written, dom_written, doms_written, matrix_over, table_written}
 use Rattle.eprime_tree.specs.ModelText.{language_line, head_lines, declaration_line, declaration_lines, goal_line, constraint_lines, such_that_lines, model_pieces, is_head_line}
 use Rattle.eprime_tree.proofs.ReadableModels.{Each, ReadableGoal, first-table, tables-readable, read_tables, goal-readable, read_goal, rules-readable, whole_scope, parts-are, read_model, model-back}

@@ -6,7 +6,7 @@ use Rattle.std.proofs.lemmas.Option.{slice_get_within, get_or_from_slice_get, sl
 use Rattle.ess_semantics.specs.Values.{Text}
 use Rattle.ess_semantics.specs.Trees.{cell_ex}
 use Rattle.ess_grammar.specs.Models.{Scope, is_truth_table}
-use Rattle.ess_texts.specs.Brackets.{starts_generator, is_written_as_pattern}
+use Rattle.ess_print_laws.specs.Brackets.{starts_generator, is_written_as_pattern}
 use Rattle.eprime_tree.specs.declared.expressions.PEx.{PEx}
 use Rattle.eprime_tree.specs.declared.expressions.PDom.{PDom}
 use Rattle.eprime_tree.specs.declared.expressions.PGen.{PGen}

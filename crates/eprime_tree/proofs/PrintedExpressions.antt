@@ -10,11 +10,11 @@ use Rattle.ess_semantics.specs.Trees.{binary, word, matrix_literal, Ex, number_e
 use Rattle.ess_grammar.specs.Grammar.{one_ex, two_exs}
 use Rattle.ess_grammar.specs.Models.{Scope, is_truth_table}
 use Rattle.ess_grammar.specs.Words.{operator, function, open_round, close_round, open_square, close_square, bar, exclamation}
-use Rattle.ess_texts.specs.TokenTexts.{function_text}
-use Rattle.ess_texts.specs.Pieces.{token, space, piece_text, text_of, sign, named}
-use Rattle.ess_texts.specs.Parts.{commas, bracketed, number_pieces, truth_piece}
-use Rattle.ess_texts.specs.Brackets.{is_operators}
-use Rattle.ess_texts.specs.Expressions.{ex_pieces, gens_pieces, call_printers, operands, wholes}
+use Rattle.ess_print_laws.specs.TokenTexts.{function_text}
+use Rattle.ess_print_laws.specs.Pieces.{token, space, piece_text, text_of, sign, named}
+use Rattle.ess_print_laws.specs.Parts.{commas, bracketed, number_pieces, truth_piece}
+use Rattle.ess_print_laws.specs.Brackets.{is_operators}
+use Rattle.ess_print_laws.specs.Expressions.{ex_pieces, gens_pieces, call_printers, operands, wholes}
 use Rattle.eprime_tree.specs.declared.words.POp1.{POp1}
 use Rattle.eprime_tree.specs.declared.words.POp2.{POp2}
 use Rattle.eprime_tree.specs.declared.words.PFun.{PFun}

@@ -4,10 +4,10 @@ use Rattle.std.specs.Prelude.{codes}
 use Rattle.ess_semantics.specs.Values.{Text}
 use Rattle.ess_grammar.specs.Models.{Scope}
 use Rattle.ess_grammar.specs.Words.{bool_word, int_word, open_round, close_round, colon, dots}
-use Rattle.ess_texts.specs.Pieces.{space, reserved, sign, named}
-use Rattle.ess_texts.specs.Parts.{commas, bracketed}
-use Rattle.ess_texts.specs.Brackets.{is_written_as_pattern}
-use Rattle.ess_texts.specs.Expressions.{ex_pieces, dom_pieces}
+use Rattle.ess_print_laws.specs.Pieces.{space, reserved, sign, named}
+use Rattle.ess_print_laws.specs.Parts.{commas, bracketed}
+use Rattle.ess_print_laws.specs.Brackets.{is_written_as_pattern}
+use Rattle.ess_print_laws.specs.Expressions.{ex_pieces, dom_pieces}
 use Rattle.eprime_tree.specs.declared.expressions.PEx.{PEx}
 use Rattle.eprime_tree.specs.declared.expressions.PGen.{PGen}
 use Rattle.eprime_tree.specs.declared.expressions.PDom.{PDom}

@@ -7,10 +7,10 @@ use Rattle.ess_semantics.specs.Trees.{Ex, Dom}
 use Rattle.ess_semantics.specs.DeclaredTables.{TableDecl}
 use Rattle.ess_grammar.specs.Models.{Scope, empty_scope, with_given, with_find}
 use Rattle.ess_grammar.specs.Words.{Word, given_word, find_word, matrix_word, indexed_word, by_word, of_word, such_word, that_word, minimising_word, maximising_word, open_square, close_square, comma, colon}
-use Rattle.ess_texts.specs.TokenTexts.{word_text}
-use Rattle.ess_texts.specs.Pieces.{Piece, space, next_line, comment, text_of, Printer, reserved, sign, named}
-use Rattle.ess_texts.specs.Parts.{commas}
-use Rattle.ess_texts.specs.Expressions.{ex_pieces, dom_pieces, domains}
+use Rattle.ess_print_laws.specs.TokenTexts.{word_text}
+use Rattle.ess_print_laws.specs.Pieces.{Piece, space, next_line, comment, text_of, Printer, reserved, sign, named}
+use Rattle.ess_print_laws.specs.Parts.{commas}
+use Rattle.ess_print_laws.specs.Expressions.{ex_pieces, dom_pieces, domains}
 use Rattle.eprime_tree.specs.declared.expressions.PEx.{PEx}
 use Rattle.eprime_tree.specs.declared.expressions.PDom.{PDom}
 use Rattle.eprime_tree.specs.declared.models.PDecl.{PDecl}

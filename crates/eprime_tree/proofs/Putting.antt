@@ -8,10 +8,10 @@ use Rattle.ess_semantics.specs.Trees.{Op, Ex}
 use Rattle.ess_grammar.specs.Grammar.{one_ex}
 use Rattle.ess_grammar.specs.Patterns.{is_sum}
 use Rattle.ess_grammar.specs.Words.{operator}
-use Rattle.ess_texts.specs.TokenTexts.{operator_text}
-use Rattle.ess_texts.specs.Pieces.{Piece, token, space, text_of, Printer}
-use Rattle.ess_texts.specs.Brackets.{are_written_as_patterns, begins_as_quantifier}
-use Rattle.ess_texts.specs.Expressions.{ex_pieces, operands, wholes}
+use Rattle.ess_print_laws.specs.TokenTexts.{operator_text}
+use Rattle.ess_print_laws.specs.Pieces.{Piece, token, space, text_of, Printer}
+use Rattle.ess_print_laws.specs.Brackets.{are_written_as_patterns, begins_as_quantifier}
+use Rattle.ess_print_laws.specs.Expressions.{ex_pieces, operands, wholes}
 use Rattle.eprime_tree.specs.Views.{exs_of}
 use Rattle.eprime_tree.specs.Written.{written, all_written}
 use Rattle.eprime_tree.specs.Printed.{Puts, spaced_operator}

@@ -6,7 +6,7 @@ use Rattle.ess_semantics.specs.Trees as pure
 use Rattle.ess_semantics.specs.Trees.{Ends, one_value, both_ends, low_end, high_end, Exs, no_exs, more_exs}
 use Rattle.ess_semantics.proofs.Tests.{and-both}
 use Rattle.ess_grammar.specs.Models.{Scope}
-use Rattle.ess_texts.specs.Expressions.{operands, range_printers}
+use Rattle.ess_print_laws.specs.Expressions.{operands, range_printers}
 use Rattle.eprime_tree.specs.declared.expressions.PRange.{PRange}
 use Rattle.eprime_tree.specs.declared.expressions.PEx.{PEx}
 use Rattle.eprime_tree.specs.declared.expressions.PList.{PList}

@@ -6,8 +6,8 @@ use Rattle.ess_semantics.specs.ModelTrees.{Model}
 use Rattle.ess_grammar.specs.Models.{is_readable_model}
 use Rattle.ess_grammar.specs.ModelTexts.{ReadsModel}
 use Rattle.ess_grammar.specs.Tokens.{lexed, first_outside}
-use Rattle.ess_texts.specs.Pieces.{tokens_of}
-use Rattle.ess_texts.proofs.LexedPieces.{printed-tokens, printed-inside}
+use Rattle.ess_print_laws.specs.Pieces.{tokens_of}
+use Rattle.ess_print_laws.proofs.LexedPieces.{printed-tokens, printed-inside}
 use Rattle.eprime_tree.specs.declared.models.PModel.{PModel}
 use Rattle.eprime_tree.specs.Views.{pure_model}
 use Rattle.eprime_tree.specs.ModelText.{model_pieces, model_text, is_head_line}

@@ -9,8 +9,8 @@ use Rattle.ess_semantics.specs.DeclaredTables.{TableDecl}
 use Rattle.ess_semantics.specs.ModelTrees.{Goal, no_goal, least, greatest, Model}
 use Rattle.ess_grammar.specs.Words.{number, prime_word, Word, language_word, given_word, find_word, such_word, that_word, minimising_word, maximising_word, comma, colon, dot}
 use Rattle.ess_grammar.specs.Places.{is_line_feed}
-use Rattle.ess_texts.specs.Pieces.{Piece, token, space, next_line, indented_line, comment, text_of, Printer, reserved, sign, named}
-use Rattle.ess_texts.specs.Expressions.{ex_pieces, dom_pieces}
+use Rattle.ess_print_laws.specs.Pieces.{Piece, token, space, next_line, indented_line, comment, text_of, Printer, reserved, sign, named}
+use Rattle.ess_print_laws.specs.Expressions.{ex_pieces, dom_pieces}
 use Rattle.eprime_tree.specs.Written.{written, table_written}
 
 -- The language line.

@@ -8,11 +8,11 @@ use Rattle.ess_semantics.specs.Trees.{one_value, both_ends, low_end, high_end, E
 use Rattle.ess_semantics.specs.DeclaredTables.{TableDecl}
 use Rattle.ess_grammar.specs.Words.{Word, matrix_word, indexed_word, by_word, of_word, open_square, close_square, colon, dots}
 use Rattle.ess_grammar.specs.Models.{Scope}
-use Rattle.ess_texts.specs.TokenTexts.{operator_text, function_text, word_text}
-use Rattle.ess_texts.specs.Pieces.{Piece, space, text_of, Printer, reserved, sign, named, within}
-use Rattle.ess_texts.specs.Parts.{commas, bracketed}
-use Rattle.ess_texts.specs.Brackets.{is_written_as_pattern}
-use Rattle.ess_texts.specs.Expressions.{ex_pieces, gens_pieces, dom_pieces, domains}
+use Rattle.ess_print_laws.specs.TokenTexts.{operator_text, function_text, word_text}
+use Rattle.ess_print_laws.specs.Pieces.{Piece, space, text_of, Printer, reserved, sign, named, within}
+use Rattle.ess_print_laws.specs.Parts.{commas, bracketed}
+use Rattle.ess_print_laws.specs.Brackets.{is_written_as_pattern}
+use Rattle.ess_print_laws.specs.Expressions.{ex_pieces, gens_pieces, dom_pieces, domains}
 use Rattle.eprime_tree.specs.declared.words.POp1.{POp1}
 use Rattle.eprime_tree.specs.declared.expressions.PEx.{PEx}
 use Rattle.eprime_tree.specs.declared.expressions.PEx.TheVariants.{One}

@@ -6,12 +6,12 @@ use Rattle.ess_grammar.specs.Words.{Token, word}
 use Rattle.ess_grammar.specs.Readable.{is_plain_letting}
 use Rattle.ess_grammar.specs.Statements.{IsLettingsFile}
 use Rattle.ess_grammar.proofs.LettingsFiles.{are_plain, file-specification}
-use Rattle.ess_machine.specs.Frames.{Frame}
-use Rattle.ess_machine.specs.Modes.{Answer, Mode, State}
-use Rattle.ess_machine.specs.Machine.{then_run, then_state_after}
-use Rattle.ess_machine.specs.Lettings.{is_type_word, lettings_step, lettings_run, lettings_state_after, read_lettings}
-use Rattle.ess_machine.proofs.LettingsRuns.{lettings-complete, lettings-sound, no-file}
-use Rattle.ess_machine.proofs.WholeTexts.{whole-file}
+use Rattle.ess_parse_laws.specs.Frames.{Frame}
+use Rattle.ess_parse_laws.specs.Modes.{Answer, Mode, State}
+use Rattle.ess_parse_laws.specs.Machine.{then_run, then_state_after}
+use Rattle.ess_parse_laws.specs.Lettings.{is_type_word, lettings_step, lettings_run, lettings_state_after, read_lettings}
+use Rattle.ess_parse_laws.proofs.LettingsRuns.{lettings-complete, lettings-sound, no-file}
+use Rattle.ess_parse_laws.proofs.WholeTexts.{whole-file}
 use Rattle.ess_parse.specs.Machines.{LettingsState, behind_token, step_lettings, statements_of, only_lettings, lettings_of, finish_lettings, start_lettings}
 use Rattle.ess_parse.proofs.Runs.{from_state, state_behind, tree_of, IsMachineFor}
 use Rattle.ess_parse.proofs.StateLaws.{is-specification}

@@ -6,7 +6,7 @@ use Rattle.ess_rows.specs.declared.place.Place.{Place}
 use Rattle.ess_semantics.specs.Values.{Text}
 use Rattle.ess_grammar.specs.Tokens.{lexed}
 use Rattle.ess_grammar.specs.Places.{end_place}
-use Rattle.ess_machine.specs.Modes.{Answer, State}
+use Rattle.ess_parse_laws.specs.Modes.{Answer, State}
 use Rattle.ess_parse.specs.declared.refusal.ReadNo.{ReadNo}
 use Rattle.ess_parse.specs.Refusals.{refused_first}
 use Rattle.ess_parse.specs.Runs.{ended, run_over, unless_refused, reading, IsAnswer, narrowed}

@@ -3,8 +3,8 @@ use Rattle.std.proofs.Common.{◌≡◌, refl, sym, ◌∙◌, List, [], ◌∷�
 use Rattle.ess_semantics.specs.Trees.{Repr}
 use Rattle.ess_grammar.specs.Words.{Token, Word, word}
 use Rattle.ess_grammar.specs.Representations.{IsRepresentation}
-use Rattle.ess_machine.specs.RepresentationMachine.{ReprFrame, ReprMode, kind_wanted, kind_read, repr_read, ReprState, repr_step, then_repr_run, repr_run, then_repr_state_after, repr_state_after}
-use Rattle.ess_machine.proofs.RepresentationRuns.{representation-complete, representation-sound, no-representation}
+use Rattle.ess_parse_laws.specs.RepresentationMachine.{ReprFrame, ReprMode, kind_wanted, kind_read, repr_read, ReprState, repr_step, then_repr_run, repr_run, then_repr_state_after, repr_state_after}
+use Rattle.ess_parse_laws.proofs.RepresentationRuns.{representation-complete, representation-sound, no-representation}
 use Rattle.ess_parse.specs.Machines.{step_representation, finish_representation, start_representation}
 use Rattle.ess_parse.proofs.Runs.{from_state, state_behind, tree_of, IsMachineFor, never-behind}
 

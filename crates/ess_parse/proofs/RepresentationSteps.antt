@@ -8,7 +8,7 @@ use Rattle.ess_core.specs.declared.representations.Repr.{Repr, roll-Repr}
 use Rattle.ess_core.specs.declared.representations.Repr.TheFolds.{fold-roll-Repr}
 use Rattle.ess_core.specs.TreeViews.{repr_step, pure_repr}
 use Rattle.ess_grammar.specs.Words.{symbol, comma, close_square}
-use Rattle.ess_machine.specs.RepresentationMachine.{ReprFrame, children_frame, ReprMode, kind_wanted, repr_read, at_repr_state, reverse_reprs, repr_then, repr_finish}
+use Rattle.ess_parse_laws.specs.RepresentationMachine.{ReprFrame, children_frame, ReprMode, kind_wanted, repr_read, at_repr_state, reverse_reprs, repr_then, repr_finish}
 use Rattle.ess_parse.specs.declared.representations.machine.Frame.{Frame}
 use Rattle.ess_parse.specs.RepresentationViews.{reversed_onto, view_frame, frames_onto, view_frames}
 

@@ -5,7 +5,7 @@ use Rattle.std.specs.declared.result.Result.{Result}
 use Rattle.ess_rows.specs.declared.place.Place.{Place}
 use Rattle.ess_grammar.specs.Words.{Token, Word, word}
 use Rattle.ess_grammar.specs.Tokens.{Lexed, the_end, bad_byte, wide_number, next_token, tokens_in}
-use Rattle.ess_machine.specs.StatementEnds.{begins_statement}
+use Rattle.ess_parse_laws.specs.StatementEnds.{begins_statement}
 use Rattle.ess_lex.specs.Lexing.{refusal}
 use Rattle.ess_parse.specs.declared.refusal.ReadNo.{ReadNo}
 use Rattle.ess_parse.specs.Readers.{first_tokens, token_behind}

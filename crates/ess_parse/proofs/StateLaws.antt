@@ -3,16 +3,16 @@ use Rattle.std.proofs.Common.{◌≡◌, refl, sym, ap, ◌∙◌, subst, Bool, 
 use Rattle.ess_semantics.specs.Trees.{Dom, Stm}
 use Rattle.ess_grammar.specs.Words.{Token, Word, word, language_word, given_word, find_word, letting_word, where_word, such_word, minimising_word, maximising_word}
 use Rattle.ess_grammar.specs.Statements.{begins_given, begins_find, begins_letting, begins_where, begins_such_that, Statement, parts_statement, minimising_statement, maximising_statement, Statements, no_statements, more_statements, no_language_line, language_line, IsSpecification, specification, IsDomain}
-use Rattle.ess_machine.specs.Frames.{Frame}
-use Rattle.ess_machine.specs.Modes.{Answer, expression_answer, domain_answer, specification_answer, Mode, State, domain_wanted, nothing_read}
-use Rattle.ess_machine.specs.StatementEnds.{begins_statement}
-use Rattle.ess_machine.specs.Machine.{step, finish, then_run, run, then_state_after, state_after}
-use Rattle.ess_machine.proofs.Complete.{complete-domain}
-use Rattle.ess_machine.proofs.CompleteStatements.{complete-specification}
-use Rattle.ess_machine.proofs.Sound.{IsSound, sound-domain, sound-specification}
-use Rattle.ess_machine.proofs.Places.{no-domain, no-specification}
-use Rattle.ess_machine.proofs.BeforeStatements.{before-statement}
-use Rattle.ess_machine.proofs.WholeTexts.{between, run-ends, whole-specification}
+use Rattle.ess_parse_laws.specs.Frames.{Frame}
+use Rattle.ess_parse_laws.specs.Modes.{Answer, expression_answer, domain_answer, specification_answer, Mode, State, domain_wanted, nothing_read}
+use Rattle.ess_parse_laws.specs.StatementEnds.{begins_statement}
+use Rattle.ess_parse_laws.specs.Machine.{step, finish, then_run, run, then_state_after, state_after}
+use Rattle.ess_parse_laws.proofs.Complete.{complete-domain}
+use Rattle.ess_parse_laws.proofs.CompleteStatements.{complete-specification}
+use Rattle.ess_parse_laws.proofs.Sound.{IsSound, sound-domain, sound-specification}
+use Rattle.ess_parse_laws.proofs.Places.{no-domain, no-specification}
+use Rattle.ess_parse_laws.proofs.BeforeStatements.{before-statement}
+use Rattle.ess_parse_laws.proofs.WholeTexts.{between, run-ends, whole-specification}
 use Rattle.ess_parse.specs.Machines.{step_state, domain_of, finish_domain, start_domain, statements_of, finish_specification, start_specification}
 use Rattle.ess_parse.proofs.Runs.{from_state, state_behind, tree_of, IsMachineFor}
 

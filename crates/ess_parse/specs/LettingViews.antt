@@ -2,7 +2,7 @@
 use Rattle.std.specs.Prelude.{List, map}
 use Rattle.ess_semantics.specs.Trees.{Stm, let_ex, let_enum}
 use Rattle.ess_core.specs.TreeViews.{pure_ex}
-use Rattle.ess_parser.specs.Parsers.{view_parser}
+use Rattle.ess_parse_machine.specs.Parsers.{view_parser}
 use Rattle.ess_parse.specs.Machines.{LettingsState}
 use Rattle.ess_parse.specs.declared.lettings.statements.Letting.{Letting}
 use Rattle.ess_parse.specs.declared.lettings.statements.Letting.TheVariants as L

@@ -7,10 +7,10 @@ use Rattle.ess_semantics.specs.Values.{Text}
 use Rattle.ess_semantics.specs.Trees.{Repr, Dom, Stm}
 use Rattle.ess_grammar.specs.Words.{Token}
 use Rattle.ess_grammar.specs.Readable.{is_plain_letting}
-use Rattle.ess_machine.specs.Modes.{Answer, State, domain_answer, specification_answer, domain_wanted, nothing_read}
-use Rattle.ess_machine.specs.Machine.{step, finish}
-use Rattle.ess_machine.specs.Lettings.{is_type_word, lettings_step}
-use Rattle.ess_machine.specs.RepresentationMachine.{ReprState, kind_wanted, repr_step, repr_finish}
+use Rattle.ess_parse_laws.specs.Modes.{Answer, State, domain_answer, specification_answer, domain_wanted, nothing_read}
+use Rattle.ess_parse_laws.specs.Machine.{step, finish}
+use Rattle.ess_parse_laws.specs.Lettings.{is_type_word, lettings_step}
+use Rattle.ess_parse_laws.specs.RepresentationMachine.{ReprState, kind_wanted, repr_step, repr_finish}
 
 -- ---- representations
 

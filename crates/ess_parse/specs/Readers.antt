@@ -8,7 +8,7 @@ use Rattle.ess_grammar.specs.Words.{Token, Word, word}
 use Rattle.ess_grammar.specs.Tokens.{Lexed, the_end, bad_byte, wide_number, next_token, lexed, tokens}
 use Rattle.ess_grammar.specs.Places.{end_place}
 use Rattle.ess_grammar.specs.Texts.{Reads, IsWithinLimits}
-use Rattle.ess_machine.specs.StatementEnds.{begins_statement}
+use Rattle.ess_parse_laws.specs.StatementEnds.{begins_statement}
 use Rattle.ess_parse.specs.declared.refusal.ReadNo.{ReadNo}
 use Rattle.ess_parse.specs.Refusals.{refused_first}
 

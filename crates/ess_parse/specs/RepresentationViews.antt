@@ -3,7 +3,7 @@ use Rattle.std.specs.Prelude.{List, [], ◌∷◌}
 use Rattle.ess_semantics.specs.Trees.{Reprs, no_reprs, more_reprs}
 use Rattle.ess_core.specs.declared.representations.Repr.{Repr}
 use Rattle.ess_core.specs.TreeViews.{pure_repr}
-use Rattle.ess_machine.specs.RepresentationMachine.{ReprFrame, children_frame, ReprMode, kind_wanted, kind_read, repr_read, ReprState}
+use Rattle.ess_parse_laws.specs.RepresentationMachine.{ReprFrame, children_frame, ReprMode, kind_wanted, kind_read, repr_read, ReprState}
 use Rattle.ess_parse.specs.declared.representations.machine.Frame.{Frame}
 use Rattle.ess_parse.specs.declared.representations.machine.Mode.{Mode}
 use Rattle.ess_parse.specs.declared.representations.machine.Machine.{Machine}

@@ -11,7 +11,7 @@ use crate::parsing::{domain_of, parse};
 use crate::refusal::ReadNo;
 use ess_core::Dom;
 use ess_lex::end_place;
-use ess_parser::Parser;
+use ess_parse_machine::Parser;
 use std::alloc::Global;
 
 /// Reads a domain, as `set (size 2) of int(1..3)` (Essence, Constraints 13, 2008, its grammar of domains).

@@ -4,15 +4,15 @@ ghost use Rattle.ess_grammar.specs.Tokens.{lexed};
 ghost use Rattle.ess_grammar.specs.Places.{end_place};
 ghost use Rattle.ess_core.specs.TreeViews.{pure_dom};
 ghost use Rattle.ess_core.specs.StatementViews.{pure_stm};
-ghost use Rattle.ess_frames.specs.Views.{view_answer};
-ghost use Rattle.ess_parser.specs.Parsers.{view_parser};
+ghost use Rattle.ess_parse_frames.specs.Views.{view_answer};
+ghost use Rattle.ess_parse_machine.specs.Parsers.{view_parser};
 ghost use Rattle.ess_parse.specs.Runs.{IsAnswer, run_over};
 ghost use Rattle.ess_parse.specs.Machines.{step_state, finish_state, domain_of, statements_of};
 
 use crate::refusal::ReadNo;
 use ess_core::{Dom, Row, Stm};
 use ess_lex::{Lexer, end_place};
-use ess_parser::{Answer, Parser};
+use ess_parse_machine::{Answer, Parser};
 use std::alloc::Global;
 
 /// Runs a parser over the tokens of a text.

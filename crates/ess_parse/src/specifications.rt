@@ -11,7 +11,7 @@ use crate::parsing::{parse, statements_of};
 use crate::refusal::ReadNo;
 use ess_core::Spec;
 use ess_lex::end_place;
-use ess_parser::Parser;
+use ess_parse_machine::Parser;
 use std::alloc::Global;
 
 /// Reads a specification: a language line or none, and statements (Essence, Constraints 13, 2008, its grammar of

@@ -4,10 +4,10 @@ use Rattle.ess_semantics.specs.Values.{Text}
 use Rattle.ess_semantics.specs.Trees as pure
 use Rattle.ess_semantics.specs.Trees.{Mark, matrix_dom, set_dom, mset_dom, function_dom, relation_dom, partition_dom}
 use Rattle.ess_grammar.specs.Words.{int_word, matrix_word, indexed_word, by_word, set_word, of_word, mset_word, function_word, relation_word, partition_word, from_word, record_word, tuple_word, open_round, close_round, open_square, close_square, open_curly, close_curly, maps_to}
-use Rattle.ess_texts.specs.Pieces.{Piece, space, Printer, sign, reserved, listed}
-use Rattle.ess_texts.specs.Parts.{commas, times, worded, tuple_pieces}
-use Rattle.ess_texts.specs.Brackets.{begins_as_attributes}
-use Rattle.ess_texts.specs.Expressions.{dom_pieces, argument_pieces}
+use Rattle.ess_print_laws.specs.Pieces.{Piece, space, Printer, sign, reserved, listed}
+use Rattle.ess_print_laws.specs.Parts.{commas, times, worded, tuple_pieces}
+use Rattle.ess_print_laws.specs.Brackets.{begins_as_attributes}
+use Rattle.ess_print_laws.specs.Expressions.{dom_pieces, argument_pieces}
 use Rattle.ess_core.specs.TreeViews.{words_of, within, exs_of, pure_dom, pure_doms, pure_attr, pure_range}
 use Rattle.ess_core.specs.declared.domains.Dom.{Dom}
 use Rattle.ess_core.specs.declared.domains.Dom.TheVariants as variant

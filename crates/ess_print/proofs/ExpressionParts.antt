@@ -8,11 +8,11 @@ use Rattle.ess_semantics.specs.Values.{Text}
 use Rattle.ess_semantics.specs.Trees as pure
 use Rattle.ess_semantics.specs.Trees.{index, application, set_literal, mset_literal, relation_literal, partition_literal, matrix_literal, node_ex, matrix_ex, comp_ex, cell_ex, more_exs, ex2, is_truth_op2}
 use Rattle.ess_grammar.specs.Words.{operator, function, mset_word, relation_word, partition_word, function_word, record_word, tuple_word, open_round, close_round, open_square, close_square, open_curly, close_curly, semicolon, bar}
-use Rattle.ess_texts.specs.TokenTexts.{function_text}
-use Rattle.ess_texts.specs.Pieces.{Piece, token, space, Printer, sign, named, reserved}
-use Rattle.ess_texts.specs.Parts.{comma_space, commas, bracketed, tuple_pieces}
-use Rattle.ess_texts.specs.Brackets.{begins_as_quantifier}
-use Rattle.ess_texts.specs.Expressions.{ex_pieces, gens_pieces, dom_pieces, operands, call_printers, index_pieces}
+use Rattle.ess_print_laws.specs.TokenTexts.{function_text}
+use Rattle.ess_print_laws.specs.Pieces.{Piece, token, space, Printer, sign, named, reserved}
+use Rattle.ess_print_laws.specs.Parts.{comma_space, commas, bracketed, tuple_pieces}
+use Rattle.ess_print_laws.specs.Brackets.{begins_as_quantifier}
+use Rattle.ess_print_laws.specs.Expressions.{ex_pieces, gens_pieces, dom_pieces, operands, call_printers, index_pieces}
 use Rattle.ess_core.specs.TreeViews.{words_of, within, exs_of, pure_ex, pure_exs, pure_gens, pure_step, pure_dom}
 use Rattle.ess_core.specs.declared.domains.Dom.{Dom}
 use Rattle.ess_core.specs.declared.expressions.Ex.{Ex}

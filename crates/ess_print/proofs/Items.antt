@@ -12,11 +12,11 @@ use Rattle.ess_semantics.specs.declared.words.Key.{Key}
 use Rattle.ess_semantics.specs.declared.words.Op2.{Op2}
 use Rattle.ess_semantics.specs.Values.{Text}
 use Rattle.ess_grammar.specs.Words.{operator, colon, maps_to}
-use Rattle.ess_texts.specs.Pieces.{Piece, token, space, Printer, sign, named}
-use Rattle.ess_texts.specs.Parts.{comma_space, commas, bracketed, pat_printers, pat_pieces, name_printers}
-use Rattle.ess_texts.specs.Brackets.{starts_generator}
-use Rattle.ess_texts.specs.Expressions.{ex_pieces, gens_pieces, before_items, pair_pieces, dom_pieces, wholes, operands, domains, call_printers, range_printers, mark_printers, field_printers, field_domains}
-use Rattle.ess_texts.specs.Statements.{repr_pieces, children}
+use Rattle.ess_print_laws.specs.Pieces.{Piece, token, space, Printer, sign, named}
+use Rattle.ess_print_laws.specs.Parts.{comma_space, commas, bracketed, pat_printers, pat_pieces, name_printers}
+use Rattle.ess_print_laws.specs.Brackets.{starts_generator}
+use Rattle.ess_print_laws.specs.Expressions.{ex_pieces, gens_pieces, before_items, pair_pieces, dom_pieces, wholes, operands, domains, call_printers, range_printers, mark_printers, field_printers, field_domains}
+use Rattle.ess_print_laws.specs.Statements.{repr_pieces, children}
 use Rattle.ess_core.specs.TreeViews.{With, words_of, within, Item, over_item, from_item, cond_item, exs_of, gens_of, field_values, pats_of, span, attribute, pure_range, pure_attr, pure_step, pure_gen, pure_gens, pure_ex, pure_exs, pure_dom, pure_doms, pure_pat, pure_repr, pure_field_dom, pure_field_ex, pure_pair_ex}
 use Rattle.ess_core.specs.declared.representations.Repr.{Repr}
 use Rattle.ess_core.specs.declared.expressions.Pat.{Pat}

@@ -13,7 +13,7 @@ use Rattle.ess_semantics.specs.Trees as pure
 use Rattle.ess_semantics.specs.Trees.{Doms, no_doms, more_doms, bool_dom, int_dom, name_dom, tuple_dom, record_dom, matrix_dom, set_dom, mset_dom, function_dom, relation_dom, partition_dom}
 use Rattle.ess_grammar.specs.Words.{same_text, look, keys, key_of}
 use Rattle.ess_grammar.specs.Patterns.{are_several}
-use Rattle.ess_texts.specs.Brackets.{are_none, is_written_as_pattern, are_written_as_patterns, begins_as_attributes}
+use Rattle.ess_print_laws.specs.Brackets.{are_none, is_written_as_pattern, are_written_as_patterns, begins_as_attributes}
 use Rattle.ess_core.specs.TreeViews.{pure_ex, pure_exs, pure_dom, pure_doms}
 use Rattle.ess_core.specs.declared.domains.Dom.{Dom}
 use Rattle.ess_core.specs.declared.expressions.Ex.{Ex}

@@ -5,13 +5,13 @@ use Rattle.ess_semantics.specs.Trees.{Repr, Stm}
 use Rattle.ess_grammar.specs.Statements.{Statement, IsSpecification}
 use Rattle.ess_grammar.specs.Representations.{IsRepresentation}
 use Rattle.ess_grammar.specs.Readable.{ReadableStm}
-use Rattle.ess_texts.specs.Statements.{stm_pieces, repr_pieces}
-use Rattle.ess_texts.specs.Texts.{stm_text, repr_text}
-use Rattle.ess_texts.specs.Laws.{ReadsInProfile}
-use Rattle.ess_texts.proofs.LexedPieces.{printed-tokens, printed-inside}
-use Rattle.ess_texts.proofs.SafeTrees.{stm-safe, repr-safe}
-use Rattle.ess_texts.proofs.Statements.{stm-derived, stm-specification}
-use Rattle.ess_texts.proofs.Representations.{repr-derived}
+use Rattle.ess_print_laws.specs.Statements.{stm_pieces, repr_pieces}
+use Rattle.ess_print_laws.specs.Texts.{stm_text, repr_text}
+use Rattle.ess_print_laws.specs.Laws.{ReadsInProfile}
+use Rattle.ess_print_laws.proofs.LexedPieces.{printed-tokens, printed-inside}
+use Rattle.ess_print_laws.proofs.SafeTrees.{stm-safe, repr-safe}
+use Rattle.ess_print_laws.proofs.Statements.{stm-derived, stm-specification}
+use Rattle.ess_print_laws.proofs.Representations.{repr-derived}
 use Rattle.ess_print.specs.Written.{Puts}
 use Rattle.ess_print.proofs.Writing.{puts-all}
 

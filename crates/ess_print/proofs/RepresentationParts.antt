@@ -4,10 +4,10 @@ use Rattle.ess_semantics.specs.Values.{Text}
 use Rattle.ess_semantics.specs.Choice.{reprs_of}
 use Rattle.ess_semantics.specs.Trees as pure
 use Rattle.ess_grammar.specs.Words.{open_square, close_square}
-use Rattle.ess_texts.specs.TokenTexts.{kind_text}
-use Rattle.ess_texts.specs.Pieces.{Printer, sign, named}
-use Rattle.ess_texts.specs.Parts.{commas}
-use Rattle.ess_texts.specs.Statements.{repr_pieces, children_pieces}
+use Rattle.ess_print_laws.specs.TokenTexts.{kind_text}
+use Rattle.ess_print_laws.specs.Pieces.{Printer, sign, named}
+use Rattle.ess_print_laws.specs.Parts.{commas}
+use Rattle.ess_print_laws.specs.Statements.{repr_pieces, children_pieces}
 use Rattle.ess_core.specs.TreeViews.{pure_repr}
 use Rattle.ess_core.specs.declared.representations.Repr.{Repr}
 use Rattle.ess_core.specs.declared.representations.Repr.TheViews.{out-Repr}

@@ -4,10 +4,10 @@ use Rattle.ess_semantics.specs.Values.{Text}
 use Rattle.ess_semantics.specs.Trees as pure
 use Rattle.ess_semantics.specs.Trees.{let_dom, let_enum, let_unnamed}
 use Rattle.ess_grammar.specs.Words.{new_word, type_word, enum_word, domain_word, of_word, open_curly, close_curly}
-use Rattle.ess_texts.specs.Pieces.{space, sign, named, reserved}
-use Rattle.ess_texts.specs.Parts.{commas, name_printers}
-use Rattle.ess_texts.specs.Expressions.{ex_pieces, dom_pieces}
-use Rattle.ess_texts.specs.Statements.{stm_pieces, let_be}
+use Rattle.ess_print_laws.specs.Pieces.{space, sign, named, reserved}
+use Rattle.ess_print_laws.specs.Parts.{commas, name_printers}
+use Rattle.ess_print_laws.specs.Expressions.{ex_pieces, dom_pieces}
+use Rattle.ess_print_laws.specs.Statements.{stm_pieces, let_be}
 use Rattle.ess_core.specs.TreeViews.{pure_ex, pure_dom}
 use Rattle.ess_core.specs.StatementViews.{pure_stm}
 use Rattle.ess_core.specs.declared.domains.Dom.{Dom}

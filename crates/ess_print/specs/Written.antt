@@ -10,12 +10,12 @@ use Rattle.ess_semantics.specs.Kinds.{doms_of}
 use Rattle.ess_semantics.specs.Trees as pure
 use Rattle.ess_semantics.specs.Trees.{word, function_literal, record_literal, Ends, Mark, Exs, node_ex, ex1, int_dom, name_dom, record_dom}
 use Rattle.ess_grammar.specs.Words.{same_text, keys, open_square, close_square, semicolon, colon, drawn_from}
-use Rattle.ess_texts.specs.TokenTexts.{operator_text}
-use Rattle.ess_texts.specs.Pieces.{Piece, piece_text, text_of, Printer, space, sign}
-use Rattle.ess_texts.specs.Pieces as pieces
-use Rattle.ess_texts.specs.Parts.{commas, bracketed, pat_pieces}
-use Rattle.ess_texts.specs.Brackets.{is_operators, is_written_as_pattern, begins_as_attributes}
-use Rattle.ess_texts.specs.Expressions.{ex_pieces, dom_pieces, wholes, operands, range_printers, mark_printers, attributes_pieces}
+use Rattle.ess_print_laws.specs.TokenTexts.{operator_text}
+use Rattle.ess_print_laws.specs.Pieces.{Piece, piece_text, text_of, Printer, space, sign}
+use Rattle.ess_print_laws.specs.Pieces as pieces
+use Rattle.ess_print_laws.specs.Parts.{commas, bracketed, pat_pieces}
+use Rattle.ess_print_laws.specs.Brackets.{is_operators, is_written_as_pattern, begins_as_attributes}
+use Rattle.ess_print_laws.specs.Expressions.{ex_pieces, dom_pieces, wholes, operands, range_printers, mark_printers, attributes_pieces}
 use Rattle.ess_core.specs.TreeViews.{With, words_of, within, Item, over_item, from_item, cond_item, exs_of, field_values, pure_range, pure_step, pure_attr, pure_dom, pure_field_dom, pure_field_ex, pure_pair_ex}
 use Rattle.ess_core.specs.declared.domains.Dom.{Dom}
 use Rattle.ess_core.specs.declared.domains.FieldDom.{FieldDom}

@@ -1,7 +1,7 @@
 // Which parts stand in brackets, or behind a word, so that the text is read as its tree.
 ghost use Rattle.std.specs.Prelude.{◌≡◌, ◌&&◌, map};
 ghost use Rattle.ess_grammar.specs.Patterns.{are_several};
-ghost use Rattle.ess_texts.specs.Brackets.{is_operators, is_written_as_pattern, are_written_as_patterns, begins_as_quantifier, begins_as_attributes};
+ghost use Rattle.ess_print_laws.specs.Brackets.{is_operators, is_written_as_pattern, are_written_as_patterns, begins_as_quantifier, begins_as_attributes};
 ghost use Rattle.ess_core.specs.TreeViews.{words_of, pure_ex, pure_exs, pure_dom, pure_attr};
 ghost use Rattle.ess_print.specs.Written.{only_first, argument_opening, names_attribute};
 

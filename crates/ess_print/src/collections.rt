@@ -1,7 +1,7 @@
 ghost use Rattle.std.specs.Prelude.{OnOk};
 ghost use Rattle.ess_core.specs.TreeViews.{pure_exs};
-ghost use Rattle.ess_texts.specs.Parts.{tuple_pieces};
-ghost use Rattle.ess_texts.specs.Expressions.{operands, wholes};
+ghost use Rattle.ess_print_laws.specs.Parts.{tuple_pieces};
+ghost use Rattle.ess_print_laws.specs.Expressions.{operands, wholes};
 ghost use Rattle.ess_print.specs.Written.{Puts, record_pieces, function_pieces};
 
 use crate::expressions::{put_between, put_ex};

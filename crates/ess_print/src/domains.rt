@@ -1,8 +1,8 @@
 ghost use Rattle.std.specs.Prelude.{OnOk};
 ghost use Rattle.ess_core.specs.TreeViews.{pure_dom, pure_doms, pure_range, pure_attr};
-ghost use Rattle.ess_texts.specs.Parts.{commas, times, tuple_pieces};
-ghost use Rattle.ess_texts.specs.Pieces.{listed};
-ghost use Rattle.ess_texts.specs.Expressions.{dom_pieces, domains};
+ghost use Rattle.ess_print_laws.specs.Parts.{commas, times, tuple_pieces};
+ghost use Rattle.ess_print_laws.specs.Pieces.{listed};
+ghost use Rattle.ess_print_laws.specs.Expressions.{dom_pieces, domains};
 ghost use Rattle.ess_print.specs.Written.{Puts, int_pieces, range_pieces, record_dom_pieces, attrs_pieces, attr_pieces};
 
 use crate::brackets::before_argument;

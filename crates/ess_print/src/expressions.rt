@@ -1,7 +1,7 @@
 ghost use Rattle.std.specs.Prelude.{OnOk};
 ghost use Rattle.ess_core.specs.TreeViews.{pure_ex, pure_exs};
-ghost use Rattle.ess_texts.specs.Parts.{commas, bracketed};
-ghost use Rattle.ess_texts.specs.Expressions.{ex_pieces, operands, wholes};
+ghost use Rattle.ess_print_laws.specs.Parts.{commas, bracketed};
+ghost use Rattle.ess_print_laws.specs.Expressions.{ex_pieces, operands, wholes};
 ghost use Rattle.ess_print.specs.Written.{Puts, PutsBetween, operand_of, one_pieces, call_pieces, steps_pieces, axis_pieces};
 
 use crate::brackets::{is_first_in_brackets, is_operation, would_begin_quantifier};

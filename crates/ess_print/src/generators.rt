@@ -1,7 +1,7 @@
 ghost use Rattle.std.specs.Prelude.{◌≡◌, OnOk, drop};
 ghost use Rattle.ess_core.specs.TreeViews.{pure_gens, pure_gen};
-ghost use Rattle.ess_texts.specs.Brackets.{starts_generator};
-ghost use Rattle.ess_texts.specs.Expressions.{gens_pieces};
+ghost use Rattle.ess_print_laws.specs.Brackets.{starts_generator};
+ghost use Rattle.ess_print_laws.specs.Expressions.{gens_pieces};
 ghost use Rattle.ess_print.specs.Written.{Puts, item_pieces};
 
 use crate::brackets::is_pattern;

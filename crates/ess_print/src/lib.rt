@@ -1,6 +1,6 @@
 //! The printing of specifications: the text of a statement and of a representation.
 //!
-//! Which text a tree has is defined in `ess_texts`. Each function here writes a part of a tree behind a text that is already
+//! Which text a tree has is defined in `ess_print_laws`. Each function here writes a part of a tree behind a text that is already
 //! there. An operand of an operator stands in brackets where it is itself an operator's expression, and some other parts do
 //! that would be read as something else.
 #![tactic(auto)]

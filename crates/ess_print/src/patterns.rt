@@ -1,6 +1,6 @@
 ghost use Rattle.std.specs.Prelude.{OnOk, map};
 ghost use Rattle.ess_core.specs.TreeViews.{pure_pat, pats_of};
-ghost use Rattle.ess_texts.specs.Parts.{commas, pat_pieces, pat_printers};
+ghost use Rattle.ess_print_laws.specs.Parts.{commas, pat_pieces, pat_printers};
 ghost use Rattle.ess_print.specs.Written.{Puts};
 
 use crate::parts::put_comma;

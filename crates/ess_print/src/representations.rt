@@ -3,8 +3,8 @@ ghost use Rattle.ess_core.specs.TreeViews.{pure_repr};
 ghost use Rattle.ess_grammar.specs.Tokens.{lexed, first_outside};
 ghost use Rattle.ess_grammar.specs.Texts.{ReadsRepresentation};
 ghost use Rattle.ess_semantics.specs.Choice.{reprs_of};
-ghost use Rattle.ess_texts.specs.Texts.{repr_text};
-ghost use Rattle.ess_texts.specs.Statements.{repr_pieces, children, children_pieces};
+ghost use Rattle.ess_print_laws.specs.Texts.{repr_text};
+ghost use Rattle.ess_print_laws.specs.Statements.{repr_pieces, children, children_pieces};
 ghost use Rattle.ess_print.specs.Written.{Puts};
 
 use crate::parts::put_comma;

@@ -5,10 +5,10 @@ ghost use Rattle.ess_grammar.specs.Readable.{ReadableStm};
 ghost use Rattle.ess_grammar.specs.Texts.{Reads, ReadsSpecification};
 ghost use Rattle.ess_core.specs.StatementViews.{pure_stm};
 ghost use Rattle.ess_core.specs.TreeViews.{pure_dom, pure_ex};
-ghost use Rattle.ess_texts.specs.Parts.{commas, name_printers};
-ghost use Rattle.ess_texts.specs.Texts.{stm_text};
-ghost use Rattle.ess_texts.specs.Expressions.{ex_pieces, dom_pieces};
-ghost use Rattle.ess_texts.specs.Statements.{stm_pieces, declared, let_be};
+ghost use Rattle.ess_print_laws.specs.Parts.{commas, name_printers};
+ghost use Rattle.ess_print_laws.specs.Texts.{stm_text};
+ghost use Rattle.ess_print_laws.specs.Expressions.{ex_pieces, dom_pieces};
+ghost use Rattle.ess_print_laws.specs.Statements.{stm_pieces, declared, let_be};
 ghost use Rattle.ess_print.specs.Written.{Puts};
 
 use crate::domains::put_dom;

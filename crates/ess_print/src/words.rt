@@ -2,9 +2,9 @@
 ghost use Rattle.std.specs.Prelude.{◌≡◌};
 ghost use Rattle.std.specs.List.{list_any};
 ghost use Rattle.ess_grammar.specs.Words.{same_text};
-ghost use Rattle.ess_texts.specs.TokenTexts.{function_text, key_text, kind_text};
-ghost use Rattle.ess_texts.specs.Pieces.{piece_text};
-ghost use Rattle.ess_texts.specs.Parts.{truth_piece};
+ghost use Rattle.ess_print_laws.specs.TokenTexts.{function_text, key_text, kind_text};
+ghost use Rattle.ess_print_laws.specs.Pieces.{piece_text};
+ghost use Rattle.ess_print_laws.specs.Parts.{truth_piece};
 ghost use Rattle.ess_print.specs.Written.{spaced_operator, key_names};
 
 use ess_core::{Fun, Key, Op2, ReprKind};

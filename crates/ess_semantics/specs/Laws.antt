@@ -1,20 +1,17 @@
 -- Laws over the definitions, each stated at a function that does nothing, so that its proof is checked with the code.
-use Rattle.std.specs.Prelude.{◌≡◌, Bool, true, not, List, ◌∷◌, Some}
+use Rattle.std.specs.Prelude.{◌≡◌, Bool, true, List, Some}
 use Rattle.std.specs.Cmp.{IsTotalOrder}
 use Rattle.std.specs.declared.cmp.Ordering.TheVariants.{Equal}
-use Rattle.ess_semantics.specs.Values.{Text, Value, truth, items_of, itself}
-use Rattle.ess_semantics.specs.Order.{order, same_text}
+use Rattle.ess_semantics.specs.Values.{Value, truth, items_of, itself}
+use Rattle.ess_semantics.specs.Order.{order}
 use Rattle.ess_semantics.specs.Collections.{holds, rises, set_of}
 use Rattle.ess_semantics.specs.Names.{Names}
 use Rattle.ess_semantics.specs.Tables.{Table}
-use Rattle.ess_semantics.specs.Trees.{Op, Ex, Exs, node_ex, Stm}
+use Rattle.ess_semantics.specs.Trees.{Op, Exs, node_ex, Stm}
 use Rattle.ess_semantics.specs.Types.{Ty, is_bool}
 use Rattle.ess_semantics.specs.Typing.{type_of}
 use Rattle.ess_semantics.specs.Resolving.{resolve}
-use Rattle.ess_semantics.specs.Substitution.{NamesAre}
 use Rattle.ess_semantics.specs.Meaning.{Env, meaning}
-use Rattle.ess_semantics.specs.Contexts.{In, fill, Where}
-use Rattle.ess_semantics.specs.Kept.{Kept}
 use Rattle.ess_semantics.specs.Assignments.{Assignment}
 use Rattle.ess_semantics.specs.Parameters.{Param, fits_param, param_verdict}
 use Rattle.ess_semantics.specs.Solutions.{Sol, valid, verdict}
@@ -36,20 +33,6 @@ SetsHaveTheirMembers = (xs : List Value) → (rises itself (items_of (set_of xs)
 abbrev pub BooleansHaveTruthValues : Type 0
 BooleansHaveTruthValues = (b : Bool) (op : Op) (es : Exs) (g : Names Ty) (env : Env) → is_bool (type_of (node_ex b op es) g) ≡ true →
     (t : Bool) × (meaning (resolve (node_ex b op es) g) env ≡ Some (truth t))
-
--- A value of a name that doesn't occur in an expression changes no meaning, with tables or without. So a bound name may be
--- any name that occurs nowhere else.
-abbrev pub UnusedNamesChangeNothing : Type 0
-UnusedNamesChangeNothing = (x : Text) (v : Value) (e : Ex) (env : Env) → NamesAre (λ a. not (same_text x a)) (λ a. true) e →
-    meaning e (record env { vals = (x, v) ∷ env.vals }) ≡ meaning e env
-
--- A part of a tree may be replaced by one that means the same wherever the context of the part holds.
-abbrev pub PartsMayBeReplaced : Type 0
-PartsMayBeReplaced = (c : In) (a b : Ex) (env : Env) → Where c env (λ here. meaning a here ≡ meaning b here) → meaning (fill c a) env ≡ meaning (fill c b) env
-
--- A rule that keeps a part, used anywhere in a tree, keeps the whole.
-abbrev pub KeptPartsKeepTheWhole : Type 0
-KeptPartsKeepTheWhole = (c : In) (old new : Ex) → Kept old new → Kept (fill c old) (fill c new)
 
 -- A parameter is one exactly where the verdict says that it fits.
 abbrev pub ParameterFits : Type 0

@@ -1,6 +1,6 @@
 //! Laws over the definitions, each the contract of a function that does nothing.
 
-ghost use Rattle.ess_semantics.specs.Laws.{OrderIsTotal, SetsHaveTheirMembers, BooleansHaveTruthValues, ParameterFits, SolutionIsValid, StoodForIsSolution, UnusedNamesChangeNothing, PartsMayBeReplaced, KeptPartsKeepTheWhole};
+ghost use Rattle.ess_semantics.specs.Laws.{OrderIsTotal, SetsHaveTheirMembers, BooleansHaveTruthValues, ParameterFits, SolutionIsValid, StoodForIsSolution};
 
 /// The order of values is total, and Equal only at equal values.
 pub fn order_is_total()
@@ -17,24 +17,6 @@ pub fn booleans_have_truth_values()
     ensures { BooleansHaveTruthValues }
 {}
 
-/// A value of a name that doesn't occur in an expression changes no meaning. So a bound name may be any name that occurs
-/// nowhere else.
-pub fn unused_names_change_nothing()
-    ensures { UnusedNamesChangeNothing }
-{}
-
-/// A part of a tree may be replaced by one that means the same wherever the context of the part holds: at the bindings
-/// of the generators in scope at which the conditions before it hold, and where the left operands of `/\` and `->` are
-/// true whose right operands hold it.
-pub fn parts_may_be_replaced()
-    ensures { PartsMayBeReplaced }
-{}
-
-/// A rule that keeps a part, used anywhere in a tree, keeps the whole: its meaning, and that tables meet its structures.
-pub fn kept_parts_keep_the_whole()
-    ensures { KeptPartsKeepTheWhole }
-{}
-
 /// A parameter is one exactly where the verdict says that it fits.
 pub fn parameter_fits()
     ensures { ParameterFits }
@@ -49,22 +31,3 @@ pub fn solution_is_valid()
 pub fn stood_for_is_solution()
     ensures { StoodForIsSolution }
 {}
-
-#[cfg(test)]
-mod tests {
-    use super::*;
-
-    #[test]
-    fn laws_do_nothing(rt: HostRuntime) {
-        order_is_total();
-        sets_have_their_members();
-        booleans_have_truth_values();
-        unused_names_change_nothing();
-        parts_may_be_replaced();
-        kept_parts_keep_the_whole();
-        parameter_fits();
-        solution_is_valid();
-        stood_for_is_solution();
-        assert!(rt; true);
-    }
-}

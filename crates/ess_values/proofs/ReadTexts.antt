@@ -3,18 +3,18 @@ use Rattle.std.proofs.Common.{◌≡◌, ◌∙◌, ℕ, [], refl, sym, subst}
 use Rattle.std.specs.Prelude.{IsTrue}
 use Rattle.ess_semantics.specs.Values.{Text, Value}
 use Rattle.ess_grammar.specs.ValueTexts.{value_text, literal_of}
-use Rattle.ess_texts.specs.Expressions.{ex_pieces}
-use Rattle.ess_texts.specs.Laws.{ReadsInProfile, IsClosedExpression}
-use Rattle.ess_texts.specs.Spelled.{is_spelled}
+use Rattle.ess_print_laws.specs.Expressions.{ex_pieces}
+use Rattle.ess_print_laws.specs.Laws.{ReadsInProfile, IsClosedExpression}
+use Rattle.ess_print_laws.specs.Spelled.{is_spelled}
 use Rattle.ess_semantics.specs.Meaning.{Env}
-use Rattle.ess_literals.specs.ItemNames.{item_name}
-use Rattle.ess_literals.specs.Laws.{ReadsBack, ReadsAsValue}
-use Rattle.ess_literals.proofs.ReadBack.{read-back, readable-spelled}
-use Rattle.ess_texts.proofs.LexedPieces.{printed-tokens, printed-inside}
-use Rattle.ess_texts.proofs.SafeTrees.{ex-safe}
-use Rattle.ess_texts.proofs.Expressions.{ex-printed}
-use Rattle.ess_texts.proofs.ValueTexts.{value-text-is}
-use Rattle.ess_texts.proofs.SpelledReadable.{value-readable}
+use Rattle.ess_values_laws.specs.ItemNames.{item_name}
+use Rattle.ess_values_laws.specs.Laws.{ReadsBack, ReadsAsValue}
+use Rattle.ess_values_laws.proofs.ReadBack.{read-back, readable-spelled}
+use Rattle.ess_print_laws.proofs.LexedPieces.{printed-tokens, printed-inside}
+use Rattle.ess_print_laws.proofs.SafeTrees.{ex-safe}
+use Rattle.ess_print_laws.proofs.Expressions.{ex-printed}
+use Rattle.ess_print_laws.proofs.ValueTexts.{value-text-is}
+use Rattle.ess_print_laws.proofs.SpelledReadable.{value-readable}
 
 pub value_is_read : (name_of : Text → ℕ → Text) (v : Value) (t : Text) → t ≡ value_text name_of v → IsTrue (is_spelled name_of v) → ReadsInProfile t (IsClosedExpression (literal_of name_of v))
 value_is_read name_of v t is h =

@@ -11,7 +11,7 @@ ghost use Rattle.ess_semantics.specs.Order.{same_text};
 ghost use Rattle.ess_semantics.specs.Meaning.{type_entry};
 ghost use Rattle.ess_core.specs.TableViews.{pure_type_entry, pure_type_entries};
 ghost use Rattle.ess_semantics.specs.Assignments.{unnamed_name};
-ghost use Rattle.ess_literals.specs.ItemNames.{name_at, entry_name, item_name};
+ghost use Rattle.ess_values_laws.specs.ItemNames.{name_at, entry_name, item_name};
 
 use crate::literals::Literal;
 use crate::shapes::Shape;

@@ -4,10 +4,10 @@ ghost use Rattle.ess_semantics.specs.Names.{keys};
 ghost use Rattle.ess_core.specs.ValueViews.{pure_val, pure_vals, pure_field_val, pure_pair};
 ghost use Rattle.ess_core.specs.TableViews.{pure_type_entries, pure_env};
 ghost use Rattle.ess_grammar.specs.ValueTexts.{literal_of, value_text, value_texts, pair_texts, field_texts, with_commas, tuple_text, index_text, number_text, runs_text, runs_of};
-ghost use Rattle.ess_texts.specs.Spelled.{is_spelled};
-ghost use Rattle.ess_texts.specs.Laws.{ReadsInProfile, IsClosedExpression};
-ghost use Rattle.ess_literals.specs.ItemNames.{item_name};
-ghost use Rattle.ess_literals.specs.Laws.{ReadsBack};
+ghost use Rattle.ess_print_laws.specs.Spelled.{is_spelled};
+ghost use Rattle.ess_print_laws.specs.Laws.{ReadsInProfile, IsClosedExpression};
+ghost use Rattle.ess_values_laws.specs.ItemNames.{item_name};
+ghost use Rattle.ess_values_laws.specs.Laws.{ReadsBack};
 ghost use Rattle.ess_values.specs.Printing.{comma_before, matrix_end, pair_text};
 ghost use Rattle.ess_values.specs.Runs.{pure_run, pure_runs};
 

@@ -1,7 +1,7 @@
 // Expressions of models as they are printed.
 ghost use Rattle.std.specs.Prelude.{◌≡◌, OnOk};
 ghost use Rattle.ess_grammar.specs.Models.{Scope};
-ghost use Rattle.ess_texts.specs.Brackets.{is_operators, is_written_as_pattern};
+ghost use Rattle.ess_print_laws.specs.Brackets.{is_operators, is_written_as_pattern};
 ghost use Rattle.eprime_tree.specs.Printed.{read_ex, PrintsEx, PrintsOne, PrintsBracketed, PrintsList};
 
 use super::lists::{print_exs, print_gens};

@@ -1,7 +1,7 @@
 // Items with commas between, generators and domains of models as they are printed.
 ghost use Rattle.std.specs.Prelude.{◌≡◌, ◌&&◌, OnOk, map, drop};
 ghost use Rattle.ess_grammar.specs.Models.{Scope};
-ghost use Rattle.ess_texts.specs.Brackets.{starts_generator, is_written_as_pattern};
+ghost use Rattle.ess_print_laws.specs.Brackets.{starts_generator, is_written_as_pattern};
 ghost use Rattle.eprime_tree.specs.Views.{gens_of, pure_gen};
 ghost use Rattle.eprime_tree.specs.Written.{gens_written};
 ghost use Rattle.eprime_tree.specs.Printed.{read_ex, PrintsExs, PrintsGens, PrintsItem, PrintsDom, PrintsRanges, PrintsRange, PrintsBound};

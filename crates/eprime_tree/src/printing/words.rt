@@ -1,7 +1,7 @@
 // The texts of words and operators.
 ghost use Rattle.std.specs.Prelude.{◌≡◌, OnOk, ◌++◌};
-ghost use Rattle.ess_texts.specs.Pieces.{piece_text};
-ghost use Rattle.ess_texts.specs.Parts.{truth_piece};
+ghost use Rattle.ess_print_laws.specs.Pieces.{piece_text};
+ghost use Rattle.ess_print_laws.specs.Parts.{truth_piece};
 ghost use Rattle.eprime_tree.specs.Views.{pure_op2, pure_fun};
 ghost use Rattle.eprime_tree.specs.Printed.{comma_before, line_before, spaced_operator, opened_call};
 

@@ -3,7 +3,7 @@ ghost use Rattle.std.specs.Option.{option_map};
 ghost use Rattle.std.specs.Str.{IsAscii};
 ghost use Rattle.ess_semantics.specs.Values.{Text};
 ghost use Rattle.ess_grammar.specs.Kinds.{token};
-ghost use Rattle.ess_machine.specs.Lettings.{may_stand, is_type_word};
+ghost use Rattle.ess_parse_laws.specs.Lettings.{may_stand, is_type_word};
 ghost use Rattle.ess_parse.specs.LettingViews.{pure_lettings, view_machine};
 ghost use Rattle.ess_parse.specs.Machines.{step_lettings, finish_lettings, start_lettings};
 
@@ -11,7 +11,7 @@ use super::statements::{Lettings, lettings_of};
 use crate::parsing::statements_of;
 use ess_core::NoMemory;
 use ess_lex::Kind;
-use ess_parser::Parser;
+use ess_parse_machine::Parser;
 use std::alloc::Global;
 
 /// Reads a file of lettings token by token: a specification of words that may stand in such a file.

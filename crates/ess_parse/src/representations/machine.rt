@@ -4,7 +4,7 @@ ghost use Rattle.ess_core.specs.TreeViews.{pure_repr};
 ghost use Rattle.ess_semantics.specs.Trees.{repr, no_reprs};
 ghost use Rattle.ess_grammar.specs.Kinds.{token};
 ghost use Rattle.ess_grammar.specs.Words.{symbol, comma, close_square};
-ghost use Rattle.ess_machine.specs.RepresentationMachine.{repr_then, step_kind_wanted, step_kind_read};
+ghost use Rattle.ess_parse_laws.specs.RepresentationMachine.{repr_then, step_kind_wanted, step_kind_read};
 ghost use Rattle.ess_parse.specs.Machines.{step_representation, finish_representation, start_representation};
 ghost use Rattle.ess_parse.specs.RepresentationViews.{view_frames, view_machine};
 

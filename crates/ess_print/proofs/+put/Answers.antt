@@ -1,8 +1,8 @@
 use Rattle.std.proofs.Common.{◌≡◌, ◌+◌, ◌<◌, ◌≤◌, length, false, refl, arith}
 use Rattle.std.specs.Prelude.{IsTrue}
 use Rattle.std.proofs.lemmas.Result.{on_ok_weaker}
-use Rattle.ess_texts.specs.Parts.{bracketed}
-use Rattle.ess_texts.specs.Expressions.{ex_pieces}
+use Rattle.ess_print_laws.specs.Parts.{bracketed}
+use Rattle.ess_print_laws.specs.Expressions.{ex_pieces}
 use Rattle.ess_core.specs.TreeViews.{pure_ex, pure_gen}
 use Rattle.ess_print.specs.Written.{item_pieces}
 use Rattle.ess_print.proofs.Writing.{comma-item, comma-passed, writing-as, times-item, items-end, not-empty, between-puts, puts-at}

@@ -1,5 +1,5 @@
 use Rattle.std.proofs.Common.{◌≤◌, drop}
-use Rattle.ess_texts.specs.Parts.{comma_space, times}
+use Rattle.ess_print_laws.specs.Parts.{comma_space, times}
 use Rattle.ess_print.proofs.Writing.{Writing}
 use Rattle.ess_print.proofs.Items.{exs_printers, doms_printers, fields_printers, pairs_printers, field_doms_printers, ranges_printers, attrs_printers, steps_printers, args_printers, gens_printers}
 use Rattle.ess_print.proofs.+put.Given as goal

@@ -2,7 +2,7 @@ use Rattle.std.proofs.Common.{sym, ap, ◌∙◌, Some, None}
 use Rattle.std.specs.Option.{option_map}
 use Rattle.ess_core.specs.TreeViews.{pure_dom as read_dom}
 use Rattle.eprime_tree.specs.Views.{pure_decl}
-use Rattle.eprime_convert.specs.Lines.{scope_of}
+use Rattle.eprime_read_convert.specs.Lines.{scope_of}
 use Rattle.eprime_read.proofs.Growth.{given_found, given_readable}
 use Rattle.eprime_read.proofs.growing.with_given.Goals as goal
 

@@ -1,7 +1,7 @@
 use Rattle.std.proofs.Common.{Some, None}
 use Rattle.ess_core.specs.TreeViews.{pure_ex as read_ex}
 use Rattle.eprime_tree.specs.Views.{pure_ex}
-use Rattle.eprime_convert.specs.Lines.{scope_of}
+use Rattle.eprime_read_convert.specs.Lines.{scope_of}
 use Rattle.eprime_read.proofs.Growth.{greatest_found, greatest_readable, converted}
 use Rattle.eprime_read.proofs.growing.with_greatest.Goals as goal
 

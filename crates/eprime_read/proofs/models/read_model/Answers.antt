@@ -1,6 +1,6 @@
 use Rattle.ess_grammar.specs.ModelTexts.{IsModel}
 use Rattle.ess_parse.proofs.Clauses.{refused, derived, answered, unread, placed}
-use Rattle.eprime_machine.specs.ModelMachine.{at_begin, model_step, model_finish}
+use Rattle.eprime_read_laws.specs.ModelMachine.{at_begin, model_step, model_finish}
 use Rattle.eprime_tree.specs.Views.{pure_model}
 use Rattle.eprime_read.proofs.ModelLaws.{model_laws, models_readable}
 use Rattle.eprime_read.proofs.models.read_model.Goals as goal

@@ -7,7 +7,7 @@ use Rattle.ess_lex.specs.Lexing.{left}
 use Rattle.ess_parse.specs.Runs.{run_over}
 use Rattle.ess_parse.proofs.AsciiTokens.{AreAscii, lexed-ascii, front-ascii}
 use Rattle.ess_parse.proofs.Turns.{turn}
-use Rattle.eprime_machine.specs.ModelMachine.{at_begin, model_step, model_finish}
+use Rattle.eprime_read_laws.specs.ModelMachine.{at_begin, model_step, model_finish}
 use Rattle.eprime_read.specs.Views.{view_machine, IsMachine}
 use Rattle.eprime_read.proofs.FitTokens.{AreFitTokens, lexed_fit, front_fit}
 use Rattle.eprime_read.proofs.models.run.Goals as goal

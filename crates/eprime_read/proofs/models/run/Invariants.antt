@@ -4,7 +4,7 @@ use Rattle.ess_grammar.specs.Places.{end_place}
 use Rattle.ess_lex.specs.Lexing.{left}
 use Rattle.ess_parse.specs.Runs.{run_over}
 use Rattle.ess_parse.proofs.AsciiTokens.{AreAscii}
-use Rattle.eprime_machine.specs.ModelMachine.{at_begin, model_step, model_finish}
+use Rattle.eprime_read_laws.specs.ModelMachine.{at_begin, model_step, model_finish}
 use Rattle.eprime_read.specs.Views.{view_machine, IsMachine}
 use Rattle.eprime_read.proofs.FitTokens.{AreFitTokens}
 use Rattle.eprime_read.proofs.models.run.Given as goal

@@ -1,7 +1,7 @@
 use Rattle.std.proofs.Common.{sym, ap, ◌∙◌}
 use Rattle.std.specs.Option.{option_map}
-use Rattle.ess_parser.specs.Parsers.{view_parser}
-use Rattle.eprime_machine.specs.ModelMachine.{in_state}
+use Rattle.ess_parse_machine.specs.Parsers.{view_parser}
+use Rattle.eprime_read_laws.specs.ModelMachine.{in_state}
 use Rattle.eprime_read.specs.Openings.{word_of}
 use Rattle.eprime_read.specs.Views.{view_draft}
 use Rattle.eprime_read.proofs.PartTokens.{has_read_word, begins_so}

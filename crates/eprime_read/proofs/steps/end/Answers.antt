@@ -1,8 +1,8 @@
 use Rattle.std.proofs.Common.{ap, ◌∙◌, map, Some}
 use Rattle.std.specs.Option.{option_map}
 use Rattle.ess_core.specs.StatementViews.{pure_stm}
-use Rattle.ess_frames.specs.Views.{view_answer}
-use Rattle.ess_parser.specs.Parsers.{view_parser}
+use Rattle.ess_parse_frames.specs.Views.{view_answer}
+use Rattle.ess_parse_machine.specs.Parsers.{view_parser}
 use Rattle.eprime_read.proofs.PartTokens.{end_readable}
 use Rattle.eprime_read.proofs.steps.end.Goals as goal
 

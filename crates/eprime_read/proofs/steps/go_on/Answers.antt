@@ -1,7 +1,7 @@
 use Rattle.std.proofs.Common.{ap, ◌∙◌}
 use Rattle.std.specs.Option.{option_map}
 use Rattle.ess_grammar.specs.Kinds.{token}
-use Rattle.ess_parser.specs.Parsers.{view_parser}
+use Rattle.ess_parse_machine.specs.Parsers.{view_parser}
 use Rattle.eprime_read.proofs.PartTokens.{has_read_more}
 use Rattle.eprime_read.proofs.steps.go_on.Goals as goal
 

@@ -1,5 +1,5 @@
 use Rattle.std.proofs.Common.{◌≡◌, ap, sym, ◌∙◌, subst, rules, drop, ◌+◌, ◌++◌}
-use Rattle.ess_texts.specs.Brackets.{starts_generator}
+use Rattle.ess_print_laws.specs.Brackets.{starts_generator}
 use Rattle.std.proofs.lemmas.Int.{to_z-of_z}
 use Rattle.std.specs.Fmt.{signed_decimal}
 use Rattle.ess_semantics.specs.Values.{Text}

@@ -3,8 +3,8 @@ use Rattle.std.specs.Option.{option_map}
 use Rattle.ess_core.specs.TreeViews.{pure_dom}
 use Rattle.ess_grammar.specs.Tokens.{lexed}
 use Rattle.ess_grammar.specs.Places.{end_place}
-use Rattle.ess_frames.specs.Views.{view_answer}
-use Rattle.ess_parser.specs.Parsers.{view_parser}
+use Rattle.ess_parse_frames.specs.Views.{view_answer}
+use Rattle.ess_parse_machine.specs.Parsers.{view_parser}
 use Rattle.ess_parse.specs.Runs.{run_over, reading, ended}
 use Rattle.ess_parse.specs.Machines.{step_state, finish_state, finish_domain, start_domain, domain_of}
 use Rattle.ess_parse.proofs.Narrowing.{reading-narrowed, narrowed-ok, residual}

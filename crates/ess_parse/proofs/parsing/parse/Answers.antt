@@ -4,7 +4,7 @@ use Rattle.ess_grammar.specs.Kinds.{token}
 use Rattle.ess_grammar.specs.Tokens.{lexed, next_token}
 use Rattle.ess_grammar.specs.Places.{end_place}
 use Rattle.ess_lex.specs.Lexing.{left}
-use Rattle.ess_parser.specs.Parsers.{view_parser}
+use Rattle.ess_parse_machine.specs.Parsers.{view_parser}
 use Rattle.ess_parse.specs.Runs.{run_over}
 use Rattle.ess_parse.specs.Machines.{step_state, finish_state}
 use Rattle.ess_parse.proofs.AsciiTokens.{AreAscii, lexed-ascii, front-ascii}

@@ -1,7 +1,7 @@
 use Rattle.std.proofs.Common.{sym, ap, ◌∙◌}
 use Rattle.ess_core.specs.TreeViews.{pure_ex}
 use Rattle.ess_core.proofs.ExpressionEquations.{pure_cell}
-use Rattle.ess_texts.specs.Brackets.{is_written_as_pattern}
+use Rattle.ess_print_laws.specs.Brackets.{is_written_as_pattern}
 use Rattle.ess_print.proofs.PatternLaws.{none-where-empty, pattern-more, pattern-stops, pattern-end}
 use Rattle.ess_print.proofs.brackets.+pattern.Goals as goal
 

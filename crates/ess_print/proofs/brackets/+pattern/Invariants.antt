@@ -1,5 +1,5 @@
 use Rattle.std.proofs.Common.{◌≡◌, drop}
-use Rattle.ess_texts.specs.Brackets.{are_written_as_patterns}
+use Rattle.ess_print_laws.specs.Brackets.{are_written_as_patterns}
 use Rattle.ess_core.specs.TreeViews.{pure_exs}
 use Rattle.ess_print.proofs.brackets.+pattern.Given as goal
 

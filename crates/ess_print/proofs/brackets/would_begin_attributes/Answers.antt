@@ -3,7 +3,7 @@ use Rattle.std.proofs.lemmas.Bool.{lt-leb}
 use Rattle.ess_semantics.specs.Trees.{tuple_dom}
 use Rattle.ess_core.specs.TreeViews.{pure_dom, pure_doms}
 use Rattle.ess_core.proofs.DomainEquations.{pure_tuple}
-use Rattle.ess_texts.specs.Brackets.{begins_as_attributes}
+use Rattle.ess_print_laws.specs.Brackets.{begins_as_attributes}
 use Rattle.ess_print.proofs.PatternLaws.{tuple-begins, short-begins, none-begins}
 use Rattle.ess_print.proofs.brackets.would_begin_attributes.Goals as goal
 

@@ -1,5 +1,5 @@
 use Rattle.std.proofs.Common.{drop}
-use Rattle.ess_texts.specs.Parts.{comma_space}
+use Rattle.ess_print_laws.specs.Parts.{comma_space}
 use Rattle.ess_print.proofs.Writing.{Writing}
 use Rattle.ess_print.proofs.Items.{reprs_printers}
 use Rattle.ess_print.proofs.representations.+put_repr.Given as goal

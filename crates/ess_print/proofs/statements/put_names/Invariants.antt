@@ -1,5 +1,5 @@
 use Rattle.std.proofs.Common.{drop}
-use Rattle.ess_texts.specs.Parts.{comma_space, name_printers}
+use Rattle.ess_print_laws.specs.Parts.{comma_space, name_printers}
 use Rattle.ess_print.proofs.Writing.{Writing}
 use Rattle.ess_print.proofs.statements.put_names.Given as goal
 

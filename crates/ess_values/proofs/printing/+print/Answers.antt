@@ -2,7 +2,7 @@ use Rattle.std.proofs.Common.{◌∙◌}
 use Rattle.std.proofs.lemmas.Result.{on_ok_weaker}
 use Rattle.ess_core.specs.ValueViews.{pure_pair}
 use Rattle.ess_core.specs.TableViews.{pure_type_entries}
-use Rattle.ess_literals.specs.ItemNames.{item_name}
+use Rattle.ess_values_laws.specs.ItemNames.{item_name}
 use Rattle.ess_values.specs.Printing.{pair_text}
 use Rattle.ess_values.proofs.Commas.{items_step}
 use Rattle.ess_values.proofs.Written.{function_written}

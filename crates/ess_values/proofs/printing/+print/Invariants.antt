@@ -4,7 +4,7 @@ use Rattle.ess_semantics.specs.Names.{keys}
 use Rattle.ess_core.specs.ValueViews.{pure_vals, pure_field_val, pure_pair}
 use Rattle.ess_core.specs.TableViews.{pure_type_entries}
 use Rattle.ess_grammar.specs.ValueTexts.{value_texts, field_texts, with_commas}
-use Rattle.ess_literals.specs.ItemNames.{item_name}
+use Rattle.ess_values_laws.specs.ItemNames.{item_name}
 use Rattle.ess_values.specs.Printing.{pair_text}
 use Rattle.ess_values.proofs.Commas.{behind}
 use Rattle.ess_values.proofs.printing.+print.Given as goal

@@ -2,7 +2,7 @@ use Rattle.std.proofs.Common.{◌≡◌, ◌∙◌, ap, ◌++◌}
 use Rattle.ess_core.specs.ValueViews.{pure_val}
 use Rattle.ess_core.specs.TableViews.{pure_type_entries, pure_env}
 use Rattle.ess_grammar.specs.ValueTexts.{value_text}
-use Rattle.ess_literals.specs.ItemNames.{item_name}
+use Rattle.ess_values_laws.specs.ItemNames.{item_name}
 use Rattle.ess_values.proofs.ReadTexts.{value_is_read, value_is_read_back}
 use Rattle.ess_values.proofs.printing.print_val.Goals as goal
 

@@ -1,5 +1,5 @@
 use Rattle.std.proofs.Common.{sym, ap, ◌∙◌, ◌&&◌}
-use Rattle.ess_texts.specs.Brackets.{is_written_as_pattern}
+use Rattle.ess_print_laws.specs.Brackets.{is_written_as_pattern}
 use Rattle.eprime_tree.specs.Printed.{read_ex}
 use Rattle.eprime_tree.proofs.printing.lists.needs_brackets.Goals as goal
 

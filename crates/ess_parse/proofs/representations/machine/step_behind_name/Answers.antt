@@ -1,6 +1,6 @@
 use Rattle.std.proofs.Common.{ap, ◌∙◌}
 use Rattle.ess_grammar.specs.Kinds.{token}
-use Rattle.ess_machine.specs.RepresentationMachine.{step_kind_read}
+use Rattle.ess_parse_laws.specs.RepresentationMachine.{step_kind_read}
 use Rattle.ess_parse.specs.RepresentationViews.{view_frames}
 use Rattle.ess_parse.proofs.representations.machine.step_behind_name.Goals as goal
 use Rattle.ess_parse.proofs.RepresentationSteps.{first-child}

@@ -1,5 +1,0 @@
-use Rattle.eprime_machine.proofs.laws.machine_stops_for_good.Goals as goal
-use Rattle.eprime_machine.proofs.Stops.{no-model}
-
-pub returns : goal.returns
-returns c = no-model

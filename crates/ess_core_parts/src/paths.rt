@@ -1,0 +1,111 @@
+//! What stands at a path in an expression, to be read, replaced and edited in place.
+ghost use Rattle.std.specs.Prelude.{◌≡◌, is_some, IfOk, IfErr};
+ghost use Rattle.std.specs.Option.{option_copied};
+ghost use Rattle.ess_core.specs.declared.expressions.Ex.{Ex};
+ghost use Rattle.ess_core_parts.specs.Parts.{part, with_part, hole, at, with_at, edited};
+
+use crate::expressions::{own_part, put_own_part};
+use ess_core::Ex;
+use std::mem;
+
+/// The direct part number `k` of an expression, counted from 0 in the order of the text, if there is one. Parts inside
+/// domains, generators, attributes, ranges and views count. The body of a comprehension comes first, in a view the parts of
+/// its domain, and a record's parts come in the order in which they are kept.
+pub fn child(ex: &Ex, k: u32) -> Option<&Ex>
+    ensures { option_copied result ≡ part ex.now k }
+{
+    match own_part(ex, k) {
+        Ok(part) => Some(part),
+        Err(_) => None,
+    }
+}
+
+/// The part at a path, if the path stays in the expression: each number of the path names a direct part of the last.
+pub fn focus<'a>(ex: &'a Ex, path: &[u32]) -> Option<&'a Ex>
+    ensures { option_copied result ≡ at ex.now path.now }
+{
+    match path.split_first() {
+        None => Some(ex),
+        Some((k, rest)) => focus(child(ex, *k)?, rest),
+    }
+}
+
+/// Puts `new` in place of an expression, and answers what it was.
+pub fn put(ex: &mut Ex, new: Ex) -> Ex
+    ensures was { result ≡ ex.old }
+    ensures after { ex.new ≡ new }
+{
+    mem::replace(ex, new)
+}
+
+/// Puts `new` in place of the part at a path, and answers what stood there. Where the path leaves the expression, nothing
+/// changes, and `new` comes back as the error.
+pub fn replace_at(ex: &mut Ex, path: &[u32], new: Ex) -> Result<Ex, Ex>
+    ensures after { ex.new ≡ with_at ex.old path.now new }
+    ensures was { IfOk result (λ was. at ex.old path.now ≡ Some was) }
+    ensures outside { IfErr result (λ back. at ex.old path.now ≡ None) }
+    ensures back { IfErr result (λ back. back ≡ new) }
+    ensures unchanged { IfErr result (λ back. ex.new ≡ ex.old) }
+{
+    match path.split_first() {
+        None => Ok(put(ex, new)),
+        Some((k, rest)) => match take_part(ex, *k) {
+            Some(mut part) => {
+                let answer = replace_at(&mut part, rest, new);
+                put_back(ex, *k, part);
+                answer
+            }
+            None => Err(new),
+        },
+    }
+}
+
+/// A change of one expression.
+pub trait Edit {
+    /// What it makes of an expression.
+    ghost after: { Self → Ex → Ex };
+
+    /// Changes an expression in place.
+    fn edit(&mut self, ex: &mut Ex)
+        ensures { ex.new ≡ after self.old ex.old };
+}
+
+/// Lends the part at a path to an editor, which changes it in place, and answers whether the path stays in the expression.
+/// Where it doesn't, nothing changes.
+pub fn edit_at<E: Edit>(ex: &mut Ex, path: &[u32], edit: &mut E) -> bool
+    ensures after { ex.new ≡ edited (E.after edit.old) ex.old path.now }
+    ensures within { result ≡ is_some (at ex.old path.now) }
+{
+    match path.split_first() {
+        None => {
+            edit.edit(ex);
+            true
+        }
+        Some((k, rest)) => match take_part(ex, *k) {
+            Some(mut part) => {
+                let within = edit_at(&mut part, rest, edit);
+                put_back(ex, *k, part);
+                within
+            }
+            None => false,
+        },
+    }
+}
+
+/// Takes the direct part number `k` out of an expression, if there is one. `false` stands there until it is put back.
+fn take_part(ex: &mut Ex, k: u32) -> Option<Ex>
+    ensures part { result ≡ part ex.old k }
+    ensures after { ex.new ≡ with_part ex.old k hole }
+{
+    match put_own_part(ex, k, Ex::Truth(false)) {
+        Ok(part) => Some(part),
+        Err(_) => None,
+    }
+}
+
+/// Puts a part that was taken out, and maybe changed, in its place.
+fn put_back(ex: &mut Ex, k: u32, part: Ex)
+    ensures { ex.new ≡ with_part ex.old k part }
+{
+    let _ = put_own_part(ex, k, part);
+}

@@ -1,7 +1,0 @@
-use Rattle.std.proofs.Common.{◌≡◌, drop}
-use Rattle.ess_grammar.specs.Words.{look}
-use Rattle.ess_domain_steps.specs.Attributes.{shown_keys}
-use Rattle.ess_domain_steps.proofs.attributes.key_in.Given as goal
-
-abbrev pub invariant-loop-spelling : goal.invariant-loop-spelling
-invariant-loop-spelling l = look (shown_keys l.table) l.word ≡ look (shown_keys (drop l.spelling-index l.table)) l.word

@@ -1,5 +1,0 @@
-use Rattle.ess_domain_steps.proofs.Domains.{any-is}
-use Rattle.ess_domain_steps.proofs.products.are_any.Goals as goal
-
-pub returns : goal.returns
-returns c = any-is _ _ c.is_empty.ensures

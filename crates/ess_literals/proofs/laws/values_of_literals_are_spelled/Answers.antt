@@ -1,6 +1,0 @@
-use Rattle.ess_literals.proofs.laws.values_of_literals_are_spelled.Goals as goal
-use Rattle.ess_literals.proofs.ReadBack.{readable-spelled, named-spelled}
-
-pub returns : goal.returns
-returns c =
-    record { of_readable = readable-spelled; of_named = named-spelled }

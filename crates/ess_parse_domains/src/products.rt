@@ -1,0 +1,115 @@
+//! Behind the domains of a tuple or a relation.
+#![tactic(auto)]
+
+ghost use Rattle.std.specs.Prelude.{◌≡◌, ◌∷◌, not, ◌||◌, IfOk};
+ghost use Rattle.ess_semantics.specs.Trees.{tuple_dom, relation_dom, no_doms, more_doms};
+ghost use Rattle.ess_parse_laws.specs.Frames.{tuple_domains_frame, relation_domains_frame};
+ghost use Rattle.ess_parse_laws.specs.Modes.{at_state, domain_read};
+ghost use Rattle.ess_parse_laws.specs.Reversed.{reverse_doms};
+ghost use Rattle.ess_parse_laws.specs.AfterDomains.{domain_then_close_round};
+ghost use Rattle.ess_core.specs.TreeViews.{pure_dom, pure_doms};
+ghost use Rattle.ess_parse_frames.specs.Rows.{back_doms, marks_of, numbers_of};
+ghost use Rattle.ess_parse_frames.specs.Views.{view_frame, view_frames, Steps};
+ghost use Rattle.ess_parse_domains.specs.Several.{are_any};
+
+use ess_core::{Attr, Dom};
+use ess_parse_frames::stack::{at, stop};
+use ess_parse_frames::{Frame, Mode, State};
+use ess_rows::{NoMemory, Row};
+
+/// All domains, in order, the last of which is `last`. `NoMemory` where there is no room for it.
+#[tactic(auto, using(ess_parse_frames::proofs::RowLaws::doms_whole))]
+pub(crate) fn all_domains(domains: Row<Dom>, last: Dom) -> Result<Row<Dom>, NoMemory>
+    ensures { IfOk result (λ ds. reverse_doms (back_doms domains) (more_doms (pure_dom last) no_doms) ≡ pure_doms ds) }
+{
+    let mut domains = domains;
+    domains.push(last)?;
+    Ok(domains)
+}
+
+/// Are there any domains?
+fn are_any(domains: &Row<Dom>) -> bool
+    ensures { result ≡ are_any (back_doms domains.now) }
+{
+    !domains.is_empty()
+}
+
+/// May a tuple end with one domain more? `two`: does it need two?
+fn has_enough(two: bool, domains: &Row<Dom>) -> bool
+    ensures { result ≡ (not two || are_any (back_doms domains.now)) }
+{
+    !two || are_any(domains)
+}
+
+/// A closing round bracket ends a tuple or a relation. A tuple without its word, and a relation, have two domains or more.
+/// `NoMemory` where there is no room.
+pub fn domain_then_close_round(
+    frame: Frame,
+    frames: Row<Frame>,
+    domain: Dom,
+) -> Result<Option<State>, NoMemory>
+    ensures { IfOk result (Steps (domain_then_close_round (view_frame frame ∷ view_frames frames) (pure_dom domain))) }
+{
+    match frame {
+        Frame::TupleDomains(two, domains) => end_tuple(two, domains, domain, frames),
+        Frame::RelationDomains(attributes, domains) => end_relation(
+            attributes, domains, domain, frames,
+        ),
+        other => stop(other),
+    }
+}
+
+/// Behind the tuple of all domains, the last of which is `last`. `NoMemory` where there is no room.
+#[tactic(auto, using(ess_core::proofs::DomainEquations::pure_tuple))]
+fn tuple_read(domains: Row<Dom>, last: Dom, frames: Row<Frame>) -> Result<Option<State>, NoMemory>
+    ensures { IfOk result (Steps (at_state (domain_read (tuple_dom (reverse_doms (back_doms domains) (more_doms (pure_dom last) no_doms)))) (view_frames frames))) }
+{
+    let domains = all_domains(domains, last)?;
+    Ok(at(Mode::DomainRead(Dom::Tuple(domains)), frames))
+}
+
+/// Behind all domains of a tuple, the last of which is `last`. `two`: does it need two? `NoMemory` where there is no room.
+fn end_tuple(
+    two: bool,
+    domains: Row<Dom>,
+    last: Dom,
+    frames: Row<Frame>,
+) -> Result<Option<State>, NoMemory>
+    ensures { IfOk result (Steps (domain_then_close_round (tuple_domains_frame two (back_doms domains) ∷ view_frames frames) (pure_dom last))) }
+{
+    if has_enough(two, &domains) {
+        tuple_read(domains, last, frames)
+    } else {
+        Ok(None)
+    }
+}
+
+/// Behind the relation of all domains, the last of which is `last`. `NoMemory` where there is no room.
+#[tactic(auto, using(ess_core::proofs::DomainEquations::pure_relation), unfolding(ess_parse_frames::specs::Rows::marks_of, ess_parse_frames::specs::Rows::numbers_of))]
+fn relation_read(
+    attributes: Row<Attr>,
+    domains: Row<Dom>,
+    last: Dom,
+    frames: Row<Frame>,
+) -> Result<Option<State>, NoMemory>
+    ensures { IfOk result (Steps (at_state (domain_read (relation_dom (marks_of attributes) (numbers_of attributes) (reverse_doms (back_doms domains) (more_doms (pure_dom last) no_doms)))) (view_frames frames))) }
+{
+    let domains = all_domains(domains, last)?;
+    Ok(at(Mode::DomainRead(Dom::Relation(attributes, domains)), frames))
+}
+
+/// Behind all domains of a relation, the last of which is `last`. `NoMemory` where there is no room.
+fn end_relation(
+    attributes: Row<Attr>,
+    domains: Row<Dom>,
+    last: Dom,
+    frames: Row<Frame>,
+) -> Result<Option<State>, NoMemory>
+    ensures { IfOk result (Steps (domain_then_close_round (relation_domains_frame (marks_of attributes) (numbers_of attributes) (back_doms domains) ∷ view_frames frames) (pure_dom last))) }
+{
+    if are_any(&domains) {
+        relation_read(attributes, domains, last, frames)
+    } else {
+        Ok(None)
+    }
+}

@@ -1,0 +1,199 @@
+//! The items of quantifiers and comprehensions: generators and conditions, and the patterns that wait for a generator's sign.
+#![tactic(auto, using(crate::proofs::FrameLaws::frames_at, crate::proofs::FrameLaws::frames_all, ess_parse_frames::proofs::StackLaws::frames_none, ess_parse_frames::proofs::PatternLaws::pats_none, ess_parse_frames::proofs::PatternLaws::pats_push, ess_parse_frames::proofs::PatternLaws::pats_whole, ess_parse_frames::proofs::RowLaws::gens_none, crate::proofs::ListLaws::one_is_bound, crate::proofs::ListLaws::several_are_not_bound))]
+
+ghost use Rattle.std.specs.Prelude.{◌≡◌, ◌∷◌, List, IfOk};
+ghost use Rattle.std.specs.List.{list_any};
+ghost use Rattle.std.specs.Option.{option_map};
+ghost use Rattle.ess_semantics.specs.Trees.{no_exs, more_exs, no_gens};
+ghost use Rattle.ess_grammar.specs.Words.{same_text};
+ghost use Rattle.ess_grammar.specs.Patterns.{is_bound_name};
+ghost use Rattle.ess_parse_laws.specs.Frames as machine;
+ghost use Rattle.ess_parse_laws.specs.Items.{may_quantify, in_is_sign, settled_head, begin_source, item_ended, begin_quantifier};
+ghost use Rattle.ess_parse_laws.specs.Reversed.{push_conditions, reverse_gens};
+ghost use Rattle.ess_core.specs.TreeViews.{pure_ex, pure_gens, pure_pat};
+ghost use Rattle.ess_parse_frames.specs.Rows.{back_gens};
+ghost use Rattle.ess_parse_frames.specs.Patterns.{pattern_ex, back_pats, view_operand, is_pattern_operand};
+ghost use Rattle.ess_parse_frames.specs.Views.{view_frame, view_frames, view_head, Steps};
+ghost use Rattle.ess_parse_expressions.specs.Lists.{is_sum_head, wanting_operand};
+
+use ess_core::{Ex, Fun, Gen, Pat};
+use ess_parse_domains::generators::with_conditions;
+use ess_parse_frames::stack::{Top, at, innermost, inside, stop, within};
+use ess_parse_frames::{Frame, Head, Mode, Operand, State};
+use ess_rows::{NoMemory, Row, Text};
+use std::alloc::Global;
+
+/// May a quantifier stand as the innermost operand?
+pub(crate) fn may_quantify(frames: &Row<Frame>) -> bool
+    ensures { result ≡ may_quantify (view_frames frames.now) }
+{
+    let frames = frames.as_slice();
+    let mut depth = frames.len();
+    while depth > 0 {
+        depth -= 1;
+        match &frames[depth] {
+            Frame::Minus | Frame::Not | Frame::Binary(_, _) | Frame::Body(_, _) => {}
+            Frame::List(_, _) | Frame::PairLeft(_) | Frame::PairRight(_, _) => return true,
+            Frame::FieldValue(_, _) | Frame::Letting(_, _) | Frame::Unnamed(_, _) => return true,
+            Frame::Where(_) | Frame::SuchThat(_) | Frame::Objective(_, _) => return true,
+            _ => return false,
+        }
+    }
+    true
+}
+
+/// Is the pattern one of these names?
+fn is_bound(names: &Row<Text>, pattern: &Pat) -> bool
+    ensures { result ≡ is_bound_name names.now (pattern_ex (pure_pat pattern.now)) }
+{
+    match pattern {
+        Pat::Name(name) => is_among(names.as_slice(), name),
+        Pat::Tuple(_) => false,
+    }
+}
+
+/// Is the name one of these?
+fn is_among(names: &[Text], name: &Text) -> bool
+    ensures { result ≡ list_any (same_text name.now) names.now }
+{
+    names.iter().any(|bound| is_same(name, bound))
+}
+
+/// Are the two names the same?
+fn is_same(left: &Text, right: &Text) -> bool
+    ensures { result ≡ same_text left.now right.now }
+{
+    left.as_bytes() == right.as_bytes()
+}
+
+/// Is `in` behind this pattern, in this frame, a generator's sign?
+pub(crate) fn in_is_sign(frame: &Frame, pattern: &Pat) -> bool
+    ensures { (frames : List machine.Frame) → result ≡ in_is_sign (view_frame frame.now ∷ frames) (pattern_ex (pure_pat pattern.now)) }
+{
+    match frame {
+        Frame::Items(head, names, _, patterns) => match head {
+            Head::Comprehension(_) => false,
+            Head::Quantifier(_) | Head::Sum => !patterns.is_empty() || !is_bound(names, pattern),
+        },
+        _ => false,
+    }
+}
+
+/// Does the head belong to `sum` before a bracket of patterns?
+pub(crate) fn is_sum(head: &Head) -> bool
+    ensures { result ≡ is_sum_head head.now }
+{
+    matches!(head, Head::Sum)
+}
+
+/// What items belong to behind their first generator.
+pub(crate) fn settled(head: Head) -> Head
+    ensures { view_head result ≡ settled_head (view_head head) }
+{
+    match head {
+        Head::Sum => Head::Quantifier(Fun::Sum),
+        other => other,
+    }
+}
+
+/// Behind a generator's sign its value is wanted. `NoMemory` where there is no room.
+pub(crate) fn begin_source(frames: Row<Frame>, pattern: Pat) -> Result<Option<State>, NoMemory>
+    ensures { IfOk result (Steps (begin_source (view_frames frames) (pattern_ex (pure_pat pattern)))) }
+{
+    match innermost(frames) {
+        Some(top) => begin_source_in(top, pattern),
+        None => Ok(None),
+    }
+}
+
+/// Behind a generator's sign in this innermost frame. `NoMemory` where there is no room.
+fn begin_source_in(top: Top, pattern: Pat) -> Result<Option<State>, NoMemory>
+    ensures { IfOk result (Steps (begin_source (view_frame top.frame ∷ view_frames top.frames) (pattern_ex (pure_pat pattern)))) }
+{
+    let Top { frame, frames } = top;
+    match frame {
+        Frame::Items(head, names, items, patterns) => {
+            let mut patterns = patterns;
+            patterns.push(pattern)?;
+            let head = settled(head);
+            inside(
+                Mode::OperandWanted,
+                Frame::GeneratorSource(head, names, items, patterns),
+                frames,
+            )
+        }
+        other => stop(other),
+    }
+}
+
+/// The items behind an item that is no generator. `NoMemory` where there is no room.
+pub(crate) fn item_ended(
+    alloc: Global,
+    head: Head,
+    names: Row<Text>,
+    items: Row<Gen>,
+    patterns: Row<Pat>,
+    operand: Operand,
+) -> Result<Frame, NoMemory>
+    ensures { IfOk result (λ f. view_frame f ≡ item_ended (view_head head) names (back_gens items) (back_pats patterns no_exs) (is_pattern_operand operand) (view_operand operand)) }
+{
+    match operand {
+        Operand::Pattern(pattern) => {
+            let mut patterns = patterns;
+            patterns.push(pattern)?;
+            Ok(Frame::Items(head, names, items, patterns))
+        }
+        Operand::Other(condition) => {
+            let items = with_conditions(alloc, items, &patterns, condition)?;
+            Ok(Frame::Items(head, names, items, Row::new(alloc)))
+        }
+    }
+}
+
+/// The items in order, the last of which are patterns and an expression as conditions. `NoMemory` where there is no room.
+#[tactic(auto, using(ess_parse_domains::proofs::SharedItems::items_in_order))]
+pub(crate) fn all_conditions(
+    alloc: Global,
+    items: Row<Gen>,
+    patterns: &Row<Pat>,
+    last: Ex,
+) -> Result<Row<Gen>, NoMemory>
+    ensures { IfOk result (λ gs. pure_gens gs ≡ reverse_gens (push_conditions (more_exs (pure_ex last) (back_pats patterns.now no_exs)) (back_gens items)) no_gens) }
+{
+    let items = with_conditions(alloc, items, patterns, last)?;
+    Ok(items)
+}
+
+/// The frames behind a quantifier's word, where a quantifier may stand. `NoMemory` where there is no room.
+pub(crate) fn quantifier_begun(
+    alloc: Global,
+    fold: Fun,
+    frames: Row<Frame>,
+) -> Result<Option<Row<Frame>>, NoMemory>
+    ensures { IfOk result (λ r. begin_quantifier fold (view_frames frames) ≡ option_map wanting_operand r) }
+{
+    if !may_quantify(&frames) {
+        return Ok(None);
+    }
+    let items = Frame::Items(
+        Head::Quantifier(fold),
+        Row::new(alloc),
+        Row::new(alloc),
+        Row::new(alloc),
+    );
+    Ok(Some(within(frames, items)?))
+}
+
+/// Behind a quantifier's word its items are wanted. `NoMemory` where there is no room.
+pub(crate) fn begin_quantifier(
+    alloc: Global,
+    fold: Fun,
+    frames: Row<Frame>,
+) -> Result<Option<State>, NoMemory>
+    ensures { IfOk result (Steps (begin_quantifier fold (view_frames frames))) }
+{
+    match quantifier_begun(alloc, fold, frames)? {
+        Some(frames) => Ok(at(Mode::OperandWanted, frames)),
+        None => Ok(None),
+    }
+}

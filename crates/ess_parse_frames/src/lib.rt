@@ -1,0 +1,24 @@
+//! The states of the parser's machine as data: frames, modes and states, with what they stand for in the definitions of
+//! `ess_parse_laws`.
+//!
+//! A frame is a rule of the grammar that is read in part. Rows in frames stand in the order of the text, so that an item is
+//! put behind them in constant time; the definitions keep the same lists in reverse. `specs/Views` says which frame, mode
+//! and state of the definitions each of these types stands for.
+//!
+//! `stack` takes frames off and puts them on, and `reducing` closes the frames that end with an expression or a domain.
+#![tactic(auto)]
+
+pub mod frames;
+pub mod kinds;
+pub mod levels;
+pub mod modes;
+pub mod operands;
+pub mod reducing;
+pub mod rows;
+pub mod stack;
+pub mod states;
+
+pub use frames::{Frame, Head, Inner, Listing, Literal, Owner};
+pub use modes::{Mode, Opening};
+pub use operands::{Listed, Operand};
+pub use states::{Answer, State};

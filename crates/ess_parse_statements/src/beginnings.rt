@@ -1,0 +1,71 @@
+#![tactic(auto, using(ess_parse_frames::proofs::RowLaws::names_none))]
+
+ghost use Rattle.std.specs.Prelude.{◌≡◌, IfOk, Option, None};
+ghost use Rattle.ess_semantics.specs.Values.{Text};
+ghost use Rattle.ess_grammar.specs.Kinds.{token};
+ghost use Rattle.ess_parse_laws.specs.StatementSteps.{another_part, step_statement_read};
+ghost use Rattle.ess_parse_frames.specs.Rows.{back_stms};
+ghost use Rattle.ess_parse_frames.specs.Views.{Steps, opening_word};
+ghost use Rattle.ess_parse_statements.specs.Beginnings.{begin_with, is_comma};
+
+use ess_core::Stm;
+use ess_parse_frames::stack::{alone, outside};
+use ess_parse_frames::{Frame, Mode, Opening, State};
+use ess_grammar::Kind;
+use ess_rows::{NoMemory, Row};
+use std::alloc::Global;
+
+/// Behind a word that begins a statement; None at any other token. `NoMemory` where there is no room.
+pub fn begin(alloc: Global, kind: Kind, stms: Row<Stm>) -> Result<Option<State>, NoMemory>
+    ensures { IfOk result (λ p. (bytes : Text) → Steps (begin_with (token kind bytes) (back_stms stms)) p) }
+{
+    match kind {
+        Kind::Given => Ok(outside(alloc, Mode::NamesWanted(true, Row::new(alloc), stms))),
+        Kind::Find => Ok(outside(alloc, Mode::NamesWanted(false, Row::new(alloc), stms))),
+        Kind::Letting => Ok(outside(alloc, Mode::LettingWanted(stms))),
+        Kind::Where => alone(alloc, Mode::OperandWanted, Frame::Where(stms)),
+        Kind::Such => Ok(outside(alloc, Mode::SuchRead(stms))),
+        Kind::Minimising => alone(alloc, Mode::OperandWanted, Frame::Objective(false, stms)),
+        Kind::Maximising => alone(alloc, Mode::OperandWanted, Frame::Objective(true, stms)),
+        _ => Ok(None),
+    }
+}
+
+/// Behind a comma that follows a statement which ends in no expression and no domain: another part of its list.
+pub fn begin_part(
+    alloc: Global,
+    opening: Opening,
+    stms: Row<Stm>,
+) -> Result<Option<State>, NoMemory>
+    ensures { IfOk result (Steps (another_part (opening_word opening) (back_stms stms))) }
+{
+    match opening {
+        Opening::Given => Ok(outside(alloc, Mode::NamesWanted(true, Row::new(alloc), stms))),
+        Opening::Letting => Ok(outside(alloc, Mode::LettingWanted(stms))),
+        Opening::Language => Ok(None),
+    }
+}
+
+/// Whether a token of this kind is a comma.
+fn is_comma(kind: Kind) -> bool
+    ensures { (bytes : Text) → result ≡ is_comma (token kind bytes) }
+{
+    matches!(kind, Kind::Comma)
+}
+
+/// Behind a statement that ends in no expression and no domain, and behind the language line.
+#[tactic(auto, using(crate::proofs::OtherTokens::no_comma))]
+pub fn step_statement_read(
+    alloc: Global,
+    kind: Kind,
+    text: &[u8],
+    opening: Opening,
+    stms: Row<Stm>,
+) -> Result<Option<State>, NoMemory>
+    ensures { IfOk result (Steps (step_statement_read (token kind text.now) (opening_word opening) (back_stms stms))) }
+{
+    if is_comma(kind) {
+        return begin_part(alloc, opening, stms);
+    }
+    begin(alloc, kind, stms)
+}

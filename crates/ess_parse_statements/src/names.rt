@@ -1,0 +1,103 @@
+#![tactic(auto, using(ess_parse_frames::proofs::RowLaws::names_push, ess_parse_frames::proofs::RowLaws::stms_push))]
+
+ghost use Rattle.std.specs.Prelude.{◌≡◌, IfOk, true};
+ghost use Rattle.std.specs.Str.{IsAscii};
+ghost use Rattle.ess_grammar.specs.Kinds.{token};
+ghost use Rattle.ess_parse_laws.specs.StatementSteps.{step_names_wanted, step_name_read, step_given_new_read, step_given_type_read};
+ghost use Rattle.ess_parse_frames.specs.Rows.{back_names, back_stms};
+ghost use Rattle.ess_parse_frames.specs.Views.{Steps};
+ghost use Rattle.ess_grammar.specs.Words.{word, new_word};
+
+use ess_core::Stm;
+use ess_parse_frames::stack::{alone, outside};
+use ess_parse_frames::{Frame, Mode, Opening, State};
+use ess_grammar::Kind;
+use ess_rows::{NoMemory, Row, Text};
+use std::alloc::Global;
+
+/// Where the name of a given (true) or a find (false) is wanted.
+pub fn step_names_wanted(
+    alloc: Global,
+    kind: Kind,
+    text: &[u8],
+    given: bool,
+    names: Row<Text>,
+    stms: Row<Stm>,
+) -> Result<Option<State>, NoMemory>
+    requires { IsAscii text.now }
+    ensures { IfOk result (Steps (step_names_wanted (token kind text.now) given (back_names names) (back_stms stms))) }
+{
+    match kind {
+        Kind::Name => {
+            let mut names = names;
+            names.push(Text::from_ascii(alloc, text)?)?;
+            Ok(outside(alloc, Mode::NameRead(given, names, stms)))
+        }
+        _ => Ok(None),
+    }
+}
+
+/// Behind that name.
+pub fn step_name_read(
+    alloc: Global,
+    kind: Kind,
+    given: bool,
+    names: Row<Text>,
+    stms: Row<Stm>,
+) -> Result<Option<State>, NoMemory>
+    ensures { IfOk result (λ p. (bytes : _) → Steps (step_name_read (token kind bytes) given (back_names names) (back_stms stms)) p) }
+{
+    match kind {
+        Kind::Comma => Ok(outside(alloc, Mode::NamesWanted(given, names, stms))),
+        Kind::Colon => alone(
+            alloc,
+            Mode::DomainWanted,
+            Frame::Declaration(given, names, stms),
+        ),
+        Kind::New if given => Ok(begin_given_type(alloc, names, stms)),
+        _ => Ok(None),
+    }
+}
+
+/// Behind `given NAMES new`: one name may be that of an enumerated type.
+#[tactic(auto, using(crate::proofs::GivenNames::new_behind_none, crate::proofs::GivenNames::new_behind_one, crate::proofs::GivenNames::new_behind_more))]
+fn begin_given_type(alloc: Global, names: Row<Text>, stms: Row<Stm>) -> Option<State>
+    ensures { Steps (step_name_read (word new_word) true (back_names names) (back_stms stms)) result }
+{
+    let mut names = names;
+    let name = names.pop()?;
+    if names.is_empty() {
+        outside(alloc, Mode::GivenNewRead(name, stms))
+    } else {
+        None
+    }
+}
+
+/// Behind `given NAME new`.
+pub fn step_given_new_read(alloc: Global, kind: Kind, name: Text, stms: Row<Stm>) -> Option<State>
+    ensures { (bytes : _) → Steps (step_given_new_read (token kind bytes) name (back_stms stms)) result }
+{
+    match kind {
+        Kind::TypeWord => outside(alloc, Mode::GivenTypeRead(name, stms)),
+        _ => None,
+    }
+}
+
+/// Behind `given NAME new type`.
+pub fn step_given_type_read(
+    alloc: Global,
+    kind: Kind,
+    name: Text,
+    stms: Row<Stm>,
+) -> Result<Option<State>, NoMemory>
+    ensures { IfOk result (λ p. (bytes : _) → Steps (step_given_type_read (token kind bytes) name (back_stms stms)) p) }
+{
+    match kind {
+        Kind::Enum => {
+            let mut stms = stms;
+            stms.push(Stm::GivenEnum(name))?;
+            Ok(outside(alloc, Mode::StatementRead(Opening::Given, stms)))
+        }
+        _ => Ok(None),
+    }
+}

@@ -1,0 +1,89 @@
+-- Worked examples of what rules keep: rewrites that are kept and rewrites that aren't, and a generator over a view that
+-- becomes one over the members of its domain.
+use Rattle.std.specs.Prelude.{◌≡◌, refl, true, false, not, [], ◌∷◌, codes, Some}
+use Rattle.std.proofs.Common.{ap}
+use Rattle.ess_semantics.specs.declared.words.Op2.{Op2}
+use Rattle.ess_semantics.specs.declared.words.Fun.{Fun}
+use Rattle.ess_semantics.specs.Values.{Text, truth}
+use Rattle.ess_semantics.specs.Order.{same}
+use Rattle.ess_semantics.specs.Collections.{set_of}
+use Rattle.ess_semantics.specs.Trees.{binary, name_pat, Ex, truth_ex, comp_ex, cell_ex, seen_ex, no_exs, no_gens, over, from, cond}
+use Rattle.ess_semantics.specs.declared.words.ReprKind.{ReprKind}
+use Rattle.ess_semantics.specs.Choice.{alone}
+use Rattle.ess_semantics.specs.Operators.{value_of_node, settle}
+use Rattle.ess_semantics.specs.Meaning.{Env, empty_env, meaning}
+use Rattle.ess_semantics.specs.Meets.{Meets}
+use Rattle.ess_semantics.specs.Kept.{Kept, KeptWhere}
+use Rattle.ess_semantics.specs.ModelMeaning.{env_of_tables}
+use Rattle.ess_semantics.proofs.Shorthands.{N, n, es1, bi, fn, upto, set, v}
+use Rattle.ess_semantics.proofs.ExamplesModels.{s_occ, bits, i}
+use Rattle.ess_rules_laws.proofs.Permutations.{same_list}
+use Rattle.ess_rules_laws.proofs.Unordered.{sum-unordered}
+use Rattle.ess_rules_laws.proofs.Listing.{Listed, listed-kept}
+
+abbrev x : Text
+x = codes "x"
+
+abbrev is_one : Ex
+is_one = bi Op2.Eq (N x) (n 1)
+
+-- `true /\ x = 1` is `x = 1`
+true_is_dropped : Kept (bi Op2.And (truth_ex true) is_one) is_one
+true_is_dropped env p m = (refl, (m.1 refl).0)
+
+-- `x = 1` isn't `true`
+not_always : Kept is_one (truth_ex true) → ⊥
+not_always h = let e : Some (truth false) ≡ Some (truth true) = (h empty_env tt (tt, (tt, tt))).0 in cc
+
+-- but it is where x is 1
+where_x_is_one : KeptWhere (λ env. meaning (N x) env ≡ Some (v 1)) is_one (truth_ex true)
+where_x_is_one env p m = (ap (λ o. settle true (value_of_node (binary Op2.Eq) (o ∷ Some (v 1) ∷ []))) p, tt)
+
+-- a view of a set of int(1..3), kept as a table of truth values
+abbrev view : Ex
+view = seen_ex (alone ReprKind.Occurrence) (set (upto 3)) (s_occ ∷ []) no_exs
+
+-- `true` and `true \/ 9 in s` mean the same, but tables need not meet the structure of s
+view_out_of_nowhere : Kept (truth_ex true) (bi Op2.Or (truth_ex true) (bi Op2.Member (n 9) view)) → ⊥
+view_out_of_nowhere h = no (h (env_of_tables []) tt tt).1
+  where
+    no : Meets (bi Op2.Or (truth_ex true) (bi Op2.Member (n 9) view)) (env_of_tables []) → ⊥
+    no m = cc
+
+-- ---- the members of the view, listed
+
+abbrev env : Env
+env = env_of_tables (bits 1 0 1)
+
+abbrev in_use : Ex
+in_use = cell_ex true s_occ (es1 (N i))
+
+listed : Listed env.positions env.types env.cells [] i view (upto 3) in_use (N i)
+listed = record {
+  value = set_of (v 1 ∷ v 3 ∷ []);
+  us = v 1 ∷ v 2 ∷ v 3 ∷ [];
+  t = λ u. not (same u (v 2));
+  val = λ u. u;
+  seen = refl;
+  members = refl;
+  tested = (refl, (refl, (refl, tt)));
+  item = ((λ e. (refl, tt)), ((λ e. (refl, tt)), ((λ e. (refl, tt)), tt)));
+  items = same_list;
+  dom_meets = (tt, (tt, tt));
+  test_meets = ((tt, tt), ((tt, tt), ((tt, tt), tt)));
+}
+
+-- `sum([i | i <- s])` is `sum([i | i : int(1..3), s_Occurrence[i]])`
+abbrev before : Ex
+before = fn Fun.Sum (comp_ex (N i) (from (name_pat i) view no_gens))
+
+abbrev after : Ex
+after = fn Fun.Sum (comp_ex (N i) (over (name_pat i) (upto 3) (cond in_use no_gens)))
+
+sum_over_members : (meaning before env ≡ meaning after env) × Meets after env
+sum_over_members =
+    listed-kept env.positions env.types env.cells [] i view (upto 3) in_use (N i) listed no_gens (N i) (λ a. true) refl refl tt refl
+    false Fun.Sum sum-unordered (((refl, (tt, (tt, (tt, tt))), tt), (tt, (tt, tt))), tt)
+
+sum_is_4 : meaning after env ≡ Some (v 4)
+sum_is_4 = refl

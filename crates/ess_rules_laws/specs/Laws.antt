@@ -1,0 +1,23 @@
+-- Laws of rewriting, each stated at a function that does nothing, so that its proof is checked with the code.
+use Rattle.std.specs.Prelude.{◌≡◌, true, not, ◌∷◌}
+use Rattle.ess_semantics.specs.Values.{Text, Value}
+use Rattle.ess_semantics.specs.Order.{same_text}
+use Rattle.ess_semantics.specs.Trees.{Ex}
+use Rattle.ess_semantics.specs.Substitution.{NamesAre}
+use Rattle.ess_semantics.specs.Meaning.{Env, meaning}
+use Rattle.ess_semantics.specs.Contexts.{In, fill, Where}
+use Rattle.ess_semantics.specs.Kept.{Kept}
+
+-- A value of a name that doesn't occur in an expression changes no meaning, with tables or without. So a bound name may be
+-- any name that occurs nowhere else.
+abbrev pub UnusedNamesChangeNothing : Type 0
+UnusedNamesChangeNothing = (x : Text) (v : Value) (e : Ex) (env : Env) → NamesAre (λ a. not (same_text x a)) (λ a. true) e →
+    meaning e (record env { vals = (x, v) ∷ env.vals }) ≡ meaning e env
+
+-- A part of a tree may be replaced by one that means the same wherever the context of the part holds.
+abbrev pub PartsMayBeReplaced : Type 0
+PartsMayBeReplaced = (c : In) (a b : Ex) (env : Env) → Where c env (λ here. meaning a here ≡ meaning b here) → meaning (fill c a) env ≡ meaning (fill c b) env
+
+-- A rule that keeps a part, used anywhere in a tree, keeps the whole.
+abbrev pub KeptPartsKeepTheWhole : Type 0
+KeptPartsKeepTheWhole = (c : In) (old new : Ex) → Kept old new → Kept (fill c old) (fill c new)

@@ -1,0 +1,21 @@
+//! Laws of rewriting, each the contract of a function that does nothing.
+
+ghost use Rattle.ess_rules_laws.specs.Laws.{UnusedNamesChangeNothing, PartsMayBeReplaced, KeptPartsKeepTheWhole};
+
+/// A value of a name that doesn't occur in an expression changes no meaning. So a bound name may be any name that occurs
+/// nowhere else.
+pub fn unused_names_change_nothing()
+    ensures { UnusedNamesChangeNothing }
+{}
+
+/// A part of a tree may be replaced by one that means the same wherever the context of the part holds: at the bindings
+/// of the generators in scope at which the conditions before it hold, and where the left operands of `/\` and `->` are
+/// true whose right operands hold it.
+pub fn parts_may_be_replaced()
+    ensures { PartsMayBeReplaced }
+{}
+
+/// A rule that keeps a part, used anywhere in a tree, keeps the whole: its meaning, and that tables meet its structures.
+pub fn kept_parts_keep_the_whole()
+    ensures { KeptPartsKeepTheWhole }
+{}

@@ -1,0 +1,4 @@
+//! Rewriting keeps the meaning: laws over the definitions of contexts, scope and what a rule keeps.
+#![tactic(auto)]
+
+pub mod laws;

@@ -1,5 +1,0 @@
-use Rattle.ess_semantics.proofs.laws.kept_parts_keep_the_whole.Goals as goal
-use Rattle.ess_semantics.proofs.Kept.{step-kept}
-
-pub returns : goal.returns
-returns c = step-kept

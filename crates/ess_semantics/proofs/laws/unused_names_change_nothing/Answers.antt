@@ -1,5 +1,0 @@
-use Rattle.ess_semantics.proofs.laws.unused_names_change_nothing.Goals as goal
-use Rattle.ess_semantics.proofs.Simulation.{meaning-unused}
-
-pub returns : goal.returns
-returns c = meaning-unused

@@ -1,6 +1,0 @@
-use Rattle.ess_texts.proofs.laws.pieces_are_read.Goals as goal
-use Rattle.ess_texts.proofs.LexedPieces.{printed-tokens, printed-inside}
-
-pub returns : goal.returns
-returns c =
-    λ ps h. (printed-tokens ps h, printed-inside ps h)
