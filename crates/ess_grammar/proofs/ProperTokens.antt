@@ -1,4 +1,4 @@
--- The tokens of a text without words outside the profile are proper. So what the rules give for a text that is read is readable.
+-- The tokens of a text without words outside the subset are proper. So what the rules give for a text that is read is readable.
 use Rattle.std.proofs.Common.{◌≡◌, refl, sym, ap, subst, ℕ, zero, suc, ◌^◌, Bool, true, false, ◌&&◌, not, List, [], ◌∷◌, ◌++◌, take, drop, length, Option, Some, None}
 use borrow.Author.Tests.{leb-false, lt-ltb}
 use Rattle.std.specs.Option.{is_some, option_map}
@@ -122,7 +122,7 @@ named-proper (operator x) h w o = refl
 named-proper (function x) h w o = refl
 named-proper (symbol x) h w o = refl
 
--- the first token of a text that is no word outside the profile, and those behind it
+-- the first token of a text that is no word outside the subset, and those behind it
 abbrev or_place : Bool → Place → Option Place → Option Place
 or_place b p o = elim b [ true ↦ Some p | false ↦ o ]
 
@@ -148,7 +148,7 @@ all-proper (next_token t bytes p more) ts a h o =
     let n = not-outside (is_outside t) p (first_outside more) o in
     subst Proper s.whole (named-proper t a.0 a.1 n.0, all-proper more s.us a.2 s.is n.1)
 
--- the tokens of a text without words outside the profile
+-- the tokens of a text without words outside the subset
 pub tokens-proper : (text : Text) (ts : List Token) → tokens text ≡ Some ts → first_outside (lexed text) ≡ None → Proper ts
 tokens-proper text ts h o = all-proper (lexed text) ts (lexed-named (length text) [] text) h o
 

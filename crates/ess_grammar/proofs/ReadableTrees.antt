@@ -15,7 +15,7 @@ use Rattle.ess_grammar.proofs.RecordFields.{some_fields, ReadableFields, fields-
 
 -- ---- proper tokens
 
--- A number token with its bound, and a name token that is a name of the profile.
+-- A number token with its bound, and a name token that is a name of the subset.
 abbrev pub is_proper : Token → Bool
 is_proper (number n) = is_number_token (pos n)
 is_proper (name a) = is_name_token a

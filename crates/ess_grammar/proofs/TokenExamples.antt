@@ -133,7 +133,7 @@ each_symbol = refl
 each_lex_symbol : map (λ e. tokens e.0) lex_symbols ≡ map read_as lex_symbols
 each_lex_symbol = refl
 
--- ---- words outside the profile
+-- ---- words outside the subset
 
 first_word_outside : first_outside (lexed (codes "find permutations, permutation, succ")) ≡ Some (at_column 20)
 first_word_outside = refl

@@ -1,4 +1,4 @@
--- Readable trees: those that the rules of the grammar give for some text whose words are all of the profile. So no number in
+-- Readable trees: those that the rules of the grammar give for some text whose words are all of the subset. So no number in
 -- them is below 0 or above 2^63 - 1, names and fields are name tokens, each list has a length that the grammar can give, a
 -- node's mark is that of a tree as it is read, a record's domain has its fields by name, and there is no cell and no view.
 use Rattle.std.specs.Prelude.{◌≡◌, ◌^◌, Bool, true, false, ◌&&◌, not, List, [], ◌∷◌, ℤ, pos, negsuc, IsTrue, nat_lt}
@@ -12,7 +12,7 @@ use Rattle.ess_grammar.specs.Tokens.{is_name}
 
 -- ---- names and numbers
 
--- Whether the text is a name token of a text that is read: a name that is no reserved word and no word outside the profile.
+-- Whether the text is a name token of a text that is read: a name that is no reserved word and no word outside the subset.
 abbrev pub is_name_token : Text → Bool
 is_name_token a = is_name a && (not (is_some (look words a)) && not (is_outside (name a)))
 

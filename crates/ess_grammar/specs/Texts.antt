@@ -1,4 +1,4 @@
--- What it means that a text is read: its tokens are what the rules say, no word of it stands outside the profile, and its load
+-- What it means that a text is read: its tokens are what the rules say, no word of it stands outside the subset, and its load
 -- is within the limit.
 use Rattle.std.specs.Prelude.{◌≡◌, List, Some, None}
 use Rattle.ess_semantics.specs.Values.{Text}
@@ -13,7 +13,7 @@ use Rattle.ess_grammar.specs.Representations.{IsRepresentation}
 abbrev pub Reads : Text → (List Token → Type 0) → Type 0
 Reads text P = (ts : List Token) × (tokens text ≡ Some ts) × P ts
 
--- No word of the text stands outside the profile, and its load is within the limit.
+-- No word of the text stands outside the subset, and its load is within the limit.
 abbrev pub IsWithinLimits : Text → Type 0
 IsWithinLimits text = (first_outside (lexed text) ≡ None) × (too_deep (lexed text) ≡ None)
 

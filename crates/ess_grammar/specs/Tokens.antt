@@ -173,7 +173,7 @@ tokens_in (next_token t bytes p more) = option_map (λ ts. t ∷ ts) (tokens_in 
 abbrev pub tokens : Text → Option (List Token)
 tokens text = tokens_in (lexed text)
 
--- the place of the first word outside the profile
+-- the place of the first word outside the subset
 abbrev pub first_outside : Lexed → Option Place
 first_outside the_end = None
 first_outside (bad_byte p) = None

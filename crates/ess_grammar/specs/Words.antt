@@ -101,7 +101,7 @@ keys =
 abbrev pub key_of : Text → Option Key
 key_of t = look keys t
 
--- words of the whole language that stand outside the profile: a text with one of them is not supported
+-- words of the whole language that stand outside the subset: a text with one of them is not supported
 abbrev pub outside : List Text
 outside =
     codes "variant" ∷ codes "permutation" ∷ codes "sequence" ∷ codes "powerSet" ∷ codes "hist" ∷ codes "table" ∷ codes "factorial" ∷
@@ -110,7 +110,7 @@ outside =
     codes "atleast" ∷ codes "atmost" ∷ codes "alldifferent_except" ∷ codes "imageSet" ∷ codes "active" ∷ codes "connex" ∷
     codes "Euclidean" ∷ codes "serial" ∷ codes "equivalence" ∷ codes "partialOrder" ∷ []
 
--- whether a token is a word outside the profile
+-- whether a token is a word outside the subset
 abbrev pub is_outside : Token → Bool
 is_outside (name t) = list_any (same_text t) outside
 is_outside _ = false

@@ -1,5 +1,5 @@
 //! Texts of specifications, models and values, as definitions: tokens with their places, the load
-//! of a text, words outside the profile, and the grammar as rules over tokens, with the trees that
+//! of a text, words outside the subset, and the grammar as rules over tokens, with the trees that
 //! texts have.
 //!
 //! The definitions stand in `specs/`. They are written from the language's description and share

@@ -163,7 +163,7 @@ pub(crate) fn kind_in(table: &[(&str, Kind)], text: &[u8]) -> Option<Kind>
     None
 }
 
-/// The words outside the profile.
+/// The words outside the subset.
 const OUTSIDE: [&str; 31] = [
     "variant",
     "permutation",
@@ -198,7 +198,7 @@ const OUTSIDE: [&str; 31] = [
     "partialOrder",
 ];
 
-/// Is the text a word outside the profile?
+/// Is the text a word outside the subset?
 pub(crate) fn is_outside_word(text: &[u8]) -> bool
     ensures { result ≡ list_any (same_text text.now) outside }
 {

@@ -27,7 +27,7 @@ pub fn load(text: &[u8]) -> Result<Option<Place>, LexNo>
     Ok(found)
 }
 
-/// Where a text has a word outside the profile: the place of the first, or None. A refusal of the
+/// Where a text has a word outside the subset: the place of the first, or None. A refusal of the
 /// lexer anywhere in the text comes first.
 pub fn first_outside(text: &[u8]) -> Result<Option<Place>, LexNo>
     ensures { result ≡ found_in first_outside (lexed text.now) }
@@ -42,7 +42,7 @@ pub fn first_outside(text: &[u8]) -> Result<Option<Place>, LexNo>
     Ok(found)
 }
 
-/// Is the token a word outside the profile?
+/// Is the token a word outside the subset?
 fn is_outside(found: &Token) -> bool
     ensures { result ≡ is_outside (token found.now.kind found.now.text.now) }
 {

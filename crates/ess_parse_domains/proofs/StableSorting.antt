@@ -45,14 +45,14 @@ module _ {A : Type 0} (lt : A → A → Bool) (o : IsStrictWeakOrder lt) where
   under-on x y [] h u = tt
   under-on x y (z ∷ zs) h u = (o.chain z y x u.0 h, under-on x y zs h u.1)
 
-  rising-more : (x y : A) (ys : List A) → lt y x ≡ false → Rising (y ∷ ys) → Rising (x ∷ y ∷ ys)
-  rising-more x y ys h r = ((h, under-on x y ys h r.0), r)
+  sorted-more : (x y : A) (ys : List A) → lt y x ≡ false → Rising (y ∷ ys) → Rising (x ∷ y ∷ ys)
+  sorted-more x y ys h r = ((h, under-on x y ys h r.0), r)
 
   sorted-rises : (xs : List A) → IsSortedBy lt xs → Rising xs
   sorted-rises [] h = tt
   sorted-rises (x ∷ []) h = (tt, tt)
   sorted-rises (x ∷ y ∷ ys) h =
-      rising-more x y ys (h 0 x (omega arith) (omega arith))
+      sorted-more x y ys (h 0 x (omega arith) (omega arith))
       (sorted-rises (y ∷ ys) (λ k d a b. let at : suc (k + 1) ≡ suc k + 1 = omega arith in
       ap (λ j. lt (slice_index_or (x ∷ y ∷ ys) j d) (slice_index_or (y ∷ ys) k d)) at ∙ h (suc k) d (omega arith) (omega arith)))
 
@@ -121,7 +121,7 @@ module _ {A : Type 0} (lt : A → A → Bool) (o : IsStrictWeakOrder lt) where
     where
       go : (b : Bool) → lt y x ≡ b → Rising (put x ys) → Rising (cond b (y ∷ put x ys) (x ∷ y ∷ ys))
       go true e ih = (under-put y x ys (o.one_way y x e) r.0, ih)
-      go false e ih = rising-more x y ys e r
+      go false e ih = sorted-more x y ys e r
 
   -- two items that don't tie, under a test
   exchanged : (x y z : A) (zs : List A) → lt z y ≡ true → filter (ties lt x) (z ∷ y ∷ zs) ≡ filter (ties lt x) (y ∷ z ∷ zs)

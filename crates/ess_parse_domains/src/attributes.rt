@@ -17,10 +17,10 @@ ghost use Rattle.ess_parse_domains.specs.Attributes.{shown_keys, key_named, attr
 
 use crate::words::step_domain_wanted;
 use ess_core::{Attr, Key};
+use ess_grammar::Kind;
 use ess_parse_frames::rows::with_flag;
 use ess_parse_frames::stack::{Top, at, innermost, inside, stop, within};
 use ess_parse_frames::{Frame, Mode, Owner, State};
-use ess_grammar::Kind;
 use ess_rows::{NoMemory, Row, Text};
 use std::alloc::Global;
 

@@ -19,13 +19,13 @@ use crate::generators::{all_over, over_each, with_all_names};
 use crate::products::{all_domains, domain_then_close_round};
 use crate::records::sorted_record;
 use ess_core::{Dom, Ex, Gen, Pat, Stm};
+use ess_grammar::Kind;
 use ess_parse_frames::reducing::{ReducedDomain, reduce_domain};
 use ess_parse_frames::rows::{with_domain, with_field_domain, with_statement};
 use ess_parse_frames::stack::{Top, at, innermost, inside, outside, stop};
 use ess_parse_frames::{Frame, Head, Mode, Operand, State};
-use ess_grammar::Kind;
-use ess_rows::{Boxed, NoMemory, Row, Text};
 use ess_parse_statements::ends::{begin_after, declarations, declared};
+use ess_rows::{Boxed, NoMemory, Row, Text};
 use std::alloc::Global;
 
 /// What a token does behind a domain: it closes the frames that end with it, and then goes on with the one outside.

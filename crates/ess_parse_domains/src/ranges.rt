@@ -12,10 +12,10 @@ ghost use Rattle.ess_parse_frames.specs.Views.{view_frames, Steps};
 use crate::ends::reduced_domain_then;
 use crate::words::is_open_round;
 use ess_core::Range;
+use ess_grammar::Kind;
 use ess_parse_frames::rows::int_of_ranges;
 use ess_parse_frames::stack::{at, inside};
 use ess_parse_frames::{Frame, Mode, State};
-use ess_grammar::Kind;
 use ess_rows::{NoMemory, Row};
 use std::alloc::Global;
 

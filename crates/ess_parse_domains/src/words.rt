@@ -9,9 +9,9 @@ ghost use Rattle.ess_parse_laws.specs.Operands.{is_open_round};
 ghost use Rattle.ess_parse_frames.specs.Views.{view_inner, view_frames, Steps};
 
 use ess_core::Dom;
+use ess_grammar::Kind;
 use ess_parse_frames::stack::{Top, at, innermost, inside, stop, within};
 use ess_parse_frames::{Frame, Inner, Mode, Owner, State};
-use ess_grammar::Kind;
 use ess_rows::{NoMemory, Row, Text};
 use std::alloc::Global;
 

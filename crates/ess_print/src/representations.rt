@@ -14,11 +14,11 @@ use std::alloc::Global;
 
 /// The text of a representation: the name of its kind, and its children in square brackets where it has any, as the Conjure
 /// manual writes them. The text is derived by the grammar's rules for exactly that representation, and no word of it stands
-/// outside the profile. `NoMemory` where there is no room for the text.
+/// outside the subset. `NoMemory` where there is no room for the text.
 pub fn print_repr(alloc: Global, repr: &Repr) -> Result<Text, NoMemory>
     ensures text { IfOk result (λ t. t ≡ repr_text (pure_repr repr.now)) }
     ensures representation { IfOk result (λ t. ReadsRepresentation t (pure_repr repr.now)) }
-    ensures profile { IfOk result (λ t. first_outside (lexed t) ≡ None) }
+    ensures subset { IfOk result (λ t. first_outside (lexed t) ≡ None) }
 {
     let mut out = Text::new(alloc);
     put_repr(&mut out, repr)?;

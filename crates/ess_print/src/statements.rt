@@ -19,12 +19,12 @@ use std::alloc::Global;
 
 /// The text of a statement, as the Essence paper's grammar has it. Where the statement is one that some text has, this text is
 /// derived by the grammar's rules for exactly that statement, alone and as a specification of it, and no word of it stands
-/// outside the profile. `NoMemory` where there is no room for the text.
+/// outside the subset. `NoMemory` where there is no room for the text.
 pub fn print_stm(alloc: Global, stm: &Stm) -> Result<Text, NoMemory>
     ensures text { IfOk result (λ t. t ≡ stm_text (pure_stm stm.now)) }
     ensures statement { ReadableStm (pure_stm stm.now) → IfOk result (λ t. Reads t (λ ts. Statement (pure_stm stm.now ∷ []) ts [])) }
     ensures specification { ReadableStm (pure_stm stm.now) → IfOk result (λ t. ReadsSpecification t (pure_stm stm.now ∷ [])) }
-    ensures profile { ReadableStm (pure_stm stm.now) → IfOk result (λ t. first_outside (lexed t) ≡ None) }
+    ensures subset { ReadableStm (pure_stm stm.now) → IfOk result (λ t. first_outside (lexed t) ≡ None) }
 {
     let mut out = Text::new(alloc);
     put_stm(&mut out, stm)?;

@@ -11,7 +11,7 @@ use Rattle.ess_grammar.specs.Tokens.{is_digit, is_letter, is_name_byte, is_name}
 use Rattle.ess_print_laws.specs.TokenTexts.{word_text, function_text, operator_text, symbol_text, token_text}
 use Rattle.ess_print_laws.specs.Touching.{symbol_ends, ends_at, ends_before, is_printable}
 use Rattle.ess_print_laws.proofs.Digits.{Writes, decimal-writes}
-use Rattle.ess_print_laws.proofs.TokensBack.{name-of-profile}
+use Rattle.ess_print_laws.proofs.TokensBack.{name-of-subset}
 
 -- A space, a line feed, `)`, `]`, `}`, `,`, `;`, `|`, `.`, `(` and `[`.
 abbrev pub closing_bytes : List ℕ
@@ -160,7 +160,7 @@ symbol-closes drawn_from h = refl
 
 token-closes : (t : Token) → is_printable t ≡ true → is_dot t ≡ false → list_all (ends_at (token_text t)) closing_bytes ≡ true
 token-closes (number n) h k = number-closes n (decimal n) (decimal-writes n (let b : n < 2 ^ 63 = ltb-true n (2 ^ 63) h in omega arith))
-token-closes (name a) h k = name-closes a (name-of-profile a h).named
+token-closes (name a) h k = name-closes a (name-of-subset a h).named
 token-closes prime_word h k = refl
 token-closes (word w) h k = word-closes w
 token-closes (operator o) h k = operator-closes o

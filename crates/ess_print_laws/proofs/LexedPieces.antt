@@ -1,4 +1,4 @@
--- The tokens of a printed text are those of its pieces, and no word of it stands outside the profile.
+-- The tokens of a printed text are those of its pieces, and no word of it stands outside the subset.
 use Rattle.std.proofs.Common.{◌≡◌, refl, sym, ap, ◌∙◌, subst, ℕ, true, false, not, List, [], ◌∷◌, ◌++◌, length, take, Some, None}
 use Rattle.std.proofs.Math.Seq.{drop-append_seam}
 use Rattle.std.specs.List.{list_all}
@@ -13,7 +13,7 @@ use Rattle.ess_print_laws.specs.Touching.{ends_before, ends_line, is_printable, 
 use Rattle.ess_print_laws.proofs.NameRuns.{stops, whole-run}
 use Rattle.ess_print_laws.proofs.TokensBack.{token-back, not-wide, not-outside}
 
--- These tokens, none of them outside the profile.
+-- These tokens, none of them outside the subset.
 pub record Holds (l : Lexed) (ts : List Token) : Type 0 where
   pub tokens : tokens_in l ≡ Some ts
   pub inside : first_outside l ≡ None
@@ -69,6 +69,6 @@ lexed-pieces (comment bytes ∷ ps) h before = first-comment before bytes (text_
 pub printed-tokens : (ps : List Piece) → Separate ps → tokens (text_of ps) ≡ Some (tokens_of ps)
 printed-tokens ps h = (lexed-pieces ps h []).tokens
 
--- No word of it stands outside the profile.
+-- No word of it stands outside the subset.
 pub printed-inside : (ps : List Piece) → Separate ps → first_outside (lexed (text_of ps)) ≡ None
 printed-inside ps h = (lexed-pieces ps h []).inside

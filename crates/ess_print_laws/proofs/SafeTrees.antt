@@ -18,7 +18,7 @@ use Rattle.ess_print_laws.specs.Expressions.{wholes, node_pieces, ex_pieces, pai
 use Rattle.ess_print_laws.specs.Statements.{stm_pieces, children_pieces, repr_pieces, children}
 use Rattle.ess_print_laws.proofs.Digits.{Writes, decimal-writes}
 use Rattle.ess_print_laws.proofs.NamesBack.{kind-named}
-use Rattle.ess_print_laws.proofs.TokensBack.{name-of-profile}
+use Rattle.ess_print_laws.proofs.TokensBack.{name-of-subset}
 use Rattle.ess_print_laws.proofs.Closing.{begins_operand}
 use Rattle.ess_print_laws.proofs.SafeParts.{Safe, Closed, AllSafe, safe, nothing, spaced, plain, free, closed, then, then-closed, commas-safe, listed-safe, within-safe, in-square, in-curly, bracketed-safe, tuple-safe, name-safe, names-safe, pat-safe}
 use Rattle.ess_print_laws.proofs.SafeNodes.{Operands, wholes-safe, maps-safe, fields_named, node-safe, ranges-safe, attributes-safe, argument-safe, field-domains-safe}
@@ -105,7 +105,7 @@ mutual
   ex-begins (number_ex (negsuc n)) h k = cc
   ex-begins (truth_ex true) h k = λ us. refl
   ex-begins (truth_ex false) h k = λ us. refl
-  ex-begins (name_ex a) h k = λ us. name-begins a (text_of us) (name-of-profile a h).named
+  ex-begins (name_ex a) h k = λ us. name-begins a (text_of us) (name-of-subset a h).named
   ex-begins (node_ex b op es) h k = node-begins op es h.1 k (first-begins es h.2)
   ex-begins (matrix_ex es d) h k = λ us. refl
   ex-begins (comp_ex e gs) h k = λ us. refl

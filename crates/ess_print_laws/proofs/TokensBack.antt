@@ -138,14 +138,14 @@ symbol-back drawn_from = of-symbol (plain-symbol _ _ _ refl refl (refl, refl) re
 
 -- ---- names and numbers
 
--- what is known of a name of the profile
-pub record NameOfProfile (a : Text) : Type 0 where
+-- what is known of a name of the subset
+pub record NameOfSubset (a : Text) : Type 0 where
   pub named : is_name a ≡ true
   pub no_word : is_some (look words a) ≡ false
   pub inside : is_outside (name a) ≡ false
 
-pub name-of-profile : (a : Text) → is_name_token a ≡ true → NameOfProfile a
-name-of-profile a h =
+pub name-of-subset : (a : Text) → is_name_token a ≡ true → NameOfSubset a
+name-of-subset a h =
     let parts = and_parts (is_name a) (not (is_some (look words a)) && not (is_outside (name a))) h in
     let others = and_parts (not (is_some (look words a))) (not (is_outside (name a))) parts.1 in
     record { named = parts.0; no_word = not-true (is_some (look words a)) others.0; inside = not-true (is_outside (name a)) others.1 }
@@ -157,7 +157,7 @@ no-word (Some x) t h = cc
 name-back : (a : Text) → is_name_token a ≡ true → ReadBack (name a) a
 name-back [] h = cc
 name-back (c ∷ cs) h =
-    let n = name-of-profile (c ∷ cs) h in
+    let n = name-of-subset (c ∷ cs) h in
     of-name n.named (no-word (look words (c ∷ cs)) (name (c ∷ cs)) n.no_word)
 
 digits-back : (n : ℕ) (ds : Text) → Writes n ds → ReadBack (number n) ds
@@ -179,7 +179,7 @@ token-back (operator o) h = operator-back o
 token-back (function f) h = function-back f
 token-back (symbol s) h = symbol-back s
 
--- none is too wide, and none is outside the profile
+-- none is too wide, and none is outside the subset
 pub not-wide : (t : Token) → is_printable t ≡ true → is_wide t ≡ false
 not-wide (number n) h = lt-leb (2 ^ 63) n (below n h)
 not-wide (name a) h = refl
@@ -191,7 +191,7 @@ not-wide (symbol s) h = refl
 
 pub not-outside : (t : Token) → is_printable t ≡ true → is_outside t ≡ false
 not-outside (number n) h = refl
-not-outside (name a) h = (name-of-profile a h).inside
+not-outside (name a) h = (name-of-subset a h).inside
 not-outside prime_word h = refl
 not-outside (word w) h = refl
 not-outside (operator o) h = refl

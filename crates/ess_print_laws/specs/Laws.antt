@@ -19,9 +19,9 @@ use Rattle.ess_print_laws.specs.Statements.{stm_pieces, repr_pieces}
 use Rattle.ess_print_laws.specs.Spelled.{is_spelled}
 use Rattle.ess_print_laws.specs.Texts.{ex_text, dom_text, stm_text, repr_text}
 
--- No byte and no number of the text is refused, P holds of its tokens, and no word of it stands outside the profile.
-abbrev pub ReadsInProfile : Text → (List Token → Type 0) → Type 0
-ReadsInProfile text P = Reads text P × (first_outside (lexed text) ≡ None)
+-- No byte and no number of the text is refused, P holds of its tokens, and no word of it stands outside the subset.
+abbrev pub ReadsInSubset : Text → (List Token → Type 0) → Type 0
+ReadsInSubset text P = Reads text P × (first_outside (lexed text) ≡ None)
 
 -- The tokens are this expression, which doesn't end in a quantifier's body.
 abbrev pub IsClosedExpression : Ex → List Token → Type 0
@@ -33,26 +33,26 @@ PiecesAreRead = (ps : List Piece) → Separate ps → (tokens (text_of ps) ≡ S
 
 -- A readable expression's text is derived as that expression.
 abbrev pub ExpressionsAreRead : Type 0
-ExpressionsAreRead = (e : Ex) → ReadableEx e → ReadsInProfile (ex_text e) (IsClosedExpression e)
+ExpressionsAreRead = (e : Ex) → ReadableEx e → ReadsInSubset (ex_text e) (IsClosedExpression e)
 
 -- A readable domain's text is derived as that domain.
 abbrev pub DomainsAreRead : Type 0
-DomainsAreRead = (d : Dom) → ReadableDom d → ReadsInProfile (dom_text d) (IsDomain d)
+DomainsAreRead = (d : Dom) → ReadableDom d → ReadsInSubset (dom_text d) (IsDomain d)
 
 -- A readable statement's text is derived as that statement, and as a specification of it alone.
 abbrev pub StatementsAreRead : Type 0
-StatementsAreRead = (s : Stm) → ReadableStm s → ReadsInProfile (stm_text s) (λ ts. Statement (s ∷ []) ts [] × IsSpecification (s ∷ []) ts)
+StatementsAreRead = (s : Stm) → ReadableStm s → ReadsInSubset (stm_text s) (λ ts. Statement (s ∷ []) ts [] × IsSpecification (s ∷ []) ts)
 
 -- Each representation's text is derived as that representation.
 abbrev pub RepresentationsAreRead : Type 0
-RepresentationsAreRead = (r : Repr) → ReadsInProfile (repr_text r) (IsRepresentation r)
+RepresentationsAreRead = (r : Repr) → ReadsInSubset (repr_text r) (IsRepresentation r)
 
 -- The text of a value that is spelled is that of its literal, which is readable, and is derived as that literal.
 pub record ValuesAreRead : Type 0 where
   pub texts : (name_of : Text → ℕ → Text) (v : Value) → IsTrue (is_spelled name_of v) → value_text name_of v ≡ ex_text (literal_of name_of v)
   pub readable : (name_of : Text → ℕ → Text) (v : Value) → IsTrue (is_spelled name_of v) → ReadableEx (literal_of name_of v)
   pub reads : (name_of : Text → ℕ → Text) (v : Value) → IsTrue (is_spelled name_of v) →
-      ReadsInProfile (value_text name_of v) (IsClosedExpression (literal_of name_of v))
+      ReadsInSubset (value_text name_of v) (IsClosedExpression (literal_of name_of v))
 
 -- What is printed before pieces is the tree's own text, and then theirs.
 pub record TextsStandFirst : Type 0 where

@@ -3,13 +3,13 @@
 ghost use Rattle.ess_print_laws.specs.Laws.{PiecesAreRead, ExpressionsAreRead, DomainsAreRead, StatementsAreRead, RepresentationsAreRead, ValuesAreRead, TextsStandFirst};
 
 /// The tokens of a text of pieces are those of its pieces, where each token ends before what follows it and is one that a
-/// text of the profile may have.
+/// text of the subset may have.
 pub fn pieces_are_read()
     ensures { PiecesAreRead }
 {}
 
 /// The text of an expression that some text has is derived by the grammar's rules for exactly that expression, and no word
-/// of it stands outside the profile.
+/// of it stands outside the subset.
 pub fn expressions_are_read()
     ensures { ExpressionsAreRead }
 {}

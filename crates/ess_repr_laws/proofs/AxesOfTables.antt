@@ -25,9 +25,9 @@ use Rattle.ess_semantics.specs.CanonicalTest.{canonical}
 use Rattle.ess_semantics.specs.Tidy.{over_axes}
 use Rattle.ess_semantics.proofs.Tests.{and-left, and-right, or-left-no, or-right-no}
 use Rattle.ess_semantics.proofs.Orders.{same-itself, same_int-equal, equal-of, text_exact}
-use Rattle.ess_semantics.proofs.Sorting.{rising-of, Distinct}
+use Rattle.ess_semantics.proofs.Sorting.{sorted-of, Distinct}
 use Rattle.ess_repr_laws.proofs.RowsOfCells.{EachOf, own_axes, axes_in, axes_of_children, axes-of-layer}
-use Rattle.ess_semantics.proofs.Repeats.{rising-distinct}
+use Rattle.ess_semantics.proofs.Repeats.{sorted-distinct}
 use Rattle.ess_semantics.proofs.MemberLists.{IsAtom, AreAtoms, atom-listed}
 use Rattle.ess_repr_laws.proofs.TablesAndCells.{NumbersDiffer, AxesDiffer, AllAxesDiffer, one-tables}
 use Rattle.ess_repr_laws.proofs.CanonicalForms.{Covered, AllCovered, right}
@@ -101,7 +101,7 @@ codes-differ d a (x ∷ xs) n m = (later xs n.0 (and-right (member d x) (list_al
             let f = or-left-no (same y x) (holds ys x) h in cc
 
 atom-axis : (d : Domain) → IsAtom d → NumbersDiffer (codes_of d)
-atom-axis d a = let l = atom-listed d a in codes-differ d a (member_list d) (rising-distinct (member_list d) (rising-of (member_list d) l.rising)) l.members
+atom-axis d a = let l = atom-listed d a in codes-differ d a (member_list d) (sorted-distinct (member_list d) (sorted-of (member_list d) l.sorted)) l.members
 
 atom-axes : (ds : Domains) → AreAtoms ds → AxesDiffer (map codes_of (domain_list ds))
 atom-axes no_domains a = tt

@@ -8,7 +8,7 @@ use Rattle.ess_semantics.specs.declared.words.ReprKind.{ReprKind}
 use Rattle.ess_semantics.specs.Lists.{and_then, when, only_of, is_some_and}
 use Rattle.ess_semantics.specs.Values.{a_tuple, a_matrix, a_set, a_mset, a_function, a_relation, a_partition, a_record, Value, number, truth, item, node, Values, nil, cons, to_list, of_list, from_of, to_of, itself, items_of}
 use Rattle.ess_semantics.specs.Order.{order, orders, same, below}
-use Rattle.ess_semantics.specs.Collections.{strictly, rises, no_twice, has_double_argument, function_of}
+use Rattle.ess_semantics.specs.Collections.{sorted_once, rises, no_twice, has_double_argument, function_of}
 use Rattle.ess_semantics.specs.Trees.{Repr, repr, no_reprs, more_reprs}
 use Rattle.ess_semantics.specs.Domains.{Attribute, Domain, Domains, tuples, sets, functions, relations, no_domains, more_domains}
 use Rattle.ess_semantics.specs.Attributes.{relation_attributes_hold, function_attributes_hold}
@@ -24,7 +24,7 @@ use Rattle.ess_semantics.specs.CanonicalTest.{canonical}
 use Rattle.ess_semantics.specs.Tidy.{tidy_cells}
 use Rattle.ess_semantics.proofs.Tests.{and-left, and-right, and-both, some-and, or-left-no, not-true}
 use Rattle.ess_semantics.proofs.Orders.{of_list-to_list}
-use Rattle.ess_semantics.proofs.Sorting.{strictly-itself}
+use Rattle.ess_semantics.proofs.Sorting.{sorted_once-itself}
 use Rattle.ess_repr_laws.proofs.RowsOfCells.{axes-of-layer}
 use Rattle.ess_repr_laws.proofs.CanonicalParts.{Right}
 use Rattle.ess_repr_laws.proofs.CanonicalRelations.{tuples-of-members, OneValue, one-value, value-once, value-orderly}
@@ -67,7 +67,7 @@ module _ (r : Repr) (ks : List Attribute) (ds : Domains) (right : Right r (child
     one : OneSet c
     xs : Values
     form : one.v ≡ node a_set xs
-    rising : rises itself (to_list xs) ≡ true
+    sorted : rises itself (to_list xs) ≡ true
     inside : list_all (member (tuples ds)) (to_list xs) ≡ true
     value : value_of_cells (repr ReprKind.RelationAsSet (more_reprs r no_reprs)) (relations ks ds) c ≡ Some (node a_relation xs)
 
@@ -75,7 +75,7 @@ module _ (r : Repr) (ks : List Attribute) (ds : Domains) (right : Right r (child
   tuples-of c h =
       let o = one-value r (child_set ks ds) right relation_from tuple_set asked_tuples (take 0 c) (drop 0 c) h in
       let s = set-member-form (keys_of (child_set ks ds)) (tuples ds) o.v o.member_of in
-      record { one = o; xs = s.0; form = s.1; rising = s.2; inside = s.3; value = o.value ∙ ap relation_from s.1 }
+      record { one = o; xs = s.0; form = s.1; sorted = s.2; inside = s.3; value = o.value ∙ ap relation_from s.1 }
 
   pub relation-as-set-right : Right (repr ReprKind.RelationAsSet (more_reprs r no_reprs)) (relations ks ds)
   relation-as-set-right = record { sound = λ c h. let x = tuples-of c h in (node a_relation x.xs, x.value); unique = unique'; tidies = tidies' }
@@ -99,7 +99,7 @@ module _ (r : Repr) (ks : List Attribute) (ds : Domains) (right : Right r (child
           and-both (is_some_and (value_of_cells (repr ReprKind.RelationAsSet (more_reprs r no_reprs)) (relations ks ds) c) (member (relations ks ds))) _
           (ap (λ v. is_some_and v (member (relations ks ds))) x.value
           ∙ and-both (rises itself (to_list x.xs) && list_all (tuple_member ds) (to_list x.xs)) (relation_attributes_hold ks ds (to_list x.xs))
-          (and-both (rises itself (to_list x.xs)) (list_all (tuple_member ds) (to_list x.xs)) x.rising (tuples-of-members ds (to_list x.xs) x.inside))
+          (and-both (rises itself (to_list x.xs)) (list_all (tuple_member ds) (to_list x.xs)) x.sorted (tuples-of-members ds (to_list x.xs) x.inside))
           (sym (ap (λ v. is_some_and (relation_from v) (λ w. relation_attributes_hold ks ds (items_of w))) x.form) ∙ o.attributes))
           (value-orderly r (child_set ks ds) right relation_from tuple_set asked_tuples (take 0 c) (drop 0 c) x.one)
 
@@ -221,7 +221,7 @@ module _ (r : Repr) (ks : List Attribute) (d c : Domain) (right : Right r (child
     one : OneValue r (child_relation ks d c) right function_from pair_relation asked_pairs (take 0 x) (drop 0 x)
     ps : Values
     form : one.v ≡ node a_relation ps
-    rising : rises itself (to_list ps) ≡ true
+    sorted : rises itself (to_list ps) ≡ true
     pairs : list_all (is_pair_of d c) (to_list ps) ≡ true
     firsts : rises from_of (to_list ps) ≡ true
     value : value_of_cells as_relation (functions ks d c) x ≡ Some (node a_function ps)
@@ -232,17 +232,17 @@ module _ (r : Repr) (ks : List Attribute) (d c : Domain) (right : Right r (child
       let o = one-value r (child_relation ks d c) right function_from pair_relation asked_pairs (take 0 x) (drop 0 x) h in
       let s = relation-member-form (keys_of (child_relation ks d c)) (more_domains d (more_domains c no_domains)) o.v o.member_of in
       let a = some-and (function_of (to_list s.0)) (λ v. function_attributes_hold ks d c (items_of v)) (ap (λ v. is_some_and (function_from v) (λ w. function_attributes_hold ks d c (items_of w))) (sym s.1) ∙ o.attributes) in
-      let w = when-some (not (has_double_argument (to_list s.0))) (node a_function (of_list (strictly (to_list s.0)))) a.0 a.1 in
-      let own : strictly (to_list s.0) ≡ to_list s.0 = strictly-itself (to_list s.0) s.2 in
+      let w = when-some (not (has_double_argument (to_list s.0))) (node a_function (of_list (sorted_once (to_list s.0)))) a.0 a.1 in
+      let own : sorted_once (to_list s.0) ≡ to_list s.0 = sorted_once-itself (to_list s.0) s.2 in
       let f : a.0 ≡ node a_function s.0 = sym w.1 ∙ ap (λ l. node a_function (of_list l)) own ∙ ap (node a_function) (of_list-to_list s.0) in
       let ps = pairs-of-tuples d c (to_list s.0) s.3 in
       record {
         one = o;
         ps = s.0;
         form = s.1;
-        rising = s.2;
+        sorted = s.2;
         pairs = ps;
-        firsts = firsts-rise d c (to_list s.0) ps s.2 (ap (no_twice from_of) (sym own) ∙ not-not (no_twice from_of (strictly (to_list s.0))) w.0);
+        firsts = firsts-rise d c (to_list s.0) ps s.2 (ap (no_twice from_of) (sym own) ∙ not-not (no_twice from_of (sorted_once (to_list s.0))) w.0);
         value = o.value ∙ ap function_from s.1 ∙ a.1 ∙ ap Some f;
         attributes = ap (λ v. function_attributes_hold ks d c (items_of v)) (sym f) ∙ a.2;
       }

@@ -5,7 +5,7 @@ use Rattle.std.specs.List.{list_all}
 use Rattle.ess_semantics.specs.declared.words.ReprKind.{ReprKind}
 use Rattle.ess_semantics.specs.Lists.{and_then, each_of, is_some_and}
 use Rattle.ess_semantics.specs.Values.{Value, to_list, of_list}
-use Rattle.ess_semantics.specs.Collections.{count, rising, mset_of, rises_weakly}
+use Rattle.ess_semantics.specs.Collections.{count, sorted, mset_of, rises_weakly}
 use Rattle.ess_semantics.specs.Numbers.{one_to, not_below_0}
 use Rattle.ess_semantics.specs.Trees.{Repr, Reprs, repr, no_reprs, more_reprs}
 use Rattle.ess_semantics.specs.Domains.{Attribute, Domain, msets, lists_of}
@@ -29,7 +29,7 @@ use Rattle.ess_repr_laws.proofs.OneForm.{filled-once, filled-distinct, filled-ap
 use Rattle.ess_semantics.proofs.Runs.{from_to, from-length}
 use Rattle.ess_repr_laws.proofs.CanonicalParts.{Right, Parts, parts-of, value-of-parts, only-child, only-child-rows}
 use Rattle.ess_repr_laws.proofs.CanonicalSlots.{Full, slot_at, filled, slots-orderly}
-use Rattle.ess_semantics.proofs.Multisets.{count-rising, rising-rises, rising-length, rising-all, same-members}
+use Rattle.ess_semantics.proofs.Multisets.{count-sorted, sorted-rises, sorted-length, sorted-all, same-members}
 use Rattle.ess_semantics.proofs.Repeats.{attributes-of, all-repeated, repeated-length, repeated-times}
 use Rattle.ess_repr_laws.proofs.CountedSlots.{Counts, counts-used, each-number, number-row, repeated-first, total-first, all-first, count-at, repeated-holds}
 
@@ -111,9 +111,9 @@ module _ (r : Repr) (e : Domain) (ks : List Attribute) (right : Right r e) where
           let xs = each_repeated (from_to u.times 1 u.n) x.vs in
           let ys = each_repeated (from_to v.times 1 v.n) y.vs in
           let w : Some (mset_of xs) ≡ Some (mset_of ys) = sym x.value ∙ q ∙ y.value in
-          let l : of_list (rising xs) ≡ of_list (rising ys) = cc in
-          let s : rising xs ≡ rising ys = sym (to_list-of_list (rising xs)) ∙ ap to_list l ∙ to_list-of_list (rising ys) in
-          let counts = λ (w : Value). sym (count-rising xs w) ∙ ap (λ l. count l w) s ∙ count-rising ys w in
+          let l : of_list (sorted xs) ≡ of_list (sorted ys) = cc in
+          let s : sorted xs ≡ sorted ys = sym (to_list-of_list (sorted xs)) ∙ ap to_list l ∙ to_list-of_list (sorted ys) in
+          let counts = λ (w : Value). sym (count-sorted xs w) ∙ ap (λ l. count l w) s ∙ count-sorted ys w in
           let above = u.above in
           let above' = v.above in
           let members = λ (w : Value). sym (repeated-holds u.times 1 u.n x.vs w x.long (λ k a b. above k a (omega arith))) ∙ same-members xs ys counts w ∙ repeated-holds v.times 1 v.n y.vs w y.long (λ k a b. above' k a (omega arith)) in
@@ -160,15 +160,15 @@ module _ (r : Repr) (e : Domain) (ks : List Attribute) (right : Right r e) where
       let ms = each-value (value_at_slot fs) (member e) 1 u.n x.vs full.values
       (λ k a b v q. ap (λ o. is_some_and o (member e)) (sym q) ∙ and-left (is_some_and (value_at_slot fs (pos k)) (member e)) (is_orderly r e (behind (pos k ∷ []) (take (width r) fs))) (right.tidies (behind (pos k ∷ []) (take (width r) fs)) (inside k a (omega arith)))) in
       let row-is : row (one_to S ∷ []) f ≡ map pos (from_to u.times 1 S) = number-row f u.times 1 S (λ k a b. cell k a (omega arith)) in
-      let long : length (rising ys) ≡ total (map pos (from_to u.times 1 S)) =
-      rising-length ys ∙ repeated-length (from_to u.times 1 u.n) x.vs (from-length u.times 1 u.n ∙ sym x.long) ∙ sym (total-first u.times 1 S u.n u.room (λ k a b. none k (omega arith) (omega arith))) in
+      let long : length (sorted ys) ≡ total (map pos (from_to u.times 1 S)) =
+      sorted-length ys ∙ repeated-length (from_to u.times 1 u.n) x.vs (from-length u.times 1 u.n ∙ sym x.long) ∙ sym (total-first u.times 1 S u.n u.room (λ k a b. none k (omega arith) (omega arith))) in
       and-both (is_some_and (value_of_cells flagged (msets ks e) (f ∷ fs)) (member (msets ks e))) _
       (ap (λ o. is_some_and o (member (msets ks e))) x.value
-      ∙ ap (λ l. rises_weakly l && list_all (member e) l && mset_attributes_hold ks l) (to_list-of_list (rising ys))
-      ∙ and-both (rises_weakly (rising ys) && list_all (member e) (rising ys)) (mset_attributes_hold ks (rising ys))
-      (and-both (rises_weakly (rising ys)) (list_all (member e) (rising ys)) (rising-rises ys) (rising-all (member e) ys ∙ all-repeated (member e) (from_to u.times 1 u.n) x.vs ms))
-      (attributes-of ks (rising ys) (map pos (from_to u.times 1 S)) long
-      (λ k z a v m c. repeated-times (times_hold k z) (from_to u.times 1 u.n) x.vs x.distinct (all-first (times_hold k z) u.times 1 S u.n u.room a) v m (sym (count-rising ys v) ∙ c))
+      ∙ ap (λ l. rises_weakly l && list_all (member e) l && mset_attributes_hold ks l) (to_list-of_list (sorted ys))
+      ∙ and-both (rises_weakly (sorted ys) && list_all (member e) (sorted ys)) (mset_attributes_hold ks (sorted ys))
+      (and-both (rises_weakly (sorted ys)) (list_all (member e) (sorted ys)) (sorted-rises ys) (sorted-all (member e) ys ∙ all-repeated (member e) (from_to u.times 1 u.n) x.vs ms))
+      (attributes-of ks (sorted ys) (map pos (from_to u.times 1 S)) long
+      (λ k z a v m c. repeated-times (times_hold k z) (from_to u.times 1 u.n) x.vs x.distinct (all-first (times_hold k z) u.times 1 S u.n u.room a) v m (sym (count-sorted ys v) ∙ c))
       (ap (counts_hold ks) (sym row-is) ∙ p.attributes)))
       (and-both _ _ p.first (ap (λ o. is_some_and o (are_orderly whole child (e ∷ []) fs)) slots.found ∙ slots-orderly r e right S where_counted fs u.n x.vs full x.values))
 

@@ -11,7 +11,7 @@ use Rattle.ess_semantics.specs.declared.words.ReprKind.{ReprKind}
 use Rattle.ess_semantics.specs.Lists.{and_then, each_of, append_all, is_some_and, or_default}
 use Rattle.ess_semantics.specs.Values.{Value, number, to_list, of_list, itself}
 use Rattle.ess_semantics.specs.Order.{same_int}
-use Rattle.ess_semantics.specs.Collections.{holds, strictly, set_of, rises}
+use Rattle.ess_semantics.specs.Collections.{holds, sorted_once, set_of, rises}
 use Rattle.ess_semantics.specs.Numbers.{run_from, one_to}
 use Rattle.ess_semantics.specs.Trees.{Repr, repr, no_reprs}
 use Rattle.ess_semantics.specs.Domains.{Attribute, Domain, sets}
@@ -28,10 +28,10 @@ use Rattle.ess_semantics.specs.CanonicalTest.{canonical}
 use Rattle.ess_semantics.specs.Tidy.{tidy_cells}
 use Rattle.ess_semantics.proofs.Tests.{and-left, and-right, and-both, if-so, some-and, all-run, not-true}
 use Rattle.ess_semantics.proofs.Orders.{to_list-of_list, same_int-equal, same_int-itself}
-use Rattle.ess_semantics.proofs.Sorting.{Rising, Has, one-list, strictly-rises, all-strictly, strictly-length, holds-strictly, Distinct}
+use Rattle.ess_semantics.proofs.Sorting.{Rising, Has, one-list, sorted_once-rises, all-sorted_once, sorted_once-length, holds-sorted_once, Distinct}
 use Rattle.ess_repr_laws.proofs.RowsOfCells.{agree-row}
 use Rattle.ess_repr_laws.proofs.SlotsUsed.{first-ones, each-run}
-use Rattle.ess_semantics.proofs.Runs.{from_to, from-length, rising-from, has-at, found, same-at, apart-at}
+use Rattle.ess_semantics.proofs.Runs.{from_to, from-length, sorted-from, has-at, found, same-at, apart-at}
 use Rattle.ess_repr_laws.proofs.CanonicalParts.{Right, Parts, parts-of}
 use Rattle.ess_repr_laws.proofs.CanonicalScalars.{Stands}
 use Rattle.ess_repr_laws.proofs.Dummies.{Dummy, lt-of, holds-from, from-holds, from-all, filter-run}
@@ -153,8 +153,8 @@ module _ (e : Domain) (ks : List Attribute) (m : ℤ) (D : Dummy e m) where
   code-at : (f : Grid) (x : Slots f) (k : ℕ) → 1 ≤ k → k ≤ x.n → code (value_at_slot f k) ≡ number_at f k
   code-at f x k a b = let s = stands-at f x k a (let t = x.room in omega arith) (x.used k a b) in ap code (value-is f k s) ∙ s.3
 
-  rising : (f : Grid) (x : Slots f) → Rising int_cmp_total (from_to (number_at f) 1 x.n)
-  rising f x = rising-from int_cmp_total (number_at f) 1 x.n (λ k a b. x.rise k a (omega arith))
+  sorted : (f : Grid) (x : Slots f) → Rising int_cmp_total (from_to (number_at f) 1 x.n)
+  sorted f x = sorted-from int_cmp_total (number_at f) 1 x.n (λ k a b. x.rise k a (omega arith))
 
   -- ---- right
 
@@ -190,10 +190,10 @@ module _ (e : Domain) (ks : List Attribute) (m : ℤ) (D : Dummy e m) where
           let vs = from_to (value_at_slot f) 1 x.n in
           let ws = from_to (value_at_slot g) 1 y.n in
           let eq : Some (set_of vs) ≡ Some (set_of ws) = sym (slots-value f x) ∙ q ∙ slots-value g y in
-          let ls : of_list (strictly vs) ≡ of_list (strictly ws) = cc in
-          let s : strictly vs ≡ strictly ws = sym (to_list-of_list (strictly vs)) ∙ ap to_list ls ∙ to_list-of_list (strictly ws) in
-          let hold = λ (w : Value). sym (holds-strictly vs w) ∙ ap (λ l. holds l w) s ∙ holds-strictly ws w in
-          let one = one-list int_cmp_total (from_to (number_at f) 1 x.n) (from_to (number_at g) 1 y.n) (rising f x) (rising g y)
+          let ls : of_list (sorted_once vs) ≡ of_list (sorted_once ws) = cc in
+          let s : sorted_once vs ≡ sorted_once ws = sym (to_list-of_list (sorted_once vs)) ∙ ap to_list ls ∙ to_list-of_list (sorted_once ws) in
+          let hold = λ (w : Value). sym (holds-sorted_once vs w) ∙ ap (λ l. holds l w) s ∙ holds-sorted_once ws w in
+          let one = one-list int_cmp_total (from_to (number_at f) 1 x.n) (from_to (number_at g) 1 y.n) (sorted f x) (sorted g y)
           (within f g x y (λ w p. sym (hold w) ∙ p)) (within g f y x (λ w p. hold w ∙ p)) in
           let r = same-at (number_at f) (number_at g) 1 x.n y.n one in
           let free = x.free in
@@ -270,21 +270,21 @@ module _ (e : Domain) (ks : List Attribute) (m : ℤ) (D : Dummy e m) where
       let used = x.used in
       let free = x.free in
       let cell = x.cell in
-      let d = distinct-from f 1 x.n (rising f x) (λ k a b. code-at f x k a (omega arith)) in
+      let d = distinct-from f 1 x.n (sorted f x) (λ k a b. code-at f x k a (omega arith)) in
       let count : members_held S m f ≡ x.n = filter-run (holds_member m f) 1 S x.n room
       (λ k a b. ap (λ o. is_some_and o (λ n. not (same_int m n))) (cell k a (omega arith)) ∙ ap not (used k a (omega arith)))
       (λ k a b. ap (λ o. is_some_and o (λ n. not (same_int m n))) (cell k (omega arith) (omega arith)) ∙ ap not (ap (same_int m) (sym (free k (omega arith) (omega arith))) ∙ same_int-itself m)) in
       and-both (is_some_and (value_of_cells with_dummy (sets ks e) (f ∷ [])) (member (sets ks e))) _
       (ap (λ o. is_some_and o (member (sets ks e))) (slots-value f x)
-      ∙ ap (λ l. rises itself l && list_all (member e) l && set_attributes_hold ks (length l)) (to_list-of_list (strictly vs))
-      ∙ and-both (rises itself (strictly vs) && list_all (member e) (strictly vs)) (set_attributes_hold ks (length (strictly vs)))
-      (and-both (rises itself (strictly vs)) (list_all (member e) (strictly vs)) (strictly-rises vs)
-      (all-strictly (member e) vs ∙ from-all (member e) (value_at_slot f) 1 x.n (λ k a b. let s = stands-at f x k a (omega arith) (used k a (omega arith)) in ap (member e) (value-is f k s) ∙ s.2)))
-      (ap (set_attributes_hold ks) (strictly-length vs d ∙ from-length (value_at_slot f) 1 x.n ∙ sym count) ∙ x.sizes))
+      ∙ ap (λ l. rises itself l && list_all (member e) l && set_attributes_hold ks (length l)) (to_list-of_list (sorted_once vs))
+      ∙ and-both (rises itself (sorted_once vs) && list_all (member e) (sorted_once vs)) (set_attributes_hold ks (length (sorted_once vs)))
+      (and-both (rises itself (sorted_once vs)) (list_all (member e) (sorted_once vs)) (sorted_once-rises vs)
+      (all-sorted_once (member e) vs ∙ from-all (member e) (value_at_slot f) 1 x.n (λ k a b. let s = stands-at f x k a (omega arith) (used k a (omega arith)) in ap (member e) (value-is f k s) ∙ s.2)))
+      (ap (set_attributes_hold ks) (sorted_once-length vs d ∙ from-length (value_at_slot f) 1 x.n ∙ sym count) ∙ x.sizes))
       (and-both _ true (and-both _ true
       (ap (λ o. is_some_and o (λ m. is_some_and (each_of (one_to S) (λ k. f (k ∷ []))) (dummies_last m))) D.is
       ∙ ap (λ o. is_some_and o (dummies_last m)) (each-there f 1 S (λ k a b. cell k a (omega arith)))
-      ∙ last-dummies f 1 S x.n room (rising f x) (λ k a b. used k a (omega arith)) (λ k a b. free k (omega arith) (omega arith))) refl) refl)
+      ∙ last-dummies f 1 S x.n room (sorted f x) (λ k a b. used k a (omega arith)) (λ k a b. free k (omega arith) (omega arith))) refl) refl)
 
   pub dummy-right : Right with_dummy (sets ks e)
   dummy-right = record { sound = dummy-sound; unique = dummy-unique; tidies = dummy-tidies }

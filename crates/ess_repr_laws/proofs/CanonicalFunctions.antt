@@ -111,7 +111,7 @@ module _ (r : Repr) (ks : List Attribute) (d c : Domain) (as' : Axes) (index : V
       let l = args.listed in
       let m = children-members (c ∷ []) as' build contents_of asked own child (c ∷ []) (right, tt) inner (x.vs ∷ []) p.inside x.values in
       and-both (is_some_and (value_of_layer whole child own inner) (member (functions ks d c))) (are_orderly whole child (c ∷ []) inner (lists_of as'))
-      (ap (λ o. is_some_and o (member (functions ks d c))) x.value ∙ function-member ks d c xs x.vs l.rising l.members m.0 x.attributes)
+      (ap (λ o. is_some_and o (member (functions ks d c))) x.value ∙ function-member ks d c xs x.vs l.sorted l.members m.0 x.attributes)
       (children-orderly (c ∷ []) as' build contents_of asked own child (c ∷ []) (right, tt) inner p.inside)
 
 -- ---- the two kinds of total functions

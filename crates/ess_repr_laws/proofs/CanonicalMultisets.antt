@@ -21,13 +21,13 @@ use Rattle.ess_semantics.specs.CanonicalTest.{canonical}
 use Rattle.ess_semantics.specs.Tidy.{tidy_cells}
 use Rattle.ess_semantics.proofs.Tests.{and-left, and-both}
 use Rattle.ess_semantics.proofs.Orders.{to_list-of_list}
-use Rattle.ess_semantics.proofs.Sorting.{rising-of, Distinct}
+use Rattle.ess_semantics.proofs.Sorting.{sorted-of, Distinct}
 use Rattle.ess_repr_laws.proofs.RowsOfCells.{EachOf, agree-row}
 use Rattle.ess_repr_laws.proofs.SlotsUsed.{all-map, marker-cell}
 use Rattle.ess_repr_laws.proofs.CanonicalParts.{Right, Parts, parts-of}
 use Rattle.ess_repr_laws.proofs.CanonicalPlaces.{AllOf, all-of-list, all-of-map}
 use Rattle.ess_semantics.proofs.MemberLists.{Listed}
-use Rattle.ess_semantics.proofs.Repeats.{attributes-of, rising-distinct, repeated-once, repeated-weakly, of-weakly, all-repeated, repeated-length, repeated-times}
+use Rattle.ess_semantics.proofs.Repeats.{attributes-of, sorted-distinct, repeated-once, repeated-weakly, of-weakly, all-repeated, repeated-length, repeated-times}
 
 -- a cell that is there and isn't below 0
 abbrev pub Natural : Option ℤ → Type 0
@@ -73,7 +73,7 @@ module _ (e : Domain) (ks : List Attribute) (listed : Listed e) where
   row-of-codes f (z ∷ zs) = ap (λ l. or_default (cell_of f z) (pos 0) ∷ l) (row-of-codes f zs)
 
   distinct : Distinct xs
-  distinct = rising-distinct xs (rising-of xs listed.rising)
+  distinct = sorted-distinct xs (sorted-of xs listed.sorted)
 
   record Counted (f : Grid) : Type 0 where
     parts : Parts (mset_occurrence_layer ks e) no_reprs (f ∷ []) []
@@ -134,7 +134,7 @@ module _ (e : Domain) (ks : List Attribute) (listed : Listed e) where
       (ap (λ o. is_some_and o (member (msets ks e))) x.value
       ∙ ap (λ l. rises_weakly l && list_all (member e) l && mset_attributes_hold ks l) (to_list-of_list ys)
       ∙ and-both (rises_weakly ys && list_all (member e) ys) (mset_attributes_hold ks ys)
-      (and-both (rises_weakly ys) (list_all (member e) ys) (of-weakly ys (repeated-weakly x.ns xs (rising-of xs listed.rising))) (all-repeated (member e) x.ns xs listed.members))
+      (and-both (rises_weakly ys) (list_all (member e) ys) (of-weakly ys (repeated-weakly x.ns xs (sorted-of xs listed.sorted))) (all-repeated (member e) x.ns xs listed.members))
       (attributes-of ks ys (map pos x.ns) (repeated-length x.ns xs x.long) (λ k z a v m c. repeated-times (times_hold k z) x.ns xs distinct a v m c)
       (ap (counts_hold ks) (sym (row-of-codes f xs ∙ x.cells)) ∙ p.attributes))) refl
 

@@ -6,7 +6,7 @@ use Rattle.ess_semantics.specs.declared.words.ReprKind.{ReprKind}
 use Rattle.ess_semantics.specs.Lists.{and_then, each_of, is_empty, is_some_and, or_default}
 use Rattle.ess_semantics.specs.Values.{a_partition, Value, node, to_list, of_list, itself, items_of}
 use Rattle.ess_semantics.specs.Order.{same, same_int}
-use Rattle.ess_semantics.specs.Collections.{holds, strictly, set_of, rises, has_empty_part, has_overlap, partition_of}
+use Rattle.ess_semantics.specs.Collections.{holds, sorted_once, set_of, rises, has_empty_part, has_overlap, partition_of}
 use Rattle.ess_semantics.specs.Numbers.{one_to}
 use Rattle.ess_semantics.specs.Trees.{Repr, repr, no_reprs}
 use Rattle.ess_semantics.specs.Domains.{Attribute, Domain, partitions, member_list, members, between}
@@ -23,7 +23,7 @@ use Rattle.ess_semantics.specs.CanonicalTest.{canonical}
 use Rattle.ess_semantics.specs.Tidy.{tidy_cells}
 use Rattle.ess_semantics.proofs.Tests.{and-left, and-right, and-both, or-yes, some-and, not-true}
 use Rattle.ess_semantics.proofs.Orders.{to_list-of_list, same_int-equal, same_int-itself, same-itself}
-use Rattle.ess_semantics.proofs.Sorting.{holds-strictly, strictly-rises, all-strictly, strictly-length, Distinct}
+use Rattle.ess_semantics.proofs.Sorting.{holds-sorted_once, sorted_once-rises, all-sorted_once, sorted_once-length, Distinct}
 use Rattle.ess_repr_laws.proofs.RowsOfCells.{EachOf, agree-row}
 use Rattle.ess_repr_laws.proofs.SlotsUsed.{all-map, marker-cell}
 use Rattle.ess_repr_laws.proofs.CanonicalParts.{Right, parts-of}
@@ -32,7 +32,7 @@ use Rattle.ess_repr_laws.proofs.CanonicalConversions.{when-some}
 use Rattle.ess_semantics.proofs.MemberLists.{Listed}
 use Rattle.ess_repr_laws.proofs.Arguments.{of-held}
 use Rattle.ess_repr_laws.proofs.Numberings.{Before, ByLeast, one-numbering}
-use Rattle.ess_semantics.proofs.Overlaps.{all_members, apart-distinct, strictly-apart, no-overlap, overlap-none}
+use Rattle.ess_semantics.proofs.Overlaps.{all_members, apart-distinct, sorted_once-apart, no-overlap, overlap-none}
 use Rattle.ess_repr_laws.proofs.PartNumbers.{le-is, lt-is, found-item, numbered-holds, numbered-all, each-cell, each-of-map, parts-from, from-parts, parts-length, part-of, parts-are}
 
 module _ (d : Domain) (ks : List Attribute) (listed : Listed d) where
@@ -59,7 +59,7 @@ module _ (d : Domain) (ks : List Attribute) (listed : Listed d) where
 
   part-holds : (w : Value → ℤ) (k : ℤ) (v : Value) → holds (items_of (part w k)) v ≡ holds xs v && same_int (w v) k
   part-holds w k v =
-      ap (λ l. holds l v) (to_list-of_list (strictly (members_numbered xs (map w xs) k))) ∙ holds-strictly (members_numbered xs (map w xs) k) v ∙ numbered-holds w xs k v
+      ap (λ l. holds l v) (to_list-of_list (sorted_once (members_numbered xs (map w xs) k))) ∙ holds-sorted_once (members_numbered xs (map w xs) k) v ∙ numbered-holds w xs k v
 
   -- numbers from cells, counted by least members
   by-least : (g : Grid) → AllOf xs (λ x. g (code x ∷ []) ≡ Some (number_of g x)) → AllOf xs (λ x. pos 1 ≤ℤ number_of g x) → numbered_by_least (codes_of d) g ≡ true → ByLeast xs (number_of g)
@@ -97,8 +97,8 @@ module _ (d : Domain) (ks : List Attribute) (listed : Listed d) where
     inside : AllOf xs (λ x. is_part_number n (number_of g x) ≡ true)
     full : has_empty_part (numbered n (number_of g)) ≡ false
     apart : Distinct (all_members (numbered n (number_of g)))
-    value : value_of_cells by_number (partitions ks d) (f ∷ g ∷ []) ≡ Some (node a_partition (of_list (strictly (numbered n (number_of g)))))
-    attributes : is_partition_of ks d (to_list (of_list (strictly (numbered n (number_of g))))) ≡ true
+    value : value_of_cells by_number (partitions ks d) (f ∷ g ∷ []) ≡ Some (node a_partition (of_list (sorted_once (numbered n (number_of g)))))
+    attributes : is_partition_of ks d (to_list (of_list (sorted_once (numbered n (number_of g))))) ≡ true
 
   number-cell : (o : Option ℤ) (B : ℕ) → is_some_and o (is_cell (between (pos 1) (pos B))) ≡ true → (o ≡ Some (or_default o (pos 0))) × (pos 1 ≤ℤ or_default o (pos 0))
   number-cell None B h = cc
@@ -123,7 +123,7 @@ module _ (d : Domain) (ks : List Attribute) (listed : Listed d) where
       let b = numbered_by_least (codes_of d) g in
       let s = some-and (numbered_parts d (f ∷ g ∷ [])) (λ v. is_partition_of ks d (items_of v)) (and-right b (is_some_and (numbered_parts d (f ∷ g ∷ [])) (λ v. is_partition_of ks d (items_of v))) p.attributes) in
       let i = if-some (list_all (is_part_number fc.0) (map (number_of g) xs)) (partition_of (numbered fc.0 (number_of g))) s.0 (sym found ∙ s.1) in
-      let w = when-some (not (has_empty_part (numbered fc.0 (number_of g))) && not (has_overlap (numbered fc.0 (number_of g)))) (node a_partition (of_list (strictly (numbered fc.0 (number_of g))))) s.0 i.1 in
+      let w = when-some (not (has_empty_part (numbered fc.0 (number_of g))) && not (has_overlap (numbered fc.0 (number_of g)))) (node a_partition (of_list (sorted_once (numbered fc.0 (number_of g))))) s.0 i.1 in
       let full = and-left (not (has_empty_part (numbered fc.0 (number_of g)))) (not (has_overlap (numbered fc.0 (number_of g)))) w.0 in
       let apart = and-right (not (has_empty_part (numbered fc.0 (number_of g)))) (not (has_overlap (numbered fc.0 (number_of g)))) w.0 in
       record {
@@ -153,16 +153,16 @@ module _ (d : Domain) (ks : List Attribute) (listed : Listed d) where
   sound' : (c : Cells) → canonical by_number (partitions ks d) c ≡ true → (v : Value) × (value_of_cells by_number (partitions ks d) c ≡ Some v)
   sound' [] h = cc
   sound' (f ∷ []) h = absurd (too-few f h)
-  sound' (f ∷ g ∷ []) h = let x = numbers-of f g h in (node a_partition (of_list (strictly (numbered x.n (number_of g)))), x.value)
+  sound' (f ∷ g ∷ []) h = let x = numbers-of f g h in (node a_partition (of_list (sorted_once (numbered x.n (number_of g)))), x.value)
   sound' (f ∷ g ∷ g' ∷ gs) h = absurd (too-many f g g' gs h)
 
   -- one partition
-  module _ (f g f' g' : Grid) (x : Numbers f g) (y : Numbers f' g') (e : strictly (numbered x.n (number_of g)) ≡ strictly (numbered y.n (number_of g'))) where
+  module _ (f g f' g' : Grid) (x : Numbers f g) (y : Numbers f' g') (e : sorted_once (numbered x.n (number_of g)) ≡ sorted_once (numbered y.n (number_of g'))) where
     same-count : x.n ≡ y.n
     same-count =
         sym (parts-length (part (number_of g)) 1 x.n)
-        ∙ sym (strictly-length (numbered x.n (number_of g)) (apart-distinct (numbered x.n (number_of g)) x.full x.apart)) ∙ ap length e
-        ∙ strictly-length (numbered y.n (number_of g')) (apart-distinct (numbered y.n (number_of g')) y.full y.apart)
+        ∙ sym (sorted_once-length (numbered x.n (number_of g)) (apart-distinct (numbered x.n (number_of g)) x.full x.apart)) ∙ ap length e
+        ∙ sorted_once-length (numbered y.n (number_of g')) (apart-distinct (numbered y.n (number_of g')) y.full y.apart)
         ∙ parts-length (part (number_of g')) 1 y.n
 
     -- what shares a part shares it in the other numbering
@@ -188,8 +188,8 @@ module _ (d : Domain) (ks : List Attribute) (listed : Listed d) where
             let hi = leb-true m x.n (and-right (nat_le 1 m) (nat_le m x.n) z) in
             let there = parts-from (part (number_of g)) 1 x.n m lo (omega arith) in
             let also : holds (numbered y.n (number_of g')) (part (number_of g) (pos m)) ≡ true =
-            sym (holds-strictly (numbered y.n (number_of g')) (part (number_of g) (pos m))) ∙ ap (λ l. holds l (part (number_of g) (pos m))) (sym e)
-            ∙ holds-strictly (numbered x.n (number_of g)) (part (number_of g) (pos m)) ∙ there in
+            sym (holds-sorted_once (numbered y.n (number_of g')) (part (number_of g) (pos m))) ∙ ap (λ l. holds l (part (number_of g) (pos m))) (sym e)
+            ∙ holds-sorted_once (numbered x.n (number_of g)) (part (number_of g) (pos m)) ∙ there in
             in-other (pos m) c (from-parts (part (number_of g')) 1 y.n (part (number_of g) (pos m)) also)
 
   unique' : (c c' : Cells) → canonical by_number (partitions ks d) c ≡ true → canonical by_number (partitions ks d) c' ≡ true →
@@ -205,9 +205,9 @@ module _ (d : Domain) (ks : List Attribute) (listed : Listed d) where
       let y = numbers-of f' g' h' in
       let ps = numbered x.n (number_of g) in
       let ps' = numbered y.n (number_of g') in
-      let w : Some (node a_partition (of_list (strictly ps))) ≡ Some (node a_partition (of_list (strictly ps'))) = sym x.value ∙ q ∙ y.value in
-      let l : of_list (strictly ps) ≡ of_list (strictly ps') = cc in
-      let e : strictly ps ≡ strictly ps' = sym (to_list-of_list (strictly ps)) ∙ ap to_list l ∙ to_list-of_list (strictly ps') in
+      let w : Some (node a_partition (of_list (sorted_once ps))) ≡ Some (node a_partition (of_list (sorted_once ps'))) = sym x.value ∙ q ∙ y.value in
+      let l : of_list (sorted_once ps) ≡ of_list (sorted_once ps') = cc in
+      let e : sorted_once ps ≡ sorted_once ps' = sym (to_list-of_list (sorted_once ps)) ∙ ap to_list l ∙ to_list-of_list (sorted_once ps') in
       let one = one-numbering xs (number_of g) (number_of g') x.least y.least (same-part f g f' g' x y e) (same-part f' g' f g y x (sym e)) in
       ap (λ o. (or_default o (pos 0) ∷ []) ∷ row (codes_of d ∷ []) g ∷ []) (x.count ∙ ap (λ n. Some (pos n)) (same-count f g f' g' x y e) ∙ sym y.count)
       ∙ ap (λ r. (or_default (f' []) (pos 0) ∷ []) ∷ r ∷ [])
@@ -225,16 +225,16 @@ module _ (d : Domain) (ks : List Attribute) (listed : Listed d) where
   tidies' (f ∷ g ∷ []) h =
       let x = numbers-of f g h in
       let ps = numbered x.n (number_of g) in
-      let l = to_list (of_list (strictly ps)) in
+      let l = to_list (of_list (sorted_once ps)) in
       and-both (is_some_and (value_of_cells by_number (partitions ks d) (f ∷ g ∷ [])) (member (partitions ks d))) true
       (ap (λ o. is_some_and o (member (partitions ks d))) x.value
       ∙ and-both (rises itself l && list_all (is_part (member d)) l && not (has_overlap l) && covers (members d) l) (partition_attributes_hold ks l)
       (and-both (rises itself l && list_all (is_part (member d)) l && not (has_overlap l)) (covers (members d) l)
-      (ap (λ l. rises itself l && list_all (is_part (member d)) l && not (has_overlap l)) (to_list-of_list (strictly ps))
-      ∙ and-both (rises itself (strictly ps) && list_all (is_part (member d)) (strictly ps)) (not (has_overlap (strictly ps)))
-      (and-both (rises itself (strictly ps)) (list_all (is_part (member d)) (strictly ps)) (strictly-rises ps)
-      (all-strictly (is_part (member d)) ps ∙ parts-are (member d) ps (λ p i e. is-part (number_of g) x.n p i e) x.full))
-      (overlap-none (strictly ps) (strictly-apart ps (apart-distinct ps x.full x.apart) x.apart)))
+      (ap (λ l. rises itself l && list_all (is_part (member d)) l && not (has_overlap l)) (to_list-of_list (sorted_once ps))
+      ∙ and-both (rises itself (sorted_once ps) && list_all (is_part (member d)) (sorted_once ps)) (not (has_overlap (sorted_once ps)))
+      (and-both (rises itself (sorted_once ps)) (list_all (is_part (member d)) (sorted_once ps)) (sorted_once-rises ps)
+      (all-sorted_once (is_part (member d)) ps ∙ parts-are (member d) ps (λ p i e. is-part (number_of g) x.n p i e) x.full))
+      (overlap-none (sorted_once ps) (sorted_once-apart ps (apart-distinct ps x.full x.apart) x.apart)))
       (and-left (covers (members d) l) (partition_attributes_hold ks l) x.attributes))
       (and-right (covers (members d) l) (partition_attributes_hold ks l) x.attributes)) refl
     where

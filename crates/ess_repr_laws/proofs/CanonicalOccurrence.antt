@@ -93,7 +93,7 @@ module _ (e : Domain) (ks : List Attribute) (listed : Listed e) where
       (ap (λ o. is_some_and o (member (sets ks e))) x.value
       ∙ ap (λ l. rises itself l && list_all (member e) l && set_attributes_hold ks (length l)) (to_list-of_list x.ys)
       ∙ and-both (rises itself x.ys && list_all (member e) x.ys) (set_attributes_hold ks (length x.ys))
-      (and-both (rises itself x.ys) (list_all (member e) x.ys) (chosen-rises xs (cell_of f) x.ys x.found listed.rising) (chosen-all (member e) xs (cell_of f) x.ys x.found listed.members))
+      (and-both (rises itself x.ys) (list_all (member e) x.ys) (chosen-rises xs (cell_of f) x.ys x.found listed.sorted) (chosen-all (member e) xs (cell_of f) x.ys x.found listed.members))
       (ap (set_attributes_hold ks) (sym (ap count_true (row-of-codes f xs) ∙ chosen-count xs (cell_of f) x.ys x.found x.bits)) ∙ p.attributes)) refl
 
   pub occurrence-right : Right occurrence (sets ks e)

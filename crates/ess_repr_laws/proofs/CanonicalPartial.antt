@@ -185,7 +185,7 @@ module _ (r : Repr) (ks : List Attribute) (d c : Domain) (as' : Axes) (index : V
       (λ y k. and-right (is_some_and (value_there inner y) (member c)) (is_orderly r c (behind (index y) (inner_cells inner))) (right.tidies (behind (index y) (inner_cells inner)) k)) x.ys (λ w e. e) in
       and-both (is_some_and (value_of_layer whole child (f ∷ []) inner) (member (functions ks d c))) (is_some_and (places_in_use whole (f ∷ [])) (are_orderly whole child (c ∷ []) inner))
       (ap (λ u. is_some_and u (member (functions ks d c))) x.value
-      ∙ function-member ks d c x.ys o.vs (chosen-rises xs (λ x. f (index x)) x.ys x.found l.rising) (chosen-all (member d) xs (λ x. f (index x)) x.ys x.found l.members) ms x.attributes)
+      ∙ function-member ks d c x.ys o.vs (chosen-rises xs (λ x. f (index x)) x.ys x.found l.sorted) (chosen-all (member d) xs (λ x. f (index x)) x.ys x.found l.members) ms x.attributes)
       (ap (λ u. is_some_and u (are_orderly whole child (c ∷ []) inner)) p.used
       ∙ and-both (list_all (λ j. is_orderly r c (behind j (inner_cells inner))) p.js && true) true
       (and-both (list_all (λ j. is_orderly r c (behind j (inner_cells inner))) p.js) true

@@ -4,7 +4,7 @@ use Rattle.std.specs.List.{list_all}
 use Rattle.ess_semantics.specs.declared.words.ReprKind.{ReprKind}
 use Rattle.ess_semantics.specs.Lists.{and_then, is_empty, only_of, is_some_and}
 use Rattle.ess_semantics.specs.Values.{a_set, a_partition, Value, node, Values, to_list, of_list, itself, items_of}
-use Rattle.ess_semantics.specs.Collections.{strictly, rises, has_empty_part, has_overlap, partition_of}
+use Rattle.ess_semantics.specs.Collections.{sorted_once, rises, has_empty_part, has_overlap, partition_of}
 use Rattle.ess_semantics.specs.Trees.{Repr, repr, no_reprs, more_reprs}
 use Rattle.ess_semantics.specs.Domains.{Attribute, Domain, sets, partitions, members}
 use Rattle.ess_semantics.specs.Attributes.{partition_attributes_hold}
@@ -19,7 +19,7 @@ use Rattle.ess_semantics.specs.CanonicalTest.{canonical}
 use Rattle.ess_semantics.specs.Tidy.{tidy_cells}
 use Rattle.ess_semantics.proofs.Tests.{and-left, and-right, and-both, some-and, or-left-no, or-right-no, not-true}
 use Rattle.ess_semantics.proofs.Orders.{of_list-to_list}
-use Rattle.ess_semantics.proofs.Sorting.{strictly-itself}
+use Rattle.ess_semantics.proofs.Sorting.{sorted_once-itself}
 use Rattle.ess_repr_laws.proofs.RowsOfCells.{axes-of-layer}
 use Rattle.ess_repr_laws.proofs.CanonicalParts.{Right}
 use Rattle.ess_repr_laws.proofs.CanonicalRelations.{OneValue, one-value, value-once, value-orderly}
@@ -63,7 +63,7 @@ module _ (r : Repr) (ks : List Attribute) (d : Domain) (right : Right r (child_p
     one : OneValue r (child_parts ks d) right partition_from part_set asked_parts (take 0 x) (drop 0 x)
     ps : Values
     form : one.v ≡ node a_set ps
-    rising : rises itself (to_list ps) ≡ true
+    sorted : rises itself (to_list ps) ≡ true
     parts : list_all (is_part (member d)) (to_list ps) ≡ true
     apart : not (has_overlap (to_list ps)) ≡ true
     value : value_of_cells as_sets (partitions ks d) x ≡ Some (node a_partition ps)
@@ -74,14 +74,14 @@ module _ (r : Repr) (ks : List Attribute) (d : Domain) (right : Right r (child_p
       let o = one-value r (child_parts ks d) right partition_from part_set asked_parts (take 0 x) (drop 0 x) h in
       let s = set-member-form (keys_of (child_parts ks d)) (inner_of (child_parts ks d)) o.v o.member_of in
       let a = some-and (partition_of (to_list s.0)) (λ v. is_partition_of ks d (items_of v)) (ap (λ v. is_some_and (partition_from v) (λ w. is_partition_of ks d (items_of w))) (sym s.1) ∙ o.attributes) in
-      let w = when-some (not (has_empty_part (to_list s.0)) && not (has_overlap (to_list s.0))) (node a_partition (of_list (strictly (to_list s.0)))) a.0 a.1 in
-      let own : strictly (to_list s.0) ≡ to_list s.0 = strictly-itself (to_list s.0) s.2 in
+      let w = when-some (not (has_empty_part (to_list s.0)) && not (has_overlap (to_list s.0))) (node a_partition (of_list (sorted_once (to_list s.0)))) a.0 a.1 in
+      let own : sorted_once (to_list s.0) ≡ to_list s.0 = sorted_once-itself (to_list s.0) s.2 in
       let f : a.0 ≡ node a_partition s.0 = sym w.1 ∙ ap (λ l. node a_partition (of_list l)) own ∙ ap (node a_partition) (of_list-to_list s.0) in
       record {
         one = o;
         ps = s.0;
         form = s.1;
-        rising = s.2;
+        sorted = s.2;
         parts = parts-of-sets (keys_of (inner_of (child_parts ks d))) d (to_list s.0) s.3 (no-empty (to_list s.0) (not-true (has_empty_part (to_list s.0)) (and-left (not (has_empty_part (to_list s.0))) (not (has_overlap (to_list s.0))) w.0)));
         apart = and-right (not (has_empty_part (to_list s.0))) (not (has_overlap (to_list s.0))) w.0;
         value = o.value ∙ ap partition_from s.1 ∙ a.1 ∙ ap Some f;
@@ -110,7 +110,7 @@ module _ (r : Repr) (ks : List Attribute) (d : Domain) (right : Right r (child_p
           (ap (λ v. is_some_and v (member (partitions ks d))) y.value
           ∙ and-both (rises itself l && list_all (is_part (member d)) l && not (has_overlap l) && covers (members d) l) (partition_attributes_hold ks l)
           (and-both (rises itself l && list_all (is_part (member d)) l && not (has_overlap l)) (covers (members d) l)
-          (and-both (rises itself l && list_all (is_part (member d)) l) (not (has_overlap l)) (and-both (rises itself l) (list_all (is_part (member d)) l) y.rising y.parts) y.apart)
+          (and-both (rises itself l && list_all (is_part (member d)) l) (not (has_overlap l)) (and-both (rises itself l) (list_all (is_part (member d)) l) y.sorted y.parts) y.apart)
           (and-left (covers (members d) l) (partition_attributes_hold ks l) y.attributes))
           (and-right (covers (members d) l) (partition_attributes_hold ks l) y.attributes))
           (value-orderly r (child_parts ks d) right partition_from part_set asked_parts (take 0 x) (drop 0 x) y.one)

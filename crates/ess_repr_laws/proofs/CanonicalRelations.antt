@@ -120,7 +120,7 @@ module _ (ks : List Attribute) (ds : Domains) (all : AllListed ds) where
       (ap (λ o. is_some_and o (member (relations ks ds))) x.value
       ∙ and-both (rises itself (to_list (of_list x.ys)) && list_all (tuple_member ds) (to_list (of_list x.ys))) (relation_attributes_hold ks ds (to_list (of_list x.ys)))
       (ap (λ l. rises itself l && list_all (tuple_member ds) l) (to_list-of_list x.ys)
-      ∙ and-both (rises itself x.ys) (list_all (tuple_member ds) x.ys) (chosen-rises xs (λ x. f (place_of x)) x.ys x.found l.rising)
+      ∙ and-both (rises itself x.ys) (list_all (tuple_member ds) x.ys) (chosen-rises xs (λ x. f (place_of x)) x.ys x.found l.sorted)
       (tuples-of-members ds x.ys (chosen-all (member (tuples ds)) xs (λ x. f (place_of x)) x.ys x.found l.members))) x.attributes) refl
 
   pub relation-matrix-right : Right as_matrix (relations ks ds)

@@ -8,7 +8,7 @@ use Rattle.ess_semantics.specs.declared.words.Key.{Key}
 use Rattle.ess_semantics.specs.declared.words.ReprKind.{ReprKind}
 use Rattle.ess_semantics.specs.Lists.{each_of, is_some_and, or_default}
 use Rattle.ess_semantics.specs.Values.{Value, to_list, of_list}
-use Rattle.ess_semantics.specs.Collections.{count, rising, mset_of, rises_weakly}
+use Rattle.ess_semantics.specs.Collections.{count, sorted, mset_of, rises_weakly}
 use Rattle.ess_semantics.specs.Numbers.{natural, one_to}
 use Rattle.ess_semantics.specs.Trees.{Repr, Reprs, repr, no_reprs, more_reprs}
 use Rattle.ess_semantics.specs.Domains.{Attribute, numbered, flagged, Domain, msets, lists_of}
@@ -29,25 +29,25 @@ use Rattle.ess_repr_laws.proofs.RowsOfCells.{axes_of_children, axes-of-layer}
 use Rattle.ess_repr_laws.proofs.SlotsUsed.{SlotsUsed, marker-cell, marker-used, as_place, slots-are, all-map, each_of-map, each-slot, each-run}
 use Rattle.ess_repr_laws.proofs.OneForm.{values-length, each-value}
 use Rattle.ess_repr_laws.proofs.CanonicalParts.{Right, Parts, parts-of, value-of-parts, only-child, only-child-rows}
-use Rattle.ess_semantics.proofs.Multisets.{count-rising, rising-rises, rising-length, rising-all}
+use Rattle.ess_semantics.proofs.Multisets.{count-sorted, sorted-rises, sorted-length, sorted-all}
 use Rattle.ess_semantics.proofs.Repeats.{list-both}
 use Rattle.ess_repr_laws.proofs.WeakForm.{Heaped, heaped-once}
 
 -- sorting changes nothing that attributes ask
-occurs-rising : (k : Key) (z : ℤ) (vs : List Value) → occurs_holds k z (rising vs) ≡ occurs_holds k z vs
-occurs-rising Key.MinOccur z vs =
-    ap (λ f. list_all f (rising vs)) (fun_ext (λ x. ap (λ n. int_le z (pos n)) (count-rising vs x))) ∙ rising-all (λ x. int_le z (pos (count vs x))) vs
-occurs-rising Key.MaxOccur z vs =
-    ap (λ f. list_all f (rising vs)) (fun_ext (λ x. ap (λ n. int_le (pos n) z) (count-rising vs x))) ∙ rising-all (λ x. int_le (pos (count vs x)) z) vs
-occurs-rising _ z vs = refl
+occurs-sorted : (k : Key) (z : ℤ) (vs : List Value) → occurs_holds k z (sorted vs) ≡ occurs_holds k z vs
+occurs-sorted Key.MinOccur z vs =
+    ap (λ f. list_all f (sorted vs)) (fun_ext (λ x. ap (λ n. int_le z (pos n)) (count-sorted vs x))) ∙ sorted-all (λ x. int_le z (pos (count vs x))) vs
+occurs-sorted Key.MaxOccur z vs =
+    ap (λ f. list_all f (sorted vs)) (fun_ext (λ x. ap (λ n. int_le (pos n) z) (count-sorted vs x))) ∙ sorted-all (λ x. int_le (pos (count vs x)) z) vs
+occurs-sorted _ z vs = refl
 
-attributes-rising : (ks : List Attribute) (vs : List Value) → set_attributes_hold ks (length vs) ≡ true → each_number_holds ks (λ k z. occurs_holds k z vs) ≡ true → mset_attributes_hold ks (rising vs) ≡ true
-attributes-rising ks vs a b =
-    list-both (attribute_holds (λ k z. size_holds k z (length vs)) (λ k. true)) (attribute_holds (λ k z. occurs_holds k z vs) (λ k. true)) (attribute_holds (λ k z. size_holds k z (length (rising vs)) && occurs_holds k z (rising vs)) (λ k. true)) ks each a b
+attributes-sorted : (ks : List Attribute) (vs : List Value) → set_attributes_hold ks (length vs) ≡ true → each_number_holds ks (λ k z. occurs_holds k z vs) ≡ true → mset_attributes_hold ks (sorted vs) ≡ true
+attributes-sorted ks vs a b =
+    list-both (attribute_holds (λ k z. size_holds k z (length vs)) (λ k. true)) (attribute_holds (λ k z. occurs_holds k z vs) (λ k. true)) (attribute_holds (λ k z. size_holds k z (length (sorted vs)) && occurs_holds k z (sorted vs)) (λ k. true)) ks each a b
   where
     each : (x : Attribute) → attribute_holds (λ k z. size_holds k z (length vs)) (λ k. true) x ≡ true → attribute_holds (λ k z. occurs_holds k z vs) (λ k. true) x ≡ true →
-        attribute_holds (λ k z. size_holds k z (length (rising vs)) && occurs_holds k z (rising vs)) (λ k. true) x ≡ true
-    each (numbered k z) p q = and-both (size_holds k z (length (rising vs))) (occurs_holds k z (rising vs)) (ap (size_holds k z) (rising-length vs) ∙ p) (occurs-rising k z vs ∙ q)
+        attribute_holds (λ k z. size_holds k z (length (sorted vs)) && occurs_holds k z (sorted vs)) (λ k. true) x ≡ true
+    each (numbered k z) p q = and-both (size_holds k z (length (sorted vs))) (occurs_holds k z (sorted vs)) (ap (size_holds k z) (sorted-length vs) ∙ p) (occurs-sorted k z vs ∙ q)
     each (flagged k) p q = refl
 
 module _ (r : Repr) (e : Domain) (ks : List Attribute) (right : Right r e) where
@@ -138,10 +138,10 @@ module _ (r : Repr) (e : Domain) (ks : List Attribute) (right : Right r e) where
       let x = marked-of f fs h in
       let y = marked-of g gs h' in
       let w : Some (mset_of x.vs) ≡ Some (mset_of y.vs) = sym x.value ∙ q ∙ y.value in
-      let l : of_list (rising x.vs) ≡ of_list (rising y.vs) = cc in
-      let s : rising x.vs ≡ rising y.vs = sym (to_list-of_list (rising x.vs)) ∙ ap to_list l ∙ to_list-of_list (rising y.vs) in
+      let l : of_list (sorted x.vs) ≡ of_list (sorted y.vs) = cc in
+      let s : sorted x.vs ≡ sorted y.vs = sym (to_list-of_list (sorted x.vs)) ∙ ap to_list l ∙ to_list-of_list (sorted y.vs) in
       let o = heaped-once (axes_of r e) (canonical r e) (value_of_cells r e) right.unique (slot_at (take (width r) fs)) (slot_at (take (width r) gs)) S x.n y.n x.vs y.vs x.full y.full
-      (λ w. sym (count-rising x.vs w) ∙ ap (λ l. count l w) s ∙ count-rising y.vs w) in
+      (λ w. sym (count-sorted x.vs w) ∙ ap (λ l. count l w) s ∙ count-sorted y.vs w) in
       ap (λ a. rows a (f ∷ fs)) (axes-of-layer whole child)
       ∙ ap (λ z. (or_default z (pos 0) ∷ []) ∷ rows (axes_of_children child (e ∷ []) (one_to S ∷ [])) fs) (x.cell ∙ ap (λ n. Some (pos n)) o.0 ∙ sym y.cell)
       ∙ ap (λ l. row [] g ∷ l) (only-child-rows r e (one_to S ∷ []) fs gs x.long y.long
@@ -166,10 +166,10 @@ module _ (r : Repr) (e : Domain) (ks : List Attribute) (right : Right r e) where
       let orderly = run-all (λ k. is_orderly r e (slot_at c k)) 1 n (λ k a b. and-right (is_some_and (value_of_cells r e (slot_at c (pos k))) (member e)) (is_orderly r e (slot_at c (pos k))) (tidies k a (omega arith))) in
       and-both (is_some_and (value_of_cells repeated (msets ks e) (f ∷ fs)) (member (msets ks e))) _
       (ap (λ o. is_some_and o (member (msets ks e))) x.value
-      ∙ ap (λ l. rises_weakly l && list_all (member e) l && mset_attributes_hold ks l) (to_list-of_list (rising vs))
-      ∙ and-both (rises_weakly (rising vs) && list_all (member e) (rising vs)) (mset_attributes_hold ks (rising vs))
-      (and-both (rises_weakly (rising vs)) (list_all (member e) (rising vs)) (rising-rises vs) (rising-all (member e) vs ∙ ms))
-      (attributes-rising ks vs (ap (set_attributes_hold ks) long ∙ x.sizes) x.occurs))
+      ∙ ap (λ l. rises_weakly l && list_all (member e) l && mset_attributes_hold ks l) (to_list-of_list (sorted vs))
+      ∙ and-both (rises_weakly (sorted vs) && list_all (member e) (sorted vs)) (mset_attributes_hold ks (sorted vs))
+      (and-both (rises_weakly (sorted vs)) (list_all (member e) (sorted vs)) (sorted-rises vs) (sorted-all (member e) vs ∙ ms))
+      (attributes-sorted ks vs (ap (set_attributes_hold ks) long ∙ x.sizes) x.occurs))
       (and-both _ _ p.first
       (ap (λ o. is_some_and o (are_orderly whole child (e ∷ []) fs)) u.found
       ∙ and-both _ true (and-both (list_all (λ j. is_orderly r e (behind j c)) (lists_of (one_to n ∷ []))) true

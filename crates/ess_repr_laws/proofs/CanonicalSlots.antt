@@ -6,7 +6,7 @@ use Rattle.std.specs.List.{list_all}
 use Rattle.std.specs.Ordering.{is_lt}
 use Rattle.ess_semantics.specs.Lists.{each_of, is_some_and}
 use Rattle.ess_semantics.specs.Values.{Value, of_list, to_list, itself}
-use Rattle.ess_semantics.specs.Collections.{holds, strictly, set_of, rises, no_twice}
+use Rattle.ess_semantics.specs.Collections.{holds, sorted_once, set_of, rises, no_twice}
 use Rattle.ess_semantics.specs.Numbers.{one_to}
 use Rattle.ess_semantics.specs.Trees.{Repr, Reprs, no_reprs, more_reprs}
 use Rattle.ess_semantics.specs.Domains.{Attribute, Domain, sets, lists_of}
@@ -22,7 +22,7 @@ use Rattle.ess_semantics.specs.CanonicalTest.{next_slot, in_use_first, slots_ris
 use Rattle.ess_semantics.specs.Tidy.{is_orderly, are_orderly}
 use Rattle.ess_semantics.proofs.Tests.{and-left, and-right, and-both, if-so, if-not, run-all, run-length}
 use Rattle.ess_semantics.proofs.Orders.{to_list-of_list}
-use Rattle.ess_semantics.proofs.Sorting.{less-of, strictly-rises, all-strictly, strictly-length, holds-strictly, distinct-twice}
+use Rattle.ess_semantics.proofs.Sorting.{less-of, sorted_once-rises, all-sorted_once, sorted_once-length, holds-sorted_once, distinct-twice}
 use Rattle.ess_repr_laws.proofs.RowsOfCells.{EachIndex, axes_of_children}
 use Rattle.ess_repr_laws.proofs.SlotsUsed.{SlotsUsed, as_place, slots-are, all-map, each_of-map, each-slot, each-run}
 use Rattle.ess_repr_laws.proofs.OneForm.{Filled, filled-once, filled-distinct, values-length, each-value}
@@ -66,11 +66,11 @@ module _ (r : Repr) (e : Domain) (right : Right r e) (S : ℕ) (use_of_slots : U
       }
 
   -- Slots of two canonical cells of one set agree.
-  pub slots-agree : (c c' : Cells) (n n' : ℕ) (vs vs' : List Value) → Full (slot_at c) S n vs → Full (slot_at c') S n' vs' → strictly vs ≡ strictly vs' →
+  pub slots-agree : (c c' : Cells) (n n' : ℕ) (vs vs' : List Value) → Full (slot_at c) S n vs → Full (slot_at c') S n' vs' → sorted_once vs ≡ sorted_once vs' →
       (n ≡ n') × EachIndex (one_to S ∷ []) (λ js. rows (axes_of r e) (behind js c) ≡ rows (axes_of r e) (behind js c'))
   slots-agree c c' n n' vs vs' f f' h =
       let o = filled-once (axes_of r e) (canonical r e) (value_of_cells r e) right.sound right.unique (slot_at c) (slot_at c') S n n' vs vs' f f'
-      (λ w. sym (holds-strictly vs w) ∙ ap (λ l. holds l w) h ∙ holds-strictly vs' w) in
+      (λ w. sym (holds-sorted_once vs w) ∙ ap (λ l. holds l w) h ∙ holds-sorted_once vs' w) in
       (o.0, each-run (λ k. rows (axes_of r e) (slot_at c k) ≡ rows (axes_of r e) (slot_at c' k)) 1 S (λ k p q. o.1 k p (omega arith)))
 
   member-of-slot : (c : Cells) (v : Value) → canonical r e c ≡ true → value_of_cells r e c ≡ Some v → member e v ≡ true
@@ -83,11 +83,11 @@ module _ (r : Repr) (e : Domain) (right : Right r e) (S : ℕ) (use_of_slots : U
   -- The set of the slots' values is a member.
   pub set-member : (ks : List Attribute) (c : Cells) (n : ℕ) (vs : List Value) → Full (slot_at c) S n vs → set_attributes_hold ks n ≡ true → member (sets ks e) (set_of vs) ≡ true
   set-member ks c n vs f a =
-      ap (λ l. rises itself l && list_all (member e) l && set_attributes_hold ks (length l)) (to_list-of_list (strictly vs))
-      ∙ and-both (rises itself (strictly vs) && list_all (member e) (strictly vs)) (set_attributes_hold ks (length (strictly vs)))
-      (and-both (rises itself (strictly vs)) (list_all (member e) (strictly vs)) (strictly-rises vs)
-      (all-strictly (member e) vs ∙ each-value (λ k. value_of_cells r e (slot_at c k)) (member e) 1 n vs f.values (λ k p q v x. member-of-slot (slot_at c (pos k)) v (f.inside k p (omega arith)) x)))
-      (ap (set_attributes_hold ks) (strictly-length vs (filled-distinct (axes_of r e) (canonical r e) (value_of_cells r e) right.sound right.unique (slot_at c) S n vs f)
+      ap (λ l. rises itself l && list_all (member e) l && set_attributes_hold ks (length l)) (to_list-of_list (sorted_once vs))
+      ∙ and-both (rises itself (sorted_once vs) && list_all (member e) (sorted_once vs)) (set_attributes_hold ks (length (sorted_once vs)))
+      (and-both (rises itself (sorted_once vs)) (list_all (member e) (sorted_once vs)) (sorted_once-rises vs)
+      (all-sorted_once (member e) vs ∙ each-value (λ k. value_of_cells r e (slot_at c k)) (member e) 1 n vs f.values (λ k p q v x. member-of-slot (slot_at c (pos k)) v (f.inside k p (omega arith)) x)))
+      (ap (set_attributes_hold ks) (sorted_once-length vs (filled-distinct (axes_of r e) (canonical r e) (value_of_cells r e) right.sound right.unique (slot_at c) S n vs f)
       ∙ values-length (λ k. value_of_cells r e (slot_at c k)) (one_to n) vs f.values ∙ run-length 1 n) ∙ a)
 
   -- The slots in use are orderly, and differ.
@@ -145,7 +145,7 @@ module _ (r : Repr) (e : Domain) (right : Right r e) (S : ℕ) (use_of_slots : U
         (n ≡ n') × (rows (axes_of_children child (e ∷ []) (one_to S ∷ [])) inner ≡ rows (axes_of_children child (e ∷ []) (one_to S ∷ [])) inner')
     held-once own own' inner inner' n n' h h' q =
         let eq : Some (set_of h.vs) ≡ Some (set_of h'.vs) = sym h.value ∙ q ∙ h'.value in
-        let ls : of_list (strictly h.vs) ≡ of_list (strictly h'.vs) = cc in
-        let s : strictly h.vs ≡ strictly h'.vs = sym (to_list-of_list (strictly h.vs)) ∙ ap to_list ls ∙ to_list-of_list (strictly h'.vs) in
+        let ls : of_list (sorted_once h.vs) ≡ of_list (sorted_once h'.vs) = cc in
+        let s : sorted_once h.vs ≡ sorted_once h'.vs = sym (to_list-of_list (sorted_once h.vs)) ∙ ap to_list ls ∙ to_list-of_list (sorted_once h'.vs) in
         let o = slots-agree (take (width r) inner) (take (width r) inner') n n' h.vs h'.vs h.full h'.full s in
         (o.0, only-child-rows r e (one_to S ∷ []) inner inner' h.long h'.long o.1)

@@ -9,7 +9,7 @@ use Rattle.ess_semantics.specs.Tables.{truth_of}
 use Rattle.ess_semantics.specs.Layers.{count_true, chosen}
 use Rattle.ess_semantics.proofs.Tests.{and-left, and-right, and-both, or-yes}
 use Rattle.ess_semantics.proofs.Orders.{order_total, same-itself, same-equal}
-use Rattle.ess_semantics.proofs.Sorting.{Below, Rising, rising-of, less-below}
+use Rattle.ess_semantics.proofs.Sorting.{Below, Rising, sorted-of, less-below}
 use Rattle.ess_repr_laws.proofs.CanonicalPlaces.{AllOf}
 
 -- a cell that is there and is 0 or 1
@@ -97,21 +97,21 @@ chosen-below v (x ∷ xs) F ys e b = let s = chosen-step x xs F ys e in subst (B
     go true zs h = (b.0, h)
     go false zs h = h
 
-chosen-rising : (xs : List Value) (F : Value → Option ℤ) (ys : List Value) → chosen xs F ≡ Some ys → Rising order_total xs → Rising order_total ys
-chosen-rising [] F ys e r = let z : [] ≡ ys = cc in subst (Rising order_total) z tt
-chosen-rising (x ∷ xs) F ys e r = let s = chosen-step x xs F ys e in subst (Rising order_total) (sym s.4) (go s.0 s.1 (chosen-below x xs F s.1 s.3 r.0) (chosen-rising xs F s.1 s.3 r.1))
+chosen-sorted : (xs : List Value) (F : Value → Option ℤ) (ys : List Value) → chosen xs F ≡ Some ys → Rising order_total xs → Rising order_total ys
+chosen-sorted [] F ys e r = let z : [] ≡ ys = cc in subst (Rising order_total) z tt
+chosen-sorted (x ∷ xs) F ys e r = let s = chosen-step x xs F ys e in subst (Rising order_total) (sym s.4) (go s.0 s.1 (chosen-below x xs F s.1 s.3 r.0) (chosen-sorted xs F s.1 s.3 r.1))
   where
     go : (c : Bool) (zs : List Value) → Below order_total x zs → Rising order_total zs → Rising order_total (if c then x ∷ zs else zs)
     go true zs b h = (b, h)
     go false zs b h = h
 
-pub of-rising : (xs : List Value) → Rising order_total xs → rises itself xs ≡ true
-of-rising [] r = refl
-of-rising (x ∷ []) r = refl
-of-rising (x ∷ y ∷ ys) r = and-both (below x y) (rises itself (y ∷ ys)) (less-below x y r.0.0) (of-rising (y ∷ ys) r.1)
+pub of-sorted : (xs : List Value) → Rising order_total xs → rises itself xs ≡ true
+of-sorted [] r = refl
+of-sorted (x ∷ []) r = refl
+of-sorted (x ∷ y ∷ ys) r = and-both (below x y) (rises itself (y ∷ ys)) (less-below x y r.0.0) (of-sorted (y ∷ ys) r.1)
 
 pub chosen-rises : (xs : List Value) (F : Value → Option ℤ) (ys : List Value) → chosen xs F ≡ Some ys → rises itself xs ≡ true → rises itself ys ≡ true
-chosen-rises xs F ys e r = of-rising ys (chosen-rising xs F ys e (rising-of xs r))
+chosen-rises xs F ys e r = of-sorted ys (chosen-sorted xs F ys e (sorted-of xs r))
 
 pub chosen-all : (f : Value → Bool) (xs : List Value) (F : Value → Option ℤ) (ys : List Value) → chosen xs F ≡ Some ys → list_all f xs ≡ true → list_all f ys ≡ true
 chosen-all f [] F ys e h = let z : [] ≡ ys = cc in ap (list_all f) (sym z)

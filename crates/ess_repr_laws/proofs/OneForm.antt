@@ -13,7 +13,7 @@ use Rattle.ess_semantics.specs.Cells.{Cells, Axes, are_zero, rows, order_rows}
 use Rattle.ess_semantics.proofs.Tests.{or-yes}
 use Rattle.ess_semantics.proofs.Orders.{rows_total, same-itself, same-equal}
 use Rattle.ess_semantics.proofs.Sorting.{Rising, Has, one-list, not-itself, Distinct}
-use Rattle.ess_semantics.proofs.Runs.{from_to, rising-from, has-at, found, same-at, below-at, apart-at}
+use Rattle.ess_semantics.proofs.Runs.{from_to, sorted-from, has-at, found, same-at, below-at, apart-at}
 use Rattle.ess_repr_laws.proofs.RowsOfCells.{zeros-same}
 
 -- The rows of a value's cells.
@@ -96,8 +96,8 @@ module _ (ass : List Axes) (p : Cells → Bool) (st : Cells → Option Value)
   abbrev R : (ℤ → Cells) → ℕ → Rows
   R g k = rows ass (g (pos k))
 
-  pub rising : (g : ℤ → Cells) (S n : ℕ) (vs : List Value) → Filled g S n vs → Rising rows_total (from_to (R g) 1 n)
-  rising g S n vs f = rising-from rows_total (R g) 1 n (λ k a b. f.rise k a (omega arith))
+  pub sorted : (g : ℤ → Cells) (S n : ℕ) (vs : List Value) → Filled g S n vs → Rising rows_total (from_to (R g) 1 n)
+  sorted g S n vs f = sorted-from rows_total (R g) 1 n (λ k a b. f.rise k a (omega arith))
 
   within : (g g' : ℤ → Cells) (S S' n n' : ℕ) (vs vs' : List Value) → Filled g S n vs → Filled g' S' n' vs' → ((w : Value) → holds vs w ≡ true → holds vs' w ≡ true) →
       (x : Rows) → Has rows_total (from_to (R g) 1 n) x → Has rows_total (from_to (R g') 1 n') x
@@ -115,7 +115,7 @@ module _ (ass : List Axes) (p : Cells → Bool) (st : Cells → Option Value)
   pub filled-once : (g g' : ℤ → Cells) (S n n' : ℕ) (vs vs' : List Value) → Filled g S n vs → Filled g' S n' vs' → ((w : Value) → holds vs w ≡ holds vs' w) →
       (n ≡ n') × ((k : ℕ) → 1 ≤ k → k ≤ S → rows ass (g (pos k)) ≡ rows ass (g' (pos k)))
   filled-once g g' S n n' vs vs' f f' h =
-      let e = one-list rows_total (from_to (R g) 1 n) (from_to (R g') 1 n') (rising g S n vs f) (rising g' S n' vs' f')
+      let e = one-list rows_total (from_to (R g) 1 n) (from_to (R g') 1 n') (sorted g S n vs f) (sorted g' S n' vs' f')
       (within g g' S S n n' vs vs' f f' (λ w q. sym (h w) ∙ q)) (within g' g S S n' n vs' vs f' f (λ w q. h w ∙ q)) in
       let r = same-at (R g) (R g') 1 n n' e in
       (r.0, λ k a b. go r.0 r.1 k a b (cases_lt n k))
@@ -147,9 +147,9 @@ module _ (ass : List Axes) (p : Cells → Bool) (st : Cells → Option Value)
 
   pub filled-distinct : (g : ℤ → Cells) (S n : ℕ) (vs : List Value) → Filled g S n vs → Distinct vs
   filled-distinct g S n vs f =
-      distinct-from (λ j. st (g j)) (R g) 1 n vs f.values (rising g S n vs f)
+      distinct-from (λ j. st (g j)) (R g) 1 n vs f.values (sorted g S n vs f)
       (λ j k p1 p2 p3 p4 q. unique (g (pos j)) (g (pos k)) (f.inside j p1 (omega arith)) (f.inside k p3 (omega arith)) q)
 
   -- the rows of two slots in use that are one are those of one slot
   pub filled-apart : (g : ℤ → Cells) (S n : ℕ) (vs : List Value) → Filled g S n vs → (j k : ℕ) → 1 ≤ j → j ≤ n → 1 ≤ k → k ≤ n → rows ass (g (pos j)) ≡ rows ass (g (pos k)) → j ≡ k
-  filled-apart g S n vs f j k a b c d e = apart-at rows_total (R g) 1 n (rising g S n vs f) j k a (omega arith) c (omega arith) e
+  filled-apart g S n vs f j k a b c d e = apart-at rows_total (R g) 1 n (sorted g S n vs f) j k a (omega arith) c (omega arith) e

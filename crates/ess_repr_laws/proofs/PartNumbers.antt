@@ -5,14 +5,14 @@ use Rattle.std.specs.List.{list_all, list_any}
 use Rattle.ess_semantics.specs.Lists.{and_then, each_of, is_empty}
 use Rattle.ess_semantics.specs.Values.{Value, to_list, of_list, itself, items_of}
 use Rattle.ess_semantics.specs.Order.{same, same_int}
-use Rattle.ess_semantics.specs.Collections.{holds, strictly, set_of, rises, has_empty_part}
+use Rattle.ess_semantics.specs.Collections.{holds, sorted_once, set_of, rises, has_empty_part}
 use Rattle.ess_semantics.specs.Numbers.{run_from}
 use Rattle.ess_semantics.specs.Membership.{is_part}
 use Rattle.ess_semantics.specs.Tables.{code}
 use Rattle.ess_semantics.specs.PartitionLayers.{members_numbered}
 use Rattle.ess_semantics.proofs.Tests.{and-left, and-right, and-both, or-yes, or-left-no, or-right-no}
 use Rattle.ess_semantics.proofs.Orders.{to_list-of_list, same-itself, same-equal}
-use Rattle.ess_semantics.proofs.Sorting.{strictly-rises, all-strictly}
+use Rattle.ess_semantics.proofs.Sorting.{sorted_once-rises, all-sorted_once}
 use Rattle.ess_repr_laws.proofs.CanonicalPlaces.{AllOf}
 
 -- ---- small words
@@ -96,9 +96,9 @@ parts-all f ps a (suc n) h = and-both (f (ps (pos a))) (list_all f (map ps (run_
 -- a set with members of d that isn't empty is a part
 pub part-of : (f : Value → Bool) (vs : List Value) → list_all f vs ≡ true → not (is_empty (items_of (set_of vs))) ≡ true → is_part f (set_of vs) ≡ true
 part-of f vs h e =
-    and-both (rises itself (to_list (of_list (strictly vs))) && not (is_empty (items_of (set_of vs)))) (list_all f (to_list (of_list (strictly vs))))
-    (and-both (rises itself (to_list (of_list (strictly vs)))) (not (is_empty (items_of (set_of vs)))) (ap (rises itself) (to_list-of_list (strictly vs)) ∙ strictly-rises vs) e)
-    (ap (list_all f) (to_list-of_list (strictly vs)) ∙ all-strictly f vs ∙ h)
+    and-both (rises itself (to_list (of_list (sorted_once vs))) && not (is_empty (items_of (set_of vs)))) (list_all f (to_list (of_list (sorted_once vs))))
+    (and-both (rises itself (to_list (of_list (sorted_once vs)))) (not (is_empty (items_of (set_of vs)))) (ap (rises itself) (to_list-of_list (sorted_once vs)) ∙ sorted_once-rises vs) e)
+    (ap (list_all f) (to_list-of_list (sorted_once vs)) ∙ all-sorted_once f vs ∙ h)
 
 pub parts-are : (f : Value → Bool) (ps : List Value) → ((p : Value) → holds ps p ≡ true → not (is_empty (items_of p)) ≡ true → is_part f p ≡ true) → has_empty_part ps ≡ false → list_all (is_part f) ps ≡ true
 parts-are f [] h e = refl

@@ -13,9 +13,9 @@ use Rattle.ess_semantics.specs.Tables.{code}
 use Rattle.ess_semantics.specs.Layers.{codes_of}
 use Rattle.ess_semantics.proofs.Tests.{and-left, and-right, and-both}
 use Rattle.ess_semantics.proofs.Orders.{order_total, to_list-of_list}
-use Rattle.ess_semantics.proofs.Sorting.{Below, Rising, rising-of}
+use Rattle.ess_semantics.proofs.Sorting.{Below, Rising, sorted-of}
 use Rattle.ess_repr_laws.proofs.CanonicalPlaces.{AllOf}
-use Rattle.ess_repr_laws.proofs.Chosen.{of-rising}
+use Rattle.ess_repr_laws.proofs.Chosen.{of-sorted}
 use Rattle.ess_semantics.proofs.MemberLists.{Listed}
 
 -- Each domain's members are listed.
@@ -46,9 +46,9 @@ below-cons : (v : Value) (l : List Value) (ls : List (List Value)) → Below ord
 below-cons v l [] b = tt
 below-cons v l (m ∷ ls) b = (ap (λ o. ordering_then o (orders (of_list l) (of_list m))) (tied_itself order_total v) ∙ b.0, below-cons v l ls b.1)
 
-rising-cons : (v : Value) (ls : List (List Value)) → Rising order_total (map T ls) → Rising order_total (map T (map (λ m. v ∷ m) ls))
-rising-cons v [] r = tt
-rising-cons v (l ∷ ls) r = (below-cons v l ls r.0, rising-cons v ls r.1)
+sorted-cons : (v : Value) (ls : List (List Value)) → Rising order_total (map T ls) → Rising order_total (map T (map (λ m. v ∷ m) ls))
+sorted-cons v [] r = tt
+sorted-cons v (l ∷ ls) r = (below-cons v l ls r.0, sorted-cons v ls r.1)
 
 -- a lower item in front
 below-heads : (v : Value) (l : List Value) (vs : List Value) (ls : List (List Value)) → Below order_total v vs → Below order_total (T (v ∷ l)) (map T (add_heads vs ls))
@@ -59,11 +59,11 @@ below-heads v l (w ∷ ws) ls b = subst (Below order_total (T (v ∷ l))) (sym (
     all [] h = h
     all (m ∷ ms) h = (ap (λ o. ordering_then o (orders (of_list l) (of_list m))) b.0, all ms h)
 
-rising-heads : (vs : List Value) (ls : List (List Value)) → Rising order_total vs → Rising order_total (map T ls) → Rising order_total (map T (add_heads vs ls))
-rising-heads [] ls p q = tt
-rising-heads (v ∷ vs) ls p q =
+sorted-heads : (vs : List Value) (ls : List (List Value)) → Rising order_total vs → Rising order_total (map T ls) → Rising order_total (map T (add_heads vs ls))
+sorted-heads [] ls p q = tt
+sorted-heads (v ∷ vs) ls p q =
     subst (Rising order_total) (sym (map-append T (map (λ m. v ∷ m) ls) (add_heads vs ls)))
-    (rise-append (map T (map (λ m. v ∷ m) ls)) (map T (add_heads vs ls)) (rising-cons v ls q) (rising-heads vs ls p.1 q) (each ls))
+    (rise-append (map T (map (λ m. v ∷ m) ls)) (map T (add_heads vs ls)) (sorted-cons v ls q) (sorted-heads vs ls p.1 q) (each ls))
   where
     each : (ms : List (List Value)) → AllOf (map T (map (λ m. v ∷ m) ms)) (λ x. Below order_total x (map T (add_heads vs ls)))
     each [] = tt
@@ -109,7 +109,7 @@ lists-rise no_domains (l ∷ ls) e = absurd e
 lists-rise (more_domains d ds) [] e = absurd e
 lists-rise (more_domains d ds) (vs ∷ ls) e =
     let listed = e.1 in
-    rising-heads vs (lists_of ls) (rising-of vs (ap (rises itself) (sym e.0) ∙ listed.rising)) (lists-rise ds ls e.2)
+    sorted-heads vs (lists_of ls) (sorted-of vs (ap (rises itself) (sym e.0) ∙ listed.sorted)) (lists-rise ds ls e.2)
 
 lists-members : (ds : Domains) (ls : List (List Value)) → Each ds ls → list_all (λ l. member_of_each ds (of_list l)) (lists_of ls) ≡ true
 lists-members no_domains [] e = refl
@@ -129,13 +129,13 @@ tuples-listed ds a = go (all_some (members_of_each ds)) refl
   where
     go : (o : Option (List (List Value))) → all_some (members_of_each ds) ≡ o → Listed (tuples ds)
     go None q = record {
-      rising = ap (λ o. rises itself (list_or_none (option_map (λ ls. map T (lists_of ls)) o))) q;
+      sorted = ap (λ o. rises itself (list_or_none (option_map (λ ls. map T (lists_of ls)) o))) q;
       members = ap (λ o. list_all (member (tuples ds)) (list_or_none (option_map (λ ls. map T (lists_of ls)) o))) q;
     }
     go (Some ls) q =
         let e = each-domain ds ls a q in
         record {
-          rising = ap (λ o. rises itself (list_or_none (option_map (λ ls. map T (lists_of ls)) o))) q ∙ of-rising (map T (lists_of ls)) (lists-rise ds ls e);
+          sorted = ap (λ o. rises itself (list_or_none (option_map (λ ls. map T (lists_of ls)) o))) q ∙ of-sorted (map T (lists_of ls)) (lists-rise ds ls e);
           members = ap (λ o. list_all (member (tuples ds)) (list_or_none (option_map (λ ls. map T (lists_of ls)) o))) q ∙ all-T (member (tuples ds)) (lists_of ls) ∙ lists-members ds ls e;
         }
 

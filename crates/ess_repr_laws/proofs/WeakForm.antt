@@ -8,14 +8,14 @@ use Rattle.std.specs.declared.cmp.Ordering.TheVariants.{Less, Equal, Greater}
 use Rattle.ess_semantics.specs.Lists.{and_then, each_of}
 use Rattle.ess_semantics.specs.Values.{Value}
 use Rattle.ess_semantics.specs.Order.{order, same}
-use Rattle.ess_semantics.specs.Collections.{holds, count, add, add_by, rising}
+use Rattle.ess_semantics.specs.Collections.{holds, count, add, add_by, sorted}
 use Rattle.ess_semantics.specs.Numbers.{run_from, one_to}
 use Rattle.ess_semantics.specs.Cells.{Cells, Axes, are_zero, rows, order_rows}
 use Rattle.ess_semantics.proofs.Orders.{rows_total, rows_exact, same-equal}
 use Rattle.ess_repr_laws.proofs.RowsOfCells.{zeros-same}
 use Rattle.ess_repr_laws.proofs.OneForm.{Rows, value-held}
 use Rattle.ess_semantics.proofs.Runs.{from_to, same-at}
-use Rattle.ess_semantics.proofs.Multisets.{times, WeaklyRising, under-on, one-bag, one-rising-bag, count-rising, rising-rises, same-members}
+use Rattle.ess_semantics.proofs.Multisets.{times, WeaklyRising, under-on, one-bag, one-sorted-bag, count-sorted, sorted-rises, same-members}
 
 -- ---- rows of values
 
@@ -36,16 +36,16 @@ times-add f v (y ∷ ys) x = go (order v y) (times-add f v ys x)
     go Equal ih = refl
     go Greater ih = swap (is_eq (order_rows (f v) x)) (is_eq (order_rows (f y) x)) (times rows_total rows_exact (map f ys) x) (times rows_total rows_exact (map f (add v ys)) x) ih
 
-times-rising : (f : Value → Rows) (xs : List Value) (x : Rows) → times rows_total rows_exact (map f (rising xs)) x ≡ times rows_total rows_exact (map f xs) x
-times-rising f [] x = refl
-times-rising f (v ∷ vs) x = times-add f v (rising vs) x ∙ ap (λ n. if is_eq (order_rows (f v) x) then suc n else n) (times-rising f vs x)
+times-sorted : (f : Value → Rows) (xs : List Value) (x : Rows) → times rows_total rows_exact (map f (sorted xs)) x ≡ times rows_total rows_exact (map f xs) x
+times-sorted f [] x = refl
+times-sorted f (v ∷ vs) x = times-add f v (sorted vs) x ∙ ap (λ n. if is_eq (order_rows (f v) x) then suc n else n) (times-sorted f vs x)
 
 -- values that occur equally often have rows that do
 times-same : (f : Value → Rows) (vs ws : List Value) → ((w : Value) → count vs w ≡ count ws w) → (x : Rows) → times rows_total rows_exact (map f vs) x ≡ times rows_total rows_exact (map f ws) x
 times-same f vs ws h x =
-    sym (times-rising f vs x)
-    ∙ ap (λ l. times rows_total rows_exact (map f l) x) (one-rising-bag (rising vs) (rising ws) (rising-rises vs) (rising-rises ws) (λ w. count-rising vs w ∙ h w ∙ sym (count-rising ws w)))
-    ∙ times-rising f ws x
+    sym (times-sorted f vs x)
+    ∙ ap (λ l. times rows_total rows_exact (map f l) x) (one-sorted-bag (sorted vs) (sorted ws) (sorted-rises vs) (sorted-rises ws) (λ w. count-sorted vs w ∙ h w ∙ sym (count-sorted ws w)))
+    ∙ times-sorted f ws x
 
 -- the row that stands beside a value
 abbrev row_beside : List Value → List Rows → Value → Rows

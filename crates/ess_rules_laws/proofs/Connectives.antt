@@ -7,7 +7,7 @@ use Rattle.ess_semantics.specs.declared.words.Fun.{Fun}
 use Rattle.ess_semantics.specs.Lists.{and_then}
 use Rattle.ess_semantics.specs.Values.{Value, truth}
 use Rattle.ess_semantics.specs.Trees.{binary, word, Ex, comp_ex, ex1, ex2, fun1, Gens}
-use Rattle.ess_semantics.specs.Operators.{as_truth, implies, iff, all_true, any_true, list_value, value_of_node, settle}
+use Rattle.ess_semantics.specs.Operators.{as_truth, implies, iff, all_true, any_true, list_value, value_of_node, false_where_undefined}
 use Rattle.ess_semantics.specs.Meaning.{Env, meaning, items_under, collect}
 use Rattle.ess_semantics.specs.Contexts.{Each}
 use Rattle.ess_semantics.proofs.Orders.{to_list-of_list}
@@ -37,20 +37,20 @@ not-means env a x p = ap (λ o. Some (truth (not (as_truth o)))) p
 
 -- An operator on two operands that have values.
 pub binary-means : (env : Env) (t : Bool) (o : Op2) (a b : Ex) (x y : Value) → meaning a env ≡ Some x → meaning b env ≡ Some y →
-    meaning (ex2 t o a b) env ≡ settle t (value_of_node (binary o) (Some x ∷ Some y ∷ []))
-binary-means env t o a b x y p q = ap (λ z. settle t (value_of_node (binary o) (z ∷ meaning b env ∷ []))) p ∙ ap (λ z. settle t (value_of_node (binary o) (Some x ∷ z ∷ []))) q
+    meaning (ex2 t o a b) env ≡ false_where_undefined t (value_of_node (binary o) (Some x ∷ Some y ∷ []))
+binary-means env t o a b x y p q = ap (λ z. false_where_undefined t (value_of_node (binary o) (z ∷ meaning b env ∷ []))) p ∙ ap (λ z. false_where_undefined t (value_of_node (binary o) (Some x ∷ z ∷ []))) q
 
 -- ---- quantifiers
 
 -- `and` of a comprehension whose items are there.
 pub all-means : (env : Env) (e : Ex) (gs : Gens) (xs : List Value) → items_under gs env (λ here. option_map (λ v. v ∷ []) (meaning e here)) ≡ Some xs →
     meaning (fun1 true Fun.And (comp_ex e gs)) env ≡ Some (truth (all_true xs))
-all-means env e gs xs p = ap (λ o. settle true (value_of_node (word Fun.And) (option_map list_value o ∷ []))) p ∙ ap (λ l. Some (truth (all_true l))) (to_list-of_list xs)
+all-means env e gs xs p = ap (λ o. false_where_undefined true (value_of_node (word Fun.And) (option_map list_value o ∷ []))) p ∙ ap (λ l. Some (truth (all_true l))) (to_list-of_list xs)
 
 -- The same of `or`.
 pub any-means : (env : Env) (e : Ex) (gs : Gens) (xs : List Value) → items_under gs env (λ here. option_map (λ v. v ∷ []) (meaning e here)) ≡ Some xs →
     meaning (fun1 true Fun.Or (comp_ex e gs)) env ≡ Some (truth (any_true xs))
-any-means env e gs xs p = ap (λ o. settle true (value_of_node (word Fun.Or) (option_map list_value o ∷ []))) p ∙ ap (λ l. Some (truth (any_true l))) (to_list-of_list xs)
+any-means env e gs xs p = ap (λ o. false_where_undefined true (value_of_node (word Fun.Or) (option_map list_value o ∷ []))) p ∙ ap (λ l. Some (truth (any_true l))) (to_list-of_list xs)
 
 -- ---- lists of truth values
 

@@ -10,7 +10,7 @@ use Rattle.ess_semantics.specs.Collections.{set_of}
 use Rattle.ess_semantics.specs.Trees.{binary, name_pat, Ex, truth_ex, comp_ex, cell_ex, seen_ex, no_exs, no_gens, over, from, cond}
 use Rattle.ess_semantics.specs.declared.words.ReprKind.{ReprKind}
 use Rattle.ess_semantics.specs.Choice.{alone}
-use Rattle.ess_semantics.specs.Operators.{value_of_node, settle}
+use Rattle.ess_semantics.specs.Operators.{value_of_node, false_where_undefined}
 use Rattle.ess_semantics.specs.Meaning.{Env, empty_env, meaning}
 use Rattle.ess_semantics.specs.Meets.{Meets}
 use Rattle.ess_semantics.specs.Kept.{Kept, KeptWhere}
@@ -37,7 +37,7 @@ not_always h = let e : Some (truth false) ≡ Some (truth true) = (h empty_env t
 
 -- but it is where x is 1
 where_x_is_one : KeptWhere (λ env. meaning (N x) env ≡ Some (v 1)) is_one (truth_ex true)
-where_x_is_one env p m = (ap (λ o. settle true (value_of_node (binary Op2.Eq) (o ∷ Some (v 1) ∷ []))) p, tt)
+where_x_is_one env p m = (ap (λ o. false_where_undefined true (value_of_node (binary Op2.Eq) (o ∷ Some (v 1) ∷ []))) p, tt)
 
 -- a view of a set of int(1..3), kept as a table of truth values
 abbrev view : Ex

@@ -12,7 +12,7 @@ use Rattle.ess_semantics.specs.Order.{same}
 use Rattle.ess_semantics.specs.Collections.{holds}
 use Rattle.ess_semantics.specs.Names.{Names}
 use Rattle.ess_semantics.specs.Trees.{unary, binary, word, name_pat, Ex, number_ex, name_ex, comp_ex, ex1, ex2, fun1, no_gens, from}
-use Rattle.ess_semantics.specs.Operators.{sum_of, any_true, as_truth, list_value, value_of_node, settle}
+use Rattle.ess_semantics.specs.Operators.{sum_of, any_true, as_truth, list_value, value_of_node, false_where_undefined}
 use Rattle.ess_semantics.specs.Tables.{Table}
 use Rattle.ess_semantics.specs.Meaning.{Env, TypeEntry, meaning, collect}
 use Rattle.ess_semantics.specs.Contexts.{Each}
@@ -45,16 +45,16 @@ sum-ones (x ∷ xs) = ap (λ m. pos 1 +ℤ m) (sum-ones xs) ∙ (let e : 1 + len
 pub size-is-sum : (x : Text) (v : Ex) (env : Env) (k : Kind) (o : Option Values) → ((vs : Values) → items_of (node k vs) ≡ to_list vs) → meaning v env ≡ option_map (node k) o →
     meaning (size_as_sum x v) env ≡ meaning (ex1 false Op1.Bar v) env
 size-is-sum x v env k o parts e =
-    ap (λ w. settle false (value_of_node (word Fun.Sum) (option_map list_value (and_then w (λ s. collect (items_of s) (λ u. Some (number (pos 1) ∷ [])))) ∷ []))) e
+    ap (λ w. false_where_undefined false (value_of_node (word Fun.Sum) (option_map list_value (and_then w (λ s. collect (items_of s) (λ u. Some (number (pos 1) ∷ [])))) ∷ []))) e
     ∙ go o
-    ∙ ap (λ w. settle false (value_of_node (unary Op1.Bar) (w ∷ []))) (sym e)
+    ∙ ap (λ w. false_where_undefined false (value_of_node (unary Op1.Bar) (w ∷ []))) (sym e)
   where
-    go : (o : Option Values) → settle false (value_of_node (word Fun.Sum) (option_map list_value (and_then (option_map (node k) o) (λ s. collect (items_of s) (λ u. Some (number (pos 1) ∷ [])))) ∷ []))
-        ≡ settle false (value_of_node (unary Op1.Bar) (option_map (node k) o ∷ []))
+    go : (o : Option Values) → false_where_undefined false (value_of_node (word Fun.Sum) (option_map list_value (and_then (option_map (node k) o) (λ s. collect (items_of s) (λ u. Some (number (pos 1) ∷ [])))) ∷ []))
+        ≡ false_where_undefined false (value_of_node (unary Op1.Bar) (option_map (node k) o ∷ []))
     go None = refl
     go (Some vs) =
-        ap (λ l. settle false (value_of_node (word Fun.Sum) (option_map list_value (collect l (λ u. Some (number (pos 1) ∷ []))) ∷ []))) (parts vs)
-        ∙ ap (λ c. settle false (value_of_node (word Fun.Sum) (option_map list_value c ∷ []))) (collect-ones (to_list vs))
+        ap (λ l. false_where_undefined false (value_of_node (word Fun.Sum) (option_map list_value (collect l (λ u. Some (number (pos 1) ∷ []))) ∷ []))) (parts vs)
+        ∙ ap (λ c. false_where_undefined false (value_of_node (word Fun.Sum) (option_map list_value c ∷ []))) (collect-ones (to_list vs))
         ∙ ap (λ l. Some (number (sum_of l))) (to_list-of_list (ones (to_list vs))) ∙ ap (λ n. Some (number n)) (sum-ones (to_list vs))
 
 -- ---- membership
@@ -85,18 +85,18 @@ module _ (pl : Bool) (ts : List TypeEntry) (cs : Names Table) (g : Vals) where
 
       item-is : (u : Value) (p : Option Value) → meaning e (E pl ts cs g) ≡ p → F u ≡ Some (truth (as_truth (value_of_node (binary Op2.Eq) (Some u ∷ p ∷ []))) ∷ [])
       item-is u p q =
-          ap (λ o. option_map (λ w. w ∷ []) (settle true (value_of_node (binary Op2.Eq) (o ∷ meaning e (E pl ts cs ((x, u) ∷ g)) ∷ [])))) (look-itself x u g)
-          ∙ ap (λ w. option_map (λ w. w ∷ []) (settle true (value_of_node (binary Op2.Eq) (Some u ∷ w ∷ [])))) (meaning-agree pl ts cs (but x) e g ((x, u) ∷ g) fresh (agree-but x u g) ∙ q)
+          ap (λ o. option_map (λ w. w ∷ []) (false_where_undefined true (value_of_node (binary Op2.Eq) (o ∷ meaning e (E pl ts cs ((x, u) ∷ g)) ∷ [])))) (look-itself x u g)
+          ∙ ap (λ w. option_map (λ w. w ∷ []) (false_where_undefined true (value_of_node (binary Op2.Eq) (Some u ∷ w ∷ [])))) (meaning-agree pl ts cs (but x) e g ((x, u) ∷ g) fresh (agree-but x u g) ∙ q)
 
       tested : (s : Value) (f : Value → Bool) → ((u : Value) → F u ≡ Some (truth (f u) ∷ [])) →
-          settle true (value_of_node (word Fun.Or) (option_map list_value (collect (items_of s) F) ∷ [])) ≡ Some (truth (list_any f (items_of s)))
+          false_where_undefined true (value_of_node (word Fun.Or) (option_map list_value (collect (items_of s) F) ∷ [])) ≡ Some (truth (list_any f (items_of s)))
       tested s f h =
-          ap (λ c. settle true (value_of_node (word Fun.Or) (option_map list_value c ∷ []))) (collect-bits (items_of s) F f (each-always (items_of s) _ h))
+          ap (λ c. false_where_undefined true (value_of_node (word Fun.Or) (option_map list_value c ∷ []))) (collect-bits (items_of s) F f (each-always (items_of s) _ h))
           ∙ ap (λ l. Some (truth (any_true l))) (to_list-of_list (bits f (items_of s)))
           ∙ ap (λ b. Some (truth b)) (any-bits f (items_of s))
 
-      go : (o p : Option Value) → meaning e (E pl ts cs g) ≡ p → settle true (value_of_node (word Fun.Or) (option_map list_value (and_then o (λ s. collect (items_of s) F)) ∷ []))
-          ≡ settle true (value_of_node (binary Op2.Member) (p ∷ o ∷ []))
+      go : (o p : Option Value) → meaning e (E pl ts cs g) ≡ p → false_where_undefined true (value_of_node (word Fun.Or) (option_map list_value (and_then o (λ s. collect (items_of s) F)) ∷ []))
+          ≡ false_where_undefined true (value_of_node (binary Op2.Member) (p ∷ o ∷ []))
       go None None q = refl
       go None (Some w) q = refl
       go (Some s) None q = tested s (λ u. false) (λ u. item-is u None q) ∙ ap (λ b. Some (truth b)) (any-never (items_of s))

@@ -7,15 +7,15 @@ use Rattle.ess_semantics.specs.declared.words.Fun.{Fun}
 use Rattle.ess_semantics.specs.Lists.{and_then}
 use Rattle.ess_semantics.specs.Values.{Value, number, truth, item, a_set, node, items_of, of_list, to_list}
 use Rattle.ess_semantics.specs.Order.{order, same}
-use Rattle.ess_semantics.specs.Collections.{holds, count, place, place_by, strictly}
+use Rattle.ess_semantics.specs.Collections.{holds, count, place, place_by, sorted_once}
 use Rattle.ess_semantics.specs.Trees.{word, Gens, no_gens, over, from, cond}
-use Rattle.ess_semantics.specs.Operators.{truth_in, all_true, any_true, list_value, value_of_word1, value_of_node, settle, as_truth}
+use Rattle.ess_semantics.specs.Operators.{truth_in, all_true, any_true, list_value, value_of_word1, value_of_node, false_where_undefined, as_truth}
 use Rattle.ess_semantics.specs.Meaning.{Env, with_pat, where_true, collect, meaning, items_under, domain_of, members_in}
 use Rattle.ess_semantics.specs.Contexts.{Each, EachOf, EachIn, AtEach}
 use Rattle.ess_semantics.proofs.Orders.{order_exact, same-itself, to_list-of_list}
 use Rattle.ess_semantics.proofs.Tests.{or-left-no, or-right-no}
 use Rattle.ess_rules_laws.proofs.Bindings.{each-of-map, each-in-map}
-use Rattle.ess_semantics.proofs.Sorting.{holds-strictly, Distinct, one-set}
+use Rattle.ess_semantics.proofs.Sorting.{holds-sorted_once, Distinct, one-set}
 
 -- ---- permutations
 
@@ -147,9 +147,9 @@ place-perm v (x ∷ xs) h = go (λ q. place-perm v xs q) (order v x) refl
     go ih Greater q = chain (skip (ih (or-right-no (same x v) (holds xs v) h))) swap
 
 -- The strictly rising list of values that differ has these values.
-pub strictly-perm : (xs : List Value) → Distinct xs → Perm (strictly xs) xs
-strictly-perm [] d = same_list
-strictly-perm (x ∷ xs) d = chain (place-perm x (strictly xs) (holds-strictly xs x ∙ d.0)) (skip (strictly-perm xs d.1))
+pub sorted_once-perm : (xs : List Value) → Distinct xs → Perm (sorted_once xs) xs
+sorted_once-perm [] d = same_list
+sorted_once-perm (x ∷ xs) d = chain (place-perm x (sorted_once xs) (holds-sorted_once xs x ∙ d.0)) (skip (sorted_once-perm xs d.1))
 
 -- ---- words that don't see the order
 
@@ -185,13 +185,13 @@ or-unordered xs ys p = on-items (λ l. Some (truth (any_true l))) xs ys (ap (λ 
 
 -- `toSet`.
 pub to_set-unordered : Unordered Fun.ToSet
-to_set-unordered xs ys p = on-items (λ l. Some (node a_set (of_list (strictly l)))) xs ys (ap (λ l. Some (node a_set (of_list l))) (one-set xs ys (holds-perm p)))
+to_set-unordered xs ys p = on-items (λ l. Some (node a_set (of_list (sorted_once l)))) xs ys (ap (λ l. Some (node a_set (of_list l))) (one-set xs ys (holds-perm p)))
 
 -- Such a word of a comprehension whose items come in another order.
 pub unordered-alike : (b : Bool) (f : Fun) → Unordered f → (o q : Option (List Value)) → Alike o q →
-    settle b (value_of_node (word f) (option_map list_value o ∷ [])) ≡ settle b (value_of_node (word f) (option_map list_value q ∷ []))
+    false_where_undefined b (value_of_node (word f) (option_map list_value o ∷ [])) ≡ false_where_undefined b (value_of_node (word f) (option_map list_value q ∷ []))
 unordered-alike b f u None None a = refl
-unordered-alike b f u (Some xs) (Some ys) a = ap (settle b) (u xs ys a)
+unordered-alike b f u (Some xs) (Some ys) a = ap (false_where_undefined b) (u xs ys a)
 unordered-alike b f u None (Some ys) a = absurd a
 unordered-alike b f u (Some xs) None a = absurd a
 

@@ -5,7 +5,7 @@ use Rattle.ess_semantics.specs.Lists.{and_then, all_some}
 use Rattle.ess_semantics.specs.Values.{Value, truth, items_of}
 use Rattle.ess_semantics.specs.Names.{look}
 use Rattle.ess_semantics.specs.Trees.{Op, binary, Ex, no_exs, more_exs}
-use Rattle.ess_semantics.specs.Operators.{implies, as_truth, value_of_node, settle, list_value}
+use Rattle.ess_semantics.specs.Operators.{implies, as_truth, value_of_node, false_where_undefined, list_value}
 use Rattle.ess_semantics.specs.Domains.{integers, tuples, records, matrices, sets, msets, functions, relations, partitions, more_domains}
 use Rattle.ess_semantics.specs.Meaning.{Env, with_pat, collect, where_true, meaning, meanings, items_under, domain_of, domains_of, members_in, spans_of, attributes_of, matrix_value, seen_in, cell_in, indices, tables_in, is_bool_dom}
 use Rattle.ess_semantics.specs.Contexts.{In, Ins, InGens, InDom, InDoms, hole, in_operand, in_item, in_index_domain, in_body, in_generators, in_cell_index, in_view_domain, in_view_index, in_first, in_later, in_generator_domain, behind_over, in_source, behind_from, in_condition, behind_condition, in_bound, in_component, in_field, in_index, in_element, in_set_number, in_set_member, in_mset_number, in_mset_member, in_function_number, in_argument, in_result, in_relation_number, in_relation_component, in_partition_number, in_partition_member, in_first_domain, in_later_domain, fill, fill_exs, fill_gens, fill_dom, fill_doms, guards, Where, WhereIn, WhereGens, WhereDom, WhereDoms}
@@ -65,17 +65,17 @@ module _ (a a' : Ex) where
     -- With the one or the other in the part an expression means the same.
     pub filled : (c : In) (env : Env) → Where c env MeansSame → meaning (fill c a) env ≡ meaning (fill c a') env
     filled hole env h = h
-    filled (in_operand b op c) env h = ap (settle b) (filled-operands op c env (guards op) refl h)
+    filled (in_operand b op c) env h = ap (false_where_undefined b) (filled-operands op c env (guards op) refl h)
     filled (in_item c d) env h = ap (λ x. and_then (all_some x) (matrix_value (members_in (domain_of d env)))) (filled-exs c env h)
     filled (in_index_domain es c) env h = ap (λ x. and_then (all_some (meanings es env)) (matrix_value (members_in x))) (filled-dom c env h)
     filled (in_body c gs) env h =
         ap (option_map list_value) (items-at-each gs env _ _ (at-each-map gs env _ _ (λ here p. ap (option_map (λ v. v ∷ [])) (filled c here p)) h))
     filled (in_generators x c) env h = ap (option_map list_value) (filled-gens c env (λ here. option_map (λ v. v ∷ []) (meaning x here)) h)
-    filled (in_cell_index b n c) env h = ap (λ x. settle b (cell_in b (look env.cells n) (indices x))) (filled-exs c env h)
+    filled (in_cell_index b n c) env h = ap (λ x. false_where_undefined b (cell_in b (look env.cells n) (indices x))) (filled-exs c env h)
     filled (in_view_domain r c ns es) env h =
-        ap (λ q. settle q (seen_in r (domain_of (fill_dom c a) env) (tables_in env.cells ns) (indices (meanings es env)))) (bool-same c)
-        ∙ ap (λ x. settle (is_bool_dom (fill_dom c a')) (seen_in r x (tables_in env.cells ns) (indices (meanings es env)))) (filled-dom c env h)
-    filled (in_view_index r d ns c) env h = ap (λ x. settle (is_bool_dom d) (seen_in r (domain_of d env) (tables_in env.cells ns) (indices x))) (filled-exs c env h)
+        ap (λ q. false_where_undefined q (seen_in r (domain_of (fill_dom c a) env) (tables_in env.cells ns) (indices (meanings es env)))) (bool-same c)
+        ∙ ap (λ x. false_where_undefined (is_bool_dom (fill_dom c a')) (seen_in r x (tables_in env.cells ns) (indices (meanings es env)))) (filled-dom c env h)
+    filled (in_view_index r d ns c) env h = ap (λ x. false_where_undefined (is_bool_dom d) (seen_in r (domain_of d env) (tables_in env.cells ns) (indices x))) (filled-exs c env h)
 
     filled-operands : (op : Op) (c : Ins) (env : Env) (g : Bool) → guards op ≡ g → WhereIn g c env MeansSame →
         value_of_node op (meanings (fill_exs c a) env) ≡ value_of_node op (meanings (fill_exs c a') env)

@@ -7,7 +7,7 @@ use Rattle.ess_semantics.specs.Values.{Text, Value, items_of}
 use Rattle.ess_semantics.specs.Order.{same_text}
 use Rattle.ess_semantics.specs.Names.{Names, look}
 use Rattle.ess_semantics.specs.Trees.{Pat, Pats, name_pat, tuple_pat, no_pats, more_pats, Ex, Exs, number_ex, truth_ex, name_ex, node_ex, matrix_ex, comp_ex, cell_ex, seen_ex, no_exs, more_exs, Gens, no_gens, over, from, cond, Dom, Doms, bool_dom, int_dom, name_dom, tuple_dom, record_dom, matrix_dom, set_dom, mset_dom, function_dom, relation_dom, partition_dom, no_doms, more_doms}
-use Rattle.ess_semantics.specs.Operators.{value_of_node, settle, list_value}
+use Rattle.ess_semantics.specs.Operators.{value_of_node, false_where_undefined, list_value}
 use Rattle.ess_semantics.specs.Domains.{integers, tuples, records, matrices, sets, msets, functions, relations, partitions, more_domains}
 use Rattle.ess_semantics.specs.Tables.{Table}
 use Rattle.ess_semantics.specs.Meaning.{Env, TypeEntry, bind, bind_all, with_pat, collect, where_true, meaning, meanings, items_under, domain_of, domains_of, members_in, spans_of, attributes_of, matrix_value, seen_in, cell_in, indices, tables_in, is_bool_dom}
@@ -67,18 +67,18 @@ module _ (pl : Bool) (ts : List TypeEntry) (cs : Names Table) (f : Text → Ex) 
     meaning-sim (number_ex m) g h o s = refl
     meaning-sim (truth_ex m) g h o s = refl
     meaning-sim (name_ex a) g h o s = at-name a g h o s
-    meaning-sim (node_ex q op es) g h o s = ap (λ x. settle q (value_of_node op x)) (meanings-sim es g h o s)
+    meaning-sim (node_ex q op es) g h o s = ap (λ x. false_where_undefined q (value_of_node op x)) (meanings-sim es g h o s)
     meaning-sim (matrix_ex es d) g h o s =
         ap (λ x. and_then (all_some x) (matrix_value (members_in (domain_of (substitute_dom f d) (M h))))) (meanings-sim es g h o.0 s)
         ∙ ap (λ x. and_then (all_some (meanings es (M g))) (matrix_value (members_in x))) (domain-sim d g h o.1 s)
     meaning-sim (comp_ex e gs) g h o s =
         ap (option_map list_value) (items-sim gs g h (λ here. option_map (λ v. v ∷ []) (meaning e here)) (λ here. option_map (λ v. v ∷ []) (meaning (substitute f e) here)) o.1 s
         (λ g' h' s'. ap (option_map (λ v. v ∷ [])) (meaning-sim e g' h' o.0 s')))
-    meaning-sim (cell_ex q c es) g h o s = ap (λ x. settle q (cell_in q (look cs c) (indices x))) (meanings-sim es g h o s)
+    meaning-sim (cell_ex q c es) g h o s = ap (λ x. false_where_undefined q (cell_in q (look cs c) (indices x))) (meanings-sim es g h o s)
     meaning-sim (seen_ex r d ns es) g h o s =
-        ap (λ q. settle q (seen_in r (domain_of (substitute_dom f d) (M h)) (tables_in cs ns) (indices (meanings (substitute_exs f es) (M h))))) (bool-dom d)
-        ∙ ap (λ x. settle (is_bool_dom d) (seen_in r x (tables_in cs ns) (indices (meanings (substitute_exs f es) (M h))))) (domain-sim d g h o.0 s)
-        ∙ ap (λ x. settle (is_bool_dom d) (seen_in r (domain_of d (M g)) (tables_in cs ns) (indices x))) (meanings-sim es g h o.1 s)
+        ap (λ q. false_where_undefined q (seen_in r (domain_of (substitute_dom f d) (M h)) (tables_in cs ns) (indices (meanings (substitute_exs f es) (M h))))) (bool-dom d)
+        ∙ ap (λ x. false_where_undefined (is_bool_dom d) (seen_in r x (tables_in cs ns) (indices (meanings (substitute_exs f es) (M h))))) (domain-sim d g h o.0 s)
+        ∙ ap (λ x. false_where_undefined (is_bool_dom d) (seen_in r (domain_of d (M g)) (tables_in cs ns) (indices x))) (meanings-sim es g h o.1 s)
 
     pub meanings-sim : (es : Exs) (g h : Vals) → NamesAreExs n b es → R g h → meanings (substitute_exs f es) (M h) ≡ meanings es (M g)
     meanings-sim no_exs g h o s = refl

@@ -5,7 +5,7 @@ use Rattle.ess_semantics.specs.Lists.{and_then, all_some}
 use Rattle.ess_semantics.specs.Values.{Value, items_of}
 use Rattle.ess_semantics.specs.Names.{look}
 use Rattle.ess_semantics.specs.Trees.{Op, Ex, Gens, no_gens, over, from, cond}
-use Rattle.ess_semantics.specs.Operators.{as_truth, value_of_node, settle, list_value}
+use Rattle.ess_semantics.specs.Operators.{as_truth, value_of_node, false_where_undefined, list_value}
 use Rattle.ess_semantics.specs.Domains.{integers, tuples, records, matrices, sets, msets, functions, relations, partitions, more_domains}
 use Rattle.ess_semantics.specs.Meaning.{Env, with_pat, collect, where_true, meaning, meanings, items_under, domain_of, domains_of, members_in, spans_of, attributes_of, matrix_value, seen_in, cell_in, indices, tables_in, is_bool_dom}
 use Rattle.ess_semantics.specs.Contexts.{In, Ins, InGens, InDom, InDoms, hole, in_operand, in_item, in_index_domain, in_body, in_generators, in_cell_index, in_view_domain, in_view_index, in_first, in_later, in_generator_domain, behind_over, in_source, behind_from, in_condition, behind_condition, in_bound, in_component, in_field, in_index, in_element, in_set_number, in_set_member, in_mset_number, in_mset_member, in_function_number, in_argument, in_result, in_relation_number, in_relation_component, in_partition_number, in_partition_member, in_first_domain, in_later_domain, fill, fill_exs, fill_gens, fill_dom, fill_doms, guards, Guarded, EachOf, EachIn, AtEach, Where, WhereIn, WhereGens, WhereDom, WhereDoms}
@@ -42,7 +42,7 @@ module _ (P : Env → Type 0) (a a' : Ex) (rule : KeptWhere P a a') where
     -- Used where the context of the part holds, the rule keeps the whole.
     pub step : (c : In) (env : Env) → Where c env P → Meets (fill c a) env → Follows c env
     step hole env p m = rule env p m
-    step (in_operand b op c) env p m = let r = step-operands op c env (guards op) refl p m in (ap (settle b) r.0, r.1)
+    step (in_operand b op c) env p m = let r = step-operands op c env (guards op) refl p m in (ap (false_where_undefined b) r.0, r.1)
     step (in_item c d) env p m = let r = step-exs c env p m.0 in (ap (λ x. and_then (all_some x) (matrix_value (members_in (domain_of d env)))) r.0, (r.1, m.1))
     step (in_index_domain es c) env p m = let r = step-dom c env p m.1 in (ap (λ x. and_then (all_some (meanings es env)) (matrix_value (members_in x))) r.0, (m.0, r.1))
     step (in_body c gs) env p m = (
@@ -50,14 +50,14 @@ module _ (P : Env → Type 0) (a a' : Ex) (rule : KeptWhere P a a') where
       meets-gens-join gs env _ _ _ (λ h q n. (step c h q n).1) p m,
     )
     step (in_generators x c) env p m = let r = step-gens c env x (λ here. option_map (λ v. v ∷ []) (meaning x here)) p m in (ap (option_map list_value) r.0, r.1)
-    step (in_cell_index b n c) env p m = let r = step-exs c env p m in (ap (λ x. settle b (cell_in b (look env.cells n) (indices x))) r.0, r.1)
+    step (in_cell_index b n c) env p m = let r = step-exs c env p m in (ap (λ x. false_where_undefined b (cell_in b (look env.cells n) (indices x))) r.0, r.1)
     step (in_view_domain r c ns es) env p m = let s = step-dom c env p m.1 in (
-      ap (λ q. settle q (seen_in r (domain_of (fill_dom c a) env) (tables_in env.cells ns) (indices (meanings es env)))) (bool-same a a' c)
-          ∙ ap (λ x. settle (is_bool_dom (fill_dom c a')) (seen_in r x (tables_in env.cells ns) (indices (meanings es env)))) s.0,
+      ap (λ q. false_where_undefined q (seen_in r (domain_of (fill_dom c a) env) (tables_in env.cells ns) (indices (meanings es env)))) (bool-same a a' c)
+          ∙ ap (λ x. false_where_undefined (is_bool_dom (fill_dom c a')) (seen_in r x (tables_in env.cells ns) (indices (meanings es env)))) s.0,
       (ap (λ x. tidy_in r x (tables_in env.cells ns) (indices (meanings es env))) (sym s.0) ∙ m.0, s.1, m.2),
     )
     step (in_view_index r d ns c) env p m = let s = step-exs c env p m.2 in (
-      ap (λ x. settle (is_bool_dom d) (seen_in r (domain_of d env) (tables_in env.cells ns) (indices x))) s.0,
+      ap (λ x. false_where_undefined (is_bool_dom d) (seen_in r (domain_of d env) (tables_in env.cells ns) (indices x))) s.0,
       (ap (λ x. tidy_in r (domain_of d env) (tables_in env.cells ns) (indices x)) (sym s.0) ∙ m.0, m.1, s.1),
     )
 

@@ -3,7 +3,7 @@ use Rattle.std.specs.Prelude.{◌≡◌, refl, List, [], ◌∷◌, map}
 use Rattle.ess_semantics.specs.declared.words.Key.{Key}
 use Rattle.ess_semantics.specs.Lists.{append_all}
 use Rattle.ess_semantics.specs.Values.{a_partition, Value, node, of_list, pair}
-use Rattle.ess_semantics.specs.Collections.{strictly, set_of, relation_of}
+use Rattle.ess_semantics.specs.Collections.{sorted_once, set_of, relation_of}
 use Rattle.ess_semantics.specs.Trees.{relation_dom, mset_dom, function_dom, partition_dom, flag, valued, no_exs, find}
 use Rattle.ess_semantics.specs.Assignments.{nothing_given}
 use Rattle.ess_semantics.proofs.Shorthands.{n, es2, ds2, upto, v, v2, v3}
@@ -45,7 +45,7 @@ partitions_of [] = [] ∷ []
 partitions_of (w ∷ ws) = append_all (map (λ ps. ((w ∷ []) ∷ ps) ∷ into_each w ps) (partitions_of ws))
 
 abbrev as_partition : List (List Value) → Value
-as_partition ps = node a_partition (of_list (strictly (map set_of ps)))
+as_partition ps = node a_partition (of_list (sorted_once (map set_of ps)))
 
 five_regular : solutions (find s (partition_dom (flag Key.Regular ∷ []) no_exs (upto 4)) ∷ []) nothing_given s (map as_partition (partitions_of (v 1 ∷ v 2 ∷ v 3 ∷ v 4 ∷ []))) ≡ 5
 five_regular = refl

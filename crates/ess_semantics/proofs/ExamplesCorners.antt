@@ -105,7 +105,7 @@ no_member_is_not_tidy = refl
 
 -- ---- names that are taken
 
--- the word alldifferent_except stands outside the profile
+-- the word alldifferent_except stands outside the subset
 word_is_taken : table_list true (find (codes "alldifferent") (record_dom (codes "except" ∷ []) (more_doms bool_dom no_doms)) ∷ []) [] ≡ (codes "alldifferent_except_", 0) ∷ []
 word_is_taken = refl
 

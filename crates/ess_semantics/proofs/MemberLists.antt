@@ -10,21 +10,21 @@ use Rattle.std.proofs.lemmas.Cmp.{tied_itself}
 use Rattle.ess_semantics.specs.Lists.{and_then, all_some, append_all, is_none_or, list_or_none}
 use Rattle.ess_semantics.specs.Values.{Text, Value, number, item, itself}
 use Rattle.ess_semantics.specs.Order.{below, same_text}
-use Rattle.ess_semantics.specs.Collections.{strictly, rises}
+use Rattle.ess_semantics.specs.Collections.{sorted_once, rises}
 use Rattle.ess_semantics.specs.Numbers.{natural}
 use Rattle.ess_semantics.specs.Domains.{Span, Domain, Domains, no_domains, more_domains, booleans, integers, named, numbers_up, interval, span_members, items_from, member_list}
 use Rattle.ess_semantics.specs.Membership.{in_span, member}
 use Rattle.ess_semantics.proofs.Tests.{and-left, and-right, and-both, or-yes}
 use Rattle.ess_semantics.proofs.Orders.{text_total}
-use Rattle.ess_semantics.proofs.Sorting.{strictly-rises, all-strictly}
+use Rattle.ess_semantics.proofs.Sorting.{sorted_once-rises, all-sorted_once}
 
 -- The members are listed: the list rises, and holds members alone.
 pub record Listed (d : Domain) : Type 0 where
-  pub rising : rises itself (member_list d) ≡ true
+  pub sorted : rises itself (member_list d) ≡ true
   pub members : list_all (member d) (member_list d) ≡ true
 
 pub booleans-listed : Listed booleans
-booleans-listed = record { rising = refl; members = refl }
+booleans-listed = record { sorted = refl; members = refl }
 
 -- ---- named types
 
@@ -46,7 +46,7 @@ items-members t k (suc n) m p q =
     (items-members t (suc k) n m (omega arith) (omega arith))
 
 pub named-listed : (t : Text) (n : ℕ) → Listed (named t n)
-named-listed t n = record { rising = items-rise t 1 n; members = items-members t 1 n n (le_refl 1) (omega arith) }
+named-listed t n = record { sorted = items-rise t 1 n; members = items-members t 1 n n (le_refl 1) (omega arith) }
 
 -- ---- numbers
 
@@ -97,18 +97,18 @@ spans-within (s ∷ ss) f h ls q = go (span_members s) (all_some (map span_membe
         ∙ all-append f vs (append_all us) (span-within s f (λ k r. h k (ap (λ b. b || list_any (in_span k) ss) r)) vs a) (ih us b)
 
 pub integers-listed : (ss : List Span) → Listed (integers ss)
-integers-listed [] = record { rising = refl; members = refl }
+integers-listed [] = record { sorted = refl; members = refl }
 integers-listed (s ∷ ss) = go (all_some (map span_members (s ∷ ss))) refl
   where
     go : (o : Option (List (List Value))) → all_some (map span_members (s ∷ ss)) ≡ o → Listed (integers (s ∷ ss))
     go None q = record {
-      rising = ap (λ o. rises itself (list_or_none (option_map (λ ls. strictly (append_all ls)) o))) q;
-      members = ap (λ o. list_all (member (integers (s ∷ ss))) (list_or_none (option_map (λ ls. strictly (append_all ls)) o))) q;
+      sorted = ap (λ o. rises itself (list_or_none (option_map (λ ls. sorted_once (append_all ls)) o))) q;
+      members = ap (λ o. list_all (member (integers (s ∷ ss))) (list_or_none (option_map (λ ls. sorted_once (append_all ls)) o))) q;
     }
     go (Some ls) q = record {
-      rising = ap (λ o. rises itself (list_or_none (option_map (λ ls. strictly (append_all ls)) o))) q ∙ strictly-rises (append_all ls);
-      members = ap (λ o. list_all (member (integers (s ∷ ss))) (list_or_none (option_map (λ ls. strictly (append_all ls)) o))) q
-          ∙ all-strictly (member (integers (s ∷ ss))) (append_all ls) ∙ spans-within (s ∷ ss) (member (integers (s ∷ ss))) (λ k e. e) ls q;
+      sorted = ap (λ o. rises itself (list_or_none (option_map (λ ls. sorted_once (append_all ls)) o))) q ∙ sorted_once-rises (append_all ls);
+      members = ap (λ o. list_all (member (integers (s ∷ ss))) (list_or_none (option_map (λ ls. sorted_once (append_all ls)) o))) q
+          ∙ all-sorted_once (member (integers (s ∷ ss))) (append_all ls) ∙ spans-within (s ∷ ss) (member (integers (s ∷ ss))) (λ k e. e) ls q;
     }
 
 -- ---- atoms

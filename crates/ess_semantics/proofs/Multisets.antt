@@ -9,7 +9,7 @@ use Rattle.std.specs.declared.cmp.Ordering.{Ordering}
 use Rattle.std.specs.declared.cmp.Ordering.TheVariants.{Less, Equal, Greater}
 use Rattle.ess_semantics.specs.Values.{Value}
 use Rattle.ess_semantics.specs.Order.{order, same, below}
-use Rattle.ess_semantics.specs.Collections.{holds, count, add, add_by, rising, rises_weakly}
+use Rattle.ess_semantics.specs.Collections.{holds, count, add, add_by, sorted, rises_weakly}
 use Rattle.ess_semantics.proofs.Tests.{and-left, and-right, and-both}
 use Rattle.ess_semantics.proofs.Orders.{order_total, order_exact, equal-of}
 
@@ -104,8 +104,8 @@ weakly-of (x ∷ y ∷ ys) h =
     ((l, under-on order_total order_exact x y ys l r.0), r)
 
 -- Two rising lists of values with the same items equally often are one.
-pub one-rising-bag : (xs ys : List Value) → rises_weakly xs ≡ true → rises_weakly ys ≡ true → ((v : Value) → count xs v ≡ count ys v) → xs ≡ ys
-one-rising-bag xs ys p q h = one-bag order_total order_exact xs ys (weakly-of xs p) (weakly-of ys q) h
+pub one-sorted-bag : (xs ys : List Value) → rises_weakly xs ≡ true → rises_weakly ys ≡ true → ((v : Value) → count xs v ≡ count ys v) → xs ≡ ys
+one-sorted-bag xs ys p q h = one-bag order_total order_exact xs ys (weakly-of xs p) (weakly-of ys q) h
 
 -- ---- the rising list of items
 
@@ -125,9 +125,9 @@ count-add v w (x ∷ xs) = go (order v x) (count-add v w xs)
     go Greater ih = swap (same v w) (same x w) (count xs w) (count (add v xs) w) ih
 
 -- A multiset's canonical list has exactly the given members, equally often.
-pub count-rising : (xs : List Value) (w : Value) → count (rising xs) w ≡ count xs w
-count-rising [] w = refl
-count-rising (x ∷ xs) w = count-add x w (rising xs) ∙ ap (λ n. if same x w then suc n else n) (count-rising xs w)
+pub count-sorted : (xs : List Value) (w : Value) → count (sorted xs) w ≡ count xs w
+count-sorted [] w = refl
+count-sorted (x ∷ xs) w = count-add x w (sorted xs) ∙ ap (λ n. if same x w then suc n else n) (count-sorted xs w)
 
 not-below : (v x : Value) (p : Ordering) → order v x ≡ p → is_le p ≡ true → not (below x v) ≡ true
 not-below v x p e h = sym (le-not (order v x) (order x v) (order_total.antisymm v x)) ∙ ap is_le e ∙ h
@@ -155,12 +155,12 @@ add-rises v (x ∷ y ∷ ys) h = go (order v x) refl (add-rises v (y ∷ ys) (an
     go Equal q r = and-both (not (below x v)) (rises_weakly (x ∷ y ∷ ys)) (not-below v x Equal q refl) h
     go Greater q r = behind-first (order v y) refl (not-below x v Less (order_total.antisymm x v ∙ ap ordering_reverse q) refl) r
 
-pub rising-rises : (xs : List Value) → rises_weakly (rising xs) ≡ true
-rising-rises [] = refl
-rising-rises (x ∷ xs) = add-rises x (rising xs) (rising-rises xs)
+pub sorted-rises : (xs : List Value) → rises_weakly (sorted xs) ≡ true
+sorted-rises [] = refl
+sorted-rises (x ∷ xs) = add-rises x (sorted xs) (sorted-rises xs)
 
-pub rising-itself : (xs : List Value) → rises_weakly xs ≡ true → rising xs ≡ xs
-rising-itself xs h = one-rising-bag (rising xs) xs (rising-rises xs) h (count-rising xs)
+pub sorted-itself : (xs : List Value) → rises_weakly xs ≡ true → sorted xs ≡ xs
+sorted-itself xs h = one-sorted-bag (sorted xs) xs (sorted-rises xs) h (count-sorted xs)
 
 -- ---- sorting keeps what holds of all items, and their number
 
@@ -173,9 +173,9 @@ add-length v (x ∷ xs) = go (order v x) (add-length v xs)
     go Equal ih = refl
     go Greater ih = ap suc ih
 
-pub rising-length : (xs : List Value) → length (rising xs) ≡ length xs
-rising-length [] = refl
-rising-length (x ∷ xs) = add-length x (rising xs) ∙ ap suc (rising-length xs)
+pub sorted-length : (xs : List Value) → length (sorted xs) ≡ length xs
+sorted-length [] = refl
+sorted-length (x ∷ xs) = add-length x (sorted xs) ∙ ap suc (sorted-length xs)
 
 add-all : (f : Value → Bool) (v : Value) (xs : List Value) → list_all f (add v xs) ≡ f v && list_all f xs
 add-all f v [] = refl
@@ -192,9 +192,9 @@ add-all f v (x ∷ xs) = go (order v x) (add-all f v xs)
     go Equal ih = refl
     go Greater ih = ap (λ b. f x && b) ih ∙ swap (f x) (f v) (list_all f xs)
 
-pub rising-all : (f : Value → Bool) (xs : List Value) → list_all f (rising xs) ≡ list_all f xs
-rising-all f [] = refl
-rising-all f (x ∷ xs) = add-all f x (rising xs) ∙ ap (λ b. f x && b) (rising-all f xs)
+pub sorted-all : (f : Value → Bool) (xs : List Value) → list_all f (sorted xs) ≡ list_all f xs
+sorted-all f [] = refl
+sorted-all f (x ∷ xs) = add-all f x (sorted xs) ∙ ap (λ b. f x && b) (sorted-all f xs)
 
 -- An item is in the list exactly where it is there at least once.
 pub count-holds : (xs : List Value) (v : Value) (n : ℕ) → count xs v ≡ suc n → holds xs v ≡ true

@@ -5,10 +5,10 @@ use Rattle.std.specs.declared.cmp.Ordering.TheVariants.{Less, Equal, Greater}
 use Rattle.ess_semantics.specs.Lists.{is_empty, append_all}
 use Rattle.ess_semantics.specs.Values.{Value, items_of, itself}
 use Rattle.ess_semantics.specs.Order.{order, same}
-use Rattle.ess_semantics.specs.Collections.{holds, count, place, place_by, strictly, no_twice, has_empty_part, has_overlap}
+use Rattle.ess_semantics.specs.Collections.{holds, count, place, place_by, sorted_once, no_twice, has_empty_part, has_overlap}
 use Rattle.ess_semantics.proofs.Tests.{or-left-no, or-right-no, or-yes}
 use Rattle.ess_semantics.proofs.Orders.{order_exact, same-itself, same-equal}
-use Rattle.ess_semantics.proofs.Sorting.{Distinct, distinct-twice, twice-distinct, holds-strictly}
+use Rattle.ess_semantics.proofs.Sorting.{Distinct, distinct-twice, twice-distinct, holds-sorted_once}
 use Rattle.ess_semantics.proofs.Multisets.{count-holds, holds-count}
 use Rattle.ess_semantics.proofs.Repeats.{count-append}
 
@@ -97,16 +97,16 @@ count-place p (q ∷ qs) v h = go (order p q) refl (count-place p qs v (or-right
         let a = count-append (items_of q) (all_members (place p qs)) v in
         let b = count-append (items_of q) (all_members qs) v in omega arith
 
-count-strictly : (ps : List Value) (v : Value) → Distinct ps → count (all_members (strictly ps)) v ≡ count (all_members ps) v
-count-strictly [] v d = refl
-count-strictly (p ∷ ps) v d =
-    let a = count-place p (strictly ps) v (holds-strictly ps p ∙ d.0) in
-    let b = count-strictly ps v d.1 in
+count-sorted_once : (ps : List Value) (v : Value) → Distinct ps → count (all_members (sorted_once ps)) v ≡ count (all_members ps) v
+count-sorted_once [] v d = refl
+count-sorted_once (p ∷ ps) v d =
+    let a = count-place p (sorted_once ps) v (holds-sorted_once ps p ∙ d.0) in
+    let b = count-sorted_once ps v d.1 in
     let c = count-append (items_of p) (all_members ps) v in omega arith
 
 -- Sorting keeps that sets share no member.
-pub strictly-apart : (ps : List Value) → Distinct ps → Distinct (all_members ps) → Distinct (all_members (strictly ps))
-strictly-apart ps d e = one-count (all_members (strictly ps)) (λ v. let a = count-strictly ps v d in let b = count-one (all_members ps) v e in omega arith)
+pub sorted_once-apart : (ps : List Value) → Distinct ps → Distinct (all_members ps) → Distinct (all_members (sorted_once ps))
+sorted_once-apart ps d e = one-count (all_members (sorted_once ps)) (λ v. let a = count-sorted_once ps v d in let b = count-one (all_members ps) v e in omega arith)
 
 pub no-overlap : (ps : List Value) → not (has_overlap ps) ≡ true → Distinct (all_members ps)
 no-overlap ps h = twice-distinct (all_members ps) (go (no_twice itself (all_members ps)) h)

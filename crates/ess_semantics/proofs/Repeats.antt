@@ -87,9 +87,9 @@ count-replicate (suc n) x w = go (same x w) (count-replicate n x w)
     go true e = ap suc e
     go false e = e
 
-pub rising-distinct : (xs : List Value) → Rising order_total xs → Distinct xs
-rising-distinct [] r = tt
-rising-distinct (x ∷ xs) r = (go (holds xs x) refl, rising-distinct xs r.1)
+pub sorted-distinct : (xs : List Value) → Rising order_total xs → Distinct xs
+sorted-distinct [] r = tt
+sorted-distinct (x ∷ xs) r = (go (holds xs x) refl, sorted-distinct xs r.1)
   where
     go : (b : Bool) → holds xs x ≡ b → holds xs x ≡ false
     go false e = e

@@ -37,12 +37,12 @@ module _ {A : Type 0} {c : A → A → Ordering} (o : IsTotalOrder c) where
         (λ k u v. h k (omega arith) (omega arith)),
   )
 
-  pub rising-from : (f : ℕ → A) (a n : ℕ) → ((k : ℕ) → a ≤ k → k + 1 < a + n → c (f k) (f (k + 1)) ≡ Less) → Rising o (from_to f a n)
-  rising-from f a zero h = tt
-  rising-from f a (suc zero) h = (tt, tt)
-  rising-from f a (suc (suc n)) h = (
+  pub sorted-from : (f : ℕ → A) (a n : ℕ) → ((k : ℕ) → a ≤ k → k + 1 < a + n → c (f k) (f (k + 1)) ≡ Less) → Rising o (from_to f a n)
+  sorted-from f a zero h = tt
+  sorted-from f a (suc zero) h = (tt, tt)
+  sorted-from f a (suc (suc n)) h = (
     below-from f (f a) (suc a) (suc n) (let e : a + 1 ≡ suc a = omega arith in subst (λ j. c (f a) (f j) ≡ Less) e (h a (le_refl a) (omega arith))) (λ k u v. h k (omega arith) (omega arith)),
-    rising-from f (suc a) (suc n) (λ k u v. h k (omega arith) (omega arith)),
+    sorted-from f (suc a) (suc n) (λ k u v. h k (omega arith) (omega arith)),
   )
 
   pub has-at : (f : ℕ → A) (a n k : ℕ) → a ≤ k → k < a + n → Has o (from_to f a n) (f k)

@@ -8,7 +8,7 @@ use Rattle.std.specs.declared.cmp.Ordering.{Ordering}
 use Rattle.std.specs.declared.cmp.Ordering.TheVariants.{Less, Equal, Greater}
 use Rattle.ess_semantics.specs.Values.{Value, itself}
 use Rattle.ess_semantics.specs.Order.{order, same, below}
-use Rattle.ess_semantics.specs.Collections.{holds, place, place_by, strictly, rises, no_twice}
+use Rattle.ess_semantics.specs.Collections.{holds, place, place_by, sorted_once, rises, no_twice}
 use Rattle.ess_semantics.proofs.Tests.{and-left, and-right, and-both, or-yes, or-left-no, or-right-no, not-true, both-ways}
 use Rattle.ess_semantics.proofs.Orders.{order_total, order_exact, same-itself, same-equal}
 
@@ -79,11 +79,11 @@ pub less-below : (a b : Value) → order a b ≡ Less → below a b ≡ true
 less-below a b e = ap is_lt e
 
 -- a test of the next item says it of all that follow
-pub rising-of : (xs : List Value) → rises itself xs ≡ true → Rising order_total xs
-rising-of [] e = tt
-rising-of (x ∷ []) e = (tt, tt)
-rising-of (x ∷ y ∷ ys) e =
-    let r = rising-of (y ∷ ys) (and-right (below x y) (rises itself (y ∷ ys)) e) in
+pub sorted-of : (xs : List Value) → rises itself xs ≡ true → Rising order_total xs
+sorted-of [] e = tt
+sorted-of (x ∷ []) e = (tt, tt)
+sorted-of (x ∷ y ∷ ys) e =
+    let r = sorted-of (y ∷ ys) (and-right (below x y) (rises itself (y ∷ ys)) e) in
     let l = below-less x y (and-left (below x y) (rises itself (y ∷ ys)) e) in
     ((l, below-on order_total x y ys l r.0), r)
 
@@ -101,9 +101,9 @@ has-holds (x ∷ xs) v (inl e) = ap (λ b. b || holds xs v) (ap (λ y. same x y)
 has-holds (x ∷ xs) v (inr h) = ap (λ b. same x v || b) (has-holds xs v h) ∙ or-yes (same x v)
 
 -- Two lists of values that rise strictly and have the same items are one.
-pub one-rising-list : (xs ys : List Value) → rises itself xs ≡ true → rises itself ys ≡ true → ((v : Value) → holds xs v ≡ holds ys v) → xs ≡ ys
-one-rising-list xs ys p q h =
-    one-list order_total xs ys (rising-of xs p) (rising-of ys q)
+pub one-sorted-list : (xs ys : List Value) → rises itself xs ≡ true → rises itself ys ≡ true → ((v : Value) → holds xs v ≡ holds ys v) → xs ≡ ys
+one-sorted-list xs ys p q h =
+    one-list order_total xs ys (sorted-of xs p) (sorted-of ys q)
     (λ v e. holds-has ys v (sym (h v) ∙ has-holds xs v e)) (λ v e. holds-has xs v (h v ∙ has-holds ys v e))
 
 -- ---- the strictly rising list of items
@@ -128,9 +128,9 @@ holds-place v w (x ∷ xs) = go (holds-place v w xs) (order v x) refl
     go ih Greater q = ap (λ b. same x w || b) ih ∙ or-swap (same x w) (same v w) (holds xs w)
 
 -- A set's canonical list has exactly the given members.
-pub holds-strictly : (xs : List Value) (w : Value) → holds (strictly xs) w ≡ holds xs w
-holds-strictly [] w = refl
-holds-strictly (x ∷ xs) w = holds-place x w (strictly xs) ∙ ap (λ b. same x w || b) (holds-strictly xs w)
+pub holds-sorted_once : (xs : List Value) (w : Value) → holds (sorted_once xs) w ≡ holds xs w
+holds-sorted_once [] w = refl
+holds-sorted_once (x ∷ xs) w = holds-place x w (sorted_once xs) ∙ ap (λ b. same x w || b) (holds-sorted_once xs w)
 
 turned : (v x : Value) → order v x ≡ Greater → below x v ≡ true
 turned v x q = ap is_lt (order_total.antisymm x v ∙ ap ordering_reverse q)
@@ -158,17 +158,17 @@ place-rises v (x ∷ y ∷ ys) h = go (order v x) refl (place-rises v (y ∷ ys)
     go Equal q r = h
     go Greater q r = behind-first (order v y) refl (turned v x q) r
 
-pub strictly-rises : (xs : List Value) → rises itself (strictly xs) ≡ true
-strictly-rises [] = refl
-strictly-rises (x ∷ xs) = place-rises x (strictly xs) (strictly-rises xs)
+pub sorted_once-rises : (xs : List Value) → rises itself (sorted_once xs) ≡ true
+sorted_once-rises [] = refl
+sorted_once-rises (x ∷ xs) = place-rises x (sorted_once xs) (sorted_once-rises xs)
 
 -- Lists with the same items have one strictly rising list.
-pub one-set : (xs ys : List Value) → ((v : Value) → holds xs v ≡ holds ys v) → strictly xs ≡ strictly ys
-one-set xs ys h = one-rising-list (strictly xs) (strictly ys) (strictly-rises xs) (strictly-rises ys) (λ v. holds-strictly xs v ∙ h v ∙ sym (holds-strictly ys v))
+pub one-set : (xs ys : List Value) → ((v : Value) → holds xs v ≡ holds ys v) → sorted_once xs ≡ sorted_once ys
+one-set xs ys h = one-sorted-list (sorted_once xs) (sorted_once ys) (sorted_once-rises xs) (sorted_once-rises ys) (λ v. holds-sorted_once xs v ∙ h v ∙ sym (holds-sorted_once ys v))
 
 -- A list that rises strictly is its own strictly rising list.
-pub strictly-itself : (xs : List Value) → rises itself xs ≡ true → strictly xs ≡ xs
-strictly-itself xs h = one-rising-list (strictly xs) xs (strictly-rises xs) h (holds-strictly xs)
+pub sorted_once-itself : (xs : List Value) → rises itself xs ≡ true → sorted_once xs ≡ xs
+sorted_once-itself xs h = one-sorted-list (sorted_once xs) xs (sorted_once-rises xs) h (holds-sorted_once xs)
 
 -- ---- tests of all items
 
@@ -186,11 +186,11 @@ holds-all f (x ∷ xs) h =
     and-both (f x) (list_all f xs) (h x (ap (λ b. b || holds xs x) (same-itself x)))
     (holds-all f xs (λ v e. h v (ap (λ b. same x v || b) e ∙ or-yes (same x v))))
 
-pub all-strictly : (f : Value → Bool) (xs : List Value) → list_all f (strictly xs) ≡ list_all f xs
-all-strictly f xs =
-    both-ways (list_all f (strictly xs)) (list_all f xs)
-    (λ e. holds-all f xs (λ v h. all-holds f (strictly xs) v e (holds-strictly xs v ∙ h)))
-    (λ e. holds-all f (strictly xs) (λ v h. all-holds f xs v e (sym (holds-strictly xs v) ∙ h)))
+pub all-sorted_once : (f : Value → Bool) (xs : List Value) → list_all f (sorted_once xs) ≡ list_all f xs
+all-sorted_once f xs =
+    both-ways (list_all f (sorted_once xs)) (list_all f xs)
+    (λ e. holds-all f xs (λ v h. all-holds f (sorted_once xs) v e (holds-sorted_once xs v ∙ h)))
+    (λ e. holds-all f (sorted_once xs) (λ v h. all-holds f xs v e (sym (holds-sorted_once xs v) ∙ h)))
 
 -- ---- no value twice
 
@@ -209,9 +209,9 @@ place-length v (x ∷ xs) h = go (λ q. place-length v xs q) (order v x) refl
     go ih Greater q = ap suc (ih (or-right-no (same x v) (holds xs v) h))
 
 -- Sorting keeps the number of items that differ.
-pub strictly-length : (xs : List Value) → Distinct xs → length (strictly xs) ≡ length xs
-strictly-length [] d = refl
-strictly-length (x ∷ xs) d = place-length x (strictly xs) (holds-strictly xs x ∙ d.0) ∙ ap suc (strictly-length xs d.1)
+pub sorted_once-length : (xs : List Value) → Distinct xs → length (sorted_once xs) ≡ length xs
+sorted_once-length [] d = refl
+sorted_once-length (x ∷ xs) d = place-length x (sorted_once xs) (holds-sorted_once xs x ∙ d.0) ∙ ap suc (sorted_once-length xs d.1)
 
 same-turned : (x y : Value) → same x y ≡ same y x
 same-turned x y = both-ways (same x y) (same y x) (λ e. go x y (same-equal x y e)) (λ e. go y x (same-equal y x e))

@@ -7,7 +7,7 @@ use Rattle.ess_semantics.specs.Types.{Ty, is_bool}
 use Rattle.ess_semantics.specs.Typing.{Static, statics, type_of, types_of}
 use Rattle.ess_semantics.specs.Resolving.{resolve, resolve_exs, resolved_node}
 use Rattle.ess_semantics.specs.Tables.{Table}
-use Rattle.ess_semantics.specs.Operators.{settle, as_truth}
+use Rattle.ess_semantics.specs.Operators.{false_where_undefined, as_truth}
 use Rattle.ess_semantics.specs.Meaning.{Env, meaning}
 use Rattle.ess_semantics.specs.Assignments.{Assignment}
 use Rattle.ess_semantics.specs.Parameters.{Param}
@@ -20,7 +20,7 @@ use Rattle.ess_semantics.specs.Models.{Models, Represents}
 abbrev pub Truth : Option Value → Type 0
 Truth o = (b : Bool) × (o ≡ Some (truth b))
 
-pub settled : (s : Bool) (o : Option Value) → s ≡ true → Truth (settle s o)
+pub settled : (s : Bool) (o : Option Value) → s ≡ true → Truth (false_where_undefined s o)
 settled true o e = (as_truth o, refl)
 settled false o e = cc
 

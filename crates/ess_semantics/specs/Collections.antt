@@ -40,14 +40,14 @@ add v [] = v ∷ []
 add v (x ∷ xs) = add_by (order v x) v x xs (add v xs)
 
 -- The items in rising order, with repeats.
-abbrev pub rising : List Value → List Value
-rising [] = []
-rising (x ∷ xs) = add x (rising xs)
+abbrev pub sorted : List Value → List Value
+sorted [] = []
+sorted (x ∷ xs) = add x (sorted xs)
 
 -- The items in rising order, without repeats.
-abbrev pub strictly : List Value → List Value
-strictly [] = []
-strictly (x ∷ xs) = place x (strictly xs)
+abbrev pub sorted_once : List Value → List Value
+sorted_once [] = []
+sorted_once (x ∷ xs) = place x (sorted_once xs)
 
 -- Whether the list rises strictly, compared by f.
 abbrev pub rises : (Value → Value) → List Value → Bool
@@ -68,23 +68,23 @@ no_twice f (x ∷ xs) = not (list_any (λ y. same (f x) (f y)) xs) && no_twice f
 
 -- The set of these members.
 abbrev pub set_of : List Value → Value
-set_of xs = node a_set (of_list (strictly xs))
+set_of xs = node a_set (of_list (sorted_once xs))
 
 -- The multiset of these members.
 abbrev pub mset_of : List Value → Value
-mset_of xs = node a_mset (of_list (rising xs))
+mset_of xs = node a_mset (of_list (sorted xs))
 
 -- The relation of these tuples.
 abbrev pub relation_of : List Value → Value
-relation_of xs = node a_relation (of_list (strictly xs))
+relation_of xs = node a_relation (of_list (sorted_once xs))
 
 -- Whether two pairs have one first part and differ.
 abbrev pub has_double_argument : List Value → Bool
-has_double_argument ps = not (no_twice from_of (strictly ps))
+has_double_argument ps = not (no_twice from_of (sorted_once ps))
 
 -- The function of these pairs, where no two of them have one first part and differ.
 abbrev pub function_of : List Value → Option Value
-function_of ps = when (not (has_double_argument ps)) (node a_function (of_list (strictly ps)))
+function_of ps = when (not (has_double_argument ps)) (node a_function (of_list (sorted_once ps)))
 
 -- The value of a function, given by its pairs, at an argument.
 abbrev pub value_at : List Value → Value → Option Value
@@ -102,4 +102,4 @@ has_overlap parts = not (no_twice itself (append_all (map items_of parts)))
 -- The partition with these parts, where none is empty and no two share a member.
 abbrev pub partition_of : List Value → Option Value
 partition_of parts =
-    when (not (has_empty_part parts) && not (has_overlap parts)) (node a_partition (of_list (strictly parts)))
+    when (not (has_empty_part parts) && not (has_overlap parts)) (node a_partition (of_list (sorted_once parts)))

@@ -6,7 +6,7 @@ use Rattle.std.specs.List.{list_any}
 use Rattle.ess_semantics.specs.declared.words.Key.{Key}
 use Rattle.ess_semantics.specs.Lists.{and_then, all_some, append_all, list_or_none}
 use Rattle.ess_semantics.specs.Values.{Text, a_record, Value, number, truth, item, node, of_list, tuple}
-use Rattle.ess_semantics.specs.Collections.{strictly}
+use Rattle.ess_semantics.specs.Collections.{sorted_once}
 use Rattle.ess_semantics.specs.Numbers.{natural}
 
 -- A range with its bounds, where it has them.
@@ -108,7 +108,7 @@ span_members s = and_then s.low (λ a. and_then s.high (λ b. Some (interval a b
 -- The numbers that some range holds, rising. Without a range, or without a bound, they can't be listed.
 abbrev pub int_members : List Span → Option (List Value)
 int_members [] = None
-int_members (s ∷ ss) = option_map (λ ls. strictly (append_all ls)) (all_some (map span_members (s ∷ ss)))
+int_members (s ∷ ss) = option_map (λ ls. sorted_once (append_all ls)) (all_some (map span_members (s ∷ ss)))
 
 -- n values of a named type, from the k-th on.
 abbrev pub items_from : Text → ℕ → ℕ → List Value

@@ -12,7 +12,7 @@ use Rattle.ess_semantics.specs.Types.{Ty, Tys, any_ty, named_ty, compound, compo
 use Rattle.ess_semantics.specs.Typing.{type_of, types_of, source_ty}
 use Rattle.ess_semantics.specs.Lettings.{field_flags}
 use Rattle.ess_semantics.specs.Kinds.{is_atom}
-use Rattle.ess_semantics.specs.Scopes.{Scope, with_bound, is_fixed, loosens_names}
+use Rattle.ess_semantics.specs.Scopes.{Scope, with_bound, is_fixed, mentions_finds}
 
 -- ---- the order of named types
 
@@ -84,7 +84,7 @@ abbrev mutual
   pub are_ordered : Gens → Scope → Bool
   are_ordered no_gens s = true
   are_ordered (over p d gs) s = are_ordered gs (with_bound false p (type_of_dom d) s)
-  are_ordered (from p e gs) s = is_ordered_source e s && are_ordered gs (with_bound (loosens_names e s) p (source_ty e s.tys) s)
+  are_ordered (from p e gs) s = is_ordered_source e s && are_ordered gs (with_bound (mentions_finds e s) p (source_ty e s.tys) s)
   are_ordered (cond e gs) s = is_fixed e s && are_ordered gs s
 
   -- A source that has an order: a matrix, or an ordered comprehension.
@@ -129,7 +129,7 @@ abbrev mutual
   pub gens_fit : Bool → Gens → Scope → (Scope → Bool) → Bool
   gens_fit counts no_gens s k = k s
   gens_fit counts (over p d gs) s k = dom_orders_fit d s && gens_fit counts gs (with_bound false p (type_of_dom d) s) k
-  gens_fit counts (from p e gs) s k = orders_fit counts e s && gens_fit counts gs (with_bound (loosens_names e s) p (source_ty e s.tys) s) k
+  gens_fit counts (from p e gs) s k = orders_fit counts e s && gens_fit counts gs (with_bound (mentions_finds e s) p (source_ty e s.tys) s) k
   gens_fit counts (cond e gs) s k = orders_fit true e s && gens_fit counts gs s k
 
   -- The same of a domain.

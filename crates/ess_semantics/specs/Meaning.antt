@@ -6,7 +6,7 @@ use Rattle.ess_semantics.specs.Values.{Text, Value, number, truth, of_list, item
 use Rattle.ess_semantics.specs.Order.{same_text}
 use Rattle.ess_semantics.specs.Names.{Names, look}
 use Rattle.ess_semantics.specs.Trees.{Ends, one_value, both_ends, low_end, high_end, Mark, flag, valued, Repr, Pat, Pats, name_pat, tuple_pat, no_pats, more_pats, Ex, Exs, number_ex, truth_ex, name_ex, node_ex, matrix_ex, comp_ex, cell_ex, seen_ex, no_exs, more_exs, Gens, no_gens, over, from, cond, Dom, Doms, bool_dom, int_dom, name_dom, tuple_dom, record_dom, matrix_dom, set_dom, mset_dom, function_dom, relation_dom, partition_dom, no_doms, more_doms}
-use Rattle.ess_semantics.specs.Operators.{number_in, value_of_node, settle, list_value}
+use Rattle.ess_semantics.specs.Operators.{number_in, value_of_node, false_where_undefined, list_value}
 use Rattle.ess_semantics.specs.Domains.{Span, Attribute, numbered, flagged, Domain, Domains, booleans, integers, named, tuples, records, matrices, sets, msets, functions, relations, partitions, no_domains, more_domains, members, between}
 use Rattle.ess_semantics.specs.Tables.{Table, Tables, cell_at, truth_of, code}
 use Rattle.ess_semantics.specs.Representations.{value_of_tables}
@@ -142,12 +142,12 @@ abbrev mutual
   meaning (number_ex n) env = Some (number n)
   meaning (truth_ex b) env = Some (truth b)
   meaning (name_ex a) env = look env.vals a
-  meaning (node_ex b op es) env = settle b (value_of_node op (meanings es env))
+  meaning (node_ex b op es) env = false_where_undefined b (value_of_node op (meanings es env))
   meaning (matrix_ex es d) env = and_then (all_some (meanings es env)) (matrix_value (members_in (domain_of d env)))
   meaning (comp_ex e gs) env = option_map list_value (items_under gs env (λ here. option_map (λ v. v ∷ []) (meaning e here)))
-  meaning (cell_ex b n es) env = settle b (cell_in b (look env.cells n) (indices (meanings es env)))
+  meaning (cell_ex b n es) env = false_where_undefined b (cell_in b (look env.cells n) (indices (meanings es env)))
   meaning (seen_ex r d ns es) env =
-      settle (is_bool_dom d) (seen_in r (domain_of d env) (tables_in env.cells ns) (indices (meanings es env)))
+      false_where_undefined (is_bool_dom d) (seen_in r (domain_of d env) (tables_in env.cells ns) (indices (meanings es env)))
 
   -- The values of operands, each there or not.
   pub meanings : Exs → Env → List (Option Value)

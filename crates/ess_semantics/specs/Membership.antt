@@ -5,7 +5,7 @@ use Rattle.std.specs.Ordering.{is_eq}
 use Rattle.ess_semantics.specs.Lists.{is_empty, is_some_and, is_none_or, append_all}
 use Rattle.ess_semantics.specs.Values.{a_set, a_mset, a_function, a_relation, a_partition, a_record, Value, number, truth, item, node, Values, nil, cons, to_list, of_list, tuple, pair, matrix, from_of, to_of, items_of, itself}
 use Rattle.ess_semantics.specs.Order.{orders, same_text, same_texts}
-use Rattle.ess_semantics.specs.Collections.{strictly, rises, rises_weakly, has_overlap}
+use Rattle.ess_semantics.specs.Collections.{sorted_once, rises, rises_weakly, has_overlap}
 use Rattle.ess_semantics.specs.Domains.{Span, Attribute, Domain, Domains, booleans, integers, named, tuples, records, matrices, sets, msets, functions, relations, partitions, no_domains, more_domains, members}
 use Rattle.ess_semantics.specs.Attributes.{each_number_holds, set_attributes_hold, mset_attributes_hold, function_attributes_hold, relation_attributes_hold, partition_attributes_hold}
 
@@ -47,7 +47,7 @@ is_part f p = is_set p && rises itself (items_of p) && not (is_empty (items_of p
 
 -- Each of the domain's members stands in some part, and nothing else.
 abbrev pub covers : Option (List Value) → List Value → Bool
-covers o ps = is_some_and o (λ vs. same_list (strictly vs) (strictly (append_all (map items_of ps))))
+covers o ps = is_some_and o (λ vs. same_list (sorted_once vs) (sorted_once (append_all (map items_of ps))))
 
 abbrev mutual
   -- Whether the value is a member of the domain.

@@ -5,7 +5,7 @@ use Rattle.ess_semantics.specs.declared.words.Key.{Key}
 use Rattle.ess_semantics.specs.Lists.{and_then, each_of, is_some_and}
 use Rattle.ess_semantics.specs.Values.{a_mset, Value, node, of_list, items_of}
 use Rattle.ess_semantics.specs.Order.{same_int}
-use Rattle.ess_semantics.specs.Collections.{count, strictly, mset_of}
+use Rattle.ess_semantics.specs.Collections.{count, sorted_once, mset_of}
 use Rattle.ess_semantics.specs.Numbers.{natural, one_to, not_below_0}
 use Rattle.ess_semantics.specs.Domains.{Attribute, Domain, member_list}
 use Rattle.ess_semantics.specs.Attributes.{each_number_holds, occurs_holds, set_attributes_hold}
@@ -72,7 +72,7 @@ mset_flags_layer ks d =
       in_use = where_counted;
       is_sorted = true;
       is_distinct = true;
-      contents = λ v. some_each (strictly (items_of v)) ∷ [];
+      contents = λ v. some_each (sorted_once (items_of v)) ∷ [];
       own_tables = λ v ss. row_of (one_to n) (map (slot_count v) ss) ∷ [];
       is_canonical = λ c vss. counts_hold ks (own_row (one_to n ∷ []) c);
     }

@@ -8,7 +8,7 @@ use Rattle.ess_semantics.specs.declared.words.Fun.{Fun}
 use Rattle.ess_semantics.specs.Lists.{and_then, or_default, all_some, append_all, zip}
 use Rattle.ess_semantics.specs.Values.{Text, a_function, a_relation, a_record, Value, number, truth, node, Values, cons, to_list, of_list, tuple, matrix, from_of, to_of, items_of}
 use Rattle.ess_semantics.specs.Order.{same, below, same_text}
-use Rattle.ess_semantics.specs.Collections.{holds, value_at, count, strictly, set_of, mset_of, relation_of, function_of, partition_of}
+use Rattle.ess_semantics.specs.Collections.{holds, value_at, count, sorted_once, set_of, mset_of, relation_of, function_of, partition_of}
 use Rattle.ess_semantics.specs.Names.{Names, keys, by_name}
 use Rattle.ess_semantics.specs.Trees.{Step, by_value, to_component, to_field, Op, unary, binary, word, index, application, tuple_literal, set_literal, mset_literal, function_literal, relation_literal, partition_literal, matrix_literal, record_literal}
 use Rattle.ess_semantics.specs.Numbers.{div_down, mod_down, power_of}
@@ -143,7 +143,7 @@ value_of_binary Op2.Intersect a b = Some (of_same_kind a (filter (λ x. holds (i
 value_of_binary Op2.Plus a b = whole (number_in a +ℤ number_in b)
 value_of_binary Op2.Minus (node k xs) b = Some (node k (of_list (filter (λ x. not (holds (items_of b) x)) (to_list xs))))
 value_of_binary Op2.Minus a b = whole (number_in a -ℤ number_in b)
-value_of_binary Op2.Union a b = Some (of_same_kind a (strictly (items_of a ++ items_of b)))
+value_of_binary Op2.Union a b = Some (of_same_kind a (sorted_once (items_of a ++ items_of b)))
 value_of_binary Op2.Eq a b = yes_no (same a b)
 value_of_binary Op2.Ne a b = yes_no (not (same a b))
 value_of_binary Op2.Lt a b = yes_no (below a b)
@@ -293,6 +293,6 @@ abbrev pub value_of_node : Op → List (Option Value) → Option Value
 value_of_node op os = elim (connective op) [ Some f ↦ yes_no (f (map as_truth os)) | None ↦ and_then (all_some os) (value_of_op op) ]
 
 -- A Boolean always has a truth value: where its terms have nothing it is false.
-abbrev pub settle : Bool → Option Value → Option Value
-settle true o = Some (truth (as_truth o))
-settle false o = o
+abbrev pub false_where_undefined : Bool → Option Value → Option Value
+false_where_undefined true o = Some (truth (as_truth o))
+false_where_undefined false o = o

@@ -14,12 +14,12 @@ pub record Scope : Type 0 where
   pub lets : Lettings
   pub enums : List Text
   pub unnamed : List Text
-  pub loose : List Text
+  pub depends_on_finds : List Text
   pub objective : Bool
 
 -- Nothing is in scope.
 abbrev pub empty_scope : Scope
-empty_scope = record { tys = []; lets = no_lettings; enums = []; unnamed = []; loose = []; objective = false }
+empty_scope = record { tys = []; lets = no_lettings; enums = []; unnamed = []; depends_on_finds = []; objective = false }
 
 -- All names that are declared or bound.
 abbrev pub names_in_scope : Scope → List Text
@@ -29,16 +29,16 @@ names_in_scope s = keys s.tys ++ s.enums ++ s.unnamed ++ keys s.lets.doms
 abbrev pub names_but : List Text → List Text → List Text
 names_but bs ns = filter (λ n. not (is_among bs n)) ns
 
--- The scope with the names that a pattern binds at a type; `loosens` says whether they depend on a find. The newest binding
+-- The scope with the names that a pattern binds at a type; `draws_on_finds` says whether they depend on a find. The newest binding
 -- of a name counts: with lettings put in, a bound name may hide another one.
 abbrev pub with_bound : Bool → Pat → Ty → Scope → Scope
-with_bound loosens p t s =
-    record s { tys = bind_types p t s.tys; loose = if loosens then pattern_names p ++ s.loose else names_but (pattern_names p) s.loose }
+with_bound draws_on_finds p t s =
+    record s { tys = bind_types p t s.tys; depends_on_finds = if draws_on_finds then pattern_names p ++ s.depends_on_finds else names_but (pattern_names p) s.depends_on_finds }
 
 -- What is asked of each part: of expressions, of domains, of the domains of generators, and of patterns at a type. Names
--- that are bound over an expression with `loosens` count as depending on a find.
+-- that are bound over an expression with `draws_on_finds` count as depending on a find.
 pub record Asked : Type 0 where
-  pub loosens : Ex → Scope → Bool
+  pub draws_on_finds : Ex → Scope → Bool
   pub of_ex : Ex → Scope → Bool
   pub of_dom : Dom → Scope → Bool
   pub of_generator : Dom → Scope → Bool
@@ -50,7 +50,7 @@ anything x y = true
 
 -- Nothing is asked of any part.
 abbrev pub nothing_asked : Asked
-nothing_asked = record { loosens = λ e s. false; of_ex = anything; of_dom = anything; of_generator = anything; of_pattern = λ p t s. true }
+nothing_asked = record { draws_on_finds = λ e s. false; of_ex = anything; of_dom = anything; of_generator = anything; of_pattern = λ p t s. true }
 
 module _ (q : Asked) where
   abbrev mutual
@@ -78,7 +78,7 @@ module _ (q : Asked) where
     every_under (over p d gs) s k =
         every_dom d s && q.of_generator d s && q.of_pattern p (type_of_dom d) s && every_under gs (with_bound false p (type_of_dom d) s) k
     every_under (from p e gs) s k =
-        every e s && q.of_pattern p (source_ty e s.tys) s && every_under gs (with_bound (q.loosens e s) p (source_ty e s.tys) s) k
+        every e s && q.of_pattern p (source_ty e s.tys) s && every_under gs (with_bound (q.draws_on_finds e s) p (source_ty e s.tys) s) k
     every_under (cond e gs) s k = every e s && every_under gs s k
 
     -- The same of a domain.
@@ -103,18 +103,18 @@ module _ (q : Asked) where
 -- ---- fixed expressions
 
 -- A name that depends on no find.
-abbrev pub is_not_loose : Ex → Scope → Bool
-is_not_loose (name_ex a) s = not (is_among s.loose a)
-is_not_loose e s = true
+abbrev pub depends_on_no_find : Ex → Scope → Bool
+depends_on_no_find (name_ex a) s = not (is_among s.depends_on_finds a)
+depends_on_no_find e s = true
 
 -- An expression is fixed where it mentions no find, and no name that is bound over an expression that isn't fixed.
 abbrev pub is_fixed : Ex → Scope → Bool
-is_fixed e s = every (record nothing_asked { of_ex = is_not_loose }) e s
+is_fixed e s = every (record nothing_asked { of_ex = depends_on_no_find }) e s
 
 -- Names bound over the expression depend on a find.
-abbrev pub loosens_names : Ex → Scope → Bool
-loosens_names e s = not (is_fixed e s)
+abbrev pub mentions_finds : Ex → Scope → Bool
+mentions_finds e s = not (is_fixed e s)
 
 -- Nothing is asked, but names that depend on a find are known.
 abbrev pub asking : Asked
-asking = record nothing_asked { loosens = loosens_names }
+asking = record nothing_asked { draws_on_finds = mentions_finds }

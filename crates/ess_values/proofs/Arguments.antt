@@ -6,10 +6,10 @@ use Rattle.std.specs.declared.cmp.Ordering.TheVariants.{Less, Equal, Greater}
 use Rattle.ess_semantics.specs.Lists.{when}
 use Rattle.ess_semantics.specs.Values.{Text, Value, node, a_function, of_list, pair, from_of, itself}
 use Rattle.ess_semantics.specs.Order.{order, below}
-use Rattle.ess_semantics.specs.Collections.{strictly, rises, rises_weakly, no_twice, function_of, has_double_argument}
+use Rattle.ess_semantics.specs.Collections.{sorted_once, rises, rises_weakly, no_twice, function_of, has_double_argument}
 use Rattle.ess_semantics.proofs.Tests.{and-left, and-right, and-both}
 use Rattle.ess_semantics.proofs.Orders.{order_total}
-use Rattle.ess_semantics.proofs.Sorting.{strictly-rises}
+use Rattle.ess_semantics.proofs.Sorting.{sorted_once-rises}
 use Rattle.ess_core.specs.declared.values.Pair.{Pair}
 use Rattle.ess_core.specs.declared.values.Val.TheVariants.{Function, rolls-Function}
 use Rattle.ess_core.specs.declared.values.Val.TheViews.{out-Pair, roll-out-Pair}
@@ -44,15 +44,15 @@ arguments-rise (p ∷ q ∷ rs) h =
     and-both _ _ (next-argument p q (and-left (below (pure_pair p) (pure_pair q)) (rises itself (map pure_pair (q ∷ rs))) h))
     (arguments-rise (q ∷ rs) (and-right (below (pure_pair p) (pure_pair q)) (rises itself (map pure_pair (q ∷ rs))) h))
 
-told : (ps : List Value) (rs : List Pair) → map pure_pair rs ≡ strictly ps → no_twice from_of (strictly ps) ≡ neighbours_differ (map from_of (map pure_pair rs))
+told : (ps : List Value) (rs : List Pair) → map pure_pair rs ≡ sorted_once ps → no_twice from_of (sorted_once ps) ≡ neighbours_differ (map from_of (map pure_pair rs))
 told ps rs e =
     ap (no_twice from_of) (sym e) ∙ twice-mapped from_of (map pure_pair rs)
-    ∙ twice-neighbours (map from_of (map pure_pair rs)) (arguments-rise rs (ap (rises itself) e ∙ strictly-rises ps))
+    ∙ twice-neighbours (map from_of (map pure_pair rs)) (arguments-rise rs (ap (rises itself) e ∙ sorted_once-rises ps))
 
-pub function_there : (ps : List Value) (rs : List Pair) → map pure_pair rs ≡ strictly ps → neighbours_differ (map from_of (map pure_pair rs)) ≡ true → function_of ps ≡ Some (pure_val (Function rs))
+pub function_there : (ps : List Value) (rs : List Pair) → map pure_pair rs ≡ sorted_once ps → neighbours_differ (map from_of (map pure_pair rs)) ≡ true → function_of ps ≡ Some (pure_val (Function rs))
 function_there ps rs e d =
-    ap (λ b. when (not (not b)) (node a_function (of_list (strictly ps)))) (told ps rs e ∙ d)
+    ap (λ b. when (not (not b)) (node a_function (of_list (sorted_once ps)))) (told ps rs e ∙ d)
     ∙ ap (λ qs. Some (node a_function (of_list qs))) (sym e) ∙ ap Some (sym (pure_function rs))
 
-pub double_there : (ps : List Value) (rs : List Pair) → map pure_pair rs ≡ strictly ps → neighbours_differ (map from_of (map pure_pair rs)) ≡ false → has_double_argument ps ≡ true
+pub double_there : (ps : List Value) (rs : List Pair) → map pure_pair rs ≡ sorted_once ps → neighbours_differ (map from_of (map pure_pair rs)) ≡ false → has_double_argument ps ≡ true
 double_there ps rs e d = ap not (told ps rs e ∙ d)

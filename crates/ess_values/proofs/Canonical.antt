@@ -11,11 +11,11 @@ use Rattle.std.specs.declared.cmp.Ordering.{Ordering}
 use Rattle.std.specs.declared.cmp.Ordering.TheVariants.{Less, Equal, Greater}
 use Rattle.ess_semantics.specs.Values.{Value, itself}
 use Rattle.ess_semantics.specs.Order.{order, same, below}
-use Rattle.ess_semantics.specs.Collections.{holds, count, rising, strictly, rises, rises_weakly}
+use Rattle.ess_semantics.specs.Collections.{holds, count, sorted, sorted_once, rises, rises_weakly}
 use Rattle.ess_semantics.proofs.Tests.{and-left, and-right, and-both}
 use Rattle.ess_semantics.proofs.Orders.{order_total, same-equal, same-itself}
-use Rattle.ess_semantics.proofs.Sorting.{one-rising-list, one-set, strictly-rises, holds-strictly}
-use Rattle.ess_semantics.proofs.Multisets.{one-rising-bag, count-rising, rising-rises, same-members}
+use Rattle.ess_semantics.proofs.Sorting.{one-sorted-list, one-set, sorted_once-rises, holds-sorted_once}
+use Rattle.ess_semantics.proofs.Multisets.{one-sorted-bag, count-sorted, sorted-rises, same-members}
 
 -- ---- small laws
 
@@ -64,20 +64,20 @@ module _ {A : Type 0} (f : A → Value) where
 
   -- ---- a sorted list rises
 
-  sorted-rises : (xs : List A) → IsSorted by xs → rises_weakly (map f xs) ≡ true
-  sorted-rises [] h = refl
-  sorted-rises (x ∷ []) h = refl
-  sorted-rises (x ∷ y ∷ ys) h =
+  sorted_by-rises : (xs : List A) → IsSorted by xs → rises_weakly (map f xs) ≡ true
+  sorted_by-rises [] h = refl
+  sorted_by-rises (x ∷ []) h = refl
+  sorted_by-rises (x ∷ y ∷ ys) h =
       and-both _ _ (ap not (h 0 x (omega arith) (omega arith)))
-      (sorted-rises (y ∷ ys) (λ k d a b. let at : suc (k + 1) ≡ suc k + 1 = omega arith in
+      (sorted_by-rises (y ∷ ys) (λ k d a b. let at : suc (k + 1) ≡ suc k + 1 = omega arith in
       ap (λ j. is_lt (by (slice_index_or (x ∷ y ∷ ys) j d) (slice_index_or (y ∷ ys) k d))) at ∙ h (suc k) d (omega arith) (omega arith)))
 
-  pub sorted-rising : (xs ys : List A) → IsPermutation xs ys → IsSorted by ys → map f ys ≡ rising (map f xs)
-  sorted-rising xs ys p s =
-      one-rising-bag (map f ys) (rising (map f xs)) (sorted-rises ys s) (rising-rises (map f xs))
-      (λ v. permuted xs ys p v ∙ sym (count-rising (map f xs) v))
+  pub sorted_by-sorted : (xs ys : List A) → IsPermutation xs ys → IsSorted by ys → map f ys ≡ sorted (map f xs)
+  sorted_by-sorted xs ys p s =
+      one-sorted-bag (map f ys) (sorted (map f xs)) (sorted_by-rises ys s) (sorted-rises (map f xs))
+      (λ v. permuted xs ys p v ∙ sym (count-sorted (map f xs) v))
 
-  -- ---- without its repeats it rises strictly
+  -- ---- without its repeats it rises sorted_once
 
   -- behind an item that is below the first one
   behind : (y x : A) (xs : List A) → below (f y) (f x) ≡ true → rises itself (map f (dedup_from one x xs)) ≡ true → rises itself (f y ∷ map f (dedup_from one x xs)) ≡ true
@@ -112,13 +112,13 @@ module _ {A : Type 0} (f : A → Value) where
           ∙ ap (λ w. same (f y) v || (same w v || holds (map f xs) v)) (sym (same-equal (f x) (f y) e))
       go false e p q = ap (λ b. same (f y) v || b) q
 
-  once-strictly : (xs : List A) → rises_weakly (map f xs) ≡ true → map f (dedup one xs) ≡ strictly (map f xs)
-  once-strictly [] h = refl
-  once-strictly (x ∷ xs) h =
-      one-rising-list (map f (dedup_from one x xs)) (strictly (f x ∷ map f xs)) (once-rises x xs h) (strictly-rises (f x ∷ map f xs))
-      (λ v. once-holds x xs v ∙ sym (holds-strictly (f x ∷ map f xs) v))
+  once-sorted_once : (xs : List A) → rises_weakly (map f xs) ≡ true → map f (dedup one xs) ≡ sorted_once (map f xs)
+  once-sorted_once [] h = refl
+  once-sorted_once (x ∷ xs) h =
+      one-sorted-list (map f (dedup_from one x xs)) (sorted_once (f x ∷ map f xs)) (once-rises x xs h) (sorted_once-rises (f x ∷ map f xs))
+      (λ v. once-holds x xs v ∙ sym (holds-sorted_once (f x ∷ map f xs) v))
 
-  pub sorted-strictly : (xs ys zs : List A) → IsPermutation xs ys → IsSorted by ys → zs ≡ dedup one ys → map f zs ≡ strictly (map f xs)
-  sorted-strictly xs ys zs p s d =
-      ap (map f) d ∙ once-strictly ys (sorted-rises ys s)
+  pub sorted_by-sorted_once : (xs ys zs : List A) → IsPermutation xs ys → IsSorted by ys → zs ≡ dedup one ys → map f zs ≡ sorted_once (map f xs)
+  sorted_by-sorted_once xs ys zs p s d =
+      ap (map f) d ∙ once-sorted_once ys (sorted_by-rises ys s)
       ∙ one-set (map f ys) (map f xs) (same-members (map f ys) (map f xs) (permuted xs ys p))

@@ -6,12 +6,12 @@ use Rattle.std.specs.declared.cmp.Ordering.TheVariants.{Less, Equal, Greater}
 use Rattle.std.proofs.lemmas.Int.{ints}
 use Rattle.ess_semantics.specs.Values.{Value, number, itself}
 use Rattle.ess_semantics.specs.Order.{order, same, below}
-use Rattle.ess_semantics.specs.Collections.{holds, strictly, rises}
+use Rattle.ess_semantics.specs.Collections.{holds, sorted_once, rises}
 use Rattle.ess_semantics.specs.Numbers.{natural}
 use Rattle.ess_semantics.specs.Domains.{numbers_up, interval}
 use Rattle.ess_semantics.proofs.Tests.{and-both, or-yes}
 use Rattle.ess_semantics.proofs.Orders.{order_total}
-use Rattle.ess_semantics.proofs.Sorting.{Rising, Has, below-has, not-itself, rising-of, has-holds, holds-has, holds-strictly, strictly-rises}
+use Rattle.ess_semantics.proofs.Sorting.{Rising, Has, below-has, not-itself, sorted-of, has-holds, holds-has, holds-sorted_once, sorted_once-rises}
 
 -- ---- a list whose items another one has
 
@@ -36,10 +36,10 @@ shorter (x ∷ xs) (y ∷ ys) p q f = go (f x (inl refl)) (shorter xs ys p.1 q.1
     go (inl e) a b = let h = a (λ v h. after e v h (f v (inr h))) in omega (arith, h)
     go (inr k) a b = let h = b (λ v h. above k v h (f v h)) in omega (arith, h)
 
-no_longer : (xs ys : List Value) → rises itself xs ≡ true → ((v : Value) → holds xs v ≡ true → holds ys v ≡ true) → length xs ≤ length (strictly ys)
+no_longer : (xs ys : List Value) → rises itself xs ≡ true → ((v : Value) → holds xs v ≡ true → holds ys v ≡ true) → length xs ≤ length (sorted_once ys)
 no_longer xs ys r f =
-    shorter xs (strictly ys) (rising-of xs r) (rising-of (strictly ys) (strictly-rises ys))
-    (λ v h. holds-has (strictly ys) v (holds-strictly ys v ∙ f v (has-holds xs v h)))
+    shorter xs (sorted_once ys) (sorted-of xs r) (sorted-of (sorted_once ys) (sorted_once-rises ys))
+    (λ v h. holds-has (sorted_once ys) v (holds-sorted_once ys v ∙ f v (has-holds xs v h)))
 
 -- ---- a part of a list
 
@@ -63,8 +63,8 @@ numbers_rise a zero = refl
 numbers_rise a (suc zero) = refl
 numbers_rise a (suc (suc k)) = and-both _ _ (next_number a) (numbers_rise (a +ℤ pos 1) (suc k))
 
-pub rest_longer : (xs ys : List Value) → length (strictly ys) ≤ length (strictly (xs ++ ys))
-rest_longer xs ys = no_longer (strictly ys) (xs ++ ys) (strictly-rises ys) (λ v h. holds_right xs ys v (sym (holds-strictly ys v) ∙ h))
+pub rest_longer : (xs ys : List Value) → length (sorted_once ys) ≤ length (sorted_once (xs ++ ys))
+rest_longer xs ys = no_longer (sorted_once ys) (xs ++ ys) (sorted_once-rises ys) (λ v h. holds_right xs ys v (sym (holds-sorted_once ys v) ∙ h))
 
-pub interval_longer : (a b : ℤ) (ys : List Value) → length (interval a b) ≤ length (strictly (interval a b ++ ys))
+pub interval_longer : (a b : ℤ) (ys : List Value) → length (interval a b) ≤ length (sorted_once (interval a b ++ ys))
 interval_longer a b ys = no_longer (interval a b) (interval a b ++ ys) (numbers_rise a (natural ((b -ℤ a) +ℤ pos 1))) (λ v h. holds_left (interval a b) ys v h)

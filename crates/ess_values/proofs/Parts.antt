@@ -4,7 +4,7 @@ use Rattle.std.specs.List.{list_all, list_any}
 use Rattle.std.specs.Prelude.{IsTrue, ◌↔◌}
 use Rattle.ess_semantics.specs.Lists.{when, is_empty, append_all}
 use Rattle.ess_semantics.specs.Values.{Text, Value, number, truth, item, node, a_tuple, a_matrix, a_set, a_mset, a_function, a_relation, a_partition, a_record, of_list, items_of, itself}
-use Rattle.ess_semantics.specs.Collections.{rising, strictly, no_twice, partition_of, has_empty_part, has_overlap}
+use Rattle.ess_semantics.specs.Collections.{sorted, sorted_once, no_twice, partition_of, has_empty_part, has_overlap}
 use Rattle.ess_semantics.proofs.Tests.{and-left, and-right}
 use Rattle.ess_semantics.proofs.Orders.{to_list-of_list}
 use Rattle.ess_core.specs.declared.values.Val.{Val}
@@ -66,13 +66,13 @@ any-empty (v ∷ vs) h =
 pub empty_there : (vs : List Value) (b : Bool) → list_all is_set vs ≡ true → list_any (λ p. is_empty (set_members p)) vs ≡ b → has_empty_part vs ≡ b
 empty_there vs b h e = sym (any-empty vs h) ∙ e
 
-pub overlap_there : (vs : List Value) (ms rs : List Val) (b : Bool) → list_all is_set vs ≡ true → map pure_val ms ≡ append_all (map set_members vs) → map pure_val rs ≡ rising (map pure_val ms)
+pub overlap_there : (vs : List Value) (ms rs : List Val) (b : Bool) → list_all is_set vs ≡ true → map pure_val ms ≡ append_all (map set_members vs) → map pure_val rs ≡ sorted (map pure_val ms)
     → neighbours_differ (map pure_val rs) ≡ b → has_overlap vs ≡ not b
 overlap_there vs ms rs b h m r d =
     ap not (ap (λ l. no_twice itself (append_all l)) (sym (all-items vs h)) ∙ ap (no_twice itself) (sym m) ∙ twice-sorted (map pure_val ms) ∙ ap neighbours_differ (sym r) ∙ d)
 
-pub partition_there : (vs : List Value) (qs : List Val) → has_empty_part vs ≡ false → has_overlap vs ≡ false → map pure_val qs ≡ strictly vs → partition_of vs ≡ Some (pure_val (Partition qs))
+pub partition_there : (vs : List Value) (qs : List Val) → has_empty_part vs ≡ false → has_overlap vs ≡ false → map pure_val qs ≡ sorted_once vs → partition_of vs ≡ Some (pure_val (Partition qs))
 partition_there vs qs e o q =
-    ap (λ b. when (not b && not (has_overlap vs)) (node a_partition (of_list (strictly vs)))) e
-    ∙ ap (λ b. when (not b) (node a_partition (of_list (strictly vs)))) o
+    ap (λ b. when (not b && not (has_overlap vs)) (node a_partition (of_list (sorted_once vs)))) e
+    ∙ ap (λ b. when (not b) (node a_partition (of_list (sorted_once vs)))) o
     ∙ ap (λ l. Some (node a_partition (of_list l))) (sym q) ∙ ap Some (sym (pure_partition qs))

@@ -7,7 +7,7 @@ use Rattle.std.proofs.lemmas.List.{at_drop_more, at_drop_all, length-map}
 use Rattle.std.proofs.lemmas.Bool.{false≢true}
 use Rattle.ess_semantics.specs.Lists.{and_then, when, all_some, append_all}
 use Rattle.ess_semantics.specs.Values.{Value}
-use Rattle.ess_semantics.specs.Collections.{strictly}
+use Rattle.ess_semantics.specs.Collections.{sorted_once}
 use Rattle.ess_semantics.specs.Types.{Ty, int_ty}
 use Rattle.ess_semantics.specs.Trees as pure
 use Rattle.ess_semantics.specs.Trees.{Ends, one_value, both_ends, low_end, high_end, unary, binary, word, index, application, tuple_literal, set_literal, mset_literal, function_literal, relation_literal, partition_literal, matrix_literal, record_literal, number_ex, truth_ex, name_ex, node_ex, matrix_ex, comp_ex, cell_ex, seen_ex, no_exs, more_exs, Exs, ex1, is_truth_op1, int_dom}
@@ -223,11 +223,11 @@ ranges_read (r ∷ rs) env xs e = range_reads env r (map pure_range rs) xs e (λ
 abbrev pub int_index : List Value → ℕ → Option (Ty × List Value)
 int_index vs n = when (nat_eq (length vs) n) (int_ty, vs)
 
-members_read : (ss : List Span) (ls : List (List Value)) → 0 < length ss → all_some (map span_members ss) ≡ Some ls → int_members ss ≡ Some (strictly (append_all ls))
+members_read : (ss : List Span) (ls : List (List Value)) → 0 < length ss → all_some (map span_members ss) ≡ Some ls → int_members ss ≡ Some (sorted_once (append_all ls))
 members_read [] ls h e = absurd (omega arith)
-members_read (s ∷ ss) ls h e = ap (option_map (λ l. strictly (append_all l))) e
+members_read (s ∷ ss) ls h e = ap (option_map (λ l. sorted_once (append_all l))) e
 
-index_read : (r : Range) (rs : List Range) (n : ℕ) (env : Env) (xs : List Value) → all_numbers (map pure_range (r ∷ rs)) ≡ Some xs → index_of (pure_int_dom (r ∷ rs)) n env ≡ int_index (strictly xs) n
+index_read : (r : Range) (rs : List Range) (n : ℕ) (env : Env) (xs : List Value) → all_numbers (map pure_range (r ∷ rs)) ≡ Some xs → index_of (pure_int_dom (r ∷ rs)) n env ≡ int_index (sorted_once xs) n
 index_read r rs n env xs e =
     let ws = map pure_range (r ∷ rs) in
     let a = ranges_read (r ∷ rs) env xs e in
@@ -236,7 +236,7 @@ index_read r rs n env xs e =
     (all_good_is ws ∙ ranges_good (r ∷ rs) ∙ ap is_some e)
     ∙ ap (λ o. and_then {B = Ty × List Value} (members_in (option_map integers o)) (λ is. int_index is n)) a.read
     ∙ ap (λ o. and_then {B = Ty × List Value} o (λ is. int_index is n)) (members_read a.spans a.lists many a.listed)
-    ∙ ap (λ l. int_index (strictly l) n) a.whole
+    ∙ ap (λ l. int_index (sorted_once l) n) a.whole
 
 index_bad : (r : Range) (rs : List Range) (n : ℕ) (env : Env) → all_numbers (map pure_range (r ∷ rs)) ≡ None → index_of (pure_int_dom (r ∷ rs)) n env ≡ None
 index_bad r rs n env e =
@@ -246,13 +246,13 @@ index_bad r rs n env e =
 
 -- ---- a range with more numbers than there may be
 
-too_many : (ws : List (With Ends)) (n : ℕ) (xs : List Value) → numbers_of n ws ≡ None → all_numbers ws ≡ Some xs → n < length (strictly xs)
+too_many : (ws : List (With Ends)) (n : ℕ) (xs : List Value) → numbers_of n ws ≡ None → all_numbers ws ≡ Some xs → n < length (sorted_once xs)
 too_many [] n xs e d = absurd cc
 too_many (w ∷ ws) n xs e d = go (literal_interval w) (all_numbers ws) (λ ys. too_many ws n ys) refl e d
   where
-    go : (o : Option (ℤ × ℤ)) (p : Option (List Value)) → ((ys : List Value) → numbers_of n ws ≡ None → all_numbers ws ≡ Some ys → n < length (strictly ys)) → all_numbers ws ≡ p
+    go : (o : Option (ℤ × ℤ)) (p : Option (List Value)) → ((ys : List Value) → numbers_of n ws ≡ None → all_numbers ws ≡ Some ys → n < length (sorted_once ys)) → all_numbers ws ≡ p
         → and_then o (λ i. if nat_le (length (interval i.0 i.1)) n then option_map (λ more. interval i.0 i.1 ++ more) (numbers_of n ws) else None) ≡ None
-        → and_then o (λ i. option_map (λ more. interval i.0 i.1 ++ more) p) ≡ Some xs → n < length (strictly xs)
+        → and_then o (λ i. option_map (λ more. interval i.0 i.1 ++ more) p) ≡ Some xs → n < length (sorted_once xs)
     go None p f c e d = absurd cc
     go (Some i) None f c e d = absurd cc
     go (Some i) (Some ys) f c e d = fits (nat_le (length (interval i.0 i.1)) n) refl e
@@ -264,9 +264,9 @@ too_many (w ∷ ws) n xs e d = go (literal_interval w) (all_numbers ws) (λ ys. 
         is : interval i.0 i.1 ++ ys ≡ xs
         is = cc
 
-        fits : (b : Bool) → nat_le (length (interval i.0 i.1)) n ≡ b → (if b then option_map (λ more. interval i.0 i.1 ++ more) (numbers_of n ws) else None) ≡ None → n < length (strictly xs)
-        fits true h e = let k = f ys (none (numbers_of n ws) e) c in let l = rest_longer (interval i.0 i.1) ys in let s = ap (λ z. length (strictly z)) is in omega (arith, k, l, s)
-        fits false h e = let l = interval_longer i.0 i.1 ys in let s = ap (λ z. length (strictly z)) is in let k : n < length (interval i.0 i.1) = grind (arith, nat_tests) in omega (arith, k, l, s)
+        fits : (b : Bool) → nat_le (length (interval i.0 i.1)) n ≡ b → (if b then option_map (λ more. interval i.0 i.1 ++ more) (numbers_of n ws) else None) ≡ None → n < length (sorted_once xs)
+        fits true h e = let k = f ys (none (numbers_of n ws) e) c in let l = rest_longer (interval i.0 i.1) ys in let s = ap (λ z. length (sorted_once z)) is in omega (arith, k, l, s)
+        fits false h e = let l = interval_longer i.0 i.1 ys in let s = ap (λ z. length (sorted_once z)) is in let k : n < length (interval i.0 i.1) = grind (arith, nat_tests) in omega (arith, k, l, s)
 
 within_all : (ws : List (With Ends)) (n : ℕ) (xs : List Value) → numbers_of n ws ≡ Some xs → all_numbers ws ≡ Some xs
 within_all [] n xs e = e
@@ -301,9 +301,9 @@ no_index (r ∷ rs) n env e = go (all_numbers (map pure_range (r ∷ rs))) refl
   where
     go : (o : Option (List Value)) → all_numbers (map pure_range (r ∷ rs)) ≡ o → index_of (pure_int_dom (r ∷ rs)) n env ≡ None
     go None d = index_bad r rs n env d
-    go (Some xs) d = index_read r rs n env xs d ∙ counted n (strictly xs) (too_many (map pure_range (r ∷ rs)) n xs e d)
+    go (Some xs) d = index_read r rs n env xs d ∙ counted n (sorted_once xs) (too_many (map pure_range (r ∷ rs)) n xs e d)
 
-pub index_there : (rs : List Range) (n : ℕ) (env : Env) (xs : List Value) → 0 < length rs → numbers_of n (map pure_range rs) ≡ Some xs → index_of (pure_int_dom rs) n env ≡ int_index (strictly xs) n
+pub index_there : (rs : List Range) (n : ℕ) (env : Env) (xs : List Value) → 0 < length rs → numbers_of n (map pure_range rs) ≡ Some xs → index_of (pure_int_dom rs) n env ≡ int_index (sorted_once xs) n
 index_there [] n env xs h e = absurd (omega arith)
 index_there (r ∷ rs) n env xs h e = index_read r rs n env xs (within_all (map pure_range (r ∷ rs)) n xs e)
 
@@ -311,17 +311,17 @@ no_longer_empty : (rs : List Range) → eqb (length rs) 0 ≡ false → 0 < leng
 no_longer_empty [] h = absurd (false≢true (sym h))
 no_longer_empty (r ∷ rs) h = omega arith
 
-pub numbers_other : (rs : List Range) (n : ℕ) (found ms : List Val) → eqb (length rs) 0 ≡ false → numbers_of n (map pure_range rs) ≡ Some (map pure_val found) → map pure_val ms ≡ strictly (map pure_val found) → length ms ≢ n
+pub numbers_other : (rs : List Range) (n : ℕ) (found ms : List Val) → eqb (length rs) 0 ≡ false → numbers_of n (map pure_range rs) ≡ Some (map pure_val found) → map pure_val ms ≡ sorted_once (map pure_val found) → length ms ≢ n
     → (env : Env) → None ≡ index_of (pure_int_dom rs) n env
 numbers_other rs n found ms h e m c env =
-    let l : length (strictly (map pure_val found)) ≡ length ms = ap length (sym m) ∙ length-map ms pure_val in
-    let d : nat_eq (length (strictly (map pure_val found))) n ≡ false = ap (λ k. nat_eq k n) l ∙ other_count (length ms) n c in
-    sym (index_there rs n env (map pure_val found) (no_longer_empty rs h) e ∙ ap (λ b. when {A = Ty × List Value} b (int_ty, strictly (map pure_val found))) d)
+    let l : length (sorted_once (map pure_val found)) ≡ length ms = ap length (sym m) ∙ length-map ms pure_val in
+    let d : nat_eq (length (sorted_once (map pure_val found))) n ≡ false = ap (λ k. nat_eq k n) l ∙ other_count (length ms) n c in
+    sym (index_there rs n env (map pure_val found) (no_longer_empty rs h) e ∙ ap (λ b. when {A = Ty × List Value} b (int_ty, sorted_once (map pure_val found))) d)
 
-pub numbers_fit : (rs : List Range) (n : ℕ) (found ms : List Val) → eqb (length rs) 0 ≡ false → numbers_of n (map pure_range rs) ≡ Some (map pure_val found) → map pure_val ms ≡ strictly (map pure_val found) → length ms ≡ n
+pub numbers_fit : (rs : List Range) (n : ℕ) (found ms : List Val) → eqb (length rs) 0 ≡ false → numbers_of n (map pure_range rs) ≡ Some (map pure_val found) → map pure_val ms ≡ sorted_once (map pure_val found) → length ms ≡ n
     → (env : Env) → Some (pure_index record { shape = shapes.Int; members = ms }) ≡ index_of (pure_int_dom rs) n env
 numbers_fit rs n found ms h e m c env =
-    let l : length (strictly (map pure_val found)) ≡ length ms = ap length (sym m) ∙ length-map ms pure_val in
-    let d : nat_eq (length (strictly (map pure_val found))) n ≡ true = ap (λ k. nat_eq k n) l ∙ same_count (length ms) n c in
+    let l : length (sorted_once (map pure_val found)) ≡ length ms = ap length (sym m) ∙ length-map ms pure_val in
+    let d : nat_eq (length (sorted_once (map pure_val found))) n ≡ true = ap (λ k. nat_eq k n) l ∙ same_count (length ms) n c in
     ap (λ t. Some (t, map pure_val ms)) shape_int ∙ ap (λ vs. Some (int_ty, vs)) m
-    ∙ sym (index_there rs n env (map pure_val found) (no_longer_empty rs h) e ∙ ap (λ b. when {A = Ty × List Value} b (int_ty, strictly (map pure_val found))) d)
+    ∙ sym (index_there rs n env (map pure_val found) (no_longer_empty rs h) e ∙ ap (λ b. when {A = Ty × List Value} b (int_ty, sorted_once (map pure_val found))) d)

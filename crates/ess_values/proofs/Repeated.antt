@@ -3,12 +3,12 @@ use Rattle.std.proofs.Common.{◌≡◌, refl, sym, ap, ◌∙◌, suc, ◌≤�
 use Rattle.std.specs.List.{list_any}
 use Rattle.ess_semantics.specs.Values.{Value, itself}
 use Rattle.ess_semantics.specs.Order.{same, below}
-use Rattle.ess_semantics.specs.Collections.{holds, count, rising, rises, rises_weakly, no_twice}
+use Rattle.ess_semantics.specs.Collections.{holds, count, sorted, rises, rises_weakly, no_twice}
 use Rattle.ess_semantics.proofs.Tests.{and-left, and-right, and-both, not-true, both-ways, or-left-no, or-right-no}
 use Rattle.ess_semantics.proofs.Orders.{same-equal, same-itself}
-use Rattle.ess_semantics.proofs.Sorting.{Distinct, rising-of, distinct-twice, twice-distinct}
-use Rattle.ess_semantics.proofs.Multisets.{count-rising, rising-rises, holds-count}
-use Rattle.ess_semantics.proofs.Repeats.{rising-distinct}
+use Rattle.ess_semantics.proofs.Sorting.{Distinct, sorted-of, distinct-twice, twice-distinct}
+use Rattle.ess_semantics.proofs.Multisets.{count-sorted, sorted-rises, holds-count}
+use Rattle.ess_semantics.proofs.Repeats.{sorted-distinct}
 use Rattle.ess_values.specs.Neighbours.{neighbours_differ}
 use Rattle.ess_values.proofs.Canonical.{next-below, one-turned}
 
@@ -39,7 +39,7 @@ twice-apart (x ∷ y ∷ ys) h =
 pub twice-neighbours : (xs : List Value) → rises_weakly xs ≡ true → no_twice itself xs ≡ neighbours_differ xs
 twice-neighbours xs h =
     both-ways (no_twice itself xs) (neighbours_differ xs) (twice-apart xs)
-    (λ d. distinct-twice xs (rising-distinct xs (rising-of xs (apart-rises xs h d))))
+    (λ d. distinct-twice xs (sorted-distinct xs (sorted-of xs (apart-rises xs h d))))
 
 -- ---- sorting keeps whether a value stands twice
 
@@ -71,14 +71,14 @@ distinct-once (x ∷ xs) h = (holds-count xs x (none (same x x) (same-itself x) 
     fewer true v k = omega arith
     fewer false v k = k
 
-pub twice-rising : (xs : List Value) → no_twice itself xs ≡ no_twice itself (rising xs)
-twice-rising xs =
-    both-ways (no_twice itself xs) (no_twice itself (rising xs))
-    (λ e. distinct-twice (rising xs) (distinct-once (rising xs) (λ v. let c = count-rising xs v in let o = once xs (twice-distinct xs e) v in omega (arith, c, o))))
-    (λ e. distinct-twice xs (distinct-once xs (λ v. let c = count-rising xs v in let o = once (rising xs) (twice-distinct (rising xs) e) v in omega (arith, c, o))))
+pub twice-sorted : (xs : List Value) → no_twice itself xs ≡ no_twice itself (sorted xs)
+twice-sorted xs =
+    both-ways (no_twice itself xs) (no_twice itself (sorted xs))
+    (λ e. distinct-twice (sorted xs) (distinct-once (sorted xs) (λ v. let c = count-sorted xs v in let o = once xs (twice-distinct xs e) v in omega (arith, c, o))))
+    (λ e. distinct-twice xs (distinct-once xs (λ v. let c = count-sorted xs v in let o = once (sorted xs) (twice-distinct (sorted xs) e) v in omega (arith, c, o))))
 
-pub twice-sorted : (xs : List Value) → no_twice itself xs ≡ neighbours_differ (rising xs)
-twice-sorted xs = twice-rising xs ∙ twice-neighbours (rising xs) (rising-rises xs)
+pub twice-sorted : (xs : List Value) → no_twice itself xs ≡ neighbours_differ (sorted xs)
+twice-sorted xs = twice-sorted xs ∙ twice-neighbours (sorted xs) (sorted-rises xs)
 
 -- ---- by a part of each item
 

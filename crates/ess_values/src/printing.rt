@@ -5,7 +5,7 @@ ghost use Rattle.ess_core.specs.ValueViews.{pure_val, pure_vals, pure_field_val,
 ghost use Rattle.ess_core.specs.TableViews.{pure_type_entries, pure_env};
 ghost use Rattle.ess_grammar.specs.ValueTexts.{literal_of, value_text, value_texts, pair_texts, field_texts, with_commas, tuple_text, index_text, number_text, runs_text, runs_of};
 ghost use Rattle.ess_print_laws.specs.Spelled.{is_spelled};
-ghost use Rattle.ess_print_laws.specs.Laws.{ReadsInProfile, IsClosedExpression};
+ghost use Rattle.ess_print_laws.specs.Laws.{ReadsInSubset, IsClosedExpression};
 ghost use Rattle.ess_values_laws.specs.ItemNames.{item_name};
 ghost use Rattle.ess_values_laws.specs.Laws.{ReadsBack};
 ghost use Rattle.ess_values.specs.Printing.{comma_before, matrix_end, pair_text};
@@ -23,7 +23,7 @@ use std::alloc::Global;
 pub fn print_val(alloc: Global, val: &Val, env: &Env) -> Result<Text, NoMemory>
     ensures text { IfOk result (λ t. t ≡ value_text (item_name (pure_type_entries env.now.types)) (pure_val val.now)) }
     ensures read { IfOk result (λ t. IsTrue (is_spelled (item_name (pure_type_entries env.now.types)) (pure_val val.now)) →
-        ReadsInProfile t (IsClosedExpression (literal_of (item_name (pure_type_entries env.now.types)) (pure_val val.now)))) }
+        ReadsInSubset t (IsClosedExpression (literal_of (item_name (pure_type_entries env.now.types)) (pure_val val.now)))) }
     ensures value { IfOk result (ReadsBack (pure_env env.now) (pure_val val.now)) }
 {
     let mut out = Text::new(alloc);

@@ -1,5 +1,5 @@
 ghost use Rattle.std.specs.Prelude.{◌≡◌, map, IfOk};
-ghost use Rattle.ess_semantics.specs.Collections.{rising, strictly};
+ghost use Rattle.ess_semantics.specs.Collections.{sorted, sorted_once};
 ghost use Rattle.ess_core.specs.ValueViews.{pure_val, pure_pair};
 ghost use Rattle.ess_values.specs.Neighbours.{neighbours_differ};
 
@@ -9,7 +9,7 @@ use std::cmp::Ordering;
 
 /// Values in rising order, with repeats. `NoMemory` where there is no room to sort them.
 pub fn sorted(items: Row<Val>) -> Result<Row<Val>, NoMemory>
-    ensures { IfOk result (λ r. map pure_val r ≡ rising (map pure_val items)) }
+    ensures { IfOk result (λ r. map pure_val r ≡ sorted (map pure_val items)) }
 {
     let mut items = items.into_vec();
     items.sort_by(|a, b| order(a, b))?;
@@ -18,7 +18,7 @@ pub fn sorted(items: Row<Val>) -> Result<Row<Val>, NoMemory>
 
 /// Values in strictly rising order, each once. `NoMemory` where there is no room to sort them.
 pub fn sorted_once(items: Row<Val>) -> Result<Row<Val>, NoMemory>
-    ensures { IfOk result (λ r. map pure_val r ≡ strictly (map pure_val items)) }
+    ensures { IfOk result (λ r. map pure_val r ≡ sorted_once (map pure_val items)) }
 {
     let mut items = items.into_vec();
     items.sort_by(|a, b| order(a, b))?;
@@ -28,7 +28,7 @@ pub fn sorted_once(items: Row<Val>) -> Result<Row<Val>, NoMemory>
 
 /// Pairs in strictly rising order, each once. `NoMemory` where there is no room to sort them.
 pub fn sorted_pairs_once(pairs: Row<Pair>) -> Result<Row<Pair>, NoMemory>
-    ensures { IfOk result (λ r. map pure_pair r ≡ strictly (map pure_pair pairs)) }
+    ensures { IfOk result (λ r. map pure_pair r ≡ sorted_once (map pure_pair pairs)) }
 {
     let mut pairs = pairs.into_vec();
     pairs.sort_by(|a, b| order_pair(a, b))?;

@@ -8,7 +8,7 @@ use Rattle.std.specs.declared.cmp.Ordering.TheVariants.{Less}
 use Rattle.ess_semantics.specs.Lists.{is_empty, list_or_none}
 use Rattle.ess_semantics.specs.Values.{Text, Value, number, truth, item, node, of_list, itself}
 use Rattle.ess_semantics.specs.Order.{below}
-use Rattle.ess_semantics.specs.Collections.{rises, strictly}
+use Rattle.ess_semantics.specs.Collections.{rises, sorted_once}
 use Rattle.ess_semantics.specs.Operators.{numbers_from}
 use Rattle.ess_semantics.specs.Trees.{Dom, bool_dom, int_dom, name_dom, tuple_dom, record_dom, matrix_dom, set_dom, mset_dom, function_dom, relation_dom, partition_dom}
 use Rattle.ess_semantics.specs.Types.{Ty, bool_ty, int_ty, named_ty, type_of_dom}
@@ -17,7 +17,7 @@ use Rattle.ess_semantics.specs.Membership.{member}
 use Rattle.ess_semantics.specs.Meaning.{Env, TypeEntry, type_entry, named_domain, members_in, domain_of, meanings, spans_of}
 use Rattle.ess_semantics.specs.Literals.{is_literal_index}
 use Rattle.ess_semantics.proofs.Tests.{and-right, and-both}
-use Rattle.ess_semantics.proofs.Sorting.{strictly-itself}
+use Rattle.ess_semantics.proofs.Sorting.{sorted_once-itself}
 use Rattle.ess_semantics.proofs.MemberLists.{integers-listed}
 use Rattle.ess_grammar.specs.ValueTexts.{runs_of, index_literal}
 use Rattle.ess_values_laws.proofs.IntervalRuns.{AllNumbers, runs-members, runs-int-members, runs-literal-index, spans-of-runs, before-some}
@@ -40,7 +40,7 @@ module _ (env : Env) where
         type = refl;
         members =
             ap (λ o. members_in (option_map integers o)) (spans-of-runs rs env) ∙ runs-int-members rs some
-            ∙ ap (λ l. Some (strictly l)) (runs-members ws h) ∙ ap Some (strictly-itself ws r);
+            ∙ ap (λ l. Some (sorted_once l)) (runs-members ws h) ∙ ap Some (sorted_once-itself ws r);
       }
 
   pub all-numbers : (ss : List Span) (vs : List Value) → list_all (member (integers ss)) vs ≡ true → AllNumbers vs
@@ -80,7 +80,7 @@ module _ (env : Env) where
       go (Some ss) e =
           let i = integers-listed ss in
           some-numbers vs h (all-numbers ss vs (ap (λ o. list_all (member (integers ss)) (list_or_none o)) (sym e) ∙ i.members))
-          (ap (λ o. rises itself (list_or_none o)) (sym e) ∙ i.rising)
+          (ap (λ o. rises itself (list_or_none o)) (sym e) ∙ i.sorted)
   index-printed (tuple_dom ds) vs p l e h = cc
   index-printed (record_dom ns ds) vs p l e h = cc
   index-printed (matrix_dom ds d) vs p l e h = cc

@@ -5,7 +5,7 @@ use Rattle.std.specs.Ordering.{int_eq}
 use Rattle.std.specs.List.{list_all}
 use Rattle.ess_semantics.specs.Lists.{and_then, all_some, append_all, is_empty}
 use Rattle.ess_semantics.specs.Values.{Value, number, truth, item, node, of_list}
-use Rattle.ess_semantics.specs.Collections.{strictly}
+use Rattle.ess_semantics.specs.Collections.{sorted_once}
 use Rattle.ess_semantics.specs.Numbers.{natural}
 use Rattle.ess_semantics.specs.Trees.{int_dom}
 use Rattle.ess_semantics.specs.Domains.{Span, numbers_up, interval, span_members, int_members}
@@ -109,9 +109,9 @@ spans-members : (rs : List Run) → all_some (map span_members (run_spans rs)) �
 spans-members [] = refl
 spans-members (r ∷ rs) = ap (option_map (λ ls. interval r.0 r.1 ∷ ls)) (spans-members rs)
 
-pub runs-int-members : (rs : List Run) → is_empty rs ≡ false → int_members (run_spans rs) ≡ Some (strictly (run_members rs))
+pub runs-int-members : (rs : List Run) → is_empty rs ≡ false → int_members (run_spans rs) ≡ Some (sorted_once (run_members rs))
 runs-int-members [] h = cc
-runs-int-members (r ∷ rs) h = ap (option_map (λ ls. strictly (append_all ls))) (spans-members (r ∷ rs))
+runs-int-members (r ∷ rs) h = ap (option_map (λ ls. sorted_once (append_all ls))) (spans-members (r ∷ rs))
 
 -- ---- runs as the index domain of a literal
 

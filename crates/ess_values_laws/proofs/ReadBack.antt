@@ -10,7 +10,7 @@ use Rattle.ess_grammar.specs.Readable.{ReadableEx}
 use Rattle.ess_grammar.specs.ValueTexts.{literal_of}
 use Rattle.ess_print_laws.specs.Expressions.{ex_pieces}
 use Rattle.ess_print_laws.specs.Spelled.{is_spelled}
-use Rattle.ess_print_laws.specs.Laws.{ReadsInProfile, IsClosedExpression}
+use Rattle.ess_print_laws.specs.Laws.{ReadsInSubset, IsClosedExpression}
 use Rattle.ess_print_laws.proofs.LexedPieces.{printed-tokens, printed-inside}
 use Rattle.ess_print_laws.proofs.SafeTrees.{ex-safe}
 use Rattle.ess_print_laws.proofs.Expressions.{ex-printed}
@@ -36,7 +36,7 @@ read-back e t v env names h s =
     let x = literal_of n v in
     let safe = (ex-safe x (value-readable n v s)).law [] refl tt in
     let r = (ex-printed x (value-readable n v s)).reads [] in (
-      subst (λ w. ReadsInProfile w (IsClosedExpression x)) (value-text-is n v s)
+      subst (λ w. ReadsInSubset w (IsClosedExpression x)) (value-text-is n v s)
           ((_, printed-tokens (ex_pieces x []) safe, (r.shape, r.level, r.derivation)), printed-inside (ex_pieces x []) safe),
       kept-value env names e t v h,
     )

@@ -4,7 +4,7 @@ use Rattle.ess_semantics.specs.declared.words.Op1.{Op1}
 use Rattle.ess_semantics.specs.Lists.{and_then, all_some, is_empty, is_some_and}
 use Rattle.std.specs.Option.{is_some}
 use Rattle.ess_semantics.specs.Values.{a_matrix, a_function, a_partition, Value, number, truth, node, of_list, tuple, matrix}
-use Rattle.ess_semantics.specs.Collections.{strictly, set_of, mset_of, relation_of, has_double_argument, has_empty_part, has_overlap}
+use Rattle.ess_semantics.specs.Collections.{sorted_once, set_of, mset_of, relation_of, has_double_argument, has_empty_part, has_overlap}
 use Rattle.ess_semantics.specs.Names.{all_distinct}
 use Rattle.ess_semantics.specs.Trees.{Op, unary, binary, word, index, application, tuple_literal, set_literal, mset_literal, function_literal, relation_literal, partition_literal, matrix_literal, record_literal, Ex, Exs, number_ex, truth_ex, name_ex, node_ex, matrix_ex, comp_ex, cell_ex, seen_ex, no_exs, more_exs, Dom}
 use Rattle.ess_semantics.specs.Types.{Ty, compound2, type_of_dom, join, join_all}
@@ -22,7 +22,7 @@ use Rattle.ess_values_laws.proofs.KeptValues.{minus-value, printed-each}
 use Rattle.ess_values_laws.proofs.MatrixLiterals.{some-indices}
 use Rattle.ess_values_laws.proofs.SpelledParts.{Asked, SpelledIf, EachSpelledIf}
 use Rattle.ess_values_laws.proofs.SpelledIndices.{index-spelled}
-use Rattle.ess_values_laws.proofs.SpelledValues.{name-spelled, tuple-spelled, record-spelled, strictly-spelled, rising-spelled, function-spelled, items-spelled, list-spelled}
+use Rattle.ess_values_laws.proofs.SpelledValues.{name-spelled, tuple-spelled, record-spelled, sorted_once-spelled, sorted-spelled, function-spelled, items-spelled, list-spelled}
 
 module _ (env : Env) (names : HasItemNames env) where
   -- ---- what is asked of parts
@@ -79,19 +79,19 @@ module _ (env : Env) (names : HasItemNames env) where
   node-spelled m b tuple_literal es t v k parts p q =
       from-parts m tuple_literal es t v parts p q (λ xs ts r e each f g. at-value m (tuple (of_list xs)) v g (tuple-spelled env names m b es xs k e each))
   node-spelled m b set_literal es t v k parts p q =
-      from-parts m set_literal es t v parts p q (λ xs ts r e each f g. at-value m (set_of xs) v g (λ h. (strictly-spelled env names m xs each h).1))
+      from-parts m set_literal es t v parts p q (λ xs ts r e each f g. at-value m (set_of xs) v g (λ h. (sorted_once-spelled env names m xs each h).1))
   node-spelled m b mset_literal es t v k parts p q =
-      from-parts m mset_literal es t v parts p q (λ xs ts r e each f g. at-value m (mset_of xs) v g (λ h. rising-spelled env names m xs each h))
+      from-parts m mset_literal es t v parts p q (λ xs ts r e each f g. at-value m (mset_of xs) v g (λ h. sorted-spelled env names m xs each h))
   node-spelled m b relation_literal es t v k parts p q =
-      from-parts m relation_literal es t v parts p q (λ xs ts r e each f g. at-value m (relation_of xs) v g (λ h. (strictly-spelled env names m xs each h).1))
+      from-parts m relation_literal es t v parts p q (λ xs ts r e each f g. at-value m (relation_of xs) v g (λ h. (sorted_once-spelled env names m xs each h).1))
   node-spelled m b function_literal es t v k parts p q =
       from-parts m function_literal es t v parts p q (λ xs ts r e each f g.
-      let w = when-some (not (has_double_argument xs)) (node a_function (of_list (strictly xs))) v g in
+      let w = when-some (not (has_double_argument xs)) (node a_function (of_list (sorted_once xs))) v g in
       subst (SpelledIf env m) w.1 (function-spelled env names m xs ts t r f each))
   node-spelled m b partition_literal es t v k parts p q =
       from-parts m partition_literal es t v parts p q (λ xs ts r e each f g.
-      let w = when-some (not (has_empty_part xs) && not (has_overlap xs)) (node a_partition (of_list (strictly xs))) v g in
-      subst (SpelledIf env m) w.1 (λ h. (strictly-spelled env names m xs each h).1))
+      let w = when-some (not (has_empty_part xs) && not (has_overlap xs)) (node a_partition (of_list (sorted_once xs))) v g in
+      subst (SpelledIf env m) w.1 (λ h. (sorted_once-spelled env names m xs each h).1))
   node-spelled m b matrix_literal es t v k parts p q =
       from-parts m matrix_literal es t v parts p q (λ xs ts r e each f g. at-value m (list_value xs) v g (list-spelled env names m xs each))
   node-spelled m b (record_literal ns) es t v k parts p q =

@@ -4,7 +4,7 @@ use Rattle.std.proofs.Common.{◌≡◌, refl, sym, ap, ◌∙◌, subst, Bool, 
 use Rattle.std.specs.List.{list_all}
 use Rattle.ess_semantics.specs.Lists.{all_some, is_empty, zip}
 use Rattle.ess_semantics.specs.Values.{Text, a_function, Value, node, of_list, tuple, matrix}
-use Rattle.ess_semantics.specs.Collections.{strictly, rising}
+use Rattle.ess_semantics.specs.Collections.{sorted_once, sorted}
 use Rattle.ess_semantics.specs.Names.{keys, by_name}
 use Rattle.ess_semantics.specs.Trees.{tuple_literal, function_literal, record_literal, Exs, name_ex, node_ex, no_exs, more_exs}
 use Rattle.ess_semantics.specs.Types.{Ty, join_all}
@@ -14,8 +14,8 @@ use Rattle.ess_semantics.specs.Membership.{is_pair}
 use Rattle.ess_semantics.specs.Meaning.{Env}
 use Rattle.ess_semantics.specs.Literals.{item_of_name, values_of_literals}
 use Rattle.ess_semantics.proofs.Tests.{and-left, and-right, and-both}
-use Rattle.ess_semantics.proofs.Sorting.{all-strictly}
-use Rattle.ess_semantics.proofs.Multisets.{rising-all}
+use Rattle.ess_semantics.proofs.Sorting.{all-sorted_once}
+use Rattle.ess_semantics.proofs.Multisets.{sorted-all}
 use Rattle.ess_grammar.specs.Readable.{is_name_token, are_name_tokens, fit_fields, ReadableEx}
 use Rattle.ess_print_laws.specs.Spelled.{some_values, fit_values, are_pairs_of_values, are_spelled_indices, is_spelled, are_spelled}
 use Rattle.ess_values_laws.specs.ItemNames.{item_name}
@@ -99,26 +99,26 @@ module _ (env : Env) (names : HasItemNames env) where
   -- ---- sets and the like
 
   -- members in order
-  pub strictly-spelled : (m : Bool) (xs : List Value) → EachSpelledIf env m xs → all_numbers_fit (of_list (strictly xs)) && (m || all_parts_fit (of_list (strictly xs))) ≡ true →
-      (list_all (is_spelled (item_name env.types)) xs ≡ true) × (are_spelled (item_name env.types) (of_list (strictly xs)) ≡ true)
-  strictly-spelled m xs each h =
-      let s = members-spelled env m xs (strictly xs) each (λ f. all-strictly f xs) h in
-      (s, spelled-list env (strictly xs) ∙ all-strictly (is_spelled (item_name env.types)) xs ∙ s)
+  pub sorted_once-spelled : (m : Bool) (xs : List Value) → EachSpelledIf env m xs → all_numbers_fit (of_list (sorted_once xs)) && (m || all_parts_fit (of_list (sorted_once xs))) ≡ true →
+      (list_all (is_spelled (item_name env.types)) xs ≡ true) × (are_spelled (item_name env.types) (of_list (sorted_once xs)) ≡ true)
+  sorted_once-spelled m xs each h =
+      let s = members-spelled env m xs (sorted_once xs) each (λ f. all-sorted_once f xs) h in
+      (s, spelled-list env (sorted_once xs) ∙ all-sorted_once (is_spelled (item_name env.types)) xs ∙ s)
 
-  pub rising-spelled : (m : Bool) (xs : List Value) → EachSpelledIf env m xs → all_numbers_fit (of_list (rising xs)) && (m || all_parts_fit (of_list (rising xs))) ≡ true →
-      are_spelled (item_name env.types) (of_list (rising xs)) ≡ true
-  rising-spelled m xs each h =
-      let s = members-spelled env m xs (rising xs) each (λ f. rising-all f xs) h in
-      spelled-list env (rising xs) ∙ rising-all (is_spelled (item_name env.types)) xs ∙ s
+  pub sorted-spelled : (m : Bool) (xs : List Value) → EachSpelledIf env m xs → all_numbers_fit (of_list (sorted xs)) && (m || all_parts_fit (of_list (sorted xs))) ≡ true →
+      are_spelled (item_name env.types) (of_list (sorted xs)) ≡ true
+  sorted-spelled m xs each h =
+      let s = members-spelled env m xs (sorted xs) each (λ f. sorted-all f xs) h in
+      spelled-list env (sorted xs) ∙ sorted-all (is_spelled (item_name env.types)) xs ∙ s
 
   pub function-spelled : (m : Bool) (xs : List Value) (ts : List Ty) (t : Ty) → PrintedEach env xs ts → type_of_op function_literal ts ≡ Some t →
-      EachSpelledIf env m xs → SpelledIf env m (node a_function (of_list (strictly xs)))
+      EachSpelledIf env m xs → SpelledIf env m (node a_function (of_list (sorted_once xs)))
   function-spelled m xs ts t p e each h =
       let s = then-some (join_all ts) function_ty t e in
-      let r = strictly-spelled m xs each h in
+      let r = sorted_once-spelled m xs each h in
       let pairs = entries-pairs env xs ts s.0 t p (join-all-says ts s.0 s.1) s.2 r.0 in
-      and-both (are_pairs_of_values (of_list (strictly xs))) (are_spelled (item_name env.types) (of_list (strictly xs)))
-      (pairs-of-values (strictly xs) (all-strictly is_pair xs ∙ pairs)) r.1
+      and-both (are_pairs_of_values (of_list (sorted_once xs))) (are_spelled (item_name env.types) (of_list (sorted_once xs)))
+      (pairs-of-values (sorted_once xs) (all-sorted_once is_pair xs ∙ pairs)) r.1
 
   -- ---- matrices
 

@@ -24,7 +24,7 @@ pub fn print_model(alloc: Global, model: &PModel) -> Result<Vec<u8>, NoMemory>
     // It is derived for exactly this model, with these lines of its header.
     ensures read { IfOk result (λ text. IsTrue (is_readable_model (pure_model model.now)) → IsTrue (list_all is_head_line model.now.head) →
         ReadsModel text.items model.now.head (pure_model model.now)) }
-    // No word of it stands outside the profile.
+    // No word of it stands outside the subset.
     ensures inside { IfOk result (λ text. IsTrue (is_readable_model (pure_model model.now)) → IsTrue (list_all is_head_line model.now.head) →
         first_outside (lexed text.items) ≡ None) }
 {

@@ -88,7 +88,7 @@ fn items_are_removed_at_brackets_commas_and_words(rt: HostRuntime) -> Result<(),
 }
 
 #[test]
-fn each_word_outside_the_profile_is_found(rt: HostRuntime) -> Result<(), Fail> {
+fn each_word_outside_the_subset_is_found(rt: HostRuntime) -> Result<(), Fail> {
     let words =
         "variant permutation sequence powerSet hist table factorial catchUndef branching heuristic dim apart flatten concatenate subsequence substring inverse restrict pred succ gcc atleast atmost alldifferent_except imageSet active connex Euclidean serial equivalence partialOrder";
     for word in words.split(' ') {

@@ -5,5 +5,5 @@ use Rattle.ess_print.proofs.representations.print_repr.Goals as goal
 pub returns-clause-representation : goal.returns-clause-representation
 returns-clause-representation c = (representation-behind-nothing (pure_repr c.args.repr.now) c.new-out.ensures c.in_ok-put_repr.ensures).0
 
-pub returns-clause-profile : goal.returns-clause-profile
-returns-clause-profile c = (representation-behind-nothing (pure_repr c.args.repr.now) c.new-out.ensures c.in_ok-put_repr.ensures).1
+pub returns-clause-subset : goal.returns-clause-subset
+returns-clause-subset c = (representation-behind-nothing (pure_repr c.args.repr.now) c.new-out.ensures c.in_ok-put_repr.ensures).1

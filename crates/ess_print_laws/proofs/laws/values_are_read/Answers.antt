@@ -2,7 +2,7 @@ use Rattle.ess_print_laws.proofs.laws.values_are_read.Goals as goal
 use Rattle.std.proofs.Common.{refl, sym, subst, []}
 use Rattle.ess_grammar.specs.ValueTexts.{literal_of}
 use Rattle.ess_print_laws.specs.Expressions.{ex_pieces}
-use Rattle.ess_print_laws.specs.Laws.{ReadsInProfile, IsClosedExpression}
+use Rattle.ess_print_laws.specs.Laws.{ReadsInSubset, IsClosedExpression}
 use Rattle.ess_print_laws.proofs.LexedPieces.{printed-tokens, printed-inside}
 use Rattle.ess_print_laws.proofs.SafeTrees.{ex-safe}
 use Rattle.ess_print_laws.proofs.Expressions.{ex-printed}
@@ -18,5 +18,5 @@ returns c =
           let e = literal_of n v in
           let s = (ex-safe e (value-readable n v h)).law [] refl tt in
           let r = (ex-printed e (value-readable n v h)).reads [] in
-          subst (λ t. ReadsInProfile t (IsClosedExpression e)) (value-text-is n v h) ((_, printed-tokens (ex_pieces e []) s, (r.shape, r.level, r.derivation)), printed-inside (ex_pieces e []) s);
+          subst (λ t. ReadsInSubset t (IsClosedExpression e)) (value-text-is n v h) ((_, printed-tokens (ex_pieces e []) s, (r.shape, r.level, r.derivation)), printed-inside (ex_pieces e []) s);
     }

@@ -4,7 +4,7 @@ use Rattle.std.proofs.lemmas.Fn.{always_returns_same, dedup_same}
 use Rattle.ess_semantics.proofs.Orders.{order_total}
 use Rattle.ess_semantics.specs.Order.{order, same}
 use Rattle.ess_core.specs.ValueViews.{pure_pair}
-use Rattle.ess_values.proofs.Canonical.{sorted-strictly}
+use Rattle.ess_values.proofs.Canonical.{sorted_by-sorted_once}
 use Rattle.ess_values.proofs.sorting.sorted_pairs_once.Goals as goal
 
 pub returns : goal.returns
@@ -12,4 +12,4 @@ returns c =
     let s = c.in_ok-sort_by.ensures in
     let up = s.sorted (λ a b. is_lt (order (pure_pair a) (pure_pair b))) (ranks_by order_total pure_pair) (always_returns_same _ _ _ (λ a r f k. search rules)) in
     let kept = dedup_same _ (λ a b. same (pure_pair a) (pure_pair b)) _ (λ x y b f' x' y' k. search rules) _ _ c.dedup_by.ensures.filtered in
-    rw (c.from_vec.ensures, ← c.into_vec-pairs.ensures) (sorted-strictly pure_pair _ _ _ s.permutation up kept)
+    rw (c.from_vec.ensures, ← c.into_vec-pairs.ensures) (sorted_by-sorted_once pure_pair _ _ _ s.permutation up kept)
