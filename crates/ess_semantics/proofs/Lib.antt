@@ -9,6 +9,7 @@ pub mod Repeats
 pub mod Overlaps
 pub mod Verdicts
 pub mod EmptyModel
+pub mod TypeSizes
 pub mod Truths
 -- Worked examples
 pub mod Shorthands
