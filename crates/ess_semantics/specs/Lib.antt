@@ -4,6 +4,7 @@ pub mod Lists
 pub mod Values
 pub mod Order
 pub mod Names
+pub mod NameTokens
 pub mod Collections
 -- Trees and types
 pub mod Trees
