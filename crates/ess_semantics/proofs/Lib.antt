@@ -10,6 +10,7 @@ pub mod Overlaps
 pub mod Verdicts
 pub mod EmptyModel
 pub mod TypeSizes
+pub mod OptionLaws
 pub mod Truths
 -- Worked examples
 pub mod Shorthands

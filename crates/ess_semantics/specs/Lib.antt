@@ -71,6 +71,7 @@ pub mod Parameters
 pub mod Solutions
 -- Models
 pub mod Plans
+pub mod ChosenOptions
 pub mod ModelTrees
 pub mod ModelMeaning
 pub mod Satisfaction
