@@ -1,26 +1,14 @@
 -- The tokens of a text: white space and comments are passed over, and each token is the longest that fits.
 use Rattle.std.specs.Prelude.{◌≡◌, ◌<◌, slice_index, ℕ, zero, suc, ◌+◌, ◌-◌, ◌*◌, ◌^◌, Bool, true, false, ◌&&◌, ◌||◌, not, List, [], ◌∷◌, ◌++◌, length, take, drop, Option, Some, None, nat_eq, nat_le, codes}
 use Rattle.std.specs.Option.{option_map}
-use Rattle.std.specs.Char.{is_ascii_digit, is_ascii_alphabetic}
 use Rattle.std.specs.List.{list_all, position_or_len}
 use Rattle.ess_rows.specs.declared.place.Place.{Place}
 use Rattle.ess_semantics.specs.Values.{Text}
+pub use Rattle.ess_semantics.specs.NameTokens.{is_digit, is_letter, is_name_byte, is_name}
 use Rattle.ess_grammar.specs.Words.{Token, number, name, prime_word, same_text, look, words, symbols, lex_symbols, is_outside}
 use Rattle.ess_grammar.specs.Places.{is_line_feed, place}
 
 -- ---- bytes
-
--- a digit of ASCII
-abbrev pub is_digit : ℕ → Bool
-is_digit = is_ascii_digit
-
--- a letter of ASCII or `_`
-abbrev pub is_letter : ℕ → Bool
-is_letter b = is_ascii_alphabetic b || nat_eq b 95
-
--- what may stand in a name behind its first byte
-abbrev pub is_name_byte : ℕ → Bool
-is_name_byte b = is_letter b || is_digit b
 
 -- space, tab, carriage return, line feed
 abbrev pub is_white : ℕ → Bool
@@ -31,11 +19,6 @@ abbrev pub begins_comment : ℕ → Bool
 begins_comment b = nat_eq b 36
 
 -- ---- one token
-
--- a letter or `_`, then letters, digits or `_`
-abbrev pub is_name : Text → Bool
-is_name [] = false
-is_name (b ∷ bs) = is_letter b && list_all is_name_byte bs
 
 -- one or more digits
 abbrev pub is_number : Text → Bool

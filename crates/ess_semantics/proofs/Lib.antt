@@ -1,5 +1,6 @@
 -- Lemmas on the definitions
 pub mod Orders
+pub mod Texts
 pub mod Tests
 pub mod Sorting
 pub mod Runs
@@ -8,7 +9,10 @@ pub mod Multisets
 pub mod Repeats
 pub mod Overlaps
 pub mod Verdicts
+pub mod SatisfiedTables
 pub mod EmptyModel
+pub mod TypeSizes
+pub mod OptionLaws
 pub mod Truths
 -- Worked examples
 pub mod Shorthands

@@ -4,6 +4,7 @@ pub mod Lists
 pub mod Values
 pub mod Order
 pub mod Names
+pub mod NameTokens
 pub mod Collections
 -- Trees and types
 pub mod Trees
@@ -70,6 +71,7 @@ pub mod Parameters
 pub mod Solutions
 -- Models
 pub mod Plans
+pub mod ChosenOptions
 pub mod ModelTrees
 pub mod ModelMeaning
 pub mod Satisfaction

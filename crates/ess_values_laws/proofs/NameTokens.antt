@@ -11,7 +11,7 @@ use Rattle.ess_semantics.specs.Values.{Text, Value, item}
 use Rattle.ess_semantics.specs.Order.{same_text}
 use Rattle.ess_semantics.specs.Meaning.{TypeEntry, type_entry}
 use Rattle.ess_semantics.specs.Judgements.{are_digits, after_prefix}
-use Rattle.ess_semantics.specs.Judgements.{is_digit as is_decimal}
+use Rattle.ess_semantics.specs.NameTokens.{is_digit as is_decimal}
 use Rattle.ess_semantics.specs.Assignments.{unnamed_name}
 use Rattle.ess_semantics.specs.Literals.{number_of, unnamed_item, named_item, item_of_name}
 use Rattle.ess_semantics.proofs.Tests.{and-left, and-right, and-both, or-yes}
