@@ -6,6 +6,7 @@ pub mod Runs
 pub mod MemberLists
 pub mod Multisets
 pub mod Repeats
+pub mod Permutations
 pub mod Overlaps
 pub mod Verdicts
 pub mod EmptyModel
