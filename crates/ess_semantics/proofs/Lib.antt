@@ -32,6 +32,7 @@ pub mod ExamplesCanonicalRelations
 pub mod ExamplesAll
 pub mod ExamplesEdited
 pub mod ExamplesPlans
+pub mod ExamplesPositions
 pub mod ExamplesTrees
 pub mod ExamplesAttributes
 pub mod ExamplesViews
