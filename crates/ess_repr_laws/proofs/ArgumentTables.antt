@@ -9,6 +9,7 @@ use Rattle.ess_semantics.specs.Membership.{member}
 use Rattle.ess_semantics.specs.Tables.{Table, volume, cell_at, truth_number, is_cell}
 use Rattle.ess_semantics.specs.Cells.{Grid, Axes, row, every_cell}
 use Rattle.ess_semantics.specs.Layers.{chosen, count_true}
+use Rattle.ess_repr_laws.specs.Finite.{Complete}
 use Rattle.ess_semantics.proofs.Tests.{and-both}
 use Rattle.ess_semantics.proofs.Sorting.{all-holds, one-sorted-list}
 use Rattle.ess_repr_laws.proofs.RowsOfCells.{EachOf, EachIndex}
@@ -18,7 +19,6 @@ use Rattle.ess_repr_laws.proofs.Arguments.{Arguments, of-held, arguments-index}
 use Rattle.ess_repr_laws.proofs.TablesAndCells.{AxesDiffer, row-length}
 use Rattle.ess_repr_laws.proofs.ExactCells.{Exact, exact-items}
 use Rattle.ess_repr_laws.proofs.SideBySide.{Along, along-under, items-along, row-places}
-use Rattle.ess_repr_laws.proofs.CompleteLists.{Complete}
 use Rattle.ess_repr_laws.proofs.CellsOfMembers.{map-long}
 
 pub along-diagonal : {A : Type 0} (xs : List A) (R : A → A → Type 0) → Along xs xs R → AllOf xs (λ x. R x x)

@@ -13,6 +13,7 @@ use Rattle.ess_semantics.specs.Sizes.{occurrences, bound, product_bound}
 use Rattle.ess_semantics.specs.Layers.{each_repeated}
 use Rattle.ess_semantics.specs.ScalarLayers.{elements, nested_of, count_of_places}
 use Rattle.ess_semantics.specs.PartitionLayers.{members_numbered, part_number}
+use Rattle.ess_repr_laws.specs.Finite.{FiniteAtom, FiniteAtoms, Bounded, OccursBound, Finite, AllFinite}
 use Rattle.ess_semantics.proofs.Tests.{and-left, and-right}
 use Rattle.ess_semantics.proofs.Orders.{order_total, order_exact, texts_exact, equal-of, of_list-to_list, same_int-equal, same-itself, same-equal}
 use Rattle.ess_semantics.proofs.Sorting.{Distinct, Below, Rising, sorted-of, all-holds, one-sorted-list, sorted_once-rises, holds-sorted_once}
@@ -25,34 +26,14 @@ use Rattle.ess_semantics.proofs.Overlaps.{all_members, holds-append, no-overlap}
 use Rattle.ess_repr_laws.proofs.PartNumbers.{numbered-holds}
 use Rattle.ess_repr_laws.proofs.SideBySide.{Along}
 use Rattle.ess_repr_laws.proofs.CellsOfMembers.{Inside, map-long}
-use Rattle.ess_repr_laws.proofs.CompleteLists.{IsFinite, AreFinite, atom-complete}
-use Rattle.ess_repr_laws.proofs.Rooms.{Bounded}
+use Rattle.ess_repr_laws.proofs.CompleteLists.{atom-complete}
 use Rattle.ess_repr_laws.proofs.CellsOfOccurrences.{set-member, relation-member, members-of-tuples}
 use Rattle.ess_repr_laws.proofs.FunctionPairs.{FunctionMember, function-member, firsts, rises-firsts, each-pair, each-first, values-inside, paired, paired-again}
 use Rattle.ess_repr_laws.proofs.CellsOfMatrices.{Elements, elements-of}
-use Rattle.ess_repr_laws.proofs.Times.{mset-member, OccursBound, occurs-most, repeated-again}
+use Rattle.ess_repr_laws.proofs.Times.{mset-member, occurs-most, repeated-again}
 use Rattle.ess_repr_laws.proofs.Parts.{PartitionMember, partition-member, part-of, all-inside, parts-most}
 use Rattle.ess_repr_laws.proofs.CellsOfPartNumbers.{HasNumber, part-numbers, number-range}
 use Rattle.ess_repr_laws.proofs.Universes.{In, in-map, in-holds, holds-in, AllIn, lists-in, lists-length, heads-length, all-in, power-most, Universe, sorted, universe-bounds}
-
--- A finite domain: its ints have bounds, its multisets bound how often a member occurs.
-abbrev mutual
-  pub Finite : Domain → Type 0
-  Finite booleans = Unit {0}
-  Finite (integers ss) = IsTrue (is_some (members (integers ss)))
-  Finite (named t n) = Unit {0}
-  Finite (tuples ds) = AllAreFinite ds
-  Finite (records fs ds) = AllAreFinite ds
-  Finite (matrices is d) = AreFinite is × Finite d
-  Finite (sets ks d) = Finite d
-  Finite (msets ks d) = Finite d × OccursBound ks
-  Finite (functions ks d c) = Finite d × Finite c
-  Finite (relations ks ds) = AllAreFinite ds
-  Finite (partitions ks d) = Finite d
-
-  pub AllAreFinite : Domains → Type 0
-  AllAreFinite no_domains = Unit {0}
-  AllAreFinite (more_domains d ds) = Finite d × AllAreFinite ds
 
 -- ---- lists of members with bounded counts
 
@@ -134,14 +115,14 @@ sorted-set xs h = (weakly xs h, λ w. count-once xs w (sorted-distinct xs (sorte
 
 -- ---- atoms
 
-atom-universe : (d : Domain) → IsFinite d → length (member_list d) ≡ bound d → Universe (member d) (bound d)
+atom-universe : (d : Domain) → FiniteAtom d → length (member_list d) ≡ bound d → Universe (member d) (bound d)
 atom-universe d f e = record { us = member_list d; short = subst (λ k. length (member_list d) ≤ k) e (le_refl (length (member_list d))); all = atom-complete d f }
 
 items-length : (t : Text) (k n : ℕ) → length (items_from t k n) ≡ n
 items-length t k zero = refl
 items-length t k (suc n) = ap suc (items-length t (suc k) n)
 
-pub atom-exact : (d : Domain) → IsFinite d → length (member_list d) ≡ bound d
+pub atom-exact : (d : Domain) → FiniteAtom d → length (member_list d) ≡ bound d
 atom-exact booleans f = refl
 atom-exact (integers ss) f = refl
 atom-exact (named t n) f = items-length t 1 n
@@ -191,11 +172,11 @@ functions-universe ks d c u w = record {
 
 -- ---- matrices
 
-places-bound : (is : Domains) → AreFinite is → count_of_places is ≤ product_bound is
+places-bound : (is : Domains) → FiniteAtoms is → count_of_places is ≤ product_bound is
 places-bound no_domains f = le_refl 1
 places-bound (more_domains i is) f = mul-le-mul (subst (λ k. length (member_list i) ≤ k) (atom-exact i f.0) (le_refl (length (member_list i)))) (places-bound is f.1)
 
-matrices-universe : (is : Domains) (d : Domain) → AreFinite is → Universe (member d) (bound d) → Universe (member (matrices is d)) (bound (matrices is d))
+matrices-universe : (is : Domains) (d : Domain) → FiniteAtoms is → Universe (member d) (bound d) → Universe (member (matrices is d)) (bound (matrices is d))
 matrices-universe is d f u = record {
   us = map B choices;
   short = (let e : length (map B choices) ≡ length u.us ^ count_of_places is = map-long B choices ∙ lists-length (count_of_places is) u.us in
@@ -443,7 +424,7 @@ mutual
       (λ v h. let m = relation-member ks ds v h in let x = m.2 in let y = sorted-set m.0 x.rise in (m.0, m.1, y.0, members-of-tuples ds m.0 x.inside, y.1))
   universe (partitions ks d) f = partitions-universe ks d (universe d f)
 
-  universes : (ds : Domains) → AllAreFinite ds → Lists ds
+  universes : (ds : Domains) → AllFinite ds → Lists ds
   universes no_domains f = no-lists
   universes (more_domains d ds) f = more-lists d ds (universe d f.0) (universes ds f.1)
 

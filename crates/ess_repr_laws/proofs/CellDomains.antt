@@ -22,14 +22,15 @@ use Rattle.ess_semantics.specs.PartitionLayers.{partition_occurrence_layer, part
 use Rattle.ess_semantics.specs.Representations.{layer, width, widths, own_width, own_part, child_part, places, is_used}
 use Rattle.ess_semantics.specs.Declarations.{Declaration, widened, declared_own, under, leaves_out, declarations_below, declarations_of_children, axes_of}
 use Rattle.ess_semantics.specs.CanonicalTest.{own_cells_fit, slots_rise, child_is_canonical, children_are_canonical, canonical}
+use Rattle.ess_repr_laws.specs.Rooms.{HasDummy, Covered, AllCovered}
+use Rattle.ess_repr_laws.specs.CanonicalTables.{TablesFit}
+use Rattle.ess_semantics.specs.Atoms.{IsAtom}
 use Rattle.ess_semantics.proofs.Tests.{and-left, and-right, and-both, or-yes, if-so, if-not, or-right-no}
 use Rattle.ess_repr_laws.proofs.RowsOfCells.{own_axes, axes_of_children, axes_in, axes-of-layer}
 use Rattle.ess_repr_laws.proofs.SlotsUsed.{as_place, slots-are}
 use Rattle.ess_repr_laws.proofs.CanonicalParts.{asked_of, parts-of}
 use Rattle.ess_repr_laws.proofs.CanonicalPlaces.{AllOf, all-of-list, all-of-map, all-of-both}
 use Rattle.ess_semantics.proofs.Orders.{same_int-equal}
-use Rattle.ess_semantics.proofs.MemberLists.{IsAtom}
-use Rattle.ess_repr_laws.proofs.CanonicalForms.{HasDummy, Covered, AllCovered}
 use Rattle.ess_repr_laws.proofs.CellsOfMembers.{map-long}
 
 -- Each cell over the axes lies in the declared domain.
@@ -372,12 +373,6 @@ mutual
       (children-fit l own out u rs es h.1 (drop (width r) c) (and-right (child_is_canonical l own ass (canonical r e) c') (children_are_canonical l own rs es (drop (width r) c)) q))
 
 -- ---- items of tables
-
--- Each table is over its axes with items of its domain.
-abbrev pub TablesFit : List Declaration → Tables → Type 0
-TablesFit [] [] = Unit {0}
-TablesFit (d ∷ ds) (t ∷ ts) = (t.axes ≡ d.axes) × (list_all (is_cell d.cell) t.items ≡ true) × TablesFit ds ts
-TablesFit _ _ = ⊥
 
 pub row-fits : (as' : Axes) (p : ℤ → Bool) (f : Grid) → every_cell as' p f ≡ true → list_all p (row as' f) ≡ true
 row-fits [] p f h = go (f []) h

@@ -22,17 +22,18 @@ use Rattle.ess_semantics.specs.RelationLayers.{relation_from}
 use Rattle.ess_semantics.specs.FunctionLayers.{function_from}
 use Rattle.ess_semantics.specs.Representations.{layer, width, own_width}
 use Rattle.ess_semantics.specs.Declarations.{axes_of}
+use Rattle.ess_repr_laws.specs.Finite.{Complete, Bounded, IsFlagged, Enumerated}
+use Rattle.ess_repr_laws.specs.Rooms.{FunctionRoom}
+use Rattle.ess_semantics.specs.Atoms.{Listed}
 use Rattle.ess_semantics.proofs.Tests.{and-left, and-right, and-both, both-ways}
 use Rattle.ess_semantics.proofs.Orders.{to_list-of_list}
 use Rattle.ess_semantics.proofs.Sorting.{sorted-of, sorted_once-itself, distinct-twice, below-less, all-holds, one-sorted-list}
-use Rattle.ess_semantics.proofs.MemberLists.{Listed}
 use Rattle.ess_semantics.proofs.Repeats.{sorted-distinct}
 use Rattle.ess_repr_laws.proofs.CanonicalPlaces.{AllOf}
 use Rattle.ess_repr_laws.proofs.CellsOfMembers.{HasCells, MembersHaveCells, Slots, Laid, layer-cells, layer-wide, map-long}
-use Rattle.ess_repr_laws.proofs.CompleteLists.{Complete}
-use Rattle.ess_repr_laws.proofs.Rooms.{attribute-said, size-is, SaysSize, Bounded}
+use Rattle.ess_repr_laws.proofs.Rooms.{attribute-said, size-is, SaysSize}
 use Rattle.ess_repr_laws.proofs.CellsOfOccurrences.{RelationMember, relation-member, members-of-tuples}
-use Rattle.ess_repr_laws.proofs.FunctionPairs.{FunctionMember, function-member, firsts, rises-firsts, each-pair, each-first, pair-of, IsFlagged, flag-said, some-list}
+use Rattle.ess_repr_laws.proofs.FunctionPairs.{FunctionMember, function-member, firsts, rises-firsts, each-pair, each-first, pair-of, flag-said, some-list}
 
 -- ---- one value of another domain
 
@@ -171,12 +172,6 @@ keys_of (sets ks d) = ks
 keys_of (relations ks ds) = ks
 keys_of d = []
 
--- The members are listed, and are as many as the bound says.
-pub record Enumerated (d : Domain) : Type 0 where
-  pub listed : Listed d
-  pub complete : Complete d
-  pub exact : length (member_list d) ≡ bound d
-
 abbrev pair_keys : List Attribute → Domain → Bool → List Attribute
 pair_keys ks d total =
     if total then size_attributes (Some (bound d)) (attribute Key.MinSize ks) (attribute Key.MaxSize ks)
@@ -184,11 +179,6 @@ pair_keys ks d total =
 
 pair-keys : (ks : List Attribute) (d c : Domain) → keys_of (child_relation ks d c) ≡ pair_keys ks d (has Key.Total ks)
 pair-keys ks d c = refl
-
--- a total function is from an enumerable domain; any other one from one with a bound
-pub record FunctionRoom (ks : List Attribute) (d : Domain) : Type 0 where
-  pub total : has Key.Total ks ≡ true → IsFlagged Key.Total ks × Enumerated d
-  pub bounded : has Key.Total ks ≡ false → Bounded d
 
 pub total-said : (ks : List Attribute) (d c : Domain) (ps : List Value) → IsFlagged Key.Total ks → function_attributes_hold ks d c ps ≡ true → list_all (λ x. holds (firsts ps) x) (member_list d) ≡ true
 total-said ks d c ps t h =

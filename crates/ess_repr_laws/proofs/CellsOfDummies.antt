@@ -25,12 +25,12 @@ use Rattle.ess_semantics.specs.CanonicalTest.{own_cells_fit}
 use Rattle.ess_repr_laws.proofs.RowsOfCells.{own_axes}
 use Rattle.ess_semantics.specs.Layers.{OwnTable, Slot, as_numbers, widened_table}
 use Rattle.ess_semantics.specs.SetLayers.{dummy_of, with_number, but_dummy, dummies_last, holds_member, slot_below, dummies_rise, members_held}
+use Rattle.ess_repr_laws.specs.Rooms.{HasDummy, SetRoom}
 use Rattle.ess_semantics.proofs.Tests.{and-left, and-right, and-both, or-yes, run-length}
 use Rattle.ess_semantics.proofs.Orders.{same_int-equal, same_int-itself, to_list-of_list, text_exact, text_total, equal-of}
 use Rattle.ess_semantics.proofs.Sorting.{less-of, sorted_once-itself}
 use Rattle.ess_repr_laws.proofs.SlotsUsed.{as_place, slots-are}
 use Rattle.ess_repr_laws.proofs.CanonicalPlaces.{AllOf, all-of-list, places-index}
-use Rattle.ess_repr_laws.proofs.CanonicalForms.{HasDummy}
 use Rattle.ess_repr_laws.proofs.Dummies.{le-of}
 use Rattle.ess_repr_laws.proofs.ExactCells.{Exact, AllExact, exact-items, none-of}
 use Rattle.ess_repr_laws.proofs.SideBySide.{Along, along-all, left-under, items-along}
@@ -40,7 +40,7 @@ use Rattle.ess_repr_laws.proofs.CellsOfOccurrences.{SetMember, set-member, integ
 use Rattle.ess_repr_laws.proofs.ArgumentTables.{index-cell}
 use Rattle.ess_repr_laws.proofs.CellsOfSlots.{slots-differ}
 use Rattle.ess_repr_laws.proofs.CellsOfSets.{no-slot}
-use Rattle.ess_repr_laws.proofs.Rooms.{SetRoom, set-room}
+use Rattle.ess_repr_laws.proofs.Rooms.{set-room}
 
 -- m is the dummy of d: no member's number, and above each.
 pub record DummyOf (d : Domain) (m : ℤ) : Type 0 where

@@ -15,6 +15,7 @@ use Rattle.ess_semantics.specs.Layers.{OwnTable, Layer, everywhere, where_flagge
 use Rattle.ess_semantics.specs.FunctionLayers.{function_with}
 use Rattle.ess_semantics.specs.Representations.{layer, own_width}
 use Rattle.ess_semantics.specs.Canonical.{somes}
+use Rattle.ess_repr_laws.specs.Finite.{FiniteAtom, FiniteAtoms, Complete, IsFlagged}
 use Rattle.ess_semantics.proofs.Orders.{to_list-of_list}
 use Rattle.ess_semantics.proofs.Sorting.{sorted-of, all-holds}
 use Rattle.ess_repr_laws.proofs.CanonicalPlaces.{AllOf}
@@ -25,9 +26,9 @@ use Rattle.ess_repr_laws.proofs.TablesAndCells.{AxesDiffer}
 use Rattle.ess_repr_laws.proofs.SideBySide.{Along, left-under, length-along}
 use Rattle.ess_repr_laws.proofs.CellsOfMembers.{HasCells, MembersHaveCells, Good, Kept, Slots, slots-there, kept-good, kept-values, values_in, picked, Laid, layer-cells, layer-wide, map-long}
 use Rattle.ess_repr_laws.proofs.CellsOfOccurrences.{atom-axis, atom-axes, are-atoms, atoms-listed}
-use Rattle.ess_repr_laws.proofs.CompleteLists.{IsFinite, AreFinite, Complete, atom-complete, tuples-complete}
+use Rattle.ess_repr_laws.proofs.CompleteLists.{atom-complete, tuples-complete}
 use Rattle.ess_repr_laws.proofs.UsedPlaces.{chosen-picked, flags-exact, flags-fit, flags-cells, flags-used, flags-found}
-use Rattle.ess_repr_laws.proofs.FunctionPairs.{FunctionMember, function-member, rises-firsts, firsts, each-pair, each-first, values-inside, paired-again, IsFlagged, total-values}
+use Rattle.ess_repr_laws.proofs.FunctionPairs.{FunctionMember, function-member, rises-firsts, firsts, each-pair, each-first, values-inside, paired-again, total-values}
 
 -- ---- slots of values
 
@@ -203,14 +204,14 @@ module _ (r : Repr) (ks : List Attribute) (d c : Domain) (as' : Axes) (index : V
 
 -- ---- from an atom, and from tuples of atoms
 
-module _ (r : Repr) (ks : List Attribute) (d c : Domain) (finite : IsFinite d) (child : MembersHaveCells r c) where
+module _ (r : Repr) (ks : List Attribute) (d c : Domain) (finite : FiniteAtom d) (child : MembersHaveCells r c) where
   pub function-1d-members : IsFlagged Key.Total ks → MembersHaveCells (repr ReprKind.Function1D (more_reprs r no_reprs)) (functions ks d c)
   function-1d-members t = total-members r ks d c (codes_of d ∷ []) (λ x. code x ∷ []) (atom-arguments d (atom-listed d finite.0)) (atom-axis d finite.0, tt) (atom-complete d finite) child ReprKind.Function1D refl refl t
 
   pub function-1d-partial-members : MembersHaveCells (repr ReprKind.Function1DPartial (more_reprs r no_reprs)) (functions ks d c)
   function-1d-partial-members = partial-members r ks d c (codes_of d ∷ []) (λ x. code x ∷ []) (atom-arguments d (atom-listed d finite.0)) (atom-axis d finite.0, tt) (atom-complete d finite) child ReprKind.Function1DPartial refl refl
 
-module _ (r : Repr) (ks : List Attribute) (ds : Domains) (c : Domain) (finite : AreFinite ds) (child : MembersHaveCells r c) where
+module _ (r : Repr) (ks : List Attribute) (ds : Domains) (c : Domain) (finite : FiniteAtoms ds) (child : MembersHaveCells r c) where
   pub function-nd-members : IsFlagged Key.Total ks → MembersHaveCells (repr ReprKind.FunctionND (more_reprs r no_reprs)) (functions ks (tuples ds) c)
   function-nd-members t =
       total-members r ks (tuples ds) c (map codes_of (domain_list ds)) place_of (tuple-arguments ds (atoms-listed ds (are-atoms ds finite))) (atom-axes ds (are-atoms ds finite)) (tuples-complete ds finite) child ReprKind.FunctionND refl refl t

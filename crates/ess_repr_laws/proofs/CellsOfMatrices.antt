@@ -13,10 +13,10 @@ use Rattle.ess_semantics.specs.Tables.{volume, code}
 use Rattle.ess_semantics.specs.Cells.{Cells, Axes}
 use Rattle.ess_semantics.specs.Layers.{everywhere, codes_of, some_each, no_own_tables, only_child, always_canonical, always_tidy}
 use Rattle.ess_semantics.specs.ScalarLayers.{elements, nested_of, in_lists_of, count_of_places}
+use Rattle.ess_semantics.specs.Atoms.{AreAtoms}
 use Rattle.ess_semantics.proofs.Tests.{and-left, and-right, and-both}
 use Rattle.ess_semantics.proofs.Orders.{orders_exact, equal-of, of_list-to_list, to_list-of_list}
 use Rattle.ess_repr_laws.proofs.CanonicalPlaces.{AllOf}
-use Rattle.ess_semantics.proofs.MemberLists.{AreAtoms}
 use Rattle.ess_repr_laws.proofs.SideBySide.{length-along}
 use Rattle.ess_repr_laws.proofs.CellsOfMembers.{HasCells, MembersHaveCells, Kept, Slots, slots-there, kept-good, kept-values, Laid, layer-cells, layer-wide, map-long}
 use Rattle.ess_repr_laws.proofs.CellsOfOccurrences.{atom-axes}

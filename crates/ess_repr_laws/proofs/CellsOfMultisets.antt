@@ -21,6 +21,8 @@ use Rattle.ess_semantics.specs.SetLayers.{marker_table}
 use Rattle.ess_semantics.specs.MultisetLayers.{occurs, times_hold, counts_hold, slot_count}
 use Rattle.ess_semantics.specs.Representations.{slot_number}
 use Rattle.ess_semantics.specs.Declarations.{axes_of}
+use Rattle.ess_repr_laws.specs.Finite.{FiniteAtom, OccursBound}
+use Rattle.ess_repr_laws.specs.Rooms.{MsetRoom}
 use Rattle.ess_semantics.proofs.Tests.{and-left, and-right, and-both, or-yes}
 use Rattle.ess_semantics.proofs.Orders.{to_list-of_list, same-itself}
 use Rattle.ess_semantics.proofs.Sorting.{Distinct, sorted-of, sorted_once-rises, holds-sorted_once, all-sorted_once, all-holds, holds-all}
@@ -37,20 +39,20 @@ use Rattle.ess_repr_laws.proofs.SideBySide.{Along, along-map, along-right, left-
 use Rattle.ess_repr_laws.proofs.CellsOfMembers.{HasCells, MembersHaveCells, picked, layer-wide}
 use Rattle.ess_repr_laws.proofs.CellsWithoutChildren.{Alone, alone-wide, alone-cells}
 use Rattle.ess_repr_laws.proofs.CellsOfOccurrences.{atom-axis}
-use Rattle.ess_repr_laws.proofs.CompleteLists.{IsFinite, atom-complete}
+use Rattle.ess_repr_laws.proofs.CompleteLists.{atom-complete}
 use Rattle.ess_repr_laws.proofs.ArgumentTables.{argument-exact, argument-cells, argument-fit, argument-row}
 use Rattle.ess_repr_laws.proofs.SortedSlots.{ordered-weakly, ordered-sorted_once, perm-distinct, padded, padded-many, padded-length}
 use Rattle.ess_repr_laws.proofs.UsedPlaces.{run-used, take-picked, table-exact, table-cells, table-row, table-fit}
 use Rattle.ess_repr_laws.proofs.CellsOfSlots.{Slotted, slots-cells, slots-differ, slots-length}
 use Rattle.ess_repr_laws.proofs.CellsOfSets.{slot-many, no-slot}
-use Rattle.ess_repr_laws.proofs.Times.{MsetMember, mset-member, MsetRoom, mset-room, OccursBound, occurs-most, Among, among-sorted_once, repeated-again, sorted-again, counts-said, set-part, occurs-part, each-imply, sorted_once-most}
+use Rattle.ess_repr_laws.proofs.Times.{MsetMember, mset-member, mset-room, occurs-most, Among, among-sorted_once, repeated-again, sorted-again, counts-said, set-part, occurs-part, each-imply, sorted_once-most}
 
 pub up-to-fits : (u c : ℕ) → c ≤ u → is_cell (up_to u) (pos c) ≡ true
 up-to-fits u c h = ap (λ b. b || false) (and-both (nat_le 0 c) (nat_le c u) (le-leb 0 c (omega arith)) (le-leb c u h))
 
 -- ---- how often each member occurs
 
-module _ (d : Domain) (ks : List Attribute) (finite : IsFinite d) (bound : OccursBound ks) where
+module _ (d : Domain) (ks : List Attribute) (finite : FiniteAtom d) (bound : OccursBound ks) where
   abbrev axes : Axes
   axes = codes_of d ∷ []
 

@@ -13,9 +13,11 @@ use Rattle.ess_semantics.specs.Membership.{member, tuple_member}
 use Rattle.ess_semantics.specs.Tables.{Tables, code, atom_value, one_cell, row_of, truth_number, is_cell}
 use Rattle.ess_semantics.specs.Cells.{Axes, Cells, only_grid}
 use Rattle.ess_semantics.specs.Layers.{Slot, as_cell, codes_of, widened_table, fixed_table, chosen, own_row, count_true, always_tidy, always_canonical}
+use Rattle.ess_repr_laws.specs.Finite.{FiniteAtom, FiniteAtoms}
+use Rattle.ess_semantics.specs.Atoms.{IsAtom, AreAtoms}
 use Rattle.ess_semantics.proofs.Tests.{and-left, and-right, and-both}
 use Rattle.ess_semantics.proofs.Orders.{text_exact, equal-of, of_list-to_list, to_list-of_list}
-use Rattle.ess_semantics.proofs.MemberLists.{IsAtom, AreAtoms, atom-listed}
+use Rattle.ess_semantics.proofs.MemberLists.{atom-listed}
 use Rattle.ess_repr_laws.proofs.TupleMembers.{AllListed, place_of}
 use Rattle.ess_repr_laws.proofs.Arguments.{Arguments, atom-arguments, tuple-arguments}
 use Rattle.ess_repr_laws.proofs.AxesOfTables.{axes-differ}
@@ -23,7 +25,7 @@ use Rattle.ess_repr_laws.proofs.TablesAndCells.{NumbersDiffer, AxesDiffer}
 use Rattle.ess_repr_laws.proofs.ExactCells.{exact-items}
 use Rattle.ess_repr_laws.proofs.CellsOfMembers.{HasCells, MembersHaveCells}
 use Rattle.ess_repr_laws.proofs.CellsWithoutChildren.{Alone, alone-wide, alone-cells}
-use Rattle.ess_repr_laws.proofs.CompleteLists.{IsFinite, AreFinite, atom-complete, tuples-complete}
+use Rattle.ess_repr_laws.proofs.CompleteLists.{atom-complete, tuples-complete}
 use Rattle.ess_repr_laws.proofs.ArgumentTables.{argument-exact, occurrence-fits, occurrence-chosen, occurrence-count}
 
 -- ---- atoms
@@ -101,7 +103,7 @@ pub atom-axes : (ds : Domains) → AreAtoms ds → AxesDiffer (map codes_of (dom
 atom-axes no_domains a = tt
 atom-axes (more_domains d ds) a = (atom-axis d a.0, atom-axes ds a.1)
 
-pub are-atoms : (ds : Domains) → AreFinite ds → AreAtoms ds
+pub are-atoms : (ds : Domains) → FiniteAtoms ds → AreAtoms ds
 are-atoms no_domains f = tt
 are-atoms (more_domains d ds) f = (f.0.0, are-atoms ds f.1)
 
@@ -138,7 +140,7 @@ set-member ks d (node a_relation vs) h = cc
 set-member ks d (node a_partition vs) h = cc
 set-member ks d (node (a_record fs) vs) h = cc
 
-module _ (d : Domain) (ks : List Attribute) (finite : IsFinite d) where
+module _ (d : Domain) (ks : List Attribute) (finite : FiniteAtom d) where
   abbrev axes : Axes
   axes = codes_of d ∷ []
 
@@ -237,7 +239,7 @@ members-of-tuples ds (v ∷ vs) h =
     and-both (member (tuples ds) v) (list_all (member (tuples ds)) vs) (member-of-tuple ds v (and-left (tuple_member ds v) (list_all (tuple_member ds) vs) h))
     (members-of-tuples ds vs (and-right (tuple_member ds v) (list_all (tuple_member ds) vs) h))
 
-module _ (ds : Domains) (ks : List Attribute) (finite : AreFinite ds) where
+module _ (ds : Domains) (ks : List Attribute) (finite : FiniteAtoms ds) where
   abbrev tuple_axes : Axes
   tuple_axes = map codes_of (domain_list ds)
 

@@ -25,7 +25,7 @@ use Rattle.ess_semantics.proofs.Tests.{and-left, and-right, and-both, or-yes, or
 use Rattle.ess_semantics.proofs.Orders.{order_total, order_exact, orders_exact, same_int-equal, same_int-itself, same-itself, same-equal, to_list-of_list, of_list-to_list, text_exact, text_total, equal-of}
 use Rattle.ess_semantics.proofs.Sorting.{Distinct, less-of, below-less, below-has, holds-has, sorted-of, all-holds, one-sorted-list, sorted_once-rises, holds-sorted_once}
 use Rattle.ess_repr_laws.proofs.CanonicalPlaces.{AllOf}
-use Rattle.ess_semantics.proofs.MemberLists.{IsAtom, atom-listed}
+use Rattle.ess_semantics.proofs.MemberLists.{atom-listed}
 use Rattle.ess_repr_laws.proofs.Arguments.{Arguments, atom-arguments, of-held}
 use Rattle.ess_repr_laws.proofs.TablesAndCells.{AxesDiffer}
 use Rattle.ess_repr_laws.proofs.AxesOfTables.{run-differs}
@@ -37,12 +37,13 @@ use Rattle.ess_repr_laws.proofs.SideBySide.{Along}
 use Rattle.ess_repr_laws.proofs.CellsOfMembers.{HasCells, MembersHaveCells}
 use Rattle.ess_repr_laws.proofs.CellsWithoutChildren.{Alone, alone-wide, alone-cells}
 use Rattle.ess_repr_laws.proofs.CellsOfOccurrences.{atom-axis}
-use Rattle.ess_repr_laws.proofs.CompleteLists.{IsFinite, atom-complete}
+use Rattle.ess_repr_laws.proofs.CompleteLists.{atom-complete}
 use Rattle.ess_repr_laws.proofs.ArgumentTables.{argument-exact, argument-cells, argument-fit}
 use Rattle.ess_repr_laws.proofs.CellsOfDummies.{below-numbers, lt-test, nat-less}
-use Rattle.ess_repr_laws.proofs.Rooms.{Bounded}
 use Rattle.ess_repr_laws.proofs.Parts.{PartitionMember, partition-member, part-of, all-inside, parts-most, partition-again}
 use Rattle.std.proofs.lemmas.Int.{ints}
+use Rattle.ess_repr_laws.specs.Finite.{FiniteAtom, Bounded}
+use Rattle.ess_semantics.specs.Atoms.{IsAtom}
 
 -- ---- the order of atoms is that of their numbers
 
@@ -268,7 +269,7 @@ earlier f k (p ∷ ps) i r d x h = go (holds (items_of p) x) refl (sym (holds-ap
 
 -- ---- the layer
 
-module _ (d : Domain) (ks : List Attribute) (finite : IsFinite d) (bounded : Bounded d) where
+module _ (d : Domain) (ks : List Attribute) (finite : FiniteAtom d) (bounded : Bounded d) where
   abbrev axes : Axes
   axes = codes_of d ∷ []
 

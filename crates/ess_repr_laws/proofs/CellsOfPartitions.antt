@@ -14,10 +14,11 @@ use Rattle.ess_semantics.specs.Membership.{is_part, covers, member}
 use Rattle.ess_semantics.specs.Sizes.{bound, size_attributes, child_parts}
 use Rattle.ess_semantics.specs.Cells.{Cells}
 use Rattle.ess_semantics.specs.PartitionLayers.{is_partition_of, partition_from, partition_of_child}
+use Rattle.ess_repr_laws.specs.Finite.{Bounded}
 use Rattle.ess_semantics.proofs.Tests.{and-left, and-right, and-both}
 use Rattle.ess_semantics.proofs.Orders.{to_list-of_list}
 use Rattle.ess_repr_laws.proofs.CellsOfMembers.{HasCells, MembersHaveCells}
-use Rattle.ess_repr_laws.proofs.Rooms.{attribute-said, exactly, Bounded}
+use Rattle.ess_repr_laws.proofs.Rooms.{attribute-said, exactly}
 use Rattle.ess_repr_laws.proofs.CellsOfConversions.{converted-wide, converted-cells, sizes-hold, le-natural, natural-le}
 use Rattle.ess_repr_laws.proofs.Parts.{PartitionMember, partition-member, part-of, parts-most, partition-again}
 

@@ -20,6 +20,7 @@ use Rattle.ess_semantics.specs.Layers.{OwnTable, all_slots, up_to_marker, where_
 use Rattle.ess_semantics.specs.SetLayers.{marker_table}
 use Rattle.ess_semantics.specs.Representations.{slot_number}
 use Rattle.ess_semantics.specs.Declarations.{axes_of}
+use Rattle.ess_repr_laws.specs.Rooms.{SetRoom}
 use Rattle.ess_semantics.proofs.Tests.{and-both}
 use Rattle.ess_semantics.proofs.Orders.{to_list-of_list, same_int-equal}
 use Rattle.ess_semantics.proofs.Sorting.{Distinct, sorted-of, one-set, sorted_once-itself}
@@ -34,7 +35,7 @@ use Rattle.ess_repr_laws.proofs.CellsOfOccurrences.{SetMember, set-member}
 use Rattle.ess_repr_laws.proofs.SortedSlots.{Climbs, Ordered, ordered-sorted_once, perm-distinct, perm-length, padded, padded-somes, padded-many, padded-length}
 use Rattle.ess_repr_laws.proofs.UsedPlaces.{run-used, take-picked, flags-exact, flags-fit, flags-used, flags-found, flags-many}
 use Rattle.ess_repr_laws.proofs.CellsOfSlots.{Slotted, slots-cells, slots-differ, slots-length}
-use Rattle.ess_repr_laws.proofs.Rooms.{SetRoom, set-room, size-slots}
+use Rattle.ess_repr_laws.proofs.Rooms.{set-room, size-slots}
 
 -- the slots' values make the set
 pub set-built : (xs : List Value) (ts : List Slot) → rises itself xs ≡ true → Perm xs (map (λ s. s.0) ts) → set_of (map (λ s. s.0) ts) ≡ node a_set (of_list xs)

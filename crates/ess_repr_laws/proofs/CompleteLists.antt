@@ -10,25 +10,14 @@ use Rattle.ess_semantics.specs.Collections.{holds, sorted_once}
 use Rattle.ess_semantics.specs.Numbers.{natural}
 use Rattle.ess_semantics.specs.Domains.{Span, Domain, Domains, booleans, integers, named, tuples, no_domains, more_domains, numbers_up, interval, span_members, items_from, members, members_of_each, member_list, add_heads, lists_of}
 use Rattle.ess_semantics.specs.Membership.{in_span, member, member_of_each}
+use Rattle.ess_repr_laws.specs.Finite.{FiniteAtom, FiniteAtoms, Complete}
+use Rattle.ess_semantics.specs.Atoms.{IsAtom}
 use Rattle.ess_semantics.proofs.Tests.{and-left, and-right, or-yes, if-not}
 use Rattle.ess_semantics.proofs.Orders.{same-itself, same-equal, text_exact, equal-of, of_list-to_list}
 use Rattle.ess_semantics.proofs.Sorting.{holds-sorted_once}
 use Rattle.ess_semantics.proofs.Overlaps.{holds-append}
-use Rattle.ess_semantics.proofs.MemberLists.{IsAtom}
 use Rattle.ess_repr_laws.proofs.TupleMembers.{map-append}
 use Rattle.ess_repr_laws.proofs.Dummies.{le-of}
-
--- An atom whose members can be listed.
-abbrev pub IsFinite : Domain → Type 0
-IsFinite d = IsAtom d × IsTrue (is_some (members d))
-
-abbrev pub AreFinite : Domains → Type 0
-AreFinite no_domains = Unit {0}
-AreFinite (more_domains d ds) = IsFinite d × AreFinite ds
-
--- Each member is listed.
-abbrev pub Complete : Domain → Type 0
-Complete d = (v : Value) → member d v ≡ true → holds (member_list d) v ≡ true
 
 -- ---- named types
 
@@ -115,7 +104,7 @@ booleans-complete (number k) h = cc
 booleans-complete (item t k) h = cc
 booleans-complete (node k vs) h = cc
 
-pub atom-complete : (d : Domain) → IsFinite d → Complete d
+pub atom-complete : (d : Domain) → FiniteAtom d → Complete d
 atom-complete booleans f = booleans-complete
 atom-complete (integers ss) f = integers-complete ss f.1
 atom-complete (named t n) f = named-complete t n
@@ -159,7 +148,7 @@ lists-hold (vs ∷ ls) (x ∷ xs) h = heads-hold vs (lists_of ls) x xs h.0 (list
 lists-hold [] (x ∷ xs) h = absurd h
 lists-hold (vs ∷ ls) [] h = absurd h
 
-finite-lists : (ds : Domains) → AreFinite ds → (ls : List (List Value)) × (all_some (members_of_each ds) ≡ Some ls) × ((vs : Values) → member_of_each ds vs ≡ true → InEach ls (to_list vs))
+finite-lists : (ds : Domains) → FiniteAtoms ds → (ls : List (List Value)) × (all_some (members_of_each ds) ≡ Some ls) × ((vs : Values) → member_of_each ds vs ≡ true → InEach ls (to_list vs))
 finite-lists no_domains f = ([], refl, none)
   where
     none : (vs : Values) → member_of_each no_domains vs ≡ true → InEach [] (to_list vs)
@@ -180,7 +169,7 @@ finite-lists (more_domains d ds) f = go (members d) refl f.0.1 (finite-lists ds 
         each nil h = cc
         each (cons u us) h = (ap (λ o. holds (list_or_none o) u) (sym q) ∙ c u (and-left (member d u) (member_of_each ds us) h), r.2 us (and-right (member d u) (member_of_each ds us) h))
 
-pub tuples-complete : (ds : Domains) → AreFinite ds → Complete (tuples ds)
+pub tuples-complete : (ds : Domains) → FiniteAtoms ds → Complete (tuples ds)
 tuples-complete ds f (node a_tuple vs) h =
     let r = finite-lists ds f in
     ap (λ o. holds (list_or_none (option_map (λ ls. map T (lists_of ls)) o)) (tuple vs)) r.1

@@ -10,29 +10,30 @@ use Rattle.ess_semantics.specs.Collections.{holds, rises}
 use Rattle.ess_semantics.specs.Domains.{Domain, Domains, tuples, records, no_domains, more_domains, members, members_of_each, lists_of}
 use Rattle.ess_semantics.specs.Membership.{member, member_of_each}
 use Rattle.ess_semantics.specs.Sizes.{bound, product_bound}
+use Rattle.ess_repr_laws.specs.Finite.{FiniteAtom, Complete, Enumerated}
+use Rattle.ess_semantics.specs.Atoms.{Listed}
 use Rattle.ess_semantics.proofs.Tests.{and-left, and-right, and-both}
 use Rattle.ess_semantics.proofs.Orders.{texts_total, texts_exact, equal-of, of_list-to_list}
-use Rattle.ess_semantics.proofs.MemberLists.{Listed, atom-listed}
+use Rattle.ess_semantics.proofs.MemberLists.{atom-listed}
 use Rattle.ess_repr_laws.proofs.TupleMembers.{AllListed, tuples-listed}
 use Rattle.ess_repr_laws.proofs.CellsOfMembers.{map-long}
-use Rattle.ess_repr_laws.proofs.CompleteLists.{IsFinite, Complete, atom-complete, InEach, T, lists-hold}
-use Rattle.ess_repr_laws.proofs.CellsOfConversions.{Enumerated}
+use Rattle.ess_repr_laws.proofs.CompleteLists.{atom-complete, InEach, T, lists-hold}
 use Rattle.ess_repr_laws.proofs.Universes.{heads-length}
 use Rattle.ess_repr_laws.proofs.Bounds.{atom-exact}
 
 -- A listed domain: its members are there.
-pub record Enumerable (d : Domain) : Type 0 where
+pub record IsEnumerated (d : Domain) : Type 0 where
   pub there : IsTrue (is_some (members d))
   pub enumerated : Enumerated d
 
-pub atom-enumerable : (d : Domain) → IsFinite d → Enumerable d
+pub atom-enumerable : (d : Domain) → FiniteAtom d → IsEnumerated d
 atom-enumerable d f = record { there = f.1; enumerated = record { listed = atom-listed d f.0; complete = atom-complete d f; exact = atom-exact d f } }
 
-abbrev pub AllEnumerable : Domains → Type 0
-AllEnumerable no_domains = Unit {0}
-AllEnumerable (more_domains d ds) = Enumerable d × AllEnumerable ds
+abbrev pub AreEnumerated : Domains → Type 0
+AreEnumerated no_domains = Unit {0}
+AreEnumerated (more_domains d ds) = IsEnumerated d × AreEnumerated ds
 
-all-listed : (ds : Domains) → AllEnumerable ds → AllListed ds
+all-listed : (ds : Domains) → AreEnumerated ds → AllListed ds
 all-listed no_domains a = tt
 all-listed (more_domains d ds) a = let x = a.0 in let y = x.enumerated in (y.listed, all-listed ds a.1)
 
@@ -42,7 +43,7 @@ record Lists (ds : Domains) : Type 0 where
   each : (vs : Values) → member_of_each ds vs ≡ true → InEach ls (to_list vs)
   exact : length (lists_of ls) ≡ product_bound ds
 
-lists : (ds : Domains) → AllEnumerable ds → Lists ds
+lists : (ds : Domains) → AreEnumerated ds → Lists ds
 lists no_domains a = record { ls = []; are = refl; each = none; exact = refl }
   where
     none : (vs : Values) → member_of_each no_domains vs ≡ true → InEach [] (to_list vs)
@@ -50,7 +51,7 @@ lists no_domains a = record { ls = []; are = refl; each = none; exact = refl }
     none (cons v vs) h = cc
 lists (more_domains d ds) a = go (members d) refl h.there (lists ds a.1)
   where
-    h : Enumerable d
+    h : IsEnumerated d
     h = a.0
 
     e : Enumerated d
@@ -71,7 +72,7 @@ lists (more_domains d ds) a = go (members d) refl h.there (lists ds a.1)
 
 -- ---- tuples
 
-pub tuples-enumerable : (ds : Domains) → AllEnumerable ds → Enumerable (tuples ds)
+pub tuples-enumerable : (ds : Domains) → AreEnumerated ds → IsEnumerated (tuples ds)
 tuples-enumerable ds a = record {
   there = ap (λ o. is_some (option_map (λ ls. map T (lists_of ls)) o)) l.are;
   enumerated = record { listed = tuples-listed ds (all-listed ds a); complete = complete; exact = ap (λ o. length (list_or_none (option_map (λ ls. map T (lists_of ls)) o))) l.are ∙ map-long T (lists_of l.ls) ∙ l.exact };
@@ -121,7 +122,7 @@ module _ (fs : List Text) where
       (and-both (same_texts fs fs) (member_of_each ds (of_list m)) (ap is_eq (tied_itself texts_total fs)) (and-left (member_of_each ds (of_list m)) (list_all (member (tuples ds)) (map T ms)) h))
       (all-same ds ms (and-right (member_of_each ds (of_list m)) (list_all (member (tuples ds)) (map T ms)) h))
 
-  pub records-enumerable : (ds : Domains) → AllEnumerable ds → Enumerable (records fs ds)
+  pub records-enumerable : (ds : Domains) → AreEnumerated ds → IsEnumerated (records fs ds)
   records-enumerable ds a = record {
     there = ap (λ o. is_some (option_map (λ ls. map F (lists_of ls)) o)) l.are;
     enumerated = record {

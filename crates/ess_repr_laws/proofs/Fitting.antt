@@ -10,16 +10,11 @@ use Rattle.ess_semantics.specs.Domains.{interval, Span, Attribute, Domain, Domai
 use Rattle.ess_semantics.specs.Sizes.{greatest_size, size_attributes, bound, child_relation, child_set, child_parts}
 use Rattle.ess_semantics.specs.DomainJudgements.{bounds_occurrences}
 use Rattle.ess_semantics.specs.Kinds.{has_key, dom_list, is_closed_end, is_bounded, is_atom, is_one_cell, has_dummy, are_atoms, is_atom_tuple, size_marks, child_relation_form, child_set_form, child_parts_form, fits, all_fit}
+use Rattle.ess_repr_laws.specs.Rooms.{HasDummy, Roomy, AllRoomy, SetRoom, FunctionRoom}
+use Rattle.ess_repr_laws.specs.Finite.{FiniteAtom, FiniteAtoms, OccursBound, IsFlagged, Enumerated, Finite, AllFinite}
+use Rattle.ess_semantics.specs.Atoms.{IsAtom}
 use Rattle.ess_semantics.proofs.Tests.{and-left, and-right}
-use Rattle.ess_semantics.proofs.MemberLists.{IsAtom}
-use Rattle.ess_repr_laws.proofs.CanonicalForms.{HasDummy}
-use Rattle.ess_repr_laws.proofs.CompleteLists.{IsFinite, AreFinite}
-use Rattle.ess_repr_laws.proofs.Rooms.{SetRoom}
-use Rattle.ess_repr_laws.proofs.FunctionPairs.{IsFlagged}
-use Rattle.ess_repr_laws.proofs.CellsOfConversions.{Enumerated, FunctionRoom}
-use Rattle.ess_repr_laws.proofs.Times.{OccursBound}
-use Rattle.ess_repr_laws.proofs.Bounds.{Finite, AllAreFinite, finite-bounded}
-use Rattle.ess_repr_laws.proofs.MembersHaveTables.{Roomy, AllRoomy}
+use Rattle.ess_repr_laws.proofs.Bounds.{finite-bounded}
 
 -- ---- domain expressions and domains of one form
 
@@ -104,11 +99,11 @@ abbrev mutual
   pub Known : Domain → Type 0
   Known (tuples ds) = AllKnown ds
   Known (records fs ds) = AllKnown ds
-  Known (matrices is d) = AreFinite is × Known d
+  Known (matrices is d) = FiniteAtoms is × Known d
   Known (sets ks d) = (IsTrue (is_some (greatest_size ks)) ⊎ Finite d) × Known d
   Known (msets ks d) = OccursBound ks × (IsTrue (is_some (greatest_size ks)) ⊎ Finite d) × Known d
   Known (functions ks d c) = Finite d × Known c
-  Known (relations ks ds) = (IsTrue (is_some (greatest_size ks)) ⊎ AllAreFinite ds) × AllKnown ds
+  Known (relations ks ds) = (IsTrue (is_some (greatest_size ks)) ⊎ AllFinite ds) × AllKnown ds
   Known (partitions ks d) = Finite d
   Known d = Unit {0}
 
@@ -130,7 +125,7 @@ mutual
   finite-known (relations ks ds) f = (inr f, all-known ds f)
   finite-known (partitions ks d) f = f
 
-  all-known : (ds : Domains) → AllAreFinite ds → AllKnown ds
+  all-known : (ds : Domains) → AllFinite ds → AllKnown ds
   all-known no_domains f = tt
   all-known (more_domains d ds) f = (finite-known d f.0, all-known ds f.1)
 
@@ -169,17 +164,17 @@ bounded-finite (r ∷ rs) (s ∷ ss) b h =
     let x = some-is (all_some (map span_members (s ∷ ss))) (ranges-finite (r ∷ rs) (s ∷ ss) b h) in
     ap (λ o. is_some (option_map (λ ls. sorted_once (append_all ls)) o)) x.1
 
-atom-at : (d : Dom) (e : Domain) → Formed d e → same_form d e ≡ true → is_atom d ≡ true → IsFinite e
+atom-at : (d : Dom) (e : Domain) → Formed d e → same_form d e ≡ true → is_atom d ≡ true → FiniteAtom e
 atom-at bool_dom booleans f s a = (tt, refl)
 atom-at (int_dom rs es) (integers ss) f s a = (tt, bounded-finite rs ss a f)
 atom-at (name_dom x) (named t n) f s a = (tt, refl)
 atom-at (name_dom x) (integers ss) f s a = (tt, bounded-finite (both_ends ∷ []) ss refl f)
 atom-at d e f s a = cc
 
-pub atom-finite : (d : Dom) (e : Domain) → Formed d e → is_atom d ≡ true → IsFinite e
+pub atom-finite : (d : Dom) (e : Domain) → Formed d e → is_atom d ≡ true → FiniteAtom e
 atom-finite d e f a = atom-at d e f (formed-same d e f) a
 
-pub atoms-finite : (ds : Doms) (es : Domains) → AllFormed ds es → are_atoms ds ≡ true → AreFinite es
+pub atoms-finite : (ds : Doms) (es : Domains) → AllFormed ds es → are_atoms ds ≡ true → FiniteAtoms es
 atoms-finite no_doms no_domains f a = tt
 atoms-finite (more_doms d ds) (more_domains e es) f a = (atom-finite d e f.0 (and-left (is_atom d) (are_atoms ds) a), atoms-finite ds es f.1 (and-right (is_atom d) (are_atoms ds) a))
 atoms-finite no_doms (more_domains e es) f a = absurd f
@@ -193,7 +188,7 @@ one-cell (name_dom x) (integers ss) f s a = tt
 one-cell d e f s a = cc
 
 -- a finite atom's bound is one
-pub finite-of : (e : Domain) → IsFinite e → Finite e
+pub finite-of : (e : Domain) → FiniteAtom e → Finite e
 finite-of booleans f = tt
 finite-of (integers ss) f = f.1
 finite-of (named t n) f = tt
@@ -347,7 +342,7 @@ relation-known ms ks e f m fe kf = (inl (go (has Key.Total ks)), (finite-known e
 set-known : (ks : List Attribute) (es : Domains) → Known (relations ks es) → Known (child_set ks es)
 set-known ks es k = (go k.0, k.1)
   where
-    go : IsTrue (is_some (greatest_size ks)) ⊎ AllAreFinite es → IsTrue (is_some (greatest_size (size_attributes (attribute Key.Size ks) (attribute Key.MinSize ks) (attribute Key.MaxSize ks)))) ⊎ AllAreFinite es
+    go : IsTrue (is_some (greatest_size ks)) ⊎ AllFinite es → IsTrue (is_some (greatest_size (size_attributes (attribute Key.Size ks) (attribute Key.MinSize ks) (attribute Key.MaxSize ks)))) ⊎ AllFinite es
     go (inl h) = inl (ap is_some (keys-greatest (attribute Key.Size ks) (attribute Key.MinSize ks) (attribute Key.MaxSize ks)) ∙ h)
     go (inr f) = inr f
 
@@ -378,7 +373,7 @@ each-formed (more_doms d ds) (more_domains e es) f k = (f.0, k.0, each-formed ds
 each-formed no_doms (more_domains e es) f k = absurd f
 each-formed (more_doms d ds) no_domains f k = absurd f
 
-tuple-atoms : (d : Dom) (e : Domain) → Formed d e → same_form d e ≡ true → is_atom_tuple d ≡ true → (es : Domains) × (e ≡ tuples es) × AreFinite es
+tuple-atoms : (d : Dom) (e : Domain) → Formed d e → same_form d e ≡ true → is_atom_tuple d ≡ true → (es : Domains) × (e ≡ tuples es) × FiniteAtoms es
 tuple-atoms (tuple_dom ds) (tuples es) f s a = (es, refl, atoms-finite ds es f a)
 tuple-atoms d e f s a = cc
 

@@ -12,36 +12,17 @@ use Rattle.ess_semantics.specs.Sizes.{greatest_size}
 use Rattle.ess_semantics.specs.Kinds.{has_key, are_atoms, fits}
 use Rattle.ess_semantics.specs.DomainJudgements.{is_key, marks_among, bounds_occurrences, is_finite, are_finite, is_enumerable, are_enumerable, needs_known_slots, all_need_known_slots}
 use Rattle.ess_semantics.specs.Meaning.{Env, as_int, with_span, spans_of, attributes_of, named_domain, type_entry, meanings, domain_of, domains_of}
+use Rattle.ess_repr_laws.specs.Rooms.{Roomy}
+use Rattle.ess_repr_laws.specs.CanonicalTables.{OneForm}
+use Rattle.ess_repr_laws.specs.Finite.{OccursBound, is_flag, IsFlagged, Finite, AllFinite}
+use Rattle.ess_repr_laws.specs.WellFormed.{is_numbered, is_right, Well, AllWell}
 use Rattle.ess_semantics.proofs.Tests.{and-left, and-right, and-both, or-yes}
 use Rattle.ess_repr_laws.proofs.Rooms.{one-key}
-use Rattle.ess_repr_laws.proofs.FunctionPairs.{is_flag, IsFlagged}
-use Rattle.ess_repr_laws.proofs.Times.{OccursBound}
-use Rattle.ess_repr_laws.proofs.Bounds.{Finite, AllAreFinite}
-use Rattle.ess_repr_laws.proofs.Enumerables.{Enumerable, AllEnumerable, atom-enumerable, tuples-enumerable, records-enumerable}
+use Rattle.ess_repr_laws.proofs.Enumerables.{IsEnumerated, AreEnumerated, atom-enumerable, tuples-enumerable, records-enumerable}
 use Rattle.ess_repr_laws.proofs.Fitting.{Marked, Ranges, Formed, AllFormed, same_form, formed-same, Known, AllKnown, finite-known, atom-finite, finite-of, atoms-finite, fits-roomy}
-use Rattle.ess_repr_laws.proofs.MembersHaveTables.{Roomy, OneForm, one-form}
+use Rattle.ess_repr_laws.proofs.MembersHaveTables.{one-form}
 
 -- ---- marks
-
--- the attributes that have a number
-abbrev pub is_numbered : Key → Bool
-is_numbered Key.Reflexive = false
-is_numbered Key.Irreflexive = false
-is_numbered Key.Symmetric = false
-is_numbered Key.AntiSymmetric = false
-is_numbered Key.ASymmetric = false
-is_numbered Key.Transitive = false
-is_numbered Key.Total = false
-is_numbered Key.Injective = false
-is_numbered Key.Surjective = false
-is_numbered Key.Bijective = false
-is_numbered Key.Regular = false
-is_numbered _ = true
-
--- an attribute stands with a number where it has one
-abbrev pub is_right : Mark → Bool
-is_right (valued k) = is_numbered k
-is_right (flag k) = not (is_numbered k)
 
 -- marks and attributes side by side
 abbrev Parallel : List Mark → List Attribute → Type 0
@@ -188,7 +169,7 @@ ranges (high_end ∷ rs) (a ∷ os) ss e = go (as_int a) (spans_of rs os) refl e
 -- ---- enumerable domains
 
 mutual
-  enumerable : (d : Dom) (e : Domain) → Formed d e → same_form d e ≡ true → is_enumerable d ≡ true → Enumerable e
+  enumerable : (d : Dom) (e : Domain) → Formed d e → same_form d e ≡ true → is_enumerable d ≡ true → IsEnumerated e
   enumerable (tuple_dom ds) (tuples es) f s h = tuples-enumerable es (all-enumerable ds es f h)
   enumerable (record_dom fs ds) (records gs es) f s h = records-enumerable gs es (all-enumerable ds es f h)
   enumerable bool_dom e f s h = atom-enumerable e (atom-finite bool_dom e f h)
@@ -196,30 +177,13 @@ mutual
   enumerable (name_dom a) e f s h = atom-enumerable e (atom-finite (name_dom a) e f h)
   enumerable d e f s h = cc
 
-  all-enumerable : (ds : Doms) (es : Domains) → AllFormed ds es → are_enumerable ds ≡ true → AllEnumerable es
+  all-enumerable : (ds : Doms) (es : Domains) → AllFormed ds es → are_enumerable ds ≡ true → AreEnumerated es
   all-enumerable no_doms no_domains f h = tt
   all-enumerable no_doms (more_domains e es) f h = absurd f
   all-enumerable (more_doms d ds) no_domains f h = absurd f
   all-enumerable (more_doms d ds) (more_domains e es) f h = (enumerable d e f.0 (formed-same d e f.0) (and-left (is_enumerable d) (are_enumerable ds) h), all-enumerable ds es f.1 (and-right (is_enumerable d) (are_enumerable ds) h))
 
 -- ---- well-formed expressions
-
-abbrev mutual
-  -- Attributes stand with a number where they have one, index domains are atoms, total functions are from enumerable domains.
-  pub Well : Dom → Type 0
-  Well (tuple_dom ds) = AllWell ds
-  Well (record_dom fs ds) = AllWell ds
-  Well (matrix_dom is d) = (are_atoms is ≡ true) × AllWell is × Well d
-  Well (set_dom ms es d) = (list_all is_right ms ≡ true) × Well d
-  Well (mset_dom ms es d) = (list_all is_right ms ≡ true) × Well d
-  Well (function_dom ms es d c) = (list_all is_right ms ≡ true) × (has_key Key.Total ms ≡ true → is_enumerable d ≡ true) × Well d × Well c
-  Well (relation_dom ms es ds) = (list_all is_right ms ≡ true) × AllWell ds
-  Well (partition_dom ms es d) = (list_all is_right ms ≡ true) × Well d
-  Well d = Unit {0}
-
-  pub AllWell : Doms → Type 0
-  AllWell no_doms = Unit {0}
-  AllWell (more_doms d ds) = Well d × AllWell ds
 
 -- the parts of an option that is there
 map-some : {A B : Type 0} (f : A → B) (o : Option A) (y : B) → option_map f o ≡ Some y → (x : A) × (o ≡ Some x) × (f x ≡ y)
@@ -303,7 +267,7 @@ mutual
   dom-finite (partition_dom ms es d) (partitions ks e) f s h = dom-finite d e f.1 (formed-same d e f.1) h
   dom-finite d e f s h = cc
 
-  doms-finite : (ds : Doms) (es : Domains) → AllFormed ds es → are_finite ds ≡ true → AllAreFinite es
+  doms-finite : (ds : Doms) (es : Domains) → AllFormed ds es → are_finite ds ≡ true → AllFinite es
   doms-finite no_doms no_domains f h = tt
   doms-finite no_doms (more_domains e es) f h = absurd f
   doms-finite (more_doms d ds) no_domains f h = absurd f

@@ -11,6 +11,7 @@ use Rattle.ess_semantics.specs.Attributes.{size_holds, function_attributes_hold,
 use Rattle.ess_semantics.specs.Membership.{is_pair, member}
 use Rattle.ess_semantics.specs.FunctionLayers.{with_arguments}
 use Rattle.ess_semantics.specs.Canonical.{somes}
+use Rattle.ess_repr_laws.specs.Finite.{is_flag, IsFlagged}
 use Rattle.ess_semantics.proofs.Tests.{and-left, and-right, and-both, or-left-no, or-right-no, or-yes}
 use Rattle.ess_semantics.proofs.Orders.{order_total, same-itself, same-equal, of_list-to_list}
 use Rattle.ess_semantics.proofs.Sorting.{Below, Rising, below-has, below-on, not-itself, holds-has}
@@ -197,14 +198,6 @@ paired-again (x ∷ xs) (p ∷ ps) r s pr inc =
         differ w h true q = let z : true ≡ false = sym h ∙ ap (holds (firsts (p ∷ ps))) (sym (same-equal x w q)) ∙ apart x (firsts (p ∷ ps)) under in cc
 
 -- ---- total functions
-
--- the attribute stands without a number
-abbrev pub is_flag : Key → Attribute → Bool
-is_flag k (flagged l) = same_key k l
-is_flag k (numbered l n) = false
-
-abbrev pub IsFlagged : Key → List Attribute → Type 0
-IsFlagged k ks = list_any (is_flag k) ks ≡ true
 
 pub flag-said : (ks : List Attribute) (f : Key → ℤ → Bool) (g : Key → Bool) (k : Key) → each_holds ks f g ≡ true → IsFlagged k ks → g k ≡ true
 flag-said [] f g k h e = cc

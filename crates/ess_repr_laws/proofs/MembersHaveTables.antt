@@ -14,58 +14,24 @@ use Rattle.ess_semantics.specs.Declarations.{declarations, axes_of}
 use Rattle.ess_semantics.specs.Canonical.{tables_of_value}
 use Rattle.ess_semantics.specs.CanonicalTest.{canonical}
 use Rattle.ess_semantics.specs.Tidy.{over_axes}
-use Rattle.ess_semantics.proofs.MemberLists.{IsAtom}
-use Rattle.ess_repr_laws.proofs.CanonicalForms.{HasDummy, Covered, AllCovered}
-use Rattle.ess_repr_laws.proofs.CanonicalMatrices.{AllFinite}
+use Rattle.ess_repr_laws.specs.Rooms.{HasDummy, Covered, AllCovered, Roomy, AllRoomy, SetRoom, MsetRoom, FunctionRoom}
+use Rattle.ess_repr_laws.specs.CanonicalTables.{OneForm, TablesFit}
+use Rattle.ess_repr_laws.specs.Finite.{HaveLists, FiniteAtom, FiniteAtoms, Bounded, OccursBound, IsFlagged}
+use Rattle.ess_semantics.specs.Atoms.{IsAtom}
 use Rattle.ess_repr_laws.proofs.AxesOfTables.{canonical-once}
 use Rattle.ess_repr_laws.proofs.Behind.{behind-none}
 use Rattle.ess_repr_laws.proofs.CellsOfMembers.{MembersHaveCells, cells-tables}
-use Rattle.ess_repr_laws.proofs.CompleteLists.{IsFinite, AreFinite}
-use Rattle.ess_repr_laws.proofs.Rooms.{SetRoom, Bounded}
-use Rattle.ess_repr_laws.proofs.CellDomains.{TablesFit, tables-fit, canonical-fits}
+use Rattle.ess_repr_laws.proofs.CellDomains.{tables-fit, canonical-fits}
 use Rattle.ess_repr_laws.proofs.CellsOfOccurrences.{are-atoms, atom-members, occurrence-members, relation-matrix-members}
 use Rattle.ess_repr_laws.proofs.CellsOfSets.{explicit-members, marker-members, flags-members}
-use Rattle.ess_repr_laws.proofs.FunctionPairs.{IsFlagged}
 use Rattle.ess_repr_laws.proofs.CellsOfFunctions.{function-1d-members, function-1d-partial-members, function-nd-members, function-nd-partial-members}
-use Rattle.ess_repr_laws.proofs.CellsOfConversions.{relation-as-set-members, FunctionRoom, function-as-relation-members}
+use Rattle.ess_repr_laws.proofs.CellsOfConversions.{relation-as-set-members, function-as-relation-members}
 use Rattle.ess_repr_laws.proofs.CellsOfTuples.{AllHaveCells, tuple-members, record-members}
 use Rattle.ess_repr_laws.proofs.CellsOfMatrices.{matrix-members}
 use Rattle.ess_repr_laws.proofs.CellsOfDummies.{dummy-members}
-use Rattle.ess_repr_laws.proofs.Times.{OccursBound, MsetRoom}
 use Rattle.ess_repr_laws.proofs.CellsOfMultisets.{mset-occurrence-members, repetition-members, mset-flags-members}
 use Rattle.ess_repr_laws.proofs.CellsOfPartitions.{partition-as-set-members}
 use Rattle.ess_repr_laws.proofs.CellsOfPartNumbers.{partition-occurrence-members}
-
-abbrev mutual
-  -- The representation has room for each member of the domain.
-  pub Roomy : Repr → Domain → Type 0
-  Roomy (repr ReprKind.Atom no_reprs) d = IsAtom d
-  Roomy (repr ReprKind.Tuple rs) (tuples ds) = AllRoomy rs (domain_list ds)
-  Roomy (repr ReprKind.Rec rs) (records fs ds) = AllRoomy rs (domain_list ds)
-  Roomy (repr ReprKind.Matrix (more_reprs r no_reprs)) (matrices is d) = AreFinite is × Roomy r d
-  Roomy (repr ReprKind.Occurrence no_reprs) (sets ks d) = IsFinite d
-  Roomy (repr ReprKind.Explicit (more_reprs r no_reprs)) (sets ks d) = IsTrue (is_some (attribute Key.Size ks)) × Roomy r d
-  Roomy (repr ReprKind.ExplicitVarSizeWithMarker (more_reprs r no_reprs)) (sets ks d) = SetRoom ks d × Roomy r d
-  Roomy (repr ReprKind.ExplicitVarSizeWithFlags (more_reprs r no_reprs)) (sets ks d) = SetRoom ks d × Roomy r d
-  Roomy (repr ReprKind.ExplicitVarSizeWithDummy no_reprs) (sets ks d) = HasDummy d × SetRoom ks d
-  Roomy (repr ReprKind.MSetOccurrence no_reprs) (msets ks d) = IsFinite d × OccursBound ks
-  Roomy (repr ReprKind.MSetExplicitWithRepetition (more_reprs r no_reprs)) (msets ks d) = Roomy r d × MsetRoom ks d
-  Roomy (repr ReprKind.MSetExplicitWithFlags (more_reprs r no_reprs)) (msets ks d) = Roomy r d × MsetRoom ks d
-  Roomy (repr ReprKind.Function1D (more_reprs r no_reprs)) (functions ks d c) = IsFinite d × IsFlagged Key.Total ks × Roomy r c
-  Roomy (repr ReprKind.Function1DPartial (more_reprs r no_reprs)) (functions ks d c) = IsFinite d × Roomy r c
-  Roomy (repr ReprKind.FunctionND (more_reprs r no_reprs)) (functions ks (tuples ds) c) = AreFinite ds × IsFlagged Key.Total ks × Roomy r c
-  Roomy (repr ReprKind.FunctionNDPartial (more_reprs r no_reprs)) (functions ks (tuples ds) c) = AreFinite ds × Roomy r c
-  Roomy (repr ReprKind.FunctionAsRelation (more_reprs r no_reprs)) (functions ks d c) = FunctionRoom ks d × Roomy r (child_relation ks d c)
-  Roomy (repr ReprKind.RelationAsMatrix no_reprs) (relations ks ds) = AreFinite ds
-  Roomy (repr ReprKind.RelationAsSet (more_reprs r no_reprs)) (relations ks ds) = Roomy r (child_set ks ds)
-  Roomy (repr ReprKind.PartitionOccurrence no_reprs) (partitions ks d) = IsFinite d × Bounded d
-  Roomy (repr ReprKind.PartitionAsSet (more_reprs r no_reprs)) (partitions ks d) = Bounded d × Roomy r (child_parts ks d)
-  Roomy _ d = ⊥
-
-  pub AllRoomy : Reprs → List Domain → Type 0
-  AllRoomy no_reprs [] = Unit {0}
-  AllRoomy (more_reprs r rs) (d ∷ ds) = Roomy r d × AllRoomy rs ds
-  AllRoomy _ _ = ⊥
 
 mutual
   pub members_have_cells : (r : Repr) (d : Domain) → Roomy r d → MembersHaveCells r d
@@ -100,7 +66,7 @@ mutual
 
 -- ---- the same as for the other parts
 
-all-finite : (is : Domains) → AreFinite is → AllFinite is
+all-finite : (is : Domains) → FiniteAtoms is → HaveLists is
 all-finite no_domains f = tt
 all-finite (more_domains d ds) f = (f.0.1, all-finite ds f.1)
 
@@ -134,17 +100,6 @@ mutual
   all-covered (more_reprs r rs) (d ∷ ds) h = (roomy-covered r d h.0, all-covered rs ds h.1)
   all-covered no_reprs (d ∷ ds) h = absurd h
   all-covered (more_reprs r rs) [] h = absurd h
-
--- The canonical tables of a member: they are over the declared axes with items in the declared domains, canonical, stand
--- for the member, and are the only ones.
-pub record OneForm (r : Repr) (d : Domain) (v : Value) : Type 0 where
-  pub tables : Tables
-  pub there : tables_of_value r d v ≡ Some tables
-  pub over : over_axes [] (axes_of r d) tables ≡ true
-  pub fit : TablesFit (declarations r d) tables
-  pub passes : canonical r d (cells_of tables) ≡ true
-  pub stands : value_of_tables r d tables [] ≡ Some v
-  pub only : (ts : Tables) → over_axes [] (axes_of r d) ts ≡ true → canonical r d (cells_of ts) ≡ true → value_of_tables r d ts [] ≡ Some v → ts ≡ tables
 
 -- Each member has one canonical form.
 pub one-form : (r : Repr) (d : Domain) → Roomy r d → (v : Value) → member d v ≡ true → OneForm r d v

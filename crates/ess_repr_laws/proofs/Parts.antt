@@ -8,11 +8,11 @@ use Rattle.ess_semantics.specs.Domains.{Attribute, Domain, partitions, members}
 use Rattle.ess_semantics.specs.Attributes.{partition_attributes_hold}
 use Rattle.ess_semantics.specs.Membership.{is_part, covers, member}
 use Rattle.ess_semantics.specs.Sizes.{bound}
+use Rattle.ess_repr_laws.specs.Finite.{Bounded}
 use Rattle.ess_semantics.proofs.Tests.{and-left, and-right, and-both, not-true}
 use Rattle.ess_semantics.proofs.Orders.{of_list-to_list}
 use Rattle.ess_semantics.proofs.Sorting.{sorted_once-rises, sorted_once-length, sorted_once-itself, all-sorted_once}
 use Rattle.ess_semantics.proofs.Overlaps.{all_members, no-overlap}
-use Rattle.ess_repr_laws.proofs.Rooms.{Bounded}
 
 -- what membership of a partition says
 pub record PartitionMember (ks : List Attribute) (d : Domain) (ps : List Value) : Type 0 where

@@ -8,12 +8,13 @@ use Rattle.ess_semantics.specs.Tables.{Tables, volume, item_in, cell_at, is_cell
 use Rattle.ess_semantics.specs.Cells.{Axes, cells_of, every_cell}
 use Rattle.ess_semantics.specs.Declarations.{Declaration}
 use Rattle.ess_semantics.specs.Tidy.{over_axes}
+use Rattle.ess_repr_laws.specs.CanonicalTables.{TablesFit}
 use Rattle.ess_semantics.proofs.Tests.{and-left, and-right, and-both}
 use Rattle.ess_repr_laws.proofs.CanonicalPlaces.{all-of-list, places-index}
 use Rattle.ess_repr_laws.proofs.TablesAndCells.{AxesDiffer, AllAxesDiffer}
 use Rattle.ess_repr_laws.proofs.SideBySide.{Along, along-all, items-along}
 use Rattle.ess_repr_laws.proofs.ArgumentTables.{index-cell}
-use Rattle.ess_repr_laws.proofs.CellDomains.{cells_fit, TablesFit}
+use Rattle.ess_repr_laws.proofs.CellDomains.{cells_fit}
 
 items-within : (as' : Axes) (p : ℤ → Bool) (xs : List ℤ) → AxesDiffer as' → length xs ≡ volume as' → list_all p xs ≡ true → every_cell as' p (item_in as' xs) ≡ true
 items-within as' p xs d e h =

@@ -16,12 +16,14 @@ use Rattle.ess_semantics.specs.Membership.{member}
 use Rattle.ess_semantics.specs.Sizes.{greatest_size, occurrences, bound, slots_of_mset}
 use Rattle.ess_semantics.specs.Layers.{total, each_repeated}
 use Rattle.ess_semantics.specs.MultisetLayers.{times_hold, counts_hold}
+use Rattle.ess_repr_laws.specs.Finite.{Bounded, OccursBound}
+use Rattle.ess_repr_laws.specs.Rooms.{MsetRoom}
 use Rattle.ess_semantics.proofs.Tests.{and-left, and-right, and-both, or-yes}
 use Rattle.ess_semantics.proofs.Orders.{same-equal, of_list-to_list}
 use Rattle.ess_semantics.proofs.Sorting.{Distinct, sorted-of, sorted_once-rises, holds-sorted_once, all-sorted_once, all-holds}
 use Rattle.ess_semantics.proofs.Multisets.{one-sorted-bag, sorted-rises, count-sorted, sorted-length, count-holds}
 use Rattle.ess_semantics.proofs.Repeats.{count-append, count-replicate, sorted-distinct, repeated-weakly, of-weakly, repeated-length}
-use Rattle.ess_repr_laws.proofs.Rooms.{attribute-said, greatest-is, Bounded}
+use Rattle.ess_repr_laws.proofs.Rooms.{attribute-said, greatest-is}
 use Rattle.ess_repr_laws.proofs.CellsOfMembers.{map-long}
 
 -- ---- counts
@@ -127,10 +129,6 @@ count-most (x ∷ xs) w = go (same x w) (count-most xs w)
     go true h = omega arith
     go false h = omega arith
 
--- A number bounds how often a member occurs.
-abbrev pub OccursBound : List Attribute → Type 0
-OccursBound ks = IsTrue (is_some (or_else (attribute Key.MaxOccur ks) (greatest_size ks)))
-
 pub occurs-most : (ks : List Attribute) → OccursBound ks → (xs : List Value) → mset_attributes_hold ks xs ≡ true → (w : Value) → count xs w ≤ occurrences ks
 occurs-most ks b xs h w = go (attribute Key.MaxOccur ks) refl b
   where
@@ -198,10 +196,6 @@ mset-member ks d (node a_function vs) h = cc
 mset-member ks d (node a_relation vs) h = cc
 mset-member ks d (node a_partition vs) h = cc
 mset-member ks d (node (a_record fs) vs) h = cc
-
--- The number of slots is given, or the bound of the inner domain is one, and occurrences are bounded.
-abbrev pub MsetRoom : List Attribute → Domain → Type 0
-MsetRoom ks d = OccursBound ks × (IsTrue (is_some (greatest_size ks)) ⊎ Bounded d)
 
 pub among-sorted_once : (xs : List Value) → Among xs (sorted_once xs)
 among-sorted_once xs w h = holds-sorted_once xs w ∙ h

@@ -7,13 +7,13 @@ use Rattle.ess_semantics.specs.Collections.{holds, sorted_once, rises}
 use Rattle.ess_semantics.specs.Domains.{Domain, add_heads, lists_of}
 use Rattle.ess_semantics.specs.Membership.{member}
 use Rattle.ess_semantics.specs.Sizes.{bound}
+use Rattle.ess_repr_laws.specs.Finite.{Bounded}
 use Rattle.ess_semantics.proofs.Tests.{or-yes}
 use Rattle.ess_semantics.proofs.Orders.{same-itself, same-equal}
 use Rattle.ess_semantics.proofs.Sorting.{Distinct, sorted-of, sorted_once-rises, holds-sorted_once, all-holds}
 use Rattle.ess_semantics.proofs.Repeats.{sorted-distinct}
 use Rattle.ess_repr_laws.proofs.CanonicalPlaces.{AllOf}
 use Rattle.ess_repr_laws.proofs.CellsOfMembers.{map-long}
-use Rattle.ess_repr_laws.proofs.Rooms.{Bounded}
 use Rattle.ess_repr_laws.proofs.Times.{sorted_once-most}
 
 -- ---- items of lists
