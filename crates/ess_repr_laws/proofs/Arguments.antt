@@ -11,12 +11,12 @@ use Rattle.ess_semantics.specs.Tables.{code, truth_of}
 use Rattle.ess_semantics.specs.Cells.{Grid, Axes, every_cell}
 use Rattle.ess_semantics.specs.Layers.{codes_of, chosen}
 use Rattle.ess_semantics.specs.FunctionLayers.{with_arguments}
+use Rattle.ess_semantics.specs.Atoms.{Listed}
 use Rattle.ess_semantics.proofs.Tests.{and-left, and-right, and-both}
 use Rattle.ess_semantics.proofs.Orders.{same-equal}
 use Rattle.ess_repr_laws.proofs.RowsOfCells.{EachOf, each-map, each-of-all, EachIndex, Agree}
 use Rattle.ess_repr_laws.proofs.SlotsUsed.{as_place, slots-are}
 use Rattle.ess_repr_laws.proofs.CanonicalPlaces.{AllOf, places-index}
-use Rattle.ess_semantics.proofs.MemberLists.{Listed}
 use Rattle.ess_repr_laws.proofs.TupleMembers.{AllListed, tuples-listed, place_of, tuple-places}
 
 -- The members of d rise, and `index` gives their places among the axes, in order.

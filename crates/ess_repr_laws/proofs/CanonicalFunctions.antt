@@ -15,13 +15,14 @@ use Rattle.ess_semantics.specs.Layers.{Layer, codes_of, only_child}
 use Rattle.ess_semantics.specs.FunctionLayers.{with_arguments, function_with, total_layer}
 use Rattle.ess_semantics.specs.Representations.{width, value_of_cells, values_of_children}
 use Rattle.ess_semantics.specs.Tidy.{are_orderly}
+use Rattle.ess_repr_laws.specs.CanonicalTables.{Right}
+use Rattle.ess_semantics.specs.Atoms.{Listed}
 use Rattle.ess_semantics.proofs.Tests.{and-both}
 use Rattle.ess_semantics.proofs.Orders.{to_list-of_list}
 use Rattle.ess_repr_laws.proofs.RowsOfCells.{axes-of-layer, axes_of_children}
 use Rattle.ess_repr_laws.proofs.OneForm.{values-length}
-use Rattle.ess_repr_laws.proofs.CanonicalParts.{Right, Parts, parts-of, asked_of, value_of_layer, value-of-parts}
+use Rattle.ess_repr_laws.proofs.CanonicalParts.{Parts, parts-of, asked_of, value_of_layer, value-of-parts}
 use Rattle.ess_repr_laws.proofs.CanonicalPlaces.{all_places, children-once, children-members, children-orderly, first-child}
-use Rattle.ess_semantics.proofs.MemberLists.{Listed}
 use Rattle.ess_repr_laws.proofs.TupleMembers.{AllListed, place_of}
 use Rattle.ess_repr_laws.proofs.Arguments.{Arguments, atom-arguments, tuple-arguments, arguments-once, arguments-rise, arguments-members}
 

@@ -18,15 +18,16 @@ use Rattle.ess_semantics.specs.Representations.{width, places_in_use, is_used, v
 use Rattle.ess_semantics.specs.Declarations.{axes_of}
 use Rattle.ess_semantics.specs.CanonicalTest.{child_is_canonical, canonical}
 use Rattle.ess_semantics.specs.Tidy.{is_orderly, are_orderly}
+use Rattle.ess_repr_laws.specs.CanonicalTables.{Right}
+use Rattle.ess_semantics.specs.Atoms.{Listed}
 use Rattle.ess_semantics.proofs.Tests.{and-left, and-right, and-both, if-so, if-not, or-yes}
 use Rattle.ess_semantics.proofs.Orders.{same-itself}
 use Rattle.ess_repr_laws.proofs.RowsOfCells.{agree-row, zeros-same, axes-of-layer, axes_of_children}
 use Rattle.ess_repr_laws.proofs.SlotsUsed.{bit-cell}
 use Rattle.ess_repr_laws.proofs.OneForm.{values-length}
-use Rattle.ess_repr_laws.proofs.CanonicalParts.{Right, Parts, parts-of, asked_of, value_of_layer, value-of-parts, OnlyChild, only-child, only-child-rows}
+use Rattle.ess_repr_laws.proofs.CanonicalParts.{Parts, parts-of, asked_of, value_of_layer, value-of-parts, OnlyChild, only-child, only-child-rows}
 use Rattle.ess_repr_laws.proofs.CanonicalPlaces.{AllOf, all-of-list, all-of-map, values-same, values-all, list-of-all}
 use Rattle.ess_repr_laws.proofs.Chosen.{Bit, on, chosen-there, chosen-holds, chosen-once, chosen-rises, chosen-all}
-use Rattle.ess_semantics.proofs.MemberLists.{Listed}
 use Rattle.ess_repr_laws.proofs.TupleMembers.{AllListed, place_of}
 use Rattle.ess_repr_laws.proofs.Arguments.{Arguments, atom-arguments, tuple-arguments, arguments-index, cell-arguments, agree-arguments, chosen-map, each_of-under, of-held, all-of-under, under-all-of}
 use Rattle.ess_repr_laws.proofs.CanonicalFunctions.{function-member, same-pairs}

@@ -14,12 +14,6 @@ use Rattle.ess_semantics.specs.Tidy.{tidy_cells}
 use Rattle.ess_semantics.proofs.Tests.{and-left, and-right, some-and}
 use Rattle.ess_repr_laws.proofs.RowsOfCells.{EachIndex, axes_of_children, rows-append, rows-under}
 
--- Canonical cells stand for a value, those that stand for one value have the same rows, and they are tidy.
-pub record Right (r : Repr) (d : Domain) : Type 0 where
-  pub sound : (c : Cells) → canonical r d c ≡ true → (v : Value) × (value_of_cells r d c ≡ Some v)
-  pub unique : (c c' : Cells) → canonical r d c ≡ true → canonical r d c' ≡ true → value_of_cells r d c ≡ value_of_cells r d c' → rows (axes_of r d) c ≡ rows (axes_of r d) c'
-  pub tidies : (c : Cells) → canonical r d c ≡ true → tidy_cells r d c ≡ true
-
 -- ---- the parts of a layer
 
 -- what is asked of a layer whose own cells and whose children's cells are these

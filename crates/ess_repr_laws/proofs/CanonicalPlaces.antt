@@ -13,9 +13,10 @@ use Rattle.ess_semantics.specs.Representations.{width, value_of_cells, values_of
 use Rattle.ess_semantics.specs.Declarations.{axes_of}
 use Rattle.ess_semantics.specs.CanonicalTest.{child_is_canonical, children_are_canonical, canonical}
 use Rattle.ess_semantics.specs.Tidy.{is_orderly, are_orderly}
+use Rattle.ess_repr_laws.specs.CanonicalTables.{Right}
 use Rattle.ess_semantics.proofs.Tests.{and-left, and-right, and-both}
 use Rattle.ess_repr_laws.proofs.RowsOfCells.{EachOf, EachIndex, axes_of_children, rows-under}
-use Rattle.ess_repr_laws.proofs.CanonicalParts.{Right, child-long, rows-of-child}
+use Rattle.ess_repr_laws.proofs.CanonicalParts.{child-long, rows-of-child}
 
 -- Each representation is right over its domain.
 abbrev pub AllRight : Reprs → List Domain → Type 0

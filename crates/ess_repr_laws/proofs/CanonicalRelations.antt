@@ -17,11 +17,12 @@ use Rattle.ess_semantics.specs.Representations.{value_of_cells, values_of_childr
 use Rattle.ess_semantics.specs.Declarations.{axes_of}
 use Rattle.ess_semantics.specs.CanonicalTest.{canonical}
 use Rattle.ess_semantics.specs.Tidy.{are_orderly, tidy_cells}
+use Rattle.ess_repr_laws.specs.CanonicalTables.{Right}
 use Rattle.ess_semantics.proofs.Tests.{and-left, and-right, and-both}
 use Rattle.ess_semantics.proofs.Orders.{to_list-of_list}
 use Rattle.ess_repr_laws.proofs.RowsOfCells.{agree-row, axes_of_children}
 use Rattle.ess_repr_laws.proofs.SlotsUsed.{bit-cell}
-use Rattle.ess_repr_laws.proofs.CanonicalParts.{Right, Parts, parts-of, asked_of, value_of_layer, value-of-parts}
+use Rattle.ess_repr_laws.proofs.CanonicalParts.{Parts, parts-of, asked_of, value_of_layer, value-of-parts}
 use Rattle.ess_repr_laws.proofs.CanonicalPlaces.{AllOf, all-of-map, all_places, children-once, AllMembers, children-members, children-orderly}
 use Rattle.ess_repr_laws.proofs.CanonicalScalars.{singles}
 use Rattle.ess_repr_laws.proofs.Chosen.{Bit, chosen-there, chosen-once, chosen-rises, chosen-all}

@@ -15,10 +15,11 @@ use Rattle.ess_semantics.specs.Layers.{Layer, as_cell, always_canonical, first_o
 use Rattle.ess_semantics.specs.ScalarLayers.{atom_layer, each_alone, compound_items}
 use Rattle.ess_semantics.specs.Representations.{width, value_of_cells, values_of_children}
 use Rattle.ess_semantics.specs.Tidy.{are_orderly}
+use Rattle.ess_repr_laws.specs.CanonicalTables.{Right}
 use Rattle.ess_semantics.proofs.Tests.{and-left, and-right, and-both, some-and}
 use Rattle.ess_semantics.proofs.Orders.{to_list-of_list, same_int-equal, text_total, texts_total}
 use Rattle.ess_repr_laws.proofs.RowsOfCells.{axes-of-layer, axes_of_children}
-use Rattle.ess_repr_laws.proofs.CanonicalParts.{Right, Parts, parts-of, asked_of, value_of_layer, value-of-parts}
+use Rattle.ess_repr_laws.proofs.CanonicalParts.{Parts, parts-of, asked_of, value_of_layer, value-of-parts}
 use Rattle.ess_repr_laws.proofs.CanonicalPlaces.{AllRight, all_places, children-once, AllMembers, children-members, children-orderly, first-child}
 
 -- ---- atoms

@@ -18,10 +18,11 @@ use Rattle.ess_semantics.specs.Representations.{own_part, child_part, value_of_c
 use Rattle.ess_semantics.specs.Declarations.{axes_of}
 use Rattle.ess_semantics.specs.CanonicalTest.{canonical}
 use Rattle.ess_semantics.specs.Tidy.{tidy_cells}
+use Rattle.ess_repr_laws.specs.CanonicalTables.{Right}
 use Rattle.ess_semantics.proofs.Tests.{and-left}
 use Rattle.ess_repr_laws.proofs.RowsOfCells.{Agree, agree-row, axes-of-layer, axes_of_children}
 use Rattle.ess_repr_laws.proofs.SlotsUsed.{all_slots-used, marker-cell, marker-used, FlagsUsed, flags-used, each-run}
-use Rattle.ess_repr_laws.proofs.CanonicalParts.{Right, Parts, parts-of}
+use Rattle.ess_repr_laws.proofs.CanonicalParts.{Parts, parts-of}
 use Rattle.ess_repr_laws.proofs.CanonicalSlots.{Held, held, held-tidy, held-once}
 
 -- ---- flags as a row

@@ -20,13 +20,14 @@ use Rattle.ess_semantics.specs.Representations.{width, is_used, places_in_use, v
 use Rattle.ess_semantics.specs.Declarations.{axes_of}
 use Rattle.ess_semantics.specs.CanonicalTest.{next_slot, in_use_first, slots_rise, child_is_canonical, canonical}
 use Rattle.ess_semantics.specs.Tidy.{is_orderly, are_orderly}
+use Rattle.ess_repr_laws.specs.CanonicalTables.{Right}
 use Rattle.ess_semantics.proofs.Tests.{and-left, and-right, and-both, if-so, if-not, run-all, run-length}
 use Rattle.ess_semantics.proofs.Orders.{to_list-of_list}
 use Rattle.ess_semantics.proofs.Sorting.{less-of, sorted_once-rises, all-sorted_once, sorted_once-length, holds-sorted_once, distinct-twice}
 use Rattle.ess_repr_laws.proofs.RowsOfCells.{EachIndex, axes_of_children}
 use Rattle.ess_repr_laws.proofs.SlotsUsed.{SlotsUsed, as_place, slots-are, all-map, each_of-map, each-slot, each-run}
 use Rattle.ess_repr_laws.proofs.OneForm.{Filled, filled-once, filled-distinct, values-length, each-value}
-use Rattle.ess_repr_laws.proofs.CanonicalParts.{Right, Parts, value_of_layer, value-of-parts, only-child, only-child-rows}
+use Rattle.ess_repr_laws.proofs.CanonicalParts.{Parts, value_of_layer, value-of-parts, only-child, only-child-rows}
 
 -- ---- slots in use, from one layer of the inner domain
 

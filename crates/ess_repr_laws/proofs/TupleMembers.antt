@@ -11,12 +11,12 @@ use Rattle.ess_semantics.specs.Domains.{Domain, Domains, tuples, no_domains, mor
 use Rattle.ess_semantics.specs.Membership.{member, member_of_each}
 use Rattle.ess_semantics.specs.Tables.{code}
 use Rattle.ess_semantics.specs.Layers.{codes_of}
+use Rattle.ess_semantics.specs.Atoms.{Listed}
 use Rattle.ess_semantics.proofs.Tests.{and-left, and-right, and-both}
 use Rattle.ess_semantics.proofs.Orders.{order_total, to_list-of_list}
 use Rattle.ess_semantics.proofs.Sorting.{Below, Rising, sorted-of}
 use Rattle.ess_repr_laws.proofs.CanonicalPlaces.{AllOf}
 use Rattle.ess_repr_laws.proofs.Chosen.{of-sorted}
-use Rattle.ess_semantics.proofs.MemberLists.{Listed}
 
 -- Each domain's members are listed.
 abbrev pub AllListed : Domains → Type 0

@@ -1,0 +1,6 @@
+-- Finite domains, room, well-formed expressions
+pub mod Finite
+pub mod Rooms
+pub mod WellFormed
+-- Canonical tables
+pub mod CanonicalTables

@@ -7,6 +7,7 @@ pub mod Runs
 pub mod MemberLists
 pub mod Multisets
 pub mod Repeats
+pub mod Permutations
 pub mod Overlaps
 pub mod Verdicts
 pub mod SatisfiedTables
@@ -35,6 +36,7 @@ pub mod ExamplesCanonicalRelations
 pub mod ExamplesAll
 pub mod ExamplesEdited
 pub mod ExamplesPlans
+pub mod ExamplesPositions
 pub mod ExamplesTrees
 pub mod ExamplesAttributes
 pub mod ExamplesViews

@@ -18,6 +18,7 @@ pub mod Operators
 pub mod Domains
 pub mod Attributes
 pub mod Membership
+pub mod Atoms
 pub mod Sizes
 -- Tables and cells, and the representations of each kind of value
 pub mod Tables

@@ -8,6 +8,7 @@ use Rattle.ess_semantics.specs.Order.{same, same_int, same_text}
 use Rattle.ess_semantics.specs.Names.{Names, look, keys, without}
 use Rattle.ess_semantics.specs.Trees.{Repr, Dom, Stm, given, given_enum, find}
 use Rattle.ess_semantics.specs.Domains.{Domain, integers}
+use Rattle.ess_semantics.specs.Membership.{member}
 use Rattle.ess_semantics.specs.Tables.{Table, Tables, one_cell, cell_at}
 use Rattle.ess_semantics.specs.Representations.{value_of_tables}
 use Rattle.ess_semantics.specs.Declarations.{Declaration, declarations, cell_count}
@@ -15,6 +16,7 @@ use Rattle.ess_semantics.specs.Canonical.{tables_of_value}
 use Rattle.ess_semantics.specs.Choice.{default_repr, all_reprs}
 use Rattle.ess_semantics.specs.TableNames.{Named, table_names, named_tables, free_name}
 use Rattle.ess_semantics.specs.Meaning.{Env, domain_of}
+use Rattle.ess_semantics.specs.Positions.{with_positions, domain_with_positions}
 use Rattle.ess_semantics.specs.Prepared.{prepared}
 use Rattle.ess_semantics.specs.Assignments.{Assignment, nothing_given, value_of, env_of}
 use Rattle.ess_semantics.specs.Parameters.{all_declared}
@@ -115,10 +117,14 @@ table_list f S o = names_of_plans (plans_for f S o)
 abbrev pub from_one : Domain
 from_one = integers (record { low = Some (pos 1); high = None } ∷ [])
 
+-- The closed domain at which a plan speaks: views over tables have the same one.
+abbrev pub plan_domain : Dom → Env → Option Domain
+plan_domain d env = option_map domain_with_positions (domain_of d env)
+
 -- The declarations of a plan's tables.
 abbrev pub declared_by_plan : Env → Plan → List Declaration
 declared_by_plan env (size_plan t a) = record { axes = []; cell = from_one } ∷ []
-declared_by_plan env (value_plan f x r d ns) = list_or_none (option_map (declarations r) (domain_of d env))
+declared_by_plan env (value_plan f x r d ns) = list_or_none (option_map (declarations r) (plan_domain d env))
 
 -- The axes and cell domains of the tables, under the parameter p.
 abbrev pub declared_under : Bool → List Stm → Options → Assignment → List Declaration
@@ -127,7 +133,7 @@ declared_under f S o p = append_all (map (declared_by_plan (env_of S p nothing_g
 -- The number of cells of a plan.
 abbrev pub cells_of_plan : Env → Plan → ℕ
 cells_of_plan env (size_plan t a) = 1
-cells_of_plan env (value_plan f x r d ns) = or_default (option_map (cell_count r) (domain_of d env)) 0
+cells_of_plan env (value_plan f x r d ns) = or_default (option_map (cell_count r) (plan_domain d env)) 0
 
 -- The number of cells of a given or find under the parameter p, over all of its representations.
 abbrev pub cells_of_name : List Stm → Options → Assignment → Text → ℕ
@@ -155,11 +161,16 @@ same_value v o = is_some_and o (same v)
 abbrev pub same_number : ℕ → Option Table → Bool
 same_number n o = is_some_and o (λ t. is_some_and (cell_at t []) (λ k. same_int k (pos n)))
 
+-- The value is a member of the domain, and the tables stand for it: at the domain with positions for the value with
+-- positions.
+abbrev pub stands_for_member : Repr → Domain → Tables → Value → Bool
+stands_for_member r e ts v = member e v && same_value (with_positions v) (value_of_tables r (domain_with_positions e) ts [])
+
 -- Under one plan the tables stand for what the assignment gives.
 abbrev pub plan_stands : Env → Assignment → Names Table → Plan → Bool
 plan_stands env a c (size_plan t n) = is_some_and (look a.types t) (λ ns. same_number (length ns) (look c n))
 plan_stands env a c (value_plan f x r d ns) =
-    is_some_and (value_of a x) (λ v. is_some_and (domain_of d env) (λ e. is_some_and (tables_named c ns) (λ ts. same_value v (value_of_tables r e ts []))))
+    is_some_and (value_of a x) (λ v. is_some_and (domain_of d env) (λ e. is_some_and (tables_named c ns) (λ ts. stands_for_member r e ts v)))
 
 -- The names that have values in an assignment of the finds, or of the givens.
 abbrev pub value_names : Bool → List Stm → List Text
@@ -197,7 +208,7 @@ abbrev pub is_plan_of : Text → Plan → Bool
 is_plan_of x (size_plan t a) = false
 is_plan_of x (value_plan f y r d ns) = f && same_text y x
 
--- The value that the tables of one plan stand for.
+-- The value that the tables of one plan stand for, with the types of the domain.
 abbrev pub value_by_plan : Env → Names Table → Plan → Option Value
 value_by_plan env c (size_plan t a) = None
 value_by_plan env c (value_plan f x r d ns) =
@@ -224,7 +235,7 @@ name_tables ns ts = zip (keys ns) ts
 abbrev pub canonical_by_plan : Env → Assignment → Plan → Option (Names Table)
 canonical_by_plan env a (size_plan t n) = option_map (λ ns. (n, one_cell (pos (length ns))) ∷ []) (look a.types t)
 canonical_by_plan env a (value_plan f x r d ns) =
-    and_then (value_of a x) (λ v. and_then (domain_of d env) (λ e. option_map (name_tables ns) (tables_of_value r e v)))
+    and_then (value_of a x) (λ v. and_then (plan_domain d env) (λ e. option_map (name_tables ns) (tables_of_value r e (with_positions v))))
 
 -- The canonical tables of the finds, or of the givens, in the assignment a under the parameter p.
 abbrev pub canonical_tables : Bool → List Stm → Options → Assignment → Assignment → Option (Names Table)
