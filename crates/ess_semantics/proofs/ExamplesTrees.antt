@@ -1,13 +1,13 @@
 -- Worked examples of trees as they are rewritten: resolving, contexts, totality, structures, substitution and scope.
-use Rattle.std.specs.Prelude.{◌≡◌, refl, true, false, List, [], ◌∷◌, Some, codes}
+use Rattle.std.specs.Prelude.{◌≡◌, refl, Bool, true, false, List, [], ◌∷◌, Some, codes}
 use Rattle.ess_semantics.specs.declared.words.Op1.{Op1}
 use Rattle.ess_semantics.specs.declared.words.Op2.{Op2}
 use Rattle.ess_semantics.specs.declared.words.Fun.{Fun}
 use Rattle.ess_semantics.specs.declared.words.Key.{Key}
-use Rattle.ess_semantics.specs.Values.{Text, Value, truth, pair}
+use Rattle.ess_semantics.specs.Values.{Text, a_function, Value, truth, node, nil, cons, pair}
 use Rattle.ess_semantics.specs.Names.{Names}
 use Rattle.ess_semantics.specs.Collections.{set_of}
-use Rattle.ess_semantics.specs.Trees.{by_value, to_component, to_field, binary, index, application, name_pat, Ex, truth_ex, node_ex, plain_node, comp_ex, no_gens, over, from, cond, Dom, bool_dom, tuple_dom, record_dom, matrix_dom, set_dom, function_dom, valued, no_doms, more_doms, no_exs, more_exs, Stm, given, find, such_that, let_ex}
+use Rattle.ess_semantics.specs.Trees.{by_value, to_component, to_field, binary, word, index, application, name_pat, Ex, truth_ex, node_ex, plain_node, comp_ex, no_gens, over, from, cond, Dom, bool_dom, tuple_dom, record_dom, matrix_dom, set_dom, function_dom, relation_dom, valued, no_doms, more_doms, no_exs, more_exs, Stm, given, find, such_that, let_ex}
 use Rattle.ess_semantics.specs.Types.{Ty, int_ty, type_of_dom}
 use Rattle.ess_semantics.specs.Resolving.{resolve, IsResolved}
 use Rattle.ess_semantics.specs.Prepared.{prepared}
@@ -32,6 +32,9 @@ a = codes "a"
 
 abbrev typed : Dom → Names Ty
 typed d = (x, type_of_dom d) ∷ []
+
+abbrev with_x : Value → Env
+with_x w = record empty_env { vals = (x, w) ∷ [] }
 
 -- ---- what an index is depends on the type reached
 
@@ -63,11 +66,28 @@ each_step_by_its_type = refl
 resolved_stays : IsResolved (resolve deep deep_types) deep_types
 resolved_stays = refl
 
-truth_of_function : resolve (app (N x) (n 1)) (typed (function_dom [] no_exs (upto 2) bool_dom)) ≡ node_ex true application (es2 (N x) (n 1))
+-- a function at an argument is `image`, a relation at a tuple stays an application
+truth_of_function : resolve (app (N x) (n 1)) (typed (function_dom [] no_exs (upto 2) bool_dom)) ≡ node_ex true (word Fun.Image) (es2 (N x) (n 1))
 truth_of_function = refl
 
-number_of_function : resolve (app (N x) (n 1)) (typed (function_dom [] no_exs (upto 2) (upto 2))) ≡ node_ex false application (es2 (N x) (n 1))
+number_of_function : resolve (app (N x) (n 1)) (typed (function_dom [] no_exs (upto 2) (upto 2))) ≡ node_ex false (word Fun.Image) (es2 (N x) (n 1))
 number_of_function = refl
+
+abbrev pairs : Dom
+pairs = relation_dom [] no_exs (ds2 (upto 2) (upto 2))
+
+abbrev at_pair : Bool → Ex
+at_pair b = node_ex b application (more_exs (N x) (es2 (n 1) (n 2)))
+
+truth_of_relation : resolve (at_pair false) (typed pairs) ≡ at_pair true
+truth_of_relation = refl
+
+resolved_function_stays : IsResolved (resolve (app (N x) (n 1)) (typed (function_dom [] no_exs (upto 2) bool_dom))) (typed (function_dom [] no_exs (upto 2) bool_dom))
+resolved_function_stays = refl
+
+-- a function at an argument has the value that it had as an application
+value_of_function : meaning (resolve (app (N x) (n 1)) (typed (function_dom [] no_exs (upto 2) (upto 2)))) (with_x (node a_function (cons (pair (v 1) (v 7)) nil))) ≡ Some (v 7)
+value_of_function = refl
 
 -- a bound name has the type of its generator
 under_generators : resolve (comp_ex (at (N y) (n 1)) (from (name_pat y) (N x) no_gens)) (typed (set (tuple_dom (ds2 bool_dom bool_dom)))) ≡
@@ -105,9 +125,6 @@ put_in_and_resolved : prepared (let_ex y (n 1) ∷ find x (tuple_dom (ds2 bool_d
 put_in_and_resolved = refl
 
 -- ---- contexts: a part counts where the left operands of `/\` and `->` are true, and under its generators
-
-abbrev with_x : Value → Env
-with_x w = record empty_env { vals = (x, w) ∷ [] }
 
 -- the open part of x = 1 -> [..]
 abbrev behind_arrow : In
