@@ -44,6 +44,9 @@ pub mod TypeMembers
 pub mod Occurrences
 -- Contexts, structures, scope, and what rules keep
 pub mod Contexts
+pub mod NamesAt
+pub mod StaysAt
+pub mod Typed
 pub mod Meets
 pub mod Kept
 pub mod Full
