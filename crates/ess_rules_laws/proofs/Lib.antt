@@ -3,6 +3,7 @@ pub mod Bindings
 pub mod Replacement
 pub mod Steps
 pub mod Kept
+pub mod KeptUnder
 pub mod Places
 pub mod Agreement
 pub mod MeetsSimulation

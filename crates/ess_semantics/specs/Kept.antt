@@ -13,10 +13,13 @@ use Rattle.ess_semantics.specs.Meaning.{Env, meaning}
 use Rattle.ess_semantics.specs.Meets.{Meets}
 use Rattle.ess_semantics.specs.Typed.{Typed}
 
--- Under every env with the property P that meets the structures of the old expression, the new one means the same, and the
--- env meets its structures too.
+-- Where the env meets the structures of the old expression, the new one means the same, and the env meets its structures too.
+abbrev pub Keeps : Ex → Ex → Env → Type 0
+Keeps old new env = Meets old env → (meaning old env ≡ meaning new env) × Meets new env
+
+-- So it is under every env with the property P.
 abbrev pub KeptWhere : (Env → Type 0) → Ex → Ex → Type 0
-KeptWhere P old new = (env : Env) → P env → Meets old env → (meaning old env ≡ meaning new env) × Meets new env
+KeptWhere P old new = (env : Env) → P env → Keeps old new env
 
 -- The same where the property is one of an env under the types of its names, g at the place of the expression.
 abbrev pub KeptUnder : (Names Ty → Env → Type 0) → Names Ty → Ex → Ex → Type 0
