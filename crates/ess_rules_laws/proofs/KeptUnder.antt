@@ -1,12 +1,11 @@
 -- A rule that keeps a part under the types of its names keeps the whole, wherever the part stands.
-use Rattle.std.proofs.Common.{Bool, true, false, List, [], ◌∷◌, Option, Some, None}
-use Rattle.ess_semantics.specs.Values.{Value}
+use Rattle.std.proofs.Common.{Bool, false}
 use Rattle.ess_semantics.specs.Names.{Names}
-use Rattle.ess_semantics.specs.Trees.{Pat, Ex, Gens, no_gens, over, from, cond}
+use Rattle.ess_semantics.specs.Trees.{Ex, Gens, no_gens, over, from, cond}
 use Rattle.ess_semantics.specs.Types.{Ty, type_of_dom, bind_types}
 use Rattle.ess_semantics.specs.Typing.{source_ty}
 use Rattle.ess_semantics.specs.Meaning.{Env, with_pat, meaning, domain_of, members_in}
-use Rattle.ess_semantics.specs.Contexts.{In, Ins, InGens, InDom, InDoms, hole, in_operand, in_item, in_index_domain, in_body, in_generators, in_cell_index, in_view_domain, in_view_index, in_first, in_later, in_generator_domain, behind_over, in_source, behind_from, in_condition, behind_condition, in_bound, in_component, in_field, in_index, in_element, in_set_number, in_set_member, in_mset_number, in_mset_member, in_function_number, in_argument, in_result, in_relation_number, in_relation_component, in_partition_number, in_partition_member, in_first_domain, in_later_domain, fill, guards, Guarded, AtEach, Where, WhereIn, WhereGens, WhereDom, WhereDoms}
+use Rattle.ess_semantics.specs.Contexts.{In, Ins, InGens, InDom, InDoms, hole, in_operand, in_item, in_index_domain, in_body, in_generators, in_cell_index, in_view_domain, in_view_index, in_first, in_later, in_generator_domain, behind_over, in_source, behind_from, in_condition, behind_condition, in_bound, in_component, in_field, in_index, in_element, in_set_number, in_set_member, in_mset_number, in_mset_member, in_function_number, in_argument, in_result, in_relation_number, in_relation_component, in_partition_number, in_partition_member, in_first_domain, in_later_domain, fill, guards, AtEach, Where, WhereIn, WhereGens, WhereDom, WhereDoms}
 use Rattle.ess_rules_laws.proofs.Bindings.{each-of-map, each-in-map}
 use Rattle.ess_rules_laws.proofs.Kept.{kept-itself, kept-chain, guarded-true}
 use Rattle.ess_rules_laws.proofs.Steps.{step}

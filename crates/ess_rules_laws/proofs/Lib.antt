@@ -6,6 +6,7 @@ pub mod Kept
 pub mod KeptUnder
 pub mod Places
 pub mod Agreement
+pub mod FreeNames
 pub mod MeetsSimulation
 pub mod UsedNames
 pub mod ViewDomains

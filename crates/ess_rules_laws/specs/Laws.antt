@@ -1,11 +1,11 @@
 -- Laws of rewriting, each stated at a function that does nothing, so that its proof is checked with the code.
-use Rattle.std.specs.Prelude.{◌≡◌, true, not, ◌∷◌}
+use Rattle.std.specs.Prelude.{◌≡◌, not, ◌∷◌}
 use Rattle.ess_semantics.specs.Values.{Text, Value}
 use Rattle.ess_semantics.specs.Order.{same_text}
 use Rattle.ess_semantics.specs.Names.{Names}
 use Rattle.ess_semantics.specs.Trees.{Ex}
 use Rattle.ess_semantics.specs.Types.{Ty}
-use Rattle.ess_semantics.specs.Substitution.{NamesAre}
+use Rattle.ess_semantics.specs.FreeNames.{FreeNamesAre}
 use Rattle.ess_semantics.specs.Meaning.{Env, meaning}
 use Rattle.ess_semantics.specs.Contexts.{In, fill, Where}
 use Rattle.ess_semantics.specs.NamesAt.{names_at}
@@ -14,10 +14,10 @@ use Rattle.ess_semantics.specs.Typed.{Typed}
 use Rattle.ess_semantics.specs.Kept.{Keeps, Kept}
 use Rattle.ess_rules_laws.specs.Rewriting.{Rewritten}
 
--- A value of a name that doesn't occur in an expression changes no meaning, with tables or without. So a bound name may be
--- any name that occurs nowhere else.
+-- A value of a name that isn't free in an expression changes no meaning, with tables or without. So a bound name may be any
+-- name that isn't free there, and one that a parameter brings may be bound.
 abbrev pub UnusedNamesChangeNothing : Type 0
-UnusedNamesChangeNothing = (x : Text) (v : Value) (e : Ex) (env : Env) → NamesAre (λ a. not (same_text x a)) (λ a. true) e →
+UnusedNamesChangeNothing = (x : Text) (v : Value) (e : Ex) (env : Env) → FreeNamesAre (λ a. not (same_text x a)) e →
     meaning e (record env { vals = (x, v) ∷ env.vals }) ≡ meaning e env
 
 -- A part of a tree may be replaced by one that means the same wherever the context of the part holds.

@@ -2,8 +2,8 @@
 
 ghost use Rattle.ess_rules_laws.specs.Laws.{UnusedNamesChangeNothing, PartsMayBeReplaced, StepsKeepTheWhole, KeptPartsKeepTheWhole, RewritingKeepsTheWhole};
 
-/// A value of a name that doesn't occur in an expression changes no meaning. So a bound name may be any name that occurs
-/// nowhere else.
+/// A value of a name that isn't free in an expression changes no meaning. So a bound name may be any name that isn't free
+/// there, and one that a parameter brings may be bound.
 pub fn unused_names_change_nothing()
     ensures { UnusedNamesChangeNothing }
 {}

@@ -54,6 +54,7 @@ pub mod Totality
 pub mod Refined
 pub mod Substitution
 pub mod Scoped
+pub mod FreeNames
 -- Numbers outside 64 bits, and positions
 pub mod Large
 pub mod Positions
