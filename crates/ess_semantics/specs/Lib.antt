@@ -46,6 +46,9 @@ pub mod TypeMembers
 pub mod Occurrences
 -- Contexts, structures, scope, and what rules keep
 pub mod Contexts
+pub mod NamesAt
+pub mod StaysAt
+pub mod Typed
 pub mod Meets
 pub mod Kept
 pub mod Full
@@ -53,6 +56,7 @@ pub mod Totality
 pub mod Refined
 pub mod Substitution
 pub mod Scoped
+pub mod FreeNames
 -- Numbers outside 64 bits, and positions
 pub mod Large
 pub mod Positions
