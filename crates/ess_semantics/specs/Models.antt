@@ -116,15 +116,16 @@ constraint_truths S p a = map (λ l. constraint_holds l.stm l.env) (filter (λ l
 abbrev pub rule_truths : List Stm → Model → Names Table → Names Table → List Bool
 rule_truths S E q c = map (rule_holds E q c) (last_rules S E)
 
+-- The value of a statement that is an objective, or nothing.
+abbrev pub objective_value : Stm → Env → Option ℤ
+objective_value (minimise e) env = and_then (meaning e env) int_of
+objective_value (maximise e) env = and_then (meaning e env) int_of
+objective_value s env = None
+
 -- The objective's value under p and a, or nothing.
 abbrev pub objective_at : List Placed → Option ℤ
 objective_at [] = None
-objective_at (l ∷ ls) = or_else (value_here l.stm l.env) (objective_at ls)
-  where
-    value_here : Stm → Env → Option ℤ
-    value_here (minimise e) env = and_then (meaning e env) int_of
-    value_here (maximise e) env = and_then (meaning e env) int_of
-    value_here s env = None
+objective_at (l ∷ ls) = or_else (objective_value l.stm l.env) (objective_at ls)
 
 -- ---- numbers outside 64 bits
 
