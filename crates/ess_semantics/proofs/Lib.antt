@@ -40,6 +40,8 @@ pub mod ExamplesPositions
 pub mod ExamplesTrees
 pub mod ExamplesAttributes
 pub mod ExamplesViews
+pub mod ExamplesLarge
+pub mod ExamplesChildren
 pub mod ExamplesCorners
 pub mod ExamplesTypes
 pub mod ExamplesEdges
