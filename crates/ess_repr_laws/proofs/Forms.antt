@@ -169,7 +169,8 @@ ranges (high_end ∷ rs) (a ∷ os) ss e = go (as_int a) (spans_of rs os) refl e
 -- ---- enumerable domains
 
 mutual
-  enumerable : (d : Dom) (e : Domain) → Formed d e → same_form d e ≡ true → is_enumerable d ≡ true → IsEnumerated e
+  -- A domain of an enumerable form is listed.
+  pub enumerable : (d : Dom) (e : Domain) → Formed d e → same_form d e ≡ true → is_enumerable d ≡ true → IsEnumerated e
   enumerable (tuple_dom ds) (tuples es) f s h = tuples-enumerable es (all-enumerable ds es f h)
   enumerable (record_dom fs ds) (records gs es) f s h = records-enumerable gs es (all-enumerable ds es f h)
   enumerable bool_dom e f s h = atom-enumerable e (atom-finite bool_dom e f h)
@@ -252,7 +253,7 @@ mutual
 -- ---- finite expressions
 
 mutual
-  dom-finite : (d : Dom) (e : Domain) → Formed d e → same_form d e ≡ true → is_finite d ≡ true → Finite e
+  pub dom-finite : (d : Dom) (e : Domain) → Formed d e → same_form d e ≡ true → is_finite d ≡ true → Finite e
   dom-finite bool_dom e f s h = finite-of e (atom-finite bool_dom e f refl)
   dom-finite (int_dom rs es) e f s h = finite-of e (atom-finite (int_dom rs es) e f h)
   dom-finite (name_dom a) e f s h = finite-of e (atom-finite (name_dom a) e f refl)
@@ -278,7 +279,7 @@ known-of d e f h = finite-known e (dom-finite d e f (formed-same d e f) h)
 
 mutual
   -- Where the slots of an expression are known, so are those of the domain.
-  dom-known : (d : Dom) (e : Domain) → Formed d e → same_form d e ≡ true → needs_known_slots d ≡ true → Known e
+  pub dom-known : (d : Dom) (e : Domain) → Formed d e → same_form d e ≡ true → needs_known_slots d ≡ true → Known e
   dom-known (int_dom rs es) (integers ss) f s h = tt
   dom-known (tuple_dom ds) (tuples es) f s h = doms-known ds es f h
   dom-known (record_dom fs ds) (records gs es) f s h = doms-known ds es f h

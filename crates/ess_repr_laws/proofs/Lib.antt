@@ -62,3 +62,7 @@ pub mod Enumerables
 pub mod Fitting
 pub mod Forms
 pub mod TablesWithin
+pub mod JudgedDomains
+pub mod EnumerableDomains
+pub mod PlanDomains
+pub mod JudgedStatements

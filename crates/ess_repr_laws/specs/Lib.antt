@@ -4,3 +4,5 @@ pub mod Rooms
 pub mod WellFormed
 -- Canonical tables
 pub mod CanonicalTables
+-- What is proved
+pub mod Laws

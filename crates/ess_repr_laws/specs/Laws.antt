@@ -1,0 +1,62 @@
+-- Laws of canonical tables, each stated at a function that does nothing, so that its proof is checked with the code.
+use Rattle.std.specs.Prelude.{◌≡◌, true, [], Some}
+use Rattle.ess_semantics.specs.Values.{Value}
+use Rattle.ess_semantics.specs.Trees.{Repr, Dom, Stm}
+use Rattle.ess_semantics.specs.Domains.{Domain}
+use Rattle.ess_semantics.specs.Membership.{member}
+use Rattle.ess_semantics.specs.Tables.{Tables}
+use Rattle.ess_semantics.specs.Cells.{cells_of}
+use Rattle.ess_semantics.specs.Kinds.{fits}
+use Rattle.ess_semantics.specs.Representations.{value_of_cells}
+use Rattle.ess_semantics.specs.Declarations.{axes_of}
+use Rattle.ess_semantics.specs.CanonicalTest.{canonical}
+use Rattle.ess_semantics.specs.Tidy.{over_axes}
+use Rattle.ess_semantics.specs.Meaning.{Env, domain_of}
+use Rattle.ess_semantics.specs.Scopes.{Scope}
+use Rattle.ess_semantics.specs.DomainJudgements.{is_finite, is_enumerable, needs_known_slots}
+use Rattle.ess_semantics.specs.Judgements.{ill_typed, not_finite, not_enumerable, open_given, domain_in, found_domain, given_domain, meets}
+use Rattle.ess_semantics.specs.Plans.{plan_domain}
+use Rattle.ess_repr_laws.specs.Finite.{Enumerated, Bounded, Finite, Enumerable}
+use Rattle.ess_repr_laws.specs.Rooms.{Covered, Roomy}
+use Rattle.ess_repr_laws.specs.WellFormed.{Well}
+use Rattle.ess_repr_laws.specs.CanonicalTables.{Right, OneForm}
+
+-- The representation is one for the domain expression, which is well formed and needs slots of a known number.
+pub record Fitting (r : Repr) (d : Dom) : Type 0 where
+  pub well : Well d
+  pub known : needs_known_slots d ≡ true
+  pub fit : fits r d ≡ true
+
+-- Each member of a domain has exactly one list of canonical tables, where the representation has room. It has room where it
+-- fits the expression: for the members of the domain that the expression denotes, and for those of a plan's domain.
+pub record MembersHaveCanonicalTables : Type 0 where
+  pub room : (r : Repr) (d : Dom) (env : Env) (e : Domain) → Fitting r d → domain_of d env ≡ Some e → Roomy r e
+  pub plan_room : (r : Repr) (d : Dom) (env : Env) (e : Domain) → Fitting r d → plan_domain d env ≡ Some e → Roomy r e
+  pub one_form : (r : Repr) (e : Domain) → Roomy r e → (v : Value) → member e v ≡ true → OneForm r e v
+
+-- A domain that is judged to be well typed, with enumerable domains where members are listed, is well formed. A find's and a
+-- given's needs slots of a known number.
+pub record JudgedDomainsAreWell : Type 0 where
+  pub well : (w t : Stm) (s : Scope) (d : Dom) → domain_in t ≡ Some d → meets ill_typed w t s ≡ true → meets not_enumerable w t s ≡ true → Well d
+  pub found : (w t : Stm) (s : Scope) (d : Dom) → found_domain t ≡ Some d → meets not_finite w t s ≡ true → needs_known_slots d ≡ true
+  pub given : (w t : Stm) (s : Scope) (d : Dom) → given_domain t ≡ Some d → meets open_given w t s ≡ true → needs_known_slots d ≡ true
+
+-- Of the tables over the declared axes whose cells are canonical at most one list stands for a value.
+abbrev pub CanonicalTablesAreOne : Type 0
+CanonicalTablesAreOne =
+    (r : Repr) (e : Domain) → Covered r e → (ts ts' : Tables) → over_axes [] (axes_of r e) ts ≡ true → over_axes [] (axes_of r e) ts' ≡ true →
+    canonical r e (cells_of ts) ≡ true → canonical r e (cells_of ts') ≡ true → value_of_cells r e (cells_of ts) ≡ value_of_cells r e (cells_of ts') →
+    ts ≡ ts'
+
+-- Canonical cells stand for a value, are one for each value, and are tidy. For this no room is needed.
+pub record CanonicalCellsAreRight : Type 0 where
+  pub covered : (r : Repr) (e : Domain) → Roomy r e → Covered r e
+  pub right : (r : Repr) (e : Domain) → Covered r e → Right r e
+
+-- The bound of a finite domain is right, and the members of an enumerable one are listed. A finite or enumerable expression
+-- denotes such a domain.
+pub record BoundsAreRight : Type 0 where
+  pub bounded : (e : Domain) → Finite e → Bounded e
+  pub listed : (e : Domain) → Enumerable e → Enumerated e
+  pub finite : (d : Dom) (env : Env) (e : Domain) → Well d → is_finite d ≡ true → domain_of d env ≡ Some e → Finite e
+  pub enumerable : (d : Dom) (env : Env) (e : Domain) → Well d → is_enumerable d ≡ true → domain_of d env ≡ Some e → Enumerable e
