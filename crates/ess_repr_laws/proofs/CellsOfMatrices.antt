@@ -67,15 +67,16 @@ all-elements is f one (x ∷ xs) h =
     }
 
 -- a matrix is one of its indices and items
-record Shape (i : Domain) (is : Domains) (f : Value → Bool) (v : Value) : Type 0 where
-  ix : Values
-  xs : Values
-  form : v ≡ matrix ix xs
-  indices : is_some_and (members i) (λ vs. same_list vs (to_list ix)) ≡ true
-  long : nat_eq (length (to_list ix)) (length (to_list xs)) ≡ true
-  items : list_all (nested_matrix is f) (to_list xs) ≡ true
+pub record Shape (i : Domain) (is : Domains) (f : Value → Bool) (v : Value) : Type 0 where
+  pub ix : Values
+  pub xs : Values
+  pub form : v ≡ matrix ix xs
+  pub indices : is_some_and (members i) (λ vs. same_list vs (to_list ix)) ≡ true
+  pub long : nat_eq (length (to_list ix)) (length (to_list xs)) ≡ true
+  pub items : list_all (nested_matrix is f) (to_list xs) ≡ true
 
-shape-of : (i : Domain) (is : Domains) (f : Value → Bool) (v : Value) → nested_matrix (more_domains i is) f v ≡ true → Shape i is f v
+-- Such a matrix is one.
+pub shape-of : (i : Domain) (is : Domains) (f : Value → Bool) (v : Value) → nested_matrix (more_domains i is) f v ≡ true → Shape i is f v
 shape-of i is f (matrix ix xs) h =
     let a : Bool = is_some_and (members i) (λ vs. same_list vs (to_list ix)) in
     let b : Bool = nat_eq (length (to_list ix)) (length (to_list xs)) in

@@ -66,3 +66,4 @@ pub mod JudgedDomains
 pub mod EnumerableDomains
 pub mod PlanDomains
 pub mod JudgedStatements
+pub mod TypesBack

@@ -4,5 +4,6 @@ pub mod Rooms
 pub mod WellFormed
 -- Canonical tables
 pub mod CanonicalTables
+pub mod Typed
 -- What is proved
 pub mod Laws
