@@ -67,3 +67,4 @@ pub mod EnumerableDomains
 pub mod PlanDomains
 pub mod JudgedStatements
 pub mod TypesBack
+pub mod OrderOfPositions

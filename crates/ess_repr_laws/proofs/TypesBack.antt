@@ -83,13 +83,14 @@ indices-inside i ix a e = let l = atom-listed i a in ap (λ o. list_all (member 
 
 -- ---- members
 
-boolean-back : (v : Value) → member booleans v ≡ true → with_positions v ≡ v
+-- A truth value or number is its own.
+pub boolean-back : (v : Value) → member booleans v ≡ true → with_positions v ≡ v
 boolean-back (truth b) h = refl
 boolean-back (number n) h = cc
 boolean-back (item t k) h = cc
 boolean-back (node k vs) h = cc
 
-integer-back : (ss : List Span) (v : Value) → member (integers ss) v ≡ true → with_positions v ≡ v
+pub integer-back : (ss : List Span) (v : Value) → member (integers ss) v ≡ true → with_positions v ≡ v
 integer-back ss (number n) h = refl
 integer-back ss (truth b) h = cc
 integer-back ss (item t k) h = cc
@@ -107,7 +108,7 @@ named-back t n (number m) h = cc
 named-back t n (truth b) h = cc
 named-back t n (node k vs) h = cc
 
-atom-back : (i : Domain) → IsAtom i → (v : Value) → member i v ≡ true → with_types i (with_positions v) ≡ Some v
+pub atom-back : (i : Domain) → IsAtom i → (v : Value) → member i v ≡ true → with_types i (with_positions v) ≡ Some v
 atom-back booleans a v h = ap Some (boolean-back v h)
 atom-back (integers ss) a v h = ap Some (integer-back ss v h)
 atom-back (named t n) a v h = named-back t n v h
