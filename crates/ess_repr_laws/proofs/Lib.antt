@@ -68,3 +68,5 @@ pub mod PlanDomains
 pub mod JudgedStatements
 pub mod TypesBack
 pub mod OrderOfPositions
+pub mod ListsOfPositions
+pub mod MembersOfPositions

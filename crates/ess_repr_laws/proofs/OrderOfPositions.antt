@@ -91,7 +91,7 @@ position-order a b = sym (int_cmp_is (pos a) (pos b) (nat_cmp a b) (go (nat_cmp 
     go Equal h = ap pos h
     go Greater h = omega (arith, ints)
 
-named-agree : (t : Text) (n m : ℕ) → Agree (member (named t n)) (member (named t m))
+pub named-agree : (t : Text) (n m : ℕ) → Agree (member (named t n)) (member (named t m))
 named-agree t n m v w h k =
     let x = named-item t n v h in
     let y = named-item t m w k in
