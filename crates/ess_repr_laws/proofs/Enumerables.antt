@@ -99,13 +99,14 @@ tuples-enumerable ds a = record {
 -- ---- records
 
 module _ (fs : List Text) where
-  abbrev F : List Value → Value
+  abbrev pub F : List Value → Value
   F l = node (a_record fs) (of_list l)
 
   same-kind : order_kind (a_record fs) (a_record fs) ≡ order_kind a_tuple a_tuple
   same-kind = tied_itself texts_total fs
 
-  rise-same : (ms : List (List Value)) → rises itself (map F ms) ≡ rises itself (map T ms)
+  -- Records of lists rise where tuples of them do.
+  pub rise-same : (ms : List (List Value)) → rises itself (map F ms) ≡ rises itself (map T ms)
   rise-same [] = refl
   rise-same (m ∷ []) = refl
   rise-same (m ∷ n ∷ ms) =
@@ -115,7 +116,8 @@ module _ (fs : List Text) where
   holds-same [] l = refl
   holds-same (m ∷ ms) l = ap (λ o. is_eq (ordering_then o (orders (of_list m) (of_list l))) || holds (map F ms) (F l)) same-kind ∙ ap (λ b. same (T m) (T l) || b) (holds-same ms l)
 
-  all-same : (ds : Domains) (ms : List (List Value)) → list_all (member (tuples ds)) (map T ms) ≡ true → list_all (member (records fs ds)) (map F ms) ≡ true
+  -- They are members where the tuples are.
+  pub all-same : (ds : Domains) (ms : List (List Value)) → list_all (member (tuples ds)) (map T ms) ≡ true → list_all (member (records fs ds)) (map F ms) ≡ true
   all-same ds [] h = refl
   all-same ds (m ∷ ms) h =
       and-both (same_texts fs fs && member_of_each ds (of_list m)) (list_all (member (records fs ds)) (map F ms))

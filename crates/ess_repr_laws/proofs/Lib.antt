@@ -70,3 +70,5 @@ pub mod TypesBack
 pub mod OrderOfPositions
 pub mod ListsOfPositions
 pub mod MembersOfPositions
+pub mod AllMembersListed
+pub mod AttributesOfPositions
