@@ -72,3 +72,5 @@ pub mod ListsOfPositions
 pub mod MembersOfPositions
 pub mod AllMembersListed
 pub mod AttributesOfPositions
+pub mod PartsOfPositions
+pub mod OneType
