@@ -74,3 +74,6 @@ pub mod AllMembersListed
 pub mod AttributesOfPositions
 pub mod PartsOfPositions
 pub mod OneType
+pub mod LayersOfPositions
+pub mod MembersWithPositions
+pub mod PlansStand

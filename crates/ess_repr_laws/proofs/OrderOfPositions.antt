@@ -55,7 +55,8 @@ pair-parts f g (truth b) h = cc
 pair-parts f g (item t k) h = cc
 pair-parts f g (node k vs) h = cc
 
-pairs-agree : (f g p q : Value → Bool) → Agree f p → Agree g q → Agree (λ v. is_pair v && f (from_of v) && g (to_of v)) (λ v. is_pair v && p (from_of v) && q (to_of v))
+-- So do pairs of them.
+pub pairs-agree : (f g p q : Value → Bool) → Agree f p → Agree g q → Agree (λ v. is_pair v && f (from_of v) && g (to_of v)) (λ v. is_pair v && p (from_of v) && q (to_of v))
 pairs-agree f g p q a b v w h k =
     let x = pair-parts f g v h in
     let y = pair-parts p q w k in
@@ -64,7 +65,8 @@ pairs-agree f g p q a b v w h k =
     ∙ ap (λ o. ordering_then (order_kind a_tuple a_tuple) (ordering_then (order x.0 y.0) (ordering_then o Equal))) (b x.1 y.1 x.4 y.4)
     ∙ sym (ap (λ u. order u w) x.2 ∙ ap (order (pair x.0 x.1)) y.2)
 
-parts-agree : (p q : Value → Bool) → Agree p q → Agree (is_part p) (is_part q)
+-- And parts.
+pub parts-agree : (p q : Value → Bool) → Agree p q → Agree (is_part p) (is_part q)
 parts-agree p q a v w h k =
     let x = part-of p v h in
     let y = part-of q w k in
@@ -75,7 +77,7 @@ parts-agree p q a v w h k =
 -- ---- atoms
 
 -- A member of a named type is one of its values.
-named-item : (t : Text) (n : ℕ) (v : Value) → member (named t n) v ≡ true → (k : ℕ) × (v ≡ item t k)
+pub named-item : (t : Text) (n : ℕ) (v : Value) → member (named t n) v ≡ true → (k : ℕ) × (v ≡ item t k)
 named-item t n (item u k) h =
     (k, ap (λ x. item x k) (sym (text_exact t u (equal-of (order_text t u) (and-left (same_text t u) (nat_le 1 k) (and-left (same_text t u && nat_le 1 k) (nat_le k n) h))))))
 named-item t n (number m) h = cc
@@ -128,14 +130,14 @@ matrices-agree (more_domains i is) (more_domains j js) a b t p q g = λ v w h k.
 -- ---- all domains
 
 -- A member of a domain of tuples or records is one of components.
-tuple-form : (ds : Domains) (v : Value) → member (tuples ds) v ≡ true → (vs : Values) × (v ≡ tuple vs) × (member_of_each ds vs ≡ true)
+pub tuple-form : (ds : Domains) (v : Value) → member (tuples ds) v ≡ true → (vs : Values) × (v ≡ tuple vs) × (member_of_each ds vs ≡ true)
 tuple-form ds (node a_tuple vs) h = (vs, refl, h)
 tuple-form ds (number n) h = cc
 tuple-form ds (truth b) h = cc
 tuple-form ds (item a k) h = cc
 tuple-form ds (node k vs) h = cc
 
-record-form : (fs : List Text) (ds : Domains) (v : Value) → member (records fs ds) v ≡ true → (gs : List Text) × (vs : Values) × (v ≡ node (a_record gs) vs) × (member_of_each ds vs ≡ true)
+pub record-form : (fs : List Text) (ds : Domains) (v : Value) → member (records fs ds) v ≡ true → (gs : List Text) × (vs : Values) × (v ≡ node (a_record gs) vs) × (member_of_each ds vs ≡ true)
 record-form fs ds (node (a_record gs) vs) h = (gs, vs, refl, and-right (same_texts fs gs) (member_of_each ds vs) h)
 record-form fs ds (number n) h = cc
 record-form fs ds (truth b) h = cc
@@ -150,10 +152,10 @@ compound-agree k l vs ws v w e f h =
     ∙ sym (ap (λ u. order u w) e ∙ ap (order (node k vs)) f)
 
 -- The order of components that agree.
-abbrev ComponentsAgree : Domains → Domains → Type 0
+abbrev pub ComponentsAgree : Domains → Domains → Type 0
 ComponentsAgree ds es = (vs ws : Values) → member_of_each ds vs ≡ true → member_of_each es ws ≡ true → orders (all_with_positions vs) (all_with_positions ws) ≡ orders vs ws
 
-tuples-agree : (ds es : Domains) → ComponentsAgree ds es → Agree (tuple_member ds) (tuple_member es)
+pub tuples-agree : (ds es : Domains) → ComponentsAgree ds es → Agree (tuple_member ds) (tuple_member es)
 tuples-agree ds es a v w h k =
     let x = tuple-components ds v h in let y = tuple-components es w k in compound-agree a_tuple a_tuple x.0 y.0 v w x.1 y.1 (a x.0 y.0 x.2 y.2)
 
@@ -187,7 +189,7 @@ mutual
       node-agree (is_part (member d)) (is_part (member e)) (parts-agree (member d) (member e) (order-agrees d e t)) a_partition a_partition x.0 y.0 v w x.1 y.1 x.2.parts y.2.parts
   order-agrees _ e t v w h k = absurd t
 
-  all-agree : (ds es : Domains) → AllOneType ds es → ComponentsAgree ds es
+  pub all-agree : (ds es : Domains) → AllOneType ds es → ComponentsAgree ds es
   all-agree no_domains no_domains t nil nil h k = refl
   all-agree no_domains no_domains t (cons v vs) ws h k = cc
   all-agree no_domains no_domains t nil (cons w ws) h k = cc

@@ -1,24 +1,28 @@
 -- Laws of canonical tables, each stated at a function that does nothing, so that its proof is checked with the code.
 use Rattle.std.specs.Prelude.{◌≡◌, true, [], Some}
 use Rattle.ess_semantics.specs.Values.{Value}
+use Rattle.ess_semantics.specs.Order.{order}
 use Rattle.ess_semantics.specs.Trees.{Repr, Dom, Stm}
 use Rattle.ess_semantics.specs.Domains.{Domain}
 use Rattle.ess_semantics.specs.Membership.{member}
 use Rattle.ess_semantics.specs.Tables.{Tables}
 use Rattle.ess_semantics.specs.Cells.{cells_of}
 use Rattle.ess_semantics.specs.Kinds.{fits}
-use Rattle.ess_semantics.specs.Representations.{value_of_cells}
+use Rattle.ess_semantics.specs.Representations.{value_of_cells, value_of_tables}
 use Rattle.ess_semantics.specs.Declarations.{axes_of}
+use Rattle.ess_semantics.specs.Canonical.{tables_of_value}
 use Rattle.ess_semantics.specs.CanonicalTest.{canonical}
 use Rattle.ess_semantics.specs.Tidy.{over_axes}
 use Rattle.ess_semantics.specs.Meaning.{Env, domain_of}
+use Rattle.ess_semantics.specs.Positions.{with_positions, domain_with_positions, with_types}
 use Rattle.ess_semantics.specs.Scopes.{Scope}
 use Rattle.ess_semantics.specs.DomainJudgements.{is_finite, is_enumerable, needs_known_slots}
 use Rattle.ess_semantics.specs.Judgements.{ill_typed, not_finite, not_enumerable, open_given, domain_in, found_domain, given_domain, meets}
-use Rattle.ess_semantics.specs.Plans.{plan_domain}
+use Rattle.ess_semantics.specs.Plans.{plan_domain, stands_for_member, value_with_types}
 use Rattle.ess_repr_laws.specs.Finite.{Enumerated, Bounded, Finite, Enumerable}
 use Rattle.ess_repr_laws.specs.Rooms.{Covered, Roomy}
 use Rattle.ess_repr_laws.specs.WellFormed.{Well}
+use Rattle.ess_repr_laws.specs.Typed.{OneType, Typed}
 use Rattle.ess_repr_laws.specs.CanonicalTables.{Right, OneForm}
 
 -- The representation is one for the domain expression, which is well formed and needs slots of a known number.
@@ -60,3 +64,23 @@ pub record BoundsAreRight : Type 0 where
   pub listed : (e : Domain) → Enumerable e → Enumerated e
   pub finite : (d : Dom) (env : Env) (e : Domain) → Well d → is_finite d ≡ true → domain_of d env ≡ Some e → Finite e
   pub enumerable : (d : Dom) (env : Env) (e : Domain) → Well d → is_enumerable d ≡ true → domain_of d env ≡ Some e → Enumerable e
+
+-- Positions stand for the values of named types: the members of the domain with positions are exactly the values with positions
+-- of members, each of one member alone, whose types come back. Members of domains of one type stand in the same order.
+pub record PositionsStandForTypes : Type 0 where
+  pub members : (e : Domain) → Typed e → (v : Value) → member e v ≡ true → member (domain_with_positions e) (with_positions v) ≡ true
+  pub each_is_one : (e : Domain) → Typed e → (w : Value) → member (domain_with_positions e) w ≡ true →
+      (v : Value) × (member e v ≡ true) × (with_positions v ≡ w)
+  pub types_back : (e : Domain) → Typed e → (v : Value) → member e v ≡ true → with_types e (with_positions v) ≡ Some v
+  pub one_to_one : (e : Domain) → Typed e → (v w : Value) → member e v ≡ true → member e w ≡ true → with_positions v ≡ with_positions w → v ≡ w
+  pub same_order : (d e : Domain) → OneType d e → (v w : Value) → member d v ≡ true → member e w ≡ true →
+      order (with_positions v) (with_positions w) ≡ order v w
+
+-- Tables that stand for a member of a plan's domain stand for a member of the domain with types, which comes back from them.
+-- The canonical tables of a member stand for it.
+pub record PlansStandForMembers : Type 0 where
+  pub stands : (r : Repr) (e : Domain) → Typed e → (ts : Tables) (w : Value) → value_of_tables r (domain_with_positions e) ts [] ≡ Some w →
+      member (domain_with_positions e) w ≡ true → (v : Value) × (stands_for_member r e ts v ≡ true)
+  pub comes_back : (r : Repr) (e : Domain) → Typed e → (ts : Tables) (v : Value) → stands_for_member r e ts v ≡ true → value_with_types r e ts ≡ Some v
+  pub canonical : (r : Repr) (e : Domain) → Typed e → Roomy r (domain_with_positions e) → (v : Value) → member e v ≡ true → (ts : Tables) →
+      tables_of_value r (domain_with_positions e) (with_positions v) ≡ Some ts → stands_for_member r e ts v ≡ true

@@ -1,6 +1,6 @@
 //! Laws of canonical tables, each the contract of a function that does nothing.
 
-ghost use Rattle.ess_repr_laws.specs.Laws.{MembersHaveCanonicalTables, JudgedDomainsAreWell, CanonicalTablesAreOne, CanonicalCellsAreRight, BoundsAreRight};
+ghost use Rattle.ess_repr_laws.specs.Laws.{MembersHaveCanonicalTables, JudgedDomainsAreWell, CanonicalTablesAreOne, CanonicalCellsAreRight, BoundsAreRight, PositionsStandForTypes, PlansStandForMembers};
 
 /// Each member of a domain has canonical tables under a representation that fits the domain: they are over exactly the declared
 /// axes, in the declared domains, canonical, stand for the member, and are the only ones.
@@ -26,4 +26,14 @@ pub fn canonical_cells_are_right()
 /// A finite domain has no more members than its bound says, and the members of an enumerable one are listed completely.
 pub fn bounds_are_right()
     ensures { BoundsAreRight }
+{}
+
+/// A value with positions stands for one member of the domain with named types, in the same order.
+pub fn positions_stand_for_types()
+    ensures { PositionsStandForTypes }
+{}
+
+/// Tables that stand for a member of a plan's domain stand for one with types, which comes back.
+pub fn plans_stand_for_members()
+    ensures { PlansStandForMembers }
 {}
