@@ -12,7 +12,7 @@ use Rattle.ess_semantics.specs.Membership.{same_list, covers, is_pair}
 use Rattle.ess_semantics.specs.Positions.{with_positions, all_with_positions}
 use Rattle.ess_semantics.proofs.Tests.{and-left, and-right, and-both}
 use Rattle.ess_semantics.proofs.Sorting.{all-sorted_once}
-use Rattle.ess_repr_laws.specs.Typed.{is_unnumbered}
+use Rattle.ess_repr_laws.specs.TypedDomains.{is_unnumbered}
 use Rattle.ess_repr_laws.proofs.OrderOfPositions.{Agree, pair-parts}
 use Rattle.ess_repr_laws.proofs.ListsOfPositions.{with_each, parts-with, from-with, to-with, map-with, append-with, length-with, all-with, same-with, holds-with, count-with, twice-with, sorted-with, lists-with}
 

@@ -11,7 +11,7 @@ use Rattle.ess_semantics.specs.Membership.{member, member_of_each, tuple_member,
 use Rattle.ess_semantics.specs.Positions.{with_positions, all_with_positions, domain_with_positions, domains_with_positions}
 use Rattle.ess_semantics.proofs.Tests.{and-left, and-right, and-both, or-yes}
 use Rattle.ess_semantics.proofs.Orders.{to_list-of_list, of_list-to_list}
-use Rattle.ess_repr_laws.specs.Typed.{OneType, is_unnumbered, ArePairs}
+use Rattle.ess_repr_laws.specs.TypedDomains.{OneType, is_unnumbered, ArePairs}
 use Rattle.ess_repr_laws.proofs.CellsOfOccurrences.{SetMember, set-member, RelationMember, relation-member}
 use Rattle.ess_repr_laws.proofs.Times.{MsetMember, mset-member}
 use Rattle.ess_repr_laws.proofs.FunctionPairs.{FunctionMember, function-member}

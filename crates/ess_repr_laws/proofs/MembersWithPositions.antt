@@ -13,7 +13,7 @@ use Rattle.ess_semantics.specs.Atoms.{IsAtom, AreAtoms}
 use Rattle.ess_semantics.specs.Positions.{with_positions, all_with_positions, domain_with_positions, domains_with_positions}
 use Rattle.ess_semantics.proofs.Tests.{and-left, and-right, and-both}
 use Rattle.ess_semantics.proofs.Orders.{to_list-of_list, of_list-to_list, orders_total, texts_total, text_total}
-use Rattle.ess_repr_laws.specs.Typed.{OneType, is_unnumbered, ArePairs, Typed, AllTyped}
+use Rattle.ess_repr_laws.specs.TypedDomains.{OneType, is_unnumbered, ArePairs, Typed, AllTyped}
 use Rattle.ess_repr_laws.proofs.CellsOfMatrices.{shape-of}
 use Rattle.ess_repr_laws.proofs.OneType.{type-itself, types-themselves, type-turned}
 use Rattle.ess_repr_laws.proofs.TypesBack.{boolean-back, integer-back, indices-are, tuple-components}

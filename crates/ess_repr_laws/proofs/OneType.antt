@@ -2,7 +2,7 @@
 use Rattle.std.proofs.Common.{◌≡◌, refl, sym}
 use Rattle.ess_semantics.specs.Domains.{Domain, Domains, booleans, integers, named, tuples, records, matrices, sets, msets, functions, relations, partitions, no_domains, more_domains}
 use Rattle.ess_semantics.specs.Atoms.{IsAtom, AreAtoms}
-use Rattle.ess_repr_laws.specs.Typed.{OneType, AllOneType, Typed, AllTyped}
+use Rattle.ess_repr_laws.specs.TypedDomains.{OneType, AllOneType, Typed, AllTyped}
 
 atom-itself : (d : Domain) → IsAtom d → OneType d d
 atom-itself booleans a = tt

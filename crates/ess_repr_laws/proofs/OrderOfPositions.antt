@@ -15,7 +15,7 @@ use Rattle.ess_semantics.specs.Atoms.{IsAtom, AreAtoms}
 use Rattle.ess_semantics.specs.Positions.{with_positions, all_with_positions}
 use Rattle.ess_semantics.proofs.Tests.{and-left, and-right}
 use Rattle.ess_semantics.proofs.Orders.{to_list-of_list, text_exact, text_total, equal-of}
-use Rattle.ess_repr_laws.specs.Typed.{OneType, AllOneType}
+use Rattle.ess_repr_laws.specs.TypedDomains.{OneType, AllOneType}
 use Rattle.ess_repr_laws.proofs.CellsOfOccurrences.{set-member, relation-member}
 use Rattle.ess_repr_laws.proofs.CellsOfMatrices.{shape-of}
 use Rattle.ess_repr_laws.proofs.Times.{mset-member}

@@ -14,7 +14,7 @@ use Rattle.ess_semantics.specs.Plans.{same_value, stands_for_member, value_with_
 use Rattle.ess_semantics.proofs.Tests.{and-left, and-right, and-both, some-and}
 use Rattle.ess_semantics.proofs.Orders.{same-itself, same-equal}
 use Rattle.ess_repr_laws.specs.Rooms.{Roomy}
-use Rattle.ess_repr_laws.specs.Typed.{Typed}
+use Rattle.ess_repr_laws.specs.TypedDomains.{Typed}
 use Rattle.ess_repr_laws.proofs.MembersHaveTables.{one-form}
 use Rattle.ess_repr_laws.proofs.TypesBack.{types-back}
 use Rattle.ess_repr_laws.proofs.MembersWithPositions.{members-matched}

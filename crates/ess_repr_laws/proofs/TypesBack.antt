@@ -13,7 +13,7 @@ use Rattle.ess_semantics.specs.Positions.{with_positions, all_with_positions, ea
 use Rattle.ess_semantics.proofs.Tests.{and-left, and-right}
 use Rattle.ess_semantics.proofs.Orders.{to_list-of_list, of_list-to_list, text_exact, orders_exact, equal-of}
 use Rattle.ess_semantics.proofs.MemberLists.{atom-listed}
-use Rattle.ess_repr_laws.specs.Typed.{Typed, AllTyped}
+use Rattle.ess_repr_laws.specs.TypedDomains.{Typed, AllTyped}
 use Rattle.ess_repr_laws.proofs.CellsOfOccurrences.{set-member, relation-member}
 use Rattle.ess_repr_laws.proofs.CellsOfMatrices.{shape-of}
 use Rattle.ess_repr_laws.proofs.Times.{mset-member}

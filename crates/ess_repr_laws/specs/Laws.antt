@@ -22,7 +22,7 @@ use Rattle.ess_semantics.specs.Plans.{plan_domain, stands_for_member, value_with
 use Rattle.ess_repr_laws.specs.Finite.{Enumerated, Bounded, Finite, Enumerable}
 use Rattle.ess_repr_laws.specs.Rooms.{Covered, Roomy}
 use Rattle.ess_repr_laws.specs.WellFormed.{Well}
-use Rattle.ess_repr_laws.specs.Typed.{OneType, Typed}
+use Rattle.ess_repr_laws.specs.TypedDomains.{OneType, Typed}
 use Rattle.ess_repr_laws.specs.CanonicalTables.{Right, OneForm}
 
 -- The representation is one for the domain expression, which is well formed and needs slots of a known number.

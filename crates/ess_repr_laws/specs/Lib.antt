@@ -4,6 +4,6 @@ pub mod Rooms
 pub mod WellFormed
 -- Canonical tables
 pub mod CanonicalTables
-pub mod Typed
+pub mod TypedDomains
 -- What is proved
 pub mod Laws
