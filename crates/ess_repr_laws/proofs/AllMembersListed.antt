@@ -1,5 +1,5 @@
 -- Whatever the list of members of a domain holds is a member, and the list rises.
-use Rattle.std.proofs.Common.{◌≡◌, refl, sym, ap, ◌∙◌, true, List, [], map, Option, Some, None, option_map}
+use Rattle.std.proofs.Common.{◌≡◌, refl, sym, ap, ◌∙◌, true, List, map, Option, Some, None, option_map}
 use Rattle.std.specs.List.{list_all}
 use Rattle.ess_semantics.specs.Lists.{all_some, list_or_none}
 use Rattle.ess_semantics.specs.Values.{Text, Value, itself}

@@ -18,7 +18,8 @@ use Rattle.ess_repr_laws.proofs.Chosen.{Bit, on, chosen-there, chosen-holds, cho
 use Rattle.ess_repr_laws.proofs.Arguments.{Arguments, of-held, arguments-index}
 use Rattle.ess_repr_laws.proofs.TablesAndCells.{AxesDiffer, row-length}
 use Rattle.ess_repr_laws.proofs.ExactCells.{Exact, exact-items}
-use Rattle.ess_repr_laws.proofs.SideBySide.{Along, along-under, items-along, row-places}
+use Rattle.ess_repr_laws.proofs.SideBySide.{Along, along-under}
+use Rattle.ess_repr_laws.proofs.PlacesOfTables.{items-along, row-places}
 use Rattle.ess_repr_laws.proofs.CellsOfMembers.{map-long}
 
 pub along-diagonal : {A : Type 0} (xs : List A) (R : A → A → Type 0) → Along xs xs R → AllOf xs (λ x. R x x)

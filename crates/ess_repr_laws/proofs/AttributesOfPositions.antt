@@ -1,20 +1,19 @@
 -- What attributes ask of a member they ask of its value with positions.
-use Rattle.std.proofs.Common.{◌≡◌, refl, sym, ap, ◌∙◌, ℕ, Bool, true, false, ◌&&◌, ◌||◌, not, List, [], ◌∷◌, ◌++◌, map, length, ℤ, pos, int_le, nat_eq, Option, Some, None, option_map}
+use Rattle.std.proofs.Common.{◌≡◌, refl, ap, ◌∙◌, Bool, true, false, ◌&&◌, ◌||◌, not, List, [], ◌∷◌, map, length, ℤ, pos, int_le, Option, Some, None, option_map}
 use Rattle.std.specs.List.{list_all, list_any}
 use Rattle.ess_semantics.specs.declared.words.Key.{Key}
-use Rattle.ess_semantics.specs.Lists.{is_some_and, append_all, is_empty}
-use Rattle.ess_semantics.specs.Values.{a_tuple, a_matrix, a_set, a_mset, a_function, a_relation, a_partition, a_record, Value, number, truth, item, node, Values, nil, cons, to_list, of_list, pair, matrix, from_of, to_of, items_of, itself}
+use Rattle.ess_semantics.specs.Lists.{is_some_and}
+use Rattle.ess_semantics.specs.Values.{Value, pair, from_of, to_of}
 use Rattle.ess_semantics.specs.Order.{same}
-use Rattle.ess_semantics.specs.Collections.{holds, count, no_twice, sorted_once, has_overlap}
-use Rattle.ess_semantics.specs.Domains.{Attribute, numbered, flagged, Domain, Domains, no_domains, more_domains, members}
-use Rattle.ess_semantics.specs.Attributes.{each_holds, each_number_holds, size_holds, occurs_holds, is_injective, is_surjective, is_total, function_holds, related, relation_holds, part_sizes, all_equal, partition_holds, parts_hold, set_attributes_hold, mset_attributes_hold, partition_attributes_hold}
-use Rattle.ess_semantics.specs.Membership.{same_list, covers, is_pair}
-use Rattle.ess_semantics.specs.Positions.{with_positions, all_with_positions}
+use Rattle.ess_semantics.specs.Collections.{holds, count}
+use Rattle.ess_semantics.specs.Domains.{Attribute, numbered, flagged}
+use Rattle.ess_semantics.specs.Attributes.{each_holds, size_holds, occurs_holds, is_injective, is_surjective, is_total, function_holds, related, relation_holds, mset_attributes_hold}
+use Rattle.ess_semantics.specs.Membership.{is_pair}
+use Rattle.ess_semantics.specs.Positions.{with_positions}
 use Rattle.ess_semantics.proofs.Tests.{and-left, and-right, and-both}
-use Rattle.ess_semantics.proofs.Sorting.{all-sorted_once}
 use Rattle.ess_repr_laws.specs.TypedDomains.{is_unnumbered}
-use Rattle.ess_repr_laws.proofs.OrderOfPositions.{Agree, pair-parts}
-use Rattle.ess_repr_laws.proofs.ListsOfPositions.{with_each, parts-with, from-with, to-with, map-with, append-with, length-with, all-with, same-with, holds-with, count-with, twice-with, sorted-with, lists-with}
+use Rattle.ess_repr_laws.proofs.OrderOfPositions.{Agree}
+use Rattle.ess_repr_laws.proofs.ListsOfPositions.{with_each, from-with, to-with, map-with, length-with, all-with, same-with, holds-with, count-with, twice-with}
 
 -- Attributes hold alike where each does.
 pub each-same : (ks : List Attribute) (f f' : Key → ℤ → Bool) (g g' : Key → Bool) → ((k : Key) (n : ℤ) → f k n ≡ f' k n) → ((k : Key) → g k ≡ g' k) → each_holds ks f g ≡ each_holds ks f' g'

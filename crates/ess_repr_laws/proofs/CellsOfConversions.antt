@@ -22,15 +22,15 @@ use Rattle.ess_semantics.specs.RelationLayers.{relation_from}
 use Rattle.ess_semantics.specs.FunctionLayers.{function_from}
 use Rattle.ess_semantics.specs.Representations.{layer, width, own_width}
 use Rattle.ess_semantics.specs.Declarations.{axes_of}
-use Rattle.ess_repr_laws.specs.Finite.{Complete, Bounded, IsFlagged, Enumerated}
+use Rattle.ess_repr_laws.specs.Finite.{IsFlagged, Enumerated}
 use Rattle.ess_repr_laws.specs.Rooms.{FunctionRoom}
-use Rattle.ess_semantics.specs.Atoms.{Listed}
 use Rattle.ess_semantics.proofs.Tests.{and-left, and-right, and-both, both-ways}
 use Rattle.ess_semantics.proofs.Orders.{to_list-of_list}
 use Rattle.ess_semantics.proofs.Sorting.{sorted-of, sorted_once-itself, distinct-twice, below-less, all-holds, one-sorted-list}
 use Rattle.ess_semantics.proofs.Repeats.{sorted-distinct}
 use Rattle.ess_repr_laws.proofs.CanonicalPlaces.{AllOf}
-use Rattle.ess_repr_laws.proofs.CellsOfMembers.{HasCells, MembersHaveCells, Slots, Laid, layer-cells, layer-wide, map-long}
+use Rattle.ess_repr_laws.proofs.CellsOfMembers.{HasCells, MembersHaveCells, Slots, map-long}
+use Rattle.ess_repr_laws.proofs.CellsOfOneChild.{Laid, layer-cells, layer-wide}
 use Rattle.ess_repr_laws.proofs.Rooms.{attribute-said, size-is, SaysSize}
 use Rattle.ess_repr_laws.proofs.CellsOfOccurrences.{RelationMember, relation-member, members-of-tuples}
 use Rattle.ess_repr_laws.proofs.FunctionPairs.{FunctionMember, function-member, firsts, rises-firsts, each-pair, each-first, pair-of, flag-said, some-list}

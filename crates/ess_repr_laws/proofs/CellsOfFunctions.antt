@@ -24,7 +24,8 @@ use Rattle.ess_repr_laws.proofs.TupleMembers.{place_of}
 use Rattle.ess_repr_laws.proofs.Arguments.{Arguments, atom-arguments, tuple-arguments}
 use Rattle.ess_repr_laws.proofs.TablesAndCells.{AxesDiffer}
 use Rattle.ess_repr_laws.proofs.SideBySide.{Along, left-under, length-along}
-use Rattle.ess_repr_laws.proofs.CellsOfMembers.{HasCells, MembersHaveCells, Good, Kept, Slots, slots-there, kept-good, kept-values, values_in, picked, Laid, layer-cells, layer-wide, map-long}
+use Rattle.ess_repr_laws.proofs.CellsOfMembers.{HasCells, MembersHaveCells, Kept, Slots, slots-there, kept-good, kept-values, values_in, picked, map-long}
+use Rattle.ess_repr_laws.proofs.CellsOfOneChild.{Laid, layer-cells, layer-wide}
 use Rattle.ess_repr_laws.proofs.CellsOfOccurrences.{atom-axis, atom-axes, are-atoms, atoms-listed}
 use Rattle.ess_repr_laws.proofs.CompleteLists.{atom-complete, tuples-complete}
 use Rattle.ess_repr_laws.proofs.UsedPlaces.{chosen-picked, flags-exact, flags-fit, flags-cells, flags-used, flags-found}

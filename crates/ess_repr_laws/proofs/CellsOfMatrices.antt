@@ -18,7 +18,8 @@ use Rattle.ess_semantics.proofs.Tests.{and-left, and-right, and-both}
 use Rattle.ess_semantics.proofs.Orders.{orders_exact, equal-of, of_list-to_list, to_list-of_list}
 use Rattle.ess_repr_laws.proofs.CanonicalPlaces.{AllOf}
 use Rattle.ess_repr_laws.proofs.SideBySide.{length-along}
-use Rattle.ess_repr_laws.proofs.CellsOfMembers.{HasCells, MembersHaveCells, Kept, Slots, slots-there, kept-good, kept-values, Laid, layer-cells, layer-wide, map-long}
+use Rattle.ess_repr_laws.proofs.CellsOfMembers.{HasCells, MembersHaveCells, Kept, Slots, slots-there, kept-good, kept-values, map-long}
+use Rattle.ess_repr_laws.proofs.CellsOfOneChild.{Laid, layer-cells, layer-wide}
 use Rattle.ess_repr_laws.proofs.CellsOfOccurrences.{atom-axes}
 use Rattle.ess_repr_laws.proofs.ArgumentTables.{places-volume}
 use Rattle.ess_repr_laws.proofs.CellsOfSlots.{some-somes, some-inside}

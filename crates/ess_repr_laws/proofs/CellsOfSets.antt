@@ -30,7 +30,8 @@ use Rattle.ess_repr_laws.proofs.SlotsUsed.{slots-are}
 use Rattle.ess_repr_laws.proofs.CanonicalPlaces.{AllOf}
 use Rattle.ess_repr_laws.proofs.ExactCells.{exact-items, none-of}
 use Rattle.ess_repr_laws.proofs.SideBySide.{Along}
-use Rattle.ess_repr_laws.proofs.CellsOfMembers.{HasCells, MembersHaveCells, GoodSlot, layer-wide, map-long}
+use Rattle.ess_repr_laws.proofs.CellsOfMembers.{HasCells, MembersHaveCells, GoodSlot, map-long}
+use Rattle.ess_repr_laws.proofs.CellsOfOneChild.{layer-wide}
 use Rattle.ess_repr_laws.proofs.CellsOfOccurrences.{SetMember, set-member}
 use Rattle.ess_repr_laws.proofs.SortedSlots.{Climbs, Ordered, ordered-sorted_once, perm-distinct, perm-length, padded, padded-somes, padded-many, padded-length}
 use Rattle.ess_repr_laws.proofs.UsedPlaces.{run-used, take-picked, flags-exact, flags-fit, flags-used, flags-found, flags-many}

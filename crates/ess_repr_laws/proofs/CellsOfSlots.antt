@@ -22,8 +22,10 @@ use Rattle.ess_repr_laws.proofs.CanonicalPlaces.{AllOf, all-of-map}
 use Rattle.ess_repr_laws.proofs.TablesAndCells.{AxesDiffer}
 use Rattle.ess_repr_laws.proofs.AxesOfTables.{run-differs}
 use Rattle.ess_repr_laws.proofs.ExactCells.{AllExact}
-use Rattle.ess_repr_laws.proofs.SideBySide.{Along, along-both, SlotExact, placed, placed-behind}
-use Rattle.ess_repr_laws.proofs.CellsOfMembers.{HasCells, MembersHaveCells, GoodSlot, Good, Inside, Slots, slots-there, kept-good, kept-values, picked, Laid, layer-cells, map-long}
+use Rattle.ess_repr_laws.proofs.SideBySide.{Along, along-both}
+use Rattle.ess_repr_laws.proofs.PlacedSlots.{SlotExact, placed, placed-behind}
+use Rattle.ess_repr_laws.proofs.CellsOfMembers.{HasCells, MembersHaveCells, GoodSlot, Good, Inside, Slots, slots-there, kept-good, kept-values, picked, map-long}
+use Rattle.ess_repr_laws.proofs.CellsOfOneChild.{Laid, layer-cells}
 use Rattle.ess_repr_laws.proofs.SortedSlots.{by-perm, Climbs, by-climbs, Ordered, all-perm, perm-map, perm-length, padded, padded-somes, padded-length, padded-good, used-first, used-rise, Held}
 
 pub slots-differ : (n : ℕ) → AxesDiffer (one_to n ∷ [])

@@ -22,7 +22,8 @@ use Rattle.ess_repr_laws.proofs.CanonicalParts.{asked_of, value_of_layer}
 use Rattle.ess_repr_laws.proofs.CanonicalPlaces.{all_places}
 use Rattle.ess_repr_laws.proofs.Behind.{behind-none}
 use Rattle.ess_repr_laws.proofs.ExactCells.{AllExact, exact-length, exact-append}
-use Rattle.ess_repr_laws.proofs.SideBySide.{Along, placed, placed-exact, placed-behind}
+use Rattle.ess_repr_laws.proofs.SideBySide.{Along}
+use Rattle.ess_repr_laws.proofs.PlacedSlots.{placed, placed-exact, placed-behind}
 use Rattle.ess_repr_laws.proofs.CellsOfMembers.{HasCells, MembersHaveCells, take-front, drop-front, map-long}
 
 -- Each representation has the canonical cells of its domain's members.

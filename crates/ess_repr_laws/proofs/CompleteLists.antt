@@ -11,7 +11,6 @@ use Rattle.ess_semantics.specs.Numbers.{natural}
 use Rattle.ess_semantics.specs.Domains.{Span, Domain, Domains, booleans, integers, named, tuples, no_domains, more_domains, numbers_up, interval, span_members, items_from, members, members_of_each, member_list, add_heads, lists_of}
 use Rattle.ess_semantics.specs.Membership.{in_span, member, member_of_each}
 use Rattle.ess_repr_laws.specs.Finite.{FiniteAtom, FiniteAtoms, Complete}
-use Rattle.ess_semantics.specs.Atoms.{IsAtom}
 use Rattle.ess_semantics.proofs.Tests.{and-left, and-right, or-yes, if-not}
 use Rattle.ess_semantics.proofs.Orders.{same-itself, same-equal, text_exact, equal-of, of_list-to_list}
 use Rattle.ess_semantics.proofs.Sorting.{holds-sorted_once}

@@ -8,8 +8,8 @@ use Rattle.ess_semantics.proofs.Tests.{and-left, and-right}
 use Rattle.ess_repr_laws.specs.Finite.{FiniteAtom, Enumerable, AllEnumerable}
 use Rattle.ess_repr_laws.specs.WellFormed.{Well}
 use Rattle.ess_repr_laws.proofs.Enumerables.{IsEnumerated, AreEnumerated, atom-enumerable, tuples-enumerable, records-enumerable}
-use Rattle.ess_repr_laws.proofs.Fitting.{Formed, AllFormed, same_form, formed-same, atom-finite}
-use Rattle.ess_repr_laws.proofs.Forms.{domain-formed}
+use Rattle.ess_repr_laws.proofs.DomainForms.{Formed, AllFormed, same_form, formed-same, atom-finite}
+use Rattle.ess_repr_laws.proofs.DenotedDomains.{domain-formed}
 
 mutual
   -- The members are there, rise, are all members, and are as many as the bound says.

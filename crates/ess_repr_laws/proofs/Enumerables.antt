@@ -19,7 +19,7 @@ use Rattle.ess_repr_laws.proofs.TupleMembers.{AllListed, tuples-listed}
 use Rattle.ess_repr_laws.proofs.CellsOfMembers.{map-long}
 use Rattle.ess_repr_laws.proofs.CompleteLists.{atom-complete, InEach, T, lists-hold}
 use Rattle.ess_repr_laws.proofs.Universes.{heads-length}
-use Rattle.ess_repr_laws.proofs.Bounds.{atom-exact}
+use Rattle.ess_repr_laws.proofs.BoundedLists.{atom-exact}
 
 -- A listed domain: its members are there.
 pub record IsEnumerated (d : Domain) : Type 0 where

@@ -1,5 +1,5 @@
 -- A domain that meets the judgements on types and on what is enumerable is well formed.
-use Rattle.std.proofs.Common.{◌≡◌, refl, sym, ap, ◌∙◌, Bool, true, false, ◌&&◌, ◌||◌, not, if◌then◌else◌, List, [], ◌∷◌, ◌++◌}
+use Rattle.std.proofs.Common.{◌≡◌, refl, Bool, true, false, ◌&&◌, ◌||◌, not, if◌then◌else◌, List, [], ◌∷◌, ◌++◌}
 use Rattle.std.specs.List.{list_all}
 use Rattle.ess_semantics.specs.declared.words.Key.{Key}
 use Rattle.ess_semantics.specs.Trees.{Mark, Dom, Doms, bool_dom, int_dom, name_dom, tuple_dom, record_dom, matrix_dom, set_dom, mset_dom, function_dom, relation_dom, partition_dom, no_doms, more_doms}
@@ -8,7 +8,7 @@ use Rattle.ess_semantics.specs.Scopes.{Scope, Asked, every_dom, every_doms, ever
 use Rattle.ess_semantics.specs.DomainJudgements.{marks_among, marks_distinct, marks_fit, size_keys, is_binary, relation_flags, are_ints, ranges_fit, numbers_of, ranges_of, index_domains, fields_distinct, dom_fits, is_enumerable, listed_domains, all_fixed, dom_is_enumerable}
 use Rattle.ess_semantics.proofs.Tests.{and-left, and-right}
 use Rattle.ess_repr_laws.specs.WellFormed.{is_numbered, is_right, Well, AllWell}
-use Rattle.ess_repr_laws.proofs.Forms.{marks-right}
+use Rattle.ess_repr_laws.proofs.DenotedDomains.{marks-right}
 
 -- The attributes of a domain that fits are those of its kind.
 fits-marks : (d : Dom) (s : Scope) → dom_fits d s ≡ true → marks_fit d ≡ true

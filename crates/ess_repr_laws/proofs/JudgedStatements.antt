@@ -1,5 +1,5 @@
 -- What the judgements of a statement say of its domain.
-use Rattle.std.proofs.Common.{◌≡◌, refl, sym, ap, ◌∙◌, Bool, true, false, ◌&&◌, Option, Some, None}
+use Rattle.std.proofs.Common.{◌≡◌, refl, sym, ap, ◌∙◌, Bool, true, ◌&&◌, Option, Some}
 use Rattle.ess_semantics.specs.Lists.{is_none_or}
 use Rattle.ess_semantics.specs.Trees.{Dom, Doms, bool_dom, int_dom, name_dom, tuple_dom, record_dom, matrix_dom, set_dom, mset_dom, function_dom, relation_dom, partition_dom, no_doms, more_doms, Stm}
 use Rattle.ess_semantics.specs.DomainJudgements.{dom_fits, dom_is_enumerable, is_finite, are_finite, is_enumerable, needs_known_slots, all_need_known_slots}

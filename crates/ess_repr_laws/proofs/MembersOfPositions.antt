@@ -1,21 +1,20 @@
 -- The members of a domain with positions are the values with positions of its members.
-use Rattle.std.proofs.Common.{◌≡◌, refl, sym, ap, ◌∙◌, ℕ, zero, suc, ◌+◌, Bool, true, false, ◌&&◌, List, [], ◌∷◌, ◌++◌, map, ℤ, pos, ◌+ℤ◌, ◌-ℤ◌, Option, Some, None, option_map, append-nil, arith}
+use Rattle.std.proofs.Common.{◌≡◌, refl, sym, ap, ◌∙◌, ℕ, zero, suc, ◌+◌, Bool, true, List, [], ◌∷◌, ◌++◌, map, ℤ, pos, ◌+ℤ◌, ◌-ℤ◌, Option, Some, None, option_map, append-nil, arith}
 use Rattle.std.proofs.lemmas.Int.{ints}
 use Rattle.std.specs.List.{list_all}
-use Rattle.ess_semantics.specs.Lists.{and_then, all_some, append_all, list_or_none}
-use Rattle.ess_semantics.specs.Values.{Text, Kind, a_tuple, a_record, Value, number, truth, item, node, of_list, tuple, itself}
-use Rattle.ess_semantics.specs.Collections.{rises, sorted_once}
+use Rattle.ess_semantics.specs.Lists.{and_then, all_some, list_or_none}
+use Rattle.ess_semantics.specs.Values.{Text, Kind, a_tuple, a_record, Value, number, node, of_list, tuple}
+use Rattle.ess_semantics.specs.Collections.{sorted_once}
 use Rattle.ess_semantics.specs.Numbers.{natural}
-use Rattle.ess_semantics.specs.Domains.{Span, Domain, Domains, booleans, integers, named, tuples, records, matrices, sets, msets, functions, relations, partitions, no_domains, more_domains, numbers_up, interval, items_from, add_heads, lists_of, members, members_of_each, member_list, between}
+use Rattle.ess_semantics.specs.Domains.{Span, Domain, Domains, booleans, integers, named, tuples, records, matrices, sets, msets, functions, relations, partitions, no_domains, more_domains, numbers_up, items_from, add_heads, lists_of, members, members_of_each, between}
 use Rattle.ess_semantics.specs.Membership.{member}
-use Rattle.ess_semantics.specs.Atoms.{Listed}
 use Rattle.ess_semantics.specs.Positions.{with_positions, domain_with_positions, domains_with_positions}
 use Rattle.ess_semantics.proofs.Tests.{and-left, and-right}
 use Rattle.ess_semantics.proofs.Sorting.{sorted_once-itself}
 use Rattle.ess_semantics.proofs.MemberLists.{integers-listed, named-listed}
 use Rattle.ess_repr_laws.proofs.TypesBack.{integer-back}
 use Rattle.ess_repr_laws.proofs.OrderOfPositions.{named-agree}
-use Rattle.ess_repr_laws.proofs.ListsOfPositions.{with_each, append-with, list-with, sorted-with}
+use Rattle.ess_repr_laws.proofs.ListsOfPositions.{with_each, list-with, sorted-with}
 
 -- ---- atoms
 

@@ -1,27 +1,28 @@
 -- The members of a domain with positions are exactly the values with positions of members of the domain.
-use Rattle.std.proofs.Common.{◌≡◌, refl, sym, ap, ◌∙◌, ℕ, Bool, true, false, ◌&&◌, ◌||◌, List, [], ◌∷◌, length, ℤ, pos, negsuc, int_le, nat_le, nat_eq, Option, Some, None, option_map}
+use Rattle.std.proofs.Common.{◌≡◌, refl, sym, ap, ◌∙◌, ℕ, Bool, true, false, ◌&&◌, ◌||◌, List, length, pos, negsuc, nat_le, nat_eq, Option, Some, None, option_map}
 use Rattle.std.specs.List.{list_all, list_any}
 use Rattle.std.specs.Ordering.{is_eq}
 use Rattle.std.proofs.lemmas.Cmp.{tied_itself}
 use Rattle.ess_semantics.specs.Lists.{is_some_and}
-use Rattle.ess_semantics.specs.Values.{Text, Kind, a_tuple, a_record, Value, number, truth, item, node, Values, nil, cons, to_list, of_list, tuple, matrix}
-use Rattle.ess_semantics.specs.Order.{order, orders, same_text, same_texts}
+use Rattle.ess_semantics.specs.Values.{Text, a_tuple, a_record, Value, number, truth, item, node, Values, nil, cons, to_list, of_list, tuple, matrix}
+use Rattle.ess_semantics.specs.Order.{order, same_text, same_texts}
 use Rattle.ess_semantics.specs.Domains.{Attribute, Span, Domain, Domains, booleans, integers, named, tuples, records, matrices, sets, msets, functions, relations, partitions, no_domains, more_domains, members}
 use Rattle.ess_semantics.specs.Attributes.{size_holds, relation_holds, head_members, relation_attributes_hold}
 use Rattle.ess_semantics.specs.Membership.{member, member_of_each, tuple_member, nested_matrix, same_list}
-use Rattle.ess_semantics.specs.Atoms.{IsAtom, AreAtoms}
 use Rattle.ess_semantics.specs.Positions.{with_positions, all_with_positions, domain_with_positions, domains_with_positions}
 use Rattle.ess_semantics.proofs.Tests.{and-left, and-right, and-both}
-use Rattle.ess_semantics.proofs.Orders.{to_list-of_list, of_list-to_list, orders_total, texts_total, text_total}
+use Rattle.ess_semantics.proofs.Orders.{to_list-of_list, of_list-to_list, orders_total, text_total}
 use Rattle.ess_repr_laws.specs.TypedDomains.{OneType, is_unnumbered, ArePairs, Typed, AllTyped}
 use Rattle.ess_repr_laws.proofs.CellsOfMatrices.{shape-of}
 use Rattle.ess_repr_laws.proofs.OneType.{type-itself, types-themselves, type-turned}
 use Rattle.ess_repr_laws.proofs.TypesBack.{boolean-back, integer-back, indices-are, tuple-components}
-use Rattle.ess_repr_laws.proofs.OrderOfPositions.{Agree, order-agrees, all-agree, tuples-agree, tuple-form, record-form}
+use Rattle.ess_repr_laws.proofs.OrderOfPositions.{Agree, order-agrees, all-agree, tuples-agree, tuple-form}
 use Rattle.ess_repr_laws.proofs.ListsOfPositions.{with_each, parts-with, list-with, length-with, all-there}
 use Rattle.ess_repr_laws.proofs.MembersOfPositions.{members-with}
 use Rattle.ess_repr_laws.proofs.AttributesOfPositions.{numbered-same}
-use Rattle.ess_repr_laws.proofs.LayersOfPositions.{Back, Matched, list-back, sets-matched, msets-matched, functions-matched, pairs-attributes, relations-matched, partitions-matched}
+use Rattle.ess_repr_laws.proofs.MatchedMembers.{Back, Matched, list-back}
+use Rattle.ess_repr_laws.proofs.SetsOfPositions.{sets-matched, msets-matched, functions-matched}
+use Rattle.ess_repr_laws.proofs.RelationsOfPositions.{pairs-attributes, relations-matched, partitions-matched}
 
 -- ---- atoms
 

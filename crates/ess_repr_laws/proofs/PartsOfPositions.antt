@@ -1,14 +1,14 @@
 -- What is asked of the parts of a partition is asked of their values with positions.
-use Rattle.std.proofs.Common.{◌≡◌, refl, sym, ap, ◌∙◌, ℕ, Bool, true, ◌&&◌, not, List, [], ◌∷◌, ◌++◌, map, length, ℤ, Option, Some, None, option_map}
+use Rattle.std.proofs.Common.{◌≡◌, refl, sym, ap, ◌∙◌, Bool, true, not, List, [], ◌∷◌, ◌++◌, map, length, ℤ, Option, Some, None, option_map}
 use Rattle.std.specs.List.{list_all}
 use Rattle.ess_semantics.specs.declared.words.Key.{Key}
-use Rattle.ess_semantics.specs.Lists.{is_some_and, append_all, is_empty}
-use Rattle.ess_semantics.specs.Values.{a_set, Value, node, to_list, items_of, itself}
+use Rattle.ess_semantics.specs.Lists.{append_all}
+use Rattle.ess_semantics.specs.Values.{Value, items_of, itself}
 use Rattle.ess_semantics.specs.Collections.{sorted_once, has_overlap, no_twice}
 use Rattle.ess_semantics.specs.Domains.{Attribute}
 use Rattle.ess_semantics.specs.Attributes.{size_holds, part_sizes, all_equal, partition_holds, parts_hold, partition_attributes_hold}
 use Rattle.ess_semantics.specs.Membership.{same_list, covers, is_part}
-use Rattle.ess_semantics.specs.Positions.{with_positions, all_with_positions}
+use Rattle.ess_semantics.specs.Positions.{with_positions}
 use Rattle.ess_semantics.proofs.Tests.{and-left, and-right, and-both}
 use Rattle.ess_semantics.proofs.Sorting.{all-sorted_once}
 use Rattle.ess_repr_laws.proofs.OrderOfPositions.{Agree}

@@ -1,7 +1,7 @@
 -- What a domain expression denotes has its form with positions too. So a representation that fits it has room for the members
 -- of the domain at which a plan speaks.
-use Rattle.std.proofs.Common.{◌≡◌, refl, true, false, List, [], ◌∷◌, Option, Some, None, option_map, subst}
-use Rattle.ess_semantics.specs.Trees.{both_ends, Repr, Dom, Doms, bool_dom, int_dom, name_dom, tuple_dom, record_dom, matrix_dom, set_dom, mset_dom, function_dom, relation_dom, partition_dom, no_doms, more_doms}
+use Rattle.std.proofs.Common.{◌≡◌, refl, true, Option, Some, None, option_map, subst}
+use Rattle.ess_semantics.specs.Trees.{Repr, Dom, Doms, bool_dom, int_dom, name_dom, tuple_dom, record_dom, matrix_dom, set_dom, mset_dom, function_dom, relation_dom, partition_dom, no_doms, more_doms}
 use Rattle.ess_semantics.specs.Domains.{Domain, Domains, booleans, integers, named, tuples, records, matrices, sets, msets, functions, relations, partitions, no_domains, more_domains}
 use Rattle.ess_semantics.specs.Kinds.{fits}
 use Rattle.ess_semantics.specs.DomainJudgements.{needs_known_slots}
@@ -10,8 +10,9 @@ use Rattle.ess_semantics.specs.Positions.{domain_with_positions, domains_with_po
 use Rattle.ess_semantics.specs.Plans.{plan_domain}
 use Rattle.ess_repr_laws.specs.Rooms.{Roomy}
 use Rattle.ess_repr_laws.specs.WellFormed.{Well, AllWell}
-use Rattle.ess_repr_laws.proofs.Fitting.{Formed, AllFormed, same_form, formed-same, fits-roomy}
-use Rattle.ess_repr_laws.proofs.Forms.{domain-formed, enumerable, dom-known}
+use Rattle.ess_repr_laws.proofs.DomainForms.{Formed, AllFormed, same_form, formed-same}
+use Rattle.ess_repr_laws.proofs.Fitting.{fits-roomy}
+use Rattle.ess_repr_laws.proofs.DenotedDomains.{domain-formed, enumerable, dom-known}
 
 mutual
   -- With positions the domain has the form of the expression still.

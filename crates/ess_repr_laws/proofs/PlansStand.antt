@@ -1,6 +1,6 @@
 -- What tables stand for at a plan's domain is a member of the domain with types, and comes back.
-use Rattle.std.proofs.Common.{◌≡◌, refl, sym, ap, ◌∙◌, Bool, true, ◌&&◌, [], Option, Some, None}
-use Rattle.ess_semantics.specs.Lists.{and_then, is_some_and}
+use Rattle.std.proofs.Common.{◌≡◌, refl, sym, ap, ◌∙◌, true, [], Some}
+use Rattle.ess_semantics.specs.Lists.{and_then}
 use Rattle.ess_semantics.specs.Values.{Value}
 use Rattle.ess_semantics.specs.Order.{same}
 use Rattle.ess_semantics.specs.Trees.{Repr}

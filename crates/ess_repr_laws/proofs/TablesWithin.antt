@@ -12,9 +12,10 @@ use Rattle.ess_repr_laws.specs.CanonicalTables.{TablesFit}
 use Rattle.ess_semantics.proofs.Tests.{and-left, and-right, and-both}
 use Rattle.ess_repr_laws.proofs.CanonicalPlaces.{all-of-list, places-index}
 use Rattle.ess_repr_laws.proofs.TablesAndCells.{AxesDiffer, AllAxesDiffer}
-use Rattle.ess_repr_laws.proofs.SideBySide.{Along, along-all, items-along}
+use Rattle.ess_repr_laws.proofs.SideBySide.{Along, along-all}
+use Rattle.ess_repr_laws.proofs.PlacesOfTables.{items-along}
 use Rattle.ess_repr_laws.proofs.ArgumentTables.{index-cell}
-use Rattle.ess_repr_laws.proofs.CellDomains.{cells_fit}
+use Rattle.ess_repr_laws.proofs.FittingCells.{cells_fit}
 
 items-within : (as' : Axes) (p : ℤ → Bool) (xs : List ℤ) → AxesDiffer as' → length xs ≡ volume as' → list_all p xs ≡ true → every_cell as' p (item_in as' xs) ≡ true
 items-within as' p xs d e h =

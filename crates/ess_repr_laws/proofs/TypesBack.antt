@@ -1,17 +1,15 @@
 -- The types of a member come back from its value with positions.
-use Rattle.std.proofs.Common.{◌≡◌, refl, sym, ap, ◌∙◌, ℕ, Bool, true, false, ◌&&◌, List, [], ◌∷◌, ℤ, pos, Option, Some, None, option_map, nat_le, nat_eq, length, if◌then◌else◌, IsTrue, is_some}
+use Rattle.std.proofs.Common.{◌≡◌, refl, sym, ap, ◌∙◌, ℕ, Bool, true, false, ◌&&◌, List, Option, Some, None, option_map, nat_le, if◌then◌else◌}
 use Rattle.std.specs.List.{list_all}
-use Rattle.std.specs.Ordering.{is_eq}
 use Rattle.ess_semantics.specs.Lists.{and_then, is_some_and, list_or_none}
 use Rattle.ess_semantics.specs.Values.{Text, Kind, a_tuple, a_matrix, a_set, a_mset, a_function, a_relation, a_partition, a_record, Value, number, truth, item, node, Values, nil, cons, to_list, of_list, tuple, pair, matrix, from_of, to_of}
 use Rattle.ess_semantics.specs.Order.{order_text, orders, same_text, same_texts}
-use Rattle.ess_semantics.specs.Domains.{Span, Domain, Domains, booleans, integers, named, tuples, records, matrices, sets, msets, functions, relations, partitions, no_domains, more_domains, members, member_list}
+use Rattle.ess_semantics.specs.Domains.{Span, Domain, Domains, booleans, integers, named, tuples, records, matrices, sets, msets, functions, relations, partitions, no_domains, more_domains, members}
 use Rattle.ess_semantics.specs.Membership.{member, member_of_each, tuple_member, nested_matrix, same_list, is_pair, is_part}
-use Rattle.ess_semantics.specs.Tables.{item_of_type}
 use Rattle.ess_semantics.specs.Atoms.{IsAtom, AreAtoms}
 use Rattle.ess_semantics.specs.Positions.{with_positions, all_with_positions, each_value, with_parts, each_part, both_parts, with_types, all_with_types, matrix_with_types}
 use Rattle.ess_semantics.proofs.Tests.{and-left, and-right}
-use Rattle.ess_semantics.proofs.Orders.{to_list-of_list, of_list-to_list, text_exact, orders_exact, equal-of}
+use Rattle.ess_semantics.proofs.Orders.{to_list-of_list, text_exact, orders_exact, equal-of}
 use Rattle.ess_semantics.proofs.MemberLists.{atom-listed}
 use Rattle.ess_repr_laws.specs.TypedDomains.{Typed, AllTyped}
 use Rattle.ess_repr_laws.proofs.CellsOfOccurrences.{set-member, relation-member}

@@ -14,7 +14,8 @@ use Rattle.ess_repr_laws.proofs.SlotsUsed.{as_place}
 use Rattle.ess_repr_laws.proofs.CanonicalPlaces.{AllOf, all-of-list, places-index}
 use Rattle.ess_repr_laws.proofs.TablesAndCells.{AxesDiffer, row-of-items}
 use Rattle.ess_repr_laws.proofs.ExactCells.{Exact, exact-items}
-use Rattle.ess_repr_laws.proofs.SideBySide.{Along, along-map, along-all, right-under, items-along}
+use Rattle.ess_repr_laws.proofs.SideBySide.{Along, along-map, along-all, right-under}
+use Rattle.ess_repr_laws.proofs.PlacesOfTables.{items-along}
 use Rattle.ess_repr_laws.proofs.CellsOfMembers.{picked, map-long}
 use Rattle.ess_repr_laws.proofs.SortedSlots.{padded}
 use Rattle.ess_repr_laws.proofs.ArgumentTables.{places-volume, index-cell}

@@ -1,6 +1,6 @@
 -- What the closed domains of well-typed expressions have: index domains are atoms, and attributes of pairs are asked of
 -- relations between values of one type.
-use Rattle.std.specs.Prelude.{◌≡◌, Bool, true, false, List}
+use Rattle.std.specs.Prelude.{◌≡◌, Bool, true, false}
 use Rattle.std.specs.List.{list_any}
 use Rattle.ess_semantics.specs.Domains.{Attribute, numbered, flagged, Domain, Domains, booleans, integers, named, tuples, records, matrices, sets, msets, functions, relations, partitions, no_domains, more_domains}
 use Rattle.ess_semantics.specs.Atoms.{AreAtoms}

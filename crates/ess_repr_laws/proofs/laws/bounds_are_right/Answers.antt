@@ -1,7 +1,7 @@
 use Rattle.ess_repr_laws.proofs.laws.bounds_are_right.Goals as goal
 use Rattle.ess_repr_laws.proofs.Bounds.{finite-bounded}
-use Rattle.ess_repr_laws.proofs.Fitting.{formed-same}
-use Rattle.ess_repr_laws.proofs.Forms.{domain-formed, dom-finite}
+use Rattle.ess_repr_laws.proofs.DomainForms.{formed-same}
+use Rattle.ess_repr_laws.proofs.DenotedDomains.{domain-formed, dom-finite}
 use Rattle.ess_repr_laws.proofs.EnumerableDomains.{enumerable-listed, denoted-enumerable}
 
 pub returns : goal.returns

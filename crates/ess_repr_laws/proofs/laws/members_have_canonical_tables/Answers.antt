@@ -1,6 +1,6 @@
 use Rattle.ess_repr_laws.proofs.laws.members_have_canonical_tables.Goals as goal
 use Rattle.ess_repr_laws.proofs.MembersHaveTables.{one-form}
-use Rattle.ess_repr_laws.proofs.Forms.{fitting-roomy}
+use Rattle.ess_repr_laws.proofs.DenotedDomains.{fitting-roomy}
 use Rattle.ess_repr_laws.proofs.PlanDomains.{plan-roomy}
 
 pub returns : goal.returns
