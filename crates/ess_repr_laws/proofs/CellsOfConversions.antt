@@ -75,6 +75,7 @@ module _ (k : ReprKind) (r : Repr) (d e : Domain) (turn : Value → Value) (back
           slots = Some (turn v, y.cells) ∷ [];
           there = ap (λ o. and_then o (λ c. option_map (λ ss. Some (turn v, c) ∷ ss) (Some []))) y.there;
           kept = ((refl, (y.exact, y.passes, y.stands)), tt);
+          inside = (m, tt);
         }
 
         laid : Laid k r d e [] [] everywhere false false turned no_own_tables back_built ic always_tidy v x.slots

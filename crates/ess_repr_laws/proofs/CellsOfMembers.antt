@@ -1,31 +1,67 @@
 -- What is shown of the canonical cells of a member, and slots that hold such cells.
-use Rattle.std.proofs.Common.{◌≡◌, refl, sym, ap, ◌∙◌, ℕ, zero, suc, ◌+◌, true, List, [], ◌∷◌, ◌++◌, map, take, drop, length, ℤ, Option, Some, None, option_map, append-nil}
+use Rattle.ess_semantics.specs.declared.words.ReprKind.{ReprKind}
+use Rattle.std.proofs.Common.{◌≡◌, refl, sym, ap, ◌∙◌, ℕ, zero, suc, ◌+◌, true, List, [], ◌∷◌, ◌++◌, map, take, drop, length, ℤ, Option, Some, None, option_map, append-nil, Bool, false, subst}
 use Rattle.ess_semantics.specs.Lists.{and_then, each_of}
 use Rattle.ess_semantics.specs.Values.{Value}
-use Rattle.ess_semantics.specs.Trees.{Repr}
+use Rattle.ess_semantics.specs.Trees.{Repr, Reprs, repr, no_reprs, more_reprs}
 use Rattle.ess_semantics.specs.Domains.{Domain}
 use Rattle.ess_semantics.specs.Membership.{member}
 use Rattle.ess_semantics.specs.Tables.{Tables}
 use Rattle.ess_semantics.specs.Cells.{Cells, behind, cells_of, tables_over}
 use Rattle.ess_semantics.specs.Layers.{Slot}
-use Rattle.ess_semantics.specs.Representations.{width, value_of_cells, value_of_tables}
+use Rattle.ess_semantics.specs.Representations.{width, value_of_cells, value_of_tables, layer}
 use Rattle.ess_semantics.specs.Declarations.{axes_of}
 use Rattle.ess_semantics.specs.Canonical.{somes, cells_or, canonical_slots, canonical_cells, tables_of_value}
 use Rattle.ess_semantics.specs.CanonicalTest.{canonical}
 use Rattle.ess_semantics.specs.Tidy.{over_axes}
+use Rattle.ess_repr_laws.specs.CanonicalTables.{is_compound}
 use Rattle.ess_repr_laws.proofs.CanonicalPlaces.{AllOf}
 use Rattle.ess_repr_laws.proofs.Behind.{behind-none}
 use Rattle.ess_repr_laws.proofs.ExactCells.{AllExact, exact-length, exact-tables, over-axes}
 use Rattle.ess_repr_laws.proofs.SideBySide.{Along}
 use Rattle.ess_repr_laws.proofs.PlacedSlots.{SlotExact}
 
--- The canonical cells of a value: they are there, exactly over the axes, they are canonical, and stand for the value.
+-- A value is a member where it is there.
+abbrev pub Inside : Domain → Option Value → Type 0
+Inside e None = Unit {0}
+Inside e (Some v) = member e v ≡ true
+
+-- The values of an only child are its members.
+abbrev pub ChildInside : List Domain → List (List (Option Value)) → Type 0
+ChildInside (e ∷ []) (vs ∷ []) = AllOf vs (Inside e)
+ChildInside es vss = Unit {0}
+
+-- What is said where a test fails.
+abbrev pub Unless : Bool → Type 0 → Type 0
+Unless true T = Unit {0}
+Unless false T = T
+
+-- It is said where it holds.
+pub unless : {T : Type 0} (b : Bool) → T → Unless b T
+unless true t = tt
+unless false t = t
+
+-- The inner values of a layer with one child are members of the child's domain.
+abbrev pub InnerInside : Repr → Domain → Value → Type 0
+InnerInside (repr k (more_reprs r no_reprs)) d v =
+    Unless (is_compound k) (elim (layer k d) as (λ o. Type 0) [ None ↦ Unit {0} | Some l ↦ ChildInside l.children (l.contents v) ])
+InnerInside r d v = Unit {0}
+
+-- Nothing is said of components.
+pub compound-inner : (k : ReprKind) (rs : Reprs) (d : Domain) (v : Value) → is_compound k ≡ true → InnerInside (repr k rs) d v
+compound-inner k no_reprs d v e = tt
+compound-inner k (more_reprs r (more_reprs q rs)) d v e = tt
+compound-inner k (more_reprs r no_reprs) d v e = subst (λ b. Unless b (elim (layer k d) as (λ o. Type 0) [ None ↦ Unit {0} | Some l ↦ ChildInside l.children (l.contents v) ])) (sym e) tt
+
+-- The canonical cells of a value: they are there, exactly over the axes, they are canonical, and stand for the value. Inner
+-- values are members.
 pub record HasCells (r : Repr) (d : Domain) (v : Value) : Type 0 where
   pub cells : Cells
   pub there : canonical_cells r d v ≡ Some cells
   pub exact : AllExact (axes_of r d) cells
   pub passes : canonical r d cells ≡ true
   pub stands : value_of_cells r d cells ≡ Some v
+  pub inner : InnerInside r d v
 
 -- So for each member of a domain.
 pub record MembersHaveCells (r : Repr) (d : Domain) : Type 0 where
@@ -91,11 +127,6 @@ abbrev pub Good : Repr → Domain → Option Slot → Type 0
 Good r e None = Unit {0}
 Good r e (Some s) = GoodSlot r e s
 
--- a value is a member where it is there
-abbrev pub Inside : Domain → Option Value → Type 0
-Inside e None = Unit {0}
-Inside e (Some v) = member e v ≡ true
-
 -- a slot with good cells for a value that is there
 abbrev pub Kept : Repr → Domain → Option Value → Option Slot → Type 0
 Kept r e None None = Unit {0}
@@ -106,12 +137,13 @@ pub record Slots (r : Repr) (e : Domain) (vs : List (Option Value)) : Type 0 whe
   pub slots : List (Option Slot)
   pub there : canonical_slots vs (canonical_cells r e) ≡ Some slots
   pub kept : Along vs slots (Kept r e)
+  pub inside : AllOf vs (Inside e)
 
 pub slots-there : (r : Repr) (e : Domain) → ((v : Value) → member e v ≡ true → HasCells r e v) → (vs : List (Option Value)) → AllOf vs (Inside e) → Slots r e vs
-slots-there r e of_member [] h = record { slots = []; there = refl; kept = tt }
+slots-there r e of_member [] h = record { slots = []; there = refl; kept = tt; inside = tt }
 slots-there r e of_member (None ∷ vs) h =
     let x = slots-there r e of_member vs h.1 in
-    record { slots = None ∷ x.slots; there = ap (option_map (λ ss. None ∷ ss)) x.there; kept = (tt, x.kept) }
+    record { slots = None ∷ x.slots; there = ap (option_map (λ ss. None ∷ ss)) x.there; kept = (tt, x.kept); inside = h }
 slots-there r e of_member (Some v ∷ vs) h =
     let x = slots-there r e of_member vs h.1 in
     let y = of_member v h.0 in
@@ -119,6 +151,7 @@ slots-there r e of_member (Some v ∷ vs) h =
       slots = Some (v, y.cells) ∷ x.slots;
       there = ap (λ o. and_then o (λ c. option_map (λ ss. Some (v, c) ∷ ss) (canonical_slots vs (canonical_cells r e)))) y.there ∙ ap (option_map (λ ss. Some (v, y.cells) ∷ ss)) x.there;
       kept = ((refl, (y.exact, y.passes, y.stands)), x.kept);
+      inside = h;
     }
 
 pub kept-good : (r : Repr) (e : Domain) (vs : List (Option Value)) (ss : List (Option Slot)) → Along vs ss (Kept r e) → AllOf ss (Good r e)

@@ -15,6 +15,7 @@ use Rattle.ess_semantics.specs.Declarations.{axes_of, declared_own, declarations
 use Rattle.ess_semantics.specs.Canonical.{cells_or, arranged, canonical_layer, canonical_cells, canonical_children}
 use Rattle.ess_semantics.specs.CanonicalTest.{own_cells_fit, in_use_first, slots_rise, child_is_canonical, children_are_canonical, canonical}
 use Rattle.ess_semantics.proofs.Tests.{and-both}
+use Rattle.ess_repr_laws.specs.CanonicalTables.{is_compound}
 use Rattle.ess_repr_laws.proofs.RowsOfCells.{own_axes, axes_in, axes-of-layer}
 use Rattle.ess_repr_laws.proofs.CanonicalParts.{asked_of, value_of_layer}
 use Rattle.ess_repr_laws.proofs.CanonicalPlaces.{AllOf, all-of-map}
@@ -22,7 +23,7 @@ use Rattle.ess_repr_laws.proofs.TablesAndCells.{AxesDiffer}
 use Rattle.ess_repr_laws.proofs.ExactCells.{AllExact, exact-length, exact-append}
 use Rattle.ess_repr_laws.proofs.SideBySide.{Along, along-both, along-right, along-all}
 use Rattle.ess_repr_laws.proofs.PlacedSlots.{SlotExact, placed, placed-exact, placed-behind, zeros-zero}
-use Rattle.ess_repr_laws.proofs.CellsOfMembers.{Good, HasCells, MembersHaveCells, Slots, drop-front, drop-whole, good-exact, map-long, picked, picked-values, take-front, take-whole, values_in}
+use Rattle.ess_repr_laws.proofs.CellsOfMembers.{InnerInside, ChildInside, unless, Good, HasCells, MembersHaveCells, Slots, drop-front, drop-whole, good-exact, map-long, picked, picked-values, take-front, take-whole, values_in}
 
 -- ---- a layer with one child
 
@@ -77,7 +78,7 @@ module _ (k : ReprKind) (r : Repr) (d e : Domain) (own : List OwnTable) (bs : Ax
         length-sum xs ys n m p q = let l = length-append xs ys in omega (arith, l)
 
     pub layer-cells : MembersHaveCells r e → AxesDiffer bs → (v : Value) (x : Slots r e (ct v)) → Laid v (arranged one_child ass x.slots) → HasCells (repr k rs) d v
-    layer-cells child differ v x h = record { cells = whole; there = there; exact = exact; passes = passes; stands = stands }
+    layer-cells child differ v x h = record { cells = whole; there = there; exact = exact; passes = passes; stands = stands; inner = known }
       where
         ss : List (Option Slot)
         ss = arranged one_child ass x.slots
@@ -90,6 +91,9 @@ module _ (k : ReprKind) (r : Repr) (d e : Domain) (own : List OwnTable) (bs : Ax
 
         whole : Cells
         whole = mine ++ (inner ++ [])
+
+        known : InnerInside (repr k rs) d v
+        known = unless (is_compound k) (subst (λ o. elim o as (λ o. Type 0) [ None ↦ Unit {0} | Some l ↦ ChildInside l.children (l.contents v) ]) (sym at) x.inside)
 
         there : canonical_cells (repr k rs) d v ≡ Some whole
         there =

@@ -52,7 +52,7 @@ module _ (k : ReprKind) (d : Domain) (own : List OwnTable) (sorted distinct : Bo
     alone-wide = ap length (axes ∙ append-nil (own_axes own)) ∙ map-long (λ (t : OwnTable). t.axes) own ∙ ow ∙ (let e : own_width k ≡ own_width k + 0 = omega arith in e)
 
     pub alone-cells : (v : Value) → Alone v → HasCells (repr k no_reprs) d v
-    alone-cells v h = record { cells = whole; there = there; exact = exact; passes = passes; stands = stands }
+    alone-cells v h = record { cells = whole; there = there; exact = exact; passes = passes; stands = stands; inner = tt }
       where
         mine : Cells
         mine = cells_of (ot v [])

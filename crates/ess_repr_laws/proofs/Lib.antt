@@ -92,3 +92,6 @@ pub mod SetsOfPositions
 pub mod RelationsOfPositions
 pub mod MembersWithPositions
 pub mod PlansStand
+pub mod LayersDown
+pub mod LayersUp
+pub mod RoomBelow

@@ -1,18 +1,22 @@
 -- Laws of canonical tables, each stated at a function that does nothing, so that its proof is checked with the code.
-use Rattle.std.specs.Prelude.{◌≡◌, true, [], Some}
+use Rattle.std.specs.Prelude.{◌≡◌, true, false, List, [], ◌∷◌, length, drop, Option, Some}
+use Rattle.ess_semantics.specs.declared.words.ReprKind.{ReprKind}
+use Rattle.ess_semantics.specs.Lists.{and_then, each_of}
 use Rattle.ess_semantics.specs.Values.{Value}
 use Rattle.ess_semantics.specs.Order.{order}
-use Rattle.ess_semantics.specs.Trees.{Repr, Dom, Stm}
+use Rattle.ess_semantics.specs.Trees.{Repr, repr, no_reprs, more_reprs, Dom, Stm}
 use Rattle.ess_semantics.specs.Domains.{Domain}
 use Rattle.ess_semantics.specs.Membership.{member}
 use Rattle.ess_semantics.specs.Tables.{Tables}
 use Rattle.ess_semantics.specs.Cells.{cells_of}
 use Rattle.ess_semantics.specs.Kinds.{fits}
-use Rattle.ess_semantics.specs.Representations.{value_of_cells, value_of_tables}
+use Rattle.ess_semantics.specs.Representations.{layer, width, own_width, value_of_cells, value_of_tables}
 use Rattle.ess_semantics.specs.Declarations.{axes_of}
 use Rattle.ess_semantics.specs.Canonical.{tables_of_value}
 use Rattle.ess_semantics.specs.CanonicalTest.{canonical}
 use Rattle.ess_semantics.specs.Tidy.{over_axes}
+use Rattle.ess_semantics.specs.Layers.{Layer}
+use Rattle.ess_semantics.specs.OneLayer.{inner_values, layer_tables, inner_tables, layer_value}
 use Rattle.ess_semantics.specs.Meaning.{Env, domain_of}
 use Rattle.ess_semantics.specs.Positions.{with_positions, domain_with_positions, with_types}
 use Rattle.ess_semantics.specs.Scopes.{Scope}
@@ -23,7 +27,7 @@ use Rattle.ess_repr_laws.specs.Finite.{Enumerated, Bounded, Finite, Enumerable}
 use Rattle.ess_repr_laws.specs.Rooms.{Covered, Roomy}
 use Rattle.ess_repr_laws.specs.WellFormed.{Well}
 use Rattle.ess_repr_laws.specs.TypedDomains.{OneType, Typed}
-use Rattle.ess_repr_laws.specs.CanonicalTables.{Right, OneForm}
+use Rattle.ess_repr_laws.specs.CanonicalTables.{Right, OneForm, is_compound}
 
 -- The representation is one for the domain expression, which is well formed and needs slots of a known number.
 pub record Fitting (r : Repr) (d : Dom) : Type 0 where
@@ -84,3 +88,18 @@ pub record PlansStandForMembers : Type 0 where
   pub comes_back : (r : Repr) (e : Domain) → Typed e → (ts : Tables) (v : Value) → stands_for_member r e ts v ≡ true → value_with_types r e ts ≡ Some v
   pub canonical : (r : Repr) (e : Domain) → Typed e → Roomy r (domain_with_positions e) → (v : Value) → member e v ≡ true → (ts : Tables) →
       tables_of_value r (domain_with_positions e) (with_positions v) ≡ Some ts → stands_for_member r e ts v ≡ true
+
+-- One layer with one child, which is none of components. Down: the canonical tables of a member are the layer's, made of those of
+-- its inner values, which stand under a child with room. Up: the value that tables stand for is the layer's, made of the values
+-- of the slots in use.
+pub record LayersAreComposed : Type 0 where
+  pub room : (k : ReprKind) (r : Repr) (d e : Domain) (l : Layer) → is_compound k ≡ false → Roomy (repr k (more_reprs r no_reprs)) d →
+      layer k d ≡ Some l → l.children ≡ e ∷ [] → Roomy r e
+  pub down : (k : ReprKind) (r : Repr) (d e : Domain) (l : Layer) (v : Value) (vs : List (Option Value)) (tss : List Tables) →
+      is_compound k ≡ false → Roomy (repr k (more_reprs r no_reprs)) d → Roomy r e → member d v ≡ true →
+      layer k d ≡ Some l → l.children ≡ e ∷ [] → l.contents v ≡ vs ∷ [] → each_of (inner_values l v) (tables_of_value r e) ≡ Some tss →
+      layer_tables (repr k (more_reprs r no_reprs)) d v tss ≡ tables_of_value (repr k (more_reprs r no_reprs)) d v
+  pub up : (k : ReprKind) (r : Repr) (d e : Domain) (l : Layer) (ts : Tables) →
+      layer k d ≡ Some l → l.children ≡ e ∷ [] → length (drop (own_width k) ts) ≡ width r →
+      value_of_tables (repr k (more_reprs r no_reprs)) d ts [] ≡
+      and_then (inner_tables k d ts) (λ tss. and_then (each_of tss (λ t. value_of_tables r e t [])) (layer_value k d ts))

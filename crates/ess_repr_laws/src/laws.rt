@@ -1,6 +1,6 @@
 //! Laws of canonical tables, each the contract of a function that does nothing.
 
-ghost use Rattle.ess_repr_laws.specs.Laws.{MembersHaveCanonicalTables, JudgedDomainsAreWell, CanonicalTablesAreOne, CanonicalCellsAreRight, BoundsAreRight, PositionsStandForTypes, PlansStandForMembers};
+ghost use Rattle.ess_repr_laws.specs.Laws.{MembersHaveCanonicalTables, JudgedDomainsAreWell, CanonicalTablesAreOne, CanonicalCellsAreRight, BoundsAreRight, PositionsStandForTypes, PlansStandForMembers, LayersAreComposed};
 
 /// Each member of a domain has canonical tables under a representation that fits the domain: they are over exactly the declared
 /// axes, in the declared domains, canonical, stand for the member, and are the only ones.
@@ -36,4 +36,9 @@ pub fn positions_stand_for_types()
 /// Tables that stand for a member of a plan's domain stand for one with types, which comes back.
 pub fn plans_stand_for_members()
     ensures { PlansStandForMembers }
+{}
+
+/// One layer: its canonical tables are made of those of the inner values, and its value of theirs.
+pub fn layers_are_composed()
+    ensures { LayersAreComposed }
 {}
