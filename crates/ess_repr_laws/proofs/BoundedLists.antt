@@ -27,14 +27,17 @@ use Rattle.ess_repr_laws.proofs.Universes.{In, in-map, in-holds, holds-in, AllIn
 
 -- ---- lists of members with bounded counts
 
+-- n numbers, from a on.
 abbrev pub from_up : ℕ → ℕ → List ℕ
 from_up a zero = []
 from_up a (suc n) = a ∷ from_up (suc a) n
 
+-- They are n.
 pub from-up-length : (a n : ℕ) → length (from_up a n) ≡ n
 from-up-length a zero = refl
 from-up-length a (suc n) = ap suc (from-up-length (suc a) n)
 
+-- Each number between is one of them.
 pub in-from : (a n k : ℕ) → a ≤ k → k < a + n → In k (from_up a n)
 in-from a zero k p q = absurd (omega arith)
 in-from a (suc n) k p q = go (eq-or-lt_of_le p) (λ h. in-from (suc a) n k h (omega arith))
@@ -100,18 +103,22 @@ weakly xs h = of-weakly xs (go xs (sorted-of xs h))
     go [] r = tt
     go (x ∷ xs) r = (under x xs r.0, go xs r.1)
 
+-- A list that rises strictly rises, and has no item twice.
 pub sorted-set : (xs : List Value) → rises itself xs ≡ true → (rises_weakly xs ≡ true) × ((w : Value) → count xs w ≤ 1)
 sorted-set xs h = (weakly xs h, λ w. count-once xs w (sorted-distinct xs (sorted-of xs h)))
 
 -- ---- atoms
 
+-- The list of a finite atom's members has each of them.
 pub atom-universe : (d : Domain) → FiniteAtom d → length (member_list d) ≡ bound d → Universe (member d) (bound d)
 atom-universe d f e = record { us = member_list d; short = subst (λ k. length (member_list d) ≤ k) e (le_refl (length (member_list d))); all = atom-complete d f }
 
+-- So many values of a type are listed.
 pub items-length : (t : Text) (k n : ℕ) → length (items_from t k n) ≡ n
 items-length t k zero = refl
 items-length t k (suc n) = ap suc (items-length t (suc k) n)
 
+-- A finite atom has as many members as its bound says.
 pub atom-exact : (d : Domain) → FiniteAtom d → length (member_list d) ≡ bound d
 atom-exact booleans f = refl
 atom-exact (integers ss) f = refl
@@ -120,6 +127,7 @@ atom-exact _ f = absurd f.0
 
 -- ---- functions
 
+-- A list that has each function, no longer than the bound.
 pub functions-universe : (ks : List Attribute) (d c : Domain) → Universe (member d) (bound d) → Universe (member c) (bound c) → Universe (member (functions ks d c)) (bound (functions ks d c))
 functions-universe ks d c u w = record {
   us = map B choices;
@@ -166,6 +174,7 @@ places-bound : (is : Domains) → FiniteAtoms is → count_of_places is ≤ prod
 places-bound no_domains f = le_refl 1
 places-bound (more_domains i is) f = mul-le-mul (subst (λ k. length (member_list i) ≤ k) (atom-exact i f.0) (le_refl (length (member_list i)))) (places-bound is f.1)
 
+-- A list that has each matrix, no longer than the bound.
 pub matrices-universe : (is : Domains) (d : Domain) → FiniteAtoms is → Universe (member d) (bound d) → Universe (member (matrices is d)) (bound (matrices is d))
 matrices-universe is d f u = record {
   us = map B choices;

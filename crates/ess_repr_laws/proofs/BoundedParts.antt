@@ -27,11 +27,13 @@ use Rattle.ess_repr_laws.proofs.BoundedLists.{from-up-length, from_up, in-from}
 
 -- ---- tuples and records
 
+-- A list that has the components of each tuple.
 pub record Lists (ds : Domains) : Type 0 where
   ls : List (List Value)
   short : length (lists_of ls) ≤ product_bound ds
   all : (vs : Values) → member_of_each ds vs ≡ true → AllIn (to_list vs) ls
 
+-- With one more component.
 pub more-lists : (d : Domain) (ds : Domains) → Universe (member d) (bound d) → Lists ds → Lists (more_domains d ds)
 more-lists d ds u l = record {
   ls = u.us ∷ l.ls;
@@ -43,6 +45,7 @@ more-lists d ds u l = record {
     all' nil h = cc
     all' (cons v vs) h = (in-holds u.us v (u.all v (and-left (member d v) (member_of_each ds vs) h)), l.all vs (and-right (member d v) (member_of_each ds vs) h))
 
+-- Without components.
 pub no-lists : Lists no_domains
 no-lists = record { ls = []; short = le_refl 1; all = all' }
   where
@@ -50,6 +53,7 @@ no-lists = record { ls = []; short = le_refl 1; all = all' }
     all' nil h = tt
     all' (cons v vs) h = cc
 
+-- Compound values of such components.
 pub compound-universe : (ds : Domains) (K : Kind) (g : Value → Bool) → Lists ds → ((v : Value) → g v ≡ true → (vs : Values) × (v ≡ node K vs) × (member_of_each ds vs ≡ true)) → Universe g (product_bound ds)
 compound-universe ds K g l form = record {
   us = map B (lists_of l.ls);
@@ -60,6 +64,7 @@ compound-universe ds K g l form = record {
     B : List Value → Value
     B vs = node K (of_list vs)
 
+-- A member of a domain of tuples is a tuple of members.
 pub tuple-form : (ds : Domains) (v : Value) → member (tuples ds) v ≡ true → (vs : Values) × (v ≡ node a_tuple vs) × (member_of_each ds vs ≡ true)
 tuple-form ds (node a_tuple vs) h = (vs, refl, h)
 tuple-form ds (number n) h = cc
@@ -73,6 +78,7 @@ tuple-form ds (node a_relation vs) h = cc
 tuple-form ds (node a_partition vs) h = cc
 tuple-form ds (node (a_record fs) vs) h = cc
 
+-- A member of a domain of records is a record of members.
 pub record-form : (fs : List Text) (ds : Domains) (v : Value) → member (records fs ds) v ≡ true → (vs : Values) × (v ≡ node (a_record fs) vs) × (member_of_each ds vs ≡ true)
 record-form fs ds (node (a_record gs) vs) h = (vs, ap (λ us. node (a_record us) vs) (sym (texts_exact fs gs (equal-of (order_texts fs gs) (and-left (same_texts fs gs) (member_of_each ds vs) h)))), and-right (same_texts fs gs) (member_of_each ds vs) h)
 record-form fs ds (number n) h = cc
@@ -96,6 +102,7 @@ no-number k (p ∷ ps) v h = go (holds (items_of p) v) (sym (holds-append (items
     go true h ih = cc
     go false h ih = ih h
 
+-- A list that has each partition, no longer than the bound.
 pub partitions-universe : (ks : List Attribute) (d : Domain) → Universe (member d) (bound d) → Universe (member (partitions ks d)) (bound (partitions ks d))
 partitions-universe ks d u = record {
   us = map B choices;

@@ -48,6 +48,7 @@ mutual
       let b : length (under bs (declarations_below out r e)) ≡ width r = map-long (λ (t : Declaration). record { axes = bs ++ t.axes; cell = t.cell }) (declarations_below out r e) ∙ declared-wide out r e h.0 in
       let c = children-wide out rs es bs h.1 in omega (arith, a, b, c)
 
+-- A representation has as many lists of axes as tables.
 pub axes-wide : (r : Repr) (d : Domain) → Covered r d → length (axes_of r d) ≡ width r
 axes-wide r d h = map-long (λ (t : Declaration). t.axes) (declarations_below false r d) ∙ declared-wide false r d h
 

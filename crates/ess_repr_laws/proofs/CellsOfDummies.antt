@@ -215,6 +215,7 @@ module _ (d : Domain) (m : ℤ) (dummy : DummyOf d m) where
             go [] (c ∷ cs) a b = absurd b
             go (p ∷ ps) [] a b = absurd b
 
+    -- Members of sets over a domain with this dummy.
     pub of-dummy-members : MembersHaveCells (repr ReprKind.ExplicitVarSizeWithDummy no_reprs) (sets ks d)
     of-dummy-members = record {
       wide = alone-wide ReprKind.ExplicitVarSizeWithDummy (sets ks d) dummy_own false false dummy_tables dummy_built dummy_asked dummy_tidy refl refl;
@@ -222,6 +223,7 @@ module _ (d : Domain) (m : ℤ) (dummy : DummyOf d m) where
           (alone-cells ReprKind.ExplicitVarSizeWithDummy (sets ks d) dummy_own false false dummy_tables dummy_built dummy_asked dummy_tidy refl refl (node a_set (of_list x.0)) (alone x.0 x.2));
     }
 
+-- Members of sets in slots with a dummy.
 pub dummy-members : (d : Domain) (ks : List Attribute) → HasDummy d → SetRoom ks d → MembersHaveCells (repr ReprKind.ExplicitVarSizeWithDummy no_reprs) (sets ks d)
 dummy-members (integers (s ∷ [])) ks h room = go s.high refl h
   where

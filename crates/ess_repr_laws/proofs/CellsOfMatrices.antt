@@ -39,6 +39,7 @@ all-append : (f : Value → Bool) (xs ys : List Value) → list_all f xs ≡ tru
 all-append f [] ys p q = q
 all-append f (x ∷ xs) ys p q = and-both (f x) (list_all f (xs ++ ys)) (and-left (f x) (list_all f xs) p) (all-append f xs ys (and-right (f x) (list_all f xs) p) q)
 
+-- The elements of a matrix: members, as many as there are places, which make the matrix again.
 pub record Elements (is : Domains) (f : Value → Bool) (v : Value) : Type 0 where
   pub inside : list_all f (elements is v) ≡ true
   pub long : length (elements is v) ≡ count_of_places is
@@ -100,6 +101,7 @@ index-list (Some vs) ix h =
     let e = orders_exact (of_list vs) (of_list (to_list ix)) (equal-of (orders (of_list vs) (of_list (to_list ix))) h) in
     sym (to_list-of_list vs) ∙ ap to_list e ∙ to_list-of_list (to_list ix)
 
+-- The elements of a member are such.
 pub elements-of : (is : Domains) (f : Value → Bool) (v : Value) → nested_matrix is f v ≡ true → Elements is f v
 elements-of no_domains f v h = record { inside = ap (λ b. b && true) h; long = refl; back = refl }
 elements-of (more_domains i is) f v h = go (shape-of i is f v h) (λ x. all-elements is f (elements-of is f) x)
@@ -164,6 +166,7 @@ module _ (r : Repr) (is : Domains) (d : Domain) (atoms : AreAtoms is) (child : M
       let x = slots-there r d child.of_member (contents_of v) (some-inside d (elements is v) e.inside) in
       layer-cells ReprKind.Matrix r (matrices is d) d [] axes everywhere false false contents_of no_own_tables matrix_built always_canonical always_tidy refl refl child (atom-axes is atoms) v x (laid v e x)
 
+  -- Members of matrices.
   pub matrix-members : MembersHaveCells (repr ReprKind.Matrix (more_reprs r no_reprs)) (matrices is d)
   matrix-members = record {
     wide = layer-wide ReprKind.Matrix r (matrices is d) d [] axes everywhere false false contents_of no_own_tables matrix_built always_canonical always_tidy refl refl child.wide;

@@ -79,6 +79,7 @@ pub record HasTables (r : Repr) (d : Domain) (v : Value) : Type 0 where
   pub passes : canonical r d (cells_of tables) ≡ true
   pub stands : value_of_tables r d tables [] ≡ Some v
 
+-- Canonical cells make canonical tables.
 pub cells-tables : (r : Repr) (d : Domain) (v : Value) → HasCells r d v → HasTables r d v
 cells-tables r d v h =
     let e = exact-tables (axes_of r d) h.cells h.exact in
@@ -95,24 +96,29 @@ cells-tables r d v h =
 
 -- ---- parts of cells
 
+-- The first cells of two lists.
 pub take-front : (n : ℕ) (c c' : Cells) → length c ≡ n → take n (c ++ c') ≡ c
 take-front zero [] c' e = refl
 take-front zero (f ∷ fs) c' e = cc
 take-front (suc n) [] c' e = cc
 take-front (suc n) (f ∷ fs) c' e = let e' : length fs ≡ n = cc in ap (λ l. f ∷ l) (take-front n fs c' e')
 
+-- The cells behind them.
 pub drop-front : (n : ℕ) (c c' : Cells) → length c ≡ n → drop n (c ++ c') ≡ c'
 drop-front zero [] c' e = refl
 drop-front zero (f ∷ fs) c' e = cc
 drop-front (suc n) [] c' e = cc
 drop-front (suc n) (f ∷ fs) c' e = let e' : length fs ≡ n = cc in drop-front n fs c' e'
 
+-- All cells are the first ones.
 pub take-whole : (n : ℕ) (c : Cells) → length c ≡ n → take n c ≡ c
 take-whole n c e = ap (take n) (sym (append-nil c)) ∙ take-front n c [] e
 
+-- Nothing is behind them.
 pub drop-whole : (n : ℕ) (c : Cells) → length c ≡ n → drop n c ≡ []
 drop-whole n c e = ap (drop n) (sym (append-nil c)) ∙ drop-front n c [] e
 
+-- A list of images is as long.
 pub map-long : {A B : Type 0} (f : A → B) (xs : List A) → length (map f xs) ≡ length xs
 map-long f [] = refl
 map-long f (x ∷ xs) = ap suc (map-long f xs)
@@ -123,6 +129,7 @@ map-long f (x ∷ xs) = ap suc (map-long f xs)
 abbrev pub GoodSlot : Repr → Domain → Slot → Type 0
 GoodSlot r e s = AllExact (axes_of r e) s.1 × (canonical r e s.1 ≡ true) × (value_of_cells r e s.1 ≡ Some s.0)
 
+-- The same where there is a slot.
 abbrev pub Good : Repr → Domain → Option Slot → Type 0
 Good r e None = Unit {0}
 Good r e (Some s) = GoodSlot r e s
@@ -133,12 +140,14 @@ Kept r e None None = Unit {0}
 Kept r e (Some v) (Some s) = (s.0 ≡ v) × GoodSlot r e s
 Kept r e _ _ = ⊥
 
+-- The slots of values, each with canonical cells, where the values are members.
 pub record Slots (r : Repr) (e : Domain) (vs : List (Option Value)) : Type 0 where
   pub slots : List (Option Slot)
   pub there : canonical_slots vs (canonical_cells r e) ≡ Some slots
   pub kept : Along vs slots (Kept r e)
   pub inside : AllOf vs (Inside e)
 
+-- Members have slots.
 pub slots-there : (r : Repr) (e : Domain) → ((v : Value) → member e v ≡ true → HasCells r e v) → (vs : List (Option Value)) → AllOf vs (Inside e) → Slots r e vs
 slots-there r e of_member [] h = record { slots = []; there = refl; kept = tt; inside = tt }
 slots-there r e of_member (None ∷ vs) h =
@@ -154,6 +163,7 @@ slots-there r e of_member (Some v ∷ vs) h =
       inside = h;
     }
 
+-- Slots for values are good.
 pub kept-good : (r : Repr) (e : Domain) (vs : List (Option Value)) (ss : List (Option Slot)) → Along vs ss (Kept r e) → AllOf ss (Good r e)
 kept-good r e [] [] h = tt
 kept-good r e (None ∷ vs) (None ∷ ss) h = (tt, kept-good r e vs ss h.1)
@@ -167,6 +177,7 @@ kept-good r e (v ∷ vs) [] h = absurd h
 abbrev pub values_in : List (Option Slot) → List Value
 values_in ss = map (λ s. s.0) (somes ss)
 
+-- The values in them are those values.
 pub kept-values : (r : Repr) (e : Domain) (vs : List (Option Value)) (ss : List (Option Slot)) → Along vs ss (Kept r e) → values_in ss ≡ somes vs
 kept-values r e [] [] h = refl
 kept-values r e (None ∷ vs) (None ∷ ss) h = kept-values r e vs ss h.1
@@ -176,6 +187,7 @@ kept-values r e (Some v ∷ vs) (None ∷ ss) h = absurd h.0
 kept-values r e [] (s ∷ ss) h = absurd h
 kept-values r e (v ∷ vs) [] h = absurd h
 
+-- A good slot has exactly the cells of its axes.
 pub good-exact : (r : Repr) (e : Domain) (s : Option Slot) → Good r e s → SlotExact (axes_of r e) s
 good-exact r e None h = tt
 good-exact r e (Some s) h = h.0

@@ -93,6 +93,7 @@ module _ (r : Repr) (e : Domain) (ks : List Attribute) (child : MembersHaveCells
             (each-imply ks (λ k n. occurs_holds k n xs) (λ k z. occurs_holds k z (map (λ s. s.0) ts)) (λ k n h. occurs-perm k n xs (map (λ s. s.0) ts) q h) (occurs-part ks xs m.attributes));
       }
 
+  -- Members of multisets in slots with repeats.
   pub repetition-members : MembersHaveCells (repr ReprKind.MSetExplicitWithRepetition (more_reprs r no_reprs)) (msets ks e)
   repetition-members = record {
     wide = layer-wide ReprKind.MSetExplicitWithRepetition r (msets ks e) e repeats_own (one_to S ∷ []) up_to_marker true false (λ v. some_each (items_of v)) marker_table repeats_built repeats_asked always_tidy refl refl child.wide;
@@ -262,6 +263,7 @@ module _ (r : Repr) (e : Domain) (ks : List Attribute) (child : MembersHaveCells
       as-numbers [] = refl
       as-numbers (s ∷ us) = ap (λ n. n ∷ map (slot_count (value xs)) us) (slot-times xs s) ∙ ap (λ l. pos (times xs s) ∷ l) (as-numbers us)
 
+  -- Members of multisets in slots with numbers.
   pub mset-flags-members : MembersHaveCells (repr ReprKind.MSetExplicitWithFlags (more_reprs r no_reprs)) (msets ks e)
   mset-flags-members = record {
     wide = layer-wide ReprKind.MSetExplicitWithFlags r (msets ks e) e counted_own (one_to S ∷ []) where_counted true true (λ v. some_each (members v)) counted_tables counted_built counted_asked always_tidy refl refl child.wide;

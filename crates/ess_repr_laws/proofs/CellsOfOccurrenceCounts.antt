@@ -30,6 +30,7 @@ use Rattle.ess_repr_laws.proofs.CompleteLists.{atom-complete}
 use Rattle.ess_repr_laws.proofs.ArgumentTables.{argument-exact, argument-cells, argument-fit, argument-row}
 use Rattle.ess_repr_laws.proofs.Times.{MsetMember, mset-member, occurs-most, Among, repeated-again, counts-said}
 
+-- A number up to u is in `int(0..u)`.
 pub up-to-fits : (u c : ℕ) → c ≤ u → is_cell (up_to u) (pos c) ≡ true
 up-to-fits u c h = ap (λ b. b || false) (and-both (nat_le 0 c) (nat_le c u) (le-leb 0 c (omega arith)) (le-leb c u h))
 
@@ -94,6 +95,7 @@ module _ (d : Domain) (ks : List Attribute) (finite : FiniteAtom d) (bound : Occ
       each [] p = tt
       each (y ∷ ys) p = (p y, each ys p)
 
+  -- Members of multisets as how often each occurs.
   pub mset-occurrence-members : MembersHaveCells (repr ReprKind.MSetOccurrence no_reprs) (msets ks d)
   mset-occurrence-members = record {
     wide = alone-wide ReprKind.MSetOccurrence (msets ks d) times_own false false times_tables times_built times_asked always_tidy refl refl;

@@ -29,6 +29,7 @@ use Rattle.ess_repr_laws.proofs.CellsOfMembers.{InnerInside, ChildInside, unless
 
 module _ (k : ReprKind) (r : Repr) (d e : Domain) (own : List OwnTable) (bs : Axes) (u : Use) (sorted distinct : Bool) (ct : Value → List (Option Value)) (ot : Value → List (Option Slot) → Tables)
     (b : Cells → List (List Value) → Option Value) (ic : Cells → List (List Value) → Bool) (td : Cells → Bool) where
+  -- The layer.
   abbrev pub one_child : Layer
   one_child = record {
     own = own;
@@ -69,6 +70,7 @@ module _ (k : ReprKind) (r : Repr) (d e : Domain) (own : List OwnTable) (bs : Ax
         ap (λ o. axes_in (elim o [ None ↦ [] | Some l ↦ map (declared_own false) l.own ++ declarations_of_children (false || leaves_out l.in_use) rs l.children l.axes ])) at
         ∙ axes-of-layer one_child rs
 
+    -- It has as many lists of axes as tables.
     pub layer-wide : length ass ≡ width r → length (axes_of (repr k rs) d) ≡ width (repr k rs)
     layer-wide w =
         ap length (axes ∙ ap (λ l. own_axes own ++ l) (append-nil (map (λ as'. bs ++ as') ass)))
@@ -77,6 +79,7 @@ module _ (k : ReprKind) (r : Repr) (d e : Domain) (own : List OwnTable) (bs : Ax
         length-sum : {A : Type 0} (xs ys : List A) (n m : ℕ) → length xs ≡ n → length ys ≡ m → length (xs ++ ys) ≡ n + (m + 0)
         length-sum xs ys n m p q = let l = length-append xs ys in omega (arith, l)
 
+    -- A member has canonical cells where the layer does what is asked with its slots in places.
     pub layer-cells : MembersHaveCells r e → AxesDiffer bs → (v : Value) (x : Slots r e (ct v)) → Laid v (arranged one_child ass x.slots) → HasCells (repr k rs) d v
     layer-cells child differ v x h = record { cells = whole; there = there; exact = exact; passes = passes; stands = stands; inner = known }
       where

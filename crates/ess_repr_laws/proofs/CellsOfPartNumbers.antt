@@ -208,6 +208,7 @@ module _ (d : Domain) (ks : List Attribute) (finite : FiniteAtom d) (bounded : B
           (ap (λ o. is_some_and o (λ v. is_partition_of ks d (items_of v))) built ∙ ap (is_partition_of ks d) items ∙ and-both (covers (members d) ps) (partition_attributes_hold ks ps) m.whole m.attributes);
     }
 
+  -- Members of partitions as the numbers of their members' parts.
   pub partition-occurrence-members : MembersHaveCells (repr ReprKind.PartitionOccurrence no_reprs) (partitions ks d)
   partition-occurrence-members = record {
     wide = alone-wide ReprKind.PartitionOccurrence (partitions ks d) numbers_own false false numbers_tables numbers_built numbers_asked always_tidy refl refl;

@@ -109,9 +109,11 @@ module _ (ds : List Domain) (f : Cells → List (List Value) → Option Value) (
         ap (λ o. axes_in (elim o [ None ↦ [] | Some l ↦ map (declared_own false) l.own ++ declarations_of_children (false || leaves_out l.in_use) rs l.children l.axes ])) at
         ∙ axes-of-layer whole rs
 
+    -- A layer of components has as many lists of axes as tables.
     pub compound-wide : length (axes_of (repr k rs) d) ≡ width (repr k rs)
     compound-wide = let n = children-wide rs ds all in let m = ap length axes in omega (arith, n, m, ow)
 
+    -- A value of components has canonical cells where each component is a member.
     pub compound-cells : (v : Value) (vs : List Value) → t v ≡ each_alone vs → Along ds vs (λ e v. member e v ≡ true) → f [] (map (λ v. v ∷ []) vs) ≡ Some v → InnerInside (repr k rs) d v → HasCells (repr k rs) d v
     compound-cells v vs e h b inner = go (parted rs ds vs all h)
       where
@@ -166,6 +168,7 @@ module _ (rs : Reprs) (ds : Domains) (all : AllHaveCells rs (domain_list ds)) wh
   tuple-cells (node a_partition vs) h = cc
   tuple-cells (node (a_record fs) vs) h = cc
 
+  -- Members of tuples.
   pub tuple-members : MembersHaveCells (repr ReprKind.Tuple rs) (tuples ds)
   tuple-members = record { wide = compound-wide (domain_list ds) tuple_built compound_contents ReprKind.Tuple (tuples ds) rs refl refl all; of_member = tuple-cells }
 
@@ -193,5 +196,6 @@ module _ (rs : Reprs) (ds : Domains) (all : AllHaveCells rs (domain_list ds)) wh
     record-cells (node a_relation vs) h = cc
     record-cells (node a_partition vs) h = cc
 
+    -- Members of records.
     pub record-members : MembersHaveCells (repr ReprKind.Rec rs) (records fs ds)
     record-members = record { wide = compound-wide (domain_list ds) record_built compound_contents ReprKind.Rec (records fs ds) rs refl refl all; of_member = record-cells }

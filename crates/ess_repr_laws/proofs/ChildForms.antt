@@ -13,6 +13,7 @@ use Rattle.ess_repr_laws.proofs.DomainForms.{Formed, Known, Marked, finite-known
 
 -- ---- the domains of children
 
+-- A given size, or a finite domain, gives room.
 pub room : (ks : List Attribute) (e : Domain) → IsTrue (is_some (greatest_size ks)) ⊎ Finite e → SetRoom ks e
 room ks e (inl h) = inl h
 room ks e (inr f) = inr (finite-bounded e f)
@@ -108,6 +109,7 @@ sizes-marked s a b n m k h = record {
   sized = keys-sized n m k;
 }
 
+-- The relation of a function's pairs has the form of its expression.
 pub relation-formed : (ms : List Mark) (ks : List Attribute) (d c : Dom) (e f : Domain) → Marked ms ks → Formed d e → Formed c f → Formed (child_relation_form ms d c) (child_relation ks e f)
 relation-formed ms ks d c e f m p q = (go (has Key.Total ks) refl, (p, (q, tt)))
   where
@@ -123,6 +125,7 @@ relation-formed ms ks d c e f m p q = (go (has Key.Total ks) refl, (p, (q, tt)))
         (if has Key.Size ks then attribute Key.MaxSize ks else or_else (attribute Key.MaxSize ks) (Some (bound e)))
         (λ h. m.size (sym (ap (λ b. b || has_key Key.Size ms) (sym m.same ∙ t)) ∙ h))
 
+-- Its slots are known.
 pub relation-known : (ms : List Mark) (ks : List Attribute) (e f : Domain) → Marked ms ks → Finite e → Known f → Known (child_relation ks e f)
 relation-known ms ks e f m fe kf = (inl (go (has Key.Total ks)), (finite-known e fe, (kf, tt)))
   where
@@ -146,6 +149,7 @@ relation-known ms ks e f m fe kf = (inl (go (has Key.Total ks)), (finite-known e
         ap is_some (keys-greatest (attribute Key.Size ks) (attribute Key.MinSize ks) (if has Key.Size ks then attribute Key.MaxSize ks else or_else (attribute Key.MaxSize ks) (Some (bound e))))
         ∙ rest (has Key.Size ks) refl
 
+-- So are those of the set of a relation's tuples.
 pub set-known : (ks : List Attribute) (es : Domains) → Known (relations ks es) → Known (child_set ks es)
 set-known ks es k = (go k.0, k.1)
   where

@@ -87,6 +87,7 @@ has-same k (valued l ∷ ms) [] p = absurd p
 has-same k (valued l ∷ ms) (flagged j ∷ ks) p = absurd p
 has-same k (valued l ∷ ms) (numbered j z ∷ ks) p = ap (λ i. same_key k i || has k ks) (sym p.0) ∙ ap (λ b. same_key k l || b) (has-same k ms ks p.1)
 
+-- What is denoted has the attributes that the marks say.
 pub marked : (ms : List Mark) (os : List (Option Value)) (ks : List Attribute) → attributes_of ms os ≡ Some ks → list_all is_right ms ≡ true → Marked ms ks
 marked ms os ks e r =
     let p = parallel ms os ks e in
@@ -99,6 +100,7 @@ marked ms os ks e r =
       sized = λ h. numbered-there Key.Size refl ms ks p r (sym (has-same Key.Size ms ks p) ∙ h);
     }
 
+-- Where the marks bound occurrences, so do the attributes.
 pub occurs-marked : (ms : List Mark) (os : List (Option Value)) (ks : List Attribute) → attributes_of ms os ≡ Some ks → list_all is_right ms ≡ true → bounds_occurrences ms ≡ true → OccursBound ks
 occurs-marked ms os ks e r b = go (has_key Key.Size ms) refl (has_key Key.MaxSize ms) refl b
   where
@@ -124,6 +126,7 @@ occurs-marked ms os ks e r b = go (has_key Key.Size ms) refl (has_key Key.MaxSiz
 
 -- ---- ranges
 
+-- What is denoted has the bounds that the ranges say.
 pub ranges : (rs : List Ends) (os : List (Option Value)) (ss : List Span) → spans_of rs os ≡ Some ss → Ranges rs ss
 ranges [] [] ss e = let q : [] ≡ ss = cc in subst (Ranges []) q tt
 ranges [] (o ∷ os) ss e = cc

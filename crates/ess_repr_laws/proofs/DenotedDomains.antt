@@ -109,6 +109,7 @@ mutual
 -- ---- finite expressions
 
 mutual
+  -- A finite expression denotes a finite domain.
   pub dom-finite : (d : Dom) (e : Domain) → Formed d e → same_form d e ≡ true → is_finite d ≡ true → Finite e
   dom-finite bool_dom e f s h = finite-of e (atom-finite bool_dom e f refl)
   dom-finite (int_dom rs es) e f s h = finite-of e (atom-finite (int_dom rs es) e f h)

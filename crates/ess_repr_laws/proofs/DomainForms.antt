@@ -32,6 +32,7 @@ Ranged both_ends s = IsTrue (is_some s.low) × IsTrue (is_some s.high)
 Ranged low_end s = Unit {0}
 Ranged high_end s = Unit {0}
 
+-- The same of several ranges.
 abbrev pub Ranges : List Ends → List Span → Type 0
 Ranges [] [] = Unit {0}
 Ranges (r ∷ rs) (s ∷ ss) = Ranged r s × Ranges rs ss
@@ -54,6 +55,7 @@ abbrev mutual
   Formed (partition_dom ms es d) (partitions ks e) = Marked ms ks × Formed d e
   Formed _ e = ⊥
 
+  -- The same of several domains.
   pub AllFormed : Doms → Domains → Type 0
   AllFormed no_doms no_domains = Unit {0}
   AllFormed (more_doms d ds) (more_domains e es) = Formed d e × AllFormed ds es
@@ -75,6 +77,7 @@ same_form (relation_dom ms es ds) (relations ks fs) = true
 same_form (partition_dom ms es d) (partitions ks e) = true
 same_form _ e = false
 
+-- A domain of an expression's form has its outermost form.
 pub formed-same : (d : Dom) (e : Domain) → Formed d e → same_form d e ≡ true
 formed-same bool_dom booleans f = refl
 formed-same (int_dom rs es) (integers ss) f = refl
@@ -105,11 +108,13 @@ abbrev mutual
   Known (partitions ks d) = Finite d
   Known d = Unit {0}
 
+  -- The same of several domains.
   pub AllKnown : Domains → Type 0
   AllKnown no_domains = Unit {0}
   AllKnown (more_domains d ds) = Known d × AllKnown ds
 
 mutual
+  -- The slots of a finite domain are known.
   pub finite-known : (d : Domain) → Finite d → Known d
   finite-known booleans f = tt
   finite-known (integers ss) f = tt
@@ -169,15 +174,18 @@ atom-at (name_dom x) (named t n) f s a = (tt, refl)
 atom-at (name_dom x) (integers ss) f s a = (tt, bounded-finite (both_ends ∷ []) ss refl f)
 atom-at d e f s a = cc
 
+-- A domain of the form of an atom is a finite one.
 pub atom-finite : (d : Dom) (e : Domain) → Formed d e → is_atom d ≡ true → FiniteAtom e
 atom-finite d e f a = atom-at d e f (formed-same d e f) a
 
+-- So are several.
 pub atoms-finite : (ds : Doms) (es : Domains) → AllFormed ds es → are_atoms ds ≡ true → FiniteAtoms es
 atoms-finite no_doms no_domains f a = tt
 atoms-finite (more_doms d ds) (more_domains e es) f a = (atom-finite d e f.0 (and-left (is_atom d) (are_atoms ds) a), atoms-finite ds es f.1 (and-right (is_atom d) (are_atoms ds) a))
 atoms-finite no_doms (more_domains e es) f a = absurd f
 atoms-finite (more_doms d ds) no_domains f a = absurd f
 
+-- A domain of the form of one cell is an atom.
 pub one-cell : (d : Dom) (e : Domain) → Formed d e → same_form d e ≡ true → is_one_cell d ≡ true → IsAtom e
 one-cell bool_dom booleans f s a = tt
 one-cell (int_dom rs es) (integers ss) f s a = tt
@@ -192,6 +200,7 @@ finite-of (integers ss) f = f.1
 finite-of (named t n) f = tt
 finite-of _ f = absurd f.0
 
+-- A domain of the form of one with a dummy has one, and is finite.
 pub of-dummy : (d : Dom) (e : Domain) → Formed d e → same_form d e ≡ true → has_dummy d ≡ true → HasDummy e × Finite e
 of-dummy (int_dom (both_ends ∷ []) es) (integers (s ∷ [])) f g h = (f.0.1, bounded-finite (both_ends ∷ []) (s ∷ []) refl f)
 of-dummy (int_dom (both_ends ∷ []) es) (integers (s ∷ r ∷ ss)) f g h = absurd f.1

@@ -32,15 +32,18 @@ pub record DummyOf (d : Domain) (m : ℤ) : Type 0 where
 
 -- ---- numbers
 
+-- The test of a smaller number.
 pub lt-test : (a b : ℤ) → a <ℤ b → int_lt a b ≡ true
 lt-test a b h = grind (arith, ints)
 
 le-itself : (a : ℤ) → int_le a a ≡ true
 le-itself a = grind (arith, ints)
 
+-- The same of the order of numbers.
 pub below-numbers : (a b : ℤ) → is_lt (int_cmp a b) ≡ true → int_lt a b ≡ true
 below-numbers a b h = lt-test a b (subst (λ o. MatchOrdering o (a <ℤ b) (a ≡ b) (b <ℤ a)) (less-of (int_cmp a b) h) (int_ranks a b))
 
+-- The same of natural numbers.
 pub nat-less : (k j : ℕ) → nat_cmp k j ≡ Less → k < j
 nat-less k j e = go (cases_lt k j)
   where
@@ -59,6 +62,7 @@ not-same m k l = go (same_int m k) refl
     go false e = e
     go true e = let q : m ≡ k = same_int-equal m k e in absurd (omega (arith, ints))
 
+-- The dummy of one range is the number above its bound.
 pub integers-dummy : (s : Span) (b : ℤ) → s.high ≡ Some b → DummyOf (integers (s ∷ [])) (b +ℤ pos 1)
 integers-dummy s b q = record {
   is = ap (option_map (λ b. b +ℤ pos 1)) q;
@@ -107,6 +111,7 @@ integers-dummy s b q = record {
     low' (item t j) y h k l = cc
     low' (node j vs) y h k l = cc
 
+-- The dummy of a type of n values is n + 1.
 pub named-dummy : (t : Text) (n : ℕ) → DummyOf (named t n) (pos n +ℤ pos 1)
 named-dummy t n = record {
   is = refl;

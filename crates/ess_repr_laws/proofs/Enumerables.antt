@@ -26,9 +26,11 @@ pub record IsEnumerated (d : Domain) : Type 0 where
   pub there : IsTrue (is_some (members d))
   pub enumerated : Enumerated d
 
+-- The members of a finite atom are there, and listed.
 pub atom-enumerable : (d : Domain) → FiniteAtom d → IsEnumerated d
 atom-enumerable d f = record { there = f.1; enumerated = record { listed = atom-listed d f.0; complete = atom-complete d f; exact = atom-exact d f } }
 
+-- So are those of each of the domains.
 abbrev pub AreEnumerated : Domains → Type 0
 AreEnumerated no_domains = Unit {0}
 AreEnumerated (more_domains d ds) = IsEnumerated d × AreEnumerated ds
@@ -72,6 +74,7 @@ lists (more_domains d ds) a = go (members d) refl h.there (lists ds a.1)
 
 -- ---- tuples
 
+-- The members of tuples of such domains are.
 pub tuples-enumerable : (ds : Domains) → AreEnumerated ds → IsEnumerated (tuples ds)
 tuples-enumerable ds a = record {
   there = ap (λ o. is_some (option_map (λ ls. map T (lists_of ls)) o)) l.are;
@@ -99,6 +102,7 @@ tuples-enumerable ds a = record {
 -- ---- records
 
 module _ (fs : List Text) where
+  -- The record of a list.
   abbrev pub F : List Value → Value
   F l = node (a_record fs) (of_list l)
 
@@ -124,6 +128,7 @@ module _ (fs : List Text) where
       (and-both (same_texts fs fs) (member_of_each ds (of_list m)) (ap is_eq (tied_itself texts_total fs)) (and-left (member_of_each ds (of_list m)) (list_all (member (tuples ds)) (map T ms)) h))
       (all-same ds ms (and-right (member_of_each ds (of_list m)) (list_all (member (tuples ds)) (map T ms)) h))
 
+  -- The members of records of such domains are.
   pub records-enumerable : (ds : Domains) → AreEnumerated ds → IsEnumerated (records fs ds)
   records-enumerable ds a = record {
     there = ap (λ o. is_some (option_map (λ ls. map F (lists_of ls)) o)) l.are;

@@ -74,6 +74,7 @@ every-imply (a ∷ as') p q f i h = go a (λ k e. every-imply as' p q (λ js. f 
         and-both (every_cell as' q (λ js. f (k ∷ js))) (list_all (λ k. every_cell as' q (λ js. f (k ∷ js))) ks) (ih k (and-left (every_cell as' p (λ js. f (k ∷ js))) (list_all (λ k. every_cell as' p (λ js. f (k ∷ js))) ks) h))
         (go ks ih (and-right (every_cell as' p (λ js. f (k ∷ js))) (list_all (λ k. every_cell as' p (λ js. f (k ∷ js))) ks) h))
 
+-- A layer's own cells that fit lie in the declared domains.
 pub own-fits : (out : Bool) (ts : List OwnTable) (c : Cells) → own_cells_fit ts c ≡ true → cells_fit (map (declared_own out) ts) c ≡ true
 own-fits out [] [] h = refl
 own-fits out [] (f ∷ fs) h = cc
@@ -87,6 +88,7 @@ own-fits out (t ∷ ts) (f ∷ fs) h =
 abbrev pub ZeroFits : List OwnTable → Type 0
 ZeroFits ts = AllOf ts (λ t. is_cell ((declared_own true t).cell) (pos 0) ≡ true)
 
+-- Own cells that are 0 lie in the widened ones.
 pub zero-own : (ts : List OwnTable) (c : Cells) → ZeroFits ts → are_zero (own_axes ts) c ≡ true → cells_fit (map (declared_own true) ts) c ≡ true
 zero-own [] [] z h = refl
 zero-own [] (f ∷ fs) z h = cc
@@ -98,6 +100,7 @@ zero-own (t ∷ ts) (f ∷ fs) z h =
 
 -- ---- tables side by side, and under further axes
 
+-- Two lists of tables.
 pub fit-append : (ts us : List Declaration) (c : Cells) → cells_fit ts (take (length ts) c) ≡ true → cells_fit us (drop (length ts) c) ≡ true → cells_fit (ts ++ us) c ≡ true
 fit-append [] us c h k = k
 fit-append (t ∷ ts) us [] h k = cc
@@ -121,6 +124,7 @@ every-under (b ∷ bs) as' p f h = go b (λ k e. every-under bs as' p (λ js. f 
         let r = split k (lists_of bs) (add_heads ks (lists_of bs)) h in
         and-both (every_cell (bs ++ as') p (λ js. f (k ∷ js))) (list_all (λ k. every_cell (bs ++ as') p (λ js. f (k ∷ js))) ks) (ih k r.0) (go ks ih r.1)
 
+-- Tables under further axes, where those at each place lie in their domains.
 pub fit-under : (bs : Axes) (ts : List Declaration) (c : Cells) → length c ≡ length ts → AllOf (lists_of bs) (λ q. cells_fit ts (behind q c) ≡ true) → cells_fit (under bs ts) c ≡ true
 fit-under bs [] [] e h = refl
 fit-under bs [] (f ∷ fs) e h = cc
@@ -131,6 +135,7 @@ fit-under bs (t ∷ ts) (f ∷ fs) e h =
     (every-under bs t.axes (is_cell t.cell) f (all-of-map (lists_of bs) (λ q. cells_fit (t ∷ ts) (behind q (f ∷ fs)) ≡ true) (λ q. every_cell t.axes (is_cell t.cell) (λ js. f (q ++ js)) ≡ true) (λ q r. and-left (every_cell t.axes (is_cell t.cell) (λ js. f (q ++ js))) (cells_fit ts (behind q fs)) r) h))
     (fit-under bs ts fs e' (all-of-map (lists_of bs) (λ q. cells_fit (t ∷ ts) (behind q (f ∷ fs)) ≡ true) (λ q. cells_fit ts (behind q fs) ≡ true) (λ q r. and-right (every_cell t.axes (is_cell t.cell) (λ js. f (q ++ js))) (cells_fit ts (behind q fs)) r) h))
 
+-- Two lists of tables that hold 0.
 pub zero-split : (as' bs' : List Axes) (c : Cells) → are_zero (as' ++ bs') c ≡ true → (are_zero as' (take (length as') c) ≡ true) × (are_zero bs' (drop (length as') c) ≡ true)
 zero-split [] bs' c h = (refl, h)
 zero-split (a ∷ as') bs' [] h = cc
@@ -138,6 +143,7 @@ zero-split (a ∷ as') bs' (f ∷ fs) h =
     let r = zero-split as' bs' fs (and-right (every_cell a (same_int (pos 0)) f) (are_zero (as' ++ bs') fs) h) in
     (and-both (every_cell a (same_int (pos 0)) f) (are_zero as' (take (length as') fs)) (and-left (every_cell a (same_int (pos 0)) f) (are_zero (as' ++ bs') fs) h) r.0, r.1)
 
+-- A property of each cell, at each place of the first axes.
 pub under-every : (bs as' : Axes) (p : ℤ → Bool) (f : Grid) → every_cell (bs ++ as') p f ≡ true → AllOf (lists_of bs) (λ q. every_cell as' p (λ js. f (q ++ js)) ≡ true)
 under-every [] as' p f h = (h, tt)
 under-every (b ∷ bs) as' p f h = go b (λ k e. under-every bs as' p (λ js. f (k ∷ js)) e) h
@@ -153,6 +159,7 @@ under-every (b ∷ bs) as' p f h = go b (λ k e. under-every bs as' p (λ js. f 
         join k (lists_of bs) (add_heads ks (lists_of bs)) (ih k (and-left (every_cell (bs ++ as') p (λ js. f (k ∷ js))) (list_all (λ k. every_cell (bs ++ as') p (λ js. f (k ∷ js))) ks) h))
         (go ks ih (and-right (every_cell (bs ++ as') p (λ js. f (k ∷ js))) (list_all (λ k. every_cell (bs ++ as') p (λ js. f (k ∷ js))) ks) h))
 
+-- Tables under further axes that hold 0.
 pub zero-under : (bs : Axes) (ass : List Axes) (c : Cells) → are_zero (map (λ as'. bs ++ as') ass) c ≡ true → AllOf (lists_of bs) (λ q. are_zero ass (behind q c) ≡ true)
 zero-under bs [] [] h = each (lists_of bs)
   where
@@ -167,6 +174,7 @@ zero-under bs (as' ∷ ass) (f ∷ fs) h =
     (under-every bs as' (same_int (pos 0)) f (and-left (every_cell (bs ++ as') (same_int (pos 0)) f) (are_zero (map (λ as'. bs ++ as') ass) fs) h))
     (zero-under bs ass fs (and-right (every_cell (bs ++ as') (same_int (pos 0)) f) (are_zero (map (λ as'. bs ++ as') ass) fs) h))
 
+-- Tables that hold 0 are as many as lists of axes.
 pub zero-length : (ass : List Axes) (c : Cells) → are_zero ass c ≡ true → length c ≡ length ass
 zero-length [] [] h = refl
 zero-length [] (f ∷ fs) h = cc
@@ -175,6 +183,7 @@ zero-length (a ∷ ass) (f ∷ fs) h = ap suc (zero-length ass fs (and-right (ev
 
 -- ---- the layers
 
+-- What is asked of a layer: its own tables are so many, hold 0 where they can be out of use, and its places are in use where all are.
 pub record View (k : ReprKind) (rs : Reprs) (d : Domain) : Type 0 where
   pub l : Layer
   pub at : layer k d ≡ Some l
@@ -223,6 +232,7 @@ view-atom (integers ss) a = record { l = atom_layer (integers ss); at = refl; wi
 view-atom (named t n) a = record { l = atom_layer (named t n); at = refl; wide = refl; zero = (refl, tt); used = λ e own. each-used ([] ∷ []); inner = tt }
 view-atom _ a = absurd a
 
+-- Each kind over its domain has such a layer.
 pub view : (k : ReprKind) (rs : Reprs) (d : Domain) → Covered (repr k rs) d → View k rs d
 view ReprKind.Atom no_reprs d h = view-atom d h
 view ReprKind.Tuple rs (tuples ds) h = record { l = tuple_layer ds; at = refl; wide = refl; zero = tt; used = λ e own. each-used ([] ∷ []); inner = h }

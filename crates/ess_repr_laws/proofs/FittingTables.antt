@@ -11,6 +11,7 @@ use Rattle.ess_repr_laws.proofs.FittingCells.{cells_fit}
 
 -- ---- items of tables
 
+-- The items of a table have the property that each cell has.
 pub row-fits : (as' : Axes) (p : ℤ → Bool) (f : Grid) → every_cell as' p f ≡ true → list_all p (row as' f) ≡ true
 row-fits [] p f h = go (f []) h
   where
@@ -29,6 +30,7 @@ row-fits (a ∷ as') p f h = go a (λ k e. row-fits as' p (λ js. f (k ∷ js)) 
         both (row as' (λ js. f (k ∷ js))) (gather ks (λ k. row as' (λ js. f (k ∷ js)))) (ih k (and-left (every_cell as' p (λ js. f (k ∷ js))) (list_all (λ k. every_cell as' p (λ js. f (k ∷ js))) ks) h))
         (go ks ih (and-right (every_cell as' p (λ js. f (k ∷ js))) (list_all (λ k. every_cell as' p (λ js. f (k ∷ js))) ks) h))
 
+-- Cells in declared domains make tables that fit.
 pub tables-fit : (ds : List Declaration) (c : Cells) → cells_fit ds c ≡ true → TablesFit ds (tables_over (map (λ t. t.axes) ds) c)
 tables-fit [] [] h = tt
 tables-fit [] (f ∷ fs) h = cc

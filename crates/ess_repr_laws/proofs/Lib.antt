@@ -49,6 +49,7 @@ pub mod CellsOfSets
 pub mod FunctionPairs
 pub mod CellsOfFunctions
 pub mod CellsOfConversions
+pub mod FunctionsAsRelations
 pub mod CellsOfTuples
 pub mod CellsOfMatrices
 pub mod DummyNumbers

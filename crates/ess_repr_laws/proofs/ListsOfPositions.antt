@@ -25,10 +25,12 @@ pub parts-with : (vs : Values) → to_list (all_with_positions vs) ≡ with_each
 parts-with nil = refl
 parts-with (cons v vs) = ap (λ l. with_positions v ∷ l) (parts-with vs)
 
+-- The same of a list as parts.
 pub list-with : (xs : List Value) → all_with_positions (of_list xs) ≡ of_list (with_each xs)
 list-with [] = refl
 list-with (x ∷ xs) = ap (cons (with_positions x)) (list-with xs)
 
+-- The first part of a pair.
 pub from-with : (v : Value) → from_of (with_positions v) ≡ with_positions (from_of v)
 from-with (pair a b) = refl
 from-with (number n) = refl
@@ -45,6 +47,7 @@ from-with (node a_relation vs) = refl
 from-with (node a_partition vs) = refl
 from-with (node (a_record fs) vs) = refl
 
+-- The second part of a pair.
 pub to-with : (v : Value) → to_of (with_positions v) ≡ with_positions (to_of v)
 to-with (pair a b) = refl
 to-with (number n) = refl
@@ -61,14 +64,17 @@ to-with (node a_relation vs) = refl
 to-with (node a_partition vs) = refl
 to-with (node (a_record fs) vs) = refl
 
+-- A list of parts.
 pub map-with : (f : Value → Value) → ((v : Value) → f (with_positions v) ≡ with_positions (f v)) → (xs : List Value) → map f (with_each xs) ≡ with_each (map f xs)
 map-with f h [] = refl
 map-with f h (x ∷ xs) = ap (λ v. v ∷ map f (with_each xs)) (h x) ∙ ap (λ l. with_positions (f x) ∷ l) (map-with f h xs)
 
+-- Two lists.
 pub append-with : (xs ys : List Value) → with_each (xs ++ ys) ≡ with_each xs ++ with_each ys
 append-with [] ys = refl
 append-with (x ∷ xs) ys = ap (λ l. with_positions x ∷ l) (append-with xs ys)
 
+-- A list of values with positions is as long.
 pub length-with : (xs : List Value) → length (with_each xs) ≡ length xs
 length-with [] = refl
 length-with (x ∷ xs) = ap suc (length-with xs)
@@ -81,6 +87,7 @@ all-with p f g h [] a = refl
 all-with p f g h (x ∷ xs) a =
     ap (λ b. b && list_all f (with_each xs)) (h x (and-left (p x) (list_all p xs) a)) ∙ ap (λ b. g x && b) (all-with p f g h xs (and-right (p x) (list_all p xs) a))
 
+-- The same of some value.
 pub any-with : (p f g : Value → Bool) → ((v : Value) → p v ≡ true → f (with_positions v) ≡ g v) → (xs : List Value) → list_all p xs ≡ true → list_any f (with_each xs) ≡ list_any g xs
 any-with p f g h [] a = refl
 any-with p f g h (x ∷ xs) a =
@@ -95,18 +102,22 @@ all-there p f h (x ∷ xs) a =
 -- ---- order
 
 module _ (p q : Value → Bool) (agree : Agree p q) where
+  -- Equal values.
   pub same-with : (v w : Value) → p v ≡ true → q w ≡ true → same (with_positions v) (with_positions w) ≡ same v w
   same-with v w h k = ap is_eq (agree v w h k)
 
+  -- Lower values.
   pub below-with : (v w : Value) → p v ≡ true → q w ≡ true → below (with_positions v) (with_positions w) ≡ below v w
   below-with v w h k = ap is_lt (agree v w h k)
 
+  -- Whether a value is in a list.
   pub holds-with : (xs : List Value) (w : Value) → list_all p xs ≡ true → q w ≡ true → holds (with_each xs) (with_positions w) ≡ holds xs w
   holds-with [] w h k = refl
   holds-with (x ∷ xs) w h k =
       ap (λ b. b || holds (with_each xs) (with_positions w)) (same-with x w (and-left (p x) (list_all p xs) h) k)
       ∙ ap (λ b. same x w || b) (holds-with xs w (and-right (p x) (list_all p xs) h) k)
 
+  -- How often it is.
   pub count-with : (xs : List Value) (w : Value) → list_all p xs ≡ true → q w ≡ true → count (with_each xs) (with_positions w) ≡ count xs w
   count-with [] w h k = refl
   count-with (x ∷ xs) w h k =
@@ -126,6 +137,7 @@ module _ (p : Value → Bool) (agree : Agree p p) where
       (and-left (p (f y)) (list_all (λ x. p (f x)) ys) (and-right (p (f x)) (list_all (λ x. p (f x)) (y ∷ ys)) h)))
       ∙ ap (λ b. below (f x) (f y) && b) (rises-with f c (y ∷ ys) (and-right (p (f x)) (list_all (λ x. p (f x)) (y ∷ ys)) h))
 
+  -- Whether a list rises with repeats.
   pub weakly-with : (xs : List Value) → list_all p xs ≡ true → rises_weakly (with_each xs) ≡ rises_weakly xs
   weakly-with [] h = refl
   weakly-with (x ∷ []) h = refl
@@ -134,6 +146,7 @@ module _ (p : Value → Bool) (agree : Agree p p) where
       (below-with p p agree y x (and-left (p y) (list_all p ys) (and-right (p x) (list_all p (y ∷ ys)) h)) (and-left (p x) (list_all p (y ∷ ys)) h))
       ∙ ap (λ b. not (below y x) && b) (weakly-with (y ∷ ys) (and-right (p x) (list_all p (y ∷ ys)) h))
 
+  -- Whether no two items are equal, compared by f.
   pub twice-with : (f : Value → Value) → ((v : Value) → f (with_positions v) ≡ with_positions (f v)) → (xs : List Value) → list_all (λ x. p (f x)) xs ≡ true →
       no_twice f (with_each xs) ≡ no_twice f xs
   twice-with f c [] h = refl
@@ -162,6 +175,7 @@ module _ (p : Value → Bool) (agree : Agree p p) where
       ap (place (with_positions x)) (sorted-with xs (and-right (p x) (list_all p xs) h))
       ∙ place-with x (sorted_once xs) (and-left (p x) (list_all p xs) h) (all-sorted_once p xs ∙ and-right (p x) (list_all p xs) h)
 
+  -- Whether two lists are equal.
   pub lists-with : (xs ys : List Value) → list_all p xs ≡ true → list_all p ys ≡ true → same_list (with_each xs) (with_each ys) ≡ same_list xs ys
   lists-with xs ys h k =
       ap (λ vs. is_eq (orders vs (of_list (with_each ys)))) (sym (list-with xs)) ∙ ap (λ ws. is_eq (orders (all_with_positions (of_list xs)) ws)) (sym (list-with ys))

@@ -28,6 +28,7 @@ use Rattle.ess_semantics.specs.Atoms.{IsAtom}
 
 -- ---- the order of atoms is that of their numbers
 
+-- The numbers of members are in their order.
 pub low-codes : (d : Domain) → IsAtom d → (x y : Value) → member d x ≡ true → member d y ≡ true → below x y ≡ true → int_lt (code x) (code y) ≡ true
 low-codes booleans a (truth false) (truth true) h g l = refl
 low-codes booleans a (truth false) (truth false) h g l = cc
@@ -98,6 +99,7 @@ others-apart p ps d = go (items_of p) d
     go [] d = d
     go (x ∷ xs) d = go xs d.1
 
+-- No member of the later parts has the number before them.
 pub higher : (k : ℕ) (ps : List Value) (v : Value) → holds (all_members ps) v && same_int (part_number (suc k) ps v) (pos k) ≡ false
 higher k ps v = go (holds (all_members ps) v) refl
   where
@@ -113,6 +115,7 @@ higher k ps v = go (holds (all_members ps) v) refl
 abbrev pub HasNumber : ℕ → List Value → ℤ → Value → Type 0
 HasNumber k ps j p = (v : Value) → holds (items_of p) v ≡ holds (all_members ps) v && same_int (part_number k ps v) j
 
+-- Each part has the members of its number.
 pub part-numbers : (k : ℕ) (ps : List Value) → Distinct (all_members ps) → Along (run_from k (length ps)) ps (HasNumber k ps)
 part-numbers k [] d = tt
 part-numbers k (p ∷ ps) d = (first, later (run_from (suc k) (length ps)) ps apart (part-numbers (suc k) ps (others-apart p ps d)))
@@ -164,6 +167,7 @@ least-under y ys x r h = go (same y x) refl h
     go true e h = inl (same-equal y x e)
     go false e h = let s = sorted-of (y ∷ ys) r in inr (ap is_lt (below-has order_total y x ys s.0 (holds-has ys x h)))
 
+-- A member of the part before, lower than x.
 pub record Earlier (k : ℕ) (ps : List Value) (x : Value) : Type 0 where
   pub y : Value
   pub there : holds (all_members ps) y ≡ true
@@ -188,6 +192,7 @@ next-low p q u w l x h n = go (least-under w.y (to_list w.ys) x w.rise (sym (ap 
     go (inl e) = ap (below u.y) (sym e) ∙ heads
     go (inr b) = ap is_lt (order_total.trans u.y w.y x (below-less u.y w.y heads) (below-less w.y x b))
 
+-- A member of a part behind the first has such a one.
 pub earlier : (f : Value → Bool) (k : ℕ) (ps : List Value) → list_all (is_part f) ps ≡ true → rises itself ps ≡ true → Distinct (all_members ps) → (x : Value) → holds (all_members ps) x ≡ true →
     (part_number k ps x ≡ pos k) ⊎ Earlier k ps x
 earlier f k [] i r d x h = cc

@@ -20,7 +20,8 @@ use Rattle.ess_repr_laws.proofs.CellDomains.{canonical-fits}
 use Rattle.ess_repr_laws.proofs.CellsOfOccurrences.{are-atoms, atom-members, occurrence-members, relation-matrix-members}
 use Rattle.ess_repr_laws.proofs.CellsOfSets.{explicit-members, marker-members, flags-members}
 use Rattle.ess_repr_laws.proofs.CellsOfFunctions.{function-1d-members, function-1d-partial-members, function-nd-members, function-nd-partial-members}
-use Rattle.ess_repr_laws.proofs.CellsOfConversions.{relation-as-set-members, function-as-relation-members}
+use Rattle.ess_repr_laws.proofs.CellsOfConversions.{relation-as-set-members}
+use Rattle.ess_repr_laws.proofs.FunctionsAsRelations.{function-as-relation-members}
 use Rattle.ess_repr_laws.proofs.CellsOfTuples.{AllHaveCells, tuple-members, record-members}
 use Rattle.ess_repr_laws.proofs.CellsOfMatrices.{matrix-members}
 use Rattle.ess_repr_laws.proofs.CellsOfDummies.{dummy-members}
@@ -30,6 +31,7 @@ use Rattle.ess_repr_laws.proofs.CellsOfPartitions.{partition-as-set-members}
 use Rattle.ess_repr_laws.proofs.CellsOfPartNumbers.{partition-occurrence-members}
 
 mutual
+  -- Each member of a domain has canonical cells.
   pub members_have_cells : (r : Repr) (d : Domain) → Roomy r d → MembersHaveCells r d
   members_have_cells (repr ReprKind.Atom no_reprs) d h = atom-members d h
   members_have_cells (repr ReprKind.Tuple rs) (tuples ds) h = tuple-members rs ds (all-members rs (domain_list ds) h)
@@ -67,6 +69,7 @@ all-finite no_domains f = tt
 all-finite (more_domains d ds) f = (f.0.1, all-finite ds f.1)
 
 mutual
+  -- Where there is room, each kind stands over its domain.
   pub roomy-covered : (r : Repr) (d : Domain) → Roomy r d → Covered r d
   roomy-covered (repr ReprKind.Atom no_reprs) d h = h
   roomy-covered (repr ReprKind.Tuple rs) (tuples ds) h = all-covered rs (domain_list ds) h

@@ -82,6 +82,7 @@ compound-with k (Some ls) = ap (λ x. Some (map (λ l. node k (of_list l)) x)) (
 -- ---- all domains
 
 mutual
+  -- The listed members with positions.
   pub members-with : (e : Domain) → members (domain_with_positions e) ≡ option_map with_each (members e)
   members-with booleans = refl
   members-with (integers ss) = integers-with ss

@@ -29,6 +29,7 @@ mutual
   type-itself (relations ks ds) t = types-themselves ds t.1
   type-itself (partitions ks d) t = type-itself d t
 
+  -- The same of several domains.
   pub types-themselves : (ds : Domains) → AllTyped ds → AllOneType ds ds
   types-themselves no_domains t = tt
   types-themselves (more_domains d ds) t = (type-itself d t.0, types-themselves ds t.1)

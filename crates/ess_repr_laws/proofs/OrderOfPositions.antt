@@ -93,6 +93,7 @@ position-order a b = sym (int_cmp_is (pos a) (pos b) (nat_cmp a b) (go (nat_cmp 
     go Equal h = ap pos h
     go Greater h = omega (arith, ints)
 
+-- Values of one named type stand in the order of their positions.
 pub named-agree : (t : Text) (n m : ℕ) → Agree (member (named t n)) (member (named t m))
 named-agree t n m v w h k =
     let x = named-item t n v h in
@@ -137,6 +138,7 @@ tuple-form ds (truth b) h = cc
 tuple-form ds (item a k) h = cc
 tuple-form ds (node k vs) h = cc
 
+-- A member of a domain of records is a record of components.
 pub record-form : (fs : List Text) (ds : Domains) (v : Value) → member (records fs ds) v ≡ true → (gs : List Text) × (vs : Values) × (v ≡ node (a_record gs) vs) × (member_of_each ds vs ≡ true)
 record-form fs ds (node (a_record gs) vs) h = (gs, vs, refl, and-right (same_texts fs gs) (member_of_each ds vs) h)
 record-form fs ds (number n) h = cc
@@ -155,6 +157,7 @@ compound-agree k l vs ws v w e f h =
 abbrev pub ComponentsAgree : Domains → Domains → Type 0
 ComponentsAgree ds es = (vs ws : Values) → member_of_each ds vs ≡ true → member_of_each es ws ≡ true → orders (all_with_positions vs) (all_with_positions ws) ≡ orders vs ws
 
+-- Tuples whose components agree do.
 pub tuples-agree : (ds es : Domains) → ComponentsAgree ds es → Agree (tuple_member ds) (tuple_member es)
 tuples-agree ds es a v w h k =
     let x = tuple-components ds v h in let y = tuple-components es w k in compound-agree a_tuple a_tuple x.0 y.0 v w x.1 y.1 (a x.0 y.0 x.2 y.2)
@@ -189,6 +192,7 @@ mutual
       node-agree (is_part (member d)) (is_part (member e)) (parts-agree (member d) (member e) (order-agrees d e t)) a_partition a_partition x.0 y.0 v w x.1 y.1 x.2.parts y.2.parts
   order-agrees _ e t v w h k = absurd t
 
+  -- Components of domains of one type.
   pub all-agree : (ds es : Domains) → AllOneType ds es → ComponentsAgree ds es
   all-agree no_domains no_domains t nil nil h k = refl
   all-agree no_domains no_domains t (cons v vs) ws h k = cc

@@ -29,6 +29,7 @@ every-cell (a ∷ as') P f h = go a (each-self a) (λ k e. every-cell as' P (λ 
     go [] e ih = refl
     go (k ∷ ks) e ih = and-both (every_cell as' P (λ js. f (k ∷ js))) (list_all (λ k. every_cell as' P (λ js. f (k ∷ js))) ks) (ih k e.0) (go ks e.1 ih)
 
+-- A table that holds 0 has exactly the cells of its axes.
 pub zero-exact : (as' : Axes) → Exact as' (zero_grid as')
 zero-exact as' js = go (is_index as' js)
   where
@@ -36,10 +37,12 @@ zero-exact as' js = go (is_index as' js)
     go true = refl
     go false = refl
 
+-- The same of several tables.
 pub zeros-exact : (ass : List Axes) → AllExact ass (zero_cells ass)
 zeros-exact [] = tt
 zeros-exact (as' ∷ ass) = (zero-exact as', zeros-exact ass)
 
+-- They hold 0.
 pub zeros-zero : (ass : List Axes) → are_zero ass (zero_cells ass) ≡ true
 zeros-zero [] = refl
 zeros-zero (as' ∷ ass) =
@@ -119,6 +122,7 @@ joined-exact bs (as' ∷ ass) p h = (
 abbrev pub placed : List Axes → Axes → List (Option Slot) → Cells
 placed ass bs ss = joined (length bs) (length ass) (cells_in_place (zero_cells ass) (lists_of bs) ss)
 
+-- Slots in places have exactly the cells of all axes.
 pub placed-exact : (ass : List Axes) (bs : Axes) (ss : List (Option Slot)) → length (lists_of bs) ≡ length ss → AllOf ss (SlotExact ass) → AllExact (map (λ as'. bs ++ as') ass) (placed ass bs ss)
 placed-exact ass bs ss e h =
     joined-exact bs ass (cells_in_place (zero_cells ass) (lists_of bs) ss)

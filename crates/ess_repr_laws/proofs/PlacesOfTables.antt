@@ -28,6 +28,7 @@ map-map f g (x ∷ xs) = ap (λ l. f (g x) ∷ l) (map-map f g xs)
 abbrev at : Grid → List ℤ → ℤ
 at f p = or_default (f p) (pos 0)
 
+-- The items of a table are those at its places.
 pub row-places : (as' : Axes) (f : Grid) → row as' f ≡ map (λ p. or_default (f p) (pos 0)) (lists_of as')
 row-places [] f = refl
 row-places (a ∷ as') f = go a (λ k. row-places as' (λ js. f (k ∷ js)))
@@ -39,6 +40,7 @@ row-places (a ∷ as') f = go a (λ k. row-places as' (λ js. f (k ∷ js)))
         ∙ ap (λ l. map (at f) (map (λ l. k ∷ l) (lists_of as')) ++ l) (go ks h)
         ∙ sym (map-append (at f) (map (λ l. k ∷ l) (lists_of as')) (add_heads ks (lists_of as')))
 
+-- Each number of a list is in it.
 pub each-self : (a : List ℤ) → EachOf a (λ k. list_any (same_int k) a ≡ true)
 each-self [] = tt
 each-self (k ∷ ks) = (ap (λ b. b || list_any (same_int k) ks) (same_int-itself k), each-map ks (λ j. list_any (same_int j) ks ≡ true) (λ j. same_int j k || list_any (same_int j) ks ≡ true) (λ j h. ap (λ b. same_int j k || b) h ∙ or-yes (same_int j k)) (each-self ks))
@@ -58,6 +60,7 @@ each-index (a ∷ as') = each-map a (λ k. list_any (same_int k) a ≡ true) _ (
 pub places-are : (as' : Axes) → AllOf (lists_of as') (λ p. is_index as' p ≡ true)
 places-are as' = index-places as' (λ p. is_index as' p ≡ true) (each-index as')
 
+-- An index list is as long as the axes.
 pub index-length : (as' : Axes) (p : List ℤ) → is_index as' p ≡ true → length p ≡ length as'
 index-length [] [] e = refl
 index-length [] (j ∷ js) e = cc
@@ -77,6 +80,7 @@ items-along as' d xs e =
 
 -- ---- places differ
 
+-- No two places are one.
 abbrev pub PlacesDiffer : List (List ℤ) → Type 0
 PlacesDiffer [] = Unit {0}
 PlacesDiffer (p ∷ ps) = AllOf ps (λ q. same_ints p q ≡ false) × PlacesDiffer ps
@@ -92,6 +96,7 @@ differ-append (x ∷ xs) ys p q h = (both xs p.0 h.0, differ-append xs ys p.1 q 
 heads-same : (k : ℤ) (p q : List ℤ) → same_ints (k ∷ p) (k ∷ q) ≡ same_ints p q
 heads-same k p q = ap (λ o. is_eq (ordering_then o (order_ints p q))) (equal-of (int_cmp k k) (same_int-itself k))
 
+-- Index lists that begin with two numbers differ.
 pub heads-differ : (k j : ℤ) (p q : List ℤ) → same_int k j ≡ false → same_ints (k ∷ p) (j ∷ q) ≡ false
 heads-differ k j p q e = go (int_cmp k j) e
   where
@@ -113,6 +118,7 @@ heads-apart k p (j ∷ ks) ls h = go ls (heads-apart k p ks ls h.1)
     go [] r = r
     go (m ∷ ms) r = (heads-differ k j p m h.0, go ms r)
 
+-- Places over axes without repeats differ.
 pub places-differ : (as' : Axes) → AxesDiffer as' → PlacesDiffer (lists_of as')
 places-differ [] d = (tt, tt)
 places-differ (a ∷ as') d = go a d.0 (places-differ as' d.1)
@@ -135,6 +141,7 @@ any-append f (x ∷ xs) ys = ap (λ b. f x || b) (any-append f xs ys) ∙ or-ass
     or-assoc true b c = refl
     or-assoc false b c = refl
 
+-- An index list is a place where it has a member of each axis.
 pub any-place : (as' : Axes) (js : List ℤ) → list_any (λ p. same_ints p js) (lists_of as') ≡ is_index as' js
 any-place [] [] = refl
 any-place [] (j ∷ js) = refl

@@ -50,6 +50,7 @@ pairs-attributes ks d e agree ps h =
 
 module _ (ks : List Attribute) (ds : Domains) (agree : Agree (tuple_member ds) (tuple_member ds)) (m : Matched (tuple_member ds) (tuple_member (domains_with_positions ds)))
     (same : (ps : List Value) → list_all (tuple_member ds) ps ≡ true → relation_attributes_hold ks (domains_with_positions ds) (with_each ps) ≡ relation_attributes_hold ks ds ps) where
+  -- Members of relations.
   pub relations-matched : Matched (member (relations ks ds)) (member (relations ks (domains_with_positions ds)))
   relations-matched = record { up = up; back = back }
     where
@@ -112,6 +113,7 @@ module _ (ks : List Attribute) (d : Domain) (agree : Agree (member d) (member d)
             node-from a_set y.0 (to_list x.xs) w (x.form ∙ ap (node a_set) (sym (of_list-to_list x.xs))) y.2,
           )
 
+  -- Members of partitions.
   pub partitions-matched : Matched (member (partitions ks d)) (member (partitions ks (domain_with_positions d)))
   partitions-matched = record { up = up; back = back }
     where

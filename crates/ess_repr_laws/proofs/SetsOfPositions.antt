@@ -21,6 +21,7 @@ use Rattle.ess_repr_laws.proofs.MatchedMembers.{Back, Matched, all-so, function-
 -- ---- sets and multisets
 
 module _ (ks : List Attribute) (d : Domain) (agree : Agree (member d) (member d)) (m : Matched (member d) (member (domain_with_positions d))) where
+  -- Members of sets.
   pub sets-matched : Matched (member (sets ks d)) (member (sets ks (domain_with_positions d)))
   sets-matched = record { up = up; back = back }
     where
@@ -49,6 +50,7 @@ module _ (ks : List Attribute) (d : Domain) (agree : Agree (member d) (member d)
             node-from a_set y.0 x.0 w x.1 y.2,
           )
 
+  -- Members of multisets.
   pub msets-matched : Matched (member (msets ks d)) (member (msets ks (domain_with_positions d)))
   msets-matched = record { up = up; back = back }
     where
@@ -105,6 +107,7 @@ module _ (ks : List Attribute) (d c : Domain) (agree : Agree (member d) (member 
   values : (ps : List Value) → list_all (is_entry d c) ps ≡ true → list_all (λ v. member c (to_of v)) ps ≡ true
   values ps h = all-so (is_entry d c) (λ v. member c (to_of v)) (λ v k. and-right (is_pair v && member d (from_of v)) (member c (to_of v)) k) ps h
 
+  -- The attributes ask the same of both.
   pub attributes : (ps : List Value) → list_all (is_entry d c) ps ≡ true →
       function_attributes_hold ks (domain_with_positions d) (domain_with_positions c) (with_each ps) ≡ function_attributes_hold ks d c ps
   attributes ps h =
@@ -114,6 +117,7 @@ module _ (ks : List Attribute) (d c : Domain) (agree : Agree (member d) (member 
       (λ k. ap (λ o. function_holds k o (members (domain_with_positions c)) (with_each ps)) (members-with d) ∙ ap (λ o. function_holds k (option_map with_each (members d)) o (with_each ps)) (members-with c)
       ∙ function-same (member d) (member c) agree also (members d) (members c) (listed-inside d) (listed-inside c) k ps (arguments ps h) (values ps h))
 
+  -- Members of functions.
   pub functions-matched : Matched (member (functions ks d c)) (member (functions ks (domain_with_positions d) (domain_with_positions c)))
   functions-matched = record { up = up; back = back }
     where

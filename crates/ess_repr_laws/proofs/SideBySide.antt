@@ -10,12 +10,14 @@ Along [] [] R = Unit {0}
 Along (x ∷ xs) (y ∷ ys) R = R x y × Along xs ys R
 Along _ _ R = ⊥
 
+-- What holds of each pair gives something else of it.
 pub along-map : {A B : Type 0} (xs : List A) (ys : List B) (P Q : A → B → Type 0) → ((x : A) (y : B) → P x y → Q x y) → Along xs ys P → Along xs ys Q
 along-map [] [] P Q f h = tt
 along-map (x ∷ xs) (y ∷ ys) P Q f h = (f x y h.0, along-map xs ys P Q f h.1)
 along-map [] (y ∷ ys) P Q f h = absurd h
 along-map (x ∷ xs) [] P Q f h = absurd h
 
+-- Two things that hold of each pair.
 pub along-both : {A B : Type 0} (xs : List A) (ys : List B) (P Q R : A → B → Type 0) → ((x : A) (y : B) → P x y → Q x y → R x y) → Along xs ys P → Along xs ys Q → Along xs ys R
 along-both [] [] P Q R f h i = tt
 along-both (x ∷ xs) (y ∷ ys) P Q R f h i = (f x y h.0 i.0, along-both xs ys P Q R f h.1 i.1)
@@ -36,12 +38,14 @@ along-right (x ∷ xs) (y ∷ ys) P Q R f h i = (f x y h.0 i.0, along-right xs y
 along-right [] (y ∷ ys) P Q R f h i = absurd i
 along-right (x ∷ xs) [] P Q R f h i = absurd i
 
+-- What holds of each item of the first list, beside one as long.
 pub along-length : {A B : Type 0} (xs : List A) (ys : List B) → length xs ≡ length ys → (P : A → Type 0) → AllOf xs P → Along xs ys (λ x y. P x)
 along-length [] [] e P h = tt
 along-length (x ∷ xs) (y ∷ ys) e P h = let e' : length xs ≡ length ys = cc in (h.0, along-length xs ys e' P h.1)
 along-length [] (y ∷ ys) e P h = cc
 along-length (x ∷ xs) [] e P h = cc
 
+-- Lists side by side are as long.
 pub length-along : {A B : Type 0} (xs : List A) (ys : List B) (P : A → B → Type 0) → Along xs ys P → length xs ≡ length ys
 length-along [] [] P h = refl
 length-along (x ∷ xs) (y ∷ ys) P h = ap suc (length-along xs ys P h.1)
@@ -55,18 +59,21 @@ along-under f g (x ∷ xs) (y ∷ ys) R h = (h.0, along-under f g xs ys R h.1)
 along-under f g [] (y ∷ ys) R h = absurd h
 along-under f g (x ∷ xs) [] R h = absurd h
 
+-- Images side by side.
 pub under-along : {A B C D : Type 0} (f : A → C) (g : B → D) (xs : List A) (ys : List B) (R : C → D → Type 0) → Along xs ys (λ x y. R (f x) (g y)) → Along (map f xs) (map g ys) R
 under-along f g [] [] R h = tt
 under-along f g (x ∷ xs) (y ∷ ys) R h = (h.0, under-along f g xs ys R h.1)
 under-along f g [] (y ∷ ys) R h = absurd h
 under-along f g (x ∷ xs) [] R h = absurd h
 
+-- Images on the right.
 pub right-under : {A B D : Type 0} (g : B → D) (xs : List A) (ys : List B) (R : A → D → Type 0) → Along xs (map g ys) R → Along xs ys (λ x y. R x (g y))
 right-under g [] [] R h = tt
 right-under g (x ∷ xs) (y ∷ ys) R h = (h.0, right-under g xs ys R h.1)
 right-under g [] (y ∷ ys) R h = absurd h
 right-under g (x ∷ xs) [] R h = absurd h
 
+-- Images on the left.
 pub left-under : {A B C : Type 0} (f : A → C) (xs : List A) (ys : List B) (R : C → B → Type 0) → Along (map f xs) ys R → Along xs ys (λ x y. R (f x) y)
 left-under f [] [] R h = tt
 left-under f (x ∷ xs) (y ∷ ys) R h = (h.0, left-under f xs ys R h.1)
@@ -85,6 +92,7 @@ along-all f (x ∷ xs) (y ∷ ys) h = and-both (f x) (list_all f xs) h.0 (along-
 along-all f [] (y ∷ ys) h = absurd h
 along-all f (x ∷ xs) [] h = absurd h
 
+-- Items beside their images.
 pub along-equal : {A : Type 0} (F : A → ℤ) (ps : List A) (xs : List ℤ) → map F ps ≡ xs → Along ps xs (λ p x. F p ≡ x)
 along-equal F [] [] e = tt
 along-equal F [] (x ∷ xs) e = cc

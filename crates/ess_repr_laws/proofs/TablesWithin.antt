@@ -29,6 +29,7 @@ items-within as' p xs d e h =
     go [] (y ∷ ys) h a = absurd a
     go (q ∷ ps) [] h a = absurd a
 
+-- Filled tables over the declared axes, with items in the declared domains, have their cells in these.
 pub tables-within : (ds : List Declaration) (ts : Tables) → AllAxesDiffer (map (λ t. t.axes) ds) → over_axes [] (map (λ t. t.axes) ds) ts ≡ true → TablesFit ds ts → cells_fit ds (cells_of ts) ≡ true
 tables-within [] [] a o f = refl
 tables-within [] (t ∷ ts) a o f = absurd f

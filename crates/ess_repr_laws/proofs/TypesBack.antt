@@ -88,6 +88,7 @@ boolean-back (number n) h = cc
 boolean-back (item t k) h = cc
 boolean-back (node k vs) h = cc
 
+-- So is a number.
 pub integer-back : (ss : List Span) (v : Value) → member (integers ss) v ≡ true → with_positions v ≡ v
 integer-back ss (number n) h = refl
 integer-back ss (truth b) h = cc
@@ -106,6 +107,7 @@ named-back t n (number m) h = cc
 named-back t n (truth b) h = cc
 named-back t n (node k vs) h = cc
 
+-- The types of an atom's member come back.
 pub atom-back : (i : Domain) → IsAtom i → (v : Value) → member i v ≡ true → with_types i (with_positions v) ≡ Some v
 atom-back booleans a v h = ap Some (boolean-back v h)
 atom-back (integers ss) a v h = ap Some (integer-back ss v h)
