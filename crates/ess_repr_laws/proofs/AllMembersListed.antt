@@ -23,7 +23,8 @@ records-listed fs ds l = go (all_some (members_of_each ds)) refl
       sorted = ap (λ o. rises itself (list_or_none (option_map (λ ls. map (F fs) (lists_of ls)) o))) q ∙ rise-same fs (lists_of ls)
           ∙ sym (ap (λ o. rises itself (list_or_none (option_map (λ ls. map T (lists_of ls)) o))) q) ∙ l.sorted;
       members = ap (λ o. list_all (member (records fs ds)) (list_or_none (option_map (λ ls. map (F fs) (lists_of ls)) o))) q
-          ∙ all-same fs ds (lists_of ls) (sym (ap (λ o. list_all (member (tuples ds)) (list_or_none (option_map (λ ls. map T (lists_of ls)) o))) q) ∙ l.members);
+          ∙ all-same fs ds (lists_of ls)
+          (sym (ap (λ o. list_all (member (tuples ds)) (list_or_none (option_map (λ ls. map T (lists_of ls)) o))) q) ∙ l.members);
     }
 
 mutual

@@ -32,12 +32,14 @@ among-right vs fs ms v f h = marks-right vs fs v f ms (and-left (marks_among vs 
 flags-unnumbered : (ds : List Dom) → list_all (λ k. not (is_numbered k)) (relation_flags ds) ≡ true
 flags-unnumbered ds = go (is_binary ds)
   where
-    go : (b : Bool) → list_all (λ k. not (is_numbered k)) (if b then Key.Reflexive ∷ Key.Irreflexive ∷ Key.Symmetric ∷ Key.AntiSymmetric ∷ Key.ASymmetric ∷ Key.Transitive ∷ [] else []) ≡ true
+    go : (b : Bool) →
+        list_all (λ k. not (is_numbered k)) (if b then Key.Reflexive ∷ Key.Irreflexive ∷ Key.Symmetric ∷ Key.AntiSymmetric ∷ Key.ASymmetric ∷ Key.Transitive ∷ [] else []) ≡ true
     go true = refl
     go false = refl
 
 -- A total function is from a domain that is enumerable.
-total-enumerable : (b c : Bool) (d e : Dom) → list_all is_enumerable ((if b then d ∷ [] else []) ++ (if c then e ∷ [] else [])) ≡ true → b ≡ true → is_enumerable d ≡ true
+total-enumerable : (b c : Bool) (d e : Dom) → list_all is_enumerable ((if b then d ∷ [] else []) ++ (if c then e ∷ [] else [])) ≡ true →
+    b ≡ true → is_enumerable d ≡ true
 total-enumerable true c d e h t = and-left (is_enumerable d) (list_all is_enumerable (if c then e ∷ [] else [])) h
 total-enumerable false c d e h t = cc
 
@@ -48,31 +50,40 @@ first a b c h = and-left a b (and-left (a && b) c h)
 second : (a b c : Bool) → a && b && c ≡ true → b ≡ true
 second a b c h = and-right a b (and-left (a && b) c h)
 
-module _ (q p : Asked) (fits : (d : Dom) (s : Scope) → q.of_dom d s ≡ true → dom_fits d s ≡ true) (lists : (d : Dom) (s : Scope) → p.of_dom d s ≡ true → dom_is_enumerable d s ≡ true) where
+module _ (q p : Asked) (fits : (d : Dom) (s : Scope) → q.of_dom d s ≡ true → dom_fits d s ≡ true)
+    (lists : (d : Dom) (s : Scope) → p.of_dom d s ≡ true → dom_is_enumerable d s ≡ true) where
   mutual
     -- A domain of which each part fits, and lists what is enumerable alone, is well formed.
     pub judged-well : (d : Dom) (s : Scope) → every_dom q d s ≡ true → every_dom p d s ≡ true → Well d
     judged-well bool_dom s h k = tt
     judged-well (int_dom rs es) s h k = tt
     judged-well (name_dom a) s h k = tt
-    judged-well (tuple_dom ds) s h k = all-judged ds s (and-right (q.of_dom (tuple_dom ds) s) (every_doms q ds s) h) (and-right (p.of_dom (tuple_dom ds) s) (every_doms p ds s) k)
+    judged-well (tuple_dom ds) s h k =
+        all-judged ds s (and-right (q.of_dom (tuple_dom ds) s) (every_doms q ds s) h)
+        (and-right (p.of_dom (tuple_dom ds) s) (every_doms p ds s) k)
     judged-well (record_dom fs ds) s h k =
-        all-judged ds s (and-right (q.of_dom (record_dom fs ds) s) (every_doms q ds s) h) (and-right (p.of_dom (record_dom fs ds) s) (every_doms p ds s) k)
+        all-judged ds s (and-right (q.of_dom (record_dom fs ds) s) (every_doms q ds s) h)
+        (and-right (p.of_dom (record_dom fs ds) s) (every_doms p ds s) k)
     judged-well (matrix_dom is d) s h k =
         let a = first (q.of_dom (matrix_dom is d) s) (every_doms q is s) (every_dom q d s) h in (
           fits-atoms (matrix_dom is d) s (fits (matrix_dom is d) s a),
-          all-judged is s (second (q.of_dom (matrix_dom is d) s) (every_doms q is s) (every_dom q d s) h) (second (p.of_dom (matrix_dom is d) s) (every_doms p is s) (every_dom p d s) k),
-          judged-well d s (and-right (q.of_dom (matrix_dom is d) s && every_doms q is s) (every_dom q d s) h) (and-right (p.of_dom (matrix_dom is d) s && every_doms p is s) (every_dom p d s) k),
+          all-judged is s (second (q.of_dom (matrix_dom is d) s) (every_doms q is s) (every_dom q d s) h)
+              (second (p.of_dom (matrix_dom is d) s) (every_doms p is s) (every_dom p d s) k),
+          judged-well d s (and-right (q.of_dom (matrix_dom is d) s && every_doms q is s) (every_dom q d s) h)
+              (and-right (p.of_dom (matrix_dom is d) s && every_doms p is s) (every_dom p d s) k),
         )
     judged-well (set_dom ms es d) s h k =
         let a = first (q.of_dom (set_dom ms es d) s) (every_operand q [] es s) (every_dom q d s) h in (
           among-right size_keys [] ms refl refl (fits-marks (set_dom ms es d) s (fits (set_dom ms es d) s a)),
-          judged-well d s (and-right (q.of_dom (set_dom ms es d) s && every_operand q [] es s) (every_dom q d s) h) (and-right (p.of_dom (set_dom ms es d) s && every_operand p [] es s) (every_dom p d s) k),
+          judged-well d s (and-right (q.of_dom (set_dom ms es d) s && every_operand q [] es s) (every_dom q d s) h)
+              (and-right (p.of_dom (set_dom ms es d) s && every_operand p [] es s) (every_dom p d s) k),
         )
     judged-well (mset_dom ms es d) s h k =
         let a = first (q.of_dom (mset_dom ms es d) s) (every_operand q [] es s) (every_dom q d s) h in (
-          among-right (Key.MinOccur ∷ Key.MaxOccur ∷ size_keys) [] ms refl refl (fits-marks (mset_dom ms es d) s (fits (mset_dom ms es d) s a)),
-          judged-well d s (and-right (q.of_dom (mset_dom ms es d) s && every_operand q [] es s) (every_dom q d s) h) (and-right (p.of_dom (mset_dom ms es d) s && every_operand p [] es s) (every_dom p d s) k),
+          among-right (Key.MinOccur ∷ Key.MaxOccur ∷ size_keys) [] ms refl refl
+              (fits-marks (mset_dom ms es d) s (fits (mset_dom ms es d) s a)),
+          judged-well d s (and-right (q.of_dom (mset_dom ms es d) s && every_operand q [] es s) (every_dom q d s) h)
+              (and-right (p.of_dom (mset_dom ms es d) s && every_operand p [] es s) (every_dom p d s) k),
         )
     judged-well (function_dom ms es d c) s h k =
         let f : Dom = function_dom ms es d c in
@@ -80,21 +91,29 @@ module _ (q p : Asked) (fits : (d : Dom) (s : Scope) → q.of_dom d s ≡ true �
         let k' = and-left (p.of_dom f s && every_operand p [] es s && every_dom p d s) (every_dom p c s) k in
         let a = first (q.of_dom f s) (every_operand q [] es s) (every_dom q d s) h' in
         let b = first (p.of_dom f s) (every_operand p [] es s) (every_dom p d s) k' in (
-          among-right size_keys (Key.Total ∷ Key.Injective ∷ Key.Surjective ∷ Key.Bijective ∷ []) ms refl refl (fits-marks f s (fits f s a)),
-          total-enumerable (has_key Key.Total ms) (has_key Key.Surjective ms || has_key Key.Bijective ms) d c (and-left (list_all is_enumerable (listed_domains f)) (all_fixed (numbers_of f) s) (lists f s b)),
-          judged-well d s (and-right (q.of_dom f s && every_operand q [] es s) (every_dom q d s) h') (and-right (p.of_dom f s && every_operand p [] es s) (every_dom p d s) k'),
-          judged-well c s (and-right (q.of_dom f s && every_operand q [] es s && every_dom q d s) (every_dom q c s) h) (and-right (p.of_dom f s && every_operand p [] es s && every_dom p d s) (every_dom p c s) k),
+          among-right size_keys (Key.Total ∷ Key.Injective ∷ Key.Surjective ∷ Key.Bijective ∷ []) ms refl refl
+              (fits-marks f s (fits f s a)),
+          total-enumerable (has_key Key.Total ms) (has_key Key.Surjective ms || has_key Key.Bijective ms) d c
+              (and-left (list_all is_enumerable (listed_domains f)) (all_fixed (numbers_of f) s) (lists f s b)),
+          judged-well d s (and-right (q.of_dom f s && every_operand q [] es s) (every_dom q d s) h')
+              (and-right (p.of_dom f s && every_operand p [] es s) (every_dom p d s) k'),
+          judged-well c s (and-right (q.of_dom f s && every_operand q [] es s && every_dom q d s) (every_dom q c s) h)
+              (and-right (p.of_dom f s && every_operand p [] es s && every_dom p d s) (every_dom p c s) k),
         )
     judged-well (relation_dom ms es ds) s h k =
         let a = first (q.of_dom (relation_dom ms es ds) s) (every_operand q [] es s) (every_doms q ds s) h in (
-          among-right size_keys (relation_flags (dom_list ds)) ms refl (flags-unnumbered (dom_list ds)) (fits-marks (relation_dom ms es ds) s (fits (relation_dom ms es ds) s a)),
-          all-judged ds s (and-right (q.of_dom (relation_dom ms es ds) s && every_operand q [] es s) (every_doms q ds s) h) (and-right (p.of_dom (relation_dom ms es ds) s && every_operand p [] es s) (every_doms p ds s) k),
+          among-right size_keys (relation_flags (dom_list ds)) ms refl (flags-unnumbered (dom_list ds))
+              (fits-marks (relation_dom ms es ds) s (fits (relation_dom ms es ds) s a)),
+          all-judged ds s (and-right (q.of_dom (relation_dom ms es ds) s && every_operand q [] es s) (every_doms q ds s) h)
+              (and-right (p.of_dom (relation_dom ms es ds) s && every_operand p [] es s) (every_doms p ds s) k),
         )
     judged-well (partition_dom ms es d) s h k =
         let a = first (q.of_dom (partition_dom ms es d) s) (every_operand q [] es s) (every_dom q d s) h in (
-          among-right (Key.NumParts ∷ Key.MinNumParts ∷ Key.MaxNumParts ∷ Key.PartSize ∷ Key.MinPartSize ∷ Key.MaxPartSize ∷ []) (Key.Regular ∷ []) ms refl refl
+          among-right (Key.NumParts ∷ Key.MinNumParts ∷ Key.MaxNumParts ∷ Key.PartSize ∷ Key.MinPartSize ∷ Key.MaxPartSize ∷ [])
+              (Key.Regular ∷ []) ms refl refl
               (fits-marks (partition_dom ms es d) s (fits (partition_dom ms es d) s a)),
-          judged-well d s (and-right (q.of_dom (partition_dom ms es d) s && every_operand q [] es s) (every_dom q d s) h) (and-right (p.of_dom (partition_dom ms es d) s && every_operand p [] es s) (every_dom p d s) k),
+          judged-well d s (and-right (q.of_dom (partition_dom ms es d) s && every_operand q [] es s) (every_dom q d s) h)
+              (and-right (p.of_dom (partition_dom ms es d) s && every_operand p [] es s) (every_dom p d s) k),
         )
 
     -- The same of several domains.

@@ -22,7 +22,8 @@ nothing-there [] = refl
 nothing-there (j ∷ js) = refl
 
 -- The cells of a slice are those behind its index list.
-slice-in-cells : (as' : List (List ℤ)) (is js ks : List ℤ) → cell_at (or_default (slice_in as' is js) no_cells) ks ≡ item_in as' is (js ++ ks)
+slice-in-cells : (as' : List (List ℤ)) (is js ks : List ℤ) →
+    cell_at (or_default (slice_in as' is js) no_cells) ks ≡ item_in as' is (js ++ ks)
 slice-in-cells as' is [] ks = start as'
   where
     start : (as' : List (List ℤ)) → cell_at (or_default (slice_in as' is []) no_cells) ks ≡ item_in as' is ks
@@ -40,7 +41,8 @@ slice-in-cells (a ∷ as') is (j ∷ js) ks = go (chunk a (volume as') is j) (λ
 pub slices-behind : (ts : Tables) (js : List ℤ) → cells_of (slices ts js) ≡ behind js (cells_of ts)
 slices-behind [] js = refl
 slices-behind (t ∷ ts) js =
-    ap (λ f. f ∷ cells_of (slices ts js)) (fun_ext (λ ks. slice-in-cells t.axes t.items js ks)) ∙ ap (λ l. (λ ks. cell_at t (js ++ ks)) ∷ l) (slices-behind ts js)
+    ap (λ f. f ∷ cells_of (slices ts js)) (fun_ext (λ ks. slice-in-cells t.axes t.items js ks))
+    ∙ ap (λ l. (λ ks. cell_at t (js ++ ks)) ∷ l) (slices-behind ts js)
 
 -- ---- parts of tables
 
@@ -70,7 +72,8 @@ slots-values r e inner (j ∷ js) =
     ∙ ap (λ o. and_then (value_of_cells r e (behind j (cells_of inner))) (λ y. option_map (λ ys. y ∷ ys) o)) (slots-values r e inner js)
 
 -- The value that tables stand for is the layer's, made of the values of the slots in use.
-pub layer-up : (k : ReprKind) (r : Repr) (d e : Domain) (l : Layer) (ts : Tables) → layer k d ≡ Some l → l.children ≡ e ∷ [] → length (drop (own_width k) ts) ≡ width r →
+pub layer-up : (k : ReprKind) (r : Repr) (d e : Domain) (l : Layer) (ts : Tables) → layer k d ≡ Some l → l.children ≡ e ∷ [] →
+    length (drop (own_width k) ts) ≡ width r →
     value_of_tables (repr k (more_reprs r no_reprs)) d ts [] ≡
     and_then (inner_tables k d ts) (λ tss. and_then (each_of tss (λ t. value_of_tables r e t [])) (layer_value k d ts))
 layer-up k r d e l ts at only wide =
@@ -93,7 +96,8 @@ layer-up k r d e l ts at only wide =
     inner-long = ap length (sym (drop-cells (own_width k) ts)) ∙ cells-length (drop (own_width k) ts) ∙ wide
 
     from_cells : Layer → Option Value
-    from_cells l = and_then (places_in_use l own) (λ js. and_then (values_of_children (more_reprs r no_reprs) l.children inner js) (l.built own))
+    from_cells l =
+        and_then (places_in_use l own) (λ js. and_then (values_of_children (more_reprs r no_reprs) l.children inner js) (l.built own))
 
     values : List Tables → Option Value
     values tss = and_then (each_of tss (λ t. value_of_tables r e t [])) (layer_value k d ts)
@@ -104,7 +108,8 @@ layer-up k r d e l ts at only wide =
         ∙ ap (λ o. and_then o (λ js. l.built own (values_for l.children vs))) q ∙ ap (λ es. l.built own (values_for es vs)) only
 
     places : (o : Option (List (List ℤ))) → places_in_use l own ≡ o →
-        and_then o (λ js. and_then (and_then (each_of js (λ j. value_of_cells r e (behind j inner))) (λ vs. Some (vs ∷ []))) (l.built own)) ≡
+        and_then o
+        (λ js. and_then (and_then (each_of js (λ j. value_of_cells r e (behind j inner))) (λ vs. Some (vs ∷ []))) (l.built own)) ≡
         and_then (option_map (map (slices (drop (own_width k) ts))) o) values
     places None q = refl
     places (Some js) q =

@@ -65,7 +65,8 @@ to-with (node a_partition vs) = refl
 to-with (node (a_record fs) vs) = refl
 
 -- A list of parts.
-pub map-with : (f : Value → Value) → ((v : Value) → f (with_positions v) ≡ with_positions (f v)) → (xs : List Value) → map f (with_each xs) ≡ with_each (map f xs)
+pub map-with : (f : Value → Value) → ((v : Value) → f (with_positions v) ≡ with_positions (f v)) → (xs : List Value) →
+    map f (with_each xs) ≡ with_each (map f xs)
 map-with f h [] = refl
 map-with f h (x ∷ xs) = ap (λ v. v ∷ map f (with_each xs)) (h x) ∙ ap (λ l. with_positions (f x) ∷ l) (map-with f h xs)
 
@@ -82,22 +83,28 @@ length-with (x ∷ xs) = ap suc (length-with xs)
 -- ---- tests of each value
 
 -- Tests that agree on each value of a list.
-pub all-with : (p f g : Value → Bool) → ((v : Value) → p v ≡ true → f (with_positions v) ≡ g v) → (xs : List Value) → list_all p xs ≡ true → list_all f (with_each xs) ≡ list_all g xs
+pub all-with : (p f g : Value → Bool) → ((v : Value) → p v ≡ true → f (with_positions v) ≡ g v) → (xs : List Value) →
+    list_all p xs ≡ true → list_all f (with_each xs) ≡ list_all g xs
 all-with p f g h [] a = refl
 all-with p f g h (x ∷ xs) a =
-    ap (λ b. b && list_all f (with_each xs)) (h x (and-left (p x) (list_all p xs) a)) ∙ ap (λ b. g x && b) (all-with p f g h xs (and-right (p x) (list_all p xs) a))
+    ap (λ b. b && list_all f (with_each xs)) (h x (and-left (p x) (list_all p xs) a))
+    ∙ ap (λ b. g x && b) (all-with p f g h xs (and-right (p x) (list_all p xs) a))
 
 -- The same of some value.
-pub any-with : (p f g : Value → Bool) → ((v : Value) → p v ≡ true → f (with_positions v) ≡ g v) → (xs : List Value) → list_all p xs ≡ true → list_any f (with_each xs) ≡ list_any g xs
+pub any-with : (p f g : Value → Bool) → ((v : Value) → p v ≡ true → f (with_positions v) ≡ g v) → (xs : List Value) →
+    list_all p xs ≡ true → list_any f (with_each xs) ≡ list_any g xs
 any-with p f g h [] a = refl
 any-with p f g h (x ∷ xs) a =
-    ap (λ b. b || list_any f (with_each xs)) (h x (and-left (p x) (list_all p xs) a)) ∙ ap (λ b. g x || b) (any-with p f g h xs (and-right (p x) (list_all p xs) a))
+    ap (λ b. b || list_any f (with_each xs)) (h x (and-left (p x) (list_all p xs) a))
+    ∙ ap (λ b. g x || b) (any-with p f g h xs (and-right (p x) (list_all p xs) a))
 
 -- Where f holds of each value with positions.
-pub all-there : (p f : Value → Bool) → ((v : Value) → p v ≡ true → f (with_positions v) ≡ true) → (xs : List Value) → list_all p xs ≡ true → list_all f (with_each xs) ≡ true
+pub all-there : (p f : Value → Bool) → ((v : Value) → p v ≡ true → f (with_positions v) ≡ true) → (xs : List Value) →
+    list_all p xs ≡ true → list_all f (with_each xs) ≡ true
 all-there p f h [] a = refl
 all-there p f h (x ∷ xs) a =
-    and-both (f (with_positions x)) (list_all f (with_each xs)) (h x (and-left (p x) (list_all p xs) a)) (all-there p f h xs (and-right (p x) (list_all p xs) a))
+    and-both (f (with_positions x)) (list_all f (with_each xs)) (h x (and-left (p x) (list_all p xs) a))
+    (all-there p f h xs (and-right (p x) (list_all p xs) a))
 
 -- ---- order
 
@@ -121,17 +128,20 @@ module _ (p q : Value → Bool) (agree : Agree p q) where
   pub count-with : (xs : List Value) (w : Value) → list_all p xs ≡ true → q w ≡ true → count (with_each xs) (with_positions w) ≡ count xs w
   count-with [] w h k = refl
   count-with (x ∷ xs) w h k =
-      ap (λ b. if b then suc (count (with_each xs) (with_positions w)) else count (with_each xs) (with_positions w)) (same-with x w (and-left (p x) (list_all p xs) h) k)
+      ap (λ b. if b then suc (count (with_each xs) (with_positions w)) else count (with_each xs) (with_positions w))
+      (same-with x w (and-left (p x) (list_all p xs) h) k)
       ∙ ap (λ n. if same x w then suc n else n) (count-with xs w (and-right (p x) (list_all p xs) h) k)
 
 module _ (p : Value → Bool) (agree : Agree p p) where
   -- A list rises where that of the values with positions does, compared by f.
-  pub rises-with : (f : Value → Value) → ((v : Value) → f (with_positions v) ≡ with_positions (f v)) → (xs : List Value) → list_all (λ x. p (f x)) xs ≡ true →
+  pub rises-with : (f : Value → Value) → ((v : Value) → f (with_positions v) ≡ with_positions (f v)) → (xs : List Value) →
+      list_all (λ x. p (f x)) xs ≡ true →
       rises f (with_each xs) ≡ rises f xs
   rises-with f c [] h = refl
   rises-with f c (x ∷ []) h = refl
   rises-with f c (x ∷ y ∷ ys) h =
-      ap (λ v. below v (f (with_positions y)) && rises f (with_each (y ∷ ys))) (c x) ∙ ap (λ w. below (with_positions (f x)) w && rises f (with_each (y ∷ ys))) (c y)
+      ap (λ v. below v (f (with_positions y)) && rises f (with_each (y ∷ ys))) (c x)
+      ∙ ap (λ w. below (with_positions (f x)) w && rises f (with_each (y ∷ ys))) (c y)
       ∙ ap (λ b. b && rises f (with_each (y ∷ ys)))
       (below-with p p agree (f x) (f y) (and-left (p (f x)) (list_all (λ x. p (f x)) (y ∷ ys)) h)
       (and-left (p (f y)) (list_all (λ x. p (f x)) ys) (and-right (p (f x)) (list_all (λ x. p (f x)) (y ∷ ys)) h)))
@@ -147,7 +157,8 @@ module _ (p : Value → Bool) (agree : Agree p p) where
       ∙ ap (λ b. not (below y x) && b) (weakly-with (y ∷ ys) (and-right (p x) (list_all p (y ∷ ys)) h))
 
   -- Whether no two items are equal, compared by f.
-  pub twice-with : (f : Value → Value) → ((v : Value) → f (with_positions v) ≡ with_positions (f v)) → (xs : List Value) → list_all (λ x. p (f x)) xs ≡ true →
+  pub twice-with : (f : Value → Value) → ((v : Value) → f (with_positions v) ≡ with_positions (f v)) → (xs : List Value) →
+      list_all (λ x. p (f x)) xs ≡ true →
       no_twice f (with_each xs) ≡ no_twice f xs
   twice-with f c [] h = refl
   twice-with f c (x ∷ xs) h =
@@ -157,13 +168,17 @@ module _ (p : Value → Bool) (agree : Agree p p) where
       xs (and-right (p (f x)) (list_all (λ x. p (f x)) xs) h))
       ∙ ap (λ b. not (list_any (λ y. same (f x) (f y)) xs) && b) (twice-with f c xs (and-right (p (f x)) (list_all (λ x. p (f x)) xs) h))
 
-  place-with : (v : Value) (xs : List Value) → p v ≡ true → list_all p xs ≡ true → place (with_positions v) (with_each xs) ≡ with_each (place v xs)
+  place-with : (v : Value) (xs : List Value) → p v ≡ true → list_all p xs ≡ true →
+      place (with_positions v) (with_each xs) ≡ with_each (place v xs)
   place-with v [] h k = refl
   place-with v (x ∷ xs) h k =
-      ap (λ o. place_by o (with_positions v) (with_positions x) (with_each xs) (place (with_positions v) (with_each xs))) (agree v x h (and-left (p x) (list_all p xs) k))
-      ∙ ap (place_by (order v x) (with_positions v) (with_positions x) (with_each xs)) (place-with v xs h (and-right (p x) (list_all p xs) k)) ∙ go (order v x) (place v xs)
+      ap (λ o. place_by o (with_positions v) (with_positions x) (with_each xs) (place (with_positions v) (with_each xs)))
+      (agree v x h (and-left (p x) (list_all p xs) k))
+      ∙ ap (place_by (order v x) (with_positions v) (with_positions x) (with_each xs))
+      (place-with v xs h (and-right (p x) (list_all p xs) k)) ∙ go (order v x) (place v xs)
     where
-      go : (o : Ordering) (r : List Value) → place_by o (with_positions v) (with_positions x) (with_each xs) (with_each r) ≡ with_each (place_by o v x xs r)
+      go : (o : Ordering) (r : List Value) →
+          place_by o (with_positions v) (with_positions x) (with_each xs) (with_each r) ≡ with_each (place_by o v x xs r)
       go Less r = refl
       go Equal r = refl
       go Greater r = refl
@@ -176,7 +191,10 @@ module _ (p : Value → Bool) (agree : Agree p p) where
       ∙ place-with x (sorted_once xs) (and-left (p x) (list_all p xs) h) (all-sorted_once p xs ∙ and-right (p x) (list_all p xs) h)
 
   -- Whether two lists are equal.
-  pub lists-with : (xs ys : List Value) → list_all p xs ≡ true → list_all p ys ≡ true → same_list (with_each xs) (with_each ys) ≡ same_list xs ys
+  pub lists-with : (xs ys : List Value) → list_all p xs ≡ true → list_all p ys ≡ true →
+      same_list (with_each xs) (with_each ys) ≡ same_list xs ys
   lists-with xs ys h k =
-      ap (λ vs. is_eq (orders vs (of_list (with_each ys)))) (sym (list-with xs)) ∙ ap (λ ws. is_eq (orders (all_with_positions (of_list xs)) ws)) (sym (list-with ys))
-      ∙ ap is_eq (lists-agree p p agree (of_list xs) (of_list ys) (ap (list_all p) (to_list-of_list xs) ∙ h) (ap (list_all p) (to_list-of_list ys) ∙ k))
+      ap (λ vs. is_eq (orders vs (of_list (with_each ys)))) (sym (list-with xs))
+      ∙ ap (λ ws. is_eq (orders (all_with_positions (of_list xs)) ws)) (sym (list-with ys))
+      ∙ ap is_eq
+      (lists-agree p p agree (of_list xs) (of_list ys) (ap (list_all p) (to_list-of_list xs) ∙ h) (ap (list_all p) (to_list-of_list ys) ∙ k))

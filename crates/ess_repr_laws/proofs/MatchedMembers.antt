@@ -27,7 +27,8 @@ pub record Matched (p q : Value → Bool) : Type 0 where
 -- ---- lists
 
 -- The values of a list.
-pub list-back : (p q : Value → Bool) → Matched p q → (ws : List Value) → list_all q ws ≡ true → (vs : List Value) × (list_all p vs ≡ true) × (with_each vs ≡ ws)
+pub list-back : (p q : Value → Bool) → Matched p q → (ws : List Value) → list_all q ws ≡ true →
+    (vs : List Value) × (list_all p vs ≡ true) × (with_each vs ≡ ws)
 list-back p q m [] h = ([], refl, refl)
 list-back p q m (w ∷ ws) h =
     let x = m.back w (and-left (q w) (list_all q ws) h) in
@@ -39,49 +40,62 @@ pub node-with : (k : Kind) (xs : List Value) (v : Value) → v ≡ node k (of_li
 node-with k xs v e = ap with_positions e ∙ ap (node k) (list-with xs)
 
 -- A compound value of values whose values with positions are these.
-pub node-from : (k : Kind) (xs ys : List Value) (w : Value) → w ≡ node k (of_list ys) → with_each xs ≡ ys → with_positions (node k (of_list xs)) ≡ w
+pub node-from : (k : Kind) (xs ys : List Value) (w : Value) → w ≡ node k (of_list ys) → with_each xs ≡ ys →
+    with_positions (node k (of_list xs)) ≡ w
 node-from k xs ys w e h = ap (node k) (list-with xs ∙ ap of_list h) ∙ sym e
 
 -- Where one test gives another on each value.
-pub all-so : (f g : Value → Bool) → ((v : Value) → f v ≡ true → g v ≡ true) → (xs : List Value) → list_all f xs ≡ true → list_all g xs ≡ true
+pub all-so : (f g : Value → Bool) → ((v : Value) → f v ≡ true → g v ≡ true) → (xs : List Value) → list_all f xs ≡ true →
+    list_all g xs ≡ true
 all-so f g h [] a = refl
-all-so f g h (x ∷ xs) a = and-both (g x) (list_all g xs) (h x (and-left (f x) (list_all f xs) a)) (all-so f g h xs (and-right (f x) (list_all f xs) a))
+all-so f g h (x ∷ xs) a =
+    and-both (g x) (list_all g xs) (h x (and-left (f x) (list_all f xs) a)) (all-so f g h xs (and-right (f x) (list_all f xs) a))
 
 -- ---- members of their makings
 
 -- A set of such members is one.
-pub set-made : (ks : List Attribute) (d : Domain) (xs : List Value) → SetMember ks d xs → member (sets ks d) (node a_set (of_list xs)) ≡ true
+pub set-made : (ks : List Attribute) (d : Domain) (xs : List Value) → SetMember ks d xs →
+    member (sets ks d) (node a_set (of_list xs)) ≡ true
 set-made ks d xs m =
     ap (λ l. rises itself l && list_all (member d) l && set_attributes_hold ks (length l)) (to_list-of_list xs)
-    ∙ and-both (rises itself xs && list_all (member d) xs) (set_attributes_hold ks (length xs)) (and-both (rises itself xs) (list_all (member d) xs) m.rise m.inside) m.attributes
+    ∙ and-both (rises itself xs && list_all (member d) xs) (set_attributes_hold ks (length xs))
+    (and-both (rises itself xs) (list_all (member d) xs) m.rise m.inside) m.attributes
 
 -- A multiset of such members is one.
-pub mset-made : (ks : List Attribute) (d : Domain) (xs : List Value) → MsetMember ks d xs → member (msets ks d) (node a_mset (of_list xs)) ≡ true
+pub mset-made : (ks : List Attribute) (d : Domain) (xs : List Value) → MsetMember ks d xs →
+    member (msets ks d) (node a_mset (of_list xs)) ≡ true
 mset-made ks d xs m =
     ap (λ l. rises_weakly l && list_all (member d) l && mset_attributes_hold ks l) (to_list-of_list xs)
-    ∙ and-both (rises_weakly xs && list_all (member d) xs) (mset_attributes_hold ks xs) (and-both (rises_weakly xs) (list_all (member d) xs) m.rise m.inside) m.attributes
+    ∙ and-both (rises_weakly xs && list_all (member d) xs) (mset_attributes_hold ks xs)
+    (and-both (rises_weakly xs) (list_all (member d) xs) m.rise m.inside) m.attributes
 
 -- A pair of members.
 abbrev pub is_entry : Domain → Domain → Value → Bool
 is_entry d c p = is_pair p && member d (from_of p) && member c (to_of p)
 
 -- A function of such pairs is one.
-pub function-made : (ks : List Attribute) (d c : Domain) (ps : List Value) → FunctionMember ks d c ps → member (functions ks d c) (node a_function (of_list ps)) ≡ true
+pub function-made : (ks : List Attribute) (d c : Domain) (ps : List Value) → FunctionMember ks d c ps →
+    member (functions ks d c) (node a_function (of_list ps)) ≡ true
 function-made ks d c ps m =
     ap (λ l. rises from_of l && list_all (is_entry d c) l && function_attributes_hold ks d c l) (to_list-of_list ps)
-    ∙ and-both (rises from_of ps && list_all (is_entry d c) ps) (function_attributes_hold ks d c ps) (and-both (rises from_of ps) (list_all (is_entry d c) ps) m.rise m.pairs) m.attributes
+    ∙ and-both (rises from_of ps && list_all (is_entry d c) ps) (function_attributes_hold ks d c ps)
+    (and-both (rises from_of ps) (list_all (is_entry d c) ps) m.rise m.pairs) m.attributes
 
 -- A relation of such tuples is one.
-pub relation-made : (ks : List Attribute) (ds : Domains) (xs : List Value) → RelationMember ks ds xs → member (relations ks ds) (node a_relation (of_list xs)) ≡ true
+pub relation-made : (ks : List Attribute) (ds : Domains) (xs : List Value) → RelationMember ks ds xs →
+    member (relations ks ds) (node a_relation (of_list xs)) ≡ true
 relation-made ks ds xs m =
     ap (λ l. rises itself l && list_all (tuple_member ds) l && relation_attributes_hold ks ds l) (to_list-of_list xs)
-    ∙ and-both (rises itself xs && list_all (tuple_member ds) xs) (relation_attributes_hold ks ds xs) (and-both (rises itself xs) (list_all (tuple_member ds) xs) m.rise m.inside) m.attributes
+    ∙ and-both (rises itself xs && list_all (tuple_member ds) xs) (relation_attributes_hold ks ds xs)
+    (and-both (rises itself xs) (list_all (tuple_member ds) xs) m.rise m.inside) m.attributes
 
 -- A partition of such parts is one.
-pub partition-made : (ks : List Attribute) (d : Domain) (ps : List Value) → PartitionMember ks d ps → member (partitions ks d) (node a_partition (of_list ps)) ≡ true
+pub partition-made : (ks : List Attribute) (d : Domain) (ps : List Value) → PartitionMember ks d ps →
+    member (partitions ks d) (node a_partition (of_list ps)) ≡ true
 partition-made ks d ps m =
     ap (λ l. rises itself l && list_all (is_part (member d)) l && not (has_overlap l) && covers (members d) l && partition_attributes_hold ks l) (to_list-of_list ps)
-    ∙ and-both (a && b && c && e) (partition_attributes_hold ks ps) (and-both (a && b && c) e (and-both (a && b) c (and-both a b m.rise m.parts) m.apart) m.whole) m.attributes
+    ∙ and-both (a && b && c && e) (partition_attributes_hold ks ps)
+    (and-both (a && b && c) e (and-both (a && b) c (and-both a b m.rise m.parts) m.apart) m.whole) m.attributes
   where
     a : Bool
     a = rises itself ps

@@ -19,9 +19,12 @@ use Rattle.ess_repr_laws.proofs.ListsOfPositions.{with_each, list-with, sorted-w
 -- ---- atoms
 
 -- Values that are their own values with positions.
-each-itself : (p : Value → Bool) → ((v : Value) → p v ≡ true → with_positions v ≡ v) → (xs : List Value) → list_all p xs ≡ true → with_each xs ≡ xs
+each-itself : (p : Value → Bool) → ((v : Value) → p v ≡ true → with_positions v ≡ v) → (xs : List Value) → list_all p xs ≡ true →
+    with_each xs ≡ xs
 each-itself p h [] a = refl
-each-itself p h (x ∷ xs) a = ap (λ v. v ∷ with_each xs) (h x (and-left (p x) (list_all p xs) a)) ∙ ap (λ l. x ∷ l) (each-itself p h xs (and-right (p x) (list_all p xs) a))
+each-itself p h (x ∷ xs) a =
+    ap (λ v. v ∷ with_each xs) (h x (and-left (p x) (list_all p xs) a))
+    ∙ ap (λ l. x ∷ l) (each-itself p h xs (and-right (p x) (list_all p xs) a))
 
 integers-with : (ss : List Span) → members (integers ss) ≡ option_map with_each (members (integers ss))
 integers-with ss = go (members (integers ss)) refl
@@ -29,7 +32,8 @@ integers-with ss = go (members (integers ss)) refl
     go : (o : Option (List Value)) → members (integers ss) ≡ o → o ≡ option_map with_each o
     go None q = refl
     go (Some vs) q =
-        let l = integers-listed ss in ap Some (sym (each-itself (member (integers ss)) (integer-back ss) vs (ap (λ o. list_all (member (integers ss)) (list_or_none o)) (sym q) ∙ l.members)))
+        let l = integers-listed ss in
+        ap Some (sym (each-itself (member (integers ss)) (integer-back ss) vs (ap (λ o. list_all (member (integers ss)) (list_or_none o)) (sym q) ∙ l.members)))
 
 -- The numbers from k on are the positions from k on.
 numbers-items : (t : Text) (k n : ℕ) → numbers_up (pos k) n ≡ with_each (items_from t k n)
@@ -42,7 +46,8 @@ named-with : (t : Text) (n : ℕ) → members (between (pos 1) (pos n)) ≡ Some
 named-with t n =
     let e : (pos n -ℤ pos 1) +ℤ pos 1 ≡ pos n = omega (arith, ints) in
     let l = named-listed t n in
-    ap (λ a. Some (sorted_once (numbers_up (pos 1) (natural a) ++ []))) e ∙ ap (λ xs. Some (sorted_once xs)) (append-nil (numbers_up (pos 1) n) ∙ numbers-items t 1 n)
+    ap (λ a. Some (sorted_once (numbers_up (pos 1) (natural a) ++ []))) e
+    ∙ ap (λ xs. Some (sorted_once xs)) (append-nil (numbers_up (pos 1) n) ∙ numbers-items t 1 n)
     ∙ ap Some (sorted-with (member (named t n)) (named-agree t n n) (items_from t 1 n) l.members ∙ ap with_each (sorted_once-itself (items_from t 1 n) l.sorted))
 
 -- ---- lists with one item from each
@@ -70,12 +75,16 @@ lists-of-with [] = refl
 lists-of-with (vs ∷ vss) = ap (add_heads (with_each vs)) (lists-of-with vss) ∙ heads-with vs (lists_of vss)
 
 -- Compound values of such lists.
-compounds-with : (k : Kind) (ls : List (List Value)) → map (λ l. node k (of_list l)) (each_list ls) ≡ with_each (map (λ l. node k (of_list l)) ls)
+compounds-with : (k : Kind) (ls : List (List Value)) →
+    map (λ l. node k (of_list l)) (each_list ls) ≡ with_each (map (λ l. node k (of_list l)) ls)
 compounds-with k [] = refl
-compounds-with k (l ∷ ls) = ap (λ v. node k v ∷ map (λ l. node k (of_list l)) (each_list ls)) (sym (list-with l)) ∙ ap (λ x. with_positions (node k (of_list l)) ∷ x) (compounds-with k ls)
+compounds-with k (l ∷ ls) =
+    ap (λ v. node k v ∷ map (λ l. node k (of_list l)) (each_list ls)) (sym (list-with l))
+    ∙ ap (λ x. with_positions (node k (of_list l)) ∷ x) (compounds-with k ls)
 
 compound-with : (k : Kind) (o : Option (List (List Value))) →
-    option_map (λ ls. map (λ l. node k (of_list l)) (lists_of ls)) (option_map each_list o) ≡ option_map with_each (option_map (λ ls. map (λ l. node k (of_list l)) (lists_of ls)) o)
+    option_map (λ ls. map (λ l. node k (of_list l)) (lists_of ls)) (option_map each_list o) ≡ option_map with_each
+    (option_map (λ ls. map (λ l. node k (of_list l)) (lists_of ls)) o)
 compound-with k None = refl
 compound-with k (Some ls) = ap (λ x. Some (map (λ l. node k (of_list l)) x)) (lists-of-with ls) ∙ ap Some (compounds-with k (lists_of ls))
 
@@ -87,8 +96,12 @@ mutual
   members-with booleans = refl
   members-with (integers ss) = integers-with ss
   members-with (named t n) = named-with t n
-  members-with (tuples ds) = ap (option_map (λ ls. map (λ l. tuple (of_list l)) (lists_of ls))) (each-with ds) ∙ compound-with a_tuple (all_some (members_of_each ds))
-  members-with (records fs ds) = ap (option_map (λ ls. map (λ l. node (a_record fs) (of_list l)) (lists_of ls))) (each-with ds) ∙ compound-with (a_record fs) (all_some (members_of_each ds))
+  members-with (tuples ds) =
+      ap (option_map (λ ls. map (λ l. tuple (of_list l)) (lists_of ls))) (each-with ds)
+      ∙ compound-with a_tuple (all_some (members_of_each ds))
+  members-with (records fs ds) =
+      ap (option_map (λ ls. map (λ l. node (a_record fs) (of_list l)) (lists_of ls))) (each-with ds)
+      ∙ compound-with (a_record fs) (all_some (members_of_each ds))
   members-with (matrices is d) = refl
   members-with (sets ks d) = refl
   members-with (msets ks d) = refl
@@ -100,10 +113,12 @@ mutual
   each-with no_domains = refl
   each-with (more_domains d ds) =
       ap (λ o. and_then o (λ vs. option_map (λ ls. vs ∷ ls) (all_some (members_of_each (domains_with_positions ds))))) (members-with d)
-      ∙ ap (λ o. and_then (option_map with_each (members d)) (λ vs. option_map (λ ls. vs ∷ ls) o)) (each-with ds) ∙ go (members d) (all_some (members_of_each ds))
+      ∙ ap (λ o. and_then (option_map with_each (members d)) (λ vs. option_map (λ ls. vs ∷ ls) o)) (each-with ds)
+      ∙ go (members d) (all_some (members_of_each ds))
     where
       go : (o : Option (List Value)) (q : Option (List (List Value))) →
-          and_then (option_map with_each o) (λ vs. option_map (λ ls. vs ∷ ls) (option_map each_list q)) ≡ option_map each_list (and_then o (λ vs. option_map (λ ls. vs ∷ ls) q))
+          and_then (option_map with_each o) (λ vs. option_map (λ ls. vs ∷ ls) (option_map each_list q)) ≡ option_map each_list
+          (and_then o (λ vs. option_map (λ ls. vs ∷ ls) q))
       go None q = refl
       go (Some vs) None = refl
       go (Some vs) (Some ls) = refl

@@ -53,7 +53,8 @@ named-matched t n = record { up = up; back = back }
     up (node k vs) h = cc
 
     back : (w : Value) → member (domain_with_positions (named t n)) w ≡ true → Back (member (named t n)) w
-    back (number (pos k)) h = (item t k, ap (λ o. is_eq o && nat_le 1 k && nat_le k n) (tied_itself text_total t) ∙ joined (nat_le 1 k) (nat_le k n) h, refl)
+    back (number (pos k)) h =
+        (item t k, ap (λ o. is_eq o && nat_le 1 k && nat_le k n) (tied_itself text_total t) ∙ joined (nat_le 1 k) (nat_le k n) h, refl)
     back (number (negsuc k)) h = cc
     back (truth b) h = cc
     back (item u k) h = cc
@@ -66,21 +67,25 @@ list-itself : (xs : List Value) → same_list xs xs ≡ true
 list-itself xs = ap is_eq (tied_itself orders_total (of_list xs))
 
 -- A matrix whose items match.
-axis-matched : (i : Domain) (is : Domains) (p q : Value → Bool) → Matched (nested_matrix is p) (nested_matrix (domains_with_positions is) q) →
+axis-matched : (i : Domain) (is : Domains) (p q : Value → Bool) →
+    Matched (nested_matrix is p) (nested_matrix (domains_with_positions is) q) →
     Matched (nested_matrix (more_domains i is) p) (nested_matrix (domains_with_positions (more_domains i is)) q)
 axis-matched i is p q rest = record { up = up; back = back }
   where
-    made : (j : Domain) (js : Domains) (r : Value → Bool) (ix xs : Values) → members j ≡ Some (to_list ix) → nat_eq (length (to_list ix)) (length (to_list xs)) ≡ true →
+    made : (j : Domain) (js : Domains) (r : Value → Bool) (ix xs : Values) → members j ≡ Some (to_list ix) →
+        nat_eq (length (to_list ix)) (length (to_list xs)) ≡ true →
         list_all (nested_matrix js r) (to_list xs) ≡ true → nested_matrix (more_domains j js) r (matrix ix xs) ≡ true
     made j js r ix xs e l h =
         ap (λ o. is_some_and o (λ vs. same_list vs (to_list ix)) && nat_eq (length (to_list ix)) (length (to_list xs)) && list_all (nested_matrix js r) (to_list xs)) e
-        ∙ and-both (same_list (to_list ix) (to_list ix) && nat_eq (length (to_list ix)) (length (to_list xs))) (list_all (nested_matrix js r) (to_list xs))
+        ∙ and-both (same_list (to_list ix) (to_list ix) && nat_eq (length (to_list ix)) (length (to_list xs)))
+        (list_all (nested_matrix js r) (to_list xs))
         (and-both (same_list (to_list ix) (to_list ix)) (nat_eq (length (to_list ix)) (length (to_list xs))) (list-itself (to_list ix)) l) h
 
     lengths : (xs : Values) → length (to_list (all_with_positions xs)) ≡ length (to_list xs)
     lengths xs = ap length (parts-with xs) ∙ length-with (to_list xs)
 
-    up : (v : Value) → nested_matrix (more_domains i is) p v ≡ true → nested_matrix (domains_with_positions (more_domains i is)) q (with_positions v) ≡ true
+    up : (v : Value) → nested_matrix (more_domains i is) p v ≡ true →
+        nested_matrix (domains_with_positions (more_domains i is)) q (with_positions v) ≡ true
     up v h =
         let s = shape-of i is p v h in
         ap (λ u. nested_matrix (domains_with_positions (more_domains i is)) q (with_positions u)) s.form
@@ -90,14 +95,16 @@ axis-matched i is p q rest = record { up = up; back = back }
         (ap (list_all (nested_matrix (domains_with_positions is) q)) (parts-with s.xs) ∙ all-there (nested_matrix is p) (nested_matrix (domains_with_positions is) q) rest.up (to_list s.xs) s.items)
 
     -- the members of the index domain whose values with positions these are
-    listed : (o : Option (List Value)) (ys : List Value) → option_map with_each o ≡ Some ys → (vs : List Value) × (o ≡ Some vs) × (with_each vs ≡ ys)
+    listed : (o : Option (List Value)) (ys : List Value) → option_map with_each o ≡ Some ys →
+        (vs : List Value) × (o ≡ Some vs) × (with_each vs ≡ ys)
     listed None ys e = cc
     listed (Some vs) ys e = (vs, refl, some e)
       where
         some : Some (with_each vs) ≡ Some ys → with_each vs ≡ ys
         some e = cc
 
-    back : (w : Value) → nested_matrix (domains_with_positions (more_domains i is)) q w ≡ true → Back (nested_matrix (more_domains i is) p) w
+    back : (w : Value) → nested_matrix (domains_with_positions (more_domains i is)) q w ≡ true →
+        Back (nested_matrix (more_domains i is) p) w
     back w h =
         let s = shape-of (domain_with_positions i) (domains_with_positions is) q w h in
         let x = listed (members i) (to_list s.ix) (sym (members-with i) ∙ indices-are (domain_with_positions i) s.ix s.indices) in
@@ -105,13 +112,15 @@ axis-matched i is p q rest = record { up = up; back = back }
           matrix (of_list x.0) (of_list y.0),
           made i is p (of_list x.0) (of_list y.0) (x.1 ∙ ap Some (sym (to_list-of_list x.0)))
               (ap (λ l. nat_eq (length l) (length (to_list (of_list y.0)))) (to_list-of_list x.0) ∙ ap (λ l. nat_eq (length x.0) (length l)) (to_list-of_list y.0)
-              ∙ ap (λ k. nat_eq k (length y.0)) (sym (length-with x.0) ∙ ap length x.2) ∙ ap (nat_eq (length (to_list s.ix))) (sym (length-with y.0) ∙ ap length y.2) ∙ s.long)
+              ∙ ap (λ k. nat_eq k (length y.0)) (sym (length-with x.0) ∙ ap length x.2)
+              ∙ ap (nat_eq (length (to_list s.ix))) (sym (length-with y.0) ∙ ap length y.2) ∙ s.long)
               (ap (list_all (nested_matrix is p)) (to_list-of_list y.0) ∙ y.1),
           ap (λ u. matrix u (all_with_positions (of_list y.0))) (list-with x.0 ∙ ap of_list x.2 ∙ of_list-to_list s.ix)
               ∙ ap (matrix s.ix) (list-with y.0 ∙ ap of_list y.2 ∙ of_list-to_list s.xs) ∙ sym s.form,
         )
 
-matrices-matched : (is : Domains) (p q : Value → Bool) → Matched p q → Matched (nested_matrix is p) (nested_matrix (domains_with_positions is) q)
+matrices-matched : (is : Domains) (p q : Value → Bool) → Matched p q →
+    Matched (nested_matrix is p) (nested_matrix (domains_with_positions is) q)
 matrices-matched no_domains p q m = m
 matrices-matched (more_domains i is) p q m = axis-matched i is p q (matrices-matched is p q m)
 
@@ -120,25 +129,30 @@ matrices-matched (more_domains i is) p q m = axis-matched i is p q (matrices-mat
 -- Components that match.
 record Components (ds : Domains) : Type 0 where
   up : (vs : Values) → member_of_each ds vs ≡ true → member_of_each (domains_with_positions ds) (all_with_positions vs) ≡ true
-  back : (ws : Values) → member_of_each (domains_with_positions ds) ws ≡ true → (vs : Values) × (member_of_each ds vs ≡ true) × (all_with_positions vs ≡ ws)
+  back : (ws : Values) → member_of_each (domains_with_positions ds) ws ≡ true →
+      (vs : Values) × (member_of_each ds vs ≡ true) × (all_with_positions vs ≡ ws)
 
 tuples-matched : (ds : Domains) → Components ds → Matched (member (tuples ds)) (member (tuples (domains_with_positions ds)))
 tuples-matched ds c = record {
   up = λ v h. let x = tuple-form ds v h in ap (λ u. member (tuples (domains_with_positions ds)) (with_positions u)) x.1 ∙ c.up x.0 x.2;
-  back = λ w h. let x = tuple-form (domains_with_positions ds) w h in let y = c.back x.0 x.2 in (tuple y.0, y.1, ap (node a_tuple) y.2 ∙ sym x.1);
+  back = λ w h. let x = tuple-form (domains_with_positions ds) w h in let y = c.back x.0 x.2 in
+      (tuple y.0, y.1, ap (node a_tuple) y.2 ∙ sym x.1);
 }
 
 -- One more component.
-joined : (d : Domain) (ds : Domains) → Matched (member d) (member (domain_with_positions d)) → Components ds → Components (more_domains d ds)
+joined : (d : Domain) (ds : Domains) → Matched (member d) (member (domain_with_positions d)) → Components ds →
+    Components (more_domains d ds)
 joined d ds m c = record { up = up; back = back }
   where
-    up : (vs : Values) → member_of_each (more_domains d ds) vs ≡ true → member_of_each (domains_with_positions (more_domains d ds)) (all_with_positions vs) ≡ true
+    up : (vs : Values) → member_of_each (more_domains d ds) vs ≡ true →
+        member_of_each (domains_with_positions (more_domains d ds)) (all_with_positions vs) ≡ true
     up nil h = cc
     up (cons v vs) h =
         and-both (member (domain_with_positions d) (with_positions v)) (member_of_each (domains_with_positions ds) (all_with_positions vs))
         (m.up v (and-left (member d v) (member_of_each ds vs) h)) (c.up vs (and-right (member d v) (member_of_each ds vs) h))
 
-    back : (ws : Values) → member_of_each (domains_with_positions (more_domains d ds)) ws ≡ true → (vs : Values) × (member_of_each (more_domains d ds) vs ≡ true) × (all_with_positions vs ≡ ws)
+    back : (ws : Values) → member_of_each (domains_with_positions (more_domains d ds)) ws ≡ true →
+        (vs : Values) × (member_of_each (more_domains d ds) vs ≡ true) × (all_with_positions vs ≡ ws)
     back nil h = cc
     back (cons w ws) h =
         let x = m.back w (and-left (member (domain_with_positions d) w) (member_of_each (domains_with_positions ds) ws) h) in
@@ -155,17 +169,20 @@ whole-tuple (more_domains d ds) (cons v vs) h = h
 entries-matched : (ds : Domains) → Components ds → Matched (tuple_member ds) (tuple_member (domains_with_positions ds))
 entries-matched ds c = record {
   up = λ v h. let x = tuple-components ds v h in
-      ap (λ u. tuple_member (domains_with_positions ds) (with_positions u)) x.1 ∙ whole-tuple (domains_with_positions ds) (all_with_positions x.0) (c.up x.0 x.2);
+      ap (λ u. tuple_member (domains_with_positions ds) (with_positions u)) x.1
+      ∙ whole-tuple (domains_with_positions ds) (all_with_positions x.0) (c.up x.0 x.2);
   back = λ w h. let x = tuple-components (domains_with_positions ds) w h in
       let y = c.back x.0 x.2 in (tuple y.0, whole-tuple ds y.0 y.1, ap (node a_tuple) y.2 ∙ sym x.1);
 }
 
-records-matched : (fs : List Text) (ds : Domains) → Components ds → Matched (member (records fs ds)) (member (records fs (domains_with_positions ds)))
+records-matched : (fs : List Text) (ds : Domains) → Components ds →
+    Matched (member (records fs ds)) (member (records fs (domains_with_positions ds)))
 records-matched fs ds c = record { up = up; back = back }
   where
     up : (v : Value) → member (records fs ds) v ≡ true → member (records fs (domains_with_positions ds)) (with_positions v) ≡ true
     up (node (a_record gs) vs) h =
-        and-both (same_texts fs gs) (member_of_each (domains_with_positions ds) (all_with_positions vs)) (and-left (same_texts fs gs) (member_of_each ds vs) h)
+        and-both (same_texts fs gs) (member_of_each (domains_with_positions ds) (all_with_positions vs))
+        (and-left (same_texts fs gs) (member_of_each ds vs) h)
         (c.up vs (and-right (same_texts fs gs) (member_of_each ds vs) h))
     up (number n) h = cc
     up (truth b) h = cc
@@ -187,13 +204,15 @@ records-matched fs ds c = record { up = up; back = back }
 either-agree : (d e : Domain) → Typed d → Typed e → OneType d e → Agree (λ v. member d v || member e v) (λ v. member d v || member e v)
 either-agree d e t u o v w h k = go (member d v) refl (member d w) refl h k
   where
-    go : (a : Bool) → member d v ≡ a → (b : Bool) → member d w ≡ b → a || member e v ≡ true → b || member e w ≡ true → order (with_positions v) (with_positions w) ≡ order v w
+    go : (a : Bool) → member d v ≡ a → (b : Bool) → member d w ≡ b → a || member e v ≡ true → b || member e w ≡ true →
+        order (with_positions v) (with_positions w) ≡ order v w
     go true p true q h k = order-agrees d d (type-itself d t) v w p q
     go true p false q h k = order-agrees d e o v w p k
     go false p true q h k = order-agrees e d (type-turned d e o) v w h q
     go false p false q h k = order-agrees e e (type-itself e u) v w h k
 
-relation-attributes : (ks : List Attribute) (ds : Domains) → (list_any is_unnumbered ks ≡ true → ArePairs ds) → AllTyped ds → (ps : List Value) → list_all (tuple_member ds) ps ≡ true →
+relation-attributes : (ks : List Attribute) (ds : Domains) → (list_any is_unnumbered ks ≡ true → ArePairs ds) → AllTyped ds →
+    (ps : List Value) → list_all (tuple_member ds) ps ≡ true →
     relation_attributes_hold ks (domains_with_positions ds) (with_each ps) ≡ relation_attributes_hold ks ds ps
 relation-attributes ks ds a t ps h = go (list_any is_unnumbered ks) refl
   where
@@ -204,10 +223,12 @@ relation-attributes ks ds a t ps h = go (list_any is_unnumbered ks) refl
     paired (more_domains d no_domains) o t h = absurd o
     paired (more_domains d (more_domains e (more_domains f ds))) o t h = absurd o
 
-    go : (b : Bool) → list_any is_unnumbered ks ≡ b → relation_attributes_hold ks (domains_with_positions ds) (with_each ps) ≡ relation_attributes_hold ks ds ps
+    go : (b : Bool) → list_any is_unnumbered ks ≡ b →
+        relation_attributes_hold ks (domains_with_positions ds) (with_each ps) ≡ relation_attributes_hold ks ds ps
     go false q =
         numbered-same ks (λ k z. size_holds k z (length (with_each ps))) (λ k z. size_holds k z (length ps))
-        (λ k. relation_holds k (head_members (domains_with_positions ds)) (with_each ps)) (λ k. relation_holds k (head_members ds) ps) q (λ k z. ap (size_holds k z) (length-with ps))
+        (λ k. relation_holds k (head_members (domains_with_positions ds)) (with_each ps)) (λ k. relation_holds k (head_members ds) ps) q
+        (λ k z. ap (size_holds k z) (length-with ps))
     go true q = paired ds (a q) t h
 
 -- ---- all domains
@@ -226,9 +247,11 @@ mutual
   members-matched (matrices is d) t = matrices-matched is (member d) (member (domain_with_positions d)) (members-matched d t.1)
   members-matched (sets ks d) t = sets-matched ks d (itself-agrees d t) (members-matched d t)
   members-matched (msets ks d) t = msets-matched ks d (itself-agrees d t) (members-matched d t)
-  members-matched (functions ks d c) t = functions-matched ks d c (itself-agrees d t.0) (itself-agrees c t.1) (members-matched d t.0) (members-matched c t.1)
+  members-matched (functions ks d c) t =
+      functions-matched ks d c (itself-agrees d t.0) (itself-agrees c t.1) (members-matched d t.0) (members-matched c t.1)
   members-matched (relations ks ds) t =
-      relations-matched ks ds (tuples-agree ds ds (all-agree ds ds (types-themselves ds t.1))) (entries-matched ds (components ds t.1)) (relation-attributes ks ds t.0 t.1)
+      relations-matched ks ds (tuples-agree ds ds (all-agree ds ds (types-themselves ds t.1))) (entries-matched ds (components ds t.1))
+      (relation-attributes ks ds t.0 t.1)
   members-matched (partitions ks d) t = partitions-matched ks d (itself-agrees d t) (members-matched d t)
 
   components : (ds : Domains) → AllTyped ds → Components ds
@@ -238,7 +261,8 @@ mutual
       up nil h = refl
       up (cons v vs) h = cc
 
-      back : (ws : Values) → member_of_each no_domains ws ≡ true → (vs : Values) × (member_of_each no_domains vs ≡ true) × (all_with_positions vs ≡ ws)
+      back : (ws : Values) → member_of_each no_domains ws ≡ true →
+          (vs : Values) × (member_of_each no_domains vs ≡ true) × (all_with_positions vs ≡ ws)
       back nil h = (nil, refl, refl)
       back (cons w ws) h = cc
   components (more_domains d ds) t = joined d ds (members-matched d t.0) (components ds t.1)

@@ -17,17 +17,20 @@ use Rattle.ess_repr_laws.proofs.AttributesOfPositions.{each-same}
 use Rattle.ess_repr_laws.proofs.Parts.{part-of}
 
 -- The members of a part.
-part-items : (p : Value → Bool) (v : Value) → is_part p v ≡ true → (items_of (with_positions v) ≡ with_each (items_of v)) × (list_all p (items_of v) ≡ true)
+part-items : (p : Value → Bool) (v : Value) → is_part p v ≡ true →
+    (items_of (with_positions v) ≡ with_each (items_of v)) × (list_all p (items_of v) ≡ true)
 part-items p v h =
     let x = part-of p v h in
     (ap (λ u. items_of (with_positions u)) x.form ∙ parts-with x.xs ∙ ap (λ u. with_each (items_of u)) (sym x.form), ap (λ u. list_all p (items_of u)) x.form ∙ x.inside)
 
 -- The members of all parts.
-all-items : (p : Value → Bool) (ps : List Value) → list_all (is_part p) ps ≡ true → append_all (map items_of (with_each ps)) ≡ with_each (append_all (map items_of ps))
+all-items : (p : Value → Bool) (ps : List Value) → list_all (is_part p) ps ≡ true →
+    append_all (map items_of (with_each ps)) ≡ with_each (append_all (map items_of ps))
 all-items p [] h = refl
 all-items p (v ∷ ps) h =
     let x = part-items p v (and-left (is_part p v) (list_all (is_part p) ps) h) in
-    ap (λ l. l ++ append_all (map items_of (with_each ps))) x.0 ∙ ap (λ l. with_each (items_of v) ++ l) (all-items p ps (and-right (is_part p v) (list_all (is_part p) ps) h))
+    ap (λ l. l ++ append_all (map items_of (with_each ps))) x.0
+    ∙ ap (λ l. with_each (items_of v) ++ l) (all-items p ps (and-right (is_part p v) (list_all (is_part p) ps) h))
     ∙ sym (append-with (items_of v) (append_all (map items_of ps)))
 
 inside-all : (p : Value → Bool) (ps : List Value) → list_all (is_part p) ps ≡ true → list_all p (append_all (map items_of ps)) ≡ true
@@ -38,7 +41,8 @@ inside-all p (v ∷ ps) h =
   where
     both : (xs ys : List Value) → list_all p xs ≡ true → list_all p ys ≡ true → list_all p (xs ++ ys) ≡ true
     both [] ys a b = b
-    both (x ∷ xs) ys a b = and-both (p x) (list_all p (xs ++ ys)) (and-left (p x) (list_all p xs) a) (both xs ys (and-right (p x) (list_all p xs) a) b)
+    both (x ∷ xs) ys a b =
+        and-both (p x) (list_all p (xs ++ ys)) (and-left (p x) (list_all p xs) a) (both xs ys (and-right (p x) (list_all p xs) a) b)
 
 -- How many members each part has.
 sizes-with : (p : Value → Bool) (ps : List Value) → list_all (is_part p) ps ≡ true → part_sizes (with_each ps) ≡ part_sizes ps
@@ -52,10 +56,12 @@ module _ (p : Value → Bool) (agree : Agree p p) (ps : List Value) (parts : lis
   -- Parts overlap where their values with positions do.
   pub overlap-with : has_overlap (with_each ps) ≡ has_overlap ps
   overlap-with =
-      ap (λ l. not (no_twice itself l)) (all-items p ps parts) ∙ ap not (twice-with p agree itself (λ v. refl) (append_all (map items_of ps)) (inside-all p ps parts))
+      ap (λ l. not (no_twice itself l)) (all-items p ps parts)
+      ∙ ap not (twice-with p agree itself (λ v. refl) (append_all (map items_of ps)) (inside-all p ps parts))
 
   -- They hold all members where these do.
-  pub covers-with : (o : Option (List Value)) → ((vs : List Value) → o ≡ Some vs → list_all p vs ≡ true) → covers (option_map with_each o) (with_each ps) ≡ covers o ps
+  pub covers-with : (o : Option (List Value)) → ((vs : List Value) → o ≡ Some vs → list_all p vs ≡ true) →
+      covers (option_map with_each o) (with_each ps) ≡ covers o ps
   covers-with None i = refl
   covers-with (Some vs) i =
       ap (λ l. same_list (sorted_once (with_each vs)) (sorted_once l)) (all-items p ps parts)
@@ -66,7 +72,9 @@ module _ (p : Value → Bool) (agree : Agree p p) (ps : List Value) (parts : lis
 
   -- The attributes of a partition.
   pub parts-attributes : (ks : List Attribute) → partition_attributes_hold ks (with_each ps) ≡ partition_attributes_hold ks ps
-  parts-attributes ks = each-same ks (λ k n. partition_holds k n (with_each ps)) (λ k n. partition_holds k n ps) (λ k. parts_hold k (with_each ps)) (λ k. parts_hold k ps) numbers flags
+  parts-attributes ks =
+      each-same ks (λ k n. partition_holds k n (with_each ps)) (λ k n. partition_holds k n ps) (λ k. parts_hold k (with_each ps))
+      (λ k. parts_hold k ps) numbers flags
     where
       s : part_sizes (with_each ps) ≡ part_sizes ps
       s = sizes-with p ps parts

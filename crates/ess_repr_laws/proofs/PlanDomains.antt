@@ -23,7 +23,8 @@ mutual
   formed-positions (name_dom a) (integers ss) w f s = f
   formed-positions (tuple_dom ds) (tuples es) w f s = all-positions ds es w f
   formed-positions (record_dom fs ds) (records gs es) w f s = all-positions ds es w f
-  formed-positions (matrix_dom is d) (matrices js e) w f s = (f.0, all-positions is js w.1 f.1, formed-positions d e w.2 f.2 (formed-same d e f.2))
+  formed-positions (matrix_dom is d) (matrices js e) w f s =
+      (f.0, all-positions is js w.1 f.1, formed-positions d e w.2 f.2 (formed-same d e f.2))
   formed-positions (set_dom ms es d) (sets ks e) w f s = (f.0, formed-positions d e w.1 f.1 (formed-same d e f.1))
   formed-positions (mset_dom ms es d) (msets ks e) w f s = (f.0, f.1, formed-positions d e w.1 f.2 (formed-same d e f.2))
   formed-positions (function_dom ms es d c) (functions ks e g) w f s =
@@ -45,8 +46,11 @@ plan-formed d env e w q = go (domain_of d env) refl q
   where
     go : (o : Option Domain) → domain_of d env ≡ o → option_map domain_with_positions o ≡ Some e → Formed d e
     go None h q = cc
-    go (Some x) h q = let f = domain-formed d env x w h in let z : domain_with_positions x ≡ e = cc in subst (Formed d) z (formed-positions d x w f (formed-same d x f))
+    go (Some x) h q =
+        let f = domain-formed d env x w h in let z : domain_with_positions x ≡ e = cc in
+        subst (Formed d) z (formed-positions d x w f (formed-same d x f))
 
 -- A representation that fits a well-formed expression has room for the members of the plan's domain.
-pub plan-roomy : (r : Repr) (d : Dom) (env : Env) (e : Domain) → Well d → needs_known_slots d ≡ true → fits r d ≡ true → plan_domain d env ≡ Some e → Roomy r e
+pub plan-roomy : (r : Repr) (d : Dom) (env : Env) (e : Domain) → Well d → needs_known_slots d ≡ true → fits r d ≡ true →
+    plan_domain d env ≡ Some e → Roomy r e
 plan-roomy r d env e w k h q = let f = plan-formed d env e w q in fits-roomy r d e f (dom-known d e f (formed-same d e f) k) h

@@ -24,15 +24,19 @@ use Rattle.ess_repr_laws.proofs.SetsOfPositions.{attributes}
 -- ---- relations
 
 -- A relation of pairs of one type.
-pub pairs-attributes : (ks : List Attribute) (d e : Domain) → Agree (λ v. member d v || member e v) (λ v. member d v || member e v) → (ps : List Value) →
+pub pairs-attributes : (ks : List Attribute) (d e : Domain) → Agree (λ v. member d v || member e v) (λ v. member d v || member e v) →
+    (ps : List Value) →
     list_all (tuple_member (more_domains d (more_domains e no_domains))) ps ≡ true →
-    relation_attributes_hold ks (domains_with_positions (more_domains d (more_domains e no_domains))) (with_each ps) ≡ relation_attributes_hold ks (more_domains d (more_domains e no_domains)) ps
+    relation_attributes_hold ks (domains_with_positions (more_domains d (more_domains e no_domains)))
+    (with_each ps) ≡ relation_attributes_hold ks (more_domains d (more_domains e no_domains)) ps
 pairs-attributes ks d e agree ps h =
     each-same ks (λ k z. size_holds k z (length (with_each ps))) (λ k z. size_holds k z (length ps))
-    (λ k. relation_holds k (members (domain_with_positions d)) (with_each ps)) (λ k. relation_holds k (members d) ps) (λ k z. ap (size_holds k z) (length-with ps))
+    (λ k. relation_holds k (members (domain_with_positions d)) (with_each ps)) (λ k. relation_holds k (members d) ps)
+    (λ k z. ap (size_holds k z) (length-with ps))
     (λ k. ap (λ o. relation_holds k o (with_each ps)) (members-with d)
     ∙ relation-same f agree (pairs-agree f f f f agree agree) (members d)
-    (λ vs q. all-so (member d) f (λ v j. ap (λ b. b || member e v) j) vs (listed-inside d vs q)) k ps (all-so (tuple_member (more_domains d (more_domains e no_domains))) (pairs_of f) pair ps h))
+    (λ vs q. all-so (member d) f (λ v j. ap (λ b. b || member e v) j) vs (listed-inside d vs q)) k ps
+    (all-so (tuple_member (more_domains d (more_domains e no_domains))) (pairs_of f) pair ps h))
   where
     f : Value → Bool
     f v = member d v || member e v
@@ -41,14 +45,16 @@ pairs-attributes ks d e agree ps h =
     pair (tuple (cons a (cons b nil))) j =
         and-both (f a) (f b) (ap (λ x. x || member e a) (and-left (member d a) (member e b && true) j))
         (ap (λ x. member d b || x) (and-left (member e b) true (and-right (member d a) (member e b && true) j)) ∙ or-yes (member d b))
-    pair (tuple (cons a (cons b (cons c vs)))) j = let z = and-right (member e b) false (and-right (member d a) (member e b && false) j) in cc
+    pair (tuple (cons a (cons b (cons c vs)))) j =
+        let z = and-right (member e b) false (and-right (member d a) (member e b && false) j) in cc
     pair (tuple (cons a nil)) j = let z = and-right (member d a) false j in cc
     pair (number n) j = cc
     pair (truth b) j = cc
     pair (item t k) j = cc
     pair (node k vs) j = cc
 
-module _ (ks : List Attribute) (ds : Domains) (agree : Agree (tuple_member ds) (tuple_member ds)) (m : Matched (tuple_member ds) (tuple_member (domains_with_positions ds)))
+module _ (ks : List Attribute) (ds : Domains) (agree : Agree (tuple_member ds) (tuple_member ds))
+    (m : Matched (tuple_member ds) (tuple_member (domains_with_positions ds)))
     (same : (ps : List Value) → list_all (tuple_member ds) ps ≡ true → relation_attributes_hold ks (domains_with_positions ds) (with_each ps) ≡ relation_attributes_hold ks ds ps) where
   -- Members of relations.
   pub relations-matched : Matched (member (relations ks ds)) (member (relations ks (domains_with_positions ds)))
@@ -82,7 +88,8 @@ module _ (ks : List Attribute) (ds : Domains) (agree : Agree (tuple_member ds) (
 -- ---- partitions
 
 -- A set of members that isn't empty is a part.
-part-made : (f : Value → Bool) (xs : List Value) → rises itself xs ≡ true → not (is_empty xs) ≡ true → list_all f xs ≡ true → is_part f (node a_set (of_list xs)) ≡ true
+part-made : (f : Value → Bool) (xs : List Value) → rises itself xs ≡ true → not (is_empty xs) ≡ true → list_all f xs ≡ true →
+    is_part f (node a_set (of_list xs)) ≡ true
 part-made f xs a b c =
     ap (λ l. rises itself l && not (is_empty l) && list_all f l) (to_list-of_list xs)
     ∙ and-both (rises itself xs && not (is_empty xs)) (list_all f xs) (and-both (rises itself xs) (not (is_empty xs)) a b) c
@@ -91,7 +98,8 @@ empty-with : (xs : List Value) → is_empty (with_each xs) ≡ is_empty xs
 empty-with [] = refl
 empty-with (x ∷ xs) = refl
 
-module _ (ks : List Attribute) (d : Domain) (agree : Agree (member d) (member d)) (m : Matched (member d) (member (domain_with_positions d))) where
+module _ (ks : List Attribute) (d : Domain) (agree : Agree (member d) (member d))
+    (m : Matched (member d) (member (domain_with_positions d))) where
   parts : Matched (is_part (member d)) (is_part (member (domain_with_positions d)))
   parts = record { up = up; back = back }
     where
@@ -100,8 +108,10 @@ module _ (ks : List Attribute) (d : Domain) (agree : Agree (member d) (member d)
           let x = part-of (member d) v h in
           let e = ap (node a_set) (sym (of_list-to_list (all_with_positions x.xs)) ∙ ap of_list (parts-with x.xs)) in
           ap (λ u. is_part (member (domain_with_positions d)) (with_positions u)) x.form ∙ ap (is_part (member (domain_with_positions d))) e
-          ∙ part-made (member (domain_with_positions d)) (with_each (to_list x.xs)) (rises-with (member d) agree itself (λ v. refl) (to_list x.xs) x.inside ∙ x.rise)
-          (ap not (empty-with (to_list x.xs)) ∙ x.full) (all-there (member d) (member (domain_with_positions d)) m.up (to_list x.xs) x.inside)
+          ∙ part-made (member (domain_with_positions d)) (with_each (to_list x.xs))
+          (rises-with (member d) agree itself (λ v. refl) (to_list x.xs) x.inside ∙ x.rise)
+          (ap not (empty-with (to_list x.xs)) ∙ x.full)
+          (all-there (member d) (member (domain_with_positions d)) m.up (to_list x.xs) x.inside)
 
       back : (w : Value) → is_part (member (domain_with_positions d)) w ≡ true → Back (is_part (member d)) w
       back w h =
@@ -120,7 +130,8 @@ module _ (ks : List Attribute) (d : Domain) (agree : Agree (member d) (member d)
       rising : Agree (is_part (member d)) (is_part (member d))
       rising = parts-agree (member d) (member d) agree
 
-      whole : (ps : List Value) → list_all (is_part (member d)) ps ≡ true → covers (members (domain_with_positions d)) (with_each ps) ≡ covers (members d) ps
+      whole : (ps : List Value) → list_all (is_part (member d)) ps ≡ true →
+          covers (members (domain_with_positions d)) (with_each ps) ≡ covers (members d) ps
       whole ps h = ap (λ o. covers o (with_each ps)) (members-with d) ∙ covers-with (member d) agree ps h (members d) (listed-inside d)
 
       up : (v : Value) → member (partitions ks d) v ≡ true → member (partitions ks (domain_with_positions d)) (with_positions v) ≡ true
@@ -130,7 +141,8 @@ module _ (ks : List Attribute) (d : Domain) (agree : Agree (member d) (member d)
           ∙ partition-made ks (domain_with_positions d) (with_each x.0)
           (record {
             rise = rises-with (is_part (member d)) rising itself (λ v. refl) x.0 x.2.parts ∙ x.2.rise;
-            parts = all-there (is_part (member d)) (is_part (member (domain_with_positions d))) (λ u k. let e = parts in e.up u k) x.0 x.2.parts;
+            parts = all-there (is_part (member d)) (is_part (member (domain_with_positions d)))
+                (λ u k. let e = parts in e.up u k) x.0 x.2.parts;
             apart = ap not (overlap-with (member d) agree x.0 x.2.parts) ∙ x.2.apart;
             whole = whole x.0 x.2.parts ∙ x.2.whole;
             attributes = parts-attributes (member d) agree x.0 x.2.parts ks ∙ x.2.attributes;

@@ -36,5 +36,6 @@ below ReprKind.PartitionAsSet r (partitions ks d) n h = h.1
 below _ r d n h = absurd h
 
 -- The room of the child.
-pub room-below : (k : ReprKind) (r : Repr) (d e : Domain) (l : Layer) → is_compound k ≡ false → Roomy (repr k (more_reprs r no_reprs)) d → layer k d ≡ Some l → l.children ≡ e ∷ [] → Roomy r e
+pub room-below : (k : ReprKind) (r : Repr) (d e : Domain) (l : Layer) → is_compound k ≡ false → Roomy (repr k (more_reprs r no_reprs)) d →
+    layer k d ≡ Some l → l.children ≡ e ∷ [] → Roomy r e
 room-below k r d e l n h at only = subst (OnlyRoomy r) only (subst (Below r) at (below k r d n h))

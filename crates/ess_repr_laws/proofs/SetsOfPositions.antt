@@ -20,7 +20,8 @@ use Rattle.ess_repr_laws.proofs.MatchedMembers.{Back, Matched, all-so, function-
 
 -- ---- sets and multisets
 
-module _ (ks : List Attribute) (d : Domain) (agree : Agree (member d) (member d)) (m : Matched (member d) (member (domain_with_positions d))) where
+module _ (ks : List Attribute) (d : Domain) (agree : Agree (member d) (member d))
+    (m : Matched (member d) (member (domain_with_positions d))) where
   -- Members of sets.
   pub sets-matched : Matched (member (sets ks d)) (member (sets ks (domain_with_positions d)))
   sets-matched = record { up = up; back = back }
@@ -90,7 +91,8 @@ module _ (ks : List Attribute) (d c : Domain) (agree : Agree (member d) (member 
       up v h =
           let x = pair-parts (member d) (member c) v h in
           ap (λ u. is_entry (domain_with_positions d) (domain_with_positions c) (with_positions u)) x.2
-          ∙ and-both (member (domain_with_positions d) (with_positions x.0)) (member (domain_with_positions c) (with_positions x.1)) (m.up x.0 x.3) (n.up x.1 x.4)
+          ∙ and-both (member (domain_with_positions d) (with_positions x.0)) (member (domain_with_positions c) (with_positions x.1))
+          (m.up x.0 x.3) (n.up x.1 x.4)
 
       back : (w : Value) → is_entry (domain_with_positions d) (domain_with_positions c) w ≡ true → Back (is_entry d c) w
       back w h =
@@ -102,37 +104,44 @@ module _ (ks : List Attribute) (d c : Domain) (agree : Agree (member d) (member 
   -- the arguments and the values
   arguments : (ps : List Value) → list_all (is_entry d c) ps ≡ true → list_all (λ v. member d (from_of v)) ps ≡ true
   arguments ps h =
-      all-so (is_entry d c) (λ v. member d (from_of v)) (λ v k. and-right (is_pair v) (member d (from_of v)) (and-left (is_pair v && member d (from_of v)) (member c (to_of v)) k)) ps h
+      all-so (is_entry d c) (λ v. member d (from_of v))
+      (λ v k. and-right (is_pair v) (member d (from_of v)) (and-left (is_pair v && member d (from_of v)) (member c (to_of v)) k)) ps h
 
   values : (ps : List Value) → list_all (is_entry d c) ps ≡ true → list_all (λ v. member c (to_of v)) ps ≡ true
-  values ps h = all-so (is_entry d c) (λ v. member c (to_of v)) (λ v k. and-right (is_pair v && member d (from_of v)) (member c (to_of v)) k) ps h
+  values ps h =
+      all-so (is_entry d c) (λ v. member c (to_of v)) (λ v k. and-right (is_pair v && member d (from_of v)) (member c (to_of v)) k) ps h
 
   -- The attributes ask the same of both.
   pub attributes : (ps : List Value) → list_all (is_entry d c) ps ≡ true →
       function_attributes_hold ks (domain_with_positions d) (domain_with_positions c) (with_each ps) ≡ function_attributes_hold ks d c ps
   attributes ps h =
       each-same ks (λ k z. size_holds k z (length (with_each ps))) (λ k z. size_holds k z (length ps))
-      (λ k. function_holds k (members (domain_with_positions d)) (members (domain_with_positions c)) (with_each ps)) (λ k. function_holds k (members d) (members c) ps)
+      (λ k. function_holds k (members (domain_with_positions d)) (members (domain_with_positions c)) (with_each ps))
+      (λ k. function_holds k (members d) (members c) ps)
       (λ k z. ap (size_holds k z) (length-with ps))
       (λ k. ap (λ o. function_holds k o (members (domain_with_positions c)) (with_each ps)) (members-with d) ∙ ap (λ o. function_holds k (option_map with_each (members d)) o (with_each ps)) (members-with c)
-      ∙ function-same (member d) (member c) agree also (members d) (members c) (listed-inside d) (listed-inside c) k ps (arguments ps h) (values ps h))
+      ∙ function-same (member d) (member c) agree also (members d) (members c) (listed-inside d) (listed-inside c) k ps (arguments ps h)
+      (values ps h))
 
   -- Members of functions.
   pub functions-matched : Matched (member (functions ks d c)) (member (functions ks (domain_with_positions d) (domain_with_positions c)))
   functions-matched = record { up = up; back = back }
     where
-      up : (v : Value) → member (functions ks d c) v ≡ true → member (functions ks (domain_with_positions d) (domain_with_positions c)) (with_positions v) ≡ true
+      up : (v : Value) → member (functions ks d c) v ≡ true →
+          member (functions ks (domain_with_positions d) (domain_with_positions c)) (with_positions v) ≡ true
       up v h =
           let x = function-member ks d c v h in
           ap (member (functions ks (domain_with_positions d) (domain_with_positions c))) (node-with a_function x.0 v x.1)
           ∙ function-made ks (domain_with_positions d) (domain_with_positions c) (with_each x.0)
           (record {
             rise = rises-with (member d) agree from_of from-with x.0 (arguments x.0 x.2.pairs) ∙ x.2.rise;
-            pairs = all-there (is_entry d c) (is_entry (domain_with_positions d) (domain_with_positions c)) (λ u k. let e = entries in e.up u k) x.0 x.2.pairs;
+            pairs = all-there (is_entry d c) (is_entry (domain_with_positions d) (domain_with_positions c))
+                (λ u k. let e = entries in e.up u k) x.0 x.2.pairs;
             attributes = attributes x.0 x.2.pairs ∙ x.2.attributes;
           })
 
-      back : (w : Value) → member (functions ks (domain_with_positions d) (domain_with_positions c)) w ≡ true → Back (member (functions ks d c)) w
+      back : (w : Value) → member (functions ks (domain_with_positions d) (domain_with_positions c)) w ≡ true →
+          Back (member (functions ks d c)) w
       back w h =
           let x = function-member ks (domain_with_positions d) (domain_with_positions c) w h in
           let y = list-back (is_entry d c) (is_entry (domain_with_positions d) (domain_with_positions c)) entries x.0 x.2.pairs in (
@@ -141,7 +150,8 @@ module _ (ks : List Attribute) (d c : Domain) (agree : Agree (member d) (member 
                 (record {
                   rise = sym (rises-with (member d) agree from_of from-with y.0 (arguments y.0 y.1)) ∙ ap (rises from_of) y.2 ∙ x.2.rise;
                   pairs = y.1;
-                  attributes = sym (attributes y.0 y.1) ∙ ap (function_attributes_hold ks (domain_with_positions d) (domain_with_positions c)) y.2 ∙ x.2.attributes;
+                  attributes = sym (attributes y.0 y.1)
+                      ∙ ap (function_attributes_hold ks (domain_with_positions d) (domain_with_positions c)) y.2 ∙ x.2.attributes;
                 }),
             node-from a_function y.0 x.0 w x.1 y.2,
           )

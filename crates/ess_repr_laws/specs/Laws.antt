@@ -45,15 +45,18 @@ pub record MembersHaveCanonicalTables : Type 0 where
 -- A domain that is judged to be well typed, with enumerable domains where members are listed, is well formed. A find's and a
 -- given's needs slots of a known number.
 pub record JudgedDomainsAreWell : Type 0 where
-  pub well : (w t : Stm) (s : Scope) (d : Dom) → domain_in t ≡ Some d → meets ill_typed w t s ≡ true → meets not_enumerable w t s ≡ true → Well d
+  pub well : (w t : Stm) (s : Scope) (d : Dom) → domain_in t ≡ Some d → meets ill_typed w t s ≡ true → meets not_enumerable w t s ≡ true →
+      Well d
   pub found : (w t : Stm) (s : Scope) (d : Dom) → found_domain t ≡ Some d → meets not_finite w t s ≡ true → needs_known_slots d ≡ true
   pub given : (w t : Stm) (s : Scope) (d : Dom) → given_domain t ≡ Some d → meets open_given w t s ≡ true → needs_known_slots d ≡ true
 
 -- Of the tables over the declared axes whose cells are canonical at most one list stands for a value.
 abbrev pub CanonicalTablesAreOne : Type 0
 CanonicalTablesAreOne =
-    (r : Repr) (e : Domain) → Covered r e → (ts ts' : Tables) → over_axes [] (axes_of r e) ts ≡ true → over_axes [] (axes_of r e) ts' ≡ true →
-    canonical r e (cells_of ts) ≡ true → canonical r e (cells_of ts') ≡ true → value_of_cells r e (cells_of ts) ≡ value_of_cells r e (cells_of ts') →
+    (r : Repr) (e : Domain) → Covered r e → (ts ts' : Tables) → over_axes [] (axes_of r e) ts ≡ true → over_axes []
+    (axes_of r e) ts' ≡ true →
+    canonical r e (cells_of ts) ≡ true → canonical r e (cells_of ts') ≡ true → value_of_cells r e (cells_of ts) ≡ value_of_cells r e
+    (cells_of ts') →
     ts ≡ ts'
 
 -- Canonical cells stand for a value, are one for each value, and are tidy. For this no room is needed.
@@ -76,7 +79,8 @@ pub record PositionsStandForTypes : Type 0 where
   pub each_is_one : (e : Domain) → Typed e → (w : Value) → member (domain_with_positions e) w ≡ true →
       (v : Value) × (member e v ≡ true) × (with_positions v ≡ w)
   pub types_back : (e : Domain) → Typed e → (v : Value) → member e v ≡ true → with_types e (with_positions v) ≡ Some v
-  pub one_to_one : (e : Domain) → Typed e → (v w : Value) → member e v ≡ true → member e w ≡ true → with_positions v ≡ with_positions w → v ≡ w
+  pub one_to_one : (e : Domain) → Typed e → (v w : Value) → member e v ≡ true → member e w ≡ true → with_positions v ≡ with_positions w →
+      v ≡ w
   pub same_order : (d e : Domain) → OneType d e → (v w : Value) → member d v ≡ true → member e w ≡ true →
       order (with_positions v) (with_positions w) ≡ order v w
 
@@ -85,7 +89,8 @@ pub record PositionsStandForTypes : Type 0 where
 pub record PlansStandForMembers : Type 0 where
   pub stands : (r : Repr) (e : Domain) → Typed e → (ts : Tables) (w : Value) → value_of_tables r (domain_with_positions e) ts [] ≡ Some w →
       member (domain_with_positions e) w ≡ true → (v : Value) × (stands_for_member r e ts v ≡ true)
-  pub comes_back : (r : Repr) (e : Domain) → Typed e → (ts : Tables) (v : Value) → stands_for_member r e ts v ≡ true → value_with_types r e ts ≡ Some v
+  pub comes_back : (r : Repr) (e : Domain) → Typed e → (ts : Tables) (v : Value) → stands_for_member r e ts v ≡ true →
+      value_with_types r e ts ≡ Some v
   pub canonical : (r : Repr) (e : Domain) → Typed e → Roomy r (domain_with_positions e) → (v : Value) → member e v ≡ true → (ts : Tables) →
       tables_of_value r (domain_with_positions e) (with_positions v) ≡ Some ts → stands_for_member r e ts v ≡ true
 
