@@ -96,3 +96,4 @@ pub mod PlansStand
 pub mod LayersDown
 pub mod LayersUp
 pub mod RoomBelow
+pub mod DeclaredWithPositions

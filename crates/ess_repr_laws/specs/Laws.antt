@@ -11,7 +11,7 @@ use Rattle.ess_semantics.specs.Tables.{Tables}
 use Rattle.ess_semantics.specs.Cells.{cells_of}
 use Rattle.ess_semantics.specs.Kinds.{fits}
 use Rattle.ess_semantics.specs.Representations.{layer, width, own_width, value_of_cells, value_of_tables}
-use Rattle.ess_semantics.specs.Declarations.{axes_of}
+use Rattle.ess_semantics.specs.Declarations.{declarations, axes_of}
 use Rattle.ess_semantics.specs.Canonical.{tables_of_value}
 use Rattle.ess_semantics.specs.CanonicalTest.{canonical}
 use Rattle.ess_semantics.specs.Tidy.{over_axes}
@@ -84,9 +84,11 @@ pub record PositionsStandForTypes : Type 0 where
   pub same_order : (d e : Domain) → OneType d e → (v w : Value) → member d v ≡ true → member e w ≡ true →
       order (with_positions v) (with_positions w) ≡ order v w
 
--- Tables that stand for a member of a plan's domain stand for a member of the domain with types, which comes back from them.
--- The canonical tables of a member stand for it.
+-- A representation declares the same tables for a plan's domain and for the domain with types. Tables that stand for a member of
+-- a plan's domain stand for a member of the domain with types, which comes back from them. The canonical tables of a member
+-- stand for it.
 pub record PlansStandForMembers : Type 0 where
+  pub declared : (r : Repr) (e : Domain) → Covered r e → declarations r (domain_with_positions e) ≡ declarations r e
   pub stands : (r : Repr) (e : Domain) → Typed e → (ts : Tables) (w : Value) → value_of_tables r (domain_with_positions e) ts [] ≡ Some w →
       member (domain_with_positions e) w ≡ true → (v : Value) × (stands_for_member r e ts v ≡ true)
   pub comes_back : (r : Repr) (e : Domain) → Typed e → (ts : Tables) (v : Value) → stands_for_member r e ts v ≡ true →
