@@ -97,3 +97,8 @@ pub mod LayersDown
 pub mod LayersUp
 pub mod RoomBelow
 pub mod DeclaredWithPositions
+pub mod StructureRows
+pub mod StructureSlots
+pub mod StructureMeans
+pub mod StructureAll
+pub mod ExamplesStructure
