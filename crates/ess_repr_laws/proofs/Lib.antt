@@ -97,8 +97,12 @@ pub mod LayersDown
 pub mod LayersUp
 pub mod RoomBelow
 pub mod DeclaredWithPositions
+pub mod StructureNumbers
 pub mod StructureRows
 pub mod StructureSlots
+pub mod StructureOccurrences
+pub mod CanonicalSlotTests
 pub mod StructureMeans
 pub mod StructureAll
+pub mod StructureOfTables
 pub mod ExamplesStructure
