@@ -38,6 +38,7 @@ pub mod ExamplesEdited
 pub mod ExamplesPlans
 pub mod ExamplesPositions
 pub mod ExamplesTrees
+pub mod ExamplesRewriting
 pub mod ExamplesAttributes
 pub mod ExamplesViews
 pub mod ExamplesCorners
