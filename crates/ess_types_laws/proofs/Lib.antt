@@ -1,0 +1,4 @@
+-- Lemmas on the definitions
+pub mod ResolvedSteps
+
+

@@ -1,0 +1,3 @@
+//! Laws on types, each the contract of a function that does nothing.
+
+
