@@ -1,4 +1,4 @@
 -- Lemmas on the definitions
 pub mod ResolvedSteps
-
-
+pub mod ResolvedTypes
+pub mod Resolved

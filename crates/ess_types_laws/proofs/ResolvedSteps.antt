@@ -1,10 +1,10 @@
 -- The steps of an index, resolved: they lead to the same type, and resolved again they stay.
-use Rattle.std.proofs.Common.{◌≡◌, refl, sym, ap, ◌∙◌, subst, ℕ, List, [], ◌∷◌, Option, Some, None}
+use Rattle.std.proofs.Common.{◌≡◌, refl, sym, ap, ◌∙◌, ℕ, List, [], ◌∷◌, Option, Some, None}
 use Rattle.ess_semantics.specs.Lists.{and_then}
-use Rattle.ess_semantics.specs.Values.{Text, a_tuple, a_matrix, a_set, a_mset, a_function, a_relation, a_partition, a_record}
+use Rattle.ess_semantics.specs.Values.{Text, a_tuple, a_record}
 use Rattle.ess_semantics.specs.Names.{Names}
 use Rattle.ess_semantics.specs.Trees.{Step, by_value, to_component, to_field, Ex, Exs, no_exs, more_exs}
-use Rattle.ess_semantics.specs.Types.{Ty, any_ty, bool_ty, int_ty, named_ty, compound}
+use Rattle.ess_semantics.specs.Types.{Ty, compound}
 use Rattle.ess_semantics.specs.Typing.{Static, a_number, a_name, other, statics, static, step_ty, type_behind, path_ty, type_of, types_of}
 use Rattle.ess_semantics.specs.Resolving.{step_at, steps_from, kept_indices}
 
