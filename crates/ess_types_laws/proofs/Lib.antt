@@ -2,3 +2,6 @@
 pub mod ResolvedSteps
 pub mod ResolvedTypes
 pub mod Resolved
+pub mod Joins
+pub mod Bound
+pub mod Members
