@@ -5,3 +5,5 @@ pub mod Resolved
 pub mod Joins
 pub mod Bound
 pub mod Members
+pub mod Containers
+pub mod Items
