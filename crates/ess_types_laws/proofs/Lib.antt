@@ -7,3 +7,5 @@ pub mod Bound
 pub mod Members
 pub mod Containers
 pub mod Items
+pub mod Words
+pub mod Binaries

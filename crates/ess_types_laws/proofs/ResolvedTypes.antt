@@ -81,7 +81,8 @@ mutual
 
 -- ---- applications
 
-image-type : (a b x : Ty) → type_of_word2 Fun.Image (compound2 a_function a b) x ≡ fit a x b
+-- A function at an argument has the type that the application has.
+pub image-type : (a b x : Ty) → type_of_word2 Fun.Image (compound2 a_function a b) x ≡ fit a x b
 image-type a b x = go b (join a x) refl
   where
     go : (b : Ty) (o : Option Ty) → join a x ≡ o → type_of_word2 Fun.Image (compound2 a_function a b) x ≡ fit a x b
