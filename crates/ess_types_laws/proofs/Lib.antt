@@ -9,3 +9,4 @@ pub mod Containers
 pub mod Items
 pub mod Words
 pub mod Binaries
+pub mod Indices
