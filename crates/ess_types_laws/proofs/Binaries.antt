@@ -1,5 +1,5 @@
 -- What an operator on two numbers, sets or relations gives has the type of its result.
-use Rattle.std.proofs.Common.{◌≡◌, refl, sym, ap, ◌∙◌, subst, Bool, true, false, ◌&&◌, ◌||◌, not, List, [], ◌∷◌, ◌++◌, filter, ℤ, Option, Some, None, option_map}
+use Rattle.std.proofs.Common.{◌≡◌, refl, ap, ◌∙◌, subst, Bool, true, false, not, List, ◌++◌, filter, ℤ, Option, Some, None, option_map}
 use Rattle.std.specs.List.{list_all}
 use Rattle.std.proofs.lemmas.List.Folds.{list_all-append}
 use Rattle.ess_semantics.specs.declared.words.Op1.{Op1}
@@ -13,7 +13,7 @@ use Rattle.ess_semantics.specs.OperatorTypes.{sized, united, subtracted, type_of
 use Rattle.ess_semantics.specs.Operators.{of_same_kind, value_of_unary, value_of_binary}
 use Rattle.ess_semantics.specs.Meaning.{TypeEntry}
 use Rattle.ess_semantics.specs.TypeMembers.{is_of, is_tuple_of}
-use Rattle.ess_semantics.proofs.Tests.{and-left, and-right, and-both}
+use Rattle.ess_semantics.proofs.Tests.{and-both}
 use Rattle.ess_semantics.proofs.Sorting.{sorted_once-rises, all-sorted_once}
 use Rattle.ess_types_laws.proofs.Joins.{Of, join-both}
 use Rattle.ess_types_laws.proofs.Items.{set-items, relation-items, set-fits, relation-fits}

@@ -1,10 +1,10 @@
 -- A pattern that fits a type binds, at a value of the type, values of the types of its names.
-use Rattle.std.proofs.Common.{◌≡◌, refl, sym, ap, ◌∙◌, subst, Bool, true, false, ◌&&◌, if◌then◌else◌, List, [], ◌∷◌, Option, Some, None}
-use Rattle.ess_semantics.specs.Values.{Text, Kind, a_tuple, a_matrix, a_set, a_mset, a_function, a_relation, a_partition, a_record, Value, number, truth, item, node, Values, nil, cons, to_list, tuple, items_of}
+use Rattle.std.proofs.Common.{◌≡◌, subst, Bool, true, false, if◌then◌else◌, List, [], ◌∷◌, Some}
+use Rattle.ess_semantics.specs.Values.{Text, a_tuple, Value, to_list, tuple}
 use Rattle.ess_semantics.specs.Order.{same_text}
 use Rattle.ess_semantics.specs.Names.{Names, look}
 use Rattle.ess_semantics.specs.Trees.{Pat, Pats, name_pat, tuple_pat, no_pats, more_pats}
-use Rattle.ess_semantics.specs.Types.{Ty, Tys, any_ty, bool_ty, int_ty, named_ty, compound, no_tys, more_tys, bind_types, bind_all_types}
+use Rattle.ess_semantics.specs.Types.{Ty, Tys, compound, no_tys, more_tys, bind_types, bind_all_types}
 use Rattle.ess_semantics.specs.ExpressionJudgements.{pattern_fits, patterns_fit}
 use Rattle.ess_semantics.specs.Meaning.{TypeEntry, bind, bind_all}
 use Rattle.ess_semantics.specs.TypeMembers.{is_of, are_of}

@@ -1,6 +1,6 @@
 -- Canonical sets, multisets, functions, relations, partitions and lists of values with a property: their members have the
 -- property, and their lists rise.
-use Rattle.std.proofs.Common.{◌≡◌, refl, sym, ap, ◌∙◌, subst, ℕ, suc, Bool, true, false, ◌&&◌, ◌||◌, not, if◌then◌else◌, List, [], ◌∷◌, ◌++◌, map, filter, length, ℤ, pos, nat_eq, Option, Some, None, option_map, arith}
+use Rattle.std.proofs.Common.{◌≡◌, refl, sym, ap, ◌∙◌, subst, ℕ, suc, Bool, true, false, not, if◌then◌else◌, List, [], ◌∷◌, map, filter, length, pos, Option, Some, None, option_map, arith}
 use Rattle.std.specs.List.{list_all, list_any}
 use Rattle.std.specs.Ordering.{is_lt, is_eq, ordering_then}
 use Rattle.std.specs.Cmp.{int_cmp_is}
@@ -8,17 +8,15 @@ use Rattle.std.proofs.lemmas.Int.{ints}
 use Rattle.std.specs.declared.cmp.Ordering.{Ordering}
 use Rattle.std.specs.declared.cmp.Ordering.TheVariants.{Less, Equal, Greater}
 use Rattle.std.proofs.lemmas.List.Folds.{list_all-append}
-use Rattle.ess_semantics.specs.Lists.{when, is_empty, append_all, or_default}
-use Rattle.ess_semantics.specs.Values.{a_tuple, a_matrix, a_set, a_mset, a_function, a_relation, a_partition, a_record, Value, number, truth, item, node, nil, cons, from_of, to_of, items_of, itself}
+use Rattle.ess_semantics.specs.Lists.{append_all}
+use Rattle.ess_semantics.specs.Values.{a_tuple, Value, number, node, nil, cons, from_of, to_of, items_of, itself}
 use Rattle.ess_semantics.specs.Order.{order, orders, same, below}
-use Rattle.ess_semantics.specs.Collections.{holds, sorted_once, rises, no_twice, has_empty_part, has_overlap, value_at}
+use Rattle.ess_semantics.specs.Collections.{holds, rises, no_twice, value_at}
 use Rattle.ess_semantics.specs.Operators.{numbers_from, least, greatest, part_with}
-use Rattle.ess_semantics.specs.Membership.{is_pair, is_set}
-use Rattle.ess_semantics.proofs.Tests.{and-left, and-right, and-both, or-left-no, or-right-no, not-true}
+use Rattle.ess_semantics.specs.Membership.{is_pair}
+use Rattle.ess_semantics.proofs.Tests.{and-left, and-right, and-both, or-left-no, not-true}
 use Rattle.ess_semantics.proofs.Orders.{order_total}
-use Rattle.ess_semantics.proofs.Sorting.{Below, Rising, sorted-of, less-below, sorted_once-rises, all-sorted_once, Distinct}
-use Rattle.ess_semantics.proofs.Overlaps.{all_members, apart-distinct, sorted_once-apart, no-overlap, overlap-none}
-use Rattle.ess_types_laws.proofs.Joins.{all-map}
+use Rattle.ess_semantics.proofs.Sorting.{Below, Rising, sorted-of, less-below}
 
 -- ---- lists that rise
 

@@ -1,19 +1,18 @@
 -- A list of steps from a value of a type leads to a value of the type that it leads to, where no step could be resolved
 -- further.
-use Rattle.std.proofs.Common.{◌≡◌, refl, sym, ap, ◌∙◌, subst, ℕ, zero, suc, Bool, true, false, ◌&&◌, if◌then◌else◌, List, [], ◌∷◌, length, nat_eq, Option, Some, None}
+use Rattle.std.proofs.Common.{◌≡◌, refl, sym, ap, ◌∙◌, subst, ℕ, zero, suc, Bool, true, false, if◌then◌else◌, List, [], ◌∷◌, length, Option, Some, None}
 use Rattle.std.specs.List.{list_all}
 use Rattle.ess_semantics.specs.Lists.{and_then, or_default}
-use Rattle.ess_semantics.specs.Values.{Text, a_tuple, a_matrix, a_set, a_mset, a_function, a_relation, a_partition, a_record, Value, number, truth, item, node, Values, nil, cons, to_list, tuple, matrix, items_of, itself}
+use Rattle.ess_semantics.specs.Values.{Text, a_tuple, a_matrix, a_record, Value, node, Values, nil, cons, to_list, tuple, matrix}
 use Rattle.ess_semantics.specs.Order.{order_texts, same, same_text, same_texts}
-use Rattle.ess_semantics.specs.Collections.{rises}
 use Rattle.ess_semantics.specs.Trees.{Step, by_value, to_component, to_field}
-use Rattle.ess_semantics.specs.Types.{Ty, Tys, any_ty, bool_ty, int_ty, named_ty, compound, no_tys, more_tys, compound2, fit}
-use Rattle.ess_semantics.specs.Typing.{Static, a_number, a_name, other, component_ty, field_ty, step_ty, type_behind, path_ty}
+use Rattle.ess_semantics.specs.Types.{Ty, Tys, any_ty, compound, no_tys, more_tys}
+use Rattle.ess_semantics.specs.Typing.{Static, a_number, a_name, other, component_ty, field_ty, step_ty, path_ty}
 use Rattle.ess_semantics.specs.Operators.{misfit, item_at, component, field_at, at_index, at_component, at_field, path_value}
 use Rattle.ess_semantics.specs.Resolving.{step_at, steps_from}
 use Rattle.ess_semantics.specs.Meaning.{TypeEntry}
 use Rattle.ess_semantics.specs.TypeMembers.{is_of, are_of}
-use Rattle.ess_semantics.proofs.Tests.{and-left, and-right, and-both}
+use Rattle.ess_semantics.proofs.Tests.{and-left, and-right}
 use Rattle.ess_semantics.proofs.Orders.{texts_exact, equal-of}
 use Rattle.ess_types_laws.proofs.Joins.{Of}
 use Rattle.ess_types_laws.proofs.Items.{matrix-items}

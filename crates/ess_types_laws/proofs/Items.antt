@@ -1,14 +1,14 @@
 -- What a generator takes from a value of a type has the type of what it takes.
-use Rattle.std.proofs.Common.{◌≡◌, refl, sym, ap, ◌∙◌, subst, Bool, true, false, ◌&&◌, not, List, [], ◌∷◌, length, nat_eq, Option, Some, None}
+use Rattle.std.proofs.Common.{◌≡◌, refl, sym, subst, Bool, true, ◌&&◌, not, List, length, nat_eq, Some}
 use Rattle.std.specs.List.{list_all}
 use Rattle.ess_semantics.specs.Lists.{is_empty}
-use Rattle.ess_semantics.specs.Values.{a_tuple, a_matrix, a_set, a_mset, a_function, a_relation, a_partition, a_record, Value, number, truth, item, node, Values, nil, cons, to_list, of_list, tuple, pair, matrix, from_of, to_of, items_of, itself}
+use Rattle.ess_semantics.specs.Values.{a_tuple, a_matrix, a_set, a_mset, a_function, a_relation, a_partition, Value, node, cons, to_list, of_list, tuple, pair, matrix, from_of, to_of, items_of, itself}
 use Rattle.ess_semantics.specs.Collections.{rises, rises_weakly, has_overlap}
-use Rattle.ess_semantics.specs.Types.{Ty, Tys, any_ty, bool_ty, int_ty, named_ty, compound, no_tys, more_tys, compound1, compound2}
+use Rattle.ess_semantics.specs.Types.{Ty, Tys, any_ty, compound, no_tys, more_tys, compound1, compound2}
 use Rattle.ess_semantics.specs.OperatorTypes.{member_ty}
-use Rattle.ess_semantics.specs.Membership.{is_pair, is_part, is_set}
+use Rattle.ess_semantics.specs.Membership.{is_pair, is_part}
 use Rattle.ess_semantics.specs.Meaning.{TypeEntry}
-use Rattle.ess_semantics.specs.TypeMembers.{is_of, is_tuple_of, are_of}
+use Rattle.ess_semantics.specs.TypeMembers.{is_of, is_tuple_of}
 use Rattle.ess_semantics.proofs.Tests.{and-left, and-right, and-both}
 use Rattle.ess_semantics.proofs.Orders.{to_list-of_list}
 use Rattle.ess_types_laws.proofs.Joins.{Of, all-map}

@@ -5,7 +5,7 @@ use Rattle.std.specs.List.{list_all}
 use Rattle.std.specs.Ordering.{ordering_then}
 use Rattle.std.specs.declared.cmp.Ordering.TheVariants.{Equal}
 use Rattle.ess_semantics.specs.Lists.{and_then, when, is_empty}
-use Rattle.ess_semantics.specs.Values.{Text, Kind, a_tuple, a_matrix, a_set, a_mset, a_function, a_relation, a_partition, a_record, Value, number, truth, item, node, Values, nil, cons, to_list, tuple, matrix, from_of, to_of, items_of, itself}
+use Rattle.ess_semantics.specs.Values.{Text, Kind, a_tuple, a_matrix, a_set, a_mset, a_function, a_relation, a_partition, a_record, Value, node, nil, cons, to_list, tuple, matrix, from_of, to_of, items_of, itself}
 use Rattle.ess_semantics.specs.Order.{order_text, order_kind, same_text, same_texts, same_kind}
 use Rattle.ess_semantics.specs.Collections.{rises, rises_weakly, has_overlap}
 use Rattle.ess_semantics.specs.Types.{Ty, Tys, any_ty, bool_ty, int_ty, named_ty, compound, no_tys, more_tys, is_open, join, joins, join_all}

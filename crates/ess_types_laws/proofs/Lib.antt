@@ -10,3 +10,6 @@ pub mod Items
 pub mod Words
 pub mod Binaries
 pub mod Indices
+pub mod Literals
+pub mod SoundParts
+pub mod Soundness

@@ -1,16 +1,16 @@
 -- The members of an enumerable domain have the type of the domain.
-use Rattle.std.proofs.Common.{◌≡◌, refl, sym, ap, ◌∙◌, subst, ℕ, Bool, true, false, ◌&&◌, ◌||◌, List, [], ◌∷◌, ◌++◌, map, ℤ, pos, negsuc, int_le, nat_le, Option, Some, None, option_map}
+use Rattle.std.proofs.Common.{◌≡◌, refl, sym, ap, ◌∙◌, subst, ℕ, Bool, true, false, ◌&&◌, ◌||◌, List, [], ◌∷◌, map, ℤ, pos, negsuc, nat_le, Option, Some, None, option_map}
 use Rattle.std.specs.List.{list_all}
 use Rattle.std.specs.Ordering.{is_eq}
 use Rattle.std.proofs.lemmas.Cmp.{tied_itself}
 use Rattle.std.proofs.lemmas.List.Folds.{list_all-append, list_all-map}
 use Rattle.ess_semantics.specs.Lists.{and_then, all_some, list_or_none}
 use Rattle.ess_semantics.specs.Values.{Text, a_tuple, a_record, Value, number, truth, item, node, of_list, to_list, tuple}
-use Rattle.ess_semantics.specs.Order.{same_text, same_texts}
+use Rattle.ess_semantics.specs.Order.{same_texts}
 use Rattle.ess_semantics.specs.Trees.{Dom, Doms, bool_dom, int_dom, name_dom, tuple_dom, record_dom, matrix_dom, set_dom, mset_dom, function_dom, relation_dom, partition_dom, no_doms, more_doms}
 use Rattle.ess_semantics.specs.Types.{Ty, Tys, bool_ty, int_ty, named_ty, compound, no_tys, more_tys, type_of_dom, types_of_doms}
-use Rattle.ess_semantics.specs.Domains.{Span, Domain, Domains, booleans, integers, named, tuples, records, matrices, sets, msets, functions, relations, partitions, no_domains, more_domains, members, members_of_each, member_list, lists_of, add_heads, between}
-use Rattle.ess_semantics.specs.Membership.{member, in_spans}
+use Rattle.ess_semantics.specs.Domains.{Span, Domain, Domains, booleans, integers, named, tuples, records, matrices, sets, msets, functions, relations, partitions, no_domains, more_domains, members, members_of_each, lists_of, add_heads, between}
+use Rattle.ess_semantics.specs.Membership.{member}
 use Rattle.ess_semantics.specs.Atoms.{IsAtom}
 use Rattle.ess_semantics.specs.Meaning.{Env, TypeEntry, type_entry, named_domain, domain_of, domains_of, meanings, spans_of, attributes_of}
 use Rattle.ess_semantics.specs.TypeMembers.{is_of_named, is_of, are_of}
@@ -63,7 +63,7 @@ module _ (env : Env) where
       go (item u k) m = m
       go _ m = cc
 
-  named-atom : (b : Bool) (a : Text) (o : Option TypeEntry) (d : Domain) → named_domain b a o ≡ Some d → IsAtom d
+  pub named-atom : (b : Bool) (a : Text) (o : Option TypeEntry) (d : Domain) → named_domain b a o ≡ Some d → IsAtom d
   named-atom b a None d e = cc
   named-atom true a (Some t) d e = let q : between (pos 1) (pos t.count) ≡ d = cc in subst IsAtom q tt
   named-atom false a (Some t) d e = let q : named a t.count ≡ d = cc in subst IsAtom q tt

@@ -1,24 +1,24 @@
 -- What a function word gives for values of types that fit it has the type of its result.
-use Rattle.std.proofs.Common.{◌≡◌, refl, sym, ap, ◌∙◌, subst, Bool, true, false, ◌&&◌, not, List, [], ◌∷◌, map, filter, ℤ, Option, Some, None, option_map}
+use Rattle.std.proofs.Common.{◌≡◌, refl, sym, ap, ◌∙◌, subst, Bool, true, false, ◌&&◌, List, map, filter, ℤ, Option, Some, None, option_map}
 use Rattle.std.specs.List.{list_all}
 use Rattle.std.proofs.lemmas.List.Folds.{list_all-map}
 use Rattle.ess_semantics.specs.declared.words.Fun.{Fun}
 use Rattle.ess_semantics.specs.Lists.{and_then, append_all}
-use Rattle.ess_semantics.specs.Values.{a_tuple, a_matrix, a_set, a_mset, a_function, a_relation, a_partition, a_record, Value, number, truth, item, node, nil, cons, to_list, of_list, tuple, pair, from_of, to_of, items_of, itself}
+use Rattle.ess_semantics.specs.Values.{a_matrix, a_set, a_mset, a_function, a_relation, a_partition, Value, number, pair, from_of, to_of, items_of}
 use Rattle.ess_semantics.specs.Order.{same}
-use Rattle.ess_semantics.specs.Collections.{sorted, sorted_once, rises, set_of, mset_of, relation_of, value_at}
+use Rattle.ess_semantics.specs.Collections.{sorted, sorted_once, set_of, mset_of, relation_of, value_at}
 use Rattle.ess_semantics.specs.Trees.{is_truth_word}
-use Rattle.ess_semantics.specs.Types.{Ty, Tys, any_ty, bool_ty, int_ty, named_ty, compound, no_tys, more_tys, compound1, compound2, join, fit}
+use Rattle.ess_semantics.specs.Types.{Ty, any_ty, bool_ty, int_ty, named_ty, compound, no_tys, more_tys, compound1, compound2, join, fit}
 use Rattle.ess_semantics.specs.OperatorTypes.{member_ty, list_ty, chosen_ty, extreme_ty, to_set_ty, to_mset_ty, type_of_word1, type_of_word2}
 use Rattle.ess_semantics.specs.Operators.{part_with, value_of_word1, value_of_word2}
 use Rattle.ess_semantics.specs.Membership.{is_pair, is_part}
 use Rattle.ess_semantics.specs.Meaning.{TypeEntry}
-use Rattle.ess_semantics.specs.TypeMembers.{is_of, is_tuple_of, are_of}
+use Rattle.ess_semantics.specs.TypeMembers.{is_of, is_tuple_of}
 use Rattle.ess_semantics.proofs.Tests.{and-left, and-right, and-both}
 use Rattle.ess_semantics.proofs.Sorting.{sorted_once-rises, all-sorted_once}
 use Rattle.ess_semantics.proofs.Multisets.{sorted-rises, sorted-all}
 use Rattle.ess_types_laws.proofs.Joins.{Of, all-map, join-both, compound-sub}
-use Rattle.ess_types_laws.proofs.Items.{is_pair_of, pair-fits, part-fits, items-fit, set-items, function-items, partition-items, set-fits, mset-fits, relation-fits}
+use Rattle.ess_types_laws.proofs.Items.{is_pair_of, part-fits, items-fit, set-items, function-items, partition-items, set-fits, mset-fits, relation-fits}
 use Rattle.ess_types_laws.proofs.Containers.{least-all, greatest-all, value-at-all, part-with-all, all-filtered, all-of-each}
 use Rattle.ess_types_laws.proofs.ResolvedTypes.{image-type}
 
