@@ -39,6 +39,7 @@ pub mod ExamplesEdited
 pub mod ExamplesPlans
 pub mod ExamplesPositions
 pub mod ExamplesTrees
+pub mod ExamplesRewriting
 pub mod ExamplesAttributes
 pub mod ExamplesViews
 pub mod ExamplesLarge

@@ -57,4 +57,5 @@ WhereThere false o P = P
 -- What a rule keeps that lays one view open at the root: the meaning, and that structures are met, of an application
 -- where it has a value.
 abbrev pub KeptAtRoot : Bool → (Env → Type 0) → Ex → Ex → Type 0
-KeptAtRoot counts P old new = (env : Env) → P env → Meets old env → MeansSame counts old new env × WhereThere (is_application old) (meaning old env) (Meets new env)
+KeptAtRoot counts P old new =
+    (env : Env) → P env → Meets old env → MeansSame counts old new env × WhereThere (is_application old) (meaning old env) (Meets new env)

@@ -56,9 +56,11 @@ pub mod Kept
 pub mod Full
 pub mod Totality
 pub mod Refined
+pub mod Simplified
 pub mod Substitution
 pub mod Scoped
 pub mod FreeNames
+pub mod LooksLeft
 -- Numbers outside 64 bits, and positions
 pub mod Large
 pub mod Positions

@@ -12,7 +12,8 @@ use Rattle.ess_semantics.specs.NamesAt.{names_behind}
 module _ (P : Names Ty → Env → Type 0) where
   -- P stays for each member of the domain that a generator over it binds.
   abbrev pub OverStays : Names Ty → Pat → Dom → Type 0
-  OverStays g p d = (env : Env) → P g env → EachOf (members_in (domain_of d env)) (λ v. P (bind_types p (type_of_dom d) g) (with_pat p v env))
+  OverStays g p d =
+      (env : Env) → P g env → EachOf (members_in (domain_of d env)) (λ v. P (bind_types p (type_of_dom d) g) (with_pat p v env))
 
   -- P stays for each item of the source that a generator from it binds.
   abbrev pub FromStays : Names Ty → Pat → Ex → Type 0

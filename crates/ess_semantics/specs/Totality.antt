@@ -22,7 +22,8 @@ abbrev mutual
   Total (truth_ex b) env = Unit {0}
   Total (name_ex a) env = Unit {0}
   Total (node_ex b op es) env = HasValue (value_of_node op (meanings es env)) (meanings es env) × TotalAll es env
-  Total (matrix_ex es d) env = (IsTrue (has_meaning d env) → HasValue (meaning (matrix_ex es d) env) (meanings es env)) × TotalAll es env × TotalDom d env
+  Total (matrix_ex es d) env =
+      (IsTrue (has_meaning d env) → HasValue (meaning (matrix_ex es d) env) (meanings es env)) × TotalAll es env × TotalDom d env
   Total (comp_ex e gs) env = TotalUnder gs env (λ here. Total e here)
   Total (cell_ex b n es) env = TotalAll es env
   Total (seen_ex r d ns es) env = Unit {0}

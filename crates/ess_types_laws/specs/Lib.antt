@@ -1,0 +1,2 @@
+pub mod WellBound
+pub mod Laws

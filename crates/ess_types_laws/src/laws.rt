@@ -1,0 +1,39 @@
+//! Laws on types, each the contract of a function that does nothing.
+
+ghost use Rattle.ess_types_laws.specs.Laws.{ResolvingKeepsTypes, ResolvedTreesStay, PreparedIsResolved, MembersHaveTheirType, PatternsBindTheirTypes, MeaningsHaveTheirType, TypesStay};
+
+/// A resolved expression has the type that the expression had before.
+pub fn resolving_keeps_types()
+    ensures { ResolvingKeepsTypes }
+{}
+
+/// Resolved again, a resolved expression stays as it is.
+pub fn resolved_trees_stay()
+    ensures { ResolvedTreesStay }
+{}
+
+/// The statements of a specification, with lettings put in and resolved, are resolved: resolving them again changes nothing.
+pub fn prepared_is_resolved()
+    ensures { PreparedIsResolved }
+{}
+
+/// The members that a domain lists have the type of the domain.
+pub fn members_have_their_type()
+    ensures { MembersHaveTheirType }
+{}
+
+/// A pattern that fits a type binds, at a value of the type, values of the types of its names.
+pub fn patterns_bind_their_types()
+    ensures { PatternsBindTheirTypes }
+{}
+
+/// Type soundness: under an env that gives names values of their types, a resolved expression that has a type has nothing
+/// or a value of it.
+pub fn meanings_have_their_type()
+    ensures { MeaningsHaveTheirType }
+{}
+
+/// Behind a generator names have values of their types still, the bound ones too.
+pub fn types_stay()
+    ensures { TypesStay }
+{}
