@@ -40,9 +40,11 @@ axes_members (repr ReprKind.ExplicitVarSizeWithMarker (more_reprs r no_reprs)) (
 axes_members _ e = []
 
 module _ (env0 : Env) (q : ℕ → Text) (q-apart : (m l : ℕ) → l < m → same_text (q m) (q l) ≡ false) (size : List Mark → Exs → Dom → Ex) (atom : Dom → Ex → Ex) where
+  -- The reserved names that are bound, with their values.
   abbrev pub Names : Type 0
   Names = Bound env0 q q-apart
 
+  -- The env with them.
   abbrev pub N : Names → Env
   N bs = M env0 q q-apart bs
 
@@ -66,6 +68,7 @@ module _ (env0 : Env) (q : ℕ → Text) (q-apart : (m l : ℕ) → l < m → sa
       ((m : ℕ) × (cell_at t i ≡ Some (pos m)) × (m ≤ slots_of_set ks e)) × ((k : ℕ) → 1 ≤ k → k ≤ slots_of_set ks e → MarkersFit r e ts (i ++ (pos k ∷ [])))
   MarkersFit _ e ts i = Unit {0}
 
+  -- Each kind stands over a domain for which it is one.
   pub ready-covered : (r : Repr) (d : Dom) (e : Domain) → Ready r d e → Covered r e
   ready-covered (repr ReprKind.Atom no_reprs) d e h = h.0.0
   ready-covered (repr ReprKind.Occurrence no_reprs) (set_dom ms es d) (sets ks e) h = h.0
@@ -73,6 +76,7 @@ module _ (env0 : Env) (q : ℕ → Text) (q-apart : (m l : ℕ) → l < m → sa
   ready-covered (repr ReprKind.ExplicitVarSizeWithMarker (more_reprs r no_reprs)) (set_dom ms es d) (sets ks e) h = ready-covered r d e h.2
   ready-covered _ d e h = absurd h
 
+  -- Numbers are their own numbers.
   pub number-codes : (ks : List ℤ) → map code (map number ks) ≡ ks
   number-codes [] = refl
   number-codes (k ∷ ks) = ap (λ l. k ∷ l) (number-codes ks)
@@ -101,6 +105,7 @@ module _ (env0 : Env) (q : ℕ → Text) (q-apart : (m l : ℕ) → l < m → sa
 
   -- ---- tables of a child
 
+  -- The tables of a child are found by their names.
   pub inner-placed : (a : Dom) (us : List Value) (ss : List Shape) (vsss : List (List (List Value))) (ts : Tables) → Placed env0 q q-apart (map (on_axis a) ss) (map (λ vss. us ∷ vss) vsss) ts → Placed env0 q q-apart ss vsss ts
   inner-placed a us [] [] [] h = tt
   inner-placed a us (s ∷ ss) (vss ∷ vsss) (t ∷ ts) h = (h.0, h.1.1, inner-placed a us ss vsss ts h.2)

@@ -30,9 +30,11 @@ module _ (env0 : Env) (q : ℕ → Text) (q-apart : (m l : ℕ) → l < m → sa
   abbrev pub Bound : Type 0
   Bound = List (ℕ × Value)
 
+  -- The env with bound names.
   abbrev pub M : Bound → Env
   M bs = record env0 { vals = map (λ (b : ℕ × Value). (q b.0, b.1)) bs ++ env0.vals }
 
+  -- The names that are bound are q l and later ones.
   abbrev pub From : ℕ → Bound → Type 0
   From l cs = AllOf cs (λ b. l ≤ b.0)
 
@@ -40,6 +42,7 @@ module _ (env0 : Env) (q : ℕ → Text) (q-apart : (m l : ℕ) → l < m → sa
   abbrev pub Steady : ℕ → Exs → List ℤ → Bound → Type 0
   Steady l is js bs = (cs : Bound) → From l cs → indices (meanings is (M (cs ++ bs))) ≡ Some js
 
+  -- A bound name is found behind later ones.
   pub looked : (l : ℕ) (v : Value) (bs cs : Bound) → From (suc l) cs → meaning (name_ex (q l)) (M (cs ++ ((l, v) ∷ bs))) ≡ Some v
   looked l v bs [] h = ap (λ b. if b then Some v else look (map (λ (b : ℕ × Value). (q b.0, b.1)) bs ++ env0.vals) (q l)) (itself (q l))
     where
@@ -60,10 +63,12 @@ module _ (env0 : Env) (q : ℕ → Text) (q-apart : (m l : ℕ) → l < m → sa
   pub steady-more : (l : ℕ) (v : Value) (is : Exs) (js : List ℤ) (bs : Bound) → Steady l is js bs → Steady (suc l) is js ((l, v) ∷ bs)
   steady-more l v is js bs h cs f = ap (λ b. indices (meanings is (M b))) (sym (append_assoc cs ((l, v) ∷ []) bs)) ∙ h (cs ++ ((l, v) ∷ [])) (from-more l v cs f)
 
+  -- An index list with one more index, under any later names.
   pub steady-add : (l : ℕ) (e : Ex) (v : Value) (is : Exs) (js : List ℤ) (bs : Bound) → Steady l is js bs → ((cs : Bound) → From l cs → meaning e (M (cs ++ bs)) ≡ Some v) → Steady l (add_ex is e) (js ++ (code v ∷ [])) bs
   steady-add l e v is js bs h k cs f =
       ap indices (meanings-add is e (M (cs ++ bs))) ∙ ap (λ o. indices (meanings is (M (cs ++ bs)) ++ (o ∷ []))) (k cs f) ∙ indices-add (meanings is (M (cs ++ bs))) v js (h cs f)
 
+  -- An index list with a bound name.
   pub steady-name : (l : ℕ) (v : Value) (is : Exs) (js : List ℤ) (bs : Bound) → Steady l is js bs → Steady (suc l) (add_ex is (name_ex (q l))) (js ++ (code v ∷ [])) ((l, v) ∷ bs)
   steady-name l v is js bs h = steady-add (suc l) (name_ex (q l)) v is js ((l, v) ∷ bs) (steady-more l v is js bs h) (λ cs f. looked l v bs cs f)
 
@@ -73,6 +78,7 @@ module _ (env0 : Env) (q : ℕ → Text) (q-apart : (m l : ℕ) → l < m → sa
   AxesAre (a ∷ as') (vs ∷ vss) = ((bs : Bound) → members_in (domain_of a (M bs)) ≡ Some vs) × AxesAre as' vss
   AxesAre _ vss = ⊥
 
+  -- The members of axes as numbers.
   abbrev pub codes : List (List Value) → List (List ℤ)
   codes vss = map (map code) vss
 
@@ -80,9 +86,11 @@ module _ (env0 : Env) (q : ℕ → Text) (q-apart : (m l : ℕ) → l < m → sa
   abbrev pub grid_at : Table → List ℤ → Grid
   grid_at t js ks = cell_at t (js ++ ks)
 
+  -- The cells of a table behind an index list and a slot.
   abbrev pub slot_at : Table → List ℤ → ℤ → Grid
   slot_at t js k ks = cell_at t (js ++ (k ∷ ks))
 
+  -- A longer index list.
   pub deeper : (t : Table) (js : List ℤ) (k : ℤ) → grid_at t (js ++ (k ∷ [])) ≡ slot_at t js k
   deeper t js k = fun_ext (λ ks. ap (cell_at t) (append_assoc js (k ∷ []) ks))
 
@@ -149,6 +157,7 @@ module _ (env0 : Env) (q : ℕ → Text) (q-apart : (m l : ℕ) → l < m → sa
   There (s ∷ ss) (vss ∷ vsss) (t ∷ ts) js = (every_cell (codes vss) (fit s.truth) (grid_at t js) ≡ true) × There ss vsss ts js
   There _ vsss ts js = Unit {0}
 
+  -- The axes of several tables, as numbers.
   abbrev pub all_codes : List (List (List Value)) → List Axes
   all_codes vsss = map codes vsss
 
@@ -169,6 +178,7 @@ module _ (env0 : Env) (q : ℕ → Text) (q-apart : (m l : ℕ) → l < m → sa
       go Equal = refl
       go Greater = refl
 
+  -- The test that cells are below others means that their rows are.
   pub less-means : (l : ℕ) (ss : List Shape) (vsss : List (List (List Value))) (ts : Tables) (is js : Exs) (i j : List ℤ) (bs : Bound) →
       Placed ss vsss ts → There ss vsss ts i → There ss vsss ts j → Steady l is i bs → Steady l js j bs →
       meaning (less_ex q l ss is js) (M bs) ≡ Some (truth (is_lt (order_rows (rows (all_codes vsss) (behind i (cells_of ts))) (rows (all_codes vsss) (behind j (cells_of ts))))))
@@ -242,6 +252,7 @@ module _ (env0 : Env) (q : ℕ → Text) (q-apart : (m l : ℕ) → l < m → sa
           ∙ ap (λ b. b && list_all r (gather ks (λ k. row as' (λ js. f (k ∷ js))))) (ih k (and-left (every_cell as' p (λ js. f (k ∷ js))) (list_all (λ k. every_cell as' p (λ js. f (k ∷ js))) ks) h))
           ∙ ap (λ b. every_cell as' r (λ js. f (k ∷ js)) && b) (go ks ih (and-right (every_cell as' p (λ js. f (k ∷ js))) (list_all (λ k. every_cell as' p (λ js. f (k ∷ js))) ks) h))
 
+  -- The test that all cells are 0 or false means that they are.
   pub zeros-means : (l : ℕ) (ss : List Shape) (vsss : List (List (List Value))) (ts : Tables) (is : Exs) (i : List ℤ) (bs : Bound) →
       Placed ss vsss ts → There ss vsss ts i → Steady l is i bs → meaning (zeros_ex q l ss is) (M bs) ≡ Some (truth (are_zero (all_codes vsss) (behind i (cells_of ts))))
   zeros-means l [] [] [] is i bs p a c = refl
