@@ -14,8 +14,7 @@ use Rattle.ess_semantics.specs.Meaning.{Env, meaning}
 use Rattle.ess_semantics.specs.Tidy.{over_axes}
 use Rattle.ess_repr_laws.specs.Structure.{shapes, structure}
 use Rattle.ess_repr_laws.specs.CanonicalTables.{TablesFit}
-use Rattle.ess_repr_laws.proofs.StructureRows.{Bound, M, Placed}
-use Rattle.ess_repr_laws.proofs.StructureAll.{axes_members, Ready}
+use Rattle.ess_repr_laws.specs.StructureMeaning.{Bound, M, Placed, axes_members, Ready}
 use Rattle.ess_repr_laws.proofs.StructureOfTables.{structure-of-tables}
 
 abbrev slots : List Mark → Exs → Dom → Ex

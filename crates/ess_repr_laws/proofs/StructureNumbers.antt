@@ -18,12 +18,9 @@ use Rattle.ess_semantics.proofs.Tests.{and-left, and-right}
 use Rattle.ess_semantics.proofs.Orders.{same_int-equal, to_list-of_list}
 use Rattle.ess_semantics.proofs.Connectives.{and-means, binary-means}
 use Rattle.ess_repr_laws.specs.Structure.{add_ex, le_ex, key_ex, size_ex}
+use Rattle.ess_repr_laws.specs.StructureMeaning.{Number, AllNumbers, fit}
 
 -- ---- attributes
-
--- The expression means this number.
-abbrev pub Number : Ex → Env → ℤ → Type 0
-Number e env n = meaning e env ≡ Some (number n)
 
 not-less : (a b : ℤ) → not (is_lt (int_cmp b a)) ≡ int_le a b
 not-less a b = grind arith
@@ -37,11 +34,6 @@ key-means env Key.Size e m z n p r = and-means env (le_ex e m) (le_ex m e) (int_
 key-means env Key.MinSize e m z n p r = le-means env e m z (pos n) p r
 key-means env Key.MaxSize e m z n p r = le-means env m e (pos n) z r p
 key-means env _ e m z n p r = refl
-
--- Each number of the attributes is one.
-abbrev pub AllNumbers : Exs → Env → Type 0
-AllNumbers no_exs env = Unit {0}
-AllNumbers (more_exs e es) env = ((z : ℤ) → as_int (meaning e env) ≡ Some z → Number e env z) × AllNumbers es env
 
 -- What the attributes ask of a set with n members.
 pub size-means : (env : Env) (ms : List Mark) (es : Exs) (m : Ex) (n : ℕ) (ks : List Attribute) → AllNumbers es env → attributes_of ms (meanings es env) ≡ Some ks → Number m env (pos n) →
@@ -67,11 +59,6 @@ size-means env (valued k ∷ ms) (more_exs x es) m n ks a e r = go (as_int (mean
         ∙ ap (λ l. Some (truth (set_attributes_hold l n))) q
 
 -- ---- rows of truth values and numbers
-
--- whether a number is a cell of the table: a truth value is 0 or 1
-abbrev pub fit : Bool → ℤ → Bool
-fit true z = is_cell booleans z
-fit false z = true
 
 cell-order : (b : Bool) (x y : ℤ) → fit b x ≡ true → fit b y ≡ true → order (cell_value b x) (cell_value b y) ≡ int_cmp x y
 cell-order false x y p q = refl
