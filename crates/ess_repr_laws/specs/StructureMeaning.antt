@@ -33,8 +33,10 @@ fit false z = true
 abbrev pub axes_members : Repr → Domain → List (List (List Value))
 axes_members (repr ReprKind.Atom no_reprs) e = [] ∷ []
 axes_members (repr ReprKind.Occurrence no_reprs) (sets ks e) = (member_list e ∷ []) ∷ []
-axes_members (repr ReprKind.Explicit (more_reprs r no_reprs)) (sets ks e) = map (λ vss. map number (one_to (slots_of_set ks e)) ∷ vss) (axes_members r e)
-axes_members (repr ReprKind.ExplicitVarSizeWithMarker (more_reprs r no_reprs)) (sets ks e) = [] ∷ map (λ vss. map number (one_to (slots_of_set ks e)) ∷ vss) (axes_members r e)
+axes_members (repr ReprKind.Explicit (more_reprs r no_reprs)) (sets ks e) =
+    map (λ vss. map number (one_to (slots_of_set ks e)) ∷ vss) (axes_members r e)
+axes_members (repr ReprKind.ExplicitVarSizeWithMarker (more_reprs r no_reprs)) (sets ks e) =
+    [] ∷ map (λ vss. map number (one_to (slots_of_set ks e)) ∷ vss) (axes_members r e)
 axes_members _ e = []
 
 module _ (env0 : Env) (q : ℕ → Text) (q-apart : (m l : ℕ) → l < m → same_text (q m) (q l) ≡ false) where
@@ -62,14 +64,21 @@ module _ (env0 : Env) (q : ℕ → Text) (q-apart : (m l : ℕ) → l < m → sa
     (size : List Mark → Exs → Dom → Ex) (atom : Dom → Ex → Ex) where
   -- The attributes are these, whatever names are bound.
   abbrev pub Attributes : List Mark → Exs → List Attribute → Type 0
-  Attributes ms es ks = (bs : Bound env0 q q-apart) → AllNumbers es (M env0 q q-apart bs) × (attributes_of ms (meanings es (M env0 q q-apart bs)) ≡ Some ks)
+  Attributes ms es ks =
+      (bs : Bound env0 q q-apart) → AllNumbers es (M env0 q q-apart bs) × (attributes_of ms (meanings es (M env0 q q-apart bs)) ≡ Some ks)
 
   -- What the domain's parts mean, whatever names are bound.
   abbrev pub Ready : Repr → Dom → Domain → Type 0
   Ready (repr ReprKind.Atom no_reprs) d e =
-      (IsAtom e × (is_bool_dom d ≡ true → e ≡ booleans)) × ((x : Ex) (bs : Bound env0 q q-apart) (z : ℤ) → fit (is_bool_dom d) z ≡ true → meaning x (M env0 q q-apart bs) ≡ Some (cell_value (is_bool_dom d) z) → meaning (atom d x) (M env0 q q-apart bs) ≡ Some (truth (is_cell (as_cell e) z)))
+      (IsAtom e × (is_bool_dom d ≡ true → e ≡ booleans)) ×
+      ((x : Ex) (bs : Bound env0 q q-apart) (z : ℤ) → fit (is_bool_dom d) z ≡ true → meaning x (M env0 q q-apart bs) ≡ Some (cell_value (is_bool_dom d) z) → meaning (atom d x) (M env0 q q-apart bs) ≡ Some (truth (is_cell (as_cell e) z)))
   Ready (repr ReprKind.Occurrence no_reprs) (set_dom ms es d) (sets ks e) =
-      IsAtom e × (members e ≡ Some (member_list e)) × ((bs : Bound env0 q q-apart) → members_in (domain_of d (M env0 q q-apart bs)) ≡ Some (member_list e)) × Attributes ms es ks
-  Ready (repr ReprKind.Explicit (more_reprs r no_reprs)) (set_dom ms es d) (sets ks e) = Attributes ms es ks × ((bs : Bound env0 q q-apart) → Number (size ms es d) (M env0 q q-apart bs) (pos (slots_of_set ks e))) × Ready r d e
-  Ready (repr ReprKind.ExplicitVarSizeWithMarker (more_reprs r no_reprs)) (set_dom ms es d) (sets ks e) = Attributes ms es ks × ((bs : Bound env0 q q-apart) → Number (size ms es d) (M env0 q q-apart bs) (pos (slots_of_set ks e))) × Ready r d e
+      IsAtom e × (members e ≡ Some (member_list e)) ×
+      ((bs : Bound env0 q q-apart) → members_in (domain_of d (M env0 q q-apart bs)) ≡ Some (member_list e)) × Attributes ms es ks
+  Ready (repr ReprKind.Explicit (more_reprs r no_reprs)) (set_dom ms es d) (sets ks e) =
+      Attributes ms es ks ×
+      ((bs : Bound env0 q q-apart) → Number (size ms es d) (M env0 q q-apart bs) (pos (slots_of_set ks e))) × Ready r d e
+  Ready (repr ReprKind.ExplicitVarSizeWithMarker (more_reprs r no_reprs)) (set_dom ms es d) (sets ks e) =
+      Attributes ms es ks ×
+      ((bs : Bound env0 q q-apart) → Number (size ms es d) (M env0 q q-apart bs) (pos (slots_of_set ks e))) × Ready r d e
   Ready _ d e = ⊥
