@@ -1,6 +1,6 @@
 -- Name tokens are said in two ways: by the token that a text is, and by lists of the reserved words and of the words outside
 -- the subset. Both say the same.
-use Rattle.std.proofs.Common.{◌≡◌, refl, sym, ap, ◌∙◌, Bool, true, false, ◌&&◌, ◌||◌, not, List, [], ◌∷◌, map, Option, Some}
+use Rattle.std.proofs.Common.{◌≡◌, refl, sym, ap, ◌∙◌, Bool, true, false, ◌&&◌, ◌||◌, not, List, [], ◌∷◌, map, Some}
 use Rattle.std.specs.Option.{is_some}
 use Rattle.std.specs.List.{list_any}
 use Rattle.ess_semantics.specs.Values.{Text}
@@ -9,7 +9,7 @@ use Rattle.ess_semantics.specs.Names.{is_among}
 use Rattle.ess_semantics.specs.NameTokens.{reserved, outside, is_name}
 use Rattle.ess_semantics.specs.NameTokens as pure
 use Rattle.ess_semantics.proofs.Texts.{same_text-either, same_text-bytes}
-use Rattle.ess_grammar.specs.Words.{Token, name, look, words, is_outside}
+use Rattle.ess_grammar.specs.Words.{name, look, words, is_outside}
 use Rattle.ess_grammar.specs.Words.{same_text as same_bytes}
 use Rattle.ess_grammar.specs.Readable.{is_name_token}
 

@@ -3,7 +3,7 @@ use Rattle.std.proofs.Common.{◌≡◌, refl, ap, ◌∙◌, Bool, true, false,
 use Rattle.ess_semantics.specs.Lists.{and_then}
 use Rattle.ess_semantics.specs.Types.{Ty, any_ty, bool_ty, int_ty, named_ty, compound, no_tys, more_tys, is_relation, join, join_all}
 use Rattle.ess_semantics.specs.Order.{same_kind}
-use Rattle.ess_values_laws.proofs.Options.{then-some, when-some}
+use Rattle.ess_values_laws.proofs.Options.{then-some}
 use Rattle.ess_values_laws.proofs.TypeOrder.{Within, within-on, join-says, join-within}
 
 -- v says all that each type says
