@@ -19,7 +19,8 @@ use Rattle.ess_semantics.specs.ModelTrees.{no_goal, Model}
 use Rattle.ess_semantics.specs.ModelMeaning.{model_value}
 use Rattle.ess_semantics.specs.Satisfaction.{Sat, ModelVerdict, satisfied, missing_table, extra_table, outside_domain, false_rule, model_verdict}
 use Rattle.ess_semantics.specs.Constants.{spells_constants}
-use Rattle.ess_semantics.specs.Models.{is_flat, with_cells, declares_large}
+use Rattle.ess_semantics.specs.Models.{is_flat, with_cells}
+use Rattle.ess_semantics.specs.LargeModels.{declares_large}
 use Rattle.ess_semantics.specs.SizeNumbers.{numbers_are_small}
 use Rattle.ess_semantics.proofs.Shorthands.{N, n, es1, es2, un, bi, fn, app, range, upto, from_1, set, v, gives1}
 

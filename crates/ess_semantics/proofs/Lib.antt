@@ -41,6 +41,8 @@ pub mod ExamplesTrees
 pub mod ExamplesRewriting
 pub mod ExamplesAttributes
 pub mod ExamplesViews
+pub mod ExamplesLarge
+pub mod ExamplesChildren
 pub mod ExamplesCorners
 pub mod ExamplesTypes
 pub mod ExamplesEdges

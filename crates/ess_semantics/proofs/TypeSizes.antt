@@ -11,7 +11,7 @@ use Rattle.ess_semantics.specs.Assignments.{Assignment}
 use Rattle.ess_semantics.specs.SizeNumbers.{are_plain, numbers_are_small}
 use Rattle.ess_semantics.specs.Plans.{Options, given_tables}
 use Rattle.ess_semantics.specs.ModelTrees.{Model, no_goal}
-use Rattle.ess_semantics.specs.Models.{declares_large}
+use Rattle.ess_semantics.specs.LargeModels.{declares_large}
 use Rattle.ess_semantics.proofs.Shorthands.{n, range, from_1, set}
 use Rattle.ess_semantics.proofs.Tests.{and-left}
 

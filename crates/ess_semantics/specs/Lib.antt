@@ -1,3 +1,4 @@
+-- The sources of all definitions, by name and year, stand in docs/SOURCES.md.
 -- Small words
 pub mod Lists
 -- Values and their order
@@ -43,6 +44,7 @@ pub mod OneLayer
 pub mod Meaning
 pub mod DeclaredTables
 pub mod TypeMembers
+pub mod Children
 pub mod Occurrences
 -- Contexts, structures, scope, and what rules keep
 pub mod Contexts
@@ -82,6 +84,8 @@ pub mod ChosenOptions
 pub mod ModelTrees
 pub mod ModelMeaning
 pub mod Satisfaction
+pub mod LargeModels
+pub mod LargeSpecifications
 pub mod Constants
 pub mod SizeNumbers
 pub mod Models

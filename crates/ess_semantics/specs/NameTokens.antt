@@ -1,6 +1,6 @@
 -- Names as a text spells them (Essence, Constraints 13, 2008): letters, digits and `_`, but none of the reserved words and
--- none of the words of the whole language that stand outside the subset.
-use Rattle.std.specs.Prelude.{ℕ, Bool, false, ◌&&◌, ◌||◌, not, List, [], ◌∷◌, nat_eq, codes}
+-- none of the words of the whole language that stand outside the subset. Numbers are spelled in digits.
+use Rattle.std.specs.Prelude.{ℕ, ◌+◌, ◌-◌, ◌*◌, Bool, false, ◌&&◌, ◌||◌, not, List, [], ◌∷◌, nat_eq, codes}
 use Rattle.std.specs.Char.{is_ascii_digit, is_ascii_alphabetic}
 use Rattle.std.specs.List.{list_all}
 use Rattle.ess_semantics.specs.Values.{Text}
@@ -9,6 +9,16 @@ use Rattle.ess_semantics.specs.Names.{is_among}
 -- A digit of ASCII.
 abbrev pub is_digit : ℕ → Bool
 is_digit = is_ascii_digit
+
+-- One or more digits.
+abbrev pub are_digits : Text → Bool
+are_digits [] = false
+are_digits (b ∷ bs) = list_all is_digit (b ∷ bs)
+
+-- The value of the digits, behind digits of the value `high`.
+abbrev pub value_after : ℕ → Text → ℕ
+value_after high [] = high
+value_after high (b ∷ bs) = value_after (10 * high + (b - 48)) bs
 
 -- A letter of ASCII or `_`.
 abbrev pub is_letter : ℕ → Bool

@@ -15,11 +15,12 @@ use Rattle.ess_semantics.specs.Declarations.{Declaration, declarations, cell_cou
 use Rattle.ess_semantics.specs.Canonical.{tables_of_value}
 use Rattle.ess_semantics.specs.Choice.{default_repr, all_reprs}
 use Rattle.ess_semantics.specs.TableNames.{Named, table_names, named_tables, free_name}
-use Rattle.ess_semantics.specs.Meaning.{Env, domain_of}
+use Rattle.ess_semantics.specs.Meaning.{Env, domain_of, tables_in}
 use Rattle.ess_semantics.specs.Positions.{with_positions, domain_with_positions}
 use Rattle.ess_semantics.specs.Prepared.{prepared}
 use Rattle.ess_semantics.specs.Assignments.{Assignment, nothing_given, value_of, env_of}
-use Rattle.ess_semantics.specs.Parameters.{all_declared}
+use Rattle.ess_semantics.specs.Parameters.{all_declared, value_givens, given_enums}
+use Rattle.ess_semantics.specs.Solutions.{finds}
 
 -- ---- representations
 
@@ -135,23 +136,21 @@ abbrev pub cells_of_plan : Env → Plan → ℕ
 cells_of_plan env (size_plan t a) = 1
 cells_of_plan env (value_plan f x r d ns) = or_default (option_map (cell_count r) (plan_domain d env)) 0
 
+-- The number of cells of several plans.
+abbrev pub cells_of_plans : Env → List Plan → ℕ
+cells_of_plans env [] = 0
+cells_of_plans env (q ∷ qs) = cells_of_plan env q + cells_of_plans env qs
+
+-- Whether a plan is one of this given or find.
+abbrev pub is_plan_for : Text → Plan → Bool
+is_plan_for x (size_plan t a) = false
+is_plan_for x (value_plan f y r d ns) = same_text y x
+
 -- The number of cells of a given or find under the parameter p, over all of its representations.
 abbrev pub cells_of_name : List Stm → Options → Assignment → Text → ℕ
-cells_of_name S o p x = total (plans S o)
-  where
-    is_of : Plan → Bool
-    is_of (size_plan t a) = false
-    is_of (value_plan f y r d ns) = same_text y x
-
-    total : List Plan → ℕ
-    total [] = 0
-    total (q ∷ qs) = if is_of q then cells_of_plan (env_of S p nothing_given) q + total qs else total qs
+cells_of_name S o p x = cells_of_plans (env_of S p nothing_given) (filter (is_plan_for x) (plans S o))
 
 -- ---- what tables stand for
-
--- The tables of these names, where each is there.
-abbrev pub tables_named : Names Table → List Named → Option Tables
-tables_named c ns = each_of ns (λ n. look c n.0)
 
 -- Whether there is a value, and it is v.
 abbrev pub same_value : Value → Option Value → Bool
@@ -170,24 +169,15 @@ stands_for_member r e ts v = member e v && same_value (with_positions v) (value_
 abbrev pub plan_stands : Env → Assignment → Names Table → Plan → Bool
 plan_stands env a c (size_plan t n) = is_some_and (look a.types t) (λ ns. same_number (length ns) (look c n))
 plan_stands env a c (value_plan f x r d ns) =
-    is_some_and (value_of a x) (λ v. is_some_and (domain_of d env) (λ e. is_some_and (tables_named c ns) (λ ts. stands_for_member r e ts v)))
+    is_some_and (value_of a x) (λ v. is_some_and (domain_of d env) (λ e. is_some_and (tables_in c (keys ns)) (λ ts. stands_for_member r e ts v)))
 
 -- The names that have values in an assignment of the finds, or of the givens.
 abbrev pub value_names : Bool → List Stm → List Text
-value_names f S = append_all (map name_of S)
-  where
-    name_of : Stm → List Text
-    name_of (given x d) = if f then [] else x ∷ []
-    name_of (find x d) = if f then x ∷ [] else []
-    name_of s = []
+value_names f S = if f then finds S else value_givens S
 
 -- The given enumerated types, where givens are asked for.
 abbrev pub type_names : Bool → List Stm → List Text
-type_names f S = append_all (map name_of S)
-  where
-    name_of : Stm → List Text
-    name_of (given_enum t) = if f then [] else t ∷ []
-    name_of s = []
+type_names f S = if f then [] else given_enums S
 
 -- The tables c stand for the assignment a of the finds, or of the givens, under the parameter p, and hold nothing else.
 -- Assignments and tables are in order of declaration.
@@ -212,7 +202,7 @@ is_plan_of x (value_plan f y r d ns) = f && same_text y x
 abbrev pub value_by_plan : Env → Names Table → Plan → Option Value
 value_by_plan env c (size_plan t a) = None
 value_by_plan env c (value_plan f x r d ns) =
-    and_then (domain_of d env) (λ e. and_then (tables_named c ns) (λ ts. value_of_tables r e ts []))
+    and_then (domain_of d env) (λ e. and_then (tables_in c (keys ns)) (λ ts. value_of_tables r e ts []))
 
 -- The value for which the tables stand by all of these plans.
 abbrev pub common_value : Env → Names Table → List Plan → Option Value

@@ -22,13 +22,14 @@ axis_of ds q d = axis_members (model_domain ds q d)
 
 -- ---- runs of members
 
+-- Whether a range has a member.
+abbrev pub is_run : Span → Bool
+is_run r = is_none_or r.low (λ a. is_none_or r.high (λ b. int_le a b))
+
 -- The ranges rise, and between one and the next a number is missing.
 abbrev pub runs_rise : List Span → Bool
 runs_rise [] = true
 runs_rise (r ∷ []) = is_run r
-  where
-    is_run : Span → Bool
-    is_run t = is_none_or t.low (λ a. is_none_or t.high (λ b. int_le a b))
 runs_rise (r ∷ s ∷ rs) =
     is_some_and r.high (λ b. is_none_or r.low (λ a. int_le a b) && is_some_and s.low (λ c. int_le (b +ℤ pos 2) c)) && runs_rise (s ∷ rs)
 
