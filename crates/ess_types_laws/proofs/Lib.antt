@@ -13,3 +13,4 @@ pub mod Indices
 pub mod Literals
 pub mod SoundParts
 pub mod Soundness
+pub mod MembersTyped

@@ -42,15 +42,15 @@ module _ (env : Env) where
       let l : list_all (member d) (list_or_none (members d)) ≡ true = (atom-listed d a).members in
       all-map (member d) (Fits t) vs f (subst (λ o. list_all (member d) (list_or_none o) ≡ true) e l)
 
-  int-fits : (ss : List Span) (v : Value) → member (integers ss) v ≡ true → Fits int_ty v ≡ true
+  pub int-fits : (ss : List Span) (v : Value) → member (integers ss) v ≡ true → Fits int_ty v ≡ true
   int-fits ss (number n) m = refl
   int-fits ss _ m = cc
 
-  bool-fits : (v : Value) → member booleans v ≡ true → Fits bool_ty v ≡ true
+  pub bool-fits : (v : Value) → member booleans v ≡ true → Fits bool_ty v ≡ true
   bool-fits (truth b) m = refl
   bool-fits _ m = cc
 
-  named-fits : (b : Bool) (a : Text) (o : Option TypeEntry) (d : Domain) → named_domain b a o ≡ Some d → (v : Value) → member d v ≡ true → is_of_named b a o v ≡ true
+  pub named-fits : (b : Bool) (a : Text) (o : Option TypeEntry) (d : Domain) → named_domain b a o ≡ Some d → (v : Value) → member d v ≡ true → is_of_named b a o v ≡ true
   named-fits b a None d e v m = cc
   named-fits true a (Some t) d e v m = let q : between (pos 1) (pos t.count) ≡ d = cc in go v (subst (λ x. member x v ≡ true) (sym q) m)
     where
