@@ -18,9 +18,11 @@ use Rattle.ess_repr_laws.proofs.Chosen.{Bit, on, chosen-there, chosen-holds, cho
 use Rattle.ess_repr_laws.proofs.Arguments.{Arguments, of-held, arguments-index}
 use Rattle.ess_repr_laws.proofs.TablesAndCells.{AxesDiffer, row-length}
 use Rattle.ess_repr_laws.proofs.ExactCells.{Exact, exact-items}
-use Rattle.ess_repr_laws.proofs.SideBySide.{Along, along-under, items-along, row-places}
+use Rattle.ess_repr_laws.proofs.SideBySide.{Along, along-under}
+use Rattle.ess_repr_laws.proofs.PlacesOfTables.{items-along, row-places}
 use Rattle.ess_repr_laws.proofs.CellsOfMembers.{map-long}
 
+-- A list beside itself: what holds of each item with itself.
 pub along-diagonal : {A : Type 0} (xs : List A) (R : A → A → Type 0) → Along xs xs R → AllOf xs (λ x. R x x)
 along-diagonal [] R h = tt
 along-diagonal (x ∷ xs) R h = (h.0, along-diagonal xs R h.1)
@@ -51,6 +53,7 @@ module _ (d : Domain) (as' : Axes) (index : Value → List ℤ) (args : Argument
   filled : (F : Value → ℤ) → length (map F xs) ≡ volume as'
   filled F = map-long F xs ∙ sym (map-long index xs) ∙ ap length (sym args.places) ∙ places-volume as'
 
+  -- The table has exactly the cells of its axes.
   pub argument-exact : (F : Value → ℤ) → Exact as' (cell_at (table_with F))
   argument-exact F = exact-items as' (map F xs) (filled F)
 
@@ -85,6 +88,7 @@ module _ (d : Domain) (as' : Axes) (index : Value → List ℤ) (args : Argument
     abbrev bit_of : Value → ℤ
     bit_of x = truth_number (holds zs x)
 
+    -- The table of the members of a list: true where one stands in it.
     abbrev pub occurrence : Table
     occurrence = table_with bit_of
 
@@ -96,6 +100,7 @@ module _ (d : Domain) (as' : Axes) (index : Value → List ℤ) (args : Argument
     each-fits [] = tt
     each-fits (y ∷ ys) = (is-bit (holds zs y), each-fits ys)
 
+    -- Its cells are truth values.
     pub occurrence-fits : every_cell as' (is_cell booleans) (cell_at occurrence) ≡ true
     occurrence-fits = argument-fit bit_of (is_cell booleans) (each-fits xs)
 
@@ -125,5 +130,6 @@ module _ (d : Domain) (as' : Axes) (index : Value → List ℤ) (args : Argument
         go w true e = ap on (of-held xs (λ x. cell_at occurrence (index x) ≡ Some (bit_of x)) w (argument-cells bit_of) e) ∙ on-truth (holds zs w)
         go w false e = outside w (holds zs w) e refl
 
+    -- As many of its cells are true as the list has items.
     pub occurrence-count : count_true (row as' (cell_at occurrence)) ≡ length zs
     occurrence-count = ap count_true (argument-row (cell_at occurrence)) ∙ chosen-count xs (λ x. cell_at occurrence (index x)) zs occurrence-chosen bits

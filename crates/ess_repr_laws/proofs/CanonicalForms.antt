@@ -11,7 +11,6 @@ use Rattle.ess_repr_laws.proofs.CanonicalOccurrence.{occurrence-right}
 use Rattle.ess_semantics.specs.Sizes.{child_relation, child_set, child_parts}
 use Rattle.ess_repr_laws.specs.Rooms.{HasDummy, Covered, AllCovered}
 use Rattle.ess_repr_laws.specs.CanonicalTables.{Right}
-use Rattle.ess_repr_laws.specs.Finite.{HaveLists}
 use Rattle.ess_semantics.specs.Atoms.{IsAtom, AreAtoms}
 use Rattle.ess_repr_laws.proofs.CanonicalFunctions.{function-1d-right, function-nd-right}
 use Rattle.ess_repr_laws.proofs.CanonicalPartial.{function-1d-partial-right, function-nd-partial-right}

@@ -10,7 +10,6 @@ use Rattle.ess_semantics.specs.Layers.{Layer}
 use Rattle.ess_semantics.specs.Representations.{width, places_in_use, value_of_cells, values_of_children}
 use Rattle.ess_semantics.specs.Declarations.{axes_of}
 use Rattle.ess_semantics.specs.CanonicalTest.{own_cells_fit, in_use_first, child_is_canonical, children_are_canonical, canonical}
-use Rattle.ess_semantics.specs.Tidy.{tidy_cells}
 use Rattle.ess_semantics.proofs.Tests.{and-left, and-right, some-and}
 use Rattle.ess_repr_laws.proofs.RowsOfCells.{EachIndex, axes_of_children, rows-append, rows-under}
 

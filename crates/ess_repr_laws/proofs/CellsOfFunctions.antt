@@ -24,7 +24,8 @@ use Rattle.ess_repr_laws.proofs.TupleMembers.{place_of}
 use Rattle.ess_repr_laws.proofs.Arguments.{Arguments, atom-arguments, tuple-arguments}
 use Rattle.ess_repr_laws.proofs.TablesAndCells.{AxesDiffer}
 use Rattle.ess_repr_laws.proofs.SideBySide.{Along, left-under, length-along}
-use Rattle.ess_repr_laws.proofs.CellsOfMembers.{HasCells, MembersHaveCells, Good, Kept, Slots, slots-there, kept-good, kept-values, values_in, picked, Laid, layer-cells, layer-wide, map-long}
+use Rattle.ess_repr_laws.proofs.CellsOfMembers.{HasCells, MembersHaveCells, Kept, Slots, slots-there, kept-good, kept-values, values_in, picked, map-long}
+use Rattle.ess_repr_laws.proofs.CellsOfOneChild.{Laid, layer-cells, layer-wide}
 use Rattle.ess_repr_laws.proofs.CellsOfOccurrences.{atom-axis, atom-axes, are-atoms, atoms-listed}
 use Rattle.ess_repr_laws.proofs.CompleteLists.{atom-complete, tuples-complete}
 use Rattle.ess_repr_laws.proofs.UsedPlaces.{chosen-picked, flags-exact, flags-fit, flags-cells, flags-used, flags-found}
@@ -32,6 +33,7 @@ use Rattle.ess_repr_laws.proofs.FunctionPairs.{FunctionMember, function-member, 
 
 -- ---- slots of values
 
+-- The places picked for values and for their slots are the same.
 pub kept-picked : {A : Type 0} (r : Repr) (e : Domain) (xs : List A) (vs : List (Option Value)) (ss : List (Option Slot)) → Along vs ss (Kept r e) → picked xs ss ≡ picked xs vs
 kept-picked r e [] vs ss h = refl
 kept-picked r e (x ∷ xs) [] [] h = refl
@@ -42,12 +44,14 @@ kept-picked r e (x ∷ xs) (Some v ∷ vs) (None ∷ ss) h = absurd h.0
 kept-picked r e (x ∷ xs) [] (s ∷ ss) h = absurd h
 kept-picked r e (x ∷ xs) (v ∷ vs) [] h = absurd h
 
+-- Where all items are there, all places are picked.
 pub all-picked : {A B : Type 0} (xs : List A) (os : List (Option B)) → length xs ≡ length os → AllOf os (λ o. is_some o ≡ true) → picked xs os ≡ xs
 all-picked [] os e h = refl
 all-picked (x ∷ xs) [] e h = cc
 all-picked (x ∷ xs) (None ∷ os) e h = cc
 all-picked (x ∷ xs) (Some y ∷ os) e h = let e' : length xs ≡ length os = cc in ap (λ l. x ∷ l) (all-picked xs os e' h.1)
 
+-- Where all values are there, so are all slots.
 pub all-kept : (r : Repr) (e : Domain) (vs : List (Option Value)) (ss : List (Option Slot)) → Along vs ss (Kept r e) → AllOf vs (λ o. is_some o ≡ true) → AllOf ss (λ o. is_some o ≡ true)
 all-kept r e [] [] h a = tt
 all-kept r e (None ∷ vs) (s ∷ ss) h a = cc
@@ -56,6 +60,7 @@ all-kept r e (Some v ∷ vs) (Some s ∷ ss) h a = (refl, all-kept r e vs ss h.1
 all-kept r e [] (s ∷ ss) h a = absurd h
 all-kept r e (v ∷ vs) [] h a = absurd h
 
+-- Where all items are there, each place is in use.
 pub all-used : {A B : Type 0} (xs : List A) (os : List (Option B)) → length xs ≡ length os → AllOf os (λ o. is_some o ≡ true) → Along xs os (λ x o. true ≡ is_some o)
 all-used [] [] e h = tt
 all-used [] (o ∷ os) e h = cc
@@ -154,6 +159,7 @@ module _ (r : Repr) (ks : List Attribute) (d c : Domain) (as' : Axes) (index : V
 
   -- ---- kinds of such layers
 
+  -- The layer of total functions.
   abbrev pub total_whole : Layer
   total_whole = record {
     own = [];
@@ -169,6 +175,7 @@ module _ (r : Repr) (ks : List Attribute) (d c : Domain) (as' : Axes) (index : V
     is_tidy = always_tidy;
   }
 
+  -- Members of total functions.
   pub total-members : (k : ReprKind) → layer k (functions ks d c) ≡ Some total_whole → 0 ≡ own_width k → IsFlagged Key.Total ks → MembersHaveCells (repr k (more_reprs r no_reprs)) (functions ks d c)
   total-members k at ow t = record {
     wide = layer-wide k r (functions ks d c) c [] as' everywhere false false values_at no_own_tables (λ cs vss. Some (function_with xs (only_child vss)))
@@ -178,6 +185,7 @@ module _ (r : Repr) (ks : List Attribute) (d c : Domain) (as' : Axes) (index : V
         (λ cs vss. is_some_and (Some (function_with xs (only_child vss))) (λ v. function_attributes_hold ks d c (items_of v))) always_tidy at ow child differ (value m.0) (x m.0 m.2) (total-laid m.0 m.2 k t));
   }
 
+  -- The layer of functions with flags.
   abbrev pub partial_whole : Layer
   partial_whole = record {
     own = fixed_table as' booleans ∷ [];
@@ -193,6 +201,7 @@ module _ (r : Repr) (ks : List Attribute) (d c : Domain) (as' : Axes) (index : V
     is_tidy = always_tidy;
   }
 
+  -- Members of functions with flags.
   pub partial-members : (k : ReprKind) → layer k (functions ks d c) ≡ Some partial_whole → 1 ≡ own_width k → MembersHaveCells (repr k (more_reprs r no_reprs)) (functions ks d c)
   partial-members k at ow = record {
     wide = layer-wide k r (functions ks d c) c (fixed_table as' booleans ∷ []) as' where_flagged false false values_at (λ v ss. flags_table as' ss ∷ []) (λ cs vss. option_map (λ ys. function_with ys (only_child vss)) (chosen xs (λ y. own_cell cs (index y))))
@@ -205,17 +214,21 @@ module _ (r : Repr) (ks : List Attribute) (d c : Domain) (as' : Axes) (index : V
 -- ---- from an atom, and from tuples of atoms
 
 module _ (r : Repr) (ks : List Attribute) (d c : Domain) (finite : FiniteAtom d) (child : MembersHaveCells r c) where
+  -- Members of total functions from an atom.
   pub function-1d-members : IsFlagged Key.Total ks → MembersHaveCells (repr ReprKind.Function1D (more_reprs r no_reprs)) (functions ks d c)
   function-1d-members t = total-members r ks d c (codes_of d ∷ []) (λ x. code x ∷ []) (atom-arguments d (atom-listed d finite.0)) (atom-axis d finite.0, tt) (atom-complete d finite) child ReprKind.Function1D refl refl t
 
+  -- Members of functions from an atom, with flags.
   pub function-1d-partial-members : MembersHaveCells (repr ReprKind.Function1DPartial (more_reprs r no_reprs)) (functions ks d c)
   function-1d-partial-members = partial-members r ks d c (codes_of d ∷ []) (λ x. code x ∷ []) (atom-arguments d (atom-listed d finite.0)) (atom-axis d finite.0, tt) (atom-complete d finite) child ReprKind.Function1DPartial refl refl
 
 module _ (r : Repr) (ks : List Attribute) (ds : Domains) (c : Domain) (finite : FiniteAtoms ds) (child : MembersHaveCells r c) where
+  -- Members of total functions from tuples of atoms.
   pub function-nd-members : IsFlagged Key.Total ks → MembersHaveCells (repr ReprKind.FunctionND (more_reprs r no_reprs)) (functions ks (tuples ds) c)
   function-nd-members t =
       total-members r ks (tuples ds) c (map codes_of (domain_list ds)) place_of (tuple-arguments ds (atoms-listed ds (are-atoms ds finite))) (atom-axes ds (are-atoms ds finite)) (tuples-complete ds finite) child ReprKind.FunctionND refl refl t
 
+  -- Members of functions from tuples of atoms, with flags.
   pub function-nd-partial-members : MembersHaveCells (repr ReprKind.FunctionNDPartial (more_reprs r no_reprs)) (functions ks (tuples ds) c)
   function-nd-partial-members =
       partial-members r ks (tuples ds) c (map codes_of (domain_list ds)) place_of (tuple-arguments ds (atoms-listed ds (are-atoms ds finite))) (atom-axes ds (are-atoms ds finite)) (tuples-complete ds finite) child ReprKind.FunctionNDPartial refl refl

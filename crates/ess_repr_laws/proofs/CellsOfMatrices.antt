@@ -18,7 +18,8 @@ use Rattle.ess_semantics.proofs.Tests.{and-left, and-right, and-both}
 use Rattle.ess_semantics.proofs.Orders.{orders_exact, equal-of, of_list-to_list, to_list-of_list}
 use Rattle.ess_repr_laws.proofs.CanonicalPlaces.{AllOf}
 use Rattle.ess_repr_laws.proofs.SideBySide.{length-along}
-use Rattle.ess_repr_laws.proofs.CellsOfMembers.{HasCells, MembersHaveCells, Kept, Slots, slots-there, kept-good, kept-values, Laid, layer-cells, layer-wide, map-long}
+use Rattle.ess_repr_laws.proofs.CellsOfMembers.{HasCells, MembersHaveCells, Kept, Slots, slots-there, kept-good, kept-values, map-long}
+use Rattle.ess_repr_laws.proofs.CellsOfOneChild.{Laid, layer-cells, layer-wide}
 use Rattle.ess_repr_laws.proofs.CellsOfOccurrences.{atom-axes}
 use Rattle.ess_repr_laws.proofs.ArgumentTables.{places-volume}
 use Rattle.ess_repr_laws.proofs.CellsOfSlots.{some-somes, some-inside}
@@ -38,6 +39,7 @@ all-append : (f : Value → Bool) (xs ys : List Value) → list_all f xs ≡ tru
 all-append f [] ys p q = q
 all-append f (x ∷ xs) ys p q = and-both (f x) (list_all f (xs ++ ys)) (and-left (f x) (list_all f xs) p) (all-append f xs ys (and-right (f x) (list_all f xs) p) q)
 
+-- The elements of a matrix: members, as many as there are places, which make the matrix again.
 pub record Elements (is : Domains) (f : Value → Bool) (v : Value) : Type 0 where
   pub inside : list_all f (elements is v) ≡ true
   pub long : length (elements is v) ≡ count_of_places is
@@ -67,15 +69,16 @@ all-elements is f one (x ∷ xs) h =
     }
 
 -- a matrix is one of its indices and items
-record Shape (i : Domain) (is : Domains) (f : Value → Bool) (v : Value) : Type 0 where
-  ix : Values
-  xs : Values
-  form : v ≡ matrix ix xs
-  indices : is_some_and (members i) (λ vs. same_list vs (to_list ix)) ≡ true
-  long : nat_eq (length (to_list ix)) (length (to_list xs)) ≡ true
-  items : list_all (nested_matrix is f) (to_list xs) ≡ true
+pub record Shape (i : Domain) (is : Domains) (f : Value → Bool) (v : Value) : Type 0 where
+  pub ix : Values
+  pub xs : Values
+  pub form : v ≡ matrix ix xs
+  pub indices : is_some_and (members i) (λ vs. same_list vs (to_list ix)) ≡ true
+  pub long : nat_eq (length (to_list ix)) (length (to_list xs)) ≡ true
+  pub items : list_all (nested_matrix is f) (to_list xs) ≡ true
 
-shape-of : (i : Domain) (is : Domains) (f : Value → Bool) (v : Value) → nested_matrix (more_domains i is) f v ≡ true → Shape i is f v
+-- Such a matrix is one.
+pub shape-of : (i : Domain) (is : Domains) (f : Value → Bool) (v : Value) → nested_matrix (more_domains i is) f v ≡ true → Shape i is f v
 shape-of i is f (matrix ix xs) h =
     let a : Bool = is_some_and (members i) (λ vs. same_list vs (to_list ix)) in
     let b : Bool = nat_eq (length (to_list ix)) (length (to_list xs)) in
@@ -98,6 +101,7 @@ index-list (Some vs) ix h =
     let e = orders_exact (of_list vs) (of_list (to_list ix)) (equal-of (orders (of_list vs) (of_list (to_list ix))) h) in
     sym (to_list-of_list vs) ∙ ap to_list e ∙ to_list-of_list (to_list ix)
 
+-- The elements of a member are such.
 pub elements-of : (is : Domains) (f : Value → Bool) (v : Value) → nested_matrix is f v ≡ true → Elements is f v
 elements-of no_domains f v h = record { inside = ap (λ b. b && true) h; long = refl; back = refl }
 elements-of (more_domains i is) f v h = go (shape-of i is f v h) (λ x. all-elements is f (elements-of is f) x)
@@ -162,6 +166,7 @@ module _ (r : Repr) (is : Domains) (d : Domain) (atoms : AreAtoms is) (child : M
       let x = slots-there r d child.of_member (contents_of v) (some-inside d (elements is v) e.inside) in
       layer-cells ReprKind.Matrix r (matrices is d) d [] axes everywhere false false contents_of no_own_tables matrix_built always_canonical always_tidy refl refl child (atom-axes is atoms) v x (laid v e x)
 
+  -- Members of matrices.
   pub matrix-members : MembersHaveCells (repr ReprKind.Matrix (more_reprs r no_reprs)) (matrices is d)
   matrix-members = record {
     wide = layer-wide ReprKind.Matrix r (matrices is d) d [] axes everywhere false false contents_of no_own_tables matrix_built always_canonical always_tidy refl refl child.wide;

@@ -1,27 +1,26 @@
--- Members of multisets: how often each member occurs, in slots with repeats, in slots with numbers.
-use Rattle.std.proofs.Common.{◌≡◌, refl, sym, ap, ◌∙◌, subst, ℕ, zero, suc, ◌+◌, ◌≤◌, Bool, true, false, ◌&&◌, ◌||◌, if◌then◌else◌, List, [], ◌∷◌, ◌++◌, map, take, length, replicate, ℤ, pos, Option, Some, None, option_map, is_some, nat_le, int_le, arith}
+-- Members of multisets in slots with repeats, and in slots with numbers.
+use Rattle.std.proofs.Common.{◌≡◌, refl, sym, ap, ◌∙◌, subst, ℕ, zero, suc, ◌+◌, Bool, true, false, ◌&&◌, ◌||◌, if◌then◌else◌, List, [], ◌∷◌, ◌++◌, map, take, length, replicate, ℤ, pos, Option, Some, None, option_map, is_some, nat_le, int_le, arith}
 use Rattle.std.proofs.lemmas.Bool.{le-leb, lt-leb}
 use Rattle.std.specs.List.{list_all}
 use Rattle.ess_semantics.specs.declared.words.ReprKind.{ReprKind}
 use Rattle.ess_semantics.specs.declared.words.Key.{Key}
-use Rattle.ess_semantics.specs.Lists.{and_then, each_of, is_some_and, or_default}
-use Rattle.ess_semantics.specs.Values.{a_mset, Value, node, of_list, to_list, items_of}
+use Rattle.ess_semantics.specs.Lists.{and_then, each_of, is_some_and}
+use Rattle.ess_semantics.specs.Values.{a_mset, Value, node, of_list, items_of}
 use Rattle.ess_semantics.specs.Order.{same}
 use Rattle.ess_semantics.specs.Collections.{holds, count, mset_of, sorted, sorted_once}
 use Rattle.ess_semantics.specs.Numbers.{natural, one_to, not_below_0}
 use Rattle.ess_semantics.specs.Trees.{Repr, repr, no_reprs, more_reprs}
-use Rattle.ess_semantics.specs.Domains.{Attribute, Domain, msets, lists_of, member_list}
+use Rattle.ess_semantics.specs.Domains.{Attribute, Domain, msets, lists_of}
 use Rattle.ess_semantics.specs.Attributes.{each_number_holds, occurs_holds, set_attributes_hold}
 use Rattle.ess_semantics.specs.Membership.{member}
 use Rattle.ess_semantics.specs.Sizes.{slots_of_mset, occurrences}
-use Rattle.ess_semantics.specs.Tables.{Tables, code, row_of, cell_at, is_cell}
-use Rattle.ess_semantics.specs.Cells.{Cells, Axes, Grid, only_grid}
-use Rattle.ess_semantics.specs.Layers.{OwnTable, up_to_marker, where_counted, Slot, codes_of, fixed_table, up_to, own_cell, own_row, counted, if_positive, total, repeated, each_repeated, only_child, how_many, some_each, always_tidy}
+use Rattle.ess_semantics.specs.Tables.{Tables, row_of, cell_at, is_cell}
+use Rattle.ess_semantics.specs.Cells.{Cells, Axes, Grid}
+use Rattle.ess_semantics.specs.Layers.{OwnTable, up_to_marker, where_counted, Slot, fixed_table, up_to, own_cell, own_row, counted, if_positive, total, repeated, each_repeated, only_child, how_many, some_each, always_tidy}
 use Rattle.ess_semantics.specs.SetLayers.{marker_table}
-use Rattle.ess_semantics.specs.MultisetLayers.{occurs, times_hold, counts_hold, slot_count}
+use Rattle.ess_semantics.specs.MultisetLayers.{times_hold, counts_hold, slot_count}
 use Rattle.ess_semantics.specs.Representations.{slot_number}
 use Rattle.ess_semantics.specs.Declarations.{axes_of}
-use Rattle.ess_repr_laws.specs.Finite.{FiniteAtom, OccursBound}
 use Rattle.ess_repr_laws.specs.Rooms.{MsetRoom}
 use Rattle.ess_semantics.proofs.Tests.{and-left, and-right, and-both, or-yes}
 use Rattle.ess_semantics.proofs.Orders.{to_list-of_list, same-itself}
@@ -31,92 +30,16 @@ use Rattle.ess_semantics.proofs.Repeats.{sorted-distinct}
 use Rattle.ess_semantics.proofs.Permutations.{Perm, holds-perm, count-perm}
 use Rattle.ess_repr_laws.proofs.SlotsUsed.{as_place, slots-are}
 use Rattle.ess_repr_laws.proofs.CanonicalPlaces.{AllOf}
-use Rattle.ess_semantics.proofs.MemberLists.{atom-listed}
-use Rattle.ess_repr_laws.proofs.Arguments.{Arguments, atom-arguments}
-use Rattle.ess_repr_laws.proofs.TablesAndCells.{AxesDiffer}
 use Rattle.ess_repr_laws.proofs.ExactCells.{Exact, exact-items, none-of}
 use Rattle.ess_repr_laws.proofs.SideBySide.{Along, along-map, along-right, left-under}
-use Rattle.ess_repr_laws.proofs.CellsOfMembers.{HasCells, MembersHaveCells, picked, layer-wide}
-use Rattle.ess_repr_laws.proofs.CellsWithoutChildren.{Alone, alone-wide, alone-cells}
-use Rattle.ess_repr_laws.proofs.CellsOfOccurrences.{atom-axis}
-use Rattle.ess_repr_laws.proofs.CompleteLists.{atom-complete}
-use Rattle.ess_repr_laws.proofs.ArgumentTables.{argument-exact, argument-cells, argument-fit, argument-row}
+use Rattle.ess_repr_laws.proofs.CellsOfMembers.{HasCells, MembersHaveCells, picked}
+use Rattle.ess_repr_laws.proofs.CellsOfOneChild.{layer-wide}
 use Rattle.ess_repr_laws.proofs.SortedSlots.{ordered-weakly, ordered-sorted_once, perm-distinct, padded, padded-many, padded-length}
 use Rattle.ess_repr_laws.proofs.UsedPlaces.{run-used, take-picked, table-exact, table-cells, table-row, table-fit}
 use Rattle.ess_repr_laws.proofs.CellsOfSlots.{Slotted, slots-cells, slots-differ, slots-length}
 use Rattle.ess_repr_laws.proofs.CellsOfSets.{slot-many, no-slot}
-use Rattle.ess_repr_laws.proofs.Times.{MsetMember, mset-member, mset-room, occurs-most, Among, among-sorted_once, repeated-again, sorted-again, counts-said, set-part, occurs-part, each-imply, sorted_once-most}
-
-pub up-to-fits : (u c : ℕ) → c ≤ u → is_cell (up_to u) (pos c) ≡ true
-up-to-fits u c h = ap (λ b. b || false) (and-both (nat_le 0 c) (nat_le c u) (le-leb 0 c (omega arith)) (le-leb c u h))
-
--- ---- how often each member occurs
-
-module _ (d : Domain) (ks : List Attribute) (finite : FiniteAtom d) (bound : OccursBound ks) where
-  abbrev axes : Axes
-  axes = codes_of d ∷ []
-
-  abbrev index : Value → List ℤ
-  index x = code x ∷ []
-
-  abbrev all : List Value
-  all = member_list d
-
-  args : Arguments d axes index
-  args = atom-arguments d (atom-listed d finite.0)
-
-  differ : AxesDiffer axes
-  differ = (atom-axis d finite.0, tt)
-
-  abbrev times_own : List OwnTable
-  times_own = fixed_table axes (up_to (occurrences ks)) ∷ []
-
-  abbrev times_tables : Value → List (Option Slot) → Tables
-  times_tables v ss = row_of (codes_of d) (map (occurs v) (member_list d)) ∷ []
-
-  abbrev times_built : Cells → List (List Value) → Option Value
-  times_built c vss = only_grid c (λ f. option_map (λ ns. node a_mset (of_list (each_repeated ns (member_list d)))) (each_of (member_list d) (λ x. and_then (f (code x ∷ [])) not_below_0)))
-
-  abbrev times_asked : Cells → List (List Value) → Bool
-  times_asked c vss = counts_hold ks (own_row (codes_of d ∷ []) c)
-
-  numbers : (f : Grid) (F : Value → ℕ) (ys : List Value) → AllOf ys (λ x. f (code x ∷ []) ≡ Some (pos (F x))) → each_of ys (λ x. and_then (f (code x ∷ [])) not_below_0) ≡ Some (map F ys)
-  numbers f F [] h = refl
-  numbers f F (y ∷ ys) h =
-      ap (λ o. and_then (and_then o not_below_0) (λ n. option_map (λ ns. n ∷ ns) (each_of ys (λ x. and_then (f (code x ∷ [])) not_below_0)))) h.0 ∙ ap (option_map (λ ns. F y ∷ ns)) (numbers f F ys h.1)
-
-  row-numbers : (f : Grid) (F : Value → ℕ) (ys : List Value) → AllOf ys (λ x. f (code x ∷ []) ≡ Some (pos (F x))) → map (λ x. or_default (f (index x)) (pos 0)) ys ≡ map pos (map F ys)
-  row-numbers f F [] h = refl
-  row-numbers f F (y ∷ ys) h = ap (λ o. or_default o (pos 0) ∷ map (λ x. or_default (f (index x)) (pos 0)) ys) h.0 ∙ ap (λ l. pos (F y) ∷ l) (row-numbers f F ys h.1)
-
-  times-alone : (zs : List Value) → MsetMember ks d zs → Alone ReprKind.MSetOccurrence (msets ks d) times_own false false times_tables times_built times_asked always_tidy (node a_mset (of_list zs))
-  times-alone zs m =
-      let l = args.listed in
-      let v : Value = node a_mset (of_list zs) in
-      let f : Grid = cell_at (row_of (codes_of d) (map (occurs v) all)) in
-      let items : to_list (of_list zs) ≡ zs = to_list-of_list zs in
-      let cells : AllOf all (λ x. f (index x) ≡ Some (pos (count (to_list (of_list zs)) x))) = argument-cells d axes index args differ (occurs v) in
-      let among : Among zs all = (λ w h. atom-complete d finite w (all-holds (member d) zs w m.inside h)) in
-      record {
-        exact = (argument-exact d axes index args differ (occurs v), tt);
-        fit = ap (λ b. b && true) (argument-fit d axes index args differ (occurs v) (is_cell (up_to (occurrences ks)))
-            (each all (λ x. up-to-fits (occurrences ks) (count (to_list (of_list zs)) x) (subst (λ l. count l x ≤ occurrences ks) (sym items) (occurs-most ks bound zs m.attributes x)))));
-        built = ap (option_map (λ ns. node a_mset (of_list (each_repeated ns all)))) (numbers f (count (to_list (of_list zs))) all cells)
-            ∙ ap (λ l. Some (node a_mset (of_list (each_repeated (map (count l) all) all)))) items ∙ ap (λ l. Some (node a_mset (of_list l))) (repeated-again zs all m.rise l.sorted among);
-        asked = ap (counts_hold ks) (argument-row d axes index args differ f ∙ row-numbers f (count (to_list (of_list zs))) all cells ∙ ap (λ l. map pos (map (count l) all)) items)
-            ∙ counts-said ks zs all m.rise (sorted-distinct all (sorted-of all l.sorted)) among m.attributes;
-      }
-    where
-      each : {P : Value → Type 0} (ys : List Value) → ((x : Value) → P x) → AllOf ys P
-      each [] p = tt
-      each (y ∷ ys) p = (p y, each ys p)
-
-  pub mset-occurrence-members : MembersHaveCells (repr ReprKind.MSetOccurrence no_reprs) (msets ks d)
-  mset-occurrence-members = record {
-    wide = alone-wide ReprKind.MSetOccurrence (msets ks d) times_own false false times_tables times_built times_asked always_tidy refl refl;
-    of_member = λ v h. let m = mset-member ks d v h in subst (HasCells (repr ReprKind.MSetOccurrence no_reprs) (msets ks d)) (sym m.1)
-        (alone-cells ReprKind.MSetOccurrence (msets ks d) times_own false false times_tables times_built times_asked always_tidy refl refl (node a_mset (of_list m.0)) (times-alone m.0 m.2));
-  }
+use Rattle.ess_repr_laws.proofs.Times.{MsetMember, mset-member, mset-room, occurs-most, Among, among-sorted_once, sorted-again, counts-said, set-part, occurs-part, each-imply, sorted_once-most}
+use Rattle.ess_repr_laws.proofs.CellsOfOccurrenceCounts.{up-to-fits}
 
 -- ---- in slots
 
@@ -170,6 +93,7 @@ module _ (r : Repr) (e : Domain) (ks : List Attribute) (child : MembersHaveCells
             (each-imply ks (λ k n. occurs_holds k n xs) (λ k z. occurs_holds k z (map (λ s. s.0) ts)) (λ k n h. occurs-perm k n xs (map (λ s. s.0) ts) q h) (occurs-part ks xs m.attributes));
       }
 
+  -- Members of multisets in slots with repeats.
   pub repetition-members : MembersHaveCells (repr ReprKind.MSetExplicitWithRepetition (more_reprs r no_reprs)) (msets ks e)
   repetition-members = record {
     wide = layer-wide ReprKind.MSetExplicitWithRepetition r (msets ks e) e repeats_own (one_to S ∷ []) up_to_marker true false (λ v. some_each (items_of v)) marker_table repeats_built repeats_asked always_tidy refl refl child.wide;
@@ -339,6 +263,7 @@ module _ (r : Repr) (e : Domain) (ks : List Attribute) (child : MembersHaveCells
       as-numbers [] = refl
       as-numbers (s ∷ us) = ap (λ n. n ∷ map (slot_count (value xs)) us) (slot-times xs s) ∙ ap (λ l. pos (times xs s) ∷ l) (as-numbers us)
 
+  -- Members of multisets in slots with numbers.
   pub mset-flags-members : MembersHaveCells (repr ReprKind.MSetExplicitWithFlags (more_reprs r no_reprs)) (msets ks e)
   mset-flags-members = record {
     wide = layer-wide ReprKind.MSetExplicitWithFlags r (msets ks e) e counted_own (one_to S ∷ []) where_counted true true (λ v. some_each (members v)) counted_tables counted_built counted_asked always_tidy refl refl child.wide;

@@ -30,10 +30,12 @@ use Rattle.ess_repr_laws.proofs.ArgumentTables.{argument-exact, occurrence-fits,
 
 -- ---- atoms
 
+-- The number of an atom's member is in its domain, and stands for the member.
 pub record Coded (d : Domain) (v : Value) : Type 0 where
   pub fit : is_cell (as_cell d) (code v) ≡ true
   pub back : atom_value d (code v) ≡ Some v
 
+-- Truth values.
 pub boolean-coded : (v : Value) → member booleans v ≡ true → Coded booleans v
 boolean-coded (truth true) h = record { fit = refl; back = refl }
 boolean-coded (truth false) h = record { fit = refl; back = refl }
@@ -41,12 +43,14 @@ boolean-coded (number n) h = cc
 boolean-coded (item t k) h = cc
 boolean-coded (node k vs) h = cc
 
+-- Numbers.
 pub integer-coded : (ss : List Span) (v : Value) → member (integers ss) v ≡ true → Coded (integers ss) v
 integer-coded ss (number n) h = record { fit = h; back = refl }
 integer-coded ss (truth b) h = cc
 integer-coded ss (item t k) h = cc
 integer-coded ss (node k vs) h = cc
 
+-- Values of named types.
 pub named-coded : (t : Text) (n : ℕ) (v : Value) → member (named t n) v ≡ true → Coded (named t n) v
 named-coded t n (item u k) h =
     let e : t ≡ u = text_exact t u (equal-of (order_text t u) (and-left (same_text t u) (nat_le 1 k) (and-left (same_text t u && nat_le 1 k) (nat_le k n) h))) in
@@ -70,24 +74,28 @@ module _ (d : Domain) where
   atom-alone : (v : Value) → Coded d v → Alone ReprKind.Atom d (widened_table [] (as_cell d) ∷ []) false false atom_tables atom_built always_canonical always_tidy v
   atom-alone v h = record { exact = (exact-items [] (code v ∷ []) refl, tt); fit = ap (λ c. c && true) h.fit; built = h.back; asked = refl }
 
+-- Truth values in a cell.
 pub boolean-members : MembersHaveCells (repr ReprKind.Atom no_reprs) booleans
 boolean-members = record {
   wide = refl;
   of_member = λ v h. alone-cells ReprKind.Atom booleans (widened_table [] booleans ∷ []) false false (atom_tables booleans) (atom_built booleans) always_canonical always_tidy refl refl v (atom-alone booleans v (boolean-coded v h));
 }
 
+-- Numbers in a cell.
 pub integer-members : (ss : List Span) → MembersHaveCells (repr ReprKind.Atom no_reprs) (integers ss)
 integer-members ss = record {
   wide = refl;
   of_member = λ v h. alone-cells ReprKind.Atom (integers ss) (widened_table [] (integers ss) ∷ []) false false (atom_tables (integers ss)) (atom_built (integers ss)) always_canonical always_tidy refl refl v (atom-alone (integers ss) v (integer-coded ss v h));
 }
 
+-- Values of a named type in a cell.
 pub named-members : (t : Text) (n : ℕ) → MembersHaveCells (repr ReprKind.Atom no_reprs) (named t n)
 named-members t n = record {
   wide = refl;
   of_member = λ v h. alone-cells ReprKind.Atom (named t n) (widened_table [] (as_cell (named t n)) ∷ []) false false (atom_tables (named t n)) (atom_built (named t n)) always_canonical always_tidy refl refl v (atom-alone (named t n) v (named-coded t n v h));
 }
 
+-- Members of atoms.
 pub atom-members : (d : Domain) → IsAtom d → MembersHaveCells (repr ReprKind.Atom no_reprs) d
 atom-members booleans a = boolean-members
 atom-members (integers ss) a = integer-members ss
@@ -96,17 +104,21 @@ atom-members _ a = absurd a
 
 -- ---- axes over atoms
 
+-- The numbers of an atom's members differ.
 pub atom-axis : (d : Domain) → IsAtom d → NumbersDiffer (codes_of d)
 atom-axis d a = let h : (NumbersDiffer (codes_of d) × Unit {0}) × Unit {0} = axes-differ (repr ReprKind.Occurrence no_reprs) (sets [] d) a in h.0.0
 
+-- So on each axis.
 pub atom-axes : (ds : Domains) → AreAtoms ds → AxesDiffer (map codes_of (domain_list ds))
 atom-axes no_domains a = tt
 atom-axes (more_domains d ds) a = (atom-axis d a.0, atom-axes ds a.1)
 
+-- Finite atoms are atoms.
 pub are-atoms : (ds : Domains) → FiniteAtoms ds → AreAtoms ds
 are-atoms no_domains f = tt
 are-atoms (more_domains d ds) f = (f.0.0, are-atoms ds f.1)
 
+-- The members of atoms are listed.
 pub atoms-listed : (ds : Domains) → AreAtoms ds → AllListed ds
 atoms-listed no_domains a = tt
 atoms-listed (more_domains d ds) a = (atom-listed d a.0, atoms-listed ds a.1)
@@ -119,6 +131,7 @@ pub record SetMember (ks : List Attribute) (d : Domain) (xs : List Value) : Type
   pub inside : list_all (member d) xs ≡ true
   pub attributes : set_attributes_hold ks (length xs) ≡ true
 
+-- A member of a domain of sets is a set of such members.
 pub set-member : (ks : List Attribute) (d : Domain) (v : Value) → member (sets ks d) v ≡ true → (xs : List Value) × (v ≡ node a_set (of_list xs)) × SetMember ks d xs
 set-member ks d (node a_set vs) h = (
   to_list vs,
@@ -170,6 +183,7 @@ module _ (d : Domain) (ks : List Attribute) (finite : FiniteAtom d) where
     asked = ap (set_attributes_hold ks) (occurrence-count d axes index args differ (atom-complete d finite) (to_list vs) h.rise h.inside) ∙ h.attributes;
   }
 
+  -- Members of sets of atoms as the members that occur.
   pub occurrence-members : MembersHaveCells (repr ReprKind.Occurrence no_reprs) (sets ks d)
   occurrence-members = record {
     wide = alone-wide ReprKind.Occurrence (sets ks d) (fixed_table axes booleans ∷ []) false false set_tables set_built set_asked always_tidy refl refl;
@@ -181,11 +195,13 @@ module _ (d : Domain) (ks : List Attribute) (finite : FiniteAtom d) where
 
 -- ---- relations of atoms
 
+-- The tuples of a member rise strictly, are tuples of members, and the attributes hold.
 pub record RelationMember (ks : List Attribute) (ds : Domains) (xs : List Value) : Type 0 where
   pub rise : rises itself xs ≡ true
   pub inside : list_all (tuple_member ds) xs ≡ true
   pub attributes : relation_attributes_hold ks ds xs ≡ true
 
+-- A member of a domain of relations is a relation of such tuples.
 pub relation-member : (ks : List Attribute) (ds : Domains) (v : Value) → member (relations ks ds) v ≡ true → (xs : List Value) × (v ≡ node a_relation (of_list xs)) × RelationMember ks ds xs
 relation-member ks ds (node a_relation vs) h = (
   to_list vs,
@@ -233,6 +249,7 @@ member-of-tuple (more_domains d ds) (node a_relation vs) h = cc
 member-of-tuple (more_domains d ds) (node a_partition vs) h = cc
 member-of-tuple (more_domains d ds) (node (a_record fs) vs) h = cc
 
+-- Tuples of members are members of the domain of tuples.
 pub members-of-tuples : (ds : Domains) (vs : List Value) → list_all (tuple_member ds) vs ≡ true → list_all (member (tuples ds)) vs ≡ true
 members-of-tuples ds [] h = refl
 members-of-tuples ds (v ∷ vs) h =
@@ -267,6 +284,7 @@ module _ (ds : Domains) (ks : List Attribute) (finite : FiniteAtoms ds) where
         asked = ap (λ o. is_some_and o (λ v. relation_attributes_hold ks ds (items_of v))) b ∙ h.attributes;
       }
 
+  -- Members of relations of atoms as the tuples that occur.
   pub relation-matrix-members : MembersHaveCells (repr ReprKind.RelationAsMatrix no_reprs) (relations ks ds)
   relation-matrix-members = record {
     wide = alone-wide ReprKind.RelationAsMatrix (relations ks ds) (fixed_table tuple_axes booleans ∷ []) false false relation_tables relation_built relation_asked always_tidy refl refl;

@@ -108,6 +108,7 @@ module _ (r : Repr) (ks : List Attribute) (d : Domain) (bounded : Bounded d) (ch
         back : partition_from (node a_set (of_list (to_list (of_list ps)))) ≡ Some (node a_partition (of_list ps))
         back = ap (λ l. partition_of (to_list (of_list l))) items ∙ ap partition_of items ∙ partition-again ks d ps m
 
+  -- Members of partitions as sets of parts.
   pub partition-as-set-members : MembersHaveCells (repr ReprKind.PartitionAsSet (more_reprs r no_reprs)) (partitions ks d)
   partition-as-set-members = record {
     wide = converted-wide ReprKind.PartitionAsSet r (partitions ks d) (child_parts ks d) set_of_parts partition_from parts_asked refl refl child;

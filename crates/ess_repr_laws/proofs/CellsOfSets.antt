@@ -30,7 +30,8 @@ use Rattle.ess_repr_laws.proofs.SlotsUsed.{slots-are}
 use Rattle.ess_repr_laws.proofs.CanonicalPlaces.{AllOf}
 use Rattle.ess_repr_laws.proofs.ExactCells.{exact-items, none-of}
 use Rattle.ess_repr_laws.proofs.SideBySide.{Along}
-use Rattle.ess_repr_laws.proofs.CellsOfMembers.{HasCells, MembersHaveCells, GoodSlot, layer-wide, map-long}
+use Rattle.ess_repr_laws.proofs.CellsOfMembers.{HasCells, MembersHaveCells, GoodSlot, map-long}
+use Rattle.ess_repr_laws.proofs.CellsOfOneChild.{layer-wide}
 use Rattle.ess_repr_laws.proofs.CellsOfOccurrences.{SetMember, set-member}
 use Rattle.ess_repr_laws.proofs.SortedSlots.{Climbs, Ordered, ordered-sorted_once, perm-distinct, perm-length, padded, padded-somes, padded-many, padded-length}
 use Rattle.ess_repr_laws.proofs.UsedPlaces.{run-used, take-picked, flags-exact, flags-fit, flags-used, flags-found, flags-many}
@@ -41,6 +42,7 @@ use Rattle.ess_repr_laws.proofs.Rooms.{set-room, size-slots}
 pub set-built : (xs : List Value) (ts : List Slot) → rises itself xs ≡ true → Perm xs (map (λ s. s.0) ts) → set_of (map (λ s. s.0) ts) ≡ node a_set (of_list xs)
 set-built xs ts r p = ap (λ l. node a_set (of_list l)) (one-set (map (λ s. s.0) ts) xs (λ v. sym (holds-perm p v)) ∙ sorted_once-itself xs r)
 
+-- As many slots as values.
 pub slot-many : (xs : List Value) (ts : List Slot) → Perm xs (map (λ s. s.0) ts) → length ts ≡ length xs
 slot-many xs ts p = sym (map-long (λ (s : Slot). s.0) ts) ∙ sym (perm-length p)
 
@@ -105,6 +107,7 @@ module _ (r : Repr) (e : Domain) (ks : List Attribute) (child : MembersHaveCells
       take-all (suc n) [] e = refl
       take-all (suc n) (x ∷ xs) e = let e' : length xs ≡ n = cc in ap (λ l. x ∷ l) (take-all n xs e')
 
+  -- Members of sets of one size, with all slots in use.
   pub explicit-members : IsTrue (is_some (attribute Key.Size ks)) → MembersHaveCells (repr ReprKind.Explicit (more_reprs r no_reprs)) (sets ks e)
   explicit-members sized = record {
     wide = layer-wide ReprKind.Explicit r (sets ks e) e [] (one_to S ∷ []) (all_slots S) true true (λ v. some_each (items_of v)) no_own_tables set_build asked_explicit always_tidy refl refl child.wide;
@@ -144,6 +147,7 @@ module _ (r : Repr) (e : Domain) (ks : List Attribute) (child : MembersHaveCells
         asked = ap (set_attributes_hold ks) (many ∙ slot-many xs ts q) ∙ m.attributes;
       }
 
+  -- Members of sets in slots up to a marker.
   pub marker-members : SetRoom ks e → MembersHaveCells (repr ReprKind.ExplicitVarSizeWithMarker (more_reprs r no_reprs)) (sets ks e)
   marker-members room = record {
     wide = layer-wide ReprKind.ExplicitVarSizeWithMarker r (sets ks e) e marker_own (one_to S ∷ []) up_to_marker true true (λ v. some_each (items_of v)) marker_table set_build asked_marker always_tidy refl refl child.wide;
@@ -183,6 +187,7 @@ module _ (r : Repr) (e : Domain) (ks : List Attribute) (child : MembersHaveCells
         asked = ap (set_attributes_hold ks) (flags-many (one_to S ∷ []) (slots-differ S) (padded j ts) count ∙ ap length (padded-somes j ts) ∙ slot-many xs ts q) ∙ m.attributes;
       }
 
+  -- Members of sets in slots with flags.
   pub flags-members : SetRoom ks e → MembersHaveCells (repr ReprKind.ExplicitVarSizeWithFlags (more_reprs r no_reprs)) (sets ks e)
   flags-members room = record {
     wide = layer-wide ReprKind.ExplicitVarSizeWithFlags r (sets ks e) e flags_own (one_to S ∷ []) where_flagged true true (λ v. some_each (items_of v)) flags_tables set_build asked_flags always_tidy refl refl child.wide;

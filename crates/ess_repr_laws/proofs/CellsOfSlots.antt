@@ -22,20 +22,26 @@ use Rattle.ess_repr_laws.proofs.CanonicalPlaces.{AllOf, all-of-map}
 use Rattle.ess_repr_laws.proofs.TablesAndCells.{AxesDiffer}
 use Rattle.ess_repr_laws.proofs.AxesOfTables.{run-differs}
 use Rattle.ess_repr_laws.proofs.ExactCells.{AllExact}
-use Rattle.ess_repr_laws.proofs.SideBySide.{Along, along-both, SlotExact, placed, placed-behind}
-use Rattle.ess_repr_laws.proofs.CellsOfMembers.{HasCells, MembersHaveCells, GoodSlot, Good, Inside, Slots, slots-there, kept-good, kept-values, picked, Laid, layer-cells, map-long}
+use Rattle.ess_repr_laws.proofs.SideBySide.{Along, along-both}
+use Rattle.ess_repr_laws.proofs.PlacedSlots.{SlotExact, placed, placed-behind}
+use Rattle.ess_repr_laws.proofs.CellsOfMembers.{HasCells, MembersHaveCells, GoodSlot, Good, Inside, Slots, slots-there, kept-good, kept-values, picked, map-long}
+use Rattle.ess_repr_laws.proofs.CellsOfOneChild.{Laid, layer-cells}
 use Rattle.ess_repr_laws.proofs.SortedSlots.{by-perm, Climbs, by-climbs, Ordered, all-perm, perm-map, perm-length, padded, padded-somes, padded-length, padded-good, used-first, used-rise, Held}
 
+-- The numbers of slots differ.
 pub slots-differ : (n : ℕ) → AxesDiffer (one_to n ∷ [])
 slots-differ n = (run-differs 1 n, tt)
 
+-- They are so many.
 pub slots-length : (n : ℕ) → length (lists_of (one_to n ∷ [])) ≡ n
 slots-length n = ap length (slots-are (one_to n)) ∙ map-long as_place (one_to n) ∙ run-length 1 n
 
+-- The values that are there, where all are.
 pub some-somes : (xs : List Value) → somes (some_each xs) ≡ xs
 some-somes [] = refl
 some-somes (x ∷ xs) = ap (λ l. x ∷ l) (some-somes xs)
 
+-- Members that are all there.
 pub some-inside : (e : Domain) (xs : List Value) → list_all (member e) xs ≡ true → AllOf (some_each xs) (Inside e)
 some-inside e [] h = tt
 some-inside e (x ∷ xs) h = (and-left (member e x) (list_all (member e) xs) h, some-inside e xs (and-right (member e x) (list_all (member e) xs) h))
@@ -57,6 +63,7 @@ module _ (k : ReprKind) (r : Repr) (d e : Domain) (own : List OwnTable) (n : ℕ
   abbrev ass : List Axes
   ass = axes_of r e
 
+  -- The layer.
   abbrev pub slotted : Layer
   slotted = record {
     own = own;
@@ -113,6 +120,7 @@ module _ (k : ReprKind) (r : Repr) (d e : Domain) (own : List OwnTable) (n : ℕ
             along-both (lists_of bs) (padded j ts) (λ p s. is_used u mine p ≡ is_some s) (λ p s. behind p inner ≡ cells_or (zero_cells ass) s) (Held u mine ass distinct inner) (λ p s x y. (x, y)) h.used
             (placed-behind ass bs (padded j ts) (slots-differ n) count (all-of-map (padded j ts) (Good r e) (SlotExact ass) (good-exact r e) (padded-good r e j ts good)))
 
+    -- A member has canonical cells where the layer does what is asked with slots that are permuted and padded.
     pub slots-cells : layer k d ≡ Some slotted → length own ≡ own_width k → (v : Value) → list_all (member e) (ct v) ≡ true → length (ct v) ≤ n →
         ((ts : List Slot) → Perm (ct v) (map (λ s. s.0) ts) → AllOf ts (GoodSlot r e) → Climbs ass ts → Ordered ass distinct ts) →
         ((j : ℕ) (ts : List Slot) → length ts + j ≡ n → Perm (ct v) (map (λ s. s.0) ts) → Slotted v j ts) → HasCells (repr k (more_reprs r no_reprs)) d v

@@ -22,8 +22,9 @@ use Rattle.ess_repr_laws.proofs.CanonicalParts.{asked_of, value_of_layer}
 use Rattle.ess_repr_laws.proofs.CanonicalPlaces.{all_places}
 use Rattle.ess_repr_laws.proofs.Behind.{behind-none}
 use Rattle.ess_repr_laws.proofs.ExactCells.{AllExact, exact-length, exact-append}
-use Rattle.ess_repr_laws.proofs.SideBySide.{Along, placed, placed-exact, placed-behind}
-use Rattle.ess_repr_laws.proofs.CellsOfMembers.{HasCells, MembersHaveCells, take-front, drop-front, map-long}
+use Rattle.ess_repr_laws.proofs.SideBySide.{Along}
+use Rattle.ess_repr_laws.proofs.PlacedSlots.{placed, placed-exact, placed-behind}
+use Rattle.ess_repr_laws.proofs.CellsOfMembers.{InnerInside, compound-inner, HasCells, MembersHaveCells, take-front, drop-front, map-long}
 
 -- Each representation has the canonical cells of its domain's members.
 abbrev pub AllHaveCells : Reprs → List Domain → Type 0
@@ -108,11 +109,13 @@ module _ (ds : List Domain) (f : Cells → List (List Value) → Option Value) (
         ap (λ o. axes_in (elim o [ None ↦ [] | Some l ↦ map (declared_own false) l.own ++ declarations_of_children (false || leaves_out l.in_use) rs l.children l.axes ])) at
         ∙ axes-of-layer whole rs
 
+    -- A layer of components has as many lists of axes as tables.
     pub compound-wide : length (axes_of (repr k rs) d) ≡ width (repr k rs)
     compound-wide = let n = children-wide rs ds all in let m = ap length axes in omega (arith, n, m, ow)
 
-    pub compound-cells : (v : Value) (vs : List Value) → t v ≡ each_alone vs → Along ds vs (λ e v. member e v ≡ true) → f [] (map (λ v. v ∷ []) vs) ≡ Some v → HasCells (repr k rs) d v
-    compound-cells v vs e h b = go (parted rs ds vs all h)
+    -- A value of components has canonical cells where each component is a member.
+    pub compound-cells : (v : Value) (vs : List Value) → t v ≡ each_alone vs → Along ds vs (λ e v. member e v ≡ true) → f [] (map (λ v. v ∷ []) vs) ≡ Some v → InnerInside (repr k rs) d v → HasCells (repr k rs) d v
+    compound-cells v vs e h b inner = go (parted rs ds vs all h)
       where
         go : Parted rs ds vs → HasCells (repr k rs) d v
         go p = record {
@@ -124,6 +127,7 @@ module _ (ds : List Domain) (f : Cells → List (List Value) → Option Value) (
               ∙ and-both ((true && true) && children_are_canonical whole [] rs ds c) (is_some_and (values_of_children rs ds c ([] ∷ [])) (λ vss. true)) p.passes (ap (λ o. is_some_and o (λ vss. true)) p.values);
           stands = ap (λ o. and_then o (λ l. value_of_layer l rs (own_part k c) (child_part k c))) at ∙ ap (λ n. value_of_layer whole rs (take n c) (drop n c)) (sym ow)
               ∙ ap (λ o. and_then o (f [])) p.values ∙ b;
+          inner = inner;
         }
           where
             c : Cells
@@ -152,6 +156,7 @@ module _ (rs : Reprs) (ds : Domains) (all : AllHaveCells rs (domain_list ds)) wh
   tuple-cells (node a_tuple vs) h =
       compound-cells (domain_list ds) tuple_built compound_contents ReprKind.Tuple (tuples ds) rs refl refl all (tuple vs) (to_list vs) refl (each-member ds vs h)
       (ap (λ l. Some (tuple (of_list l))) (first-alone (to_list vs)) ∙ ap (λ w. Some (tuple w)) (of_list-to_list vs))
+      (compound-inner ReprKind.Tuple rs (tuples ds) (tuple vs) refl)
   tuple-cells (number n) h = cc
   tuple-cells (truth b) h = cc
   tuple-cells (item t k) h = cc
@@ -163,6 +168,7 @@ module _ (rs : Reprs) (ds : Domains) (all : AllHaveCells rs (domain_list ds)) wh
   tuple-cells (node a_partition vs) h = cc
   tuple-cells (node (a_record fs) vs) h = cc
 
+  -- Members of tuples.
   pub tuple-members : MembersHaveCells (repr ReprKind.Tuple rs) (tuples ds)
   tuple-members = record { wide = compound-wide (domain_list ds) tuple_built compound_contents ReprKind.Tuple (tuples ds) rs refl refl all; of_member = tuple-cells }
 
@@ -177,7 +183,8 @@ module _ (rs : Reprs) (ds : Domains) (all : AllHaveCells rs (domain_list ds)) wh
         let e : fs ≡ gs = texts_exact fs gs (equal-of (order_texts fs gs) (and-left (same_texts fs gs) (member_of_each ds vs) h)) in
         subst (λ us. HasCells (repr ReprKind.Rec rs) (records fs ds) (node (a_record us) vs)) e
         (compound-cells (domain_list ds) record_built compound_contents ReprKind.Rec (records fs ds) rs refl refl all (node (a_record fs) vs) (to_list vs) refl (each-member ds vs (and-right (same_texts fs gs) (member_of_each ds vs) h))
-        (ap (λ l. Some (node (a_record fs) (of_list l))) (first-alone (to_list vs)) ∙ ap (λ w. Some (node (a_record fs) w)) (of_list-to_list vs)))
+        (ap (λ l. Some (node (a_record fs) (of_list l))) (first-alone (to_list vs)) ∙ ap (λ w. Some (node (a_record fs) w)) (of_list-to_list vs))
+        (compound-inner ReprKind.Rec rs (records fs ds) (node (a_record fs) vs) refl))
     record-cells (number n) h = cc
     record-cells (truth b) h = cc
     record-cells (item t k) h = cc
@@ -189,5 +196,6 @@ module _ (rs : Reprs) (ds : Domains) (all : AllHaveCells rs (domain_list ds)) wh
     record-cells (node a_relation vs) h = cc
     record-cells (node a_partition vs) h = cc
 
+    -- Members of records.
     pub record-members : MembersHaveCells (repr ReprKind.Rec rs) (records fs ds)
     record-members = record { wide = compound-wide (domain_list ds) record_built compound_contents ReprKind.Rec (records fs ds) rs refl refl all; of_member = record-cells }

@@ -20,6 +20,7 @@ use Rattle.ess_repr_laws.proofs.CellsOfMembers.{HasCells, take-front, drop-front
 
 module _ (k : ReprKind) (d : Domain) (own : List OwnTable) (sorted distinct : Bool) (ot : Value → List (Option Slot) → Tables)
     (b : Cells → List (List Value) → Option Value) (ic : Cells → List (List Value) → Bool) (td : Cells → Bool) where
+  -- The layer.
   abbrev pub no_child : Layer
   no_child = record {
     own = own;
@@ -48,11 +49,13 @@ module _ (k : ReprKind) (d : Domain) (own : List OwnTable) (sorted distinct : Bo
         ap (λ o. axes_in (elim o [ None ↦ [] | Some l ↦ map (declared_own false) l.own ++ declarations_of_children (false || leaves_out l.in_use) no_reprs l.children l.axes ])) at
         ∙ axes-of-layer no_child no_reprs
 
+    -- It has as many lists of axes as tables.
     pub alone-wide : length (axes_of (repr k no_reprs) d) ≡ width (repr k no_reprs)
     alone-wide = ap length (axes ∙ append-nil (own_axes own)) ∙ map-long (λ (t : OwnTable). t.axes) own ∙ ow ∙ (let e : own_width k ≡ own_width k + 0 = omega arith in e)
 
+    -- A member has canonical cells where the layer's own tables are as asked.
     pub alone-cells : (v : Value) → Alone v → HasCells (repr k no_reprs) d v
-    alone-cells v h = record { cells = whole; there = there; exact = exact; passes = passes; stands = stands }
+    alone-cells v h = record { cells = whole; there = there; exact = exact; passes = passes; stands = stands; inner = tt }
       where
         mine : Cells
         mine = cells_of (ot v [])

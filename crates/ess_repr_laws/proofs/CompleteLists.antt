@@ -11,7 +11,6 @@ use Rattle.ess_semantics.specs.Numbers.{natural}
 use Rattle.ess_semantics.specs.Domains.{Span, Domain, Domains, booleans, integers, named, tuples, no_domains, more_domains, numbers_up, interval, span_members, items_from, members, members_of_each, member_list, add_heads, lists_of}
 use Rattle.ess_semantics.specs.Membership.{in_span, member, member_of_each}
 use Rattle.ess_repr_laws.specs.Finite.{FiniteAtom, FiniteAtoms, Complete}
-use Rattle.ess_semantics.specs.Atoms.{IsAtom}
 use Rattle.ess_semantics.proofs.Tests.{and-left, and-right, or-yes, if-not}
 use Rattle.ess_semantics.proofs.Orders.{same-itself, same-equal, text_exact, equal-of, of_list-to_list}
 use Rattle.ess_semantics.proofs.Sorting.{holds-sorted_once}
@@ -104,6 +103,7 @@ booleans-complete (number k) h = cc
 booleans-complete (item t k) h = cc
 booleans-complete (node k vs) h = cc
 
+-- Each member of a finite atom is listed.
 pub atom-complete : (d : Domain) → FiniteAtom d → Complete d
 atom-complete booleans f = booleans-complete
 atom-complete (integers ss) f = integers-complete ss f.1
@@ -118,6 +118,7 @@ InEach [] [] = Unit {0}
 InEach (vs ∷ ls) (x ∷ xs) = (holds vs x ≡ true) × InEach ls xs
 InEach _ _ = ⊥
 
+-- The tuple of a list.
 abbrev pub T : List Value → Value
 T l = tuple (of_list l)
 
@@ -142,6 +143,7 @@ heads-hold (v ∷ vs) ls x xs p q = ap (λ l. holds l (T (x ∷ xs))) (map-appen
     go true e p ih = ap (λ b. b || holds (map T (add_heads vs ls)) (T (x ∷ xs))) (ap (λ w. holds (map T (map (λ l. w ∷ l) ls)) (T (x ∷ xs))) (same-equal v x e) ∙ cons-holds x xs ls q)
     go false e p ih = ap (λ b. holds (map T (map (λ l. v ∷ l) ls)) (T (x ∷ xs)) || b) (ih p) ∙ or-yes (holds (map T (map (λ l. v ∷ l) ls)) (T (x ∷ xs)))
 
+-- A list with one item from each is among all such lists.
 pub lists-hold : (ls : List (List Value)) (xs : List Value) → InEach ls xs → holds (map T (lists_of ls)) (T xs) ≡ true
 lists-hold [] [] h = ap (λ b. b || false) (same-itself (T []))
 lists-hold (vs ∷ ls) (x ∷ xs) h = heads-hold vs (lists_of ls) x xs h.0 (lists-hold ls xs h.1)
@@ -169,6 +171,7 @@ finite-lists (more_domains d ds) f = go (members d) refl f.0.1 (finite-lists ds 
         each nil h = cc
         each (cons u us) h = (ap (λ o. holds (list_or_none o) u) (sym q) ∙ c u (and-left (member d u) (member_of_each ds us) h), r.2 us (and-right (member d u) (member_of_each ds us) h))
 
+-- Each tuple of finite atoms is listed.
 pub tuples-complete : (ds : Domains) → FiniteAtoms ds → Complete (tuples ds)
 tuples-complete ds f (node a_tuple vs) h =
     let r = finite-lists ds f in

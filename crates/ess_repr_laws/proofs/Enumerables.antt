@@ -19,16 +19,18 @@ use Rattle.ess_repr_laws.proofs.TupleMembers.{AllListed, tuples-listed}
 use Rattle.ess_repr_laws.proofs.CellsOfMembers.{map-long}
 use Rattle.ess_repr_laws.proofs.CompleteLists.{atom-complete, InEach, T, lists-hold}
 use Rattle.ess_repr_laws.proofs.Universes.{heads-length}
-use Rattle.ess_repr_laws.proofs.Bounds.{atom-exact}
+use Rattle.ess_repr_laws.proofs.BoundedLists.{atom-exact}
 
 -- A listed domain: its members are there.
 pub record IsEnumerated (d : Domain) : Type 0 where
   pub there : IsTrue (is_some (members d))
   pub enumerated : Enumerated d
 
+-- The members of a finite atom are there, and listed.
 pub atom-enumerable : (d : Domain) → FiniteAtom d → IsEnumerated d
 atom-enumerable d f = record { there = f.1; enumerated = record { listed = atom-listed d f.0; complete = atom-complete d f; exact = atom-exact d f } }
 
+-- So are those of each of the domains.
 abbrev pub AreEnumerated : Domains → Type 0
 AreEnumerated no_domains = Unit {0}
 AreEnumerated (more_domains d ds) = IsEnumerated d × AreEnumerated ds
@@ -72,6 +74,7 @@ lists (more_domains d ds) a = go (members d) refl h.there (lists ds a.1)
 
 -- ---- tuples
 
+-- The members of tuples of such domains are.
 pub tuples-enumerable : (ds : Domains) → AreEnumerated ds → IsEnumerated (tuples ds)
 tuples-enumerable ds a = record {
   there = ap (λ o. is_some (option_map (λ ls. map T (lists_of ls)) o)) l.are;
@@ -99,13 +102,15 @@ tuples-enumerable ds a = record {
 -- ---- records
 
 module _ (fs : List Text) where
-  abbrev F : List Value → Value
+  -- The record of a list.
+  abbrev pub F : List Value → Value
   F l = node (a_record fs) (of_list l)
 
   same-kind : order_kind (a_record fs) (a_record fs) ≡ order_kind a_tuple a_tuple
   same-kind = tied_itself texts_total fs
 
-  rise-same : (ms : List (List Value)) → rises itself (map F ms) ≡ rises itself (map T ms)
+  -- Records of lists rise where tuples of them do.
+  pub rise-same : (ms : List (List Value)) → rises itself (map F ms) ≡ rises itself (map T ms)
   rise-same [] = refl
   rise-same (m ∷ []) = refl
   rise-same (m ∷ n ∷ ms) =
@@ -115,13 +120,15 @@ module _ (fs : List Text) where
   holds-same [] l = refl
   holds-same (m ∷ ms) l = ap (λ o. is_eq (ordering_then o (orders (of_list m) (of_list l))) || holds (map F ms) (F l)) same-kind ∙ ap (λ b. same (T m) (T l) || b) (holds-same ms l)
 
-  all-same : (ds : Domains) (ms : List (List Value)) → list_all (member (tuples ds)) (map T ms) ≡ true → list_all (member (records fs ds)) (map F ms) ≡ true
+  -- They are members where the tuples are.
+  pub all-same : (ds : Domains) (ms : List (List Value)) → list_all (member (tuples ds)) (map T ms) ≡ true → list_all (member (records fs ds)) (map F ms) ≡ true
   all-same ds [] h = refl
   all-same ds (m ∷ ms) h =
       and-both (same_texts fs fs && member_of_each ds (of_list m)) (list_all (member (records fs ds)) (map F ms))
       (and-both (same_texts fs fs) (member_of_each ds (of_list m)) (ap is_eq (tied_itself texts_total fs)) (and-left (member_of_each ds (of_list m)) (list_all (member (tuples ds)) (map T ms)) h))
       (all-same ds ms (and-right (member_of_each ds (of_list m)) (list_all (member (tuples ds)) (map T ms)) h))
 
+  -- The members of records of such domains are.
   pub records-enumerable : (ds : Domains) → AreEnumerated ds → IsEnumerated (records fs ds)
   records-enumerable ds a = record {
     there = ap (λ o. is_some (option_map (λ ls. map F (lists_of ls)) o)) l.are;

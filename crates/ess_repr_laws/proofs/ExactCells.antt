@@ -16,17 +16,20 @@ use Rattle.ess_repr_laws.proofs.TablesAndCells.{row-length, cell-of-row}
 abbrev pub Exact : Axes → Grid → Type 0
 Exact as' f = (js : List ℤ) → is_some (f js) ≡ is_index as' js
 
+-- The same of several tables.
 abbrev pub AllExact : List Axes → Cells → Type 0
 AllExact [] [] = Unit {0}
 AllExact (as' ∷ ass) (f ∷ fs) = Exact as' f × AllExact ass fs
 AllExact _ _ = ⊥
 
+-- They are as many as lists of axes.
 pub exact-length : (ass : List Axes) (c : Cells) → AllExact ass c → length c ≡ length ass
 exact-length [] [] h = refl
 exact-length (as' ∷ ass) (f ∷ fs) h = ap suc (exact-length ass fs h.1)
 exact-length [] (f ∷ fs) h = absurd h
 exact-length (as' ∷ ass) [] h = absurd h
 
+-- Two lists of tables.
 pub exact-append : (ass bss : List Axes) (c c' : Cells) → AllExact ass c → AllExact bss c' → AllExact (ass ++ bss) (c ++ c')
 exact-append [] bss [] c' h h' = h'
 exact-append (as' ∷ ass) bss (f ∷ fs) c' h h' = (h.0, exact-append ass bss fs c' h.1 h')
@@ -35,6 +38,7 @@ exact-append (as' ∷ ass) bss [] c' h h' = absurd h
 
 -- ---- options
 
+-- Nothing is there.
 pub none-of : {A : Type 0} (o : Option A) → is_some o ≡ false → o ≡ None
 none-of None e = refl
 none-of (Some x) e = cc
@@ -58,6 +62,7 @@ drop-length (suc n) m (x ∷ xs) e = let z : suc (length xs) ≡ suc n + m = e i
 more : (k v : ℕ) → suc k * v ≡ v + k * v
 more k v = let x = suc-mul k v in omega arith
 
+-- Numbers are equal either way round.
 pub same_int-turned : (j k : ℤ) → same_int j k ≡ same_int k j
 same_int-turned j k = both-ways (same_int j k) (same_int k j) (λ e. go j k (same_int-equal j k e)) (λ e. go k j (same_int-equal k j e))
   where
@@ -66,6 +71,7 @@ same_int-turned j k = both-ways (same_int j k) (same_int k j) (λ e. go j k (sam
 
 -- ---- the items of a filled table
 
+-- The items of a filled table are exactly the cells of its axes.
 pub exact-items : (as' : Axes) (xs : List ℤ) → length xs ≡ volume as' → Exact as' (item_in as' xs)
 exact-items [] [] e js = cc
 exact-items [] (x ∷ []) e [] = refl
@@ -90,6 +96,7 @@ exact-items (a ∷ as') xs e (j ∷ js) = go (λ c h. exact-items as' c h js) a 
 
 -- ---- tables of exact cells
 
+-- The cells of the table that exact cells make are these cells.
 pub exact-table : (as' : Axes) (f : Grid) → Exact as' f → cell_at (table_over as' f) ≡ f
 exact-table as' f h = fun_ext (λ js. go js (is_index as' js) refl)
   where

@@ -19,6 +19,7 @@ use Rattle.ess_repr_laws.proofs.CanonicalPlaces.{AllOf}
 use Rattle.ess_repr_laws.proofs.CellsOfMembers.{Inside, picked}
 use Rattle.ess_repr_laws.proofs.Rooms.{one-key}
 
+-- A pair is one of its two parts.
 pub pair-of : (p : Value) → is_pair p ≡ true → p ≡ pair (from_of p) (to_of p)
 pair-of (node a_tuple (cons a (cons b nil))) h = refl
 pair-of (node a_tuple nil) h = cc
@@ -39,6 +40,7 @@ pair-of (node (a_record fs) vs) h = cc
 abbrev pub firsts : List Value → List Value
 firsts ps = map from_of ps
 
+-- The arguments of pairs whose first parts rise do so.
 pub rises-firsts : (ps : List Value) → rises from_of ps ≡ true → rises itself (firsts ps) ≡ true
 rises-firsts [] h = refl
 rises-firsts (p ∷ []) h = refl
@@ -52,6 +54,7 @@ pub record FunctionMember (ks : List Attribute) (d c : Domain) (ps : List Value)
   pub pairs : list_all (λ p. is_pair p && member d (from_of p) && member c (to_of p)) ps ≡ true
   pub attributes : function_attributes_hold ks d c ps ≡ true
 
+-- A member of a domain of functions is a function of such pairs.
 pub function-member : (ks : List Attribute) (d c : Domain) (v : Value) → member (functions ks d c) v ≡ true → (ps : List Value) × (v ≡ node a_function (of_list ps)) × FunctionMember ks d c ps
 function-member ks d c (node a_function vs) h = (
   to_list vs,
@@ -79,10 +82,12 @@ module _ (d c : Domain) where
   abbrev is_fit : Value → Bool
   is_fit p = is_pair p && member d (from_of p) && member c (to_of p)
 
+  -- They are pairs.
   pub each-pair : (ps : List Value) → list_all is_fit ps ≡ true → AllOf ps (λ p. is_pair p ≡ true)
   each-pair [] h = tt
   each-pair (p ∷ ps) h = (and-left (is_pair p) (member d (from_of p)) (and-left (is_pair p && member d (from_of p)) (member c (to_of p)) (and-left (is_fit p) (list_all is_fit ps) h)), each-pair ps (and-right (is_fit p) (list_all is_fit ps) h))
 
+  -- Their arguments are members.
   pub each-first : (ps : List Value) → list_all is_fit ps ≡ true → list_all (member d) (firsts ps) ≡ true
   each-first [] h = refl
   each-first (p ∷ ps) h =
@@ -98,6 +103,7 @@ module _ (d c : Domain) where
       go true ih = and-right (is_pair p && member d (from_of p)) (member c (to_of p)) (and-left (is_fit p) (list_all is_fit ps) h)
       go false ih = ih
 
+  -- Their values are members.
   pub values-inside : (ps xs : List Value) → list_all is_fit ps ≡ true → AllOf (map (value_at ps) xs) (Inside c)
   values-inside ps [] h = tt
   values-inside ps (x ∷ xs) h = (value-inside ps x h, values-inside ps xs h)
@@ -199,6 +205,7 @@ paired-again (x ∷ xs) (p ∷ ps) r s pr inc =
 
 -- ---- total functions
 
+-- An attribute that stands without a number holds.
 pub flag-said : (ks : List Attribute) (f : Key → ℤ → Bool) (g : Key → Bool) (k : Key) → each_holds ks f g ≡ true → IsFlagged k ks → g k ≡ true
 flag-said [] f g k h e = cc
 flag-said (numbered l z ∷ ks) f g k h e = flag-said ks f g k (and-right (f l z) (each_holds ks f g) h) e
@@ -208,6 +215,7 @@ flag-said (flagged l ∷ ks) f g k h e = go (same_key k l) refl e (λ q. flag-sa
     go true q e ih = ap g (one-key k l q) ∙ and-left (g l) (each_holds ks f g) h
     go false q e ih = ih e
 
+-- A test of a list that is there.
 pub some-list : {A : Type 0} (o : Option (List A)) (f : List A → Bool) → is_some_and o f ≡ true → f (list_or_none o) ≡ true
 some-list None f h = cc
 some-list (Some xs) f h = h

@@ -1,39 +1,37 @@
 -- Each member of a domain has canonical tables that stand for it: by induction over the representation.
-use Rattle.std.proofs.Common.{◌≡◌, sym, ap, ◌∙◌, subst, true, false, List, [], ◌∷◌, Some, IsTrue, is_some}
+use Rattle.std.proofs.Common.{◌≡◌, sym, ap, ◌∙◌, subst, true, false, List, [], ◌∷◌}
 use Rattle.ess_semantics.specs.declared.words.ReprKind.{ReprKind}
-use Rattle.ess_semantics.specs.declared.words.Key.{Key}
 use Rattle.ess_semantics.specs.Values.{Value}
 use Rattle.ess_semantics.specs.Trees.{Repr, Reprs, repr, no_reprs, more_reprs}
-use Rattle.ess_semantics.specs.Domains.{Domain, Domains, no_domains, more_domains, tuples, records, matrices, sets, msets, functions, relations, partitions, domain_list, attribute}
+use Rattle.ess_semantics.specs.Domains.{Domain, Domains, no_domains, more_domains, tuples, records, matrices, sets, msets, functions, relations, partitions, domain_list}
 use Rattle.ess_semantics.specs.Membership.{member}
 use Rattle.ess_semantics.specs.Sizes.{child_relation, child_set, child_parts}
-use Rattle.ess_semantics.specs.Tables.{Tables}
 use Rattle.ess_semantics.specs.Cells.{cells_of}
-use Rattle.ess_semantics.specs.Representations.{value_of_cells, value_of_tables}
-use Rattle.ess_semantics.specs.Declarations.{declarations, axes_of}
-use Rattle.ess_semantics.specs.Canonical.{tables_of_value}
-use Rattle.ess_semantics.specs.CanonicalTest.{canonical}
-use Rattle.ess_semantics.specs.Tidy.{over_axes}
-use Rattle.ess_repr_laws.specs.Rooms.{HasDummy, Covered, AllCovered, Roomy, AllRoomy, SetRoom, MsetRoom, FunctionRoom}
+use Rattle.ess_semantics.specs.Representations.{value_of_cells}
+use Rattle.ess_semantics.specs.Declarations.{declarations}
+use Rattle.ess_repr_laws.specs.Rooms.{Covered, AllCovered, Roomy, AllRoomy}
 use Rattle.ess_repr_laws.specs.CanonicalTables.{OneForm, TablesFit}
-use Rattle.ess_repr_laws.specs.Finite.{HaveLists, FiniteAtom, FiniteAtoms, Bounded, OccursBound, IsFlagged}
-use Rattle.ess_semantics.specs.Atoms.{IsAtom}
+use Rattle.ess_repr_laws.specs.Finite.{HaveLists, FiniteAtoms}
 use Rattle.ess_repr_laws.proofs.AxesOfTables.{canonical-once}
 use Rattle.ess_repr_laws.proofs.Behind.{behind-none}
 use Rattle.ess_repr_laws.proofs.CellsOfMembers.{MembersHaveCells, cells-tables}
-use Rattle.ess_repr_laws.proofs.CellDomains.{tables-fit, canonical-fits}
+use Rattle.ess_repr_laws.proofs.FittingTables.{tables-fit}
+use Rattle.ess_repr_laws.proofs.CellDomains.{canonical-fits}
 use Rattle.ess_repr_laws.proofs.CellsOfOccurrences.{are-atoms, atom-members, occurrence-members, relation-matrix-members}
 use Rattle.ess_repr_laws.proofs.CellsOfSets.{explicit-members, marker-members, flags-members}
 use Rattle.ess_repr_laws.proofs.CellsOfFunctions.{function-1d-members, function-1d-partial-members, function-nd-members, function-nd-partial-members}
-use Rattle.ess_repr_laws.proofs.CellsOfConversions.{relation-as-set-members, function-as-relation-members}
+use Rattle.ess_repr_laws.proofs.CellsOfConversions.{relation-as-set-members}
+use Rattle.ess_repr_laws.proofs.FunctionsAsRelations.{function-as-relation-members}
 use Rattle.ess_repr_laws.proofs.CellsOfTuples.{AllHaveCells, tuple-members, record-members}
 use Rattle.ess_repr_laws.proofs.CellsOfMatrices.{matrix-members}
 use Rattle.ess_repr_laws.proofs.CellsOfDummies.{dummy-members}
-use Rattle.ess_repr_laws.proofs.CellsOfMultisets.{mset-occurrence-members, repetition-members, mset-flags-members}
+use Rattle.ess_repr_laws.proofs.CellsOfOccurrenceCounts.{mset-occurrence-members}
+use Rattle.ess_repr_laws.proofs.CellsOfMultisets.{repetition-members, mset-flags-members}
 use Rattle.ess_repr_laws.proofs.CellsOfPartitions.{partition-as-set-members}
 use Rattle.ess_repr_laws.proofs.CellsOfPartNumbers.{partition-occurrence-members}
 
 mutual
+  -- Each member of a domain has canonical cells.
   pub members_have_cells : (r : Repr) (d : Domain) → Roomy r d → MembersHaveCells r d
   members_have_cells (repr ReprKind.Atom no_reprs) d h = atom-members d h
   members_have_cells (repr ReprKind.Tuple rs) (tuples ds) h = tuple-members rs ds (all-members rs (domain_list ds) h)
@@ -71,6 +69,7 @@ all-finite no_domains f = tt
 all-finite (more_domains d ds) f = (f.0.1, all-finite ds f.1)
 
 mutual
+  -- Where there is room, each kind stands over its domain.
   pub roomy-covered : (r : Repr) (d : Domain) → Roomy r d → Covered r d
   roomy-covered (repr ReprKind.Atom no_reprs) d h = h
   roomy-covered (repr ReprKind.Tuple rs) (tuples ds) h = all-covered rs (domain_list ds) h

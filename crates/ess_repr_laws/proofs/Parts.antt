@@ -22,6 +22,7 @@ pub record PartitionMember (ks : List Attribute) (d : Domain) (ps : List Value) 
   pub whole : covers (members d) ps ≡ true
   pub attributes : partition_attributes_hold ks ps ≡ true
 
+-- A member of a domain of partitions is a partition of such parts.
 pub partition-member : (ks : List Attribute) (d : Domain) (v : Value) → member (partitions ks d) v ≡ true → (ps : List Value) × (v ≡ node a_partition (of_list ps)) × PartitionMember ks d ps
 partition-member ks d (node a_partition vs) h =
     let a : Bool = rises itself (to_list vs) in
@@ -58,6 +59,7 @@ pub record Part (f : Value → Bool) (p : Value) : Type 0 where
   pub full : not (is_empty (to_list xs)) ≡ true
   pub inside : list_all f (to_list xs) ≡ true
 
+-- A part is a set that isn't empty.
 pub part-of : (f : Value → Bool) (p : Value) → is_part f p ≡ true → Part f p
 part-of f (node a_set xs) h =
     let a : Bool = rises itself (to_list xs) in
@@ -81,6 +83,7 @@ part-of f (node a_relation vs) h = cc
 part-of f (node a_partition vs) h = cc
 part-of f (node (a_record fs) vs) h = cc
 
+-- No part is empty.
 pub none-empty : (f : Value → Bool) (ps : List Value) → list_all (is_part f) ps ≡ true → has_empty_part ps ≡ false
 none-empty f [] h = refl
 none-empty f (p ∷ ps) h =
@@ -91,6 +94,7 @@ all-append : (f : Value → Bool) (xs ys : List Value) → list_all f xs ≡ tru
 all-append f [] ys p q = q
 all-append f (x ∷ xs) ys p q = and-both (f x) (list_all f (xs ++ ys)) (and-left (f x) (list_all f xs) p) (all-append f xs ys (and-right (f x) (list_all f xs) p) q)
 
+-- The members of all parts are members.
 pub all-inside : (f : Value → Bool) (ps : List Value) → list_all (is_part f) ps ≡ true → list_all f (all_members ps) ≡ true
 all-inside f [] h = refl
 all-inside f (p ∷ ps) h =

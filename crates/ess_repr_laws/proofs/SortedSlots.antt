@@ -28,18 +28,21 @@ use Rattle.ess_repr_laws.proofs.CellsOfMembers.{GoodSlot, Good, map-long}
 
 -- ---- permutations
 
+-- What holds of each item holds in any order.
 pub all-perm : {A : Type 0} {xs ys : List A} (P : A → Type 0) → Perm xs ys → AllOf xs P → AllOf ys P
 all-perm P same_list h = h
 all-perm P (skip p) h = (h.0, all-perm P p h.1)
 all-perm P swap h = (h.1.0, (h.0, h.1.1))
 all-perm P (chain p q) h = all-perm P q (all-perm P p h)
 
+-- Images in another order.
 pub perm-map : {A B : Type 0} {xs ys : List A} (f : A → B) → Perm xs ys → Perm (map f xs) (map f ys)
 perm-map f same_list = same_list
 perm-map f (skip p) = skip (perm-map f p)
 perm-map f swap = swap
 perm-map f (chain p q) = chain (perm-map f p) (perm-map f q)
 
+-- A list in another order is as long.
 pub perm-length : {A : Type 0} {xs ys : List A} → Perm xs ys → length xs ≡ length ys
 perm-length same_list = refl
 perm-length (skip p) = ap suc (perm-length p)
@@ -53,6 +56,7 @@ turned x y e = go (same y x) refl
     go false q = q
     go true q = let z : true ≡ false = sym (same-itself x) ∙ ap (same x) (sym (same-equal y x q)) ∙ e in cc
 
+-- Values that differ do so in any order.
 pub perm-distinct : {xs ys : List Value} → Perm xs ys → Distinct xs → Distinct ys
 perm-distinct same_list h = h
 perm-distinct (skip {x = x} p) h = (sym (holds-perm p x) ∙ h.0, perm-distinct p h.1)
@@ -77,10 +81,12 @@ module _ (ass : List Axes) where
       go Equal p = same_list
       go Greater p = chain swap (skip p)
 
+  -- Sorted slots are the slots in another order.
   pub by-perm : (ss : List Slot) → Perm ss (by_cells ass ss)
   by-perm [] = same_list
   by-perm (s ∷ ss) = chain (skip (by-perm ss)) (insert-perm s (by_cells ass ss))
 
+  -- Each slot's cells are not above those of the slot behind it.
   abbrev pub Climbs : List Slot → Type 0
   Climbs [] = Unit {0}
   Climbs (s ∷ []) = Unit {0}
@@ -112,6 +118,7 @@ module _ (ass : List Axes) where
       go Equal e c = (ap is_le e, h)
       go Greater e c = second Greater (order_rows (R s) (R u)) e c
 
+  -- Sorted slots climb.
   pub by-climbs : (ss : List Slot) → Climbs (by_cells ass ss)
   by-climbs [] = tt
   by-climbs (s ∷ ss) = insert-climbs s (by_cells ass ss) (by-climbs ss)
@@ -122,6 +129,7 @@ module _ (ass : List Axes) where
   Ordered b (s ∷ []) = Unit {0}
   Ordered b (s ∷ t ∷ ts) = (in_order b (R s) (R t) ≡ true) × Ordered b (t ∷ ts)
 
+  -- Where repeats are allowed, that is their order.
   pub ordered-weakly : (ts : List Slot) → Climbs ts → Ordered false ts
   ordered-weakly [] h = tt
   ordered-weakly (s ∷ []) h = tt
@@ -133,6 +141,7 @@ one-value r e s t g h q =
     let c = exact-rows (axes_of r e) s.1 t.1 g.0 h.0 (rows_exact (rows (axes_of r e) s.1) (rows (axes_of r e) t.1) q) in
     let w : Some s.0 ≡ Some t.0 = sym g.2 ∙ ap (value_of_cells r e) c ∙ h.2 in cc
 
+-- Slots with different values that climb rise strictly.
 pub ordered-sorted_once : (r : Repr) (e : Domain) (ts : List Slot) → AllOf ts (GoodSlot r e) → Distinct (map (λ s. s.0) ts) → Climbs (axes_of r e) ts → Ordered (axes_of r e) true ts
 ordered-sorted_once r e [] g d h = tt
 ordered-sorted_once r e (s ∷ []) g d h = tt
@@ -151,11 +160,13 @@ ordered-sorted_once r e (s ∷ t ∷ ts) g d h = (go (order_rows (rows (axes_of 
 abbrev pub padded : ℕ → List Slot → List (Option Slot)
 padded j ts = map (λ s. Some s) ts ++ replicate j None
 
+-- The slots that are there.
 pub padded-somes : (j : ℕ) (ts : List Slot) → somes (padded j ts) ≡ ts
 padded-somes zero [] = refl
 padded-somes (suc j) [] = padded-somes j []
 padded-somes j (t ∷ ts) = ap (λ l. t ∷ l) (padded-somes j ts)
 
+-- They are so many.
 pub padded-many : (j : ℕ) (ts : List Slot) → how_many (padded j ts) ≡ length ts
 padded-many zero [] = refl
 padded-many (suc j) [] = padded-many j []
@@ -165,12 +176,14 @@ replicate-length : {A : Type 0} (j : ℕ) (x : A) → length (replicate j x) ≡
 replicate-length zero x = refl
 replicate-length (suc j) x = ap suc (replicate-length j x)
 
+-- All places.
 pub padded-length : (j : ℕ) (ts : List Slot) → length (padded j ts) ≡ length ts + j
 padded-length j ts =
     let a = length-append (map (λ s. Some s) ts) (replicate j None) in
     let b : length (map (λ s. Some s) ts) ≡ length ts = map-long (λ s. Some s) ts in
     let c : length (replicate {A = Option Slot} j None) ≡ j = replicate-length j None in omega (arith, a, b, c)
 
+-- Slots that are there are good.
 pub padded-good : (r : Repr) (e : Domain) (j : ℕ) (ts : List Slot) → AllOf ts (GoodSlot r e) → AllOf (padded j ts) (Good r e)
 padded-good r e zero [] h = tt
 padded-good r e (suc j) [] h = (tt, padded-good r e j [] h)
@@ -179,6 +192,7 @@ padded-good r e j (t ∷ ts) h = (h.0, padded-good r e j ts h.1)
 -- ---- slots in use stand first and rise
 
 module _ (u : Use) (own : Cells) where
+  -- The place is in use where there is a slot.
   abbrev pub Used : List ℤ → Option Slot → Type 0
   Used p s = is_used u own p ≡ is_some s
 
@@ -199,6 +213,7 @@ module _ (u : Use) (own : Cells) where
   end-next : (a n : ℕ) → is_used u own (pos (a + suc n) ∷ []) ≡ false → is_used u own (pos (suc a + n) ∷ []) ≡ false
   end-next a n e = let q : suc a + n ≡ a + suc n = omega arith in ap (λ k. is_used u own (pos k ∷ [])) q ∙ e
 
+  -- Slots in use stand first.
   pub used-first : (a n j : ℕ) (ts : List Slot) → Along (map as_place (run_from a n)) (padded j ts) Used → is_used u own (pos (a + n) ∷ []) ≡ false →
       list_all (λ js. not (is_used u own (next_slot js)) || is_used u own js) (map as_place (run_from a n)) ≡ true
   used-first a zero j ts h e = refl
@@ -213,6 +228,7 @@ module _ (u : Use) (own : Cells) where
       (used-first (suc a) n j ts h.1 (end-next a n e))
 
   module _ (ass : List Axes) (distinct : Bool) (inner : Cells) where
+    -- The place holds the cells of the slot.
     abbrev pub Held : List ℤ → Option Slot → Type 0
     Held p s = (is_used u own p ≡ is_some s) × (behind p inner ≡ cells_or (zero_cells ass) s)
 
@@ -230,6 +246,7 @@ module _ (u : Use) (own : Cells) where
         ap (λ b. not b || in_order distinct (rows ass (behind (pos a ∷ []) inner)) (rows ass (behind (next_slot (pos a ∷ [])) inner)))
         (next-used a n ss (held-used (map as_place (run_from (suc a) n)) ss h) e ∙ f)
 
+    -- Slots in use rise.
     pub used-rise : (a n j : ℕ) (ts : List Slot) → Along (map as_place (run_from a n)) (padded j ts) Held → is_used u own (pos (a + n) ∷ []) ≡ false → Ordered ass distinct ts → list_all step (map as_place (run_from a n)) ≡ true
     used-rise a zero j ts h e o = refl
     used-rise a (suc n) zero [] h e o = absurd h

@@ -12,9 +12,10 @@ use Rattle.ess_repr_laws.specs.CanonicalTables.{TablesFit}
 use Rattle.ess_semantics.proofs.Tests.{and-left, and-right, and-both}
 use Rattle.ess_repr_laws.proofs.CanonicalPlaces.{all-of-list, places-index}
 use Rattle.ess_repr_laws.proofs.TablesAndCells.{AxesDiffer, AllAxesDiffer}
-use Rattle.ess_repr_laws.proofs.SideBySide.{Along, along-all, items-along}
+use Rattle.ess_repr_laws.proofs.SideBySide.{Along, along-all}
+use Rattle.ess_repr_laws.proofs.PlacesOfTables.{items-along}
 use Rattle.ess_repr_laws.proofs.ArgumentTables.{index-cell}
-use Rattle.ess_repr_laws.proofs.CellDomains.{cells_fit}
+use Rattle.ess_repr_laws.proofs.FittingCells.{cells_fit}
 
 items-within : (as' : Axes) (p : ℤ → Bool) (xs : List ℤ) → AxesDiffer as' → length xs ≡ volume as' → list_all p xs ≡ true → every_cell as' p (item_in as' xs) ≡ true
 items-within as' p xs d e h =
@@ -28,6 +29,7 @@ items-within as' p xs d e h =
     go [] (y ∷ ys) h a = absurd a
     go (q ∷ ps) [] h a = absurd a
 
+-- Filled tables over the declared axes, with items in the declared domains, have their cells in these.
 pub tables-within : (ds : List Declaration) (ts : Tables) → AllAxesDiffer (map (λ t. t.axes) ds) → over_axes [] (map (λ t. t.axes) ds) ts ≡ true → TablesFit ds ts → cells_fit ds (cells_of ts) ≡ true
 tables-within [] [] a o f = refl
 tables-within [] (t ∷ ts) a o f = absurd f

@@ -54,6 +54,7 @@ count-times xs (z ∷ zs) w d = count-append (replicate (count xs z) z) (each_re
 abbrev pub Among : List Value → List Value → Type 0
 Among xs zs = (w : Value) → holds xs w ≡ true → holds zs w ≡ true
 
+-- Members repeated as often as they occur occur as often.
 pub counts-again : (xs zs : List Value) → Distinct zs → Among xs zs → (w : Value) → count (each_repeated (map (count xs) zs) zs) w ≡ count xs w
 counts-again xs zs d inc w = count-times xs zs w d ∙ go (holds zs w) refl
   where
@@ -77,12 +78,14 @@ sorted-again xs zs w d inc =
     one-sorted-bag (sorted (each_repeated (map (count xs) zs) zs)) xs (sorted-rises (each_repeated (map (count xs) zs) zs)) w
     (λ v. count-sorted (each_repeated (map (count xs) zs) zs) v ∙ counts-again xs zs d inc v)
 
+-- The numbers of times sum up to the length.
 pub total-again : (xs zs : List Value) → rises_weakly xs ≡ true → Distinct zs → Among xs zs → total (map pos (map (count xs) zs)) ≡ length xs
 total-again xs zs w d inc =
     sym (repeated-length (map (count xs) zs) zs (map-long (count xs) zs)) ∙ sym (sorted-length (each_repeated (map (count xs) zs) zs)) ∙ ap length (sorted-again xs zs w d inc)
 
 -- ---- attributes
 
+-- Attributes hold where each gives one that does.
 pub each-imply : (ks : List Attribute) (f f' : Key → ℤ → Bool) → ((k : Key) (n : ℤ) → f k n ≡ true → f' k n ≡ true) → each_number_holds ks f ≡ true → each_number_holds ks f' ≡ true
 each-imply [] f f' i h = refl
 each-imply (numbered k n ∷ ks) f f' i h = and-both (f' k n) (each_number_holds ks f') (i k n (and-left (f k n) (each_number_holds ks f) h)) (each-imply ks f f' i (and-right (f k n) (each_number_holds ks f) h))
@@ -102,9 +105,11 @@ times-of Key.MaxOccur n xs z h = go (count xs z) refl
     go (suc m) e = ap (λ j. same_int (pos (suc m)) (pos 0) || int_le (pos j) n) (sym e) ∙ ap (λ b. same_int (pos (suc m)) (pos 0) || b) (all-holds (λ x. int_le (pos (count xs x)) n) xs z h (count-holds xs z m e)) ∙ or-yes (same_int (pos (suc m)) (pos 0))
 times-of _ n xs z h = refl
 
+-- The size of a multiset is as its attributes say.
 pub set-part : (ks : List Attribute) (xs : List Value) → mset_attributes_hold ks xs ≡ true → set_attributes_hold ks (length xs) ≡ true
 set-part ks xs h = each-imply ks (λ k n. size_holds k n (length xs) && occurs_holds k n xs) (λ k n. size_holds k n (length xs)) (λ k n e. and-left (size_holds k n (length xs)) (occurs_holds k n xs) e) h
 
+-- So is how often members occur.
 pub occurs-part : (ks : List Attribute) (xs : List Value) → mset_attributes_hold ks xs ≡ true → each_number_holds ks (λ k n. occurs_holds k n xs) ≡ true
 occurs-part ks xs h = each-imply ks (λ k n. size_holds k n (length xs) && occurs_holds k n xs) (λ k n. occurs_holds k n xs) (λ k n e. and-right (size_holds k n (length xs)) (occurs_holds k n xs) e) h
 
@@ -129,6 +134,7 @@ count-most (x ∷ xs) w = go (same x w) (count-most xs w)
     go true h = omega arith
     go false h = omega arith
 
+-- No member occurs more often than the bound.
 pub occurs-most : (ks : List Attribute) → OccursBound ks → (xs : List Value) → mset_attributes_hold ks xs ≡ true → (w : Value) → count xs w ≤ occurrences ks
 occurs-most ks b xs h w = go (attribute Key.MaxOccur ks) refl b
   where
@@ -176,6 +182,7 @@ pub record MsetMember (ks : List Attribute) (d : Domain) (xs : List Value) : Typ
   pub inside : list_all (member d) xs ≡ true
   pub attributes : mset_attributes_hold ks xs ≡ true
 
+-- A member of a domain of multisets is a multiset of such members.
 pub mset-member : (ks : List Attribute) (d : Domain) (v : Value) → member (msets ks d) v ≡ true → (xs : List Value) × (v ≡ node a_mset (of_list xs)) × MsetMember ks d xs
 mset-member ks d (node a_mset vs) h = (
   to_list vs,
@@ -197,9 +204,11 @@ mset-member ks d (node a_relation vs) h = cc
 mset-member ks d (node a_partition vs) h = cc
 mset-member ks d (node (a_record fs) vs) h = cc
 
+-- A list is among its sorted items.
 pub among-sorted_once : (xs : List Value) → Among xs (sorted_once xs)
 among-sorted_once xs w h = holds-sorted_once xs w ∙ h
 
+-- The slots of a multiset are enough for its members.
 pub mset-room : (ks : List Attribute) (d : Domain) → MsetRoom ks d → (xs : List Value) → MsetMember ks d xs → length xs ≤ slots_of_mset ks d
 mset-room ks d room xs m = go (greatest_size ks) refl room.1
   where

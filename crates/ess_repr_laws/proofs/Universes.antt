@@ -18,24 +18,29 @@ use Rattle.ess_repr_laws.proofs.Times.{sorted_once-most}
 
 -- ---- items of lists
 
+-- The item is in the list.
 abbrev pub In : {A : Type 0} → A → List A → Type 0
 In x [] = ⊥
 In x (y ∷ ys) = (y ≡ x) ⊎ In x ys
 
+-- An image is among the images.
 pub in-map : {A B : Type 0} (f : A → B) (x : A) (xs : List A) → In x xs → In (f x) (map f xs)
 in-map f x [] h = absurd h
 in-map f x (y ∷ ys) (inl e) = inl (ap f e)
 in-map f x (y ∷ ys) (inr h) = inr (in-map f x ys h)
 
+-- In the first of two lists.
 pub in-left : {A : Type 0} (x : A) (xs ys : List A) → In x xs → In x (xs ++ ys)
 in-left x [] ys h = absurd h
 in-left x (z ∷ zs) ys (inl e) = inl e
 in-left x (z ∷ zs) ys (inr h) = inr (in-left x zs ys h)
 
+-- In the second.
 pub in-right : {A : Type 0} (x : A) (xs ys : List A) → In x ys → In x (xs ++ ys)
 in-right x [] ys h = h
 in-right x (z ∷ zs) ys h = inr (in-right x zs ys h)
 
+-- A value that a list holds is in it.
 pub in-holds : (xs : List Value) (v : Value) → holds xs v ≡ true → In v xs
 in-holds [] v h = cc
 in-holds (x ∷ xs) v h = go (same x v) refl h (in-holds xs v)
@@ -44,6 +49,7 @@ in-holds (x ∷ xs) v h = go (same x v) refl h (in-holds xs v)
     go true e h ih = inl (same-equal x v e)
     go false e h ih = inr (ih h)
 
+-- And the other way round.
 pub holds-in : (xs : List Value) (v : Value) → In v xs → holds xs v ≡ true
 holds-in [] v h = absurd h
 holds-in (x ∷ xs) v (inl e) = ap (λ b. b || holds xs v) (ap (λ w. same w v) e ∙ same-itself v)
@@ -57,6 +63,7 @@ AllIn [] [] = Unit {0}
 AllIn (x ∷ xs) (cs ∷ css) = In x cs × AllIn xs css
 AllIn _ _ = ⊥
 
+-- A list with one item from each is among all such lists.
 pub lists-in : {A : Type 0} (xs : List A) (css : List (List A)) → AllIn xs css → In xs (lists_of css)
 lists-in [] [] h = inl refl
 lists-in [] (cs ∷ css) h = absurd h
@@ -68,6 +75,7 @@ lists-in {A = A} (x ∷ xs) (cs ∷ css) h = go cs h.0 (lists-in xs css h.1)
     go (c ∷ cs) (inl e) i = in-left (x ∷ xs) (map (λ l. c ∷ l) (lists_of css)) (add_heads cs (lists_of css)) (subst (λ y. In (y ∷ xs) (map (λ l. c ∷ l) (lists_of css))) e (in-map (λ l. c ∷ l) xs (lists_of css) i))
     go (c ∷ cs) (inr h) i = in-right (x ∷ xs) (map (λ l. c ∷ l) (lists_of css)) (add_heads cs (lists_of css)) (go cs h i)
 
+-- How many lists begin with one of the items.
 pub heads-length : {A : Type 0} (cs : List A) (ls : List (List A)) → length (add_heads cs ls) ≡ length cs * length ls
 heads-length [] ls = sym (zero-mul (length ls))
 heads-length (c ∷ cs) ls =
@@ -76,10 +84,12 @@ heads-length (c ∷ cs) ls =
     let d = heads-length cs ls in
     let e = suc-mul (length cs) (length ls) in omega (arith, a, b, d, e)
 
+-- How many lists of n items there are.
 pub lists-length : {A : Type 0} (n : ℕ) (cs : List A) → length (lists_of (replicate n cs)) ≡ length cs ^ n
 lists-length zero cs = sym (pow-zero (length cs))
 lists-length (suc n) cs = heads-length cs (lists_of (replicate n cs)) ∙ ap (λ k. length cs * k) (lists-length n cs) ∙ mul_comm (length cs) (length cs ^ n) ∙ sym (pow-suc (length cs) n)
 
+-- Each item is one of these.
 pub all-in : {A : Type 0} (cs : List A) (xs : List A) → AllOf xs (λ x. In x cs) → AllIn xs (replicate (length xs) cs)
 all-in cs [] h = tt
 all-in cs (x ∷ xs) h = (h.0, all-in cs xs h.1)
@@ -136,5 +146,6 @@ pub record Universe (f : Value → Bool) (n : ℕ) : Type 0 where
 pub sorted : (f : Value → Bool) (n : ℕ) → Universe f n → (us : List Value) × (length us ≤ n) × ((v : Value) → f v ≡ true → holds us v ≡ true) × (rises itself us ≡ true)
 sorted f n u = (sorted_once u.us, (let a = sorted_once-most u.us in let b = u.short in omega (arith, a, b)), λ v h. holds-sorted_once u.us v ∙ u.all v h, sorted_once-rises u.us)
 
+-- A list that has each member bounds their number.
 pub universe-bounds : (d : Domain) → Universe (member d) (bound d) → Bounded d
 universe-bounds d u xs r i = le_trans (no-longer xs u.us (sorted-distinct xs (sorted-of xs r)) (λ w h. u.all w (all-holds (member d) xs w i h))) u.short

@@ -14,7 +14,8 @@ use Rattle.ess_repr_laws.proofs.SlotsUsed.{as_place}
 use Rattle.ess_repr_laws.proofs.CanonicalPlaces.{AllOf, all-of-list, places-index}
 use Rattle.ess_repr_laws.proofs.TablesAndCells.{AxesDiffer, row-of-items}
 use Rattle.ess_repr_laws.proofs.ExactCells.{Exact, exact-items}
-use Rattle.ess_repr_laws.proofs.SideBySide.{Along, along-map, along-all, right-under, items-along}
+use Rattle.ess_repr_laws.proofs.SideBySide.{Along, along-map, along-all, right-under}
+use Rattle.ess_repr_laws.proofs.PlacesOfTables.{items-along}
 use Rattle.ess_repr_laws.proofs.CellsOfMembers.{picked, map-long}
 use Rattle.ess_repr_laws.proofs.SortedSlots.{padded}
 use Rattle.ess_repr_laws.proofs.ArgumentTables.{places-volume, index-cell}
@@ -36,6 +37,7 @@ picked-none [] j = refl
 picked-none (p ∷ js) zero = refl
 picked-none (p ∷ js) (suc j) = picked-none js j
 
+-- The first places are those of the slots that stand first.
 pub take-picked : {A : Type 0} (js : List A) (j : ℕ) (ts : List Slot) → length js ≡ length ts + j → take (length ts) js ≡ picked js (padded j ts)
 take-picked js j [] e = sym (picked-none js j)
 take-picked [] j (t ∷ ts) e = absurd (omega arith)
@@ -43,6 +45,7 @@ take-picked (p ∷ js) j (t ∷ ts) e = ap (λ l. p ∷ l) (take-picked js j ts 
 
 -- ---- with a true flag
 
+-- The places whose flag is true are those of the slots that are there.
 pub chosen-picked : {A : Type 0} (F : A → Option ℤ) (ps : List A) (ss : List (Option Slot)) → Along ps ss (λ p s. F p ≡ Some (truth_number (is_some s))) → chosen ps F ≡ Some (picked ps ss)
 chosen-picked F [] [] h = refl
 chosen-picked F (p ∷ ps) (None ∷ ss) h = ap (λ o. and_then (and_then o truth_of) (λ b. option_map (λ ys. if b then p ∷ ys else ys) (chosen ps F))) h.0 ∙ ap (option_map (λ ys. ys)) (chosen-picked F ps ss h.1)
@@ -50,6 +53,7 @@ chosen-picked F (p ∷ ps) (Some s ∷ ss) h = ap (λ o. and_then (and_then o tr
 chosen-picked F [] (s ∷ ss) h = absurd h
 chosen-picked F (p ∷ ps) [] h = absurd h
 
+-- A flag is true where there is a slot.
 pub flag-used : (o : Option ℤ) (b : Bool) → o ≡ Some (truth_number b) → is_some_and o (same_int (pos 1)) ≡ b
 flag-used o true e = ap (λ o. is_some_and o (same_int (pos 1))) e
 flag-used o false e = ap (λ o. is_some_and o (same_int (pos 1))) e
@@ -62,21 +66,26 @@ flags-count (Some s ∷ ss) = ap suc (flags-count ss)
 -- ---- a table with an item for each place
 
 module _ (as' : Axes) (differ : AxesDiffer as') (F : Option Slot → ℤ) (ss : List (Option Slot)) (count : length (lists_of as') ≡ length ss) where
+  -- A table with a number for each slot.
   abbrev pub slot_table : Table
   slot_table = record { axes = as'; items = map F ss }
 
   filled : length (map F ss) ≡ volume as'
   filled = map-long F ss ∙ sym count ∙ places-volume as'
 
+  -- It has exactly the cells of its axes.
   pub table-exact : Exact as' (cell_at slot_table)
   table-exact = exact-items as' (map F ss) filled
 
+  -- Its cells are the numbers of the slots.
   pub table-cells : Along (lists_of as') ss (λ p s. cell_at slot_table p ≡ Some (F s))
   table-cells = right-under F (lists_of as') ss (λ p x. cell_at slot_table p ≡ Some x) (items-along as' differ (map F ss) filled)
 
+  -- Its items are these numbers.
   pub table-row : row as' (cell_at slot_table) ≡ map F ss
   table-row = row-of-items as' differ (map F ss) filled
 
+  -- Its cells have a property that these numbers have.
   pub table-fit : (p : ℤ → Bool) → AllOf ss (λ s. p (F s) ≡ true) → every_cell as' p (cell_at slot_table) ≡ true
   table-fit p h =
       index-cell as' p (cell_at slot_table)
@@ -100,22 +109,28 @@ module _ (as' : Axes) (differ : AxesDiffer as') (ss : List (Option Slot)) (count
   bits (None ∷ zs) = (refl, bits zs)
   bits (Some s ∷ zs) = (refl, bits zs)
 
+  -- The table of flags has exactly the cells of its axes.
   pub flags-exact : Exact as' (cell_at (flags_table as' ss))
   flags-exact = table-exact as' differ flag ss count
 
+  -- Its cells say whether there is a slot.
   pub flags-cells : Along (lists_of as') ss (λ p s. cell_at (flags_table as' ss) p ≡ Some (truth_number (is_some s)))
   flags-cells = table-cells as' differ flag ss count
 
+  -- They are truth values.
   pub flags-fit : every_cell as' (is_cell booleans) (cell_at (flags_table as' ss)) ≡ true
   flags-fit = table-fit as' differ flag ss count (is_cell booleans) (bits ss)
 
+  -- A place is in use where there is a slot.
   pub flags-used : Along (lists_of as') ss (λ p s. is_some_and (cell_at (flags_table as' ss) p) (same_int (pos 1)) ≡ is_some s)
   flags-used =
       along-map (lists_of as') ss (λ p s. cell_at (flags_table as' ss) p ≡ Some (truth_number (is_some s))) (λ p s. is_some_and (cell_at (flags_table as' ss) p) (same_int (pos 1)) ≡ is_some s)
       (λ p s e. flag-used (cell_at (flags_table as' ss) p) (is_some s) e) flags-cells
 
+  -- The places with a true flag are those of the slots that are there.
   pub flags-found : chosen (lists_of as') (cell_at (flags_table as' ss)) ≡ Some (picked (lists_of as') ss)
   flags-found = chosen-picked (cell_at (flags_table as' ss)) (lists_of as') ss flags-cells
 
+  -- As many flags are true as slots are there.
   pub flags-many : count_true (row as' (cell_at (flags_table as' ss))) ≡ length (somes ss)
   flags-many = ap count_true (table-row as' differ flag ss count) ∙ flags-count ss

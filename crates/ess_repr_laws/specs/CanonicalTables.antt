@@ -1,6 +1,7 @@
 -- The canonical tables of a member, and what is said of canonical cells.
-use Rattle.std.specs.Prelude.{◌≡◌, true, List, [], ◌∷◌, Some}
+use Rattle.std.specs.Prelude.{◌≡◌, true, List, [], ◌∷◌, Some, Bool, false}
 use Rattle.std.specs.List.{list_all}
+use Rattle.ess_semantics.specs.declared.words.ReprKind.{ReprKind}
 use Rattle.ess_semantics.specs.Values.{Value}
 use Rattle.ess_semantics.specs.Trees.{Repr}
 use Rattle.ess_semantics.specs.Domains.{Domain}
@@ -36,3 +37,9 @@ pub record OneForm (r : Repr) (d : Domain) (v : Value) : Type 0 where
   pub stands : value_of_tables r d tables [] ≡ Some v
   pub only : (ts : Tables) → over_axes [] (axes_of r d) ts ≡ true → canonical r d (cells_of ts) ≡ true →
       value_of_tables r d ts [] ≡ Some v → ts ≡ tables
+
+-- Whether a kind is one of components, each with a child of its own.
+abbrev pub is_compound : ReprKind → Bool
+is_compound ReprKind.Tuple = true
+is_compound ReprKind.Rec = true
+is_compound k = false

@@ -4,3 +4,8 @@ pub mod Rooms
 pub mod WellFormed
 -- Canonical tables
 pub mod CanonicalTables
+pub mod TypedDomains
+-- The constraint that cells are canonical
+pub mod Structure
+-- What is proved
+pub mod Laws

@@ -83,7 +83,8 @@ abbrev mutual
   Roomy (repr ReprKind.MSetExplicitWithFlags (more_reprs r no_reprs)) (msets ks d) = Roomy r d × MsetRoom ks d
   Roomy (repr ReprKind.Function1D (more_reprs r no_reprs)) (functions ks d c) = FiniteAtom d × IsFlagged Key.Total ks × Roomy r c
   Roomy (repr ReprKind.Function1DPartial (more_reprs r no_reprs)) (functions ks d c) = FiniteAtom d × Roomy r c
-  Roomy (repr ReprKind.FunctionND (more_reprs r no_reprs)) (functions ks (tuples ds) c) = FiniteAtoms ds × IsFlagged Key.Total ks × Roomy r c
+  Roomy (repr ReprKind.FunctionND (more_reprs r no_reprs)) (functions ks (tuples ds) c) =
+      FiniteAtoms ds × IsFlagged Key.Total ks × Roomy r c
   Roomy (repr ReprKind.FunctionNDPartial (more_reprs r no_reprs)) (functions ks (tuples ds) c) = FiniteAtoms ds × Roomy r c
   Roomy (repr ReprKind.FunctionAsRelation (more_reprs r no_reprs)) (functions ks d c) = FunctionRoom ks d × Roomy r (child_relation ks d c)
   Roomy (repr ReprKind.RelationAsMatrix no_reprs) (relations ks ds) = FiniteAtoms ds

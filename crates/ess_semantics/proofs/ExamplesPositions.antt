@@ -1,5 +1,5 @@
 -- Worked examples of plans over named types: the domain with positions, the tables that are declared, and what they stand for.
-use Rattle.std.specs.Prelude.{◌≡◌, refl, ℕ, true, false, List, [], ◌∷◌, map, pos, Some, codes}
+use Rattle.std.specs.Prelude.{◌≡◌, refl, ℕ, true, false, List, [], ◌∷◌, map, pos, Some, None, codes}
 use Rattle.ess_semantics.specs.declared.words.ReprKind.{ReprKind}
 use Rattle.ess_semantics.specs.Names.{Names}
 use Rattle.ess_semantics.specs.Values.{Text, Value, number, item}
@@ -28,6 +28,10 @@ set_of_letters = let_enum E (codes "a" ∷ codes "b" ∷ codes "c" ∷ []) ∷ f
 -- kept as an occurrence table, and as a marker with slots
 abbrev both : Options
 both = (s, alone ReprKind.Occurrence ∷ over_child ReprKind.ExplicitVarSizeWithMarker (alone ReprKind.Atom) ∷ []) ∷ []
+
+-- as a marker with slots alone
+abbrev slots : Options
+slots = (s, over_child ReprKind.ExplicitVarSizeWithMarker (alone ReprKind.Atom) ∷ []) ∷ []
 
 abbrev letters : List ℕ → Value
 letters ks = set_of (map (item E) ks)
@@ -75,6 +79,10 @@ no_others = refl
 
 types_come_back : values_stood_for set_of_letters both nothing_given a_and_c ≡ (s, Some (letters (1 ∷ 3 ∷ []))) ∷ []
 types_come_back = refl
+
+-- a position outside the type has no value
+no_value : values_stood_for set_of_letters slots nothing_given (cell (codes "s_ExplicitVarSizeWithMarker_Marker") 1 ∷ line (codes "s_ExplicitVarSizeWithMarker_Values") (4 ∷ 0 ∷ 0 ∷ []) ∷ []) ≡ (s, None) ∷ []
+no_value = refl
 
 cells_are_declared : map (λ d. d.cell) (declared_under true set_of_letters both nothing_given) ≡
     booleans ∷ between (pos 0) (pos 3) ∷ widened (between (pos 1) (pos 3)) ∷ []

@@ -15,6 +15,7 @@ pub mod EmptyModel
 pub mod TypeSizes
 pub mod OptionLaws
 pub mod Truths
+pub mod Connectives
 -- Worked examples
 pub mod Shorthands
 pub mod CellWords

@@ -16,7 +16,7 @@ use Rattle.ess_semantics.specs.Canonical.{tables_of_value}
 use Rattle.ess_semantics.specs.Choice.{default_repr, all_reprs}
 use Rattle.ess_semantics.specs.TableNames.{Named, table_names, named_tables, free_name}
 use Rattle.ess_semantics.specs.Meaning.{Env, domain_of, tables_in}
-use Rattle.ess_semantics.specs.Positions.{with_positions, domain_with_positions}
+use Rattle.ess_semantics.specs.Positions.{with_positions, domain_with_positions, with_types}
 use Rattle.ess_semantics.specs.Prepared.{prepared}
 use Rattle.ess_semantics.specs.Assignments.{Assignment, nothing_given, value_of, env_of}
 use Rattle.ess_semantics.specs.Parameters.{all_declared, value_givens, given_enums}
@@ -198,11 +198,15 @@ abbrev pub is_plan_of : Text → Plan → Bool
 is_plan_of x (size_plan t a) = false
 is_plan_of x (value_plan f y r d ns) = f && same_text y x
 
--- The value that the tables of one plan stand for, with the types of the domain.
+-- The value that tables stand for at the domain with positions, with the domain's types put back.
+abbrev pub value_with_types : Repr → Domain → Tables → Option Value
+value_with_types r e ts = and_then (value_of_tables r (domain_with_positions e) ts []) (with_types e)
+
+-- The value that the tables of one plan stand for.
 abbrev pub value_by_plan : Env → Names Table → Plan → Option Value
 value_by_plan env c (size_plan t a) = None
 value_by_plan env c (value_plan f x r d ns) =
-    and_then (domain_of d env) (λ e. and_then (tables_in c (keys ns)) (λ ts. value_of_tables r e ts []))
+    and_then (domain_of d env) (λ e. and_then (tables_in c (keys ns)) (λ ts. value_with_types r e ts))
 
 -- The value for which the tables stand by all of these plans.
 abbrev pub common_value : Env → Names Table → List Plan → Option Value
