@@ -14,3 +14,4 @@ pub mod Literals
 pub mod SoundParts
 pub mod Soundness
 pub mod MembersTyped
+pub mod Examples

@@ -1,8 +1,8 @@
 -- The members of a closed domain, listed or not, have the type of the domain.
-use Rattle.std.proofs.Common.{◌≡◌, refl, sym, ap, ◌∙◌, subst, Bool, true, false, ◌&&◌, not, List, [], ◌∷◌, map, length, nat_eq, Option, Some, None, option_map}
+use Rattle.std.proofs.Common.{◌≡◌, refl, sym, ap, ◌∙◌, subst, Bool, true, false, ◌&&◌, not, List, length, nat_eq, Option, Some, option_map}
 use Rattle.std.specs.List.{list_all}
 use Rattle.ess_semantics.specs.Lists.{and_then, is_empty, is_some_and}
-use Rattle.ess_semantics.specs.Values.{Text, a_tuple, a_matrix, a_set, a_mset, a_function, a_relation, a_partition, a_record, Value, number, truth, item, node, Values, nil, cons, to_list, of_list, tuple, matrix, from_of, to_of, items_of, itself}
+use Rattle.ess_semantics.specs.Values.{Text, a_tuple, a_set, a_mset, a_function, a_relation, a_partition, a_record, Value, node, Values, nil, cons, to_list, of_list, tuple, matrix, from_of, to_of, items_of, itself}
 use Rattle.ess_semantics.specs.Order.{orders, same_texts}
 use Rattle.ess_semantics.specs.Collections.{rises, rises_weakly, has_overlap}
 use Rattle.ess_semantics.specs.Trees.{Dom, Doms, bool_dom, int_dom, name_dom, tuple_dom, record_dom, matrix_dom, set_dom, mset_dom, function_dom, relation_dom, partition_dom, no_doms, more_doms}
@@ -17,7 +17,7 @@ use Rattle.ess_semantics.proofs.Tests.{and-left, and-right, and-both, some-and}
 use Rattle.ess_semantics.proofs.Orders.{orders_exact, equal-of, to_list-of_list}
 use Rattle.ess_types_laws.specs.ProperDomains.{each_is_atom, is_proper, are_proper}
 use Rattle.ess_types_laws.proofs.Joins.{all-map, two-map}
-use Rattle.ess_types_laws.proofs.Members.{Fits, bool-fits, int-fits, named-fits, members-fit}
+use Rattle.ess_types_laws.proofs.Members.{bool-fits, int-fits, named-fits, members-fit}
 use Rattle.ess_types_laws.proofs.SoundParts.{some-then, some-map, atom-domain, members-rise}
 
 module _ (env : Env) where
