@@ -29,7 +29,9 @@ value_of_type : is_of_type (compound1 a_set int_ty) empty_env (set_of (v 1 ∷ v
 value_of_type = refl
 
 -- over the members of an empty literal nothing is bound, so their type needs no value: `[x union {1} | x <- {}]`
-over_empty : meaning (comp_ex (bi Op2.Union (N x) (plain_node set_literal (es1 (n 1)))) (from (name_pat x) (plain_node set_literal no_exs) no_gens)) empty_env ≡
+over_empty : meaning
+    (comp_ex (bi Op2.Union (N x) (plain_node set_literal (es1 (n 1)))) (from (name_pat x) (plain_node set_literal no_exs) no_gens))
+    empty_env ≡
     meaning (comp_ex (n 1) (from (name_pat x) (plain_node set_literal no_exs) no_gens)) empty_env
 over_empty = refl
 

@@ -51,12 +51,14 @@ module _ (p : Bool) (es : List TypeEntry) where
   zip-fits (f ∷ fs) [] (v ∷ vs) o = absurd o
   zip-fits (f ∷ fs) (t ∷ ts) [] o = absurd o
 
-  insert-fits : (t : Text × Ty) (v : Text × Value) (ts : Names Ty) (vs : Names Value) → t.0 ≡ v.0 → Of p es t.1 v.1 → FieldsFit ts vs → FieldsFit (insert_name t ts) (insert_name v vs)
+  insert-fits : (t : Text × Ty) (v : Text × Value) (ts : Names Ty) (vs : Names Value) → t.0 ≡ v.0 → Of p es t.1 v.1 → FieldsFit ts vs →
+      FieldsFit (insert_name t ts) (insert_name v vs)
   insert-fits t v [] [] e o f = (e, o, tt)
   insert-fits t v (u ∷ ts) (w ∷ vs) e o f =
       go (order_text t.0 u.0) (order_text v.0 w.0) (ap (λ x. order_text x u.0) e ∙ ap (order_text v.0) f.0) (insert-fits t v ts vs e o f.2)
     where
-      go : (a b : Ordering) → a ≡ b → FieldsFit (insert_name t ts) (insert_name v vs) → FieldsFit (insert_by a t u ts (insert_name t ts)) (insert_by b v w vs (insert_name v vs))
+      go : (a b : Ordering) → a ≡ b → FieldsFit (insert_name t ts) (insert_name v vs) →
+          FieldsFit (insert_by a t u ts (insert_name t ts)) (insert_by b v w vs (insert_name v vs))
       go Greater Greater q r = (f.0, f.1, r)
       go Less Less q r = (e, o, f)
       go Equal Equal q r = (e, o, f)
@@ -83,7 +85,8 @@ module _ (p : Bool) (es : List TypeEntry) where
 
   fields-row : (ts : Names Ty) (vs : Names Value) → FieldsFit ts vs → are_of p es (tys_of (map (λ f. f.1) ts)) (map (λ f. f.1) vs) ≡ true
   fields-row [] [] f = refl
-  fields-row (t ∷ ts) (v ∷ vs) f = and-both (is_of p es t.1 v.1) (are_of p es (tys_of (map (λ f. f.1) ts)) (map (λ f. f.1) vs)) f.1 (fields-row ts vs f.2)
+  fields-row (t ∷ ts) (v ∷ vs) f = and-both (is_of p es t.1 v.1) (are_of p es (tys_of (map (λ f. f.1) ts)) (map (λ f. f.1) vs)) f.1
+      (fields-row ts vs f.2)
   fields-row [] (v ∷ vs) f = absurd f
   fields-row (t ∷ ts) [] f = absurd f
 
@@ -111,7 +114,8 @@ module _ (p : Bool) (es : List TypeEntry) where
 
   pair-of : (a b : Ty) (x : Value) → Of p es (compound2 a_tuple a b) x → is_pair_of p es a b x ≡ true
   pair-of a b (tuple (cons u (cons w nil))) o =
-      and-both (is_of p es a u) (is_of p es b w) (and-left (is_of p es a u) (is_of p es b w && true) o) (and-left (is_of p es b w) true (and-right (is_of p es a u) (is_of p es b w && true) o))
+      and-both (is_of p es a u) (is_of p es b w) (and-left (is_of p es a u) (is_of p es b w && true) o)
+      (and-left (is_of p es b w) true (and-right (is_of p es a u) (is_of p es b w && true) o))
   pair-of a b (tuple (cons u (cons w (cons z zs)))) o = absurd (no (is_of p es a u) (is_of p es b w) o)
     where
       no : (x y : Bool) → x && (y && false) ≡ true → ⊥
@@ -126,7 +130,8 @@ module _ (p : Bool) (es : List TypeEntry) where
   pair-of a b _ o = cc
 
   is-pair : (a b : Ty) (x : Value) → is_pair_of p es a b x ≡ true → is_pair x ≡ true
-  is-pair a b x h = and-left (is_pair x) (is_of p es a (from_of x)) (and-left (is_pair x && is_of p es a (from_of x)) (is_of p es b (to_of x)) h)
+  is-pair a b x h = and-left (is_pair x) (is_of p es a (from_of x))
+      (and-left (is_pair x && is_of p es a (from_of x)) (is_of p es b (to_of x)) h)
 
   when-some : (b : Bool) (x v : Value) → when b x ≡ Some v → (b ≡ true) × (x ≡ v)
   when-some true x v e = (refl, cc)
@@ -136,7 +141,8 @@ module _ (p : Bool) (es : List TypeEntry) where
   not-not true e = refl
   not-not false e = cc
 
-  function-made : (j t : Ty) (xs : List Value) (v : Value) → function_ty j ≡ Some t → list_all (is_of p es j) xs ≡ true → function_of xs ≡ Some v → Of p es t v
+  function-made : (j t : Ty) (xs : List Value) (v : Value) → function_ty j ≡ Some t → list_all (is_of p es j) xs ≡ true →
+      function_of xs ≡ Some v → Of p es t v
   function-made (compound a_tuple (more_tys a (more_tys b no_tys))) t xs v e o h =
       let z : compound2 a_function a b ≡ t = cc in
       let w = when-some (not (has_double_argument xs)) (node a_function (of_list (sorted_once xs))) v h in
@@ -144,7 +150,8 @@ module _ (p : Bool) (es : List TypeEntry) where
       all-sorted_once (is_pair_of p es a b) xs ∙ all-map (is_of p es (compound2 a_tuple a b)) (is_pair_of p es a b) xs (pair-of a b) o in
       subst (λ y. Of p es y v) z (subst (λ y. Of p es (compound2 a_function a b) y) w.1
       (function-fits p es a b (sorted_once xs)
-      (firsts-rise (sorted_once xs) (all-map (is_pair_of p es a b) is_pair (sorted_once xs) (is-pair a b) q) (sorted_once-rises xs) (not-not (no_twice from_of (sorted_once xs)) w.0)) q))
+      (firsts-rise (sorted_once xs) (all-map (is_pair_of p es a b) is_pair (sorted_once xs) (is-pair a b) q) (sorted_once-rises xs)
+      (not-not (no_twice from_of (sorted_once xs)) w.0)) q))
   function-made any_ty t xs v e o h =
       let z : compound2 a_function any_ty any_ty ≡ t = cc in
       let w : function_of [] ≡ Some v = ap function_of (sym (no-values xs o)) ∙ h in
@@ -158,13 +165,15 @@ module _ (p : Bool) (es : List TypeEntry) where
   row-tuple u us (tuple (cons v vs)) o = o
   row-tuple u us _ o = cc
 
-  relation-made : (j t : Ty) (xs : List Value) (v : Value) → (j ≡ compound a_tuple no_tys → ⊥) → relation_ty j ≡ Some t → list_all (is_of p es j) xs ≡ true → Some (relation_of xs) ≡ Some v → Of p es t v
+  relation-made : (j t : Ty) (xs : List Value) (v : Value) → (j ≡ compound a_tuple no_tys → ⊥) → relation_ty j ≡ Some t →
+      list_all (is_of p es j) xs ≡ true → Some (relation_of xs) ≡ Some v → Of p es t v
   relation-made (compound a_tuple no_tys) t xs v n e o h = absurd (n refl)
   relation-made (compound a_tuple (more_tys u us)) t xs v n e o h =
       let z : compound a_relation (more_tys u us) ≡ t = cc in
       made p es (compound a_relation (more_tys u us)) t (relation_of xs) v z h
       (relation-fits p es (more_tys u us) (sorted_once xs) (sorted_once-rises xs)
-      (all-sorted_once (is_tuple_of p es (more_tys u us)) xs ∙ all-map (is_of p es (compound a_tuple (more_tys u us))) (is_tuple_of p es (more_tys u us)) xs (row-tuple u us) o))
+      (all-sorted_once (is_tuple_of p es (more_tys u us)) xs
+      ∙ all-map (is_of p es (compound a_tuple (more_tys u us))) (is_tuple_of p es (more_tys u us)) xs (row-tuple u us) o))
   relation-made any_ty t xs v n e o h =
       let z : compound a_relation no_tys ≡ t = cc in
       let w : Some (relation_of []) ≡ Some v = ap (λ l. Some (relation_of l)) (sym (no-values xs o)) ∙ h in
@@ -177,18 +186,23 @@ module _ (p : Bool) (es : List TypeEntry) where
   part-of : (a : Ty) (x : Value) → Of p es (compound1 a_set a) x → is_empty (items_of x) ≡ false → is_part (is_of p es a) x ≡ true
   part-of a (node a_set xs) o n =
       and-both (rises itself (to_list xs) && not (is_empty (to_list xs))) (list_all (is_of p es a) (to_list xs))
-      (and-both (rises itself (to_list xs)) (not (is_empty (to_list xs))) (and-left (rises itself (to_list xs)) (list_all (is_of p es a) (to_list xs)) o) (ap not n))
+      (and-both (rises itself (to_list xs)) (not (is_empty (to_list xs)))
+      (and-left (rises itself (to_list xs)) (list_all (is_of p es a) (to_list xs)) o) (ap not n))
       (and-right (rises itself (to_list xs)) (list_all (is_of p es a) (to_list xs)) o)
   part-of a _ o n = cc
 
-  parts-of : (a : Ty) (xs : List Value) → list_all (is_of p es (compound1 a_set a)) xs ≡ true → has_empty_part xs ≡ false → list_all (is_part (is_of p es a)) xs ≡ true
+  parts-of : (a : Ty) (xs : List Value) → list_all (is_of p es (compound1 a_set a)) xs ≡ true → has_empty_part xs ≡ false →
+      list_all (is_part (is_of p es a)) xs ≡ true
   parts-of a [] o n = refl
   parts-of a (x ∷ xs) o n =
       and-both (is_part (is_of p es a) x) (list_all (is_part (is_of p es a)) xs)
-      (part-of a x (and-left (is_of p es (compound1 a_set a) x) (list_all (is_of p es (compound1 a_set a)) xs) o) (or-left-no (is_empty (items_of x)) (has_empty_part xs) n))
-      (parts-of a xs (and-right (is_of p es (compound1 a_set a) x) (list_all (is_of p es (compound1 a_set a)) xs) o) (or-right-no (is_empty (items_of x)) (has_empty_part xs) n))
+      (part-of a x (and-left (is_of p es (compound1 a_set a) x) (list_all (is_of p es (compound1 a_set a)) xs) o)
+      (or-left-no (is_empty (items_of x)) (has_empty_part xs) n))
+      (parts-of a xs (and-right (is_of p es (compound1 a_set a) x) (list_all (is_of p es (compound1 a_set a)) xs) o)
+      (or-right-no (is_empty (items_of x)) (has_empty_part xs) n))
 
-  partition-made : (j t : Ty) (xs : List Value) (v : Value) → partition_ty j ≡ Some t → list_all (is_of p es j) xs ≡ true → partition_of xs ≡ Some v → Of p es t v
+  partition-made : (j t : Ty) (xs : List Value) (v : Value) → partition_ty j ≡ Some t → list_all (is_of p es j) xs ≡ true →
+      partition_of xs ≡ Some v → Of p es t v
   partition-made (compound a_set (more_tys a no_tys)) t xs v e o h =
       let z : compound1 a_partition a ≡ t = cc in
       let w = when-some (not (has_empty_part xs) && not (has_overlap xs)) (node a_partition (of_list (sorted_once xs))) v h in
@@ -213,16 +227,20 @@ module _ (p : Bool) (es : List TypeEntry) where
   -- A list of values of a type.
   pub list-fits : (a : Ty) (xs : List Value) → list_all (is_of p es a) xs ≡ true → Of p es (compound2 a_matrix int_ty a) (list_value xs)
   list-fits a xs h =
-      matrix-fits p es int_ty a (numbers_from 1 xs) xs (numbers-rise 1 xs) (eq-eqb (length (numbers_from 1 xs)) (length xs) (numbers-length 1 xs)) (numbers-are 1 xs) h
+      matrix-fits p es int_ty a (numbers_from 1 xs) xs (numbers-rise 1 xs)
+      (eq-eqb (length (numbers_from 1 xs)) (length xs) (numbers-length 1 xs)) (numbers-are 1 xs) h
 
   -- ---- applications
 
-  application-fits : (t : Ty) (ts : List Ty) (u : Ty) (x : Value) (vs : List Value) (v : Value) → type_of_application t ts ≡ Some u → Of p es t x → value_of_application x vs ≡ Some v → Of p es u v
+  application-fits : (t : Ty) (ts : List Ty) (u : Ty) (x : Value) (vs : List Value) (v : Value) → type_of_application t ts ≡ Some u →
+      Of p es t x → value_of_application x vs ≡ Some v → Of p es u v
   application-fits (compound a_function (more_tys a (more_tys b no_tys))) (c ∷ []) u (node a_function ps) (y ∷ []) v e o h =
       let z : b ≡ u = fit-result a c b u e in
       subst (λ y. Of p es y v) z
       (value-at-all (is_of p es b) (to_list ps) y v
-      (all-map (is_pair_of p es a b) (λ y. is_of p es b (to_of y)) (to_list ps) (λ x h. and-right (is_pair x && is_of p es a (from_of x)) (is_of p es b (to_of x)) h) (function-items p es a b (node a_function ps) o)) h)
+      (all-map (is_pair_of p es a b) (λ y. is_of p es b (to_of y)) (to_list ps)
+      (λ x h. and-right (is_pair x && is_of p es a (from_of x)) (is_of p es b (to_of x)) h)
+      (function-items p es a b (node a_function ps) o)) h)
   application-fits (compound a_relation rs) ts u (node a_relation ps) vs v e o h =
       let z : bool_ty ≡ u = fit-result (compound a_relation rs) (compound a_relation (tys_of ts)) bool_ty u e in
       go _ z h
@@ -238,13 +256,15 @@ module _ (p : Bool) (es : List TypeEntry) where
 
   -- ---- all operators
 
-  not-empty : (us : List (Option Ty)) (ts : List Ty) (j : Ty) → all_some us ≡ Some ts → join_all ts ≡ Some j → tuples_have_parts relation_literal us ≡ true → j ≡ compound a_tuple no_tys → ⊥
+  not-empty : (us : List (Option Ty)) (ts : List Ty) (j : Ty) → all_some us ≡ Some ts → join_all ts ≡ Some j →
+      tuples_have_parts relation_literal us ≡ true → j ≡ compound a_tuple no_tys → ⊥
   not-empty us ts j q r h e =
       let z : and_then (all_some us) join_all ≡ Some (compound a_tuple no_tys) = ap (λ o. and_then o join_all) q ∙ r ∙ ap Some e in
       let y : false ≡ true = sym (ap (λ o. not (is_empty_tuple o)) z) ∙ h in cc
 
   -- What an operator or a literal gives has the type of its result, but for an index and for what gives truth values.
-  pub op-fits : (op : Op) (us : List (Option Ty)) (ts : List Ty) (vs : List Value) (t : Ty) (v : Value) → all_some us ≡ Some ts → OfEach p es ts vs → tuples_have_parts op us ≡ true →
+  pub op-fits : (op : Op) (us : List (Option Ty)) (ts : List Ty) (vs : List Value) (t : Ty) (v : Value) → all_some us ≡ Some ts →
+      OfEach p es ts vs → tuples_have_parts op us ≡ true →
       is_truth_op op ≡ false → type_of_op op ts ≡ Some t → value_of_op op vs ≡ Some v → Of p es t v
   op-fits (unary f) us (a ∷ []) (x ∷ []) t v q o r n e h = unary-fits p es f a t x v n e h
   op-fits (binary f) us (a ∷ b ∷ []) (x ∷ y ∷ []) t v q o r n e h = binary-fits p es f a b t x y v n e o.0 o.1.0 h
@@ -252,18 +272,24 @@ module _ (p : Bool) (es : List TypeEntry) where
   op-fits (word f) us (a ∷ b ∷ []) (x ∷ y ∷ []) t v q o r n e h = word2-fits p es f a b t x y v n e o.0 o.1.0 h
   op-fits application us (a ∷ ts) (x ∷ vs) t v q o r n e h = application-fits a ts t x vs v e o.0 h
   op-fits tuple_literal us ts vs t v q o r n e h =
-      made p es (compound a_tuple (tys_of ts)) t (tuple (of_list vs)) v (cc) h (ap (are_of p es (tys_of ts)) (to_list-of_list vs) ∙ row-of ts vs o)
+      made p es (compound a_tuple (tys_of ts)) t (tuple (of_list vs)) v (cc) h (ap (are_of p es (tys_of ts)) (to_list-of_list vs)
+      ∙ row-of ts vs o)
   op-fits (record_literal fs) us ts vs t v q o r n e h =
       made p es (record_ty (by_name (zip fs ts))) t (record_value (by_name (zip fs vs))) v (cc) h
       (record-fits (by_name (zip fs ts)) (by_name (zip fs vs)) (sorted-fits (zip fs ts) (zip fs vs) (zip-fits fs ts vs o)))
   op-fits set_literal us ts vs t v q o r n e h =
-      let j = map-type (join_all ts) (compound1 a_set) t e in made p es (compound1 a_set j.0) t (set_of vs) v j.2 h (set-made p es j.0 vs (all-joined p es ts vs j.0 j.1 o))
+      let j = map-type (join_all ts) (compound1 a_set) t e in
+      made p es (compound1 a_set j.0) t (set_of vs) v j.2 h (set-made p es j.0 vs (all-joined p es ts vs j.0 j.1 o))
   op-fits mset_literal us ts vs t v q o r n e h =
-      let j = map-type (join_all ts) (compound1 a_mset) t e in made p es (compound1 a_mset j.0) t (mset_of vs) v j.2 h (mset-made p es j.0 vs (all-joined p es ts vs j.0 j.1 o))
-  op-fits function_literal us ts vs t v q o r n e h = let j = then-type (join_all ts) function_ty t e in function-made j.0 t vs v j.2 (all-joined p es ts vs j.0 j.1 o) h
+      let j = map-type (join_all ts) (compound1 a_mset) t e in
+      made p es (compound1 a_mset j.0) t (mset_of vs) v j.2 h (mset-made p es j.0 vs (all-joined p es ts vs j.0 j.1 o))
+  op-fits function_literal us ts vs t v q o r n e h = let j = then-type (join_all ts) function_ty t e in
+      function-made j.0 t vs v j.2 (all-joined p es ts vs j.0 j.1 o) h
   op-fits relation_literal us ts vs t v q o r n e h =
-      let j = then-type (join_all ts) relation_ty t e in relation-made j.0 t vs v (not-empty us ts j.0 q j.1 r) j.2 (all-joined p es ts vs j.0 j.1 o) h
-  op-fits partition_literal us ts vs t v q o r n e h = let j = then-type (join_all ts) partition_ty t e in partition-made j.0 t vs v j.2 (all-joined p es ts vs j.0 j.1 o) h
+      let j = then-type (join_all ts) relation_ty t e in
+      relation-made j.0 t vs v (not-empty us ts j.0 q j.1 r) j.2 (all-joined p es ts vs j.0 j.1 o) h
+  op-fits partition_literal us ts vs t v q o r n e h = let j = then-type (join_all ts) partition_ty t e in
+      partition-made j.0 t vs v j.2 (all-joined p es ts vs j.0 j.1 o) h
   op-fits matrix_literal us [] [] t v q o r n e h = made p es (compound2 a_matrix any_ty any_ty) t (list_value []) v (cc) h refl
   op-fits matrix_literal us (a ∷ ts) vs t v q o r n e h =
       let j = map-type (join_all (a ∷ ts)) (compound2 a_matrix int_ty) t e in
