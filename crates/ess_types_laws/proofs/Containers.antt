@@ -63,7 +63,8 @@ pub numbers-rise : (k : ℕ) (xs : List Value) → rises itself (numbers_from k 
 numbers-rise k [] = refl
 numbers-rise k (x ∷ []) = refl
 numbers-rise k (x ∷ y ∷ ys) =
-    and-both (below (number (pos k)) (number (pos (suc k)))) (rises itself (numbers_from (suc k) (y ∷ ys))) (next-number k) (numbers-rise (suc k) (y ∷ ys))
+    and-both (below (number (pos k)) (number (pos (suc k)))) (rises itself (numbers_from (suc k) (y ∷ ys))) (next-number k)
+    (numbers-rise (suc k) (y ∷ ys))
 
 -- There are as many of them as items.
 pub numbers-length : (k : ℕ) (xs : List Value) → length (numbers_from k xs) ≡ length xs
@@ -73,7 +74,8 @@ numbers-length k (x ∷ xs) = ap suc (numbers-length (suc k) xs)
 -- ---- pairs
 
 -- Of two pairs that rise the first parts rise, where they differ.
-first-rise : (x y : Value) → is_pair x ≡ true → is_pair y ≡ true → below x y ≡ true → same (from_of x) (from_of y) ≡ false → below (from_of x) (from_of y) ≡ true
+first-rise : (x y : Value) → is_pair x ≡ true → is_pair y ≡ true → below x y ≡ true → same (from_of x) (from_of y) ≡ false →
+    below (from_of x) (from_of y) ≡ true
 first-rise (node a_tuple (cons a (cons b nil))) (node a_tuple (cons a' (cons b' nil))) i j l n = go (order a a') l n
   where
     go : (o : Ordering) → is_lt (ordering_then o (orders (cons b nil) (cons b' nil))) ≡ true → is_eq o ≡ false → is_lt o ≡ true
@@ -84,23 +86,28 @@ first-rise (node a_tuple (cons a (cons b nil))) _ i j l n = cc
 first-rise _ y i j l n = cc
 
 -- The first parts of rising pairs rise, where no two of them are equal.
-pub firsts-rise : (xs : List Value) → list_all is_pair xs ≡ true → rises itself xs ≡ true → no_twice from_of xs ≡ true → rises from_of xs ≡ true
+pub firsts-rise : (xs : List Value) → list_all is_pair xs ≡ true → rises itself xs ≡ true → no_twice from_of xs ≡ true →
+    rises from_of xs ≡ true
 firsts-rise [] h r n = refl
 firsts-rise (x ∷ []) h r n = refl
 firsts-rise (x ∷ y ∷ ys) h r n =
     let hy = and-right (is_pair x) (list_all is_pair (y ∷ ys)) h in
     and-both (below (from_of x) (from_of y)) (rises from_of (y ∷ ys))
-    (first-rise x y (and-left (is_pair x) (list_all is_pair (y ∷ ys)) h) (and-left (is_pair y) (list_all is_pair ys) hy) (and-left (below x y) (rises itself (y ∷ ys)) r)
+    (first-rise x y (and-left (is_pair x) (list_all is_pair (y ∷ ys)) h) (and-left (is_pair y) (list_all is_pair ys) hy)
+    (and-left (below x y) (rises itself (y ∷ ys)) r)
     (or-left-no (same (from_of x) (from_of y)) (list_any (λ z. same (from_of x) (from_of z)) ys)
     (not-true _ (and-left (not (list_any (λ z. same (from_of x) (from_of z)) (y ∷ ys))) (no_twice from_of (y ∷ ys)) n))))
-    (firsts-rise (y ∷ ys) hy (and-right (below x y) (rises itself (y ∷ ys)) r) (and-right (not (list_any (λ z. same (from_of x) (from_of z)) (y ∷ ys))) (no_twice from_of (y ∷ ys)) n))
+    (firsts-rise (y ∷ ys) hy (and-right (below x y) (rises itself (y ∷ ys)) r)
+    (and-right (not (list_any (λ z. same (from_of x) (from_of z)) (y ∷ ys))) (no_twice from_of (y ∷ ys)) n))
 
 -- ---- one of a list
 
 -- The value of a function is the second part of one of its pairs.
-pub value-at-all : (h : Value → Bool) (xs : List Value) (x v : Value) → list_all (λ y. h (to_of y)) xs ≡ true → value_at xs x ≡ Some v → h v ≡ true
+pub value-at-all : (h : Value → Bool) (xs : List Value) (x v : Value) → list_all (λ y. h (to_of y)) xs ≡ true → value_at xs x ≡ Some v →
+    h v ≡ true
 value-at-all h [] x v a e = cc
-value-at-all h (y ∷ ys) x v a e = go (same (from_of y) x) (λ r. value-at-all h ys x v (and-right (h (to_of y)) (list_all (λ z. h (to_of z)) ys) a) r) e
+value-at-all h (y ∷ ys) x v a e = go (same (from_of y) x)
+    (λ r. value-at-all h ys x v (and-right (h (to_of y)) (list_all (λ z. h (to_of z)) ys) a) r) e
   where
     go : (b : Bool) → (value_at ys x ≡ Some v → h v ≡ true) → (if b then Some (to_of y) else value_at ys x) ≡ Some v → h v ≡ true
     go true ih r = let q : to_of y ≡ v = cc in subst (λ z. h z ≡ true) q (and-left (h (to_of y)) (list_all (λ z. h (to_of z)) ys) a)
@@ -125,7 +132,8 @@ least-all h [] v a e = cc
 least-all h (x ∷ []) v a e = let q : x ≡ v = cc in subst (λ z. h z ≡ true) q (and-left (h x) true a)
 least-all h (x ∷ y ∷ ys) v a e = go (λ m r. least-all h (y ∷ ys) m (and-right (h x) (list_all h (y ∷ ys)) a) r) (least (y ∷ ys)) refl e
   where
-    go : ((m : Value) → least (y ∷ ys) ≡ Some m → h m ≡ true) → (o : Option Value) → least (y ∷ ys) ≡ o → option_map (λ m. if below m x then m else x) o ≡ Some v → h v ≡ true
+    go : ((m : Value) → least (y ∷ ys) ≡ Some m → h m ≡ true) → (o : Option Value) → least (y ∷ ys) ≡ o →
+        option_map (λ m. if below m x then m else x) o ≡ Some v → h v ≡ true
     go ih None q r = cc
     go ih (Some m) q r =
         let z : (if below m x then m else x) ≡ v = cc in
@@ -135,9 +143,11 @@ least-all h (x ∷ y ∷ ys) v a e = go (λ m r. least-all h (y ∷ ys) m (and-r
 pub greatest-all : (h : Value → Bool) (xs : List Value) (v : Value) → list_all h xs ≡ true → greatest xs ≡ Some v → h v ≡ true
 greatest-all h [] v a e = cc
 greatest-all h (x ∷ []) v a e = let q : x ≡ v = cc in subst (λ z. h z ≡ true) q (and-left (h x) true a)
-greatest-all h (x ∷ y ∷ ys) v a e = go (λ m r. greatest-all h (y ∷ ys) m (and-right (h x) (list_all h (y ∷ ys)) a) r) (greatest (y ∷ ys)) refl e
+greatest-all h (x ∷ y ∷ ys) v a e = go (λ m r. greatest-all h (y ∷ ys) m (and-right (h x) (list_all h (y ∷ ys)) a) r) (greatest (y ∷ ys))
+    refl e
   where
-    go : ((m : Value) → greatest (y ∷ ys) ≡ Some m → h m ≡ true) → (o : Option Value) → greatest (y ∷ ys) ≡ o → option_map (λ m. if below x m then m else x) o ≡ Some v → h v ≡ true
+    go : ((m : Value) → greatest (y ∷ ys) ≡ Some m → h m ≡ true) → (o : Option Value) → greatest (y ∷ ys) ≡ o →
+        option_map (λ m. if below x m then m else x) o ≡ Some v → h v ≡ true
     go ih None q r = cc
     go ih (Some m) q r =
         let z : (if below x m then m else x) ≡ v = cc in
@@ -146,9 +156,11 @@ greatest-all h (x ∷ y ∷ ys) v a e = go (λ m r. greatest-all h (y ∷ ys) m 
 -- ---- all of several lists
 
 -- What holds of the items of each value holds of all of them.
-pub all-of-each : (h : Value → Bool) (xs : List Value) → list_all (λ x. list_all h (items_of x)) xs ≡ true → list_all h (append_all (map items_of xs)) ≡ true
+pub all-of-each : (h : Value → Bool) (xs : List Value) → list_all (λ x. list_all h (items_of x)) xs ≡ true →
+    list_all h (append_all (map items_of xs)) ≡ true
 all-of-each h [] a = refl
 all-of-each h (x ∷ xs) a =
     list_all-append h (items_of x) (append_all (map items_of xs))
-    ∙ and-both (list_all h (items_of x)) (list_all h (append_all (map items_of xs))) (and-left (list_all h (items_of x)) (list_all (λ y. list_all h (items_of y)) xs) a)
+    ∙ and-both (list_all h (items_of x)) (list_all h (append_all (map items_of xs)))
+    (and-left (list_all h (items_of x)) (list_all (λ y. list_all h (items_of y)) xs) a)
     (all-of-each h xs (and-right (list_all h (items_of x)) (list_all (λ y. list_all h (items_of y)) xs) a))

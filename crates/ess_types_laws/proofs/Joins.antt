@@ -18,9 +18,11 @@ use Rattle.ess_semantics.proofs.Tests.{and-left, and-right, and-both}
 -- ---- tests on lists
 
 -- What holds of each item where f does.
-pub all-map : {A : Type 0} (f h : A → Bool) (xs : List A) → ((x : A) → f x ≡ true → h x ≡ true) → list_all f xs ≡ true → list_all h xs ≡ true
+pub all-map : {A : Type 0} (f h : A → Bool) (xs : List A) → ((x : A) → f x ≡ true → h x ≡ true) → list_all f xs ≡ true →
+    list_all h xs ≡ true
 all-map f h [] k p = refl
-all-map f h (x ∷ xs) k p = and-both (h x) (list_all h xs) (k x (and-left (f x) (list_all f xs) p)) (all-map f h xs k (and-right (f x) (list_all f xs) p))
+all-map f h (x ∷ xs) k p = and-both (h x) (list_all h xs) (k x (and-left (f x) (list_all f xs) p))
+    (all-map f h xs k (and-right (f x) (list_all f xs) p))
 
 -- Of no item a test holds that fails always.
 all-never : {A : Type 0} (f : A → Bool) (xs : List A) → ((x : A) → f x ≡ false) → list_all f xs ≡ true → xs ≡ []
@@ -37,7 +39,8 @@ same_text-equal a b e = text_exact a b (equal-of (order_text a b) e)
 
 -- Kinds that count as equal are equal.
 kind-equal : (k l : Kind) → same_kind k l ≡ true → k ≡ l
-kind-equal k l e = let q : node k nil ≡ node l nil = order_exact (node k nil) (node l nil) (ap (λ o. ordering_then o Equal) (equal-of (order_kind k l) e)) in cc
+kind-equal k l e = let q : node k nil ≡ node l nil = order_exact (node k nil) (node l nil)
+    (ap (λ o. ordering_then o Equal) (equal-of (order_kind k l) e)) in cc
 
 module _ (p : Bool) (es : List TypeEntry) where
   -- The value has the type.
@@ -59,13 +62,15 @@ module _ (p : Bool) (es : List TypeEntry) where
   pub are-sub : (ts ws : Tys) (vs : List Value) → Subs ts ws → are_of p es ts vs ≡ true → are_of p es ws vs ≡ true
   are-sub no_tys no_tys vs s h = h
   are-sub (more_tys t ts) (more_tys w ws) [] s h = cc
-  are-sub (more_tys t ts) (more_tys w ws) (v ∷ vs) s h = two-map (is_of p es t v) (are_of p es ts vs) (is_of p es w v) (are_of p es ws vs) (s.0 v) (are-sub ts ws vs s.1) h
+  are-sub (more_tys t ts) (more_tys w ws) (v ∷ vs) s h = two-map (is_of p es t v) (are_of p es ts vs) (is_of p es w v) (are_of p es ws vs)
+      (s.0 v) (are-sub ts ws vs s.1) h
   are-sub no_tys (more_tys w ws) vs s h = absurd s
   are-sub (more_tys t ts) no_tys vs s h = absurd s
 
   tuple-sub : (ts ws : Tys) (v : Value) → Subs ts ws → is_tuple_of p es ts v ≡ true → is_tuple_of p es ws v ≡ true
   tuple-sub (more_tys t ts) (more_tys w ws) (tuple (cons v vs)) s h =
-      two-map (is_of p es t v) (are_of p es ts (to_list vs)) (is_of p es w v) (are_of p es ws (to_list vs)) (s.0 v) (are-sub ts ws (to_list vs) s.1) h
+      two-map (is_of p es t v) (are_of p es ts (to_list vs)) (is_of p es w v) (are_of p es ws (to_list vs)) (s.0 v)
+      (are-sub ts ws (to_list vs) s.1) h
   tuple-sub no_tys (more_tys w ws) v s h = absurd s
   tuple-sub (more_tys t ts) no_tys v s h = absurd s
   tuple-sub _ ws v s h = cc
@@ -74,43 +79,54 @@ module _ (p : Bool) (es : List TypeEntry) where
   part-sub t w x s h =
       and-both (is_set x && rises itself (items_of x) && not (is_empty (items_of x))) (list_all (is_of p es w) (items_of x))
       (and-left (is_set x && rises itself (items_of x) && not (is_empty (items_of x))) (list_all (is_of p es t) (items_of x)) h)
-      (all-map (is_of p es t) (is_of p es w) (items_of x) s (and-right (is_set x && rises itself (items_of x) && not (is_empty (items_of x))) (list_all (is_of p es t) (items_of x)) h))
+      (all-map (is_of p es t) (is_of p es w) (items_of x) s
+      (and-right (is_set x && rises itself (items_of x) && not (is_empty (items_of x))) (list_all (is_of p es t) (items_of x)) h))
 
   pair-sub : (t u t' u' : Ty) (x : Value) → Sub t t' → Sub u u' → is_pair x && is_of p es t (from_of x) && is_of p es u (to_of x) ≡ true →
       is_pair x && is_of p es t' (from_of x) && is_of p es u' (to_of x) ≡ true
   pair-sub t u t' u' x s r h =
-      two-map (is_pair x && is_of p es t (from_of x)) (is_of p es u (to_of x)) (is_pair x && is_of p es t' (from_of x)) (is_of p es u' (to_of x))
+      two-map (is_pair x && is_of p es t (from_of x)) (is_of p es u (to_of x)) (is_pair x && is_of p es t' (from_of x))
+      (is_of p es u' (to_of x))
       (two-map (is_pair x) (is_of p es t (from_of x)) (is_pair x) (is_of p es t' (from_of x)) (λ q. q) (s (from_of x))) (r (to_of x)) h
 
   -- Parts of wider types make a wider type.
   pub compound-sub : (k : Kind) (ts ws : Tys) → Subs ts ws → Sub (compound k ts) (compound k ws)
   compound-sub a_tuple ts ws s (tuple vs) o = are-sub ts ws (to_list vs) s o
   compound-sub (a_record fs) ts ws s (node (a_record gs) vs) o =
-      two-map (same_texts fs gs) (are_of p es ts (to_list vs)) (same_texts fs gs) (are_of p es ws (to_list vs)) (λ q. q) (are-sub ts ws (to_list vs) s) o
+      two-map (same_texts fs gs) (are_of p es ts (to_list vs)) (same_texts fs gs) (are_of p es ws (to_list vs)) (λ q. q)
+      (are-sub ts ws (to_list vs) s) o
   compound-sub a_matrix (more_tys t (more_tys u no_tys)) (more_tys t' (more_tys u' no_tys)) s (matrix is xs) o =
-      two-map (rises itself (to_list is) && nat_eq (length (to_list is)) (length (to_list xs)) && list_all (is_of p es t) (to_list is)) (list_all (is_of p es u) (to_list xs))
-      (rises itself (to_list is) && nat_eq (length (to_list is)) (length (to_list xs)) && list_all (is_of p es t') (to_list is)) (list_all (is_of p es u') (to_list xs))
+      two-map (rises itself (to_list is) && nat_eq (length (to_list is)) (length (to_list xs)) && list_all (is_of p es t) (to_list is))
+      (list_all (is_of p es u) (to_list xs))
+      (rises itself (to_list is) && nat_eq (length (to_list is)) (length (to_list xs)) && list_all (is_of p es t') (to_list is))
+      (list_all (is_of p es u') (to_list xs))
       (two-map (rises itself (to_list is) && nat_eq (length (to_list is)) (length (to_list xs))) (list_all (is_of p es t) (to_list is))
-      (rises itself (to_list is) && nat_eq (length (to_list is)) (length (to_list xs))) (list_all (is_of p es t') (to_list is)) (λ q. q) (all-map (is_of p es t) (is_of p es t') (to_list is) s.0))
+      (rises itself (to_list is) && nat_eq (length (to_list is)) (length (to_list xs))) (list_all (is_of p es t') (to_list is)) (λ q. q)
+      (all-map (is_of p es t) (is_of p es t') (to_list is) s.0))
       (all-map (is_of p es u) (is_of p es u') (to_list xs) s.1.0) o
   compound-sub a_set (more_tys t no_tys) (more_tys t' no_tys) s (node a_set vs) o =
-      two-map (rises itself (to_list vs)) (list_all (is_of p es t) (to_list vs)) (rises itself (to_list vs)) (list_all (is_of p es t') (to_list vs)) (λ q. q)
+      two-map (rises itself (to_list vs)) (list_all (is_of p es t) (to_list vs)) (rises itself (to_list vs))
+      (list_all (is_of p es t') (to_list vs)) (λ q. q)
       (all-map (is_of p es t) (is_of p es t') (to_list vs) s.0) o
   compound-sub a_mset (more_tys t no_tys) (more_tys t' no_tys) s (node a_mset vs) o =
-      two-map (rises_weakly (to_list vs)) (list_all (is_of p es t) (to_list vs)) (rises_weakly (to_list vs)) (list_all (is_of p es t') (to_list vs)) (λ q. q)
+      two-map (rises_weakly (to_list vs)) (list_all (is_of p es t) (to_list vs)) (rises_weakly (to_list vs))
+      (list_all (is_of p es t') (to_list vs)) (λ q. q)
       (all-map (is_of p es t) (is_of p es t') (to_list vs) s.0) o
   compound-sub a_function (more_tys t (more_tys u no_tys)) (more_tys t' (more_tys u' no_tys)) s (node a_function ps) o =
       two-map (rises from_of (to_list ps)) (list_all (λ x. is_pair x && is_of p es t (from_of x) && is_of p es u (to_of x)) (to_list ps))
       (rises from_of (to_list ps)) (list_all (λ x. is_pair x && is_of p es t' (from_of x) && is_of p es u' (to_of x)) (to_list ps)) (λ q. q)
-      (all-map (λ x. is_pair x && is_of p es t (from_of x) && is_of p es u (to_of x)) (λ x. is_pair x && is_of p es t' (from_of x) && is_of p es u' (to_of x)) (to_list ps)
+      (all-map (λ x. is_pair x && is_of p es t (from_of x) && is_of p es u (to_of x))
+      (λ x. is_pair x && is_of p es t' (from_of x) && is_of p es u' (to_of x)) (to_list ps)
       (λ x. pair-sub t u t' u' x s.0 s.1.0)) o
   compound-sub a_relation ts ws s (node a_relation xs) o =
-      two-map (rises itself (to_list xs)) (list_all (is_tuple_of p es ts) (to_list xs)) (rises itself (to_list xs)) (list_all (is_tuple_of p es ws) (to_list xs)) (λ q. q)
+      two-map (rises itself (to_list xs)) (list_all (is_tuple_of p es ts) (to_list xs)) (rises itself (to_list xs))
+      (list_all (is_tuple_of p es ws) (to_list xs)) (λ q. q)
       (all-map (is_tuple_of p es ts) (is_tuple_of p es ws) (to_list xs) (λ x. tuple-sub ts ws x s)) o
   compound-sub a_partition (more_tys t no_tys) (more_tys t' no_tys) s (node a_partition ps) o =
       two-map (rises itself (to_list ps) && list_all (is_part (is_of p es t)) (to_list ps)) (not (has_overlap (to_list ps)))
       (rises itself (to_list ps) && list_all (is_part (is_of p es t')) (to_list ps)) (not (has_overlap (to_list ps)))
-      (two-map (rises itself (to_list ps)) (list_all (is_part (is_of p es t)) (to_list ps)) (rises itself (to_list ps)) (list_all (is_part (is_of p es t')) (to_list ps)) (λ q. q)
+      (two-map (rises itself (to_list ps)) (list_all (is_part (is_of p es t)) (to_list ps)) (rises itself (to_list ps))
+      (list_all (is_part (is_of p es t')) (to_list ps)) (λ q. q)
       (all-map (is_part (is_of p es t)) (is_part (is_of p es t')) (to_list ps) (λ x. part-sub t t' x s.0))) (λ q. q) o
   compound-sub a_matrix (more_tys t (more_tys u no_tys)) no_tys s v o = absurd s
   compound-sub a_matrix (more_tys t (more_tys u no_tys)) (more_tys t' no_tys) s v o = absurd s.1
@@ -136,7 +152,8 @@ module _ (p : Bool) (es : List TypeEntry) where
   -- The only one is the empty relation, which has every relation's type.
   open-sub : (k : Kind) (ws : Tys) → is_open k no_tys ≡ true → Sub (compound k no_tys) (compound k ws)
   open-sub a_relation ws e (node a_relation xs) o =
-      let n : to_list xs ≡ [] = all-never (is_tuple_of p es no_tys) (to_list xs) (λ x. no-tuple x) (and-right (rises itself (to_list xs)) (list_all (is_tuple_of p es no_tys) (to_list xs)) o) in
+      let n : to_list xs ≡ [] = all-never (is_tuple_of p es no_tys) (to_list xs) (λ x. no-tuple x)
+      (and-right (rises itself (to_list xs)) (list_all (is_tuple_of p es no_tys) (to_list xs)) o) in
       subst (λ l. rises itself l && list_all (is_tuple_of p es ws) l ≡ true) (sym n) refl
     where
       no-tuple : (x : Value) → is_tuple_of p es no_tys x ≡ false
@@ -188,7 +205,8 @@ module _ (p : Bool) (es : List TypeEntry) where
       BothSub (compound k ts) (compound k us) (compound k ws)
   compound-both k ts us ws f e = go (is_open k ts) (is_open k us) refl refl e
     where
-      go : (a b : Bool) → is_open k ts ≡ a → is_open k us ≡ b → (if a then Some us else (if b then Some ts else joins ts us)) ≡ Some ws → BothSub (compound k ts) (compound k us) (compound k ws)
+      go : (a b : Bool) → is_open k ts ≡ a → is_open k us ≡ b → (if a then Some us else (if b then Some ts else joins ts us)) ≡ Some ws →
+          BothSub (compound k ts) (compound k us) (compound k ws)
       go true b p q e = let r : us ≡ ws = cc in (none-open k ts p ws, whole-sub k us ws r)
       go false true p q e = let r : ts ≡ ws = cc in (whole-sub k ts ws r, none-open k us q ws)
       go false false p q e = let s = f ws e in (compound-sub k ts ws s.0, compound-sub k us ws s.1)
@@ -197,21 +215,26 @@ module _ (p : Bool) (es : List TypeEntry) where
       (if same_kind k l then option_map (compound k) (parts_joined k ts us) else None) ≡ Some w → BothSub (compound k ts) (compound l us) w
   kinds-both k l ts us w f e = go (same_kind k l) refl e
     where
-      at : (l : Kind) → k ≡ l → (o : Option Tys) → parts_joined k ts us ≡ o → option_map (compound k) o ≡ Some w → BothSub (compound k ts) (compound l us) w
+      at : (l : Kind) → k ≡ l → (o : Option Tys) → parts_joined k ts us ≡ o → option_map (compound k) o ≡ Some w →
+          BothSub (compound k ts) (compound l us) w
       at l r None q e = cc
       at l r (Some ws) q e =
           let z : compound k ws ≡ w = cc in
-          subst (λ x. BothSub (compound k ts) (compound l us) x) z (subst (λ j. BothSub (compound k ts) (compound j us) (compound k ws)) r (compound-both k ts us ws f q))
+          subst (λ x. BothSub (compound k ts) (compound l us) x) z
+          (subst (λ j. BothSub (compound k ts) (compound j us) (compound k ws)) r (compound-both k ts us ws f q))
 
-      go : (b : Bool) → same_kind k l ≡ b → (if b then option_map (compound k) (parts_joined k ts us) else None) ≡ Some w → BothSub (compound k ts) (compound l us) w
+      go : (b : Bool) → same_kind k l ≡ b → (if b then option_map (compound k) (parts_joined k ts us) else None) ≡ Some w →
+          BothSub (compound k ts) (compound l us) w
       go true q e = at l (kind-equal k l q) (parts_joined k ts us) refl e
       go false q e = cc
 
-  pair-both : (t u : Ty) (ts us ws : Tys) → ((w : Ty) → join t u ≡ Some w → BothSub t u w) → ((vs : Tys) → joins ts us ≡ Some vs → BothSubs ts us vs) →
+  pair-both : (t u : Ty) (ts us ws : Tys) → ((w : Ty) → join t u ≡ Some w → BothSub t u w) →
+      ((vs : Tys) → joins ts us ≡ Some vs → BothSubs ts us vs) →
       and_then (join t u) (λ v. option_map (more_tys v) (joins ts us)) ≡ Some ws → BothSubs (more_tys t ts) (more_tys u us) ws
   pair-both t u ts us ws f g e = go (join t u) (joins ts us) refl refl e
     where
-      go : (a : Option Ty) (b : Option Tys) → join t u ≡ a → joins ts us ≡ b → and_then a (λ v. option_map (more_tys v) b) ≡ Some ws → BothSubs (more_tys t ts) (more_tys u us) ws
+      go : (a : Option Ty) (b : Option Tys) → join t u ≡ a → joins ts us ≡ b → and_then a (λ v. option_map (more_tys v) b) ≡ Some ws →
+          BothSubs (more_tys t ts) (more_tys u us) ws
       go None b p q e = cc
       go (Some w) None p q e = cc
       go (Some w) (Some vs) p q e =
@@ -252,7 +275,8 @@ module _ (p : Bool) (es : List TypeEntry) where
   all-joined [] [] w e o = refl
   all-joined (t ∷ ts) (v ∷ vs) w e o = go (λ u q. all-joined ts vs u q o.1) (join_all ts) refl e
     where
-      go : ((u : Ty) → join_all ts ≡ Some u → list_all (is_of p es u) vs ≡ true) → (u : Option Ty) → join_all ts ≡ u → and_then u (join t) ≡ Some w → list_all (is_of p es w) (v ∷ vs) ≡ true
+      go : ((u : Ty) → join_all ts ≡ Some u → list_all (is_of p es u) vs ≡ true) → (u : Option Ty) → join_all ts ≡ u →
+          and_then u (join t) ≡ Some w → list_all (is_of p es w) (v ∷ vs) ≡ true
       go ih None q r = cc
       go ih (Some u) q r =
           let b = join-both t u w r in

@@ -11,5 +11,9 @@ pub mod Words
 pub mod Binaries
 pub mod Indices
 pub mod Literals
+pub mod OperatorValues
 pub mod SoundParts
 pub mod Soundness
+pub mod SoundEnvs
+pub mod MembersTyped
+pub mod Examples

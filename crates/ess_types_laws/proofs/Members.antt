@@ -21,7 +21,8 @@ use Rattle.ess_types_laws.proofs.Joins.{all-map}
 
 -- ---- numbers
 
-from-one : (n : ℕ) (k : ℤ) → member (between (pos 1) (pos n)) (number k) ≡ true → (a : Text) (t : TypeEntry) → t.count ≡ n → is_of_named true a (Some t) (number k) ≡ true
+from-one : (n : ℕ) (k : ℤ) → member (between (pos 1) (pos n)) (number k) ≡ true → (a : Text) (t : TypeEntry) → t.count ≡ n →
+    is_of_named true a (Some t) (number k) ≡ true
 from-one n (pos j) m a t e = go (nat_le 1 j) (nat_le j n) refl refl m
   where
     go : (x y : Bool) → nat_le 1 j ≡ x → nat_le j n ≡ y → (x && y) || false ≡ true → nat_le 1 j && nat_le j t.count ≡ true
@@ -37,20 +38,22 @@ module _ (env : Env) where
   -- ---- atoms
 
   -- Where each member has the type, those that are listed have it.
-  atoms-fit : (d : Domain) (t : Ty) (vs : List Value) → IsAtom d → ((v : Value) → member d v ≡ true → Fits t v ≡ true) → members d ≡ Some vs → list_all (Fits t) vs ≡ true
+  atoms-fit : (d : Domain) (t : Ty) (vs : List Value) → IsAtom d → ((v : Value) → member d v ≡ true → Fits t v ≡ true) →
+      members d ≡ Some vs → list_all (Fits t) vs ≡ true
   atoms-fit d t vs a f e =
       let l : list_all (member d) (list_or_none (members d)) ≡ true = (atom-listed d a).members in
       all-map (member d) (Fits t) vs f (subst (λ o. list_all (member d) (list_or_none o) ≡ true) e l)
 
-  int-fits : (ss : List Span) (v : Value) → member (integers ss) v ≡ true → Fits int_ty v ≡ true
+  pub int-fits : (ss : List Span) (v : Value) → member (integers ss) v ≡ true → Fits int_ty v ≡ true
   int-fits ss (number n) m = refl
   int-fits ss _ m = cc
 
-  bool-fits : (v : Value) → member booleans v ≡ true → Fits bool_ty v ≡ true
+  pub bool-fits : (v : Value) → member booleans v ≡ true → Fits bool_ty v ≡ true
   bool-fits (truth b) m = refl
   bool-fits _ m = cc
 
-  named-fits : (b : Bool) (a : Text) (o : Option TypeEntry) (d : Domain) → named_domain b a o ≡ Some d → (v : Value) → member d v ≡ true → is_of_named b a o v ≡ true
+  pub named-fits : (b : Bool) (a : Text) (o : Option TypeEntry) (d : Domain) → named_domain b a o ≡ Some d → (v : Value) →
+      member d v ≡ true → is_of_named b a o v ≡ true
   named-fits b a None d e v m = cc
   named-fits true a (Some t) d e v m = let q : between (pos 1) (pos t.count) ≡ d = cc in go v (subst (λ x. member x v ≡ true) (sym q) m)
     where
@@ -79,12 +82,15 @@ module _ (env : Env) where
   abbrev Row : Tys → List Value → Bool
   Row ts vs = are_of env.positions env.types ts vs
 
-  heads-fit : (t : Ty) (ts : Tys) (vs : List Value) (ls : List (List Value)) → list_all (Fits t) vs ≡ true → list_all (Row ts) ls ≡ true → list_all (Row (more_tys t ts)) (add_heads vs ls) ≡ true
+  heads-fit : (t : Ty) (ts : Tys) (vs : List Value) (ls : List (List Value)) → list_all (Fits t) vs ≡ true → list_all (Row ts) ls ≡ true →
+      list_all (Row (more_tys t ts)) (add_heads vs ls) ≡ true
   heads-fit t ts [] ls p q = refl
   heads-fit t ts (v ∷ vs) ls p q =
       list_all-append (Row (more_tys t ts)) (map (λ l. v ∷ l) ls) (add_heads vs ls)
       ∙ and-both (list_all (Row (more_tys t ts)) (map (λ l. v ∷ l) ls)) (list_all (Row (more_tys t ts)) (add_heads vs ls))
-      (list_all-map (Row (more_tys t ts)) (λ l. v ∷ l) ls ∙ all-map (Row ts) (λ l. Row (more_tys t ts) (v ∷ l)) ls (λ l r. and-both (Fits t v) (Row ts l) (and-left (Fits t v) (list_all (Fits t) vs) p) r) q)
+      (list_all-map (Row (more_tys t ts)) (λ l. v ∷ l) ls
+      ∙ all-map (Row ts) (λ l. Row (more_tys t ts) (v ∷ l)) ls
+      (λ l r. and-both (Fits t v) (Row ts l) (and-left (Fits t v) (list_all (Fits t) vs) p) r) q)
       (heads-fit t ts vs ls (and-right (Fits t v) (list_all (Fits t) vs) p) q)
 
   lists-fit : (ts : Tys) (vss : List (List Value)) → EachFits ts vss → list_all (Row ts) (lists_of vss) ≡ true
@@ -93,24 +99,29 @@ module _ (env : Env) where
   lists-fit no_tys (vs ∷ vss) h = absurd h
   lists-fit (more_tys t ts) [] h = absurd h
 
-  tuples-fit : (ts : Tys) (o : Option (List (List Value))) (vs : List Value) → ((vss : List (List Value)) → o ≡ Some vss → EachFits ts vss) →
+  tuples-fit : (ts : Tys) (o : Option (List (List Value))) (vs : List Value) →
+      ((vss : List (List Value)) → o ≡ Some vss → EachFits ts vss) →
       option_map (λ ls. map (λ l. tuple (of_list l)) (lists_of ls)) o ≡ Some vs → list_all (Fits (compound a_tuple ts)) vs ≡ true
   tuples-fit ts None vs f e = cc
   tuples-fit ts (Some vss) vs f e =
       let q : map (λ l. tuple (of_list l)) (lists_of vss) ≡ vs = cc in
       subst (λ l. list_all (Fits (compound a_tuple ts)) l ≡ true) q
       (list_all-map (Fits (compound a_tuple ts)) (λ l. tuple (of_list l)) (lists_of vss)
-      ∙ all-map (Row ts) (λ l. Fits (compound a_tuple ts) (tuple (of_list l))) (lists_of vss) (λ l r. ap (Row ts) (to_list-of_list l) ∙ r) (lists-fit ts vss (f vss refl)))
+      ∙ all-map (Row ts) (λ l. Fits (compound a_tuple ts) (tuple (of_list l))) (lists_of vss) (λ l r. ap (Row ts) (to_list-of_list l)
+      ∙ r) (lists-fit ts vss (f vss refl)))
 
-  records-fit : (fs : List Text) (ts : Tys) (o : Option (List (List Value))) (vs : List Value) → ((vss : List (List Value)) → o ≡ Some vss → EachFits ts vss) →
-      option_map (λ ls. map (λ l. node (a_record fs) (of_list l)) (lists_of ls)) o ≡ Some vs → list_all (Fits (compound (a_record fs) ts)) vs ≡ true
+  records-fit : (fs : List Text) (ts : Tys) (o : Option (List (List Value))) (vs : List Value) →
+      ((vss : List (List Value)) → o ≡ Some vss → EachFits ts vss) →
+      option_map (λ ls. map (λ l. node (a_record fs) (of_list l)) (lists_of ls)) o ≡ Some vs →
+      list_all (Fits (compound (a_record fs) ts)) vs ≡ true
   records-fit fs ts None vs f e = cc
   records-fit fs ts (Some vss) vs f e =
       let q : map (λ l. node (a_record fs) (of_list l)) (lists_of vss) ≡ vs = cc in
       subst (λ l. list_all (Fits (compound (a_record fs) ts)) l ≡ true) q
       (list_all-map (Fits (compound (a_record fs) ts)) (λ l. node (a_record fs) (of_list l)) (lists_of vss)
       ∙ all-map (Row ts) (λ l. Fits (compound (a_record fs) ts) (node (a_record fs) (of_list l))) (lists_of vss)
-      (λ l r. and-both (same_texts fs fs) (Row ts (to_list (of_list l))) (ap is_eq (tied_itself texts_total fs)) (ap (Row ts) (to_list-of_list l) ∙ r)) (lists-fit ts vss (f vss refl)))
+      (λ l r. and-both (same_texts fs fs) (Row ts (to_list (of_list l))) (ap is_eq (tied_itself texts_total fs))
+      (ap (Row ts) (to_list-of_list l) ∙ r)) (lists-fit ts vss (f vss refl)))
 
   -- ---- domains
 
@@ -122,7 +133,8 @@ module _ (env : Env) where
   two-some None f b e = cc
   two-some (Some a) f b e = (a, e)
 
-  unlisted : {A : Type 0} (o : Option A) (f : A → Domain) (d : Domain) → ((a : A) → members (f a) ≡ None) → option_map f o ≡ Some d → (vs : List Value) → members d ≡ Some vs → ⊥
+  unlisted : {A : Type 0} (o : Option A) (f : A → Domain) (d : Domain) → ((a : A) → members (f a) ≡ None) → option_map f o ≡ Some d →
+      (vs : List Value) → members d ≡ Some vs → ⊥
   unlisted o f d u e vs m =
       let r = some-of o f d e in
       let q : None ≡ Some vs = sym (u r.0) ∙ ap members r.2 ∙ m in cc
@@ -135,13 +147,15 @@ module _ (env : Env) where
 
   mutual
     -- The members that a domain lists have the type of the domain.
-    pub members-fit : (d : Dom) (c : Domain) → domain_of d env ≡ Some c → (vs : List Value) → members c ≡ Some vs → list_all (Fits (type_of_dom d)) vs ≡ true
+    pub members-fit : (d : Dom) (c : Domain) → domain_of d env ≡ Some c → (vs : List Value) → members c ≡ Some vs →
+        list_all (Fits (type_of_dom d)) vs ≡ true
     members-fit bool_dom c e vs m = let q : booleans ≡ c = cc in atoms-fit booleans bool_ty vs tt bool-fits (ap members q ∙ m)
     members-fit (int_dom rs es) c e vs m =
         let r = some-of (spans_of rs (meanings es env)) integers c e in
         atoms-fit (integers r.0) int_ty vs tt (int-fits r.0) (ap members r.2 ∙ m)
     members-fit (name_dom a) c e vs m =
-        atoms-fit c (named_ty a) vs (named-atom env.positions a (type_entry env.types a) c e) (named-fits env.positions a (type_entry env.types a) c e) m
+        atoms-fit c (named_ty a) vs (named-atom env.positions a (type_entry env.types a) c e)
+        (named-fits env.positions a (type_entry env.types a) c e) m
     members-fit (tuple_dom ds) c e vs m =
         let r = some-of (domains_of ds env) tuples c e in
         tuples-fit (types_of_doms ds) (all_some (members_of_each r.0)) vs (all-fit ds r.0 r.1) (ap members r.2 ∙ m)
@@ -158,7 +172,8 @@ module _ (env : Env) where
         let r = two-some (attributes_of ms (meanings es env)) (λ ks. option_map (msets ks) (domain_of d env)) c e in
         absurd (unlisted (domain_of d env) (msets r.0) c (λ x. refl) r.1 vs m)
     members-fit (function_dom ms es d f) c e vs m =
-        let r = two-some (attributes_of ms (meanings es env)) (λ ks. and_then (domain_of d env) (λ x. option_map (functions ks x) (domain_of f env))) c e in
+        let r = two-some (attributes_of ms (meanings es env))
+        (λ ks. and_then (domain_of d env) (λ x. option_map (functions ks x) (domain_of f env))) c e in
         let s = two-some (domain_of d env) (λ x. option_map (functions r.0 x) (domain_of f env)) c r.1 in
         absurd (unlisted (domain_of f env) (functions r.0 s.0) c (λ x. refl) s.1 vs m)
     members-fit (relation_dom ms es ds) c e vs m =
@@ -168,9 +183,11 @@ module _ (env : Env) where
         let r = two-some (attributes_of ms (meanings es env)) (λ ks. option_map (partitions ks) (domain_of d env)) c e in
         absurd (unlisted (domain_of d env) (partitions r.0) c (λ x. refl) r.1 vs m)
 
-    all-fit : (ds : Doms) (cs : Domains) → domains_of ds env ≡ Some cs → (vss : List (List Value)) → all_some (members_of_each cs) ≡ Some vss → EachFits (types_of_doms ds) vss
+    all-fit : (ds : Doms) (cs : Domains) → domains_of ds env ≡ Some cs → (vss : List (List Value)) →
+        all_some (members_of_each cs) ≡ Some vss → EachFits (types_of_doms ds) vss
     all-fit no_doms cs e vss m =
-        let q : no_domains ≡ cs = cc in let r : Some [] ≡ Some vss = ap (λ x. all_some (members_of_each x)) q ∙ m in let s : [] ≡ vss = cc in subst (EachFits no_tys) s tt
+        let q : no_domains ≡ cs = cc in let r : Some [] ≡ Some vss = ap (λ x. all_some (members_of_each x)) q ∙ m in
+        let s : [] ≡ vss = cc in subst (EachFits no_tys) s tt
     all-fit (more_doms d ds) cs e vss m =
         let r = two-both (domain_of d env) (domains_of ds env) more_domains cs e in
         let n : all_some (members r.0 ∷ members_of_each r.1) ≡ Some vss = ap (λ x. all_some (members_of_each x)) r.4 ∙ m in

@@ -105,7 +105,8 @@ word1-bool _ a t n e = cc
 word2-bool : (f : Fun) (a b t : Ty) → is_truth_word f ≡ true → type_of_word2 f a b ≡ Some t → bool_ty ≡ t
 word2-bool Fun.Together a b t n e =
     given-bool (join a (compound1 a_set any_ty)) (λ j. and_then (member_ty j) (λ m. fit b (compound1 a_partition m) bool_ty)) t
-    (λ j u q. given-bool (member_ty j) (λ m. fit b (compound1 a_partition m) bool_ty) u (λ m w r. fit-result b (compound1 a_partition m) bool_ty w r) q) e
+    (λ j u q. given-bool (member_ty j) (λ m. fit b (compound1 a_partition m) bool_ty) u
+    (λ m w r. fit-result b (compound1 a_partition m) bool_ty w r) q) e
 word2-bool _ a b t n e = cc
 
 pub truth-bool : (op : Op) (ts : List Ty) (t : Ty) → is_truth_op op ≡ true → type_of_op op ts ≡ Some t → bool_ty ≡ t
@@ -116,7 +117,8 @@ truth-bool (word f) (a ∷ b ∷ []) t n e = word2-bool f a b t n e
 truth-bool _ ts t n e = cc
 
 -- What is no operator on truth values has its value where all operands have one.
-pub plain-value : (op : Op) (os : List (Option Value)) → is_truth_op op ≡ false → value_of_node op os ≡ and_then (all_some os) (value_of_op op)
+pub plain-value : (op : Op) (os : List (Option Value)) → is_truth_op op ≡ false →
+    value_of_node op os ≡ and_then (all_some os) (value_of_op op)
 plain-value (unary Op1.Not) os n = cc
 plain-value (binary Op2.And) os n = cc
 plain-value (binary Op2.Or) os n = cc
@@ -147,10 +149,12 @@ collect-fits h k (m ∷ ms) f xs a g e =
     let c = some-map (collect ms f) (λ zs. b.0 ++ zs) xs b.2 in
     subst (λ l. list_all k l ≡ true) c.2
     (list_all-append k b.0 c.0
-    ∙ and-both (list_all k b.0) (list_all k c.0) (g m (and-left (h m) (list_all h ms) a) b.0 b.1) (collect-fits h k ms f c.0 (and-right (h m) (list_all h ms) a) g c.1))
+    ∙ and-both (list_all k b.0) (list_all k c.0) (g m (and-left (h m) (list_all h ms) a) b.0 b.1)
+    (collect-fits h k ms f c.0 (and-right (h m) (list_all h ms) a) g c.1))
 
 -- Behind a condition there are the items where it is true, or none.
-pub where-fits : (k : Value → Bool) (o : Option Value) (x : Option (List Value)) (xs : List Value) → ((ys : List Value) → x ≡ Some ys → list_all k ys ≡ true) → where_true o (λ u. x) ≡ Some xs → list_all k xs ≡ true
+pub where-fits : (k : Value → Bool) (o : Option Value) (x : Option (List Value)) (xs : List Value) →
+    ((ys : List Value) → x ≡ Some ys → list_all k ys ≡ true) → where_true o (λ u. x) ≡ Some xs → list_all k xs ≡ true
 where-fits k (Some (truth true)) x xs f e = f xs e
 where-fits k (Some (truth false)) x xs f e = let q : [] ≡ xs = cc in subst (λ l. list_all k l ≡ true) q refl
 where-fits k (Some (number n)) x xs f e = let q : [] ≡ xs = cc in subst (λ l. list_all k l ≡ true) q refl

@@ -14,6 +14,9 @@ use Rattle.ess_semantics.specs.ExpressionJudgements.{pattern_fits}
 use Rattle.ess_semantics.specs.TypeMembers.{is_of_type}
 use Rattle.ess_semantics.specs.Typed.{Typed}
 use Rattle.ess_semantics.specs.StaysAt.{OverStays, FromStays}
+use Rattle.ess_semantics.specs.Domains.{Domain}
+use Rattle.ess_semantics.specs.Membership.{member}
+use Rattle.ess_types_laws.specs.ProperDomains.{is_proper}
 use Rattle.ess_types_laws.specs.WellBound.{WellBound}
 
 -- A resolved expression has the type that the expression had before.
@@ -28,9 +31,15 @@ ResolvedTreesStay = (e : Ex) (g : Names Ty) → IsResolved (resolve e g) g
 abbrev pub PreparedIsResolved : Type 0
 PreparedIsResolved = (S : List Stm) → resolve_all (prepared S) [] ≡ prepared S
 
--- The members that a domain lists have the type of the domain.
+-- The members of a closed domain have the type of the domain, where each index domain in it is an atom and each relation has
+-- a component.
 abbrev pub MembersHaveTheirType : Type 0
-MembersHaveTheirType = (d : Dom) (env : Env) → EachOf (members_in (domain_of d env)) (λ v. IsTrue (is_of_type (type_of_dom d) env v))
+MembersHaveTheirType = (d : Dom) (c : Domain) (env : Env) → is_proper d ≡ true → domain_of d env ≡ Some c → (v : Value) → member c v ≡ true →
+    IsTrue (is_of_type (type_of_dom d) env v)
+
+-- The members that a domain lists have its type, whatever the domain is.
+abbrev pub ListedMembersHaveTheirType : Type 0
+ListedMembersHaveTheirType = (d : Dom) (env : Env) → EachOf (members_in (domain_of d env)) (λ v. IsTrue (is_of_type (type_of_dom d) env v))
 
 -- A pattern that fits a type binds, at a value of the type, values of the types of its names.
 abbrev pub PatternsBindTheirTypes : Type 0

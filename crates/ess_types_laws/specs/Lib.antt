@@ -1,2 +1,3 @@
 pub mod WellBound
+pub mod ProperDomains
 pub mod Laws

@@ -1,6 +1,6 @@
 //! Laws on types, each the contract of a function that does nothing.
 
-ghost use Rattle.ess_types_laws.specs.Laws.{ResolvingKeepsTypes, ResolvedTreesStay, PreparedIsResolved, MembersHaveTheirType, PatternsBindTheirTypes, MeaningsHaveTheirType, TypesStay};
+ghost use Rattle.ess_types_laws.specs.Laws.{ResolvingKeepsTypes, ResolvedTreesStay, PreparedIsResolved, MembersHaveTheirType, ListedMembersHaveTheirType, PatternsBindTheirTypes, MeaningsHaveTheirType, TypesStay};
 
 /// A resolved expression has the type that the expression had before.
 pub fn resolving_keeps_types()
@@ -17,9 +17,14 @@ pub fn prepared_is_resolved()
     ensures { PreparedIsResolved }
 {}
 
-/// The members that a domain lists have the type of the domain.
+/// The members of a closed domain have the type of the domain.
 pub fn members_have_their_type()
     ensures { MembersHaveTheirType }
+{}
+
+/// The members that a domain lists have its type.
+pub fn listed_members_have_their_type()
+    ensures { ListedMembersHaveTheirType }
 {}
 
 /// A pattern that fits a type binds, at a value of the type, values of the types of its names.
