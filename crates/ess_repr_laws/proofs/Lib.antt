@@ -106,3 +106,4 @@ pub mod StructureMeans
 pub mod StructureAll
 pub mod StructureOfTables
 pub mod ExamplesStructure
+pub mod DenotedTypes
