@@ -16,13 +16,14 @@ use Rattle.ess_repr_laws.specs.TypedDomains.{SameOrder, is_unnumbered, ArePairs,
 use Rattle.ess_repr_laws.proofs.CellsOfMatrices.{shape-of}
 use Rattle.ess_repr_laws.proofs.OneType.{type-itself, types-themselves}
 use Rattle.ess_repr_laws.proofs.TypesBack.{boolean-back, integer-back, indices-are, tuple-components}
-use Rattle.ess_repr_laws.proofs.OrderOfPositions.{Agree, order-agrees, all-agree, tuples-agree, tuple-form}
+use Rattle.ess_repr_laws.proofs.OrderOfPositions.{Agree, order-agrees, all-agree, tuples-agree}
 use Rattle.ess_repr_laws.proofs.ListsOfPositions.{with_each, parts-with, list-with, length-with, all-there}
 use Rattle.ess_repr_laws.proofs.MembersOfPositions.{members-with}
 use Rattle.ess_repr_laws.proofs.AttributesOfPositions.{numbered-same}
 use Rattle.ess_repr_laws.proofs.MatchedMembers.{Back, Matched, list-back}
 use Rattle.ess_repr_laws.proofs.SetsOfPositions.{sets-matched, msets-matched, functions-matched}
 use Rattle.ess_repr_laws.proofs.RelationsOfPositions.{pairs-attributes, relations-matched, partitions-matched}
+use Rattle.ess_repr_laws.proofs.BoundedParts.{tuple-form}
 
 -- ---- atoms
 
