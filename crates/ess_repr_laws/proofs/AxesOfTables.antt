@@ -47,6 +47,7 @@ run-later : (k a n : ℕ) → k < a → EachOf (run_from a n) (λ j. same_int (p
 run-later k a zero h = tt
 run-later k a (suc n) h = (differ k a h, run-later k (suc a) n (omega arith))
 
+-- The numbers of a run differ.
 pub run-differs : (a n : ℕ) → NumbersDiffer (run_from a n)
 run-differs a zero = tt
 run-differs a (suc n) = (run-later a (suc a) n (le_refl (suc a)), run-differs (suc a) n)

@@ -173,5 +173,6 @@ module _ (r : Repr) (e : Domain) (ks : List Attribute) (right : Right r e) where
       (ap (counts_hold ks) (sym row-is) ∙ p.attributes)))
       (and-both _ _ p.first (ap (λ o. is_some_and o (are_orderly whole child (e ∷ []) fs)) slots.found ∙ slots-orderly r e right S where_counted fs u.n x.vs full x.values))
 
+  -- Canonical cells of multisets in slots with numbers.
   pub mset-flags-right : Right flagged (msets ks e)
   mset-flags-right = record { sound = flagged-sound; unique = flagged-unique; tidies = flagged-tidies }

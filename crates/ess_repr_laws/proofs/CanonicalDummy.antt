@@ -287,5 +287,6 @@ module _ (e : Domain) (ks : List Attribute) (m : ℤ) (D : Dummy e m) where
       ∙ ap (λ o. is_some_and o (dummies_last m)) (each-there f 1 S (λ k a b. cell k a (omega arith)))
       ∙ last-dummies f 1 S x.n room (sorted f x) (λ k a b. used k a (omega arith)) (λ k a b. free k (omega arith) (omega arith))) refl) refl)
 
+  -- Canonical cells of sets in slots with a dummy.
   pub dummy-right : Right with_dummy (sets ks e)
   dummy-right = record { sound = dummy-sound; unique = dummy-unique; tidies = dummy-tidies }

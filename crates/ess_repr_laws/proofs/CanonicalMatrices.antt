@@ -262,6 +262,7 @@ module _ (r : Repr) (is : Domains) (d : Domain) (finite : HaveLists is) (right :
       (ap (λ o. is_some_and o (member (matrices is d))) x.value ∙ nested-member is finite (member d) x.vs x.v x.long m.0 x.built)
       (children-orderly (d ∷ []) index_axes build contents_of always_canonical own child (d ∷ []) (right, tt) inner p.inside)
 
+  -- Canonical cells of matrices.
   pub matrix-right : Right grid (matrices is d)
   matrix-right = record {
     sound = λ c h. let x = elements-of (take 0 c) (drop 0 c) h in (x.v, x.value);

@@ -139,5 +139,6 @@ module _ (e : Domain) (ks : List Attribute) (listed : Listed e) where
       (attributes-of ks ys (map pos x.ns) (repeated-length x.ns xs x.long) (λ k z a v m c. repeated-times (times_hold k z) x.ns xs distinct a v m c)
       (ap (counts_hold ks) (sym (row-of-codes f xs ∙ x.cells)) ∙ p.attributes))) refl
 
+  -- Canonical cells of multisets as how often each member occurs.
   pub mset-occurrence-right : Right by_member (msets ks e)
   mset-occurrence-right = record { sound = counted-sound; unique = counted-unique; tidies = counted-tidies }

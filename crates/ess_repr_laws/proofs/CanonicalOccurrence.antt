@@ -97,5 +97,6 @@ module _ (e : Domain) (ks : List Attribute) (listed : Listed e) where
       (and-both (rises itself x.ys) (list_all (member e) x.ys) (chosen-rises xs (cell_of f) x.ys x.found listed.sorted) (chosen-all (member e) xs (cell_of f) x.ys x.found listed.members))
       (ap (set_attributes_hold ks) (sym (ap count_true (row-of-codes f xs) ∙ chosen-count xs (cell_of f) x.ys x.found x.bits)) ∙ p.attributes)) refl
 
+  -- Canonical cells of sets as the members that occur.
   pub occurrence-right : Right occurrence (sets ks e)
   occurrence-right = record { sound = occurrence-sound; unique = occurrence-unique; tidies = occurrence-tidies }

@@ -88,6 +88,7 @@ module _ (r : Repr) (ks : List Attribute) (d : Domain) (right : Right r (child_p
         attributes = ap (λ v. is_partition_of ks d (items_of v)) (sym f) ∙ a.2;
       }
 
+  -- Canonical cells of partitions as sets of parts.
   pub partition-as-set-right : Right as_sets (partitions ks d)
   partition-as-set-right = record { sound = λ x h. let y = parts-of-cells x h in (node a_partition y.ps, y.value); unique = unique'; tidies = tidies' }
     where

@@ -176,5 +176,6 @@ module _ (r : Repr) (e : Domain) (ks : List Attribute) (right : Right r e) where
       ∙ and-both _ true (and-both (list_all (λ j. is_orderly r e (behind j c)) (lists_of (one_to n ∷ []))) true
       (ap (list_all (λ j. is_orderly r e (behind j c))) (slots-are (one_to n)) ∙ all-map (λ j. is_orderly r e (behind j c)) as_place (one_to n) ∙ orderly) refl) refl))
 
+  -- Canonical cells of multisets in slots with repeats.
   pub repetition-right : Right repeated (msets ks e)
   repetition-right = record { sound = repeated-sound; unique = repeated-unique; tidies = repeated-tidies }

@@ -14,8 +14,7 @@ use Rattle.ess_semantics.specs.Meaning.{Env, meaning}
 use Rattle.ess_semantics.specs.Tidy.{over_axes}
 use Rattle.ess_repr_laws.specs.Structure.{shapes, structure}
 use Rattle.ess_repr_laws.specs.CanonicalTables.{TablesFit}
-use Rattle.ess_repr_laws.proofs.StructureRows.{Bound, M, Placed}
-use Rattle.ess_repr_laws.proofs.StructureAll.{axes_members, Ready}
+use Rattle.ess_repr_laws.specs.StructureMeaning.{Bound, M, Placed, axes_members, Ready}
 use Rattle.ess_repr_laws.proofs.StructureOfTables.{structure-of-tables}
 
 abbrev slots : List Mark → Exs → Dom → Ex
@@ -26,7 +25,9 @@ abbrev whole : Dom → Ex → Ex
 whole d e = truth_ex true
 
 abbrev kinds : Repr
-kinds = repr ReprKind.ExplicitVarSizeWithMarker (more_reprs (repr ReprKind.ExplicitVarSizeWithMarker (more_reprs (repr ReprKind.Atom no_reprs) no_reprs)) no_reprs)
+kinds =
+    repr ReprKind.ExplicitVarSizeWithMarker
+    (more_reprs (repr ReprKind.ExplicitVarSizeWithMarker (more_reprs (repr ReprKind.Atom no_reprs) no_reprs)) no_reprs)
 
 abbrev written : Dom
 written = set_dom [] no_exs (set_dom [] no_exs bool_dom)
@@ -42,6 +43,8 @@ module _ (env0 : Env) (q : ℕ → Text) (q-apart : (m l : ℕ) → l < m → sa
       go z f = ap (λ b. Some (truth b)) (sym f)
 
   -- The theorem at this instance.
-  pub example : (ns : List Text) (ts : Tables) (bs : Bound env0 q q-apart) → length ts ≡ width kinds → Placed env0 q q-apart (shapes q slots whole kinds written ns) (axes_members kinds meant) ts → over_axes [] (axes_of kinds meant) ts ≡ true → TablesFit (declarations kinds meant) ts →
+  pub example : (ns : List Text) (ts : Tables) (bs : Bound env0 q q-apart) → length ts ≡ width kinds →
+      Placed env0 q q-apart (shapes q slots whole kinds written ns) (axes_members kinds meant) ts →
+      over_axes [] (axes_of kinds meant) ts ≡ true → TablesFit (declarations kinds meant) ts →
       meaning (structure q slots whole kinds written ns 1 no_exs) (M env0 q q-apart bs) ≡ Some (truth (canonical kinds meant (cells_of ts)))
   example ns ts bs w p o f = structure-of-tables env0 q q-apart slots whole kinds written meant ready ns ts 1 bs w p o f

@@ -1,47 +1,26 @@
 -- The value that tables stand for, made of the values of the slots in use: one layer with one child.
-use Rattle.std.proofs.Common.{◌≡◌, refl, sym, ap, ◌∙◌, ℕ, zero, suc, Bool, true, false, if◌then◌else◌, List, [], ◌∷◌, ◌++◌, map, take, drop, length, ℤ, Option, Some, None, option_map}
+use Rattle.std.proofs.Common.{◌≡◌, refl, sym, ap, ◌∙◌, ℕ, zero, suc, List, [], ◌∷◌, ◌++◌, map, take, drop, length, ℤ, Option, Some, None, option_map}
 use Rattle.std.proofs.Math.Path.{fun_ext}
 use Rattle.ess_semantics.specs.declared.words.ReprKind.{ReprKind}
-use Rattle.ess_semantics.specs.Lists.{and_then, each_of, or_default}
+use Rattle.ess_semantics.specs.Lists.{and_then, each_of}
 use Rattle.ess_semantics.specs.Values.{Value}
 use Rattle.ess_semantics.specs.Trees.{Repr, repr, no_reprs, more_reprs}
 use Rattle.ess_semantics.specs.Domains.{Domain}
-use Rattle.ess_semantics.specs.Tables.{Table, Tables, volume, chunk, item_in, cell_at}
+use Rattle.ess_semantics.specs.Tables.{Tables, cell_at}
 use Rattle.ess_semantics.specs.Cells.{Cells, behind, cells_of}
 use Rattle.ess_semantics.specs.Layers.{Layer}
 use Rattle.ess_semantics.specs.Representations.{layer, width, own_width, own_part, child_part, places_in_use, value_of_cells, value_of_tables, values_of_children}
-use Rattle.ess_semantics.specs.OneLayer.{slice_in, no_cells, slice, slices, inner_tables_of, inner_tables, values_for, layer_value}
-use Rattle.ess_repr_laws.proofs.Behind.{behind-none}
+use Rattle.ess_semantics.specs.OneLayer.{slices, inner_tables_of, inner_tables, values_for, layer_value}
+use Rattle.ess_repr_laws.proofs.Behind.{behind-none, cell_at-slice}
 use Rattle.ess_repr_laws.proofs.CellsOfMembers.{take-whole}
 
 -- ---- slices
 
--- A table without cells has none.
-nothing-there : (js : List ℤ) → cell_at no_cells js ≡ None
-nothing-there [] = refl
-nothing-there (j ∷ js) = refl
-
--- The cells of a slice are those behind its index list.
-slice-in-cells : (as' : List (List ℤ)) (is js ks : List ℤ) →
-    cell_at (or_default (slice_in as' is js) no_cells) ks ≡ item_in as' is (js ++ ks)
-slice-in-cells as' is [] ks = start as'
-  where
-    start : (as' : List (List ℤ)) → cell_at (or_default (slice_in as' is []) no_cells) ks ≡ item_in as' is ks
-    start [] = refl
-    start (a ∷ as') = refl
-slice-in-cells [] is (j ∷ js) ks = nothing-there ks
-slice-in-cells (a ∷ as') is (j ∷ js) ks = go (chunk a (volume as') is j) (λ c. slice-in-cells as' c js ks)
-  where
-    go : (o : Option (List ℤ)) → ((c : List ℤ) → cell_at (or_default (slice_in as' c js) no_cells) ks ≡ item_in as' c (js ++ ks)) →
-        cell_at (or_default (and_then o (λ c. slice_in as' c js)) no_cells) ks ≡ and_then o (λ c. item_in as' c (js ++ ks))
-    go None ih = nothing-there ks
-    go (Some c) ih = ih c
-
--- The same of several tables.
+-- The cells of slices are those behind their index list.
 pub slices-behind : (ts : Tables) (js : List ℤ) → cells_of (slices ts js) ≡ behind js (cells_of ts)
 slices-behind [] js = refl
 slices-behind (t ∷ ts) js =
-    ap (λ f. f ∷ cells_of (slices ts js)) (fun_ext (λ ks. slice-in-cells t.axes t.items js ks))
+    ap (λ f. f ∷ cells_of (slices ts js)) (fun_ext (λ ks. cell_at-slice js t ks))
     ∙ ap (λ l. (λ ks. cell_at t (js ++ ks)) ∷ l) (slices-behind ts js)
 
 -- ---- parts of tables

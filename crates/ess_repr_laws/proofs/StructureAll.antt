@@ -25,39 +25,20 @@ use Rattle.ess_semantics.specs.Atoms.{IsAtom}
 use Rattle.ess_repr_laws.specs.Rooms.{Covered}
 use Rattle.ess_repr_laws.proofs.CanonicalForms.{right}
 use Rattle.ess_repr_laws.specs.Structure.{Shape, add_ex, upto, on_axis, shapes, structure}
+use Rattle.ess_repr_laws.specs.StructureMeaning.{Number, AllNumbers, fit, Bound, M, Placed, axes_members, Ready}
 use Rattle.ess_repr_laws.proofs.CellDomains.{axes-wide}
-use Rattle.ess_repr_laws.proofs.StructureNumbers.{Number, AllNumbers, fit}
-use Rattle.ess_repr_laws.proofs.StructureRows.{Bound, M, Steady, steady-name, Placed, There, codes, all_codes, slot_at, deeper}
+use Rattle.ess_repr_laws.proofs.StructureRows.{Steady, steady-name, There, codes, all_codes, slot_at, deeper}
 use Rattle.ess_repr_laws.proofs.StructureOccurrences.{occurrence-means}
 use Rattle.ess_repr_laws.proofs.StructureMeans.{explicit-means, marker-means}
 
--- The members of the axes of a view's tables.
-abbrev pub axes_members : Repr → Domain → List (List (List Value))
-axes_members (repr ReprKind.Atom no_reprs) e = [] ∷ []
-axes_members (repr ReprKind.Occurrence no_reprs) (sets ks e) = (member_list e ∷ []) ∷ []
-axes_members (repr ReprKind.Explicit (more_reprs r no_reprs)) (sets ks e) = map (λ vss. map number (one_to (slots_of_set ks e)) ∷ vss) (axes_members r e)
-axes_members (repr ReprKind.ExplicitVarSizeWithMarker (more_reprs r no_reprs)) (sets ks e) = [] ∷ map (λ vss. map number (one_to (slots_of_set ks e)) ∷ vss) (axes_members r e)
-axes_members _ e = []
-
 module _ (env0 : Env) (q : ℕ → Text) (q-apart : (m l : ℕ) → l < m → same_text (q m) (q l) ≡ false) (size : List Mark → Exs → Dom → Ex) (atom : Dom → Ex → Ex) where
+  -- The reserved names that are bound, with their values.
   abbrev pub Names : Type 0
   Names = Bound env0 q q-apart
 
+  -- The env with them.
   abbrev pub N : Names → Env
   N bs = M env0 q q-apart bs
-
-  abbrev Attributes : List Mark → Exs → List Attribute → Type 0
-  Attributes ms es ks = (bs : Names) → AllNumbers es (N bs) × (attributes_of ms (meanings es (N bs)) ≡ Some ks)
-
-  -- What the domain's parts mean, whatever names are bound.
-  abbrev pub Ready : Repr → Dom → Domain → Type 0
-  Ready (repr ReprKind.Atom no_reprs) d e =
-      (IsAtom e × (is_bool_dom d ≡ true → e ≡ booleans)) × ((x : Ex) (bs : Names) (z : ℤ) → fit (is_bool_dom d) z ≡ true → meaning x (N bs) ≡ Some (cell_value (is_bool_dom d) z) → meaning (atom d x) (N bs) ≡ Some (truth (is_cell (as_cell e) z)))
-  Ready (repr ReprKind.Occurrence no_reprs) (set_dom ms es d) (sets ks e) =
-      IsAtom e × (members e ≡ Some (member_list e)) × ((bs : Names) → members_in (domain_of d (N bs)) ≡ Some (member_list e)) × Attributes ms es ks
-  Ready (repr ReprKind.Explicit (more_reprs r no_reprs)) (set_dom ms es d) (sets ks e) = Attributes ms es ks × ((bs : Names) → Number (size ms es d) (N bs) (pos (slots_of_set ks e))) × Ready r d e
-  Ready (repr ReprKind.ExplicitVarSizeWithMarker (more_reprs r no_reprs)) (set_dom ms es d) (sets ks e) = Attributes ms es ks × ((bs : Names) → Number (size ms es d) (N bs) (pos (slots_of_set ks e))) × Ready r d e
-  Ready _ d e = ⊥
 
   -- Each marker is one of its slots.
   abbrev pub MarkersFit : Repr → Domain → Tables → List ℤ → Type 0
@@ -66,13 +47,15 @@ module _ (env0 : Env) (q : ℕ → Text) (q-apart : (m l : ℕ) → l < m → sa
       ((m : ℕ) × (cell_at t i ≡ Some (pos m)) × (m ≤ slots_of_set ks e)) × ((k : ℕ) → 1 ≤ k → k ≤ slots_of_set ks e → MarkersFit r e ts (i ++ (pos k ∷ [])))
   MarkersFit _ e ts i = Unit {0}
 
-  pub ready-covered : (r : Repr) (d : Dom) (e : Domain) → Ready r d e → Covered r e
+  -- Each kind stands over a domain for which it is one.
+  pub ready-covered : (r : Repr) (d : Dom) (e : Domain) → (Ready env0 q q-apart size atom) r d e → Covered r e
   ready-covered (repr ReprKind.Atom no_reprs) d e h = h.0.0
   ready-covered (repr ReprKind.Occurrence no_reprs) (set_dom ms es d) (sets ks e) h = h.0
   ready-covered (repr ReprKind.Explicit (more_reprs r no_reprs)) (set_dom ms es d) (sets ks e) h = ready-covered r d e h.2
   ready-covered (repr ReprKind.ExplicitVarSizeWithMarker (more_reprs r no_reprs)) (set_dom ms es d) (sets ks e) h = ready-covered r d e h.2
   ready-covered _ d e h = absurd h
 
+  -- Numbers are their own numbers.
   pub number-codes : (ks : List ℤ) → map code (map number ks) ≡ ks
   number-codes [] = refl
   number-codes (k ∷ ks) = ap (λ l. k ∷ l) (number-codes ks)
@@ -88,7 +71,7 @@ module _ (env0 : Env) (q : ℕ → Text) (q-apart : (m l : ℕ) → l < m → sa
   atom-axes _ a = absurd a
 
   -- The axes are the declared ones.
-  axes-are : (r : Repr) (d : Dom) (e : Domain) → Ready r d e → all_codes env0 q q-apart (axes_members r e) ≡ axes_of r e
+  axes-are : (r : Repr) (d : Dom) (e : Domain) → (Ready env0 q q-apart size atom) r d e → all_codes env0 q q-apart (axes_members r e) ≡ axes_of r e
   axes-are (repr ReprKind.Atom no_reprs) d e h = atom-axes e h.0.0
   axes-are (repr ReprKind.Occurrence no_reprs) (set_dom ms es d) (sets ks e) h = refl
   axes-are (repr ReprKind.Explicit (more_reprs r no_reprs)) (set_dom ms es d) (sets ks e) h =
@@ -101,6 +84,7 @@ module _ (env0 : Env) (q : ℕ → Text) (q-apart : (m l : ℕ) → l < m → sa
 
   -- ---- tables of a child
 
+  -- The tables of a child are found by their names.
   pub inner-placed : (a : Dom) (us : List Value) (ss : List Shape) (vsss : List (List (List Value))) (ts : Tables) → Placed env0 q q-apart (map (on_axis a) ss) (map (λ vss. us ∷ vss) vsss) ts → Placed env0 q q-apart ss vsss ts
   inner-placed a us [] [] [] h = tt
   inner-placed a us (s ∷ ss) (vss ∷ vsss) (t ∷ ts) h = (h.0, h.1.1, inner-placed a us ss vsss ts h.2)
@@ -123,7 +107,7 @@ module _ (env0 : Env) (q : ℕ → Text) (q-apart : (m l : ℕ) → l < m → sa
 
   -- ---- all of these representations
 
-  atom-means : (d : Dom) (e : Domain) → Ready (repr ReprKind.Atom no_reprs) d e → (n : Text) (t : Table) (l : ℕ) (is : Exs) (i : List ℤ) (bs : Names) → look env0.cells n ≡ Some t → is_some_and (cell_at t (i ++ [])) (fit (is_bool_dom d)) ≡ true →
+  atom-means : (d : Dom) (e : Domain) → (Ready env0 q q-apart size atom) (repr ReprKind.Atom no_reprs) d e → (n : Text) (t : Table) (l : ℕ) (is : Exs) (i : List ℤ) (bs : Names) → look env0.cells n ≡ Some t → is_some_and (cell_at t (i ++ [])) (fit (is_bool_dom d)) ≡ true →
       Steady env0 q q-apart l is i bs → meaning (atom d (cell_ex (is_bool_dom d) n is)) (N bs) ≡ Some (truth (canonical (repr ReprKind.Atom no_reprs) e (behind i (cells_of (t ∷ [])))))
   atom-means d e h n t l is i bs ht ok st = go (cell_at t (i ++ [])) refl ok
     where
@@ -159,7 +143,7 @@ module _ (env0 : Env) (q : ℕ → Text) (q-apart : (m l : ℕ) → l < m → sa
       go (Some z) c f = h.1 (cell_ex (is_bool_dom d) n is) bs z f (cell-is z c) ∙ ap (λ b. Some (truth b)) (asked z e h.0.0 c)
 
   -- The structure of a view over tables that lie over the declared axes and in the declared domains means `canonical`.
-  pub structure-means : (r : Repr) (d : Dom) (e : Domain) → Ready r d e → (ns : List Text) (ts : Tables) (l : ℕ) (is : Exs) (i : List ℤ) (bs : Names) → length ts ≡ width r →
+  pub structure-means : (r : Repr) (d : Dom) (e : Domain) → (Ready env0 q q-apart size atom) r d e → (ns : List Text) (ts : Tables) (l : ℕ) (is : Exs) (i : List ℤ) (bs : Names) → length ts ≡ width r →
       Placed env0 q q-apart (shapes q size atom r d ns) (axes_members r e) ts → There env0 q q-apart (shapes q size atom r d ns) (axes_members r e) ts i → MarkersFit r e ts i → Steady env0 q q-apart l is i bs →
       meaning (structure q size atom r d ns l is) (N bs) ≡ Some (truth (canonical r e (behind i (cells_of ts))))
   structure-means (repr ReprKind.Atom no_reprs) d e h (n ∷ []) (t ∷ []) l is i bs w p th mf st = atom-means d e h n t l is i bs p.0 th.0 st

@@ -26,11 +26,12 @@ use Rattle.ess_repr_laws.proofs.Behind.{behind-append, behind-length}
 use Rattle.ess_semantics.proofs.Connectives.{and-means}
 use Rattle.ess_repr_laws.specs.CanonicalTables.{Right}
 use Rattle.ess_repr_laws.specs.Structure.{Shape, size_ex, slots_ex, marker_ex, explicit_ex}
+use Rattle.ess_repr_laws.specs.StructureMeaning.{Number, AllNumbers, Bound, M, Placed}
 use Rattle.ess_repr_laws.proofs.CellsOfMembers.{map-long}
 use Rattle.ess_repr_laws.proofs.CellsOfOccurrenceCounts.{up-to-fits}
 use Rattle.ess_repr_laws.proofs.StructureSlots.{slots_canonical, slots-means}
-use Rattle.ess_repr_laws.proofs.StructureNumbers.{Number, AllNumbers, size-means}
-use Rattle.ess_repr_laws.proofs.StructureRows.{Bound, M, From, Steady, Placed, There, all_codes}
+use Rattle.ess_repr_laws.proofs.StructureNumbers.{size-means}
+use Rattle.ess_repr_laws.proofs.StructureRows.{From, Steady, There, all_codes}
 use Rattle.ess_repr_laws.proofs.CanonicalSlotTests.{slots-asked}
 
 -- ---- the structures of slots

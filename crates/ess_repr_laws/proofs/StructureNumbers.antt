@@ -18,15 +18,14 @@ use Rattle.ess_semantics.proofs.Tests.{and-left, and-right}
 use Rattle.ess_semantics.proofs.Orders.{same_int-equal, to_list-of_list}
 use Rattle.ess_semantics.proofs.Connectives.{and-means, binary-means}
 use Rattle.ess_repr_laws.specs.Structure.{add_ex, le_ex, key_ex, size_ex}
+use Rattle.ess_repr_laws.specs.StructureMeaning.{Number, AllNumbers, fit}
 
 -- ---- attributes
-
-abbrev pub Number : Ex → Env → ℤ → Type 0
-Number e env n = meaning e env ≡ Some (number n)
 
 not-less : (a b : ℤ) → not (is_lt (int_cmp b a)) ≡ int_le a b
 not-less a b = grind arith
 
+-- `a <= b` of numbers.
 pub le-means : (env : Env) (a b : Ex) (x y : ℤ) → Number a env x → Number b env y → meaning (le_ex a b) env ≡ Some (truth (int_le x y))
 le-means env a b x y p r = binary-means env true Op2.Le a b (number x) (number y) p r ∙ ap (λ s. Some (truth s)) (not-less x y)
 
@@ -35,11 +34,6 @@ key-means env Key.Size e m z n p r = and-means env (le_ex e m) (le_ex m e) (int_
 key-means env Key.MinSize e m z n p r = le-means env e m z (pos n) p r
 key-means env Key.MaxSize e m z n p r = le-means env m e (pos n) z r p
 key-means env _ e m z n p r = refl
-
--- Each number of the attributes is one.
-abbrev pub AllNumbers : Exs → Env → Type 0
-AllNumbers no_exs env = Unit {0}
-AllNumbers (more_exs e es) env = ((z : ℤ) → as_int (meaning e env) ≡ Some z → Number e env z) × AllNumbers es env
 
 -- What the attributes ask of a set with n members.
 pub size-means : (env : Env) (ms : List Mark) (es : Exs) (m : Ex) (n : ℕ) (ks : List Attribute) → AllNumbers es env → attributes_of ms (meanings es env) ≡ Some ks → Number m env (pos n) →
@@ -65,11 +59,6 @@ size-means env (valued k ∷ ms) (more_exs x es) m n ks a e r = go (as_int (mean
         ∙ ap (λ l. Some (truth (set_attributes_hold l n))) q
 
 -- ---- rows of truth values and numbers
-
--- whether a number is a cell of the table: a truth value is 0 or 1
-abbrev pub fit : Bool → ℤ → Bool
-fit true z = is_cell booleans z
-fit false z = true
 
 cell-order : (b : Bool) (x y : ℤ) → fit b x ≡ true → fit b y ≡ true → order (cell_value b x) (cell_value b y) ≡ int_cmp x y
 cell-order false x y p q = refl
@@ -99,9 +88,11 @@ row-order b (x ∷ xs) (y ∷ ys) p q =
     ap (λ o. ordering_then o (orders (of_list (map (cell_value b) xs)) (of_list (map (cell_value b) ys)))) (cell-order b x y (and-left (fit b x) (list_all (fit b) xs) p) (and-left (fit b y) (list_all (fit b) ys) q))
     ∙ ap (ordering_then (int_cmp x y)) (row-order b xs ys (and-right (fit b x) (list_all (fit b) xs) p) (and-right (fit b y) (list_all (fit b) ys) q))
 
+-- The list of a row, of truth values or numbers.
 abbrev pub row_value : Bool → List ℤ → Value
 row_value b xs = list_value (map (cell_value b) xs)
 
+-- Rows are compared as lists of values are.
 pub lex-order : (b : Bool) (xs ys : List ℤ) → list_all (fit b) xs ≡ true → list_all (fit b) ys ≡ true → order (as_list (row_value b xs)) (as_list (row_value b ys)) ≡ order_ints xs ys
 lex-order b xs ys p q =
     ap (λ l. orders (of_list l) (of_list (to_list (of_list (map (cell_value b) ys))))) (to_list-of_list (map (cell_value b) xs))
@@ -109,18 +100,22 @@ lex-order b xs ys p q =
 
 -- ---- bound names
 
+-- The answers of f, one list behind the other.
 abbrev pub spread : (ℤ → List Value) → List ℤ → List Value
 spread f [] = []
 spread f (x ∷ xs) = f x ++ spread f xs
 
+-- Those on two lists.
 pub spread-append : (f : ℤ → List Value) (xs ys : List ℤ) → spread f (xs ++ ys) ≡ spread f xs ++ spread f ys
 spread-append f [] ys = refl
 spread-append f (x ∷ xs) ys = ap (λ l. f x ++ l) (spread-append f xs ys) ∙ sym (append_assoc (f x) (spread f xs) (spread f ys))
 
+-- The meanings of one more operand.
 pub meanings-add : (is : Exs) (e : Ex) (env : Env) → meanings (add_ex is e) env ≡ meanings is env ++ (meaning e env ∷ [])
 meanings-add no_exs e env = refl
 meanings-add (more_exs x is) e env = ap (λ l. meaning x env ∷ l) (meanings-add is e env)
 
+-- An index list with one more index.
 pub indices-add : (os : List (Option Value)) (v : Value) (js : List ℤ) → indices os ≡ Some js → indices (os ++ (Some v ∷ [])) ≡ Some (js ++ (code v ∷ []))
 indices-add os v js e = go (all_some os) refl e
   where

@@ -17,8 +17,9 @@ use Rattle.ess_semantics.specs.CanonicalTest.{canonical}
 use Rattle.ess_semantics.specs.Meaning.{Env, attributes_of, cell_value, meaning, meanings}
 use Rattle.ess_semantics.proofs.Orders.{same_int-equal, to_list-of_list}
 use Rattle.ess_repr_laws.specs.Structure.{add_ex, occurrence_ex}
-use Rattle.ess_repr_laws.proofs.StructureNumbers.{Number, AllNumbers, size-means, fit, spread}
-use Rattle.ess_repr_laws.proofs.StructureRows.{Bound, M, Steady, AxesAre, row-runs, grid_at}
+use Rattle.ess_repr_laws.specs.StructureMeaning.{Number, AllNumbers, fit, Bound, M, AxesAre}
+use Rattle.ess_repr_laws.proofs.StructureNumbers.{size-means, spread}
+use Rattle.ess_repr_laws.proofs.StructureRows.{Steady, row-runs, grid_at}
 
 -- ---- which members occur
 

@@ -26,10 +26,10 @@ use Rattle.ess_repr_laws.proofs.TablesWithin.{tables-within}
 use Rattle.ess_semantics.specs.Atoms.{IsAtom}
 use Rattle.ess_repr_laws.specs.Structure.{Shape, upto, on_axis, shapes, structure}
 use Rattle.ess_repr_laws.specs.CanonicalTables.{TablesFit}
+use Rattle.ess_repr_laws.specs.StructureMeaning.{fit, Placed, axes_members, Ready}
 use Rattle.ess_repr_laws.proofs.FittingCells.{cells_fit, under-every}
-use Rattle.ess_repr_laws.proofs.StructureNumbers.{fit}
-use Rattle.ess_repr_laws.proofs.StructureRows.{Steady, Placed, There, codes, grid_at, slot_at, deeper}
-use Rattle.ess_repr_laws.proofs.StructureAll.{MarkersFit, N, Names, Ready, axes_members, inner-placed, number-codes, ready-covered, structure-means}
+use Rattle.ess_repr_laws.proofs.StructureRows.{Steady, There, codes, grid_at, slot_at, deeper}
+use Rattle.ess_repr_laws.proofs.StructureAll.{MarkersFit, N, Names, inner-placed, number-codes, ready-covered, structure-means}
 
 -- ---- tables in the declared domains
 

@@ -23,24 +23,20 @@ use Rattle.std.proofs.lemmas.Cmp.{tied_itself}
 use Rattle.ess_semantics.proofs.Connectives.{and-means, or-means, not-means, binary-means, all-means}
 use Rattle.ess_repr_laws.proofs.CanonicalPlaces.{AllOf}
 use Rattle.ess_repr_laws.specs.Structure.{Shape, add_ex, and_ex, row_gens, row_index, row_ex, less_ex, out_ex, zero_ex, zeros_ex}
-use Rattle.ess_repr_laws.proofs.StructureNumbers.{fit, indices-add, lex-order, meanings-add, row_value, spread, spread-append}
+use Rattle.ess_repr_laws.specs.StructureMeaning.{fit, Bound, M, AxesAre, Placed}
+use Rattle.ess_repr_laws.proofs.StructureNumbers.{indices-add, lex-order, meanings-add, row_value, spread, spread-append}
 
 module _ (env0 : Env) (q : ℕ → Text) (q-apart : (m l : ℕ) → l < m → same_text (q m) (q l) ≡ false) where
-  -- The names q with values, the last one first.
-  abbrev pub Bound : Type 0
-  Bound = List (ℕ × Value)
-
-  abbrev pub M : Bound → Env
-  M bs = record env0 { vals = map (λ (b : ℕ × Value). (q b.0, b.1)) bs ++ env0.vals }
-
-  abbrev pub From : ℕ → Bound → Type 0
+  -- The names that are bound are q l and later ones.
+  abbrev pub From : ℕ → (Bound env0 q q-apart) → Type 0
   From l cs = AllOf cs (λ b. l ≤ b.0)
 
   -- The index list has these numbers, whatever else is bound from q l on.
-  abbrev pub Steady : ℕ → Exs → List ℤ → Bound → Type 0
-  Steady l is js bs = (cs : Bound) → From l cs → indices (meanings is (M (cs ++ bs))) ≡ Some js
+  abbrev pub Steady : ℕ → Exs → List ℤ → (Bound env0 q q-apart) → Type 0
+  Steady l is js bs = (cs : (Bound env0 q q-apart)) → From l cs → indices (meanings is ((M env0 q q-apart) (cs ++ bs))) ≡ Some js
 
-  pub looked : (l : ℕ) (v : Value) (bs cs : Bound) → From (suc l) cs → meaning (name_ex (q l)) (M (cs ++ ((l, v) ∷ bs))) ≡ Some v
+  -- A bound name is found behind later ones.
+  pub looked : (l : ℕ) (v : Value) (bs cs : (Bound env0 q q-apart)) → From (suc l) cs → meaning (name_ex (q l)) ((M env0 q q-apart) (cs ++ ((l, v) ∷ bs))) ≡ Some v
   looked l v bs [] h = ap (λ b. if b then Some v else look (map (λ (b : ℕ × Value). (q b.0, b.1)) bs ++ env0.vals) (q l)) (itself (q l))
     where
       itself : (a : Text) → same_text a a ≡ true
@@ -48,31 +44,28 @@ module _ (env0 : Env) (q : ℕ → Text) (q-apart : (m l : ℕ) → l < m → sa
   looked l v bs (c ∷ cs) h =
       ap (λ b. if b then Some c.1 else look (map (λ (b : ℕ × Value). (q b.0, b.1)) (cs ++ ((l, v) ∷ bs)) ++ env0.vals) (q l)) (q-apart c.0 l h.0) ∙ looked l v bs cs h.1
 
-  from-later : (l : ℕ) (cs : Bound) → From (suc l) cs → From l cs
+  from-later : (l : ℕ) (cs : (Bound env0 q q-apart)) → From (suc l) cs → From l cs
   from-later l [] h = tt
   from-later l (c ∷ cs) h = ((let a = h.0 in omega (arith, a)), from-later l cs h.1)
 
-  from-more : (l : ℕ) (v : Value) (cs : Bound) → From (suc l) cs → From l (cs ++ ((l, v) ∷ []))
+  from-more : (l : ℕ) (v : Value) (cs : (Bound env0 q q-apart)) → From (suc l) cs → From l (cs ++ ((l, v) ∷ []))
   from-more l v [] h = (le_refl l, tt)
   from-more l v (c ∷ cs) h = ((let a = h.0 in omega (arith, a)), from-more l v cs h.1)
 
   -- with one more name bound
-  pub steady-more : (l : ℕ) (v : Value) (is : Exs) (js : List ℤ) (bs : Bound) → Steady l is js bs → Steady (suc l) is js ((l, v) ∷ bs)
-  steady-more l v is js bs h cs f = ap (λ b. indices (meanings is (M b))) (sym (append_assoc cs ((l, v) ∷ []) bs)) ∙ h (cs ++ ((l, v) ∷ [])) (from-more l v cs f)
+  pub steady-more : (l : ℕ) (v : Value) (is : Exs) (js : List ℤ) (bs : (Bound env0 q q-apart)) → Steady l is js bs → Steady (suc l) is js ((l, v) ∷ bs)
+  steady-more l v is js bs h cs f = ap (λ b. indices (meanings is ((M env0 q q-apart) b))) (sym (append_assoc cs ((l, v) ∷ []) bs)) ∙ h (cs ++ ((l, v) ∷ [])) (from-more l v cs f)
 
-  pub steady-add : (l : ℕ) (e : Ex) (v : Value) (is : Exs) (js : List ℤ) (bs : Bound) → Steady l is js bs → ((cs : Bound) → From l cs → meaning e (M (cs ++ bs)) ≡ Some v) → Steady l (add_ex is e) (js ++ (code v ∷ [])) bs
+  -- An index list with one more index, under any later names.
+  pub steady-add : (l : ℕ) (e : Ex) (v : Value) (is : Exs) (js : List ℤ) (bs : (Bound env0 q q-apart)) → Steady l is js bs → ((cs : (Bound env0 q q-apart)) → From l cs → meaning e ((M env0 q q-apart) (cs ++ bs)) ≡ Some v) → Steady l (add_ex is e) (js ++ (code v ∷ [])) bs
   steady-add l e v is js bs h k cs f =
-      ap indices (meanings-add is e (M (cs ++ bs))) ∙ ap (λ o. indices (meanings is (M (cs ++ bs)) ++ (o ∷ []))) (k cs f) ∙ indices-add (meanings is (M (cs ++ bs))) v js (h cs f)
+      ap indices (meanings-add is e ((M env0 q q-apart) (cs ++ bs))) ∙ ap (λ o. indices (meanings is ((M env0 q q-apart) (cs ++ bs)) ++ (o ∷ []))) (k cs f) ∙ indices-add (meanings is ((M env0 q q-apart) (cs ++ bs))) v js (h cs f)
 
-  pub steady-name : (l : ℕ) (v : Value) (is : Exs) (js : List ℤ) (bs : Bound) → Steady l is js bs → Steady (suc l) (add_ex is (name_ex (q l))) (js ++ (code v ∷ [])) ((l, v) ∷ bs)
+  -- An index list with a bound name.
+  pub steady-name : (l : ℕ) (v : Value) (is : Exs) (js : List ℤ) (bs : (Bound env0 q q-apart)) → Steady l is js bs → Steady (suc l) (add_ex is (name_ex (q l))) (js ++ (code v ∷ [])) ((l, v) ∷ bs)
   steady-name l v is js bs h = steady-add (suc l) (name_ex (q l)) v is js ((l, v) ∷ bs) (steady-more l v is js bs h) (λ cs f. looked l v bs cs f)
 
-  -- The axes have these members, whatever is bound.
-  abbrev pub AxesAre : List Dom → List (List Value) → Type 0
-  AxesAre [] [] = Unit {0}
-  AxesAre (a ∷ as') (vs ∷ vss) = ((bs : Bound) → members_in (domain_of a (M bs)) ≡ Some vs) × AxesAre as' vss
-  AxesAre _ vss = ⊥
-
+  -- The members of axes as numbers.
   abbrev pub codes : List (List Value) → List (List ℤ)
   codes vss = map (map code) vss
 
@@ -80,45 +73,47 @@ module _ (env0 : Env) (q : ℕ → Text) (q-apart : (m l : ℕ) → l < m → sa
   abbrev pub grid_at : Table → List ℤ → Grid
   grid_at t js ks = cell_at t (js ++ ks)
 
+  -- The cells of a table behind an index list and a slot.
   abbrev pub slot_at : Table → List ℤ → ℤ → Grid
   slot_at t js k ks = cell_at t (js ++ (k ∷ ks))
 
+  -- A longer index list.
   pub deeper : (t : Table) (js : List ℤ) (k : ℤ) → grid_at t (js ++ (k ∷ [])) ≡ slot_at t js k
   deeper t js k = fun_ext (λ ks. ap (cell_at t) (append_assoc js (k ∷ []) ks))
 
   -- Along the axes of a table: k is what is asked of each cell, g its answer at the cell.
-  pub row-runs : (l : ℕ) (b : Bool) (n : Text) (t : Table) (as' : List Dom) (vss : List (List Value)) (is : Exs) (js : List ℤ) (bs : Bound) (k : Env → Option (List Value)) (g : ℤ → List Value) →
-      look env0.cells n ≡ Some t → AxesAre as' vss → every_cell (codes vss) (fit b) (λ ks. cell_at t (js ++ ks)) ≡ true → Steady l is js bs →
-      ((cs : Bound) (z : ℤ) → fit b z ≡ true → meaning (cell_ex b n (row_index q l as' is)) (M cs) ≡ Some (cell_value b z) → k (M cs) ≡ Some (g z)) →
-      items_under (row_gens q l as') (M bs) k ≡ Some (spread g (row (codes vss) (λ ks. cell_at t (js ++ ks))))
+  pub row-runs : (l : ℕ) (b : Bool) (n : Text) (t : Table) (as' : List Dom) (vss : List (List Value)) (is : Exs) (js : List ℤ) (bs : (Bound env0 q q-apart)) (k : Env → Option (List Value)) (g : ℤ → List Value) →
+      look env0.cells n ≡ Some t → (AxesAre env0 q q-apart) as' vss → every_cell (codes vss) (fit b) (λ ks. cell_at t (js ++ ks)) ≡ true → Steady l is js bs →
+      ((cs : (Bound env0 q q-apart)) (z : ℤ) → fit b z ≡ true → meaning (cell_ex b n (row_index q l as' is)) ((M env0 q q-apart) cs) ≡ Some (cell_value b z) → k ((M env0 q q-apart) cs) ≡ Some (g z)) →
+      items_under (row_gens q l as') ((M env0 q q-apart) bs) k ≡ Some (spread g (row (codes vss) (λ ks. cell_at t (js ++ ks))))
   row-runs l b n t [] [] is js bs k g ht ax ok st ask = go (cell_at t (js ++ [])) refl ok
     where
       settled : (b : Bool) (z : ℤ) → false_where_undefined b (Some (cell_value b z)) ≡ Some (cell_value b z)
       settled true z = refl
       settled false z = refl
 
-      go : (o : Option ℤ) → cell_at t (js ++ []) ≡ o → is_some_and o (fit b) ≡ true → k (M bs) ≡ Some (g (or_default (cell_at t (js ++ [])) (pos 0)) ++ [])
+      go : (o : Option ℤ) → cell_at t (js ++ []) ≡ o → is_some_and o (fit b) ≡ true → k ((M env0 q q-apart) bs) ≡ Some (g (or_default (cell_at t (js ++ [])) (pos 0)) ++ [])
       go None e h = cc
       go (Some z) e h =
           ask bs z h
-          (ap (λ o. false_where_undefined b (cell_in b o (indices (meanings is (M bs))))) ht ∙ ap (λ o. false_where_undefined b (cell_in b (Some t) o)) (st [] tt) ∙ ap (λ l. false_where_undefined b (option_map (cell_value b) (cell_at t l))) (sym (append-nil js)) ∙ ap (λ o. false_where_undefined b (option_map (cell_value b) o)) e ∙ settled b z)
+          (ap (λ o. false_where_undefined b (cell_in b o (indices (meanings is ((M env0 q q-apart) bs))))) ht ∙ ap (λ o. false_where_undefined b (cell_in b (Some t) o)) (st [] tt) ∙ ap (λ l. false_where_undefined b (option_map (cell_value b) (cell_at t l))) (sym (append-nil js)) ∙ ap (λ o. false_where_undefined b (option_map (cell_value b) o)) e ∙ settled b z)
           ∙ ap (λ z. Some (g z)) (ap (λ o. or_default o (pos 0)) (sym e)) ∙ ap Some (sym (append-nil (g (or_default (cell_at t (js ++ [])) (pos 0)))))
   row-runs l b n t [] (vs ∷ vss) is js bs k g ht ax ok st ask = absurd ax
   row-runs l b n t (a ∷ as') [] is js bs k g ht ax ok st ask = absurd ax
   row-runs l b n t (a ∷ as') (vs ∷ vss) is js bs k g ht ax ok st ask =
-      ap (λ o. and_then o (λ us. collect us (λ v. items_under (row_gens q (suc l) as') (M ((l, v) ∷ bs)) k))) (ax.0 bs)
+      ap (λ o. and_then o (λ us. collect us (λ v. items_under (row_gens q (suc l) as') ((M env0 q q-apart) ((l, v) ∷ bs)) k))) (ax.0 bs)
       ∙ each vs ok
       (λ v h. row-runs (suc l) b n t as' vss (add_ex is (name_ex (q l))) (js ++ (code v ∷ [])) ((l, v) ∷ bs) k g ht ax.1 (ap (every_cell (codes vss) (fit b)) (deeper t js (code v)) ∙ h) (steady-name l v is js bs st) ask
       ∙ ap (λ f. Some (spread g (row (codes vss) f))) (deeper t js (code v)))
     where
       each : (us : List Value) → list_all (λ j. every_cell (codes vss) (fit b) (λ ks. cell_at t (js ++ (j ∷ ks)))) (map code us) ≡ true →
-          ((v : Value) → every_cell (codes vss) (fit b) (λ ks. cell_at t (js ++ (code v ∷ ks))) ≡ true → items_under (row_gens q (suc l) as') (M ((l, v) ∷ bs)) k ≡ Some (spread g (row (codes vss) (λ ks. cell_at t (js ++ (code v ∷ ks)))))) →
-          collect us (λ v. items_under (row_gens q (suc l) as') (M ((l, v) ∷ bs)) k) ≡ Some (spread g (gather (map code us) (λ j. row (codes vss) (λ ks. cell_at t (js ++ (j ∷ ks))))))
+          ((v : Value) → every_cell (codes vss) (fit b) (λ ks. cell_at t (js ++ (code v ∷ ks))) ≡ true → items_under (row_gens q (suc l) as') ((M env0 q q-apart) ((l, v) ∷ bs)) k ≡ Some (spread g (row (codes vss) (λ ks. cell_at t (js ++ (code v ∷ ks)))))) →
+          collect us (λ v. items_under (row_gens q (suc l) as') ((M env0 q q-apart) ((l, v) ∷ bs)) k) ≡ Some (spread g (gather (map code us) (λ j. row (codes vss) (λ ks. cell_at t (js ++ (j ∷ ks))))))
       each [] h ih = refl
       each (u ∷ us) h ih =
           let hu = and-left (every_cell (codes vss) (fit b) (λ ks. cell_at t (js ++ (code u ∷ ks)))) (list_all (λ j. every_cell (codes vss) (fit b) (λ ks. cell_at t (js ++ (j ∷ ks)))) (map code us)) h in
           let ht' = and-right (every_cell (codes vss) (fit b) (λ ks. cell_at t (js ++ (code u ∷ ks)))) (list_all (λ j. every_cell (codes vss) (fit b) (λ ks. cell_at t (js ++ (j ∷ ks)))) (map code us)) h in
-          ap (λ o. and_then o (λ xs. option_map (λ ys. xs ++ ys) (collect us (λ v. items_under (row_gens q (suc l) as') (M ((l, v) ∷ bs)) k)))) (ih u hu)
+          ap (λ o. and_then o (λ xs. option_map (λ ys. xs ++ ys) (collect us (λ v. items_under (row_gens q (suc l) as') ((M env0 q q-apart) ((l, v) ∷ bs)) k)))) (ih u hu)
           ∙ ap (option_map (λ ys. spread g (row (codes vss) (λ ks. cell_at t (js ++ (code u ∷ ks)))) ++ ys)) (each us ht' ih)
           ∙ ap Some (sym (spread-append g (row (codes vss) (λ ks. cell_at t (js ++ (code u ∷ ks)))) (gather (map code us) (λ j. row (codes vss) (λ ks. cell_at t (js ++ (j ∷ ks)))))))
 
@@ -131,24 +126,19 @@ module _ (env0 : Env) (q : ℕ → Text) (q-apart : (m l : ℕ) → l < m → sa
   spread-cells b [] = refl
   spread-cells b (x ∷ xs) = ap (λ l. cell_value b x ∷ l) (spread-cells b xs)
 
-  row-means : (l : ℕ) (s : Shape) (t : Table) (vss : List (List Value)) (is : Exs) (js : List ℤ) (bs : Bound) →
-      look env0.cells s.name ≡ Some t → AxesAre s.axes vss → every_cell (codes vss) (fit s.truth) (grid_at t js) ≡ true → Steady l is js bs →
-      meaning (row_ex q l s is) (M bs) ≡ Some (row_value s.truth (row (codes vss) (grid_at t js)))
+  row-means : (l : ℕ) (s : Shape) (t : Table) (vss : List (List Value)) (is : Exs) (js : List ℤ) (bs : (Bound env0 q q-apart)) →
+      look env0.cells s.name ≡ Some t → (AxesAre env0 q q-apart) s.axes vss → every_cell (codes vss) (fit s.truth) (grid_at t js) ≡ true → Steady l is js bs →
+      meaning (row_ex q l s is) ((M env0 q q-apart) bs) ≡ Some (row_value s.truth (row (codes vss) (grid_at t js)))
   row-means l s t vss is js bs ht ax ok st =
       ap (option_map list_value) (row-runs l s.truth s.name t s.axes vss is js bs (λ here. option_map (λ v. v ∷ []) (meaning (cell_ex s.truth s.name (row_index q l s.axes is)) here)) (cells s.truth) ht ax ok st (λ cs z p e. ap (option_map (λ v. v ∷ [])) e))
       ∙ ap (λ xs. Some (list_value xs)) (spread-cells s.truth (row (codes vss) (grid_at t js)))
-
-  -- The tables of a part, with the members of their axes.
-  abbrev pub Placed : List Shape → List (List (List Value)) → Tables → Type 0
-  Placed [] [] [] = Unit {0}
-  Placed (s ∷ ss) (vss ∷ vsss) (t ∷ ts) = (look env0.cells s.name ≡ Some t) × AxesAre s.axes vss × Placed ss vsss ts
-  Placed _ vsss ts = ⊥
 
   -- At an index list each cell is there, and truth values are 0 or 1.
   abbrev pub There : List Shape → List (List (List Value)) → Tables → List ℤ → Type 0
   There (s ∷ ss) (vss ∷ vsss) (t ∷ ts) js = (every_cell (codes vss) (fit s.truth) (grid_at t js) ≡ true) × There ss vsss ts js
   There _ vsss ts js = Unit {0}
 
+  -- The axes of several tables, as numbers.
   abbrev pub all_codes : List (List (List Value)) → List Axes
   all_codes vsss = map codes vsss
 
@@ -169,9 +159,10 @@ module _ (env0 : Env) (q : ℕ → Text) (q-apart : (m l : ℕ) → l < m → sa
       go Equal = refl
       go Greater = refl
 
-  pub less-means : (l : ℕ) (ss : List Shape) (vsss : List (List (List Value))) (ts : Tables) (is js : Exs) (i j : List ℤ) (bs : Bound) →
-      Placed ss vsss ts → There ss vsss ts i → There ss vsss ts j → Steady l is i bs → Steady l js j bs →
-      meaning (less_ex q l ss is js) (M bs) ≡ Some (truth (is_lt (order_rows (rows (all_codes vsss) (behind i (cells_of ts))) (rows (all_codes vsss) (behind j (cells_of ts))))))
+  -- The test that cells are below others means that their rows are.
+  pub less-means : (l : ℕ) (ss : List Shape) (vsss : List (List (List Value))) (ts : Tables) (is js : Exs) (i j : List ℤ) (bs : (Bound env0 q q-apart)) →
+      (Placed env0 q q-apart) ss vsss ts → There ss vsss ts i → There ss vsss ts j → Steady l is i bs → Steady l js j bs →
+      meaning (less_ex q l ss is js) ((M env0 q q-apart) bs) ≡ Some (truth (is_lt (order_rows (rows (all_codes vsss) (behind i (cells_of ts))) (rows (all_codes vsss) (behind j (cells_of ts))))))
   less-means l [] [] [] is js i j bs p a b c d = refl
   less-means l (s ∷ ss) (vss ∷ vsss) (t ∷ ts) is js i j bs p a b c d =
       let x = row-means l s t vss is i bs p.0 p.1 a.0 c in
@@ -181,10 +172,10 @@ module _ (env0 : Env) (q : ℕ → Text) (q-apart : (m l : ℕ) → l < m → sa
       let X : List ℤ = row (codes vss) (grid_at t i) in
       let Y : List ℤ = row (codes vss) (grid_at t j) in
       let rest : Ordering = order_rows (rows (all_codes vsss) (behind i (cells_of ts))) (rows (all_codes vsss) (behind j (cells_of ts))) in
-      or-means (M bs) (ex2 true Op2.LexLt (row_ex q l s is) (row_ex q l s js)) (and_ex (ex2 true Op2.LexLe (row_ex q l s is) (row_ex q l s js)) (less_ex q l ss is js)) (is_lt (order_ints X Y)) (not (is_lt (order_ints Y X)) && is_lt rest)
-      (lex-lt (M bs) s.truth (row_ex q l s is) (row_ex q l s js) X Y fx fy x y)
-      (and-means (M bs) (ex2 true Op2.LexLe (row_ex q l s is) (row_ex q l s js)) (less_ex q l ss is js) (not (is_lt (order_ints Y X))) (is_lt rest)
-      (lex-le (M bs) s.truth (row_ex q l s is) (row_ex q l s js) X Y fx fy x y) (less-means l ss vsss ts is js i j bs p.2 a.1 b.1 c d))
+      or-means ((M env0 q q-apart) bs) (ex2 true Op2.LexLt (row_ex q l s is) (row_ex q l s js)) (and_ex (ex2 true Op2.LexLe (row_ex q l s is) (row_ex q l s js)) (less_ex q l ss is js)) (is_lt (order_ints X Y)) (not (is_lt (order_ints Y X)) && is_lt rest)
+      (lex-lt ((M env0 q q-apart) bs) s.truth (row_ex q l s is) (row_ex q l s js) X Y fx fy x y)
+      (and-means ((M env0 q q-apart) bs) (ex2 true Op2.LexLe (row_ex q l s is) (row_ex q l s js)) (less_ex q l ss is js) (not (is_lt (order_ints Y X))) (is_lt rest)
+      (lex-le ((M env0 q q-apart) bs) s.truth (row_ex q l s is) (row_ex q l s js) X Y fx fy x y) (less-means l ss vsss ts is js i j bs p.2 a.1 b.1 c d))
       ∙ ap (λ b. Some (truth b)) (less-then X Y rest)
   less-means l [] [] (t ∷ ts) is js i j bs p a b c d = absurd p
   less-means l [] (vss ∷ vsss) ts is js i j bs p a b c d = absurd p
@@ -203,9 +194,9 @@ module _ (env0 : Env) (q : ℕ → Text) (q-apart : (m l : ℕ) → l < m → sa
       go true e h = at (pos 0) refl (same_int-equal z (pos 0) e)
       go false e h = at (pos 1) refl (same_int-equal z (pos 1) h)
 
-  zero-cell : (b : Bool) (n : Text) (is : Exs) (bs : Bound) (z : ℤ) → fit b z ≡ true → meaning (cell_ex b n is) (M bs) ≡ Some (cell_value b z) → meaning (out_ex q b n is) (M bs) ≡ Some (truth (same_int (pos 0) z))
-  zero-cell true n is bs z p e = not-means (M bs) (cell_ex true n is) (elim (truth_of z) [ Some b ↦ b | None ↦ false ]) e ∙ ap (λ b. Some (truth b)) (bit-zero z p)
-  zero-cell false n is bs z p e = binary-means (M bs) true Op2.Eq (number_ex (pos 0)) (cell_ex false n is) (number (pos 0)) (number z) refl e
+  zero-cell : (b : Bool) (n : Text) (is : Exs) (bs : (Bound env0 q q-apart)) (z : ℤ) → fit b z ≡ true → meaning (cell_ex b n is) ((M env0 q q-apart) bs) ≡ Some (cell_value b z) → meaning (out_ex q b n is) ((M env0 q q-apart) bs) ≡ Some (truth (same_int (pos 0) z))
+  zero-cell true n is bs z p e = not-means ((M env0 q q-apart) bs) (cell_ex true n is) (elim (truth_of z) [ Some b ↦ b | None ↦ false ]) e ∙ ap (λ b. Some (truth b)) (bit-zero z p)
+  zero-cell false n is bs z p e = binary-means ((M env0 q q-apart) bs) true Op2.Eq (number_ex (pos 0)) (cell_ex false n is) (number (pos 0)) (number z) refl e
 
   abbrev zs : ℤ → List Value
   zs z = truth (same_int (pos 0) z) ∷ []
@@ -242,12 +233,13 @@ module _ (env0 : Env) (q : ℕ → Text) (q-apart : (m l : ℕ) → l < m → sa
           ∙ ap (λ b. b && list_all r (gather ks (λ k. row as' (λ js. f (k ∷ js))))) (ih k (and-left (every_cell as' p (λ js. f (k ∷ js))) (list_all (λ k. every_cell as' p (λ js. f (k ∷ js))) ks) h))
           ∙ ap (λ b. every_cell as' r (λ js. f (k ∷ js)) && b) (go ks ih (and-right (every_cell as' p (λ js. f (k ∷ js))) (list_all (λ k. every_cell as' p (λ js. f (k ∷ js))) ks) h))
 
-  pub zeros-means : (l : ℕ) (ss : List Shape) (vsss : List (List (List Value))) (ts : Tables) (is : Exs) (i : List ℤ) (bs : Bound) →
-      Placed ss vsss ts → There ss vsss ts i → Steady l is i bs → meaning (zeros_ex q l ss is) (M bs) ≡ Some (truth (are_zero (all_codes vsss) (behind i (cells_of ts))))
+  -- The test that all cells are 0 or false means that they are.
+  pub zeros-means : (l : ℕ) (ss : List Shape) (vsss : List (List (List Value))) (ts : Tables) (is : Exs) (i : List ℤ) (bs : (Bound env0 q q-apart)) →
+      (Placed env0 q q-apart) ss vsss ts → There ss vsss ts i → Steady l is i bs → meaning (zeros_ex q l ss is) ((M env0 q q-apart) bs) ≡ Some (truth (are_zero (all_codes vsss) (behind i (cells_of ts))))
   zeros-means l [] [] [] is i bs p a c = refl
   zeros-means l (s ∷ ss) (vss ∷ vsss) (t ∷ ts) is i bs p a c =
-      and-means (M bs) (zero_ex q l s is) (zeros_ex q l ss is) (every_cell (codes vss) (same_int (pos 0)) (grid_at t i)) (are_zero (all_codes vsss) (behind i (cells_of ts)))
-      (all-means (M bs) (out_ex q s.truth s.name (row_index q l s.axes is)) (row_gens q l s.axes) (spread zs (row (codes vss) (grid_at t i)))
+      and-means ((M env0 q q-apart) bs) (zero_ex q l s is) (zeros_ex q l ss is) (every_cell (codes vss) (same_int (pos 0)) (grid_at t i)) (are_zero (all_codes vsss) (behind i (cells_of ts)))
+      (all-means ((M env0 q q-apart) bs) (out_ex q s.truth s.name (row_index q l s.axes is)) (row_gens q l s.axes) (spread zs (row (codes vss) (grid_at t i)))
       (row-runs l s.truth s.name t s.axes vss is i bs (λ here. option_map (λ v. v ∷ []) (meaning (out_ex q s.truth s.name (row_index q l s.axes is)) here)) zs p.0 p.1 a.0 c
       (λ cs z f e. ap (option_map (λ v. v ∷ [])) (zero-cell s.truth s.name (row_index q l s.axes is) cs z f e)))
       ∙ ap (λ b. Some (truth b)) (all-zero (row (codes vss) (grid_at t i)) ∙ row-every (codes vss) (fit s.truth) (same_int (pos 0)) (grid_at t i) a.0))

@@ -25,8 +25,9 @@ use Rattle.ess_repr_laws.proofs.RowsOfCells.{EachOf}
 use Rattle.ess_repr_laws.proofs.SlotsUsed.{each-run}
 use Rattle.ess_semantics.proofs.Connectives.{and-means, not-means, binary-means, all-means}
 use Rattle.ess_repr_laws.specs.Structure.{Shape, add_ex, and_ex, le_ex, upto, less_ex, zeros_ex, over_slots, next_ex, slots_ex}
-use Rattle.ess_repr_laws.proofs.StructureNumbers.{Number, le-means}
-use Rattle.ess_repr_laws.proofs.StructureRows.{Bound, M, From, Steady, looked, steady-more, steady-name, steady-add, Placed, There, all_codes, less-means, zeros-means}
+use Rattle.ess_repr_laws.specs.StructureMeaning.{Number, Bound, M, Placed}
+use Rattle.ess_repr_laws.proofs.StructureNumbers.{le-means}
+use Rattle.ess_repr_laws.proofs.StructureRows.{From, Steady, looked, steady-more, steady-name, steady-add, There, all_codes, less-means, zeros-means}
 
 -- ---- the numbers 1 to n
 
@@ -42,6 +43,7 @@ ones-rise a (suc (suc n)) = and-both (below (number (pos a)) (number (pos (suc a
 interval-ones : (n : ℕ) → interval (pos 1) (pos n) ≡ map number (one_to n)
 interval-ones n = let e : (pos n -ℤ pos 1) +ℤ pos 1 ≡ pos n = omega (arith, ints) in ap (λ m. numbers_up (pos 1) (natural m)) e ∙ ones-up 1 n
 
+-- The members of `int(1..n)`.
 pub members-ones : (n : ℕ) → sorted_once (append_all (interval (pos 1) (pos n) ∷ [])) ≡ map number (one_to n)
 members-ones n = ap sorted_once (append-nil (interval (pos 1) (pos n)) ∙ interval-ones n) ∙ sorted_once-itself (map number (one_to n)) (ones-rise 1 n)
 
@@ -71,6 +73,7 @@ module _ (env0 : Env) (q : ℕ → Text) (q-apart : (m l : ℕ) → l < m → sa
   abbrev At : ℕ → ℤ → Bound env0 q q-apart → Bound env0 q q-apart
   At l k bs = (l, number k) ∷ bs
 
+  -- A constraint of each slot where a test holds.
   pub over-slots-means : (l : ℕ) (size test part : Ex) (s : ℕ) (t p : ℤ → Bool) (bs : Bound env0 q q-apart) → Number size (Mb bs) (pos s) →
       EachOf (one_to s) (λ k. (meaning test (Mb (At l k bs)) ≡ Some (truth (t k))) × (t k ≡ true → meaning part (Mb (At l k bs)) ≡ Some (truth (p k)))) →
       meaning (over_slots q l size test part) (Mb bs) ≡ Some (truth (list_all (λ k. not (t k) || p k) (one_to s)))
@@ -106,6 +109,7 @@ module _ (env0 : Env) (q : ℕ → Text) (q-apart : (m l : ℕ) → l < m → sa
       is_lt (order_rows (rows (all_codes env0 q q-apart vsss) (behind (i ++ (k ∷ [])) (cells_of ts))) (rows (all_codes env0 q q-apart vsss) (behind (i ++ ((k +ℤ pos 1) ∷ [])) (cells_of ts))))) (one_to s) &&
       list_all (λ k. int_le k (pos n) || are_zero (all_codes env0 q q-apart vsss) (behind (i ++ (k ∷ [])) (cells_of ts))) (one_to s))
 
+  -- The constraint of slots means the test of each slot.
   pub slots-means : (l : ℕ) (size m : Ex) (ss : List Shape) (vsss : List (List (List Value))) (ts : Tables) (is : Exs) (i : List ℤ) (bs : Bound env0 q q-apart) (part : Ex) (p : ℤ → Bool) (s n : ℕ) →
       Placed env0 q q-apart ss vsss ts → ((k : ℕ) → 1 ≤ k → k ≤ s → There env0 q q-apart ss vsss ts (i ++ (pos k ∷ []))) → Steady env0 q q-apart l is i bs →
       Number size (Mb bs) (pos s) → ((k : ℤ) → Number m (Mb (At l k bs)) (pos n)) → n ≤ s →

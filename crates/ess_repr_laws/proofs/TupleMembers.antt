@@ -37,6 +37,7 @@ rise-append (x ∷ xs) ys p q b = (below-append x xs ys p.0 b.0, rise-append xs 
     below-append x [] ys a b = b
     below-append x (z ∷ zs) ys a b = (a.0, below-append x zs ys a.1 b)
 
+-- The images of two lists.
 pub map-append : {A B : Type 0} (f : A → B) (xs ys : List A) → map f (xs ++ ys) ≡ map f xs ++ map f ys
 map-append f [] ys = refl
 map-append f (x ∷ xs) ys = ap (λ l. f x ∷ l) (map-append f xs ys)

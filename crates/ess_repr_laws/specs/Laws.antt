@@ -1,10 +1,10 @@
 -- Laws of canonical tables, each stated at a function that does nothing, so that its proof is checked with the code.
-use Rattle.std.specs.Prelude.{◌≡◌, true, false, List, [], ◌∷◌, length, drop, Option, Some}
+use Rattle.std.specs.Prelude.{◌≡◌, ℕ, ◌<◌, true, false, List, [], ◌∷◌, length, drop, Option, Some}
 use Rattle.ess_semantics.specs.declared.words.ReprKind.{ReprKind}
 use Rattle.ess_semantics.specs.Lists.{and_then, each_of}
-use Rattle.ess_semantics.specs.Values.{Value}
-use Rattle.ess_semantics.specs.Order.{order}
-use Rattle.ess_semantics.specs.Trees.{Repr, repr, no_reprs, more_reprs, Dom, Stm}
+use Rattle.ess_semantics.specs.Values.{Text, Value, truth}
+use Rattle.ess_semantics.specs.Order.{order, same_text}
+use Rattle.ess_semantics.specs.Trees.{Repr, repr, no_reprs, more_reprs, Mark, Ex, Exs, no_exs, Dom, Stm}
 use Rattle.ess_semantics.specs.Domains.{Domain}
 use Rattle.ess_semantics.specs.Membership.{member}
 use Rattle.ess_semantics.specs.Tables.{Tables}
@@ -17,7 +17,7 @@ use Rattle.ess_semantics.specs.CanonicalTest.{canonical}
 use Rattle.ess_semantics.specs.Tidy.{over_axes}
 use Rattle.ess_semantics.specs.Layers.{Layer}
 use Rattle.ess_semantics.specs.OneLayer.{inner_values, layer_tables, inner_tables, layer_value}
-use Rattle.ess_semantics.specs.Meaning.{Env, domain_of}
+use Rattle.ess_semantics.specs.Meaning.{Env, meaning, domain_of}
 use Rattle.ess_semantics.specs.Positions.{with_positions, domain_with_positions, with_types}
 use Rattle.ess_semantics.specs.Scopes.{Scope}
 use Rattle.ess_semantics.specs.DomainJudgements.{is_finite, is_enumerable, needs_known_slots}
@@ -27,7 +27,9 @@ use Rattle.ess_repr_laws.specs.Finite.{Enumerated, Bounded, Finite, Enumerable}
 use Rattle.ess_repr_laws.specs.Rooms.{Covered, Roomy}
 use Rattle.ess_repr_laws.specs.WellFormed.{Well}
 use Rattle.ess_repr_laws.specs.TypedDomains.{OneType, Typed}
-use Rattle.ess_repr_laws.specs.CanonicalTables.{Right, OneForm, is_compound}
+use Rattle.ess_repr_laws.specs.CanonicalTables.{TablesFit, Right, OneForm, is_compound}
+use Rattle.ess_repr_laws.specs.Structure.{shapes, structure}
+use Rattle.ess_repr_laws.specs.StructureMeaning.{Bound, M, Placed, axes_members, Ready}
 
 -- The representation is one for the domain expression, which is well formed and needs slots of a known number.
 pub record Fitting (r : Repr) (d : Dom) : Type 0 where
@@ -110,3 +112,15 @@ pub record LayersAreComposed : Type 0 where
       layer k d ≡ Some l → l.children ≡ e ∷ [] → length (drop (own_width k) ts) ≡ width r →
       value_of_tables (repr k (more_reprs r no_reprs)) d ts [] ≡
       and_then (inner_tables k d ts) (λ tss. and_then (each_of tss (λ t. value_of_tables r e t [])) (layer_value k d ts))
+
+-- The structure constraint of a view, over tables on the declared axes with items in the declared domains, means that the cells
+-- are canonical. So for sets in any nesting, kept as the members that occur, in slots that are all in use, or up to a marker.
+abbrev pub StructuresMeanCanonical : Type 0
+StructuresMeanCanonical =
+    (env0 : Env) (q : ℕ → Text) (apart : (m l : ℕ) → l < m → same_text (q m) (q l) ≡ false) (size : List Mark → Exs → Dom → Ex)
+    (atom : Dom → Ex → Ex) →
+    (r : Repr) (d : Dom) (e : Domain) → Ready env0 q apart size atom r d e → (ns : List Text) (ts : Tables) (l : ℕ)
+    (bs : Bound env0 q apart) →
+    length ts ≡ width r → Placed env0 q apart (shapes q size atom r d ns) (axes_members r e) ts → over_axes [] (axes_of r e) ts ≡ true →
+    TablesFit (declarations r e) ts → meaning (structure q size atom r d ns l no_exs) (M env0 q apart bs) ≡ Some
+    (truth (canonical r e (cells_of ts)))

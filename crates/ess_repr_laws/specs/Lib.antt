@@ -7,5 +7,6 @@ pub mod CanonicalTables
 pub mod TypedDomains
 -- The constraint that cells are canonical
 pub mod Structure
+pub mod StructureMeaning
 -- What is proved
 pub mod Laws

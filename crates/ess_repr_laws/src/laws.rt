@@ -1,6 +1,6 @@
 //! Laws of canonical tables, each the contract of a function that does nothing.
 
-ghost use Rattle.ess_repr_laws.specs.Laws.{MembersHaveCanonicalTables, JudgedDomainsAreWell, CanonicalTablesAreOne, CanonicalCellsAreRight, BoundsAreRight, PositionsStandForTypes, PlansStandForMembers, LayersAreComposed};
+ghost use Rattle.ess_repr_laws.specs.Laws.{MembersHaveCanonicalTables, JudgedDomainsAreWell, CanonicalTablesAreOne, CanonicalCellsAreRight, BoundsAreRight, PositionsStandForTypes, PlansStandForMembers, LayersAreComposed, StructuresMeanCanonical};
 
 /// Each member of a domain has canonical tables under a representation that fits the domain: they are over exactly the declared
 /// axes, in the declared domains, canonical, stand for the member, and are the only ones.
@@ -41,4 +41,9 @@ pub fn plans_stand_for_members()
 /// One layer: its canonical tables are made of those of the inner values, and its value of theirs.
 pub fn layers_are_composed()
     ensures { LayersAreComposed }
+{}
+
+/// The structure constraint of nested sets means that the cells are canonical.
+pub fn structures_mean_canonical()
+    ensures { StructuresMeanCanonical }
 {}

@@ -25,7 +25,7 @@ use Rattle.ess_semantics.specs.Tidy.{tidy}
 use Rattle.ess_semantics.specs.Judgements.{unknown_name, fault}
 use Rattle.ess_semantics.specs.Assignments.{nothing_given}
 use Rattle.ess_semantics.specs.Literals.{literal_value, type_of_literal}
-use Rattle.ess_semantics.specs.Plans.{plans, table_list}
+use Rattle.ess_semantics.specs.Plans.{plans, table_list, finds_side, givens_side}
 use Rattle.ess_semantics.specs.ModelTrees.{no_goal, Model}
 use Rattle.ess_semantics.specs.ModelMeaning.{env_of_tables}
 use Rattle.ess_semantics.specs.Satisfaction.{undefined, model_verdict}
@@ -106,10 +106,10 @@ no_member_is_not_tidy = refl
 -- ---- names that are taken
 
 -- the word alldifferent_except stands outside the subset
-word_is_taken : table_list true (find (codes "alldifferent") (record_dom (codes "except" ∷ []) (more_doms bool_dom no_doms)) ∷ []) [] ≡ (codes "alldifferent_except_", 0) ∷ []
+word_is_taken : table_list finds_side (find (codes "alldifferent") (record_dom (codes "except" ∷ []) (more_doms bool_dom no_doms)) ∷ []) [] ≡ (codes "alldifferent_except_", 0) ∷ []
 word_is_taken = refl
 
-declared_name_is_taken_for_a_given : table_list false (given (codes "s") (set (upto 2)) ∷ find (codes "s_Occurrence") bool_dom ∷ []) [] ≡ (codes "s_Occurrence_", 1) ∷ []
+declared_name_is_taken_for_a_given : table_list givens_side (given (codes "s") (set (upto 2)) ∷ find (codes "s_Occurrence") bool_dom ∷ []) [] ≡ (codes "s_Occurrence_", 1) ∷ []
 declared_name_is_taken_for_a_given = refl
 
 -- ---- values of types

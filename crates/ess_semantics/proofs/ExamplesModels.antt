@@ -13,7 +13,7 @@ use Rattle.ess_semantics.specs.Tables.{Table, one_cell}
 use Rattle.ess_semantics.specs.Choice.{alone, over_child}
 use Rattle.ess_semantics.specs.Assignments.{Assignment, nothing_given}
 use Rattle.ess_semantics.specs.Solutions.{Sol, valid, verdict}
-use Rattle.ess_semantics.specs.Plans.{values_stood_for, Options, plans, table_list, Stands, canonical_tables, given_tables, cells_of_name}
+use Rattle.ess_semantics.specs.Plans.{values_stood_for, Options, plans, table_list, Stands, canonical_tables, given_tables, cells_of_name, finds_side, givens_side}
 use Rattle.ess_semantics.specs.DeclaredTables.{TableDecl}
 use Rattle.ess_semantics.specs.ModelTrees.{no_goal, Model}
 use Rattle.ess_semantics.specs.ModelMeaning.{model_value}
@@ -51,7 +51,7 @@ abbrev no_options : Options
 no_options = []
 
 abbrev names : List Stm → List (Text × ℕ)
-names S = table_list true S no_options
+names S = table_list finds_side S no_options
 
 abbrev ints : List ℕ → List ℤ
 ints = map pos
@@ -131,7 +131,7 @@ just_2 = gives1 s (set_of (v 2 ∷ []))
 stands : Stands two_in_s no_options nothing_given just_2 (bits 0 1 0)
 stands = record { names = refl; types = refl; tables = refl; each_stands = refl }
 
-canonical : canonical_tables true two_in_s no_options nothing_given just_2 ≡ Some (bits 0 1 0)
+canonical : canonical_tables finds_side two_in_s no_options nothing_given just_2 ≡ Some (bits 0 1 0)
 canonical = refl
 
 solution : Sol two_in_s nothing_given just_2
@@ -198,7 +198,7 @@ size_table = refl
 abbrev injections : List Stm
 injections = given m from_1 ∷ find f (function_dom (flag Key.Total ∷ flag Key.Injective ∷ []) no_exs (range (n 1) (N m)) (range (n 1) (N m))) ∷ []
 
-given_names : table_list false injections no_options ≡ named m 0 ∷ []
+given_names : table_list givens_side injections no_options ≡ named m 0 ∷ []
 given_names = refl
 
 find_names : names injections ≡ named (codes "f_Function1D") 1 ∷ []

@@ -12,7 +12,7 @@ use Rattle.ess_semantics.specs.Choice.{alone, over_child}
 use Rattle.ess_semantics.specs.Meaning.{Env, domain_of, meaning}
 use Rattle.ess_semantics.specs.Positions.{with_positions, with_tables}
 use Rattle.ess_semantics.specs.Assignments.{nothing_given, env_of}
-use Rattle.ess_semantics.specs.Plans.{Options, plan_domain, plan_stands, plans, declared_under, Stands, canonical_tables, values_stood_for}
+use Rattle.ess_semantics.specs.Plans.{Options, plan_domain, plan_stands, plans, declared_under, Stands, canonical_tables, values_stood_for, finds_side}
 use Rattle.ess_semantics.proofs.Shorthands.{set, gives1}
 
 abbrev E : Text
@@ -63,7 +63,7 @@ with_positions_is = refl
 seen : meaning (seen_ex (alone ReprKind.Occurrence) (set (name_dom E)) (codes "s_Occurrence" ∷ []) no_exs) (with_tables here a_and_c) ≡ Some (with_positions (letters (1 ∷ 3 ∷ [])))
 seen = refl
 
-canonical : canonical_tables true set_of_letters both nothing_given (gives1 s (letters (3 ∷ 1 ∷ []))) ≡ Some a_and_c
+canonical : canonical_tables finds_side set_of_letters both nothing_given (gives1 s (letters (3 ∷ 1 ∷ []))) ≡ Some a_and_c
 canonical = refl
 
 stands : Stands set_of_letters both nothing_given (gives1 s (letters (1 ∷ 3 ∷ []))) a_and_c
@@ -84,6 +84,6 @@ types_come_back = refl
 no_value : values_stood_for set_of_letters slots nothing_given (cell (codes "s_ExplicitVarSizeWithMarker_Marker") 1 ∷ line (codes "s_ExplicitVarSizeWithMarker_Values") (4 ∷ 0 ∷ 0 ∷ []) ∷ []) ≡ (s, None) ∷ []
 no_value = refl
 
-cells_are_declared : map (λ d. d.cell) (declared_under true set_of_letters both nothing_given) ≡
+cells_are_declared : map (λ d. d.cell) (declared_under finds_side set_of_letters both nothing_given) ≡
     booleans ∷ between (pos 0) (pos 3) ∷ widened (between (pos 1) (pos 3)) ∷ []
 cells_are_declared = refl

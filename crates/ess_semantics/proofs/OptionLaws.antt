@@ -7,7 +7,7 @@ use Rattle.ess_semantics.specs.Order.{same_text}
 use Rattle.ess_semantics.specs.Names.{Names, look}
 use Rattle.ess_semantics.specs.Trees.{Repr, Dom, Stm, find}
 use Rattle.ess_semantics.specs.Choice.{alone, over_child, default_repr}
-use Rattle.ess_semantics.specs.Plans.{Options, chosen_reprs, plans_for}
+use Rattle.ess_semantics.specs.Plans.{Options, chosen_reprs, plans_for, finds_side}
 use Rattle.ess_semantics.specs.ChosenOptions.{ItemsFit, OptionsFit}
 use Rattle.ess_semantics.proofs.Shorthands.{sized, upto}
 use Rattle.ess_semantics.specs.declared.words.Key.{Key}
@@ -50,7 +50,7 @@ two-fit = (record { new = refl; some = refl; fitting = refl; differ = ((λ k e. 
     none k e = cc
 
 -- Without a representation s would have no plan.
-no-plan : plans_for true one_set (for_s []) ≡ []
+no-plan : plans_for finds_side one_set (for_s []) ≡ []
 no-plan = refl
 
 none-refused : OptionsFit one_set (for_s []) → ⊥

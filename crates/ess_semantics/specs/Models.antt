@@ -23,7 +23,7 @@ use Rattle.ess_semantics.specs.LargeModels.{declares_large}
 use Rattle.ess_semantics.specs.Assignments.{Assignment, Placed, placed}
 use Rattle.ess_semantics.specs.Parameters.{Param}
 use Rattle.ess_semantics.specs.Solutions.{InDomains, Sol, constraint_holds}
-use Rattle.ess_semantics.specs.Plans.{value_names, Options, Plan, value_plan, plans, table_list, declared_under, Stands, canonical_tables, given_tables}
+use Rattle.ess_semantics.specs.Plans.{value_names, Options, Plan, value_plan, plans, table_list, declared_under, Stands, canonical_tables, given_tables, finds_side, givens_side}
 use Rattle.ess_semantics.specs.ModelTrees.{Header, Model, is_constraint, header_of, all_decls, goal_of, same_direction}
 use Rattle.ess_semantics.specs.ModelMeaning.{model_domain}
 use Rattle.ess_semantics.specs.Satisfaction.{rule_holds, Sat, goal_value}
@@ -136,7 +136,7 @@ objective_at (l ∷ ls) = or_else (objective_value l.stm l.env) (objective_at ls
 
 -- The values stand in order of declaration, and no types beside them.
 abbrev pub Ordered : List Stm → Assignment → Type 0
-Ordered S a = (keys a.vals ≡ value_names true S) × (a.types ≡ [])
+Ordered S a = (keys a.vals ≡ value_names finds_side S) × (a.types ≡ [])
 
 -- Under the parameter p with the given tables q, the tables that satisfy the model stand for exactly the solutions.
 pub record Represents (S : List Stm) (o : Options) (E : Model) (p : Assignment) (q : Names Table) : Type 0 where
@@ -148,18 +148,18 @@ pub record Represents (S : List Stm) (o : Options) (E : Model) (p : Assignment) 
   -- the objectives agree
   pub same_goal : (c : Names Table) (a : Assignment) → Sat E q c → Stands S o p a c → goal_value E q c ≡ objective_at (placed S p a)
   -- at the canonical tables of members each constraint has its truth
-  pub same_constraints : (a : Assignment) (c : Names Table) → InDomains S p a → canonical_tables true S o p a ≡ Some c →
+  pub same_constraints : (a : Assignment) (c : Names Table) → InDomains S p a → canonical_tables finds_side S o p a ≡ Some c →
       rule_truths S E q c ≡ constraint_truths S p a
 
 -- The model with this header stands for the specification.
 pub record Models (S : List Stm) (o : Options) (H : Header) (E : Model) : Type 0 where
   pub header : H ≡ header_of S o
-  pub given_names : map decl_name E.givens ≡ table_list false S o
-  pub find_names : map decl_name E.finds ≡ table_list true S o
+  pub given_names : map decl_name E.givens ≡ table_list givens_side S o
+  pub find_names : map decl_name E.finds ≡ table_list finds_side S o
   pub given_domains : (p : Assignment) (q : Names Table) → Param S p → given_tables S o p ≡ Some q →
-      DeclaredAs (model_domain (all_decls E) q) E.givens (declared_under false S o p)
+      DeclaredAs (model_domain (all_decls E) q) E.givens (declared_under givens_side S o p)
   pub find_domains : (p : Assignment) (q : Names Table) → Param S p → given_tables S o p ≡ Some q →
-      DeclaredAs (model_domain (all_decls E) q) E.finds (declared_under true S o p)
+      DeclaredAs (model_domain (all_decls E) q) E.finds (declared_under finds_side S o p)
   pub goal_direction : IsTrue (same_direction E.goal (goal_of S))
   pub constants : IsTrue (spells_constants S E)
   pub flat : (k : ℕ) (e : Ex) → item_number (constraints_of S) k ≡ Some e → IsTrue (is_flat (plans S o) e) →
@@ -172,6 +172,6 @@ pub record Models (S : List Stm) (o : Options) (H : Header) (E : Model) : Type 0
 -- exactly one.
 pub record IsExact (S : List Stm) (o : Options) (E : Model) : Type 0 where
   pub canonical : (p : Assignment) (q c : Names Table) → Param S p → given_tables S o p ≡ Some q → Sat E q c →
-      (a : Assignment) × Sol S p a × (canonical_tables true S o p a ≡ Some c)
+      (a : Assignment) × Sol S p a × (canonical_tables finds_side S o p a ≡ Some c)
   pub satisfies : (p a : Assignment) (q : Names Table) → Param S p → given_tables S o p ≡ Some q → Sol S p a → Ordered S a →
-      (c : Names Table) × (canonical_tables true S o p a ≡ Some c) × Sat E q c
+      (c : Names Table) × (canonical_tables finds_side S o p a ≡ Some c) × Sat E q c

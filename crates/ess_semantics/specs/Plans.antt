@@ -59,11 +59,21 @@ all_lists S = choices (map (λ x. all_reprs x.1) (kept_names S))
 
 -- ---- plans
 
+-- The givens, or the finds.
+pub data Side : Type 0 where
+  givens_side finds_side : Side
+
+-- Whether the two are one.
+abbrev pub same_side : Side → Side → Bool
+same_side givens_side givens_side = true
+same_side finds_side finds_side = true
+same_side a b = false
+
 -- A given or find with one of its representations, and the names of its tables with their numbers of axes; or a given
 -- enumerated type with the name of the cell for its number of values.
 pub data Plan : Type 0 where
   size_plan : Text → Text → Plan
-  value_plan : Bool → Text → Repr → Dom → List Named → Plan
+  value_plan : Side → Text → Repr → Dom → List Named → Plan
 
 -- The names of a plan's tables.
 abbrev pub names_of_plan : Plan → List Named
@@ -71,7 +81,7 @@ names_of_plan (size_plan t a) = (a, 0) ∷ []
 names_of_plan (value_plan f x r d ns) = ns
 
 -- Each representation of a name gets free names.
-abbrev pub plans_of_name : Bool → Text → Dom → List Repr → List Text → List Plan
+abbrev pub plans_of_name : Side → Text → Dom → List Repr → List Text → List Plan
 plans_of_name f x d [] taken = []
 plans_of_name f x d (r ∷ rs) taken =
     let ns : List Named = named_tables x (table_names r d) taken in
@@ -79,9 +89,9 @@ plans_of_name f x d (r ∷ rs) taken =
 
 -- The plans of a statement.
 abbrev pub plans_of_stm : Stm → Options → List Text → List Text → List Plan
-plans_of_stm (given x d) o declared done = plans_of_name false x d (chosen_reprs o x d) (without x declared ++ done)
+plans_of_stm (given x d) o declared done = plans_of_name givens_side x d (chosen_reprs o x d) (without x declared ++ done)
 plans_of_stm (given_enum t) o declared done = size_plan t (free_name (declared ++ done) (t ++ codes "_Size")) ∷ []
-plans_of_stm (find x d) o declared done = plans_of_name true x d (chosen_reprs o x d) (without x declared ++ done)
+plans_of_stm (find x d) o declared done = plans_of_name finds_side x d (chosen_reprs o x d) (without x declared ++ done)
 plans_of_stm s o declared done = []
 
 -- The names of the tables of several plans.
@@ -99,17 +109,17 @@ plans_from (s ∷ ss) o declared done =
 abbrev pub plans : List Stm → Options → List Plan
 plans S o = plans_from (prepared S) o (all_declared S) (codes "alldifferent_except" ∷ [])
 
--- Whether a plan is one of a find.
-abbrev pub is_found : Plan → Bool
-is_found (size_plan t a) = false
-is_found (value_plan f x r d ns) = f
+-- Whether a plan is one of the givens, or of the finds.
+abbrev pub side_of : Plan → Side
+side_of (size_plan t a) = givens_side
+side_of (value_plan f x r d ns) = f
 
 -- The plans of the finds, or of the givens.
-abbrev pub plans_for : Bool → List Stm → Options → List Plan
-plans_for f S o = filter (λ p. if f then is_found p else not (is_found p)) (plans S o)
+abbrev pub plans_for : Side → List Stm → Options → List Plan
+plans_for f S o = filter (λ p. same_side (side_of p) f) (plans S o)
 
 -- The tables' names with their numbers of axes.
-abbrev pub table_list : Bool → List Stm → Options → List Named
+abbrev pub table_list : Side → List Stm → Options → List Named
 table_list f S o = names_of_plans (plans_for f S o)
 
 -- ---- what the tables are under a parameter
@@ -128,7 +138,7 @@ declared_by_plan env (size_plan t a) = record { axes = []; cell = from_one } ∷
 declared_by_plan env (value_plan f x r d ns) = list_or_none (option_map (declarations r) (plan_domain d env))
 
 -- The axes and cell domains of the tables, under the parameter p.
-abbrev pub declared_under : Bool → List Stm → Options → Assignment → List Declaration
+abbrev pub declared_under : Side → List Stm → Options → Assignment → List Declaration
 declared_under f S o p = append_all (map (declared_by_plan (env_of S p nothing_given)) (plans_for f S o))
 
 -- The number of cells of a plan.
@@ -172,16 +182,18 @@ plan_stands env a c (value_plan f x r d ns) =
     is_some_and (value_of a x) (λ v. is_some_and (domain_of d env) (λ e. is_some_and (tables_in c (keys ns)) (λ ts. stands_for_member r e ts v)))
 
 -- The names that have values in an assignment of the finds, or of the givens.
-abbrev pub value_names : Bool → List Stm → List Text
-value_names f S = if f then finds S else value_givens S
+abbrev pub value_names : Side → List Stm → List Text
+value_names givens_side S = value_givens S
+value_names finds_side S = finds S
 
 -- The given enumerated types, where givens are asked for.
-abbrev pub type_names : Bool → List Stm → List Text
-type_names f S = if f then [] else given_enums S
+abbrev pub type_names : Side → List Stm → List Text
+type_names givens_side S = given_enums S
+type_names finds_side S = []
 
 -- The tables c stand for the assignment a of the finds, or of the givens, under the parameter p, and hold nothing else.
 -- Assignments and tables are in order of declaration.
-pub record StandsFor (f : Bool) (S : List Stm) (o : Options) (p a : Assignment) (c : Names Table) : Type 0 where
+pub record StandsFor (f : Side) (S : List Stm) (o : Options) (p a : Assignment) (c : Names Table) : Type 0 where
   pub names : keys a.vals ≡ value_names f S
   pub types : keys a.types ≡ type_names f S
   pub tables : keys c ≡ keys (table_list f S o)
@@ -189,14 +201,14 @@ pub record StandsFor (f : Bool) (S : List Stm) (o : Options) (p a : Assignment) 
 
 -- The tables of the finds stand for the values a.
 abbrev pub Stands : List Stm → Options → Assignment → Assignment → Names Table → Type 0
-Stands S o p a c = StandsFor true S o p a c
+Stands S o p a c = StandsFor finds_side S o p a c
 
 -- ---- the assignment that tables stand for
 
 -- Whether a plan is one of this find.
 abbrev pub is_plan_of : Text → Plan → Bool
 is_plan_of x (size_plan t a) = false
-is_plan_of x (value_plan f y r d ns) = f && same_text y x
+is_plan_of x (value_plan f y r d ns) = same_side f finds_side && same_text y x
 
 -- The value that tables stand for at the domain with positions, with the domain's types put back.
 abbrev pub value_with_types : Repr → Domain → Tables → Option Value
@@ -217,7 +229,7 @@ common_value env c (p ∷ ps) =
 -- Of each find, in order of declaration, the value for which the tables stand by all of its representations, if any.
 abbrev pub values_stood_for : List Stm → Options → Assignment → Names Table → Names (Option Value)
 values_stood_for S o p c =
-    map (λ x. (x, common_value (env_of S p nothing_given) c (filter (is_plan_of x) (plans S o)))) (value_names true S)
+    map (λ x. (x, common_value (env_of S p nothing_given) c (filter (is_plan_of x) (plans S o)))) (value_names finds_side S)
 
 -- ---- the canonical tables of an assignment
 
@@ -232,9 +244,9 @@ canonical_by_plan env a (value_plan f x r d ns) =
     and_then (value_of a x) (λ v. and_then (plan_domain d env) (λ e. option_map (name_tables ns) (tables_of_value r e (with_positions v))))
 
 -- The canonical tables of the finds, or of the givens, in the assignment a under the parameter p.
-abbrev pub canonical_tables : Bool → List Stm → Options → Assignment → Assignment → Option (Names Table)
+abbrev pub canonical_tables : Side → List Stm → Options → Assignment → Assignment → Option (Names Table)
 canonical_tables f S o p a = option_map append_all (each_of (plans_for f S o) (canonical_by_plan (env_of S p nothing_given) a))
 
 -- The given tables of a parameter.
 abbrev pub given_tables : List Stm → Options → Assignment → Option (Names Table)
-given_tables S o p = canonical_tables false S o p p
+given_tables S o p = canonical_tables givens_side S o p p
