@@ -17,3 +17,4 @@ pub mod Soundness
 pub mod SoundEnvs
 pub mod MembersTyped
 pub mod Examples
+pub mod Judged

@@ -89,7 +89,8 @@ node-direct b op es g =
 
 -- ---- generators
 
-source-resolved : (e : Ex) (g : Names Ty) → source_ty (resolve e g) g ≡ source_ty e g
+-- A resolved source gives what it gave.
+pub source-resolved : (e : Ex) (g : Names Ty) → source_ty (resolve e g) g ≡ source_ty e g
 source-resolved e g = ap (λ o. or_any (and_then o member_ty)) (type-resolved e g)
 
 -- Behind resolved generators the same names are in scope, with the same types.

@@ -1,5 +1,5 @@
 -- Laws on types, each stated at a function that does nothing, so that its proof is checked with the code.
-use Rattle.std.specs.Prelude.{◌≡◌, true, List, [], Some, IsTrue}
+use Rattle.std.specs.Prelude.{◌≡◌, true, false, List, [], Some, IsTrue}
 use Rattle.ess_semantics.specs.Values.{Value}
 use Rattle.ess_semantics.specs.Names.{Names}
 use Rattle.ess_semantics.specs.Trees.{Pat, Ex, Dom, Stm}
@@ -16,6 +16,9 @@ use Rattle.ess_semantics.specs.Typed.{Typed}
 use Rattle.ess_semantics.specs.StaysAt.{OverStays, FromStays}
 use Rattle.ess_semantics.specs.Domains.{Domain}
 use Rattle.ess_semantics.specs.Membership.{member}
+use Rattle.ess_semantics.specs.Scopes.{Scope, every}
+use Rattle.ess_semantics.specs.Occurrences.{has_cells}
+use Rattle.ess_types_laws.specs.SoundParts.{sound_parts}
 use Rattle.ess_types_laws.specs.ProperDomains.{is_proper}
 use Rattle.ess_types_laws.specs.WellBound.{WellBound}
 
@@ -58,3 +61,9 @@ pub record TypesStay : Type 0 where
   pub over_domains : (g : Names Ty) (p : Pat) (d : Dom) → pattern_fits p (type_of_dom d) ≡ true → OverStays Typed g p d
   pub from_sources : (g : Names Ty) (p : Pat) (e : Ex) (t m : Ty) → IsResolved e g → WellBound e g → type_of e g ≡ Some t → member_ty t ≡ Some m →
       pattern_fits p m ≡ true → FromStays Typed g p e
+
+-- So it is with each judged expression without cells and views: resolved, it has nothing or a value of its type under an env
+-- that gives the names in scope values of their types.
+abbrev pub JudgedExpressionsAreSound : Type 0
+JudgedExpressionsAreSound = (e : Ex) (s : Scope) (env : Env) → has_cells e ≡ false → every sound_parts e s ≡ true → Typed s.tys env → (t : Ty) →
+    type_of e s.tys ≡ Some t → (v : Value) → meaning (resolve e s.tys) env ≡ Some v → IsTrue (is_of_type t env v)

@@ -1,6 +1,6 @@
 //! Laws on types, each the contract of a function that does nothing.
 
-ghost use Rattle.ess_types_laws.specs.Laws.{ResolvingKeepsTypes, ResolvedTreesStay, PreparedIsResolved, MembersHaveTheirType, ListedMembersHaveTheirType, PatternsBindTheirTypes, MeaningsHaveTheirType, TypesStay};
+ghost use Rattle.ess_types_laws.specs.Laws.{ResolvingKeepsTypes, ResolvedTreesStay, PreparedIsResolved, MembersHaveTheirType, ListedMembersHaveTheirType, PatternsBindTheirTypes, MeaningsHaveTheirType, JudgedExpressionsAreSound, TypesStay};
 
 /// A resolved expression has the type that the expression had before.
 pub fn resolving_keeps_types()
@@ -36,6 +36,11 @@ pub fn patterns_bind_their_types()
 /// or a value of it.
 pub fn meanings_have_their_type()
     ensures { MeaningsHaveTheirType }
+{}
+
+/// So it is with each judged expression without cells and views, once it is resolved.
+pub fn judged_expressions_are_sound()
+    ensures { JudgedExpressionsAreSound }
 {}
 
 /// Behind a generator names have values of their types still, the bound ones too.
