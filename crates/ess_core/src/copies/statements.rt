@@ -1,8 +1,8 @@
 ghost use Rattle.std.specs.Prelude.{◌≡◌, IfOk};
 
-use crate::copies::copy_texts;
-use crate::{Dom, Ex, Spec, Stm};
-use ess_rows::{Boxed, NoMemory, Row};
+use super::{both, boxed, copy_texts};
+use crate::{Spec, Stm};
+use ess_rows::{NoMemory, Row};
 use std::alloc::Global;
 
 impl Stm {
@@ -12,34 +12,34 @@ impl Stm {
     {
         match self {
             Stm::Given(name, dom) => {
-                let name = name.copy(alloc)?;
-                Ok(Stm::Given(name, copy_boxed_dom(alloc, dom)?))
+                let (name, dom) = both(name.copy(alloc), boxed(alloc, dom.get().copy(alloc)))?;
+                Ok(Stm::Given(name, dom))
             }
-            Stm::GivenEnum(name) => Ok(Stm::GivenEnum(name.copy(alloc)?)),
+            Stm::GivenEnum(name) => name.copy(alloc).map(Stm::GivenEnum),
             Stm::LetEx(name, ex) => {
-                let name = name.copy(alloc)?;
-                Ok(Stm::LetEx(name, copy_boxed_ex(alloc, ex)?))
+                let (name, ex) = both(name.copy(alloc), boxed(alloc, ex.get().copy(alloc)))?;
+                Ok(Stm::LetEx(name, ex))
             }
             Stm::LetDom(name, dom) => {
-                let name = name.copy(alloc)?;
-                Ok(Stm::LetDom(name, copy_boxed_dom(alloc, dom)?))
+                let (name, dom) = both(name.copy(alloc), boxed(alloc, dom.get().copy(alloc)))?;
+                Ok(Stm::LetDom(name, dom))
             }
             Stm::LetEnum(name, values) => {
-                let name = name.copy(alloc)?;
-                Ok(Stm::LetEnum(name, copy_texts(alloc, values)?))
+                let (name, values) = both(name.copy(alloc), copy_texts(alloc, values))?;
+                Ok(Stm::LetEnum(name, values))
             }
             Stm::LetUnnamed(name, size) => {
-                let name = name.copy(alloc)?;
-                Ok(Stm::LetUnnamed(name, copy_boxed_ex(alloc, size)?))
+                let (name, size) = both(name.copy(alloc), boxed(alloc, size.get().copy(alloc)))?;
+                Ok(Stm::LetUnnamed(name, size))
             }
-            Stm::Needs(ex) => Ok(Stm::Needs(copy_boxed_ex(alloc, ex)?)),
+            Stm::Needs(ex) => boxed(alloc, ex.get().copy(alloc)).map(Stm::Needs),
             Stm::Find(name, dom) => {
-                let name = name.copy(alloc)?;
-                Ok(Stm::Find(name, copy_boxed_dom(alloc, dom)?))
+                let (name, dom) = both(name.copy(alloc), boxed(alloc, dom.get().copy(alloc)))?;
+                Ok(Stm::Find(name, dom))
             }
-            Stm::SuchThat(ex) => Ok(Stm::SuchThat(copy_boxed_ex(alloc, ex)?)),
-            Stm::Minimise(ex) => Ok(Stm::Minimise(copy_boxed_ex(alloc, ex)?)),
-            Stm::Maximise(ex) => Ok(Stm::Maximise(copy_boxed_ex(alloc, ex)?)),
+            Stm::SuchThat(ex) => boxed(alloc, ex.get().copy(alloc)).map(Stm::SuchThat),
+            Stm::Minimise(ex) => boxed(alloc, ex.get().copy(alloc)).map(Stm::Minimise),
+            Stm::Maximise(ex) => boxed(alloc, ex.get().copy(alloc)).map(Stm::Maximise),
         }
     }
 }
@@ -51,20 +51,11 @@ impl Spec {
     {
         let mut stms = Row::with_capacity(alloc, self.stms.len())?;
         for stm in self.stms.as_slice() {
-            stms.push(stm.copy(alloc)?)?;
+            match stm.copy(alloc) {
+                Ok(copy) => stms.push(copy)?,
+                Err(no) => return Err(no),
+            }
         }
         Ok(Spec { stms })
     }
-}
-
-fn copy_boxed_dom(alloc: Global, dom: &Boxed<Dom>) -> Result<Boxed<Dom>, NoMemory>
-    ensures { IfOk result (λ d. d ≡ dom.now) }
-{
-    Boxed::new(alloc, dom.get().copy(alloc)?)
-}
-
-fn copy_boxed_ex(alloc: Global, ex: &Boxed<Ex>) -> Result<Boxed<Ex>, NoMemory>
-    ensures { IfOk result (λ e. e ≡ ex.now) }
-{
-    Boxed::new(alloc, ex.get().copy(alloc)?)
 }
