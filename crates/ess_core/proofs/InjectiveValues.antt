@@ -1,7 +1,7 @@
 -- That two values which stand for one pure value are one: a value is got back from its pure value.
 use Rattle.std.proofs.Common.{◌≡◌, refl, false, sym, ap, ◌∙◌, subst, List, [], ◌∷◌, map}
 use Rattle.ess_semantics.specs.Values.{Text, Value, Values, number, truth, item, node, nil, cons, a_tuple, a_matrix, a_record, a_set, a_mset, a_function, a_relation, a_partition, of_list}
-use Rattle.ess_semantics.specs.Names.{Names, keys}
+use Rattle.ess_semantics.specs.Names.{keys}
 use Rattle.ess_core.specs.ValueViews.{val_step, field_val_step, pair_step, pure_val, pure_field_val, pure_pair, pure_vals}
 use Rattle.ess_core.specs.declared.values.Val.{Val}
 use Rattle.ess_core.specs.declared.values.FieldVal.{FieldVal}
