@@ -1,8 +1,8 @@
 ghost use Rattle.std.specs.Prelude.{◌≡◌, IfOk};
 
 use crate::copies::copy_texts;
-use crate::{Spec, Stm};
-use ess_rows::{NoMemory, Row};
+use crate::{Dom, Ex, Spec, Stm};
+use ess_rows::{Boxed, NoMemory, Row};
 use std::alloc::Global;
 
 impl Stm {
@@ -11,23 +11,35 @@ impl Stm {
         ensures { IfOk result (λ s. s ≡ self.now) }
     {
         match self {
-            Stm::Given(name, dom) => Ok(Stm::Given(name.copy(alloc)?, dom.copy(alloc)?)),
+            Stm::Given(name, dom) => {
+                let name = name.copy(alloc)?;
+                Ok(Stm::Given(name, copy_boxed_dom(alloc, dom)?))
+            }
             Stm::GivenEnum(name) => Ok(Stm::GivenEnum(name.copy(alloc)?)),
-            Stm::LetEx(name, ex) => Ok(Stm::LetEx(name.copy(alloc)?, ex.copy(alloc)?)),
-            Stm::LetDom(name, dom) => Ok(Stm::LetDom(name.copy(alloc)?, dom.copy(alloc)?)),
-            Stm::LetEnum(name, values) => Ok(Stm::LetEnum(
-                name.copy(alloc)?,
-                copy_texts(alloc, values)?,
-            )),
-            Stm::LetUnnamed(name, size) => Ok(Stm::LetUnnamed(
-                name.copy(alloc)?,
-                size.copy(alloc)?,
-            )),
-            Stm::Needs(ex) => Ok(Stm::Needs(ex.copy(alloc)?)),
-            Stm::Find(name, dom) => Ok(Stm::Find(name.copy(alloc)?, dom.copy(alloc)?)),
-            Stm::SuchThat(ex) => Ok(Stm::SuchThat(ex.copy(alloc)?)),
-            Stm::Minimise(ex) => Ok(Stm::Minimise(ex.copy(alloc)?)),
-            Stm::Maximise(ex) => Ok(Stm::Maximise(ex.copy(alloc)?)),
+            Stm::LetEx(name, ex) => {
+                let name = name.copy(alloc)?;
+                Ok(Stm::LetEx(name, copy_boxed_ex(alloc, ex)?))
+            }
+            Stm::LetDom(name, dom) => {
+                let name = name.copy(alloc)?;
+                Ok(Stm::LetDom(name, copy_boxed_dom(alloc, dom)?))
+            }
+            Stm::LetEnum(name, values) => {
+                let name = name.copy(alloc)?;
+                Ok(Stm::LetEnum(name, copy_texts(alloc, values)?))
+            }
+            Stm::LetUnnamed(name, size) => {
+                let name = name.copy(alloc)?;
+                Ok(Stm::LetUnnamed(name, copy_boxed_ex(alloc, size)?))
+            }
+            Stm::Needs(ex) => Ok(Stm::Needs(copy_boxed_ex(alloc, ex)?)),
+            Stm::Find(name, dom) => {
+                let name = name.copy(alloc)?;
+                Ok(Stm::Find(name, copy_boxed_dom(alloc, dom)?))
+            }
+            Stm::SuchThat(ex) => Ok(Stm::SuchThat(copy_boxed_ex(alloc, ex)?)),
+            Stm::Minimise(ex) => Ok(Stm::Minimise(copy_boxed_ex(alloc, ex)?)),
+            Stm::Maximise(ex) => Ok(Stm::Maximise(copy_boxed_ex(alloc, ex)?)),
         }
     }
 }
@@ -43,4 +55,16 @@ impl Spec {
         }
         Ok(Spec { stms })
     }
+}
+
+fn copy_boxed_dom(alloc: Global, dom: &Boxed<Dom>) -> Result<Boxed<Dom>, NoMemory>
+    ensures { IfOk result (λ d. d ≡ dom.now) }
+{
+    Boxed::new(alloc, dom.get().copy(alloc)?)
+}
+
+fn copy_boxed_ex(alloc: Global, ex: &Boxed<Ex>) -> Result<Boxed<Ex>, NoMemory>
+    ensures { IfOk result (λ e. e ≡ ex.now) }
+{
+    Boxed::new(alloc, ex.get().copy(alloc)?)
 }
