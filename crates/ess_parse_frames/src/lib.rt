@@ -18,7 +18,7 @@ pub mod rows;
 pub mod stack;
 pub mod states;
 
-pub use frames::{Frame, Head, Inner, Listing, Literal, Owner};
+pub use frames::{AtLeast, Declaring, Frame, Head, Inner, Listing, Literal, Owner, Sense};
 pub use modes::{Mode, Opening};
 pub use operands::{Listed, Operand};
 pub use states::{Answer, State};

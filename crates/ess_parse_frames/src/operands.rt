@@ -5,7 +5,7 @@ ghost use Rattle.ess_parse_frames.specs.Rows.{back_exs};
 ghost use Rattle.ess_parse_frames.specs.Patterns.{pattern_ex, view_pats, view_operand, is_pattern_operand, back_listed, are_patterns};
 
 use ess_core::{Ex, Pat};
-use ess_rows::{NoMemory, Row};
+use ess_rows::{Boxed, NoMemory, Row};
 use std::alloc::Global;
 
 /// An expression with no operator outside brackets.
@@ -14,7 +14,7 @@ pub enum Operand {
     /// One that is written as a pattern: a name, or two or more patterns in round brackets. It may belong to a generator.
     Pattern(Pat),
     /// Any other.
-    Other(Ex),
+    Other(Boxed<Ex>),
 }
 
 /// Expressions of a list.
@@ -61,14 +61,14 @@ impl Operand {
 
     /// Its expression. `NoMemory` where there is no room for it.
     #[tactic(auto, using(ess_core::proofs::ExpressionEquations::pure_name, ess_core::proofs::PartEquations::pure_pat_name))]
-    pub fn into_expression(self, alloc: Global) -> Result<Ex, NoMemory>
+    pub fn into_expression(self, alloc: Global) -> Result<Boxed<Ex>, NoMemory>
         ensures { IfOk result (λ e. pure_ex e ≡ view_operand self) }
     {
         match self {
             Operand::Other(expression) => Ok(expression),
             Operand::Pattern(pattern) => match pattern {
-                Pat::Name(name) => Ok(Ex::Name(name)),
-                tuple => expression_of(alloc, &tuple),
+                Pat::Name(name) => Boxed::new(alloc, Ex::Name(name)),
+                tuple => Boxed::new(alloc, expression_of(alloc, &tuple)?),
             },
         }
     }
@@ -89,13 +89,13 @@ pub fn with_operand(alloc: Global, listed: Listed, operand: Operand) -> Result<L
             }
             Operand::Other(expression) => {
                 let mut expressions = expressions_of(alloc, &patterns)?;
-                expressions.push(expression)?;
+                expressions.push(expression.into_inner())?;
                 Ok(Listed::Expressions(expressions))
             }
         },
         Listed::Expressions(expressions) => {
             let mut expressions = expressions;
-            expressions.push(operand.into_expression(alloc)?)?;
+            expressions.push(operand.into_expression(alloc)?.into_inner())?;
             Ok(Listed::Expressions(expressions))
         }
     }
