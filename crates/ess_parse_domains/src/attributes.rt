@@ -16,11 +16,12 @@ ghost use Rattle.ess_parse_frames.specs.Views.{view_owner, view_frames, Steps};
 ghost use Rattle.ess_parse_domains.specs.Attributes.{shown_keys, key_named, attribute_in, before_value};
 
 use crate::words::step_domain_wanted;
-use ess_core::{Attr, Key};
+use ess_core::Key;
 use ess_grammar::Kind;
+use ess_parse_frames::ends::end_attributes;
 use ess_parse_frames::rows::with_flag;
 use ess_parse_frames::stack::{Top, at, innermost, inside, stop, within};
-use ess_parse_frames::{Frame, Mode, Owner, State};
+use ess_parse_frames::{AtLeast, Frame, Mode, Owner, State};
 use ess_rows::{NoMemory, Row, Text};
 use std::alloc::Global;
 
@@ -102,7 +103,7 @@ fn begin_tuple(
     ensures { IfOk result (Steps (step_domain_wanted (token kind name) (tuple_domains_frame true no_doms ∷ function_from_frame [] no_exs ∷ view_frames frames))) }
 {
     let frames = within(frames, Frame::FunctionFrom(Row::new(alloc)))?;
-    let frames = within(frames, Frame::TupleDomains(true, Row::new(alloc)))?;
+    let frames = within(frames, Frame::TupleDomains(AtLeast::Two, Row::new(alloc)))?;
     step_domain_wanted(alloc, kind, name, frames)
 }
 
@@ -194,28 +195,4 @@ fn no_value(frame: Frame) -> Result<Option<Row<Frame>>, NoMemory>
 {
     drop(frame);
     Ok(None)
-}
-
-/// Behind all attributes of a domain. `NoMemory` where there is no room for a frame.
-pub fn end_attributes(
-    alloc: Global,
-    owner: Owner,
-    attributes: Row<Attr>,
-    frames: Row<Frame>,
-) -> Result<Option<State>, NoMemory>
-    ensures { IfOk result (Steps (end_attributes (view_owner owner) (reverse_list (back_marks attributes) []) (reverse_exs (back_numbers attributes) no_exs) (view_frames frames))) }
-{
-    match owner {
-        Owner::Inner(inner) => inside(
-            Mode::JoiningWanted(inner),
-            Frame::InnerDomain(inner, attributes),
-            frames,
-        ),
-        Owner::Relation => inside(
-            Mode::RelationOfWanted,
-            Frame::RelationDomains(attributes, Row::new(alloc)),
-            frames,
-        ),
-        Owner::Function => inside(Mode::DomainWanted, Frame::FunctionFrom(attributes), frames),
-    }
 }

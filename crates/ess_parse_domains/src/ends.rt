@@ -7,24 +7,25 @@ ghost use Rattle.ess_grammar.specs.Words.{Text};
 ghost use Rattle.ess_grammar.specs.Kinds.{token};
 ghost use Rattle.ess_parse_laws.specs.Frames as machine;
 ghost use Rattle.ess_parse_laws.specs.Frames.{generator_domain_frame};
+ghost use Rattle.ess_parse_laws.specs.Modes.{at_state, operand_read};
 ghost use Rattle.ess_parse_laws.specs.Reducing.{reduce_domain};
 ghost use Rattle.ess_parse_laws.specs.AfterDomains.{domain_then, reduced_domain_then, domain_then_comma, domain_then_dot, domain_then_close_square, domain_then_close_round, domain_then_close_curly, domain_then_maps_to, domain_then_times};
 ghost use Rattle.ess_core.specs.TreeViews.{pure_ex, pure_exs, pure_dom, pure_gens};
 ghost use Rattle.ess_parse_frames.specs.Rows.{back_gens};
-ghost use Rattle.ess_parse_frames.specs.Patterns.{view_operand, is_pattern_operand, pats_in_order};
+ghost use Rattle.ess_parse_frames.specs.Patterns.{pats_in_order};
 ghost use Rattle.ess_parse_frames.specs.Views.{view_frame, view_frames, view_head, Steps};
 ghost use Rattle.ess_parse_domains.specs.Several.{goes_on};
 
-use crate::generators::{all_over, over_each, with_all_names};
 use crate::products::{all_domains, domain_then_close_round};
 use crate::records::sorted_record;
 use ess_core::{Dom, Ex, Gen, Pat, Stm};
 use ess_grammar::Kind;
+use ess_parse_frames::generators::{all_over, over_each, with_all_names};
 use ess_parse_frames::reducing::{ReducedDomain, reduce_domain};
 use ess_parse_frames::rows::{with_domain, with_field_domain, with_statement};
-use ess_parse_frames::stack::{Top, at, innermost, inside, outside, stop};
-use ess_parse_frames::{Frame, Head, Mode, Operand, State};
-use ess_parse_statements::ends::{begin_after, declarations, declared};
+use ess_parse_frames::stack::{Top, domain_read, expression_read, innermost, inside, outside, stop};
+use ess_parse_frames::statements::{begin_after, declarations, declared};
+use ess_parse_frames::{Frame, Head, Mode, State};
 use ess_rows::{Boxed, NoMemory, Row, Text};
 use std::alloc::Global;
 
@@ -34,7 +35,7 @@ pub fn reduced_domain_then(
     alloc: Global,
     kind: Kind,
     frames: Row<Frame>,
-    domain: Dom,
+    domain: Boxed<Dom>,
 ) -> Result<Option<State>, NoMemory>
     ensures { (bytes : Text) → IfOk result (Steps (reduced_domain_then (token kind bytes) (reduce_domain (view_frames frames) (pure_dom domain)))) }
 {
@@ -47,7 +48,7 @@ pub fn domain_then(
     alloc: Global,
     kind: Kind,
     frames: Row<Frame>,
-    domain: Dom,
+    domain: Boxed<Dom>,
 ) -> Result<Option<State>, NoMemory>
     ensures { (bytes : Text) → IfOk result (Steps (domain_then (token kind bytes) (view_frames frames) (pure_dom domain))) }
 {
@@ -58,8 +59,8 @@ pub fn domain_then(
         Kind::Comma => domain_then_comma(alloc, frame, frames, domain),
         Kind::Dot => domain_then_dot(alloc, frame, frames, domain),
         Kind::CloseSquare => domain_then_close_square(alloc, frame, frames, domain),
-        Kind::CloseRound => domain_then_close_round(frame, frames, domain),
-        Kind::CloseCurly => domain_then_close_curly(frame, frames, domain),
+        Kind::CloseRound => domain_then_close_round(alloc, frame, frames, domain),
+        Kind::CloseCurly => domain_then_close_curly(alloc, frame, frames, domain),
         Kind::MapsTo => domain_then_maps_to(frame, frames, domain),
         Kind::Star => domain_then_times(frame, frames, domain),
         _ => begin_statement(alloc, kind, frame, domain),
@@ -72,7 +73,7 @@ fn begin_statement(
     alloc: Global,
     kind: Kind,
     frame: Frame,
-    domain: Dom,
+    domain: Boxed<Dom>,
 ) -> Result<Option<State>, NoMemory>
     requires { (bytes : Text) → goes_on (token kind bytes) ≡ false }
     ensures { (bytes : Text) (outer : List machine.Frame) → IfOk result (Steps (domain_then (token kind bytes) (view_frame frame ∷ outer) (pure_dom domain))) }
@@ -86,7 +87,7 @@ pub fn domain_then_comma(
     alloc: Global,
     frame: Frame,
     frames: Row<Frame>,
-    domain: Dom,
+    domain: Boxed<Dom>,
 ) -> Result<Option<State>, NoMemory>
     ensures { IfOk result (Steps (domain_then_comma (view_frame frame ∷ view_frames frames) (pure_dom domain))) }
 {
@@ -98,11 +99,11 @@ pub fn domain_then_comma(
             let domains = with_domain(domains, domain)?;
             inside(Mode::DomainWanted, Frame::Axes(domains), frames)
         }
-        Frame::TupleDomains(two, domains) => {
+        Frame::TupleDomains(at_least, domains) => {
             let domains = with_domain(domains, domain)?;
             inside(
                 Mode::DomainWanted,
-                Frame::TupleDomains(two, domains),
+                Frame::TupleDomains(at_least, domains),
                 frames,
             )
         }
@@ -110,9 +111,9 @@ pub fn domain_then_comma(
             let fields = with_field_domain(fields, name, domain)?;
             inside(Mode::FieldNameWanted, Frame::FieldNames(fields), frames)
         }
-        Frame::Declaration(given, names, statements) => {
-            let statements = declarations(alloc, given, names.as_slice(), &domain, statements)?;
-            Ok(outside(alloc, Mode::NamesWanted(given, Row::new(alloc), statements)))
+        Frame::Declaration(word, names, statements) => {
+            let statements = declarations(alloc, word, names, domain, statements)?;
+            Ok(outside(alloc, Mode::NamesWanted(word, Row::new(alloc), statements)))
         }
         Frame::LettingDomain(name, statements) => {
             let statements = with_statement(statements, Stm::LetDom(name, domain))?;
@@ -129,7 +130,7 @@ fn next_item(
     names: Row<Text>,
     items: Row<Gen>,
     patterns: Row<Pat>,
-    domain: Dom,
+    domain: Boxed<Dom>,
     frames: Row<Frame>,
 ) -> Result<Option<State>, NoMemory>
     ensures { IfOk result (Steps (domain_then_comma (generator_domain_frame (view_head head) names (back_gens items) (pats_in_order patterns) ∷ view_frames frames) (pure_dom domain))) }
@@ -148,7 +149,7 @@ pub fn domain_then_dot(
     alloc: Global,
     frame: Frame,
     frames: Row<Frame>,
-    domain: Dom,
+    domain: Boxed<Dom>,
 ) -> Result<Option<State>, NoMemory>
     ensures { IfOk result (Steps (domain_then_dot (view_frame frame ∷ view_frames frames) (pure_dom domain))) }
 {
@@ -164,22 +165,30 @@ pub fn domain_then_dot(
     }
 }
 
-/// A comprehension of a body and items, as an operand. `NoMemory` where there is no room for it.
+/// Behind a comprehension of a body and items. `NoMemory` where there is no room for it.
 #[tactic(auto, using(ess_core::proofs::ExpressionEquations::pure_comp))]
-fn comprehension(alloc: Global, body: Ex, items: Row<Gen>) -> Result<Operand, NoMemory>
-    ensures pattern { IfOk result (λ r. is_pattern_operand r ≡ false) }
-    ensures operand { IfOk result (λ r. view_operand r ≡ comp_ex (pure_ex body) (pure_gens items)) }
+fn comprehension_read(
+    alloc: Global,
+    body: Boxed<Ex>,
+    items: Row<Gen>,
+    frames: Row<Frame>,
+) -> Result<Option<State>, NoMemory>
+    ensures { IfOk result (Steps (at_state (operand_read false (comp_ex (pure_ex body) (pure_gens items))) (view_frames frames))) }
 {
-    Ok(Operand::Other(Ex::Comp(Boxed::new(alloc, body)?, items)))
+    expression_read(alloc, Ex::Comp(body, items), frames)
 }
 
-/// A matrix literal of items with its index domain, as an operand. `NoMemory` where there is no room for it.
+/// Behind a matrix literal of items with its index domain. `NoMemory` where there is no room for it.
 #[tactic(auto, using(ess_core::proofs::ExpressionEquations::pure_matrix_on))]
-fn matrix(alloc: Global, items: Row<Ex>, axis: Dom) -> Result<Operand, NoMemory>
-    ensures pattern { IfOk result (λ r. is_pattern_operand r ≡ false) }
-    ensures operand { IfOk result (λ r. view_operand r ≡ matrix_ex (pure_exs items) (pure_dom axis)) }
+fn matrix_read(
+    alloc: Global,
+    items: Row<Ex>,
+    axis: Boxed<Dom>,
+    frames: Row<Frame>,
+) -> Result<Option<State>, NoMemory>
+    ensures { IfOk result (Steps (at_state (operand_read false (matrix_ex (pure_exs items) (pure_dom axis))) (view_frames frames))) }
 {
-    Ok(Operand::Other(Ex::Matrix(items, Some(Boxed::new(alloc, axis)?))))
+    expression_read(alloc, Ex::Matrix(items, Some(axis)), frames)
 }
 
 /// A closing square bracket ends a comprehension, a matrix, or the index domains of one. `NoMemory` where there is no room.
@@ -187,7 +196,7 @@ pub fn domain_then_close_square(
     alloc: Global,
     frame: Frame,
     frames: Row<Frame>,
-    domain: Dom,
+    domain: Boxed<Dom>,
 ) -> Result<Option<State>, NoMemory>
     ensures { IfOk result (Steps (domain_then_close_square (view_frame frame ∷ view_frames frames) (pure_dom domain))) }
 {
@@ -195,15 +204,11 @@ pub fn domain_then_close_square(
         Frame::GeneratorDomain(head, _, items, patterns) => match head {
             Head::Comprehension(body) => {
                 let items = all_over(alloc, items, patterns, domain)?;
-                let comprehension = comprehension(alloc, body, items)?;
-                Ok(at(Mode::OperandRead(comprehension), frames))
+                comprehension_read(alloc, body, items, frames)
             }
             other => stop(other),
         },
-        Frame::IndexDomain(items) => {
-            let matrix = matrix(alloc, items, domain)?;
-            Ok(at(Mode::OperandRead(matrix), frames))
-        }
+        Frame::IndexDomain(items) => matrix_read(alloc, items, domain, frames),
         Frame::Axes(domains) => {
             let domains = all_domains(domains, domain)?;
             inside(Mode::AxesRead, Frame::Element(domains), frames)
@@ -214,17 +219,17 @@ pub fn domain_then_close_square(
 
 /// A closing curly bracket ends the fields of a record. `NoMemory` where there is no room.
 pub fn domain_then_close_curly(
+    alloc: Global,
     frame: Frame,
     frames: Row<Frame>,
-    domain: Dom,
+    domain: Boxed<Dom>,
 ) -> Result<Option<State>, NoMemory>
     ensures { IfOk result (Steps (domain_then_close_curly (view_frame frame ∷ view_frames frames) (pure_dom domain))) }
 {
     match frame {
         Frame::FieldDomain(fields, name) => {
             let fields = with_field_domain(fields, name, domain)?;
-            let record = sorted_record(fields)?;
-            Ok(at(Mode::DomainRead(record), frames))
+            domain_read(alloc, sorted_record(fields)?, frames)
         }
         other => stop(other),
     }
@@ -234,7 +239,7 @@ pub fn domain_then_close_curly(
 pub fn domain_then_maps_to(
     frame: Frame,
     frames: Row<Frame>,
-    domain: Dom,
+    domain: Boxed<Dom>,
 ) -> Result<Option<State>, NoMemory>
     ensures { IfOk result (Steps (domain_then_maps_to (view_frame frame ∷ view_frames frames) (pure_dom domain))) }
 {
@@ -252,7 +257,7 @@ pub fn domain_then_maps_to(
 pub fn domain_then_times(
     frame: Frame,
     frames: Row<Frame>,
-    domain: Dom,
+    domain: Boxed<Dom>,
 ) -> Result<Option<State>, NoMemory>
     ensures { IfOk result (Steps (domain_then_times (view_frame frame ∷ view_frames frames) (pure_dom domain))) }
 {

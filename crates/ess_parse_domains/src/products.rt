@@ -9,21 +9,22 @@ ghost use Rattle.ess_parse_laws.specs.Reversed.{reverse_doms};
 ghost use Rattle.ess_parse_laws.specs.AfterDomains.{domain_then_close_round};
 ghost use Rattle.ess_core.specs.TreeViews.{pure_dom, pure_doms};
 ghost use Rattle.ess_parse_frames.specs.Rows.{back_doms, marks_of, numbers_of};
-ghost use Rattle.ess_parse_frames.specs.Views.{view_frame, view_frames, Steps};
+ghost use Rattle.ess_parse_frames.specs.Views.{two_needed, view_frame, view_frames, Steps};
 ghost use Rattle.ess_parse_domains.specs.Several.{are_any};
 
 use ess_core::{Attr, Dom};
-use ess_parse_frames::stack::{at, stop};
-use ess_parse_frames::{Frame, Mode, State};
-use ess_rows::{NoMemory, Row};
+use ess_parse_frames::stack::{domain_read, stop};
+use ess_parse_frames::{AtLeast, Frame, State};
+use ess_rows::{Boxed, NoMemory, Row};
+use std::alloc::Global;
 
 /// All domains, in order, the last of which is `last`. `NoMemory` where there is no room for it.
 #[tactic(auto, using(ess_parse_frames::proofs::RowLaws::doms_whole))]
-pub(crate) fn all_domains(domains: Row<Dom>, last: Dom) -> Result<Row<Dom>, NoMemory>
+pub(crate) fn all_domains(domains: Row<Dom>, last: Boxed<Dom>) -> Result<Row<Dom>, NoMemory>
     ensures { IfOk result (λ ds. reverse_doms (back_doms domains) (more_doms (pure_dom last) no_doms) ≡ pure_doms ds) }
 {
     let mut domains = domains;
-    domains.push(last)?;
+    domains.push(last.into_inner())?;
     Ok(domains)
 }
 
@@ -34,26 +35,32 @@ fn are_any(domains: &Row<Dom>) -> bool
     !domains.is_empty()
 }
 
-/// May a tuple end with one domain more? `two`: does it need two?
-fn has_enough(two: bool, domains: &Row<Dom>) -> bool
-    ensures { result ≡ (not two || are_any (back_doms domains.now)) }
+/// May a tuple of at least so many domains end with one domain more?
+fn has_enough(at_least: AtLeast, domains: &Row<Dom>) -> bool
+    ensures { result ≡ (not (two_needed at_least) || are_any (back_doms domains.now)) }
 {
-    !two || are_any(domains)
+    match at_least {
+        AtLeast::One => true,
+        AtLeast::Two => are_any(domains),
+    }
 }
 
 /// A closing round bracket ends a tuple or a relation. A tuple without its word, and a relation, have two domains or more.
 /// `NoMemory` where there is no room.
 pub fn domain_then_close_round(
+    alloc: Global,
     frame: Frame,
     frames: Row<Frame>,
-    domain: Dom,
+    domain: Boxed<Dom>,
 ) -> Result<Option<State>, NoMemory>
     ensures { IfOk result (Steps (domain_then_close_round (view_frame frame ∷ view_frames frames) (pure_dom domain))) }
 {
     match frame {
-        Frame::TupleDomains(two, domains) => end_tuple(two, domains, domain, frames),
+        Frame::TupleDomains(at_least, domains) => end_tuple(
+            alloc, at_least, domains, domain, frames,
+        ),
         Frame::RelationDomains(attributes, domains) => end_relation(
-            attributes, domains, domain, frames,
+            alloc, attributes, domains, domain, frames,
         ),
         other => stop(other),
     }
@@ -61,24 +68,30 @@ pub fn domain_then_close_round(
 
 /// Behind the tuple of all domains, the last of which is `last`. `NoMemory` where there is no room.
 #[tactic(auto, using(ess_core::proofs::DomainEquations::pure_tuple))]
-fn tuple_read(domains: Row<Dom>, last: Dom, frames: Row<Frame>) -> Result<Option<State>, NoMemory>
+fn tuple_read(
+    alloc: Global,
+    domains: Row<Dom>,
+    last: Boxed<Dom>,
+    frames: Row<Frame>,
+) -> Result<Option<State>, NoMemory>
     ensures { IfOk result (Steps (at_state (domain_read (tuple_dom (reverse_doms (back_doms domains) (more_doms (pure_dom last) no_doms)))) (view_frames frames))) }
 {
     let domains = all_domains(domains, last)?;
-    Ok(at(Mode::DomainRead(Dom::Tuple(domains)), frames))
+    domain_read(alloc, Dom::Tuple(domains), frames)
 }
 
-/// Behind all domains of a tuple, the last of which is `last`. `two`: does it need two? `NoMemory` where there is no room.
+/// Behind all domains of a tuple, the last of which is `last`; it has at least so many. `NoMemory` where there is no room.
 fn end_tuple(
-    two: bool,
+    alloc: Global,
+    at_least: AtLeast,
     domains: Row<Dom>,
-    last: Dom,
+    last: Boxed<Dom>,
     frames: Row<Frame>,
 ) -> Result<Option<State>, NoMemory>
-    ensures { IfOk result (Steps (domain_then_close_round (tuple_domains_frame two (back_doms domains) ∷ view_frames frames) (pure_dom last))) }
+    ensures { IfOk result (Steps (domain_then_close_round (tuple_domains_frame (two_needed at_least) (back_doms domains) ∷ view_frames frames) (pure_dom last))) }
 {
-    if has_enough(two, &domains) {
-        tuple_read(domains, last, frames)
+    if has_enough(at_least, &domains) {
+        tuple_read(alloc, domains, last, frames)
     } else {
         Ok(None)
     }
@@ -87,28 +100,30 @@ fn end_tuple(
 /// Behind the relation of all domains, the last of which is `last`. `NoMemory` where there is no room.
 #[tactic(auto, using(ess_core::proofs::DomainEquations::pure_relation), unfolding(ess_parse_frames::specs::Rows::marks_of, ess_parse_frames::specs::Rows::numbers_of))]
 fn relation_read(
+    alloc: Global,
     attributes: Row<Attr>,
     domains: Row<Dom>,
-    last: Dom,
+    last: Boxed<Dom>,
     frames: Row<Frame>,
 ) -> Result<Option<State>, NoMemory>
     ensures { IfOk result (Steps (at_state (domain_read (relation_dom (marks_of attributes) (numbers_of attributes) (reverse_doms (back_doms domains) (more_doms (pure_dom last) no_doms)))) (view_frames frames))) }
 {
     let domains = all_domains(domains, last)?;
-    Ok(at(Mode::DomainRead(Dom::Relation(attributes, domains)), frames))
+    domain_read(alloc, Dom::Relation(attributes, domains), frames)
 }
 
 /// Behind all domains of a relation, the last of which is `last`. `NoMemory` where there is no room.
 fn end_relation(
+    alloc: Global,
     attributes: Row<Attr>,
     domains: Row<Dom>,
-    last: Dom,
+    last: Boxed<Dom>,
     frames: Row<Frame>,
 ) -> Result<Option<State>, NoMemory>
     ensures { IfOk result (Steps (domain_then_close_round (relation_domains_frame (marks_of attributes) (numbers_of attributes) (back_doms domains) ∷ view_frames frames) (pure_dom last))) }
 {
     if are_any(&domains) {
-        relation_read(attributes, domains, last, frames)
+        relation_read(alloc, attributes, domains, last, frames)
     } else {
         Ok(None)
     }

@@ -10,8 +10,8 @@ ghost use Rattle.ess_parse_frames.specs.Views.{view_inner, view_frames, Steps};
 
 use ess_core::Dom;
 use ess_grammar::Kind;
-use ess_parse_frames::stack::{Top, at, innermost, inside, stop, within};
-use ess_parse_frames::{Frame, Inner, Mode, Owner, State};
+use ess_parse_frames::stack::{Top, at, domain_read, innermost, inside, stop, within};
+use ess_parse_frames::{AtLeast, Frame, Inner, Mode, Owner, State};
 use ess_rows::{NoMemory, Row, Text};
 use std::alloc::Global;
 
@@ -25,7 +25,8 @@ pub fn step_domain_wanted(
     ensures { IfOk result (Steps (step_domain_wanted (token kind name) (view_frames frames))) }
 {
     let mode = match kind {
-        Kind::Bool => Mode::DomainRead(Dom::Bool),
+        Kind::Bool => return domain_read(alloc, Dom::Bool, frames),
+        Kind::Name => return domain_read(alloc, Dom::Name(name), frames),
         Kind::Int => Mode::IntRead,
         Kind::Matrix => Mode::MatrixBegun,
         Kind::Set => Mode::InnerBegun(Inner::Set),
@@ -37,10 +38,9 @@ pub fn step_domain_wanted(
         Kind::Record => Mode::RecordBegun,
         Kind::OpenRound => return inside(
             Mode::DomainWanted,
-            Frame::TupleDomains(true, Row::new(alloc)),
+            Frame::TupleDomains(AtLeast::Two, Row::new(alloc)),
             frames,
         ),
-        Kind::Name => Mode::DomainRead(Dom::Name(name)),
         _ => return Ok(None),
     };
     Ok(at(mode, frames))
@@ -101,7 +101,7 @@ pub fn step_tuple_begun(
     match kind {
         Kind::OpenRound => inside(
             Mode::DomainWanted,
-            Frame::TupleDomains(false, Row::new(alloc)),
+            Frame::TupleDomains(AtLeast::One, Row::new(alloc)),
             frames,
         ),
         _ => Ok(None),

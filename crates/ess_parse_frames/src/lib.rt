@@ -6,9 +6,12 @@
 //! and state of the definitions each of these types stands for.
 //!
 //! `stack` takes frames off and puts them on, and `reducing` closes the frames that end with an expression or a domain.
+//! Then come the ends that the steps of statements, domains and expressions share: `statements`, `generators` and `ends`.
 #![tactic(auto)]
 
+pub mod ends;
 pub mod frames;
+pub mod generators;
 pub mod kinds;
 pub mod levels;
 pub mod modes;
@@ -16,6 +19,7 @@ pub mod operands;
 pub mod reducing;
 pub mod rows;
 pub mod stack;
+pub mod statements;
 pub mod states;
 
 pub use frames::{AtLeast, Declaring, Frame, Head, Inner, Listing, Literal, Owner, Sense};

@@ -1,4 +1,4 @@
-ghost use Rattle.std.specs.Prelude.{◌≡◌, [], ◌∷◌, IfOk};
+ghost use Rattle.std.specs.Prelude.{◌≡◌, [], ◌∷◌, ◌++◌, IfOk};
 ghost use Rattle.ess_semantics.specs.Trees.{no_exs, more_exs, one_value, both_ends, low_end, high_end, flag, valued, more_doms, plain_node, record_literal, function_literal, int_dom};
 ghost use Rattle.ess_grammar.specs.Grammar.{pair_ex};
 ghost use Rattle.ess_parse_laws.specs.Reversed.{reverse_exs, reverse_list};
@@ -6,7 +6,7 @@ ghost use Rattle.ess_core.specs.TreeViews.{pure_ex, pure_dom};
 ghost use Rattle.ess_core.specs.StatementViews.{pure_stm};
 ghost use Rattle.ess_parse_frames.specs.Rows.{back_pairs, back_field_names, back_field_values, back_ends, back_bounds, back_dom_names, back_doms, back_field_doms, back_marks, back_names, back_numbers, back_stms};
 
-use ess_core::{Attr, Dom, Ex, FieldDom, FieldEx, Key, PairEx, Range, Stm};
+use ess_core::{Attr, Dom, Ex, FieldDom, FieldEx, Gen, Key, PairEx, Range, Stm};
 use ess_rows::{Boxed, NoMemory, Row, Text};
 
 /// Puts a pair behind the others. `NoMemory` where there is no room for it.
@@ -183,4 +183,13 @@ pub fn with_domain(domains: Row<Dom>, domain: Boxed<Dom>) -> Result<Row<Dom>, No
     let mut domains = domains;
     domains.push(domain.into_inner())?;
     Ok(domains)
+}
+
+/// Puts a generator or a condition behind the others. `NoMemory` where there is no room for it.
+pub fn with_item(items: Row<Gen>, item: Gen) -> Result<Row<Gen>, NoMemory>
+    ensures { IfOk result (λ r. r ≡ items ++ item ∷ []) }
+{
+    let mut items = items;
+    items.push(item)?;
+    Ok(items)
 }

@@ -5,33 +5,33 @@ ghost use Rattle.std.specs.Str.{IsAscii};
 ghost use Rattle.ess_grammar.specs.Kinds.{token};
 ghost use Rattle.ess_parse_laws.specs.StatementSteps.{step_names_wanted, step_name_read, step_given_new_read, step_given_type_read};
 ghost use Rattle.ess_parse_frames.specs.Rows.{back_names, back_stms};
-ghost use Rattle.ess_parse_frames.specs.Views.{Steps};
+ghost use Rattle.ess_parse_frames.specs.Views.{Steps, is_given};
 ghost use Rattle.ess_grammar.specs.Words.{word, new_word};
 
 use ess_core::Stm;
-use ess_parse_frames::stack::{alone, outside};
-use ess_parse_frames::{Frame, Mode, Opening, State};
 use ess_grammar::Kind;
+use ess_parse_frames::stack::{alone, outside};
+use ess_parse_frames::{Declaring, Frame, Mode, Opening, State};
 use ess_rows::{NoMemory, Row, Text};
 use std::alloc::Global;
 
-/// Where the name of a given (true) or a find (false) is wanted.
+/// Where the name of a given or a find is wanted.
 pub fn step_names_wanted(
     alloc: Global,
     kind: Kind,
     text: &[u8],
-    given: bool,
+    word: Declaring,
     names: Row<Text>,
     stms: Row<Stm>,
 ) -> Result<Option<State>, NoMemory>
     requires { IsAscii text.now }
-    ensures { IfOk result (Steps (step_names_wanted (token kind text.now) given (back_names names) (back_stms stms))) }
+    ensures { IfOk result (Steps (step_names_wanted (token kind text.now) (is_given word) (back_names names) (back_stms stms))) }
 {
     match kind {
         Kind::Name => {
             let mut names = names;
             names.push(Text::from_ascii(alloc, text)?)?;
-            Ok(outside(alloc, Mode::NameRead(given, names, stms)))
+            Ok(outside(alloc, Mode::NameRead(word, names, stms)))
         }
         _ => Ok(None),
     }
@@ -41,20 +41,23 @@ pub fn step_names_wanted(
 pub fn step_name_read(
     alloc: Global,
     kind: Kind,
-    given: bool,
+    word: Declaring,
     names: Row<Text>,
     stms: Row<Stm>,
 ) -> Result<Option<State>, NoMemory>
-    ensures { IfOk result (λ p. (bytes : _) → Steps (step_name_read (token kind bytes) given (back_names names) (back_stms stms)) p) }
+    ensures { IfOk result (λ p. (bytes : _) → Steps (step_name_read (token kind bytes) (is_given word) (back_names names) (back_stms stms)) p) }
 {
     match kind {
-        Kind::Comma => Ok(outside(alloc, Mode::NamesWanted(given, names, stms))),
+        Kind::Comma => Ok(outside(alloc, Mode::NamesWanted(word, names, stms))),
         Kind::Colon => alone(
             alloc,
             Mode::DomainWanted,
-            Frame::Declaration(given, names, stms),
+            Frame::Declaration(word, names, stms),
         ),
-        Kind::New if given => Ok(begin_given_type(alloc, names, stms)),
+        Kind::New => match word {
+            Declaring::Given => Ok(begin_given_type(alloc, names, stms)),
+            Declaring::Find => Ok(None),
+        },
         _ => Ok(None),
     }
 }
