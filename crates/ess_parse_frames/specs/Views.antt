@@ -8,7 +8,6 @@ use Rattle.ess_parse_laws.specs.Frames as machine
 use Rattle.ess_parse_laws.specs.Frames.{round_list, index_list, node_list, set_inner, mset_inner, partition_inner, inner_owner, relation_owner, function_owner, quantifier_head, sum_head, comprehension_head, minus_frame, not_frame, bar_frame, binary_frame, body_frame, list_frame, pair_left_frame, pair_right_frame, fields_frame, field_value_frame, items_frame, generator_source_frame, generator_domain_frame, index_domain_frame, ranges_frame, high_bound_frame, lone_high_bound_frame, axes_frame, element_frame, tuple_domains_frame, field_names_frame, field_domain_frame, inner_domain_frame, relation_domains_frame, function_from_frame, function_to_frame, attributes_frame, attribute_value_frame, letting_frame, unnamed_frame, letting_domain_frame, where_frame, such_that_frame, objective_frame, declaration_frame}
 use Rattle.ess_parse_laws.specs.Modes as modes
 use Rattle.ess_parse_laws.specs.Modes.{operand_wanted, operand_read, function_word_read, literal_begun, function_literal_begun, record_literal_begun, field_wanted, field_read, domain_wanted, domain_read, int_read, matrix_begun, indexed_read, by_read, axes_read, tuple_begun, record_begun, field_name_wanted, field_name_read, inner_begun, joining_wanted, relation_begun, relation_of_wanted, relation_of_read, function_begun, function_bracket_read, attribute_wanted, attribute_read, nothing_read, language_read, language_name_read, first_number_read, language_dot_read, names_wanted, name_read, given_new_read, given_type_read, letting_wanted, letting_name_read, be_read, letting_new_read, letting_type_read, enum_read, of_read, value_name_wanted, value_name_read, such_read, statement_read, expression_answer, domain_answer, specification_answer}
-use Rattle.ess_parse_laws.specs.Reducing as reducing
 use Rattle.ess_parse_laws.specs.Reversed.{reverse_list}
 use Rattle.ess_core.specs.TreeViews.{pure_ex, pure_exs, pure_dom, pure_doms, pure_gens}
 use Rattle.ess_core.specs.StatementViews.{pure_stm}

@@ -9,6 +9,7 @@
 //! Then come the ends that the steps of statements, domains and expressions share: `statements`, `generators` and `ends`.
 #![tactic(auto)]
 
+pub mod domain_parts;
 pub mod ends;
 pub mod frames;
 pub mod generators;
@@ -21,6 +22,7 @@ pub mod rows;
 pub mod stack;
 pub mod statements;
 pub mod states;
+pub mod stops;
 
 pub use frames::{AtLeast, Declaring, Frame, Head, Inner, Listing, Literal, Owner, Sense};
 pub use modes::{Mode, Opening};

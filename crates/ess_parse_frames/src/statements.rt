@@ -1,7 +1,7 @@
 //! Where statements end, and the words behind which they begin.
 #![tactic(auto, using(crate::proofs::RowLaws::stms_push, crate::proofs::RowLaws::names_none))]
 
-ghost use Rattle.std.specs.Prelude.{◌≡◌, IfOk, List, ◌∷◌};
+ghost use Rattle.std.specs.Prelude.{◌≡◌, IfOk, List, ◌∷◌, None};
 ghost use Rattle.std.specs.Option.{option_map};
 ghost use Rattle.ess_core.specs.StatementViews.{pure_stm};
 ghost use Rattle.ess_core.specs.TreeViews.{pure_dom, pure_ex};
@@ -50,6 +50,19 @@ pub fn begin(alloc: Global, kind: Kind, stms: Row<Stm>) -> Result<Option<State>,
         ),
         _ => Ok(None),
     }
+}
+
+/// Lets statements go.
+pub fn let_statements_go(stms: Row<Stm>) {
+    drop(stms);
+}
+
+/// No text goes on so behind these statements.
+pub fn no_state_behind(stms: Row<Stm>) -> Option<State>
+    ensures { result ≡ None }
+{
+    drop(stms);
+    None
 }
 
 /// A statement that has ended, behind those before it.
