@@ -5,3 +5,5 @@ pub mod PatternLaws
 pub mod Bound
 pub mod SharedItems
 mod Declarations
+mod StableSorting
+mod RecordFields

@@ -12,7 +12,7 @@ ghost use Rattle.ess_parse_frames.specs.Views.{view_frame, view_head};
 use crate::generators::{over_each, with_all_names};
 use crate::rows::int_of_ranges;
 use crate::{Frame, Head, State};
-use ess_core::{Attr, Dom, FieldDom, Gen, Pat};
+use ess_core::{Attr, Dom, Gen, Pat};
 use ess_rows::{Boxed, NoMemory, Row, Text};
 use std::alloc::Global;
 
@@ -77,11 +77,6 @@ pub fn let_domain_go(domain: Boxed<Dom>) {
 /// Lets attributes go.
 pub fn let_attributes_go(attributes: Row<Attr>) {
     drop(attributes);
-}
-
-/// Lets the fields of a record domain go.
-pub fn let_fields_go(fields: Row<FieldDom>) {
-    drop(fields);
 }
 
 /// No text goes on so behind this domain in this innermost frame.

@@ -17,6 +17,7 @@ pub mod kinds;
 pub mod levels;
 pub mod modes;
 pub mod operands;
+pub mod records;
 pub mod reducing;
 pub mod rows;
 pub mod stack;

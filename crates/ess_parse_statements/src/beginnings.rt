@@ -11,7 +11,7 @@ ghost use Rattle.ess_parse_statements.specs.Beginnings.{is_comma};
 use ess_core::Stm;
 use ess_grammar::Kind;
 use ess_parse_frames::stack::outside;
-use ess_parse_frames::statements::begin;
+use ess_parse_frames::statements::{begin, no_state_behind};
 use ess_parse_frames::{Declaring, Mode, Opening, State};
 use ess_rows::{NoMemory, Row};
 use std::alloc::Global;
@@ -30,7 +30,7 @@ pub fn begin_part(
             Mode::NamesWanted(Declaring::Given, Row::new(alloc), stms),
         )),
         Opening::Letting => Ok(outside(alloc, Mode::LettingWanted(stms))),
-        Opening::Language => Ok(None),
+        Opening::Language => Ok(no_state_behind(stms)),
     }
 }
 

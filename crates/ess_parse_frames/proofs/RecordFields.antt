@@ -24,7 +24,7 @@ use Rattle.ess_core.specs.declared.domains.Dom.TheVariants as variant
 use Rattle.ess_core.specs.declared.domains.Dom.TheViews.{out-FieldDom}
 use Rattle.ess_parse_frames.specs.Rows.{back_dom_names, back_field_doms}
 use Rattle.ess_parse_frames.proofs.RowLaws.{dom_names_closed, field_doms_closed}
-use Rattle.ess_parse_domains.proofs.StableSorting.{put, put_all, stable-sort}
+use Rattle.ess_parse_frames.proofs.StableSorting.{put, put_all, stable-sort}
 
 -- ---- by name, over any entries
 
