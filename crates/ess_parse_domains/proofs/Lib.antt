@@ -1,5 +1,3 @@
-pub mod StableSorting
-pub mod RecordFields
 pub mod KeySearch
 pub mod AttributeWords
 pub mod Domains

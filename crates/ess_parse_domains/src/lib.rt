@@ -11,5 +11,4 @@ pub mod attributes;
 pub mod ends;
 mod products;
 pub mod ranges;
-pub mod records;
 pub mod words;

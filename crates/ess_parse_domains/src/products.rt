@@ -7,26 +7,18 @@ ghost use Rattle.ess_parse_laws.specs.Frames.{tuple_domains_frame, relation_doma
 ghost use Rattle.ess_parse_laws.specs.Modes.{at_state, domain_read};
 ghost use Rattle.ess_parse_laws.specs.Reversed.{reverse_doms};
 ghost use Rattle.ess_parse_laws.specs.AfterDomains.{domain_then_close_round};
-ghost use Rattle.ess_core.specs.TreeViews.{pure_dom, pure_doms};
+ghost use Rattle.ess_core.specs.TreeViews.{pure_dom};
 ghost use Rattle.ess_parse_frames.specs.Rows.{back_doms, marks_of, numbers_of};
 ghost use Rattle.ess_parse_frames.specs.Views.{two_needed, view_frame, view_frames, Steps};
 ghost use Rattle.ess_parse_domains.specs.Several.{are_any};
 
 use ess_core::{Attr, Dom};
-use ess_parse_frames::stack::{domain_read, stop};
+use ess_parse_frames::domain_parts::{all_domains, relation_of, stop_behind_domain};
+use ess_parse_frames::stack::domain_read;
+use ess_parse_frames::stops::refuse;
 use ess_parse_frames::{AtLeast, Frame, State};
 use ess_rows::{Boxed, NoMemory, Row};
 use std::alloc::Global;
-
-/// All domains, in order, the last of which is `last`. `NoMemory` where there is no room for it.
-#[tactic(auto, using(ess_parse_frames::proofs::RowLaws::doms_whole))]
-pub(crate) fn all_domains(domains: Row<Dom>, last: Boxed<Dom>) -> Result<Row<Dom>, NoMemory>
-    ensures { IfOk result (λ ds. reverse_doms (back_doms domains) (more_doms (pure_dom last) no_doms) ≡ pure_doms ds) }
-{
-    let mut domains = domains;
-    domains.push(last.into_inner())?;
-    Ok(domains)
-}
 
 /// Are there any domains?
 fn are_any(domains: &Row<Dom>) -> bool
@@ -62,7 +54,7 @@ pub fn domain_then_close_round(
         Frame::RelationDomains(attributes, domains) => end_relation(
             alloc, attributes, domains, domain, frames,
         ),
-        other => stop(other),
+        other => stop_behind_domain(other, frames, domain),
     }
 }
 
@@ -76,8 +68,10 @@ fn tuple_read(
 ) -> Result<Option<State>, NoMemory>
     ensures { IfOk result (Steps (at_state (domain_read (tuple_dom (reverse_doms (back_doms domains) (more_doms (pure_dom last) no_doms)))) (view_frames frames))) }
 {
-    let domains = all_domains(domains, last)?;
-    domain_read(alloc, Dom::Tuple(domains), frames)
+    match all_domains(domains, last) {
+        Ok(domains) => domain_read(alloc, Dom::Tuple(domains), frames),
+        Err(no) => refuse(no, frames),
+    }
 }
 
 /// Behind all domains of a tuple, the last of which is `last`; it has at least so many. `NoMemory` where there is no room.
@@ -93,12 +87,11 @@ fn end_tuple(
     if has_enough(at_least, &domains) {
         tuple_read(alloc, domains, last, frames)
     } else {
-        Ok(None)
+        stop_behind_domain(Frame::TupleDomains(at_least, domains), frames, last)
     }
 }
 
 /// Behind the relation of all domains, the last of which is `last`. `NoMemory` where there is no room.
-#[tactic(auto, using(ess_core::proofs::DomainEquations::pure_relation), unfolding(ess_parse_frames::specs::Rows::marks_of, ess_parse_frames::specs::Rows::numbers_of))]
 fn relation_read(
     alloc: Global,
     attributes: Row<Attr>,
@@ -108,8 +101,10 @@ fn relation_read(
 ) -> Result<Option<State>, NoMemory>
     ensures { IfOk result (Steps (at_state (domain_read (relation_dom (marks_of attributes) (numbers_of attributes) (reverse_doms (back_doms domains) (more_doms (pure_dom last) no_doms)))) (view_frames frames))) }
 {
-    let domains = all_domains(domains, last)?;
-    domain_read(alloc, Dom::Relation(attributes, domains), frames)
+    match relation_of(attributes, domains, last) {
+        Ok(relation) => domain_read(alloc, relation, frames),
+        Err(no) => refuse(no, frames),
+    }
 }
 
 /// Behind all domains of a relation, the last of which is `last`. `NoMemory` where there is no room.
@@ -125,6 +120,6 @@ fn end_relation(
     if are_any(&domains) {
         relation_read(alloc, attributes, domains, last, frames)
     } else {
-        Ok(None)
+        stop_behind_domain(Frame::RelationDomains(attributes, domains), frames, last)
     }
 }

@@ -10,10 +10,11 @@ ghost use Rattle.ess_parse_frames.specs.Views.{view_frames, Steps};
 use crate::ends::reduced_domain_then;
 use crate::words::is_open_round;
 use ess_grammar::Kind;
-use ess_parse_frames::rows::int_of_ranges;
+use ess_parse_frames::domain_parts::whole_int;
 use ess_parse_frames::stack::inside;
+use ess_parse_frames::stops::refuse;
 use ess_parse_frames::{Frame, Mode, State};
-use ess_rows::{Boxed, NoMemory, Row};
+use ess_rows::{NoMemory, Row};
 use std::alloc::Global;
 
 /// Behind `int`: ranges in brackets, or what goes on behind a domain. `NoMemory` where there is no room.
@@ -27,6 +28,8 @@ pub fn step_int_read(
     if is_open_round(kind) {
         return inside(Mode::OperandWanted, Frame::Ranges(Row::new(alloc)), frames);
     }
-    let all = Boxed::new(alloc, int_of_ranges(Row::new(alloc)))?;
-    reduced_domain_then(alloc, kind, frames, all)
+    match whole_int(alloc) {
+        Ok(domain) => reduced_domain_then(alloc, kind, frames, domain),
+        Err(no) => refuse(no, frames),
+    }
 }
