@@ -8,11 +8,8 @@ ghost use Rattle.ess_grammar.specs.Kinds.{token};
 ghost use Rattle.ess_parse_laws.specs.Frames.{attributes_frame, tuple_domains_frame, function_from_frame, function_owner};
 ghost use Rattle.ess_parse_laws.specs.Modes.{at_state, attribute_read};
 ghost use Rattle.ess_parse_laws.specs.Domains.{step_domain_wanted};
-ghost use Rattle.ess_parse_laws.specs.Reversed.{reverse_exs, reverse_list};
-ghost use Rattle.ess_parse_laws.specs.AfterOperands.{end_attributes};
 ghost use Rattle.ess_parse_laws.specs.AttributeSteps.{step_function_bracket_read, step_attribute_wanted, ends_flag, end_flag};
-ghost use Rattle.ess_parse_frames.specs.Rows.{back_marks, back_numbers};
-ghost use Rattle.ess_parse_frames.specs.Views.{view_owner, view_frames, Steps};
+ghost use Rattle.ess_parse_frames.specs.Views.{view_frames, Steps};
 ghost use Rattle.ess_parse_domains.specs.Attributes.{shown_keys, key_named, attribute_in, before_value};
 
 use crate::words::step_domain_wanted;

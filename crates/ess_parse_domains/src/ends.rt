@@ -11,7 +11,7 @@ ghost use Rattle.ess_parse_laws.specs.Frames.{relation_domains_frame};
 ghost use Rattle.ess_parse_laws.specs.Modes.{at_state, domain_read};
 ghost use Rattle.ess_parse_laws.specs.Reversed.{reverse_doms, reverse_list};
 ghost use Rattle.ess_parse_laws.specs.Reducing.{reduce_domain};
-ghost use Rattle.ess_parse_laws.specs.AfterDomains.{domain_then, reduced_domain_then, domain_then_comma, domain_then_dot, domain_then_close_square, domain_then_close_round, domain_then_close_curly, domain_then_maps_to, domain_then_times};
+ghost use Rattle.ess_parse_laws.specs.AfterDomains.{domain_then, reduced_domain_then, domain_then_comma, domain_then_dot, domain_then_close_square, domain_then_close_curly, domain_then_maps_to, domain_then_times};
 ghost use Rattle.ess_core.specs.TreeViews.{pure_ex, pure_exs, pure_dom, pure_gens};
 ghost use Rattle.ess_parse_frames.specs.Rows.{back_dom_names, back_doms, back_field_doms, marks_of, numbers_of};
 ghost use Rattle.ess_parse_frames.specs.Views.{view_frame, view_frames, Steps};

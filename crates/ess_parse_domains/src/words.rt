@@ -1,7 +1,7 @@
 //! Where a domain is wanted, and behind the words of domains.
 #![tactic(auto, using(ess_core::proofs::DomainEquations::pure_bool, ess_core::proofs::DomainEquations::pure_name, ess_parse_frames::proofs::RowLaws::doms_none, ess_parse_frames::proofs::RowLaws::dom_names_none, ess_parse_frames::proofs::RowLaws::field_doms_none, ess_parse_frames::proofs::RowLaws::marks_none, ess_parse_frames::proofs::RowLaws::numbers_none, ess_parse_frames::proofs::RowLaws::no_marks, ess_parse_frames::proofs::RowLaws::no_numbers))]
 
-ghost use Rattle.std.specs.Prelude.{◌≡◌, ◌∷◌, IfOk};
+ghost use Rattle.std.specs.Prelude.{◌≡◌, IfOk};
 ghost use Rattle.ess_grammar.specs.Words.{Text, symbol, colon};
 ghost use Rattle.ess_grammar.specs.Kinds.{token};
 ghost use Rattle.ess_parse_laws.specs.Domains.{step_domain_wanted, step_matrix_begun, step_indexed_read, step_by_read, step_axes_read, step_tuple_begun, step_record_begun, step_field_name_wanted, step_field_name_read, step_joining_wanted, step_relation_of_wanted, step_relation_of_read, step_inner_begun, step_relation_begun, step_function_begun};

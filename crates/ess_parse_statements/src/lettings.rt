@@ -1,6 +1,6 @@
 #![tactic(auto, using(ess_parse_frames::proofs::RowLaws::names_none, ess_parse_frames::proofs::RowLaws::names_closed))]
 
-ghost use Rattle.std.specs.Prelude.{◌≡◌, IfOk};
+ghost use Rattle.std.specs.Prelude.{IfOk};
 ghost use Rattle.std.specs.Str.{IsAscii};
 ghost use Rattle.ess_grammar.specs.Kinds.{token};
 ghost use Rattle.ess_parse_laws.specs.StatementSteps.{step_letting_wanted, step_letting_name_read, step_letting_new_read, step_letting_type_read, step_enum_read, step_value_name_wanted, step_value_name_read, step_of_read, step_such_read};
