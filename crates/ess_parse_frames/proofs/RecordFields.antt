@@ -12,7 +12,7 @@ use Rattle.ess_semantics.specs.Names.{Names, keys, by_name, insert_name, insert_
 use Rattle.ess_semantics.specs.Kinds.{dom_list, doms_of}
 use Rattle.ess_semantics.specs.Order.{order_text}
 use Rattle.ess_semantics.specs.Trees as pure
-use Rattle.ess_semantics.specs.Trees.{record_dom, no_doms, more_doms}
+use Rattle.ess_semantics.specs.Trees.{no_doms}
 use Rattle.ess_semantics.proofs.Orders.{text_total}
 use Rattle.ess_grammar.specs.Grammar.{sorted_record, record_of}
 use Rattle.ess_parse_laws.specs.Reversed.{reverse_doms, reverse_list}

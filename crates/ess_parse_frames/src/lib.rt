@@ -6,7 +6,9 @@
 //! and state of the definitions each of these types stands for.
 //!
 //! `stack` takes frames off and puts them on, and `reducing` closes the frames that end with an expression or a domain.
-//! Then come the ends that the steps of statements, domains and expressions share: `statements`, `generators` and `ends`.
+//! Then come the ends that the steps of statements, domains and expressions share (`statements`, `generators`, `ends`,
+//! `domain_parts`, `records`), and the calls by which those steps let go what was read (`stops`): how frames and trees are let
+//! go is proved here once, and a crate above that lets none go without such a call has no part in it.
 #![tactic(auto)]
 
 pub mod domain_parts;
