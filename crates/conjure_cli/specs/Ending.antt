@@ -1,6 +1,6 @@
 -- How a run of the program ends: why, with which status, and what it leaves.
 use Rattle.std.specs.Prelude.{◌≡◌, ℕ, ◌+◌, ◌≤◌, Bool, false, not, ◌⊎◌, List, [], ◌∷◌, ◌++◌, codes, length, if◌then◌else◌, bytes_eq, nat_eq, Option, Some, None, IfSome, IsSomeAnd, unwrap_or, ◌&&◌}
-use Rattle.ess_io.specs.Counts.{Rose}
+use Rattle.ess_io.specs.Counts.{Rose, raised}
 use Rattle.ess_io.specs.Trees.{Tree, file_at, start_of_file, with_file, LeavesPrefix}
 use Rattle.ess_io.specs.Sinks.{grown, GrewByPrefix}
 use Rattle.conjure_cli.specs.SmallGrammar.{IsInSmallGrammar}
@@ -78,6 +78,11 @@ sink_at bytes faults = record { bytes = bytes; faults = faults }
 -- Where the tree is told, the file is in it, and P holds of what is read of it: at most one byte more than the limit.
 abbrev pub ReadGives : Option Tree → List ℕ → (List ℕ → Type 0) → Type 0
 ReadGives tree file P = IfSome tree (λ files. IsSomeAnd (start_of_file files file (limit + 1)) P)
+
+-- how many reads were made in all: the file that the words name is read once, and nothing else is read
+abbrev pub reads_after : Option (List ℕ) → ℕ → ℕ
+reads_after None reads = reads
+reads_after (Some file) reads = raised reads
 
 -- the file isn't in a told tree, and no fault came in between
 abbrev pub IsAbsent : FilesSeen → FilesSeen → List ℕ → Type 0

@@ -7,8 +7,6 @@ mod model;
 mod names;
 mod program;
 mod reader;
-#[cfg(test)]
-mod tests;
 mod words;
 mod writer;
 

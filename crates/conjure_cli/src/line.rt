@@ -1,7 +1,7 @@
 // What a line of a text says.
 
 /// What a line says. A name is its part of the text.
-#[derive(Clone, Copy, Debug, PartialEq, Eq)]
+#[derive(Clone, Copy)]
 pub enum Line<'a> {
     /// A set of numbers from `low` to `high` is to be found.
     Find {

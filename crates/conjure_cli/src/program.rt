@@ -1,7 +1,8 @@
 // The program: from the words to the status.
 ghost use Rattle.std.specs.Prelude.{◌≡◌, ◌↔◌, map, None, IfSome, string_bytes, option_map};
+ghost use Rattle.ess_io.specs.Counts.{raised};
 ghost use Rattle.ess_io.specs.Trees.{KeepsOthers};
-ghost use Rattle.conjure_cli.specs.Ending.{begins_with_dash, file_named, model_file, files_at, sink_at, Ran, Ends, IsRefusal, MissingIsFour, TextDecides};
+ghost use Rattle.conjure_cli.specs.Ending.{begins_with_dash, file_named, model_file, reads_after, files_at, sink_at, Ran, Ends, IsRefusal, MissingIsFour, TextDecides};
 ghost use Rattle.conjure_cli.specs.Refusals.{unread, unrefined, unwritten};
 
 use crate::ending::{Ending, MODEL_FILE, report};
@@ -68,10 +69,11 @@ fn unwritten(no: FileNo) -> Ending
 
 /// Reads the file, refines it, writes its model and says where the model is.
 fn modelling<F: Files, O: Sink>(alloc: Global, file: &str, files: &mut F, out: &mut O) -> Ending
-    ensures { Ran result file.now
+    ensures ran { Ran result file.now
         (files_at (F.tree files.old) (F.faults files.old) (F.misses files.old))
         (files_at (F.tree files.new) (F.faults files.new) (F.misses files.new))
         (sink_at (O.bytes out.old) (O.faults out.old)) (sink_at (O.bytes out.new) (O.faults out.new)) }
+    ensures reads { F.reads files.new ≡ raised (F.reads files.old) }
 {
     let text = match files.read(alloc, file, LIMIT) {
         Ok(text) => text,
@@ -126,6 +128,9 @@ pub fn run<F: Files, O: Sink, E: Sink>(
     // A refusal touches no file, and no run touches another file than the model's.
     ensures refused { IsRefusal result.0 → F.tree files.new ≡ F.tree files.old }
     ensures others { KeepsOthers (F.tree files.old) (F.tree files.new) model_file }
+
+    // The file is read once, and nothing else is read.
+    ensures read_once { F.reads files.new ≡ reads_after (file_named (map string_bytes words.now)) (F.reads files.old) }
 {
     let Some(file) = file_named(words) else {
         report(err, "", Ending::Usage);

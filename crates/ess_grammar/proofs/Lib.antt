@@ -9,6 +9,7 @@ mod TokenExamples
 mod PlaceExamples
 mod LoadExamples
 pub mod RecordFields
+pub mod NameTokens
 pub mod ReadableTrees
 pub mod ReadableStatements
 pub mod ExamplesGrammar

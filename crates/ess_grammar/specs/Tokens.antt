@@ -1,26 +1,15 @@
 -- The tokens of a text: white space and comments are passed over, and each token is the longest that fits.
-use Rattle.std.specs.Prelude.{◌≡◌, ◌<◌, slice_index, ℕ, zero, suc, ◌+◌, ◌-◌, ◌*◌, ◌^◌, Bool, true, false, ◌&&◌, ◌||◌, not, List, [], ◌∷◌, ◌++◌, length, take, drop, Option, Some, None, nat_eq, nat_le, codes}
+use Rattle.std.specs.Prelude.{◌≡◌, ◌<◌, slice_index, ℕ, zero, suc, ◌^◌, Bool, true, false, ◌||◌, not, List, [], ◌∷◌, ◌++◌, length, take, drop, Option, Some, None, nat_eq, nat_le, codes}
 use Rattle.std.specs.Option.{option_map}
-use Rattle.std.specs.Char.{is_ascii_digit, is_ascii_alphabetic}
-use Rattle.std.specs.List.{list_all, position_or_len}
+use Rattle.std.specs.List.{position_or_len}
 use Rattle.ess_rows.specs.declared.place.Place.{Place}
 use Rattle.ess_semantics.specs.Values.{Text}
+pub use Rattle.ess_semantics.specs.Lists.{or_else}
+pub use Rattle.ess_semantics.specs.NameTokens.{is_digit, are_digits, value_after, is_letter, is_name_byte, is_name}
 use Rattle.ess_grammar.specs.Words.{Token, number, name, prime_word, same_text, look, words, symbols, lex_symbols, is_outside}
 use Rattle.ess_grammar.specs.Places.{is_line_feed, place}
 
 -- ---- bytes
-
--- a digit of ASCII
-abbrev pub is_digit : ℕ → Bool
-is_digit = is_ascii_digit
-
--- a letter of ASCII or `_`
-abbrev pub is_letter : ℕ → Bool
-is_letter b = is_ascii_alphabetic b || nat_eq b 95
-
--- what may stand in a name behind its first byte
-abbrev pub is_name_byte : ℕ → Bool
-is_name_byte b = is_letter b || is_digit b
 
 -- space, tab, carriage return, line feed
 abbrev pub is_white : ℕ → Bool
@@ -32,25 +21,14 @@ begins_comment b = nat_eq b 36
 
 -- ---- one token
 
--- a letter or `_`, then letters, digits or `_`
-abbrev pub is_name : Text → Bool
-is_name [] = false
-is_name (b ∷ bs) = is_letter b && list_all is_name_byte bs
-
 -- one or more digits
 abbrev pub is_number : Text → Bool
-is_number [] = false
-is_number (b ∷ bs) = list_all is_digit (b ∷ bs)
+is_number = are_digits
 
 -- whether what follows would go on with a name
 abbrev pub begins_with_name_byte : Text → Bool
 begins_with_name_byte [] = false
 begins_with_name_byte (b ∷ bs) = is_name_byte b
-
--- the value of the digits, behind digits of the value `high`
-abbrev pub value_after : ℕ → Text → ℕ
-value_after high [] = high
-value_after high (b ∷ bs) = value_after (10 * high + (b - 48)) bs
 
 -- the value of digits
 abbrev pub value_of : Text → ℕ
@@ -59,11 +37,6 @@ value_of digits = value_after 0 digits
 -- the word that begins models and texts of cells behind `language`
 abbrev pub prime_text : Text
 prime_text = codes "ESSENCE'"
-
--- the first of the two that is there
-abbrev pub or_else : {A : Type 0} → Option A → Option A → Option A
-or_else (Some x) o = Some x
-or_else None o = o
 
 -- the value where the condition holds, else none
 abbrev pub only_if : {A : Type 0} → Bool → Option A → Option A

@@ -7,6 +7,7 @@ use Rattle.ess_semantics.specs.declared.words.Op2.{Op2}
 use Rattle.ess_semantics.specs.declared.words.Fun.{Fun}
 use Rattle.ess_semantics.specs.declared.words.Key.{Key}
 pub use Rattle.ess_semantics.specs.Values.{Text}
+pub use Rattle.ess_semantics.specs.NameTokens.{outside}
 
 -- reserved words that are neither operators nor function words
 pub data Word : Type 0 where
@@ -100,15 +101,6 @@ keys =
 -- the attribute that a name is, where it is one
 abbrev pub key_of : Text → Option Key
 key_of t = look keys t
-
--- words of the whole language that stand outside the subset: a text with one of them is not supported
-abbrev pub outside : List Text
-outside =
-    codes "variant" ∷ codes "permutation" ∷ codes "sequence" ∷ codes "powerSet" ∷ codes "hist" ∷ codes "table" ∷ codes "factorial" ∷
-    codes "catchUndef" ∷ codes "branching" ∷ codes "heuristic" ∷ codes "dim" ∷ codes "apart" ∷ codes "flatten" ∷ codes "concatenate" ∷
-    codes "subsequence" ∷ codes "substring" ∷ codes "inverse" ∷ codes "restrict" ∷ codes "pred" ∷ codes "succ" ∷ codes "gcc" ∷
-    codes "atleast" ∷ codes "atmost" ∷ codes "alldifferent_except" ∷ codes "imageSet" ∷ codes "active" ∷ codes "connex" ∷
-    codes "Euclidean" ∷ codes "serial" ∷ codes "equivalence" ∷ codes "partialOrder" ∷ []
 
 -- whether a token is a word outside the subset
 abbrev pub is_outside : Token → Bool

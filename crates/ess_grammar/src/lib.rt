@@ -8,8 +8,6 @@
 #![tactic(auto)]
 
 mod kind;
-#[cfg(test)]
-mod tests;
 mod text;
 
 pub use kind::Kind;

@@ -22,6 +22,8 @@ pub record Memory : Type 0 where
   pub faults : ℕ
   -- how often a read found no file
   pub misses : ℕ
+  -- how many reads were made
+  pub reads : ℕ
 
 -- whether the next call is to fail
 abbrev pub is_failing : Memory → Bool
@@ -31,24 +33,38 @@ is_failing files = is_next_listed files.fails files.made
 abbrev pub called : Memory → Memory
 called files = record files { made = raised files.made; faults = if is_failing files then files.faults + 1 else files.faults }
 
+-- the files after a read was counted, with its failure
+abbrev pub read_called : Memory → Memory
+read_called files = record (called files) { reads = raised files.reads }
+
 -- Files in memory that never fail.
 pub record SureMemory : Type 0 where
   pub tree : Tree
   pub misses : ℕ
+  pub reads : ℕ
 
 -- a tree is stored as its entries
 abbrev pub tree_code : Coded Tree
 tree_code = code (coded_list coded_ℕ) (coded_list coded_ℕ)
 
 abbrev pub memory_code : Coded Memory
-memory_code = code_by (Tree × (List ℕ × (ℕ × (ℕ × (ℕ × ℕ)))))
-    (coded× tree_code (coded× (coded_list coded_ℕ) (coded× coded_ℕ (coded× coded_ℕ (coded× coded_ℕ coded_ℕ)))))
-    (λ m. (m.tree, (m.fails, (m.cut, (m.made, (m.faults, m.misses))))))
-    (λ p. record { tree = p.0; fails = p.1.0; cut = p.1.1.0; made = p.1.1.1.0; faults = p.1.1.1.1.0; misses = p.1.1.1.1.1 })
+memory_code = code_by (Tree × (List ℕ × (ℕ × (ℕ × (ℕ × (ℕ × ℕ))))))
+    (coded× tree_code (coded× (coded_list coded_ℕ) (coded× coded_ℕ (coded× coded_ℕ (coded× coded_ℕ (coded× coded_ℕ coded_ℕ))))))
+    (λ m. (m.tree, (m.fails, (m.cut, (m.made, (m.faults, (m.misses, m.reads)))))))
+    (λ p. record {
+      tree = p.0;
+      fails = p.1.0;
+      cut = p.1.1.0;
+      made = p.1.1.1.0;
+      faults = p.1.1.1.1.0;
+      misses = p.1.1.1.1.1.0;
+      reads = p.1.1.1.1.1.1;
+    })
     (λ _. refl)
 
 abbrev pub sure_code : Coded SureMemory
-sure_code = code_by (Tree × ℕ) (coded× tree_code coded_ℕ) (λ m. (m.tree, m.misses)) (λ p. record { tree = p.0; misses = p.1 }) (λ _. refl)
+sure_code = code_by (Tree × (ℕ × ℕ)) (coded× tree_code (coded× coded_ℕ coded_ℕ))
+    (λ m. (m.tree, (m.misses, m.reads))) (λ p. record { tree = p.0; misses = p.1.0; reads = p.1.1 }) (λ _. refl)
 
 -- what a map from names to files holds
 abbrev pub tree_of : {Y Z : Type 0} → BTreeMap (String Y) (Vec ℕ Z) → Tree

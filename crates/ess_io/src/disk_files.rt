@@ -19,17 +19,19 @@ pub struct DiskFiles<R> {
     system: R,
     faults: u64,
     misses: u64,
+    reads: u64,
 }
 
 impl<R> DiskFiles<R> {
     /// The files of this runtime. No memory.
     pub fn new(system: R) -> DiskFiles<R>
-        ensures { result ≡ record { system = system; faults = 0; misses = 0 } }
+        ensures { result ≡ record { system = system; faults = 0; misses = 0; reads = 0 } }
     {
         DiskFiles {
             system,
             faults: 0,
             misses: 0,
+            reads: 0,
         }
     }
 
@@ -39,6 +41,7 @@ impl<R> DiskFiles<R> {
         ensures missing { no ≡ FileNo.Missing → self.new ≡ record self.old { misses = raised self.old.misses } }
         ensures failed { no ≡ FileNo.Failed → self.new ≡ record self.old { faults = raised self.old.faults } }
         ensures no_memory { no ≡ FileNo.NoMemory → self.new ≡ self.old }
+        ensures read_count { self.new.reads ≡ self.old.reads }
         ensures fault_count { self.old.faults ≤ self.new.faults }
         ensures miss_count { self.old.misses ≤ self.new.misses }
     {
@@ -58,15 +61,21 @@ impl<R: rt::Files> Files for DiskFiles<R> {
 
     ghost misses = { λ files. files.misses };
 
+    ghost reads = { λ files. files.reads };
+
     fn read(&mut self, alloc: Global, name: &str, max: u64) -> Result<Vec<u8>, FileNo>
         ensures bound { IfOk result (λ bytes. vec_len bytes ≤ max + 1) }
-        ensures ok { OnOk result (self.new ≡ self.old) }
-        ensures missing { IsErrOf result FileNo.Missing → self.new ≡ record self.old { misses = raised self.old.misses } }
-        ensures failed { IsErrOf result FileNo.Failed → self.new ≡ record self.old { faults = raised self.old.faults } }
-        ensures no_memory { IsErrOf result FileNo.NoMemory → self.new ≡ self.old }
+        ensures ok { OnOk result (self.new ≡ record self.old { reads = raised self.old.reads }) }
+        ensures missing { IsErrOf result FileNo.Missing
+            → self.new ≡ record self.old { misses = raised self.old.misses; reads = raised self.old.reads } }
+        ensures failed { IsErrOf result FileNo.Failed
+            → self.new ≡ record self.old { faults = raised self.old.faults; reads = raised self.old.reads } }
+        ensures no_memory { IsErrOf result FileNo.NoMemory → self.new ≡ record self.old { reads = raised self.old.reads } }
+        ensures counted { self.new.reads ≡ raised self.old.reads }
         ensures fault_count { self.old.faults ≤ self.new.faults }
         ensures miss_count { self.old.misses ≤ self.new.misses }
     {
+        self.reads = self.reads.saturating_add(1);
         match read_file(&self.system, alloc, name, max) {
             Ok(bytes) => Ok(bytes),
             Err(no) => Err(self.note(no)),
@@ -79,6 +88,7 @@ impl<R: rt::Files> Files for DiskFiles<R> {
         ensures failed { IsErrOf result FileNo.Failed → self.new ≡ record self.old { faults = raised self.old.faults } }
         ensures no_memory { IsErrOf result FileNo.NoMemory → self.new ≡ self.old }
         ensures never_missing { ¬ IsErrOf result FileNo.Missing }
+        ensures no_read { self.new.reads ≡ self.old.reads }
         ensures fault_count { self.old.faults ≤ self.new.faults }
     {
         match write_file(&self.system, name, bytes) {

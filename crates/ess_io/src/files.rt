@@ -1,7 +1,7 @@
 // Files by name, as the tool sees them.
 ghost use Rattle.std.specs.Prelude.{◌≡◌, ℕ, ◌+◌, ◌≤◌, ◌↔◌, Option, None, Some, IfOk, IfSome, OnOk, OnErr, vec_len};
 ghost use Rattle.std.specs.Result.{IsErrOf};
-ghost use Rattle.ess_io.specs.Counts.{Rose};
+ghost use Rattle.ess_io.specs.Counts.{Rose, raised};
 ghost use Rattle.ess_io.specs.Trees.{Tree, file_at, start_of_file, with_file, LeavesPrefix};
 ghost use Rattle.ess_io.specs.declared.files.FileNo.TheVariants.{NoMemory as no_memory};
 
@@ -20,7 +20,7 @@ pub enum FileNo {
 }
 
 /// Files by name. Its ghost members are the tree of what the names hold, which an implementation may leave untold,
-/// and two counts that never fall and stand still at 2^64 - 1.
+/// and three counts that never fall and stand still at 2^64 - 1.
 pub trait Files {
     // What each name holds, or `None` where the implementation doesn't tell it.
     ghost tree: { Self → Option Tree };
@@ -30,6 +30,9 @@ pub trait Files {
 
     // How often a read found no file.
     ghost misses: { Self → ℕ };
+
+    // How many reads were made, so that none is made unseen.
+    ghost reads: { Self → ℕ };
 
     /// Reads the first `max + 1` bytes of the file, or all of them where there are fewer, so that an answer of at most
     /// `max` bytes is the whole file. Names are told apart byte by byte.
@@ -45,6 +48,7 @@ pub trait Files {
             ↔ ((file_at files name.now ≡ None) × (¬ Rose (faults self.old) (faults self.new)))) }
         ensures failed { IsErrOf result FileNo.Failed → Rose (faults self.old) (faults self.new) }
         ensures same { tree self.new ≡ tree self.old }
+        ensures counted { reads self.new ≡ raised (reads self.old) }
         ensures fault_count { faults self.old ≤ faults self.new }
         ensures miss_count { misses self.old ≤ misses self.new };
 
@@ -58,6 +62,7 @@ pub trait Files {
         ensures err { OnErr result (LeavesPrefix (tree self.old) (tree self.new) name.now bytes.now) }
         ensures failed { IsErrOf result FileNo.Failed → Rose (faults self.old) (faults self.new) }
         ensures never_missing { ¬ IsErrOf result FileNo.Missing }
+        ensures no_read { reads self.new ≡ reads self.old }
         ensures fault_count { faults self.old ≤ faults self.new }
         ensures miss_count { misses self.old ≤ misses self.new };
 }

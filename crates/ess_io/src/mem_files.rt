@@ -5,7 +5,7 @@ ghost use Rattle.std.specs.Result.{IsErrOf};
 ghost use Rattle.std.specs.FinMap.{empty, insert};
 ghost use Rattle.ess_io.specs.Counts.{last_count, raised};
 ghost use Rattle.ess_io.specs.Trees.{file_at, start_of_file};
-ghost use Rattle.ess_io.specs.MemoryFiles.{is_failing, called, tree_of};
+ghost use Rattle.ess_io.specs.MemoryFiles.{is_failing, called, read_called, tree_of};
 
 use crate::calls::Calls;
 use crate::{FileNo, Files};
@@ -24,6 +24,7 @@ pub struct MemFiles {
     cut: u64,
     faults: u64,
     misses: u64,
+    reads: u64,
 }
 
 impl Model for MemFiles {
@@ -33,7 +34,7 @@ impl Model for MemFiles {
 
     ghost coded = { memory_code };
 
-    ghost view = { λ a. record { tree = tree_of a.files; fails = a.calls.fails.items; cut = a.cut; made = a.calls.made; faults = a.faults; misses = a.misses } };
+    ghost view = { λ a. record { tree = tree_of a.files; fails = a.calls.fails.items; cut = a.cut; made = a.calls.made; faults = a.faults; misses = a.misses; reads = a.reads } };
 
     ghost invariant = { λ a. FaultsAreListed a.faults a.calls.made a.calls.fails.items };
 }
@@ -88,7 +89,7 @@ impl MemFiles {
     /// No files. The calls whose numbers are in `fails` fail, and a write that fails leaves the first `cut` bytes, or
     /// all of them where there are fewer. No memory.
     pub fn new(alloc: Global, fails: Vec<u64>, cut: u64) -> MemFiles
-        ensures { result ≡ record { tree = empty; fails = fails.items; cut = cut; made = 0; faults = 0; misses = 0 } }
+        ensures { result ≡ record { tree = empty; fails = fails.items; cut = cut; made = 0; faults = 0; misses = 0; reads = 0 } }
     {
         MemFiles {
             alloc,
@@ -97,6 +98,7 @@ impl MemFiles {
             cut,
             faults: 0,
             misses: 0,
+            reads: 0,
         }
     }
 
@@ -136,17 +138,20 @@ impl Files for MemFiles {
 
     ghost misses = { λ files. files.misses };
 
+    ghost reads = { λ files. files.reads };
+
     /// Fails exactly where the number of the call is listed, and else is `Missing` exactly where the name isn't in the
     /// tree; the counts rise there alone.
     fn read(&mut self, alloc: Global, name: &str, max: u64) -> Result<Vec<u8>, FileNo>
         ensures ok { IfOk result (λ bytes. start_of_file self.old.tree name.now (max + 1) ≡ Some bytes.items) }
         ensures failed { IsErrOf result FileNo.Failed ↔ IsTrue (is_failing self.old) }
         ensures missing { IsErrOf result FileNo.Missing ↔ (IsFalse (is_failing self.old) × (file_at self.old.tree name.now ≡ None)) }
-        ensures found { ¬ IsErrOf result FileNo.Missing → self.new ≡ called self.old }
-        ensures missed { IsErrOf result FileNo.Missing → self.new ≡ record (called self.old) { misses = raised self.old.misses } }
+        ensures found { ¬ IsErrOf result FileNo.Missing → self.new ≡ read_called self.old }
+        ensures missed { IsErrOf result FileNo.Missing → self.new ≡ record (read_called self.old) { misses = raised self.old.misses } }
         ensures miss_count { self.old.misses ≤ self.new.misses }
         ensures few_faults { self.new.faults < last_count }
     {
+        self.reads = self.reads.saturating_add(1);
         if self.next_fails() {
             return Err(FileNo::Failed);
         }
@@ -180,7 +185,7 @@ impl Files for MemFiles {
     }
 }
 
-/// Files in memory that never fail. Reads of names that aren't in the tree are counted.
+/// Files in memory that never fail. Reads are counted, and those of names that aren't in the tree.
 #[derive(Drop)]
 pub struct SureFiles {
     files: MemFiles,
@@ -194,7 +199,7 @@ impl Model for SureFiles {
 
     ghost coded = { sure_code };
 
-    ghost view = { λ a. record { tree = a.files.tree; misses = a.files.misses } };
+    ghost view = { λ a. record { tree = a.files.tree; misses = a.files.misses; reads = a.files.reads } };
 
     ghost invariant = { λ a. a.files.fails ≡ [] };
 }
@@ -202,7 +207,7 @@ impl Model for SureFiles {
 impl SureFiles {
     /// No files. No memory.
     pub fn new(alloc: Global) -> SureFiles
-        ensures { result ≡ record { tree = empty; misses = 0 } }
+        ensures { result ≡ record { tree = empty; misses = 0; reads = 0 } }
     {
         SureFiles {
             files: MemFiles::new(alloc, Vec::new(alloc), 0),
@@ -232,12 +237,15 @@ impl Files for SureFiles {
 
     ghost misses = { λ files. files.misses };
 
+    ghost reads = { λ files. files.reads };
+
     fn read(&mut self, alloc: Global, name: &str, max: u64) -> Result<Vec<u8>, FileNo>
         ensures ok { IfOk result (λ bytes. start_of_file self.old.tree name.now (max + 1) ≡ Some bytes.items) }
         ensures missing { IsErrOf result FileNo.Missing ↔ (file_at self.old.tree name.now ≡ None) }
         ensures never_failed { ¬ IsErrOf result FileNo.Failed }
-        ensures found { ¬ IsErrOf result FileNo.Missing → self.new ≡ self.old }
-        ensures missed { IsErrOf result FileNo.Missing → self.new ≡ record self.old { misses = raised self.old.misses } }
+        ensures found { ¬ IsErrOf result FileNo.Missing → self.new ≡ record self.old { reads = raised self.old.reads } }
+        ensures missed { IsErrOf result FileNo.Missing
+            → self.new ≡ record self.old { misses = raised self.old.misses; reads = raised self.old.reads } }
         ensures miss_count { self.old.misses ≤ self.new.misses }
     {
         self.files.read(alloc, name, max)

@@ -1,18 +1,19 @@
 -- What stands at the front of a text, from what the code finds there.
-use Rattle.std.proofs.Common.{◌≡◌, refl, sym, ap, ◌∙◌, subst, ℕ, zero, suc, ◌-◌, ◌≤◌, ◌<◌, ◌^◌, min, Bool, true, false, not, cond, List, [], ◌∷◌, length, take, drop, get_or, Option, Some, None, nat_eq, arith, is_some, unwrap_or, ◌⊎◌, inl, inr, ⊎_elim}
+use Rattle.std.proofs.Common.{◌≡◌, refl, sym, ap, ◌∙◌, subst, ℕ, zero, suc, ◌-◌, ◌≤◌, ◌<◌, ◌^◌, min, Bool, true, false, not, cond, List, [], ◌∷◌, length, take, drop, get_or, ℤ, pos, Option, Some, None, nat_eq, arith, is_some, unwrap_or, ◌⊎◌, inl, inr, ⊎_elim}
 use Rattle.std.proofs.lemmas.Bool.{and_parts, false_from_ne_true, eqb-false, not-true, lt-leb, le-leb}
 use Rattle.std.proofs.lemmas.Slice.Eq.{bytes_eq-Decides}
 use Rattle.std.specs.Option.{option_map}
 use Rattle.std.specs.List.{list_all, prefix_len}
 use Rattle.ess_grammar.specs.declared.kind.Kind.{Kind}
 use Rattle.ess_grammar.specs.Words.{Text, Token, number, name, prime_word, same_text, look, words, symbols, lex_symbols}
-use Rattle.ess_grammar.specs.Kinds.{token}
+use Rattle.ess_grammar.specs.Kinds.{nat_of, token}
 use Rattle.ess_grammar.specs.Tokens.{is_digit, is_letter, is_name_byte, begins_with_name_byte, name_or_word, prime_text, symbol_of, or_else, only_if, value_of, longest, longest_token, is_wide}
 use Rattle.ess_grammar.proofs.Longest.{longest-shorter, longest-here}
 use Rattle.ess_grammar.proofs.Runs.{longest_token-prime, longest_token-name, longest_token-number}
 use Rattle.ess_grammar.proofs.SymbolRuns.{longest_token-symbol}
 use Rattle.ess_grammar.proofs.OneLine.{longest-reads, longest_token-there}
 use Rattle.ess_lex.specs.Tables.{of_length}
+use Rattle.ess_lex.specs.Lexing.{IsNatural}
 use Rattle.ess_lex.specs.Scan.{token_at, IsFirstToken, BeginsWide}
 
 -- ---- tables
@@ -88,27 +89,41 @@ symbol-here text (suc n) o k l h e = sym (longest-here symbol_of n text (token k
 
 -- ---- the first token
 
-abbrev not_wide : Token → Bool
-not_wide t = not (is_wide t)
+abbrev is_number : Token → Bool
+is_number (number n) = true
+is_number t = false
+
+abbrev no_number : Token → Bool
+no_number t = not (is_number t)
+
+-- what is no number isn't too large
+no_number-narrow : (t : Token) → is_number t ≡ false → is_wide t ≡ false
+no_number-narrow (number n) h = cc
+no_number-narrow t h = refl
+
+-- the kind of what is no number is no number
+no_number-natural : (k : Kind) (t : Text) → is_number (token k t) ≡ false → IsNatural k
+no_number-natural (Kind.Num n) t h = cc
+no_number-natural k t h = tt
 
 or_else-is : (a b : Option Token) (x : Token) → or_else a b ≡ Some x → (a ≡ Some x) ⊎ (b ≡ Some x)
 or_else-is None b x h = inr h
 or_else-is (Some y) b x h = inl h
 
-word-narrow : (t : Text) (x : Token) → name_or_word t ≡ Some x → is_wide x ≡ false
-word-narrow t x h = ⊎_elim
-    (λ e. not-true (is_wide x) (look-passes not_wide words t x refl e))
-    (λ e. let same : name t ≡ x = cc in subst (λ z. is_wide z ≡ false) same refl)
+word-no_number : (t : Text) (x : Token) → name_or_word t ≡ Some x → is_number x ≡ false
+word-no_number t x h = ⊎_elim
+    (λ e. not-true (is_number x) (look-passes no_number words t x refl e))
+    (λ e. let same : name t ≡ x = cc in subst (λ z. is_number z ≡ false) same refl)
     (or_else-is (look words t) (Some (name t)) x h)
 
-symbol-narrow : (t rest : Text) (x : Token) → symbol_of t rest ≡ Some x → is_wide x ≡ false
-symbol-narrow t rest x h = ⊎_elim
-    (λ e. not-true (is_wide x) (look-passes not_wide symbols t x refl e))
-    (λ e. not-true (is_wide x) (go (not (begins_with_name_byte rest)) e))
+symbol-no_number : (t rest : Text) (x : Token) → symbol_of t rest ≡ Some x → is_number x ≡ false
+symbol-no_number t rest x h = ⊎_elim
+    (λ e. not-true (is_number x) (look-passes no_number symbols t x refl e))
+    (λ e. not-true (is_number x) (go (not (begins_with_name_byte rest)) e))
     (or_else-is (look symbols t) (only_if (not (begins_with_name_byte rest)) (look lex_symbols t)) x h)
   where
-    go : (i : Bool) → only_if i (look lex_symbols t) ≡ Some x → not_wide x ≡ true
-    go true e = look-passes not_wide lex_symbols t x refl e
+    go : (i : Bool) → only_if i (look lex_symbols t) ≡ Some x → no_number x ≡ true
+    go true e = look-passes no_number lex_symbols t x refl e
     go false e = cc
 
 first_token : (text : Text) (t : Token) (n : ℕ) → longest_token text ≡ Some (t, n) → is_wide t ≡ false → IsFirstToken t n text
@@ -125,7 +140,7 @@ name-first text k n l h q e w =
     let word : name_or_word (take (prefix_len is_name_byte text) text) ≡ Some (token k (take n text)) = ap (λ m. name_or_word (take m text)) (sym e) ∙ sym w in
     first_token text (token k (take n text)) n
     (longest_token-name text (token k (take n text)) l h q word ∙ ap (λ m. Some (token k (take n text), m)) (sym e))
-    (word-narrow (take n text) (token k (take n text)) (sym w))
+    (no_number-narrow (token k (take n text)) (word-no_number (take n text) (token k (take n text)) (sym w)))
 
 number-there : (text : Text) (n : ℕ) → 0 < length text → is_digit (get_or text 0 0) ≡ true → n ≡ prefix_len is_digit text → longest_token text ≡ Some (number (value_of (take n text)), n)
 number-there text n l h e = longest_token-number text l h ∙ ap (λ m. Some (number (value_of (take m text)), m)) (sym e)
@@ -144,7 +159,22 @@ pub symbol-first : (text : Text) (k : Kind) (n : ℕ) → 0 < length text → is
 symbol-first text k n l h i e =
     let t : Token = token k (take n text) in
     let read = longest-reads symbol_of (min (length text) 5) n text t (sym e) in
-    first_token text t n (longest_token-symbol text l h i ∙ sym e) (symbol-narrow (take n text) (drop n text) t read.2)
+    let narrow = no_number-narrow t (symbol-no_number (take n text) (drop n text) t read.2) in
+    first_token text t n (longest_token-symbol text l h i ∙ sym e) narrow
+
+-- the kinds of a word or a name, of a symbol, and of a number
+pub name-natural : (t : Text) (k : Kind) → Some (token k t) ≡ name_or_word t → IsNatural k
+name-natural t k h = no_number-natural k t (word-no_number t (token k t) (sym h))
+
+pub symbol-natural : (text : Text) (k : Kind) (n : ℕ) → token_at text (Some (k, n)) ≡ longest symbol_of (min (length text) 5) text
+    → IsNatural k
+symbol-natural text k n e =
+    let t : Token = token k (take n text) in
+    let read = longest-reads symbol_of (min (length text) 5) n text t (sym e) in
+    no_number-natural k (take n text) (symbol-no_number (take n text) (drop n text) t read.2)
+
+pub number-natural : (value : ℤ) (m : ℕ) → value ≡ pos m → pos (nat_of value) ≡ value
+number-natural value m h = subst (λ v. pos (nat_of v) ≡ v) (sym h) refl
 
 pub no-symbol : (text : Text) → 0 < length text → is_letter (get_or text 0 0) ≡ false → is_digit (get_or text 0 0) ≡ false →
     token_at text None ≡ longest symbol_of (min (length text) 5) text → longest_token text ≡ None

@@ -1,9 +1,10 @@
 -- What a lexer has still to give.
-use Rattle.std.specs.Prelude.{take, drop, Option, Some, None, Ok, Err}
+use Rattle.std.specs.Prelude.{◌≡◌, pos, take, drop, Option, Some, None, Ok, Err}
 use Rattle.std.specs.declared.result.Result.{Result}
 use Rattle.ess_rows.specs.declared.place.Place.{Place}
 use Rattle.ess_grammar.specs.Words.{Text}
-use Rattle.ess_grammar.specs.Kinds.{token}
+use Rattle.ess_grammar.specs.declared.kind.Kind.{Kind}
+use Rattle.ess_grammar.specs.Kinds.{nat_of, token}
 use Rattle.ess_grammar.specs.Tokens.{Lexed, the_end, bad_byte, wide_number, next_token, lexed_after}
 use Rattle.ess_lex.specs.declared.lexer.Token.{Token}
 use Rattle.ess_lex.specs.declared.lexer.LexNo.{LexNo}
@@ -26,6 +27,11 @@ answered (Ok None) more = the_end
 answered (Ok (Some t)) more = next_token (token t.kind t.text.now) t.text.now t.place more
 answered (Err (LexNo.BadByte p)) more = bad_byte p
 answered (Err (LexNo.WideNumber p)) more = wide_number p
+
+-- A number's kind is at least 0, so that each token has one kind.
+abbrev pub IsNatural : Kind → Type 0
+IsNatural (Kind.Num n) = pos (nat_of n) ≡ n
+IsNatural kind = Unit {0}
 
 -- the first refusal of what is to come
 abbrev pub refusal : Lexed → Option LexNo

@@ -1,5 +1,5 @@
 pub mod Tables
-pub mod Scan
 pub mod Lexing
+pub mod Scan
 pub mod Stacks
 pub mod StackItems

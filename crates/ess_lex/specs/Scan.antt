@@ -6,6 +6,7 @@ use Rattle.ess_grammar.specs.Words.{Text, Token}
 use Rattle.ess_grammar.specs.Kinds.{token}
 use Rattle.ess_grammar.specs.Places.{lines_before}
 use Rattle.ess_grammar.specs.Tokens.{longest_token, is_wide}
+use Rattle.ess_lex.specs.Lexing.{IsNatural}
 use Rattle.ess_lex.specs.declared.scan.Found.{Found}
 
 -- the token of a kind that stands in the first n bytes, and n
@@ -27,6 +28,6 @@ pub record BeginsWide (text : Text) : Type 0 where
   pub wide : is_wide found.0 ≡ true
 
 abbrev pub IsFound : Found → Text → Type 0
-IsFound (Found.Token k n) text = IsFirstToken (token k (take n text)) n text
+IsFound (Found.Token k n) text = IsFirstToken (token k (take n text)) n text × IsNatural k
 IsFound Found.BadByte text = longest_token text ≡ None
 IsFound Found.WideNumber text = BeginsWide text

@@ -1,4 +1,4 @@
-ghost use Rattle.std.specs.Prelude.{◌≡◌, ◌+◌, ◌<◌, ◌≤◌, length, take, drop, slice_index, IfOk, IfNone, OnErr};
+ghost use Rattle.std.specs.Prelude.{◌≡◌, ◌+◌, ◌<◌, ◌≤◌, length, take, drop, slice_index, IfOk, IfNone, IfSome, OnErr};
 ghost use Rattle.ess_grammar.specs.Places.{lines_before, bytes_in_line, place};
 ghost use Rattle.ess_grammar.specs.Tokens.{lexed, BeginsPlain};
 
@@ -40,7 +40,7 @@ pub struct Lexer<'a> {
 }
 
 impl<'a> Lexer<'a> {
-    ghost use Rattle.ess_lex.specs.Lexing.{left, answered, passed, rest};
+    ghost use Rattle.ess_lex.specs.Lexing.{left, answered, passed, rest, IsNatural};
 
     /// A lexer at the beginning of a text.
     pub fn new(text: &'a [u8]) -> Lexer<'a>
@@ -60,6 +60,7 @@ impl<'a> Lexer<'a> {
         ensures next { answered result (left self.new) ≡ left self.old }
         ensures end { IfOk result (λ token. IfNone token (left self.new ≡ left self.old)) }
         ensures refused { OnErr result (left self.new ≡ left self.old) }
+        ensures natural { IfOk result (λ token. IfSome token (λ t. IsNatural t.kind)) }
     {
         self.skip_blank();
         if self.at == self.text.len() {

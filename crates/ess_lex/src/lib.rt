@@ -18,6 +18,3 @@ pub use end::end_place;
 pub use ess_grammar::Kind;
 pub use lexer::{LexNo, Lexer, Token};
 pub use texts::{first_outside, load};
-
-#[cfg(test)]
-mod tests;

@@ -11,12 +11,12 @@ use Rattle.ess_semantics.specs.Tables.{code, truth_of}
 use Rattle.ess_semantics.specs.Cells.{Grid, Axes, every_cell}
 use Rattle.ess_semantics.specs.Layers.{codes_of, chosen}
 use Rattle.ess_semantics.specs.FunctionLayers.{with_arguments}
+use Rattle.ess_semantics.specs.Atoms.{Listed}
 use Rattle.ess_semantics.proofs.Tests.{and-left, and-right, and-both}
 use Rattle.ess_semantics.proofs.Orders.{same-equal}
 use Rattle.ess_repr_laws.proofs.RowsOfCells.{EachOf, each-map, each-of-all, EachIndex, Agree}
 use Rattle.ess_repr_laws.proofs.SlotsUsed.{as_place, slots-are}
 use Rattle.ess_repr_laws.proofs.CanonicalPlaces.{AllOf, places-index}
-use Rattle.ess_semantics.proofs.MemberLists.{Listed}
 use Rattle.ess_repr_laws.proofs.TupleMembers.{AllListed, tuples-listed, place_of, tuple-places}
 
 -- The members of d rise, and `index` gives their places among the axes, in order.
@@ -24,6 +24,7 @@ pub record Arguments (d : Domain) (as' : Axes) (index : Value → List ℤ) : Ty
   pub listed : Listed d
   pub places : lists_of as' ≡ map index (member_list d)
 
+-- The arguments of a function from an atom.
 pub atom-arguments : (d : Domain) → Listed d → Arguments d (codes_of d ∷ []) (λ x. code x ∷ [])
 atom-arguments d l = record { listed = l; places = slots-are (codes_of d) ∙ go (member_list d) }
   where
@@ -31,6 +32,7 @@ atom-arguments d l = record { listed = l; places = slots-are (codes_of d) ∙ go
     go [] = refl
     go (x ∷ xs) = ap (λ l. (code x ∷ []) ∷ l) (go xs)
 
+-- Those of a function from a tuple of atoms.
 pub tuple-arguments : (ds : Domains) → AllListed ds → Arguments (tuples ds) (map codes_of (domain_list ds)) place_of
 tuple-arguments ds a = record { listed = tuples-listed ds a; places = tuple-places ds a }
 
@@ -40,10 +42,12 @@ all-of-append : {A : Type 0} (xs ys : List A) (P : A → Type 0) → AllOf xs P 
 all-of-append [] ys P a b = b
 all-of-append (x ∷ xs) ys P a b = (a.0, all-of-append xs ys P a.1 b)
 
+-- What holds of each image.
 pub all-of-under : {A B : Type 0} (g : A → B) (xs : List A) (P : B → Type 0) → AllOf xs (λ x. P (g x)) → AllOf (map g xs) P
 all-of-under g [] P h = tt
 all-of-under g (x ∷ xs) P h = (h.0, all-of-under g xs P h.1)
 
+-- And the other way round.
 pub under-all-of : {A B : Type 0} (g : A → B) (xs : List A) (P : B → Type 0) → AllOf (map g xs) P → AllOf xs (λ x. P (g x))
 under-all-of g [] P h = tt
 under-all-of g (x ∷ xs) P h = (h.0, under-all-of g xs P h.1)
@@ -58,10 +62,12 @@ index-places (a ∷ as') P h = heads a (λ Q q. index-places as' Q q) h
     heads (k ∷ ks) f h =
         all-of-append (map (λ l. k ∷ l) (lists_of as')) (add_heads ks (lists_of as')) P (all-of-under (λ l. k ∷ l) (lists_of as') P (f (λ js. P (k ∷ js)) h.0)) (heads ks f h.1)
 
+-- A property of each cell, at each index list.
 pub cell-index : (as' : Axes) (p : ℤ → Bool) (f : Grid) → every_cell as' p f ≡ true → EachIndex as' (λ js. is_some_and (f js) p ≡ true)
 cell-index [] p f h = h
 cell-index (a ∷ as') p f h = each-map a _ _ (λ k e. cell-index as' p (λ js. f (k ∷ js)) e) (each-of-all a (λ k. every_cell as' p (λ js. f (k ∷ js))) h)
 
+-- Cells that agree at each index list.
 pub index-agree : (as' : Axes) (f g : Grid) → EachIndex as' (λ js. f js ≡ g js) → Agree as' f g
 index-agree [] f g h = h
 index-agree (a ∷ as') f g h = each-map a _ _ (λ k e. index-agree as' (λ js. f (k ∷ js)) (λ js. g (k ∷ js)) e) h
@@ -73,15 +79,19 @@ module _ (d : Domain) (as' : Axes) (index : Value → List ℤ) (args : Argument
   pub arguments-index : (P : List ℤ → Type 0) → AllOf (member_list d) (λ x. P (index x)) → EachIndex as' P
   arguments-index P h = places-index as' P (subst (λ l. AllOf l P) (sym args.places) (all-of-under index (member_list d) P h))
 
+  -- What holds at each index list holds at each argument's.
   pub index-arguments : (P : List ℤ → Type 0) → EachIndex as' P → AllOf (member_list d) (λ x. P (index x))
   index-arguments P h = under-all-of index (member_list d) P (subst (λ l. AllOf l P) args.places (index-places as' P h))
 
+  -- A property of each cell, at each argument.
   pub cell-arguments : (p : ℤ → Bool) (f : Grid) → every_cell as' p f ≡ true → AllOf (member_list d) (λ x. is_some_and (f (index x)) p ≡ true)
   cell-arguments p f h = index-arguments (λ js. is_some_and (f js) p ≡ true) (cell-index as' p f h)
 
+  -- Cells that agree at each argument.
   pub agree-arguments : (f g : Grid) → AllOf (member_list d) (λ x. f (index x) ≡ g (index x)) → Agree as' f g
   agree-arguments f g h = index-agree as' f g (arguments-index (λ js. f js ≡ g js) h)
 
+-- The images whose cell is true.
 pub chosen-map : {A B : Type 0} (g : A → B) (f : B → Option ℤ) (xs : List A) → chosen (map g xs) f ≡ option_map (map g) (chosen xs (λ x. f (g x)))
 chosen-map g f [] = refl
 chosen-map {A = A} {B = B} g f (x ∷ xs) = ap (λ o. and_then (and_then (f (g x)) truth_of) (λ b. option_map (λ ys. if b then g x ∷ ys else ys) o)) (chosen-map g f xs) ∙ go (and_then (f (g x)) truth_of) (chosen xs (λ x. f (g x)))
@@ -92,6 +102,7 @@ chosen-map {A = A} {B = B} g f (x ∷ xs) = ap (λ o. and_then (and_then (f (g x
     go (Some true) (Some ys) = refl
     go (Some false) (Some ys) = refl
 
+-- The answers on images.
 pub each_of-under : {A B C : Type 0} (g : A → B) (f : B → Option C) (xs : List A) → each_of (map g xs) f ≡ each_of xs (λ x. f (g x))
 each_of-under g f [] = refl
 each_of-under g f (x ∷ xs) = ap (λ o. and_then (f (g x)) (λ y. option_map (λ ys. y ∷ ys) o)) (each_of-under g f xs)
@@ -107,6 +118,7 @@ of-held (x ∷ xs) P w h e = go (of-held xs P w h.1) (same x w) refl e
 
 -- ---- pairs
 
+-- Arguments and values make one list of pairs.
 pub arguments-once : (xs xs' vs vs' : List Value) → length vs ≡ length xs → length vs' ≡ length xs' → with_arguments xs vs ≡ with_arguments xs' vs' → (xs ≡ xs') × (vs ≡ vs')
 arguments-once [] [] [] [] l m e = (refl, refl)
 arguments-once [] xs' (v ∷ vs) vs' l m e = cc
@@ -125,6 +137,7 @@ arguments-once (x ∷ xs) (x' ∷ xs') (v ∷ vs) (v' ∷ vs') l m e =
     let b : v ≡ v' = cc in
     (ap (λ y. y ∷ xs) a ∙ ap (λ l. x' ∷ l) r.0, ap (λ y. y ∷ vs) b ∙ ap (λ l. v' ∷ l) r.1)
 
+-- Where arguments rise, the pairs rise by them.
 pub arguments-rise : (xs vs : List Value) → rises itself xs ≡ true → rises from_of (with_arguments xs vs) ≡ true
 arguments-rise [] vs h = refl
 arguments-rise (x ∷ xs) [] h = refl
@@ -133,6 +146,7 @@ arguments-rise (x ∷ y ∷ xs) (v ∷ []) h = refl
 arguments-rise (x ∷ y ∷ xs) (v ∷ w ∷ vs) h =
     and-both (below x y) (rises from_of (with_arguments (y ∷ xs) (w ∷ vs))) (and-left (below x y) (rises itself (y ∷ xs)) h) (arguments-rise (y ∷ xs) (w ∷ vs) (and-right (below x y) (rises itself (y ∷ xs)) h))
 
+-- Pairs of members.
 pub arguments-members : (d c : Domain) (xs vs : List Value) → list_all (member d) xs ≡ true → list_all (member c) vs ≡ true →
     list_all (λ p. is_pair p && member d (from_of p) && member c (to_of p)) (with_arguments xs vs) ≡ true
 arguments-members d c [] vs p q = refl

@@ -23,14 +23,16 @@ use Rattle.ess_semantics.specs.Representations.{value_of_cells}
 use Rattle.ess_semantics.specs.Declarations.{declared_own, declarations_of_children, leaves_out, axes_of}
 use Rattle.ess_semantics.specs.CanonicalTest.{canonical}
 use Rattle.ess_semantics.specs.Tidy.{over_axes}
+use Rattle.ess_repr_laws.specs.Rooms.{Covered, AllCovered}
+use Rattle.ess_semantics.specs.Atoms.{IsAtom, AreAtoms}
 use Rattle.ess_semantics.proofs.Tests.{and-left, and-right, or-left-no, or-right-no}
 use Rattle.ess_semantics.proofs.Orders.{same-itself, same_int-equal, equal-of, text_exact}
 use Rattle.ess_semantics.proofs.Sorting.{sorted-of, Distinct}
 use Rattle.ess_repr_laws.proofs.RowsOfCells.{EachOf, own_axes, axes_in, axes_of_children, axes-of-layer}
 use Rattle.ess_semantics.proofs.Repeats.{sorted-distinct}
-use Rattle.ess_semantics.proofs.MemberLists.{IsAtom, AreAtoms, atom-listed}
+use Rattle.ess_semantics.proofs.MemberLists.{atom-listed}
 use Rattle.ess_repr_laws.proofs.TablesAndCells.{NumbersDiffer, AxesDiffer, AllAxesDiffer, one-tables}
-use Rattle.ess_repr_laws.proofs.CanonicalForms.{Covered, AllCovered, right}
+use Rattle.ess_repr_laws.proofs.CanonicalForms.{right}
 
 -- ---- numbers of slots
 
@@ -45,6 +47,7 @@ run-later : (k a n : ℕ) → k < a → EachOf (run_from a n) (λ j. same_int (p
 run-later k a zero h = tt
 run-later k a (suc n) h = (differ k a h, run-later k (suc a) n (omega arith))
 
+-- The numbers of a run differ.
 pub run-differs : (a n : ℕ) → NumbersDiffer (run_from a n)
 run-differs a zero = tt
 run-differs a (suc n) = (run-later a (suc a) n (le_refl (suc a)), run-differs (suc a) n)

@@ -11,6 +11,7 @@ use Rattle.ess_semantics.specs.OneLayer.{slice_in, no_cells, slice, slices}
 
 -- ---- lists of grids
 
+-- Behind no index all cells stand.
 pub behind-none : (c : Cells) → behind [] c ≡ c
 behind-none [] = refl
 behind-none (f ∷ fs) = ap (λ gs. f ∷ gs) (behind-none fs)
@@ -24,22 +25,26 @@ behind-append is js (f ∷ fs) = ap (λ g. g ∷ behind (is ++ js) fs) (fun_ext 
     go [] ks = refl
     go (i ∷ is) ks = ap (λ l. i ∷ l) (go is ks)
 
+-- The first tables behind an index list.
 pub behind-take : (is : List ℤ) (n : ℕ) (c : Cells) → take n (behind is c) ≡ behind is (take n c)
 behind-take is zero c = refl
 behind-take is (suc n) [] = refl
 behind-take is (suc n) (f ∷ fs) = ap (λ gs. (λ js. f (is ++ js)) ∷ gs) (behind-take is n fs)
 
+-- The tables after them.
 pub behind-drop : (is : List ℤ) (n : ℕ) (c : Cells) → drop n (behind is c) ≡ behind is (drop n c)
 behind-drop is zero c = refl
 behind-drop is (suc n) [] = refl
 behind-drop is (suc n) (f ∷ fs) = behind-drop is n fs
 
+-- They are as many.
 pub behind-length : (is : List ℤ) (c : Cells) → length (behind is c) ≡ length c
 behind-length is [] = refl
 behind-length is (f ∷ fs) = ap suc (behind-length is fs)
 
 -- ---- tables at an index prefix
 
+-- The cells at two prefixes, one behind the other.
 pub cells_at-append : (ts : Tables) (is js : List ℤ) → cells_at ts (is ++ js) ≡ behind js (cells_at ts is)
 cells_at-append ts is js = behind-append is js (cells_of ts)
 
@@ -64,6 +69,7 @@ cell_at-slice_in (a ∷ as') xs (j ∷ js) is = go (chunk a (volume as') xs j) (
     go None h = cell_at-no_cells is
     go (Some c) h = h c
 
+-- The cells of a slice are those behind its index list.
 pub cell_at-slice : (js : List ℤ) (t : Table) (is : List ℤ) → cell_at (slice js t) is ≡ cell_at t (js ++ is)
 cell_at-slice js t is = cell_at-slice_in t.axes t.items js is
 
@@ -86,6 +92,7 @@ values-slices r d ts (j ∷ js) =
 
 -- ---- joined tables
 
+-- So many tables are joined.
 pub joined-length : (n w : ℕ) (p : List ℤ → Cells) → length (joined n w p) ≡ w
 joined-length n zero p = refl
 joined-length n (suc w) p = ap suc (joined-length n w (λ js. other_grids (p js)))

@@ -22,11 +22,11 @@ use Rattle.ess_semantics.specs.Representations.{value_of_cells}
 use Rattle.ess_semantics.specs.Declarations.{axes_of}
 use Rattle.ess_semantics.specs.CanonicalTest.{canonical}
 use Rattle.ess_semantics.specs.Tidy.{tidy_cells}
+use Rattle.ess_repr_laws.specs.CanonicalTables.{Right}
 use Rattle.ess_semantics.proofs.Tests.{and-left, and-right, and-both, some-and, or-left-no, not-true}
 use Rattle.ess_semantics.proofs.Orders.{of_list-to_list}
 use Rattle.ess_semantics.proofs.Sorting.{sorted_once-itself}
 use Rattle.ess_repr_laws.proofs.RowsOfCells.{axes-of-layer}
-use Rattle.ess_repr_laws.proofs.CanonicalParts.{Right}
 use Rattle.ess_repr_laws.proofs.CanonicalRelations.{tuples-of-members, OneValue, one-value, value-once, value-orderly}
 
 -- the attributes of a set or relation
@@ -37,6 +37,7 @@ keys_of d = []
 
 -- ---- relations as sets
 
+-- A member of a domain of sets is a set.
 pub set-member-form : (ks : List Attribute) (d : Domain) (v : Value) → member (sets ks d) v ≡ true →
     (xs : Values) × (v ≡ node a_set xs) × (rises itself (to_list xs) ≡ true) × (list_all (member d) (to_list xs) ≡ true)
 set-member-form ks d (node a_set xs) h =
@@ -77,6 +78,7 @@ module _ (r : Repr) (ks : List Attribute) (ds : Domains) (right : Right r (child
       let s = set-member-form (keys_of (child_set ks ds)) (tuples ds) o.v o.member_of in
       record { one = o; xs = s.0; form = s.1; sorted = s.2; inside = s.3; value = o.value ∙ ap relation_from s.1 }
 
+  -- Canonical cells of relations as sets.
   pub relation-as-set-right : Right (repr ReprKind.RelationAsSet (more_reprs r no_reprs)) (relations ks ds)
   relation-as-set-right = record { sound = λ c h. let x = tuples-of c h in (node a_relation x.xs, x.value); unique = unique'; tidies = tidies' }
     where
@@ -203,6 +205,7 @@ pub when-some : {A : Type 0} (b : Bool) (x y : A) → when b x ≡ Some y → (b
 when-some true x y e = (refl, cc)
 when-some false x y e = cc
 
+-- A test that doesn't fail holds.
 pub not-not : (b : Bool) → not (not b) ≡ true → b ≡ true
 not-not true e = refl
 not-not false e = cc
@@ -247,6 +250,7 @@ module _ (r : Repr) (ks : List Attribute) (d c : Domain) (right : Right r (child
         attributes = ap (λ v. function_attributes_hold ks d c (items_of v)) (sym f) ∙ a.2;
       }
 
+  -- Canonical cells of functions as relations.
   pub function-as-relation-right : Right as_relation (functions ks d c)
   function-as-relation-right = record { sound = λ x h. let y = pairs-of x h in (node a_function y.ps, y.value); unique = unique'; tidies = tidies' }
     where

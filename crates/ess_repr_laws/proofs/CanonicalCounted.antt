@@ -20,6 +20,7 @@ use Rattle.ess_semantics.specs.Representations.{width, value_of_cells}
 use Rattle.ess_semantics.specs.Declarations.{axes_of}
 use Rattle.ess_semantics.specs.CanonicalTest.{canonical}
 use Rattle.ess_semantics.specs.Tidy.{is_orderly, are_orderly, tidy_cells}
+use Rattle.ess_repr_laws.specs.CanonicalTables.{Right}
 use Rattle.ess_semantics.proofs.Tests.{and-left, and-both, run-length}
 use Rattle.ess_semantics.proofs.Orders.{to_list-of_list}
 use Rattle.ess_semantics.proofs.Sorting.{Distinct}
@@ -27,7 +28,7 @@ use Rattle.ess_repr_laws.proofs.RowsOfCells.{agree-row, axes_of_children, axes-o
 use Rattle.ess_repr_laws.proofs.SlotsUsed.{each-run}
 use Rattle.ess_repr_laws.proofs.OneForm.{filled-once, filled-distinct, filled-apart, values-length, each-value, held-value, value-held}
 use Rattle.ess_semantics.proofs.Runs.{from_to, from-length}
-use Rattle.ess_repr_laws.proofs.CanonicalParts.{Right, Parts, parts-of, value-of-parts, only-child, only-child-rows}
+use Rattle.ess_repr_laws.proofs.CanonicalParts.{Parts, parts-of, value-of-parts, only-child, only-child-rows}
 use Rattle.ess_repr_laws.proofs.CanonicalSlots.{Full, slot_at, filled, slots-orderly}
 use Rattle.ess_semantics.proofs.Multisets.{count-sorted, sorted-rises, sorted-length, sorted-all, same-members}
 use Rattle.ess_semantics.proofs.Repeats.{attributes-of, all-repeated, repeated-length, repeated-times}
@@ -172,5 +173,6 @@ module _ (r : Repr) (e : Domain) (ks : List Attribute) (right : Right r e) where
       (ap (counts_hold ks) (sym row-is) ∙ p.attributes)))
       (and-both _ _ p.first (ap (λ o. is_some_and o (are_orderly whole child (e ∷ []) fs)) slots.found ∙ slots-orderly r e right S where_counted fs u.n x.vs full x.values))
 
+  -- Canonical cells of multisets in slots with numbers.
   pub mset-flags-right : Right flagged (msets ks e)
   mset-flags-right = record { sound = flagged-sound; unique = flagged-unique; tidies = flagged-tidies }

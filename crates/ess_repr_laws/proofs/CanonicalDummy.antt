@@ -26,13 +26,14 @@ use Rattle.ess_semantics.specs.Representations.{value_of_cells}
 use Rattle.ess_semantics.specs.Declarations.{axes_of}
 use Rattle.ess_semantics.specs.CanonicalTest.{canonical}
 use Rattle.ess_semantics.specs.Tidy.{tidy_cells}
+use Rattle.ess_repr_laws.specs.CanonicalTables.{Right}
 use Rattle.ess_semantics.proofs.Tests.{and-left, and-right, and-both, if-so, some-and, all-run, not-true}
 use Rattle.ess_semantics.proofs.Orders.{to_list-of_list, same_int-equal, same_int-itself}
 use Rattle.ess_semantics.proofs.Sorting.{Rising, Has, one-list, sorted_once-rises, all-sorted_once, sorted_once-length, holds-sorted_once, Distinct}
 use Rattle.ess_repr_laws.proofs.RowsOfCells.{agree-row}
 use Rattle.ess_repr_laws.proofs.SlotsUsed.{first-ones, each-run}
 use Rattle.ess_semantics.proofs.Runs.{from_to, from-length, sorted-from, has-at, found, same-at, apart-at}
-use Rattle.ess_repr_laws.proofs.CanonicalParts.{Right, Parts, parts-of}
+use Rattle.ess_repr_laws.proofs.CanonicalParts.{Parts, parts-of}
 use Rattle.ess_repr_laws.proofs.CanonicalScalars.{Stands}
 use Rattle.ess_repr_laws.proofs.Dummies.{Dummy, lt-of, holds-from, from-holds, from-all, filter-run}
 
@@ -286,5 +287,6 @@ module _ (e : Domain) (ks : List Attribute) (m : ℤ) (D : Dummy e m) where
       ∙ ap (λ o. is_some_and o (dummies_last m)) (each-there f 1 S (λ k a b. cell k a (omega arith)))
       ∙ last-dummies f 1 S x.n room (sorted f x) (λ k a b. used k a (omega arith)) (λ k a b. free k (omega arith) (omega arith))) refl) refl)
 
+  -- Canonical cells of sets in slots with a dummy.
   pub dummy-right : Right with_dummy (sets ks e)
   dummy-right = record { sound = dummy-sound; unique = dummy-unique; tidies = dummy-tidies }

@@ -3,13 +3,15 @@ use Rattle.std.proofs.Common.{◌≡◌, refl, List, [], ◌∷◌, ℤ, pos, �
 use Rattle.ess_semantics.specs.declared.words.ReprKind.{ReprKind}
 use Rattle.ess_semantics.specs.Trees.{Repr, Reprs, repr, no_reprs, more_reprs}
 use Rattle.ess_semantics.specs.Domains.{Attribute, Domain, Domains, booleans, integers, named, tuples, records, sets, msets, matrices, functions, relations, partitions, no_domains, more_domains, domain_list}
-use Rattle.ess_repr_laws.proofs.CanonicalParts.{Right}
 use Rattle.ess_repr_laws.proofs.CanonicalPlaces.{AllRight}
 use Rattle.ess_repr_laws.proofs.CanonicalScalars.{boolean-right, integer-right, named-right, tuple-right, record-right}
-use Rattle.ess_repr_laws.proofs.CanonicalMatrices.{AllFinite, matrix-right}
+use Rattle.ess_repr_laws.proofs.CanonicalMatrices.{matrix-right}
 use Rattle.ess_repr_laws.proofs.CanonicalSets.{explicit-right, marker-right, flags-right}
 use Rattle.ess_repr_laws.proofs.CanonicalOccurrence.{occurrence-right}
 use Rattle.ess_semantics.specs.Sizes.{child_relation, child_set, child_parts}
+use Rattle.ess_repr_laws.specs.Rooms.{HasDummy, Covered, AllCovered}
+use Rattle.ess_repr_laws.specs.CanonicalTables.{Right}
+use Rattle.ess_semantics.specs.Atoms.{IsAtom, AreAtoms}
 use Rattle.ess_repr_laws.proofs.CanonicalFunctions.{function-1d-right, function-nd-right}
 use Rattle.ess_repr_laws.proofs.CanonicalPartial.{function-1d-partial-right, function-nd-partial-right}
 use Rattle.ess_repr_laws.proofs.CanonicalRelations.{relation-matrix-right}
@@ -22,17 +24,11 @@ use Rattle.ess_repr_laws.proofs.CanonicalCounted.{mset-flags-right}
 use Rattle.ess_repr_laws.proofs.CanonicalPartitions.{partition-as-set-right}
 use Rattle.ess_repr_laws.proofs.CanonicalNumbers.{partition-occurrence-right}
 use Rattle.ess_repr_laws.proofs.TupleMembers.{AllListed}
-use Rattle.ess_semantics.proofs.MemberLists.{IsAtom, AreAtoms, atom-listed}
+use Rattle.ess_semantics.proofs.MemberLists.{atom-listed}
 
 atoms-listed : (ds : Domains) → AreAtoms ds → AllListed ds
 atoms-listed no_domains a = tt
 atoms-listed (more_domains d ds) a = (atom-listed d a.0, atoms-listed ds a.1)
-
--- a domain with a dummy: one range with an upper bound, or a named type
-abbrev pub HasDummy : Domain → Type 0
-HasDummy (integers (s ∷ [])) = IsTrue (is_some s.high)
-HasDummy (named t n) = Unit {0}
-HasDummy _ = ⊥
 
 with-dummy : (d : Domain) (ks : List Attribute) → HasDummy d → Right (repr ReprKind.ExplicitVarSizeWithDummy no_reprs) (sets ks d)
 with-dummy (integers (s ∷ [])) ks h = go s.high refl h
@@ -44,37 +40,6 @@ with-dummy (named t n) ks h = dummy-right (named t n) ks (pos n +ℤ pos 1) (dum
 with-dummy (integers []) ks h = absurd h
 with-dummy (integers (s ∷ r ∷ ss)) ks h = absurd h
 with-dummy _ ks h = absurd h
-
-abbrev mutual
-  -- The representations for which it is shown.
-  pub Covered : Repr → Domain → Type 0
-  Covered (repr ReprKind.Atom no_reprs) d = IsAtom d
-  Covered (repr ReprKind.Tuple rs) (tuples ds) = AllCovered rs (domain_list ds)
-  Covered (repr ReprKind.Rec rs) (records fs ds) = AllCovered rs (domain_list ds)
-  Covered (repr ReprKind.Matrix (more_reprs r no_reprs)) (matrices is d) = AreAtoms is × AllFinite is × Covered r d
-  Covered (repr ReprKind.Occurrence no_reprs) (sets ks d) = IsAtom d
-  Covered (repr ReprKind.Explicit (more_reprs r no_reprs)) (sets ks d) = Covered r d
-  Covered (repr ReprKind.ExplicitVarSizeWithMarker (more_reprs r no_reprs)) (sets ks d) = Covered r d
-  Covered (repr ReprKind.ExplicitVarSizeWithFlags (more_reprs r no_reprs)) (sets ks d) = Covered r d
-  Covered (repr ReprKind.ExplicitVarSizeWithDummy no_reprs) (sets ks d) = HasDummy d
-  Covered (repr ReprKind.MSetOccurrence no_reprs) (msets ks d) = IsAtom d
-  Covered (repr ReprKind.MSetExplicitWithRepetition (more_reprs r no_reprs)) (msets ks d) = Covered r d
-  Covered (repr ReprKind.MSetExplicitWithFlags (more_reprs r no_reprs)) (msets ks d) = Covered r d
-  Covered (repr ReprKind.Function1D (more_reprs r no_reprs)) (functions ks d c) = IsAtom d × Covered r c
-  Covered (repr ReprKind.Function1DPartial (more_reprs r no_reprs)) (functions ks d c) = IsAtom d × Covered r c
-  Covered (repr ReprKind.FunctionND (more_reprs r no_reprs)) (functions ks (tuples ds) c) = AreAtoms ds × Covered r c
-  Covered (repr ReprKind.FunctionNDPartial (more_reprs r no_reprs)) (functions ks (tuples ds) c) = AreAtoms ds × Covered r c
-  Covered (repr ReprKind.FunctionAsRelation (more_reprs r no_reprs)) (functions ks d c) = Covered r (child_relation ks d c)
-  Covered (repr ReprKind.RelationAsMatrix no_reprs) (relations ks ds) = AreAtoms ds
-  Covered (repr ReprKind.RelationAsSet (more_reprs r no_reprs)) (relations ks ds) = Covered r (child_set ks ds)
-  Covered (repr ReprKind.PartitionOccurrence no_reprs) (partitions ks d) = IsAtom d
-  Covered (repr ReprKind.PartitionAsSet (more_reprs r no_reprs)) (partitions ks d) = Covered r (child_parts ks d)
-  Covered _ d = ⊥
-
-  pub AllCovered : Reprs → List Domain → Type 0
-  AllCovered no_reprs [] = Unit {0}
-  AllCovered (more_reprs r rs) (d ∷ ds) = Covered r d × AllCovered rs ds
-  AllCovered _ _ = ⊥
 
 atom-right : (d : Domain) → IsAtom d → Right (repr ReprKind.Atom no_reprs) d
 atom-right booleans a = boolean-right

@@ -15,13 +15,14 @@ use Rattle.ess_semantics.specs.Layers.{Layer, codes_of, only_child}
 use Rattle.ess_semantics.specs.FunctionLayers.{with_arguments, function_with, total_layer}
 use Rattle.ess_semantics.specs.Representations.{width, value_of_cells, values_of_children}
 use Rattle.ess_semantics.specs.Tidy.{are_orderly}
+use Rattle.ess_repr_laws.specs.CanonicalTables.{Right}
+use Rattle.ess_semantics.specs.Atoms.{Listed}
 use Rattle.ess_semantics.proofs.Tests.{and-both}
 use Rattle.ess_semantics.proofs.Orders.{to_list-of_list}
 use Rattle.ess_repr_laws.proofs.RowsOfCells.{axes-of-layer, axes_of_children}
 use Rattle.ess_repr_laws.proofs.OneForm.{values-length}
-use Rattle.ess_repr_laws.proofs.CanonicalParts.{Right, Parts, parts-of, asked_of, value_of_layer, value-of-parts}
+use Rattle.ess_repr_laws.proofs.CanonicalParts.{Parts, parts-of, asked_of, value_of_layer, value-of-parts}
 use Rattle.ess_repr_laws.proofs.CanonicalPlaces.{all_places, children-once, children-members, children-orderly, first-child}
-use Rattle.ess_semantics.proofs.MemberLists.{Listed}
 use Rattle.ess_repr_laws.proofs.TupleMembers.{AllListed, place_of}
 use Rattle.ess_repr_laws.proofs.Arguments.{Arguments, atom-arguments, tuple-arguments, arguments-once, arguments-rise, arguments-members}
 
@@ -90,9 +91,11 @@ module _ (r : Repr) (ks : List Attribute) (d c : Domain) (as' : Axes) (index : V
         attributes = ap (λ vss. function_attributes_hold ks d c (items_of (function_with xs (only_child vss)))) (sym one) ∙ p.attributes;
       }
 
+  -- Cells with a value at each argument stand for a function.
   pub total-sound : (own inner : Cells) → asked_of whole child own inner ≡ true → (v : Value) × (value_of_layer whole child own inner ≡ Some v)
   total-sound own inner h = let x = total-of own inner h in (function_with xs x.vs, x.value)
 
+  -- They are one for each function.
   pub total-unique : (own own' inner inner' : Cells) → asked_of whole child own inner ≡ true → asked_of whole child own' inner' ≡ true →
       value_of_layer whole child own inner ≡ value_of_layer whole child own' inner' → rows (axes_of_children child (c ∷ []) as') inner ≡ rows (axes_of_children child (c ∷ []) as') inner'
   total-unique own own' inner inner' h h' q =
@@ -103,6 +106,7 @@ module _ (r : Repr) (ks : List Attribute) (d c : Domain) (as' : Axes) (index : V
       let s = same-pairs xs xs x.vs y.vs x.long y.long (sym x.value ∙ q ∙ y.value) in
       children-once (c ∷ []) as' build contents_of asked own own' child (c ∷ []) (right, tt) inner inner' (x.vs ∷ []) p.inside p'.inside x.values (y.values ∙ ap (λ l. Some (l ∷ [])) (sym s.1))
 
+  -- They are tidy.
   pub total-tidies : (own inner : Cells) → asked_of whole child own inner ≡ true →
       is_some_and (value_of_layer whole child own inner) (member (functions ks d c)) && (true && true && are_orderly whole child (c ∷ []) inner (lists_of as')) ≡ true
   total-tidies own inner h =
@@ -116,6 +120,7 @@ module _ (r : Repr) (ks : List Attribute) (d c : Domain) (as' : Axes) (index : V
 
 -- ---- the two kinds of total functions
 
+-- Canonical cells of total functions from an atom.
 pub function-1d-right : (r : Repr) (ks : List Attribute) (d c : Domain) → Listed d → Right r c → Right (repr ReprKind.Function1D (more_reprs r no_reprs)) (functions ks d c)
 function-1d-right r ks d c l right = record {
   sound = λ x h. total-sound r ks d c (codes_of d ∷ []) (λ x. code x ∷ []) (atom-arguments d l) right (take 0 x) (drop 0 x) h;
@@ -125,6 +130,7 @@ function-1d-right r ks d c l right = record {
   tidies = λ x h. total-tidies r ks d c (codes_of d ∷ []) (λ x. code x ∷ []) (atom-arguments d l) right (take 0 x) (drop 0 x) h;
 }
 
+-- Canonical cells of total functions from tuples of atoms.
 pub function-nd-right : (r : Repr) (ks : List Attribute) (ds : Domains) (c : Domain) → AllListed ds → Right r c → Right (repr ReprKind.FunctionND (more_reprs r no_reprs)) (functions ks (tuples ds) c)
 function-nd-right r ks ds c l right = record {
   sound = λ x h. total-sound r ks (tuples ds) c (map codes_of (domain_list ds)) place_of (tuple-arguments ds l) right (take 0 x) (drop 0 x) h;

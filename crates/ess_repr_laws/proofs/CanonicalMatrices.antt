@@ -16,11 +16,13 @@ use Rattle.ess_semantics.specs.Layers.{Layer, codes_of, some_each, always_canoni
 use Rattle.ess_semantics.specs.ScalarLayers.{elements, in_lists_of, count_of_places, nested_of}
 use Rattle.ess_semantics.specs.Representations.{width, value_of_cells, values_of_children}
 use Rattle.ess_semantics.specs.Tidy.{are_orderly}
+use Rattle.ess_repr_laws.specs.CanonicalTables.{Right}
+use Rattle.ess_repr_laws.specs.Finite.{HaveLists}
 use Rattle.ess_semantics.proofs.Tests.{and-left, and-right, and-both}
 use Rattle.ess_semantics.proofs.Orders.{to_list-of_list, orders_total}
 use Rattle.ess_repr_laws.proofs.RowsOfCells.{axes_of_children, axes-of-layer}
 use Rattle.ess_repr_laws.proofs.OneForm.{values-length}
-use Rattle.ess_repr_laws.proofs.CanonicalParts.{Right, Parts, parts-of, asked_of, value_of_layer, value-of-parts}
+use Rattle.ess_repr_laws.proofs.CanonicalParts.{Parts, parts-of, asked_of, value_of_layer, value-of-parts}
 use Rattle.ess_repr_laws.proofs.CanonicalPlaces.{all_places, children-once, children-members, children-orderly, first-child}
 
 -- ---- lists cut into lists of n items
@@ -141,16 +143,11 @@ nested-once (more_domains d ds) vs vs' v e e' p q =
     let ys : r'.0 ≡ r.0 = sym (to_list-of_list r'.0) ∙ ap to_list (sym l) ∙ to_list-of_list r.0 in
     parts-once (nested_of ds) (count_of_places ds) (λ xs xs' y a b f g. nested-once ds xs xs' y a b f g) (length (member_list d)) vs vs' r.0 e e' r.1 (r'.1 ∙ ap Some ys)
 
--- Each index domain is finite.
-abbrev pub AllFinite : Domains → Type 0
-AllFinite no_domains = Unit {0}
-AllFinite (more_domains d ds) = IsTrue (is_some (members d)) × AllFinite ds
-
 in-lists-length : (k n : ℕ) (vs : List Value) → length (in_lists_of k n vs) ≡ k
 in-lists-length zero n vs = refl
 in-lists-length (suc k) n vs = ap suc (in-lists-length k n (drop n vs))
 
-nested-member : (is : Domains) → AllFinite is → (f : Value → Bool) (vs : List Value) (v : Value) → length vs ≡ count_of_places is → list_all f vs ≡ true → nested_of is vs ≡ Some v → nested_matrix is f v ≡ true
+nested-member : (is : Domains) → HaveLists is → (f : Value → Bool) (vs : List Value) (v : Value) → length vs ≡ count_of_places is → list_all f vs ≡ true → nested_of is vs ≡ Some v → nested_matrix is f v ≡ true
 nested-member no_domains a f vs v e h p = only vs h p
   where
     only : (vs : List Value) → list_all f vs ≡ true → only_of vs ≡ Some v → f v ≡ true
@@ -196,7 +193,7 @@ places-count (more_domains d ds) =
 
 -- ---- the layer
 
-module _ (r : Repr) (is : Domains) (d : Domain) (finite : AllFinite is) (right : Right r d) where
+module _ (r : Repr) (is : Domains) (d : Domain) (finite : HaveLists is) (right : Right r d) where
   abbrev grid : Repr
   grid = repr ReprKind.Matrix (more_reprs r no_reprs)
 
@@ -265,6 +262,7 @@ module _ (r : Repr) (is : Domains) (d : Domain) (finite : AllFinite is) (right :
       (ap (λ o. is_some_and o (member (matrices is d))) x.value ∙ nested-member is finite (member d) x.vs x.v x.long m.0 x.built)
       (children-orderly (d ∷ []) index_axes build contents_of always_canonical own child (d ∷ []) (right, tt) inner p.inside)
 
+  -- Canonical cells of matrices.
   pub matrix-right : Right grid (matrices is d)
   matrix-right = record {
     sound = λ c h. let x = elements-of (take 0 c) (drop 0 c) h in (x.v, x.value);

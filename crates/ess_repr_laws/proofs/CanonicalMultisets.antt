@@ -19,14 +19,15 @@ use Rattle.ess_semantics.specs.Representations.{value_of_cells}
 use Rattle.ess_semantics.specs.Declarations.{axes_of}
 use Rattle.ess_semantics.specs.CanonicalTest.{canonical}
 use Rattle.ess_semantics.specs.Tidy.{tidy_cells}
+use Rattle.ess_repr_laws.specs.CanonicalTables.{Right}
+use Rattle.ess_semantics.specs.Atoms.{Listed}
 use Rattle.ess_semantics.proofs.Tests.{and-left, and-both}
 use Rattle.ess_semantics.proofs.Orders.{to_list-of_list}
 use Rattle.ess_semantics.proofs.Sorting.{sorted-of, Distinct}
 use Rattle.ess_repr_laws.proofs.RowsOfCells.{EachOf, agree-row}
 use Rattle.ess_repr_laws.proofs.SlotsUsed.{all-map, marker-cell}
-use Rattle.ess_repr_laws.proofs.CanonicalParts.{Right, Parts, parts-of}
+use Rattle.ess_repr_laws.proofs.CanonicalParts.{Parts, parts-of}
 use Rattle.ess_repr_laws.proofs.CanonicalPlaces.{AllOf, all-of-list, all-of-map}
-use Rattle.ess_semantics.proofs.MemberLists.{Listed}
 use Rattle.ess_semantics.proofs.Repeats.{attributes-of, sorted-distinct, repeated-once, repeated-weakly, of-weakly, all-repeated, repeated-length, repeated-times}
 
 -- a cell that is there and isn't below 0
@@ -138,5 +139,6 @@ module _ (e : Domain) (ks : List Attribute) (listed : Listed e) where
       (attributes-of ks ys (map pos x.ns) (repeated-length x.ns xs x.long) (λ k z a v m c. repeated-times (times_hold k z) x.ns xs distinct a v m c)
       (ap (counts_hold ks) (sym (row-of-codes f xs ∙ x.cells)) ∙ p.attributes))) refl
 
+  -- Canonical cells of multisets as how often each member occurs.
   pub mset-occurrence-right : Right by_member (msets ks e)
   mset-occurrence-right = record { sound = counted-sound; unique = counted-unique; tidies = counted-tidies }

@@ -21,15 +21,16 @@ use Rattle.ess_semantics.specs.Representations.{value_of_cells}
 use Rattle.ess_semantics.specs.Declarations.{axes_of}
 use Rattle.ess_semantics.specs.CanonicalTest.{canonical}
 use Rattle.ess_semantics.specs.Tidy.{tidy_cells}
+use Rattle.ess_repr_laws.specs.CanonicalTables.{Right}
+use Rattle.ess_semantics.specs.Atoms.{Listed}
 use Rattle.ess_semantics.proofs.Tests.{and-left, and-right, and-both, or-yes, some-and, not-true}
 use Rattle.ess_semantics.proofs.Orders.{to_list-of_list, same_int-equal, same_int-itself, same-itself}
 use Rattle.ess_semantics.proofs.Sorting.{holds-sorted_once, sorted_once-rises, all-sorted_once, sorted_once-length, Distinct}
 use Rattle.ess_repr_laws.proofs.RowsOfCells.{EachOf, agree-row}
 use Rattle.ess_repr_laws.proofs.SlotsUsed.{all-map, marker-cell}
-use Rattle.ess_repr_laws.proofs.CanonicalParts.{Right, parts-of}
+use Rattle.ess_repr_laws.proofs.CanonicalParts.{parts-of}
 use Rattle.ess_repr_laws.proofs.CanonicalPlaces.{AllOf, all-of-list, all-of-map}
 use Rattle.ess_repr_laws.proofs.CanonicalConversions.{when-some}
-use Rattle.ess_semantics.proofs.MemberLists.{Listed}
 use Rattle.ess_repr_laws.proofs.Arguments.{of-held}
 use Rattle.ess_repr_laws.proofs.Numberings.{Before, ByLeast, one-numbering}
 use Rattle.ess_semantics.proofs.Overlaps.{all_members, apart-distinct, sorted_once-apart, no-overlap, overlap-none}

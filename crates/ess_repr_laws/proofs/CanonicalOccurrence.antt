@@ -17,13 +17,14 @@ use Rattle.ess_semantics.specs.Representations.{value_of_cells}
 use Rattle.ess_semantics.specs.Declarations.{axes_of}
 use Rattle.ess_semantics.specs.CanonicalTest.{canonical}
 use Rattle.ess_semantics.specs.Tidy.{tidy_cells}
+use Rattle.ess_repr_laws.specs.CanonicalTables.{Right}
+use Rattle.ess_semantics.specs.Atoms.{Listed}
 use Rattle.ess_semantics.proofs.Tests.{and-left, and-both}
 use Rattle.ess_semantics.proofs.Orders.{to_list-of_list}
 use Rattle.ess_repr_laws.proofs.RowsOfCells.{EachOf, agree-row}
 use Rattle.ess_repr_laws.proofs.SlotsUsed.{all-map, bit-cell}
-use Rattle.ess_repr_laws.proofs.CanonicalParts.{Right, Parts, parts-of}
+use Rattle.ess_repr_laws.proofs.CanonicalParts.{Parts, parts-of}
 use Rattle.ess_repr_laws.proofs.CanonicalPlaces.{AllOf, all-of-list, all-of-map}
-use Rattle.ess_semantics.proofs.MemberLists.{Listed}
 use Rattle.ess_repr_laws.proofs.Chosen.{Bit, chosen-there, chosen-once, chosen-rises, chosen-all, chosen-count}
 
 module _ (e : Domain) (ks : List Attribute) (listed : Listed e) where
@@ -96,5 +97,6 @@ module _ (e : Domain) (ks : List Attribute) (listed : Listed e) where
       (and-both (rises itself x.ys) (list_all (member e) x.ys) (chosen-rises xs (cell_of f) x.ys x.found listed.sorted) (chosen-all (member e) xs (cell_of f) x.ys x.found listed.members))
       (ap (set_attributes_hold ks) (sym (ap count_true (row-of-codes f xs) ∙ chosen-count xs (cell_of f) x.ys x.found x.bits)) ∙ p.attributes)) refl
 
+  -- Canonical cells of sets as the members that occur.
   pub occurrence-right : Right occurrence (sets ks e)
   occurrence-right = record { sound = occurrence-sound; unique = occurrence-unique; tidies = occurrence-tidies }

@@ -18,15 +18,16 @@ use Rattle.ess_semantics.specs.Representations.{width, places_in_use, is_used, v
 use Rattle.ess_semantics.specs.Declarations.{axes_of}
 use Rattle.ess_semantics.specs.CanonicalTest.{child_is_canonical, canonical}
 use Rattle.ess_semantics.specs.Tidy.{is_orderly, are_orderly}
+use Rattle.ess_repr_laws.specs.CanonicalTables.{Right}
+use Rattle.ess_semantics.specs.Atoms.{Listed}
 use Rattle.ess_semantics.proofs.Tests.{and-left, and-right, and-both, if-so, if-not, or-yes}
 use Rattle.ess_semantics.proofs.Orders.{same-itself}
 use Rattle.ess_repr_laws.proofs.RowsOfCells.{agree-row, zeros-same, axes-of-layer, axes_of_children}
 use Rattle.ess_repr_laws.proofs.SlotsUsed.{bit-cell}
 use Rattle.ess_repr_laws.proofs.OneForm.{values-length}
-use Rattle.ess_repr_laws.proofs.CanonicalParts.{Right, Parts, parts-of, asked_of, value_of_layer, value-of-parts, OnlyChild, only-child, only-child-rows}
+use Rattle.ess_repr_laws.proofs.CanonicalParts.{Parts, parts-of, asked_of, value_of_layer, value-of-parts, OnlyChild, only-child, only-child-rows}
 use Rattle.ess_repr_laws.proofs.CanonicalPlaces.{AllOf, all-of-list, all-of-map, values-same, values-all, list-of-all}
 use Rattle.ess_repr_laws.proofs.Chosen.{Bit, on, chosen-there, chosen-holds, chosen-once, chosen-rises, chosen-all}
-use Rattle.ess_semantics.proofs.MemberLists.{Listed}
 use Rattle.ess_repr_laws.proofs.TupleMembers.{AllListed, place_of}
 use Rattle.ess_repr_laws.proofs.Arguments.{Arguments, atom-arguments, tuple-arguments, arguments-index, cell-arguments, agree-arguments, chosen-map, each_of-under, of-held, all-of-under, under-all-of}
 use Rattle.ess_repr_laws.proofs.CanonicalFunctions.{function-member, same-pairs}
@@ -133,6 +134,7 @@ module _ (r : Repr) (ks : List Attribute) (d c : Domain) (as' : Axes) (index : V
           (if-so (used f z) (canonical r c (behind (index z) (inner_cells inner))) u i.0) (if-so (used g z) (canonical r c (behind (index z) (inner_cells inner'))) u' j.0)
           (of-held ys (λ x. value_there inner x ≡ value_there inner' x) z e held)
 
+  -- Cells with flags are one for each function.
   pub partial-unique : (f g : Grid) (inner inner' : Cells) → asked_of whole child (f ∷ []) inner ≡ true → asked_of whole child (g ∷ []) inner' ≡ true →
       value_of_layer whole child (f ∷ []) inner ≡ value_of_layer whole child (g ∷ []) inner' →
       (row as' f ≡ row as' g) × (rows (axes_of_children child (c ∷ []) as') inner ≡ rows (axes_of_children child (c ∷ []) as') inner')
@@ -170,6 +172,7 @@ module _ (r : Repr) (ks : List Attribute) (d c : Domain) (as' : Axes) (index : V
       inside = if-so (used f z) (canonical r c (behind (index z) (inner_cells inner))) (used-on (f (index z)) (and-right (holds xs z) (on (f (index z))) held))
           (of-held xs (λ x. not (used f x) || canonical r c (behind (index x) (inner_cells inner)) ≡ true) z i (and-left (holds xs z) (on (f (index z))) held))
 
+  -- They are tidy.
   pub partial-tidies : (f : Grid) (inner : Cells) → asked_of whole child (f ∷ []) inner ≡ true →
       is_some_and (value_of_layer whole child (f ∷ []) inner) (member (functions ks d c)) && (true && true && is_some_and (places_in_use whole (f ∷ [])) (are_orderly whole child (c ∷ []) inner)) ≡ true
   partial-tidies f inner h =
@@ -195,11 +198,13 @@ module _ (r : Repr) (ks : List Attribute) (d c : Domain) (as' : Axes) (index : V
 -- ---- the two kinds
 
 module _ (r : Repr) (ks : List Attribute) (d c : Domain) (as' : Axes) (index : Value → List ℤ) (args : Arguments d as' index) (right : Right r c) where
+  -- The whole cells stand for a function.
   pub of-partial-sound : (x : Cells) → asked_of (partial_layer ks as' index d c) (more_reprs r no_reprs) (take 1 x) (drop 1 x) ≡ true →
       (v : Value) × (value_of_layer (partial_layer ks as' index d c) (more_reprs r no_reprs) (take 1 x) (drop 1 x) ≡ Some v)
   of-partial-sound [] h = cc
   of-partial-sound (f ∷ fs) h = partial-sound r ks d c as' index args right f fs h
 
+  -- They are one for each function.
   pub of-partial-unique : (x y : Cells) → asked_of (partial_layer ks as' index d c) (more_reprs r no_reprs) (take 1 x) (drop 1 x) ≡ true →
       asked_of (partial_layer ks as' index d c) (more_reprs r no_reprs) (take 1 y) (drop 1 y) ≡ true →
       value_of_layer (partial_layer ks as' index d c) (more_reprs r no_reprs) (take 1 x) (drop 1 x) ≡ value_of_layer (partial_layer ks as' index d c) (more_reprs r no_reprs) (take 1 y) (drop 1 y) →
@@ -210,12 +215,14 @@ module _ (r : Repr) (ks : List Attribute) (d c : Domain) (as' : Axes) (index : V
       let u = partial-unique r ks d c as' index args right f g fs gs h h' q in
       ap (λ l. l ∷ rows (axes_of_children (more_reprs r no_reprs) (c ∷ []) as') fs) u.0 ∙ ap (λ l. row as' g ∷ l) u.1
 
+  -- They are tidy.
   pub of-partial-tidies : (x : Cells) → asked_of (partial_layer ks as' index d c) (more_reprs r no_reprs) (take 1 x) (drop 1 x) ≡ true →
       is_some_and (value_of_layer (partial_layer ks as' index d c) (more_reprs r no_reprs) (take 1 x) (drop 1 x)) (member (functions ks d c)) &&
       (true && true && is_some_and (places_in_use (partial_layer ks as' index d c) (take 1 x)) (are_orderly (partial_layer ks as' index d c) (more_reprs r no_reprs) (c ∷ []) (drop 1 x))) ≡ true
   of-partial-tidies [] h = cc
   of-partial-tidies (f ∷ fs) h = partial-tidies r ks d c as' index args right f fs h
 
+-- Canonical cells of functions from an atom, with flags.
 pub function-1d-partial-right : (r : Repr) (ks : List Attribute) (d c : Domain) → Listed d → Right r c → Right (repr ReprKind.Function1DPartial (more_reprs r no_reprs)) (functions ks d c)
 function-1d-partial-right r ks d c l right = record {
   sound = λ x h. of-partial-sound r ks d c (codes_of d ∷ []) (λ x. code x ∷ []) (atom-arguments d l) right x h;
@@ -225,6 +232,7 @@ function-1d-partial-right r ks d c l right = record {
   tidies = λ x h. of-partial-tidies r ks d c (codes_of d ∷ []) (λ x. code x ∷ []) (atom-arguments d l) right x h;
 }
 
+-- Canonical cells of functions from tuples of atoms, with flags.
 pub function-nd-partial-right : (r : Repr) (ks : List Attribute) (ds : Domains) (c : Domain) → AllListed ds → Right r c → Right (repr ReprKind.FunctionNDPartial (more_reprs r no_reprs)) (functions ks (tuples ds) c)
 function-nd-partial-right r ks ds c l right = record {
   sound = λ x h. of-partial-sound r ks (tuples ds) c (map codes_of (domain_list ds)) place_of (tuple-arguments ds l) right x h;

@@ -17,11 +17,11 @@ use Rattle.ess_semantics.specs.Representations.{value_of_cells}
 use Rattle.ess_semantics.specs.Declarations.{axes_of}
 use Rattle.ess_semantics.specs.CanonicalTest.{canonical}
 use Rattle.ess_semantics.specs.Tidy.{tidy_cells}
+use Rattle.ess_repr_laws.specs.CanonicalTables.{Right}
 use Rattle.ess_semantics.proofs.Tests.{and-left, and-right, and-both, some-and, or-left-no, or-right-no, not-true}
 use Rattle.ess_semantics.proofs.Orders.{of_list-to_list}
 use Rattle.ess_semantics.proofs.Sorting.{sorted_once-itself}
 use Rattle.ess_repr_laws.proofs.RowsOfCells.{axes-of-layer}
-use Rattle.ess_repr_laws.proofs.CanonicalParts.{Right}
 use Rattle.ess_repr_laws.proofs.CanonicalRelations.{OneValue, one-value, value-once, value-orderly}
 use Rattle.ess_repr_laws.proofs.CanonicalConversions.{keys_of, set-member-form, when-some}
 
@@ -88,6 +88,7 @@ module _ (r : Repr) (ks : List Attribute) (d : Domain) (right : Right r (child_p
         attributes = ap (λ v. is_partition_of ks d (items_of v)) (sym f) ∙ a.2;
       }
 
+  -- Canonical cells of partitions as sets of parts.
   pub partition-as-set-right : Right as_sets (partitions ks d)
   partition-as-set-right = record { sound = λ x h. let y = parts-of-cells x h in (node a_partition y.ps, y.value); unique = unique'; tidies = tidies' }
     where

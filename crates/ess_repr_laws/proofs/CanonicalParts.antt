@@ -10,15 +10,8 @@ use Rattle.ess_semantics.specs.Layers.{Layer}
 use Rattle.ess_semantics.specs.Representations.{width, places_in_use, value_of_cells, values_of_children}
 use Rattle.ess_semantics.specs.Declarations.{axes_of}
 use Rattle.ess_semantics.specs.CanonicalTest.{own_cells_fit, in_use_first, child_is_canonical, children_are_canonical, canonical}
-use Rattle.ess_semantics.specs.Tidy.{tidy_cells}
 use Rattle.ess_semantics.proofs.Tests.{and-left, and-right, some-and}
 use Rattle.ess_repr_laws.proofs.RowsOfCells.{EachIndex, axes_of_children, rows-append, rows-under}
-
--- Canonical cells stand for a value, those that stand for one value have the same rows, and they are tidy.
-pub record Right (r : Repr) (d : Domain) : Type 0 where
-  pub sound : (c : Cells) → canonical r d c ≡ true → (v : Value) × (value_of_cells r d c ≡ Some v)
-  pub unique : (c c' : Cells) → canonical r d c ≡ true → canonical r d c' ≡ true → value_of_cells r d c ≡ value_of_cells r d c' → rows (axes_of r d) c ≡ rows (axes_of r d) c'
-  pub tidies : (c : Cells) → canonical r d c ≡ true → tidy_cells r d c ≡ true
 
 -- ---- the parts of a layer
 
@@ -28,6 +21,7 @@ asked_of l rs own inner =
     own_cells_fit l.own own && in_use_first l own && children_are_canonical l own rs l.children inner &&
     is_some_and (and_then (places_in_use l own) (values_of_children rs l.children inner)) (l.is_canonical own)
 
+-- What is asked of a layer, part by part.
 pub record Parts (l : Layer) (rs : Reprs) (own inner : Cells) : Type 0 where
   pub fit : own_cells_fit l.own own ≡ true
   pub first : in_use_first l own ≡ true
@@ -38,6 +32,7 @@ pub record Parts (l : Layer) (rs : Reprs) (own inner : Cells) : Type 0 where
   pub values : values_of_children rs l.children inner js ≡ Some vss
   pub attributes : l.is_canonical own vss ≡ true
 
+-- Where it is asked, each part holds.
 pub parts-of : (l : Layer) (rs : Reprs) (own inner : Cells) → asked_of l rs own inner ≡ true → Parts l rs own inner
 parts-of l rs own inner e =
     let a : Bool = own_cells_fit l.own own in
@@ -67,12 +62,14 @@ parts-of l rs own inner e =
 abbrev pub value_of_layer : Layer → Reprs → Cells → Cells → Option Value
 value_of_layer l rs own inner = and_then (places_in_use l own) (λ js. and_then (values_of_children rs l.children inner js) (l.built own))
 
+-- The value that the layer builds.
 pub value-of-parts : (l : Layer) (rs : Reprs) (own inner : Cells) (p : Parts l rs own inner) → value_of_layer l rs own inner ≡ l.built own p.vss
 value-of-parts l rs own inner p =
     ap (λ o. and_then o (λ js. and_then (values_of_children rs l.children inner js) (l.built own))) p.used ∙ ap (λ o. and_then o (l.built own)) p.values
 
 -- ---- an only child
 
+-- The values of an only child: there, the only list, and canonical cells at each place in use.
 pub record OnlyChild (r : Repr) (e : Domain) (l : Layer) (own inner : Cells) (js : List (List ℤ)) (vss : List (List Value)) : Type 0 where
   pub vs : List Value
   pub values : each_of js (λ j. value_of_cells r e (behind j (take (width r) inner))) ≡ Some vs
@@ -84,6 +81,7 @@ pub record OnlyChild (r : Repr) (e : Domain) (l : Layer) (own inner : Cells) (js
 pub child-long : (l : Layer) (own : Cells) (ass : List Axes) (p : Cells → Bool) (c : Cells) → child_is_canonical l own ass p c ≡ true → length c ≡ length ass
 child-long l own ass p c e = eqb-true (length c) (length ass) (and-left (nat_eq (length c) (length ass)) _ (and-left _ _ (and-left _ _ e)))
 
+-- An only child has such values.
 pub only-child : (r : Repr) (e : Domain) (l : Layer) (own inner : Cells) (js : List (List ℤ)) (vss : List (List Value)) →
     children_are_canonical l own (more_reprs r no_reprs) (e ∷ []) inner ≡ true → values_of_children (more_reprs r no_reprs) (e ∷ []) inner js ≡ Some vss → OnlyChild r e l own inner js vss
 only-child r e l own inner js vss h q =

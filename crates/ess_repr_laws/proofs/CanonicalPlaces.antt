@@ -13,9 +13,10 @@ use Rattle.ess_semantics.specs.Representations.{width, value_of_cells, values_of
 use Rattle.ess_semantics.specs.Declarations.{axes_of}
 use Rattle.ess_semantics.specs.CanonicalTest.{child_is_canonical, children_are_canonical, canonical}
 use Rattle.ess_semantics.specs.Tidy.{is_orderly, are_orderly}
+use Rattle.ess_repr_laws.specs.CanonicalTables.{Right}
 use Rattle.ess_semantics.proofs.Tests.{and-left, and-right, and-both}
 use Rattle.ess_repr_laws.proofs.RowsOfCells.{EachOf, EachIndex, axes_of_children, rows-under}
-use Rattle.ess_repr_laws.proofs.CanonicalParts.{Right, child-long, rows-of-child}
+use Rattle.ess_repr_laws.proofs.CanonicalParts.{child-long, rows-of-child}
 
 -- Each representation is right over its domain.
 abbrev pub AllRight : Reprs → List Domain → Type 0
@@ -25,22 +26,27 @@ AllRight _ _ = ⊥
 
 -- ---- of each item of a list
 
+-- P holds of each item.
 abbrev pub AllOf : {A : Type 0} → List A → (A → Type 0) → Type 0
 AllOf [] P = Unit {0}
 AllOf (x ∷ xs) P = P x × AllOf xs P
 
+-- A test of each item.
 pub all-of-list : {A : Type 0} (xs : List A) (f : A → Bool) → list_all f xs ≡ true → AllOf xs (λ x. f x ≡ true)
 all-of-list [] f e = tt
 all-of-list (x ∷ xs) f e = (and-left (f x) (list_all f xs) e, all-of-list xs f (and-right (f x) (list_all f xs) e))
 
+-- And the other way round.
 pub list-of-all : {A : Type 0} (xs : List A) (f : A → Bool) → AllOf xs (λ x. f x ≡ true) → list_all f xs ≡ true
 list-of-all [] f h = refl
 list-of-all (x ∷ xs) f h = and-both (f x) (list_all f xs) h.0 (list-of-all xs f h.1)
 
+-- What holds of an item gives something else of it.
 pub all-of-map : {A : Type 0} (xs : List A) (P Q : A → Type 0) → ((x : A) → P x → Q x) → AllOf xs P → AllOf xs Q
 all-of-map [] P Q f h = tt
 all-of-map (x ∷ xs) P Q f h = (f x h.0, all-of-map xs P Q f h.1)
 
+-- Two things that hold of an item.
 pub all-of-both : {A : Type 0} (xs : List A) (P Q R : A → Type 0) → ((x : A) → P x → Q x → R x) → AllOf xs P → AllOf xs Q → AllOf xs R
 all-of-both [] P Q R f h i = tt
 all-of-both (x ∷ xs) P Q R f h i = (f x h.0 i.0, all-of-both xs P Q R f h.1 i.1)
@@ -60,6 +66,7 @@ places-index (b ∷ bs) P h = heads b (λ Q. places-index bs Q) h
 
 -- ---- values at places
 
+-- Answers that are one list are one by one the same.
 pub values-same : {A : Type 0} (js : List A) (f g : A → Option Value) (vs : List Value) → each_of js f ≡ Some vs → each_of js g ≡ Some vs → AllOf js (λ j. f j ≡ g j)
 values-same [] f g vs p q = tt
 values-same (j ∷ js) f g vs p q = go (f j) (g j) (each_of js f) (each_of js g) refl refl refl refl p q (λ zs. values-same js f g zs)
@@ -76,6 +83,7 @@ values-same (j ∷ js) f g vs p q = go (f j) (g j) (each_of js f) (each_of js g)
         let vw : v ≡ w = cc in let zu : zs ≡ us = cc in
         (a ∙ ap Some vw ∙ sym b, ih zs c (d ∙ ap Some (sym zu)))
 
+-- A test of each answer.
 pub values-all : {A : Type 0} (js : List A) (f : A → Option Value) (g : Value → Bool) (vs : List Value) → each_of js f ≡ Some vs → AllOf js (λ j. (v : Value) → f j ≡ Some v → g v ≡ true) → list_all g vs ≡ true
 values-all [] f g vs p h = let q : [] ≡ vs = cc in ap (list_all g) (sym q)
 values-all (j ∷ js) f g vs p h = go (f j) (each_of js f) refl refl p (λ zs q. values-all js f g zs q h.1)
@@ -93,6 +101,7 @@ pub record FirstChild (r : Repr) (d : Domain) (rs : Reprs) (ds : List Domain) (c
   pub values : each_of js (λ j. value_of_cells r d (behind j (take (width r) c))) ≡ Some vs
   pub rest : values_of_children rs ds (drop (width r) c) js ≡ Some others
 
+-- The first child's values and those of the others.
 pub first-child : (r : Repr) (d : Domain) (rs : Reprs) (ds : List Domain) (c : Cells) (js : List (List ℤ)) (vss : List (List Value)) →
     values_of_children (more_reprs r rs) (d ∷ ds) c js ≡ Some vss → FirstChild r d rs ds c js vss
 first-child r d rs ds c js vss q = go (each_of js (λ j. value_of_cells r d (behind j (take (width r) c)))) (values_of_children rs ds (drop (width r) c) js) refl refl q
@@ -107,6 +116,7 @@ first-child r d rs ds c js vss q = go (each_of js (λ j. value_of_cells r d (beh
 
 -- f builds the value, g is what else is asked; the layer has no table of its own
 module _ (ds : List Domain) (bs : Axes) (f : Cells → List (List Value) → Option Value) (t : Value → List (List (Option Value))) (g : Cells → List (List Value) → Bool) where
+  -- A layer with all places in use.
   abbrev pub all_places : Layer
   all_places = record (plain_layer f) { children = ds; axes = bs; contents = t; is_canonical = g }
 
@@ -162,6 +172,7 @@ module _ (ds : List Domain) (bs : Axes) (f : Cells → List (List Value) → Opt
   AllMembers (e ∷ es) (vs ∷ vss) = (list_all (member e) vs ≡ true) × AllMembers es vss
   AllMembers _ _ = ⊥
 
+  -- The values of its children are members.
   pub children-members : (own : Cells) (rs : Reprs) (es : List Domain) → AllRight rs es → (c : Cells) (vss : List (List Value)) →
       children_are_canonical all_places own rs es c ≡ true → values_of_children rs es c (lists_of bs) ≡ Some vss → AllMembers es vss
   children-members own no_reprs [] a c vss h q = go vss q
@@ -185,6 +196,7 @@ module _ (ds : List Domain) (bs : Axes) (f : Cells → List (List Value) → Opt
       go : {vs : List Value} {others : List (List Value)} (vss : List (List Value)) → vss ≡ vs ∷ others → list_all (member e) vs ≡ true → AllMembers es others → AllMembers (e ∷ es) vss
       go {vs} {others} vss w p q = subst (AllMembers (e ∷ es)) (sym w) (p, q)
 
+  -- Their cells are in order.
   pub children-orderly : (own : Cells) (rs : Reprs) (es : List Domain) → AllRight rs es → (c : Cells) →
       children_are_canonical all_places own rs es c ≡ true → are_orderly all_places rs es c (lists_of bs) ≡ true
   children-orderly own no_reprs [] a c h = refl

@@ -17,11 +17,12 @@ use Rattle.ess_semantics.specs.Representations.{value_of_cells, values_of_childr
 use Rattle.ess_semantics.specs.Declarations.{axes_of}
 use Rattle.ess_semantics.specs.CanonicalTest.{canonical}
 use Rattle.ess_semantics.specs.Tidy.{are_orderly, tidy_cells}
+use Rattle.ess_repr_laws.specs.CanonicalTables.{Right}
 use Rattle.ess_semantics.proofs.Tests.{and-left, and-right, and-both}
 use Rattle.ess_semantics.proofs.Orders.{to_list-of_list}
 use Rattle.ess_repr_laws.proofs.RowsOfCells.{agree-row, axes_of_children}
 use Rattle.ess_repr_laws.proofs.SlotsUsed.{bit-cell}
-use Rattle.ess_repr_laws.proofs.CanonicalParts.{Right, Parts, parts-of, asked_of, value_of_layer, value-of-parts}
+use Rattle.ess_repr_laws.proofs.CanonicalParts.{Parts, parts-of, asked_of, value_of_layer, value-of-parts}
 use Rattle.ess_repr_laws.proofs.CanonicalPlaces.{AllOf, all-of-map, all_places, children-once, AllMembers, children-members, children-orderly}
 use Rattle.ess_repr_laws.proofs.CanonicalScalars.{singles}
 use Rattle.ess_repr_laws.proofs.Chosen.{Bit, chosen-there, chosen-once, chosen-rises, chosen-all}
@@ -46,6 +47,7 @@ tuple-of-member ds (node a_relation vs) h = cc
 tuple-of-member ds (node a_partition vs) h = cc
 tuple-of-member ds (node (a_record fs) vs) h = cc
 
+-- Members of a domain of tuples are tuples of members.
 pub tuples-of-members : (ds : Domains) (vs : List Value) → list_all (member (tuples ds)) vs ≡ true → list_all (tuple_member ds) vs ≡ true
 tuples-of-members ds [] h = refl
 tuples-of-members ds (v ∷ vs) h =
@@ -123,6 +125,7 @@ module _ (ks : List Attribute) (ds : Domains) (all : AllListed ds) where
       ∙ and-both (rises itself x.ys) (list_all (tuple_member ds) x.ys) (chosen-rises xs (λ x. f (place_of x)) x.ys x.found l.sorted)
       (tuples-of-members ds x.ys (chosen-all (member (tuples ds)) xs (λ x. f (place_of x)) x.ys x.found l.members))) x.attributes) refl
 
+  -- Canonical cells of relations as the tuples that occur.
   pub relation-matrix-right : Right as_matrix (relations ks ds)
   relation-matrix-right = record { sound = matrix-sound; unique = matrix-unique; tidies = matrix-tidies }
 
@@ -136,6 +139,7 @@ module _ (r : Repr) (e : Domain) (right : Right r e) (f : Value → Option Value
   abbrev made : Cells → List (List Value) → Option Value
   made c vss = and_then (only_of (only_child vss)) f
 
+  -- A layer over one value of its child.
   abbrev pub over_value : Layer
   over_value = all_places (e ∷ []) [] made t g
 
@@ -148,6 +152,7 @@ module _ (r : Repr) (e : Domain) (right : Right r e) (f : Value → Option Value
     pub value : value_of_layer over_value child own inner ≡ f v
     pub attributes : g own ((v ∷ []) ∷ []) ≡ true
 
+  -- Its child stands for one value.
   pub one-value : (own inner : Cells) → asked_of over_value child own inner ≡ true → OneValue own inner
   one-value own inner h =
       let p = parts-of over_value child own inner h in
@@ -170,11 +175,13 @@ module _ (r : Repr) (e : Domain) (right : Right r e) (f : Value → Option Value
             attributes = ap (g own) (sym w) ∙ p.attributes;
           }
 
+  -- The child's cells are one for each value.
   pub value-once : (own own' inner inner' : Cells) (x : OneValue own inner) (y : OneValue own' inner') → x.v ≡ y.v → rows (axes_of_children child (e ∷ []) []) inner ≡ rows (axes_of_children child (e ∷ []) []) inner'
   value-once own own' inner inner' x y q =
       let p = x.parts in
       let p' = y.parts in
       children-once (e ∷ []) [] made t g own own' child (e ∷ []) (right, tt) inner inner' ((x.v ∷ []) ∷ []) p.inside p'.inside x.values (y.values ∙ ap (λ v. Some ((v ∷ []) ∷ [])) (sym q))
 
+  -- They are in order.
   pub value-orderly : (own inner : Cells) → OneValue own inner → are_orderly over_value child (e ∷ []) inner ([] ∷ []) ≡ true
   value-orderly own inner x = let p = x.parts in children-orderly (e ∷ []) [] made t g own child (e ∷ []) (right, tt) inner p.inside

@@ -23,12 +23,13 @@ use Rattle.ess_semantics.specs.Representations.{width, is_used, value_of_cells}
 use Rattle.ess_semantics.specs.Declarations.{axes_of}
 use Rattle.ess_semantics.specs.CanonicalTest.{next_slot, slots_rise, child_is_canonical, canonical}
 use Rattle.ess_semantics.specs.Tidy.{is_orderly, are_orderly, tidy_cells}
+use Rattle.ess_repr_laws.specs.CanonicalTables.{Right}
 use Rattle.ess_semantics.proofs.Tests.{and-left, and-right, and-both, if-so, if-not, run-all, run-length}
 use Rattle.ess_semantics.proofs.Orders.{to_list-of_list}
 use Rattle.ess_repr_laws.proofs.RowsOfCells.{axes_of_children, axes-of-layer}
 use Rattle.ess_repr_laws.proofs.SlotsUsed.{SlotsUsed, marker-cell, marker-used, as_place, slots-are, all-map, each_of-map, each-slot, each-run}
 use Rattle.ess_repr_laws.proofs.OneForm.{values-length, each-value}
-use Rattle.ess_repr_laws.proofs.CanonicalParts.{Right, Parts, parts-of, value-of-parts, only-child, only-child-rows}
+use Rattle.ess_repr_laws.proofs.CanonicalParts.{Parts, parts-of, value-of-parts, only-child, only-child-rows}
 use Rattle.ess_semantics.proofs.Multisets.{count-sorted, sorted-rises, sorted-length, sorted-all}
 use Rattle.ess_semantics.proofs.Repeats.{list-both}
 use Rattle.ess_repr_laws.proofs.WeakForm.{Heaped, heaped-once}
@@ -175,5 +176,6 @@ module _ (r : Repr) (e : Domain) (ks : List Attribute) (right : Right r e) where
       ∙ and-both _ true (and-both (list_all (λ j. is_orderly r e (behind j c)) (lists_of (one_to n ∷ []))) true
       (ap (list_all (λ j. is_orderly r e (behind j c))) (slots-are (one_to n)) ∙ all-map (λ j. is_orderly r e (behind j c)) as_place (one_to n) ∙ orderly) refl) refl))
 
+  -- Canonical cells of multisets in slots with repeats.
   pub repetition-right : Right repeated (msets ks e)
   repetition-right = record { sound = repeated-sound; unique = repeated-unique; tidies = repeated-tidies }

@@ -15,10 +15,11 @@ use Rattle.ess_semantics.specs.Layers.{Layer, as_cell, always_canonical, first_o
 use Rattle.ess_semantics.specs.ScalarLayers.{atom_layer, each_alone, compound_items}
 use Rattle.ess_semantics.specs.Representations.{width, value_of_cells, values_of_children}
 use Rattle.ess_semantics.specs.Tidy.{are_orderly}
+use Rattle.ess_repr_laws.specs.CanonicalTables.{Right}
 use Rattle.ess_semantics.proofs.Tests.{and-left, and-right, and-both, some-and}
 use Rattle.ess_semantics.proofs.Orders.{to_list-of_list, same_int-equal, text_total, texts_total}
 use Rattle.ess_repr_laws.proofs.RowsOfCells.{axes-of-layer, axes_of_children}
-use Rattle.ess_repr_laws.proofs.CanonicalParts.{Right, Parts, parts-of, asked_of, value_of_layer, value-of-parts}
+use Rattle.ess_repr_laws.proofs.CanonicalParts.{Parts, parts-of, asked_of, value_of_layer, value-of-parts}
 use Rattle.ess_repr_laws.proofs.CanonicalPlaces.{AllRight, all_places, children-once, AllMembers, children-members, children-orderly, first-child}
 
 -- ---- atoms
@@ -34,12 +35,14 @@ boolean-stands m h = go (same_int m (pos 0)) refl h
     go true q h = let e = same_int-equal m (pos 0) q in (truth false, ap (λ n. option_map truth (truth_of n)) e, refl, sym e)
     go false q h = let e = same_int-equal m (pos 1) h in (truth true, ap (λ n. option_map truth (truth_of n)) e, refl, sym e)
 
+-- A number of the domain stands for itself.
 pub integer-stands : (ss : List Span) (m : ℤ) → is_cell (integers ss) m ≡ true → Stands (integers ss) m
 integer-stands ss m h = (number m, refl, h, refl)
 
 same-text-itself : (t : Text) → same_text t t ≡ true
 same-text-itself t = ap is_eq (tied_itself text_total t)
 
+-- A position of the type stands for its value.
 pub named-stands : (t : Text) (n : ℕ) (m : ℤ) → is_cell (as_cell (named t n)) m ≡ true → Stands (named t n) m
 named-stands t n (negsuc k) h = cc
 named-stands t n (pos k) h = go (within (nat_le 1 k) (nat_le k n) h)
@@ -97,12 +100,15 @@ module _ (d : Domain) (stands : (m : ℤ) → is_cell (as_cell d) m ≡ true →
 abbrev atom : Repr
 atom = repr ReprKind.Atom no_reprs
 
+-- Canonical cells of truth values.
 pub boolean-right : Right atom booleans
 boolean-right = record { sound = atom-sound booleans boolean-stands; unique = atom-unique booleans boolean-stands; tidies = atom-tidies booleans boolean-stands }
 
+-- Canonical cells of numbers.
 pub integer-right : (ss : List Span) → Right atom (integers ss)
 integer-right ss = record { sound = atom-sound (integers ss) (integer-stands ss); unique = atom-unique (integers ss) (integer-stands ss); tidies = atom-tidies (integers ss) (integer-stands ss) }
 
+-- Canonical cells of values of named types.
 pub named-right : (t : Text) (n : ℕ) → Right atom (named t n)
 named-right t n = record { sound = atom-sound (named t n) (named-stands t n); unique = atom-unique (named t n) (named-stands t n); tidies = atom-tidies (named t n) (named-stands t n) }
 
@@ -179,6 +185,7 @@ module _ (rs : Reprs) (ds : Domains) (a : AllRight rs (domain_list ds)) (w : Val
       (ap (λ o. is_some_and o (member D)) (value-of-parts compound rs own inner p) ∙ ap (λ vs. member D (w (of_list vs))) (ap first_of_each s.1 ∙ first-single s.0) ∙ whole s.0 m)
       (children-orderly (domain_list ds) [] build contents_of always_canonical own rs (domain_list ds) a inner p.inside)
 
+-- Canonical cells of tuples.
 pub tuple-right : (rs : Reprs) (ds : Domains) → AllRight rs (domain_list ds) → Right (repr ReprKind.Tuple rs) (tuples ds)
 tuple-right rs ds a = record {
   sound = λ c h. compound-sound rs ds a tuple (λ xs ys e. cc) (tuples ds) (λ vs h. h) (take 0 c) (drop 0 c) h;
@@ -191,6 +198,7 @@ tuple-right rs ds a = record {
 record-whole : (fs : List Text) (ds : Domains) (vs : List Value) → member_of_each ds (of_list vs) ≡ true → member (records fs ds) (node (a_record fs) (of_list vs)) ≡ true
 record-whole fs ds vs h = and-both (same_texts fs fs) (member_of_each ds (of_list vs)) (ap is_eq (tied_itself texts_total fs)) h
 
+-- Canonical cells of records.
 pub record-right : (rs : Reprs) (fs : List Text) (ds : Domains) → AllRight rs (domain_list ds) → Right (repr ReprKind.Rec rs) (records fs ds)
 record-right rs fs ds a = record {
   sound = λ c h. compound-sound rs ds a (node (a_record fs)) (λ xs ys e. cc) (records fs ds) (record-whole fs ds) (take 0 c) (drop 0 c) h;

@@ -18,10 +18,11 @@ use Rattle.ess_semantics.specs.Representations.{own_part, child_part, value_of_c
 use Rattle.ess_semantics.specs.Declarations.{axes_of}
 use Rattle.ess_semantics.specs.CanonicalTest.{canonical}
 use Rattle.ess_semantics.specs.Tidy.{tidy_cells}
+use Rattle.ess_repr_laws.specs.CanonicalTables.{Right}
 use Rattle.ess_semantics.proofs.Tests.{and-left}
 use Rattle.ess_repr_laws.proofs.RowsOfCells.{Agree, agree-row, axes-of-layer, axes_of_children}
 use Rattle.ess_repr_laws.proofs.SlotsUsed.{all_slots-used, marker-cell, marker-used, FlagsUsed, flags-used, each-run}
-use Rattle.ess_repr_laws.proofs.CanonicalParts.{Right, Parts, parts-of}
+use Rattle.ess_repr_laws.proofs.CanonicalParts.{Parts, parts-of}
 use Rattle.ess_repr_laws.proofs.CanonicalSlots.{Held, held, held-tidy, held-once}
 
 -- ---- flags as a row
@@ -74,6 +75,7 @@ module _ (r : Repr) (e : Domain) (ks : List Attribute) (right : Right r e) where
   explicit-held c h =
       held r e right S (all_slots S) [] no_own_tables asked_explicit (own_part ReprKind.Explicit c) (child_part ReprKind.Explicit c) S (explicit-parts c h) (all_slots-used (own_part ReprKind.Explicit c) S)
 
+  -- Canonical cells of sets with all slots in use.
   pub explicit-right : Right explicit (sets ks e)
   explicit-right = record {
     sound = λ c h. let x = explicit-held c h in (set_of x.vs, x.value);
@@ -137,6 +139,7 @@ module _ (r : Repr) (e : Domain) (ks : List Attribute) (right : Right r e) where
       held-tidy r e right S up_to_marker (fixed_table [] (up_to S) ∷ []) marker_table asked_marker ks (f ∷ []) fs x.n x.slots p.first
       (ap (λ o. is_some_and o (λ m. set_attributes_hold ks (natural m))) (sym x.cell) ∙ p.attributes)
 
+  -- Canonical cells of sets in slots up to a marker.
   pub marker-right : Right marked (sets ks e)
   marker-right = record { sound = marker-sound; unique = marker-unique; tidies = marker-tidies }
 
@@ -194,5 +197,6 @@ module _ (r : Repr) (e : Domain) (ks : List Attribute) (right : Right r e) where
       held-tidy r e right S where_flagged (fixed_table (one_to S ∷ []) booleans ∷ []) flags_tables asked_flags ks (f ∷ []) fs u.n x.slots p.first
       (ap (set_attributes_hold ks) (sym (count-run f 1 S u.n u.room (λ k a b. u.on k a (omega arith)) (λ k a b. u.off k (omega arith) (omega arith)))) ∙ p.attributes)
 
+  -- Canonical cells of sets in slots with flags.
   pub flags-right : Right flagged (sets ks e)
   flags-right = record { sound = flags-sound; unique = flags-unique; tidies = flags-tidies }

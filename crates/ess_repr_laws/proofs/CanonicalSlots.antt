@@ -20,13 +20,14 @@ use Rattle.ess_semantics.specs.Representations.{width, is_used, places_in_use, v
 use Rattle.ess_semantics.specs.Declarations.{axes_of}
 use Rattle.ess_semantics.specs.CanonicalTest.{next_slot, in_use_first, slots_rise, child_is_canonical, canonical}
 use Rattle.ess_semantics.specs.Tidy.{is_orderly, are_orderly}
+use Rattle.ess_repr_laws.specs.CanonicalTables.{Right}
 use Rattle.ess_semantics.proofs.Tests.{and-left, and-right, and-both, if-so, if-not, run-all, run-length}
 use Rattle.ess_semantics.proofs.Orders.{to_list-of_list}
 use Rattle.ess_semantics.proofs.Sorting.{less-of, sorted_once-rises, all-sorted_once, sorted_once-length, holds-sorted_once, distinct-twice}
 use Rattle.ess_repr_laws.proofs.RowsOfCells.{EachIndex, axes_of_children}
 use Rattle.ess_repr_laws.proofs.SlotsUsed.{SlotsUsed, as_place, slots-are, all-map, each_of-map, each-slot, each-run}
 use Rattle.ess_repr_laws.proofs.OneForm.{Filled, filled-once, filled-distinct, values-length, each-value}
-use Rattle.ess_repr_laws.proofs.CanonicalParts.{Right, Parts, value_of_layer, value-of-parts, only-child, only-child-rows}
+use Rattle.ess_repr_laws.proofs.CanonicalParts.{Parts, value_of_layer, value-of-parts, only-child, only-child-rows}
 
 -- ---- slots in use, from one layer of the inner domain
 
@@ -35,12 +36,15 @@ module _ (r : Repr) (e : Domain) (right : Right r e) (S : ℕ) (use_of_slots : U
   abbrev pub slots : Layer
   slots = slots_layer S e use_of_slots
 
+  -- The cells of a slot.
   abbrev pub slot_at : Cells → ℤ → Cells
   slot_at c k = behind (k ∷ []) c
 
+  -- Of so many slots the first n have canonical cells that rise, and stand for these values.
   abbrev pub Full : (ℤ → Cells) → ℕ → ℕ → List Value → Type 0
   Full = Filled (axes_of r e) (canonical r e) (value_of_cells r e) right.sound right.unique
 
+  -- Canonical cells of slots are such.
   pub filled : (own c : Cells) (n : ℕ) (vs : List Value) → SlotsUsed use_of_slots own S n → child_is_canonical slots own (axes_of r e) (canonical r e) c ≡ true →
       each_of (lists_of (one_to n ∷ [])) (λ j. value_of_cells r e (behind j c)) ≡ Some vs → Full (slot_at c) S n vs
   filled own c n vs u h q =
@@ -104,9 +108,11 @@ module _ (r : Repr) (e : Domain) (right : Right r e) (S : ℕ) (use_of_slots : U
   -- ---- the whole layer: its own tables ws, and what its attributes ask
 
   module _ (ws : List OwnTable) (ts : Value → List (Option Slot) → Tables) (g : Cells → List (List Value) → Bool) where
+    -- The layer.
     abbrev pub whole : Layer
     whole = record slots { own = ws; own_tables = ts; is_canonical = g }
 
+    -- Its only child.
     abbrev pub child : Reprs
     child = more_reprs r no_reprs
 
@@ -119,6 +125,7 @@ module _ (r : Repr) (e : Domain) (right : Right r e) (S : ℕ) (use_of_slots : U
       pub value : value_of_layer whole child own inner ≡ Some (set_of vs)
       pub long : length (take (width r) inner) ≡ length (axes_of r e)
 
+    -- The first n slots hold values that rise.
     pub held : (own inner : Cells) (n : ℕ) → Parts whole child own inner → SlotsUsed use_of_slots own S n → Held own inner n
     held own inner n p u =
         let o = only-child r e whole own inner p.js p.vss p.inside p.values in
@@ -133,6 +140,7 @@ module _ (r : Repr) (e : Domain) (right : Right r e) (S : ℕ) (use_of_slots : U
           long = o.long;
         }
 
+    -- Such slots are tidy.
     pub held-tidy : (ks : List Attribute) (own inner : Cells) (n : ℕ) → Held own inner n → in_use_first whole own ≡ true → set_attributes_hold ks n ≡ true →
         is_some_and (value_of_layer whole child own inner) (member (sets ks e)) && (true && in_use_first whole own && is_some_and (places_in_use whole own) (are_orderly whole child (e ∷ []) inner)) ≡ true
     held-tidy ks own inner n h first a =
@@ -141,6 +149,7 @@ module _ (r : Repr) (e : Domain) (right : Right r e) (S : ℕ) (use_of_slots : U
         (and-both (in_use_first whole own) (is_some_and (places_in_use whole own) (are_orderly whole child (e ∷ []) inner)) first
         (ap (λ o. is_some_and o (are_orderly whole child (e ∷ []) inner)) h.places ∙ slots-orderly inner n h.vs h.full h.values))
 
+    -- They are one for each set.
     pub held-once : (own own' inner inner' : Cells) (n n' : ℕ) → Held own inner n → Held own' inner' n' → value_of_layer whole child own inner ≡ value_of_layer whole child own' inner' →
         (n ≡ n') × (rows (axes_of_children child (e ∷ []) (one_to S ∷ [])) inner ≡ rows (axes_of_children child (e ∷ []) (one_to S ∷ [])) inner')
     held-once own own' inner inner' n n' h h' q =

@@ -21,6 +21,7 @@ abbrev pub on_truth : Option Bool → Bool
 on_truth None = false
 on_truth (Some b) = b
 
+-- Whether a cell is there and true.
 abbrev pub on : Option ℤ → Bool
 on o = on_truth (and_then o truth_of)
 
@@ -105,14 +106,17 @@ chosen-sorted (x ∷ xs) F ys e r = let s = chosen-step x xs F ys e in subst (Ri
     go true zs b h = (b, h)
     go false zs b h = h
 
+-- A list that rises by the order rises.
 pub of-sorted : (xs : List Value) → Rising order_total xs → rises itself xs ≡ true
 of-sorted [] r = refl
 of-sorted (x ∷ []) r = refl
 of-sorted (x ∷ y ∷ ys) r = and-both (below x y) (rises itself (y ∷ ys)) (less-below x y r.0.0) (of-sorted (y ∷ ys) r.1)
 
+-- Chosen items rise.
 pub chosen-rises : (xs : List Value) (F : Value → Option ℤ) (ys : List Value) → chosen xs F ≡ Some ys → rises itself xs ≡ true → rises itself ys ≡ true
 chosen-rises xs F ys e r = of-sorted ys (chosen-sorted xs F ys e (sorted-of xs r))
 
+-- A test of each chosen item.
 pub chosen-all : (f : Value → Bool) (xs : List Value) (F : Value → Option ℤ) (ys : List Value) → chosen xs F ≡ Some ys → list_all f xs ≡ true → list_all f ys ≡ true
 chosen-all f [] F ys e h = let z : [] ≡ ys = cc in ap (list_all f) (sym z)
 chosen-all f (x ∷ xs) F ys e h = let s = chosen-step x xs F ys e in ap (list_all f) s.4 ∙ go s.0 s.1 (chosen-all f xs F s.1 s.3 (and-right (f x) (list_all f xs) h))

@@ -57,6 +57,7 @@ natural_of _ = 0
 abbrev is_counted : Grid → ℕ → Bool
 is_counted f k = is_used where_counted (f ∷ []) (pos k ∷ [])
 
+-- The slots whose number is above 0 are those in use.
 pub counts-used : (f : Grid) (S o : ℕ) → every_cell (one_to S ∷ []) (is_cell (up_to o)) f ≡ true →
     list_all (λ js. not (is_used where_counted (f ∷ []) (next_slot js)) || is_used where_counted (f ∷ []) js) (lists_of (one_to S ∷ [])) ≡ true → Counts f S
 counts-used f S o e d =
@@ -92,12 +93,14 @@ counts-used f S o e d =
 
 -- ---- the numbers as lists
 
+-- The numbers of all slots.
 pub each-number : (f : Grid) (m : ℕ → ℕ) (a s : ℕ) → ((k : ℕ) → a ≤ k → k < a + s → f (pos k ∷ []) ≡ Some (pos (m k))) → each_of (run_from a s) (λ k. and_then (f (k ∷ [])) not_below_0) ≡ Some (from_to m a s)
 each-number f m a zero h = refl
 each-number f m a (suc s) h =
     ap (λ o. and_then (and_then o not_below_0) (λ y. option_map (λ ys. y ∷ ys) (each_of (run_from (suc a) s) (λ k. and_then (f (k ∷ [])) not_below_0)))) (h a (le_refl a) (omega arith))
     ∙ ap (option_map (λ ys. m a ∷ ys)) (each-number f m (suc a) s (λ k x y. h k (omega arith) (omega arith)))
 
+-- The row of these numbers.
 pub number-row : (f : Grid) (m : ℕ → ℕ) (a s : ℕ) → ((k : ℕ) → a ≤ k → k < a + s → f (pos k ∷ []) ≡ Some (pos (m k))) → gather (run_from a s) (λ k. or_default (f (k ∷ [])) (pos 0) ∷ []) ≡ map pos (from_to m a s)
 number-row f m a zero h = refl
 number-row f m a (suc s) h =
@@ -119,12 +122,14 @@ repeated-first m a (suc s) (suc t) (v ∷ vs) l h p q = go (m a) (p a (le_refl a
     go zero h e = absurd (omega arith)
     go (suc n) h e = ap (λ l. replicate (suc n) v ++ l) e
 
+-- The numbers behind the first t are 0, so these sum up to all.
 pub total-first : (m : ℕ → ℕ) (a s t : ℕ) → t ≤ s → ((k : ℕ) → a + t ≤ k → k < a + s → m k ≡ 0) → total (map pos (from_to m a s)) ≡ total (map pos (from_to m a t))
 total-first m a zero zero h q = refl
 total-first m a zero (suc t) h q = absurd (omega arith)
 total-first m a (suc s) zero h q = let x = q a (omega arith) (omega arith) in let y = total-first m (suc a) s zero (omega arith) (λ k u v. q k (omega arith) (omega arith)) in omega arith
 total-first m a (suc s) (suc t) h q = ap (λ n. m a + n) (total-first m (suc a) s t (omega arith) (λ k u v. q k (omega arith) (omega arith)))
 
+-- A test of the first numbers.
 pub all-first : (f : ℤ → Bool) (m : ℕ → ℕ) (a s t : ℕ) → t ≤ s → list_all f (map pos (from_to m a s)) ≡ true → list_all f (map pos (from_to m a t)) ≡ true
 all-first f m a s zero h e = refl
 all-first f m a zero (suc t) h e = absurd (omega arith)

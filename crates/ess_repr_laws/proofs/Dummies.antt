@@ -25,9 +25,11 @@ pub record Dummy (e : Domain) (m : ℤ) : Type 0 where
   pub stands : (k : ℤ) → is_cell (with_number (Some m) (as_numbers e)) k ≡ true → same_int m k ≡ false → Stands e k
   pub under : (k : ℤ) → is_cell (with_number (Some m) (as_numbers e)) k ≡ true → k ≤ℤ m
 
+-- The test of a number that is at most another one.
 pub le-of : (a b : ℤ) → int_le a b ≡ true → a ≤ℤ b
 le-of a b h = grind (arith, ints)
 
+-- The test of a smaller number.
 pub lt-of : (a b : ℤ) → int_lt a b ≡ true → a <ℤ b
 lt-of a b h = grind (arith, ints)
 
@@ -69,6 +71,7 @@ dummy-integers s b q = record { is = ap (option_map (λ b. b +ℤ pos 1)) q; sta
         go (inl p) = let x = le-of k b (sym (ap (λ o. is_none_or o (λ b. int_le k b)) q) ∙ and-right (is_none_or s.low (λ a. int_le a k)) (is_none_or s.high (λ b. int_le k b)) p) in omega (arith, ints)
         go (inr p) = le-of k m p.1
 
+-- The dummy of a named type.
 pub dummy-named : (t : Text) (n : ℕ) → Dummy (named t n) (pos n +ℤ pos 1)
 dummy-named t n = record { is = refl; stands = stands'; under = under' }
   where
@@ -91,6 +94,7 @@ dummy-named t n = record { is = refl; stands = stands'; under = under' }
 
 -- ---- values of slots
 
+-- Each of these values is held.
 pub holds-from : (V : ℕ → Value) (a n k : ℕ) → a ≤ k → k < a + n → holds (from_to V a n) (V k) ≡ true
 holds-from V a zero k p q = absurd (omega arith)
 holds-from V a (suc n) k p q = go (eq-or-lt_of_le p) (λ h. holds-from V (suc a) n k h (omega arith))
@@ -99,6 +103,7 @@ holds-from V a (suc n) k p q = go (eq-or-lt_of_le p) (λ h. holds-from V (suc a)
     go (inl e) ih = ap (λ b. b || holds (from_to V (suc a) n) (V k)) (ap (λ j. same (V a) (V j)) (sym e) ∙ same-itself (V a))
     go (inr l) ih = ap (λ b. same (V a) (V k) || b) (ih l) ∙ or-yes (same (V a) (V k))
 
+-- A value that is held is one of these.
 pub from-holds : (V : ℕ → Value) (a n : ℕ) (w : Value) → holds (from_to V a n) w ≡ true → (k : ℕ) × (a ≤ k) × (k < a + n) × (V k ≡ w)
 from-holds V a zero w h = cc
 from-holds V a (suc n) w h = go (same (V a) w) refl h (λ e. from-holds V (suc a) n w e)
@@ -107,6 +112,7 @@ from-holds V a (suc n) w h = go (same (V a) w) refl h (λ e. from-holds V (suc a
     go true q h ih = (a, le_refl a, omega arith, same-equal (V a) w q)
     go false q h ih = let r = ih h in (r.0, (let x = r.1 in omega arith), (let x = r.2 in omega arith), r.3)
 
+-- A test of each of these.
 pub from-all : (g : Value → Bool) (V : ℕ → Value) (a n : ℕ) → ((k : ℕ) → a ≤ k → k < a + n → g (V k) ≡ true) → list_all g (from_to V a n) ≡ true
 from-all g V a zero h = refl
 from-all g V a (suc n) h = and-both (g (V a)) (list_all g (from_to V (suc a) n)) (h a (le_refl a) (omega arith)) (from-all g V (suc a) n (λ k p q. h k (omega arith) (omega arith)))

@@ -19,6 +19,7 @@ pub record ByLeast (xs : List Value) (w : Value → ℤ) : Type 0 where
 
 -- ---- how many items stand before one
 
+-- How many members stand before one.
 abbrev pub rank : List Value → Value → ℕ
 rank xs x = length (filter (λ y. int_lt (code y) (code x)) xs)
 

@@ -22,6 +22,7 @@ Rows = List (List ℤ)
 
 -- ---- the values of slots
 
+-- The value of a slot is among those of all.
 pub value-held : (f : ℤ → Option Value) (a n k : ℕ) (vs : List Value) (w : Value) → each_of (run_from a n) f ≡ Some vs → a ≤ k → k < a + n → f (pos k) ≡ Some w → holds vs w ≡ true
 value-held f a zero k vs w e p q h = absurd (omega arith)
 value-held f a (suc n) k vs w e p q h = go (f (pos a)) (each_of (run_from (suc a) n) f) refl refl e (eq-or-lt_of_le p) (λ zs r s. value-held f (suc a) n k zs w r s (omega arith) h)
@@ -39,6 +40,7 @@ value-held f a (suc n) k vs w e p q h = go (f (pos a)) (each_of (run_from (suc a
 abbrev pub InSlot : (ℤ → Option Value) → ℕ → ℕ → Value → Type 0
 InSlot f a n w = (k : ℕ) × (a ≤ k) × (k < a + n) × (f (pos k) ≡ Some w)
 
+-- A value among them is one of a slot.
 pub held-value : (f : ℤ → Option Value) (a n : ℕ) (vs : List Value) (w : Value) → each_of (run_from a n) f ≡ Some vs → holds vs w ≡ true → InSlot f a n w
 held-value f a zero vs w e h = let eq : [] ≡ vs = cc in let z : false ≡ true = ap (λ l. holds l w) eq ∙ h in cc
 held-value f a (suc n) vs w e h = go (f (pos a)) (each_of (run_from (suc a) n) f) refl refl e (λ zs r s. held-value f (suc a) n zs w r s)
@@ -53,6 +55,7 @@ held-value f a (suc n) vs w e h = go (f (pos a)) (each_of (run_from (suc a) n) f
         here true s t = let vw = same-equal v w s in (a, le_refl a, omega arith, x ∙ ap Some vw)
         here false s t = let u = r zs y (ap (λ b. b || holds zs w) (sym s) ∙ t) in (u.0, (let m = u.1 in omega arith), (let m = u.2 in omega arith), u.3)
 
+-- Where each slot has a value, all are there.
 pub values-there : (f : ℤ → Option Value) (a n : ℕ) → ((k : ℕ) → a ≤ k → k < a + n → (v : Value) × (f (pos k) ≡ Some v)) → (vs : List Value) × (each_of (run_from a n) f ≡ Some vs)
 values-there f a zero h = ([], refl)
 values-there f a (suc n) h =
@@ -60,6 +63,7 @@ values-there f a (suc n) h =
     let r = values-there f (suc a) n (λ k p q. h k (omega arith) (omega arith)) in
     (v.0 ∷ r.0, ap (λ o. and_then o (λ y. option_map (λ ys. y ∷ ys) (each_of (run_from (suc a) n) f))) v.1 ∙ ap (option_map (λ ys. v.0 ∷ ys)) r.1)
 
+-- They are as many.
 pub values-length : {A B : Type 0} (f : A → Option B) (ks : List A) (vs : List B) → each_of ks f ≡ Some vs → length vs ≡ length ks
 values-length {B = B} f [] vs e = let q : [] ≡ vs = cc in ap length (sym q)
 values-length {B = B} f (k ∷ ks) vs e = go (f k) (each_of ks f) refl e (λ zs q. values-length f ks zs q)
@@ -69,6 +73,7 @@ values-length {B = B} f (k ∷ ks) vs e = go (f k) (each_of ks f) refl e (λ zs 
     go (Some v) None q e r = cc
     go (Some v) (Some zs) q e r = let w : v ∷ zs ≡ vs = cc in ap length (sym w) ∙ ap suc (r zs q)
 
+-- A test of each value.
 pub each-value : (f : ℤ → Option Value) (g : Value → Bool) (a n : ℕ) (vs : List Value) → each_of (run_from a n) f ≡ Some vs → ((k : ℕ) → a ≤ k → k < a + n → (v : Value) → f (pos k) ≡ Some v → g v ≡ true) → list_all g vs ≡ true
 each-value f g a zero vs e h = let q : [] ≡ vs = cc in ap (list_all g) (sym q)
 each-value f g a (suc n) vs e h = go (f (pos a)) (each_of (run_from (suc a) n) f) refl refl e (λ zs q. each-value f g (suc a) n zs q (λ k p s v w. h k (omega arith) (omega arith) v w))
@@ -96,6 +101,7 @@ module _ (ass : List Axes) (p : Cells → Bool) (st : Cells → Option Value)
   abbrev R : (ℤ → Cells) → ℕ → Rows
   R g k = rows ass (g (pos k))
 
+  -- The cells of the slots in use rise.
   pub sorted : (g : ℤ → Cells) (S n : ℕ) (vs : List Value) → Filled g S n vs → Rising rows_total (from_to (R g) 1 n)
   sorted g S n vs f = sorted-from rows_total (R g) 1 n (λ k a b. f.rise k a (omega arith))
 
@@ -145,6 +151,7 @@ module _ (ass : List Axes) (p : Cells → Bool) (st : Cells → Option Value)
       go (Some v) None x y e ih = cc
       go (Some v) (Some zs) x y e ih = let w : v ∷ zs ≡ vs = cc in subst Distinct w (no v zs x y (holds zs v) refl, ih zs y)
 
+  -- The values of slots that rise differ.
   pub filled-distinct : (g : ℤ → Cells) (S n : ℕ) (vs : List Value) → Filled g S n vs → Distinct vs
   filled-distinct g S n vs f =
       distinct-from (λ j. st (g j)) (R g) 1 n vs f.values (sorted g S n vs f)

@@ -17,9 +17,11 @@ use Rattle.ess_repr_laws.proofs.CanonicalPlaces.{AllOf}
 
 -- ---- small words
 
+-- The test of a number that is at most another one.
 pub le-is : (a b : ℤ) → int_le a b ≡ true → a ≤ℤ b
 le-is a b h = grind (arith, ints)
 
+-- The test of a smaller number.
 pub lt-is : (a b : ℤ) → int_lt a b ≡ true → a <ℤ b
 lt-is a b h = grind (arith, ints)
 
@@ -51,6 +53,7 @@ numbered-holds w (x ∷ xs) k v = go (same_int (w x) k) refl (same x v) refl (nu
     go true p false q ih = ap (λ c. c || holds (members_numbered xs (map w xs) k) v) q ∙ ih
     go false p false q ih = ih
 
+-- A test of each member with a number.
 pub numbered-all : (f : Value → Bool) (w : Value → ℤ) (xs : List Value) (k : ℤ) → list_all f xs ≡ true → list_all f (members_numbered xs (map w xs) k) ≡ true
 numbered-all f w [] k h = refl
 numbered-all f w (x ∷ xs) k h = go (same_int (w x) k) (numbered-all f w xs k (and-right (f x) (list_all f xs) h))
@@ -59,16 +62,19 @@ numbered-all f w (x ∷ xs) k h = go (same_int (w x) k) (numbered-all f w xs k (
     go true r = and-both (f x) (list_all f (members_numbered xs (map w xs) k)) (and-left (f x) (list_all f xs) h) r
     go false r = r
 
+-- The cells of all members.
 pub each-cell : (xs : List Value) (g : Value → Option ℤ) (w : Value → ℤ) → AllOf xs (λ x. g x ≡ Some (w x)) → each_of xs g ≡ Some (map w xs)
 each-cell [] g w h = refl
 each-cell (x ∷ xs) g w h = ap (λ o. and_then o (λ y. option_map (λ ys. y ∷ ys) (each_of xs g))) h.0 ∙ ap (option_map (λ ys. w x ∷ ys)) (each-cell xs g w h.1)
 
+-- A test of each number.
 pub each-of-map : (w : Value → ℤ) (p : ℤ → Bool) (xs : List Value) → list_all p (map w xs) ≡ true → AllOf xs (λ x. p (w x) ≡ true)
 each-of-map w p [] h = tt
 each-of-map w p (x ∷ xs) h = (and-left (p (w x)) (list_all p (map w xs)) h, each-of-map w p xs (and-right (p (w x)) (list_all p (map w xs)) h))
 
 -- ---- the parts with the numbers from a on
 
+-- Each part is among the parts.
 pub parts-from : (ps : ℤ → Value) (a n k : ℕ) → a ≤ k → k < a + n → holds (map ps (run_from a n)) (ps (pos k)) ≡ true
 parts-from ps a zero k p q = absurd (omega arith)
 parts-from ps a (suc n) k p q = go (eq-or-lt_of_le p) (λ h. parts-from ps (suc a) n k h (omega arith))
@@ -77,6 +83,7 @@ parts-from ps a (suc n) k p q = go (eq-or-lt_of_le p) (λ h. parts-from ps (suc 
     go (inl e) ih = ap (λ b. b || holds (map ps (run_from (suc a) n)) (ps (pos k))) (ap (λ j. same (ps (pos a)) (ps (pos j))) (sym e) ∙ same-itself (ps (pos a)))
     go (inr l) ih = ap (λ b. same (ps (pos a)) (ps (pos k)) || b) (ih l) ∙ or-yes (same (ps (pos a)) (ps (pos k)))
 
+-- A part among them has a number.
 pub from-parts : (ps : ℤ → Value) (a n : ℕ) (v : Value) → holds (map ps (run_from a n)) v ≡ true → (k : ℕ) × (a ≤ k) × (k < a + n) × (ps (pos k) ≡ v)
 from-parts ps a zero v h = cc
 from-parts ps a (suc n) v h = go (same (ps (pos a)) v) refl h (λ e. from-parts ps (suc a) n v e)
@@ -85,10 +92,12 @@ from-parts ps a (suc n) v h = go (same (ps (pos a)) v) refl h (λ e. from-parts 
     go true q h ih = (a, le_refl a, omega arith, same-equal (ps (pos a)) v q)
     go false q h ih = let r = ih h in (r.0, (let x = r.1 in omega arith), (let x = r.2 in omega arith), r.3)
 
+-- They are so many.
 pub parts-length : (ps : ℤ → Value) (a n : ℕ) → length (map ps (run_from a n)) ≡ n
 parts-length ps a zero = refl
 parts-length ps a (suc n) = ap suc (parts-length ps (suc a) n)
 
+-- A test of each part.
 pub parts-all : (f : Value → Bool) (ps : ℤ → Value) (a n : ℕ) → ((k : ℤ) → f (ps k) ≡ true) → list_all f (map ps (run_from a n)) ≡ true
 parts-all f ps a zero h = refl
 parts-all f ps a (suc n) h = and-both (f (ps (pos a))) (list_all f (map ps (run_from (suc a) n))) (h (pos a)) (parts-all f ps (suc a) n h)
@@ -100,6 +109,7 @@ part-of f vs h e =
     (and-both (rises itself (to_list (of_list (sorted_once vs)))) (not (is_empty (items_of (set_of vs)))) (ap (rises itself) (to_list-of_list (sorted_once vs)) ∙ sorted_once-rises vs) e)
     (ap (list_all f) (to_list-of_list (sorted_once vs)) ∙ all-sorted_once f vs ∙ h)
 
+-- Sets that aren't empty are parts.
 pub parts-are : (f : Value → Bool) (ps : List Value) → ((p : Value) → holds ps p ≡ true → not (is_empty (items_of p)) ≡ true → is_part f p ≡ true) → has_empty_part ps ≡ false → list_all (is_part f) ps ≡ true
 parts-are f [] h e = refl
 parts-are f (p ∷ ps) h e =

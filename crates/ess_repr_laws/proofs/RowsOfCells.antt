@@ -19,18 +19,22 @@ abbrev pub EachOf : List ℤ → (ℤ → Type 0) → Type 0
 EachOf [] P = Unit {0}
 EachOf (k ∷ ks) P = P k × EachOf ks P
 
+-- Answers that agree make one list.
 pub gather-same : (ks : List ℤ) (f g : ℤ → List ℤ) → EachOf ks (λ k. f k ≡ g k) → gather ks f ≡ gather ks g
 gather-same [] f g h = refl
 gather-same (k ∷ ks) f g h = ap (λ l. l ++ gather ks f) h.0 ∙ ap (λ l. g k ++ l) (gather-same ks f g h.1)
 
+-- What holds of a number gives something else of it.
 pub each-map : (ks : List ℤ) (P Q : ℤ → Type 0) → ((k : ℤ) → P k → Q k) → EachOf ks P → EachOf ks Q
 each-map [] P Q f h = tt
 each-map (k ∷ ks) P Q f h = (f k h.0, each-map ks P Q f h.1)
 
+-- Two things that hold of a number.
 pub each-both : (ks : List ℤ) (P Q R : ℤ → Type 0) → ((k : ℤ) → P k → Q k → R k) → EachOf ks P → EachOf ks Q → EachOf ks R
 each-both [] P Q R f h i = tt
 each-both (k ∷ ks) P Q R f h i = (f k h.0 i.0, each-both ks P Q R f h.1 i.1)
 
+-- A test of each number.
 pub each-of-all : (ks : List ℤ) (f : ℤ → Bool) → list_all f ks ≡ true → EachOf ks (λ k. f k ≡ true)
 each-of-all [] f e = tt
 each-of-all (k ∷ ks) f e = (and-left (f k) (list_all f ks) e, each-of-all ks f (and-right (f k) (list_all f ks) e))
@@ -42,6 +46,7 @@ abbrev pub EachCell : Axes → (Option ℤ → Option ℤ → Type 0) → Grid �
 EachCell [] R f g = R (f []) (g [])
 EachCell (a ∷ as') R f g = EachOf a (λ k. EachCell as' R (λ js. f (k ∷ js)) (λ js. g (k ∷ js)))
 
+-- Both tables have the same cells over the axes.
 abbrev pub Agree : Axes → Grid → Grid → Type 0
 Agree as' f g = EachCell as' (λ x y. x ≡ y) f g
 
@@ -77,6 +82,7 @@ zeros-same (as' ∷ ass) (f ∷ fs) (g ∷ gs) p q =
 
 -- ---- tables side by side
 
+-- The rows of two lists of tables.
 pub rows-append : (xs ys : List Axes) (c : Cells) → rows (xs ++ ys) c ≡ rows xs (take (length xs) c) ++ rows ys (drop (length xs) c)
 rows-append [] ys c = refl
 rows-append (x ∷ xs) ys [] = sym (none ys)
@@ -99,6 +105,7 @@ row-under (b ∷ bs) as' f g h =
     gather-same b (λ k. row (bs ++ as') (λ is. f (k ∷ is))) (λ k. row (bs ++ as') (λ is. g (k ∷ is)))
     (each-map b _ _ (λ k e. row-under bs as' (λ is. f (k ∷ is)) (λ is. g (k ∷ is)) e) h)
 
+-- What holds at an index list gives something else there.
 pub index-map : (as' : Axes) (P Q : List ℤ → Type 0) → ((js : List ℤ) → P js → Q js) → EachIndex as' P → EachIndex as' Q
 index-map [] P Q f h = f [] h
 index-map (a ∷ as') P Q f h = each-map a _ _ (λ k e. index-map as' (λ js. P (k ∷ js)) (λ js. Q (k ∷ js)) (λ js. f (k ∷ js)) e) h
@@ -123,6 +130,7 @@ rows-under bs (as' ∷ ass) (f ∷ fs) (g ∷ gs) l m h =
 
 -- ---- the axes of a representation's tables
 
+-- The axes of a layer's own tables.
 abbrev pub own_axes : List OwnTable → List Axes
 own_axes ts = map (λ t. t.axes) ts
 
@@ -130,6 +138,7 @@ own_axes ts = map (λ t. t.axes) ts
 abbrev pub axes_in : List Declaration → List Axes
 axes_in ds = map (λ t. t.axes) ds
 
+-- Those of its children's tables, behind the layer's.
 abbrev pub axes_of_children : Reprs → List Domain → Axes → List Axes
 axes_of_children (more_reprs r rs) (d ∷ ds) bs = map (λ as'. bs ++ as') (axes_of r d) ++ axes_of_children rs ds bs
 axes_of_children _ _ bs = []

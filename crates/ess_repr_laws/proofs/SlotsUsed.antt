@@ -21,14 +21,17 @@ use Rattle.ess_repr_laws.proofs.RowsOfCells.{EachOf}
 abbrev pub as_place : ℤ → List ℤ
 as_place k = k ∷ []
 
+-- The places of slots are their numbers.
 pub slots-are : (ks : List ℤ) → lists_of (ks ∷ []) ≡ map as_place ks
 slots-are [] = refl
 slots-are (k ∷ ks) = ap (λ l. (k ∷ []) ∷ l) (slots-are ks)
 
+-- A test of each image.
 pub all-map : {A B : Type 0} (f : B → Bool) (g : A → B) (xs : List A) → list_all f (map g xs) ≡ list_all (λ x. f (g x)) xs
 all-map f g [] = refl
 all-map f g (x ∷ xs) = ap (λ b. f (g x) && b) (all-map f g xs)
 
+-- The answers on images.
 pub each_of-map : {A B C : Type 0} (f : B → Option C) (g : A → B) (xs : List A) → each_of (map g xs) f ≡ each_of xs (λ x. f (g x))
 each_of-map f g [] = refl
 each_of-map f g (x ∷ xs) = ap (λ o. and_then (f (g x)) (λ y. option_map (λ ys. y ∷ ys) o)) (each_of-map f g xs)
@@ -37,6 +40,7 @@ each_of-map f g (x ∷ xs) = ap (λ o. and_then (f (g x)) (λ y. option_map (λ 
 pub each-slot : (f : List ℤ → Bool) (S k : ℕ) → list_all f (lists_of (one_to S ∷ [])) ≡ true → 1 ≤ k → k ≤ S → f (pos k ∷ []) ≡ true
 each-slot f S k e p q = all-run (λ j. f (as_place j)) 1 S k (sym (all-map f as_place (one_to S)) ∙ ap (list_all f) (sym (slots-are (one_to S))) ∙ e) p (omega arith)
 
+-- What holds of each number of a run.
 pub each-run : (P : ℤ → Type 0) (a n : ℕ) → ((k : ℕ) → a ≤ k → k < a + n → P (pos k)) → EachOf (run_from a n) P
 each-run P a zero f = tt
 each-run P a (suc n) f = (f a (le_refl a) (omega arith), each-run P (suc a) n (λ k x y. f k (omega arith) (omega arith)))
@@ -52,16 +56,19 @@ run-take a (suc n) (suc m) h = ap (λ l. (pos a ∷ []) ∷ l) (run-take (suc a)
 
 -- ---- the first n slots are in use
 
+-- Of S slots the first n are in use.
 pub record SlotsUsed (use_of_slots : Use) (own : Cells) (S n : ℕ) : Type 0 where
   pub room : n ≤ S
   pub used : (k : ℕ) → 1 ≤ k → k ≤ S → is_used use_of_slots own (pos k ∷ []) ≡ nat_le k n
   pub found : places_by use_of_slots own (lists_of (one_to S ∷ [])) ≡ Some (lists_of (one_to n ∷ []))
 
+-- All slots.
 pub all_slots-used : (own : Cells) (S : ℕ) → SlotsUsed (all_slots S) own S S
 all_slots-used own S = record { room = le_refl S; used = λ k p q. refl; found = refl }
 
 -- ---- up to a marker
 
+-- A marker is a number of slots.
 pub marker-cell : (o : Option ℤ) (S : ℕ) → is_some_and o (is_cell (up_to S)) ≡ true → (n : ℕ) × (o ≡ Some (pos n)) × (n ≤ S)
 marker-cell o S e = let r = some-and o (is_cell (up_to S)) e in go r.0 r.1 r.2
   where
@@ -74,6 +81,7 @@ marker-cell o S e = let r = some-and o (is_cell (up_to S)) e in go r.0 r.1 r.2
         within false b e = cc
     go (negsuc n) q e = cc
 
+-- The slots up to a marker.
 pub marker-used : (own : Cells) (S n : ℕ) → own_cell own [] ≡ Some (pos n) → n ≤ S → SlotsUsed up_to_marker own S n
 marker-used own S n there room = record {
   room = room;
@@ -149,6 +157,7 @@ pub record FlagsUsed (f : Grid) (S : ℕ) : Type 0 where
 abbrev is_flagged : Grid → ℕ → Bool
 is_flagged f k = is_used where_flagged (f ∷ []) (pos k ∷ [])
 
+-- The slots whose flag is true are those in use.
 pub flags-used : (f : Grid) (S : ℕ) → every_cell (one_to S ∷ []) (is_cell booleans) f ≡ true →
     list_all (λ js. not (is_used where_flagged (f ∷ []) (next_slot js)) || is_used where_flagged (f ∷ []) js) (lists_of (one_to S ∷ [])) ≡ true → FlagsUsed f S
 flags-used f S e d =

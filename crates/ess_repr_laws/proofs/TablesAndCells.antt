@@ -41,6 +41,7 @@ drop-length (suc n) m (x ∷ xs) e = let z : suc (length xs) ≡ suc n + m = e i
 more : (k v : ℕ) → v + k * v ≡ suc k * v
 more k v = let x = suc-mul k v in omega arith
 
+-- A row has as many items as cells over the axes.
 pub row-length : (as' : Axes) (f : Grid) → length (row as' f) ≡ volume as'
 row-length [] f = refl
 row-length (a ∷ as') f = go a (λ k. row-length as' (λ js. f (k ∷ js)))
@@ -86,10 +87,12 @@ abbrev pub NumbersDiffer : List ℤ → Type 0
 NumbersDiffer [] = Unit {0}
 NumbersDiffer (k ∷ ks) = EachOf ks (λ j. same_int k j ≡ false) × NumbersDiffer ks
 
+-- No axis has a number twice.
 abbrev pub AxesDiffer : Axes → Type 0
 AxesDiffer [] = Unit {0}
 AxesDiffer (a ∷ as') = NumbersDiffer a × AxesDiffer as'
 
+-- The same of several tables.
 abbrev pub AllAxesDiffer : List Axes → Type 0
 AllAxesDiffer [] = Unit {0}
 AllAxesDiffer (as' ∷ ass) = AxesDiffer as' × AllAxesDiffer ass

@@ -11,12 +11,12 @@ use Rattle.ess_semantics.specs.Domains.{Domain, Domains, tuples, no_domains, mor
 use Rattle.ess_semantics.specs.Membership.{member, member_of_each}
 use Rattle.ess_semantics.specs.Tables.{code}
 use Rattle.ess_semantics.specs.Layers.{codes_of}
+use Rattle.ess_semantics.specs.Atoms.{Listed}
 use Rattle.ess_semantics.proofs.Tests.{and-left, and-right, and-both}
 use Rattle.ess_semantics.proofs.Orders.{order_total, to_list-of_list}
 use Rattle.ess_semantics.proofs.Sorting.{Below, Rising, sorted-of}
 use Rattle.ess_repr_laws.proofs.CanonicalPlaces.{AllOf}
 use Rattle.ess_repr_laws.proofs.Chosen.{of-sorted}
-use Rattle.ess_semantics.proofs.MemberLists.{Listed}
 
 -- Each domain's members are listed.
 abbrev pub AllListed : Domains → Type 0
@@ -37,6 +37,7 @@ rise-append (x ∷ xs) ys p q b = (below-append x xs ys p.0 b.0, rise-append xs 
     below-append x [] ys a b = b
     below-append x (z ∷ zs) ys a b = (a.0, below-append x zs ys a.1 b)
 
+-- The images of two lists.
 pub map-append : {A B : Type 0} (f : A → B) (xs ys : List A) → map f (xs ++ ys) ≡ map f xs ++ map f ys
 map-append f [] ys = refl
 map-append f (x ∷ xs) ys = ap (λ l. f x ∷ l) (map-append f xs ys)

@@ -1,0 +1,13 @@
+-- Finite domains, room, well-formed expressions
+pub mod Finite
+pub mod Rooms
+pub mod WellFormed
+-- Canonical tables
+pub mod CanonicalTables
+-- Positions in place of named types
+pub mod TypedDomains
+-- The constraint that cells are canonical
+pub mod Structure
+pub mod StructureMeaning
+-- What is proved
+pub mod Laws

@@ -9,8 +9,6 @@ mod boxed;
 mod memory;
 mod place;
 mod row;
-#[cfg(test)]
-mod tests;
 mod text;
 
 pub use boxed::Boxed;

@@ -1,10 +1,14 @@
 -- Worked examples of what rules keep: rewrites that are kept and rewrites that aren't, and a generator over a view that
 -- becomes one over the members of its domain.
-use Rattle.std.specs.Prelude.{◌≡◌, refl, true, false, not, [], ◌∷◌, codes, Some}
-use Rattle.std.proofs.Common.{ap}
+use Rattle.std.specs.Prelude.{◌≡◌, refl, true, false, not, [], ◌∷◌, codes, Option, Some, None, IsTrue}
+use Rattle.std.proofs.Common.{ap, arith}
+use Rattle.std.proofs.lemmas.Int.{ints}
 use Rattle.ess_semantics.specs.declared.words.Op2.{Op2}
 use Rattle.ess_semantics.specs.declared.words.Fun.{Fun}
-use Rattle.ess_semantics.specs.Values.{Text, truth}
+use Rattle.ess_semantics.specs.Values.{Text, Value, number, truth}
+use Rattle.ess_semantics.specs.Names.{look}
+use Rattle.ess_semantics.specs.Types.{int_ty}
+use Rattle.ess_semantics.specs.TypeMembers.{is_of_type}
 use Rattle.ess_semantics.specs.Order.{same}
 use Rattle.ess_semantics.specs.Collections.{set_of}
 use Rattle.ess_semantics.specs.Trees.{binary, name_pat, Ex, truth_ex, comp_ex, cell_ex, seen_ex, no_exs, no_gens, over, from, cond}
@@ -14,6 +18,7 @@ use Rattle.ess_semantics.specs.Operators.{value_of_node, false_where_undefined}
 use Rattle.ess_semantics.specs.Meaning.{Env, empty_env, meaning}
 use Rattle.ess_semantics.specs.Meets.{Meets}
 use Rattle.ess_semantics.specs.Kept.{Kept, KeptWhere}
+use Rattle.ess_semantics.specs.Typed.{Typed}
 use Rattle.ess_semantics.specs.ModelMeaning.{env_of_tables}
 use Rattle.ess_semantics.proofs.Shorthands.{N, n, es1, bi, fn, upto, set, v}
 use Rattle.ess_semantics.proofs.ExamplesModels.{s_occ, bits, i}
@@ -27,25 +32,47 @@ x = codes "x"
 abbrev is_one : Ex
 is_one = bi Op2.Eq (N x) (n 1)
 
+-- where no name has a type any env will do
+untyped : (env : Env) → Typed [] env
+untyped env a t w e f = cc
+
 -- `true /\ x = 1` is `x = 1`
-true_is_dropped : Kept (bi Op2.And (truth_ex true) is_one) is_one
+true_is_dropped : Kept [] (bi Op2.And (truth_ex true) is_one) is_one
 true_is_dropped env p m = (refl, (m.1 refl).0)
 
 -- `x = 1` isn't `true`
-not_always : Kept is_one (truth_ex true) → ⊥
-not_always h = let e : Some (truth false) ≡ Some (truth true) = (h empty_env tt (tt, (tt, tt))).0 in cc
+not_always : Kept [] is_one (truth_ex true) → ⊥
+not_always h = let e : Some (truth false) ≡ Some (truth true) = (h empty_env (untyped empty_env) (tt, (tt, tt))).0 in cc
 
 -- but it is where x is 1
 where_x_is_one : KeptWhere (λ env. meaning (N x) env ≡ Some (v 1)) is_one (truth_ex true)
 where_x_is_one env p m = (ap (λ o. false_where_undefined true (value_of_node (binary Op2.Eq) (o ∷ Some (v 1) ∷ []))) p, tt)
+
+-- `x + 0` is x where x is a number, and isn't where x is `true`
+abbrev and_0 : Ex
+and_0 = bi Op2.Plus (N x) (n 0)
+
+where_x_is_a_number : Kept ((x, int_ty) ∷ []) and_0 (N x)
+where_x_is_a_number env p m = (go (look env.vals x) refl, tt)
+  where
+    sum : (w : Value) → IsTrue (is_of_type int_ty env w) → value_of_node (binary Op2.Plus) (Some w ∷ Some (v 0) ∷ []) ≡ Some w
+    sum (number k) t = ap (λ z. Some (number z)) (omega (arith, ints))
+    sum _ t = cc
+
+    go : (o : Option Value) → look env.vals x ≡ o → false_where_undefined false (value_of_node (binary Op2.Plus) (o ∷ Some (v 0) ∷ [])) ≡ o
+    go None q = refl
+    go (Some w) q = sum w (p x int_ty w refl q)
+
+not_where_x_is_true : KeptWhere (λ env. Unit {0}) and_0 (N x) → ⊥
+not_where_x_is_true h = let e : Some (v 0) ≡ Some (truth true) = (h (record empty_env { vals = (x, truth true) ∷ [] }) tt (tt, (tt, tt))).0 in cc
 
 -- a view of a set of int(1..3), kept as a table of truth values
 abbrev view : Ex
 view = seen_ex (alone ReprKind.Occurrence) (set (upto 3)) (s_occ ∷ []) no_exs
 
 -- `true` and `true \/ 9 in s` mean the same, but tables need not meet the structure of s
-view_out_of_nowhere : Kept (truth_ex true) (bi Op2.Or (truth_ex true) (bi Op2.Member (n 9) view)) → ⊥
-view_out_of_nowhere h = no (h (env_of_tables []) tt tt).1
+view_out_of_nowhere : Kept [] (truth_ex true) (bi Op2.Or (truth_ex true) (bi Op2.Member (n 9) view)) → ⊥
+view_out_of_nowhere h = no (h (env_of_tables []) (untyped (env_of_tables [])) tt).1
   where
     no : Meets (bi Op2.Or (truth_ex true) (bi Op2.Member (n 9) view)) (env_of_tables []) → ⊥
     no m = cc

@@ -1,10 +1,10 @@
 -- Rules one after the other and at parts of a tree: what is kept stays kept.
 use Rattle.std.proofs.Common.{refl, ◌∙◌, Bool, true, false, List, [], ◌∷◌, Option, Some, None}
 use Rattle.ess_semantics.specs.Values.{Value, items_of}
-use Rattle.ess_semantics.specs.Trees.{Ex, Gens, no_gens, over, from, cond}
+use Rattle.ess_semantics.specs.Trees.{Pat, Ex, Gens, no_gens, over, from, cond}
 use Rattle.ess_semantics.specs.Meaning.{Env, with_pat, meaning, domain_of, members_in}
 use Rattle.ess_semantics.specs.Contexts.{In, Ins, InGens, InDom, InDoms, hole, in_operand, in_item, in_index_domain, in_body, in_generators, in_cell_index, in_view_domain, in_view_index, in_first, in_later, in_generator_domain, behind_over, in_source, behind_from, in_condition, behind_condition, in_bound, in_component, in_field, in_index, in_element, in_set_number, in_set_member, in_mset_number, in_mset_member, in_function_number, in_argument, in_result, in_relation_number, in_relation_component, in_partition_number, in_partition_member, in_first_domain, in_later_domain, fill, guards, Guarded, Each, EachOf, EachIn, AtEach, Where, WhereIn, WhereGens, WhereDom, WhereDoms}
-use Rattle.ess_semantics.specs.Kept.{KeptWhere, Kept, Stays}
+use Rattle.ess_semantics.specs.Kept.{KeptWhere}
 use Rattle.ess_rules_laws.proofs.Steps.{step}
 
 -- An expression keeps itself.
@@ -19,7 +19,7 @@ kept-chain P a b c f g env p m = let r = f env p m in let s = g env p r.1 in (r.
 pub kept-less : (P Q : Env → Type 0) (a b : Ex) → ((env : Env) → Q env → P env) → KeptWhere P a b → KeptWhere Q a b
 kept-less P Q a b f k env q m = k env (f env q) m
 
--- ---- a property that stays under bindings holds wherever a context does
+-- ---- a property that stays whatever generators bind holds wherever a context does
 
 each-true : {A : Type 0} (xs : List A) (P : A → Type 0) → ((x : A) → P x) → Each xs P
 each-true [] P f = tt
@@ -33,11 +33,12 @@ each-in-true : (o : Option Value) (P : Value → Type 0) → ((v : Value) → P 
 each-in-true None P f = tt
 each-in-true (Some s) P f = each-true (items_of s) P f
 
-guarded-true : (g : Bool) (o : Option Value) (T : Type 0) → T → Guarded g o T
+-- What holds holds behind a guard.
+pub guarded-true : (g : Bool) (o : Option Value) (T : Type 0) → T → Guarded g o T
 guarded-true true o T t = λ e. t
 guarded-true false o T t = t
 
-module _ (P : Env → Type 0) (stays : Stays P) where
+module _ (P : Env → Type 0) (stays : (p : Pat) (v : Value) (env : Env) → P env → P (with_pat p v env)) where
   at-each-stays : (gs : Gens) (env : Env) (Q : Env → Type 0) → ((here : Env) → P here → Q here) → P env → AtEach gs env Q
   at-each-stays no_gens env Q f p = f env p
   at-each-stays (over x d gs) env Q f p = each-of-true (members_in (domain_of d env)) _ (λ v. at-each-stays gs (with_pat x v env) Q f (stays x v env p))
@@ -94,7 +95,3 @@ module _ (P : Env → Type 0) (stays : Stays P) where
   -- A rule that counts on such a property keeps the whole under it.
   pub step-stays : (c : In) (old new : Ex) → KeptWhere P old new → KeptWhere P (fill c old) (fill c new)
   step-stays c old new k env p m = step P old new k c env (where-stays c env p) m
-
--- A rule that keeps a part keeps the whole.
-pub step-kept : (c : In) (old new : Ex) → Kept old new → Kept (fill c old) (fill c new)
-step-kept = step-stays (λ env. Unit {0}) (λ p v env t. tt)

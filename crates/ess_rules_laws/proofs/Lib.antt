@@ -3,8 +3,10 @@ pub mod Bindings
 pub mod Replacement
 pub mod Steps
 pub mod Kept
+pub mod KeptUnder
 pub mod Places
 pub mod Agreement
+pub mod FreeNames
 pub mod MeetsSimulation
 pub mod UsedNames
 pub mod ViewDomains

@@ -1,13 +1,13 @@
 -- Lists with the same items equally often, and what doesn't see their order: what generators collect, and the words that
 -- make one value of a list.
-use Rattle.std.proofs.Common.{◌≡◌, refl, sym, ap, ◌∙◌, subst, ℕ, suc, Bool, true, false, ◌&&◌, ◌||◌, if◌then◌else◌, List, [], ◌∷◌, ◌++◌, Option, Some, None, option_map}
+use Rattle.std.proofs.Common.{◌≡◌, refl, sym, ap, ◌∙◌, subst, Bool, true, false, ◌&&◌, ◌||◌, if◌then◌else◌, List, [], ◌∷◌, ◌++◌, Option, Some, None, option_map}
 use Rattle.std.specs.declared.cmp.Ordering.{Ordering}
 use Rattle.std.specs.declared.cmp.Ordering.TheVariants.{Less, Equal, Greater}
 use Rattle.ess_semantics.specs.declared.words.Fun.{Fun}
 use Rattle.ess_semantics.specs.Lists.{and_then}
 use Rattle.ess_semantics.specs.Values.{Value, number, truth, item, a_set, node, items_of, of_list, to_list}
 use Rattle.ess_semantics.specs.Order.{order, same}
-use Rattle.ess_semantics.specs.Collections.{holds, count, place, place_by, sorted_once}
+use Rattle.ess_semantics.specs.Collections.{holds, place, place_by, sorted_once}
 use Rattle.ess_semantics.specs.Trees.{word, Gens, no_gens, over, from, cond}
 use Rattle.ess_semantics.specs.Operators.{truth_in, all_true, any_true, list_value, value_of_word1, value_of_node, false_where_undefined, as_truth}
 use Rattle.ess_semantics.specs.Meaning.{Env, with_pat, where_true, collect, meaning, items_under, domain_of, members_in}
@@ -16,74 +16,14 @@ use Rattle.ess_semantics.proofs.Orders.{order_exact, same-itself, to_list-of_lis
 use Rattle.ess_semantics.proofs.Tests.{or-left-no, or-right-no}
 use Rattle.ess_rules_laws.proofs.Bindings.{each-of-map, each-in-map}
 use Rattle.ess_semantics.proofs.Sorting.{holds-sorted_once, Distinct, one-set}
-
--- ---- permutations
-
--- The second list is the first one in some order.
-pub data Perm {A : Type 0} : List A → List A → Type 0 where
-  same_list : {xs : List A} → Perm xs xs
-  skip : {x : A} {xs ys : List A} → Perm xs ys → Perm (x ∷ xs) (x ∷ ys)
-  swap : {x y : A} {xs : List A} → Perm (x ∷ y ∷ xs) (y ∷ x ∷ xs)
-  chain : {xs ys zs : List A} → Perm xs ys → Perm ys zs → Perm xs zs
-
--- Equal lists.
-pub perm-of : {A : Type 0} {xs ys : List A} → xs ≡ ys → Perm xs ys
-perm-of {xs = xs} e = subst (λ zs. Perm xs zs) e same_list
-
--- The other way round.
-pub perm-sym : {A : Type 0} {xs ys : List A} → Perm xs ys → Perm ys xs
-perm-sym same_list = same_list
-perm-sym (skip p) = skip (perm-sym p)
-perm-sym swap = swap
-perm-sym (chain p q) = chain (perm-sym q) (perm-sym p)
-
--- Behind the same items.
-pub perm-behind : {A : Type 0} (a : List A) {b c : List A} → Perm b c → Perm (a ++ b) (a ++ c)
-perm-behind [] p = p
-perm-behind (x ∷ a) p = skip (perm-behind a p)
-
-move : {A : Type 0} (x : A) (b c : List A) → Perm (x ∷ (b ++ c)) (b ++ (x ∷ c))
-move x [] c = same_list
-move x (y ∷ b) c = chain swap (skip (move x b c))
-
--- Two lists exchanged.
-pub perm-across : {A : Type 0} (a b c : List A) → Perm (a ++ (b ++ c)) (b ++ (a ++ c))
-perm-across [] b c = same_list
-perm-across (x ∷ a) b c = chain (skip (perm-across a b c)) (move x b (a ++ c))
-
--- ---- the same items equally often
-
-or-swap : (a b c : Bool) → a || (b || c) ≡ b || (a || c)
-or-swap true true c = refl
-or-swap true false c = refl
-or-swap false true c = refl
-or-swap false false c = refl
+use Rattle.ess_semantics.proofs.Permutations.{or-swap}
+pub use Rattle.ess_semantics.proofs.Permutations.{Perm, same_list, skip, swap, chain, perm-of, perm-sym, perm-behind, perm-across, holds-perm, count-perm}
 
 and-swap : (a b c : Bool) → a && (b && c) ≡ b && (a && c)
 and-swap true true c = refl
 and-swap true false c = refl
 and-swap false true c = refl
 and-swap false false c = refl
-
--- They have the same items.
-pub holds-perm : {xs ys : List Value} → Perm xs ys → (v : Value) → holds xs v ≡ holds ys v
-holds-perm same_list v = refl
-holds-perm (skip {x = x} p) v = ap (λ b. same x v || b) (holds-perm p v)
-holds-perm (swap {x = x} {y = y} {xs = xs}) v = or-swap (same x v) (same y v) (holds xs v)
-holds-perm (chain p q) v = holds-perm p v ∙ holds-perm q v
-
--- Equally often.
-pub count-perm : {xs ys : List Value} → Perm xs ys → (v : Value) → count xs v ≡ count ys v
-count-perm same_list v = refl
-count-perm (skip {x = x} p) v = ap (λ n. if same x v then suc n else n) (count-perm p v)
-count-perm (swap {x = x} {y = y} {xs = xs}) v = go (same x v) (same y v) (count xs v)
-  where
-    go : (a b : Bool) (n : ℕ) → (if a then suc (if b then suc n else n) else (if b then suc n else n)) ≡ (if b then suc (if a then suc n else n) else (if a then suc n else n))
-    go true true n = refl
-    go true false n = refl
-    go false true n = refl
-    go false false n = refl
-count-perm (chain p q) v = count-perm p v ∙ count-perm q v
 
 -- ---- lists that are there
 

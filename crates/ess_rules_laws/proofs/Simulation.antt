@@ -7,7 +7,7 @@ use Rattle.ess_semantics.specs.Values.{Text, Value, items_of}
 use Rattle.ess_semantics.specs.Order.{same_text}
 use Rattle.ess_semantics.specs.Names.{Names, look}
 use Rattle.ess_semantics.specs.Trees.{Pat, Pats, name_pat, tuple_pat, no_pats, more_pats, Ex, Exs, number_ex, truth_ex, name_ex, node_ex, matrix_ex, comp_ex, cell_ex, seen_ex, no_exs, more_exs, Gens, no_gens, over, from, cond, Dom, Doms, bool_dom, int_dom, name_dom, tuple_dom, record_dom, matrix_dom, set_dom, mset_dom, function_dom, relation_dom, partition_dom, no_doms, more_doms}
-use Rattle.ess_semantics.specs.Operators.{value_of_node, false_where_undefined, list_value}
+use Rattle.ess_semantics.specs.Operators.{misfit, value_of_node, false_where_undefined, list_value}
 use Rattle.ess_semantics.specs.Domains.{integers, tuples, records, matrices, sets, msets, functions, relations, partitions, more_domains}
 use Rattle.ess_semantics.specs.Tables.{Table}
 use Rattle.ess_semantics.specs.Meaning.{Env, TypeEntry, bind, bind_all, with_pat, collect, where_true, meaning, meanings, items_under, domain_of, domains_of, members_in, spans_of, attributes_of, matrix_value, seen_in, cell_in, indices, tables_in, is_bool_dom}
@@ -32,7 +32,7 @@ and_then-same o o' f f' e h = ap (λ x. and_then x f) e ∙ go o' f f' h
 pub where-same : {A : Type 0} (o o' : Option Value) (x x' : Option (List A)) → o ≡ o' → x ≡ x' → where_true o (λ u. x) ≡ where_true o' (λ u. x')
 where-same o o' x x' e f = ap (λ y. where_true y (λ u. x)) e ∙ ap (λ y. where_true o' (λ u. y)) f
 
-two : {A B C : Type 0} {p q : Option B} (o o' : Option A) (f : A → B → C) → o ≡ o' → p ≡ q → and_then o (λ x. option_map (f x) p) ≡ and_then o' (λ x. option_map (f x) q)
+pub two : {A B C : Type 0} {p q : Option B} (o o' : Option A) (f : A → B → C) → o ≡ o' → p ≡ q → and_then o (λ x. option_map (f x) p) ≡ and_then o' (λ x. option_map (f x) q)
 two {p = p} {q = q} o o' f e h = ap (λ x. and_then x (λ y. option_map (f y) p)) e ∙ ap (λ x. and_then o' (λ y. option_map (f y) x)) h
 
 abbrev pub E : Bool → List TypeEntry → Names Table → Vals → Env
@@ -52,7 +52,7 @@ module _ (pl : Bool) (ts : List TypeEntry) (cs : Names Table) (f : Text → Ex) 
 
     bind_all-r : (ps : Pats) (vs : List Value) (g h : Vals) → BindsAll b ps → R g h → R (bind_all ps vs g) (bind_all ps vs h)
     bind_all-r no_pats vs g h o s = s
-    bind_all-r (more_pats p ps) [] g h o s = s
+    bind_all-r (more_pats p ps) [] g h o s = bind_all-r ps [] (bind p misfit g) (bind p misfit h) o.1 (bind-r p misfit g h o.0 s)
     bind_all-r (more_pats p ps) (v ∷ vs) g h o s = bind_all-r ps vs (bind p v g) (bind p v h) o.1 (bind-r p v g h o.0 s)
 
   bool-dom : (d : Dom) → is_bool_dom (substitute_dom f d) ≡ is_bool_dom d

@@ -1,9 +1,9 @@
 //! Laws of rewriting, each the contract of a function that does nothing.
 
-ghost use Rattle.ess_rules_laws.specs.Laws.{UnusedNamesChangeNothing, PartsMayBeReplaced, KeptPartsKeepTheWhole};
+ghost use Rattle.ess_rules_laws.specs.Laws.{UnusedNamesChangeNothing, PartsMayBeReplaced, StepsKeepTheWhole, KeptPartsKeepTheWhole, RewritingKeepsTheWhole};
 
-/// A value of a name that doesn't occur in an expression changes no meaning. So a bound name may be any name that occurs
-/// nowhere else.
+/// A value of a name that isn't free in an expression changes no meaning. So a bound name may be any name that isn't free
+/// there, and one that a parameter brings may be bound.
 pub fn unused_names_change_nothing()
     ensures { UnusedNamesChangeNothing }
 {}
@@ -15,7 +15,18 @@ pub fn parts_may_be_replaced()
     ensures { PartsMayBeReplaced }
 {}
 
-/// A rule that keeps a part, used anywhere in a tree, keeps the whole: its meaning, and that tables meet its structures.
+/// What keeps a part wherever the context of the part holds keeps the whole: its meaning, and that tables meet its
+/// structures.
+pub fn steps_keep_the_whole()
+    ensures { StepsKeepTheWhole }
+{}
+
+/// A rule that keeps a part under the types of names, used anywhere in a tree, keeps the whole.
 pub fn kept_parts_keep_the_whole()
     ensures { KeptPartsKeepTheWhole }
+{}
+
+/// So do any number of such rules, one after the other at any parts.
+pub fn rewriting_keeps_the_whole()
+    ensures { RewritingKeepsTheWhole }
 {}

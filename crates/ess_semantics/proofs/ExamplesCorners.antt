@@ -6,10 +6,10 @@ use Rattle.ess_semantics.specs.declared.words.Op1.{Op1}
 use Rattle.ess_semantics.specs.declared.words.Op2.{Op2}
 use Rattle.ess_semantics.specs.declared.words.Fun.{Fun}
 use Rattle.ess_semantics.specs.declared.words.ReprKind.{ReprKind}
-use Rattle.ess_semantics.specs.Values.{Text, Value, truth, item, a_set, a_mset, node, of_list, pair}
+use Rattle.ess_semantics.specs.Values.{Text, Value, truth, item, a_set, a_mset, a_relation, node, nil, of_list, pair}
 use Rattle.ess_semantics.specs.Collections.{set_of}
 use Rattle.ess_semantics.specs.Trees.{set_literal, matrix_literal, function_literal, tuple_literal, record_literal, one_value, name_pat, Ex, truth_ex, plain_node, comp_ex, cell_ex, seen_ex, no_exs, more_exs, no_gens, over, cond, Dom, bool_dom, int_dom, record_dom, no_doms, more_doms, Stm, given, let_enum, let_ex, find, such_that}
-use Rattle.ess_semantics.specs.Types.{Ty, any_ty, int_ty, named_ty, compound1}
+use Rattle.ess_semantics.specs.Types.{Ty, any_ty, int_ty, named_ty, compound, no_tys, compound1}
 use Rattle.ess_semantics.specs.Domains.{sets, between}
 use Rattle.ess_semantics.specs.Choice.{alone, over_child}
 use Rattle.ess_semantics.specs.Kinds.{fits}
@@ -25,7 +25,7 @@ use Rattle.ess_semantics.specs.Tidy.{tidy}
 use Rattle.ess_semantics.specs.Judgements.{unknown_name, fault}
 use Rattle.ess_semantics.specs.Assignments.{nothing_given}
 use Rattle.ess_semantics.specs.Literals.{literal_value, type_of_literal}
-use Rattle.ess_semantics.specs.Plans.{plans, table_list}
+use Rattle.ess_semantics.specs.Plans.{plans, table_list, finds_side, givens_side}
 use Rattle.ess_semantics.specs.ModelTrees.{no_goal, Model}
 use Rattle.ess_semantics.specs.ModelMeaning.{env_of_tables}
 use Rattle.ess_semantics.specs.Satisfaction.{undefined, model_verdict}
@@ -106,10 +106,10 @@ no_member_is_not_tidy = refl
 -- ---- names that are taken
 
 -- the word alldifferent_except stands outside the subset
-word_is_taken : table_list true (find (codes "alldifferent") (record_dom (codes "except" ∷ []) (more_doms bool_dom no_doms)) ∷ []) [] ≡ (codes "alldifferent_except_", 0) ∷ []
+word_is_taken : table_list finds_side (find (codes "alldifferent") (record_dom (codes "except" ∷ []) (more_doms bool_dom no_doms)) ∷ []) [] ≡ (codes "alldifferent_except_", 0) ∷ []
 word_is_taken = refl
 
-declared_name_is_taken_for_a_given : table_list false (given (codes "s") (set (upto 2)) ∷ find (codes "s_Occurrence") bool_dom ∷ []) [] ≡ (codes "s_Occurrence_", 1) ∷ []
+declared_name_is_taken_for_a_given : table_list givens_side (given (codes "s") (set (upto 2)) ∷ find (codes "s_Occurrence") bool_dom ∷ []) [] ≡ (codes "s_Occurrence_", 1) ∷ []
 declared_name_is_taken_for_a_given = refl
 
 -- ---- values of types
@@ -118,8 +118,15 @@ types_have_their_values : map (λ (r : Ty × Value). is_of_type r.0 two_of_u r.1
     (named_ty (codes "U"), item (codes "U") 2) ∷ (named_ty (codes "U"), item (codes "U") 3) ∷ (named_ty (codes "U"), v 1) ∷
     (compound1 a_set int_ty, set_of (v 1 ∷ v 2 ∷ [])) ∷ (compound1 a_set int_ty, node a_set (of_list (v 2 ∷ v 1 ∷ []))) ∷
     (compound1 a_mset int_ty, node a_mset (of_list (v 1 ∷ v 1 ∷ []))) ∷ (any_ty, v 1) ∷ (int_ty, truth true) ∷ []) ≡
-    true ∷ false ∷ false ∷ true ∷ false ∷ true ∷ true ∷ false ∷ []
+    true ∷ false ∷ false ∷ true ∷ false ∷ true ∷ false ∷ false ∷ []
 types_have_their_values = refl
+
+-- the empty literals have the types that they are given, and the type of their members has no value
+empty_literals_have_their_types : map (λ (r : Ty × Value). is_of_type r.0 two_of_u r.1) (
+    (compound1 a_set any_ty, set_of []) ∷ (compound1 a_set any_ty, set_of (v 1 ∷ [])) ∷
+    (compound a_relation no_tys, node a_relation nil) ∷ (compound a_relation no_tys, node a_relation (of_list (v 1 ∷ []))) ∷ []) ≡
+    true ∷ false ∷ true ∷ false ∷ []
+empty_literals_have_their_types = refl
 
 positions_stand_for_values : with_positions (set_of (pair (item (codes "U") 2) (truth true) ∷ [])) ≡ set_of (pair (v 2) (truth true) ∷ [])
 positions_stand_for_values = refl

@@ -27,6 +27,10 @@ Row = Ex × Option Value
 abbrev Means : List Row → Type 0
 Means rs = map (λ r. model_value declared tables r.0) rs ≡ map (λ r. r.1) rs
 
+-- [e | q : int(1..0)]
+abbrev nowhere : Ex → Ex
+nowhere e = comp_ex e (over (name_pat (codes "q")) (range (n 1) (n 0)) no_gens)
+
 abbrev names_and_kinds : List Row
 names_and_kinds =
     -- x + b is nothing
@@ -65,8 +69,14 @@ names_and_kinds =
     (bi Op2.Or (un Op1.Not (N (codes "y"))) (truth_ex true), Some (truth true)) ∷
     -- min([y]) \/ true is false
     (bi Op2.Or (fn Fun.Min (plain_node matrix_literal (es1 (N (codes "y"))))) (truth_ex true), Some (truth false)) ∷
-    -- min([]) \/ true is true
-    (bi Op2.Or (fn Fun.Min (plain_node matrix_literal no_exs)) (truth_ex true), Some (truth true)) ∷
+    -- min([]) \/ true is false
+    (bi Op2.Or (fn Fun.Min (plain_node matrix_literal no_exs)) (truth_ex true), Some (truth false)) ∷
+    -- min([]) <-> b is false, and so is max([]) <-> false
+    (bi Op2.Iff (fn Fun.Min (plain_node matrix_literal no_exs)) (cell_ex false (codes "b") no_exs), Some (truth false)) ∷
+    (bi Op2.Iff (fn Fun.Max (plain_node matrix_literal no_exs)) (truth_ex false), Some (truth false)) ∷
+    -- min([]) = 1 is false, and so is 1 + min([]) = 1
+    (bi Op2.Eq (fn Fun.Min (plain_node matrix_literal no_exs)) (n 1), Some (truth false)) ∷
+    (bi Op2.Eq (bi Op2.Plus (n 1) (fn Fun.Min (plain_node matrix_literal no_exs))) (n 1), Some (truth false)) ∷
     []
 
 names_and_kinds_mean : Means names_and_kinds
@@ -74,8 +84,14 @@ names_and_kinds_mean = refl
 
 abbrev lists_and_cells : List Row
 lists_and_cells =
-    -- !(min([])) is true
-    (un Op1.Not (fn Fun.Min (plain_node matrix_literal no_exs)), Some (truth true)) ∷
+    -- !(min([])) is false
+    (un Op1.Not (fn Fun.Min (plain_node matrix_literal no_exs)), Some (truth false)) ∷
+    -- and([1 / true | q : int(1..0)]) is false, as and([1 | q : int(1..0)]) and and([m[1, 1] | q : int(1..0)]) are
+    (fn Fun.And (nowhere (bi Op2.Div (n 1) (truth_ex true))), Some (truth false)) ∷
+    (fn Fun.And (nowhere (n 1)), Some (truth false)) ∷
+    (fn Fun.And (nowhere (cell_ex false (codes "m") (es2 (n 1) (n 1)))), Some (truth false)) ∷
+    -- sum([1 / true | q : int(1..0)]) is 0
+    (fn Fun.Sum (nowhere (bi Op2.Div (n 1) (truth_ex true))), Some (v 0)) ∷
     -- sum([b]) = 1 is false
     (bi Op2.Eq (fn Fun.Sum (plain_node matrix_literal (es1 (cell_ex false (codes "b") no_exs)))) (n 1), Some (truth false)) ∷
     -- and([x]) is false

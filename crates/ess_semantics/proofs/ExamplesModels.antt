@@ -1,5 +1,5 @@
 -- Worked examples of tables' names, of models and of what they stand for.
-use Rattle.std.specs.Prelude.{◌≡◌, refl, ℕ, Bool, true, false, List, [], ◌∷◌, map, length, filter, pos, ℤ, Option, Some, None, codes}
+use Rattle.std.specs.Prelude.{◌≡◌, refl, ℕ, Bool, true, false, List, [], ◌∷◌, ◌++◌, map, length, filter, pos, ℤ, Option, Some, None, codes}
 use Rattle.ess_semantics.specs.declared.words.Op1.{Op1}
 use Rattle.ess_semantics.specs.declared.words.Op2.{Op2}
 use Rattle.ess_semantics.specs.declared.words.Fun.{Fun}
@@ -13,12 +13,14 @@ use Rattle.ess_semantics.specs.Tables.{Table, one_cell}
 use Rattle.ess_semantics.specs.Choice.{alone, over_child}
 use Rattle.ess_semantics.specs.Assignments.{Assignment, nothing_given}
 use Rattle.ess_semantics.specs.Solutions.{Sol, valid, verdict}
-use Rattle.ess_semantics.specs.Plans.{values_stood_for, Options, plans, table_list, Stands, canonical_tables, given_tables, cells_of_name}
+use Rattle.ess_semantics.specs.Plans.{values_stood_for, Options, plans, table_list, Stands, canonical_tables, given_tables, cells_of_name, finds_side, givens_side}
+use Rattle.ess_semantics.specs.DeclaredTables.{TableDecl}
 use Rattle.ess_semantics.specs.ModelTrees.{no_goal, Model}
 use Rattle.ess_semantics.specs.ModelMeaning.{model_value}
-use Rattle.ess_semantics.specs.Satisfaction.{Sat, ModelVerdict, satisfied, missing_table, outside_domain, false_rule, model_verdict}
+use Rattle.ess_semantics.specs.Satisfaction.{Sat, ModelVerdict, satisfied, missing_table, extra_table, outside_domain, false_rule, model_verdict}
 use Rattle.ess_semantics.specs.Constants.{spells_constants}
-use Rattle.ess_semantics.specs.Models.{is_flat, with_cells, declares_large}
+use Rattle.ess_semantics.specs.Models.{is_flat, with_cells}
+use Rattle.ess_semantics.specs.LargeModels.{declares_large}
 use Rattle.ess_semantics.specs.SizeNumbers.{numbers_are_small}
 use Rattle.ess_semantics.proofs.Shorthands.{N, n, es1, es2, un, bi, fn, app, range, upto, from_1, set, v, gives1}
 
@@ -49,7 +51,7 @@ abbrev no_options : Options
 no_options = []
 
 abbrev names : List Stm → List (Text × ℕ)
-names S = table_list true S no_options
+names S = table_list finds_side S no_options
 
 abbrev ints : List ℕ → List ℤ
 ints = map pos
@@ -76,6 +78,12 @@ bits a b c = (s_occ, table (1 ∷ 2 ∷ 3 ∷ []) (a ∷ b ∷ c ∷ [])) ∷ []
 
 abbrev pub all_bits : List (Names Table)
 all_bits = bits 0 0 0 ∷ bits 0 0 1 ∷ bits 0 1 0 ∷ bits 0 1 1 ∷ bits 1 0 0 ∷ bits 1 0 1 ∷ bits 1 1 0 ∷ bits 1 1 1 ∷ []
+
+abbrev x_declared : List TableDecl
+x_declared = record { name = x; axes = []; cell = upto 3 } ∷ []
+
+abbrev x_table : Names Table
+x_table = (x, one_cell (pos 1)) ∷ []
 
 abbrev is_satisfied : ModelVerdict → Bool
 is_satisfied satisfied = true
@@ -109,13 +117,21 @@ no_truth_value = refl
 no_table : model_verdict (model (cell 2)) [] [] ≡ missing_table s_occ
 no_table = refl
 
+-- each declared table once, in order
+second_table : model_verdict (model (cell 2)) [] (bits 0 1 0 ++ bits 0 1 0) ≡ extra_table s_occ
+second_table = refl
+
+two_declared : map (λ c. model_verdict (record (model (cell 2)) { finds = (model (cell 2)).finds ++ x_declared }) [] c)
+    ((bits 0 1 0 ++ x_table) ∷ (x_table ++ bits 0 1 0) ∷ (bits 0 1 0 ++ x_table ++ x_table) ∷ []) ≡ satisfied ∷ extra_table x ∷ extra_table x ∷ []
+two_declared = refl
+
 abbrev just_2 : Assignment
 just_2 = gives1 s (set_of (v 2 ∷ []))
 
 stands : Stands two_in_s no_options nothing_given just_2 (bits 0 1 0)
 stands = record { names = refl; types = refl; tables = refl; each_stands = refl }
 
-canonical : canonical_tables true two_in_s no_options nothing_given just_2 ≡ Some (bits 0 1 0)
+canonical : canonical_tables finds_side two_in_s no_options nothing_given just_2 ≡ Some (bits 0 1 0)
 canonical = refl
 
 solution : Sol two_in_s nothing_given just_2
@@ -182,7 +198,7 @@ size_table = refl
 abbrev injections : List Stm
 injections = given m from_1 ∷ find f (function_dom (flag Key.Total ∷ flag Key.Injective ∷ []) no_exs (range (n 1) (N m)) (range (n 1) (N m))) ∷ []
 
-given_names : table_list false injections no_options ≡ named m 0 ∷ []
+given_names : table_list givens_side injections no_options ≡ named m 0 ∷ []
 given_names = refl
 
 find_names : names injections ≡ named (codes "f_Function1D") 1 ∷ []

@@ -10,7 +10,7 @@ use Rattle.ess_semantics.specs.Sizes.{bound, slots_of_set, slots_of_mset}
 use Rattle.ess_semantics.specs.Choice.{default_repr, all_reprs, alone, over_child}
 use Rattle.ess_semantics.specs.TableNames.{Named}
 use Rattle.ess_semantics.specs.Meaning.{empty_env, domain_of}
-use Rattle.ess_semantics.specs.Plans.{Options, table_list, all_lists}
+use Rattle.ess_semantics.specs.Plans.{Options, table_list, all_lists, finds_side, givens_side}
 use Rattle.ess_semantics.proofs.Shorthands.{n, es1, es2, ds2, range, upto, set, sized}
 
 -- ---- names of tables with their numbers of axes, given ones first
@@ -41,7 +41,7 @@ named =
     []
 
 abbrev all_names : NamedRow → List Named
-all_names r = table_list false r.0 r.1 ++ table_list true r.0 r.1
+all_names r = table_list givens_side r.0 r.1 ++ table_list finds_side r.0 r.1
 
 names_are_free : map all_names named ≡ map (λ r. r.2) named
 unfolding digits

@@ -1,13 +1,14 @@
 -- Worked examples of types: on which operands each operator, word and literal stands.
-use Rattle.std.specs.Prelude.{◌≡◌, refl, Bool, true, List, [], ◌∷◌, codes, is_some, not}
+use Rattle.std.specs.Prelude.{◌≡◌, refl, Bool, true, false, List, [], ◌∷◌, map, codes, Some, None, is_some, not}
 use Rattle.ess_semantics.specs.declared.words.Op1.{Op1}
 use Rattle.ess_semantics.specs.declared.words.Op2.{Op2}
 use Rattle.ess_semantics.specs.declared.words.Fun.{Fun}
 use Rattle.ess_semantics.specs.declared.words.Key.{Key}
-use Rattle.ess_semantics.specs.Trees.{by_value, index, application, tuple_literal, set_literal, mset_literal, function_literal, relation_literal, partition_literal, matrix_literal, valued, name_pat, Ex, truth_ex, plain_node, comp_ex, no_exs, more_exs, no_gens, over, from, cond, bool_dom, tuple_dom, record_dom, matrix_dom, set_dom, mset_dom, function_dom, relation_dom, partition_dom, no_doms, more_doms}
+use Rattle.ess_semantics.specs.Trees.{by_value, index, application, tuple_literal, set_literal, mset_literal, function_literal, relation_literal, partition_literal, matrix_literal, valued, name_pat, Ex, truth_ex, plain_node, comp_ex, cell_ex, no_exs, more_exs, no_gens, over, from, cond, bool_dom, tuple_dom, record_dom, matrix_dom, set_dom, mset_dom, function_dom, relation_dom, partition_dom, no_doms, more_doms}
 use Rattle.std.specs.List.{list_all}
+use Rattle.ess_semantics.specs.Values.{a_tuple, a_set, a_relation, a_record}
 use Rattle.ess_semantics.specs.Names.{Names}
-use Rattle.ess_semantics.specs.Types.{Ty, type_of_dom}
+use Rattle.ess_semantics.specs.Types.{Ty, bool_ty, int_ty, named_ty, compound, no_tys, compound1, compound2, join, type_of_dom}
 use Rattle.ess_semantics.specs.Typing.{type_of}
 use Rattle.ess_semantics.proofs.Shorthands.{N, n, es1, es2, un, bi, fn, fn2, at, app, upto, range}
 
@@ -249,3 +250,32 @@ generators_do_not_fit : none_fits (
     comp_ex (N (codes "i")) (from (name_pat (codes "i")) (N (codes "z")) no_gens) ∷
     comp_ex (n 1) (over (name_pat (codes "i")) bool_dom (cond (n 1) no_gens)) ∷ []) ≡ true
 generators_do_not_fit = refl
+
+-- a relation of unknown arity joins with every relation; a tuple without components joins with itself alone
+joins : map (λ (p : Ty × Ty). join p.0 p.1) (
+    (compound a_relation no_tys, compound2 a_relation int_ty bool_ty) ∷ (compound1 a_relation int_ty, compound a_relation no_tys) ∷
+    (compound a_relation no_tys, compound a_relation no_tys) ∷ (compound a_tuple no_tys, compound a_tuple no_tys) ∷
+    (compound a_tuple no_tys, compound1 a_tuple int_ty) ∷ (compound2 a_tuple int_ty bool_ty, compound a_tuple no_tys) ∷
+    (compound (a_record []) no_tys, compound1 (a_record []) int_ty) ∷ (compound a_relation no_tys, compound a_set no_tys) ∷ []) ≡
+    Some (compound2 a_relation int_ty bool_ty) ∷ Some (compound1 a_relation int_ty) ∷ Some (compound a_relation no_tys) ∷ Some (compound a_tuple no_tys) ∷
+    None ∷ None ∷ None ∷ None ∷ []
+joins = refl
+
+-- relation() = relation((1, 2)) and relation() subsetEq r fit, {(), (1, 2)} doesn't
+empty_literals : map fits (
+    bi Op2.Eq (plain_node relation_literal no_exs) (plain_node relation_literal (es1 (plain_node tuple_literal (es2 (n 1) (n 2))))) ∷
+    bi Op2.SubsetEq (plain_node relation_literal no_exs) (N (codes "r")) ∷
+    plain_node set_literal (es2 (plain_node tuple_literal no_exs) (plain_node tuple_literal (es2 (n 1) (n 2)))) ∷ []) ≡ true ∷ true ∷ false ∷ []
+empty_literals = refl
+
+-- cells: x of a named type, y, y_Explicit[1], and a Boolean
+cells : map (λ e. type_of e ((codes "x", named_ty (codes "E")) ∷ (codes "y", compound1 a_set int_ty) ∷ [])) (
+    cell_ex false (codes "x") no_exs ∷ cell_ex false (codes "y") no_exs ∷ cell_ex false (codes "y_Explicit") (es1 (n 1)) ∷ cell_ex true (codes "x") no_exs ∷ []) ≡
+    Some (named_ty (codes "E")) ∷ Some int_ty ∷ Some int_ty ∷ Some bool_ty ∷ []
+cells = refl
+
+-- a cell of numbers is no truth value and no set
+cells_fit : map fits (
+    bi Op2.Plus (cell_ex false (codes "x") no_exs) (n 1) ∷ bi Op2.And (cell_ex false (codes "x") no_exs) (truth_ex true) ∷
+    bi Op2.Eq (cell_ex false (codes "x") no_exs) (N (codes "s")) ∷ []) ≡ true ∷ false ∷ false ∷ []
+cells_fit = refl

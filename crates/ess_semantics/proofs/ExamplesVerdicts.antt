@@ -1,5 +1,5 @@
 -- Worked examples of verdicts on parameters and solutions, as tables.
-use Rattle.std.specs.Prelude.{◌≡◌, refl, true, List, [], ◌∷◌, map, negsuc, Some, None, codes}
+use Rattle.std.specs.Prelude.{◌≡◌, refl, true, List, [], ◌∷◌, ◌++◌, replicate, map, negsuc, Some, None, codes}
 use Rattle.ess_semantics.specs.declared.words.Op2.{Op2}
 use Rattle.ess_semantics.specs.declared.words.Fun.{Fun}
 use Rattle.ess_semantics.specs.declared.words.Key.{Key}
@@ -52,13 +52,20 @@ given_type_verdicts : map (param_verdict given_type) (
     record { types = (codes "E", (codes "a" ∷ codes "a" ∷ [])) ∷ []; vals = [] } ∷
     -- letting E be new type enum {a, s}: Extra(E)
     record { types = (codes "E", (codes "a" ∷ codes "s" ∷ [])) ∷ []; vals = [] } ∷
+    -- a value's name that is a reserved word, a number, a word outside the subset, or empty: Extra(E)
+    record { types = (codes "E", (codes "and" ∷ [])) ∷ []; vals = [] } ∷
+    record { types = (codes "E", (codes "a" ∷ codes "2" ∷ [])) ∷ []; vals = [] } ∷
+    record { types = (codes "E", (codes "table" ∷ [])) ∷ []; vals = [] } ∷
+    record { types = (codes "E", ([] ∷ [])) ∷ []; vals = [] } ∷
+    -- no values: NotMember(1)
+    record { types = (codes "E", []) ∷ []; vals = [] } ∷
     -- letting E be 3: NotMember(1)
     record { types = []; vals = (codes "E", Some (v 3)) ∷ [] } ∷
     -- letting C be new type enum {red}: Missing(E)
     record { types = (codes "C", (codes "red" ∷ [])) ∷ []; vals = [] } ∷
     -- no letting: Missing(E)
     record { types = []; vals = [] } ∷
-    []) ≡ fits_param ∷ extra_name (codes "E") ∷ extra_name (codes "E") ∷ extra_name (codes "E") ∷ not_member 1 ∷ missing_given (codes "E") ∷ missing_given (codes "E") ∷ []
+    []) ≡ fits_param ∷ map extra_name (replicate 7 (codes "E")) ++ not_member 1 ∷ not_member 1 ∷ missing_given (codes "E") ∷ missing_given (codes "E") ∷ []
 unfolding digits
 given_type_verdicts = refl
 

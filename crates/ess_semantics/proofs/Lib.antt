@@ -1,15 +1,21 @@
 -- Lemmas on the definitions
 pub mod Orders
+pub mod Texts
 pub mod Tests
 pub mod Sorting
 pub mod Runs
 pub mod MemberLists
 pub mod Multisets
 pub mod Repeats
+pub mod Permutations
 pub mod Overlaps
 pub mod Verdicts
+pub mod SatisfiedTables
 pub mod EmptyModel
+pub mod TypeSizes
+pub mod OptionLaws
 pub mod Truths
+pub mod Connectives
 -- Worked examples
 pub mod Shorthands
 pub mod CellWords
@@ -31,9 +37,13 @@ pub mod ExamplesCanonicalRelations
 pub mod ExamplesAll
 pub mod ExamplesEdited
 pub mod ExamplesPlans
+pub mod ExamplesPositions
 pub mod ExamplesTrees
+pub mod ExamplesRewriting
 pub mod ExamplesAttributes
 pub mod ExamplesViews
+pub mod ExamplesLarge
+pub mod ExamplesChildren
 pub mod ExamplesCorners
 pub mod ExamplesTypes
 pub mod ExamplesEdges

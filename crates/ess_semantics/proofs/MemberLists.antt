@@ -12,16 +12,12 @@ use Rattle.ess_semantics.specs.Values.{Text, Value, number, item, itself}
 use Rattle.ess_semantics.specs.Order.{below, same_text}
 use Rattle.ess_semantics.specs.Collections.{sorted_once, rises}
 use Rattle.ess_semantics.specs.Numbers.{natural}
-use Rattle.ess_semantics.specs.Domains.{Span, Domain, Domains, no_domains, more_domains, booleans, integers, named, numbers_up, interval, span_members, items_from, member_list}
+use Rattle.ess_semantics.specs.Domains.{Span, Domain, booleans, integers, named, numbers_up, interval, span_members, items_from}
 use Rattle.ess_semantics.specs.Membership.{in_span, member}
+use Rattle.ess_semantics.specs.Atoms.{IsAtom, Listed}
 use Rattle.ess_semantics.proofs.Tests.{and-left, and-right, and-both, or-yes}
 use Rattle.ess_semantics.proofs.Orders.{text_total}
 use Rattle.ess_semantics.proofs.Sorting.{sorted_once-rises, all-sorted_once}
-
--- The members are listed: the list rises, and holds members alone.
-pub record Listed (d : Domain) : Type 0 where
-  pub sorted : rises itself (member_list d) ≡ true
-  pub members : list_all (member d) (member_list d) ≡ true
 
 pub booleans-listed : Listed booleans
 booleans-listed = record { sorted = refl; members = refl }
@@ -113,20 +109,8 @@ integers-listed (s ∷ ss) = go (all_some (map span_members (s ∷ ss))) refl
 
 -- ---- atoms
 
--- an atom
-abbrev pub IsAtom : Domain → Type 0
-IsAtom booleans = Unit {0}
-IsAtom (integers ss) = Unit {0}
-IsAtom (named t n) = Unit {0}
-IsAtom _ = ⊥
-
 pub atom-listed : (d : Domain) → IsAtom d → Listed d
 atom-listed booleans a = booleans-listed
 atom-listed (integers ss) a = integers-listed ss
 atom-listed (named t n) a = named-listed t n
 atom-listed _ a = absurd a
-
--- each component is an atom
-abbrev pub AreAtoms : Domains → Type 0
-AreAtoms no_domains = Unit {0}
-AreAtoms (more_domains d ds) = IsAtom d × AreAtoms ds

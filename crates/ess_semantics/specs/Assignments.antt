@@ -100,14 +100,15 @@ env_of S p a = env_behind (prepared S) p a empty_env
 
 -- ---- the names of the values of unnamed types
 
+-- The unnamed type of a statement, with its size.
+abbrev pub unnamed_size_at : Stm → Env → Names ℕ
+unnamed_size_at (let_unnamed t e) env = (t, size_of (meaning e env)) ∷ []
+unnamed_size_at s env = []
+
 -- The sizes of the unnamed types.
 abbrev pub unnamed_sizes : List Placed → Names ℕ
 unnamed_sizes [] = []
-unnamed_sizes (l ∷ ls) = size_at l.stm l.env ++ unnamed_sizes ls
-  where
-    size_at : Stm → Env → Names ℕ
-    size_at (let_unnamed t e) env = (t, size_of (meaning e env)) ∷ []
-    size_at s env = []
+unnamed_sizes (l ∷ ls) = unnamed_size_at l.stm l.env ++ unnamed_sizes ls
 
 -- The k-th value of the type T is named `T_k`.
 abbrev pub unnamed_name : Text → ℕ → Text

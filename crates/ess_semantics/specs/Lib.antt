@@ -1,9 +1,11 @@
+-- The sources of all definitions, by name and year, stand in docs/SOURCES.md.
 -- Small words
 pub mod Lists
 -- Values and their order
 pub mod Values
 pub mod Order
 pub mod Names
+pub mod NameTokens
 pub mod Collections
 -- Trees and types
 pub mod Trees
@@ -17,6 +19,7 @@ pub mod Operators
 pub mod Domains
 pub mod Attributes
 pub mod Membership
+pub mod Atoms
 pub mod Sizes
 -- Tables and cells, and the representations of each kind of value
 pub mod Tables
@@ -41,16 +44,23 @@ pub mod OneLayer
 pub mod Meaning
 pub mod DeclaredTables
 pub mod TypeMembers
+pub mod Children
 pub mod Occurrences
 -- Contexts, structures, scope, and what rules keep
 pub mod Contexts
+pub mod NamesAt
+pub mod StaysAt
+pub mod Typed
 pub mod Meets
 pub mod Kept
 pub mod Full
 pub mod Totality
 pub mod Refined
+pub mod Simplified
 pub mod Substitution
 pub mod Scoped
+pub mod FreeNames
+pub mod LooksLeft
 -- Numbers outside 64 bits, and positions
 pub mod Large
 pub mod Positions
@@ -70,9 +80,12 @@ pub mod Parameters
 pub mod Solutions
 -- Models
 pub mod Plans
+pub mod ChosenOptions
 pub mod ModelTrees
 pub mod ModelMeaning
 pub mod Satisfaction
+pub mod LargeModels
+pub mod LargeSpecifications
 pub mod Constants
 pub mod SizeNumbers
 pub mod Models

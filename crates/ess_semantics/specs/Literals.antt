@@ -1,6 +1,6 @@
 -- Literals: the values that files spell. A literal has no operator but `-` before a number; a name in it is one of a value
 -- of an enumerated type, or `T_k` for the k-th value of the unnamed type T.
-use Rattle.std.specs.Prelude.{ℕ, suc, ◌+◌, ◌*◌, ◌-◌, Bool, true, false, ◌&&◌, not, if◌then◌else◌, List, [], ◌∷◌, ◌++◌, neg_ℤ, Option, Some, None, pos, nat_le, is_some, codes}
+use Rattle.std.specs.Prelude.{ℕ, suc, Bool, true, false, ◌&&◌, not, if◌then◌else◌, List, [], ◌∷◌, ◌++◌, neg_ℤ, Option, Some, None, pos, nat_le, is_some, codes}
 use Rattle.std.specs.List.{list_all}
 use Rattle.ess_semantics.specs.declared.words.Op1.{Op1}
 use Rattle.ess_semantics.specs.Lists.{and_then, or_else, when, all_some, is_some_and, is_empty}
@@ -13,21 +13,17 @@ use Rattle.ess_semantics.specs.OperatorTypes.{type_of_op}
 use Rattle.ess_semantics.specs.Values.{a_matrix}
 use Rattle.ess_semantics.specs.Operators.{value_of_op}
 use Rattle.ess_semantics.specs.Meaning.{Env, TypeEntry, members_in, matrix_value, domain_of}
-use Rattle.ess_semantics.specs.Judgements.{are_digits, after_prefix}
+use Rattle.ess_semantics.specs.NameTokens.{are_digits, value_after}
+use Rattle.ess_semantics.specs.Judgements.{after_prefix}
 use Rattle.ess_semantics.specs.Assignments.{unnamed_name}
 
 -- ---- names of values
-
--- The number of these digits behind those of n.
-abbrev pub number_of : ℕ → Text → ℕ
-number_of n [] = n
-number_of n (b ∷ bs) = number_of (10 * n + (b - 48)) bs
 
 -- The value of an unnamed type whose name is `T_k`, with k in digits as it is printed.
 abbrev pub unnamed_item : TypeEntry → Text → Option Value
 unnamed_item t a =
     and_then (after_prefix (t.name ++ codes "_") a) (λ ds.
-    let k : ℕ = number_of 0 ds in
+    let k : ℕ = value_after 0 ds in
     when (are_digits ds && same_text a (unnamed_name t.name k) && nat_le 1 k && nat_le k t.count) (item t.name k))
 
 -- The value of an enumerated type with this name, where the names are counted from k.

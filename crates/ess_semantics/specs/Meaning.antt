@@ -6,7 +6,7 @@ use Rattle.ess_semantics.specs.Values.{Text, Value, number, truth, of_list, item
 use Rattle.ess_semantics.specs.Order.{same_text}
 use Rattle.ess_semantics.specs.Names.{Names, look}
 use Rattle.ess_semantics.specs.Trees.{Ends, one_value, both_ends, low_end, high_end, Mark, flag, valued, Repr, Pat, Pats, name_pat, tuple_pat, no_pats, more_pats, Ex, Exs, number_ex, truth_ex, name_ex, node_ex, matrix_ex, comp_ex, cell_ex, seen_ex, no_exs, more_exs, Gens, no_gens, over, from, cond, Dom, Doms, bool_dom, int_dom, name_dom, tuple_dom, record_dom, matrix_dom, set_dom, mset_dom, function_dom, relation_dom, partition_dom, no_doms, more_doms}
-use Rattle.ess_semantics.specs.Operators.{number_in, value_of_node, false_where_undefined, list_value}
+use Rattle.ess_semantics.specs.Operators.{misfit, number_in, value_of_node, false_where_undefined, list_value}
 use Rattle.ess_semantics.specs.Domains.{Span, Attribute, numbered, flagged, Domain, Domains, booleans, integers, named, tuples, records, matrices, sets, msets, functions, relations, partitions, no_domains, more_domains, members, between}
 use Rattle.ess_semantics.specs.Tables.{Table, Tables, cell_at, truth_of, code}
 use Rattle.ess_semantics.specs.Representations.{value_of_tables}
@@ -42,10 +42,11 @@ abbrev mutual
   bind (name_pat a) v g = (a, v) ∷ g
   bind (tuple_pat ps) v g = bind_all ps (items_of v) g
 
-  -- The same of several patterns at the parts of a tuple.
+  -- The same of several patterns at the parts of a tuple. Where parts are missing, which no well-typed tree has, each name
+  -- is bound still.
   pub bind_all : Pats → List Value → Names Value → Names Value
   bind_all no_pats vs g = g
-  bind_all (more_pats p ps) [] g = g
+  bind_all (more_pats p ps) [] g = bind_all ps [] (bind p misfit g)
   bind_all (more_pats p ps) (v ∷ vs) g = bind_all ps vs (bind p v g)
 
 -- The env with the names that a pattern binds.

@@ -1,15 +1,18 @@
 -- The meaning of a model's expressions over numbers and tables, under its declarations. It is the meaning of expressions
 -- under tables, made exact for models that have been edited: a name that is neither declared nor bound, a table with
 -- another number of indices than axes, and an operator with an operand of another kind have nothing, where truth values
--- and numbers are two kinds. The nearest Boolean is then false.
+-- and numbers are two kinds. The nearest Boolean is then false. An operator of numbers is one whatever its operands are.
 use Rattle.std.specs.Prelude.{Bool, true, false, ◌&&◌, ◌||◌, if◌then◌else◌, List, [], ◌∷◌, map, length, Option, Some, None, nat_eq, is_some}
 use Rattle.std.specs.List.{list_all}
+use Rattle.ess_semantics.specs.declared.words.Op1.{Op1}
+use Rattle.ess_semantics.specs.declared.words.Op2.{Op2}
+use Rattle.ess_semantics.specs.declared.words.Fun.{Fun}
 use Rattle.ess_semantics.specs.Typing.{statics, type_of_node}
 use Rattle.ess_semantics.specs.DeclaredTables.{TableDecl}
 use Rattle.ess_semantics.specs.Values.{Text, a_matrix, Value}
 use Rattle.ess_semantics.specs.Order.{same_text}
 use Rattle.ess_semantics.specs.Names.{Names, look}
-use Rattle.ess_semantics.specs.Trees.{Op, is_truth_op, plain_node, Ex, Exs, number_ex, truth_ex, name_ex, node_ex, matrix_ex, comp_ex, cell_ex, seen_ex, no_exs, more_exs, Gens, no_gens, over, from, cond, Dom, int_dom}
+use Rattle.ess_semantics.specs.Trees.{Op, unary, binary, word, is_truth_op, plain_node, Ex, Exs, number_ex, truth_ex, name_ex, node_ex, matrix_ex, comp_ex, cell_ex, seen_ex, no_exs, more_exs, Gens, no_gens, over, from, cond, Dom, int_dom}
 use Rattle.ess_semantics.specs.Types.{Ty, any_ty, bool_ty, int_ty, compound2, join, type_of_dom, bind_types, or_any}
 use Rattle.ess_semantics.specs.OperatorTypes.{member_ty}
 use Rattle.ess_semantics.specs.Domains.{Domain}
@@ -26,9 +29,31 @@ Kinded = Ex × Ty
 abbrev pub nothing : Kinded
 nothing = (name_ex [], any_ty)
 
--- What stands for an operator with an operand of another kind.
-abbrev pub broken : Bool → Kinded
-broken b = if b then (truth_ex false, bool_ty) else nothing
+-- What stands for an operator or a cell of this kind that has an operand of another kind.
+abbrev pub broken : Ty → Kinded
+broken bool_ty = (truth_ex false, bool_ty)
+broken t = (name_ex [], t)
+
+-- Whether an operator of models gives a number, whatever its operands are.
+abbrev pub is_number_op : Op → Bool
+is_number_op (unary Op1.Minus) = true
+is_number_op (unary Op1.Bar) = true
+is_number_op (binary Op2.Pow) = true
+is_number_op (binary Op2.Times) = true
+is_number_op (binary Op2.Div) = true
+is_number_op (binary Op2.Mod) = true
+is_number_op (binary Op2.Plus) = true
+is_number_op (binary Op2.Minus) = true
+is_number_op (word Fun.Sum) = true
+is_number_op (word Fun.Product) = true
+is_number_op (word Fun.Min) = true
+is_number_op (word Fun.Max) = true
+is_number_op (word Fun.ToInt) = true
+is_number_op op = false
+
+-- The kind of an operator's node, which has the type t where its operands fit.
+abbrev pub kind_of_op : Op → Ty → Ty
+kind_of_op op t = if is_number_op op then int_ty else (if is_truth_op op then bool_ty else t)
 
 -- Whether the expression is the one that has nothing.
 abbrev pub is_nothing : Ex → Bool
@@ -42,8 +67,8 @@ some_nothing (more_exs e es) = is_nothing e || some_nothing es
 
 -- A node whose operands have their kinds. Where an operand has nothing so has the node, and the nearest Boolean is false.
 abbrev pub kinded_node : Op → Exs → List Ty → Option Ty → Kinded
-kinded_node op es ts None = broken (is_truth_op op)
-kinded_node op es ts (Some t) = if some_nothing es then broken (is_truth_op op) else (plain_node op es, t)
+kinded_node op es ts None = broken (kind_of_op op any_ty)
+kinded_node op es ts (Some t) = if some_nothing es then broken (kind_of_op op any_ty) else (plain_node op es, kind_of_op op t)
 
 -- Whether a kind is that of numbers.
 abbrev pub is_int_kind : Ty → Bool
@@ -63,7 +88,7 @@ abbrev pub kinded_cell : Text → Exs → List Ty → Option TableDecl → Kinde
 kinded_cell n es ts None = nothing
 kinded_cell n es ts (Some d) =
     if nat_eq (length ts) (length d.axes) && list_all is_int_kind ts then (cell_ex (is_bool_dom d.cell) n es, cell_kind (is_bool_dom d.cell))
-    else broken (is_bool_dom d.cell)
+    else broken (cell_kind (is_bool_dom d.cell))
 
 -- A bound name with its kind, or nothing.
 abbrev pub kinded_name : Text → Option Ty → Kinded

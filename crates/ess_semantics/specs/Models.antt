@@ -1,8 +1,13 @@
 -- What it is that a model stands for a specification: it declares the tables of the specification's representations, and
 -- under each parameter the tables that satisfy it stand for exactly the solutions.
-use Rattle.std.specs.Prelude.{◌≡◌, ℕ, ◌-◌, Bool, true, false, ◌&&◌, ◌||◌, not, if◌then◌else◌, List, [], ◌∷◌, map, length, drop, filter, ℤ, Option, Some, None, IsTrue, is_some}
-use Rattle.std.specs.List.{list_any}
-use Rattle.ess_semantics.specs.DeclaredTables.{TableDecl, decl_name, DeclaredAs}
+--
+-- One letter stands for one thing here and in what builds on it:
+--   S  the statements of the specification      o  the options, which representations are named
+--   H  the header of the model                  E  the model
+--   p  a parameter: the values of the givens    q  the given tables
+--   a  an assignment: the values of the finds   c  the found tables
+use Rattle.std.specs.Prelude.{◌≡◌, ℕ, ◌-◌, Bool, true, false, ◌&&◌, not, if◌then◌else◌, List, [], ◌∷◌, map, length, drop, filter, ℤ, Option, Some, None, IsTrue, is_some}
+use Rattle.ess_semantics.specs.DeclaredTables.{decl_name, DeclaredAs}
 use Rattle.ess_semantics.specs.declared.words.Op1.{Op1}
 use Rattle.ess_semantics.specs.declared.words.Op2.{Op2}
 use Rattle.ess_semantics.specs.declared.words.Fun.{Fun}
@@ -10,17 +15,17 @@ use Rattle.ess_semantics.specs.Lists.{and_then, append_all, item_number, or_else
 use Rattle.ess_semantics.specs.Values.{Text}
 use Rattle.ess_semantics.specs.Order.{same_text}
 use Rattle.ess_semantics.specs.Names.{Names, keys}
-use Rattle.ess_semantics.specs.Trees.{Op, unary, binary, word, Ex, Exs, number_ex, name_ex, node_ex, cell_ex, no_exs, more_exs, Dom, bool_dom, int_dom, Stm, such_that, minimise, maximise}
+use Rattle.ess_semantics.specs.Trees.{Op, unary, binary, word, Ex, Exs, number_ex, name_ex, node_ex, cell_ex, no_exs, more_exs, bool_dom, int_dom, Stm, such_that, minimise, maximise}
 use Rattle.ess_semantics.specs.Operators.{int_of}
 use Rattle.ess_semantics.specs.Tables.{Table}
 use Rattle.ess_semantics.specs.Meaning.{Env, meaning}
-use Rattle.ess_semantics.specs.Large.{is_large_dom}
+use Rattle.ess_semantics.specs.LargeModels.{declares_large}
 use Rattle.ess_semantics.specs.Assignments.{Assignment, Placed, placed}
 use Rattle.ess_semantics.specs.Parameters.{Param}
 use Rattle.ess_semantics.specs.Solutions.{InDomains, Sol, constraint_holds}
-use Rattle.ess_semantics.specs.Plans.{value_names, Options, Plan, value_plan, plans, table_list, declared_under, Stands, canonical_tables, given_tables}
+use Rattle.ess_semantics.specs.Plans.{value_names, Options, Plan, value_plan, plans, table_list, declared_under, Stands, canonical_tables, given_tables, finds_side, givens_side}
 use Rattle.ess_semantics.specs.ModelTrees.{Header, Model, is_constraint, header_of, all_decls, goal_of, same_direction}
-use Rattle.ess_semantics.specs.ModelMeaning.{kinded_dom, env_of_tables, model_domain}
+use Rattle.ess_semantics.specs.ModelMeaning.{model_domain}
 use Rattle.ess_semantics.specs.Satisfaction.{rule_holds, Sat, goal_value}
 use Rattle.ess_semantics.specs.Constants.{spells_constants}
 use Rattle.ess_semantics.specs.SizeNumbers.{are_plain, numbers_are_small}
@@ -116,35 +121,22 @@ constraint_truths S p a = map (λ l. constraint_holds l.stm l.env) (filter (λ l
 abbrev pub rule_truths : List Stm → Model → Names Table → Names Table → List Bool
 rule_truths S E q c = map (rule_holds E q c) (last_rules S E)
 
+-- The value of a statement that is an objective, or nothing.
+abbrev pub objective_value : Stm → Env → Option ℤ
+objective_value (minimise e) env = and_then (meaning e env) int_of
+objective_value (maximise e) env = and_then (meaning e env) int_of
+objective_value s env = None
+
 -- The objective's value under p and a, or nothing.
 abbrev pub objective_at : List Placed → Option ℤ
 objective_at [] = None
-objective_at (l ∷ ls) = or_else (value_here l.stm l.env) (objective_at ls)
-  where
-    value_here : Stm → Env → Option ℤ
-    value_here (minimise e) env = and_then (meaning e env) int_of
-    value_here (maximise e) env = and_then (meaning e env) int_of
-    value_here s env = None
-
--- ---- numbers outside 64 bits
-
--- Whether a declared domain has a number outside 64 bits.
-abbrev pub dom_is_large : List TableDecl → Names Table → Dom → Bool
-dom_is_large ds q d = is_large_dom (kinded_dom ds d []) (env_of_tables q)
-
--- The same of a declaration.
-abbrev pub decl_is_large : List TableDecl → Names Table → TableDecl → Bool
-decl_is_large ds q d = list_any (dom_is_large ds q) d.axes || dom_is_large ds q d.cell
-
--- Some declared domain has a number outside 64 bits over the given tables.
-abbrev pub declares_large : Model → Names Table → Bool
-declares_large E q = list_any (decl_is_large (all_decls E) q) (all_decls E)
+objective_at (l ∷ ls) = or_else (objective_value l.stm l.env) (objective_at ls)
 
 -- ---- models
 
 -- The values stand in order of declaration, and no types beside them.
 abbrev pub Ordered : List Stm → Assignment → Type 0
-Ordered S a = (keys a.vals ≡ value_names true S) × (a.types ≡ [])
+Ordered S a = (keys a.vals ≡ value_names finds_side S) × (a.types ≡ [])
 
 -- Under the parameter p with the given tables q, the tables that satisfy the model stand for exactly the solutions.
 pub record Represents (S : List Stm) (o : Options) (E : Model) (p : Assignment) (q : Names Table) : Type 0 where
@@ -156,18 +148,18 @@ pub record Represents (S : List Stm) (o : Options) (E : Model) (p : Assignment) 
   -- the objectives agree
   pub same_goal : (c : Names Table) (a : Assignment) → Sat E q c → Stands S o p a c → goal_value E q c ≡ objective_at (placed S p a)
   -- at the canonical tables of members each constraint has its truth
-  pub same_constraints : (a : Assignment) (c : Names Table) → InDomains S p a → canonical_tables true S o p a ≡ Some c →
+  pub same_constraints : (a : Assignment) (c : Names Table) → InDomains S p a → canonical_tables finds_side S o p a ≡ Some c →
       rule_truths S E q c ≡ constraint_truths S p a
 
 -- The model with this header stands for the specification.
 pub record Models (S : List Stm) (o : Options) (H : Header) (E : Model) : Type 0 where
   pub header : H ≡ header_of S o
-  pub given_names : map decl_name E.givens ≡ table_list false S o
-  pub find_names : map decl_name E.finds ≡ table_list true S o
+  pub given_names : map decl_name E.givens ≡ table_list givens_side S o
+  pub find_names : map decl_name E.finds ≡ table_list finds_side S o
   pub given_domains : (p : Assignment) (q : Names Table) → Param S p → given_tables S o p ≡ Some q →
-      DeclaredAs (model_domain (all_decls E) q) E.givens (declared_under false S o p)
+      DeclaredAs (model_domain (all_decls E) q) E.givens (declared_under givens_side S o p)
   pub find_domains : (p : Assignment) (q : Names Table) → Param S p → given_tables S o p ≡ Some q →
-      DeclaredAs (model_domain (all_decls E) q) E.finds (declared_under true S o p)
+      DeclaredAs (model_domain (all_decls E) q) E.finds (declared_under finds_side S o p)
   pub goal_direction : IsTrue (same_direction E.goal (goal_of S))
   pub constants : IsTrue (spells_constants S E)
   pub flat : (k : ℕ) (e : Ex) → item_number (constraints_of S) k ≡ Some e → IsTrue (is_flat (plans S o) e) →
@@ -180,6 +172,6 @@ pub record Models (S : List Stm) (o : Options) (H : Header) (E : Model) : Type 0
 -- exactly one.
 pub record IsExact (S : List Stm) (o : Options) (E : Model) : Type 0 where
   pub canonical : (p : Assignment) (q c : Names Table) → Param S p → given_tables S o p ≡ Some q → Sat E q c →
-      (a : Assignment) × Sol S p a × (canonical_tables true S o p a ≡ Some c)
+      (a : Assignment) × Sol S p a × (canonical_tables finds_side S o p a ≡ Some c)
   pub satisfies : (p a : Assignment) (q : Names Table) → Param S p → given_tables S o p ≡ Some q → Sol S p a → Ordered S a →
-      (c : Names Table) × (canonical_tables true S o p a ≡ Some c) × Sat E q c
+      (c : Names Table) × (canonical_tables finds_side S o p a ≡ Some c) × Sat E q c

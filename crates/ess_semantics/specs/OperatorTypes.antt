@@ -56,16 +56,17 @@ included (compound a_relation ts) = Some bool_ty
 included any_ty = Some bool_ty
 included _ = None
 
+-- The type of the tuples of a relation. Those of a relation of unknown arity have any type.
+abbrev pub tuple_ty : Tys → Ty
+tuple_ty no_tys = any_ty
+tuple_ty (more_tys t ts) = compound a_tuple (more_tys t ts)
+
 -- The type of what a generator takes from a source.
 abbrev pub member_ty : Ty → Option Ty
 member_ty (compound1 a_set a) = Some a
 member_ty (compound1 a_mset a) = Some a
 member_ty (compound2 a_function a b) = Some (compound2 a_tuple a b)
-member_ty (compound a_relation ts) = Some (tuples_in ts)
-  where
-    tuples_in : Tys → Ty
-    tuples_in no_tys = any_ty
-    tuples_in (more_tys t ts) = compound a_tuple (more_tys t ts)
+member_ty (compound a_relation ts) = Some (tuple_ty ts)
 member_ty (compound1 a_partition a) = Some (compound1 a_set a)
 member_ty (compound2 a_matrix i e) = Some e
 member_ty any_ty = Some any_ty
@@ -166,24 +167,27 @@ type_of_word1 Fun.Participants (compound1 a_partition a) = Some (compound1 a_set
 type_of_word1 Fun.Participants any_ty = Some (compound1 a_set any_ty)
 type_of_word1 _ t = None
 
+-- The type of a function's values.
+abbrev pub value_ty : Ty → Option Ty
+value_ty (compound2 a_function a b) = Some b
+value_ty _ = None
+
+-- The type of sets of a function's arguments.
+abbrev pub arguments_ty : Ty → Option Ty
+arguments_ty (compound2 a_function a b) = Some (compound1 a_set a)
+arguments_ty _ = None
+
+-- The type of a partition's parts.
+abbrev pub part_ty : Ty → Option Ty
+part_ty (compound1 a_partition a) = Some (compound1 a_set a)
+part_ty _ = None
+
 -- The type of a function word on two operands.
 abbrev pub type_of_word2 : Fun → Ty → Ty → Option Ty
 type_of_word2 Fun.Image f x = and_then (join f (compound2 a_function x any_ty)) value_ty
-  where
-    value_ty : Ty → Option Ty
-    value_ty (compound2 a_function a b) = Some b
-    value_ty _ = None
-type_of_word2 Fun.PreImage f y = and_then (join f (compound2 a_function any_ty y)) argument_ty
-  where
-    argument_ty : Ty → Option Ty
-    argument_ty (compound2 a_function a b) = Some (compound1 a_set a)
-    argument_ty _ = None
+type_of_word2 Fun.PreImage f y = and_then (join f (compound2 a_function any_ty y)) arguments_ty
 type_of_word2 Fun.Freq m x = fit m (compound1 a_mset x) int_ty
 type_of_word2 Fun.Party x p = and_then (join p (compound1 a_partition x)) part_ty
-  where
-    part_ty : Ty → Option Ty
-    part_ty (compound1 a_partition a) = Some (compound1 a_set a)
-    part_ty _ = None
 type_of_word2 Fun.Together s p = and_then (join s (compound1 a_set any_ty)) (λ t. and_then (member_ty t) (λ a. fit p (compound1 a_partition a) bool_ty))
 type_of_word2 _ t u = None
 

@@ -1,12 +1,13 @@
 -- Resolved trees. What an index, an application or `image` is depends on types: `m[i]` may be an item of a matrix, a
 -- component of a tuple or a field of a record, and `f(x)` is Boolean where f gives truth values. In a resolved tree these
--- nodes say so, and the indices that are no values have become steps. Every meaning is that of a resolved tree; a tree
--- without types stays as it is.
+-- nodes say so, and the indices that are no values have become steps. An application of a function has become `image`, so
+-- that one that is left is of a relation. Every meaning is that of a resolved tree; a tree without types stays as it is.
 use Rattle.std.specs.Prelude.{◌≡◌, ◌||◌, List, [], ◌∷◌, Option, Some, None}
-use Rattle.ess_semantics.specs.Values.{a_tuple, a_record}
+use Rattle.ess_semantics.specs.declared.words.Fun.{Fun}
+use Rattle.ess_semantics.specs.Values.{a_tuple, a_function, a_record}
 use Rattle.ess_semantics.specs.Names.{Names}
-use Rattle.ess_semantics.specs.Trees.{Step, by_value, to_component, to_field, Op, index, is_truth_op, Ex, Exs, number_ex, truth_ex, name_ex, node_ex, matrix_ex, comp_ex, cell_ex, seen_ex, no_exs, more_exs, Gens, no_gens, over, from, cond, Dom, Doms, bool_dom, int_dom, name_dom, tuple_dom, record_dom, matrix_dom, set_dom, mset_dom, function_dom, relation_dom, partition_dom, no_doms, more_doms}
-use Rattle.ess_semantics.specs.Types.{Ty, compound, is_bool, type_of_dom, bind_types}
+use Rattle.ess_semantics.specs.Trees.{Step, by_value, to_component, to_field, Op, word, index, application, is_truth_op, Ex, Exs, number_ex, truth_ex, name_ex, node_ex, matrix_ex, comp_ex, cell_ex, seen_ex, no_exs, more_exs, Gens, no_gens, over, from, cond, Dom, Doms, bool_dom, int_dom, name_dom, tuple_dom, record_dom, matrix_dom, set_dom, mset_dom, function_dom, relation_dom, partition_dom, no_doms, more_doms}
+use Rattle.ess_semantics.specs.Types.{Ty, compound, compound2, is_bool, type_of_dom, bind_types}
 use Rattle.ess_semantics.specs.Lists.{tail_of}
 use Rattle.ess_semantics.specs.Typing.{Static, a_number, a_name, statics, type_behind, type_of, types_of, source_ty}
 
@@ -40,10 +41,15 @@ abbrev pub kept_operands : List Step → List Step → Exs → Exs
 kept_operands qs rs no_exs = no_exs
 kept_operands qs rs (more_exs e es) = more_exs e (kept_indices qs rs es)
 
--- A node with its mark, its steps and its operands, where t is its type, and the operands say ss and have the types us.
+-- The operator of a node whose operands have these types: a function at an argument is `image`.
+abbrev pub resolved_op : Op → List (Option Ty) → Op
+resolved_op application (Some (compound2 a_function a b) ∷ u ∷ []) = word Fun.Image
+resolved_op op us = op
+
+-- A node with its mark, its operator, its steps and its operands, where t is its type, and the operands say ss and have the types us.
 abbrev pub resolved_node : Option Ty → Op → Exs → List Static → List (Option Ty) → Ex
 resolved_node t (index qs) es ss us = let rs : List Step = resolved_steps qs ss us in node_ex (is_bool t) (index rs) (kept_operands qs rs es)
-resolved_node t op es ss us = node_ex (is_truth_op op || is_bool t) op es
+resolved_node t op es ss us = node_ex (is_truth_op op || is_bool t) (resolved_op op us) es
 
 abbrev mutual
   -- The expression, resolved under the types of names.

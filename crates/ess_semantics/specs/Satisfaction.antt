@@ -1,12 +1,12 @@
 -- When tables satisfy a model under given tables: they are those that it declares, over the declared axes and with items
 -- in the declared domains, and each constraint is true.
-use Rattle.std.specs.Prelude.{ℕ, suc, Bool, true, false, ◌&&◌, not, if◌then◌else◌, List, [], ◌∷◌, ◌++◌, map, ℤ, pos, Option, Some, None, IsTrue, is_some, ◌≡◌, int_le, ◌+ℤ◌}
+use Rattle.std.specs.Prelude.{ℕ, suc, Bool, true, false, ◌&&◌, not, if◌then◌else◌, List, [], ◌∷◌, ◌++◌, ℤ, pos, Option, Some, None, IsTrue, is_some, ◌≡◌, int_le, ◌+ℤ◌}
 use Rattle.std.specs.List.{list_all, list_any}
 use Rattle.ess_semantics.specs.DeclaredTables.{TableDecl, axis_members}
 use Rattle.ess_semantics.specs.Lists.{and_then, each_of, is_some_and, is_none_or}
 use Rattle.ess_semantics.specs.Values.{Text}
 use Rattle.ess_semantics.specs.Order.{same_text}
-use Rattle.ess_semantics.specs.Names.{Names, look, keys, is_among}
+use Rattle.ess_semantics.specs.Names.{Names, keys, is_among}
 use Rattle.ess_semantics.specs.Trees.{Ex, Dom}
 use Rattle.ess_semantics.specs.Operators.{int_of}
 use Rattle.ess_semantics.specs.Domains.{Span, Domain}
@@ -22,13 +22,14 @@ axis_of ds q d = axis_members (model_domain ds q d)
 
 -- ---- runs of members
 
+-- Whether a range has a member.
+abbrev pub is_run : Span → Bool
+is_run r = is_none_or r.low (λ a. is_none_or r.high (λ b. int_le a b))
+
 -- The ranges rise, and between one and the next a number is missing.
 abbrev pub runs_rise : List Span → Bool
 runs_rise [] = true
 runs_rise (r ∷ []) = is_run r
-  where
-    is_run : Span → Bool
-    is_run t = is_none_or t.low (λ a. is_none_or t.high (λ b. int_le a b))
 runs_rise (r ∷ s ∷ rs) =
     is_some_and r.high (λ b. is_none_or r.low (λ a. int_le a b) && is_some_and s.low (λ c. int_le (b +ℤ pos 2) c)) && runs_rise (s ∷ rs)
 
@@ -93,23 +94,26 @@ abbrev pub first_missing_table : List TableDecl → Names Table → Option Text
 first_missing_table [] c = None
 first_missing_table (d ∷ ds) c = if is_among (keys c) d.name then first_missing_table ds c else Some d.name
 
--- The first table that isn't declared.
+-- The first table that doesn't stand in the place of its declaration: where none is missing and all are in order of
+-- declaration, one that isn't declared, or a second one of its name.
 abbrev pub first_extra_table : List TableDecl → Names Table → Option Text
 first_extra_table ds [] = None
-first_extra_table ds (t ∷ ts) = if is_among (map (λ d. d.name) ds) t.0 then first_extra_table ds ts else Some t.0
+first_extra_table [] (t ∷ ts) = Some t.0
+first_extra_table (d ∷ ds) (t ∷ ts) = if same_text d.name t.0 then first_extra_table ds ts else Some t.0
 
--- The first declared table that isn't over its axes or has an item outside its domain.
-abbrev pub first_outside : Model → Names Table → Names Table → List TableDecl → Option Text
-first_outside E q c [] = None
-first_outside E q c (d ∷ ds) =
-    if is_some_and (look c d.name) (table_fits (all_decls E) q d) then first_outside E q c ds else Some d.name
+-- The first declared table that isn't over its axes or has an item outside its domain, where the tables stand in order of
+-- declaration.
+abbrev pub first_outside : Model → Names Table → List TableDecl → Names Table → Option Text
+first_outside E q [] ts = None
+first_outside E q (d ∷ ds) [] = Some d.name
+first_outside E q (d ∷ ds) (t ∷ ts) = if table_fits (all_decls E) q d t.1 then first_outside E q ds ts else Some d.name
 
 -- The first constraint that is false, counted from k.
 abbrev pub first_false : Model → Names Table → Names Table → ℕ → List Ex → Option ℕ
 first_false E q c k [] = None
 first_false E q c k (e ∷ es) = if rule_holds E q c e then first_false E q c (suc k) es else Some k
 
--- The verdict on found tables.
+-- The verdict on found tables in order of declaration.
 abbrev pub model_verdict : Model → Names Table → Names Table → ModelVerdict
 model_verdict E q c =
     if not (list_all (domain_has_meaning E q) (all_decls E)) then undefined else (
@@ -117,7 +121,7 @@ model_verdict E q c =
       | Some x ↦ missing_table x
       | None ↦ elim (first_extra_table E.finds c) [
         | Some x ↦ extra_table x
-        | None ↦ elim (first_outside E q c E.finds) [
+        | None ↦ elim (first_outside E q E.finds c) [
           | Some x ↦ outside_domain x
           | None ↦ elim (first_false E q c 1 E.rules) [ Some k ↦ false_rule k | None ↦ satisfied ]
         ]

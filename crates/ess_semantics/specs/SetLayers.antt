@@ -9,7 +9,7 @@ use Rattle.ess_semantics.specs.Numbers.{natural, one_to}
 use Rattle.ess_semantics.specs.Domains.{Attribute, Domain, booleans, integers, named, member_list}
 use Rattle.ess_semantics.specs.Attributes.{set_attributes_hold}
 use Rattle.ess_semantics.specs.Sizes.{slots_of_set}
-use Rattle.ess_semantics.specs.Tables.{Tables, code, atom_value, truth_number, one_cell, row_of}
+use Rattle.ess_semantics.specs.Tables.{Table, Tables, code, atom_value, truth_number, one_cell, row_of}
 use Rattle.ess_semantics.specs.Cells.{Grid, only_grid, first_grid}
 use Rattle.ess_semantics.specs.Layers.{Layer, Use, all_slots, up_to_marker, where_flagged, Slot, codes_of, as_numbers, up_to, fixed_table, widened_table, plain_layer, some_each, own_cell, own_row, count_true, chosen, only_child, how_many, flags_table}
 
@@ -103,18 +103,25 @@ dummies_rise n m f = list_all (λ k. not (holds_member m f (k +ℤ pos 1)) || sl
 abbrev pub members_held : ℕ → ℤ → Grid → ℕ
 members_held n m f = length (filter (holds_member m f) (one_to n))
 
+-- The set of the members in n slots, where m is the dummy.
+abbrev pub set_in_slots : ℕ → Domain → ℤ → Grid → Option Value
+set_in_slots n d m f = option_map (λ ls. set_of (append_all ls)) (each_of (one_to n) (λ k. and_then (f (k ∷ [])) (but_dummy d m)))
+
+-- n slots with the members, and the dummy m behind them.
+abbrev pub members_and_dummies : ℕ → ℤ → Value → Table
+members_and_dummies n m v = row_of (one_to n) (map code (items_of v) ++ replicate (n - length (items_of v)) m)
+
+-- Each slot is there, and the dummies are last.
+abbrev pub ends_in_dummies : ℕ → ℤ → Grid → Bool
+ends_in_dummies n m f = is_some_and (each_of (one_to n) (λ k. f (k ∷ []))) (dummies_last m)
+
 -- Slots for the members, where the dummy stands for no member.
 abbrev pub dummy_layer : List Attribute → Domain → Layer
 dummy_layer ks d =
     let n : ℕ = slots_of_set ks d in
-    record (plain_layer (λ c vss. only_grid c (λ f. and_then (dummy_of d) (λ m.
-    option_map (λ ls. set_of (append_all ls)) (each_of (one_to n) (λ k. and_then (f (k ∷ [])) (but_dummy d m))))))) {
+    record (plain_layer (λ c vss. only_grid c (λ f. and_then (dummy_of d) (λ m. set_in_slots n d m f)))) {
       own = widened_table (one_to n ∷ []) (with_number (dummy_of d) (as_numbers d)) ∷ [];
-      own_tables = λ v ss.
-          elim (dummy_of d) [
-            | None ↦ []
-            | Some m ↦ row_of (one_to n) (map code (items_of v) ++ replicate (n - length (items_of v)) m) ∷ []
-          ];
+      own_tables = λ v ss. elim (dummy_of d) [ None ↦ [] | Some m ↦ members_and_dummies n m v ∷ [] ];
       is_canonical = λ c vss. is_some_and (dummy_of d) (λ m. dummies_rise n m (first_grid c) && set_attributes_hold ks (members_held n m (first_grid c)));
-      is_tidy = λ c. is_some_and (dummy_of d) (λ m. is_some_and (each_of (one_to n) (λ k. first_grid c (k ∷ []))) (dummies_last m));
+      is_tidy = λ c. is_some_and (dummy_of d) (λ m. ends_in_dummies n m (first_grid c));
     }

@@ -1,6 +1,6 @@
 -- The numbers that may lie outside 64 bits in the domains that a model declares: the parts of the specification's bounds,
 -- attribute values and type sizes, the sizes that its representations take with the parts of these, the differences of
--- two bounds of a domain, and each of them plus 1.
+-- two bounds of a domain, the numbers of values of named types, and each of them plus 1.
 use Rattle.std.specs.Prelude.{ℕ, suc, ◌*◌, ◌^◌, Bool, true, false, ◌&&◌, ◌||◌, not, if◌then◌else◌, List, [], ◌∷◌, ◌++◌, map, ℤ, pos, ◌+ℤ◌, ◌-ℤ◌, Some, None, is_some}
 use Rattle.std.specs.List.{list_all}
 use Rattle.ess_semantics.specs.declared.words.Op1.{Op1}
@@ -124,11 +124,16 @@ numbers_of_statement_small s env =
     in_each (declared_domain s) (λ d. list_all (λ e. part_stays_small e env) (parts_of_dom d)) &&
     in_each (declared_size s) (λ e. list_all (λ f. part_stays_small f env) (parts_of e))
 
+-- The number of values of each named type, and that plus 1, is in 64 bits.
+abbrev pub types_are_small : List Stm → Assignment → Bool
+types_are_small S p = list_all in_64_bits (with_next (map (λ t. pos t.count) (env_of S p nothing_given).types))
+
 -- None of these numbers is outside 64 bits under the parameter p.
 abbrev pub numbers_are_small : List Stm → Options → Assignment → Bool
 numbers_are_small S o p =
     list_all (λ l. numbers_of_statement_small l.stm l.env) (placed S p nothing_given) &&
-    list_all in_64_bits (with_next (append_all (map (numbers_of_plan (env_of S p nothing_given)) (plans S o))))
+    list_all in_64_bits (with_next (append_all (map (numbers_of_plan (env_of S p nothing_given)) (plans S o)))) &&
+    types_are_small S p
 
 -- ---- the domains of which this is said
 

@@ -1,6 +1,6 @@
 -- How many slots a set, multiset, function or relation needs at most, and the domains of children that are no part of
 -- the domain itself.
-use Rattle.std.specs.Prelude.{ℕ, suc, ◌*◌, ◌^◌, Bool, if◌then◌else◌, List, [], ◌∷◌, ◌++◌, length, pos, Option, Some, None}
+use Rattle.std.specs.Prelude.{ℕ, suc, ◌*◌, ◌^◌, if◌then◌else◌, List, [], ◌∷◌, ◌++◌, length, pos, Option, Some, None}
 use Rattle.ess_semantics.specs.declared.words.Key.{Key}
 use Rattle.ess_semantics.specs.Lists.{or_else, or_default}
 use Rattle.ess_semantics.specs.Domains.{Attribute, numbered, Domain, Domains, booleans, integers, named, tuples, records, matrices, sets, msets, functions, relations, partitions, no_domains, more_domains, member_list, attribute, has}
@@ -52,16 +52,17 @@ sized_if k (Some n) = numbered k (pos n) ∷ []
 abbrev pub size_attributes : Option ℕ → Option ℕ → Option ℕ → List Attribute
 size_attributes s a b = sized_if Key.Size s ++ sized_if Key.MinSize a ++ sized_if Key.MaxSize b
 
--- The relation of a function's pairs. A total function has as many pairs as its first domain has members; any other
--- one without `size` and `maxSize` has at most the bound of its first domain.
+-- The attributes of the relation of a function's pairs. A total function has as many pairs as its first domain has members;
+-- any other one without `size` and `maxSize` has at most the bound of its first domain.
+abbrev pub pair_sizes : List Attribute → Domain → List Attribute
+pair_sizes ks d =
+    if has Key.Total ks then size_attributes (Some (bound d)) (attribute Key.MinSize ks) (attribute Key.MaxSize ks)
+    else size_attributes (attribute Key.Size ks) (attribute Key.MinSize ks)
+    (if has Key.Size ks then attribute Key.MaxSize ks else or_else (attribute Key.MaxSize ks) (Some (bound d)))
+
+-- The relation of a function's pairs.
 abbrev pub child_relation : List Attribute → Domain → Domain → Domain
-child_relation ks d c = relations (pair_sizes (has Key.Total ks)) (more_domains d (more_domains c no_domains))
-  where
-    pair_sizes : Bool → List Attribute
-    pair_sizes total =
-        if total then size_attributes (Some (bound d)) (attribute Key.MinSize ks) (attribute Key.MaxSize ks)
-        else size_attributes (attribute Key.Size ks) (attribute Key.MinSize ks)
-        (if has Key.Size ks then attribute Key.MaxSize ks else or_else (attribute Key.MaxSize ks) (Some (bound d)))
+child_relation ks d c = relations (pair_sizes ks d) (more_domains d (more_domains c no_domains))
 
 -- The set of a relation's tuples.
 abbrev pub child_set : List Attribute → Domains → Domain

@@ -1,16 +1,19 @@
 -- Total expressions, by which undefined terms in the sense of Frisch and Stuckey (2009) are done away with: no operator has
--- nothing where its operands have something. Numbers, names, cells and views are operands and never operators. A conjunct
--- beside a partial operator doesn't make it total.
+-- nothing where its operands have something. Of a Boolean this is asked before it counts as false where it has nothing.
+-- Numbers, names, cells and views are operands and never operators. A conjunct beside a partial operator doesn't make it
+-- total; a condition of a comprehension around it does. An index of a name that runs over several matrices is total behind
+-- a condition that says of some of them that it is the one and has the index.
 use Rattle.std.specs.Prelude.{List, Option, IsTrue, is_some}
 use Rattle.std.specs.List.{list_all}
 use Rattle.ess_semantics.specs.Values.{Value}
 use Rattle.ess_semantics.specs.Trees.{Ex, Exs, number_ex, truth_ex, name_ex, node_ex, matrix_ex, comp_ex, cell_ex, seen_ex, no_exs, more_exs, Gens, no_gens, over, from, cond, Dom, Doms, bool_dom, int_dom, name_dom, tuple_dom, record_dom, matrix_dom, set_dom, mset_dom, function_dom, relation_dom, partition_dom, no_doms, more_doms}
+use Rattle.ess_semantics.specs.Operators.{value_of_node}
 use Rattle.ess_semantics.specs.Meaning.{Env, meaning, meanings, domain_of, members_in, with_pat, has_meaning}
 use Rattle.ess_semantics.specs.Contexts.{EachOf, EachIn, WhenTrue}
 
--- An operator whose operands are all there has a value.
-abbrev pub HasValue : Ex → List (Option Value) → Env → Type 0
-HasValue e os env = IsTrue (list_all is_some os) → IsTrue (is_some (meaning e env))
+-- The value is there where all operands are.
+abbrev pub HasValue : Option Value → List (Option Value) → Type 0
+HasValue o os = IsTrue (list_all is_some os) → IsTrue (is_some o)
 
 abbrev mutual
   -- Each operator of the expression is total, at each binding of generators whose conditions hold.
@@ -18,8 +21,9 @@ abbrev mutual
   Total (number_ex n) env = Unit {0}
   Total (truth_ex b) env = Unit {0}
   Total (name_ex a) env = Unit {0}
-  Total (node_ex b op es) env = HasValue (node_ex b op es) (meanings es env) env × TotalAll es env
-  Total (matrix_ex es d) env = (IsTrue (has_meaning d env) → HasValue (matrix_ex es d) (meanings es env) env) × TotalAll es env × TotalDom d env
+  Total (node_ex b op es) env = HasValue (value_of_node op (meanings es env)) (meanings es env) × TotalAll es env
+  Total (matrix_ex es d) env =
+      (IsTrue (has_meaning d env) → HasValue (meaning (matrix_ex es d) env) (meanings es env)) × TotalAll es env × TotalDom d env
   Total (comp_ex e gs) env = TotalUnder gs env (λ here. Total e here)
   Total (cell_ex b n es) env = TotalAll es env
   Total (seen_ex r d ns es) env = Unit {0}

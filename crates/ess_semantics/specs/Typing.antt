@@ -5,7 +5,7 @@ use Rattle.ess_semantics.specs.Values.{Text, a_tuple, a_matrix, a_record}
 use Rattle.ess_semantics.specs.Order.{same_text}
 use Rattle.ess_semantics.specs.Names.{Names, look}
 use Rattle.ess_semantics.specs.Trees.{Step, by_value, to_component, to_field, Op, index, Ex, Exs, Gens, number_ex, truth_ex, name_ex, node_ex, matrix_ex, comp_ex, cell_ex, seen_ex, no_exs, more_exs, no_gens, over, from, cond}
-use Rattle.ess_semantics.specs.Types.{Ty, Tys, any_ty, bool_ty, int_ty, compound, more_tys, compound2, fit, join, join_all, or_any, type_of_dom, bind_types}
+use Rattle.ess_semantics.specs.Types.{Ty, Tys, any_ty, bool_ty, int_ty, named_ty, compound, more_tys, compound2, fit, join, join_all, or_any, type_of_dom, bind_types}
 use Rattle.ess_semantics.specs.OperatorTypes.{member_ty, type_of_op}
 
 -- ---- indices
@@ -65,8 +65,13 @@ type_of_node op ss us = and_then (all_some us) (type_of_op op)
 
 -- ---- expressions
 
+-- The type of a cell that isn't a Boolean: the named type that its table's name has, else int.
+abbrev pub number_cell_ty : Option Ty → Ty
+number_cell_ty (Some (named_ty t)) = named_ty t
+number_cell_ty _ = int_ty
+
 abbrev mutual
-  -- A cell is a Boolean where it says so; else its type is the one that its place asks for.
+  -- The type of an expression. A cell is a Boolean where it says so.
   pub type_of : Ex → Names Ty → Option Ty
   type_of (number_ex n) g = Some int_ty
   type_of (truth_ex b) g = Some bool_ty
@@ -74,7 +79,7 @@ abbrev mutual
   type_of (node_ex b op es) g = type_of_node op (statics es) (types_of es g)
   type_of (matrix_ex es d) g = and_then (all_some (types_of es g)) (λ ts. option_map (compound2 a_matrix (type_of_dom d)) (join_all ts))
   type_of (comp_ex e gs) g = and_then (types_under gs g) (λ h. option_map (compound2 a_matrix int_ty) (type_of e h))
-  type_of (cell_ex b n es) g = Some (if b then bool_ty else any_ty)
+  type_of (cell_ex b n es) g = Some (if b then bool_ty else number_cell_ty (look g n))
   type_of (seen_ex r d ns es) g = Some (type_of_dom d)
 
   -- The types of operands, each there or not.

@@ -198,17 +198,3 @@ pub enum ReprKind {
     /// A partition by the set of its parts.
     PartitionAsSet,
 }
-
-#[cfg(test)]
-mod tests {
-    use super::*;
-
-    #[test]
-    fn words_are_told_apart(rt: HostRuntime) {
-        assert_eq!(rt; Op1::Not == Op1::Minus, false);
-        assert_eq!(rt; Op2::And, Op2::And);
-        assert_eq!(rt; Fun::And == Fun::Or, false);
-        assert_eq!(rt; Key::Size, Key::Size);
-        assert_eq!(rt; ReprKind::Matrix == ReprKind::Occurrence, false);
-    }
-}

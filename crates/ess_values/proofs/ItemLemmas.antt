@@ -14,8 +14,11 @@ use Rattle.ess_semantics.specs.Values.{Text, Value, item}
 use Rattle.ess_semantics.specs.Types.{named_ty}
 use Rattle.ess_semantics.specs.Order.{same_text, order_text}
 use Rattle.ess_semantics.specs.Meaning as meaning
-use Rattle.ess_semantics.specs.Judgements.{is_digit, are_digits, after_prefix}
-use Rattle.ess_semantics.specs.Literals.{number_of, unnamed_item, named_item, item_of_name}
+use Rattle.ess_semantics.specs.NameTokens.{is_digit}
+use Rattle.ess_semantics.specs.NameTokens.{are_digits}
+use Rattle.ess_semantics.specs.Judgements.{after_prefix}
+use Rattle.ess_semantics.specs.NameTokens.{value_after as number_of}
+use Rattle.ess_semantics.specs.Literals.{unnamed_item, named_item, item_of_name}
 use Rattle.ess_semantics.specs.Assignments.{unnamed_name}
 use Rattle.ess_semantics.proofs.Orders.{text_exact, equal-of}
 use Rattle.ess_core.specs.TableViews.{pure_type_entry, pure_type_entries}

@@ -1,5 +1,5 @@
 -- The join of types, part by part.
-use Rattle.std.proofs.Common.{◌≡◌, refl, sym, ap, ◌∙◌, ℕ, zero, suc, ◌+◌, ◌<◌, ◌≤◌, true, false, eqb, if◌then◌else◌, List, [], ◌∷◌, ◌++◌, length, map, drop, get_or, Option, Some, None, option_map, arith}
+use Rattle.std.proofs.Common.{◌≡◌, refl, sym, ap, ◌∙◌, ℕ, zero, suc, ◌+◌, ◌<◌, ◌≤◌, Bool, true, false, eqb, if◌then◌else◌, List, [], ◌∷◌, ◌++◌, length, map, drop, get_or, Option, Some, None, option_map, arith}
 use Rattle.std.proofs.lemmas.List.{at_drop_more, at_drop_all, map_push}
 use Rattle.std.proofs.lemmas.Cmp.{tied_itself}
 use Rattle.std.specs.Ordering.{is_eq, ordering_then}
@@ -11,7 +11,7 @@ use Rattle.ess_semantics.specs.Values.{Text, node, nil}
 use Rattle.std.proofs.lemmas.Bool.{false≢true}
 use Rattle.std.proofs.lemmas.Bool.Decides.{nat_tests}
 use Rattle.ess_semantics.specs.Order.{same_kind, same_text, same_texts, order_text, order_texts, order_kind, kind_rank, kind_fields}
-use Rattle.ess_semantics.specs.Types.{Ty, Tys, any_ty, bool_ty, int_ty, named_ty, compound, no_tys, more_tys, tys_of, join, joins, join_all}
+use Rattle.ess_semantics.specs.Types.{Ty, Tys, any_ty, bool_ty, int_ty, named_ty, compound, no_tys, more_tys, tys_of, is_relation, is_open, join, joins, join_all}
 use Rattle.ess_semantics.proofs.Orders.{texts_total, order_exact, equal-of}
 use Rattle.std.proofs.lemmas.Cmp.{nat_cmp_total}
 use Rattle.ess_values.specs.Shapes.{pure_kind, pure_shape, pure_shapes, join_lists}
@@ -53,29 +53,31 @@ joins_lists (t ∷ ts) (u ∷ us) = go (join t u) (joins_lists ts us)
     go None e = refl
     go (Some v) e = inner v (join_lists ts us) (joins (tys_of ts) (tys_of us)) e
 
-nodes_each : (k : pure.Kind) (t u : Ty) (ts us : List Ty) → join (compound k (tys_of (t ∷ ts))) (compound k (tys_of (u ∷ us))) ≡ option_map (λ vs. compound k (tys_of vs)) (join_lists (t ∷ ts) (u ∷ us))
-nodes_each k t u ts us =
-    ap (λ b. if b then and_then (join t u) (λ v. option_map (λ vs. compound k (more_tys v vs)) (joins (tys_of ts) (tys_of us))) else None) (kind_itself k)
-    ∙ go (join t u) (joins_lists ts us)
-  where
-    inner : (v : Ty) (o : Option (List Ty)) (p : Option Tys) → p ≡ option_map tys_of o
-        → option_map (λ vs. compound k (more_tys v vs)) p ≡ option_map (λ vs. compound k (tys_of vs)) (option_map (λ vs. v ∷ vs) o)
-    inner v None p e = ap (option_map (λ vs. compound k (more_tys v vs))) e
-    inner v (Some vs) p e = ap (option_map (λ vs. compound k (more_tys v vs))) e
-
-    go : (o : Option Ty) → joins (tys_of ts) (tys_of us) ≡ option_map tys_of (join_lists ts us)
-        → and_then o (λ v. option_map (λ vs. compound k (more_tys v vs)) (joins (tys_of ts) (tys_of us))) ≡ option_map (λ vs. compound k (tys_of vs)) (and_then o (λ v. option_map (λ vs. v ∷ vs) (join_lists ts us)))
-    go None e = refl
-    go (Some v) e = inner v (join_lists ts us) (joins (tys_of ts) (tys_of us)) e
-
 -- ---- the join of two nodes of one kind
 
-pub node_first : (k : pure.Kind) (us : Tys) → join (compound k no_tys) (compound k us) ≡ Some (compound k us)
-node_first k us = ap (λ b. when b (compound k us)) (kind_itself k)
+-- two types of one kind, neither of which is that of a relation of unknown arity
+nodes_each : (k : pure.Kind) (ts us : List Ty) → is_open k (tys_of ts) ≡ false → is_open k (tys_of us) ≡ false →
+    join (compound k (tys_of ts)) (compound k (tys_of us)) ≡ option_map (λ vs. compound k (tys_of vs)) (join_lists ts us)
+nodes_each k ts us h i =
+    ap (λ b. if b then option_map (compound k) (if is_open k (tys_of ts) then Some (tys_of us) else (if is_open k (tys_of us) then Some (tys_of ts) else joins (tys_of ts) (tys_of us))) else None) (kind_itself k)
+    ∙ ap (λ b. option_map (compound k) (if b then Some (tys_of us) else (if is_open k (tys_of us) then Some (tys_of ts) else joins (tys_of ts) (tys_of us)))) h
+    ∙ ap (λ b. option_map (compound k) (if b then Some (tys_of ts) else joins (tys_of ts) (tys_of us))) i
+    ∙ ap (option_map (compound k)) (joins_lists ts us) ∙ inner (join_lists ts us)
+  where
+    inner : (o : Option (List Ty)) → option_map (compound k) (option_map tys_of o) ≡ option_map (λ vs. compound k (tys_of vs)) o
+    inner None = refl
+    inner (Some vs) = refl
 
-pub node_second : (k : pure.Kind) (ts : Tys) → join (compound k ts) (compound k no_tys) ≡ Some (compound k ts)
-node_second k no_tys = node_first k no_tys
-node_second k (more_tys t ts) = ap (λ b. when b (compound k (more_tys t ts))) (kind_itself k)
+node_first : (k : pure.Kind) (ts us : Tys) → is_open k ts ≡ true → join (compound k ts) (compound k us) ≡ Some (compound k us)
+node_first k ts us h =
+    ap (λ b. if b then option_map (compound k) (if is_open k ts then Some us else (if is_open k us then Some ts else joins ts us)) else None) (kind_itself k)
+    ∙ ap (λ b. option_map (compound k) (if b then Some us else (if is_open k us then Some ts else joins ts us))) h
+
+node_second : (k : pure.Kind) (ts us : Tys) → is_open k ts ≡ false → is_open k us ≡ true → join (compound k ts) (compound k us) ≡ Some (compound k ts)
+node_second k ts us h i =
+    ap (λ b. if b then option_map (compound k) (if is_open k ts then Some us else (if is_open k us then Some ts else joins ts us)) else None) (kind_itself k)
+    ∙ ap (λ b. option_map (compound k) (if b then Some us else (if is_open k us then Some ts else joins ts us))) h
+    ∙ ap (λ b. option_map (compound k) (if b then Some ts else joins ts us)) i
 
 pub kinds_equal : (k l : pure.Kind) → same_kind k l ≡ true → k ≡ l
 kinds_equal k l h = let e = order_exact (node k nil) (node l nil) (ap (λ o. ordering_then o Equal) (equal-of (order_kind k l) h)) in cc
@@ -90,40 +92,41 @@ pub nil_of_test : {A : Type 0} (xs : List A) → eqb (length xs) 0 ≡ true → 
 nil_of_test [] h = refl
 nil_of_test (x ∷ xs) h = absurd (grind (arith, nat_tests))
 
-some_of_test : {A : Type 0} (xs : List A) → eqb (length xs) 0 ≡ false → 0 < length xs
-some_of_test [] h = absurd (false≢true (sym h))
-some_of_test (x ∷ xs) h = omega arith
+-- whether the parts are those of a relation of unknown arity
+pub open_relation : (k : Kind) (xs : List Shape) (b : Bool) → eqb (length xs) 0 ≡ true → b ≡ is_relation (pure_kind k) → b ≡ is_open (pure_kind k) (pure_shapes xs)
+open_relation k [] b h e = e
+open_relation k (x ∷ xs) b h e = absurd (grind (arith, nat_tests))
 
--- the one has no parts
-pub node_left : (k l : Kind) (xs ys zs : List Shape) → eqb (length xs) 0 ≡ true → l ≡ k → zs ≡ ys
+pub open_other : (k : Kind) (xs : List Shape) → eqb (length xs) 0 ≡ false → false ≡ is_open (pure_kind k) (pure_shapes xs)
+open_other k [] h = absurd (false≢true (sym h))
+open_other k (x ∷ xs) h = refl
+
+-- the first is that of a relation of unknown arity
+pub node_left : (k l : Kind) (xs ys zs : List Shape) → is_open (pure_kind k) (pure_shapes xs) ≡ true → l ≡ k → zs ≡ ys
     → Some (pure_shape (variant.Node l zs)) ≡ join (compound (pure_kind k) (pure_shapes xs)) (compound (pure_kind k) (pure_shapes ys))
 node_left k l xs ys zs e p q =
     ap (λ m. Some (pure_shape (variant.Node m zs))) p ∙ ap (λ m. Some (pure_shape (variant.Node k m))) q
-    ∙ sym (ap (λ m. join (compound (pure_kind k) (pure_shapes m)) (compound (pure_kind k) (pure_shapes ys))) (nil_of_test xs e)
-    ∙ node_first (pure_kind k) (pure_shapes ys) ∙ ap Some (sym (shape_node k ys)))
+    ∙ sym (node_first (pure_kind k) (pure_shapes xs) (pure_shapes ys) e ∙ ap Some (sym (shape_node k ys)))
 
-pub node_right : (k l : Kind) (xs ys zs : List Shape) → eqb (length ys) 0 ≡ true → l ≡ k → zs ≡ xs
+-- the second is
+pub node_right : (k l : Kind) (xs ys zs : List Shape) → is_open (pure_kind k) (pure_shapes xs) ≡ false → is_open (pure_kind k) (pure_shapes ys) ≡ true → l ≡ k → zs ≡ xs
     → Some (pure_shape (variant.Node l zs)) ≡ join (compound (pure_kind k) (pure_shapes xs)) (compound (pure_kind k) (pure_shapes ys))
-node_right k l xs ys zs e p q =
+node_right k l xs ys zs d e p q =
     ap (λ m. Some (pure_shape (variant.Node m zs))) p ∙ ap (λ m. Some (pure_shape (variant.Node k m))) q
-    ∙ sym (ap (λ m. join (compound (pure_kind k) (pure_shapes xs)) (compound (pure_kind k) (pure_shapes m))) (nil_of_test ys e)
-    ∙ node_second (pure_kind k) (pure_shapes xs) ∙ ap Some (sym (shape_node k xs)))
+    ∙ sym (node_second (pure_kind k) (pure_shapes xs) (pure_shapes ys) d e ∙ ap Some (sym (shape_node k xs)))
 
-pub node_both : (k : Kind) (xs ys : List Shape) → 0 < length xs → 0 < length ys
-    → join (compound (pure_kind k) (pure_shapes xs)) (compound (pure_kind k) (pure_shapes ys)) ≡ option_map (λ vs. compound (pure_kind k) (tys_of vs)) (join_lists (map pure_shape xs) (map pure_shape ys))
-node_both k [] ys h i = absurd (omega arith)
-node_both k (x ∷ xs) [] h i = absurd (omega arith)
-node_both k (x ∷ xs) (y ∷ ys) h i = nodes_each (pure_kind k) (pure_shape x) (pure_shape y) (map pure_shape xs) (map pure_shape ys)
-
-pub node_each : (k l : Kind) (xs ys ps : List Shape) → eqb (length xs) 0 ≡ false → eqb (length ys) 0 ≡ false → join_lists (map pure_shape xs) (map pure_shape ys) ≡ Some (map pure_shape ps) → l ≡ k
+-- neither is
+pub node_each : (k l : Kind) (xs ys ps : List Shape) → is_open (pure_kind k) (pure_shapes xs) ≡ false → is_open (pure_kind k) (pure_shapes ys) ≡ false
+    → join_lists (map pure_shape xs) (map pure_shape ys) ≡ Some (map pure_shape ps) → l ≡ k
     → Some (pure_shape (variant.Node l ps)) ≡ join (compound (pure_kind k) (pure_shapes xs)) (compound (pure_kind k) (pure_shapes ys))
 node_each k l xs ys ps h i e p =
     ap (λ m. Some (pure_shape (variant.Node m ps))) p
-    ∙ sym (node_both k xs ys (some_of_test xs h) (some_of_test ys i) ∙ ap (option_map (λ vs. compound (pure_kind k) (tys_of vs))) e ∙ ap Some (sym (shape_node k ps)))
+    ∙ sym (nodes_each (pure_kind k) (map pure_shape xs) (map pure_shape ys) h i ∙ ap (option_map (λ vs. compound (pure_kind k) (tys_of vs))) e ∙ ap Some (sym (shape_node k ps)))
 
-pub node_none : (k : Kind) (xs ys : List Shape) → 0 < length xs → 0 < length ys → join_lists (map pure_shape xs) (map pure_shape ys) ≡ None
+pub node_none : (k : Kind) (xs ys : List Shape) → is_open (pure_kind k) (pure_shapes xs) ≡ false → is_open (pure_kind k) (pure_shapes ys) ≡ false
+    → join_lists (map pure_shape xs) (map pure_shape ys) ≡ None
     → join (compound (pure_kind k) (pure_shapes xs)) (compound (pure_kind k) (pure_shapes ys)) ≡ None
-node_none k xs ys h i e = node_both k xs ys h i ∙ ap (option_map (λ vs. compound (pure_kind k) (tys_of vs))) e
+node_none k xs ys h i e = nodes_each (pure_kind k) (map pure_shape xs) (map pure_shape ys) h i ∙ ap (option_map (λ vs. compound (pure_kind k) (tys_of vs))) e
 
 -- ---- the loop over pairs
 

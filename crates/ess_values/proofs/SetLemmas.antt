@@ -6,7 +6,7 @@ use Rattle.ess_semantics.specs.declared.words.Op1.{Op1}
 use Rattle.ess_semantics.specs.Lists.{and_then, when, all_some}
 use Rattle.ess_semantics.specs.Values.{Kind, Value, number, truth, item, node, a_tuple, a_matrix, a_set, a_mset, a_function, a_relation, a_partition, a_record}
 use Rattle.ess_semantics.specs.Order.{same_kind, same_text}
-use Rattle.ess_semantics.specs.Types.{Ty, Tys, any_ty, bool_ty, int_ty, named_ty, compound, no_tys, more_tys, join, joins, join_all, compound2, type_of_dom}
+use Rattle.ess_semantics.specs.Types.{Ty, Tys, any_ty, bool_ty, int_ty, named_ty, compound, no_tys, more_tys, is_open, join, joins, join_all, compound2, type_of_dom}
 use Rattle.ess_semantics.specs.Trees as pure
 use Rattle.ess_semantics.specs.Trees.{Op, unary, binary, word, index, application, tuple_literal, set_literal, mset_literal, function_literal, relation_literal, partition_literal, matrix_literal, record_literal, Exs, number_ex, truth_ex, name_ex, node_ex, matrix_ex, comp_ex, cell_ex, seen_ex, no_exs, more_exs}
 use Rattle.ess_semantics.specs.OperatorTypes.{type_of_op, type_of_list, function_ty, relation_ty, partition_ty}
@@ -50,24 +50,13 @@ parts_may (compound (a_record fs) ts) u e = cc
 abbrev JoinsTo : Kind → Kind → Ty → Type 0
 JoinsTo k l t = (may_be_set t ≡ is_set_kind k) × (l ≡ k)
 
-of_kind : (k l : Kind) (b : Bool) (t w : Ty) → same_kind k l ≡ b → may_be_set w ≡ is_set_kind k → when b w ≡ Some t → JoinsTo k l t
-of_kind k l true t w h m e = let q : t ≡ w = cc in (ap may_be_set q ∙ m, sym (kinds_equal k l h))
-of_kind k l false t w h m e = cc
-
 one_kind : (k l : Kind) (ts us : Tys) (t : Ty) → join (compound k ts) (compound l us) ≡ Some t → JoinsTo k l t
-one_kind k l no_tys us t e = elsewhere (same_kind k l) refl e
+one_kind k l ts us t e = go (same_kind k l) (if is_open k ts then Some us else (if is_open k us then Some ts else joins ts us)) refl e
   where
-    elsewhere : (b : Bool) → same_kind k l ≡ b → when b (compound l us) ≡ Some t → JoinsTo k l t
-    elsewhere true h e = let q : t ≡ compound l us = cc in let p = kinds_equal k l h in (ap may_be_set q ∙ ap is_set_kind (sym p), sym p)
-    elsewhere false h e = cc
-one_kind k l (more_tys a ts) no_tys t e = of_kind k l (same_kind k l) t (compound k (more_tys a ts)) refl refl e
-one_kind k l (more_tys a ts) (more_tys b us) t e = go (same_kind k l) (join a b) (joins ts us) refl e
-  where
-    go : (c : Bool) (o : Option Ty) (p : Option Tys) → same_kind k l ≡ c → (if c then and_then o (λ v. option_map (λ vs. compound k (more_tys v vs)) p) else None) ≡ Some t → JoinsTo k l t
-    go true None p h e = cc
-    go true (Some v) None h e = cc
-    go true (Some v) (Some vs) h e = of_kind k l true t (compound k (more_tys v vs)) h refl e
-    go false o p h e = cc
+    go : (b : Bool) (o : Option Tys) → same_kind k l ≡ b → (if b then option_map (compound k) o else None) ≡ Some t → JoinsTo k l t
+    go true None h e = cc
+    go true (Some vs) h e = let q : t ≡ compound k vs = cc in (ap may_be_set q, sym (kinds_equal k l h))
+    go false o h e = cc
 
 both_may : (t u w : Ty) → join t u ≡ Some w → may_be_set w ≡ true → (may_be_set t ≡ true) × (may_be_set u ≡ true)
 both_may any_ty u w e h = let q : u ≡ w = cc in (refl, ap may_be_set q ∙ h)
@@ -91,12 +80,9 @@ both_may (named_ty a) (named_ty b) w e h = go (same_text a b) e
     go false e = cc
 both_may (named_ty a) (compound l us) w e h = cc
 both_may (compound k ts) any_ty w e h = let q : w ≡ compound k ts = cc in (sym (ap may_be_set q) ∙ h, refl)
-both_may (compound k no_tys) bool_ty w e h = cc
-both_may (compound k (more_tys a ts)) bool_ty w e h = cc
-both_may (compound k no_tys) int_ty w e h = cc
-both_may (compound k (more_tys a ts)) int_ty w e h = cc
-both_may (compound k no_tys) (named_ty b) w e h = cc
-both_may (compound k (more_tys a ts)) (named_ty b) w e h = cc
+both_may (compound k ts) bool_ty w e h = cc
+both_may (compound k ts) int_ty w e h = cc
+both_may (compound k ts) (named_ty b) w e h = cc
 both_may (compound k ts) (compound l us) w e h = let j = one_kind k l ts us w e in let s = sym j.0 ∙ h in (s, ap is_set_kind j.1 ∙ s)
 
 -- ---- a literal's type and its value

@@ -4,8 +4,9 @@ use Rattle.ess_semantics.specs.Lists.{when, is_empty}
 use Rattle.ess_semantics.specs.Values.{Text, Value}
 use Rattle.ess_semantics.specs.Types.{Ty}
 use Rattle.ess_semantics.specs.Meaning.{TypeEntry}
-use Rattle.ess_semantics.specs.Judgements.{are_digits}
-use Rattle.ess_semantics.specs.Literals.{number_of, named_item, unnamed_item, type_of_item}
+use Rattle.ess_semantics.specs.NameTokens.{are_digits}
+use Rattle.ess_semantics.specs.NameTokens.{value_after as number_of}
+use Rattle.ess_semantics.specs.Literals.{named_item, unnamed_item, type_of_item}
 use Rattle.ess_values.specs.TypedLiterals.{both}
 
 -- The value of this type that a name names.

@@ -1,7 +1,7 @@
 ghost use Rattle.std.specs.Prelude.{◌≡◌, map, option_map, IfOk};
 ghost use Rattle.ess_semantics.specs.Lists.{when};
 ghost use Rattle.ess_semantics.specs.Order.{same_kind as same_kinds, same_text, same_texts};
-ghost use Rattle.ess_semantics.specs.Types.{join as join_of, join_all as join_of_all, named_ty, compound};
+ghost use Rattle.ess_semantics.specs.Types.{join as join_of, join_all as join_of_all, named_ty, compound, is_open, is_relation};
 ghost use Rattle.ess_values.specs.Shapes.{pure_kind, pure_shape, pure_shapes, join_lists};
 
 use crate::naming::same_name;
@@ -42,7 +42,7 @@ fn join_names(alloc: Global, a: &Text, b: &Text) -> Result<Option<Shape>, NoMemo
     }
 }
 
-/// The join of two types of one kind: the one has the parts of the other where it has none.
+/// The join of two types of one kind: a relation of unknown arity has the parts of the other one.
 #[cycle(join)]
 #[tactic(auto, using(crate::proofs::Joins::node_none))]
 fn join_nodes(
@@ -53,15 +53,39 @@ fn join_nodes(
 ) -> Result<Option<Shape>, NoMemory>
     ensures { IfOk result (λ o. option_map pure_shape o ≡ join_of (compound (pure_kind kind.now) (pure_shapes xs.now)) (compound (pure_kind kind.now) (pure_shapes ys.now))) }
 {
-    if xs.is_empty() {
+    if is_open(kind, xs) {
         return Ok(Some(Shape::Node(kind.copy(alloc)?, copy_shapes(alloc, ys)?)));
     }
-    if ys.is_empty() {
+    if is_open(kind, ys) {
         return Ok(Some(Shape::Node(kind.copy(alloc)?, copy_shapes(alloc, xs)?)));
     }
     match join_each(alloc, xs, ys)? {
         Some(parts) => Ok(Some(Shape::Node(kind.copy(alloc)?, parts))),
         None => Ok(None),
+    }
+}
+
+/// Whether these are the parts of a relation of unknown arity.
+#[tactic(auto, using(crate::proofs::Joins::open_relation, crate::proofs::Joins::open_other))]
+fn is_open(kind: &Kind, parts: &[Shape]) -> bool
+    ensures { result ≡ is_open (pure_kind kind.now) (pure_shapes parts.now) }
+{
+    parts.is_empty() && is_relation(kind)
+}
+
+/// Whether the kind is that of relations.
+fn is_relation(kind: &Kind) -> bool
+    ensures { result ≡ is_relation (pure_kind kind.now) }
+{
+    match kind {
+        Kind::Relation => true,
+        Kind::Tuple => false,
+        Kind::Matrix => false,
+        Kind::Set => false,
+        Kind::MSet => false,
+        Kind::Function => false,
+        Kind::Partition => false,
+        Kind::Rec(_) => false,
     }
 }
 

@@ -1,7 +1,8 @@
 ghost use Rattle.std.specs.Prelude.{◌≡◌, ◌++◌, ◌+◌, ◌-◌, ◌*◌, ◌&&◌, reverse, nat_le, IfOk, OnOk, option_map};
 ghost use Rattle.ess_semantics.specs.Lists.{and_then, when};
 ghost use Rattle.ess_semantics.specs.Values.{Text as Bytes, item as item_value};
-ghost use Rattle.ess_semantics.specs.Judgements.{is_digit, after_prefix};
+ghost use Rattle.ess_semantics.specs.NameTokens.{is_digit};
+ghost use Rattle.ess_semantics.specs.Judgements.{after_prefix};
 ghost use Rattle.ess_semantics.specs.Literals.{item_of_name, named_item, unnamed_item};
 ghost use Rattle.ess_values.specs.Items.{item_of_entry, typed_item, small_number};
 ghost use Rattle.ess_values.specs.Literals.{pure_literal};

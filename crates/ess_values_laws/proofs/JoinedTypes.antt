@@ -1,9 +1,9 @@
 -- The join of a list of types: the least that says what each says. Where it has parts, one of them has.
-use Rattle.std.proofs.Common.{◌≡◌, refl, ap, ◌∙◌, Bool, true, false, List, [], ◌∷◌, Some, ◌⊎◌, inl, inr}
+use Rattle.std.proofs.Common.{◌≡◌, refl, ap, ◌∙◌, Bool, true, false, if◌then◌else◌, List, [], ◌∷◌, Some, None, option_map, ◌⊎◌, inl, inr}
 use Rattle.ess_semantics.specs.Lists.{and_then}
-use Rattle.ess_semantics.specs.Types.{Ty, any_ty, bool_ty, int_ty, named_ty, compound, no_tys, more_tys, join, join_all}
+use Rattle.ess_semantics.specs.Types.{Ty, any_ty, bool_ty, int_ty, named_ty, compound, no_tys, more_tys, is_relation, join, join_all}
 use Rattle.ess_semantics.specs.Order.{same_kind}
-use Rattle.ess_values_laws.proofs.Options.{then-some, when-some}
+use Rattle.ess_values_laws.proofs.Options.{then-some}
 use Rattle.ess_values_laws.proofs.TypeOrder.{Within, within-on, join-says, join-within}
 
 -- v says all that each type says
@@ -77,8 +77,13 @@ join-has-parts (compound k no_tys) bool_ty v e h = cc
 join-has-parts (compound k no_tys) int_ty v e h = cc
 join-has-parts (compound k no_tys) (named_ty b) v e h = cc
 join-has-parts (compound k no_tys) (compound l (more_tys u us)) v e h = inr refl
-join-has-parts (compound k no_tys) (compound l no_tys) v e h =
-    let q = when-some (same_kind k l) (compound l no_tys) v e in inr (ap has_parts q.1 ∙ h)
+join-has-parts (compound k no_tys) (compound l no_tys) v e h = none (same_kind k l) (is_relation k) e
+  where
+    none : (a b : Bool) → (if a then option_map (compound k) (if b then Some no_tys else (if b then Some no_tys else Some no_tys)) else None) ≡ Some v →
+        (false ≡ true) ⊎ (false ≡ true)
+    none true true e = let f : compound k no_tys ≡ v = cc in inl (ap has_parts f ∙ h)
+    none true false e = let f : compound k no_tys ≡ v = cc in inl (ap has_parts f ∙ h)
+    none false b e = cc
 
 -- one of the types has parts
 abbrev pub SomeParts : List Ty → Type 0

@@ -4,7 +4,7 @@ use Rattle.std.proofs.Common.{◌≡◌, refl, sym, ap, ◌∙◌, subst, true, 
 use Rattle.ess_semantics.specs.Values.{Kind, a_tuple, a_set, a_function, a_relation, a_partition}
 use Rattle.ess_semantics.specs.Types.{Ty, any_ty, bool_ty, int_ty, named_ty, compound, Tys, no_tys, more_tys, compound1, compound2}
 use Rattle.ess_semantics.specs.OperatorTypes.{function_ty, relation_ty, partition_ty}
-use Rattle.ess_values_laws.proofs.TypeOrder.{Within, PartsWithin}
+use Rattle.ess_values_laws.proofs.TypeOrder.{Within, PartsWithin, AllWithin, all-within-parts}
 use Rattle.ess_values_laws.proofs.JoinedTypes.{has_parts}
 
 -- ---- types with one part and with two
@@ -92,19 +92,26 @@ any-kind k l no_tys h = h
 any-kind k l (more_tys u us) h = refl
 
 -- What says no more than a tuple is one, or says nothing.
-tuple-within : (w : Ty) (us : Tys) → Within w (compound a_tuple us) → (w ≡ any_ty) ⊎ ((vs : Tys) × (w ≡ compound a_tuple vs) × PartsWithin vs us)
+tuple-within : (w : Ty) (us : Tys) → Within w (compound a_tuple us) → (w ≡ any_ty) ⊎ ((vs : Tys) × (w ≡ compound a_tuple vs) × PartsWithin a_tuple vs us)
 tuple-within any_ty us h = inl refl
 tuple-within bool_ty us h = absurd h
 tuple-within int_ty us h = absurd h
 tuple-within (named_ty n) us h = absurd h
-tuple-within (compound l vs) us h = inr (vs, ap (λ j. compound j vs) h.0, h.1)
+tuple-within (compound l vs) us h = inr (vs, ap (λ j. compound j vs) h.0, subst (λ x. PartsWithin x vs us) h.0 h.1)
+
+-- a tuple's type says something of each component
+tuple-parts : (vs us : Tys) → PartsWithin a_tuple vs us → AllWithin vs us
+tuple-parts no_tys no_tys h = h
+tuple-parts no_tys (more_tys u us) h = h
+tuple-parts (more_tys v vs) no_tys h = h
+tuple-parts (more_tys v vs) (more_tys u us) h = h
 
 -- A relation's type is there, says no more, and has parts where the other one has.
 pub relation-within : (s t w : Ty) → relation_ty s ≡ Some t → Within w s → (has_parts s ≡ true → has_parts w ≡ true) →
     (u : Ty) × (relation_ty w ≡ Some u) × Within u t × (has_parts t ≡ true → has_parts u ≡ true)
 relation-within s t w e h k = go (relation-form s t e)
   where
-    some : (us : Tys) → s ≡ compound a_tuple us → compound a_relation us ≡ t → (w ≡ any_ty) ⊎ ((vs : Tys) × (w ≡ compound a_tuple vs) × PartsWithin vs us) →
+    some : (us : Tys) → s ≡ compound a_tuple us → compound a_relation us ≡ t → (w ≡ any_ty) ⊎ ((vs : Tys) × (w ≡ compound a_tuple vs) × PartsWithin a_tuple vs us) →
         (u : Ty) × (relation_ty w ≡ Some u) × Within u t × (has_parts t ≡ true → has_parts u ≡ true)
     some us f g (inl n) = (
       compound a_relation no_tys,
@@ -115,7 +122,7 @@ relation-within s t w e h k = go (relation-form s t e)
     some us f g (inr n) = (
       compound a_relation n.0,
       ap relation_ty n.1,
-      subst (Within (compound a_relation n.0)) g (refl, n.2),
+      subst (Within (compound a_relation n.0)) g (refl, all-within-parts a_relation n.0 us (tuple-parts n.0 us n.2)),
       λ q. any-kind a_tuple a_relation n.0 (sym (ap has_parts n.1) ∙ k (ap has_parts f ∙ any-kind a_relation a_tuple us (ap has_parts g ∙ q))),
     )
 

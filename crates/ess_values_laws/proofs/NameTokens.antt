@@ -10,10 +10,12 @@ use Rattle.ess_semantics.specs.Lists.{or_else, when, is_empty}
 use Rattle.ess_semantics.specs.Values.{Text, Value, item}
 use Rattle.ess_semantics.specs.Order.{same_text}
 use Rattle.ess_semantics.specs.Meaning.{TypeEntry, type_entry}
-use Rattle.ess_semantics.specs.Judgements.{are_digits, after_prefix}
-use Rattle.ess_semantics.specs.Judgements.{is_digit as is_decimal}
+use Rattle.ess_semantics.specs.NameTokens.{are_digits}
+use Rattle.ess_semantics.specs.Judgements.{after_prefix}
+use Rattle.ess_semantics.specs.NameTokens.{is_digit as is_decimal}
 use Rattle.ess_semantics.specs.Assignments.{unnamed_name}
-use Rattle.ess_semantics.specs.Literals.{number_of, unnamed_item, named_item, item_of_name}
+use Rattle.ess_semantics.specs.NameTokens.{value_after as number_of}
+use Rattle.ess_semantics.specs.Literals.{unnamed_item, named_item, item_of_name}
 use Rattle.ess_semantics.proofs.Tests.{and-left, and-right, and-both, or-yes}
 use Rattle.ess_grammar.specs.Words.{Token, name, look, words, outside, is_outside}
 use Rattle.ess_grammar.specs.Words.{same_text as same_bytes}

@@ -6,9 +6,11 @@ use Rattle.ess_semantics.specs.Values.{Text, Value, item}
 use Rattle.ess_semantics.specs.Order.{same_text}
 use Rattle.ess_semantics.specs.Names.{is_among, all_distinct}
 use Rattle.ess_semantics.specs.Meaning.{TypeEntry, type_entry}
-use Rattle.ess_semantics.specs.Judgements.{are_digits, after_prefix}
+use Rattle.ess_semantics.specs.NameTokens.{are_digits}
+use Rattle.ess_semantics.specs.Judgements.{after_prefix}
 use Rattle.ess_semantics.specs.Assignments.{unnamed_name}
-use Rattle.ess_semantics.specs.Literals.{number_of, unnamed_item, named_item, item_of_name}
+use Rattle.ess_semantics.specs.NameTokens.{value_after as number_of}
+use Rattle.ess_semantics.specs.Literals.{unnamed_item, named_item, item_of_name}
 use Rattle.ess_semantics.proofs.Tests.{and-left, and-right, not-true}
 use Rattle.ess_values_laws.specs.ItemNames.{name_at, entry_name, item_name}
 use Rattle.ess_values_laws.proofs.Options.{then-some, when-some}

@@ -37,7 +37,7 @@ tuple-literal-printed env xs ts p =
       u = compound a_tuple (tys_of r.us);
       typed = ap (λ o. and_then o (type_of_op tuple_literal)) r.types;
       valued = ap (λ o. and_then o (value_of_op tuple_literal)) r.values;
-      within = (refl, all-within-parts (tys_of r.us) (tys_of ts) r.within);
+      within = (refl, all-within-parts _ (tys_of r.us) (tys_of ts) r.within);
       parts = each-has-parts a_tuple a_tuple (tys_of r.us) (tys_of ts) r.within;
     }
 
@@ -190,6 +190,6 @@ module _ (env : Env) where
             ap (λ o. and_then o (value_of_op (record_literal (keys fs)))) r.values
             ∙ ap (λ l. Some (record_value (by_name l))) (zip-itself fs)
             ∙ ap (λ l. Some (record_value l)) (by-name-itself fs (by-name-rises (zip ns xs)));
-        within = (ap a_record (one-keys fs gs h), all-within-parts (tys_of r.us) (tys_of (map (λ t. t.1) gs)) r.within);
+        within = (ap a_record (one-keys fs gs h), all-within-parts _ (tys_of r.us) (tys_of (map (λ t. t.1) gs)) r.within);
         parts = each-has-parts (a_record (keys gs)) (a_record (keys fs)) (tys_of r.us) (tys_of (map (λ t. t.1) gs)) r.within;
       }

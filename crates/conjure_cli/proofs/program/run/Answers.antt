@@ -10,12 +10,12 @@ returns-in_default-clause-ended g c = (Usage, ends_usage _ _ _ _ _ _ c.status.en
 pub returns-clause-missing : goal.returns-clause-missing
 returns-clause-missing g c =
     of_file (file_named (map string_bytes c.args.words.now)) c.in-Some.file.now _ (sym c.in-Some.ensures)
-    (missing_is_four c.modelling-ending.result _ c.in-Some.file.now _ _ _ _ c.status-2.ensures c.modelling-ending.ensures.cause)
+    (missing_is_four c.modelling-ending.result _ c.in-Some.file.now _ _ _ _ c.status-2.ensures c.modelling-ending.ensures.ran.cause)
 
 pub returns-clause-decided : goal.returns-clause-decided
 returns-clause-decided g c =
     of_file (file_named (map string_bytes c.args.words.now)) c.in-Some.file.now _ (sym c.in-Some.ensures)
-    (text_decides c.modelling-ending.result _ c.in-Some.file.now _ _ _ _ c.status-2.ensures c.modelling-ending.ensures.cause)
+    (text_decides c.modelling-ending.result _ c.in-Some.file.now _ _ _ _ c.status-2.ensures c.modelling-ending.ensures.ran.cause)
 
 pub returns-clause-others : goal.returns-clause-others
-returns-clause-others g c = others_kept c.modelling-ending.result c.in-Some.file.now _ _ c.modelling-ending.ensures.files
+returns-clause-others g c = others_kept c.modelling-ending.result c.in-Some.file.now _ _ c.modelling-ending.ensures.ran.files

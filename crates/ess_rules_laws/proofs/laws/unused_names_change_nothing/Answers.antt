@@ -1,5 +1,5 @@
 use Rattle.ess_rules_laws.proofs.laws.unused_names_change_nothing.Goals as goal
-use Rattle.ess_rules_laws.proofs.Simulation.{meaning-unused}
+use Rattle.ess_rules_laws.proofs.FreeNames.{meaning-unfree}
 
 pub returns : goal.returns
-returns c = meaning-unused
+returns c = meaning-unfree

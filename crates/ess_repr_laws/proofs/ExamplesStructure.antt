@@ -1,0 +1,50 @@
+-- An instance of what the meaning of the structure constraint rests on: set of set of bool, both with a marker.
+use Rattle.std.proofs.Common.{◌≡◌, refl, sym, ap, ℕ, ℤ, ◌<◌, true, false, List, [], length, pos, Some}
+use Rattle.ess_semantics.specs.declared.words.ReprKind.{ReprKind}
+use Rattle.ess_semantics.specs.Values.{Text, truth}
+use Rattle.ess_semantics.specs.Order.{same_text}
+use Rattle.ess_semantics.specs.Trees.{Mark, Repr, repr, no_reprs, more_reprs, Ex, Exs, number_ex, truth_ex, no_exs, Dom, bool_dom, set_dom}
+use Rattle.ess_semantics.specs.Domains.{Domain, booleans, sets}
+use Rattle.ess_semantics.specs.Tables.{Tables, is_cell}
+use Rattle.ess_semantics.specs.Cells.{cells_of}
+use Rattle.ess_semantics.specs.Representations.{width}
+use Rattle.ess_semantics.specs.Declarations.{declarations, axes_of}
+use Rattle.ess_semantics.specs.CanonicalTest.{canonical}
+use Rattle.ess_semantics.specs.Meaning.{Env, meaning}
+use Rattle.ess_semantics.specs.Tidy.{over_axes}
+use Rattle.ess_repr_laws.specs.Structure.{shapes, structure}
+use Rattle.ess_repr_laws.specs.CanonicalTables.{TablesFit}
+use Rattle.ess_repr_laws.specs.StructureMeaning.{Bound, M, Placed, axes_members, Ready}
+use Rattle.ess_repr_laws.proofs.StructureOfTables.{structure-of-tables}
+
+abbrev slots : List Mark → Exs → Dom → Ex
+slots ms es bool_dom = number_ex (pos 2)
+slots ms es d = number_ex (pos 4)
+
+abbrev whole : Dom → Ex → Ex
+whole d e = truth_ex true
+
+abbrev kinds : Repr
+kinds =
+    repr ReprKind.ExplicitVarSizeWithMarker
+    (more_reprs (repr ReprKind.ExplicitVarSizeWithMarker (more_reprs (repr ReprKind.Atom no_reprs) no_reprs)) no_reprs)
+
+abbrev written : Dom
+written = set_dom [] no_exs (set_dom [] no_exs bool_dom)
+
+abbrev meant : Domain
+meant = sets [] (sets [] booleans)
+
+module _ (env0 : Env) (q : ℕ → Text) (q-apart : (m l : ℕ) → l < m → same_text (q m) (q l) ≡ false) where
+  ready : Ready env0 q q-apart slots whole kinds written meant
+  ready = ((λ bs. (tt, refl)), (λ bs. refl), ((λ bs. (tt, refl)), (λ bs. refl), ((tt, λ h. refl), λ x bs z f h. go z f)))
+    where
+      go : (z : ℤ) → is_cell booleans z ≡ true → Some (truth true) ≡ Some (truth (is_cell booleans z))
+      go z f = ap (λ b. Some (truth b)) (sym f)
+
+  -- The theorem at this instance.
+  pub example : (ns : List Text) (ts : Tables) (bs : Bound env0 q q-apart) → length ts ≡ width kinds →
+      Placed env0 q q-apart (shapes q slots whole kinds written ns) (axes_members kinds meant) ts →
+      over_axes [] (axes_of kinds meant) ts ≡ true → TablesFit (declarations kinds meant) ts →
+      meaning (structure q slots whole kinds written ns 1 no_exs) (M env0 q q-apart bs) ≡ Some (truth (canonical kinds meant (cells_of ts)))
+  example ns ts bs w p o f = structure-of-tables env0 q q-apart slots whole kinds written meant ready ns ts 1 bs w p o f

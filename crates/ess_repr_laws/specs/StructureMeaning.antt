@@ -1,0 +1,84 @@
+-- What is asked of a view and its tables so that its structure constraint means that the cells are canonical. Reserved names
+-- q 0, q 1 and so on may be bound, each to a value.
+use Rattle.std.specs.Prelude.{◌≡◌, ℕ, ◌<◌, Bool, true, false, List, [], ◌∷◌, ◌++◌, map, ℤ, pos, Some}
+use Rattle.ess_repr_laws.specs.Structure.{Shape}
+use Rattle.ess_semantics.specs.Atoms.{IsAtom}
+use Rattle.ess_semantics.specs.Domains.{booleans, Attribute, Domain, sets, members, member_list}
+use Rattle.ess_semantics.specs.Layers.{as_cell}
+use Rattle.ess_semantics.specs.Meaning.{Env, members_in, cell_value, meaning, meanings, domain_of, is_bool_dom, attributes_of, as_int}
+use Rattle.ess_semantics.specs.Names.{look}
+use Rattle.ess_semantics.specs.Numbers.{one_to}
+use Rattle.ess_semantics.specs.Order.{same_text}
+use Rattle.ess_semantics.specs.Sizes.{slots_of_set}
+use Rattle.ess_semantics.specs.Tables.{Tables, is_cell}
+use Rattle.ess_semantics.specs.Trees.{Ex, Exs, Dom, Mark, Repr, repr, no_reprs, more_reprs, set_dom, no_exs, more_exs}
+use Rattle.ess_semantics.specs.Values.{Text, Value, number, truth}
+use Rattle.ess_semantics.specs.declared.words.ReprKind.{ReprKind}
+
+-- The expression means this number.
+abbrev pub Number : Ex → Env → ℤ → Type 0
+Number e env n = meaning e env ≡ Some (number n)
+
+-- Each number of the attributes is one.
+abbrev pub AllNumbers : Exs → Env → Type 0
+AllNumbers no_exs env = Unit {0}
+AllNumbers (more_exs e es) env = ((z : ℤ) → as_int (meaning e env) ≡ Some z → Number e env z) × AllNumbers es env
+
+-- whether a number is a cell of the table: a truth value is 0 or 1
+abbrev pub fit : Bool → ℤ → Bool
+fit true z = is_cell booleans z
+fit false z = true
+
+-- The members of the axes of a view's tables.
+abbrev pub axes_members : Repr → Domain → List (List (List Value))
+axes_members (repr ReprKind.Atom no_reprs) e = [] ∷ []
+axes_members (repr ReprKind.Occurrence no_reprs) (sets ks e) = (member_list e ∷ []) ∷ []
+axes_members (repr ReprKind.Explicit (more_reprs r no_reprs)) (sets ks e) =
+    map (λ vss. map number (one_to (slots_of_set ks e)) ∷ vss) (axes_members r e)
+axes_members (repr ReprKind.ExplicitVarSizeWithMarker (more_reprs r no_reprs)) (sets ks e) =
+    [] ∷ map (λ vss. map number (one_to (slots_of_set ks e)) ∷ vss) (axes_members r e)
+axes_members _ e = []
+
+module _ (env0 : Env) (q : ℕ → Text) (q-apart : (m l : ℕ) → l < m → same_text (q m) (q l) ≡ false) where
+  -- The names q with values, the last one first.
+  abbrev pub Bound : Type 0
+  Bound = List (ℕ × Value)
+
+  -- The env with bound names.
+  abbrev pub M : Bound → Env
+  M bs = record env0 { vals = map (λ (b : ℕ × Value). (q b.0, b.1)) bs ++ env0.vals }
+
+  -- The axes have these members, whatever is bound.
+  abbrev pub AxesAre : List Dom → List (List Value) → Type 0
+  AxesAre [] [] = Unit {0}
+  AxesAre (a ∷ as') (vs ∷ vss) = ((bs : Bound) → members_in (domain_of a (M bs)) ≡ Some vs) × AxesAre as' vss
+  AxesAre _ vss = ⊥
+
+  -- The tables of a part, with the members of their axes.
+  abbrev pub Placed : List Shape → List (List (List Value)) → Tables → Type 0
+  Placed [] [] [] = Unit {0}
+  Placed (s ∷ ss) (vss ∷ vsss) (t ∷ ts) = (look env0.cells s.name ≡ Some t) × AxesAre s.axes vss × Placed ss vsss ts
+  Placed _ vsss ts = ⊥
+
+module _ (env0 : Env) (q : ℕ → Text) (q-apart : (m l : ℕ) → l < m → same_text (q m) (q l) ≡ false)
+    (size : List Mark → Exs → Dom → Ex) (atom : Dom → Ex → Ex) where
+  -- The attributes are these, whatever names are bound.
+  abbrev pub Attributes : List Mark → Exs → List Attribute → Type 0
+  Attributes ms es ks =
+      (bs : Bound env0 q q-apart) → AllNumbers es (M env0 q q-apart bs) × (attributes_of ms (meanings es (M env0 q q-apart bs)) ≡ Some ks)
+
+  -- What the domain's parts mean, whatever names are bound.
+  abbrev pub Ready : Repr → Dom → Domain → Type 0
+  Ready (repr ReprKind.Atom no_reprs) d e =
+      (IsAtom e × (is_bool_dom d ≡ true → e ≡ booleans)) ×
+      ((x : Ex) (bs : Bound env0 q q-apart) (z : ℤ) → fit (is_bool_dom d) z ≡ true → meaning x (M env0 q q-apart bs) ≡ Some (cell_value (is_bool_dom d) z) → meaning (atom d x) (M env0 q q-apart bs) ≡ Some (truth (is_cell (as_cell e) z)))
+  Ready (repr ReprKind.Occurrence no_reprs) (set_dom ms es d) (sets ks e) =
+      IsAtom e × (members e ≡ Some (member_list e)) ×
+      ((bs : Bound env0 q q-apart) → members_in (domain_of d (M env0 q q-apart bs)) ≡ Some (member_list e)) × Attributes ms es ks
+  Ready (repr ReprKind.Explicit (more_reprs r no_reprs)) (set_dom ms es d) (sets ks e) =
+      Attributes ms es ks ×
+      ((bs : Bound env0 q q-apart) → Number (size ms es d) (M env0 q q-apart bs) (pos (slots_of_set ks e))) × Ready r d e
+  Ready (repr ReprKind.ExplicitVarSizeWithMarker (more_reprs r no_reprs)) (set_dom ms es d) (sets ks e) =
+      Attributes ms es ks ×
+      ((bs : Bound env0 q q-apart) → Number (size ms es d) (M env0 q q-apart bs) (pos (slots_of_set ks e))) × Ready r d e
+  Ready _ d e = ⊥

@@ -1,5 +1,0 @@
-use Rattle.std.proofs.Common.{◌≡◌, take}
-use Rattle.ess_rows.proofs.tests.tree.+copy.Given as goal
-
-abbrev pub invariant-copy_trees-loop-tree : goal.invariant-copy_trees-loop-tree
-invariant-copy_trees-loop-tree l = l.copies ≡ take l.tree-index l.tree-items

@@ -1,0 +1,4 @@
+pub mod WellBound
+pub mod SoundParts
+pub mod ProperDomains
+pub mod Laws
