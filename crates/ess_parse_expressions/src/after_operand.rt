@@ -34,7 +34,7 @@ use ess_parse_frames::stack::{Top, innermost, inside, stop};
 use ess_parse_frames::{Frame, Mode, Operand, State};
 use ess_grammar::Kind;
 use ess_rows::{NoMemory, Row};
-use ess_parse_statements::ends::{begin_after, stated};
+use ess_parse_frames::statements::{begin_after, stated};
 use std::alloc::Global;
 
 /// What a token does behind a reduced expression: it is an operator behind its left operand, goes on with the innermost frame

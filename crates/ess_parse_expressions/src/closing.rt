@@ -18,9 +18,8 @@ use crate::listing::{
     end_application, end_call, end_index, end_literal, end_matrix, end_round, end_set,
 };
 use ess_core::{Ex, Gen, Pat};
-use ess_parse_domains::attributes::end_attributes;
-use ess_parse_domains::generators::from_each;
-use ess_parse_domains::ranges::end_ranges;
+use ess_parse_frames::ends::{end_attributes, end_ranges};
+use ess_parse_frames::generators::from_each;
 use ess_parse_frames::operands::with_operand;
 use ess_parse_frames::rows::{
     function_of_pairs, record_of_fields, with_bounds, with_field, with_high, with_number,

@@ -12,7 +12,7 @@ ghost use Rattle.ess_parse_frames.specs.declared.frames.Frame.TheVariants as F;
 
 use crate::items::{is_sum, item_ended};
 use ess_core::{Ex, FieldEx, Gen, PairEx, Pat, Range, Stm};
-use ess_parse_domains::generators::{from_each, with_all_names};
+use ess_parse_frames::generators::{from_each, with_all_names};
 use ess_parse_frames::operands::with_operand;
 use ess_parse_frames::rows::{
     with_bounds, with_field, with_high, with_number, with_pair, with_statement, with_value,

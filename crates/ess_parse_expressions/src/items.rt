@@ -17,7 +17,7 @@ ghost use Rattle.ess_parse_frames.specs.Views.{view_frame, view_frames, view_hea
 ghost use Rattle.ess_parse_expressions.specs.Lists.{is_sum_head, wanting_operand};
 
 use ess_core::{Ex, Fun, Gen, Pat};
-use ess_parse_domains::generators::with_conditions;
+use ess_parse_frames::generators::with_conditions;
 use ess_parse_frames::stack::{Top, at, innermost, inside, stop, within};
 use ess_parse_frames::{Frame, Head, Mode, Operand, State};
 use ess_rows::{NoMemory, Row, Text};
@@ -151,7 +151,7 @@ pub(crate) fn item_ended(
 }
 
 /// The items in order, the last of which are patterns and an expression as conditions. `NoMemory` where there is no room.
-#[tactic(auto, using(ess_parse_domains::proofs::SharedItems::items_in_order))]
+#[tactic(auto, using(ess_parse_frames::proofs::SharedItems::items_in_order))]
 pub(crate) fn all_conditions(
     alloc: Global,
     items: Row<Gen>,

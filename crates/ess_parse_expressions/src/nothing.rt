@@ -9,7 +9,7 @@ ghost use Rattle.ess_parse_frames.specs.Views.{view_frame, view_frames, Steps};
 
 use crate::listing::{end_literal, end_matrix, end_set, is_empty};
 use ess_core::PairEx;
-use ess_parse_domains::ranges::end_ranges;
+use ess_parse_frames::ends::end_ranges;
 use ess_parse_frames::rows::{function_of_pairs, with_low};
 use ess_parse_frames::stack::{at, inside, stop};
 use ess_parse_frames::{Frame, Listing, Literal, Mode, Operand, State};

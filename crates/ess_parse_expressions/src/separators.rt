@@ -10,7 +10,7 @@ ghost use Rattle.ess_parse_frames.specs.Views.{view_frame, view_frames, Steps};
 use crate::items::{all_conditions, begin_source, settled};
 use crate::listing::{end_items, is_empty};
 use ess_core::{Ex, Op1};
-use ess_parse_domains::generators::from_each;
+use ess_parse_frames::generators::from_each;
 use ess_parse_frames::operands::with_operand;
 use ess_parse_frames::reducing::one_operand;
 use ess_parse_frames::stack::{at, inside, stop};

@@ -2,3 +2,8 @@ pub mod StackLaws
 pub mod RowLaws
 pub mod FieldLaws
 pub mod PatternLaws
+pub mod Bound
+pub mod SharedItems
+mod Declarations
+mod StableSorting
+mod RecordFields

@@ -16,7 +16,7 @@ use ess_parse_frames::reducing::{Reduced, ReducedDomain, reduce, reduce_domain};
 use ess_parse_frames::stack::{Top, innermost};
 use ess_parse_frames::{Answer, Frame, Mode, Operand};
 use ess_rows::{NoMemory, Row};
-use ess_parse_statements::ends::{declared, stated};
+use ess_parse_frames::statements::{declared, stated};
 use std::alloc::Global;
 
 /// The answer at the end of the tokens, in a mode and inside these frames.

@@ -12,7 +12,7 @@ use Rattle.ess_semantics.specs.Names.{Names, keys, by_name, insert_name, insert_
 use Rattle.ess_semantics.specs.Kinds.{dom_list, doms_of}
 use Rattle.ess_semantics.specs.Order.{order_text}
 use Rattle.ess_semantics.specs.Trees as pure
-use Rattle.ess_semantics.specs.Trees.{record_dom, no_doms, more_doms}
+use Rattle.ess_semantics.specs.Trees.{no_doms}
 use Rattle.ess_semantics.proofs.Orders.{text_total}
 use Rattle.ess_grammar.specs.Grammar.{sorted_record, record_of}
 use Rattle.ess_parse_laws.specs.Reversed.{reverse_doms, reverse_list}
@@ -24,7 +24,7 @@ use Rattle.ess_core.specs.declared.domains.Dom.TheVariants as variant
 use Rattle.ess_core.specs.declared.domains.Dom.TheViews.{out-FieldDom}
 use Rattle.ess_parse_frames.specs.Rows.{back_dom_names, back_field_doms}
 use Rattle.ess_parse_frames.proofs.RowLaws.{dom_names_closed, field_doms_closed}
-use Rattle.ess_parse_domains.proofs.StableSorting.{put, put_all, stable-sort}
+use Rattle.ess_parse_frames.proofs.StableSorting.{put, put_all, stable-sort}
 
 -- ---- by name, over any entries
 

@@ -2,8 +2,8 @@ use Rattle.std.proofs.Common.{rules, is_lt}
 use Rattle.std.proofs.lemmas.Fn.{always_returns_same}
 use Rattle.ess_semantics.specs.Order.{order_text}
 use Rattle.ess_core.specs.declared.domains.FieldDom.{FieldDom}
-use Rattle.ess_parse_domains.proofs.RecordFields.{field_name, fields-order, record-sorted}
-use Rattle.ess_parse_domains.proofs.records.sorted_record.Goals as goal
+use Rattle.ess_parse_frames.proofs.RecordFields.{field_name, fields-order, record-sorted}
+use Rattle.ess_parse_frames.proofs.records.sorted_record.Goals as goal
 
 pub returns : goal.returns
 returns c =
