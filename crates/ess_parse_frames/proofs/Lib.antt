@@ -7,3 +7,4 @@ pub mod SharedItems
 mod Declarations
 mod StableSorting
 mod RecordFields
+mod ListEnds

@@ -5,3 +5,4 @@ pub mod Views
 pub mod Stack
 pub mod Reduced
 pub mod Statements
+pub mod Steps

@@ -11,14 +11,18 @@
 //! go is proved here once, and a crate above that lets none go without such a call has no part in it.
 #![tactic(auto)]
 
+pub mod commas;
+pub mod comprehensions;
 pub mod domain_parts;
 pub mod ends;
 pub mod frames;
 pub mod generators;
+pub mod items;
 pub mod kinds;
 pub mod levels;
 pub mod modes;
 pub mod operands;
+pub mod parts;
 pub mod records;
 pub mod reducing;
 pub mod rows;

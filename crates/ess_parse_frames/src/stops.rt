@@ -2,7 +2,7 @@
 //! frames and expressions hold.
 ghost use Rattle.std.specs.Prelude.{◌≡◌, Ok, Err, None};
 
-use crate::{Frame, Listed, Operand, State};
+use crate::{Frame, Listed, Mode, Operand, State};
 use ess_core::Ex;
 use ess_rows::{Boxed, NoMemory, Row};
 
@@ -14,6 +14,18 @@ pub fn let_frames_go(frames: Row<Frame>) {
 /// Lets a list go.
 pub fn let_list_go(listed: Listed) {
     drop(listed);
+}
+
+/// Lets a mode go.
+pub fn let_mode_go(mode: Mode) {
+    drop(mode);
+}
+
+/// Lets a state go.
+pub fn let_state_go(state: State) {
+    let State { frames, mode } = state;
+    drop(frames);
+    drop(mode);
 }
 
 /// No text goes on so.
