@@ -1,3 +1,4 @@
+-- Canonical cells are right: they stand for a value, are one for it, and are tidy
 pub mod Behind
 pub mod RowsOfCells
 pub mod SlotsUsed
@@ -64,22 +65,25 @@ pub mod CellsOfPartNumbers
 pub mod FittingCells
 pub mod CellDomains
 pub mod FittingTables
+pub mod TablesWithin
 pub mod MembersHaveTables
+-- Bounds of domains, and lists of members
 pub mod Universes
 pub mod BoundedLists
 pub mod BoundedParts
 pub mod Bounds
 pub mod Enumerables
+-- What fits has room, and what is judged is well formed
 pub mod DomainForms
 pub mod ChildForms
 pub mod Fitting
 pub mod DenotedAttributes
 pub mod DenotedDomains
-pub mod TablesWithin
 pub mod JudgedDomains
 pub mod EnumerableDomains
-pub mod PlanDomains
 pub mod JudgedStatements
+pub mod PlanDomains
+-- Positions in place of named types
 pub mod TypesBack
 pub mod OrderOfPositions
 pub mod ListsOfPositions
@@ -92,11 +96,14 @@ pub mod MatchedMembers
 pub mod SetsOfPositions
 pub mod RelationsOfPositions
 pub mod MembersWithPositions
+pub mod DenotedTypes
+pub mod DeclaredWithPositions
 pub mod PlansStand
+-- One layer
 pub mod LayersDown
 pub mod LayersUp
 pub mod RoomBelow
-pub mod DeclaredWithPositions
+-- The constraint that cells are canonical
 pub mod StructureNumbers
 pub mod StructureRows
 pub mod StructureSlots

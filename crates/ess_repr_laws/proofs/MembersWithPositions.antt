@@ -12,17 +12,18 @@ use Rattle.ess_semantics.specs.Membership.{member, member_of_each, tuple_member,
 use Rattle.ess_semantics.specs.Positions.{with_positions, all_with_positions, domain_with_positions, domains_with_positions}
 use Rattle.ess_semantics.proofs.Tests.{and-left, and-right, and-both}
 use Rattle.ess_semantics.proofs.Orders.{to_list-of_list, of_list-to_list, orders_total, text_total}
-use Rattle.ess_repr_laws.specs.TypedDomains.{OneType, is_unnumbered, ArePairs, Typed, AllTyped}
+use Rattle.ess_repr_laws.specs.TypedDomains.{SameOrder, is_unnumbered, ArePairs, Typed, AllTyped}
 use Rattle.ess_repr_laws.proofs.CellsOfMatrices.{shape-of}
-use Rattle.ess_repr_laws.proofs.OneType.{type-itself, types-themselves, type-turned}
+use Rattle.ess_repr_laws.proofs.OneType.{type-itself, types-themselves}
 use Rattle.ess_repr_laws.proofs.TypesBack.{boolean-back, integer-back, indices-are, tuple-components}
-use Rattle.ess_repr_laws.proofs.OrderOfPositions.{Agree, order-agrees, all-agree, tuples-agree, tuple-form}
+use Rattle.ess_repr_laws.proofs.OrderOfPositions.{Agree, order-agrees, all-agree, tuples-agree}
 use Rattle.ess_repr_laws.proofs.ListsOfPositions.{with_each, parts-with, list-with, length-with, all-there}
 use Rattle.ess_repr_laws.proofs.MembersOfPositions.{members-with}
 use Rattle.ess_repr_laws.proofs.AttributesOfPositions.{numbered-same}
 use Rattle.ess_repr_laws.proofs.MatchedMembers.{Back, Matched, list-back}
 use Rattle.ess_repr_laws.proofs.SetsOfPositions.{sets-matched, msets-matched, functions-matched}
 use Rattle.ess_repr_laws.proofs.RelationsOfPositions.{pairs-attributes, relations-matched, partitions-matched}
+use Rattle.ess_repr_laws.proofs.BoundedParts.{tuple-form}
 
 -- ---- atoms
 
@@ -200,15 +201,15 @@ records-matched fs ds c = record { up = up; back = back }
 
 -- ---- relations
 
--- Two domains of one type: what a member of either is.
-either-agree : (d e : Domain) → Typed d → Typed e → OneType d e → Agree (λ v. member d v || member e v) (λ v. member d v || member e v)
+-- Members of either of two domains whose members stand in one order.
+either-agree : (d e : Domain) → Typed d → Typed e → SameOrder d e × SameOrder e d → Agree (λ v. member d v || member e v) (λ v. member d v || member e v)
 either-agree d e t u o v w h k = go (member d v) refl (member d w) refl h k
   where
     go : (a : Bool) → member d v ≡ a → (b : Bool) → member d w ≡ b → a || member e v ≡ true → b || member e w ≡ true →
         order (with_positions v) (with_positions w) ≡ order v w
     go true p true q h k = order-agrees d d (type-itself d t) v w p q
-    go true p false q h k = order-agrees d e o v w p k
-    go false p true q h k = order-agrees e d (type-turned d e o) v w h q
+    go true p false q h k = o.0 v w p k
+    go false p true q h k = o.1 v w h q
     go false p false q h k = order-agrees e e (type-itself e u) v w h k
 
 relation-attributes : (ks : List Attribute) (ds : Domains) → (list_any is_unnumbered ks ≡ true → ArePairs ds) → AllTyped ds →

@@ -22,6 +22,7 @@ use Rattle.ess_repr_laws.proofs.Times.{mset-member}
 use Rattle.ess_repr_laws.proofs.FunctionPairs.{function-member}
 use Rattle.ess_repr_laws.proofs.Parts.{partition-member, part-of}
 use Rattle.ess_repr_laws.proofs.TypesBack.{boolean-back, integer-back, indices-are, indices-inside, tuple-components}
+use Rattle.ess_repr_laws.proofs.BoundedParts.{tuple-form}
 
 -- Values that pass the tests stand in the order of their values with positions.
 abbrev pub Agree : (Value → Bool) → (Value → Bool) → Type 0
@@ -144,14 +145,6 @@ matrices-agree (more_domains i is) (more_domains j js) a b t p q g = λ v w h k.
         (ordering_then (ordering_then (order_kind a_tuple a_tuple) o) (ordering_then (ordering_then (order_kind a_tuple a_tuple) u) Equal))
 
 -- ---- all domains
-
--- A member of a domain of tuples or records is one of components.
-pub tuple-form : (ds : Domains) (v : Value) → member (tuples ds) v ≡ true → (vs : Values) × (v ≡ tuple vs) × (member_of_each ds vs ≡ true)
-tuple-form ds (node a_tuple vs) h = (vs, refl, h)
-tuple-form ds (number n) h = cc
-tuple-form ds (truth b) h = cc
-tuple-form ds (item a k) h = cc
-tuple-form ds (node k vs) h = cc
 
 -- A member of a domain of records is a record of components.
 pub record-form : (fs : List Text) (ds : Domains) (v : Value) → member (records fs ds) v ≡ true →

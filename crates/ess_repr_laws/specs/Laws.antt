@@ -3,7 +3,7 @@ use Rattle.std.specs.Prelude.{◌≡◌, ℕ, ◌<◌, true, false, List, [], �
 use Rattle.ess_semantics.specs.declared.words.ReprKind.{ReprKind}
 use Rattle.ess_semantics.specs.Lists.{and_then, each_of}
 use Rattle.ess_semantics.specs.Values.{Text, Value, truth}
-use Rattle.ess_semantics.specs.Order.{order, same_text}
+use Rattle.ess_semantics.specs.Order.{same_text}
 use Rattle.ess_semantics.specs.Trees.{Repr, repr, no_reprs, more_reprs, Mark, Ex, Exs, no_exs, Dom, Stm}
 use Rattle.ess_semantics.specs.Domains.{Domain}
 use Rattle.ess_semantics.specs.Membership.{member}
@@ -26,7 +26,7 @@ use Rattle.ess_semantics.specs.Plans.{plan_domain, stands_for_member, value_with
 use Rattle.ess_repr_laws.specs.Finite.{Enumerated, Bounded, Finite, Enumerable}
 use Rattle.ess_repr_laws.specs.Rooms.{Covered, Roomy}
 use Rattle.ess_repr_laws.specs.WellFormed.{Well}
-use Rattle.ess_repr_laws.specs.TypedDomains.{OneType, Typed}
+use Rattle.ess_repr_laws.specs.TypedDomains.{OneType, SameOrder, Typed, has_plain_relations}
 use Rattle.ess_repr_laws.specs.CanonicalTables.{TablesFit, Right, OneForm, is_compound}
 use Rattle.ess_repr_laws.specs.Structure.{shapes, structure}
 use Rattle.ess_repr_laws.specs.StructureMeaning.{Bound, M, Placed, axes_members, Ready}
@@ -75,16 +75,17 @@ pub record BoundsAreRight : Type 0 where
   pub enumerable : (d : Dom) (env : Env) (e : Domain) → Well d → is_enumerable d ≡ true → domain_of d env ≡ Some e → Enumerable e
 
 -- Positions stand for the values of named types: the members of the domain with positions are exactly the values with positions
--- of members, each of one member alone, whose types come back. Members of domains of one type stand in the same order.
+-- of members, each of one member alone, whose types come back. Members of domains of one type stand in the same order. So in
+-- a typed domain; what a well-formed expression denotes is one where no relation asks anything of pairs.
 pub record PositionsStandForTypes : Type 0 where
+  pub typed : (d : Dom) (env : Env) (e : Domain) → Well d → domain_of d env ≡ Some e → has_plain_relations e ≡ true → Typed e
   pub members : (e : Domain) → Typed e → (v : Value) → member e v ≡ true → member (domain_with_positions e) (with_positions v) ≡ true
   pub each_is_one : (e : Domain) → Typed e → (w : Value) → member (domain_with_positions e) w ≡ true →
       (v : Value) × (member e v ≡ true) × (with_positions v ≡ w)
   pub types_back : (e : Domain) → Typed e → (v : Value) → member e v ≡ true → with_types e (with_positions v) ≡ Some v
   pub one_to_one : (e : Domain) → Typed e → (v w : Value) → member e v ≡ true → member e w ≡ true → with_positions v ≡ with_positions w →
       v ≡ w
-  pub same_order : (d e : Domain) → OneType d e → (v w : Value) → member d v ≡ true → member e w ≡ true →
-      order (with_positions v) (with_positions w) ≡ order v w
+  pub same_order : (d e : Domain) → OneType d e → SameOrder d e
 
 -- A representation declares the same tables for a plan's domain and for the domain with types. Tables that stand for a member of
 -- a plan's domain stand for a member of the domain with types, which comes back from them. The canonical tables of a member

@@ -4,6 +4,7 @@ pub mod Rooms
 pub mod WellFormed
 -- Canonical tables
 pub mod CanonicalTables
+-- Positions in place of named types
 pub mod TypedDomains
 -- The constraint that cells are canonical
 pub mod Structure
