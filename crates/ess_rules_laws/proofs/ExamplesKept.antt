@@ -17,12 +17,13 @@ use Rattle.ess_semantics.specs.Choice.{alone}
 use Rattle.ess_semantics.specs.Operators.{value_of_node, false_where_undefined}
 use Rattle.ess_semantics.specs.Meaning.{Env, empty_env, meaning}
 use Rattle.ess_semantics.specs.Meets.{Meets}
-use Rattle.ess_semantics.specs.Kept.{Kept, KeptWhere}
+use Rattle.ess_semantics.specs.Kept.{Kept, KeptWhere, KeptAtRoot}
 use Rattle.ess_semantics.specs.Typed.{Typed}
 use Rattle.ess_semantics.specs.ModelMeaning.{env_of_tables}
 use Rattle.ess_semantics.proofs.Shorthands.{N, n, es1, bi, fn, upto, set, v}
 use Rattle.ess_semantics.proofs.ExamplesModels.{s_occ, bits, i}
-use Rattle.ess_rules_laws.proofs.Permutations.{same_list}
+use Rattle.ess_rules_laws.proofs.Permutations.{same_list, swap, count-perm}
+use Rattle.ess_rules_laws.proofs.SameItems.{root-kept}
 use Rattle.ess_rules_laws.proofs.Unordered.{sum-unordered}
 use Rattle.ess_rules_laws.proofs.Listing.{Listed, listed-kept}
 
@@ -65,6 +66,19 @@ where_x_is_a_number env p m = (go (look env.vals x) refl, tt)
 
 not_where_x_is_true : KeptWhere (λ env. Unit {0}) and_0 (N x) → ⊥
 not_where_x_is_true h = let e : Some (v 0) ≡ Some (truth true) = (h (record empty_env { vals = (x, truth true) ∷ [] }) tt (tt, (tt, tt))).0 in cc
+
+-- `[3 - x | x : int(1..2)]` has the items of `[x | x : int(1..2)]` in another order: so a rule may put it there under `sum`
+abbrev upwards : Ex
+upwards = comp_ex (N x) (over (name_pat x) (upto 2) no_gens)
+
+abbrev downwards : Ex
+downwards = comp_ex (bi Op2.Minus (n 3) (N x)) (over (name_pat x) (upto 2) no_gens)
+
+in_another_order : KeptAtRoot false (λ env. Unit {0}) upwards downwards
+in_another_order env p m = (count-perm (swap {x = v 1} {y = v 2} {xs = []}), ((tt, (tt, tt)), ((tt, (tt, tt)), ((tt, (tt, tt)), tt))))
+
+kept_under_sum : KeptWhere (λ env. Unit {0}) (fn Fun.Sum upwards) (fn Fun.Sum downwards)
+kept_under_sum = root-kept (λ env. Unit {0}) Fun.Sum refl false (N x) (bi Op2.Minus (n 3) (N x)) (over (name_pat x) (upto 2) no_gens) (over (name_pat x) (upto 2) no_gens) in_another_order
 
 -- a view of a set of int(1..3), kept as a table of truth values
 abbrev view : Ex

@@ -23,7 +23,8 @@ module _ (P : Names Ty → Env → Type 0) where
       StaysBehind P gs g → P g env → AtEach gs env Q
   at-each-under no_gens g env Q f s p = f env p
   at-each-under (over x d gs) g env Q f s p =
-      each-of-map (members_in (domain_of d env)) _ _ (λ v. at-each-under gs (bind_types x (type_of_dom d) g) (with_pat x v env) Q f s.1) (s.0 env p)
+      each-of-map (members_in (domain_of d env)) _ _ (λ v. at-each-under gs (bind_types x (type_of_dom d) g) (with_pat x v env) Q f s.1)
+      (s.0 env p)
   at-each-under (from x e gs) g env Q f s p =
       each-in-map (meaning e env) _ _ (λ v. at-each-under gs (bind_types x (source_ty e g) g) (with_pat x v env) Q f s.1) (s.0 env p)
   at-each-under (cond e gs) g env Q f s p = λ t. at-each-under gs g env Q f s p
@@ -47,9 +48,11 @@ module _ (P : Names Ty → Env → Type 0) where
 
     pub gens-under : (c : InGens) (g : Names Ty) (env : Env) → StaysAtGens P c g → P g env → WhereGens c env (P (names_at_gens c g))
     gens-under (in_generator_domain y c gs) g env s p = dom-under c g env s p
-    gens-under (behind_over y d c) g env s p = each-of-map (members_in (domain_of d env)) _ _ (λ v. gens-under c (bind_types y (type_of_dom d) g) (with_pat y v env) s.1) (s.0 env p)
+    gens-under (behind_over y d c) g env s p = each-of-map (members_in (domain_of d env)) _ _
+        (λ v. gens-under c (bind_types y (type_of_dom d) g) (with_pat y v env) s.1) (s.0 env p)
     gens-under (in_source y c gs) g env s p = where-under c g env s p
-    gens-under (behind_from y x c) g env s p = each-in-map (meaning x env) _ _ (λ v. gens-under c (bind_types y (source_ty x g) g) (with_pat y v env) s.1) (s.0 env p)
+    gens-under (behind_from y x c) g env s p = each-in-map (meaning x env) _ _
+        (λ v. gens-under c (bind_types y (source_ty x g) g) (with_pat y v env) s.1) (s.0 env p)
     gens-under (in_condition c gs) g env s p = where-under c g env s p
     gens-under (behind_condition x c) g env s p = λ t. gens-under c g env s p
 
@@ -76,7 +79,8 @@ module _ (P : Names Ty → Env → Type 0) where
     doms-under (in_later_domain d c) g env s p = doms-under c g env s p
 
   -- A rule that keeps a part under the types there keeps the whole.
-  pub step-under : (c : In) (g : Names Ty) (old new : Ex) → StaysAt P c g → KeptUnder P (names_at c g) old new → KeptUnder P g (fill c old) (fill c new)
+  pub step-under : (c : In) (g : Names Ty) (old new : Ex) → StaysAt P c g → KeptUnder P (names_at c g) old new →
+      KeptUnder P g (fill c old) (fill c new)
   step-under c g old new s k env p m = step (P (names_at c g)) old new k c env (where-under c g env s p) m
 
   -- Rules one after the other.
@@ -88,7 +92,8 @@ module _ (P : Names Ty → Env → Type 0) where
   itself-under g = kept-itself (P g)
 
 -- Rules one after the other, each at some part, keep the whole where each keeps its part.
-pub rewritten-kept : (P : Names Ty → Env → Type 0) (R : Names Ty → Ex → Ex → Type 0) → ((g : Names Ty) (a b : Ex) → R g a b → KeptUnder P g a b) →
+pub rewritten-kept : (P : Names Ty → Env → Type 0) (R : Names Ty → Ex → Ex → Type 0) →
+    ((g : Names Ty) (a b : Ex) → R g a b → KeptUnder P g a b) →
     (g : Names Ty) (old new : Ex) → Rewritten P R g old new → KeptUnder P g old new
 rewritten-kept P R k g e d as_it_was = itself-under P g e
 rewritten-kept P R k g old e (rewritten_at {a = a} {b = b} c s r t) =

@@ -18,4 +18,5 @@ pub mod Listing
 pub mod Connectives
 pub mod Guards
 pub mod Horizontal
+pub mod SameItems
 pub mod ExamplesKept

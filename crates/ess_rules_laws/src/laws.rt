@@ -1,6 +1,6 @@
 //! Laws of rewriting, each the contract of a function that does nothing.
 
-ghost use Rattle.ess_rules_laws.specs.Laws.{UnusedNamesChangeNothing, PartsMayBeReplaced, StepsKeepTheWhole, KeptPartsKeepTheWhole, RewritingKeepsTheWhole};
+ghost use Rattle.ess_rules_laws.specs.Laws.{UnusedNamesChangeNothing, PartsMayBeReplaced, StepsKeepTheWhole, KeptPartsKeepTheWhole, RewritingKeepsTheWhole, WordsForgetOrder};
 
 /// A value of a name that isn't free in an expression changes no meaning. So a bound name may be any name that isn't free
 /// there, and one that a parameter brings may be bound.
@@ -29,4 +29,9 @@ pub fn kept_parts_keep_the_whole()
 /// So do any number of such rules, one after the other at any parts.
 pub fn rewriting_keeps_the_whole()
     ensures { RewritingKeepsTheWhole }
+{}
+
+/// Over comprehensions that have the same items equally often a word that forgets their order means the same.
+pub fn words_forget_order()
+    ensures { WordsForgetOrder }
 {}
