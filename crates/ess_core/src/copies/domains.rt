@@ -13,10 +13,22 @@ impl Dom {
     {
         match self {
             Dom::Bool => Ok(Dom::Bool),
-            Dom::Int(ranges) => copy_ranges(alloc, ranges).map(Dom::Int),
-            Dom::Name(name) => name.copy(alloc).map(Dom::Name),
-            Dom::Tuple(doms) => copy_doms(alloc, doms).map(Dom::Tuple),
-            Dom::Rec(fields) => copy_fields(alloc, fields).map(Dom::Rec),
+            Dom::Int(ranges) => match copy_ranges(alloc, ranges) {
+                Ok(copy) => Ok(Dom::Int(copy)),
+                Err(no) => Err(no)
+            },
+            Dom::Name(name) => match name.copy(alloc) {
+                Ok(copy) => Ok(Dom::Name(copy)),
+                Err(no) => Err(no)
+            },
+            Dom::Tuple(doms) => match copy_doms(alloc, doms) {
+                Ok(copy) => Ok(Dom::Tuple(copy)),
+                Err(no) => Err(no)
+            },
+            Dom::Rec(fields) => match copy_fields(alloc, fields) {
+                Ok(copy) => Ok(Dom::Rec(copy)),
+                Err(no) => Err(no)
+            },
             Dom::Matrix(axes, item) => {
                 let item = boxed(alloc, item.get().copy(alloc));
                 let (axes, item) = both(copy_doms(alloc, axes), item)?;
@@ -71,7 +83,10 @@ impl Range {
         ensures { IfOk result (λ r. r ≡ self.now) }
     {
         match self {
-            Range::One(ex) => ex.copy(alloc).map(Range::One),
+            Range::One(ex) => match ex.copy(alloc) {
+                Ok(copy) => Ok(Range::One(copy)),
+                Err(no) => Err(no)
+            },
             Range::Span(low, high) => {
                 match both(copy_maybe(alloc, low), copy_maybe(alloc, high)) {
                     Ok((low, high)) => Ok(Range::Span(low, high)),
@@ -104,7 +119,10 @@ fn copy_maybe(alloc: Global, ex: &Option<Ex>) -> Result<Option<Ex>, NoMemory>
 {
     match ex {
         None => Ok(None),
-        Some(ex) => ex.copy(alloc).map(Some),
+        Some(ex) => match ex.copy(alloc) {
+            Ok(copy) => Ok(Some(copy)),
+            Err(no) => Err(no)
+        },
     }
 }
 

@@ -14,7 +14,10 @@ impl Ex {
         match self {
             Ex::Num(number) => Ok(Ex::Num(*number)),
             Ex::Truth(truth) => Ok(Ex::Truth(*truth)),
-            Ex::Name(name) => name.copy(alloc).map(Ex::Name),
+            Ex::Name(name) => match name.copy(alloc) {
+                Ok(copy) => Ok(Ex::Name(copy)),
+                Err(no) => Err(no)
+            },
             Ex::One(op, a) => {
                 let a = boxed(alloc, a.get().copy(alloc))?;
                 Ok(Ex::One(*op, a))
@@ -38,13 +41,34 @@ impl Ex {
                 let (f, args) = both(f, copy_exs(alloc, args))?;
                 Ok(Ex::Apply(*truth, f, args))
             }
-            Ex::Tuple(items) => copy_exs(alloc, items).map(Ex::Tuple),
-            Ex::Rec(fields) => copy_fields(alloc, fields).map(Ex::Rec),
-            Ex::Set(members) => copy_exs(alloc, members).map(Ex::Set),
-            Ex::MSet(members) => copy_exs(alloc, members).map(Ex::MSet),
-            Ex::Function(pairs) => copy_pairs(alloc, pairs).map(Ex::Function),
-            Ex::Relation(tuples) => copy_exs(alloc, tuples).map(Ex::Relation),
-            Ex::Partition(parts) => copy_exs(alloc, parts).map(Ex::Partition),
+            Ex::Tuple(items) => match copy_exs(alloc, items) {
+                Ok(copy) => Ok(Ex::Tuple(copy)),
+                Err(no) => Err(no)
+            },
+            Ex::Rec(fields) => match copy_fields(alloc, fields) {
+                Ok(copy) => Ok(Ex::Rec(copy)),
+                Err(no) => Err(no)
+            },
+            Ex::Set(members) => match copy_exs(alloc, members) {
+                Ok(copy) => Ok(Ex::Set(copy)),
+                Err(no) => Err(no)
+            },
+            Ex::MSet(members) => match copy_exs(alloc, members) {
+                Ok(copy) => Ok(Ex::MSet(copy)),
+                Err(no) => Err(no)
+            },
+            Ex::Function(pairs) => match copy_pairs(alloc, pairs) {
+                Ok(copy) => Ok(Ex::Function(copy)),
+                Err(no) => Err(no)
+            },
+            Ex::Relation(tuples) => match copy_exs(alloc, tuples) {
+                Ok(copy) => Ok(Ex::Relation(copy)),
+                Err(no) => Err(no)
+            },
+            Ex::Partition(parts) => match copy_exs(alloc, parts) {
+                Ok(copy) => Ok(Ex::Partition(copy)),
+                Err(no) => Err(no)
+            },
             Ex::Matrix(items, axis) => {
                 let (items, axis) = both(copy_exs(alloc, items), copy_axis(alloc, axis))?;
                 Ok(Ex::Matrix(items, axis))
@@ -58,7 +82,10 @@ impl Ex {
                 let (name, at) = both(name.copy(alloc), copy_exs(alloc, at))?;
                 Ok(Ex::Cell(*truth, name, at))
             }
-            Ex::Seen(view) => boxed(alloc, view.get().copy(alloc)).map(Ex::Seen),
+            Ex::Seen(view) => match boxed(alloc, view.get().copy(alloc)) {
+                Ok(copy) => Ok(Ex::Seen(copy)),
+                Err(no) => Err(no)
+            },
         }
     }
 }
@@ -70,9 +97,15 @@ impl Step {
         ensures { IfOk result (λ s. s ≡ self.now) }
     {
         match self {
-            Step::Value(ex) => ex.copy(alloc).map(Step::Value),
+            Step::Value(ex) => match ex.copy(alloc) {
+                Ok(copy) => Ok(Step::Value(copy)),
+                Err(no) => Err(no)
+            },
             Step::Component(number) => Ok(Step::Component(*number)),
-            Step::Field(name) => name.copy(alloc).map(Step::Field),
+            Step::Field(name) => match name.copy(alloc) {
+                Ok(copy) => Ok(Step::Field(copy)),
+                Err(no) => Err(no)
+            },
         }
     }
 }
@@ -118,7 +151,10 @@ impl Gen {
                 Ok((pat, ex)) => Ok(Gen::From(pat, ex)),
                 Err(no) => Err(no),
             },
-            Gen::If(ex) => ex.copy(alloc).map(Gen::If),
+            Gen::If(ex) => match ex.copy(alloc) {
+                Ok(copy) => Ok(Gen::If(copy)),
+                Err(no) => Err(no)
+            },
         }
     }
 }
@@ -150,8 +186,14 @@ impl Pat {
         ensures { IfOk result (λ p. p ≡ self.now) }
     {
         match self {
-            Pat::Name(name) => name.copy(alloc).map(Pat::Name),
-            Pat::Tuple(pats) => copy_pats(alloc, pats).map(Pat::Tuple),
+            Pat::Name(name) => match name.copy(alloc) {
+                Ok(copy) => Ok(Pat::Name(copy)),
+                Err(no) => Err(no)
+            },
+            Pat::Tuple(pats) => match copy_pats(alloc, pats) {
+                Ok(copy) => Ok(Pat::Tuple(copy)),
+                Err(no) => Err(no)
+            },
         }
     }
 }
@@ -176,7 +218,10 @@ fn copy_axis(alloc: Global, axis: &Option<Boxed<Dom>>) -> Result<Option<Boxed<Do
 {
     match axis {
         None => Ok(None),
-        Some(dom) => boxed(alloc, dom.get().copy(alloc)).map(Some),
+        Some(dom) => match boxed(alloc, dom.get().copy(alloc)) {
+            Ok(copy) => Ok(Some(copy)),
+            Err(no) => Err(no)
+        },
     }
 }
 

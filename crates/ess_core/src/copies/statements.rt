@@ -15,7 +15,10 @@ impl Stm {
                 let (name, dom) = both(name.copy(alloc), boxed(alloc, dom.get().copy(alloc)))?;
                 Ok(Stm::Given(name, dom))
             }
-            Stm::GivenEnum(name) => name.copy(alloc).map(Stm::GivenEnum),
+            Stm::GivenEnum(name) => match name.copy(alloc) {
+                Ok(copy) => Ok(Stm::GivenEnum(copy)),
+                Err(no) => Err(no)
+            },
             Stm::LetEx(name, ex) => {
                 let (name, ex) = both(name.copy(alloc), boxed(alloc, ex.get().copy(alloc)))?;
                 Ok(Stm::LetEx(name, ex))
@@ -32,14 +35,26 @@ impl Stm {
                 let (name, size) = both(name.copy(alloc), boxed(alloc, size.get().copy(alloc)))?;
                 Ok(Stm::LetUnnamed(name, size))
             }
-            Stm::Needs(ex) => boxed(alloc, ex.get().copy(alloc)).map(Stm::Needs),
+            Stm::Needs(ex) => match boxed(alloc, ex.get().copy(alloc)) {
+                Ok(copy) => Ok(Stm::Needs(copy)),
+                Err(no) => Err(no)
+            },
             Stm::Find(name, dom) => {
                 let (name, dom) = both(name.copy(alloc), boxed(alloc, dom.get().copy(alloc)))?;
                 Ok(Stm::Find(name, dom))
             }
-            Stm::SuchThat(ex) => boxed(alloc, ex.get().copy(alloc)).map(Stm::SuchThat),
-            Stm::Minimise(ex) => boxed(alloc, ex.get().copy(alloc)).map(Stm::Minimise),
-            Stm::Maximise(ex) => boxed(alloc, ex.get().copy(alloc)).map(Stm::Maximise),
+            Stm::SuchThat(ex) => match boxed(alloc, ex.get().copy(alloc)) {
+                Ok(copy) => Ok(Stm::SuchThat(copy)),
+                Err(no) => Err(no)
+            },
+            Stm::Minimise(ex) => match boxed(alloc, ex.get().copy(alloc)) {
+                Ok(copy) => Ok(Stm::Minimise(copy)),
+                Err(no) => Err(no)
+            },
+            Stm::Maximise(ex) => match boxed(alloc, ex.get().copy(alloc)) {
+                Ok(copy) => Ok(Stm::Maximise(copy)),
+                Err(no) => Err(no)
+            },
         }
     }
 }

@@ -15,23 +15,44 @@ impl Ty {
             Ty::Any => Ok(Ty::Any),
             Ty::Bool => Ok(Ty::Bool),
             Ty::Int => Ok(Ty::Int),
-            Ty::Named(name) => name.copy(alloc).map(Ty::Named),
-            Ty::Tuple(items) => copy_tys(alloc, items).map(Ty::Tuple),
-            Ty::Rec(fields) => copy_fields(alloc, fields).map(Ty::Rec),
+            Ty::Named(name) => match name.copy(alloc) {
+                Ok(copy) => Ok(Ty::Named(copy)),
+                Err(no) => Err(no)
+            },
+            Ty::Tuple(items) => match copy_tys(alloc, items) {
+                Ok(copy) => Ok(Ty::Tuple(copy)),
+                Err(no) => Err(no)
+            },
+            Ty::Rec(fields) => match copy_fields(alloc, fields) {
+                Ok(copy) => Ok(Ty::Rec(copy)),
+                Err(no) => Err(no)
+            },
             Ty::Matrix(index, item) => {
                 let index = boxed(alloc, index.get().copy(alloc));
                 let (index, item) = both(index, boxed(alloc, item.get().copy(alloc)))?;
                 Ok(Ty::Matrix(index, item))
             }
-            Ty::Set(member) => boxed(alloc, member.get().copy(alloc)).map(Ty::Set),
-            Ty::MSet(member) => boxed(alloc, member.get().copy(alloc)).map(Ty::MSet),
+            Ty::Set(member) => match boxed(alloc, member.get().copy(alloc)) {
+                Ok(copy) => Ok(Ty::Set(copy)),
+                Err(no) => Err(no)
+            },
+            Ty::MSet(member) => match boxed(alloc, member.get().copy(alloc)) {
+                Ok(copy) => Ok(Ty::MSet(copy)),
+                Err(no) => Err(no)
+            },
             Ty::Function(from, to) => {
                 let from = boxed(alloc, from.get().copy(alloc));
                 let (from, to) = both(from, boxed(alloc, to.get().copy(alloc)))?;
                 Ok(Ty::Function(from, to))
             }
-            Ty::Relation(items) => copy_tys(alloc, items).map(Ty::Relation),
-            Ty::Partition(member) => boxed(alloc, member.get().copy(alloc)).map(Ty::Partition),
+            Ty::Relation(items) => match copy_tys(alloc, items) {
+                Ok(copy) => Ok(Ty::Relation(copy)),
+                Err(no) => Err(no)
+            },
+            Ty::Partition(member) => match boxed(alloc, member.get().copy(alloc)) {
+                Ok(copy) => Ok(Ty::Partition(copy)),
+                Err(no) => Err(no)
+            },
         }
     }
 }

@@ -18,17 +18,38 @@ impl Val {
                 let name = name.copy(alloc)?;
                 Ok(Val::Item(name, *position))
             }
-            Val::Tuple(items) => copy_vals(alloc, items).map(Val::Tuple),
-            Val::Rec(fields) => copy_fields(alloc, fields).map(Val::Rec),
+            Val::Tuple(items) => match copy_vals(alloc, items) {
+                Ok(copy) => Ok(Val::Tuple(copy)),
+                Err(no) => Err(no)
+            },
+            Val::Rec(fields) => match copy_fields(alloc, fields) {
+                Ok(copy) => Ok(Val::Rec(copy)),
+                Err(no) => Err(no)
+            },
             Val::Matrix(index, items) => {
                 let (index, items) = both(copy_vals(alloc, index), copy_vals(alloc, items))?;
                 Ok(Val::Matrix(index, items))
             }
-            Val::Set(members) => copy_vals(alloc, members).map(Val::Set),
-            Val::MSet(members) => copy_vals(alloc, members).map(Val::MSet),
-            Val::Function(pairs) => copy_pairs(alloc, pairs).map(Val::Function),
-            Val::Relation(tuples) => copy_vals(alloc, tuples).map(Val::Relation),
-            Val::Partition(parts) => copy_vals(alloc, parts).map(Val::Partition),
+            Val::Set(members) => match copy_vals(alloc, members) {
+                Ok(copy) => Ok(Val::Set(copy)),
+                Err(no) => Err(no)
+            },
+            Val::MSet(members) => match copy_vals(alloc, members) {
+                Ok(copy) => Ok(Val::MSet(copy)),
+                Err(no) => Err(no)
+            },
+            Val::Function(pairs) => match copy_pairs(alloc, pairs) {
+                Ok(copy) => Ok(Val::Function(copy)),
+                Err(no) => Err(no)
+            },
+            Val::Relation(tuples) => match copy_vals(alloc, tuples) {
+                Ok(copy) => Ok(Val::Relation(copy)),
+                Err(no) => Err(no)
+            },
+            Val::Partition(parts) => match copy_vals(alloc, parts) {
+                Ok(copy) => Ok(Val::Partition(copy)),
+                Err(no) => Err(no)
+            },
         }
     }
 }
