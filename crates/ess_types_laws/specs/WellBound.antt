@@ -1,16 +1,19 @@
 -- What type soundness asks of a tree beside its type: something of each cell and view, each pattern has the form of what it is
 -- bound at, and an index domain is an atom. Of an index it is asked of what is indexed alone: a step chooses among what is
 -- there. The tuples of a relation literal have parts, as they have in each text.
-use Rattle.std.specs.Prelude.{Bool, true, false, not, List, Option, Some, IsTrue}
+use Rattle.std.specs.Prelude.{◌≡◌, Bool, true, false, not, List, Option, Some, IsTrue}
 use Rattle.ess_semantics.specs.Lists.{and_then, all_some}
-use Rattle.ess_semantics.specs.Values.{a_tuple}
+use Rattle.ess_semantics.specs.Values.{a_tuple, Value}
 use Rattle.ess_semantics.specs.Names.{Names}
 use Rattle.ess_semantics.specs.Trees.{Op, index, relation_literal, Ex, Exs, number_ex, truth_ex, name_ex, node_ex, matrix_ex, comp_ex, cell_ex, seen_ex, no_exs, more_exs, Gens, no_gens, over, from, cond}
 use Rattle.ess_semantics.specs.Types.{Ty, compound, no_tys, join_all, type_of_dom, bind_types}
-use Rattle.ess_semantics.specs.Typing.{types_of, source_ty}
+use Rattle.ess_semantics.specs.Typing.{type_of, types_of, source_ty}
 use Rattle.ess_semantics.specs.Kinds.{is_atom}
 use Rattle.ess_semantics.specs.ExpressionJudgements.{pattern_fits}
 use Rattle.ess_semantics.specs.NamesAt.{names_behind}
+use Rattle.ess_semantics.specs.Meaning.{Env, meaning}
+use Rattle.ess_semantics.specs.TypeMembers.{is_of_type}
+use Rattle.ess_semantics.specs.Typed.{Typed}
 
 -- Whether this is the type of tuples without parts. No text has such a tuple.
 abbrev pub is_empty_tuple : Option Ty → Bool
@@ -69,3 +72,10 @@ AreWellBound = AreBoundWith no_tables
 -- The same of generators.
 abbrev pub GensWellBound : Gens → Names Ty → Type 0
 GensWellBound = GensBoundWith no_tables
+
+-- Over the tables of the env, and under any values of names that have their types, the expression has nothing or a value of
+-- its type. This is what is asked of a cell or a view where there are tables.
+abbrev pub HasItsType : Env → Ex → Names Ty → Type 0
+HasItsType env e g =
+    (vals : Names Value) → Typed g (record env { vals = vals }) → (t : Ty) (v : Value) → type_of e g ≡ Some t → meaning e (record env { vals = vals }) ≡ Some v →
+    IsTrue (is_of_type t env v)
