@@ -1,11 +1,15 @@
 -- The laws of the machine of models, as readers want them.
-use Rattle.std.proofs.Common.{◌≡◌, refl, sym, ◌∙◌, List, [], ◌∷◌, ◌++◌, Option, Some, None, Ok, Err, IsTrue}
+use Rattle.std.proofs.Common.{◌≡◌, refl, sym, ap, ◌∙◌, List, [], ◌∷◌, ◌++◌, Option, Some, None, Ok, Err, IsTrue, IfOk}
+use Rattle.std.specs.List.{list_all}
 use Rattle.std.specs.declared.result.Result.{Result}
 use Rattle.ess_semantics.specs.Values.{Text}
 use Rattle.ess_semantics.specs.ModelTrees.{Model}
 use Rattle.ess_grammar.specs.Words.{Token, word}
-use Rattle.ess_grammar.specs.ModelTexts.{IsModel}
+use Rattle.ess_grammar.specs.ModelTexts.{IsModel, header_lines}
 use Rattle.ess_grammar.specs.Models.{is_readable_model}
+use Rattle.eprime_tree.specs.ModelText.{is_head_line}
+use Rattle.eprime_tree.specs.declared.models.PModel.{PModel}
+use Rattle.eprime_tree.proofs.HeadLines.{header-head}
 use Rattle.ess_parse.specs.declared.refusal.ReadNo.{ReadNo}
 use Rattle.ess_parse.specs.Readers.{IsDerived, IsReadable}
 use Rattle.ess_parse.proofs.Runs.{from_state, state_behind, tree_of, IsMachineFor}
@@ -43,3 +47,8 @@ model_laws = record {
 pub models_readable : {T : Type 0} (view : T → Model) (text : Text) (r : Result T ReadNo) → IsDerived IsModel view text r → IsReadable (λ m. IsTrue (is_readable_model m)) view r
 models_readable view text (Ok t) d = (d.2).readable
 models_readable view text (Err why) d = tt
+
+-- The lines of a header that is answered are lines that a header may have.
+pub lines_are : (text : Text) (r : Result PModel ReadNo) → IfOk r (λ m. m.head ≡ header_lines text) → IfOk r (λ m. IsTrue (list_all is_head_line m.head))
+lines_are text (Ok m) h = ap (list_all is_head_line) h ∙ header-head text
+lines_are text (Err why) h = tt

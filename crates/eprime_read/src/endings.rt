@@ -15,32 +15,32 @@ use crate::drafts::Draft;
 use crate::growing::{with_find, with_given, with_greatest, with_least, with_rules};
 use crate::openings::Opening;
 use crate::statements::{find_in, given_in, greatest_in, least_in, only};
-use eprime_read_convert::Line;
+use eprime_read_convert::Lines;
 use eprime_read_convert::expressions::convert_ex;
 use eprime_tree::PEx;
 use ess_core::Stm;
-use ess_rows::{NoMemory, Row, Text};
+use ess_rows::{Boxed, NoMemory, Row, Text};
 use std::alloc::Global;
 
 /// The constraint of a model that a statement is, if it is one.
 fn rule_of(
     alloc: Global,
-    lines: &Row<Line>,
+    lines: &Lines,
     bound: &Row<Text>,
     stm: &Stm,
-) -> Result<Option<PEx>, NoMemory>
+) -> Result<Option<Boxed<PEx>>, NoMemory>
     requires bound { bound.now ≡ [] }
     requires readable { ReadableStm (pure_stm stm.now) }
     ensures { IfOk result (λ o. option_map (pure_ex (scope_of lines.now)) o ≡ model_rule (scope_of lines.now) (pure_stm stm.now)) }
 {
     match stm {
-        Stm::SuchThat(ex) => Ok(convert_ex(alloc, lines, true, bound, ex)?),
+        Stm::SuchThat(ex) => Ok(convert_ex(alloc, lines, true, bound, ex.get())?),
         _ => Ok(None),
     }
 }
 
 /// The constraints of a model that statements are, where all are such.
-fn rules_of(alloc: Global, lines: &Row<Line>, stms: &[Stm]) -> Result<Option<Row<PEx>>, NoMemory>
+fn rules_of(alloc: Global, lines: &Lines, stms: &[Stm]) -> Result<Option<Row<PEx>>, NoMemory>
     requires { ReadableStms (map pure_stm stms.now) }
     ensures { IfOk result (λ o. option_map (map (pure_ex (scope_of lines.now))) o ≡ model_rules (scope_of lines.now) (map pure_stm stms.now)) }
 {
@@ -48,7 +48,7 @@ fn rules_of(alloc: Global, lines: &Row<Line>, stms: &[Stm]) -> Result<Option<Row
     let mut rules = Row::new(alloc);
     for stm in stms {
         match rule_of(alloc, lines, &bound, stm)? {
-            Some(rule) => rules.push(rule)?,
+            Some(rule) => rules.push(rule.into_inner())?,
             None => return Ok(None),
         }
     }
@@ -67,7 +67,7 @@ fn with_given_part(alloc: Global, draft: Draft, stms: Row<Stm>) -> Result<Option
         return Ok(None);
     };
     match given_in(stm) {
-        Some((name, dom)) => Ok(with_given(alloc, draft, &name, &dom)?),
+        Some((name, dom)) => Ok(with_given(alloc, draft, &name, dom.get())?),
         None => Ok(None),
     }
 }
@@ -84,7 +84,7 @@ fn with_find_part(alloc: Global, draft: Draft, stms: Row<Stm>) -> Result<Option<
         return Ok(None);
     };
     match find_in(stm) {
-        Some((name, dom)) => Ok(with_find(alloc, draft, &name, &dom)?),
+        Some((name, dom)) => Ok(with_find(alloc, draft, &name, dom.get())?),
         None => Ok(None),
     }
 }
@@ -99,7 +99,7 @@ fn with_least_part(alloc: Global, draft: Draft, stms: Row<Stm>) -> Result<Option
         return Ok(None);
     };
     match least_in(stm) {
-        Some(ex) => Ok(with_least(alloc, draft, &ex)?),
+        Some(ex) => Ok(with_least(alloc, draft, ex.get())?),
         None => Ok(None),
     }
 }
@@ -118,7 +118,7 @@ fn with_greatest_part(
         return Ok(None);
     };
     match greatest_in(stm) {
-        Some(ex) => Ok(with_greatest(alloc, draft, &ex)?),
+        Some(ex) => Ok(with_greatest(alloc, draft, ex.get())?),
         None => Ok(None),
     }
 }

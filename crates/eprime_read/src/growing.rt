@@ -13,9 +13,9 @@ ghost use Rattle.eprime_read.specs.Drafts.{Fits, given_on, find_on, goal_on, rul
 ghost use Rattle.eprime_read.specs.Views.{view_draft};
 
 use crate::drafts::Draft;
-use eprime_read_convert::Line;
 use eprime_read_convert::declarations::convert_decl;
 use eprime_read_convert::expressions::convert_ex;
+use eprime_read_convert::{Line, Lines};
 use eprime_tree::{PDecl, PDom, PEx, PGoal, PModel};
 use ess_core::{Dom, Ex};
 use ess_rows::{NoMemory, Row, Text};
@@ -34,7 +34,7 @@ pub(crate) fn new_draft(alloc: Global) -> Draft
             goal: PGoal::Free,
             rules: Row::new(alloc),
         },
-        lines: Row::new(alloc),
+        lines: Lines::new(alloc),
     }
 }
 
@@ -69,9 +69,8 @@ fn push_given(alloc: Global, draft: Draft, decl: PDecl) -> Result<Draft, NoMemor
     let line = line_of(alloc, &decl, false)?;
     let Draft { model, lines } = draft;
     let mut model = model;
-    let mut lines = lines;
     model.givens.push(decl)?;
-    lines.push(line)?;
+    let lines = lines.with(alloc, line)?;
     Ok(Draft { model, lines })
 }
 
@@ -86,9 +85,8 @@ fn push_find(alloc: Global, draft: Draft, decl: PDecl) -> Result<Draft, NoMemory
     let line = line_of(alloc, &decl, true)?;
     let Draft { model, lines } = draft;
     let mut model = model;
-    let mut lines = lines;
     model.finds.push(decl)?;
-    lines.push(line)?;
+    let lines = lines.with(alloc, line)?;
     Ok(Draft { model, lines })
 }
 
@@ -163,7 +161,7 @@ pub(crate) fn with_least(alloc: Global, draft: Draft, ex: &Ex) -> Result<Option<
 {
     let bound = Row::new(alloc);
     match convert_ex(alloc, &draft.lines, true, &bound, ex)? {
-        Some(ex) => Ok(Some(with_goal(draft, PGoal::Minimise(ex)))),
+        Some(ex) => Ok(Some(with_goal(draft, PGoal::Minimise(ex.into_inner())))),
         None => Ok(None),
     }
 }
@@ -175,7 +173,7 @@ pub(crate) fn with_greatest(alloc: Global, draft: Draft, ex: &Ex) -> Result<Opti
 {
     let bound = Row::new(alloc);
     match convert_ex(alloc, &draft.lines, true, &bound, ex)? {
-        Some(ex) => Ok(Some(with_goal(draft, PGoal::Maximise(ex)))),
+        Some(ex) => Ok(Some(with_goal(draft, PGoal::Maximise(ex.into_inner())))),
         None => Ok(None),
     }
 }

@@ -18,8 +18,6 @@ mod openings;
 mod parts;
 mod statements;
 mod steps;
-#[cfg(test)]
-mod tests;
 
 pub use ess_parse::ReadNo;
 pub use models::read_model;

@@ -1,10 +1,12 @@
 ghost use Rattle.std.specs.Prelude.{◌≡◌, IfOk, IsTrue};
+ghost use Rattle.std.specs.List.{list_all};
 ghost use Rattle.ess_grammar.specs.ModelTexts.{IsModel, header_lines};
 ghost use Rattle.ess_grammar.specs.Models.{is_readable_model};
 ghost use Rattle.ess_parse.specs.Readers.{IsRefusedFirst, IsDerived, IsAnswered, IsUnread, IsPlaced, IsReadable};
 ghost use Rattle.ess_parse.specs.Runs.{IsReading};
 ghost use Rattle.eprime_read_laws.specs.ModelMachine.{at_begin, model_step, model_finish};
 ghost use Rattle.eprime_tree.specs.Views.{pure_model};
+ghost use Rattle.eprime_tree.specs.ModelText.{is_head_line};
 
 use crate::header::header_lines;
 use crate::machine::Machine;
@@ -21,7 +23,8 @@ use std::alloc::Global;
 /// at, in this order. Else the model is answered exactly where the rules derive one, and `Syntax` exactly where they derive
 /// none: its place is that of a token with which no model goes on, or that of the end of the text, and before each word
 /// that begins a statement and stands before the place stands a whole model. `NoMemory` for want of memory. The header has
-/// the lines under the language line that begin with `$ `, up to the first that doesn't or isn't UTF-8.
+/// the lines under the language line that begin with `$ `, up to the first that doesn't or isn't UTF-8. Each is one line in
+/// UTF-8, so the answer can be printed.
 pub fn read_model(alloc: Global, text: &[u8]) -> Result<PModel, ReadNo>
     ensures refused { IsRefusedFirst text.now result }
     ensures derived { IsDerived IsModel pure_model text.now result }
@@ -30,6 +33,7 @@ pub fn read_model(alloc: Global, text: &[u8]) -> Result<PModel, ReadNo>
     ensures placed { IsPlaced IsModel text.now result }
     ensures readable { IsReadable (λ m. IsTrue (is_readable_model m)) pure_model result }
     ensures head { IfOk result (λ m. m.head ≡ header_lines text.now) }
+    ensures lines { IfOk result (λ m. IsTrue (list_all is_head_line m.head)) }
 {
     run(alloc, text)
 }

@@ -8,7 +8,7 @@ ghost use Rattle.eprime_read.specs.Statements.{only, given_in, find_in, least_in
 
 use ess_core::{Dom, Ex, Stm};
 use ess_parse_frames::Answer;
-use ess_rows::{Row, Text};
+use ess_rows::{Boxed, Row, Text};
 
 /// The statements of an answer, if it has any.
 pub(crate) fn statements_of(answer: Answer) -> Option<Row<Stm>>
@@ -37,7 +37,7 @@ pub(crate) fn only(stms: Row<Stm>) -> Option<Stm>
 }
 
 /// The name and the domain of a given.
-pub(crate) fn given_in(stm: Stm) -> Option<(Text, Dom)>
+pub(crate) fn given_in(stm: Stm) -> Option<(Text, Boxed<Dom>)>
     ensures { given_in (pure_stm stm) ≡ option_map pure_named result }
 {
     match stm {
@@ -50,7 +50,7 @@ pub(crate) fn given_in(stm: Stm) -> Option<(Text, Dom)>
 }
 
 /// The name and the domain of a find.
-pub(crate) fn find_in(stm: Stm) -> Option<(Text, Dom)>
+pub(crate) fn find_in(stm: Stm) -> Option<(Text, Boxed<Dom>)>
     ensures { find_in (pure_stm stm) ≡ option_map pure_named result }
 {
     match stm {
@@ -63,7 +63,7 @@ pub(crate) fn find_in(stm: Stm) -> Option<(Text, Dom)>
 }
 
 /// What is to be as low as it can.
-pub(crate) fn least_in(stm: Stm) -> Option<Ex>
+pub(crate) fn least_in(stm: Stm) -> Option<Boxed<Ex>>
     ensures { least_in (pure_stm stm) ≡ option_map pure_ex result }
 {
     match stm {
@@ -76,7 +76,7 @@ pub(crate) fn least_in(stm: Stm) -> Option<Ex>
 }
 
 /// What is to be as high as it can.
-pub(crate) fn greatest_in(stm: Stm) -> Option<Ex>
+pub(crate) fn greatest_in(stm: Stm) -> Option<Boxed<Ex>>
     ensures { greatest_in (pure_stm stm) ≡ option_map pure_ex result }
 {
     match stm {

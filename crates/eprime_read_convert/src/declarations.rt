@@ -8,7 +8,7 @@ ghost use Rattle.eprime_read_convert.specs.Lines.{scope_of};
 ghost use Rattle.eprime_read_convert.specs.Converted.{declared_table, model_dom, table_model, table_of_parts};
 
 use crate::domains::convert_dom;
-use crate::lines::{Line, truth_of};
+use crate::lines::{Lines, truth_of};
 use eprime_tree::{PDecl, PDom};
 use ess_core::Dom;
 use ess_rows::{NoMemory, Row, Text};
@@ -19,7 +19,7 @@ use std::alloc::Global;
 /// `NoMemory` where there is no room for the copy.
 pub fn convert_decl(
     alloc: Global,
-    lines: &Row<Line>,
+    lines: &Lines,
     name: &Text,
     dom: &Dom,
 ) -> Result<Option<PDecl>, NoMemory>
@@ -33,12 +33,7 @@ pub fn convert_decl(
 }
 
 /// The same of a name that no line declares.
-fn new_decl(
-    alloc: Global,
-    lines: &Row<Line>,
-    name: &Text,
-    dom: &Dom,
-) -> Result<Option<PDecl>, NoMemory>
+fn new_decl(alloc: Global, lines: &Lines, name: &Text, dom: &Dom) -> Result<Option<PDecl>, NoMemory>
     requires { ReadableDom (read_dom dom.now) }
     ensures { IfOk result (λ o. option_map (pure_decl (scope_of lines.now)) o ≡ table_model (scope_of lines.now) name.now (read_dom dom.now)) }
 {
@@ -59,7 +54,7 @@ fn new_decl(
 /// The domains of the axes, where all are those of a model.
 fn convert_axes(
     alloc: Global,
-    lines: &Row<Line>,
+    lines: &Lines,
     bound: &Row<Text>,
     axes: &[Dom],
 ) -> Result<Option<Row<PDom>>, NoMemory>

@@ -7,7 +7,7 @@ ghost use Rattle.eprime_read_convert.specs.Lines.{scope_of};
 ghost use Rattle.eprime_read_convert.specs.Converted.{model_dom, model_range, some_ranges, ReadableRange};
 
 use crate::expressions::convert_ex;
-use crate::lines::Line;
+use crate::lines::Lines;
 use crate::nodes::{from, int_of, span, up_to, value};
 use eprime_tree::{PDom, PRange};
 use ess_core::{Dom, Range};
@@ -27,7 +27,7 @@ fn has_ranges(half_open: bool, ranges: &[Range]) -> bool
 #[cycle(convert)]
 pub fn convert_dom(
     alloc: Global,
-    lines: &Row<Line>,
+    lines: &Lines,
     half_open: bool,
     bound: &Row<Text>,
     dom: &Dom,
@@ -52,7 +52,7 @@ pub fn convert_dom(
 #[cycle(convert)]
 fn convert_ranges(
     alloc: Global,
-    lines: &Row<Line>,
+    lines: &Lines,
     half_open: bool,
     bound: &Row<Text>,
     ranges: &[Range],
@@ -74,7 +74,7 @@ fn convert_ranges(
 #[cycle(convert)]
 fn convert_range(
     alloc: Global,
-    lines: &Row<Line>,
+    lines: &Lines,
     half_open: bool,
     bound: &Row<Text>,
     range: &Range,

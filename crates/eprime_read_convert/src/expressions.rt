@@ -8,14 +8,14 @@ ghost use Rattle.eprime_tree.specs.Views.{pure_ex};
 ghost use Rattle.eprime_read_convert.specs.Lines.{scope_of};
 ghost use Rattle.eprime_read_convert.specs.Converted.{model_ex, access, ReadableSteps};
 
-use crate::lines::{Line, may_stand};
+use crate::lines::{Lines, may_stand};
 use crate::lists::convert_list;
 use crate::names::name_of;
-use crate::nodes::{cell, converted_name, fold, lex, one, two};
+use crate::nodes::{cell, converted_name, fold, lex, one, push_ex, two};
 use crate::operators::{fold_word, infix, is_lex, prefix};
 use eprime_tree::{PEx, POp1};
 use ess_core::{Ex, Fun, Step};
-use ess_rows::{NoMemory, Row, Text};
+use ess_rows::{Boxed, NoMemory, Row, Text};
 use std::alloc::Global;
 
 /// Converts an expression that a text was read as, inside generators that bind the names `bound`, where these lines declare
@@ -25,17 +25,17 @@ use std::alloc::Global;
 #[cycle(convert)]
 pub fn convert_ex(
     alloc: Global,
-    lines: &Row<Line>,
+    lines: &Lines,
     finds: bool,
     bound: &Row<Text>,
     ex: &Ex,
-) -> Result<Option<PEx>, NoMemory>
+) -> Result<Option<Boxed<PEx>>, NoMemory>
     requires { ReadableEx (read_ex ex.now) }
     ensures { IfOk result (λ o. option_map (pure_ex (scope_of lines.now)) o ≡ model_ex (scope_of lines.now) finds bound.now (read_ex ex.now)) }
 {
     match ex {
-        Ex::Num(number) => Ok(Some(PEx::Num(*number))),
-        Ex::Truth(truth) => Ok(Some(PEx::Truth(*truth))),
+        Ex::Num(number) => Ok(Some(Boxed::new(alloc, PEx::Num(*number))?)),
+        Ex::Truth(truth) => Ok(Some(Boxed::new(alloc, PEx::Truth(*truth))?)),
         Ex::Name(name) => converted_name(alloc, lines, finds, bound, name),
         Ex::One(op, a) => one(
             alloc,
@@ -47,7 +47,7 @@ pub fn convert_ex(
             Some(sign) if is_lex(*op) => {
                 let left = convert_list(alloc, lines, finds, bound, a.get())?;
                 let right = convert_list(alloc, lines, finds, bound, b.get())?;
-                Ok(lex(sign, left, right))
+                lex(alloc, sign, left, right)
             }
             Some(sign) => {
                 let left = convert_ex(alloc, lines, finds, bound, a.get())?;
@@ -72,12 +72,12 @@ pub fn convert_ex(
 #[cycle(convert)]
 fn convert_call(
     alloc: Global,
-    lines: &Row<Line>,
+    lines: &Lines,
     finds: bool,
     bound: &Row<Text>,
     fun: Fun,
     args: &[Ex],
-) -> Result<Option<PEx>, NoMemory>
+) -> Result<Option<Boxed<PEx>>, NoMemory>
     requires { ReadableExs (read_exs args.now) }
     ensures { IfOk result (λ o. option_map (pure_ex (scope_of lines.now)) o ≡ model_ex (scope_of lines.now) finds bound.now (plain_node (Op.word fun) (read_exs args.now))) }
 {
@@ -91,12 +91,12 @@ fn convert_call(
 #[cycle(convert)]
 fn convert_word(
     alloc: Global,
-    lines: &Row<Line>,
+    lines: &Lines,
     finds: bool,
     bound: &Row<Text>,
     fun: Fun,
     only: &Ex,
-) -> Result<Option<PEx>, NoMemory>
+) -> Result<Option<Boxed<PEx>>, NoMemory>
     requires { ReadableEx (read_ex only.now) }
     ensures { IfOk result (λ o. option_map (pure_ex (scope_of lines.now)) o ≡ model_ex (scope_of lines.now) finds bound.now (plain_node (Op.word fun) (one_ex (read_ex only.now)))) }
 {
@@ -108,7 +108,7 @@ fn convert_word(
         ),
         _ => match fold_word(fun) {
             None => Ok(None),
-            Some(word) => Ok(fold(word, convert_list(alloc, lines, finds, bound, only)?)),
+            Some(word) => fold(alloc, word, convert_list(alloc, lines, finds, bound, only)?),
         },
     }
 }
@@ -117,12 +117,12 @@ fn convert_word(
 #[cycle(convert)]
 fn convert_access(
     alloc: Global,
-    lines: &Row<Line>,
+    lines: &Lines,
     finds: bool,
     bound: &Row<Text>,
     steps: &[Step],
     table: &Ex,
-) -> Result<Option<PEx>, NoMemory>
+) -> Result<Option<Boxed<PEx>>, NoMemory>
     requires { ReadableEx (access (read_ex table.now) (map read_step steps.now)) }
     ensures { IfOk result (λ o. option_map (pure_ex (scope_of lines.now)) o ≡ model_ex (scope_of lines.now) finds bound.now (access (read_ex table.now) (map read_step steps.now))) }
 {
@@ -142,7 +142,7 @@ fn convert_access(
 #[cycle(convert)]
 fn convert_steps(
     alloc: Global,
-    lines: &Row<Line>,
+    lines: &Lines,
     finds: bool,
     bound: &Row<Text>,
     steps: &[Step],
@@ -154,7 +154,7 @@ fn convert_steps(
     for step in steps {
         match step {
             Step::Value(ex) => match convert_ex(alloc, lines, finds, bound, ex)? {
-                Some(index) => indices.push(index)?,
+                Some(index) => push_ex(&mut indices, index)?,
                 None => return Ok(None),
             },
             _ => return Ok(None),

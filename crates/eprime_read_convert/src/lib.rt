@@ -14,4 +14,4 @@ mod names;
 mod nodes;
 mod operators;
 
-pub use lines::Line;
+pub use lines::{Line, Lines};

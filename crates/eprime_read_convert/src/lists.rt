@@ -8,9 +8,9 @@ ghost use Rattle.eprime_read_convert.specs.Converted.{model_ex, model_list, mode
 
 use crate::domains::convert_dom;
 use crate::expressions::convert_ex;
-use crate::lines::{Line, is_found};
+use crate::lines::{Lines, is_found};
 use crate::names::{copy_names, name_before, names_before};
-use crate::nodes::{comp, items_of, over, test};
+use crate::nodes::{comp, items_of, over, push_ex, test};
 use eprime_tree::{PEx, PGen, PList};
 use ess_core::{Ex, Gen, Pat};
 use ess_rows::{NoMemory, Row, Text};
@@ -20,7 +20,7 @@ use std::alloc::Global;
 #[cycle(convert)]
 pub(crate) fn convert_list(
     alloc: Global,
-    lines: &Row<Line>,
+    lines: &Lines,
     finds: bool,
     bound: &Row<Text>,
     ex: &Ex,
@@ -37,7 +37,7 @@ pub(crate) fn convert_list(
             let inner = names_before(alloc, gens.as_slice(), bound)?;
             let item = convert_ex(alloc, lines, finds, &inner, body.get())?;
             let items = convert_gens(alloc, lines, bound, gens.as_slice())?;
-            comp(alloc, item, items)
+            Ok(comp(item, items))
         }
         _ => Ok(None),
     }
@@ -47,7 +47,7 @@ pub(crate) fn convert_list(
 #[cycle(convert)]
 fn convert_exs(
     alloc: Global,
-    lines: &Row<Line>,
+    lines: &Lines,
     finds: bool,
     bound: &Row<Text>,
     exs: &[Ex],
@@ -58,7 +58,7 @@ fn convert_exs(
     let mut items = Row::new(alloc);
     for ex in exs {
         match convert_ex(alloc, lines, finds, bound, ex)? {
-            Some(item) => items.push(item)?,
+            Some(item) => push_ex(&mut items, item)?,
             None => return Ok(None),
         }
     }
@@ -69,7 +69,7 @@ fn convert_exs(
 #[cycle(convert)]
 fn convert_gens(
     alloc: Global,
-    lines: &Row<Line>,
+    lines: &Lines,
     bound: &Row<Text>,
     gens: &[Gen],
 ) -> Result<Option<Row<PGen>>, NoMemory>
@@ -92,7 +92,7 @@ fn convert_gens(
 #[cycle(convert)]
 fn convert_gen(
     alloc: Global,
-    lines: &Row<Line>,
+    lines: &Lines,
     bound: &Row<Text>,
     part: &Gen,
 ) -> Result<Option<PGen>, NoMemory>

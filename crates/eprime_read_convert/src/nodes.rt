@@ -1,4 +1,4 @@
-ghost use Rattle.std.specs.Prelude.{◌≡◌, IfOk, IsTrue, map, option_map};
+ghost use Rattle.std.specs.Prelude.{◌≡◌, [], ◌∷◌, ◌++◌, IfOk, OnOk, IsTrue, map, option_map};
 ghost use Rattle.ess_semantics.specs.Trees.{Op, binary, cell_ex, name_ex};
 ghost use Rattle.ess_grammar.specs.Readable.{is_name_token};
 ghost use Rattle.ess_grammar.specs.Models.{Scope, is_truth_table};
@@ -6,7 +6,7 @@ ghost use Rattle.eprime_tree.specs.Views.{pure_ex, pure_list, pure_gen, pure_dom
 ghost use Rattle.eprime_read_convert.specs.Lines.{scope_of};
 ghost use Rattle.eprime_read_convert.specs.Converted.{model_ex, under, between, comprehension, as_value, as_span, as_low, as_high, items_ex};
 
-use crate::lines::{Line, is_bound, is_found, truth_of};
+use crate::lines::{Lines, is_bound, is_found, truth_of};
 use eprime_tree::{PDom, PEx, PFun, PGen, PList, POp1, POp2, PRange};
 use ess_rows::{Boxed, NoMemory, Row, Text};
 use std::alloc::Global;
@@ -14,78 +14,95 @@ use std::alloc::Global;
 /// A name: one that a generator binds, a declared cell, or any other.
 pub fn converted_name(
     alloc: Global,
-    lines: &Row<Line>,
+    lines: &Lines,
     finds: bool,
     bound: &Row<Text>,
     name: &Text,
-) -> Result<Option<PEx>, NoMemory>
+) -> Result<Option<Boxed<PEx>>, NoMemory>
     requires { IsTrue (is_name_token name.now) }
     ensures { IfOk result (λ o. option_map (pure_ex (scope_of lines.now)) o ≡ model_ex (scope_of lines.now) finds bound.now (name_ex name.now)) }
 {
     if is_bound(bound, name) || truth_of(lines, name).is_none() {
-        Ok(Some(PEx::Name(name.copy(alloc)?)))
+        Ok(Some(Boxed::new(alloc, PEx::Name(name.copy(alloc)?))?))
     } else if finds || !is_found(lines, name) {
-        Ok(Some(PEx::Cell(name.copy(alloc)?, Row::new(alloc))))
+        Ok(Some(Boxed::new(alloc, PEx::Cell(name.copy(alloc)?, Row::new(alloc)))?))
     } else {
         Ok(None)
     }
 }
 
+/// Puts an expression behind others.
+pub fn push_ex(exs: &mut Row<PEx>, ex: Boxed<PEx>) -> Result<(), NoMemory>
+    ensures ok { OnOk result (exs.new ≡ exs.old ++ ex ∷ []) }
+{
+    exs.push(ex.into_inner())
+}
+
 /// An operator over its operand, where that is one of a model.
 #[tactic(auto, using(crate::proofs::NodeViews::one_there))]
-pub fn one(alloc: Global, op: POp1, a: Option<PEx>) -> Result<Option<PEx>, NoMemory>
+pub fn one(alloc: Global, op: POp1, a: Option<Boxed<PEx>>) -> Result<Option<Boxed<PEx>>, NoMemory>
     ensures { IfOk result (λ o. (s : Scope) → option_map (pure_ex s) o ≡ under (pure_op1 op) (option_map (pure_ex s) a)) }
 {
     match a {
-        Some(ex) => Ok(Some(PEx::One(op, Boxed::new(alloc, ex)?))),
+        Some(ex) => Ok(Some(Boxed::new(alloc, PEx::One(op, ex))?)),
         None => Ok(None),
     }
 }
 
 /// An operator between its operands, where both are those of a model.
 #[tactic(auto, using(crate::proofs::NodeViews::two_there))]
-pub fn two(alloc: Global, op: POp2, a: Option<PEx>, b: Option<PEx>) -> Result<Option<PEx>, NoMemory>
+pub fn two(
+    alloc: Global,
+    op: POp2,
+    a: Option<Boxed<PEx>>,
+    b: Option<Boxed<PEx>>,
+) -> Result<Option<Boxed<PEx>>, NoMemory>
     ensures { IfOk result (λ o. (s : Scope) → option_map (pure_ex s) o ≡ between (binary (pure_op2 op)) (option_map (pure_ex s) a) (option_map (pure_ex s) b)) }
 {
     match (a, b) {
-        (Some(left), Some(right)) => Ok(Some(PEx::Two(
-            op,
-            Boxed::new(alloc, left)?,
-            Boxed::new(alloc, right)?,
-        ))),
+        (Some(left), Some(right)) => Ok(Some(Boxed::new(alloc, PEx::Two(op, left, right))?)),
         (_, _) => Ok(None),
     }
 }
 
 /// A lex sign between two lists, where both are those of a model.
 #[tactic(auto, using(crate::proofs::NodeViews::lex_there))]
-pub fn lex(op: POp2, a: Option<PList>, b: Option<PList>) -> Option<PEx>
-    ensures { (s : Scope) → option_map (pure_ex s) result ≡ between (binary (pure_op2 op)) (option_map (pure_list s) a) (option_map (pure_list s) b) }
+pub fn lex(
+    alloc: Global,
+    op: POp2,
+    a: Option<PList>,
+    b: Option<PList>,
+) -> Result<Option<Boxed<PEx>>, NoMemory>
+    ensures { IfOk result (λ o. (s : Scope) → option_map (pure_ex s) o ≡ between (binary (pure_op2 op)) (option_map (pure_list s) a) (option_map (pure_list s) b)) }
 {
     match (a, b) {
-        (Some(left), Some(right)) => Some(PEx::Lex(op, left, right)),
-        (_, _) => None,
+        (Some(left), Some(right)) => Ok(Some(Boxed::new(alloc, PEx::Lex(op, left, right))?)),
+        (_, _) => Ok(None),
     }
 }
 
 /// A word over a list, where that is one of a model.
 #[tactic(auto, using(crate::proofs::NodeViews::fold_there))]
-pub fn fold(fun: PFun, list: Option<PList>) -> Option<PEx>
-    ensures { (s : Scope) → option_map (pure_ex s) result ≡ under (Op.word (pure_fun fun)) (option_map (pure_list s) list) }
+pub fn fold(alloc: Global, fun: PFun, list: Option<PList>) -> Result<Option<Boxed<PEx>>, NoMemory>
+    ensures { IfOk result (λ o. (s : Scope) → option_map (pure_ex s) o ≡ under (Op.word (pure_fun fun)) (option_map (pure_list s) list)) }
 {
     match list {
-        Some(items) => Some(PEx::Fold(fun, items)),
-        None => None,
+        Some(items) => Ok(Some(Boxed::new(alloc, PEx::Fold(fun, items))?)),
+        None => Ok(None),
     }
 }
 
 /// A table at its indices, where these are those of a model.
 #[tactic(auto, using(crate::proofs::NodeViews::cell_there))]
-pub fn cell(alloc: Global, name: &Text, indices: Option<Row<PEx>>) -> Result<Option<PEx>, NoMemory>
+pub fn cell(
+    alloc: Global,
+    name: &Text,
+    indices: Option<Row<PEx>>,
+) -> Result<Option<Boxed<PEx>>, NoMemory>
     ensures { IfOk result (λ o. (s : Scope) → option_map (pure_ex s) o ≡ option_map (λ es. cell_ex (is_truth_table s name.now) name.now (exs_of es)) (option_map (map (pure_ex s)) indices)) }
 {
     match indices {
-        Some(exs) => Ok(Some(PEx::Cell(name.copy(alloc)?, exs))),
+        Some(exs) => Ok(Some(Boxed::new(alloc, PEx::Cell(name.copy(alloc)?, exs))?)),
         None => Ok(None),
     }
 }
@@ -103,16 +120,12 @@ pub fn items_of(items: Option<Row<PEx>>) -> Option<PList>
 
 /// A comprehension, where its body and its items are those of a model.
 #[tactic(auto, using(crate::proofs::NodeViews::comp_there))]
-pub fn comp(
-    alloc: Global,
-    body: Option<PEx>,
-    items: Option<Row<PGen>>,
-) -> Result<Option<PList>, NoMemory>
-    ensures { IfOk result (λ o. (s : Scope) → option_map (pure_list s) o ≡ comprehension (option_map (pure_ex s) body) (option_map (map (pure_gen s)) items)) }
+pub fn comp(body: Option<Boxed<PEx>>, items: Option<Row<PGen>>) -> Option<PList>
+    ensures { (s : Scope) → option_map (pure_list s) result ≡ comprehension (option_map (pure_ex s) body) (option_map (map (pure_gen s)) items) }
 {
     match (body, items) {
-        (Some(ex), Some(gens)) => Ok(Some(PList::Comp(Boxed::new(alloc, ex)?, gens))),
-        (_, _) => Ok(None),
+        (Some(ex), Some(gens)) => Some(PList::Comp(ex, gens)),
+        (_, _) => None,
     }
 }
 
@@ -129,11 +142,11 @@ pub fn over(alloc: Global, name: &Text, dom: Option<PDom>) -> Result<Option<PGen
 
 /// A condition, where it is one of a model.
 #[tactic(auto, using(crate::proofs::NodeViews::test_there))]
-pub fn test(ex: Option<PEx>) -> Option<PGen>
+pub fn test(ex: Option<Boxed<PEx>>) -> Option<PGen>
     ensures { (s : Scope) → option_map (pure_gen s) result ≡ option_map cond_item (option_map (pure_ex s) ex) }
 {
     match ex {
-        Some(condition) => Some(PGen::If(condition)),
+        Some(condition) => Some(PGen::If(condition.into_inner())),
         None => None,
     }
 }
@@ -151,44 +164,44 @@ pub fn int_of(ranges: Option<Row<PRange>>) -> Option<PDom>
 
 /// A range of one number.
 #[tactic(auto, using(crate::proofs::NodeViews::value_there))]
-pub fn value(ex: Option<PEx>) -> Option<PRange>
+pub fn value(ex: Option<Boxed<PEx>>) -> Option<PRange>
     ensures { (s : Scope) → option_map (pure_range s) result ≡ as_value (option_map (pure_ex s) ex) }
 {
     match ex {
-        Some(number) => Some(PRange::One(number)),
+        Some(number) => Some(PRange::One(number.into_inner())),
         None => None,
     }
 }
 
 /// A range with both bounds.
 #[tactic(auto, using(crate::proofs::NodeViews::span_there))]
-pub fn span(low: Option<PEx>, high: Option<PEx>) -> Option<PRange>
+pub fn span(low: Option<Boxed<PEx>>, high: Option<Boxed<PEx>>) -> Option<PRange>
     ensures { (s : Scope) → option_map (pure_range s) result ≡ as_span (option_map (pure_ex s) low) (option_map (pure_ex s) high) }
 {
     match (low, high) {
-        (Some(a), Some(b)) => Some(PRange::Span(Some(a), Some(b))),
+        (Some(a), Some(b)) => Some(PRange::Span(Some(a.into_inner()), Some(b.into_inner()))),
         (_, _) => None,
     }
 }
 
 /// A range with a lower bound alone.
 #[tactic(auto, using(crate::proofs::NodeViews::low_there))]
-pub fn from(low: Option<PEx>) -> Option<PRange>
+pub fn from(low: Option<Boxed<PEx>>) -> Option<PRange>
     ensures { (s : Scope) → option_map (pure_range s) result ≡ as_low (option_map (pure_ex s) low) }
 {
     match low {
-        Some(a) => Some(PRange::Span(Some(a), None)),
+        Some(a) => Some(PRange::Span(Some(a.into_inner()), None)),
         None => None,
     }
 }
 
 /// A range with an upper bound alone.
 #[tactic(auto, using(crate::proofs::NodeViews::high_there))]
-pub fn up_to(high: Option<PEx>) -> Option<PRange>
+pub fn up_to(high: Option<Boxed<PEx>>) -> Option<PRange>
     ensures { (s : Scope) → option_map (pure_range s) result ≡ as_high (option_map (pure_ex s) high) }
 {
     match high {
-        Some(b) => Some(PRange::Span(None, Some(b))),
+        Some(b) => Some(PRange::Span(None, Some(b.into_inner()))),
         None => None,
     }
 }

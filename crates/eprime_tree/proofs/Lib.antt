@@ -3,6 +3,7 @@ pub mod ReadBack
 pub mod ReadableModels
 pub mod ModelsRead
 pub mod HeaderLines
+pub mod HeadLines
 mod Putting
 mod RangesFit
 mod PrintedExpressions

@@ -6,13 +6,13 @@ use Rattle.ess_semantics.specs.Values.{Text}
 use Rattle.ess_semantics.specs.Trees.{Gens, no_gens}
 use Rattle.ess_grammar.specs.Models.{Scope}
 use Rattle.ess_print_laws.specs.Pieces.{Piece, text_of, Printer}
-use Rattle.ess_print_laws.specs.Parts.{comma_space, commas}
+use Rattle.ess_print_laws.specs.Parts.{comma_before, comma_space, commas}
 use Rattle.ess_print_laws.specs.Brackets.{starts_generator}
 use Rattle.ess_print_laws.specs.Expressions.{gens_pieces, before_items}
 use Rattle.eprime_tree.specs.declared.expressions.PGen.{PGen}
 use Rattle.eprime_tree.specs.Views.{Item, over_item, cond_item, gens_of, pure_gen}
 use Rattle.eprime_tree.specs.Written.{gens_written}
-use Rattle.eprime_tree.specs.Printed.{Puts, item_pieces, comma_before, PrintsItem}
+use Rattle.eprime_tree.specs.Printed.{Puts, item_pieces, PrintsItem}
 
 -- what is left of a list is its first item and the rest
 pub left-more : {A : Type 0} → (xs : List A) (i : ℕ) (x : A) → i < length xs → x ≡ get_or xs i x → drop i xs ≡ x ∷ drop (i + 1) xs

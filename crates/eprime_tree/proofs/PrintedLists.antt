@@ -5,7 +5,7 @@ use Rattle.ess_semantics.specs.Values.{Text}
 use Rattle.ess_grammar.specs.Models.{Scope}
 use Rattle.ess_grammar.specs.Words.{bool_word, int_word, open_round, close_round, colon, dots}
 use Rattle.ess_print_laws.specs.Pieces.{space, reserved, sign, named}
-use Rattle.ess_print_laws.specs.Parts.{commas, bracketed}
+use Rattle.ess_print_laws.specs.Parts.{comma_before, commas, bracketed}
 use Rattle.ess_print_laws.specs.Brackets.{is_written_as_pattern}
 use Rattle.ess_print_laws.specs.Expressions.{ex_pieces, dom_pieces}
 use Rattle.eprime_tree.specs.declared.expressions.PEx.{PEx}
@@ -17,7 +17,7 @@ use Rattle.eprime_tree.specs.declared.expressions.PDom.TheVariants as dom
 use Rattle.eprime_tree.specs.declared.expressions.PRange.TheVariants as range
 use Rattle.eprime_tree.specs.Views.{pure_dom, pure_range}
 use Rattle.eprime_tree.specs.Written.{dom_written}
-use Rattle.eprime_tree.specs.Printed.{Puts, read_ex, PrintsEx, PrintsBracketed, PrintsExs, PrintsGens, item_pieces, PrintsItem, PrintsDom, bounds_pieces, PrintsRange, PrintsBound, PrintsRanges, comma_before}
+use Rattle.eprime_tree.specs.Printed.{Puts, read_ex, PrintsEx, PrintsBracketed, PrintsExs, PrintsGens, item_pieces, PrintsItem, PrintsDom, bounds_pieces, PrintsRange, PrintsBound, PrintsRanges}
 use Rattle.eprime_tree.proofs.Equations.{pure_gen-Over, pure_gen-If, pure_dom-Bool, pure_dom-Int, pure_range-One, pure_range-Span}
 use Rattle.eprime_tree.proofs.Putting.{puts-text, puts-then, puts-between}
 use Rattle.eprime_tree.proofs.RangesFit.{ranges-are, ranges-fit}

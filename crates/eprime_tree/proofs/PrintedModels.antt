@@ -9,7 +9,7 @@ use Rattle.ess_grammar.specs.Models.{Scope, empty_scope, with_given, with_find}
 use Rattle.ess_grammar.specs.Words.{Word, given_word, find_word, matrix_word, indexed_word, by_word, of_word, such_word, that_word, minimising_word, maximising_word, open_square, close_square, comma, colon}
 use Rattle.ess_print_laws.specs.TokenTexts.{word_text}
 use Rattle.ess_print_laws.specs.Pieces.{Piece, space, next_line, comment, text_of, Printer, reserved, sign, named}
-use Rattle.ess_print_laws.specs.Parts.{commas}
+use Rattle.ess_print_laws.specs.Parts.{comma_before, commas}
 use Rattle.ess_print_laws.specs.Expressions.{ex_pieces, dom_pieces, domains}
 use Rattle.eprime_tree.specs.declared.expressions.PEx.{PEx}
 use Rattle.eprime_tree.specs.declared.expressions.PDom.{PDom}
@@ -20,7 +20,7 @@ use Rattle.eprime_tree.specs.declared.models.PModel.{PModel}
 use Rattle.eprime_tree.specs.Views.{pure_ex, pure_dom, pure_decl, pure_decls, pure_goal, scope_of_givens, scope_of, pure_model}
 use Rattle.eprime_tree.specs.Written.{written, dom_written, doms_written, matrix_over}
 use Rattle.eprime_tree.specs.ModelText.{head_lines, declaration_lines, goal_line, constraint_lines, such_that_lines, model_text}
-use Rattle.eprime_tree.specs.Printed.{Puts, read_ex, PrintsEx, PrintsDom, PrintsDoms, axes_pieces, PrintsAxes, PrintsDecl, PrintsDecls, PrintsGoal, PrintsRules, PrintsHead, comma_before, line_before}
+use Rattle.eprime_tree.specs.Printed.{Puts, read_ex, PrintsEx, PrintsDom, PrintsDoms, axes_pieces, PrintsAxes, PrintsDecl, PrintsDecls, PrintsGoal, PrintsRules, PrintsHead, line_before}
 use Rattle.eprime_tree.proofs.Putting.{puts-text, puts-then, puts-between}
 use Rattle.eprime_tree.proofs.Loops.{left-more, left-none, Listed, listed-none, listed-more, listed-all}
 

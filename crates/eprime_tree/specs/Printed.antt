@@ -94,11 +94,6 @@ PrintsRanges before now rs = (s : Scope) → Puts before now (commas (map (λ r.
 
 -- ---- small texts
 
--- What stands before the item at an index of a list.
-abbrev pub comma_before : ℕ → Text
-comma_before zero = []
-comma_before (suc i) = codes ", "
-
 -- What stands before the constraint at an index.
 abbrev pub line_before : ℕ → Text
 line_before zero = codes "\n    "

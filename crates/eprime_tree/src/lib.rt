@@ -6,8 +6,6 @@ mod copies;
 pub mod expressions;
 pub mod models;
 mod printing;
-#[cfg(test)]
-mod tests;
 pub mod words;
 
 pub use ess_rows::{Boxed, NoMemory, Row, Text};

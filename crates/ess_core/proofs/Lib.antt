@@ -4,3 +4,4 @@ pub mod PartEquations
 pub mod ValueEquations
 pub mod TypeEquations
 pub mod RepresentationEquations
+pub mod InjectiveValues

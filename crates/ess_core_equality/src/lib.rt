@@ -11,8 +11,6 @@ mod expressions;
 mod representations;
 mod statements;
 mod tables;
-#[cfg(test)]
-mod tests;
 mod types;
 mod values;
 

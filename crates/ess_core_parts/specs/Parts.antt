@@ -1,5 +1,5 @@
 -- The parts of expressions and domains: the outermost expressions in them, numbered from 0 in the order of the text.
-use Rattle.std.specs.Prelude.{ℕ, false, List, [], ◌∷◌, map, Option, Some, None, slice_get, option_and_then}
+use Rattle.std.specs.Prelude.{◌≡◌, ℕ, false, List, [], ◌∷◌, map, Option, Some, None, slice_get, option_and_then}
 use Rattle.ess_core_parts.specs.Numbered.{Parted, bare, itself, made, beside, both, row, maybe, held_row}
 use Rattle.ess_core.specs.declared.domains.Dom.{Dom}
 use Rattle.ess_core.specs.declared.domains.FieldDom.{FieldDom, roll-FieldDom}
@@ -175,3 +175,18 @@ edited f e (k ∷ ks) = plug (part e k) e (λ c. with_part e k (edited f c ks))
 -- The expression with w as its part at a path.
 abbrev pub with_at : Ex → List ℕ → Ex → Ex
 with_at e ks w = edited (λ c. w) e ks
+
+-- ---- editors
+
+-- What one step of an editor says of the part at a path: of the editor and the part before it, of the answer, and of the
+-- editor and the part after it. Where nothing stands at the path, no step is made: there is no answer, and the editor is as
+-- it was.
+abbrev pub Steps : {E A : Type 0} → (E → Ex → A → E → Ex → Type 0) → E → Option Ex → Option A → E → Option Ex → Type 0
+Steps step f None None g None = g ≡ f
+Steps step f (Some c) (Some a) g (Some d) = step f c a g d
+Steps step f _ _ g _ = ⊥
+
+-- The expression with what stands at a path after a step. Where nothing stands there, it is as it was.
+abbrev pub filled : Ex → List ℕ → Option Ex → Ex
+filled e ks None = e
+filled e ks (Some d) = with_at e ks d

@@ -8,7 +8,5 @@ mod holders;
 mod numbered;
 mod paths;
 mod rows;
-#[cfg(test)]
-mod tests;
 
 pub use paths::{Edit, child, edit_at, focus, put, replace_at};

@@ -1,11 +1,12 @@
 //! What stands at a path in an expression, to be read, replaced and edited in place.
-ghost use Rattle.std.specs.Prelude.{◌≡◌, is_some, IfOk, IfErr};
+ghost use Rattle.std.specs.Prelude.{◌≡◌, Bool, Result, is_some, IfOk, IfErr};
 ghost use Rattle.std.specs.Option.{option_copied};
 ghost use Rattle.ess_core.specs.declared.expressions.Ex.{Ex};
-ghost use Rattle.ess_core_parts.specs.Parts.{part, with_part, hole, at, with_at, edited};
+ghost use Rattle.ess_core_parts.specs.Parts.{part, with_part, hole, at, with_at, Steps, filled};
+ghost use Rattle.ess_rows.specs.declared.memory.NoMemory.{NoMemory};
 
 use crate::expressions::{own_part, put_own_part};
-use ess_core::Ex;
+use ess_core::{Ex, NoMemory};
 use std::mem;
 
 /// The direct part number `k` of an expression, counted from 0 in the order of the text, if there is one. Parts inside
@@ -60,34 +61,34 @@ pub fn replace_at(ex: &mut Ex, path: &[u32], new: Ex) -> Result<Ex, Ex>
     }
 }
 
-/// A change of one expression.
+/// A change of one expression, which may be refused for want of memory.
 pub trait Edit {
-    /// What it makes of an expression.
-    ghost after: { Self → Ex → Ex };
+    /// What a step says: of the editor and the expression before it, of the answer, and of the editor and the expression
+    /// after it. So it says what stands after a refusal too.
+    ghost step: { Self → Ex → Result Bool NoMemory → Self → Ex → Type 0 };
 
-    /// Changes an expression in place.
-    fn edit(&mut self, ex: &mut Ex)
-        ensures { ex.new ≡ after self.old ex.old };
+    /// Changes an expression in place, and answers what the editor likes to tell.
+    fn edit(&mut self, ex: &mut Ex) -> Result<bool, NoMemory>
+        ensures { step self.old ex.old result self.new ex.new };
 }
 
-/// Lends the part at a path to an editor, which changes it in place, and answers whether the path stays in the expression.
-/// Where it doesn't, nothing changes.
-pub fn edit_at<E: Edit>(ex: &mut Ex, path: &[u32], edit: &mut E) -> bool
-    ensures after { ex.new ≡ edited (E.after edit.old) ex.old path.now }
-    ensures within { result ≡ is_some (at ex.old path.now) }
+/// Lends the part at a path to an editor, which makes one step there, and answers what the step answers: the expression is
+/// then the old one with the part at the path as the step left it. Where the path leaves the expression, the answer is
+/// `None`, and neither the expression nor the editor is changed.
+pub fn edit_at<E: Edit>(ex: &mut Ex, path: &[u32], edit: &mut E) -> Option<Result<bool, NoMemory>>
+    ensures within { is_some result ≡ is_some (at ex.old path.now) }
+    ensures step { Steps E.step edit.old (at ex.old path.now) result edit.new (at ex.new path.now) }
+    ensures filled { ex.new ≡ filled ex.old path.now (at ex.new path.now) }
 {
     match path.split_first() {
-        None => {
-            edit.edit(ex);
-            true
-        }
+        None => Some(edit.edit(ex)),
         Some((k, rest)) => match take_part(ex, *k) {
             Some(mut part) => {
-                let within = edit_at(&mut part, rest, edit);
+                let answer = edit_at(&mut part, rest, edit);
                 put_back(ex, *k, part);
-                within
+                answer
             }
-            None => false,
+            None => None,
         },
     }
 }
@@ -99,7 +100,10 @@ fn take_part(ex: &mut Ex, k: u32) -> Option<Ex>
 {
     match put_own_part(ex, k, Ex::Truth(false)) {
         Ok(part) => Some(part),
-        Err(_) => None,
+        Err((_, back)) => {
+            drop(back);
+            None
+        }
     }
 }
 
@@ -107,5 +111,8 @@ fn take_part(ex: &mut Ex, k: u32) -> Option<Ex>
 fn put_back(ex: &mut Ex, k: u32, part: Ex)
     ensures { ex.new ≡ with_part ex.old k part }
 {
-    let _ = put_own_part(ex, k, part);
+    match put_own_part(ex, k, part) {
+        Ok(was) => drop(was),
+        Err((_, back)) => drop(back),
+    }
 }

@@ -12,8 +12,6 @@ mod parsing;
 mod refusal;
 mod representations;
 mod specifications;
-#[cfg(test)]
-mod tests;
 
 pub use domains::read_dom;
 pub use ess_print::{print_repr, print_stm};

@@ -38,7 +38,7 @@ pub(crate) fn domain_of(answer: Answer) -> Option<Dom>
     ensures { domain_of (Some (view_answer answer)) ≡ option_map pure_dom result }
 {
     match answer {
-        Answer::Domain(dom) => Some(dom),
+        Answer::Domain(dom) => Some(dom.into_inner()),
         other => {
             drop(other);
             None

@@ -64,3 +64,13 @@ wanted-other t fs h = wanted-by t fs None h
 pub carried : {E : Type 0} (x : Result (Option State) E) (r s : Option machine.State) → s ≡ r → IfOk x (Steps r) → IfOk x (Steps s)
 carried (Ok p) r s e h = e ∙ h
 carried (Err n) r s e h = tt
+
+-- a step of each token of a kind
+pub carried_at : {B E : Type 0} (x : Result (Option State) E) (r : B → Option machine.State) (s : Option machine.State) (b : B) →
+    s ≡ r b → IfOk x (λ p. (c : B) → Steps (r c) p) → IfOk x (Steps s)
+carried_at (Ok p) r s b e h = e ∙ h b
+carried_at (Err n) r s b e h = tt
+
+-- no step, where there is none
+pub stopped : {E : Type 0} (x : Result (Option State) E) (s : Option machine.State) → s ≡ None → x ≡ Ok None → IfOk x (Steps s)
+stopped x s none e = rw (e) none

@@ -1,5 +1,5 @@
 -- A search of the table of attributes' words, entry by entry.
-use Rattle.std.proofs.Common.{◌≡◌, ap, ◌∙◌, ℕ, suc, ◌+◌, ◌<◌, add-one, true, false, List, ◌∷◌, length, get_or, drop, drop-cons, Some}
+use Rattle.std.proofs.Common.{◌≡◌, ap, ℕ, suc, ◌+◌, ◌<◌, add-one, true, false, List, ◌∷◌, length, get_or, drop, drop-cons, Some}
 use denote.Bor.{Bor}
 use Rattle.ess_semantics.specs.declared.words.Key.{Key}
 use Rattle.ess_grammar.specs.Words.{Text, same_text, look}

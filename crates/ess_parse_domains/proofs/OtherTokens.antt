@@ -6,8 +6,7 @@ use Rattle.ess_grammar.specs.Words.{Token, Word, number, name, prime_word, word,
 use Rattle.ess_parse_laws.specs.Frames.{Frame}
 use Rattle.ess_parse_laws.specs.AfterDomains.{domain_then}
 use Rattle.ess_parse_laws.specs.StatementEnds.{declared, begin_after}
-use Rattle.ess_parse_statements.specs.Beginnings.{begin_with}
-use Rattle.ess_parse_statements.specs.Ends.{begin_behind}
+use Rattle.ess_parse_frames.specs.Statements.{begin_with, begin_behind}
 use Rattle.ess_parse_domains.specs.Several.{goes_on}
 
 -- a token that begins no statement goes on behind none

@@ -1,26 +1,26 @@
 //! Attributes of domains. Their words are plain names elsewhere.
 #![tactic(auto, using(ess_parse_frames::proofs::RowLaws::doms_none, ess_parse_frames::proofs::RowLaws::marks_none, ess_parse_frames::proofs::RowLaws::numbers_none, ess_parse_frames::proofs::RowLaws::no_marks, ess_parse_frames::proofs::RowLaws::no_numbers, ess_parse_frames::proofs::RowLaws::marks_closed, ess_parse_frames::proofs::RowLaws::numbers_closed))]
 
-ghost use Rattle.std.specs.Prelude.{◌≡◌, [], ◌∷◌, true, Ok, None, IfOk, option_map};
+ghost use Rattle.std.specs.Prelude.{◌≡◌, [], ◌∷◌, true, IfOk, option_map};
 ghost use Rattle.ess_semantics.specs.Trees.{no_exs, no_doms};
-ghost use Rattle.ess_grammar.specs.Words.{Text, look};
+ghost use Rattle.ess_grammar.specs.Words.{Text, look, symbol, comma, close_round};
 ghost use Rattle.ess_grammar.specs.Kinds.{token};
 ghost use Rattle.ess_parse_laws.specs.Frames.{attributes_frame, tuple_domains_frame, function_from_frame, function_owner};
 ghost use Rattle.ess_parse_laws.specs.Modes.{at_state, attribute_read};
 ghost use Rattle.ess_parse_laws.specs.Domains.{step_domain_wanted};
-ghost use Rattle.ess_parse_laws.specs.Reversed.{reverse_exs, reverse_list};
-ghost use Rattle.ess_parse_laws.specs.AfterOperands.{end_attributes};
 ghost use Rattle.ess_parse_laws.specs.AttributeSteps.{step_function_bracket_read, step_attribute_wanted, ends_flag, end_flag};
-ghost use Rattle.ess_parse_frames.specs.Rows.{back_marks, back_numbers};
-ghost use Rattle.ess_parse_frames.specs.Views.{view_owner, view_frames, Steps};
+ghost use Rattle.ess_parse_frames.specs.Views.{view_frames, Steps};
 ghost use Rattle.ess_parse_domains.specs.Attributes.{shown_keys, key_named, attribute_in, before_value};
 
 use crate::words::step_domain_wanted;
-use ess_core::{Attr, Key};
+use ess_core::Key;
 use ess_grammar::Kind;
+use ess_parse_frames::domain_parts::let_frame_go;
+use ess_parse_frames::ends::end_attributes;
 use ess_parse_frames::rows::with_flag;
-use ess_parse_frames::stack::{Top, at, innermost, inside, stop, within};
-use ess_parse_frames::{Frame, Mode, Owner, State};
+use ess_parse_frames::stack::{Top, at, innermost, inside, within};
+use ess_parse_frames::stops::{let_frames_go, no_state, refuse, stop_frames, stop_in};
+use ess_parse_frames::{AtLeast, Frame, Mode, Owner, State};
 use ess_rows::{NoMemory, Row, Text};
 use std::alloc::Global;
 
@@ -102,7 +102,7 @@ fn begin_tuple(
     ensures { IfOk result (Steps (step_domain_wanted (token kind name) (tuple_domains_frame true no_doms ∷ function_from_frame [] no_exs ∷ view_frames frames))) }
 {
     let frames = within(frames, Frame::FunctionFrom(Row::new(alloc)))?;
-    let frames = within(frames, Frame::TupleDomains(true, Row::new(alloc)))?;
+    let frames = within(frames, Frame::TupleDomains(AtLeast::Two, Row::new(alloc)))?;
     step_domain_wanted(alloc, kind, name, frames)
 }
 
@@ -128,7 +128,7 @@ pub fn step_attribute_wanted(kind: Kind, name: &Text, frames: Row<Frame>) -> Opt
 {
     match attribute_of(kind, name) {
         Some(key) => at(Mode::AttributeRead(key), frames),
-        None => None,
+        None => no_state(frames),
     }
 }
 
@@ -148,26 +148,50 @@ pub fn end_flag(
 ) -> Result<Option<State>, NoMemory>
     ensures { (bytes : Text) → IfOk result (Steps (end_flag (token kind bytes) key (view_frames frames))) }
 {
-    let Some(Top { frame, frames }) = innermost(frames) else {
-        return Ok(None);
-    };
-    match frame {
-        Frame::Attributes(owner, attributes) => match kind {
-            Kind::Comma => {
-                let attributes = with_flag(attributes, key)?;
-                inside(
+    match kind {
+        Kind::Comma => flag_then_comma(key, frames),
+        Kind::CloseRound => flag_then_close_round(alloc, key, frames),
+        _ => stop_frames(frames),
+    }
+}
+
+/// Behind the comma there. `NoMemory` where there is no room.
+fn flag_then_comma(key: Key, frames: Row<Frame>) -> Result<Option<State>, NoMemory>
+    ensures { IfOk result (Steps (end_flag (symbol comma) key (view_frames frames))) }
+{
+    match innermost(frames) {
+        Some(Top { frame, frames }) => match frame {
+            Frame::Attributes(owner, attributes) => match with_flag(attributes, key) {
+                Ok(attributes) => inside(
                     Mode::AttributeWanted,
                     Frame::Attributes(owner, attributes),
                     frames,
-                )
-            }
-            Kind::CloseRound => {
-                let attributes = with_flag(attributes, key)?;
-                end_attributes(alloc, owner, attributes, frames)
-            }
-            _ => Ok(None),
+                ),
+                Err(no) => refuse(no, frames),
+            },
+            other => stop_in(other, frames),
         },
-        other => stop(other),
+        None => Ok(None),
+    }
+}
+
+/// Behind the closing bracket there. `NoMemory` where there is no room.
+fn flag_then_close_round(
+    alloc: Global,
+    key: Key,
+    frames: Row<Frame>,
+) -> Result<Option<State>, NoMemory>
+    ensures { IfOk result (Steps (end_flag (symbol close_round) key (view_frames frames))) }
+{
+    match innermost(frames) {
+        Some(Top { frame, frames }) => match frame {
+            Frame::Attributes(owner, attributes) => match with_flag(attributes, key) {
+                Ok(attributes) => end_attributes(alloc, owner, attributes, frames),
+                Err(no) => refuse(no, frames),
+            },
+            other => stop_in(other, frames),
+        },
+        None => Ok(None),
     }
 }
 
@@ -176,46 +200,18 @@ pub fn end_flag(
 pub fn before_value(key: Key, frames: Row<Frame>) -> Result<Option<Row<Frame>>, NoMemory>
     ensures { IfOk result (λ r. option_map view_frames r ≡ before_value key (view_frames frames)) }
 {
-    let Some(Top { frame, frames }) = innermost(frames) else {
-        return Ok(None);
-    };
-    match frame {
-        Frame::Attributes(owner, attributes) => {
-            let frames = within(frames, Frame::AttributeValue(owner, key, attributes))?;
-            Ok(Some(frames))
-        }
-        other => no_value(other),
-    }
-}
-
-/// No number is read here.
-fn no_value(frame: Frame) -> Result<Option<Row<Frame>>, NoMemory>
-    ensures { result ≡ Ok None }
-{
-    drop(frame);
-    Ok(None)
-}
-
-/// Behind all attributes of a domain. `NoMemory` where there is no room for a frame.
-pub fn end_attributes(
-    alloc: Global,
-    owner: Owner,
-    attributes: Row<Attr>,
-    frames: Row<Frame>,
-) -> Result<Option<State>, NoMemory>
-    ensures { IfOk result (Steps (end_attributes (view_owner owner) (reverse_list (back_marks attributes) []) (reverse_exs (back_numbers attributes) no_exs) (view_frames frames))) }
-{
-    match owner {
-        Owner::Inner(inner) => inside(
-            Mode::JoiningWanted(inner),
-            Frame::InnerDomain(inner, attributes),
-            frames,
-        ),
-        Owner::Relation => inside(
-            Mode::RelationOfWanted,
-            Frame::RelationDomains(attributes, Row::new(alloc)),
-            frames,
-        ),
-        Owner::Function => inside(Mode::DomainWanted, Frame::FunctionFrom(attributes), frames),
+    match innermost(frames) {
+        Some(Top { frame, frames }) => match frame {
+            Frame::Attributes(owner, attributes) => {
+                let frames = within(frames, Frame::AttributeValue(owner, key, attributes))?;
+                Ok(Some(frames))
+            }
+            other => {
+                let_frame_go(other);
+                let_frames_go(frames);
+                Ok(None)
+            }
+        },
+        None => Ok(None),
     }
 }

@@ -9,8 +9,6 @@
 
 pub mod attributes;
 pub mod ends;
-pub mod generators;
 mod products;
 pub mod ranges;
-pub mod records;
 pub mod words;

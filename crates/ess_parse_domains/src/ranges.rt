@@ -1,30 +1,21 @@
 //! The ranges of int domains.
 #![tactic(auto, using(ess_parse_frames::proofs::RowLaws::ends_none, ess_parse_frames::proofs::RowLaws::bounds_none))]
 
-ghost use Rattle.std.specs.Prelude.{◌≡◌, IfOk};
+ghost use Rattle.std.specs.Prelude.{IfOk};
 ghost use Rattle.ess_grammar.specs.Words.{Text};
 ghost use Rattle.ess_grammar.specs.Kinds.{token};
-ghost use Rattle.ess_parse_laws.specs.AfterOperands.{end_ranges};
 ghost use Rattle.ess_parse_laws.specs.Domains.{step_int_read};
-ghost use Rattle.ess_parse_frames.specs.Rows.{back_ends, back_bounds};
 ghost use Rattle.ess_parse_frames.specs.Views.{view_frames, Steps};
 
 use crate::ends::reduced_domain_then;
 use crate::words::is_open_round;
-use ess_core::Range;
 use ess_grammar::Kind;
-use ess_parse_frames::rows::int_of_ranges;
-use ess_parse_frames::stack::{at, inside};
+use ess_parse_frames::domain_parts::whole_int;
+use ess_parse_frames::stack::inside;
+use ess_parse_frames::stops::refuse;
 use ess_parse_frames::{Frame, Mode, State};
 use ess_rows::{NoMemory, Row};
 use std::alloc::Global;
-
-/// Behind all ranges of an int domain.
-pub fn end_ranges(ranges: Row<Range>, frames: Row<Frame>) -> Option<State>
-    ensures { Steps (end_ranges (back_ends ranges) (back_bounds ranges) (view_frames frames)) result }
-{
-    at(Mode::DomainRead(int_of_ranges(ranges)), frames)
-}
 
 /// Behind `int`: ranges in brackets, or what goes on behind a domain. `NoMemory` where there is no room.
 pub fn step_int_read(
@@ -37,5 +28,8 @@ pub fn step_int_read(
     if is_open_round(kind) {
         return inside(Mode::OperandWanted, Frame::Ranges(Row::new(alloc)), frames);
     }
-    reduced_domain_then(alloc, kind, frames, int_of_ranges(Row::new(alloc)))
+    match whole_int(alloc) {
+        Ok(domain) => reduced_domain_then(alloc, kind, frames, domain),
+        Err(no) => refuse(no, frames),
+    }
 }

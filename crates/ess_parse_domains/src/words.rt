@@ -1,7 +1,7 @@
 //! Where a domain is wanted, and behind the words of domains.
 #![tactic(auto, using(ess_core::proofs::DomainEquations::pure_bool, ess_core::proofs::DomainEquations::pure_name, ess_parse_frames::proofs::RowLaws::doms_none, ess_parse_frames::proofs::RowLaws::dom_names_none, ess_parse_frames::proofs::RowLaws::field_doms_none, ess_parse_frames::proofs::RowLaws::marks_none, ess_parse_frames::proofs::RowLaws::numbers_none, ess_parse_frames::proofs::RowLaws::no_marks, ess_parse_frames::proofs::RowLaws::no_numbers))]
 
-ghost use Rattle.std.specs.Prelude.{◌≡◌, ◌∷◌, IfOk};
+ghost use Rattle.std.specs.Prelude.{◌≡◌, IfOk};
 ghost use Rattle.ess_grammar.specs.Words.{Text, symbol, colon};
 ghost use Rattle.ess_grammar.specs.Kinds.{token};
 ghost use Rattle.ess_parse_laws.specs.Domains.{step_domain_wanted, step_matrix_begun, step_indexed_read, step_by_read, step_axes_read, step_tuple_begun, step_record_begun, step_field_name_wanted, step_field_name_read, step_joining_wanted, step_relation_of_wanted, step_relation_of_read, step_inner_begun, step_relation_begun, step_function_begun};
@@ -10,8 +10,9 @@ ghost use Rattle.ess_parse_frames.specs.Views.{view_inner, view_frames, Steps};
 
 use ess_core::Dom;
 use ess_grammar::Kind;
-use ess_parse_frames::stack::{Top, at, innermost, inside, stop, within};
-use ess_parse_frames::{Frame, Inner, Mode, Owner, State};
+use ess_parse_frames::stack::{Top, at, domain_read, innermost, inside, within};
+use ess_parse_frames::stops::{no_state, stop_frames, stop_in};
+use ess_parse_frames::{AtLeast, Frame, Inner, Mode, Owner, State};
 use ess_rows::{NoMemory, Row, Text};
 use std::alloc::Global;
 
@@ -25,7 +26,8 @@ pub fn step_domain_wanted(
     ensures { IfOk result (Steps (step_domain_wanted (token kind name) (view_frames frames))) }
 {
     let mode = match kind {
-        Kind::Bool => Mode::DomainRead(Dom::Bool),
+        Kind::Bool => return domain_read(alloc, Dom::Bool, frames),
+        Kind::Name => return domain_read(alloc, Dom::Name(name), frames),
         Kind::Int => Mode::IntRead,
         Kind::Matrix => Mode::MatrixBegun,
         Kind::Set => Mode::InnerBegun(Inner::Set),
@@ -37,11 +39,10 @@ pub fn step_domain_wanted(
         Kind::Record => Mode::RecordBegun,
         Kind::OpenRound => return inside(
             Mode::DomainWanted,
-            Frame::TupleDomains(true, Row::new(alloc)),
+            Frame::TupleDomains(AtLeast::Two, Row::new(alloc)),
             frames,
         ),
-        Kind::Name => Mode::DomainRead(Dom::Name(name)),
-        _ => return Ok(None),
+        _ => return stop_frames(frames),
     };
     Ok(at(mode, frames))
 }
@@ -52,7 +53,7 @@ pub fn step_matrix_begun(kind: Kind, frames: Row<Frame>) -> Option<State>
 {
     match kind {
         Kind::Indexed => at(Mode::IndexedRead, frames),
-        _ => None,
+        _ => no_state(frames),
     }
 }
 
@@ -62,7 +63,7 @@ pub fn step_indexed_read(kind: Kind, frames: Row<Frame>) -> Option<State>
 {
     match kind {
         Kind::By => at(Mode::ByRead, frames),
-        _ => None,
+        _ => no_state(frames),
     }
 }
 
@@ -76,7 +77,7 @@ pub fn step_by_read(
 {
     match kind {
         Kind::OpenSquare => inside(Mode::DomainWanted, Frame::Axes(Row::new(alloc)), frames),
-        _ => Ok(None),
+        _ => stop_frames(frames),
     }
 }
 
@@ -86,7 +87,7 @@ pub fn step_axes_read(kind: Kind, frames: Row<Frame>) -> Option<State>
 {
     match kind {
         Kind::Of => at(Mode::DomainWanted, frames),
-        _ => None,
+        _ => no_state(frames),
     }
 }
 
@@ -101,10 +102,10 @@ pub fn step_tuple_begun(
     match kind {
         Kind::OpenRound => inside(
             Mode::DomainWanted,
-            Frame::TupleDomains(false, Row::new(alloc)),
+            Frame::TupleDomains(AtLeast::One, Row::new(alloc)),
             frames,
         ),
-        _ => Ok(None),
+        _ => stop_frames(frames),
     }
 }
 
@@ -122,7 +123,7 @@ pub fn step_record_begun(
             Frame::FieldNames(Row::new(alloc)),
             frames,
         ),
-        _ => Ok(None),
+        _ => stop_frames(frames),
     }
 }
 
@@ -132,7 +133,7 @@ pub fn step_field_name_wanted(kind: Kind, name: Text, frames: Row<Frame>) -> Opt
 {
     match kind {
         Kind::Name => at(Mode::FieldNameRead(name), frames),
-        _ => None,
+        _ => no_state(frames),
     }
 }
 
@@ -146,7 +147,7 @@ pub fn step_field_name_read(
 {
     match kind {
         Kind::Colon => begin_field(field, frames),
-        _ => Ok(None),
+        _ => stop_frames(frames),
     }
 }
 
@@ -154,16 +155,16 @@ pub fn step_field_name_read(
 fn begin_field(field: Text, frames: Row<Frame>) -> Result<Option<State>, NoMemory>
     ensures { IfOk result (Steps (step_field_name_read (symbol colon) field (view_frames frames))) }
 {
-    let Some(Top { frame, frames }) = innermost(frames) else {
-        return Ok(None);
-    };
-    match frame {
-        Frame::FieldNames(fields) => inside(
-            Mode::DomainWanted,
-            Frame::FieldDomain(fields, field),
-            frames,
-        ),
-        other => stop(other),
+    match innermost(frames) {
+        Some(Top { frame, frames }) => match frame {
+            Frame::FieldNames(fields) => inside(
+                Mode::DomainWanted,
+                Frame::FieldDomain(fields, field),
+                frames,
+            ),
+            other => stop_in(other, frames),
+        },
+        None => Ok(None),
     }
 }
 
@@ -174,11 +175,11 @@ pub fn step_joining_wanted(kind: Kind, inner: Inner, frames: Row<Frame>) -> Opti
     match inner {
         Inner::Set | Inner::MSet => match kind {
             Kind::Of => at(Mode::DomainWanted, frames),
-            _ => None,
+            _ => no_state(frames),
         },
         Inner::Partition => match kind {
             Kind::From => at(Mode::DomainWanted, frames),
-            _ => None,
+            _ => no_state(frames),
         },
     }
 }
@@ -189,7 +190,7 @@ pub fn step_relation_of_wanted(kind: Kind, frames: Row<Frame>) -> Option<State>
 {
     match kind {
         Kind::Of => at(Mode::RelationOfRead, frames),
-        _ => None,
+        _ => no_state(frames),
     }
 }
 
@@ -199,7 +200,7 @@ pub fn step_relation_of_read(kind: Kind, frames: Row<Frame>) -> Option<State>
 {
     match kind {
         Kind::OpenRound => at(Mode::DomainWanted, frames),
-        _ => None,
+        _ => no_state(frames),
     }
 }
 

@@ -27,7 +27,8 @@ use Rattle.ess_parse_frames.specs.Patterns.{pattern_ex, view_pats, pats_in_order
 use Rattle.ess_parse_frames.proofs.PatternLaws.{pats_whole, pats_are_exs}
 use Rattle.ess_parse_frames.specs.declared.operands.Listed.{Listed}
 use Rattle.ess_parse_frames.specs.declared.operands.Listed.TheVariants as listed
-use Rattle.ess_parse_expressions.specs.Lists.{has_no_items, step_by, begin_sum}
+use Rattle.ess_parse_frames.specs.Steps.{step_by}
+use Rattle.ess_parse_expressions.specs.Lists.{has_no_items, begin_sum}
 
 -- no items
 pub no_items : (es : pure.Exs) → has_no_items es ≡ true → es ≡ no_exs

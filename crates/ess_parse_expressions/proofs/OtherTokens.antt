@@ -6,8 +6,7 @@ use Rattle.ess_parse_laws.specs.Frames.{Frame}
 use Rattle.ess_parse_laws.specs.Reducing.{reduced}
 use Rattle.ess_parse_laws.specs.AfterOperands.{operand_then}
 use Rattle.ess_parse_laws.specs.StatementEnds.{stated, begin_after}
-use Rattle.ess_parse_statements.specs.Beginnings.{begin_with}
-use Rattle.ess_parse_statements.specs.Ends.{begin_behind}
+use Rattle.ess_parse_frames.specs.Statements.{begin_with, begin_behind}
 use Rattle.ess_parse_frames.specs.Roles.{operator_in}
 use Rattle.ess_parse_expressions.specs.Lists.{goes_on}
 

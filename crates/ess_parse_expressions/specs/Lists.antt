@@ -1,7 +1,7 @@
 -- Tests of lists and frames, as the parser makes them.
 use Rattle.std.specs.Prelude.{◌≡◌, ◌&&◌, Bool, true, false, [], ◌∷◌, List, Option, None}
 use Rattle.ess_semantics.specs.Trees as pure
-use Rattle.ess_semantics.specs.Trees.{no_exs, more_exs, Step, by_value, no_gens, plain_node, tuple_literal}
+use Rattle.ess_semantics.specs.Trees.{no_exs, more_exs, no_gens, plain_node, tuple_literal}
 use Rattle.ess_parse_laws.specs.Frames as machine
 use Rattle.ess_parse_laws.specs.Frames.{binary_frame, items_frame, sum_head}
 use Rattle.ess_parse_laws.specs.Modes as modes
@@ -11,26 +11,13 @@ use Rattle.ess_semantics.specs.declared.words.Op2.{Op2}
 use Rattle.ess_grammar.specs.Patterns.{is_member}
 use Rattle.ess_grammar.specs.Words.{Token, symbol, close_round, close_square, close_curly, comma, semicolon, colon, drawn_from, dot, dots, bar, maps_to}
 use Rattle.ess_grammar.specs.declared.kind.Kind.{Kind}
-use Rattle.ess_core.specs.TreeViews.{With, pure_ex}
-use Rattle.ess_core.specs.declared.expressions.Ex.{Ex}
 use Rattle.ess_parse_frames.specs.Views.{view_frames}
 use Rattle.ess_parse_frames.specs.declared.frames.Frame.{Frame}
-use Rattle.ess_parse_frames.specs.declared.frames.Head.{Head}
-use Rattle.ess_parse_frames.specs.declared.frames.Head.TheVariants as H
 
 -- Whether there are no expressions.
 abbrev pub has_no_items : pure.Exs → Bool
 has_no_items no_exs = true
 has_no_items (more_exs e es) = false
-
--- A step of an index by this value.
-abbrev pub step_by : Ex → With Step
-step_by e = (by_value, pure_ex e ∷ [])
-
--- Whether the items are those of `sum` before a bracket of patterns.
-abbrev pub is_sum_head : Head → Bool
-is_sum_head H.Sum = true
-is_sum_head _ = false
 
 -- Behind a tuple of patterns that stands directly behind `sum`, where a quantifier may stand.
 abbrev pub begin_sum : pure.Exs → List machine.Frame → Option modes.State

@@ -16,25 +16,26 @@ ghost use Rattle.ess_parse_frames.specs.Roles.{operator_in};
 ghost use Rattle.ess_parse_frames.specs.Views.{view_frame, view_frames, Steps};
 ghost use Rattle.ess_parse_expressions.specs.Lists.{takes_patterns, minds_patterns, goes_on, pattern_then_operator};
 
-use crate::closing::{
-    operand_then_close_curly, operand_then_close_round, operand_then_close_square,
-};
+use crate::close_curly::operand_then_close_curly;
+use crate::close_round::operand_then_close_round;
+use crate::close_square::operand_then_close_square;
 use crate::commas::operand_then_comma;
+use crate::dot::operand_then_dot;
 use crate::items::{begin_source, in_is_sign};
 use crate::separators::{
-    operand_then_bar, operand_then_colon, operand_then_dot, operand_then_dots,
-    operand_then_drawn_from, operand_then_maps_to, operand_then_semicolon,
+    operand_then_bar, operand_then_colon, operand_then_dots, operand_then_drawn_from,
+    operand_then_maps_to, operand_then_semicolon,
 };
 use ess_core::{Ex, Op2, Pat};
+use ess_grammar::Kind;
 use ess_parse_frames::kinds::operator_of;
 use ess_parse_frames::levels::least_on_the_left;
-use ess_parse_frames::operands::expression_of;
 use ess_parse_frames::reducing::Reduced;
-use ess_parse_frames::stack::{Top, innermost, inside, stop};
+use ess_parse_frames::stack::{Top, innermost, inside};
+use ess_parse_frames::statements::{begin_after, stated};
+use ess_parse_frames::stops::{let_frames_go, refuse, stop_behind, stop_operand};
 use ess_parse_frames::{Frame, Mode, Operand, State};
-use ess_grammar::Kind;
-use ess_rows::{NoMemory, Row};
-use ess_parse_statements::ends::{begin_after, stated};
+use ess_rows::{Boxed, NoMemory, Row};
 use std::alloc::Global;
 
 /// What a token does behind a reduced expression: it is an operator behind its left operand, goes on with the innermost frame
@@ -60,8 +61,10 @@ pub fn operand_then(alloc: Global, kind: Kind, reduced: Reduced) -> Result<Optio
         | Kind::Semicolon
         | Kind::Colon => operand_then_symbol(alloc, kind, frames, ends_in_body, operand),
         _ => {
-            let expression = operand.into_expression(alloc)?;
-            expression_then(alloc, kind, frames, ends_in_body, expression)
+            match operand.into_expression(alloc) {
+                Ok(expression) => expression_then(alloc, kind, frames, ends_in_body, expression),
+                Err(no) => refuse(no, frames),
+            }
         }
     }
 }
@@ -79,7 +82,7 @@ fn operand_then_symbol(
 {
     match innermost(frames) {
         Some(top) => operand_then_symbol_in(alloc, kind, top, ends_in_body, operand),
-        None => Ok(None),
+        None => stop_operand(Row::new(alloc), operand),
     }
 }
 
@@ -102,7 +105,7 @@ fn operand_then_symbol_in(
         Kind::CloseCurly => operand_then_close_curly(alloc, frame, frames, operand),
         Kind::Semicolon => operand_then_semicolon(alloc, frame, frames, operand),
         Kind::Colon => operand_then_colon(frame, frames, operand),
-        _ => stop(frame),
+        _ => stop_behind(frame, frames, operand),
     }
 }
 
@@ -113,7 +116,7 @@ fn expression_then(
     kind: Kind,
     frames: Row<Frame>,
     ends_in_body: bool,
-    expression: Ex,
+    expression: Boxed<Ex>,
 ) -> Result<Option<State>, NoMemory>
     requires symbol { minds_patterns kind ≡ false }
     requires operator { (bytes : Text) → operator_in (token kind bytes) ≡ None }
@@ -121,7 +124,7 @@ fn expression_then(
 {
     match innermost(frames) {
         Some(top) => expression_then_in(alloc, kind, top, ends_in_body, expression),
-        None => stop(expression),
+        None => stop_operand(Row::new(alloc), Operand::Other(expression)),
     }
 }
 
@@ -131,7 +134,7 @@ fn expression_then_in(
     kind: Kind,
     top: Top,
     ends_in_body: bool,
-    expression: Ex,
+    expression: Boxed<Ex>,
 ) -> Result<Option<State>, NoMemory>
     requires symbol { minds_patterns kind ≡ false }
     requires operator { (bytes : Text) → operator_in (token kind bytes) ≡ None }
@@ -143,7 +146,10 @@ fn expression_then_in(
         Kind::Bar => operand_then_bar(alloc, frame, frames, ends_in_body, expression),
         Kind::MapsTo => operand_then_maps_to(frame, frames, expression),
         Kind::Dots => operand_then_dots(frame, frames, ends_in_body, expression),
-        _ => begin_statement(alloc, kind, frame, expression),
+        _ => {
+            let_frames_go(frames);
+            begin_statement(alloc, kind, frame, expression)
+        }
     }
 }
 
@@ -154,14 +160,16 @@ fn begin_statement(
     alloc: Global,
     kind: Kind,
     frame: Frame,
-    expression: Ex,
+    expression: Boxed<Ex>,
 ) -> Result<Option<State>, NoMemory>
     requires symbol { (bytes : Text) → goes_on (token kind bytes) ≡ false }
     requires operator { (bytes : Text) → operator_in (token kind bytes) ≡ None }
     ensures { (bytes : Text) (outer : List machine.Frame) (w p : Bool) (level : ℕ) → IfOk result (Steps (operand_then (token kind bytes) (reduced (view_frame frame ∷ outer) w p level (pure_ex expression)))) }
 {
-    let ended = stated(frame, expression)?;
-    begin_after(alloc, kind, ended)
+    match stated(frame, expression) {
+        Ok(ended) => begin_after(alloc, kind, ended),
+        Err(no) => Err(no),
+    }
 }
 
 /// A binary operator: the expression is its left operand, or `in` makes it a generator's pattern.
@@ -180,7 +188,7 @@ fn operand_then_operator(
         operand,
     } = reduced;
     if level < least_on_the_left(operator) || ends_in_body {
-        return Ok(None);
+        return stop_operand(frames, operand);
     }
     match operand {
         Operand::Pattern(pattern) => pattern_then_operator(alloc, operator, pattern, frames),
@@ -200,8 +208,10 @@ fn pattern_then_operator(
     if is_member(operator) && has_sign(&frames, &pattern) {
         return begin_source(frames, pattern);
     }
-    let left = expression_of(alloc, &pattern)?;
-    inside(Mode::OperandWanted, Frame::Binary(operator, left), frames)
+    match Operand::Pattern(pattern).into_expression(alloc) {
+        Ok(left) => inside(Mode::OperandWanted, Frame::Binary(operator, left), frames),
+        Err(no) => refuse(no, frames),
+    }
 }
 
 /// Is the operator `in`?

@@ -1,25 +1,21 @@
 //! Commas behind an expression.
-#![tactic(auto, using(ess_parse_frames::proofs::RowLaws::gens_none, ess_parse_frames::proofs::PatternLaws::pats_none))]
-
-ghost use Rattle.std.specs.Prelude.{[], ◌∷◌, false, IfOk};
+ghost use Rattle.std.specs.Prelude.{◌∷◌, Bool, false, IfOk};
 ghost use Rattle.ess_parse_laws.specs.AfterOperands.{operand_then_comma};
-ghost use Rattle.ess_parse_laws.specs.Frames.{ranges_frame};
-ghost use Rattle.ess_parse_laws.specs.Modes.{at_state, operand_wanted};
-ghost use Rattle.ess_parse_frames.specs.Rows.{back_ends, back_bounds};
 ghost use Rattle.ess_parse_frames.specs.Patterns.{view_operand, is_pattern_operand};
 ghost use Rattle.ess_parse_frames.specs.Views.{view_frame, view_frames, Steps};
 ghost use Rattle.ess_parse_frames.specs.declared.frames.Frame.TheVariants as F;
 
-use crate::items::{is_sum, item_ended};
-use ess_core::{Ex, FieldEx, Gen, PairEx, Pat, Range, Stm};
-use ess_parse_domains::generators::{from_each, with_all_names};
-use ess_parse_frames::operands::with_operand;
-use ess_parse_frames::rows::{
-    with_bounds, with_field, with_high, with_number, with_pair, with_statement, with_value,
+use crate::items::may_end_item;
+use ess_core::{Attr, Ex, FieldEx, Gen, Key, PairEx, Pat, Range};
+use ess_parse_frames::commas::{next_condition, next_constraint, next_letting, next_unnamed};
+use ess_parse_frames::items::{generator_ended, item_ended};
+use ess_parse_frames::parts::{
+    attributes_with, fields_with, list_with, pairs_with, ranges_between, ranges_up_to, ranges_with,
 };
-use ess_parse_frames::stack::{alone, inside, outside, stop};
-use ess_parse_frames::{Frame, Head, Listed, Listing, Mode, Operand, State};
-use ess_rows::{NoMemory, Row, Text};
+use ess_parse_frames::stack::inside;
+use ess_parse_frames::stops::{let_frames_go, refuse, stop_behind};
+use ess_parse_frames::{Frame, Head, Listed, Listing, Mode, Operand, Owner, State};
+use ess_rows::{Boxed, NoMemory, Row, Text};
 use std::alloc::Global;
 
 /// A comma goes on with a list, with items, ranges, attributes or a list of statements. `ends_in_body`: does the operand
@@ -37,37 +33,68 @@ pub(crate) fn operand_then_comma(
         Frame::List(listing, listed) => more_in_list(alloc, listing, listed, frames, operand),
         Frame::PairRight(pairs, from) => more_pairs(alloc, pairs, from, frames, operand),
         Frame::FieldValue(fields, name) => more_fields(alloc, fields, name, frames, operand),
-        Frame::Items(head, names, items, patterns) if !ends_in_body => more_items(
-            alloc, head, names, items, patterns, frames, operand,
+        Frame::Items(head, names, items, patterns) => more_items(
+            alloc,
+            head,
+            names,
+            items,
+            patterns,
+            frames,
+            ends_in_body,
+            operand,
         ),
-        Frame::GeneratorSource(head, names, items, patterns) if !ends_in_body =>
-            more_behind_generator(alloc, head, names, items, patterns, frames, operand),
-        Frame::Ranges(ranges) if !ends_in_body => {
-            let value = operand.into_expression(alloc)?;
-            more_ranges(with_value(ranges, value)?, frames)
+        Frame::GeneratorSource(head, names, items, patterns) => more_behind_generator(
+            alloc,
+            head,
+            names,
+            items,
+            patterns,
+            frames,
+            ends_in_body,
+            operand,
+        ),
+        Frame::Ranges(ranges) => more_values(alloc, ranges, frames, ends_in_body, operand),
+        Frame::HighBound(ranges, low) => more_bounds(
+            alloc,
+            ranges,
+            low,
+            frames,
+            ends_in_body,
+            operand,
+        ),
+        Frame::LoneHighBound(ranges) => more_high_bounds(
+            alloc,
+            ranges,
+            frames,
+            ends_in_body,
+            operand,
+        ),
+        Frame::AttributeValue(owner, key, attributes) => more_attributes(
+            alloc,
+            owner,
+            key,
+            attributes,
+            frames,
+            ends_in_body,
+            operand,
+        ),
+        Frame::Letting(name, before) => {
+            let_frames_go(frames);
+            next_letting(alloc, name, before, operand)
         }
-        Frame::HighBound(ranges, low) if !ends_in_body => {
-            let high = operand.into_expression(alloc)?;
-            more_ranges(with_bounds(ranges, low, high)?, frames)
+        Frame::Unnamed(name, before) => {
+            let_frames_go(frames);
+            next_unnamed(alloc, name, before, operand)
         }
-        Frame::LoneHighBound(ranges) if !ends_in_body => {
-            let high = operand.into_expression(alloc)?;
-            more_ranges(with_high(ranges, high)?, frames)
+        Frame::Where(before) => {
+            let_frames_go(frames);
+            next_condition(alloc, before, operand)
         }
-        Frame::AttributeValue(owner, key, attributes) if !ends_in_body => {
-            let value = operand.into_expression(alloc)?;
-            let attributes = with_number(attributes, key, value)?;
-            inside(
-                Mode::AttributeWanted,
-                Frame::Attributes(owner, attributes),
-                frames,
-            )
+        Frame::SuchThat(before) => {
+            let_frames_go(frames);
+            next_constraint(alloc, before, operand)
         }
-        Frame::Letting(name, before) => next_letting(alloc, name, before, operand),
-        Frame::Unnamed(name, before) => next_unnamed(alloc, name, before, operand),
-        Frame::Where(before) => next_condition(alloc, before, operand),
-        Frame::SuchThat(before) => next_constraint(alloc, before, operand),
-        other => stop(other),
+        other => stop_behind(other, frames, operand),
     }
 }
 
@@ -81,23 +108,26 @@ fn more_in_list(
 ) -> Result<Option<State>, NoMemory>
     ensures { IfOk result (Steps (operand_then_comma (view_frame (F.List listing listed) ∷ view_frames frames) false (is_pattern_operand operand) (view_operand operand))) }
 {
-    let listed = with_operand(alloc, listed, operand)?;
-    inside(Mode::OperandWanted, Frame::List(listing, listed), frames)
+    match list_with(alloc, listing, listed, operand) {
+        Ok(list) => inside(Mode::OperandWanted, list, frames),
+        Err(no) => refuse(no, frames),
+    }
 }
 
 /// Another pair of a function literal. `NoMemory` where there is no room.
 fn more_pairs(
     alloc: Global,
     pairs: Row<PairEx>,
-    from: Ex,
+    from: Boxed<Ex>,
     frames: Row<Frame>,
     operand: Operand,
 ) -> Result<Option<State>, NoMemory>
     ensures { IfOk result (Steps (operand_then_comma (view_frame (F.PairRight pairs from) ∷ view_frames frames) false (is_pattern_operand operand) (view_operand operand))) }
 {
-    let to = operand.into_expression(alloc)?;
-    let pairs = with_pair(pairs, from, to)?;
-    inside(Mode::OperandWanted, Frame::PairLeft(pairs), frames)
+    match pairs_with(alloc, pairs, from, operand) {
+        Ok(pairs) => inside(Mode::OperandWanted, Frame::PairLeft(pairs), frames),
+        Err(no) => refuse(no, frames),
+    }
 }
 
 /// Another field of a record literal. `NoMemory` where there is no room.
@@ -110,9 +140,10 @@ fn more_fields(
 ) -> Result<Option<State>, NoMemory>
     ensures { IfOk result (Steps (operand_then_comma (view_frame (F.FieldValue fields name) ∷ view_frames frames) false (is_pattern_operand operand) (view_operand operand))) }
 {
-    let value = operand.into_expression(alloc)?;
-    let fields = with_field(fields, name, value)?;
-    inside(Mode::FieldWanted, Frame::Fields(fields), frames)
+    match fields_with(alloc, fields, name, operand) {
+        Ok(fields) => inside(Mode::FieldWanted, Frame::Fields(fields), frames),
+        Err(no) => refuse(no, frames),
+    }
 }
 
 /// Another item of a quantifier or a comprehension, behind one that is no generator. `NoMemory` where there is no room.
@@ -123,15 +154,21 @@ fn more_items(
     items: Row<Gen>,
     patterns: Row<Pat>,
     frames: Row<Frame>,
+    ends_in_body: bool,
     operand: Operand,
 ) -> Result<Option<State>, NoMemory>
-    ensures { IfOk result (Steps (operand_then_comma (view_frame (F.Items head names items patterns) ∷ view_frames frames) false (is_pattern_operand operand) (view_operand operand))) }
+    ensures { IfOk result (Steps (operand_then_comma (view_frame (F.Items head names items patterns) ∷ view_frames frames) ends_in_body (is_pattern_operand operand) (view_operand operand))) }
 {
-    if is_sum(&head) && !operand.is_pattern() {
-        return Ok(None);
+    if ends_in_body {
+        return stop_behind(Frame::Items(head, names, items, patterns), frames, operand);
     }
-    let ended = item_ended(alloc, head, names, items, patterns, operand)?;
-    inside(Mode::OperandWanted, ended, frames)
+    if !may_end_item(&head, &operand) {
+        return stop_behind(Frame::Items(head, names, items, patterns), frames, operand);
+    }
+    match item_ended(alloc, head, names, items, patterns, operand) {
+        Ok(ended) => inside(Mode::OperandWanted, ended, frames),
+        Err(no) => refuse(no, frames),
+    }
 }
 
 /// Another item of a quantifier or a comprehension, behind a generator over a value. `NoMemory` where there is no room.
@@ -142,77 +179,107 @@ fn more_behind_generator(
     items: Row<Gen>,
     patterns: Row<Pat>,
     frames: Row<Frame>,
+    ends_in_body: bool,
     operand: Operand,
 ) -> Result<Option<State>, NoMemory>
-    ensures { IfOk result (Steps (operand_then_comma (view_frame (F.GeneratorSource head names items patterns) ∷ view_frames frames) false (is_pattern_operand operand) (view_operand operand))) }
+    ensures { IfOk result (Steps (operand_then_comma (view_frame (F.GeneratorSource head names items patterns) ∷ view_frames frames) ends_in_body (is_pattern_operand operand) (view_operand operand))) }
 {
-    let names = with_all_names(alloc, names, &patterns)?;
-    let value = operand.into_expression(alloc)?;
-    let items = from_each(alloc, items, patterns, value)?;
-    inside(
-        Mode::OperandWanted,
-        Frame::Items(head, names, items, Row::new(alloc)),
-        frames,
-    )
+    if ends_in_body {
+        return stop_behind(
+            Frame::GeneratorSource(head, names, items, patterns),
+            frames,
+            operand,
+        );
+    }
+    match generator_ended(alloc, head, names, items, patterns, operand) {
+        Ok(ended) => inside(Mode::OperandWanted, ended, frames),
+        Err(no) => refuse(no, frames),
+    }
 }
 
-/// Another range of an int domain. `NoMemory` where there is no room.
-fn more_ranges(ranges: Row<Range>, frames: Row<Frame>) -> Result<Option<State>, NoMemory>
-    ensures { IfOk result (Steps (at_state operand_wanted (ranges_frame (back_ends ranges) (back_bounds ranges) ∷ view_frames frames))) }
-{
-    inside(Mode::OperandWanted, Frame::Ranges(ranges), frames)
-}
-
-/// Another letting, behind one of an expression. `NoMemory` where there is no room.
-fn next_letting(
+/// Another range of an int domain, behind a value. `NoMemory` where there is no room.
+fn more_values(
     alloc: Global,
-    name: Text,
-    before: Row<Stm>,
+    ranges: Row<Range>,
+    frames: Row<Frame>,
+    ends_in_body: bool,
     operand: Operand,
 ) -> Result<Option<State>, NoMemory>
-    ensures { IfOk result (Steps (operand_then_comma (view_frame (F.Letting name before) ∷ []) false (is_pattern_operand operand) (view_operand operand))) }
+    ensures { (p : Bool) → IfOk result (Steps (operand_then_comma (view_frame (F.Ranges ranges) ∷ view_frames frames) ends_in_body p (view_operand operand))) }
 {
-    let value = operand.into_expression(alloc)?;
-    let statements = with_statement(before, Stm::LetEx(name, value))?;
-    Ok(outside(alloc, Mode::LettingWanted(statements)))
+    if ends_in_body {
+        return stop_behind(Frame::Ranges(ranges), frames, operand);
+    }
+    match ranges_with(alloc, ranges, operand) {
+        Ok(ranges) => inside(Mode::OperandWanted, Frame::Ranges(ranges), frames),
+        Err(no) => refuse(no, frames),
+    }
 }
 
-/// Another letting, behind one of an unnamed type. `NoMemory` where there is no room.
-fn next_unnamed(
+/// Another range of an int domain, behind one with both bounds. `NoMemory` where there is no room.
+fn more_bounds(
     alloc: Global,
-    name: Text,
-    before: Row<Stm>,
+    ranges: Row<Range>,
+    low: Boxed<Ex>,
+    frames: Row<Frame>,
+    ends_in_body: bool,
     operand: Operand,
 ) -> Result<Option<State>, NoMemory>
-    ensures { IfOk result (Steps (operand_then_comma (view_frame (F.Unnamed name before) ∷ []) false (is_pattern_operand operand) (view_operand operand))) }
+    ensures { (p : Bool) → IfOk result (Steps (operand_then_comma (view_frame (F.HighBound ranges low) ∷ view_frames frames) ends_in_body p (view_operand operand))) }
 {
-    let size = operand.into_expression(alloc)?;
-    let statements = with_statement(before, Stm::LetUnnamed(name, size))?;
-    Ok(outside(alloc, Mode::LettingWanted(statements)))
+    if ends_in_body {
+        return stop_behind(Frame::HighBound(ranges, low), frames, operand);
+    }
+    match ranges_between(alloc, ranges, low, operand) {
+        Ok(ranges) => inside(Mode::OperandWanted, Frame::Ranges(ranges), frames),
+        Err(no) => refuse(no, frames),
+    }
 }
 
-/// Another condition. `NoMemory` where there is no room.
-fn next_condition(
+/// Another range of an int domain, behind one with an upper bound alone. `NoMemory` where there is no room.
+fn more_high_bounds(
     alloc: Global,
-    before: Row<Stm>,
+    ranges: Row<Range>,
+    frames: Row<Frame>,
+    ends_in_body: bool,
     operand: Operand,
 ) -> Result<Option<State>, NoMemory>
-    ensures { IfOk result (Steps (operand_then_comma (view_frame (F.Where before) ∷ []) false (is_pattern_operand operand) (view_operand operand))) }
+    ensures { (p : Bool) → IfOk result (Steps (operand_then_comma (view_frame (F.LoneHighBound ranges) ∷ view_frames frames) ends_in_body p (view_operand operand))) }
 {
-    let condition = operand.into_expression(alloc)?;
-    let statements = with_statement(before, Stm::Needs(condition))?;
-    alone(alloc, Mode::OperandWanted, Frame::Where(statements))
+    if ends_in_body {
+        return stop_behind(Frame::LoneHighBound(ranges), frames, operand);
+    }
+    match ranges_up_to(alloc, ranges, operand) {
+        Ok(ranges) => inside(Mode::OperandWanted, Frame::Ranges(ranges), frames),
+        Err(no) => refuse(no, frames),
+    }
 }
 
-/// Another constraint. `NoMemory` where there is no room.
-fn next_constraint(
+/// Another attribute of a domain, behind one with a number. `NoMemory` where there is no room.
+fn more_attributes(
     alloc: Global,
-    before: Row<Stm>,
+    owner: Owner,
+    key: Key,
+    attributes: Row<Attr>,
+    frames: Row<Frame>,
+    ends_in_body: bool,
     operand: Operand,
 ) -> Result<Option<State>, NoMemory>
-    ensures { IfOk result (Steps (operand_then_comma (view_frame (F.SuchThat before) ∷ []) false (is_pattern_operand operand) (view_operand operand))) }
+    ensures { (p : Bool) → IfOk result (Steps (operand_then_comma (view_frame (F.AttributeValue owner key attributes) ∷ view_frames frames) ends_in_body p (view_operand operand))) }
 {
-    let constraint = operand.into_expression(alloc)?;
-    let statements = with_statement(before, Stm::SuchThat(constraint))?;
-    alone(alloc, Mode::OperandWanted, Frame::SuchThat(statements))
+    if ends_in_body {
+        return stop_behind(
+            Frame::AttributeValue(owner, key, attributes),
+            frames,
+            operand,
+        );
+    }
+    match attributes_with(alloc, attributes, key, operand) {
+        Ok(attributes) => inside(
+            Mode::AttributeWanted,
+            Frame::Attributes(owner, attributes),
+            frames,
+        ),
+        Err(no) => refuse(no, frames),
+    }
 }

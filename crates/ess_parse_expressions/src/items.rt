@@ -1,24 +1,22 @@
 //! The items of quantifiers and comprehensions: generators and conditions, and the patterns that wait for a generator's sign.
-#![tactic(auto, using(crate::proofs::FrameLaws::frames_at, crate::proofs::FrameLaws::frames_all, ess_parse_frames::proofs::StackLaws::frames_none, ess_parse_frames::proofs::PatternLaws::pats_none, ess_parse_frames::proofs::PatternLaws::pats_push, ess_parse_frames::proofs::PatternLaws::pats_whole, ess_parse_frames::proofs::RowLaws::gens_none, crate::proofs::ListLaws::one_is_bound, crate::proofs::ListLaws::several_are_not_bound))]
+#![tactic(auto, using(crate::proofs::FrameLaws::frames_at, crate::proofs::FrameLaws::frames_all, ess_parse_frames::proofs::StackLaws::frames_none, ess_parse_frames::proofs::PatternLaws::pats_none, ess_parse_frames::proofs::RowLaws::gens_none, crate::proofs::ListLaws::one_is_bound, crate::proofs::ListLaws::several_are_not_bound))]
 
 ghost use Rattle.std.specs.Prelude.{◌≡◌, ◌∷◌, List, IfOk};
 ghost use Rattle.std.specs.List.{list_any};
 ghost use Rattle.std.specs.Option.{option_map};
-ghost use Rattle.ess_semantics.specs.Trees.{no_exs, more_exs, no_gens};
 ghost use Rattle.ess_grammar.specs.Words.{same_text};
 ghost use Rattle.ess_grammar.specs.Patterns.{is_bound_name};
 ghost use Rattle.ess_parse_laws.specs.Frames as machine;
-ghost use Rattle.ess_parse_laws.specs.Items.{may_quantify, in_is_sign, settled_head, begin_source, item_ended, begin_quantifier};
-ghost use Rattle.ess_parse_laws.specs.Reversed.{push_conditions, reverse_gens};
-ghost use Rattle.ess_core.specs.TreeViews.{pure_ex, pure_gens, pure_pat};
-ghost use Rattle.ess_parse_frames.specs.Rows.{back_gens};
-ghost use Rattle.ess_parse_frames.specs.Patterns.{pattern_ex, back_pats, view_operand, is_pattern_operand};
+ghost use Rattle.ess_parse_laws.specs.Items.{may_quantify, in_is_sign, may_end_item, begin_source, begin_quantifier};
+ghost use Rattle.ess_core.specs.TreeViews.{pure_pat};
+ghost use Rattle.ess_parse_frames.specs.Patterns.{pattern_ex, is_pattern_operand};
 ghost use Rattle.ess_parse_frames.specs.Views.{view_frame, view_frames, view_head, Steps};
-ghost use Rattle.ess_parse_expressions.specs.Lists.{is_sum_head, wanting_operand};
+ghost use Rattle.ess_parse_expressions.specs.Lists.{wanting_operand};
 
-use ess_core::{Ex, Fun, Gen, Pat};
-use ess_parse_domains::generators::with_conditions;
-use ess_parse_frames::stack::{Top, at, innermost, inside, stop, within};
+use ess_core::{Fun, Pat};
+use ess_parse_frames::items::source_begun;
+use ess_parse_frames::stack::{Top, at, innermost, inside, within};
+use ess_parse_frames::stops::{let_frames_go, refuse, stop_in};
 use ess_parse_frames::{Frame, Head, Mode, Operand, State};
 use ess_rows::{NoMemory, Row, Text};
 use std::alloc::Global;
@@ -79,20 +77,16 @@ pub(crate) fn in_is_sign(frame: &Frame, pattern: &Pat) -> bool
     }
 }
 
-/// Does the head belong to `sum` before a bracket of patterns?
-pub(crate) fn is_sum(head: &Head) -> bool
-    ensures { result ≡ is_sum_head head.now }
+/// May the operand be an item that is no generator?
+pub(crate) fn may_end_item(head: &Head, operand: &Operand) -> bool
+    ensures { result ≡ may_end_item (view_head head.now) (is_pattern_operand operand.now) }
 {
-    matches!(head, Head::Sum)
-}
-
-/// What items belong to behind their first generator.
-pub(crate) fn settled(head: Head) -> Head
-    ensures { view_head result ≡ settled_head (view_head head) }
-{
-    match head {
-        Head::Sum => Head::Quantifier(Fun::Sum),
-        other => other,
+    match operand {
+        Operand::Pattern(_) => true,
+        Operand::Other(_) => match head {
+            Head::Sum => false,
+            Head::Quantifier(_) | Head::Comprehension(_) => true,
+        },
     }
 }
 
@@ -112,56 +106,14 @@ fn begin_source_in(top: Top, pattern: Pat) -> Result<Option<State>, NoMemory>
 {
     let Top { frame, frames } = top;
     match frame {
-        Frame::Items(head, names, items, patterns) => {
-            let mut patterns = patterns;
-            patterns.push(pattern)?;
-            let head = settled(head);
-            inside(
-                Mode::OperandWanted,
-                Frame::GeneratorSource(head, names, items, patterns),
-                frames,
-            )
-        }
-        other => stop(other),
+        Frame::Items(head, names, items, patterns) => match source_begun(
+            head, names, items, patterns, pattern,
+        ) {
+            Ok(source) => inside(Mode::OperandWanted, source, frames),
+            Err(no) => refuse(no, frames),
+        },
+        other => stop_in(other, frames),
     }
-}
-
-/// The items behind an item that is no generator. `NoMemory` where there is no room.
-pub(crate) fn item_ended(
-    alloc: Global,
-    head: Head,
-    names: Row<Text>,
-    items: Row<Gen>,
-    patterns: Row<Pat>,
-    operand: Operand,
-) -> Result<Frame, NoMemory>
-    ensures { IfOk result (λ f. view_frame f ≡ item_ended (view_head head) names (back_gens items) (back_pats patterns no_exs) (is_pattern_operand operand) (view_operand operand)) }
-{
-    match operand {
-        Operand::Pattern(pattern) => {
-            let mut patterns = patterns;
-            patterns.push(pattern)?;
-            Ok(Frame::Items(head, names, items, patterns))
-        }
-        Operand::Other(condition) => {
-            let items = with_conditions(alloc, items, &patterns, condition)?;
-            Ok(Frame::Items(head, names, items, Row::new(alloc)))
-        }
-    }
-}
-
-/// The items in order, the last of which are patterns and an expression as conditions. `NoMemory` where there is no room.
-#[tactic(auto, using(ess_parse_domains::proofs::SharedItems::items_in_order))]
-pub(crate) fn all_conditions(
-    alloc: Global,
-    items: Row<Gen>,
-    patterns: &Row<Pat>,
-    last: Ex,
-) -> Result<Row<Gen>, NoMemory>
-    ensures { IfOk result (λ gs. pure_gens gs ≡ reverse_gens (push_conditions (more_exs (pure_ex last) (back_pats patterns.now no_exs)) (back_gens items)) no_gens) }
-{
-    let items = with_conditions(alloc, items, patterns, last)?;
-    Ok(items)
 }
 
 /// The frames behind a quantifier's word, where a quantifier may stand. `NoMemory` where there is no room.
@@ -173,6 +125,7 @@ pub(crate) fn quantifier_begun(
     ensures { IfOk result (λ r. begin_quantifier fold (view_frames frames) ≡ option_map wanting_operand r) }
 {
     if !may_quantify(&frames) {
+        let_frames_go(frames);
         return Ok(None);
     }
     let items = Frame::Items(
@@ -181,7 +134,10 @@ pub(crate) fn quantifier_begun(
         Row::new(alloc),
         Row::new(alloc),
     );
-    Ok(Some(within(frames, items)?))
+    match within(frames, items) {
+        Ok(frames) => Ok(Some(frames)),
+        Err(no) => Err(no),
+    }
 }
 
 /// Behind a quantifier's word its items are wanted. `NoMemory` where there is no room.
@@ -192,8 +148,9 @@ pub(crate) fn begin_quantifier(
 ) -> Result<Option<State>, NoMemory>
     ensures { IfOk result (Steps (begin_quantifier fold (view_frames frames))) }
 {
-    match quantifier_begun(alloc, fold, frames)? {
-        Some(frames) => Ok(at(Mode::OperandWanted, frames)),
-        None => Ok(None),
+    match quantifier_begun(alloc, fold, frames) {
+        Ok(Some(frames)) => Ok(at(Mode::OperandWanted, frames)),
+        Ok(None) => Ok(None),
+        Err(no) => Err(no),
     }
 }

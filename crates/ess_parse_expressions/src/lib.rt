@@ -8,8 +8,11 @@
 #![tactic(auto)]
 
 pub mod after_operand;
-mod closing;
+mod close_curly;
+mod close_round;
+mod close_square;
 mod commas;
+mod dot;
 mod items;
 mod listing;
 mod nothing;

@@ -1,12 +1,11 @@
 //! Steps where an operand is wanted.
 #![tactic(auto, using(crate::proofs::TokenLaws::is_function, ess_parse_frames::proofs::PatternLaws::pats_none, ess_core::proofs::PartEquations::pure_pat_name, ess_core::proofs::ExpressionEquations::pure_num, ess_core::proofs::ExpressionEquations::pure_truth))]
 
-ghost use Rattle.std.specs.Prelude.{[], ◌∷◌, true, false, IfOk};
+ghost use Rattle.std.specs.Prelude.{[], ◌∷◌, true, IfOk};
 ghost use Rattle.ess_grammar.specs.Kinds.{token};
 ghost use Rattle.ess_parse_laws.specs.Frames.{list_frame};
-ghost use Rattle.ess_parse_laws.specs.Modes.{at_state, operand_read, operand_wanted};
+ghost use Rattle.ess_parse_laws.specs.Modes.{at_state, operand_wanted};
 ghost use Rattle.ess_parse_laws.specs.Operands.{step_operand_wanted};
-ghost use Rattle.ess_core.specs.TreeViews.{pure_ex};
 ghost use Rattle.ess_parse_frames.specs.Views.{view_frame, view_listing, list_end, list_start, view_frames, Steps};
 ghost use Rattle.ess_parse_expressions.specs.Lists.{EndsNothing};
 
@@ -16,10 +15,11 @@ use crate::nothing::{
     nothing_then_comma, nothing_then_dots,
 };
 use ess_core::{Ex, Fun, Pat};
-use ess_parse_frames::kinds::function_of;
-use ess_parse_frames::stack::{Top, at, innermost, inside, stop};
-use ess_parse_frames::{Frame, Listed, Listing, Literal, Mode, Operand, State};
 use ess_grammar::Kind;
+use ess_parse_frames::kinds::function_of;
+use ess_parse_frames::stack::{Top, at, expression_read, innermost, inside};
+use ess_parse_frames::stops::{stop_frames, stop_in};
+use ess_parse_frames::{Frame, Listed, Listing, Literal, Mode, Operand, State};
 use ess_rows::{NoMemory, Row, Text};
 use std::alloc::Global;
 
@@ -35,9 +35,9 @@ pub fn step_operand_wanted(
 {
     match kind {
         Kind::Name => Ok(at(Mode::OperandRead(Operand::Pattern(Pat::Name(name))), frames)),
-        Kind::Num(number) => Ok(constant(Ex::Num(number.max(0)), frames)),
-        Kind::True => Ok(constant(Ex::Truth(true), frames)),
-        Kind::False => Ok(constant(Ex::Truth(false), frames)),
+        Kind::Num(number) => expression_read(alloc, Ex::Num(number.max(0)), frames),
+        Kind::True => expression_read(alloc, Ex::Truth(true), frames),
+        Kind::False => expression_read(alloc, Ex::Truth(false), frames),
         Kind::Tuple => Ok(at(Mode::LiteralBegun(Literal::Tuple), frames)),
         Kind::MSet => Ok(at(Mode::LiteralBegun(Literal::MSet), frames)),
         Kind::Relation => Ok(at(Mode::LiteralBegun(Literal::Relation), frames)),
@@ -56,16 +56,9 @@ pub fn step_operand_wanted(
             nothing_then(alloc, kind, frames),
         _ => match function_of(kind) {
             Some(word) => Ok(at(Mode::FunctionWordRead(word), frames)),
-            None => Ok(None),
+            None => stop_frames(frames),
         },
     }
-}
-
-/// Behind a number or a truth value.
-fn constant(constant: Ex, frames: Row<Frame>) -> Option<State>
-    ensures { Steps (at_state (operand_read false (pure_ex constant)) (view_frames frames)) result }
-{
-    at(Mode::OperandRead(Operand::Other(constant)), frames)
 }
 
 /// Behind the bracket that opens a list. `NoMemory` where there is no room.
@@ -103,6 +96,6 @@ fn nothing_then_in(alloc: Global, kind: Kind, top: Top) -> Result<Option<State>,
         Kind::CloseCurly => nothing_then_close_curly(alloc, frame, frames),
         Kind::Comma => nothing_then_comma(frame, frames),
         Kind::Dots => nothing_then_dots(frame, frames),
-        _ => stop(frame),
+        _ => stop_in(frame, frames),
     }
 }

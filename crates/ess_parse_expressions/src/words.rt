@@ -2,7 +2,8 @@
 #![tactic(auto, using(ess_parse_frames::proofs::RowLaws::pairs_none, ess_parse_frames::proofs::RowLaws::field_names_none, ess_parse_frames::proofs::RowLaws::field_values_none))]
 
 ghost use Rattle.std.specs.Prelude.{◌≡◌, ◌∷◌, IfOk};
-ghost use Rattle.ess_grammar.specs.Words.{Text};
+ghost use Rattle.ess_semantics.specs.declared.words.Op2.{Op2};
+ghost use Rattle.ess_grammar.specs.Words.{Text, operator};
 ghost use Rattle.ess_grammar.specs.Kinds.{token};
 ghost use Rattle.ess_parse_laws.specs.Operands.{is_open_round, is_sum_word, continue_atom, step_literal_begun, step_function_word_read, step_function_literal_begun, step_record_literal_begun, step_field_wanted, step_field_read};
 ghost use Rattle.ess_parse_frames.specs.Patterns.{view_operand};
@@ -11,9 +12,10 @@ ghost use Rattle.ess_parse_frames.specs.Views.{literal_op, view_frame, view_fram
 use crate::items::quantifier_begun;
 use crate::operand::{begin_list, step_operand_wanted};
 use ess_core::Fun;
-use ess_parse_frames::stack::{Top, at, innermost, inside, stop};
-use ess_parse_frames::{Frame, Listing, Literal, Mode, Operand, State};
 use ess_grammar::Kind;
+use ess_parse_frames::stack::{Top, at, innermost, inside};
+use ess_parse_frames::stops::{no_state, refuse, stop_frames, stop_in, stop_operand};
+use ess_parse_frames::{Frame, Listing, Literal, Mode, Operand, State};
 use ess_rows::{NoMemory, Row, Text};
 use std::alloc::Global;
 
@@ -29,14 +31,18 @@ pub fn continue_atom(
 {
     match kind {
         Kind::OpenSquare => {
-            let indexed = operand.into_expression(alloc)?;
-            begin_list(alloc, Listing::Index(indexed), frames)
+            match operand.into_expression(alloc) {
+                Ok(indexed) => begin_list(alloc, Listing::Index(indexed), frames),
+                Err(no) => refuse(no, frames),
+            }
         }
         Kind::OpenRound => {
-            let applied = operand.into_expression(alloc)?;
-            begin_list(alloc, Listing::Application(applied), frames)
+            match operand.into_expression(alloc) {
+                Ok(applied) => begin_list(alloc, Listing::Application(applied), frames),
+                Err(no) => refuse(no, frames),
+            }
         }
-        _ => Ok(None),
+        _ => stop_operand(frames, operand),
     }
 }
 
@@ -52,7 +58,7 @@ pub fn step_literal_begun(
 {
     match kind {
         Kind::OpenRound => begin_list(alloc, Listing::Literal(literal), frames),
-        _ => Ok(None),
+        _ => stop_frames(frames),
     }
 }
 
@@ -86,11 +92,12 @@ pub fn step_function_word_read(
         return begin_list(alloc, Listing::Call(word), frames);
     }
     if !is_sum_word(word) {
-        return Ok(None);
+        return stop_frames(frames);
     }
-    match quantifier_begun(alloc, Fun::Sum, frames)? {
-        Some(frames) => step_operand_wanted(alloc, kind, name, frames),
-        None => Ok(None),
+    match quantifier_begun(alloc, Fun::Sum, frames) {
+        Ok(Some(frames)) => step_operand_wanted(alloc, kind, name, frames),
+        Ok(None) => Ok(None),
+        Err(no) => Err(no),
     }
 }
 
@@ -109,7 +116,7 @@ pub fn step_function_literal_begun(
             Frame::PairLeft(Row::new(alloc)),
             frames,
         ),
-        _ => Ok(None),
+        _ => stop_frames(frames),
     }
 }
 
@@ -124,7 +131,7 @@ pub fn step_record_literal_begun(
 {
     match kind {
         Kind::OpenCurly => inside(Mode::FieldWanted, Frame::Fields(Row::new(alloc)), frames),
-        _ => Ok(None),
+        _ => stop_frames(frames),
     }
 }
 
@@ -135,7 +142,7 @@ pub fn step_field_wanted(kind: Kind, name: Text, frames: Row<Frame>) -> Option<S
 {
     match kind {
         Kind::Name => at(Mode::FieldRead(name), frames),
-        _ => None,
+        _ => no_state(frames),
     }
 }
 
@@ -159,15 +166,22 @@ fn field_read_in(kind: Kind, field: Text, top: Top) -> Result<Option<State>, NoM
     ensures { (bytes : Text) → IfOk result (Steps (step_field_read (token kind bytes) field (view_frame top.frame ∷ view_frames top.frames))) }
 {
     let Top { frame, frames } = top;
+    match kind {
+        Kind::Equal => begin_field(frame, field, frames),
+        _ => stop_in(frame, frames),
+    }
+}
+
+/// Behind `=` in this innermost frame. `NoMemory` where there is no room.
+fn begin_field(frame: Frame, field: Text, frames: Row<Frame>) -> Result<Option<State>, NoMemory>
+    ensures { IfOk result (Steps (step_field_read (operator Op2.Eq) field (view_frame frame ∷ view_frames frames))) }
+{
     match frame {
-        Frame::Fields(fields) => match kind {
-            Kind::Equal => inside(
-                Mode::OperandWanted,
-                Frame::FieldValue(fields, field),
-                frames,
-            ),
-            _ => Ok(None),
-        },
-        other => stop(other),
+        Frame::Fields(fields) => inside(
+            Mode::OperandWanted,
+            Frame::FieldValue(fields, field),
+            frames,
+        ),
+        other => stop_in(other, frames),
     }
 }

@@ -1,11 +1,10 @@
 -- Fields and attributes that are put behind others.
-use Rattle.std.proofs.Common.{◌≡◌, refl, sym, ap, ◌∙◌, List, [], ◌∷◌, ◌++◌, Option, Some, None}
-use Rattle.std.specs.Option.{option_map}
+use Rattle.std.proofs.Common.{◌≡◌, ap, ◌∙◌, List, [], ◌∷◌, ◌++◌, Option, Some, None}
 use Rattle.ess_semantics.specs.declared.words.Key.{Key}
 use Rattle.ess_semantics.specs.Values.{Text}
 use Rattle.ess_semantics.specs.Trees as pure
 use Rattle.ess_semantics.specs.Trees.{Ends, Mark, more_exs, flag, valued}
-use Rattle.ess_core.specs.TreeViews.{With, Item, attribute, dom_step, field_dom_step, range_step, attr_step, ex_step, step_step, field_ex_step, pair_ex_step, gen_step, view_step, pure_ex, pure_dom, pure_field_ex, pure_field_dom, pure_attr}
+use Rattle.ess_core.specs.TreeViews.{With, Item, dom_step, field_dom_step, range_step, attr_step, ex_step, step_step, field_ex_step, pair_ex_step, gen_step, view_step, pure_ex, pure_dom, pure_field_ex, pure_field_dom, pure_attr}
 use Rattle.ess_core.specs.declared.domains.Dom.{Dom}
 use Rattle.ess_core.specs.declared.domains.FieldDom.{FieldDom}
 use Rattle.ess_core.specs.declared.domains.Attr.{Attr}

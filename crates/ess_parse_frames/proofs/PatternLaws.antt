@@ -1,5 +1,5 @@
 -- Patterns as the expressions that are written as them.
-use Rattle.std.proofs.Common.{◌≡◌, refl, sym, ap, ◌∙◌, ℕ, ◌+◌, ◌<◌, List, [], ◌∷◌, ◌++◌, map, take, length}
+use Rattle.std.proofs.Common.{◌≡◌, refl, sym, ap, ◌∙◌, List, [], ◌∷◌, ◌++◌, map}
 use Rattle.ess_semantics.specs.Trees as pure
 use Rattle.ess_semantics.specs.Trees.{name_pat, tuple_pat, no_pats, more_pats, no_exs, more_exs}
 use Rattle.ess_parse_laws.specs.Reversed.{reverse_exs}

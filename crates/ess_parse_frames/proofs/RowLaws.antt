@@ -1,17 +1,15 @@
 -- Rows of the parser, as lists of the machine: no item, one more, and all in their order again.
-use Rattle.std.proofs.Common.{◌≡◌, refl, sym, ap, ◌∙◌, ℕ, List, [], ◌∷◌, ◌++◌, map, Option, Some, None, append_assoc}
-use Rattle.ess_semantics.specs.declared.words.Key.{Key}
+use Rattle.std.proofs.Common.{◌≡◌, refl, sym, ap, ◌∙◌, List, [], ◌∷◌, ◌++◌, map, Some, None, append_assoc}
 use Rattle.ess_semantics.specs.Values.{Text}
 use Rattle.ess_semantics.specs.Lists.{append_all}
 use Rattle.ess_semantics.specs.Names.{keys}
 use Rattle.ess_semantics.specs.Kinds.{doms_of}
 use Rattle.ess_semantics.specs.Trees as pure
 use Rattle.ess_semantics.specs.Trees.{no_exs, more_exs, no_doms, more_doms, no_gens, over, from, cond, one_value, both_ends, low_end, high_end, flag, valued, plain_node, function_literal}
-use Rattle.ess_grammar.specs.Grammar.{pair_ex}
 use Rattle.ess_parse_laws.specs.Reversed.{reverse_exs, reverse_list, reverse_doms, reverse_gens}
 use Rattle.ess_core.specs.TreeViews.{With, Item, over_item, from_item, cond_item, pure_ex, pure_exs, pure_dom, pure_doms, pure_gen, pure_gens, pure_pat, pure_pair_ex, pure_field_ex, pure_field_dom, pure_range, pure_attr, exs_of, gens_of, words_of, within, field_values}
 use Rattle.ess_core.specs.StatementViews.{pure_stm}
-use Rattle.ess_core.proofs.PartEquations.{pure_gen_over, pure_gen_from, pure_gen_if, pure_range_one, pure_range_span, pure_field_dom_is, pure_field_ex_is, pure_pair_ex_is, pure_attr_is}
+use Rattle.ess_core.proofs.PartEquations.{pure_gen_over, pure_gen_from, pure_gen_if, pure_range_one, pure_range_span}
 use Rattle.ess_core.proofs.ExpressionEquations.{pure_function}
 use Rattle.ess_core.specs.declared.domains.Dom.{Dom}
 use Rattle.ess_core.specs.declared.domains.FieldDom.{FieldDom}

@@ -1,6 +1,5 @@
 -- Frames put on and taken off.
 use Rattle.std.proofs.Common.{◌≡◌, refl, List, [], ◌∷◌, ◌++◌, map}
-use Rattle.ess_parse_laws.specs.Frames as machine
 use Rattle.ess_parse_laws.specs.Reversed.{reverse_list}
 use Rattle.ess_parse_frames.specs.Views.{view_frame, view_frames}
 use Rattle.ess_parse_frames.specs.declared.frames.Frame.{Frame}

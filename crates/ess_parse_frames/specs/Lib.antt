@@ -4,3 +4,5 @@ pub mod Patterns
 pub mod Views
 pub mod Stack
 pub mod Reduced
+pub mod Statements
+pub mod Steps

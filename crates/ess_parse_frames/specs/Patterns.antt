@@ -4,7 +4,6 @@ use Rattle.ess_semantics.specs.Trees as pure
 use Rattle.ess_semantics.specs.Trees.{name_pat, tuple_pat, no_pats, more_pats, name_ex, tuple_literal, no_exs, more_exs, plain_node}
 use Rattle.ess_parse_laws.specs.Reversed.{reverse_exs}
 use Rattle.ess_core.specs.TreeViews.{pure_ex, pure_pat, exs_of}
-use Rattle.ess_core.specs.declared.expressions.Ex.{Ex}
 use Rattle.ess_core.specs.declared.expressions.Pat.{Pat}
 use Rattle.ess_parse_frames.specs.Rows.{back_exs}
 use Rattle.ess_parse_frames.specs.declared.operands.Operand.{Operand}

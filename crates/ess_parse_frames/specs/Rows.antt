@@ -6,7 +6,7 @@ use Rattle.ess_semantics.specs.Kinds.{doms_of}
 use Rattle.ess_semantics.specs.Trees as pure
 use Rattle.ess_semantics.specs.Trees.{Ends, Mark, no_exs, no_doms, no_gens}
 use Rattle.ess_parse_laws.specs.Reversed.{reverse_exs, reverse_list, reverse_doms, reverse_gens}
-use Rattle.ess_core.specs.TreeViews.{pure_ex, pure_exs, pure_doms, pure_gens, pure_pair_ex, pure_field_ex, pure_field_dom, pure_range, pure_attr, exs_of, words_of, within, field_values}
+use Rattle.ess_core.specs.TreeViews.{pure_exs, pure_doms, pure_gens, pure_pair_ex, pure_field_ex, pure_field_dom, pure_range, pure_attr, exs_of, words_of, within, field_values}
 use Rattle.ess_core.specs.StatementViews.{pure_stm}
 use Rattle.ess_core.specs.declared.domains.Dom.{Dom}
 use Rattle.ess_core.specs.declared.domains.FieldDom.{FieldDom}

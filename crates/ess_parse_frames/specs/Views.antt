@@ -1,5 +1,5 @@
 -- The frames, modes and states of the machine that those of the parser stand for.
-use Rattle.std.specs.Prelude.{◌≡◌, List, [], ◌∷◌, map, Option}
+use Rattle.std.specs.Prelude.{◌≡◌, Bool, true, false, List, [], ◌∷◌, map, Option}
 use Rattle.std.specs.Option.{option_map}
 use Rattle.ess_semantics.specs.Trees as pure
 use Rattle.ess_semantics.specs.Trees.{Op, word, application, tuple_literal, set_literal, mset_literal, relation_literal, partition_literal, matrix_literal, no_exs, more_exs}
@@ -8,7 +8,6 @@ use Rattle.ess_parse_laws.specs.Frames as machine
 use Rattle.ess_parse_laws.specs.Frames.{round_list, index_list, node_list, set_inner, mset_inner, partition_inner, inner_owner, relation_owner, function_owner, quantifier_head, sum_head, comprehension_head, minus_frame, not_frame, bar_frame, binary_frame, body_frame, list_frame, pair_left_frame, pair_right_frame, fields_frame, field_value_frame, items_frame, generator_source_frame, generator_domain_frame, index_domain_frame, ranges_frame, high_bound_frame, lone_high_bound_frame, axes_frame, element_frame, tuple_domains_frame, field_names_frame, field_domain_frame, inner_domain_frame, relation_domains_frame, function_from_frame, function_to_frame, attributes_frame, attribute_value_frame, letting_frame, unnamed_frame, letting_domain_frame, where_frame, such_that_frame, objective_frame, declaration_frame}
 use Rattle.ess_parse_laws.specs.Modes as modes
 use Rattle.ess_parse_laws.specs.Modes.{operand_wanted, operand_read, function_word_read, literal_begun, function_literal_begun, record_literal_begun, field_wanted, field_read, domain_wanted, domain_read, int_read, matrix_begun, indexed_read, by_read, axes_read, tuple_begun, record_begun, field_name_wanted, field_name_read, inner_begun, joining_wanted, relation_begun, relation_of_wanted, relation_of_read, function_begun, function_bracket_read, attribute_wanted, attribute_read, nothing_read, language_read, language_name_read, first_number_read, language_dot_read, names_wanted, name_read, given_new_read, given_type_read, letting_wanted, letting_name_read, be_read, letting_new_read, letting_type_read, enum_read, of_read, value_name_wanted, value_name_read, such_read, statement_read, expression_answer, domain_answer, specification_answer}
-use Rattle.ess_parse_laws.specs.Reducing as reducing
 use Rattle.ess_parse_laws.specs.Reversed.{reverse_list}
 use Rattle.ess_core.specs.TreeViews.{pure_ex, pure_exs, pure_dom, pure_doms, pure_gens}
 use Rattle.ess_core.specs.StatementViews.{pure_stm}
@@ -22,6 +21,12 @@ use Rattle.ess_parse_frames.specs.declared.frames.Inner.{Inner}
 use Rattle.ess_parse_frames.specs.declared.frames.Inner.TheVariants as I
 use Rattle.ess_parse_frames.specs.declared.frames.Owner.{Owner}
 use Rattle.ess_parse_frames.specs.declared.frames.Owner.TheVariants as O
+use Rattle.ess_parse_frames.specs.declared.frames.AtLeast.{AtLeast}
+use Rattle.ess_parse_frames.specs.declared.frames.AtLeast.TheVariants as N
+use Rattle.ess_parse_frames.specs.declared.frames.Declaring.{Declaring}
+use Rattle.ess_parse_frames.specs.declared.frames.Declaring.TheVariants as D
+use Rattle.ess_parse_frames.specs.declared.frames.Sense.{Sense}
+use Rattle.ess_parse_frames.specs.declared.frames.Sense.TheVariants as S
 use Rattle.ess_parse_frames.specs.declared.frames.Head.{Head}
 use Rattle.ess_parse_frames.specs.declared.frames.Head.TheVariants as H
 use Rattle.ess_parse_frames.specs.declared.frames.Frame.{Frame}
@@ -78,6 +83,21 @@ view_owner (O.Inner k) = inner_owner (view_inner k)
 view_owner O.Relation = relation_owner
 view_owner O.Function = function_owner
 
+-- Whether a tuple needs two domains.
+abbrev pub two_needed : AtLeast → Bool
+two_needed N.One = false
+two_needed N.Two = true
+
+-- Whether the word gives names.
+abbrev pub is_given : Declaring → Bool
+is_given D.Given = true
+is_given D.Find = false
+
+-- Whether an objective is to be maximised.
+abbrev pub is_maximising : Sense → Bool
+is_maximising S.Maximising = true
+is_maximising S.Minimising = false
+
 -- What items belong to.
 abbrev pub view_head : Head → machine.Head
 view_head (H.Quantifier f) = quantifier_head f
@@ -107,7 +127,7 @@ view_frame (F.HighBound rs e) = high_bound_frame (back_ends rs) (back_bounds rs)
 view_frame (F.LoneHighBound rs) = lone_high_bound_frame (back_ends rs) (back_bounds rs)
 view_frame (F.Axes ds) = axes_frame (back_doms ds)
 view_frame (F.Element ds) = element_frame (pure_doms ds)
-view_frame (F.TupleDomains b ds) = tuple_domains_frame b (back_doms ds)
+view_frame (F.TupleDomains n ds) = tuple_domains_frame (two_needed n) (back_doms ds)
 view_frame (F.FieldNames fs) = field_names_frame (back_dom_names fs) (back_field_doms fs)
 view_frame (F.FieldDomain fs a) = field_domain_frame (a ∷ back_dom_names fs) (back_field_doms fs)
 view_frame (F.InnerDomain k as') = inner_domain_frame (view_inner k) (marks_of as') (numbers_of as')
@@ -121,8 +141,8 @@ view_frame (F.Unnamed a ss) = unnamed_frame a (back_stms ss)
 view_frame (F.LettingDomain a ss) = letting_domain_frame a (back_stms ss)
 view_frame (F.Where ss) = where_frame (back_stms ss)
 view_frame (F.SuchThat ss) = such_that_frame (back_stms ss)
-view_frame (F.Objective b ss) = objective_frame b (back_stms ss)
-view_frame (F.Declaration b ns ss) = declaration_frame b (back_names ns) (back_stms ss)
+view_frame (F.Objective s ss) = objective_frame (is_maximising s) (back_stms ss)
+view_frame (F.Declaration w ns ss) = declaration_frame (is_given w) (back_names ns) (back_stms ss)
 
 -- The frames of the machine, the innermost first.
 unfoldable pub view_frames : List Frame → List machine.Frame
@@ -171,8 +191,8 @@ view_mode M.LanguageRead = language_read
 view_mode M.LanguageNameRead = language_name_read
 view_mode M.FirstNumberRead = first_number_read
 view_mode M.LanguageDotRead = language_dot_read
-view_mode (M.NamesWanted b ns ss) = names_wanted b (back_names ns) (back_stms ss)
-view_mode (M.NameRead b ns ss) = name_read b (back_names ns) (back_stms ss)
+view_mode (M.NamesWanted w ns ss) = names_wanted (is_given w) (back_names ns) (back_stms ss)
+view_mode (M.NameRead w ns ss) = name_read (is_given w) (back_names ns) (back_stms ss)
 view_mode (M.GivenNewRead a ss) = given_new_read a (back_stms ss)
 view_mode (M.GivenTypeRead a ss) = given_type_read a (back_stms ss)
 view_mode (M.LettingWanted ss) = letting_wanted (back_stms ss)

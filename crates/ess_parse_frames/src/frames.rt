@@ -1,9 +1,9 @@
 use crate::Listed;
 use ess_core::{Attr, Dom, Ex, FieldDom, FieldEx, Fun, Gen, Key, Op2, PairEx, Pat, Range, Stm};
-use ess_rows::{Row, Text};
+use ess_rows::{Boxed, Row, Text};
 
 /// The literals that a word begins, before a list of expressions in round brackets.
-#[derive(Clone, Copy, Debug, PartialEq, Eq)]
+#[derive(Clone, Copy)]
 pub enum Literal {
     /// `tuple (..)`
     Tuple,
@@ -21,9 +21,9 @@ pub enum Listing {
     /// An expression in brackets, or a tuple.
     Round,
     /// The expressions of an index, behind what is indexed.
-    Index(Ex),
+    Index(Boxed<Ex>),
     /// The arguments of an application, behind what is applied.
-    Application(Ex),
+    Application(Boxed<Ex>),
     /// The operands of a function word.
     Call(Fun),
     /// A literal that a word begins.
@@ -35,7 +35,7 @@ pub enum Listing {
 }
 
 /// The kinds of domains with one inner domain.
-#[derive(Clone, Copy, Debug, PartialEq, Eq)]
+#[derive(Clone, Copy)]
 pub enum Inner {
     /// `set`
     Set,
@@ -46,7 +46,7 @@ pub enum Inner {
 }
 
 /// The kinds of domains that have attributes.
-#[derive(Clone, Copy, Debug, PartialEq, Eq)]
+#[derive(Clone, Copy)]
 pub enum Owner {
     /// A domain with one inner domain.
     Inner(Inner),
@@ -54,6 +54,33 @@ pub enum Owner {
     Relation,
     /// `function`
     Function,
+}
+
+/// How many domains a tuple has at least: one behind its word, two without it.
+#[derive(Clone, Copy)]
+pub enum AtLeast {
+    /// One.
+    One,
+    /// Two.
+    Two,
+}
+
+/// The words that declare names.
+#[derive(Clone, Copy)]
+pub enum Declaring {
+    /// `given`
+    Given,
+    /// `find`
+    Find,
+}
+
+/// The words of an objective.
+#[derive(Clone, Copy)]
+pub enum Sense {
+    /// `maximising`
+    Maximising,
+    /// `minimising`
+    Minimising,
 }
 
 /// What items belong to.
@@ -64,7 +91,7 @@ pub enum Head {
     /// `sum` before a bracket with two or more patterns, whose first item has to be a generator.
     Sum,
     /// A comprehension with its body.
-    Comprehension(Ex),
+    Comprehension(Boxed<Ex>),
 }
 
 /// A rule that is read in part. Each row is in the order of the text.
@@ -77,7 +104,7 @@ pub enum Frame {
     /// The bar before a bar's expression.
     Bar,
     /// A binary operator behind its left operand.
-    Binary(Op2, Ex),
+    Binary(Op2, Boxed<Ex>),
     /// A quantifier's fold and its items, before its body.
     Body(Fun, Row<Gen>),
     /// A list in brackets with its items.
@@ -85,7 +112,7 @@ pub enum Frame {
     /// The pairs of a function literal, before the left part of one.
     PairLeft(Row<PairEx>),
     /// The same before the right part of the pair that begins with this.
-    PairRight(Row<PairEx>, Ex),
+    PairRight(Row<PairEx>, Boxed<Ex>),
     /// The fields of a record literal, before a name.
     Fields(Row<FieldEx>),
     /// The same before the value of the field of this name.
@@ -101,15 +128,15 @@ pub enum Frame {
     /// The ranges of an int domain, before a range.
     Ranges(Row<Range>),
     /// The same behind a lower bound and dots.
-    HighBound(Row<Range>, Ex),
+    HighBound(Row<Range>, Boxed<Ex>),
     /// The same behind dots alone.
     LoneHighBound(Row<Range>),
     /// The index domains of a matrix, before one.
     Axes(Row<Dom>),
     /// The index domains of a matrix, before the domain of its items.
     Element(Row<Dom>),
-    /// A tuple's domains, before one; and whether two are needed.
-    TupleDomains(bool, Row<Dom>),
+    /// A tuple's domains, before one; and how many it has at least.
+    TupleDomains(AtLeast, Row<Dom>),
     /// The fields of a record domain, before a name.
     FieldNames(Row<FieldDom>),
     /// The same before the domain of the field of this name.
@@ -121,7 +148,7 @@ pub enum Frame {
     /// A function's attributes, before its first domain.
     FunctionFrom(Row<Attr>),
     /// A function's attributes and its first domain, before its second.
-    FunctionTo(Row<Attr>, Dom),
+    FunctionTo(Row<Attr>, Boxed<Dom>),
     /// The attributes of a domain, before one.
     Attributes(Owner, Row<Attr>),
     /// The same before the number of the attribute of this word.
@@ -136,8 +163,8 @@ pub enum Frame {
     Where(Row<Stm>),
     /// The statements before a constraint.
     SuchThat(Row<Stm>),
-    /// The statements before an objective, which is to be maximised (true) or minimised.
-    Objective(bool, Row<Stm>),
-    /// Given (true) or found names, behind the statements before them: before their domain.
-    Declaration(bool, Row<Text>, Row<Stm>),
+    /// The statements before an objective.
+    Objective(Sense, Row<Stm>),
+    /// The word that declares names and these names, behind the statements before them: before their domain.
+    Declaration(Declaring, Row<Text>, Row<Stm>),
 }

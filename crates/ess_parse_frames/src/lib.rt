@@ -6,19 +6,32 @@
 //! and state of the definitions each of these types stands for.
 //!
 //! `stack` takes frames off and puts them on, and `reducing` closes the frames that end with an expression or a domain.
+//! Then come the ends that the steps of statements, domains and expressions share (`statements`, `generators`, `ends`,
+//! `domain_parts`, `records`), and the calls by which those steps let go what was read (`stops`): how frames and trees are let
+//! go is proved here once, and a crate above that lets none go without such a call has no part in it.
 #![tactic(auto)]
 
+pub mod commas;
+pub mod comprehensions;
+pub mod domain_parts;
+pub mod ends;
 pub mod frames;
+pub mod generators;
+pub mod items;
 pub mod kinds;
 pub mod levels;
 pub mod modes;
 pub mod operands;
+pub mod parts;
+pub mod records;
 pub mod reducing;
 pub mod rows;
 pub mod stack;
+pub mod statements;
 pub mod states;
+pub mod stops;
 
-pub use frames::{Frame, Head, Inner, Listing, Literal, Owner};
+pub use frames::{AtLeast, Declaring, Frame, Head, Inner, Listing, Literal, Owner, Sense};
 pub use modes::{Mode, Opening};
 pub use operands::{Listed, Operand};
 pub use states::{Answer, State};

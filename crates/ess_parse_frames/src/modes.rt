@@ -1,9 +1,9 @@
-use crate::{Inner, Literal, Operand};
+use crate::{Declaring, Inner, Literal, Operand};
 use ess_core::{Dom, Fun, Key, Stm};
-use ess_rows::{Row, Text};
+use ess_rows::{Boxed, Row, Text};
 
 /// The word that began a statement which ends in no expression and no domain.
-#[derive(Clone, Copy, Debug, PartialEq, Eq)]
+#[derive(Clone, Copy)]
 pub enum Opening {
     /// The language line.
     Language,
@@ -35,7 +35,7 @@ pub enum Mode {
     /// A domain is wanted.
     DomainWanted,
     /// A domain.
-    DomainRead(Dom),
+    DomainRead(Boxed<Dom>),
     /// `int`
     IntRead,
     /// `matrix`
@@ -82,10 +82,10 @@ pub enum Mode {
     FirstNumberRead,
     /// The dot behind it.
     LanguageDotRead,
-    /// Given (true) or found names, behind the statements before them, where another is wanted.
-    NamesWanted(bool, Row<Text>, Row<Stm>),
+    /// The word that declares names and these names, behind the statements before them, where another name is wanted.
+    NamesWanted(Declaring, Row<Text>, Row<Stm>),
     /// The same behind a name.
-    NameRead(bool, Row<Text>, Row<Stm>),
+    NameRead(Declaring, Row<Text>, Row<Stm>),
     /// `given NAME new`
     GivenNewRead(Text, Row<Stm>),
     /// `given NAME new type`

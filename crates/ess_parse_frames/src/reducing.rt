@@ -35,36 +35,42 @@ pub struct ReducedDomain {
     /// The frames that stay open.
     pub frames: Row<Frame>,
     /// The domain itself.
-    pub domain: Dom,
+    pub domain: Boxed<Dom>,
 }
 
 /// A prefix operator's, or a bar's, expression. `NoMemory` where there is no room for it.
 #[tactic(auto, using(ess_core::proofs::ExpressionEquations::pure_one))]
-pub fn one_operand(alloc: Global, operator: Op1, operand: Ex) -> Result<Ex, NoMemory>
+pub fn one_operand(alloc: Global, operator: Op1, operand: Boxed<Ex>) -> Result<Boxed<Ex>, NoMemory>
     ensures { IfOk result (λ e. pure_ex e ≡ unary_ex operator (pure_ex operand)) }
 {
-    Ok(Ex::One(operator, Boxed::new(alloc, operand)?))
+    Boxed::new(alloc, Ex::One(operator, operand))
 }
 
 /// A binary operator's expression. `NoMemory` where there is no room for it.
 #[tactic(auto, using(ess_core::proofs::ExpressionEquations::pure_two))]
-pub fn two_operands(alloc: Global, operator: Op2, left: Ex, right: Ex) -> Result<Ex, NoMemory>
+pub fn two_operands(
+    alloc: Global,
+    operator: Op2,
+    left: Boxed<Ex>,
+    right: Boxed<Ex>,
+) -> Result<Boxed<Ex>, NoMemory>
     ensures { IfOk result (λ e. pure_ex e ≡ binary_ex operator (pure_ex left) (pure_ex right)) }
 {
-    Ok(Ex::Two(
-        operator,
-        Boxed::new(alloc, left)?,
-        Boxed::new(alloc, right)?,
-    ))
+    Boxed::new(alloc, Ex::Two(operator, left, right))
 }
 
 /// A quantifier: a fold over a comprehension. `NoMemory` where there is no room for it.
 #[tactic(auto, using(ess_core::proofs::ExpressionEquations::pure_call, ess_core::proofs::ExpressionEquations::pure_comp))]
-pub fn quantifier(alloc: Global, fold: Fun, items: Row<Gen>, body: Ex) -> Result<Ex, NoMemory>
+pub fn quantifier(
+    alloc: Global,
+    fold: Fun,
+    items: Row<Gen>,
+    body: Boxed<Ex>,
+) -> Result<Boxed<Ex>, NoMemory>
     ensures { IfOk result (λ e. pure_ex e ≡ quantified fold (pure_gens items) (pure_ex body)) }
 {
-    let comprehension = Ex::Comp(Boxed::new(alloc, body)?, items);
-    Ok(Ex::Call(false, fold, Row::from_array(alloc, [comprehension])?))
+    let operands = Row::from_array(alloc, [Ex::Comp(body, items)])?;
+    Boxed::new(alloc, Ex::Call(false, fold, operands))
 }
 
 /// Closes the frames whose right operand ends before an operator of the level `least`. Before a token that is no operator
@@ -121,24 +127,23 @@ pub fn one_domain(
     alloc: Global,
     inner: Inner,
     attributes: Row<Attr>,
-    domain: Dom,
-) -> Result<Dom, NoMemory>
+    domain: Boxed<Dom>,
+) -> Result<Boxed<Dom>, NoMemory>
     ensures { IfOk result (λ d. pure_dom d ≡ inner_domain (view_inner inner) (marks_of attributes) (numbers_of attributes) (pure_dom domain)) }
 {
-    let domain = Boxed::new(alloc, domain)?;
-    Ok(match inner {
-        Inner::Set => Dom::Set(attributes, domain),
-        Inner::MSet => Dom::MSet(attributes, domain),
-        Inner::Partition => Dom::Partition(attributes, domain),
-    })
+    match inner {
+        Inner::Set => Boxed::new(alloc, Dom::Set(attributes, domain)),
+        Inner::MSet => Boxed::new(alloc, Dom::MSet(attributes, domain)),
+        Inner::Partition => Boxed::new(alloc, Dom::Partition(attributes, domain)),
+    }
 }
 
 /// A matrix of such items. `NoMemory` where there is no room for it.
 #[tactic(auto, using(ess_core::proofs::DomainEquations::pure_matrix))]
-fn matrix_domain(alloc: Global, axes: Row<Dom>, item: Dom) -> Result<Dom, NoMemory>
+fn matrix_domain(alloc: Global, axes: Row<Dom>, item: Boxed<Dom>) -> Result<Boxed<Dom>, NoMemory>
     ensures { IfOk result (λ d. pure_dom d ≡ matrix_dom (pure_doms axes) (pure_dom item)) }
 {
-    Ok(Dom::Matrix(axes, Boxed::new(alloc, item)?))
+    Boxed::new(alloc, Dom::Matrix(axes, item))
 }
 
 /// A function between domains. `NoMemory` where there is no room for it.
@@ -146,19 +151,19 @@ fn matrix_domain(alloc: Global, axes: Row<Dom>, item: Dom) -> Result<Dom, NoMemo
 fn function_domain(
     alloc: Global,
     attributes: Row<Attr>,
-    from: Dom,
-    to: Dom,
-) -> Result<Dom, NoMemory>
+    from: Boxed<Dom>,
+    to: Boxed<Dom>,
+) -> Result<Boxed<Dom>, NoMemory>
     ensures { IfOk result (λ d. pure_dom d ≡ function_dom (marks_of attributes) (numbers_of attributes) (pure_dom from) (pure_dom to)) }
 {
-    Ok(Dom::Function(attributes, Boxed::new(alloc, from)?, Boxed::new(alloc, to)?))
+    Boxed::new(alloc, Dom::Function(attributes, from, to))
 }
 
 /// Closes the frames that end with a domain. `NoMemory` where there is no room.
 pub fn reduce_domain(
     alloc: Global,
     frames: Row<Frame>,
-    domain: Dom,
+    domain: Boxed<Dom>,
 ) -> Result<ReducedDomain, NoMemory>
     ensures { IfOk result (ReducesDomain (reduce_domain (view_frames frames) (pure_dom domain))) }
 {

@@ -1,12 +1,14 @@
 #![tactic(auto, using(crate::proofs::StackLaws::frames_push, crate::proofs::StackLaws::frames_none))]
 
-ghost use Rattle.std.specs.Prelude.{◌≡◌, [], ◌∷◌, Ok, None, IfOk};
-ghost use Rattle.ess_parse_laws.specs.Modes.{at_state};
+ghost use Rattle.std.specs.Prelude.{◌≡◌, [], ◌∷◌, Ok, None, IfOk, false};
+ghost use Rattle.ess_parse_laws.specs.Modes.{at_state, operand_read, domain_read};
+ghost use Rattle.ess_core.specs.TreeViews.{pure_ex, pure_dom};
 ghost use Rattle.ess_parse_frames.specs.Views.{view_frame, view_mode, view_frames, Steps};
 ghost use Rattle.ess_parse_frames.specs.Stack.{frames_of};
 
-use crate::{Frame, Mode, State};
-use ess_rows::{NoMemory, Row};
+use crate::{Frame, Mode, Operand, State};
+use ess_core::{Dom, Ex};
+use ess_rows::{Boxed, NoMemory, Row};
 use std::alloc::Global;
 
 /// The innermost frame, with those around it.
@@ -47,7 +49,13 @@ pub fn at(mode: Mode, frames: Row<Frame>) -> Option<State>
 pub fn inside(mode: Mode, frame: Frame, frames: Row<Frame>) -> Result<Option<State>, NoMemory>
     ensures { IfOk result (Steps (at_state (view_mode mode) (view_frame frame ∷ view_frames frames))) }
 {
-    Ok(at(mode, within(frames, frame)?))
+    match within(frames, frame) {
+        Ok(frames) => Ok(at(mode, frames)),
+        Err(no) => {
+            drop(mode);
+            Err(no)
+        }
+    }
 }
 
 /// The state of a mode with no frames.
@@ -62,6 +70,30 @@ pub fn alone(alloc: Global, mode: Mode, frame: Frame) -> Result<Option<State>, N
     ensures { IfOk result (Steps (at_state (view_mode mode) (view_frame frame ∷ []))) }
 {
     inside(mode, frame, Row::new(alloc))
+}
+
+/// Behind an expression that isn't written as a pattern. `NoMemory` where there is no room for it.
+pub fn expression_read(
+    alloc: Global,
+    expression: Ex,
+    frames: Row<Frame>,
+) -> Result<Option<State>, NoMemory>
+    ensures { IfOk result (Steps (at_state (operand_read false (pure_ex expression)) (view_frames frames))) }
+{
+    let expression = Boxed::new(alloc, expression)?;
+    Ok(at(Mode::OperandRead(Operand::Other(expression)), frames))
+}
+
+/// Behind a domain. `NoMemory` where there is no room for it.
+pub fn domain_read(
+    alloc: Global,
+    domain: Dom,
+    frames: Row<Frame>,
+) -> Result<Option<State>, NoMemory>
+    ensures { IfOk result (Steps (at_state (domain_read (pure_dom domain)) (view_frames frames))) }
+{
+    let domain = Boxed::new(alloc, domain)?;
+    Ok(at(Mode::DomainRead(domain), frames))
 }
 
 /// No text goes on so. What was read of it is let go.

@@ -1,6 +1,6 @@
 use crate::{Frame, Mode};
 use ess_core::{Dom, Ex, Stm};
-use ess_rows::Row;
+use ess_rows::{Boxed, Row};
 
 /// A state of the machine, between two tokens.
 #[derive(Drop)]
@@ -15,9 +15,9 @@ pub struct State {
 #[derive(Drop)]
 pub enum Answer {
     /// An expression.
-    Expression(Ex),
+    Expression(Boxed<Ex>),
     /// A domain.
-    Domain(Dom),
+    Domain(Boxed<Dom>),
     /// The statements of a specification, in order.
     Specification(Row<Stm>),
 }

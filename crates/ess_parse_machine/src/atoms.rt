@@ -9,13 +9,13 @@ ghost use Rattle.ess_parse_laws.specs.Reducing.{precedence};
 ghost use Rattle.ess_parse_frames.specs.Patterns.{view_operand, is_pattern_operand};
 ghost use Rattle.ess_parse_frames.specs.Views.{view_frames, Steps};
 
+use ess_grammar::Kind;
 use ess_parse_expressions::after_operand::operand_then;
 use ess_parse_expressions::words::continue_atom;
 use ess_parse_frames::kinds::operator_of;
 use ess_parse_frames::levels::level_of;
 use ess_parse_frames::reducing::reduce;
 use ess_parse_frames::{Frame, Operand, State};
-use ess_grammar::Kind;
 use ess_rows::{NoMemory, Row};
 use std::alloc::Global;
 

@@ -11,8 +11,6 @@ mod finishing;
 mod names;
 pub mod parser;
 mod steps;
-#[cfg(test)]
-mod tests;
 
 pub use ess_parse_frames::Answer;
 pub use parser::Parser;

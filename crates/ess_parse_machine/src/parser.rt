@@ -10,16 +10,24 @@ ghost use Rattle.ess_parse_frames.specs.Views.{Answers};
 ghost use Rattle.ess_parse_machine.specs.Parsers.{view_parser, Parses};
 
 use crate::finishing::finish_in;
+use crate::names::name_of;
 use crate::steps::step_in;
-use ess_parse_frames::{Answer, Mode, State};
 use ess_grammar::Kind;
+use ess_parse_frames::stops::let_state_go;
+use ess_parse_frames::{Answer, Mode, State};
 use ess_rows::{NoMemory, Row};
 use std::alloc::Global;
 
 /// A text that is read token by token, from left to right.
-#[derive(Drop)]
 pub struct Parser {
     state: State,
+}
+
+impl Drop for Parser {
+    fn drop(self) {
+        let Parser { state } = self;
+        let_state_go(state);
+    }
 }
 
 impl Parser {
@@ -67,10 +75,19 @@ impl Parser {
         ensures { IfOk result (Parses (step (token kind text.now) (view_parser self).mode (view_parser self).frames)) }
     {
         let Parser { state } = self;
-        let State { frames, mode } = state;
-        match step_in(alloc, kind, text, mode, frames)? {
-            Some(state) => Ok(Some(Parser { state })),
-            None => Ok(None),
+        match name_of(alloc, kind, text) {
+            Ok(name) => {
+                let State { frames, mode } = state;
+                match step_in(alloc, kind, name, mode, frames) {
+                    Ok(Some(state)) => Ok(Some(Parser { state })),
+                    Ok(None) => Ok(None),
+                    Err(no) => Err(no),
+                }
+            }
+            Err(no) => {
+                let_state_go(state);
+                Err(no)
+            }
         }
     }
 

@@ -1,5 +1,5 @@
 -- An enumerated type may be given under one name alone.
-use Rattle.std.proofs.Common.{◌≡◌, refl, sym, ap, ◌∙◌, true, List, [], ◌∷◌, ◌++◌, None}
+use Rattle.std.proofs.Common.{◌≡◌, refl, ap, ◌∙◌, true, List, [], ◌∷◌, ◌++◌, None}
 use Rattle.ess_semantics.specs.Values.{Text}
 use Rattle.ess_semantics.specs.Trees.{Stm}
 use Rattle.ess_grammar.specs.Words.{word, new_word}

@@ -1,3 +1,2 @@
 mod GivenNames
 mod OtherTokens
-mod Declarations

@@ -3,7 +3,8 @@ use Rattle.std.proofs.Common.{◌≡◌, refl, false, List, []}
 use Rattle.ess_semantics.specs.Trees.{Stm}
 use Rattle.ess_grammar.specs.Words.{Token, Word, number, name, prime_word, word, operator, function, symbol, open_round, close_round, open_square, close_square, open_curly, close_curly, comma, semicolon, colon, dot, dots, bar, exclamation, drawn_from, maps_to, language_word, given_word, find_word, letting_word, be_word, new_word, type_word, enum_word, domain_word, of_word, where_word, such_word, that_word, minimising_word, maximising_word, bool_word, int_word, tuple_word, record_word, matrix_word, indexed_word, by_word, set_word, mset_word, function_word, relation_word, partition_word, from_word, true_word, false_word, for_all_word, exists_word}
 use Rattle.ess_parse_laws.specs.StatementSteps.{step_statement_read, step_nothing_read}
-use Rattle.ess_parse_statements.specs.Beginnings.{begin_with, is_comma, is_language}
+use Rattle.ess_parse_frames.specs.Statements.{begin_with}
+use Rattle.ess_parse_statements.specs.Beginnings.{is_comma, is_language}
 
 -- any token but a comma begins a statement behind one, or nothing does
 pub no_comma : (t : Token) (x : Word) (ss : List Stm) → is_comma t ≡ false → step_statement_read t x ss ≡ begin_with t ss

@@ -1,3 +1,1 @@
 pub mod Beginnings
-pub mod Ends
-pub mod Parts

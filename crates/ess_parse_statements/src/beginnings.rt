@@ -1,35 +1,20 @@
 #![tactic(auto, using(ess_parse_frames::proofs::RowLaws::names_none))]
 
-ghost use Rattle.std.specs.Prelude.{◌≡◌, IfOk, Option, None};
+ghost use Rattle.std.specs.Prelude.{◌≡◌, IfOk};
 ghost use Rattle.ess_semantics.specs.Values.{Text};
 ghost use Rattle.ess_grammar.specs.Kinds.{token};
 ghost use Rattle.ess_parse_laws.specs.StatementSteps.{another_part, step_statement_read};
 ghost use Rattle.ess_parse_frames.specs.Rows.{back_stms};
 ghost use Rattle.ess_parse_frames.specs.Views.{Steps, opening_word};
-ghost use Rattle.ess_parse_statements.specs.Beginnings.{begin_with, is_comma};
+ghost use Rattle.ess_parse_statements.specs.Beginnings.{is_comma};
 
 use ess_core::Stm;
-use ess_parse_frames::stack::{alone, outside};
-use ess_parse_frames::{Frame, Mode, Opening, State};
 use ess_grammar::Kind;
+use ess_parse_frames::stack::outside;
+use ess_parse_frames::statements::{begin, no_state_behind};
+use ess_parse_frames::{Declaring, Mode, Opening, State};
 use ess_rows::{NoMemory, Row};
 use std::alloc::Global;
-
-/// Behind a word that begins a statement; None at any other token. `NoMemory` where there is no room.
-pub fn begin(alloc: Global, kind: Kind, stms: Row<Stm>) -> Result<Option<State>, NoMemory>
-    ensures { IfOk result (λ p. (bytes : Text) → Steps (begin_with (token kind bytes) (back_stms stms)) p) }
-{
-    match kind {
-        Kind::Given => Ok(outside(alloc, Mode::NamesWanted(true, Row::new(alloc), stms))),
-        Kind::Find => Ok(outside(alloc, Mode::NamesWanted(false, Row::new(alloc), stms))),
-        Kind::Letting => Ok(outside(alloc, Mode::LettingWanted(stms))),
-        Kind::Where => alone(alloc, Mode::OperandWanted, Frame::Where(stms)),
-        Kind::Such => Ok(outside(alloc, Mode::SuchRead(stms))),
-        Kind::Minimising => alone(alloc, Mode::OperandWanted, Frame::Objective(false, stms)),
-        Kind::Maximising => alone(alloc, Mode::OperandWanted, Frame::Objective(true, stms)),
-        _ => Ok(None),
-    }
-}
 
 /// Behind a comma that follows a statement which ends in no expression and no domain: another part of its list.
 pub fn begin_part(
@@ -40,9 +25,12 @@ pub fn begin_part(
     ensures { IfOk result (Steps (another_part (opening_word opening) (back_stms stms))) }
 {
     match opening {
-        Opening::Given => Ok(outside(alloc, Mode::NamesWanted(true, Row::new(alloc), stms))),
+        Opening::Given => Ok(outside(
+            alloc,
+            Mode::NamesWanted(Declaring::Given, Row::new(alloc), stms),
+        )),
         Opening::Letting => Ok(outside(alloc, Mode::LettingWanted(stms))),
-        Opening::Language => Ok(None),
+        Opening::Language => Ok(no_state_behind(stms)),
     }
 }
 

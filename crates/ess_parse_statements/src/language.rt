@@ -7,9 +7,9 @@ ghost use Rattle.ess_parse_frames.specs.Views.{Steps};
 ghost use Rattle.ess_parse_statements.specs.Beginnings.{is_language};
 
 use crate::beginnings::step_statement_read;
+use ess_grammar::Kind;
 use ess_parse_frames::stack::outside;
 use ess_parse_frames::{Mode, Opening, State};
-use ess_grammar::Kind;
 use ess_rows::{NoMemory, Row};
 use std::alloc::Global;
 

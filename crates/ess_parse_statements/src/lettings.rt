@@ -1,16 +1,19 @@
-#![tactic(auto, using(ess_parse_frames::proofs::RowLaws::names_none, ess_parse_frames::proofs::RowLaws::names_push, ess_parse_frames::proofs::RowLaws::names_closed, ess_parse_frames::proofs::RowLaws::stms_push))]
+#![tactic(auto, using(ess_parse_frames::proofs::RowLaws::names_none, ess_parse_frames::proofs::RowLaws::names_closed))]
 
-ghost use Rattle.std.specs.Prelude.{◌≡◌, IfOk};
+ghost use Rattle.std.specs.Prelude.{IfOk};
 ghost use Rattle.std.specs.Str.{IsAscii};
 ghost use Rattle.ess_grammar.specs.Kinds.{token};
 ghost use Rattle.ess_parse_laws.specs.StatementSteps.{step_letting_wanted, step_letting_name_read, step_letting_new_read, step_letting_type_read, step_enum_read, step_value_name_wanted, step_value_name_read, step_of_read, step_such_read};
 ghost use Rattle.ess_parse_frames.specs.Rows.{back_names, back_stms};
 ghost use Rattle.ess_parse_frames.specs.Views.{Steps};
 
+use crate::names::with_token;
 use ess_core::Stm;
-use ess_parse_frames::stack::{alone, outside};
-use ess_parse_frames::{Frame, Mode, Opening, State};
 use ess_grammar::Kind;
+use ess_parse_frames::rows::with_statement;
+use ess_parse_frames::stack::{alone, outside};
+use ess_parse_frames::statements::{let_statements_go, no_state_behind};
+use ess_parse_frames::{Frame, Mode, Opening, State};
 use ess_rows::{NoMemory, Row, Text};
 use std::alloc::Global;
 
@@ -25,11 +28,14 @@ pub fn step_letting_wanted(
     ensures { IfOk result (Steps (step_letting_wanted (token kind text.now) (back_stms stms))) }
 {
     match kind {
-        Kind::Name => Ok(outside(
-            alloc,
-            Mode::LettingNameRead(Text::from_ascii(alloc, text)?, stms),
-        )),
-        _ => Ok(None),
+        Kind::Name => match Text::from_ascii(alloc, text) {
+            Ok(name) => Ok(outside(alloc, Mode::LettingNameRead(name, stms))),
+            Err(no) => {
+                let_statements_go(stms);
+                Err(no)
+            }
+        },
+        _ => Ok(no_state_behind(stms)),
     }
 }
 
@@ -44,7 +50,7 @@ pub fn step_letting_name_read(
 {
     match kind {
         Kind::Be => outside(alloc, Mode::BeRead(name, stms)),
-        _ => None,
+        _ => no_state_behind(stms),
     }
 }
 
@@ -54,7 +60,7 @@ pub fn step_letting_new_read(alloc: Global, kind: Kind, name: Text, stms: Row<St
 {
     match kind {
         Kind::TypeWord => outside(alloc, Mode::LettingTypeRead(name, stms)),
-        _ => None,
+        _ => no_state_behind(stms),
     }
 }
 
@@ -70,7 +76,7 @@ pub fn step_letting_type_read(
     match kind {
         Kind::Enum => outside(alloc, Mode::EnumRead(name, stms)),
         Kind::Of => outside(alloc, Mode::OfRead(name, stms)),
-        _ => None,
+        _ => no_state_behind(stms),
     }
 }
 
@@ -80,7 +86,7 @@ pub fn step_enum_read(alloc: Global, kind: Kind, name: Text, stms: Row<Stm>) -> 
 {
     match kind {
         Kind::OpenCurly => outside(alloc, Mode::ValueNameWanted(name, Row::new(alloc), stms)),
-        _ => None,
+        _ => no_state_behind(stms),
     }
 }
 
@@ -97,12 +103,14 @@ pub fn step_value_name_wanted(
     ensures { IfOk result (Steps (step_value_name_wanted (token kind text.now) name (back_names values) (back_stms stms))) }
 {
     match kind {
-        Kind::Name => {
-            let mut values = values;
-            values.push(Text::from_ascii(alloc, text)?)?;
-            Ok(outside(alloc, Mode::ValueNameRead(name, values, stms)))
-        }
-        _ => Ok(None),
+        Kind::Name => match with_token(alloc, values, text) {
+            Ok(values) => Ok(outside(alloc, Mode::ValueNameRead(name, values, stms))),
+            Err(no) => {
+                let_statements_go(stms);
+                Err(no)
+            }
+        },
+        _ => Ok(no_state_behind(stms)),
     }
 }
 
@@ -119,11 +127,10 @@ pub fn step_value_name_read(
     match kind {
         Kind::Comma => Ok(outside(alloc, Mode::ValueNameWanted(name, values, stms))),
         Kind::CloseCurly => {
-            let mut stms = stms;
-            stms.push(Stm::LetEnum(name, values))?;
+            let stms = with_statement(stms, Stm::LetEnum(name, values))?;
             Ok(outside(alloc, Mode::StatementRead(Opening::Letting, stms)))
         }
-        _ => Ok(None),
+        _ => Ok(no_state_behind(stms)),
     }
 }
 
@@ -143,7 +150,7 @@ pub fn step_of_read(
             Mode::OperandWanted,
             Frame::Unnamed(name, stms),
         ),
-        _ => Ok(None),
+        _ => Ok(no_state_behind(stms)),
     }
 }
 
@@ -153,6 +160,6 @@ pub fn step_such_read(alloc: Global, kind: Kind, stms: Row<Stm>) -> Result<Optio
 {
     match kind {
         Kind::That => alone(alloc, Mode::OperandWanted, Frame::SuchThat(stms)),
-        _ => Ok(None),
+        _ => Ok(no_state_behind(stms)),
     }
 }

@@ -1,39 +1,58 @@
-#![tactic(auto, using(ess_parse_frames::proofs::RowLaws::names_push, ess_parse_frames::proofs::RowLaws::stms_push))]
+#![tactic(auto)]
 
-ghost use Rattle.std.specs.Prelude.{◌≡◌, IfOk, true};
+ghost use Rattle.std.specs.Prelude.{◌≡◌, ◌∷◌, IfOk, true};
 ghost use Rattle.std.specs.Str.{IsAscii};
 ghost use Rattle.ess_grammar.specs.Kinds.{token};
 ghost use Rattle.ess_parse_laws.specs.StatementSteps.{step_names_wanted, step_name_read, step_given_new_read, step_given_type_read};
 ghost use Rattle.ess_parse_frames.specs.Rows.{back_names, back_stms};
-ghost use Rattle.ess_parse_frames.specs.Views.{Steps};
+ghost use Rattle.ess_parse_frames.specs.Views.{Steps, is_given};
 ghost use Rattle.ess_grammar.specs.Words.{word, new_word};
 
 use ess_core::Stm;
-use ess_parse_frames::stack::{alone, outside};
-use ess_parse_frames::{Frame, Mode, Opening, State};
 use ess_grammar::Kind;
+use ess_parse_frames::rows::with_statement;
+use ess_parse_frames::stack::{alone, outside};
+use ess_parse_frames::statements::{let_statements_go, no_state_behind};
+use ess_parse_frames::{Declaring, Frame, Mode, Opening, State};
 use ess_rows::{NoMemory, Row, Text};
 use std::alloc::Global;
 
-/// Where the name of a given (true) or a find (false) is wanted.
+/// Puts a token's bytes behind names. `NoMemory` where there is no room for them.
+#[tactic(auto, using(ess_parse_frames::proofs::RowLaws::names_push))]
+pub(crate) fn with_token(
+    alloc: Global,
+    names: Row<Text>,
+    text: &[u8],
+) -> Result<Row<Text>, NoMemory>
+    requires { IsAscii text.now }
+    ensures { IfOk result (λ ns. back_names ns ≡ text.now ∷ back_names names) }
+{
+    let mut names = names;
+    names.push(Text::from_ascii(alloc, text)?)?;
+    Ok(names)
+}
+
+/// Where the name of a given or a find is wanted.
 pub fn step_names_wanted(
     alloc: Global,
     kind: Kind,
     text: &[u8],
-    given: bool,
+    word: Declaring,
     names: Row<Text>,
     stms: Row<Stm>,
 ) -> Result<Option<State>, NoMemory>
     requires { IsAscii text.now }
-    ensures { IfOk result (Steps (step_names_wanted (token kind text.now) given (back_names names) (back_stms stms))) }
+    ensures { IfOk result (Steps (step_names_wanted (token kind text.now) (is_given word) (back_names names) (back_stms stms))) }
 {
     match kind {
-        Kind::Name => {
-            let mut names = names;
-            names.push(Text::from_ascii(alloc, text)?)?;
-            Ok(outside(alloc, Mode::NameRead(given, names, stms)))
-        }
-        _ => Ok(None),
+        Kind::Name => match with_token(alloc, names, text) {
+            Ok(names) => Ok(outside(alloc, Mode::NameRead(word, names, stms))),
+            Err(no) => {
+                let_statements_go(stms);
+                Err(no)
+            }
+        },
+        _ => Ok(no_state_behind(stms)),
     }
 }
 
@@ -41,21 +60,24 @@ pub fn step_names_wanted(
 pub fn step_name_read(
     alloc: Global,
     kind: Kind,
-    given: bool,
+    word: Declaring,
     names: Row<Text>,
     stms: Row<Stm>,
 ) -> Result<Option<State>, NoMemory>
-    ensures { IfOk result (λ p. (bytes : _) → Steps (step_name_read (token kind bytes) given (back_names names) (back_stms stms)) p) }
+    ensures { IfOk result (λ p. (bytes : _) → Steps (step_name_read (token kind bytes) (is_given word) (back_names names) (back_stms stms)) p) }
 {
     match kind {
-        Kind::Comma => Ok(outside(alloc, Mode::NamesWanted(given, names, stms))),
+        Kind::Comma => Ok(outside(alloc, Mode::NamesWanted(word, names, stms))),
         Kind::Colon => alone(
             alloc,
             Mode::DomainWanted,
-            Frame::Declaration(given, names, stms),
+            Frame::Declaration(word, names, stms),
         ),
-        Kind::New if given => Ok(begin_given_type(alloc, names, stms)),
-        _ => Ok(None),
+        Kind::New => match word {
+            Declaring::Given => Ok(begin_given_type(alloc, names, stms)),
+            Declaring::Find => Ok(no_state_behind(stms)),
+        },
+        _ => Ok(no_state_behind(stms)),
     }
 }
 
@@ -65,11 +87,9 @@ fn begin_given_type(alloc: Global, names: Row<Text>, stms: Row<Stm>) -> Option<S
     ensures { Steps (step_name_read (word new_word) true (back_names names) (back_stms stms)) result }
 {
     let mut names = names;
-    let name = names.pop()?;
-    if names.is_empty() {
-        outside(alloc, Mode::GivenNewRead(name, stms))
-    } else {
-        None
+    match names.pop() {
+        Some(name) if names.is_empty() => outside(alloc, Mode::GivenNewRead(name, stms)),
+        _ => no_state_behind(stms),
     }
 }
 
@@ -79,7 +99,7 @@ pub fn step_given_new_read(alloc: Global, kind: Kind, name: Text, stms: Row<Stm>
 {
     match kind {
         Kind::TypeWord => outside(alloc, Mode::GivenTypeRead(name, stms)),
-        _ => None,
+        _ => no_state_behind(stms),
     }
 }
 
@@ -94,10 +114,9 @@ pub fn step_given_type_read(
 {
     match kind {
         Kind::Enum => {
-            let mut stms = stms;
-            stms.push(Stm::GivenEnum(name))?;
+            let stms = with_statement(stms, Stm::GivenEnum(name))?;
             Ok(outside(alloc, Mode::StatementRead(Opening::Given, stms)))
         }
-        _ => Ok(None),
+        _ => Ok(no_state_behind(stms)),
     }
 }

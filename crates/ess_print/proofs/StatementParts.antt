@@ -17,10 +17,12 @@ use Rattle.ess_core.specs.declared.statements.Stm.TheVariants.{LetDom, LetEnum, 
 use Rattle.ess_print.specs.Written.{Puts}
 use Rattle.ess_print.proofs.Writing.{puts-pieces, puts-then, puts-as, puts-at}
 
-pub let-domain-put : {s : Stm} {n : Text} {d : Dom} {t0 t1 t2 t3 : Text} → s ≡ LetDom n d → Puts t0 t1 (let_be n) → t2 ≡ t1 ++ codes "domain " → Puts t2 t3 (dom_pieces (pure_dom d)) →
+pub let-domain-put : {s : Stm} {n : Text} {d d' : Dom} {t0 t1 t2 t3 : Text} → s ≡ LetDom n d → d' ≡ d → Puts t0 t1 (let_be n) → t2 ≡ t1 ++ codes "domain " →
+    Puts t2 t3 (dom_pieces (pure_dom d')) →
     Puts t0 t3 (stm_pieces (pure_stm s))
-let-domain-put {s} {n} {d} is h f g =
-    puts-at (λ x. stm_pieces (pure_stm x)) (sym is) (puts-as (stm_pieces (let_dom n (pure_dom d))) (λ us. refl) (puts-then h (puts-then (puts-pieces (reserved domain_word ∷ space ∷ []) f) g)))
+let-domain-put {s} {n} {d} is e h f g =
+    puts-at (λ x. stm_pieces (pure_stm x)) (sym is) (puts-as (stm_pieces (let_dom n (pure_dom d))) (λ us. refl) (puts-then h (puts-then (puts-pieces (reserved domain_word ∷ space ∷ []) f)
+    (puts-at (λ x. dom_pieces (pure_dom x)) e g))))
 
 pub let-enum-put : {s : Stm} {n : Text} {ns ns' : List Text} {t0 t1 t2 t3 t4 : Text} → s ≡ LetEnum n ns → Puts t0 t1 (let_be n) → t2 ≡ t1 ++ codes "new type enum {" → ns' ≡ ns →
     Puts t2 t3 (commas (name_printers ns')) → t4 ≡ t3 ++ codes "}" → Puts t0 t4 (stm_pieces (pure_stm s))
@@ -29,8 +31,10 @@ let-enum-put {s} {n} {ns} is h f e g c =
     (puts-then h (puts-then (puts-pieces (reserved new_word ∷ space ∷ reserved type_word ∷ space ∷ reserved enum_word ∷ space ∷ sign open_curly ∷ []) f)
     (puts-then (puts-at (λ xs. commas (name_printers xs)) e g) (puts-pieces (sign close_curly ∷ []) c)))))
 
-pub let-unnamed-put : {s : Stm} {n : Text} {e : Ex} {t0 t1 t2 t3 : Text} → s ≡ LetUnnamed n e → Puts t0 t1 (let_be n) → t2 ≡ t1 ++ codes "new type of size " → Puts t2 t3 (ex_pieces (pure_ex e)) →
+pub let-unnamed-put : {s : Stm} {n : Text} {e e' : Ex} {t0 t1 t2 t3 : Text} → s ≡ LetUnnamed n e → e' ≡ e → Puts t0 t1 (let_be n) → t2 ≡ t1 ++ codes "new type of size " →
+    Puts t2 t3 (ex_pieces (pure_ex e')) →
     Puts t0 t3 (stm_pieces (pure_stm s))
-let-unnamed-put {s} {n} {e} is h f g =
+let-unnamed-put {s} {n} {e} is k h f g =
     puts-at (λ x. stm_pieces (pure_stm x)) (sym is) (puts-as (stm_pieces (let_unnamed n (pure_ex e))) (λ us. refl)
-    (puts-then h (puts-then (puts-pieces (reserved new_word ∷ space ∷ reserved type_word ∷ space ∷ reserved of_word ∷ space ∷ named (codes "size") ∷ space ∷ []) f) g)))
+    (puts-then h (puts-then (puts-pieces (reserved new_word ∷ space ∷ reserved type_word ∷ space ∷ reserved of_word ∷ space ∷ named (codes "size") ∷ space ∷ []) f)
+    (puts-at (λ x. ex_pieces (pure_ex x)) k g))))

@@ -5,8 +5,8 @@ use Rattle.std.proofs.lemmas.List.{append_assoc, append-nil, at_drop_more}
 use Rattle.std.proofs.Math.ListN.{drop_of_length-le}
 use Rattle.ess_semantics.specs.Values.{Text}
 use Rattle.ess_print_laws.specs.Pieces.{Piece, piece_text, text_of, Printer, listed}
-use Rattle.ess_print_laws.specs.Parts.{comma_space, commas, times}
-use Rattle.ess_print.specs.Written.{Puts, PutsBetween, comma_before, times_before}
+use Rattle.ess_print_laws.specs.Parts.{comma_space, comma_before, commas, times}
+use Rattle.ess_print.specs.Written.{Puts, PutsBetween, times_before}
 
 text-append : (ps us : List Piece) → text_of (ps ++ us) ≡ text_of ps ++ text_of us
 text-append [] us = refl

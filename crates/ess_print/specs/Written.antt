@@ -37,11 +37,6 @@ pub record PutsBetween (before s : Text) (p : Printer) (behind now : Text) : Typ
 
 -- ---- texts between the parts of a list
 
--- What stands before the item at an index of a list.
-abbrev pub comma_before : ℕ → Text
-comma_before zero = []
-comma_before (suc i) = codes ", "
-
 -- What stands before the domain at an index of a relation.
 abbrev pub times_before : ℕ → Text
 times_before zero = []

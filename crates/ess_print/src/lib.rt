@@ -19,6 +19,3 @@ mod words;
 pub use ess_core::{NoMemory, Repr, Stm, Text};
 pub use representations::print_repr;
 pub use statements::print_stm;
-
-#[cfg(test)]
-mod tests;

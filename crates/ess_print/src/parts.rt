@@ -1,6 +1,7 @@
 // What stands between and before the parts of a list.
 ghost use Rattle.std.specs.Prelude.{◌≡◌, ◌++◌, OnOk};
-ghost use Rattle.ess_print.specs.Written.{comma_before, times_before, tuple_opening};
+ghost use Rattle.ess_print_laws.specs.Parts.{comma_before};
+ghost use Rattle.ess_print.specs.Written.{times_before, tuple_opening};
 
 use ess_core::{NoMemory, Text};
 

@@ -38,7 +38,7 @@ fn put_stm(out: &mut Text, stm: &Stm) -> Result<(), NoMemory>
     match stm {
         Stm::Given(name, dom) => {
             out.push_str("given ")?;
-            put_declared(out, name, dom)
+            put_declared(out, name, dom.get())
         }
         Stm::GivenEnum(name) => {
             out.push_str("given ")?;
@@ -47,12 +47,12 @@ fn put_stm(out: &mut Text, stm: &Stm) -> Result<(), NoMemory>
         }
         Stm::LetEx(name, ex) => {
             put_let(out, name)?;
-            put_ex(out, ex)
+            put_ex(out, ex.get())
         }
         Stm::LetDom(name, dom) => {
             put_let(out, name)?;
             out.push_str("domain ")?;
-            put_dom(out, dom)
+            put_dom(out, dom.get())
         }
         Stm::LetEnum(name, values) => {
             put_let(out, name)?;
@@ -63,16 +63,16 @@ fn put_stm(out: &mut Text, stm: &Stm) -> Result<(), NoMemory>
         Stm::LetUnnamed(name, size) => {
             put_let(out, name)?;
             out.push_str("new type of size ")?;
-            put_ex(out, size)
+            put_ex(out, size.get())
         }
-        Stm::Needs(ex) => put_behind(out, "where ", ex),
+        Stm::Needs(ex) => put_behind(out, "where ", ex.get()),
         Stm::Find(name, dom) => {
             out.push_str("find ")?;
-            put_declared(out, name, dom)
+            put_declared(out, name, dom.get())
         }
-        Stm::SuchThat(ex) => put_behind(out, "such that ", ex),
-        Stm::Minimise(ex) => put_behind(out, "minimising ", ex),
-        Stm::Maximise(ex) => put_behind(out, "maximising ", ex),
+        Stm::SuchThat(ex) => put_behind(out, "such that ", ex.get()),
+        Stm::Minimise(ex) => put_behind(out, "minimising ", ex.get()),
+        Stm::Maximise(ex) => put_behind(out, "maximising ", ex.get()),
     }
 }
 

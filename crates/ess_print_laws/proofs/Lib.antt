@@ -15,6 +15,7 @@ pub mod Generators
 pub mod Domains
 pub mod Expressions
 pub mod Statements
+pub mod Lettings
 pub mod Appended
 pub mod Closing
 pub mod SafeParts

@@ -4,11 +4,12 @@ use Rattle.std.proofs.lemmas.Bool.{and_parts}
 use Rattle.ess_semantics.specs.Values.{Text}
 use Rattle.ess_semantics.specs.Trees.{Stm, given, given_enum, let_ex, let_dom, let_enum, let_unnamed, needs, find, such_that, minimise, maximise}
 use Rattle.ess_grammar.specs.Words.{close_curly}
-use Rattle.ess_grammar.specs.Statements.{NameList, last_name, next_name, value_letting, enum_letting, given_part, given_enum_part, find_part, plain_letting_part, domain_letting_part, unnamed_letting_part, where_part, such_that_part, last_part, begins_given, begins_find, begins_letting, begins_where, begins_such_that, Statement, parts_statement, minimising_statement, maximising_statement, no_statements, more_statements, no_language_line, IsSpecification, specification}
-use Rattle.ess_grammar.specs.Readable.{is_name_token, some_names, are_name_tokens, ReadableStm}
+use Rattle.ess_grammar.specs.Statements.{NameList, last_name, next_name, value_letting, enum_letting, given_part, given_enum_part, find_part, plain_letting_part, domain_letting_part, unnamed_letting_part, where_part, such_that_part, last_part, begins_given, begins_find, begins_letting, begins_where, begins_such_that, Statement, parts_statement, minimising_statement, maximising_statement, no_statements, more_statements, no_language_line, IsSpecification, specification, last_letting, no_lettings, more_lettings, IsLettingsFile, lettings_file}
+use Rattle.ess_grammar.specs.Readable.{is_name_token, some_names, are_name_tokens, is_plain_letting, ReadableStm}
 use Rattle.ess_print_laws.specs.Pieces.{Piece, sign, tokens_of}
 use Rattle.ess_print_laws.specs.Parts.{commas, name_printers}
 use Rattle.ess_print_laws.specs.Statements.{stm_pieces}
+use Rattle.ess_print_laws.proofs.Derived.{never}
 use Rattle.ess_print_laws.proofs.Expressions.{ex-printed, dom-derived}
 
 names-derived : (a : Text) (ns : List Text) (us : List Piece) → NameList (a ∷ ns) (tokens_of (commas (name_printers (a ∷ ns)) us)) (tokens_of us)
@@ -36,3 +37,22 @@ stm-derived (maximise e) h us = maximising_statement ((ex-printed e h).reads us)
 -- Alone it is a specification.
 pub stm-specification : (s : Stm) → ReadableStm s → IsSpecification (s ∷ []) (tokens_of (stm_pieces s []))
 stm-specification s h = specification no_language_line (more_statements (stm-derived s h []) no_statements)
+
+enum-file : (a : Text) (ns : List Text) → some_names ns ≡ true → IsLettingsFile (let_enum a ns ∷ []) (tokens_of (stm_pieces (let_enum a ns) []))
+enum-file a [] h = never h
+enum-file a (b ∷ ns) h = lettings_file no_language_line (more_lettings (last_letting (enum_letting (names-derived b ns (sign close_curly ∷ [])))) no_lettings)
+
+-- A letting alone is a file of lettings.
+pub stm-file : (s : Stm) → is_plain_letting s ≡ true → ReadableStm s → IsLettingsFile (s ∷ []) (tokens_of (stm_pieces s []))
+stm-file (let_ex a e) p h = lettings_file no_language_line (more_lettings (last_letting (value_letting ((ex-printed e h.1).reads []).derivation)) no_lettings)
+stm-file (let_enum a ns) p h =
+    enum-file a ns (and_parts (some_names ns) (are_name_tokens ns) (and_parts (is_name_token a) (some_names ns && are_name_tokens ns) h).1).0
+stm-file (given a d) p h = never p
+stm-file (given_enum a) p h = never p
+stm-file (let_dom a d) p h = never p
+stm-file (let_unnamed a e) p h = never p
+stm-file (needs e) p h = never p
+stm-file (find a d) p h = never p
+stm-file (such_that e) p h = never p
+stm-file (minimise e) p h = never p
+stm-file (maximise e) p h = never p

@@ -1,15 +1,15 @@
 -- Laws of printed texts, each stated at a function that does nothing, so that its proof is checked with the code. Each list of
 -- tokens is at most one tree, so what is derived is the tree that was printed and no other.
-use Rattle.std.specs.Prelude.{◌≡◌, ℕ, false, List, [], ◌∷◌, ◌++◌, Some, None, IsTrue}
+use Rattle.std.specs.Prelude.{◌≡◌, ℕ, true, false, List, [], ◌∷◌, ◌++◌, Some, None, IsTrue, codes}
 use Rattle.ess_semantics.specs.Values.{Text, Value}
-use Rattle.ess_semantics.specs.Trees.{Repr, Ex, Dom, Stm}
+use Rattle.ess_semantics.specs.Trees.{Repr, Ex, Dom, Stm, let_ex}
 use Rattle.ess_grammar.specs.Words.{Token}
 use Rattle.ess_grammar.specs.Tokens.{tokens, lexed, first_outside}
 use Rattle.ess_grammar.specs.Patterns.{Shape}
 use Rattle.ess_grammar.specs.Grammar.{Expression}
-use Rattle.ess_grammar.specs.Statements.{Statement, IsSpecification, IsDomain}
+use Rattle.ess_grammar.specs.Statements.{Statement, IsSpecification, IsLettingsFile, IsDomain}
 use Rattle.ess_grammar.specs.Representations.{IsRepresentation}
-use Rattle.ess_grammar.specs.Readable.{ReadableEx, ReadableDom, ReadableStm}
+use Rattle.ess_grammar.specs.Readable.{is_name_token, is_plain_letting, ReadableEx, ReadableDom, ReadableStm}
 use Rattle.ess_grammar.specs.Texts.{Reads}
 use Rattle.ess_grammar.specs.ValueTexts.{value_text, literal_of}
 use Rattle.ess_print_laws.specs.Pieces.{Piece, text_of, tokens_of}
@@ -43,16 +43,31 @@ DomainsAreRead = (d : Dom) → ReadableDom d → ReadsInSubset (dom_text d) (IsD
 abbrev pub StatementsAreRead : Type 0
 StatementsAreRead = (s : Stm) → ReadableStm s → ReadsInSubset (stm_text s) (λ ts. Statement (s ∷ []) ts [] × IsSpecification (s ∷ []) ts)
 
+-- What stands before the value in a letting of this name.
+abbrev pub letting_of : Text → Text
+letting_of a = codes "letting " ++ (a ++ codes " be ")
+
+-- Behind `letting NAME be ` the text is a file of lettings with this expression alone, whatever name it is.
+abbrev pub IsLettingOf : Ex → Text → Type 0
+IsLettingOf e text = (a : Text) → IsTrue (is_name_token a) → ReadsInSubset (letting_of a ++ text) (IsLettingsFile (let_ex a e ∷ []))
+
+-- A readable letting's text is a file of lettings with it alone, and so is a readable expression's text behind `letting NAME be `.
+pub record LettingsAreRead : Type 0 where
+  pub statements : (s : Stm) → is_plain_letting s ≡ true → ReadableStm s → ReadsInSubset (stm_text s) (IsLettingsFile (s ∷ []))
+  pub expressions : (e : Ex) → ReadableEx e → IsLettingOf e (ex_text e)
+
 -- Each representation's text is derived as that representation.
 abbrev pub RepresentationsAreRead : Type 0
 RepresentationsAreRead = (r : Repr) → ReadsInSubset (repr_text r) (IsRepresentation r)
 
--- The text of a value that is spelled is that of its literal, which is readable, and is derived as that literal.
+-- The text of a value that is spelled is that of its literal, which is readable, and is derived as that literal; behind
+-- `letting NAME be ` it is a file of lettings with the literal.
 pub record ValuesAreRead : Type 0 where
   pub texts : (name_of : Text → ℕ → Text) (v : Value) → IsTrue (is_spelled name_of v) → value_text name_of v ≡ ex_text (literal_of name_of v)
   pub readable : (name_of : Text → ℕ → Text) (v : Value) → IsTrue (is_spelled name_of v) → ReadableEx (literal_of name_of v)
   pub reads : (name_of : Text → ℕ → Text) (v : Value) → IsTrue (is_spelled name_of v) →
       ReadsInSubset (value_text name_of v) (IsClosedExpression (literal_of name_of v))
+  pub letting : (name_of : Text → ℕ → Text) (v : Value) → IsTrue (is_spelled name_of v) → IsLettingOf (literal_of name_of v) (value_text name_of v)
 
 -- What is printed before pieces is the tree's own text, and then theirs.
 pub record TextsStandFirst : Type 0 where

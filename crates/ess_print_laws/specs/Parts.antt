@@ -1,5 +1,5 @@
 -- Small parts of printed texts.
-use Rattle.std.specs.Prelude.{suc, Bool, true, false, List, [], ◌∷◌, ℤ, pos, negsuc}
+use Rattle.std.specs.Prelude.{ℕ, zero, suc, codes, Bool, true, false, List, [], ◌∷◌, ℤ, pos, negsuc}
 use Rattle.ess_semantics.specs.declared.words.Op2.{Op2}
 use Rattle.ess_semantics.specs.Values.{Text}
 use Rattle.ess_semantics.specs.Trees.{Pat, Pats, name_pat, tuple_pat, no_pats, more_pats}
@@ -13,6 +13,11 @@ comma_space us = sign comma ∷ space ∷ us
 -- Parts with `, ` between.
 abbrev pub commas : List Printer → Printer
 commas ps us = listed comma_space ps us
+
+-- What stands before the item at an index of such a list: nothing before the first, else a comma and a space.
+abbrev pub comma_before : ℕ → Text
+comma_before zero = []
+comma_before (suc i) = codes ", "
 
 -- A star between two domains.
 abbrev pub times : Printer

@@ -1,6 +1,6 @@
 //! Laws of printed texts, each the contract of a function that does nothing.
 
-ghost use Rattle.ess_print_laws.specs.Laws.{PiecesAreRead, ExpressionsAreRead, DomainsAreRead, StatementsAreRead, RepresentationsAreRead, ValuesAreRead, TextsStandFirst};
+ghost use Rattle.ess_print_laws.specs.Laws.{PiecesAreRead, ExpressionsAreRead, DomainsAreRead, StatementsAreRead, LettingsAreRead, RepresentationsAreRead, ValuesAreRead, TextsStandFirst};
 
 /// The tokens of a text of pieces are those of its pieces, where each token ends before what follows it and is one that a
 /// text of the subset may have.
@@ -24,12 +24,17 @@ pub fn statements_are_read()
     ensures { StatementsAreRead }
 {}
 
+/// The text of a letting is a file of lettings with it alone, and so is `letting NAME be ` with the text of an expression.
+pub fn lettings_are_read()
+    ensures { LettingsAreRead }
+{}
+
 /// The same of representations, whatever they are.
 pub fn representations_are_read()
     ensures { RepresentationsAreRead }
 {}
 
-/// The text of a value that is spelled is that of its literal, which is readable and derived as itself.
+/// The text of a value that is spelled is that of its literal, which is readable and derived as itself; in a letting too.
 pub fn values_are_read()
     ensures { ValuesAreRead }
 {}

@@ -3,7 +3,7 @@ use Rattle.std.proofs.Common.{◌≡◌, refl, sym, ap, ◌∙◌, ℕ, zero, su
 use Rattle.std.proofs.lemmas.List.{append_assoc, append-nil, at_drop_more}
 use Rattle.ess_semantics.specs.Values.{Text}
 use Rattle.ess_grammar.specs.ValueTexts.{Run, number_text, runs_text, with_commas}
-use Rattle.ess_values.specs.Printing.{comma_before}
+use Rattle.ess_print_laws.specs.Parts.{comma_before}
 
 -- What is still to be written of a list, where so many items stand before.
 abbrev pub behind : ℕ → List Text → Text

@@ -13,8 +13,9 @@ use Rattle.ess_core.specs.declared.values.Val.TheOpen.{Val-F}
 use Rattle.ess_core.specs.declared.values.Val.TheFolds.{fold-roll-Val}
 use Rattle.ess_core.specs.ValueViews.{pure_val, val_step, field_val_step, pair_step}
 use Rattle.ess_values.specs.Neighbours.{neighbours_differ}
-use Rattle.ess_values.specs.Parts.{is_set, set_members}
-use Rattle.ess_values.proofs.Repeated.{twice-sorted}
+use Rattle.ess_semantics.specs.Membership.{is_set}
+use Rattle.ess_values.specs.Parts.{set_members}
+use Rattle.ess_values.proofs.Repeated.{neighbours-sorted}
 
 -- ---- a set's members
 
@@ -69,7 +70,7 @@ empty_there vs b h e = sym (any-empty vs h) ∙ e
 pub overlap_there : (vs : List Value) (ms rs : List Val) (b : Bool) → list_all is_set vs ≡ true → map pure_val ms ≡ append_all (map set_members vs) → map pure_val rs ≡ sorted (map pure_val ms)
     → neighbours_differ (map pure_val rs) ≡ b → has_overlap vs ≡ not b
 overlap_there vs ms rs b h m r d =
-    ap not (ap (λ l. no_twice itself (append_all l)) (sym (all-items vs h)) ∙ ap (no_twice itself) (sym m) ∙ twice-sorted (map pure_val ms) ∙ ap neighbours_differ (sym r) ∙ d)
+    ap not (ap (λ l. no_twice itself (append_all l)) (sym (all-items vs h)) ∙ ap (no_twice itself) (sym m) ∙ neighbours-sorted (map pure_val ms) ∙ ap neighbours_differ (sym r) ∙ d)
 
 pub partition_there : (vs : List Value) (qs : List Val) → has_empty_part vs ≡ false → has_overlap vs ≡ false → map pure_val qs ≡ sorted_once vs → partition_of vs ≡ Some (pure_val (Partition qs))
 partition_there vs qs e o q =

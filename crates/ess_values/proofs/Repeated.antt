@@ -77,8 +77,9 @@ twice-sorted xs =
     (λ e. distinct-twice (sorted xs) (distinct-once (sorted xs) (λ v. let c = count-sorted xs v in let o = once xs (twice-distinct xs e) v in omega (arith, c, o))))
     (λ e. distinct-twice xs (distinct-once xs (λ v. let c = count-sorted xs v in let o = once (sorted xs) (twice-distinct (sorted xs) e) v in omega (arith, c, o))))
 
-pub twice-sorted : (xs : List Value) → no_twice itself xs ≡ neighbours_differ (sorted xs)
-twice-sorted xs = twice-sorted xs ∙ twice-neighbours (sorted xs) (sorted-rises xs)
+-- So neighbours of the rising list tell it.
+pub neighbours-sorted : (xs : List Value) → no_twice itself xs ≡ neighbours_differ (sorted xs)
+neighbours-sorted xs = twice-sorted xs ∙ twice-neighbours (sorted xs) (sorted-rises xs)
 
 -- ---- by a part of each item
 

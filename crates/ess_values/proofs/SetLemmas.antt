@@ -14,7 +14,7 @@ use Rattle.ess_semantics.specs.Operators.{value_of_op}
 use Rattle.ess_semantics.specs.Collections.{set_of}
 use Rattle.ess_semantics.specs.Meaning.{Env}
 use Rattle.ess_semantics.specs.Literals.{types_of_literals, value_of_literal, values_of_literals, is_literal_op, is_literal_index, is_number_literal, type_of_item, item_of_name}
-use Rattle.ess_values.specs.Parts.{is_set}
+use Rattle.ess_semantics.specs.Membership.{is_set}
 use Rattle.ess_values.specs.TypedLiterals.{both, typed_literal, typed_literals, SetsWhereTyped}
 use Rattle.ess_values.proofs.Joins.{kinds_equal}
 use Rattle.ess_values.proofs.Reading.{literals_more, typed_more}

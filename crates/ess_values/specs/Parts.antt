@@ -1,11 +1,6 @@
 -- The parts of a partition, which are sets.
-use Rattle.std.specs.Prelude.{Bool, true, false, List, []}
+use Rattle.std.specs.Prelude.{List, []}
 use Rattle.ess_semantics.specs.Values.{Value, node, a_set, to_list}
-
--- Whether the value is a set.
-abbrev pub is_set : Value → Bool
-is_set (node a_set xs) = true
-is_set _ = false
 
 -- The members of a set; none of any other value.
 abbrev pub set_members : Value → List Value

@@ -1,13 +1,8 @@
--- What a printer has written before the item with `at` items before it, and which runs a list of numbers has so far.
-use Rattle.std.specs.Prelude.{ℕ, zero, suc, List, [], ◌∷◌, ◌++◌, codes, if◌then◌else◌, pos, ◌+ℤ◌}
+-- Parts of the texts of values, and which runs a list of numbers has so far.
+use Rattle.std.specs.Prelude.{ℕ, List, [], ◌∷◌, ◌++◌, codes, if◌then◌else◌, pos, ◌+ℤ◌}
 use Rattle.std.specs.Ordering.{int_eq}
 use Rattle.ess_semantics.specs.Values.{Text, Value, from_of, to_of}
 use Rattle.ess_grammar.specs.ValueTexts.{Run, value_text}
-
--- What stands before an item: nothing before the first, else a comma and a space.
-abbrev pub comma_before : ℕ → Text
-comma_before zero = []
-comma_before (suc k) = codes ", "
 
 -- What stands behind the items of a matrix: its index domain where it has items, and the bracket.
 abbrev pub matrix_end : {A : Type 0} → Text → List A → Text

@@ -9,7 +9,7 @@ use Rattle.ess_semantics.specs.Types.{Ty, compound2, join_all, type_of_dom}
 use Rattle.ess_semantics.specs.OperatorTypes.{type_of_op, record_ty, partition_ty}
 use Rattle.ess_semantics.specs.Operators.{value_of_op, record_value}
 use Rattle.ess_semantics.specs.Names.{Names, keys, by_name, all_distinct}
-use Rattle.ess_values.specs.Parts.{is_set}
+use Rattle.ess_semantics.specs.Membership.{is_set}
 use Rattle.ess_semantics.specs.Meaning.{Env, members_in, domain_of}
 use Rattle.ess_semantics.specs.Literals.{type_of_literal, types_of_literals, value_of_literal, values_of_literals, is_literal_index}
 

@@ -6,19 +6,19 @@ ghost use Rattle.ess_values.specs.Shapes.{pure_kind, pure_shape, pure_shapes, jo
 
 use crate::naming::same_name;
 use crate::shapes::{Kind, Shape, copy_shapes};
-use ess_core::{NoMemory, Row, Text};
+use ess_core::{Boxed, NoMemory, Row, Text};
 use std::alloc::Global;
 
 /// The type with which both agree, where there is one. `NoMemory` where there is no room for it.
 #[cycle(join)]
-pub fn join(alloc: Global, a: &Shape, b: &Shape) -> Result<Option<Shape>, NoMemory>
+pub fn join(alloc: Global, a: &Shape, b: &Shape) -> Result<Option<Boxed<Shape>>, NoMemory>
     ensures { IfOk result (λ o. option_map pure_shape o ≡ join_of (pure_shape a.now) (pure_shape b.now)) }
 {
     match (a, b) {
-        (Shape::Any, _) => Ok(Some(b.copy(alloc)?)),
-        (_, Shape::Any) => Ok(Some(a.copy(alloc)?)),
-        (Shape::Bool, Shape::Bool) => Ok(Some(Shape::Bool)),
-        (Shape::Int, Shape::Int) => Ok(Some(Shape::Int)),
+        (Shape::Any, _) => Ok(Some(Boxed::new(alloc, b.copy(alloc)?)?)),
+        (_, Shape::Any) => Ok(Some(Boxed::new(alloc, a.copy(alloc)?)?)),
+        (Shape::Bool, Shape::Bool) => Ok(Some(Boxed::new(alloc, Shape::Bool)?)),
+        (Shape::Int, Shape::Int) => Ok(Some(Boxed::new(alloc, Shape::Int)?)),
         (Shape::Named(x), Shape::Named(y)) => join_names(alloc, x, y),
         (Shape::Node(kind, xs), Shape::Node(other, ys)) => {
             if same_kind(kind, other) {
@@ -32,11 +32,11 @@ pub fn join(alloc: Global, a: &Shape, b: &Shape) -> Result<Option<Shape>, NoMemo
 }
 
 /// The type of two names, where they are equal.
-fn join_names(alloc: Global, a: &Text, b: &Text) -> Result<Option<Shape>, NoMemory>
+fn join_names(alloc: Global, a: &Text, b: &Text) -> Result<Option<Boxed<Shape>>, NoMemory>
     ensures { IfOk result (λ o. option_map pure_shape o ≡ when (same_text a.now b.now) (named_ty a.now)) }
 {
     if same_name(a, b) {
-        Ok(Some(Shape::Named(a.copy(alloc)?)))
+        Ok(Some(Boxed::new(alloc, Shape::Named(a.copy(alloc)?))?))
     } else {
         Ok(None)
     }
@@ -50,17 +50,19 @@ fn join_nodes(
     kind: &Kind,
     xs: &[Shape],
     ys: &[Shape],
-) -> Result<Option<Shape>, NoMemory>
+) -> Result<Option<Boxed<Shape>>, NoMemory>
     ensures { IfOk result (λ o. option_map pure_shape o ≡ join_of (compound (pure_kind kind.now) (pure_shapes xs.now)) (compound (pure_kind kind.now) (pure_shapes ys.now))) }
 {
     if is_open(kind, xs) {
-        return Ok(Some(Shape::Node(kind.copy(alloc)?, copy_shapes(alloc, ys)?)));
+        let parts = copy_shapes(alloc, ys)?;
+        return Ok(Some(Boxed::new(alloc, Shape::Node(kind.copy(alloc)?, parts))?));
     }
     if is_open(kind, ys) {
-        return Ok(Some(Shape::Node(kind.copy(alloc)?, copy_shapes(alloc, xs)?)));
+        let parts = copy_shapes(alloc, xs)?;
+        return Ok(Some(Boxed::new(alloc, Shape::Node(kind.copy(alloc)?, parts))?));
     }
     match join_each(alloc, xs, ys)? {
-        Some(parts) => Ok(Some(Shape::Node(kind.copy(alloc)?, parts))),
+        Some(parts) => Ok(Some(Boxed::new(alloc, Shape::Node(kind.copy(alloc)?, parts))?)),
         None => Ok(None),
     }
 }
@@ -101,7 +103,7 @@ fn join_each(alloc: Global, xs: &[Shape], ys: &[Shape]) -> Result<Option<Row<Sha
             return Ok(None);
         }
         match join(alloc, x, &ys[i])? {
-            Some(shape) => joined.push(shape)?,
+            Some(shape) => joined.push(shape.into_inner())?,
             None => return Ok(None),
         }
     }
@@ -114,12 +116,12 @@ fn join_each(alloc: Global, xs: &[Shape], ys: &[Shape]) -> Result<Option<Row<Sha
 
 /// The type with which all agree, where there is one. `NoMemory` where there is no room for it.
 #[tactic(auto, using(crate::proofs::Joins::all_more, crate::proofs::Joins::all_none))]
-pub fn join_all(alloc: Global, shapes: &[Shape]) -> Result<Option<Shape>, NoMemory>
+pub fn join_all(alloc: Global, shapes: &[Shape]) -> Result<Option<Boxed<Shape>>, NoMemory>
     ensures { IfOk result (λ o. option_map pure_shape o ≡ join_of_all (map pure_shape shapes.now)) }
 {
-    let mut joined = Shape::Any;
+    let mut joined = Boxed::new(alloc, Shape::Any)?;
     for k in 0..shapes.len() {
-        match join(alloc, &shapes[shapes.len() - 1 - k], &joined)? {
+        match join(alloc, &shapes[shapes.len() - 1 - k], joined.get())? {
             Some(shape) => joined = shape,
             None => return Ok(None),
         }

@@ -12,8 +12,6 @@ mod printing;
 mod runs;
 mod shapes;
 mod sorting;
-#[cfg(test)]
-mod tests;
 
 pub use collections::{mset_of, set_of};
 pub use comparing::order;

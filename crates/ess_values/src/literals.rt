@@ -18,7 +18,7 @@ mod reading;
 
 use crate::joining::join;
 use crate::shapes::{Shape, shape_of};
-use ess_core::{Env, Ex, NoMemory, Ty, Val};
+use ess_core::{Boxed, Env, Ex, NoMemory, Ty, Val};
 pub use parts::Literal;
 use reading::literal;
 use std::alloc::Global;
@@ -52,26 +52,27 @@ pub fn val_of(alloc: Global, ex: &Ex, ty: &Ty, env: &Env) -> Result<Val, ValNo>
     ensures not_a_value { result ≡ Err NotAValue → literal_value (pure_ex ex.now) (pure_ty ty.now) (pure_env env.now) ≡ None }
 {
     match typed(alloc, ex, ty, env)? {
-        Some(val) => Ok(val),
+        Some(val) => Ok(val.into_inner()),
         None => Err(ValNo::NotAValue),
     }
 }
 
 /// The value of a literal of a type, where it has one.
-fn typed(alloc: Global, ex: &Ex, ty: &Ty, env: &Env) -> Result<Option<Val>, NoMemory>
+fn typed(alloc: Global, ex: &Ex, ty: &Ty, env: &Env) -> Result<Option<Boxed<Val>>, NoMemory>
     ensures { IfOk result (λ o. option_map pure_val o ≡ literal_value (pure_ex ex.now) (pure_ty ty.now) (pure_env env.now)) }
 {
+    let shape = Boxed::new(alloc, shape_of(alloc, ty)?)?;
     match literal(alloc, ex, env)? {
-        Some(found) => of_shape(alloc, found, &shape_of(alloc, ty)?),
+        Some(found) => of_shape(alloc, found, shape.get()),
         None => Ok(None),
     }
 }
 
 /// The value of a literal, where it agrees with a type.
-fn of_shape(alloc: Global, found: Literal, shape: &Shape) -> Result<Option<Val>, NoMemory>
+fn of_shape(alloc: Global, found: Literal, shape: &Shape) -> Result<Option<Boxed<Val>>, NoMemory>
     ensures { IfOk result (λ o. option_map pure_val o ≡ when (is_some (join_of (pure_shape found.shape) (pure_shape shape.now))) (pure_val found.val)) }
 {
-    match join(alloc, &found.shape, shape)? {
+    match join(alloc, found.shape.get(), shape)? {
         Some(_) => Ok(Some(found.val)),
         None => Ok(None),
     }

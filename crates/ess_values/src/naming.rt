@@ -16,7 +16,7 @@ ghost use Rattle.ess_values_laws.specs.ItemNames.{name_at, entry_name, item_name
 
 use crate::literals::Literal;
 use crate::shapes::Shape;
-use ess_core::{Env, NoMemory, Text, TypeEntry, Val};
+use ess_core::{Boxed, Env, NoMemory, Text, TypeEntry, Val};
 use std::alloc::Global;
 use std::cmp::Ordering;
 
@@ -105,8 +105,8 @@ fn newest_item(alloc: Global, name: &Text, types: &[TypeEntry]) -> Result<Option
         match position(alloc, entry, name)? {
             Some(at) => {
                 found = Some(Literal {
-                    shape: Shape::Named(entry.name.copy(alloc)?),
-                    val: Val::Item(entry.name.copy(alloc)?, at),
+                    shape: Boxed::new(alloc, Shape::Named(entry.name.copy(alloc)?))?,
+                    val: Boxed::new(alloc, Val::Item(entry.name.copy(alloc)?, at))?,
                 });
             }
             None => {}

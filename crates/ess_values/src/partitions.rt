@@ -3,7 +3,8 @@ ghost use Rattle.std.specs.List.{list_all, list_any};
 ghost use Rattle.ess_semantics.specs.Lists.{is_empty, append_all};
 ghost use Rattle.ess_semantics.specs.Collections.{partition_of as the_partition, has_empty_part, has_overlap};
 ghost use Rattle.ess_core.specs.ValueViews.{pure_val};
-ghost use Rattle.ess_values.specs.Parts.{is_set, set_members};
+ghost use Rattle.ess_semantics.specs.Membership.{is_set};
+ghost use Rattle.ess_values.specs.Parts.{set_members};
 ghost use Rattle.ess_values.specs.declared.partitions.PartitionNo.TheVariants.{EmptyPart, Overlap};
 
 use crate::sorting::{neighbours_apart, sorted, sorted_once};
@@ -91,6 +92,9 @@ fn members(alloc: Global, part: &Val) -> Result<Row<Val>, NoMemory>
 {
     match part.copy(alloc)? {
         Val::Set(own) => Ok(own),
-        _ => Ok(Row::new(alloc)),
+        other => {
+            drop(other);
+            Ok(Row::new(alloc))
+        }
     }
 }

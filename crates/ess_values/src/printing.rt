@@ -5,10 +5,11 @@ ghost use Rattle.ess_core.specs.ValueViews.{pure_val, pure_vals, pure_field_val,
 ghost use Rattle.ess_core.specs.TableViews.{pure_type_entries, pure_env};
 ghost use Rattle.ess_grammar.specs.ValueTexts.{literal_of, value_text, value_texts, pair_texts, field_texts, with_commas, tuple_text, index_text, number_text, runs_text, runs_of};
 ghost use Rattle.ess_print_laws.specs.Spelled.{is_spelled};
-ghost use Rattle.ess_print_laws.specs.Laws.{ReadsInSubset, IsClosedExpression};
+ghost use Rattle.ess_print_laws.specs.Laws.{ReadsInSubset, IsClosedExpression, IsLettingOf};
 ghost use Rattle.ess_values_laws.specs.ItemNames.{item_name};
 ghost use Rattle.ess_values_laws.specs.Laws.{ReadsBack};
-ghost use Rattle.ess_values.specs.Printing.{comma_before, matrix_end, pair_text};
+ghost use Rattle.ess_print_laws.specs.Parts.{comma_before};
+ghost use Rattle.ess_values.specs.Printing.{matrix_end, pair_text};
 ghost use Rattle.ess_values.specs.Runs.{pure_run, pure_runs};
 
 use crate::naming::push_item;
@@ -17,13 +18,16 @@ use ess_core::{Env, FieldVal, NoMemory, Pair, Text, Val};
 use std::alloc::Global;
 
 /// The text of a value: the literal of its kind. Values of named types stand by the names that the env has for them. Where
-/// each number, name and part of it may be spelled, the text is read as that literal, and as nothing else. Where a literal
-/// that some text has has the value, in an env whose types have names of their own, and all numbers fit into 64 bits, the text
-/// is read as a literal of the same type that has the value. `NoMemory` where there is no room for the text.
+/// each number, name and part of it may be spelled, the text is read as that literal, and as nothing else; in a letting, behind
+/// `letting NAME be `, it is a file of lettings with that literal alone. Where a literal that some text has has the value, in an
+/// env whose types have names of their own, and all numbers fit into 64 bits, the text is read as a literal of the same type that
+/// has the value, alone and in a letting. `NoMemory` where there is no room for the text.
 pub fn print_val(alloc: Global, val: &Val, env: &Env) -> Result<Text, NoMemory>
     ensures text { IfOk result (λ t. t ≡ value_text (item_name (pure_type_entries env.now.types)) (pure_val val.now)) }
     ensures read { IfOk result (λ t. IsTrue (is_spelled (item_name (pure_type_entries env.now.types)) (pure_val val.now)) →
         ReadsInSubset t (IsClosedExpression (literal_of (item_name (pure_type_entries env.now.types)) (pure_val val.now)))) }
+    ensures letting { IfOk result (λ t. IsTrue (is_spelled (item_name (pure_type_entries env.now.types)) (pure_val val.now)) →
+        IsLettingOf (literal_of (item_name (pure_type_entries env.now.types)) (pure_val val.now)) t) }
     ensures value { IfOk result (ReadsBack (pure_env env.now) (pure_val val.now)) }
 {
     let mut out = Text::new(alloc);

@@ -1,9 +1,9 @@
-ghost use Rattle.std.specs.Prelude.{◌≡◌, map, option_map, IfOk};
+ghost use Rattle.std.specs.Prelude.{◌≡◌, [], ◌∷◌, map, option_map, IfOk};
 ghost use Rattle.ess_semantics.specs.Names.{keys};
 ghost use Rattle.ess_core.specs.TypeViews.{pure_ty, pure_field_ty};
 ghost use Rattle.ess_values.specs.Shapes.{pure_shape};
 
-use ess_core::{FieldTy, NoMemory, Row, Text, Ty};
+use ess_core::{Boxed, FieldTy, NoMemory, Row, Text, Ty};
 use std::alloc::Global;
 
 /// What a compound type is.
@@ -72,10 +72,10 @@ impl Shape {
             Shape::Bool => Ok(Shape::Bool),
             Shape::Int => Ok(Shape::Int),
             Shape::Named(name) => Ok(Shape::Named(name.copy(alloc)?)),
-            Shape::Node(kind, parts) => Ok(Shape::Node(
-                kind.copy(alloc)?,
-                copy_shapes(alloc, parts.as_slice())?,
-            )),
+            Shape::Node(kind, parts) => {
+                let copies = copy_shapes(alloc, parts.as_slice())?;
+                Ok(Shape::Node(kind.copy(alloc)?, copies))
+            }
         }
     }
 }
@@ -92,6 +92,25 @@ pub fn copy_shapes(alloc: Global, shapes: &[Shape]) -> Result<Row<Shape>, NoMemo
     Ok(copies)
 }
 
+/// A shape alone in a row. `NoMemory` where there is no room for it.
+pub fn one_shape(alloc: Global, shape: Boxed<Shape>) -> Result<Row<Shape>, NoMemory>
+    ensures { IfOk result (λ r. r ≡ shape ∷ []) }
+{
+    let mut row = Row::with_capacity(alloc, 1)?;
+    row.push(shape.into_inner())?;
+    Ok(row)
+}
+
+/// Two shapes in a row. `NoMemory` where there is no room for them.
+pub fn two_shapes(alloc: Global, a: Boxed<Shape>, b: Boxed<Shape>) -> Result<Row<Shape>, NoMemory>
+    ensures { IfOk result (λ r. r ≡ a ∷ b ∷ []) }
+{
+    let mut row = Row::with_capacity(alloc, 2)?;
+    row.push(a.into_inner())?;
+    row.push(b.into_inner())?;
+    Ok(row)
+}
+
 /// The shape of a type. `NoMemory` where there is no room for it.
 #[cycle(shape_of)]
 pub fn shape_of(alloc: Global, ty: &Ty) -> Result<Shape, NoMemory>
@@ -102,38 +121,46 @@ pub fn shape_of(alloc: Global, ty: &Ty) -> Result<Shape, NoMemory>
         Ty::Bool => Ok(Shape::Bool),
         Ty::Int => Ok(Shape::Int),
         Ty::Named(name) => Ok(Shape::Named(name.copy(alloc)?)),
-        Ty::Tuple(parts) => Ok(Shape::Node(Kind::Tuple, shapes_of(alloc, parts.as_slice())?)),
-        Ty::Rec(fields) => Ok(Shape::Node(
-            Kind::Rec(field_names(alloc, fields.as_slice())?),
-            field_shapes(alloc, fields.as_slice())?,
-        )),
-        Ty::Matrix(index, item) => Ok(Shape::Node(
-            Kind::Matrix,
-            Row::from_array(
-                alloc,
-                [shape_of(alloc, index.get())?, shape_of(alloc, item.get())?],
-            )?,
-        )),
-        Ty::Set(member) => Ok(Shape::Node(
-            Kind::Set,
-            Row::from_array(alloc, [shape_of(alloc, member.get())?])?,
-        )),
-        Ty::MSet(member) => Ok(Shape::Node(
-            Kind::MSet,
-            Row::from_array(alloc, [shape_of(alloc, member.get())?])?,
-        )),
-        Ty::Function(from, to) => Ok(Shape::Node(
-            Kind::Function,
-            Row::from_array(
-                alloc,
-                [shape_of(alloc, from.get())?, shape_of(alloc, to.get())?],
-            )?,
-        )),
-        Ty::Relation(parts) => Ok(Shape::Node(Kind::Relation, shapes_of(alloc, parts.as_slice())?)),
-        Ty::Partition(member) => Ok(Shape::Node(
-            Kind::Partition,
-            Row::from_array(alloc, [shape_of(alloc, member.get())?])?,
-        )),
+        Ty::Tuple(parts) => {
+            let shapes = shapes_of(alloc, parts.as_slice())?;
+            Ok(Shape::Node(Kind::Tuple, shapes))
+        }
+        Ty::Rec(fields) => {
+            let shapes = field_shapes(alloc, fields.as_slice())?;
+            let names = field_names(alloc, fields.as_slice())?;
+            Ok(Shape::Node(Kind::Rec(names), shapes))
+        }
+        Ty::Matrix(index, item) => {
+            let first = Boxed::new(alloc, shape_of(alloc, index.get())?)?;
+            let last = Boxed::new(alloc, shape_of(alloc, item.get())?)?;
+            let shapes = two_shapes(alloc, first, last)?;
+            Ok(Shape::Node(Kind::Matrix, shapes))
+        }
+        Ty::Set(member) => {
+            let part = Boxed::new(alloc, shape_of(alloc, member.get())?)?;
+            let shapes = one_shape(alloc, part)?;
+            Ok(Shape::Node(Kind::Set, shapes))
+        }
+        Ty::MSet(member) => {
+            let part = Boxed::new(alloc, shape_of(alloc, member.get())?)?;
+            let shapes = one_shape(alloc, part)?;
+            Ok(Shape::Node(Kind::MSet, shapes))
+        }
+        Ty::Function(from, to) => {
+            let first = Boxed::new(alloc, shape_of(alloc, from.get())?)?;
+            let last = Boxed::new(alloc, shape_of(alloc, to.get())?)?;
+            let shapes = two_shapes(alloc, first, last)?;
+            Ok(Shape::Node(Kind::Function, shapes))
+        }
+        Ty::Relation(parts) => {
+            let shapes = shapes_of(alloc, parts.as_slice())?;
+            Ok(Shape::Node(Kind::Relation, shapes))
+        }
+        Ty::Partition(member) => {
+            let part = Boxed::new(alloc, shape_of(alloc, member.get())?)?;
+            let shapes = one_shape(alloc, part)?;
+            Ok(Shape::Node(Kind::Partition, shapes))
+        }
     }
 }
 

@@ -10,10 +10,11 @@ use Rattle.ess_grammar.specs.Readable.{ReadableEx}
 use Rattle.ess_grammar.specs.ValueTexts.{literal_of}
 use Rattle.ess_print_laws.specs.Expressions.{ex_pieces}
 use Rattle.ess_print_laws.specs.Spelled.{is_spelled}
-use Rattle.ess_print_laws.specs.Laws.{ReadsInSubset, IsClosedExpression}
+use Rattle.ess_print_laws.specs.Laws.{ReadsInSubset, IsClosedExpression, IsLettingOf}
 use Rattle.ess_print_laws.proofs.LexedPieces.{printed-tokens, printed-inside}
 use Rattle.ess_print_laws.proofs.SafeTrees.{ex-safe}
 use Rattle.ess_print_laws.proofs.Expressions.{ex-printed}
+use Rattle.ess_print_laws.proofs.Lettings.{expression-letting}
 use Rattle.ess_print_laws.proofs.ValueTexts.{value-text-is}
 use Rattle.ess_print_laws.proofs.SpelledReadable.{value-readable}
 use Rattle.ess_values_laws.specs.ItemNames.{item_name}
@@ -38,5 +39,6 @@ read-back e t v env names h s =
     let r = (ex-printed x (value-readable n v s)).reads [] in (
       subst (λ w. ReadsInSubset w (IsClosedExpression x)) (value-text-is n v s)
           ((_, printed-tokens (ex_pieces x []) safe, (r.shape, r.level, r.derivation)), printed-inside (ex_pieces x []) safe),
+      subst (IsLettingOf x) (value-text-is n v s) (expression-letting x (value-readable n v s)),
       kept-value env names e t v h,
     )

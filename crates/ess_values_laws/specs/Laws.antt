@@ -9,7 +9,7 @@ use Rattle.ess_semantics.specs.Literals.{literal_value}
 use Rattle.ess_grammar.specs.Readable.{ReadableEx}
 use Rattle.ess_grammar.specs.ValueTexts.{value_text, literal_of}
 use Rattle.ess_print_laws.specs.Spelled.{is_spelled}
-use Rattle.ess_print_laws.specs.Laws.{ReadsInSubset, IsClosedExpression}
+use Rattle.ess_print_laws.specs.Laws.{ReadsInSubset, IsClosedExpression, IsLettingOf}
 use Rattle.ess_values_laws.specs.ItemNames.{item_name}
 use Rattle.ess_values_laws.specs.Spellable.{numbers_fit, parts_fit, have_name_tokens}
 
@@ -30,10 +30,11 @@ pub record ValuesOfLiteralsAreSpelled : Type 0 where
   pub of_named : (e : Ex) (t : Ty) (v : Value) (env : Env) → HasItemNames env → IsTrue (have_name_tokens env.types) → literal_value e t env ≡ Some v →
       IsTrue (numbers_fit v) → IsTrue (parts_fit v) → IsTrue (is_spelled (item_name env.types) v)
 
--- The text is read as the literal that is printed for the value, and this literal of type t has the value.
+-- The text is read as the literal that is printed for the value, alone and in a file of lettings behind `letting NAME be `, and
+-- this literal of type t has the value.
 abbrev pub ReadsAsValue : Text → Env → Ty → Value → Type 0
 ReadsAsValue text env t v =
-    ReadsInSubset text (IsClosedExpression (literal_of (item_name env.types) v)) × (literal_value (literal_of (item_name env.types) v) t env ≡ Some v)
+    ReadsInSubset text (IsClosedExpression (literal_of (item_name env.types) v)) × IsLettingOf (literal_of (item_name env.types) v) text × (literal_value (literal_of (item_name env.types) v) t env ≡ Some v)
 
 -- The text of a value is read as a literal of type t that has it.
 abbrev pub IsReadBack : Env → Ty → Value → Type 0

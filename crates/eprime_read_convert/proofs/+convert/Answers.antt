@@ -28,7 +28,7 @@ expressions::convert_ex-returns-in_ok-convert_ex-in-One t c =
 
 pub expressions::convert_ex-returns-in_ok-right-in-Some : goal.expressions::convert_ex-returns-in_ok-right-in-Some
 expressions::convert_ex-returns-in_ok-right-in-Some t c =
-    lex_converted (scope_of c.args.lines.now) c.args.finds c.args.bound.now c.args.ex.now _ _ _ _ c.in-Two.op c.in-Some.sign _ _ _ c.in-Two.is c.get-in-Some.ensures c.get-in-Some-2.ensures (sym (ap (option_map pure_op2) c.in-Some.is) ∙ c.infix.ensures) (sym c.is_lex.ensures ∙ c.if-is_lex.true) c.in_ok-left-in-Some.ensures c.in_ok-right-in-Some.ensures (c.lex.ensures (scope_of c.args.lines.now))
+    if_ok c.lex.result c.lex.ensures (λ o h. lex_converted (scope_of c.args.lines.now) c.args.finds c.args.bound.now c.args.ex.now _ _ _ _ c.in-Two.op c.in-Some.sign _ _ _ c.in-Two.is c.get-in-Some.ensures c.get-in-Some-2.ensures (sym (ap (option_map pure_op2) c.in-Some.is) ∙ c.infix.ensures) (sym c.is_lex.ensures ∙ c.if-is_lex.true) c.in_ok-left-in-Some.ensures c.in_ok-right-in-Some.ensures (h (scope_of c.args.lines.now)))
 
 pub expressions::convert_ex-returns-in_ok-right-in-Some-2 : goal.expressions::convert_ex-returns-in_ok-right-in-Some-2
 expressions::convert_ex-returns-in_ok-right-in-Some-2 t c =
@@ -36,11 +36,11 @@ expressions::convert_ex-returns-in_ok-right-in-Some-2 t c =
 
 pub expressions::convert_word-returns-in_ok-convert_list-in-Some : goal.expressions::convert_word-returns-in_ok-convert_list-in-Some
 expressions::convert_word-returns-in_ok-convert_list-in-Some t c =
-    fold_converted (scope_of c.args.lines.now) c.args.finds c.args.bound.now c.args.fun c.in-Some.word c.args.only.now _ _ (sym (ap (option_map pure_fun) c.in-Some.is) ∙ c.fold_word.ensures) c.in_ok-convert_list-in-Some.ensures (c.fold.ensures (scope_of c.args.lines.now))
+    if_ok c.fold.result c.fold.ensures (λ o h. fold_converted (scope_of c.args.lines.now) c.args.finds c.args.bound.now c.args.fun c.in-Some.word c.args.only.now _ _ (sym (ap (option_map pure_fun) c.in-Some.is) ∙ c.fold_word.ensures) c.in_ok-convert_list-in-Some.ensures (h (scope_of c.args.lines.now)))
 
 pub lists::convert_list-returns-in_ok-items-in-Comp : goal.lists::convert_list-returns-in_ok-items-in-Comp
 lists::convert_list-returns-in_ok-items-in-Comp t c =
-    if_ok c.comp.result c.comp.ensures (λ o h. comp_converted (scope_of c.args.lines.now) c.args.finds c.args.bound.now c.args.ex.now _ _ _ _ _ _ _ _ _ c.in-Comp.is c.get.ensures c.as_slice-in-Comp.ensures c.as_slice-in-Comp-2.ensures c.requires c.in_ok-inner-in-Comp.ensures c.in_ok-item-in-Comp.ensures c.in_ok-items-in-Comp.ensures (h (scope_of c.args.lines.now)))
+    comp_converted (scope_of c.args.lines.now) c.args.finds c.args.bound.now c.args.ex.now _ _ _ _ _ _ _ _ _ c.in-Comp.is c.get.ensures c.as_slice-in-Comp.ensures c.as_slice-in-Comp-2.ensures c.requires c.in_ok-inner-in-Comp.ensures c.in_ok-item-in-Comp.ensures c.in_ok-items-in-Comp.ensures (c.comp.ensures (scope_of c.args.lines.now))
 
 pub domains::convert_range-returns-in_ok-last-in-Some-high : goal.domains::convert_range-returns-in_ok-last-in-Some-high
 domains::convert_range-returns-in_ok-last-in-Some-high t c =

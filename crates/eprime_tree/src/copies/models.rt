@@ -39,12 +39,16 @@ impl PModel {
     pub fn copy(&self, alloc: Global) -> Result<PModel, NoMemory>
         ensures { IfOk result (λ m. m ≡ self.now) }
     {
+        let head = copy_lines(alloc, &self.head)?;
+        let givens = copy_decls(alloc, &self.givens)?;
+        let finds = copy_decls(alloc, &self.finds)?;
+        let rules = copy_rules(alloc, &self.rules)?;
         Ok(PModel {
-            head: copy_lines(alloc, &self.head)?,
-            givens: copy_decls(alloc, &self.givens)?,
-            finds: copy_decls(alloc, &self.finds)?,
+            head,
+            givens,
+            finds,
             goal: self.goal.copy(alloc)?,
-            rules: copy_rules(alloc, &self.rules)?,
+            rules,
         })
     }
 }

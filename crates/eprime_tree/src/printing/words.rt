@@ -3,7 +3,8 @@ ghost use Rattle.std.specs.Prelude.{◌≡◌, OnOk, ◌++◌};
 ghost use Rattle.ess_print_laws.specs.Pieces.{piece_text};
 ghost use Rattle.ess_print_laws.specs.Parts.{truth_piece};
 ghost use Rattle.eprime_tree.specs.Views.{pure_op2, pure_fun};
-ghost use Rattle.eprime_tree.specs.Printed.{comma_before, line_before, spaced_operator, opened_call};
+ghost use Rattle.ess_print_laws.specs.Parts.{comma_before};
+ghost use Rattle.eprime_tree.specs.Printed.{line_before, spaced_operator, opened_call};
 
 use crate::{PFun, POp2};
 use ess_rows::{NoMemory, Text};

@@ -1,7 +1,8 @@
 ghost use Rattle.std.specs.Prelude.{◌≡◌, IfOk};
 
+use super::{both, boxed};
 use crate::{Attr, Dom, Ex, FieldDom, Range};
-use ess_rows::{Boxed, NoMemory, Row};
+use ess_rows::{NoMemory, Row};
 use std::alloc::Global;
 
 impl Dom {
@@ -12,41 +13,39 @@ impl Dom {
     {
         match self {
             Dom::Bool => Ok(Dom::Bool),
-            Dom::Int(ranges) => Ok(Dom::Int(copy_ranges(alloc, ranges)?)),
-            Dom::Name(name) => Ok(Dom::Name(name.copy(alloc)?)),
-            Dom::Tuple(doms) => Ok(Dom::Tuple(copy_doms(alloc, doms)?)),
-            Dom::Rec(fields) => Ok(Dom::Rec(copy_fields(alloc, fields)?)),
+            Dom::Int(ranges) => copy_ranges(alloc, ranges).map(Dom::Int),
+            Dom::Name(name) => name.copy(alloc).map(Dom::Name),
+            Dom::Tuple(doms) => copy_doms(alloc, doms).map(Dom::Tuple),
+            Dom::Rec(fields) => copy_fields(alloc, fields).map(Dom::Rec),
             Dom::Matrix(axes, item) => {
-                Ok(Dom::Matrix(
-                    copy_doms(alloc, axes)?,
-                    Boxed::new(alloc, item.get().copy(alloc)?)?,
-                ))
+                let item = boxed(alloc, item.get().copy(alloc));
+                let (axes, item) = both(copy_doms(alloc, axes), item)?;
+                Ok(Dom::Matrix(axes, item))
             }
             Dom::Set(attrs, member) => {
-                Ok(Dom::Set(
-                    copy_attrs(alloc, attrs)?,
-                    Boxed::new(alloc, member.get().copy(alloc)?)?,
-                ))
+                let member = boxed(alloc, member.get().copy(alloc));
+                let (attrs, member) = both(copy_attrs(alloc, attrs), member)?;
+                Ok(Dom::Set(attrs, member))
             }
             Dom::MSet(attrs, member) => {
-                Ok(Dom::MSet(
-                    copy_attrs(alloc, attrs)?,
-                    Boxed::new(alloc, member.get().copy(alloc)?)?,
-                ))
+                let member = boxed(alloc, member.get().copy(alloc));
+                let (attrs, member) = both(copy_attrs(alloc, attrs), member)?;
+                Ok(Dom::MSet(attrs, member))
             }
-            Dom::Function(attrs, from, to) => Ok(Dom::Function(
-                copy_attrs(alloc, attrs)?,
-                Boxed::new(alloc, from.get().copy(alloc)?)?,
-                Boxed::new(alloc, to.get().copy(alloc)?)?,
-            )),
+            Dom::Function(attrs, from, to) => {
+                let from = boxed(alloc, from.get().copy(alloc));
+                let to = boxed(alloc, to.get().copy(alloc));
+                let (attrs, (from, to)) = both(copy_attrs(alloc, attrs), both(from, to))?;
+                Ok(Dom::Function(attrs, from, to))
+            }
             Dom::Relation(attrs, doms) => {
-                Ok(Dom::Relation(copy_attrs(alloc, attrs)?, copy_doms(alloc, doms)?))
+                let (attrs, doms) = both(copy_attrs(alloc, attrs), copy_doms(alloc, doms))?;
+                Ok(Dom::Relation(attrs, doms))
             }
             Dom::Partition(attrs, member) => {
-                Ok(Dom::Partition(
-                    copy_attrs(alloc, attrs)?,
-                    Boxed::new(alloc, member.get().copy(alloc)?)?,
-                ))
+                let member = boxed(alloc, member.get().copy(alloc));
+                let (attrs, member) = both(copy_attrs(alloc, attrs), member)?;
+                Ok(Dom::Partition(attrs, member))
             }
         }
     }
@@ -58,10 +57,10 @@ impl FieldDom {
     pub fn copy(&self, alloc: Global) -> Result<FieldDom, NoMemory>
         ensures { IfOk result (λ f. f ≡ self.now) }
     {
-        Ok(FieldDom {
-            name: self.name.copy(alloc)?,
-            dom: self.dom.copy(alloc)?,
-        })
+        match both(self.name.copy(alloc), self.dom.copy(alloc)) {
+            Ok((name, dom)) => Ok(FieldDom { name, dom }),
+            Err(no) => Err(no),
+        }
     }
 }
 
@@ -72,11 +71,13 @@ impl Range {
         ensures { IfOk result (λ r. r ≡ self.now) }
     {
         match self {
-            Range::One(ex) => Ok(Range::One(ex.copy(alloc)?)),
-            Range::Span(low, high) => Ok(Range::Span(
-                copy_maybe(alloc, low)?,
-                copy_maybe(alloc, high)?,
-            )),
+            Range::One(ex) => ex.copy(alloc).map(Range::One),
+            Range::Span(low, high) => {
+                match both(copy_maybe(alloc, low), copy_maybe(alloc, high)) {
+                    Ok((low, high)) => Ok(Range::Span(low, high)),
+                    Err(no) => Err(no),
+                }
+            }
         }
     }
 }
@@ -87,10 +88,13 @@ impl Attr {
     pub fn copy(&self, alloc: Global) -> Result<Attr, NoMemory>
         ensures { IfOk result (λ a. a ≡ self.now) }
     {
-        Ok(Attr {
-            key: self.key,
-            value: copy_maybe(alloc, &self.value)?,
-        })
+        match copy_maybe(alloc, &self.value) {
+            Ok(value) => Ok(Attr {
+                key: self.key,
+                value,
+            }),
+            Err(no) => Err(no),
+        }
     }
 }
 
@@ -100,7 +104,7 @@ fn copy_maybe(alloc: Global, ex: &Option<Ex>) -> Result<Option<Ex>, NoMemory>
 {
     match ex {
         None => Ok(None),
-        Some(ex) => Ok(Some(ex.copy(alloc)?)),
+        Some(ex) => ex.copy(alloc).map(Some),
     }
 }
 
@@ -110,7 +114,10 @@ fn copy_doms(alloc: Global, doms: &Row<Dom>) -> Result<Row<Dom>, NoMemory>
 {
     let mut copies = Row::with_capacity(alloc, doms.len())?;
     for dom in doms.as_slice() {
-        copies.push(dom.copy(alloc)?)?;
+        match dom.copy(alloc) {
+            Ok(copy) => copies.push(copy)?,
+            Err(no) => return Err(no),
+        }
     }
     Ok(copies)
 }
@@ -121,7 +128,10 @@ fn copy_fields(alloc: Global, fields: &Row<FieldDom>) -> Result<Row<FieldDom>, N
 {
     let mut copies = Row::with_capacity(alloc, fields.len())?;
     for field in fields.as_slice() {
-        copies.push(field.copy(alloc)?)?;
+        match field.copy(alloc) {
+            Ok(copy) => copies.push(copy)?,
+            Err(no) => return Err(no),
+        }
     }
     Ok(copies)
 }
@@ -132,7 +142,10 @@ fn copy_ranges(alloc: Global, ranges: &Row<Range>) -> Result<Row<Range>, NoMemor
 {
     let mut copies = Row::with_capacity(alloc, ranges.len())?;
     for range in ranges.as_slice() {
-        copies.push(range.copy(alloc)?)?;
+        match range.copy(alloc) {
+            Ok(copy) => copies.push(copy)?,
+            Err(no) => return Err(no),
+        }
     }
     Ok(copies)
 }
@@ -143,7 +156,10 @@ fn copy_attrs(alloc: Global, attrs: &Row<Attr>) -> Result<Row<Attr>, NoMemory>
 {
     let mut copies = Row::with_capacity(alloc, attrs.len())?;
     for attr in attrs.as_slice() {
-        copies.push(attr.copy(alloc)?)?;
+        match attr.copy(alloc) {
+            Ok(copy) => copies.push(copy)?,
+            Err(no) => return Err(no),
+        }
     }
     Ok(copies)
 }

@@ -1,6 +1,6 @@
 ghost use Rattle.std.specs.Prelude.{◌≡◌, IfOk};
 
-use crate::copies::copy_texts;
+use super::{both, boxed, copy_texts};
 use crate::{Dom, Ex, FieldEx, Gen, PairEx, Pat, Step, View};
 use ess_rows::{Boxed, NoMemory, Row};
 use std::alloc::Global;
@@ -14,47 +14,51 @@ impl Ex {
         match self {
             Ex::Num(number) => Ok(Ex::Num(*number)),
             Ex::Truth(truth) => Ok(Ex::Truth(*truth)),
-            Ex::Name(name) => Ok(Ex::Name(name.copy(alloc)?)),
-            Ex::One(op, a) => Ok(Ex::One(*op, Boxed::new(alloc, a.get().copy(alloc)?)?)),
-            Ex::Two(op, a, b) => Ok(Ex::Two(
-                *op,
-                Boxed::new(alloc, a.get().copy(alloc)?)?,
-                Boxed::new(alloc, b.get().copy(alloc)?)?,
-            )),
-            Ex::Call(truth, fun, args) => Ok(Ex::Call(*truth, *fun, copy_exs(alloc, args)?)),
-            Ex::At(truth, a, steps) => Ok(Ex::At(
-                *truth,
-                Boxed::new(alloc, a.get().copy(alloc)?)?,
-                copy_steps(alloc, steps)?,
-            )),
-            Ex::Apply(truth, f, args) => Ok(Ex::Apply(
-                *truth,
-                Boxed::new(alloc, f.get().copy(alloc)?)?,
-                copy_exs(alloc, args)?,
-            )),
-            Ex::Tuple(items) => Ok(Ex::Tuple(copy_exs(alloc, items)?)),
-            Ex::Rec(fields) => Ok(Ex::Rec(copy_fields(alloc, fields)?)),
-            Ex::Set(members) => Ok(Ex::Set(copy_exs(alloc, members)?)),
-            Ex::MSet(members) => Ok(Ex::MSet(copy_exs(alloc, members)?)),
-            Ex::Function(pairs) => Ok(Ex::Function(copy_pairs(alloc, pairs)?)),
-            Ex::Relation(tuples) => Ok(Ex::Relation(copy_exs(alloc, tuples)?)),
-            Ex::Partition(parts) => Ok(Ex::Partition(copy_exs(alloc, parts)?)),
-            Ex::Matrix(items, axis) => Ok(Ex::Matrix(
-                copy_exs(alloc, items)?,
-                copy_axis(alloc, axis)?,
-            )),
-            Ex::Comp(body, gens) => {
-                Ok(Ex::Comp(
-                    Boxed::new(alloc, body.get().copy(alloc)?)?,
-                    copy_gens(alloc, gens)?,
-                ))
+            Ex::Name(name) => name.copy(alloc).map(Ex::Name),
+            Ex::One(op, a) => {
+                let a = boxed(alloc, a.get().copy(alloc))?;
+                Ok(Ex::One(*op, a))
             }
-            Ex::Cell(truth, name, at) => Ok(Ex::Cell(
-                *truth,
-                name.copy(alloc)?,
-                copy_exs(alloc, at)?,
-            )),
-            Ex::Seen(view) => Ok(Ex::Seen(Boxed::new(alloc, view.get().copy(alloc)?)?)),
+            Ex::Two(op, a, b) => {
+                let a = boxed(alloc, a.get().copy(alloc));
+                let (a, b) = both(a, boxed(alloc, b.get().copy(alloc)))?;
+                Ok(Ex::Two(*op, a, b))
+            }
+            Ex::Call(truth, fun, args) => {
+                let args = copy_exs(alloc, args)?;
+                Ok(Ex::Call(*truth, *fun, args))
+            }
+            Ex::At(truth, a, steps) => {
+                let a = boxed(alloc, a.get().copy(alloc));
+                let (a, steps) = both(a, copy_steps(alloc, steps))?;
+                Ok(Ex::At(*truth, a, steps))
+            }
+            Ex::Apply(truth, f, args) => {
+                let f = boxed(alloc, f.get().copy(alloc));
+                let (f, args) = both(f, copy_exs(alloc, args))?;
+                Ok(Ex::Apply(*truth, f, args))
+            }
+            Ex::Tuple(items) => copy_exs(alloc, items).map(Ex::Tuple),
+            Ex::Rec(fields) => copy_fields(alloc, fields).map(Ex::Rec),
+            Ex::Set(members) => copy_exs(alloc, members).map(Ex::Set),
+            Ex::MSet(members) => copy_exs(alloc, members).map(Ex::MSet),
+            Ex::Function(pairs) => copy_pairs(alloc, pairs).map(Ex::Function),
+            Ex::Relation(tuples) => copy_exs(alloc, tuples).map(Ex::Relation),
+            Ex::Partition(parts) => copy_exs(alloc, parts).map(Ex::Partition),
+            Ex::Matrix(items, axis) => {
+                let (items, axis) = both(copy_exs(alloc, items), copy_axis(alloc, axis))?;
+                Ok(Ex::Matrix(items, axis))
+            }
+            Ex::Comp(body, gens) => {
+                let body = boxed(alloc, body.get().copy(alloc));
+                let (body, gens) = both(body, copy_gens(alloc, gens))?;
+                Ok(Ex::Comp(body, gens))
+            }
+            Ex::Cell(truth, name, at) => {
+                let (name, at) = both(name.copy(alloc), copy_exs(alloc, at))?;
+                Ok(Ex::Cell(*truth, name, at))
+            }
+            Ex::Seen(view) => boxed(alloc, view.get().copy(alloc)).map(Ex::Seen),
         }
     }
 }
@@ -66,9 +70,9 @@ impl Step {
         ensures { IfOk result (λ s. s ≡ self.now) }
     {
         match self {
-            Step::Value(ex) => Ok(Step::Value(ex.copy(alloc)?)),
+            Step::Value(ex) => ex.copy(alloc).map(Step::Value),
             Step::Component(number) => Ok(Step::Component(*number)),
-            Step::Field(name) => Ok(Step::Field(name.copy(alloc)?)),
+            Step::Field(name) => name.copy(alloc).map(Step::Field),
         }
     }
 }
@@ -79,10 +83,10 @@ impl FieldEx {
     pub fn copy(&self, alloc: Global) -> Result<FieldEx, NoMemory>
         ensures { IfOk result (λ f. f ≡ self.now) }
     {
-        Ok(FieldEx {
-            name: self.name.copy(alloc)?,
-            ex: self.ex.copy(alloc)?,
-        })
+        match both(self.name.copy(alloc), self.ex.copy(alloc)) {
+            Ok((name, ex)) => Ok(FieldEx { name, ex }),
+            Err(no) => Err(no),
+        }
     }
 }
 
@@ -92,10 +96,10 @@ impl PairEx {
     pub fn copy(&self, alloc: Global) -> Result<PairEx, NoMemory>
         ensures { IfOk result (λ p. p ≡ self.now) }
     {
-        Ok(PairEx {
-            from: self.from.copy(alloc)?,
-            to: self.to.copy(alloc)?,
-        })
+        match both(self.from.copy(alloc), self.to.copy(alloc)) {
+            Ok((from, to)) => Ok(PairEx { from, to }),
+            Err(no) => Err(no),
+        }
     }
 }
 
@@ -106,9 +110,15 @@ impl Gen {
         ensures { IfOk result (λ g. g ≡ self.now) }
     {
         match self {
-            Gen::Over(pat, dom) => Ok(Gen::Over(pat.copy(alloc)?, dom.copy(alloc)?)),
-            Gen::From(pat, ex) => Ok(Gen::From(pat.copy(alloc)?, ex.copy(alloc)?)),
-            Gen::If(ex) => Ok(Gen::If(ex.copy(alloc)?)),
+            Gen::Over(pat, dom) => match both(pat.copy(alloc), dom.copy(alloc)) {
+                Ok((pat, dom)) => Ok(Gen::Over(pat, dom)),
+                Err(no) => Err(no),
+            },
+            Gen::From(pat, ex) => match both(pat.copy(alloc), ex.copy(alloc)) {
+                Ok((pat, ex)) => Ok(Gen::From(pat, ex)),
+                Err(no) => Err(no),
+            },
+            Gen::If(ex) => ex.copy(alloc).map(Gen::If),
         }
     }
 }
@@ -119,12 +129,17 @@ impl View {
     pub fn copy(&self, alloc: Global) -> Result<View, NoMemory>
         ensures { IfOk result (λ v. v ≡ self.now) }
     {
-        Ok(View {
-            repr: self.repr.copy(alloc)?,
-            dom: self.dom.copy(alloc)?,
-            cells: copy_texts(alloc, &self.cells)?,
-            at: copy_exs(alloc, &self.at)?,
-        })
+        let kept = both(self.repr.copy(alloc), copy_texts(alloc, &self.cells));
+        let seen = both(self.dom.copy(alloc), copy_exs(alloc, &self.at));
+        match both(kept, seen) {
+            Ok(((repr, cells), (dom, at))) => Ok(View {
+                repr,
+                dom,
+                cells,
+                at,
+            }),
+            Err(no) => Err(no),
+        }
     }
 }
 
@@ -135,8 +150,8 @@ impl Pat {
         ensures { IfOk result (λ p. p ≡ self.now) }
     {
         match self {
-            Pat::Name(name) => Ok(Pat::Name(name.copy(alloc)?)),
-            Pat::Tuple(pats) => Ok(Pat::Tuple(copy_pats(alloc, pats)?)),
+            Pat::Name(name) => name.copy(alloc).map(Pat::Name),
+            Pat::Tuple(pats) => copy_pats(alloc, pats).map(Pat::Tuple),
         }
     }
 }
@@ -147,7 +162,10 @@ fn copy_pats(alloc: Global, pats: &Row<Pat>) -> Result<Row<Pat>, NoMemory>
 {
     let mut copies = Row::with_capacity(alloc, pats.len())?;
     for pat in pats.as_slice() {
-        copies.push(pat.copy(alloc)?)?;
+        match pat.copy(alloc) {
+            Ok(copy) => copies.push(copy)?,
+            Err(no) => return Err(no),
+        }
     }
     Ok(copies)
 }
@@ -158,7 +176,7 @@ fn copy_axis(alloc: Global, axis: &Option<Boxed<Dom>>) -> Result<Option<Boxed<Do
 {
     match axis {
         None => Ok(None),
-        Some(dom) => Ok(Some(Boxed::new(alloc, dom.get().copy(alloc)?)?)),
+        Some(dom) => boxed(alloc, dom.get().copy(alloc)).map(Some),
     }
 }
 
@@ -168,7 +186,10 @@ fn copy_exs(alloc: Global, exs: &Row<Ex>) -> Result<Row<Ex>, NoMemory>
 {
     let mut copies = Row::with_capacity(alloc, exs.len())?;
     for ex in exs.as_slice() {
-        copies.push(ex.copy(alloc)?)?;
+        match ex.copy(alloc) {
+            Ok(copy) => copies.push(copy)?,
+            Err(no) => return Err(no),
+        }
     }
     Ok(copies)
 }
@@ -179,7 +200,10 @@ fn copy_steps(alloc: Global, steps: &Row<Step>) -> Result<Row<Step>, NoMemory>
 {
     let mut copies = Row::with_capacity(alloc, steps.len())?;
     for step in steps.as_slice() {
-        copies.push(step.copy(alloc)?)?;
+        match step.copy(alloc) {
+            Ok(copy) => copies.push(copy)?,
+            Err(no) => return Err(no),
+        }
     }
     Ok(copies)
 }
@@ -190,7 +214,10 @@ fn copy_fields(alloc: Global, fields: &Row<FieldEx>) -> Result<Row<FieldEx>, NoM
 {
     let mut copies = Row::with_capacity(alloc, fields.len())?;
     for field in fields.as_slice() {
-        copies.push(field.copy(alloc)?)?;
+        match field.copy(alloc) {
+            Ok(copy) => copies.push(copy)?,
+            Err(no) => return Err(no),
+        }
     }
     Ok(copies)
 }
@@ -201,7 +228,10 @@ fn copy_pairs(alloc: Global, pairs: &Row<PairEx>) -> Result<Row<PairEx>, NoMemor
 {
     let mut copies = Row::with_capacity(alloc, pairs.len())?;
     for pair in pairs.as_slice() {
-        copies.push(pair.copy(alloc)?)?;
+        match pair.copy(alloc) {
+            Ok(copy) => copies.push(copy)?,
+            Err(no) => return Err(no),
+        }
     }
     Ok(copies)
 }
@@ -212,7 +242,10 @@ fn copy_gens(alloc: Global, gens: &Row<Gen>) -> Result<Row<Gen>, NoMemory>
 {
     let mut copies = Row::with_capacity(alloc, gens.len())?;
     for item in gens.as_slice() {
-        copies.push(item.copy(alloc)?)?;
+        match item.copy(alloc) {
+            Ok(copy) => copies.push(copy)?,
+            Err(no) => return Err(no),
+        }
     }
     Ok(copies)
 }

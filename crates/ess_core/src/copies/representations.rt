@@ -11,7 +11,10 @@ impl Repr {
     {
         let mut children = Row::with_capacity(alloc, self.children.len())?;
         for child in self.children.as_slice() {
-            children.push(child.copy(alloc)?)?;
+            match child.copy(alloc) {
+                Ok(copy) => children.push(copy)?,
+                Err(no) => return Err(no),
+            }
         }
         Ok(Repr {
             kind: self.kind,

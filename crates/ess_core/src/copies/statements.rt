@@ -1,6 +1,6 @@
 ghost use Rattle.std.specs.Prelude.{◌≡◌, IfOk};
 
-use crate::copies::copy_texts;
+use super::{both, boxed, copy_texts};
 use crate::{Spec, Stm};
 use ess_rows::{NoMemory, Row};
 use std::alloc::Global;
@@ -11,23 +11,35 @@ impl Stm {
         ensures { IfOk result (λ s. s ≡ self.now) }
     {
         match self {
-            Stm::Given(name, dom) => Ok(Stm::Given(name.copy(alloc)?, dom.copy(alloc)?)),
-            Stm::GivenEnum(name) => Ok(Stm::GivenEnum(name.copy(alloc)?)),
-            Stm::LetEx(name, ex) => Ok(Stm::LetEx(name.copy(alloc)?, ex.copy(alloc)?)),
-            Stm::LetDom(name, dom) => Ok(Stm::LetDom(name.copy(alloc)?, dom.copy(alloc)?)),
-            Stm::LetEnum(name, values) => Ok(Stm::LetEnum(
-                name.copy(alloc)?,
-                copy_texts(alloc, values)?,
-            )),
-            Stm::LetUnnamed(name, size) => Ok(Stm::LetUnnamed(
-                name.copy(alloc)?,
-                size.copy(alloc)?,
-            )),
-            Stm::Needs(ex) => Ok(Stm::Needs(ex.copy(alloc)?)),
-            Stm::Find(name, dom) => Ok(Stm::Find(name.copy(alloc)?, dom.copy(alloc)?)),
-            Stm::SuchThat(ex) => Ok(Stm::SuchThat(ex.copy(alloc)?)),
-            Stm::Minimise(ex) => Ok(Stm::Minimise(ex.copy(alloc)?)),
-            Stm::Maximise(ex) => Ok(Stm::Maximise(ex.copy(alloc)?)),
+            Stm::Given(name, dom) => {
+                let (name, dom) = both(name.copy(alloc), boxed(alloc, dom.get().copy(alloc)))?;
+                Ok(Stm::Given(name, dom))
+            }
+            Stm::GivenEnum(name) => name.copy(alloc).map(Stm::GivenEnum),
+            Stm::LetEx(name, ex) => {
+                let (name, ex) = both(name.copy(alloc), boxed(alloc, ex.get().copy(alloc)))?;
+                Ok(Stm::LetEx(name, ex))
+            }
+            Stm::LetDom(name, dom) => {
+                let (name, dom) = both(name.copy(alloc), boxed(alloc, dom.get().copy(alloc)))?;
+                Ok(Stm::LetDom(name, dom))
+            }
+            Stm::LetEnum(name, values) => {
+                let (name, values) = both(name.copy(alloc), copy_texts(alloc, values))?;
+                Ok(Stm::LetEnum(name, values))
+            }
+            Stm::LetUnnamed(name, size) => {
+                let (name, size) = both(name.copy(alloc), boxed(alloc, size.get().copy(alloc)))?;
+                Ok(Stm::LetUnnamed(name, size))
+            }
+            Stm::Needs(ex) => boxed(alloc, ex.get().copy(alloc)).map(Stm::Needs),
+            Stm::Find(name, dom) => {
+                let (name, dom) = both(name.copy(alloc), boxed(alloc, dom.get().copy(alloc)))?;
+                Ok(Stm::Find(name, dom))
+            }
+            Stm::SuchThat(ex) => boxed(alloc, ex.get().copy(alloc)).map(Stm::SuchThat),
+            Stm::Minimise(ex) => boxed(alloc, ex.get().copy(alloc)).map(Stm::Minimise),
+            Stm::Maximise(ex) => boxed(alloc, ex.get().copy(alloc)).map(Stm::Maximise),
         }
     }
 }
@@ -39,7 +51,10 @@ impl Spec {
     {
         let mut stms = Row::with_capacity(alloc, self.stms.len())?;
         for stm in self.stms.as_slice() {
-            stms.push(stm.copy(alloc)?)?;
+            match stm.copy(alloc) {
+                Ok(copy) => stms.push(copy)?,
+                Err(no) => return Err(no),
+            }
         }
         Ok(Spec { stms })
     }

@@ -1,7 +1,8 @@
 ghost use Rattle.std.specs.Prelude.{◌≡◌, IfOk};
 
+use super::{both, boxed};
 use crate::{FieldTy, Ty};
-use ess_rows::{Boxed, NoMemory, Row};
+use ess_rows::{NoMemory, Row};
 use std::alloc::Global;
 
 impl Ty {
@@ -14,24 +15,23 @@ impl Ty {
             Ty::Any => Ok(Ty::Any),
             Ty::Bool => Ok(Ty::Bool),
             Ty::Int => Ok(Ty::Int),
-            Ty::Named(name) => Ok(Ty::Named(name.copy(alloc)?)),
-            Ty::Tuple(items) => Ok(Ty::Tuple(copy_tys(alloc, items)?)),
-            Ty::Rec(fields) => Ok(Ty::Rec(copy_fields(alloc, fields)?)),
-            Ty::Matrix(index, item) => Ok(Ty::Matrix(
-                Boxed::new(alloc, index.get().copy(alloc)?)?,
-                Boxed::new(alloc, item.get().copy(alloc)?)?,
-            )),
-            Ty::Set(member) => Ok(Ty::Set(Boxed::new(alloc, member.get().copy(alloc)?)?)),
-            Ty::MSet(member) => Ok(Ty::MSet(Boxed::new(alloc, member.get().copy(alloc)?)?)),
-            Ty::Function(from, to) => Ok(Ty::Function(
-                Boxed::new(alloc, from.get().copy(alloc)?)?,
-                Boxed::new(alloc, to.get().copy(alloc)?)?,
-            )),
-            Ty::Relation(items) => Ok(Ty::Relation(copy_tys(alloc, items)?)),
-            Ty::Partition(member) => Ok(Ty::Partition(Boxed::new(
-                alloc,
-                member.get().copy(alloc)?,
-            )?)),
+            Ty::Named(name) => name.copy(alloc).map(Ty::Named),
+            Ty::Tuple(items) => copy_tys(alloc, items).map(Ty::Tuple),
+            Ty::Rec(fields) => copy_fields(alloc, fields).map(Ty::Rec),
+            Ty::Matrix(index, item) => {
+                let index = boxed(alloc, index.get().copy(alloc));
+                let (index, item) = both(index, boxed(alloc, item.get().copy(alloc)))?;
+                Ok(Ty::Matrix(index, item))
+            }
+            Ty::Set(member) => boxed(alloc, member.get().copy(alloc)).map(Ty::Set),
+            Ty::MSet(member) => boxed(alloc, member.get().copy(alloc)).map(Ty::MSet),
+            Ty::Function(from, to) => {
+                let from = boxed(alloc, from.get().copy(alloc));
+                let (from, to) = both(from, boxed(alloc, to.get().copy(alloc)))?;
+                Ok(Ty::Function(from, to))
+            }
+            Ty::Relation(items) => copy_tys(alloc, items).map(Ty::Relation),
+            Ty::Partition(member) => boxed(alloc, member.get().copy(alloc)).map(Ty::Partition),
         }
     }
 }
@@ -42,10 +42,10 @@ impl FieldTy {
     pub fn copy(&self, alloc: Global) -> Result<FieldTy, NoMemory>
         ensures { IfOk result (λ f. f ≡ self.now) }
     {
-        Ok(FieldTy {
-            name: self.name.copy(alloc)?,
-            ty: self.ty.copy(alloc)?,
-        })
+        match both(self.name.copy(alloc), self.ty.copy(alloc)) {
+            Ok((name, ty)) => Ok(FieldTy { name, ty }),
+            Err(no) => Err(no),
+        }
     }
 }
 
@@ -55,7 +55,10 @@ fn copy_tys(alloc: Global, tys: &Row<Ty>) -> Result<Row<Ty>, NoMemory>
 {
     let mut copies = Row::with_capacity(alloc, tys.len())?;
     for ty in tys.as_slice() {
-        copies.push(ty.copy(alloc)?)?;
+        match ty.copy(alloc) {
+            Ok(copy) => copies.push(copy)?,
+            Err(no) => return Err(no),
+        }
     }
     Ok(copies)
 }
@@ -66,7 +69,10 @@ fn copy_fields(alloc: Global, fields: &Row<FieldTy>) -> Result<Row<FieldTy>, NoM
 {
     let mut copies = Row::with_capacity(alloc, fields.len())?;
     for field in fields.as_slice() {
-        copies.push(field.copy(alloc)?)?;
+        match field.copy(alloc) {
+            Ok(copy) => copies.push(copy)?,
+            Err(no) => return Err(no),
+        }
     }
     Ok(copies)
 }

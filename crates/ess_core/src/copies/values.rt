@@ -1,5 +1,6 @@
 ghost use Rattle.std.specs.Prelude.{◌≡◌, IfOk};
 
+use super::both;
 use crate::{FieldVal, Pair, Val};
 use ess_rows::{NoMemory, Row};
 use std::alloc::Global;
@@ -13,18 +14,21 @@ impl Val {
         match self {
             Val::Num(number) => Ok(Val::Num(*number)),
             Val::Truth(truth) => Ok(Val::Truth(*truth)),
-            Val::Item(name, position) => Ok(Val::Item(name.copy(alloc)?, *position)),
-            Val::Tuple(items) => Ok(Val::Tuple(copy_vals(alloc, items)?)),
-            Val::Rec(fields) => Ok(Val::Rec(copy_fields(alloc, fields)?)),
-            Val::Matrix(index, items) => Ok(Val::Matrix(
-                copy_vals(alloc, index)?,
-                copy_vals(alloc, items)?,
-            )),
-            Val::Set(members) => Ok(Val::Set(copy_vals(alloc, members)?)),
-            Val::MSet(members) => Ok(Val::MSet(copy_vals(alloc, members)?)),
-            Val::Function(pairs) => Ok(Val::Function(copy_pairs(alloc, pairs)?)),
-            Val::Relation(tuples) => Ok(Val::Relation(copy_vals(alloc, tuples)?)),
-            Val::Partition(parts) => Ok(Val::Partition(copy_vals(alloc, parts)?)),
+            Val::Item(name, position) => {
+                let name = name.copy(alloc)?;
+                Ok(Val::Item(name, *position))
+            }
+            Val::Tuple(items) => copy_vals(alloc, items).map(Val::Tuple),
+            Val::Rec(fields) => copy_fields(alloc, fields).map(Val::Rec),
+            Val::Matrix(index, items) => {
+                let (index, items) = both(copy_vals(alloc, index), copy_vals(alloc, items))?;
+                Ok(Val::Matrix(index, items))
+            }
+            Val::Set(members) => copy_vals(alloc, members).map(Val::Set),
+            Val::MSet(members) => copy_vals(alloc, members).map(Val::MSet),
+            Val::Function(pairs) => copy_pairs(alloc, pairs).map(Val::Function),
+            Val::Relation(tuples) => copy_vals(alloc, tuples).map(Val::Relation),
+            Val::Partition(parts) => copy_vals(alloc, parts).map(Val::Partition),
         }
     }
 }
@@ -35,10 +39,10 @@ impl FieldVal {
     pub fn copy(&self, alloc: Global) -> Result<FieldVal, NoMemory>
         ensures { IfOk result (λ f. f ≡ self.now) }
     {
-        Ok(FieldVal {
-            name: self.name.copy(alloc)?,
-            val: self.val.copy(alloc)?,
-        })
+        match both(self.name.copy(alloc), self.val.copy(alloc)) {
+            Ok((name, val)) => Ok(FieldVal { name, val }),
+            Err(no) => Err(no),
+        }
     }
 }
 
@@ -48,10 +52,10 @@ impl Pair {
     pub fn copy(&self, alloc: Global) -> Result<Pair, NoMemory>
         ensures { IfOk result (λ p. p ≡ self.now) }
     {
-        Ok(Pair {
-            from: self.from.copy(alloc)?,
-            to: self.to.copy(alloc)?,
-        })
+        match both(self.from.copy(alloc), self.to.copy(alloc)) {
+            Ok((from, to)) => Ok(Pair { from, to }),
+            Err(no) => Err(no),
+        }
     }
 }
 
@@ -61,7 +65,10 @@ fn copy_vals(alloc: Global, vals: &Row<Val>) -> Result<Row<Val>, NoMemory>
 {
     let mut copies = Row::with_capacity(alloc, vals.len())?;
     for val in vals.as_slice() {
-        copies.push(val.copy(alloc)?)?;
+        match val.copy(alloc) {
+            Ok(copy) => copies.push(copy)?,
+            Err(no) => return Err(no),
+        }
     }
     Ok(copies)
 }
@@ -72,7 +79,10 @@ fn copy_fields(alloc: Global, fields: &Row<FieldVal>) -> Result<Row<FieldVal>, N
 {
     let mut copies = Row::with_capacity(alloc, fields.len())?;
     for field in fields.as_slice() {
-        copies.push(field.copy(alloc)?)?;
+        match field.copy(alloc) {
+            Ok(copy) => copies.push(copy)?,
+            Err(no) => return Err(no),
+        }
     }
     Ok(copies)
 }
@@ -83,7 +93,10 @@ fn copy_pairs(alloc: Global, pairs: &Row<Pair>) -> Result<Row<Pair>, NoMemory>
 {
     let mut copies = Row::with_capacity(alloc, pairs.len())?;
     for pair in pairs.as_slice() {
-        copies.push(pair.copy(alloc)?)?;
+        match pair.copy(alloc) {
+            Ok(copy) => copies.push(copy)?,
+            Err(no) => return Err(no),
+        }
     }
     Ok(copies)
 }

@@ -29,7 +29,7 @@ fn letting_of(stm: Stm) -> Option<Letting>
         (λ letting. (is_plain_letting (pure_stm stm) ≡ true) × (pure_letting letting ≡ pure_stm stm)) }
 {
     match stm {
-        Stm::LetEx(name, ex) => Some(Letting::Value(name, ex)),
+        Stm::LetEx(name, ex) => Some(Letting::Value(name, ex.into_inner())),
         Stm::LetEnum(name, values) => Some(Letting::Enum(name, values)),
         other => {
             drop(other);

@@ -10,7 +10,7 @@ ghost use Rattle.ess_values.specs.Literals.{pure_literal, pure_field, pure_field
 use super::parts::{Field, Literal};
 use crate::naming::same_name;
 use crate::shapes::{Kind, Shape};
-use ess_core::{FieldVal, NoMemory, Row, Text, Val};
+use ess_core::{Boxed, FieldVal, NoMemory, Row, Text, Val};
 use std::alloc::Global;
 use std::cmp::Ordering;
 
@@ -96,14 +96,14 @@ fn record_of(alloc: Global, mut fields: Row<Field>) -> Result<Literal, NoMemory>
     let mut vals = Row::new(alloc);
     for field in fields.into_vec() {
         names.push(field.name.copy(alloc)?)?;
-        shapes.push(field.shape)?;
+        shapes.push(field.shape.into_inner())?;
         vals.push(FieldVal {
             name: field.name,
-            val: field.val,
+            val: field.val.into_inner(),
         })?;
     }
     Ok(Literal {
-        shape: Shape::Node(Kind::Rec(names), shapes),
-        val: Val::Rec(vals),
+        shape: Boxed::new(alloc, Shape::Node(Kind::Rec(names), shapes))?,
+        val: Boxed::new(alloc, Val::Rec(vals))?,
     })
 }

@@ -15,15 +15,15 @@ use super::numbers::number_of;
 use super::parts::{Literal, Parts};
 use crate::joining::join_all;
 use crate::naming::entry_of;
-use crate::shapes::{Kind, Shape};
+use crate::shapes::{Kind, Shape, two_shapes};
 use crate::sorting::sorted_once;
-use ess_core::{Dom, Env, NoMemory, Range, Row, Text, Val};
+use ess_core::{Boxed, Dom, Env, NoMemory, Range, Row, Text, Val};
 use std::alloc::Global;
 
 /// An index domain: its type, and its members.
 #[derive(Drop)]
 pub struct Index {
-    pub shape: Shape,
+    pub shape: Boxed<Shape>,
     pub members: Row<Val>,
 }
 
@@ -50,10 +50,13 @@ pub fn matrix_on(
         return Ok(None);
     };
     match index_domain(alloc, domain, parts.vals.len(), env)? {
-        Some(found) => Ok(Some(Literal {
-            shape: Shape::Node(Kind::Matrix, Row::from_array(alloc, [found.shape, item])?),
-            val: Val::Matrix(found.members, parts.vals),
-        })),
+        Some(found) => {
+            let shapes = two_shapes(alloc, found.shape, item)?;
+            Ok(Some(Literal {
+                shape: Boxed::new(alloc, Shape::Node(Kind::Matrix, shapes))?,
+                val: Boxed::new(alloc, Val::Matrix(found.members, parts.vals))?,
+            }))
+        }
         None => Ok(None),
     }
 }
@@ -83,7 +86,7 @@ fn booleans(alloc: Global, count: usize) -> Result<Option<Index>, NoMemory>
         return Ok(None);
     }
     Ok(Some(Index {
-        shape: Shape::Bool,
+        shape: Boxed::new(alloc, Shape::Bool)?,
         members: Row::from_array(alloc, [Val::Truth(false), Val::Truth(true)])?,
     }))
 }
@@ -110,7 +113,7 @@ fn all_items(alloc: Global, name: &Text, count: usize) -> Result<Option<Index>, 
     ensures { IfOk result (λ o. option_map pure_index o ≡ Some (named_ty name.now, items_from name.now 1 count)) }
 {
     Ok(Some(Index {
-        shape: Shape::Named(name.copy(alloc)?),
+        shape: Boxed::new(alloc, Shape::Named(name.copy(alloc)?))?,
         members: items(alloc, name, count)?,
     }))
 }
@@ -143,7 +146,7 @@ fn numbers(alloc: Global, ranges: &[Range], count: usize) -> Result<Option<Index
         return Ok(None);
     }
     Ok(Some(Index {
-        shape: Shape::Int,
+        shape: Boxed::new(alloc, Shape::Int)?,
         members,
     }))
 }

@@ -9,7 +9,7 @@ ghost use Rattle.ess_semantics.specs.Operators.{numbers_from};
 ghost use Rattle.ess_semantics.specs.OperatorTypes.{function_ty, relation_ty, partition_ty, type_of_list};
 ghost use Rattle.ess_semantics.specs.Trees.{tuple_literal, set_literal, mset_literal, function_literal, relation_literal, partition_literal, matrix_literal};
 ghost use Rattle.ess_core.specs.ValueViews.{pure_val, pure_pair};
-ghost use Rattle.ess_values.specs.Parts.{is_set};
+ghost use Rattle.ess_semantics.specs.Membership.{is_set};
 ghost use Rattle.ess_values.specs.Shapes.{pure_shape, pure_shapes};
 ghost use Rattle.ess_values.specs.TypedLiterals.{typed_node, SetsWhereTyped};
 ghost use Rattle.ess_values.specs.Literals.{pure_literal, pure_parts, pure_pair_parts};
@@ -19,21 +19,21 @@ use crate::collections::{mset_of, set_of};
 use crate::functions::{FunctionNo, function_of};
 use crate::joining::join_all;
 use crate::partitions::{PartitionNo, partition_of};
-use crate::shapes::{Kind, Shape};
+use crate::shapes::{Kind, Shape, one_shape, two_shapes};
 use crate::sorting::sorted_once;
-use ess_core::{NoMemory, Pair, Row, Val};
+use ess_core::{Boxed, NoMemory, Pair, Row, Val};
 use std::alloc::Global;
 
 /// A tuple literal.
-pub fn tuple(parts: Option<Parts>) -> Option<Literal>
-    ensures { option_map pure_literal result ≡ and_then (option_map pure_parts parts) (typed_node tuple_literal) }
+pub fn tuple(alloc: Global, parts: Option<Parts>) -> Result<Option<Literal>, NoMemory>
+    ensures { IfOk result (λ o. option_map pure_literal o ≡ and_then (option_map pure_parts parts) (typed_node tuple_literal)) }
 {
     match parts {
-        Some(parts) => Some(Literal {
-            shape: Shape::Node(Kind::Tuple, parts.shapes),
-            val: Val::Tuple(parts.vals),
-        }),
-        None => None,
+        Some(parts) => Ok(Some(Literal {
+            shape: Boxed::new(alloc, Shape::Node(Kind::Tuple, parts.shapes))?,
+            val: Boxed::new(alloc, Val::Tuple(parts.vals))?,
+        })),
+        None => Ok(None),
     }
 }
 
@@ -45,10 +45,13 @@ pub fn set(alloc: Global, parts: Option<Parts>) -> Result<Option<Literal>, NoMem
         return Ok(None);
     };
     match join_all(alloc, parts.shapes.as_slice())? {
-        Some(member) => Ok(Some(Literal {
-            shape: Shape::Node(Kind::Set, Row::from_array(alloc, [member])?),
-            val: set_of(alloc, parts.vals)?,
-        })),
+        Some(member) => {
+            let members = one_shape(alloc, member)?;
+            Ok(Some(Literal {
+                shape: Boxed::new(alloc, Shape::Node(Kind::Set, members))?,
+                val: Boxed::new(alloc, set_of(alloc, parts.vals)?)?,
+            }))
+        }
         None => Ok(None),
     }
 }
@@ -61,10 +64,13 @@ pub fn mset(alloc: Global, parts: Option<Parts>) -> Result<Option<Literal>, NoMe
         return Ok(None);
     };
     match join_all(alloc, parts.shapes.as_slice())? {
-        Some(member) => Ok(Some(Literal {
-            shape: Shape::Node(Kind::MSet, Row::from_array(alloc, [member])?),
-            val: mset_of(alloc, parts.vals)?,
-        })),
+        Some(member) => {
+            let members = one_shape(alloc, member)?;
+            Ok(Some(Literal {
+                shape: Boxed::new(alloc, Shape::Node(Kind::MSet, members))?,
+                val: Boxed::new(alloc, mset_of(alloc, parts.vals)?)?,
+            }))
+        }
         None => Ok(None),
     }
 }
@@ -89,37 +95,40 @@ pub fn function(alloc: Global, parts: Option<PairParts>) -> Result<Option<Litera
 }
 
 /// The type of a function with pairs of this type.
-fn function_shape(alloc: Global, pair: Shape) -> Result<Option<Shape>, NoMemory>
+fn function_shape(alloc: Global, pair: Boxed<Shape>) -> Result<Option<Boxed<Shape>>, NoMemory>
     ensures { IfOk result (λ o. option_map pure_shape o ≡ function_ty (pure_shape pair)) }
 {
-    match pair {
-        Shape::Any => Ok(Some(Shape::Node(
-            Kind::Function,
-            Row::from_array(alloc, [Shape::Any, Shape::Any])?,
-        ))),
-        Shape::Node(Kind::Tuple, parts) => Ok(function_from(parts)),
-        _ => Ok(None),
+    match pair.into_inner() {
+        Shape::Any => {
+            let parts = Row::from_array(alloc, [Shape::Any, Shape::Any])?;
+            Ok(Some(Boxed::new(alloc, Shape::Node(Kind::Function, parts))?))
+        }
+        Shape::Node(Kind::Tuple, parts) => Ok(function_from(alloc, parts)?),
+        other => {
+            drop(other);
+            Ok(None)
+        }
     }
 }
 
 /// The type of a function, from the types of an argument and of a value there.
 #[tactic(auto, using(crate::proofs::KindLemmas::two_parts, crate::proofs::KindLemmas::not_two_parts))]
-fn function_from(parts: Row<Shape>) -> Option<Shape>
-    ensures { option_map pure_shape result ≡ function_ty (compound a_tuple (pure_shapes parts)) }
+fn function_from(alloc: Global, parts: Row<Shape>) -> Result<Option<Boxed<Shape>>, NoMemory>
+    ensures { IfOk result (λ o. option_map pure_shape o ≡ function_ty (compound a_tuple (pure_shapes parts))) }
 {
     if parts.len() == 2 {
-        Some(Shape::Node(Kind::Function, parts))
+        Ok(Some(Boxed::new(alloc, Shape::Node(Kind::Function, parts))?))
     } else {
-        None
+        Ok(None)
     }
 }
 
 /// The function of these pairs, where no two of them have one argument and differ.
-fn function_val(alloc: Global, pairs: Row<Pair>) -> Result<Option<Val>, NoMemory>
+fn function_val(alloc: Global, pairs: Row<Pair>) -> Result<Option<Boxed<Val>>, NoMemory>
     ensures { IfOk result (λ o. option_map pure_val o ≡ the_function (map pure_pair pairs)) }
 {
     match function_of(alloc, pairs) {
-        Ok(val) => Ok(Some(val)),
+        Ok(val) => Ok(Some(Boxed::new(alloc, val)?)),
         Err(FunctionNo::DoubleArgument) => Ok(None),
         Err(FunctionNo::NoMemory) => Err(NoMemory),
     }
@@ -135,23 +144,31 @@ pub fn relation(alloc: Global, parts: Option<Parts>) -> Result<Option<Literal>, 
     let Some(tuple) = join_all(alloc, parts.shapes.as_slice())? else {
         return Ok(None);
     };
-    match relation_shape(alloc, tuple) {
+    match relation_shape(alloc, tuple)? {
         Some(shape) => Ok(Some(Literal {
             shape,
-            val: Val::Relation(sorted_once(parts.vals)?),
+            val: Boxed::new(alloc, Val::Relation(sorted_once(parts.vals)?))?,
         })),
         None => Ok(None),
     }
 }
 
 /// The type of a relation with tuples of this type.
-fn relation_shape(alloc: Global, tuple: Shape) -> Option<Shape>
-    ensures { option_map pure_shape result ≡ relation_ty (pure_shape tuple) }
+fn relation_shape(alloc: Global, tuple: Boxed<Shape>) -> Result<Option<Boxed<Shape>>, NoMemory>
+    ensures { IfOk result (λ o. option_map pure_shape o ≡ relation_ty (pure_shape tuple)) }
 {
-    match tuple {
-        Shape::Any => Some(Shape::Node(Kind::Relation, Row::new(alloc))),
-        Shape::Node(Kind::Tuple, parts) => Some(Shape::Node(Kind::Relation, parts)),
-        _ => None,
+    match tuple.into_inner() {
+        Shape::Any => {
+            let none = Row::new(alloc);
+            Ok(Some(Boxed::new(alloc, Shape::Node(Kind::Relation, none))?))
+        }
+        Shape::Node(Kind::Tuple, parts) => {
+            Ok(Some(Boxed::new(alloc, Shape::Node(Kind::Relation, parts))?))
+        }
+        other => {
+            drop(other);
+            Ok(None)
+        }
     }
 }
 
@@ -176,35 +193,41 @@ pub fn partition(alloc: Global, parts: Option<Parts>) -> Result<Option<Literal>,
 }
 
 /// The type of a partition with parts of this type.
-fn partition_shape(alloc: Global, part: Shape) -> Result<Option<Shape>, NoMemory>
+fn partition_shape(alloc: Global, part: Boxed<Shape>) -> Result<Option<Boxed<Shape>>, NoMemory>
     ensures { IfOk result (λ o. option_map pure_shape o ≡ partition_ty (pure_shape part)) }
 {
-    match part {
-        Shape::Any => Ok(Some(Shape::Node(Kind::Partition, Row::from_array(alloc, [Shape::Any])?))),
-        Shape::Node(Kind::Set, parts) => Ok(partition_from(parts)),
-        _ => Ok(None),
+    match part.into_inner() {
+        Shape::Any => {
+            let member = Row::from_array(alloc, [Shape::Any])?;
+            Ok(Some(Boxed::new(alloc, Shape::Node(Kind::Partition, member))?))
+        }
+        Shape::Node(Kind::Set, parts) => Ok(partition_from(alloc, parts)?),
+        other => {
+            drop(other);
+            Ok(None)
+        }
     }
 }
 
 /// The type of a partition, from the type of a member.
 #[tactic(auto, using(crate::proofs::KindLemmas::one_part, crate::proofs::KindLemmas::not_one_part))]
-fn partition_from(parts: Row<Shape>) -> Option<Shape>
-    ensures { option_map pure_shape result ≡ partition_ty (compound a_set (pure_shapes parts)) }
+fn partition_from(alloc: Global, parts: Row<Shape>) -> Result<Option<Boxed<Shape>>, NoMemory>
+    ensures { IfOk result (λ o. option_map pure_shape o ≡ partition_ty (compound a_set (pure_shapes parts))) }
 {
     if parts.len() == 1 {
-        Some(Shape::Node(Kind::Partition, parts))
+        Ok(Some(Boxed::new(alloc, Shape::Node(Kind::Partition, parts))?))
     } else {
-        None
+        Ok(None)
     }
 }
 
 /// The partition with these parts, where none is empty and no two share a member.
-fn partition_val(alloc: Global, parts: Row<Val>) -> Result<Option<Val>, NoMemory>
+fn partition_val(alloc: Global, parts: Row<Val>) -> Result<Option<Boxed<Val>>, NoMemory>
     requires { list_all is_set (map pure_val parts) ≡ true }
     ensures { IfOk result (λ o. option_map pure_val o ≡ the_partition (map pure_val parts)) }
 {
     match partition_of(alloc, parts) {
-        Ok(val) => Ok(Some(val)),
+        Ok(val) => Ok(Some(Boxed::new(alloc, val)?)),
         Err(PartitionNo::EmptyPart) => Ok(None),
         Err(PartitionNo::Overlap) => Ok(None),
         Err(PartitionNo::NoMemory) => Err(NoMemory),
@@ -219,29 +242,30 @@ pub fn list(alloc: Global, parts: Option<Parts>) -> Result<Option<Literal>, NoMe
         return Ok(None);
     };
     match list_shape(alloc, parts.shapes.as_slice())? {
-        Some(shape) => Ok(Some(Literal {
-            shape,
-            val: Val::Matrix(index_of_list(alloc, parts.vals.as_slice())?, parts.vals),
-        })),
+        Some(shape) => {
+            let index = index_of_list(alloc, parts.vals.as_slice())?;
+            Ok(Some(Literal {
+                shape,
+                val: Boxed::new(alloc, Val::Matrix(index, parts.vals))?,
+            }))
+        }
         None => Ok(None),
     }
 }
 
 /// The type of a list of items of these types.
-fn list_shape(alloc: Global, items: &[Shape]) -> Result<Option<Shape>, NoMemory>
+fn list_shape(alloc: Global, items: &[Shape]) -> Result<Option<Boxed<Shape>>, NoMemory>
     ensures { IfOk result (λ o. option_map pure_shape o ≡ type_of_list (map pure_shape items.now)) }
 {
     if items.is_empty() {
-        return Ok(Some(Shape::Node(
-            Kind::Matrix,
-            Row::from_array(alloc, [Shape::Any, Shape::Any])?,
-        )));
+        let any = Row::from_array(alloc, [Shape::Any, Shape::Any])?;
+        return Ok(Some(Boxed::new(alloc, Shape::Node(Kind::Matrix, any))?));
     }
     match join_all(alloc, items)? {
-        Some(item) => Ok(Some(Shape::Node(
-            Kind::Matrix,
-            Row::from_array(alloc, [Shape::Int, item])?,
-        ))),
+        Some(item) => {
+            let shapes = two_shapes(alloc, Boxed::new(alloc, Shape::Int)?, item)?;
+            Ok(Some(Boxed::new(alloc, Shape::Node(Kind::Matrix, shapes))?))
+        }
         None => Ok(None),
     }
 }

@@ -1,4 +1,4 @@
-ghost use Rattle.std.specs.Prelude.{◌≡◌, false, option_map};
+ghost use Rattle.std.specs.Prelude.{◌≡◌, false, option_map, IfOk};
 ghost use Rattle.ess_core.specs.TreeViews.{pure_ex};
 ghost use Rattle.ess_semantics.specs.Values.{number as a_number};
 ghost use Rattle.ess_semantics.specs.Types.{int_ty};
@@ -8,18 +8,19 @@ ghost use Rattle.ess_values.specs.TypedLiterals.{literal_number};
 
 use super::parts::Literal;
 use crate::shapes::Shape;
-use ess_core::{Ex, Op1, Val};
+use ess_core::{Boxed, Ex, NoMemory, Op1, Val};
+use std::alloc::Global;
 
 /// The literal of a number, where the expression is one.
-pub fn number(ex: &Ex) -> Option<Literal>
-    ensures { option_map pure_literal result ≡ option_map (λ n. (int_ty, a_number n)) (literal_number (pure_ex ex.now)) }
+pub fn number(alloc: Global, ex: &Ex) -> Result<Option<Literal>, NoMemory>
+    ensures { IfOk result (λ o. option_map pure_literal o ≡ option_map (λ n. (int_ty, a_number n)) (literal_number (pure_ex ex.now))) }
 {
     match number_of(ex) {
-        Some(number) => Some(Literal {
-            shape: Shape::Int,
-            val: Val::Num(number),
-        }),
-        None => None,
+        Some(number) => Ok(Some(Literal {
+            shape: Boxed::new(alloc, Shape::Int)?,
+            val: Boxed::new(alloc, Val::Num(number))?,
+        })),
+        None => Ok(None),
     }
 }
 

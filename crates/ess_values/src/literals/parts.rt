@@ -1,11 +1,11 @@
 use crate::shapes::Shape;
-use ess_core::{Pair, Row, Text, Val};
+use ess_core::{Boxed, Pair, Row, Text, Val};
 
-/// A literal: its type and its value.
+/// A literal: its type and its value. They stand in boxes, so that letting a literal go is cheap to check.
 #[derive(Drop)]
 pub struct Literal {
-    pub shape: Shape,
-    pub val: Val,
+    pub shape: Boxed<Shape>,
+    pub val: Boxed<Val>,
 }
 
 /// The types and the values of the parts of a literal.
@@ -18,8 +18,8 @@ pub struct Parts {
 /// A pair of a function literal: its type, which is a tuple's, and the pair.
 #[derive(Drop)]
 pub struct PairLiteral {
-    pub shape: Shape,
-    pub pair: Pair,
+    pub shape: Boxed<Shape>,
+    pub pair: Boxed<Pair>,
 }
 
 /// The types and the pairs of a function literal.
@@ -33,6 +33,6 @@ pub struct PairParts {
 #[derive(Drop)]
 pub struct Field {
     pub name: Text,
-    pub shape: Shape,
-    pub val: Val,
+    pub shape: Boxed<Shape>,
+    pub val: Boxed<Val>,
 }

@@ -12,8 +12,8 @@ use super::kinds::{function, list, mset, partition, relation, set, tuple};
 use super::numbers::number;
 use super::parts::{Field, Literal, PairLiteral, PairParts, Parts};
 use crate::naming::item;
-use crate::shapes::{Kind, Shape};
-use ess_core::{Dom, Env, Ex, FieldEx, NoMemory, Op1, Pair, PairEx, Row, Val};
+use crate::shapes::{Kind, Shape, two_shapes};
+use ess_core::{Boxed, Dom, Env, Ex, FieldEx, NoMemory, Op1, Pair, PairEx, Row, Val};
 use std::alloc::Global;
 
 /// The type and the value of a literal, where it is one and has a value. `NoMemory` where there is no room for them.
@@ -22,13 +22,13 @@ pub fn literal(alloc: Global, ex: &Ex, env: &Env) -> Result<Option<Literal>, NoM
     ensures { IfOk result (λ o. option_map pure_literal o ≡ typed_literal (pure_ex ex.now) (pure_env env.now)) }
 {
     match ex {
-        Ex::Num(_) => Ok(number(ex)),
+        Ex::Num(_) => Ok(number(alloc, ex)?),
         Ex::Truth(truth) => Ok(Some(Literal {
-            shape: Shape::Bool,
-            val: Val::Truth(*truth),
+            shape: Boxed::new(alloc, Shape::Bool)?,
+            val: Boxed::new(alloc, Val::Truth(*truth))?,
         })),
         Ex::Name(name) => Ok(item(alloc, name, env)?),
-        Ex::One(Op1::Minus, _) => Ok(number(ex)),
+        Ex::One(Op1::Minus, _) => Ok(number(alloc, ex)?),
         Ex::Tuple(items) => Ok(read_tuple(alloc, items.as_slice(), env)?),
         Ex::Rec(fields) => Ok(read_record(alloc, fields.as_slice(), env)?),
         Ex::Set(items) => Ok(read_set(alloc, items.as_slice(), env)?),
@@ -51,7 +51,7 @@ fn read_tuple(alloc: Global, items: &[Ex], env: &Env) -> Result<Option<Literal>,
     ensures { IfOk result (λ o. option_map pure_literal o ≡ typed_literal (node_ex false tuple_literal (pure_exs items.now)) (pure_env env.now)) }
 {
     let parts = literals(alloc, items, env)?;
-    Ok(tuple(parts))
+    Ok(tuple(alloc, parts)?)
 }
 
 /// A set literal.
@@ -150,8 +150,8 @@ fn literals(alloc: Global, exs: &[Ex], env: &Env) -> Result<Option<Parts>, NoMem
     for ex in exs {
         match literal(alloc, ex, env)? {
             Some(found) => {
-                shapes.push(found.shape)?;
-                vals.push(found.val)?;
+                shapes.push(found.shape.into_inner())?;
+                vals.push(found.val.into_inner())?;
             }
             None => return Ok(None),
         }
@@ -170,8 +170,8 @@ fn pair_literals(alloc: Global, exs: &[PairEx], env: &Env) -> Result<Option<Pair
     for ex in exs {
         match pair_literal(alloc, ex, env)? {
             Some(found) => {
-                shapes.push(found.shape)?;
-                pairs.push(found.pair)?;
+                shapes.push(found.shape.into_inner())?;
+                pairs.push(found.pair.into_inner())?;
             }
             None => return Ok(None),
         }
@@ -191,12 +191,15 @@ fn pair_literal(alloc: Global, ex: &PairEx, env: &Env) -> Result<Option<PairLite
     let Some(to) = literal(alloc, &ex.to, env)? else {
         return Ok(None);
     };
+    let shapes = two_shapes(alloc, from.shape, to.shape)?;
+    let shape = Boxed::new(alloc, Shape::Node(Kind::Tuple, shapes))?;
+    let pair = Pair {
+        from: from.val.into_inner(),
+        to: to.val.into_inner(),
+    };
     Ok(Some(PairLiteral {
-        shape: Shape::Node(Kind::Tuple, Row::from_array(alloc, [from.shape, to.shape])?),
-        pair: Pair {
-            from: from.val,
-            to: to.val,
-        },
+        shape,
+        pair: Boxed::new(alloc, pair)?,
     }))
 }
 

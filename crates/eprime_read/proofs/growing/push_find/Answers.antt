@@ -5,8 +5,8 @@ pub invariant_of-result : goal.invariant_of-result
 invariant_of-result c =
     record {
       sound =
-          find_sound c.args.draft.model c.args.draft.lines c.push-2.new.self c.in_ok-line.line c.args.decl c.push.new.self c.requires.fits c.args.draft.sound c.requires.readable c.in_ok-push.ensures.ok
-          (record { name = c.in_ok-line.ensures.name; truth = c.in_ok-line.ensures.truth; found = c.in_ok-line.ensures.found }) c.in_ok-push-2.ensures.ok;
+          find_sound c.args.draft.model c.args.draft.lines c.in_ok-lines.lines c.in_ok-line.line c.args.decl c.push.new.self c.requires.fits c.args.draft.sound c.requires.readable c.in_ok-push.ensures.ok
+          (record { name = c.in_ok-line.ensures.name; truth = c.in_ok-line.ensures.truth; found = c.in_ok-line.ensures.found }) c.in_ok-lines.ensures;
     }
 
 pub returns-clause-model : goal.returns-clause-model

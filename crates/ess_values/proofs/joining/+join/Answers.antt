@@ -14,16 +14,16 @@ join-returns-in_ok-join_nodes-in-Node-Node t c =
 pub join_nodes-returns-then-is_open : goal.join_nodes-returns-then-is_open
 join_nodes-returns-then-is_open t c =
     let e : is_open (pure_kind c.args.kind.now) (pure_shapes c.args.xs.now) ≡ true = cc in
-    node_left _ _ c.args.xs.now c.args.ys.now _ e c.in_ok-copy.ensures c.in_ok-copy_shapes.ensures
+    rw (c.in_ok-new.ensures) (node_left _ _ c.args.xs.now c.args.ys.now _ e c.in_ok-copy.ensures c.in_ok-parts.ensures)
 
 pub join_nodes-returns-then-is_open-2 : goal.join_nodes-returns-then-is_open-2
 join_nodes-returns-then-is_open-2 t c =
     let d : is_open (pure_kind c.args.kind.now) (pure_shapes c.args.xs.now) ≡ false = cc in
     let e : is_open (pure_kind c.args.kind.now) (pure_shapes c.args.ys.now) ≡ true = cc in
-    node_right _ _ c.args.xs.now c.args.ys.now _ d e c.in_ok-copy-2.ensures c.in_ok-copy_shapes-2.ensures
+    rw (c.in_ok-new-2.ensures) (node_right _ _ c.args.xs.now c.args.ys.now _ d e c.in_ok-copy-2.ensures c.in_ok-parts-2.ensures)
 
-pub join_nodes-returns-in_ok-copy-in-Some : goal.join_nodes-returns-in_ok-copy-in-Some
-join_nodes-returns-in_ok-copy-in-Some t c =
+pub join_nodes-returns-in_ok-new-in-Some : goal.join_nodes-returns-in_ok-new-in-Some
+join_nodes-returns-in_ok-new-in-Some t c =
     let d : is_open (pure_kind c.args.kind.now) (pure_shapes c.args.xs.now) ≡ false = cc in
     let e : is_open (pure_kind c.args.kind.now) (pure_shapes c.args.ys.now) ≡ false = cc in
-    node_each _ _ c.args.xs.now c.args.ys.now _ d e (sym c.in_ok-parts.ensures ∙ ap (option_map (map pure_shape)) c.in-Some.is) c.in_ok-copy-in-Some.ensures
+    rw (c.in_ok-new-in-Some.ensures) (node_each _ _ c.args.xs.now c.args.ys.now _ d e (sym c.in_ok-parts-3.ensures ∙ ap (option_map (map pure_shape)) c.in-Some.is) c.in_ok-copy-in-Some.ensures)

@@ -5,6 +5,6 @@ use Rattle.ess_values.proofs.partitions.members.Goals as goal
 
 pub returns-in-Set : goal.returns-in-Set
 returns-in-Set c =
-    let is = c.in-Set.is in let same = c.in_ok-own.ensures in
+    let is = c.in-Set.is in let same = c.in_ok-other.ensures in
     let e : c.args.part.now ≡ Set c.in-Set.own = cc in
     members_of_set _ _ e

@@ -13,4 +13,4 @@ pub returns : goal.returns
 returns c =
     let some : eqb (length c.args.ranges.now) 0 ≡ false = cc in
     let m = c.in_ok-members.ensures in let l = c.len.ensures in let t = c.if-len-count.false in
-    numbers_fit c.args.ranges.now c.args.count c.in-Some.found c.in_ok-members.members some (sym c.in_ok-found.ensures ∙ ap (option_map (map pure_val)) c.in-Some.is) m (sym l ∙ t)
+    rw (c.in_ok-new.ensures) (numbers_fit c.args.ranges.now c.args.count c.in-Some.found c.in_ok-members.members some (sym c.in_ok-found.ensures ∙ ap (option_map (map pure_val)) c.in-Some.is) m (sym l ∙ t))

@@ -1,0 +1,5 @@
+mod copies;
+mod equality;
+mod parts;
+mod samples;
+mod sums;

@@ -1,7 +1,0 @@
-use Rattle.std.proofs.Common.{◌≡◌, map}
-use Rattle.ess_core.specs.TreeViews.{pure_step}
-use Rattle.ess_parse_expressions.specs.Lists.{step_by}
-use Rattle.ess_parse_expressions.proofs.listing.steps_by.Given as goal
-
-abbrev pub invariant-loop-value : goal.invariant-loop-value
-invariant-loop-value l = map pure_step l.steps ≡ map step_by l.yielded

@@ -1,8 +1,0 @@
-use Rattle.std.proofs.Common.{◌≡◌, take}
-use Rattle.ess_parse_laws.specs.StatementEnds.{declarations}
-use Rattle.ess_core.specs.TreeViews.{pure_dom}
-use Rattle.ess_parse_frames.specs.Rows.{back_names, back_stms}
-use Rattle.ess_parse_statements.proofs.ends.declarations.Given as goal
-
-abbrev pub invariant-loop-name : goal.invariant-loop-name
-invariant-loop-name l = back_stms l.stms ≡ declarations l.fn.given (back_names (take l.name-index l.fn.names)) (pure_dom l.fn.domain) (back_stms l.fn.stms)
