@@ -18,7 +18,7 @@ use Rattle.ess_semantics.specs.Contexts.{Each, EachOf, EachIn}
 use Rattle.std.specs.Prelude.{IsTrue}
 use Rattle.ess_semantics.specs.ExpressionJudgements.{pattern_fits}
 use Rattle.ess_semantics.proofs.Tests.{and-left, and-right}
-use Rattle.ess_types_laws.specs.WellBound.{WellBound}
+use Rattle.ess_types_laws.specs.WellBound.{no_tables, BoundWith, WellBound, HasItsType}
 use Rattle.ess_types_laws.proofs.Bound.{bind-fits}
 use Rattle.ess_types_laws.proofs.Members.{members-fit}
 use Rattle.ess_types_laws.proofs.Items.{items-fit}
@@ -29,7 +29,13 @@ use Rattle.ess_types_laws.proofs.Soundness.{source-type, sound}
 pub meaning-typed : (e : Ex) (g : Names Ty) (env : Env) → resolve e g ≡ e → WellBound e g → Typed g env → (t : Ty) →
     type_of e g ≡ Some t → (v : Value) → meaning e env ≡ Some v →
     IsTrue (is_of_type t env v)
-meaning-typed e g env r w f = sound env.positions env.types env.cells e g env.vals r w f
+meaning-typed e g env r w f = sound env.positions env.types env.cells no_tables (λ x h b vals k. absurd b) e g env.vals r w f
+
+-- The same over tables whose cells and views have values of their types.
+pub tables-typed : (e : Ex) (g : Names Ty) (env : Env) → resolve e g ≡ e → BoundWith (HasItsType env) e g → Typed g env → (t : Ty) →
+    type_of e g ≡ Some t → (v : Value) → meaning e env ≡ Some v → IsTrue (is_of_type t env v)
+tables-typed e g env r w f =
+    sound env.positions env.types env.cells (HasItsType env) (λ x h b vals k t q v m. b vals k t v q m) e g env.vals r w f
 
 each-of-all : (h : Value → Bool) (P : Value → Type 0) (vs : List Value) → ((v : Value) → h v ≡ true → P v) → list_all h vs ≡ true →
     Each vs P

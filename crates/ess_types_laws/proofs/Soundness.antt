@@ -18,7 +18,7 @@ use Rattle.ess_semantics.specs.NamesAt.{names_behind}
 use Rattle.ess_semantics.specs.Meaning.{Env, TypeEntry, bind, with_pat, collect, meaning, meanings, items_under, domain_of, members_in, matrix_value}
 use Rattle.ess_semantics.specs.TypeMembers.{is_of}
 use Rattle.ess_semantics.proofs.Tests.{and-both}
-use Rattle.ess_types_laws.specs.WellBound.{tuples_have_parts, WellBound, AreWellBound, GensWellBound}
+use Rattle.ess_types_laws.specs.WellBound.{tuples_have_parts, BoundWith, AreBoundWith, GensBoundWith}
 use Rattle.ess_types_laws.proofs.ResolvedTypes.{gens_resolved, comp-resolved, behind-types}
 use Rattle.ess_types_laws.proofs.Joins.{Of, OfEach, all-joined}
 use Rattle.ess_types_laws.proofs.Bound.{ValuesFit, bind-fits}
@@ -147,13 +147,22 @@ cond-types (Some t) x h e = go (join t bool_ty) e
 
 module _ (pl : Bool) (ts : List TypeEntry) (cs : Names Table) where
   -- The env with these values of names.
-  abbrev E : Names Value → Env
+  abbrev pub E : Names Value → Env
   E vals = record { positions = pl; types = ts; vals = vals; cells = cs }
+
+  -- What is asked of cells and views gives them values of their types.
+  abbrev pub TablesFit : (Ex → Names Ty → Type 0) → Type 0
+  TablesFit V = (e : Ex) (g : Names Ty) → V e g → (vals : Names Value) → ValuesFit pl ts g vals → (t : Ty) → type_of e g ≡ Some t →
+      (v : Value) → meaning e (E vals) ≡ Some v → Of pl ts t v
+
+module _ (pl : Bool) (ts : List TypeEntry) (cs : Names Table) (V : Ex → Names Ty → Type 0) (tables : TablesFit pl ts cs V) where
+  abbrev En : Names Value → Env
+  En = E pl ts cs
 
   mutual
     -- A resolved expression that has a type has nothing or a value of it.
-    pub sound : (e : Ex) (g : Names Ty) (vals : Names Value) → resolve e g ≡ e → WellBound e g → ValuesFit pl ts g vals → (t : Ty) →
-        type_of e g ≡ Some t → (v : Value) → meaning e (E vals) ≡ Some v → Of pl ts t v
+    pub sound : (e : Ex) (g : Names Ty) (vals : Names Value) → resolve e g ≡ e → BoundWith V e g → ValuesFit pl ts g vals → (t : Ty) →
+        type_of e g ≡ Some t → (v : Value) → meaning e (En vals) ≡ Some v → Of pl ts t v
     sound (number_ex n) g vals r w f t e v h = let q : int_ty ≡ t = cc in let y : number n ≡ v = cc in
         subst (λ c. Of pl ts c v) q (subst (λ c. Of pl ts int_ty c) y refl)
     sound (truth_ex b) g vals r w f t e v h = let q : bool_ty ≡ t = cc in let y : truth b ≡ v = cc in
@@ -162,17 +171,17 @@ module _ (pl : Bool) (ts : List TypeEntry) (cs : Names Table) where
     sound (node_ex b (index qs) no_exs) g vals r w f t e v h = cc
     sound (node_ex b (index qs) (more_exs x es)) g vals r w f t e v h =
         let q = index-parts b qs x es g r in
-        index-fits pl ts b qs (statics es) (type_of x g) (types_of es g) (meaning x (E vals)) (meanings es (E vals)) t v (q.0
-        ∙ ap is_bool e) (meanings-length es g (E vals)) q.1
+        index-fits pl ts b qs (statics es) (type_of x g) (types_of es g) (meaning x (En vals)) (meanings es (En vals)) t v (q.0
+        ∙ ap is_bool e) (meanings-length es g (En vals)) q.1
         (sym (index-type (type_of x g) qs (static x) (statics es) (types_of es g)) ∙ e) (λ u y c d. sound x g vals q.2 w f u c y d) h
     sound (node_ex b op es) g vals r w f t e v h =
         let q = node-parts b op es g refl r in
-        node-fits pl ts b op (types_of es g) (meanings es (E vals)) t v (q.0
+        node-fits pl ts b op (types_of es g) (meanings es (En vals)) t v (q.0
         ∙ ap (λ c. is_truth_op op || is_bool c) e) (sym (plain-type op (statics es) (types_of es g) refl) ∙ e) w.0
         (λ xs vs c d. sounds es g vals q.1 w.1 f xs c vs d) h
     sound (matrix_ex es d) g vals r w f t e v h =
         let q : resolve_exs es g ≡ es = cc in
-        matrix-sound d (E vals) (types_of es g) (meanings es (E vals)) t v w.0 e (λ xs vs c y. sounds es g vals q w.1 f xs c vs y) h
+        matrix-sound d (En vals) (types_of es g) (meanings es (En vals)) t v w.0 e (λ xs vs c y. sounds es g vals q w.1 f xs c vs y) h
     sound (comp_ex x gs) g vals r w f t e v h =
         let p : comp_ex (resolve x (names_behind gs g)) (gens_resolved gs g) ≡ comp_ex x gs = sym (comp-resolved x gs g) ∙ r in
         let px : resolve x (names_behind gs g) ≡ x = cc in
@@ -180,21 +189,21 @@ module _ (pl : Bool) (ts : List TypeEntry) (cs : Names Table) where
         let a = some-then (types_under gs g) (λ k. option_map (compound2 a_matrix int_ty) (type_of x k)) t e in
         let b = some-map (type_of x a.0) (compound2 a_matrix int_ty) t a.2 in
         let k : type_of x (names_behind gs g) ≡ Some b.0 = ap (type_of x) (behind-types gs g a.0 a.1) ∙ b.1 in
-        let c = some-map (items_under gs (E vals) (λ here. option_map (λ y. y ∷ []) (meaning x here))) list_value v h in
+        let c = some-map (items_under gs (En vals) (λ here. option_map (λ y. y ∷ []) (meaning x here))) list_value v h in
         subst (λ z. Of pl ts z v) b.2 (subst (λ z. Of pl ts (compound2 a_matrix int_ty b.0) z) c.2
         (list-fits pl ts b.0 c.0
         (items-sound gs g vals (is_of pl ts b.0) (λ here. option_map (λ y. y ∷ []) (meaning x here)) pg w.0 a.0 a.1 f
-        (λ vals' f' ys m. let n = some-map (meaning x (E vals')) (λ y. y ∷ []) ys m in
+        (λ vals' f' ys m. let n = some-map (meaning x (En vals')) (λ y. y ∷ []) ys m in
         subst (λ l. list_all (is_of pl ts b.0) l ≡ true) n.2
         (and-both (is_of pl ts b.0 n.0) true (sound x (names_behind gs g) vals' px w.1 f' b.0 k n.0 n.1) refl))
         c.0 c.1)))
-    sound (cell_ex b n es) g vals r w f t e v h = absurd w
-    sound (seen_ex rep d ns es) g vals r w f t e v h = absurd w
+    sound (cell_ex b n es) g vals r w f t e v h = tables (cell_ex b n es) g w vals f t e v h
+    sound (seen_ex rep d ns es) g vals r w f t e v h = tables (seen_ex rep d ns es) g w vals f t e v h
 
     -- The same of operands.
-    pub sounds : (es : Exs) (g : Names Ty) (vals : Names Value) → resolve_exs es g ≡ es → AreWellBound es g → ValuesFit pl ts g vals →
+    pub sounds : (es : Exs) (g : Names Ty) (vals : Names Value) → resolve_exs es g ≡ es → AreBoundWith V es g → ValuesFit pl ts g vals →
         (xs : List Ty) → all_some (types_of es g) ≡ Some xs → (vs : List Value) →
-        all_some (meanings es (E vals)) ≡ Some vs → OfEach pl ts xs vs
+        all_some (meanings es (En vals)) ≡ Some vs → OfEach pl ts xs vs
     sounds no_exs g vals r w f xs e vs h = let q : [] ≡ xs = cc in let y : [] ≡ vs = cc in
         subst (λ c. OfEach pl ts c vs) q (subst (λ c. OfEach pl ts [] c) y tt)
     sounds (more_exs x es) g vals r w f xs e vs h =
@@ -202,26 +211,26 @@ module _ (pl : Bool) (ts : List TypeEntry) (cs : Names Table) where
         let q : resolve_exs es g ≡ es = cc in
         let a = some-then (type_of x g) (λ c. option_map (λ cs. c ∷ cs) (all_some (types_of es g))) xs e in
         let b = some-map (all_some (types_of es g)) (λ cs. a.0 ∷ cs) xs a.2 in
-        let c = some-then (meaning x (E vals)) (λ y. option_map (λ ys. y ∷ ys) (all_some (meanings es (E vals)))) vs h in
-        let d = some-map (all_some (meanings es (E vals))) (λ ys. c.0 ∷ ys) vs c.2 in
+        let c = some-then (meaning x (En vals)) (λ y. option_map (λ ys. y ∷ ys) (all_some (meanings es (En vals)))) vs h in
+        let d = some-map (all_some (meanings es (En vals))) (λ ys. c.0 ∷ ys) vs c.2 in
         subst (λ l. OfEach pl ts l vs) b.2
         (subst (λ l. OfEach pl ts (a.0 ∷ b.0) l) d.2
         (sound x g vals p w.0 f a.0 a.1 c.0 c.1, sounds es g vals q w.1 f b.0 b.1 d.0 d.1))
 
     -- What generators collect has a property that it has at each binding.
     pub items-sound : (gs : Gens) (g : Names Ty) (vals : Names Value) (k : Value → Bool) (body : Env → Option (List Value)) →
-        gens_resolved gs g ≡ gs → GensWellBound gs g →
+        gens_resolved gs g ≡ gs → GensBoundWith V gs g →
         (h : Names Ty) → types_under gs g ≡ Some h → ValuesFit pl ts g vals →
-        ((vals' : Names Value) → ValuesFit pl ts (names_behind gs g) vals' → (ys : List Value) → body (E vals') ≡ Some ys →
+        ((vals' : Names Value) → ValuesFit pl ts (names_behind gs g) vals' → (ys : List Value) → body (En vals') ≡ Some ys →
         list_all k ys ≡ true) →
-        (xs : List Value) → items_under gs (E vals) body ≡ Some xs → list_all k xs ≡ true
+        (xs : List Value) → items_under gs (En vals) body ≡ Some xs → list_all k xs ≡ true
     items-sound no_gens g vals k body r w h u f b xs e = b vals f xs e
     items-sound (over p d gs) g vals k body r w h u f b xs e =
         let q : gens_resolved gs (bind_types p (type_of_dom d) g) ≡ gs = cc in
-        let a = some-then (members_in (domain_of d (E vals))) (λ ms. collect ms (λ m. items_under gs (with_pat p m (E vals)) body)) xs e in
-        let c = some-then (domain_of d (E vals)) members a.0 a.1 in
-        collect-fits (is_of pl ts (type_of_dom d)) k a.0 (λ m. items_under gs (with_pat p m (E vals)) body) xs
-        (members-fit (E vals) d c.0 c.1 a.0 c.2)
+        let a = some-then (members_in (domain_of d (En vals))) (λ ms. collect ms (λ m. items_under gs (with_pat p m (En vals)) body)) xs e in
+        let c = some-then (domain_of d (En vals)) members a.0 a.1 in
+        collect-fits (is_of pl ts (type_of_dom d)) k a.0 (λ m. items_under gs (with_pat p m (En vals)) body) xs
+        (members-fit (En vals) d c.0 c.1 a.0 c.2)
         (λ m o ys i. items-sound gs (bind_types p (type_of_dom d) g) (bind p m vals) k body q w.1 h u
         (bind-fits pl ts p (type_of_dom d) m g vals w.0 o f) b ys i) a.2
     items-sound (from p x gs) g vals k body r w h u f b xs e =
@@ -231,14 +240,14 @@ module _ (pl : Bool) (ts : List TypeEntry) (cs : Names Table) where
         let c = some-then (type_of x g) member_ty a.0 a.1 in
         let z : source_ty x g ≡ a.0 = source-type (and_then (type_of x g) member_ty) a.0 a.1 in
         let y : types_under gs (bind_types p (source_ty x g) g) ≡ Some h = ap (λ t. types_under gs (bind_types p t g)) z ∙ a.2 in
-        let s = some-then (meaning x (E vals)) (λ s. collect (items_of s) (λ m. items_under gs (with_pat p m (E vals)) body)) xs e in
+        let s = some-then (meaning x (En vals)) (λ s. collect (items_of s) (λ m. items_under gs (with_pat p m (En vals)) body)) xs e in
         let o : Of pl ts c.0 s.0 = sound x g vals px w.1 f c.0 c.1 s.0 s.1 in
         let l : list_all (is_of pl ts (source_ty x g)) (items_of s.0) ≡ true = subst (λ t. list_all (is_of pl ts t) (items_of s.0) ≡ true)
         (sym z) (items-fit pl ts c.0 a.0 s.0 c.2 o) in
-        collect-fits (is_of pl ts (source_ty x g)) k (items_of s.0) (λ m. items_under gs (with_pat p m (E vals)) body) xs l
+        collect-fits (is_of pl ts (source_ty x g)) k (items_of s.0) (λ m. items_under gs (with_pat p m (En vals)) body) xs l
         (λ m o ys i. items-sound gs (bind_types p (source_ty x g) g) (bind p m vals) k body q w.2 h y
         (bind-fits pl ts p (source_ty x g) m g vals w.0 o f) b ys i) s.2
     items-sound (cond x gs) g vals k body r w h u f b xs e =
         let q : gens_resolved gs g ≡ gs = cc in
-        where-fits k (meaning x (E vals)) (items_under gs (E vals) body) xs
+        where-fits k (meaning x (En vals)) (items_under gs (En vals) body) xs
         (λ ys i. items-sound gs g vals k body q w.1 h (cond-types (type_of x g) (types_under gs g) h u) f b ys i) e

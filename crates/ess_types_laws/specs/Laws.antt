@@ -20,7 +20,7 @@ use Rattle.ess_semantics.specs.Scopes.{Scope, every}
 use Rattle.ess_semantics.specs.Occurrences.{has_cells}
 use Rattle.ess_types_laws.specs.SoundParts.{sound_parts}
 use Rattle.ess_types_laws.specs.ProperDomains.{is_proper}
-use Rattle.ess_types_laws.specs.WellBound.{WellBound}
+use Rattle.ess_types_laws.specs.WellBound.{BoundWith, WellBound, HasItsType}
 
 -- A resolved expression has the type that the expression had before.
 abbrev pub ResolvingKeepsTypes : Type 0
@@ -61,6 +61,11 @@ pub record TypesStay : Type 0 where
   pub over_domains : (g : Names Ty) (p : Pat) (d : Dom) → pattern_fits p (type_of_dom d) ≡ true → OverStays Typed g p d
   pub from_sources : (g : Names Ty) (p : Pat) (e : Ex) (t m : Ty) → IsResolved e g → WellBound e g → type_of e g ≡ Some t → member_ty t ≡ Some m →
       pattern_fits p m ≡ true → FromStays Typed g p e
+
+-- So it is over tables, where each cell and view in the expression has values of its type.
+abbrev pub MeaningsOverTablesHaveTheirType : Type 0
+MeaningsOverTablesHaveTheirType = (e : Ex) (g : Names Ty) (env : Env) → IsResolved e g → BoundWith (HasItsType env) e g → Typed g env → (t : Ty) →
+    type_of e g ≡ Some t → (v : Value) → meaning e env ≡ Some v → IsTrue (is_of_type t env v)
 
 -- So it is with each judged expression without cells and views: resolved, it has nothing or a value of its type under an env
 -- that gives the names in scope values of their types.

@@ -1,6 +1,6 @@
 //! Laws on types, each the contract of a function that does nothing.
 
-ghost use Rattle.ess_types_laws.specs.Laws.{ResolvingKeepsTypes, ResolvedTreesStay, PreparedIsResolved, MembersHaveTheirType, ListedMembersHaveTheirType, PatternsBindTheirTypes, MeaningsHaveTheirType, JudgedExpressionsAreSound, TypesStay};
+ghost use Rattle.ess_types_laws.specs.Laws.{ResolvingKeepsTypes, ResolvedTreesStay, PreparedIsResolved, MembersHaveTheirType, ListedMembersHaveTheirType, PatternsBindTheirTypes, MeaningsHaveTheirType, MeaningsOverTablesHaveTheirType, JudgedExpressionsAreSound, TypesStay};
 
 /// A resolved expression has the type that the expression had before.
 pub fn resolving_keeps_types()
@@ -36,6 +36,11 @@ pub fn patterns_bind_their_types()
 /// or a value of it.
 pub fn meanings_have_their_type()
     ensures { MeaningsHaveTheirType }
+{}
+
+/// So it is over tables, where each cell and view in the expression has values of its type.
+pub fn meanings_over_tables_have_their_type()
+    ensures { MeaningsOverTablesHaveTheirType }
 {}
 
 /// So it is with each judged expression without cells and views, once it is resolved.
