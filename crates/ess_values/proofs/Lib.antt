@@ -1,4 +1,5 @@
 pub mod Orders
+pub mod EqualValues
 pub mod Canonical
 pub mod Repeated
 pub mod Arguments

@@ -1,4 +1,5 @@
-ghost use Rattle.std.specs.Prelude.{◌≡◌, map};
+ghost use Rattle.std.specs.Prelude.{◌≡◌, ◌↔◌, map};
+ghost use Rattle.std.specs.declared.cmp.Ordering.TheVariants.{Equal};
 ghost use Rattle.ess_semantics.specs.Values.{of_list};
 ghost use Rattle.ess_semantics.specs.Names.{keys};
 ghost use Rattle.ess_semantics.specs.Order.{order as order_of, orders, order_texts};
@@ -10,9 +11,18 @@ use std::cmp::Ordering;
 
 /// The order of two values of one type: numbers by size, false below true, values of a named type by position, and all
 /// else lexicographically over the lists of the value, where a prefix is lower. Values of different kinds are ordered by
-/// their kinds. It takes no memory.
-#[cycle(order)]
+/// their kinds. It is `Equal` exactly
+/// where the two are equal. It takes no memory.
 pub fn order(a: &Val, b: &Val) -> Ordering
+    ensures order { result ≡ order_of (pure_val a.now) (pure_val b.now) }
+    ensures equal { (result ≡ Equal) ↔ (a.now ≡ b.now) }
+{
+    order_val(a, b)
+}
+
+/// The order of two values.
+#[cycle(order)]
+pub(crate) fn order_val(a: &Val, b: &Val) -> Ordering
     ensures { result ≡ order_of (pure_val a.now) (pure_val b.now) }
 {
     match (a, b) {
@@ -67,7 +77,7 @@ fn order_vals(a: &[Val], b: &[Val]) -> Ordering
         if i >= b.len() {
             return Ordering::Greater;
         }
-        let found = order(x, &b[i]);
+        let found = order_val(x, &b[i]);
         if found != Ordering::Equal {
             return found;
         }
@@ -110,7 +120,7 @@ fn order_fields(a: &[FieldVal], b: &[FieldVal]) -> Ordering
         if i >= b.len() {
             return Ordering::Greater;
         }
-        let found = order(&x.val, &b[i].val);
+        let found = order_val(&x.val, &b[i].val);
         if found != Ordering::Equal {
             return found;
         }
@@ -149,5 +159,5 @@ fn order_pairs(a: &[Pair], b: &[Pair]) -> Ordering
 pub fn order_pair(a: &Pair, b: &Pair) -> Ordering
     ensures { result ≡ order_of (pure_pair a.now) (pure_pair b.now) }
 {
-    order(&a.from, &b.from).then(order(&a.to, &b.to))
+    order_val(&a.from, &b.from).then(order_val(&a.to, &b.to))
 }

@@ -5,7 +5,7 @@ ghost use Rattle.ess_core.specs.ValueViews.{pure_val, pure_pair};
 ghost use Rattle.ess_values.specs.Neighbours.{neighbours_differ};
 ghost use Rattle.ess_values.specs.declared.functions.FunctionNo.TheVariants.{DoubleArgument};
 
-use crate::comparing::order;
+use crate::comparing::order_val;
 use crate::sorting::sorted_pairs_once;
 use ess_core::{NoMemory, Pair, Row, Val};
 use std::alloc::Global;
@@ -51,7 +51,7 @@ fn arguments_differ(pairs: &[Pair]) -> bool
 {
     for (i, pair) in pairs.iter().enumerate() {
         if i + 1 < pairs.len() {
-            if order(&pair.from, &pairs[i + 1].from) == Ordering::Equal {
+            if order_val(&pair.from, &pairs[i + 1].from) == Ordering::Equal {
                 return false;
             }
         }

@@ -3,7 +3,7 @@ ghost use Rattle.ess_semantics.specs.Collections.{sorted, sorted_once};
 ghost use Rattle.ess_core.specs.ValueViews.{pure_val, pure_pair};
 ghost use Rattle.ess_values.specs.Neighbours.{neighbours_differ};
 
-use crate::comparing::{order, order_pair};
+use crate::comparing::{order_pair, order_val};
 use ess_core::{NoMemory, Pair, Row, Val};
 use std::cmp::Ordering;
 
@@ -12,7 +12,7 @@ pub fn sorted(items: Row<Val>) -> Result<Row<Val>, NoMemory>
     ensures { IfOk result (λ r. map pure_val r ≡ sorted (map pure_val items)) }
 {
     let mut items = items.into_vec();
-    items.sort_by(|a, b| order(a, b))?;
+    items.sort_by(|a, b| order_val(a, b))?;
     Ok(Row::from_vec(items))
 }
 
@@ -21,8 +21,8 @@ pub fn sorted_once(items: Row<Val>) -> Result<Row<Val>, NoMemory>
     ensures { IfOk result (λ r. map pure_val r ≡ sorted_once (map pure_val items)) }
 {
     let mut items = items.into_vec();
-    items.sort_by(|a, b| order(a, b))?;
-    items.dedup_by(|a, b| order(a, b) == Ordering::Equal);
+    items.sort_by(|a, b| order_val(a, b))?;
+    items.dedup_by(|a, b| order_val(a, b) == Ordering::Equal);
     Ok(Row::from_vec(items))
 }
 
@@ -42,7 +42,7 @@ pub fn neighbours_apart(items: &[Val]) -> bool
 {
     for (i, item) in items.iter().enumerate() {
         if i + 1 < items.len() {
-            if order(item, &items[i + 1]) == Ordering::Equal {
+            if order_val(item, &items[i + 1]) == Ordering::Equal {
                 return false;
             }
         }
