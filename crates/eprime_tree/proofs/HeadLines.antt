@@ -32,21 +32,24 @@ mark-one_line (a ∷ b ∷ bs) l e h = go (same_text (a ∷ b ∷ []) (codes "$ 
 
 marked-one_line : (n : ℕ) (t : Text) → list_all one_line (marked_lines n t) ≡ true
 marked-one_line zero t = refl
-marked-one_line (suc n) t = go (behind_mark (first_line t)) refl
+marked-one_line (suc n) t = go (marked-one_line n (next_lines t)) (behind_mark (first_line t)) refl
   where
-    go : (o : Option Text) → behind_mark (first_line t) ≡ o → list_all one_line (elim o [ Some l ↦ l ∷ marked_lines n (next_lines t) | None ↦ [] ]) ≡ true
-    go None e = refl
-    go (Some l) e = and-both (one_line l) (list_all one_line (marked_lines n (next_lines t))) (mark-one_line (first_line t) l e (first-one_line t)) (marked-one_line n (next_lines t))
+    go : list_all one_line (marked_lines n (next_lines t)) ≡ true → (o : Option Text) → behind_mark (first_line t) ≡ o →
+        list_all one_line (elim o [ Some l ↦ l ∷ marked_lines n (next_lines t) | None ↦ [] ]) ≡ true
+    go ih None e = refl
+    go ih (Some l) e =
+        and-both (one_line l) (list_all one_line (marked_lines n (next_lines t))) (mark-one_line (first_line t) l e (first-one_line t)) ih
 
 utf8-head : (ls : List Text) → list_all one_line ls ≡ true → list_all is_head_line (utf8_lines ls) ≡ true
 utf8-head [] h = refl
-utf8-head (l ∷ ls) h = go (is_utf8 l) refl
+utf8-head (l ∷ ls) h = go (utf8-head ls (and-right (one_line l) (list_all one_line ls) h)) (is_utf8 l) refl
   where
-    go : (b : Bool) → is_utf8 l ≡ b → list_all is_head_line (if b then l ∷ utf8_lines ls else []) ≡ true
-    go true e =
-        and-both (is_head_line l) (list_all is_head_line (utf8_lines ls)) (and-both (is_utf8 l) (one_line l) e (and-left (one_line l) (list_all one_line ls) h))
-        (utf8-head ls (and-right (one_line l) (list_all one_line ls) h))
-    go false e = refl
+    go : list_all is_head_line (utf8_lines ls) ≡ true → (b : Bool) → is_utf8 l ≡ b →
+        list_all is_head_line (if b then l ∷ utf8_lines ls else []) ≡ true
+    go ih true e =
+        and-both (is_head_line l) (list_all is_head_line (utf8_lines ls))
+        (and-both (is_utf8 l) (one_line l) e (and-left (one_line l) (list_all one_line ls) h)) ih
+    go ih false e = refl
 
 pub header-head : (t : Text) → list_all is_head_line (header_lines t) ≡ true
 header-head t =

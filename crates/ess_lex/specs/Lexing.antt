@@ -31,7 +31,7 @@ answered (Err (LexNo.WideNumber p)) more = wide_number p
 -- A number's kind is at least 0, so that each token has one kind.
 abbrev pub IsNatural : Kind → Type 0
 IsNatural (Kind.Num n) = pos (nat_of n) ≡ n
-IsNatural kind = Unit {0}
+IsNatural _ = Unit {0}
 
 -- the first refusal of what is to come
 abbrev pub refusal : Lexed → Option LexNo

@@ -9,7 +9,8 @@ use std::alloc::Global;
 /// The bytes of a token as a name, where it is one. `NoMemory` where there is no room for them.
 pub(crate) fn name_of(alloc: Global, kind: Kind, text: &[u8]) -> Result<Text, NoMemory>
     requires { IsAscii text.now }
-    ensures { IfOk result (λ name. token kind name ≡ token kind text.now) }
+    ensures same { IfOk result (λ name. token kind name ≡ token kind text.now) }
+    ensures ascii { IfOk result (λ name. IsAscii name) }
 {
     match kind {
         Kind::Name => Text::from_ascii(alloc, text),

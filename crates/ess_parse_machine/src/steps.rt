@@ -2,6 +2,7 @@
 #![tactic(auto, using(ess_parse_frames::proofs::StackLaws::frames_none))]
 
 ghost use Rattle.std.specs.Prelude.{◌≡◌, false, IfOk};
+ghost use Rattle.std.specs.Str.{IsAscii};
 ghost use Rattle.ess_grammar.specs.Words.{Text};
 ghost use Rattle.ess_grammar.specs.Kinds.{token};
 ghost use Rattle.ess_parse_laws.specs.Machine.{step};
@@ -58,6 +59,7 @@ pub(crate) fn step_in(
     mode: Mode,
     frames: Row<Frame>,
 ) -> Result<Option<State>, NoMemory>
+    requires { IsAscii name }
     ensures { IfOk result (Steps (step (token kind name) (view_mode mode) (view_frames frames))) }
 {
     match mode {
