@@ -19,3 +19,9 @@ pub mod Connectives
 pub mod Guards
 pub mod Horizontal
 pub mod ExamplesKept
+pub mod RuleAnswers
+pub mod FoldRules
+pub mod MembershipRules
+pub mod ContainerValues
+pub mod InclusionRules
+pub mod SizeRules
