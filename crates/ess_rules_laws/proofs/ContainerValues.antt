@@ -64,6 +64,7 @@ pub record Pair (R : List Value → Type 0) (a b : Value) : Type 0 where
   pub right_items : items_of b ≡ to_list right
   pub left_rises : R (to_list left)
   pub right_rises : R (to_list right)
+  pub parts : (us : Values) → items_of (node kind us) ≡ to_list us
 
 -- Lists that rise strictly.
 abbrev pub Strictly : List Value → Type 0
@@ -130,7 +131,7 @@ set-equal a b p = both-ways _ _
     (λ h. subst (λ z. same a z ≡ true) (pair-equal Strictly one-strictly a b p (within-both a b (set-within a b p ∙ and-left _ _ h) (set-within b a (turned a b p) ∙ and-right _ _ h))) (same-itself a))
   where
     turned : (a b : Value) → Pair Strictly a b → Pair Strictly b a
-    turned a b p = record { kind = p.kind; left = p.right; right = p.left; left_is = p.right_is; right_is = p.left_is; left_items = p.right_items; right_items = p.left_items; left_rises = p.right_rises; right_rises = p.left_rises }
+    turned a b p = record { kind = p.kind; left = p.right; right = p.left; left_is = p.right_is; right_is = p.left_is; left_items = p.right_items; right_items = p.left_items; left_rises = p.right_rises; right_rises = p.left_rises; parts = p.parts }
 
 -- ---- multisets
 
@@ -177,6 +178,7 @@ module _ (p : Bool) (es : List TypeEntry) where
     right_items = ap items_of y.1 ∙ parts y.0;
     left_rises = x.2;
     right_rises = y.2;
+    parts = parts;
   }
 
   -- Values of two types that are both of sets or both of relations.

@@ -25,3 +25,6 @@ pub mod MembershipRules
 pub mod ContainerValues
 pub mod InclusionRules
 pub mod SizeRules
+pub mod ListedItems
+pub mod Listings
+pub mod ExamplesRules

@@ -6,3 +6,4 @@ pub mod MembershipRules
 pub mod InclusionRules
 pub mod SizeRules
 pub mod RuleLaws
+pub mod Listings

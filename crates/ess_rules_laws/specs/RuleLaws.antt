@@ -1,5 +1,13 @@
 -- The laws of the rules, a record for each group of rules.
-use Rattle.ess_rules_laws.specs.Rules.{RuleKeeps, RuleKeepsWhere, RuleKeepsNew, RuleKeepsNewThere, RuleKeepsTyped, RuleKeepsTypedThere, OperandsThere}
+use Rattle.std.specs.Prelude.{◌≡◌, List, Some}
+use Rattle.ess_semantics.specs.Values.{Text}
+use Rattle.ess_semantics.specs.Names.{Names}
+use Rattle.ess_semantics.specs.Trees.{Ex}
+use Rattle.ess_semantics.specs.Types.{Ty}
+use Rattle.ess_semantics.specs.Typed.{Typed}
+use Rattle.ess_semantics.specs.Meaning.{Env}
+use Rattle.ess_rules_laws.specs.Listings.{Alternative, Lists, listing}
+use Rattle.ess_rules_laws.specs.Rules.{Unused, SoundOperands, RuleKeeps, RuleKeepsWhere, RuleKeepsNew, RuleKeepsNewThere, RuleKeepsTyped, RuleKeepsTypedThere, OperandsThere}
 use Rattle.ess_rules_laws.specs.FoldRules.{fold_alone, fold_nothing, fold_one, fold_term, ItemFits}
 use Rattle.ess_rules_laws.specs.MembershipRules.{member_term, member_combined, member_changed, member_listed, CombinedThere, ItemsThere}
 use Rattle.ess_rules_laws.specs.InclusionRules.{unequal, included_turned, included_strictly, included_members, included_often, equal_members, equal_often}
@@ -34,3 +42,9 @@ pub record SizeRulesKeep : Type 0 where
   pub size : RuleKeepsTyped size_term
   pub frequency : RuleKeepsNewThere frequency_term
   pub together : RuleKeepsNew together_term
+
+-- What a container term offers lists its members: comprehensions, literals, unions, intersections and differences of sets and
+-- of relations, and containers with the members of another one.
+abbrev pub ListingsList : Type 0
+ListingsList = (g : Names Ty) (x : Text) (e : Ex) (l : List Alternative) → listing g x e ≡ Some l → Unused x e → SoundOperands g e →
+    (env : Env) → Typed g env → OperandsThere e env → Lists e l env

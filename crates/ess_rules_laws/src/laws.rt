@@ -1,7 +1,7 @@
 //! Laws of rewriting, each the contract of a function that does nothing.
 
 ghost use Rattle.ess_rules_laws.specs.Laws.{UnusedNamesChangeNothing, PartsMayBeReplaced, StepsKeepTheWhole, KeptPartsKeepTheWhole, RewritingKeepsTheWhole};
-ghost use Rattle.ess_rules_laws.specs.RuleLaws.{FoldRulesKeep, MembershipRulesKeep, InclusionRulesKeep, SizeRulesKeep};
+ghost use Rattle.ess_rules_laws.specs.RuleLaws.{FoldRulesKeep, MembershipRulesKeep, InclusionRulesKeep, SizeRulesKeep, ListingsList};
 
 /// A value of a name that isn't free in an expression changes no meaning. So a bound name may be any name that isn't free
 /// there, and one that a parameter brings may be bound.
@@ -50,4 +50,9 @@ pub fn inclusion_rules_keep()
 /// The rules of `|..|`, `freq` and `together` keep what they rewrite.
 pub fn size_rules_keep()
     ensures { SizeRulesKeep }
+{}
+
+/// What a container term offers lists its members, each as often as it is there.
+pub fn listings_list()
+    ensures { ListingsList }
 {}
