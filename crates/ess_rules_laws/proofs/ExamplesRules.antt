@@ -3,15 +3,16 @@ use Rattle.std.specs.Prelude.{◌≡◌, refl, true, false, [], ◌∷◌, pos, 
 use Rattle.ess_semantics.specs.declared.words.Op1.{Op1}
 use Rattle.ess_semantics.specs.declared.words.Op2.{Op2}
 use Rattle.ess_semantics.specs.declared.words.Fun.{Fun}
-use Rattle.ess_semantics.specs.Values.{Text, truth, number, a_set, a_mset}
+use Rattle.ess_semantics.specs.Values.{Text, a_tuple, truth, number, a_set, a_mset}
 use Rattle.ess_semantics.specs.Names.{Names}
-use Rattle.ess_semantics.specs.Trees.{name_pat, set_literal, mset_literal, matrix_literal, Ex, node_ex, comp_ex, ex1, no_exs, no_gens, from, cond}
-use Rattle.ess_semantics.specs.Types.{Ty, int_ty, compound1}
+use Rattle.ess_semantics.specs.Trees.{truth_ex, name_pat, set_literal, mset_literal, matrix_literal, Ex, node_ex, comp_ex, ex1, no_exs, no_gens, from, cond}
+use Rattle.ess_semantics.specs.Types.{Ty, bool_ty, int_ty, compound, compound1, no_tys, more_tys}
 use Rattle.ess_semantics.specs.Meaning.{empty_env, meaning}
 use Rattle.ess_semantics.proofs.Shorthands.{N, n, es1, es2, bi, fn}
 use Rattle.ess_rules_laws.specs.FoldRules.{fold_alone, fold_nothing, fold_one, fold_term}
 use Rattle.ess_rules_laws.specs.MembershipRules.{member_term, member_combined, member_changed, member_listed}
 use Rattle.ess_rules_laws.specs.InclusionRules.{every, frequency, unequal, included_turned, included_strictly, included_members, included_often, equal_members, equal_often}
+use Rattle.ess_rules_laws.specs.ComponentRules.{component_of, equal_components}
 use Rattle.ess_rules_laws.specs.SizeRules.{size_term, frequency_term}
 use Rattle.ess_rules_laws.specs.Listings.{those, listing}
 
@@ -165,3 +166,19 @@ difference_listed = refl
 -- a difference of numbers has no listing
 numbers_not_listed : listing g x (bi Op2.Minus (n 2) (n 1)) ≡ None
 numbers_not_listed = refl
+
+-- ---- components
+
+-- a pair of a number and a truth value
+abbrev pair_ty : Ty
+pair_ty = compound a_tuple (more_tys int_ty (more_tys bool_ty no_tys))
+
+pairs_equal : equal_components ((x, pair_ty) ∷ (y, pair_ty) ∷ []) a (bi Op2.Eq (N x) (N y))
+    ≡ Some (bi Op2.And (bi Op2.Eq (component_of int_ty 1 (N x)) (component_of int_ty 1 (N y)))
+    (bi Op2.And (bi Op2.Eq (component_of bool_ty 2 (N x)) (component_of bool_ty 2 (N y))) (truth_ex true)))
+pairs_equal = refl
+
+-- Where x and y have no value `x = y` is false, and `x[1] = y[1]` of truth values is true.
+components_without_value : (meaning (bi Op2.Eq (N x) (N y)) empty_env ≡ Some (truth false))
+    × (meaning (bi Op2.Eq (component_of bool_ty 1 (N x)) (component_of bool_ty 1 (N y))) empty_env ≡ Some (truth true))
+components_without_value = (refl, refl)

@@ -28,3 +28,4 @@ pub mod SizeRules
 pub mod ListedItems
 pub mod Listings
 pub mod ExamplesRules
+pub mod ComponentRules

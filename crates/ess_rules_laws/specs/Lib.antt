@@ -7,3 +7,4 @@ pub mod InclusionRules
 pub mod SizeRules
 pub mod RuleLaws
 pub mod Listings
+pub mod ComponentRules

@@ -1,7 +1,7 @@
 //! Laws of rewriting, each the contract of a function that does nothing.
 
 ghost use Rattle.ess_rules_laws.specs.Laws.{UnusedNamesChangeNothing, PartsMayBeReplaced, StepsKeepTheWhole, KeptPartsKeepTheWhole, RewritingKeepsTheWhole};
-ghost use Rattle.ess_rules_laws.specs.RuleLaws.{FoldRulesKeep, MembershipRulesKeep, InclusionRulesKeep, SizeRulesKeep, ListingsList};
+ghost use Rattle.ess_rules_laws.specs.RuleLaws.{FoldRulesKeep, MembershipRulesKeep, InclusionRulesKeep, SizeRulesKeep, ComponentRulesKeep, ListingsList};
 
 /// A value of a name that isn't free in an expression changes no meaning. So a bound name may be any name that isn't free
 /// there, and one that a parameter brings may be bound.
@@ -55,4 +55,9 @@ pub fn size_rules_keep()
 /// What a container term offers lists its members, each as often as it is there.
 pub fn listings_list()
     ensures { ListingsList }
+{}
+
+/// The rules of `=` by components keep what they rewrite.
+pub fn component_rules_keep()
+    ensures { ComponentRulesKeep }
 {}
