@@ -63,11 +63,13 @@ size-is-sum x v env k o parts e =
 abbrev pub in_as_or : Text → Ex → Ex → Ex
 in_as_or x e v = fun1 true Fun.Or (comp_ex (ex2 true Op2.Eq (name_ex x) e) (from (name_pat x) v no_gens))
 
-any-holds : (xs : List Value) (w : Value) → list_any (λ u. same u w) xs ≡ holds xs w
+-- Some item is equal to a value where it is one of them.
+pub any-holds : (xs : List Value) (w : Value) → list_any (λ u. same u w) xs ≡ holds xs w
 any-holds [] w = refl
 any-holds (x ∷ xs) w = ap (λ b. same x w || b) (any-holds xs w)
 
-any-never : (xs : List Value) → list_any (λ u. false) xs ≡ false
+-- No item is ever.
+pub any-never : (xs : List Value) → list_any (λ u. false) xs ≡ false
 any-never [] = refl
 any-never (x ∷ xs) = any-never xs
 

@@ -20,3 +20,13 @@ pub mod Guards
 pub mod Horizontal
 pub mod SameItems
 pub mod ExamplesKept
+pub mod RuleAnswers
+pub mod FoldRules
+pub mod MembershipRules
+pub mod ContainerValues
+pub mod InclusionRules
+pub mod SizeRules
+pub mod ListedItems
+pub mod Listings
+pub mod ExamplesRules
+pub mod ComponentRules

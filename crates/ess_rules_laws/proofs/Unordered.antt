@@ -53,7 +53,7 @@ product-perm (skip {x = x} p) = ap (λ n. number_in x *ℤ n) (product-perm p)
 product-perm (swap {x = x} {y = y} {xs = xs}) = product-swap (number_in x) (number_in y) (product_of xs)
 product-perm (chain p q) = product-perm p ∙ product-perm q
 
-same-turned : (x y : Value) → same x y ≡ same y x
+pub same-turned : (x y : Value) → same x y ≡ same y x
 same-turned x y = both-ways (same x y) (same y x) (λ e. go x y (same-equal x y e)) (λ e. go y x (same-equal y x e))
   where
     go : (x y : Value) → x ≡ y → same y x ≡ true

@@ -1,2 +1,10 @@
 pub mod Rewriting
 pub mod Laws
+pub mod Rules
+pub mod FoldRules
+pub mod MembershipRules
+pub mod InclusionRules
+pub mod SizeRules
+pub mod RuleLaws
+pub mod Listings
+pub mod ComponentRules

@@ -1,6 +1,7 @@
 //! Laws of rewriting, each the contract of a function that does nothing.
 
 ghost use Rattle.ess_rules_laws.specs.Laws.{UnusedNamesChangeNothing, PartsMayBeReplaced, StepsKeepTheWhole, KeptPartsKeepTheWhole, RewritingKeepsTheWhole, WordsForgetOrder};
+ghost use Rattle.ess_rules_laws.specs.RuleLaws.{FoldRulesKeep, MembershipRulesKeep, InclusionRulesKeep, SizeRulesKeep, ComponentRulesKeep, ListingsList};
 
 /// A value of a name that isn't free in an expression changes no meaning. So a bound name may be any name that isn't free
 /// there, and one that a parameter brings may be bound.
@@ -34,4 +35,34 @@ pub fn rewriting_keeps_the_whole()
 /// Over comprehensions that have the same items equally often a word that forgets their order means the same.
 pub fn words_forget_order()
     ensures { WordsForgetOrder }
+{}
+
+/// The rules of folds keep what they rewrite: over a condition alone, over a literal of no item or one, and over any term.
+pub fn fold_rules_keep()
+    ensures { FoldRulesKeep }
+{}
+
+/// The rules of `in` keep what they rewrite.
+pub fn membership_rules_keep()
+    ensures { MembershipRulesKeep }
+{}
+
+/// The rules of `!=`, of the signs of inclusion, and of `=` between sets, relations and multisets keep what they rewrite.
+pub fn inclusion_rules_keep()
+    ensures { InclusionRulesKeep }
+{}
+
+/// The rules of `|..|`, `freq` and `together` keep what they rewrite.
+pub fn size_rules_keep()
+    ensures { SizeRulesKeep }
+{}
+
+/// What a container term offers lists its members, each as often as it is there.
+pub fn listings_list()
+    ensures { ListingsList }
+{}
+
+/// The rules of `=` by components keep what they rewrite.
+pub fn component_rules_keep()
+    ensures { ComponentRulesKeep }
 {}

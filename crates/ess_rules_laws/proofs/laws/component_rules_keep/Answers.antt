@@ -1,0 +1,5 @@
+use Rattle.ess_rules_laws.proofs.laws.component_rules_keep.Goals as goal
+use Rattle.ess_rules_laws.proofs.ComponentRules.{equal_components-keeps}
+
+pub returns : goal.returns
+returns c = record { equal_tuples = equal_components-keeps }

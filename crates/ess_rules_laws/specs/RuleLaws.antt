@@ -1,0 +1,55 @@
+-- The laws of the rules, a record for each group of rules.
+use Rattle.std.specs.Prelude.{◌≡◌, List, Some}
+use Rattle.ess_semantics.specs.Values.{Text}
+use Rattle.ess_semantics.specs.Names.{Names}
+use Rattle.ess_semantics.specs.Trees.{Ex}
+use Rattle.ess_semantics.specs.Types.{Ty}
+use Rattle.ess_semantics.specs.Typed.{Typed}
+use Rattle.ess_semantics.specs.Meaning.{Env}
+use Rattle.ess_rules_laws.specs.Listings.{Alternative, Lists, listing}
+use Rattle.ess_rules_laws.specs.Rules.{Unused, SoundOperands, RuleKeeps, RuleKeepsWhere, RuleKeepsNew, RuleKeepsNewThere, RuleKeepsTyped, RuleKeepsTypedThere, OperandsThere}
+use Rattle.ess_rules_laws.specs.FoldRules.{fold_alone, fold_nothing, fold_one, fold_term, ItemFits}
+use Rattle.ess_rules_laws.specs.MembershipRules.{member_term, member_combined, member_changed, member_listed, CombinedThere, ItemsThere}
+use Rattle.ess_rules_laws.specs.InclusionRules.{unequal, included_turned, included_strictly, included_members, included_often, equal_members, equal_often}
+use Rattle.ess_rules_laws.specs.ComponentRules.{equal_components}
+use Rattle.ess_rules_laws.specs.SizeRules.{size_term, frequency_term, together_term}
+
+-- Rules of `and`, `or`, `sum` and `product` over a condition alone, over literals of no item or one, and over any term.
+pub record FoldRulesKeep : Type 0 where
+  pub over_a_condition : RuleKeeps fold_alone
+  pub over_nothing : RuleKeeps fold_nothing
+  pub over_one : RuleKeepsWhere ItemFits fold_one
+  pub over_a_term : RuleKeepsNew fold_term
+
+-- Rules of `in`: of any container, of unions, intersections and differences, of containers made of others, and of literals.
+pub record MembershipRulesKeep : Type 0 where
+  pub in_a_term : RuleKeepsNew member_term
+  pub in_two : RuleKeepsWhere CombinedThere member_combined
+  pub in_one_made_of_another : RuleKeeps member_changed
+  pub in_a_literal : RuleKeepsWhere ItemsThere member_listed
+
+-- Rules of `!=`, of the signs of inclusion, and of `=` between sets, relations and multisets.
+pub record InclusionRulesKeep : Type 0 where
+  pub not_equal : RuleKeepsWhere OperandsThere unequal
+  pub turned : RuleKeeps included_turned
+  pub strictly : RuleKeepsTyped included_strictly
+  pub of_sets : RuleKeepsTypedThere included_members
+  pub of_multisets : RuleKeepsNewThere included_often
+  pub equal_sets : RuleKeepsTyped equal_members
+  pub equal_multisets : RuleKeepsTyped equal_often
+
+-- Rules of `|..|`, `freq` and `together`.
+pub record SizeRulesKeep : Type 0 where
+  pub size : RuleKeepsTyped size_term
+  pub frequency : RuleKeepsNewThere frequency_term
+  pub together : RuleKeepsNew together_term
+
+-- Rules of `=` by components.
+pub record ComponentRulesKeep : Type 0 where
+  pub equal_tuples : RuleKeepsTypedThere equal_components
+
+-- What a container term offers lists its members: comprehensions, literals, unions, intersections and differences of sets and
+-- of relations, and containers with the members of another one.
+abbrev pub ListingsList : Type 0
+ListingsList = (g : Names Ty) (x : Text) (e : Ex) (l : List Alternative) → listing g x e ≡ Some l → Unused x e → SoundOperands g e →
+    (env : Env) → Typed g env → OperandsThere e env → Lists e l env
