@@ -110,6 +110,13 @@ pub mod StructureSlots
 pub mod StructureOccurrences
 pub mod CanonicalSlotTests
 pub mod StructureMeans
+pub mod StructurePlaces
+pub mod StructureOf
+pub mod StructureLayers
+pub mod StructureMatrices
+pub mod StructureTuples
+pub mod StructureAtoms
+pub mod StructureSets
 pub mod StructureAll
 pub mod StructureOfTables
 pub mod ExamplesStructure

@@ -1,5 +1,5 @@
 -- The structure constraint of slots means that the cells are canonical.
-use Rattle.std.proofs.Common.{◌≡◌, refl, sym, ap, ◌∙◌, ℕ, ◌+◌, ◌≤◌, ◌<◌, Bool, true, false, ◌&&◌, ◌||◌, not, List, [], ◌∷◌, ◌++◌, length, ℤ, pos, ◌+ℤ◌, Some, option_map, int_le, arith, le_refl, append-nil}
+use Rattle.std.proofs.Common.{◌≡◌, refl, sym, ap, ◌∙◌, ℕ, ◌≤◌, ◌<◌, Bool, true, false, ◌&&◌, ◌||◌, not, List, [], ◌∷◌, ◌++◌, length, ℤ, pos, ◌+ℤ◌, Some, option_map, int_le, arith, le_refl, append-nil}
 use Rattle.std.specs.List.{list_all}
 use Rattle.std.specs.Ordering.{is_lt}
 use Rattle.ess_semantics.specs.declared.words.ReprKind.{ReprKind}
