@@ -12,6 +12,7 @@ use Rattle.ess_repr_laws.proofs.StructureOf.{StructureOf}
 use Rattle.ess_repr_laws.proofs.StructureAtoms.{atom-structure}
 use Rattle.ess_repr_laws.proofs.StructureTuples.{EachStructure, none-structure, more-structure, tuple-structure, record-structure}
 use Rattle.ess_repr_laws.proofs.StructureMatrices.{matrix-structure}
+use Rattle.ess_repr_laws.proofs.StructureFlags.{flags-structure}
 use Rattle.ess_repr_laws.proofs.StructureSets.{occurrence-structure, explicit-structure, marker-structure}
 
 module _ (env0 : Env) (q : ℕ → Text) (q-apart : (m l : ℕ) → l < m → same_text (q m) (q l) ≡ false) (terms : Terms) where
@@ -28,6 +29,8 @@ module _ (env0 : Env) (q : ℕ → Text) (q-apart : (m l : ℕ) → l < m → sa
         explicit-structure env0 q q-apart terms r ms es d ks e (structures r d e h.2) h.0 h.1
     structures (repr ReprKind.ExplicitVarSizeWithMarker (more_reprs r no_reprs)) (set_dom ms es d) (sets ks e) h =
         marker-structure env0 q q-apart terms r ms es d ks e (structures r d e h.2) h.0 h.1
+    structures (repr ReprKind.ExplicitVarSizeWithFlags (more_reprs r no_reprs)) (set_dom ms es d) (sets ks e) h =
+        flags-structure env0 q q-apart terms r ms es d ks e (structures r d e h.2) h.0 h.1
     structures _ d e h = absurd h
 
     -- The same of components.

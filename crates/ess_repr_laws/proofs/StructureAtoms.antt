@@ -19,6 +19,7 @@ use Rattle.ess_semantics.proofs.Tests.{and-left}
 use Rattle.ess_repr_laws.specs.Structure.{Terms, first_name, own_shape}
 use Rattle.ess_repr_laws.specs.StructureMeaning.{fit, Bound, M, Placed, AtomReady}
 use Rattle.ess_repr_laws.proofs.FittingCells.{cells_fit}
+use Rattle.ess_repr_laws.proofs.StructureFits.{Fit}
 use Rattle.ess_repr_laws.proofs.StructureRows.{Steady, There, grid_at}
 use Rattle.ess_repr_laws.proofs.StructureOf.{StructureOf}
 
@@ -84,13 +85,13 @@ module _ (env0 : Env) (q : ℕ → Text) (q-apart : (m l : ℕ) → l < m → sa
 
   module _ (d : Dom) (e : Domain) (a : IsAtom e) (b : is_bool_dom d ≡ true → e ≡ booleans) (h : AtomReady env0 q q-apart terms d e) where
     there : (out : Bool) (ns : List Text) (ts : Tables) (i : List ℤ) → Placed env0 q q-apart (own_shape ns (is_bool_dom d) [] ∷ []) ([] ∷ []) ts →
-        cells_fit (declarations_below out (repr ReprKind.Atom no_reprs) e) (behind i (cells_of ts)) ≡ true → There env0 q q-apart (own_shape ns (is_bool_dom d) [] ∷ []) ([] ∷ []) ts i
-    there out ns (t ∷ []) i p c = (atom-there out d e a b (cell_at t (i ++ [])) (one-grid out e a (grid_at env0 q q-apart t i) c), tt)
+        Fit (declarations_below out (repr ReprKind.Atom no_reprs) e) (behind i (cells_of ts)) → There env0 q q-apart (own_shape ns (is_bool_dom d) [] ∷ []) ([] ∷ []) ts i
+    there out ns (t ∷ []) i p c = (atom-there out d e a b (cell_at t (i ++ [])) (one-grid out e a (grid_at env0 q q-apart t i) c.0), tt)
     there out ns [] i p c = absurd p
     there out ns (t ∷ u ∷ ts) i p c = absurd p.2
 
     means : (out : Bool) (ns : List Text) (ts : Tables) (l : ℕ) (is : Exs) (i : List ℤ) (bs : Bound env0 q q-apart) → Placed env0 q q-apart (own_shape ns (is_bool_dom d) [] ∷ []) ([] ∷ []) ts →
-        cells_fit (declarations_below out (repr ReprKind.Atom no_reprs) e) (behind i (cells_of ts)) ≡ true → Steady env0 q q-apart l is i bs →
+        Fit (declarations_below out (repr ReprKind.Atom no_reprs) e) (behind i (cells_of ts)) → Steady env0 q q-apart l is i bs →
         meaning (terms.atom d (cell_ex (is_bool_dom d) (first_name ns) is)) (M env0 q q-apart bs) ≡ Some (truth (canonical (repr ReprKind.Atom no_reprs) e (behind i (cells_of ts))))
     means out ns (t ∷ []) l is i bs p c st = let x = there out ns (t ∷ []) i p c in atom-means d e a h (first_name ns) t l is i bs p.0 x.0 st
     means out ns [] l is i bs p c st = absurd p

@@ -1,5 +1,5 @@
 -- What is shown of the structure constraint of a view, and what of this a layer over one child takes from the child.
-use Rattle.std.proofs.Common.{◌≡◌, refl, sym, ap, ◌∙◌, subst, ℕ, ◌<◌, Bool, true, false, List, [], ◌∷◌, ◌++◌, map, length, ℤ, Some}
+use Rattle.std.proofs.Common.{◌≡◌, refl, sym, ap, ◌∙◌, subst, ℕ, ◌<◌, Bool, false, List, [], ◌∷◌, ◌++◌, map, length, ℤ, Some}
 use Rattle.std.proofs.lemmas.List.{map-append}
 use Rattle.ess_semantics.specs.Values.{Text, Value, truth}
 use Rattle.ess_semantics.specs.Order.{same_text}
@@ -17,9 +17,9 @@ use Rattle.ess_repr_laws.specs.StructureMeaning.{Bound, M, Placed, axes_members,
 use Rattle.ess_repr_laws.proofs.Behind.{behind-length}
 use Rattle.ess_repr_laws.proofs.CanonicalPlaces.{AllOf, all-of-map}
 use Rattle.ess_repr_laws.proofs.CellsOfMembers.{map-long}
-use Rattle.ess_repr_laws.proofs.FittingCells.{cells_fit}
+use Rattle.ess_repr_laws.proofs.StructureFits.{Fit, places-fit}
 use Rattle.ess_repr_laws.proofs.StructureRows.{Steady, There, codes, all_codes}
-use Rattle.ess_repr_laws.proofs.StructurePlaces.{MeansAt, inner-placed, outer-there, places-fit, placed-long}
+use Rattle.ess_repr_laws.proofs.StructurePlaces.{MeansAt, inner-placed, outer-there, placed-long}
 
 module _ (env0 : Env) (q : ℕ → Text) (q-apart : (m l : ℕ) → l < m → same_text (q m) (q l) ≡ false) (terms : Terms) where
   -- The structure constraint of a view, over tables on the declared axes with items in the declared domains, which may be out
@@ -29,9 +29,9 @@ module _ (env0 : Env) (q : ℕ → Text) (q-apart : (m l : ℕ) → l < m → sa
     pub long : (ns : List Text) → length (shapes q terms r d ns) ≡ width r
     pub axes : all_codes env0 q q-apart (axes_members r e) ≡ axes_of r e
     pub there : (out : Bool) (ns : List Text) (ts : Tables) (i : List ℤ) → Placed env0 q q-apart (shapes q terms r d ns) (axes_members r e) ts →
-        cells_fit (declarations_below out r e) (behind i (cells_of ts)) ≡ true → There env0 q q-apart (shapes q terms r d ns) (axes_members r e) ts i
+        Fit (declarations_below out r e) (behind i (cells_of ts)) → There env0 q q-apart (shapes q terms r d ns) (axes_members r e) ts i
     pub means : (out : Bool) (ns : List Text) (ts : Tables) (l : ℕ) (is : Exs) (i : List ℤ) (bs : Bound env0 q q-apart) →
-        Placed env0 q q-apart (shapes q terms r d ns) (axes_members r e) ts → cells_fit (declarations_below out r e) (behind i (cells_of ts)) ≡ true →
+        Placed env0 q q-apart (shapes q terms r d ns) (axes_members r e) ts → Fit (declarations_below out r e) (behind i (cells_of ts)) →
         Steady env0 q q-apart l is i bs → meaning (structure q terms r d ns l is) (M env0 q q-apart bs) ≡ Some (truth (canonical r e (behind i (cells_of ts))))
 
   -- Axes in front are members in front.
@@ -47,7 +47,7 @@ module _ (env0 : Env) (q : ℕ → Text) (q-apart : (m l : ℕ) → l < m → sa
   module _ (r : Repr) (d : Dom) (e : Domain) (child : StructureOf r d e) (as' : List Dom) (uss : List (List Value)) (bs : Axes) (same : codes env0 q q-apart uss ≡ bs)
       (even : length as' ≡ length uss) (out : Bool) (ns : List Text) (ts : Tables) (i : List ℤ)
       (p : Placed env0 q q-apart (map (on_axes as') (shapes q terms r d ns)) (on_members uss (axes_members r e)) ts)
-      (c : cells_fit (under bs (declarations_below out r e) ++ []) (behind i (cells_of ts)) ≡ true) where
+      (c : Fit (under bs (declarations_below out r e) ++ []) (behind i (cells_of ts))) where
     -- The child's tables are found by their names.
     pub child-placed : Placed env0 q q-apart (shapes q terms r d ns) (axes_members r e) ts
     child-placed = inner-placed env0 q q-apart as' uss (shapes q terms r d ns) (axes_members r e) ts even p
@@ -57,7 +57,7 @@ module _ (env0 : Env) (q : ℕ → Text) (q-apart : (m l : ℕ) → l < m → sa
     child-long = behind-length i (cells_of ts) ∙ map-long _ ts ∙ placed-long env0 q q-apart (shapes q terms r d ns) (axes_members r e) ts child-placed ∙ child.long ns
 
     -- They lie in their domains at each place.
-    pub child-fits : AllOf (lists_of bs) (λ js. cells_fit (declarations_below out r e) (behind (i ++ js) (cells_of ts)) ≡ true)
+    pub child-fits : AllOf (lists_of bs) (λ js. Fit (declarations_below out r e) (behind (i ++ js) (cells_of ts)))
     child-fits = places-fit bs (declarations_below out r e) ts i c
 
     -- At each place the child's cells are there.

@@ -9,41 +9,15 @@ use Rattle.ess_semantics.specs.Order.{same_text}
 use Rattle.ess_semantics.specs.Trees.{Ex, Exs, name_ex, Dom}
 use Rattle.ess_semantics.specs.Domains.{add_heads, lists_of}
 use Rattle.ess_semantics.specs.Operators.{all_true}
-use Rattle.ess_semantics.specs.Tables.{Tables, code, cell_at, is_cell}
-use Rattle.ess_semantics.specs.Cells.{Cells, Axes, behind, cells_of, every_cell}
-use Rattle.ess_semantics.specs.Declarations.{Declaration, under}
+use Rattle.ess_semantics.specs.Tables.{Tables, code, cell_at}
+use Rattle.ess_semantics.specs.Cells.{every_cell}
 use Rattle.ess_semantics.specs.Meaning.{Env, meaning, items_under, collect}
-use Rattle.ess_semantics.proofs.Tests.{and-left, and-right, and-both}
 use Rattle.ess_semantics.proofs.Connectives.{all-means}
-use Rattle.ess_repr_laws.proofs.Behind.{behind-append}
-use Rattle.ess_repr_laws.proofs.CanonicalPlaces.{AllOf, all-of-map, all-of-both}
-use Rattle.ess_repr_laws.proofs.FittingCells.{cells_fit, every-under, under-every}
+use Rattle.ess_repr_laws.proofs.CanonicalPlaces.{AllOf, all-of-map}
+use Rattle.ess_repr_laws.proofs.FittingCells.{every-under}
 use Rattle.ess_repr_laws.specs.Structure.{Shape, add_ex, row_gens, row_index, each_ex, level_behind, on_axes}
 use Rattle.ess_repr_laws.specs.StructureMeaning.{fit, Bound, M, AxesAre, Placed, on_members}
 use Rattle.ess_repr_laws.proofs.StructureRows.{Steady, There, codes, grid_at, steady-name}
-
--- Of tables under further axes that lie in their domains, those at each place do.
-pub under-fit : (bs : Axes) (ds : List Declaration) (c : Cells) → cells_fit (under bs ds ++ []) c ≡ true → AllOf (lists_of bs) (λ p. cells_fit ds (behind p c) ≡ true)
-under-fit bs [] [] h = each (lists_of bs)
-  where
-    each : (ps : List (List ℤ)) → AllOf ps (λ p. true ≡ true)
-    each [] = tt
-    each (p ∷ ps) = (refl, each ps)
-under-fit bs [] (f ∷ fs) h = cc
-under-fit bs (d ∷ ds) [] h = cc
-under-fit bs (d ∷ ds) (f ∷ fs) h =
-    all-of-both (lists_of bs) (λ p. every_cell d.axes (is_cell d.cell) (λ js. f (p ++ js)) ≡ true) (λ p. cells_fit ds (behind p fs) ≡ true)
-    (λ p. cells_fit (d ∷ ds) (behind p (f ∷ fs)) ≡ true)
-    (λ p x y. and-both (every_cell d.axes (is_cell d.cell) (λ js. f (p ++ js))) (cells_fit ds (behind p fs)) x y)
-    (under-every bs d.axes (is_cell d.cell) f (and-left (every_cell (bs ++ d.axes) (is_cell d.cell) f) (cells_fit (under bs ds ++ []) fs) h))
-    (under-fit bs ds fs (and-right (every_cell (bs ++ d.axes) (is_cell d.cell) f) (cells_fit (under bs ds ++ []) fs) h))
-
--- The same of tables at an index list.
-pub places-fit : (bs : Axes) (ds : List Declaration) (ts : Tables) (i : List ℤ) → cells_fit (under bs ds ++ []) (behind i (cells_of ts)) ≡ true →
-    AllOf (lists_of bs) (λ p. cells_fit ds (behind (i ++ p) (cells_of ts)) ≡ true)
-places-fit bs ds ts i h =
-    all-of-map (lists_of bs) (λ p. cells_fit ds (behind p (behind i (cells_of ts))) ≡ true) (λ p. cells_fit ds (behind (i ++ p) (cells_of ts)) ≡ true)
-    (λ p x. ap (cells_fit ds) (behind-append i p (cells_of ts)) ∙ x) (under-fit bs ds (behind i (cells_of ts)) h)
 
 module _ (env0 : Env) (q : ℕ → Text) (q-apart : (m l : ℕ) → l < m → same_text (q m) (q l) ≡ false) where
   -- There are as many tables as shapes.

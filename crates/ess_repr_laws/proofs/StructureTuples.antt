@@ -8,8 +8,8 @@ use Rattle.ess_semantics.specs.Values.{Text, Value, truth}
 use Rattle.ess_semantics.specs.Order.{same_text}
 use Rattle.ess_semantics.specs.Trees.{Repr, Reprs, repr, no_reprs, more_reprs, Exs, Dom, Doms, no_doms, more_doms, tuple_dom, record_dom}
 use Rattle.ess_semantics.specs.Domains.{Domain, Domains, tuples, records, domain_list}
-use Rattle.ess_semantics.specs.Tables.{Tables, cell_at, is_cell}
-use Rattle.ess_semantics.specs.Cells.{Cells, Axes, behind, cells_of, every_cell}
+use Rattle.ess_semantics.specs.Tables.{Tables, cell_at}
+use Rattle.ess_semantics.specs.Cells.{Cells, Axes, behind, cells_of}
 use Rattle.ess_semantics.specs.Layers.{Layer, always_canonical}
 use Rattle.ess_semantics.specs.ScalarLayers.{tuple_layer, record_layer}
 use Rattle.ess_semantics.specs.Representations.{width, widths, value_of_cells, values_of_children}
@@ -17,7 +17,7 @@ use Rattle.ess_semantics.specs.Declarations.{Declaration, under, declarations_be
 use Rattle.ess_semantics.specs.CanonicalTest.{children_are_canonical, canonical}
 use Rattle.ess_semantics.specs.Meaning.{Env, meaning}
 use Rattle.ess_semantics.proofs.Connectives.{and-means}
-use Rattle.ess_semantics.proofs.Tests.{and-left, and-right, and-both}
+use Rattle.ess_semantics.proofs.Tests.{and-left, and-right}
 use Rattle.ess_repr_laws.specs.CanonicalTables.{Right}
 use Rattle.ess_repr_laws.specs.Rooms.{AllCovered}
 use Rattle.ess_repr_laws.specs.Structure.{Shape, Terms, shapes, shapes_of_each, structure, structure_of_each}
@@ -28,7 +28,7 @@ use Rattle.ess_repr_laws.proofs.CanonicalParts.{asked_of}
 use Rattle.ess_repr_laws.proofs.CanonicalPlaces.{all_places}
 use Rattle.ess_repr_laws.proofs.CellDomains.{axes-wide}
 use Rattle.ess_repr_laws.proofs.CellsOfMembers.{map-long}
-use Rattle.ess_repr_laws.proofs.FittingCells.{cells_fit}
+use Rattle.ess_repr_laws.proofs.StructureFits.{Fit, fit-split}
 use Rattle.ess_repr_laws.proofs.RowsOfCells.{axes_of_children, axes-below, axes-of-layer}
 use Rattle.ess_repr_laws.proofs.StructureOf.{StructureOf}
 use Rattle.ess_repr_laws.proofs.StructurePlaces.{placed-long}
@@ -96,13 +96,6 @@ module _ (ds : List Domain) (b : Cells → List (List Value) → Option Value) (
 
 -- ---- tables side by side
 
-cells-split : (ds es : List Declaration) (c : Cells) → cells_fit (ds ++ es) c ≡ true → (cells_fit ds (take (length ds) c) ≡ true) × (cells_fit es (drop (length ds) c) ≡ true)
-cells-split [] es c h = (refl, h)
-cells-split (d ∷ ds) es [] h = cc
-cells-split (d ∷ ds) es (f ∷ fs) h =
-    let x = cells-split ds es fs (and-right (every_cell d.axes (is_cell d.cell) f) (cells_fit (ds ++ es) fs) h) in
-    (and-both (every_cell d.axes (is_cell d.cell) f) (cells_fit ds (take (length ds) fs)) (and-left (every_cell d.axes (is_cell d.cell) f) (cells_fit (ds ++ es) fs) h) x.0, x.1)
-
 under-none : (ds : List Declaration) → under [] ds ≡ ds
 under-none [] = refl
 under-none (d ∷ ds) = ap (λ l. d ∷ l) (under-none ds)
@@ -153,9 +146,9 @@ module _ (env0 : Env) (q : ℕ → Text) (q-apart : (m l : ℕ) → l < m → sa
     pub long : (ns : List Text) → length (shapes_of_each q terms rs ds ns) ≡ widths rs
     pub axes : all_codes env0 q q-apart (members_of_axes rs es) ≡ axes_of_children rs es []
     pub there : (out : Bool) (ns : List Text) (ts : Tables) (i : List ℤ) → Placed env0 q q-apart (shapes_of_each q terms rs ds ns) (members_of_axes rs es) ts →
-        cells_fit (declarations_of_children out rs es []) (behind i (cells_of ts)) ≡ true → There env0 q q-apart (shapes_of_each q terms rs ds ns) (members_of_axes rs es) ts i
+        Fit (declarations_of_children out rs es []) (behind i (cells_of ts)) → There env0 q q-apart (shapes_of_each q terms rs ds ns) (members_of_axes rs es) ts i
     pub means : (out : Bool) (ns : List Text) (ts : Tables) (l : ℕ) (is : Exs) (i : List ℤ) (bs : Bound env0 q q-apart) →
-        Placed env0 q q-apart (shapes_of_each q terms rs ds ns) (members_of_axes rs es) ts → cells_fit (declarations_of_children out rs es []) (behind i (cells_of ts)) ≡ true →
+        Placed env0 q q-apart (shapes_of_each q terms rs ds ns) (members_of_axes rs es) ts → Fit (declarations_of_children out rs es []) (behind i (cells_of ts)) →
         Steady env0 q q-apart l is i bs → meaning (structure_of_each q terms rs ds ns l is) (M env0 q q-apart bs) ≡ Some (truth (each_canonical rs es (behind i (cells_of ts))))
 
   -- No component.
@@ -208,13 +201,13 @@ module _ (env0 : Env) (q : ℕ → Text) (q-apart : (m l : ℕ) → l < m → sa
       declared-long : (out : Bool) → length (declarations_below out r e) ≡ width r
       declared-long out = sym (map-long (λ t. t.axes) (declarations_below out r e)) ∙ ap length (axes-below out r e) ∙ axes-wide r e one.covered
 
-      parts : (out : Bool) (ts : Tables) (i : List ℤ) → cells_fit (under [] (declarations_below out r e) ++ declarations_of_children out rs es []) (behind i (cells_of ts)) ≡ true →
-          (cells_fit (declarations_below out r e) (behind i (cells_of (take (width r) ts))) ≡ true) × (cells_fit (declarations_of_children out rs es []) (behind i (cells_of (drop (width r) ts))) ≡ true)
+      parts : (out : Bool) (ts : Tables) (i : List ℤ) → Fit (under [] (declarations_below out r e) ++ declarations_of_children out rs es []) (behind i (cells_of ts)) →
+          (Fit (declarations_below out r e) (behind i (cells_of (take (width r) ts)))) × (Fit (declarations_of_children out rs es []) (behind i (cells_of (drop (width r) ts))))
       parts out ts i c =
-          let x = cells-split (declarations_below out r e) (declarations_of_children out rs es []) (behind i (cells_of ts))
-          (ap (λ l. cells_fit (l ++ declarations_of_children out rs es []) (behind i (cells_of ts))) (sym (under-none (declarations_below out r e))) ∙ c) in
-          let y = subst (λ n. (cells_fit (declarations_below out r e) (take n (behind i (cells_of ts))) ≡ true) × (cells_fit (declarations_of_children out rs es []) (drop n (behind i (cells_of ts))) ≡ true)) (declared-long out) x in
-          (ap (cells_fit (declarations_below out r e)) (sym (first-cells (width r) i ts)) ∙ y.0, ap (cells_fit (declarations_of_children out rs es [])) (sym (other-cells (width r) i ts)) ∙ y.1)
+          let x = fit-split (declarations_below out r e) (declarations_of_children out rs es []) (behind i (cells_of ts))
+          (subst (λ l. Fit (l ++ declarations_of_children out rs es []) (behind i (cells_of ts))) (under-none (declarations_below out r e)) c) in
+          let y = subst (λ n. (Fit (declarations_below out r e) (take n (behind i (cells_of ts)))) × (Fit (declarations_of_children out rs es []) (drop n (behind i (cells_of ts))))) (declared-long out) x in
+          (subst (Fit (declarations_below out r e)) (first-cells (width r) i ts) y.0, subst (Fit (declarations_of_children out rs es [])) (other-cells (width r) i ts) y.1)
 
   -- ---- the layers
 

@@ -54,6 +54,8 @@ abbrev mutual
   axes_members (repr ReprKind.Explicit (more_reprs r no_reprs)) (sets ks e) = on_members (slot_numbers (slots_of_set ks e)) (axes_members r e)
   axes_members (repr ReprKind.ExplicitVarSizeWithMarker (more_reprs r no_reprs)) (sets ks e) =
       [] ∷ on_members (slot_numbers (slots_of_set ks e)) (axes_members r e)
+  axes_members (repr ReprKind.ExplicitVarSizeWithFlags (more_reprs r no_reprs)) (sets ks e) =
+      slot_numbers (slots_of_set ks e) ∷ on_members (slot_numbers (slots_of_set ks e)) (axes_members r e)
   axes_members _ e = []
 
   -- Those of the views of components.
@@ -113,6 +115,8 @@ module _ (env0 : Env) (q : ℕ → Text) (q-apart : (m l : ℕ) → l < m → sa
     Ready (repr ReprKind.Explicit (more_reprs r no_reprs)) (set_dom ms es d) (sets ks e) =
         Attributes ms es ks × SlotsAre (set_dom ms es d) (slots_of_set ks e) × Ready r d e
     Ready (repr ReprKind.ExplicitVarSizeWithMarker (more_reprs r no_reprs)) (set_dom ms es d) (sets ks e) =
+        Attributes ms es ks × SlotsAre (set_dom ms es d) (slots_of_set ks e) × Ready r d e
+    Ready (repr ReprKind.ExplicitVarSizeWithFlags (more_reprs r no_reprs)) (set_dom ms es d) (sets ks e) =
         Attributes ms es ks × SlotsAre (set_dom ms es d) (slots_of_set ks e) × Ready r d e
     Ready _ d e = ⊥
 
