@@ -14,7 +14,8 @@ use Rattle.ess_semantics.specs.Declarations.{declarations, axes_of}
 use Rattle.ess_semantics.specs.CanonicalTest.{canonical}
 use Rattle.ess_semantics.specs.Meaning.{Env, meaning}
 use Rattle.ess_semantics.specs.Tidy.{over_axes}
-use Rattle.ess_repr_laws.specs.Structure.{Terms, and_ex, shapes, structure}
+use Rattle.ess_repr_laws.specs.StructureParts.{Terms, and_ex}
+use Rattle.ess_repr_laws.specs.Structure.{shapes, structure}
 use Rattle.ess_repr_laws.specs.CanonicalTables.{TablesFit}
 use Rattle.ess_repr_laws.specs.StructureMeaning.{Bound, M, Placed, axes_members, Ready}
 use Rattle.ess_repr_laws.proofs.StructureOfTables.{structure-of-tables}

@@ -119,6 +119,9 @@ pub mod StructureTuples
 pub mod StructureAtoms
 pub mod StructureSlotted
 pub mod StructureSets
+pub mod StructureAttributes
+pub mod StructureFunctions
+pub mod StructureRelations
 pub mod StructureUse
 pub mod StructureSortedSlots
 pub mod StructureFlags

@@ -3,16 +3,18 @@ use Rattle.std.proofs.Common.{◌≡◌, ℕ, ◌<◌, false, List, [], ◌∷�
 use Rattle.ess_semantics.specs.declared.words.ReprKind.{ReprKind}
 use Rattle.ess_semantics.specs.Values.{Text}
 use Rattle.ess_semantics.specs.Order.{same_text}
-use Rattle.ess_semantics.specs.Trees.{Repr, Reprs, repr, no_reprs, more_reprs, Dom, Doms, no_doms, more_doms, tuple_dom, record_dom, matrix_dom, set_dom}
-use Rattle.ess_semantics.specs.Domains.{Domain, tuples, records, matrices, sets, domain_list}
+use Rattle.ess_semantics.specs.Trees.{Repr, Reprs, repr, no_reprs, more_reprs, Dom, Doms, no_doms, more_doms, tuple_dom, record_dom, matrix_dom, set_dom, function_dom, relation_dom}
+use Rattle.ess_semantics.specs.Domains.{Domain, tuples, records, matrices, sets, functions, relations, domain_list}
 use Rattle.ess_semantics.specs.Meaning.{Env}
-use Rattle.ess_repr_laws.specs.Structure.{Terms}
+use Rattle.ess_repr_laws.specs.StructureParts.{Terms}
 use Rattle.ess_repr_laws.specs.StructureMeaning.{Ready, AllReady}
 use Rattle.ess_repr_laws.proofs.StructureOf.{StructureOf}
 use Rattle.ess_repr_laws.proofs.StructureAtoms.{atom-structure}
 use Rattle.ess_repr_laws.proofs.StructureTuples.{EachStructure, none-structure, more-structure, tuple-structure, record-structure}
 use Rattle.ess_repr_laws.proofs.StructureMatrices.{matrix-structure}
 use Rattle.ess_repr_laws.proofs.StructureFlags.{flags-structure}
+use Rattle.ess_repr_laws.proofs.StructureFunctions.{function-1d-structure, function-nd-structure}
+use Rattle.ess_repr_laws.proofs.StructureRelations.{relation-structure}
 use Rattle.ess_repr_laws.proofs.StructureSets.{occurrence-structure, explicit-structure, marker-structure}
 
 module _ (env0 : Env) (q : ℕ → Text) (q-apart : (m l : ℕ) → l < m → same_text (q m) (q l) ≡ false) (terms : Terms) where
@@ -31,6 +33,11 @@ module _ (env0 : Env) (q : ℕ → Text) (q-apart : (m l : ℕ) → l < m → sa
         marker-structure env0 q q-apart terms r ms es d ks e (structures r d e h.2) h.0 h.1
     structures (repr ReprKind.ExplicitVarSizeWithFlags (more_reprs r no_reprs)) (set_dom ms es d) (sets ks e) h =
         flags-structure env0 q q-apart terms r ms es d ks e (structures r d e h.2) h.0 h.1
+    structures (repr ReprKind.Function1D (more_reprs r no_reprs)) (function_dom ms es d c) (functions ks x y) h =
+        function-1d-structure env0 q q-apart terms r ms es d c ks x y h.0 h.1 h.2 h.3 h.4 (structures r c y h.5)
+    structures (repr ReprKind.FunctionND (more_reprs r no_reprs)) (function_dom ms es (tuple_dom ds) c) (functions ks (tuples xs) y) h =
+        function-nd-structure env0 q q-apart terms r ms es ds c ks xs y h.0 h.1 h.2 h.3 h.4 (structures r c y h.5)
+    structures (repr ReprKind.RelationAsMatrix no_reprs) (relation_dom ms es ds) (relations ks xs) h = relation-structure env0 q q-apart terms ms es ds ks xs h.0 h.1 h.2 h.3
     structures _ d e h = absurd h
 
     -- The same of components.

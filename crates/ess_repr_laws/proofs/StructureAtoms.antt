@@ -16,7 +16,7 @@ use Rattle.ess_semantics.specs.Meaning.{Env, is_bool_dom, cell_value, cell_in, i
 use Rattle.ess_semantics.specs.Operators.{false_where_undefined}
 use Rattle.ess_semantics.specs.Atoms.{IsAtom}
 use Rattle.ess_semantics.proofs.Tests.{and-left}
-use Rattle.ess_repr_laws.specs.Structure.{Terms, first_name, own_shape}
+use Rattle.ess_repr_laws.specs.StructureParts.{Terms, first_name, own_shape}
 use Rattle.ess_repr_laws.specs.StructureMeaning.{fit, Bound, M, Placed, AtomReady}
 use Rattle.ess_repr_laws.proofs.FittingCells.{cells_fit}
 use Rattle.ess_repr_laws.proofs.StructureFits.{Fit}

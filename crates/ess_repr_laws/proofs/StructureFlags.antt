@@ -22,7 +22,8 @@ use Rattle.ess_semantics.specs.Meaning.{Env, meaning}
 use Rattle.ess_semantics.proofs.Connectives.{and-means}
 use Rattle.ess_semantics.proofs.Orders.{same_int-equal}
 use Rattle.ess_semantics.proofs.Tests.{all-run, and-both}
-use Rattle.ess_repr_laws.specs.Structure.{Terms, add_ex, and_ex, upto, next_ex, first_name, less_ex, first_ex, use_ex, size_ex, true_count_ex, shapes, structure}
+use Rattle.ess_repr_laws.specs.StructureParts.{Terms, add_ex, and_ex, upto, next_ex, first_name, less_ex, first_ex, use_ex, size_ex, true_count_ex}
+use Rattle.ess_repr_laws.specs.Structure.{shapes, structure}
 use Rattle.ess_repr_laws.specs.StructureMeaning.{Bound, M, Placed, axes_members, on_members, slot_numbers, Attributes, SlotsAre}
 use Rattle.ess_repr_laws.proofs.CanonicalForms.{right}
 use Rattle.ess_repr_laws.proofs.CanonicalPlaces.{all-of-list}

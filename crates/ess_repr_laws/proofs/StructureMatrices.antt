@@ -16,7 +16,8 @@ use Rattle.ess_semantics.specs.CanonicalTest.{canonical}
 use Rattle.ess_semantics.specs.Meaning.{Env}
 use Rattle.ess_semantics.specs.Atoms.{AreAtoms}
 use Rattle.ess_repr_laws.specs.Finite.{HaveLists}
-use Rattle.ess_repr_laws.specs.Structure.{Terms, row_index, level_behind, shapes, structure}
+use Rattle.ess_repr_laws.specs.StructureParts.{Terms, row_index, level_behind}
+use Rattle.ess_repr_laws.specs.Structure.{shapes, structure}
 use Rattle.ess_repr_laws.specs.StructureMeaning.{AxesAre, axes_members, index_members}
 use Rattle.ess_repr_laws.proofs.Behind.{behind-append}
 use Rattle.ess_repr_laws.proofs.CanonicalForms.{right}

@@ -25,7 +25,7 @@ use Rattle.ess_repr_laws.proofs.SlotsUsed.{SlotsUsed, marker-used}
 use Rattle.ess_repr_laws.proofs.Behind.{behind-append, behind-length}
 use Rattle.ess_semantics.proofs.Connectives.{and-means}
 use Rattle.ess_repr_laws.specs.CanonicalTables.{Right}
-use Rattle.ess_repr_laws.specs.Structure.{Shape, size_ex, slots_ex, marker_ex, explicit_ex}
+use Rattle.ess_repr_laws.specs.StructureParts.{Shape, size_ex, slots_ex, marker_ex, explicit_ex}
 use Rattle.ess_repr_laws.specs.StructureMeaning.{Number, AllNumbers, Bound, M, Placed}
 use Rattle.ess_repr_laws.proofs.CellsOfMembers.{map-long}
 use Rattle.ess_repr_laws.proofs.CellsOfOccurrenceCounts.{up-to-fits}

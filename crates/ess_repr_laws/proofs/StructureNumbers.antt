@@ -16,7 +16,7 @@ use Rattle.ess_semantics.specs.Meaning.{Env, as_int, attributes_of, cell_value, 
 use Rattle.ess_semantics.proofs.Tests.{and-left, and-right}
 use Rattle.ess_semantics.proofs.Orders.{same_int-equal, to_list-of_list}
 use Rattle.ess_semantics.proofs.Connectives.{and-means, binary-means}
-use Rattle.ess_repr_laws.specs.Structure.{add_ex, le_ex, key_ex, size_ex}
+use Rattle.ess_repr_laws.specs.StructureParts.{add_ex, le_ex, key_ex, size_ex}
 use Rattle.ess_repr_laws.specs.StructureMeaning.{Number, AllNumbers, fit}
 
 -- ---- attributes

@@ -16,7 +16,7 @@ use Rattle.ess_semantics.specs.Layers.{count_true, codes_of}
 use Rattle.ess_semantics.specs.CanonicalTest.{canonical}
 use Rattle.ess_semantics.specs.Meaning.{Env, attributes_of, cell_value, meaning, meanings}
 use Rattle.ess_semantics.proofs.Orders.{same_int-equal, to_list-of_list}
-use Rattle.ess_repr_laws.specs.Structure.{row_index, true_count_ex, occurrence_ex}
+use Rattle.ess_repr_laws.specs.StructureParts.{row_index, true_count_ex, occurrence_ex}
 use Rattle.ess_repr_laws.specs.StructureMeaning.{Number, AllNumbers, fit, Bound, M, AxesAre}
 use Rattle.ess_repr_laws.proofs.StructureNumbers.{size-means, spread}
 use Rattle.ess_repr_laws.proofs.StructureRows.{Steady, row-runs, grid_at}

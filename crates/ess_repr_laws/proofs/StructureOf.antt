@@ -12,7 +12,8 @@ use Rattle.ess_semantics.specs.Declarations.{declarations_below, axes_of, under}
 use Rattle.ess_semantics.specs.CanonicalTest.{canonical}
 use Rattle.ess_semantics.specs.Meaning.{Env, meaning}
 use Rattle.ess_repr_laws.specs.Rooms.{Covered}
-use Rattle.ess_repr_laws.specs.Structure.{Terms, row_index, level_behind, on_axes, shapes, structure}
+use Rattle.ess_repr_laws.specs.StructureParts.{Terms, row_index, level_behind, on_axes}
+use Rattle.ess_repr_laws.specs.Structure.{shapes, structure}
 use Rattle.ess_repr_laws.specs.StructureMeaning.{Bound, M, Placed, axes_members, on_members}
 use Rattle.ess_repr_laws.proofs.Behind.{behind-length}
 use Rattle.ess_repr_laws.proofs.CanonicalPlaces.{AllOf, all-of-map}

@@ -22,7 +22,7 @@ use Rattle.ess_repr_laws.proofs.FittingTables.{row-fits}
 use Rattle.std.proofs.lemmas.Cmp.{tied_itself}
 use Rattle.ess_semantics.proofs.Connectives.{and-means, or-means, not-means, binary-means, all-means}
 use Rattle.ess_repr_laws.proofs.CanonicalPlaces.{AllOf}
-use Rattle.ess_repr_laws.specs.Structure.{Shape, add_ex, and_ex, row_gens, row_index, row_ex, less_ex, out_ex, zero_ex, zeros_ex}
+use Rattle.ess_repr_laws.specs.StructureParts.{Shape, add_ex, and_ex, row_gens, row_index, row_ex, less_ex, out_ex, zero_ex, zeros_ex}
 use Rattle.ess_repr_laws.specs.StructureMeaning.{fit, Bound, M, AxesAre, Placed}
 use Rattle.ess_repr_laws.proofs.StructureNumbers.{indices-add, lex-order, meanings-add, row_value, spread, spread-append}
 

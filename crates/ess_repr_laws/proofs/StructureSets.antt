@@ -18,7 +18,8 @@ use Rattle.ess_semantics.specs.CanonicalTest.{canonical}
 use Rattle.ess_semantics.specs.Meaning.{Env, members_in, domain_of, meaning}
 use Rattle.ess_semantics.specs.Atoms.{IsAtom}
 use Rattle.ess_semantics.proofs.Tests.{and-left}
-use Rattle.ess_repr_laws.specs.Structure.{Terms, add_ex, upto, first_name, own_shape, occurrence_ex, shapes, structure}
+use Rattle.ess_repr_laws.specs.StructureParts.{Terms, add_ex, upto, first_name, own_shape, occurrence_ex}
+use Rattle.ess_repr_laws.specs.Structure.{shapes, structure}
 use Rattle.ess_repr_laws.specs.StructureMeaning.{Bound, M, Placed, axes_members, slot_numbers, Attributes, SlotsAre}
 use Rattle.ess_repr_laws.proofs.CanonicalForms.{right}
 use Rattle.ess_repr_laws.proofs.CellDomains.{axes-wide}

@@ -12,7 +12,8 @@ use Rattle.ess_semantics.specs.Representations.{width}
 use Rattle.ess_semantics.specs.Declarations.{under, declarations_below}
 use Rattle.ess_semantics.specs.CanonicalTest.{canonical}
 use Rattle.ess_semantics.specs.Meaning.{Env, meaning}
-use Rattle.ess_repr_laws.specs.Structure.{Terms, add_ex, upto, on_axes, shapes, structure}
+use Rattle.ess_repr_laws.specs.StructureParts.{Terms, add_ex, upto, on_axes}
+use Rattle.ess_repr_laws.specs.Structure.{shapes, structure}
 use Rattle.ess_repr_laws.specs.StructureMeaning.{Bound, M, Placed, axes_members, on_members, slot_numbers}
 use Rattle.ess_repr_laws.proofs.CanonicalPlaces.{AllOf}
 use Rattle.ess_repr_laws.proofs.StructureFits.{Fit}

@@ -19,7 +19,8 @@ use Rattle.ess_semantics.specs.Meaning.{Env, meaning}
 use Rattle.ess_semantics.proofs.Connectives.{and-means}
 use Rattle.ess_semantics.proofs.Orders.{same_int-equal}
 use Rattle.ess_semantics.proofs.Tests.{and-left, and-right}
-use Rattle.ess_repr_laws.specs.Structure.{Shape, Terms, add_ex, and_ex, upto, next_ex, less_ex, use_ex, first_ex, on_axes, shapes, structure}
+use Rattle.ess_repr_laws.specs.StructureParts.{Shape, Terms, add_ex, and_ex, upto, next_ex, less_ex, use_ex, first_ex, on_axes}
+use Rattle.ess_repr_laws.specs.Structure.{shapes, structure}
 use Rattle.ess_repr_laws.specs.StructureMeaning.{Number, Bound, M, Placed, axes_members, on_members, slot_numbers}
 use Rattle.ess_repr_laws.proofs.Behind.{behind-append}
 use Rattle.ess_repr_laws.proofs.CanonicalPlaces.{AllOf}

@@ -20,7 +20,8 @@ use Rattle.ess_semantics.proofs.Connectives.{and-means}
 use Rattle.ess_semantics.proofs.Tests.{and-left, and-right}
 use Rattle.ess_repr_laws.specs.CanonicalTables.{Right}
 use Rattle.ess_repr_laws.specs.Rooms.{AllCovered}
-use Rattle.ess_repr_laws.specs.Structure.{Shape, Terms, shapes, shapes_of_each, structure, structure_of_each}
+use Rattle.ess_repr_laws.specs.StructureParts.{Shape, Terms}
+use Rattle.ess_repr_laws.specs.Structure.{shapes, shapes_of_each, structure, structure_of_each}
 use Rattle.ess_repr_laws.specs.StructureMeaning.{Bound, M, Placed, axes_members, members_of_axes}
 use Rattle.ess_repr_laws.proofs.Behind.{behind-length, behind-none, behind-take, behind-drop}
 use Rattle.ess_repr_laws.proofs.CanonicalForms.{right}

@@ -16,7 +16,7 @@ use Rattle.ess_semantics.specs.Cells.{behind, cells_of, are_zero}
 use Rattle.ess_semantics.specs.Meaning.{Env, cell_in, cell_value, indices, members_in, spans_of, meaning, meanings}
 use Rattle.ess_semantics.specs.Operators.{false_where_undefined}
 use Rattle.ess_semantics.proofs.Connectives.{and-means, not-means, implies-means, binary-means}
-use Rattle.ess_repr_laws.specs.Structure.{Shape, add_ex, and_ex, le_ex, implies_ex, upto, zeros_ex, over_slots, next_ex, use_ex, first_ex}
+use Rattle.ess_repr_laws.specs.StructureParts.{Shape, add_ex, and_ex, le_ex, implies_ex, upto, zeros_ex, over_slots, next_ex, use_ex, first_ex}
 use Rattle.ess_repr_laws.specs.StructureMeaning.{Number, Bound, M, AxesAre, Placed, slot_numbers}
 use Rattle.ess_repr_laws.proofs.ExactCells.{same_int-turned}
 use Rattle.ess_repr_laws.proofs.SlotsUsed.{as_place, all-map, each-run, slots-are}

@@ -28,7 +28,8 @@ use Rattle.ess_repr_laws.specs.Rooms.{Covered, Roomy}
 use Rattle.ess_repr_laws.specs.WellFormed.{Well}
 use Rattle.ess_repr_laws.specs.TypedDomains.{OneType, SameOrder, Typed, has_plain_relations}
 use Rattle.ess_repr_laws.specs.CanonicalTables.{TablesFit, Right, OneForm, is_compound}
-use Rattle.ess_repr_laws.specs.Structure.{Terms, shapes, structure}
+use Rattle.ess_repr_laws.specs.StructureParts.{Terms}
+use Rattle.ess_repr_laws.specs.Structure.{shapes, structure}
 use Rattle.ess_repr_laws.specs.StructureMeaning.{Bound, M, Placed, axes_members, Ready}
 
 -- The representation is one for the domain expression, which is well formed and needs slots of a known number.
@@ -115,8 +116,9 @@ pub record LayersAreComposed : Type 0 where
       and_then (inner_tables k d ts) (λ tss. and_then (each_of tss (λ t. value_of_tables r e t [])) (layer_value k d ts))
 
 -- The structure constraint of a view, over tables on the declared axes with items in the declared domains, means that the cells
--- are canonical. So for atoms, tuples, records and matrices, and for sets kept as the members that occur, or in slots that are
--- all in use, up to a marker, or with flags, in any nesting.
+-- are canonical. So for atoms, tuples, records and matrices, for sets kept as the members that occur, or in slots that are all in
+-- use, up to a marker, or with flags, for total functions of which sizes alone are asked, and for such relations as matrices, in
+-- any nesting.
 abbrev pub StructuresMeanCanonical : Type 0
 StructuresMeanCanonical =
     (env0 : Env) (q : ℕ → Text) (apart : (m l : ℕ) → l < m → same_text (q m) (q l) ≡ false) (terms : Terms) →

@@ -1,11 +1,11 @@
 -- What is asked of a view and its tables so that its structure constraint means that the cells are canonical. Reserved names
 -- q 0, q 1 and so on may be bound, each to a value.
-use Rattle.std.specs.Prelude.{◌≡◌, ℕ, ◌<◌, Bool, true, false, List, [], ◌∷◌, ◌++◌, map, ℤ, pos, Some}
-use Rattle.ess_repr_laws.specs.Structure.{Shape, Terms}
+use Rattle.std.specs.Prelude.{◌≡◌, ℕ, ◌<◌, Bool, true, false, ◌&&◌, List, [], ◌∷◌, ◌++◌, map, ℤ, pos, Some}
+use Rattle.ess_repr_laws.specs.StructureParts.{Shape, Terms}
 use Rattle.ess_semantics.specs.Kinds.{dom_list}
 use Rattle.ess_semantics.specs.Atoms.{IsAtom, AreAtoms}
 use Rattle.ess_repr_laws.specs.Finite.{HaveLists}
-use Rattle.ess_semantics.specs.Domains.{booleans, Attribute, Domain, Domains, tuples, records, matrices, sets, domain_list, members, member_list}
+use Rattle.ess_semantics.specs.Domains.{booleans, Attribute, numbered, flagged, Domain, Domains, tuples, records, matrices, sets, functions, relations, domain_list, members, member_list}
 use Rattle.ess_semantics.specs.Layers.{as_cell}
 use Rattle.ess_semantics.specs.Meaning.{Env, members_in, cell_value, meaning, meanings, domain_of, is_bool_dom, attributes_of, as_int}
 use Rattle.ess_semantics.specs.Names.{look}
@@ -13,8 +13,9 @@ use Rattle.ess_semantics.specs.Numbers.{one_to}
 use Rattle.ess_semantics.specs.Order.{same_text}
 use Rattle.ess_semantics.specs.Sizes.{slots_of_set}
 use Rattle.ess_semantics.specs.Tables.{Tables, is_cell}
-use Rattle.ess_semantics.specs.Trees.{Ex, Exs, Dom, Doms, no_doms, more_doms, Mark, Repr, Reprs, repr, no_reprs, more_reprs, tuple_dom, record_dom, matrix_dom, set_dom, no_exs, more_exs}
+use Rattle.ess_semantics.specs.Trees.{Ex, Exs, Dom, Doms, no_doms, more_doms, Mark, Repr, Reprs, repr, no_reprs, more_reprs, tuple_dom, record_dom, matrix_dom, set_dom, function_dom, relation_dom, no_exs, more_exs}
 use Rattle.ess_semantics.specs.Values.{Text, Value, number, truth}
+use Rattle.ess_semantics.specs.declared.words.Key.{Key}
 use Rattle.ess_semantics.specs.declared.words.ReprKind.{ReprKind}
 
 -- The expression means this number.
@@ -30,6 +31,21 @@ AllNumbers (more_exs e es) env = ((z : ℤ) → as_int (meaning e env) ≡ Some 
 abbrev pub fit : Bool → ℤ → Bool
 fit true z = is_cell booleans z
 fit false z = true
+
+-- Whether the attributes without a number are among those that f picks.
+abbrev pub has_flags_among : (Key → Bool) → List Attribute → Bool
+has_flags_among f [] = true
+has_flags_among f (numbered k n ∷ ks) = has_flags_among f ks
+has_flags_among f (flagged k ∷ ks) = f k && has_flags_among f ks
+
+-- `total` alone.
+abbrev pub is_total_key : Key → Bool
+is_total_key Key.Total = true
+is_total_key k = false
+
+-- None.
+abbrev pub no_key : Key → Bool
+no_key k = false
 
 -- Further axes in front, by their members.
 abbrev pub on_members : List (List Value) → List (List (List Value)) → List (List (List Value))
@@ -56,6 +72,9 @@ abbrev mutual
       [] ∷ on_members (slot_numbers (slots_of_set ks e)) (axes_members r e)
   axes_members (repr ReprKind.ExplicitVarSizeWithFlags (more_reprs r no_reprs)) (sets ks e) =
       slot_numbers (slots_of_set ks e) ∷ on_members (slot_numbers (slots_of_set ks e)) (axes_members r e)
+  axes_members (repr ReprKind.Function1D (more_reprs r no_reprs)) (functions ks x y) = on_members (member_list x ∷ []) (axes_members r y)
+  axes_members (repr ReprKind.FunctionND (more_reprs r no_reprs)) (functions ks (tuples xs) y) = on_members (index_members xs) (axes_members r y)
+  axes_members (repr ReprKind.RelationAsMatrix no_reprs) (relations ks xs) = index_members xs ∷ []
   axes_members _ e = []
 
   -- Those of the views of components.
@@ -118,6 +137,14 @@ module _ (env0 : Env) (q : ℕ → Text) (q-apart : (m l : ℕ) → l < m → sa
         Attributes ms es ks × SlotsAre (set_dom ms es d) (slots_of_set ks e) × Ready r d e
     Ready (repr ReprKind.ExplicitVarSizeWithFlags (more_reprs r no_reprs)) (set_dom ms es d) (sets ks e) =
         Attributes ms es ks × SlotsAre (set_dom ms es d) (slots_of_set ks e) × Ready r d e
+    Ready (repr ReprKind.Function1D (more_reprs r no_reprs)) (function_dom ms es d c) (functions ks x y) =
+        IsAtom x × (members x ≡ Some (member_list x)) × (has_flags_among is_total_key ks ≡ true) ×
+        AxesAre env0 q q-apart (d ∷ []) (member_list x ∷ []) × Attributes ms es ks × Ready r c y
+    Ready (repr ReprKind.FunctionND (more_reprs r no_reprs)) (function_dom ms es (tuple_dom ds) c) (functions ks (tuples xs) y) =
+        AreAtoms xs × (members (tuples xs) ≡ Some (member_list (tuples xs))) × (has_flags_among is_total_key ks ≡ true) ×
+        AxesAre env0 q q-apart (dom_list ds) (index_members xs) × Attributes ms es ks × Ready r c y
+    Ready (repr ReprKind.RelationAsMatrix no_reprs) (relation_dom ms es ds) (relations ks xs) =
+        AreAtoms xs × (has_flags_among no_key ks ≡ true) × AxesAre env0 q q-apart (dom_list ds) (index_members xs) × Attributes ms es ks
     Ready _ d e = ⊥
 
     -- The same of components.
