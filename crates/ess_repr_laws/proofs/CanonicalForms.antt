@@ -26,7 +26,8 @@ use Rattle.ess_repr_laws.proofs.CanonicalNumbers.{partition-occurrence-right}
 use Rattle.ess_repr_laws.proofs.TupleMembers.{AllListed}
 use Rattle.ess_semantics.proofs.MemberLists.{atom-listed}
 
-atoms-listed : (ds : Domains) → AreAtoms ds → AllListed ds
+-- Atoms have lists of members that rise.
+pub atoms-listed : (ds : Domains) → AreAtoms ds → AllListed ds
 atoms-listed no_domains a = tt
 atoms-listed (more_domains d ds) a = (atom-listed d a.0, atoms-listed ds a.1)
 

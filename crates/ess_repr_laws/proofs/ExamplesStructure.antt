@@ -1,9 +1,11 @@
 -- An instance of what the meaning of the structure constraint rests on: set of set of bool, both with a marker.
-use Rattle.std.proofs.Common.{◌≡◌, refl, sym, ap, ℕ, ℤ, ◌<◌, true, false, List, [], length, pos, Some}
+use Rattle.std.proofs.Common.{◌≡◌, refl, sym, ap, ℕ, ℤ, ◌<◌, true, false, List, [], ◌∷◌, length, pos, Some}
 use Rattle.ess_semantics.specs.declared.words.ReprKind.{ReprKind}
+use Rattle.ess_semantics.specs.declared.words.Fun.{Fun}
+use Rattle.std.specs.Prelude.{codes}
 use Rattle.ess_semantics.specs.Values.{Text, truth}
 use Rattle.ess_semantics.specs.Order.{same_text}
-use Rattle.ess_semantics.specs.Trees.{Mark, Repr, repr, no_reprs, more_reprs, Ex, Exs, number_ex, truth_ex, no_exs, Dom, bool_dom, set_dom}
+use Rattle.ess_semantics.specs.Trees.{Repr, repr, no_reprs, more_reprs, Ex, number_ex, truth_ex, no_exs, Dom, bool_dom, tuple_dom, matrix_dom, set_dom, no_doms, more_doms, more_exs, name_ex, cell_ex, comp_ex, over, name_pat, no_gens, fun1}
 use Rattle.ess_semantics.specs.Domains.{Domain, booleans, sets}
 use Rattle.ess_semantics.specs.Tables.{Tables, is_cell}
 use Rattle.ess_semantics.specs.Cells.{cells_of}
@@ -12,17 +14,18 @@ use Rattle.ess_semantics.specs.Declarations.{declarations, axes_of}
 use Rattle.ess_semantics.specs.CanonicalTest.{canonical}
 use Rattle.ess_semantics.specs.Meaning.{Env, meaning}
 use Rattle.ess_semantics.specs.Tidy.{over_axes}
+use Rattle.ess_repr_laws.specs.StructureParts.{Terms, and_ex}
 use Rattle.ess_repr_laws.specs.Structure.{shapes, structure}
 use Rattle.ess_repr_laws.specs.CanonicalTables.{TablesFit}
 use Rattle.ess_repr_laws.specs.StructureMeaning.{Bound, M, Placed, axes_members, Ready}
 use Rattle.ess_repr_laws.proofs.StructureOfTables.{structure-of-tables}
 
-abbrev slots : List Mark → Exs → Dom → Ex
-slots ms es bool_dom = number_ex (pos 2)
-slots ms es d = number_ex (pos 4)
+abbrev slots : Dom → Ex
+slots (set_dom ms es bool_dom) = number_ex (pos 2)
+slots d = number_ex (pos 4)
 
-abbrev whole : Dom → Ex → Ex
-whole d e = truth_ex true
+abbrev terms : Terms
+terms = record { slots = slots; atom = λ d e. truth_ex true }
 
 abbrev kinds : Repr
 kinds =
@@ -36,7 +39,7 @@ abbrev meant : Domain
 meant = sets [] (sets [] booleans)
 
 module _ (env0 : Env) (q : ℕ → Text) (q-apart : (m l : ℕ) → l < m → same_text (q m) (q l) ≡ false) where
-  ready : Ready env0 q q-apart slots whole kinds written meant
+  ready : Ready env0 q q-apart terms kinds written meant
   ready = ((λ bs. (tt, refl)), (λ bs. refl), ((λ bs. (tt, refl)), (λ bs. refl), ((tt, λ h. refl), λ x bs z f h. go z f)))
     where
       go : (z : ℤ) → is_cell booleans z ≡ true → Some (truth true) ≡ Some (truth (is_cell booleans z))
@@ -44,7 +47,28 @@ module _ (env0 : Env) (q : ℕ → Text) (q-apart : (m l : ℕ) → l < m → sa
 
   -- The theorem at this instance.
   pub example : (ns : List Text) (ts : Tables) (bs : Bound env0 q q-apart) → length ts ≡ width kinds →
-      Placed env0 q q-apart (shapes q slots whole kinds written ns) (axes_members kinds meant) ts →
+      Placed env0 q q-apart (shapes q terms kinds written ns) (axes_members kinds meant) ts →
       over_axes [] (axes_of kinds meant) ts ≡ true → TablesFit (declarations kinds meant) ts →
-      meaning (structure q slots whole kinds written ns 1 no_exs) (M env0 q q-apart bs) ≡ Some (truth (canonical kinds meant (cells_of ts)))
-  example ns ts bs w p o f = structure-of-tables env0 q q-apart slots whole kinds written meant ready ns ts 1 bs w p o f
+      meaning (structure q terms kinds written ns 1 no_exs) (M env0 q q-apart bs) ≡ Some (truth (canonical kinds meant (cells_of ts)))
+  example ns ts bs w p o f = structure-of-tables env0 q q-apart terms kinds written meant ready ns ts 1 bs w p o f
+
+-- ---- worked examples: the constraints
+
+abbrev name : ℕ → Text
+name l = codes "q"
+
+abbrev cell : Repr
+cell = repr ReprKind.Atom no_reprs
+
+abbrev at_atom : Terms
+at_atom = record { slots = slots; atom = λ d e. e }
+
+-- A pair of truth values: what is asked of each component.
+pub of-pair : structure name at_atom (repr ReprKind.Tuple (more_reprs cell (more_reprs cell no_reprs))) (tuple_dom (more_doms bool_dom (more_doms bool_dom no_doms))) ((codes "a") ∷ (codes "b") ∷ []) 1 no_exs
+    ≡ and_ex (cell_ex true (codes "a") no_exs) (and_ex (cell_ex true (codes "b") no_exs) (truth_ex true))
+of-pair = refl
+
+-- A matrix of truth values: what is asked at each index.
+pub of-matrix : structure name at_atom (repr ReprKind.Matrix (more_reprs cell no_reprs)) (matrix_dom (more_doms bool_dom no_doms) bool_dom) ((codes "a") ∷ []) 1 no_exs
+    ≡ fun1 true Fun.And (comp_ex (cell_ex true (codes "a") (more_exs (name_ex (codes "q")) no_exs)) (over (name_pat (codes "q")) bool_dom no_gens))
+of-matrix = refl

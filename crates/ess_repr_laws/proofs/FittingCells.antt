@@ -108,7 +108,8 @@ fit-append (t ∷ ts) us (f ∷ fs) h k =
     and-both (every_cell t.axes (is_cell t.cell) f) (cells_fit (ts ++ us) fs) (and-left (every_cell t.axes (is_cell t.cell) f) (cells_fit ts (take (length ts) fs)) h)
     (fit-append ts us fs (and-right (every_cell t.axes (is_cell t.cell) f) (cells_fit ts (take (length ts) fs)) h) k)
 
-every-under : (bs as' : Axes) (p : ℤ → Bool) (f : Grid) → AllOf (lists_of bs) (λ q. every_cell as' p (λ js. f (q ++ js)) ≡ true) → every_cell (bs ++ as') p f ≡ true
+-- A property of each cell at each place of the first axes is one of each cell.
+pub every-under : (bs as' : Axes) (p : ℤ → Bool) (f : Grid) → AllOf (lists_of bs) (λ q. every_cell as' p (λ js. f (q ++ js)) ≡ true) → every_cell (bs ++ as') p f ≡ true
 every-under [] as' p f h = h.0
 every-under (b ∷ bs) as' p f h = go b (λ k e. every-under bs as' p (λ js. f (k ∷ js)) e) h
   where

@@ -160,7 +160,7 @@ under-axes bs (d ∷ ds) = ap (λ l. (bs ++ d.axes) ∷ l) (under-axes bs ds)
 
 mutual
   -- What can be out of use changes no axes.
-  axes-below : (out : Bool) (r : Repr) (d : Domain) → axes_in (declarations_below out r d) ≡ axes_of r d
+  pub axes-below : (out : Bool) (r : Repr) (d : Domain) → axes_in (declarations_below out r d) ≡ axes_of r d
   axes-below out (repr k rs) d = go (layer k d) (λ l o. axes-children o rs l.children l.axes)
     where
       go : (o : Option Layer) → ((l : Layer) (o : Bool) → axes_in (declarations_of_children o rs l.children l.axes) ≡ axes_of_children rs l.children l.axes) →

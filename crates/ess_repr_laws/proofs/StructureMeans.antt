@@ -1,5 +1,5 @@
 -- The structure constraint of slots means that the cells are canonical.
-use Rattle.std.proofs.Common.{◌≡◌, refl, sym, ap, ◌∙◌, ℕ, ◌+◌, ◌≤◌, ◌<◌, Bool, true, false, ◌&&◌, ◌||◌, not, List, [], ◌∷◌, ◌++◌, length, ℤ, pos, ◌+ℤ◌, Some, option_map, int_le, arith, le_refl, append-nil}
+use Rattle.std.proofs.Common.{◌≡◌, refl, sym, ap, ◌∙◌, ℕ, ◌≤◌, ◌<◌, Bool, true, false, ◌&&◌, ◌||◌, not, List, [], ◌∷◌, ◌++◌, length, ℤ, pos, ◌+ℤ◌, Some, option_map, int_le, arith, le_refl, append-nil}
 use Rattle.std.specs.List.{list_all}
 use Rattle.std.specs.Ordering.{is_lt}
 use Rattle.ess_semantics.specs.declared.words.ReprKind.{ReprKind}
@@ -25,7 +25,7 @@ use Rattle.ess_repr_laws.proofs.SlotsUsed.{SlotsUsed, marker-used}
 use Rattle.ess_repr_laws.proofs.Behind.{behind-append, behind-length}
 use Rattle.ess_semantics.proofs.Connectives.{and-means}
 use Rattle.ess_repr_laws.specs.CanonicalTables.{Right}
-use Rattle.ess_repr_laws.specs.Structure.{Shape, size_ex, slots_ex, marker_ex, explicit_ex}
+use Rattle.ess_repr_laws.specs.StructureParts.{Shape, size_ex, slots_ex, marker_ex, explicit_ex}
 use Rattle.ess_repr_laws.specs.StructureMeaning.{Number, AllNumbers, Bound, M, Placed}
 use Rattle.ess_repr_laws.proofs.CellsOfMembers.{map-long}
 use Rattle.ess_repr_laws.proofs.CellsOfOccurrenceCounts.{up-to-fits}

@@ -11,13 +11,12 @@ use Rattle.ess_semantics.specs.Trees.{Mark, flag, valued, Ex, Exs, no_exs, more_
 use Rattle.ess_semantics.specs.Domains.{Attribute, numbered, flagged}
 use Rattle.ess_semantics.specs.Attributes.{size_holds, set_attributes_hold}
 use Rattle.ess_semantics.specs.Operators.{as_list, list_value}
-use Rattle.ess_semantics.specs.Tables.{code, is_cell}
-use Rattle.ess_semantics.specs.Domains.{booleans}
+use Rattle.ess_semantics.specs.Tables.{code}
 use Rattle.ess_semantics.specs.Meaning.{Env, as_int, attributes_of, cell_value, indices, meaning, meanings}
 use Rattle.ess_semantics.proofs.Tests.{and-left, and-right}
 use Rattle.ess_semantics.proofs.Orders.{same_int-equal, to_list-of_list}
 use Rattle.ess_semantics.proofs.Connectives.{and-means, binary-means}
-use Rattle.ess_repr_laws.specs.Structure.{add_ex, le_ex, key_ex, size_ex}
+use Rattle.ess_repr_laws.specs.StructureParts.{add_ex, le_ex, key_ex, size_ex}
 use Rattle.ess_repr_laws.specs.StructureMeaning.{Number, AllNumbers, fit}
 
 -- ---- attributes

@@ -15,14 +15,14 @@ use Rattle.ess_semantics.specs.Operators.{list_value, false_where_undefined, all
 use Rattle.ess_semantics.specs.Tables.{Table, Tables, code, truth_of, cell_at, is_cell}
 use Rattle.ess_semantics.specs.Domains.{booleans}
 use Rattle.ess_semantics.specs.Cells.{Grid, Axes, behind, cells_of, every_cell, are_zero, gather, row, rows, order_rows}
-use Rattle.ess_semantics.specs.Meaning.{Env, collect, members_in, cell_value, cell_in, indices, meaning, meanings, items_under, domain_of}
+use Rattle.ess_semantics.specs.Meaning.{Env, collect, cell_value, cell_in, indices, meaning, meanings, items_under}
 use Rattle.ess_semantics.proofs.Tests.{and-left, and-right}
 use Rattle.ess_semantics.proofs.Orders.{same_int-equal, text_total, ints_total}
 use Rattle.ess_repr_laws.proofs.FittingTables.{row-fits}
 use Rattle.std.proofs.lemmas.Cmp.{tied_itself}
 use Rattle.ess_semantics.proofs.Connectives.{and-means, or-means, not-means, binary-means, all-means}
 use Rattle.ess_repr_laws.proofs.CanonicalPlaces.{AllOf}
-use Rattle.ess_repr_laws.specs.Structure.{Shape, add_ex, and_ex, row_gens, row_index, row_ex, less_ex, out_ex, zero_ex, zeros_ex}
+use Rattle.ess_repr_laws.specs.StructureParts.{Shape, add_ex, and_ex, row_gens, row_index, row_ex, less_ex, out_ex, zero_ex, zeros_ex}
 use Rattle.ess_repr_laws.specs.StructureMeaning.{fit, Bound, M, AxesAre, Placed}
 use Rattle.ess_repr_laws.proofs.StructureNumbers.{indices-add, lex-order, meanings-add, row_value, spread, spread-append}
 

@@ -24,7 +24,7 @@ use Rattle.ess_semantics.proofs.Sorting.{sorted_once-itself}
 use Rattle.ess_repr_laws.proofs.RowsOfCells.{EachOf}
 use Rattle.ess_repr_laws.proofs.SlotsUsed.{each-run}
 use Rattle.ess_semantics.proofs.Connectives.{and-means, not-means, binary-means, all-means}
-use Rattle.ess_repr_laws.specs.Structure.{Shape, add_ex, and_ex, le_ex, upto, less_ex, zeros_ex, over_slots, next_ex, slots_ex}
+use Rattle.ess_repr_laws.specs.StructureParts.{Shape, add_ex, and_ex, le_ex, upto, less_ex, zeros_ex, over_slots, next_ex, slots_ex}
 use Rattle.ess_repr_laws.specs.StructureMeaning.{Number, Bound, M, Placed}
 use Rattle.ess_repr_laws.proofs.StructureNumbers.{le-means}
 use Rattle.ess_repr_laws.proofs.StructureRows.{From, Steady, looked, steady-more, steady-name, steady-add, There, all_codes, less-means, zeros-means}

@@ -4,7 +4,7 @@ use Rattle.ess_semantics.specs.declared.words.ReprKind.{ReprKind}
 use Rattle.ess_semantics.specs.Lists.{and_then, each_of}
 use Rattle.ess_semantics.specs.Values.{Text, Value, truth}
 use Rattle.ess_semantics.specs.Order.{same_text}
-use Rattle.ess_semantics.specs.Trees.{Repr, repr, no_reprs, more_reprs, Mark, Ex, Exs, no_exs, Dom, Stm}
+use Rattle.ess_semantics.specs.Trees.{Repr, repr, no_reprs, more_reprs, no_exs, Dom, Stm}
 use Rattle.ess_semantics.specs.Domains.{Domain}
 use Rattle.ess_semantics.specs.Membership.{member}
 use Rattle.ess_semantics.specs.Tables.{Tables}
@@ -28,6 +28,7 @@ use Rattle.ess_repr_laws.specs.Rooms.{Covered, Roomy}
 use Rattle.ess_repr_laws.specs.WellFormed.{Well}
 use Rattle.ess_repr_laws.specs.TypedDomains.{OneType, SameOrder, Typed, has_plain_relations}
 use Rattle.ess_repr_laws.specs.CanonicalTables.{TablesFit, Right, OneForm, is_compound}
+use Rattle.ess_repr_laws.specs.StructureParts.{Terms}
 use Rattle.ess_repr_laws.specs.Structure.{shapes, structure}
 use Rattle.ess_repr_laws.specs.StructureMeaning.{Bound, M, Placed, axes_members, Ready}
 
@@ -115,13 +116,14 @@ pub record LayersAreComposed : Type 0 where
       and_then (inner_tables k d ts) (λ tss. and_then (each_of tss (λ t. value_of_tables r e t [])) (layer_value k d ts))
 
 -- The structure constraint of a view, over tables on the declared axes with items in the declared domains, means that the cells
--- are canonical. So for sets in any nesting, kept as the members that occur, in slots that are all in use, or up to a marker.
+-- are canonical. So for atoms, tuples, records and matrices, for sets kept as the members that occur, or in slots that are all in
+-- use, up to a marker, or with flags, for total functions of which sizes alone are asked, and for such relations as matrices, in
+-- any nesting.
 abbrev pub StructuresMeanCanonical : Type 0
 StructuresMeanCanonical =
-    (env0 : Env) (q : ℕ → Text) (apart : (m l : ℕ) → l < m → same_text (q m) (q l) ≡ false) (size : List Mark → Exs → Dom → Ex)
-    (atom : Dom → Ex → Ex) →
-    (r : Repr) (d : Dom) (e : Domain) → Ready env0 q apart size atom r d e → (ns : List Text) (ts : Tables) (l : ℕ)
+    (env0 : Env) (q : ℕ → Text) (apart : (m l : ℕ) → l < m → same_text (q m) (q l) ≡ false) (terms : Terms) →
+    (r : Repr) (d : Dom) (e : Domain) → Ready env0 q apart terms r d e → (ns : List Text) (ts : Tables) (l : ℕ)
     (bs : Bound env0 q apart) →
-    length ts ≡ width r → Placed env0 q apart (shapes q size atom r d ns) (axes_members r e) ts → over_axes [] (axes_of r e) ts ≡ true →
-    TablesFit (declarations r e) ts → meaning (structure q size atom r d ns l no_exs) (M env0 q apart bs) ≡ Some
+    length ts ≡ width r → Placed env0 q apart (shapes q terms r d ns) (axes_members r e) ts → over_axes [] (axes_of r e) ts ≡ true →
+    TablesFit (declarations r e) ts → meaning (structure q terms r d ns l no_exs) (M env0 q apart bs) ≡ Some
     (truth (canonical r e (cells_of ts)))

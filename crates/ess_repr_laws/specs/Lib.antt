@@ -7,6 +7,7 @@ pub mod CanonicalTables
 -- Positions in place of named types
 pub mod TypedDomains
 -- The constraint that cells are canonical
+pub mod StructureParts
 pub mod Structure
 pub mod StructureMeaning
 -- What is proved

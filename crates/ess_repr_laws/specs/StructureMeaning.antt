@@ -1,9 +1,11 @@
 -- What is asked of a view and its tables so that its structure constraint means that the cells are canonical. Reserved names
 -- q 0, q 1 and so on may be bound, each to a value.
-use Rattle.std.specs.Prelude.{◌≡◌, ℕ, ◌<◌, Bool, true, false, List, [], ◌∷◌, ◌++◌, map, ℤ, pos, Some}
-use Rattle.ess_repr_laws.specs.Structure.{Shape}
-use Rattle.ess_semantics.specs.Atoms.{IsAtom}
-use Rattle.ess_semantics.specs.Domains.{booleans, Attribute, Domain, sets, members, member_list}
+use Rattle.std.specs.Prelude.{◌≡◌, ℕ, ◌<◌, Bool, true, false, ◌&&◌, List, [], ◌∷◌, ◌++◌, map, ℤ, pos, Some}
+use Rattle.ess_repr_laws.specs.StructureParts.{Shape, Terms}
+use Rattle.ess_semantics.specs.Kinds.{dom_list}
+use Rattle.ess_semantics.specs.Atoms.{IsAtom, AreAtoms}
+use Rattle.ess_repr_laws.specs.Finite.{HaveLists}
+use Rattle.ess_semantics.specs.Domains.{booleans, Attribute, numbered, flagged, Domain, Domains, tuples, records, matrices, sets, functions, relations, domain_list, members, member_list}
 use Rattle.ess_semantics.specs.Layers.{as_cell}
 use Rattle.ess_semantics.specs.Meaning.{Env, members_in, cell_value, meaning, meanings, domain_of, is_bool_dom, attributes_of, as_int}
 use Rattle.ess_semantics.specs.Names.{look}
@@ -11,8 +13,9 @@ use Rattle.ess_semantics.specs.Numbers.{one_to}
 use Rattle.ess_semantics.specs.Order.{same_text}
 use Rattle.ess_semantics.specs.Sizes.{slots_of_set}
 use Rattle.ess_semantics.specs.Tables.{Tables, is_cell}
-use Rattle.ess_semantics.specs.Trees.{Ex, Exs, Dom, Mark, Repr, repr, no_reprs, more_reprs, set_dom, no_exs, more_exs}
+use Rattle.ess_semantics.specs.Trees.{Ex, Exs, Dom, Doms, no_doms, more_doms, Mark, Repr, Reprs, repr, no_reprs, more_reprs, tuple_dom, record_dom, matrix_dom, set_dom, function_dom, relation_dom, no_exs, more_exs}
 use Rattle.ess_semantics.specs.Values.{Text, Value, number, truth}
+use Rattle.ess_semantics.specs.declared.words.Key.{Key}
 use Rattle.ess_semantics.specs.declared.words.ReprKind.{ReprKind}
 
 -- The expression means this number.
@@ -29,15 +32,55 @@ abbrev pub fit : Bool → ℤ → Bool
 fit true z = is_cell booleans z
 fit false z = true
 
--- The members of the axes of a view's tables.
-abbrev pub axes_members : Repr → Domain → List (List (List Value))
-axes_members (repr ReprKind.Atom no_reprs) e = [] ∷ []
-axes_members (repr ReprKind.Occurrence no_reprs) (sets ks e) = (member_list e ∷ []) ∷ []
-axes_members (repr ReprKind.Explicit (more_reprs r no_reprs)) (sets ks e) =
-    map (λ vss. map number (one_to (slots_of_set ks e)) ∷ vss) (axes_members r e)
-axes_members (repr ReprKind.ExplicitVarSizeWithMarker (more_reprs r no_reprs)) (sets ks e) =
-    [] ∷ map (λ vss. map number (one_to (slots_of_set ks e)) ∷ vss) (axes_members r e)
-axes_members _ e = []
+-- Whether the attributes without a number are among those that f picks.
+abbrev pub has_flags_among : (Key → Bool) → List Attribute → Bool
+has_flags_among f [] = true
+has_flags_among f (numbered k n ∷ ks) = has_flags_among f ks
+has_flags_among f (flagged k ∷ ks) = f k && has_flags_among f ks
+
+-- `total` alone.
+abbrev pub is_total_key : Key → Bool
+is_total_key Key.Total = true
+is_total_key k = false
+
+-- None.
+abbrev pub no_key : Key → Bool
+no_key k = false
+
+-- Further axes in front, by their members.
+abbrev pub on_members : List (List Value) → List (List (List Value)) → List (List (List Value))
+on_members uss vsss = map (λ vss. uss ++ vss) vsss
+
+-- The numbers of n slots.
+abbrev pub slot_numbers : ℕ → List (List Value)
+slot_numbers n = map number (one_to n) ∷ []
+
+-- The members of index domains.
+abbrev pub index_members : Domains → List (List Value)
+index_members is = map member_list (domain_list is)
+
+abbrev mutual
+  -- The members of the axes of a view's tables.
+  pub axes_members : Repr → Domain → List (List (List Value))
+  axes_members (repr ReprKind.Atom no_reprs) e = [] ∷ []
+  axes_members (repr ReprKind.Tuple rs) (tuples es) = members_of_axes rs (domain_list es)
+  axes_members (repr ReprKind.Rec rs) (records fs es) = members_of_axes rs (domain_list es)
+  axes_members (repr ReprKind.Matrix (more_reprs r no_reprs)) (matrices is e) = on_members (index_members is) (axes_members r e)
+  axes_members (repr ReprKind.Occurrence no_reprs) (sets ks e) = (member_list e ∷ []) ∷ []
+  axes_members (repr ReprKind.Explicit (more_reprs r no_reprs)) (sets ks e) = on_members (slot_numbers (slots_of_set ks e)) (axes_members r e)
+  axes_members (repr ReprKind.ExplicitVarSizeWithMarker (more_reprs r no_reprs)) (sets ks e) =
+      [] ∷ on_members (slot_numbers (slots_of_set ks e)) (axes_members r e)
+  axes_members (repr ReprKind.ExplicitVarSizeWithFlags (more_reprs r no_reprs)) (sets ks e) =
+      slot_numbers (slots_of_set ks e) ∷ on_members (slot_numbers (slots_of_set ks e)) (axes_members r e)
+  axes_members (repr ReprKind.Function1D (more_reprs r no_reprs)) (functions ks x y) = on_members (member_list x ∷ []) (axes_members r y)
+  axes_members (repr ReprKind.FunctionND (more_reprs r no_reprs)) (functions ks (tuples xs) y) = on_members (index_members xs) (axes_members r y)
+  axes_members (repr ReprKind.RelationAsMatrix no_reprs) (relations ks xs) = index_members xs ∷ []
+  axes_members _ e = []
+
+  -- Those of the views of components.
+  pub members_of_axes : Reprs → List Domain → List (List (List Value))
+  members_of_axes (more_reprs r rs) (e ∷ es) = axes_members r e ++ members_of_axes rs es
+  members_of_axes _ es = []
 
 module _ (env0 : Env) (q : ℕ → Text) (q-apart : (m l : ℕ) → l < m → same_text (q m) (q l) ≡ false) where
   -- The names q with values, the last one first.
@@ -60,25 +103,52 @@ module _ (env0 : Env) (q : ℕ → Text) (q-apart : (m l : ℕ) → l < m → sa
   Placed (s ∷ ss) (vss ∷ vsss) (t ∷ ts) = (look env0.cells s.name ≡ Some t) × AxesAre s.axes vss × Placed ss vsss ts
   Placed _ vsss ts = ⊥
 
-module _ (env0 : Env) (q : ℕ → Text) (q-apart : (m l : ℕ) → l < m → same_text (q m) (q l) ≡ false)
-    (size : List Mark → Exs → Dom → Ex) (atom : Dom → Ex → Ex) where
+module _ (env0 : Env) (q : ℕ → Text) (q-apart : (m l : ℕ) → l < m → same_text (q m) (q l) ≡ false) (terms : Terms) where
   -- The attributes are these, whatever names are bound.
   abbrev pub Attributes : List Mark → Exs → List Attribute → Type 0
   Attributes ms es ks =
       (bs : Bound env0 q q-apart) → AllNumbers es (M env0 q q-apart bs) × (attributes_of ms (meanings es (M env0 q q-apart bs)) ≡ Some ks)
 
-  -- What the domain's parts mean, whatever names are bound.
-  abbrev pub Ready : Repr → Dom → Domain → Type 0
-  Ready (repr ReprKind.Atom no_reprs) d e =
-      (IsAtom e × (is_bool_dom d ≡ true → e ≡ booleans)) ×
-      ((x : Ex) (bs : Bound env0 q q-apart) (z : ℤ) → fit (is_bool_dom d) z ≡ true → meaning x (M env0 q q-apart bs) ≡ Some (cell_value (is_bool_dom d) z) → meaning (atom d x) (M env0 q q-apart bs) ≡ Some (truth (is_cell (as_cell e) z)))
-  Ready (repr ReprKind.Occurrence no_reprs) (set_dom ms es d) (sets ks e) =
-      IsAtom e × (members e ≡ Some (member_list e)) ×
-      ((bs : Bound env0 q q-apart) → members_in (domain_of d (M env0 q q-apart bs)) ≡ Some (member_list e)) × Attributes ms es ks
-  Ready (repr ReprKind.Explicit (more_reprs r no_reprs)) (set_dom ms es d) (sets ks e) =
-      Attributes ms es ks ×
-      ((bs : Bound env0 q q-apart) → Number (size ms es d) (M env0 q q-apart bs) (pos (slots_of_set ks e))) × Ready r d e
-  Ready (repr ReprKind.ExplicitVarSizeWithMarker (more_reprs r no_reprs)) (set_dom ms es d) (sets ks e) =
-      Attributes ms es ks ×
-      ((bs : Bound env0 q q-apart) → Number (size ms es d) (M env0 q q-apart bs) (pos (slots_of_set ks e))) × Ready r d e
-  Ready _ d e = ⊥
+  -- The slots of the domain are n, whatever names are bound.
+  abbrev pub SlotsAre : Dom → ℕ → Type 0
+  SlotsAre d n = (bs : Bound env0 q q-apart) → Number (terms.slots d) (M env0 q q-apart bs) (pos n)
+
+  -- The term for an atom says whether a cell lies in its domain, whatever names are bound.
+  abbrev pub AtomReady : Dom → Domain → Type 0
+  AtomReady d e =
+      (x : Ex) (bs : Bound env0 q q-apart) (z : ℤ) → fit (is_bool_dom d) z ≡ true →
+      meaning x (M env0 q q-apart bs) ≡ Some (cell_value (is_bool_dom d) z) →
+      meaning (terms.atom d x) (M env0 q q-apart bs) ≡ Some (truth (is_cell (as_cell e) z))
+
+  abbrev mutual
+    -- What the domain's parts mean, whatever names are bound.
+    pub Ready : Repr → Dom → Domain → Type 0
+    Ready (repr ReprKind.Atom no_reprs) d e = (IsAtom e × (is_bool_dom d ≡ true → e ≡ booleans)) × AtomReady d e
+    Ready (repr ReprKind.Tuple rs) (tuple_dom ds) (tuples es) = AllReady rs ds (domain_list es)
+    Ready (repr ReprKind.Rec rs) (record_dom fs ds) (records gs es) = AllReady rs ds (domain_list es)
+    Ready (repr ReprKind.Matrix (more_reprs r no_reprs)) (matrix_dom is d) (matrices js e) =
+        (AreAtoms js × HaveLists js) × AxesAre env0 q q-apart (dom_list is) (index_members js) × Ready r d e
+    Ready (repr ReprKind.Occurrence no_reprs) (set_dom ms es d) (sets ks e) =
+        IsAtom e × (members e ≡ Some (member_list e)) ×
+        ((bs : Bound env0 q q-apart) → members_in (domain_of d (M env0 q q-apart bs)) ≡ Some (member_list e)) × Attributes ms es ks
+    Ready (repr ReprKind.Explicit (more_reprs r no_reprs)) (set_dom ms es d) (sets ks e) =
+        Attributes ms es ks × SlotsAre (set_dom ms es d) (slots_of_set ks e) × Ready r d e
+    Ready (repr ReprKind.ExplicitVarSizeWithMarker (more_reprs r no_reprs)) (set_dom ms es d) (sets ks e) =
+        Attributes ms es ks × SlotsAre (set_dom ms es d) (slots_of_set ks e) × Ready r d e
+    Ready (repr ReprKind.ExplicitVarSizeWithFlags (more_reprs r no_reprs)) (set_dom ms es d) (sets ks e) =
+        Attributes ms es ks × SlotsAre (set_dom ms es d) (slots_of_set ks e) × Ready r d e
+    Ready (repr ReprKind.Function1D (more_reprs r no_reprs)) (function_dom ms es d c) (functions ks x y) =
+        IsAtom x × (members x ≡ Some (member_list x)) × (has_flags_among is_total_key ks ≡ true) ×
+        AxesAre env0 q q-apart (d ∷ []) (member_list x ∷ []) × Attributes ms es ks × Ready r c y
+    Ready (repr ReprKind.FunctionND (more_reprs r no_reprs)) (function_dom ms es (tuple_dom ds) c) (functions ks (tuples xs) y) =
+        AreAtoms xs × (members (tuples xs) ≡ Some (member_list (tuples xs))) × (has_flags_among is_total_key ks ≡ true) ×
+        AxesAre env0 q q-apart (dom_list ds) (index_members xs) × Attributes ms es ks × Ready r c y
+    Ready (repr ReprKind.RelationAsMatrix no_reprs) (relation_dom ms es ds) (relations ks xs) =
+        AreAtoms xs × (has_flags_among no_key ks ≡ true) × AxesAre env0 q q-apart (dom_list ds) (index_members xs) × Attributes ms es ks
+    Ready _ d e = ⊥
+
+    -- The same of components.
+    pub AllReady : Reprs → Doms → List Domain → Type 0
+    AllReady no_reprs no_doms [] = Unit {0}
+    AllReady (more_reprs r rs) (more_doms d ds) (e ∷ es) = Ready r d e × AllReady rs ds es
+    AllReady _ _ es = ⊥

@@ -43,7 +43,7 @@ pub fn layers_are_composed()
     ensures { LayersAreComposed }
 {}
 
-/// The structure constraint of nested sets means that the cells are canonical.
+/// The structure constraint of a view means that its cells are canonical.
 pub fn structures_mean_canonical()
     ensures { StructuresMeanCanonical }
 {}

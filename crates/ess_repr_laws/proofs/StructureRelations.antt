@@ -1,0 +1,100 @@
+-- The structure constraint of a relation of which is kept which tuples occur: its size.
+use Rattle.std.proofs.Common.{◌≡◌, refl, sym, ap, ◌∙◌, ℕ, ◌+◌, ◌<◌, Bool, true, false, ◌&&◌, List, [], ◌∷◌, map, length, ℤ, pos, Some, option_map, arith}
+use Rattle.ess_semantics.specs.declared.words.ReprKind.{ReprKind}
+use Rattle.ess_semantics.specs.Lists.{is_some_and, or_default}
+use Rattle.ess_semantics.specs.Values.{Text, Value, a_relation, node, of_list, truth, items_of}
+use Rattle.ess_semantics.specs.Order.{same_text}
+use Rattle.ess_semantics.specs.Kinds.{dom_list}
+use Rattle.ess_semantics.specs.Trees.{Mark, Repr, repr, no_reprs, Exs, Doms, relation_dom}
+use Rattle.ess_semantics.specs.Domains.{Attribute, Domain, Domains, booleans, relations, tuples, domain_list, member_list}
+use Rattle.ess_semantics.specs.Attributes.{relation_attributes_hold, set_attributes_hold}
+use Rattle.ess_semantics.specs.Tables.{Table, Tables, is_cell}
+use Rattle.ess_semantics.specs.Cells.{Grid, Axes, behind, cells_of, every_cell, row}
+use Rattle.ess_semantics.specs.Layers.{codes_of, chosen, count_true}
+use Rattle.ess_semantics.specs.Declarations.{declarations_below}
+use Rattle.ess_semantics.specs.CanonicalTest.{canonical}
+use Rattle.ess_semantics.specs.Meaning.{Env, meaning}
+use Rattle.ess_semantics.specs.Atoms.{AreAtoms}
+use Rattle.ess_semantics.proofs.Orders.{to_list-of_list}
+use Rattle.ess_repr_laws.specs.StructureParts.{Terms, first_name, own_shape, size_ex, true_count_ex}
+use Rattle.ess_repr_laws.specs.StructureMeaning.{Bound, M, AxesAre, Placed, Attributes, index_members, has_flags_among, no_key}
+use Rattle.ess_repr_laws.proofs.Arguments.{Arguments, tuple-arguments, cell-arguments}
+use Rattle.ess_repr_laws.proofs.CanonicalForms.{atoms-listed}
+use Rattle.ess_repr_laws.proofs.CanonicalPlaces.{all-of-map}
+use Rattle.ess_repr_laws.proofs.Chosen.{Bit, chosen-there, chosen-count}
+use Rattle.ess_repr_laws.proofs.PlacesOfTables.{row-places}
+use Rattle.ess_repr_laws.proofs.SlotsUsed.{bit-cell}
+use Rattle.ess_repr_laws.proofs.StructureAttributes.{relation-sizes}
+use Rattle.ess_repr_laws.proofs.StructureFits.{Fit, first-fit}
+use Rattle.ess_repr_laws.proofs.StructureMatrices.{index-codes}
+use Rattle.ess_repr_laws.proofs.StructureNumbers.{size-means}
+use Rattle.ess_repr_laws.proofs.StructureOccurrences.{true-count-means}
+use Rattle.ess_repr_laws.proofs.StructureOf.{StructureOf}
+use Rattle.ess_repr_laws.proofs.StructureRows.{Steady, There, codes, grid_at}
+use Rattle.ess_repr_laws.proofs.TupleMembers.{place_of}
+
+-- The row of a table over the places of arguments.
+pub row-arguments : (x : Domain) (as' : Axes) (index : Value → List ℤ) → Arguments x as' index → (f : Grid) → row as' f ≡ map (λ v. or_default (f (index v)) (pos 0)) (member_list x)
+row-arguments x as' index args f = row-places as' f ∙ ap (map (λ p. or_default (f p) (pos 0))) args.places ∙ under (member_list x)
+  where
+    under : (vs : List Value) → map (λ p. or_default (f p) (pos 0)) (map index vs) ≡ map (λ v. or_default (f (index v)) (pos 0)) vs
+    under [] = refl
+    under (v ∷ vs) = ap (λ l. or_default (f (index v)) (pos 0) ∷ l) (under vs)
+
+-- Of arguments with a truth value some are chosen, as many as cells are true.
+pub arguments-chosen : (x : Domain) (as' : Axes) (index : Value → List ℤ) → Arguments x as' index → (f : Grid) → every_cell as' (is_cell booleans) f ≡ true →
+    (ys : List Value) × (chosen (member_list x) (λ v. f (index v)) ≡ Some ys) × (count_true (row as' f) ≡ length ys)
+arguments-chosen x as' index args f h =
+    let bits = all-of-map (member_list x) (λ v. is_some_and (f (index v)) (is_cell booleans) ≡ true) (λ v. Bit (f (index v))) (λ v e. bit-cell (f (index v)) e) (cell-arguments x as' index args (is_cell booleans) f h) in
+    let r = chosen-there (member_list x) (λ v. f (index v)) bits in
+    (r.0, r.1, ap count_true (row-arguments x as' index args f) ∙ chosen-count (member_list x) (λ v. f (index v)) r.0 r.1 bits)
+
+module _ (env0 : Env) (q : ℕ → Text) (q-apart : (m l : ℕ) → l < m → same_text (q m) (q l) ≡ false) (terms : Terms)
+    (ms : List Mark) (es : Exs) (ds : Doms) (ks : List Attribute) (xs : Domains) (a : AreAtoms xs) (fl : has_flags_among no_key ks ≡ true)
+    (ax : AxesAre env0 q q-apart (dom_list ds) (index_members xs)) (at : Attributes env0 q q-apart terms ms es ks) where
+  abbrev kind : Repr
+  kind = repr ReprKind.RelationAsMatrix no_reprs
+
+  abbrev axes : Axes
+  axes = map codes_of (domain_list xs)
+
+  same : codes env0 q q-apart (index_members xs) ≡ axes
+  same = index-codes env0 q q-apart xs
+
+  bits : (out : Bool) (t : Table) (i : List ℤ) → Fit (declarations_below out kind (relations ks xs)) (behind i (cells_of (t ∷ []))) → every_cell axes (is_cell booleans) (grid_at env0 q q-apart t i) ≡ true
+  bits true t i c = let f = first-fit (record { axes = axes; cell = booleans }) [] (grid_at env0 q q-apart t i) [] c in f.inside
+  bits false t i c = let f = first-fit (record { axes = axes; cell = booleans }) [] (grid_at env0 q q-apart t i) [] c in f.inside
+
+  matrix-there : (out : Bool) (ns : List Text) (ts : Tables) (i : List ℤ) → Placed env0 q q-apart (own_shape ns true (dom_list ds) ∷ []) (index_members xs ∷ []) ts →
+      Fit (declarations_below out kind (relations ks xs)) (behind i (cells_of ts)) → There env0 q q-apart (own_shape ns true (dom_list ds) ∷ []) (index_members xs ∷ []) ts i
+  matrix-there out ns (t ∷ []) i p c = (ap (λ z. every_cell z (is_cell booleans) (grid_at env0 q q-apart t i)) same ∙ bits out t i c, tt)
+  matrix-there out ns [] i p c = absurd p
+  matrix-there out ns (t ∷ u ∷ ts) i p c = absurd p.2
+
+  matrix-means : (out : Bool) (ns : List Text) (ts : Tables) (l : ℕ) (is : Exs) (i : List ℤ) (bs : Bound env0 q q-apart) → Placed env0 q q-apart (own_shape ns true (dom_list ds) ∷ []) (index_members xs ∷ []) ts →
+      Fit (declarations_below out kind (relations ks xs)) (behind i (cells_of ts)) → Steady env0 q q-apart l is i bs →
+      meaning (size_ex ms es (true_count_ex q l (dom_list ds) (first_name ns) is)) (M env0 q q-apart bs) ≡ Some (truth (canonical kind (relations ks xs) (behind i (cells_of ts))))
+  matrix-means out ns (t ∷ []) l is i bs p c st =
+      let z = at bs in
+      let b = bits out t i c in
+      let x = matrix-there out ns (t ∷ []) i p c in
+      let y = arguments-chosen (tuples xs) axes place_of (tuple-arguments xs (atoms-listed xs a)) (grid_at env0 q q-apart t i) b in
+      size-means (M env0 q q-apart bs) ms es (true_count_ex q l (dom_list ds) (first_name ns) is) (count_true (row (codes env0 q q-apart (index_members xs)) (grid_at env0 q q-apart t i))) ks z.0 z.1
+      (true-count-means env0 q q-apart l (dom_list ds) (index_members xs) (first_name ns) is i bs t ax p.0 x.0 st)
+      ∙ ap (λ s. Some (truth s))
+      (ap (λ a. set_attributes_hold ks (count_true (row a (grid_at env0 q q-apart t i)))) same ∙ ap (set_attributes_hold ks) y.2 ∙ sym (relation-sizes ks xs y.0 fl)
+      ∙ ap (relation_attributes_hold ks xs) (sym (to_list-of_list y.0))
+      ∙ sym (ap (λ o. (((every_cell axes (is_cell booleans) (grid_at env0 q q-apart t i) && true) && true) && true) && is_some_and (option_map (λ ys. node a_relation (of_list ys)) o) (λ v. relation_attributes_hold ks xs (items_of v))) y.1
+      ∙ ap (λ b. (((b && true) && true) && true) && relation_attributes_hold ks xs (items_of (node a_relation (of_list y.0)))) b))
+  matrix-means out ns [] l is i bs p c st = absurd p
+  matrix-means out ns (t ∷ u ∷ ts) l is i bs p c st = absurd p.2
+
+  -- The structure constraint of a relation as a matrix means that its cells are canonical.
+  pub relation-structure : StructureOf env0 q q-apart terms kind (relation_dom ms es ds) (relations ks xs)
+  relation-structure = record {
+    covered = a;
+    long = λ ns. let z : 1 ≡ 1 + 0 = omega arith in z;
+    axes = ap (λ l. l ∷ []) same;
+    there = matrix-there;
+    means = matrix-means;
+  }

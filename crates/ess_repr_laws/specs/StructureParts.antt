@@ -1,0 +1,182 @@
+-- The parts of the constraint that the cells of a view are canonical, as expressions. The names that it binds are q l, q (l + 1)
+-- and so on.
+use Rattle.std.specs.Prelude.{ℕ, suc, Bool, true, false, List, [], ◌∷◌, ◌++◌, pos}
+use Rattle.ess_semantics.specs.declared.words.Op1.{Op1}
+use Rattle.ess_semantics.specs.declared.words.Op2.{Op2}
+use Rattle.ess_semantics.specs.declared.words.Fun.{Fun}
+use Rattle.ess_semantics.specs.declared.words.Key.{Key}
+use Rattle.ess_semantics.specs.Values.{Text}
+use Rattle.ess_semantics.specs.Trees.{both_ends, Mark, flag, valued, name_pat, Ex, Exs, number_ex, truth_ex, name_ex, comp_ex, cell_ex, no_exs, more_exs, Gens, no_gens, over, cond, Dom, int_dom, ex1, ex2, fun1}
+
+-- A table of the view: its name, whether it holds truth values, and the axes behind the view's index list.
+pub record Shape : Type 0 where
+  pub name : Text
+  pub truth : Bool
+  pub axes : List Dom
+
+-- One more operand.
+abbrev pub add_ex : Exs → Ex → Exs
+add_ex no_exs e = more_exs e no_exs
+add_ex (more_exs x is) e = more_exs x (add_ex is e)
+
+-- Both hold.
+abbrev pub and_ex : Ex → Ex → Ex
+and_ex a b = ex2 true Op2.And a b
+
+-- One of both holds.
+abbrev pub or_ex : Ex → Ex → Ex
+or_ex a b = ex2 true Op2.Or a b
+
+-- If the one holds, so does the other one.
+abbrev pub implies_ex : Ex → Ex → Ex
+implies_ex a b = ex2 true Op2.Implies a b
+
+-- The one number is at most the other one.
+abbrev pub le_ex : Ex → Ex → Ex
+le_ex a b = ex2 true Op2.Le a b
+
+-- e holds at each binding.
+abbrev pub all_ex : Ex → Gens → Ex
+all_ex e gs = fun1 true Fun.And (comp_ex e gs)
+
+-- The numbers 1 to n.
+abbrev pub upto : Ex → Dom
+upto n = int_dom (both_ends ∷ []) (more_exs (number_ex (pos 1)) (more_exs n no_exs))
+
+-- An attribute with the number e, of a set with m members.
+abbrev pub key_ex : Key → Ex → Ex → Ex
+key_ex Key.Size e m = and_ex (le_ex e m) (le_ex m e)
+key_ex Key.MinSize e m = le_ex e m
+key_ex Key.MaxSize e m = le_ex m e
+key_ex _ e m = truth_ex true
+
+-- All attributes.
+abbrev pub size_ex : List Mark → Exs → Ex → Ex
+size_ex [] es m = truth_ex true
+size_ex (flag k ∷ ms) es m = size_ex ms es m
+size_ex (valued k ∷ ms) no_exs m = truth_ex true
+size_ex (valued k ∷ ms) (more_exs e es) m = and_ex (key_ex k e m) (size_ex ms es m)
+
+-- The number of the first name behind those of the axes.
+abbrev pub level_behind : ℕ → List Dom → ℕ
+level_behind l [] = l
+level_behind l (a ∷ as') = level_behind (suc l) as'
+
+module _ (q : ℕ → Text) where
+  -- Generators over the axes behind.
+  abbrev pub row_gens : ℕ → List Dom → Gens
+  row_gens l [] = no_gens
+  row_gens l (a ∷ as') = over (name_pat (q l)) a (row_gens (suc l) as')
+
+  -- The index list with their names.
+  abbrev pub row_index : ℕ → List Dom → Exs → Exs
+  row_index l [] is = is
+  row_index l (a ∷ as') is = row_index (suc l) as' (add_ex is (name_ex (q l)))
+
+  -- part holds at each place of the axes.
+  abbrev pub each_ex : ℕ → List Dom → Ex → Ex
+  each_ex l as' part = all_ex part (row_gens l as')
+
+  -- A table's cells row by row.
+  abbrev pub row_ex : ℕ → Shape → Exs → Ex
+  row_ex l s is = comp_ex (cell_ex s.truth s.name (row_index l s.axes is)) (row_gens l s.axes)
+
+  -- The cells at one index list are below those at another one.
+  abbrev pub less_ex : ℕ → List Shape → Exs → Exs → Ex
+  less_ex l [] is js = truth_ex false
+  less_ex l (s ∷ ss) is js =
+      or_ex (ex2 true Op2.LexLt (row_ex l s is) (row_ex l s js)) (and_ex (ex2 true Op2.LexLe (row_ex l s is) (row_ex l s js)) (less_ex l ss is js))
+
+  -- A cell is 0 or false.
+  abbrev pub out_ex : Bool → Text → Exs → Ex
+  out_ex true n is = ex1 true Op1.Not (cell_ex true n is)
+  out_ex false n is = ex2 true Op2.Eq (number_ex (pos 0)) (cell_ex false n is)
+
+  -- All cells of a table are 0 or false.
+  abbrev pub zero_ex : ℕ → Shape → Exs → Ex
+  zero_ex l s is = all_ex (out_ex s.truth s.name (row_index l s.axes is)) (row_gens l s.axes)
+
+  -- All cells are.
+  abbrev pub zeros_ex : ℕ → List Shape → Exs → Ex
+  zeros_ex l [] is = truth_ex true
+  zeros_ex l (s ∷ ss) is = and_ex (zero_ex l s is) (zeros_ex l ss is)
+
+  -- e of each slot where the test holds.
+  abbrev pub over_slots : ℕ → Ex → Ex → Ex → Ex
+  over_slots l size test e = all_ex e (over (name_pat (q l)) (upto size) (cond test no_gens))
+
+  -- The number of the next slot.
+  abbrev pub next_ex : ℕ → Ex
+  next_ex l = ex2 false Op2.Plus (name_ex (q l)) (number_ex (pos 1))
+
+  -- Of the slots the first m are in use: each of these is canonical (part), they rise, and all others hold 0 or false.
+  abbrev pub slots_ex : ℕ → Ex → Ex → List Shape → Exs → Ex → Ex
+  slots_ex l size m ss is part =
+      and_ex (over_slots l size (le_ex (name_ex (q l)) m) part)
+      (and_ex (over_slots l size (le_ex (next_ex l) m) (less_ex (suc l) ss (add_ex is (name_ex (q l))) (add_ex is (next_ex l))))
+      (over_slots l size (ex1 true Op1.Not (le_ex (name_ex (q l)) m)) (zeros_ex (suc l) ss (add_ex is (name_ex (q l))))))
+
+  -- Slots up to a marker.
+  abbrev pub marker_ex : ℕ → List Mark → Exs → Ex → Text → List Shape → Exs → Ex → Ex
+  marker_ex l ms es size n ss is part = and_ex (size_ex ms es (cell_ex false n is)) (slots_ex l size (cell_ex false n is) ss is part)
+
+  -- All slots in use.
+  abbrev pub explicit_ex : ℕ → List Mark → Exs → Ex → List Shape → Exs → Ex → Ex
+  explicit_ex l ms es size ss is part = and_ex (size_ex ms es size) (slots_ex l size size ss is part)
+
+  -- Slots of which those in use rise, where `here` says of a slot that it is in use, `next` of the next one, and `rise` that both
+  -- rise: each of these is canonical (part), and all others hold 0 or false.
+  abbrev pub use_ex : ℕ → Ex → Ex → Ex → Ex → List Shape → Exs → Ex → Ex
+  use_ex l size here next rise ss is part =
+      and_ex (over_slots l size here part)
+      (and_ex (over_slots l size (le_ex (next_ex l) size) (implies_ex next rise))
+      (over_slots l size (ex1 true Op1.Not here) (zeros_ex (suc l) ss (add_ex is (name_ex (q l))))))
+
+  -- The slots in use stand first.
+  abbrev pub first_ex : ℕ → Ex → Ex → Ex → Ex
+  first_ex l size here next = over_slots l size (le_ex (next_ex l) size) (implies_ex next here)
+
+  -- How many cells of a table are true.
+  abbrev pub true_count_ex : ℕ → List Dom → Text → Exs → Ex
+  true_count_ex l as' n is = fun1 false Fun.Sum (comp_ex (fun1 false Fun.ToInt (cell_ex true n (row_index l as' is))) (row_gens l as'))
+
+  -- How many places axes have.
+  abbrev pub place_count_ex : ℕ → List Dom → Ex
+  place_count_ex l as' = fun1 false Fun.Sum (comp_ex (number_ex (pos 1)) (row_gens l as'))
+
+  -- A value at each place: each is canonical (part).
+  abbrev pub total_ex : ℕ → List Mark → Exs → List Dom → Ex → Ex
+  total_ex l ms es as' part = and_ex (each_ex l as' part) (size_ex ms es (place_count_ex l as'))
+
+  -- Slots with flags.
+  abbrev pub flags_ex : ℕ → List Mark → Exs → Ex → Text → List Shape → Exs → Ex → Ex
+  flags_ex l ms es size n ss is part =
+      let here : Ex = cell_ex true n (add_ex is (name_ex (q l))) in
+      let next : Ex = cell_ex true n (add_ex is (next_ex l)) in
+      and_ex (and_ex (first_ex l size here next)
+      (use_ex l size here next (less_ex (suc l) ss (add_ex is (name_ex (q l))) (add_ex is (next_ex l))) ss is part))
+      (size_ex ms es (true_count_ex l (upto size ∷ []) n is))
+
+  -- Which members occur.
+  abbrev pub occurrence_ex : ℕ → List Mark → Exs → Dom → Text → Exs → Ex
+  occurrence_ex l ms es d n is = size_ex ms es (true_count_ex l (d ∷ []) n is)
+
+-- ---- what views take from domains
+
+-- The terms that the constraint takes from domains: the number of slots, and that a cell lies in the domain of an atom.
+pub record Terms : Type 0 where
+  pub slots : Dom → Ex
+  pub atom : Dom → Ex → Ex
+
+-- The first name of a view's tables.
+abbrev pub first_name : List Text → Text
+first_name [] = []
+first_name (n ∷ ns) = n
+
+-- A table with further axes in front.
+abbrev pub on_axes : List Dom → Shape → Shape
+on_axes as' s = record s { axes = as' ++ s.axes }
+
+-- The one table of a cell's own.
+abbrev pub own_shape : List Text → Bool → List Dom → Shape
+own_shape ns b as' = record { name = first_name ns; truth = b; axes = as' }
