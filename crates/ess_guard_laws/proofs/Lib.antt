@@ -8,4 +8,6 @@ pub mod Axes
 pub mod IndexRows
 pub mod Rows
 pub mod Meanings
+pub mod MetRows
+pub mod StructuresMet
 pub mod Examples

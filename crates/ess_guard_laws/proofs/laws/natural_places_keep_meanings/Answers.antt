@@ -1,8 +1,0 @@
-use Rattle.ess_guard_laws.proofs.laws.natural_places_keep_meanings.Goals as goal
-use Rattle.std.specs.Prelude.{true, []}
-use Rattle.ess_guard_laws.proofs.Rows.{own-holds}
-use Rattle.ess_guard_laws.proofs.LiteralRows.{matrix-holds}
-use Rattle.ess_guard_laws.proofs.Meanings.{same}
-
-pub returns : goal.returns
-returns c = λ x y e env. same true x y (own-holds x y) (matrix-holds x) e [] env
