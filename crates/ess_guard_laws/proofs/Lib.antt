@@ -1,0 +1,13 @@
+pub mod Holding
+pub mod NumberForms
+pub mod NumberRows
+pub mod ItemRows
+pub mod CountRows
+pub mod LiteralRows
+pub mod Axes
+pub mod IndexRows
+pub mod Rows
+pub mod Meanings
+pub mod MetRows
+pub mod StructuresMet
+pub mod Examples

@@ -1,0 +1,59 @@
+-- The index domain of a matrix term, as its form tells it: of a literal, a comprehension, a declared matrix, and of what an
+-- index picks out of one.
+use Rattle.std.specs.Prelude.{ℕ, suc, Bool, true, false, List, [], ◌∷◌, pos, Option, Some, None}
+use Rattle.ess_semantics.specs.declared.words.ReprKind.{ReprKind}
+use Rattle.ess_semantics.specs.declared.words.Fun.{Fun}
+use Rattle.ess_semantics.specs.Trees.{Step, by_value, Op, index, matrix_literal, both_ends, repr, no_reprs, more_reprs, Ex, Exs, number_ex, node_ex, matrix_ex, comp_ex, seen_ex, no_exs, more_exs, Dom, Doms, int_dom, matrix_dom, no_doms, more_doms, fun1}
+
+-- The number of operands.
+abbrev pub number_of : Exs → ℕ
+number_of no_exs = 0
+number_of (more_exs e es) = suc (number_of es)
+
+-- `int(1..n)`
+abbrev pub one_up_to : Ex → Dom
+one_up_to n = int_dom (both_ends ∷ []) (more_exs (number_ex (pos 1)) (more_exs n no_exs))
+
+-- ---- the domain that a term follows
+
+-- The domain of the items of a matrix of several index domains, behind the first one.
+abbrev pub item_dom : Option Dom → Option Dom
+item_dom (Some (matrix_dom (more_doms i (more_doms j is)) d)) = Some (matrix_dom (more_doms j is) d)
+item_dom o = None
+
+-- The domain behind several steps by the values of these operands.
+abbrev pub dom_behind : Option Dom → List Step → Exs → Option Dom
+dom_behind o [] no_exs = o
+dom_behind o (by_value ∷ qs) (more_exs i is) = dom_behind (item_dom o) qs is
+dom_behind o qs is = None
+
+-- The domain of matrices that the values of a term follow: of a view, and of its rows.
+abbrev pub dom_followed : Ex → Option Dom
+dom_followed (seen_ex r d ns es) = Some d
+dom_followed (node_ex false (index qs) (more_exs m is)) = dom_behind (dom_followed m) qs is
+dom_followed e = None
+
+-- The first index domain of a domain of matrices.
+abbrev pub first_index : Option Dom → Option Dom
+first_index (Some (matrix_dom (more_doms i is) d)) = Some i
+first_index o = None
+
+-- The index domain of a matrix term. Lists are numbered from 1.
+abbrev pub index_dom : Ex → Option Dom
+index_dom (node_ex false matrix_literal es) = Some (one_up_to (number_ex (pos (number_of es))))
+index_dom (matrix_ex es d) = Some d
+index_dom (comp_ex e gs) = Some (one_up_to (fun1 false Fun.Sum (comp_ex (number_ex (pos 1)) gs)))
+index_dom m = first_index (dom_followed m)
+
+-- ---- declared matrices of atoms
+
+-- Whether there are as many steps as index domains, each by a value.
+abbrev pub is_whole_index : List Step → Doms → Bool
+is_whole_index [] no_doms = true
+is_whole_index (by_value ∷ qs) (more_doms d ds) = is_whole_index qs ds
+is_whole_index qs ds = false
+
+-- Whether it is a declared matrix of atoms at an index: a cell.
+abbrev pub is_cell_index : Op → Exs → Bool
+is_cell_index (index qs) (more_exs (seen_ex (repr ReprKind.Matrix (more_reprs (repr ReprKind.Atom rs) no_reprs)) (matrix_dom ds d) ns js) is) = is_whole_index qs ds
+is_cell_index op es = false

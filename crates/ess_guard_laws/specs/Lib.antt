@@ -1,0 +1,6 @@
+pub mod Origins
+pub mod IndexDomains
+pub mod Conditions
+pub mod Guard
+pub mod Holds
+pub mod Laws

@@ -1,0 +1,28 @@
+//! Laws of undefined terms, each the contract of a function that does nothing.
+
+ghost use Rattle.ess_guard_laws.specs.Laws.{ConditionsHoldAtValues, ConditionsAreMet, GuardingKeepsMeanings, GuardedIsKept, NaturalIsKept};
+
+/// Where a term has a value its conditions hold.
+pub fn conditions_hold_at_values()
+    ensures { ConditionsHoldAtValues }
+{}
+
+/// Tables that meet the structures of a term meet those of its conditions.
+pub fn conditions_are_met()
+    ensures { ConditionsAreMet }
+{}
+
+/// A tree whose Booleans stand under their conditions means the same, everywhere.
+pub fn guarding_keeps_meanings()
+    ensures { GuardingKeepsMeanings }
+{}
+
+/// So it is kept as a rule keeps a tree: tables that meet its structures meet those of the guarded one too.
+pub fn guarded_is_kept()
+    ensures { GuardedIsKept }
+{}
+
+/// So it is where quotients, remainders, powers and cells stand as they are in natural places.
+pub fn natural_is_kept()
+    ensures { NaturalIsKept }
+{}
