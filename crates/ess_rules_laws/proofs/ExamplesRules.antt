@@ -14,6 +14,7 @@ use Rattle.ess_rules_laws.specs.MembershipRules.{member_term, member_combined, m
 use Rattle.ess_rules_laws.specs.InclusionRules.{every, frequency, unequal, included_turned, included_strictly, included_members, included_often, equal_members, equal_often}
 use Rattle.ess_rules_laws.specs.ComponentRules.{component_of, equal_components}
 use Rattle.ess_rules_laws.specs.SizeRules.{size_term, frequency_term}
+use Rattle.ess_rules_laws.specs.SpliceRules.{splice}
 use Rattle.ess_rules_laws.specs.Listings.{those, listing}
 
 abbrev a : Text
@@ -182,3 +183,15 @@ pairs_equal = refl
 components_without_value : (meaning (bi Op2.Eq (N x) (N y)) empty_env ≡ Some (truth false))
     × (meaning (bi Op2.Eq (component_of bool_ty 1 (N x)) (component_of bool_ty 1 (N y))) empty_env ≡ Some (truth true))
 components_without_value = (refl, refl)
+
+-- ---- splices
+
+-- `[x + 1 | x <- [y * 2 | y <- a], x = 4]`
+spliced : splice (comp_ex (bi Op2.Plus (N x) (n 1)) (from (name_pat x) (comp_ex (bi Op2.Times (N y) (n 2)) (from (name_pat y) (N a) no_gens)) (cond (bi Op2.Eq (N x) (n 4)) no_gens)))
+    ≡ Some (comp_ex (bi Op2.Plus (bi Op2.Times (N y) (n 2)) (n 1)) (from (name_pat y) (N a) (cond (bi Op2.Eq (bi Op2.Times (N y) (n 2)) (n 4)) no_gens)))
+spliced = refl
+
+-- `sum([1 | x <- [1/0 | y <- {1}]])` has nothing, and `sum([1 | y <- {1}])` is 1
+splice_without_value : (meaning (fn Fun.Sum (comp_ex (n 1) (from (name_pat x) (comp_ex nothing (from (name_pat y) one_set no_gens)) no_gens))) empty_env ≡ None)
+    × (meaning (fn Fun.Sum (comp_ex (n 1) (from (name_pat y) one_set no_gens))) empty_env ≡ Some (number (pos 1)))
+splice_without_value = (refl, refl)

@@ -29,3 +29,5 @@ pub mod ListedItems
 pub mod Listings
 pub mod ExamplesRules
 pub mod ComponentRules
+pub mod Splices
+pub mod SpliceRules

@@ -8,3 +8,4 @@ pub mod SizeRules
 pub mod RuleLaws
 pub mod Listings
 pub mod ComponentRules
+pub mod SpliceRules
