@@ -31,3 +31,4 @@ pub mod ExamplesRules
 pub mod ComponentRules
 pub mod Splices
 pub mod SpliceRules
+pub mod FieldRules
