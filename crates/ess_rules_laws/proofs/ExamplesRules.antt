@@ -14,6 +14,7 @@ use Rattle.ess_rules_laws.specs.MembershipRules.{member_term, member_combined, m
 use Rattle.ess_rules_laws.specs.InclusionRules.{every, frequency, unequal, included_turned, included_strictly, included_members, included_often, equal_members, equal_often}
 use Rattle.ess_rules_laws.specs.ComponentRules.{component_of, equal_components, field_of, equal_fields}
 use Rattle.ess_rules_laws.specs.SizeRules.{size_term, frequency_term}
+use Rattle.ess_rules_laws.specs.GeneratorRules.{generate}
 use Rattle.ess_rules_laws.specs.SpliceRules.{splice}
 use Rattle.ess_rules_laws.specs.Listings.{those, listing}
 
@@ -202,3 +203,22 @@ spliced = refl
 splice_without_value : (meaning (fn Fun.Sum (comp_ex (n 1) (from (name_pat x) (comp_ex nothing (from (name_pat y) one_set no_gens)) no_gens))) empty_env ≡ None)
     × (meaning (fn Fun.Sum (comp_ex (n 1) (from (name_pat y) one_set no_gens))) empty_env ≡ Some (number (pos 1)))
 splice_without_value = (refl, refl)
+
+-- ---- generators
+
+abbrev sum_over : Ex → Ex
+sum_over s = comp_ex (N x) (from (name_pat x) s no_gens)
+
+over_both : generate g (sum_over (bi Op2.Intersect (N a) (N b))) ≡ Some (comp_ex (N x) (from (name_pat x) (N a) (cond (bi Op2.Member (N x) (N b)) no_gens)))
+over_both = refl
+
+over_set : generate g (sum_over (fn Fun.ToSet (N a))) ≡ Some (sum_over (N a))
+over_set = refl
+
+over_multiset : generate g (sum_over (fn Fun.ToSet (N c))) ≡ None
+over_multiset = refl
+
+-- `[x | x <- {1} intersect {1/0}]` has nothing, and `[x | x <- {1}, x in {1/0}]` has no item
+both_without_value : (meaning (fn Fun.Sum (sum_over (bi Op2.Intersect one_set nowhere))) empty_env ≡ None)
+    × (meaning (fn Fun.Sum (comp_ex (N x) (from (name_pat x) one_set (cond (bi Op2.Member (N x) nowhere) no_gens)))) empty_env ≡ Some (number (pos 0)))
+both_without_value = (refl, refl)

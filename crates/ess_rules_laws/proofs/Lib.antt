@@ -32,3 +32,4 @@ pub mod ComponentRules
 pub mod Splices
 pub mod SpliceRules
 pub mod FieldRules
+pub mod GeneratorRules

@@ -17,7 +17,8 @@ use Rattle.ess_rules_laws.proofs.ListedItems.{alone-listed}
 
 -- ---- collected lists
 
-append-nothing : (c : Option (List Value)) → option_map (λ ys. ys) c ≡ c
+-- Nothing put before the items changes nothing.
+pub append-nothing : (c : Option (List Value)) → option_map (λ ys. ys) c ≡ c
 append-nothing None = refl
 append-nothing (Some xs) = refl
 

@@ -9,3 +9,4 @@ pub mod RuleLaws
 pub mod Listings
 pub mod ComponentRules
 pub mod SpliceRules
+pub mod GeneratorRules
