@@ -24,13 +24,13 @@ use Rattle.ess_rules_laws.proofs.RuleAnswers.{AnswerKeeps, fires, both-there}
 use Rattle.ess_rules_laws.proofs.Connectives.{binary-means, and-means}
 
 -- Two lists are equal where their first items and the rest are.
-then-equal : (o p : Ordering) → is_eq (ordering_then o p) ≡ is_eq o && is_eq p
+pub then-equal : (o p : Ordering) → is_eq (ordering_then o p) ≡ is_eq o && is_eq p
 then-equal Less p = refl
 then-equal Equal p = refl
 then-equal Greater p = refl
 
 -- A value of a type, read as Boolean where the type is bool.
-of-mark : (p : Bool) (es : List TypeEntry) (t : Ty) (v : Value) → is_of p es t v ≡ true → false_where_undefined (is_bool (Some t)) (Some v) ≡ Some v
+pub of-mark : (p : Bool) (es : List TypeEntry) (t : Ty) (v : Value) → is_of p es t v ≡ true → false_where_undefined (is_bool (Some t)) (Some v) ≡ Some v
 of-mark p es bool_ty (truth b) h = refl
 of-mark p es bool_ty v h = cc
 of-mark p es t v h = refl

@@ -30,3 +30,7 @@ pub mod ListedItems
 pub mod Listings
 pub mod ExamplesRules
 pub mod ComponentRules
+pub mod Splices
+pub mod SpliceRules
+pub mod FieldRules
+pub mod GeneratorRules

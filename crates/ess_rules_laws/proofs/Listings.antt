@@ -50,22 +50,22 @@ module _ (a b : Ex) (env : Env) (v w : Value) (j : meaning a env ≡ Some v) (k 
   right-strictly : Strictly ys
   right-strictly = subst Strictly (sym p.right_items) p.right_rises
 
-  union-items : option_map items_of (meaning (ex2 false Op2.Union a b) env) ≡ Some (sorted_once (xs ++ ys))
+  pub union-items : option_map items_of (meaning (ex2 false Op2.Union a b) env) ≡ Some (sorted_once (xs ++ ys))
   union-items =
       ap (option_map items_of) (binary-means env false Op2.Union a b v w j k ∙ ap (λ z. Some (of_same_kind z (sorted_once (xs ++ ys)))) p.left_is)
       ∙ ap Some (made (sorted_once (xs ++ ys)))
 
-  both-items : option_map items_of (meaning (ex2 false Op2.Intersect a b) env) ≡ Some (filter (holds ys) xs)
+  pub both-items : option_map items_of (meaning (ex2 false Op2.Intersect a b) env) ≡ Some (filter (holds ys) xs)
   both-items =
       ap (option_map items_of) (binary-means env false Op2.Intersect a b v w j k ∙ ap (λ z. Some (of_same_kind z (filter (holds ys) xs))) p.left_is)
       ∙ ap Some (made (filter (holds ys) xs))
 
-  rest-items : option_map items_of (meaning (ex2 false Op2.Minus a b) env) ≡ Some (filter (λ x. not (holds ys x)) xs)
+  pub rest-items : option_map items_of (meaning (ex2 false Op2.Minus a b) env) ≡ Some (filter (λ x. not (holds ys x)) xs)
   rest-items =
       ap (option_map items_of) (binary-means env false Op2.Minus a b v w j k ∙ ap (λ z. value_of_binary Op2.Minus z w) p.left_is)
       ∙ ap Some (made (filter (λ x. not (holds ys x)) (to_list p.left)) ∙ ap (filter (λ x. not (holds ys x))) (sym p.left_items))
 
-  union-counts : (u : Value) → count (sorted_once (xs ++ ys)) u ≡ count (xs ++ filter (λ y. not (holds xs y)) ys) u
+  pub union-counts : (u : Value) → count (sorted_once (xs ++ ys)) u ≡ count (xs ++ filter (λ y. not (holds xs y)) ys) u
   union-counts u =
       count-sorted_once (xs ++ ys) u ∙ ap (λ t. if t then 1 else 0) (holds-append xs ys u)
       ∙ go (holds xs u) (holds ys u)
@@ -119,7 +119,7 @@ module _ (p : Bool) (es : List TypeEntry) where
   partition-items (more_tys t no_tys) (node a_partition vs) h = and-left _ _ (and-left _ _ h)
   partition-items _ _ h = cc
 
-  strictly-of : (t : Option Ty) (v : Value) → is_strict t ≡ true → ((s : Ty) → t ≡ Some s → IsTrue (is_of p es s v)) → Strictly (items_of v)
+  pub strictly-of : (t : Option Ty) (v : Value) → is_strict t ≡ true → ((s : Ty) → t ≡ Some s → IsTrue (is_of p es s v)) → Strictly (items_of v)
   strictly-of (Some (compound a_set ts)) v h f = set-items ts v (f (compound a_set ts) refl)
   strictly-of (Some (compound a_relation ts)) v h f = relation-items ts v (f (compound a_relation ts) refl)
   strictly-of (Some (compound a_partition ts)) v h f = partition-items ts v (f (compound a_partition ts) refl)

@@ -8,3 +8,5 @@ pub mod SizeRules
 pub mod RuleLaws
 pub mod Listings
 pub mod ComponentRules
+pub mod SpliceRules
+pub mod GeneratorRules

@@ -11,7 +11,7 @@ use Rattle.ess_rules_laws.specs.Rules.{Unused, SoundOperands, RuleKeeps, RuleKee
 use Rattle.ess_rules_laws.specs.FoldRules.{fold_alone, fold_nothing, fold_one, fold_term, ItemFits}
 use Rattle.ess_rules_laws.specs.MembershipRules.{member_term, member_combined, member_changed, member_listed, CombinedThere, ItemsThere}
 use Rattle.ess_rules_laws.specs.InclusionRules.{unequal, included_turned, included_strictly, included_members, included_often, equal_members, equal_often}
-use Rattle.ess_rules_laws.specs.ComponentRules.{equal_components}
+use Rattle.ess_rules_laws.specs.ComponentRules.{equal_components, equal_fields}
 use Rattle.ess_rules_laws.specs.SizeRules.{size_term, frequency_term, together_term}
 
 -- Rules of `and`, `or`, `sum` and `product` over a condition alone, over literals of no item or one, and over any term.
@@ -47,6 +47,7 @@ pub record SizeRulesKeep : Type 0 where
 -- Rules of `=` by components.
 pub record ComponentRulesKeep : Type 0 where
   pub equal_tuples : RuleKeepsTypedThere equal_components
+  pub equal_records : RuleKeepsTypedThere equal_fields
 
 -- What a container term offers lists its members: comprehensions, literals, unions, intersections and differences of sets and
 -- of relations, and containers with the members of another one.

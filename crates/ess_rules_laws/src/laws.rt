@@ -1,6 +1,8 @@
 //! Laws of rewriting, each the contract of a function that does nothing.
 
 ghost use Rattle.ess_rules_laws.specs.Laws.{UnusedNamesChangeNothing, PartsMayBeReplaced, StepsKeepTheWhole, KeptPartsKeepTheWhole, RewritingKeepsTheWhole, WordsForgetOrder};
+ghost use Rattle.ess_rules_laws.specs.SpliceRules.{SpliceKeeps};
+ghost use Rattle.ess_rules_laws.specs.GeneratorRules.{GenerateKeeps};
 ghost use Rattle.ess_rules_laws.specs.RuleLaws.{FoldRulesKeep, MembershipRulesKeep, InclusionRulesKeep, SizeRulesKeep, ComponentRulesKeep, ListingsList};
 
 /// A value of a name that isn't free in an expression changes no meaning. So a bound name may be any name that isn't free
@@ -65,4 +67,15 @@ pub fn listings_list()
 /// The rules of `=` by components keep what they rewrite.
 pub fn component_rules_keep()
     ensures { ComponentRulesKeep }
+{}
+
+/// The generators and the item of a comprehension may stand in the place of a generator over it.
+pub fn splicing_keeps()
+    ensures { SpliceKeeps }
+{}
+
+/// A generator over an intersection, a difference, or a set made of a container that has its members already, may run over the
+/// first of these.
+pub fn generating_keeps()
+    ensures { GenerateKeeps }
 {}
