@@ -124,6 +124,7 @@ pub mod StructureFunctions
 pub mod StructureRelations
 pub mod StructureUse
 pub mod StructureSortedSlots
+pub mod StructurePartial
 pub mod StructureFlags
 pub mod StructureAll
 pub mod StructureOfTables

@@ -75,6 +75,10 @@ abbrev mutual
   axes_members (repr ReprKind.Function1D (more_reprs r no_reprs)) (functions ks x y) = on_members (member_list x ∷ []) (axes_members r y)
   axes_members (repr ReprKind.FunctionND (more_reprs r no_reprs)) (functions ks (tuples xs) y) = on_members (index_members xs) (axes_members r y)
   axes_members (repr ReprKind.RelationAsMatrix no_reprs) (relations ks xs) = index_members xs ∷ []
+  axes_members (repr ReprKind.Function1DPartial (more_reprs r no_reprs)) (functions ks x y) =
+      (member_list x ∷ []) ∷ on_members (member_list x ∷ []) (axes_members r y)
+  axes_members (repr ReprKind.FunctionNDPartial (more_reprs r no_reprs)) (functions ks (tuples xs) y) =
+      index_members xs ∷ on_members (index_members xs) (axes_members r y)
   axes_members _ e = []
 
   -- Those of the views of components.
@@ -145,6 +149,11 @@ module _ (env0 : Env) (q : ℕ → Text) (q-apart : (m l : ℕ) → l < m → sa
         AxesAre env0 q q-apart (dom_list ds) (index_members xs) × Attributes ms es ks × Ready r c y
     Ready (repr ReprKind.RelationAsMatrix no_reprs) (relation_dom ms es ds) (relations ks xs) =
         AreAtoms xs × (has_flags_among no_key ks ≡ true) × AxesAre env0 q q-apart (dom_list ds) (index_members xs) × Attributes ms es ks
+    Ready (repr ReprKind.Function1DPartial (more_reprs r no_reprs)) (function_dom ms es d c) (functions ks x y) =
+        IsAtom x × (has_flags_among no_key ks ≡ true) × AxesAre env0 q q-apart (d ∷ []) (member_list x ∷ []) × Attributes ms es ks × Ready r c y
+    Ready (repr ReprKind.FunctionNDPartial (more_reprs r no_reprs)) (function_dom ms es (tuple_dom ds) c) (functions ks (tuples xs) y) =
+        AreAtoms xs × (has_flags_among no_key ks ≡ true) × AxesAre env0 q q-apart (dom_list ds) (index_members xs) × Attributes ms es ks ×
+        Ready r c y
     Ready _ d e = ⊥
 
     -- The same of components.

@@ -148,6 +148,13 @@ module _ (q : ℕ → Text) where
   abbrev pub total_ex : ℕ → List Mark → Exs → List Dom → Ex → Ex
   total_ex l ms es as' part = and_ex (each_ex l as' part) (size_ex ms es (place_count_ex l as'))
 
+  -- A flag and a value at each place: where the flag is true the value is canonical (part), elsewhere its cells are 0 or false.
+  abbrev pub partial_ex : ℕ → List Mark → Exs → List Dom → Text → Exs → List Shape → Ex → Ex
+  partial_ex l ms es as' n is ss part =
+      let flag : Ex = cell_ex true n (row_index l as' is) in
+      and_ex (each_ex l as' (and_ex (implies_ex flag part) (implies_ex (ex1 true Op1.Not flag) (zeros_ex (level_behind l as') ss (row_index l as' is)))))
+      (size_ex ms es (true_count_ex l as' n is))
+
   -- Slots with flags.
   abbrev pub flags_ex : ℕ → List Mark → Exs → Ex → Text → List Shape → Exs → Ex → Ex
   flags_ex l ms es size n ss is part =
