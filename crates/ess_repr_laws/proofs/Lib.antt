@@ -125,6 +125,9 @@ pub mod StructureRelations
 pub mod StructureUse
 pub mod StructureSortedSlots
 pub mod StructurePartial
+pub mod StructureCounts
+pub mod StructureMultisets
+pub mod StructureCounted
 pub mod StructureFlags
 pub mod StructureAll
 pub mod StructureOfTables

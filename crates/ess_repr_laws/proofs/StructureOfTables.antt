@@ -4,10 +4,10 @@ use Rattle.ess_semantics.specs.Values.{Text, truth}
 use Rattle.ess_semantics.specs.Order.{same_text}
 use Rattle.ess_semantics.specs.Trees.{Repr, no_exs, Dom}
 use Rattle.ess_semantics.specs.Domains.{Domain}
-use Rattle.ess_semantics.specs.Tables.{Tables}
+use Rattle.ess_semantics.specs.Tables.{Tables, volume, cell_at, is_filled, same_axes}
 use Rattle.ess_semantics.specs.Cells.{cells_of}
 use Rattle.ess_semantics.specs.Representations.{width}
-use Rattle.ess_semantics.specs.Declarations.{declarations, axes_of}
+use Rattle.ess_semantics.specs.Declarations.{declarations, axes_of, Declaration}
 use Rattle.ess_semantics.specs.CanonicalTest.{canonical}
 use Rattle.ess_semantics.specs.Meaning.{Env, meaning}
 use Rattle.ess_semantics.specs.Tidy.{over_axes}
@@ -20,8 +20,6 @@ use Rattle.ess_repr_laws.proofs.Behind.{behind-none}
 use Rattle.ess_repr_laws.proofs.ExactCells.{Exact, AllExact, exact-items}
 use Rattle.ess_repr_laws.proofs.RowsOfCells.{axes_in}
 use Rattle.ess_repr_laws.proofs.StructureFits.{Fit}
-use Rattle.ess_semantics.specs.Declarations.{Declaration}
-use Rattle.ess_semantics.specs.Tables.{volume, cell_at, is_filled, same_axes}
 use Rattle.ess_semantics.proofs.Tests.{and-left, and-right}
 use Rattle.std.proofs.lemmas.Bool.{eqb-true}
 use Rattle.ess_repr_laws.proofs.TablesWithin.{tables-within}

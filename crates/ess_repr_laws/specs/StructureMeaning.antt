@@ -5,15 +5,15 @@ use Rattle.ess_repr_laws.specs.StructureParts.{Shape, Terms}
 use Rattle.ess_semantics.specs.Kinds.{dom_list}
 use Rattle.ess_semantics.specs.Atoms.{IsAtom, AreAtoms}
 use Rattle.ess_repr_laws.specs.Finite.{HaveLists}
-use Rattle.ess_semantics.specs.Domains.{booleans, Attribute, numbered, flagged, Domain, Domains, tuples, records, matrices, sets, functions, relations, domain_list, members, member_list}
+use Rattle.ess_semantics.specs.Domains.{booleans, Attribute, numbered, flagged, Domain, Domains, tuples, records, matrices, sets, msets, functions, relations, domain_list, members, member_list}
 use Rattle.ess_semantics.specs.Layers.{as_cell}
 use Rattle.ess_semantics.specs.Meaning.{Env, members_in, cell_value, meaning, meanings, domain_of, is_bool_dom, attributes_of, as_int}
 use Rattle.ess_semantics.specs.Names.{look}
 use Rattle.ess_semantics.specs.Numbers.{one_to}
 use Rattle.ess_semantics.specs.Order.{same_text}
-use Rattle.ess_semantics.specs.Sizes.{slots_of_set}
+use Rattle.ess_semantics.specs.Sizes.{slots_of_set, slots_of_mset}
 use Rattle.ess_semantics.specs.Tables.{Tables, is_cell}
-use Rattle.ess_semantics.specs.Trees.{Ex, Exs, Dom, Doms, no_doms, more_doms, Mark, Repr, Reprs, repr, no_reprs, more_reprs, tuple_dom, record_dom, matrix_dom, set_dom, function_dom, relation_dom, no_exs, more_exs}
+use Rattle.ess_semantics.specs.Trees.{Ex, Exs, Dom, Doms, no_doms, more_doms, Mark, Repr, Reprs, repr, no_reprs, more_reprs, tuple_dom, record_dom, matrix_dom, set_dom, mset_dom, function_dom, relation_dom, no_exs, more_exs}
 use Rattle.ess_semantics.specs.Values.{Text, Value, number, truth}
 use Rattle.ess_semantics.specs.declared.words.Key.{Key}
 use Rattle.ess_semantics.specs.declared.words.ReprKind.{ReprKind}
@@ -79,6 +79,9 @@ abbrev mutual
       (member_list x ∷ []) ∷ on_members (member_list x ∷ []) (axes_members r y)
   axes_members (repr ReprKind.FunctionNDPartial (more_reprs r no_reprs)) (functions ks (tuples xs) y) =
       index_members xs ∷ on_members (index_members xs) (axes_members r y)
+  axes_members (repr ReprKind.MSetOccurrence no_reprs) (msets ks e) = (member_list e ∷ []) ∷ []
+  axes_members (repr ReprKind.MSetExplicitWithFlags (more_reprs r no_reprs)) (msets ks e) =
+      slot_numbers (slots_of_mset ks e) ∷ on_members (slot_numbers (slots_of_mset ks e)) (axes_members r e)
   axes_members _ e = []
 
   -- Those of the views of components.
@@ -154,6 +157,10 @@ module _ (env0 : Env) (q : ℕ → Text) (q-apart : (m l : ℕ) → l < m → sa
     Ready (repr ReprKind.FunctionNDPartial (more_reprs r no_reprs)) (function_dom ms es (tuple_dom ds) c) (functions ks (tuples xs) y) =
         AreAtoms xs × (has_flags_among no_key ks ≡ true) × AxesAre env0 q q-apart (dom_list ds) (index_members xs) × Attributes ms es ks ×
         Ready r c y
+    Ready (repr ReprKind.MSetOccurrence no_reprs) (mset_dom ms es d) (msets ks e) =
+        IsAtom e × AxesAre env0 q q-apart (d ∷ []) (member_list e ∷ []) × Attributes ms es ks
+    Ready (repr ReprKind.MSetExplicitWithFlags (more_reprs r no_reprs)) (mset_dom ms es d) (msets ks e) =
+        Attributes ms es ks × SlotsAre (mset_dom ms es d) (slots_of_mset ks e) × Ready r d e
     Ready _ d e = ⊥
 
     -- The same of components.
