@@ -128,6 +128,7 @@ pub mod StructurePartial
 pub mod StructureCounts
 pub mod StructureMultisets
 pub mod StructureCounted
+pub mod StructureRepetition
 pub mod StructureFlags
 pub mod StructureAll
 pub mod StructureOfTables

@@ -1,6 +1,6 @@
 -- What is asked of a view and its tables so that its structure constraint means that the cells are canonical. Reserved names
 -- q 0, q 1 and so on may be bound, each to a value.
-use Rattle.std.specs.Prelude.{◌≡◌, ℕ, ◌<◌, Bool, true, false, ◌&&◌, List, [], ◌∷◌, ◌++◌, map, ℤ, pos, Some}
+use Rattle.std.specs.Prelude.{◌≡◌, ℕ, ◌<◌, Bool, true, false, ◌&&◌, not, List, [], ◌∷◌, ◌++◌, map, ℤ, pos, Some}
 use Rattle.ess_repr_laws.specs.StructureParts.{Shape, Terms}
 use Rattle.ess_semantics.specs.Kinds.{dom_list}
 use Rattle.ess_semantics.specs.Atoms.{IsAtom, AreAtoms}
@@ -47,6 +47,18 @@ is_total_key k = false
 abbrev pub no_key : Key → Bool
 no_key k = false
 
+-- `minOccur` or `maxOccur`.
+abbrev pub is_times_key : Key → Bool
+is_times_key Key.MinOccur = true
+is_times_key Key.MaxOccur = true
+is_times_key k = false
+
+-- Whether no attribute speaks of how often members occur.
+abbrev pub asks_no_times : List Attribute → Bool
+asks_no_times [] = true
+asks_no_times (numbered k n ∷ ks) = not (is_times_key k) && asks_no_times ks
+asks_no_times (flagged k ∷ ks) = asks_no_times ks
+
 -- Further axes in front, by their members.
 abbrev pub on_members : List (List Value) → List (List (List Value)) → List (List (List Value))
 on_members uss vsss = map (λ vss. uss ++ vss) vsss
@@ -82,6 +94,8 @@ abbrev mutual
   axes_members (repr ReprKind.MSetOccurrence no_reprs) (msets ks e) = (member_list e ∷ []) ∷ []
   axes_members (repr ReprKind.MSetExplicitWithFlags (more_reprs r no_reprs)) (msets ks e) =
       slot_numbers (slots_of_mset ks e) ∷ on_members (slot_numbers (slots_of_mset ks e)) (axes_members r e)
+  axes_members (repr ReprKind.MSetExplicitWithRepetition (more_reprs r no_reprs)) (msets ks e) =
+      [] ∷ on_members (slot_numbers (slots_of_mset ks e)) (axes_members r e)
   axes_members _ e = []
 
   -- Those of the views of components.
@@ -161,6 +175,8 @@ module _ (env0 : Env) (q : ℕ → Text) (q-apart : (m l : ℕ) → l < m → sa
         IsAtom e × AxesAre env0 q q-apart (d ∷ []) (member_list e ∷ []) × Attributes ms es ks
     Ready (repr ReprKind.MSetExplicitWithFlags (more_reprs r no_reprs)) (mset_dom ms es d) (msets ks e) =
         Attributes ms es ks × SlotsAre (mset_dom ms es d) (slots_of_mset ks e) × Ready r d e
+    Ready (repr ReprKind.MSetExplicitWithRepetition (more_reprs r no_reprs)) (mset_dom ms es d) (msets ks e) =
+        Attributes ms es ks × SlotsAre (mset_dom ms es d) (slots_of_mset ks e) × (asks_no_times ks ≡ true) × Ready r d e
     Ready _ d e = ⊥
 
     -- The same of components.

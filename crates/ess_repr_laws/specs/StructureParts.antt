@@ -87,6 +87,17 @@ module _ (q : ℕ → Text) where
   less_ex l (s ∷ ss) is js =
       or_ex (ex2 true Op2.LexLt (row_ex l s is) (row_ex l s js)) (and_ex (ex2 true Op2.LexLe (row_ex l s is) (row_ex l s js)) (less_ex l ss is js))
 
+  -- They are below, or equal.
+  abbrev pub at_most_ex : ℕ → List Shape → Exs → Exs → Ex
+  at_most_ex l [] is js = truth_ex true
+  at_most_ex l (s ∷ ss) is js =
+      or_ex (ex2 true Op2.LexLt (row_ex l s is) (row_ex l s js)) (and_ex (ex2 true Op2.LexLe (row_ex l s is) (row_ex l s js)) (at_most_ex l ss is js))
+
+  -- Below, where two slots must differ; else also equal.
+  abbrev pub rise_ex : Bool → ℕ → List Shape → Exs → Exs → Ex
+  rise_ex true l ss is js = less_ex l ss is js
+  rise_ex false l ss is js = at_most_ex l ss is js
+
   -- A cell is 0 or false.
   abbrev pub out_ex : Bool → Text → Exs → Ex
   out_ex true n is = ex1 true Op1.Not (cell_ex true n is)
@@ -195,6 +206,12 @@ module _ (q : ℕ → Text) where
       and_ex (and_ex (first_ex l size here next)
       (use_ex l size here next (less_ex (suc l) ss (add_ex is (name_ex (q l))) (add_ex is (next_ex l))) ss is part))
       (counts_ex l ms es (upto size ∷ []) n is)
+
+  -- Slots up to a marker, in which equal members may stand.
+  abbrev pub repetition_ex : ℕ → List Mark → Exs → Ex → Text → List Shape → Exs → Ex → Ex
+  repetition_ex l ms es size n ss is part =
+      and_ex (use_ex l size (le_ex (name_ex (q l)) (cell_ex false n is)) (le_ex (next_ex l) (cell_ex false n is))
+      (at_most_ex (suc l) ss (add_ex is (name_ex (q l))) (add_ex is (next_ex l))) ss is part) (size_ex ms es (cell_ex false n is))
 
   -- Which members occur.
   abbrev pub occurrence_ex : ℕ → List Mark → Exs → Dom → Text → Exs → Ex
