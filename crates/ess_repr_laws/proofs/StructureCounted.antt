@@ -32,7 +32,7 @@ use Rattle.ess_repr_laws.proofs.RowsOfCells.{axes-of-layer}
 use Rattle.ess_repr_laws.proofs.StructureFits.{Fit, first-fit}
 use Rattle.ess_repr_laws.proofs.StructureLayers.{layer-asked}
 use Rattle.ess_repr_laws.proofs.StructureNumbers.{le-means}
-use Rattle.ess_repr_laws.proofs.StructureOf.{StructureOf, under-codes, child-there, child-long}
+use Rattle.ess_repr_laws.proofs.StructureOf.{StructureOf, own-child-found, under-codes, child-there, child-long}
 use Rattle.ess_repr_laws.proofs.StructureRows.{Steady, There, codes, grid_at}
 use Rattle.ess_repr_laws.proofs.StructureSlotted.{slots-same}
 use Rattle.ess_repr_laws.proofs.StructureSortedSlots.{sorted_asked, sorted-means}
@@ -180,6 +180,7 @@ module _ (env0 : Env) (q : ℕ → Text) (q-apart : (m l : ℕ) → l < m → sa
     axes = ap (λ a. a ∷ map (map (map code)) (on_members (slot_numbers S) (axes_members r e))) (slots-same env0 q q-apart S)
         ∙ ap (λ l. (one_to S ∷ []) ∷ l) (under-codes env0 q q-apart terms (slot_numbers S) (one_to S ∷ []) (axes_members r e) (slots-same env0 q q-apart S) ∙ ap (map (λ (as' : Axes). one_to S ∷ as')) child.axes
         ∙ sym (append-nil (map (λ (as' : Axes). one_to S ∷ as') (axes_of r e)))) ∙ sym (axes-of-layer (mset_flags_layer ks e) (more_reprs r no_reprs));
+    found = own-child-found env0 q q-apart terms r d e child (upto size ∷ []) (slot_numbers S) (slots-axis env0 q q-apart size S sl) false (upto size ∷ []) (slot_numbers S) (slots-axis env0 q q-apart size S sl);
     there = counted-there;
     means = counted-means;
   }

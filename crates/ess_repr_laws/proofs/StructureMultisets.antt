@@ -21,7 +21,7 @@ use Rattle.ess_repr_laws.specs.StructureParts.{Terms, first_name, own_shape, cou
 use Rattle.ess_repr_laws.specs.StructureMeaning.{Bound, M, AxesAre, Placed, Attributes}
 use Rattle.ess_repr_laws.proofs.StructureCounts.{counts-means}
 use Rattle.ess_repr_laws.proofs.StructureFits.{Fit, first-fit}
-use Rattle.ess_repr_laws.proofs.StructureOf.{StructureOf}
+use Rattle.ess_repr_laws.proofs.StructureOf.{StructureOf, own-found}
 use Rattle.ess_repr_laws.proofs.StructureRows.{Steady, There, grid_at}
 
 -- Cells in a domain are there.
@@ -76,6 +76,7 @@ module _ (env0 : Env) (q : ℕ → Text) (q-apart : (m l : ℕ) → l < m → sa
     covered = a;
     long = λ ns. let z : 1 ≡ 1 + 0 = omega arith in z;
     axes = refl;
+    found = own-found env0 q q-apart terms false (d ∷ []) (member_list e ∷ []) ax;
     there = there;
     means = means;
   }

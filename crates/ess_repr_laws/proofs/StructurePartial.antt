@@ -42,7 +42,7 @@ use Rattle.ess_repr_laws.proofs.StructureLayers.{all-alike, layer-asked}
 use Rattle.ess_repr_laws.proofs.StructureMatrices.{index-codes, axes-even}
 use Rattle.ess_repr_laws.proofs.StructureNumbers.{size-means}
 use Rattle.ess_repr_laws.proofs.StructureOccurrences.{true-count-means}
-use Rattle.ess_repr_laws.proofs.StructureOf.{StructureOf, under-codes, child-placed, child-there, child-there-each, child-long, child-means}
+use Rattle.ess_repr_laws.proofs.StructureOf.{StructureOf, own-child-found, under-codes, child-placed, child-there, child-there-each, child-long, child-means}
 use Rattle.ess_repr_laws.proofs.StructurePlaces.{MeansAt, each-means}
 use Rattle.ess_repr_laws.proofs.StructureRelations.{arguments-chosen}
 use Rattle.ess_repr_laws.proofs.StructureRows.{Steady, There, codes, all_codes, grid_at, zeros-means}
@@ -218,6 +218,7 @@ module _ (env0 : Env) (q : ℕ → Text) (q-apart : (m l : ℕ) → l < m → sa
       long = λ ns. partial-long ReprKind.Function1DPartial r ms es c ks x y child (d ∷ []) (member_list x ∷ []) (codes_of x ∷ []) refl ax (λ x. code x ∷ []) args1 fl at ns;
       axes = partial-axes ReprKind.Function1DPartial r ms es c ks x y child (d ∷ []) (member_list x ∷ []) (codes_of x ∷ []) refl ax (λ x. code x ∷ []) args1 fl at
           ∙ sym (axes-of-layer (partial_layer ks (codes_of x ∷ []) (λ x. code x ∷ []) x y) (more_reprs r no_reprs));
+      found = own-child-found env0 q q-apart terms r c y child (d ∷ []) (member_list x ∷ []) ax true (d ∷ []) (member_list x ∷ []) ax;
       there = there1;
       means = means1;
     }
@@ -258,6 +259,7 @@ module _ (env0 : Env) (q : ℕ → Text) (q-apart : (m l : ℕ) → l < m → sa
       long = λ ns. partial-long ReprKind.FunctionNDPartial r ms es c ks (tuples xs) y child (dom_list ds) (index_members xs) axes same-axes ax place_of args fl at ns;
       axes = partial-axes ReprKind.FunctionNDPartial r ms es c ks (tuples xs) y child (dom_list ds) (index_members xs) axes same-axes ax place_of args fl at
           ∙ sym (axes-of-layer (partial_layer ks axes place_of (tuples xs) y) (more_reprs r no_reprs));
+      found = own-child-found env0 q q-apart terms r c y child (dom_list ds) (index_members xs) ax true (dom_list ds) (index_members xs) ax;
       there = there;
       means = means;
     }

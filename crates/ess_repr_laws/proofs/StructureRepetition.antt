@@ -38,12 +38,12 @@ use Rattle.ess_repr_laws.proofs.SlotsUsed.{marker-used}
 use Rattle.ess_repr_laws.proofs.StructureFits.{Fit, FirstFit, first-fit}
 use Rattle.ess_repr_laws.proofs.StructureLayers.{layer-asked}
 use Rattle.ess_repr_laws.proofs.StructureNumbers.{le-means, size-means}
-use Rattle.ess_repr_laws.proofs.StructureOf.{StructureOf, under-codes, child-there, child-long}
+use Rattle.ess_repr_laws.proofs.StructureOf.{StructureOf, own-child-found, under-codes, child-there, child-long}
 use Rattle.ess_repr_laws.proofs.StructureRows.{Steady, There, looked}
 use Rattle.ess_repr_laws.proofs.StructureSets.{own-marker}
 use Rattle.ess_repr_laws.proofs.StructureSlotted.{slots-same}
 use Rattle.ess_repr_laws.proofs.StructureSortedSlots.{used_asked, parts-mean}
-use Rattle.ess_repr_laws.proofs.StructureUse.{cell-means, next-number, places-numbers}
+use Rattle.ess_repr_laws.proofs.StructureUse.{slots-axis, cell-means, next-number, places-numbers}
 
 -- Attributes that don't speak of numbers of times.
 no-times : (ks : List Attribute) → asks_no_times ks ≡ true → (xs : List Value) → each_number_holds ks (λ k z. occurs_holds k z xs) ≡ true
@@ -172,6 +172,7 @@ module _ (env0 : Env) (q : ℕ → Text) (q-apart : (m l : ℕ) → l < m → sa
     long = λ ns. ap suc (map-long _ (shapes q terms r d (drop 1 ns)) ∙ child.long (drop 1 ns)) ∙ (let z : suc (width r) ≡ 1 + (width r + 0) = omega arith in z);
     axes = ap (λ l. [] ∷ l) (under-codes env0 q q-apart terms (slot_numbers S) (one_to S ∷ []) (axes_members r e) (slots-same env0 q q-apart S) ∙ ap (map (λ (as' : Axes). one_to S ∷ as')) child.axes
         ∙ sym (append-nil (map (λ (as' : Axes). one_to S ∷ as') (axes_of r e)))) ∙ sym (axes-of-layer (repetition_layer ks e) (more_reprs r no_reprs));
+    found = own-child-found env0 q q-apart terms r d e child (upto size ∷ []) (slot_numbers S) (slots-axis env0 q q-apart size S sl) false [] [] tt;
     there = there;
     means = means;
   }

@@ -118,6 +118,12 @@ module _ (env0 : Env) (q : ℕ → Text) (q-apart : (m l : ℕ) → l < m → sa
   AxesAre (a ∷ as') (vs ∷ vss) = ((bs : Bound) → members_in (domain_of a (M bs)) ≡ Some vs) × AxesAre as' vss
   AxesAre _ vss = ⊥
 
+  -- The tables are found by these names.
+  abbrev pub FoundBy : List Text → Tables → Type 0
+  FoundBy [] [] = Unit {0}
+  FoundBy (n ∷ ns) (t ∷ ts) = (look env0.cells n ≡ Some t) × FoundBy ns ts
+  FoundBy _ ts = ⊥
+
   -- The tables of a part, with the members of their axes.
   abbrev pub Placed : List Shape → List (List (List Value)) → Tables → Type 0
   Placed [] [] [] = Unit {0}
