@@ -124,6 +124,11 @@ pub mod StructureFunctions
 pub mod StructureRelations
 pub mod StructureUse
 pub mod StructureSortedSlots
+pub mod StructurePartial
+pub mod StructureCounts
+pub mod StructureMultisets
+pub mod StructureCounted
+pub mod StructureRepetition
 pub mod StructureFlags
 pub mod StructureAll
 pub mod StructureOfTables

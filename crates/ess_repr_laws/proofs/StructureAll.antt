@@ -3,8 +3,8 @@ use Rattle.std.proofs.Common.{◌≡◌, ℕ, ◌<◌, false, List, [], ◌∷�
 use Rattle.ess_semantics.specs.declared.words.ReprKind.{ReprKind}
 use Rattle.ess_semantics.specs.Values.{Text}
 use Rattle.ess_semantics.specs.Order.{same_text}
-use Rattle.ess_semantics.specs.Trees.{Repr, Reprs, repr, no_reprs, more_reprs, Dom, Doms, no_doms, more_doms, tuple_dom, record_dom, matrix_dom, set_dom, function_dom, relation_dom}
-use Rattle.ess_semantics.specs.Domains.{Domain, tuples, records, matrices, sets, functions, relations, domain_list}
+use Rattle.ess_semantics.specs.Trees.{Repr, Reprs, repr, no_reprs, more_reprs, Dom, Doms, no_doms, more_doms, tuple_dom, record_dom, matrix_dom, set_dom, mset_dom, function_dom, relation_dom}
+use Rattle.ess_semantics.specs.Domains.{Domain, tuples, records, matrices, sets, msets, functions, relations, domain_list}
 use Rattle.ess_semantics.specs.Meaning.{Env}
 use Rattle.ess_repr_laws.specs.StructureParts.{Terms}
 use Rattle.ess_repr_laws.specs.StructureMeaning.{Ready, AllReady}
@@ -15,6 +15,10 @@ use Rattle.ess_repr_laws.proofs.StructureMatrices.{matrix-structure}
 use Rattle.ess_repr_laws.proofs.StructureFlags.{flags-structure}
 use Rattle.ess_repr_laws.proofs.StructureFunctions.{function-1d-structure, function-nd-structure}
 use Rattle.ess_repr_laws.proofs.StructureRelations.{relation-structure}
+use Rattle.ess_repr_laws.proofs.StructurePartial.{partial-1d-structure, partial-nd-structure}
+use Rattle.ess_repr_laws.proofs.StructureMultisets.{mset-occurrence-structure}
+use Rattle.ess_repr_laws.proofs.StructureCounted.{counted-structure}
+use Rattle.ess_repr_laws.proofs.StructureRepetition.{repetition-structure}
 use Rattle.ess_repr_laws.proofs.StructureSets.{occurrence-structure, explicit-structure, marker-structure}
 
 module _ (env0 : Env) (q : ℕ → Text) (q-apart : (m l : ℕ) → l < m → same_text (q m) (q l) ≡ false) (terms : Terms) where
@@ -38,6 +42,15 @@ module _ (env0 : Env) (q : ℕ → Text) (q-apart : (m l : ℕ) → l < m → sa
     structures (repr ReprKind.FunctionND (more_reprs r no_reprs)) (function_dom ms es (tuple_dom ds) c) (functions ks (tuples xs) y) h =
         function-nd-structure env0 q q-apart terms r ms es ds c ks xs y h.0 h.1 h.2 h.3 h.4 (structures r c y h.5)
     structures (repr ReprKind.RelationAsMatrix no_reprs) (relation_dom ms es ds) (relations ks xs) h = relation-structure env0 q q-apart terms ms es ds ks xs h.0 h.1 h.2 h.3
+    structures (repr ReprKind.Function1DPartial (more_reprs r no_reprs)) (function_dom ms es d c) (functions ks x y) h =
+        partial-1d-structure env0 q q-apart terms r ms es d c ks x y h.0 h.1 h.2 h.3 (structures r c y h.4)
+    structures (repr ReprKind.FunctionNDPartial (more_reprs r no_reprs)) (function_dom ms es (tuple_dom ds) c) (functions ks (tuples xs) y) h =
+        partial-nd-structure env0 q q-apart terms r ms es ds c ks xs y h.0 h.1 h.2 h.3 (structures r c y h.4)
+    structures (repr ReprKind.MSetOccurrence no_reprs) (mset_dom ms es d) (msets ks e) h = mset-occurrence-structure env0 q q-apart terms ms es d ks e h.0 h.1 h.2
+    structures (repr ReprKind.MSetExplicitWithFlags (more_reprs r no_reprs)) (mset_dom ms es d) (msets ks e) h =
+        counted-structure env0 q q-apart terms r ms es d ks e (structures r d e h.2) h.0 h.1
+    structures (repr ReprKind.MSetExplicitWithRepetition (more_reprs r no_reprs)) (mset_dom ms es d) (msets ks e) h =
+        repetition-structure env0 q q-apart terms r ms es d ks e (structures r d e h.3) h.0 h.1 h.2
     structures _ d e h = absurd h
 
     -- The same of components.

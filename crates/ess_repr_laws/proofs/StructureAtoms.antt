@@ -21,7 +21,7 @@ use Rattle.ess_repr_laws.specs.StructureMeaning.{fit, Bound, M, Placed, AtomRead
 use Rattle.ess_repr_laws.proofs.FittingCells.{cells_fit}
 use Rattle.ess_repr_laws.proofs.StructureFits.{Fit}
 use Rattle.ess_repr_laws.proofs.StructureRows.{Steady, There, grid_at}
-use Rattle.ess_repr_laws.proofs.StructureOf.{StructureOf}
+use Rattle.ess_repr_laws.proofs.StructureOf.{StructureOf, own-found}
 
 atom-axes : (e : Domain) → IsAtom e → ([] ∷ []) ≡ axes_of (repr ReprKind.Atom no_reprs) e
 atom-axes booleans a = refl
@@ -103,6 +103,7 @@ module _ (env0 : Env) (q : ℕ → Text) (q-apart : (m l : ℕ) → l < m → sa
       covered = a;
       long = λ ns. let z : 1 ≡ 1 + 0 = omega arith in z;
       axes = atom-axes e a;
+      found = own-found env0 q q-apart terms (is_bool_dom d) [] [] tt;
       there = there;
       means = means;
     }

@@ -35,7 +35,7 @@ use Rattle.ess_repr_laws.proofs.StructureFits.{Fit, first-fit}
 use Rattle.ess_repr_laws.proofs.StructureLayers.{layer-asked}
 use Rattle.ess_repr_laws.proofs.StructureNumbers.{size-means}
 use Rattle.ess_repr_laws.proofs.StructureOccurrences.{true-count-means}
-use Rattle.ess_repr_laws.proofs.StructureOf.{StructureOf, under-codes, child-there, child-long}
+use Rattle.ess_repr_laws.proofs.StructureOf.{StructureOf, own-child-found, under-codes, child-there, child-long}
 use Rattle.ess_repr_laws.proofs.StructureRows.{Steady, There, codes, grid_at}
 use Rattle.ess_repr_laws.proofs.StructureSlotted.{slots-same}
 use Rattle.ess_repr_laws.proofs.StructureSortedSlots.{chosen-found, sorted_asked, sorted-means}
@@ -105,10 +105,10 @@ module _ (env0 : Env) (q : ℕ → Text) (q-apart : (m l : ℕ) → l < m → sa
       let found = chosen-found (lists_of (one_to S ∷ [])) (grid_at env0 q q-apart t i)
       (all-of-list (lists_of (one_to S ∷ [])) (λ j. is_some_and (cell_at t (i ++ j)) (is_cell booleans)) (places-numbers S (λ j. is_some_and (cell_at t (i ++ j)) (is_cell booleans)) ∙ f.bits)) in
       and-means (M env0 q q-apart bs) (and_ex (first_ex q l size here next) (use_ex q l size here next rise (shapes q terms r d (drop 1 ns)) is part)) (size_ex ms es (true_count_ex q l (upto size ∷ []) (first_name ns) is))
-      (sorted_asked env0 q q-apart terms r d e child size S sl ReprKind.ExplicitVarSizeWithFlags (sets ks e) own where_flagged (λ v. some_each (items_of v)) (λ v ss. flags_table (one_to S ∷ []) ss ∷ []) (λ c vss. Some (set_of (only_child vss)))
+      (sorted_asked env0 q q-apart terms r d e child size S sl ReprKind.ExplicitVarSizeWithFlags (sets ks e) own where_flagged true (λ v. some_each (items_of v)) (λ v ss. flags_table (one_to S ∷ []) ss ∷ []) (λ c vss. Some (set_of (only_child vss)))
       (λ c vss. set_attributes_hold ks (count_true (own_row (one_to S ∷ []) c))) always_tidy mine (behind i (cells_of ts)))
       (set_attributes_hold ks n)
-      (sorted-means env0 q q-apart terms r d e child size S sl ReprKind.ExplicitVarSizeWithFlags (sets ks e) own where_flagged (λ v. some_each (items_of v)) (λ v ss. flags_table (one_to S ∷ []) ss ∷ []) (λ c vss. Some (set_of (only_child vss)))
+      (sorted-means env0 q q-apart terms r d e child size S sl ReprKind.ExplicitVarSizeWithFlags (sets ks e) own where_flagged true (λ v. some_each (items_of v)) (λ v ss. flags_table (one_to S ∷ []) ss ∷ []) (λ c vss. Some (set_of (only_child vss)))
       (λ c vss. set_attributes_hold ks (count_true (own_row (one_to S ∷ []) c))) always_tidy (out || true) (drop 1 ns) ts l is i bs p.2 f.others st mine here next
       (ap (λ o. is_some_and o (same_int (pos 1))) f.ends)
       (λ j x y. flag-means env0 q q-apart (first_name ns) t (add_ex is (name_ex (q l))) (i ++ (pos j ∷ [])) ((l, number (pos j)) ∷ bs) p.0 (here-index env0 q q-apart l (pos j) is i bs st) (bit f.bits j x y))
@@ -116,7 +116,7 @@ module _ (env0 : Env) (q : ℕ → Text) (q-apart : (m l : ℕ) → l < m → sa
       (size-means (M env0 q q-apart bs) ms es (true_count_ex q l (upto size ∷ []) (first_name ns) is) n ks z.0 z.1
       (true-count-means env0 q q-apart l (upto size ∷ []) (slot_numbers S) (first_name ns) is i bs t (slots-axis env0 q q-apart size S sl) p.0 bits st))
       ∙ ap (λ b. Some (truth b))
-      (ap (λ a. sorted_asked env0 q q-apart terms r d e child size S sl ReprKind.ExplicitVarSizeWithFlags (sets ks e) own where_flagged (λ v. some_each (items_of v)) (λ v ss. flags_table (one_to S ∷ []) ss ∷ []) (λ c vss. Some (set_of (only_child vss)))
+      (ap (λ a. sorted_asked env0 q q-apart terms r d e child size S sl ReprKind.ExplicitVarSizeWithFlags (sets ks e) own where_flagged true (λ v. some_each (items_of v)) (λ v ss. flags_table (one_to S ∷ []) ss ∷ []) (λ c vss. Some (set_of (only_child vss)))
       (λ c vss. set_attributes_hold ks (count_true (own_row (one_to S ∷ []) c))) always_tidy mine (behind i (cells_of ts)) && set_attributes_hold ks (count_true (row a (grid_at env0 q q-apart t i)))) (slots-same env0 q q-apart S)
       ∙ sym (layer-asked r e (right r e child.covered) (axes-wide r e child.covered) ReprKind.ExplicitVarSizeWithFlags (sets ks e) own (one_to S ∷ []) where_flagged true true (λ v. some_each (items_of v)) (λ v ss. flags_table (one_to S ∷ []) ss ∷ [])
       (λ c vss. Some (set_of (only_child vss))) (λ c vss. set_attributes_hold ks (count_true (own_row (one_to S ∷ []) c))) always_tidy mine (behind i (cells_of ts)) (set_attributes_hold ks (count_true (row (one_to S ∷ []) (grid_at env0 q q-apart t i))))
@@ -153,6 +153,7 @@ module _ (env0 : Env) (q : ℕ → Text) (q-apart : (m l : ℕ) → l < m → sa
     axes = ap (λ a. a ∷ map (map (map code)) (on_members (slot_numbers S) (axes_members r e))) (slots-same env0 q q-apart S)
         ∙ ap (λ l. (one_to S ∷ []) ∷ l) (under-codes env0 q q-apart terms (slot_numbers S) (one_to S ∷ []) (axes_members r e) (slots-same env0 q q-apart S) ∙ ap (map (λ (as' : Axes). one_to S ∷ as')) child.axes
         ∙ sym (append-nil (map (λ (as' : Axes). one_to S ∷ as') (axes_of r e)))) ∙ sym (axes-of-layer (flags_layer ks e) (more_reprs r no_reprs));
+    found = own-child-found env0 q q-apart terms r d e child (upto size ∷ []) (slot_numbers S) (slots-axis env0 q q-apart size S sl) true (upto size ∷ []) (slot_numbers S) (slots-axis env0 q q-apart size S sl);
     there = flags-there;
     means = flags-means;
   }

@@ -37,7 +37,7 @@ use Rattle.ess_repr_laws.proofs.StructureFits.{Fit}
 use Rattle.ess_repr_laws.proofs.StructureLayers.{all-alike, everywhere-asked}
 use Rattle.ess_repr_laws.proofs.StructureMatrices.{index-codes, axes-even}
 use Rattle.ess_repr_laws.proofs.StructureNumbers.{size-means}
-use Rattle.ess_repr_laws.proofs.StructureOf.{StructureOf, under-codes, child-there, child-long, child-means}
+use Rattle.ess_repr_laws.proofs.StructureOf.{StructureOf, child-found, under-codes, child-there, child-long, child-means}
 use Rattle.ess_repr_laws.proofs.StructurePlaces.{each-means, place-count-means}
 use Rattle.ess_repr_laws.proofs.StructureRows.{Steady, codes, all_codes}
 use Rattle.ess_repr_laws.proofs.TupleMembers.{place_of}
@@ -98,6 +98,7 @@ module _ (env0 : Env) (q : ℕ → Text) (q-apart : (m l : ℕ) → l < m → sa
     long = λ ns. total-long ReprKind.Function1D r ms es c ks x y child (d ∷ []) (member_list x ∷ []) (codes_of x ∷ []) refl ax (λ x. code x ∷ []) args me fl at ns;
     axes = total-axes ReprKind.Function1D r ms es c ks x y child (d ∷ []) (member_list x ∷ []) (codes_of x ∷ []) refl ax (λ x. code x ∷ []) args me fl at
         ∙ sym (axes-of-layer (total_layer ks (codes_of x ∷ []) x y) (more_reprs r no_reprs));
+    found = child-found env0 q q-apart terms r c y child (d ∷ []) (member_list x ∷ []) ax;
     there = λ out ns ts i p f. child-there env0 q q-apart terms r c y child (d ∷ []) (member_list x ∷ []) (codes_of x ∷ []) refl refl (out || false) ns ts i p f;
     means = λ out ns ts l is i bs p f st. total-means ReprKind.Function1D r ms es c ks x y child (d ∷ []) (member_list x ∷ []) (codes_of x ∷ []) refl ax (λ x. code x ∷ []) args me fl at (out || false) ns ts l is i bs p f st;
   }
@@ -114,6 +115,7 @@ module _ (env0 : Env) (q : ℕ → Text) (q-apart : (m l : ℕ) → l < m → sa
     long = λ ns. total-long ReprKind.FunctionND r ms es c ks (tuples xs) y child (dom_list ds) (index_members xs) (map codes_of (domain_list xs)) same ax place_of args me fl at ns;
     axes = total-axes ReprKind.FunctionND r ms es c ks (tuples xs) y child (dom_list ds) (index_members xs) (map codes_of (domain_list xs)) same ax place_of args me fl at
         ∙ sym (axes-of-layer (total_layer ks (map codes_of (domain_list xs)) (tuples xs) y) (more_reprs r no_reprs));
+    found = child-found env0 q q-apart terms r c y child (dom_list ds) (index_members xs) ax;
     there = λ out ns ts i p f. child-there env0 q q-apart terms r c y child (dom_list ds) (index_members xs) (map codes_of (domain_list xs)) same (axes-even env0 q q-apart (dom_list ds) (index_members xs) ax) (out || false) ns ts i p f;
     means = λ out ns ts l is i bs p f st.
         total-means ReprKind.FunctionND r ms es c ks (tuples xs) y child (dom_list ds) (index_members xs) (map codes_of (domain_list xs)) same ax place_of args me fl at (out || false) ns ts l is i bs p f st;

@@ -25,7 +25,7 @@ use Rattle.ess_repr_laws.proofs.CellDomains.{axes-wide}
 use Rattle.ess_repr_laws.proofs.CellsOfMembers.{map-long}
 use Rattle.ess_repr_laws.proofs.RowsOfCells.{axes-of-layer}
 use Rattle.ess_repr_laws.proofs.StructureLayers.{all-alike, everywhere-asked}
-use Rattle.ess_repr_laws.proofs.StructureOf.{StructureOf, under-codes, child-there, child-long, child-means}
+use Rattle.ess_repr_laws.proofs.StructureOf.{StructureOf, child-found, under-codes, child-there, child-long, child-means}
 use Rattle.ess_repr_laws.proofs.StructurePlaces.{each-means}
 use Rattle.ess_repr_laws.proofs.StructureRows.{codes}
 
@@ -51,6 +51,7 @@ module _ (env0 : Env) (q : ℕ → Text) (q-apart : (m l : ℕ) → l < m → sa
     long = λ ns. map-long _ (shapes q terms r d ns) ∙ child.long ns ∙ (let z : width r ≡ 0 + (width r + 0) = omega arith in z);
     axes = under-codes env0 q q-apart terms (index_members js) bs (axes_members r e) same ∙ ap (map (λ (as' : Axes). bs ++ as')) child.axes
         ∙ sym (append-nil (map (λ (as' : Axes). bs ++ as') (axes_of r e))) ∙ sym (axes-of-layer (matrix_layer js e) (more_reprs r no_reprs));
+    found = child-found env0 q q-apart terms r d e child (dom_list is) (index_members js) ax;
     there = λ out ns ts i p c. child-there env0 q q-apart terms r d e child (dom_list is) (index_members js) bs same even (out || false) ns ts i p c;
     means = λ out ns ts l is' i cs p c st.
         each-means env0 q q-apart l (dom_list is) (index_members js) is' i cs

@@ -4,24 +4,23 @@ use Rattle.ess_semantics.specs.Values.{Text, truth}
 use Rattle.ess_semantics.specs.Order.{same_text}
 use Rattle.ess_semantics.specs.Trees.{Repr, no_exs, Dom}
 use Rattle.ess_semantics.specs.Domains.{Domain}
-use Rattle.ess_semantics.specs.Tables.{Tables}
+use Rattle.ess_semantics.specs.Tables.{Tables, volume, cell_at, is_filled, same_axes}
 use Rattle.ess_semantics.specs.Cells.{cells_of}
 use Rattle.ess_semantics.specs.Representations.{width}
-use Rattle.ess_semantics.specs.Declarations.{declarations, axes_of}
+use Rattle.ess_semantics.specs.Declarations.{declarations, axes_of, Declaration}
 use Rattle.ess_semantics.specs.CanonicalTest.{canonical}
 use Rattle.ess_semantics.specs.Meaning.{Env, meaning}
 use Rattle.ess_semantics.specs.Tidy.{over_axes}
 use Rattle.ess_repr_laws.specs.StructureParts.{Terms}
 use Rattle.ess_repr_laws.specs.Structure.{shapes, structure}
 use Rattle.ess_repr_laws.specs.CanonicalTables.{TablesFit}
+use Rattle.ess_repr_laws.specs.Laws.{ShapesAreOfTables}
 use Rattle.ess_repr_laws.specs.StructureMeaning.{Bound, M, Placed, axes_members, Ready}
 use Rattle.ess_repr_laws.proofs.AxesOfTables.{axes-differ}
 use Rattle.ess_repr_laws.proofs.Behind.{behind-none}
 use Rattle.ess_repr_laws.proofs.ExactCells.{Exact, AllExact, exact-items}
 use Rattle.ess_repr_laws.proofs.RowsOfCells.{axes_in}
 use Rattle.ess_repr_laws.proofs.StructureFits.{Fit}
-use Rattle.ess_semantics.specs.Declarations.{Declaration}
-use Rattle.ess_semantics.specs.Tables.{volume, cell_at, is_filled, same_axes}
 use Rattle.ess_semantics.proofs.Tests.{and-left, and-right}
 use Rattle.std.proofs.lemmas.Bool.{eqb-true}
 use Rattle.ess_repr_laws.proofs.TablesWithin.{tables-within}
@@ -46,3 +45,10 @@ module _ (env0 : Env) (q : ℕ → Text) (q-apart : (m l : ℕ) → l < m → sa
       let s = structures env0 q q-apart terms r d e h in
       let c = tables-within (declarations r e) ts (axes-differ r e s.covered) o f in
       s.means false ns ts l no_exs [] bs p (subst (Fit (declarations r e)) (sym (behind-none (cells_of ts))) (c, tables-exact (declarations r e) ts o f)) (λ cs g. refl) ∙ ap (λ x. Some (truth (canonical r e x))) (behind-none (cells_of ts))
+
+-- The shapes of a view are those of its tables.
+pub shapes-of-tables : ShapesAreOfTables
+shapes-of-tables = record {
+  long = λ env0 q apart terms r d e h. let s = structures env0 q apart terms r d e h in s.long;
+  placed = λ env0 q apart terms r d e h. let s = structures env0 q apart terms r d e h in s.found;
+}

@@ -47,6 +47,22 @@ module _ (env0 : Env) (q : ℕ → Text) (q-apart : (m l : ℕ) → l < m → sa
   inner-placed as' uss (s ∷ ss) [] ts e h = absurd h
   inner-placed as' uss (s ∷ ss) (vss ∷ vsss) [] e h = absurd h
 
+  axes-join : (as' bs' : List Dom) (uss vss : List (List Value)) → AxesAre env0 q q-apart as' uss → AxesAre env0 q q-apart bs' vss → AxesAre env0 q q-apart (as' ++ bs') (uss ++ vss)
+  axes-join [] bs' [] vss h k = k
+  axes-join (a ∷ as') bs' (us ∷ uss) vss h k = (h.0, axes-join as' bs' uss vss h.1 k)
+  axes-join [] bs' (us ∷ uss) vss h k = absurd h
+  axes-join (a ∷ as') bs' [] vss h k = absurd h
+
+  -- A child's tables are those of the view, under its axes.
+  pub outer-placed : (as' : List Dom) (uss : List (List Value)) → AxesAre env0 q q-apart as' uss → (ss : List Shape) (vsss : List (List (List Value))) (ts : Tables) →
+      Placed env0 q q-apart ss vsss ts → Placed env0 q q-apart (map (on_axes as') ss) (on_members uss vsss) ts
+  outer-placed as' uss ax [] [] [] h = tt
+  outer-placed as' uss ax (s ∷ ss) (vss ∷ vsss) (t ∷ ts) h = (h.0, axes-join as' s.axes uss vss ax h.1, outer-placed as' uss ax ss vsss ts h.2)
+  outer-placed as' uss ax [] [] (t ∷ ts) h = absurd h
+  outer-placed as' uss ax [] (vss ∷ vsss) ts h = absurd h
+  outer-placed as' uss ax (s ∷ ss) [] ts h = absurd h
+  outer-placed as' uss ax (s ∷ ss) (vss ∷ vsss) [] h = absurd h
+
   -- Cells that are there at each place are there.
   pub outer-there : (as' : List Dom) (uss : List (List Value)) (ss : List Shape) (vsss : List (List (List Value))) (ts : Tables) (i : List ℤ) →
       AllOf (lists_of (codes env0 q q-apart uss)) (λ p. There env0 q q-apart ss vsss ts (i ++ p)) → There env0 q q-apart (map (on_axes as') ss) (on_members uss vsss) ts i

@@ -29,7 +29,7 @@ use Rattle.ess_repr_laws.proofs.StructureFits.{Fit, first-fit}
 use Rattle.ess_repr_laws.proofs.StructureMatrices.{index-codes}
 use Rattle.ess_repr_laws.proofs.StructureNumbers.{size-means}
 use Rattle.ess_repr_laws.proofs.StructureOccurrences.{true-count-means}
-use Rattle.ess_repr_laws.proofs.StructureOf.{StructureOf}
+use Rattle.ess_repr_laws.proofs.StructureOf.{StructureOf, own-found}
 use Rattle.ess_repr_laws.proofs.StructureRows.{Steady, There, codes, grid_at}
 use Rattle.ess_repr_laws.proofs.TupleMembers.{place_of}
 
@@ -95,6 +95,7 @@ module _ (env0 : Env) (q : ℕ → Text) (q-apart : (m l : ℕ) → l < m → sa
     covered = a;
     long = λ ns. let z : 1 ≡ 1 + 0 = omega arith in z;
     axes = ap (λ l. l ∷ []) same;
+    found = own-found env0 q q-apart terms true (dom_list ds) (index_members xs) ax;
     there = matrix-there;
     means = matrix-means;
   }

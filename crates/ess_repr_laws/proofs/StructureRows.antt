@@ -2,7 +2,7 @@
 use Rattle.std.proofs.Common.{◌≡◌, refl, sym, ap, ◌∙◌, ℕ, suc, ◌≤◌, ◌<◌, Bool, true, false, ◌&&◌, ◌||◌, not, if◌then◌else◌, List, [], ◌∷◌, ◌++◌, map, ℤ, pos, Option, Some, None, option_map, arith, le_refl, append-nil, append_assoc}
 use Rattle.std.proofs.Math.Path.{fun_ext}
 use Rattle.std.specs.List.{list_all}
-use Rattle.std.specs.Ordering.{is_lt, is_eq, ordering_then, ordering_reverse}
+use Rattle.std.specs.Ordering.{is_lt, is_le, is_eq, ordering_then, ordering_reverse}
 use Rattle.std.specs.declared.cmp.Ordering.{Ordering}
 use Rattle.std.specs.declared.cmp.Ordering.TheVariants.{Less, Equal, Greater}
 use Rattle.ess_semantics.specs.declared.words.Op2.{Op2}
@@ -22,7 +22,7 @@ use Rattle.ess_repr_laws.proofs.FittingTables.{row-fits}
 use Rattle.std.proofs.lemmas.Cmp.{tied_itself}
 use Rattle.ess_semantics.proofs.Connectives.{and-means, or-means, not-means, binary-means, all-means}
 use Rattle.ess_repr_laws.proofs.CanonicalPlaces.{AllOf}
-use Rattle.ess_repr_laws.specs.StructureParts.{Shape, add_ex, and_ex, row_gens, row_index, row_ex, less_ex, out_ex, zero_ex, zeros_ex}
+use Rattle.ess_repr_laws.specs.StructureParts.{Shape, add_ex, and_ex, row_gens, row_index, row_ex, less_ex, at_most_ex, out_ex, zero_ex, zeros_ex}
 use Rattle.ess_repr_laws.specs.StructureMeaning.{fit, Bound, M, AxesAre, Placed}
 use Rattle.ess_repr_laws.proofs.StructureNumbers.{indices-add, lex-order, meanings-add, row_value, spread, spread-append}
 
@@ -181,6 +181,37 @@ module _ (env0 : Env) (q : ℕ → Text) (q-apart : (m l : ℕ) → l < m → sa
   less-means l [] (vss ∷ vsss) ts is js i j bs p a b c d = absurd p
   less-means l (s ∷ ss) [] ts is js i j bs p a b c d = absurd p
   less-means l (s ∷ ss) (vss ∷ vsss) [] is js i j bs p a b c d = absurd p
+
+  at-most-then : (xs ys : List ℤ) (p : Ordering) → is_lt (order_ints xs ys) || (not (is_lt (order_ints ys xs)) && is_le p) ≡ is_le (ordering_then (order_ints xs ys) p)
+  at-most-then xs ys p = ap (λ o. is_lt (order_ints xs ys) || (not (is_lt o) && is_le p)) (ints_total.antisymm ys xs) ∙ go (order_ints xs ys)
+    where
+      go : (o : Ordering) → is_lt o || (not (is_lt (ordering_reverse o)) && is_le p) ≡ is_le (ordering_then o p)
+      go Less = refl
+      go Equal = refl
+      go Greater = refl
+
+  -- The test that cells are below others, or equal.
+  pub at-most-means : (l : ℕ) (ss : List Shape) (vsss : List (List (List Value))) (ts : Tables) (is js : Exs) (i j : List ℤ) (bs : (Bound env0 q q-apart)) →
+      (Placed env0 q q-apart) ss vsss ts → There ss vsss ts i → There ss vsss ts j → Steady l is i bs → Steady l js j bs →
+      meaning (at_most_ex q l ss is js) ((M env0 q q-apart) bs) ≡ Some (truth (is_le (order_rows (rows (all_codes vsss) (behind i (cells_of ts))) (rows (all_codes vsss) (behind j (cells_of ts))))))
+  at-most-means l [] [] [] is js i j bs p a b c d = refl
+  at-most-means l (s ∷ ss) (vss ∷ vsss) (t ∷ ts) is js i j bs p a b c d =
+      let x = row-means l s t vss is i bs p.0 p.1 a.0 c in
+      let y = row-means l s t vss js j bs p.0 p.1 b.0 d in
+      let fx = row-fits (codes vss) (fit s.truth) (grid_at t i) a.0 in
+      let fy = row-fits (codes vss) (fit s.truth) (grid_at t j) b.0 in
+      let X : List ℤ = row (codes vss) (grid_at t i) in
+      let Y : List ℤ = row (codes vss) (grid_at t j) in
+      let rest : Ordering = order_rows (rows (all_codes vsss) (behind i (cells_of ts))) (rows (all_codes vsss) (behind j (cells_of ts))) in
+      or-means ((M env0 q q-apart) bs) (ex2 true Op2.LexLt (row_ex q l s is) (row_ex q l s js)) (and_ex (ex2 true Op2.LexLe (row_ex q l s is) (row_ex q l s js)) (at_most_ex q l ss is js)) (is_lt (order_ints X Y)) (not (is_lt (order_ints Y X)) && is_le rest)
+      (lex-lt ((M env0 q q-apart) bs) s.truth (row_ex q l s is) (row_ex q l s js) X Y fx fy x y)
+      (and-means ((M env0 q q-apart) bs) (ex2 true Op2.LexLe (row_ex q l s is) (row_ex q l s js)) (at_most_ex q l ss is js) (not (is_lt (order_ints Y X))) (is_le rest)
+      (lex-le ((M env0 q q-apart) bs) s.truth (row_ex q l s is) (row_ex q l s js) X Y fx fy x y) (at-most-means l ss vsss ts is js i j bs p.2 a.1 b.1 c d))
+      ∙ ap (λ b. Some (truth b)) (at-most-then X Y rest)
+  at-most-means l [] [] (t ∷ ts) is js i j bs p a b c d = absurd p
+  at-most-means l [] (vss ∷ vsss) ts is js i j bs p a b c d = absurd p
+  at-most-means l (s ∷ ss) [] ts is js i j bs p a b c d = absurd p
+  at-most-means l (s ∷ ss) (vss ∷ vsss) [] is js i j bs p a b c d = absurd p
 
   -- ---- cells out of use
 

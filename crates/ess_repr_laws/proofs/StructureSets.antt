@@ -29,7 +29,8 @@ use Rattle.ess_repr_laws.proofs.RowsOfCells.{axes-of-layer}
 use Rattle.ess_repr_laws.proofs.SlotsUsed.{marker-cell}
 use Rattle.ess_repr_laws.proofs.StructureMeans.{explicit-means, marker-means}
 use Rattle.ess_repr_laws.proofs.StructureOccurrences.{occurrence-means}
-use Rattle.ess_repr_laws.proofs.StructureOf.{StructureOf, under-codes, child-there}
+use Rattle.ess_repr_laws.proofs.StructureOf.{StructureOf, own-found, child-found, own-child-found, under-codes, child-there}
+use Rattle.ess_repr_laws.proofs.StructureUse.{slots-axis}
 use Rattle.ess_repr_laws.proofs.StructureSlotted.{slots-same, slots-placed, slot-there, tables-long, slot-means}
 use Rattle.ess_repr_laws.proofs.StructureRows.{Steady, There, grid_at}
 
@@ -68,6 +69,7 @@ module _ (env0 : Env) (q : ℕ → Text) (q-apart : (m l : ℕ) → l < m → sa
       covered = a;
       long = λ ns. let z : 1 ≡ 1 + 0 = omega arith in z;
       axes = refl;
+      found = own-found env0 q q-apart terms true (d ∷ []) (member_list e ∷ []) (ax, tt);
       there = occurrence-there;
       means = occurrences;
     }
@@ -89,6 +91,7 @@ module _ (env0 : Env) (q : ℕ → Text) (q-apart : (m l : ℕ) → l < m → sa
       long = λ ns. map-long _ (shapes q terms r d ns) ∙ child.long ns ∙ (let z : width r ≡ 0 + (width r + 0) = omega arith in z);
       axes = under-codes env0 q q-apart terms (slot_numbers S) (one_to S ∷ []) (axes_members r e) (slots-same env0 q q-apart S) ∙ ap (map (λ (as' : Axes). one_to S ∷ as')) child.axes
           ∙ sym (append-nil (map (λ (as' : Axes). one_to S ∷ as') (axes_of r e))) ∙ sym (axes-of-layer (explicit_layer ks e) (more_reprs r no_reprs));
+      found = child-found env0 q q-apart terms r d e child (upto size ∷ []) (slot_numbers S) (slots-axis env0 q q-apart size S sl);
       there = λ out ns ts i p c. child-there env0 q q-apart terms r d e child (upto size ∷ []) (slot_numbers S) (one_to S ∷ []) (slots-same env0 q q-apart S) refl (out || false) ns ts i p c;
       means = λ out ns ts l is i bs p c st.
           let z = at bs in
@@ -160,6 +163,7 @@ module _ (env0 : Env) (q : ℕ → Text) (q-apart : (m l : ℕ) → l < m → sa
       long = λ ns. ap suc (map-long _ (shapes q terms r d (drop 1 ns)) ∙ child.long (drop 1 ns)) ∙ (let z : suc (width r) ≡ 1 + (width r + 0) = omega arith in z);
       axes = ap (λ l. [] ∷ l) (under-codes env0 q q-apart terms (slot_numbers S) (one_to S ∷ []) (axes_members r e) (slots-same env0 q q-apart S) ∙ ap (map (λ (as' : Axes). one_to S ∷ as')) child.axes
           ∙ sym (append-nil (map (λ (as' : Axes). one_to S ∷ as') (axes_of r e)))) ∙ sym (axes-of-layer (marker_layer ks e) (more_reprs r no_reprs));
+      found = own-child-found env0 q q-apart terms r d e child (upto size ∷ []) (slot_numbers S) (slots-axis env0 q q-apart size S sl) false [] [] tt;
       there = marker-cells;
       means = markers;
     }

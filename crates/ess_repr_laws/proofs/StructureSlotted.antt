@@ -18,11 +18,9 @@ use Rattle.ess_repr_laws.specs.StructureMeaning.{Bound, M, Placed, axes_members,
 use Rattle.ess_repr_laws.proofs.CanonicalPlaces.{AllOf}
 use Rattle.ess_repr_laws.proofs.StructureFits.{Fit}
 use Rattle.ess_repr_laws.proofs.SlotsUsed.{as_place, slots-are}
-use Rattle.ess_repr_laws.proofs.StructureOf.{StructureOf}
+use Rattle.ess_repr_laws.proofs.StructureOf.{StructureOf, child-placed, child-fits, child-there-each}
 use Rattle.ess_repr_laws.proofs.StructurePlaces.{placed-long}
 use Rattle.ess_repr_laws.proofs.StructureRows.{Steady, There, codes, steady-name}
-use Rattle.ess_repr_laws.proofs.StructureOf.{child-placed, child-fits, child-there-each}
-use Rattle.std.proofs.Math.Nat.{eq-or-lt_of_le}
 
 -- Numbers are their own numbers.
 pub number-codes : (ks : List ℤ) → map code (map number ks) ≡ ks

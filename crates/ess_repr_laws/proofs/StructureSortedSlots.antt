@@ -1,25 +1,24 @@
 -- The structure constraint of slots that rise, with a table over the slots that says which are in use: what is asked of the slots.
 use Rattle.std.proofs.Common.{◌≡◌, refl, sym, ap, ◌∙◌, ℕ, suc, ◌+◌, ◌≤◌, ◌<◌, Bool, true, false, ◌&&◌, ◌||◌, not, if◌then◌else◌, List, [], ◌∷◌, ◌++◌, map, ℤ, pos, ◌+ℤ◌, Option, Some, None, option_map, arith}
 use Rattle.std.specs.List.{list_all}
-use Rattle.std.specs.Ordering.{is_lt}
 use Rattle.ess_semantics.specs.declared.words.ReprKind.{ReprKind}
 use Rattle.ess_semantics.specs.Lists.{and_then, is_some_and}
 use Rattle.ess_semantics.specs.Values.{Text, Value, number, truth}
 use Rattle.ess_semantics.specs.Order.{same_int, same_text}
 use Rattle.ess_semantics.specs.Numbers.{one_to}
-use Rattle.ess_semantics.specs.Trees.{Repr, Ex, Exs, name_ex, Dom}
+use Rattle.ess_semantics.specs.Trees.{Exs, Repr, Ex, Exs, name_ex, Dom}
 use Rattle.ess_semantics.specs.Domains.{Domain, booleans, lists_of}
 use Rattle.ess_semantics.specs.Tables.{Tables, truth_of, is_cell}
-use Rattle.ess_semantics.specs.Cells.{Cells, Axes, behind, cells_of, are_zero, rows, order_rows}
+use Rattle.ess_semantics.specs.Cells.{Cells, Axes, behind, cells_of, are_zero, rows}
 use Rattle.ess_semantics.specs.Layers.{OwnTable, Layer, Use, Slot, chosen}
 use Rattle.ess_semantics.specs.Representations.{is_used}
 use Rattle.ess_semantics.specs.Declarations.{declarations_below, under, axes_of}
-use Rattle.ess_semantics.specs.CanonicalTest.{next_slot, in_use_first, slots_rise, canonical}
+use Rattle.ess_semantics.specs.CanonicalTest.{in_order, next_slot, in_use_first, slots_rise, canonical}
 use Rattle.ess_semantics.specs.Meaning.{Env, meaning}
 use Rattle.ess_semantics.proofs.Connectives.{and-means}
 use Rattle.ess_semantics.proofs.Orders.{same_int-equal}
 use Rattle.ess_semantics.proofs.Tests.{and-left, and-right}
-use Rattle.ess_repr_laws.specs.StructureParts.{Shape, Terms, add_ex, and_ex, upto, next_ex, less_ex, use_ex, first_ex, on_axes}
+use Rattle.ess_repr_laws.specs.StructureParts.{Shape, Terms, add_ex, and_ex, upto, next_ex, rise_ex, use_ex, first_ex, on_axes}
 use Rattle.ess_repr_laws.specs.Structure.{shapes, structure}
 use Rattle.ess_repr_laws.specs.StructureMeaning.{Number, Bound, M, Placed, axes_members, on_members, slot_numbers}
 use Rattle.ess_repr_laws.proofs.Behind.{behind-append}
@@ -28,7 +27,7 @@ use Rattle.ess_repr_laws.proofs.CellsOfOneChild.{one_child}
 use Rattle.ess_repr_laws.proofs.StructureFits.{Fit}
 use Rattle.ess_repr_laws.proofs.StructureLayers.{all-alike, used_part, zero_part}
 use Rattle.ess_repr_laws.proofs.StructureOf.{StructureOf}
-use Rattle.ess_repr_laws.proofs.StructureRows.{Steady, all_codes, less-means, steady-name}
+use Rattle.ess_repr_laws.proofs.StructureRows.{Steady, all_codes, less-means, at-most-means, There, steady-name}
 use Rattle.ess_repr_laws.proofs.StructureSlotted.{slots-placed, slot-there, slot-means}
 use Rattle.ess_repr_laws.proofs.StructureUse.{Slots, first-means, use-means, next-steady, places-numbers}
 use Rattle.ess_repr_laws.proofs.CanonicalForms.{right}
@@ -66,36 +65,47 @@ chosen-found {A} (j ∷ ps) f h = go (f j) refl h.0 (chosen-found ps f h.1)
     go None e c r = cc
     go (Some z) e c r = bit z e (same_int z (pos 0)) refl c r
 
+module _ (env0 : Env) (q : ℕ → Text) (q-apart : (m l : ℕ) → l < m → same_text (q m) (q l) ≡ false) where
+  -- Slots rise, or rise weakly.
+  rise-means : (distinct : Bool) (l : ℕ) (ss : List Shape) (vsss : List (List (List Value))) (ts : Tables) (is js : Exs) (i j : List ℤ) (bs : Bound env0 q q-apart) →
+      Placed env0 q q-apart ss vsss ts → There env0 q q-apart ss vsss ts i → There env0 q q-apart ss vsss ts j → Steady env0 q q-apart l is i bs → Steady env0 q q-apart l js j bs →
+      meaning (rise_ex q distinct l ss is js) (M env0 q q-apart bs) ≡ Some (truth (in_order distinct (rows (all_codes env0 q q-apart vsss) (behind i (cells_of ts))) (rows (all_codes env0 q q-apart vsss) (behind j (cells_of ts)))))
+  rise-means true l ss vsss ts is js i j bs p a b c d = less-means env0 q q-apart l ss vsss ts is js i j bs p a b c d
+  rise-means false l ss vsss ts is js i j bs p a b c d = at-most-means env0 q q-apart l ss vsss ts is js i j bs p a b c d
+
 module _ (env0 : Env) (q : ℕ → Text) (q-apart : (m l : ℕ) → l < m → same_text (q m) (q l) ≡ false) (terms : Terms)
     (r : Repr) (d : Dom) (e : Domain) (child : StructureOf env0 q q-apart terms r d e) (size : Ex) (S : ℕ) (sl : (bs : Bound env0 q q-apart) → Number size (M env0 q q-apart bs) (pos S))
-    (k : ReprKind) (D : Domain) (own : List OwnTable) (u : Use) (ct : Value → List (Option Value)) (ot : Value → List (Option Slot) → Tables) (b : Cells → List (List Value) → Option Value) (ic : Cells → List (List Value) → Bool) (td : Cells → Bool) where
+    (k : ReprKind) (D : Domain) (own : List OwnTable) (u : Use) (distinct : Bool) (ct : Value → List (Option Value)) (ot : Value → List (Option Slot) → Tables) (b : Cells → List (List Value) → Option Value) (ic : Cells → List (List Value) → Bool) (td : Cells → Bool) where
   abbrev L : Layer
-  L = one_child k r D e own (one_to S ∷ []) u true true ct ot b ic td
+  L = one_child k r D e own (one_to S ∷ []) u true distinct ct ot b ic td
 
   abbrev bs0 : Axes
   bs0 = one_to S ∷ []
 
+  -- What is asked of slots, but that those in use stand first.
+  abbrev pub used_asked : Cells → Cells → Bool
+  used_asked mine inner =
+      used_part r e (right r e child.covered) (axes-wide r e child.covered) k D own bs0 u true distinct ct ot b ic td mine inner
+      && (slots_rise L mine (axes_of r e) inner && zero_part r e (right r e child.covered) (axes-wide r e child.covered) k D own bs0 u true distinct ct ot b ic td mine inner)
+
   -- What is asked of slots that rise.
   abbrev pub sorted_asked : Cells → Cells → Bool
-  sorted_asked mine inner =
-      in_use_first L mine && (used_part r e (right r e child.covered) (axes-wide r e child.covered) k D own bs0 u true true ct ot b ic td mine inner
-      && (slots_rise L mine (axes_of r e) inner && zero_part r e (right r e child.covered) (axes-wide r e child.covered) k D own bs0 u true true ct ot b ic td mine inner))
+  sorted_asked mine inner = in_use_first L mine && used_asked mine inner
 
-  -- The constraint of slots of which those in use stand first and rise means that this is so.
-  pub sorted-means : (out : Bool) (ns : List Text) (ts : Tables) (l : ℕ) (is : Exs) (i : List ℤ) (bs : Bound env0 q q-apart)
+  -- The constraints of slots of which those in use stand first and rise mean that this is so, each.
+  pub parts-mean : (out : Bool) (ns : List Text) (ts : Tables) (l : ℕ) (is : Exs) (i : List ℤ) (bs : Bound env0 q q-apart)
       (p : Placed env0 q q-apart (map (on_axes (upto size ∷ [])) (shapes q terms r d ns)) (on_members (slot_numbers S) (axes_members r e)) ts)
       (c : Fit (under (one_to S ∷ []) (declarations_below out r e) ++ []) (behind i (cells_of ts))) → Steady env0 q q-apart l is i bs → (mine : Cells) (here next : Ex) →
       is_used u mine (pos (S + 1) ∷ []) ≡ false →
       ((j : ℕ) → 1 ≤ j → j ≤ S → meaning here (M env0 q q-apart ((l, number (pos j)) ∷ bs)) ≡ Some (truth (is_used u mine (pos j ∷ [])))) →
       ((j : ℕ) → 1 ≤ j → j + 1 ≤ S → meaning next (M env0 q q-apart ((l, number (pos j)) ∷ bs)) ≡ Some (truth (is_used u mine (pos (j + 1) ∷ [])))) →
-      meaning (and_ex (first_ex q l size here next) (use_ex q l size here next (less_ex q (suc l) (shapes q terms r d ns) (add_ex is (name_ex (q l))) (add_ex is (next_ex q l))) (shapes q terms r d ns) is
-      (structure q terms r d ns (suc l) (add_ex is (name_ex (q l)))))) (M env0 q q-apart bs) ≡ Some (truth (sorted_asked mine (behind i (cells_of ts))))
-  sorted-means out ns ts l is i bs p c st mine here next ends hh hn =
-      and-means (M env0 q q-apart bs) (first_ex q l size here next) (use_ex q l size here next rise ss is part) (list_all (λ j. not (U (j +ℤ pos 1)) || U j) (one_to S))
-      (list_all (λ j. not (U j) || P j) (one_to S) && (list_all (λ j. not (U (j +ℤ pos 1)) || X j) (one_to S) && list_all (λ j. U j || Z j) (one_to S)))
-      (first-means env0 q q-apart l size here next rise ss vsss ts is i bs part S U X P v)
-      (use-means env0 q q-apart l size here next rise ss vsss ts is i bs part S U X P v)
-      ∙ ap (λ b. Some (truth b)) (sym all)
+      (meaning (first_ex q l size here next) (M env0 q q-apart bs) ≡ Some (truth (in_use_first L mine))) ×
+      (meaning (use_ex q l size here next (rise_ex q distinct (suc l) (shapes q terms r d ns) (add_ex is (name_ex (q l))) (add_ex is (next_ex q l))) (shapes q terms r d ns) is
+      (structure q terms r d ns (suc l) (add_ex is (name_ex (q l))))) (M env0 q q-apart bs) ≡ Some (truth (used_asked mine (behind i (cells_of ts)))))
+  parts-mean out ns ts l is i bs p c st mine here next ends hh hn = (
+    first-means env0 q q-apart l size here next rise ss vsss ts is i bs part S U X P v ∙ ap (λ b. Some (truth b)) (sym (places-numbers S (λ js. not (is_used u mine (next_slot js)) || is_used u mine js))),
+    use-means env0 q q-apart l size here next rise ss vsss ts is i bs part S U X P v ∙ ap (λ b. Some (truth b)) (sym all),
+  )
     where
       inner : Cells
       inner = behind i (cells_of ts)
@@ -110,7 +120,7 @@ module _ (env0 : Env) (q : ℕ → Text) (q-apart : (m l : ℕ) → l < m → sa
       part = structure q terms r d ns (suc l) (add_ex is (name_ex (q l)))
 
       rise : Ex
-      rise = less_ex q (suc l) (shapes q terms r d ns) (add_ex is (name_ex (q l))) (add_ex is (next_ex q l))
+      rise = rise_ex q distinct (suc l) (shapes q terms r d ns) (add_ex is (name_ex (q l))) (add_ex is (next_ex q l))
 
       U : ℤ → Bool
       U j = is_used u mine (j ∷ [])
@@ -119,7 +129,7 @@ module _ (env0 : Env) (q : ℕ → Text) (q-apart : (m l : ℕ) → l < m → sa
       P j = canonical r e (behind (i ++ (j ∷ [])) (cells_of ts))
 
       X : ℤ → Bool
-      X j = is_lt (order_rows (rows (all_codes env0 q q-apart (axes_members r e)) (behind (i ++ (j ∷ [])) (cells_of ts))) (rows (all_codes env0 q q-apart (axes_members r e)) (behind (i ++ ((j +ℤ pos 1) ∷ [])) (cells_of ts))))
+      X j = in_order distinct (rows (all_codes env0 q q-apart (axes_members r e)) (behind (i ++ (j ∷ [])) (cells_of ts))) (rows (all_codes env0 q q-apart (axes_members r e)) (behind (i ++ ((j +ℤ pos 1) ∷ [])) (cells_of ts)))
 
       Z : ℤ → Bool
       Z j = are_zero (all_codes env0 q q-apart (axes_members r e)) (behind (i ++ (j ∷ [])) (cells_of ts))
@@ -135,7 +145,7 @@ module _ (env0 : Env) (q : ℕ → Text) (q-apart : (m l : ℕ) → l < m → sa
         here_is = hh;
         next_is = hn;
         rise_is = λ j x y.
-            less-means env0 q q-apart (suc l) (shapes q terms r d ns) (axes_members r e) ts (add_ex is (name_ex (q l))) (add_ex is (next_ex q l)) (i ++ (pos j ∷ [])) (i ++ (pos (j + 1) ∷ [])) ((l, number (pos j)) ∷ bs) placed
+            rise-means env0 q q-apart distinct (suc l) (shapes q terms r d ns) (axes_members r e) ts (add_ex is (name_ex (q l))) (add_ex is (next_ex q l)) (i ++ (pos j ∷ [])) (i ++ (pos (j + 1) ∷ [])) ((l, number (pos j)) ∷ bs) placed
             (slot-there env0 q q-apart terms r d e child size S out ns ts i p c j x (omega arith)) (slot-there env0 q q-apart terms r d e child size S out ns ts i p c (j + 1) (omega arith) y)
             (steady-name env0 q q-apart l (number (pos j)) is i bs st) (next-steady env0 q q-apart l (pos j) is i bs st);
         placed = placed;
@@ -144,8 +154,8 @@ module _ (env0 : Env) (q : ℕ → Text) (q-apart : (m l : ℕ) → l < m → sa
         inside = slot-means env0 q q-apart terms r d e child size S out ns ts i p c l is bs st;
       }
 
-      four : (a a' b b' c c' d d' : Bool) → a ≡ a' → b ≡ b' → c ≡ c' → d ≡ d' → a && (b && (c && d)) ≡ a' && (b' && (c' && d'))
-      four a a' b b' c c' d d' p q r s = ap (λ x. x && (b && (c && d))) p ∙ ap (λ x. a' && (x && (c && d))) q ∙ ap (λ x. a' && (b' && (x && d))) r ∙ ap (λ x. a' && (b' && (c' && x))) s
+      three : (b b' c c' d d' : Bool) → b ≡ b' → c ≡ c' → d ≡ d' → b && (c && d) ≡ b' && (c' && d')
+      three b b' c c' d d' q r s = ap (λ x. x && (c && d)) q ∙ ap (λ x. b' && (x && d)) r ∙ ap (λ x. b' && (c' && x)) s
 
       B : ℤ → Cells
       B j = behind (j ∷ []) (behind i (cells_of ts))
@@ -153,19 +163,31 @@ module _ (env0 : Env) (q : ℕ → Text) (q-apart : (m l : ℕ) → l < m → sa
       at : (j : ℤ) → B j ≡ behind (i ++ (j ∷ [])) (cells_of ts)
       at j = sym (behind-append i (j ∷ []) (cells_of ts))
 
-      all : sorted_asked mine inner ≡ list_all (λ j. not (U (j +ℤ pos 1)) || U j) (one_to S) &&
-          (list_all (λ j. not (U j) || P j) (one_to S) && (list_all (λ j. not (U (j +ℤ pos 1)) || X j) (one_to S) && list_all (λ j. U j || Z j) (one_to S)))
+      all : used_asked mine inner ≡ list_all (λ j. not (U j) || P j) (one_to S) && (list_all (λ j. not (U (j +ℤ pos 1)) || X j) (one_to S) && list_all (λ j. U j || Z j) (one_to S))
       all =
-          four (in_use_first L mine) (list_all (λ j. not (U (j +ℤ pos 1)) || U j) (one_to S)) (list_all (λ js. not (is_used u mine js) || canonical r e (behind js inner)) (lists_of bs0)) (list_all (λ j. not (U j) || P j) (one_to S))
+          three (list_all (λ js. not (is_used u mine js) || canonical r e (behind js inner)) (lists_of bs0)) (list_all (λ j. not (U j) || P j) (one_to S))
           (slots_rise L mine (axes_of r e) inner) (list_all (λ j. not (U (j +ℤ pos 1)) || X j) (one_to S)) (list_all (λ js. is_used u mine js || are_zero (axes_of r e) (behind js inner)) (lists_of bs0)) (list_all (λ j. U j || Z j) (one_to S))
-          (places-numbers S (λ js. not (is_used u mine (next_slot js)) || is_used u mine js))
           (places-numbers S (λ js. not (is_used u mine js) || canonical r e (behind js inner))
           ∙ all-alike (one_to S) (λ j. not (U j) || canonical r e (B j)) (λ j. not (U j) || P j) (λ j. ap (λ x. not (U j) || canonical r e x) (at j)))
-          (places-numbers S (λ js. not (is_used u mine (next_slot js)) || is_lt (order_rows (rows (axes_of r e) (behind js inner)) (rows (axes_of r e) (behind (next_slot js) inner))))
-          ∙ all-alike (one_to S) (λ j. not (U (j +ℤ pos 1)) || is_lt (order_rows (rows (axes_of r e) (B j)) (rows (axes_of r e) (B (j +ℤ pos 1))))) (λ j. not (U (j +ℤ pos 1)) || X j)
-          (λ j. ap (λ a. not (U (j +ℤ pos 1)) || is_lt (order_rows (rows a (B j)) (rows a (B (j +ℤ pos 1))))) (sym child.axes)
-          ∙ ap (λ x. not (U (j +ℤ pos 1)) || is_lt (order_rows (rows (all_codes env0 q q-apart (axes_members r e)) x) (rows (all_codes env0 q q-apart (axes_members r e)) (B (j +ℤ pos 1))))) (at j)
-          ∙ ap (λ x. not (U (j +ℤ pos 1)) || is_lt (order_rows (rows (all_codes env0 q q-apart (axes_members r e)) (behind (i ++ (j ∷ [])) (cells_of ts))) (rows (all_codes env0 q q-apart (axes_members r e)) x))) (at (j +ℤ pos 1))))
+          (places-numbers S (λ js. not (is_used u mine (next_slot js)) || in_order distinct (rows (axes_of r e) (behind js inner)) (rows (axes_of r e) (behind (next_slot js) inner)))
+          ∙ all-alike (one_to S) (λ j. not (U (j +ℤ pos 1)) || in_order distinct (rows (axes_of r e) (B j)) (rows (axes_of r e) (B (j +ℤ pos 1)))) (λ j. not (U (j +ℤ pos 1)) || X j)
+          (λ j. ap (λ a. not (U (j +ℤ pos 1)) || in_order distinct (rows a (B j)) (rows a (B (j +ℤ pos 1)))) (sym child.axes)
+          ∙ ap (λ x. not (U (j +ℤ pos 1)) || in_order distinct (rows (all_codes env0 q q-apart (axes_members r e)) x) (rows (all_codes env0 q q-apart (axes_members r e)) (B (j +ℤ pos 1)))) (at j)
+          ∙ ap (λ x. not (U (j +ℤ pos 1)) || in_order distinct (rows (all_codes env0 q q-apart (axes_members r e)) (behind (i ++ (j ∷ [])) (cells_of ts))) (rows (all_codes env0 q q-apart (axes_members r e)) x)) (at (j +ℤ pos 1))))
           (places-numbers S (λ js. is_used u mine js || are_zero (axes_of r e) (behind js inner))
           ∙ all-alike (one_to S) (λ j. U j || are_zero (axes_of r e) (B j)) (λ j. U j || Z j)
           (λ j. ap (λ a. U j || are_zero a (B j)) (sym child.axes) ∙ ap (λ x. U j || are_zero (all_codes env0 q q-apart (axes_members r e)) x) (at j)))
+
+  -- The constraint of slots of which those in use stand first and rise means that this is so.
+  pub sorted-means : (out : Bool) (ns : List Text) (ts : Tables) (l : ℕ) (is : Exs) (i : List ℤ) (bs : Bound env0 q q-apart)
+      (p : Placed env0 q q-apart (map (on_axes (upto size ∷ [])) (shapes q terms r d ns)) (on_members (slot_numbers S) (axes_members r e)) ts)
+      (c : Fit (under (one_to S ∷ []) (declarations_below out r e) ++ []) (behind i (cells_of ts))) → Steady env0 q q-apart l is i bs → (mine : Cells) (here next : Ex) →
+      is_used u mine (pos (S + 1) ∷ []) ≡ false →
+      ((j : ℕ) → 1 ≤ j → j ≤ S → meaning here (M env0 q q-apart ((l, number (pos j)) ∷ bs)) ≡ Some (truth (is_used u mine (pos j ∷ [])))) →
+      ((j : ℕ) → 1 ≤ j → j + 1 ≤ S → meaning next (M env0 q q-apart ((l, number (pos j)) ∷ bs)) ≡ Some (truth (is_used u mine (pos (j + 1) ∷ [])))) →
+      meaning (and_ex (first_ex q l size here next) (use_ex q l size here next (rise_ex q distinct (suc l) (shapes q terms r d ns) (add_ex is (name_ex (q l))) (add_ex is (next_ex q l))) (shapes q terms r d ns) is
+      (structure q terms r d ns (suc l) (add_ex is (name_ex (q l)))))) (M env0 q q-apart bs) ≡ Some (truth (sorted_asked mine (behind i (cells_of ts))))
+  sorted-means out ns ts l is i bs p c st mine here next ends hh hn =
+      let x = parts-mean out ns ts l is i bs p c st mine here next ends hh hn in
+      and-means (M env0 q q-apart bs) (first_ex q l size here next) (use_ex q l size here next (rise_ex q distinct (suc l) (shapes q terms r d ns) (add_ex is (name_ex (q l))) (add_ex is (next_ex q l))) (shapes q terms r d ns) is
+      (structure q terms r d ns (suc l) (add_ex is (name_ex (q l))))) (in_use_first L mine) (used_asked mine (behind i (cells_of ts))) x.0 x.1

@@ -22,7 +22,7 @@ use Rattle.ess_repr_laws.specs.CanonicalTables.{Right}
 use Rattle.ess_repr_laws.specs.Rooms.{AllCovered}
 use Rattle.ess_repr_laws.specs.StructureParts.{Shape, Terms}
 use Rattle.ess_repr_laws.specs.Structure.{shapes, shapes_of_each, structure, structure_of_each}
-use Rattle.ess_repr_laws.specs.StructureMeaning.{Bound, M, Placed, axes_members, members_of_axes}
+use Rattle.ess_repr_laws.specs.StructureMeaning.{Bound, M, FoundBy, Placed, axes_members, members_of_axes}
 use Rattle.ess_repr_laws.proofs.Behind.{behind-length, behind-none, behind-take, behind-drop}
 use Rattle.ess_repr_laws.proofs.CanonicalForms.{right}
 use Rattle.ess_repr_laws.proofs.CanonicalParts.{asked_of}
@@ -46,6 +46,11 @@ take-long : {A : Type 0} (n m : ℕ) (xs : List A) → length xs ≡ n + m → l
 take-long zero m xs h = refl
 take-long (suc n) m [] h = absurd (omega arith)
 take-long (suc n) m (x ∷ xs) h = let h' : length xs ≡ n + m = omega arith in ap suc (take-long n m xs h')
+
+take-drop : {A : Type 0} (n : ℕ) (xs : List A) → xs ≡ take n xs ++ drop n xs
+take-drop zero xs = refl
+take-drop (suc n) [] = refl
+take-drop (suc n) (x ∷ xs) = ap (λ l. x ∷ l) (take-drop n xs)
 
 drop-long : {A : Type 0} (n m : ℕ) (xs : List A) → length xs ≡ n + m → length (drop n xs) ≡ m
 drop-long zero m xs h = omega arith
@@ -130,6 +135,30 @@ module _ (env0 : Env) (q : ℕ → Text) (q-apart : (m l : ℕ) → l < m → sa
       let n' : length ss ≡ length vsss = cc in
       let x = placed-split ss ss' vsss wsss ts n' h.2 in ((h.0, h.1, x.0), x.1)
 
+  none-found : (ns : List Text) (ts : Tables) → length ns ≡ 0 → FoundBy env0 q q-apart ns ts → Placed env0 q q-apart [] [] ts
+  none-found [] [] w h = tt
+  none-found [] (t ∷ ts) w h = absurd h
+  none-found (n ∷ ns) ts w h = absurd (omega arith)
+
+  found-split : (n : ℕ) (ns : List Text) (ts : Tables) → FoundBy env0 q q-apart ns ts → FoundBy env0 q q-apart (take n ns) (take n ts) × FoundBy env0 q q-apart (drop n ns) (drop n ts)
+  found-split zero ns ts h = (tt, h)
+  found-split (suc n) [] [] h = (tt, tt)
+  found-split (suc n) (m ∷ ns) (t ∷ ts) h = let x = found-split n ns ts h.1 in ((h.0, x.0), x.1)
+  found-split (suc n) [] (t ∷ ts) h = absurd h
+  found-split (suc n) (m ∷ ns) [] h = absurd h
+
+  placed-join : (ss ss' : List Shape) (vsss wsss : List (List (List Value))) (us vs ts : Tables) → us ++ vs ≡ ts → Placed env0 q q-apart ss vsss us → Placed env0 q q-apart ss' wsss vs →
+      Placed env0 q q-apart (ss ++ ss') (vsss ++ wsss) ts
+  placed-join ss ss' vsss wsss us vs ts e h k = subst (Placed env0 q q-apart (ss ++ ss') (vsss ++ wsss)) e (go ss vsss us h)
+    where
+      go : (ss : List Shape) (vsss : List (List (List Value))) (us : Tables) → Placed env0 q q-apart ss vsss us → Placed env0 q q-apart (ss ++ ss') (vsss ++ wsss) (us ++ vs)
+      go [] [] [] h = k
+      go (s ∷ ss) (vss ∷ vsss) (u ∷ us) h = (h.0, h.1, go ss vsss us h.2)
+      go [] [] (u ∷ us) h = absurd h
+      go [] (vss ∷ vsss) us h = absurd h
+      go (s ∷ ss) [] us h = absurd h
+      go (s ∷ ss) (vss ∷ vsss) [] h = absurd h
+
   there-join : (ss ss' : List Shape) (vsss wsss : List (List (List Value))) (ts : Tables) (i : List ℤ) → length ss ≡ length vsss →
       There env0 q q-apart ss vsss (take (length ss) ts) i → There env0 q q-apart ss' wsss (drop (length ss) ts) i → There env0 q q-apart (ss ++ ss') (vsss ++ wsss) ts i
   there-join [] ss' [] wsss ts i n h k = k
@@ -146,6 +175,7 @@ module _ (env0 : Env) (q : ℕ → Text) (q-apart : (m l : ℕ) → l < m → sa
     pub covered : AllCovered rs es
     pub long : (ns : List Text) → length (shapes_of_each q terms rs ds ns) ≡ widths rs
     pub axes : all_codes env0 q q-apart (members_of_axes rs es) ≡ axes_of_children rs es []
+    pub found : (ns : List Text) (ts : Tables) → length ns ≡ widths rs → FoundBy env0 q q-apart ns ts → Placed env0 q q-apart (shapes_of_each q terms rs ds ns) (members_of_axes rs es) ts
     pub there : (out : Bool) (ns : List Text) (ts : Tables) (i : List ℤ) → Placed env0 q q-apart (shapes_of_each q terms rs ds ns) (members_of_axes rs es) ts →
         Fit (declarations_of_children out rs es []) (behind i (cells_of ts)) → There env0 q q-apart (shapes_of_each q terms rs ds ns) (members_of_axes rs es) ts i
     pub means : (out : Bool) (ns : List Text) (ts : Tables) (l : ℕ) (is : Exs) (i : List ℤ) (bs : Bound env0 q q-apart) →
@@ -158,6 +188,7 @@ module _ (env0 : Env) (q : ℕ → Text) (q-apart : (m l : ℕ) → l < m → sa
     covered = tt;
     long = λ ns. refl;
     axes = refl;
+    found = none-found env0 q q-apart;
     there = λ out ns ts i p c. tt;
     means = λ out ns ts l is i bs p c st. refl;
   }
@@ -168,6 +199,10 @@ module _ (env0 : Env) (q : ℕ → Text) (q-apart : (m l : ℕ) → l < m → sa
     covered = (one.covered, each.covered);
     long = λ ns. length-append (S ns) (T ns) ∙ ap (λ n. n + length (T ns)) (one.long (take (width r) ns)) ∙ ap (λ n. width r + n) (each.long (drop (width r) ns));
     axes = map-append (map (map _)) (axes_members r e) (members_of_axes rs es) ∙ ap (λ l. l ++ all_codes env0 q q-apart (members_of_axes rs es)) (one.axes ∙ sym (no-axes (axes_of r e))) ∙ ap (λ l. map (λ (as' : Axes). as') (axes_of r e) ++ l) each.axes;
+    found = λ ns ts w h.
+        let x = found-split env0 q q-apart (width r) ns ts h in
+        placed-join env0 q q-apart (S ns) (T ns) (axes_members r e) (members_of_axes rs es) (take (width r) ts) (drop (width r) ts) ts (sym (take-drop (width r) ts))
+        (one.found (take (width r) ns) (take (width r) ts) (take-long (width r) (widths rs) ns w) x.0) (each.found (drop (width r) ns) (drop (width r) ts) (drop-long (width r) (widths rs) ns w) x.1);
     there = λ out ns ts i p c.
         let x = halves ns ts p in let y = parts out ts i c in
         there-join env0 q q-apart (S ns) (T ns) (axes_members r e) (members_of_axes rs es) ts i (even ns)
@@ -218,6 +253,7 @@ module _ (env0 : Env) (q : ℕ → Text) (q-apart : (m l : ℕ) → l < m → sa
     covered = each.covered;
     long = λ ns. each.long ns ∙ (let z : widths rs ≡ 0 + widths rs = omega arith in z);
     axes = each.axes ∙ sym (axes-of-layer (tuple_layer es) rs);
+    found = λ ns ts w h. each.found ns ts (omega (arith, w)) h;
     there = λ out ns ts i p c. each.there (out || false) ns ts i p c;
     means = λ out ns ts l is i bs p c st. each.means (out || false) ns ts l is i bs p c st
         ∙ ap (λ b. Some (truth b)) (sym (components-asked (domain_list es) (tuple_layer es).built (tuple_layer es).contents rs each.covered (behind i (cells_of ts))
@@ -230,6 +266,7 @@ module _ (env0 : Env) (q : ℕ → Text) (q-apart : (m l : ℕ) → l < m → sa
     covered = each.covered;
     long = λ ns. each.long ns ∙ (let z : widths rs ≡ 0 + widths rs = omega arith in z);
     axes = each.axes ∙ sym (axes-of-layer (record_layer gs es) rs);
+    found = λ ns ts w h. each.found ns ts (omega (arith, w)) h;
     there = λ out ns ts i p c. each.there (out || false) ns ts i p c;
     means = λ out ns ts l is i bs p c st. each.means (out || false) ns ts l is i bs p c st
         ∙ ap (λ b. Some (truth b)) (sym (components-asked (domain_list es) (record_layer gs es).built (record_layer gs es).contents rs each.covered (behind i (cells_of ts))

@@ -30,7 +30,7 @@ use Rattle.ess_repr_laws.specs.TypedDomains.{OneType, SameOrder, Typed, has_plai
 use Rattle.ess_repr_laws.specs.CanonicalTables.{TablesFit, Right, OneForm, is_compound}
 use Rattle.ess_repr_laws.specs.StructureParts.{Terms}
 use Rattle.ess_repr_laws.specs.Structure.{shapes, structure}
-use Rattle.ess_repr_laws.specs.StructureMeaning.{Bound, M, Placed, axes_members, Ready}
+use Rattle.ess_repr_laws.specs.StructureMeaning.{Bound, M, FoundBy, Placed, axes_members, Ready}
 
 -- The representation is one for the domain expression, which is well formed and needs slots of a known number.
 pub record Fitting (r : Repr) (d : Dom) : Type 0 where
@@ -116,9 +116,10 @@ pub record LayersAreComposed : Type 0 where
       and_then (inner_tables k d ts) (λ tss. and_then (each_of tss (λ t. value_of_tables r e t [])) (layer_value k d ts))
 
 -- The structure constraint of a view, over tables on the declared axes with items in the declared domains, means that the cells
--- are canonical. So for atoms, tuples, records and matrices, for sets kept as the members that occur, or in slots that are all in
--- use, up to a marker, or with flags, for total functions of which sizes alone are asked, and for such relations as matrices, in
--- any nesting.
+-- are canonical. So for atoms, tuples, records and matrices; for sets kept as the members that occur, or in slots that are all in
+-- use, up to a marker, or with flags; for multisets by how often each member occurs, or in slots with these numbers or up to a
+-- marker, where of the latter nothing is asked but sizes; and for functions with a value or a flag and a value for each argument
+-- and relations as matrices, where of these nothing is asked but sizes and, of a function without flags, `total`; in any nesting.
 abbrev pub StructuresMeanCanonical : Type 0
 StructuresMeanCanonical =
     (env0 : Env) (q : ℕ → Text) (apart : (m l : ℕ) → l < m → same_text (q m) (q l) ≡ false) (terms : Terms) →
@@ -127,3 +128,11 @@ StructuresMeanCanonical =
     length ts ≡ width r → Placed env0 q apart (shapes q terms r d ns) (axes_members r e) ts → over_axes [] (axes_of r e) ts ≡ true →
     TablesFit (declarations r e) ts → meaning (structure q terms r d ns l no_exs) (M env0 q apart bs) ≡ Some
     (truth (canonical r e (cells_of ts)))
+
+-- A view has as many shapes as tables, and tables that are found by their names are those of the shapes.
+pub record ShapesAreOfTables : Type 0 where
+  pub long : (env0 : Env) (q : ℕ → Text) (apart : (m l : ℕ) → l < m → same_text (q m) (q l) ≡ false) (terms : Terms) →
+      (r : Repr) (d : Dom) (e : Domain) → Ready env0 q apart terms r d e → (ns : List Text) → length (shapes q terms r d ns) ≡ width r
+  pub placed : (env0 : Env) (q : ℕ → Text) (apart : (m l : ℕ) → l < m → same_text (q m) (q l) ≡ false) (terms : Terms) →
+      (r : Repr) (d : Dom) (e : Domain) → Ready env0 q apart terms r d e → (ns : List Text) (ts : Tables) → length ns ≡ width r →
+      FoundBy env0 q apart ns ts → Placed env0 q apart (shapes q terms r d ns) (axes_members r e) ts

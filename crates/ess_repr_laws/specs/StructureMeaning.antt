@@ -1,19 +1,19 @@
 -- What is asked of a view and its tables so that its structure constraint means that the cells are canonical. Reserved names
 -- q 0, q 1 and so on may be bound, each to a value.
-use Rattle.std.specs.Prelude.{◌≡◌, ℕ, ◌<◌, Bool, true, false, ◌&&◌, List, [], ◌∷◌, ◌++◌, map, ℤ, pos, Some}
+use Rattle.std.specs.Prelude.{◌≡◌, ℕ, ◌<◌, Bool, true, false, ◌&&◌, not, List, [], ◌∷◌, ◌++◌, map, ℤ, pos, Some}
 use Rattle.ess_repr_laws.specs.StructureParts.{Shape, Terms}
 use Rattle.ess_semantics.specs.Kinds.{dom_list}
 use Rattle.ess_semantics.specs.Atoms.{IsAtom, AreAtoms}
 use Rattle.ess_repr_laws.specs.Finite.{HaveLists}
-use Rattle.ess_semantics.specs.Domains.{booleans, Attribute, numbered, flagged, Domain, Domains, tuples, records, matrices, sets, functions, relations, domain_list, members, member_list}
+use Rattle.ess_semantics.specs.Domains.{booleans, Attribute, numbered, flagged, Domain, Domains, tuples, records, matrices, sets, msets, functions, relations, domain_list, members, member_list}
 use Rattle.ess_semantics.specs.Layers.{as_cell}
 use Rattle.ess_semantics.specs.Meaning.{Env, members_in, cell_value, meaning, meanings, domain_of, is_bool_dom, attributes_of, as_int}
 use Rattle.ess_semantics.specs.Names.{look}
 use Rattle.ess_semantics.specs.Numbers.{one_to}
 use Rattle.ess_semantics.specs.Order.{same_text}
-use Rattle.ess_semantics.specs.Sizes.{slots_of_set}
+use Rattle.ess_semantics.specs.Sizes.{slots_of_set, slots_of_mset}
 use Rattle.ess_semantics.specs.Tables.{Tables, is_cell}
-use Rattle.ess_semantics.specs.Trees.{Ex, Exs, Dom, Doms, no_doms, more_doms, Mark, Repr, Reprs, repr, no_reprs, more_reprs, tuple_dom, record_dom, matrix_dom, set_dom, function_dom, relation_dom, no_exs, more_exs}
+use Rattle.ess_semantics.specs.Trees.{Ex, Exs, Dom, Doms, no_doms, more_doms, Mark, Repr, Reprs, repr, no_reprs, more_reprs, tuple_dom, record_dom, matrix_dom, set_dom, mset_dom, function_dom, relation_dom, no_exs, more_exs}
 use Rattle.ess_semantics.specs.Values.{Text, Value, number, truth}
 use Rattle.ess_semantics.specs.declared.words.Key.{Key}
 use Rattle.ess_semantics.specs.declared.words.ReprKind.{ReprKind}
@@ -47,6 +47,18 @@ is_total_key k = false
 abbrev pub no_key : Key → Bool
 no_key k = false
 
+-- `minOccur` or `maxOccur`.
+abbrev pub is_times_key : Key → Bool
+is_times_key Key.MinOccur = true
+is_times_key Key.MaxOccur = true
+is_times_key k = false
+
+-- Whether no attribute speaks of how often members occur.
+abbrev pub asks_no_times : List Attribute → Bool
+asks_no_times [] = true
+asks_no_times (numbered k n ∷ ks) = not (is_times_key k) && asks_no_times ks
+asks_no_times (flagged k ∷ ks) = asks_no_times ks
+
 -- Further axes in front, by their members.
 abbrev pub on_members : List (List Value) → List (List (List Value)) → List (List (List Value))
 on_members uss vsss = map (λ vss. uss ++ vss) vsss
@@ -75,6 +87,15 @@ abbrev mutual
   axes_members (repr ReprKind.Function1D (more_reprs r no_reprs)) (functions ks x y) = on_members (member_list x ∷ []) (axes_members r y)
   axes_members (repr ReprKind.FunctionND (more_reprs r no_reprs)) (functions ks (tuples xs) y) = on_members (index_members xs) (axes_members r y)
   axes_members (repr ReprKind.RelationAsMatrix no_reprs) (relations ks xs) = index_members xs ∷ []
+  axes_members (repr ReprKind.Function1DPartial (more_reprs r no_reprs)) (functions ks x y) =
+      (member_list x ∷ []) ∷ on_members (member_list x ∷ []) (axes_members r y)
+  axes_members (repr ReprKind.FunctionNDPartial (more_reprs r no_reprs)) (functions ks (tuples xs) y) =
+      index_members xs ∷ on_members (index_members xs) (axes_members r y)
+  axes_members (repr ReprKind.MSetOccurrence no_reprs) (msets ks e) = (member_list e ∷ []) ∷ []
+  axes_members (repr ReprKind.MSetExplicitWithFlags (more_reprs r no_reprs)) (msets ks e) =
+      slot_numbers (slots_of_mset ks e) ∷ on_members (slot_numbers (slots_of_mset ks e)) (axes_members r e)
+  axes_members (repr ReprKind.MSetExplicitWithRepetition (more_reprs r no_reprs)) (msets ks e) =
+      [] ∷ on_members (slot_numbers (slots_of_mset ks e)) (axes_members r e)
   axes_members _ e = []
 
   -- Those of the views of components.
@@ -96,6 +117,12 @@ module _ (env0 : Env) (q : ℕ → Text) (q-apart : (m l : ℕ) → l < m → sa
   AxesAre [] [] = Unit {0}
   AxesAre (a ∷ as') (vs ∷ vss) = ((bs : Bound) → members_in (domain_of a (M bs)) ≡ Some vs) × AxesAre as' vss
   AxesAre _ vss = ⊥
+
+  -- The tables are found by these names.
+  abbrev pub FoundBy : List Text → Tables → Type 0
+  FoundBy [] [] = Unit {0}
+  FoundBy (n ∷ ns) (t ∷ ts) = (look env0.cells n ≡ Some t) × FoundBy ns ts
+  FoundBy _ ts = ⊥
 
   -- The tables of a part, with the members of their axes.
   abbrev pub Placed : List Shape → List (List (List Value)) → Tables → Type 0
@@ -145,6 +172,17 @@ module _ (env0 : Env) (q : ℕ → Text) (q-apart : (m l : ℕ) → l < m → sa
         AxesAre env0 q q-apart (dom_list ds) (index_members xs) × Attributes ms es ks × Ready r c y
     Ready (repr ReprKind.RelationAsMatrix no_reprs) (relation_dom ms es ds) (relations ks xs) =
         AreAtoms xs × (has_flags_among no_key ks ≡ true) × AxesAre env0 q q-apart (dom_list ds) (index_members xs) × Attributes ms es ks
+    Ready (repr ReprKind.Function1DPartial (more_reprs r no_reprs)) (function_dom ms es d c) (functions ks x y) =
+        IsAtom x × (has_flags_among no_key ks ≡ true) × AxesAre env0 q q-apart (d ∷ []) (member_list x ∷ []) × Attributes ms es ks × Ready r c y
+    Ready (repr ReprKind.FunctionNDPartial (more_reprs r no_reprs)) (function_dom ms es (tuple_dom ds) c) (functions ks (tuples xs) y) =
+        AreAtoms xs × (has_flags_among no_key ks ≡ true) × AxesAre env0 q q-apart (dom_list ds) (index_members xs) × Attributes ms es ks ×
+        Ready r c y
+    Ready (repr ReprKind.MSetOccurrence no_reprs) (mset_dom ms es d) (msets ks e) =
+        IsAtom e × AxesAre env0 q q-apart (d ∷ []) (member_list e ∷ []) × Attributes ms es ks
+    Ready (repr ReprKind.MSetExplicitWithFlags (more_reprs r no_reprs)) (mset_dom ms es d) (msets ks e) =
+        Attributes ms es ks × SlotsAre (mset_dom ms es d) (slots_of_mset ks e) × Ready r d e
+    Ready (repr ReprKind.MSetExplicitWithRepetition (more_reprs r no_reprs)) (mset_dom ms es d) (msets ks e) =
+        Attributes ms es ks × SlotsAre (mset_dom ms es d) (slots_of_mset ks e) × (asks_no_times ks ≡ true) × Ready r d e
     Ready _ d e = ⊥
 
     -- The same of components.

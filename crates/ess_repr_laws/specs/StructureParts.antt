@@ -87,6 +87,17 @@ module _ (q : ℕ → Text) where
   less_ex l (s ∷ ss) is js =
       or_ex (ex2 true Op2.LexLt (row_ex l s is) (row_ex l s js)) (and_ex (ex2 true Op2.LexLe (row_ex l s is) (row_ex l s js)) (less_ex l ss is js))
 
+  -- They are below, or equal.
+  abbrev pub at_most_ex : ℕ → List Shape → Exs → Exs → Ex
+  at_most_ex l [] is js = truth_ex true
+  at_most_ex l (s ∷ ss) is js =
+      or_ex (ex2 true Op2.LexLt (row_ex l s is) (row_ex l s js)) (and_ex (ex2 true Op2.LexLe (row_ex l s is) (row_ex l s js)) (at_most_ex l ss is js))
+
+  -- Below, where two slots must differ; else also equal.
+  abbrev pub rise_ex : Bool → ℕ → List Shape → Exs → Exs → Ex
+  rise_ex true l ss is js = less_ex l ss is js
+  rise_ex false l ss is js = at_most_ex l ss is js
+
   -- A cell is 0 or false.
   abbrev pub out_ex : Bool → Text → Exs → Ex
   out_ex true n is = ex1 true Op1.Not (cell_ex true n is)
@@ -148,6 +159,36 @@ module _ (q : ℕ → Text) where
   abbrev pub total_ex : ℕ → List Mark → Exs → List Dom → Ex → Ex
   total_ex l ms es as' part = and_ex (each_ex l as' part) (size_ex ms es (place_count_ex l as'))
 
+  -- A flag and a value at each place: where the flag is true the value is canonical (part), elsewhere its cells are 0 or false.
+  abbrev pub partial_ex : ℕ → List Mark → Exs → List Dom → Text → Exs → List Shape → Ex → Ex
+  partial_ex l ms es as' n is ss part =
+      let flag : Ex = cell_ex true n (row_index l as' is) in
+      and_ex (each_ex l as' (and_ex (implies_ex flag part) (implies_ex (ex1 true Op1.Not flag) (zeros_ex (level_behind l as') ss (row_index l as' is)))))
+      (size_ex ms es (true_count_ex l as' n is))
+
+  -- The sum of the numbers of a table.
+  abbrev pub number_sum_ex : ℕ → List Dom → Text → Exs → Ex
+  number_sum_ex l as' n is = fun1 false Fun.Sum (comp_ex (cell_ex false n (row_index l as' is)) (row_gens l as'))
+
+  -- An attribute with the number e asks of each number of times that isn't 0: at least e, or at most.
+  abbrev pub times_of_ex : ℕ → Key → Ex → List Dom → Text → Exs → Ex
+  times_of_ex l Key.MinOccur e as' n is =
+      each_ex l as' (or_ex (ex2 true Op2.Eq (number_ex (pos 0)) (cell_ex false n (row_index l as' is))) (le_ex e (cell_ex false n (row_index l as' is))))
+  times_of_ex l Key.MaxOccur e as' n is =
+      each_ex l as' (or_ex (ex2 true Op2.Eq (number_ex (pos 0)) (cell_ex false n (row_index l as' is))) (le_ex (cell_ex false n (row_index l as' is)) e))
+  times_of_ex l _ e as' n is = truth_ex true
+
+  -- All attributes.
+  abbrev pub times_ex : ℕ → List Mark → Exs → List Dom → Text → Exs → Ex
+  times_ex l [] es as' n is = truth_ex true
+  times_ex l (flag k ∷ ms) es as' n is = times_ex l ms es as' n is
+  times_ex l (valued k ∷ ms) no_exs as' n is = truth_ex true
+  times_ex l (valued k ∷ ms) (more_exs e es) as' n is = and_ex (times_of_ex l k e as' n is) (times_ex l ms es as' n is)
+
+  -- What the attributes of a multiset ask of a table that says how often each member occurs.
+  abbrev pub counts_ex : ℕ → List Mark → Exs → List Dom → Text → Exs → Ex
+  counts_ex l ms es as' n is = and_ex (size_ex ms es (number_sum_ex l as' n is)) (times_ex l ms es as' n is)
+
   -- Slots with flags.
   abbrev pub flags_ex : ℕ → List Mark → Exs → Ex → Text → List Shape → Exs → Ex → Ex
   flags_ex l ms es size n ss is part =
@@ -156,6 +197,21 @@ module _ (q : ℕ → Text) where
       and_ex (and_ex (first_ex l size here next)
       (use_ex l size here next (less_ex (suc l) ss (add_ex is (name_ex (q l))) (add_ex is (next_ex l))) ss is part))
       (size_ex ms es (true_count_ex l (upto size ∷ []) n is))
+
+  -- Slots with numbers of times.
+  abbrev pub counted_ex : ℕ → List Mark → Exs → Ex → Text → List Shape → Exs → Ex → Ex
+  counted_ex l ms es size n ss is part =
+      let here : Ex = le_ex (number_ex (pos 1)) (cell_ex false n (add_ex is (name_ex (q l)))) in
+      let next : Ex = le_ex (number_ex (pos 1)) (cell_ex false n (add_ex is (next_ex l))) in
+      and_ex (and_ex (first_ex l size here next)
+      (use_ex l size here next (less_ex (suc l) ss (add_ex is (name_ex (q l))) (add_ex is (next_ex l))) ss is part))
+      (counts_ex l ms es (upto size ∷ []) n is)
+
+  -- Slots up to a marker, in which equal members may stand.
+  abbrev pub repetition_ex : ℕ → List Mark → Exs → Ex → Text → List Shape → Exs → Ex → Ex
+  repetition_ex l ms es size n ss is part =
+      and_ex (use_ex l size (le_ex (name_ex (q l)) (cell_ex false n is)) (le_ex (next_ex l) (cell_ex false n is))
+      (at_most_ex (suc l) ss (add_ex is (name_ex (q l))) (add_ex is (next_ex l))) ss is part) (size_ex ms es (cell_ex false n is))
 
   -- Which members occur.
   abbrev pub occurrence_ex : ℕ → List Mark → Exs → Dom → Text → Exs → Ex

@@ -1,6 +1,6 @@
 //! Laws of canonical tables, each the contract of a function that does nothing.
 
-ghost use Rattle.ess_repr_laws.specs.Laws.{MembersHaveCanonicalTables, JudgedDomainsAreWell, CanonicalTablesAreOne, CanonicalCellsAreRight, BoundsAreRight, PositionsStandForTypes, PlansStandForMembers, LayersAreComposed, StructuresMeanCanonical};
+ghost use Rattle.ess_repr_laws.specs.Laws.{MembersHaveCanonicalTables, JudgedDomainsAreWell, CanonicalTablesAreOne, CanonicalCellsAreRight, BoundsAreRight, PositionsStandForTypes, PlansStandForMembers, LayersAreComposed, StructuresMeanCanonical, ShapesAreOfTables};
 
 /// Each member of a domain has canonical tables under a representation that fits the domain: they are over exactly the declared
 /// axes, in the declared domains, canonical, stand for the member, and are the only ones.
@@ -46,4 +46,9 @@ pub fn layers_are_composed()
 /// The structure constraint of a view means that its cells are canonical.
 pub fn structures_mean_canonical()
     ensures { StructuresMeanCanonical }
+{}
+
+/// A view has as many shapes as tables, and tables that are found by their names are those of the shapes.
+pub fn shapes_are_of_tables()
+    ensures { ShapesAreOfTables }
 {}
