@@ -42,7 +42,8 @@ behind-unless false c env P f t g = (t, g)
 pub safe-total : (b : Bool) (op : Op) (es : Exs) (env : Env) → is_safe op ≡ true → TotalAll es env → Total (node_ex b op es) env
 safe-total b op es env s t = ((λ h. node-some op (meanings es env) s h), t)
 
-conds-total : (cs : List Ex) (env : Env) (b : Ex) → Behind cs env (Total b env) → TotalUnder (conds cs) env (λ here. Total b here)
+-- Conditions as generators.
+pub conds-total : (cs : List Ex) (env : Env) (b : Ex) → Behind cs env (Total b env) → TotalUnder (conds cs) env (λ here. Total b here)
 conds-total [] env b t = t
 conds-total (c ∷ cs) env b t = (t.0, λ q. conds-total cs env b (t.1 q))
 

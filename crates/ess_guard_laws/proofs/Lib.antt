@@ -16,4 +16,7 @@ pub mod TotalRows
 pub mod KnownNames
 pub mod Arguments
 pub mod Totals
+pub mod Flat
+pub mod Terms
+pub mod TotalLaws
 pub mod Examples

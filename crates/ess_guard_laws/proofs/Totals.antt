@@ -182,7 +182,8 @@ module _ (x y : Text) (pl : Bool) (ts : List TypeEntry) (cs : Names Table) where
   asks-none (cell_ex b n es) k t = ap (λ z. if z then [] else Cs k es) t
   asks-none (seen_ex r d ns es) k t = refl
 
-  asked-none : (e : Ex) (k : Names Origin) (env : Env) (P : Type 0) → asks_nothing e ≡ true → Behind (C k e) env P → P
+  -- What asks for nothing stands under no conditions.
+  pub asked-none : (e : Ex) (k : Names Origin) (env : Env) (P : Type 0) → asks_nothing e ≡ true → Behind (C k e) env P → P
   asked-none e k env P t b = subst (λ l. Behind l env P) (asks-none e k t) b
 
   mutual

@@ -1,6 +1,7 @@
 -- Trees whose partial operators are all among those that are known to be total under their conditions.
 use Rattle.std.specs.Prelude.{◌≡◌, Bool, true, false, ◌||◌, List, [], ◌∷◌}
 use Rattle.ess_semantics.specs.Trees.{Step, by_value, Op, index, application, function_literal, partition_literal, Ex, Exs, number_ex, truth_ex, name_ex, node_ex, matrix_ex, comp_ex, cell_ex, seen_ex, no_exs, more_exs, Gens, no_gens, over, from, cond, Dom, Doms, bool_dom, int_dom, name_dom, tuple_dom, record_dom, matrix_dom, set_dom, mset_dom, function_dom, relation_dom, partition_dom, no_doms, more_doms}
+use Rattle.ess_semantics.specs.Meaning.{is_bool_dom}
 use Rattle.ess_guard_laws.specs.Guard.{connects}
 
 -- No step is by a value.
@@ -16,6 +17,14 @@ covers application = false
 covers function_literal = false
 covers partition_literal = false
 covers op = true
+
+-- Whether the expression is marked as a Boolean.
+abbrev pub is_boolean : Ex → Bool
+is_boolean (truth_ex b) = true
+is_boolean (node_ex b op es) = b
+is_boolean (cell_ex b n es) = b
+is_boolean (seen_ex r d ns es) = is_bool_dom d
+is_boolean e = false
 
 -- Whether the expression asks for no condition: a Boolean, a number, a name, a view.
 abbrev pub asks_nothing : Ex → Bool
