@@ -10,4 +10,13 @@ pub mod Rows
 pub mod Meanings
 pub mod MetRows
 pub mod StructuresMet
+pub mod Safe
+pub mod Behind
+pub mod TotalRows
+pub mod KnownNames
+pub mod Arguments
+pub mod Totals
+pub mod Flat
+pub mod Terms
+pub mod TotalLaws
 pub mod Examples

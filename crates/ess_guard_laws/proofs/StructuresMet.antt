@@ -46,7 +46,8 @@ module _ (natural : Bool) (x y : Text) where
   abbrev pub same : (e : Ex) (k : Names Origin) (env : Env) → meaning (G k e) env ≡ meaning e env
   same = M.same natural x y (own-holds x y) (matrix-holds x)
 
-  abbrev same-dom : (d : Dom) (k : Names Origin) (env : Env) → domain_of (guarded_dom natural x y k d) env ≡ domain_of d env
+  -- A domain too.
+  abbrev pub same-dom : (d : Dom) (k : Names Origin) (env : Env) → domain_of (guarded_dom natural x y k d) env ≡ domain_of d env
   same-dom = M.same-dom natural x y (own-holds x y) (matrix-holds x)
 
   -- The conditions of a node's operands and its own.

@@ -7,7 +7,7 @@ use Rattle.ess_semantics.specs.declared.words.ReprKind.{ReprKind}
 use Rattle.ess_semantics.specs.Values.{Text}
 use Rattle.ess_semantics.specs.Order.{same_int}
 use Rattle.ess_semantics.specs.Names.{Names}
-use Rattle.ess_semantics.specs.Trees.{Step, by_value, to_component, to_field, Op, binary, word, index, tuple_literal, set_literal, mset_literal, function_literal, partition_literal, matrix_literal, both_ends, repr, name_pat, Ex, Exs, number_ex, truth_ex, name_ex, node_ex, comp_ex, seen_ex, no_exs, more_exs, Gens, no_gens, over, from, cond, Dom, int_dom, function_dom, ex2, fun1}
+use Rattle.ess_semantics.specs.Trees.{Step, by_value, to_component, to_field, Op, binary, word, index, tuple_literal, set_literal, mset_literal, function_literal, partition_literal, matrix_literal, both_ends, repr, more_reprs, name_pat, Ex, Exs, number_ex, truth_ex, name_ex, node_ex, comp_ex, seen_ex, no_exs, more_exs, Gens, no_gens, over, from, cond, Dom, int_dom, function_dom, ex2, fun1}
 use Rattle.ess_guard_laws.specs.Origins.{Origin, is_number, is_sure}
 use Rattle.ess_guard_laws.specs.IndexDomains.{number_of, index_dom}
 
@@ -101,8 +101,7 @@ some_item x s = unless (has_items s) (has_item x s)
 
 -- Whether it is a total function that is kept for each argument of its domain, and the argument is sure to be one.
 abbrev pub is_argument : Names Origin → Ex → Ex → Bool
-is_argument k (seen_ex (repr ReprKind.Function1D rs) (function_dom ms es d c) ns is) a = is_sure k a d
-is_argument k (seen_ex (repr ReprKind.FunctionND rs) (function_dom ms es d c) ns is) a = is_sure k a d
+is_argument k (seen_ex (repr ReprKind.Function1D (more_reprs r rs)) (function_dom ms es d c) ns is) a = is_sure k a d
 is_argument k f a = false
 
 -- `a in defined(f)`

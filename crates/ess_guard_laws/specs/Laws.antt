@@ -1,15 +1,21 @@
 -- Laws of undefined terms, each stated at a function that does nothing, so that its proof is checked with the code. x and y
 -- are names that are bound where a condition needs one; for meanings it doesn't count what they are.
-use Rattle.std.specs.Prelude.{◌≡◌, IsTrue, is_some}
-use Rattle.ess_semantics.specs.Values.{Text}
+use Rattle.std.specs.Prelude.{◌≡◌, true, List, ℤ, Some, IsTrue, is_some}
+use Rattle.ess_semantics.specs.Values.{Text, number, truth}
 use Rattle.ess_semantics.specs.Names.{Names}
 use Rattle.ess_semantics.specs.Trees.{Ex}
 use Rattle.ess_semantics.specs.Types.{Ty}
+use Rattle.ess_semantics.specs.Plans.{Plan}
+use Rattle.ess_semantics.specs.Models.{is_flat, with_cells}
 use Rattle.ess_semantics.specs.Meaning.{Env, meaning}
 use Rattle.ess_semantics.specs.Meets.{Meets}
 use Rattle.ess_semantics.specs.Kept.{Kept}
-use Rattle.ess_guard_laws.specs.Guard.{there, has_value, make_total, make_natural}
+use Rattle.ess_semantics.specs.Totality.{Total}
+use Rattle.ess_guard_laws.specs.Guard.{there, has_value, make_total, make_natural, make_total_term}
 use Rattle.ess_guard_laws.specs.Holds.{Hold}
+use Rattle.ess_guard_laws.specs.Covered.{is_boolean, asks_nothing, Covered}
+
+-- ---- meanings
 
 -- Where a term has a value its conditions hold.
 abbrev pub ConditionsHoldAtValues : Type 0
@@ -30,3 +36,33 @@ GuardedIsKept = (x y : Text) (g : Names Ty) (e : Ex) → Kept g e (make_total x 
 -- So it is where quotients, remainders, powers and cells stand as they are in natural places.
 abbrev pub NaturalIsKept : Type 0
 NaturalIsKept = (x y : Text) (g : Names Ty) (e : Ex) → Kept g e (make_natural x y e)
+
+-- ---- totality
+
+-- A guarded Boolean is total, in every env.
+abbrev pub GuardedIsTotal : Type 0
+GuardedIsTotal = (x y : Text) (e : Ex) (env : Env) → Covered e → IsTrue (asks_nothing e) → Total (make_total x y e) env
+
+-- The conditions of a term, each under those before it, are total; and where they hold the term is: each operator in it has
+-- a value where its operands have one.
+pub record ConditionsMakeTotal : Type 0 where
+  pub conditions : (x y : Text) (e : Ex) (env : Env) → Covered e → Total (has_value x y e) env
+  pub term : (x y : Text) (e : Ex) (env : Env) → Covered e → Hold (there x y e) env → Total (make_total x y e) env
+
+-- The two answers for a number: it is true that it has a value where it has one, the number keeps its value there, and both
+-- are total everywhere.
+pub record NumbersUnderConditions : Type 0 where
+  pub there : (x y : Text) (e : Ex) (env : Env) (n : ℤ) → meaning e env ≡ Some (number n) → meaning ((make_total_term x y true e).0) env ≡ Some (truth true)
+  pub value : (x y : Text) (e : Ex) (env : Env) (n : ℤ) → meaning e env ≡ Some (number n) → meaning ((make_total_term x y true e).1) env ≡ Some (number n)
+  pub total : (x y : Text) (e : Ex) (env : Env) → Covered e → Total ((make_total_term x y true e).0) env × Total ((make_total_term x y true e).1) env
+
+-- ---- what stays
+
+-- Flat constraints over cells stay as they are.
+abbrev pub FlatConstraintsStay : Type 0
+FlatConstraintsStay = (x y : Text) (ps : List Plan) (e : Ex) → IsTrue (is_flat ps e) →
+    (make_total x y (with_cells ps e) ≡ with_cells ps e) × (make_natural x y (with_cells ps e) ≡ with_cells ps e)
+
+-- A Boolean is marked as one still, and nothing else is.
+abbrev pub MarksStay : Type 0
+MarksStay = (x y : Text) (e : Ex) → (is_boolean (make_total x y e) ≡ is_boolean e) × (is_boolean (make_natural x y e) ≡ is_boolean e)

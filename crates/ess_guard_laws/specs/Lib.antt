@@ -3,4 +3,5 @@ pub mod IndexDomains
 pub mod Conditions
 pub mod Guard
 pub mod Holds
+pub mod Covered
 pub mod Laws

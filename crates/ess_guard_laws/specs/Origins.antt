@@ -6,7 +6,7 @@ use Rattle.ess_semantics.specs.declared.words.Op2.{Op2}
 use Rattle.ess_semantics.specs.declared.words.Fun.{Fun}
 use Rattle.ess_semantics.specs.Order.{same_int, same_text}
 use Rattle.ess_semantics.specs.Names.{Names, look}
-use Rattle.ess_semantics.specs.Trees.{unary, binary, word, tuple_literal, Ends, one_value, both_ends, low_end, high_end, Pat, Pats, name_pat, tuple_pat, no_pats, more_pats, Ex, Exs, number_ex, name_ex, node_ex, cell_ex, no_exs, more_exs, Gens, no_gens, over, from, cond, Dom, Doms, bool_dom, int_dom, tuple_dom, no_doms, more_doms}
+use Rattle.ess_semantics.specs.Trees.{unary, binary, word, Ends, one_value, both_ends, low_end, high_end, Pat, Pats, name_pat, tuple_pat, no_pats, more_pats, Ex, Exs, number_ex, name_ex, node_ex, cell_ex, no_exs, more_exs, Gens, no_gens, over, from, cond, Dom, bool_dom, int_dom}
 
 -- ---- names
 
@@ -26,18 +26,10 @@ abbrev mutual
   with_all_any no_pats k = k
   with_all_any (more_pats p ps) k = with_all_any ps (with_any p k)
 
-abbrev mutual
-  -- The names with those that a pattern binds over a domain.
-  pub with_over : Pat → Dom → Names Origin → Names Origin
-  with_over (name_pat a) d k = (a, runs_over d) ∷ k
-  with_over (tuple_pat ps) (tuple_dom ds) k = with_all_over ps ds k
-  with_over (tuple_pat ps) d k = with_all_any ps k
-
-  -- The same of several patterns over the components of a tuple.
-  pub with_all_over : Pats → Doms → Names Origin → Names Origin
-  with_all_over no_pats ds k = k
-  with_all_over (more_pats p ps) no_doms k = with_all_over ps no_doms (with_any p k)
-  with_all_over (more_pats p ps) (more_doms d ds) k = with_all_over ps ds (with_over p d k)
+-- The names with those that a pattern binds over a domain. Of the names of a tuple nothing is known.
+abbrev pub with_over : Pat → Dom → Names Origin → Names Origin
+with_over (name_pat a) d k = (a, runs_over d) ∷ k
+with_over (tuple_pat ps) d k = with_all_any ps k
 
 -- The names behind generators.
 abbrev pub known_behind : Gens → Names Origin → Names Origin
@@ -133,17 +125,9 @@ abbrev pub comes_from : Option Origin → Dom → Bool
 comes_from (Some (runs_over d)) e = lies_within d e
 comes_from o e = false
 
-abbrev mutual
-  -- Whether the term is sure to be a member of the domain, by its form alone: a number in a range of numbers, a name that
-  -- runs over the domain, a tuple of such terms.
-  pub is_sure : Names Origin → Ex → Dom → Bool
-  is_sure k (number_ex n) (int_dom (both_ends ∷ []) (more_exs (number_ex a) (more_exs (number_ex b) no_exs))) = holds_range a b n n
-  is_sure k (name_ex a) d = comes_from (look k a) d
-  is_sure k (node_ex false tuple_literal es) (tuple_dom ds) = are_sure k es ds
-  is_sure k e d = false
-
-  -- The same of several terms and domains.
-  pub are_sure : Names Origin → Exs → Doms → Bool
-  are_sure k no_exs no_doms = true
-  are_sure k (more_exs e es) (more_doms d ds) = is_sure k e d && are_sure k es ds
-  are_sure k es ds = false
+-- Whether the term is sure to be a member of the domain, by its form alone: a number in a range of numbers, or a name that
+-- runs over the domain.
+abbrev pub is_sure : Names Origin → Ex → Dom → Bool
+is_sure k (number_ex n) (int_dom (both_ends ∷ []) (more_exs (number_ex a) (more_exs (number_ex b) no_exs))) = holds_range a b n n
+is_sure k (name_ex a) d = comes_from (look k a) d
+is_sure k e d = false

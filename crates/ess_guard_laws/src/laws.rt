@@ -1,6 +1,6 @@
 //! Laws of undefined terms, each the contract of a function that does nothing.
 
-ghost use Rattle.ess_guard_laws.specs.Laws.{ConditionsHoldAtValues, ConditionsAreMet, GuardingKeepsMeanings, GuardedIsKept, NaturalIsKept};
+ghost use Rattle.ess_guard_laws.specs.Laws.{ConditionsHoldAtValues, ConditionsAreMet, GuardingKeepsMeanings, GuardedIsKept, NaturalIsKept, GuardedIsTotal, ConditionsMakeTotal, NumbersUnderConditions, FlatConstraintsStay, MarksStay};
 
 /// Where a term has a value its conditions hold.
 pub fn conditions_hold_at_values()
@@ -25,4 +25,29 @@ pub fn guarded_is_kept()
 /// So it is where quotients, remainders, powers and cells stand as they are in natural places.
 pub fn natural_is_kept()
     ensures { NaturalIsKept }
+{}
+
+/// A guarded Boolean is total, in every env.
+pub fn guarded_is_total()
+    ensures { GuardedIsTotal }
+{}
+
+/// The conditions of a term, each under those before it, are total; and where they hold the term is.
+pub fn conditions_make_total()
+    ensures { ConditionsMakeTotal }
+{}
+
+/// The two answers for a number: that it has a value, and the number under its conditions.
+pub fn numbers_under_conditions()
+    ensures { NumbersUnderConditions }
+{}
+
+/// Flat constraints over cells stay as they are.
+pub fn flat_constraints_stay()
+    ensures { FlatConstraintsStay }
+{}
+
+/// A Boolean is marked as one still, and nothing else is.
+pub fn marks_stay()
+    ensures { MarksStay }
 {}

@@ -1,0 +1,83 @@
+-- Trees whose partial operators are all among those that are known to be total under their conditions.
+use Rattle.std.specs.Prelude.{◌≡◌, Bool, true, false, ◌||◌, List, [], ◌∷◌}
+use Rattle.ess_semantics.specs.Trees.{Step, by_value, Op, index, application, function_literal, partition_literal, Ex, Exs, number_ex, truth_ex, name_ex, node_ex, matrix_ex, comp_ex, cell_ex, seen_ex, no_exs, more_exs, Gens, no_gens, over, from, cond, Dom, Doms, bool_dom, int_dom, name_dom, tuple_dom, record_dom, matrix_dom, set_dom, mset_dom, function_dom, relation_dom, partition_dom, no_doms, more_doms}
+use Rattle.ess_semantics.specs.Meaning.{is_bool_dom}
+use Rattle.ess_guard_laws.specs.Guard.{connects}
+
+-- No step is by a value.
+abbrev pub no_values : List Step → Bool
+no_values [] = true
+no_values (by_value ∷ qs) = false
+no_values (q ∷ qs) = no_values qs
+
+-- The operators that are.
+abbrev pub covers : Op → Bool
+covers (index qs) = no_values qs
+covers application = false
+covers function_literal = false
+covers partition_literal = false
+covers op = true
+
+-- Whether the expression is marked as a Boolean.
+abbrev pub is_boolean : Ex → Bool
+is_boolean (truth_ex b) = true
+is_boolean (node_ex b op es) = b
+is_boolean (cell_ex b n es) = b
+is_boolean (seen_ex r d ns es) = is_bool_dom d
+is_boolean e = false
+
+-- Whether the expression asks for no condition: a Boolean, a number, a name, a view.
+abbrev pub asks_nothing : Ex → Bool
+asks_nothing (node_ex b op es) = b || connects op
+asks_nothing (matrix_ex es d) = false
+asks_nothing (comp_ex e gs) = false
+asks_nothing (cell_ex b n es) = b
+asks_nothing e = true
+
+-- Operands of connectives are so.
+abbrev pub AskNothing : Bool → Exs → Type 0
+AskNothing true (more_exs e es) = (asks_nothing e ≡ true) × AskNothing true es
+AskNothing b es = Unit {0}
+
+abbrev mutual
+  -- Each operator of the tree is one of these, and operands of connectives and conditions are Booleans.
+  pub Covered : Ex → Type 0
+  Covered (number_ex n) = Unit {0}
+  Covered (truth_ex b) = Unit {0}
+  Covered (name_ex a) = Unit {0}
+  Covered (node_ex b op es) = (covers op ≡ true) × AskNothing (connects op) es × CoveredAll es
+  Covered (matrix_ex es d) = ⊥
+  Covered (comp_ex e gs) = Covered e × CoveredGens gs
+  Covered (cell_ex b n es) = CoveredAll es
+  Covered (seen_ex r d ns es) = Unit {0}
+
+  -- The same of operands.
+  pub CoveredAll : Exs → Type 0
+  CoveredAll no_exs = Unit {0}
+  CoveredAll (more_exs e es) = Covered e × CoveredAll es
+
+  -- The same of generators.
+  pub CoveredGens : Gens → Type 0
+  CoveredGens no_gens = Unit {0}
+  CoveredGens (over p d gs) = CoveredDom d × CoveredGens gs
+  CoveredGens (from p e gs) = Covered e × CoveredGens gs
+  CoveredGens (cond c gs) = (asks_nothing c ≡ true) × Covered c × CoveredGens gs
+
+  -- The same of a domain.
+  pub CoveredDom : Dom → Type 0
+  CoveredDom bool_dom = Unit {0}
+  CoveredDom (int_dom rs es) = CoveredAll es
+  CoveredDom (name_dom a) = Unit {0}
+  CoveredDom (tuple_dom ds) = CoveredDoms ds
+  CoveredDom (record_dom fs ds) = CoveredDoms ds
+  CoveredDom (matrix_dom is d) = CoveredDoms is × CoveredDom d
+  CoveredDom (set_dom ms es d) = CoveredAll es × CoveredDom d
+  CoveredDom (mset_dom ms es d) = CoveredAll es × CoveredDom d
+  CoveredDom (function_dom ms es d c) = CoveredAll es × CoveredDom d × CoveredDom c
+  CoveredDom (relation_dom ms es ds) = CoveredAll es × CoveredDoms ds
+  CoveredDom (partition_dom ms es d) = CoveredAll es × CoveredDom d
+
+  -- The same of several domains.
+  pub CoveredDoms : Doms → Type 0
+  CoveredDoms no_doms = Unit {0}
+  CoveredDoms (more_doms d ds) = CoveredDom d × CoveredDoms ds
