@@ -82,8 +82,7 @@ fn lettings(alloc: Global) -> Result<Lettings, NoMemory> {
     let number = Text::from_str(alloc, "n")?;
     let name = Text::from_str(alloc, "E")?;
     let values = Row::from_array(alloc, [Text::from_str(alloc, "a")?])?;
-    let value = Boxed::new(alloc, Ex::Num(3))?;
-    let first = Letting::Value(number, value);
+    let first = Letting::Value(number, Ex::Num(3));
     let list = Row::from_array(alloc, [first, Letting::Enum(name, values)])?;
     Ok(Lettings { list })
 }

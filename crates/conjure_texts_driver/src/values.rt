@@ -24,7 +24,7 @@ fn file(alloc: Global, text: &str) -> Result<Text, NoMemory> {
 /// The expression of the first letting.
 fn first(file: &Lettings) -> Option<&Ex> {
     match file.list.first() {
-        Some(Letting::Value(_, ex)) => Some(ex.get()),
+        Some(Letting::Value(_, ex)) => Some(ex),
         _ => None,
     }
 }
