@@ -3,41 +3,38 @@ use Rattle.std.specs.Prelude.{◌≡◌, refl, true, false, [], ◌∷◌, pos, 
 use Rattle.ess_semantics.specs.declared.words.Op1.{Op1}
 use Rattle.ess_semantics.specs.declared.words.Op2.{Op2}
 use Rattle.ess_semantics.specs.declared.words.Fun.{Fun}
-use Rattle.ess_semantics.specs.Values.{Text, a_tuple, a_record, truth, number, a_set, a_mset}
+use Rattle.ess_semantics.specs.Values.{Text, truth, number, a_set, a_mset}
 use Rattle.ess_semantics.specs.Names.{Names}
-use Rattle.ess_semantics.specs.Trees.{truth_ex, name_pat, set_literal, mset_literal, matrix_literal, Ex, node_ex, comp_ex, ex1, no_exs, no_gens, from, cond}
-use Rattle.ess_semantics.specs.Types.{Ty, bool_ty, int_ty, compound, compound1, no_tys, more_tys}
+use Rattle.ess_semantics.specs.Trees.{name_pat, set_literal, mset_literal, matrix_literal, Ex, node_ex, comp_ex, ex1, no_exs, no_gens, from, cond}
+use Rattle.ess_semantics.specs.Types.{Ty, int_ty, compound1}
 use Rattle.ess_semantics.specs.Meaning.{empty_env, meaning}
 use Rattle.ess_semantics.proofs.Shorthands.{N, n, es1, es2, bi, fn}
 use Rattle.ess_rules_laws.specs.FoldRules.{fold_alone, fold_nothing, fold_one, fold_term}
 use Rattle.ess_rules_laws.specs.MembershipRules.{member_term, member_combined, member_changed, member_listed}
 use Rattle.ess_rules_laws.specs.InclusionRules.{every, frequency, unequal, included_turned, included_strictly, included_members, included_often, equal_members, equal_often}
-use Rattle.ess_rules_laws.specs.ComponentRules.{component_of, equal_components, field_of, equal_fields}
 use Rattle.ess_rules_laws.specs.SizeRules.{size_term, frequency_term}
-use Rattle.ess_rules_laws.specs.GeneratorRules.{generate}
-use Rattle.ess_rules_laws.specs.SpliceRules.{splice}
 use Rattle.ess_rules_laws.specs.Listings.{those, listing}
 
-abbrev a : Text
+abbrev pub a : Text
 a = codes "a"
 
-abbrev b : Text
+abbrev pub b : Text
 b = codes "b"
 
-abbrev c : Text
+abbrev pub c : Text
 c = codes "c"
 
-abbrev x : Text
+abbrev pub x : Text
 x = codes "x"
 
-abbrev y : Text
+abbrev pub y : Text
 y = codes "y"
 
 -- sets a and b, a multiset c
-abbrev g : Names Ty
+abbrev pub g : Names Ty
 g = (a, compound1 a_set int_ty) ∷ (b, compound1 a_set int_ty) ∷ (c, compound1 a_mset int_ty) ∷ []
 
-abbrev set2 : Ex → Ex → Ex
+abbrev pub set2 : Ex → Ex → Ex
 set2 p q = node_ex false set_literal (es2 p q)
 
 -- ---- folds
@@ -82,13 +79,13 @@ in_two : member_listed (bi Op2.Member (N x) (set2 (n 1) (n 2))) ≡ Some (fn Fun
 in_two = refl
 
 -- a term without a value
-abbrev nothing : Ex
+abbrev pub nothing : Ex
 nothing = bi Op2.Div (n 1) (n 0)
 
-abbrev nowhere : Ex
+abbrev pub nowhere : Ex
 nowhere = node_ex false set_literal (es1 nothing)
 
-abbrev one_set : Ex
+abbrev pub one_set : Ex
 one_set = node_ex false set_literal (es1 (n 1))
 
 -- `1 in ({1} union {1/0})` is false, and `1 in {1} \/ 1 in {1/0}` is true
@@ -168,57 +165,3 @@ difference_listed = refl
 -- a difference of numbers has no listing
 numbers_not_listed : listing g x (bi Op2.Minus (n 2) (n 1)) ≡ None
 numbers_not_listed = refl
-
--- ---- components
-
--- a pair of a number and a truth value
-abbrev pair_ty : Ty
-pair_ty = compound a_tuple (more_tys int_ty (more_tys bool_ty no_tys))
-
-pairs_equal : equal_components ((x, pair_ty) ∷ (y, pair_ty) ∷ []) a (bi Op2.Eq (N x) (N y))
-    ≡ Some (bi Op2.And (bi Op2.Eq (component_of int_ty 1 (N x)) (component_of int_ty 1 (N y)))
-    (bi Op2.And (bi Op2.Eq (component_of bool_ty 2 (N x)) (component_of bool_ty 2 (N y))) (truth_ex true)))
-pairs_equal = refl
-
--- Where x and y have no value `x = y` is false, and `x[1] = y[1]` of truth values is true.
-components_without_value : (meaning (bi Op2.Eq (N x) (N y)) empty_env ≡ Some (truth false))
-    × (meaning (bi Op2.Eq (component_of bool_ty 1 (N x)) (component_of bool_ty 1 (N y))) empty_env ≡ Some (truth true))
-components_without_value = (refl, refl)
-
-abbrev record_ty : Ty
-record_ty = compound (a_record (a ∷ b ∷ [])) (more_tys int_ty (more_tys int_ty no_tys))
-
-records_equal : equal_fields ((x, record_ty) ∷ (y, record_ty) ∷ []) c (bi Op2.Eq (N x) (N y))
-    ≡ Some (bi Op2.And (bi Op2.Eq (field_of int_ty a (N x)) (field_of int_ty a (N y))) (bi Op2.And (bi Op2.Eq (field_of int_ty b (N x)) (field_of int_ty b (N y))) (truth_ex true)))
-records_equal = refl
-
--- ---- splices
-
--- `[x + 1 | x <- [y * 2 | y <- a], x = 4]`
-spliced : splice (comp_ex (bi Op2.Plus (N x) (n 1)) (from (name_pat x) (comp_ex (bi Op2.Times (N y) (n 2)) (from (name_pat y) (N a) no_gens)) (cond (bi Op2.Eq (N x) (n 4)) no_gens)))
-    ≡ Some (comp_ex (bi Op2.Plus (bi Op2.Times (N y) (n 2)) (n 1)) (from (name_pat y) (N a) (cond (bi Op2.Eq (bi Op2.Times (N y) (n 2)) (n 4)) no_gens)))
-spliced = refl
-
--- `sum([1 | x <- [1/0 | y <- {1}]])` has nothing, and `sum([1 | y <- {1}])` is 1
-splice_without_value : (meaning (fn Fun.Sum (comp_ex (n 1) (from (name_pat x) (comp_ex nothing (from (name_pat y) one_set no_gens)) no_gens))) empty_env ≡ None)
-    × (meaning (fn Fun.Sum (comp_ex (n 1) (from (name_pat y) one_set no_gens))) empty_env ≡ Some (number (pos 1)))
-splice_without_value = (refl, refl)
-
--- ---- generators
-
-abbrev sum_over : Ex → Ex
-sum_over s = comp_ex (N x) (from (name_pat x) s no_gens)
-
-over_both : generate g (sum_over (bi Op2.Intersect (N a) (N b))) ≡ Some (comp_ex (N x) (from (name_pat x) (N a) (cond (bi Op2.Member (N x) (N b)) no_gens)))
-over_both = refl
-
-over_set : generate g (sum_over (fn Fun.ToSet (N a))) ≡ Some (sum_over (N a))
-over_set = refl
-
-over_multiset : generate g (sum_over (fn Fun.ToSet (N c))) ≡ None
-over_multiset = refl
-
--- `[x | x <- {1} intersect {1/0}]` has nothing, and `[x | x <- {1}, x in {1/0}]` has no item
-both_without_value : (meaning (fn Fun.Sum (sum_over (bi Op2.Intersect one_set nowhere))) empty_env ≡ None)
-    × (meaning (fn Fun.Sum (comp_ex (N x) (from (name_pat x) one_set (cond (bi Op2.Member (N x) nowhere) no_gens)))) empty_env ≡ Some (number (pos 0)))
-both_without_value = (refl, refl)

@@ -33,7 +33,7 @@ use Rattle.ess_rules_laws.proofs.Splices.{append-nothing}
 -- ---- some of the items
 
 -- What is collected from the items that pass a test.
-collect-filter : (t : Value → Bool) (vs : List Value) (F : Value → Option (List Value)) → collect (filter t vs) F ≡ collect vs (λ v. where_true (Some (truth (t v))) (λ u. F v))
+pub collect-filter : (t : Value → Bool) (vs : List Value) (F : Value → Option (List Value)) → collect (filter t vs) F ≡ collect vs (λ v. where_true (Some (truth (t v))) (λ u. F v))
 collect-filter t [] F = refl
 collect-filter t (v ∷ vs) F = go (t v) (collect-filter t vs F)
   where
@@ -43,7 +43,7 @@ collect-filter t (v ∷ vs) F = go (t v) (collect-filter t vs F)
     go false h = h ∙ sym (append-nothing (collect vs (λ v. where_true (Some (truth (t v))) (λ u. F v))))
 
 -- What holds of the items that pass a test.
-each-filter : (t : Value → Bool) (vs : List Value) (P : Value → Type 0) → Each (filter t vs) P → Each vs (λ v. t v ≡ true → P v)
+pub each-filter : (t : Value → Bool) (vs : List Value) (P : Value → Type 0) → Each (filter t vs) P → Each vs (λ v. t v ≡ true → P v)
 each-filter t [] P a = tt
 each-filter t (v ∷ vs) P a = go (t v) refl a (λ b. each-filter t vs P b)
   where
@@ -52,11 +52,12 @@ each-filter t (v ∷ vs) P a = go (t v) refl a (λ b. each-filter t vs P b)
     go false q a r = ((λ z. absurd (let w : false ≡ true = sym q ∙ z in cc)), r a)
 
 -- A generator over a value reads its items.
-read-items : (o : Option Value) (F : Value → Option (List Value)) → and_then o (λ w. collect (items_of w) F) ≡ and_then (option_map items_of o) (λ us. collect us F)
+pub read-items : (o : Option Value) (F : Value → Option (List Value)) → and_then o (λ w. collect (items_of w) F) ≡ and_then (option_map items_of o) (λ us. collect us F)
 read-items None F = refl
 read-items (Some w) F = refl
 
-each-items : (o : Option Value) (P : Value → Type 0) → EachIn o P → EachOf (option_map items_of o) P
+-- What holds of the items of a value.
+pub each-items : (o : Option Value) (P : Value → Type 0) → EachIn o P → EachOf (option_map items_of o) P
 each-items None P a = a
 each-items (Some w) P a = a
 
@@ -83,7 +84,7 @@ module _ (y : Text) (s a c e : Ex) (hs : Gens) (env : Env) (v : Value) (j : mean
       (each-filter t (items_of v) Behind (subst (λ o. EachOf o Behind) items (each-items (meaning s env) Behind m))))
 
 -- The operands of a source that is there are there.
-operands-there : (op : Op) (o p : Option Value) → is_some (and_then (all_some (o ∷ p ∷ [])) (value_of_op op)) ≡ true → (v : Value) × (w : Value) × (o ≡ Some v) × (p ≡ Some w)
+pub operands-there : (op : Op) (o p : Option Value) → is_some (and_then (all_some (o ∷ p ∷ [])) (value_of_op op)) ≡ true → (v : Value) × (w : Value) × (o ≡ Some v) × (p ≡ Some w)
 operands-there op None p t = cc
 operands-there op (Some v) None t = cc
 operands-there op (Some v) (Some w) t = (v, w, refl, refl)

@@ -34,3 +34,7 @@ pub mod Splices
 pub mod SpliceRules
 pub mod FieldRules
 pub mod GeneratorRules
+pub mod Folds
+pub mod SourceRules
+pub mod LiteralSources
+pub mod ExamplesSources

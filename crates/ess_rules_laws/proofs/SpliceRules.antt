@@ -28,11 +28,13 @@ abbrev AllOf : (Value → Type 0) → Option (List Value) → Type 0
 AllOf P None = Unit {0}
 AllOf P (Some xs) = Each xs P
 
-each-left : (P : Value → Type 0) (xs ys : List Value) → Each (xs ++ ys) P → Each xs P
+-- What holds of each item of two lists holds of those of the first.
+pub each-left : (P : Value → Type 0) (xs ys : List Value) → Each (xs ++ ys) P → Each xs P
 each-left P [] ys a = tt
 each-left P (x ∷ xs) ys a = (a.0, each-left P xs ys a.1)
 
-each-right : (P : Value → Type 0) (xs ys : List Value) → Each (xs ++ ys) P → Each ys P
+-- And of those of the second.
+pub each-right : (P : Value → Type 0) (xs ys : List Value) → Each (xs ++ ys) P → Each ys P
 each-right P [] ys a = a
 each-right P (x ∷ xs) ys a = each-right P xs ys a.1
 

@@ -27,7 +27,7 @@ append-more [] ys zs = refl
 append-more (x ∷ xs) ys zs = ap (λ l. x ∷ l) (append-more xs ys zs)
 
 -- What is collected from two lists, one behind the other.
-collect-append : (us ws : List Value) (F : Value → Option (List Value)) → collect (us ++ ws) F ≡ and_then (collect us F) (λ xs. option_map (λ ys. xs ++ ys) (collect ws F))
+pub collect-append : (us ws : List Value) (F : Value → Option (List Value)) → collect (us ++ ws) F ≡ and_then (collect us F) (λ xs. option_map (λ ys. xs ++ ys) (collect ws F))
 collect-append [] ws F = sym (append-nothing (collect ws F))
 collect-append (u ∷ us) ws F = ap (λ o. and_then (F u) (λ xs. option_map (λ ys. xs ++ ys) o)) (collect-append us ws F) ∙ go (F u) (collect us F) (collect ws F)
   where

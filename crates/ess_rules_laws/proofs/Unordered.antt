@@ -29,7 +29,8 @@ times-sum m x y = ℤ_ind (λ z. z *ℤ (x +ℤ y) ≡ z *ℤ x +ℤ z *ℤ y)
     (λ n h. let a = less-times (neg_ℤ (pos n)) (x +ℤ y) in let b = less-times (neg_ℤ (pos n)) x in let c = less-times (neg_ℤ (pos n)) y in omega (arith, ints))
     m
 
-product-swap : (a b c : ℤ) → a *ℤ (b *ℤ c) ≡ b *ℤ (a *ℤ c)
+-- Factors may change places.
+pub product-swap : (a b c : ℤ) → a *ℤ (b *ℤ c) ≡ b *ℤ (a *ℤ c)
 product-swap a b c = ℤ_ind (λ z. z *ℤ (b *ℤ c) ≡ b *ℤ (z *ℤ c))
     (zero-*ℤ (b *ℤ c) ∙ sym (*ℤ-zero b) ∙ ap (λ z. b *ℤ z) (sym (zero-*ℤ c)))
     (λ n h. more-times (pos n) (b *ℤ c) ∙ ap (λ z. z +ℤ b *ℤ c) h ∙ sym (times-sum b (pos n *ℤ c) c) ∙ ap (λ z. b *ℤ z) (sym (more-times (pos n) c)))

@@ -10,3 +10,4 @@ pub mod Listings
 pub mod ComponentRules
 pub mod SpliceRules
 pub mod GeneratorRules
+pub mod SourceRules

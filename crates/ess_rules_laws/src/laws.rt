@@ -3,6 +3,7 @@
 ghost use Rattle.ess_rules_laws.specs.Laws.{UnusedNamesChangeNothing, PartsMayBeReplaced, StepsKeepTheWhole, KeptPartsKeepTheWhole, RewritingKeepsTheWhole, WordsForgetOrder};
 ghost use Rattle.ess_rules_laws.specs.SpliceRules.{SpliceKeeps};
 ghost use Rattle.ess_rules_laws.specs.GeneratorRules.{GenerateKeeps};
+ghost use Rattle.ess_rules_laws.specs.SourceRules.{SourceRulesKeep};
 ghost use Rattle.ess_rules_laws.specs.RuleLaws.{FoldRulesKeep, MembershipRulesKeep, InclusionRulesKeep, SizeRulesKeep, ComponentRulesKeep, ListingsList};
 
 /// A value of a name that isn't free in an expression changes no meaning. So a bound name may be any name that isn't free
@@ -78,4 +79,9 @@ pub fn splicing_keeps()
 /// first of these.
 pub fn generating_keeps()
     ensures { GenerateKeeps }
+{}
+
+/// The rules of folds over unions and over literals keep what they rewrite: each part has a fold of its own.
+pub fn source_rules_keep()
+    ensures { SourceRulesKeep }
 {}
