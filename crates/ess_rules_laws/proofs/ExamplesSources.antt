@@ -3,13 +3,14 @@ use Rattle.std.specs.Prelude.{◌≡◌, refl, true, false, [], ◌∷◌, pos, 
 use Rattle.ess_semantics.specs.declared.words.Op1.{Op1}
 use Rattle.ess_semantics.specs.declared.words.Op2.{Op2}
 use Rattle.ess_semantics.specs.declared.words.Fun.{Fun}
-use Rattle.ess_semantics.specs.Values.{a_tuple, a_record, truth, number}
+use Rattle.ess_semantics.specs.Values.{a_function, a_tuple, a_record, truth, number}
 use Rattle.ess_semantics.specs.Trees.{truth_ex, name_pat, Ex, comp_ex, ex1, no_gens, from, cond}
 use Rattle.ess_semantics.specs.Types.{Ty, bool_ty, int_ty, compound, no_tys, more_tys}
 use Rattle.ess_semantics.specs.Meaning.{empty_env, meaning}
 use Rattle.ess_semantics.proofs.Shorthands.{N, n, es2, bi, fn}
 use Rattle.ess_rules_laws.specs.ComponentRules.{component_of, equal_components, field_of, equal_fields}
 use Rattle.ess_rules_laws.specs.GeneratorRules.{generate}
+use Rattle.ess_rules_laws.specs.InclusionRules.{every, equal_pairs}
 use Rattle.ess_rules_laws.specs.SpliceRules.{splice}
 use Rattle.ess_rules_laws.specs.SourceRules.{fold_union, fold_items, list_of}
 use Rattle.ess_rules_laws.proofs.ExamplesRules.{a, b, c, x, y, g, nothing, nowhere, one_set}
@@ -36,6 +37,13 @@ record_ty = compound (a_record (a ∷ b ∷ [])) (more_tys int_ty (more_tys int_
 records_equal : equal_fields ((x, record_ty) ∷ (y, record_ty) ∷ []) c (bi Op2.Eq (N x) (N y))
     ≡ Some (bi Op2.And (bi Op2.Eq (field_of int_ty a (N x)) (field_of int_ty a (N y))) (bi Op2.And (bi Op2.Eq (field_of int_ty b (N x)) (field_of int_ty b (N y))) (truth_ex true)))
 records_equal = refl
+
+abbrev function_ty : Ty
+function_ty = compound a_function (more_tys int_ty (more_tys int_ty no_tys))
+
+functions_equal : equal_pairs ((a, function_ty) ∷ (b, function_ty) ∷ []) x (bi Op2.Eq (N a) (N b))
+    ≡ Some (bi Op2.And (every x (N a) (bi Op2.Member (N x) (fn Fun.ToRelation (N b)))) (every x (N b) (bi Op2.Member (N x) (fn Fun.ToRelation (N a)))))
+functions_equal = refl
 
 -- ---- splices
 

@@ -169,7 +169,7 @@ no-right true = refl
 no-right false = refl
 
 -- An equation of containers as two quantifiers, of which each is false where its container has no value.
-equal-means : (a b A B : Ex) (env : Env) (o p : Option Value) → meaning a env ≡ o → meaning b env ≡ p →
+pub equal-means : (a b A B : Ex) (env : Env) (o p : Option Value) → meaning a env ≡ o → meaning b env ≡ p →
     (o ≡ None → meaning A env ≡ Some (truth false)) → (p ≡ None → meaning B env ≡ Some (truth false)) →
     ((v w : Value) → o ≡ Some v → p ≡ Some w → same v w ≡ as_truth (meaning A env) && as_truth (meaning B env)) →
     meaning (ex2 true Op2.Eq a b) env ≡ meaning (ex2 true Op2.And A B) env

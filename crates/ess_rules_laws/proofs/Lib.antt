@@ -28,6 +28,7 @@ pub mod InclusionRules
 pub mod SizeRules
 pub mod ListedItems
 pub mod Listings
+pub mod FunctionRules
 pub mod ExamplesRules
 pub mod ComponentRules
 pub mod Splices
@@ -38,3 +39,4 @@ pub mod Folds
 pub mod SourceRules
 pub mod LiteralSources
 pub mod ExamplesSources
+pub mod Tails

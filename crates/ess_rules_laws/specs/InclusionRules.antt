@@ -3,7 +3,7 @@ use Rattle.std.specs.Prelude.{Bool, true, false, ◌||◌, Option, Some, None, i
 use Rattle.ess_semantics.specs.declared.words.Op1.{Op1}
 use Rattle.ess_semantics.specs.declared.words.Op2.{Op2}
 use Rattle.ess_semantics.specs.declared.words.Fun.{Fun}
-use Rattle.ess_semantics.specs.Values.{Text, a_set, a_mset, a_relation}
+use Rattle.ess_semantics.specs.Values.{Text, a_set, a_mset, a_function, a_relation}
 use Rattle.ess_semantics.specs.Names.{Names}
 use Rattle.ess_semantics.specs.Trees.{word, name_pat, Ex, name_ex, node_ex, comp_ex, ex1, ex2, fun1, no_exs, more_exs, no_gens, from}
 use Rattle.ess_semantics.specs.Types.{Ty, compound}
@@ -70,3 +70,16 @@ equal_often g x (ex2 true Op2.Eq a b) =
     then Some (ex2 true Op2.And (every x (fun1 false Fun.ToSet a) (ex2 true Op2.Eq (frequency a (name_ex x)) (frequency b (name_ex x)))) (every x b (ex2 true Op2.Member (name_ex x) a)))
     else None
 equal_often g x e = None
+
+-- Whether both are functions.
+abbrev pub both_functions : Option Ty → Option Ty → Bool
+both_functions (Some (compound a_function ts)) (Some (compound a_function us)) = true
+both_functions t u = false
+
+-- Of functions it is `and([x in toRelation(b) | x <- a]) /\ and([x in toRelation(a) | x <- b])`.
+abbrev pub equal_pairs : Names Ty → Text → Ex → Option Ex
+equal_pairs g x (ex2 true Op2.Eq a b) =
+    if both_functions (type_of a g) (type_of b g)
+    then Some (ex2 true Op2.And (every x a (ex2 true Op2.Member (name_ex x) (fun1 false Fun.ToRelation b))) (every x b (ex2 true Op2.Member (name_ex x) (fun1 false Fun.ToRelation a))))
+    else None
+equal_pairs g x e = None

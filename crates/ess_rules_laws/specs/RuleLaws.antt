@@ -10,7 +10,7 @@ use Rattle.ess_rules_laws.specs.Listings.{Alternative, Lists, listing}
 use Rattle.ess_rules_laws.specs.Rules.{Unused, SoundOperands, RuleKeeps, RuleKeepsWhere, RuleKeepsNew, RuleKeepsNewThere, RuleKeepsTyped, RuleKeepsTypedThere, OperandsThere}
 use Rattle.ess_rules_laws.specs.FoldRules.{fold_alone, fold_nothing, fold_one, fold_term, ItemFits}
 use Rattle.ess_rules_laws.specs.MembershipRules.{member_term, member_combined, member_changed, member_listed, CombinedThere, ItemsThere}
-use Rattle.ess_rules_laws.specs.InclusionRules.{unequal, included_turned, included_strictly, included_members, included_often, equal_members, equal_often}
+use Rattle.ess_rules_laws.specs.InclusionRules.{unequal, included_turned, included_strictly, included_members, included_often, equal_members, equal_often, equal_pairs}
 use Rattle.ess_rules_laws.specs.ComponentRules.{equal_components, equal_fields}
 use Rattle.ess_rules_laws.specs.SizeRules.{size_term, frequency_term, together_term}
 
@@ -28,7 +28,7 @@ pub record MembershipRulesKeep : Type 0 where
   pub in_one_made_of_another : RuleKeeps member_changed
   pub in_a_literal : RuleKeepsWhere ItemsThere member_listed
 
--- Rules of `!=`, of the signs of inclusion, and of `=` between sets, relations and multisets.
+-- Rules of `!=`, of the signs of inclusion, and of `=` between sets, relations, multisets and functions.
 pub record InclusionRulesKeep : Type 0 where
   pub not_equal : RuleKeepsWhere OperandsThere unequal
   pub turned : RuleKeeps included_turned
@@ -37,6 +37,7 @@ pub record InclusionRulesKeep : Type 0 where
   pub of_multisets : RuleKeepsNewThere included_often
   pub equal_sets : RuleKeepsTyped equal_members
   pub equal_multisets : RuleKeepsTyped equal_often
+  pub equal_functions : RuleKeepsTyped equal_pairs
 
 -- Rules of `|..|`, `freq` and `together`.
 pub record SizeRulesKeep : Type 0 where

@@ -4,6 +4,7 @@ use Rattle.std.specs.Prelude.{◌≡◌, Bool, true, not, Option, Some, None, Is
 use Rattle.ess_semantics.specs.Values.{Text}
 use Rattle.ess_semantics.specs.Trees.{name_pat, Ex, comp_ex, Gens, no_gens, over, from, cond}
 use Rattle.ess_semantics.specs.Meaning.{Env, meaning}
+use Rattle.ess_semantics.specs.Contexts.{AtEach}
 use Rattle.ess_semantics.specs.Kept.{Keeps}
 use Rattle.ess_semantics.specs.Substitution.{substitute, substitute_gens, for_name, NamesAre, NamesAreGens}
 
@@ -34,3 +35,8 @@ NamesApart r s e = Unit {0}
 -- So it keeps what it rewrites.
 abbrev pub SpliceKeeps : Type 0
 SpliceKeeps = (r s : Text → Bool) (e f : Ex) → splice e ≡ Some f → NamesApart r s e → (env : Env) → SourceThere e env → Keeps e f env
+
+-- What rewrites a comprehension at each binding of generators rewrites the one with these generators before its own: so a rule
+-- for the first generator serves at a later one.
+abbrev pub TailsAreCongruent : Type 0
+TailsAreCongruent = (gs hs ks : Gens) (e f : Ex) (env : Env) → AtEach gs env (Keeps (comp_ex e hs) (comp_ex f ks)) → Keeps (comp_ex e (append_gens gs hs)) (comp_ex f (append_gens gs ks)) env

@@ -1,7 +1,7 @@
 //! Laws of rewriting, each the contract of a function that does nothing.
 
 ghost use Rattle.ess_rules_laws.specs.Laws.{UnusedNamesChangeNothing, PartsMayBeReplaced, StepsKeepTheWhole, KeptPartsKeepTheWhole, RewritingKeepsTheWhole, WordsForgetOrder};
-ghost use Rattle.ess_rules_laws.specs.SpliceRules.{SpliceKeeps};
+ghost use Rattle.ess_rules_laws.specs.SpliceRules.{SpliceKeeps, TailsAreCongruent};
 ghost use Rattle.ess_rules_laws.specs.GeneratorRules.{GenerateKeeps};
 ghost use Rattle.ess_rules_laws.specs.SourceRules.{SourceRulesKeep};
 ghost use Rattle.ess_rules_laws.specs.RuleLaws.{FoldRulesKeep, MembershipRulesKeep, InclusionRulesKeep, SizeRulesKeep, ComponentRulesKeep, ListingsList};
@@ -50,7 +50,7 @@ pub fn membership_rules_keep()
     ensures { MembershipRulesKeep }
 {}
 
-/// The rules of `!=`, of the signs of inclusion, and of `=` between sets, relations and multisets keep what they rewrite.
+/// The rules of `!=`, of the signs of inclusion, and of `=` between sets, relations, multisets and functions keep what they rewrite.
 pub fn inclusion_rules_keep()
     ensures { InclusionRulesKeep }
 {}
@@ -84,4 +84,9 @@ pub fn generating_keeps()
 /// The rules of folds over unions and over literals keep what they rewrite: each part has a fold of its own.
 pub fn source_rules_keep()
     ensures { SourceRulesKeep }
+{}
+
+/// What rewrites a comprehension at each binding of generators rewrites the one with these generators before its own.
+pub fn tails_are_congruent()
+    ensures { TailsAreCongruent }
 {}
