@@ -11,7 +11,7 @@ use Rattle.ess_semantics.specs.Operators.{value_of_node, false_where_undefined, 
 use Rattle.ess_semantics.specs.Meaning.{Env, meaning, collect, where_true}
 use Rattle.ess_semantics.proofs.Orders.{to_list-of_list}
 use Rattle.ess_rules_laws.specs.Rules.{RuleKeeps, RuleKeepsWhere, RuleKeepsNew, IsTruth, IsNumber}
-use Rattle.ess_rules_laws.specs.FoldRules.{fold_alone, fold_nothing, fold_one, fold_term, ItemFits, is_fold, is_laid_open}
+use Rattle.ess_rules_laws.specs.FoldRules.{fold_alone, fold_nothing, fold_one, fold_bare, fold_term, ItemFits, BareFits, is_fold, is_laid_open}
 use Rattle.ess_rules_laws.proofs.RuleAnswers.{AnswerKeeps, fires, behind, collect-itself, each-in-any}
 
 -- ---- over a condition alone
@@ -104,6 +104,29 @@ one-answer _ env t = tt
 -- Folds over one item.
 pub one-keeps : RuleKeepsWhere ItemFits fold_one
 one-keeps e f q env t = fires (fold_one e) e f env (one-answer e env t) q
+
+-- ---- over a comprehension without generators
+
+bare-truth : (o : Option Value) (f : Fun) → ((b : Bool) → value_of_word1 f (list_value (truth b ∷ [])) ≡ Some (truth b)) → IsTruth o →
+    false_where_undefined true (value_of_node (word f) (option_map list_value (option_map (λ v. v ∷ []) o) ∷ [])) ≡ o
+bare-truth (Some (truth b)) f h t = ap (false_where_undefined true) (h b)
+bare-truth _ f h t = absurd t
+
+bare-number : (o : Option Value) (f : Fun) → ((n : ℤ) → value_of_word1 f (list_value (number n ∷ [])) ≡ Some (number n)) → IsNumber o →
+    false_where_undefined false (value_of_node (word f) (option_map list_value (option_map (λ v. v ∷ []) o) ∷ [])) ≡ o
+bare-number (Some (number n)) f h t = h n
+bare-number _ f h t = absurd t
+
+bare-answer : (e : Ex) (env : Env) → BareFits e env → AnswerKeeps (fold_bare e) e env
+bare-answer (fun1 true Fun.And (comp_ex e no_gens)) env t = λ m. (bare-truth (meaning e env) Fun.And and-one t, m.0)
+bare-answer (fun1 true Fun.Or (comp_ex e no_gens)) env t = λ m. (bare-truth (meaning e env) Fun.Or or-one t, m.0)
+bare-answer (fun1 false Fun.Sum (comp_ex e no_gens)) env t = λ m. (bare-number (meaning e env) Fun.Sum sum-one t, m.0)
+bare-answer (fun1 false Fun.Product (comp_ex e no_gens)) env t = λ m. (bare-number (meaning e env) Fun.Product product-one t, m.0)
+bare-answer _ env t = tt
+
+-- Folds over a comprehension without generators.
+pub bare-keeps : RuleKeepsWhere BareFits fold_bare
+bare-keeps e f q env t = fires (fold_bare e) e f env (bare-answer e env t) q
 
 -- ---- over a term
 

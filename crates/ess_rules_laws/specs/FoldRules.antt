@@ -29,11 +29,25 @@ fold_one (fun1 false Fun.Sum (node_ex false matrix_literal (more_exs a no_exs)))
 fold_one (fun1 false Fun.Product (node_ex false matrix_literal (more_exs a no_exs))) = Some a
 fold_one e = None
 
--- What `fold_one` counts on: the item has a truth value where truth values are folded, else nothing or a number.
+-- What `fold_one` counts on: the item has a truth value where truth values are folded, else a number.
 abbrev pub ItemFits : Ex → Env → Type 0
 ItemFits (fun1 true f (node_ex false matrix_literal (more_exs a no_exs))) env = IsTruth (meaning a env)
 ItemFits (fun1 false f (node_ex false matrix_literal (more_exs a no_exs))) env = IsNumber (meaning a env)
 ItemFits e env = Unit {0}
+
+-- Over a comprehension without generators: its item, as over one item.
+abbrev pub fold_bare : Ex → Option Ex
+fold_bare (fun1 true Fun.And (comp_ex e no_gens)) = Some e
+fold_bare (fun1 true Fun.Or (comp_ex e no_gens)) = Some e
+fold_bare (fun1 false Fun.Sum (comp_ex e no_gens)) = Some e
+fold_bare (fun1 false Fun.Product (comp_ex e no_gens)) = Some e
+fold_bare e = None
+
+-- What it counts on.
+abbrev pub BareFits : Ex → Env → Type 0
+BareFits (fun1 true f (comp_ex e no_gens)) env = IsTruth (meaning e env)
+BareFits (fun1 false f (comp_ex e no_gens)) env = IsNumber (meaning e env)
+BareFits e env = Unit {0}
 
 -- Whether the word folds lists.
 abbrev pub is_fold : Fun → Bool

@@ -8,17 +8,19 @@ use Rattle.ess_semantics.specs.Typed.{Typed}
 use Rattle.ess_semantics.specs.Meaning.{Env}
 use Rattle.ess_rules_laws.specs.Listings.{Alternative, Lists, listing}
 use Rattle.ess_rules_laws.specs.Rules.{Unused, SoundOperands, RuleKeeps, RuleKeepsWhere, RuleKeepsNew, RuleKeepsNewThere, RuleKeepsTyped, RuleKeepsTypedThere, OperandsThere}
-use Rattle.ess_rules_laws.specs.FoldRules.{fold_alone, fold_nothing, fold_one, fold_term, ItemFits}
+use Rattle.ess_rules_laws.specs.FoldRules.{fold_alone, fold_nothing, fold_one, fold_bare, fold_term, ItemFits, BareFits}
 use Rattle.ess_rules_laws.specs.MembershipRules.{member_term, member_combined, member_changed, member_listed, CombinedThere, ItemsThere}
 use Rattle.ess_rules_laws.specs.InclusionRules.{unequal, included_turned, included_strictly, included_members, included_often, equal_members, equal_often, equal_pairs}
 use Rattle.ess_rules_laws.specs.ComponentRules.{equal_components, equal_fields}
 use Rattle.ess_rules_laws.specs.SizeRules.{size_term, frequency_term, together_term}
 
--- Rules of `and`, `or`, `sum` and `product` over a condition alone, over literals of no item or one, and over any term.
+-- Rules of `and`, `or`, `sum` and `product` over a condition alone, over literals of no item or one, over a comprehension
+-- without generators, and over any term.
 pub record FoldRulesKeep : Type 0 where
   pub over_a_condition : RuleKeeps fold_alone
   pub over_nothing : RuleKeeps fold_nothing
   pub over_one : RuleKeepsWhere ItemFits fold_one
+  pub over_one_binding : RuleKeepsWhere BareFits fold_bare
   pub over_a_term : RuleKeepsNew fold_term
 
 -- Rules of `in`: of any container, of unions, intersections and differences, of containers made of others, and of literals.
