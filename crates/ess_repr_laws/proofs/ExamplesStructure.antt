@@ -25,7 +25,7 @@ slots (set_dom ms es bool_dom) = number_ex (pos 2)
 slots d = number_ex (pos 4)
 
 abbrev terms : Terms
-terms = record { slots = slots; atom = λ d e. truth_ex true }
+terms = record { slots = slots; atom = λ d e. truth_ex true; dummy = λ d. number_ex (pos 3) }
 
 abbrev kinds : Repr
 kinds =
@@ -61,7 +61,7 @@ abbrev cell : Repr
 cell = repr ReprKind.Atom no_reprs
 
 abbrev at_atom : Terms
-at_atom = record { slots = slots; atom = λ d e. e }
+at_atom = record { slots = slots; atom = λ d e. e; dummy = λ d. number_ex (pos 3) }
 
 -- A pair of truth values: what is asked of each component.
 pub of-pair : structure name at_atom (repr ReprKind.Tuple (more_reprs cell (more_reprs cell no_reprs))) (tuple_dom (more_doms bool_dom (more_doms bool_dom no_doms))) ((codes "a") ∷ (codes "b") ∷ []) 1 no_exs

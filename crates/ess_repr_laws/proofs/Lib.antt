@@ -129,6 +129,7 @@ pub mod StructureCounts
 pub mod StructureMultisets
 pub mod StructureCounted
 pub mod StructureRepetition
+pub mod StructureDummies
 pub mod StructureFlags
 pub mod StructureAll
 pub mod StructureOfTables

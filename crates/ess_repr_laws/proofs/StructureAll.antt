@@ -19,6 +19,7 @@ use Rattle.ess_repr_laws.proofs.StructurePartial.{partial-1d-structure, partial-
 use Rattle.ess_repr_laws.proofs.StructureMultisets.{mset-occurrence-structure}
 use Rattle.ess_repr_laws.proofs.StructureCounted.{counted-structure}
 use Rattle.ess_repr_laws.proofs.StructureRepetition.{repetition-structure}
+use Rattle.ess_repr_laws.proofs.StructureDummies.{dummy-structure}
 use Rattle.ess_repr_laws.proofs.StructureSets.{occurrence-structure, explicit-structure, marker-structure}
 
 module _ (env0 : Env) (q : ℕ → Text) (q-apart : (m l : ℕ) → l < m → same_text (q m) (q l) ≡ false) (terms : Terms) where
@@ -51,6 +52,8 @@ module _ (env0 : Env) (q : ℕ → Text) (q-apart : (m l : ℕ) → l < m → sa
         counted-structure env0 q q-apart terms r ms es d ks e (structures r d e h.2) h.0 h.1
     structures (repr ReprKind.MSetExplicitWithRepetition (more_reprs r no_reprs)) (mset_dom ms es d) (msets ks e) h =
         repetition-structure env0 q q-apart terms r ms es d ks e (structures r d e h.3) h.0 h.1 h.2
+    structures (repr ReprKind.ExplicitVarSizeWithDummy no_reprs) (set_dom ms es d) (sets ks e) h =
+        dummy-structure env0 q q-apart terms ms es d ks e h.0.0 h.0.1 h.0.2 h.1.0 h.1.1 h.1.2 h.2 h.3
     structures _ d e h = absurd h
 
     -- The same of components.

@@ -5,6 +5,8 @@ use Rattle.ess_repr_laws.specs.StructureParts.{Shape, Terms}
 use Rattle.ess_semantics.specs.Kinds.{dom_list}
 use Rattle.ess_semantics.specs.Atoms.{IsAtom, AreAtoms}
 use Rattle.ess_repr_laws.specs.Finite.{HaveLists}
+use Rattle.ess_repr_laws.specs.Rooms.{HasDummy}
+use Rattle.ess_semantics.specs.SetLayers.{dummy_of}
 use Rattle.ess_semantics.specs.Domains.{booleans, Attribute, numbered, flagged, Domain, Domains, tuples, records, matrices, sets, msets, functions, relations, domain_list, members, member_list}
 use Rattle.ess_semantics.specs.Layers.{as_cell}
 use Rattle.ess_semantics.specs.Meaning.{Env, members_in, cell_value, meaning, meanings, domain_of, is_bool_dom, attributes_of, as_int}
@@ -96,6 +98,7 @@ abbrev mutual
       slot_numbers (slots_of_mset ks e) ∷ on_members (slot_numbers (slots_of_mset ks e)) (axes_members r e)
   axes_members (repr ReprKind.MSetExplicitWithRepetition (more_reprs r no_reprs)) (msets ks e) =
       [] ∷ on_members (slot_numbers (slots_of_mset ks e)) (axes_members r e)
+  axes_members (repr ReprKind.ExplicitVarSizeWithDummy no_reprs) (sets ks e) = slot_numbers (slots_of_set ks e) ∷ []
   axes_members _ e = []
 
   -- Those of the views of components.
@@ -147,6 +150,10 @@ module _ (env0 : Env) (q : ℕ → Text) (q-apart : (m l : ℕ) → l < m → sa
       meaning x (M env0 q q-apart bs) ≡ Some (cell_value (is_bool_dom d) z) →
       meaning (terms.atom d x) (M env0 q q-apart bs) ≡ Some (truth (is_cell (as_cell e) z))
 
+  -- The term for the dummy is its number, whatever names are bound.
+  abbrev pub DummyIs : Dom → Domain → Type 0
+  DummyIs d e = (m : ℤ) × (dummy_of e ≡ Some m) × ((bs : Bound env0 q q-apart) → Number (terms.dummy d) (M env0 q q-apart bs) m)
+
   abbrev mutual
     -- What the domain's parts mean, whatever names are bound.
     pub Ready : Repr → Dom → Domain → Type 0
@@ -183,6 +190,8 @@ module _ (env0 : Env) (q : ℕ → Text) (q-apart : (m l : ℕ) → l < m → sa
         Attributes ms es ks × SlotsAre (mset_dom ms es d) (slots_of_mset ks e) × Ready r d e
     Ready (repr ReprKind.MSetExplicitWithRepetition (more_reprs r no_reprs)) (mset_dom ms es d) (msets ks e) =
         Attributes ms es ks × SlotsAre (mset_dom ms es d) (slots_of_mset ks e) × (asks_no_times ks ≡ true) × Ready r d e
+    Ready (repr ReprKind.ExplicitVarSizeWithDummy no_reprs) (set_dom ms es d) (sets ks e) =
+        (HasDummy e × (is_bool_dom d ≡ false) × AtomReady d e) × DummyIs d e × Attributes ms es ks × SlotsAre (set_dom ms es d) (slots_of_set ks e)
     Ready _ d e = ⊥
 
     -- The same of components.

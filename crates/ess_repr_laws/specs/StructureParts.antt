@@ -213,16 +213,33 @@ module _ (q : ℕ → Text) where
       and_ex (use_ex l size (le_ex (name_ex (q l)) (cell_ex false n is)) (le_ex (next_ex l) (cell_ex false n is))
       (at_most_ex (suc l) ss (add_ex is (name_ex (q l))) (add_ex is (next_ex l))) ss is part) (size_ex ms es (cell_ex false n is))
 
+  -- How many slots hold another number than the dummy.
+  abbrev pub member_count_ex : ℕ → Ex → Ex → Text → Exs → Ex
+  member_count_ex l size dummy n is =
+      fun1 false Fun.Sum (comp_ex (fun1 false Fun.ToInt (ex1 true Op1.Not (ex2 true Op2.Eq dummy (cell_ex false n (add_ex is (name_ex (q l)))))))
+      (row_gens l (upto size ∷ [])))
+
+  -- Slots with a dummy: each holds a member or the dummy, and a slot that holds a member stands above the slot before it.
+  abbrev pub dummy_ex : ℕ → List Mark → Exs → Ex → Ex → (Ex → Ex) → Text → Exs → Ex
+  dummy_ex l ms es size dummy atom n is =
+      let here : Ex = cell_ex false n (add_ex is (name_ex (q l))) in
+      let next : Ex = cell_ex false n (add_ex is (next_ex l)) in
+      and_ex (and_ex (each_ex l (upto size ∷ []) (or_ex (atom here) (ex2 true Op2.Eq dummy here)))
+      (over_slots l size (le_ex (next_ex l) size) (or_ex (ex2 true Op2.Eq dummy next) (ex2 true Op2.Lt here next))))
+      (size_ex ms es (member_count_ex l size dummy n is))
+
   -- Which members occur.
   abbrev pub occurrence_ex : ℕ → List Mark → Exs → Dom → Text → Exs → Ex
   occurrence_ex l ms es d n is = size_ex ms es (true_count_ex l (d ∷ []) n is)
 
 -- ---- what views take from domains
 
--- The terms that the constraint takes from domains: the number of slots, and that a cell lies in the domain of an atom.
+-- The terms that the constraint takes from domains: the number of slots, that a cell lies in the domain of an atom, and
+-- its dummy.
 pub record Terms : Type 0 where
   pub slots : Dom → Ex
   pub atom : Dom → Ex → Ex
+  pub dummy : Dom → Ex
 
 -- The first name of a view's tables.
 abbrev pub first_name : List Text → Text
