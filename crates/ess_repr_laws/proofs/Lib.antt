@@ -131,6 +131,7 @@ pub mod StructureCounted
 pub mod StructureRepetition
 pub mod StructureDummies
 pub mod StructureFlags
+pub mod StructureTupleSets
 pub mod StructureAll
 pub mod StructureOfTables
 pub mod ExamplesStructure

@@ -1,12 +1,13 @@
 -- The parts of the constraint that the cells of a view are canonical, as expressions. The names that it binds are q l, q (l + 1)
 -- and so on.
-use Rattle.std.specs.Prelude.{ℕ, suc, Bool, true, false, List, [], ◌∷◌, ◌++◌, pos}
+use Rattle.std.specs.Prelude.{if◌then◌else◌, ℕ, suc, Bool, true, false, List, [], ◌∷◌, ◌++◌, pos}
 use Rattle.ess_semantics.specs.declared.words.Op1.{Op1}
 use Rattle.ess_semantics.specs.declared.words.Op2.{Op2}
 use Rattle.ess_semantics.specs.declared.words.Fun.{Fun}
 use Rattle.ess_semantics.specs.declared.words.Key.{Key}
+use Rattle.ess_semantics.specs.Domains.{same_key}
 use Rattle.ess_semantics.specs.Values.{Text}
-use Rattle.ess_semantics.specs.Trees.{both_ends, Mark, flag, valued, name_pat, Ex, Exs, number_ex, truth_ex, name_ex, comp_ex, cell_ex, no_exs, more_exs, Gens, no_gens, over, cond, Dom, int_dom, ex1, ex2, fun1}
+use Rattle.ess_semantics.specs.Trees.{Doms, tuple_dom, set_dom, both_ends, Mark, flag, valued, name_pat, Ex, Exs, number_ex, truth_ex, name_ex, comp_ex, cell_ex, no_exs, more_exs, Gens, no_gens, over, cond, Dom, int_dom, ex1, ex2, fun1}
 
 -- A table of the view: its name, whether it holds truth values, and the axes behind the view's index list.
 pub record Shape : Type 0 where
@@ -61,6 +62,21 @@ size_ex (valued k ∷ ms) (more_exs e es) m = and_ex (key_ex k e m) (size_ex ms 
 abbrev pub level_behind : ℕ → List Dom → ℕ
 level_behind l [] = l
 level_behind l (a ∷ as') = level_behind (suc l) as'
+
+-- The number of the attribute k, in front of what is there, where the attribute stands.
+abbrev pub number_of_key : Key → List Mark → Exs → List Mark → Exs → List Mark × Exs
+number_of_key k [] es ns os = (ns, os)
+number_of_key k (flag j ∷ ms) es ns os = number_of_key k ms es ns os
+number_of_key k (valued j ∷ ms) no_exs ns os = (ns, os)
+number_of_key k (valued j ∷ ms) (more_exs e es) ns os = if same_key j k then (valued k ∷ ns, more_exs e os) else number_of_key k ms es ns os
+
+-- The set of a relation's tuples, with the attributes that speak of its size.
+abbrev pub tuple_set_dom : List Mark → Exs → Doms → Dom
+tuple_set_dom ms es ds =
+    let a : List Mark × Exs = number_of_key Key.MaxSize ms es [] no_exs in
+    let b : List Mark × Exs = number_of_key Key.MinSize ms es a.0 a.1 in
+    let c : List Mark × Exs = number_of_key Key.Size ms es b.0 b.1 in
+    set_dom c.0 c.1 (tuple_dom ds)
 
 module _ (q : ℕ → Text) where
   -- Generators over the axes behind.
