@@ -44,7 +44,8 @@ or-none : (p : Bool) → p ≡ true → p || false ≡ true
 or-none true h = refl
 or-none false h = h
 
-both-sides : (m k : ℤ) → int_le m k ≡ true → int_le k m ≡ true → m ≡ k
+-- Numbers at most one another are one.
+pub both-sides : (m k : ℤ) → int_le m k ≡ true → int_le k m ≡ true → m ≡ k
 both-sides m k p q = let a = le-of m k p in let b = le-of k m q in omega (arith, ints)
 
 not-dummy : (m k : ℤ) → m ≡ k → same_int m k ≡ false → ⊥

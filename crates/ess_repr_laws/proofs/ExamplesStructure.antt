@@ -2,10 +2,11 @@
 use Rattle.std.proofs.Common.{◌≡◌, refl, sym, ap, ℕ, ℤ, ◌<◌, true, false, List, [], ◌∷◌, length, pos, Some}
 use Rattle.ess_semantics.specs.declared.words.ReprKind.{ReprKind}
 use Rattle.ess_semantics.specs.declared.words.Fun.{Fun}
+use Rattle.ess_semantics.specs.declared.words.Key.{Key}
 use Rattle.std.specs.Prelude.{codes}
 use Rattle.ess_semantics.specs.Values.{Text, truth}
 use Rattle.ess_semantics.specs.Order.{same_text}
-use Rattle.ess_semantics.specs.Trees.{Repr, repr, no_reprs, more_reprs, Ex, number_ex, truth_ex, no_exs, Dom, bool_dom, tuple_dom, matrix_dom, set_dom, no_doms, more_doms, more_exs, name_ex, cell_ex, comp_ex, over, name_pat, no_gens, fun1}
+use Rattle.ess_semantics.specs.Trees.{valued, flag, Repr, repr, no_reprs, more_reprs, Ex, number_ex, truth_ex, no_exs, Dom, bool_dom, tuple_dom, matrix_dom, set_dom, no_doms, more_doms, more_exs, name_ex, cell_ex, comp_ex, over, name_pat, no_gens, fun1}
 use Rattle.ess_semantics.specs.Domains.{Domain, booleans, sets}
 use Rattle.ess_semantics.specs.Tables.{Tables, is_cell}
 use Rattle.ess_semantics.specs.Cells.{cells_of}
@@ -14,7 +15,7 @@ use Rattle.ess_semantics.specs.Declarations.{declarations, axes_of}
 use Rattle.ess_semantics.specs.CanonicalTest.{canonical}
 use Rattle.ess_semantics.specs.Meaning.{Env, meaning}
 use Rattle.ess_semantics.specs.Tidy.{over_axes}
-use Rattle.ess_repr_laws.specs.StructureParts.{Terms, and_ex}
+use Rattle.ess_repr_laws.specs.StructureParts.{tuple_set_dom, Terms, and_ex}
 use Rattle.ess_repr_laws.specs.Structure.{shapes, structure}
 use Rattle.ess_repr_laws.specs.CanonicalTables.{TablesFit}
 use Rattle.ess_repr_laws.specs.StructureMeaning.{Bound, M, Placed, axes_members, Ready}
@@ -25,7 +26,7 @@ slots (set_dom ms es bool_dom) = number_ex (pos 2)
 slots d = number_ex (pos 4)
 
 abbrev terms : Terms
-terms = record { slots = slots; atom = λ d e. truth_ex true }
+terms = record { slots = slots; atom = λ d e. truth_ex true; dummy = λ d. number_ex (pos 3) }
 
 abbrev kinds : Repr
 kinds =
@@ -61,7 +62,7 @@ abbrev cell : Repr
 cell = repr ReprKind.Atom no_reprs
 
 abbrev at_atom : Terms
-at_atom = record { slots = slots; atom = λ d e. e }
+at_atom = record { slots = slots; atom = λ d e. e; dummy = λ d. number_ex (pos 3) }
 
 -- A pair of truth values: what is asked of each component.
 pub of-pair : structure name at_atom (repr ReprKind.Tuple (more_reprs cell (more_reprs cell no_reprs))) (tuple_dom (more_doms bool_dom (more_doms bool_dom no_doms))) ((codes "a") ∷ (codes "b") ∷ []) 1 no_exs
@@ -72,3 +73,8 @@ of-pair = refl
 pub of-matrix : structure name at_atom (repr ReprKind.Matrix (more_reprs cell no_reprs)) (matrix_dom (more_doms bool_dom no_doms) bool_dom) ((codes "a") ∷ []) 1 no_exs
     ≡ fun1 true Fun.And (comp_ex (cell_ex true (codes "a") (more_exs (name_ex (codes "q")) no_exs)) (over (name_pat (codes "q")) bool_dom no_gens))
 of-matrix = refl
+
+-- The set of a relation's tuples has the sizes of the relation, in their order.
+pub of-tuples : tuple_set_dom (valued Key.MaxSize ∷ flag Key.Symmetric ∷ valued Key.Size ∷ []) (more_exs (number_ex (pos 5)) (more_exs (number_ex (pos 3)) no_exs)) (more_doms bool_dom no_doms)
+    ≡ set_dom (valued Key.Size ∷ valued Key.MaxSize ∷ []) (more_exs (number_ex (pos 3)) (more_exs (number_ex (pos 5)) no_exs)) (tuple_dom (more_doms bool_dom no_doms))
+of-tuples = refl

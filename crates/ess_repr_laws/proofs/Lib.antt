@@ -129,7 +129,9 @@ pub mod StructureCounts
 pub mod StructureMultisets
 pub mod StructureCounted
 pub mod StructureRepetition
+pub mod StructureDummies
 pub mod StructureFlags
+pub mod StructureTupleSets
 pub mod StructureAll
 pub mod StructureOfTables
 pub mod ExamplesStructure

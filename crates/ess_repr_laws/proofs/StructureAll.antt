@@ -6,7 +6,7 @@ use Rattle.ess_semantics.specs.Order.{same_text}
 use Rattle.ess_semantics.specs.Trees.{Repr, Reprs, repr, no_reprs, more_reprs, Dom, Doms, no_doms, more_doms, tuple_dom, record_dom, matrix_dom, set_dom, mset_dom, function_dom, relation_dom}
 use Rattle.ess_semantics.specs.Domains.{Domain, tuples, records, matrices, sets, msets, functions, relations, domain_list}
 use Rattle.ess_semantics.specs.Meaning.{Env}
-use Rattle.ess_repr_laws.specs.StructureParts.{Terms}
+use Rattle.ess_repr_laws.specs.StructureParts.{Terms, tuple_set_dom}
 use Rattle.ess_repr_laws.specs.StructureMeaning.{Ready, AllReady}
 use Rattle.ess_repr_laws.proofs.StructureOf.{StructureOf}
 use Rattle.ess_repr_laws.proofs.StructureAtoms.{atom-structure}
@@ -19,6 +19,9 @@ use Rattle.ess_repr_laws.proofs.StructurePartial.{partial-1d-structure, partial-
 use Rattle.ess_repr_laws.proofs.StructureMultisets.{mset-occurrence-structure}
 use Rattle.ess_repr_laws.proofs.StructureCounted.{counted-structure}
 use Rattle.ess_repr_laws.proofs.StructureRepetition.{repetition-structure}
+use Rattle.ess_repr_laws.proofs.StructureDummies.{dummy-structure}
+use Rattle.ess_semantics.specs.Sizes.{child_set}
+use Rattle.ess_repr_laws.proofs.StructureTupleSets.{tuple-set-structure}
 use Rattle.ess_repr_laws.proofs.StructureSets.{occurrence-structure, explicit-structure, marker-structure}
 
 module _ (env0 : Env) (q : ℕ → Text) (q-apart : (m l : ℕ) → l < m → same_text (q m) (q l) ≡ false) (terms : Terms) where
@@ -51,6 +54,10 @@ module _ (env0 : Env) (q : ℕ → Text) (q-apart : (m l : ℕ) → l < m → sa
         counted-structure env0 q q-apart terms r ms es d ks e (structures r d e h.2) h.0 h.1
     structures (repr ReprKind.MSetExplicitWithRepetition (more_reprs r no_reprs)) (mset_dom ms es d) (msets ks e) h =
         repetition-structure env0 q q-apart terms r ms es d ks e (structures r d e h.3) h.0 h.1 h.2
+    structures (repr ReprKind.ExplicitVarSizeWithDummy no_reprs) (set_dom ms es d) (sets ks e) h =
+        dummy-structure env0 q q-apart terms ms es d ks e h.0.0 h.0.1 h.0.2 h.1.0 h.1.1 h.1.2 h.2 h.3
+    structures (repr ReprKind.RelationAsSet (more_reprs r no_reprs)) (relation_dom ms es ds) (relations ks xs) h =
+        tuple-set-structure env0 q q-apart terms r ms es ds ks xs h.0.0 h.0.1 (structures r (tuple_set_dom ms es ds) (child_set ks xs) h.1)
     structures _ d e h = absurd h
 
     -- The same of components.

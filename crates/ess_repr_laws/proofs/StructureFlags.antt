@@ -122,7 +122,7 @@ module _ (env0 : Env) (q : ℕ → Text) (q-apart : (m l : ℕ) → l < m → sa
       (λ c vss. Some (set_of (only_child vss))) (λ c vss. set_attributes_hold ks (count_true (own_row (one_to S ∷ []) c))) always_tidy mine (behind i (cells_of ts)) (set_attributes_hold ks (count_true (row (one_to S ∷ []) (grid_at env0 q q-apart t i))))
       (and-both (every_cell (one_to S ∷ []) (is_cell booleans) (grid_at env0 q q-apart t i)) true f.bits refl)
       (child-long env0 q q-apart terms r d e child (upto size ∷ []) (slot_numbers S) (one_to S ∷ []) (slots-same env0 q q-apart S) refl (out || true) (drop 1 ns) ts i p.2 f.others)
-      found.0 found.1 (found.2 (λ js. canonical r e (behind js (behind i (cells_of ts))))) (λ vs m x. refl)))
+      found.0 found.1 (found.2 (λ js. canonical r e (behind js (behind i (cells_of ts))))) (λ vs m x u. refl)))
     where
       mine : Cells
       mine = grid_at env0 q q-apart t i ∷ []

@@ -63,11 +63,11 @@ module _ (r : Repr) (e : Domain) (right : Right r e) (wide : length (axes_of r e
     -- What is asked of a layer whose own cells lie in their domains.
     pub layer-asked : (mine inner : Cells) (F : Bool) → own_cells_fit own mine ≡ true → length inner ≡ width r → (js : List (List ℤ)) → places_by u mine (lists_of bs) ≡ Some js →
         (used_part mine inner ≡ true → AllOf js (λ j. canonical r e (behind j inner) ≡ true)) →
-        ((vs : List Value) → length vs ≡ length js → each_of js (λ j. value_of_cells r e (behind j inner)) ≡ Some vs → ic mine (vs ∷ []) ≡ F) →
+        ((vs : List Value) → length vs ≡ length js → each_of js (λ j. value_of_cells r e (behind j inner)) ≡ Some vs → used_part mine inner ≡ true → ic mine (vs ∷ []) ≡ F) →
         asked_of L (more_reprs r no_reprs) mine inner ≡ (in_use_first L mine && (used_part mine inner && (slots_rise L mine (axes_of r e) inner && zero_part mine inner))) && F
     layer-asked mine inner F ok long js found each asked =
         ap (λ b. ((b && first) && children_are_canonical L mine rs (e ∷ []) inner) && A) ok ∙ ap (λ b. (first && b) && A) children
-        ∙ arrange first (used_part mine inner) rise (zero_part mine inner) A F (λ h. attributes (each h))
+        ∙ arrange first (used_part mine inner) rise (zero_part mine inner) A F (λ h. attributes h (each h))
       where
         rs : Reprs
         rs = more_reprs r no_reprs
@@ -87,12 +87,12 @@ module _ (r : Repr) (e : Domain) (right : Right r e) (wide : length (axes_of r e
             ∙ ap (λ c. child_is_canonical L mine (axes_of r e) (canonical r e) inner && children_are_canonical L mine no_reprs [] c) (drop-whole (width r) inner long)
             ∙ ap (λ b. (((b && used_part mine inner) && rise) && zero_part mine inner) && true) (eq-eqb (length inner) (length (axes_of r e)) (long ∙ sym wide))
 
-        attributes : AllOf js (λ j. canonical r e (behind j inner) ≡ true) → A ≡ F
-        attributes h =
+        attributes : used_part mine inner ≡ true → AllOf js (λ j. canonical r e (behind j inner) ≡ true) → A ≡ F
+        attributes u h =
             let v = places-values inner js h in
             ap (λ o. is_some_and (and_then o (values_of_children rs (e ∷ []) inner)) (ic mine)) found
             ∙ ap (λ c. is_some_and (and_then (each_of js (λ j. value_of_cells r e (behind j c))) (λ vs. Some (vs ∷ []))) (ic mine)) (take-whole (width r) inner long)
-            ∙ ap (λ o. is_some_and (and_then o (λ vs. Some (vs ∷ []))) (ic mine)) v.1 ∙ asked v.0 (values-length (λ j. value_of_cells r e (behind j inner)) js v.0 v.1) v.1
+            ∙ ap (λ o. is_some_and (and_then o (λ vs. Some (vs ∷ []))) (ic mine)) v.1 ∙ asked v.0 (values-length (λ j. value_of_cells r e (behind j inner)) js v.0 v.1) v.1 u
 
         arrange : (f u r z a x : Bool) → (u ≡ true → a ≡ x) → (f && ((((true && u) && r) && z) && true)) && a ≡ (f && (u && (r && z))) && x
         arrange false u r z a x h = refl
@@ -107,7 +107,7 @@ module _ (r : Repr) (e : Domain) (right : Right r e) (wide : length (axes_of r e
       asked_of (one_child k r d e [] bs everywhere false false ct no_own_tables b ic always_tidy) (more_reprs r no_reprs) [] inner ≡ list_all (λ js. canonical r e (behind js inner)) (lists_of bs) && F
   everywhere-asked k d bs ct b ic inner F long asked =
       layer-asked k d [] bs everywhere false false ct no_own_tables b ic always_tidy [] inner F refl long (lists_of bs) refl
-      (λ h. all-of-list (lists_of bs) (λ js. canonical r e (behind js inner)) h) (λ vs n x. asked vs n)
+      (λ h. all-of-list (lists_of bs) (λ js. canonical r e (behind js inner)) h) (λ vs n x u. asked vs n)
       ∙ ap (λ z. (list_all (λ js. canonical r e (behind js inner)) (lists_of bs) && z) && F) (all-pass (lists_of bs)) ∙ drop-true (list_all (λ js. canonical r e (behind js inner)) (lists_of bs))
     where
       drop-true : (a : Bool) → (a && true) && F ≡ a && F

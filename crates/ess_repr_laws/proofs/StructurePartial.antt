@@ -129,7 +129,7 @@ module _ (env0 : Env) (q : ℕ → Text) (q-apart : (m l : ℕ) → l < m → sa
         (and-both (every_cell bs0 (is_cell booleans) (grid_at env0 q q-apart t i)) true f.inside refl)
         (child-long env0 q q-apart terms r c y child as' uss bs0 same even (out || true) (drop 1 ns) ts i p.2 f.others)
         found.0 found.1 (found.2 (λ js. canonical r y (behind js (behind i (cells_of ts)))))
-        (λ vs n z. asked-sizes (grid_at env0 q q-apart t i) ys.0 ys.1 (count_true (row bs0 (grid_at env0 q q-apart t i))) ys.2 vs (n ∙ ap length js-are ∙ map-long index ys.0))))
+        (λ vs n z u. asked-sizes (grid_at env0 q q-apart t i) ys.0 ys.1 (count_true (row bs0 (grid_at env0 q q-apart t i))) ys.2 vs (n ∙ ap length js-are ∙ map-long index ys.0))))
       where
         same-some : {a b : List (List ℤ)} → Some a ≡ Some b → a ≡ b
         same-some e = cc

@@ -125,7 +125,7 @@ module _ (env0 : Env) (q : ℕ → Text) (q-apart : (m l : ℕ) → l < m → sa
       (ap (λ o. is_some_and o (is_cell (up_to S)) && true) m.1 ∙ ap (λ b. b && true) (up-to-fits S m.0 m.2))
       (child-long env0 q q-apart terms r d e child (upto size ∷ []) (slot_numbers S) (one_to S ∷ []) (slots-same env0 q q-apart S) refl (out || true) (drop 1 ns) ts i p.2 f.others)
       (lists_of (one_to m.0 ∷ [])) used.found (λ h. each m.0 m.1 m.2 h)
-      (λ vs n y. ap (λ o. is_some_and o (λ m. set_attributes_hold ks (natural m)) && each_number_holds ks (λ k z. occurs_holds k z vs)) m.1 ∙ ap (λ b. set_attributes_hold ks m.0 && b) (no-times ks quiet vs) ∙ and-true (set_attributes_hold ks m.0))
+      (λ vs n y u. ap (λ o. is_some_and o (λ m. set_attributes_hold ks (natural m)) && each_number_holds ks (λ k z. occurs_holds k z vs)) m.1 ∙ ap (λ b. set_attributes_hold ks m.0 && b) (no-times ks quiet vs) ∙ and-true (set_attributes_hold ks m.0))
       ∙ ap (λ b. (b && used_asked env0 q q-apart terms r d e child size S sl ReprKind.MSetExplicitWithRepetition (msets ks e) own up_to_marker false (λ v. some_each (items_of v)) marker_table (λ c vss. Some (mset_of (only_child vss))) asked always_tidy mine (behind i (cells_of ts))) && set_attributes_hold ks m.0)
       (places-numbers S (λ js. not (is_used up_to_marker mine (next_slot js)) || is_used up_to_marker mine js)
       ∙ ap (λ o. list_all (λ k. not (is_some_and o (int_le (k +ℤ pos 1))) || is_some_and o (int_le k)) (one_to S)) m.1 ∙ marker-first S m.0)))

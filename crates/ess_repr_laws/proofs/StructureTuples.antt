@@ -102,7 +102,8 @@ module _ (ds : List Domain) (b : Cells → List (List Value) → Option Value) (
 
 -- ---- tables side by side
 
-under-none : (ds : List Declaration) → under [] ds ≡ ds
+-- No axes in front.
+pub under-none : (ds : List Declaration) → under [] ds ≡ ds
 under-none [] = refl
 under-none (d ∷ ds) = ap (λ l. d ∷ l) (under-none ds)
 

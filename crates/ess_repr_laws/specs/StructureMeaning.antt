@@ -1,17 +1,20 @@
 -- What is asked of a view and its tables so that its structure constraint means that the cells are canonical. Reserved names
 -- q 0, q 1 and so on may be bound, each to a value.
 use Rattle.std.specs.Prelude.{◌≡◌, ℕ, ◌<◌, Bool, true, false, ◌&&◌, not, List, [], ◌∷◌, ◌++◌, map, ℤ, pos, Some}
-use Rattle.ess_repr_laws.specs.StructureParts.{Shape, Terms}
+use Rattle.ess_repr_laws.specs.StructureParts.{Shape, Terms, tuple_set_dom}
 use Rattle.ess_semantics.specs.Kinds.{dom_list}
 use Rattle.ess_semantics.specs.Atoms.{IsAtom, AreAtoms}
 use Rattle.ess_repr_laws.specs.Finite.{HaveLists}
-use Rattle.ess_semantics.specs.Domains.{booleans, Attribute, numbered, flagged, Domain, Domains, tuples, records, matrices, sets, msets, functions, relations, domain_list, members, member_list}
+use Rattle.ess_semantics.specs.Attributes.{set_attributes_hold}
+use Rattle.ess_repr_laws.specs.Rooms.{HasDummy}
+use Rattle.ess_semantics.specs.SetLayers.{dummy_of}
+use Rattle.ess_semantics.specs.Domains.{booleans, Attribute, attribute, numbered, flagged, Domain, Domains, tuples, records, matrices, sets, msets, functions, relations, domain_list, members, member_list}
 use Rattle.ess_semantics.specs.Layers.{as_cell}
 use Rattle.ess_semantics.specs.Meaning.{Env, members_in, cell_value, meaning, meanings, domain_of, is_bool_dom, attributes_of, as_int}
 use Rattle.ess_semantics.specs.Names.{look}
 use Rattle.ess_semantics.specs.Numbers.{one_to}
 use Rattle.ess_semantics.specs.Order.{same_text}
-use Rattle.ess_semantics.specs.Sizes.{slots_of_set, slots_of_mset}
+use Rattle.ess_semantics.specs.Sizes.{slots_of_set, slots_of_mset, size_attributes, child_set}
 use Rattle.ess_semantics.specs.Tables.{Tables, is_cell}
 use Rattle.ess_semantics.specs.Trees.{Ex, Exs, Dom, Doms, no_doms, more_doms, Mark, Repr, Reprs, repr, no_reprs, more_reprs, tuple_dom, record_dom, matrix_dom, set_dom, mset_dom, function_dom, relation_dom, no_exs, more_exs}
 use Rattle.ess_semantics.specs.Values.{Text, Value, number, truth}
@@ -59,6 +62,14 @@ asks_no_times [] = true
 asks_no_times (numbered k n ∷ ks) = not (is_times_key k) && asks_no_times ks
 asks_no_times (flagged k ∷ ks) = asks_no_times ks
 
+-- The attributes of the set of a relation's tuples.
+abbrev pub tuple_set_sizes : List Attribute → List Attribute
+tuple_set_sizes ks = size_attributes (attribute Key.Size ks) (attribute Key.MinSize ks) (attribute Key.MaxSize ks)
+
+-- The sizes that the attributes as' allow are among those of ks. So where no attribute stands twice.
+abbrev pub AreSizes : List Attribute → List Attribute → Type 0
+AreSizes as' ks = (n : ℕ) → set_attributes_hold as' n ≡ true → set_attributes_hold ks n ≡ true
+
 -- Further axes in front, by their members.
 abbrev pub on_members : List (List Value) → List (List (List Value)) → List (List (List Value))
 on_members uss vsss = map (λ vss. uss ++ vss) vsss
@@ -96,6 +107,8 @@ abbrev mutual
       slot_numbers (slots_of_mset ks e) ∷ on_members (slot_numbers (slots_of_mset ks e)) (axes_members r e)
   axes_members (repr ReprKind.MSetExplicitWithRepetition (more_reprs r no_reprs)) (msets ks e) =
       [] ∷ on_members (slot_numbers (slots_of_mset ks e)) (axes_members r e)
+  axes_members (repr ReprKind.ExplicitVarSizeWithDummy no_reprs) (sets ks e) = slot_numbers (slots_of_set ks e) ∷ []
+  axes_members (repr ReprKind.RelationAsSet (more_reprs r no_reprs)) (relations ks xs) = axes_members r (child_set ks xs)
   axes_members _ e = []
 
   -- Those of the views of components.
@@ -147,6 +160,10 @@ module _ (env0 : Env) (q : ℕ → Text) (q-apart : (m l : ℕ) → l < m → sa
       meaning x (M env0 q q-apart bs) ≡ Some (cell_value (is_bool_dom d) z) →
       meaning (terms.atom d x) (M env0 q q-apart bs) ≡ Some (truth (is_cell (as_cell e) z))
 
+  -- The term for the dummy is its number, whatever names are bound.
+  abbrev pub DummyIs : Dom → Domain → Type 0
+  DummyIs d e = (m : ℤ) × (dummy_of e ≡ Some m) × ((bs : Bound env0 q q-apart) → Number (terms.dummy d) (M env0 q q-apart bs) m)
+
   abbrev mutual
     -- What the domain's parts mean, whatever names are bound.
     pub Ready : Repr → Dom → Domain → Type 0
@@ -183,6 +200,10 @@ module _ (env0 : Env) (q : ℕ → Text) (q-apart : (m l : ℕ) → l < m → sa
         Attributes ms es ks × SlotsAre (mset_dom ms es d) (slots_of_mset ks e) × Ready r d e
     Ready (repr ReprKind.MSetExplicitWithRepetition (more_reprs r no_reprs)) (mset_dom ms es d) (msets ks e) =
         Attributes ms es ks × SlotsAre (mset_dom ms es d) (slots_of_mset ks e) × (asks_no_times ks ≡ true) × Ready r d e
+    Ready (repr ReprKind.ExplicitVarSizeWithDummy no_reprs) (set_dom ms es d) (sets ks e) =
+        (HasDummy e × (is_bool_dom d ≡ false) × AtomReady d e) × DummyIs d e × Attributes ms es ks × SlotsAre (set_dom ms es d) (slots_of_set ks e)
+    Ready (repr ReprKind.RelationAsSet (more_reprs r no_reprs)) (relation_dom ms es ds) (relations ks xs) =
+        ((has_flags_among no_key ks ≡ true) × AreSizes (tuple_set_sizes ks) ks) × Ready r (tuple_set_dom ms es ds) (child_set ks xs)
     Ready _ d e = ⊥
 
     -- The same of components.

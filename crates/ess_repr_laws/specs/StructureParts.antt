@@ -1,12 +1,13 @@
 -- The parts of the constraint that the cells of a view are canonical, as expressions. The names that it binds are q l, q (l + 1)
 -- and so on.
-use Rattle.std.specs.Prelude.{ℕ, suc, Bool, true, false, List, [], ◌∷◌, ◌++◌, pos}
+use Rattle.std.specs.Prelude.{if◌then◌else◌, ℕ, suc, Bool, true, false, List, [], ◌∷◌, ◌++◌, pos}
 use Rattle.ess_semantics.specs.declared.words.Op1.{Op1}
 use Rattle.ess_semantics.specs.declared.words.Op2.{Op2}
 use Rattle.ess_semantics.specs.declared.words.Fun.{Fun}
 use Rattle.ess_semantics.specs.declared.words.Key.{Key}
+use Rattle.ess_semantics.specs.Domains.{same_key}
 use Rattle.ess_semantics.specs.Values.{Text}
-use Rattle.ess_semantics.specs.Trees.{both_ends, Mark, flag, valued, name_pat, Ex, Exs, number_ex, truth_ex, name_ex, comp_ex, cell_ex, no_exs, more_exs, Gens, no_gens, over, cond, Dom, int_dom, ex1, ex2, fun1}
+use Rattle.ess_semantics.specs.Trees.{Doms, tuple_dom, set_dom, both_ends, Mark, flag, valued, name_pat, Ex, Exs, number_ex, truth_ex, name_ex, comp_ex, cell_ex, no_exs, more_exs, Gens, no_gens, over, cond, Dom, int_dom, ex1, ex2, fun1}
 
 -- A table of the view: its name, whether it holds truth values, and the axes behind the view's index list.
 pub record Shape : Type 0 where
@@ -61,6 +62,21 @@ size_ex (valued k ∷ ms) (more_exs e es) m = and_ex (key_ex k e m) (size_ex ms 
 abbrev pub level_behind : ℕ → List Dom → ℕ
 level_behind l [] = l
 level_behind l (a ∷ as') = level_behind (suc l) as'
+
+-- The number of the attribute k, in front of what is there, where the attribute stands.
+abbrev pub number_of_key : Key → List Mark → Exs → List Mark → Exs → List Mark × Exs
+number_of_key k [] es ns os = (ns, os)
+number_of_key k (flag j ∷ ms) es ns os = number_of_key k ms es ns os
+number_of_key k (valued j ∷ ms) no_exs ns os = (ns, os)
+number_of_key k (valued j ∷ ms) (more_exs e es) ns os = if same_key j k then (valued k ∷ ns, more_exs e os) else number_of_key k ms es ns os
+
+-- The set of a relation's tuples, with the attributes that speak of its size.
+abbrev pub tuple_set_dom : List Mark → Exs → Doms → Dom
+tuple_set_dom ms es ds =
+    let a : List Mark × Exs = number_of_key Key.MaxSize ms es [] no_exs in
+    let b : List Mark × Exs = number_of_key Key.MinSize ms es a.0 a.1 in
+    let c : List Mark × Exs = number_of_key Key.Size ms es b.0 b.1 in
+    set_dom c.0 c.1 (tuple_dom ds)
 
 module _ (q : ℕ → Text) where
   -- Generators over the axes behind.
@@ -213,16 +229,33 @@ module _ (q : ℕ → Text) where
       and_ex (use_ex l size (le_ex (name_ex (q l)) (cell_ex false n is)) (le_ex (next_ex l) (cell_ex false n is))
       (at_most_ex (suc l) ss (add_ex is (name_ex (q l))) (add_ex is (next_ex l))) ss is part) (size_ex ms es (cell_ex false n is))
 
+  -- How many slots hold another number than the dummy.
+  abbrev pub member_count_ex : ℕ → Ex → Ex → Text → Exs → Ex
+  member_count_ex l size dummy n is =
+      fun1 false Fun.Sum (comp_ex (fun1 false Fun.ToInt (ex1 true Op1.Not (ex2 true Op2.Eq dummy (cell_ex false n (add_ex is (name_ex (q l)))))))
+      (row_gens l (upto size ∷ [])))
+
+  -- Slots with a dummy: each holds a member or the dummy, and a slot that holds a member stands above the slot before it.
+  abbrev pub dummy_ex : ℕ → List Mark → Exs → Ex → Ex → (Ex → Ex) → Text → Exs → Ex
+  dummy_ex l ms es size dummy atom n is =
+      let here : Ex = cell_ex false n (add_ex is (name_ex (q l))) in
+      let next : Ex = cell_ex false n (add_ex is (next_ex l)) in
+      and_ex (and_ex (each_ex l (upto size ∷ []) (or_ex (atom here) (ex2 true Op2.Eq dummy here)))
+      (over_slots l size (le_ex (next_ex l) size) (or_ex (ex2 true Op2.Eq dummy next) (ex2 true Op2.Lt here next))))
+      (size_ex ms es (member_count_ex l size dummy n is))
+
   -- Which members occur.
   abbrev pub occurrence_ex : ℕ → List Mark → Exs → Dom → Text → Exs → Ex
   occurrence_ex l ms es d n is = size_ex ms es (true_count_ex l (d ∷ []) n is)
 
 -- ---- what views take from domains
 
--- The terms that the constraint takes from domains: the number of slots, and that a cell lies in the domain of an atom.
+-- The terms that the constraint takes from domains: the number of slots, that a cell lies in the domain of an atom, and
+-- its dummy.
 pub record Terms : Type 0 where
   pub slots : Dom → Ex
   pub atom : Dom → Ex → Ex
+  pub dummy : Dom → Ex
 
 -- The first name of a view's tables.
 abbrev pub first_name : List Text → Text
