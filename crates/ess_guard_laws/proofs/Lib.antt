@@ -15,6 +15,9 @@ pub mod Behind
 pub mod TotalRows
 pub mod KnownNames
 pub mod Arguments
+pub mod TotalIndices
+pub mod TotalAxes
+pub mod CoveredKept
 pub mod Totals
 pub mod Flat
 pub mod Terms

@@ -30,7 +30,8 @@ use Rattle.ess_guard_laws.proofs.Behind.{Behind, behind-unless, safe-total}
 
 -- ---- numbers
 
-number-total : (k : Names Origin) (b : Ex) (env : Env) → Total b env → Total (as_number k b) env
+-- The number that an operator reads.
+pub number-total : (k : Names Origin) (b : Ex) (env : Env) → Total b env → Total (as_number k b) env
 number-total k b env t = go (is_number k b)
   where
     go : (z : Bool) → Total (if z then b else ex2 false Op2.Plus b nil_ex) env
@@ -146,7 +147,8 @@ power-total k a b env n ta tb = go (is_above_zero b) refl
 
 -- ---- items
 
-under-map : (gs : Gens) (env : Env) (P Q : Env → Type 0) → ((h : Env) → P h → Q h) → TotalUnder gs env P → TotalUnder gs env Q
+-- What follows at each binding.
+pub under-map : (gs : Gens) (env : Env) (P Q : Env → Type 0) → ((h : Env) → P h → Q h) → TotalUnder gs env P → TotalUnder gs env Q
 under-map no_gens env P Q f m = f env m
 under-map (over p d gs) env P Q f m = (m.0, each-of-map (members_in (domain_of d env)) _ _ (λ v. under-map gs (with_pat p v env) P Q f) m.1)
 under-map (from p e gs) env P Q f m = (m.0, each-in-map (meaning e env) _ _ (λ v. under-map gs (with_pat p v env) P Q f) m.1)

@@ -1,5 +1,5 @@
 -- Under its conditions a covered tree is total.
-use Rattle.std.proofs.Common.{◌≡◌, refl, sym, ap, ◌∙◌, subst, ℕ, Bool, true, false, ◌&&◌, ◌||◌, not, if◌then◌else◌, List, [], ◌∷◌, ◌++◌, map, length, Option, Some, None, is_some}
+use Rattle.std.proofs.Common.{◌≡◌, refl, sym, ap, ◌∙◌, subst, ℕ, Bool, true, false, ◌&&◌, ◌||◌, not, if◌then◌else◌, List, [], ◌∷◌, ◌++◌, map, length, Option, Some, None, option_map, is_some}
 use Rattle.ess_semantics.specs.declared.words.Op2.{Op2}
 use Rattle.ess_semantics.specs.declared.words.Fun.{Fun}
 use Rattle.ess_semantics.specs.declared.words.ReprKind.{ReprKind}
@@ -9,18 +9,23 @@ use Rattle.ess_semantics.specs.Names.{Names}
 use Rattle.ess_semantics.specs.Collections.{value_at}
 use Rattle.ess_semantics.specs.Numbers.{div_down, mod_down}
 use Rattle.ess_semantics.specs.Trees.{Step, by_value, to_component, to_field, Op, binary, word, index, application, function_literal, partition_literal, repr, more_reprs, Ex, Exs, number_ex, truth_ex, name_ex, node_ex, matrix_ex, comp_ex, cell_ex, seen_ex, no_exs, more_exs, Gens, no_gens, over, from, cond, Dom, Doms, bool_dom, int_dom, name_dom, tuple_dom, record_dom, matrix_dom, set_dom, mset_dom, function_dom, relation_dom, partition_dom, no_doms, more_doms, ex2, fun1}
-use Rattle.ess_semantics.specs.Operators.{as_truth, connective, value_of_node, value_of_op, least, greatest}
+use Rattle.ess_semantics.specs.Operators.{as_truth, connective, value_of_node, value_of_op, path_value, at_index, at_component, at_field, least, greatest}
 use Rattle.ess_semantics.specs.Tables.{Table}
 use Rattle.ess_semantics.specs.Meaning.{Env, TypeEntry, bind, meaning, meanings, domain_of, members_in}
 use Rattle.ess_semantics.specs.Totality.{HasValue, Total, TotalAll, TotalUnder, TotalDom, TotalDoms}
 use Rattle.ess_rules_laws.proofs.Simulation.{Vals, E}
-use Rattle.ess_guard_laws.specs.Origins.{Origin, with_any, with_over, known_behind}
-use Rattle.ess_guard_laws.specs.IndexDomains.{number_of}
-use Rattle.ess_guard_laws.specs.Conditions.{chained, is_argument, image_conditions, at_step, path_conditions, own}
+use Rattle.ess_guard_laws.specs.Origins.{Origin, is_sure, with_any, with_over, known_behind}
+use Rattle.ess_guard_laws.specs.IndexDomains.{number_of, index_dom}
+use Rattle.ess_guard_laws.specs.Conditions.{chained, is_argument, image_conditions, in_dom, index_conditions, at_step, path_conditions, own}
 use Rattle.ess_guard_laws.specs.Guard.{connects, guarded, guarded_all, guarded_gens, guarded_dom, guarded_doms, conditions, conditions_all, conditions_gens, conditions_dom, conditions_doms}
-use Rattle.ess_guard_laws.specs.Covered.{no_values, covers, asks_nothing, AskNothing, Covered, CoveredAll, CoveredGens, CoveredDom, CoveredDoms}
+use Rattle.ess_guard_laws.specs.Covered.{has_axis, path_has_axes, covers, asks_nothing, AskNothing, Covered, CoveredAll, CoveredGens, CoveredDom, CoveredDoms}
 use Rattle.ess_guard_laws.proofs.Holding.{node-value, the-value}
-use Rattle.ess_guard_laws.proofs.LiteralRows.{number-of-values}
+use Rattle.ess_guard_laws.proofs.LiteralRows.{number-of-values, first-value, no-values}
+use Rattle.ess_guard_laws.proofs.IndexRows.{item-means}
+use Rattle.ess_guard_laws.proofs.TotalIndices.{in-dom-total, in-dom-tells}
+use Rattle.ess_guard_laws.proofs.TotalAxes.{axis-of}
+use Rattle.ess_guard_laws.proofs.CoveredKept.{covers-kept}
+use Rattle.ess_semantics.proofs.Tests.{and-left, and-right}
 use Rattle.ess_guard_laws.proofs.ItemRows.{defined-means}
 use Rattle.ess_guard_laws.proofs.MetRows.{each-in-always}
 use Rattle.ess_guard_laws.proofs.Safe.{node-some, all-there}
@@ -129,14 +134,61 @@ module _ (x y : Text) (pl : Bool) (ts : List TypeEntry) (cs : Names Table) where
       (safe-total true (binary Op2.Member) (more_exs a (more_exs (fun1 false Fun.Defined f) no_exs)) (M g) refl (ta, (safe-total false (word Fun.Defined) (more_exs f no_exs) (M g) refl (tf, tt), tt)))
       (λ h. both-there (λ o p. is_some (value_of_node (word Fun.Image) (o ∷ p ∷ [])) ≡ true) (meaning f (M g)) (meaning a (M g)) (λ v w p q. sym (defined-means f a (M g) v w p q) ∙ h))
 
-  path-none : (k : Names Origin) (m : Ex) (qs : List Step) (is : Exs) (env : Env) (P : Type 0) → no_values qs ≡ true → P → Behind (path_conditions k x m qs is) env P
-  path-none k m [] is env P t p = p
-  path-none k m (by_value ∷ qs) is env P t p = cc
-  path-none k m (to_component c ∷ qs) is env P t p = path-none k (at_step (to_component c) m no_exs) qs is env P t p
-  path-none k m (to_field a ∷ qs) is env P t p = path-none k (at_step (to_field a) m no_exs) qs is env P t p
+  -- What is told of an index: there is an item.
+  abbrev ItemThere : Ex → Ex → Vals → Type 0
+  ItemThere m i g = (v w : Value) → meaning m (M g) ≡ Some v → meaning i (M g) ≡ Some w → is_some (at_index v w) ≡ true
+
+  -- What is told of a path: it leads to a value.
+  abbrev PathThere : Ex → List Step → Exs → Vals → Type 0
+  PathThere m qs is g = (v : Value) (ws : List Value) → meaning m (M g) ≡ Some v → all_some (meanings is (M g)) ≡ Some ws → is_some (path_value v qs ws) ≡ true
+
+  index-total : (k : Names Origin) (m i : Ex) (g : Vals) → Known k g → has_axis m ≡ true → Total m (M g) → Total i (M g) → Behind (index_conditions k x (index_dom m) m i) (M g) (ItemThere m i g)
+  index-total k m i g n t tm ti =
+      let a = axis-of m (M g) t tm in
+      subst (λ o. Behind (index_conditions k x o m i) (M g) (ItemThere m i g)) (sym a.1)
+      (behind-unless (is_sure k i a.0) (in_dom x i a.0) (M g) (ItemThere m i g)
+      (λ z v w p q. let u = K.sure-member pl ts cs k i a.0 g w n z q in a.3 v w u.0 p u.1 u.2)
+      (in-dom-total x i a.0 (M g) ti a.2)
+      (λ h v w p q. let u = in-dom-tells x i a.0 (M g) w q h in a.3 v w u.0 p u.1 u.2))
+
+  step-total : (m i : Ex) (g : Vals) → Total m (M g) → Total i (M g) → ItemThere m i g → Total (at_step by_value m (more_exs i no_exs)) (M g)
+  step-total m i g tm ti f = (λ h. both-there (λ o p. is_some (value_of_node (index (by_value ∷ [])) (o ∷ p ∷ [])) ≡ true) (meaning m (M g)) (meaning i (M g)) (λ v w p q. one (at_index v w) (f v w p q)) h, (tm, (ti, tt)))
+    where
+      one : (o : Option Value) → is_some o ≡ true → is_some (and_then o (λ z. Some z)) ≡ true
+      one None e = cc
+      one (Some z) e = refl
+
+  path-total : (k : Names Origin) (m : Ex) (qs : List Step) (is : Exs) (g : Vals) → Known k g → path_has_axes m qs is ≡ true → Total m (M g) → TotalAll is (M g) → Behind (path_conditions k x m qs is) (M g) (PathThere m qs is g)
+  path-total k m [] is g n t tm ti = λ v ws e p. ends v ws
+    where
+      ends : (v : Value) (ws : List Value) → is_some (path_value v [] ws) ≡ true
+      ends v [] = refl
+      ends v (w ∷ ws) = refl
+  path-total k m (by_value ∷ qs) no_exs g n t tm ti = λ v ws e p. ap (λ l. is_some (path_value v (by_value ∷ qs) l)) (no-values ws p)
+  path-total k m (by_value ∷ qs) (more_exs i is) g n t tm ti =
+      behind-append (index_conditions k x (index_dom m) m i) (path_conditions k x (at_step by_value m (more_exs i no_exs)) qs is) (M g) (ItemThere m i g) (PathThere m (by_value ∷ qs) (more_exs i is) g)
+      (λ f. behind-map (path_conditions k x (at_step by_value m (more_exs i no_exs)) qs is) (M g) (PathThere (at_step by_value m (more_exs i no_exs)) qs is g) (PathThere m (by_value ∷ qs) (more_exs i is) g)
+      (λ h v ws e p.
+      let r = first-value (meaning i (M g)) (all_some (meanings is (M g))) ws p in
+      let a = the-value (at_index v r.0) (f v r.0 e r.2) in
+      ap (λ l. is_some (path_value v (by_value ∷ qs) l)) r.4 ∙ ap (λ o. is_some (and_then o (λ z. path_value z qs r.1))) a.1 ∙ h a.0 r.1 (item-means m i (M g) v r.0 e r.2 ∙ a.1) r.3)
+      (path-total k (at_step by_value m (more_exs i no_exs)) qs is g n (and-right (has_axis m) (path_has_axes (at_step by_value m (more_exs i no_exs)) qs is) t) (step-total m i g tm ti.0 f) ti.1))
+      (index-total k m i g n (and-left (has_axis m) (path_has_axes (at_step by_value m (more_exs i no_exs)) qs is) t) tm ti.0)
+  path-total k m (to_component c ∷ qs) is g n t tm ti = behind-map (path_conditions k x (at_step (to_component c) m no_exs) qs is) (M g) (PathThere (at_step (to_component c) m no_exs) qs is g) (PathThere m (to_component c ∷ qs) is g)
+      (λ h v ws e p. h (at_component v c) ws (ap (λ o. value_of_node (index (to_component c ∷ [])) (o ∷ [])) e) p)
+      (path-total k (at_step (to_component c) m no_exs) qs is g n t (safe-total false (index (to_component c ∷ [])) (more_exs m no_exs) (M g) refl (tm, tt)) ti)
+  path-total k m (to_field a ∷ qs) is g n t tm ti = behind-map (path_conditions k x (at_step (to_field a) m no_exs) qs is) (M g) (PathThere (at_step (to_field a) m no_exs) qs is g) (PathThere m (to_field a ∷ qs) is g)
+      (λ h v ws e p. h (at_field v a) ws (ap (λ o. value_of_node (index (to_field a ∷ [])) (o ∷ [])) e) p)
+      (path-total k (at_step (to_field a) m no_exs) qs is g n t (safe-total false (index (to_field a ∷ [])) (more_exs m no_exs) (M g) refl (tm, tt)) ti)
+
+  path-there : (qs : List Step) (o : Option Value) (l : List (Option Value)) → ((v : Value) (ws : List Value) → o ≡ Some v → all_some l ≡ Some ws → is_some (path_value v qs ws) ≡ true) → HasValue (value_of_node (index qs) (o ∷ l)) (o ∷ l)
+  path-there qs None l f h = cc
+  path-there qs (Some v) l f h =
+      let r = the-value (all_some l) (all-there l h) in
+      ap (λ q. is_some (and_then (option_map (λ xs. v ∷ xs) q) (value_of_op (index qs)))) r.1 ∙ f v r.0 refl r.1
 
   -- Under its own conditions an operator has a value.
-  own-total : (k : Names Origin) (op : Op) (es : Exs) (g : Vals) → Known k g → covers op ≡ true → TotalAll es (M g) → Behind (own k x y op es) (M g) (HasValue (value_of_node op (meanings es (M g))) (meanings es (M g)))
+  own-total : (k : Names Origin) (op : Op) (es : Exs) (g : Vals) → Known k g → covers op es ≡ true → TotalAll es (M g) → Behind (own k x y op es) (M g) (HasValue (value_of_node op (meanings es (M g))) (meanings es (M g)))
   own-total k (binary Op2.Div) (more_exs a (more_exs b no_exs)) g n v t = quotient-total Op2.Div div_down k a b (M g) (K.known-numbers pl ts cs k g n) t.1.0 (λ v w. refl) div-some
   own-total k (binary Op2.Mod) (more_exs a (more_exs b no_exs)) g n v t = quotient-total Op2.Mod mod_down k a b (M g) (K.known-numbers pl ts cs k g n) t.1.0 (λ v w. refl) mod-some
   own-total k (binary Op2.Pow) (more_exs a (more_exs b no_exs)) g n v t = power-total k a b (M g) (K.known-numbers pl ts cs k g n) t.0 t.1.0
@@ -163,8 +215,8 @@ module _ (x y : Text) (pl : Bool) (ts : List TypeEntry) (cs : Names Table) where
   own-total k (word Fun.Max) (more_exs s no_exs) g n v t = item-total Fun.Max greatest x s (M g) t.0 (λ v. refl) greatest-there
   own-total k (word Fun.Image) (more_exs f (more_exs a no_exs)) g n v t = image-total k f a g n t.0 t.1.0
   own-total k (word Fun.Party) (more_exs a (more_exs p no_exs)) g n v t = party-total a p (M g) t.0 t.1.0
-  own-total k (index qs) no_exs g n v t = λ h. node-some (index qs) [] v h
-  own-total k (index qs) (more_exs m is) g n v t = path-none k m qs is (M g) _ v (λ h. node-some (index qs) (meanings (more_exs m is) (M g)) v h)
+  own-total k (index qs) no_exs g n v t = λ h. refl
+  own-total k (index qs) (more_exs m is) g n v t = behind-map (path_conditions k x m qs is) (M g) (PathThere m qs is g) _ (path-there qs (meaning m (M g)) (meanings is (M g))) (path-total k m qs is g n v t.0 t.1)
   own-total k application es g n v t = cc
   own-total k function_literal es g n v t = cc
   own-total k partition_literal es g n v t = cc
@@ -195,9 +247,9 @@ module _ (x y : Text) (pl : Bool) (ts : List TypeEntry) (cs : Names Table) where
     total (node_ex b op es) k g h v = node-choice b (connects op) (Cs k es ++ own k x y op (Gs k es)) (node_ex b op (Gs k es)) (node_ex true op (Gs k es)) (M g)
         (λ c. ((λ q. connects-some op (meanings (Gs k es) (M g)) c), total-truths es k g h (subst (λ z. AskNothing z es) c v.1) v.2))
         (λ c. behind-append (Cs k es) (own k x y op (Gs k es)) (M g) (TotalAll (Gs k es) (M g)) (Total (node_ex b op (Gs k es)) (M g))
-        (λ t. behind-map (own k x y op (Gs k es)) (M g) _ _ (λ q. (q, t)) (own-total k op (Gs k es) g h v.0 t)) (total-all es k g h v.2))
+        (λ t. behind-map (own k x y op (Gs k es)) (M g) _ _ (λ q. (q, t)) (own-total k op (Gs k es) g h (covers-kept false x y op es k v.0) t)) (total-all es k g h v.2))
         (λ c. behind-append (Cs k es) (own k x y op (Gs k es)) (M g) (TotalAll (Gs k es) (M g)) (Total (node_ex true op (Gs k es)) (M g))
-        (λ t. behind-map (own k x y op (Gs k es)) (M g) _ _ (λ q. (q, t)) (own-total k op (Gs k es) g h v.0 t)) (total-all es k g h v.2))
+        (λ t. behind-map (own k x y op (Gs k es)) (M g) _ _ (λ q. (q, t)) (own-total k op (Gs k es) g h (covers-kept false x y op es k v.0) t)) (total-all es k g h v.2))
     total (matrix_ex es d) k g h v = absurd v
     total (comp_ex e gs) k g h v = total-gens gs k g (G (known_behind gs k) e) (C (known_behind gs k) e) (λ i q. total e (known_behind gs k) i q v.0) h v.1
     total (cell_ex true n es) k g h v = chained-total (Cs k es) (cell_ex true n (Gs k es)) (M g) (total-all es k g h v)
