@@ -17,7 +17,9 @@ pub mod KnownNames
 pub mod Arguments
 pub mod TotalIndices
 pub mod TotalAxes
+pub mod TotalMatrices
 pub mod CoveredKept
+pub mod OwnTotals
 pub mod Totals
 pub mod Flat
 pub mod Terms

@@ -75,7 +75,7 @@ abbrev mutual
   Covered (truth_ex b) = Unit {0}
   Covered (name_ex a) = Unit {0}
   Covered (node_ex b op es) = (covers op es ≡ true) × AskNothing (connects op) es × CoveredAll es
-  Covered (matrix_ex es d) = ⊥
+  Covered (matrix_ex es d) = CoveredAll es × CoveredDom d
   Covered (comp_ex e gs) = Covered e × CoveredGens gs
   Covered (cell_ex b n es) = CoveredAll es
   Covered (seen_ex r d ns es) = Unit {0}
