@@ -7,6 +7,7 @@ pub mod LiteralRows
 pub mod Axes
 pub mod IndexRows
 pub mod Rows
+pub mod Needs
 pub mod Meanings
 pub mod MetRows
 pub mod StructuresMet

@@ -86,6 +86,7 @@ op-some mset_literal xs e = refl
 op-some relation_literal xs e = refl
 op-some matrix_literal xs e = refl
 
+-- All operands are there.
 pub all-there : (os : List (Option Value)) → list_all is_some os ≡ true → is_some (all_some os) ≡ true
 all-there [] e = refl
 all-there (None ∷ os) e = cc

@@ -96,14 +96,17 @@ module _ (x y : Text) (pl : Bool) (ts : List TypeEntry) (cs : Names Table) where
     total (cell_ex false n es) k g h v = total-all es k g h v
     total (seen_ex r d ns es) k g h v = tt
 
+    -- The same of operands.
     pub total-all : (es : Exs) (k : Names Origin) (g : Vals) → Known k g → CoveredAll es → Behind (Cs k es) (M g) (TotalAll (Gs k es) (M g))
     total-all no_exs k g h v = tt
     total-all (more_exs e es) k g h v = behind-two (C k e) (Cs k es) (M g) (Total (G k e) (M g)) (TotalAll (Gs k es) (M g)) (total e k g h v.0) (total-all es k g h v.1)
 
+    -- The same of the operands of connectives.
     pub total-truths : (es : Exs) (k : Names Origin) (g : Vals) → Known k g → AskNothing true es → CoveredAll es → TotalAll (Gs k es) (M g)
     total-truths no_exs k g h a v = tt
     total-truths (more_exs e es) k g h a v = (asked-none e k (M g) (Total (G k e) (M g)) a.0 (total e k g h v.0), total-truths es k g h a.1 v.1)
 
+    -- The same of generators.
     pub total-gens : (gs : Gens) (k : Names Origin) (g : Vals) (a : Ex) (ds : List Ex) → ((i : Vals) → Known (known_behind gs k) i → Behind ds (M i) (Total a (M i))) → Known k g → CoveredGens gs →
         Behind (conditions_gens false x y k gs ds) (M g) (TotalUnder (guarded_gens false x y k gs) (M g) (λ here. Total a here))
     total-gens no_gens k g a ds f h v = f g h
@@ -119,6 +122,7 @@ module _ (x y : Text) (pl : Bool) (ts : List TypeEntry) (cs : Names Table) where
     total-gens (cond c gs) k g a ds f h v = given-behind (G k c) (conditions_gens false x y k gs ds) (M g) (TotalUnder (guarded_gens false x y k gs) (M g) (λ here. Total a here))
         (asked-none c k (M g) (Total (G k c) (M g)) v.0 (total c k g h v.1)) (total-gens gs k g a ds f h v.2)
 
+    -- The same of a domain.
     pub total-dom : (d : Dom) (k : Names Origin) (g : Vals) → Known k g → CoveredDom d → Behind (conditions_dom false x y k d) (M g) (TotalDom (guarded_dom false x y k d) (M g))
     total-dom bool_dom k g h v = tt
     total-dom (int_dom rs es) k g h v = total-all es k g h v
@@ -134,6 +138,7 @@ module _ (x y : Text) (pl : Bool) (ts : List TypeEntry) (cs : Names Table) where
     total-dom (relation_dom ms es ds) k g h v = behind-two (Cs k es) (conditions_doms false x y k ds) (M g) _ _ (total-all es k g h v.0) (total-doms ds k g h v.1)
     total-dom (partition_dom ms es d) k g h v = behind-two (Cs k es) (conditions_dom false x y k d) (M g) _ _ (total-all es k g h v.0) (total-dom d k g h v.1)
 
+    -- The same of several domains.
     pub total-doms : (ds : Doms) (k : Names Origin) (g : Vals) → Known k g → CoveredDoms ds → Behind (conditions_doms false x y k ds) (M g) (TotalDoms (guarded_doms false x y k ds) (M g))
     total-doms no_doms k g h v = tt
     total-doms (more_doms d ds) k g h v = behind-two (conditions_dom false x y k d) (conditions_doms false x y k ds) (M g) _ _ (total-dom d k g h v.0) (total-doms ds k g h v.1)
