@@ -100,6 +100,7 @@ items-inside (i ∷ is) (cons x xs) z e = go (same i z) e (items-inside is xs z)
     go true e h = refl
     go false e h = h e
 
+-- An index with an item is one of the axis.
 pub axis-inside : (d : Domain) (ds : Domains) (w z : Value) → HasAxis d ds w → is_some (at_index w z) ≡ true → holds (member_list d) z ≡ true
 axis-inside d ds w z h e = items-inside (member_list d) (of_list h.0) z (ap (λ v. is_some (at_index v z)) (sym h.2) ∙ e)
 

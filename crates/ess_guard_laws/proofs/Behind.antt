@@ -24,14 +24,17 @@ abbrev pub Behind : List Ex → Env → Type 0 → Type 0
 Behind [] env P = P
 Behind (c ∷ cs) env P = Total c env × WhenTrue (meaning c env) (Behind cs env P)
 
+-- Conditions behind conditions.
 pub behind-append : (cs ds : List Ex) (env : Env) (P Q : Type 0) → (P → Behind ds env Q) → Behind cs env P → Behind (cs ++ ds) env Q
 behind-append [] ds env P Q f b = f b
 behind-append (c ∷ cs) ds env P Q f b = (b.0, λ t. behind-append cs ds env P Q f (b.1 t))
 
+-- What stands behind conditions that hold.
 pub behind-hold : (cs : List Ex) (env : Env) (P : Type 0) → Behind cs env P → Hold cs env → P
 behind-hold [] env P b h = b
 behind-hold (c ∷ cs) env P b h = behind-hold cs env P (b.1 h.0) h.1
 
+-- What stands behind one condition, or none.
 pub behind-unless : (t : Bool) (c : Ex) (env : Env) (P : Type 0) → (t ≡ true → P) → Total c env → (as_truth (meaning c env) ≡ true → P) → Behind (unless t c) env P
 behind-unless true c env P f t g = f refl
 behind-unless false c env P f t g = (t, g)
@@ -47,10 +50,12 @@ pub conds-total : (cs : List Ex) (env : Env) (b : Ex) → Behind cs env (Total b
 conds-total [] env b t = t
 conds-total (c ∷ cs) env b t = (t.0, λ q. conds-total cs env b (t.1 q))
 
+-- A Boolean under conditions is total where it is total behind them.
 pub chained-total : (cs : List Ex) (b : Ex) (env : Env) → Behind cs env (Total b env) → Total (chained cs b) env
 chained-total [] b env t = t
 chained-total (c ∷ cs) b env t = safe-total true (word Fun.Or) (more_exs (comp_ex b (conds (c ∷ cs))) no_exs) env refl (conds-total (c ∷ cs) env b t, tt)
 
+-- That all conditions hold is total.
 pub all-of-total : (cs : List Ex) (env : Env) (P : Type 0) → Behind cs env P → Total (all_of cs) env
 all-of-total [] env P b = tt
 all-of-total (c ∷ []) env P b = b.0

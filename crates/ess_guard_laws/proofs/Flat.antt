@@ -98,6 +98,7 @@ module _ (natural : Bool) (x y : Text) where
   none-asked cs ds e f = ap (λ l. l ++ ds) e ∙ f
 
   mutual
+    -- A flat tree stays as it is.
     pub flat-stays : (e : Ex) (k : Names Origin) → is_flat_tree e ≡ true → guarded natural x y k e ≡ e
     flat-stays (number_ex n) k t = refl
     flat-stays (name_ex a) k t = refl

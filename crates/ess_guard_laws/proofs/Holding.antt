@@ -43,6 +43,7 @@ pub the-value : {A : Type 0} (o : Option A) → is_some o ≡ true → (v : A) �
 the-value None e = cc
 the-value (Some v) e = (v, refl)
 
+-- A value is there still.
 pub map-some : {A B : Type 0} (f : A → B) (o : Option A) → is_some (option_map f o) ≡ is_some o
 map-some f None = refl
 map-some f (Some x) = refl
@@ -54,26 +55,32 @@ abbrev pub all_hold : List Ex → Env → Bool
 all_hold [] env = true
 all_hold (c ∷ cs) env = as_truth (meaning c env) && all_hold cs env
 
+-- Both lists hold.
 pub hold-append : (cs ds : List Ex) (env : Env) → Hold cs env → Hold ds env → Hold (cs ++ ds) env
 hold-append [] ds env p q = q
 hold-append (c ∷ cs) ds env p q = (p.0, hold-append cs ds env p.1 q)
 
+-- The first conditions hold.
 pub hold-left : (cs ds : List Ex) (env : Env) → Hold (cs ++ ds) env → Hold cs env
 hold-left [] ds env p = tt
 hold-left (c ∷ cs) ds env p = (p.0, hold-left cs ds env p.1)
 
+-- The later conditions hold.
 pub hold-right : (cs ds : List Ex) (env : Env) → Hold (cs ++ ds) env → Hold ds env
 hold-right [] ds env p = p
 hold-right (c ∷ cs) ds env p = hold-right cs ds env p.1
 
+-- What holds passes the test.
 pub hold-tested : (cs : List Ex) (env : Env) → Hold cs env → all_hold cs env ≡ true
 hold-tested [] env h = refl
 hold-tested (c ∷ cs) env h = and-both (as_truth (meaning c env)) (all_hold cs env) h.0 (hold-tested cs env h.1)
 
+-- What passes the test holds.
 pub tested-hold : (cs : List Ex) (env : Env) → all_hold cs env ≡ true → Hold cs env
 tested-hold [] env h = tt
 tested-hold (c ∷ cs) env h = (and-left (as_truth (meaning c env)) (all_hold cs env) h, tested-hold cs env (and-right (as_truth (meaning c env)) (all_hold cs env) h))
 
+-- A condition that is asked, or none.
 pub unless-holds : (t : Bool) (c : Ex) (env : Env) → as_truth (meaning c env) ≡ true → Hold (unless t c) env
 unless-holds true c env h = tt
 unless-holds false c env h = (h, tt)
@@ -144,6 +151,7 @@ all-of-truth (c ∷ d ∷ cs) env = chained-truth (c ∷ []) (all_of (d ∷ cs))
     go true b = refl
     go false b = refl
 
+-- That all hold is true.
 pub all-of-holds : (cs : List Ex) (env : Env) → Hold cs env → meaning (all_of cs) env ≡ Some (truth true)
 all-of-holds cs env h = true-of (meaning (all_of cs) env) (all-of-truth cs env ∙ hold-tested cs env h)
 

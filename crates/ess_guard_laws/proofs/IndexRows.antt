@@ -137,11 +137,11 @@ list-index x i b env xs w p q h =
 -- ---- matrix terms
 
 -- What the domain of a term tells of its value.
-abbrev Follows : Option Dom → Env → Value → Type 0
+abbrev pub Follows : Option Dom → Env → Value → Type 0
 Follows o env v = (ds : Doms) (d : Dom) → o ≡ Some (matrix_dom ds d) → (as' : Domains) × (domains_of ds env ≡ Some as') × IsNested as' v
 
 -- Both are there.
-split-doms : (o : Option Domain) (p : Option Domains) (as' : Domains) → and_then o (λ z. option_map (more_domains z) p) ≡ Some as' → (a : Domain) × (bs : Domains) × (o ≡ Some a) × (p ≡ Some bs) × (as' ≡ more_domains a bs)
+pub split-doms : (o : Option Domain) (p : Option Domains) (as' : Domains) → and_then o (λ z. option_map (more_domains z) p) ≡ Some as' → (a : Domain) × (bs : Domains) × (o ≡ Some a) × (p ≡ Some bs) × (as' ≡ more_domains a bs)
 split-doms None p as' e = cc
 split-doms (Some a) None as' e = cc
 split-doms (Some a) (Some bs) as' e = (a, bs, refl, refl, ap (λ o. elim o [ None ↦ as' | Some z ↦ z ]) (sym e))
@@ -177,7 +177,7 @@ path-follows o (by_value ∷ qs) (more_exs i is) env v u ws f p e =
 path-follows o qs is env v u ws f p e = λ ds d q. cc
 
 -- The value of a term follows the domain that its form tells.
-follows : (m : Ex) (env : Env) (v : Value) → meaning m env ≡ Some v → Follows (dom_followed m) env v
+pub follows : (m : Ex) (env : Env) (v : Value) → meaning m env ≡ Some v → Follows (dom_followed m) env v
 follows (seen_ex r d ns es) env v e = λ ds d' q. let t : d ≡ matrix_dom ds d' = some-dom d (matrix_dom ds d') q in
     view-nested r ds d' ns es env v (ap (λ z. meaning (seen_ex r z ns es) env) (sym t) ∙ e)
 follows (node_ex false (index qs) (more_exs m is)) env v e = go (meaning m env) (all_some (meanings is env)) refl refl e (λ w q. follows m env w q)
@@ -190,7 +190,7 @@ follows (node_ex false (index qs) (more_exs m is)) env v e = go (meaning m env) 
 follows m env v e = λ ds d q. cc
 
 -- What an index of a matrix means.
-item-means : (m i : Ex) (env : Env) (v w : Value) → meaning m env ≡ Some v → meaning i env ≡ Some w → meaning (at_step by_value m (more_exs i no_exs)) env ≡ at_index v w
+pub item-means : (m i : Ex) (env : Env) (v w : Value) → meaning m env ≡ Some v → meaning i env ≡ Some w → meaning (at_step by_value m (more_exs i no_exs)) env ≡ at_index v w
 item-means m i env v w e p =
     ap (λ o. value_of_node (index (by_value ∷ [])) (o ∷ meaning i env ∷ [])) e ∙ ap (λ o. value_of_node (index (by_value ∷ [])) (Some v ∷ o ∷ [])) p ∙ go (at_index v w)
   where
@@ -199,7 +199,7 @@ item-means m i env v w e p =
     go (Some z) = refl
 
 -- `sum([1 | gs])` counts the items of a comprehension.
-counted-under : (b : Ex) (gs : Gens) (env : Env) (xs : List Value) → items_under gs env (λ here. option_map (λ u. u ∷ []) (meaning b here)) ≡ Some xs →
+pub counted-under : (b : Ex) (gs : Gens) (env : Env) (xs : List Value) → items_under gs env (λ here. option_map (λ u. u ∷ []) (meaning b here)) ≡ Some xs →
     meaning (fun1 false Fun.Sum (comp_ex (number_ex (pos 1)) gs)) env ≡ Some (number (pos (length xs)))
 counted-under b gs env xs e = go (items_under gs env (λ here. Some (number (pos 1) ∷ []))) refl (subst (λ o. Counts o (items_under gs env (λ here. Some (number (pos 1) ∷ [])))) e (counts-under gs env _ _ (λ here. one-counts (meaning b here))))
   where

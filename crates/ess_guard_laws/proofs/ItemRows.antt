@@ -46,6 +46,7 @@ shown-collect : (vs : List Value) (f g : Value → Option (List Value)) → ((v 
 shown-collect [] f g h = refl
 shown-collect (v ∷ vs) f g h = shown-append (f v) (g v) (collect vs f) (collect vs g) (h v) (shown-collect vs f g h)
 
+-- So it is over generators.
 pub shown-under : (gs : Gens) (env : Env) (i j : Env → Option (List Value)) → ((here : Env) → Shown (i here) (j here)) → Shown (items_under gs env i) (items_under gs env j)
 shown-under no_gens env i j h = h env
 shown-under (over p d gs) env i j h = go (members_in (domain_of d env)) (λ v. shown-under gs (with_pat p v env) i j h)
@@ -102,6 +103,7 @@ from-item x s env v q =
     (ap (λ o. and_then o (λ z. collect (items_of z) (λ w. Some (truth true ∷ [])))) q ∙ collect-bits (items_of v) (λ w. Some (truth true ∷ [])) (λ w. true) (each-refl (items_of v))))
     ∙ any-bits (λ w. true) (items_of v) ∙ yes-any (items_of v)
 
+-- Whether a container has an item, by its form.
 pub has-item-means : (x : Text) (s : Ex) (env : Env) (v : Value) → meaning s env ≡ Some v → as_truth (meaning (has_item x s) env) ≡ not (is_empty (items_of v))
 has-item-means x (comp_ex e gs) env v q = comp-item e gs env v q
 has-item-means x (number_ex n) env v q = from-item x (number_ex n) env v q
@@ -112,13 +114,16 @@ has-item-means x (matrix_ex es d) env v q = from-item x (matrix_ex es d) env v q
 has-item-means x (cell_ex b n es) env v q = from-item x (cell_ex b n es) env v q
 has-item-means x (seen_ex r d ns es) env v q = from-item x (seen_ex r d ns es) env v q
 
+-- A container with an item has one.
 pub some-item-holds : (x : Text) (s : Ex) (env : Env) (v : Value) → meaning s env ≡ Some v → is_empty (items_of v) ≡ false → Hold (some_item x s) env
 some-item-holds x s env v q h = unless-holds (has_items s) (has_item x s) env (has-item-means x s env v q ∙ ap not h)
 
+-- A list with a least item has an item.
 pub least-some : (xs : List Value) → is_some (least xs) ≡ true → is_empty xs ≡ false
 least-some [] e = cc
 least-some (x ∷ xs) e = refl
 
+-- A list with a greatest item has an item.
 pub greatest-some : (xs : List Value) → is_some (greatest xs) ≡ true → is_empty xs ≡ false
 greatest-some [] e = cc
 greatest-some (x ∷ xs) e = refl
@@ -159,8 +164,10 @@ participants-means a p env w v q r =
     ∙ ap (λ o. as_truth (false_where_undefined true (value_of_node (binary Op2.Member) (o ∷ value_of_node (word Fun.Participants) (Some v ∷ []) ∷ [])))) q
     ∙ ap (λ l. holds l w) (to_list-of_list _) ∙ holds-sorted_once (append_all (map items_of (items_of v))) w ∙ part-with-holds (items_of v) w
 
+-- The condition of an image.
 pub image-holds : (k : Names Origin) (f a : Ex) (env : Env) (v w : Value) → meaning f env ≡ Some v → meaning a env ≡ Some w → is_some (value_at (items_of v) w) ≡ true → Hold (image_conditions k f a) env
 image-holds k f a env v w p q h = unless-holds (is_argument k f a) _ env (defined-means f a env v w p q ∙ h)
 
+-- The condition of a part.
 pub party-holds : (a p : Ex) (env : Env) (w v : Value) → meaning a env ≡ Some w → meaning p env ≡ Some v → is_some (part_with (items_of v) w) ≡ true → Hold (party_conditions a p) env
 party-holds a p env w v q r h = (participants-means a p env w v q r ∙ h, tt)

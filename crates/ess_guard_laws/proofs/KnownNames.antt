@@ -87,6 +87,7 @@ module _ (pl : Bool) (ts : List TypeEntry) (cs : Names Table) where
   abbrev pub Known : Names Origin → Vals → Type 0
   Known k g = (a : Text) (d : Dom) → look k a ≡ Some (runs_over d) → (v : Value) × (look g a ≡ Some v) × Lies d v
 
+  -- Nothing is known of no names.
   pub known-none : (g : Vals) → Known [] g
   known-none g a d e = cc
 
@@ -99,15 +100,18 @@ module _ (pl : Bool) (ts : List TypeEntry) (cs : Names Table) where
       go false q r = r q
 
   mutual
+    -- Behind a pattern of which nothing is known.
     pub known-any : (p : Pat) (v : Value) (k : Names Origin) (g : Vals) → Known k g → Known (with_any p k) (bind p v g)
     known-any (name_pat a) v k g h = one-more a anywhere v k g (λ d e. cc) h
     known-any (tuple_pat ps) v k g h = known-all-any ps (items_of v) k g h
 
+    -- Behind several patterns.
     pub known-all-any : (ps : Pats) (vs : List Value) (k : Names Origin) (g : Vals) → Known k g → Known (with_all_any ps k) (bind_all ps vs g)
     known-all-any no_pats vs k g h = h
     known-all-any (more_pats p ps) [] k g h = known-all-any ps [] (with_any p k) (bind p misfit g) (known-any p misfit k g h)
     known-all-any (more_pats p ps) (v ∷ vs) k g h = known-all-any ps vs (with_any p k) (bind p v g) (known-any p v k g h)
 
+  -- Behind a pattern over a domain.
   pub known-over : (p : Pat) (d : Dom) (v : Value) (k : Names Origin) (g : Vals) → Lies d v → Known k g → Known (with_over p d k) (bind p v g)
   known-over (name_pat a) d v k g l h = one-more a (runs_over d) v k g (λ c e. subst (λ z. Lies z v) (ap (λ z. elim z [ runs_over y ↦ y | anywhere ↦ d ]) e) l) h
   known-over (tuple_pat ps) d v k g l h = known-all-any ps (items_of v) k g h

@@ -7,6 +7,7 @@ pub mod LiteralRows
 pub mod Axes
 pub mod IndexRows
 pub mod Rows
+pub mod Needs
 pub mod Meanings
 pub mod MetRows
 pub mod StructuresMet
@@ -15,6 +16,11 @@ pub mod Behind
 pub mod TotalRows
 pub mod KnownNames
 pub mod Arguments
+pub mod TotalIndices
+pub mod TotalAxes
+pub mod TotalMatrices
+pub mod CoveredKept
+pub mod OwnTotals
 pub mod Totals
 pub mod Flat
 pub mod Terms

@@ -108,6 +108,7 @@ agree-all-holds p (more_exs q qs) env ps v ws n e f hv hw =
     later true b e = refl
     later false b e = e
 
+-- The pairs of a function agree.
 pub functions-hold : (es : Exs) (env : Env) (ps ws : List Value) → has_double_argument ps ≡ false → all_some (meanings es env) ≡ Some ws → ((z : Value) → holds ws z ≡ true → holds ps z ≡ true) → Hold (function_conditions es) env
 functions-hold no_exs env ps ws n f hw = tt
 functions-hold (more_exs p es) env ps ws n f hw =
@@ -143,6 +144,7 @@ function-holds es env h = go (all_some (meanings es env)) refl h
 
 -- ---- partitions
 
+-- The parts of a partition have members.
 pub members-hold : (x : Text) (es : Exs) (env : Env) (ws : List Value) → all_some (meanings es env) ≡ Some ws → has_empty_part ws ≡ false → Hold (have_members x es) env
 members-hold x no_exs env ws e h = tt
 members-hold x (more_exs s es) env ws e h =

@@ -1,135 +1,21 @@
 -- What a tree with guarded Booleans means, and that the conditions of a term hold where it has a value: in every env, whatever
 -- is known of names, in natural places or not.
-use Rattle.std.proofs.Common.{◌≡◌, refl, sym, ap, ◌∙◌, Bool, true, false, ◌&&◌, ◌||◌, not, if◌then◌else◌, List, [], ◌∷◌, ◌++◌, map, ℤ, Option, Some, None, option_map, is_some}
-use Rattle.ess_semantics.specs.declared.words.Key.{Key}
+use Rattle.std.proofs.Common.{◌≡◌, refl, sym, ap, ◌∙◌, Bool, true, false, ◌&&◌, not, List, [], ◌∷◌, ◌++◌, Option, Some, option_map, is_some}
 use Rattle.ess_semantics.specs.Lists.{and_then, all_some}
 use Rattle.ess_semantics.specs.Values.{Text, Value, truth, items_of}
 use Rattle.ess_semantics.specs.Names.{Names, look}
-use Rattle.ess_semantics.specs.Trees.{Op, Ends, one_value, both_ends, low_end, high_end, Mark, flag, valued, Ex, Exs, number_ex, truth_ex, name_ex, node_ex, matrix_ex, comp_ex, cell_ex, seen_ex, no_exs, more_exs, Gens, no_gens, over, from, cond, Dom, Doms, bool_dom, int_dom, name_dom, tuple_dom, record_dom, matrix_dom, set_dom, mset_dom, function_dom, relation_dom, partition_dom, no_doms, more_doms}
-use Rattle.ess_semantics.specs.Operators.{number_in, as_truth, value_of_node, value_of_op, list_value, false_where_undefined}
-use Rattle.ess_semantics.specs.Domains.{Span, Attribute, numbered, flagged, Domain, members, integers, tuples, records, matrices, sets, msets, functions, relations, partitions, more_domains}
-use Rattle.ess_semantics.specs.Tables.{Table, code}
-use Rattle.ess_semantics.specs.Meaning.{Env, meaning, meanings, items_under, domain_of, domains_of, members_in, with_pat, collect, where_true, matrix_value, cell_in, indices, as_int, with_span, spans_of, attributes_of}
-use Rattle.ess_semantics.specs.Contexts.{Each}
+use Rattle.ess_semantics.specs.Trees.{Op, Ex, Exs, number_ex, truth_ex, name_ex, node_ex, matrix_ex, comp_ex, cell_ex, seen_ex, no_exs, more_exs, Gens, no_gens, over, from, cond, Dom, Doms, bool_dom, int_dom, name_dom, tuple_dom, record_dom, matrix_dom, set_dom, mset_dom, function_dom, relation_dom, partition_dom, no_doms, more_doms}
+use Rattle.ess_semantics.specs.Operators.{as_truth, value_of_node, value_of_op, list_value, false_where_undefined}
+use Rattle.ess_semantics.specs.Domains.{members, integers, tuples, records, matrices, sets, msets, functions, relations, partitions, more_domains}
+use Rattle.ess_semantics.specs.Meaning.{Env, meaning, meanings, items_under, domain_of, domains_of, members_in, with_pat, collect, where_true, matrix_value, cell_in, indices, spans_of, attributes_of}
 use Rattle.ess_semantics.proofs.Tests.{and-left, and-right, not-true}
-use Rattle.ess_rules_laws.proofs.Bindings.{collect-each}
 use Rattle.ess_guard_laws.specs.Origins.{Origin, with_any, with_over, known_behind}
 use Rattle.ess_guard_laws.specs.IndexDomains.{is_cell_index}
 use Rattle.ess_guard_laws.specs.Conditions.{matrix_conditions, own}
 use Rattle.ess_guard_laws.specs.Guard.{is_plain, connects, own_at, opens, passes, guarded, guarded_all, guarded_gens, guarded_dom, guarded_doms, conditions, conditions_all, conditions_gens, conditions_dom, conditions_doms}
 use Rattle.ess_guard_laws.specs.Holds.{Hold}
 use Rattle.ess_guard_laws.proofs.Holding.{true-of, all-split, then-first, the-value, map-some, hold-append, choose-holds, chained-means, over-holds, from-holds, given-holds, collected, node-value}
-
--- ---- numbers in domains
-
-all-there : {A : Type 0} (o : Option A) (q : Option (List A)) → is_some o ≡ true → is_some q ≡ true → is_some (and_then o (λ x. option_map (λ xs. x ∷ xs) q)) ≡ true
-all-there None q e f = cc
-all-there (Some x) None e f = cc
-all-there (Some x) (Some xs) e f = refl
-
-span-needs : (a : Option Value) (os : List (Option Value)) (f : ℤ → Option (List Span)) (q : Option (List Span)) → ((n : ℤ) → is_some (f n) ≡ true → is_some q ≡ true) →
-    (is_some q ≡ true → is_some (all_some os) ≡ true) → is_some (and_then (as_int a) f) ≡ true → is_some (all_some (a ∷ os)) ≡ true
-span-needs None os f q h k e = cc
-span-needs (Some v) os f q h k e = all-there (Some v) (all_some os) refl (k (h (number_in v) e))
-
-with-needs : (a b : Option ℤ) (q : Option (List Span)) → is_some (with_span a b q) ≡ true → is_some q ≡ true
-with-needs a b None e = cc
-with-needs a b (Some ss) e = refl
-
-both-need : (a b : Option Value) (os : List (Option Value)) (q : Option (List Span)) → (is_some q ≡ true → is_some (all_some os) ≡ true) →
-    is_some (and_then (as_int a) (λ n. and_then (as_int b) (λ m. with_span (Some n) (Some m) q))) ≡ true → is_some (all_some (a ∷ b ∷ os)) ≡ true
-both-need None b os q k e = cc
-both-need (Some v) None os q k e = cc
-both-need (Some v) (Some w) os q k e = all-there (Some v) (all_some (Some w ∷ os)) refl (all-there (Some w) (all_some os) refl (k (with-needs (Some (number_in v)) (Some (number_in w)) q e)))
-
--- Ranges need all their bounds.
-spans-need : (rs : List Ends) (os : List (Option Value)) → is_some (spans_of rs os) ≡ true → is_some (all_some os) ≡ true
-spans-need [] [] e = refl
-spans-need [] (a ∷ os) e = cc
-spans-need (one_value ∷ rs) [] e = cc
-spans-need (one_value ∷ rs) (a ∷ os) e = span-needs a os _ (spans_of rs os) (λ n. with-needs (Some n) (Some n) (spans_of rs os)) (spans-need rs os) e
-spans-need (both_ends ∷ rs) [] e = cc
-spans-need (both_ends ∷ rs) (a ∷ []) e = cc
-spans-need (both_ends ∷ rs) (a ∷ b ∷ os) e = both-need a b os (spans_of rs os) (spans-need rs os) e
-spans-need (low_end ∷ rs) [] e = cc
-spans-need (low_end ∷ rs) (a ∷ os) e = span-needs a os _ (spans_of rs os) (λ n. with-needs (Some n) None (spans_of rs os)) (spans-need rs os) e
-spans-need (high_end ∷ rs) [] e = cc
-spans-need (high_end ∷ rs) (a ∷ os) e = span-needs a os _ (spans_of rs os) (λ n. with-needs None (Some n) (spans_of rs os)) (spans-need rs os) e
-
-number-needs : (k : Key) (o : Option Value) (os : List (Option Value)) (q : Option (List Attribute)) → (is_some q ≡ true → is_some (all_some os) ≡ true) →
-    is_some (and_then (as_int o) (λ n. option_map (λ ks. numbered k n ∷ ks) q)) ≡ true → is_some (all_some (o ∷ os)) ≡ true
-number-needs k None os q h e = cc
-number-needs k (Some v) os q h e = all-there (Some v) (all_some os) refl (h (sym (map-some (λ ks. numbered k (number_in v) ∷ ks) q) ∙ e))
-
--- Attributes need all their numbers.
-attributes-need : (ms : List Mark) (os : List (Option Value)) → is_some (attributes_of ms os) ≡ true → is_some (all_some os) ≡ true
-attributes-need [] [] e = refl
-attributes-need [] (a ∷ os) e = cc
-attributes-need (flag k ∷ ms) os e = attributes-need ms os (sym (map-some (λ ks. flagged k ∷ ks) (attributes_of ms os)) ∙ e)
-attributes-need (valued k ∷ ms) [] e = cc
-attributes-need (valued k ∷ ms) (o ∷ os) e = number-needs k o os (attributes_of ms os) (attributes-need ms os) e
-
--- ---- two parts
-
-both-some : {A B C : Type 0} (o : Option A) (p : Option B) (f : A → B → C) → is_some (and_then o (λ x. option_map (f x) p)) ≡ true → (is_some o ≡ true) × (is_some p ≡ true)
-both-some None p f e = cc
-both-some (Some x) None f e = cc
-both-some (Some x) (Some z) f e = (refl, refl)
-
-three-some : {A B C D : Type 0} (o : Option A) (p : Option B) (q : Option C) (f : A → B → C → D) →
-    is_some (and_then o (λ x. and_then p (λ z. option_map (f x z) q))) ≡ true → (is_some o ≡ true) × (is_some p ≡ true) × (is_some q ≡ true)
-three-some None p q f e = cc
-three-some (Some x) None q f e = cc
-three-some (Some x) (Some z) None f e = cc
-three-some (Some x) (Some z) (Some w) f e = (refl, refl, refl)
-
--- An operator that counts as true has a value.
-true-some : (o : Option Value) → as_truth o ≡ true → is_some o ≡ true
-true-some None e = cc
-true-some (Some v) e = refl
-
-choose-same : (t : Bool) (a b : Ex) (env : Env) (o : Option Value) → (t ≡ true → meaning a env ≡ o) → (t ≡ false → meaning b env ≡ o) → meaning (if t then a else b) env ≡ o
-choose-same true a b env o f g = f refl
-choose-same false a b env o f g = g refl
-
--- A cell needs all its indices.
-cell-needs : (b : Bool) (t : Option Table) (os : List (Option Value)) → is_some (cell_in b t (indices os)) ≡ true → is_some (all_some os) ≡ true
-cell-needs b None os e = cc
-cell-needs b (Some t) os e = go (all_some os) e
-  where
-    go : (o : Option (List Value)) → is_some (cell_in b (Some t) (option_map (map code) o)) ≡ true → is_some o ≡ true
-    go None e = cc
-    go (Some vs) e = refl
-
--- A matrix literal needs its index domain.
-matrix-domain : (o : Option (List Value)) (d : Option Domain) → is_some (and_then o (matrix_value (members_in d))) ≡ true → is_some d ≡ true
-matrix-domain None d e = cc
-matrix-domain (Some xs) None e = cc
-matrix-domain (Some xs) (Some d) e = refl
-
-each-always : (xs : List Value) (P : Value → Type 0) → ((v : Value) → P v) → Each xs P
-each-always [] P f = tt
-each-always (v ∷ vs) P f = (f v, each-always vs P f)
-
-collect-all : (o : Option (List Value)) (f g : Value → Option (List Value)) → ((v : Value) → f v ≡ g v) → and_then o (λ vs. collect vs f) ≡ and_then o (λ vs. collect vs g)
-collect-all None f g h = refl
-collect-all (Some vs) f g h = collect-each vs f g (each-always vs (λ v. f v ≡ g v) h)
-
-collect-in : (o : Option Value) (f g : Value → Option (List Value)) → ((v : Value) → f v ≡ g v) → and_then o (λ s. collect (items_of s) f) ≡ and_then o (λ s. collect (items_of s) g)
-collect-in None f g h = refl
-collect-in (Some s) f g h = collect-each (items_of s) f g (each-always (items_of s) (λ v. f v ≡ g v) h)
-
-numbered-same : {A : Type 0} (f : List Attribute → A → Domain) (ms : List Mark) (os ps : List (Option Value)) (o p : Option A) → os ≡ ps → o ≡ p →
-    and_then (attributes_of ms os) (λ ks. option_map (f ks) o) ≡ and_then (attributes_of ms ps) (λ ks. option_map (f ks) p)
-numbered-same f ms os ps o p e h = ap (λ z. and_then (attributes_of ms z) (λ ks. option_map (f ks) o)) e ∙ ap (λ z. and_then (attributes_of ms ps) (λ ks. option_map (f ks) z)) h
-
-or-left : (a b : Bool) → a || b ≡ false → a ≡ false
-or-left true b e = e
-or-left false b e = refl
-
-or-right : (a b : Bool) → a || b ≡ false → b ≡ false
-or-right true b e = cc
-or-right false b e = e
+use Rattle.ess_guard_laws.proofs.Needs.{spans-need, attributes-need, both-some, three-some, true-some, choose-same, cell-needs, matrix-domain, collect-all, collect-in, numbered-same}
 
 -- What is asked of each row: an operator's own conditions hold where it has a value, and a matrix literal's do.
 abbrev pub RowsHold : Text → Text → Type 0
@@ -188,10 +74,12 @@ module _ (natural : Bool) (x y : Text) (own-holds : RowsHold x y) (matrix-holds 
     same (cell_ex false n es) k env = ap (λ os. cell_in false (look env.cells n) (indices os)) (same-all es k env)
     same (seen_ex r d ns es) k env = refl
 
+    -- The same of operands.
     pub same-all : (es : Exs) (k : Names Origin) (env : Env) → meanings (Gs k es) env ≡ meanings es env
     same-all no_exs k env = refl
     same-all (more_exs e es) k env = ap (λ o. o ∷ meanings (Gs k es) env) (same e k env) ∙ ap (λ os. meaning e env ∷ os) (same-all es k env)
 
+    -- The same of generators.
     pub same-gens : (gs : Gens) (k : Names Origin) (env : Env) (i j : Env → Option (List Value)) → ((here : Env) → i here ≡ j here) → items_under (guarded_gens natural x y k gs) env i ≡ items_under gs env j
     same-gens no_gens k env i j h = h env
     same-gens (over p d gs) k env i j h =
@@ -204,6 +92,7 @@ module _ (natural : Bool) (x y : Text) (own-holds : RowsHold x y) (matrix-holds 
         ap (λ o. where_true o (λ u. items_under (guarded_gens natural x y k gs) env i)) (same c k env)
         ∙ ap (λ l. where_true (meaning c env) (λ u. l)) (same-gens gs k env i j h)
 
+    -- The same of a domain.
     pub same-dom : (d : Dom) (k : Names Origin) (env : Env) → domain_of (guarded_dom natural x y k d) env ≡ domain_of d env
     same-dom bool_dom k env = refl
     same-dom (int_dom rs es) k env = ap (λ os. option_map integers (spans_of rs os)) (same-all es k env)
@@ -221,6 +110,7 @@ module _ (natural : Bool) (x y : Text) (own-holds : RowsHold x y) (matrix-holds 
     same-dom (relation_dom ms es ds) k env = numbered-same relations ms _ _ _ _ (same-all es k env) (same-doms ds k env)
     same-dom (partition_dom ms es d) k env = numbered-same partitions ms _ _ _ _ (same-all es k env) (same-dom d k env)
 
+    -- The same of several domains.
     pub same-doms : (ds : Doms) (k : Names Origin) (env : Env) → domains_of (guarded_doms natural x y k ds) env ≡ domains_of ds env
     same-doms no_doms k env = refl
     same-doms (more_doms d ds) k env = ap (λ o. and_then o (λ z. option_map (more_domains z) (domains_of (guarded_doms natural x y k ds) env))) (same-dom d k env)
@@ -245,12 +135,14 @@ module _ (natural : Bool) (x y : Text) (own-holds : RowsHold x y) (matrix-holds 
     hold (cell_ex false n es) k w env h = all-hold es k false env (cell-needs false (look env.cells n) (meanings es env) h)
     hold (seen_ex r d ns es) k w env h = tt
 
+    -- The same of operands.
     pub all-hold : (es : Exs) (k : Names Origin) (w : Bool) (env : Env) → is_some (all_some (meanings es env)) ≡ true → Hold (Cs k w es) env
     all-hold no_exs k w env h = tt
     all-hold (more_exs e es) k w env h =
         let s = all-split (meaning e env) (all_some (meanings es env)) h in
         hold-append (C k w e) (Cs k w es) env (hold e k w env s.0) (all-hold es k w env s.1)
 
+    -- The same of generators.
     pub gens-hold : (gs : Gens) (k : Names Origin) (env : Env) (cs : List Ex) (j : Env → Option (List Value)) → ((here : Env) → is_some (j here) ≡ true → Hold cs here) →
         is_some (items_under gs env j) ≡ true → Hold (conditions_gens natural x y k gs cs) env
     gens-hold no_gens k env cs j f h = f env h
@@ -270,6 +162,7 @@ module _ (natural : Bool) (x y : Text) (own-holds : RowsHold x y) (matrix-holds 
     gens-hold (cond c gs) k env cs j f h = given-holds (G k c) (conditions_gens natural x y k gs cs) env
         (λ t. gens-hold gs k env cs j f (ap (λ o. is_some (where_true o (λ u. items_under gs env j))) (sym (true-of (meaning c env) (ap as_truth (sym (same c k env)) ∙ t))) ∙ h))
 
+    -- The same of a domain.
     pub dom-holds : (d : Dom) (k : Names Origin) (env : Env) → is_some (domain_of d env) ≡ true → Hold (conditions_dom natural x y k d) env
     dom-holds bool_dom k env h = tt
     dom-holds (int_dom rs es) k env h = all-hold es k false env (spans-need rs (meanings es env) (sym (map-some integers (spans_of rs (meanings es env))) ∙ h))
@@ -296,6 +189,7 @@ module _ (natural : Bool) (x y : Text) (own-holds : RowsHold x y) (matrix-holds 
         let s = both-some (attributes_of ms (meanings es env)) (domain_of d env) partitions h in
         hold-append (Cs k false es) (conditions_dom natural x y k d) env (all-hold es k false env (attributes-need ms (meanings es env) s.0)) (dom-holds d k env s.1)
 
+    -- The same of several domains.
     pub doms-hold : (ds : Doms) (k : Names Origin) (env : Env) → is_some (domains_of ds env) ≡ true → Hold (conditions_doms natural x y k ds) env
     doms-hold no_doms k env h = tt
     doms-hold (more_doms d ds) k env h =

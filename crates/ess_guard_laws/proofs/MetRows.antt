@@ -21,14 +21,17 @@ abbrev pub Met : List Ex → Env → Type 0
 Met [] env = Unit {0}
 Met (c ∷ cs) env = Meets c env × Met cs env
 
+-- Both lists are met.
 pub met-append : (cs ds : List Ex) (env : Env) → Met cs env → Met ds env → Met (cs ++ ds) env
 met-append [] ds env p q = q
 met-append (c ∷ cs) ds env p q = (p.0, met-append cs ds env p.1 q)
 
+-- A condition that is asked, or none.
 pub met-unless : (t : Bool) (c : Ex) (env : Env) → Meets c env → Met (unless t c) env
 met-unless true c env m = tt
 met-unless false c env m = (m, tt)
 
+-- Conditions that are asked, or none.
 pub met-choose : (t : Bool) (cs : List Ex) (env : Env) → (t ≡ false → Met cs env) → Met (if t then [] else cs) env
 met-choose true cs env m = tt
 met-choose false cs env m = m refl
@@ -43,6 +46,7 @@ guarded-always false o P p = p
 pub one-met : (b : Bool) (op : Op) (a : Ex) (env : Env) → Meets a env → Meets (node_ex b op (more_exs a no_exs)) env
 one-met b op a env m = (m, guarded-always (guards op) (meaning a env) (Unit {0}) tt)
 
+-- An operator on two operands.
 pub two-met : (b : Bool) (op : Op) (a c : Ex) (env : Env) → Meets a env → Meets c env → Meets (node_ex b op (more_exs a (more_exs c no_exs))) env
 two-met b op a c env m l = (m, guarded-always (guards op) (meaning a env) (Meets c env × Unit {0}) (l, tt))
 
@@ -50,14 +54,17 @@ each-always : (xs : List Value) (P : Value → Type 0) → ((v : Value) → P v)
 each-always [] P f = tt
 each-always (v ∷ vs) P f = (f v, each-always vs P f)
 
+-- What always holds.
 pub each-of-always : (o : Option (List Value)) (P : Value → Type 0) → ((v : Value) → P v) → EachOf o P
 each-of-always None P f = tt
 each-of-always (Some vs) P f = each-always vs P f
 
+-- What always holds, of a value's items.
 pub each-in-always : (o : Option Value) (P : Value → Type 0) → ((v : Value) → P v) → EachIn o P
 each-in-always None P f = tt
 each-in-always (Some s) P f = each-always (items_of s) P f
 
+-- What follows at each binding.
 pub gens-map : (gs : Gens) (env : Env) (P Q : Env → Type 0) → ((h : Env) → P h → Q h) → MeetsGens gs env P → MeetsGens gs env Q
 gens-map no_gens env P Q f m = f env m
 gens-map (over p d gs) env P Q f m = (m.0, each-of-map (members_in (domain_of d env)) _ _ (λ v. gens-map gs (with_pat p v env) P Q f) m.1)
@@ -70,23 +77,28 @@ conds-met : (cs : List Ex) (env : Env) (P : Env → Type 0) → Met cs env → P
 conds-met [] env P m p = p
 conds-met (c ∷ cs) env P m p = (m.0, λ t. conds-met cs env P m.1 p)
 
+-- A Boolean under conditions.
 pub chained-met : (cs : List Ex) (b : Ex) (env : Env) → Met cs env → Meets b env → Meets (chained cs b) env
 chained-met [] b env m p = p
 chained-met (c ∷ cs) b env m p = (conds-met (c ∷ cs) env (λ here. Meets b here) m p, tt)
 
+-- That all conditions hold.
 pub all-of-met : (cs : List Ex) (env : Env) → Met cs env → Meets (all_of cs) env
 all-of-met [] env m = tt
 all-of-met (c ∷ []) env m = m.0
 all-of-met (c ∷ d ∷ cs) env m = chained-met (c ∷ []) (all_of (d ∷ cs)) env (m.0, tt) (all-of-met (d ∷ cs) env m.1)
 
+-- Conditions at each member.
 pub over-met : (p : Pat) (d : Dom) (cs : List Ex) (env : Env) → MeetsDom d env → EachOf (members_in (domain_of d env)) (λ v. Met cs (with_pat p v env)) → Met (every (over p d no_gens) cs) env
 over-met p d [] env m e = tt
 over-met p d (c ∷ cs) env m e = (((m, each-of-map (members_in (domain_of d env)) _ _ (λ v q. all-of-met (c ∷ cs) (with_pat p v env) q) e), tt), tt)
 
+-- Conditions at each item.
 pub from-met : (p : Pat) (s : Ex) (cs : List Ex) (env : Env) → Meets s env → EachIn (meaning s env) (λ v. Met cs (with_pat p v env)) → Met (every (from p s no_gens) cs) env
 from-met p s [] env m e = tt
 from-met p s (c ∷ cs) env m e = (((m, each-in-map (meaning s env) _ _ (λ v q. all-of-met (c ∷ cs) (with_pat p v env) q) e), tt), tt)
 
+-- Conditions behind another one.
 pub given-met : (b : Ex) (cs : List Ex) (env : Env) → Meets b env → (as_truth (meaning b env) ≡ true → Met cs env) → Met (given_that b cs) env
 given-met b [] env m f = tt
 given-met b (c ∷ cs) env m f = ((m, λ t. (all-of-met (c ∷ cs) env (f t), tt)), tt)
@@ -152,6 +164,7 @@ partition-met x y ss env m = met-append (have_members x ss) _ env (members-met x
 over-any-met : (x : Text) (e : Ex) (d : Dom) (env : Env) → MeetsDom d env → ((h : Env) → Meets e h) → Meets (comp_ex e (over (name_pat x) d no_gens)) env
 over-any-met x e d env m f = (m, each-of-always (members_in (domain_of d env)) _ (λ v. f (with_pat (name_pat x) v env)))
 
+-- The condition of a matrix literal.
 pub matrix-met : (x : Text) (es : Exs) (d : Dom) (env : Env) → MeetsDom d env → Met (matrix_conditions x es d) env
 matrix-met x es d env m = met-unless (has_size d (number_of es)) _ env
     (two-met true (binary Op2.Eq) (fun1 false Fun.Sum (comp_ex (number_ex (pos 1)) (over (name_pat x) d no_gens))) (number_ex (pos (number_of es))) env (one-met false (word Fun.Sum) (comp_ex (number_ex (pos 1)) (over (name_pat x) d no_gens)) env (over-any-met x (number_ex (pos 1)) d env m (λ h. tt))) tt)

@@ -67,9 +67,11 @@ mod-none (negsuc a) = refl
 pub div-divisor : (a b : Value) → is_some (on_ints div_down a b) ≡ true → number_in b ≡ pos 0 → ⊥
 div-divisor a b h e = let r : true ≡ false = sym h ∙ ap (λ y. is_some (option_map number (div_down (number_in a) y))) e ∙ ap (λ o. is_some (option_map number o)) (div-none (number_in a)) in cc
 
+-- So it is with a remainder.
 pub mod-divisor : (a b : Value) → is_some (on_ints mod_down a b) ≡ true → number_in b ≡ pos 0 → ⊥
 mod-divisor a b h e = let r : true ≡ false = sym h ∙ ap (λ y. is_some (option_map number (mod_down (number_in a) y))) e ∙ ap (λ o. is_some (option_map number o)) (mod-none (number_in a)) in cc
 
+-- The condition of a quotient.
 pub quotient-holds : (k : Names Origin) (b : Ex) (env : Env) (v : Value) → meaning b env ≡ Some v → (number_in v ≡ pos 0 → ⊥) → Hold (quotient_conditions k b) env
 quotient-holds k b env v e h = unless-holds (is_not_zero b) _ env (ne-holds k b env v e h)
 
@@ -102,6 +104,7 @@ either-holds k a b env v w p q h = go (number_in w) refl
     go (pos (suc n)) e = left (ne-holds k b env w q (λ z. let r : pos (suc n) ≡ pos 0 = sym e ∙ z in cc))
     go (negsuc n) e = left (ne-holds k b env w q (λ z. let r : negsuc n ≡ pos 0 = sym e ∙ z in cc))
 
+-- The conditions of a power.
 pub power-holds : (k : Names Origin) (a b : Ex) (env : Env) (v w : Value) → meaning a env ≡ Some v → meaning b env ≡ Some w → is_some (on_ints power_of v w) ≡ true → Hold (power_conditions k a b) env
 power-holds k a b env v w p q h =
     let r = power-some (number_in v) (number_in w) h in

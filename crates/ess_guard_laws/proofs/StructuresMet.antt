@@ -74,10 +74,12 @@ module _ (natural : Bool) (x y : Text) where
     met (cell_ex false n es) k env m = met-all es k false env m
     met (seen_ex r d ns es) k env m = m
 
+    -- The same of operands.
     pub met-all : (es : Exs) (k : Names Origin) (g : Bool) (env : Env) → MeetsAll g es env → MeetsAll g (Gs k es) env
     met-all no_exs k g env m = tt
     met-all (more_exs e es) k g env m = (met e k env m.0, guarded-map g (meaning e env) (meaning (G k e) env) _ _ (same e k env) (met-all es k false env) m.1)
 
+    -- The same of generators.
     pub met-gens : (gs : Gens) (k : Names Origin) (env : Env) (a b : Ex) → ((here : Env) → Meets a here → Meets b here) → MeetsGens gs env (λ here. Meets a here) → MeetsGens (guarded_gens natural x y k gs) env (λ here. Meets b here)
     met-gens no_gens k env a b f m = f env m
     met-gens (over p d gs) k env a b f m = (
@@ -92,6 +94,7 @@ module _ (natural : Bool) (x y : Text) where
     )
     met-gens (cond c gs) k env a b f m = (met c k env m.0, λ t. met-gens gs k env a b f (m.1 (ap as_truth (sym (same c k env)) ∙ t)))
 
+    -- The same of a domain.
     pub met-dom : (d : Dom) (k : Names Origin) (env : Env) → MeetsDom d env → MeetsDom (guarded_dom natural x y k d) env
     met-dom bool_dom k env m = tt
     met-dom (int_dom rs es) k env m = met-all es k false env m
@@ -105,6 +108,7 @@ module _ (natural : Bool) (x y : Text) where
     met-dom (relation_dom ms es ds) k env m = (met-all es k false env m.0, met-doms ds k env m.1)
     met-dom (partition_dom ms es d) k env m = (met-all es k false env m.0, met-dom d k env m.1)
 
+    -- The same of several domains.
     pub met-doms : (ds : Doms) (k : Names Origin) (env : Env) → MeetsDoms ds env → MeetsDoms (guarded_doms natural x y k ds) env
     met-doms no_doms k env m = tt
     met-doms (more_doms d ds) k env m = (met-dom d k env m.0, met-doms ds k env m.1)
@@ -124,10 +128,12 @@ module _ (natural : Bool) (x y : Text) where
     asked (cell_ex false n es) k w env m = asked-all es k false env m
     asked (seen_ex r d ns es) k w env m = tt
 
+    -- The same of operands.
     pub asked-all : (es : Exs) (k : Names Origin) (w : Bool) (env : Env) → MeetsAll false es env → Met (Cs k w es) env
     asked-all no_exs k w env m = tt
     asked-all (more_exs e es) k w env m = met-append (C k w e) (Cs k w es) env (asked e k w env m.0) (asked-all es k w env m.1)
 
+    -- The same of generators.
     pub asked-gens : (gs : Gens) (k : Names Origin) (env : Env) (cs : List Ex) (a : Ex) → ((here : Env) → Meets a here → Met cs here) → MeetsGens gs env (λ here. Meets a here) → Met (conditions_gens natural x y k gs cs) env
     asked-gens no_gens k env cs a f m = f env m
     asked-gens (over p d gs) k env cs a f m = met-append (conditions_dom natural x y k d) _ env (asked-dom d k env m.0)
@@ -140,6 +146,7 @@ module _ (natural : Bool) (x y : Text) where
         (each-in-map (meaning e env) _ _ (λ v. asked-gens gs (with_any p k) (with_pat p v env) cs a f) m.1)))
     asked-gens (cond c gs) k env cs a f m = given-met (G k c) (conditions_gens natural x y k gs cs) env (met c k env m.0) (λ t. asked-gens gs k env cs a f (m.1 (ap as_truth (sym (same c k env)) ∙ t)))
 
+    -- The same of a domain.
     pub asked-dom : (d : Dom) (k : Names Origin) (env : Env) → MeetsDom d env → Met (conditions_dom natural x y k d) env
     asked-dom bool_dom k env m = tt
     asked-dom (int_dom rs es) k env m = asked-all es k false env m
@@ -154,6 +161,7 @@ module _ (natural : Bool) (x y : Text) where
     asked-dom (relation_dom ms es ds) k env m = met-append (Cs k false es) (conditions_doms natural x y k ds) env (asked-all es k false env m.0) (asked-doms ds k env m.1)
     asked-dom (partition_dom ms es d) k env m = met-append (Cs k false es) (conditions_dom natural x y k d) env (asked-all es k false env m.0) (asked-dom d k env m.1)
 
+    -- The same of several domains.
     pub asked-doms : (ds : Doms) (k : Names Origin) (env : Env) → MeetsDoms ds env → Met (conditions_doms natural x y k ds) env
     asked-doms no_doms k env m = tt
     asked-doms (more_doms d ds) k env m = met-append (conditions_dom natural x y k d) (conditions_doms natural x y k ds) env (asked-dom d k env m.0) (asked-doms ds k env m.1)

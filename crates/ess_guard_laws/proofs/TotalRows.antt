@@ -30,7 +30,8 @@ use Rattle.ess_guard_laws.proofs.Behind.{Behind, behind-unless, safe-total}
 
 -- ---- numbers
 
-number-total : (k : Names Origin) (b : Ex) (env : Env) → Total b env → Total (as_number k b) env
+-- The number that an operator reads.
+pub number-total : (k : Names Origin) (b : Ex) (env : Env) → Total b env → Total (as_number k b) env
 number-total k b env t = go (is_number k b)
   where
     go : (z : Bool) → Total (if z then b else ex2 false Op2.Plus b nil_ex) env
@@ -40,6 +41,7 @@ number-total k b env t = go (is_number k b)
 compare-total : (o : Op2) (k : Names Origin) (b : Ex) (env : Env) → is_safe (binary o) ≡ true → Total b env → Total (ex2 true o (as_number k b) nil_ex) env
 compare-total o k b env s t = safe-total true (binary o) (more_exs (as_number k b) (more_exs nil_ex no_exs)) env s (number-total k b env t, (tt, tt))
 
+-- A quotient by a number other than 0 has a value.
 pub div-some : (x y : ℤ) → (y ≡ pos 0 → ⊥) → is_some (div_down x y) ≡ true
 div-some x (pos zero) e = absurd (e refl)
 div-some (pos a) (pos (suc b)) e = refl
@@ -51,6 +53,7 @@ map-some : {A B : Type 0} (f : A → B) (o : Option A) → is_some o ≡ true �
 map-some f None e = cc
 map-some f (Some x) e = refl
 
+-- So has a remainder.
 pub mod-some : (x y : ℤ) → (y ≡ pos 0 → ⊥) → is_some (mod_down x y) ≡ true
 mod-some x y e = map-some (λ q. x -ℤ (y *ℤ q)) (div_down x y) (div-some x y e)
 
@@ -81,6 +84,7 @@ ne-tells k b env v n e h q =
     let s : same (number (number_in v)) (number (pos 0)) ≡ true = ap (λ z. same (number z) (number (pos 0))) q ∙ same-itself (number (pos 0)) in
     let t : false ≡ true = ap not (sym s) ∙ r in cc
 
+-- The row of quotients and remainders.
 pub quotient-total : (o : Op2) (f : ℤ → ℤ → Option ℤ) (k : Names Origin) (a b : Ex) (env : Env) → NumbersIn k env → Total b env →
     ((v w : Value) → value_of_node (binary o) (Some v ∷ Some w ∷ []) ≡ on_ints f v w) → ((x y : ℤ) → (y ≡ pos 0 → ⊥) → is_some (f x y) ≡ true) →
     Behind (quotient_conditions k b) env (HasValue (value_of_node (binary o) (meaning a env ∷ meaning b env ∷ [])) (meaning a env ∷ meaning b env ∷ []))
@@ -115,6 +119,7 @@ or-tells : (p q : Bool) (P : Type 0) → p || q ≡ true → (p ≡ true → P) 
 or-tells true q P h f g = f refl
 or-tells false q P h f g = g h
 
+-- The row of powers.
 pub power-total : (k : Names Origin) (a b : Ex) (env : Env) → NumbersIn k env → Total a env → Total b env →
     Behind (power_conditions k a b) env (HasValue (value_of_node (binary Op2.Pow) (meaning a env ∷ meaning b env ∷ [])) (meaning a env ∷ meaning b env ∷ []))
 power-total k a b env n ta tb = go (is_above_zero b) refl
@@ -146,7 +151,8 @@ power-total k a b env n ta tb = go (is_above_zero b) refl
 
 -- ---- items
 
-under-map : (gs : Gens) (env : Env) (P Q : Env → Type 0) → ((h : Env) → P h → Q h) → TotalUnder gs env P → TotalUnder gs env Q
+-- What follows at each binding.
+pub under-map : (gs : Gens) (env : Env) (P Q : Env → Type 0) → ((h : Env) → P h → Q h) → TotalUnder gs env P → TotalUnder gs env Q
 under-map no_gens env P Q f m = f env m
 under-map (over p d gs) env P Q f m = (m.0, each-of-map (members_in (domain_of d env)) _ _ (λ v. under-map gs (with_pat p v env) P Q f) m.1)
 under-map (from p e gs) env P Q f m = (m.0, each-in-map (meaning e env) _ _ (λ v. under-map gs (with_pat p v env) P Q f) m.1)
@@ -169,11 +175,13 @@ map-least : (o : Option Value) (f : Value → Value) → is_some o ≡ true → 
 map-least None f e = cc
 map-least (Some v) f e = refl
 
+-- A list with an item has a least one.
 pub least-there : (xs : List Value) → is_empty xs ≡ false → is_some (least xs) ≡ true
 least-there [] e = cc
 least-there (x ∷ []) e = refl
 least-there (x ∷ y ∷ ys) e = map-least (least (y ∷ ys)) _ (least-there (y ∷ ys) refl)
 
+-- A list with an item has a greatest one.
 pub greatest-there : (xs : List Value) → is_empty xs ≡ false → is_some (greatest xs) ≡ true
 greatest-there [] e = cc
 greatest-there (x ∷ []) e = refl
@@ -229,6 +237,7 @@ not-not : (b : Bool) → not b ≡ true → b ≡ false
 not-not true e = cc
 not-not false e = refl
 
+-- The row of least and greatest items.
 pub item-total : (f : Fun) (g : List Value → Option Value) (x : Text) (s : Ex) (env : Env) → Total s env → ((v : Value) → value_of_node (word f) (Some v ∷ []) ≡ g (items_of v)) → ((xs : List Value) → is_empty xs ≡ false → is_some (g xs) ≡ true) →
     Behind (some_item x s) env (HasValue (value_of_node (word f) (meaning s env ∷ [])) (meaning s env ∷ []))
 item-total f g x s env t is some = behind-unless (has_items s) _ env _ (λ z. fine (λ v e. items-form s env v z e)) (has-item-total x s env t)
@@ -237,6 +246,7 @@ item-total f g x s env t is some = behind-unless (has_items s) _ env _ (λ z. fi
     fine : ((v : Value) → meaning s env ≡ Some v → is_empty (items_of v) ≡ false) → HasValue (value_of_node (word f) (meaning s env ∷ [])) (meaning s env ∷ [])
     fine z h = one-there (λ p. is_some (value_of_node (word f) (p ∷ [])) ≡ true) (meaning s env) (λ v e. ap is_some (is v) ∙ some (items_of v) (z v e)) h
 
+-- The row of parts.
 pub party-total : (a p : Ex) (env : Env) → Total a env → Total p env → Behind (party_conditions a p) env (HasValue (value_of_node (word Fun.Party) (meaning a env ∷ meaning p env ∷ [])) (meaning a env ∷ meaning p env ∷ []))
 party-total a p env ta tp = (
   safe-total true (binary Op2.Member) (more_exs a (more_exs (fun1 false Fun.Participants p) no_exs)) env refl (ta, (safe-total false (word Fun.Participants) (more_exs p no_exs) env refl (tp, tt), tt)),

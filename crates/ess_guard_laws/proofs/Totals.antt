@@ -1,86 +1,26 @@
 -- Under its conditions a covered tree is total.
-use Rattle.std.proofs.Common.{◌≡◌, refl, sym, ap, ◌∙◌, subst, ℕ, Bool, true, false, ◌&&◌, ◌||◌, not, if◌then◌else◌, List, [], ◌∷◌, ◌++◌, map, length, Option, Some, None, is_some}
-use Rattle.ess_semantics.specs.declared.words.Op2.{Op2}
-use Rattle.ess_semantics.specs.declared.words.Fun.{Fun}
-use Rattle.ess_semantics.specs.declared.words.ReprKind.{ReprKind}
-use Rattle.ess_semantics.specs.Lists.{and_then, all_some}
-use Rattle.ess_semantics.specs.Values.{Text, Value, items_of}
+use Rattle.std.proofs.Common.{suc, ◌≡◌, refl, sym, ap, ◌∙◌, subst, Bool, true, false, ◌&&◌, ◌||◌, not, if◌then◌else◌, List, [], ◌++◌}
+use Rattle.ess_semantics.specs.Values.{Text}
 use Rattle.ess_semantics.specs.Names.{Names}
-use Rattle.ess_semantics.specs.Collections.{value_at}
-use Rattle.ess_semantics.specs.Numbers.{div_down, mod_down}
-use Rattle.ess_semantics.specs.Trees.{Step, by_value, to_component, to_field, Op, binary, word, index, application, function_literal, partition_literal, repr, more_reprs, Ex, Exs, number_ex, truth_ex, name_ex, node_ex, matrix_ex, comp_ex, cell_ex, seen_ex, no_exs, more_exs, Gens, no_gens, over, from, cond, Dom, Doms, bool_dom, int_dom, name_dom, tuple_dom, record_dom, matrix_dom, set_dom, mset_dom, function_dom, relation_dom, partition_dom, no_doms, more_doms, ex2, fun1}
-use Rattle.ess_semantics.specs.Operators.{as_truth, connective, value_of_node, value_of_op, least, greatest}
+use Rattle.ess_semantics.specs.Trees.{Op, Ex, Exs, number_ex, truth_ex, name_ex, node_ex, matrix_ex, comp_ex, cell_ex, seen_ex, no_exs, more_exs, Gens, no_gens, over, from, cond, Dom, Doms, bool_dom, int_dom, name_dom, tuple_dom, record_dom, matrix_dom, set_dom, mset_dom, function_dom, relation_dom, partition_dom, no_doms, more_doms}
+use Rattle.ess_semantics.specs.Operators.{value_of_node}
 use Rattle.ess_semantics.specs.Tables.{Table}
 use Rattle.ess_semantics.specs.Meaning.{Env, TypeEntry, bind, meaning, meanings, domain_of, members_in}
 use Rattle.ess_semantics.specs.Totality.{HasValue, Total, TotalAll, TotalUnder, TotalDom, TotalDoms}
 use Rattle.ess_rules_laws.proofs.Simulation.{Vals, E}
 use Rattle.ess_guard_laws.specs.Origins.{Origin, with_any, with_over, known_behind}
 use Rattle.ess_guard_laws.specs.IndexDomains.{number_of}
-use Rattle.ess_guard_laws.specs.Conditions.{chained, is_argument, image_conditions, at_step, path_conditions, own}
+use Rattle.ess_guard_laws.specs.Conditions.{chained, matrix_conditions, own}
 use Rattle.ess_guard_laws.specs.Guard.{connects, guarded, guarded_all, guarded_gens, guarded_dom, guarded_doms, conditions, conditions_all, conditions_gens, conditions_dom, conditions_doms}
-use Rattle.ess_guard_laws.specs.Covered.{no_values, covers, asks_nothing, AskNothing, Covered, CoveredAll, CoveredGens, CoveredDom, CoveredDoms}
-use Rattle.ess_guard_laws.proofs.Holding.{node-value, the-value}
-use Rattle.ess_guard_laws.proofs.LiteralRows.{number-of-values}
-use Rattle.ess_guard_laws.proofs.ItemRows.{defined-means}
+use Rattle.ess_guard_laws.specs.Covered.{covers, asks_nothing, AskNothing, Covered, CoveredAll, CoveredGens, CoveredDom, CoveredDoms}
+use Rattle.ess_guard_laws.proofs.TotalMatrices.{matrix-total}
+use Rattle.ess_guard_laws.proofs.CoveredKept.{covers-kept}
 use Rattle.ess_guard_laws.proofs.MetRows.{each-in-always}
-use Rattle.ess_guard_laws.proofs.Safe.{node-some, all-there}
-use Rattle.ess_guard_laws.proofs.Behind.{Behind, behind-append, behind-unless, safe-total, chained-total, over-behind, from-behind, given-behind, each-member}
-use Rattle.ess_guard_laws.proofs.TotalRows.{both-there, quotient-total, div-some, mod-some, power-total, item-total, least-there, greatest-there, party-total}
+use Rattle.ess_guard_laws.proofs.Behind.{Behind, behind-append, chained-total, over-behind, from-behind, given-behind, each-member}
 use Rattle.ess_guard_laws.proofs.KnownNames as K
-use Rattle.ess_guard_laws.proofs.Arguments.{view-full, full-value}
 use Rattle.ess_guard_laws.proofs.StructuresMet as S
-
--- ---- operators on another number of operands
-
-odd-there : (op : Op) (es : Exs) (env : Env) → connects op ≡ false → ((xs : List Value) → length xs ≡ number_of es → is_some (value_of_op op xs) ≡ true) → HasValue (value_of_node op (meanings es env)) (meanings es env)
-odd-there op es env c f h =
-    let r = the-value (all_some (meanings es env)) (all-there (meanings es env) h) in
-    ap is_some (node-value op (meanings es env) c) ∙ ap (λ o. is_some (and_then o (value_of_op op))) r.1 ∙ f r.0 (sym (number-of-values es env r.0 r.1))
-
-not-two : (o : Op2) (xs : List Value) → (length xs ≡ 2 → ⊥) → is_some (value_of_op (binary o) xs) ≡ true
-not-two o [] h = refl
-not-two o (a ∷ []) h = refl
-not-two o (a ∷ b ∷ []) h = absurd (h refl)
-not-two o (a ∷ b ∷ c ∷ xs) h = refl
-
-min-odd : (xs : List Value) → (length xs ≡ 1 → ⊥) → is_some (value_of_op (word Fun.Min) xs) ≡ true
-min-odd [] h = refl
-min-odd (a ∷ []) h = absurd (h refl)
-min-odd (a ∷ b ∷ []) h = refl
-min-odd (a ∷ b ∷ c ∷ xs) h = refl
-
-max-odd : (xs : List Value) → (length xs ≡ 1 → ⊥) → is_some (value_of_op (word Fun.Max) xs) ≡ true
-max-odd [] h = refl
-max-odd (a ∷ []) h = absurd (h refl)
-max-odd (a ∷ b ∷ []) h = refl
-max-odd (a ∷ b ∷ c ∷ xs) h = refl
-
-image-odd : (xs : List Value) → (length xs ≡ 2 → ⊥) → is_some (value_of_op (word Fun.Image) xs) ≡ true
-image-odd [] h = refl
-image-odd (a ∷ []) h = refl
-image-odd (a ∷ b ∷ []) h = absurd (h refl)
-image-odd (a ∷ b ∷ c ∷ xs) h = refl
-
-party-odd : (xs : List Value) → (length xs ≡ 2 → ⊥) → is_some (value_of_op (word Fun.Party) xs) ≡ true
-party-odd [] h = refl
-party-odd (a ∷ []) h = refl
-party-odd (a ∷ b ∷ []) h = absurd (h refl)
-party-odd (a ∷ b ∷ c ∷ xs) h = refl
-
-other-number : (n m : ℕ) (xs : List Value) → length xs ≡ n → (n ≡ m → ⊥) → length xs ≡ m → ⊥
-other-number n m xs e h q = h (sym e ∙ q)
-
--- A connective has a value.
-connects-some : (op : Op) (os : List (Option Value)) → connects op ≡ true → is_some (value_of_node op os) ≡ true
-connects-some op os e = go (connective op) refl
-  where
-    go : (c : Option (List Bool → Bool)) → connective op ≡ c → is_some (value_of_node op os) ≡ true
-    go None q = let r : true ≡ false = sym e ∙ ap is_some q in cc
-    go (Some f) q = ap (λ x. is_some (elim x [ Some f ↦ Some (Rattle.ess_semantics.specs.Values.truth (f (map as_truth os))) | None ↦ and_then (all_some os) (value_of_op op) ])) q
-
-behind-map : (cs : List Ex) (env : Env) (P Q : Type 0) → (P → Q) → Behind cs env P → Behind cs env Q
-behind-map [] env P Q f b = f b
-behind-map (c ∷ cs) env P Q f b = (b.0, λ t. behind-map cs env P Q f (b.1 t))
+use Rattle.ess_guard_laws.proofs.OwnTotals as O
+use Rattle.ess_guard_laws.proofs.OwnTotals.{connects-some, behind-map}
 
 behind-two : (cs ds : List Ex) (env : Env) (P Q : Type 0) → Behind cs env P → Behind ds env Q → Behind (cs ++ ds) env (P × Q)
 behind-two cs ds env P Q p q = behind-append cs ds env P (P × Q) (λ t. behind-map ds env Q (P × Q) (λ u. (t, u)) q) p
@@ -112,63 +52,8 @@ module _ (x y : Text) (pl : Bool) (ts : List TypeEntry) (cs : Names Table) where
   abbrev Cs : Names Origin → Exs → List Ex
   Cs k es = conditions_all false x y k false es
 
-  -- ---- rows
-
-  -- A sure argument of a total function.
-  argument-there : (k : Names Origin) (f a : Ex) (g : Vals) (v w : Value) → Known k g → is_argument k f a ≡ true → meaning f (M g) ≡ Some v → meaning a (M g) ≡ Some w → is_some (value_at (items_of v) w) ≡ true
-  argument-there k (seen_ex (repr ReprKind.Function1D (more_reprs r rs)) (function_dom ms fs d c) ns is) a g v w n t p q =
-      let z = view-full r rs ms fs d c ns is (M g) v p in
-      let u = K.sure-member pl ts cs k a d g w n t q in
-      full-value z.0 v w z.2 (K.listed-list (domain_of d (M g)) u.0 w z.0 u.1 z.1 u.2)
-  argument-there k f a g v w n t p q = cc
-
-  image-total : (k : Names Origin) (f a : Ex) (g : Vals) → Known k g → Total f (M g) → Total a (M g) →
-      Behind (image_conditions k f a) (M g) (HasValue (value_of_node (word Fun.Image) (meaning f (M g) ∷ meaning a (M g) ∷ [])) (meaning f (M g) ∷ meaning a (M g) ∷ []))
-  image-total k f a g n tf ta = behind-unless (is_argument k f a) (ex2 true Op2.Member a (fun1 false Fun.Defined f)) (M g) _
-      (λ t. both-there (λ o p. is_some (value_of_node (word Fun.Image) (o ∷ p ∷ [])) ≡ true) (meaning f (M g)) (meaning a (M g)) (λ v w p q. argument-there k f a g v w n t p q))
-      (safe-total true (binary Op2.Member) (more_exs a (more_exs (fun1 false Fun.Defined f) no_exs)) (M g) refl (ta, (safe-total false (word Fun.Defined) (more_exs f no_exs) (M g) refl (tf, tt), tt)))
-      (λ h. both-there (λ o p. is_some (value_of_node (word Fun.Image) (o ∷ p ∷ [])) ≡ true) (meaning f (M g)) (meaning a (M g)) (λ v w p q. sym (defined-means f a (M g) v w p q) ∙ h))
-
-  path-none : (k : Names Origin) (m : Ex) (qs : List Step) (is : Exs) (env : Env) (P : Type 0) → no_values qs ≡ true → P → Behind (path_conditions k x m qs is) env P
-  path-none k m [] is env P t p = p
-  path-none k m (by_value ∷ qs) is env P t p = cc
-  path-none k m (to_component c ∷ qs) is env P t p = path-none k (at_step (to_component c) m no_exs) qs is env P t p
-  path-none k m (to_field a ∷ qs) is env P t p = path-none k (at_step (to_field a) m no_exs) qs is env P t p
-
-  -- Under its own conditions an operator has a value.
-  own-total : (k : Names Origin) (op : Op) (es : Exs) (g : Vals) → Known k g → covers op ≡ true → TotalAll es (M g) → Behind (own k x y op es) (M g) (HasValue (value_of_node op (meanings es (M g))) (meanings es (M g)))
-  own-total k (binary Op2.Div) (more_exs a (more_exs b no_exs)) g n v t = quotient-total Op2.Div div_down k a b (M g) (K.known-numbers pl ts cs k g n) t.1.0 (λ v w. refl) div-some
-  own-total k (binary Op2.Mod) (more_exs a (more_exs b no_exs)) g n v t = quotient-total Op2.Mod mod_down k a b (M g) (K.known-numbers pl ts cs k g n) t.1.0 (λ v w. refl) mod-some
-  own-total k (binary Op2.Pow) (more_exs a (more_exs b no_exs)) g n v t = power-total k a b (M g) (K.known-numbers pl ts cs k g n) t.0 t.1.0
-  own-total k (binary Op2.Div) no_exs g n v t = odd-there (binary Op2.Div) no_exs (M g) refl (λ xs e. not-two Op2.Div xs (λ z. let q = sym e ∙ z in cc))
-  own-total k (binary Op2.Div) (more_exs a no_exs) g n v t = odd-there (binary Op2.Div) (more_exs a no_exs) (M g) refl (λ xs e. not-two Op2.Div xs (λ z. let q = sym e ∙ z in cc))
-  own-total k (binary Op2.Div) (more_exs a (more_exs b (more_exs c es))) g n v t = odd-there (binary Op2.Div) (more_exs a (more_exs b (more_exs c es))) (M g) refl (λ xs e. not-two Op2.Div xs (λ z. let q = sym e ∙ z in cc))
-  own-total k (binary Op2.Mod) no_exs g n v t = odd-there (binary Op2.Mod) no_exs (M g) refl (λ xs e. not-two Op2.Mod xs (λ z. let q = sym e ∙ z in cc))
-  own-total k (binary Op2.Mod) (more_exs a no_exs) g n v t = odd-there (binary Op2.Mod) (more_exs a no_exs) (M g) refl (λ xs e. not-two Op2.Mod xs (λ z. let q = sym e ∙ z in cc))
-  own-total k (binary Op2.Mod) (more_exs a (more_exs b (more_exs c es))) g n v t = odd-there (binary Op2.Mod) (more_exs a (more_exs b (more_exs c es))) (M g) refl (λ xs e. not-two Op2.Mod xs (λ z. let q = sym e ∙ z in cc))
-  own-total k (binary Op2.Pow) no_exs g n v t = odd-there (binary Op2.Pow) no_exs (M g) refl (λ xs e. not-two Op2.Pow xs (λ z. let q = sym e ∙ z in cc))
-  own-total k (binary Op2.Pow) (more_exs a no_exs) g n v t = odd-there (binary Op2.Pow) (more_exs a no_exs) (M g) refl (λ xs e. not-two Op2.Pow xs (λ z. let q = sym e ∙ z in cc))
-  own-total k (binary Op2.Pow) (more_exs a (more_exs b (more_exs c es))) g n v t = odd-there (binary Op2.Pow) (more_exs a (more_exs b (more_exs c es))) (M g) refl (λ xs e. not-two Op2.Pow xs (λ z. let q = sym e ∙ z in cc))
-  own-total k (word Fun.Min) no_exs g n v t = odd-there (word Fun.Min) no_exs (M g) refl (λ xs e. min-odd xs (λ z. let q = sym e ∙ z in cc))
-  own-total k (word Fun.Min) (more_exs a (more_exs b es)) g n v t = odd-there (word Fun.Min) (more_exs a (more_exs b es)) (M g) refl (λ xs e. min-odd xs (λ z. let q = sym e ∙ z in cc))
-  own-total k (word Fun.Max) no_exs g n v t = odd-there (word Fun.Max) no_exs (M g) refl (λ xs e. max-odd xs (λ z. let q = sym e ∙ z in cc))
-  own-total k (word Fun.Max) (more_exs a (more_exs b es)) g n v t = odd-there (word Fun.Max) (more_exs a (more_exs b es)) (M g) refl (λ xs e. max-odd xs (λ z. let q = sym e ∙ z in cc))
-  own-total k (word Fun.Image) no_exs g n v t = odd-there (word Fun.Image) no_exs (M g) refl (λ xs e. image-odd xs (λ z. let q = sym e ∙ z in cc))
-  own-total k (word Fun.Image) (more_exs a no_exs) g n v t = odd-there (word Fun.Image) (more_exs a no_exs) (M g) refl (λ xs e. image-odd xs (λ z. let q = sym e ∙ z in cc))
-  own-total k (word Fun.Image) (more_exs a (more_exs b (more_exs c es))) g n v t = odd-there (word Fun.Image) (more_exs a (more_exs b (more_exs c es))) (M g) refl (λ xs e. image-odd xs (λ z. let q = sym e ∙ z in cc))
-  own-total k (word Fun.Party) no_exs g n v t = odd-there (word Fun.Party) no_exs (M g) refl (λ xs e. party-odd xs (λ z. let q = sym e ∙ z in cc))
-  own-total k (word Fun.Party) (more_exs a no_exs) g n v t = odd-there (word Fun.Party) (more_exs a no_exs) (M g) refl (λ xs e. party-odd xs (λ z. let q = sym e ∙ z in cc))
-  own-total k (word Fun.Party) (more_exs a (more_exs b (more_exs c es))) g n v t = odd-there (word Fun.Party) (more_exs a (more_exs b (more_exs c es))) (M g) refl (λ xs e. party-odd xs (λ z. let q = sym e ∙ z in cc))
-  own-total k (word Fun.Min) (more_exs s no_exs) g n v t = item-total Fun.Min least x s (M g) t.0 (λ v. refl) least-there
-  own-total k (word Fun.Max) (more_exs s no_exs) g n v t = item-total Fun.Max greatest x s (M g) t.0 (λ v. refl) greatest-there
-  own-total k (word Fun.Image) (more_exs f (more_exs a no_exs)) g n v t = image-total k f a g n t.0 t.1.0
-  own-total k (word Fun.Party) (more_exs a (more_exs p no_exs)) g n v t = party-total a p (M g) t.0 t.1.0
-  own-total k (index qs) no_exs g n v t = λ h. node-some (index qs) [] v h
-  own-total k (index qs) (more_exs m is) g n v t = path-none k m qs is (M g) _ v (λ h. node-some (index qs) (meanings (more_exs m is) (M g)) v h)
-  own-total k application es g n v t = cc
-  own-total k function_literal es g n v t = cc
-  own-total k partition_literal es g n v t = cc
-  own-total k op es g n v t = λ h. node-some op (meanings es (M g)) refl h
+  abbrev own-total : (k : Names Origin) (op : Op) (es : Exs) (g : Vals) → Known k g → covers op es ≡ true → TotalAll es (M g) → Behind (own k x y op es) (M g) (HasValue (value_of_node op (meanings es (M g))) (meanings es (M g)))
+  own-total = O.own-total x y pl ts cs
 
   -- ---- whole trees
 
@@ -186,6 +71,10 @@ module _ (x y : Text) (pl : Bool) (ts : List TypeEntry) (cs : Names Table) where
   pub asked-none : (e : Ex) (k : Names Origin) (env : Env) (P : Type 0) → asks_nothing e ≡ true → Behind (C k e) env P → P
   asked-none e k env P t b = subst (λ l. Behind l env P) (asks-none e k t) b
 
+  number-kept : (es : Exs) (k : Names Origin) → number_of (Gs k es) ≡ number_of es
+  number-kept no_exs k = refl
+  number-kept (more_exs e es) k = ap suc (number-kept es k)
+
   mutual
     -- Under its conditions a covered tree is total.
     pub total : (e : Ex) (k : Names Origin) (g : Vals) → Known k g → Covered e → Behind (C k e) (M g) (Total (G k e) (M g))
@@ -195,23 +84,29 @@ module _ (x y : Text) (pl : Bool) (ts : List TypeEntry) (cs : Names Table) where
     total (node_ex b op es) k g h v = node-choice b (connects op) (Cs k es ++ own k x y op (Gs k es)) (node_ex b op (Gs k es)) (node_ex true op (Gs k es)) (M g)
         (λ c. ((λ q. connects-some op (meanings (Gs k es) (M g)) c), total-truths es k g h (subst (λ z. AskNothing z es) c v.1) v.2))
         (λ c. behind-append (Cs k es) (own k x y op (Gs k es)) (M g) (TotalAll (Gs k es) (M g)) (Total (node_ex b op (Gs k es)) (M g))
-        (λ t. behind-map (own k x y op (Gs k es)) (M g) _ _ (λ q. (q, t)) (own-total k op (Gs k es) g h v.0 t)) (total-all es k g h v.2))
+        (λ t. behind-map (own k x y op (Gs k es)) (M g) _ _ (λ q. (q, t)) (own-total k op (Gs k es) g h (covers-kept false x y op es k v.0) t)) (total-all es k g h v.2))
         (λ c. behind-append (Cs k es) (own k x y op (Gs k es)) (M g) (TotalAll (Gs k es) (M g)) (Total (node_ex true op (Gs k es)) (M g))
-        (λ t. behind-map (own k x y op (Gs k es)) (M g) _ _ (λ q. (q, t)) (own-total k op (Gs k es) g h v.0 t)) (total-all es k g h v.2))
-    total (matrix_ex es d) k g h v = absurd v
+        (λ t. behind-map (own k x y op (Gs k es)) (M g) _ _ (λ q. (q, t)) (own-total k op (Gs k es) g h (covers-kept false x y op es k v.0) t)) (total-all es k g h v.2))
+    total (matrix_ex es d) k g h v = behind-append (Cs k es) _ (M g) (TotalAll (Gs k es) (M g)) _
+        (λ t. behind-append (conditions_dom false x y k d) _ (M g) (TotalDom (guarded_dom false x y k d) (M g)) _
+        (λ u. behind-map (matrix_conditions x es (guarded_dom false x y k d)) (M g) _ _ (λ f. ((λ m. f), t, u)) (matrix-total x es (Gs k es) (guarded_dom false x y k d) (M g) (sym (number-kept es k)) u))
+        (total-dom d k g h v.1)) (total-all es k g h v.0)
     total (comp_ex e gs) k g h v = total-gens gs k g (G (known_behind gs k) e) (C (known_behind gs k) e) (λ i q. total e (known_behind gs k) i q v.0) h v.1
     total (cell_ex true n es) k g h v = chained-total (Cs k es) (cell_ex true n (Gs k es)) (M g) (total-all es k g h v)
     total (cell_ex false n es) k g h v = total-all es k g h v
     total (seen_ex r d ns es) k g h v = tt
 
+    -- The same of operands.
     pub total-all : (es : Exs) (k : Names Origin) (g : Vals) → Known k g → CoveredAll es → Behind (Cs k es) (M g) (TotalAll (Gs k es) (M g))
     total-all no_exs k g h v = tt
     total-all (more_exs e es) k g h v = behind-two (C k e) (Cs k es) (M g) (Total (G k e) (M g)) (TotalAll (Gs k es) (M g)) (total e k g h v.0) (total-all es k g h v.1)
 
+    -- The same of the operands of connectives.
     pub total-truths : (es : Exs) (k : Names Origin) (g : Vals) → Known k g → AskNothing true es → CoveredAll es → TotalAll (Gs k es) (M g)
     total-truths no_exs k g h a v = tt
     total-truths (more_exs e es) k g h a v = (asked-none e k (M g) (Total (G k e) (M g)) a.0 (total e k g h v.0), total-truths es k g h a.1 v.1)
 
+    -- The same of generators.
     pub total-gens : (gs : Gens) (k : Names Origin) (g : Vals) (a : Ex) (ds : List Ex) → ((i : Vals) → Known (known_behind gs k) i → Behind ds (M i) (Total a (M i))) → Known k g → CoveredGens gs →
         Behind (conditions_gens false x y k gs ds) (M g) (TotalUnder (guarded_gens false x y k gs) (M g) (λ here. Total a here))
     total-gens no_gens k g a ds f h v = f g h
@@ -227,6 +122,7 @@ module _ (x y : Text) (pl : Bool) (ts : List TypeEntry) (cs : Names Table) where
     total-gens (cond c gs) k g a ds f h v = given-behind (G k c) (conditions_gens false x y k gs ds) (M g) (TotalUnder (guarded_gens false x y k gs) (M g) (λ here. Total a here))
         (asked-none c k (M g) (Total (G k c) (M g)) v.0 (total c k g h v.1)) (total-gens gs k g a ds f h v.2)
 
+    -- The same of a domain.
     pub total-dom : (d : Dom) (k : Names Origin) (g : Vals) → Known k g → CoveredDom d → Behind (conditions_dom false x y k d) (M g) (TotalDom (guarded_dom false x y k d) (M g))
     total-dom bool_dom k g h v = tt
     total-dom (int_dom rs es) k g h v = total-all es k g h v
@@ -242,6 +138,7 @@ module _ (x y : Text) (pl : Bool) (ts : List TypeEntry) (cs : Names Table) where
     total-dom (relation_dom ms es ds) k g h v = behind-two (Cs k es) (conditions_doms false x y k ds) (M g) _ _ (total-all es k g h v.0) (total-doms ds k g h v.1)
     total-dom (partition_dom ms es d) k g h v = behind-two (Cs k es) (conditions_dom false x y k d) (M g) _ _ (total-all es k g h v.0) (total-dom d k g h v.1)
 
+    -- The same of several domains.
     pub total-doms : (ds : Doms) (k : Names Origin) (g : Vals) → Known k g → CoveredDoms ds → Behind (conditions_doms false x y k ds) (M g) (TotalDoms (guarded_doms false x y k ds) (M g))
     total-doms no_doms k g h v = tt
     total-doms (more_doms d ds) k g h v = behind-two (conditions_dom false x y k d) (conditions_doms false x y k ds) (M g) _ _ (total-dom d k g h v.0) (total-doms ds k g h v.1)

@@ -1,22 +1,51 @@
 -- Trees whose partial operators are all among those that are known to be total under their conditions.
-use Rattle.std.specs.Prelude.{◌≡◌, Bool, true, false, ◌||◌, List, [], ◌∷◌}
-use Rattle.ess_semantics.specs.Trees.{Step, by_value, Op, index, application, function_literal, partition_literal, Ex, Exs, number_ex, truth_ex, name_ex, node_ex, matrix_ex, comp_ex, cell_ex, seen_ex, no_exs, more_exs, Gens, no_gens, over, from, cond, Dom, Doms, bool_dom, int_dom, name_dom, tuple_dom, record_dom, matrix_dom, set_dom, mset_dom, function_dom, relation_dom, partition_dom, no_doms, more_doms}
+use Rattle.std.specs.Prelude.{◌≡◌, Bool, true, false, ◌&&◌, ◌||◌, List, [], ◌∷◌, Option, Some}
+use Rattle.ess_semantics.specs.Trees.{Step, by_value, to_component, to_field, Op, index, application, function_literal, partition_literal, matrix_literal, Ex, Exs, number_ex, truth_ex, name_ex, node_ex, matrix_ex, comp_ex, cell_ex, seen_ex, no_exs, more_exs, Gens, no_gens, over, from, cond, Dom, Doms, bool_dom, int_dom, name_dom, tuple_dom, record_dom, matrix_dom, set_dom, mset_dom, function_dom, relation_dom, partition_dom, no_doms, more_doms}
 use Rattle.ess_semantics.specs.Meaning.{is_bool_dom}
+use Rattle.ess_guard_laws.specs.IndexDomains.{dom_followed, first_index}
+use Rattle.ess_guard_laws.specs.Conditions.{at_step}
 use Rattle.ess_guard_laws.specs.Guard.{connects}
 
--- No step is by a value.
-abbrev pub no_values : List Step → Bool
-no_values [] = true
-no_values (by_value ∷ qs) = false
-no_values (q ∷ qs) = no_values qs
+-- ---- indices
+
+-- Numbers, names and single cells.
+abbrev pub are_plain_bounds : Exs → Bool
+are_plain_bounds no_exs = true
+are_plain_bounds (more_exs (number_ex n) es) = are_plain_bounds es
+are_plain_bounds (more_exs (name_ex a) es) = are_plain_bounds es
+are_plain_bounds (more_exs (cell_ex b n no_exs) es) = are_plain_bounds es
+are_plain_bounds es = false
+
+-- An index domain with such bounds.
+abbrev pub is_plain_axis : Option Dom → Bool
+is_plain_axis (Some bool_dom) = true
+is_plain_axis (Some (int_dom rs es)) = are_plain_bounds es
+is_plain_axis (Some (name_dom a)) = true
+is_plain_axis o = false
+
+-- Whether the form of a matrix term tells its index domain: of a list literal, a comprehension, and a declared matrix.
+abbrev pub has_axis : Ex → Bool
+has_axis (node_ex false matrix_literal es) = true
+has_axis (comp_ex e gs) = true
+has_axis m = is_plain_axis (first_index (dom_followed m))
+
+-- Whether it does so for each step by a value.
+abbrev pub path_has_axes : Ex → List Step → Exs → Bool
+path_has_axes m [] is = true
+path_has_axes m (by_value ∷ qs) no_exs = true
+path_has_axes m (by_value ∷ qs) (more_exs i is) = has_axis m && path_has_axes (at_step by_value m (more_exs i no_exs)) qs is
+path_has_axes m (to_component c ∷ qs) is = path_has_axes (at_step (to_component c) m no_exs) qs is
+path_has_axes m (to_field a ∷ qs) is = path_has_axes (at_step (to_field a) m no_exs) qs is
+
+-- ---- operators
 
 -- The operators that are.
-abbrev pub covers : Op → Bool
-covers (index qs) = no_values qs
-covers application = false
-covers function_literal = false
-covers partition_literal = false
-covers op = true
+abbrev pub covers : Op → Exs → Bool
+covers (index qs) (more_exs m is) = path_has_axes m qs is
+covers application es = false
+covers function_literal es = false
+covers partition_literal es = false
+covers op es = true
 
 -- Whether the expression is marked as a Boolean.
 abbrev pub is_boolean : Ex → Bool
@@ -45,8 +74,8 @@ abbrev mutual
   Covered (number_ex n) = Unit {0}
   Covered (truth_ex b) = Unit {0}
   Covered (name_ex a) = Unit {0}
-  Covered (node_ex b op es) = (covers op ≡ true) × AskNothing (connects op) es × CoveredAll es
-  Covered (matrix_ex es d) = ⊥
+  Covered (node_ex b op es) = (covers op es ≡ true) × AskNothing (connects op) es × CoveredAll es
+  Covered (matrix_ex es d) = CoveredAll es × CoveredDom d
   Covered (comp_ex e gs) = Covered e × CoveredGens gs
   Covered (cell_ex b n es) = CoveredAll es
   Covered (seen_ex r d ns es) = Unit {0}
