@@ -11,8 +11,8 @@ use Rattle.ess_parse.proofs.AsciiTokens.{AreAscii, lexed-ascii, front-ascii}
 use Rattle.ess_parse.proofs.Turns.{turn}
 use Rattle.ess_parse.proofs.parsing.parse.Goals as goal
 
-pub loop-parser-init : goal.loop-parser-init
-loop-parser-init c =
+pub loop-token-init : goal.loop-token-init
+loop-token-init c =
     record {
       same = ap (λ l. run_over step_state finish_state (end_place c.args.text.now) l (view_parser c.args.start)) (sym c.new-lexer.ensures);
       ascii = subst AreAscii (sym c.new-lexer.ensures) (lexed-ascii c.args.text.now);
@@ -21,17 +21,17 @@ loop-parser-init c =
 pub step-requires : goal.step-requires
 step-requires c =
     let found = c.in-Some.token in
-    let come : next_token (token found.kind found.text.now) found.text.now found.place (left c.next.new.self) ≡ left c.loop-parser.lexer = rw c.in-Some.is at c.in_ok-token.ensures.next in
-    (front-ascii (token found.kind found.text.now) found.text.now found.place (left c.next.new.self) (left c.loop-parser.lexer) come (c.loop-parser.invariant).ascii).0
+    let come : next_token (token found.kind found.text.now) found.text.now found.place (left c.next.new.self) ≡ left c.loop-token.lexer = rw c.in-Some.is at c.in_ok-token.ensures.next in
+    (front-ascii (token found.kind found.text.now) found.text.now found.place (left c.next.new.self) (left c.loop-token.lexer) come (c.loop-token.invariant).ascii).0
 
-pub loop-parser-preserved : goal.loop-parser-preserved
-loop-parser-preserved c =
+pub loop-token-preserved : goal.loop-token-preserved
+loop-token-preserved c =
     let found = c.in-Some.token in
-    let come : next_token (token found.kind found.text.now) found.text.now found.place (left c.next.new.self) ≡ left c.loop-parser.lexer = rw c.in-Some.is at c.in_ok-token.ensures.next in
+    let come : next_token (token found.kind found.text.now) found.text.now found.place (left c.next.new.self) ≡ left c.loop-token.lexer = rw c.in-Some.is at c.in_ok-token.ensures.next in
     record {
       same =
           turn step_state finish_state (end_place c.args.text.now) (run_over step_state finish_state (end_place c.args.text.now) (lexed c.args.text.now) (view_parser c.args.start))
-          (token found.kind found.text.now) found.text.now found.place (left c.next.new.self) (left c.loop-parser.lexer) (view_parser c.loop-parser.parser) (view_parser c.in-Some-2.next)
-          (c.loop-parser.invariant).same come (c.in_ok-next.ensures ∙ ap (option_map view_parser) c.in-Some-2.is);
-      ascii = (front-ascii (token found.kind found.text.now) found.text.now found.place (left c.next.new.self) (left c.loop-parser.lexer) come (c.loop-parser.invariant).ascii).1;
+          (token found.kind found.text.now) found.text.now found.place (left c.next.new.self) (left c.loop-token.lexer) (view_parser c.loop-token.parser) (view_parser c.in-Some-2.next)
+          (c.loop-token.invariant).same come (c.in_ok-next.ensures ∙ ap (option_map view_parser) c.in-Some-2.is);
+      ascii = (front-ascii (token found.kind found.text.now) found.text.now found.place (left c.next.new.self) (left c.loop-token.lexer) come (c.loop-token.invariant).ascii).1;
     }
