@@ -1,5 +1,5 @@
 -- The bound of a finite domain is one of the number of its members.
-use Rattle.std.proofs.Common.{refl, ◌-◌}
+use Rattle.std.proofs.Common.{refl}
 use Rattle.ess_semantics.specs.Values.{a_tuple, a_set, a_mset, a_relation, a_record}
 use Rattle.ess_semantics.specs.Domains.{Domain, Domains, booleans, integers, named, tuples, records, matrices, sets, msets, functions, relations, partitions, no_domains, more_domains}
 use Rattle.ess_semantics.specs.Membership.{member}

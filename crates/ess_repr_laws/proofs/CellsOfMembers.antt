@@ -1,6 +1,6 @@
 -- What is shown of the canonical cells of a member, and slots that hold such cells.
 use Rattle.ess_semantics.specs.declared.words.ReprKind.{ReprKind}
-use Rattle.std.proofs.Common.{◌≡◌, refl, sym, ap, ◌∙◌, ℕ, zero, suc, ◌+◌, true, List, [], ◌∷◌, ◌++◌, map, take, drop, length, ℤ, Option, Some, None, option_map, append-nil, Bool, false, subst}
+use Rattle.std.proofs.Common.{◌≡◌, refl, sym, ap, ◌∙◌, ℕ, zero, suc, true, List, [], ◌∷◌, ◌++◌, map, take, drop, length, ℤ, Option, Some, None, option_map, append-nil, Bool, false, subst}
 use Rattle.ess_semantics.specs.Lists.{and_then, each_of}
 use Rattle.ess_semantics.specs.Values.{Value}
 use Rattle.ess_semantics.specs.Trees.{Repr, Reprs, repr, no_reprs, more_reprs}

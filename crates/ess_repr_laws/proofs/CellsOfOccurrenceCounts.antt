@@ -4,7 +4,7 @@ use Rattle.std.proofs.lemmas.Bool.{le-leb}
 use Rattle.ess_semantics.specs.declared.words.ReprKind.{ReprKind}
 use Rattle.ess_semantics.specs.Lists.{and_then, each_of, or_default}
 use Rattle.ess_semantics.specs.Values.{a_mset, Value, node, of_list, to_list}
-use Rattle.ess_semantics.specs.Collections.{count, sorted}
+use Rattle.ess_semantics.specs.Collections.{count}
 use Rattle.ess_semantics.specs.Numbers.{not_below_0}
 use Rattle.ess_semantics.specs.Trees.{repr, no_reprs}
 use Rattle.ess_semantics.specs.Domains.{Attribute, Domain, msets, member_list}

@@ -1,5 +1,5 @@
 -- Tables of cells in their domains have their items there.
-use Rattle.std.proofs.Common.{◌≡◌, refl, ap, ◌+◌, Bool, true, ◌&&◌, List, [], ◌∷◌, ◌++◌, map, ℤ, pos, Option, Some, None}
+use Rattle.std.proofs.Common.{◌≡◌, refl, ap, Bool, true, ◌&&◌, List, [], ◌∷◌, ◌++◌, map, ℤ, pos, Option, Some, None}
 use Rattle.std.specs.List.{list_all}
 use Rattle.ess_semantics.specs.Lists.{is_some_and, or_default}
 use Rattle.ess_semantics.specs.Tables.{is_cell}

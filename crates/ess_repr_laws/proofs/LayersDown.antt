@@ -1,23 +1,23 @@
 -- The canonical tables of a member, made of those of its inner values: one layer with one child.
-use Rattle.std.proofs.Common.{◌≡◌, refl, sym, ap, ◌∙◌, subst, Bool, true, false, List, [], ◌∷◌, ◌++◌, map, Option, Some, None, option_map, append-nil}
+use Rattle.std.proofs.Common.{◌≡◌, refl, sym, ap, ◌∙◌, subst, true, false, List, [], ◌∷◌, ◌++◌, map, Option, Some, None, option_map, append-nil}
 use Rattle.ess_semantics.specs.declared.words.ReprKind.{ReprKind}
 use Rattle.ess_semantics.specs.Lists.{and_then, each_of, append_all}
 use Rattle.ess_semantics.specs.Values.{Value}
-use Rattle.ess_semantics.specs.Trees.{Repr, Reprs, repr, no_reprs, more_reprs}
+use Rattle.ess_semantics.specs.Trees.{Repr, repr, no_reprs, more_reprs}
 use Rattle.ess_semantics.specs.Domains.{Domain}
 use Rattle.ess_semantics.specs.Membership.{member}
 use Rattle.ess_semantics.specs.Tables.{Tables}
-use Rattle.ess_semantics.specs.Cells.{Cells, Axes, cells_of, tables_over}
-use Rattle.ess_semantics.specs.Layers.{Layer, Slot}
+use Rattle.ess_semantics.specs.Cells.{tables_over}
+use Rattle.ess_semantics.specs.Layers.{Layer}
 use Rattle.ess_semantics.specs.Representations.{layer}
 use Rattle.ess_semantics.specs.Declarations.{axes_of}
-use Rattle.ess_semantics.specs.Canonical.{Child, somes, canonical_layer, canonical_slots, canonical_cells, canonical_children, tables_of_value}
+use Rattle.ess_semantics.specs.Canonical.{somes, canonical_layer, canonical_slots, canonical_cells, canonical_children, tables_of_value}
 use Rattle.ess_semantics.specs.OneLayer.{inner_values, with_tables, children_with, layer_tables}
 use Rattle.ess_repr_laws.specs.CanonicalTables.{is_compound}
 use Rattle.ess_repr_laws.specs.Rooms.{Roomy}
 use Rattle.ess_repr_laws.proofs.CanonicalPlaces.{AllOf}
 use Rattle.ess_repr_laws.proofs.ExactCells.{exact-tables}
-use Rattle.ess_repr_laws.proofs.CellsOfMembers.{Inside, ChildInside, InnerInside, Unless, HasCells, MembersHaveCells}
+use Rattle.ess_repr_laws.proofs.CellsOfMembers.{Inside, ChildInside, Unless, HasCells, MembersHaveCells}
 use Rattle.ess_repr_laws.proofs.MembersHaveTables.{members_have_cells}
 
 -- Where the tables of each value of a list are there, they are the canonical ones.

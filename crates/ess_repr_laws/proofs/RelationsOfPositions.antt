@@ -2,7 +2,7 @@
 use Rattle.std.proofs.Common.{◌≡◌, refl, sym, ap, ◌∙◌, Bool, true, false, ◌&&◌, ◌||◌, not, List, [], ◌∷◌, length}
 use Rattle.std.specs.List.{list_all}
 use Rattle.ess_semantics.specs.Lists.{is_empty}
-use Rattle.ess_semantics.specs.Values.{a_set, a_relation, a_partition, Value, number, truth, item, node, nil, cons, to_list, of_list, tuple, pair, itself}
+use Rattle.ess_semantics.specs.Values.{a_set, a_relation, a_partition, Value, number, truth, item, node, nil, cons, to_list, of_list, tuple, itself}
 use Rattle.ess_semantics.specs.Collections.{rises, has_overlap}
 use Rattle.ess_semantics.specs.Domains.{Attribute, Domain, Domains, relations, partitions, no_domains, more_domains, members}
 use Rattle.ess_semantics.specs.Attributes.{size_holds, relation_holds, relation_attributes_hold, partition_attributes_hold}
@@ -19,7 +19,6 @@ use Rattle.ess_repr_laws.proofs.AllMembersListed.{listed-inside}
 use Rattle.ess_repr_laws.proofs.AttributesOfPositions.{each-same, pairs_of, relation-same}
 use Rattle.ess_repr_laws.proofs.PartsOfPositions.{overlap-with, covers-with, parts-attributes}
 use Rattle.ess_repr_laws.proofs.MatchedMembers.{Back, Matched, all-so, list-back, node-from, node-with, partition-made, relation-made}
-use Rattle.ess_repr_laws.proofs.SetsOfPositions.{attributes}
 
 -- ---- relations
 

@@ -1,8 +1,8 @@
 -- Where a representation has room for the members of a domain, its child has room for those of the child's domain.
-use Rattle.std.proofs.Common.{◌≡◌, refl, sym, ap, ◌∙◌, subst, Bool, true, false, List, [], ◌∷◌, Option, Some, None}
+use Rattle.std.proofs.Common.{◌≡◌, subst, false, List, [], ◌∷◌, Option, Some, None}
 use Rattle.ess_semantics.specs.declared.words.ReprKind.{ReprKind}
 use Rattle.ess_semantics.specs.Trees.{Repr, repr, no_reprs, more_reprs}
-use Rattle.ess_semantics.specs.Domains.{Domain, tuples, records, matrices, sets, msets, functions, relations, partitions}
+use Rattle.ess_semantics.specs.Domains.{Domain, tuples, matrices, sets, msets, functions, relations, partitions}
 use Rattle.ess_semantics.specs.Layers.{Layer}
 use Rattle.ess_semantics.specs.Representations.{layer}
 use Rattle.ess_repr_laws.specs.Rooms.{Roomy}

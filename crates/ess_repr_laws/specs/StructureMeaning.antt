@@ -90,13 +90,15 @@ abbrev mutual
   axes_members (repr ReprKind.Rec rs) (records fs es) = members_of_axes rs (domain_list es)
   axes_members (repr ReprKind.Matrix (more_reprs r no_reprs)) (matrices is e) = on_members (index_members is) (axes_members r e)
   axes_members (repr ReprKind.Occurrence no_reprs) (sets ks e) = (member_list e ∷ []) ∷ []
-  axes_members (repr ReprKind.Explicit (more_reprs r no_reprs)) (sets ks e) = on_members (slot_numbers (slots_of_set ks e)) (axes_members r e)
+  axes_members (repr ReprKind.Explicit (more_reprs r no_reprs)) (sets ks e) =
+      on_members (slot_numbers (slots_of_set ks e)) (axes_members r e)
   axes_members (repr ReprKind.ExplicitVarSizeWithMarker (more_reprs r no_reprs)) (sets ks e) =
       [] ∷ on_members (slot_numbers (slots_of_set ks e)) (axes_members r e)
   axes_members (repr ReprKind.ExplicitVarSizeWithFlags (more_reprs r no_reprs)) (sets ks e) =
       slot_numbers (slots_of_set ks e) ∷ on_members (slot_numbers (slots_of_set ks e)) (axes_members r e)
   axes_members (repr ReprKind.Function1D (more_reprs r no_reprs)) (functions ks x y) = on_members (member_list x ∷ []) (axes_members r y)
-  axes_members (repr ReprKind.FunctionND (more_reprs r no_reprs)) (functions ks (tuples xs) y) = on_members (index_members xs) (axes_members r y)
+  axes_members (repr ReprKind.FunctionND (more_reprs r no_reprs)) (functions ks (tuples xs) y) =
+      on_members (index_members xs) (axes_members r y)
   axes_members (repr ReprKind.RelationAsMatrix no_reprs) (relations ks xs) = index_members xs ∷ []
   axes_members (repr ReprKind.Function1DPartial (more_reprs r no_reprs)) (functions ks x y) =
       (member_list x ∷ []) ∷ on_members (member_list x ∷ []) (axes_members r y)
@@ -190,7 +192,8 @@ module _ (env0 : Env) (q : ℕ → Text) (q-apart : (m l : ℕ) → l < m → sa
     Ready (repr ReprKind.RelationAsMatrix no_reprs) (relation_dom ms es ds) (relations ks xs) =
         AreAtoms xs × (has_flags_among no_key ks ≡ true) × AxesAre env0 q q-apart (dom_list ds) (index_members xs) × Attributes ms es ks
     Ready (repr ReprKind.Function1DPartial (more_reprs r no_reprs)) (function_dom ms es d c) (functions ks x y) =
-        IsAtom x × (has_flags_among no_key ks ≡ true) × AxesAre env0 q q-apart (d ∷ []) (member_list x ∷ []) × Attributes ms es ks × Ready r c y
+        IsAtom x × (has_flags_among no_key ks ≡ true) × AxesAre env0 q q-apart (d ∷ []) (member_list x ∷ []) × Attributes ms es ks ×
+        Ready r c y
     Ready (repr ReprKind.FunctionNDPartial (more_reprs r no_reprs)) (function_dom ms es (tuple_dom ds) c) (functions ks (tuples xs) y) =
         AreAtoms xs × (has_flags_among no_key ks ≡ true) × AxesAre env0 q q-apart (dom_list ds) (index_members xs) × Attributes ms es ks ×
         Ready r c y
@@ -201,7 +204,8 @@ module _ (env0 : Env) (q : ℕ → Text) (q-apart : (m l : ℕ) → l < m → sa
     Ready (repr ReprKind.MSetExplicitWithRepetition (more_reprs r no_reprs)) (mset_dom ms es d) (msets ks e) =
         Attributes ms es ks × SlotsAre (mset_dom ms es d) (slots_of_mset ks e) × (asks_no_times ks ≡ true) × Ready r d e
     Ready (repr ReprKind.ExplicitVarSizeWithDummy no_reprs) (set_dom ms es d) (sets ks e) =
-        (HasDummy e × (is_bool_dom d ≡ false) × AtomReady d e) × DummyIs d e × Attributes ms es ks × SlotsAre (set_dom ms es d) (slots_of_set ks e)
+        (HasDummy e × (is_bool_dom d ≡ false) × AtomReady d e) × DummyIs d e × Attributes ms es ks ×
+        SlotsAre (set_dom ms es d) (slots_of_set ks e)
     Ready (repr ReprKind.RelationAsSet (more_reprs r no_reprs)) (relation_dom ms es ds) (relations ks xs) =
         ((has_flags_among no_key ks ≡ true) × AreSizes (tuple_set_sizes ks) ks) × Ready r (tuple_set_dom ms es ds) (child_set ks xs)
     Ready _ d e = ⊥

@@ -101,13 +101,15 @@ module _ (q : ℕ → Text) where
   abbrev pub less_ex : ℕ → List Shape → Exs → Exs → Ex
   less_ex l [] is js = truth_ex false
   less_ex l (s ∷ ss) is js =
-      or_ex (ex2 true Op2.LexLt (row_ex l s is) (row_ex l s js)) (and_ex (ex2 true Op2.LexLe (row_ex l s is) (row_ex l s js)) (less_ex l ss is js))
+      or_ex (ex2 true Op2.LexLt (row_ex l s is) (row_ex l s js))
+      (and_ex (ex2 true Op2.LexLe (row_ex l s is) (row_ex l s js)) (less_ex l ss is js))
 
   -- They are below, or equal.
   abbrev pub at_most_ex : ℕ → List Shape → Exs → Exs → Ex
   at_most_ex l [] is js = truth_ex true
   at_most_ex l (s ∷ ss) is js =
-      or_ex (ex2 true Op2.LexLt (row_ex l s is) (row_ex l s js)) (and_ex (ex2 true Op2.LexLe (row_ex l s is) (row_ex l s js)) (at_most_ex l ss is js))
+      or_ex (ex2 true Op2.LexLt (row_ex l s is) (row_ex l s js))
+      (and_ex (ex2 true Op2.LexLe (row_ex l s is) (row_ex l s js)) (at_most_ex l ss is js))
 
   -- Below, where two slots must differ; else also equal.
   abbrev pub rise_ex : Bool → ℕ → List Shape → Exs → Exs → Ex
