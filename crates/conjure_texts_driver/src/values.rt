@@ -165,6 +165,7 @@ pub fn function(alloc: Global, text: &str) -> Result<Text, NoMemory> {
 }
 
 /// Those of the values that are sets.
+#[tactic(auto, using(crate::proofs::SetLists::sets_more))]
 fn sets_of(alloc: Global, vals: Row<Val>) -> Result<Row<Val>, NoMemory>
     ensures { IfOk result (λ r. list_all is_set (map pure_val r) ≡ true) }
 {
