@@ -11,15 +11,15 @@ ghost use Rattle.eprime_read.specs.Drafts.{Fits};
 ghost use Rattle.eprime_read.specs.Statements.{model_rule, model_rules};
 ghost use Rattle.eprime_read.specs.Views.{view_draft};
 
+use crate::converting::model_expression;
 use crate::drafts::Draft;
 use crate::growing::{with_find, with_given, with_greatest, with_least, with_rules};
 use crate::openings::Opening;
 use crate::statements::{find_in, given_in, greatest_in, least_in, only};
 use eprime_read_convert::Lines;
-use eprime_read_convert::expressions::convert_ex;
 use eprime_tree::PEx;
 use ess_core::Stm;
-use ess_rows::{Boxed, NoMemory, Row, Text};
+use ess_rows::{NoMemory, Row, Text};
 use std::alloc::Global;
 
 /// The constraint of a model that a statement is, if it is one.
@@ -28,13 +28,13 @@ fn rule_of(
     lines: &Lines,
     bound: &Row<Text>,
     stm: &Stm,
-) -> Result<Option<Boxed<PEx>>, NoMemory>
+) -> Result<Option<PEx>, NoMemory>
     requires bound { bound.now ≡ [] }
     requires readable { ReadableStm (pure_stm stm.now) }
     ensures { IfOk result (λ o. option_map (pure_ex (scope_of lines.now)) o ≡ model_rule (scope_of lines.now) (pure_stm stm.now)) }
 {
     match stm {
-        Stm::SuchThat(ex) => Ok(convert_ex(alloc, lines, true, bound, ex.get())?),
+        Stm::SuchThat(ex) => Ok(model_expression(alloc, lines, true, bound, ex.get())?),
         _ => Ok(None),
     }
 }
@@ -48,7 +48,7 @@ fn rules_of(alloc: Global, lines: &Lines, stms: &[Stm]) -> Result<Option<Row<PEx
     let mut rules = Row::new(alloc);
     for stm in stms {
         match rule_of(alloc, lines, &bound, stm)? {
-            Some(rule) => rules.push(rule.into_inner())?,
+            Some(rule) => rules.push(rule)?,
             None => return Ok(None),
         }
     }

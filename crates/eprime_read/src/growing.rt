@@ -12,9 +12,9 @@ ghost use Rattle.eprime_read_convert.specs.Lines.{scope_of};
 ghost use Rattle.eprime_read.specs.Drafts.{Fits, given_on, find_on, goal_on, rules_on};
 ghost use Rattle.eprime_read.specs.Views.{view_draft};
 
+use crate::converting::model_expression;
 use crate::drafts::Draft;
 use eprime_read_convert::declarations::convert_decl;
-use eprime_read_convert::expressions::convert_ex;
 use eprime_read_convert::{Line, Lines};
 use eprime_tree::{PDecl, PDom, PEx, PGoal, PModel};
 use ess_core::{Dom, Ex};
@@ -160,8 +160,8 @@ pub(crate) fn with_least(alloc: Global, draft: Draft, ex: &Ex) -> Result<Option<
     ensures { IfOk result (λ d. readable (with_objective (view_draft draft) (least (read_ex ex.now))) ≡ option_map view_draft d) }
 {
     let bound = Row::new(alloc);
-    match convert_ex(alloc, &draft.lines, true, &bound, ex)? {
-        Some(ex) => Ok(Some(with_goal(draft, PGoal::Minimise(ex.into_inner())))),
+    match model_expression(alloc, &draft.lines, true, &bound, ex)? {
+        Some(ex) => Ok(Some(with_goal(draft, PGoal::Minimise(ex)))),
         None => Ok(None),
     }
 }
@@ -172,8 +172,8 @@ pub(crate) fn with_greatest(alloc: Global, draft: Draft, ex: &Ex) -> Result<Opti
     ensures { IfOk result (λ d. readable (with_objective (view_draft draft) (greatest (read_ex ex.now))) ≡ option_map view_draft d) }
 {
     let bound = Row::new(alloc);
-    match convert_ex(alloc, &draft.lines, true, &bound, ex)? {
-        Some(ex) => Ok(Some(with_goal(draft, PGoal::Maximise(ex.into_inner())))),
+    match model_expression(alloc, &draft.lines, true, &bound, ex)? {
+        Some(ex) => Ok(Some(with_goal(draft, PGoal::Maximise(ex)))),
         None => Ok(None),
     }
 }

@@ -6,6 +6,7 @@
 //! and `read_model` runs it over a text.
 #![tactic(auto)]
 
+mod converting;
 mod drafts;
 mod endings;
 mod growing;

@@ -7,9 +7,8 @@ use Rattle.eprime_read.proofs.growing.with_least.Goals as goal
 
 pub with_goal-requires : goal.with_goal-requires
 with_goal-requires c =
-    rw (c.into_inner.ensures) (
     least_readable c.args.draft.model c.args.draft.lines (read_ex c.args.ex.now) (pure_ex (scope_of c.args.draft.lines) c.in-Some.ex) c.args.draft.sound
-    (converted (scope_of c.args.draft.lines) _ (Some c.in-Some.ex) _ (read_ex c.args.ex.now) c.in_ok-ex.ensures c.in-Some.is c.new-bound.ensures))
+    (converted (scope_of c.args.draft.lines) _ (Some c.in-Some.ex) _ (read_ex c.args.ex.now) c.in_ok-ex.ensures c.in-Some.is c.new-bound.ensures)
 
 pub returns-in-None : goal.returns-in-None
 returns-in-None c =
