@@ -40,3 +40,5 @@ pub mod SourceRules
 pub mod LiteralSources
 pub mod ExamplesSources
 pub mod Tails
+pub mod ShortSizeRules
+pub mod ExamplesShortRules

@@ -11,3 +11,4 @@ pub mod ComponentRules
 pub mod SpliceRules
 pub mod GeneratorRules
 pub mod SourceRules
+pub mod ShortSizeRules

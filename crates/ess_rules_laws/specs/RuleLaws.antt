@@ -13,6 +13,7 @@ use Rattle.ess_rules_laws.specs.MembershipRules.{member_term, member_combined, m
 use Rattle.ess_rules_laws.specs.InclusionRules.{unequal, included_turned, included_strictly, included_members, included_often, equal_members, equal_often, equal_pairs}
 use Rattle.ess_rules_laws.specs.ComponentRules.{equal_components, equal_fields}
 use Rattle.ess_rules_laws.specs.SizeRules.{size_term, frequency_term, together_term}
+use Rattle.ess_rules_laws.specs.ShortSizeRules.{RuleKeepsWithin, RuleKeepsWithinThere, size_made, frequency_made, frequency_listed}
 
 -- Rules of `and`, `or`, `sum` and `product` over a condition alone, over literals of no item or one, over a comprehension
 -- without generators, and over any term.
@@ -41,11 +42,14 @@ pub record InclusionRulesKeep : Type 0 where
   pub equal_multisets : RuleKeepsTyped equal_often
   pub equal_functions : RuleKeepsTyped equal_pairs
 
--- Rules of `|..|`, `freq` and `together`.
+-- Rules of `|..|`, `freq` and `together`: of any container, of containers made of others, and of literals.
 pub record SizeRulesKeep : Type 0 where
   pub size : RuleKeepsTyped size_term
   pub frequency : RuleKeepsNewThere frequency_term
   pub together : RuleKeepsNew together_term
+  pub size_of_one_made_of_another : RuleKeepsWithin size_made
+  pub frequency_in_one_made_of_another : RuleKeepsWithinThere frequency_made
+  pub frequency_in_a_literal : RuleKeepsWhere OperandsThere frequency_listed
 
 -- Rules of `=` by components.
 pub record ComponentRulesKeep : Type 0 where
