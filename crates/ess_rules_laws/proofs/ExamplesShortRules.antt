@@ -1,4 +1,4 @@
--- Worked examples of the shorter rules of sizes and frequencies.
+-- Worked examples of the shorter rules of sizes and frequencies, and of the rules of `in` what is made of a function.
 use Rattle.std.specs.Prelude.{◌≡◌, refl, false, [], ◌∷◌, pos, codes, Some, None}
 use Rattle.ess_semantics.specs.declared.words.Op1.{Op1}
 use Rattle.ess_semantics.specs.declared.words.Op2.{Op2}
@@ -8,8 +8,10 @@ use Rattle.ess_semantics.specs.Names.{Names}
 use Rattle.ess_semantics.specs.Trees.{name_pat, set_literal, mset_literal, matrix_literal, Ex, node_ex, comp_ex, ex1, no_exs, no_gens, from}
 use Rattle.ess_semantics.specs.Types.{Ty, int_ty, compound1, compound2}
 use Rattle.ess_semantics.specs.Meaning.{empty_env, meaning}
-use Rattle.ess_semantics.proofs.Shorthands.{N, n, es2, bi, fn}
+use Rattle.ess_semantics.proofs.Shorthands.{N, n, es2, bi, fn, fn2}
 use Rattle.ess_rules_laws.specs.InclusionRules.{frequency}
+use Rattle.ess_rules_laws.specs.ComponentRules.{component_of}
+use Rattle.ess_rules_laws.specs.FunctionMembershipRules.{pair_ex, member_of_function, member_related}
 use Rattle.ess_rules_laws.specs.ShortSizeRules.{size_made, frequency_made, frequency_listed}
 
 abbrev pub f : Text
@@ -75,3 +77,21 @@ each_compared = refl
 frequency_without_value : (meaning (frequency (fn Fun.ToMSet (node_ex false set_literal no_exs)) (bi Op2.Div (n 1) (n 0))) empty_env ≡ None)
     × (meaning (fn Fun.ToInt (bi Op2.Member (bi Op2.Div (n 1) (n 0)) (node_ex false set_literal no_exs))) empty_env ≡ Some (number (pos 0)))
 frequency_without_value = (refl, refl)
+
+-- ---- membership
+
+is_argument : member_of_function g x (bi Op2.Member (n 1) (fn Fun.Defined (N f))) ≡ Some (fn Fun.Or (comp_ex (bi Op2.Eq (component_of int_ty 1 (N x)) (n 1)) (from (name_pat x) (N f) no_gens)))
+is_argument = refl
+
+is_result : member_of_function g x (bi Op2.Member (n 1) (fn Fun.Range (N f))) ≡ Some (fn Fun.Or (comp_ex (bi Op2.Eq (component_of int_ty 2 (N x)) (n 1)) (from (name_pat x) (N f) no_gens)))
+is_result = refl
+
+is_source : member_of_function g x (bi Op2.Member (n 1) (fn2 Fun.PreImage (N f) (n 2))) ≡ Some (bi Op2.Member (pair_ex (n 1) (n 2)) (fn Fun.ToRelation (N f)))
+is_source = refl
+
+is_pair : member_related x (bi Op2.Member (pair_ex (n 1) (n 2)) (fn Fun.ToRelation (N f))) ≡ Some (fn Fun.Or (comp_ex (bi Op2.Eq (N x) (pair_ex (n 1) (n 2))) (from (name_pat x) (N f) no_gens)))
+is_pair = refl
+
+-- a set has no arguments
+no_argument : member_of_function g x (bi Op2.Member (n 1) (fn Fun.Defined (N s))) ≡ None
+no_argument = refl

@@ -42,3 +42,4 @@ pub mod ExamplesSources
 pub mod Tails
 pub mod ShortSizeRules
 pub mod ExamplesShortRules
+pub mod FunctionMembershipRules

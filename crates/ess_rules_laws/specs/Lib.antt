@@ -12,3 +12,4 @@ pub mod SpliceRules
 pub mod GeneratorRules
 pub mod SourceRules
 pub mod ShortSizeRules
+pub mod FunctionMembershipRules

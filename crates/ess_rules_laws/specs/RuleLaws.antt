@@ -10,6 +10,7 @@ use Rattle.ess_rules_laws.specs.Listings.{Alternative, Lists, listing}
 use Rattle.ess_rules_laws.specs.Rules.{Unused, SoundOperands, RuleKeeps, RuleKeepsWhere, RuleKeepsNew, RuleKeepsNewThere, RuleKeepsTyped, RuleKeepsTypedThere, OperandsThere}
 use Rattle.ess_rules_laws.specs.FoldRules.{fold_alone, fold_nothing, fold_one, fold_bare, fold_term, ItemFits, BareFits}
 use Rattle.ess_rules_laws.specs.MembershipRules.{member_term, member_combined, member_changed, member_listed, CombinedThere, ItemsThere}
+use Rattle.ess_rules_laws.specs.FunctionMembershipRules.{member_of_function, member_related}
 use Rattle.ess_rules_laws.specs.InclusionRules.{unequal, included_turned, included_strictly, included_members, included_often, equal_members, equal_often, equal_pairs}
 use Rattle.ess_rules_laws.specs.ComponentRules.{equal_components, equal_fields}
 use Rattle.ess_rules_laws.specs.SizeRules.{size_term, frequency_term, together_term}
@@ -24,12 +25,15 @@ pub record FoldRulesKeep : Type 0 where
   pub over_one_binding : RuleKeepsWhere BareFits fold_bare
   pub over_a_term : RuleKeepsNew fold_term
 
--- Rules of `in`: of any container, of unions, intersections and differences, of containers made of others, and of literals.
+-- Rules of `in`: of any container, of unions, intersections and differences, of containers made of others, of literals, and of
+-- what is made of functions.
 pub record MembershipRulesKeep : Type 0 where
   pub in_a_term : RuleKeepsNew member_term
   pub in_two : RuleKeepsWhere CombinedThere member_combined
   pub in_one_made_of_another : RuleKeeps member_changed
   pub in_a_literal : RuleKeepsWhere ItemsThere member_listed
+  pub in_what_a_function_has : RuleKeepsWithin member_of_function
+  pub in_its_pairs : RuleKeepsNew member_related
 
 -- Rules of `!=`, of the signs of inclusion, and of `=` between sets, relations, multisets and functions.
 pub record InclusionRulesKeep : Type 0 where
