@@ -7,7 +7,7 @@ use Rattle.std.specs.declared.cmp.Ordering.{Ordering}
 use Rattle.ess_semantics.specs.declared.words.Op2.{Op2}
 use Rattle.ess_semantics.specs.declared.words.Fun.{Fun}
 use Rattle.ess_semantics.specs.Lists.{and_then}
-use Rattle.ess_semantics.specs.Values.{Text, a_function, Value, truth, node, Values, nil, cons, to_list, items_of, pair, from_of, to_of}
+use Rattle.ess_semantics.specs.Values.{Text, a_function, Value, truth, node, nil, cons, to_list, items_of, pair, from_of, to_of}
 use Rattle.ess_semantics.specs.Order.{order, orders, same}
 use Rattle.ess_semantics.specs.Collections.{holds, sorted_once, set_of}
 use Rattle.ess_semantics.specs.Names.{Names}
@@ -15,10 +15,10 @@ use Rattle.ess_semantics.specs.Trees.{binary, word, tuple_literal, name_pat, Ex,
 use Rattle.ess_semantics.specs.Types.{Ty, compound2}
 use Rattle.ess_semantics.specs.Typing.{type_of}
 use Rattle.ess_semantics.specs.Typed.{Typed}
-use Rattle.ess_semantics.specs.TypeMembers.{is_of, is_of_type}
+use Rattle.ess_semantics.specs.TypeMembers.{is_of_type}
 use Rattle.ess_semantics.specs.Membership.{is_pair}
 use Rattle.ess_semantics.specs.Operators.{value_of_node, value_of_word1, false_where_undefined}
-use Rattle.ess_semantics.specs.Meaning.{Env, TypeEntry, meaning, collect}
+use Rattle.ess_semantics.specs.Meaning.{Env, meaning, collect}
 use Rattle.ess_semantics.specs.Contexts.{Each}
 use Rattle.ess_semantics.specs.Meets.{Meets}
 use Rattle.ess_semantics.proofs.Tests.{and-left, and-right}
@@ -27,7 +27,7 @@ use Rattle.ess_semantics.proofs.Sorting.{holds-sorted_once}
 use Rattle.ess_rules_laws.specs.Rules.{RuleKeepsNew, Unused}
 use Rattle.ess_rules_laws.specs.ComponentRules.{component_of}
 use Rattle.ess_rules_laws.specs.ShortSizeRules.{SoundWithin, RuleKeepsWithin}
-use Rattle.ess_rules_laws.specs.FunctionMembershipRules.{some_component, pair_ex, an_argument, a_result, a_source, member_of_function, member_related}
+use Rattle.ess_rules_laws.specs.FunctionMembershipRules.{pair_ex, an_argument, a_result, a_source, member_of_function, member_related}
 use Rattle.ess_rules_laws.proofs.Bindings.{each-map}
 use Rattle.ess_rules_laws.proofs.RuleAnswers.{AnswerKeeps, fires, behind, meaning-behind, meets-behind, name-behind, each-in-any, any-over, any-nowhere}
 use Rattle.ess_rules_laws.proofs.Connectives.{binary-means, any-means, bits, collect-bits, any-bits}

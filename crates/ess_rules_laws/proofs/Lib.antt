@@ -43,3 +43,5 @@ pub mod Tails
 pub mod ShortSizeRules
 pub mod ExamplesShortRules
 pub mod FunctionMembershipRules
+pub mod SplitRules
+pub mod ExamplesSplitRules

@@ -1,5 +1,5 @@
 -- Rules of `in` what is made of a function: its arguments, its results, the arguments of a result, and its pairs.
-use Rattle.std.specs.Prelude.{true, false, [], ◌∷◌, ℕ, Option, Some, None}
+use Rattle.std.specs.Prelude.{true, false, ℕ, Option, Some, None}
 use Rattle.ess_semantics.specs.declared.words.Op2.{Op2}
 use Rattle.ess_semantics.specs.declared.words.Fun.{Fun}
 use Rattle.ess_semantics.specs.Values.{Text, a_function}

@@ -13,3 +13,4 @@ pub mod GeneratorRules
 pub mod SourceRules
 pub mod ShortSizeRules
 pub mod FunctionMembershipRules
+pub mod SplitRules

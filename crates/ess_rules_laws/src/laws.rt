@@ -3,6 +3,7 @@
 ghost use Rattle.ess_rules_laws.specs.Laws.{UnusedNamesChangeNothing, PartsMayBeReplaced, StepsKeepTheWhole, KeptPartsKeepTheWhole, RewritingKeepsTheWhole, WordsForgetOrder};
 ghost use Rattle.ess_rules_laws.specs.SpliceRules.{SpliceKeeps, TailsAreCongruent};
 ghost use Rattle.ess_rules_laws.specs.GeneratorRules.{GenerateKeeps};
+ghost use Rattle.ess_rules_laws.specs.SplitRules.{SplitKeeps};
 ghost use Rattle.ess_rules_laws.specs.SourceRules.{SourceRulesKeep};
 ghost use Rattle.ess_rules_laws.specs.RuleLaws.{FoldRulesKeep, MembershipRulesKeep, InclusionRulesKeep, SizeRulesKeep, ComponentRulesKeep, ListingsList};
 
@@ -89,4 +90,9 @@ pub fn source_rules_keep()
 /// What rewrites a comprehension at each binding of generators rewrites the one with these generators before its own.
 pub fn tails_are_congruent()
     ensures { TailsAreCongruent }
+{}
+
+/// A generator over a tuple of domains may be one over each of the components.
+pub fn splitting_keeps()
+    ensures { SplitKeeps }
 {}
