@@ -45,3 +45,5 @@ pub mod ExamplesShortRules
 pub mod FunctionMembershipRules
 pub mod SplitRules
 pub mod ExamplesSplitRules
+pub mod LiteralRules
+pub mod ExamplesLiteralRules

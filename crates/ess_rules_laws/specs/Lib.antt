@@ -14,3 +14,4 @@ pub mod SourceRules
 pub mod ShortSizeRules
 pub mod FunctionMembershipRules
 pub mod SplitRules
+pub mod LiteralRules

@@ -5,7 +5,7 @@ ghost use Rattle.ess_rules_laws.specs.SpliceRules.{SpliceKeeps, TailsAreCongruen
 ghost use Rattle.ess_rules_laws.specs.GeneratorRules.{GenerateKeeps};
 ghost use Rattle.ess_rules_laws.specs.SplitRules.{SplitKeeps};
 ghost use Rattle.ess_rules_laws.specs.SourceRules.{SourceRulesKeep};
-ghost use Rattle.ess_rules_laws.specs.RuleLaws.{FoldRulesKeep, MembershipRulesKeep, InclusionRulesKeep, SizeRulesKeep, ComponentRulesKeep, ListingsList};
+ghost use Rattle.ess_rules_laws.specs.RuleLaws.{FoldRulesKeep, MembershipRulesKeep, InclusionRulesKeep, SizeRulesKeep, ComponentRulesKeep, LiteralRulesKeep, ListingsList};
 
 /// A value of a name that isn't free in an expression changes no meaning. So a bound name may be any name that isn't free
 /// there, and one that a parameter brings may be bound.
@@ -95,4 +95,9 @@ pub fn tails_are_congruent()
 /// A generator over a tuple of domains may be one over each of the components.
 pub fn splitting_keeps()
     ensures { SplitKeeps }
+{}
+
+/// The rules of operators on literals keep what they rewrite: of a component of a tuple, and of `allDiff` of a list.
+pub fn literal_rules_keep()
+    ensures { LiteralRulesKeep }
 {}
