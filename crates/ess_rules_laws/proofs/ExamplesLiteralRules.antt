@@ -3,10 +3,10 @@ use Rattle.std.specs.Prelude.{◌≡◌, refl, true, false, [], ◌∷◌, ℕ, 
 use Rattle.ess_semantics.specs.declared.words.Op2.{Op2}
 use Rattle.ess_semantics.specs.declared.words.Fun.{Fun}
 use Rattle.ess_semantics.specs.Values.{Text, truth, number}
-use Rattle.ess_semantics.specs.Trees.{to_component, index, tuple_literal, matrix_literal, Ex, node_ex, fun1, no_exs, more_exs}
+use Rattle.ess_semantics.specs.Trees.{to_component, index, tuple_literal, set_literal, matrix_literal, Ex, node_ex, fun1, no_exs, more_exs}
 use Rattle.ess_semantics.specs.Meaning.{empty_env, meaning}
 use Rattle.ess_semantics.proofs.Shorthands.{N, n, es1, es2, bi, fn}
-use Rattle.ess_rules_laws.specs.LiteralRules.{component_listed, different_listed}
+use Rattle.ess_rules_laws.specs.LiteralRules.{component_listed, different_listed, extreme_listed}
 
 abbrev pub x : Text
 x = codes "x"
@@ -37,3 +37,9 @@ three_differ = refl
 item_without_value : (meaning (different (node_ex false matrix_literal (es1 (bi Op2.Div (n 1) (n 0))))) empty_env ≡ Some (truth false))
     × (meaning (fn Fun.And (node_ex false matrix_literal no_exs)) empty_env ≡ Some (truth true))
 item_without_value = (refl, refl)
+
+least_of_two : extreme_listed (fn Fun.Min (node_ex false set_literal (es2 (n 2) (N x)))) ≡ Some (fn Fun.Min (node_ex false matrix_literal (es2 (n 2) (N x))))
+least_of_two = refl
+
+least_of_nothing : (meaning (fn Fun.Min (node_ex false set_literal no_exs)) empty_env ≡ None) × (meaning (fn Fun.Min (node_ex false matrix_literal no_exs)) empty_env ≡ None)
+least_of_nothing = (refl, refl)

@@ -7,18 +7,20 @@ use Rattle.ess_semantics.specs.declared.words.Fun.{Fun}
 use Rattle.ess_semantics.specs.Lists.{and_then, all_some, or_default}
 use Rattle.ess_semantics.specs.Values.{Value, truth, number, item, node, of_list}
 use Rattle.ess_semantics.specs.Order.{same}
-use Rattle.ess_semantics.specs.Collections.{holds}
-use Rattle.ess_semantics.specs.Trees.{to_component, index, word, tuple_literal, matrix_literal, Ex, Exs, node_ex, fun1, no_exs, more_exs}
-use Rattle.ess_semantics.specs.Operators.{misfit, component, all_true, all_different, value_of_node, value_of_op, false_where_undefined}
+use Rattle.ess_semantics.specs.Collections.{holds, sorted, sorted_once}
+use Rattle.ess_semantics.specs.Trees.{Op, to_component, index, word, tuple_literal, set_literal, mset_literal, matrix_literal, Ex, Exs, node_ex, fun1, no_exs, more_exs}
+use Rattle.ess_semantics.specs.Operators.{value_of_word1, list_value, least, greatest, misfit, component, all_true, all_different, value_of_node, value_of_op, false_where_undefined}
 use Rattle.ess_semantics.specs.Meaning.{Env, meaning, meanings}
 use Rattle.ess_semantics.specs.Meets.{Meets, MeetsAll}
 use Rattle.ess_semantics.proofs.Orders.{to_list-of_list}
-use Rattle.ess_rules_laws.specs.Rules.{RuleKeepsWhere, IsTruth}
-use Rattle.ess_rules_laws.specs.LiteralRules.{nth, component_listed, FitsMark, ComponentFits, unequal_each, unequal_pairs, different_listed, ListThere}
+use Rattle.ess_rules_laws.specs.Rules.{RuleKeeps, RuleKeepsWhere, IsTruth}
+use Rattle.ess_rules_laws.specs.LiteralRules.{nth, component_listed, FitsMark, ComponentFits, unequal_each, unequal_pairs, different_listed, ListThere, extreme_listed}
 use Rattle.ess_rules_laws.proofs.RuleAnswers.{AnswerKeeps, fires}
 use Rattle.ess_rules_laws.proofs.Connectives.{binary-means}
 use Rattle.ess_rules_laws.proofs.MembershipRules.{values, all-there}
-use Rattle.ess_rules_laws.proofs.Folds.{literal-means}
+use Rattle.ess_rules_laws.proofs.Folds.{literal-means, perm-counts}
+use Rattle.ess_semantics.proofs.Multisets.{count-sorted}
+use Rattle.ess_rules_laws.proofs.LeastGreatest.{least-once, greatest-once, least-perm, greatest-perm}
 
 -- ---- a component of a tuple
 
@@ -128,3 +130,39 @@ different-answer _ env t = tt
 -- `allDiff` of a list literal.
 pub different_listed-keeps : RuleKeepsWhere ListThere different_listed
 different_listed-keeps e f q env t = fires (different_listed e) e f env (different-answer e env t) q
+
+-- ---- `min` and `max`
+
+-- A word that reads the items of a literal, with or without order and repeats.
+extreme-means : (m : Bool) (f : Fun) (op : Op) (c : List Value → Option Value) → ((xs : List Value) → and_then (value_of_op op xs) (value_of_word1 f) ≡ c xs) →
+    ((xs : List Value) → value_of_word1 f (list_value xs) ≡ c xs) → (o : Option (List Value)) →
+    false_where_undefined m (value_of_node (word f) (and_then o (value_of_op op) ∷ [])) ≡ false_where_undefined m (value_of_node (word f) (and_then o (value_of_op matrix_literal) ∷ []))
+extreme-means m f op c h k None = refl
+extreme-means m f op c h k (Some xs) = ap (false_where_undefined m) (go (value_of_op op xs) (h xs) ∙ sym (k xs))
+  where
+    go : (o : Option Value) → and_then o (value_of_word1 f) ≡ c xs → value_of_node (word f) (o ∷ []) ≡ c xs
+    go None q = q
+    go (Some v) q = q
+
+extreme-answer : (e : Ex) (env : Env) → AnswerKeeps (extreme_listed e) e env
+extreme-answer (fun1 m Fun.Min (node_ex false set_literal es)) env = λ h. (
+  extreme-means m Fun.Min set_literal least (λ xs. ap least (to_list-of_list (sorted_once xs)) ∙ least-once xs) (λ xs. ap least (to_list-of_list xs)) (all_some (meanings es env)),
+  h,
+)
+extreme-answer (fun1 m Fun.Max (node_ex false set_literal es)) env = λ h. (
+  extreme-means m Fun.Max set_literal greatest (λ xs. ap greatest (to_list-of_list (sorted_once xs)) ∙ greatest-once xs) (λ xs. ap greatest (to_list-of_list xs)) (all_some (meanings es env)),
+  h,
+)
+extreme-answer (fun1 m Fun.Min (node_ex false mset_literal es)) env = λ h. (
+  extreme-means m Fun.Min mset_literal least (λ xs. ap least (to_list-of_list (sorted xs)) ∙ least-perm (perm-counts (sorted xs) xs (count-sorted xs))) (λ xs. ap least (to_list-of_list xs)) (all_some (meanings es env)),
+  h,
+)
+extreme-answer (fun1 m Fun.Max (node_ex false mset_literal es)) env = λ h. (
+  extreme-means m Fun.Max mset_literal greatest (λ xs. ap greatest (to_list-of_list (sorted xs)) ∙ greatest-perm (perm-counts (sorted xs) xs (count-sorted xs))) (λ xs. ap greatest (to_list-of_list xs)) (all_some (meanings es env)),
+  h,
+)
+extreme-answer _ env = tt
+
+-- `min` and `max` of a set or multiset literal.
+pub extreme_listed-keeps : RuleKeeps extreme_listed
+extreme_listed-keeps e f q env = fires (extreme_listed e) e f env (extreme-answer e env) q

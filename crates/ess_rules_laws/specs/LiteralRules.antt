@@ -1,9 +1,9 @@
--- Rules of operators on literals: a component of a tuple, and `allDiff` of a list.
+-- Rules of operators on literals: a component of a tuple, `allDiff` of a list, and `min` and `max` of a set or multiset.
 use Rattle.std.specs.Prelude.{Bool, true, false, [], ◌∷◌, ℕ, zero, suc, Option, Some, None, IsTrue, is_some}
 use Rattle.std.specs.List.{list_all}
 use Rattle.ess_semantics.specs.declared.words.Op2.{Op2}
 use Rattle.ess_semantics.specs.declared.words.Fun.{Fun}
-use Rattle.ess_semantics.specs.Trees.{to_component, index, tuple_literal, matrix_literal, Ex, Exs, node_ex, ex2, fun1, no_exs, more_exs}
+use Rattle.ess_semantics.specs.Trees.{to_component, index, tuple_literal, set_literal, mset_literal, matrix_literal, Ex, Exs, node_ex, ex2, fun1, no_exs, more_exs}
 use Rattle.ess_semantics.specs.Meaning.{Env, meaning, meanings}
 use Rattle.ess_rules_laws.specs.Rules.{IsTruth}
 
@@ -47,3 +47,11 @@ different_listed e = None
 abbrev pub ListThere : Ex → Env → Type 0
 ListThere (fun1 b f (node_ex c op es)) env = IsTrue (list_all is_some (meanings es env))
 ListThere e env = Unit {0}
+
+-- `min({a, b, ..})` is `min([a, b, ..])`. So it is of multisets, and with `max`.
+abbrev pub extreme_listed : Ex → Option Ex
+extreme_listed (fun1 m Fun.Min (node_ex false set_literal es)) = Some (fun1 m Fun.Min (node_ex false matrix_literal es))
+extreme_listed (fun1 m Fun.Max (node_ex false set_literal es)) = Some (fun1 m Fun.Max (node_ex false matrix_literal es))
+extreme_listed (fun1 m Fun.Min (node_ex false mset_literal es)) = Some (fun1 m Fun.Min (node_ex false matrix_literal es))
+extreme_listed (fun1 m Fun.Max (node_ex false mset_literal es)) = Some (fun1 m Fun.Max (node_ex false matrix_literal es))
+extreme_listed e = None

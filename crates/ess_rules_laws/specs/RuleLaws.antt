@@ -9,7 +9,7 @@ use Rattle.ess_semantics.specs.Meaning.{Env}
 use Rattle.ess_rules_laws.specs.Listings.{Alternative, Lists, listing}
 use Rattle.ess_rules_laws.specs.Rules.{Unused, SoundOperands, RuleKeeps, RuleKeepsWhere, RuleKeepsNew, RuleKeepsNewThere, RuleKeepsTyped, RuleKeepsTypedThere, OperandsThere}
 use Rattle.ess_rules_laws.specs.FoldRules.{fold_alone, fold_nothing, fold_one, fold_bare, fold_term, ItemFits, BareFits}
-use Rattle.ess_rules_laws.specs.LiteralRules.{component_listed, different_listed, ComponentFits, ListThere}
+use Rattle.ess_rules_laws.specs.LiteralRules.{component_listed, different_listed, extreme_listed, ComponentFits, ListThere}
 use Rattle.ess_rules_laws.specs.MembershipRules.{member_term, member_combined, member_changed, member_listed, CombinedThere, ItemsThere}
 use Rattle.ess_rules_laws.specs.FunctionMembershipRules.{member_of_function, member_related}
 use Rattle.ess_rules_laws.specs.InclusionRules.{unequal, included_turned, included_strictly, included_members, included_often, equal_members, equal_often, equal_pairs}
@@ -61,10 +61,11 @@ pub record ComponentRulesKeep : Type 0 where
   pub equal_tuples : RuleKeepsTypedThere equal_components
   pub equal_records : RuleKeepsTypedThere equal_fields
 
--- Rules of operators on literals: a component of a tuple, and `allDiff` of a list.
+-- Rules of operators on literals: a component of a tuple, `allDiff` of a list, `min` and `max` of a set or multiset.
 pub record LiteralRulesKeep : Type 0 where
   pub component_of_a_tuple : RuleKeepsWhere ComponentFits component_listed
   pub different_items : RuleKeepsWhere ListThere different_listed
+  pub least_and_greatest : RuleKeeps extreme_listed
 
 -- What a container term offers lists its members: comprehensions, literals, unions, intersections and differences of sets and
 -- of relations, and containers with the members of another one.
