@@ -3,9 +3,10 @@ use Rattle.std.specs.Prelude.{◌≡◌, refl, true, false, [], ◌∷◌, ℕ, 
 use Rattle.ess_semantics.specs.declared.words.Op2.{Op2}
 use Rattle.ess_semantics.specs.declared.words.Fun.{Fun}
 use Rattle.ess_semantics.specs.Values.{Text, truth, number}
-use Rattle.ess_semantics.specs.Trees.{to_component, index, tuple_literal, set_literal, matrix_literal, Ex, node_ex, fun1, no_exs, more_exs}
+use Rattle.ess_semantics.specs.Trees.{to_component, to_field, record_literal, index, tuple_literal, set_literal, matrix_literal, Ex, node_ex, fun1, no_exs, more_exs}
 use Rattle.ess_semantics.specs.Meaning.{empty_env, meaning}
 use Rattle.ess_semantics.proofs.Shorthands.{N, n, es1, es2, bi, fn}
+use Rattle.ess_rules_laws.specs.FieldLiterals.{field_listed}
 use Rattle.ess_rules_laws.specs.LiteralRules.{component_listed, different_listed, extreme_listed}
 
 abbrev pub x : Text
@@ -24,6 +25,16 @@ third_of_two = refl
 -- `(1, 1/0)[1]` has nothing, and 1 has a value
 part_without_value : (meaning (part 1 (n 1) (bi Op2.Div (n 1) (n 0))) empty_env ≡ None) × (meaning (n 1) empty_env ≡ Some (number (pos 1)))
 part_without_value = (refl, refl)
+
+-- A field of a record with the fields y and x.
+abbrev pub field : Text → Ex → Ex → Ex
+field f a b = node_ex false (index (to_field f ∷ [])) (es1 (node_ex false (record_literal (codes "y" ∷ x ∷ [])) (es2 a b)))
+
+second_field : field_listed (field x (n 1) (N x)) ≡ Some (N x)
+second_field = refl
+
+field_value : meaning (field x (n 1) (n 2)) empty_env ≡ Some (number (pos 2))
+field_value = refl
 
 -- All items differ.
 abbrev pub different : Ex → Ex

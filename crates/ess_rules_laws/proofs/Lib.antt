@@ -47,3 +47,4 @@ pub mod SplitRules
 pub mod ExamplesSplitRules
 pub mod LiteralRules
 pub mod ExamplesLiteralRules
+pub mod FieldLiterals

@@ -25,7 +25,7 @@ use Rattle.ess_rules_laws.proofs.LeastGreatest.{least-once, greatest-once, least
 -- ---- a component of a tuple
 
 -- The first of values that are there, and the others.
-first-value : (o : Option Value) (os : List (Option Value)) → IsTrue (list_all is_some (o ∷ os)) → (v : Value) × (o ≡ Some v) × IsTrue (list_all is_some os)
+pub first-value : (o : Option Value) (os : List (Option Value)) → IsTrue (list_all is_some (o ∷ os)) → (v : Value) × (o ≡ Some v) × IsTrue (list_all is_some os)
 first-value None os t = cc
 first-value (Some v) os t = (v, refl, t)
 
@@ -57,7 +57,7 @@ nth-met (more_exs b es) (suc zero) a env q m = met (Some a) q
 nth-met (more_exs b es) (suc (suc n)) a env q m = nth-met es (suc n) a env q m.1
 
 -- A truth value is read as itself.
-read-mark : (b : Bool) (a : Ex) (env : Env) (v : Value) → FitsMark b (Some a) env → meaning a env ≡ Some v → false_where_undefined b (Some v) ≡ Some v
+pub read-mark : (b : Bool) (a : Ex) (env : Env) (v : Value) → FitsMark b (Some a) env → meaning a env ≡ Some v → false_where_undefined b (Some v) ≡ Some v
 read-mark false a env v f q = refl
 read-mark true a env v f q = go v (subst IsTruth q f)
   where

@@ -15,3 +15,4 @@ pub mod ShortSizeRules
 pub mod FunctionMembershipRules
 pub mod SplitRules
 pub mod LiteralRules
+pub mod FieldLiterals

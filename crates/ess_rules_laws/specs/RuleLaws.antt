@@ -9,6 +9,7 @@ use Rattle.ess_semantics.specs.Meaning.{Env}
 use Rattle.ess_rules_laws.specs.Listings.{Alternative, Lists, listing}
 use Rattle.ess_rules_laws.specs.Rules.{Unused, SoundOperands, RuleKeeps, RuleKeepsWhere, RuleKeepsNew, RuleKeepsNewThere, RuleKeepsTyped, RuleKeepsTypedThere, OperandsThere}
 use Rattle.ess_rules_laws.specs.FoldRules.{fold_alone, fold_nothing, fold_one, fold_bare, fold_term, ItemFits, BareFits}
+use Rattle.ess_rules_laws.specs.FieldLiterals.{field_listed, FieldFits}
 use Rattle.ess_rules_laws.specs.LiteralRules.{component_listed, different_listed, extreme_listed, ComponentFits, ListThere}
 use Rattle.ess_rules_laws.specs.MembershipRules.{member_term, member_combined, member_changed, member_listed, CombinedThere, ItemsThere}
 use Rattle.ess_rules_laws.specs.FunctionMembershipRules.{member_of_function, member_related}
@@ -61,9 +62,10 @@ pub record ComponentRulesKeep : Type 0 where
   pub equal_tuples : RuleKeepsTypedThere equal_components
   pub equal_records : RuleKeepsTypedThere equal_fields
 
--- Rules of operators on literals: a component of a tuple, `allDiff` of a list, `min` and `max` of a set or multiset.
+-- Rules of operators on literals: a component of a tuple, a field of a record, `allDiff` of a list, `min` and `max` of a set or multiset.
 pub record LiteralRulesKeep : Type 0 where
   pub component_of_a_tuple : RuleKeepsWhere ComponentFits component_listed
+  pub field_of_a_record : RuleKeepsWhere FieldFits field_listed
   pub different_items : RuleKeepsWhere ListThere different_listed
   pub least_and_greatest : RuleKeeps extreme_listed
 

@@ -97,8 +97,8 @@ pub fn splitting_keeps()
     ensures { SplitKeeps }
 {}
 
-/// The rules of operators on literals keep what they rewrite: of a component of a tuple, of `allDiff`
-/// of a list, and of `min` and `max` of a set or multiset.
+/// The rules of operators on literals keep what they rewrite: of a component of a tuple, of a field
+/// of a record, of `allDiff` of a list, and of `min` and `max` of a set or multiset.
 pub fn literal_rules_keep()
     ensures { LiteralRulesKeep }
 {}
