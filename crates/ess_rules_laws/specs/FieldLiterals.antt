@@ -19,5 +19,6 @@ field_listed e = None
 
 -- What it counts on: the fields have values, the picked one a truth value where it is Boolean.
 abbrev pub FieldFits : Ex → Env → Type 0
-FieldFits (node_ex b (index (to_field a ∷ [])) (more_exs (node_ex false (record_literal fs) es) no_exs)) env = IsTrue (list_all is_some (meanings es env)) × FitsMark b (field_term fs es a) env
+FieldFits (node_ex b (index (to_field a ∷ [])) (more_exs (node_ex false (record_literal fs) es) no_exs)) env =
+    IsTrue (list_all is_some (meanings es env)) × FitsMark b (field_term fs es a) env
 FieldFits e env = Unit {0}

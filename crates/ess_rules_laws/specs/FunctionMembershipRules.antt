@@ -37,10 +37,12 @@ a_source t a f b = None
 abbrev pub member_of_function : Names Ty → Text → Ex → Option Ex
 member_of_function g y (ex2 true Op2.Member a (fun1 false Fun.Defined f)) = an_argument (type_of f g) y a f
 member_of_function g y (ex2 true Op2.Member a (fun1 false Fun.Range f)) = a_result (type_of f g) y a f
-member_of_function g y (ex2 true Op2.Member a (node_ex false (word Fun.PreImage) (more_exs f (more_exs b no_exs)))) = a_source (type_of f g) a f b
+member_of_function g y (ex2 true Op2.Member a (node_ex false (word Fun.PreImage) (more_exs f (more_exs b no_exs)))) =
+    a_source (type_of f g) a f b
 member_of_function g y e = None
 
 -- `p in toRelation(f)` is `or([y = p | y <- f])`.
 abbrev pub member_related : Text → Ex → Option Ex
-member_related y (ex2 true Op2.Member p (fun1 false Fun.ToRelation f)) = Some (fun1 true Fun.Or (comp_ex (ex2 true Op2.Eq (name_ex y) p) (from (name_pat y) f no_gens)))
+member_related y (ex2 true Op2.Member p (fun1 false Fun.ToRelation f)) =
+    Some (fun1 true Fun.Or (comp_ex (ex2 true Op2.Eq (name_ex y) p) (from (name_pat y) f no_gens)))
 member_related y e = None

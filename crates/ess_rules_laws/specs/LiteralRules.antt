@@ -25,7 +25,8 @@ FitsMark b o env = Unit {0}
 
 -- What it counts on: the items have values, the picked one a truth value where the component is Boolean.
 abbrev pub ComponentFits : Ex → Env → Type 0
-ComponentFits (node_ex b (index (to_component k ∷ [])) (more_exs (node_ex false op es) no_exs)) env = IsTrue (list_all is_some (meanings es env)) × FitsMark b (nth es k) env
+ComponentFits (node_ex b (index (to_component k ∷ [])) (more_exs (node_ex false op es) no_exs)) env =
+    IsTrue (list_all is_some (meanings es env)) × FitsMark b (nth es k) env
 ComponentFits e env = Unit {0}
 
 -- That none of these is a, before others.
@@ -40,7 +41,8 @@ unequal_pairs (more_exs a es) = unequal_each a es (unequal_pairs es)
 
 -- `allDiff([a, b, c, ..])` is `and([b != a, c != a, .., c != b, ..])`.
 abbrev pub different_listed : Ex → Option Ex
-different_listed (fun1 true Fun.AllDiff (node_ex false matrix_literal es)) = Some (fun1 true Fun.And (node_ex false matrix_literal (unequal_pairs es)))
+different_listed (fun1 true Fun.AllDiff (node_ex false matrix_literal es)) =
+    Some (fun1 true Fun.And (node_ex false matrix_literal (unequal_pairs es)))
 different_listed e = None
 
 -- What it counts on: the items have values.

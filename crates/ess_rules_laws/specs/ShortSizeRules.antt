@@ -29,7 +29,8 @@ SoundWithin g e = Unit {0}
 
 -- A rule that reads the types of what its operands are made of keeps what it rewrites.
 abbrev pub RuleKeepsWithin : (Names Ty → Text → Ex → Option Ex) → Type 0
-RuleKeepsWithin rule = (g : Names Ty) (x : Text) (e f : Ex) → rule g x e ≡ Some f → Unused x e → SoundWithin g e → (env : Env) → Typed g env → Keeps e f env
+RuleKeepsWithin rule =
+    (g : Names Ty) (x : Text) (e f : Ex) → rule g x e ≡ Some f → Unused x e → SoundWithin g e → (env : Env) → Typed g env → Keeps e f env
 
 -- The same where the operands have values.
 abbrev pub RuleKeepsWithinThere : (Names Ty → Text → Ex → Option Ex) → Type 0
@@ -56,7 +57,8 @@ abbrev pub size_made : Names Ty → Text → Ex → Option Ex
 size_made g x (ex1 false Op1.Bar (fun1 false Fun.Defined f)) = if is_function (type_of f g) then Some (ex1 false Op1.Bar f) else None
 size_made g x (ex1 false Op1.Bar (fun1 false Fun.ToRelation f)) = if is_function (type_of f g) then Some (ex1 false Op1.Bar f) else None
 size_made g x (ex1 false Op1.Bar (fun1 false Fun.ToMSet s)) = if is_counted (type_of s g) then Some (ex1 false Op1.Bar s) else None
-size_made g x (ex1 false Op1.Bar (fun1 false Fun.ToSet s)) = if both_sets (type_of s g) (type_of s g) then Some (ex1 false Op1.Bar s) else None
+size_made g x (ex1 false Op1.Bar (fun1 false Fun.ToSet s)) =
+    if both_sets (type_of s g) (type_of s g) then Some (ex1 false Op1.Bar s) else None
 size_made g x (ex1 false Op1.Bar (fun1 false Fun.Parts p)) =
     if is_partition (type_of p g) then Some (fun1 false Fun.Sum (comp_ex (number_ex (pos 1)) (from (name_pat x) p no_gens))) else None
 size_made g x e = None
@@ -74,5 +76,6 @@ ones_where a (more_exs b es) = more_exs (fun1 false Fun.ToInt (ex2 true Op2.Eq b
 
 -- `freq(mset(b, c, ..), a)` is `sum([toInt(b = a), toInt(c = a), ..])`.
 abbrev pub frequency_listed : Ex → Option Ex
-frequency_listed (node_ex false (word Fun.Freq) (more_exs (node_ex false mset_literal es) (more_exs a no_exs))) = Some (fun1 false Fun.Sum (node_ex false matrix_literal (ones_where a es)))
+frequency_listed (node_ex false (word Fun.Freq) (more_exs (node_ex false mset_literal es) (more_exs a no_exs))) =
+    Some (fun1 false Fun.Sum (node_ex false matrix_literal (ones_where a es)))
 frequency_listed e = None
