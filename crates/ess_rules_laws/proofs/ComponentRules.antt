@@ -36,7 +36,7 @@ of-mark p es bool_ty v h = cc
 of-mark p es t v h = refl
 
 -- The component of a tuple.
-component-means : (t : Ty) (k : ℕ) (a : Ex) (env : Env) (vs : Values) (v : Value) → meaning a env ≡ Some (tuple vs) → component vs k ≡ Some v → is_of_type t env v ≡ true →
+pub component-means : (t : Ty) (k : ℕ) (a : Ex) (env : Env) (vs : Values) (v : Value) → meaning a env ≡ Some (tuple vs) → component vs k ≡ Some v → is_of_type t env v ≡ true →
     meaning (component_of t k a) env ≡ Some v
 component-means t k a env vs v q c h =
     ap (λ o. false_where_undefined (is_bool (Some t)) (value_of_node (index (to_component k ∷ [])) (o ∷ []))) q
@@ -73,7 +73,7 @@ equal-met no_tys (more_tys u us) k a b env m h = tt
 equal-met (more_tys t ts) no_tys k a b env m h = tt
 
 -- A value of a type of tuples.
-tuple-value : (p : Bool) (es : List TypeEntry) (ts : Tys) (v : Value) → is_of p es (compound a_tuple ts) v ≡ true → (vs : Values) × (v ≡ tuple vs) × (are_of p es ts (to_list vs) ≡ true)
+pub tuple-value : (p : Bool) (es : List TypeEntry) (ts : Tys) (v : Value) → is_of p es (compound a_tuple ts) v ≡ true → (vs : Values) × (v ≡ tuple vs) × (are_of p es ts (to_list vs) ≡ true)
 tuple-value p es ts (node a_tuple vs) h = (vs, refl, h)
 tuple-value p es ts _ h = cc
 

@@ -34,7 +34,7 @@ pair-of (pair a b) h = refl
 pair-of _ h = cc
 
 -- Pairs whose first parts rise strictly do so themselves; f says more of each.
-pairs-rise : (f : Value → Bool) (ps : List Value) → ((p : Value) → f p ≡ true → is_pair p ≡ true) → list_all f ps ≡ true → rises from_of ps ≡ true → rises itself ps ≡ true
+pub pairs-rise : (f : Value → Bool) (ps : List Value) → ((p : Value) → f p ≡ true → is_pair p ≡ true) → list_all f ps ≡ true → rises from_of ps ≡ true → rises itself ps ≡ true
 pairs-rise f [] k a h = refl
 pairs-rise f (p ∷ []) k a h = refl
 pairs-rise f (p ∷ q ∷ ps) k a h =

@@ -6,6 +6,7 @@ use Rattle.std.specs.declared.cmp.Ordering.TheVariants.{Less, Equal, Greater}
 use Rattle.ess_semantics.specs.declared.words.Fun.{Fun}
 use Rattle.ess_semantics.specs.Values.{Value}
 use Rattle.ess_semantics.specs.Order.{order, below}
+use Rattle.ess_semantics.specs.Collections.{place, place_by, sorted_once}
 use Rattle.ess_semantics.specs.Operators.{least, greatest}
 use Rattle.ess_semantics.proofs.Orders.{order_total, order_exact}
 use Rattle.ess_semantics.proofs.Sorting.{below-less, less-below}
@@ -68,6 +69,40 @@ module _ (b : Value → Value → Bool) (once : (x y : Value) → b x y ≡ true
       ap (option_map (earlier x)) (earliest-cons y xs) ∙ ap Some (join-swap x y (earliest xs)) ∙ ap (option_map (earlier y)) (sym (earliest-cons x xs))
   earliest-perm (chain p q) = earliest-perm p ∙ earliest-perm q
 
+  -- One value twice is as good as once.
+  itself-earlier : (x : Value) → earlier x x ≡ x
+  itself-earlier x = go (b x x)
+    where
+      go : (s : Bool) → (if s then x else x) ≡ x
+      go true = refl
+      go false = refl
+
+  join-twice : (x : Value) (o : Option Value) → earlier x (join x o) ≡ join x o
+  join-twice x None = itself-earlier x
+  join-twice x (Some m) = go (b m x) refl
+    where
+      go : (s : Bool) → b m x ≡ s → earlier x (if s then m else x) ≡ (if s then m else x)
+      go true q = ap (λ s. if s then m else x) q
+      go false q = itself-earlier x
+
+  -- A value put into a rising list.
+  earliest-place : (v : Value) (xs : List Value) → earliest (place v xs) ≡ Some (join v (earliest xs))
+  earliest-place v [] = refl
+  earliest-place v (x ∷ xs) = go (order v x) refl (earliest-place v xs)
+    where
+      go : (o : Ordering) → order v x ≡ o → earliest (place v xs) ≡ Some (join v (earliest xs)) → earliest (place_by o v x xs (place v xs)) ≡ Some (join v (earliest (x ∷ xs)))
+      go Less q h = earliest-cons v (x ∷ xs)
+      go Equal q h =
+          earliest-cons x xs ∙ ap Some (sym (join-twice x (earliest xs))) ∙ ap (λ z. Some (join z (Some (join x (earliest xs))))) (sym (order_exact v x q))
+          ∙ ap (λ o. Some (join v o)) (sym (earliest-cons x xs))
+      go Greater q h =
+          earliest-cons x (place v xs) ∙ ap (λ o. Some (join x o)) h ∙ ap Some (join-swap x v (earliest xs))
+          ∙ ap (λ o. Some (join v o)) (sym (earliest-cons x xs))
+
+  earliest-once : (xs : List Value) → earliest (sorted_once xs) ≡ earliest xs
+  earliest-once [] = refl
+  earliest-once (x ∷ xs) = earliest-place x (sorted_once xs) ∙ ap (λ o. Some (join x o)) (earliest-once xs) ∙ sym (earliest-cons x xs)
+
 -- ---- both ways
 
 below-once : (x y : Value) → below x y ≡ true → below y x ≡ false
@@ -110,3 +145,17 @@ min-unordered xs ys p = on-items least xs ys (least-is xs ∙ earliest-perm belo
 -- `max`.
 pub max-unordered : Unordered Fun.Max
 max-unordered xs ys p = on-items greatest xs ys (greatest-is xs ∙ earliest-perm (λ x y. below y x) above-once above-on above-one p ∙ sym (greatest-is ys))
+
+-- Nor do they see repeats.
+pub least-once : (xs : List Value) → least (sorted_once xs) ≡ least xs
+least-once xs = least-is (sorted_once xs) ∙ earliest-once below below-once below-on below-one xs ∙ sym (least-is xs)
+
+pub greatest-once : (xs : List Value) → greatest (sorted_once xs) ≡ greatest xs
+greatest-once xs = greatest-is (sorted_once xs) ∙ earliest-once (λ x y. below y x) above-once above-on above-one xs ∙ sym (greatest-is xs)
+
+-- The least and the greatest of the same items in another order.
+pub least-perm : {xs ys : List Value} → Perm xs ys → least xs ≡ least ys
+least-perm {xs} {ys} p = least-is xs ∙ earliest-perm below below-once below-on below-one p ∙ sym (least-is ys)
+
+pub greatest-perm : {xs ys : List Value} → Perm xs ys → greatest xs ≡ greatest ys
+greatest-perm {xs} {ys} p = greatest-is xs ∙ earliest-perm (λ x y. below y x) above-once above-on above-one p ∙ sym (greatest-is ys)

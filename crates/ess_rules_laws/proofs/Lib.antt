@@ -40,3 +40,11 @@ pub mod SourceRules
 pub mod LiteralSources
 pub mod ExamplesSources
 pub mod Tails
+pub mod ShortSizeRules
+pub mod ExamplesShortRules
+pub mod FunctionMembershipRules
+pub mod SplitRules
+pub mod ExamplesSplitRules
+pub mod LiteralRules
+pub mod ExamplesLiteralRules
+pub mod FieldLiterals

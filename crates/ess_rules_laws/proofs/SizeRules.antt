@@ -29,7 +29,7 @@ use Rattle.ess_rules_laws.proofs.Horizontal.{size-is-sum, any-never}
 -- ---- values of containers
 
 -- A value whose items are its parts.
-abbrev Counted : Value → Type 0
+abbrev pub Counted : Value → Type 0
 Counted v = (k : Kind) × (vs : Values) × (v ≡ node k vs) × ((us : Values) → items_of (node k us) ≡ to_list us)
 
 module _ (p : Bool) (es : List TypeEntry) where
@@ -50,7 +50,7 @@ module _ (p : Bool) (es : List TypeEntry) where
   relation-counted _ _ h = cc
 
   -- A value of a type of containers.
-  counted-of : (t : Option Ty) (v : Value) → is_counted t ≡ true → ((s : Ty) → t ≡ Some s → IsTrue (is_of p es s v)) → Counted v
+  pub counted-of : (t : Option Ty) (v : Value) → is_counted t ≡ true → ((s : Ty) → t ≡ Some s → IsTrue (is_of p es s v)) → Counted v
   counted-of (Some (compound a_set ts)) v h f = set-counted ts v (f (compound a_set ts) refl)
   counted-of (Some (compound a_mset ts)) v h f = mset-counted ts v (f (compound a_mset ts) refl)
   counted-of (Some (compound a_function ts)) v h f = function-counted ts v (f (compound a_function ts) refl)

@@ -11,3 +11,8 @@ pub mod ComponentRules
 pub mod SpliceRules
 pub mod GeneratorRules
 pub mod SourceRules
+pub mod ShortSizeRules
+pub mod FunctionMembershipRules
+pub mod SplitRules
+pub mod LiteralRules
+pub mod FieldLiterals

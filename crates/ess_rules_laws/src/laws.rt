@@ -3,8 +3,9 @@
 ghost use Rattle.ess_rules_laws.specs.Laws.{UnusedNamesChangeNothing, PartsMayBeReplaced, StepsKeepTheWhole, KeptPartsKeepTheWhole, RewritingKeepsTheWhole, WordsForgetOrder};
 ghost use Rattle.ess_rules_laws.specs.SpliceRules.{SpliceKeeps, TailsAreCongruent};
 ghost use Rattle.ess_rules_laws.specs.GeneratorRules.{GenerateKeeps};
+ghost use Rattle.ess_rules_laws.specs.SplitRules.{SplitKeeps};
 ghost use Rattle.ess_rules_laws.specs.SourceRules.{SourceRulesKeep};
-ghost use Rattle.ess_rules_laws.specs.RuleLaws.{FoldRulesKeep, MembershipRulesKeep, InclusionRulesKeep, SizeRulesKeep, ComponentRulesKeep, ListingsList};
+ghost use Rattle.ess_rules_laws.specs.RuleLaws.{FoldRulesKeep, MembershipRulesKeep, InclusionRulesKeep, SizeRulesKeep, ComponentRulesKeep, LiteralRulesKeep, ListingsList};
 
 /// A value of a name that isn't free in an expression changes no meaning. So a bound name may be any name that isn't free
 /// there, and one that a parameter brings may be bound.
@@ -89,4 +90,15 @@ pub fn source_rules_keep()
 /// What rewrites a comprehension at each binding of generators rewrites the one with these generators before its own.
 pub fn tails_are_congruent()
     ensures { TailsAreCongruent }
+{}
+
+/// A generator over a tuple of domains may be one over each of the components.
+pub fn splitting_keeps()
+    ensures { SplitKeeps }
+{}
+
+/// The rules of operators on literals keep what they rewrite: of a component of a tuple, of a field
+/// of a record, of `allDiff` of a list, and of `min` and `max` of a set or multiset.
+pub fn literal_rules_keep()
+    ensures { LiteralRulesKeep }
 {}
