@@ -15,7 +15,7 @@ use Rattle.ess_semantics.specs.Declarations.{declarations, axes_of}
 use Rattle.ess_semantics.specs.CanonicalTest.{canonical}
 use Rattle.ess_semantics.specs.Meaning.{Env, meaning}
 use Rattle.ess_semantics.specs.Tidy.{over_axes}
-use Rattle.ess_repr_laws.specs.StructureParts.{tuple_set_dom, Terms, and_ex}
+use Rattle.ess_repr_laws.specs.StructureParts.{tuple_set_dom, Terms, and_ex, keys_ex, total_key_ex}
 use Rattle.ess_repr_laws.specs.Structure.{shapes, structure}
 use Rattle.ess_repr_laws.specs.CanonicalTables.{TablesFit}
 use Rattle.ess_repr_laws.specs.StructureMeaning.{Bound, M, Placed, axes_members, Ready}
@@ -78,3 +78,7 @@ of-matrix = refl
 pub of-tuples : tuple_set_dom (valued Key.MaxSize ∷ flag Key.Symmetric ∷ valued Key.Size ∷ []) (more_exs (number_ex (pos 5)) (more_exs (number_ex (pos 3)) no_exs)) (more_doms bool_dom no_doms)
     ≡ set_dom (valued Key.Size ∷ valued Key.MaxSize ∷ []) (more_exs (number_ex (pos 3)) (more_exs (number_ex (pos 5)) no_exs)) (tuple_dom (more_doms bool_dom no_doms))
 of-tuples = refl
+
+-- A total function with flags: each flag is true. The sizes say nothing of it.
+pub of-total : keys_ex (total_key_ex (name_ex (codes "e"))) (valued Key.MinSize ∷ flag Key.Total ∷ []) ≡ and_ex (name_ex (codes "e")) (truth_ex true)
+of-total = refl

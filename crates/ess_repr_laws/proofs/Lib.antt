@@ -113,6 +113,7 @@ pub mod StructureMeans
 pub mod StructureFits
 pub mod StructurePlaces
 pub mod StructureOf
+pub mod StructureKeys
 pub mod StructureLayers
 pub mod StructureMatrices
 pub mod StructureTuples

@@ -44,7 +44,8 @@ arguments-long [] vs e = refl
 arguments-long (x ∷ xs) [] e = cc
 arguments-long (x ∷ xs) (v ∷ vs) e = let e' : length vs ≡ length xs = cc in ap suc (arguments-long xs vs e')
 
-all-held : (xs : List Value) → list_all (λ x. holds xs x) xs ≡ true
+-- Each item is one of the items.
+pub all-held : (xs : List Value) → list_all (λ x. holds xs x) xs ≡ true
 all-held [] = refl
 all-held (x ∷ xs) = ap (λ b. (b || holds xs x) && list_all (λ y. same x y || holds xs y) xs) (same-itself x) ∙ later xs (all-held xs)
   where

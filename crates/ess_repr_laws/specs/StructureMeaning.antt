@@ -50,6 +50,10 @@ is_total_key k = false
 abbrev pub no_key : Key → Bool
 no_key k = false
 
+-- The members are listed, where an attribute without a number asks for them.
+abbrev pub ListedFor : List Attribute → Domain → Type 0
+ListedFor ks x = has_flags_among no_key ks ≡ false → members x ≡ Some (member_list x)
+
 -- `minOccur` or `maxOccur`.
 abbrev pub is_times_key : Key → Bool
 is_times_key Key.MinOccur = true
@@ -192,11 +196,11 @@ module _ (env0 : Env) (q : ℕ → Text) (q-apart : (m l : ℕ) → l < m → sa
     Ready (repr ReprKind.RelationAsMatrix no_reprs) (relation_dom ms es ds) (relations ks xs) =
         AreAtoms xs × (has_flags_among no_key ks ≡ true) × AxesAre env0 q q-apart (dom_list ds) (index_members xs) × Attributes ms es ks
     Ready (repr ReprKind.Function1DPartial (more_reprs r no_reprs)) (function_dom ms es d c) (functions ks x y) =
-        IsAtom x × (has_flags_among no_key ks ≡ true) × AxesAre env0 q q-apart (d ∷ []) (member_list x ∷ []) × Attributes ms es ks ×
-        Ready r c y
+        IsAtom x × ((has_flags_among is_total_key ks ≡ true) × ListedFor ks x) × AxesAre env0 q q-apart (d ∷ []) (member_list x ∷ []) ×
+        Attributes ms es ks × Ready r c y
     Ready (repr ReprKind.FunctionNDPartial (more_reprs r no_reprs)) (function_dom ms es (tuple_dom ds) c) (functions ks (tuples xs) y) =
-        AreAtoms xs × (has_flags_among no_key ks ≡ true) × AxesAre env0 q q-apart (dom_list ds) (index_members xs) × Attributes ms es ks ×
-        Ready r c y
+        AreAtoms xs × ((has_flags_among is_total_key ks ≡ true) × ListedFor ks (tuples xs)) ×
+        AxesAre env0 q q-apart (dom_list ds) (index_members xs) × Attributes ms es ks × Ready r c y
     Ready (repr ReprKind.MSetOccurrence no_reprs) (mset_dom ms es d) (msets ks e) =
         IsAtom e × AxesAre env0 q q-apart (d ∷ []) (member_list e ∷ []) × Attributes ms es ks
     Ready (repr ReprKind.MSetExplicitWithFlags (more_reprs r no_reprs)) (mset_dom ms es d) (msets ks e) =
