@@ -6,7 +6,7 @@ use Rattle.ess_semantics.specs.declared.words.Key.{Key}
 use Rattle.std.specs.Prelude.{codes}
 use Rattle.ess_semantics.specs.Values.{Text, truth}
 use Rattle.ess_semantics.specs.Order.{same_text}
-use Rattle.ess_semantics.specs.Trees.{valued, flag, Repr, repr, no_reprs, more_reprs, Ex, number_ex, truth_ex, no_exs, Dom, bool_dom, tuple_dom, matrix_dom, set_dom, no_doms, more_doms, more_exs, name_ex, cell_ex, comp_ex, over, name_pat, no_gens, fun1}
+use Rattle.ess_semantics.specs.Trees.{valued, flag, Repr, repr, no_reprs, more_reprs, Ex, number_ex, truth_ex, no_exs, Dom, bool_dom, tuple_dom, matrix_dom, set_dom, function_dom, no_doms, more_doms, more_exs, name_ex, cell_ex, comp_ex, over, name_pat, no_gens, fun1}
 use Rattle.ess_semantics.specs.Domains.{Domain, booleans, sets}
 use Rattle.ess_semantics.specs.Tables.{Tables, is_cell}
 use Rattle.ess_semantics.specs.Cells.{cells_of}
@@ -82,3 +82,9 @@ of-tuples = refl
 -- A total function with flags: each flag is true. The sizes say nothing of it.
 pub of-total : keys_ex (total_key_ex (name_ex (codes "e"))) (valued Key.MinSize ∷ flag Key.Total ∷ []) ≡ and_ex (name_ex (codes "e")) (truth_ex true)
 of-total = refl
+
+-- An injective function from bool to atoms: the cells differ.
+pub of-injective : structure name at_atom (repr ReprKind.Function1D (more_reprs cell no_reprs)) (function_dom (flag Key.Injective ∷ []) no_exs bool_dom bool_dom) ((codes "a") ∷ []) 1 no_exs
+    ≡ and_ex (fun1 true Fun.And (comp_ex (cell_ex true (codes "a") (more_exs (name_ex (codes "q")) no_exs)) (over (name_pat (codes "q")) bool_dom no_gens)))
+    (and_ex (truth_ex true) (and_ex (fun1 true Fun.AllDiff (comp_ex (cell_ex true (codes "a") (more_exs (name_ex (codes "q")) no_exs)) (over (name_pat (codes "q")) bool_dom no_gens))) (truth_ex true)))
+of-injective = refl

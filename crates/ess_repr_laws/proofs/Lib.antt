@@ -114,6 +114,8 @@ pub mod StructureFits
 pub mod StructurePlaces
 pub mod StructureOf
 pub mod StructureKeys
+pub mod DifferentCells
+pub mod StructureInjective
 pub mod StructureLayers
 pub mod StructureMatrices
 pub mod StructureTuples

@@ -1,6 +1,6 @@
 -- What is asked of a view and its tables so that its structure constraint means that the cells are canonical. Reserved names
 -- q 0, q 1 and so on may be bound, each to a value.
-use Rattle.std.specs.Prelude.{◌≡◌, ℕ, ◌<◌, Bool, true, false, ◌&&◌, not, List, [], ◌∷◌, ◌++◌, map, ℤ, pos, Some}
+use Rattle.std.specs.Prelude.{◌≡◌, ℕ, ◌<◌, Bool, true, false, ◌&&◌, ◌||◌, not, List, [], ◌∷◌, ◌++◌, map, ℤ, pos, Some}
 use Rattle.ess_repr_laws.specs.StructureParts.{Shape, Terms, tuple_set_dom}
 use Rattle.ess_semantics.specs.Kinds.{dom_list}
 use Rattle.ess_semantics.specs.Atoms.{IsAtom, AreAtoms}
@@ -45,6 +45,27 @@ has_flags_among f (flagged k ∷ ks) = f k && has_flags_among f ks
 abbrev pub is_total_key : Key → Bool
 is_total_key Key.Total = true
 is_total_key k = false
+
+-- `total` and `injective`.
+abbrev pub is_total_or_injective : Key → Bool
+is_total_or_injective Key.Total = true
+is_total_or_injective Key.Injective = true
+is_total_or_injective k = false
+
+-- `injective` alone.
+abbrev pub is_injective_key : Key → Bool
+is_injective_key Key.Injective = true
+is_injective_key k = false
+
+-- Whether `injective` is one of the attributes.
+abbrev pub has_injective : List Attribute → Bool
+has_injective [] = false
+has_injective (numbered k n ∷ ks) = has_injective ks
+has_injective (flagged k ∷ ks) = is_injective_key k || has_injective ks
+
+-- The values of an injective function are atoms.
+abbrev pub AtomFor : List Attribute → Repr → Type 0
+AtomFor ks r = has_injective ks ≡ true → r ≡ repr ReprKind.Atom no_reprs
 
 -- None.
 abbrev pub no_key : Key → Bool
@@ -188,11 +209,11 @@ module _ (env0 : Env) (q : ℕ → Text) (q-apart : (m l : ℕ) → l < m → sa
     Ready (repr ReprKind.ExplicitVarSizeWithFlags (more_reprs r no_reprs)) (set_dom ms es d) (sets ks e) =
         Attributes ms es ks × SlotsAre (set_dom ms es d) (slots_of_set ks e) × Ready r d e
     Ready (repr ReprKind.Function1D (more_reprs r no_reprs)) (function_dom ms es d c) (functions ks x y) =
-        IsAtom x × (members x ≡ Some (member_list x)) × (has_flags_among is_total_key ks ≡ true) ×
+        IsAtom x × (members x ≡ Some (member_list x)) × ((has_flags_among is_total_or_injective ks ≡ true) × AtomFor ks r) ×
         AxesAre env0 q q-apart (d ∷ []) (member_list x ∷ []) × Attributes ms es ks × Ready r c y
     Ready (repr ReprKind.FunctionND (more_reprs r no_reprs)) (function_dom ms es (tuple_dom ds) c) (functions ks (tuples xs) y) =
-        AreAtoms xs × (members (tuples xs) ≡ Some (member_list (tuples xs))) × (has_flags_among is_total_key ks ≡ true) ×
-        AxesAre env0 q q-apart (dom_list ds) (index_members xs) × Attributes ms es ks × Ready r c y
+        AreAtoms xs × (members (tuples xs) ≡ Some (member_list (tuples xs))) ×
+        ((has_flags_among is_total_or_injective ks ≡ true) × AtomFor ks r) × AxesAre env0 q q-apart (dom_list ds) (index_members xs) × Attributes ms es ks × Ready r c y
     Ready (repr ReprKind.RelationAsMatrix no_reprs) (relation_dom ms es ds) (relations ks xs) =
         AreAtoms xs × (has_flags_among no_key ks ≡ true) × AxesAre env0 q q-apart (dom_list ds) (index_members xs) × Attributes ms es ks
     Ready (repr ReprKind.Function1DPartial (more_reprs r no_reprs)) (function_dom ms es d c) (functions ks x y) =

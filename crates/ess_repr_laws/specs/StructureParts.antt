@@ -69,6 +69,11 @@ abbrev pub total_key_ex : Ex → Key → Ex
 total_key_ex e Key.Total = e
 total_key_ex e _ = truth_ex true
 
+-- `injective` says e.
+abbrev pub injective_key_ex : Ex → Key → Ex
+injective_key_ex e Key.Injective = e
+injective_key_ex e _ = truth_ex true
+
 -- The number of the first name behind those of the axes.
 abbrev pub level_behind : ℕ → List Dom → ℕ
 level_behind l [] = l
@@ -184,9 +189,15 @@ module _ (q : ℕ → Text) where
   abbrev pub place_count_ex : ℕ → List Dom → Ex
   place_count_ex l as' = fun1 false Fun.Sum (comp_ex (number_ex (pos 1)) (row_gens l as'))
 
-  -- A value at each place: each is canonical (part).
-  abbrev pub total_ex : ℕ → List Mark → Exs → List Dom → Ex → Ex
-  total_ex l ms es as' part = and_ex (each_ex l as' part) (size_ex ms es (place_count_ex l as'))
+  -- The values at the places differ, where each is one cell.
+  abbrev pub differ_ex : ℕ → List Dom → List Shape → Exs → Ex
+  differ_ex l as' (s ∷ []) is = fun1 true Fun.AllDiff (comp_ex (cell_ex s.truth s.name (row_index l as' is)) (row_gens l as'))
+  differ_ex l as' _ is = truth_ex false
+
+  -- A value at each place: each is canonical (part). Where the function is injective, they differ.
+  abbrev pub total_ex : ℕ → List Mark → Exs → List Dom → List Shape → Exs → Ex → Ex
+  total_ex l ms es as' ss is part =
+      and_ex (each_ex l as' part) (and_ex (size_ex ms es (place_count_ex l as')) (keys_ex (injective_key_ex (differ_ex l as' ss is)) ms))
 
   -- A flag and a value at each place: where the flag is true the value is canonical (part), elsewhere its cells are 0 or false. Where
   -- the function is total, each flag is true.
