@@ -16,6 +16,7 @@ use Rattle.ess_semantics.specs.CanonicalTest.{canonical}
 use Rattle.ess_semantics.specs.Meaning.{Env, meaning}
 use Rattle.ess_semantics.specs.Tidy.{over_axes}
 use Rattle.ess_repr_laws.specs.StructureParts.{tuple_set_dom, Terms, and_ex, keys_ex, total_key_ex}
+use Rattle.ess_repr_laws.specs.RelationParts.{diagonal_ex}
 use Rattle.ess_repr_laws.specs.Structure.{shapes, structure}
 use Rattle.ess_repr_laws.specs.CanonicalTables.{TablesFit}
 use Rattle.ess_repr_laws.specs.StructureMeaning.{Bound, M, Placed, axes_members, Ready}
@@ -88,3 +89,8 @@ pub of-injective : structure name at_atom (repr ReprKind.Function1D (more_reprs 
     ≡ and_ex (fun1 true Fun.And (comp_ex (cell_ex true (codes "a") (more_exs (name_ex (codes "q")) no_exs)) (over (name_pat (codes "q")) bool_dom no_gens)))
     (and_ex (truth_ex true) (and_ex (fun1 true Fun.AllDiff (comp_ex (cell_ex true (codes "a") (more_exs (name_ex (codes "q")) no_exs)) (over (name_pat (codes "q")) bool_dom no_gens))) (truth_ex true)))
 of-injective = refl
+
+-- A reflexive relation of truth values: the cell of each with itself is true.
+pub of-reflexive : diagonal_ex name 1 (bool_dom ∷ bool_dom ∷ []) (codes "a") no_exs
+    ≡ fun1 true Fun.And (comp_ex (cell_ex true (codes "a") (more_exs (name_ex (codes "q")) (more_exs (name_ex (codes "q")) no_exs))) (over (name_pat (codes "q")) bool_dom no_gens))
+of-reflexive = refl

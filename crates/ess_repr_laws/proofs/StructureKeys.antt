@@ -26,27 +26,34 @@ use Rattle.ess_repr_laws.proofs.StructureAttributes.{arguments-of, all-held}
 
 -- ---- attributes without a number
 
--- What f says of each attribute without a number means what F says of it.
-pub keys-means : (env : Env) (f : Key → Ex) (F : Key → Bool) → ((k : Key) → meaning (f k) env ≡ Some (truth (F k))) → (ms : List Mark) (os : List (Option Value)) (ks : List Attribute) → attributes_of ms os ≡ Some ks →
-    meaning (keys_ex f ms) env ≡ Some (truth (each_holds ks (λ k n. true) F))
-keys-means env f F h [] [] ks e = let q : [] ≡ ks = cc in ap (λ l. Some (truth (each_holds l (λ k n. true) F))) q
-keys-means env f F h [] (o ∷ os) ks e = cc
-keys-means env f F h (flag k ∷ ms) os ks e = go (attributes_of ms os) refl e (λ ls p. keys-means env f F h ms os ls p)
+-- What f says of each attribute without a number means what F says of it, where there is one.
+pub keys-means : (env : Env) (f : Key → Ex) (F : Key → Bool) (ms : List Mark) (os : List (Option Value)) (ks : List Attribute) → attributes_of ms os ≡ Some ks →
+    (has_flags_among no_key ks ≡ false → (k : Key) → meaning (f k) env ≡ Some (truth (F k))) → meaning (keys_ex f ms) env ≡ Some (truth (each_holds ks (λ k n. true) F))
+keys-means env f F [] [] ks e h = let q : [] ≡ ks = cc in ap (λ l. Some (truth (each_holds l (λ k n. true) F))) q
+keys-means env f F [] (o ∷ os) ks e h = cc
+keys-means env f F (flag k ∷ ms) os ks e h = go (attributes_of ms os) refl e (λ ls p i. keys-means env f F ms os ls p i)
   where
     go : (o : Option (List Attribute)) → attributes_of ms os ≡ o → option_map (λ xs. flagged k ∷ xs) o ≡ Some ks →
-        ((ls : List Attribute) → attributes_of ms os ≡ Some ls → meaning (keys_ex f ms) env ≡ Some (truth (each_holds ls (λ k n. true) F))) → meaning (keys_ex f (flag k ∷ ms)) env ≡ Some (truth (each_holds ks (λ k n. true) F))
+        ((ls : List Attribute) → attributes_of ms os ≡ Some ls → (has_flags_among no_key ls ≡ false → (k : Key) → meaning (f k) env ≡ Some (truth (F k))) →
+        meaning (keys_ex f ms) env ≡ Some (truth (each_holds ls (λ k n. true) F))) →
+        meaning (keys_ex f (flag k ∷ ms)) env ≡ Some (truth (each_holds ks (λ k n. true) F))
     go None p e ih = cc
     go (Some ls) p e ih =
         let q : flagged k ∷ ls ≡ ks = cc in
-        and-means env (f k) (keys_ex f ms) (F k) (each_holds ls (λ k n. true) F) (h k) (ih ls p) ∙ ap (λ l. Some (truth (each_holds l (λ k n. true) F))) q
-keys-means env f F h (valued k ∷ ms) [] ks e = cc
-keys-means env f F h (valued k ∷ ms) (v ∷ os) ks e = go (as_int v) (attributes_of ms os) refl e (λ ls p. keys-means env f F h ms os ls p)
+        let n : has_flags_among no_key ks ≡ false = ap (has_flags_among no_key) (sym q) in
+        and-means env (f k) (keys_ex f ms) (F k) (each_holds ls (λ k n. true) F) (h n k) (ih ls p (λ z. h n)) ∙ ap (λ l. Some (truth (each_holds l (λ k n. true) F))) q
+keys-means env f F (valued k ∷ ms) [] ks e h = cc
+keys-means env f F (valued k ∷ ms) (v ∷ os) ks e h = go (as_int v) (attributes_of ms os) refl e (λ ls p i. keys-means env f F ms os ls p i)
   where
     go : (a : Option ℤ) (o : Option (List Attribute)) → attributes_of ms os ≡ o → and_then a (λ z. option_map (λ xs. numbered k z ∷ xs) o) ≡ Some ks →
-        ((ls : List Attribute) → attributes_of ms os ≡ Some ls → meaning (keys_ex f ms) env ≡ Some (truth (each_holds ls (λ k n. true) F))) → meaning (keys_ex f ms) env ≡ Some (truth (each_holds ks (λ k n. true) F))
+        ((ls : List Attribute) → attributes_of ms os ≡ Some ls → (has_flags_among no_key ls ≡ false → (k : Key) → meaning (f k) env ≡ Some (truth (F k))) →
+        meaning (keys_ex f ms) env ≡ Some (truth (each_holds ls (λ k n. true) F))) →
+        meaning (keys_ex f ms) env ≡ Some (truth (each_holds ks (λ k n. true) F))
     go None o p e ih = cc
     go (Some z) None p e ih = cc
-    go (Some z) (Some ls) p e ih = let q : numbered k z ∷ ls ≡ ks = cc in ih ls p ∙ ap (λ l. Some (truth (each_holds l (λ k n. true) F))) q
+    go (Some z) (Some ls) p e ih =
+        let q : numbered k z ∷ ls ≡ ks = cc in
+        ih ls p (λ n. h (ap (has_flags_among no_key) (sym q) ∙ n)) ∙ ap (λ l. Some (truth (each_holds l (λ k n. true) F))) q
 
 -- Attributes hold where those with a number and those without one hold.
 pub attributes-apart : (ks : List Attribute) (f : Key → ℤ → Bool) (g : Key → Bool) → each_holds ks f g ≡ each_holds ks f (λ k. true) && each_holds ks (λ k n. true) g
@@ -73,7 +80,7 @@ total_key b _ = true
 -- The constraint of `total`.
 pub total-keys-means : (env : Env) (e : Ex) (b : Bool) (ms : List Mark) (os : List (Option Value)) (ks : List Attribute) → attributes_of ms os ≡ Some ks → meaning e env ≡ Some (truth b) →
     meaning (keys_ex (total_key_ex e) ms) env ≡ Some (truth (each_holds ks (λ k n. true) (total_key b)))
-total-keys-means env e b ms os ks a h = keys-means env (total_key_ex e) (total_key b) each ms os ks a
+total-keys-means env e b ms os ks a h = keys-means env (total_key_ex e) (total_key b) ms os ks a (λ z. each)
   where
     each : (k : Key) → meaning (total_key_ex e k) env ≡ Some (truth (total_key b k))
     each Key.Total = h
@@ -93,7 +100,8 @@ pub total-attributes : (ks : List Attribute) (x y : Domain) (ps : List Value) (b
 total-attributes ks x y ps b h t =
     attributes-apart ks (λ k n. size_holds k n (length ps)) (λ k. function_holds k (members x) (members y) ps) ∙ ap (λ c. set_attributes_hold ks (length ps) && c) (total-alike ks x y ps b h t)
 
-all-equal : (zs : List Value) (f g : Value → Bool) → AllOf zs (λ z. f z ≡ g z) → list_all f zs ≡ list_all g zs
+-- Tests that agree on each of the items.
+pub all-equal : (zs : List Value) (f g : Value → Bool) → AllOf zs (λ z. f z ≡ g z) → list_all f zs ≡ list_all g zs
 all-equal [] f g h = refl
 all-equal (z ∷ zs) f g h = ap (λ b. b && list_all f zs) h.0 ∙ ap (λ b. g z && b) (all-equal zs f g h.1)
 

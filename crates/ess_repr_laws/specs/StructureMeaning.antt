@@ -8,7 +8,7 @@ use Rattle.ess_repr_laws.specs.Finite.{HaveLists}
 use Rattle.ess_semantics.specs.Attributes.{set_attributes_hold}
 use Rattle.ess_repr_laws.specs.Rooms.{HasDummy}
 use Rattle.ess_semantics.specs.SetLayers.{dummy_of}
-use Rattle.ess_semantics.specs.Domains.{booleans, Attribute, attribute, numbered, flagged, Domain, Domains, tuples, records, matrices, sets, msets, functions, relations, domain_list, members, member_list}
+use Rattle.ess_semantics.specs.Domains.{booleans, Attribute, attribute, numbered, flagged, Domain, Domains, no_domains, more_domains, tuples, records, matrices, sets, msets, functions, relations, domain_list, members, member_list}
 use Rattle.ess_semantics.specs.Layers.{as_cell}
 use Rattle.ess_semantics.specs.Meaning.{Env, members_in, cell_value, meaning, meanings, domain_of, is_bool_dom, attributes_of, as_int}
 use Rattle.ess_semantics.specs.Names.{look}
@@ -74,6 +74,17 @@ no_key k = false
 -- The members are listed, where an attribute without a number asks for them.
 abbrev pub ListedFor : List Attribute → Domain → Type 0
 ListedFor ks x = has_flags_among no_key ks ≡ false → members x ≡ Some (member_list x)
+
+-- `reflexive` alone.
+abbrev pub is_reflexive_key : Key → Bool
+is_reflexive_key Key.Reflexive = true
+is_reflexive_key k = false
+
+-- A relation of which an attribute without a number is asked is one between two members of one listed atom.
+abbrev pub PairsFor : List Attribute → Domains → Type 0
+PairsFor ks xs =
+    has_flags_among no_key ks ≡ false →
+    (d : Domain) × (xs ≡ more_domains d (more_domains d no_domains)) × (members d ≡ Some (member_list d))
 
 -- `minOccur` or `maxOccur`.
 abbrev pub is_times_key : Key → Bool
@@ -215,7 +226,8 @@ module _ (env0 : Env) (q : ℕ → Text) (q-apart : (m l : ℕ) → l < m → sa
         AreAtoms xs × (members (tuples xs) ≡ Some (member_list (tuples xs))) ×
         ((has_flags_among is_total_or_injective ks ≡ true) × AtomFor ks r) × AxesAre env0 q q-apart (dom_list ds) (index_members xs) × Attributes ms es ks × Ready r c y
     Ready (repr ReprKind.RelationAsMatrix no_reprs) (relation_dom ms es ds) (relations ks xs) =
-        AreAtoms xs × (has_flags_among no_key ks ≡ true) × AxesAre env0 q q-apart (dom_list ds) (index_members xs) × Attributes ms es ks
+        AreAtoms xs × ((has_flags_among is_reflexive_key ks ≡ true) × PairsFor ks xs) ×
+        AxesAre env0 q q-apart (dom_list ds) (index_members xs) × Attributes ms es ks
     Ready (repr ReprKind.Function1DPartial (more_reprs r no_reprs)) (function_dom ms es d c) (functions ks x y) =
         IsAtom x × ((has_flags_among is_total_key ks ≡ true) × ListedFor ks x) × AxesAre env0 q q-apart (d ∷ []) (member_list x ∷ []) ×
         Attributes ms es ks × Ready r c y
