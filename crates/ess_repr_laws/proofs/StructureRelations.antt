@@ -1,5 +1,5 @@
 -- The structure constraint of a relation of which is kept which tuples occur: its size, and whether it is
--- reflexive.
+-- reflexive or irreflexive.
 use Rattle.std.proofs.Common.{◌≡◌, refl, sym, ap, ◌∙◌, ℕ, ◌+◌, ◌<◌, Bool, true, false, ◌&&◌, List, [], ◌∷◌, map, length, ℤ, pos, Some, option_map, arith}
 use Rattle.ess_semantics.specs.declared.words.ReprKind.{ReprKind}
 use Rattle.ess_semantics.specs.Lists.{is_some_and, or_default}
@@ -18,16 +18,16 @@ use Rattle.ess_semantics.specs.Meaning.{Env, meaning, meanings}
 use Rattle.ess_semantics.specs.Atoms.{AreAtoms}
 use Rattle.ess_semantics.proofs.Connectives.{and-means}
 use Rattle.ess_semantics.proofs.Orders.{to_list-of_list}
-use Rattle.ess_repr_laws.specs.RelationParts.{reflexive_key_ex, diagonal_ex, relation_ex}
+use Rattle.ess_repr_laws.specs.RelationParts.{diagonal_key_ex, diagonal_ex, off_diagonal_ex, relation_ex}
 use Rattle.ess_repr_laws.specs.StructureParts.{Terms, first_name, own_shape, keys_ex, size_ex, true_count_ex}
-use Rattle.ess_repr_laws.specs.StructureMeaning.{Bound, M, AxesAre, Placed, Attributes, index_members, has_flags_among, is_reflexive_key, PairsFor}
+use Rattle.ess_repr_laws.specs.StructureMeaning.{Bound, M, AxesAre, Placed, Attributes, index_members, has_flags_among, is_diagonal_key, PairsFor}
 use Rattle.ess_repr_laws.proofs.Arguments.{Arguments, tuple-arguments, cell-arguments}
 use Rattle.ess_repr_laws.proofs.CanonicalForms.{atoms-listed}
 use Rattle.ess_repr_laws.proofs.CanonicalPlaces.{all-of-map}
 use Rattle.ess_repr_laws.proofs.Chosen.{Bit, chosen-there, chosen-count}
 use Rattle.ess_repr_laws.proofs.PlacesOfTables.{row-places}
 use Rattle.ess_repr_laws.proofs.SlotsUsed.{bit-cell}
-use Rattle.ess_repr_laws.proofs.ReflexiveRelations.{reflexive_key, reflexive-keys-means, reflexive-attributes, reflexive-at}
+use Rattle.ess_repr_laws.proofs.ReflexiveRelations.{diagonal_key, diagonal-keys-means, diagonal-attributes, diagonal-at}
 use Rattle.ess_repr_laws.proofs.StructureFits.{Fit, first-fit}
 use Rattle.ess_repr_laws.proofs.StructureMatrices.{index-codes}
 use Rattle.ess_repr_laws.proofs.StructureNumbers.{size-means}
@@ -53,7 +53,7 @@ arguments-chosen x as' index args f h =
     (r.0, r.1, ap count_true (row-arguments x as' index args f) ∙ chosen-count (member_list x) (λ v. f (index v)) r.0 r.1 bits)
 
 module _ (env0 : Env) (q : ℕ → Text) (q-apart : (m l : ℕ) → l < m → same_text (q m) (q l) ≡ false) (terms : Terms)
-    (ms : List Mark) (es : Exs) (ds : Doms) (ks : List Attribute) (xs : Domains) (a : AreAtoms xs) (fl : has_flags_among is_reflexive_key ks ≡ true) (pairs : PairsFor ks xs)
+    (ms : List Mark) (es : Exs) (ds : Doms) (ks : List Attribute) (xs : Domains) (a : AreAtoms xs) (fl : has_flags_among is_diagonal_key ks ≡ true) (pairs : PairsFor ks xs)
     (ax : AxesAre env0 q q-apart (dom_list ds) (index_members xs)) (at : Attributes env0 q q-apart terms ms es ks) where
   abbrev kind : Repr
   kind = repr ReprKind.RelationAsMatrix no_reprs
@@ -82,15 +82,15 @@ module _ (env0 : Env) (q : ℕ → Text) (q-apart : (m l : ℕ) → l < m → sa
       let b = bits out t i c in
       let x = matrix-there out ns (t ∷ []) i p c in
       let y = arguments-chosen (tuples xs) axes place_of (tuple-arguments xs (atoms-listed xs a)) (grid_at env0 q q-apart t i) b in
-      let d = reflexive-at env0 q q-apart ks (dom_list ds) xs a pairs ax (first_name ns) t p.0 l is i bs st b y.0 y.1 in
-      and-means (M env0 q q-apart bs) (size_ex ms es (true_count_ex q l (dom_list ds) (first_name ns) is)) (keys_ex (reflexive_key_ex (diagonal_ex q l (dom_list ds) (first_name ns) is)) ms)
-      (set_attributes_hold ks (count_true (row (codes env0 q q-apart (index_members xs)) (grid_at env0 q q-apart t i)))) (each_holds ks (λ k n. true) (reflexive_key d.0))
+      let d = diagonal-at env0 q q-apart ks (dom_list ds) xs a pairs ax (first_name ns) t p.0 l is i bs st b y.0 y.1 in
+      and-means (M env0 q q-apart bs) (size_ex ms es (true_count_ex q l (dom_list ds) (first_name ns) is)) (keys_ex (diagonal_key_ex (diagonal_ex q l (dom_list ds) (first_name ns) is) (off_diagonal_ex q l (dom_list ds) (first_name ns) is)) ms)
+      (set_attributes_hold ks (count_true (row (codes env0 q q-apart (index_members xs)) (grid_at env0 q q-apart t i)))) (each_holds ks (λ k n. true) (diagonal_key d.0.0 d.1.0))
       (size-means (M env0 q q-apart bs) ms es (true_count_ex q l (dom_list ds) (first_name ns) is) (count_true (row (codes env0 q q-apart (index_members xs)) (grid_at env0 q q-apart t i))) ks z.0 z.1
       (true-count-means env0 q q-apart l (dom_list ds) (index_members xs) (first_name ns) is i bs t ax p.0 x.0 st))
-      (reflexive-keys-means (M env0 q q-apart bs) (diagonal_ex q l (dom_list ds) (first_name ns) is) d.0 ms (meanings es (M env0 q q-apart bs)) ks z.1 d.1)
+      (diagonal-keys-means (M env0 q q-apart bs) (diagonal_ex q l (dom_list ds) (first_name ns) is) (off_diagonal_ex q l (dom_list ds) (first_name ns) is) d.0.0 d.1.0 ms (meanings es (M env0 q q-apart bs)) ks z.1 d.0.1 d.1.1)
       ∙ ap (λ s. Some (truth s))
-      (ap (λ a. set_attributes_hold ks (count_true (row a (grid_at env0 q q-apart t i))) && each_holds ks (λ k n. true) (reflexive_key d.0)) same
-      ∙ ap (λ n. set_attributes_hold ks n && each_holds ks (λ k n. true) (reflexive_key d.0)) y.2 ∙ sym (reflexive-attributes ks xs y.0 d.0 fl d.2)
+      (ap (λ a. set_attributes_hold ks (count_true (row a (grid_at env0 q q-apart t i))) && each_holds ks (λ k n. true) (diagonal_key d.0.0 d.1.0)) same
+      ∙ ap (λ n. set_attributes_hold ks n && each_holds ks (λ k n. true) (diagonal_key d.0.0 d.1.0)) y.2 ∙ sym (diagonal-attributes ks xs y.0 d.0.0 d.1.0 fl d.0.2 d.1.2)
       ∙ ap (relation_attributes_hold ks xs) (sym (to_list-of_list y.0))
       ∙ sym (ap (λ o. (((every_cell axes (is_cell booleans) (grid_at env0 q q-apart t i) && true) && true) && true) && is_some_and (option_map (λ ys. node a_relation (of_list ys)) o) (λ v. relation_attributes_hold ks xs (items_of v))) y.1
       ∙ ap (λ b. (((b && true) && true) && true) && relation_attributes_hold ks xs (items_of (node a_relation (of_list y.0)))) b))

@@ -75,10 +75,11 @@ no_key k = false
 abbrev pub ListedFor : List Attribute → Domain → Type 0
 ListedFor ks x = has_flags_among no_key ks ≡ false → members x ≡ Some (member_list x)
 
--- `reflexive` alone.
-abbrev pub is_reflexive_key : Key → Bool
-is_reflexive_key Key.Reflexive = true
-is_reflexive_key k = false
+-- `reflexive` and `irreflexive`.
+abbrev pub is_diagonal_key : Key → Bool
+is_diagonal_key Key.Reflexive = true
+is_diagonal_key Key.Irreflexive = true
+is_diagonal_key k = false
 
 -- A relation of which an attribute without a number is asked is one between two members of one listed atom.
 abbrev pub PairsFor : List Attribute → Domains → Type 0
@@ -226,7 +227,7 @@ module _ (env0 : Env) (q : ℕ → Text) (q-apart : (m l : ℕ) → l < m → sa
         AreAtoms xs × (members (tuples xs) ≡ Some (member_list (tuples xs))) ×
         ((has_flags_among is_total_or_injective ks ≡ true) × AtomFor ks r) × AxesAre env0 q q-apart (dom_list ds) (index_members xs) × Attributes ms es ks × Ready r c y
     Ready (repr ReprKind.RelationAsMatrix no_reprs) (relation_dom ms es ds) (relations ks xs) =
-        AreAtoms xs × ((has_flags_among is_reflexive_key ks ≡ true) × PairsFor ks xs) ×
+        AreAtoms xs × ((has_flags_among is_diagonal_key ks ≡ true) × PairsFor ks xs) ×
         AxesAre env0 q q-apart (dom_list ds) (index_members xs) × Attributes ms es ks
     Ready (repr ReprKind.Function1DPartial (more_reprs r no_reprs)) (function_dom ms es d c) (functions ks x y) =
         IsAtom x × ((has_flags_among is_total_key ks ≡ true) × ListedFor ks x) × AxesAre env0 q q-apart (d ∷ []) (member_list x ∷ []) ×
