@@ -28,7 +28,8 @@ use Rattle.ess_repr_laws.proofs.CanonicalPlaces.{AllRight, all_places, children-
 abbrev pub Stands : Domain → ℤ → Type 0
 Stands d m = (v : Value) × (atom_value d m ≡ Some v) × (member d v ≡ true) × (code v ≡ m)
 
-boolean-stands : (m : ℤ) → is_cell booleans m ≡ true → Stands booleans m
+-- 0 and 1 stand for truth values.
+pub boolean-stands : (m : ℤ) → is_cell booleans m ≡ true → Stands booleans m
 boolean-stands m h = go (same_int m (pos 0)) refl h
   where
     go : (b : Bool) → same_int m (pos 0) ≡ b → b || same_int m (pos 1) ≡ true → Stands booleans m

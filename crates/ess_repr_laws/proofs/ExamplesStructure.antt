@@ -6,7 +6,7 @@ use Rattle.ess_semantics.specs.declared.words.Key.{Key}
 use Rattle.std.specs.Prelude.{codes}
 use Rattle.ess_semantics.specs.Values.{Text, truth}
 use Rattle.ess_semantics.specs.Order.{same_text}
-use Rattle.ess_semantics.specs.Trees.{valued, flag, Repr, repr, no_reprs, more_reprs, Ex, number_ex, truth_ex, no_exs, Dom, bool_dom, tuple_dom, matrix_dom, set_dom, no_doms, more_doms, more_exs, name_ex, cell_ex, comp_ex, over, name_pat, no_gens, fun1}
+use Rattle.ess_semantics.specs.Trees.{valued, flag, Repr, repr, no_reprs, more_reprs, Ex, number_ex, truth_ex, no_exs, Dom, bool_dom, tuple_dom, matrix_dom, set_dom, function_dom, no_doms, more_doms, more_exs, name_ex, cell_ex, comp_ex, over, name_pat, no_gens, fun1}
 use Rattle.ess_semantics.specs.Domains.{Domain, booleans, sets}
 use Rattle.ess_semantics.specs.Tables.{Tables, is_cell}
 use Rattle.ess_semantics.specs.Cells.{cells_of}
@@ -15,7 +15,8 @@ use Rattle.ess_semantics.specs.Declarations.{declarations, axes_of}
 use Rattle.ess_semantics.specs.CanonicalTest.{canonical}
 use Rattle.ess_semantics.specs.Meaning.{Env, meaning}
 use Rattle.ess_semantics.specs.Tidy.{over_axes}
-use Rattle.ess_repr_laws.specs.StructureParts.{tuple_set_dom, Terms, and_ex}
+use Rattle.ess_repr_laws.specs.StructureParts.{tuple_set_dom, Terms, and_ex, keys_ex, total_key_ex}
+use Rattle.ess_repr_laws.specs.RelationParts.{diagonal_ex}
 use Rattle.ess_repr_laws.specs.Structure.{shapes, structure}
 use Rattle.ess_repr_laws.specs.CanonicalTables.{TablesFit}
 use Rattle.ess_repr_laws.specs.StructureMeaning.{Bound, M, Placed, axes_members, Ready}
@@ -78,3 +79,18 @@ of-matrix = refl
 pub of-tuples : tuple_set_dom (valued Key.MaxSize ∷ flag Key.Symmetric ∷ valued Key.Size ∷ []) (more_exs (number_ex (pos 5)) (more_exs (number_ex (pos 3)) no_exs)) (more_doms bool_dom no_doms)
     ≡ set_dom (valued Key.Size ∷ valued Key.MaxSize ∷ []) (more_exs (number_ex (pos 3)) (more_exs (number_ex (pos 5)) no_exs)) (tuple_dom (more_doms bool_dom no_doms))
 of-tuples = refl
+
+-- A total function with flags: each flag is true. The sizes say nothing of it.
+pub of-total : keys_ex (total_key_ex (name_ex (codes "e"))) (valued Key.MinSize ∷ flag Key.Total ∷ []) ≡ and_ex (name_ex (codes "e")) (truth_ex true)
+of-total = refl
+
+-- An injective function from bool to atoms: the cells differ.
+pub of-injective : structure name at_atom (repr ReprKind.Function1D (more_reprs cell no_reprs)) (function_dom (flag Key.Injective ∷ []) no_exs bool_dom bool_dom) ((codes "a") ∷ []) 1 no_exs
+    ≡ and_ex (fun1 true Fun.And (comp_ex (cell_ex true (codes "a") (more_exs (name_ex (codes "q")) no_exs)) (over (name_pat (codes "q")) bool_dom no_gens)))
+    (and_ex (truth_ex true) (and_ex (fun1 true Fun.AllDiff (comp_ex (cell_ex true (codes "a") (more_exs (name_ex (codes "q")) no_exs)) (over (name_pat (codes "q")) bool_dom no_gens))) (truth_ex true)))
+of-injective = refl
+
+-- A reflexive relation of truth values: the cell of each with itself is true.
+pub of-reflexive : diagonal_ex name 1 (bool_dom ∷ bool_dom ∷ []) (codes "a") no_exs
+    ≡ fun1 true Fun.And (comp_ex (cell_ex true (codes "a") (more_exs (name_ex (codes "q")) (more_exs (name_ex (codes "q")) no_exs))) (over (name_pat (codes "q")) bool_dom no_gens))
+of-reflexive = refl

@@ -113,6 +113,10 @@ pub mod StructureMeans
 pub mod StructureFits
 pub mod StructurePlaces
 pub mod StructureOf
+pub mod StructureKeys
+pub mod DifferentCells
+pub mod StructureInjective
+pub mod ReflexiveRelations
 pub mod StructureLayers
 pub mod StructureMatrices
 pub mod StructureTuples

@@ -1,32 +1,18 @@
--- Attributes of functions and relations that speak of sizes alone, or are `total`.
+-- Attributes of relations that speak of sizes alone, and when a function with a value for each argument is total.
 use Rattle.std.proofs.Common.{◌≡◌, refl, ap, ◌∙◌, suc, true, ◌&&◌, ◌||◌, List, [], ◌∷◌, map, length, Some}
 use Rattle.std.specs.List.{list_all}
-use Rattle.ess_semantics.specs.declared.words.Key.{Key}
 use Rattle.ess_semantics.specs.Lists.{is_some_and}
 use Rattle.ess_semantics.specs.Values.{Value, from_of}
 use Rattle.ess_semantics.specs.Order.{same}
 use Rattle.ess_semantics.specs.Collections.{holds}
 use Rattle.ess_semantics.specs.Domains.{Attribute, numbered, flagged, Domain, Domains, members, member_list}
-use Rattle.ess_semantics.specs.Attributes.{size_holds, is_total, set_attributes_hold, function_attributes_hold, relation_attributes_hold}
+use Rattle.ess_semantics.specs.Attributes.{size_holds, is_total, set_attributes_hold, relation_attributes_hold}
 use Rattle.ess_semantics.specs.FunctionLayers.{with_arguments}
 use Rattle.ess_semantics.proofs.Orders.{same-itself}
 use Rattle.ess_semantics.proofs.Tests.{and-left, and-right, or-yes}
-use Rattle.ess_repr_laws.specs.StructureMeaning.{has_flags_among, is_total_key, no_key}
+use Rattle.ess_repr_laws.specs.StructureMeaning.{has_flags_among, no_key}
 
--- Attributes of a function that is total.
-pub total-sizes : (ks : List Attribute) (x y : Domain) (ps : List Value) → has_flags_among is_total_key ks ≡ true → is_total (members x) ps ≡ true → function_attributes_hold ks x y ps ≡ set_attributes_hold ks (length ps)
-total-sizes [] x y ps h t = refl
-total-sizes (numbered k n ∷ ks) x y ps h t = ap (λ b. size_holds k n (length ps) && b) (total-sizes ks x y ps h t)
-total-sizes (flagged Key.Total ∷ ks) x y ps h t = ap (λ b. b && function_attributes_hold ks x y ps) t ∙ total-sizes ks x y ps h t
-total-sizes (flagged _ ∷ ks) x y ps h t = cc
-
--- Attributes of a function that speak of sizes alone.
-pub function-sizes : (ks : List Attribute) (x y : Domain) (ps : List Value) → has_flags_among no_key ks ≡ true → function_attributes_hold ks x y ps ≡ set_attributes_hold ks (length ps)
-function-sizes [] x y ps h = refl
-function-sizes (numbered k n ∷ ks) x y ps h = ap (λ b. size_holds k n (length ps) && b) (function-sizes ks x y ps h)
-function-sizes (flagged k ∷ ks) x y ps h = cc
-
--- The same of a relation.
+-- Attributes of a relation that speak of sizes alone.
 pub relation-sizes : (ks : List Attribute) (ds : Domains) (ps : List Value) → has_flags_among no_key ks ≡ true → relation_attributes_hold ks ds ps ≡ set_attributes_hold ks (length ps)
 relation-sizes [] ds ps h = refl
 relation-sizes (numbered k n ∷ ks) ds ps h = ap (λ b. size_holds k n (length ps) && b) (relation-sizes ks ds ps h)
@@ -44,7 +30,8 @@ arguments-long [] vs e = refl
 arguments-long (x ∷ xs) [] e = cc
 arguments-long (x ∷ xs) (v ∷ vs) e = let e' : length vs ≡ length xs = cc in ap suc (arguments-long xs vs e')
 
-all-held : (xs : List Value) → list_all (λ x. holds xs x) xs ≡ true
+-- Each item is one of the items.
+pub all-held : (xs : List Value) → list_all (λ x. holds xs x) xs ≡ true
 all-held [] = refl
 all-held (x ∷ xs) = ap (λ b. (b || holds xs x) && list_all (λ y. same x y || holds xs y) xs) (same-itself x) ∙ later xs (all-held xs)
   where

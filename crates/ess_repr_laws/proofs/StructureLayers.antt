@@ -101,15 +101,21 @@ module _ (r : Repr) (e : Domain) (right : Right r e) (wide : length (axes_of r e
         arrange true true true false a x h = refl
         arrange true true true true a x h = h refl
 
-  -- What is asked of a layer without tables of its own whose places are all in use.
-  pub everywhere-asked : (k : ReprKind) (d : Domain) (bs : Axes) (ct : Value → List (Option Value)) (b : Cells → List (List Value) → Option Value) (ic : Cells → List (List Value) → Bool) (inner : Cells) (F : Bool) →
-      length inner ≡ width r → ((vs : List Value) → length vs ≡ length (lists_of bs) → ic [] (vs ∷ []) ≡ F) →
+  -- What is asked of a layer without tables of its own whose places are all in use, where the values are those of the places.
+  pub everywhere-valued : (k : ReprKind) (d : Domain) (bs : Axes) (ct : Value → List (Option Value)) (b : Cells → List (List Value) → Option Value) (ic : Cells → List (List Value) → Bool) (inner : Cells) (F : Bool) →
+      length inner ≡ width r → ((vs : List Value) → length vs ≡ length (lists_of bs) → each_of (lists_of bs) (λ j. value_of_cells r e (behind j inner)) ≡ Some vs → AllOf (lists_of bs) (λ j. canonical r e (behind j inner) ≡ true) → ic [] (vs ∷ []) ≡ F) →
       asked_of (one_child k r d e [] bs everywhere false false ct no_own_tables b ic always_tidy) (more_reprs r no_reprs) [] inner ≡ list_all (λ js. canonical r e (behind js inner)) (lists_of bs) && F
-  everywhere-asked k d bs ct b ic inner F long asked =
+  everywhere-valued k d bs ct b ic inner F long asked =
       layer-asked k d [] bs everywhere false false ct no_own_tables b ic always_tidy [] inner F refl long (lists_of bs) refl
-      (λ h. all-of-list (lists_of bs) (λ js. canonical r e (behind js inner)) h) (λ vs n x u. asked vs n)
+      (λ h. all-of-list (lists_of bs) (λ js. canonical r e (behind js inner)) h) (λ vs n x u. asked vs n x (all-of-list (lists_of bs) (λ js. canonical r e (behind js inner)) u))
       ∙ ap (λ z. (list_all (λ js. canonical r e (behind js inner)) (lists_of bs) && z) && F) (all-pass (lists_of bs)) ∙ drop-true (list_all (λ js. canonical r e (behind js inner)) (lists_of bs))
     where
       drop-true : (a : Bool) → (a && true) && F ≡ a && F
       drop-true true = refl
       drop-true false = refl
+
+  -- The same where the values don't matter.
+  pub everywhere-asked : (k : ReprKind) (d : Domain) (bs : Axes) (ct : Value → List (Option Value)) (b : Cells → List (List Value) → Option Value) (ic : Cells → List (List Value) → Bool) (inner : Cells) (F : Bool) →
+      length inner ≡ width r → ((vs : List Value) → length vs ≡ length (lists_of bs) → ic [] (vs ∷ []) ≡ F) →
+      asked_of (one_child k r d e [] bs everywhere false false ct no_own_tables b ic always_tidy) (more_reprs r no_reprs) [] inner ≡ list_all (λ js. canonical r e (behind js inner)) (lists_of bs) && F
+  everywhere-asked k d bs ct b ic inner F long asked = everywhere-valued k d bs ct b ic inner F long (λ vs n x u. asked vs n)

@@ -59,7 +59,8 @@ size-means env (valued k ∷ ms) (more_exs x es) m n ks a e r = go (as_int (mean
 
 -- ---- rows of truth values and numbers
 
-cell-order : (b : Bool) (x y : ℤ) → fit b x ≡ true → fit b y ≡ true → order (cell_value b x) (cell_value b y) ≡ int_cmp x y
+-- Cells are compared as numbers are.
+pub cell-order : (b : Bool) (x y : ℤ) → fit b x ≡ true → fit b y ≡ true → order (cell_value b x) (cell_value b y) ≡ int_cmp x y
 cell-order false x y p q = refl
 cell-order true x y p q = go (bit x p) (bit y q)
   where

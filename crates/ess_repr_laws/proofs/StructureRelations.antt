@@ -1,4 +1,5 @@
--- The structure constraint of a relation of which is kept which tuples occur: its size.
+-- The structure constraint of a relation of which is kept which tuples occur: its size, and whether it is
+-- reflexive or irreflexive.
 use Rattle.std.proofs.Common.{◌≡◌, refl, sym, ap, ◌∙◌, ℕ, ◌+◌, ◌<◌, Bool, true, false, ◌&&◌, List, [], ◌∷◌, map, length, ℤ, pos, Some, option_map, arith}
 use Rattle.ess_semantics.specs.declared.words.ReprKind.{ReprKind}
 use Rattle.ess_semantics.specs.Lists.{is_some_and, or_default}
@@ -7,24 +8,26 @@ use Rattle.ess_semantics.specs.Order.{same_text}
 use Rattle.ess_semantics.specs.Kinds.{dom_list}
 use Rattle.ess_semantics.specs.Trees.{Mark, Repr, repr, no_reprs, Exs, Doms, relation_dom}
 use Rattle.ess_semantics.specs.Domains.{Attribute, Domain, Domains, booleans, relations, tuples, domain_list, member_list}
-use Rattle.ess_semantics.specs.Attributes.{relation_attributes_hold, set_attributes_hold}
+use Rattle.ess_semantics.specs.Attributes.{each_holds, relation_attributes_hold, set_attributes_hold}
 use Rattle.ess_semantics.specs.Tables.{Table, Tables, is_cell}
 use Rattle.ess_semantics.specs.Cells.{Grid, Axes, behind, cells_of, every_cell, row}
 use Rattle.ess_semantics.specs.Layers.{codes_of, chosen, count_true}
 use Rattle.ess_semantics.specs.Declarations.{declarations_below}
 use Rattle.ess_semantics.specs.CanonicalTest.{canonical}
-use Rattle.ess_semantics.specs.Meaning.{Env, meaning}
+use Rattle.ess_semantics.specs.Meaning.{Env, meaning, meanings}
 use Rattle.ess_semantics.specs.Atoms.{AreAtoms}
+use Rattle.ess_semantics.proofs.Connectives.{and-means}
 use Rattle.ess_semantics.proofs.Orders.{to_list-of_list}
-use Rattle.ess_repr_laws.specs.StructureParts.{Terms, first_name, own_shape, size_ex, true_count_ex}
-use Rattle.ess_repr_laws.specs.StructureMeaning.{Bound, M, AxesAre, Placed, Attributes, index_members, has_flags_among, no_key}
+use Rattle.ess_repr_laws.specs.RelationParts.{diagonal_key_ex, diagonal_ex, off_diagonal_ex, relation_ex}
+use Rattle.ess_repr_laws.specs.StructureParts.{Terms, first_name, own_shape, keys_ex, size_ex, true_count_ex}
+use Rattle.ess_repr_laws.specs.StructureMeaning.{Bound, M, AxesAre, Placed, Attributes, index_members, has_flags_among, is_diagonal_key, PairsFor}
 use Rattle.ess_repr_laws.proofs.Arguments.{Arguments, tuple-arguments, cell-arguments}
 use Rattle.ess_repr_laws.proofs.CanonicalForms.{atoms-listed}
 use Rattle.ess_repr_laws.proofs.CanonicalPlaces.{all-of-map}
 use Rattle.ess_repr_laws.proofs.Chosen.{Bit, chosen-there, chosen-count}
 use Rattle.ess_repr_laws.proofs.PlacesOfTables.{row-places}
 use Rattle.ess_repr_laws.proofs.SlotsUsed.{bit-cell}
-use Rattle.ess_repr_laws.proofs.StructureAttributes.{relation-sizes}
+use Rattle.ess_repr_laws.proofs.ReflexiveRelations.{diagonal_key, diagonal-keys-means, diagonal-attributes, diagonal-at}
 use Rattle.ess_repr_laws.proofs.StructureFits.{Fit, first-fit}
 use Rattle.ess_repr_laws.proofs.StructureMatrices.{index-codes}
 use Rattle.ess_repr_laws.proofs.StructureNumbers.{size-means}
@@ -50,7 +53,7 @@ arguments-chosen x as' index args f h =
     (r.0, r.1, ap count_true (row-arguments x as' index args f) ∙ chosen-count (member_list x) (λ v. f (index v)) r.0 r.1 bits)
 
 module _ (env0 : Env) (q : ℕ → Text) (q-apart : (m l : ℕ) → l < m → same_text (q m) (q l) ≡ false) (terms : Terms)
-    (ms : List Mark) (es : Exs) (ds : Doms) (ks : List Attribute) (xs : Domains) (a : AreAtoms xs) (fl : has_flags_among no_key ks ≡ true)
+    (ms : List Mark) (es : Exs) (ds : Doms) (ks : List Attribute) (xs : Domains) (a : AreAtoms xs) (fl : has_flags_among is_diagonal_key ks ≡ true) (pairs : PairsFor ks xs)
     (ax : AxesAre env0 q q-apart (dom_list ds) (index_members xs)) (at : Attributes env0 q q-apart terms ms es ks) where
   abbrev kind : Repr
   kind = repr ReprKind.RelationAsMatrix no_reprs
@@ -73,16 +76,21 @@ module _ (env0 : Env) (q : ℕ → Text) (q-apart : (m l : ℕ) → l < m → sa
 
   matrix-means : (out : Bool) (ns : List Text) (ts : Tables) (l : ℕ) (is : Exs) (i : List ℤ) (bs : Bound env0 q q-apart) → Placed env0 q q-apart (own_shape ns true (dom_list ds) ∷ []) (index_members xs ∷ []) ts →
       Fit (declarations_below out kind (relations ks xs)) (behind i (cells_of ts)) → Steady env0 q q-apart l is i bs →
-      meaning (size_ex ms es (true_count_ex q l (dom_list ds) (first_name ns) is)) (M env0 q q-apart bs) ≡ Some (truth (canonical kind (relations ks xs) (behind i (cells_of ts))))
+      meaning (relation_ex q l ms es (dom_list ds) (first_name ns) is) (M env0 q q-apart bs) ≡ Some (truth (canonical kind (relations ks xs) (behind i (cells_of ts))))
   matrix-means out ns (t ∷ []) l is i bs p c st =
       let z = at bs in
       let b = bits out t i c in
       let x = matrix-there out ns (t ∷ []) i p c in
       let y = arguments-chosen (tuples xs) axes place_of (tuple-arguments xs (atoms-listed xs a)) (grid_at env0 q q-apart t i) b in
-      size-means (M env0 q q-apart bs) ms es (true_count_ex q l (dom_list ds) (first_name ns) is) (count_true (row (codes env0 q q-apart (index_members xs)) (grid_at env0 q q-apart t i))) ks z.0 z.1
-      (true-count-means env0 q q-apart l (dom_list ds) (index_members xs) (first_name ns) is i bs t ax p.0 x.0 st)
+      let d = diagonal-at env0 q q-apart ks (dom_list ds) xs a pairs ax (first_name ns) t p.0 l is i bs st b y.0 y.1 in
+      and-means (M env0 q q-apart bs) (size_ex ms es (true_count_ex q l (dom_list ds) (first_name ns) is)) (keys_ex (diagonal_key_ex (diagonal_ex q l (dom_list ds) (first_name ns) is) (off_diagonal_ex q l (dom_list ds) (first_name ns) is)) ms)
+      (set_attributes_hold ks (count_true (row (codes env0 q q-apart (index_members xs)) (grid_at env0 q q-apart t i)))) (each_holds ks (λ k n. true) (diagonal_key d.0.0 d.1.0))
+      (size-means (M env0 q q-apart bs) ms es (true_count_ex q l (dom_list ds) (first_name ns) is) (count_true (row (codes env0 q q-apart (index_members xs)) (grid_at env0 q q-apart t i))) ks z.0 z.1
+      (true-count-means env0 q q-apart l (dom_list ds) (index_members xs) (first_name ns) is i bs t ax p.0 x.0 st))
+      (diagonal-keys-means (M env0 q q-apart bs) (diagonal_ex q l (dom_list ds) (first_name ns) is) (off_diagonal_ex q l (dom_list ds) (first_name ns) is) d.0.0 d.1.0 ms (meanings es (M env0 q q-apart bs)) ks z.1 d.0.1 d.1.1)
       ∙ ap (λ s. Some (truth s))
-      (ap (λ a. set_attributes_hold ks (count_true (row a (grid_at env0 q q-apart t i)))) same ∙ ap (set_attributes_hold ks) y.2 ∙ sym (relation-sizes ks xs y.0 fl)
+      (ap (λ a. set_attributes_hold ks (count_true (row a (grid_at env0 q q-apart t i))) && each_holds ks (λ k n. true) (diagonal_key d.0.0 d.1.0)) same
+      ∙ ap (λ n. set_attributes_hold ks n && each_holds ks (λ k n. true) (diagonal_key d.0.0 d.1.0)) y.2 ∙ sym (diagonal-attributes ks xs y.0 d.0.0 d.1.0 fl d.0.2 d.1.2)
       ∙ ap (relation_attributes_hold ks xs) (sym (to_list-of_list y.0))
       ∙ sym (ap (λ o. (((every_cell axes (is_cell booleans) (grid_at env0 q q-apart t i) && true) && true) && true) && is_some_and (option_map (λ ys. node a_relation (of_list ys)) o) (λ v. relation_attributes_hold ks xs (items_of v))) y.1
       ∙ ap (λ b. (((b && true) && true) && true) && relation_attributes_hold ks xs (items_of (node a_relation (of_list y.0)))) b))

@@ -8,6 +8,7 @@ pub mod CanonicalTables
 pub mod TypedDomains
 -- The constraint that cells are canonical
 pub mod StructureParts
+pub mod RelationParts
 pub mod Structure
 pub mod StructureMeaning
 -- What is proved

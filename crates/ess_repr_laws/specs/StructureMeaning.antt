@@ -1,6 +1,6 @@
 -- What is asked of a view and its tables so that its structure constraint means that the cells are canonical. Reserved names
 -- q 0, q 1 and so on may be bound, each to a value.
-use Rattle.std.specs.Prelude.{◌≡◌, ℕ, ◌<◌, Bool, true, false, ◌&&◌, not, List, [], ◌∷◌, ◌++◌, map, ℤ, pos, Some}
+use Rattle.std.specs.Prelude.{◌≡◌, ℕ, ◌<◌, Bool, true, false, ◌&&◌, ◌||◌, not, List, [], ◌∷◌, ◌++◌, map, ℤ, pos, Some}
 use Rattle.ess_repr_laws.specs.StructureParts.{Shape, Terms, tuple_set_dom}
 use Rattle.ess_semantics.specs.Kinds.{dom_list}
 use Rattle.ess_semantics.specs.Atoms.{IsAtom, AreAtoms}
@@ -8,7 +8,7 @@ use Rattle.ess_repr_laws.specs.Finite.{HaveLists}
 use Rattle.ess_semantics.specs.Attributes.{set_attributes_hold}
 use Rattle.ess_repr_laws.specs.Rooms.{HasDummy}
 use Rattle.ess_semantics.specs.SetLayers.{dummy_of}
-use Rattle.ess_semantics.specs.Domains.{booleans, Attribute, attribute, numbered, flagged, Domain, Domains, tuples, records, matrices, sets, msets, functions, relations, domain_list, members, member_list}
+use Rattle.ess_semantics.specs.Domains.{booleans, Attribute, attribute, numbered, flagged, Domain, Domains, no_domains, more_domains, tuples, records, matrices, sets, msets, functions, relations, domain_list, members, member_list}
 use Rattle.ess_semantics.specs.Layers.{as_cell}
 use Rattle.ess_semantics.specs.Meaning.{Env, members_in, cell_value, meaning, meanings, domain_of, is_bool_dom, attributes_of, as_int}
 use Rattle.ess_semantics.specs.Names.{look}
@@ -46,9 +46,46 @@ abbrev pub is_total_key : Key → Bool
 is_total_key Key.Total = true
 is_total_key k = false
 
+-- `total` and `injective`.
+abbrev pub is_total_or_injective : Key → Bool
+is_total_or_injective Key.Total = true
+is_total_or_injective Key.Injective = true
+is_total_or_injective k = false
+
+-- `injective` alone.
+abbrev pub is_injective_key : Key → Bool
+is_injective_key Key.Injective = true
+is_injective_key k = false
+
+-- Whether `injective` is one of the attributes.
+abbrev pub has_injective : List Attribute → Bool
+has_injective [] = false
+has_injective (numbered k n ∷ ks) = has_injective ks
+has_injective (flagged k ∷ ks) = is_injective_key k || has_injective ks
+
+-- The values of an injective function are atoms.
+abbrev pub AtomFor : List Attribute → Repr → Type 0
+AtomFor ks r = has_injective ks ≡ true → r ≡ repr ReprKind.Atom no_reprs
+
 -- None.
 abbrev pub no_key : Key → Bool
 no_key k = false
+
+-- The members are listed, where an attribute without a number asks for them.
+abbrev pub ListedFor : List Attribute → Domain → Type 0
+ListedFor ks x = has_flags_among no_key ks ≡ false → members x ≡ Some (member_list x)
+
+-- `reflexive` and `irreflexive`.
+abbrev pub is_diagonal_key : Key → Bool
+is_diagonal_key Key.Reflexive = true
+is_diagonal_key Key.Irreflexive = true
+is_diagonal_key k = false
+
+-- A relation of which an attribute without a number is asked is one between two members of one listed atom.
+abbrev pub PairsFor : List Attribute → Domains → Type 0
+PairsFor ks xs =
+    has_flags_among no_key ks ≡ false →
+    (d : Domain) × (xs ≡ more_domains d (more_domains d no_domains)) × (members d ≡ Some (member_list d))
 
 -- `minOccur` or `maxOccur`.
 abbrev pub is_times_key : Key → Bool
@@ -184,19 +221,20 @@ module _ (env0 : Env) (q : ℕ → Text) (q-apart : (m l : ℕ) → l < m → sa
     Ready (repr ReprKind.ExplicitVarSizeWithFlags (more_reprs r no_reprs)) (set_dom ms es d) (sets ks e) =
         Attributes ms es ks × SlotsAre (set_dom ms es d) (slots_of_set ks e) × Ready r d e
     Ready (repr ReprKind.Function1D (more_reprs r no_reprs)) (function_dom ms es d c) (functions ks x y) =
-        IsAtom x × (members x ≡ Some (member_list x)) × (has_flags_among is_total_key ks ≡ true) ×
+        IsAtom x × (members x ≡ Some (member_list x)) × ((has_flags_among is_total_or_injective ks ≡ true) × AtomFor ks r) ×
         AxesAre env0 q q-apart (d ∷ []) (member_list x ∷ []) × Attributes ms es ks × Ready r c y
     Ready (repr ReprKind.FunctionND (more_reprs r no_reprs)) (function_dom ms es (tuple_dom ds) c) (functions ks (tuples xs) y) =
-        AreAtoms xs × (members (tuples xs) ≡ Some (member_list (tuples xs))) × (has_flags_among is_total_key ks ≡ true) ×
-        AxesAre env0 q q-apart (dom_list ds) (index_members xs) × Attributes ms es ks × Ready r c y
+        AreAtoms xs × (members (tuples xs) ≡ Some (member_list (tuples xs))) ×
+        ((has_flags_among is_total_or_injective ks ≡ true) × AtomFor ks r) × AxesAre env0 q q-apart (dom_list ds) (index_members xs) × Attributes ms es ks × Ready r c y
     Ready (repr ReprKind.RelationAsMatrix no_reprs) (relation_dom ms es ds) (relations ks xs) =
-        AreAtoms xs × (has_flags_among no_key ks ≡ true) × AxesAre env0 q q-apart (dom_list ds) (index_members xs) × Attributes ms es ks
+        AreAtoms xs × ((has_flags_among is_diagonal_key ks ≡ true) × PairsFor ks xs) ×
+        AxesAre env0 q q-apart (dom_list ds) (index_members xs) × Attributes ms es ks
     Ready (repr ReprKind.Function1DPartial (more_reprs r no_reprs)) (function_dom ms es d c) (functions ks x y) =
-        IsAtom x × (has_flags_among no_key ks ≡ true) × AxesAre env0 q q-apart (d ∷ []) (member_list x ∷ []) × Attributes ms es ks ×
-        Ready r c y
+        IsAtom x × ((has_flags_among is_total_key ks ≡ true) × ListedFor ks x) × AxesAre env0 q q-apart (d ∷ []) (member_list x ∷ []) ×
+        Attributes ms es ks × Ready r c y
     Ready (repr ReprKind.FunctionNDPartial (more_reprs r no_reprs)) (function_dom ms es (tuple_dom ds) c) (functions ks (tuples xs) y) =
-        AreAtoms xs × (has_flags_among no_key ks ≡ true) × AxesAre env0 q q-apart (dom_list ds) (index_members xs) × Attributes ms es ks ×
-        Ready r c y
+        AreAtoms xs × ((has_flags_among is_total_key ks ≡ true) × ListedFor ks (tuples xs)) ×
+        AxesAre env0 q q-apart (dom_list ds) (index_members xs) × Attributes ms es ks × Ready r c y
     Ready (repr ReprKind.MSetOccurrence no_reprs) (mset_dom ms es d) (msets ks e) =
         IsAtom e × AxesAre env0 q q-apart (d ∷ []) (member_list e ∷ []) × Attributes ms es ks
     Ready (repr ReprKind.MSetExplicitWithFlags (more_reprs r no_reprs)) (mset_dom ms es d) (msets ks e) =
