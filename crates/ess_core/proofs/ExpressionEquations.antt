@@ -1,5 +1,5 @@
 -- What an expression stands for, variant by variant.
-use Rattle.std.proofs.Common.{◌≡◌, refl, sym, ap, ◌∙◌, Bool, false, ◌||◌, List, map, Option, Some, None, ℤ, ℕ}
+use Rattle.std.proofs.Common.{◌≡◌, refl, sym, ap, ◌∙◌, Bool, false, List, map, Option, Some, None, ℤ, ℕ}
 use Rattle.std.specs.Option.{option_map}
 use Rattle.ess_semantics.specs.declared.words.Op1.{Op1}
 use Rattle.ess_semantics.specs.declared.words.Op2.{Op2}
@@ -9,8 +9,8 @@ use Rattle.ess_semantics.specs.Values.{Text}
 use Rattle.ess_semantics.specs.Names.{keys}
 use Rattle.ess_semantics.specs.Kinds.{doms_of}
 use Rattle.ess_semantics.specs.Trees as pure
-use Rattle.ess_semantics.specs.Trees.{by_value, to_component, to_field, word, index, application, tuple_literal, set_literal, mset_literal, function_literal, relation_literal, partition_literal, matrix_literal, record_literal, Ends, one_value, Mark, name_pat, tuple_pat, number_ex, truth_ex, name_ex, node_ex, matrix_ex, comp_ex, cell_ex, seen_ex, no_exs, more_exs, bool_dom, int_dom, name_dom, tuple_dom, record_dom, matrix_dom, set_dom, mset_dom, function_dom, relation_dom, partition_dom, ex1, ex2, is_truth_op1, is_truth_op2, is_truth_word}
-use Rattle.ess_core.specs.TreeViews.{With, words_of, within, Item, over_item, from_item, cond_item, exs_of, field_values, matrix_literal_of, span, attribute, pat_step, pats_of, dom_step, field_dom_step, range_step, attr_step, ex_step, step_step, field_ex_step, pair_ex_step, gen_step, view_step, pure_repr, pure_pat, pure_dom, pure_field_dom, pure_range, pure_attr, pure_ex, pure_step, pure_field_ex, pure_pair_ex, pure_gen, pure_view, pure_exs, pure_doms, pure_gens}
+use Rattle.ess_semantics.specs.Trees.{by_value, to_component, to_field, word, index, application, tuple_literal, set_literal, mset_literal, function_literal, relation_literal, partition_literal, matrix_literal, record_literal, Ends, one_value, Mark, name_pat, tuple_pat, number_ex, truth_ex, name_ex, node_ex, matrix_ex, comp_ex, cell_ex, seen_ex, no_exs, more_exs, bool_dom, int_dom, name_dom, tuple_dom, record_dom, matrix_dom, set_dom, mset_dom, function_dom, relation_dom, partition_dom, ex1, ex2, is_truth_op1, is_truth_op2}
+use Rattle.ess_core.specs.TreeViews.{With, words_of, within, Item, over_item, from_item, cond_item, exs_of, field_values, matrix_literal_of, span, attribute, pat_step, pats_of, dom_step, field_dom_step, range_step, attr_step, ex_step, step_step, field_ex_step, pair_ex_step, gen_step, view_step, call_mark, pure_repr, pure_pat, pure_dom, pure_field_dom, pure_range, pure_attr, pure_ex, pure_step, pure_field_ex, pure_pair_ex, pure_gen, pure_view, pure_exs, pure_doms, pure_gens}
 use Rattle.ess_core.specs.declared.domains.Dom.{Dom}
 use Rattle.ess_core.specs.declared.domains.FieldDom.{FieldDom}
 use Rattle.ess_core.specs.declared.domains.Range.{Range}
@@ -40,7 +40,7 @@ pure_one o a = ap pure_ex (sym (variant.rolls-One o a)) ∙ fold-roll-Ex pure.Do
 pub pure_two : (o : Op2) (a b : Ex) → pure_ex (variant.Two o a b) ≡ ex2 (is_truth_op2 o) o (pure_ex a) (pure_ex b)
 pure_two o a b = ap pure_ex (sym (variant.rolls-Two o a b)) ∙ fold-roll-Ex pure.Dom (With Ends) pure.Ex Item (With pure.Step) (With Mark) (Text × pure.Dom) (Text × pure.Ex) pure.Ex pure.Ex dom_step range_step ex_step gen_step step_step attr_step field_dom_step field_ex_step pair_ex_step view_step (Ex-F.Two o a b)
 
-pub pure_call : (b : Bool) (f : Fun) (es : List Ex) → pure_ex (variant.Call b f es) ≡ node_ex (b || is_truth_word f) (word f) (pure_exs es)
+pub pure_call : (b : Bool) (f : Fun) (es : List Ex) → pure_ex (variant.Call b f es) ≡ node_ex (call_mark b f) (word f) (pure_exs es)
 pure_call b f es = ap pure_ex (sym (variant.rolls-Call b f es)) ∙ fold-roll-Ex pure.Dom (With Ends) pure.Ex Item (With pure.Step) (With Mark) (Text × pure.Dom) (Text × pure.Ex) pure.Ex pure.Ex dom_step range_step ex_step gen_step step_step attr_step field_dom_step field_ex_step pair_ex_step view_step (Ex-F.Call b f es)
 
 pub pure_at : (b : Bool) (e : Ex) (ss : List Step) → pure_ex (variant.At b e ss) ≡ node_ex b (index (words_of (map pure_step ss))) (more_exs (pure_ex e) (exs_of (within (map pure_step ss))))

@@ -1,10 +1,11 @@
 -- The pure trees that expressions, domains, representations and patterns stand for.
-use Rattle.std.specs.Prelude.{false, ◌||◌, List, [], ◌∷◌, map, Option, Some, None}
+use Rattle.std.specs.Prelude.{Bool, true, false, not, List, [], ◌∷◌, map, Option, Some, None}
 use Rattle.ess_semantics.specs.Values.{Text}
 use Rattle.ess_semantics.specs.Names.{Names, keys}
 use Rattle.ess_semantics.specs.Lists.{append_all}
 use Rattle.ess_semantics.specs.Trees as pure
 use Rattle.ess_semantics.specs.Trees.{by_value, to_component, to_field, Op, unary, binary, word, index, application, tuple_literal, set_literal, mset_literal, function_literal, relation_literal, partition_literal, matrix_literal, record_literal, Ends, one_value, both_ends, low_end, high_end, Mark, flag, valued, repr, no_reprs, name_pat, tuple_pat, no_pats, more_pats, number_ex, truth_ex, name_ex, node_ex, matrix_ex, comp_ex, cell_ex, seen_ex, no_exs, more_exs, no_gens, over, from, cond, bool_dom, int_dom, name_dom, tuple_dom, record_dom, matrix_dom, set_dom, mset_dom, function_dom, relation_dom, partition_dom, ex1, ex2, is_truth_op1, is_truth_op2, is_truth_word}
+use Rattle.ess_semantics.specs.declared.words.Fun.{Fun}
 use Rattle.ess_semantics.specs.declared.words.Key.{Key}
 use Rattle.ess_semantics.specs.declared.words.ReprKind.{ReprKind}
 use Rattle.ess_semantics.specs.Kinds.{doms_of}
@@ -110,7 +111,12 @@ attribute k (Some e) = (valued k, e ∷ [])
 
 -- ---- one layer of each, with what its parts become in their places
 
-abbrev pub dom_step : Dom-F pure.Dom (With Ends) pure.Ex Item (With pure.Step) (With Mark) (Text × pure.Dom) (Text × pure.Ex) pure.Ex pure.Ex → pure.Dom
+-- A layer whose parts are what they become: domains, ranges, expressions, generators, steps, attributes, fields of domains
+-- and of literals, pairs, views.
+abbrev pub Level : (Type 0 → Type 0 → Type 0 → Type 0 → Type 0 → Type 0 → Type 0 → Type 0 → Type 0 → Type 0 → Type 0) → Type 0
+Level F = F pure.Dom (With Ends) pure.Ex Item (With pure.Step) (With Mark) (Text × pure.Dom) (Text × pure.Ex) pure.Ex pure.Ex
+
+abbrev pub dom_step : Level Dom-F → pure.Dom
 dom_step Dom-F.Bool = bool_dom
 dom_step (Dom-F.Int rs) = int_dom (words_of rs) (exs_of (within rs))
 dom_step (Dom-F.Dom::Name a) = name_dom a
@@ -123,24 +129,30 @@ dom_step (Dom-F.Dom::Function ms d e) = function_dom (words_of ms) (exs_of (with
 dom_step (Dom-F.Dom::Relation ms ds) = relation_dom (words_of ms) (exs_of (within ms)) (doms_of ds)
 dom_step (Dom-F.Dom::Partition ms d) = partition_dom (words_of ms) (exs_of (within ms)) d
 
-abbrev pub field_dom_step : FieldDom-F pure.Dom (With Ends) pure.Ex Item (With pure.Step) (With Mark) (Text × pure.Dom) (Text × pure.Ex) pure.Ex pure.Ex → Text × pure.Dom
+abbrev pub field_dom_step : Level FieldDom-F → Text × pure.Dom
 field_dom_step f = (f.name, f.dom)
 
-abbrev pub range_step : Range-F pure.Dom (With Ends) pure.Ex Item (With pure.Step) (With Mark) (Text × pure.Dom) (Text × pure.Ex) pure.Ex pure.Ex → With Ends
+abbrev pub range_step : Level Range-F → With Ends
 range_step (Range-F.Range::One e) = (one_value, e ∷ [])
 range_step (Range-F.Span low high) = span low high
 
-abbrev pub attr_step : Attr-F pure.Dom (With Ends) pure.Ex Item (With pure.Step) (With Mark) (Text × pure.Dom) (Text × pure.Ex) pure.Ex pure.Ex → With Mark
+abbrev pub attr_step : Level Attr-F → With Mark
 attr_step a = attribute a.key a.value
 
+-- The mark of a call. A word says itself whether it is Boolean; the mark that a call carries turns it, so that each tree has
+-- a view of its own: `image` is Boolean where its call is marked, and no other call is marked.
+abbrev pub call_mark : Bool → Fun → Bool
+call_mark false f = is_truth_word f
+call_mark true f = not (is_truth_word f)
+
 -- The word of a node says whether it is Boolean; an index, an application and a call of `image` say so themselves.
-abbrev pub ex_step : Ex-F pure.Dom (With Ends) pure.Ex Item (With pure.Step) (With Mark) (Text × pure.Dom) (Text × pure.Ex) pure.Ex pure.Ex → pure.Ex
+abbrev pub ex_step : Level Ex-F → pure.Ex
 ex_step (Ex-F.Num n) = number_ex n
 ex_step (Ex-F.Truth b) = truth_ex b
 ex_step (Ex-F.Ex::Name a) = name_ex a
 ex_step (Ex-F.Ex::One o a) = ex1 (is_truth_op1 o) o a
 ex_step (Ex-F.Two o a b) = ex2 (is_truth_op2 o) o a b
-ex_step (Ex-F.Call b f es) = node_ex (b || is_truth_word f) (word f) (exs_of es)
+ex_step (Ex-F.Call b f es) = node_ex (call_mark b f) (word f) (exs_of es)
 ex_step (Ex-F.At b e ss) = node_ex b (index (words_of ss)) (more_exs e (exs_of (within ss)))
 ex_step (Ex-F.Apply b f es) = node_ex b application (more_exs f (exs_of es))
 ex_step (Ex-F.Ex::Tuple es) = node_ex false tuple_literal (exs_of es)
@@ -155,24 +167,24 @@ ex_step (Ex-F.Comp e gs) = comp_ex e (gens_of gs)
 ex_step (Ex-F.Cell b n es) = cell_ex b n (exs_of es)
 ex_step (Ex-F.Seen v) = v
 
-abbrev pub step_step : Step-F pure.Dom (With Ends) pure.Ex Item (With pure.Step) (With Mark) (Text × pure.Dom) (Text × pure.Ex) pure.Ex pure.Ex → With pure.Step
+abbrev pub step_step : Level Step-F → With pure.Step
 step_step (Step-F.Value e) = (by_value, e ∷ [])
 step_step (Step-F.Component k) = (to_component k, [])
 step_step (Step-F.Field a) = (to_field a, [])
 
-abbrev pub field_ex_step : FieldEx-F pure.Dom (With Ends) pure.Ex Item (With pure.Step) (With Mark) (Text × pure.Dom) (Text × pure.Ex) pure.Ex pure.Ex → Text × pure.Ex
+abbrev pub field_ex_step : Level FieldEx-F → Text × pure.Ex
 field_ex_step f = (f.name, f.ex)
 
 -- A pair of a function literal is a tuple.
-abbrev pub pair_ex_step : PairEx-F pure.Dom (With Ends) pure.Ex Item (With pure.Step) (With Mark) (Text × pure.Dom) (Text × pure.Ex) pure.Ex pure.Ex → pure.Ex
+abbrev pub pair_ex_step : Level PairEx-F → pure.Ex
 pair_ex_step p = node_ex false tuple_literal (more_exs p.from (more_exs p.to no_exs))
 
-abbrev pub gen_step : Gen-F pure.Dom (With Ends) pure.Ex Item (With pure.Step) (With Mark) (Text × pure.Dom) (Text × pure.Ex) pure.Ex pure.Ex → Item
+abbrev pub gen_step : Level Gen-F → Item
 gen_step (Gen-F.Over p d) = over_item (pure_pat p) d
 gen_step (Gen-F.From p e) = from_item (pure_pat p) e
 gen_step (Gen-F.If e) = cond_item e
 
-abbrev pub view_step : View-F pure.Dom (With Ends) pure.Ex Item (With pure.Step) (With Mark) (Text × pure.Dom) (Text × pure.Ex) pure.Ex pure.Ex → pure.Ex
+abbrev pub view_step : Level View-F → pure.Ex
 view_step v = seen_ex (pure_repr v.repr) v.dom v.cells (exs_of v.at)
 
 -- ---- the pure trees
