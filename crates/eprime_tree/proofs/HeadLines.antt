@@ -1,13 +1,12 @@
 -- The lines of the header of any text are lines that a header may have.
-use Rattle.std.proofs.Common.{◌≡◌, refl, ◌≤◌, Bool, true, false, ◌&&◌, not, List, [], ◌∷◌, ℕ, zero, suc, length, take, Option, Some, None, arith}
+use Rattle.std.proofs.Common.{◌≡◌, refl, ◌≤◌, Bool, true, false, ◌&&◌, not, List, [], ◌∷◌, ℕ, zero, suc, length, Option, Some, None, arith}
 use Rattle.std.specs.Prelude.{codes, if◌then◌else◌}
 use Rattle.std.specs.List.{list_all, position_or_len}
-use Rattle.std.specs.Str.{is_utf8}
+use Rattle.std.specs.Str.{is_utf8, bytes_eq}
 use Rattle.ess_semantics.specs.Values.{Text}
 use Rattle.ess_semantics.proofs.Tests.{and-left, and-right, and-both}
 use Rattle.ess_grammar.specs.ModelTexts.{behind_language_line, first_line, next_lines, behind_mark, marked_lines, lines_under_language_line, utf8_lines, header_lines}
 use Rattle.ess_grammar.specs.Places.{is_line_feed}
-use Rattle.ess_grammar.specs.Words.{same_text}
 use Rattle.ess_grammar.proofs.Runs.{within_run}
 use Rattle.eprime_tree.specs.ModelText.{is_head_line}
 
@@ -21,7 +20,7 @@ first-one_line t = within_run (λ b. not (is_line_feed b)) (position_or_len is_l
 mark-one_line : (x l : Text) → behind_mark x ≡ Some l → one_line x ≡ true → one_line l ≡ true
 mark-one_line [] l e h = cc
 mark-one_line (a ∷ []) l e h = cc
-mark-one_line (a ∷ b ∷ bs) l e h = go (same_text (a ∷ b ∷ []) (codes "$ ")) e
+mark-one_line (a ∷ b ∷ bs) l e h = go (bytes_eq (a ∷ b ∷ []) (codes "$ ")) e
   where
     rest : one_line bs ≡ true
     rest = and-right (not (is_line_feed b)) (one_line bs) (and-right (not (is_line_feed a)) (one_line (b ∷ bs)) h)

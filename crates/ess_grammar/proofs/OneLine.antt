@@ -1,10 +1,12 @@
 -- A token has at least one byte, and no line feed.
-use Rattle.std.proofs.Common.{◌≡◌, refl, sym, ap, ◌∙◌, subst, ℕ, zero, suc, ◌≤◌, ◌<◌, Bool, true, false, not, List, [], ◌∷◌, length, take, drop, Option, Some, None, nat_eq, arith, ◌⊎◌, inl, inr, ⊎_elim, cond}
+use Rattle.std.proofs.Common.{◌≡◌, refl, sym, ap, ◌∙◌, subst, ℕ, zero, suc, ◌≤◌, ◌<◌, Bool, true, false, not, List, [], ◌∷◌, length, take, drop, Option, Some, None, nat_eq, arith, ◌⊎◌, inl, inr, ⊎_elim, cond, if◌then◌else◌}
 use Rattle.std.proofs.lemmas.List.Sums.{sum_by-cons}
 use Rattle.std.proofs.lemmas.Bool.{and_parts, false_from_ne_true, eqb-true, and_from, or_left}
 use Rattle.std.proofs.lemmas.Slice.Eq.{bytes_eq-Decides}
 use Rattle.std.specs.List.{list_all}
-use Rattle.ess_grammar.specs.Words.{Text, Token, number, prime_word, same_text, look, symbols, lex_symbols}
+use Rattle.std.specs.Str.{bytes_eq}
+use Rattle.ess_semantics.specs.Names.{look_by}
+use Rattle.ess_grammar.specs.Words.{Text, Token, number, prime_word, symbols, lex_symbols}
 use Rattle.ess_grammar.specs.Places.{is_line_feed, lines_before}
 use Rattle.ess_grammar.specs.Tokens.{is_digit, is_letter, is_name_byte, is_number, is_name, name_or_word, prime_text, begins_with_name_byte, symbol_of, token_of, or_else, only_if, value_of, longest, longest_token}
 use Rattle.ess_grammar.proofs.Longest.{Reader, Reads, chosen}
@@ -33,21 +35,21 @@ one_line p (b ∷ t) h k =
 abbrev no_feeds : List (Text × Token) → Bool
 no_feeds es = list_all (λ e. nat_eq (lines_before e.0) 0) es
 
-one_line_entry : (es : List (Text × Token)) (s : Text) (x : Token) → no_feeds es ≡ true → look es s ≡ Some x → lines_before s ≡ 0
+one_line_entry : (es : List (Text × Token)) (s : Text) (x : Token) → no_feeds es ≡ true → look_by bytes_eq es s ≡ Some x → lines_before s ≡ 0
 one_line_entry [] s x h k = cc
 one_line_entry ((c, y) ∷ es) s x h k =
     let parts = and_parts (nat_eq (lines_before c) 0) (no_feeds es) h in
-    go (same_text c s) refl k parts.0 (one_line_entry es s x parts.1)
+    go (bytes_eq c s) refl k parts.0 (one_line_entry es s x parts.1)
   where
-    go : (i : Bool) → same_text c s ≡ i → elim i [ true ↦ Some y | false ↦ look es s ] ≡ Some x → nat_eq (lines_before c) 0 ≡ true → (look es s ≡ Some x → lines_before s ≡ 0) → lines_before s ≡ 0
+    go : (i : Bool) → bytes_eq c s ≡ i → (if i then Some y else look_by bytes_eq es s) ≡ Some x → nat_eq (lines_before c) 0 ≡ true → (look_by bytes_eq es s ≡ Some x → lines_before s ≡ 0) → lines_before s ≡ 0
     go true e k here below = subst (λ t. lines_before t ≡ 0) ((bytes_eq-Decides c s).0 e) (eqb-true (lines_before c) 0 here)
     go false e k here below = below k
 
 one_line_symbol : (t rest : Text) (x : Token) → symbol_of t rest ≡ Some x → lines_before t ≡ 0
 one_line_symbol t rest x h = ⊎_elim
     (λ e. one_line_entry symbols t x refl e)
-    (λ e. one_line_entry lex_symbols t x refl (only_if-is (not (begins_with_name_byte rest)) (look lex_symbols t) x e).1)
-    (or_else-is (look symbols t) (only_if (not (begins_with_name_byte rest)) (look lex_symbols t)) x h)
+    (λ e. one_line_entry lex_symbols t x refl (only_if-is (not (begins_with_name_byte rest)) (look_by bytes_eq lex_symbols t) x e).1)
+    (or_else-is (look_by bytes_eq symbols t) (only_if (not (begins_with_name_byte rest)) (look_by bytes_eq lex_symbols t)) x h)
 
 one_line_number : (t : Text) → is_number t ≡ true → lines_before t ≡ 0
 one_line_number [] h = cc
@@ -65,11 +67,11 @@ one_line_token t rest x h = ⊎_elim
     (λ h. ⊎_elim
     (λ e. one_line_name t (only_if-is (is_name t) (name_or_word t) x e).0)
     (λ h. ⊎_elim
-    (λ e. subst (λ s. lines_before s ≡ 0) (sym ((bytes_eq-Decides t prime_text).0 (only_if-is (same_text t prime_text) (Some prime_word) x e).0)) refl)
+    (λ e. subst (λ s. lines_before s ≡ 0) (sym ((bytes_eq-Decides t prime_text).0 (only_if-is (bytes_eq t prime_text) (Some prime_word) x e).0)) refl)
     (λ e. one_line_symbol t rest x e)
-    (or_else-is (only_if (same_text t prime_text) (Some prime_word)) (symbol_of t rest) x h))
-    (or_else-is (only_if (is_name t) (name_or_word t)) (or_else (only_if (same_text t prime_text) (Some prime_word)) (symbol_of t rest)) x h))
-    (or_else-is (only_if (is_number t) (Some (number (value_of t)))) (or_else (only_if (is_name t) (name_or_word t)) (or_else (only_if (same_text t prime_text) (Some prime_word)) (symbol_of t rest))) x h)
+    (or_else-is (only_if (bytes_eq t prime_text) (Some prime_word)) (symbol_of t rest) x h))
+    (or_else-is (only_if (is_name t) (name_or_word t)) (or_else (only_if (bytes_eq t prime_text) (Some prime_word)) (symbol_of t rest)) x h))
+    (or_else-is (only_if (is_number t) (Some (number (value_of t)))) (or_else (only_if (is_name t) (name_or_word t)) (or_else (only_if (bytes_eq t prime_text) (Some prime_word)) (symbol_of t rest))) x h)
 
 -- the first k bytes are read as x
 abbrev pub ReadAt : Reader → ℕ → ℕ → Text → Token → Type 0

@@ -1,12 +1,14 @@
 -- The tokens of a text without words outside the subset are proper. So what the rules give for a text that is read is readable.
-use Rattle.std.proofs.Common.{◌≡◌, refl, sym, ap, subst, ℕ, zero, suc, ◌^◌, Bool, true, false, ◌&&◌, not, List, [], ◌∷◌, ◌++◌, take, drop, length, Option, Some, None}
+use Rattle.std.proofs.Common.{◌≡◌, refl, sym, ap, subst, ℕ, zero, suc, ◌^◌, Bool, true, false, ◌&&◌, not, List, [], ◌∷◌, ◌++◌, take, drop, length, Option, Some, None, if◌then◌else◌}
 use borrow.Author.Tests.{leb-false, lt-ltb}
 use Rattle.std.specs.Option.{is_some, option_map}
+use Rattle.std.specs.Str.{bytes_eq}
 use Rattle.ess_rows.specs.declared.place.Place.{Place}
 use Rattle.ess_semantics.specs.Values.{Text}
 use Rattle.ess_semantics.specs.Trees.{Stm}
+use Rattle.ess_semantics.specs.Names.{look_by}
 use Rattle.ess_semantics.proofs.Tests.{and-left, and-right, and-both}
-use Rattle.ess_grammar.specs.Words.{Token, number, name, prime_word, word, operator, function, symbol, look, same_text, words, symbols, lex_symbols, is_outside}
+use Rattle.ess_grammar.specs.Words.{Token, number, name, prime_word, word, operator, function, symbol, words, symbols, lex_symbols, is_outside}
 use Rattle.ess_grammar.specs.Places.{place}
 use Rattle.ess_grammar.specs.Tokens.{is_name, is_number, is_white, begins_comment, begins_with_name_byte, comment_length, value_of, or_else, only_if, name_or_word, symbol_of, prime_text, token_of, longest, longest_token, is_wide, Lexed, the_end, bad_byte, wide_number, next_token, token_first, first, lexed_in, lexed, tokens_in, tokens, first_outside}
 use Rattle.ess_grammar.specs.Readable.{ReadableStms, ReadableLettings}
@@ -16,7 +18,7 @@ use Rattle.ess_grammar.proofs.ReadableStatements.{specification-readable, lettin
 
 -- a name token is a name and no reserved word
 abbrev is_named : Token → Bool
-is_named (name a) = is_name a && not (is_some (look words a))
+is_named (name a) = is_name a && not (is_some (look_by bytes_eq words a))
 is_named t = true
 
 abbrev is_nameless : Token → Bool
@@ -39,10 +41,14 @@ by_test : {X : Type 0} (b : Bool) (P : X → Type 0) (x y : X) → (b ≡ true �
 by_test true P x y f g = f refl
 by_test false P x y f g = g refl
 
-table-named : (es : List (Text × Token)) (t : Text) → are_nameless es ≡ true → Named (look es t)
+by_choice : {X : Type 0} (b : Bool) (P : X → Type 0) (x y : X) → (b ≡ true → P x) → (b ≡ false → P y) → P (if b then x else y)
+by_choice true P x y f g = f refl
+by_choice false P x y f g = g refl
+
+table-named : (es : List (Text × Token)) (t : Text) → are_nameless es ≡ true → Named (look_by bytes_eq es t)
 table-named [] t h = tt
 table-named (e ∷ es) t h =
-    by_test (same_text e.0 t) Named (Some e.1) (look es t)
+    by_choice (bytes_eq e.0 t) Named (Some e.1) (look_by bytes_eq es t)
     (λ q. nameless-named e.1 (and-left (is_nameless e.1) (are_nameless es) h)) (λ q. table-named es t (and-right (is_nameless e.1) (are_nameless es) h))
 
 either-named : (o p : Option Token) → Named o → Named p → Named (or_else o p)
@@ -53,24 +59,24 @@ only-named : (b : Bool) (o : Option Token) → (b ≡ true → Named o) → Name
 only-named true o h = h refl
 only-named false o h = tt
 
-word-named : (o : Option Token) (t : Text) → Named o → is_name t ≡ true → o ≡ look words t → Named (or_else o (Some (name t)))
-word-named None t h k q = and-both (is_name t) (not (is_some (look words t))) k (ap (λ o. not (is_some o)) (sym q))
+word-named : (o : Option Token) (t : Text) → Named o → is_name t ≡ true → o ≡ look_by bytes_eq words t → Named (or_else o (Some (name t)))
+word-named None t h k q = and-both (is_name t) (not (is_some (look_by bytes_eq words t))) k (ap (λ o. not (is_some o)) (sym q))
 word-named (Some x) t h k q = h
 
 symbol-named : (t rest : Text) → Named (symbol_of t rest)
 symbol-named t rest =
-    either-named (look symbols t) (only_if (not (begins_with_name_byte rest)) (look lex_symbols t))
-    (table-named symbols t refl) (only-named (not (begins_with_name_byte rest)) (look lex_symbols t) (λ h. table-named lex_symbols t refl))
+    either-named (look_by bytes_eq symbols t) (only_if (not (begins_with_name_byte rest)) (look_by bytes_eq lex_symbols t))
+    (table-named symbols t refl) (only-named (not (begins_with_name_byte rest)) (look_by bytes_eq lex_symbols t) (λ h. table-named lex_symbols t refl))
 
 token-named : (t rest : Text) → Named (token_of t rest)
 token-named t rest =
     either-named (only_if (is_number t) (Some (number (value_of t))))
-    (or_else (only_if (is_name t) (name_or_word t)) (or_else (only_if (same_text t prime_text) (Some prime_word)) (symbol_of t rest)))
+    (or_else (only_if (is_name t) (name_or_word t)) (or_else (only_if (bytes_eq t prime_text) (Some prime_word)) (symbol_of t rest)))
     (only-named (is_number t) (Some (number (value_of t))) (λ h. refl))
-    (either-named (only_if (is_name t) (name_or_word t)) (or_else (only_if (same_text t prime_text) (Some prime_word)) (symbol_of t rest))
-    (only-named (is_name t) (name_or_word t) (λ h. word-named (look words t) t (table-named words t refl) h refl))
-    (either-named (only_if (same_text t prime_text) (Some prime_word)) (symbol_of t rest)
-    (only-named (same_text t prime_text) (Some prime_word) (λ h. refl)) (symbol-named t rest)))
+    (either-named (only_if (is_name t) (name_or_word t)) (or_else (only_if (bytes_eq t prime_text) (Some prime_word)) (symbol_of t rest))
+    (only-named (is_name t) (name_or_word t) (λ h. word-named (look_by bytes_eq words t) t (table-named words t refl) h refl))
+    (either-named (only_if (bytes_eq t prime_text) (Some prime_word)) (symbol_of t rest)
+    (only-named (bytes_eq t prime_text) (Some prime_word) (λ h. refl)) (symbol-named t rest)))
 
 abbrev NamedFirst : Option (Token × ℕ) → Type 0
 NamedFirst None = Unit {0}
@@ -114,8 +120,8 @@ lexed-named (suc turns) before text = first-named (place before) text (λ n. lex
 named-proper : (t : Token) → is_named t ≡ true → is_wide t ≡ false → is_outside t ≡ false → is_proper t ≡ true
 named-proper (number n) h w o = lt-ltb n (2 ^ 63) (leb-false (2 ^ 63) n w)
 named-proper (name a) h w o =
-    and-both (is_name a) (not (is_some (look words a)) && not (is_outside (name a))) (and-left (is_name a) (not (is_some (look words a))) h)
-    (and-both (not (is_some (look words a))) (not (is_outside (name a))) (and-right (is_name a) (not (is_some (look words a))) h) (ap not o))
+    and-both (is_name a) (not (is_some (look_by bytes_eq words a)) && not (is_outside (name a))) (and-left (is_name a) (not (is_some (look_by bytes_eq words a))) h)
+    (and-both (not (is_some (look_by bytes_eq words a))) (not (is_outside (name a))) (and-right (is_name a) (not (is_some (look_by bytes_eq words a))) h) (ap not o))
 named-proper prime_word h w o = refl
 named-proper (word x) h w o = refl
 named-proper (operator x) h w o = refl

@@ -4,7 +4,8 @@ use Rattle.std.proofs.lemmas.Bool.{cases_Bool, and_from, and_left, and_right, fa
 use Rattle.std.proofs.lemmas.Slice.Eq.{bytes_eq-Decides}
 use Rattle.std.proofs.lemmas.List.Sums.{prefix_len-le-length}
 use Rattle.std.specs.List.{list_all, prefix_len}
-use Rattle.ess_grammar.specs.Words.{Text, Token, number, prime_word, same_text}
+use Rattle.std.specs.Str.{bytes_eq}
+use Rattle.ess_grammar.specs.Words.{Text, Token, number, prime_word}
 use Rattle.ess_grammar.specs.Tokens.{is_digit, is_letter, is_name_byte, name_or_word, prime_text, token_of, or_else, only_if, value_of, longest_token}
 use Rattle.ess_grammar.proofs.Longest.{Reads, longest-is}
 use Rattle.ess_grammar.proofs.ByFirstByte.{token_of-letter, token_of-digit}
@@ -37,11 +38,11 @@ past_run p (suc n) (b ∷ t) h l = ⊎_elim
 
 -- ---- ESSENCE'
 
-not_prime_by_length : (s : Text) → (length s ≡ 8 → ⊥) → same_text s prime_text ≡ false
-not_prime_by_length s h = false_from_ne_true (same_text s prime_text) (λ q. h (ap length ((bytes_eq-Decides s prime_text).0 q)))
+not_prime_by_length : (s : Text) → (length s ≡ 8 → ⊥) → bytes_eq s prime_text ≡ false
+not_prime_by_length s h = false_from_ne_true (bytes_eq s prime_text) (λ q. h (ap length ((bytes_eq-Decides s prime_text).0 q)))
 
-not_prime_before : (text : Text) (k : ℕ) → (take 8 text ≡ prime_text → ⊥) → k ≤ length text → same_text (take k text) prime_text ≡ false
-not_prime_before text k h l = false_from_ne_true (same_text (take k text) prime_text) (λ q.
+not_prime_before : (text : Text) (k : ℕ) → (take 8 text ≡ prime_text → ⊥) → k ≤ length text → bytes_eq (take k text) prime_text ≡ false
+not_prime_before text k h l = false_from_ne_true (bytes_eq (take k text) prime_text) (λ q.
     let e : take k text ≡ prime_text = (bytes_eq-Decides (take k text) prime_text).0 q in
     let n : length (take k text) ≡ 8 = ap length e in
     let m : k ≡ 8 = omega (arith, n, length-take k text) in
@@ -50,7 +51,7 @@ not_prime_before text k h l = false_from_ne_true (same_text (take k text) prime_
 prime_run : (r : Text) → longest_token (prime_text ++ r) ≡ Some (prime_word, 8)
 prime_run r = longest-is token_of 7 (length (prime_text ++ r)) (prime_text ++ r) prime_word (omega arith) refl longer
   where
-    not_longer : (k : ℕ) → 8 < k → k ≤ length (prime_text ++ r) → same_text (take k (prime_text ++ r)) prime_text ≡ false
+    not_longer : (k : ℕ) → 8 < k → k ≤ length (prime_text ++ r) → bytes_eq (take k (prime_text ++ r)) prime_text ≡ false
     not_longer k h l = not_prime_by_length (take k (prime_text ++ r)) (λ e. omega (arith, e, length-take k (prime_text ++ r)))
 
     longer : (k : ℕ) → 8 < k → k ≤ length (prime_text ++ r) → Reads token_of k (prime_text ++ r) None
@@ -59,7 +60,7 @@ prime_run r = longest-is token_of 7 (length (prime_text ++ r)) (prime_text ++ r)
         let t : Text = codes "SSENCE'" ++ r in
         let e : list_all is_name_byte (take j t) ≡ false = past_run is_name_byte j t (omega arith) (omega arith) in
         token_of-letter 69 (take j t) (drop j t) refl
-        ∙ ap (λ i. or_else (only_if i (name_or_word (69 ∷ take j t))) (or_else (only_if (same_text (69 ∷ take j t) prime_text) (Some prime_word)) None)) e
+        ∙ ap (λ i. or_else (only_if i (name_or_word (69 ∷ take j t))) (or_else (only_if (bytes_eq (69 ∷ take j t) prime_text) (Some prime_word)) None)) e
         ∙ ap (λ i. or_else (only_if i (Some prime_word)) None) (not_longer (suc j) h l)
 
 -- ESSENCE' is one token, whatever follows
@@ -80,14 +81,14 @@ name_run b t w h q k =
     here : (n : ℕ) → n ≡ prefix_len is_name_byte t → Reads token_of (suc n) (b ∷ t) (Some w)
     here n e =
         token_of-letter b (take n t) (drop n t) h
-        ∙ ap (λ i. or_else (only_if i (name_or_word (b ∷ take n t))) (or_else (only_if (same_text (b ∷ take n t) prime_text) (Some prime_word)) None)) (within_run is_name_byte n t (omega (arith, e)))
-        ∙ ap (λ o. or_else o (or_else (only_if (same_text (b ∷ take n t) prime_text) (Some prime_word)) None)) (ap (λ m. name_or_word (b ∷ take m t)) e ∙ k)
+        ∙ ap (λ i. or_else (only_if i (name_or_word (b ∷ take n t))) (or_else (only_if (bytes_eq (b ∷ take n t) prime_text) (Some prime_word)) None)) (within_run is_name_byte n t (omega (arith, e)))
+        ∙ ap (λ o. or_else o (or_else (only_if (bytes_eq (b ∷ take n t) prime_text) (Some prime_word)) None)) (ap (λ m. name_or_word (b ∷ take m t)) e ∙ k)
 
     longer : (n : ℕ) → n ≡ prefix_len is_name_byte t → (k : ℕ) → suc n < k → k ≤ length (b ∷ t) → Reads token_of k (b ∷ t) None
     longer n e zero i l = absurd (omega arith)
     longer n e (suc j) i l =
         token_of-letter b (take j t) (drop j t) h
-        ∙ ap (λ i. or_else (only_if i (name_or_word (b ∷ take j t))) (or_else (only_if (same_text (b ∷ take j t) prime_text) (Some prime_word)) None)) (past_run is_name_byte j t (omega (arith, e)) (omega arith))
+        ∙ ap (λ i. or_else (only_if i (name_or_word (b ∷ take j t))) (or_else (only_if (bytes_eq (b ∷ take j t) prime_text) (Some prime_word)) None)) (past_run is_name_byte j t (omega (arith, e)) (omega arith))
         ∙ ap (λ i. or_else (only_if i (Some prime_word)) None) (not_prime_before (b ∷ t) (suc j) q l)
 
 letter_is_name_byte : (b : ℕ) → is_letter b ≡ true → is_name_byte b ≡ true

@@ -1,13 +1,13 @@
 -- Models in Essence Prime as texts (the Conjure manual, chapter on its output). A model's expressions and domains are those of
 -- the grammar whose trees are a model's; so extra brackets and quantifiers are read too. The lines of its header are comments.
 use Rattle.std.specs.Prelude.{ℕ, zero, suc, ◌≡◌, Bool, if◌then◌else◌, List, [], ◌∷◌, length, take, drop, Option, Some, None, IsTrue, codes}
-use Rattle.std.specs.Str.{is_utf8}
+use Rattle.std.specs.Str.{is_utf8, bytes_eq}
 use Rattle.std.specs.List.{position_or_len}
 use Rattle.ess_semantics.specs.Values.{Text}
 use Rattle.ess_semantics.specs.Names.{Names}
 use Rattle.ess_semantics.specs.Trees.{Ex, Dom}
 use Rattle.ess_semantics.specs.ModelTrees.{Goal, no_goal, least, greatest, Model}
-use Rattle.ess_grammar.specs.Words.{Token, number, name, prime_word, word, symbol, Word, language_word, given_word, find_word, such_word, that_word, minimising_word, maximising_word, comma, colon, dot, same_text}
+use Rattle.ess_grammar.specs.Words.{Token, number, name, prime_word, word, symbol, Word, language_word, given_word, find_word, such_word, that_word, minimising_word, maximising_word, comma, colon, dot}
 use Rattle.ess_grammar.specs.Places.{is_line_feed}
 use Rattle.ess_grammar.specs.Tokens.{is_white, begins_comment, comment_length, longest_token}
 use Rattle.ess_grammar.specs.Patterns.{Shape}
@@ -79,7 +79,7 @@ next_lines text = drop (suc (position_or_len is_line_feed text)) text
 
 -- What stands in a line of the header behind `$ `, where the line begins so.
 abbrev pub behind_mark : Text → Option Text
-behind_mark (a ∷ b ∷ bs) = if same_text (a ∷ b ∷ []) (codes "$ ") then Some bs else None
+behind_mark (a ∷ b ∷ bs) = if bytes_eq (a ∷ b ∷ []) (codes "$ ") then Some bs else None
 behind_mark bs = None
 
 -- The lines from the first line on that begin so, up to the first other line.

@@ -3,11 +3,12 @@
 -- a pattern, so the rules of the grammar say of each expression how it is written, and read a pattern as an expression.
 use Rattle.std.specs.Prelude.{Bool, true, false, ◌&&◌, ◌||◌, not, List, [], ◌∷◌, ◌++◌}
 use Rattle.std.specs.List.{list_any}
+use Rattle.std.specs.Str.{bytes_eq}
 use Rattle.ess_semantics.specs.declared.words.Op2.{Op2}
 use Rattle.ess_semantics.specs.declared.words.Fun.{Fun}
 use Rattle.ess_semantics.specs.Values.{Text}
 use Rattle.ess_semantics.specs.Trees.{Op, Pat, Pats, name_pat, tuple_pat, no_pats, more_pats, Ex, Exs, name_ex, node_ex, no_exs, more_exs, Dom, Gens, over, from}
-use Rattle.ess_grammar.specs.Words.{Token, symbol, open_round, same_text}
+use Rattle.ess_grammar.specs.Words.{Token, symbol, open_round}
 
 -- How an expression is written: as a pattern (a name, or two or more patterns in round brackets), as a pattern x with
 -- `in` behind it (and maybe more), or otherwise. `(y)` and `tuple (x, y)` are no patterns.
@@ -79,7 +80,7 @@ pub data Place : Type 0 where
 
 -- Whether the expression is one of these names, which earlier items of the list bind.
 abbrev pub is_bound_name : List Text → Ex → Bool
-is_bound_name bs (name_ex a) = list_any (same_text a) bs
+is_bound_name bs (name_ex a) = list_any (bytes_eq a) bs
 is_bound_name bs _ = false
 
 -- Whether the patterns are one bound name alone: with `in` behind it, it begins a condition.

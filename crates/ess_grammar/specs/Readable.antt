@@ -4,17 +4,19 @@
 use Rattle.std.specs.Prelude.{◌≡◌, ◌^◌, Bool, true, false, ◌&&◌, not, List, [], ◌∷◌, ℤ, pos, negsuc, IsTrue, nat_lt}
 use Rattle.std.specs.Option.{is_some}
 use Rattle.std.specs.Ordering.{is_le}
+use Rattle.std.specs.Str.{bytes_eq}
 use Rattle.ess_semantics.specs.Values.{Text}
 use Rattle.ess_semantics.specs.Order.{order_text}
 use Rattle.ess_semantics.specs.Trees.{Step, by_value, Op, unary, binary, index, application, tuple_literal, set_literal, mset_literal, function_literal, relation_literal, partition_literal, matrix_literal, record_literal, Ends, one_value, both_ends, low_end, high_end, Mark, flag, valued, Pat, Pats, name_pat, tuple_pat, no_pats, more_pats, Ex, Exs, number_ex, truth_ex, name_ex, node_ex, matrix_ex, comp_ex, cell_ex, seen_ex, no_exs, more_exs, Gens, no_gens, over, from, cond, Dom, bool_dom, int_dom, name_dom, tuple_dom, record_dom, matrix_dom, set_dom, mset_dom, function_dom, relation_dom, partition_dom, Doms, no_doms, more_doms, Stm, given, given_enum, let_ex, let_dom, let_enum, let_unnamed, needs, find, such_that, minimise, maximise, is_truth_op}
-use Rattle.ess_grammar.specs.Words.{name, look, words, is_outside}
+use Rattle.ess_semantics.specs.Names.{look_by}
+use Rattle.ess_grammar.specs.Words.{name, words, is_outside}
 use Rattle.ess_grammar.specs.Tokens.{is_name}
 
 -- ---- names and numbers
 
 -- Whether the text is a name token of a text that is read: a name that is no reserved word and no word outside the subset.
 abbrev pub is_name_token : Text → Bool
-is_name_token a = is_name a && (not (is_some (look words a)) && not (is_outside (name a)))
+is_name_token a = is_name a && (not (is_some (look_by bytes_eq words a)) && not (is_outside (name a)))
 
 -- Whether all are.
 abbrev pub are_name_tokens : List Text → Bool

@@ -2,10 +2,12 @@
 -- between (the names of kinds are those of the Conjure manual's representations). Whether a representation fits a domain
 -- isn't said here.
 use Rattle.std.specs.Prelude.{◌≡◌, List, [], ◌∷◌, Option, Some, codes}
+use Rattle.std.specs.Str.{bytes_eq}
 use Rattle.ess_semantics.specs.declared.words.ReprKind.{ReprKind}
 use Rattle.ess_semantics.specs.Values.{Text}
 use Rattle.ess_semantics.specs.Trees.{Repr, Reprs, repr, no_reprs, more_reprs}
-use Rattle.ess_grammar.specs.Words.{Token, name, symbol, open_square, close_square, comma, look}
+use Rattle.ess_semantics.specs.Names.{look_by}
+use Rattle.ess_grammar.specs.Words.{Token, name, symbol, open_square, close_square, comma}
 
 -- The names of the kinds.
 abbrev pub kinds : List (Text × ReprKind)
@@ -24,7 +26,7 @@ kinds =
 
 -- The kind that a name is, where it is one.
 abbrev pub kind_of : Text → Option ReprKind
-kind_of a = look kinds a
+kind_of a = look_by bytes_eq kinds a
 
 mutual
   -- A representation.

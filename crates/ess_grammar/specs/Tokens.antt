@@ -2,11 +2,13 @@
 use Rattle.std.specs.Prelude.{◌≡◌, ◌<◌, slice_index, ℕ, zero, suc, ◌^◌, Bool, true, false, ◌||◌, not, List, [], ◌∷◌, ◌++◌, length, take, drop, Option, Some, None, nat_eq, nat_le, codes}
 use Rattle.std.specs.Option.{option_map}
 use Rattle.std.specs.List.{position_or_len}
+use Rattle.std.specs.Str.{bytes_eq}
 use Rattle.ess_rows.specs.declared.place.Place.{Place}
 use Rattle.ess_semantics.specs.Values.{Text}
 pub use Rattle.ess_semantics.specs.Lists.{or_else}
 pub use Rattle.ess_semantics.specs.NameTokens.{is_digit, are_digits, value_after, is_letter, is_name_byte, is_name}
-use Rattle.ess_grammar.specs.Words.{Token, number, name, prime_word, same_text, look, words, symbols, lex_symbols, is_outside}
+use Rattle.ess_semantics.specs.Names.{look_by}
+use Rattle.ess_grammar.specs.Words.{Token, number, name, prime_word, words, symbols, lex_symbols, is_outside}
 use Rattle.ess_grammar.specs.Places.{is_line_feed, place}
 
 -- ---- bytes
@@ -45,18 +47,18 @@ only_if false o = None
 
 -- a reserved word, or a name
 abbrev pub name_or_word : Text → Option Token
-name_or_word t = or_else (look words t) (Some (name t))
+name_or_word t = or_else (look_by bytes_eq words t) (Some (name t))
 
 -- the symbol that the bytes t are, where the bytes `rest` follow
 abbrev pub symbol_of : Text → Text → Option Token
-symbol_of t rest = or_else (look symbols t) (only_if (not (begins_with_name_byte rest)) (look lex_symbols t))
+symbol_of t rest = or_else (look_by bytes_eq symbols t) (only_if (not (begins_with_name_byte rest)) (look_by bytes_eq lex_symbols t))
 
 -- the token that the bytes t are, where the bytes `rest` follow
 abbrev pub token_of : Text → Text → Option Token
 token_of t rest =
     or_else (only_if (is_number t) (Some (number (value_of t))))
     (or_else (only_if (is_name t) (name_or_word t))
-    (or_else (only_if (same_text t prime_text) (Some prime_word))
+    (or_else (only_if (bytes_eq t prime_text) (Some prime_word))
     (symbol_of t rest)))
 
 -- the longest first part of a text, of at most n bytes, that is a token by `reads`, and its number of bytes

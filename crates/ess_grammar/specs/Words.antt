@@ -1,11 +1,12 @@
 -- The tokens of a text, with the words and symbols of the language (Essence, Constraints 13, 2008; the names of
 -- functions and attributes as in the Conjure manual).
-use Rattle.std.specs.Prelude.{ℕ, Bool, true, false, List, [], ◌∷◌, Option, Some, None, codes}
+use Rattle.std.specs.Prelude.{ℕ, Bool, true, false, List, [], ◌∷◌, Option, codes}
 use Rattle.std.specs.List.{list_any}
 use Rattle.std.specs.Str.{bytes_eq}
 use Rattle.ess_semantics.specs.declared.words.Op2.{Op2}
 use Rattle.ess_semantics.specs.declared.words.Fun.{Fun}
 use Rattle.ess_semantics.specs.declared.words.Key.{Key}
+use Rattle.ess_semantics.specs.Names.{look_by}
 pub use Rattle.ess_semantics.specs.Values.{Text}
 pub use Rattle.ess_semantics.specs.NameTokens.{outside}
 
@@ -30,15 +31,6 @@ pub data Token : Type 0 where
   operator : Op2 → Token
   function : Fun → Token
   symbol : Symbol → Token
-
--- whether two texts are equal
-abbrev pub same_text : Text → Text → Bool
-same_text = bytes_eq
-
--- what a text stands for in a table
-abbrev pub look : {A : Type 0} → List (Text × A) → Text → Option A
-look [] t = None
-look (e ∷ es) t = elim (same_text e.0 t) [ true ↦ Some e.1 | false ↦ look es t ]
 
 -- the reserved words
 abbrev pub words : List (Text × Token)
@@ -100,9 +92,9 @@ keys =
 
 -- the attribute that a name is, where it is one
 abbrev pub key_of : Text → Option Key
-key_of t = look keys t
+key_of t = look_by bytes_eq keys t
 
 -- whether a token is a word outside the subset
 abbrev pub is_outside : Token → Bool
-is_outside (name t) = list_any (same_text t) outside
+is_outside (name t) = list_any (bytes_eq t) outside
 is_outside _ = false

@@ -1,11 +1,13 @@
 -- What stands at the front of a text, from what the code finds there.
-use Rattle.std.proofs.Common.{◌≡◌, refl, sym, ap, ◌∙◌, subst, ℕ, zero, suc, ◌-◌, ◌≤◌, ◌<◌, ◌^◌, min, Bool, true, false, not, cond, List, [], ◌∷◌, length, take, drop, get_or, ℤ, pos, Option, Some, None, nat_eq, arith, is_some, unwrap_or, ◌⊎◌, inl, inr, ⊎_elim}
+use Rattle.std.proofs.Common.{◌≡◌, refl, sym, ap, ◌∙◌, subst, ℕ, zero, suc, ◌-◌, ◌≤◌, ◌<◌, ◌^◌, min, Bool, true, false, not, cond, List, [], ◌∷◌, length, take, drop, get_or, ℤ, pos, Option, Some, None, nat_eq, arith, is_some, unwrap_or, ◌⊎◌, inl, inr, ⊎_elim, if◌then◌else◌}
 use Rattle.std.proofs.lemmas.Bool.{and_parts, false_from_ne_true, eqb-false, not-true, lt-leb, le-leb}
 use Rattle.std.proofs.lemmas.Slice.Eq.{bytes_eq-Decides}
 use Rattle.std.specs.Option.{option_map}
 use Rattle.std.specs.List.{list_all, prefix_len}
+use Rattle.std.specs.Str.{bytes_eq}
+use Rattle.ess_semantics.specs.Names.{look_by}
 use Rattle.ess_grammar.specs.declared.kind.Kind.{Kind}
-use Rattle.ess_grammar.specs.Words.{Text, Token, number, name, prime_word, same_text, look, words, symbols, lex_symbols}
+use Rattle.ess_grammar.specs.Words.{Text, Token, number, name, prime_word, words, symbols, lex_symbols}
 use Rattle.ess_grammar.specs.Kinds.{nat_of, token}
 use Rattle.ess_grammar.specs.Tokens.{is_digit, is_letter, is_name_byte, begins_with_name_byte, name_or_word, prime_text, symbol_of, or_else, only_if, value_of, longest, longest_token, is_wide}
 use Rattle.ess_grammar.proofs.Longest.{longest-shorter, longest-here}
@@ -19,26 +21,26 @@ use Rattle.ess_lex.specs.Scan.{token_at, IsFirstToken, BeginsWide}
 -- ---- tables
 
 -- only entries of the text's length count
-pub look-of_length : (es : List (Text × Token)) (t : Text) → look (of_length (length t) es) t ≡ look es t
+pub look-of_length : (es : List (Text × Token)) (t : Text) → look_by bytes_eq (of_length (length t) es) t ≡ look_by bytes_eq es t
 look-of_length [] t = refl
 look-of_length ((c, x) ∷ es) t = go (nat_eq (length t) (length c)) refl (look-of_length es t)
   where
     kept : List (Text × Token)
     kept = of_length (length t) es
 
-    go : (i : Bool) → nat_eq (length t) (length c) ≡ i → look kept t ≡ look es t → look (cond i ((c, x) ∷ kept) kept) t ≡ look ((c, x) ∷ es) t
-    go true e below = ap (λ r. elim (same_text c t) [ true ↦ Some x | false ↦ r ]) below
+    go : (i : Bool) → nat_eq (length t) (length c) ≡ i → look_by bytes_eq kept t ≡ look_by bytes_eq es t → look_by bytes_eq (cond i ((c, x) ∷ kept) kept) t ≡ look_by bytes_eq ((c, x) ∷ es) t
+    go true e below = ap (λ r. if bytes_eq c t then Some x else r) below
     go false e below =
-        let differs : same_text c t ≡ false = false_from_ne_true (same_text c t) (λ q. eqb-false (length t) (length c) e (ap length (sym ((bytes_eq-Decides c t).0 q)))) in
-        below ∙ sym (ap (λ i. elim i [ true ↦ Some x | false ↦ look es t ]) differs)
+        let differs : bytes_eq c t ≡ false = false_from_ne_true (bytes_eq c t) (λ q. eqb-false (length t) (length c) e (ap length (sym ((bytes_eq-Decides c t).0 q)))) in
+        below ∙ sym (ap (λ i. if i then Some x else look_by bytes_eq es t) differs)
 
-look-passes : (q : Token → Bool) (es : List (Text × Token)) (t : Text) (x : Token) → list_all (λ e. q e.1) es ≡ true → look es t ≡ Some x → q x ≡ true
+look-passes : (q : Token → Bool) (es : List (Text × Token)) (t : Text) (x : Token) → list_all (λ e. q e.1) es ≡ true → look_by bytes_eq es t ≡ Some x → q x ≡ true
 look-passes q [] t x h k = cc
 look-passes q ((c, y) ∷ es) t x h k =
     let parts = and_parts (q y) (list_all (λ e. q e.1) es) h in
-    go (same_text c t) k parts.0 (look-passes q es t x parts.1)
+    go (bytes_eq c t) k parts.0 (look-passes q es t x parts.1)
   where
-    go : (i : Bool) → elim i [ true ↦ Some y | false ↦ look es t ] ≡ Some x → q y ≡ true → (look es t ≡ Some x → q x ≡ true) → q x ≡ true
+    go : (i : Bool) → (if i then Some y else look_by bytes_eq es t) ≡ Some x → q y ≡ true → (look_by bytes_eq es t ≡ Some x → q x ≡ true) → q x ≡ true
     go true k here below = let e : y ≡ x = cc in subst (λ z. q z ≡ true) e here
     go false k here below = below k
 
@@ -47,7 +49,7 @@ look-passes q ((c, y) ∷ es) t x h k =
 abbrev token_if : Text → Option Kind → Option Token
 token_if t o = option_map (λ k. token k t) o
 
-pub word-found : (t : Text) (o : Option Kind) (k : Kind) → token_if t o ≡ look (of_length (length t) words) t → k ≡ unwrap_or o Kind.Name → Some (token k t) ≡ name_or_word t
+pub word-found : (t : Text) (o : Option Kind) (k : Kind) → token_if t o ≡ look_by bytes_eq (of_length (length t) words) t → k ≡ unwrap_or o Kind.Name → Some (token k t) ≡ name_or_word t
 word-found t None k h e =
     ap (λ k. Some (token k t)) e ∙ ap (λ r. or_else r (Some (name t))) (h ∙ look-of_length words t)
 word-found t (Some x) k h e =
@@ -57,21 +59,21 @@ or_none : (o : Option Token) → or_else o None ≡ o
 or_none None = refl
 or_none (Some x) = refl
 
-pub symbol-plain : (t rest : Text) (o : Option Kind) → token_if t o ≡ look (of_length (length t) symbols) t → is_some o ≡ true → token_if t o ≡ symbol_of t rest
+pub symbol-plain : (t rest : Text) (o : Option Kind) → token_if t o ≡ look_by bytes_eq (of_length (length t) symbols) t → is_some o ≡ true → token_if t o ≡ symbol_of t rest
 symbol-plain t rest None h k = cc
-symbol-plain t rest (Some x) h k = ap (λ r. or_else r (only_if (not (begins_with_name_byte rest)) (look lex_symbols t))) (h ∙ look-of_length symbols t)
+symbol-plain t rest (Some x) h k = ap (λ r. or_else r (only_if (not (begins_with_name_byte rest)) (look_by bytes_eq lex_symbols t))) (h ∙ look-of_length symbols t)
 
-pub symbol-before_name : (t rest : Text) (o : Option Kind) → token_if t o ≡ look (of_length (length t) symbols) t → begins_with_name_byte rest ≡ true → token_if t o ≡ symbol_of t rest
+pub symbol-before_name : (t rest : Text) (o : Option Kind) → token_if t o ≡ look_by bytes_eq (of_length (length t) symbols) t → begins_with_name_byte rest ≡ true → token_if t o ≡ symbol_of t rest
 symbol-before_name t rest o h k =
-    h ∙ look-of_length symbols t ∙ sym (or_none (look symbols t)) ∙ ap (λ i. or_else (look symbols t) (only_if (not i) (look lex_symbols t))) (sym k)
+    h ∙ look-of_length symbols t ∙ sym (or_none (look_by bytes_eq symbols t)) ∙ ap (λ i. or_else (look_by bytes_eq symbols t) (only_if (not i) (look_by bytes_eq lex_symbols t))) (sym k)
 
-pub symbol-lex : (t rest : Text) (o p : Option Kind) → token_if t o ≡ look (of_length (length t) symbols) t → is_some o ≡ false → begins_with_name_byte rest ≡ false →
-    token_if t p ≡ look (of_length (length t) lex_symbols) t → token_if t p ≡ symbol_of t rest
+pub symbol-lex : (t rest : Text) (o p : Option Kind) → token_if t o ≡ look_by bytes_eq (of_length (length t) symbols) t → is_some o ≡ false → begins_with_name_byte rest ≡ false →
+    token_if t p ≡ look_by bytes_eq (of_length (length t) lex_symbols) t → token_if t p ≡ symbol_of t rest
 symbol-lex t rest (Some x) p h k l m = cc
 symbol-lex t rest None p h k l m =
     m ∙ look-of_length lex_symbols t
-    ∙ ap (λ i. only_if (not i) (look lex_symbols t)) (sym l)
-    ∙ ap (λ r. or_else r (only_if (not (begins_with_name_byte rest)) (look lex_symbols t))) (h ∙ look-of_length symbols t)
+    ∙ ap (λ i. only_if (not i) (look_by bytes_eq lex_symbols t)) (sym l)
+    ∙ ap (λ r. or_else r (only_if (not (begins_with_name_byte rest)) (look_by bytes_eq lex_symbols t))) (h ∙ look-of_length symbols t)
 
 -- where the first n bytes are no symbol, the longest is shorter
 pub symbol-passed : (text : Text) (n : ℕ) (o : Option Kind) → 0 < n → token_if (take n text) o ≡ symbol_of (take n text) (drop n text) → o ≡ None →
@@ -114,15 +116,15 @@ word-no_number : (t : Text) (x : Token) → name_or_word t ≡ Some x → is_num
 word-no_number t x h = ⊎_elim
     (λ e. not-true (is_number x) (look-passes no_number words t x refl e))
     (λ e. let same : name t ≡ x = cc in subst (λ z. is_number z ≡ false) same refl)
-    (or_else-is (look words t) (Some (name t)) x h)
+    (or_else-is (look_by bytes_eq words t) (Some (name t)) x h)
 
 symbol-no_number : (t rest : Text) (x : Token) → symbol_of t rest ≡ Some x → is_number x ≡ false
 symbol-no_number t rest x h = ⊎_elim
     (λ e. not-true (is_number x) (look-passes no_number symbols t x refl e))
     (λ e. not-true (is_number x) (go (not (begins_with_name_byte rest)) e))
-    (or_else-is (look symbols t) (only_if (not (begins_with_name_byte rest)) (look lex_symbols t)) x h)
+    (or_else-is (look_by bytes_eq symbols t) (only_if (not (begins_with_name_byte rest)) (look_by bytes_eq lex_symbols t)) x h)
   where
-    go : (i : Bool) → only_if i (look lex_symbols t) ≡ Some x → no_number x ≡ true
+    go : (i : Bool) → only_if i (look_by bytes_eq lex_symbols t) ≡ Some x → no_number x ≡ true
     go true e = look-passes no_number lex_symbols t x refl e
     go false e = cc
 

@@ -1,7 +1,9 @@
 ghost use Rattle.std.specs.Prelude.{◌≡◌};
 ghost use Rattle.std.specs.Option.{option_map};
 ghost use Rattle.std.specs.List.{list_any};
-ghost use Rattle.ess_grammar.specs.Words.{words, symbols, lex_symbols, look, same_text, outside};
+ghost use Rattle.std.specs.Str.{bytes_eq};
+ghost use Rattle.ess_semantics.specs.Names.{look_by};
+ghost use Rattle.ess_grammar.specs.Words.{words, symbols, lex_symbols, outside};
 ghost use Rattle.ess_grammar.specs.Kinds.{token};
 ghost use Rattle.ess_lex.specs.Tables.{shown_table, of_length};
 
@@ -153,7 +155,7 @@ pub(crate) fn lex_symbols_of_length(len: usize) -> &'static [(&'static str, Kind
 
 /// The kind that stands beside a text in a table.
 pub(crate) fn kind_in(table: &[(&str, Kind)], text: &[u8]) -> Option<Kind>
-    ensures { option_map (λ k. token k text.now) result ≡ look (shown_table table.now) text.now }
+    ensures { option_map (λ k. token k text.now) result ≡ look_by bytes_eq (shown_table table.now) text.now }
 {
     for (spelling, kind) in table {
         if spelling.as_bytes() == text {
@@ -200,14 +202,14 @@ const OUTSIDE: [&str; 31] = [
 
 /// Is the text a word outside the subset?
 pub(crate) fn is_outside_word(text: &[u8]) -> bool
-    ensures { result ≡ list_any (same_text text.now) outside }
+    ensures { result ≡ list_any (bytes_eq text.now) outside }
 {
     is_among(text, &OUTSIDE)
 }
 
 /// Does the text stand in a list of words?
 fn is_among(text: &[u8], words: &[&str]) -> bool
-    ensures { result ≡ list_any (λ word. same_text text.now word.now) words.now }
+    ensures { result ≡ list_any (λ word. bytes_eq text.now word.now) words.now }
 {
     words.iter().any(|word| text == word.as_bytes())
 }

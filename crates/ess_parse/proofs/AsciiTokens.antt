@@ -1,14 +1,15 @@
 -- The bytes of a text's tokens are ASCII.
-use Rattle.std.proofs.Common.{◌≡◌, refl, sym, subst, ℕ, zero, suc, ◌<◌, Bool, true, false, ◌&&◌, not, List, [], ◌∷◌, ◌++◌, take, drop, length, Option, Some, None, nat_lt, arith}
+use Rattle.std.proofs.Common.{◌≡◌, refl, sym, subst, ℕ, zero, suc, ◌<◌, Bool, true, false, ◌&&◌, not, List, [], ◌∷◌, ◌++◌, take, drop, length, Option, Some, None, nat_lt, arith, if◌then◌else◌}
 use Rattle.std.proofs.lemmas.Bool.Decides.{nat_tests}
 use Rattle.std.proofs.lemmas.Bool.{ltb-true}
 use Rattle.std.proofs.lemmas.Slice.Eq.{bytes_eq-Decides}
 use Rattle.std.specs.List.{list_all}
-use Rattle.std.specs.Str.{IsAscii}
+use Rattle.std.specs.Str.{IsAscii, bytes_eq}
 use Rattle.ess_rows.specs.declared.place.Place.{Place}
 use Rattle.ess_semantics.specs.Values.{Text}
+use Rattle.ess_semantics.specs.Names.{look_by}
 use Rattle.ess_semantics.proofs.Tests.{and-left, and-right}
-use Rattle.ess_grammar.specs.Words.{Token, number, prime_word, look, same_text, symbols, lex_symbols}
+use Rattle.ess_grammar.specs.Words.{Token, number, prime_word, symbols, lex_symbols}
 use Rattle.ess_grammar.specs.Places.{place}
 use Rattle.ess_grammar.specs.Tokens.{is_digit, is_letter, is_name_byte, is_name, is_number, is_white, begins_comment, begins_with_name_byte, comment_length, value_of, or_else, only_if, name_or_word, symbol_of, prime_text, token_of, longest, longest_token, is_wide, Lexed, the_end, bad_byte, wide_number, next_token, token_first, first, lexed_in, lexed}
 
@@ -74,33 +75,37 @@ abbrev is_ascii_table : List (Text × Token) → Bool
 is_ascii_table [] = true
 is_ascii_table (e ∷ es) = is_all_ascii e.0 && is_ascii_table es
 
-same-ascii : (s t : Text) → is_all_ascii s ≡ true → same_text s t ≡ true → IsAscii t
+same-ascii : (s t : Text) → is_all_ascii s ≡ true → bytes_eq s t ≡ true → IsAscii t
 same-ascii s t h k = subst IsAscii ((bytes_eq-Decides s t).0 k) (ascii-from s h)
 
 by_test : {X : Type 0} (b : Bool) (P : X → Type 0) (x y : X) → (b ≡ true → P x) → (b ≡ false → P y) → P (elim b [ true ↦ x | false ↦ y ])
 by_test true P x y f g = f refl
 by_test false P x y f g = g refl
 
-table-ascii : (es : List (Text × Token)) (t : Text) → is_ascii_table es ≡ true → AsciiIf (look es t) t
+by_choice : {X : Type 0} (b : Bool) (P : X → Type 0) (x y : X) → (b ≡ true → P x) → (b ≡ false → P y) → P (if b then x else y)
+by_choice true P x y f g = f refl
+by_choice false P x y f g = g refl
+
+table-ascii : (es : List (Text × Token)) (t : Text) → is_ascii_table es ≡ true → AsciiIf (look_by bytes_eq es t) t
 table-ascii [] t h = tt
 table-ascii (e ∷ es) t h =
-    by_test (same_text e.0 t) (λ o. AsciiIf o t) (Some e.1) (look es t)
+    by_choice (bytes_eq e.0 t) (λ o. AsciiIf o t) (Some e.1) (look_by bytes_eq es t)
     (λ q. same-ascii e.0 t (and-left (is_all_ascii e.0) (is_ascii_table es) h) q) (λ q. table-ascii es t (and-right (is_all_ascii e.0) (is_ascii_table es) h))
 
 symbol-ascii : (t rest : Text) → AsciiIf (symbol_of t rest) t
 symbol-ascii t rest =
-    either-ascii (look symbols t) (only_if (not (begins_with_name_byte rest)) (look lex_symbols t)) t
-    (table-ascii symbols t refl) (only-ascii (not (begins_with_name_byte rest)) (look lex_symbols t) t (λ h. table-ascii lex_symbols t refl))
+    either-ascii (look_by bytes_eq symbols t) (only_if (not (begins_with_name_byte rest)) (look_by bytes_eq lex_symbols t)) t
+    (table-ascii symbols t refl) (only-ascii (not (begins_with_name_byte rest)) (look_by bytes_eq lex_symbols t) t (λ h. table-ascii lex_symbols t refl))
 
 token-ascii : (t rest : Text) → AsciiIf (token_of t rest) t
 token-ascii t rest =
     either-ascii (only_if (is_number t) (Some (number (value_of t))))
-    (or_else (only_if (is_name t) (name_or_word t)) (or_else (only_if (same_text t prime_text) (Some prime_word)) (symbol_of t rest))) t
+    (or_else (only_if (is_name t) (name_or_word t)) (or_else (only_if (bytes_eq t prime_text) (Some prime_word)) (symbol_of t rest))) t
     (only-ascii (is_number t) (Some (number (value_of t))) t (λ h. number-ascii t h))
-    (either-ascii (only_if (is_name t) (name_or_word t)) (or_else (only_if (same_text t prime_text) (Some prime_word)) (symbol_of t rest)) t
+    (either-ascii (only_if (is_name t) (name_or_word t)) (or_else (only_if (bytes_eq t prime_text) (Some prime_word)) (symbol_of t rest)) t
     (only-ascii (is_name t) (name_or_word t) t (λ h. all-ascii (name_or_word t) t (name-ascii t h)))
-    (either-ascii (only_if (same_text t prime_text) (Some prime_word)) (symbol_of t rest) t
-    (only-ascii (same_text t prime_text) (Some prime_word) t (λ h. subst IsAscii (sym ((bytes_eq-Decides t prime_text).0 h)) (ascii-from prime_text refl))) (symbol-ascii t rest)))
+    (either-ascii (only_if (bytes_eq t prime_text) (Some prime_word)) (symbol_of t rest) t
+    (only-ascii (bytes_eq t prime_text) (Some prime_word) t (λ h. subst IsAscii (sym ((bytes_eq-Decides t prime_text).0 h)) (ascii-from prime_text refl))) (symbol-ascii t rest)))
 
 -- ---- the longest token
 

@@ -2,8 +2,10 @@
 #![tactic(auto, using(ess_parse_frames::proofs::RowLaws::doms_none, ess_parse_frames::proofs::RowLaws::marks_none, ess_parse_frames::proofs::RowLaws::numbers_none, ess_parse_frames::proofs::RowLaws::no_marks, ess_parse_frames::proofs::RowLaws::no_numbers, ess_parse_frames::proofs::RowLaws::marks_closed, ess_parse_frames::proofs::RowLaws::numbers_closed))]
 
 ghost use Rattle.std.specs.Prelude.{◌≡◌, [], ◌∷◌, true, IfOk, option_map};
+ghost use Rattle.std.specs.Str.{bytes_eq};
 ghost use Rattle.ess_semantics.specs.Trees.{no_exs, no_doms};
-ghost use Rattle.ess_grammar.specs.Words.{Text, look, symbol, comma, close_round};
+ghost use Rattle.ess_semantics.specs.Names.{look_by};
+ghost use Rattle.ess_grammar.specs.Words.{Text, symbol, comma, close_round};
 ghost use Rattle.ess_grammar.specs.Kinds.{token};
 ghost use Rattle.ess_parse_laws.specs.Frames.{attributes_frame, tuple_domains_frame, function_from_frame, function_owner};
 ghost use Rattle.ess_parse_laws.specs.Modes.{at_state, attribute_read};
@@ -60,7 +62,7 @@ fn key_of(name: &[u8]) -> Option<Key>
 
 /// The attribute that stands beside a word in a table.
 fn key_in(table: &[(&str, Key)], word: &[u8]) -> Option<Key>
-    ensures { result ≡ look (shown_keys table.now) word.now }
+    ensures { result ≡ look_by bytes_eq (shown_keys table.now) word.now }
 {
     for (spelling, key) in table {
         if spelling.as_bytes() == word {

@@ -4,7 +4,7 @@
 ghost use Rattle.std.specs.Prelude.{◌≡◌, ◌∷◌, List, IfOk};
 ghost use Rattle.std.specs.List.{list_any};
 ghost use Rattle.std.specs.Option.{option_map};
-ghost use Rattle.ess_grammar.specs.Words.{same_text};
+ghost use Rattle.std.specs.Str.{bytes_eq};
 ghost use Rattle.ess_grammar.specs.Patterns.{is_bound_name};
 ghost use Rattle.ess_parse_laws.specs.Frames as machine;
 ghost use Rattle.ess_parse_laws.specs.Items.{may_quantify, in_is_sign, may_end_item, begin_source, begin_quantifier};
@@ -52,14 +52,14 @@ fn is_bound(names: &Row<Text>, pattern: &Pat) -> bool
 
 /// Is the name one of these?
 fn is_among(names: &[Text], name: &Text) -> bool
-    ensures { result ≡ list_any (same_text name.now) names.now }
+    ensures { result ≡ list_any (bytes_eq name.now) names.now }
 {
     names.iter().any(|bound| is_same(name, bound))
 }
 
 /// Are the two names the same?
 fn is_same(left: &Text, right: &Text) -> bool
-    ensures { result ≡ same_text left.now right.now }
+    ensures { result ≡ bytes_eq left.now right.now }
 {
     left.as_bytes() == right.as_bytes()
 }

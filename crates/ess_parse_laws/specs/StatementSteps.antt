@@ -1,8 +1,9 @@
 -- What a token does in the part of a statement that is no expression and no domain, and in the language line.
 use Rattle.std.specs.Prelude.{Bool, List, None, Option, [], codes, false, true, ◌∷◌}
+use Rattle.std.specs.Str.{bytes_eq}
 use Rattle.ess_semantics.specs.Trees.{Stm, given_enum, let_enum}
 use Rattle.ess_semantics.specs.Values.{Text}
-use Rattle.ess_grammar.specs.Words.{Token, Word, be_word, close_curly, colon, comma, domain_word, dot, enum_word, find_word, given_word, language_word, letting_word, name, new_word, number, of_word, open_curly, same_text, such_word, symbol, that_word, type_word, where_word, word}
+use Rattle.ess_grammar.specs.Words.{Token, Word, be_word, close_curly, colon, comma, domain_word, dot, enum_word, find_word, given_word, language_word, letting_word, name, new_word, number, of_word, open_curly, such_word, symbol, that_word, type_word, where_word, word}
 use Rattle.ess_parse_laws.specs.Modes.{State, at_state, be_read, domain_wanted, enum_read, first_number_read, given_new_read, given_type_read, language_dot_read, language_name_read, language_read, letting_name_read, letting_new_read, letting_type_read, letting_wanted, name_read, names_wanted, of_read, operand_wanted, statement_read, value_name_read, value_name_wanted}
 use Rattle.ess_parse_laws.specs.StatementEnds.{begin_statement}
 use Rattle.ess_parse_laws.specs.Frames.{declaration_frame, letting_domain_frame, letting_frame, such_that_frame, unnamed_frame, where_frame}
@@ -76,7 +77,7 @@ step_value_name_read _ a bs ss = None
 
 -- Behind `be new type of`: `size` is a plain name.
 abbrev pub step_of_read : Token → Text → List Stm → Option State
-step_of_read (name b) a ss = elim (same_text b (codes "size")) [ true ↦ at_state operand_wanted (unnamed_frame a ss ∷ []) | false ↦ None ]
+step_of_read (name b) a ss = elim (bytes_eq b (codes "size")) [ true ↦ at_state operand_wanted (unnamed_frame a ss ∷ []) | false ↦ None ]
 step_of_read _ a ss = None
 
 -- Behind `such`.
@@ -106,7 +107,7 @@ step_nothing_read t = step_statement_read t language_word []
 
 -- Behind `language`: `Essence` is a plain name.
 abbrev pub step_language_read : Token → Option State
-step_language_read (name a) = elim (same_text a (codes "Essence")) [ true ↦ at_state language_name_read [] | false ↦ None ]
+step_language_read (name a) = elim (bytes_eq a (codes "Essence")) [ true ↦ at_state language_name_read [] | false ↦ None ]
 step_language_read _ = None
 
 -- Behind `language Essence`.

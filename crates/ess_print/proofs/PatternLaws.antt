@@ -1,17 +1,19 @@
 -- What is printed as a pattern, and what begins as attributes do.
-use Rattle.std.proofs.Common.{◌≡◌, refl, sym, ap, ◌∙◌, ℕ, zero, suc, ◌+◌, ◌<◌, ◌≤◌, Bool, true, false, ◌&&◌, ◌||◌, List, [], ◌∷◌, map, length, drop, get_or, Option, Some, None, arith}
+use Rattle.std.proofs.Common.{◌≡◌, refl, sym, ap, ◌∙◌, ℕ, zero, suc, ◌+◌, ◌<◌, ◌≤◌, Bool, true, false, ◌&&◌, ◌||◌, List, [], ◌∷◌, map, length, drop, get_or, Option, Some, None, arith, if◌then◌else◌}
 use Rattle.std.proofs.lemmas.List.{at_drop_more}
 use Rattle.std.proofs.Math.ListN.{drop_of_length-le}
 use Rattle.std.specs.Prelude.{◌↔◌, IsTrue, slice_get}
 use Rattle.std.specs.Option.{is_some}
 use Rattle.std.specs.List.{list_any}
+use Rattle.std.specs.Str.{bytes_eq}
 use lib.Dec.{leb}
 use Rattle.std.proofs.lemmas.Bool.{le-leb}
 use Rattle.ess_semantics.specs.Values.{Text}
 use Rattle.ess_semantics.specs.declared.words.Key.{Key}
 use Rattle.ess_semantics.specs.Trees as pure
 use Rattle.ess_semantics.specs.Trees.{Doms, no_doms, more_doms, bool_dom, int_dom, name_dom, tuple_dom, record_dom, matrix_dom, set_dom, mset_dom, function_dom, relation_dom, partition_dom}
-use Rattle.ess_grammar.specs.Words.{same_text, look, keys, key_of}
+use Rattle.ess_semantics.specs.Names.{look_by}
+use Rattle.ess_grammar.specs.Words.{keys}
 use Rattle.ess_grammar.specs.Patterns.{are_several}
 use Rattle.ess_print_laws.specs.Brackets.{are_none, is_written_as_pattern, are_written_as_patterns, begins_as_attributes}
 use Rattle.ess_core.specs.TreeViews.{pure_ex, pure_exs, pure_dom, pure_doms}
@@ -64,13 +66,13 @@ pattern-end es i ge w =
 
 -- ---- attribute words
 
-found-or-later : (b : Bool) (k : Key) (o : Option Key) → (b || is_some o) ≡ is_some (elim b [ true ↦ Some k | false ↦ o ])
+found-or-later : (b : Bool) (k : Key) (o : Option Key) → (b || is_some o) ≡ is_some (if b then Some k else o)
 found-or-later true k o = refl
 found-or-later false k o = refl
 
-named-key : (es : List (Text × Key)) (a : Text) → list_any (λ w. same_text w a) (map (λ e. e.0) es) ≡ is_some (look es a)
+named-key : (es : List (Text × Key)) (a : Text) → list_any (λ w. bytes_eq w a) (map (λ e. e.0) es) ≡ is_some (look_by bytes_eq es a)
 named-key [] a = refl
-named-key (e ∷ es) a = ap (λ b. same_text e.0 a || b) (named-key es a) ∙ found-or-later (same_text e.0 a) e.1 (look es a)
+named-key (e ∷ es) a = ap (λ b. bytes_eq e.0 a || b) (named-key es a) ∙ found-or-later (bytes_eq e.0 a) e.1 (look_by bytes_eq es a)
 
 pub attribute-first : (d e : pure.Dom) (ds : Doms) → names_attribute d ≡ begins_as_attributes (tuple_dom (more_doms d (more_doms e ds)))
 attribute-first (name_dom a) e ds = named-key keys a

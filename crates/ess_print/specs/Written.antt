@@ -1,6 +1,7 @@
 -- What the functions of this crate write behind a text: the pieces that the definitions of printed texts have for a part.
 use Rattle.std.specs.Prelude.{ℕ, zero, suc, ◌≡◌, Bool, true, false, ◌&&◌, List, [], ◌∷◌, ◌++◌, map, Option, Some, None, codes}
 use Rattle.std.specs.List.{list_any}
+use Rattle.std.specs.Str.{bytes_eq}
 use Rattle.ess_semantics.specs.declared.words.Op1.{Op1}
 use Rattle.ess_semantics.specs.declared.words.Op2.{Op2}
 use Rattle.ess_semantics.specs.declared.words.Fun.{Fun}
@@ -9,7 +10,7 @@ use Rattle.ess_semantics.specs.Names as names
 use Rattle.ess_semantics.specs.Kinds.{doms_of}
 use Rattle.ess_semantics.specs.Trees as pure
 use Rattle.ess_semantics.specs.Trees.{word, function_literal, record_literal, Ends, Mark, Exs, node_ex, ex1, int_dom, name_dom, record_dom}
-use Rattle.ess_grammar.specs.Words.{same_text, keys, open_square, close_square, semicolon, colon, drawn_from}
+use Rattle.ess_grammar.specs.Words.{keys, open_square, close_square, semicolon, colon, drawn_from}
 use Rattle.ess_print_laws.specs.TokenTexts.{operator_text}
 use Rattle.ess_print_laws.specs.Pieces.{Piece, piece_text, text_of, Printer, space, sign}
 use Rattle.ess_print_laws.specs.Pieces as pieces
@@ -128,5 +129,5 @@ key_names = map (λ e. e.0) keys
 
 -- Whether the domain is a name that is an attribute word.
 abbrev pub names_attribute : pure.Dom → Bool
-names_attribute (name_dom a) = list_any (λ word. same_text word a) key_names
+names_attribute (name_dom a) = list_any (λ word. bytes_eq word a) key_names
 names_attribute d = false

@@ -1,7 +1,7 @@
 // The texts of operators, function words, attributes and kinds of representations.
 ghost use Rattle.std.specs.Prelude.{◌≡◌};
 ghost use Rattle.std.specs.List.{list_any};
-ghost use Rattle.ess_grammar.specs.Words.{same_text};
+ghost use Rattle.std.specs.Str.{bytes_eq};
 ghost use Rattle.ess_print_laws.specs.TokenTexts.{function_text, key_text, kind_text};
 ghost use Rattle.ess_print_laws.specs.Pieces.{piece_text};
 ghost use Rattle.ess_print_laws.specs.Parts.{truth_piece};
@@ -166,14 +166,14 @@ const KEYS: [&str; 22] = [
 
 /// Is the name an attribute word?
 pub(crate) fn is_attribute_word(name: &[u8]) -> bool
-    ensures { result ≡ list_any (λ word. same_text word name.now) key_names }
+    ensures { result ≡ list_any (λ word. bytes_eq word name.now) key_names }
 {
     is_among(name, &KEYS)
 }
 
 /// Does the text stand in a list of words?
 fn is_among(text: &[u8], words: &[&str]) -> bool
-    ensures { result ≡ list_any (λ word. same_text word.now text.now) words.now }
+    ensures { result ≡ list_any (λ word. bytes_eq word.now text.now) words.now }
 {
     words.iter().any(|word| word.as_bytes() == text)
 }

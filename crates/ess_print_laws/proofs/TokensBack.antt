@@ -3,10 +3,12 @@ use Rattle.std.proofs.Common.{◌≡◌, refl, ap, ◌∙◌, ℕ, ◌<◌, ◌^
 use Rattle.std.specs.Fmt.{decimal}
 use Rattle.std.specs.Option.{is_some}
 use Rattle.std.specs.List.{list_all}
+use Rattle.std.specs.Str.{bytes_eq}
 use Rattle.std.proofs.lemmas.Bool.{and_parts, not-true, ltb-true, lt-leb}
 use Rattle.ess_semantics.specs.declared.words.Op2.{Op2}
 use Rattle.ess_semantics.specs.declared.words.Fun.{Fun}
-use Rattle.ess_grammar.specs.Words.{Text, Token, number, name, prime_word, word, operator, function, symbol, look, words, is_outside, Word, language_word, given_word, find_word, letting_word, be_word, new_word, type_word, enum_word, domain_word, of_word, where_word, such_word, that_word, minimising_word, maximising_word, bool_word, int_word, tuple_word, record_word, matrix_word, indexed_word, by_word, set_word, mset_word, function_word, relation_word, partition_word, from_word, true_word, false_word, for_all_word, exists_word, Symbol, open_round, close_round, open_square, close_square, open_curly, close_curly, comma, semicolon, colon, dot, dots, bar, exclamation, maps_to, drawn_from}
+use Rattle.ess_semantics.specs.Names.{look_by}
+use Rattle.ess_grammar.specs.Words.{Text, Token, number, name, prime_word, word, operator, function, symbol, words, is_outside, Word, language_word, given_word, find_word, letting_word, be_word, new_word, type_word, enum_word, domain_word, of_word, where_word, such_word, that_word, minimising_word, maximising_word, bool_word, int_word, tuple_word, record_word, matrix_word, indexed_word, by_word, set_word, mset_word, function_word, relation_word, partition_word, from_word, true_word, false_word, for_all_word, exists_word, Symbol, open_round, close_round, open_square, close_square, open_curly, close_curly, comma, semicolon, colon, dot, dots, bar, exclamation, maps_to, drawn_from}
 use Rattle.ess_grammar.specs.Tokens.{is_digit, is_letter, is_name_byte, is_name, name_or_word, or_else, prime_text, is_wide, longest_token, BeginsPlain}
 use Rattle.ess_grammar.specs.Readable.{is_name_token, is_number_token}
 use Rattle.ess_grammar.proofs.Runs.{longest_token-prime}
@@ -141,14 +143,14 @@ symbol-back drawn_from = of-symbol (plain-symbol _ _ _ refl refl (refl, refl) re
 -- what is known of a name of the subset
 pub record NameOfSubset (a : Text) : Type 0 where
   pub named : is_name a ≡ true
-  pub no_word : is_some (look words a) ≡ false
+  pub no_word : is_some (look_by bytes_eq words a) ≡ false
   pub inside : is_outside (name a) ≡ false
 
 pub name-of-subset : (a : Text) → is_name_token a ≡ true → NameOfSubset a
 name-of-subset a h =
-    let parts = and_parts (is_name a) (not (is_some (look words a)) && not (is_outside (name a))) h in
-    let others = and_parts (not (is_some (look words a))) (not (is_outside (name a))) parts.1 in
-    record { named = parts.0; no_word = not-true (is_some (look words a)) others.0; inside = not-true (is_outside (name a)) others.1 }
+    let parts = and_parts (is_name a) (not (is_some (look_by bytes_eq words a)) && not (is_outside (name a))) h in
+    let others = and_parts (not (is_some (look_by bytes_eq words a))) (not (is_outside (name a))) parts.1 in
+    record { named = parts.0; no_word = not-true (is_some (look_by bytes_eq words a)) others.0; inside = not-true (is_outside (name a)) others.1 }
 
 no-word : (o : Option Token) (t : Token) → is_some o ≡ false → or_else o (Some t) ≡ Some t
 no-word None t h = refl
@@ -158,7 +160,7 @@ name-back : (a : Text) → is_name_token a ≡ true → ReadBack (name a) a
 name-back [] h = cc
 name-back (c ∷ cs) h =
     let n = name-of-subset (c ∷ cs) h in
-    of-name n.named (no-word (look words (c ∷ cs)) (name (c ∷ cs)) n.no_word)
+    of-name n.named (no-word (look_by bytes_eq words (c ∷ cs)) (name (c ∷ cs)) n.no_word)
 
 digits-back : (n : ℕ) (ds : Text) → Writes n ds → ReadBack (number n) ds
 digits-back n [] w = absurd (omega (arith, w.some))

@@ -3,8 +3,10 @@
 use Rattle.std.specs.Prelude.{ℕ, Bool, true, false, ◌&&◌, ◌||◌, not, List, [], ◌∷◌, ◌++◌, pos, nat_eq, IsTrue}
 use Rattle.std.specs.Option.{is_some}
 use Rattle.std.specs.List.{list_all}
+use Rattle.std.specs.Str.{bytes_eq}
 use Rattle.ess_semantics.specs.Values.{Text}
-use Rattle.ess_grammar.specs.Words.{Token, number, name, look, symbols, lex_symbols}
+use Rattle.ess_semantics.specs.Names.{look_by}
+use Rattle.ess_grammar.specs.Words.{Token, number, name, symbols, lex_symbols}
 use Rattle.ess_grammar.specs.Places.{is_line_feed}
 use Rattle.ess_grammar.specs.Tokens.{is_digit, is_letter, is_name_byte}
 use Rattle.ess_grammar.specs.Readable.{is_name_token, is_number_token}
@@ -23,7 +25,7 @@ begins_no_symbol s = list_all (λ e. not (begins_with s e.0)) symbols && list_al
 
 -- Whether a symbol ends before this byte: no symbol goes on so, and behind one that ends in letters stands no byte of a name.
 abbrev pub symbol_ends : Text → ℕ → Bool
-symbol_ends s b = begins_no_symbol (s ++ b ∷ []) && (is_some (look symbols s) || not (is_name_byte b))
+symbol_ends s b = begins_no_symbol (s ++ b ∷ []) && (is_some (look_by bytes_eq symbols s) || not (is_name_byte b))
 
 -- Whether a token with these bytes ends before this byte. `'` would go on with the name `ESSENCE`.
 abbrev pub ends_at : Text → ℕ → Bool

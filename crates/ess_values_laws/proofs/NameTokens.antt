@@ -3,6 +3,7 @@ use Rattle.std.proofs.Common.{◌≡◌, refl, sym, ap, ◌∙◌, ℕ, suc, Boo
 use Rattle.std.specs.Prelude.{codes}
 use Rattle.std.specs.List.{list_all, list_any}
 use Rattle.std.specs.Option.{is_some}
+use Rattle.std.specs.Str.{bytes_eq}
 use Rattle.std.proofs.lemmas.Bool.Decides.{nat_tests}
 use Rattle.std.proofs.lemmas.Map.Text.{is_eq-slice_cmp}
 use Rattle.std.proofs.lemmas.List.{take-append-drop}
@@ -16,9 +17,9 @@ use Rattle.ess_semantics.specs.NameTokens.{is_digit as is_decimal}
 use Rattle.ess_semantics.specs.Assignments.{unnamed_name}
 use Rattle.ess_semantics.specs.NameTokens.{value_after as number_of}
 use Rattle.ess_semantics.specs.Literals.{unnamed_item, named_item, item_of_name}
+use Rattle.ess_semantics.specs.Names.{look_by}
 use Rattle.ess_semantics.proofs.Tests.{and-left, and-right, and-both, or-yes}
-use Rattle.ess_grammar.specs.Words.{Token, name, look, words, outside, is_outside}
-use Rattle.ess_grammar.specs.Words.{same_text as same_bytes}
+use Rattle.ess_grammar.specs.Words.{Token, name, words, outside, is_outside}
 use Rattle.ess_grammar.specs.Tokens.{is_digit, is_name, is_name_byte, is_letter}
 use Rattle.ess_grammar.specs.Readable.{is_name_token, are_name_tokens}
 use Rattle.ess_values_laws.specs.Spellable.{have_name_tokens}
@@ -38,34 +39,30 @@ ends_in_digit [] = false
 ends_in_digit (b ∷ []) = is_digit b
 ends_in_digit (b ∷ c ∷ cs) = ends_in_digit (c ∷ cs)
 
-bytes-equal : (a b : Text) → same_bytes a b ≡ true → a ≡ b
+bytes-equal : (a b : Text) → bytes_eq a b ≡ true → a ≡ b
 bytes-equal a b e = same-text-equal a b (is_eq-slice_cmp a b ∙ e)
 
-differ : (a b : Text) → (a ≡ b → ⊥) → same_bytes a b ≡ false
-differ a b n = go (same_bytes a b) refl
+differ : (a b : Text) → (a ≡ b → ⊥) → bytes_eq a b ≡ false
+differ a b n = go (bytes_eq a b) refl
   where
-    go : (r : Bool) → same_bytes a b ≡ r → same_bytes a b ≡ false
+    go : (r : Bool) → bytes_eq a b ≡ r → bytes_eq a b ≡ false
     go false e = e
     go true e = absurd (n (bytes-equal a b e))
 
 ends-differ : (a b : Text) → not (ends_in_digit a) ≡ true → ends_in_digit b ≡ true → a ≡ b → ⊥
 ends-differ a b h k e = let f : ends_in_digit a ≡ true = ap ends_in_digit e ∙ k in let g : not (ends_in_digit a) ≡ false = ap not f in cc
 
--- what a table has for a text, after a test of its first entry
-abbrev found : Token → Option Token → Bool → Option Token
-found x o true = Some x
-found x o false = o
-
-no-word : (es : List (Text × Token)) (a : Text) → list_all (λ e. not (ends_in_digit e.0)) es ≡ true → ends_in_digit a ≡ true → look es a ≡ None
+no-word : (es : List (Text × Token)) (a : Text) → list_all (λ e. not (ends_in_digit e.0)) es ≡ true → ends_in_digit a ≡ true → look_by bytes_eq es a ≡ None
 no-word [] a h k = refl
 no-word (e ∷ es) a h k =
-    ap (found e.1 (look es a)) (differ e.0 a (ends-differ e.0 a (and-left (not (ends_in_digit e.0)) (list_all (λ e. not (ends_in_digit e.0)) es) h) k))
+    ap (λ b. if b then Some e.1 else look_by bytes_eq es a)
+    (differ e.0 a (ends-differ e.0 a (and-left (not (ends_in_digit e.0)) (list_all (λ e. not (ends_in_digit e.0)) es) h) k))
     ∙ no-word es a (and-right (not (ends_in_digit e.0)) (list_all (λ e. not (ends_in_digit e.0)) es) h) k
 
-none-outside : (ws : List Text) (a : Text) → list_all (λ w. not (ends_in_digit w)) ws ≡ true → ends_in_digit a ≡ true → list_any (same_bytes a) ws ≡ false
+none-outside : (ws : List Text) (a : Text) → list_all (λ w. not (ends_in_digit w)) ws ≡ true → ends_in_digit a ≡ true → list_any (bytes_eq a) ws ≡ false
 none-outside [] a h k = refl
 none-outside (w ∷ ws) a h k =
-    ap (λ b. b || list_any (same_bytes a) ws) (differ a w (λ e. ends-differ w a (and-left (not (ends_in_digit w)) (list_all (λ w. not (ends_in_digit w)) ws) h) k (sym e)))
+    ap (λ b. b || list_any (bytes_eq a) ws) (differ a w (λ e. ends-differ w a (and-left (not (ends_in_digit w)) (list_all (λ w. not (ends_in_digit w)) ws) h) k (sym e)))
     ∙ none-outside ws a (and-right (not (ends_in_digit w)) (list_all (λ w. not (ends_in_digit w)) ws) h) k
 
 no-words-end : list_all (λ e. not (ends_in_digit e.0)) words ≡ true
@@ -77,8 +74,8 @@ no-outside-ends = refl
 -- A name that ends in a digit is a name token.
 name-ends-in-digit : (a : Text) → is_name a ≡ true → ends_in_digit a ≡ true → is_name_token a ≡ true
 name-ends-in-digit a h k =
-    and-both (is_name a) (not (is_some (look words a)) && not (is_outside (name a))) h
-    (and-both (not (is_some (look words a))) (not (is_outside (name a))) (ap (λ o. not (is_some o)) (no-word words a no-words-end k)) (ap not (none-outside outside a no-outside-ends k)))
+    and-both (is_name a) (not (is_some (look_by bytes_eq words a)) && not (is_outside (name a))) h
+    (and-both (not (is_some (look_by bytes_eq words a))) (not (is_outside (name a))) (ap (λ o. not (is_some o)) (no-word words a no-words-end k)) (ap not (none-outside outside a no-outside-ends k)))
 
 -- ---- `T_k`
 
@@ -123,7 +120,7 @@ digits-all (b ∷ bs) h = h
 counted-token : (t ds : Text) → is_name_token t ≡ true → are_digits ds ≡ true → is_name_token ((t ++ codes "_") ++ ds) ≡ true
 counted-token t ds h k =
     name-ends-in-digit ((t ++ codes "_") ++ ds)
-    (name-append (t ++ codes "_") ds (name-append t (codes "_") (and-left (is_name t) (not (is_some (look words t)) && not (is_outside (name t))) h) refl) (name-bytes ds (digits-all ds k)))
+    (name-append (t ++ codes "_") ds (name-append t (codes "_") (and-left (is_name t) (not (is_some (look_by bytes_eq words t)) && not (is_outside (name t))) h) refl) (name-bytes ds (digits-all ds k)))
     (digits-end (t ++ codes "_") ds k)
 
 behind-prefix : (p a ds : Text) → after_prefix p a ≡ Some ds → p ++ ds ≡ a

@@ -1,6 +1,7 @@
 ghost use Rattle.std.specs.Prelude.{◌≡◌};
+ghost use Rattle.std.specs.Str.{bytes_eq};
+ghost use Rattle.ess_semantics.specs.Names.{look_by};
 ghost use Rattle.ess_grammar.specs.Representations.{kind_of};
-ghost use Rattle.ess_grammar.specs.Words.{look};
 ghost use Rattle.ess_parse.specs.Machines.{shown_table};
 
 use ess_core::ReprKind;
@@ -51,7 +52,7 @@ pub(super) fn kind_of(name: &[u8]) -> Option<ReprKind>
 
 /// The kind that stands beside a name in a table.
 fn kind_in(table: &[(&str, ReprKind)], name: &[u8]) -> Option<ReprKind>
-    ensures { result ≡ look (shown_table table.now) name.now }
+    ensures { result ≡ look_by bytes_eq (shown_table table.now) name.now }
 {
     for (spelling, kind) in table {
         if spelling.as_bytes() == name {

@@ -1,7 +1,8 @@
 use Rattle.std.proofs.Common.{◌≡◌, drop}
-use Rattle.ess_grammar.specs.Words.{look}
+use Rattle.std.specs.Str.{bytes_eq}
+use Rattle.ess_semantics.specs.Names.{look_by}
 use Rattle.ess_lex.specs.Tables.{shown_table}
 use Rattle.ess_lex.proofs.tables.kind_in.Given as goal
 
 abbrev pub invariant-loop-spelling : goal.invariant-loop-spelling
-invariant-loop-spelling l = look (shown_table l.table) l.text ≡ look (shown_table (drop l.spelling-index l.table)) l.text
+invariant-loop-spelling l = look_by bytes_eq (shown_table l.table) l.text ≡ look_by bytes_eq (shown_table (drop l.spelling-index l.table)) l.text
