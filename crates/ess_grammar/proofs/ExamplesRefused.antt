@@ -14,8 +14,10 @@ no_colon (specification no_language_line (more_statements (parts_statement begin
 
 -- then a domain
 no_domain : {ss : List Stm} → IsSpecification ss (read (codes "find x :")) → ⊥
-no_domain (specification no_language_line (more_statements (parts_statement begins_find (last_part (find_part last_name d))) r)) = domain-first d
-no_domain (specification no_language_line (more_statements (parts_statement begins_find (next_part (find_part last_name d) ps)) r)) = domain-first d
+no_domain (specification no_language_line (more_statements (parts_statement begins_find (last_part (find_part last_name d))) r)) =
+    domain-first d
+no_domain (specification no_language_line (more_statements (parts_statement begins_find (next_part (find_part last_name d) ps)) r)) =
+    domain-first d
 
 -- before it a name
 no_name : {ss : List Stm} → IsSpecification ss (read (codes "find : bool")) → ⊥
@@ -29,8 +31,10 @@ found_type (specification no_language_line (more_statements (parts_statement beg
 
 -- no expression begins with a closing bracket
 bracket : {ss : List Stm} → IsSpecification ss (read (codes "such that )")) → ⊥
-bracket (specification no_language_line (more_statements (parts_statement begins_such_that (last_part (such_that_part d))) r)) = let h = expression-first d in cc
-bracket (specification no_language_line (more_statements (parts_statement begins_such_that (next_part (such_that_part d) ps)) r)) = let h = expression-first d in cc
+bracket (specification no_language_line (more_statements (parts_statement begins_such_that (last_part (such_that_part d))) r)) =
+    let h = expression-first d in cc
+bracket (specification no_language_line (more_statements (parts_statement begins_such_that (next_part (such_that_part d) ps)) r)) =
+    let h = expression-first d in cc
 
 -- `such` has `that` behind it
 such_alone : {ss : List Stm} → IsSpecification ss (read (codes "such x")) → ⊥
@@ -38,15 +42,21 @@ such_alone (specification no_language_line (more_statements (parts_statement b p
 
 -- a letting has a value
 no_value : {ss : List Stm} → IsSpecification ss (read (codes "letting x be")) → ⊥
-no_value (specification no_language_line (more_statements (parts_statement begins_letting (last_part (plain_letting_part (value_letting d)))) r)) = expression-first d
-no_value (specification no_language_line (more_statements (parts_statement begins_letting (next_part (plain_letting_part (value_letting d)) ps)) r)) = expression-first d
+no_value (specification no_language_line (more_statements (parts_statement begins_letting
+    (last_part (plain_letting_part (value_letting d)))) r)) = expression-first d
+no_value (specification no_language_line (more_statements (parts_statement begins_letting
+    (next_part (plain_letting_part (value_letting d)) ps)) r)) = expression-first d
 
 -- no enumerated type is empty
 no_values : {ss : List Stm} → IsSpecification ss (read (codes "letting c be new type enum {}")) → ⊥
-no_values (specification no_language_line (more_statements (parts_statement begins_letting (last_part (plain_letting_part (value_letting d)))) r)) = let h = expression-first d in cc
-no_values (specification no_language_line (more_statements (parts_statement begins_letting (next_part (plain_letting_part (value_letting d)) ps)) r)) = let h = expression-first d in cc
-no_values (specification no_language_line (more_statements (parts_statement begins_letting (last_part (plain_letting_part (enum_letting ns)))) r)) = elim ns [ ]
-no_values (specification no_language_line (more_statements (parts_statement begins_letting (next_part (plain_letting_part (enum_letting ns)) ps)) r)) = elim ns [ ]
+no_values (specification no_language_line (more_statements (parts_statement begins_letting
+    (last_part (plain_letting_part (value_letting d)))) r)) = let h = expression-first d in cc
+no_values (specification no_language_line (more_statements (parts_statement begins_letting
+    (next_part (plain_letting_part (value_letting d)) ps)) r)) = let h = expression-first d in cc
+no_values (specification no_language_line (more_statements (parts_statement begins_letting
+    (last_part (plain_letting_part (enum_letting ns)))) r)) = elim ns [ ]
+no_values (specification no_language_line (more_statements (parts_statement begins_letting
+    (next_part (plain_letting_part (enum_letting ns)) ps)) r)) = elim ns [ ]
 
 -- the language line has two numbers
 one_number : {ss : List Stm} → IsSpecification ss (read (codes "language Essence 1 find x : bool")) → ⊥

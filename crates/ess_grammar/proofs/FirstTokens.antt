@@ -84,7 +84,8 @@ mutual
   atom-first (index_atom d ds) = atom-first d
   atom-first (application_atom d ds) = atom-first d
 
-  pub expression-first : {w : Bool} {s : Shape} {l : ℕ} {e : Ex} {ts us : List Token} → Expression w s l e ts us → First begins_expression ts
+  pub expression-first : {w : Bool} {s : Shape} {l : ℕ} {e : Ex} {ts us : List Token} → Expression w s l e ts us →
+      First begins_expression ts
   expression-first (atom_expression d) = atom-first d
   expression-first (minus_expression k d) = refl
   expression-first (not_expression k d) = refl

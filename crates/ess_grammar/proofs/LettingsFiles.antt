@@ -14,7 +14,8 @@ are_plain (s ∷ ss) = is_plain_letting s && are_plain ss
 
 plain-head : (rs ss : List Stm) → are_plain (rs ++ ss) ≡ true → are_plain rs ≡ true
 plain-head [] ss h = refl
-plain-head (r ∷ rs) ss h = and-both (is_plain_letting r) (are_plain rs) (and-left (is_plain_letting r) (are_plain (rs ++ ss)) h) (plain-head rs ss (and-right (is_plain_letting r) (are_plain (rs ++ ss)) h))
+plain-head (r ∷ rs) ss h = and-both (is_plain_letting r) (are_plain rs) (and-left (is_plain_letting r) (are_plain (rs ++ ss)) h)
+    (plain-head rs ss (and-right (is_plain_letting r) (are_plain (rs ++ ss)) h))
 
 plain-tail : (rs ss : List Stm) → are_plain (rs ++ ss) ≡ true → are_plain ss ≡ true
 plain-tail [] ss h = h
@@ -22,7 +23,8 @@ plain-tail (r ∷ rs) ss h = plain-tail rs ss (and-right (is_plain_letting r) (a
 
 plain-both : (rs ss : List Stm) → are_plain rs ≡ true → are_plain ss ≡ true → are_plain (rs ++ ss) ≡ true
 plain-both [] ss h k = k
-plain-both (r ∷ rs) ss h k = and-both (is_plain_letting r) (are_plain (rs ++ ss)) (and-left (is_plain_letting r) (are_plain rs) h) (plain-both rs ss (and-right (is_plain_letting r) (are_plain rs) h) k)
+plain-both (r ∷ rs) ss h k = and-both (is_plain_letting r) (are_plain (rs ++ ss)) (and-left (is_plain_letting r) (are_plain rs) h)
+    (plain-both rs ss (and-right (is_plain_letting r) (are_plain rs) h) k)
 
 -- ---- a file is a specification
 
@@ -35,7 +37,8 @@ plain-cons s ss h k = and-both (is_plain_letting s) (are_plain ss) h k
 
 parts-of : {ss : List Stm} {ts us : List Token} → PlainLettings ss ts us → Parts letting_word ss ts us × (are_plain ss ≡ true)
 parts-of (last_letting {s = s} l) = (last_part (plain_letting_part l), plain-cons s [] (plain-letting l) refl)
-parts-of (next_letting {s = s} {ss = ss} l ls) = let r = parts-of ls in (next_part (plain_letting_part l) r.0, plain-cons s ss (plain-letting l) r.1)
+parts-of (next_letting {s = s} {ss = ss} l ls) = let r = parts-of ls in
+    (next_part (plain_letting_part l) r.0, plain-cons s ss (plain-letting l) r.1)
 
 statements-of : {ss : List Stm} {ts : List Token} → LettingStatements ss ts → Statements ss ts × (are_plain ss ≡ true)
 statements-of no_lettings = (no_statements, refl)
@@ -65,13 +68,16 @@ lettings-of (next_part (unnamed_letting_part d) ps) h = cc
 
 file-of : {ss : List Stm} {ts : List Token} → Statements ss ts → are_plain ss ≡ true → LettingStatements ss ts
 file-of no_statements h = no_lettings
-file-of (more_statements {ss = ss} {rs = rs} (parts_statement begins_letting ps) r) h = more_lettings (lettings-of ps (plain-head ss rs h)) (file-of r (plain-tail ss rs h))
-file-of (more_statements {rs = rs} (parts_statement begins_given (last_part (given_part {ns = ns} {d = d} a k))) r) h = absurd (no-given d a (plain-head (map (λ a. given a d) ns) rs h))
+file-of (more_statements {ss = ss} {rs = rs} (parts_statement begins_letting ps) r) h =
+    more_lettings (lettings-of ps (plain-head ss rs h)) (file-of r (plain-tail ss rs h))
+file-of (more_statements {rs = rs} (parts_statement begins_given (last_part (given_part {ns = ns} {d = d} a k))) r) h =
+    absurd (no-given d a (plain-head (map (λ a. given a d) ns) rs h))
 file-of (more_statements (parts_statement begins_given (last_part given_enum_part)) r) h = cc
 file-of (more_statements {rs = rs} (parts_statement begins_given (next_part {rs = qs} (given_part {ns = ns} {d = d} a k) ps)) r) h =
     absurd (no-given d a (plain-head (map (λ a. given a d) ns) qs (plain-head (map (λ a. given a d) ns ++ qs) rs h)))
 file-of (more_statements (parts_statement begins_given (next_part given_enum_part ps)) r) h = cc
-file-of (more_statements {rs = rs} (parts_statement begins_find (last_part (find_part {ns = ns} {d = d} a k))) r) h = absurd (no-find d a (plain-head (map (λ a. find a d) ns) rs h))
+file-of (more_statements {rs = rs} (parts_statement begins_find (last_part (find_part {ns = ns} {d = d} a k))) r) h =
+    absurd (no-find d a (plain-head (map (λ a. find a d) ns) rs h))
 file-of (more_statements {rs = rs} (parts_statement begins_find (next_part {rs = qs} (find_part {ns = ns} {d = d} a k) ps)) r) h =
     absurd (no-find d a (plain-head (map (λ a. find a d) ns) qs (plain-head (map (λ a. find a d) ns ++ qs) rs h)))
 file-of (more_statements (parts_statement begins_where (last_part (where_part d))) r) h = cc

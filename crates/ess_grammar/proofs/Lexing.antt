@@ -24,20 +24,23 @@ comment-there b bs h =
     let passes : not (is_line_feed b) ≡ true = subst (λ c. not (is_line_feed c) ≡ true) (sym dollar) refl in
     omega (arith, run-yes (λ c. not (is_line_feed c)) b bs passes)
 
-token_first-same : (p : Place) (text : Text) (more more' : ℕ → Lexed) → Same more more' → token_first p text (longest_token text) more ≡ token_first p text (longest_token text) more'
+token_first-same : (p : Place) (text : Text) (more more' : ℕ → Lexed) → Same more more' →
+    token_first p text (longest_token text) more ≡ token_first p text (longest_token text) more'
 token_first-same p text more more' same = go (longest_token text) refl
   where
     go : (o : Option (Token × ℕ)) → longest_token text ≡ o → token_first p text o more ≡ token_first p text o more'
     go None e = refl
     go (Some found) e =
-        either (is_wide found.0) (wide_number p) (wide_number p) (next_token found.0 (take found.1 text) p (more found.1)) (next_token found.0 (take found.1 text) p (more' found.1)) refl
+        either (is_wide found.0) (wide_number p) (wide_number p) (next_token found.0 (take found.1 text) p (more found.1))
+        (next_token found.0 (take found.1 text) p (more' found.1)) refl
         (ap (next_token found.0 (take found.1 text) p) (same found.1 (longest-reads token_of (length text) found.1 text found.0 e).0))
 
 first-same : (p : Place) (text : Text) (more more' : ℕ → Lexed) → Same more more' → first p text more ≡ first p text more'
 first-same p [] more more' same = refl
 first-same p (b ∷ bs) more more' same = either (is_white b) _ _ _ _ (same 1 (omega arith)) (go (begins_comment b) refl)
   where
-    go : (i : Bool) → begins_comment b ≡ i → choice i (more (comment_length (b ∷ bs))) (token_first p (b ∷ bs) (longest_token (b ∷ bs)) more)
+    go : (i : Bool) → begins_comment b ≡ i →
+        choice i (more (comment_length (b ∷ bs))) (token_first p (b ∷ bs) (longest_token (b ∷ bs)) more)
         ≡ choice i (more' (comment_length (b ∷ bs))) (token_first p (b ∷ bs) (longest_token (b ∷ bs)) more')
     go true e = same (comment_length (b ∷ bs)) (comment-there b bs e)
     go false e = token_first-same p (b ∷ bs) more more' same
@@ -58,27 +61,37 @@ later before text n = lexed_after (before ++ take n text) (drop n text)
 pub lexed_after-first : (before text : Text) → lexed_after before text ≡ first (place before) text (later before text)
 lexed_after-first before [] = refl
 lexed_after-first before (b ∷ bs) = first-same (place before) (b ∷ bs) _ _
-    (λ i a. turns (length bs) (length (drop i (b ∷ bs))) (before ++ take i (b ∷ bs)) (drop i (b ∷ bs)) (omega (arith, length-drop i (b ∷ bs))) (omega arith))
+    (λ i a. turns (length bs) (length (drop i (b ∷ bs))) (before ++ take i (b ∷ bs)) (drop i (b ∷ bs))
+        (omega (arith, length-drop i (b ∷ bs))) (omega arith))
 
 -- ---- by what stands at the front
 
-pub lexed_after-white : (before : Text) (b : ℕ) (bs : Text) → is_white b ≡ true → lexed_after before (b ∷ bs) ≡ lexed_after (before ++ b ∷ []) bs
+pub lexed_after-white : (before : Text) (b : ℕ) (bs : Text) → is_white b ≡ true →
+    lexed_after before (b ∷ bs) ≡ lexed_after (before ++ b ∷ []) bs
 lexed_after-white before b bs h =
     lexed_after-first before (b ∷ bs)
-    ∙ ap (λ i. elim i [ true ↦ later before (b ∷ bs) 1 | false ↦ elim (begins_comment b) [ true ↦ later before (b ∷ bs) (comment_length (b ∷ bs)) | false ↦ token_first (place before) (b ∷ bs) (longest_token (b ∷ bs)) (later before (b ∷ bs)) ] ]) h
+    ∙ ap (λ i. elim i [ true ↦ later before (b ∷ bs) 1 | false ↦
+        elim (begins_comment b) [ true ↦ later before (b ∷ bs) (comment_length (b ∷ bs)) | false ↦
+        token_first (place before) (b ∷ bs) (longest_token (b ∷ bs)) (later before (b ∷ bs)) ] ]) h
 
 pub lexed_after-comment : (before : Text) (bs : Text) → lexed_after before (36 ∷ bs) ≡ later before (36 ∷ bs) (comment_length (36 ∷ bs))
 lexed_after-comment before bs = lexed_after-first before (36 ∷ bs)
 
-lexed_after-plain : (before : Text) (b : ℕ) (bs : Text) → Plain b → lexed_after before (b ∷ bs) ≡ token_first (place before) (b ∷ bs) (longest_token (b ∷ bs)) (later before (b ∷ bs))
+lexed_after-plain : (before : Text) (b : ℕ) (bs : Text) → Plain b →
+    lexed_after before (b ∷ bs) ≡ token_first (place before) (b ∷ bs) (longest_token (b ∷ bs)) (later before (b ∷ bs))
 lexed_after-plain before b bs h =
     lexed_after-first before (b ∷ bs)
-    ∙ ap (λ i. elim i [ true ↦ later before (b ∷ bs) 1 | false ↦ elim (begins_comment b) [ true ↦ later before (b ∷ bs) (comment_length (b ∷ bs)) | false ↦ token_first (place before) (b ∷ bs) (longest_token (b ∷ bs)) (later before (b ∷ bs)) ] ]) h.0
-    ∙ ap (λ i. elim i [ true ↦ later before (b ∷ bs) (comment_length (b ∷ bs)) | false ↦ token_first (place before) (b ∷ bs) (longest_token (b ∷ bs)) (later before (b ∷ bs)) ]) h.1
+    ∙ ap (λ i. elim i [ true ↦ later before (b ∷ bs) 1 | false ↦
+        elim (begins_comment b) [ true ↦ later before (b ∷ bs) (comment_length (b ∷ bs)) | false ↦
+        token_first (place before) (b ∷ bs) (longest_token (b ∷ bs)) (later before (b ∷ bs)) ] ]) h.0
+    ∙ ap (λ i. elim i [ true ↦ later before (b ∷ bs) (comment_length (b ∷ bs)) | false ↦
+        token_first (place before) (b ∷ bs) (longest_token (b ∷ bs)) (later before (b ∷ bs)) ]) h.1
 
-pub lexed_after-found : (before text : Text) (o : Option (Token × ℕ)) → BeginsPlain text → longest_token text ≡ o → lexed_after before text ≡ token_first (place before) text o (later before text)
+pub lexed_after-found : (before text : Text) (o : Option (Token × ℕ)) → BeginsPlain text → longest_token text ≡ o →
+    lexed_after before text ≡ token_first (place before) text o (later before text)
 lexed_after-found before [] o h e = absurd (omega (arith, h.0))
-lexed_after-found before (b ∷ bs) o h e = lexed_after-plain before b bs h.1 ∙ ap (λ o. token_first (place before) (b ∷ bs) o (later before (b ∷ bs))) e
+lexed_after-found before (b ∷ bs) o h e =
+    lexed_after-plain before b bs h.1 ∙ ap (λ o. token_first (place before) (b ∷ bs) o (later before (b ∷ bs))) e
 
 pub lexed_after-token : (before text : Text) (t : Token) (n : ℕ) → BeginsPlain text → longest_token text ≡ Some (t, n) → is_wide t ≡ false →
     lexed_after before text ≡ next_token t (take n text) (place before) (later before text n)
@@ -86,12 +99,15 @@ lexed_after-token before text t n h e k =
     lexed_after-found before text (Some (t, n)) h e
     ∙ ap (λ i. elim i [ true ↦ wide_number (place before) | false ↦ next_token t (take n text) (place before) (later before text n) ]) k
 
-pub lexed_after-wide : (before text : Text) (found : Token × ℕ) → BeginsPlain text → longest_token text ≡ Some found → is_wide found.0 ≡ true → lexed_after before text ≡ wide_number (place before)
+pub lexed_after-wide : (before text : Text) (found : Token × ℕ) → BeginsPlain text → longest_token text ≡ Some found →
+    is_wide found.0 ≡ true → lexed_after before text ≡ wide_number (place before)
 lexed_after-wide before text found h e k =
     lexed_after-found before text (Some found) h e
-    ∙ ap (λ i. elim i [ true ↦ wide_number (place before) | false ↦ next_token found.0 (take found.1 text) (place before) (later before text found.1) ]) k
+    ∙ ap (λ i. elim i [ true ↦ wide_number (place before) | false ↦
+        next_token found.0 (take found.1 text) (place before) (later before text found.1) ]) k
 
-pub lexed_after-bad : (before text : Text) → BeginsPlain text → longest_token text ≡ None → lexed_after before text ≡ bad_byte (place before)
+pub lexed_after-bad : (before text : Text) → BeginsPlain text → longest_token text ≡ None →
+    lexed_after before text ≡ bad_byte (place before)
 lexed_after-bad before text h e = lexed_after-found before text None h e
 
 -- ---- within a comment
@@ -107,16 +123,19 @@ comment-more b bs h = run-yes (λ c. not (is_line_feed c)) b bs (not_from_false 
 passing : (before : Text) (b : ℕ) (bs : Text) (n : ℕ) → later before (b ∷ bs) (suc n) ≡ later (before ++ b ∷ []) bs n
 passing before b bs n = ap (λ s. lexed_after s (drop n bs)) (sym (append_assoc before (b ∷ []) (take n bs)))
 
-pub lexed_within-inside : (before : Text) (b : ℕ) (bs : Text) → is_line_feed b ≡ false → lexed_within true before (b ∷ bs) ≡ lexed_within true (before ++ b ∷ []) bs
+pub lexed_within-inside : (before : Text) (b : ℕ) (bs : Text) → is_line_feed b ≡ false →
+    lexed_within true before (b ∷ bs) ≡ lexed_within true (before ++ b ∷ []) bs
 lexed_within-inside before b bs h = ap (later before (b ∷ bs)) (comment-more b bs h) ∙ passing before b bs (comment_length bs)
 
-pub lexed_within-begun : (before : Text) (b : ℕ) (bs : Text) → begins_comment b ≡ true → lexed_within false before (b ∷ bs) ≡ lexed_within true (before ++ b ∷ []) bs
+pub lexed_within-begun : (before : Text) (b : ℕ) (bs : Text) → begins_comment b ≡ true →
+    lexed_within false before (b ∷ bs) ≡ lexed_within true (before ++ b ∷ []) bs
 lexed_within-begun before b bs h =
     let dollar : b ≡ 36 = eqb-true b 36 h in
     subst (λ c. lexed_within false before (c ∷ bs) ≡ lexed_within true (before ++ c ∷ []) bs) (sym dollar)
     (lexed_after-comment before bs ∙ ap (later before (36 ∷ bs)) (comment-more 36 bs refl) ∙ passing before 36 bs (comment_length bs))
 
-pub lexed_within-ended : (before : Text) (b : ℕ) (bs : Text) → is_line_feed b ≡ true → lexed_within true before (b ∷ bs) ≡ lexed_within false (before ++ b ∷ []) bs
+pub lexed_within-ended : (before : Text) (b : ℕ) (bs : Text) → is_line_feed b ≡ true →
+    lexed_within true before (b ∷ bs) ≡ lexed_within false (before ++ b ∷ []) bs
 lexed_within-ended before b bs h =
     let feed : b ≡ 10 = eqb-true b 10 h in
     subst (λ c. lexed_within true before (c ∷ bs) ≡ lexed_within false (before ++ c ∷ []) bs) (sym feed)

@@ -32,7 +32,8 @@ look-among (e ∷ es) a =
 outside-among : (ws : List Text) (a : Text) → list_any (bytes_eq a) ws ≡ is_among ws a
 outside-among [] a = refl
 outside-among (w ∷ ws) a =
-    ap (λ b. b || list_any (bytes_eq a) ws) (sym (same_text-bytes a w) ∙ same_text-either a w) ∙ ap (λ b. same_text w a || b) (outside-among ws a)
+    ap (λ b. b || list_any (bytes_eq a) ws) (sym (same_text-bytes a w) ∙ same_text-either a w)
+    ∙ ap (λ b. same_text w a || b) (outside-among ws a)
 
 -- A text is a name token in both ways, or in neither.
 pub name-token-either : (a : Text) → is_name_token a ≡ pure.is_name_token a

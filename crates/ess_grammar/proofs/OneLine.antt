@@ -35,13 +35,15 @@ one_line p (b ∷ t) h k =
 abbrev no_feeds : List (Text × Token) → Bool
 no_feeds es = list_all (λ e. nat_eq (lines_before e.0) 0) es
 
-one_line_entry : (es : List (Text × Token)) (s : Text) (x : Token) → no_feeds es ≡ true → look_by bytes_eq es s ≡ Some x → lines_before s ≡ 0
+one_line_entry : (es : List (Text × Token)) (s : Text) (x : Token) → no_feeds es ≡ true → look_by bytes_eq es s ≡ Some x →
+    lines_before s ≡ 0
 one_line_entry [] s x h k = cc
 one_line_entry ((c, y) ∷ es) s x h k =
     let parts = and_parts (nat_eq (lines_before c) 0) (no_feeds es) h in
     go (bytes_eq c s) refl k parts.0 (one_line_entry es s x parts.1)
   where
-    go : (i : Bool) → bytes_eq c s ≡ i → (if i then Some y else look_by bytes_eq es s) ≡ Some x → nat_eq (lines_before c) 0 ≡ true → (look_by bytes_eq es s ≡ Some x → lines_before s ≡ 0) → lines_before s ≡ 0
+    go : (i : Bool) → bytes_eq c s ≡ i → (if i then Some y else look_by bytes_eq es s) ≡ Some x → nat_eq (lines_before c) 0 ≡ true →
+        (look_by bytes_eq es s ≡ Some x → lines_before s ≡ 0) → lines_before s ≡ 0
     go true e k here below = subst (λ t. lines_before t ≡ 0) ((bytes_eq-Decides c s).0 e) (eqb-true (lines_before c) 0 here)
     go false e k here below = below k
 
@@ -59,7 +61,8 @@ one_line_name : (t : Text) → is_name t ≡ true → lines_before t ≡ 0
 one_line_name [] h = cc
 one_line_name (b ∷ t) h =
     let parts = and_parts (is_letter b) (list_all is_name_byte t) h in
-    one_line is_name_byte (b ∷ t) refl (and_from (is_name_byte b) (list_all is_name_byte t) (or_left (is_letter b) (is_digit b) parts.0) parts.1)
+    one_line is_name_byte (b ∷ t) refl (and_from (is_name_byte b) (list_all is_name_byte t)
+        (or_left (is_letter b) (is_digit b) parts.0) parts.1)
 
 one_line_token : (t rest : Text) (x : Token) → token_of t rest ≡ Some x → lines_before t ≡ 0
 one_line_token t rest x h = ⊎_elim
@@ -67,11 +70,15 @@ one_line_token t rest x h = ⊎_elim
     (λ h. ⊎_elim
     (λ e. one_line_name t (only_if-is (is_name t) (name_or_word t) x e).0)
     (λ h. ⊎_elim
-    (λ e. subst (λ s. lines_before s ≡ 0) (sym ((bytes_eq-Decides t prime_text).0 (only_if-is (bytes_eq t prime_text) (Some prime_word) x e).0)) refl)
+    (λ e. subst (λ s. lines_before s ≡ 0) (sym ((bytes_eq-Decides t prime_text).0
+        (only_if-is (bytes_eq t prime_text) (Some prime_word) x e).0)) refl)
     (λ e. one_line_symbol t rest x e)
     (or_else-is (only_if (bytes_eq t prime_text) (Some prime_word)) (symbol_of t rest) x h))
-    (or_else-is (only_if (is_name t) (name_or_word t)) (or_else (only_if (bytes_eq t prime_text) (Some prime_word)) (symbol_of t rest)) x h))
-    (or_else-is (only_if (is_number t) (Some (number (value_of t)))) (or_else (only_if (is_name t) (name_or_word t)) (or_else (only_if (bytes_eq t prime_text) (Some prime_word)) (symbol_of t rest))) x h)
+    (or_else-is (only_if (is_name t) (name_or_word t)) (or_else (only_if (bytes_eq t prime_text) (Some prime_word))
+        (symbol_of t rest)) x h))
+    (or_else-is (only_if (is_number t) (Some (number (value_of t))))
+        (or_else (only_if (is_name t) (name_or_word t)) (or_else (only_if (bytes_eq t prime_text) (Some prime_word))
+        (symbol_of t rest))) x h)
 
 -- the first k bytes are read as x
 abbrev pub ReadAt : Reader → ℕ → ℕ → Text → Token → Type 0
@@ -91,7 +98,8 @@ longest-reads reads (suc n) k bs x h = go (reads (take (suc n) bs) (drop (suc n)
     same : Token × ℕ → Token × ℕ → Type 0
     same a b = a ≡ b
 
-    go : (o : Option Token) → Reads reads (suc n) bs o → chosen o (suc n) (longest reads n bs) ≡ Some (x, k) → (longest reads n bs ≡ Some (x, k) → ReadAt reads n k bs x) → ReadAt reads (suc n) k bs x
+    go : (o : Option Token) → Reads reads (suc n) bs o → chosen o (suc n) (longest reads n bs) ≡ Some (x, k) →
+        (longest reads n bs ≡ Some (x, k) → ReadAt reads n k bs x) → ReadAt reads (suc n) k bs x
     go (Some y) e q below =
         let p : same (y, suc n) (x, k) = cc in
         found y e (ap (λ z. z.0) p) (ap (λ z. z.1) p)

@@ -49,7 +49,8 @@ table-named : (es : List (Text × Token)) (t : Text) → are_nameless es ≡ tru
 table-named [] t h = tt
 table-named (e ∷ es) t h =
     by_choice (bytes_eq e.0 t) Named (Some e.1) (look_by bytes_eq es t)
-    (λ q. nameless-named e.1 (and-left (is_nameless e.1) (are_nameless es) h)) (λ q. table-named es t (and-right (is_nameless e.1) (are_nameless es) h))
+    (λ q. nameless-named e.1 (and-left (is_nameless e.1) (are_nameless es) h))
+    (λ q. table-named es t (and-right (is_nameless e.1) (are_nameless es) h))
 
 either-named : (o p : Option Token) → Named o → Named p → Named (or_else o p)
 either-named None p h k = k
@@ -66,7 +67,8 @@ word-named (Some x) t h k q = h
 symbol-named : (t rest : Text) → Named (symbol_of t rest)
 symbol-named t rest =
     either-named (look_by bytes_eq symbols t) (only_if (not (begins_with_name_byte rest)) (look_by bytes_eq lex_symbols t))
-    (table-named symbols t refl) (only-named (not (begins_with_name_byte rest)) (look_by bytes_eq lex_symbols t) (λ h. table-named lex_symbols t refl))
+    (table-named symbols t refl) (only-named (not (begins_with_name_byte rest)) (look_by bytes_eq lex_symbols t)
+        (λ h. table-named lex_symbols t refl))
 
 token-named : (t rest : Text) → Named (token_of t rest)
 token-named t rest =
@@ -82,13 +84,15 @@ abbrev NamedFirst : Option (Token × ℕ) → Type 0
 NamedFirst None = Unit {0}
 NamedFirst (Some f) = is_named f.0 ≡ true
 
-found-named : (o : Option Token) (n : ℕ) (r : Option (Token × ℕ)) → Named o → NamedFirst r → NamedFirst (elim o [ Some t ↦ Some (t, n) | None ↦ r ])
+found-named : (o : Option Token) (n : ℕ) (r : Option (Token × ℕ)) → Named o → NamedFirst r →
+    NamedFirst (elim o [ Some t ↦ Some (t, n) | None ↦ r ])
 found-named None n r h k = k
 found-named (Some t) n r h k = h
 
 longest-named : (n : ℕ) (bs : Text) → NamedFirst (longest token_of n bs)
 longest-named zero bs = tt
-longest-named (suc n) bs = found-named (token_of (take (suc n) bs) (drop (suc n) bs)) (suc n) (longest token_of n bs) (token-named (take (suc n) bs) (drop (suc n) bs)) (longest-named n bs)
+longest-named (suc n) bs = found-named (token_of (take (suc n) bs) (drop (suc n) bs)) (suc n) (longest token_of n bs)
+    (token-named (take (suc n) bs) (drop (suc n) bs)) (longest-named n bs)
 
 -- ---- all tokens
 
@@ -98,7 +102,8 @@ AllNamed (bad_byte p) = Unit {0}
 AllNamed (wide_number p) = Unit {0}
 AllNamed (next_token t bytes p more) = (is_named t ≡ true) × (is_wide t ≡ false) × AllNamed more
 
-token-first : (p : Place) (bs : Text) (o : Option (Token × ℕ)) (more : ℕ → Lexed) → NamedFirst o → ((n : ℕ) → AllNamed (more n)) → AllNamed (token_first p bs o more)
+token-first : (p : Place) (bs : Text) (o : Option (Token × ℕ)) (more : ℕ → Lexed) → NamedFirst o → ((n : ℕ) → AllNamed (more n)) →
+    AllNamed (token_first p bs o more)
 token-first p bs None more h k = tt
 token-first p bs (Some f) more h k =
     by_test (is_wide f.0) AllNamed (wide_number p) (next_token f.0 (take f.1 bs) p (more f.1)) (λ q. tt) (λ q. (h, q, k f.1))
@@ -115,13 +120,16 @@ first-named p (b ∷ bs) more k =
 
 lexed-named : (turns : ℕ) (before text : Text) → AllNamed (lexed_in turns before text)
 lexed-named zero before text = tt
-lexed-named (suc turns) before text = first-named (place before) text (λ n. lexed_in turns (before ++ take n text) (drop n text)) (λ n. lexed-named turns (before ++ take n text) (drop n text))
+lexed-named (suc turns) before text = first-named (place before) text (λ n. lexed_in turns (before ++ take n text) (drop n text))
+    (λ n. lexed-named turns (before ++ take n text) (drop n text))
 
 named-proper : (t : Token) → is_named t ≡ true → is_wide t ≡ false → is_outside t ≡ false → is_proper t ≡ true
 named-proper (number n) h w o = lt-ltb n (2 ^ 63) (leb-false (2 ^ 63) n w)
 named-proper (name a) h w o =
-    and-both (is_name a) (not (is_some (look_by bytes_eq words a)) && not (is_outside (name a))) (and-left (is_name a) (not (is_some (look_by bytes_eq words a))) h)
-    (and-both (not (is_some (look_by bytes_eq words a))) (not (is_outside (name a))) (and-right (is_name a) (not (is_some (look_by bytes_eq words a))) h) (ap not o))
+    and-both (is_name a) (not (is_some (look_by bytes_eq words a)) && not (is_outside (name a)))
+        (and-left (is_name a) (not (is_some (look_by bytes_eq words a))) h)
+    (and-both (not (is_some (look_by bytes_eq words a))) (not (is_outside (name a)))
+        (and-right (is_name a) (not (is_some (look_by bytes_eq words a))) h) (ap not o))
 named-proper prime_word h w o = refl
 named-proper (word x) h w o = refl
 named-proper (operator x) h w o = refl
@@ -159,7 +167,8 @@ pub tokens-proper : (text : Text) (ts : List Token) → tokens text ≡ Some ts 
 tokens-proper text ts h o = all-proper (lexed text) ts (lexed-named (length text) [] text) h o
 
 -- what is read is readable
-pub specification-text-readable : (text : Text) (ss : List Stm) → ReadsSpecification text ss → first_outside (lexed text) ≡ None → ReadableStms ss
+pub specification-text-readable : (text : Text) (ss : List Stm) → ReadsSpecification text ss → first_outside (lexed text) ≡ None →
+    ReadableStms ss
 specification-text-readable text ss r o = specification-readable r.2 (tokens-proper text r.0 r.1 o)
 
 pub lettings-text-readable : (text : Text) (ss : List Stm) → ReadsLettings text ss → first_outside (lexed text) ≡ None → ReadableLettings ss

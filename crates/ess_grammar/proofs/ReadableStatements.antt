@@ -21,11 +21,13 @@ names-read (next_name {a = a} {ns = ns} d) h =
 
 givens-readable : (ns : List Text) (d : Dom) → are_name_tokens ns ≡ true → ReadableDom d → ReadableStms (map (λ a. given a d) ns)
 givens-readable [] d h k = tt
-givens-readable (a ∷ ns) d h k = ((and-left (is_name_token a) (are_name_tokens ns) h, k), givens-readable ns d (and-right (is_name_token a) (are_name_tokens ns) h) k)
+givens-readable (a ∷ ns) d h k =
+    ((and-left (is_name_token a) (are_name_tokens ns) h, k), givens-readable ns d (and-right (is_name_token a) (are_name_tokens ns) h) k)
 
 finds-readable : (ns : List Text) (d : Dom) → are_name_tokens ns ≡ true → ReadableDom d → ReadableStms (map (λ a. find a d) ns)
 finds-readable [] d h k = tt
-finds-readable (a ∷ ns) d h k = ((and-left (is_name_token a) (are_name_tokens ns) h, k), finds-readable ns d (and-right (is_name_token a) (are_name_tokens ns) h) k)
+finds-readable (a ∷ ns) d h k =
+    ((and-left (is_name_token a) (are_name_tokens ns) h, k), finds-readable ns d (and-right (is_name_token a) (are_name_tokens ns) h) k)
 
 joined : (rs ss : List Stm) → ReadableStms rs → ReadableStms ss → ReadableStms (rs ++ ss)
 joined [] ss h k = k
@@ -44,12 +46,15 @@ letting-reads : {s : Stm} {ts us : List Token} → PlainLetting s ts us → Prop
 letting-reads (value_letting d) h = let r = reads d h.1.1 in record { plain = refl; stm = (h.0, r.0); rest = r.1 }
 letting-reads (enum_letting {a = a} {ns = ns} d) h =
     let r = names-read d h.1.1.1.1.1.1 in
-    record { plain = refl; stm = and-both (is_name_token a) (some_names ns && are_name_tokens ns) h.0 (and-both (some_names ns) (are_name_tokens ns) r.some r.all); rest = r.rest.1 }
+    record { plain = refl; stm = and-both (is_name_token a) (some_names ns && are_name_tokens ns) h.0
+        (and-both (some_names ns) (are_name_tokens ns) r.some r.all); rest = r.rest.1 }
 
 part-reads : {x : Word} {ss : List Stm} {ts us : List Token} → Part x ss ts us → Proper ts → ReadableStms ss × Proper us
-part-reads (given_part {ns = ns} {d = d} a k) h = let r = names-read a h in let q = domain-reads k r.rest.1 in (givens-readable ns d r.all q.0, q.1)
+part-reads (given_part {ns = ns} {d = d} a k) h = let r = names-read a h in let q = domain-reads k r.rest.1 in
+    (givens-readable ns d r.all q.0, q.1)
 part-reads given_enum_part h = ((h.0, tt), h.1.1.1.1)
-part-reads (find_part {ns = ns} {d = d} a k) h = let r = names-read a h in let q = domain-reads k r.rest.1 in (finds-readable ns d r.all q.0, q.1)
+part-reads (find_part {ns = ns} {d = d} a k) h = let r = names-read a h in let q = domain-reads k r.rest.1 in
+    (finds-readable ns d r.all q.0, q.1)
 part-reads (plain_letting_part l) h = let r = letting-reads l h in ((r.stm, tt), r.rest)
 part-reads (domain_letting_part k) h = let q = domain-reads k h.1.1.1 in (((h.0, q.0), tt), q.1)
 part-reads (unnamed_letting_part d) h = let r = reads d h.1.1.1.1.1.1 in (((h.0, r.0), tt), r.1)

@@ -45,7 +45,8 @@ steps-fit no_exs = refl
 steps-fit (more_exs e es) = steps-fit es
 
 -- a node of operands of which there is one or more
-some-fit : {o : Op} {c : Symbol} {b : Bool} {ts us : List Token} → Opens o c b ts us → (e : Ex) (es : Exs) → fit_operands o (more_exs e es) ≡ true
+some-fit : {o : Op} {c : Symbol} {b : Bool} {ts us : List Token} → Opens o c b ts us → (e : Ex) (es : Exs) →
+    fit_operands o (more_exs e es) ≡ true
 some-fit opens_tuple e es = refl
 some-fit opens_set e es = refl
 some-fit opens_mset e es = refl
@@ -70,15 +71,18 @@ opens-proper opens_partition h = h.1.1
 opens-proper opens_matrix h = h.1
 opens-proper opens_call h = h.1.1
 
-list-fit : {o : Op} {c : Symbol} {b k : Bool} {es : Exs} {ts us vs xs : List Token} → Opens o c b ts us → Expressions k es vs xs → fit_operands o es ≡ true
+list-fit : {o : Op} {c : Symbol} {b k : Bool} {es : Exs} {ts us vs xs : List Token} → Opens o c b ts us → Expressions k es vs xs →
+    fit_operands o es ≡ true
 list-fit z (last_expression {e = e} d) = some-fit z e no_exs
 list-fit z (next_expression {e = e} {es = es} d ds) = some-fit z e es
 
-index-fit : {k : Bool} {es : Exs} {ts us : List Token} → Expressions k es ts us → (e : Ex) → fit_operands (Trees.index (steps_of es)) (more_exs e es) ≡ true
+index-fit : {k : Bool} {es : Exs} {ts us : List Token} → Expressions k es ts us → (e : Ex) →
+    fit_operands (Trees.index (steps_of es)) (more_exs e es) ≡ true
 index-fit (last_expression {e = e} d) a = refl
 index-fit (next_expression {e = e} {es = es} d ds) a = steps-fit es
 
-application-fit : {k : Bool} {es : Exs} {ts us : List Token} → Expressions k es ts us → (e : Ex) → fit_operands Trees.application (more_exs e es) ≡ true
+application-fit : {k : Bool} {es : Exs} {ts us : List Token} → Expressions k es ts us → (e : Ex) →
+    fit_operands Trees.application (more_exs e es) ≡ true
 application-fit (last_expression d) a = refl
 application-fit (next_expression d ds) a = refl
 
@@ -94,7 +98,8 @@ several-domains : {t : Token} {ds : Doms} {ts us : List Token} → (d : Dom) →
 several-domains c (last_domain d) = refl
 several-domains c (next_domain d ds) = refl
 
-several-patterns : {k : Bool} {es : Exs} {ts us : List Token} → (e : Ex) → Expressions k es ts us → several_pats (as_patterns (more_exs e es)) ≡ true
+several-patterns : {k : Bool} {es : Exs} {ts us : List Token} → (e : Ex) → Expressions k es ts us →
+    several_pats (as_patterns (more_exs e es)) ≡ true
 several-patterns e (last_expression d) = refl
 several-patterns e (next_expression d ds) = refl
 
@@ -112,7 +117,8 @@ record ReadsFieldDomains (ns : List Text) (ds : Doms) (us : List Token) : Type 0
   fields : ReadableFields (zip ns (dom_list ds))
   rest : Proper us
 
-field-fit : (a : Text) (ns : List Text) (e : Ex) (es : Exs) → is_name_token a ≡ true → fit_operands (record_literal ns) es ≡ true → fit_operands (record_literal (a ∷ ns)) (more_exs e es) ≡ true
+field-fit : (a : Text) (ns : List Text) (e : Ex) (es : Exs) → is_name_token a ≡ true → fit_operands (record_literal ns) es ≡ true →
+    fit_operands (record_literal (a ∷ ns)) (more_exs e es) ≡ true
 field-fit a [] e es h k = cc
 field-fit a (b ∷ ns) e es h k =
     and-both (is_name_token a && are_name_tokens (b ∷ ns)) (fit_fields (b ∷ ns) es)
@@ -128,15 +134,18 @@ record ReadsGenerator (hs gs : Gens) (us : List Token) : Type 0 where
   some : some_gens gs ≡ true
   rest : Proper us
 
-over-all : (ps : Exs) (d : Dom) (hs : Gens) → ReadablePats (as_patterns ps) → ReadableDom d → ReadableGens hs → ReadableGens (all_over ps d hs)
+over-all : (ps : Exs) (d : Dom) (hs : Gens) → ReadablePats (as_patterns ps) → ReadableDom d → ReadableGens hs →
+    ReadableGens (all_over ps d hs)
 over-all no_exs d hs p k h = h
 over-all (more_exs e ps) d hs p k h = (p.0, k, over-all ps d hs p.1 k h)
 
-from-all : (ps : Exs) (e : Ex) (hs : Gens) → ReadablePats (as_patterns ps) → ReadableEx e → ReadableGens hs → ReadableGens (all_from ps e hs)
+from-all : (ps : Exs) (e : Ex) (hs : Gens) → ReadablePats (as_patterns ps) → ReadableEx e → ReadableGens hs →
+    ReadableGens (all_from ps e hs)
 from-all no_exs e hs p k h = h
 from-all (more_exs x ps) e hs p k h = (p.0, k, from-all ps e hs p.1 k h)
 
-over-some : {k : Bool} {ps : Exs} {ts us : List Token} → Expressions k ps ts us → (d : Dom) (hs : Gens) → some_gens (all_over ps d hs) ≡ true
+over-some : {k : Bool} {ps : Exs} {ts us : List Token} → Expressions k ps ts us → (d : Dom) (hs : Gens) →
+    some_gens (all_over ps d hs) ≡ true
 over-some (last_expression e) d hs = refl
 over-some (next_expression e es) d hs = refl
 
@@ -165,8 +174,10 @@ mutual
   atom-reads (matrix_atom ds d) h = let q = all-read ds h.1 in let r = domain-reads d q.1.1 in ((some-of ds, q.0, r.0), r.1.1)
   atom-reads (comprehension_atom d is) h = let r = reads d h.1 in let q = items-read is r.1.1 in ((r.0, q.0.0, q.0.1), q.1.1)
   atom-reads (bar_atom d) h = let r = reads d h.1 in ((refl, refl, (r.0, tt)), r.1.1)
-  atom-reads (index_atom {e = e} d ds) h = let r = atom-reads d h in let q = all-read ds r.1.1 in ((refl, index-fit ds e, (r.0, q.0)), q.1.1)
-  atom-reads (application_atom {e = e} d ds) h = let r = atom-reads d h in let q = all-read ds r.1.1 in ((refl, application-fit ds e, (r.0, q.0)), q.1.1)
+  atom-reads (index_atom {e = e} d ds) h = let r = atom-reads d h in let q = all-read ds r.1.1 in
+      ((refl, index-fit ds e, (r.0, q.0)), q.1.1)
+  atom-reads (application_atom {e = e} d ds) h = let r = atom-reads d h in let q = all-read ds r.1.1 in
+      ((refl, application-fit ds e, (r.0, q.0)), q.1.1)
 
   pub reads : {w : Bool} {s : Shape} {l : ℕ} {e : Ex} {ts us : List Token} → Expression w s l e ts us → Proper ts → ReadableEx e × Proper us
   reads (atom_expression d) h = atom-reads d h
@@ -186,17 +197,21 @@ mutual
       let r = reads d h in let q = reads g r.1.1 in let z = pairs-read ds q.1.1 in ((z.0.0, ((refl, refl, (r.0, (q.0, tt))), z.0.1)), z.1)
 
   fields-read : {ns : List Text} {es : Exs} {ts us : List Token} → Fields ns es ts us → Proper ts → ReadsFields ns es us
-  fields-read (last_field {a = a} {e = e} d) h = let r = reads d h.1.1 in record { fit = one-field-fit a e h.0; exs = (r.0, tt); rest = r.1 }
+  fields-read (last_field {a = a} {e = e} d) h = let r = reads d h.1.1 in
+      record { fit = one-field-fit a e h.0; exs = (r.0, tt); rest = r.1 }
   fields-read (next_field {a = a} {fs = ns} {e = e} {es = es} d ds) h =
-      let r = reads d h.1.1 in let q = fields-read ds r.1.1 in record { fit = field-fit a ns e es h.0 q.fit; exs = (r.0, q.exs); rest = q.rest }
+      let r = reads d h.1.1 in let q = fields-read ds r.1.1 in
+          record { fit = field-fit a ns e es h.0 q.fit; exs = (r.0, q.exs); rest = q.rest }
 
-  items-read : {p : Place} {bs : List Text} {h : Bool} {gs : Gens} {ts us : List Token} → Items p bs h gs ts us → Proper ts → ((some_gens gs ≡ true) × ReadableGens gs) × Proper us
+  items-read : {p : Place} {bs : List Text} {h : Bool} {gs : Gens} {ts us : List Token} → Items p bs h gs ts us → Proper ts →
+      ((some_gens gs ≡ true) × ReadableGens gs) × Proper us
   items-read (last_generator g) h = let r = generator-reads g h in ((r.some, r.gens tt), r.rest)
   items-read (next_generator g is) h = let r = generator-reads g h in let q = items-read is r.rest.1 in ((r.some, r.gens q.0.1), q.1)
   items-read (last_condition k d) h = let r = reads d h in ((refl, (r.0, tt)), r.1)
   items-read (next_condition k i d is) h = let r = reads d h in let q = items-read is r.1.1 in ((refl, (r.0, q.0.1)), q.1)
 
-  generator-reads : {p : Place} {bs cs : List Text} {hs gs : Gens} {ts us : List Token} → Generator p bs cs hs gs ts us → Proper ts → ReadsGenerator hs gs us
+  generator-reads : {p : Place} {bs cs : List Text} {hs gs : Gens} {ts us : List Token} → Generator p bs cs hs gs ts us → Proper ts →
+      ReadsGenerator hs gs us
   generator-reads (over_generator {ps = ps} {d = d} {hs = hs} es k) h =
       let r = patterns-read es refl h in let q = domain-reads k r.1.1 in
       record { gens = λ g. over-all ps d hs r.0 q.0 g; some = over-some es d hs; rest = q.1 }
@@ -207,12 +222,15 @@ mutual
       let r = patterns-read es refl h in let q = reads k r.1.1 in
       record { gens = λ g. from-all ps e hs r.0 q.0 g; some = from-some es e hs; rest = q.1 }
 
-  patterns-read : {k : Bool} {ps : Exs} {ts us : List Token} → Expressions k ps ts us → k ≡ true → Proper ts → ReadablePats (as_patterns ps) × Proper us
+  patterns-read : {k : Bool} {ps : Exs} {ts us : List Token} → Expressions k ps ts us → k ≡ true → Proper ts →
+      ReadablePats (as_patterns ps) × Proper us
   patterns-read (last_expression d) i h = let r = pattern-reads d i h in ((r.0, tt), r.1)
   patterns-read (next_expression {k = k} {s = s} d ds) i h =
-      let r = pattern-reads d (and-left (is_pattern s) k i) h in let q = patterns-read ds (and-right (is_pattern s) k i) r.1.1 in ((r.0, q.0), q.1)
+      let r = pattern-reads d (and-left (is_pattern s) k i) h in let q = patterns-read ds (and-right (is_pattern s) k i) r.1.1 in
+          ((r.0, q.0), q.1)
 
-  pattern-reads : {w : Bool} {s : Shape} {l : ℕ} {e : Ex} {ts us : List Token} → Expression w s l e ts us → is_pattern s ≡ true → Proper ts → ReadablePat (as_pattern e) × Proper us
+  pattern-reads : {w : Bool} {s : Shape} {l : ℕ} {e : Ex} {ts us : List Token} → Expression w s l e ts us → is_pattern s ≡ true →
+      Proper ts → ReadablePat (as_pattern e) × Proper us
   pattern-reads (atom_expression {p = p} d) i h = atom-pattern d (shape-true p i) h
   pattern-reads (minus_expression k d) i h = cc
   pattern-reads (not_expression k d) i h = cc
@@ -234,8 +252,10 @@ mutual
   domain-reads name_domain h = (h.0, h.1)
   domain-reads (pair_domain d ds) h = let r = domain-reads d h.1 in let q = domains-read ds refl r.1.1 in ((refl, (r.0, q.0)), q.1.1)
   domain-reads (tuple_domain ds) h = let q = domains-read ds refl h.1.1 in ((some-domains ds, q.0), q.1.1)
-  domain-reads (record_domain {fs = ns} {ds = ds} ks) h = let q = field-domains-read ks h.1.1 in (fields-readable (zip ns (dom_list ds)) q.some q.fields, q.rest.1)
-  domain-reads (matrix_domain ds d) h = let q = domains-read ds refl h.1.1.1.1 in let r = domain-reads d q.1.1.1 in ((some-domains ds, q.0, r.0), r.1)
+  domain-reads (record_domain {fs = ns} {ds = ds} ks) h = let q = field-domains-read ks h.1.1 in
+      (fields-readable (zip ns (dom_list ds)) q.some q.fields, q.rest.1)
+  domain-reads (matrix_domain ds d) h = let q = domains-read ds refl h.1.1.1.1 in let r = domain-reads d q.1.1.1 in
+      ((some-domains ds, q.0, r.0), r.1)
   domain-reads (set_domain as' d) h = let q = maybe-read as' h.1 in let r = domain-reads d q.1.1 in ((q.0.0, q.0.1, r.0), r.1)
   domain-reads (mset_domain as' d) h = let q = maybe-read as' h.1 in let r = domain-reads d q.1.1 in ((q.0.0, q.0.1, r.0), r.1)
   domain-reads (partition_domain as' d) h = let q = maybe-read as' h.1 in let r = domain-reads d q.1.1 in ((q.0.0, q.0.1, r.0), r.1)
@@ -246,26 +266,32 @@ mutual
       let q = attributes-read as' h.1.1 in let r = domain-reads d q.1.1 in let z = domain-reads c r.1.1 in ((q.0.0, q.0.1, r.0, z.0), z.1)
   domain-reads (plain_function_domain i d c) h = let r = domain-reads d h.1 in let z = domain-reads c r.1.1 in ((refl, tt, r.0, z.0), z.1)
 
-  domains-read : {t : Token} {ds : Doms} {ts us : List Token} → Domains t ds ts us → is_proper t ≡ true → Proper ts → ReadableDoms ds × Proper us
+  domains-read : {t : Token} {ds : Doms} {ts us : List Token} → Domains t ds ts us → is_proper t ≡ true → Proper ts → ReadableDoms ds ×
+      Proper us
   domains-read (last_domain d) i h = let r = domain-reads d h in ((r.0, tt), r.1)
   domains-read (next_domain d ds) i h = let r = domain-reads d h in let q = domains-read ds i r.1.1 in ((r.0, q.0), q.1)
 
   field-domains-read : {ns : List Text} {ds : Doms} {ts us : List Token} → FieldDomains ns ds ts us → Proper ts → ReadsFieldDomains ns ds us
   field-domains-read (last_field_domain d) h = let r = domain-reads d h.1.1 in record { some = refl; fields = ((h.0, r.0), tt); rest = r.1 }
   field-domains-read (next_field_domain k ks) h =
-      let r = domain-reads k h.1.1 in let q = field-domains-read ks r.1.1 in record { some = refl; fields = ((h.0, r.0), q.fields); rest = q.rest }
+      let r = domain-reads k h.1.1 in let q = field-domains-read ks r.1.1 in
+          record { some = refl; fields = ((h.0, r.0), q.fields); rest = q.rest }
 
-  maybe-read : {ms : List Mark} {es : Exs} {ts us : List Token} → MaybeAttributes ms es ts us → Proper ts → ((fit_marks ms es ≡ true) × ReadableExs es) × Proper us
+  maybe-read : {ms : List Mark} {es : Exs} {ts us : List Token} → MaybeAttributes ms es ts us → Proper ts →
+      ((fit_marks ms es ≡ true) × ReadableExs es) × Proper us
   maybe-read no_attributes h = ((refl, tt), h)
   maybe-read (some_attributes as') h = let q = attributes-read as' h.1 in (q.0, q.1.1)
 
-  attributes-read : {ms : List Mark} {es : Exs} {ts us : List Token} → Attributes ms es ts us → Proper ts → ((fit_marks ms es ≡ true) × ReadableExs es) × Proper us
+  attributes-read : {ms : List Mark} {es : Exs} {ts us : List Token} → Attributes ms es ts us → Proper ts →
+      ((fit_marks ms es ≡ true) × ReadableExs es) × Proper us
   attributes-read (last_attribute (flag_attribute k)) h = ((refl, tt), h.1)
   attributes-read (last_attribute (valued_attribute k d)) h = let r = reads d h.1 in ((refl, (r.0, tt)), r.1)
   attributes-read (next_attribute (flag_attribute k) as') h = attributes-read as' h.1.1
-  attributes-read (next_attribute (valued_attribute k d) as') h = let r = reads d h.1 in let q = attributes-read as' r.1.1 in ((q.0.0, (r.0, q.0.1)), q.1)
+  attributes-read (next_attribute (valued_attribute k d) as') h = let r = reads d h.1 in let q = attributes-read as' r.1.1 in
+      ((q.0.0, (r.0, q.0.1)), q.1)
 
-  ranges-read : {rs : List Ends} {es : Exs} {ts us : List Token} → Ranges rs es ts us → Proper ts → ((fit_ranges rs es ≡ true) × ReadableExs es) × Proper us
+  ranges-read : {rs : List Ends} {es : Exs} {ts us : List Token} → Ranges rs es ts us → Proper ts →
+      ((fit_ranges rs es ≡ true) × ReadableExs es) × Proper us
   ranges-read (last_range (value_range d)) h = let r = reads d h in ((refl, (r.0, tt)), r.1)
   ranges-read (last_range (both_range d g)) h = let r = reads d h in let q = reads g r.1.1 in ((refl, (r.0, (q.0, tt))), q.1)
   ranges-read (last_range (low_range d)) h = let r = reads d h in ((refl, (r.0, tt)), r.1.1)

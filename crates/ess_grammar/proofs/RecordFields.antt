@@ -88,7 +88,8 @@ domains-of-zip (a ∷ ns) no_doms h = cc
 domains-of-zip (a ∷ ns) (more_doms d ds) h = ap (more_doms d) (domains-of-zip ns ds h)
 
 -- A readable domain's fields, written in its own order, are read as that domain.
-pub sorted-record-itself : (ns : List Text) (ds : Doms) → fit_domains ns ds ≡ true → names_rise ns ≡ true → sorted_record ns ds ≡ record_dom ns ds
+pub sorted-record-itself : (ns : List Text) (ds : Doms) → fit_domains ns ds ≡ true → names_rise ns ≡ true →
+    sorted_record ns ds ≡ record_dom ns ds
 sorted-record-itself ns ds h k =
     ap record_of (by-name-itself (zip ns (dom_list ds)) (ap names_rise (keys-of-zip ns ds h) ∙ k))
     ∙ ap (λ ms. record_dom ms (doms_of (map (λ x. x.1) (zip ns (dom_list ds))))) (keys-of-zip ns ds h)
@@ -101,7 +102,8 @@ abbrev pub ReadableFields : Names Dom → Type 0
 ReadableFields [] = Unit {0}
 ReadableFields (x ∷ xs) = ((is_name_token x.0 ≡ true) × ReadableDom x.1) × ReadableFields xs
 
-insert-readable : (x : Text × Dom) (xs : Names Dom) → (is_name_token x.0 ≡ true) × ReadableDom x.1 → ReadableFields xs → ReadableFields (insert_name x xs)
+insert-readable : (x : Text × Dom) (xs : Names Dom) → (is_name_token x.0 ≡ true) × ReadableDom x.1 → ReadableFields xs →
+    ReadableFields (insert_name x xs)
 insert-readable x [] h k = (h, tt)
 insert-readable x (y ∷ ys) h k = go (order_text x.0 y.0) (insert-readable x ys h k.1)
   where
@@ -114,7 +116,8 @@ by-name-readable : (xs : Names Dom) → ReadableFields xs → ReadableFields (by
 by-name-readable [] h = tt
 by-name-readable (x ∷ xs) h = insert-readable x (by_name xs) h.0 (by-name-readable xs h.1)
 
-names-readable : (xs : Names Dom) → ReadableFields xs → (are_name_tokens (keys xs) && fit_domains (keys xs) (doms_of (map (λ x. x.1) xs))) ≡ true
+names-readable : (xs : Names Dom) → ReadableFields xs →
+    (are_name_tokens (keys xs) && fit_domains (keys xs) (doms_of (map (λ x. x.1) xs))) ≡ true
 names-readable [] h = refl
 names-readable (x ∷ xs) h =
     let names = are_name_tokens (keys xs) in let fit = fit_domains (keys xs) (doms_of (map (λ x. x.1) xs)) in

@@ -60,7 +60,8 @@ prime_run r = longest-is token_of 7 (length (prime_text ++ r)) (prime_text ++ r)
         let t : Text = codes "SSENCE'" ++ r in
         let e : list_all is_name_byte (take j t) ≡ false = past_run is_name_byte j t (omega arith) (omega arith) in
         token_of-letter 69 (take j t) (drop j t) refl
-        ∙ ap (λ i. or_else (only_if i (name_or_word (69 ∷ take j t))) (or_else (only_if (bytes_eq (69 ∷ take j t) prime_text) (Some prime_word)) None)) e
+        ∙ ap (λ i. or_else (only_if i (name_or_word (69 ∷ take j t)))
+            (or_else (only_if (bytes_eq (69 ∷ take j t) prime_text) (Some prime_word)) None)) e
         ∙ ap (λ i. or_else (only_if i (Some prime_word)) None) (not_longer (suc j) h l)
 
 -- ESSENCE' is one token, whatever follows
@@ -71,7 +72,8 @@ longest_token-prime text h =
 
 -- ---- names and words
 
-name_run : (b : ℕ) (t : Text) (w : Token) → is_letter b ≡ true → (take 8 (b ∷ t) ≡ prime_text → ⊥) → name_or_word (b ∷ take (prefix_len is_name_byte t) t) ≡ Some w →
+name_run : (b : ℕ) (t : Text) (w : Token) → is_letter b ≡ true → (take 8 (b ∷ t) ≡ prime_text → ⊥) →
+    name_or_word (b ∷ take (prefix_len is_name_byte t) t) ≡ Some w →
     longest_token (b ∷ t) ≡ Some (w, suc (prefix_len is_name_byte t))
 name_run b t w h q k =
     let n : ℕ = prefix_len is_name_byte t in
@@ -81,14 +83,19 @@ name_run b t w h q k =
     here : (n : ℕ) → n ≡ prefix_len is_name_byte t → Reads token_of (suc n) (b ∷ t) (Some w)
     here n e =
         token_of-letter b (take n t) (drop n t) h
-        ∙ ap (λ i. or_else (only_if i (name_or_word (b ∷ take n t))) (or_else (only_if (bytes_eq (b ∷ take n t) prime_text) (Some prime_word)) None)) (within_run is_name_byte n t (omega (arith, e)))
-        ∙ ap (λ o. or_else o (or_else (only_if (bytes_eq (b ∷ take n t) prime_text) (Some prime_word)) None)) (ap (λ m. name_or_word (b ∷ take m t)) e ∙ k)
+        ∙ ap (λ i. or_else (only_if i (name_or_word (b ∷ take n t)))
+            (or_else (only_if (bytes_eq (b ∷ take n t) prime_text) (Some prime_word)) None))
+            (within_run is_name_byte n t (omega (arith, e)))
+        ∙ ap (λ o. or_else o (or_else (only_if (bytes_eq (b ∷ take n t) prime_text) (Some prime_word)) None))
+            (ap (λ m. name_or_word (b ∷ take m t)) e ∙ k)
 
     longer : (n : ℕ) → n ≡ prefix_len is_name_byte t → (k : ℕ) → suc n < k → k ≤ length (b ∷ t) → Reads token_of k (b ∷ t) None
     longer n e zero i l = absurd (omega arith)
     longer n e (suc j) i l =
         token_of-letter b (take j t) (drop j t) h
-        ∙ ap (λ i. or_else (only_if i (name_or_word (b ∷ take j t))) (or_else (only_if (bytes_eq (b ∷ take j t) prime_text) (Some prime_word)) None)) (past_run is_name_byte j t (omega (arith, e)) (omega arith))
+        ∙ ap (λ i. or_else (only_if i (name_or_word (b ∷ take j t)))
+            (or_else (only_if (bytes_eq (b ∷ take j t) prime_text) (Some prime_word)) None))
+            (past_run is_name_byte j t (omega (arith, e)) (omega arith))
         ∙ ap (λ i. or_else (only_if i (Some prime_word)) None) (not_prime_before (b ∷ t) (suc j) q l)
 
 letter_is_name_byte : (b : ℕ) → is_letter b ≡ true → is_name_byte b ≡ true
@@ -104,7 +111,8 @@ longest_token-name (b ∷ t) w l h q k =
 
 -- ---- numbers
 
-digit_run : (b : ℕ) (t : Text) → is_digit b ≡ true → longest_token (b ∷ t) ≡ Some (number (value_of (b ∷ take (prefix_len is_digit t) t)), suc (prefix_len is_digit t))
+digit_run : (b : ℕ) (t : Text) → is_digit b ≡ true →
+    longest_token (b ∷ t) ≡ Some (number (value_of (b ∷ take (prefix_len is_digit t) t)), suc (prefix_len is_digit t))
 digit_run b t h =
     let n : ℕ = prefix_len is_digit t in
     let within : n ≤ length t = prefix_len-le-length is_digit t in

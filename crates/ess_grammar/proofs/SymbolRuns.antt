@@ -19,7 +19,8 @@ no_look_longer n [] s h l = refl
 no_look_longer n ((c, x) ∷ es) s h l =
     let parts = and_parts (nat_le (length c) n) (none_longer n es) h in
     let short : length c ≤ n = leb-true (length c) n parts.0 in
-    let differs : bytes_eq c s ≡ false = false_from_ne_true (bytes_eq c s) (λ q. let e : length c ≡ length s = ap length ((bytes_eq-Decides c s).0 q) in absurd (omega arith)) in
+    let differs : bytes_eq c s ≡ false = false_from_ne_true (bytes_eq c s)
+        (λ q. let e : length c ≡ length s = ap length ((bytes_eq-Decides c s).0 q) in absurd (omega arith)) in
     ap (λ i. if i then Some x else look_by bytes_eq es s) differs ∙ no_look_longer n es s parts.1 l
 
 only_none : (i : Bool) → only_if {A = Token} i None ≡ None
@@ -36,7 +37,8 @@ symbol_run : (text : Text) → longest symbol_of (length text) text ≡ longest 
 symbol_run text = longest-past symbol_of (min (length text) 5) (length text) text (omega arith)
     (λ k h l. no_long_symbol (take k text) (drop k text) (omega (arith, length-take k text)))
 
-as_symbols : (b : ℕ) (t : Text) (k : ℕ) → is_letter b ≡ false → is_digit b ≡ false → 0 < k → token_of (take k (b ∷ t)) (drop k (b ∷ t)) ≡ symbol_of (take k (b ∷ t)) (drop k (b ∷ t))
+as_symbols : (b : ℕ) (t : Text) (k : ℕ) → is_letter b ≡ false → is_digit b ≡ false → 0 < k →
+    token_of (take k (b ∷ t)) (drop k (b ∷ t)) ≡ symbol_of (take k (b ∷ t)) (drop k (b ∷ t))
 as_symbols b t zero h i l = absurd (omega arith)
 as_symbols b t (suc j) h i l = token_of-other b (take j t) (drop j t) h i
 

@@ -55,7 +55,8 @@ no_prime = refl
 apostrophe : lexed (codes "x'") ≡ next_token (name (codes "x")) (codes "x") (at_column 1) (bad_byte (at_column 2))
 apostrophe = refl
 
-longer_than_a_word : tokens (codes "finds find _find find1") ≡ Some (name (codes "finds") ∷ word find_word ∷ name (codes "_find") ∷ name (codes "find1") ∷ [])
+longer_than_a_word : tokens (codes "finds find _find find1")
+    ≡ Some (name (codes "finds") ∷ word find_word ∷ name (codes "_find") ∷ name (codes "find1") ∷ [])
 longer_than_a_word = refl
 
 -- attribute words, `size` and `Essence` are names
@@ -76,7 +77,8 @@ lex_and_more = refl
 lex_and_digit : tokens (codes ">=lex1") ≡ Some (operator Op2.Ge ∷ name (codes "lex1") ∷ [])
 lex_and_digit = refl
 
-lex_and_bracket : tokens (codes ">=lex,>lex,<=lex") ≡ Some (operator Op2.LexGe ∷ symbol comma ∷ operator Op2.LexGt ∷ symbol comma ∷ operator Op2.LexLe ∷ [])
+lex_and_bracket : tokens (codes ">=lex,>lex,<=lex") ≡ Some (operator Op2.LexGe ∷ symbol comma ∷ operator Op2.LexGt ∷ symbol comma
+    ∷ operator Op2.LexLe ∷ [])
 lex_and_bracket = refl
 
 -- ---- numbers
@@ -103,18 +105,21 @@ comment_at_the_end = refl
 
 -- any bytes may stand in a comment, which ends before the line feed: here a carriage return, 0, 255 and `$` stand in it
 comment_to_line_feed : lexed (codes "a$" ++ 13 ∷ 0 ∷ 255 ∷ 36 ∷ 10 ∷ codes "b") ≡
-    next_token (name (codes "a")) (codes "a") (at_column 1) (next_token (name (codes "b")) (codes "b") (record { line = 2; col = 1 }) the_end)
+    next_token (name (codes "a")) (codes "a") (at_column 1)
+        (next_token (name (codes "b")) (codes "b") (record { line = 2; col = 1 }) the_end)
 comment_to_line_feed = refl
 
 abbrev is_bad : Lexed → Bool
 is_bad (bad_byte p) = true
 is_bad _ = false
 
-bad_bytes : list_all (λ b. is_bad (lexed (b ∷ []))) (0 ∷ 11 ∷ 12 ∷ 34 ∷ 35 ∷ 38 ∷ 39 ∷ 63 ∷ 64 ∷ 92 ∷ 94 ∷ 96 ∷ 126 ∷ 127 ∷ 128 ∷ 255 ∷ []) ≡ true
+bad_bytes : list_all (λ b. is_bad (lexed (b ∷ []))) (0 ∷ 11 ∷ 12 ∷ 34 ∷ 35 ∷ 38 ∷ 39 ∷ 63 ∷ 64 ∷ 92 ∷ 94 ∷ 96 ∷ 126 ∷ 127 ∷ 128 ∷ 255 ∷ [])
+    ≡ true
 bad_bytes = refl
 
 -- the first refusal is given, and nothing behind it
-refused_in_order : lexed (codes "find @ 9223372036854775808") ≡ next_token (word find_word) (codes "find") (at_column 1) (bad_byte (at_column 6))
+refused_in_order : lexed (codes "find @ 9223372036854775808")
+    ≡ next_token (word find_word) (codes "find") (at_column 1) (bad_byte (at_column 6))
 refused_in_order = refl
 
 refused_text : tokens (codes "find @") ≡ None

@@ -24,7 +24,8 @@ pub data CellRange : Ends → Exs → Exs → List Token → List Token → Type
 -- One or more ranges with commas between.
 pub data CellRanges : List Ends → Exs → List Token → List Token → Type 0 where
   last_cell_range : {r : Ends} {es : Exs} {ts us : List Token} → CellRange r no_exs es ts us → CellRanges (r ∷ []) es ts us
-  next_cell_range : {r : Ends} {rs : List Ends} {es fs : Exs} {ts us vs : List Token} → CellRange r fs es ts (symbol comma ∷ us) → CellRanges rs fs us vs →
+  next_cell_range : {r : Ends} {rs : List Ends} {es fs : Exs} {ts us vs : List Token} → CellRange r fs es ts (symbol comma ∷ us) →
+      CellRanges rs fs us vs →
       CellRanges (r ∷ rs) es ts vs
 
 mutual
@@ -34,14 +35,18 @@ mutual
     true_value : {us : List Token} → CellValue (truth_ex true) (word true_word ∷ us) us
     false_value : {us : List Token} → CellValue (truth_ex false) (word false_word ∷ us) us
     empty_value : {us : List Token} → CellValue (plain_node matrix_literal no_exs) (symbol open_square ∷ symbol close_square ∷ us) us
-    list_value : {es : Exs} {ts us : List Token} → CellValues es ts (symbol close_square ∷ us) → CellValue (plain_node matrix_literal es) (symbol open_square ∷ ts) us
-    indexed_value : {es is : Exs} {rs : List Ends} {ts us vs : List Token} → CellValues es ts (symbol semicolon ∷ word int_word ∷ symbol open_round ∷ us) →
-        CellRanges rs is us (symbol close_round ∷ symbol close_square ∷ vs) → CellValue (matrix_ex es (int_dom rs is)) (symbol open_square ∷ ts) vs
+    list_value : {es : Exs} {ts us : List Token} → CellValues es ts (symbol close_square ∷ us) →
+        CellValue (plain_node matrix_literal es) (symbol open_square ∷ ts) us
+    indexed_value : {es is : Exs} {rs : List Ends} {ts us vs : List Token} →
+        CellValues es ts (symbol semicolon ∷ word int_word ∷ symbol open_round ∷ us) →
+        CellRanges rs is us (symbol close_round ∷ symbol close_square ∷ vs) →
+        CellValue (matrix_ex es (int_dom rs is)) (symbol open_square ∷ ts) vs
 
   -- One or more values with commas between.
   pub data CellValues : Exs → List Token → List Token → Type 0 where
     last_value : {e : Ex} {ts us : List Token} → CellValue e ts us → CellValues (one_ex e) ts us
-    next_value : {e : Ex} {es : Exs} {ts us vs : List Token} → CellValue e ts (symbol comma ∷ us) → CellValues es us vs → CellValues (more_exs e es) ts vs
+    next_value : {e : Ex} {es : Exs} {ts us vs : List Token} → CellValue e ts (symbol comma ∷ us) → CellValues es us vs →
+        CellValues (more_exs e es) ts vs
 
 -- Any number of lettings, each with its word, to the end. A name may stand twice.
 pub data CellLettings : Names Ex → List Token → Type 0 where

@@ -110,7 +110,8 @@ mutual
     empty_atom : {o : Op} {c : Symbol} {ts us : List Token} → Opens o c true ts (symbol c ∷ us) → Atom false (plain_node o no_exs) ts us
     function_atom : {es : Exs} {ts us : List Token} → Pairs es ts (symbol close_round ∷ us) →
         Atom false (plain_node function_literal es) (word function_word ∷ symbol open_round ∷ ts) us
-    empty_function_atom : {us : List Token} → Atom false (plain_node function_literal no_exs) (word function_word ∷ symbol open_round ∷ symbol close_round ∷ us) us
+    empty_function_atom : {us : List Token} →
+        Atom false (plain_node function_literal no_exs) (word function_word ∷ symbol open_round ∷ symbol close_round ∷ us) us
     record_atom : {fs : List Text} {es : Exs} {ts us : List Token} → Fields fs es ts (symbol close_curly ∷ us) →
         Atom false (plain_node (record_literal fs) es) (word record_word ∷ symbol open_curly ∷ ts) us
     -- a matrix with its index domain
@@ -135,7 +136,8 @@ mutual
         Expression w other_shape 9 (unary_ex Op1.Minus e) (operator Op2.Minus ∷ ts) us
     not_expression : {w : Bool} {s : Shape} {l : ℕ} {e : Ex} {ts us : List Token} → 9 ≤ l → Expression w s l e ts us →
         Expression w other_shape 9 (unary_ex Op1.Not e) (symbol exclamation ∷ ts) us
-    binary_expression : {w : Bool} {s z : Shape} {o : Op2} {l m : ℕ} {a b : Ex} {ts us vs : List Token} → left_least o ≤ l → right_least o ≤ m →
+    binary_expression : {w : Bool} {s z : Shape} {o : Op2} {l m : ℕ} {a b : Ex} {ts us vs : List Token} →
+        left_least o ≤ l → right_least o ≤ m →
         Expression false s l a ts (operator o ∷ us) → Expression w z m b us vs →
         Expression w (binary_shape o s a) (level o) (binary_ex o a b) ts vs
     quantifier_expression : {w h : Bool} {s : Shape} {l : ℕ} {t : Token} {f : Fun} {e : Ex} {gs : Gens} {ts us vs : List Token} →
@@ -144,7 +146,8 @@ mutual
 
   -- One or more expressions with commas between. The flag says whether all are written as patterns.
   pub data Expressions : Bool → Exs → List Token → List Token → Type 0 where
-    last_expression : {w : Bool} {s : Shape} {l : ℕ} {e : Ex} {ts us : List Token} → Expression w s l e ts us → Expressions (is_pattern s) (one_ex e) ts us
+    last_expression : {w : Bool} {s : Shape} {l : ℕ} {e : Ex} {ts us : List Token} → Expression w s l e ts us →
+        Expressions (is_pattern s) (one_ex e) ts us
     next_expression : {w k : Bool} {s : Shape} {l : ℕ} {e : Ex} {es : Exs} {ts us vs : List Token} →
         Expression w s l e ts (symbol comma ∷ us) → Expressions k es us vs → Expressions (is_pattern s && k) (more_exs e es) ts vs
 
@@ -166,7 +169,8 @@ mutual
   -- The items of a quantifier or comprehension, behind items that bind some names. The flag says whether they begin as a
   -- generator does.
   pub data Items : Place → List Text → Bool → Gens → List Token → List Token → Type 0 where
-    last_generator : {p : Place} {bs cs : List Text} {gs : Gens} {ts us : List Token} → Generator p bs cs no_gens gs ts us → Items p bs true gs ts us
+    last_generator : {p : Place} {bs cs : List Text} {gs : Gens} {ts us : List Token} → Generator p bs cs no_gens gs ts us →
+        Items p bs true gs ts us
     next_generator : {p : Place} {bs cs : List Text} {h : Bool} {gs hs : Gens} {ts us vs : List Token} →
         Generator p bs cs hs gs ts (symbol comma ∷ us) → Items p (bs ++ cs) h hs us vs → Items p bs true gs ts vs
     last_condition : {p : Place} {s : Shape} {l : ℕ} {bs : List Text} {e : Ex} {ts us : List Token} → IsTrue (may_be_condition p bs s) →
@@ -183,7 +187,8 @@ mutual
     from_generator : {p : Place} {s : Shape} {l : ℕ} {bs : List Text} {ps : Exs} {e : Ex} {hs : Gens} {ts us vs : List Token} →
         Expressions true ps ts (symbol drawn_from ∷ us) → Expression false s l e us vs →
         Generator p bs (all_bound_by ps) hs (all_from ps e hs) ts vs
-    in_generator : {s : Shape} {l : ℕ} {bs : List Text} {ps : Exs} {e : Ex} {hs : Gens} {ts us vs : List Token} → IsFalse (is_one_bound bs ps) →
+    in_generator : {s : Shape} {l : ℕ} {bs : List Text} {ps : Exs} {e : Ex} {hs : Gens} {ts us vs : List Token} →
+        IsFalse (is_one_bound bs ps) →
         Expressions true ps ts (operator Op2.Member ∷ us) → Expression false s l e us vs →
         Generator in_quantifier bs (all_bound_by ps) hs (all_from ps e hs) ts vs
 
@@ -195,7 +200,8 @@ mutual
         Domain (int_dom rs es) (word int_word ∷ symbol open_round ∷ ts) us
     name_domain : {a : Text} {us : List Token} → Domain (name_dom a) (name a ∷ us) us
     -- a tuple of two or more
-    pair_domain : {d : Dom} {ds : Doms} {ts us vs : List Token} → Domain d ts (symbol comma ∷ us) → Domains (symbol comma) ds us (symbol close_round ∷ vs) →
+    pair_domain : {d : Dom} {ds : Doms} {ts us vs : List Token} → Domain d ts (symbol comma ∷ us) →
+        Domains (symbol comma) ds us (symbol close_round ∷ vs) →
         Domain (tuple_dom (more_doms d ds)) (symbol open_round ∷ ts) vs
     tuple_domain : {ds : Doms} {ts us : List Token} → Domains (symbol comma) ds ts (symbol close_round ∷ us) →
         Domain (tuple_dom ds) (word tuple_word ∷ symbol open_round ∷ ts) us
@@ -212,27 +218,33 @@ mutual
         Domain d us vs → Domain (partition_dom ms es d) (word partition_word ∷ ts) vs
     relation_domain : {ms : List Mark} {es : Exs} {d : Dom} {ds : Doms} {ts us vs xs : List Token} →
         MaybeAttributes ms es ts (word of_word ∷ symbol open_round ∷ us) → Domain d us (operator Op2.Times ∷ vs) →
-        Domains (operator Op2.Times) ds vs (symbol close_round ∷ xs) → Domain (relation_dom ms es (more_doms d ds)) (word relation_word ∷ ts) xs
+        Domains (operator Op2.Times) ds vs (symbol close_round ∷ xs) →
+        Domain (relation_dom ms es (more_doms d ds)) (word relation_word ∷ ts) xs
     function_domain : {ms : List Mark} {es : Exs} {d c : Dom} {ts us vs xs : List Token} → Attributes ms es ts (symbol close_round ∷ us) →
-        Domain d us (symbol maps_to ∷ vs) → Domain c vs xs → Domain (function_dom ms es d c) (word function_word ∷ symbol open_round ∷ ts) xs
-    plain_function_domain : {d c : Dom} {ts us vs : List Token} → IsFalse (starts_attributes ts) → Domain d ts (symbol maps_to ∷ us) → Domain c us vs →
+        Domain d us (symbol maps_to ∷ vs) → Domain c vs xs →
+        Domain (function_dom ms es d c) (word function_word ∷ symbol open_round ∷ ts) xs
+    plain_function_domain : {d c : Dom} {ts us vs : List Token} → IsFalse (starts_attributes ts) → Domain d ts (symbol maps_to ∷ us) →
+        Domain c us vs →
         Domain (function_dom [] no_exs d c) (word function_word ∷ ts) vs
 
   -- One or more domains with the token t between.
   pub data Domains : Token → Doms → List Token → List Token → Type 0 where
     last_domain : {t : Token} {d : Dom} {ts us : List Token} → Domain d ts us → Domains t (more_doms d no_doms) ts us
-    next_domain : {t : Token} {d : Dom} {ds : Doms} {ts us vs : List Token} → Domain d ts (t ∷ us) → Domains t ds us vs → Domains t (more_doms d ds) ts vs
+    next_domain : {t : Token} {d : Dom} {ds : Doms} {ts us vs : List Token} → Domain d ts (t ∷ us) → Domains t ds us vs →
+        Domains t (more_doms d ds) ts vs
 
   -- The fields of a record domain, as they are written.
   pub data FieldDomains : List Text → Doms → List Token → List Token → Type 0 where
-    last_field_domain : {a : Text} {d : Dom} {ts us : List Token} → Domain d ts us → FieldDomains (a ∷ []) (more_doms d no_doms) (name a ∷ symbol colon ∷ ts) us
+    last_field_domain : {a : Text} {d : Dom} {ts us : List Token} → Domain d ts us →
+        FieldDomains (a ∷ []) (more_doms d no_doms) (name a ∷ symbol colon ∷ ts) us
     next_field_domain : {a : Text} {fs : List Text} {d : Dom} {ds : Doms} {ts us vs : List Token} → Domain d ts (symbol comma ∷ us) →
         FieldDomains fs ds us vs → FieldDomains (a ∷ fs) (more_doms d ds) (name a ∷ symbol colon ∷ ts) vs
 
   -- Attributes in brackets, or none.
   pub data MaybeAttributes : List Mark → Exs → List Token → List Token → Type 0 where
     no_attributes : {us : List Token} → MaybeAttributes [] no_exs us us
-    some_attributes : {ms : List Mark} {es : Exs} {ts us : List Token} → Attributes ms es ts (symbol close_round ∷ us) → MaybeAttributes ms es (symbol open_round ∷ ts) us
+    some_attributes : {ms : List Mark} {es : Exs} {ts us : List Token} → Attributes ms es ts (symbol close_round ∷ us) →
+        MaybeAttributes ms es (symbol open_round ∷ ts) us
 
   -- One or more attributes.
   pub data Attributes : List Mark → Exs → List Token → List Token → Type 0 where
@@ -249,12 +261,16 @@ mutual
   -- One or more ranges.
   pub data Ranges : List Ends → Exs → List Token → List Token → Type 0 where
     last_range : {r : Ends} {es : Exs} {ts us : List Token} → Range r no_exs es ts us → Ranges (r ∷ []) es ts us
-    next_range : {r : Ends} {rs : List Ends} {es fs : Exs} {ts us vs : List Token} → Range r fs es ts (symbol comma ∷ us) → Ranges rs fs us vs → Ranges (r ∷ rs) es ts vs
+    next_range : {r : Ends} {rs : List Ends} {es fs : Exs} {ts us vs : List Token} → Range r fs es ts (symbol comma ∷ us) →
+        Ranges rs fs us vs → Ranges (r ∷ rs) es ts vs
 
   -- A range before the bounds fs of those behind it; with its own they are es.
   pub data Range : Ends → Exs → Exs → List Token → List Token → Type 0 where
-    value_range : {s : Shape} {l : ℕ} {a : Ex} {fs : Exs} {ts us : List Token} → Expression false s l a ts us → Range one_value fs (more_exs a fs) ts us
+    value_range : {s : Shape} {l : ℕ} {a : Ex} {fs : Exs} {ts us : List Token} → Expression false s l a ts us →
+        Range one_value fs (more_exs a fs) ts us
     both_range : {s z : Shape} {l m : ℕ} {a b : Ex} {fs : Exs} {ts us vs : List Token} → Expression false s l a ts (symbol dots ∷ us) →
         Expression false z m b us vs → Range both_ends fs (more_exs a (more_exs b fs)) ts vs
-    low_range : {s : Shape} {l : ℕ} {a : Ex} {fs : Exs} {ts us : List Token} → Expression false s l a ts (symbol dots ∷ us) → Range low_end fs (more_exs a fs) ts us
-    high_range : {s : Shape} {l : ℕ} {b : Ex} {fs : Exs} {ts us : List Token} → Expression false s l b ts us → Range high_end fs (more_exs b fs) (symbol dots ∷ ts) us
+    low_range : {s : Shape} {l : ℕ} {a : Ex} {fs : Exs} {ts us : List Token} → Expression false s l a ts (symbol dots ∷ us) →
+        Range low_end fs (more_exs a fs) ts us
+    high_range : {s : Shape} {l : ℕ} {b : Ex} {fs : Exs} {ts us : List Token} → Expression false s l b ts us →
+        Range high_end fs (more_exs b fs) (symbol dots ∷ ts) us

@@ -15,22 +15,26 @@ use Rattle.ess_grammar.specs.ModelTexts.{ReadsModel}
 -- One or more representations with ` + ` between, to the end.
 pub data Choices : List Repr → List Token → Type 0 where
   last_choice : {r : Repr} {ts : List Token} → Representation r ts [] → Choices (r ∷ []) ts
-  next_choice : {r : Repr} {rs : List Repr} {ts us : List Token} → Representation r ts (operator Op2.Plus ∷ us) → Choices rs us → Choices (r ∷ rs) ts
+  next_choice : {r : Repr} {rs : List Repr} {ts us : List Token} → Representation r ts (operator Op2.Plus ∷ us) → Choices rs us →
+      Choices (r ∷ rs) ts
 
 -- The tokens of the line for the representations of a name: `repr s Occurrence`.
 pub data RepresentationLine : Text → List Repr → List Token → Type 0 where
-  representation_line : {a : Text} {rs : List Repr} {ts : List Token} → Choices rs ts → RepresentationLine a rs (name (codes "repr") ∷ name a ∷ ts)
+  representation_line : {a : Text} {rs : List Repr} {ts : List Token} → Choices rs ts →
+      RepresentationLine a rs (name (codes "repr") ∷ name a ∷ ts)
 
 -- The lines for the representations, and the end.
 pub data RepresentationLines : Names (List Repr) → List Text → Type 0 where
   end_line : RepresentationLines [] (codes "end-header" ∷ [])
-  next_representation_line : {a : Text} {rs : List Repr} {cs : Names (List Repr)} {l : Text} {ls : List Text} → Reads l (RepresentationLine a rs) → IsWithinLimits l →
+  next_representation_line : {a : Text} {rs : List Repr} {cs : Names (List Repr)} {l : Text} {ls : List Text} →
+      Reads l (RepresentationLine a rs) → IsWithinLimits l →
       RepresentationLines cs ls → RepresentationLines ((a, rs) ∷ cs) (l ∷ ls)
 
 -- The lines for the statements, each of one alone, and those behind them.
 pub data StatementLines : List Stm → Names (List Repr) → List Text → Type 0 where
   no_more_statements : {cs : Names (List Repr)} {ls : List Text} → RepresentationLines cs ls → StatementLines [] cs ls
-  next_statement_line : {s : Stm} {ss : List Stm} {cs : Names (List Repr)} {l : Text} {ls : List Text} → Reads l (λ ts. Statement (s ∷ []) ts []) → IsWithinLimits l →
+  next_statement_line : {s : Stm} {ss : List Stm} {cs : Names (List Repr)} {l : Text} {ls : List Text} →
+      Reads l (λ ts. Statement (s ∷ []) ts []) → IsWithinLimits l →
       StatementLines ss cs ls → StatementLines (s ∷ ss) cs (l ∷ ls)
 
 -- The lines are a header. Which statements and representations it may have is said elsewhere.

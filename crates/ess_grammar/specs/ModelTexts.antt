@@ -26,13 +26,16 @@ pub data Declarations : Word → Names Dom → List Token → List Token → Typ
 -- An objective, or none.
 pub data Objective : Goal → List Token → List Token → Type 0 where
   no_objective : {ts : List Token} → Objective no_goal ts ts
-  minimising : {w : Bool} {s : Shape} {l : ℕ} {e : Ex} {ts us : List Token} → Expression w s l e ts us → Objective (least e) (word minimising_word ∷ ts) us
-  maximising : {w : Bool} {s : Shape} {l : ℕ} {e : Ex} {ts us : List Token} → Expression w s l e ts us → Objective (greatest e) (word maximising_word ∷ ts) us
+  minimising : {w : Bool} {s : Shape} {l : ℕ} {e : Ex} {ts us : List Token} → Expression w s l e ts us →
+      Objective (least e) (word minimising_word ∷ ts) us
+  maximising : {w : Bool} {s : Shape} {l : ℕ} {e : Ex} {ts us : List Token} → Expression w s l e ts us →
+      Objective (greatest e) (word maximising_word ∷ ts) us
 
 -- One or more constraints with commas between, to the end.
 pub data Constraints : List Ex → List Token → Type 0 where
   last_constraint : {w : Bool} {s : Shape} {l : ℕ} {e : Ex} {ts : List Token} → Expression w s l e ts [] → Constraints (e ∷ []) ts
-  next_constraint : {w : Bool} {s : Shape} {l : ℕ} {e : Ex} {es : List Ex} {ts us : List Token} → Expression w s l e ts (symbol comma ∷ us) →
+  next_constraint : {w : Bool} {s : Shape} {l : ℕ} {e : Ex} {es : List Ex} {ts us : List Token} →
+      Expression w s l e ts (symbol comma ∷ us) →
       Constraints es us → Constraints (e ∷ es) ts
 
 -- Constraints behind `such that`, or none.
@@ -42,9 +45,11 @@ pub data SuchThat : List Ex → List Token → Type 0 where
 
 -- The tokens have the parts of a model, in their order.
 pub data HasModelParts : ReadModel → List Token → Type 0 where
-  model_parts : {gs fs : Names Dom} {o : Goal} {es : List Ex} {ts us vs xs : List Token} → Declarations given_word gs ts us → Declarations find_word fs us vs →
+  model_parts : {gs fs : Names Dom} {o : Goal} {es : List Ex} {ts us vs xs : List Token} → Declarations given_word gs ts us →
+      Declarations find_word fs us vs →
       Objective o vs xs → SuchThat es xs →
-      HasModelParts (record { givens = gs; finds = fs; goal = o; rules = es }) (word language_word ∷ prime_word ∷ number 1 ∷ symbol dot ∷ number 0 ∷ ts)
+      HasModelParts (record { givens = gs; finds = fs; goal = o; rules = es })
+          (word language_word ∷ prime_word ∷ number 1 ∷ symbol dot ∷ number 0 ∷ ts)
 
 -- The tokens are a model: its parts are those of the text with cells for declared names, and they are a model's.
 pub record IsModel (m : Model) (ts : List Token) : Type 0 where

@@ -148,7 +148,8 @@ abbrev mutual
   is_model_ex s f g (truth_ex b) = true
   is_model_ex s f g (name_ex a) = is_name_token a && (is_among g a || not (is_some (look s.tables a)))
   is_model_ex s f g (cell_ex b a no_exs) = may_stand s f a && is_plain_cell g a b (look s.tables a)
-  is_model_ex s f g (cell_ex b a (more_exs e es)) = may_stand s f a && same_truth b (is_truth_table s a) && is_model_ex s f g e && are_model_exs s f g es
+  is_model_ex s f g (cell_ex b a (more_exs e es)) =
+      may_stand s f a && same_truth b (is_truth_table s a) && is_model_ex s f g e && are_model_exs s f g es
   is_model_ex s f g (node_ex b op es) = same_truth b (is_truth_op op) && is_model_node s f g op es
   is_model_ex s f g e = false
 
@@ -229,7 +230,8 @@ model_of m =
 abbrev pub are_model_tables : (Scope → TableDecl → Scope) → Scope → List TableDecl → Bool
 are_model_tables add s [] = true
 are_model_tables add s (t ∷ ts) =
-    is_name_token t.name && not (is_some (look s.tables t.name)) && list_all (is_model_dom s true []) t.axes && is_model_dom s true [] t.cell
+    is_name_token t.name && not (is_some (look s.tables t.name)) && list_all (is_model_dom s true []) t.axes
+        && is_model_dom s true [] t.cell
     && are_model_tables add (add s t) ts
 
 -- Whether the objective is one of a model.
@@ -243,4 +245,5 @@ abbrev pub is_readable_model : Model → Bool
 is_readable_model m =
     let s : Scope = scope_behind with_given empty_scope m.givens in
     let t : Scope = scope_behind with_find s m.finds in
-    are_model_tables with_given empty_scope m.givens && are_model_tables with_find s m.finds && is_model_goal t m.goal && list_all (is_model_ex t true []) m.rules
+    are_model_tables with_given empty_scope m.givens && are_model_tables with_find s m.finds && is_model_goal t m.goal
+        && list_all (is_model_ex t true []) m.rules

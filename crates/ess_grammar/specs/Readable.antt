@@ -166,7 +166,8 @@ abbrev mutual
   ReadableDom (int_dom rs es) = IsTrue (fit_ranges rs es) × ReadableExs es
   ReadableDom (name_dom a) = IsTrue (is_name_token a)
   ReadableDom (tuple_dom ds) = IsTrue (some_doms ds) × ReadableDoms ds
-  ReadableDom (record_dom ns ds) = IsTrue (some_doms ds && (are_name_tokens ns && fit_domains ns ds)) × IsTrue (names_rise ns) × ReadableDoms ds
+  ReadableDom (record_dom ns ds) =
+      IsTrue (some_doms ds && (are_name_tokens ns && fit_domains ns ds)) × IsTrue (names_rise ns) × ReadableDoms ds
   ReadableDom (matrix_dom ds d) = IsTrue (some_doms ds) × ReadableDoms ds × ReadableDom d
   ReadableDom (set_dom ms es d) = IsTrue (fit_marks ms es) × ReadableExs es × ReadableDom d
   ReadableDom (mset_dom ms es d) = IsTrue (fit_marks ms es) × ReadableExs es × ReadableDom d

@@ -14,7 +14,8 @@ abbrev pub kinds : List (Text × ReprKind)
 kinds =
     (codes "Atom", ReprKind.Atom) ∷ (codes "Tuple", ReprKind.Tuple) ∷ (codes "Rec", ReprKind.Rec) ∷ (codes "Matrix", ReprKind.Matrix) ∷
     (codes "Occurrence", ReprKind.Occurrence) ∷ (codes "Explicit", ReprKind.Explicit) ∷
-    (codes "ExplicitVarSizeWithMarker", ReprKind.ExplicitVarSizeWithMarker) ∷ (codes "ExplicitVarSizeWithFlags", ReprKind.ExplicitVarSizeWithFlags) ∷
+    (codes "ExplicitVarSizeWithMarker", ReprKind.ExplicitVarSizeWithMarker) ∷
+    (codes "ExplicitVarSizeWithFlags", ReprKind.ExplicitVarSizeWithFlags) ∷
     (codes "ExplicitVarSizeWithDummy", ReprKind.ExplicitVarSizeWithDummy) ∷
     (codes "MSetOccurrence", ReprKind.MSetOccurrence) ∷ (codes "MSetExplicitWithRepetition", ReprKind.MSetExplicitWithRepetition) ∷
     (codes "MSetExplicitWithFlags", ReprKind.MSetExplicitWithFlags) ∷

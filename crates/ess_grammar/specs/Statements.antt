@@ -25,21 +25,26 @@ pub data PlainLetting : Stm → List Token → List Token → Type 0 where
 pub data Part : Word → List Stm → List Token → List Token → Type 0 where
   given_part : {ns : List Text} {d : Dom} {ts us vs : List Token} → NameList ns ts (symbol colon ∷ us) → Domain d us vs →
       Part given_word (map (λ a. given a d) ns) ts vs
-  given_enum_part : {a : Text} {us : List Token} → Part given_word (given_enum a ∷ []) (name a ∷ word new_word ∷ word type_word ∷ word enum_word ∷ us) us
+  given_enum_part : {a : Text} {us : List Token} →
+      Part given_word (given_enum a ∷ []) (name a ∷ word new_word ∷ word type_word ∷ word enum_word ∷ us) us
   find_part : {ns : List Text} {d : Dom} {ts us vs : List Token} → NameList ns ts (symbol colon ∷ us) → Domain d us vs →
       Part find_word (map (λ a. find a d) ns) ts vs
   plain_letting_part : {s : Stm} {ts us : List Token} → PlainLetting s ts us → Part letting_word (s ∷ []) ts us
   domain_letting_part : {a : Text} {d : Dom} {ts us : List Token} → Domain d ts us →
       Part letting_word (let_dom a d ∷ []) (name a ∷ word be_word ∷ word domain_word ∷ ts) us
   unnamed_letting_part : {w : Bool} {s : Shape} {l : ℕ} {a : Text} {e : Ex} {ts us : List Token} → Expression w s l e ts us →
-      Part letting_word (let_unnamed a e ∷ []) (name a ∷ word be_word ∷ word new_word ∷ word type_word ∷ word of_word ∷ name (codes "size") ∷ ts) us
-  where_part : {w : Bool} {s : Shape} {l : ℕ} {e : Ex} {ts us : List Token} → Expression w s l e ts us → Part where_word (needs e ∷ []) ts us
-  such_that_part : {w : Bool} {s : Shape} {l : ℕ} {e : Ex} {ts us : List Token} → Expression w s l e ts us → Part such_word (such_that e ∷ []) ts us
+      Part letting_word (let_unnamed a e ∷ [])
+          (name a ∷ word be_word ∷ word new_word ∷ word type_word ∷ word of_word ∷ name (codes "size") ∷ ts) us
+  where_part : {w : Bool} {s : Shape} {l : ℕ} {e : Ex} {ts us : List Token} → Expression w s l e ts us →
+      Part where_word (needs e ∷ []) ts us
+  such_that_part : {w : Bool} {s : Shape} {l : ℕ} {e : Ex} {ts us : List Token} → Expression w s l e ts us →
+      Part such_word (such_that e ∷ []) ts us
 
 -- One or more parts with commas between.
 pub data Parts : Word → List Stm → List Token → List Token → Type 0 where
   last_part : {x : Word} {ss : List Stm} {ts us : List Token} → Part x ss ts us → Parts x ss ts us
-  next_part : {x : Word} {ss rs : List Stm} {ts us vs : List Token} → Part x ss ts (symbol comma ∷ us) → Parts x rs us vs → Parts x (ss ++ rs) ts vs
+  next_part : {x : Word} {ss rs : List Stm} {ts us vs : List Token} → Part x ss ts (symbol comma ∷ us) → Parts x rs us vs →
+      Parts x (ss ++ rs) ts vs
 
 -- The words that begin a list of parts. The first one names the list.
 pub data Begins : Word → List Token → List Token → Type 0 where
@@ -65,7 +70,8 @@ pub data Statements : List Stm → List Token → Type 0 where
 -- The language line, with any two numbers, or none. `Essence` is a plain name.
 pub data LanguageLine : List Token → List Token → Type 0 where
   no_language_line : {ts : List Token} → LanguageLine ts ts
-  language_line : {m n : ℕ} {ts : List Token} → LanguageLine (word language_word ∷ name (codes "Essence") ∷ number m ∷ symbol dot ∷ number n ∷ ts) ts
+  language_line : {m n : ℕ} {ts : List Token} →
+      LanguageLine (word language_word ∷ name (codes "Essence") ∷ number m ∷ symbol dot ∷ number n ∷ ts) ts
 
 -- The tokens are a specification with these statements.
 pub data IsSpecification : List Stm → List Token → Type 0 where
@@ -74,7 +80,8 @@ pub data IsSpecification : List Stm → List Token → Type 0 where
 -- One or more lettings of a file with commas between.
 pub data PlainLettings : List Stm → List Token → List Token → Type 0 where
   last_letting : {s : Stm} {ts us : List Token} → PlainLetting s ts us → PlainLettings (s ∷ []) ts us
-  next_letting : {s : Stm} {ss : List Stm} {ts us vs : List Token} → PlainLetting s ts (symbol comma ∷ us) → PlainLettings ss us vs → PlainLettings (s ∷ ss) ts vs
+  next_letting : {s : Stm} {ss : List Stm} {ts us vs : List Token} → PlainLetting s ts (symbol comma ∷ us) → PlainLettings ss us vs →
+      PlainLettings (s ∷ ss) ts vs
 
 -- Any number of lists of lettings, to the end of the tokens.
 pub data LettingStatements : List Stm → List Token → Type 0 where

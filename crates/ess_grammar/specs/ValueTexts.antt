@@ -95,7 +95,8 @@ abbrev mutual
   -- The texts of a function's pairs: `1 --> 2`.
   pub pair_texts : (Text → ℕ → Text) → Values → List Text
   pair_texts name_of nil = []
-  pair_texts name_of (cons (node k (cons a (cons b nil))) vs) = (value_text name_of a ++ codes " --> " ++ value_text name_of b) ∷ pair_texts name_of vs
+  pair_texts name_of (cons (node k (cons a (cons b nil))) vs) =
+      (value_text name_of a ++ codes " --> " ++ value_text name_of b) ∷ pair_texts name_of vs
   pair_texts name_of (cons v vs) = pair_texts name_of vs
 
 -- ---- trees
@@ -143,7 +144,8 @@ abbrev mutual
   literal_of name_of (number n) = number_literal n
   literal_of name_of (truth b) = truth_ex b
   literal_of name_of (item t k) = name_ex (name_of t k)
-  literal_of name_of (node a_matrix (cons (node k is) (cons (node l xs) nil))) = matrix_literal_of (index_literal is) (literals_of name_of xs)
+  literal_of name_of (node a_matrix (cons (node k is) (cons (node l xs) nil))) =
+      matrix_literal_of (index_literal is) (literals_of name_of xs)
   literal_of name_of (node k vs) = compound_literal k (literals_of name_of vs)
 
   -- The literals of several values.

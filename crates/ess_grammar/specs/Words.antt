@@ -12,13 +12,16 @@ pub use Rattle.ess_semantics.specs.NameTokens.{outside}
 
 -- reserved words that are neither operators nor function words
 pub data Word : Type 0 where
-  language_word given_word find_word letting_word be_word new_word type_word enum_word domain_word of_word where_word such_word that_word minimising_word maximising_word : Word
-  bool_word int_word tuple_word record_word matrix_word indexed_word by_word set_word mset_word function_word relation_word partition_word from_word true_word false_word : Word
+  language_word given_word find_word letting_word be_word new_word type_word enum_word domain_word : Word
+  of_word where_word such_word that_word minimising_word maximising_word : Word
+  bool_word int_word tuple_word record_word matrix_word indexed_word by_word set_word mset_word function_word relation_word : Word
+  partition_word from_word true_word false_word : Word
   for_all_word exists_word : Word
 
 -- symbols that are no binary operators: the arrows are `<-` and `-->`
 pub data Symbol : Type 0 where
-  open_round close_round open_square close_square open_curly close_curly comma semicolon colon dot dots bar exclamation drawn_from maps_to : Symbol
+  open_round close_round open_square close_square open_curly close_curly comma semicolon : Symbol
+  colon dot dots bar exclamation drawn_from maps_to : Symbol
 
 -- a token of a text
 pub data Token : Type 0 where

@@ -28,19 +28,23 @@ look-of_length ((c, x) ∷ es) t = go (nat_eq (length t) (length c)) refl (look-
     kept : List (Text × Token)
     kept = of_length (length t) es
 
-    go : (i : Bool) → nat_eq (length t) (length c) ≡ i → look_by bytes_eq kept t ≡ look_by bytes_eq es t → look_by bytes_eq (cond i ((c, x) ∷ kept) kept) t ≡ look_by bytes_eq ((c, x) ∷ es) t
+    go : (i : Bool) → nat_eq (length t) (length c) ≡ i → look_by bytes_eq kept t ≡ look_by bytes_eq es t →
+        look_by bytes_eq (cond i ((c, x) ∷ kept) kept) t ≡ look_by bytes_eq ((c, x) ∷ es) t
     go true e below = ap (λ r. if bytes_eq c t then Some x else r) below
     go false e below =
-        let differs : bytes_eq c t ≡ false = false_from_ne_true (bytes_eq c t) (λ q. eqb-false (length t) (length c) e (ap length (sym ((bytes_eq-Decides c t).0 q)))) in
+        let differs : bytes_eq c t ≡ false =
+            false_from_ne_true (bytes_eq c t) (λ q. eqb-false (length t) (length c) e (ap length (sym ((bytes_eq-Decides c t).0 q)))) in
         below ∙ sym (ap (λ i. if i then Some x else look_by bytes_eq es t) differs)
 
-look-passes : (q : Token → Bool) (es : List (Text × Token)) (t : Text) (x : Token) → list_all (λ e. q e.1) es ≡ true → look_by bytes_eq es t ≡ Some x → q x ≡ true
+look-passes : (q : Token → Bool) (es : List (Text × Token)) (t : Text) (x : Token) → list_all (λ e. q e.1) es ≡ true →
+    look_by bytes_eq es t ≡ Some x → q x ≡ true
 look-passes q [] t x h k = cc
 look-passes q ((c, y) ∷ es) t x h k =
     let parts = and_parts (q y) (list_all (λ e. q e.1) es) h in
     go (bytes_eq c t) k parts.0 (look-passes q es t x parts.1)
   where
-    go : (i : Bool) → (if i then Some y else look_by bytes_eq es t) ≡ Some x → q y ≡ true → (look_by bytes_eq es t ≡ Some x → q x ≡ true) → q x ≡ true
+    go : (i : Bool) → (if i then Some y else look_by bytes_eq es t) ≡ Some x → q y ≡ true → (look_by bytes_eq es t ≡ Some x → q x ≡ true) →
+        q x ≡ true
     go true k here below = let e : y ≡ x = cc in subst (λ z. q z ≡ true) e here
     go false k here below = below k
 
@@ -49,7 +53,8 @@ look-passes q ((c, y) ∷ es) t x h k =
 abbrev token_if : Text → Option Kind → Option Token
 token_if t o = option_map (λ k. token k t) o
 
-pub word-found : (t : Text) (o : Option Kind) (k : Kind) → token_if t o ≡ look_by bytes_eq (of_length (length t) words) t → k ≡ unwrap_or o Kind.Name → Some (token k t) ≡ name_or_word t
+pub word-found : (t : Text) (o : Option Kind) (k : Kind) → token_if t o ≡ look_by bytes_eq (of_length (length t) words) t →
+    k ≡ unwrap_or o Kind.Name → Some (token k t) ≡ name_or_word t
 word-found t None k h e =
     ap (λ k. Some (token k t)) e ∙ ap (λ r. or_else r (Some (name t))) (h ∙ look-of_length words t)
 word-found t (Some x) k h e =
@@ -59,15 +64,20 @@ or_none : (o : Option Token) → or_else o None ≡ o
 or_none None = refl
 or_none (Some x) = refl
 
-pub symbol-plain : (t rest : Text) (o : Option Kind) → token_if t o ≡ look_by bytes_eq (of_length (length t) symbols) t → is_some o ≡ true → token_if t o ≡ symbol_of t rest
+pub symbol-plain : (t rest : Text) (o : Option Kind) → token_if t o ≡ look_by bytes_eq (of_length (length t) symbols) t →
+    is_some o ≡ true → token_if t o ≡ symbol_of t rest
 symbol-plain t rest None h k = cc
-symbol-plain t rest (Some x) h k = ap (λ r. or_else r (only_if (not (begins_with_name_byte rest)) (look_by bytes_eq lex_symbols t))) (h ∙ look-of_length symbols t)
+symbol-plain t rest (Some x) h k =
+    ap (λ r. or_else r (only_if (not (begins_with_name_byte rest)) (look_by bytes_eq lex_symbols t))) (h ∙ look-of_length symbols t)
 
-pub symbol-before_name : (t rest : Text) (o : Option Kind) → token_if t o ≡ look_by bytes_eq (of_length (length t) symbols) t → begins_with_name_byte rest ≡ true → token_if t o ≡ symbol_of t rest
+pub symbol-before_name : (t rest : Text) (o : Option Kind) → token_if t o ≡ look_by bytes_eq (of_length (length t) symbols) t →
+    begins_with_name_byte rest ≡ true → token_if t o ≡ symbol_of t rest
 symbol-before_name t rest o h k =
-    h ∙ look-of_length symbols t ∙ sym (or_none (look_by bytes_eq symbols t)) ∙ ap (λ i. or_else (look_by bytes_eq symbols t) (only_if (not i) (look_by bytes_eq lex_symbols t))) (sym k)
+    h ∙ look-of_length symbols t ∙ sym (or_none (look_by bytes_eq symbols t))
+    ∙ ap (λ i. or_else (look_by bytes_eq symbols t) (only_if (not i) (look_by bytes_eq lex_symbols t))) (sym k)
 
-pub symbol-lex : (t rest : Text) (o p : Option Kind) → token_if t o ≡ look_by bytes_eq (of_length (length t) symbols) t → is_some o ≡ false → begins_with_name_byte rest ≡ false →
+pub symbol-lex : (t rest : Text) (o p : Option Kind) → token_if t o ≡ look_by bytes_eq (of_length (length t) symbols) t →
+    is_some o ≡ false → begins_with_name_byte rest ≡ false →
     token_if t p ≡ look_by bytes_eq (of_length (length t) lex_symbols) t → token_if t p ≡ symbol_of t rest
 symbol-lex t rest (Some x) p h k l m = cc
 symbol-lex t rest None p h k l m =
@@ -76,7 +86,8 @@ symbol-lex t rest None p h k l m =
     ∙ ap (λ r. or_else r (only_if (not (begins_with_name_byte rest)) (look_by bytes_eq lex_symbols t))) (h ∙ look-of_length symbols t)
 
 -- where the first n bytes are no symbol, the longest is shorter
-pub symbol-passed : (text : Text) (n : ℕ) (o : Option Kind) → 0 < n → token_if (take n text) o ≡ symbol_of (take n text) (drop n text) → o ≡ None →
+pub symbol-passed : (text : Text) (n : ℕ) (o : Option Kind) → 0 < n → token_if (take n text) o ≡ symbol_of (take n text) (drop n text) →
+    o ≡ None →
     longest symbol_of n text ≡ longest symbol_of (n - 1) text
 symbol-passed text zero o l h e = absurd (omega arith)
 symbol-passed text (suc n) o l h e =
@@ -84,10 +95,12 @@ symbol-passed text (suc n) o l h e =
     let less : suc n - 1 ≡ n = omega arith in
     longest-shorter symbol_of n text none ∙ ap (λ m. longest symbol_of m text) (sym less)
 
-pub symbol-here : (text : Text) (n : ℕ) (o : Option Kind) (k : Kind) → 0 < n → token_if (take n text) o ≡ symbol_of (take n text) (drop n text) → o ≡ Some k →
+pub symbol-here : (text : Text) (n : ℕ) (o : Option Kind) (k : Kind) → 0 < n →
+    token_if (take n text) o ≡ symbol_of (take n text) (drop n text) → o ≡ Some k →
     token_at text (Some (k, n)) ≡ longest symbol_of n text
 symbol-here text zero o k l h e = absurd (omega arith)
-symbol-here text (suc n) o k l h e = sym (longest-here symbol_of n text (token k (take (suc n) text)) (sym h ∙ ap (token_if (take (suc n) text)) e))
+symbol-here text (suc n) o k l h e =
+    sym (longest-here symbol_of n text (token k (take (suc n) text)) (sym h ∙ ap (token_if (take (suc n) text)) e))
 
 -- ---- the first token
 
@@ -136,27 +149,34 @@ first_token text t n h k =
 pub prime-first : (text : Text) → take 8 text ≡ prime_text → IsFirstToken prime_word 8 text
 prime-first text h = first_token text prime_word 8 (longest_token-prime text h) refl
 
-pub name-first : (text : Text) (k : Kind) (n : ℕ) → 0 < length text → is_letter (get_or text 0 0) ≡ true → (take 8 text ≡ prime_text → ⊥) → n ≡ prefix_len is_name_byte text →
+pub name-first : (text : Text) (k : Kind) (n : ℕ) → 0 < length text → is_letter (get_or text 0 0) ≡ true → (take 8 text ≡ prime_text → ⊥) →
+    n ≡ prefix_len is_name_byte text →
     Some (token k (take n text)) ≡ name_or_word (take n text) → IsFirstToken (token k (take n text)) n text
 name-first text k n l h q e w =
-    let word : name_or_word (take (prefix_len is_name_byte text) text) ≡ Some (token k (take n text)) = ap (λ m. name_or_word (take m text)) (sym e) ∙ sym w in
+    let word : name_or_word (take (prefix_len is_name_byte text) text) ≡ Some (token k (take n text)) =
+        ap (λ m. name_or_word (take m text)) (sym e) ∙ sym w in
     first_token text (token k (take n text)) n
     (longest_token-name text (token k (take n text)) l h q word ∙ ap (λ m. Some (token k (take n text), m)) (sym e))
     (no_number-narrow (token k (take n text)) (word-no_number (take n text) (token k (take n text)) (sym w)))
 
-number-there : (text : Text) (n : ℕ) → 0 < length text → is_digit (get_or text 0 0) ≡ true → n ≡ prefix_len is_digit text → longest_token text ≡ Some (number (value_of (take n text)), n)
+number-there : (text : Text) (n : ℕ) → 0 < length text → is_digit (get_or text 0 0) ≡ true → n ≡ prefix_len is_digit text →
+    longest_token text ≡ Some (number (value_of (take n text)), n)
 number-there text n l h e = longest_token-number text l h ∙ ap (λ m. Some (number (value_of (take m text)), m)) (sym e)
 
-pub number-first : (text : Text) (m n : ℕ) → 0 < length text → is_digit (get_or text 0 0) ≡ true → n ≡ prefix_len is_digit text → m ≡ value_of (take n text) → value_of (take n text) < 2 ^ 63 →
+pub number-first : (text : Text) (m n : ℕ) → 0 < length text → is_digit (get_or text 0 0) ≡ true → n ≡ prefix_len is_digit text →
+    m ≡ value_of (take n text) → value_of (take n text) < 2 ^ 63 →
     IsFirstToken (number m) n text
 number-first text m n l h e value small =
     subst (λ m. IsFirstToken (number m) n text) (sym value)
     (first_token text (number (value_of (take n text))) n (number-there text n l h e) (lt-leb (2 ^ 63) (value_of (take n text)) small))
 
-pub number-wide : (text : Text) (n : ℕ) → 0 < length text → is_digit (get_or text 0 0) ≡ true → n ≡ prefix_len is_digit text → 2 ^ 63 ≤ value_of (take n text) → BeginsWide text
-number-wide text n l h e wide = record { found = (number (value_of (take n text)), n); longest = number-there text n l h e; wide = le-leb (2 ^ 63) (value_of (take n text)) wide }
+pub number-wide : (text : Text) (n : ℕ) → 0 < length text → is_digit (get_or text 0 0) ≡ true → n ≡ prefix_len is_digit text →
+    2 ^ 63 ≤ value_of (take n text) → BeginsWide text
+number-wide text n l h e wide = record { found = (number (value_of (take n text)), n); longest = number-there text n l h e; wide =
+    le-leb (2 ^ 63) (value_of (take n text)) wide }
 
-pub symbol-first : (text : Text) (k : Kind) (n : ℕ) → 0 < length text → is_letter (get_or text 0 0) ≡ false → is_digit (get_or text 0 0) ≡ false →
+pub symbol-first : (text : Text) (k : Kind) (n : ℕ) → 0 < length text → is_letter (get_or text 0 0) ≡ false →
+    is_digit (get_or text 0 0) ≡ false →
     token_at text (Some (k, n)) ≡ longest symbol_of (min (length text) 5) text → IsFirstToken (token k (take n text)) n text
 symbol-first text k n l h i e =
     let t : Token = token k (take n text) in

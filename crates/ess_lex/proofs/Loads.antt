@@ -15,7 +15,8 @@ pub found-later : (found x y all : Option Place) → x ≡ y → all ≡ or_else
 found-later found x y all h e = e ∙ ap (or_else found) h
 
 -- a token after which the load is at most 250
-pub too_deep-later : (t : Token) (bytes : Text) (p : Place) (more all : Lexed) (b b' : Bool) (items items' : List Item) → next_token t bytes p more ≡ all →
+pub too_deep-later : (t : Token) (bytes : Text) (p : Place) (more all : Lexed) (b b' : Bool) (items items' : List Item) →
+    next_token t bytes p more ≡ all →
     items' ≡ loaded_by t b items → b' ≡ closes_operand t → length items' ≤ 250 → too_deep_after b items all ≡ too_deep_after b' items' more
 too_deep-later t bytes p more all b b' items items' e i c l =
     ap (too_deep_after b items) (sym e)

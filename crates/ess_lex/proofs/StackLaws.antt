@@ -21,7 +21,8 @@ length-items_of stack = length-items_from (reverse (take stack.brackets stack.be
 
 -- ---- pushing
 
-pub items_from-plain : (below : List ℕ) (height : ℕ) → falls below height ≡ true → items_from below (height + 1) ≡ plain ∷ items_from below height
+pub items_from-plain : (below : List ℕ) (height : ℕ) → falls below height ≡ true →
+    items_from below (height + 1) ≡ plain ∷ items_from below height
 items_from-plain [] height h = let e : height + 1 ≡ suc height = omega arith in ap (λ n. replicate n plain) e
 items_from-plain (b ∷ below) height h =
     let parts = and_parts (nat_lt b height) (falls below b) h in
@@ -51,7 +52,8 @@ pub closed-plain : (height : ℕ) → closed (items_from [] height) ≡ items_fr
 closed-plain height = ap (closed_as (replicate height plain)) (down_all-plain height)
 
 pub closed-bracket : (b height : ℕ) (below : List ℕ) → closed (items_from (b ∷ below) height) ≡ items_from below b
-closed-bracket b height below = ap (closed_as (items_from (b ∷ below) height)) (down_past-plain (height - suc b) (bracket ∷ items_from below b))
+closed-bracket b height below =
+    ap (closed_as (items_from (b ∷ below) height)) (down_past-plain (height - suc b) (bracket ∷ items_from below b))
 
 pub down-plain : (height : ℕ) → down_to_bracket (items_from [] height) ≡ []
 down-plain height = down_all-plain height
@@ -76,22 +78,26 @@ pub record Innermost (n height : ℕ) (numbers : List ℕ) : Type 0 where
   pub falling : falls (reverse (take (n - 1) numbers)) (get_or numbers (n - 1) 0) ≡ true
   pub nested : n - 1 ≤ get_or numbers (n - 1) 0
 
-reversed-more : (n : ℕ) (numbers : List ℕ) → 0 < n → n ≤ length numbers → reverse (take n numbers) ≡ get_or numbers (n - 1) 0 ∷ reverse (take (n - 1) numbers)
+reversed-more : (n : ℕ) (numbers : List ℕ) → 0 < n → n ≤ length numbers →
+    reverse (take n numbers) ≡ get_or numbers (n - 1) 0 ∷ reverse (take (n - 1) numbers)
 reversed-more zero numbers h l = absurd (omega arith)
 reversed-more (suc n) numbers h l =
     let e : suc n - 1 ≡ n = omega arith in
     ap reverse (take-suc numbers n 0 (omega arith)) ∙ reverse-append (take n numbers) (get_or numbers n 0 ∷ [])
     ∙ ap (λ k. get_or numbers k 0 ∷ reverse (take k numbers)) (sym e)
 
-pub innermost : (n height : ℕ) (numbers : List ℕ) → 0 < n → n ≤ length numbers → falls (reverse (take n numbers)) height ≡ true → Innermost n height numbers
+pub innermost : (n height : ℕ) (numbers : List ℕ) → 0 < n → n ≤ length numbers → falls (reverse (take n numbers)) height ≡ true →
+    Innermost n height numbers
 innermost n height numbers h l f =
     let shown = reversed-more n numbers h l in
-    let parts = and_parts (nat_lt (get_or numbers (n - 1) 0) height) (falls (reverse (take (n - 1) numbers)) (get_or numbers (n - 1) 0)) (ap (λ below. falls below height) (sym shown) ∙ f) in
+    let parts = and_parts (nat_lt (get_or numbers (n - 1) 0) height) (falls (reverse (take (n - 1) numbers)) (get_or numbers (n - 1) 0))
+        (ap (λ below. falls below height) (sym shown) ∙ f) in
     record {
       shown = shown;
       lower = ltb-true (get_or numbers (n - 1) 0) height parts.0;
       falling = parts.1;
-      nested = omega (arith, length-falls (reverse (take (n - 1) numbers)) (get_or numbers (n - 1) 0) parts.1, length-reverse (take (n - 1) numbers), length-take (n - 1) numbers);
+      nested = omega (arith, length-falls (reverse (take (n - 1) numbers)) (get_or numbers (n - 1) 0) parts.1,
+          length-reverse (take (n - 1) numbers), length-take (n - 1) numbers);
     }
 
 pub no_bracket : (n height : ℕ) (numbers : List ℕ) → n ≤ 0 → items_from (reverse (take n numbers)) height ≡ items_from [] height
@@ -104,7 +110,8 @@ pub record Ended (n height left : ℕ) (numbers : List ℕ) : Type 0 where
   pub falling : falls (reverse (take n numbers)) left ≡ true
   pub items : items_from (reverse (take n numbers)) left ≡ down_to_bracket (items_from (reverse (take n numbers)) height)
 
-pub ended-bracket : (n height left : ℕ) (numbers : List ℕ) → 0 < n → n ≤ length numbers → falls (reverse (take n numbers)) height ≡ true → left ≡ get_or numbers (n - 1) 0 + 1 → Ended n height left numbers
+pub ended-bracket : (n height left : ℕ) (numbers : List ℕ) → 0 < n → n ≤ length numbers → falls (reverse (take n numbers)) height ≡ true →
+    left ≡ get_or numbers (n - 1) 0 + 1 → Ended n height left numbers
 ended-bracket n height left numbers h l f e =
     let top = innermost n height numbers h l f in
     let b : ℕ = get_or numbers (n - 1) 0 in
@@ -112,8 +119,10 @@ ended-bracket n height left numbers h l f e =
     record {
       room = omega (arith, top.lower, e);
       nested = omega (arith, top.nested, e);
-      falling = ap (λ ns. falls ns left) top.shown ∙ and_from (nat_lt b left) (falls below b) (lt-ltb b left (omega (arith, e))) top.falling;
-      items = ap (λ ns. items_from ns left) top.shown ∙ ap (items_from (b ∷ below)) e ∙ sym (ap (λ ns. down_to_bracket (items_from ns height)) top.shown ∙ down-bracket b height below);
+      falling =
+          ap (λ ns. falls ns left) top.shown ∙ and_from (nat_lt b left) (falls below b) (lt-ltb b left (omega (arith, e))) top.falling;
+      items = ap (λ ns. items_from ns left) top.shown ∙ ap (items_from (b ∷ below)) e
+          ∙ sym (ap (λ ns. down_to_bracket (items_from ns height)) top.shown ∙ down-bracket b height below);
     }
 
 pub ended-plain : (n height left : ℕ) (numbers : List ℕ) → n ≤ 0 → left ≡ 0 → Ended n height left numbers

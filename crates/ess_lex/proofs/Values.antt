@@ -7,5 +7,6 @@ value_rises high [] = omega arith
 value_rises high (b ∷ bs) = let h = value_rises (10 * high + (b - 48)) bs in omega arith
 
 -- a value that is large after one more digit is large
-pub value_stays_large : (high i : ℕ) (bs : List ℕ) → i < length bs → 2 ^ 63 ≤ 10 * high + (get_or bs i 0 - 48) → 2 ^ 63 ≤ value_after high (drop i bs)
+pub value_stays_large : (high i : ℕ) (bs : List ℕ) → i < length bs → 2 ^ 63 ≤ 10 * high + (get_or bs i 0 - 48) →
+    2 ^ 63 ≤ value_after high (drop i bs)
 value_stays_large high i bs h k = rw (drop-cons bs i 0 h) (le_trans k (value_rises (10 * high + (get_or bs i 0 - 48)) (drop (suc i) bs)))

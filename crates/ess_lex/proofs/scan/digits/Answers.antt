@@ -13,4 +13,5 @@ returns-in-Some c =
     (first, number-natural _ _ is)
 
 pub returns-in-None : goal.returns-in-None
-returns-in-None c = number-wide c.args.text.now c.digits_len-len.result c.requires.some c.requires.digit c.digits_len-len.ensures c.in-None.ensures
+returns-in-None c =
+    number-wide c.args.text.now c.digits_len-len.result c.requires.some c.requires.digit c.digits_len-len.ensures c.in-None.ensures

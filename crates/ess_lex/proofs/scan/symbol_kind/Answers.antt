@@ -10,7 +10,8 @@ returns-then-is_some c =
     let found = c.kind_in-kind.ensures ∙ ap (λ t. look_by bytes_eq t c.args.text.now) c.symbols_of_length.ensures in
     elim c.then-is_some.branch [
       | then-is_some-via-then-is_some w ↦ symbol-plain c.args.text.now c.args.rest.now c.kind_in-kind.result found (cc)
-      | then-is_some-via-else-is_some+then-begins_with_name_byte w ↦ symbol-before_name c.args.text.now c.args.rest.now c.kind_in-kind.result found (cc)
+      | then-is_some-via-else-is_some+then-begins_with_name_byte w ↦
+          symbol-before_name c.args.text.now c.args.rest.now c.kind_in-kind.result found (cc)
     ]
 
 pub returns : goal.returns

@@ -5,4 +5,5 @@ use Rattle.std.specs.Str.{bytes_eq}
 use Rattle.ess_semantics.specs.Names.{look_by}
 
 pub returns : goal.returns
-returns c = word-found c.args.text.now c.kind_in.result c.unwrap_or.result (c.kind_in.ensures ∙ ap (λ t. look_by bytes_eq t c.args.text.now) c.words_of_length.ensures) c.unwrap_or.ensures
+returns c = word-found c.args.text.now c.kind_in.result c.unwrap_or.result
+    (c.kind_in.ensures ∙ ap (λ t. look_by bytes_eq t c.args.text.now) c.words_of_length.ensures) c.unwrap_or.ensures

@@ -5,4 +5,5 @@ use Rattle.ess_lex.specs.Tables.{shown_table}
 use Rattle.ess_lex.proofs.tables.kind_in.Given as goal
 
 abbrev pub invariant-loop-spelling : goal.invariant-loop-spelling
-invariant-loop-spelling l = look_by bytes_eq (shown_table l.table) l.text ≡ look_by bytes_eq (shown_table (drop l.spelling-index l.table)) l.text
+invariant-loop-spelling l =
+    look_by bytes_eq (shown_table l.table) l.text ≡ look_by bytes_eq (shown_table (drop l.spelling-index l.table)) l.text

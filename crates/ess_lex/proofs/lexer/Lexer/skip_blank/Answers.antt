@@ -21,12 +21,19 @@ pub loop-self-preserved : goal.loop-self-preserved
 loop-self-preserved c =
     let old = c.loop-self.self in
     let new = c.pass.new.self in
-    let turn = λ (h : from_byte c.loop-self.comment old.text.now old.at ≡ from_byte c.if-comment.comment old.text.now (old.at + 1)). loop-turn c.loop-self.comment c.if-comment.comment old.text.now new.text.now old.at new.at _ (ap (λ t. t.now) c.pass.ensures.text) c.pass.ensures.at h c.loop-self.invariant.left in
+    let turn = λ (h : from_byte c.loop-self.comment old.text.now old.at ≡ from_byte c.if-comment.comment old.text.now (old.at + 1)).
+        loop-turn c.loop-self.comment c.if-comment.comment old.text.now new.text.now old.at new.at _
+        (ap (λ t. t.now) c.pass.ensures.text) c.pass.ensures.at h c.loop-self.invariant.left in
     record {
       text = c.pass.ensures.text ∙ c.loop-self.invariant.text;
       left = turn (elim c.if-comment.branch [
-        | then-comment w ↦ loop-comment c.loop-self.comment c.if-comment.comment old.text.now old.at c.loop-self-test.true w.if-comment.true w.comment-is
-        | else-comment+then-byte-eq36 w ↦ loop-begun c.loop-self.comment c.if-comment.comment old.text.now old.at c.loop-self-test.true w.if-comment.false w.if-byte-eq36.true w.comment-is
-        | else-comment+else-byte-eq36+else-not-is_white w ↦ loop-white c.loop-self.comment c.if-comment.comment old.text.now old.at c.loop-self-test.true w.if-comment.false (cc) w.comment-is
+        | then-comment w ↦
+            loop-comment c.loop-self.comment c.if-comment.comment old.text.now old.at c.loop-self-test.true w.if-comment.true w.comment-is
+        | else-comment+then-byte-eq36 w ↦
+            loop-begun c.loop-self.comment c.if-comment.comment old.text.now old.at c.loop-self-test.true w.if-comment.false
+            w.if-byte-eq36.true w.comment-is
+        | else-comment+else-byte-eq36+else-not-is_white w ↦
+            loop-white c.loop-self.comment c.if-comment.comment old.text.now old.at c.loop-self-test.true w.if-comment.false
+            (cc) w.comment-is
       ]);
     }

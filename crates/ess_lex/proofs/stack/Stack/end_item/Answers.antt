@@ -8,7 +8,8 @@ invariant_of-self c =
     let stack = c.args.self.now in
     let size : length stack.below ≡ 250 = search rules in
     let done : Ended stack.brackets stack.height c.if-self-gt0.self stack.below = elim c.if-self-gt0.branch [
-      | then-self-gt0 w ↦ ended-bracket stack.brackets stack.height c.if-self-gt0.self stack.below w.if-self-gt0.true (omega arith) stack.falling w.self-is
+      | then-self-gt0 w ↦
+          ended-bracket stack.brackets stack.height c.if-self-gt0.self stack.below w.if-self-gt0.true (omega arith) stack.falling w.self-is
       | else-self-gt0 w ↦ ended-plain stack.brackets stack.height c.if-self-gt0.self stack.below w.if-self-gt0.false w.self-is
     ] in
     record { room = omega (arith, done.room, stack.room); nested = done.nested; falling = done.falling }
@@ -18,7 +19,8 @@ returns-clause-items c =
     let stack = c.args.self.now in
     let size : length stack.below ≡ 250 = search rules in
     let done : Ended stack.brackets stack.height c.if-self-gt0.self stack.below = elim c.if-self-gt0.branch [
-      | then-self-gt0 w ↦ ended-bracket stack.brackets stack.height c.if-self-gt0.self stack.below w.if-self-gt0.true (omega arith) stack.falling w.self-is
+      | then-self-gt0 w ↦
+          ended-bracket stack.brackets stack.height c.if-self-gt0.self stack.below w.if-self-gt0.true (omega arith) stack.falling w.self-is
       | else-self-gt0 w ↦ ended-plain stack.brackets stack.height c.if-self-gt0.self stack.below w.if-self-gt0.false w.self-is
     ] in
     done.items

@@ -15,4 +15,5 @@ invariant_of-self c =
     }
 
 pub returns-clause-pushed : goal.returns-clause-pushed
-returns-clause-pushed c = let stack = c.args.self.now in items_from-plain (reverse (take stack.brackets stack.below)) stack.height stack.falling
+returns-clause-pushed c = let stack = c.args.self.now in
+    items_from-plain (reverse (take stack.brackets stack.below)) stack.height stack.falling
