@@ -1,13 +1,11 @@
 -- What the modes of statements say of the tokens before them.
-use Rattle.std.proofs.Common.{◌++◌, Bool, List, [], ap, append_assoc, eqb-true, false, map, nat_eq, refl, subst, sym, true, ◌∙◌, ◌∷◌, ◌≡◌}
-use Rattle.std.specs.Str.{bytes_eq}
+use Rattle.std.proofs.Common.{◌++◌, Bool, List, [], ap, append_assoc, false, map, refl, subst, sym, true, ◌∙◌, ◌∷◌, ◌≡◌}
 use Rattle.ess_semantics.specs.Trees.{Dom, Stm, find, given}
 use Rattle.ess_semantics.specs.Values.{Text}
 use Rattle.ess_grammar.specs.Grammar.{Domain}
 use Rattle.ess_grammar.specs.Statements.{IsSpecification, NameList, Part, find_part, given_part, last_part, next_part}
 use Rattle.ess_grammar.specs.Words.{Token, Word, be_word, colon, comma, enum_word, letting_word, name, new_word, open_curly, symbol, type_word, word}
 use Rattle.ess_parse_laws.proofs.Contexts.{PartsMayBegin, StatementsMayBegin, declaring_word}
-use Rattle.ess_parse_laws.proofs.Booleans.{and-left, and-right}
 use Rattle.ess_parse_laws.specs.StatementEnds.{declarations}
 use Rattle.ess_parse_laws.proofs.StatementRuns.{declarations-find, declarations-given, reverse-twice}
 use Rattle.ess_parse_laws.specs.Reversed.{reverse_list}
@@ -42,13 +40,6 @@ pub data EnumValueRead (t0 : List Token) (a : Text) (ss : List Stm) : List Text 
 pub record StatementRead (t0 : List Token) (x : Word) (ss : List Stm) (ts : List Token) : Type 0 where
   pub stop : StatementsMayBegin t0 ss ts
   pub another : (us : List Token) → ts ≡ symbol comma ∷ us → PartsMayBegin t0 x ss us
-
--- Texts that compare as the same are equal.
-pub same-text-equal : (a b : Text) → bytes_eq a b ≡ true → a ≡ b
-same-text-equal [] [] h = refl
-same-text-equal [] (n ∷ b) h = cc
-same-text-equal (n ∷ a) [] h = cc
-same-text-equal (n ∷ a) (m ∷ b) h = ap (λ k. k ∷ a) (eqb-true n m (and-left (nat_eq n m) (bytes_eq a b) h)) ∙ ap (λ c. m ∷ c) (same-text-equal a b (and-right (nat_eq n m) (bytes_eq a b) h))
 
 reverse-behind : (ps ss qs : List Stm) → reverse_list ss (ps ++ qs) ≡ reverse_list (reverse_list ps ss) qs
 reverse-behind [] ss qs = refl

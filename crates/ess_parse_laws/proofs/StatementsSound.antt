@@ -1,11 +1,12 @@
 -- What a token does in the part of a statement that is no expression and no domain keeps the invariant.
 use Rattle.std.proofs.Common.{Bool, List, None, Some, [], ap, codes, refl, subst, sym, true, ℕ, ◌∙◌, ◌∷◌, ◌≡◌}
 use Rattle.std.specs.Str.{bytes_eq}
+use Rattle.std.proofs.lemmas.Slice.Eq.{bytes_eq-Decides}
 use Rattle.ess_semantics.specs.Trees.{Stm, let_enum}
 use Rattle.ess_semantics.specs.Values.{Text}
 use Rattle.ess_grammar.specs.Statements.{IsSpecification, enum_letting, language_line, last_name, last_part, next_name, next_part, no_language_line, plain_letting_part, specification}
 use Rattle.ess_grammar.specs.Words.{Token, Word, be_word, close_curly, colon, comma, domain_word, dot, find_word, given_word, language_word, letting_word, name, new_word, number, of_word, such_word, symbol, type_word, where_word, word}
-use Rattle.ess_parse_laws.proofs.StatementContexts.{EnumValueRead, NamesRead, NamesWanted, StatementRead, enum_value_read, first_name_read, first_name_wanted, more_names_read, more_names_wanted, part-read, same-text-equal}
+use Rattle.ess_parse_laws.proofs.StatementContexts.{EnumValueRead, NamesRead, NamesWanted, StatementRead, enum_value_read, first_name_read, first_name_wanted, more_names_read, more_names_wanted, part-read}
 use Rattle.ess_parse_laws.proofs.Invariant.{Keeps, begin-statement-keeps}
 use Rattle.ess_parse_laws.proofs.Contexts.{PartsMayBegin, domain_word_before, letting_before, names_before, size_before, such_that_before, where_before}
 use Rattle.ess_parse_laws.specs.StatementSteps.{another_part, step_be_read, step_language_read, step_name_read, step_names_wanted, step_nothing_read, step_of_read, step_statement_read, step_value_name_read}
@@ -60,8 +61,9 @@ be-read-keeps t a ss ts p = operand-wanted-keeps t (letting_frame a ss ∷ []) t
 pub of-read-keeps : {t0 : List Token} (t : Token) (a : Text) (ss : List Stm) (ts : List Token) →
     PartsMayBegin t0 letting_word ss (name a ∷ word be_word ∷ word new_word ∷ word type_word ∷ word of_word ∷ t ∷ ts) → Keeps t0 (step_of_read t a ss) ts
 of-read-keeps {t0 = t0} (name b) a ss ts p =
-    by_elim (bytes_eq b (codes "size")) (λ r. Keeps t0 r ts) (Some (record { mode = operand_wanted; frames = unnamed_frame a ss ∷ [] })) None
-    (λ h. size_before (subst (λ b. PartsMayBegin t0 letting_word ss (name a ∷ word be_word ∷ word new_word ∷ word type_word ∷ word of_word ∷ name b ∷ ts)) (same-text-equal b (codes "size") h) p))
+    by_elim (bytes_eq b (codes "size")) (λ r. Keeps t0 r ts)
+        (Some (record { mode = operand_wanted; frames = unnamed_frame a ss ∷ [] })) None
+    (λ h. size_before (subst (λ b. PartsMayBegin t0 letting_word ss (name a ∷ word be_word ∷ word new_word ∷ word type_word ∷ word of_word ∷ name b ∷ ts)) ((bytes_eq-Decides b (codes "size")).0 h) p))
     (λ h. tt)
 of-read-keeps _ a ss ts p = tt
 
@@ -91,5 +93,5 @@ nothing-read-keeps t ts h = statement-read-keeps t language_word [] ts (nothing-
 pub language-read-keeps : {t0 : List Token} (t : Token) (ts : List Token) → t0 ≡ word language_word ∷ t ∷ ts → Keeps t0 (step_language_read t) ts
 language-read-keeps {t0 = t0} (name a) ts h =
     by_elim (bytes_eq a (codes "Essence")) (λ r. Keeps t0 r ts) (Some (record { mode = language_name_read; frames = [] })) None
-    (λ q. h ∙ ap (λ a. word language_word ∷ name a ∷ ts) (same-text-equal a (codes "Essence") q)) (λ q. tt)
+    (λ q. h ∙ ap (λ a. word language_word ∷ name a ∷ ts) ((bytes_eq-Decides a (codes "Essence")).0 q)) (λ q. tt)
 language-read-keeps _ ts h = tt

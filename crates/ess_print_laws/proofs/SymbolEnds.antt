@@ -19,7 +19,8 @@ goes-on : (s : Text) (b : ℕ) (x : Text) → begins_with (s ++ b ∷ []) (s ++ 
 goes-on [] b x = and_from (nat_eq b b) true (eq-eqb b b refl) refl
 goes-on (c ∷ cs) b x = and_from (nat_eq c c) (begins_with (cs ++ b ∷ []) (cs ++ b ∷ x)) (eq-eqb c c refl) (goes-on cs b x)
 
-no-look : (es : List (Text × Token)) (s : Text) (b : ℕ) (x : Text) → list_all (λ e. not (begins_with (s ++ b ∷ []) e.0)) es ≡ true → look_by bytes_eq es (s ++ b ∷ x) ≡ None
+no-look : (es : List (Text × Token)) (s : Text) (b : ℕ) (x : Text) → list_all (λ e. not (begins_with (s ++ b ∷ []) e.0)) es ≡ true →
+    look_by bytes_eq es (s ++ b ∷ x) ≡ None
 no-look [] s b x h = refl
 no-look (e ∷ es) s b x h =
     let parts = and_parts (not (begins_with (s ++ b ∷ []) e.0)) (list_all (λ e. not (begins_with (s ++ b ∷ []) e.0)) es) h in
@@ -36,7 +37,8 @@ only-none false = refl
 no-symbol : (s : Text) (b : ℕ) (x rest : Text) → begins_no_symbol (s ++ b ∷ []) ≡ true → symbol_of (s ++ b ∷ x) rest ≡ None
 no-symbol s b x rest h =
     let parts = and_parts (list_all (λ e. not (begins_with (s ++ b ∷ []) e.0)) symbols) (list_all (λ e. not (begins_with (s ++ b ∷ []) e.0)) lex_symbols) h in
-    ap (λ o. or_else o (only_if (not (begins_with_name_byte rest)) (look_by bytes_eq lex_symbols (s ++ b ∷ x)))) (no-look symbols s b x parts.0)
+    ap (λ o. or_else o (only_if (not (begins_with_name_byte rest)) (look_by bytes_eq lex_symbols (s ++ b ∷ x))))
+        (no-look symbols s b x parts.0)
     ∙ ap (only_if (not (begins_with_name_byte rest))) (no-look lex_symbols s b x parts.1)
     ∙ only-none (not (begins_with_name_byte rest))
 
@@ -50,7 +52,8 @@ pub record IsSymbol (c : ℕ) (cs : Text) (t : Token) : Type 0 where
   pub is : (r : Text) → ends_before (c ∷ cs) r ≡ true → symbol_of (c ∷ cs) r ≡ Some t
 
 -- one of the first table, whatever follows
-pub plain-symbol : (c : ℕ) (cs : Text) (t : Token) → is_letter c ≡ false → is_digit c ≡ false → Plain c → look_by bytes_eq symbols (c ∷ cs) ≡ Some t → IsSymbol c cs t
+pub plain-symbol : (c : ℕ) (cs : Text) (t : Token) → is_letter c ≡ false → is_digit c ≡ false → Plain c →
+    look_by bytes_eq symbols (c ∷ cs) ≡ Some t → IsSymbol c cs t
 plain-symbol c cs t h k p e = record {
   no_letter = h;
   no_digit = k;
@@ -64,15 +67,18 @@ symbol-stops c cs b bs h k e =
     ∙ ap (λ i. elim i [ true ↦ not (is_digit b) | false ↦ symbol_ends (c ∷ cs) b ]) k) ∙ e
 
 -- one that ends in letters, where no byte of a name follows
-pub lex-symbol : (c : ℕ) (cs : Text) (t : Token) → is_letter c ≡ false → is_digit c ≡ false → Plain c → look_by bytes_eq symbols (c ∷ cs) ≡ None → look_by bytes_eq lex_symbols (c ∷ cs) ≡ Some t → IsSymbol c cs t
+pub lex-symbol : (c : ℕ) (cs : Text) (t : Token) → is_letter c ≡ false → is_digit c ≡ false → Plain c →
+    look_by bytes_eq symbols (c ∷ cs) ≡ None → look_by bytes_eq lex_symbols (c ∷ cs) ≡ Some t → IsSymbol c cs t
 lex-symbol c cs t h k p none e = record { no_letter = h; no_digit = k; plain = p; is = go }
   where
     go : (r : Text) → ends_before (c ∷ cs) r ≡ true → symbol_of (c ∷ cs) r ≡ Some t
     go [] q = ap (λ o. or_else o (look_by bytes_eq lex_symbols (c ∷ cs))) none ∙ e
     go (b ∷ bs) q =
-        let ends = (and_parts (begins_no_symbol ((c ∷ cs) ++ b ∷ [])) (is_some (look_by bytes_eq symbols (c ∷ cs)) || not (is_name_byte b)) (symbol-stops c cs b bs h k q)).1 in
+        let ends = (and_parts (begins_no_symbol ((c ∷ cs) ++ b ∷ [])) (is_some (look_by bytes_eq symbols (c ∷ cs)) || not (is_name_byte b))
+            (symbol-stops c cs b bs h k q)).1 in
         let no : not (is_name_byte b) ≡ true = sym (ap (λ o. is_some o || not (is_name_byte b)) none) ∙ ends in
-        ap (λ o. or_else o (only_if (not (is_name_byte b)) (look_by bytes_eq lex_symbols (c ∷ cs)))) none ∙ ap (λ i. only_if i (look_by bytes_eq lex_symbols (c ∷ cs))) no ∙ e
+        ap (λ o. or_else o (only_if (not (is_name_byte b)) (look_by bytes_eq lex_symbols (c ∷ cs)))) none
+        ∙ ap (λ i. only_if i (look_by bytes_eq lex_symbols (c ∷ cs))) no ∙ e
 
 -- a symbol is read
 pub symbol-is-read : (c : ℕ) (cs r : Text) (t : Token) → IsSymbol c cs t → ends_before (c ∷ cs) r ≡ true → longest_token ((c ∷ cs) ++ r) ≡ Some (t, length (c ∷ cs))
@@ -89,7 +95,8 @@ symbol-is-read c cs r t y e = longest-is token_of (length cs) (length ((c ∷ cs
         let rest = drop (length (c ∷ cs) + suc j) ((c ∷ cs) ++ b ∷ bs) in
         ap (λ s. token_of s rest) (take-append-add (c ∷ cs) (b ∷ bs) (suc j))
         ∙ token_of-other c (cs ++ b ∷ take j bs) rest y.no_letter y.no_digit
-        ∙ no-symbol (c ∷ cs) b (take j bs) rest (and_parts (begins_no_symbol ((c ∷ cs) ++ b ∷ [])) (is_some (look_by bytes_eq symbols (c ∷ cs)) || not (is_name_byte b)) q).0
+        ∙ no-symbol (c ∷ cs) b (take j bs) rest (and_parts (begins_no_symbol ((c ∷ cs) ++ b ∷ []))
+            (is_some (look_by bytes_eq symbols (c ∷ cs)) || not (is_name_byte b)) q).0
 
     longer : (r : Text) → ends_before (c ∷ cs) r ≡ true → (k : ℕ) → suc (length cs) < k → k ≤ length ((c ∷ cs) ++ r) → Reads token_of k ((c ∷ cs) ++ r) None
     longer [] q k h l = absurd (omega (arith, length-append cs []))

@@ -52,17 +52,20 @@ differ a b n = go (bytes_eq a b) refl
 ends-differ : (a b : Text) → not (ends_in_digit a) ≡ true → ends_in_digit b ≡ true → a ≡ b → ⊥
 ends-differ a b h k e = let f : ends_in_digit a ≡ true = ap ends_in_digit e ∙ k in let g : not (ends_in_digit a) ≡ false = ap not f in cc
 
-no-word : (es : List (Text × Token)) (a : Text) → list_all (λ e. not (ends_in_digit e.0)) es ≡ true → ends_in_digit a ≡ true → look_by bytes_eq es a ≡ None
+no-word : (es : List (Text × Token)) (a : Text) → list_all (λ e. not (ends_in_digit e.0)) es ≡ true → ends_in_digit a ≡ true →
+    look_by bytes_eq es a ≡ None
 no-word [] a h k = refl
 no-word (e ∷ es) a h k =
     ap (λ b. if b then Some e.1 else look_by bytes_eq es a)
     (differ e.0 a (ends-differ e.0 a (and-left (not (ends_in_digit e.0)) (list_all (λ e. not (ends_in_digit e.0)) es) h) k))
     ∙ no-word es a (and-right (not (ends_in_digit e.0)) (list_all (λ e. not (ends_in_digit e.0)) es) h) k
 
-none-outside : (ws : List Text) (a : Text) → list_all (λ w. not (ends_in_digit w)) ws ≡ true → ends_in_digit a ≡ true → list_any (bytes_eq a) ws ≡ false
+none-outside : (ws : List Text) (a : Text) → list_all (λ w. not (ends_in_digit w)) ws ≡ true → ends_in_digit a ≡ true →
+    list_any (bytes_eq a) ws ≡ false
 none-outside [] a h k = refl
 none-outside (w ∷ ws) a h k =
-    ap (λ b. b || list_any (bytes_eq a) ws) (differ a w (λ e. ends-differ w a (and-left (not (ends_in_digit w)) (list_all (λ w. not (ends_in_digit w)) ws) h) k (sym e)))
+    ap (λ b. b || list_any (bytes_eq a) ws) (differ a w (λ e. ends-differ w a
+        (and-left (not (ends_in_digit w)) (list_all (λ w. not (ends_in_digit w)) ws) h) k (sym e)))
     ∙ none-outside ws a (and-right (not (ends_in_digit w)) (list_all (λ w. not (ends_in_digit w)) ws) h) k
 
 no-words-end : list_all (λ e. not (ends_in_digit e.0)) words ≡ true
@@ -75,7 +78,8 @@ no-outside-ends = refl
 name-ends-in-digit : (a : Text) → is_name a ≡ true → ends_in_digit a ≡ true → is_name_token a ≡ true
 name-ends-in-digit a h k =
     and-both (is_name a) (not (is_some (look_by bytes_eq words a)) && not (is_outside (name a))) h
-    (and-both (not (is_some (look_by bytes_eq words a))) (not (is_outside (name a))) (ap (λ o. not (is_some o)) (no-word words a no-words-end k)) (ap not (none-outside outside a no-outside-ends k)))
+    (and-both (not (is_some (look_by bytes_eq words a))) (not (is_outside (name a)))
+        (ap (λ o. not (is_some o)) (no-word words a no-words-end k)) (ap not (none-outside outside a no-outside-ends k)))
 
 -- ---- `T_k`
 
@@ -120,7 +124,9 @@ digits-all (b ∷ bs) h = h
 counted-token : (t ds : Text) → is_name_token t ≡ true → are_digits ds ≡ true → is_name_token ((t ++ codes "_") ++ ds) ≡ true
 counted-token t ds h k =
     name-ends-in-digit ((t ++ codes "_") ++ ds)
-    (name-append (t ++ codes "_") ds (name-append t (codes "_") (and-left (is_name t) (not (is_some (look_by bytes_eq words t)) && not (is_outside (name t))) h) refl) (name-bytes ds (digits-all ds k)))
+    (name-append (t ++ codes "_") ds (name-append t (codes "_")
+        (and-left (is_name t) (not (is_some (look_by bytes_eq words t)) && not (is_outside (name t))) h) refl)
+        (name-bytes ds (digits-all ds k)))
     (digits-end (t ++ codes "_") ds k)
 
 behind-prefix : (p a ds : Text) → after_prefix p a ≡ Some ds → p ++ ds ≡ a

@@ -5,4 +5,5 @@ use Rattle.ess_parse.specs.Machines.{shown_table}
 use Rattle.ess_parse.proofs.representations.kinds.kind_in.Given as goal
 
 abbrev pub invariant-loop-spelling : goal.invariant-loop-spelling
-invariant-loop-spelling l = look_by bytes_eq (shown_table l.table) l.name ≡ look_by bytes_eq (shown_table (drop l.spelling-index l.table)) l.name
+invariant-loop-spelling l =
+    look_by bytes_eq (shown_table l.table) l.name ≡ look_by bytes_eq (shown_table (drop l.spelling-index l.table)) l.name
