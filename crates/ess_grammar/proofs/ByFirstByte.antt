@@ -49,12 +49,12 @@ letter_token t whole =
 pub token_of-letter : (b : ℕ) (t rest : Text) → is_letter b ≡ true → token_of (b ∷ t) rest ≡ letter_token t (b ∷ t)
 token_of-letter b t rest h =
     ap (λ i. or_else (only_if (i && list_all is_digit t) (Some (number (value_of (b ∷ t)))))
-        (or_else (only_if (is_letter b && list_all is_name_byte t) (name_or_word (b ∷ t)))
+    (or_else (only_if (is_letter b && list_all is_name_byte t) (name_or_word (b ∷ t)))
     (or_else (only_if (bytes_eq (b ∷ t) prime_text) (Some prime_word)) (symbol_of (b ∷ t) rest)))) (letter_is_no_digit b h)
     ∙ ap (λ i. or_else (only_if (i && list_all is_name_byte t) (name_or_word (b ∷ t)))
-        (or_else (only_if (bytes_eq (b ∷ t) prime_text) (Some prime_word)) (symbol_of (b ∷ t) rest))) h
+    (or_else (only_if (bytes_eq (b ∷ t) prime_text) (Some prime_word)) (symbol_of (b ∷ t) rest))) h
     ∙ ap (λ o. or_else (only_if (list_all is_name_byte t) (name_or_word (b ∷ t)))
-        (or_else (only_if (bytes_eq (b ∷ t) prime_text) (Some prime_word)) o)) (no_symbol is_letter b t rest refl refl h)
+    (or_else (only_if (bytes_eq (b ∷ t) prime_text) (Some prime_word)) o)) (no_symbol is_letter b t rest refl refl h)
 
 -- ---- digits
 
@@ -76,11 +76,11 @@ or_none (Some x) = refl
 pub token_of-digit : (b : ℕ) (t rest : Text) → is_digit b ≡ true → token_of (b ∷ t) rest ≡ digit_token t (b ∷ t)
 token_of-digit b t rest h =
     ap (λ i. or_else (only_if (i && list_all is_digit t) (Some (number (value_of (b ∷ t)))))
-        (or_else (only_if (is_letter b && list_all is_name_byte t) (name_or_word (b ∷ t)))
+    (or_else (only_if (is_letter b && list_all is_name_byte t) (name_or_word (b ∷ t)))
     (or_else (only_if (bytes_eq (b ∷ t) prime_text) (Some prime_word)) (symbol_of (b ∷ t) rest)))) h
     ∙ ap (or_else (digit_token t (b ∷ t)))
     (ap (λ i. or_else (only_if (i && list_all is_name_byte t) (name_or_word (b ∷ t)))
-        (or_else (only_if (bytes_eq (b ∷ t) prime_text) (Some prime_word)) (symbol_of (b ∷ t) rest))) (digit_is_no_letter b h)
+    (or_else (only_if (bytes_eq (b ∷ t) prime_text) (Some prime_word)) (symbol_of (b ∷ t) rest))) (digit_is_no_letter b h)
     ∙ ap (λ i. or_else (only_if i (Some prime_word)) (symbol_of (b ∷ t) rest)) (no_prime b t (digit_is_no_letter b h))
     ∙ no_symbol is_digit b t rest refl refl h)
     ∙ or_none (digit_token t (b ∷ t))
@@ -90,8 +90,8 @@ token_of-digit b t rest h =
 pub token_of-other : (b : ℕ) (t rest : Text) → is_letter b ≡ false → is_digit b ≡ false → token_of (b ∷ t) rest ≡ symbol_of (b ∷ t) rest
 token_of-other b t rest h k =
     ap (λ i. or_else (only_if (i && list_all is_digit t) (Some (number (value_of (b ∷ t)))))
-        (or_else (only_if (is_letter b && list_all is_name_byte t) (name_or_word (b ∷ t)))
+    (or_else (only_if (is_letter b && list_all is_name_byte t) (name_or_word (b ∷ t)))
     (or_else (only_if (bytes_eq (b ∷ t) prime_text) (Some prime_word)) (symbol_of (b ∷ t) rest)))) k
     ∙ ap (λ i. or_else (only_if (i && list_all is_name_byte t) (name_or_word (b ∷ t)))
-        (or_else (only_if (bytes_eq (b ∷ t) prime_text) (Some prime_word)) (symbol_of (b ∷ t) rest))) h
+    (or_else (only_if (bytes_eq (b ∷ t) prime_text) (Some prime_word)) (symbol_of (b ∷ t) rest))) h
     ∙ ap (λ i. or_else (only_if i (Some prime_word)) (symbol_of (b ∷ t) rest)) (no_prime b t h)

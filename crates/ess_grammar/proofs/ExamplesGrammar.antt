@@ -41,7 +41,7 @@ powers : Is false other_shape 6 (binary_ex Op2.Minus (binary_ex Op2.Pow (num 2) 
 powers =
     binary_expression (lit≤ tt) (lit≤ tt)
     (binary_expression (lit≤ tt) (lit≤ tt) (atom_expression number_atom)
-        (binary_expression (lit≤ tt) (lit≤ tt) (atom_expression number_atom) (atom_expression number_atom)))
+    (binary_expression (lit≤ tt) (lit≤ tt) (atom_expression number_atom) (atom_expression number_atom)))
     (minus_expression (lit≤ tt) (atom_expression name_atom))
 
 differences : Is false other_shape 6 (binary_ex Op2.Minus (binary_ex Op2.Minus x y) s) (codes "x - y - s")
@@ -59,7 +59,7 @@ indices : Is false other_shape 10 (applied (indexed (indexed x (two_exs (num 1) 
 indices =
     atom_expression (application_atom (index_atom (index_atom name_atom
     (next_expression (atom_expression number_atom) (last_expression (atom_expression number_atom))))
-        (last_expression (atom_expression number_atom))) (last_expression (atom_expression number_atom)))
+    (last_expression (atom_expression number_atom))) (last_expression (atom_expression number_atom)))
 
 -- ---- quantifiers and comprehensions
 
@@ -69,7 +69,7 @@ body : Is true other_shape 3 (binary_ex Op2.Or x (quantified Fun.And (from (name
 body =
     binary_expression (lit≤ tt) (lit≤ tt) (atom_expression name_atom)
     (quantifier_expression for_all_quantifier (last_generator
-        (in_generator refl (last_expression (atom_expression name_atom)) (atom_expression name_atom)))
+    (in_generator refl (last_expression (atom_expression name_atom)) (atom_expression name_atom)))
     (binary_expression (lit≤ tt) (lit≤ tt) (atom_expression name_atom) (atom_expression name_atom)))
 
 -- in a quantifier `x in s` is a condition where x is bound by an earlier item
@@ -79,22 +79,22 @@ condition =
     quantifier_expression for_all_quantifier
     (next_generator (in_generator refl (last_expression (atom_expression name_atom)) (atom_expression name_atom))
     (last_condition {s = member_shape x} refl (binary_expression (lit≤ tt) (lit≤ tt) (atom_expression name_atom)
-        (atom_expression name_atom))))
+    (atom_expression name_atom))))
     (atom_expression name_atom)
 
 -- in a comprehension `in` is no generator's sign
 comprehension : Is false other_shape 10
     (comp_ex x (over (name_pat (codes "x")) (int_dom (both_ends ∷ []) (two_exs (num 1) (num 2)))
-        (cond (binary_ex Op2.Member y s) (cond (binary_ex Op2.Eq x (num 1)) no_gens))))
+    (cond (binary_ex Op2.Member y s) (cond (binary_ex Op2.Eq x (num 1)) no_gens))))
     (codes "[x | x : int(1..2), y in s, (x) = 1]")
 comprehension =
     atom_expression (comprehension_atom (atom_expression name_atom)
     (next_generator (over_generator (last_expression (atom_expression name_atom))
-        (ranges_domain (last_range (both_range (atom_expression number_atom) (atom_expression number_atom)))))
+    (ranges_domain (last_range (both_range (atom_expression number_atom) (atom_expression number_atom)))))
     (next_condition {s = member_shape y} refl refl (binary_expression (lit≤ tt) (lit≤ tt) (atom_expression name_atom)
-        (atom_expression name_atom))
+    (atom_expression name_atom))
     (last_condition {s = other_shape} refl (binary_expression (lit≤ tt) (lit≤ tt)
-        (atom_expression (bracketed_atom (atom_expression name_atom))) (atom_expression number_atom))))))
+    (atom_expression (bracketed_atom (atom_expression name_atom))) (atom_expression number_atom))))))
 
 -- a name alone before a generator is one of its patterns, a name in brackets is a condition
 patterns : Is false other_shape 10 (comp_ex x (from (name_pat (codes "y")) s (from (name_pat (codes "x")) s no_gens)))
@@ -102,7 +102,7 @@ patterns : Is false other_shape 10 (comp_ex x (from (name_pat (codes "y")) s (fr
 patterns =
     atom_expression (comprehension_atom (atom_expression name_atom)
     (last_generator (from_generator (next_expression (atom_expression name_atom) (last_expression (atom_expression name_atom)))
-        (atom_expression name_atom))))
+    (atom_expression name_atom))))
 
 bracketed : Is false other_shape 10 (comp_ex x (cond y (from (name_pat (codes "x")) s no_gens))) (codes "[x | (y), x <- s]")
 bracketed =
@@ -113,25 +113,25 @@ bracketed =
 -- a bracket directly behind `sum` that holds two or more patterns is the first pattern of a generator, any other a call's
 sum_of_pairs : Is true other_shape 10
     (quantified Fun.Sum (from (tuple_pat (more_pats (name_pat (codes "x")) (more_pats (name_pat (codes "y")) no_pats))) s no_gens)
-        (binary_ex Op2.Plus x y))
+    (binary_ex Op2.Plus x y))
     (codes "sum (x, y) in s . x + y")
 sum_of_pairs =
     quantifier_expression (sum_quantifier refl)
     (last_generator (in_generator refl (last_expression (atom_expression
-        (pair_atom (atom_expression name_atom) (last_expression (atom_expression name_atom))))) (atom_expression name_atom)))
+    (pair_atom (atom_expression name_atom) (last_expression (atom_expression name_atom))))) (atom_expression name_atom)))
     (binary_expression (lit≤ tt) (lit≤ tt) (atom_expression name_atom) (atom_expression name_atom))
 
 sum_call : Is false other_shape 10 (plain_node (Op.word Fun.Sum) (one_ex (plain_node matrix_literal (two_exs x y)))) (codes "sum([x, y])")
 sum_call =
     atom_expression (list_atom opens_call
     (last_expression (atom_expression (list_atom opens_matrix
-        (next_expression (atom_expression name_atom) (last_expression (atom_expression name_atom))) refl))) refl)
+    (next_expression (atom_expression name_atom) (last_expression (atom_expression name_atom))) refl))) refl)
 
 -- so a call of `sum` on two names has one in brackets
 sum_of_names : Is false other_shape 10 (plain_node (Op.word Fun.Sum) (two_exs x y)) (codes "sum((x), y)")
 sum_of_names =
     atom_expression (list_atom opens_call (next_expression (atom_expression (bracketed_atom (atom_expression name_atom)))
-        (last_expression (atom_expression name_atom))) refl)
+    (last_expression (atom_expression name_atom))) refl)
 
 -- a bar where an operand may begin opens a bar's expression
 bars : Is false other_shape 10 (comp_ex (unary_ex Op1.Bar x)
@@ -140,22 +140,22 @@ bars =
     atom_expression (comprehension_atom (atom_expression (bar_atom (atom_expression name_atom)))
     (next_generator (from_generator (last_expression (atom_expression name_atom)) (atom_expression name_atom))
     (last_condition {s = other_shape} refl (binary_expression (lit≤ tt) (lit≤ tt) (atom_expression (bar_atom (atom_expression name_atom)))
-        (atom_expression number_atom)))))
+    (atom_expression number_atom)))))
 
 -- ---- literals
 
 literals : Is false other_shape 10
     (plain_node function_literal (two_exs (pair_ex (num 1) (plain_node set_literal no_exs))
-        (pair_ex (num 2) (plain_node mset_literal no_exs)))) (codes "function(1 --> {}, 2 --> mset())")
+    (pair_ex (num 2) (plain_node mset_literal no_exs)))) (codes "function(1 --> {}, 2 --> mset())")
 literals =
     atom_expression (function_atom (next_pair (atom_expression number_atom) (atom_expression (empty_atom opens_set))
-        (last_pair (atom_expression number_atom) (atom_expression (empty_atom opens_mset)))))
+    (last_pair (atom_expression number_atom) (atom_expression (empty_atom opens_mset)))))
 
 -- a record, a tuple of one component, a partition, a matrix with its index domain
 more_literals : Is false other_shape 10
     (plain_node (record_literal (codes "a" ∷ codes "size" ∷ []))
     (two_exs (plain_node tuple_literal (one_ex (num 1))) (matrix_ex
-        (one_ex (plain_node partition_literal (one_ex (plain_node set_literal (one_ex (num 1)))))) bool_dom)))
+    (one_ex (plain_node partition_literal (one_ex (plain_node set_literal (one_ex (num 1)))))) bool_dom)))
     (codes "record {a = tuple (1), size = [partition({1}); bool]}")
 more_literals =
     atom_expression (record_atom (next_field (atom_expression (list_atom opens_tuple (last_expression (atom_expression number_atom)) refl))
@@ -188,17 +188,17 @@ relations : Domain (relation_dom (flag Key.Symmetric ∷ []) no_exs
 relations =
     relation_domain (some_attributes (last_attribute (flag_attribute refl)))
     (ranges_domain (next_range (value_range (atom_expression number_atom)) (last_range (value_range (atom_expression number_atom)))))
-        (last_domain bool_domain)
+    (last_domain bool_domain)
 
 nested : Domain
     (matrix_dom (more_doms bool_dom no_doms) (record_dom (codes "a" ∷ codes "b" ∷ [])
-        (more_doms (set_dom (valued Key.Size ∷ []) (one_ex (num 2)) (name_dom (codes "c")))
-        (more_doms (partition_dom [] no_exs bool_dom) no_doms))))
+    (more_doms (set_dom (valued Key.Size ∷ []) (one_ex (num 2)) (name_dom (codes "c")))
+    (more_doms (partition_dom [] no_exs bool_dom) no_doms))))
     (read (codes "matrix indexed by [bool] of record {a : set (size 2) of c, b : partition from bool}")) []
 nested =
     matrix_domain (last_domain bool_domain)
     (record_domain (next_field_domain (set_domain (some_attributes
-        (last_attribute (valued_attribute refl (atom_expression number_atom)))) name_domain)
+    (last_attribute (valued_attribute refl (atom_expression number_atom)))) name_domain)
     (last_field_domain (partition_domain no_attributes bool_domain))))
 
 -- the fields of a record's domain are kept by name, and two of one name in written order

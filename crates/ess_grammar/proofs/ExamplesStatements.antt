@@ -22,11 +22,11 @@ finds : IsSpecification (given (codes "n") (int_dom (low_end ∷ []) (one_ex (nu
 finds =
     specification language_line
     (more_statements (parts_statement begins_given (last_part
-        (given_part last_name (ranges_domain (last_range (low_range (atom_expression number_atom)))))))
+    (given_part last_name (ranges_domain (last_range (low_range (atom_expression number_atom)))))))
     (more_statements (parts_statement begins_find (last_part (find_part (next_name last_name) bool_domain)))
     (more_statements (parts_statement begins_such_that (next_part
-        (such_that_part (binary_expression (lit≤ tt) (lit≤ tt) (atom_expression name_atom) (atom_expression name_atom)))
-        (last_part (such_that_part (atom_expression name_atom)))))
+    (such_that_part (binary_expression (lit≤ tt) (lit≤ tt) (atom_expression name_atom) (atom_expression name_atom)))
+    (last_part (such_that_part (atom_expression name_atom)))))
     no_statements)))
 
 -- lettings of all kinds in one list
@@ -50,7 +50,7 @@ others =
     specification no_language_line
     (more_statements (parts_statement begins_given (next_part given_enum_part (last_part (given_part last_name name_domain))))
     (more_statements (parts_statement begins_where (last_part
-        (where_part (binary_expression (lit≤ tt) (lit≤ tt) (atom_expression name_atom) (atom_expression name_atom)))))
+    (where_part (binary_expression (lit≤ tt) (lit≤ tt) (atom_expression name_atom) (atom_expression name_atom)))))
     (more_statements (maximising_statement (atom_expression (bar_atom (atom_expression name_atom))))
     (more_statements (minimising_statement (atom_expression name_atom))
     no_statements))))
@@ -63,7 +63,7 @@ sized =
     specification no_language_line
     (more_statements (parts_statement begins_find (last_part (find_part last_name
     (set_domain (some_attributes (last_attribute (valued_attribute refl (atom_expression number_atom))))
-        (ranges_domain (last_range (both_range (atom_expression number_atom) (atom_expression number_atom))))))))
+    (ranges_domain (last_range (both_range (atom_expression number_atom) (atom_expression number_atom))))))))
     no_statements)
 
 -- a file of lettings

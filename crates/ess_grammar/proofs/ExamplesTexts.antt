@@ -27,7 +27,7 @@ model : Text
 model = codes "language ESSENCE' 1.0" ++ feed ++ codes "$ conjure-header 1" ++ feed ++ codes "$ find s : set of int(1..3)" ++ feed
     ++ codes "$ repr s Occurrence" ++ feed ++ codes "$ end-header" ++ feed
     ++ codes "find s_Occurrence : matrix indexed by [int(1..3)] of bool" ++ feed ++ codes "such that" ++ feed
-        ++ codes "    s_Occurrence[2]" ++ feed
+    ++ codes "    s_Occurrence[2]" ++ feed
 
 its_header : lines_under_language_line model ≡ codes "conjure-header 1" ∷ codes "find s : set of int(1..3)" ∷ codes "repr s Occurrence"
     ∷ codes "end-header" ∷ []
@@ -51,7 +51,7 @@ is_its_tree = record {
   parts = _;
   read = model_parts no_declarations
       (more_declarations (matrix_domain (last_domain (ranges_domain
-          (last_range (both_range (atom_expression number_atom) (atom_expression number_atom))))) bool_domain) no_declarations)
+      (last_range (both_range (atom_expression number_atom) (atom_expression number_atom))))) bool_domain) no_declarations)
       no_objective (constraints (last_constraint (atom_expression (index_atom name_atom (last_expression (atom_expression number_atom))))));
   is = refl;
   readable = refl;
@@ -62,9 +62,12 @@ is_its_header : IsHeader (record {
   reprs = (codes "s", repr ReprKind.Occurrence no_reprs ∷ []) ∷ [];
 })
     (codes "conjure-header 1" ∷ codes "find s : set of int(1..3)" ∷ codes "repr s Occurrence" ∷ codes "end-header" ∷ [])
-is_its_header = header (next_statement_line
-    (_, refl, parts_statement begins_find (last_part (find_part last_name
-        (set_domain no_attributes (ranges_domain (last_range (both_range (atom_expression number_atom) (atom_expression number_atom))))))))
+is_its_header = header (next_statement_line (
+  _,
+  refl,
+  parts_statement begins_find (last_part (find_part last_name
+      (set_domain no_attributes (ranges_domain (last_range (both_range (atom_expression number_atom) (atom_expression number_atom))))))),
+)
     (refl, refl)
     (no_more_statements (next_representation_line (_, refl, representation_line (last_choice (childless refl))) (refl, refl) end_line)))
 
@@ -75,8 +78,19 @@ least_model = codes "language ESSENCE' 1.0" ++ feed ++ codes "$ conjure-header 1
 its_parts : ReadsModel least_model (utf8_lines (codes "conjure-header 1" ∷ codes "end-header" ∷ []))
     (record { givens = []; finds = []; goal = no_goal; rules = [] })
 unfolding least_model
-its_parts = (refl, (_, refl, record { parts = _; read = model_parts no_declarations no_declarations no_objective no_constraints; is = refl;
-    readable = refl }))
+its_parts = (
+  refl,
+  (
+    _,
+    refl,
+    record {
+      parts = _;
+      read = model_parts no_declarations no_declarations no_objective no_constraints;
+      is = refl;
+      readable = refl;
+    },
+  ),
+)
 
 -- the header ends before a line that doesn't begin with `$ `
 short_header : lines_under_language_line (codes "language ESSENCE' 1.0 $ a comment" ++ feed ++ codes "$ a line" ++ feed ++ codes "$another"
@@ -91,7 +105,7 @@ folds = refl
 
 over_range : is_model_ex empty_scope true []
     (plain_node (Op.word Fun.And) (one_ex (comp_ex (binary_ex Op2.Lt (name_ex (codes "i")) (num 3))
-        (over (name_pat (codes "i")) (int_dom (both_ends ∷ []) (two_exs (num 1) (num 2))) no_gens)))) ≡ true
+    (over (name_pat (codes "i")) (int_dom (both_ends ∷ []) (two_exs (num 1) (num 2))) no_gens)))) ≡ true
 over_range = refl
 
 -- a fold of a number, `in`, a lex sign between names, and a range without bounds are none
@@ -126,7 +140,7 @@ over_i gs = plain_node (Op.word Fun.Sum) (one_ex (comp_ex (at (codes "f") (name_
 
 with_its_cells : with_cells scope [] (over_i no_gens) ≡
     plain_node (Op.word Fun.Sum) (one_ex (comp_ex (cell_ex false (codes "f") (one_ex (name_ex (codes "i"))))
-        (over (name_pat (codes "i")) (int_dom (both_ends ∷ []) (two_exs (num 1) (num 2))) no_gens)))
+    (over (name_pat (codes "i")) (int_dom (both_ends ∷ []) (two_exs (num 1) (num 2))) no_gens)))
 with_its_cells = refl
 
 -- conditions may have givens, and no finds
@@ -141,15 +155,23 @@ bound_find : is_read (plain_node (Op.word Fun.Sum) (one_ex (comp_ex (num 1) (ove
 bound_find = refl
 
 -- a name is declared once
-twice : is_readable_model (record { givens = record { name = codes "g"; axes = []; cell = bool_dom }
-    ∷ record { name = codes "g"; axes = []; cell = bool_dom } ∷ []; finds = []; goal = no_goal; rules = [] }) ≡ false
+twice : is_readable_model (record {
+  givens = record { name = codes "g"; axes = []; cell = bool_dom }
+      ∷ record { name = codes "g"; axes = []; cell = bool_dom } ∷ [];
+  finds = [];
+  goal = no_goal;
+  rules = [];
+}) ≡ false
 twice = refl
 
 -- ---- cells
 
 some_cells : IsCells
-    ((codes "a", unary_ex Op1.Minus (num 5)) ∷ (codes "s", matrix_ex (two_exs (truth_ex false) (truth_ex true))
-        (int_dom (both_ends ∷ []) (two_exs (unary_ex Op1.Minus (num 1)) (num 0))))
+    ((codes "a", unary_ex Op1.Minus (num 5)) ∷ (
+      codes "s",
+      matrix_ex (two_exs (truth_ex false) (truth_ex true))
+          (int_dom (both_ends ∷ []) (two_exs (unary_ex Op1.Minus (num 1)) (num 0))),
+    )
     ∷ (codes "e", plain_node matrix_literal no_exs) ∷ [])
     (read (codes "language ESSENCE' 1.0 letting a be -5 letting s be [false, true; int(-1..0)] letting e be []"))
 some_cells =

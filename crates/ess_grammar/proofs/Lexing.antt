@@ -62,7 +62,7 @@ pub lexed_after-first : (before text : Text) → lexed_after before text ≡ fir
 lexed_after-first before [] = refl
 lexed_after-first before (b ∷ bs) = first-same (place before) (b ∷ bs) _ _
     (λ i a. turns (length bs) (length (drop i (b ∷ bs))) (before ++ take i (b ∷ bs)) (drop i (b ∷ bs))
-        (omega (arith, length-drop i (b ∷ bs))) (omega arith))
+    (omega (arith, length-drop i (b ∷ bs))) (omega arith))
 
 -- ---- by what stands at the front
 
@@ -70,9 +70,15 @@ pub lexed_after-white : (before : Text) (b : ℕ) (bs : Text) → is_white b ≡
     lexed_after before (b ∷ bs) ≡ lexed_after (before ++ b ∷ []) bs
 lexed_after-white before b bs h =
     lexed_after-first before (b ∷ bs)
-    ∙ ap (λ i. elim i [ true ↦ later before (b ∷ bs) 1 | false ↦
-        elim (begins_comment b) [ true ↦ later before (b ∷ bs) (comment_length (b ∷ bs)) | false ↦
-        token_first (place before) (b ∷ bs) (longest_token (b ∷ bs)) (later before (b ∷ bs)) ] ]) h
+    ∙ ap (λ i. elim i [
+      | true ↦ later before (b ∷ bs) 1
+      | false ↦
+          elim (begins_comment b) [
+            | true ↦ later before (b ∷ bs) (comment_length (b ∷ bs))
+            | false ↦
+                token_first (place before) (b ∷ bs) (longest_token (b ∷ bs)) (later before (b ∷ bs))
+          ]
+    ]) h
 
 pub lexed_after-comment : (before : Text) (bs : Text) → lexed_after before (36 ∷ bs) ≡ later before (36 ∷ bs) (comment_length (36 ∷ bs))
 lexed_after-comment before bs = lexed_after-first before (36 ∷ bs)
@@ -81,11 +87,20 @@ lexed_after-plain : (before : Text) (b : ℕ) (bs : Text) → Plain b →
     lexed_after before (b ∷ bs) ≡ token_first (place before) (b ∷ bs) (longest_token (b ∷ bs)) (later before (b ∷ bs))
 lexed_after-plain before b bs h =
     lexed_after-first before (b ∷ bs)
-    ∙ ap (λ i. elim i [ true ↦ later before (b ∷ bs) 1 | false ↦
-        elim (begins_comment b) [ true ↦ later before (b ∷ bs) (comment_length (b ∷ bs)) | false ↦
-        token_first (place before) (b ∷ bs) (longest_token (b ∷ bs)) (later before (b ∷ bs)) ] ]) h.0
-    ∙ ap (λ i. elim i [ true ↦ later before (b ∷ bs) (comment_length (b ∷ bs)) | false ↦
-        token_first (place before) (b ∷ bs) (longest_token (b ∷ bs)) (later before (b ∷ bs)) ]) h.1
+    ∙ ap (λ i. elim i [
+      | true ↦ later before (b ∷ bs) 1
+      | false ↦
+          elim (begins_comment b) [
+            | true ↦ later before (b ∷ bs) (comment_length (b ∷ bs))
+            | false ↦
+                token_first (place before) (b ∷ bs) (longest_token (b ∷ bs)) (later before (b ∷ bs))
+          ]
+    ]) h.0
+    ∙ ap (λ i. elim i [
+      | true ↦ later before (b ∷ bs) (comment_length (b ∷ bs))
+      | false ↦
+          token_first (place before) (b ∷ bs) (longest_token (b ∷ bs)) (later before (b ∷ bs))
+    ]) h.1
 
 pub lexed_after-found : (before text : Text) (o : Option (Token × ℕ)) → BeginsPlain text → longest_token text ≡ o →
     lexed_after before text ≡ token_first (place before) text o (later before text)
@@ -103,8 +118,11 @@ pub lexed_after-wide : (before text : Text) (found : Token × ℕ) → BeginsPla
     is_wide found.0 ≡ true → lexed_after before text ≡ wide_number (place before)
 lexed_after-wide before text found h e k =
     lexed_after-found before text (Some found) h e
-    ∙ ap (λ i. elim i [ true ↦ wide_number (place before) | false ↦
-        next_token found.0 (take found.1 text) (place before) (later before text found.1) ]) k
+    ∙ ap (λ i. elim i [
+      | true ↦ wide_number (place before)
+      | false ↦
+          next_token found.0 (take found.1 text) (place before) (later before text found.1)
+    ]) k
 
 pub lexed_after-bad : (before text : Text) → BeginsPlain text → longest_token text ≡ None →
     lexed_after before text ≡ bad_byte (place before)

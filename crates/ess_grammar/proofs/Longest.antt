@@ -49,4 +49,4 @@ longest-same reads reads' zero bs same = refl
 longest-same reads reads' (suc n) bs same =
     ap (λ o. chosen o (suc n) (longest reads n bs)) (same (suc n) (omega arith) (omega arith))
     ∙ ap (λ r. chosen (reads' (take (suc n) bs) (drop (suc n) bs)) (suc n) r)
-        (longest-same reads reads' n bs (λ k a b. same k a (omega arith)))
+    (longest-same reads reads' n bs (λ k a b. same k a (omega arith)))

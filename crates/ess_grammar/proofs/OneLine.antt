@@ -62,7 +62,7 @@ one_line_name [] h = cc
 one_line_name (b ∷ t) h =
     let parts = and_parts (is_letter b) (list_all is_name_byte t) h in
     one_line is_name_byte (b ∷ t) refl (and_from (is_name_byte b) (list_all is_name_byte t)
-        (or_left (is_letter b) (is_digit b) parts.0) parts.1)
+    (or_left (is_letter b) (is_digit b) parts.0) parts.1)
 
 one_line_token : (t rest : Text) (x : Token) → token_of t rest ≡ Some x → lines_before t ≡ 0
 one_line_token t rest x h = ⊎_elim
@@ -71,14 +71,14 @@ one_line_token t rest x h = ⊎_elim
     (λ e. one_line_name t (only_if-is (is_name t) (name_or_word t) x e).0)
     (λ h. ⊎_elim
     (λ e. subst (λ s. lines_before s ≡ 0) (sym ((bytes_eq-Decides t prime_text).0
-        (only_if-is (bytes_eq t prime_text) (Some prime_word) x e).0)) refl)
+    (only_if-is (bytes_eq t prime_text) (Some prime_word) x e).0)) refl)
     (λ e. one_line_symbol t rest x e)
     (or_else-is (only_if (bytes_eq t prime_text) (Some prime_word)) (symbol_of t rest) x h))
     (or_else-is (only_if (is_name t) (name_or_word t)) (or_else (only_if (bytes_eq t prime_text) (Some prime_word))
-        (symbol_of t rest)) x h))
+    (symbol_of t rest)) x h))
     (or_else-is (only_if (is_number t) (Some (number (value_of t))))
-        (or_else (only_if (is_name t) (name_or_word t)) (or_else (only_if (bytes_eq t prime_text) (Some prime_word))
-        (symbol_of t rest))) x h)
+    (or_else (only_if (is_name t) (name_or_word t)) (or_else (only_if (bytes_eq t prime_text) (Some prime_word))
+    (symbol_of t rest))) x h)
 
 -- the first k bytes are read as x
 abbrev pub ReadAt : Reader → ℕ → ℕ → Text → Token → Type 0

@@ -68,7 +68,7 @@ symbol-named : (t rest : Text) → Named (symbol_of t rest)
 symbol-named t rest =
     either-named (look_by bytes_eq symbols t) (only_if (not (begins_with_name_byte rest)) (look_by bytes_eq lex_symbols t))
     (table-named symbols t refl) (only-named (not (begins_with_name_byte rest)) (look_by bytes_eq lex_symbols t)
-        (λ h. table-named lex_symbols t refl))
+    (λ h. table-named lex_symbols t refl))
 
 token-named : (t rest : Text) → Named (token_of t rest)
 token-named t rest =
@@ -127,9 +127,9 @@ named-proper : (t : Token) → is_named t ≡ true → is_wide t ≡ false → i
 named-proper (number n) h w o = lt-ltb n (2 ^ 63) (leb-false (2 ^ 63) n w)
 named-proper (name a) h w o =
     and-both (is_name a) (not (is_some (look_by bytes_eq words a)) && not (is_outside (name a)))
-        (and-left (is_name a) (not (is_some (look_by bytes_eq words a))) h)
+    (and-left (is_name a) (not (is_some (look_by bytes_eq words a))) h)
     (and-both (not (is_some (look_by bytes_eq words a))) (not (is_outside (name a)))
-        (and-right (is_name a) (not (is_some (look_by bytes_eq words a))) h) (ap not o))
+    (and-right (is_name a) (not (is_some (look_by bytes_eq words a))) h) (ap not o))
 named-proper prime_word h w o = refl
 named-proper (word x) h w o = refl
 named-proper (operator x) h w o = refl

@@ -46,8 +46,12 @@ letting-reads : {s : Stm} {ts us : List Token} → PlainLetting s ts us → Prop
 letting-reads (value_letting d) h = let r = reads d h.1.1 in record { plain = refl; stm = (h.0, r.0); rest = r.1 }
 letting-reads (enum_letting {a = a} {ns = ns} d) h =
     let r = names-read d h.1.1.1.1.1.1 in
-    record { plain = refl; stm = and-both (is_name_token a) (some_names ns && are_name_tokens ns) h.0
-        (and-both (some_names ns) (are_name_tokens ns) r.some r.all); rest = r.rest.1 }
+    record {
+      plain = refl;
+      stm = and-both (is_name_token a) (some_names ns && are_name_tokens ns) h.0
+          (and-both (some_names ns) (are_name_tokens ns) r.some r.all);
+      rest = r.rest.1;
+    }
 
 part-reads : {x : Word} {ss : List Stm} {ts us : List Token} → Part x ss ts us → Proper ts → ReadableStms ss × Proper us
 part-reads (given_part {ns = ns} {d = d} a k) h = let r = names-read a h in let q = domain-reads k r.rest.1 in

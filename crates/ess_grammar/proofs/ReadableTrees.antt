@@ -201,7 +201,7 @@ mutual
       record { fit = one-field-fit a e h.0; exs = (r.0, tt); rest = r.1 }
   fields-read (next_field {a = a} {fs = ns} {e = e} {es = es} d ds) h =
       let r = reads d h.1.1 in let q = fields-read ds r.1.1 in
-          record { fit = field-fit a ns e es h.0 q.fit; exs = (r.0, q.exs); rest = q.rest }
+      record { fit = field-fit a ns e es h.0 q.fit; exs = (r.0, q.exs); rest = q.rest }
 
   items-read : {p : Place} {bs : List Text} {h : Bool} {gs : Gens} {ts us : List Token} → Items p bs h gs ts us → Proper ts →
       ((some_gens gs ≡ true) × ReadableGens gs) × Proper us
@@ -227,7 +227,7 @@ mutual
   patterns-read (last_expression d) i h = let r = pattern-reads d i h in ((r.0, tt), r.1)
   patterns-read (next_expression {k = k} {s = s} d ds) i h =
       let r = pattern-reads d (and-left (is_pattern s) k i) h in let q = patterns-read ds (and-right (is_pattern s) k i) r.1.1 in
-          ((r.0, q.0), q.1)
+      ((r.0, q.0), q.1)
 
   pattern-reads : {w : Bool} {s : Shape} {l : ℕ} {e : Ex} {ts us : List Token} → Expression w s l e ts us → is_pattern s ≡ true →
       Proper ts → ReadablePat (as_pattern e) × Proper us
@@ -275,7 +275,7 @@ mutual
   field-domains-read (last_field_domain d) h = let r = domain-reads d h.1.1 in record { some = refl; fields = ((h.0, r.0), tt); rest = r.1 }
   field-domains-read (next_field_domain k ks) h =
       let r = domain-reads k h.1.1 in let q = field-domains-read ks r.1.1 in
-          record { some = refl; fields = ((h.0, r.0), q.fields); rest = q.rest }
+      record { some = refl; fields = ((h.0, r.0), q.fields); rest = q.rest }
 
   maybe-read : {ms : List Mark} {es : Exs} {ts us : List Token} → MaybeAttributes ms es ts us → Proper ts →
       ((fit_marks ms es ≡ true) × ReadableExs es) × Proper us

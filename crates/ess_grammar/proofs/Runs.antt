@@ -61,7 +61,7 @@ prime_run r = longest-is token_of 7 (length (prime_text ++ r)) (prime_text ++ r)
         let e : list_all is_name_byte (take j t) ≡ false = past_run is_name_byte j t (omega arith) (omega arith) in
         token_of-letter 69 (take j t) (drop j t) refl
         ∙ ap (λ i. or_else (only_if i (name_or_word (69 ∷ take j t)))
-            (or_else (only_if (bytes_eq (69 ∷ take j t) prime_text) (Some prime_word)) None)) e
+        (or_else (only_if (bytes_eq (69 ∷ take j t) prime_text) (Some prime_word)) None)) e
         ∙ ap (λ i. or_else (only_if i (Some prime_word)) None) (not_longer (suc j) h l)
 
 -- ESSENCE' is one token, whatever follows
@@ -84,18 +84,18 @@ name_run b t w h q k =
     here n e =
         token_of-letter b (take n t) (drop n t) h
         ∙ ap (λ i. or_else (only_if i (name_or_word (b ∷ take n t)))
-            (or_else (only_if (bytes_eq (b ∷ take n t) prime_text) (Some prime_word)) None))
-            (within_run is_name_byte n t (omega (arith, e)))
+        (or_else (only_if (bytes_eq (b ∷ take n t) prime_text) (Some prime_word)) None))
+        (within_run is_name_byte n t (omega (arith, e)))
         ∙ ap (λ o. or_else o (or_else (only_if (bytes_eq (b ∷ take n t) prime_text) (Some prime_word)) None))
-            (ap (λ m. name_or_word (b ∷ take m t)) e ∙ k)
+        (ap (λ m. name_or_word (b ∷ take m t)) e ∙ k)
 
     longer : (n : ℕ) → n ≡ prefix_len is_name_byte t → (k : ℕ) → suc n < k → k ≤ length (b ∷ t) → Reads token_of k (b ∷ t) None
     longer n e zero i l = absurd (omega arith)
     longer n e (suc j) i l =
         token_of-letter b (take j t) (drop j t) h
         ∙ ap (λ i. or_else (only_if i (name_or_word (b ∷ take j t)))
-            (or_else (only_if (bytes_eq (b ∷ take j t) prime_text) (Some prime_word)) None))
-            (past_run is_name_byte j t (omega (arith, e)) (omega arith))
+        (or_else (only_if (bytes_eq (b ∷ take j t) prime_text) (Some prime_word)) None))
+        (past_run is_name_byte j t (omega (arith, e)) (omega arith))
         ∙ ap (λ i. or_else (only_if i (Some prime_word)) None) (not_prime_before (b ∷ t) (suc j) q l)
 
 letter_is_name_byte : (b : ℕ) → is_letter b ≡ true → is_name_byte b ≡ true

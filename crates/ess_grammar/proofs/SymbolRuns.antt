@@ -20,7 +20,7 @@ no_look_longer n ((c, x) ∷ es) s h l =
     let parts = and_parts (nat_le (length c) n) (none_longer n es) h in
     let short : length c ≤ n = leb-true (length c) n parts.0 in
     let differs : bytes_eq c s ≡ false = false_from_ne_true (bytes_eq c s)
-        (λ q. let e : length c ≡ length s = ap length ((bytes_eq-Decides c s).0 q) in absurd (omega arith)) in
+    (λ q. let e : length c ≡ length s = ap length ((bytes_eq-Decides c s).0 q) in absurd (omega arith)) in
     ap (λ i. if i then Some x else look_by bytes_eq es s) differs ∙ no_look_longer n es s parts.1 l
 
 only_none : (i : Bool) → only_if {A = Token} i None ≡ None

@@ -106,7 +106,7 @@ comment_at_the_end = refl
 -- any bytes may stand in a comment, which ends before the line feed: here a carriage return, 0, 255 and `$` stand in it
 comment_to_line_feed : lexed (codes "a$" ++ 13 ∷ 0 ∷ 255 ∷ 36 ∷ 10 ∷ codes "b") ≡
     next_token (name (codes "a")) (codes "a") (at_column 1)
-        (next_token (name (codes "b")) (codes "b") (record { line = 2; col = 1 }) the_end)
+    (next_token (name (codes "b")) (codes "b") (record { line = 2; col = 1 }) the_end)
 comment_to_line_feed = refl
 
 abbrev is_bad : Lexed → Bool

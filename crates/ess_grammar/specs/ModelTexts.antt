@@ -49,7 +49,7 @@ pub data HasModelParts : ReadModel → List Token → Type 0 where
       Declarations find_word fs us vs →
       Objective o vs xs → SuchThat es xs →
       HasModelParts (record { givens = gs; finds = fs; goal = o; rules = es })
-          (word language_word ∷ prime_word ∷ number 1 ∷ symbol dot ∷ number 0 ∷ ts)
+      (word language_word ∷ prime_word ∷ number 1 ∷ symbol dot ∷ number 0 ∷ ts)
 
 -- The tokens are a model: its parts are those of the text with cells for declared names, and they are a model's.
 pub record IsModel (m : Model) (ts : List Token) : Type 0 where

@@ -231,7 +231,7 @@ abbrev pub are_model_tables : (Scope → TableDecl → Scope) → Scope → List
 are_model_tables add s [] = true
 are_model_tables add s (t ∷ ts) =
     is_name_token t.name && not (is_some (look s.tables t.name)) && list_all (is_model_dom s true []) t.axes
-        && is_model_dom s true [] t.cell
+    && is_model_dom s true [] t.cell
     && are_model_tables add (add s t) ts
 
 -- Whether the objective is one of a model.
@@ -246,4 +246,4 @@ is_readable_model m =
     let s : Scope = scope_behind with_given empty_scope m.givens in
     let t : Scope = scope_behind with_find s m.finds in
     are_model_tables with_given empty_scope m.givens && are_model_tables with_find s m.finds && is_model_goal t m.goal
-        && list_all (is_model_ex t true []) m.rules
+    && list_all (is_model_ex t true []) m.rules

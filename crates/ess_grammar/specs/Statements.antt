@@ -34,7 +34,7 @@ pub data Part : Word → List Stm → List Token → List Token → Type 0 where
       Part letting_word (let_dom a d ∷ []) (name a ∷ word be_word ∷ word domain_word ∷ ts) us
   unnamed_letting_part : {w : Bool} {s : Shape} {l : ℕ} {a : Text} {e : Ex} {ts us : List Token} → Expression w s l e ts us →
       Part letting_word (let_unnamed a e ∷ [])
-          (name a ∷ word be_word ∷ word new_word ∷ word type_word ∷ word of_word ∷ name (codes "size") ∷ ts) us
+      (name a ∷ word be_word ∷ word new_word ∷ word type_word ∷ word of_word ∷ name (codes "size") ∷ ts) us
   where_part : {w : Bool} {s : Shape} {l : ℕ} {e : Ex} {ts us : List Token} → Expression w s l e ts us →
       Part where_word (needs e ∷ []) ts us
   such_that_part : {w : Bool} {s : Shape} {l : ℕ} {e : Ex} {ts us : List Token} → Expression w s l e ts us →

@@ -33,7 +33,7 @@ look-of_length ((c, x) ∷ es) t = go (nat_eq (length t) (length c)) refl (look-
     go true e below = ap (λ r. if bytes_eq c t then Some x else r) below
     go false e below =
         let differs : bytes_eq c t ≡ false =
-            false_from_ne_true (bytes_eq c t) (λ q. eqb-false (length t) (length c) e (ap length (sym ((bytes_eq-Decides c t).0 q)))) in
+        false_from_ne_true (bytes_eq c t) (λ q. eqb-false (length t) (length c) e (ap length (sym ((bytes_eq-Decides c t).0 q)))) in
         below ∙ sym (ap (λ i. if i then Some x else look_by bytes_eq es t) differs)
 
 look-passes : (q : Token → Bool) (es : List (Text × Token)) (t : Text) (x : Token) → list_all (λ e. q e.1) es ≡ true →
@@ -154,7 +154,7 @@ pub name-first : (text : Text) (k : Kind) (n : ℕ) → 0 < length text → is_l
     Some (token k (take n text)) ≡ name_or_word (take n text) → IsFirstToken (token k (take n text)) n text
 name-first text k n l h q e w =
     let word : name_or_word (take (prefix_len is_name_byte text) text) ≡ Some (token k (take n text)) =
-        ap (λ m. name_or_word (take m text)) (sym e) ∙ sym w in
+    ap (λ m. name_or_word (take m text)) (sym e) ∙ sym w in
     first_token text (token k (take n text)) n
     (longest_token-name text (token k (take n text)) l h q word ∙ ap (λ m. Some (token k (take n text), m)) (sym e))
     (no_number-narrow (token k (take n text)) (word-no_number (take n text) (token k (take n text)) (sym w)))
@@ -172,8 +172,12 @@ number-first text m n l h e value small =
 
 pub number-wide : (text : Text) (n : ℕ) → 0 < length text → is_digit (get_or text 0 0) ≡ true → n ≡ prefix_len is_digit text →
     2 ^ 63 ≤ value_of (take n text) → BeginsWide text
-number-wide text n l h e wide = record { found = (number (value_of (take n text)), n); longest = number-there text n l h e; wide =
-    le-leb (2 ^ 63) (value_of (take n text)) wide }
+number-wide text n l h e wide = record {
+  found = (number (value_of (take n text)), n);
+  longest = number-there text n l h e;
+  wide =
+      le-leb (2 ^ 63) (value_of (take n text)) wide;
+}
 
 pub symbol-first : (text : Text) (k : Kind) (n : ℕ) → 0 < length text → is_letter (get_or text 0 0) ≡ false →
     is_digit (get_or text 0 0) ≡ false →

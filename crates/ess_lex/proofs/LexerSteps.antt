@@ -15,7 +15,7 @@ from_byte i text at = lexed_within i (take at text) (drop at text)
 
 step : (i j : Bool) (text : Text) (at : ℕ) → at < length text →
     ((before bs : Text) → lexed_within i before (get_or text at 0 ∷ bs) ≡ lexed_within j (before ++ get_or text at 0 ∷ []) bs) →
-        from_byte i text at ≡ from_byte j text (at + 1)
+    from_byte i text at ≡ from_byte j text (at + 1)
 step i j text at h law =
     ap (lexed_within i (take at text)) (drop-cons text at 0 h)
     ∙ law (take at text) (drop (suc at) text)

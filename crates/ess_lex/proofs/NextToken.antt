@@ -27,7 +27,7 @@ next-is_token text text' at at' n t p plain found e same moved =
     ∙ ap (λ q. next_token t (take n (drop at text)) q (lexed_after (take at' text') (drop at' text'))) e
     ∙ ap (next_token t (take n (drop at text)) (place (take at text)))
     (ap (λ s. lexed_after (take at' s) (drop at' s)) same ∙ ap (λ i. lexed_after (take i text) (drop i text)) moved
-        ∙ sym (later-at text at n))
+    ∙ sym (later-at text at n))
     ∙ sym (lexed_after-token (take at text) (drop at text) t n plain first.longest first.narrow)
 
 pub next-is_wide : (text : Text) (at : ℕ) (p : Place) → BeginsPlain (drop at text) → BeginsWide (slice_from text at) →

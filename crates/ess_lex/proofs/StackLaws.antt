@@ -91,13 +91,17 @@ pub innermost : (n height : ℕ) (numbers : List ℕ) → 0 < n → n ≤ length
 innermost n height numbers h l f =
     let shown = reversed-more n numbers h l in
     let parts = and_parts (nat_lt (get_or numbers (n - 1) 0) height) (falls (reverse (take (n - 1) numbers)) (get_or numbers (n - 1) 0))
-        (ap (λ below. falls below height) (sym shown) ∙ f) in
+    (ap (λ below. falls below height) (sym shown) ∙ f) in
     record {
       shown = shown;
       lower = ltb-true (get_or numbers (n - 1) 0) height parts.0;
       falling = parts.1;
-      nested = omega (arith, length-falls (reverse (take (n - 1) numbers)) (get_or numbers (n - 1) 0) parts.1,
-          length-reverse (take (n - 1) numbers), length-take (n - 1) numbers);
+      nested = omega (
+        arith,
+        length-falls (reverse (take (n - 1) numbers)) (get_or numbers (n - 1) 0) parts.1,
+        length-reverse (take (n - 1) numbers),
+        length-take (n - 1) numbers,
+      );
     }
 
 pub no_bracket : (n height : ℕ) (numbers : List ℕ) → n ≤ 0 → items_from (reverse (take n numbers)) height ≡ items_from [] height

@@ -96,7 +96,7 @@ symbol-ascii : (t rest : Text) → AsciiIf (symbol_of t rest) t
 symbol-ascii t rest =
     either-ascii (look_by bytes_eq symbols t) (only_if (not (begins_with_name_byte rest)) (look_by bytes_eq lex_symbols t)) t
     (table-ascii symbols t refl) (only-ascii (not (begins_with_name_byte rest)) (look_by bytes_eq lex_symbols t) t
-        (λ h. table-ascii lex_symbols t refl))
+    (λ h. table-ascii lex_symbols t refl))
 
 token-ascii : (t rest : Text) → AsciiIf (token_of t rest) t
 token-ascii t rest =
@@ -107,7 +107,7 @@ token-ascii t rest =
     (only-ascii (is_name t) (name_or_word t) t (λ h. all-ascii (name_or_word t) t (name-ascii t h)))
     (either-ascii (only_if (bytes_eq t prime_text) (Some prime_word)) (symbol_of t rest) t
     (only-ascii (bytes_eq t prime_text) (Some prime_word) t
-        (λ h. subst IsAscii (sym ((bytes_eq-Decides t prime_text).0 h)) (ascii-from prime_text refl))) (symbol-ascii t rest)))
+    (λ h. subst IsAscii (sym ((bytes_eq-Decides t prime_text).0 h)) (ascii-from prime_text refl))) (symbol-ascii t rest)))
 
 -- ---- the longest token
 

@@ -62,7 +62,7 @@ pub of-read-keeps : {t0 : List Token} (t : Token) (a : Text) (ss : List Stm) (ts
     PartsMayBegin t0 letting_word ss (name a ∷ word be_word ∷ word new_word ∷ word type_word ∷ word of_word ∷ t ∷ ts) → Keeps t0 (step_of_read t a ss) ts
 of-read-keeps {t0 = t0} (name b) a ss ts p =
     by_elim (bytes_eq b (codes "size")) (λ r. Keeps t0 r ts)
-        (Some (record { mode = operand_wanted; frames = unnamed_frame a ss ∷ [] })) None
+    (Some (record { mode = operand_wanted; frames = unnamed_frame a ss ∷ [] })) None
     (λ h. size_before (subst (λ b. PartsMayBegin t0 letting_word ss (name a ∷ word be_word ∷ word new_word ∷ word type_word ∷ word of_word ∷ name b ∷ ts)) ((bytes_eq-Decides b (codes "size")).0 h) p))
     (λ h. tt)
 of-read-keeps _ a ss ts p = tt

@@ -38,7 +38,7 @@ no-symbol : (s : Text) (b : ℕ) (x rest : Text) → begins_no_symbol (s ++ b �
 no-symbol s b x rest h =
     let parts = and_parts (list_all (λ e. not (begins_with (s ++ b ∷ []) e.0)) symbols) (list_all (λ e. not (begins_with (s ++ b ∷ []) e.0)) lex_symbols) h in
     ap (λ o. or_else o (only_if (not (begins_with_name_byte rest)) (look_by bytes_eq lex_symbols (s ++ b ∷ x))))
-        (no-look symbols s b x parts.0)
+    (no-look symbols s b x parts.0)
     ∙ ap (only_if (not (begins_with_name_byte rest))) (no-look lex_symbols s b x parts.1)
     ∙ only-none (not (begins_with_name_byte rest))
 
@@ -75,7 +75,7 @@ lex-symbol c cs t h k p none e = record { no_letter = h; no_digit = k; plain = p
     go [] q = ap (λ o. or_else o (look_by bytes_eq lex_symbols (c ∷ cs))) none ∙ e
     go (b ∷ bs) q =
         let ends = (and_parts (begins_no_symbol ((c ∷ cs) ++ b ∷ [])) (is_some (look_by bytes_eq symbols (c ∷ cs)) || not (is_name_byte b))
-            (symbol-stops c cs b bs h k q)).1 in
+        (symbol-stops c cs b bs h k q)).1 in
         let no : not (is_name_byte b) ≡ true = sym (ap (λ o. is_some o || not (is_name_byte b)) none) ∙ ends in
         ap (λ o. or_else o (only_if (not (is_name_byte b)) (look_by bytes_eq lex_symbols (c ∷ cs)))) none
         ∙ ap (λ i. only_if i (look_by bytes_eq lex_symbols (c ∷ cs))) no ∙ e
@@ -96,7 +96,7 @@ symbol-is-read c cs r t y e = longest-is token_of (length cs) (length ((c ∷ cs
         ap (λ s. token_of s rest) (take-append-add (c ∷ cs) (b ∷ bs) (suc j))
         ∙ token_of-other c (cs ++ b ∷ take j bs) rest y.no_letter y.no_digit
         ∙ no-symbol (c ∷ cs) b (take j bs) rest (and_parts (begins_no_symbol ((c ∷ cs) ++ b ∷ []))
-            (is_some (look_by bytes_eq symbols (c ∷ cs)) || not (is_name_byte b)) q).0
+        (is_some (look_by bytes_eq symbols (c ∷ cs)) || not (is_name_byte b)) q).0
 
     longer : (r : Text) → ends_before (c ∷ cs) r ≡ true → (k : ℕ) → suc (length cs) < k → k ≤ length ((c ∷ cs) ++ r) → Reads token_of k ((c ∷ cs) ++ r) None
     longer [] q k h l = absurd (omega (arith, length-append cs []))

@@ -150,8 +150,11 @@ pub name-of-subset : (a : Text) → is_name_token a ≡ true → NameOfSubset a
 name-of-subset a h =
     let parts = and_parts (is_name a) (not (is_some (look_by bytes_eq words a)) && not (is_outside (name a))) h in
     let others = and_parts (not (is_some (look_by bytes_eq words a))) (not (is_outside (name a))) parts.1 in
-    record { named = parts.0; no_word = not-true (is_some (look_by bytes_eq words a)) others.0;
-        inside = not-true (is_outside (name a)) others.1 }
+    record {
+      named = parts.0;
+      no_word = not-true (is_some (look_by bytes_eq words a)) others.0;
+      inside = not-true (is_outside (name a)) others.1;
+    }
 
 no-word : (o : Option Token) (t : Token) → is_some o ≡ false → or_else o (Some t) ≡ Some t
 no-word None t h = refl

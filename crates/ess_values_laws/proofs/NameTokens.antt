@@ -65,7 +65,7 @@ none-outside : (ws : List Text) (a : Text) → list_all (λ w. not (ends_in_digi
 none-outside [] a h k = refl
 none-outside (w ∷ ws) a h k =
     ap (λ b. b || list_any (bytes_eq a) ws) (differ a w (λ e. ends-differ w a
-        (and-left (not (ends_in_digit w)) (list_all (λ w. not (ends_in_digit w)) ws) h) k (sym e)))
+    (and-left (not (ends_in_digit w)) (list_all (λ w. not (ends_in_digit w)) ws) h) k (sym e)))
     ∙ none-outside ws a (and-right (not (ends_in_digit w)) (list_all (λ w. not (ends_in_digit w)) ws) h) k
 
 no-words-end : list_all (λ e. not (ends_in_digit e.0)) words ≡ true
@@ -79,7 +79,7 @@ name-ends-in-digit : (a : Text) → is_name a ≡ true → ends_in_digit a ≡ t
 name-ends-in-digit a h k =
     and-both (is_name a) (not (is_some (look_by bytes_eq words a)) && not (is_outside (name a))) h
     (and-both (not (is_some (look_by bytes_eq words a))) (not (is_outside (name a)))
-        (ap (λ o. not (is_some o)) (no-word words a no-words-end k)) (ap not (none-outside outside a no-outside-ends k)))
+    (ap (λ o. not (is_some o)) (no-word words a no-words-end k)) (ap not (none-outside outside a no-outside-ends k)))
 
 -- ---- `T_k`
 
@@ -125,8 +125,8 @@ counted-token : (t ds : Text) → is_name_token t ≡ true → are_digits ds ≡
 counted-token t ds h k =
     name-ends-in-digit ((t ++ codes "_") ++ ds)
     (name-append (t ++ codes "_") ds (name-append t (codes "_")
-        (and-left (is_name t) (not (is_some (look_by bytes_eq words t)) && not (is_outside (name t))) h) refl)
-        (name-bytes ds (digits-all ds k)))
+    (and-left (is_name t) (not (is_some (look_by bytes_eq words t)) && not (is_outside (name t))) h) refl)
+    (name-bytes ds (digits-all ds k)))
     (digits-end (t ++ codes "_") ds k)
 
 behind-prefix : (p a ds : Text) → after_prefix p a ≡ Some ds → p ++ ds ≡ a

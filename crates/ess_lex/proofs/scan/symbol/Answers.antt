@@ -13,14 +13,14 @@ symbol_is o t rest = option_map (λ k. token k t) o ≡ symbol_of t rest
 pub returns-in-Some : goal.returns-in-Some
 returns-in-Some c =
     let read : symbol_is c.symbol_kind.result (take c.loop-len.len c.args.text.now) (drop c.loop-len.len c.args.text.now) =
-        rw (← c.split_at.ensures.front, ← c.split_at.ensures.back) c.symbol_kind.ensures in
+    rw (← c.split_at.ensures.front, ← c.split_at.ensures.back) c.symbol_kind.ensures in
     symbol-here c.args.text.now c.loop-len.len c.symbol_kind.result c.in-Some.kind c.loop-len-test.true read c.in-Some.is
     ∙ sym c.loop-len.invariant.longest
 
 pub loop-len-preserved : goal.loop-len-preserved
 loop-len-preserved c =
     let read : symbol_is c.symbol_kind.result (take c.loop-len.len c.args.text.now) (drop c.loop-len.len c.args.text.now) =
-        rw (← c.split_at.ensures.front, ← c.split_at.ensures.back) c.symbol_kind.ensures in
+    rw (← c.split_at.ensures.front, ← c.split_at.ensures.back) c.symbol_kind.ensures in
     record {
       within = omega arith;
       longest =

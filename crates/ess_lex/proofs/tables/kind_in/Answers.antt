@@ -7,8 +7,8 @@ pub returns-then-eq : goal.returns-then-eq
 returns-then-eq c =
     let h : c.loop-spelling.spelling-index < length c.args.table.now = omega arith in
     sym (c.loop-spelling.invariant
-        ∙ look-found c.args.table.now c.loop-spelling.spelling-index (record { ref_ptr = (0, 0); now = [] }, Kind.Name) c.args.text.now h
-        (cc))
+    ∙ look-found c.args.table.now c.loop-spelling.spelling-index (record { ref_ptr = (0, 0); now = [] }, Kind.Name) c.args.text.now h
+    (cc))
 
 pub loop-spelling-preserved : goal.loop-spelling-preserved
 loop-spelling-preserved c =

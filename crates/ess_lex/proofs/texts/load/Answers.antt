@@ -14,7 +14,7 @@ loop-token-preserved c =
     let old = c.loop-token.stack in
     let new = c.else-is_none.stack in
     let come : next_token (token found.kind found.text.now) found.text.now found.place (left c.next.new.self) ≡ left c.loop-token.lexer =
-        rw c.in-Some.is at c.in_ok-token.ensures.next in
+    rw c.in-Some.is at c.in_ok-token.ensures.next in
     record {
       refused = c.loop-token.invariant.refused ∙ ap refusal (sym come);
       deep = elim c.else-is_none.branch [
@@ -23,9 +23,9 @@ loop-token-preserved c =
             let low : length (items_of new) ≤ 250 = omega (arith, length-items_of new, new.room) in
             found-later c.loop-token.found _ _ _
             (too_deep-later (token found.kind found.text.now) found.text.now found.place (left c.next.new.self)
-                (left c.loop-token.lexer) old.after_operand new.after_operand (items_of old) (items_of new) come
+            (left c.loop-token.lexer) old.after_operand new.after_operand (items_of old) (items_of new) come
             (ap items_of w.stack-is ∙ loaded.items found.text.now)
-                (ap (λ stack. stack.after_operand) w.stack-is ∙ loaded.after_operand found.text.now) low)
+            (ap (λ stack. stack.after_operand) w.stack-is ∙ loaded.after_operand found.text.now) low)
             c.loop-token.invariant.deep
         | else-is_none-via-else-is_none w ↦ found-kept c.loop-token.found _ _ _ (cc (c.is_none.ensures)) c.loop-token.invariant.deep
       ];

@@ -17,8 +17,8 @@ returns-in-Token-clause-next c =
     let lexer = c.skip_blank.new.self in
     let here : lexer.at < length lexer.text.now = omega (arith, c.if-self.false, lexer.within) in
     next-is_token lexer.text.now c.advance.new.self.text.now lexer.at c.advance.new.self.at c.in-Token.len _ c.place-place.result
-        (c.skip_blank.ensures.plain here) c.in-Token.ensures.0 c.place-place.ensures
-        (ap (λ t. t.now) c.advance.ensures.text) c.advance.ensures.at
+    (c.skip_blank.ensures.plain here) c.in-Token.ensures.0 c.place-place.ensures
+    (ap (λ t. t.now) c.advance.ensures.text) c.advance.ensures.at
     ∙ c.skip_blank.ensures.left
 
 pub returns-in-Token-clause-natural : goal.returns-in-Token-clause-natural
@@ -38,4 +38,4 @@ returns-in-WideNumber-clause-next c =
     let lexer = c.skip_blank.new.self in
     let here : lexer.at < length lexer.text.now = omega (arith, c.if-self.false, lexer.within) in
     next-is_wide lexer.text.now lexer.at c.place-place.result
-        (c.skip_blank.ensures.plain here) c.in-WideNumber.ensures c.place-place.ensures ∙ c.skip_blank.ensures.left
+    (c.skip_blank.ensures.plain here) c.in-WideNumber.ensures c.place-place.ensures ∙ c.skip_blank.ensures.left

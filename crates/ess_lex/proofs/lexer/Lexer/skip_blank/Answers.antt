@@ -22,8 +22,8 @@ loop-self-preserved c =
     let old = c.loop-self.self in
     let new = c.pass.new.self in
     let turn = λ (h : from_byte c.loop-self.comment old.text.now old.at ≡ from_byte c.if-comment.comment old.text.now (old.at + 1)).
-        loop-turn c.loop-self.comment c.if-comment.comment old.text.now new.text.now old.at new.at _
-        (ap (λ t. t.now) c.pass.ensures.text) c.pass.ensures.at h c.loop-self.invariant.left in
+    loop-turn c.loop-self.comment c.if-comment.comment old.text.now new.text.now old.at new.at _
+    (ap (λ t. t.now) c.pass.ensures.text) c.pass.ensures.at h c.loop-self.invariant.left in
     record {
       text = c.pass.ensures.text ∙ c.loop-self.invariant.text;
       left = turn (elim c.if-comment.branch [
