@@ -1,0 +1,9 @@
+pub mod Ahead
+pub mod Paired
+pub mod Joins
+pub mod Agreement
+pub mod Joined
+pub mod DomainTypes
+pub mod MemberLemmas
+pub mod WordLemmas
+pub mod LiteralLemmas
