@@ -7,3 +7,6 @@ pub mod DomainTypes
 pub mod MemberLemmas
 pub mod WordLemmas
 pub mod LiteralLemmas
+pub mod IndexLemmas
+pub mod PatternLemmas
+pub mod RecordLemmas
