@@ -1,10 +1,9 @@
 -- The types of the members of domains with several parts.
 use Rattle.std.proofs.Common.{◌≡◌, refl, sym, ap, ◌∙◌, ℕ, ◌+◌, ◌<◌, List, [], ◌∷◌, length, map, drop, get_or}
 use Rattle.std.proofs.lemmas.List.{at_drop_more}
-use Rattle.ess_semantics.specs.Values.{Text, a_matrix, a_tuple, a_relation, a_record}
-use Rattle.ess_semantics.specs.Names.{Names, keys}
+use Rattle.ess_semantics.specs.Values.{Text, a_matrix, a_record}
+use Rattle.ess_semantics.specs.Names.{keys}
 use Rattle.ess_semantics.specs.Kinds.{doms_of}
-use Rattle.ess_semantics.specs.Trees as trees
 use Rattle.ess_semantics.specs.Types as pure
 use Rattle.ess_semantics.specs.Types.{compound, compound2, tys_of, more_tys, type_of_dom, types_of_doms, nested_ty}
 use Rattle.ess_semantics.specs.OperatorTypes.{record_ty}

@@ -1,15 +1,15 @@
 -- The types that the steps of an index reach.
-use Rattle.std.proofs.Common.{pos, ◌≡◌, refl, sym, ap, ◌∙◌, ℕ, zero, suc, ◌+◌, ◌-◌, ◌<◌, ◌≤◌, Bool, true, false, eqb, if◌then◌else◌, List, [], ◌∷◌, length, map, drop, get_or, Option, Some, None, option_map, arith}
+use Rattle.std.proofs.Common.{pos, ◌≡◌, refl, sym, ap, ◌∙◌, ℕ, zero, suc, ◌+◌, ◌-◌, ◌<◌, ◌≤◌, true, false, eqb, if◌then◌else◌, List, [], ◌∷◌, length, map, drop, get_or, Option, Some, None, option_map, arith}
 use Rattle.std.proofs.lemmas.List.{at_drop_more}
 use Rattle.std.proofs.lemmas.Bool.{false≢true}
 use Rattle.ess_semantics.specs.Lists.{and_then}
 use Rattle.ess_semantics.specs.Values.{Text, a_tuple, a_matrix, a_record}
 use Rattle.ess_semantics.specs.Order.{same_text}
-use Rattle.ess_semantics.specs.Names.{Names, keys}
+use Rattle.ess_semantics.specs.Names.{keys}
 use Rattle.ess_semantics.specs.Trees.{number_ex}
 use Rattle.ess_semantics.specs.Types as pure
 use Rattle.ess_semantics.specs.Types.{any_ty, compound, compound2, tys_of, fit}
-use Rattle.ess_semantics.specs.Typing.{Static, a_number, a_name, other, static, step_ty, component_ty, field_ty}
+use Rattle.ess_semantics.specs.Typing.{Static, a_number, a_name, other, static, step_ty, component_ty}
 use Rattle.ess_core.specs.TypeViews.{pure_ty, pure_tys, pure_field_ty}
 use Rattle.ess_core.specs.declared.types.Ty.{Ty}
 use Rattle.ess_core.specs.declared.types.FieldTy.{FieldTy}

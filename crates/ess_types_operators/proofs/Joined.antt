@@ -1,9 +1,9 @@
 -- The join of two types from those of their parts.
-use Rattle.std.proofs.Common.{◌≡◌, refl, sym, ap, ◌∙◌, ℕ, zero, suc, ◌+◌, ◌<◌, ◌≤◌, Bool, true, false, eqb, if◌then◌else◌, List, [], ◌∷◌, ◌++◌, length, map, drop, get_or, Option, Some, None, option_map}
+use Rattle.std.proofs.Common.{◌≡◌, refl, sym, ap, ◌∙◌, ℕ, zero, suc, ◌+◌, ◌<◌, ◌≤◌, true, false, eqb, if◌then◌else◌, List, [], ◌∷◌, ◌++◌, length, map, drop, get_or, Option, Some, None, option_map}
 use Rattle.std.proofs.lemmas.Bool.{false≢true}
 use Rattle.std.proofs.lemmas.List.{at_drop_more}
 use Rattle.ess_semantics.specs.Lists.{and_then}
-use Rattle.ess_semantics.specs.Values.{Text, Kind, a_tuple, a_matrix, a_set, a_mset, a_function, a_relation, a_partition}
+use Rattle.ess_semantics.specs.Values.{a_tuple, a_matrix, a_set, a_mset, a_function, a_relation, a_partition}
 use Rattle.ess_semantics.specs.Order.{same_text}
 use Rattle.ess_semantics.specs.Types as pure
 use Rattle.ess_semantics.specs.Types.{Tys, compound, compound1, compound2, tys_of, join, joins, join_all}
@@ -14,7 +14,7 @@ use Rattle.ess_core.specs.declared.types.FieldTy.{FieldTy}
 use Rattle.ess_core.specs.declared.types.Ty.TheViews.{out-FieldTy}
 use Rattle.ess_core.specs.declared.types.Ty.TheVariants as variant
 use Rattle.ess_core.proofs.TypeEquations.{pure_tuple, pure_rec, pure_matrix, pure_set, pure_mset, pure_function, pure_relation, pure_partition}
-use Rattle.ess_types_operators.specs.Paired.{paired, ty_join, named_join, field_join, relation_parts}
+use Rattle.ess_types_operators.specs.Paired.{paired, ty_join, field_join, relation_parts}
 use Rattle.ess_types_operators.proofs.Ahead.{ahead}
 use Rattle.ess_types_operators.proofs.Paired.{each_more, each_none, each_short, each_long, each_all}
 use Rattle.ess_types_operators.proofs.Joins.{one_joined, two_joined, many_joined, joins_paired, records_joined, relations_joined, mapped-twice}

@@ -1,25 +1,21 @@
 -- The join of two compound types, kind by kind.
 use Rattle.std.proofs.Common.{◌≡◌, refl, sym, ap, ◌∙◌, Bool, true, false, if◌then◌else◌, List, [], ◌∷◌, map, Option, Some, None, option_map}
-use Rattle.std.specs.Prelude.{is_some}
 use Rattle.std.proofs.lemmas.Cmp.{tied_itself, nat_cmp_total}
 use Rattle.std.specs.Ordering.{is_eq, ordering_then}
 use Rattle.std.specs.declared.cmp.Ordering.{Ordering}
 use Rattle.std.specs.declared.cmp.Ordering.TheVariants.{Less, Equal, Greater}
 use Rattle.ess_semantics.specs.Lists.{and_then}
-use Rattle.ess_semantics.specs.Values.{Text, Kind, a_tuple, a_matrix, a_set, a_mset, a_function, a_relation, a_partition, a_record}
-use Rattle.ess_semantics.specs.Order.{same_kind, same_text, same_texts, order_text, order_texts, kind_rank, kind_fields}
+use Rattle.ess_semantics.specs.Values.{Text, Kind, a_relation, a_record}
+use Rattle.ess_semantics.specs.Order.{same_kind, same_texts, order_text, order_texts, kind_rank, kind_fields}
 use Rattle.ess_semantics.specs.Names.{Names, keys}
 use Rattle.ess_semantics.specs.Types as pure
 use Rattle.ess_semantics.specs.Types.{Tys, any_ty, bool_ty, int_ty, named_ty, compound, compound1, compound2, no_tys, more_tys, tys_of, is_relation, is_open, join, joins}
 use Rattle.ess_semantics.specs.OperatorTypes.{record_ty}
 use Rattle.ess_semantics.proofs.Orders.{texts_total}
-use Rattle.ess_core.specs.TypeViews.{pure_ty, pure_field_ty, pure_tys}
+use Rattle.ess_core.specs.TypeViews.{pure_field_ty, pure_tys}
 use Rattle.ess_core.specs.declared.types.Ty.{Ty}
 use Rattle.ess_core.specs.declared.types.FieldTy.{FieldTy}
-use Rattle.ess_core.specs.declared.types.Ty.TheVariants as variant
-use Rattle.ess_core.proofs.TypeEquations.{pure_tuple, pure_rec, pure_matrix, pure_set, pure_mset, pure_function, pure_relation, pure_partition}
 use Rattle.ess_types_operators.specs.Paired.{paired, ty_join, named_join, field_join, relation_parts}
-use Rattle.ess_types_operators.proofs.Paired.{some_mapped}
 
 both-equal : (o p : Ordering) → o ≡ Equal → p ≡ Equal → is_eq (ordering_then o p) ≡ true
 both-equal o p d e = ap (λ q. is_eq (ordering_then q p)) d ∙ ap is_eq e

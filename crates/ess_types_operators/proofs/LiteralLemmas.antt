@@ -1,12 +1,11 @@
 -- The types of applications and literals.
-use Rattle.std.proofs.Common.{◌≡◌, refl, sym, ap, ◌∙◌, Bool, true, false, eqb, List, [], ◌∷◌, length, map, get_or, Option, Some, None, option_map, arith}
+use Rattle.std.proofs.Common.{◌≡◌, refl, sym, ap, ◌∙◌, true, false, eqb, List, [], ◌∷◌, length, map, get_or, Some, None, option_map, arith}
 use Rattle.std.specs.Prelude.{is_some}
 use Rattle.std.proofs.lemmas.Bool.{false≢true}
 use Rattle.std.proofs.lemmas.Bool.Decides.{nat_tests}
-use Rattle.ess_semantics.specs.Lists.{and_then, when}
+use Rattle.ess_semantics.specs.Lists.{when}
 use Rattle.ess_semantics.specs.Values.{a_tuple, a_matrix, a_function, a_relation}
-use Rattle.ess_semantics.specs.Types as pure
-use Rattle.ess_semantics.specs.Types.{any_ty, bool_ty, int_ty, compound, compound2, tys_of, join, join_all, fit}
+use Rattle.ess_semantics.specs.Types.{any_ty, bool_ty, int_ty, compound, compound2, join, join_all, fit}
 use Rattle.ess_semantics.specs.OperatorTypes.{type_of_application, function_ty, type_of_list}
 use Rattle.ess_core.specs.TypeViews.{pure_ty, pure_tys}
 use Rattle.ess_core.specs.declared.types.Ty.{Ty}

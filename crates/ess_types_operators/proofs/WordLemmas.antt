@@ -1,11 +1,10 @@
 -- The types of function words.
-use Rattle.std.proofs.Common.{◌≡◌, refl, sym, ap, ◌∙◌, Bool, true, false, eqb, List, [], ◌∷◌, length, map, get_or, Option, Some, None, option_map, arith}
+use Rattle.std.proofs.Common.{◌≡◌, refl, sym, ap, ◌∙◌, false, eqb, List, [], ◌∷◌, length, map, get_or, Option, Some, None, option_map, arith}
 use Rattle.std.specs.Prelude.{is_some}
 use Rattle.std.proofs.lemmas.Bool.{false≢true}
-use Rattle.std.proofs.lemmas.Bool.Decides.{nat_tests}
 use Rattle.ess_semantics.specs.declared.words.Fun.{Fun}
 use Rattle.ess_semantics.specs.Lists.{and_then, when}
-use Rattle.ess_semantics.specs.Values.{a_tuple, a_set, a_mset, a_function, a_partition}
+use Rattle.ess_semantics.specs.Values.{a_set, a_mset, a_function, a_partition}
 use Rattle.ess_semantics.specs.Types as pure
 use Rattle.ess_semantics.specs.Types.{any_ty, bool_ty, int_ty, compound1, compound2, join, fit}
 use Rattle.ess_semantics.specs.OperatorTypes.{type_of_word, type_of_word1, type_of_word2, value_ty, arguments_ty, part_ty, member_ty}

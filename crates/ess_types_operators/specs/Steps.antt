@@ -1,10 +1,10 @@
 -- What an index says, and the fields of records by name.
-use Rattle.std.specs.Prelude.{ℕ, List, map, Option, Some, None}
+use Rattle.std.specs.Prelude.{ℕ, map, Option, Some, None}
 use Rattle.ess_semantics.specs.Values.{Text}
 use Rattle.ess_semantics.specs.Names.{Names, keys}
 use Rattle.ess_semantics.specs.Types as pure
 use Rattle.ess_semantics.specs.Types.{tys_of}
-use Rattle.ess_semantics.specs.Typing.{Static, a_number, a_name, other, field_ty}
+use Rattle.ess_semantics.specs.Typing.{Static, a_number, a_name, field_ty}
 
 -- The number that an index says.
 abbrev pub number_of : Static → Option ℕ

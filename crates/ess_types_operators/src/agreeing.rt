@@ -4,7 +4,7 @@ ghost use Rattle.std.specs.Option.{option_copied};
 ghost use Rattle.ess_semantics.specs.Order.{same_text};
 ghost use Rattle.ess_semantics.specs.Types.{bool_ty, int_ty, join, joins, is_bool};
 ghost use Rattle.ess_core.specs.TypeViews.{pure_ty, pure_tys};
-ghost use Rattle.ess_types_operators.specs.Paired.{paired, field_join, ty_join, relation_parts};
+ghost use Rattle.ess_types_operators.specs.Paired.{paired, field_join, relation_parts};
 
 use ess_core::{FieldTy, Text, Ty};
 use std::cmp::Ordering;

@@ -1,7 +1,6 @@
 //! The types of applications, literals and comprehensions.
 ghost use Rattle.std.specs.Prelude.{◌≡◌, map, Some, option_map, IfOk};
-ghost use Rattle.ess_semantics.specs.Lists.{and_then, zip};
-ghost use Rattle.ess_semantics.specs.Names.{keys, by_name};
+ghost use Rattle.ess_semantics.specs.Lists.{and_then};
 ghost use Rattle.ess_semantics.specs.Values.{a_tuple, a_matrix, a_set, a_mset};
 ghost use Rattle.ess_semantics.specs.Types.{join_all as join_of_all, type_of_dom as members_of, int_ty, compound, compound1, compound2};
 ghost use Rattle.ess_semantics.specs.OperatorTypes.{type_of_application, function_ty, relation_ty, partition_ty, type_of_list};

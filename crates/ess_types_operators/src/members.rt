@@ -7,7 +7,7 @@ ghost use Rattle.ess_semantics.specs.Types.{compound2, or_any};
 ghost use Rattle.ess_semantics.specs.OperatorTypes.{member_ty, asked_ty, list_ty, chosen_ty, extreme_ty, tuple_ty};
 ghost use Rattle.ess_core.specs.TypeViews.{pure_ty, pure_tys};
 
-use crate::building::{copied, copied_tys, copied_where, function_of, made, set_of, tuple_of};
+use crate::building::{copied, copied_tys, copied_where, made, set_of};
 use ess_core::{Boxed, NoMemory, Row, Ty};
 use std::alloc::Global;
 

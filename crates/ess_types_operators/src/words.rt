@@ -9,7 +9,7 @@ ghost use Rattle.ess_core.specs.TypeViews.{pure_ty};
 
 use crate::agreeing::{agree, fits_bool, fits_int};
 use crate::building::{
-    bool_where, copied, copied_where, int_where, made, mset_of, partition_of, relation_of, set_of,
+    bool_where, copied, copied_where, int_where, made, mset_of, relation_of, set_of,
 };
 use crate::joining::join;
 use crate::members::{extreme_type, items_of, member_type, pair_row};

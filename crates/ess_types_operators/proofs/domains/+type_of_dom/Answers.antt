@@ -1,4 +1,3 @@
-use Rattle.std.proofs.Common.{◌≡◌}
 use Rattle.ess_types_operators.proofs.DomainTypes.{all_types, record_types}
 use Rattle.ess_types_operators.proofs.domains.+type_of_dom.Goals as goal
 
