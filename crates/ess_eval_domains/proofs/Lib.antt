@@ -1,0 +1,4 @@
+pub mod ClosedEquations
+pub mod RangeNumbers
+pub mod ListProducts
+pub mod Listed

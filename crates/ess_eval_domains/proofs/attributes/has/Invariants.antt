@@ -1,0 +1,7 @@
+use Rattle.std.proofs.Common.{◌≡◌, drop}
+use Rattle.ess_semantics.specs.Domains.{has}
+use Rattle.ess_eval_domains.specs.ClosedViews.{pure_attributes}
+use Rattle.ess_eval_domains.proofs.attributes.has.Given as goal
+
+abbrev pub invariant-loop-attribute : goal.invariant-loop-attribute
+invariant-loop-attribute l = has l.key (pure_attributes l.attributes) ≡ has l.key (pure_attributes (drop l.attribute-index l.attributes))
