@@ -13,7 +13,7 @@ ghost use Rattle.eprime_read.specs.Views.{view_draft};
 
 use crate::converting::model_expression;
 use crate::drafts::Draft;
-use crate::growing::{with_find, with_given, with_greatest, with_least, with_rules};
+use crate::growing::{with_find, with_given, with_greatest, with_least};
 use crate::openings::Opening;
 use crate::statements::{find_in, given_in, greatest_in, least_in, only};
 use eprime_read_convert::Lines;
@@ -134,7 +134,7 @@ fn with_constraints_part(
     ensures { IfOk result (λ d. with_part such_word (view_draft draft) (map pure_stm stms) ≡ option_map view_draft d) }
 {
     match rules_of(alloc, &draft.lines, stms.as_slice())? {
-        Some(rules) => Ok(Some(with_rules(draft, rules))),
+        Some(rules) => Ok(Some(draft.with_rules(rules))),
         None => Ok(None),
     }
 }

@@ -91,9 +91,9 @@ impl Machine {
     {
         match self {
             Machine::Language(_) => Ok(None),
-            Machine::Headed => Ok(Some(new_draft(alloc).model)),
+            Machine::Headed => Ok(Some(new_draft(alloc).into_model())),
             Machine::Part(part) => match end(alloc, part)? {
-                Some(draft) => Ok(Some(draft.model)),
+                Some(draft) => Ok(Some(draft.into_model())),
                 None => Ok(None),
             },
         }

@@ -1,0 +1,13 @@
+use Rattle.eprime_read.proofs.Growth.{find_more, find_sound}
+use Rattle.eprime_read.proofs.drafts.Draft.push_find.Goals as goal
+
+pub invariant_of-result : goal.invariant_of-result
+invariant_of-result c =
+    record {
+      sound =
+          find_sound c.args.self.model c.args.self.lines c.in_ok-lines.lines c.in_ok-line.line c.args.decl c.push.new.self c.requires.fits c.args.self.sound c.requires.readable c.in_ok-push.ensures.ok
+          (record { name = c.in_ok-line.ensures.name; truth = c.in_ok-line.ensures.truth; found = c.in_ok-line.ensures.found }) c.in_ok-lines.ensures;
+    }
+
+pub returns-clause-model : goal.returns-clause-model
+returns-clause-model c = find_more c.args.self.model c.args.self.lines c.args.decl c.push.new.self c.requires.fits c.args.self.sound c.in_ok-push.ensures.ok
