@@ -2,6 +2,7 @@ ghost use Rattle.std.specs.Prelude.{◌≡◌, IfOk, IfSome, IsTrue};
 ghost use Rattle.std.specs.Option.{option_map};
 ghost use Rattle.std.specs.Str.{IsAscii};
 ghost use Rattle.ess_grammar.specs.Kinds.{token};
+ghost use Rattle.ess_lex.specs.Lexing.{IsNatural};
 ghost use Rattle.eprime_read_laws.specs.ModelMachine.{at_begin, first_part, model_step, model_finish};
 ghost use Rattle.eprime_tree.specs.Views.{pure_model};
 ghost use Rattle.eprime_read.specs.Drafts.{is_fit_token};
@@ -73,6 +74,7 @@ impl Machine {
     ) -> Result<Option<Machine>, NoMemory>
         requires holds { IsMachine self }
         requires ascii { IsAscii text.now }
+        requires natural { IsNatural kind }
         requires fit { IsTrue (is_fit_token (token kind text.now)) }
         ensures holds { IfOk result (λ next. IfSome next IsMachine) }
         ensures stage { IfOk result (λ next. model_step (token kind text.now) (view_machine self) ≡ option_map view_machine next) }

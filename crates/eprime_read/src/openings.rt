@@ -3,6 +3,7 @@ ghost use Rattle.std.specs.Option.{option_map};
 ghost use Rattle.ess_semantics.specs.Values.{Text};
 ghost use Rattle.ess_grammar.specs.Words.{word};
 ghost use Rattle.ess_grammar.specs.Kinds.{token};
+ghost use Rattle.ess_lex.specs.Lexing.{IsNatural};
 ghost use Rattle.eprime_read_laws.specs.ModelMachine.{begins_part, may_follow, statement_word};
 ghost use Rattle.eprime_read.specs.Openings.{word_of};
 
@@ -38,7 +39,8 @@ pub(crate) fn opened_by(kind: Kind) -> Option<Opening>
 
 /// The kind of a token that is this word.
 pub(crate) fn kind_of(opening: Opening) -> Kind
-    ensures { (bytes : Text) → token result bytes ≡ word (word_of opening) }
+    ensures word { (bytes : Text) → token result bytes ≡ word (word_of opening) }
+    ensures natural { IsNatural result }
 {
     match opening {
         Opening::Given => Kind::Given,

@@ -2,6 +2,7 @@ ghost use Rattle.std.specs.Prelude.{◌≡◌, [], IfOk, IfSome, IsTrue};
 ghost use Rattle.std.specs.Option.{option_map};
 ghost use Rattle.std.specs.Str.{IsAscii};
 ghost use Rattle.ess_grammar.specs.Kinds.{token};
+ghost use Rattle.ess_lex.specs.Lexing.{IsNatural};
 ghost use Rattle.ess_parse_laws.specs.StatementEnds.{begin_statement};
 ghost use Rattle.ess_parse_laws.specs.Machine.{step, finish};
 ghost use Rattle.ess_parse_machine.specs.Parsers.{view_parser};
@@ -41,6 +42,7 @@ pub(crate) fn begin(alloc: Global, opening: Opening, draft: Draft) -> Result<Opt
 fn go_on(alloc: Global, part: Part, kind: Kind, text: &[u8]) -> Result<Option<Part>, NoMemory>
     requires holds { IsPart part }
     requires ascii { IsAscii text.now }
+    requires natural { IsNatural kind }
     requires fit { IsTrue (is_fit_token (token kind text.now)) }
     ensures holds { IfOk result (λ p. IfSome p IsPart) }
     ensures stage { IfOk result (λ p. in_state (word_of part.opening) (view_draft part.draft) (step (token kind text.now) (view_parser part.parser).mode (view_parser part.parser).frames) ≡ option_map view_part p) }
@@ -108,6 +110,7 @@ pub(crate) fn step_part(
 ) -> Result<Option<Part>, NoMemory>
     requires holds { IsPart part }
     requires ascii { IsAscii text.now }
+    requires natural { IsNatural kind }
     requires fit { IsTrue (is_fit_token (token kind text.now)) }
     ensures holds { IfOk result (λ p. IfSome p IsPart) }
     ensures stage { IfOk result (λ p. part_step (token kind text.now) (statement_word (token kind text.now)) (word_of part.opening) (view_draft part.draft) (view_parser part.parser).mode (view_parser part.parser).frames ≡ option_map view_part p) }

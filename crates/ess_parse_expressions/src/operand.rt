@@ -3,6 +3,7 @@
 
 ghost use Rattle.std.specs.Prelude.{[], ◌∷◌, true, IfOk};
 ghost use Rattle.ess_grammar.specs.Kinds.{token};
+ghost use Rattle.ess_lex.specs.Lexing.{IsNatural};
 ghost use Rattle.ess_parse_laws.specs.Frames.{list_frame};
 ghost use Rattle.ess_parse_laws.specs.Modes.{at_state, operand_wanted};
 ghost use Rattle.ess_parse_laws.specs.Operands.{step_operand_wanted};
@@ -31,11 +32,12 @@ pub fn step_operand_wanted(
     name: Text,
     frames: Row<Frame>,
 ) -> Result<Option<State>, NoMemory>
+    requires natural { IsNatural kind }
     ensures { IfOk result (Steps (step_operand_wanted (token kind name) (view_frames frames))) }
 {
     match kind {
         Kind::Name => Ok(at(Mode::OperandRead(Operand::Pattern(Pat::Name(name))), frames)),
-        Kind::Num(number) => expression_read(alloc, Ex::Num(number.max(0)), frames),
+        Kind::Num(number) => expression_read(alloc, Ex::Num(number), frames),
         Kind::True => expression_read(alloc, Ex::Truth(true), frames),
         Kind::False => expression_read(alloc, Ex::Truth(false), frames),
         Kind::Tuple => Ok(at(Mode::LiteralBegun(Literal::Tuple), frames)),

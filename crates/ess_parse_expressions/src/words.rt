@@ -5,6 +5,7 @@ ghost use Rattle.std.specs.Prelude.{◌≡◌, ◌∷◌, IfOk};
 ghost use Rattle.ess_semantics.specs.declared.words.Op2.{Op2};
 ghost use Rattle.ess_grammar.specs.Words.{Text, operator};
 ghost use Rattle.ess_grammar.specs.Kinds.{token};
+ghost use Rattle.ess_lex.specs.Lexing.{IsNatural};
 ghost use Rattle.ess_parse_laws.specs.Operands.{is_open_round, is_sum_word, continue_atom, step_literal_begun, step_function_word_read, step_function_literal_begun, step_record_literal_begun, step_field_wanted, step_field_read};
 ghost use Rattle.ess_parse_frames.specs.Patterns.{view_operand};
 ghost use Rattle.ess_parse_frames.specs.Views.{literal_op, view_frame, view_frames, Steps};
@@ -86,6 +87,7 @@ pub fn step_function_word_read(
     word: Fun,
     frames: Row<Frame>,
 ) -> Result<Option<State>, NoMemory>
+    requires natural { IsNatural kind }
     ensures { IfOk result (Steps (step_function_word_read (token kind name) word (view_frames frames))) }
 {
     if is_open_round(kind) {

@@ -4,6 +4,7 @@
 ghost use Rattle.std.specs.Prelude.{◌≡◌, [], IfOk};
 ghost use Rattle.std.specs.Str.{IsAscii};
 ghost use Rattle.ess_grammar.specs.Kinds.{token};
+ghost use Rattle.ess_lex.specs.Lexing.{IsNatural};
 ghost use Rattle.ess_parse_laws.specs.Modes.{operand_wanted, domain_wanted, nothing_read};
 ghost use Rattle.ess_parse_laws.specs.Machine.{step, finish};
 ghost use Rattle.ess_parse_frames.specs.Views.{Answers};
@@ -71,7 +72,8 @@ impl Parser {
     /// with this one. The bytes count only where the token is a name. `NoMemory` where there is no room; the parser is then
     /// dropped.
     pub fn step(self, alloc: Global, kind: Kind, text: &[u8]) -> Result<Option<Parser>, NoMemory>
-        requires { IsAscii text.now }
+        requires ascii { IsAscii text.now }
+        requires natural { IsNatural kind }
         ensures { IfOk result (Parses (step (token kind text.now) (view_parser self).mode (view_parser self).frames)) }
     {
         let Parser { state } = self;

@@ -5,6 +5,7 @@ ghost use Rattle.std.specs.Prelude.{◌≡◌, false, IfOk};
 ghost use Rattle.std.specs.Str.{IsAscii};
 ghost use Rattle.ess_grammar.specs.Words.{Text};
 ghost use Rattle.ess_grammar.specs.Kinds.{token};
+ghost use Rattle.ess_lex.specs.Lexing.{IsNatural};
 ghost use Rattle.ess_parse_laws.specs.Machine.{step};
 ghost use Rattle.ess_parse_laws.specs.AttributeSteps.{step_attribute_read};
 ghost use Rattle.ess_parse_laws.specs.StatementSteps.{step_be_read};
@@ -59,7 +60,8 @@ pub(crate) fn step_in(
     mode: Mode,
     frames: Row<Frame>,
 ) -> Result<Option<State>, NoMemory>
-    requires { IsAscii name }
+    requires ascii { IsAscii name }
+    requires natural { IsNatural kind }
     ensures { IfOk result (Steps (step (token kind name) (view_mode mode) (view_frames frames))) }
 {
     match mode {
@@ -183,6 +185,7 @@ fn attribute_read(
     key: Key,
     frames: Row<Frame>,
 ) -> Result<Option<State>, NoMemory>
+    requires natural { IsNatural kind }
     ensures { IfOk result (Steps (step_attribute_read (token kind name) key (view_frames frames))) }
 {
     if ends_flag(kind) {
@@ -203,6 +206,7 @@ fn be_read(
     letting: Text,
     stms: Row<Stm>,
 ) -> Result<Option<State>, NoMemory>
+    requires natural { IsNatural kind }
     ensures { IfOk result (Steps (step_be_read (token kind name) letting (back_stms stms))) }
 {
     match kind {
@@ -226,6 +230,7 @@ fn begin_value(
     stms: Row<Stm>,
 ) -> Result<Option<State>, NoMemory>
     requires value { (bytes : Text) → names_no_value (token kind bytes) ≡ false }
+    requires natural { IsNatural kind }
     ensures { IfOk result (Steps (step_be_read (token kind name) letting (back_stms stms))) }
 {
     match within(Row::new(alloc), Frame::Letting(letting, stms)) {

@@ -3,6 +3,7 @@ ghost use Rattle.std.specs.Option.{option_map};
 ghost use Rattle.std.specs.Str.{IsAscii};
 ghost use Rattle.ess_semantics.specs.Values.{Text};
 ghost use Rattle.ess_grammar.specs.Kinds.{token};
+ghost use Rattle.ess_lex.specs.Lexing.{IsNatural};
 ghost use Rattle.ess_parse_laws.specs.Lettings.{may_stand, is_type_word};
 ghost use Rattle.ess_parse.specs.LettingViews.{pure_lettings, view_machine};
 ghost use Rattle.ess_parse.specs.Machines.{step_lettings, finish_lettings, start_lettings};
@@ -40,7 +41,8 @@ impl Machine {
         kind: Kind,
         text: &[u8],
     ) -> Result<Option<Machine>, NoMemory>
-        requires { IsAscii text.now }
+        requires ascii { IsAscii text.now }
+        requires natural { IsNatural kind }
         ensures { IfOk result (λ next. step_lettings (token kind text.now) (view_machine self) ≡ option_map view_machine next) }
     {
         let Machine {

@@ -3,7 +3,7 @@ use Rattle.std.specs.Option.{option_map}
 use Rattle.ess_grammar.specs.Kinds.{token}
 use Rattle.ess_grammar.specs.Tokens.{lexed, next_token}
 use Rattle.ess_grammar.specs.Places.{end_place}
-use Rattle.ess_lex.specs.Lexing.{left}
+use Rattle.ess_lex.specs.Lexing.{left, IsNatural}
 use Rattle.ess_parse.specs.Runs.{run_over}
 use Rattle.ess_parse.proofs.AsciiTokens.{AreAscii, lexed-ascii, front-ascii}
 use Rattle.ess_parse.proofs.Turns.{turn}
@@ -22,6 +22,9 @@ loop-machine-init c =
       ascii = subst AreAscii (sym c.new-lexer.ensures) (lexed-ascii c.args.text.now);
       fit = subst AreFitTokens (sym c.new-lexer.ensures) (lexed_fit c.args.text.now (cc (c.in_ok-pass_first.ensures)));
     }
+
+pub step-requires-clause-natural : goal.step-requires-clause-natural
+step-requires-clause-natural c = subst (λ o. IfSome o (λ t. IsNatural t.kind)) c.in-Some.is c.in_ok-token.ensures.natural
 
 pub step-requires-clause-ascii : goal.step-requires-clause-ascii
 step-requires-clause-ascii c =

@@ -12,11 +12,11 @@ returns-in-Some-clause-holds c =
     record {
       fits = c.requires;
       read =
-          has_read_word c.args.opening _ (view_parser c.specification-before.result) (view_parser c.in-Some.parser) c.specification-before.ensures (c.kind_of.ensures _)
+          has_read_word c.args.opening _ (view_parser c.specification-before.result) (view_parser c.in-Some.parser) c.specification-before.ensures (c.kind_of.ensures.word _)
           (sym (c.in_ok-parser.ensures ∙ ap (option_map view_parser) c.in-Some.is));
     }
 
 pub returns-in-Some-clause-stage : goal.returns-in-Some-clause-stage
 returns-in-Some-clause-stage c =
     ap (in_state (word_of c.args.opening) (view_draft c.args.draft))
-    (begins_so c.args.opening _ (view_parser c.specification-before.result) c.specification-before.ensures (c.kind_of.ensures _) ∙ (c.in_ok-parser.ensures ∙ ap (option_map view_parser) c.in-Some.is))
+    (begins_so c.args.opening _ (view_parser c.specification-before.result) c.specification-before.ensures (c.kind_of.ensures.word _) ∙ (c.in_ok-parser.ensures ∙ ap (option_map view_parser) c.in-Some.is))

@@ -1,9 +1,9 @@
-use Rattle.std.proofs.Common.{◌≡◌, sym, ap, ◌∙◌, subst}
+use Rattle.std.proofs.Common.{◌≡◌, sym, ap, ◌∙◌, subst, IfSome}
 use Rattle.std.specs.Option.{option_map}
 use Rattle.ess_grammar.specs.Kinds.{token}
 use Rattle.ess_grammar.specs.Tokens.{lexed, next_token}
 use Rattle.ess_grammar.specs.Places.{end_place}
-use Rattle.ess_lex.specs.Lexing.{left}
+use Rattle.ess_lex.specs.Lexing.{left, IsNatural}
 use Rattle.ess_parse_machine.specs.Parsers.{view_parser}
 use Rattle.ess_parse.specs.Runs.{run_over}
 use Rattle.ess_parse.specs.Machines.{step_state, finish_state}
@@ -18,8 +18,11 @@ loop-token-init c =
       ascii = subst AreAscii (sym c.new-lexer.ensures) (lexed-ascii c.args.text.now);
     }
 
-pub step-requires : goal.step-requires
-step-requires c =
+pub step-requires-clause-natural : goal.step-requires-clause-natural
+step-requires-clause-natural c = subst (λ o. IfSome o (λ t. IsNatural t.kind)) c.in-Some.is c.in_ok-token.ensures.natural
+
+pub step-requires-clause-ascii : goal.step-requires-clause-ascii
+step-requires-clause-ascii c =
     let found = c.in-Some.token in
     let come : next_token (token found.kind found.text.now) found.text.now found.place (left c.next.new.self) ≡ left c.loop-token.lexer = rw c.in-Some.is at c.in_ok-token.ensures.next in
     (front-ascii (token found.kind found.text.now) found.text.now found.place (left c.next.new.self) (left c.loop-token.lexer) come (c.loop-token.invariant).ascii).0
