@@ -1,1 +1,4 @@
+pub mod Generators
+pub mod Maps
+pub mod Paths
 pub mod Tables

@@ -1,12 +1,12 @@
 -- The types of names that a table holds.
 use Rattle.std.specs.Prelude.{◌≡◌, ℕ, List, ◌++◌, [], ◌∷◌, map, reverse, take, length, if◌then◌else◌, is_some, refl}
 use Rattle.std.specs.Coded.{Coded, code_by, coded×, coded_ℕ, coded_list}
-use Rattle.std.specs.Prelude.{String, string_bytes}
 use Rattle.ess_semantics.specs.Values.{Text}
 use Rattle.ess_semantics.specs.Names.{Names, look}
 use Rattle.ess_semantics.specs.Types as pure
 use Rattle.ess_core.specs.declared.types.Ty.{Ty}
 use Rattle.ess_core.specs.declared.types.FieldTy.{FieldTy}
+use Rattle.ess_types_names.specs.Maps.{newest_first}
 use Rattle.ess_types_names.specs.declared.table.Declared.{Declared}
 use Rattle.ess_types_names.specs.declared.table.Declared.TheVariants.{Added, Standing}
 use Rattle.ess_core.specs.TypeViews.{pure_ty, pure_field_ty}
@@ -22,13 +22,9 @@ types_code t f =
     code_by (List (Text × Ty) × List FieldTy) (coded× (coded_list (coded× (coded_list coded_ℕ) t)) (coded_list f))
     (λ t. (t.declared, t.bound)) (λ p. record { declared = p.0; bound = p.1 }) (λ _. refl)
 
--- A name with its pure type.
-abbrev pub pure_named : Text × Ty → Text × pure.Ty
-pure_named n = (n.0, pure_ty n.1)
-
 -- The declared names with their pure types, the newest first.
 abbrev pub pure_declared : List (Text × Ty) → Names pure.Ty
-pure_declared ns = reverse (map pure_named ns)
+pure_declared ns = newest_first pure_ty ns
 
 -- The bound names with their pure types, the newest first.
 abbrev pub pure_bound : List FieldTy → Names pure.Ty
@@ -58,7 +54,3 @@ unbound t k = record t { bound = take k t.bound }
 -- Whether u has the declared names of t, and the bound names of t with others behind them.
 abbrev pub Extends : Types → Types → Type 0
 Extends t u = (u.declared ≡ t.declared) × (take (length t.bound) u.bound ≡ t.bound)
-
--- The entries of a map as names with their types.
-abbrev pub entries_of : {A : Type 0} → List (String A × Ty) → List (Text × Ty)
-entries_of es = map (λ e. (string_bytes e.0, e.1)) es

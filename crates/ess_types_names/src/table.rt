@@ -1,14 +1,18 @@
-ghost use Rattle.std.specs.Prelude.{◌≡◌, ◌++◌, ◌∷◌, ◌≤◌, [], length, reverse, is_some, option_map, IfOk, OnOk, OnErr};
+ghost use Rattle.std.specs.Prelude.{◌≡◌, ◌++◌, map, ◌∷◌, ◌≤◌, [], length, reverse, is_some, option_map, IfOk, OnOk, OnErr};
 ghost use Rattle.std.specs.Option.{option_copied};
 ghost use Rattle.std.specs.List.{find};
 ghost use Rattle.std.specs.String.{string_eq};
 ghost use Rattle.indexmap.specs.IndexMap.{IsUnique};
 ghost use Rattle.ess_semantics.specs.Names.{look};
 ghost use Rattle.ess_semantics.specs.Order.{same_text};
-ghost use Rattle.ess_core.specs.TypeViews.{pure_ty};
-ghost use Rattle.ess_types_names.specs.Tables.{Types, pure_table, pure_declared, pure_bound, declared_as, after_declared, unbound, Extends, entries_of};
+ghost use Rattle.ess_semantics.specs.Types.{bind_types};
+ghost use Rattle.ess_core.specs.TreeViews.{pure_pat};
+ghost use Rattle.ess_core.specs.TypeViews.{pure_ty, pure_field_ty};
+ghost use Rattle.ess_types_names.specs.Maps.{entries_of};
+ghost use Rattle.ess_types_names.specs.Tables.{Types, pure_table, pure_declared, pure_bound, declared_as, after_declared, unbound, Extends};
 
-use ess_core::{Boxed, FieldTy, NoMemory, Row, Text, Ty};
+use ess_core::{Boxed, FieldTy, NoMemory, Pat, Row, Text, Ty};
+use ess_types_operators::bound_types;
 use indexmap::IndexMap;
 use std::alloc::Global;
 use std::cmp::Ordering;
@@ -27,7 +31,8 @@ impl Model for TypeTable {
     ghost use Rattle.indexmap.specs.IndexMap.{IsUnique};
     ghost use Rattle.ess_core.specs.contracts.types.Ty as ty;
     ghost use Rattle.ess_core.specs.contracts.types.FieldTy as field;
-    ghost use Rattle.ess_types_names.specs.Tables.{Types, types_code, entries_of};
+    ghost use Rattle.ess_types_names.specs.Maps.{entries_of};
+    ghost use Rattle.ess_types_names.specs.Tables.{Types, types_code};
 
     ghost Value = { Types };
 
@@ -84,6 +89,27 @@ impl TypeTable {
         ensures err { OnErr result (self.new ≡ self.old) }
     {
         self.bound.push(FieldTy { name, ty })
+    }
+
+    /// Binds the names of a pattern, at the parts of a type. `NoMemory` where there is no room for it, and then nothing changes.
+    #[tactic(auto, using(crate::proofs::Bound::bind_apart))]
+    pub fn bind_pattern(&mut self, alloc: Global, pat: &Pat, ty: &Ty) -> Result<(), NoMemory>
+        ensures names { OnOk result (pure_table self.new ≡ bind_types (pure_pat pat.now) (pure_ty ty.now) (pure_table self.old)) }
+        ensures kept { OnOk result (Extends self.old self.new) }
+        ensures err { OnErr result (self.new ≡ self.old) }
+    {
+        let mut names = bound_types(alloc, pat, ty)?;
+        self.append(&mut names)
+    }
+
+    /// Binds further names.
+    #[tactic(auto, using(crate::proofs::Tables::appended, crate::proofs::Tables::appended_kept))]
+    fn append(&mut self, names: &mut Row<FieldTy>) -> Result<(), NoMemory>
+        ensures names { OnOk result (pure_table self.new ≡ reverse (map pure_field_ty names.old) ++ pure_table self.old) }
+        ensures kept { OnOk result (Extends self.old self.new) }
+        ensures err { OnErr result (self.new ≡ self.old) }
+    {
+        self.bound.append(names)
     }
 
     /// How many names are bound.
@@ -161,7 +187,6 @@ fn declared_type<'a>(declared: &'a IndexMap<String, Boxed<Ty>>, name: &Text) -> 
 }
 
 /// Declares a name that isn't there.
-#[tactic(auto, using(crate::proofs::Tables::inserted))]
 fn insert_new(
     alloc: Global,
     declared: &mut IndexMap<String, Boxed<Ty>>,
