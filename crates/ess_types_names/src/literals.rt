@@ -42,7 +42,7 @@ pub(crate) fn type_of_record_literal(
     ensures kept { OnOk result (table.new ≡ table.old) }
 {
     match types_of_fields(alloc, fields, table)? {
-        Some(tys) => Ok(Some(type_of_record(alloc, fields, tys)?)),
+        Some(tys) => Ok(Some(type_of_record(alloc, fields, tys.as_slice())?)),
         None => Ok(None),
     }
 }
