@@ -1,0 +1,5 @@
+pub mod Found
+pub mod Judged
+pub mod Combined
+pub mod Verdicts
+pub mod Laws
