@@ -8,3 +8,5 @@ pub mod Answered
 pub mod Layers
 pub mod DomainLayers
 pub mod Verdicts
+pub mod Accumulated
+pub mod Reached

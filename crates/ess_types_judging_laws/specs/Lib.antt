@@ -3,3 +3,5 @@ pub mod Judged
 pub mod Combined
 pub mod Verdicts
 pub mod Laws
+pub mod Accumulated
+pub mod Reached
