@@ -1,0 +1,17 @@
+pub mod ItemLists
+pub mod Outside
+pub mod Quotients
+pub mod Powers
+pub mod ComparedLists
+pub mod SortedMembers
+pub mod Extremes
+pub mod Products
+pub mod Sums
+pub mod TwoOperands
+pub mod PartCounts
+pub mod Differences
+pub mod PairParts
+pub mod WordMisfits
+pub mod PresentOperands
+pub mod Applied
+pub mod PartLists

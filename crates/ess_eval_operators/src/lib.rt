@@ -1,0 +1,50 @@
+//! What operators, function words, indices, applications and literals give for the values of their operands.
+#![tactic(auto)]
+
+mod applications;
+mod collections;
+mod comparisons;
+mod connectives;
+mod folds;
+mod function_literals;
+mod functions;
+mod items;
+mod literals;
+mod members;
+mod numbers;
+mod operands;
+mod operators;
+mod partition_literals;
+mod partitions;
+mod words;
+
+pub use applications::value_of_application;
+pub use connectives::settle;
+pub use function_literals::{function_value, pair_value};
+pub use items::items_of;
+pub use literals::{list_of, list_value, mset_value, relation_value, set_value, tuple_value};
+pub use operators::{value_of_binary, value_of_unary};
+pub use partition_literals::partition_value;
+pub use words::{value_of_word1, value_of_word2};
+
+use ess_core::NoMemory;
+
+/// Why an operator gives no answer.
+#[derive(Clone, Copy, Debug, PartialEq, Eq)]
+pub enum OperateNo {
+    /// The answer is a number outside 64 bits: below -(2^63 - 1) or above 2^63 - 1.
+    Big,
+    /// There is no room for the answer.
+    NoMemory,
+}
+
+impl From<NoMemory> for OperateNo {
+    ghost use Rattle.std.specs.Prelude.{◌≡◌};
+    ghost use Rattle.ess_eval_operators.specs.declared.OperateNo.TheVariants.{NoMemory};
+
+    ghost from_gives = { λ _ e. e ≡ NoMemory };
+
+    fn from(_: NoMemory) -> OperateNo {
+        OperateNo::NoMemory
+    }
+}
