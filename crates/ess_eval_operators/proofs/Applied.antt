@@ -1,7 +1,7 @@
 -- Functions and relations that are applied.
-use Rattle.std.proofs.Common.{◌≡◌, refl, sym, ap, ◌∙◌, ℕ, suc, List, [], ◌∷◌, map, length, get_or, Option, Some, None, option_map}
+use Rattle.std.proofs.Common.{◌≡◌, refl, sym, ap, ◌∙◌, List, [], ◌∷◌, map, length, get_or, Option, Some, None, option_map}
 use Rattle.ess_semantics.specs.Lists.{and_then, all_some}
-use Rattle.ess_semantics.specs.Values.{Value, node, a_function, a_relation, of_list, to_list, tuple, truth}
+use Rattle.ess_semantics.specs.Values.{Value, of_list, tuple, truth}
 use Rattle.ess_semantics.specs.Trees.{application}
 use Rattle.ess_semantics.specs.Collections.{value_at, holds}
 use Rattle.ess_semantics.specs.Operators.{value_of_node, value_of_op, value_of_application}
@@ -10,7 +10,7 @@ use Rattle.ess_core.specs.declared.values.Val.{Val}
 use Rattle.ess_core.specs.declared.values.Pair.{Pair}
 use Rattle.ess_core.specs.declared.values.Val.TheVariants as variant
 use Rattle.ess_core.specs.ValueViews.{pure_val, pure_pair}
-use Rattle.ess_core.proofs.ValueEquations.{pure_function, pure_relation, pure_tuple}
+use Rattle.ess_core.proofs.ValueEquations.{pure_function, pure_relation}
 
 -- A node of an application whose operands have values.
 pub node_applied : (f : Value) (os : List (Option Value)) (xs : List Value) → Some xs ≡ all_some os → value_of_node application (Some f ∷ os) ≡ value_of_application f xs

@@ -1,6 +1,6 @@
 -- Lists of items, compared.
-use Rattle.std.proofs.Common.{◌≡◌, ℕ, ◌<◌, ◌≤◌, List, length, drop, map, ap, sym, ◌∙◌, refl, Less, is_lt}
-use Rattle.ess_semantics.specs.Values.{Value, of_list, items_of}
+use Rattle.std.proofs.Common.{◌≡◌, ℕ, ◌<◌, ◌≤◌, List, length, drop, map, ap, ◌∙◌, Less, is_lt}
+use Rattle.ess_semantics.specs.Values.{of_list, items_of}
 use Rattle.ess_semantics.specs.Order.{orders, below}
 use Rattle.ess_semantics.specs.Operators.{as_list}
 use Rattle.ess_core.specs.declared.values.Val.{Val}

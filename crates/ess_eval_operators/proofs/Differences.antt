@@ -1,14 +1,14 @@
 -- Differences of values that have items.
-use Rattle.std.proofs.Common.{◌≡◌, refl, sym, ap, ◌∙◌, List, map, not, Some}
+use Rattle.std.proofs.Common.{◌≡◌, sym, ap, ◌∙◌, List, map, not, Some}
 use Rattle.std.specs.Prelude.{filter}
 use Rattle.ess_semantics.specs.declared.words.Op2.{Op2}
-use Rattle.ess_semantics.specs.Values.{Value, node, a_tuple, a_set, a_mset, a_relation, a_partition, of_list, to_list, items_of}
+use Rattle.ess_semantics.specs.Values.{Value, node, a_tuple, a_set, a_mset, a_relation, a_partition, of_list, items_of}
 use Rattle.ess_semantics.specs.Collections.{holds}
 use Rattle.ess_semantics.specs.Operators.{value_of_binary}
 use Rattle.ess_semantics.proofs.Orders.{to_list-of_list}
 use Rattle.ess_core.specs.declared.values.Val.{Val}
 use Rattle.ess_core.specs.declared.values.Val.TheVariants as variant
-use Rattle.ess_core.specs.ValueViews.{pure_val, pure_vals}
+use Rattle.ess_core.specs.ValueViews.{pure_val}
 use Rattle.ess_core.proofs.ValueEquations.{pure_tuple, pure_set, pure_mset, pure_relation, pure_partition}
 
 pub less_tuple : (v : Val) (b : Value) (vs ws : List Val) → v ≡ variant.Tuple vs → map pure_val ws ≡ filter (λ x. not (holds (items_of b) x)) (map pure_val vs)

@@ -2,7 +2,7 @@
 use Rattle.std.proofs.lemmas.List.{at_drop_more}
 use Rattle.ess_core.specs.declared.values.Val.{Val}
 use Rattle.ess_core.specs.ValueViews.{pure_val}
-use Rattle.std.proofs.Common.{◌≡◌, refl, ap, sym, ◌∙◌, ℕ, ◌+◌, ◌<◌, length, get_or, drop, map, Bool, true, false, if◌then◌else◌, List, [], ◌∷◌, Option, Some, None, option_map}
+use Rattle.std.proofs.Common.{◌≡◌, refl, ap, sym, ◌∙◌, ℕ, ◌+◌, ◌<◌, length, get_or, drop, map, if◌then◌else◌, List, [], ◌∷◌, Option, Some, option_map}
 use Rattle.ess_semantics.specs.Values.{Value}
 use Rattle.ess_semantics.specs.Order.{below}
 use Rattle.ess_semantics.specs.Operators.{least, greatest}

@@ -1,12 +1,12 @@
 -- The items of a value: those that it keeps as values, and those that are made of pairs and fields.
-use Rattle.std.proofs.Common.{◌≡◌, refl, sym, ap, ◌∙◌, List, [], ◌∷◌, map}
-use Rattle.ess_semantics.specs.Values.{Value, Values, nil, cons, number, truth, item, node, a_tuple, a_matrix, a_set, a_mset, a_function, a_relation, a_partition, a_record, to_list, of_list, items_of, matrix}
+use Rattle.std.proofs.Common.{◌≡◌, refl, sym, ap, ◌∙◌, List, map}
+use Rattle.ess_semantics.specs.Values.{Value, nil, cons, number, truth, item, node, a_tuple, a_matrix, a_set, a_mset, a_function, a_relation, a_partition, a_record, to_list, of_list, items_of}
 use Rattle.ess_semantics.proofs.Orders.{to_list-of_list}
 use Rattle.ess_core.specs.declared.values.Val.{Val}
 use Rattle.ess_core.specs.declared.values.Pair.{Pair}
 use Rattle.ess_core.specs.declared.values.FieldVal.{FieldVal}
 use Rattle.ess_core.specs.declared.values.Val.TheVariants as variant
-use Rattle.ess_core.specs.ValueViews.{pure_val, pure_vals, pure_pair, pure_field_val}
+use Rattle.ess_core.specs.ValueViews.{pure_val, pure_pair, pure_field_val}
 use Rattle.ess_core.proofs.ValueEquations.{pure_tuple, pure_rec, pure_matrix, pure_set, pure_mset, pure_function, pure_relation, pure_partition}
 use Rattle.ess_eval_operators.specs.Items.{spare_items, items_or}
 

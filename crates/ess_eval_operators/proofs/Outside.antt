@@ -1,5 +1,5 @@
 -- Numbers outside 64 bits.
-use Rattle.std.proofs.Common.{◌≡◌, ℕ, suc, ◌<◌, ◌≤◌, ◌^◌, Bool, true, false, ℤ, pos, refl, w64, arith, ltb-true}
+use Rattle.std.proofs.Common.{◌≡◌, suc, ◌<◌, ◌^◌, Bool, true, false, ℤ, pos, refl, w64, arith, ltb-true}
 use Rattle.std.specs.Prelude.{nat_lt, FitsSigned}
 use lib.IntN.{negsuc}
 use Rattle.ess_semantics.specs.Large.{in_64_bits}

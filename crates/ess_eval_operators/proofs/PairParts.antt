@@ -1,11 +1,11 @@
 -- The parts of a tuple of two, and the pairs of a function.
-use Rattle.std.proofs.Common.{◌≡◌, refl, sym, ap, ◌∙◌, ℕ, zero, suc, List, [], ◌∷◌, map, length, get_or}
-use Rattle.ess_semantics.specs.Values.{Value, nil, cons, node, a_tuple, of_list, from_of, to_of, items_of}
+use Rattle.std.proofs.Common.{◌≡◌, refl, sym, ap, ◌∙◌, List, [], ◌∷◌, map, length, get_or}
+use Rattle.ess_semantics.specs.Values.{from_of, to_of, items_of}
 use Rattle.ess_semantics.proofs.Orders.{to_list-of_list}
 use Rattle.ess_core.specs.declared.values.Val.{Val}
 use Rattle.ess_core.specs.declared.values.Pair.{Pair}
 use Rattle.ess_core.specs.declared.values.Val.TheVariants as variant
-use Rattle.ess_core.specs.ValueViews.{pure_val, pure_vals, pure_pair}
+use Rattle.ess_core.specs.ValueViews.{pure_val, pure_pair}
 use Rattle.ess_core.proofs.ValueEquations.{pure_tuple, pure_function}
 
 pub first_of_two : (v : Val) (ps : List Val) (x : Val) → v ≡ variant.Tuple ps → length ps ≡ 2 → x ≡ get_or ps 0 x → pure_val x ≡ from_of (pure_val v)

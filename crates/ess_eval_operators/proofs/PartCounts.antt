@@ -1,7 +1,7 @@
 -- How many parts a value has.
-use Rattle.std.proofs.Common.{◌≡◌, refl, sym, ap, ◌∙◌, ℕ, suc, List, [], ◌∷◌, map, length, Some, pos}
+use Rattle.std.proofs.Common.{◌≡◌, refl, ap, ◌∙◌, suc, List, [], ◌∷◌, map, length, Some, pos}
 use Rattle.ess_semantics.specs.declared.words.Op1.{Op1}
-use Rattle.ess_semantics.specs.Values.{Value, number, of_list, to_list}
+use Rattle.ess_semantics.specs.Values.{number}
 use Rattle.ess_semantics.specs.Operators.{value_of_unary}
 use Rattle.ess_semantics.proofs.Orders.{to_list-of_list}
 use Rattle.ess_core.specs.declared.values.Val.{Val}

@@ -1,5 +1,5 @@
 -- The parts of a partition that is built.
-use Rattle.std.proofs.Common.{◌≡◌, refl, sym, ap, ◌∙◌, ℕ, suc, Bool, true, false, not, ◌&&◌, ◌==◌, List, [], ◌∷◌, map, length, Some, None, eq-eqb, ne_eqb}
+use Rattle.std.proofs.Common.{◌≡◌, refl, sym, ap, ◌∙◌, Bool, true, false, not, ◌&&◌, ◌==◌, List, [], ◌∷◌, map, length, Some, None, ne_eqb}
 use Rattle.ess_semantics.specs.Lists.{when, is_empty, append_all}
 use Rattle.ess_semantics.specs.Values.{Value, node, a_partition, of_list, items_of, itself}
 use Rattle.ess_semantics.specs.Collections.{sorted, sorted_once, no_twice, partition_of, has_empty_part, has_overlap}

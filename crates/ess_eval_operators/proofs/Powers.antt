@@ -1,6 +1,6 @@
 -- Powers of small numbers, and powers outside 64 bits.
-use Rattle.std.proofs.Common.{◌≡◌, ℕ, zero, suc, ◌+◌, ◌*◌, ◌^◌, ◌%◌, ◌<◌, ◌≤◌, ◌==◌, Bool, true, false, cond, not, ℤ, pos, ◌≤ℤ◌, ◌<ℤ◌, Option, Some, None, refl, ap, sym, ◌∙◌, arith, w64, le-ltb, eq-eqb, ne_eqb}
-use Rattle.std.specs.Prelude.{nat_lt, nat_abs, FitsSigned, nat_eq}
+use Rattle.std.proofs.Common.{◌≡◌, ℕ, zero, suc, ◌^◌, ◌%◌, ◌<◌, ◌≤◌, ◌==◌, Bool, true, false, cond, not, ℤ, pos, ◌≤ℤ◌, ◌<ℤ◌, Some, None, refl, ap, sym, ◌∙◌, arith, le-ltb, eq-eqb, ne_eqb}
+use Rattle.std.specs.Prelude.{nat_lt, nat_abs}
 use lib.IntN.{negsuc, neg_ℤ}
 use Rattle.std.specs.Int.{int_pow}
 use Rattle.std.proofs.lemmas.Int.{ints}

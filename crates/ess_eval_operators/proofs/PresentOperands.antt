@@ -1,8 +1,7 @@
 -- Operands, each with a value or none.
-use Rattle.std.proofs.Common.{◌≡◌, refl, ap, sym, ◌∙◌, ℕ, zero, suc, ◌+◌, ◌<◌, ◌≤◌, List, [], ◌∷◌, ◌++◌, length, get_or, drop, take, map, Option, Some, None, option_map, arith}
+use Rattle.std.proofs.Common.{◌≡◌, refl, ap, sym, ◌∙◌, ℕ, zero, suc, ◌<◌, ◌≤◌, List, [], ◌∷◌, length, get_or, take, map, Option, Some, None, option_map, arith}
 use Rattle.std.proofs.lemmas.List.{take_all}
 use Rattle.ess_semantics.specs.Lists.{all_some, and_then}
-use Rattle.ess_semantics.specs.Values.{Value}
 use Rattle.ess_core.specs.declared.values.Val.{Val}
 use Rattle.ess_core.specs.declared.values.Pair.{Pair}
 use Rattle.ess_core.specs.ValueViews.{pure_val, pure_pair}

@@ -1,14 +1,12 @@
 -- The product of a list: 0 where a factor is 0; else it is at least as far from 0 as each part of it.
-use Rattle.std.proofs.Common.{◌≡◌, refl, ap, sym, ◌∙◌, ℕ, zero, suc, ◌+◌, ◌*◌, ◌<◌, ◌≤◌, ◌^◌, Bool, true, false, not, ◌||◌, List, [], ◌∷◌, length, get_or, drop, map, ℤ, pos, ◌*ℤ◌, neg_ℤ, arith, ltb-false, le-ltb}
+use Rattle.std.proofs.Common.{◌≡◌, refl, ap, sym, ◌∙◌, ℕ, zero, suc, ◌+◌, ◌*◌, ◌<◌, ◌≤◌, ◌^◌, Bool, true, false, ◌||◌, List, [], ◌∷◌, length, get_or, drop, map, ℤ, pos, ◌*ℤ◌, neg_ℤ, arith, ltb-false, le-ltb}
 use Rattle.std.specs.Prelude.{nat_lt, nat_abs}
 use Rattle.std.specs.Ordering.{int_eq, int_cmp, is_eq}
 use Rattle.std.specs.declared.cmp.Ordering.{Ordering}
 use Rattle.std.specs.declared.cmp.Ordering.TheVariants.{Less, Equal, Greater}
 use Rattle.std.proofs.lemmas.Map.Lookups.{exact_signed}
-use Rattle.std.specs.List.{list_any}
 use lib.IntN.{negsuc, zero-*ℤ, *ℤ-zero}
 use Rattle.std.proofs.lemmas.List.{at_drop_more}
-use Rattle.std.proofs.lemmas.Nat.{mul-le}
 use Rattle.ess_semantics.specs.Values.{Value}
 use Rattle.ess_semantics.specs.Large.{in_64_bits}
 use Rattle.ess_semantics.specs.Operators.{number_in, product_of}

@@ -1,5 +1,5 @@
 -- Division that rounds down, by division with a remainder that isn't negative.
-use Rattle.std.proofs.Common.{◌≡◌, ℕ, zero, suc, ◌+◌, ◌-◌, ◌*◌, ◌/◌, ◌%◌, ◌<◌, ◌≤◌, ℤ, pos, negsuc, neg_ℤ, ◌-ℤ◌, ◌+ℤ◌, ◌*ℤ◌, ◌<ℤ◌, ◌≤ℤ◌, Option, Some, refl, ap, sym, ◌∙◌, arith}
+use Rattle.std.proofs.Common.{◌≡◌, ℕ, zero, suc, ◌+◌, ◌-◌, ◌*◌, ◌/◌, ◌%◌, ◌<◌, ℤ, pos, negsuc, neg_ℤ, ◌-ℤ◌, ◌+ℤ◌, ◌*ℤ◌, ◌<ℤ◌, ◌≤ℤ◌, Some, refl, ap, ◌∙◌, arith}
 use Rattle.std.specs.Int.{int_div_euclid, int_rem_euclid}
 use Rattle.std.proofs.lemmas.Int.{ints, to_z-of_z}
 use Rattle.std.proofs.lemmas.Nat.{div-mul-add, div-add-mod'}
@@ -60,7 +60,6 @@ pub down_less : (x y : ℤ) → y <ℤ pos 0 → (int_rem_euclid x y ≡ pos 0 �
 down_less x (pos b) l h = absurd (omega (arith, ints))
 down_less (pos a) (negsuc b) l h = ap (λ k. Some (neg_ℤ (pos k))) (up_more a b (at_0 _ h)) ∙ ap Some (less_one (a / suc b))
 down_less (negsuc a) (negsuc b) l h = ap (λ k. Some (pos k)) (next_flat a b (at_0 _ h)) ∙ ap Some (one_less (a / suc b))
-
 
 -- ---- the remainder
 

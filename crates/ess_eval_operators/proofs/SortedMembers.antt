@@ -1,10 +1,10 @@
 -- The members of a set that is built, and of a multiset.
-use Rattle.std.proofs.Common.{◌≡◌, refl, sym, ap, ◌∙◌, List, [], map}
-use Rattle.ess_semantics.specs.Values.{Value, of_list, to_list, node, a_set, a_mset}
+use Rattle.std.proofs.Common.{◌≡◌, sym, ap, ◌∙◌, List, [], map}
+use Rattle.ess_semantics.specs.Values.{Value, to_list, node}
 use Rattle.ess_semantics.specs.Collections.{set_of, mset_of, sorted, sorted_once}
 use Rattle.ess_semantics.proofs.Orders.{to_list-of_list}
 use Rattle.ess_core.specs.declared.values.Val.{Val}
-use Rattle.ess_core.specs.ValueViews.{pure_val, pure_vals}
+use Rattle.ess_core.specs.ValueViews.{pure_val}
 use Rattle.ess_core.proofs.ValueEquations.{pure_set, pure_mset}
 use Rattle.ess_core.specs.declared.values.Val.TheVariants.{Set, MSet}
 

@@ -1,10 +1,9 @@
 -- Connectives read an operand without a value as false; any other operator has no value where an operand has none.
-use Rattle.std.proofs.Common.{◌≡◌, refl, Bool, true, false, List, [], ◌∷◌, Option, Some, None}
+use Rattle.std.proofs.Common.{◌≡◌, refl, true, false, [], ◌∷◌, Option, Some, None}
 use Rattle.ess_semantics.specs.declared.words.Op2.{Op2}
-use Rattle.ess_semantics.specs.Lists.{and_then, all_some}
 use Rattle.ess_semantics.specs.Values.{Value, truth}
 use Rattle.ess_semantics.specs.Trees.{binary}
-use Rattle.ess_semantics.specs.Operators.{value_of_node, value_of_op, value_of_binary, as_truth}
+use Rattle.ess_semantics.specs.Operators.{value_of_node, value_of_binary, as_truth}
 use Rattle.ess_eval_operators.specs.Connectives.{connects, connected}
 
 -- A connective's node.

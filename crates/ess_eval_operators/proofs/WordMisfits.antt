@@ -1,5 +1,5 @@
 -- Function words on two operands that take one alone.
-use Rattle.std.proofs.Common.{◌≡◌, refl, Some, Option}
+use Rattle.std.proofs.Common.{◌≡◌, refl, Some}
 use Rattle.ess_semantics.specs.declared.words.Fun.{Fun}
 use Rattle.ess_semantics.specs.Values.{Value, truth}
 use Rattle.std.specs.Prelude.{false}

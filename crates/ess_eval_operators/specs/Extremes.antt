@@ -1,5 +1,5 @@
 -- The choice between a value that was found and one more item.
-use Rattle.std.specs.Prelude.{Bool, if◌then◌else◌, Option, Some, None}
+use Rattle.std.specs.Prelude.{if◌then◌else◌, Option, Some, None}
 use Rattle.ess_semantics.specs.Values.{Value}
 use Rattle.ess_semantics.specs.Order.{below}
 

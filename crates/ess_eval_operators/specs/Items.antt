@@ -1,5 +1,5 @@
 -- The items of a value, where those that aren't kept as values in a list stand beside it.
-use Rattle.std.specs.Prelude.{List, [], ◌∷◌, map}
+use Rattle.std.specs.Prelude.{List, []}
 use Rattle.ess_semantics.specs.Values.{Value, node, a_record, a_function, to_list, matrix}
 
 -- The items of a record or function, of which one keeps fields and the other pairs; none of any other value.

@@ -16,7 +16,11 @@ use std::alloc::Global;
 /// function has one at an argument alone, a relation is true of the tuples that are in it. `NoMemory` where there is no
 /// room for it.
 #[tactic(auto, using(crate::proofs::Applied::applied))]
-pub fn value_of_application(alloc: Global, of: Option<&Val>, arguments: &[Option<Val>]) -> Result<Option<Val>, NoMemory>
+pub fn value_of_application(
+    alloc: Global,
+    of: Option<&Val>,
+    arguments: &[Option<Val>],
+) -> Result<Option<Val>, NoMemory>
     ensures { IfOk result (λ o. option_map pure_val o ≡ value_of_node application (option_map pure_val (option_copied of.entry) ∷ map (option_map pure_val) arguments.now)) }
 {
     match of {
@@ -36,7 +40,10 @@ fn apply(alloc: Global, of: &Val, arguments: Row<Val>) -> Result<Option<Val>, No
     match of {
         Val::Function(pairs) => {
             if arguments.len() == 1 {
-                copied(alloc, value_at_pairs(pairs.as_slice(), &arguments.as_slice()[0]))
+                copied(
+                    alloc,
+                    value_at_pairs(pairs.as_slice(), &arguments.as_slice()[0]),
+                )
             } else {
                 Ok(None)
             }

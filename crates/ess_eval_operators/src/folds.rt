@@ -149,13 +149,7 @@ fn lower<'a>(found: Option<&'a Val>, item: &'a Val) -> &'a Val
     ensures { pure_val result.now ≡ lower_of (option_map pure_val (option_copied found.entry)) (pure_val item.now) }
 {
     match found {
-        Some(val) => {
-            if below(val, item) {
-                val
-            } else {
-                item
-            }
-        }
+        Some(val) => { if below(val, item) { val } else { item } }
         None => item,
     }
 }
@@ -165,13 +159,7 @@ fn higher<'a>(found: Option<&'a Val>, item: &'a Val) -> &'a Val
     ensures { pure_val result.now ≡ higher_of (option_map pure_val (option_copied found.entry)) (pure_val item.now) }
 {
     match found {
-        Some(val) => {
-            if below(item, val) {
-                val
-            } else {
-                item
-            }
-        }
+        Some(val) => { if below(item, val) { val } else { item } }
         None => item,
     }
 }

@@ -90,7 +90,10 @@ pub(crate) fn image(alloc: Global, function: &Val, at: &Val) -> Result<Option<Va
         return copied(alloc, value_at_pairs(pairs.as_slice(), at));
     }
     let spare = spare(alloc, function)?;
-    copied(alloc, value_at_items(listed(function, spare.as_slice()), at))
+    copied(
+        alloc,
+        value_at_items(listed(function, spare.as_slice()), at),
+    )
 }
 
 /// Copies of the first parts of pairs. `NoMemory` where there is no room for them.

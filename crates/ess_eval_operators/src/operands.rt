@@ -24,7 +24,10 @@ pub(crate) fn present(alloc: Global, operands: &[Option<Val>]) -> Result<Option<
 }
 
 /// The values of operands, where each has one. `NoMemory` where there is no room for their list.
-pub(crate) fn all_present(alloc: Global, operands: Row<Option<Val>>) -> Result<Option<Row<Val>>, NoMemory>
+pub(crate) fn all_present(
+    alloc: Global,
+    operands: Row<Option<Val>>,
+) -> Result<Option<Row<Val>>, NoMemory>
     ensures { IfOk result (λ o. option_map (map pure_val) o ≡ all_some (map (option_map pure_val) operands)) }
 {
     present(alloc, operands.as_slice())

@@ -13,7 +13,9 @@ use crate::collections::{difference, included, intersection, member, union};
 use crate::comparisons::{below, lex_below, same};
 use crate::connectives::{connected, is_connective, is_true};
 use crate::folds::truth_in;
-use crate::numbers::{absolute, kept, negative, number_in, plus, power, quotient, remainder, times};
+use crate::numbers::{
+    absolute, kept, negative, number_in, plus, power, quotient, remainder, times,
+};
 use ess_core::Val;
 use ess_semantics::words::{Op1, Op2};
 use std::alloc::Global;
@@ -62,7 +64,12 @@ fn size(val: &Val) -> Result<i64, OperateNo>
 /// The value of a node of an operator on two operands, each of which may have no value: a connective reads that as false,
 /// and any other operator has no value there. `Big` where the answer is a number outside 64 bits.
 #[tactic(auto, using(crate::proofs::TwoOperands::connectives_read))]
-pub fn value_of_binary(alloc: Global, op: Op2, a: Option<&Val>, b: Option<&Val>) -> Result<Option<Val>, OperateNo>
+pub fn value_of_binary(
+    alloc: Global,
+    op: Op2,
+    a: Option<&Val>,
+    b: Option<&Val>,
+) -> Result<Option<Val>, OperateNo>
     ensures ok { IfOk result (λ o. option_map pure_val o ≡ value_of_node (binary op) (option_map pure_val (option_copied a.entry) ∷ option_map pure_val (option_copied b.entry) ∷ [])) }
     ensures big { result ≡ Err Big → is_big (value_of_node (binary op) (option_map pure_val (option_copied a.entry) ∷ option_map pure_val (option_copied b.entry) ∷ [])) ≡ true }
 {

@@ -36,7 +36,12 @@ pub fn value_of_word1(alloc: Global, word: Fun, a: Option<&Val>) -> Result<Optio
 
 /// The value of a call of a function word on two operands, each of which may have no value: then the call has none. `Big`
 /// where the answer is a number outside 64 bits.
-pub fn value_of_word2(alloc: Global, word: Fun, a: Option<&Val>, b: Option<&Val>) -> Result<Option<Val>, OperateNo>
+pub fn value_of_word2(
+    alloc: Global,
+    word: Fun,
+    a: Option<&Val>,
+    b: Option<&Val>,
+) -> Result<Option<Val>, OperateNo>
     ensures ok { IfOk result (λ o. option_map pure_val o ≡ value_of_node (a_word word) (option_map pure_val (option_copied a.entry) ∷ option_map pure_val (option_copied b.entry) ∷ [])) }
     ensures big { result ≡ Err Big → is_big (value_of_node (a_word word) (option_map pure_val (option_copied a.entry) ∷ option_map pure_val (option_copied b.entry) ∷ [])) ≡ true }
 {

@@ -1,4 +1,4 @@
-use Rattle.std.proofs.Common.{◌≡◌, ap, sym, ◌∙◌, Some}
+use Rattle.std.proofs.Common.{ap, sym, ◌∙◌, Some}
 use Rattle.ess_semantics.specs.Values.{truth}
 use Rattle.ess_core.proofs.ValueEquations.{pure_truth}
 use Rattle.ess_eval_operators.proofs.Applied.{relation_applied}

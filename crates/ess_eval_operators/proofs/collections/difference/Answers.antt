@@ -1,4 +1,4 @@
-use Rattle.std.proofs.Common.{◌≡◌, ap, ◌∙◌, map, not}
+use Rattle.std.proofs.Common.{ap, ◌∙◌, map, not}
 use Rattle.std.specs.Prelude.{filter}
 use Rattle.ess_semantics.specs.Collections.{holds}
 use Rattle.ess_semantics.specs.Values.{items_of}

@@ -1,4 +1,4 @@
-use Rattle.std.proofs.Common.{◌≡◌, ◌++◌, map, drop, not}
+use Rattle.std.proofs.Common.{◌≡◌, ◌++◌, map, drop}
 use Rattle.std.specs.Prelude.{filter}
 use Rattle.ess_semantics.specs.Collections.{holds}
 use Rattle.ess_core.specs.ValueViews.{pure_val}
