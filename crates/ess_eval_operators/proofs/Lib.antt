@@ -15,3 +15,6 @@ pub mod WordMisfits
 pub mod PresentOperands
 pub mod Applied
 pub mod PartLists
+pub mod WordOperands
+pub mod Steps
+pub mod RecordFields

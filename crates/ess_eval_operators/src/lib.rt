@@ -2,12 +2,14 @@
 #![tactic(auto)]
 
 mod applications;
+mod calls;
 mod collections;
 mod comparisons;
 mod connectives;
 mod folds;
 mod function_literals;
 mod functions;
+mod indices;
 mod items;
 mod literals;
 mod members;
@@ -16,18 +18,21 @@ mod operands;
 mod operators;
 mod partition_literals;
 mod partitions;
+mod records;
 mod words;
 
 pub use applications::value_of_application;
+pub use calls::value_of_word;
 pub use connectives::settle;
+use ess_core::NoMemory;
 pub use function_literals::{function_value, pair_value};
+pub use indices::value_at_steps;
 pub use items::items_of;
 pub use literals::{list_of, list_value, mset_value, relation_value, set_value, tuple_value};
 pub use operators::{value_of_binary, value_of_unary};
 pub use partition_literals::partition_value;
+pub use records::record_value;
 pub use words::{value_of_word1, value_of_word2};
-
-use ess_core::NoMemory;
 
 /// Why an operator gives no answer.
 #[derive(Clone, Copy, Debug, PartialEq, Eq)]
