@@ -13,7 +13,7 @@ use ess_semantics::words::Fun;
 use std::alloc::Global;
 
 /// The value of a call of a function word on any number of operands, each of which may have no value: then the call has
-/// none. `Big` where the answer is a number outside 64 bits.
+/// none. `Big` where the answer is a number outside 64 bits, `NoMemory` where there is no room for it.
 #[tactic(auto, using(crate::proofs::WordOperands::word_operands))]
 pub fn value_of_word(
     alloc: Global,

@@ -39,7 +39,8 @@ pub use words::{value_of_word1, value_of_word2};
 pub enum OperateNo {
     /// The answer is a number outside 64 bits: below -(2^63 - 1) or above 2^63 - 1.
     Big,
-    /// There is no room for the answer.
+    /// There is no room for the answer. So too where no value has the answer's form: for a union, an intersection or a
+    /// difference whose first operand is a matrix, a record or a function, which no well-typed tree has.
     NoMemory,
 }
 

@@ -62,7 +62,9 @@ fn size(val: &Val) -> Result<i64, OperateNo>
 }
 
 /// The value of a node of an operator on two operands, each of which may have no value: a connective reads that as false,
-/// and any other operator has no value there. `Big` where the answer is a number outside 64 bits.
+/// and any other operator has no value there. `Big` where the answer is a number outside 64 bits. `NoMemory` where there is
+/// no room for it, and for a union, an intersection or a difference whose first operand is a matrix, a record or a
+/// function, which no well-typed tree has.
 #[tactic(auto, using(crate::proofs::TwoOperands::connectives_read))]
 pub fn value_of_binary(
     alloc: Global,

@@ -23,7 +23,7 @@ use ess_values::{mset_of, set_of};
 use std::alloc::Global;
 
 /// The value of a call of a function word on one operand, which may have no value: then the call has none. `Big` where the
-/// answer is a number outside 64 bits.
+/// answer is a number outside 64 bits, `NoMemory` where there is no room for it.
 pub fn value_of_word1(alloc: Global, word: Fun, a: Option<&Val>) -> Result<Option<Val>, OperateNo>
     ensures ok { IfOk result (λ o. option_map pure_val o ≡ value_of_node (a_word word) (option_map pure_val (option_copied a.entry) ∷ [])) }
     ensures big { result ≡ Err Big → is_big (value_of_node (a_word word) (option_map pure_val (option_copied a.entry) ∷ [])) ≡ true }
@@ -35,7 +35,7 @@ pub fn value_of_word1(alloc: Global, word: Fun, a: Option<&Val>) -> Result<Optio
 }
 
 /// The value of a call of a function word on two operands, each of which may have no value: then the call has none. `Big`
-/// where the answer is a number outside 64 bits.
+/// where the answer is a number outside 64 bits, `NoMemory` where there is no room for it.
 pub fn value_of_word2(
     alloc: Global,
     word: Fun,
