@@ -13,7 +13,8 @@ use Rattle.ess_core.specs.ValueViews.{pure_val, pure_pair}
 use Rattle.ess_core.proofs.ValueEquations.{pure_function, pure_relation}
 
 -- A node of an application whose operands have values.
-pub node_applied : (f : Value) (os : List (Option Value)) (xs : List Value) → Some xs ≡ all_some os → value_of_node application (Some f ∷ os) ≡ value_of_application f xs
+pub node_applied : (f : Value) (os : List (Option Value)) (xs : List Value) → Some xs ≡ all_some os
+    → value_of_node application (Some f ∷ os) ≡ value_of_application f xs
 node_applied f os xs e = sym (ap (λ o. and_then (option_map (λ ys. f ∷ ys) o) (value_of_op application)) e)
 
 -- One of whose arguments has none.
@@ -28,7 +29,8 @@ function_applied v ps (y ∷ []) x e l h =
     ∙ ap (λ l. value_at l (pure_val y)) (to_list-of_list (map pure_pair ps)) ∙ ap (λ z. value_at (map pure_pair ps) (pure_val z)) (sym h)
 function_applied v ps (y ∷ z ∷ xs) x e l h = cc
 
-pub function_not_applied : (v : Val) (ps : List Pair) (xs : List Val) → v ≡ variant.Function ps → (length xs ≡ 1 → ⊥) → value_of_application (pure_val v) (map pure_val xs) ≡ None
+pub function_not_applied : (v : Val) (ps : List Pair) (xs : List Val) → v ≡ variant.Function ps → (length xs ≡ 1 → ⊥)
+    → value_of_application (pure_val v) (map pure_val xs) ≡ None
 function_not_applied v ps [] e l = ap (λ w. value_of_application (pure_val w) []) e ∙ ap (λ w. value_of_application w []) (pure_function ps)
 function_not_applied v ps (y ∷ []) e l = absurd (l refl)
 function_not_applied v ps (y ∷ z ∷ xs) e l =

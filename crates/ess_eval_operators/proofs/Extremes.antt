@@ -34,16 +34,21 @@ greatest_more x (y ∷ ys) =
 
 -- ---- the loops, from the last item to the first
 
-pub least_step : (xs : List Val) (i : ℕ) (x : Val) (o : Option Value) (m : Value) → i < length xs → x ≡ get_or xs i x → o ≡ least (map pure_val (drop (i + 1) xs))
+pub least_step : (xs : List Val) (i : ℕ) (x : Val) (o : Option Value) (m : Value) → i < length xs → x ≡ get_or xs i x
+    → o ≡ least (map pure_val (drop (i + 1) xs))
     → m ≡ lower_of o (pure_val x) → Some m ≡ least (map pure_val (drop i xs))
 least_step xs i x o m h is d e =
-    ap Some e ∙ ap (λ p. Some (lower_of p (pure_val x))) d ∙ ap (λ z. Some (lower_of (least (map pure_val (drop (i + 1) xs))) (pure_val z))) is
+    ap Some e ∙ ap (λ p. Some (lower_of p (pure_val x))) d
+    ∙ ap (λ z. Some (lower_of (least (map pure_val (drop (i + 1) xs))) (pure_val z))) is
     ∙ sym (at_drop_more (λ l. least (map pure_val l)) xs i x h ∙ least_more (pure_val (get_or xs i x)) (map pure_val (drop (i + 1) xs)))
 
-pub greatest_step : (xs : List Val) (i : ℕ) (x : Val) (o : Option Value) (m : Value) → i < length xs → x ≡ get_or xs i x → o ≡ greatest (map pure_val (drop (i + 1) xs))
+pub greatest_step : (xs : List Val) (i : ℕ) (x : Val) (o : Option Value) (m : Value) → i < length xs → x ≡ get_or xs i x
+    → o ≡ greatest (map pure_val (drop (i + 1) xs))
     → m ≡ higher_of o (pure_val x) → Some m ≡ greatest (map pure_val (drop i xs))
 greatest_step xs i x o m h is d e =
-    ap Some e ∙ ap (λ p. Some (higher_of p (pure_val x))) d ∙ ap (λ z. Some (higher_of (greatest (map pure_val (drop (i + 1) xs))) (pure_val z))) is
-    ∙ sym (at_drop_more (λ l. greatest (map pure_val l)) xs i x h ∙ greatest_more (pure_val (get_or xs i x)) (map pure_val (drop (i + 1) xs)))
+    ap Some e ∙ ap (λ p. Some (higher_of p (pure_val x))) d
+    ∙ ap (λ z. Some (higher_of (greatest (map pure_val (drop (i + 1) xs))) (pure_val z))) is
+    ∙ sym (at_drop_more (λ l. greatest (map pure_val l)) xs i x h
+    ∙ greatest_more (pure_val (get_or xs i x)) (map pure_val (drop (i + 1) xs)))
 
 pub ruleset extremes = (least_step, greatest_step)

@@ -52,7 +52,8 @@ items_with_spare (node a_matrix (cons (node a_tuple is) (cons (node a_tuple ys) 
 items_with_spare (node a_matrix (cons (node a_tuple is) (cons (node a_tuple ys) (cons x xs)))) = refl
 
 -- The values of all items, whole, in terms of the two lists of the code.
-pub listed_items : (v : Val) (items spare : List Val) → map pure_val items ≡ items_or (map pure_val spare) (pure_val v) → map pure_val spare ≡ spare_items (pure_val v)
+pub listed_items : (v : Val) (items spare : List Val) → map pure_val items ≡ items_or (map pure_val spare) (pure_val v)
+    → map pure_val spare ≡ spare_items (pure_val v)
     → map pure_val items ≡ items_of (pure_val v)
 listed_items v items spare l s = l ∙ ap (λ ss. items_or ss (pure_val v)) s ∙ items_with_spare (pure_val v)
 
@@ -62,7 +63,8 @@ pub kept_tuple : (v : Val) (vs : List Val) (ss : List Value) → v ≡ variant.T
 kept_tuple v vs ss e = sym (ap (λ w. items_or ss (pure_val w)) e ∙ ap (items_or ss) (pure_tuple vs) ∙ to_list-of_list (map pure_val vs))
 
 pub kept_matrix : (v : Val) (is vs : List Val) (ss : List Value) → v ≡ variant.Matrix is vs → map pure_val vs ≡ items_or ss (pure_val v)
-kept_matrix v is vs ss e = sym (ap (λ w. items_or ss (pure_val w)) e ∙ ap (items_or ss) (pure_matrix is vs) ∙ to_list-of_list (map pure_val vs))
+kept_matrix v is vs ss e = sym (ap (λ w. items_or ss (pure_val w)) e ∙ ap (items_or ss) (pure_matrix is vs)
+    ∙ to_list-of_list (map pure_val vs))
 
 pub kept_set : (v : Val) (vs : List Val) (ss : List Value) → v ≡ variant.Set vs → map pure_val vs ≡ items_or ss (pure_val v)
 kept_set v vs ss e = sym (ap (λ w. items_or ss (pure_val w)) e ∙ ap (items_or ss) (pure_set vs) ∙ to_list-of_list (map pure_val vs))
@@ -71,16 +73,19 @@ pub kept_mset : (v : Val) (vs : List Val) (ss : List Value) → v ≡ variant.MS
 kept_mset v vs ss e = sym (ap (λ w. items_or ss (pure_val w)) e ∙ ap (items_or ss) (pure_mset vs) ∙ to_list-of_list (map pure_val vs))
 
 pub kept_relation : (v : Val) (vs : List Val) (ss : List Value) → v ≡ variant.Relation vs → map pure_val vs ≡ items_or ss (pure_val v)
-kept_relation v vs ss e = sym (ap (λ w. items_or ss (pure_val w)) e ∙ ap (items_or ss) (pure_relation vs) ∙ to_list-of_list (map pure_val vs))
+kept_relation v vs ss e = sym (ap (λ w. items_or ss (pure_val w)) e ∙ ap (items_or ss) (pure_relation vs)
+    ∙ to_list-of_list (map pure_val vs))
 
 pub kept_partition : (v : Val) (vs : List Val) (ss : List Value) → v ≡ variant.Partition vs → map pure_val vs ≡ items_or ss (pure_val v)
-kept_partition v vs ss e = sym (ap (λ w. items_or ss (pure_val w)) e ∙ ap (items_or ss) (pure_partition vs) ∙ to_list-of_list (map pure_val vs))
+kept_partition v vs ss e = sym (ap (λ w. items_or ss (pure_val w)) e ∙ ap (items_or ss) (pure_partition vs)
+    ∙ to_list-of_list (map pure_val vs))
 
 pub spare_function : (v : Val) (ps : List Pair) → v ≡ variant.Function ps → map pure_pair ps ≡ spare_items (pure_val v)
 spare_function v ps e = sym (ap (λ w. spare_items (pure_val w)) e ∙ ap spare_items (pure_function ps) ∙ to_list-of_list (map pure_pair ps))
 
 pub spare_record : (v : Val) (fs : List FieldVal) → v ≡ variant.Rec fs → map (λ f. f.1) (map pure_field_val fs) ≡ spare_items (pure_val v)
-spare_record v fs e = sym (ap (λ w. spare_items (pure_val w)) e ∙ ap spare_items (pure_rec fs) ∙ to_list-of_list (map (λ f. f.1) (map pure_field_val fs)))
+spare_record v fs e = sym (ap (λ w. spare_items (pure_val w)) e ∙ ap spare_items (pure_rec fs)
+    ∙ to_list-of_list (map (λ f. f.1) (map pure_field_val fs)))
 
 pub ruleset items = (listed_again, items_with_spare)
 

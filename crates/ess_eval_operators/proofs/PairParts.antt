@@ -8,13 +8,15 @@ use Rattle.ess_core.specs.declared.values.Val.TheVariants as variant
 use Rattle.ess_core.specs.ValueViews.{pure_val, pure_pair}
 use Rattle.ess_core.proofs.ValueEquations.{pure_tuple, pure_function}
 
-pub first_of_two : (v : Val) (ps : List Val) (x : Val) → v ≡ variant.Tuple ps → length ps ≡ 2 → x ≡ get_or ps 0 x → pure_val x ≡ from_of (pure_val v)
+pub first_of_two : (v : Val) (ps : List Val) (x : Val) → v ≡ variant.Tuple ps → length ps ≡ 2 → x ≡ get_or ps 0 x
+    → pure_val x ≡ from_of (pure_val v)
 first_of_two v [] x e l h = cc
 first_of_two v (a ∷ []) x e l h = cc
 first_of_two v (a ∷ b ∷ []) x e l h = ap pure_val h ∙ sym (ap (λ w. from_of (pure_val w)) e ∙ ap from_of (pure_tuple (a ∷ b ∷ [])))
 first_of_two v (a ∷ b ∷ c ∷ ps) x e l h = cc
 
-pub second_of_two : (v : Val) (ps : List Val) (x : Val) → v ≡ variant.Tuple ps → length ps ≡ 2 → x ≡ get_or ps 1 x → pure_val x ≡ to_of (pure_val v)
+pub second_of_two : (v : Val) (ps : List Val) (x : Val) → v ≡ variant.Tuple ps → length ps ≡ 2 → x ≡ get_or ps 1 x
+    → pure_val x ≡ to_of (pure_val v)
 second_of_two v [] x e l h = cc
 second_of_two v (a ∷ []) x e l h = cc
 second_of_two v (a ∷ b ∷ []) x e l h = ap pure_val h ∙ sym (ap (λ w. to_of (pure_val w)) e ∙ ap to_of (pure_tuple (a ∷ b ∷ [])))

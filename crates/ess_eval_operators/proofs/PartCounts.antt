@@ -30,27 +30,41 @@ size_of_mset v vs e =
     ap (λ w. value_of_unary Op1.Bar (pure_val w)) e ∙ ap (value_of_unary Op1.Bar) (pure_mset vs)
     ∙ ap (λ n. Some (number (pos n))) (ap length (to_list-of_list (map pure_val vs)) ∙ length_mapped pure_val vs)
 
-pub size_of_relation : (v : Val) (vs : List Val) → v ≡ variant.Relation vs → value_of_unary Op1.Bar (pure_val v) ≡ Some (number (pos (length vs)))
+pub size_of_relation : (v : Val) (vs : List Val) → v ≡ variant.Relation vs
+    → value_of_unary Op1.Bar (pure_val v) ≡ Some (number (pos (length vs)))
 size_of_relation v vs e =
     ap (λ w. value_of_unary Op1.Bar (pure_val w)) e ∙ ap (value_of_unary Op1.Bar) (pure_relation vs)
     ∙ ap (λ n. Some (number (pos n))) (ap length (to_list-of_list (map pure_val vs)) ∙ length_mapped pure_val vs)
 
-pub size_of_partition : (v : Val) (vs : List Val) → v ≡ variant.Partition vs → value_of_unary Op1.Bar (pure_val v) ≡ Some (number (pos (length vs)))
+pub size_of_partition : (v : Val) (vs : List Val) → v ≡ variant.Partition vs
+    → value_of_unary Op1.Bar (pure_val v) ≡ Some (number (pos (length vs)))
 size_of_partition v vs e =
     ap (λ w. value_of_unary Op1.Bar (pure_val w)) e ∙ ap (value_of_unary Op1.Bar) (pure_partition vs)
     ∙ ap (λ n. Some (number (pos n))) (ap length (to_list-of_list (map pure_val vs)) ∙ length_mapped pure_val vs)
 
-pub size_of_function : (v : Val) (ps : List Pair) → v ≡ variant.Function ps → value_of_unary Op1.Bar (pure_val v) ≡ Some (number (pos (length ps)))
+pub size_of_function : (v : Val) (ps : List Pair) → v ≡ variant.Function ps
+    → value_of_unary Op1.Bar (pure_val v) ≡ Some (number (pos (length ps)))
 size_of_function v ps e =
     ap (λ w. value_of_unary Op1.Bar (pure_val w)) e ∙ ap (value_of_unary Op1.Bar) (pure_function ps)
     ∙ ap (λ n. Some (number (pos n))) (ap length (to_list-of_list (map pure_pair ps)) ∙ length_mapped pure_pair ps)
 
-pub size_of_rec : (v : Val) (fs : List FieldVal) → v ≡ variant.Rec fs → value_of_unary Op1.Bar (pure_val v) ≡ Some (number (pos (length fs)))
+pub size_of_rec : (v : Val) (fs : List FieldVal) → v ≡ variant.Rec fs
+    → value_of_unary Op1.Bar (pure_val v) ≡ Some (number (pos (length fs)))
 size_of_rec v fs e =
     ap (λ w. value_of_unary Op1.Bar (pure_val w)) e ∙ ap (value_of_unary Op1.Bar) (pure_rec fs)
-    ∙ ap (λ n. Some (number (pos n))) (ap length (to_list-of_list (map (λ f. f.1) (map pure_field_val fs))) ∙ (length_mapped (λ f. f.1) (map pure_field_val fs) ∙ length_mapped pure_field_val fs))
+    ∙ ap (λ n. Some (number (pos n))) (ap length (to_list-of_list (map (λ f. f.1) (map pure_field_val fs)))
+    ∙ (length_mapped (λ f. f.1) (map pure_field_val fs) ∙ length_mapped pure_field_val fs))
 
 pub size_of_matrix : (v : Val) (is vs : List Val) → v ≡ variant.Matrix is vs → value_of_unary Op1.Bar (pure_val v) ≡ Some (number (pos 2))
 size_of_matrix v is vs e = ap (λ w. value_of_unary Op1.Bar (pure_val w)) e ∙ ap (value_of_unary Op1.Bar) (pure_matrix is vs)
 
-pub ruleset sizes = (size_of_tuple, size_of_set, size_of_mset, size_of_relation, size_of_partition, size_of_function, size_of_rec, size_of_matrix)
+pub ruleset sizes = (
+  size_of_tuple,
+  size_of_set,
+  size_of_mset,
+  size_of_relation,
+  size_of_partition,
+  size_of_function,
+  size_of_rec,
+  size_of_matrix,
+)

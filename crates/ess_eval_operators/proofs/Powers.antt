@@ -24,7 +24,8 @@ power_of_one (pos (suc zero)) n l h = sym (ap (λ k. Some (pos k)) (one_power n)
 power_of_one (pos (suc (suc k))) n l h = absurd (omega arith)
 power_of_one (negsuc k) n l h = absurd (omega (arith, ints))
 
-pub power_of_minus_one : (x : ℤ) (n : ℕ) (p : ℤ) → nat_abs x < 2 → x <ℤ pos 0 → Some p ≡ power_of (negsuc 0) (pos n) → Some p ≡ power_of x (pos n)
+pub power_of_minus_one : (x : ℤ) (n : ℕ) (p : ℤ) → nat_abs x < 2 → x <ℤ pos 0 → Some p ≡ power_of (negsuc 0) (pos n)
+    → Some p ≡ power_of x (pos n)
 power_of_minus_one (pos k) n p l h e = absurd (omega (arith, ints))
 power_of_minus_one (negsuc zero) n p l h e = e
 power_of_minus_one (negsuc (suc k)) n p l h e = absurd (omega arith)
@@ -98,4 +99,14 @@ pub odd_power : (n : ℕ) → (n % 2 ≡ 0 → ⊥) → Some (negsuc 0) ≡ powe
 odd_power n p =
     sym (ap (λ b. Some (cond b (pos (1 ^ n)) (neg_ℤ (pos (1 ^ n))))) (ne_eqb (n % 2) 0 p) ∙ ap (λ j. Some (neg_ℤ (pos j))) (one_power n))
 
-pub ruleset powers = (power_of_one, power_of_minus_one, power_of_zero, no_power_of_zero, no_power_below, big_power, near_power, even_power, odd_power)
+pub ruleset powers = (
+  power_of_one,
+  power_of_minus_one,
+  power_of_zero,
+  no_power_of_zero,
+  no_power_below,
+  big_power,
+  near_power,
+  even_power,
+  odd_power,
+)

@@ -70,26 +70,32 @@ pub zero_product : (xs : List Value) → has_zero xs ≡ true → product_of xs 
 zero_product [] h = cc
 zero_product (x ∷ xs) h = go (int_eq (number_in x) (pos 0)) refl (λ e. zero_product xs e) h
   where
-    go : (b : Bool) → int_eq (number_in x) (pos 0) ≡ b → (has_zero xs ≡ true → product_of xs ≡ pos 0) → b || has_zero xs ≡ true → product_of (x ∷ xs) ≡ pos 0
+    go : (b : Bool) → int_eq (number_in x) (pos 0) ≡ b → (has_zero xs ≡ true → product_of xs ≡ pos 0) → b || has_zero xs ≡ true
+        → product_of (x ∷ xs) ≡ pos 0
     go true e ih h = ap (λ a. a *ℤ product_of xs) (is_0 (number_in x) e) ∙ zero-*ℤ (product_of xs)
     go false e ih h = ap (λ b. number_in x *ℤ b) (ih h) ∙ *ℤ-zero (number_in x)
 
-outside_before : (xs : List Val) (i : ℕ) → has_zero (map pure_val xs) ≡ false → in_64_bits (product_of (map pure_val (drop i xs))) ≡ false → in_64_bits (product_of (map pure_val xs)) ≡ false
+outside_before : (xs : List Val) (i : ℕ) → has_zero (map pure_val xs) ≡ false → in_64_bits (product_of (map pure_val (drop i xs))) ≡ false
+    → in_64_bits (product_of (map pure_val xs)) ≡ false
 outside_before xs zero z h = h
 outside_before [] (suc i) z h = h
 outside_before (x ∷ xs) (suc i) z h =
-    stays_outside (number_in (pure_val x)) (product_of (map pure_val xs)) (has_none (pure_val x) (map pure_val xs) z) (outside_before xs i (has_none_left (pure_val x) (map pure_val xs) z) h)
+    stays_outside (number_in (pure_val x)) (product_of (map pure_val xs)) (has_none (pure_val x) (map pure_val xs) z)
+    (outside_before xs i (has_none_left (pure_val x) (map pure_val xs) z) h)
 
 -- One more factor, from the last to the first.
-pub product_step : (xs : List Val) (i : ℕ) (x : Val) (p : ℤ) → i < length xs → x ≡ get_or xs i x → p ≡ product_of (map pure_val (drop (i + 1) xs))
+pub product_step : (xs : List Val) (i : ℕ) (x : Val) (p : ℤ) → i < length xs → x ≡ get_or xs i x
+    → p ≡ product_of (map pure_val (drop (i + 1) xs))
     → number_in (pure_val x) *ℤ p ≡ product_of (map pure_val (drop i xs))
 product_step xs i x p h is d =
     ap (λ q. number_in (pure_val x) *ℤ q) d ∙ ap (λ z. number_in (pure_val z) *ℤ product_of (map pure_val (drop (i + 1) xs))) is
     ∙ sym (at_drop_more (λ l. product_of (map pure_val l)) xs i x h)
 
 -- Where a part of the product is outside, the product is.
-pub product_outside : (xs : List Val) (i : ℕ) (x : Val) (p : ℤ) → i < length xs → x ≡ get_or xs i x → p ≡ product_of (map pure_val (drop (i + 1) xs))
-    → has_zero (map pure_val xs) ≡ false → in_64_bits (number_in (pure_val x) *ℤ p) ≡ false → in_64_bits (product_of (map pure_val xs)) ≡ false
+pub product_outside : (xs : List Val) (i : ℕ) (x : Val) (p : ℤ) → i < length xs → x ≡ get_or xs i x
+    → p ≡ product_of (map pure_val (drop (i + 1) xs))
+    → has_zero (map pure_val xs) ≡ false → in_64_bits (number_in (pure_val x) *ℤ p) ≡ false
+    → in_64_bits (product_of (map pure_val xs)) ≡ false
 product_outside xs i x p h is d z o = outside_before xs i z (ap in_64_bits (sym (product_step xs i x p h is d)) ∙ o)
 
 pub ruleset products = (zero_product, product_step, product_outside)

@@ -10,11 +10,13 @@ use Rattle.ess_core.specs.declared.values.Val.{Val}
 use Rattle.ess_core.specs.ValueViews.{pure_val, pure_vals}
 
 -- A node of an index whose operands have values.
-pub node_indexed : (v : Value) (qs : List Step) (os : List (Option Value)) (xs : List Value) → Some xs ≡ all_some os → value_of_node (index qs) (Some v ∷ os) ≡ path_value v qs xs
+pub node_indexed : (v : Value) (qs : List Step) (os : List (Option Value)) (xs : List Value) → Some xs ≡ all_some os
+    → value_of_node (index qs) (Some v ∷ os) ≡ path_value v qs xs
 node_indexed v qs os xs e = sym (ap (λ o. and_then (option_map (λ ys. v ∷ ys) o) (value_of_op (index qs))) e)
 
 -- One of whose steps has none.
-pub node_not_indexed : (v : Value) (qs : List Step) (os : List (Option Value)) → None ≡ all_some os → value_of_node (index qs) (Some v ∷ os) ≡ None
+pub node_not_indexed : (v : Value) (qs : List Step) (os : List (Option Value)) → None ≡ all_some os
+    → value_of_node (index qs) (Some v ∷ os) ≡ None
 node_not_indexed v qs os e = sym (ap (λ o. and_then (option_map (λ ys. v ∷ ys) o) (value_of_op (index qs))) e)
 
 no_item : (is : Values) (v : Value) → item_at is nil v ≡ None
@@ -26,18 +28,22 @@ pub items_ended : (is xs : List Val) (k : ℕ) (v : Value) → length xs ≤ k �
 items_ended is xs k v h = at_drop_all (λ l. item_at (pure_vals (drop k is)) (pure_vals l) v) xs k h ∙ no_item (pure_vals (drop k is)) v
 
 -- The next index, where this one is another.
-pub next_item : (is xs : List Val) (k : ℕ) (i : Val) (v : Value) → k < length is → k < length xs → i ≡ get_or is k i → same (pure_val i) v ≡ false
+pub next_item : (is xs : List Val) (k : ℕ) (i : Val) (v : Value) → k < length is → k < length xs → i ≡ get_or is k i
+    → same (pure_val i) v ≡ false
     → item_at (pure_vals (drop k is)) (pure_vals (drop k xs)) v ≡ item_at (pure_vals (drop (k + 1) is)) (pure_vals (drop (k + 1) xs)) v
 next_item is xs k i v h l e n =
     at_drop_more (λ js. item_at (pure_vals js) (pure_vals (drop k xs)) v) is k i h
     ∙ at_drop_more (λ ys. item_at (pure_vals (get_or is k i ∷ drop (k + 1) is)) (pure_vals ys) v) xs k i l
-    ∙ ap (λ b. if b then Some (pure_val (get_or xs k i)) else item_at (pure_vals (drop (k + 1) is)) (pure_vals (drop (k + 1) xs)) v) (ap (λ j. same (pure_val j) v) (sym e) ∙ n)
+    ∙ ap (λ b. if b then Some (pure_val (get_or xs k i)) else item_at (pure_vals (drop (k + 1) is)) (pure_vals (drop (k + 1) xs)) v)
+    (ap (λ j. same (pure_val j) v) (sym e) ∙ n)
 
 -- Components are counted from 1.
-pub component_there : (xs : List Val) (k j : ℕ) (x : Val) → k ≡ suc j → j < length xs → x ≡ get_or xs j x → Some (pure_val x) ≡ component (pure_vals xs) k
+pub component_there : (xs : List Val) (k j : ℕ) (x : Val) → k ≡ suc j → j < length xs → x ≡ get_or xs j x
+    → Some (pure_val x) ≡ component (pure_vals xs) k
 component_there [] k j x e h is = absurd (omega arith)
 component_there (y ∷ ys) k zero x e h is = ap (λ z. Some (pure_val z)) is ∙ ap (component (pure_vals (y ∷ ys))) (sym e)
-component_there (y ∷ ys) k (suc j) x e h is = component_there ys (suc j) j x refl (omega arith) is ∙ ap (component (pure_vals (y ∷ ys))) (sym e)
+component_there (y ∷ ys) k (suc j) x e h is = component_there ys (suc j) j x refl (omega arith) is
+    ∙ ap (component (pure_vals (y ∷ ys))) (sym e)
 
 -- Behind the last one there is none.
 pub component_past : (xs : List Val) (k : ℕ) → length xs < k → None ≡ component (pure_vals xs) k

@@ -11,5 +11,6 @@ pub sum_step : (xs : List Val) (i : ℕ) (x : Val) (t n s : ℤ) → i < length 
     → t +ℤ sum_of (map pure_val (drop i xs)) ≡ s → (t +ℤ n) +ℤ sum_of (map pure_val (drop (i + 1) xs)) ≡ s
 sum_step xs i x t n s h is e all =
     let a : sum_of (map pure_val (drop i xs)) ≡ number_in (pure_val x) +ℤ sum_of (map pure_val (drop (i + 1) xs)) =
-    at_drop_more (λ l. sum_of (map pure_val l)) xs i x h ∙ ap (λ z. number_in (pure_val z) +ℤ sum_of (map pure_val (drop (i + 1) xs))) (sym is) in
+    at_drop_more (λ l. sum_of (map pure_val l)) xs i x h
+    ∙ ap (λ z. number_in (pure_val z) +ℤ sum_of (map pure_val (drop (i + 1) xs))) (sym is) in
     omega (arith, ints, a, e, all)

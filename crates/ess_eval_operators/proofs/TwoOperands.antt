@@ -7,7 +7,8 @@ use Rattle.ess_semantics.specs.Operators.{value_of_node, value_of_binary, as_tru
 use Rattle.ess_eval_operators.specs.Connectives.{connects, connected}
 
 -- A connective's node.
-pub node_connected : (op : Op2) (o p : Option Value) → connects op ≡ true → value_of_node (binary op) (o ∷ p ∷ []) ≡ Some (truth (connected op (as_truth o) (as_truth p)))
+pub node_connected : (op : Op2) (o p : Option Value) → connects op ≡ true
+    → value_of_node (binary op) (o ∷ p ∷ []) ≡ Some (truth (connected op (as_truth o) (as_truth p)))
 node_connected Op2.And o p h = refl
 node_connected Op2.Or o p h = refl
 node_connected Op2.Implies o p h = refl

@@ -6,7 +6,8 @@ use Rattle.std.specs.Prelude.{false}
 use Rattle.ess_semantics.specs.Operators.{value_of_word2}
 
 -- No value of two operands is there for these but the misfit.
-pub misfit_of_two : (f : Fun) (a b : Value) → (f ≡ Fun.Image → ⊥) → (f ≡ Fun.PreImage → ⊥) → (f ≡ Fun.Freq → ⊥) → (f ≡ Fun.Party → ⊥) → (f ≡ Fun.Together → ⊥)
+pub misfit_of_two : (f : Fun) (a b : Value) → (f ≡ Fun.Image → ⊥) → (f ≡ Fun.PreImage → ⊥) → (f ≡ Fun.Freq → ⊥) → (f ≡ Fun.Party → ⊥)
+    → (f ≡ Fun.Together → ⊥)
     → value_of_word2 f a b ≡ Some (truth false)
 misfit_of_two Fun.Sum a b h0 h1 h2 h3 h4 = refl
 misfit_of_two Fun.Product a b h0 h1 h2 h3 h4 = refl

@@ -23,7 +23,8 @@ word_of_two f (q ∷ r ∷ []) o p l h k =
     ∙ ap (λ x. value_of_node (word f) (option_map pure_val q ∷ option_map pure_val x ∷ [])) k
 word_of_two f (q ∷ r ∷ s ∷ os) o p l h k = cc
 
-misfit_of_many : (f : Fun) (os : List (Option Value)) (xs : List Value) → (length os ≡ 1 → ⊥) → (length os ≡ 2 → ⊥) → Some xs ≡ all_some os → value_of_word f xs ≡ Some (truth false)
+misfit_of_many : (f : Fun) (os : List (Option Value)) (xs : List Value) → (length os ≡ 1 → ⊥) → (length os ≡ 2 → ⊥) → Some xs ≡ all_some os
+    → value_of_word f xs ≡ Some (truth false)
 misfit_of_many f [] [] a b e = refl
 misfit_of_many f [] (x ∷ xs) a b e = cc
 misfit_of_many f (o ∷ []) xs a b e = absurd (a refl)
@@ -33,7 +34,8 @@ misfit_of_many f (Some x ∷ None ∷ q ∷ os) xs a b e = cc
 misfit_of_many f (Some x ∷ Some y ∷ None ∷ os) xs a b e = cc
 misfit_of_many f (Some x ∷ Some y ∷ Some z ∷ os) xs a b e = go (all_some os) e
   where
-    go : (o : Option (List Value)) → Some xs ≡ option_map (λ ys. x ∷ ys) (option_map (λ ys. y ∷ ys) (option_map (λ ys. z ∷ ys) o)) → value_of_word f xs ≡ Some (truth false)
+    go : (o : Option (List Value)) → Some xs ≡ option_map (λ ys. x ∷ ys) (option_map (λ ys. y ∷ ys) (option_map (λ ys. z ∷ ys) o))
+        → value_of_word f xs ≡ Some (truth false)
     go None e = cc
     go (Some zs) e = let q : xs ≡ x ∷ y ∷ z ∷ zs = cc in ap (value_of_word f) q
 
@@ -41,13 +43,15 @@ length_of_views : (os : List (Option Val)) → length (map (option_map pure_val)
 length_of_views [] = refl
 length_of_views (o ∷ os) = ap (λ n. suc n) (length_of_views os)
 
-pub word_of_many : (f : Fun) (os : List (Option Val)) (xs : List Value) → (length os ≡ 1 → ⊥) → (length os ≡ 2 → ⊥) → Some xs ≡ all_some (map (option_map pure_val) os)
+pub word_of_many : (f : Fun) (os : List (Option Val)) (xs : List Value) → (length os ≡ 1 → ⊥) → (length os ≡ 2 → ⊥)
+    → Some xs ≡ all_some (map (option_map pure_val) os)
     → Some (truth false) ≡ value_of_node (word f) (map (option_map pure_val) os)
 word_of_many f os xs a b e =
     sym (ap (λ o. and_then o (value_of_op (word f))) (sym e)
     ∙ misfit_of_many f (map (option_map pure_val) os) xs (λ q. a (sym (length_of_views os) ∙ q)) (λ q. b (sym (length_of_views os) ∙ q)) e)
 
-pub word_of_none : (f : Fun) (os : List (Option Val)) → None ≡ all_some (map (option_map pure_val) os) → None ≡ value_of_node (word f) (map (option_map pure_val) os)
+pub word_of_none : (f : Fun) (os : List (Option Val)) → None ≡ all_some (map (option_map pure_val) os)
+    → None ≡ value_of_node (word f) (map (option_map pure_val) os)
 word_of_none f os e = ap (λ o. and_then o (value_of_op (word f))) e
 
 pub ruleset word_operands = (word_of_one, word_of_two, word_of_many, word_of_none)

@@ -21,7 +21,8 @@ pub fn value_of_application(
     of: Option<&Val>,
     arguments: &[Option<Val>],
 ) -> Result<Option<Val>, NoMemory>
-    ensures { IfOk result (λ o. option_map pure_val o ≡ value_of_node application (option_map pure_val (option_copied of.entry) ∷ map (option_map pure_val) arguments.now)) }
+    ensures { IfOk result (λ o. option_map pure_val o
+        ≡ value_of_node application (option_map pure_val (option_copied of.entry) ∷ map (option_map pure_val) arguments.now)) }
 {
     match of {
         Some(val) => match present(alloc, arguments)? {

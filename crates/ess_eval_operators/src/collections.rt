@@ -36,7 +36,8 @@ pub(crate) fn included(alloc: Global, a: &Val, b: &Val) -> Result<bool, NoMemory
 /// Whether every item of a list is one of a value at least as often. `NoMemory` where there is no room to tell.
 #[tactic(auto, using(crate::proofs::ItemLists::listed_items))]
 fn all_in(alloc: Global, items: &[Val], b: &Val) -> Result<bool, NoMemory>
-    ensures { IfOk result (λ r. r ≡ list_all (λ x. nat_le (the_count (map pure_val items.now) x) (the_count (the_items (pure_val b.now)) x)) (map pure_val items.now)) }
+    ensures { IfOk result (λ r. r ≡ list_all
+        (λ x. nat_le (the_count (map pure_val items.now) x) (the_count (the_items (pure_val b.now)) x)) (map pure_val items.now)) }
 {
     let spare = spare(alloc, b)?;
     Ok(within(items, listed(b, spare.as_slice())))
@@ -45,7 +46,8 @@ fn all_in(alloc: Global, items: &[Val], b: &Val) -> Result<bool, NoMemory>
 /// The items of both, as a value of the kind of the first. `NoMemory` where there is no room for them, and where no value
 /// of that kind has them, which may be so for a matrix, a record or a function alone.
 pub(crate) fn intersection(alloc: Global, a: &Val, b: &Val) -> Result<Val, NoMemory>
-    ensures { IfOk result (λ v. pure_val v ≡ of_same_kind (pure_val a.now) (filter (λ x. is_held (the_items (pure_val b.now)) x) (the_items (pure_val a.now)))) }
+    ensures { IfOk result (λ v. pure_val v
+        ≡ of_same_kind (pure_val a.now) (filter (λ x. is_held (the_items (pure_val b.now)) x) (the_items (pure_val a.now)))) }
 {
     let kept = both(alloc, a, b)?;
     of_kind(alloc, a, kept)
@@ -71,7 +73,8 @@ fn those_in(alloc: Global, items: &[Val], b: &Val) -> Result<Row<Val>, NoMemory>
 
 /// The items of either, sorted and each once, as a value of the kind of the first. `NoMemory` as for the items of both.
 pub(crate) fn union(alloc: Global, a: &Val, b: &Val) -> Result<Val, NoMemory>
-    ensures { IfOk result (λ v. pure_val v ≡ of_same_kind (pure_val a.now) (the_sorted_once (the_items (pure_val a.now) ++ the_items (pure_val b.now)))) }
+    ensures { IfOk result (λ v. pure_val v
+        ≡ of_same_kind (pure_val a.now) (the_sorted_once (the_items (pure_val a.now) ++ the_items (pure_val b.now)))) }
 {
     let mut all = items_of(alloc, a)?;
     let mut more = items_of(alloc, b)?;

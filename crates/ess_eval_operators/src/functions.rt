@@ -126,7 +126,8 @@ pub(crate) fn results(alloc: Global, items: &[Val]) -> Result<Row<Val>, NoMemory
 
 /// Copies of the first parts of the pairs whose second part is this value. `NoMemory` where there is no room for them.
 pub(crate) fn arguments_of(alloc: Global, items: &[Val], to: &Val) -> Result<Row<Val>, NoMemory>
-    ensures { IfOk result (λ r. map pure_val r ≡ map the_from (filter (λ p. are_same (the_to p) (pure_val to.now)) (map pure_val items.now))) }
+    ensures { IfOk result (λ r. map pure_val r
+        ≡ map the_from (filter (λ p. are_same (the_to p) (pure_val to.now)) (map pure_val items.now))) }
 {
     let mut found = Row::new(alloc);
     for item in items {

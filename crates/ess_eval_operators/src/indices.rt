@@ -24,7 +24,9 @@ pub fn value_at_steps(
     steps: &[Step],
     at: &[Option<Val>],
 ) -> Result<Option<Val>, NoMemory>
-    ensures { IfOk result (λ o. option_map pure_val o ≡ value_of_node (index (words_of (map pure_step steps.now))) (option_map pure_val (option_copied of.entry) ∷ map (option_map pure_val) at.now)) }
+    ensures { IfOk result (λ o. option_map pure_val o
+        ≡ value_of_node (index (words_of (map pure_step steps.now)))
+        (option_map pure_val (option_copied of.entry) ∷ map (option_map pure_val) at.now)) }
 {
     match of {
         Some(val) => match present(alloc, at)? {
@@ -42,7 +44,9 @@ fn reached(
     steps: &[Step],
     at: &[Val],
 ) -> Result<Option<Val>, NoMemory>
-    ensures { IfOk result (λ o. option_map pure_val o ≡ path_value (or_default (option_map pure_val (option_copied here.entry)) misfit) (words_of (map pure_step steps.now)) (map pure_val at.now)) }
+    ensures { IfOk result (λ o. option_map pure_val o
+        ≡ path_value (or_default (option_map pure_val (option_copied here.entry)) misfit) (words_of (map pure_step steps.now))
+        (map pure_val at.now)) }
 {
     match steps.split_first() {
         None => {
@@ -80,7 +84,8 @@ fn or_misfit(alloc: Global, here: Option<&Val>) -> Result<Option<Val>, NoMemory>
 /// The item of what was reached at an index, where it is a matrix with this index.
 #[tactic(auto, using(crate::proofs::Steps::steps))]
 fn item_of<'a>(here: Option<&'a Val>, at: &Val) -> Option<&'a Val>
-    ensures { option_map pure_val (option_copied result) ≡ at_index (or_default (option_map pure_val (option_copied here.entry)) misfit) (pure_val at.now) }
+    ensures { option_map pure_val (option_copied result)
+        ≡ at_index (or_default (option_map pure_val (option_copied here.entry)) misfit) (pure_val at.now) }
 {
     match here {
         Some(Val::Matrix(index, items)) => item_at(index.as_slice(), items.as_slice(), at),
@@ -107,7 +112,8 @@ fn item_at<'a>(index: &[Val], items: &'a [Val], at: &Val) -> Option<&'a Val>
 /// The component of what was reached, counted from 1, where it is a tuple that has it.
 #[tactic(auto, using(crate::proofs::Steps::steps))]
 fn component_of(here: Option<&Val>, k: u64) -> Option<&Val>
-    ensures { or_default (option_map pure_val (option_copied result)) misfit ≡ at_component (or_default (option_map pure_val (option_copied here.entry)) misfit) k }
+    ensures { or_default (option_map pure_val (option_copied result)) misfit
+        ≡ at_component (or_default (option_map pure_val (option_copied here.entry)) misfit) k }
 {
     match here {
         Some(Val::Tuple(parts)) => component(parts.as_slice(), k),
@@ -133,7 +139,8 @@ fn component(parts: &[Val], k: u64) -> Option<&Val>
 /// The field of what was reached, where it is a record that has it.
 #[tactic(auto, using(crate::proofs::Steps::steps))]
 fn field_of<'a>(here: Option<&'a Val>, name: &Text) -> Option<&'a Val>
-    ensures { or_default (option_map pure_val (option_copied result)) misfit ≡ at_field (or_default (option_map pure_val (option_copied here.entry)) misfit) name.now }
+    ensures { or_default (option_map pure_val (option_copied result)) misfit
+        ≡ at_field (or_default (option_map pure_val (option_copied here.entry)) misfit) name.now }
 {
     match here {
         Some(Val::Rec(fields)) => field_at(fields.as_slice(), name),
@@ -143,7 +150,8 @@ fn field_of<'a>(here: Option<&'a Val>, name: &Text) -> Option<&'a Val>
 
 /// The value of the field with this name, where there is one.
 fn field_at<'a>(fields: &'a [FieldVal], name: &Text) -> Option<&'a Val>
-    ensures { option_map pure_val (option_copied result) ≡ the_field_at (keys (map pure_field_val fields.now)) (of_list (map (λ f. f.1) (map pure_field_val fields.now))) name.now }
+    ensures { option_map pure_val (option_copied result)
+        ≡ the_field_at (keys (map pure_field_val fields.now)) (of_list (map (λ f. f.1) (map pure_field_val fields.now))) name.now }
 {
     for field in fields {
         if field.name.cmp(name) == Ordering::Equal {

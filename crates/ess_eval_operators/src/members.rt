@@ -35,7 +35,8 @@ pub(crate) fn count(items: &[Val], val: &Val) -> usize
 
 /// Whether every item of the first list is in the second at least as often.
 pub(crate) fn within(items: &[Val], others: &[Val]) -> bool
-    ensures { result ≡ list_all (λ x. nat_le (the_count (map pure_val items.now) x) (the_count (map pure_val others.now) x)) (map pure_val items.now) }
+    ensures { result ≡ list_all (λ x. nat_le (the_count (map pure_val items.now) x) (the_count (map pure_val others.now) x))
+        (map pure_val items.now) }
 {
     for item in items {
         if count(items, item) > count(others, item) {

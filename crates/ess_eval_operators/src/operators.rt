@@ -72,8 +72,11 @@ pub fn value_of_binary(
     a: Option<&Val>,
     b: Option<&Val>,
 ) -> Result<Option<Val>, OperateNo>
-    ensures ok { IfOk result (λ o. option_map pure_val o ≡ value_of_node (binary op) (option_map pure_val (option_copied a.entry) ∷ option_map pure_val (option_copied b.entry) ∷ [])) }
-    ensures big { result ≡ Err Big → is_big (value_of_node (binary op) (option_map pure_val (option_copied a.entry) ∷ option_map pure_val (option_copied b.entry) ∷ [])) ≡ true }
+    ensures ok { IfOk result (λ o. option_map pure_val o
+        ≡ value_of_node (binary op) (option_map pure_val (option_copied a.entry) ∷ option_map pure_val (option_copied b.entry) ∷ [])) }
+    ensures big { result ≡ Err Big
+        → is_big (value_of_node (binary op)
+        (option_map pure_val (option_copied a.entry) ∷ option_map pure_val (option_copied b.entry) ∷ [])) ≡ true }
 {
     if is_connective(op) {
         return Ok(Some(Val::Truth(connected(op, is_true(a), is_true(b)))));

@@ -19,7 +19,8 @@ pub fn record_value(
     fields: &[FieldEx],
     vals: Row<Option<Val>>,
 ) -> Result<Option<Val>, NoMemory>
-    ensures { IfOk result (λ o. option_map pure_val o ≡ value_of_node (record_literal (keys (map pure_field_ex fields.now))) (map (option_map pure_val) vals)) }
+    ensures { IfOk result (λ o. option_map pure_val o
+        ≡ value_of_node (record_literal (keys (map pure_field_ex fields.now))) (map (option_map pure_val) vals)) }
 {
     match all_present(alloc, vals)? {
         Some(vals) => {

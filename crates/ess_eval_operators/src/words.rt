@@ -42,8 +42,11 @@ pub fn value_of_word2(
     a: Option<&Val>,
     b: Option<&Val>,
 ) -> Result<Option<Val>, OperateNo>
-    ensures ok { IfOk result (λ o. option_map pure_val o ≡ value_of_node (a_word word) (option_map pure_val (option_copied a.entry) ∷ option_map pure_val (option_copied b.entry) ∷ [])) }
-    ensures big { result ≡ Err Big → is_big (value_of_node (a_word word) (option_map pure_val (option_copied a.entry) ∷ option_map pure_val (option_copied b.entry) ∷ [])) ≡ true }
+    ensures ok { IfOk result (λ o. option_map pure_val o
+        ≡ value_of_node (a_word word) (option_map pure_val (option_copied a.entry) ∷ option_map pure_val (option_copied b.entry) ∷ [])) }
+    ensures big { result ≡ Err Big
+        → is_big (value_of_node (a_word word)
+        (option_map pure_val (option_copied a.entry) ∷ option_map pure_val (option_copied b.entry) ∷ [])) ≡ true }
 {
     match a {
         Some(left) => match b {
@@ -113,7 +116,8 @@ fn of_two(alloc: Global, word: Fun, a: &Val, b: &Val) -> Result<Option<Val>, Ope
 /// Copies of the arguments at which a function has a value. `NoMemory` where there is no room for them.
 #[tactic(auto, using(crate::proofs::ItemLists::listed_items))]
 fn origins(alloc: Global, function: &Val, to: &Val) -> Result<Row<Val>, NoMemory>
-    ensures { IfOk result (λ r. map pure_val r ≡ map the_from (filter (λ p. are_same (the_to p) (pure_val to.now)) (the_items (pure_val function.now)))) }
+    ensures { IfOk result (λ r. map pure_val r
+        ≡ map the_from (filter (λ p. are_same (the_to p) (pure_val to.now)) (the_items (pure_val function.now)))) }
 {
     let spare = spare(alloc, function)?;
     arguments_of(alloc, listed(function, spare.as_slice()), to)

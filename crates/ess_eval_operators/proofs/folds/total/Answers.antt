@@ -13,7 +13,8 @@ loop-item-preserved c =
     let is : next ≡ to_z w128 c.loop-item.total-bits +ℤ c.number_in.result = omega (arith, ints) in
     record {
       summed = ap (λ t. t +ℤ sum_of (map pure_val (drop (c.loop-item.item-index + 1) c.args.items.now))) is
-          ∙ sum_step c.args.items.now c.loop-item.item-index c.item-item.result (to_z w128 c.loop-item.total-bits) c.number_in.result _ c.loop-item-test.true c.item-item.is c.number_in.ensures c.loop-item.invariant.summed;
+          ∙ sum_step c.args.items.now c.loop-item.item-index c.item-item.result (to_z w128 c.loop-item.total-bits)
+          c.number_in.result _ c.loop-item-test.true c.item-item.is c.number_in.ensures c.loop-item.invariant.summed;
       low = omega (arith, ints);
       high = omega (arith, ints);
     }

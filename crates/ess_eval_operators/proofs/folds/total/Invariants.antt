@@ -4,4 +4,8 @@ use Rattle.ess_core.specs.ValueViews.{pure_val}
 use Rattle.ess_eval_operators.proofs.folds.total.Given as goal
 
 abbrev pub invariant-loop-item : goal.invariant-loop-item
-invariant-loop-item l = record { summed : l.total +ℤ sum_of (map pure_val (drop l.item-index l.items)) ≡ sum_of (map pure_val l.items); low : neg_ℤ (pos (l.item-index * 9223372036854775808)) ≤ℤ l.total; high : l.total ≤ℤ pos (l.item-index * 9223372036854775808) }
+invariant-loop-item l = record {
+  summed : l.total +ℤ sum_of (map pure_val (drop l.item-index l.items)) ≡ sum_of (map pure_val l.items);
+  low : neg_ℤ (pos (l.item-index * 9223372036854775808)) ≤ℤ l.total;
+  high : l.total ≤ℤ pos (l.item-index * 9223372036854775808);
+}

@@ -4,4 +4,5 @@ use Rattle.ess_core.specs.ValueViews.{pure_val}
 use Rattle.ess_eval_operators.proofs.functions.value_at_items.Given as goal
 
 abbrev pub invariant-loop-item : goal.invariant-loop-item
-invariant-loop-item l = value_at (map pure_val l.items) (pure_val l.at) ≡ value_at (map pure_val (drop l.item-index l.items)) (pure_val l.at)
+invariant-loop-item l = value_at (map pure_val l.items) (pure_val l.at)
+    ≡ value_at (map pure_val (drop l.item-index l.items)) (pure_val l.at)

@@ -4,4 +4,5 @@ use Rattle.ess_core.specs.ValueViews.{pure_val, pure_pair}
 use Rattle.ess_eval_operators.proofs.functions.value_at_pairs.Given as goal
 
 abbrev pub invariant-loop-pair : goal.invariant-loop-pair
-invariant-loop-pair l = value_at (map pure_pair l.pairs) (pure_val l.at) ≡ value_at (map pure_pair (drop l.pair-index l.pairs)) (pure_val l.at)
+invariant-loop-pair l = value_at (map pure_pair l.pairs) (pure_val l.at)
+    ≡ value_at (map pure_pair (drop l.pair-index l.pairs)) (pure_val l.at)

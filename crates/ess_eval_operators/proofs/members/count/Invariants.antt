@@ -4,4 +4,8 @@ use Rattle.ess_core.specs.ValueViews.{pure_val}
 use Rattle.ess_eval_operators.proofs.members.count.Given as goal
 
 abbrev pub invariant-loop-item : goal.invariant-loop-item
-invariant-loop-item l = record { counted : l.found + count (map pure_val (drop l.item-index l.items)) (pure_val l.val) ≡ count (map pure_val l.items) (pure_val l.val); few : l.found ≤ l.item-index }
+invariant-loop-item l = record {
+  counted : l.found + count (map pure_val (drop l.item-index l.items)) (pure_val l.val)
+      ≡ count (map pure_val l.items) (pure_val l.val);
+  few : l.found ≤ l.item-index;
+}

@@ -5,4 +5,5 @@ use Rattle.ess_core.specs.ValueViews.{pure_val}
 use Rattle.ess_eval_operators.proofs.members.remaining.Given as goal
 
 abbrev pub invariant-loop-item : goal.invariant-loop-item
-invariant-loop-item l = map pure_val l.kept ++ filter (λ x. not (holds (map pure_val l.others) x)) (map pure_val (drop l.item-index l.items)) ≡ filter (λ x. not (holds (map pure_val l.others) x)) (map pure_val l.items)
+invariant-loop-item l = map pure_val l.kept ++ filter (λ x. not (holds (map pure_val l.others) x))
+    (map pure_val (drop l.item-index l.items)) ≡ filter (λ x. not (holds (map pure_val l.others) x)) (map pure_val l.items)
