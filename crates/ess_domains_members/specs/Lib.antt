@@ -1,1 +1,2 @@
 -- What the contracts of this crate say beside the definitions of the meaning
+pub mod Leaves
