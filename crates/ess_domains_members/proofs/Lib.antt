@@ -4,3 +4,6 @@ pub mod SpanLemmas
 pub mod MatrixLeaves
 pub mod MatrixItems
 pub mod SetParts
+pub mod PartitionForms
+pub mod MemberForms
+pub mod MemberLoops

@@ -3,9 +3,12 @@
 
 mod atoms;
 mod counting;
+mod fields;
+mod forms;
 mod functions;
 mod lists;
 mod matrices;
+mod member;
 mod numbers;
 mod pairs;
 mod partitions;
@@ -17,6 +20,7 @@ pub use atoms::{in_spans, is_item};
 pub use functions::function_attributes_hold;
 pub use lists::{arguments_rise, holds, rises, rises_weakly, same, same_list};
 pub use matrices::leaves;
+pub use member::is_member;
 pub use partitions::partition_attributes_hold;
 pub use parts::are_apart;
 pub use relations::relation_attributes_hold;
