@@ -1,0 +1,8 @@
+mod Examples
+pub mod Looks
+pub mod Tables
+pub mod Rows
+pub mod Turns
+pub mod Walks
+pub mod Fits
+pub mod Levels
