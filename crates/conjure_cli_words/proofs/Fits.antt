@@ -6,7 +6,8 @@ use Rattle.clap.specs.Walk.{Row, Rule}
 use Rattle.clap.specs.Takes.{is_given}
 use Rattle.conjure_cli_words.specs.Items.{Text, Item, Name, knows, long, operand, option, same_name, short}
 use Rattle.conjure_cli_words.specs.Forms.{Form, fitting, gives, once_after, operands_of}
-use Rattle.conjure_cli_words.proofs.Tables.{Entries, and_true, id_of, operand_id, or_false, rules_of}
+use Rattle.conjure_cli_words.specs.Parsers.{Entries, id_of, operand_id}
+use Rattle.conjure_cli_words.proofs.Tables.{and_true, or_false, rules_of}
 use Rattle.conjure_cli_words.proofs.Rows.{given_row, has_operand, row-given, row-operand, row_for}
 use Rattle.conjure_cli_words.proofs.Walks.{adds, operand-append, rows_of}
 

@@ -9,7 +9,8 @@ use Rattle.clap.specs.Faults.{built_fault, check_fault, default_fault, defaults_
 use Rattle.clap.proofs.FaultLemmas.{leaf_fault}
 use Rattle.conjure_cli_words.specs.Items.{Text, Item, Name, items_of, long, short}
 use Rattle.conjure_cli_words.specs.Forms.{Form, fitting, read_as}
-use Rattle.conjure_cli_words.proofs.Tables.{Entries, names_in, operand_rule, rule_for, rules_of}
+use Rattle.conjure_cli_words.specs.Parsers.{Entries}
+use Rattle.conjure_cli_words.proofs.Tables.{names_in, operand_rule, rule_for, rules_of}
 use Rattle.conjure_cli_words.proofs.Rows.{row_for}
 use Rattle.conjure_cli_words.proofs.Turns.{no_fault, no_fault-or_else, shape}
 use Rattle.conjure_cli_words.proofs.Walks.{adds, outcome, rows_of, told, walk-items}

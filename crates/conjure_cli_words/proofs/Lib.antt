@@ -6,3 +6,6 @@ pub mod Turns
 pub mod Walks
 pub mod Fits
 pub mod Levels
+pub mod Parsed
+pub mod Digits
+pub mod Found

@@ -11,7 +11,8 @@ use Rattle.clap.specs.declared.builder.value_parser.Reading.TheVariants as readi
 use Rattle.clap.specs.declared.parser.matches.ValueSource.TheVariants.{CommandLine}
 use Rattle.conjure_cli_words.specs.Items.{Text, Name, Item, option, operand, same_name}
 use Rattle.conjure_cli_words.specs.Forms.{gives, operands_of, value_in}
-use Rattle.conjure_cli_words.proofs.Tables.{id_of, made, operand_id, operand_no_option, option_no_operand, same_id}
+use Rattle.conjure_cli_words.specs.Parsers.{id_of, operand_id}
+use Rattle.conjure_cli_words.proofs.Tables.{made, operand_no_option, option_no_operand, same_id}
 
 abbrev pub row : Text → Text → Row
 row id value = record { id = id; values = value ∷ []; count = None; source = Some CommandLine; reading = reading.AsWritten }

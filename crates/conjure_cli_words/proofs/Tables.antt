@@ -7,6 +7,7 @@ use Rattle.clap.specs.Walk.{Rule, arg_by_id, arg_by_index, arg_by_long, arg_by_s
 use Rattle.clap.specs.declared.builder.action.ArgAction.TheVariants.{Set}
 use Rattle.clap.specs.declared.builder.value_parser.ValueParser.TheVariants as vp
 use Rattle.conjure_cli_words.specs.Items.{Text, Name, short, long, same_name, knows}
+use Rattle.conjure_cli_words.specs.Parsers.{Entries, id_of, operand_id}
 
 pub and_false : (b : Bool) → (b && false) ≡ false
 and_false true = refl
@@ -19,14 +20,6 @@ and_true false = refl
 pub or_false : (b : Bool) → (b || false) ≡ b
 or_false true = refl
 or_false false = refl
-
--- the id of an option, and of the operand
-abbrev pub id_of : Name → Text
-id_of (short x) = x ∷ []
-id_of (long n) = 45 ∷ 45 ∷ n
-
-abbrev pub operand_id : Text
-operand_id = codes "operand"
 
 -- a rule of one value
 abbrev pub made : Text → Option Text → Option ℕ → Option ℕ → Bool → Rule
@@ -56,10 +49,6 @@ rule_for required (long n) = made (id_of (long n)) (Some n) None None required
 
 abbrev pub operand_rule : Rule
 operand_rule = made operand_id None None (Some 1) true
-
--- an option's name, and whether it has to stand
-abbrev pub Entries : Type 0
-Entries = List (Name × Bool)
 
 abbrev pub operand_rules : Bool → List Rule
 operand_rules true = operand_rule ∷ []

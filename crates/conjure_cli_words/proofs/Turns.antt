@@ -13,7 +13,8 @@ use Rattle.clap.specs.Faults.{bundle_fault, bundle_step_fault, flag_word_fault, 
 use Rattle.conjure_cli_words.specs.Items.{Text, Look, Name, short, long, named, look_of, knows}
 use Rattle.conjure_cli_words.specs.Items as look
 use Rattle.conjure_cli_words.proofs.Looks.{HasFirst, HasNoFirst, Sees, dashes, sees}
-use Rattle.conjure_cli_words.proofs.Tables.{Entries, by_long, by_long-none, by_short, by_short-none, names_in, rule_for, rules_of}
+use Rattle.conjure_cli_words.specs.Parsers.{Entries}
+use Rattle.conjure_cli_words.proofs.Tables.{by_long, by_long-none, by_short, by_short-none, names_in, rule_for, rules_of}
 
 abbrev pub no_fault : Kinds → Bool
 no_fault [] = true

@@ -15,7 +15,8 @@ use Rattle.clap.specs.Faults.{positional_fault, react_fault, settle_fault, stray
 use Rattle.conjure_cli_words.specs.Items.{Text, Item, Look, Name, Next, ends, item, items_from, items_of_option, items_of_word, knows, long, look_of, named, operand, option, plain, short, then_item, value_of}
 use Rattle.conjure_cli_words.specs.Forms.{gives}
 use Rattle.conjure_cli_words.proofs.Looks.{Sees, dashes, sees}
-use Rattle.conjure_cli_words.proofs.Tables.{Entries, and_false, by_id, by_index, id_for, id_of, made, names_in, operand_by_id, operand_id, operand_rule, or_false, rule_for, rules_of}
+use Rattle.conjure_cli_words.specs.Parsers.{Entries, id_of, operand_id}
+use Rattle.conjure_cli_words.proofs.Tables.{and_false, by_id, by_index, id_for, made, names_in, operand_by_id, operand_rule, or_false, rule_for, rules_of}
 use Rattle.conjure_cli_words.proofs.Rows.{has_operand, row, row-given, row-operand, row_for, used_first}
 use Rattle.conjure_cli_words.proofs.Turns.{Pending, held, no_fault, no_fault-or_else, option_turn, shape, stand, turn_ends, turn_known, turn_plain, turn_unknown, turned}
 

@@ -1,3 +1,4 @@
 pub mod Items
 pub mod Forms
 pub mod Commands
+pub mod Parsers

@@ -1,0 +1,11 @@
+use Rattle.std.proofs.Common.{◌≡◌, ◌<◌, length, rules, true}
+use Rattle.std.specs.List.{list_all}
+use Rattle.conjure_cli_words.specs.Commands.{is_digit}
+use Rattle.conjure_cli_words.proofs.Digits.{number_refused}
+use Rattle.conjure_cli_words.proofs.numbers.number_of.Goals as goal
+
+pub returns-in_default-2 : goal.returns-in_default-2
+returns-in_default-2 c =
+    let some : 0 < length c.args.text.now = search rules in
+    let digits : list_all is_digit c.args.text.now ≡ true = search rules in
+    number_refused c.args.text.now c.in_default.field-0 c.in_default.ensures.value.0 some digits
