@@ -1,5 +1,7 @@
 -- Digits that std's `parse` reads are the digits of a number in words.
-use Rattle.std.proofs.Common.{◌≡◌, ◌∙◌, ◌<◌, ◌≤◌, ◌-◌, ◌^◌, ℕ, Bool, cond, ◌&&◌, true, false, List, [], ◌∷◌, length, Option, Some, None, Result, Ok, Err, refl, sym, ap, ap₂, subst, arith, lt_of_le_of_lt, nat_lt, leb-true, get_or, ne_eqb, lt-ltb, le-leb, le-ltb}
+use Rattle.std.proofs.Common.{◌≡◌, ◌∙◌, ◌<◌, ◌≤◌, ◌-◌, ◌^◌, ℕ, Bool, cond, ◌&&◌, true, false, List, [], ◌∷◌, length, Option, Some, None}
+use Rattle.std.proofs.Common.{Result, Ok, Err, refl, sym, ap, ap₂, subst, arith, lt_of_le_of_lt, nat_lt, leb-true, get_or, ne_eqb, lt-ltb}
+use Rattle.std.proofs.Common.{le-leb, le-ltb}
 use Rattle.std.proofs.lemmas.Bool.{lt-leb}
 use Rattle.std.specs.Prelude.{nat_le}
 use Rattle.std.specs.List.{list_all}
@@ -26,7 +28,8 @@ all_digits (c ∷ rest) e = let h = both (is_digit c) (list_all is_digit rest) e
 
 no_plus : (text : Text) → list_all is_digit text ≡ true → without_leading_plus text ≡ text
 no_plus [] e = refl
-no_plus (c ∷ rest) e = without_leading_plus_none (c ∷ rest) (λ plus. let b = is_digit-bounds c (both (is_digit c) (list_all is_digit rest) e).0 in omega (arith, b.0, b.1, plus))
+no_plus (c ∷ rest) e = without_leading_plus_none (c ∷ rest)
+    (λ plus. let b = is_digit-bounds c (both (is_digit c) (list_all is_digit rest) e).0 in omega (arith, b.0, b.1, plus))
 
 abbrev MOST : ℕ
 MOST = 9223372036854775807
@@ -36,13 +39,16 @@ number_at : (text : Text) (b : Bool) → 0 < length text → list_all is_digit t
 number_at text b some digits e =
     (λ i. cond (lt-ltb 0 (length text) some i && (digits i && e i)) (Some (digits_value 10 text)) None)
 
-number_either : (text : Text) (b : Bool) → 0 < length text → list_all is_digit text ≡ true → (IsNumeral 10 (without_leading_plus text) × (digits_value 10 (without_leading_plus text) < 2 ^ 64) → ⊥)
+number_either : (text : Text) (b : Bool) → 0 < length text → list_all is_digit text ≡ true
+    → (IsNumeral 10 (without_leading_plus text) × (digits_value 10 (without_leading_plus text) < 2 ^ 64) → ⊥)
     → nat_le (digits_value 10 text) MOST ≡ b → None ≡ number_of text
 number_either text false some digits fails e = sym (number_at text false some digits e)
 number_either text true some digits fails e =
     let small : digits_value 10 text < 2 ^ 64 = lt_of_le_of_lt (leb-true (digits_value 10 text) MOST e) (omega arith) in
-    absurd (fails (subst (λ (ds : Text). IsNumeral 10 ds × (digits_value 10 ds < 2 ^ 64)) (sym (no_plus text digits)) ((some, all_digits text digits), small)))
+    absurd (fails (subst (λ (ds : Text). IsNumeral 10 ds × (digits_value 10 ds < 2 ^ 64)) (sym (no_plus text digits))
+    ((some, all_digits text digits), small)))
 
 -- digits that `parse` refuses are too large
-pub number_refused : {E : Type 0} (text : Text) (e : E) → ParsesUnsigned {E = E} 64 10 text (Err e) → 0 < length text → list_all is_digit text ≡ true → None ≡ number_of text
+pub number_refused : {E : Type 0} (text : Text) (e : E) → ParsesUnsigned {E = E} 64 10 text (Err e) → 0 < length text
+    → list_all is_digit text ≡ true → None ≡ number_of text
 number_refused text e parsed some digits = number_either text (nat_le (digits_value 10 text) MOST) some digits parsed refl

@@ -91,7 +91,8 @@ twice : spoken (codes "modelling" ∷ codes "-oa" ∷ codes "-ob" ∷ codes "c" 
 unfolding chars encode_utf8
 twice = refl
 
-parameter : spoken (codes "translate-parameter" ∷ codes "--essence-param" ∷ codes "p" ∷ codes "--eprime-param=q" ∷ codes "--eprime" ∷ codes "m" ∷ [])
+parameter : spoken (codes "translate-parameter" ∷ codes "--essence-param" ∷ codes "p" ∷ codes "--eprime-param=q" ∷ codes "--eprime" ∷ codes
+    "m" ∷ [])
     ≡ Some (Parameter (codes "m") (codes "p") (codes "q"))
 parameter = refl
 

@@ -1,5 +1,6 @@
 -- Items that are added one by one, and a check that what is required is there, are items that fit a form.
-use Rattle.std.proofs.Common.{◌≡◌, ◌∙◌, ℕ, ◌==◌, ◌&&◌, ◌||◌, not, Bool, cond, true, false, List, [], ◌∷◌, ◌++◌, map, length, Option, Some, None, refl, sym, ap, ap₂, append-nil, append_assoc, arith, ne_eqb}
+use Rattle.std.proofs.Common.{◌≡◌, ◌∙◌, ℕ, ◌==◌, ◌&&◌, ◌||◌, not, Bool, cond, true, false, List, [], ◌∷◌, ◌++◌, map, length, Option, Some}
+use Rattle.std.proofs.Common.{None, refl, sym, ap, ap₂, append-nil, append_assoc, arith, ne_eqb}
 use Rattle.std.specs.Prelude.{option_map, option_and_then}
 use Rattle.std.specs.List.{list_all, list_any}
 use Rattle.clap.specs.Walk.{Row, Rule}
@@ -9,7 +10,7 @@ use Rattle.conjure_cli_words.specs.Forms.{Form, fitting, gives, once_after, oper
 use Rattle.conjure_cli_words.specs.Parsers.{Entries, id_of, operand_id}
 use Rattle.conjure_cli_words.proofs.Tables.{and_true, or_false, rules_of}
 use Rattle.conjure_cli_words.proofs.Rows.{given_row, has_operand, row-given, row-operand, row_for}
-use Rattle.conjure_cli_words.proofs.Walks.{adds, operand-append, rows_of}
+use Rattle.conjure_cli_words.proofs.Adds.{adds, operand-append, rows_of}
 
 -- the texts have room where one is left, or none
 abbrev roomy : Bool → List Text → Bool
@@ -36,7 +37,8 @@ gives-append (operand word ∷ rest) i m = gives-append rest i m
 abbrev AreSeen : List Name → List Item → Type 0
 AreSeen seen before = (m : Name) → knows seen m ≡ gives before m
 
-seen-option : (seen : List Name) (before : List Item) (name : Name) (v : Text) → AreSeen seen before → AreSeen (name ∷ seen) (before ++ option name v ∷ [])
+seen-option : (seen : List Name) (before : List Item) (name : Name) (v : Text) → AreSeen seen before
+    → AreSeen (name ∷ seen) (before ++ option name v ∷ [])
 seen-option seen before name v h m =
     ap (λ b. same_name name m || b) (h m) ∙ or_swap (same_name name m) (gives before m) ∙ sym (gives-append before (option name v) m)
 
@@ -47,7 +49,8 @@ add_option : {X : Type 0} (g o r : Bool) (x : Option X) → cond g None (cond (o
 add_option true o r x = refl
 add_option false o r x = refl
 
-add_word : {X : Type 0} (p h o r : Bool) (x : Option X) → cond (not p || h) None (cond (o && r) x None) ≡ cond (o && ((p && not h) && r)) x None
+add_word : {X : Type 0} (p h o r : Bool) (x : Option X) → cond (not p || h) None (cond (o && r) x None)
+    ≡ cond (o && ((p && not h) && r)) x None
 add_word true true true r x = refl
 add_word true true false r x = refl
 add_word true false o r x = refl
@@ -55,18 +58,24 @@ add_word false h true r x = refl
 add_word false h false r x = refl
 
 adds-once : (p : Bool) (items before : List Item) (seen : List Name) → AreSeen seen before
-    → adds p before items ≡ cond (once_after seen items && roomy (p && not (has_operand before)) (operands_of items)) (Some (before ++ items)) None
+    → adds p before items ≡ cond (once_after seen items && roomy (p && not (has_operand before)) (operands_of items))
+    (Some (before ++ items)) None
 adds-once p [] before seen h = ap Some (sym (append-nil before))
 adds-once p (option name v ∷ rest) before seen h =
-    ap (λ o. cond (gives before name) None o) (adds-once p rest (before ++ option name v ∷ []) (name ∷ seen) (seen-option seen before name v h)
+    ap (λ o. cond (gives before name) None o) (adds-once p rest (before ++ option name v ∷ []) (name ∷ seen)
+    (seen-option seen before name v h)
     ∙ ap₂ (λ b xs. cond (once_after (name ∷ seen) rest && roomy (p && not b) (operands_of rest)) (Some xs) None)
     (operand-append before (option name v) ∙ or_false (has_operand before)) (append_assoc before (option name v ∷ []) rest))
-    ∙ add_option (gives before name) (once_after (name ∷ seen) rest) (roomy (p && not (has_operand before)) (operands_of rest)) (Some (before ++ option name v ∷ rest))
-    ∙ ap (λ b. cond ((not b && once_after (name ∷ seen) rest) && roomy (p && not (has_operand before)) (operands_of rest)) (Some (before ++ option name v ∷ rest)) None) (sym (h name))
+    ∙ add_option (gives before name) (once_after (name ∷ seen) rest) (roomy (p && not (has_operand before)) (operands_of rest))
+    (Some (before ++ option name v ∷ rest))
+    ∙ ap (λ b. cond ((not b && once_after (name ∷ seen) rest) && roomy (p && not (has_operand before)) (operands_of rest))
+    (Some (before ++ option name v ∷ rest)) None) (sym (h name))
 adds-once p (operand word ∷ rest) before seen h =
-    ap (λ o. cond (not p || has_operand before) None o) (adds-once p rest (before ++ operand word ∷ []) seen (seen-operand seen before word h)
+    ap (λ o. cond (not p || has_operand before) None o)
+    (adds-once p rest (before ++ operand word ∷ []) seen (seen-operand seen before word h)
     ∙ ap₂ (λ b xs. cond (once_after seen rest && roomy b (operands_of rest)) (Some xs) None)
-    (ap (λ b. p && not b) (operand-append before (operand word) ∙ always (has_operand before)) ∙ never p) (append_assoc before (operand word ∷ []) rest))
+    (ap (λ b. p && not b) (operand-append before (operand word) ∙ always (has_operand before)) ∙ never p)
+    (append_assoc before (operand word ∷ []) rest))
     ∙ add_word p (has_operand before) (once_after seen rest) (roomy false (operands_of rest)) (Some (before ++ operand word ∷ rest))
   where
     always : (b : Bool) → (b || true) ≡ true
@@ -160,7 +169,9 @@ pub adds-fitting : (es : Entries) (p : Bool) (form : Form) (items : List Item) �
     → option_and_then (with_all (rules_of es p)) (rows_of (adds p [] items)) ≡ rows_of (fitting form items)
 adds-fitting es p form items required operands =
     ap (λ o. option_and_then (with_all (rules_of es p)) (rows_of o)) (adds-all p items)
-    ∙ keep (once_after [] items) (roomy p (operands_of items)) (list_all (gives items) (required_in es)) (not p || has_operand items) (rules_of es p) items (lacks-gives es p items)
+    ∙ keep (once_after [] items) (roomy p (operands_of items)) (list_all (gives items) (required_in es)) (not p || has_operand items)
+    (rules_of es p) items (lacks-gives es p items)
     ∙ ap (λ b. rows_of (cond (once_after [] items && (list_all (gives items) (required_in es) && b)) (Some items) None))
     (ap (λ b. roomy p (operands_of items) && (not p || b)) (operand-some items) ∙ as_many p (operands_of items))
-    ∙ ap₂ (λ names n. rows_of (cond (once_after [] items && (list_all (gives items) names && (length (operands_of items) == n))) (Some items) None)) required operands
+    ∙ ap₂ (λ names n. rows_of (cond (once_after [] items && (list_all (gives items) names && (length (operands_of items) == n)))
+    (Some items) None)) required operands

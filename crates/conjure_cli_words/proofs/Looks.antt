@@ -1,11 +1,13 @@
 -- What `clap` sees of a word, by the word's look.
-use Rattle.std.proofs.Common.{◌≡◌, ◌⊎◌, inl, inr, ℕ, ◌==◌, ◌&&◌, Bool, cond, true, false, List, [], ◌∷◌, length, drop, Option, Some, None, refl}
+use Rattle.std.proofs.Common.{◌≡◌, ◌⊎◌, inl, inr, ℕ, ◌==◌, ◌&&◌, Bool, cond, true, false, List, [], ◌∷◌, length, drop, Option, Some, None}
+use Rattle.std.proofs.Common.{refl}
 use Rattle.std.specs.Prelude.{option_and_then, slice_get, encode_utf8}
 use Rattle.std.specs.Option.{option_map_or}
 use Rattle.std.specs.Str.{bytes_eq, chars}
 use Rattle.clap.specs.Lexer.{long_of, long_of_rest, short_of, short_of_rest, strip_byte}
 use Rattle.clap.specs.Walk.{attached_value}
-use Rattle.conjure_cli_words.specs.Items.{Text, Look, ends, named, plain, short, long, look_of, look_behind, look_of_long, look_of_short, look_of_first, written_on}
+use Rattle.conjure_cli_words.specs.Items.{Text, Look, ends, named, plain, short, long, look_of, look_behind, look_of_long, look_of_short}
+use Rattle.conjure_cli_words.specs.Items.{look_of_first, written_on}
 
 -- the word `--`
 abbrev pub dashes : Text
@@ -34,7 +36,8 @@ written_on-attached (x ∷ xs) = go (x == 61)
     go true = refl
     go false = refl
 
-sees_first : (o : Option ℕ) (y : ℕ) (ys : Text) → slice_get (chars (y ∷ ys)) 0 ≡ o → Sees (look_of_first o (y ∷ ys)) false None (Some (y ∷ ys))
+sees_first : (o : Option ℕ) (y : ℕ) (ys : Text) → slice_get (chars (y ∷ ys)) 0 ≡ o
+    → Sees (look_of_first o (y ∷ ys)) false None (Some (y ∷ ys))
 sees_first None y ys e = (refl, refl, inr (y, ys, refl, e))
 sees_first (Some x) y ys e = (refl, refl, (y, ys, refl, e, written_on-attached (drop (length (encode_utf8 x)) (y ∷ ys))))
 
@@ -45,7 +48,8 @@ sees_second true y (z ∷ zs) = (refl, refl)
 sees_second false y ys = sees_first (slice_get (chars (y ∷ ys)) 0) y ys refl
 
 sees_behind : (b : Bool) (xs : Text) → Sees (cond b (look_behind xs) plain) (b && bytes_eq xs (45 ∷ []))
-    (option_and_then long_of_rest (option_and_then (strip_byte 45) (cond b (Some xs) None))) (option_and_then short_of_rest (cond b (Some xs) None))
+    (option_and_then long_of_rest (option_and_then (strip_byte 45) (cond b (Some xs) None)))
+    (option_and_then short_of_rest (cond b (Some xs) None))
 sees_behind false xs = (refl, refl, inl refl)
 sees_behind true [] = (refl, refl, inl refl)
 sees_behind true (y ∷ ys) = sees_second (y == 45) y ys

@@ -1,5 +1,6 @@
 -- The command of a form is a table that is built, and what `clap` answers is what the form says.
-use Rattle.std.proofs.Common.{◌≡◌, ◌∙◌, ℕ, ◌==◌, ◌&&◌, ◌||◌, not, Bool, cond, true, false, List, [], ◌∷◌, ◌++◌, map, Option, Some, None, refl, sym, ap, ap₂, IfOk, Result, Ok, Err, is_some, inl, inr}
+use Rattle.std.proofs.Common.{◌≡◌, ◌∙◌, ℕ, ◌==◌, ◌&&◌, ◌||◌, not, Bool, cond, true, false, List, [], ◌∷◌, ◌++◌, map, Option, Some, None}
+use Rattle.std.proofs.Common.{refl, sym, ap, ap₂, IfOk, Result, Ok, Err, is_some, inl, inr}
 use Rattle.std.specs.Prelude.{codes, option_map}
 use Rattle.std.specs.List.{count_by, list_all, list_any}
 use Rattle.clap.specs.Walk.{Row, Rule, first_of, is_early_multiple, rows_of}
@@ -19,7 +20,7 @@ use Rattle.conjure_cli_words.proofs.Tables.{names_in, rule_for, rules_of}
 use Rattle.conjure_cli_words.proofs.Rows.{first-operand, first-value, row_for}
 use Rattle.conjure_cli_words.proofs.Turns.{no_fault, shape}
 use Rattle.conjure_cli_words.proofs.Fits.{required_in}
-use Rattle.conjure_cli_words.proofs.Walks as walks
+use Rattle.conjure_cli_words.proofs.Adds as walks
 use Rattle.conjure_cli_words.proofs.Levels.{IsFormOf, IsTable, table-reads}
 
 -- ---- building
@@ -69,12 +70,14 @@ module _ (form : Form) where
 
   tests : List Rule → Bool
   tests rules =
-      (is_buildable (parser_of form) && (is_ready (shape (codes "conjure") rules) && true)) && (has_free_rules (shape (codes "conjure") rules) && true)
+      (is_buildable (parser_of form) && (is_ready (shape (codes "conjure") rules) && true))
+      && (has_free_rules (shape (codes "conjure") rules) && true)
 
   tests-pass : tests (rules_of es p) ≡ true
   unfolding tests
   tests-pass =
-      (λ i. ((simple_in es p i && true) && ((simple_of es p i && not (none_early (count_by (λ a. is_some a.index) (rules_of es p)) es p i)) && true)) && (free_of es p i && true))
+      (λ i. ((simple_in es p i && true) && ((simple_of es p i && not (none_early (count_by (λ a. is_some a.index) (rules_of es p)) es p i))
+      && true)) && (free_of es p i && true))
 
   table-simple : is_simple_and_free (parser_of form) ≡ true
   unfolding tests
@@ -112,7 +115,8 @@ is_form form small = record {
 reads : (form : Form) (words : List Text) → IsSmall form
     → cond (no_fault (fault_of (parser_of form) words)) (Some (matches_of (parser_of form) words)) None ≡ walks.rows_of (read_as form words)
 reads form words small =
-    table-reads (parser_of form) (codes "conjure") (entries_of form) (not (form.operands == 0)) form words (is_table form) (is_form form small)
+    table-reads (parser_of form) (codes "conjure") (entries_of form) (not (form.operands == 0)) form words (is_table form)
+    (is_form form small)
 
 finds : (m : ArgMatches) (items : List Item) → rows_of (found_of m) ≡ map row_for items → Finds m items
 finds m items e = (
@@ -133,7 +137,8 @@ pub parsed_ok : (app : App) (form : Form) (words : List Text) (r : Result ArgMat
     → IfOk r (HasMatchesOf app words) → (is_simple_and_free app ≡ true → FailsBy (fault_of app words) r) → IfOk r (ReadsAs form words)
 parsed_ok app form words (Ok m) is small matches kinds =
     let passes = kinds (ap is_simple_and_free is ∙ table-simple form) in
-    let no_faults : no_fault (fault_of (parser_of form) words) ≡ true = ap (λ a. no_fault (fault_of a words)) (sym is) ∙ ap no_fault passes in
+    let no_faults : no_fault (fault_of (parser_of form) words) ≡ true = ap (λ a. no_fault (fault_of a words)) (sym is)
+    ∙ ap no_fault passes in
     let rows : rows_of (found_of m) ≡ matches_of (parser_of form) words =
     (matches (ap is_simple is ∙ (both _ _ (table-simple form)).0)).0 ∙ ap (λ a. matches_of a words) is in
     reads_ok form words m (read_as form words) refl
@@ -154,5 +159,6 @@ pub parsed_err : (app : App) (form : Form) (words : List Text) (e : Error) → a
     → (is_simple_and_free app ≡ true → HasKind (fault_of app words) e) → (kind_of e ≡ kind.OutOfMemory → ⊥) → read_as form words ≡ None
 parsed_err app form words e is small kinds other =
     let faults : no_fault (fault_of (parser_of form) words) ≡ false =
-    ap (λ a. no_fault (fault_of a words)) (sym is) ∙ some_fault (fault_of app words) e other (kinds (ap is_simple_and_free is ∙ table-simple form)) in
+    ap (λ a. no_fault (fault_of a words)) (sym is) ∙ some_fault (fault_of app words) e other
+    (kinds (ap is_simple_and_free is ∙ table-simple form)) in
     not_read (read_as form words) (ap (λ b. cond b (Some (matches_of (parser_of form) words)) None) (sym faults) ∙ reads form words small)

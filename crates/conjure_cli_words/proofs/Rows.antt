@@ -1,5 +1,6 @@
 -- The rows of items, as `clap` keeps them.
-use Rattle.std.proofs.Common.{◌≡◌, ◌∙◌, ℕ, ◌==◌, ◌&&◌, ◌||◌, not, Bool, cond, true, false, List, [], ◌∷◌, ◌++◌, map, Option, Some, None, refl, sym, ap, ap₂, append-nil}
+use Rattle.std.proofs.Common.{◌≡◌, ◌∙◌, ℕ, ◌==◌, ◌&&◌, ◌||◌, not, Bool, cond, true, false, List, [], ◌∷◌, ◌++◌, map, Option, Some, None}
+use Rattle.std.proofs.Common.{refl, sym, ap, ap₂, append-nil}
 use Rattle.std.specs.Prelude.{slice_get, option_and_then}
 use Rattle.std.specs.Option.{option_map_or}
 use Rattle.std.specs.List.{list_any, find}
@@ -36,25 +37,30 @@ row-operand [] = refl
 row-operand (option other value ∷ rest) = ap₂ (λ a b. a || b) (option_no_operand other) (row-operand rest)
 row-operand (operand word ∷ rest) = refl
 
-absent_next : (b has : Bool) (r : Row) (changed rs after : List Row) → (b || has) ≡ false → (has ≡ false → after ≡ rs) → cond b changed (r ∷ after) ≡ r ∷ rs
+absent_next : (b has : Bool) (r : Row) (changed rs after : List Row) → (b || has) ≡ false → (has ≡ false → after ≡ rs)
+    → cond b changed (r ∷ after) ≡ r ∷ rs
 absent_next true has r changed rs after h more = cc
 absent_next false has r changed rs after h more = ap (λ t. r ∷ t) (more h)
 
-absent : (id : Text) (change : Row → List Row) (missing rows : List Row) → has_row id rows ≡ false → at_row id change missing rows ≡ rows ++ missing
+absent : (id : Text) (change : Row → List Row) (missing rows : List Row) → has_row id rows ≡ false → at_row id change missing rows
+    ≡ rows ++ missing
 absent id change missing [] e = refl
 absent id change missing (r ∷ rs) e =
     absent_next (bytes_eq r.id id) (has_row id rs) r (change r ++ rs) (rs ++ missing) _ e (λ h. absent id change missing rs h)
 
 -- a first use adds a row
-pub used_first : (id : Text) (l : Option Text) (s index : Option ℕ) (required : Bool) (value : Text) (rows : List Row) → has_row id rows ≡ false
+pub used_first : (id : Text) (l : Option Text) (s index : Option ℕ) (required : Bool) (value : Text) (rows : List Row) → has_row id rows
+    ≡ false
     → used (made id l s index required) (value ∷ []) rows ≡ rows ++ row id value ∷ []
 used_first id l s index required value rows e =
     let out : at_row id (λ _. []) [] rows ≡ rows = absent id (λ _. []) [] rows e ∙ append-nil rows in
-    ap (λ t. with_values id reading.AsWritten CommandLine (value ∷ []) t) out ∙ absent id (more_values CommandLine (value ∷ [])) (row id value ∷ []) rows e
+    ap (λ t. with_values id reading.AsWritten CommandLine (value ∷ []) t) out
+    ∙ absent id (more_values CommandLine (value ∷ [])) (row id value ∷ []) rows e
 
 -- what is given
 given_next : (b : Bool) (id other value : Text) (rows : List Row) → is_given id rows ≡ has_row id rows
-    → option_map_or (λ (r : Row). explicit_source r.source) (cond b (Some (row other value)) (find (λ (r : Row). bytes_eq r.id id) rows)) false ≡ (b || has_row id rows)
+    → option_map_or (λ (r : Row). explicit_source r.source) (cond b (Some (row other value)) (find (λ (r : Row). bytes_eq r.id id) rows))
+    false ≡ (b || has_row id rows)
 given_next true id other value rows h = refl
 given_next false id other value rows h = h
 
@@ -65,7 +71,8 @@ given_row id (operand word ∷ rest) = given_next (bytes_eq operand_id id) id op
 
 -- the values
 first_next : (b : Bool) (id other value : Text) (rows : List Row) (o : Option Text) → first_of id rows ≡ o
-    → option_and_then (λ (r : Row). slice_get r.values 0) (cond b (Some (row other value)) (find (λ (r : Row). bytes_eq r.id id) rows)) ≡ cond b (Some value) o
+    → option_and_then (λ (r : Row). slice_get r.values 0) (cond b (Some (row other value)) (find (λ (r : Row). bytes_eq r.id id) rows))
+    ≡ cond b (Some value) o
 first_next true id other value rows o h = refl
 first_next false id other value rows o h = h
 

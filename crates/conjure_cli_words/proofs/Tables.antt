@@ -1,5 +1,6 @@
 -- A table of options as the rules of a `clap` command that is built, and what its lookups find.
-use Rattle.std.proofs.Common.{◌≡◌, ◌∙◌, ℕ, ◌==◌, ◌&&◌, ◌||◌, not, Bool, cond, true, false, List, [], ◌∷◌, map, Option, Some, None, refl, sym, ap, ap₂, subst, codes, eqb-true}
+use Rattle.std.proofs.Common.{◌≡◌, ◌∙◌, ℕ, ◌==◌, ◌&&◌, ◌||◌, not, Bool, cond, true, false, List, [], ◌∷◌, map, Option, Some, None, refl}
+use Rattle.std.proofs.Common.{sym, ap, ap₂, subst, codes, eqb-true}
 use Rattle.std.specs.List.{list_any, find}
 use Rattle.std.specs.Str.{bytes_eq}
 use Rattle.std.proofs.lemmas.Slice.Eq.{bytes_eq-Decides}
@@ -103,8 +104,10 @@ pub by_long : (es : Entries) (p : Bool) (n : Text) → knows (names_in es) (long
 by_long [] p n e = cc
 by_long ((short x, q) ∷ es) p n e = by_long es p n e
 by_long ((long m, q) ∷ es) p n e =
-    subst (λ (b : Bool). FoundFor (long n) (cond b (Some (rule_for q (long m))) (arg_by_long (rules_of es p) n))) (sym (or_false (bytes_eq m n)))
-    (found_next (bytes_eq m n) (long n) (long m) q (knows (names_in es) (long n)) _ (same_name-is (long m) (long n)) e (λ h. by_long es p n h))
+    subst (λ (b : Bool). FoundFor (long n) (cond b (Some (rule_for q (long m))) (arg_by_long (rules_of es p) n)))
+    (sym (or_false (bytes_eq m n)))
+    (found_next (bytes_eq m n) (long n) (long m) q (knows (names_in es) (long n)) _ (same_name-is (long m) (long n)) e
+    (λ h. by_long es p n h))
 
 pub by_long-none : (es : Entries) (p : Bool) (n : Text) → knows (names_in es) (long n) ≡ false → arg_by_long (rules_of es p) n ≡ None
 by_long-none [] true n e = refl
@@ -114,12 +117,15 @@ by_long-none ((long m, q) ∷ es) p n e =
     ap (λ (b : Bool). cond b (Some (rule_for q (long m))) (arg_by_long (rules_of es p) n)) (or_false (bytes_eq m n))
     ∙ none_next (bytes_eq m n) (knows (names_in es) (long n)) (rule_for q (long m)) _ e (λ h. by_long-none es p n h)
 
-pub by_short : (es : Entries) (p : Bool) (n : ℕ) → knows (names_in es) (short n) ≡ true → FoundFor (short n) (arg_by_short (rules_of es p) n)
+pub by_short : (es : Entries) (p : Bool) (n : ℕ) → knows (names_in es) (short n) ≡ true
+    → FoundFor (short n) (arg_by_short (rules_of es p) n)
 by_short [] p n e = cc
 by_short ((long x, q) ∷ es) p n e = by_short es p n e
 by_short ((short m, q) ∷ es) p n e =
-    subst (λ (b : Bool). FoundFor (short n) (cond b (Some (rule_for q (short m))) (arg_by_short (rules_of es p) n))) (sym (or_false (m == n)))
-    (found_next (m == n) (short n) (short m) q (knows (names_in es) (short n)) _ (same_name-is (short m) (short n)) e (λ h. by_short es p n h))
+    subst (λ (b : Bool). FoundFor (short n) (cond b (Some (rule_for q (short m))) (arg_by_short (rules_of es p) n)))
+    (sym (or_false (m == n)))
+    (found_next (m == n) (short n) (short m) q (knows (names_in es) (short n)) _ (same_name-is (short m) (short n)) e
+    (λ h. by_short es p n h))
 
 pub by_short-none : (es : Entries) (p : Bool) (n : ℕ) → knows (names_in es) (short n) ≡ false → arg_by_short (rules_of es p) n ≡ None
 by_short-none [] true n e = refl
@@ -131,10 +137,12 @@ by_short-none ((short m, q) ∷ es) p n e =
 
 at_id : (a name : Name) (q : Bool) (es : Entries) (p : Bool) → arg_by_id (rules_of ((a, q) ∷ es) p) (id_of name)
     ≡ cond (same_name a name) (Some (rule_for q a)) (arg_by_id (rules_of es p) (id_of name))
-at_id (short x) name q es p = ap (λ b. cond b (Some (rule_for q (short x))) (arg_by_id (rules_of es p) (id_of name))) (same_id (short x) name)
+at_id (short x) name q es p = ap (λ b. cond b (Some (rule_for q (short x))) (arg_by_id (rules_of es p) (id_of name)))
+    (same_id (short x) name)
 at_id (long m) name q es p = ap (λ b. cond b (Some (rule_for q (long m))) (arg_by_id (rules_of es p) (id_of name))) (same_id (long m) name)
 
-pub by_id : (es : Entries) (p : Bool) (name : Name) → knows (names_in es) name ≡ true → FoundFor name (arg_by_id (rules_of es p) (id_of name))
+pub by_id : (es : Entries) (p : Bool) (name : Name) → knows (names_in es) name ≡ true
+    → FoundFor name (arg_by_id (rules_of es p) (id_of name))
 by_id [] p name e = cc
 by_id ((a, q) ∷ es) p name e =
     subst (λ (o : Option Rule). FoundFor name o) (sym (at_id a name q es p))
@@ -144,7 +152,8 @@ by_id ((a, q) ∷ es) p name e =
 operand_at_id : (es : Entries) → arg_by_id (rules_of es true) operand_id ≡ Some operand_rule
 operand_at_id [] = refl
 operand_at_id ((short x, q) ∷ es) =
-    ap (λ b. cond b (Some (rule_for q (short x))) (arg_by_id (rules_of es true) operand_id)) (option_no_operand (short x)) ∙ operand_at_id es
+    ap (λ b. cond b (Some (rule_for q (short x))) (arg_by_id (rules_of es true) operand_id)) (option_no_operand (short x))
+    ∙ operand_at_id es
 operand_at_id ((long m, q) ∷ es) = operand_at_id es
 
 pub operand_by_id : (es : Entries) (p : Bool) → p ≡ true → arg_by_id (rules_of es p) operand_id ≡ Some operand_rule

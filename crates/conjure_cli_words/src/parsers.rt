@@ -29,7 +29,8 @@ fn with_long<'a>(
     name: &'a str,
     required: bool,
 ) -> Result<Command<'a>, AllocError>
-    ensures { id.entry.now ≡ id_of (long name.entry.now) → IfOk result (λ p. app_of p ≡ with_rule (app_of parser.entry) (option_rule required (long name.entry.now))) }
+    ensures { id.entry.now ≡ id_of (long name.entry.now)
+        → IfOk result (λ p. app_of p ≡ with_rule (app_of parser.entry) (option_rule required (long name.entry.now))) }
 {
     let option = Arg::new(alloc, id)
         .long(name)
@@ -77,7 +78,13 @@ pub(crate) fn solution<'a>(alloc: Global) -> Result<Command<'a>, AllocError>
     let parser = with_long(alloc, bare(alloc), "--eprime", "eprime", true)?;
     let parser = with_long(alloc, parser, "--essence-param", "essence-param", true)?;
     let parser = with_long(alloc, parser, "--eprime-solution", "eprime-solution", true)?;
-    with_long(alloc, parser, "--essence-solution", "essence-solution", true)
+    with_long(
+        alloc,
+        parser,
+        "--essence-solution",
+        "essence-solution",
+        true,
+    )
 }
 
 /// The parser of `validate-solution`.
@@ -120,7 +127,12 @@ pub(crate) fn value(alloc: Global, matches: &ArgMatches, id: &str) -> Result<Opt
 }
 
 /// The value of an option or an operand, and another text where it wasn't found.
-pub(crate) fn value_or(alloc: Global, matches: &ArgMatches, id: &str, other: &str) -> Result<Text, NoMemory>
+pub(crate) fn value_or(
+    alloc: Global,
+    matches: &ArgMatches,
+    id: &str,
+    other: &str,
+) -> Result<Text, NoMemory>
     ensures { IfOk result (λ v. v ≡ unwrap_or (first_value (found_of matches.now) id.now) other.now) }
 {
     match matches.get_str(id) {

@@ -1,7 +1,8 @@
 // The command that words ask for.
 ghost use Rattle.std.specs.Prelude.{◌≡◌, IfOk, Err, None, Some, map, option_and_then, option_map, string_bytes};
 ghost use Rattle.conjure_cli_words.specs.Forms.{read_as};
-ghost use Rattle.conjure_cli_words.specs.Commands.{command_named, command_of, modelling_form, modelling_of, parameter_form, parameter_of, selftest_form, selftest_of};
+ghost use Rattle.conjure_cli_words.specs.Commands.{command_named, command_of, modelling_form, modelling_of, parameter_form, parameter_of};
+ghost use Rattle.conjure_cli_words.specs.Commands.{selftest_form, selftest_of};
 ghost use Rattle.conjure_cli_words.specs.Commands.{solution_form, solution_of, validate_form, validate_of};
 
 use crate::command::{Command, Options};

@@ -5,7 +5,8 @@ use Rattle.conjure_cli_words.proofs.parsers.read.Goals as goal
 
 pub returns-in-Ok-clause-ok : goal.returns-in-Ok-clause-ok
 returns-in-Ok-clause-ok c = λ form is small.
-    parsed_ok (app_of c.args.parser) form (map string_bytes c.args.words.now) (Ok c.in-Ok.matches) is small c.in-Ok.ensures.matches c.in-Ok.ensures.kinds
+    parsed_ok (app_of c.args.parser) form (map string_bytes c.args.words.now) (Ok c.in-Ok.matches) is small c.in-Ok.ensures.matches
+    c.in-Ok.ensures.kinds
 
 pub returns-in-Err-clause-usage : goal.returns-in-Err-clause-usage
 returns-in-Err-clause-usage c = λ form is small usage.

@@ -6,7 +6,7 @@ use Rattle.conjure_cli_words.proofs.words.validate.Goals as goal
 
 pub returns-in_err-found-clause-usage : goal.returns-in_err-found-clause-usage
 returns-in_err-found-clause-usage c = λ usage.
-    ap (option_map validate_of) (c.in_err-found.ensures.usage validate_form c.in_ok-validate.ensures refl 
+    ap (option_map validate_of) (c.in_err-found.ensures.usage validate_form c.in_ok-validate.ensures refl
     (ap (λ no. Err no) (same_no c.from_residual-in_err-found.result c.in_err-found.field-0.0 c.from_residual-in_err-found.ensures.1 usage)))
 
 pub returns-clause-ok : goal.returns-clause-ok
