@@ -10,10 +10,12 @@ pub record Form : Type 0 where
   pub required : List Name
   pub operands : ℕ
 
+-- the item gives this option
 abbrev pub is_option : Name → Item → Bool
 is_option name (option other value) = same_name other name
 is_option name (operand word) = false
 
+-- the option is given
 abbrev pub gives : List Item → Name → Bool
 gives items name = list_any (is_option name) items
 
@@ -35,9 +37,11 @@ value_in [] name = None
 value_in (option other value ∷ rest) name = if same_name other name then Some value else value_in rest name
 value_in (operand word ∷ rest) name = value_in rest name
 
+-- each option stands once, those that must stand do, and there are as many operands as the form wants
 abbrev pub fits : Form → List Item → Bool
 fits form items = once_after [] items && (list_all (gives items) form.required && length (operands_of items) == form.operands)
 
+-- the items, where they fit
 abbrev pub fitting : Form → List Item → Option (List Item)
 fitting form items = if fits form items then Some items else None
 

@@ -14,6 +14,7 @@ pub data Name : Type 0 where
   short : ℕ → Name
   long : Text → Name
 
+-- two names are one
 abbrev pub same_name : Name → Name → Bool
 same_name (short x) (short y) = x == y
 same_name (long x) (long y) = bytes_eq x y
@@ -44,6 +45,7 @@ abbrev pub look_of_first : Option ℕ → Text → Look
 look_of_first None text = plain
 look_of_first (Some x) text = named (short x) (written_on (drop (length (encode_utf8 x)) text))
 
+-- a word behind `-`, which isn't `-` and doesn't begin with another
 abbrev pub look_of_short : Text → Look
 look_of_short text = look_of_first (slice_get (chars text) 0) text
 
@@ -52,6 +54,7 @@ abbrev pub look_behind : Text → Look
 look_behind [] = plain
 look_behind (x ∷ xs) = if x == 45 then look_of_long xs else look_of_short (x ∷ xs)
 
+-- the look of a word; the empty word is plain
 abbrev pub look_of : Text → Look
 look_of [] = plain
 look_of (x ∷ xs) = if x == 45 then look_behind xs else plain
@@ -61,6 +64,7 @@ pub data Item : Type 0 where
   option : Name → Text → Item
   operand : Text → Item
 
+-- the name is one of these
 abbrev pub knows : List Name → Name → Bool
 knows names name = list_any (λ other. same_name other name) names
 
@@ -69,9 +73,11 @@ pub data Next : Type 0 where
   item : Next
   value_of : Name → Next
 
+-- an item before others
 abbrev pub then_item : Item → Option (List Item) → Option (List Item)
 then_item i = option_map (λ its. i ∷ its)
 
+-- the items from an option on, where its name is known: its value is written on to it, or is the next word
 abbrev pub items_of_option : Bool → Name → Option Text → (Next → Option (List Item)) → Option (List Item)
 items_of_option false name value rest = None
 items_of_option true name (Some value) rest = then_item (option name value) (rest item)
@@ -91,5 +97,6 @@ items_from names [] item = Some []
 items_from names [] (value_of name) = None
 items_from names (word ∷ rest) next = items_of_word names next (look_of word) word rest (items_from names rest)
 
+-- the items of words
 abbrev pub items_of : List Name → List Text → Option (List Item)
 items_of names words = items_from names words item

@@ -8,19 +8,21 @@ use Rattle.clap.specs.declared.builder.action.ArgAction.TheVariants.{Set}
 use Rattle.conjure_cli_words.specs.Items.{Text, Item, Name, long, short}
 use Rattle.conjure_cli_words.specs.Forms.{Form, operands_of, read_as, value_in}
 
--- the id of an option, and of the operand
+-- the id of an option
 abbrev pub id_of : Name → Text
 id_of (short x) = x ∷ []
 id_of (long n) = 45 ∷ 45 ∷ n
 
+-- the id of the operand
 abbrev pub operand_id : Text
 operand_id = codes "operand"
 
--- the rule of an option, which may or must stand, and of an operand, which must
+-- the rule of an option, which may or must stand
 abbrev pub option_rule : Bool → Name → Rule
 option_rule required (short x) = record (new_rule (id_of (short x))) { short = Some x; action = Some Set; required = required }
 option_rule required (long n) = record (new_rule (id_of (long n))) { long = Some n; action = Some Set; required = required }
 
+-- the rule of the operand
 abbrev pub operand_rule : Rule
 operand_rule = record (new_rule operand_id) { action = Some Set; required = true }
 
@@ -28,13 +30,16 @@ operand_rule = record (new_rule operand_id) { action = Some Set; required = true
 abbrev pub Entries : Type 0
 Entries = List (Name × Bool)
 
+-- the options of a form
 abbrev pub entries_of : Form → Entries
 entries_of form = map (λ name. (name, false)) form.optional ++ map (λ name. (name, true)) form.required
 
+-- the rule of an operand, where there is one
 abbrev pub operand_rules : Bool → List Rule
 operand_rules false = []
 operand_rules true = operand_rule ∷ []
 
+-- the rules of options and of an operand, in this order
 abbrev pub rules_in : Entries → Bool → List Rule
 rules_in [] has_operand = operand_rules has_operand
 rules_in (e ∷ es) has_operand = option_rule e.1 e.0 ∷ rules_in es has_operand

@@ -6,12 +6,14 @@ ghost use Rattle.conjure_cli_words.specs.Commands.{is_digit, number_of};
 /// The largest number.
 const MOST: u64 = 9223372036854775807;
 
+/// Whether a byte is an ASCII digit.
 fn is_digit(byte: u8) -> bool
     ensures { result ≡ is_digit byte }
 {
     48 <= byte && byte <= 57
 }
 
+/// Whether all bytes are ASCII digits.
 fn are_digits(bytes: &[u8]) -> bool
     ensures { result ≡ each is_digit bytes.now }
 {
@@ -32,6 +34,7 @@ pub(crate) fn number_of(text: &str) -> Option<u64>
     }
     match text.parse::<u64>() {
         Ok(number) if number <= MOST => Some(number),
-        _ => None,
+        Ok(_) => None,
+        Err(_) => None,
     }
 }

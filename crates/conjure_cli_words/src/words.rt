@@ -12,6 +12,7 @@ use crate::parsers::{self, read, value, value_or};
 use ess_rows::Text;
 use std::alloc::Global;
 
+/// The command `modelling` with these words behind its name. `Usage` where they don't fit its form.
 fn modelling(alloc: Global, words: &[String]) -> Result<Command, WordsNo>
     ensures ok { IfOk result (λ c. option_map modelling_of (read_as modelling_form (map string_bytes words.now)) ≡ Some c) }
     ensures usage { result ≡ Err WordsNo.Usage → option_map modelling_of (read_as modelling_form (map string_bytes words.now)) ≡ None }
@@ -23,6 +24,7 @@ fn modelling(alloc: Global, words: &[String]) -> Result<Command, WordsNo>
     Ok(Command::Modelling(folder, file, Options { use_repr }))
 }
 
+/// The command `translate-parameter` with these words behind its name. `Usage` where they don't fit its form.
 fn parameter(alloc: Global, words: &[String]) -> Result<Command, WordsNo>
     ensures ok { IfOk result (λ c. option_map parameter_of (read_as parameter_form (map string_bytes words.now)) ≡ Some c) }
     ensures usage { result ≡ Err WordsNo.Usage → option_map parameter_of (read_as parameter_form (map string_bytes words.now)) ≡ None }
@@ -34,6 +36,7 @@ fn parameter(alloc: Global, words: &[String]) -> Result<Command, WordsNo>
     Ok(Command::Parameter(model, from, to))
 }
 
+/// The command `translate-solution` with these words behind its name. `Usage` where they don't fit its form.
 fn solution(alloc: Global, words: &[String]) -> Result<Command, WordsNo>
     ensures ok { IfOk result (λ c. option_map solution_of (read_as solution_form (map string_bytes words.now)) ≡ Some c) }
     ensures usage { result ≡ Err WordsNo.Usage → option_map solution_of (read_as solution_form (map string_bytes words.now)) ≡ None }
@@ -46,6 +49,7 @@ fn solution(alloc: Global, words: &[String]) -> Result<Command, WordsNo>
     Ok(Command::Solution(model, param, from, to))
 }
 
+/// The command `validate-solution` with these words behind its name. `Usage` where they don't fit its form.
 fn validate(alloc: Global, words: &[String]) -> Result<Command, WordsNo>
     ensures ok { IfOk result (λ c. option_map validate_of (read_as validate_form (map string_bytes words.now)) ≡ Some c) }
     ensures usage { result ≡ Err WordsNo.Usage → option_map validate_of (read_as validate_form (map string_bytes words.now)) ≡ None }
@@ -57,6 +61,7 @@ fn validate(alloc: Global, words: &[String]) -> Result<Command, WordsNo>
     Ok(Command::Validate(essence, param, solution))
 }
 
+/// The command `selftest` with these words behind its name. `Usage` where they don't fit its form.
 fn selftest(alloc: Global, words: &[String]) -> Result<Command, WordsNo>
     ensures ok { IfOk result (λ c. option_and_then selftest_of (read_as selftest_form (map string_bytes words.now)) ≡ Some c) }
     ensures usage { result ≡ Err WordsNo.Usage → option_and_then selftest_of (read_as selftest_form (map string_bytes words.now)) ≡ None }
