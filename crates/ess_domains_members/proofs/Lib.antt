@@ -4,6 +4,7 @@ pub mod SpanLemmas
 pub mod MatrixLeaves
 pub mod MatrixItems
 pub mod SetParts
+pub mod SetSizes
 pub mod PartitionForms
 pub mod MemberForms
 pub mod MemberLoops

@@ -14,6 +14,7 @@ mod pairs;
 mod partitions;
 mod parts;
 mod relations;
+mod repeats;
 mod sets;
 
 pub use atoms::{in_spans, is_item};

@@ -113,3 +113,13 @@ pub fn add_copy(alloc: Global, row: &mut Row<Val>, val: &Val) -> Result<(), NoMe
         Err(no) => Err(no),
     }
 }
+
+/// Puts copies of several values behind others.
+pub fn add_copies(alloc: Global, all: &mut Row<Val>, vals: &[Val]) -> Result<(), NoMemory>
+    ensures { OnOk result (all.new ≡ all.old ++ vals.now) }
+{
+    for val in vals {
+        add_copy(alloc, all, val)?;
+    }
+    Ok(())
+}

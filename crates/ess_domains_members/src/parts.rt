@@ -1,9 +1,7 @@
-ghost use Rattle.std.specs.Prelude.{◌≡◌, ◌∷◌, ◌++◌, map, option_map, IfOk, OnOk};
-ghost use Rattle.std.specs.List.{list_all, list_any};
+ghost use Rattle.std.specs.Prelude.{◌≡◌, ◌++◌, map, option_map, IfOk, OnOk};
+ghost use Rattle.std.specs.List.{list_all};
 ghost use Rattle.ess_semantics.specs.Lists.{append_all};
-ghost use Rattle.ess_semantics.specs.Values.{itself};
-ghost use Rattle.ess_semantics.specs.Order.{same as same_of};
-ghost use Rattle.ess_semantics.specs.Collections.{no_twice, sorted_once};
+ghost use Rattle.ess_semantics.specs.Collections.{sorted_once};
 ghost use Rattle.ess_semantics.specs.Domains.{members as members_of};
 ghost use Rattle.ess_semantics.specs.Membership.{same_list as same_lists};
 ghost use Rattle.ess_values.specs.Parts.{set_members};
@@ -12,8 +10,9 @@ ghost use Rattle.ess_eval_domains.specs.ClosedViews.{pure_closed, pure_attribute
 ghost use Rattle.ess_domains_members.specs.Forms.{is_filled as filled, are_disjoint, are_covered, partition_form, part_members as members_of_parts};
 
 use crate::lists::{rises, same};
-use crate::matrices::add_copy;
+use crate::matrices::add_copies;
 use crate::partitions::partition_attributes_hold;
+use crate::repeats::all_differ;
 use ess_core::{Boxed, NoMemory, Row, Val};
 use ess_eval_domains::{Attribute, Closed, members};
 use ess_values::set_of;
@@ -102,7 +101,7 @@ pub fn are_apart(alloc: Global, parts: &[Val]) -> Result<bool, NoMemory>
     ensures { IfOk result (λ b. b ≡ are_disjoint (map pure_val parts.now)) }
 {
     let own = all_members(alloc, parts)?;
-    Ok(all_differ(own.as_slice()))
+    Ok(all_differ(alloc, own)?)
 }
 
 /// Whether each member of a domain stands in one of these sets, and nothing else. `NoMemory` where there is no room for the
@@ -159,38 +158,4 @@ fn add_members(alloc: Global, all: &mut Row<Val>, part: &Val) -> Result<(), NoMe
         Val::Relation(_) => Ok(()),
         Val::Partition(_) => Ok(()),
     }
-}
-
-/// Puts copies of several values behind others.
-fn add_copies(alloc: Global, all: &mut Row<Val>, vals: &[Val]) -> Result<(), NoMemory>
-    ensures { OnOk result (all.new ≡ all.old ++ vals.now) }
-{
-    for val in vals {
-        add_copy(alloc, all, val)?;
-    }
-    Ok(())
-}
-
-/// Whether no two of these are equal.
-fn all_differ(items: &[Val]) -> bool
-    ensures { result ≡ no_twice itself (map pure_val items.now) }
-{
-    for (i, item) in items.iter().enumerate() {
-        if is_one_of(item, &items[i + 1..]) {
-            return false;
-        }
-    }
-    true
-}
-
-/// Whether a value is one of these.
-fn is_one_of(val: &Val, items: &[Val]) -> bool
-    ensures { result ≡ list_any (λ y. same_of (pure_val val.now) y) (map pure_val items.now) }
-{
-    for item in items {
-        if same(val, item) {
-            return true;
-        }
-    }
-    false
 }
