@@ -2,7 +2,8 @@ ghost use Rattle.std.specs.Prelude.{◌≡◌, true, IfOk, map};
 ghost use Rattle.ess_grammar.specs.Words.{given_word, find_word};
 ghost use Rattle.ess_grammar.specs.Models.{Scope, is_readable_model};
 ghost use Rattle.ess_semantics.specs.Meaning.{is_bool_dom};
-ghost use Rattle.eprime_tree.specs.Views.{pure_dom, pure_decl, pure_ex, pure_goal};
+ghost use Rattle.std.specs.Option.{option_map};
+ghost use Rattle.eprime_tree.specs.Views.{pure_dom, pure_decl, pure_ex, pure_goal, pure_model};
 ghost use Rattle.eprime_read_convert.specs.Lines.{scope_of};
 ghost use Rattle.eprime_read.specs.Drafts.{IsSound, Fits, given_on, find_on, goal_on, rules_on};
 
@@ -31,43 +32,25 @@ impl Drop for Draft {
 }
 
 impl Draft {
+    ghost use Rattle.eprime_read.specs.Views.{view_draft};
+
     /// Its model.
     pub(crate) fn into_model(self) -> PModel
-        ensures { result ≡ self.model }
+        ensures { pure_model result ≡ view_draft self }
     {
         let Draft { model, lines } = self;
         drop(lines);
         model
     }
-}
 
-/// A model that is being changed.
-pub(crate) struct Changing {
-    pub(crate) model: PModel,
-}
-
-// In one step, as a draft.
-impl Drop for Changing {
-    fn drop(self) {
-        let Changing { model } = self;
-        drop(model);
-    }
-}
-
-impl Changing {
-    /// This model.
-    pub(crate) fn new(model: PModel) -> Changing
-        ensures { result.model ≡ model }
+    /// The model of a draft, where there is one.
+    pub(crate) fn model_in(draft: Option<Draft>) -> Option<PModel>
+        ensures { option_map pure_model result ≡ option_map view_draft draft }
     {
-        Changing { model }
-    }
-
-    /// The model as it is now.
-    pub(crate) fn into_model(self) -> PModel
-        ensures { result ≡ self.model }
-    {
-        let Changing { model } = self;
-        model
+        match draft {
+            Some(draft) => Some(draft.into_model()),
+            None => None,
+        }
     }
 }
 
@@ -104,10 +87,9 @@ impl Draft {
     {
         let line = line_of(alloc, &decl, false)?;
         let Draft { model, lines } = self;
-        let mut changing = Changing::new(model);
-        changing.model.givens.push(decl)?;
+        let mut model = model;
+        model.givens.push(decl)?;
         let lines = lines.with(alloc, line)?;
-        let model = changing.into_model();
         Ok(Draft { model, lines })
     }
 
@@ -121,10 +103,9 @@ impl Draft {
     {
         let line = line_of(alloc, &decl, true)?;
         let Draft { model, lines } = self;
-        let mut changing = Changing::new(model);
-        changing.model.finds.push(decl)?;
+        let mut model = model;
+        model.finds.push(decl)?;
         let lines = lines.with(alloc, line)?;
-        let model = changing.into_model();
         Ok(Draft { model, lines })
     }
 

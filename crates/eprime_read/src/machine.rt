@@ -8,6 +8,7 @@ ghost use Rattle.eprime_tree.specs.Views.{pure_model};
 ghost use Rattle.eprime_read.specs.Drafts.{is_fit_token};
 ghost use Rattle.eprime_read.specs.Views.{view_part, view_machine, IsPart, IsMachine};
 
+use crate::drafts::Draft;
 use crate::growing::new_draft;
 use crate::language::step_language;
 use crate::openings::{begins_part, opened_by};
@@ -94,10 +95,10 @@ impl Machine {
         match self {
             Machine::Language(_) => Ok(None),
             Machine::Headed => Ok(Some(new_draft(alloc).into_model())),
-            Machine::Part(part) => match end(alloc, part)? {
-                Some(draft) => Ok(Some(draft.into_model())),
-                None => Ok(None),
-            },
+            Machine::Part(part) => {
+                let draft = end(alloc, part)?;
+                Ok(Draft::model_in(draft))
+            }
         }
     }
 }
