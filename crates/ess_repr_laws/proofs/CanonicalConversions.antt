@@ -107,7 +107,8 @@ module _ (r : Repr) (ks : List Attribute) (ds : Domains) (right : Right r (child
 
 -- ---- functions as relations
 
-relation-member-form : (ks : List Attribute) (ds : Domains) (v : Value) → member (relations ks ds) v ≡ true →
+-- A member of a domain of relations is a relation of tuples.
+pub relation-member-form : (ks : List Attribute) (ds : Domains) (v : Value) → member (relations ks ds) v ≡ true →
     (xs : Values) × (v ≡ node a_relation xs) × (rises itself (to_list xs) ≡ true) × (list_all (tuple_member ds) (to_list xs) ≡ true)
 relation-member-form ks ds (node a_relation xs) h =
     let a = and-left (rises itself (to_list xs) && list_all (tuple_member ds) (to_list xs)) _ h in
@@ -123,7 +124,8 @@ relation-member-form ks ds (node a_set xs) h = cc
 relation-member-form ks ds (node a_partition xs) h = cc
 relation-member-form ks ds (node (a_record fs) xs) h = cc
 
-abbrev is_pair_of : Domain → Domain → Value → Bool
+-- Whether a value is a pair of two members.
+abbrev pub is_pair_of : Domain → Domain → Value → Bool
 is_pair_of d c p = is_pair p && member d (from_of p) && member c (to_of p)
 
 -- a tuple of two members is a pair of them
@@ -148,7 +150,8 @@ pair-of-tuple d c (node a_relation xs) h = cc
 pair-of-tuple d c (node a_partition xs) h = cc
 pair-of-tuple d c (node (a_record fs) xs) h = cc
 
-pairs-of-tuples : (d c : Domain) (ps : List Value) → list_all (tuple_member (more_domains d (more_domains c no_domains))) ps ≡ true → list_all (is_pair_of d c) ps ≡ true
+-- Tuples over two domains are pairs.
+pub pairs-of-tuples : (d c : Domain) (ps : List Value) → list_all (tuple_member (more_domains d (more_domains c no_domains))) ps ≡ true → list_all (is_pair_of d c) ps ≡ true
 pairs-of-tuples d c [] h = refl
 pairs-of-tuples d c (p ∷ ps) h =
     and-both (is_pair_of d c p) (list_all (is_pair_of d c) ps) (pair-of-tuple d c p (and-left _ (list_all (tuple_member (more_domains d (more_domains c no_domains))) ps) h))

@@ -6,7 +6,7 @@ use Rattle.ess_semantics.specs.declared.words.Key.{Key}
 use Rattle.std.specs.Prelude.{codes}
 use Rattle.ess_semantics.specs.Values.{Text, truth}
 use Rattle.ess_semantics.specs.Order.{same_text}
-use Rattle.ess_semantics.specs.Trees.{valued, flag, Repr, repr, no_reprs, more_reprs, Ex, number_ex, truth_ex, no_exs, Dom, bool_dom, tuple_dom, matrix_dom, set_dom, function_dom, no_doms, more_doms, more_exs, name_ex, cell_ex, comp_ex, over, name_pat, no_gens, fun1}
+use Rattle.ess_semantics.specs.Trees.{valued, flag, Repr, repr, no_reprs, more_reprs, Ex, number_ex, truth_ex, no_exs, Dom, bool_dom, tuple_dom, matrix_dom, set_dom, function_dom, no_doms, more_doms, more_exs, name_ex, cell_ex, comp_ex, over, name_pat, no_gens, fun1, relation_dom, node_ex, seen_ex, from, index, to_component}
 use Rattle.ess_semantics.specs.Domains.{Domain, booleans, sets}
 use Rattle.ess_semantics.specs.Tables.{Tables, is_cell}
 use Rattle.ess_semantics.specs.Cells.{cells_of}
@@ -17,6 +17,7 @@ use Rattle.ess_semantics.specs.Meaning.{Env, meaning}
 use Rattle.ess_semantics.specs.Tidy.{over_axes}
 use Rattle.ess_repr_laws.specs.StructureParts.{tuple_set_dom, Terms, and_ex, keys_ex, total_key_ex}
 use Rattle.ess_repr_laws.specs.RelationParts.{diagonal_ex}
+use Rattle.ess_repr_laws.specs.ViewParts.{pair_relation_dom, pairs_ex}
 use Rattle.ess_repr_laws.specs.Structure.{shapes, structure}
 use Rattle.ess_repr_laws.specs.CanonicalTables.{TablesFit}
 use Rattle.ess_repr_laws.specs.StructureMeaning.{Bound, M, Placed, axes_members, Ready}
@@ -94,3 +95,20 @@ of-injective = refl
 pub of-reflexive : diagonal_ex name 1 (bool_dom ∷ bool_dom ∷ []) (codes "a") no_exs
     ≡ fun1 true Fun.And (comp_ex (cell_ex true (codes "a") (more_exs (name_ex (codes "q")) (more_exs (name_ex (codes "q")) no_exs))) (over (name_pat (codes "q")) bool_dom no_gens))
 of-reflexive = refl
+
+-- The relation of a total function's pairs has as many pairs as bool has members; the least size is the function's.
+pub of-pair-sizes : pair_relation_dom at_atom (valued Key.MinSize ∷ flag Key.Total ∷ []) (more_exs (number_ex (pos 1)) no_exs) bool_dom bool_dom
+    ≡ relation_dom (valued Key.Size ∷ valued Key.MinSize ∷ []) (more_exs (number_ex (pos 2)) (more_exs (number_ex (pos 1)) no_exs)) (more_doms bool_dom (more_doms bool_dom no_doms))
+of-pair-sizes = refl
+
+-- An injective function's pairs: first components differ, and so do second ones.
+pub of-pairs : pairs_ex name 1 (flag Key.Injective ∷ []) bool_dom bool_dom (name_ex (codes "e"))
+    ≡ and_ex (fun1 true Fun.AllDiff (comp_ex (node_ex true (index (to_component 1 ∷ [])) (more_exs (name_ex (codes "q")) no_exs)) (from (name_pat (codes "q")) (name_ex (codes "e")) no_gens)))
+    (and_ex (fun1 true Fun.AllDiff (comp_ex (node_ex true (index (to_component 2 ∷ [])) (more_exs (name_ex (codes "q")) no_exs)) (from (name_pat (codes "q")) (name_ex (codes "e")) no_gens))) (truth_ex true))
+of-pairs = refl
+
+-- A function from bool to bool as a relation that is a matrix: what is asked of the relation, and of the pairs of its view.
+pub of-function-as-relation : structure name at_atom (repr ReprKind.FunctionAsRelation (more_reprs (repr ReprKind.RelationAsMatrix no_reprs) no_reprs)) (function_dom [] no_exs bool_dom bool_dom) ((codes "a") ∷ []) 1 no_exs
+    ≡ and_ex (structure name at_atom (repr ReprKind.RelationAsMatrix no_reprs) (pair_relation_dom at_atom [] no_exs bool_dom bool_dom) ((codes "a") ∷ []) 1 no_exs)
+    (pairs_ex name 1 [] bool_dom bool_dom (seen_ex (repr ReprKind.RelationAsMatrix no_reprs) (relation_dom (valued Key.MaxSize ∷ []) (more_exs (number_ex (pos 2)) no_exs) (more_doms bool_dom (more_doms bool_dom no_doms))) ((codes "a") ∷ []) no_exs))
+of-function-as-relation = refl

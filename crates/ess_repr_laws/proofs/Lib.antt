@@ -136,6 +136,9 @@ pub mod StructureRepetition
 pub mod StructureDummies
 pub mod StructureFlags
 pub mod StructureTupleSets
+pub mod ViewsOfCells
+pub mod StructureConversions
+pub mod StructurePairs
 pub mod StructureAll
 pub mod StructureOfTables
 pub mod ExamplesStructure

@@ -20,7 +20,9 @@ use Rattle.ess_repr_laws.proofs.StructureMultisets.{mset-occurrence-structure}
 use Rattle.ess_repr_laws.proofs.StructureCounted.{counted-structure}
 use Rattle.ess_repr_laws.proofs.StructureRepetition.{repetition-structure}
 use Rattle.ess_repr_laws.proofs.StructureDummies.{dummy-structure}
-use Rattle.ess_semantics.specs.Sizes.{child_set}
+use Rattle.ess_semantics.specs.Sizes.{child_relation, child_set}
+use Rattle.ess_repr_laws.specs.ViewParts.{pair_relation_dom}
+use Rattle.ess_repr_laws.proofs.StructurePairs.{pairs-structure}
 use Rattle.ess_repr_laws.proofs.StructureTupleSets.{tuple-set-structure}
 use Rattle.ess_repr_laws.proofs.StructureSets.{occurrence-structure, explicit-structure, marker-structure}
 
@@ -58,6 +60,9 @@ module _ (env0 : Env) (q : ℕ → Text) (q-apart : (m l : ℕ) → l < m → sa
         dummy-structure env0 q q-apart terms ms es d ks e h.0.0 h.0.1 h.0.2 h.1.0 h.1.1 h.1.2 h.2 h.3
     structures (repr ReprKind.RelationAsSet (more_reprs r no_reprs)) (relation_dom ms es ds) (relations ks xs) h =
         tuple-set-structure env0 q q-apart terms r ms es ds ks xs h.0.0 h.0.1 (structures r (tuple_set_dom ms es ds) (child_set ks xs) h.1)
+    structures (repr ReprKind.FunctionAsRelation (more_reprs r no_reprs)) (function_dom ms es d c) (functions ks x y) h =
+        pairs-structure env0 q q-apart terms r ms es d c ks x y h.0.0 h.0.1 h.1.0 h.1.1 h.2 h.3
+        (structures r (pair_relation_dom terms ms es d c) (child_relation ks x y) h.4)
     structures _ d e h = absurd h
 
     -- The same of components.

@@ -35,7 +35,8 @@ use Rattle.ess_repr_laws.proofs.StructureOf.{StructureOf}
 use Rattle.ess_repr_laws.proofs.StructurePlaces.{placed-long}
 use Rattle.ess_repr_laws.proofs.StructureTuples.{under-none}
 
-plain : (ds : List Declaration) → under [] ds ++ [] ≡ ds
+-- What stands under no axes stands as it is.
+pub plain : (ds : List Declaration) → under [] ds ++ [] ≡ ds
 plain ds = append-nil (under [] ds) ∙ under-none ds
 
 module _ (r : Repr) (ks : List Attribute) (xs : Domains) (right : Right r (child_set ks xs)) (fl : has_flags_among no_key ks ≡ true) (as' : AreSizes (tuple_set_sizes ks) ks) where

@@ -9,6 +9,7 @@ pub mod TypedDomains
 -- The constraint that cells are canonical
 pub mod StructureParts
 pub mod RelationParts
+pub mod ViewParts
 pub mod Structure
 pub mod StructureMeaning
 -- What is proved

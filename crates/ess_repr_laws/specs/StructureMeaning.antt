@@ -2,19 +2,20 @@
 -- q 0, q 1 and so on may be bound, each to a value.
 use Rattle.std.specs.Prelude.{◌≡◌, ℕ, ◌<◌, Bool, true, false, ◌&&◌, ◌||◌, not, List, [], ◌∷◌, ◌++◌, map, ℤ, pos, Some}
 use Rattle.ess_repr_laws.specs.StructureParts.{Shape, Terms, tuple_set_dom}
+use Rattle.ess_repr_laws.specs.ViewParts.{pair_relation_dom}
 use Rattle.ess_semantics.specs.Kinds.{dom_list}
 use Rattle.ess_semantics.specs.Atoms.{IsAtom, AreAtoms}
-use Rattle.ess_repr_laws.specs.Finite.{HaveLists}
+use Rattle.ess_repr_laws.specs.Finite.{HaveLists, Enumerated}
 use Rattle.ess_semantics.specs.Attributes.{set_attributes_hold}
 use Rattle.ess_repr_laws.specs.Rooms.{HasDummy}
 use Rattle.ess_semantics.specs.SetLayers.{dummy_of}
-use Rattle.ess_semantics.specs.Domains.{booleans, Attribute, attribute, numbered, flagged, Domain, Domains, no_domains, more_domains, tuples, records, matrices, sets, msets, functions, relations, domain_list, members, member_list}
+use Rattle.ess_semantics.specs.Domains.{booleans, Attribute, attribute, has, numbered, flagged, Domain, Domains, no_domains, more_domains, tuples, records, matrices, sets, msets, functions, relations, domain_list, members, member_list}
 use Rattle.ess_semantics.specs.Layers.{as_cell}
 use Rattle.ess_semantics.specs.Meaning.{Env, members_in, cell_value, meaning, meanings, domain_of, is_bool_dom, attributes_of, as_int}
 use Rattle.ess_semantics.specs.Names.{look}
 use Rattle.ess_semantics.specs.Numbers.{one_to}
 use Rattle.ess_semantics.specs.Order.{same_text}
-use Rattle.ess_semantics.specs.Sizes.{slots_of_set, slots_of_mset, size_attributes, child_set}
+use Rattle.ess_semantics.specs.Sizes.{slots_of_set, slots_of_mset, size_attributes, pair_sizes, child_relation, child_set}
 use Rattle.ess_semantics.specs.Tables.{Tables, is_cell}
 use Rattle.ess_semantics.specs.Trees.{Ex, Exs, Dom, Doms, no_doms, more_doms, Mark, Repr, Reprs, repr, no_reprs, more_reprs, tuple_dom, record_dom, matrix_dom, set_dom, mset_dom, function_dom, relation_dom, no_exs, more_exs}
 use Rattle.ess_semantics.specs.Values.{Text, Value, number, truth}
@@ -103,6 +104,16 @@ asks_no_times (flagged k ∷ ks) = asks_no_times ks
 abbrev pub tuple_set_sizes : List Attribute → List Attribute
 tuple_set_sizes ks = size_attributes (attribute Key.Size ks) (attribute Key.MinSize ks) (attribute Key.MaxSize ks)
 
+-- P of each attribute without a number.
+abbrev pub EachFlag : (Key → Type 0) → List Attribute → Type 0
+EachFlag P [] = Unit {0}
+EachFlag P (numbered k n ∷ ks) = EachFlag P ks
+EachFlag P (flagged k ∷ ks) = P k × EachFlag P ks
+
+-- Where the domain is bool, this is it.
+abbrev pub BoolIs : Dom → Domain → Type 0
+BoolIs d e = is_bool_dom d ≡ true → e ≡ booleans
+
 -- The sizes that the attributes as' allow are among those of ks. So where no attribute stands twice.
 abbrev pub AreSizes : List Attribute → List Attribute → Type 0
 AreSizes as' ks = (n : ℕ) → set_attributes_hold as' n ≡ true → set_attributes_hold ks n ≡ true
@@ -148,6 +159,7 @@ abbrev mutual
       [] ∷ on_members (slot_numbers (slots_of_mset ks e)) (axes_members r e)
   axes_members (repr ReprKind.ExplicitVarSizeWithDummy no_reprs) (sets ks e) = slot_numbers (slots_of_set ks e) ∷ []
   axes_members (repr ReprKind.RelationAsSet (more_reprs r no_reprs)) (relations ks xs) = axes_members r (child_set ks xs)
+  axes_members (repr ReprKind.FunctionAsRelation (more_reprs r no_reprs)) (functions ks x y) = axes_members r (child_relation ks x y)
   axes_members _ e = []
 
   -- Those of the views of components.
@@ -181,6 +193,18 @@ module _ (env0 : Env) (q : ℕ → Text) (q-apart : (m l : ℕ) → l < m → sa
   Placed [] [] [] = Unit {0}
   Placed (s ∷ ss) (vss ∷ vsss) (t ∷ ts) = (look env0.cells s.name ≡ Some t) × AxesAre s.axes vss × Placed ss vsss ts
   Placed _ vsss ts = ⊥
+
+  -- The domain is this one, whatever is bound.
+  abbrev pub DomainIs : Dom → Domain → Type 0
+  DomainIs d e = (bs : Bound) → domain_of d (M bs) ≡ Some e
+
+  -- What an attribute without a number asks of a function from x to y as a relation of pairs, where y is the domain c: of a total
+  -- one, that `total` stands among the attributes ks, and that the members of x are listed; of a surjective one that those of y are.
+  abbrev pub PairKeyReady : Dom → List Attribute → Domain → Domain → Key → Type 0
+  PairKeyReady c ks x y Key.Total = (has Key.Total ks ≡ true) × (members x ≡ Some (member_list x)) × Enumerated x
+  PairKeyReady c ks x y Key.Surjective = (members y ≡ Some (member_list y)) × AxesAre (c ∷ []) (member_list y ∷ [])
+  PairKeyReady c ks x y Key.Bijective = (members y ≡ Some (member_list y)) × AxesAre (c ∷ []) (member_list y ∷ [])
+  PairKeyReady c ks x y _ = Unit {0}
 
 module _ (env0 : Env) (q : ℕ → Text) (q-apart : (m l : ℕ) → l < m → same_text (q m) (q l) ≡ false) (terms : Terms) where
   -- The attributes are these, whatever names are bound.
@@ -246,6 +270,10 @@ module _ (env0 : Env) (q : ℕ → Text) (q-apart : (m l : ℕ) → l < m → sa
         SlotsAre (set_dom ms es d) (slots_of_set ks e)
     Ready (repr ReprKind.RelationAsSet (more_reprs r no_reprs)) (relation_dom ms es ds) (relations ks xs) =
         ((has_flags_among no_key ks ≡ true) × AreSizes (tuple_set_sizes ks) ks) × Ready r (tuple_set_dom ms es ds) (child_set ks xs)
+    Ready (repr ReprKind.FunctionAsRelation (more_reprs r no_reprs)) (function_dom ms es d c) (functions ks x y) =
+        (BoolIs d x × BoolIs c y) × (AreSizes (pair_sizes ks x) ks × EachFlag (PairKeyReady env0 q q-apart c ks x y) ks) × Attributes ms es ks ×
+        DomainIs env0 q q-apart (pair_relation_dom terms ms es d c) (child_relation ks x y) ×
+        Ready r (pair_relation_dom terms ms es d c) (child_relation ks x y)
     Ready _ d e = ⊥
 
     -- The same of components.
