@@ -139,6 +139,7 @@ pub mod StructureTupleSets
 pub mod ViewsOfCells
 pub mod StructureConversions
 pub mod StructurePairs
+pub mod SizeMarks
 pub mod StructureAll
 pub mod StructureOfTables
 pub mod ExamplesStructure
