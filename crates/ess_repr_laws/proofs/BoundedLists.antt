@@ -80,7 +80,8 @@ counted f g n m K u form = record {
         chosen : AllIn (map (count x.0) S) (replicate (length S) (from_up 0 (suc m)))
         chosen = subst (λ k. AllIn (map (count x.0) S) (replicate k (from_up 0 (suc m)))) (map-long (count x.0) S) (all-in (from_up 0 (suc m)) (map (count x.0) S) (each S))
 
-count-once : (xs : List Value) (v : Value) → Distinct xs → count xs v ≤ 1
+-- An item of a list without repeats stands once.
+pub count-once : (xs : List Value) (v : Value) → Distinct xs → count xs v ≤ 1
 count-once [] v d = omega arith
 count-once (x ∷ xs) v d = go (same x v) refl (count-once xs v d.1)
   where

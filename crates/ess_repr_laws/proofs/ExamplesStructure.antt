@@ -6,7 +6,7 @@ use Rattle.ess_semantics.specs.declared.words.Key.{Key}
 use Rattle.std.specs.Prelude.{codes}
 use Rattle.ess_semantics.specs.Values.{Text, truth}
 use Rattle.ess_semantics.specs.Order.{same_text}
-use Rattle.ess_semantics.specs.Trees.{valued, flag, Repr, repr, no_reprs, more_reprs, Ex, number_ex, truth_ex, no_exs, Dom, bool_dom, tuple_dom, matrix_dom, set_dom, function_dom, no_doms, more_doms, more_exs, name_ex, cell_ex, comp_ex, over, name_pat, no_gens, fun1, relation_dom, node_ex, seen_ex, from, index, to_component}
+use Rattle.ess_semantics.specs.Trees.{valued, flag, Repr, repr, no_reprs, more_reprs, Ex, number_ex, truth_ex, no_exs, Dom, bool_dom, tuple_dom, matrix_dom, set_dom, function_dom, no_doms, more_doms, more_exs, name_ex, cell_ex, comp_ex, over, name_pat, no_gens, fun1, relation_dom, partition_dom, node_ex, seen_ex, from, index, to_component}
 use Rattle.ess_semantics.specs.Domains.{Domain, booleans, sets}
 use Rattle.ess_semantics.specs.Tables.{Tables, is_cell}
 use Rattle.ess_semantics.specs.Cells.{cells_of}
@@ -17,7 +17,7 @@ use Rattle.ess_semantics.specs.Meaning.{Env, meaning}
 use Rattle.ess_semantics.specs.Tidy.{over_axes}
 use Rattle.ess_repr_laws.specs.StructureParts.{tuple_set_dom, Terms, and_ex, keys_ex, total_key_ex}
 use Rattle.ess_repr_laws.specs.RelationParts.{diagonal_ex}
-use Rattle.ess_repr_laws.specs.ViewParts.{pair_relation_dom, pairs_ex}
+use Rattle.ess_repr_laws.specs.ViewParts.{pair_relation_dom, pairs_ex, part_set_dom, parts_ex}
 use Rattle.ess_repr_laws.specs.Structure.{shapes, structure}
 use Rattle.ess_repr_laws.specs.CanonicalTables.{TablesFit}
 use Rattle.ess_repr_laws.specs.StructureMeaning.{Bound, M, Placed, axes_members, Ready}
@@ -112,3 +112,14 @@ pub of-function-as-relation : structure name at_atom (repr ReprKind.FunctionAsRe
     ≡ and_ex (structure name at_atom (repr ReprKind.RelationAsMatrix no_reprs) (pair_relation_dom at_atom [] no_exs bool_dom bool_dom) ((codes "a") ∷ []) 1 no_exs)
     (pairs_ex name 1 [] bool_dom bool_dom (seen_ex (repr ReprKind.RelationAsMatrix no_reprs) (relation_dom (valued Key.MaxSize ∷ []) (more_exs (number_ex (pos 2)) no_exs) (more_doms bool_dom (more_doms bool_dom no_doms))) ((codes "a") ∷ []) no_exs))
 of-function-as-relation = refl
+
+-- The parts of a partition of bool in two parts of at most three: the set has two members, each of at most three.
+pub of-part-sizes : part_set_dom at_atom (valued Key.MaxPartSize ∷ valued Key.NumParts ∷ []) (more_exs (number_ex (pos 3)) (more_exs (number_ex (pos 2)) no_exs)) bool_dom
+    ≡ set_dom (valued Key.Size ∷ []) (more_exs (number_ex (pos 2)) no_exs) (set_dom (valued Key.MaxSize ∷ []) (more_exs (number_ex (pos 3)) no_exs) bool_dom)
+of-part-sizes = refl
+
+-- A partition of bool as a set of sets in slots: what is asked of the set, and of the parts of its view.
+pub of-partition-as-set : structure name at_atom (repr ReprKind.PartitionAsSet (more_reprs (repr ReprKind.ExplicitVarSizeWithMarker (more_reprs (repr ReprKind.Occurrence no_reprs) no_reprs)) no_reprs)) (partition_dom [] no_exs bool_dom) ((codes "m") ∷ (codes "a") ∷ []) 1 no_exs
+    ≡ and_ex (structure name at_atom (repr ReprKind.ExplicitVarSizeWithMarker (more_reprs (repr ReprKind.Occurrence no_reprs) no_reprs)) (part_set_dom at_atom [] no_exs bool_dom) ((codes "m") ∷ (codes "a") ∷ []) 1 no_exs)
+    (parts_ex name 1 bool_dom (seen_ex (repr ReprKind.ExplicitVarSizeWithMarker (more_reprs (repr ReprKind.Occurrence no_reprs) no_reprs)) (set_dom (valued Key.MaxSize ∷ []) (more_exs (number_ex (pos 2)) no_exs) (set_dom [] no_exs bool_dom)) ((codes "m") ∷ (codes "a") ∷ []) no_exs))
+of-partition-as-set = refl

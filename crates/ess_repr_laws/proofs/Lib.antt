@@ -140,6 +140,8 @@ pub mod ViewsOfCells
 pub mod StructureConversions
 pub mod StructurePairs
 pub mod SizeMarks
+pub mod OnceHeld
+pub mod StructurePartitions
 pub mod StructureAll
 pub mod StructureOfTables
 pub mod ExamplesStructure

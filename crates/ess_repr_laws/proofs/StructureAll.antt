@@ -3,8 +3,8 @@ use Rattle.std.proofs.Common.{◌≡◌, ℕ, ◌<◌, false, List, [], ◌∷�
 use Rattle.ess_semantics.specs.declared.words.ReprKind.{ReprKind}
 use Rattle.ess_semantics.specs.Values.{Text}
 use Rattle.ess_semantics.specs.Order.{same_text}
-use Rattle.ess_semantics.specs.Trees.{Repr, Reprs, repr, no_reprs, more_reprs, Dom, Doms, no_doms, more_doms, tuple_dom, record_dom, matrix_dom, set_dom, mset_dom, function_dom, relation_dom}
-use Rattle.ess_semantics.specs.Domains.{Domain, tuples, records, matrices, sets, msets, functions, relations, domain_list}
+use Rattle.ess_semantics.specs.Trees.{Repr, Reprs, repr, no_reprs, more_reprs, Dom, Doms, no_doms, more_doms, tuple_dom, record_dom, matrix_dom, set_dom, mset_dom, function_dom, relation_dom, partition_dom}
+use Rattle.ess_semantics.specs.Domains.{Domain, tuples, records, matrices, sets, msets, functions, relations, partitions, domain_list}
 use Rattle.ess_semantics.specs.Meaning.{Env}
 use Rattle.ess_repr_laws.specs.StructureParts.{Terms, tuple_set_dom}
 use Rattle.ess_repr_laws.specs.StructureMeaning.{Ready, AllReady}
@@ -20,9 +20,10 @@ use Rattle.ess_repr_laws.proofs.StructureMultisets.{mset-occurrence-structure}
 use Rattle.ess_repr_laws.proofs.StructureCounted.{counted-structure}
 use Rattle.ess_repr_laws.proofs.StructureRepetition.{repetition-structure}
 use Rattle.ess_repr_laws.proofs.StructureDummies.{dummy-structure}
-use Rattle.ess_semantics.specs.Sizes.{child_relation, child_set}
-use Rattle.ess_repr_laws.specs.ViewParts.{pair_relation_dom}
+use Rattle.ess_semantics.specs.Sizes.{child_relation, child_set, child_parts}
+use Rattle.ess_repr_laws.specs.ViewParts.{pair_relation_dom, part_set_dom}
 use Rattle.ess_repr_laws.proofs.StructurePairs.{pairs-structure}
+use Rattle.ess_repr_laws.proofs.StructurePartitions.{partition-structure}
 use Rattle.ess_repr_laws.proofs.StructureTupleSets.{tuple-set-structure}
 use Rattle.ess_repr_laws.proofs.StructureSets.{occurrence-structure, explicit-structure, marker-structure}
 
@@ -63,6 +64,9 @@ module _ (env0 : Env) (q : ℕ → Text) (q-apart : (m l : ℕ) → l < m → sa
     structures (repr ReprKind.FunctionAsRelation (more_reprs r no_reprs)) (function_dom ms es d c) (functions ks x y) h =
         pairs-structure env0 q q-apart terms r ms es d c ks x y h.0.0 h.0.1 h.1.0 h.1.1 h.2 h.3
         (structures r (pair_relation_dom terms ms es d c) (child_relation ks x y) h.4)
+    structures (repr ReprKind.PartitionAsSet (more_reprs r no_reprs)) (partition_dom ms es d) (partitions ks x) h =
+        partition-structure env0 q q-apart terms r ms es d ks x h.0.0 h.0.1 h.0.2 h.1.0 h.1.1 h.2
+        (structures r (part_set_dom terms ms es d) (child_parts ks x) h.3)
     structures _ d e h = absurd h
 
     -- The same of components.

@@ -1,24 +1,26 @@
 -- What is asked of a view and its tables so that its structure constraint means that the cells are canonical. Reserved names
 -- q 0, q 1 and so on may be bound, each to a value.
-use Rattle.std.specs.Prelude.{◌≡◌, ℕ, ◌<◌, Bool, true, false, ◌&&◌, ◌||◌, not, List, [], ◌∷◌, ◌++◌, map, ℤ, pos, Some}
+use Rattle.std.specs.Prelude.{◌≡◌, if◌then◌else◌, length, ℕ, ◌<◌, Bool, true, false, ◌&&◌, ◌||◌, not, List, [], ◌∷◌, ◌++◌, map, ℤ, pos, Some}
 use Rattle.ess_repr_laws.specs.StructureParts.{Shape, Terms, tuple_set_dom}
-use Rattle.ess_repr_laws.specs.ViewParts.{pair_relation_dom}
+use Rattle.ess_repr_laws.specs.ViewParts.{pair_relation_dom, part_set_dom}
 use Rattle.ess_semantics.specs.Kinds.{dom_list}
 use Rattle.ess_semantics.specs.Atoms.{IsAtom, AreAtoms}
-use Rattle.ess_repr_laws.specs.Finite.{HaveLists, Enumerated}
-use Rattle.ess_semantics.specs.Attributes.{set_attributes_hold}
+use Rattle.ess_repr_laws.specs.Finite.{HaveLists, Complete, Enumerated}
+use Rattle.ess_semantics.specs.Attributes.{each_holds, partition_holds, set_attributes_hold}
+use Rattle.ess_semantics.specs.Lists.{or_else}
+use Rattle.std.specs.List.{list_all}
 use Rattle.ess_repr_laws.specs.Rooms.{HasDummy}
 use Rattle.ess_semantics.specs.SetLayers.{dummy_of}
-use Rattle.ess_semantics.specs.Domains.{booleans, Attribute, attribute, has, numbered, flagged, Domain, Domains, no_domains, more_domains, tuples, records, matrices, sets, msets, functions, relations, domain_list, members, member_list}
+use Rattle.ess_semantics.specs.Domains.{booleans, Attribute, attribute, has, numbered, flagged, Domain, Domains, no_domains, more_domains, tuples, records, matrices, sets, msets, functions, relations, partitions, domain_list, members, member_list}
 use Rattle.ess_semantics.specs.Layers.{as_cell}
 use Rattle.ess_semantics.specs.Meaning.{Env, members_in, cell_value, meaning, meanings, domain_of, is_bool_dom, attributes_of, as_int}
 use Rattle.ess_semantics.specs.Names.{look}
 use Rattle.ess_semantics.specs.Numbers.{one_to}
 use Rattle.ess_semantics.specs.Order.{same_text}
-use Rattle.ess_semantics.specs.Sizes.{slots_of_set, slots_of_mset, size_attributes, pair_sizes, child_relation, child_set}
+use Rattle.ess_semantics.specs.Sizes.{slots_of_set, slots_of_mset, size_attributes, pair_sizes, child_relation, child_set, child_parts, bound}
 use Rattle.ess_semantics.specs.Tables.{Tables, is_cell}
-use Rattle.ess_semantics.specs.Trees.{Ex, Exs, Dom, Doms, no_doms, more_doms, Mark, Repr, Reprs, repr, no_reprs, more_reprs, tuple_dom, record_dom, matrix_dom, set_dom, mset_dom, function_dom, relation_dom, no_exs, more_exs}
-use Rattle.ess_semantics.specs.Values.{Text, Value, number, truth}
+use Rattle.ess_semantics.specs.Trees.{Ex, Exs, Dom, Doms, no_doms, more_doms, Mark, Repr, Reprs, repr, no_reprs, more_reprs, tuple_dom, record_dom, matrix_dom, set_dom, mset_dom, function_dom, relation_dom, partition_dom, no_exs, more_exs}
+use Rattle.ess_semantics.specs.Values.{Text, Value, items_of, number, truth}
 use Rattle.ess_semantics.specs.declared.words.Key.{Key}
 use Rattle.ess_semantics.specs.declared.words.ReprKind.{ReprKind}
 
@@ -118,6 +120,23 @@ BoolIs d e = is_bool_dom d ≡ true → e ≡ booleans
 abbrev pub AreSizes : List Attribute → List Attribute → Type 0
 AreSizes as' ks = (n : ℕ) → set_attributes_hold as' n ≡ true → set_attributes_hold ks n ≡ true
 
+-- The attributes of the set of a partition's parts.
+abbrev pub part_counts : List Attribute → Domain → List Attribute
+part_counts ks x =
+    size_attributes (attribute Key.NumParts ks) (attribute Key.MinNumParts ks)
+    (if has Key.NumParts ks then attribute Key.MaxNumParts ks else or_else (attribute Key.MaxNumParts ks) (Some (bound x)))
+
+-- Those of each part.
+abbrev pub part_sizes_of : List Attribute → List Attribute
+part_sizes_of ks = size_attributes (attribute Key.PartSize ks) (attribute Key.MinPartSize ks) (attribute Key.MaxPartSize ks)
+
+-- What these allow is allowed by the attributes with a number of ks. So where no attribute stands twice.
+abbrev pub ArePartSizes : List Attribute → Domain → Type 0
+ArePartSizes ks x =
+    (ps : List Value) → set_attributes_hold (part_counts ks x) (length ps) ≡ true →
+    list_all (λ p. set_attributes_hold (part_sizes_of ks) (length (items_of p))) ps ≡ true →
+    each_holds ks (λ k n. partition_holds k n ps) (λ k. true) ≡ true
+
 -- Further axes in front, by their members.
 abbrev pub on_members : List (List Value) → List (List (List Value)) → List (List (List Value))
 on_members uss vsss = map (λ vss. uss ++ vss) vsss
@@ -160,6 +179,7 @@ abbrev mutual
   axes_members (repr ReprKind.ExplicitVarSizeWithDummy no_reprs) (sets ks e) = slot_numbers (slots_of_set ks e) ∷ []
   axes_members (repr ReprKind.RelationAsSet (more_reprs r no_reprs)) (relations ks xs) = axes_members r (child_set ks xs)
   axes_members (repr ReprKind.FunctionAsRelation (more_reprs r no_reprs)) (functions ks x y) = axes_members r (child_relation ks x y)
+  axes_members (repr ReprKind.PartitionAsSet (more_reprs r no_reprs)) (partitions ks x) = axes_members r (child_parts ks x)
   axes_members _ e = []
 
   -- Those of the views of components.
@@ -274,6 +294,10 @@ module _ (env0 : Env) (q : ℕ → Text) (q-apart : (m l : ℕ) → l < m → sa
         (BoolIs d x × BoolIs c y) × (AreSizes (pair_sizes ks x) ks × EachFlag (PairKeyReady env0 q q-apart c ks x y) ks) × Attributes ms es ks ×
         DomainIs env0 q q-apart (pair_relation_dom terms ms es d c) (child_relation ks x y) ×
         Ready r (pair_relation_dom terms ms es d c) (child_relation ks x y)
+    Ready (repr ReprKind.PartitionAsSet (more_reprs r no_reprs)) (partition_dom ms es d) (partitions ks x) =
+        ((members x ≡ Some (member_list x)) × Complete x × AxesAre env0 q q-apart (d ∷ []) (member_list x ∷ [])) ×
+        ((has_flags_among no_key ks ≡ true) × ArePartSizes ks x) × DomainIs env0 q q-apart (part_set_dom terms ms es d) (child_parts ks x) ×
+        Ready r (part_set_dom terms ms es d) (child_parts ks x)
     Ready _ d e = ⊥
 
     -- The same of components.

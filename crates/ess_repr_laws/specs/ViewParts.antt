@@ -1,14 +1,16 @@
 -- Parts of the constraint that cells are canonical that speak of what the cells of a child stand for: that view's items, which the
 -- names q l, q (l + 1) and so on run over.
-use Rattle.std.specs.Prelude.{ℕ, suc, ◌||◌, if◌then◌else◌, true, List, [], ◌∷◌, pos}
+use Rattle.std.specs.Prelude.{ℕ, suc, ◌||◌, if◌then◌else◌, true, false, List, [], ◌∷◌, pos}
+use Rattle.ess_semantics.specs.declared.words.Op1.{Op1}
 use Rattle.ess_semantics.specs.declared.words.Op2.{Op2}
 use Rattle.ess_semantics.specs.declared.words.Fun.{Fun}
 use Rattle.ess_semantics.specs.declared.words.Key.{Key}
+use Rattle.ess_semantics.specs.Domains.{same_key}
 use Rattle.ess_semantics.specs.Kinds.{has_key}
 use Rattle.ess_semantics.specs.Meaning.{is_bool_dom}
 use Rattle.ess_semantics.specs.Values.{Text}
-use Rattle.ess_semantics.specs.Trees.{to_component, index, Doms, no_doms, more_doms, relation_dom, set_dom, Mark, valued, Repr, name_pat, Ex, Exs, truth_ex, name_ex, node_ex, comp_ex, seen_ex, no_exs, more_exs, Gens, no_gens, over, from, Dom, ex2, fun1}
-use Rattle.ess_repr_laws.specs.StructureParts.{Shape, Terms, and_ex, keys_ex, number_of_key}
+use Rattle.ess_semantics.specs.Trees.{flag, number_ex, ex1, to_component, index, Doms, no_doms, more_doms, relation_dom, set_dom, Mark, valued, Repr, name_pat, Ex, Exs, truth_ex, name_ex, node_ex, comp_ex, seen_ex, no_exs, more_exs, Gens, no_gens, over, from, Dom, ex2, fun1}
+use Rattle.ess_repr_laws.specs.StructureParts.{Shape, Terms, and_ex, le_ex, keys_ex, number_of_key}
 
 -- The names of tables.
 abbrev pub shape_names : List Shape → List Text
@@ -37,6 +39,31 @@ pair_relation_dom terms ms es d c =
     let s : List Mark × Exs = if has_key Key.Total ms then (valued Key.Size ∷ b.0, more_exs (bound_ex terms d) b.1) else number_of_key Key.Size ms es b.0 b.1 in
     relation_dom s.0 s.1 (more_doms d (more_doms c no_doms))
 
+-- The number of the attribute k as that of the attribute j, in front of what is there, where k stands.
+abbrev pub number_as : Key → Key → List Mark → Exs → List Mark → Exs → List Mark × Exs
+number_as k j [] es ns os = (ns, os)
+number_as k j (flag i ∷ ms) es ns os = number_as k j ms es ns os
+number_as k j (valued i ∷ ms) no_exs ns os = (ns, os)
+number_as k j (valued i ∷ ms) (more_exs e es) ns os = if same_key i k then (valued j ∷ ns, more_exs e os) else number_as k j ms es ns os
+
+-- A part of a partition: a set with the sizes of parts.
+abbrev pub part_dom : List Mark → Exs → Dom → Dom
+part_dom ms es d =
+    let a : List Mark × Exs = number_as Key.MaxPartSize Key.MaxSize ms es [] no_exs in
+    let b : List Mark × Exs = number_as Key.MinPartSize Key.MinSize ms es a.0 a.1 in
+    let s : List Mark × Exs = number_as Key.PartSize Key.Size ms es b.0 b.1 in
+    set_dom s.0 s.1 d
+
+-- The set of a partition's parts, with the attributes that speak of their number. Without `numParts` and `maxNumParts` there are at
+-- most as many as the inner domain has members.
+abbrev pub part_set_dom : Terms → List Mark → Exs → Dom → Dom
+part_set_dom terms ms es d =
+    let a : List Mark × Exs = if has_key Key.MaxNumParts ms || has_key Key.NumParts ms then number_as Key.MaxNumParts Key.MaxSize ms es [] no_exs
+    else (valued Key.MaxSize ∷ [], more_exs (bound_ex terms d) no_exs) in
+    let b : List Mark × Exs = number_as Key.MinNumParts Key.MinSize ms es a.0 a.1 in
+    let s : List Mark × Exs = number_as Key.NumParts Key.Size ms es b.0 b.1 in
+    set_dom s.0 s.1 (part_dom ms es d)
+
 module _ (q : ℕ → Text) where
   -- A generator over the items of e.
   abbrev pub each_item : ℕ → Ex → Gens → Gens
@@ -62,3 +89,14 @@ module _ (q : ℕ → Text) where
   -- The pairs that e has are those of a function with these attributes.
   abbrev pub pairs_ex : ℕ → List Mark → Dom → Dom → Ex → Ex
   pairs_ex l ms d c e = and_ex (components_differ_ex l d 1 e) (keys_ex (pair_key_ex l c e) ms)
+
+  -- How many of the sets that e has the value q l is in.
+  abbrev pub times_held_ex : ℕ → Ex → Ex
+  times_held_ex l e =
+      fun1 false Fun.Sum (comp_ex (fun1 false Fun.ToInt (ex2 true Op2.Member (name_ex (q l)) (name_ex (q (suc l))))) (each_item (suc l) e no_gens))
+
+  -- The sets that e has are the parts of a partition of d: each value is in one of them, and none is empty.
+  abbrev pub parts_ex : ℕ → Dom → Ex → Ex
+  parts_ex l d e =
+      and_ex (fun1 true Fun.And (comp_ex (ex2 true Op2.Eq (times_held_ex l e) (number_ex (pos 1))) (over (name_pat (q l)) d no_gens)))
+      (fun1 true Fun.And (comp_ex (le_ex (number_ex (pos 1)) (ex1 false Op1.Bar (name_ex (q l)))) (each_item l e no_gens)))
