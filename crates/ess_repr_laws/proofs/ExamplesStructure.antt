@@ -121,5 +121,5 @@ of-part-sizes = refl
 -- A partition of bool as a set of sets in slots: what is asked of the set, and of the parts of its view.
 pub of-partition-as-set : structure name at_atom (repr ReprKind.PartitionAsSet (more_reprs (repr ReprKind.ExplicitVarSizeWithMarker (more_reprs (repr ReprKind.Occurrence no_reprs) no_reprs)) no_reprs)) (partition_dom [] no_exs bool_dom) ((codes "m") ∷ (codes "a") ∷ []) 1 no_exs
     ≡ and_ex (structure name at_atom (repr ReprKind.ExplicitVarSizeWithMarker (more_reprs (repr ReprKind.Occurrence no_reprs) no_reprs)) (part_set_dom at_atom [] no_exs bool_dom) ((codes "m") ∷ (codes "a") ∷ []) 1 no_exs)
-    (parts_ex name 1 bool_dom (seen_ex (repr ReprKind.ExplicitVarSizeWithMarker (more_reprs (repr ReprKind.Occurrence no_reprs) no_reprs)) (set_dom (valued Key.MaxSize ∷ []) (more_exs (number_ex (pos 2)) no_exs) (set_dom [] no_exs bool_dom)) ((codes "m") ∷ (codes "a") ∷ []) no_exs))
+    (parts_ex name 1 [] bool_dom (seen_ex (repr ReprKind.ExplicitVarSizeWithMarker (more_reprs (repr ReprKind.Occurrence no_reprs) no_reprs)) (set_dom (valued Key.MaxSize ∷ []) (more_exs (number_ex (pos 2)) no_exs) (set_dom [] no_exs bool_dom)) ((codes "m") ∷ (codes "a") ∷ []) no_exs))
 of-partition-as-set = refl

@@ -1,6 +1,6 @@
 -- Sets are the parts of a partition where each value is in one of them, and none is empty.
-use Rattle.std.proofs.Common.{◌≡◌, refl, sym, ap, ◌∙◌, ℕ, zero, suc, ◌+◌, ◌≤◌, Bool, true, false, ◌&&◌, ◌||◌, not, if◌then◌else◌, List, [], ◌∷◌, ◌++◌, map, length, ℤ, pos, int_le, Some, arith}
-use Rattle.std.proofs.lemmas.Bool.{le-leb}
+use Rattle.std.proofs.Common.{◌≡◌, refl, sym, ap, ◌∙◌, ℕ, zero, suc, ◌+◌, ◌≤◌, Bool, true, false, ◌&&◌, ◌||◌, not, if◌then◌else◌, List, [], ◌∷◌, ◌++◌, map, length, ℤ, pos, int_le, Some, nat_eq, arith}
+use Rattle.std.proofs.lemmas.Bool.{eq-eqb, eqb-true, le-leb}
 use Rattle.std.proofs.lemmas.Cmp.{tied_itself}
 use Rattle.std.specs.List.{list_all}
 use Rattle.std.specs.Ordering.{is_eq}
@@ -10,6 +10,7 @@ use Rattle.ess_semantics.specs.Values.{a_set, Value, number, node, Values, to_li
 use Rattle.ess_semantics.specs.Order.{orders, same}
 use Rattle.ess_semantics.specs.Collections.{holds, count, sorted_once, rises, has_empty_part, has_overlap}
 use Rattle.ess_semantics.specs.Domains.{Domain, members, member_list}
+use Rattle.ess_semantics.specs.Attributes.{all_equal, part_sizes}
 use Rattle.ess_semantics.specs.Membership.{covers, member, same_list}
 use Rattle.ess_semantics.proofs.Multisets.{count-holds, holds-count}
 use Rattle.ess_semantics.proofs.Orders.{equal-of, orders_exact, orders_total, same-itself, same-equal, to_list-of_list}
@@ -90,6 +91,48 @@ one-is n h = inner (same-equal (number (pos n)) (number (pos 1)) h)
   where
     inner : number (pos n) ≡ number (pos 1) → n ≡ 1
     inner z = cc
+
+-- Whether a set has as many members as each of the sets.
+abbrev pub is_as_large : List Value → Value → Bool
+is_as_large ps p = list_all (λ z. same (number (pos (length (items_of p)))) (number (pos (length (items_of z))))) ps
+
+-- The set has n members.
+abbrev Long : ℕ → Value → Type 0
+Long n p = length (items_of p) ≡ n
+
+all-long : (n : ℕ) (zs : List Value) → list_all (nat_eq n) (part_sizes zs) ≡ true → AllOf zs (Long n)
+all-long n [] h = tt
+all-long n (z ∷ zs) h =
+    (sym (eqb-true n (length (items_of z)) (and-left (nat_eq n (length (items_of z))) (list_all (nat_eq n) (part_sizes zs)) h)), all-long n zs (and-right (nat_eq n (length (items_of z))) (list_all (nat_eq n) (part_sizes zs)) h))
+
+long-all : (n : ℕ) (zs : List Value) → list_all (λ z. same (number (pos n)) (number (pos (length (items_of z))))) zs ≡ true → list_all (nat_eq n) (part_sizes zs) ≡ true
+long-all n [] h = refl
+long-all n (z ∷ zs) h =
+    and-both (nat_eq n (length (items_of z))) (list_all (nat_eq n) (part_sizes zs))
+    (eq-eqb n (length (items_of z)) (inner (length (items_of z)) (same-equal (number (pos n)) (number (pos (length (items_of z)))) (and-left (same (number (pos n)) (number (pos (length (items_of z))))) (list_all (λ z. same (number (pos n)) (number (pos (length (items_of z))))) zs) h))))
+    (long-all n zs (and-right (same (number (pos n)) (number (pos (length (items_of z))))) (list_all (λ z. same (number (pos n)) (number (pos (length (items_of z))))) zs) h))
+  where
+    inner : (m : ℕ) → number (pos n) ≡ number (pos m) → n ≡ m
+    inner m e = cc
+
+one-large : (n m : ℕ) (ws : List Value) → m ≡ n → AllOf ws (Long n) → list_all (λ z. same (number (pos m)) (number (pos (length (items_of z))))) ws ≡ true
+one-large n m [] e h = refl
+one-large n m (w ∷ ws) e h =
+    and-both (same (number (pos m)) (number (pos (length (items_of w))))) (list_all (λ z. same (number (pos m)) (number (pos (length (items_of z))))) ws)
+    (ap (λ k. same (number (pos m)) (number (pos k))) (h.0 ∙ sym e) ∙ same-itself (number (pos m))) (one-large n m ws e h.1)
+
+all-large : (n : ℕ) (zs ws : List Value) → AllOf zs (Long n) → AllOf ws (Long n) → list_all (is_as_large ws) zs ≡ true
+all-large n [] ws h k = refl
+all-large n (z ∷ zs) ws h k = and-both (is_as_large ws z) (list_all (is_as_large ws) zs) (one-large n (length (items_of z)) ws h.0 k) (all-large n zs ws h.1 k)
+
+-- Sets are of one size where each is as large as each.
+pub one-size : (ps : List Value) → list_all (is_as_large ps) ps ≡ all_equal (part_sizes ps)
+one-size [] = refl
+one-size (p ∷ ps) =
+    both-ways (list_all (is_as_large (p ∷ ps)) (p ∷ ps)) (all_equal (part_sizes (p ∷ ps)))
+    (λ h. long-all (length (items_of p)) ps (and-right (same (number (pos (length (items_of p)))) (number (pos (length (items_of p))))) (list_all (λ z. same (number (pos (length (items_of p)))) (number (pos (length (items_of z))))) ps)
+    (and-left (is_as_large (p ∷ ps) p) (list_all (is_as_large (p ∷ ps)) ps) h)))
+    (λ h. let a = all-long (length (items_of p)) ps h in all-large (length (items_of p)) (p ∷ ps) (p ∷ ps) (refl, a) (refl, a))
 
 module _ (x : Domain) (me : members x ≡ Some (member_list x)) (full : Complete x) (ps : List Value) (sets : AllOf ps (SetOf x)) where
   abbrev us : List Value

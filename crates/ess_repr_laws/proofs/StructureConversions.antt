@@ -84,6 +84,12 @@ flags-means env f F (valued k ∷ ms) (v ∷ os) ks e h = go (as_int v) (attribu
         let q : ks ≡ numbered k z ∷ ls = cc in
         ih ls p (subst (EachFlag Meant) q h) ∙ ap (λ l. Some (truth (each_holds l (λ k n. true) F))) (sym q)
 
+-- What holds of each key does of each of these.
+pub all-flags : (Q : Key → Type 0) (ks : List Attribute) → ((k : Key) → Q k) → EachFlag Q ks
+all-flags Q [] f = tt
+all-flags Q (numbered k n ∷ ks) f = all-flags Q ks f
+all-flags Q (flagged k ∷ ks) f = (f k, all-flags Q ks f)
+
 -- What follows of each.
 pub each-flag : (P Q : Key → Type 0) (ks : List Attribute) → ((k : Key) → P k → Q k) → EachFlag P ks → EachFlag Q ks
 each-flag P Q [] f h = tt

@@ -1,6 +1,6 @@
 -- The structure constraint of a partition whose parts are a set: that of the set, that each value is in one part, and that none is
 -- empty. The numbers and sizes of parts are the set's own.
-use Rattle.std.proofs.Common.{◌≡◌, refl, sym, ap, ◌∙◌, subst, ℕ, suc, ◌+◌, ◌<◌, Bool, true, false, ◌&&◌, ◌||◌, not, if◌then◌else◌, List, [], ◌∷◌, map, length, ℤ, pos, ◌+ℤ◌, Some, option_map, arith, le_refl}
+use Rattle.std.proofs.Common.{◌≡◌, refl, sym, ap, ◌∙◌, subst, ℕ, suc, ◌+◌, ◌<◌, Bool, true, false, ◌&&◌, ◌||◌, not, if◌then◌else◌, List, [], ◌∷◌, map, length, ℤ, pos, ◌+ℤ◌, Option, Some, option_map, arith, le_refl}
 use Rattle.std.specs.List.{list_all}
 use Rattle.ess_semantics.specs.declared.words.ReprKind.{ReprKind}
 use Rattle.ess_semantics.specs.declared.words.Key.{Key}
@@ -12,9 +12,9 @@ use Rattle.ess_semantics.specs.Values.{Text, Value, a_set, a_partition, node, nu
 use Rattle.ess_semantics.specs.Order.{same, same_text}
 use Rattle.ess_semantics.specs.Collections.{holds, rises, sorted_once, partition_of, has_empty_part, has_overlap}
 use Rattle.ess_semantics.specs.Trees.{unary, word, Mark, Repr, repr, no_reprs, more_reprs, Ex, Exs, number_ex, name_ex, comp_ex, no_gens, over, name_pat, Dom, partition_dom, ex1, ex2, fun1}
-use Rattle.ess_semantics.specs.Domains.{Attribute, numbered, flagged, Domain, sets, partitions, members, member_list}
+use Rattle.ess_semantics.specs.Domains.{Attribute, Domain, sets, partitions, members, member_list}
 use Rattle.ess_semantics.specs.Membership.{covers, member}
-use Rattle.ess_semantics.specs.Attributes.{each_holds, set_attributes_hold, partition_attributes_hold, partition_holds, parts_hold}
+use Rattle.ess_semantics.specs.Attributes.{all_equal, each_holds, part_sizes, set_attributes_hold, partition_attributes_hold, partition_holds, parts_hold}
 use Rattle.ess_semantics.specs.Operators.{as_truth, all_true, list_value, sum_of, false_where_undefined, value_of_node}
 use Rattle.ess_semantics.specs.Sizes.{child_parts}
 use Rattle.ess_semantics.specs.Cells.{Cells, behind, cells_of}
@@ -22,25 +22,26 @@ use Rattle.ess_semantics.specs.PartitionLayers.{is_partition_of, partition_from,
 use Rattle.ess_semantics.specs.Representations.{width}
 use Rattle.ess_semantics.specs.Declarations.{Declaration, declarations_below}
 use Rattle.ess_semantics.specs.CanonicalTest.{canonical}
-use Rattle.ess_semantics.specs.Meaning.{Env, meaning}
+use Rattle.ess_semantics.specs.Meaning.{Env, attributes_of, meaning, meanings}
 use Rattle.ess_semantics.proofs.Connectives.{and-means, all-means, binary-means}
 use Rattle.ess_semantics.proofs.Orders.{to_list-of_list}
 use Rattle.ess_semantics.proofs.Sorting.{sorted_once-itself}
 use Rattle.ess_semantics.proofs.Tests.{and-left, and-right, and-both}
 use Rattle.ess_repr_laws.specs.Finite.{Complete}
-use Rattle.ess_repr_laws.specs.StructureParts.{Terms, le_ex}
+use Rattle.ess_repr_laws.specs.StructureParts.{Terms, and_ex, le_ex, keys_ex}
 use Rattle.ess_repr_laws.specs.Structure.{shapes, structure}
-use Rattle.ess_repr_laws.specs.StructureMeaning.{Bound, M, AxesAre, DomainIs, ArePartSizes, has_flags_among, no_key, axes_members, part_counts, part_sizes_of}
-use Rattle.ess_repr_laws.specs.ViewParts.{view_ex, each_item, part_set_dom, times_held_ex, parts_ex}
+use Rattle.ess_repr_laws.specs.StructureMeaning.{Bound, M, AxesAre, Attributes, DomainIs, ArePartSizes, axes_members, part_counts, part_sizes_of}
+use Rattle.ess_repr_laws.specs.ViewParts.{view_ex, each_item, part_set_dom, times_held_ex, one_size_ex, regular_key_ex, parts_ex}
 use Rattle.ess_repr_laws.proofs.Behind.{behind-length}
 use Rattle.ess_repr_laws.proofs.CanonicalConversions.{set-member-form}
 use Rattle.ess_repr_laws.proofs.CanonicalForms.{right}
 use Rattle.ess_repr_laws.proofs.CanonicalPlaces.{AllOf, all-of-list, all-of-map}
 use Rattle.ess_repr_laws.proofs.CellDomains.{axes-wide}
 use Rattle.ess_repr_laws.proofs.CellsOfMembers.{map-long}
-use Rattle.ess_repr_laws.proofs.OnceHeld.{SetOf, times_held, is_once_held, is_full, once-parts}
-use Rattle.ess_repr_laws.proofs.StructureConversions.{conversion-asked}
+use Rattle.ess_repr_laws.proofs.OnceHeld.{SetOf, times_held, is_once_held, is_full, is_as_large, once-parts, one-size}
+use Rattle.ess_repr_laws.proofs.StructureConversions.{conversion-asked, flags-means, all-flags}
 use Rattle.ess_repr_laws.proofs.StructureFits.{Fit}
+use Rattle.ess_repr_laws.proofs.StructureKeys.{attributes-apart}
 use Rattle.ess_repr_laws.proofs.StructureNumbers.{le-means}
 use Rattle.ess_repr_laws.proofs.StructureOf.{StructureOf}
 use Rattle.ess_repr_laws.proofs.StructurePlaces.{placed-long}
@@ -48,24 +49,19 @@ use Rattle.ess_repr_laws.proofs.StructureRows.{looked}
 use Rattle.ess_repr_laws.proofs.StructureTupleSets.{plain}
 use Rattle.ess_repr_laws.proofs.ViewsOfCells.{Stands, items-run, members-run, view-stands}
 
-no-flags : (ks : List Attribute) (ps : List Value) → has_flags_among no_key ks ≡ true → partition_attributes_hold ks ps ≡ each_holds ks (λ k n. partition_holds k n ps) (λ k. true)
-no-flags [] ps h = refl
-no-flags (numbered k n ∷ ks) ps h = ap (λ b. partition_holds k n ps && b) (no-flags ks ps h)
-no-flags (flagged k ∷ ks) ps h = cc
+-- The numbers and sizes of parts hold, so the attributes without a number are left.
+flags-left : (ks : List Attribute) (ps : List Value) → each_holds ks (λ k n. partition_holds k n ps) (λ k. true) ≡ true → partition_attributes_hold ks ps ≡ each_holds ks (λ k n. true) (λ k. parts_hold k ps)
+flags-left ks ps h = attributes-apart ks (λ k n. partition_holds k n ps) (λ k. parts_hold k ps) ∙ ap (λ b. b && each_holds ks (λ k n. true) (λ k. parts_hold k ps)) h
 
-parts-asked : (ks : List Attribute) (x : Domain) (ps : List Value) → rises itself ps ≡ true → partition_attributes_hold ks ps ≡ true →
-    is_some_and (partition_of ps) (λ v. is_partition_of ks x (items_of v)) ≡ (not (has_empty_part ps) && not (has_overlap ps)) && covers (members x) ps
-parts-asked ks x ps h a =
+parts-asked : (ks : List Attribute) (x : Domain) (ps : List Value) (c : Bool) → rises itself ps ≡ true → partition_attributes_hold ks ps ≡ c →
+    is_some_and (partition_of ps) (λ v. is_partition_of ks x (items_of v)) ≡ ((not (has_empty_part ps) && not (has_overlap ps)) && covers (members x) ps) && c
+parts-asked ks x ps c h a =
     ap (λ l. is_some_and (when (not (has_empty_part ps) && not (has_overlap ps)) (node a_partition (of_list l))) (λ v. is_partition_of ks x (items_of v))) (sorted_once-itself ps h)
     ∙ go (not (has_empty_part ps) && not (has_overlap ps))
   where
-    alone : (b : Bool) → b && true ≡ b
-    alone true = refl
-    alone false = refl
-
-    go : (b : Bool) → is_some_and (when b (node a_partition (of_list ps))) (λ v. is_partition_of ks x (items_of v)) ≡ b && covers (members x) ps
+    go : (b : Bool) → is_some_and (when b (node a_partition (of_list ps))) (λ v. is_partition_of ks x (items_of v)) ≡ (b && covers (members x) ps) && c
     go false = refl
-    go true = ap (is_partition_of ks x) (to_list-of_list ps) ∙ ap (λ b. covers (members x) ps && b) a ∙ alone (covers (members x) ps)
+    go true = ap (is_partition_of ks x) (to_list-of_list ps) ∙ ap (λ b. covers (members x) ps && b) a
 
 set-is : (ks : List Attribute) (x : Domain) (p : Value) → member (sets ks x) p ≡ true → SetOf x p
 set-is ks x p h = set-member-form ks x p h
@@ -151,25 +147,86 @@ module _ (env0 : Env) (q : ℕ → Text) (q-apart : (m l : ℕ) → l < m → sa
         all-bit [] = refl
         all-bit (z ∷ zs) = ap (λ b. is_full z && b) (all-bit zs)
 
+    bar-means : (k : ℕ) (p : Value) (b : Bound env0 q q-apart) → SetOf x p → meaning (name_ex (q k)) (N b) ≡ Some p → meaning (ex1 false Op1.Bar (name_ex (q k))) (N b) ≡ Some (number (pos (length (items_of p))))
+    bar-means k p b h m =
+        ap (λ o. false_where_undefined false (value_of_node (unary Op1.Bar) (o ∷ []))) m
+        ∙ ap (λ z. false_where_undefined false (value_of_node (unary Op1.Bar) (Some z ∷ []))) h.1 ∙ ap (λ z. Some (number (pos (length (items_of z))))) (sym h.1)
+
+    as-large-means : (p : Value) → SetOf x p → meaning (fun1 true Fun.And (comp_ex (ex2 true Op2.Eq (ex1 false Op1.Bar (name_ex (q l))) (ex1 false Op1.Bar (name_ex (q (suc l))))) (each_item q (suc l) e no_gens))) (N ((l, p) ∷ bs)) ≡ Some (truth (is_as_large ps p))
+    as-large-means p h =
+        all-means (N ((l, p) ∷ bs)) part (each_item q (suc l) e no_gens) (map bit ps)
+        (items-run env0 q q-apart (suc l) e no_gens ((l, p) ∷ bs) (λ here. option_map (λ z. z ∷ []) (meaning part here)) v bit (st ((l, p) ∷ []) (le_refl l, tt))
+        (all-of-map ps (SetOf x) (λ z. option_map (λ z. z ∷ []) (meaning part (N ((suc l, z) ∷ (l, p) ∷ bs))) ≡ Some (bit z ∷ [])) (λ z k. ap (option_map (λ z. z ∷ [])) (one z k)) parts))
+        ∙ ap (λ b. Some (truth b)) (all-bit ps)
+      where
+        part : Ex
+        part = ex2 true Op2.Eq (ex1 false Op1.Bar (name_ex (q l))) (ex1 false Op1.Bar (name_ex (q (suc l))))
+
+        bit : Value → Value
+        bit z = truth (same (number (pos (length (items_of p)))) (number (pos (length (items_of z)))))
+
+        one : (z : Value) → SetOf x z → meaning part (N ((suc l, z) ∷ (l, p) ∷ bs)) ≡ Some (bit z)
+        one z k =
+            binary-means (N ((suc l, z) ∷ (l, p) ∷ bs)) true Op2.Eq (ex1 false Op1.Bar (name_ex (q l))) (ex1 false Op1.Bar (name_ex (q (suc l)))) (number (pos (length (items_of p)))) (number (pos (length (items_of z))))
+            (bar-means l p ((suc l, z) ∷ (l, p) ∷ bs) h (looked env0 q q-apart l p bs ((suc l, z) ∷ []) (le_refl (suc l), tt))) (bar-means (suc l) z ((suc l, z) ∷ (l, p) ∷ bs) k (looked env0 q q-apart (suc l) z ((l, p) ∷ bs) [] tt))
+
+        all-bit : (zs : List Value) → all_true (map bit zs) ≡ list_all (λ z. same (number (pos (length (items_of p)))) (number (pos (length (items_of z))))) zs
+        all-bit [] = refl
+        all-bit (z ∷ zs) = ap (λ b. same (number (pos (length (items_of p)))) (number (pos (length (items_of z)))) && b) (all-bit zs)
+
+    one-size-means : meaning (one_size_ex q l e) (N bs) ≡ Some (truth (all_equal (part_sizes ps)))
+    one-size-means =
+        all-means (N bs) part (each_item q l e no_gens) (map bit ps)
+        (items-run env0 q q-apart l e no_gens bs (λ here. option_map (λ z. z ∷ []) (meaning part here)) v bit (st [] tt)
+        (all-of-map ps (SetOf x) (λ p. option_map (λ z. z ∷ []) (meaning part (N ((l, p) ∷ bs))) ≡ Some (bit p ∷ [])) (λ p h. ap (option_map (λ z. z ∷ [])) (as-large-means p h)) parts))
+        ∙ ap (λ b. Some (truth b)) (all-bit ps ∙ one-size ps)
+      where
+        part : Ex
+        part = fun1 true Fun.And (comp_ex (ex2 true Op2.Eq (ex1 false Op1.Bar (name_ex (q l))) (ex1 false Op1.Bar (name_ex (q (suc l))))) (each_item q (suc l) e no_gens))
+
+        bit : Value → Value
+        bit p = truth (is_as_large ps p)
+
+        all-bit : (zs : List Value) → all_true (map bit zs) ≡ list_all (is_as_large ps) zs
+        all-bit [] = refl
+        all-bit (z ∷ zs) = ap (λ b. is_as_large ps z && b) (all-bit zs)
+
+    key-means : (k : Key) → meaning (regular_key_ex (one_size_ex q l e) k) (N bs) ≡ Some (truth (parts_hold k ps))
+    key-means Key.Regular = one-size-means
+    key-means _ = refl
+
+    join : (a b c : Bool) → a && (b && c) ≡ (a && b) && c
+    join true b c = refl
+    join false b c = refl
+
     -- What is asked of the parts.
-    pub parts-means : meaning (parts_ex q l d e) (N bs) ≡ Some (truth ((not (has_empty_part ps) && not (has_overlap ps)) && covers (members x) ps))
-    parts-means =
-        and-means (N bs) (fun1 true Fun.And (comp_ex (ex2 true Op2.Eq (times_held_ex q l e) (number_ex (pos 1))) (over (name_pat (q l)) d no_gens)))
-        (fun1 true Fun.And (comp_ex (le_ex (number_ex (pos 1)) (ex1 false Op1.Bar (name_ex (q l)))) (each_item q l e no_gens))) (list_all (is_once_held ps) (member_list x)) (list_all is_full ps) once-means full-means
-        ∙ ap (λ b. Some (truth b)) (once-parts x me full ps parts)
+    pub parts-means : (ms : List Mark) (os : List (Option Value)) (ks : List Attribute) → attributes_of ms os ≡ Some ks →
+        meaning (parts_ex q l ms d e) (N bs) ≡ Some (truth (((not (has_empty_part ps) && not (has_overlap ps)) && covers (members x) ps) && each_holds ks (λ k n. true) (λ k. parts_hold k ps)))
+    parts-means ms os ks at =
+        and-means (N bs) (fun1 true Fun.And (comp_ex (ex2 true Op2.Eq (times_held_ex q l e) (number_ex (pos 1))) (over (name_pat (q l)) d no_gens))) (and_ex filled (keys_ex (regular_key_ex (one_size_ex q l e)) ms))
+        (list_all (is_once_held ps) (member_list x)) (list_all is_full ps && regular) once-means
+        (and-means (N bs) filled (keys_ex (regular_key_ex (one_size_ex q l e)) ms) (list_all is_full ps) regular full-means
+        (flags-means (N bs) (regular_key_ex (one_size_ex q l e)) (λ k. parts_hold k ps) ms os ks at (all-flags (λ k. meaning (regular_key_ex (one_size_ex q l e) k) (N bs) ≡ Some (truth (parts_hold k ps))) ks key-means)))
+        ∙ ap (λ b. Some (truth b)) (join (list_all (is_once_held ps) (member_list x)) (list_all is_full ps) regular ∙ ap (λ b. b && regular) (once-parts x me full ps parts))
+      where
+        filled : Ex
+        filled = fun1 true Fun.And (comp_ex (le_ex (number_ex (pos 1)) (ex1 false Op1.Bar (name_ex (q l)))) (each_item q l e no_gens))
+
+        regular : Bool
+        regular = each_holds ks (λ k n. true) (λ k. parts_hold k ps)
 
   -- The structure constraint of a partition as a set of parts means that its cells are canonical.
   pub partition-structure : (r : Repr) (ms : List Mark) (es : Exs) (d : Dom) (ks : List Attribute) (x : Domain) → members x ≡ Some (member_list x) → Complete x → AxesAre env0 q q-apart (d ∷ []) (member_list x ∷ []) →
-      has_flags_among no_key ks ≡ true → ArePartSizes ks x → DomainIs env0 q q-apart (part_set_dom terms ms es d) (child_parts ks x) → StructureOf env0 q q-apart terms r (part_set_dom terms ms es d) (child_parts ks x) →
+      ArePartSizes ks x → Attributes env0 q q-apart terms ms es ks → DomainIs env0 q q-apart (part_set_dom terms ms es d) (child_parts ks x) → StructureOf env0 q q-apart terms r (part_set_dom terms ms es d) (child_parts ks x) →
       StructureOf env0 q q-apart terms (repr ReprKind.PartitionAsSet (more_reprs r no_reprs)) (partition_dom ms es d) (partitions ks x)
-  partition-structure r ms es d ks x me full ax fl sizes dm child = record {
+  partition-structure r ms es d ks x me full ax sizes at dm child = record {
     covered = child.covered;
     long = λ ns. child.long ns ∙ (let z : width r ≡ 0 + (width r + 0) = omega arith in z);
     axes = child.axes ∙ ap (map (λ (t : Declaration). t.axes)) (sym (plain (declarations_below false r E)));
     found = λ ns ts w h. child.found ns ts (omega (arith, w)) h;
     there = λ out ns ts i p c'. child.there (out || false) ns ts i p (subst (λ l. Fit l (behind i (cells_of ts))) (plain (declarations_below (out || false) r E)) c');
     means = λ out ns ts l is i bs p c' st.
-        let second : Ex = parts_ex q l d (view_ex r D (shapes q terms r D ns) is) in
+        let second : Ex = parts_ex q l ms d (view_ex r D (shapes q terms r D ns) is) in
         let inner : Cells = behind i (cells_of ts) in
         and-means (N bs) (structure q terms r D ns l is) second (canonical r E inner) (as_truth (meaning second (N bs)))
         (child.means (out || false) ns ts l is i bs p (subst (λ l. Fit l inner) (plain (declarations_below (out || false) r E)) c') st) refl
@@ -184,11 +241,12 @@ module _ (env0 : Env) (q : ℕ → Text) (q-apart : (m l : ℕ) → l < m → sa
         subst (λ l. AllOf l (SetOf x)) (sym f) (all-of-map (to_list s.0) (λ p. member (sets (part_sizes_of ks) x) p ≡ true) (SetOf x) (set-is (part_sizes_of ks) x) (all-of-list (to_list s.0) (member (sets (part_sizes_of ks) x)) s.3)) in
         let w = sym (ap (member E) s.1) ∙ m in
         let z : set_attributes_hold (part_counts ks x) (length (to_list s.0)) ≡ true = and-right _ (set_attributes_hold (part_counts ks x) (length (to_list s.0))) w in
-        let n : partition_attributes_hold ks (to_list s.0) ≡ true = no-flags ks (to_list s.0) fl ∙ sizes (to_list s.0) z (each-size (to_list s.0) s.3) in
-        ap (λ w. is_some_and (partition_from w) (λ v. is_partition_of ks x (items_of v))) s.1 ∙ parts-asked ks x (to_list s.0) s.2 n
-        ∙ ap (λ l. (not (has_empty_part l) && not (has_overlap l)) && covers (members x) l) (sym f)
+        let n = flags-left ks (to_list s.0) (sizes (to_list s.0) z (each-size (to_list s.0) s.3)) in
+        let b = at bs in
+        ap (λ w. is_some_and (partition_from w) (λ v. is_partition_of ks x (items_of v))) s.1 ∙ parts-asked ks x (to_list s.0) (each_holds ks (λ k n. true) (λ k. parts_hold k (to_list s.0))) s.2 n
+        ∙ ap (λ l. ((not (has_empty_part l) && not (has_overlap l)) && covers (members x) l) && each_holds ks (λ k n. true) (λ k. parts_hold k l)) (sym f)
         ∙ sym (ap as_truth (parts-means d x me full ax l bs (view_ex r D (shapes q terms r D ns) is) v
-        (view-stands env0 q q-apart r D E (shapes q terms r D ns) (axes_members r E) ts l is i bs v refl dm p st h) parts)))));
+        (view-stands env0 q q-apart r D E (shapes q terms r D ns) (axes_members r E) ts l is i bs v refl dm p st h) parts ms (meanings es (N bs)) ks b.1)))));
   }
     where
       D : Dom

@@ -121,7 +121,7 @@ pub record LayersAreComposed : Type 0 where
 -- or up to a marker, where of the latter nothing is asked but sizes; for functions with a value or a flag and a value for each
 -- argument and relations as matrices or as sets, where of these nothing is asked but sizes, `total` of a function,
 -- `injective` of one without flags whose values are atoms, and `reflexive` and `irreflexive` of a matrix; for functions as
--- relations, with all attributes; and for partitions as sets, where nothing is asked but numbers and sizes of parts; in any nesting.
+-- relations, with all attributes; and for partitions as sets, with all attributes; in any nesting.
 abbrev pub StructuresMeanCanonical : Type 0
 StructuresMeanCanonical =
     (env0 : Env) (q : ℕ → Text) (apart : (m l : ℕ) → l < m → same_text (q m) (q l) ≡ false) (terms : Terms) →

@@ -296,7 +296,7 @@ module _ (env0 : Env) (q : ℕ → Text) (q-apart : (m l : ℕ) → l < m → sa
         Ready r (pair_relation_dom terms ms es d c) (child_relation ks x y)
     Ready (repr ReprKind.PartitionAsSet (more_reprs r no_reprs)) (partition_dom ms es d) (partitions ks x) =
         ((members x ≡ Some (member_list x)) × Complete x × AxesAre env0 q q-apart (d ∷ []) (member_list x ∷ [])) ×
-        ((has_flags_among no_key ks ≡ true) × ArePartSizes ks x) × DomainIs env0 q q-apart (part_set_dom terms ms es d) (child_parts ks x) ×
+        (ArePartSizes ks x × Attributes ms es ks) × DomainIs env0 q q-apart (part_set_dom terms ms es d) (child_parts ks x) ×
         Ready r (part_set_dom terms ms es d) (child_parts ks x)
     Ready _ d e = ⊥
 

@@ -64,6 +64,11 @@ part_set_dom terms ms es d =
     let s : List Mark × Exs = number_as Key.NumParts Key.Size ms es b.0 b.1 in
     set_dom s.0 s.1 (part_dom ms es d)
 
+-- `regular` says e.
+abbrev pub regular_key_ex : Ex → Key → Ex
+regular_key_ex e Key.Regular = e
+regular_key_ex e _ = truth_ex true
+
 module _ (q : ℕ → Text) where
   -- A generator over the items of e.
   abbrev pub each_item : ℕ → Ex → Gens → Gens
@@ -95,8 +100,15 @@ module _ (q : ℕ → Text) where
   times_held_ex l e =
       fun1 false Fun.Sum (comp_ex (fun1 false Fun.ToInt (ex2 true Op2.Member (name_ex (q l)) (name_ex (q (suc l))))) (each_item (suc l) e no_gens))
 
-  -- The sets that e has are the parts of a partition of d: each value is in one of them, and none is empty.
-  abbrev pub parts_ex : ℕ → Dom → Ex → Ex
-  parts_ex l d e =
+  -- The sets that e has are of one size.
+  abbrev pub one_size_ex : ℕ → Ex → Ex
+  one_size_ex l e =
+      fun1 true Fun.And (comp_ex (fun1 true Fun.And (comp_ex (ex2 true Op2.Eq (ex1 false Op1.Bar (name_ex (q l))) (ex1 false Op1.Bar (name_ex (q (suc l))))) (each_item (suc l) e no_gens)))
+      (each_item l e no_gens))
+
+  -- The sets that e has are the parts of a partition of d with these attributes: each value is in one of them, and none is empty.
+  abbrev pub parts_ex : ℕ → List Mark → Dom → Ex → Ex
+  parts_ex l ms d e =
       and_ex (fun1 true Fun.And (comp_ex (ex2 true Op2.Eq (times_held_ex l e) (number_ex (pos 1))) (over (name_pat (q l)) d no_gens)))
-      (fun1 true Fun.And (comp_ex (le_ex (number_ex (pos 1)) (ex1 false Op1.Bar (name_ex (q l)))) (each_item l e no_gens)))
+      (and_ex (fun1 true Fun.And (comp_ex (le_ex (number_ex (pos 1)) (ex1 false Op1.Bar (name_ex (q l)))) (each_item l e no_gens)))
+      (keys_ex (regular_key_ex (one_size_ex l e)) ms))
