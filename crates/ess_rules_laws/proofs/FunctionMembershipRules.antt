@@ -90,10 +90,11 @@ part-means W c q y a f A env new h = go (meaning a env) (meaning f env) refl ref
 -- ---- what types say
 
 -- Whether the value is a pair of these types.
-abbrev IsPairOf : Ty → Ty → Env → Value → Bool
+abbrev pub IsPairOf : Ty → Ty → Env → Value → Bool
 IsPairOf t u env x = is_pair x && is_of_type t env (from_of x) && is_of_type u env (to_of x)
 
-pairs-of : (t u : Ty) (env : Env) (v : Value) → IsTrue (is_of_type (compound2 a_function t u) env v) → Each (items_of v) (λ x. IsPairOf t u env x ≡ true)
+-- The pairs of a function are of these types.
+pub pairs-of : (t u : Ty) (env : Env) (v : Value) → IsTrue (is_of_type (compound2 a_function t u) env v) → Each (items_of v) (λ x. IsPairOf t u env x ≡ true)
 pairs-of t u env (node a_function vs) h = all-each (IsPairOf t u env) (to_list vs) (and-right _ _ h)
 pairs-of t u env _ h = cc
 
@@ -101,12 +102,13 @@ pair-is : (p : Value) → is_pair p ≡ true → p ≡ pair (from_of p) (to_of p
 pair-is (pair a b) h = refl
 pair-is _ h = cc
 
--- The components of the new name at a pair.
-first-means : (y : Text) (t u : Ty) (env : Env) (p : Value) → IsPairOf t u env p ≡ true → meaning (component_of t 1 (name_ex y)) (behind y p env) ≡ Some (from_of p)
+-- The first component of the new name at a pair.
+pub first-means : (y : Text) (t u : Ty) (env : Env) (p : Value) → IsPairOf t u env p ≡ true → meaning (component_of t 1 (name_ex y)) (behind y p env) ≡ Some (from_of p)
 first-means y t u env p h = component-means t 1 (name_ex y) (behind y p env) (cons (from_of p) (cons (to_of p) nil)) (from_of p) (name-behind y p env ∙ ap Some (pair-is p (and-left _ _ (and-left _ _ h)))) refl
     (and-right (is_pair p) _ (and-left _ _ h))
 
-second-means : (y : Text) (t u : Ty) (env : Env) (p : Value) → IsPairOf t u env p ≡ true → meaning (component_of u 2 (name_ex y)) (behind y p env) ≡ Some (to_of p)
+-- The same of the second one.
+pub second-means : (y : Text) (t u : Ty) (env : Env) (p : Value) → IsPairOf t u env p ≡ true → meaning (component_of u 2 (name_ex y)) (behind y p env) ≡ Some (to_of p)
 second-means y t u env p h = component-means u 2 (name_ex y) (behind y p env) (cons (from_of p) (cons (to_of p) nil)) (to_of p) (name-behind y p env ∙ ap Some (pair-is p (and-left _ _ (and-left _ _ h)))) refl
     (and-right (is_pair p && is_of_type t env (from_of p)) _ h)
 

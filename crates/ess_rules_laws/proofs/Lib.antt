@@ -48,3 +48,6 @@ pub mod ExamplesSplitRules
 pub mod LiteralRules
 pub mod ExamplesLiteralRules
 pub mod FieldLiterals
+pub mod Lookups
+pub mod FunctionLookups
+pub mod ExamplesLookups

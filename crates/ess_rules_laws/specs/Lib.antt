@@ -16,3 +16,5 @@ pub mod FunctionMembershipRules
 pub mod SplitRules
 pub mod LiteralRules
 pub mod FieldLiterals
+pub mod Lookups
+pub mod FunctionLookups

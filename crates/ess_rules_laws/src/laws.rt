@@ -5,6 +5,8 @@ ghost use Rattle.ess_rules_laws.specs.SpliceRules.{SpliceKeeps, TailsAreCongruen
 ghost use Rattle.ess_rules_laws.specs.GeneratorRules.{GenerateKeeps};
 ghost use Rattle.ess_rules_laws.specs.SplitRules.{SplitKeeps};
 ghost use Rattle.ess_rules_laws.specs.SourceRules.{SourceRulesKeep};
+ghost use Rattle.ess_rules_laws.specs.Lookups.{SelectRulesKeep};
+ghost use Rattle.ess_rules_laws.specs.FunctionLookups.{FunctionsAreLookedUp};
 ghost use Rattle.ess_rules_laws.specs.RuleLaws.{FoldRulesKeep, MembershipRulesKeep, InclusionRulesKeep, SizeRulesKeep, ComponentRulesKeep, LiteralRulesKeep, ListingsList};
 
 /// A value of a name that isn't free in an expression changes no meaning. So a bound name may be any name that isn't free
@@ -101,4 +103,15 @@ pub fn splitting_keeps()
 /// of a record, of `allDiff` of a list, and of `min` and `max` of a set or multiset.
 pub fn literal_rules_keep()
     ensures { LiteralRulesKeep }
+{}
+
+/// An operator on a picked value keeps its meaning as one on the item of what looks the value up, and so does a picked
+/// truth value or number by itself.
+pub fn selecting_keeps()
+    ensures { SelectRulesKeep }
+{}
+
+/// The result of a function at an argument is looked up over the pairs of the function, whatever term gives it.
+pub fn functions_are_looked_up()
+    ensures { FunctionsAreLookedUp }
 {}
