@@ -51,3 +51,4 @@ pub mod FieldLiterals
 pub mod Lookups
 pub mod FunctionLookups
 pub mod ExamplesLookups
+pub mod OccurrenceListing

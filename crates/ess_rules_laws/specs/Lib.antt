@@ -18,3 +18,4 @@ pub mod LiteralRules
 pub mod FieldLiterals
 pub mod Lookups
 pub mod FunctionLookups
+pub mod SetListings

@@ -7,6 +7,7 @@ ghost use Rattle.ess_rules_laws.specs.SplitRules.{SplitKeeps};
 ghost use Rattle.ess_rules_laws.specs.SourceRules.{SourceRulesKeep};
 ghost use Rattle.ess_rules_laws.specs.Lookups.{SelectRulesKeep};
 ghost use Rattle.ess_rules_laws.specs.FunctionLookups.{FunctionsAreLookedUp};
+ghost use Rattle.ess_rules_laws.specs.SetListings.{SetViewsAreListed};
 ghost use Rattle.ess_rules_laws.specs.RuleLaws.{FoldRulesKeep, MembershipRulesKeep, InclusionRulesKeep, SizeRulesKeep, ComponentRulesKeep, LiteralRulesKeep, ListingsList};
 
 /// A value of a name that isn't free in an expression changes no meaning. So a bound name may be any name that isn't free
@@ -114,4 +115,9 @@ pub fn selecting_keeps()
 /// The result of a function at an argument is looked up over the pairs of the function, whatever term gives it.
 pub fn functions_are_looked_up()
     ensures { FunctionsAreLookedUp }
+{}
+
+/// A view of a set kept as the members that occur lists the members of the set: those of the inner domain whose cell is true.
+pub fn set_views_are_listed()
+    ensures { SetViewsAreListed }
 {}

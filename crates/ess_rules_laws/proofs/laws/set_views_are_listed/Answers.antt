@@ -1,0 +1,5 @@
+use Rattle.ess_rules_laws.proofs.laws.set_views_are_listed.Goals as goal
+use Rattle.ess_rules_laws.proofs.OccurrenceListing.{occurrences-listed}
+
+pub returns : goal.returns
+returns c = record { of_occurrences = occurrences-listed }
