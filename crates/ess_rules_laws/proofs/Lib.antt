@@ -52,3 +52,4 @@ pub mod Lookups
 pub mod FunctionLookups
 pub mod ExamplesLookups
 pub mod OccurrenceListing
+pub mod ExamplesSetListings

@@ -1,5 +1,5 @@
 -- A view of a set kept as the members that occur lists the members of the set.
-use Rattle.std.proofs.Common.{◌≡◌, refl, sym, ap, ◌∙◌, Bool, true, false, ◌&&◌, not, if◌then◌else◌, List, [], ◌∷◌, ◌++◌, map, ℤ, Option, Some, None, option_map}
+use Rattle.std.proofs.Common.{◌≡◌, refl, sym, ap, ◌∙◌, Bool, true, false, not, if◌then◌else◌, List, [], ◌∷◌, ◌++◌, map, ℤ, Option, Some, None, option_map}
 use Rattle.std.specs.Prelude.{IsTrue, is_some}
 use Rattle.ess_semantics.specs.declared.words.ReprKind.{ReprKind}
 use Rattle.ess_semantics.specs.Lists.{and_then, all_some, is_some_and, list_or_none}
@@ -10,13 +10,13 @@ use Rattle.ess_semantics.specs.Trees.{Mark, Repr, repr, no_reprs, name_pat, Ex, 
 use Rattle.ess_semantics.specs.Domains.{Attribute, Domain, sets, members, member_list}
 use Rattle.ess_semantics.specs.Membership.{member}
 use Rattle.ess_semantics.specs.Operators.{as_truth}
-use Rattle.ess_semantics.specs.Tables.{Table, Tables, cell_at, truth_of, code}
+use Rattle.ess_semantics.specs.Tables.{Table, cell_at, truth_of, code}
 use Rattle.ess_semantics.specs.Cells.{cells_at}
 use Rattle.ess_semantics.specs.Layers.{chosen}
-use Rattle.ess_semantics.specs.Representations.{value_of_cells, value_of_tables}
+use Rattle.ess_semantics.specs.Representations.{value_of_tables}
 use Rattle.ess_semantics.specs.Declarations.{axes_of}
 use Rattle.ess_semantics.specs.Tidy.{tidy, over_axes, is_orderly}
-use Rattle.ess_semantics.specs.Meaning.{Env, meaning, meanings, collect, where_true, attributes_of, domain_of, members_in, indices, cell_in, cell_value, tables_in, seen_in}
+use Rattle.ess_semantics.specs.Meaning.{Env, meaning, meanings, collect, where_true, attributes_of, domain_of, members_in, indices, cell_in, cell_value, seen_in}
 use Rattle.ess_semantics.specs.Meets.{Meets, tidy_in}
 use Rattle.ess_semantics.specs.Substitution.{NamesAreExs}
 use Rattle.ess_semantics.proofs.Tests.{and-left, and-right}

@@ -1,8 +1,8 @@
 -- What views of sets offer as listings, a kind at a time.
-use Rattle.std.specs.Prelude.{true, List, [], ◌∷◌, Option, Some, None, IsTrue, is_some}
+use Rattle.std.specs.Prelude.{true, [], ◌∷◌, Option, Some, None, IsTrue, is_some}
 use Rattle.ess_semantics.specs.declared.words.ReprKind.{ReprKind}
 use Rattle.ess_semantics.specs.Values.{Text}
-use Rattle.ess_semantics.specs.Trees.{repr, no_reprs, name_pat, Ex, Exs, name_ex, cell_ex, seen_ex, no_exs, more_exs, Gens, no_gens, over, cond, Dom, set_dom}
+use Rattle.ess_semantics.specs.Trees.{repr, no_reprs, name_pat, Ex, Exs, name_ex, cell_ex, seen_ex, no_exs, more_exs, no_gens, over, cond, set_dom}
 use Rattle.ess_semantics.specs.Meaning.{Env, domain_of, members_in}
 use Rattle.ess_semantics.specs.Meets.{Meets}
 use Rattle.ess_rules_laws.specs.Rules.{Unused}
