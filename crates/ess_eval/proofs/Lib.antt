@@ -1,0 +1,12 @@
+pub mod Lookups
+pub mod Values
+pub mod Bindings
+pub mod Marks
+pub mod Weights
+pub mod Gathering
+pub mod Generators
+pub mod Excuses
+pub mod DomainExcuses
+pub mod Closings
+pub mod Words
+pub mod Views

@@ -1,0 +1,5 @@
+-- What the contracts of evaluation say beside the definitions of meaning
+pub mod Environments
+pub mod Items
+pub mod ClosedDomains
+pub mod Stops

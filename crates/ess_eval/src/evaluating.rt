@@ -1,0 +1,226 @@
+ghost use Rattle.std.specs.Prelude.{◌≡◌, IfOk, OnOk, true, map, option_map};
+ghost use Rattle.ess_semantics.specs.Trees.{index, application, node_ex, matrix_ex, more_exs, ex2, is_truth_op2};
+ghost use Rattle.ess_semantics.specs.Meaning.{meaning, as_int};
+ghost use Rattle.ess_semantics.specs.Large.{is_large};
+ghost use Rattle.ess_core.specs.ValueViews.{pure_val};
+ghost use Rattle.ess_core.specs.TreeViews.{pure_ex, pure_exs, pure_dom, pure_step, exs_of, words_of, within};
+ghost use Rattle.ess_eval_operators.specs.declared.OperateNo.TheVariants.{Big};
+ghost use Rattle.ess_eval.specs.Environments.{env_at};
+
+use crate::closing::domain_members;
+use crate::generating::comprehension;
+use crate::marking::{application_value, binary_value, index_value, unary_value, word_value};
+use crate::names::value_of_name;
+use crate::operands::{field_values_at, pairs_at, steps_at, values_at};
+use crate::reading::{matrix_of, number_of, view_value};
+use ess_core::{Binding, Dom, Env, Ex, Op2, Row, Step, Val};
+use ess_eval_operators::{
+    OperateNo, function_value, list_value, mset_value, partition_value, record_value,
+    relation_value, set_value, tuple_value,
+};
+use std::alloc::Global;
+
+/// What an expression means below generators that have bound names.
+#[cycle(value)]
+#[tactic(auto, using(crate::proofs::Excuses::large_in_parts))]
+pub(crate) fn value_at(
+    alloc: Global,
+    ex: &Ex,
+    env: &Env,
+    bound: &mut Row<Binding>,
+) -> Result<Option<Val>, OperateNo>
+    ensures ok { IfOk result (λ o. option_map pure_val o ≡ meaning (pure_ex ex.now) (env_at env.now bound.old)) }
+    ensures kept { OnOk result (bound.new ≡ bound.old) }
+    ensures big { result ≡ Err Big → is_large (pure_ex ex.now) (env_at env.now bound.old) ≡ true }
+{
+    match ex {
+        Ex::Num(number) => Ok(Some(Val::Num(*number))),
+        Ex::Truth(truth) => Ok(Some(Val::Truth(*truth))),
+        Ex::Name(name) => match value_of_name(name, env, bound.as_slice()) {
+            Some(val) => match val.copy(alloc) {
+                Ok(copy) => Ok(Some(copy)),
+                Err(_) => Err(OperateNo::NoMemory),
+            },
+            None => Ok(None),
+        },
+        Ex::One(op, a) => unary_value(alloc, *op, value_at(alloc, a.get(), env, bound)?),
+        Ex::Two(op, a, b) => two_at(alloc, *op, a.get(), b.get(), env, bound),
+        Ex::Call(mark, fun, args) => {
+            let args = values_at(alloc, args.as_slice(), env, bound)?;
+            word_value(alloc, *mark, *fun, args)
+        }
+        Ex::At(mark, of, steps) => indexed_at(alloc, *mark, of.get(), steps.as_slice(), env, bound),
+        Ex::Apply(mark, of, args) => applied_at(
+            alloc,
+            *mark,
+            of.get(),
+            args.as_slice(),
+            env,
+            bound,
+        ),
+        Ex::Tuple(parts) => Ok(tuple_value(
+            alloc,
+            values_at(alloc, parts.as_slice(), env, bound)?,
+        )?),
+        Ex::Rec(fields) => {
+            let vals = field_values_at(alloc, fields.as_slice(), env, bound)?;
+            Ok(record_value(alloc, fields.as_slice(), vals)?)
+        }
+        Ex::Set(members) => Ok(set_value(
+            alloc,
+            values_at(alloc, members.as_slice(), env, bound)?,
+        )?),
+        Ex::MSet(members) => Ok(mset_value(
+            alloc,
+            values_at(alloc, members.as_slice(), env, bound)?,
+        )?),
+        Ex::Function(pairs) => {
+            let mut vals = Row::new(alloc);
+            pairs_at(alloc, pairs.as_slice(), env, bound, &mut vals)?;
+            Ok(function_value(alloc, vals)?)
+        }
+        Ex::Relation(tuples) => Ok(relation_value(
+            alloc,
+            values_at(alloc, tuples.as_slice(), env, bound)?,
+        )?),
+        Ex::Partition(parts) => Ok(partition_value(
+            alloc,
+            values_at(alloc, parts.as_slice(), env, bound)?,
+        )?),
+        Ex::Matrix(items, None) => Ok(list_value(
+            alloc,
+            values_at(alloc, items.as_slice(), env, bound)?,
+        )?),
+        Ex::Matrix(items, Some(axis)) => matrix_at(alloc, items.as_slice(), axis.get(), env, bound),
+        Ex::Comp(item, gens) => comprehension(alloc, item.get(), gens.as_slice(), env, bound),
+        Ex::Cell(mark, _, _) => {
+            if *mark {
+                Ok(Some(Val::Truth(false)))
+            } else {
+                Ok(None)
+            }
+        }
+        Ex::Seen(view) => view_value(view.get(), env, bound.as_slice()),
+    }
+}
+
+/// An operator between two operands.
+#[cycle(value)]
+#[tactic(auto, using(crate::proofs::Excuses::large_in_left, crate::proofs::Excuses::large_in_right, crate::proofs::Excuses::large_two))]
+fn two_at(
+    alloc: Global,
+    op: Op2,
+    a: &Ex,
+    b: &Ex,
+    env: &Env,
+    bound: &mut Row<Binding>,
+) -> Result<Option<Val>, OperateNo>
+    ensures ok { IfOk result (λ o. option_map pure_val o ≡ meaning (ex2 (is_truth_op2 op) op (pure_ex a.now) (pure_ex b.now)) (env_at env.now bound.old)) }
+    ensures kept { OnOk result (bound.new ≡ bound.old) }
+    ensures big { result ≡ Err Big → is_large (ex2 (is_truth_op2 op) op (pure_ex a.now) (pure_ex b.now)) (env_at env.now bound.old) ≡ true }
+{
+    let a = value_at(alloc, a, env, bound)?;
+    match value_at(alloc, b, env, bound) {
+        Ok(b) => binary_value(alloc, op, a, b),
+        Err(no) => {
+            drop(a);
+            Err(no)
+        }
+    }
+}
+
+/// An index. What a name holds is looked into where it lies.
+#[cycle(value)]
+#[tactic(auto, using(crate::proofs::Excuses::large_in_head, crate::proofs::Excuses::large_in_tail, crate::proofs::Excuses::large_head))]
+fn indexed_at(
+    alloc: Global,
+    mark: bool,
+    of: &Ex,
+    steps: &[Step],
+    env: &Env,
+    bound: &mut Row<Binding>,
+) -> Result<Option<Val>, OperateNo>
+    ensures ok { IfOk result (λ o. option_map pure_val o ≡ meaning (node_ex mark (index (words_of (map pure_step steps.now))) (more_exs (pure_ex of.now) (exs_of (within (map pure_step steps.now))))) (env_at env.now bound.old)) }
+    ensures kept { OnOk result (bound.new ≡ bound.old) }
+    ensures big { result ≡ Err Big → is_large (node_ex mark (index (words_of (map pure_step steps.now))) (more_exs (pure_ex of.now) (exs_of (within (map pure_step steps.now))))) (env_at env.now bound.old) ≡ true }
+{
+    let mut at = Row::new(alloc);
+    steps_at(alloc, steps, env, bound, &mut at)?;
+    if let Ex::Name(name) = of {
+        return index_value(
+            alloc,
+            mark,
+            value_of_name(name, env, bound.as_slice()),
+            steps,
+            at.as_slice(),
+        );
+    }
+    let of = value_at(alloc, of, env, bound)?;
+    let found = index_value(alloc, mark, of.as_ref(), steps, at.as_slice());
+    drop(of);
+    found
+}
+
+/// An application. What a name holds is looked into where it lies.
+#[cycle(value)]
+#[tactic(auto, using(crate::proofs::Excuses::large_in_head, crate::proofs::Excuses::large_in_tail, crate::proofs::Excuses::large_head))]
+fn applied_at(
+    alloc: Global,
+    mark: bool,
+    of: &Ex,
+    args: &[Ex],
+    env: &Env,
+    bound: &mut Row<Binding>,
+) -> Result<Option<Val>, OperateNo>
+    ensures ok { IfOk result (λ o. option_map pure_val o ≡ meaning (node_ex mark application (more_exs (pure_ex of.now) (pure_exs args.now))) (env_at env.now bound.old)) }
+    ensures kept { OnOk result (bound.new ≡ bound.old) }
+    ensures big { result ≡ Err Big → is_large (node_ex mark application (more_exs (pure_ex of.now) (pure_exs args.now))) (env_at env.now bound.old) ≡ true }
+{
+    let args = values_at(alloc, args, env, bound)?;
+    if let Ex::Name(name) = of {
+        return application_value(
+            alloc,
+            mark,
+            value_of_name(name, env, bound.as_slice()),
+            args.as_slice(),
+        );
+    }
+    let of = value_at(alloc, of, env, bound)?;
+    let found = application_value(alloc, mark, of.as_ref(), args.as_slice());
+    drop(of);
+    found
+}
+
+/// A matrix literal with its index domain.
+#[cycle(value)]
+#[tactic(auto, using(crate::proofs::Excuses::large_in_items, crate::proofs::Excuses::large_in_axis))]
+fn matrix_at(
+    alloc: Global,
+    items: &[Ex],
+    axis: &Dom,
+    env: &Env,
+    bound: &mut Row<Binding>,
+) -> Result<Option<Val>, OperateNo>
+    ensures ok { IfOk result (λ o. option_map pure_val o ≡ meaning (matrix_ex (pure_exs items.now) (pure_dom axis.now)) (env_at env.now bound.old)) }
+    ensures kept { OnOk result (bound.new ≡ bound.old) }
+    ensures big { result ≡ Err Big → is_large (matrix_ex (pure_exs items.now) (pure_dom axis.now)) (env_at env.now bound.old) ≡ true }
+{
+    let vals = values_at(alloc, items, env, bound)?;
+    let index = domain_members(alloc, axis, env, bound)?;
+    Ok(matrix_of(alloc, index, vals)?)
+}
+
+/// The whole number that a bound or an attribute reads.
+#[cycle(value)]
+pub(crate) fn number_at(
+    alloc: Global,
+    ex: &Ex,
+    env: &Env,
+    bound: &mut Row<Binding>,
+) -> Result<Option<i64>, OperateNo>
+    ensures ok { IfOk result (λ n. n ≡ as_int (meaning (pure_ex ex.now) (env_at env.now bound.old))) }
+    ensures kept { OnOk result (bound.new ≡ bound.old) }
+    ensures big { result ≡ Err Big → is_large (pure_ex ex.now) (env_at env.now bound.old) ≡ true }
+{
+    Ok(number_of(value_at(alloc, ex, env, bound)?))
+}
