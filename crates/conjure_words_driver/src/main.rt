@@ -16,7 +16,12 @@ fn put(out: &mut Text, name: &str, value: &Text) -> Result<(), NoMemory> {
 }
 
 /// The folder, the file and the list of `modelling`.
-fn modelling(out: &mut Text, folder: &Text, file: &Text, options: &Options) -> Result<(), NoMemory> {
+fn modelling(
+    out: &mut Text,
+    folder: &Text,
+    file: &Text,
+    options: &Options,
+) -> Result<(), NoMemory> {
     out.push_str("modelling")?;
     put(out, " DIR", folder)?;
     put(out, " FILE", file)?;
