@@ -10,7 +10,7 @@ use Rattle.ess_io.specs.declared.files.FileNo.{FileNo}
 use Rattle.ess_io.specs.declared.files.FileNo.TheVariants.{Missing as file_missing, Failed as file_failed, NoMemory as file_memory}
 use Rattle.conjure_cli.specs.SmallGrammar.{IsInSmallGrammar}
 use Rattle.conjure_cli.specs.ModelText.{IsModelOf}
-use Rattle.conjure_cli.specs.Ending.{FilesSeen, SinkSeen, limit, model_file, out_line, status_of, ReadGives, IsReadable, CauseOf, LeavesModel, LeavesFiles, LeavesErr, Ran, Ends, IsRefusal, NoFault, MissingIsFour, IsDecided, TextDecides}
+use Rattle.conjure_cli.specs.Ending.{FilesSeen, SinkSeen, limit, out_line, status_of, ReadGives, IsReadable, CauseOf, LeavesModel, LeavesFiles, LeavesErr, Ran, Ends, IsRefusal, NoFault, MissingIsFour, IsDecided, TextDecides}
 use Rattle.conjure_cli.specs.Refusals.{unrefined, unwritten}
 use Rattle.conjure_cli.specs.declared.model.ModelNo.{ModelNo}
 use Rattle.conjure_cli.specs.declared.model.ModelNo.TheVariants.{NotYet as model_not_yet, NoMemory as model_memory}
@@ -41,17 +41,17 @@ there (Some files) file text before after was =
 
 -- ---- how a run over a file ends
 
-pub ran_long : (file text : List ℕ) (before after : FilesSeen) (out : SinkSeen) → WasRead before.tree file text → length text ≤ limit + 1 → limit < length text
-    → after.tree ≡ before.tree → Ran TooLong file before after out out
-ran_long file text before after out was bound long same =
+pub ran_long : (file place text : List ℕ) (before after : FilesSeen) (out : SinkSeen) → WasRead before.tree file text → length text ≤ limit + 1 → limit < length text
+    → after.tree ≡ before.tree → Ran TooLong file place before after out out
+ran_long file place text before after out was bound long same =
     record { cause = gives before.tree file text (λ t. length t ≡ limit + 1) was (omega arith); files = same; out = refl }
 
-pub ran_unrefined : (refusal : ModelNo) (ending : Ending) (file text seen : List ℕ) (before after : FilesSeen) (out : SinkSeen) → ending ≡ unrefined refusal
+pub ran_unrefined : (refusal : ModelNo) (ending : Ending) (file place text seen : List ℕ) (before after : FilesSeen) (out : SinkSeen) → ending ≡ unrefined refusal
     → WasRead before.tree file text → length text ≤ limit → seen ≡ text → (refusal ≡ model_not_yet → IsInSmallGrammar seen → ⊥)
-    → after.tree ≡ before.tree → Ran ending file before after out out
-ran_unrefined refusal ending file text seen before after out is was short sees not_yet same = subst (λ e. Ran e file before after out out) (sym is) (cases refusal not_yet)
+    → after.tree ≡ before.tree → Ran ending file place before after out out
+ran_unrefined refusal ending file place text seen before after out is was short sees not_yet same = subst (λ e. Ran e file place before after out out) (sym is) (cases refusal not_yet)
   where
-    cases : (refusal : ModelNo) → (refusal ≡ model_not_yet → IsInSmallGrammar seen → ⊥) → Ran (unrefined refusal) file before after out out
+    cases : (refusal : ModelNo) → (refusal ≡ model_not_yet → IsInSmallGrammar seen → ⊥) → Ran (unrefined refusal) file place before after out out
     cases model_not_yet refused = record {
       cause = gives before.tree file text (λ t. (length t ≤ limit) × (IsInSmallGrammar t → ⊥)) was (short, subst (λ t. IsInSmallGrammar t → ⊥) sees (refused refl));
       files = same;
@@ -71,57 +71,57 @@ readable tree file text model m = gives tree file text IsReadable m.was (m.short
 leaves : (file text model : List ℕ) (before after : FilesSeen) (P : List ℕ → Type 0) → Made before.tree file text model → P model → LeavesModel file before after P
 leaves file text model before after P m p = gives before.tree file text (λ t. (model : List ℕ) × IsModelOf t model × P model) m.was (model, m.made, p)
 
-pub ran_unwritten : (refusal : FileNo) (ending : Ending) (file text model seen : List ℕ) (before middle after : FilesSeen) (out : SinkSeen) → ending ≡ unwritten refusal
+pub ran_unwritten : (refusal : FileNo) (ending : Ending) (file place text model seen : List ℕ) (before middle after : FilesSeen) (out : SinkSeen) → ending ≡ unwritten refusal
     → Made before.tree file text model → seen ≡ model
     → middle.tree ≡ before.tree → before.faults ≤ middle.faults
-    → LeavesPrefix middle.tree after.tree model_file seen → (refusal ≡ file_failed → Rose middle.faults after.faults) → (refusal ≡ file_missing → ⊥)
-    → Ran ending file before after out out
-ran_unwritten refusal ending file text model seen before middle after out is m sees same grows left failed never =
-    subst (λ e. Ran e file before after out out) (sym is) (cases refusal failed never)
+    → LeavesPrefix middle.tree after.tree place seen → (refusal ≡ file_failed → Rose middle.faults after.faults) → (refusal ≡ file_missing → ⊥)
+    → Ran ending file place before after out out
+ran_unwritten refusal ending file place text model seen before middle after out is m sees same grows left failed never =
+    subst (λ e. Ran e file place before after out out) (sym is) (cases refusal failed never)
   where
-    prefix : LeavesPrefix before.tree after.tree model_file model
-    prefix = subst (λ t. LeavesPrefix t after.tree model_file model) same (subst (LeavesPrefix middle.tree after.tree model_file) sees left)
+    prefix : LeavesPrefix before.tree after.tree place model
+    prefix = subst (λ t. LeavesPrefix t after.tree place model) same (subst (LeavesPrefix middle.tree after.tree place) sees left)
 
-    cases : (refusal : FileNo) → (refusal ≡ file_failed → Rose middle.faults after.faults) → (refusal ≡ file_missing → ⊥) → Ran (unwritten refusal) file before after out out
+    cases : (refusal : FileNo) → (refusal ≡ file_failed → Rose middle.faults after.faults) → (refusal ≡ file_missing → ⊥) → Ran (unwritten refusal) file place before after out out
     cases file_missing failed never = absurd (never refl)
     cases file_failed failed never = record {
       cause = (rose_later before.faults middle.faults after.faults grows (failed refl), readable before.tree file text model m);
-      files = leaves file text model before after (LeavesPrefix before.tree after.tree model_file) m prefix;
+      files = leaves file text model before after (LeavesPrefix before.tree after.tree place) m prefix;
       out = refl;
     }
     cases file_memory failed never = record {
       cause = there before.tree file text before.faults after.faults m.was;
-      files = inr (leaves file text model before after (LeavesPrefix before.tree after.tree model_file) m prefix);
+      files = inr (leaves file text model before after (LeavesPrefix before.tree after.tree place) m prefix);
       out = refl;
     }
 
-written_tree : (old middle new : Option Tree) (seen model : List ℕ) → seen ≡ model → middle ≡ old → new ≡ with_file middle model_file seen → new ≡ with_file old model_file model
-written_tree old middle new seen model sees same wrote = wrote ∙ ap (λ t. with_file t model_file seen) same ∙ ap (with_file old model_file) sees
+written_tree : (old middle new : Option Tree) (place seen model : List ℕ) → seen ≡ model → middle ≡ old → new ≡ with_file middle place seen → new ≡ with_file old place model
+written_tree old middle new place seen model sees same wrote = wrote ∙ ap (λ t. with_file t place seen) same ∙ ap (with_file old place) sees
 
-pub ran_done : (file text model seen : List ℕ) (before middle after : FilesSeen) (out_before out_after : SinkSeen)
-    → Made before.tree file text model → seen ≡ model → middle.tree ≡ before.tree → after.tree ≡ with_file middle.tree model_file seen
-    → out_after.bytes ≡ grown out_before.bytes out_line → Ran Done file before after out_before out_after
-ran_done file text model seen before middle after out_before out_after m sees same wrote grew = record {
+pub ran_done : (file place text model seen : List ℕ) (before middle after : FilesSeen) (out_before out_after : SinkSeen)
+    → Made before.tree file text model → seen ≡ model → middle.tree ≡ before.tree → after.tree ≡ with_file middle.tree place seen
+    → out_after.bytes ≡ grown out_before.bytes (out_line place) → Ran Done file place before after out_before out_after
+ran_done file place text model seen before middle after out_before out_after m sees same wrote grew = record {
   cause = readable before.tree file text model m;
-  files = leaves file text model before after (λ made. after.tree ≡ with_file before.tree model_file made) m
-      (written_tree before.tree middle.tree after.tree seen model sees same wrote);
+  files = leaves file text model before after (λ made. after.tree ≡ with_file before.tree place made) m
+      (written_tree before.tree middle.tree after.tree place seen model sees same wrote);
   out = grew;
 }
 
-pub ran_untold : (file text model seen : List ℕ) (before middle after : FilesSeen) (out_before out_after : SinkSeen)
-    → Made before.tree file text model → seen ≡ model → middle.tree ≡ before.tree → after.tree ≡ with_file middle.tree model_file seen
-    → GrewByPrefix out_before.bytes out_after.bytes out_line → Rose out_before.faults out_after.faults → Ran OutputFailed file before after out_before out_after
-ran_untold file text model seen before middle after out_before out_after m sees same wrote part failed = record {
+pub ran_untold : (file place text model seen : List ℕ) (before middle after : FilesSeen) (out_before out_after : SinkSeen)
+    → Made before.tree file text model → seen ≡ model → middle.tree ≡ before.tree → after.tree ≡ with_file middle.tree place seen
+    → GrewByPrefix out_before.bytes out_after.bytes (out_line place) → Rose out_before.faults out_after.faults → Ran OutputFailed file place before after out_before out_after
+ran_untold file place text model seen before middle after out_before out_after m sees same wrote part failed = record {
   cause = (failed, readable before.tree file text model m);
-  files = leaves file text model before after (λ made. after.tree ≡ with_file before.tree model_file made) m
-      (written_tree before.tree middle.tree after.tree seen model sees same wrote);
+  files = leaves file text model before after (λ made. after.tree ≡ with_file before.tree place made) m
+      (written_tree before.tree middle.tree after.tree place seen model sees same wrote);
   out = part;
 }
 
 -- ---- what follows from an ending
 
 -- the status of an ending is its own
-two_is_usage : (ending : Ending) → status_of ending ≡ 2 → ending ≡ Usage
+pub two_is_usage : (ending : Ending) → status_of ending ≡ 2 → ending ≡ Usage
 two_is_usage Done is = absurd (omega (arith, is))
 two_is_usage Usage is = refl
 two_is_usage Missing is = absurd (omega (arith, is))
@@ -132,62 +132,53 @@ two_is_usage Unwritable is = absurd (omega (arith, is))
 two_is_usage OutputFailed is = absurd (omega (arith, is))
 two_is_usage NoMemory is = absurd (omega (arith, is))
 
-pub usage_exactly : (ending : Ending) (status : ℕ) (file : Option (List ℕ)) (before after : FilesSeen) (o o' e e' : SinkSeen)
-    → Ends ending status file before after o o' e e' → (status ≡ 2) ↔ (file ≡ None)
-usage_exactly ending status None before after o o' e e' ends =
-    (λ _. refl, λ _. ends.status_is ∙ ap status_of ends.cause)
-usage_exactly ending status (Some file) before after o o' e e' ends = (
-  λ is. absurd (subst (λ x. CauseOf x file before after o o') (two_is_usage ending (sym ends.status_is ∙ is)) ends.cause),
-  λ is. cc,
-)
-
 -- all other files are left
-leaves_others : (file : List ℕ) (before after : FilesSeen) (P : List ℕ → Type 0) → ((model : List ℕ) → P model → KeepsOthers before.tree after.tree model_file)
-    → LeavesModel file before after P → KeepsOthers before.tree after.tree model_file
-leaves_others file before after P keeps left = told before.tree (λ _. refl) left
+leaves_others : (file place : List ℕ) (before after : FilesSeen) (P : List ℕ → Type 0) → ((model : List ℕ) → P model → KeepsOthers before.tree after.tree place)
+    → LeavesModel file before after P → KeepsOthers before.tree after.tree place
+leaves_others file place before after P keeps left = told before.tree (λ _. refl) left
   where
     told : (tree : Option Tree) → (Unit {0} → before.tree ≡ tree) → ReadGives tree file (λ text. (model : List ℕ) × IsModelOf text model × P model)
-        → KeepsOthers before.tree after.tree model_file
-    told None is left = subst (λ t. KeepsOthers t after.tree model_file) (sym (is tt)) tt
+        → KeepsOthers before.tree after.tree place
+    told None is left = subst (λ t. KeepsOthers t after.tree place) (sym (is tt)) tt
     told (Some files) is left = given (start_of_file files file (limit + 1)) left
       where
-        given : (read : Option (List ℕ)) → IsSomeAnd read (λ text. (model : List ℕ) × IsModelOf text model × P model) → KeepsOthers before.tree after.tree model_file
+        given : (read : Option (List ℕ)) → IsSomeAnd read (λ text. (model : List ℕ) × IsModelOf text model × P model) → KeepsOthers before.tree after.tree place
         given None left = absurd left
         given (Some text) left = keeps left.0 left.2
 
-kept : (before after : FilesSeen) → after.tree ≡ before.tree → KeepsOthers before.tree after.tree model_file
-kept before after same = subst (λ t. KeepsOthers before.tree t model_file) (sym same) (same-KeepsOthers before.tree model_file)
+kept : (place : List ℕ) (before after : FilesSeen) → after.tree ≡ before.tree → KeepsOthers before.tree after.tree place
+kept place before after same = subst (λ t. KeepsOthers before.tree t place) (sym same) (same-KeepsOthers before.tree place)
 
-put_there : (before after : FilesSeen) (model : List ℕ) → after.tree ≡ with_file before.tree model_file model → KeepsOthers before.tree after.tree model_file
-put_there before after model wrote = subst (λ t. KeepsOthers before.tree t model_file) (sym wrote) (with_file-KeepsOthers before.tree model_file model)
+put_there : (place : List ℕ) (before after : FilesSeen) (model : List ℕ) → after.tree ≡ with_file before.tree place model → KeepsOthers before.tree after.tree place
+put_there place before after model wrote = subst (λ t. KeepsOthers before.tree t place) (sym wrote) (with_file-KeepsOthers before.tree place model)
 
-pub others_kept : (ending : Ending) (file : List ℕ) (before after : FilesSeen) → LeavesFiles ending file before after → KeepsOthers before.tree after.tree model_file
-others_kept Done file before after left = leaves_others file before after (λ model. after.tree ≡ with_file before.tree model_file model) (put_there before after) left
-others_kept OutputFailed file before after left = leaves_others file before after (λ model. after.tree ≡ with_file before.tree model_file model) (put_there before after) left
-others_kept Unwritable file before after left =
-    leaves_others file before after (LeavesPrefix before.tree after.tree model_file) (LeavesPrefix-KeepsOthers before.tree after.tree model_file) left
-others_kept NoMemory file before after left = elim left [
-  | inl same ↦ kept before after same
-  | inr part ↦ leaves_others file before after (LeavesPrefix before.tree after.tree model_file) (LeavesPrefix-KeepsOthers before.tree after.tree model_file) part
+pub others_kept : (ending : Ending) (file place : List ℕ) (before after : FilesSeen) → LeavesFiles ending file place before after → KeepsOthers before.tree after.tree place
+others_kept Done file place before after left = leaves_others file place before after (λ model. after.tree ≡ with_file before.tree place model) (put_there place before after) left
+others_kept OutputFailed file place before after left = leaves_others file place before after (λ model. after.tree ≡ with_file before.tree place model) (put_there place before after) left
+others_kept Unwritable file place before after left =
+    leaves_others file place before after (LeavesPrefix before.tree after.tree place) (LeavesPrefix-KeepsOthers before.tree after.tree place) left
+others_kept NoMemory file place before after left = elim left [
+  | inl same ↦ kept place before after same
+  | inr part ↦ leaves_others file place before after (LeavesPrefix before.tree after.tree place) (LeavesPrefix-KeepsOthers before.tree after.tree place) part
 ]
-others_kept Usage file before after left = kept before after left
-others_kept Missing file before after left = kept before after left
-others_kept Unreadable file before after left = kept before after left
-others_kept TooLong file before after left = kept before after left
-others_kept NotYet file before after left = kept before after left
+others_kept Usage file place before after left = kept place before after left
+others_kept Missing file place before after left = kept place before after left
+others_kept Unreadable file place before after left = kept place before after left
+others_kept TooLong file place before after left = kept place before after left
+others_kept NotYet file place before after left = kept place before after left
 
 -- a refusal touches no file
-pub refusal_keeps : (ending : Ending) (status : ℕ) (file : List ℕ) (before after : FilesSeen) → status ≡ status_of ending → IsRefusal status
-    → LeavesFiles ending file before after → after.tree ≡ before.tree
-refusal_keeps Done status file before after is refusal left = absurd (elim refusal [ inl h ↦ omega (arith, h, is) | inr h ↦ elim h [ inl k ↦ omega (arith, k, is) | inr k ↦ omega (arith, k, is) ] ])
-refusal_keeps Usage status file before after is refusal left = left
-refusal_keeps Missing status file before after is refusal left = left
-refusal_keeps Unreadable status file before after is refusal left = left
-refusal_keeps TooLong status file before after is refusal left = left
-refusal_keeps NotYet status file before after is refusal left = left
-refusal_keeps Unwritable status file before after is refusal left = absurd (elim refusal [ inl h ↦ omega (arith, h, is) | inr h ↦ elim h [ inl k ↦ omega (arith, k, is) | inr k ↦ omega (arith, k, is) ] ])
-refusal_keeps OutputFailed status file before after is refusal left = absurd (elim refusal [ inl h ↦ omega (arith, h, is) | inr h ↦ elim h [ inl k ↦ omega (arith, k, is) | inr k ↦ omega (arith, k, is) ] ])
-refusal_keeps NoMemory status file before after is refusal left = absurd (elim refusal [ inl h ↦ omega (arith, h, is) | inr h ↦ elim h [ inl k ↦ omega (arith, k, is) | inr k ↦ omega (arith, k, is) ] ])
+pub refusal_keeps : (ending : Ending) (status : ℕ) (file place : List ℕ) (before after : FilesSeen) → status ≡ status_of ending → IsRefusal status
+    → LeavesFiles ending file place before after → after.tree ≡ before.tree
+refusal_keeps Done status file place before after is refusal left = absurd (elim refusal [ inl h ↦ omega (arith, h, is) | inr h ↦ elim h [ inl k ↦ omega (arith, k, is) | inr k ↦ omega (arith, k, is) ] ])
+refusal_keeps Usage status file place before after is refusal left = left
+refusal_keeps Missing status file place before after is refusal left = left
+refusal_keeps Unreadable status file place before after is refusal left = left
+refusal_keeps TooLong status file place before after is refusal left = left
+refusal_keeps NotYet status file place before after is refusal left = left
+refusal_keeps Unwritable status file place before after is refusal left = absurd (elim refusal [ inl h ↦ omega (arith, h, is) | inr h ↦ elim h [ inl k ↦ omega (arith, k, is) | inr k ↦ omega (arith, k, is) ] ])
+refusal_keeps OutputFailed status file place before after is refusal left = absurd (elim refusal [ inl h ↦ omega (arith, h, is) | inr h ↦ elim h [ inl k ↦ omega (arith, k, is) | inr k ↦ omega (arith, k, is) ] ])
+refusal_keeps NoMemory status file place before after is refusal left = absurd (elim refusal [ inl h ↦ omega (arith, h, is) | inr h ↦ elim h [ inl k ↦ omega (arith, k, is) | inr k ↦ omega (arith, k, is) ] ])
 
 -- a file of which something is read is in the tree
 read_is_there : (tree : Option Tree) (file : List ℕ) (P : List ℕ → Type 0) → ReadGives tree file P → IfSome tree (λ files. file_at files file ≡ None → ⊥)
@@ -285,18 +276,7 @@ text_decides OutputFailed status file before after o o' is cause =
 text_decides NoMemory status file before after o o' is cause =
     always before.tree file (λ text. NoFault before after o o' → IsDecided status text) (λ text quiet. record { long = λ _. inr is; not_yet = λ _ _. inr is; done = λ _ _. inr is })
 
--- ---- the ends of a run
-
-pub ends_usage : (status : ℕ) (file : Option (List ℕ)) (before : FilesSeen) (out err err' : SinkSeen) → status ≡ 2 → file ≡ None
-    → LeavesErr Usage [] err err' → Ends Usage status file before before out out err err'
-ends_usage status file before out err err' is none left = subst (λ f. Ends Usage status f before before out out err err') (sym none)
-    (record { status_is = is; cause = refl; files = refl; out = refl; err = left })
-
-pub ends_over : (ending : Ending) (status : ℕ) (file : Option (List ℕ)) (name : List ℕ) (before after : FilesSeen) (out out' err err' : SinkSeen) → status ≡ status_of ending → file ≡ Some name
-    → Ran ending name before after out out' → LeavesErr ending name err err' → Ends ending status file before after out out' err err'
-ends_over ending status file name before after out out' err err' is some ran left = subst (λ f. Ends ending status f before after out out' err err') (sym some)
-    (record { status_is = is; cause = ran.cause; files = ran.files; out = ran.out; err = left })
-
--- a fact of the file that the words name
-pub of_file : (file : Option (List ℕ)) (name : List ℕ) (P : List ℕ → Type 0) → file ≡ Some name → P name → IfSome file P
-of_file file name P some p = subst (λ f. IfSome f P) (sym some) p
+-- want of memory decides as well
+pub six_decides : (status : ℕ) (file : List ℕ) (before after : FilesSeen) (o o' : SinkSeen) → status ≡ 6 → TextDecides status file before after o o'
+six_decides status file before after o o' is =
+    always before.tree file (λ text. NoFault before after o o' → IsDecided status text) (λ text quiet. record { long = λ _. inr is; not_yet = λ _ _. inr is; done = λ _ _. inr is })

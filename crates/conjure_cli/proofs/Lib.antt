@@ -7,3 +7,4 @@ pub mod ReadingLaws
 pub mod NamingLaws
 pub mod PieceLaws
 pub mod EndingLaws
+pub mod RunLaws

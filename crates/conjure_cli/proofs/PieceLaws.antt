@@ -7,7 +7,7 @@ use Rattle.std.proofs.Math.Seq.{take-append_seam}
 use Rattle.ess_io.specs.Counts.{Rose}
 use Rattle.ess_io.specs.Sinks.{grown, GrewByPrefix}
 use Rattle.ess_io.proofs.Growth.{grown-grown}
-use Rattle.conjure_cli.specs.Ending.{SinkSeen, LeavesLine, LeavesErr, told_of, err_line}
+use Rattle.conjure_cli.specs.Ending.{SinkSeen, LeavesLine, LeavesErr, told_of, err_line, out_line}
 use Rattle.conjure_cli.specs.declared.ending.Ending.{Ending}
 use Rattle.conjure_cli.specs.declared.ending.Ending.TheVariants.{Done, Usage, Missing, Unreadable, TooLong, NotYet, Unwritable, OutputFailed, NoMemory}
 
@@ -55,9 +55,9 @@ piece_cut pieces i d old held new within so_far cut =
     regrouped a b c e = simp append_assoc
 
 -- the line of an ending in its pieces
-pub line_pieces : (file name text : List ℕ) (ending : Ending) → name ++ text ≡ told_of file ending
-    → concat (codes "conjure: " ∷ name ∷ text ∷ codes "\n" ∷ []) ≡ err_line file ending
-line_pieces file name text ending told =
+pub line_pieces : (file place name text : List ℕ) (ending : Ending) → name ++ text ≡ told_of file place ending
+    → concat (codes "conjure: " ∷ name ∷ text ∷ codes "\n" ∷ []) ≡ err_line file place ending
+line_pieces file place name text ending told =
     ap (λ t. codes "conjure: " ++ t) (sym (append_assoc name text (10 ∷ []))) ∙ ap (λ t. codes "conjure: " ++ (t ++ 10 ∷ [])) told
 
 -- a line that was taken whole or in part
@@ -67,15 +67,19 @@ pub line_left : {T E : Type 0} (result : Result T E) (line pieces : List ℕ) (b
 line_left (Ok x) line pieces before after is ok part failed = inl (ok ∙ ap (grown before.bytes) is)
 line_left (Err e) line pieces before after is ok part failed = inr (failed, subst (GrewByPrefix before.bytes after.bytes) is part)
 
+-- the line of a model in its pieces
+pub out_pieces : (place : List ℕ) → concat (codes "wrote " ∷ place ∷ codes "\n" ∷ []) ≡ out_line place
+out_pieces place = refl
+
 -- an ending that isn't the good one leaves its line
-pub err_left : (ending : Ending) (file : List ℕ) (before after : SinkSeen) → (ending ≡ Done → ⊥)
-    → LeavesLine (err_line file ending) before after → LeavesErr ending file before after
-err_left Done file before after other left = absurd (other refl)
-err_left Usage file before after other left = left
-err_left Missing file before after other left = left
-err_left Unreadable file before after other left = left
-err_left TooLong file before after other left = left
-err_left NotYet file before after other left = left
-err_left Unwritable file before after other left = left
-err_left OutputFailed file before after other left = left
-err_left NoMemory file before after other left = left
+pub err_left : (ending : Ending) (file place : List ℕ) (before after : SinkSeen) → (ending ≡ Done → ⊥)
+    → LeavesLine (err_line file place ending) before after → LeavesErr ending file place before after
+err_left Done file place before after other left = absurd (other refl)
+err_left Usage file place before after other left = left
+err_left Missing file place before after other left = left
+err_left Unreadable file place before after other left = left
+err_left TooLong file place before after other left = left
+err_left NotYet file place before after other left = left
+err_left Unwritable file place before after other left = left
+err_left OutputFailed file place before after other left = left
+err_left NoMemory file place before after other left = left

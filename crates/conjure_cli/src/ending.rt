@@ -3,7 +3,7 @@ ghost use Rattle.std.specs.Prelude.{◌≡◌, ◌≤◌, ◌++◌, map, OnOk, O
 ghost use Rattle.std.specs.List.{concat};
 ghost use Rattle.ess_io.specs.Counts.{Rose};
 ghost use Rattle.ess_io.specs.Sinks.{grown, GrewByPrefix};
-ghost use Rattle.conjure_cli.specs.Ending.{status_of, told_of, sink_at, LeavesErr};
+ghost use Rattle.conjure_cli.specs.Ending.{status_of, told_of, out_line, sink_at, LeavesErr};
 
 use ess_io::{PutNo, Sink, put_all};
 
@@ -30,7 +30,7 @@ pub enum Ending {
     NoMemory,
 }
 
-/// Where the model is written to.
+/// Where the model is written to where no folder is given.
 pub(crate) const MODEL_FILE: &str = "conjure-output/model000001.eprime";
 
 impl Ending {
@@ -51,9 +51,9 @@ impl Ending {
         }
     }
 
-    /// What is said of the ending: the file that it speaks of, and the text behind it.
-    fn told(self, file: &str) -> (&str, &str)
-        ensures { result.0.now ++ result.1.now ≡ told_of file.now self }
+    /// What is said of the ending: the file that it speaks of, which is that of a read or the place of the model, and the text behind it.
+    fn told<'a>(self, file: &'a str, place: &'a str) -> (&'a str, &'a str)
+        ensures { result.0.now ++ result.1.now ≡ told_of file.now place.now self }
     {
         match self {
             Ending::Done => ("", ""),
@@ -65,7 +65,7 @@ impl Ending {
             Ending::Unreadable => (file, ": cannot be read"),
             Ending::TooLong => (file, ": longer than 16777216 bytes"),
             Ending::NotYet => (file, ": not supported yet"),
-            Ending::Unwritable => (MODEL_FILE, ": cannot be written"),
+            Ending::Unwritable => (place, ": cannot be written"),
             Ending::OutputFailed => ("", "standard output: cannot be written"),
             Ending::NoMemory => ("", "out of memory"),
         }
@@ -85,14 +85,24 @@ fn put_pieces<S: Sink>(sink: &mut S, pieces: &[&[u8]]) -> Result<(), PutNo>
     Ok(())
 }
 
+/// Appends the line that says where the model is, as far as the sink takes it. No memory.
+#[tactic(auto, using(crate::proofs::PieceLaws::out_pieces))]
+pub(crate) fn put_wrote<S: Sink>(out: &mut S, place: &str) -> Result<(), PutNo>
+    ensures ok { OnOk result (S.bytes out.new ≡ grown (S.bytes out.old) (out_line place.now)) }
+    ensures part { OnErr result (GrewByPrefix (S.bytes out.old) (S.bytes out.new) (out_line place.now)) }
+    ensures failed { OnErr result (Rose (S.faults out.old) (S.faults out.new)) }
+{
+    put_pieces(out, &[b"wrote ", place.as_bytes(), b"\n"])
+}
+
 /// Appends the ending's line on `err`, as far as the sink takes it, and nothing where the work is done. No memory.
-pub(crate) fn report<E: Sink>(err: &mut E, file: &str, ending: Ending)
-    ensures { LeavesErr ending file.now (sink_at (E.bytes err.old) (E.faults err.old)) (sink_at (E.bytes err.new) (E.faults err.new)) }
+pub(crate) fn report<E: Sink>(err: &mut E, file: &str, place: &str, ending: Ending)
+    ensures { LeavesErr ending file.now place.now (sink_at (E.bytes err.old) (E.faults err.old)) (sink_at (E.bytes err.new) (E.faults err.new)) }
 {
     if let Ending::Done = ending {
         return;
     }
-    let (name, text) = ending.told(file);
+    let (name, text) = ending.told(file, place);
     let _ = put_pieces(
         err,
         &[b"conjure: ", name.as_bytes(), text.as_bytes(), b"\n"],

@@ -1,13 +1,14 @@
 // The program: from the words to the status.
-ghost use Rattle.std.specs.Prelude.{◌≡◌, ◌↔◌, map, None, IfSome, string_bytes, option_map};
+ghost use Rattle.std.specs.Prelude.{◌≡◌, [], map, None, Some, true, IfOk, string_bytes, option_map};
 ghost use Rattle.ess_io.specs.Counts.{raised};
-ghost use Rattle.ess_io.specs.Trees.{KeepsOthers};
-ghost use Rattle.conjure_cli.specs.Ending.{begins_with_dash, file_named, model_file, reads_after, files_at, sink_at, Ran, Ends, IsRefusal, MissingIsFour, TextDecides};
+ghost use Rattle.conjure_cli.specs.Ending.{begins_with_dash, file_named, takes_memory, model_in, refine, later, task_of, asked, status_of, ReadsAfter, files_at, sink_at, Ran, Ends, IsRefusal, KeepsAllElse, UsageIsTwo, LaterIsThree, MissingBy, DecidesBy, LeavesErr};
 ghost use Rattle.conjure_cli.specs.Refusals.{unread, unrefined, unwritten};
 
-use crate::ending::{Ending, MODEL_FILE, report};
+use crate::ending::{Ending, MODEL_FILE, put_wrote, report};
 use crate::model::{ModelNo, model_of};
-use ess_io::{FileNo, Files, Sink, put_all};
+use conjure_cli_words::{Command, WordsNo, words_of};
+use ess_io::{FileNo, Files, Sink};
+use ess_rows::NoMemory;
 use std::alloc::Global;
 
 /// The most bytes that a file may have.
@@ -24,7 +25,7 @@ fn begins_with_dash(word: &str) -> bool
     matches!(word.as_bytes(), [b'-', ..])
 }
 
-/// The file that the words name.
+/// The file of the words `modelling FILE`.
 fn file_named(words: &[String]) -> Option<&str>
     ensures { option_map (λ file. file.now) result ≡ file_named (map string_bytes words.now) }
 {
@@ -67,9 +68,15 @@ fn unwritten(no: FileNo) -> Ending
     }
 }
 
-/// Reads the file, refines it, writes its model and says where the model is.
-fn modelling<F: Files, O: Sink>(alloc: Global, file: &str, files: &mut F, out: &mut O) -> Ending
-    ensures ran { Ran result file.now
+/// Reads the file, refines it, writes its model to the place and says where the model is.
+fn modelling<F: Files, O: Sink>(
+    alloc: Global,
+    file: &str,
+    place: &str,
+    files: &mut F,
+    out: &mut O,
+) -> Ending
+    ensures ran { Ran result file.now place.now
         (files_at (F.tree files.old) (F.faults files.old) (F.misses files.old))
         (files_at (F.tree files.new) (F.faults files.new) (F.misses files.new))
         (sink_at (O.bytes out.old) (O.faults out.old)) (sink_at (O.bytes out.new) (O.faults out.new)) }
@@ -86,19 +93,147 @@ fn modelling<F: Files, O: Sink>(alloc: Global, file: &str, files: &mut F, out: &
         Ok(model) => model,
         Err(no) => return unrefined(no),
     };
-    if let Err(no) = files.write(alloc, MODEL_FILE, &model) {
+    if let Err(no) = files.write(alloc, place, &model) {
         return unwritten(no);
     }
-    match put_all(out, b"wrote conjure-output/model000001.eprime\n") {
+    match put_wrote(out, place) {
         Ok(()) => Ending::Done,
         Err(_) => Ending::OutputFailed,
     }
 }
 
+/// The file of a model in its folder.
+fn model_in(alloc: Global, folder: &str) -> Result<String, NoMemory>
+    ensures { IfOk result (λ place. string_bytes place ≡ model_in folder.now) }
+{
+    let mut place = String::from_str(alloc, folder)?;
+    place.push_str("/model000001.eprime")?;
+    Ok(place)
+}
+
+/// Refines the file into the folder, and says on `err` what stands against it.
+fn refine_into<F: Files, O: Sink, E: Sink>(
+    alloc: Global,
+    folder: &str,
+    file: &str,
+    files: &mut F,
+    out: &mut O,
+    err: &mut E,
+) -> Ending
+    ensures ended { Ends result (status_of result) (Some (refine file.now (model_in folder.now))) true
+        (files_at (F.tree files.old) (F.faults files.old) (F.misses files.old))
+        (files_at (F.tree files.new) (F.faults files.new) (F.misses files.new))
+        (sink_at (O.bytes out.old) (O.faults out.old)) (sink_at (O.bytes out.new) (O.faults out.new))
+        (sink_at (E.bytes err.old) (E.faults err.old)) (sink_at (E.bytes err.new) (E.faults err.new)) }
+    ensures reads { ReadsAfter (Some (refine file.now (model_in folder.now))) true (status_of result) (F.reads files.old) (F.reads files.new) }
+{
+    match model_in(alloc, folder) {
+        Ok(place) => {
+            let ending = modelling(alloc, file, place.as_str(), files, out);
+            report(err, file, place.as_str(), ending);
+            ending
+        }
+        Err(NoMemory) => {
+            report(err, "", "", Ending::NoMemory);
+            Ending::NoMemory
+        }
+    }
+}
+
+/// Says on `err` that this isn't supported yet.
+fn not_yet<E: Sink>(err: &mut E, name: &str) -> Ending
+    ensures ending { result ≡ Ending.NotYet }
+    ensures told { LeavesErr Ending.NotYet name.now []
+        (sink_at (E.bytes err.old) (E.faults err.old)) (sink_at (E.bytes err.new) (E.faults err.new)) }
+{
+    report(err, name, "", Ending::NotYet);
+    Ending::NotYet
+}
+
+/// Does what a command asks for.
+fn command_done<F: Files, O: Sink, E: Sink>(
+    alloc: Global,
+    command: &Command,
+    files: &mut F,
+    out: &mut O,
+    err: &mut E,
+) -> Ending
+    ensures ended { Ends result (status_of result) (Some (task_of command.now)) true
+        (files_at (F.tree files.old) (F.faults files.old) (F.misses files.old))
+        (files_at (F.tree files.new) (F.faults files.new) (F.misses files.new))
+        (sink_at (O.bytes out.old) (O.faults out.old)) (sink_at (O.bytes out.new) (O.faults out.new))
+        (sink_at (E.bytes err.old) (E.faults err.old)) (sink_at (E.bytes err.new) (E.faults err.new)) }
+    ensures reads { ReadsAfter (Some (task_of command.now)) true (status_of result) (F.reads files.old) (F.reads files.new) }
+{
+    match command {
+        Command::Modelling(folder, file, options) => match options.use_repr {
+            None => refine_into(alloc, folder.as_str(), file.as_str(), files, out, err),
+            Some(_) => not_yet(err, file.as_str()),
+        },
+        Command::Parameter(model, _, _) => not_yet(err, model.as_str()),
+        Command::Solution(model, _, _, _) => not_yet(err, model.as_str()),
+        Command::Validate(essence, _, _) => not_yet(err, essence.as_str()),
+        Command::Selftest(_) => not_yet(err, "selftest"),
+    }
+}
+
+/// Does what words ask for which may take memory to be read.
+fn words_done<F: Files, O: Sink, E: Sink>(
+    alloc: Global,
+    words: &[String],
+    files: &mut F,
+    out: &mut O,
+    err: &mut E,
+) -> Ending
+    ensures ended { Ends result (status_of result) (asked (map string_bytes words.now)) true
+        (files_at (F.tree files.old) (F.faults files.old) (F.misses files.old))
+        (files_at (F.tree files.new) (F.faults files.new) (F.misses files.new))
+        (sink_at (O.bytes out.old) (O.faults out.old)) (sink_at (O.bytes out.new) (O.faults out.new))
+        (sink_at (E.bytes err.old) (E.faults err.old)) (sink_at (E.bytes err.new) (E.faults err.new)) }
+    ensures reads { ReadsAfter (asked (map string_bytes words.now)) true (status_of result) (F.reads files.old) (F.reads files.new) }
+{
+    match words_of(alloc, words) {
+        Ok(command) => command_done(alloc, &command, files, out, err),
+        Err(WordsNo::Usage) => {
+            report(err, "", "", Ending::Usage);
+            Ending::Usage
+        }
+        Err(WordsNo::NoMemory) => {
+            report(err, "", "", Ending::NoMemory);
+            Ending::NoMemory
+        }
+    }
+}
+
+/// Does what the words ask for.
+fn done<F: Files, O: Sink, E: Sink>(
+    alloc: Global,
+    words: &[String],
+    files: &mut F,
+    out: &mut O,
+    err: &mut E,
+) -> Ending
+    ensures ended { Ends result (status_of result) (asked (map string_bytes words.now)) (takes_memory (map string_bytes words.now))
+        (files_at (F.tree files.old) (F.faults files.old) (F.misses files.old))
+        (files_at (F.tree files.new) (F.faults files.new) (F.misses files.new))
+        (sink_at (O.bytes out.old) (O.faults out.old)) (sink_at (O.bytes out.new) (O.faults out.new))
+        (sink_at (E.bytes err.old) (E.faults err.old)) (sink_at (E.bytes err.new) (E.faults err.new)) }
+    ensures reads { ReadsAfter (asked (map string_bytes words.now)) (takes_memory (map string_bytes words.now)) (status_of result)
+        (F.reads files.old) (F.reads files.new) }
+{
+    let Some(file) = file_named(words) else {
+        return words_done(alloc, words, files, out, err);
+    };
+    let ending = modelling(alloc, file, MODEL_FILE, files, out);
+    report(err, file, MODEL_FILE, ending);
+    ending
+}
+
 /// Runs the program on the words after its name, and answers the status to end with.
 ///
-/// The words are `modelling FILE`. The model of FILE is written to `conjure-output/model000001.eprime`, and a line on
-/// `out` says so. Where something stands against it, a line on `err` says what.
+/// The words are those of `conjure_cli_words::words_of`. With `modelling [-o DIR] FILE` the model of FILE is written to
+/// `DIR/model000001.eprime`, and a line on `out` says so; DIR is `conjure-output` where it isn't given. The other commands
+/// and `--use-repr` aren't supported yet. Where something stands against it, a line on `err` says what.
 pub fn run<F: Files, O: Sink, E: Sink>(
     alloc: Global,
     words: &[String],
@@ -107,36 +242,36 @@ pub fn run<F: Files, O: Sink, E: Sink>(
     err: &mut E,
 ) -> Status
     // Each ending has its status, its cause and its text, and leaves what it may.
-    ensures ended { (ending : Ending) × Ends ending result.0 (file_named (map string_bytes words.now))
+    ensures ended { (ending : Ending) × Ends ending result.0 (asked (map string_bytes words.now)) (takes_memory (map string_bytes words.now))
         (files_at (F.tree files.old) (F.faults files.old) (F.misses files.old))
         (files_at (F.tree files.new) (F.faults files.new) (F.misses files.new))
         (sink_at (O.bytes out.old) (O.faults out.old)) (sink_at (O.bytes out.new) (O.faults out.new))
         (sink_at (E.bytes err.old) (E.faults err.old)) (sink_at (E.bytes err.new) (E.faults err.new)) }
 
-    // Status 2 comes exactly where the words don't fit.
-    ensures usage { (result.0 ≡ 2) ↔ (file_named (map string_bytes words.now) ≡ None) }
+    // Status 2 comes exactly where the words don't fit, but for want of memory.
+    ensures usage { UsageIsTwo result.0 (asked (map string_bytes words.now)) }
+
+    // What isn't supported yet gives status 3, but for want of memory.
+    ensures not_yet { LaterIsThree result.0 (asked (map string_bytes words.now)) }
 
     // A missing file gives status 4, and what is read of another file decides, where no fault comes.
-    ensures missing { IfSome (file_named (map string_bytes words.now)) (λ file. MissingIsFour result.0 file
+    ensures missing { MissingBy result.0 (asked (map string_bytes words.now)) (takes_memory (map string_bytes words.now))
         (files_at (F.tree files.old) (F.faults files.old) (F.misses files.old))
-        (files_at (F.tree files.new) (F.faults files.new) (F.misses files.new))) }
-    ensures decided { IfSome (file_named (map string_bytes words.now)) (λ file. TextDecides result.0 file
+        (files_at (F.tree files.new) (F.faults files.new) (F.misses files.new)) }
+    ensures decided { DecidesBy result.0 (asked (map string_bytes words.now))
         (files_at (F.tree files.old) (F.faults files.old) (F.misses files.old))
         (files_at (F.tree files.new) (F.faults files.new) (F.misses files.new))
-        (sink_at (O.bytes out.old) (O.faults out.old)) (sink_at (O.bytes out.new) (O.faults out.new))) }
+        (sink_at (O.bytes out.old) (O.faults out.old)) (sink_at (O.bytes out.new) (O.faults out.new)) }
 
     // A refusal touches no file, and no run touches another file than the model's.
     ensures refused { IsRefusal result.0 → F.tree files.new ≡ F.tree files.old }
-    ensures others { KeepsOthers (F.tree files.old) (F.tree files.new) model_file }
+    ensures others { KeepsAllElse (asked (map string_bytes words.now))
+        (files_at (F.tree files.old) (F.faults files.old) (F.misses files.old))
+        (files_at (F.tree files.new) (F.faults files.new) (F.misses files.new)) }
 
-    // The file is read once, and nothing else is read.
-    ensures read_once { F.reads files.new ≡ reads_after (file_named (map string_bytes words.now)) (F.reads files.old) }
+    // A file that is to be refined is read once, and nothing else is read.
+    ensures read_once { ReadsAfter (asked (map string_bytes words.now)) (takes_memory (map string_bytes words.now)) result.0
+        (F.reads files.old) (F.reads files.new) }
 {
-    let Some(file) = file_named(words) else {
-        report(err, "", Ending::Usage);
-        return Status(Ending::Usage.status());
-    };
-    let ending = modelling(alloc, file, files, out);
-    report(err, file, ending);
-    Status(ending.status())
+    Status(done(alloc, words, files, out, err).status())
 }

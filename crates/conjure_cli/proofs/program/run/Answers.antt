@@ -1,21 +1,23 @@
-use Rattle.std.proofs.Common.{sym, map, string_bytes}
-use Rattle.conjure_cli.specs.Ending.{file_named}
-use Rattle.conjure_cli.specs.declared.ending.Ending.TheVariants.{Usage}
-use Rattle.conjure_cli.proofs.EndingLaws.{ends_usage, missing_is_four, text_decides, others_kept, of_file}
+use Rattle.conjure_cli.proofs.RunLaws.{ends_with, usage_is_two, later_is_three, missing_by, decides_by, refused_keeps, keeps_all_else}
 use Rattle.conjure_cli.proofs.program.run.Goals as goal
 
-pub returns-in_default-clause-ended : goal.returns-in_default-clause-ended
-returns-in_default-clause-ended g c = (Usage, ends_usage _ _ _ _ _ _ c.status.ensures (sym c.in_default.ensures) c.report.ensures)
+pub returns-clause-ended : goal.returns-clause-ended
+returns-clause-ended g c = (c.done.result, ends_with _ _ _ _ _ _ _ _ _ _ c.done.ensures.ended c.status.ensures)
+
+pub returns-clause-usage : goal.returns-clause-usage
+returns-clause-usage g c = usage_is_two _ _ _ _ _ _ _ _ _ _ (ends_with _ _ _ _ _ _ _ _ _ _ c.done.ensures.ended c.status.ensures)
+
+pub returns-clause-not_yet : goal.returns-clause-not_yet
+returns-clause-not_yet g c = later_is_three _ _ _ _ _ _ _ _ _ _ (ends_with _ _ _ _ _ _ _ _ _ _ c.done.ensures.ended c.status.ensures)
 
 pub returns-clause-missing : goal.returns-clause-missing
-returns-clause-missing g c =
-    of_file (file_named (map string_bytes c.args.words.now)) c.in-Some.file.now _ (sym c.in-Some.ensures)
-    (missing_is_four c.modelling-ending.result _ c.in-Some.file.now _ _ _ _ c.status-2.ensures c.modelling-ending.ensures.ran.cause)
+returns-clause-missing g c = missing_by _ _ _ _ _ _ _ _ _ _ (ends_with _ _ _ _ _ _ _ _ _ _ c.done.ensures.ended c.status.ensures)
 
 pub returns-clause-decided : goal.returns-clause-decided
-returns-clause-decided g c =
-    of_file (file_named (map string_bytes c.args.words.now)) c.in-Some.file.now _ (sym c.in-Some.ensures)
-    (text_decides c.modelling-ending.result _ c.in-Some.file.now _ _ _ _ c.status-2.ensures c.modelling-ending.ensures.ran.cause)
+returns-clause-decided g c = decides_by _ _ _ _ _ _ _ _ _ _ (ends_with _ _ _ _ _ _ _ _ _ _ c.done.ensures.ended c.status.ensures)
+
+pub returns-clause-refused : goal.returns-clause-refused
+returns-clause-refused g c = refused_keeps _ _ _ _ _ _ _ _ _ _ (ends_with _ _ _ _ _ _ _ _ _ _ c.done.ensures.ended c.status.ensures)
 
 pub returns-clause-others : goal.returns-clause-others
-returns-clause-others g c = others_kept c.modelling-ending.result c.in-Some.file.now _ _ c.modelling-ending.ensures.ran.files
+returns-clause-others g c = keeps_all_else _ _ _ _ _ _ _ _ _ _ (ends_with _ _ _ _ _ _ _ _ _ _ c.done.ensures.ended c.status.ensures)
