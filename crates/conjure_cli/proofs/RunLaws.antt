@@ -30,7 +30,7 @@ looks_plain (x ∷ xs) is = cases (nat_eq x 45) refl is
 one_operand : (word : List ℕ) → look_of word ≡ plain → read_as modelling_form (word ∷ []) ≡ Some (operand word ∷ [])
 one_operand word look =
     ap (λ l. option_and_then (fitting modelling_form) (items_of_word (modelling_form.optional ++ modelling_form.required) item l word []
-        (items_from (modelling_form.optional ++ modelling_form.required) []))) look
+    (items_from (modelling_form.optional ++ modelling_form.required) []))) look
 
 -- the words `modelling FILE` ask for a model in the folder that isn't given
 pub named_is_asked : (words : List (List ℕ)) (file : List ℕ) → file_named words ≡ Some file → asked words ≡ Some (refine file model_file)
@@ -120,21 +120,31 @@ three_not_two ending is two = let h : status_of ending ≡ 3 = ap status_of is i
 
 pub usage_is_two : (ending : Ending) (status : ℕ) (task : Option Task) (takes : Bool) (before after : FilesSeen) (o o' e e' : SinkSeen)
     → Ends ending status task takes before after o o' e e' → UsageIsTwo status task
-usage_is_two ending status None takes before after o o' e e' ends = (λ _. refl, λ _. elim ends.cause [
-  | inl is ↦ inl (ends.status_is ∙ ap status_of is)
-  | inr is ↦ inr (ends.status_is ∙ ap status_of is)
-])
-usage_is_two ending status (Some (later name)) takes before after o o' e e' ends = (λ two. absurd (elim ends.cause [
-  | inl is ↦ three_not_two ending is (sym ends.status_is ∙ two)
-  | inr is ↦ six_not_two ending is (sym ends.status_is ∙ two)
-]), λ is. let h : Some (later name) ≡ None = is in cc)
-usage_is_two ending status (Some (refine file place)) false before after o o' e e' ends =
-    (λ two. absurd (subst (λ x. CauseOf x file before after o o') (two_is_usage ending (sym ends.status_is ∙ two)) ends.cause),
-     λ is. let h : Some (refine file place) ≡ None = is in cc)
-usage_is_two ending status (Some (refine file place)) true before after o o' e e' ends = (λ two. absurd (elim ends.cause [
-  | inl cause ↦ subst (λ x. CauseOf x file before after o o') (two_is_usage ending (sym ends.status_is ∙ two)) cause
-  | inr is ↦ six_not_two ending is (sym ends.status_is ∙ two)
-]), λ is. let h : Some (refine file place) ≡ None = is in cc)
+usage_is_two ending status None takes before after o o' e e' ends = (
+  λ _. refl,
+  λ _. elim ends.cause [
+    | inl is ↦ inl (ends.status_is ∙ ap status_of is)
+    | inr is ↦ inr (ends.status_is ∙ ap status_of is)
+  ],
+)
+usage_is_two ending status (Some (later name)) takes before after o o' e e' ends = (
+  λ two. absurd (elim ends.cause [
+    | inl is ↦ three_not_two ending is (sym ends.status_is ∙ two)
+    | inr is ↦ six_not_two ending is (sym ends.status_is ∙ two)
+  ]),
+  λ is. let h : Some (later name) ≡ None = is in cc,
+)
+usage_is_two ending status (Some (refine file place)) false before after o o' e e' ends = (
+  λ two. absurd (subst (λ x. CauseOf x file before after o o') (two_is_usage ending (sym ends.status_is ∙ two)) ends.cause),
+  λ is. let h : Some (refine file place) ≡ None = is in cc,
+)
+usage_is_two ending status (Some (refine file place)) true before after o o' e e' ends = (
+  λ two. absurd (elim ends.cause [
+    | inl cause ↦ subst (λ x. CauseOf x file before after o o') (two_is_usage ending (sym ends.status_is ∙ two)) cause
+    | inr is ↦ six_not_two ending is (sym ends.status_is ∙ two)
+  ]),
+  λ is. let h : Some (refine file place) ≡ None = is in cc,
+)
 
 pub later_is_three : (ending : Ending) (status : ℕ) (task : Option Task) (takes : Bool) (before after : FilesSeen) (o o' e e' : SinkSeen)
     → Ends ending status task takes before after o o' e e' → LaterIsThree status task
