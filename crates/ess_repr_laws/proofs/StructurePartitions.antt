@@ -30,7 +30,8 @@ use Rattle.ess_semantics.proofs.Tests.{and-left, and-right, and-both}
 use Rattle.ess_repr_laws.specs.Finite.{Complete}
 use Rattle.ess_repr_laws.specs.StructureParts.{Terms, and_ex, le_ex, keys_ex}
 use Rattle.ess_repr_laws.specs.Structure.{shapes, structure}
-use Rattle.ess_repr_laws.specs.StructureMeaning.{Bound, M, AxesAre, Attributes, DomainIs, ArePartSizes, axes_members, part_counts, part_sizes_of}
+use Rattle.ess_repr_laws.specs.StructureMeaning.{Bound, M, AxesAre, Attributes, DomainIs, axes_members}
+use Rattle.ess_repr_laws.specs.PartSizes.{ArePartSizes, part_counts, part_sizes_of}
 use Rattle.ess_repr_laws.specs.ViewParts.{view_ex, each_item, part_set_dom, times_held_ex, one_size_ex, regular_key_ex, parts_ex}
 use Rattle.ess_repr_laws.proofs.Behind.{behind-length}
 use Rattle.ess_repr_laws.proofs.CanonicalConversions.{set-member-form}

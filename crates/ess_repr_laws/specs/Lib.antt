@@ -10,6 +10,7 @@ pub mod TypedDomains
 pub mod StructureParts
 pub mod RelationParts
 pub mod ViewParts
+pub mod PartSizes
 pub mod Structure
 pub mod StructureMeaning
 -- What is proved

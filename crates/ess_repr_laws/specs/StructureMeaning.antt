@@ -3,6 +3,7 @@
 use Rattle.std.specs.Prelude.{◌≡◌, if◌then◌else◌, length, ℕ, ◌<◌, Bool, true, false, ◌&&◌, ◌||◌, not, List, [], ◌∷◌, ◌++◌, map, ℤ, pos, Some}
 use Rattle.ess_repr_laws.specs.StructureParts.{Shape, Terms, tuple_set_dom}
 use Rattle.ess_repr_laws.specs.ViewParts.{pair_relation_dom, part_set_dom}
+use Rattle.ess_repr_laws.specs.PartSizes.{ArePartSizes}
 use Rattle.ess_semantics.specs.Kinds.{dom_list}
 use Rattle.ess_semantics.specs.Atoms.{IsAtom, AreAtoms}
 use Rattle.ess_repr_laws.specs.Finite.{HaveLists, Complete, Enumerated}
@@ -119,23 +120,6 @@ BoolIs d e = is_bool_dom d ≡ true → e ≡ booleans
 -- The sizes that the attributes as' allow are among those of ks. So where no attribute stands twice.
 abbrev pub AreSizes : List Attribute → List Attribute → Type 0
 AreSizes as' ks = (n : ℕ) → set_attributes_hold as' n ≡ true → set_attributes_hold ks n ≡ true
-
--- The attributes of the set of a partition's parts.
-abbrev pub part_counts : List Attribute → Domain → List Attribute
-part_counts ks x =
-    size_attributes (attribute Key.NumParts ks) (attribute Key.MinNumParts ks)
-    (if has Key.NumParts ks then attribute Key.MaxNumParts ks else or_else (attribute Key.MaxNumParts ks) (Some (bound x)))
-
--- Those of each part.
-abbrev pub part_sizes_of : List Attribute → List Attribute
-part_sizes_of ks = size_attributes (attribute Key.PartSize ks) (attribute Key.MinPartSize ks) (attribute Key.MaxPartSize ks)
-
--- What these allow is allowed by the attributes with a number of ks. So where no attribute stands twice.
-abbrev pub ArePartSizes : List Attribute → Domain → Type 0
-ArePartSizes ks x =
-    (ps : List Value) → set_attributes_hold (part_counts ks x) (length ps) ≡ true →
-    list_all (λ p. set_attributes_hold (part_sizes_of ks) (length (items_of p))) ps ≡ true →
-    each_holds ks (λ k n. partition_holds k n ps) (λ k. true) ≡ true
 
 -- Further axes in front, by their members.
 abbrev pub on_members : List (List Value) → List (List (List Value)) → List (List (List Value))
