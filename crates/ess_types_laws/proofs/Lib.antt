@@ -18,3 +18,5 @@ pub mod SoundEnvs
 pub mod MembersTyped
 pub mod Examples
 pub mod Judged
+pub mod FixedIndices
+pub mod FixedNames

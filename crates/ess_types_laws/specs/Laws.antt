@@ -1,7 +1,7 @@
 -- Laws on types, each stated at a function that does nothing, so that its proof is checked with the code.
-use Rattle.std.specs.Prelude.{◌≡◌, true, false, List, [], Some, IsTrue}
+use Rattle.std.specs.Prelude.{◌≡◌, true, false, not, List, [], Some, IsTrue}
 use Rattle.ess_semantics.specs.Values.{Value}
-use Rattle.ess_semantics.specs.Names.{Names}
+use Rattle.ess_semantics.specs.Names.{Names, is_among}
 use Rattle.ess_semantics.specs.Trees.{Pat, Ex, Dom, Stm}
 use Rattle.ess_semantics.specs.Types.{Ty, type_of_dom, bind_types}
 use Rattle.ess_semantics.specs.OperatorTypes.{member_ty}
@@ -16,7 +16,8 @@ use Rattle.ess_semantics.specs.Typed.{Typed}
 use Rattle.ess_semantics.specs.StaysAt.{OverStays, FromStays}
 use Rattle.ess_semantics.specs.Domains.{Domain}
 use Rattle.ess_semantics.specs.Membership.{member}
-use Rattle.ess_semantics.specs.Scopes.{Scope, every}
+use Rattle.ess_semantics.specs.Scopes.{Scope, every, is_fixed}
+use Rattle.ess_semantics.specs.FreeNames.{FreeNamesAre}
 use Rattle.ess_semantics.specs.Occurrences.{has_cells}
 use Rattle.ess_types_laws.specs.SoundParts.{sound_parts}
 use Rattle.ess_types_laws.specs.ProperDomains.{is_proper}
@@ -72,3 +73,8 @@ MeaningsOverTablesHaveTheirType = (e : Ex) (g : Names Ty) (env : Env) → IsReso
 abbrev pub JudgedExpressionsAreSound : Type 0
 JudgedExpressionsAreSound = (e : Ex) (s : Scope) (env : Env) → has_cells e ≡ false → every sound_parts e s ≡ true → Typed s.tys env → (t : Ty) →
     type_of e s.tys ≡ Some t → (v : Value) → meaning (resolve e s.tys) env ≡ Some v → IsTrue (is_of_type t env v)
+
+-- What is fixed mentions no find: a judged expression that is fixed has, resolved, no free name that depends on a find.
+abbrev pub FixedMentionsNoFind : Type 0
+FixedMentionsNoFind = (e : Ex) (s : Scope) → every sound_parts e s ≡ true → is_fixed e s ≡ true →
+    FreeNamesAre (λ a. not (is_among s.depends_on_finds a)) (resolve e s.tys)

@@ -1,6 +1,6 @@
 //! Laws on types, each the contract of a function that does nothing.
 
-ghost use Rattle.ess_types_laws.specs.Laws.{ResolvingKeepsTypes, ResolvedTreesStay, PreparedIsResolved, MembersHaveTheirType, ListedMembersHaveTheirType, PatternsBindTheirTypes, MeaningsHaveTheirType, MeaningsOverTablesHaveTheirType, JudgedExpressionsAreSound, TypesStay};
+ghost use Rattle.ess_types_laws.specs.Laws.{ResolvingKeepsTypes, ResolvedTreesStay, PreparedIsResolved, MembersHaveTheirType, ListedMembersHaveTheirType, PatternsBindTheirTypes, MeaningsHaveTheirType, MeaningsOverTablesHaveTheirType, JudgedExpressionsAreSound, FixedMentionsNoFind, TypesStay};
 
 /// A resolved expression has the type that the expression had before.
 pub fn resolving_keeps_types()
@@ -51,4 +51,9 @@ pub fn judged_expressions_are_sound()
 /// Behind a generator names have values of their types still, the bound ones too.
 pub fn types_stay()
     ensures { TypesStay }
+{}
+
+/// What is fixed mentions no find: a judged expression that is fixed has, once it is resolved, no free name that depends on one.
+pub fn fixed_mentions_no_find()
+    ensures { FixedMentionsNoFind }
 {}
