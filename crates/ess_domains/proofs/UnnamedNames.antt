@@ -162,6 +162,9 @@ spelled_all t ns i l =
     ap (λ xs. same_texts xs (unnamed_names t (suc i) (length ns - i))) (drop_all i ns l)
     ∙ ap (λ m. same_texts [] (unnamed_names t (suc i) m)) (let e : length ns - i ≡ 0 = omega (arith, l) in e)
 
+-- Names that are compared one by one.
+pub ruleset all_spelled = (lengths_differ, spelled_otherwise, spelled_on, spelled_all)
+
 -- ---- the digits behind a prefix
 
 -- What is left of a name behind its prefix is what was put there.

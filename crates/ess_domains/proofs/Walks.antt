@@ -168,3 +168,12 @@ kept_next c d v w stms i s p a e f l g k h m n =
 pub kept_all : (c : Option ℕ) (v : Bool) (stms : List Stm) (i : ℕ) (p a b : Assignment) (e : Env) → length stms ≤ i
     → values_verdict c v a (left i stms p a e) ≡ values_verdict c v b []
 kept_all c v stms i p a b e l = ap (values_verdict c v a) (no_place stms i p a e l)
+
+-- The walk that gathers the sizes of unnamed types.
+pub ruleset sizes_walk = (sizes_more, large_next, large_later, no_place)
+
+-- The walk that looks for the first statement that a parameter fails.
+pub ruleset parameter_walk = (failing_next, fitting_next, fitting_all, large_next, large_later)
+
+-- The walk that judges a solution.
+pub ruleset solution_walk = (asked_next, asked_later, outside_next, kept_next, kept_all)

@@ -6,3 +6,4 @@ pub mod Earlier
 pub mod Prepared
 pub mod Faults
 pub mod Stops
+pub mod Walked

@@ -77,7 +77,8 @@ fn first_type<'a>(types: &'a [TypeNames], name: &Text) -> Option<&'a TypeNames>
 
 /// The value that is given.
 fn value_in<'a>(given: Option<&'a NamedValue>) -> Option<&'a Val>
-    ensures { option_map pure_val (option_copied result) ≡ and_then (option_map (λ g. option_map pure_val g.val) (option_copied given.entry)) (λ o. o) }
+    ensures { option_map pure_val (option_copied result)
+        ≡ and_then (option_map (λ g. option_map pure_val g.val) (option_copied given.entry)) (λ o. o) }
 {
     match given {
         Some(given) => match &given.val {

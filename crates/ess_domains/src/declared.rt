@@ -1,9 +1,10 @@
-ghost use Rattle.std.specs.Prelude.{◌≡◌, map};
+ghost use Rattle.std.specs.Prelude.{◌≡◌};
 ghost use Rattle.ess_semantics.specs.Names.{is_among as stands_among};
 ghost use Rattle.ess_semantics.specs.Judgements.{declares as declared_by};
 ghost use Rattle.ess_semantics.specs.Parameters.{given_of, given_enum_of, givens, given_enums, all_declared};
 ghost use Rattle.ess_semantics.specs.Solutions.{find_of, finds};
 ghost use Rattle.ess_core.specs.StatementViews.{pure_stm};
+ghost use Rattle.ess_domains.specs.Walked.{pure_stms};
 
 use crate::names::{is_among, same_name};
 use ess_core::{Stm, Text};
@@ -11,7 +12,7 @@ use ess_core::{Stm, Text};
 /// Whether a name is a given of these statements.
 #[tactic(auto, using(crate::proofs::DeclaredNames::givens_any))]
 pub(crate) fn is_given(stms: &[Stm], name: &Text) -> bool
-    ensures { result ≡ stands_among (givens (map pure_stm stms.now)) name.now }
+    ensures { result ≡ stands_among (givens (pure_stms stms.now)) name.now }
 {
     for stm in stms {
         if is_given_of(stm, name) {
@@ -24,7 +25,7 @@ pub(crate) fn is_given(stms: &[Stm], name: &Text) -> bool
 /// Whether a name is a given enumerated type of these statements.
 #[tactic(auto, using(crate::proofs::DeclaredNames::given_enums_any))]
 pub(crate) fn is_given_enum(stms: &[Stm], name: &Text) -> bool
-    ensures { result ≡ stands_among (given_enums (map pure_stm stms.now)) name.now }
+    ensures { result ≡ stands_among (given_enums (pure_stms stms.now)) name.now }
 {
     for stm in stms {
         if is_given_enum_of(stm, name) {
@@ -37,7 +38,7 @@ pub(crate) fn is_given_enum(stms: &[Stm], name: &Text) -> bool
 /// Whether a name is a find of these statements.
 #[tactic(auto, using(crate::proofs::DeclaredNames::finds_any))]
 pub(crate) fn is_find(stms: &[Stm], name: &Text) -> bool
-    ensures { result ≡ stands_among (finds (map pure_stm stms.now)) name.now }
+    ensures { result ≡ stands_among (finds (pure_stms stms.now)) name.now }
 {
     for stm in stms {
         if is_find_of(stm, name) {
@@ -50,7 +51,7 @@ pub(crate) fn is_find(stms: &[Stm], name: &Text) -> bool
 /// Whether some statement declares a name.
 #[tactic(auto, using(crate::proofs::DeclaredNames::declared_any))]
 pub(crate) fn is_declared(stms: &[Stm], name: &Text) -> bool
-    ensures { result ≡ stands_among (all_declared (map pure_stm stms.now)) name.now }
+    ensures { result ≡ stands_among (all_declared (pure_stms stms.now)) name.now }
 {
     for stm in stms {
         if declares(stm, name) {

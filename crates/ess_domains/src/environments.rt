@@ -34,7 +34,8 @@ pub(crate) fn go_on(
     sol: &Assignment,
     env: &mut Env,
 ) -> Result<(), EvalNo>
-    ensures ok { OnOk result (pure_env env.new ≡ env_after (pure_stm stm.now) (pure_assignment param.now) (pure_assignment sol.now) (pure_env env.old)) }
+    ensures ok { OnOk result (pure_env env.new
+        ≡ env_after (pure_stm stm.now) (pure_assignment param.now) (pure_assignment sol.now) (pure_env env.old)) }
     ensures big { result ≡ Err Big → declares_large_number (pure_stm stm.now) (pure_env env.old) ≡ true }
     ensures stops { IfErr result (λ no. is_big_or_memory no ≡ true) }
 {

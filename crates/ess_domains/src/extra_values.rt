@@ -3,10 +3,9 @@ ghost use Rattle.std.specs.Option.{option_copied};
 ghost use Rattle.ess_semantics.specs.Names.{keys, is_among as stands_among};
 ghost use Rattle.ess_semantics.specs.Parameters.{givens, first_extra_value};
 ghost use Rattle.ess_semantics.specs.Solutions.{finds, first_extra_list};
-ghost use Rattle.ess_core.specs.StatementViews.{pure_stm};
-ghost use Rattle.ess_domains.specs.Assignments.{pure_type_names, pure_named_value};
+ghost use Rattle.ess_domains.specs.Assignments.{pure_named_value};
 ghost use Rattle.ess_domains.specs.Earlier.{names_behind};
-ghost use Rattle.ess_domains.specs.Sizes.{pure_size};
+ghost use Rattle.ess_domains.specs.Walked.{pure_sizes, pure_stms, pure_types};
 
 use crate::assignments::{NamedValue, TypeNames, has_type, has_value};
 use crate::declared::{is_find, is_given};
@@ -22,7 +21,8 @@ pub(crate) fn extra_given<'a>(
     types: &[TypeNames],
     vals: &'a [NamedValue],
 ) -> Option<&'a Text>
-    ensures { option_copied result ≡ first_extra_value (givens (map pure_stm stms.now)) (map pure_named_value vals.now) (keys (map pure_type_names types.now)) }
+    ensures { option_copied result
+        ≡ first_extra_value (givens (pure_stms stms.now)) (map pure_named_value vals.now) (keys (pure_types types.now)) }
 {
     for (i, given) in vals.iter().enumerate() {
         if is_repeated(types, &vals[..i], &given.name) {
@@ -42,7 +42,8 @@ pub(crate) fn extra_find<'a>(
     types: &[TypeNames],
     vals: &'a [NamedValue],
 ) -> Option<&'a Text>
-    ensures { option_copied result ≡ first_extra_value (finds (map pure_stm stms.now)) (map pure_named_value vals.now) (keys (map pure_type_names types.now)) }
+    ensures { option_copied result
+        ≡ first_extra_value (finds (pure_stms stms.now)) (map pure_named_value vals.now) (keys (pure_types types.now)) }
 {
     for (i, given) in vals.iter().enumerate() {
         if is_repeated(types, &vals[..i], &given.name) {
@@ -58,7 +59,7 @@ pub(crate) fn extra_find<'a>(
 /// Whether a type or a value before has a name.
 #[tactic(auto, using(crate::proofs::Earlier::repeated_value))]
 fn is_repeated(types: &[TypeNames], before: &[NamedValue], name: &Text) -> bool
-    ensures { result ≡ stands_among (names_behind (map pure_named_value before.now) (keys (map pure_type_names types.now))) name.now }
+    ensures { result ≡ stands_among (names_behind (map pure_named_value before.now) (keys (pure_types types.now))) name.now }
 {
     has_type(types, name) || has_value(before, name)
 }
@@ -71,7 +72,7 @@ pub(crate) fn extra_list(
     sizes: &[TypeSize],
     types: &[TypeNames],
 ) -> Result<Option<Text>, NoMemory>
-    ensures { IfOk result (λ o. o ≡ first_extra_list (finds (map pure_stm stms.now)) (map pure_size sizes.now) (map pure_type_names types.now) []) }
+    ensures { IfOk result (λ o. o ≡ first_extra_list (finds (pure_stms stms.now)) (pure_sizes sizes.now) (pure_types types.now) []) }
 {
     for (i, given) in types.iter().enumerate() {
         if stands_before(&types[..i], &given.name) {

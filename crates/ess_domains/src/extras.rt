@@ -1,11 +1,8 @@
-ghost use Rattle.std.specs.Prelude.{◌≡◌, [], map, IfOk};
+ghost use Rattle.std.specs.Prelude.{◌≡◌, [], IfOk};
 ghost use Rattle.std.specs.List.{list_any};
 ghost use Rattle.ess_semantics.specs.Names.{is_among as stands_among};
-ghost use Rattle.ess_semantics.specs.Parameters.{givens, given_enums, taken_value_names, are_new as are_all_new, is_extra_type as is_extra_letting, first_extra_type as first_extra_letting};
-ghost use Rattle.ess_core.specs.StatementViews.{pure_stm};
-ghost use Rattle.ess_domains.specs.Assignments.{pure_type_names};
-ghost use Rattle.ess_domains.specs.Earlier.{names_behind, values_behind};
-ghost use Rattle.ess_domains.specs.Sizes.{pure_size};
+ghost use Rattle.ess_semantics.specs.Parameters.{givens, given_enums, are_new as are_all_new, is_extra_type as is_extra_letting, first_extra_type as first_extra_letting};
+ghost use Rattle.ess_domains.specs.Walked.{named_before, pure_sizes, pure_stms, pure_types, taken_before};
 
 use crate::assignments::{TypeNames, has_type};
 use crate::declared::{is_declared, is_given, is_given_enum};
@@ -23,7 +20,8 @@ pub(crate) fn extra_type(
     sizes: &[TypeSize],
     types: &[TypeNames],
 ) -> Result<Option<Text>, NoMemory>
-    ensures { IfOk result (λ o. o ≡ first_extra_letting (givens (map pure_stm stms.now)) (given_enums (map pure_stm stms.now)) (map pure_size sizes.now) (map pure_type_names types.now) [] (taken_value_names (map pure_stm stms.now) (map pure_size sizes.now))) }
+    ensures { IfOk result (λ o. o ≡ first_extra_letting (givens (pure_stms stms.now)) (given_enums (pure_stms stms.now))
+        (pure_sizes sizes.now) (pure_types types.now) [] (taken_before stms.now sizes.now [])) }
 {
     for (i, given) in types.iter().enumerate() {
         if is_extra_type(alloc, stms, sizes, &types[..i], given)? {
@@ -41,7 +39,8 @@ fn is_extra_type(
     before: &[TypeNames],
     given: &TypeNames,
 ) -> Result<bool, NoMemory>
-    ensures { IfOk result (λ b. b ≡ is_extra_letting (givens (map pure_stm stms.now)) (given_enums (map pure_stm stms.now)) (map pure_size sizes.now) (names_behind (map pure_type_names before.now) []) (values_behind (map pure_type_names before.now) (taken_value_names (map pure_stm stms.now) (map pure_size sizes.now))) given.now.name given.now.names) }
+    ensures { IfOk result (λ b. b ≡ is_extra_letting (givens (pure_stms stms.now)) (given_enums (pure_stms stms.now))
+        (pure_sizes sizes.now) (named_before before.now) (taken_before stms.now sizes.now before.now) given.now.name given.now.names) }
 {
     if stands_before(before, &given.name) {
         return Ok(true);
@@ -60,7 +59,7 @@ fn is_extra_type(
 /// Whether a type before has a name.
 #[tactic(auto, using(crate::proofs::Earlier::among_types_alone))]
 pub(crate) fn stands_before(before: &[TypeNames], name: &Text) -> bool
-    ensures { result ≡ stands_among (names_behind (map pure_type_names before.now) []) name.now }
+    ensures { result ≡ stands_among (named_before before.now) name.now }
 {
     has_type(before, name)
 }
@@ -73,7 +72,7 @@ fn are_new(
     before: &[TypeNames],
     names: &[Text],
 ) -> Result<bool, NoMemory>
-    ensures { IfOk result (λ b. b ≡ are_all_new names.now (values_behind (map pure_type_names before.now) (taken_value_names (map pure_stm stms.now) (map pure_size sizes.now)))) }
+    ensures { IfOk result (λ b. b ≡ are_all_new names.now (taken_before stms.now sizes.now before.now)) }
 {
     if !are_names_apart(names) {
         return Ok(false);
@@ -90,7 +89,7 @@ fn is_one_taken(
     before: &[TypeNames],
     names: &[Text],
 ) -> Result<bool, NoMemory>
-    ensures { IfOk result (λ b. b ≡ list_any (stands_among (values_behind (map pure_type_names before.now) (taken_value_names (map pure_stm stms.now) (map pure_size sizes.now)))) names.now) }
+    ensures { IfOk result (λ b. b ≡ list_any (stands_among (taken_before stms.now sizes.now before.now)) names.now) }
 {
     for name in names {
         if is_taken(alloc, stms, sizes, before, name)? {
@@ -109,7 +108,7 @@ fn is_taken(
     before: &[TypeNames],
     name: &Text,
 ) -> Result<bool, NoMemory>
-    ensures { IfOk result (λ b. b ≡ stands_among (values_behind (map pure_type_names before.now) (taken_value_names (map pure_stm stms.now) (map pure_size sizes.now))) name.now) }
+    ensures { IfOk result (λ b. b ≡ stands_among (taken_before stms.now sizes.now before.now) name.now) }
 {
     if has_value_name(before, name) {
         return Ok(true);

@@ -43,7 +43,8 @@ pub(crate) fn fault_at(
     param: &Assignment,
     env: &Env,
 ) -> Result<Option<Fault>, EvalNo>
-    ensures ok { IfOk result (λ o. (k : ℕ) → option_map (told k) o ≡ statement_verdict (pure_assignment param.now) (record { stm = pure_stm stm.now; number = k; env = pure_env env.now })) }
+    ensures ok { IfOk result (λ o. (k : ℕ) → option_map (told k) o
+        ≡ statement_verdict (pure_assignment param.now) (record { stm = pure_stm stm.now; number = k; env = pure_env env.now })) }
     ensures big { result ≡ Err Big → declares_large_number (pure_stm stm.now) (pure_env env.now) ≡ true }
     ensures stops { IfErr result (λ no. is_big_or_memory no ≡ true) }
 {
@@ -64,7 +65,8 @@ pub(crate) fn fault_at(
 
 /// What the domain of a declaration fails.
 fn domain_fault(alloc: Global, dom: &Dom, env: &Env) -> Result<Option<Fault>, EvalNo>
-    ensures ok { IfOk result (λ o. (k : ℕ) → option_map (told k) o ≡ domain_verdict k (domain_meant (pure_dom dom.now) (pure_env env.now))) }
+    ensures ok { IfOk result (λ o. (k : ℕ) → option_map (told k) o
+        ≡ domain_verdict k (domain_meant (pure_dom dom.now) (pure_env env.now))) }
     ensures big { result ≡ Err Big → is_large_dom (pure_dom dom.now) (pure_env env.now) ≡ true }
     ensures stops { IfErr result (λ no. is_big_or_memory no ≡ true) }
 {
@@ -87,7 +89,8 @@ fn given_fault(
     val: Option<&Val>,
     env: &Env,
 ) -> Result<Option<Fault>, EvalNo>
-    ensures ok { IfOk result (λ o. (k : ℕ) → option_map (told k) o ≡ given_verdict k (domain_meant (pure_dom dom.now) (pure_env env.now)) (option_map pure_val (option_copied val.entry))) }
+    ensures ok { IfOk result (λ o. (k : ℕ) → option_map (told k) o
+        ≡ given_verdict k (domain_meant (pure_dom dom.now) (pure_env env.now)) (option_map pure_val (option_copied val.entry))) }
     ensures big { result ≡ Err Big → is_large_dom (pure_dom dom.now) (pure_env env.now) ≡ true }
     ensures stops { IfErr result (λ no. is_big_or_memory no ≡ true) }
 {
@@ -145,7 +148,8 @@ fn size_fault(size: Option<i64>) -> Option<Fault>
 
 /// What a `where` fails.
 fn need_fault(alloc: Global, test: &Ex, env: &Env) -> Result<Option<Fault>, EvalNo>
-    ensures ok { IfOk result (λ o. (k : ℕ) → option_map (told k) o ≡ need_verdict k (is_true (meaning (pure_ex test.now) (pure_env env.now)))) }
+    ensures ok { IfOk result (λ o. (k : ℕ) → option_map (told k) o
+        ≡ need_verdict k (is_true (meaning (pure_ex test.now) (pure_env env.now)))) }
     ensures big { result ≡ Err Big → is_large (pure_ex test.now) (pure_env env.now) ≡ true }
     ensures stops { IfErr result (λ no. is_big_or_memory no ≡ true) }
 {

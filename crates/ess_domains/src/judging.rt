@@ -37,7 +37,8 @@ pub(crate) fn judge(alloc: Global, stm: &Stm, sol: &Assignment, env: &Env) -> Re
     ensures member { IfOk result (λ j. j.member ≡ find_is_member (pure_assignment sol.now) (pure_stm stm.now) (pure_env env.now)) }
     ensures holds { IfOk result (λ j. j.holds ≡ constraint_holds (pure_stm stm.now) (pure_env env.now)) }
     ensures has_value { IfOk result (λ j. j.has_value ≡ objective_has_value (pure_stm stm.now) (pure_env env.now)) }
-    ensures big { result ≡ Err Big → declares_large_number (pure_stm stm.now) (pure_env env.now) || asks_large_number (pure_stm stm.now) (pure_env env.now) ≡ true }
+    ensures big { result ≡ Err Big
+        → declares_large_number (pure_stm stm.now) (pure_env env.now) || asks_large_number (pure_stm stm.now) (pure_env env.now) ≡ true }
     ensures stops { IfErr result (λ no. is_big_or_memory no ≡ true) }
 {
     let mut judged = Judged {
@@ -59,7 +60,8 @@ pub(crate) fn judge(alloc: Global, stm: &Stm, sol: &Assignment, env: &Env) -> Re
 
 /// Whether the value of a find is there and a member of its domain.
 fn is_member_of(alloc: Global, dom: &Dom, val: Option<&Val>, env: &Env) -> Result<bool, EvalNo>
-    ensures ok { IfOk result (λ b. b ≡ is_some_and (option_map pure_val (option_copied val.entry)) (is_member_under (pure_dom dom.now) (pure_env env.now))) }
+    ensures ok { IfOk result (λ b. b
+        ≡ is_some_and (option_map pure_val (option_copied val.entry)) (is_member_under (pure_dom dom.now) (pure_env env.now))) }
     ensures big { result ≡ Err Big → is_large_dom (pure_dom dom.now) (pure_env env.now) ≡ true }
     ensures stops { IfErr result (λ no. is_big_or_memory no ≡ true) }
 {

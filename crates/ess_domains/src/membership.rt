@@ -18,7 +18,8 @@ use std::alloc::Global;
 /// attribute value or a named type in the domain has no meaning; `Big` where a number in it lies outside 64 bits; `NoMemory`
 /// where there is no room for the members of a domain that an attribute, an index or a partition speaks of.
 pub fn member(alloc: Global, dom: &Dom, env: &Env, val: &Val) -> Result<bool, EvalNo>
-    ensures ok { IfOk result (λ b. option_map (λ d. member_of d (pure_val val.now)) (domain_meant (pure_dom dom.now) (pure_env env.now)) ≡ Some b) }
+    ensures ok { IfOk result (λ b. option_map (λ d. member_of d (pure_val val.now)) (domain_meant (pure_dom dom.now) (pure_env env.now))
+        ≡ Some b) }
     ensures undefined { result ≡ Err Undefined → domain_meant (pure_dom dom.now) (pure_env env.now) ≡ None }
     ensures big { result ≡ Err Big → is_large_dom (pure_dom dom.now) (pure_env env.now) ≡ true }
     ensures stops { IfErr result (λ no. is_no_count no ≡ true) }

@@ -1,16 +1,16 @@
-ghost use Rattle.std.specs.Prelude.{◌≡◌, map};
+ghost use Rattle.std.specs.Prelude.{◌≡◌};
 ghost use Rattle.std.specs.Option.{option_copied};
 ghost use Rattle.ess_semantics.specs.Parameters.{givens, first_missing};
 ghost use Rattle.ess_semantics.specs.Solutions.{finds};
-ghost use Rattle.ess_core.specs.StatementViews.{pure_stm};
 ghost use Rattle.ess_domains.specs.Assignments.{pure_assignment};
+ghost use Rattle.ess_domains.specs.Walked.{pure_stms};
 
 use crate::assignments::Assignment;
 use ess_core::{Stm, Text};
 
 /// The first given that a parameter has nothing for.
 pub(crate) fn missing_given<'a>(stms: &'a [Stm], param: &Assignment) -> Option<&'a Text>
-    ensures { option_copied result ≡ first_missing (givens (map pure_stm stms.now)) (pure_assignment param.now) }
+    ensures { option_copied result ≡ first_missing (givens (pure_stms stms.now)) (pure_assignment param.now) }
 {
     for stm in stms {
         match stm {
@@ -32,7 +32,7 @@ pub(crate) fn missing_given<'a>(stms: &'a [Stm], param: &Assignment) -> Option<&
 
 /// The first find that a solution has nothing for.
 pub(crate) fn missing_find<'a>(stms: &'a [Stm], sol: &Assignment) -> Option<&'a Text>
-    ensures { option_copied result ≡ first_missing (finds (map pure_stm stms.now)) (pure_assignment sol.now) }
+    ensures { option_copied result ≡ first_missing (finds (pure_stms stms.now)) (pure_assignment sol.now) }
 {
     for stm in stms {
         match stm {

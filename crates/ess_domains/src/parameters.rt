@@ -11,6 +11,7 @@ ghost use Rattle.ess_domains.specs.Assignments.{pure_assignment};
 ghost use Rattle.ess_domains.specs.Verdicts.{pure_param_verdict, cut_param, largest};
 ghost use Rattle.ess_domains.specs.Faults.{told};
 ghost use Rattle.ess_domains.specs.Prepared.{places, sizes, extra_given_of, param_verdict_over, has_large_declared};
+ghost use Rattle.ess_domains.specs.Walked.{pure_stms, walked};
 
 use crate::assignments::Assignment;
 use crate::environments::{go_on, no_env};
@@ -30,8 +31,10 @@ use std::alloc::Global;
 /// `NoMemory` where there is no room for what the statements declare.
 #[tactic(auto, using(crate::proofs::Told::param_ok, crate::proofs::PreparedNames::param_large))]
 pub fn param_fits(alloc: Global, stms: &[Stm], param: &Assignment) -> Result<ParamVerdict, EvalNo>
-    ensures ok { IfOk result (λ v. (S : List PureStm) → map pure_stm stms.now ≡ prepared S → pure_param_verdict v ≡ cut_param (param_verdict S (pure_assignment param.now))) }
-    ensures big { result ≡ Err Big → (S : List PureStm) → map pure_stm stms.now ≡ prepared S → parameter_is_large S (pure_assignment param.now) ≡ true }
+    ensures ok { IfOk result (λ v. (S : List PureStm) → map pure_stm stms.now ≡ prepared S → pure_param_verdict v
+        ≡ cut_param (param_verdict S (pure_assignment param.now))) }
+    ensures big { result ≡ Err Big → (S : List PureStm) → map pure_stm stms.now ≡ prepared S
+        → parameter_is_large S (pure_assignment param.now) ≡ true }
     ensures stops { IfErr result (λ no. is_big_or_memory no ≡ true) }
 {
     fits(alloc, stms, param)
@@ -39,8 +42,10 @@ pub fn param_fits(alloc: Global, stms: &[Stm], param: &Assignment) -> Result<Par
 
 /// The verdict on a parameter, as the statements stand.
 fn fits(alloc: Global, stms: &[Stm], param: &Assignment) -> Result<ParamVerdict, EvalNo>
-    ensures ok { IfOk result (λ v. pure_param_verdict v ≡ cut_param (param_verdict_over (map pure_stm stms.now) (pure_assignment param.now))) }
-    ensures big { result ≡ Err Big → has_large_declared (places (map pure_stm stms.now) (pure_assignment param.now) nothing_given) ≡ true }
+    ensures ok { IfOk result (λ v. pure_param_verdict v
+        ≡ cut_param (param_verdict_over (pure_stms stms.now) (pure_assignment param.now))) }
+    ensures big { result ≡ Err Big
+        → has_large_declared (places (pure_stms stms.now) (pure_assignment param.now) nothing_given) ≡ true }
     ensures stops { IfErr result (λ no. is_big_or_memory no ≡ true) }
 {
     if let Some(name) = missing_given(stms, param) {
@@ -60,8 +65,9 @@ fn extra_name(
     param: &Assignment,
     sol: &Assignment,
 ) -> Result<Option<Text>, EvalNo>
-    ensures ok { IfOk result (λ o. o ≡ extra_given_of (map pure_stm stms.now) (sizes (map pure_stm stms.now) (pure_assignment param.now) (pure_assignment sol.now)) (pure_assignment param.now)) }
-    ensures big { result ≡ Err Big → has_large_declared (places (map pure_stm stms.now) (pure_assignment param.now) (pure_assignment sol.now)) ≡ true }
+    ensures ok { IfOk result (λ o. o ≡ extra_given_of (pure_stms stms.now) (sizes (pure_stms stms.now) (pure_assignment param.now)
+        (pure_assignment sol.now)) (pure_assignment param.now)) }
+    ensures big { result ≡ Err Big → has_large_declared (walked stms.now param.now sol.now) ≡ true }
     ensures stops { IfErr result (λ no. is_big_or_memory no ≡ true) }
 {
     if !param.types.is_empty() {
@@ -78,15 +84,16 @@ fn extra_name(
 }
 
 /// The verdict of the first statement that a parameter fails, under values of the finds.
-#[tactic(auto, using(crate::proofs::Walks::failing_next, crate::proofs::Walks::fitting_next, crate::proofs::Walks::fitting_all, crate::proofs::Walks::large_next, crate::proofs::Walks::large_later))]
+#[tactic(auto, using(crate::proofs::Walks::parameter_walk))]
 fn first_verdict(
     alloc: Global,
     stms: &[Stm],
     param: &Assignment,
     sol: &Assignment,
 ) -> Result<ParamVerdict, EvalNo>
-    ensures ok { IfOk result (λ v. pure_param_verdict v ≡ cut_param (first_verdict_over (pure_assignment param.now) (places (map pure_stm stms.now) (pure_assignment param.now) (pure_assignment sol.now)))) }
-    ensures big { result ≡ Err Big → has_large_declared (places (map pure_stm stms.now) (pure_assignment param.now) (pure_assignment sol.now)) ≡ true }
+    ensures ok { IfOk result (λ v. pure_param_verdict v
+        ≡ cut_param (first_verdict_over (pure_assignment param.now) (walked stms.now param.now sol.now))) }
+    ensures big { result ≡ Err Big → has_large_declared (walked stms.now param.now sol.now) ≡ true }
     ensures stops { IfErr result (λ no. is_big_or_memory no ≡ true) }
 {
     let mut env = no_env(alloc);

@@ -6,8 +6,9 @@ ghost use Rattle.ess_core.specs.StatementViews.{pure_stm};
 ghost use Rattle.ess_eval.specs.Stops.{is_big_or_memory};
 ghost use Rattle.ess_eval.specs.declared.calls.EvalNo.TheVariants.{Big};
 ghost use Rattle.ess_domains.specs.Assignments.{pure_assignment};
-ghost use Rattle.ess_domains.specs.Prepared.{places, sizes, has_large_declared};
+ghost use Rattle.ess_domains.specs.Prepared.{sizes, has_large_declared};
 ghost use Rattle.ess_domains.specs.Sizes.{pure_size};
+ghost use Rattle.ess_domains.specs.Walked.{pure_stms, walked};
 
 use crate::assignments::Assignment;
 use crate::environments::{go_on, no_env, size_of};
@@ -18,15 +19,15 @@ use ess_eval::{EvalNo, value};
 use std::alloc::Global;
 
 /// The unnamed types of a specification with their sizes, under a parameter and a solution.
-#[tactic(auto, using(crate::proofs::Walks::sizes_more, crate::proofs::Walks::large_next, crate::proofs::Walks::large_later, crate::proofs::Walks::no_place))]
+#[tactic(auto, using(crate::proofs::Walks::sizes_walk))]
 pub(crate) fn sizes_of(
     alloc: Global,
     stms: &[Stm],
     param: &Assignment,
     sol: &Assignment,
 ) -> Result<Row<TypeSize>, EvalNo>
-    ensures ok { IfOk result (λ r. map pure_size r ≡ sizes (map pure_stm stms.now) (pure_assignment param.now) (pure_assignment sol.now)) }
-    ensures big { result ≡ Err Big → has_large_declared (places (map pure_stm stms.now) (pure_assignment param.now) (pure_assignment sol.now)) ≡ true }
+    ensures ok { IfOk result (λ r. map pure_size r ≡ sizes (pure_stms stms.now) (pure_assignment param.now) (pure_assignment sol.now)) }
+    ensures big { result ≡ Err Big → has_large_declared (walked stms.now param.now sol.now) ≡ true }
     ensures stops { IfErr result (λ no. is_big_or_memory no ≡ true) }
 {
     let mut env = no_env(alloc);
@@ -40,7 +41,8 @@ pub(crate) fn sizes_of(
 
 /// Puts the unnamed type of a statement with its size behind others.
 fn add_size(alloc: Global, stm: &Stm, env: &Env, found: &mut Row<TypeSize>) -> Result<(), EvalNo>
-    ensures ok { OnOk result (map pure_size found.new ≡ map pure_size found.old ++ unnamed_size_at (pure_stm stm.now) (pure_env env.now)) }
+    ensures ok { OnOk result (map pure_size found.new
+        ≡ map pure_size found.old ++ unnamed_size_at (pure_stm stm.now) (pure_env env.now)) }
     ensures big { result ≡ Err Big → declares_large_number (pure_stm stm.now) (pure_env env.now) ≡ true }
     ensures stops { IfErr result (λ no. is_big_or_memory no ≡ true) }
 {

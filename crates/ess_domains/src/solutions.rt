@@ -10,7 +10,8 @@ ghost use Rattle.ess_eval.specs.Stops.{is_big_or_memory};
 ghost use Rattle.ess_eval.specs.declared.calls.EvalNo.TheVariants.{Big};
 ghost use Rattle.ess_domains.specs.Assignments.{pure_assignment};
 ghost use Rattle.ess_domains.specs.Verdicts.{pure_verdict, cut};
-ghost use Rattle.ess_domains.specs.Prepared.{places, extra_found, verdict_over, values_verdict, has_large, has_large_declared};
+ghost use Rattle.ess_domains.specs.Prepared.{extra_found, verdict_over, values_verdict, has_large, has_large_declared};
+ghost use Rattle.ess_domains.specs.Walked.{pure_stms, walked};
 
 use crate::assignments::Assignment;
 use crate::environments::{go_on, no_env};
@@ -36,8 +37,10 @@ pub fn solves(
     param: &Assignment,
     sol: &Assignment,
 ) -> Result<Verdict, EvalNo>
-    ensures ok { IfOk result (λ v. (S : List PureStm) → map pure_stm stms.now ≡ prepared S → pure_verdict v ≡ cut (verdict_on S (pure_assignment param.now) (pure_assignment sol.now))) }
-    ensures big { result ≡ Err Big → (S : List PureStm) → map pure_stm stms.now ≡ prepared S → solution_is_large S (pure_assignment param.now) (pure_assignment sol.now) ≡ true }
+    ensures ok { IfOk result (λ v. (S : List PureStm) → map pure_stm stms.now ≡ prepared S → pure_verdict v
+        ≡ cut (verdict_on S (pure_assignment param.now) (pure_assignment sol.now))) }
+    ensures big { result ≡ Err Big → (S : List PureStm) → map pure_stm stms.now ≡ prepared S
+        → solution_is_large S (pure_assignment param.now) (pure_assignment sol.now) ≡ true }
     ensures stops { IfErr result (λ no. is_big_or_memory no ≡ true) }
 {
     judged(alloc, stms, param, sol)
@@ -51,8 +54,9 @@ fn judged(
     param: &Assignment,
     sol: &Assignment,
 ) -> Result<Verdict, EvalNo>
-    ensures ok { IfOk result (λ v. pure_verdict v ≡ cut (verdict_over (map pure_stm stms.now) (pure_assignment param.now) (pure_assignment sol.now))) }
-    ensures big { result ≡ Err Big → has_large (places (map pure_stm stms.now) (pure_assignment param.now) (pure_assignment sol.now)) ≡ true }
+    ensures ok { IfOk result (λ v. pure_verdict v
+        ≡ cut (verdict_over (pure_stms stms.now) (pure_assignment param.now) (pure_assignment sol.now))) }
+    ensures big { result ≡ Err Big → has_large (walked stms.now param.now sol.now) ≡ true }
     ensures stops { IfErr result (λ no. is_big_or_memory no ≡ true) }
 {
     if let Some(name) = missing_find(stms, sol) {
@@ -71,8 +75,8 @@ fn extra_name(
     param: &Assignment,
     sol: &Assignment,
 ) -> Result<Option<Text>, EvalNo>
-    ensures ok { IfOk result (λ o. o ≡ extra_found (map pure_stm stms.now) (pure_assignment param.now) (pure_assignment sol.now)) }
-    ensures big { result ≡ Err Big → has_large_declared (places (map pure_stm stms.now) (pure_assignment param.now) (pure_assignment sol.now)) ≡ true }
+    ensures ok { IfOk result (λ o. o ≡ extra_found (pure_stms stms.now) (pure_assignment param.now) (pure_assignment sol.now)) }
+    ensures big { result ≡ Err Big → has_large_declared (walked stms.now param.now sol.now) ≡ true }
     ensures stops { IfErr result (λ no. is_big_or_memory no ≡ true) }
 {
     if !sol.types.is_empty() {
@@ -90,15 +94,16 @@ fn extra_name(
 
 /// The verdict on the values of a solution that gives each find one and nothing else. All statements are gone through once;
 /// the first false constraint is kept until no find is outside its domain.
-#[tactic(auto, using(crate::proofs::Walks::asked_next, crate::proofs::Walks::asked_later, crate::proofs::Walks::outside_next, crate::proofs::Walks::kept_next, crate::proofs::Walks::kept_all))]
+#[tactic(auto, using(crate::proofs::Walks::solution_walk))]
 fn judged_values(
     alloc: Global,
     stms: &[Stm],
     param: &Assignment,
     sol: &Assignment,
 ) -> Result<Verdict, EvalNo>
-    ensures ok { IfOk result (λ v. pure_verdict v ≡ cut (values_verdict None false (pure_assignment sol.now) (places (map pure_stm stms.now) (pure_assignment param.now) (pure_assignment sol.now)))) }
-    ensures big { result ≡ Err Big → has_large (places (map pure_stm stms.now) (pure_assignment param.now) (pure_assignment sol.now)) ≡ true }
+    ensures ok { IfOk result (λ v. pure_verdict v
+        ≡ cut (values_verdict None false (pure_assignment sol.now) (walked stms.now param.now sol.now))) }
+    ensures big { result ≡ Err Big → has_large (walked stms.now param.now sol.now) ≡ true }
     ensures stops { IfErr result (λ no. is_big_or_memory no ≡ true) }
 {
     let mut env = no_env(alloc);

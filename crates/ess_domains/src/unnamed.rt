@@ -1,11 +1,10 @@
-ghost use Rattle.std.specs.Prelude.{◌≡◌, ◌++◌, ◌<◌, ◌^◌, ℕ, map, IfOk};
+ghost use Rattle.std.specs.Prelude.{◌≡◌, ◌++◌, ◌<◌, ◌^◌, ℕ, IfOk};
 ghost use Rattle.std.specs.Fmt.{decimal};
-ghost use Rattle.std.specs.List.{list_any};
-ghost use Rattle.ess_semantics.specs.Order.{same_texts};
 ghost use Rattle.ess_semantics.specs.Names.{is_among as stands_among};
 ghost use Rattle.ess_semantics.specs.Assignments.{unnamed_name as unnamed_text, unnamed_names, are_unnamed_names as are_all_unnamed};
 ghost use Rattle.ess_semantics.specs.Parameters.{is_accepted as is_accepted_by};
-ghost use Rattle.ess_domains.specs.Sizes.{pure_size, names_of_sizes};
+ghost use Rattle.ess_domains.specs.Sizes.{names_of_sizes};
+ghost use Rattle.ess_domains.specs.Walked.{pure_sizes};
 
 use crate::names::same_name;
 use ess_core::{NoMemory, Text};
@@ -24,7 +23,7 @@ pub(crate) fn is_value_of_some(
     sizes: &[TypeSize],
     name: &Text,
 ) -> Result<bool, NoMemory>
-    ensures { IfOk result (λ b. b ≡ stands_among (names_of_sizes (map pure_size sizes.now)) name.now) }
+    ensures { IfOk result (λ b. b ≡ stands_among (names_of_sizes (pure_sizes sizes.now)) name.now) }
 {
     for size in sizes {
         if is_value_of(alloc, &size.name, size.count, name)? {
@@ -73,7 +72,7 @@ pub(crate) fn is_accepted(
     own: &Text,
     names: &[Text],
 ) -> Result<bool, NoMemory>
-    ensures { IfOk result (λ b. b ≡ is_accepted_by (map pure_size sizes.now) own.now names.now) }
+    ensures { IfOk result (λ b. b ≡ is_accepted_by (pure_sizes sizes.now) own.now names.now) }
 {
     for size in sizes {
         if same_name(&size.name, own) {
@@ -84,7 +83,7 @@ pub(crate) fn is_accepted(
 }
 
 /// Whether these are the names of all values of an unnamed type, in order.
-#[tactic(auto, using(crate::proofs::UnnamedNames::lengths_differ, crate::proofs::UnnamedNames::spelled_otherwise, crate::proofs::UnnamedNames::spelled_on, crate::proofs::UnnamedNames::spelled_all))]
+#[tactic(auto, using(crate::proofs::UnnamedNames::all_spelled))]
 fn are_unnamed_names(
     alloc: Global,
     own: &Text,
