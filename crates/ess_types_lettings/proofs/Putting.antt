@@ -1,6 +1,5 @@
 -- Lettings put into several parts.
 use Rattle.std.proofs.Common.{◌≡◌, refl, sym, ap, ◌∙◌, false, List, [], ◌∷◌, ◌++◌, map, Option, Some, None, option_map}
-use Rattle.ess_semantics.specs.Lists.{append_all}
 use Rattle.ess_semantics.specs.Values.{Text}
 use Rattle.ess_semantics.specs.Names.{Names, keys}
 use Rattle.ess_semantics.specs.declared.words.Key.{Key}
@@ -17,17 +16,20 @@ use Rattle.ess_core.specs.declared.domains.Dom.{Dom}
 use Rattle.ess_core.specs.declared.domains.FieldDom.{FieldDom}
 use Rattle.ess_core.specs.TreeViews.{With, words_of, within, exs_of, field_values, matrix_literal_of, span, attribute, pure_ex, pure_exs, pure_pair_ex, pure_field_ex, pure_dom, pure_doms, pure_field_dom}
 use Rattle.ess_core.proofs.ExpressionEquations.{pure_plain_matrix, pure_matrix_on}
+use Rattle.ess_core.proofs.PartEquations.{pure_range_one, pure_range_span}
 use Rattle.ess_types_names.specs.Tables.{Types, pure_table}
-use Rattle.ess_types_lettings.specs.Putting.{put_field, put_field_dom, put_with, exs_before}
+use Rattle.ess_types_lettings.specs.Putting.{put_field, put_field_dom, put_with}
 
 -- ---- operands
 
-exs-each : {A : Type 0} (v : A → tree.Ex) (es : List A) (l : Lettings) (g : Names Ty) → exs_of (map (λ e. put_ex (v e) l g) es) ≡ put_exs (exs_of (map v es)) l g
+exs-each : {A : Type 0} (v : A → tree.Ex) (es : List A) (l : Lettings) (g : Names Ty)
+    → exs_of (map (λ e. put_ex (v e) l g) es) ≡ put_exs (exs_of (map v es)) l g
 exs-each v [] l g = refl
 exs-each v (e ∷ es) l g = ap (λ fs. more_exs (put_ex (v e) l g) fs) (exs-each v es l g)
 
 -- Several expressions.
-pub exs_put : (es rs : List Ex) (l : Lettings) (g : Names Ty) → map pure_ex rs ≡ map (λ e. put_ex (pure_ex e) l g) es → pure_exs rs ≡ put_exs (pure_exs es) l g
+pub exs_put : (es rs : List Ex) (l : Lettings) (g : Names Ty) → map pure_ex rs ≡ map (λ e. put_ex (pure_ex e) l g) es
+    → pure_exs rs ≡ put_exs (pure_exs es) l g
 exs_put es rs l g h = ap exs_of h ∙ exs-each pure_ex es l g
 
 -- Several pairs.
@@ -37,7 +39,8 @@ pairs_put ps rs l g h = ap exs_of h ∙ exs-each pure_pair_ex ps l g
 
 -- ---- fields
 
-field-names : {A : Type 0} (v : A → Text × tree.Ex) (fs : List A) (l : Lettings) (g : Names Ty) → keys (map (λ f. put_field (v f) l g) fs) ≡ keys (map v fs)
+field-names : {A : Type 0} (v : A → Text × tree.Ex) (fs : List A) (l : Lettings) (g : Names Ty)
+    → keys (map (λ f. put_field (v f) l g) fs) ≡ keys (map v fs)
 field-names v [] l g = refl
 field-names v (f ∷ fs) l g = ap (λ ns. (v f).0 ∷ ns) (field-names v fs l g)
 
@@ -47,7 +50,8 @@ field-exs v [] l g = refl
 field-exs v (f ∷ fs) l g = ap (λ es. more_exs (put_ex (v f).1 l g) es) (field-exs v fs l g)
 
 -- The names of fields stay.
-pub fields_named : (fs rs : List FieldEx) (l : Lettings) (g : Names Ty) → map pure_field_ex rs ≡ map (λ f. put_field (pure_field_ex f) l g) fs
+pub fields_named : (fs rs : List FieldEx) (l : Lettings) (g : Names Ty)
+    → map pure_field_ex rs ≡ map (λ f. put_field (pure_field_ex f) l g) fs
     → keys (map pure_field_ex rs) ≡ keys (map pure_field_ex fs)
 fields_named fs rs l g h = ap keys h ∙ field-names pure_field_ex fs l g
 
@@ -63,25 +67,30 @@ doms-each [] l g = refl
 doms-each (d ∷ ds) l g = ap (λ cs. more_doms (put_dom (pure_dom d) l g) cs) (doms-each ds l g)
 
 -- Several domains.
-pub doms_put : (ds rs : List Dom) (l : Lettings) (g : Names Ty) → map pure_dom rs ≡ map (λ d. put_dom (pure_dom d) l g) ds → pure_doms rs ≡ put_doms (pure_doms ds) l g
+pub doms_put : (ds rs : List Dom) (l : Lettings) (g : Names Ty) → map pure_dom rs ≡ map (λ d. put_dom (pure_dom d) l g) ds
+    → pure_doms rs ≡ put_doms (pure_doms ds) l g
 doms_put ds rs l g h = ap doms_of h ∙ doms-each ds l g
 
-dom-names : (fs : List FieldDom) (l : Lettings) (g : Names Ty) → keys (map (λ f. put_field_dom (pure_field_dom f) l g) fs) ≡ keys (map pure_field_dom fs)
+dom-names : (fs : List FieldDom) (l : Lettings) (g : Names Ty)
+    → keys (map (λ f. put_field_dom (pure_field_dom f) l g) fs) ≡ keys (map pure_field_dom fs)
 dom-names [] l g = refl
 dom-names (f ∷ fs) l g = ap (λ ns. (pure_field_dom f).0 ∷ ns) (dom-names fs l g)
 
 field-doms : (fs : List FieldDom) (l : Lettings) (g : Names Ty)
-    → doms_of (field_values (map (λ f. put_field_dom (pure_field_dom f) l g) fs)) ≡ put_doms (doms_of (field_values (map pure_field_dom fs))) l g
+    → doms_of (field_values (map (λ f. put_field_dom (pure_field_dom f) l g) fs))
+    ≡ put_doms (doms_of (field_values (map pure_field_dom fs))) l g
 field-doms [] l g = refl
 field-doms (f ∷ fs) l g = ap (λ ds. more_doms (put_dom (pure_field_dom f).1 l g) ds) (field-doms fs l g)
 
 -- The names of a record's fields stay.
-pub field_doms_named : (fs rs : List FieldDom) (l : Lettings) (g : Names Ty) → map pure_field_dom rs ≡ map (λ f. put_field_dom (pure_field_dom f) l g) fs
+pub field_doms_named : (fs rs : List FieldDom) (l : Lettings) (g : Names Ty)
+    → map pure_field_dom rs ≡ map (λ f. put_field_dom (pure_field_dom f) l g) fs
     → keys (map pure_field_dom rs) ≡ keys (map pure_field_dom fs)
 field_doms_named fs rs l g h = ap keys h ∙ dom-names fs l g
 
 -- The domains of a record's fields.
-pub field_doms_put : (fs rs : List FieldDom) (l : Lettings) (g : Names Ty) → map pure_field_dom rs ≡ map (λ f. put_field_dom (pure_field_dom f) l g) fs
+pub field_doms_put : (fs rs : List FieldDom) (l : Lettings) (g : Names Ty)
+    → map pure_field_dom rs ≡ map (λ f. put_field_dom (pure_field_dom f) l g) fs
     → doms_of (field_values (map pure_field_dom rs)) ≡ put_doms (doms_of (field_values (map pure_field_dom fs))) l g
 field_doms_put fs rs l g h = ap (λ ns. doms_of (field_values ns)) h ∙ field-doms fs l g
 
@@ -92,19 +101,23 @@ matrix-is : (es : List Ex) (o : Option Dom) → pure_ex (variant.Matrix es o) �
 matrix-is es None = pure_plain_matrix es
 matrix-is es (Some d) = pure_matrix_on es d
 
-literal-put : (es fs : List tree.Ex) (o q : Option tree.Dom) (l : Lettings) (g : Names Ty) → exs_of fs ≡ put_exs (exs_of es) l g → q ≡ option_map (λ d. put_dom d l g) o
+literal-put : (es fs : List tree.Ex) (o q : Option tree.Dom) (l : Lettings) (g : Names Ty) → exs_of fs ≡ put_exs (exs_of es) l g
+    → q ≡ option_map (λ d. put_dom d l g) o
     → matrix_literal_of fs q ≡ put_ex (matrix_literal_of es o) l g
 literal-put es fs None q l g p r = ap (matrix_literal_of fs) r ∙ ap (λ zs. node_ex false matrix_literal zs) p
 literal-put es fs (Some d) q l g p r = ap (matrix_literal_of fs) r ∙ ap (λ zs. matrix_ex zs (put_dom d l g)) p
 
 -- A matrix literal has lettings put into its items and into its index domain.
-pub matrix_put : (x y : Ex) (es ss rs : List Ex) (o q : Option Dom) (l : Lettings) (t u : Types) → x ≡ variant.Matrix es o → ss ≡ es → y ≡ variant.Matrix rs q → u ≡ t
-    → pure_exs rs ≡ put_exs (pure_exs ss) l (pure_table t) → option_map pure_dom q ≡ option_map (λ d. put_dom d l (pure_table u)) (option_map pure_dom o)
+pub matrix_put : (x y : Ex) (es ss rs : List Ex) (o q : Option Dom) (l : Lettings) (t u : Types) → x ≡ variant.Matrix es o → ss ≡ es
+    → y ≡ variant.Matrix rs q → u ≡ t
+    → pure_exs rs ≡ put_exs (pure_exs ss) l (pure_table t)
+    → option_map pure_dom q ≡ option_map (λ d. put_dom d l (pure_table u)) (option_map pure_dom o)
     → pure_ex y ≡ put_ex (pure_ex x) l (pure_table t)
 matrix_put x y es ss rs o q l t u hx hs hy hu p r =
     ap pure_ex hy ∙ matrix-is rs q
     ∙ literal-put (map pure_ex es) (map pure_ex rs) (option_map pure_dom o) (option_map pure_dom q) l (pure_table t)
-    (p ∙ ap (λ zs. put_exs (pure_exs zs) l (pure_table t)) hs) (r ∙ ap (λ v. option_map (λ d. put_dom d l (pure_table v)) (option_map pure_dom o)) hu)
+    (p ∙ ap (λ zs. put_exs (pure_exs zs) l (pure_table t)) hs)
+    (r ∙ ap (λ v. option_map (λ d. put_dom d l (pure_table v)) (option_map pure_dom o)) hu)
     ∙ ap (λ e. put_ex e l (pure_table t)) (sym (ap pure_ex hx ∙ matrix-is es o))
 
 -- ---- words with expressions
@@ -115,7 +128,8 @@ module _ {A W : Type 0} (v : A → With W) where
   words-each (x ∷ xs) l g = ap (λ ws. (v x).0 ∷ ws) (words-each xs l g)
 
   -- The words stay.
-  pub words_named : (xs rs : List A) (l : Lettings) (g : Names Ty) → map v rs ≡ map (λ x. put_with (v x) l g) xs → words_of (map v rs) ≡ words_of (map v xs)
+  pub words_named : (xs rs : List A) (l : Lettings) (g : Names Ty) → map v rs ≡ map (λ x. put_with (v x) l g) xs
+      → words_of (map v rs) ≡ words_of (map v xs)
   words_named xs rs l g h = ap words_of h ∙ words-each xs l g
 
   within-one : (es : List tree.Ex) (xs : List A) (l : Lettings) (g : Names Ty)
@@ -124,7 +138,8 @@ module _ {A W : Type 0} (v : A → With W) where
   within-one [] xs l g h = h
   within-one (e ∷ es) xs l g h = ap (λ fs. more_exs (put_ex e l g) fs) (within-one es xs l g h)
 
-  within-each : (xs : List A) (l : Lettings) (g : Names Ty) → exs_of (within (map (λ x. put_with (v x) l g) xs)) ≡ put_exs (exs_of (within (map v xs))) l g
+  within-each : (xs : List A) (l : Lettings) (g : Names Ty)
+      → exs_of (within (map (λ x. put_with (v x) l g) xs)) ≡ put_exs (exs_of (within (map v xs))) l g
   within-each [] l g = refl
   within-each (x ∷ xs) l g = within-one (v x).1 xs l g (within-each xs l g)
 
@@ -134,13 +149,18 @@ module _ {A W : Type 0} (v : A → With W) where
   within_put xs rs l g h = ap (λ ws. exs_of (within ws)) h ∙ within-each xs l g
 
 -- A range.
-pub span_put : (a b : Option tree.Ex) (l : Lettings) (g : Names Ty) → span (option_map (λ e. put_ex e l g) a) (option_map (λ e. put_ex e l g) b) ≡ put_with (span a b) l g
+pub span_put : (a b : Option tree.Ex) (l : Lettings) (g : Names Ty)
+    → span (option_map (λ e. put_ex e l g) a) (option_map (λ e. put_ex e l g) b) ≡ put_with (span a b) l g
 span_put None None l g = refl
 span_put None (Some b) l g = refl
 span_put (Some a) None l g = refl
 span_put (Some a) (Some b) l g = refl
 
+-- What a range stands for, with lettings put in.
+pub ruleset ranges_put = (span_put, pure_range_one, pure_range_span)
+
 -- An attribute.
-pub attribute_put : (k : Key) (a : Option tree.Ex) (l : Lettings) (g : Names Ty) → attribute k (option_map (λ e. put_ex e l g) a) ≡ put_with (attribute k a) l g
+pub attribute_put : (k : Key) (a : Option tree.Ex) (l : Lettings) (g : Names Ty)
+    → attribute k (option_map (λ e. put_ex e l g) a) ≡ put_with (attribute k a) l g
 attribute_put k None l g = refl
 attribute_put k (Some e) l g = refl

@@ -21,7 +21,8 @@ pub(crate) fn put_attrs(
     table: &mut TypeTable,
 ) -> Result<Row<Attr>, NoMemory>
     ensures words { IfOk result (λ r. words_of (map pure_attr r) ≡ words_of (map pure_attr attrs.now)) }
-    ensures ok { IfOk result (λ r. exs_of (within (map pure_attr r)) ≡ put_exs (exs_of (within (map pure_attr attrs.now))) (pure_lettings lettings.now) (pure_table table.old)) }
+    ensures ok { IfOk result (λ r. exs_of (within (map pure_attr r))
+        ≡ put_exs (exs_of (within (map pure_attr attrs.now))) (pure_lettings lettings.now) (pure_table table.old)) }
     ensures kept { OnOk result (table.new ≡ table.old) }
 {
     Ok(each_attr(alloc, attrs, lettings, table)?)
@@ -35,7 +36,8 @@ fn each_attr(
     lettings: &Lettings,
     table: &mut TypeTable,
 ) -> Result<Row<Attr>, NoMemory>
-    ensures ok { IfOk result (λ r. map pure_attr r ≡ map (λ x. put_with (pure_attr x) (pure_lettings lettings.now) (pure_table table.old)) attrs.now) }
+    ensures ok { IfOk result (λ r. map pure_attr r
+        ≡ map (λ x. put_with (pure_attr x) (pure_lettings lettings.now) (pure_table table.old)) attrs.now) }
     ensures kept { OnOk result (table.new ≡ table.old) }
 {
     let mut puts = Row::with_capacity(alloc, attrs.len())?;

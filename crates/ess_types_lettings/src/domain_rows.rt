@@ -36,7 +36,8 @@ fn each_dom(
     lettings: &Lettings,
     table: &mut TypeTable,
 ) -> Result<Row<Dom>, NoMemory>
-    ensures ok { IfOk result (λ r. map pure_dom r ≡ map (λ d. put_dom (pure_dom d) (pure_lettings lettings.now) (pure_table table.old)) doms.now) }
+    ensures ok { IfOk result (λ r. map pure_dom r
+        ≡ map (λ d. put_dom (pure_dom d) (pure_lettings lettings.now) (pure_table table.old)) doms.now) }
     ensures kept { OnOk result (table.new ≡ table.old) }
 {
     let mut puts = Row::with_capacity(alloc, doms.len())?;
@@ -55,7 +56,8 @@ pub(crate) fn put_record(
     table: &mut TypeTable,
 ) -> Result<Row<FieldDom>, NoMemory>
     ensures names { IfOk result (λ r. keys (map pure_field_dom r) ≡ keys (map pure_field_dom fields.now)) }
-    ensures ok { IfOk result (λ r. doms_of (field_values (map pure_field_dom r)) ≡ put_doms (doms_of (field_values (map pure_field_dom fields.now))) (pure_lettings lettings.now) (pure_table table.old)) }
+    ensures ok { IfOk result (λ r. doms_of (field_values (map pure_field_dom r))
+        ≡ put_doms (doms_of (field_values (map pure_field_dom fields.now))) (pure_lettings lettings.now) (pure_table table.old)) }
     ensures kept { OnOk result (table.new ≡ table.old) }
 {
     Ok(each_field_dom(alloc, fields, lettings, table)?)
@@ -69,7 +71,8 @@ fn each_field_dom(
     lettings: &Lettings,
     table: &mut TypeTable,
 ) -> Result<Row<FieldDom>, NoMemory>
-    ensures ok { IfOk result (λ r. map pure_field_dom r ≡ map (λ f. put_field_dom (pure_field_dom f) (pure_lettings lettings.now) (pure_table table.old)) fields.now) }
+    ensures ok { IfOk result (λ r. map pure_field_dom r
+        ≡ map (λ f. put_field_dom (pure_field_dom f) (pure_lettings lettings.now) (pure_table table.old)) fields.now) }
     ensures kept { OnOk result (table.new ≡ table.old) }
 {
     let mut puts = Row::with_capacity(alloc, fields.len())?;
@@ -88,7 +91,8 @@ fn put_field_dom(
     lettings: &Lettings,
     table: &mut TypeTable,
 ) -> Result<Boxed<FieldDom>, NoMemory>
-    ensures ok { IfOk result (λ f. pure_field_dom f ≡ put_field_dom (pure_field_dom field.now) (pure_lettings lettings.now) (pure_table table.old)) }
+    ensures ok { IfOk result (λ f. pure_field_dom f
+        ≡ put_field_dom (pure_field_dom field.now) (pure_lettings lettings.now) (pure_table table.old)) }
     ensures kept { OnOk result (table.new ≡ table.old) }
 {
     let dom = put_dom(alloc, &field.dom, lettings, table)?;

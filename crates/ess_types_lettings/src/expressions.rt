@@ -127,7 +127,8 @@ fn put_axis(
     lettings: &Lettings,
     table: &mut TypeTable,
 ) -> Result<Option<Boxed<Dom>>, NoMemory>
-    ensures ok { IfOk result (λ o. option_map pure_dom o ≡ option_map (λ d. put_dom d (pure_lettings lettings.now) (pure_table table.old)) (option_map pure_dom axis.now)) }
+    ensures ok { IfOk result (λ o. option_map pure_dom o
+        ≡ option_map (λ d. put_dom d (pure_lettings lettings.now) (pure_table table.old)) (option_map pure_dom axis.now)) }
     ensures kept { OnOk result (table.new ≡ table.old) }
 {
     match axis {

@@ -17,7 +17,7 @@ use std::alloc::Global;
 
 /// Generators and conditions with lettings put in, each under the names of those before it, which are bound.
 #[cycle(put)]
-#[tactic(auto, using(crate::proofs::Steps::items_more, crate::proofs::Steps::names_more, crate::proofs::Steps::items_all, crate::proofs::Steps::names_all, ess_types_names::proofs::Tables::extends_itself, ess_types_names::proofs::Tables::extends_on))]
+#[tactic(auto, using(crate::proofs::Steps::gens_put))]
 pub(crate) fn put_gens(
     alloc: Global,
     gens: &[Gen],
@@ -25,7 +25,8 @@ pub(crate) fn put_gens(
     table: &mut TypeTable,
 ) -> Result<Row<Gen>, NoMemory>
     ensures ok { IfOk result (λ r. map pure_gen r ≡ put_items (map pure_gen gens.now) (pure_lettings lettings.now) (pure_table table.old)) }
-    ensures names { OnOk result (pure_table table.new ≡ names_behind (map pure_gen gens.now) (pure_lettings lettings.now) (pure_table table.old)) }
+    ensures names { OnOk result (pure_table table.new
+        ≡ names_behind (map pure_gen gens.now) (pure_lettings lettings.now) (pure_table table.old)) }
     ensures kept { OnOk result (Extends table.old table.new) }
 {
     let mut puts = Row::with_capacity(alloc, gens.len())?;
@@ -37,7 +38,7 @@ pub(crate) fn put_gens(
 
 /// A generator or condition with lettings put in. Its names are bound.
 #[cycle(put)]
-#[tactic(auto, using(ess_core::proofs::PartEquations::pure_gen_over, ess_core::proofs::PartEquations::pure_gen_from, ess_core::proofs::PartEquations::pure_gen_if))]
+#[tactic(auto, using(crate::proofs::Steps::kinds_of_gens))]
 fn put_gen(
     alloc: Global,
     item: &Gen,
@@ -45,7 +46,8 @@ fn put_gen(
     table: &mut TypeTable,
 ) -> Result<Boxed<Gen>, NoMemory>
     ensures ok { IfOk result (λ x. pure_gen x ≡ put_item (pure_gen item.now) (pure_lettings lettings.now) (pure_table table.old)) }
-    ensures names { OnOk result (pure_table table.new ≡ item_behind (pure_gen item.now) (pure_lettings lettings.now) (pure_table table.old)) }
+    ensures names { OnOk result (pure_table table.new
+        ≡ item_behind (pure_gen item.now) (pure_lettings lettings.now) (pure_table table.old)) }
     ensures kept { OnOk result (Extends table.old table.new) }
 {
     match item {
@@ -65,8 +67,10 @@ fn put_over(
     lettings: &Lettings,
     table: &mut TypeTable,
 ) -> Result<Boxed<Gen>, NoMemory>
-    ensures ok { IfOk result (λ x. pure_gen x ≡ put_item (over_item (pure_pat pat.now) (pure_dom dom.now)) (pure_lettings lettings.now) (pure_table table.old)) }
-    ensures names { OnOk result (pure_table table.new ≡ item_behind (over_item (pure_pat pat.now) (pure_dom dom.now)) (pure_lettings lettings.now) (pure_table table.old)) }
+    ensures ok { IfOk result (λ x. pure_gen x
+        ≡ put_item (over_item (pure_pat pat.now) (pure_dom dom.now)) (pure_lettings lettings.now) (pure_table table.old)) }
+    ensures names { OnOk result (pure_table table.new
+        ≡ item_behind (over_item (pure_pat pat.now) (pure_dom dom.now)) (pure_lettings lettings.now) (pure_table table.old)) }
     ensures kept { OnOk result (Extends table.old table.new) }
 {
     let dom = put_dom(alloc, dom, lettings, table)?;
@@ -87,8 +91,10 @@ fn put_from(
     lettings: &Lettings,
     table: &mut TypeTable,
 ) -> Result<Boxed<Gen>, NoMemory>
-    ensures ok { IfOk result (λ x. pure_gen x ≡ put_item (from_item (pure_pat pat.now) (pure_ex source.now)) (pure_lettings lettings.now) (pure_table table.old)) }
-    ensures names { OnOk result (pure_table table.new ≡ item_behind (from_item (pure_pat pat.now) (pure_ex source.now)) (pure_lettings lettings.now) (pure_table table.old)) }
+    ensures ok { IfOk result (λ x. pure_gen x
+        ≡ put_item (from_item (pure_pat pat.now) (pure_ex source.now)) (pure_lettings lettings.now) (pure_table table.old)) }
+    ensures names { OnOk result (pure_table table.new
+        ≡ item_behind (from_item (pure_pat pat.now) (pure_ex source.now)) (pure_lettings lettings.now) (pure_table table.old)) }
     ensures kept { OnOk result (Extends table.old table.new) }
 {
     let source = put_ex(alloc, source, lettings, table)?;
@@ -119,7 +125,8 @@ fn put_condition(
     lettings: &Lettings,
     table: &mut TypeTable,
 ) -> Result<Boxed<Gen>, NoMemory>
-    ensures ok { IfOk result (λ x. pure_gen x ≡ put_item (cond_item (pure_ex condition.now)) (pure_lettings lettings.now) (pure_table table.old)) }
+    ensures ok { IfOk result (λ x. pure_gen x
+        ≡ put_item (cond_item (pure_ex condition.now)) (pure_lettings lettings.now) (pure_table table.old)) }
     ensures names { OnOk result (pure_table table.new ≡ pure_table table.old) }
     ensures kept { OnOk result (Extends table.old table.new) }
 {

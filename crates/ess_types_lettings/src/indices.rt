@@ -19,7 +19,7 @@ use std::alloc::Global;
 
 /// The steps of an index with lettings put in, from a place of this type.
 #[cycle(put)]
-#[tactic(auto, using(crate::proofs::Steps::words_more, crate::proofs::Steps::words_all, crate::proofs::Steps::operands_more, crate::proofs::Steps::operands_all))]
+#[tactic(auto, using(crate::proofs::Steps::steps_put))]
 pub(crate) fn put_steps(
     alloc: Global,
     steps: &[Step],
@@ -28,7 +28,8 @@ pub(crate) fn put_steps(
     table: &mut TypeTable,
 ) -> Result<Row<Step>, NoMemory>
     ensures words { IfOk result (λ r. words_of (map pure_step r) ≡ words_of (map pure_step steps.now)) }
-    ensures operands { IfOk result (λ r. exs_of (within (map pure_step r)) ≡ put_operands (option_map pure_ty place) (map pure_step steps.now) (pure_lettings lettings.now) (pure_table table.old)) }
+    ensures operands { IfOk result (λ r. exs_of (within (map pure_step r))
+        ≡ put_operands (option_map pure_ty place) (map pure_step steps.now) (pure_lettings lettings.now) (pure_table table.old)) }
     ensures kept { OnOk result (table.new ≡ table.old) }
 {
     let mut puts = Row::with_capacity(alloc, steps.len())?;
@@ -43,7 +44,7 @@ pub(crate) fn put_steps(
 
 /// A step with lettings put in, and the type that it reaches.
 #[cycle(put)]
-#[tactic(auto, using(ess_core::proofs::PartEquations::pure_step_value, ess_core::proofs::PartEquations::pure_step_component, ess_core::proofs::PartEquations::pure_step_field))]
+#[tactic(auto, using(crate::proofs::Steps::kinds_of_steps))]
 fn put_step(
     alloc: Global,
     step: &Step,
@@ -52,7 +53,9 @@ fn put_step(
     table: &mut TypeTable,
 ) -> Result<(Boxed<Step>, Option<Boxed<Ty>>), NoMemory>
     ensures word { IfOk result (λ r. (pure_step r.0).0 ≡ (pure_step step.now).0) }
-    ensures operands { IfOk result (λ r. (ws : List (With PureStep)) → put_operands (option_map pure_ty place.now) (pure_step step.now ∷ ws) (pure_lettings lettings.now) (pure_table table.old) ≡ exs_before (pure_step r.0).1 (put_operands (option_map pure_ty r.1) ws (pure_lettings lettings.now) (pure_table table.old))) }
+    ensures operands { IfOk result (λ r. (ws : List (With PureStep))
+        → put_operands (option_map pure_ty place.now) (pure_step step.now ∷ ws) (pure_lettings lettings.now) (pure_table table.old)
+        ≡ exs_before (pure_step r.0).1 (put_operands (option_map pure_ty r.1) ws (pure_lettings lettings.now) (pure_table table.old))) }
     ensures kept { OnOk result (table.new ≡ table.old) }
 {
     match step {
@@ -84,8 +87,13 @@ fn put_value(
     lettings: &Lettings,
     table: &mut TypeTable,
 ) -> Result<(Boxed<Ex>, Option<Boxed<Ty>>), NoMemory>
-    ensures value { IfOk result (λ r. pure_ex r.0 ≡ (if is_some_and (option_map pure_ty place.now) is_record_or_tuple then pure_ex ex.now else put_ex (pure_ex ex.now) (pure_lettings lettings.now) (pure_table table.old))) }
-    ensures behind { IfOk result (λ r. option_map pure_ty r.1 ≡ type_behind (option_map pure_ty place.now) (static (put_ex (pure_ex ex.now) (pure_lettings lettings.now) (pure_table table.old))) (type_of (put_ex (pure_ex ex.now) (pure_lettings lettings.now) (pure_table table.old)) (pure_table table.old))) }
+    ensures value { IfOk result (λ r. pure_ex r.0
+        ≡ (if is_some_and (option_map pure_ty place.now) is_record_or_tuple then pure_ex ex.now else put_ex (pure_ex ex.now)
+        (pure_lettings lettings.now) (pure_table table.old))) }
+    ensures behind { IfOk result (λ r. option_map pure_ty r.1
+        ≡ type_behind (option_map pure_ty place.now)
+        (static (put_ex (pure_ex ex.now) (pure_lettings lettings.now) (pure_table table.old)))
+        (type_of (put_ex (pure_ex ex.now) (pure_lettings lettings.now) (pure_table table.old)) (pure_table table.old))) }
     ensures kept { OnOk result (table.new ≡ table.old) }
 {
     let put = put_ex(alloc, ex, lettings, table)?;
@@ -101,7 +109,8 @@ fn value_behind(
     value: &Ex,
     table: &mut TypeTable,
 ) -> Result<Option<Boxed<Ty>>, NoMemory>
-    ensures ok { IfOk result (λ o. option_map pure_ty o ≡ type_behind (option_map pure_ty place.now) (static (pure_ex value.now)) (type_of (pure_ex value.now) (pure_table table.old))) }
+    ensures ok { IfOk result (λ o. option_map pure_ty o
+        ≡ type_behind (option_map pure_ty place.now) (static (pure_ex value.now)) (type_of (pure_ex value.now) (pure_table table.old))) }
     ensures kept { OnOk result (table.new ≡ table.old) }
 {
     match place {
@@ -148,7 +157,8 @@ fn kept_or_put(
     ex: &Ex,
     put: Boxed<Ex>,
 ) -> Result<Boxed<Ex>, NoMemory>
-    ensures { IfOk result (λ e. pure_ex e ≡ (if is_some_and (option_map pure_ty place.now) is_record_or_tuple then pure_ex ex.now else pure_ex put)) }
+    ensures { IfOk result (λ e. pure_ex e
+        ≡ (if is_some_and (option_map pure_ty place.now) is_record_or_tuple then pure_ex ex.now else pure_ex put)) }
 {
     if is_kept(place) {
         drop(put);

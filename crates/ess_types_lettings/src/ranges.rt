@@ -21,7 +21,8 @@ pub(crate) fn put_ranges(
     table: &mut TypeTable,
 ) -> Result<Row<Range>, NoMemory>
     ensures words { IfOk result (λ r. words_of (map pure_range r) ≡ words_of (map pure_range ranges.now)) }
-    ensures ok { IfOk result (λ r. exs_of (within (map pure_range r)) ≡ put_exs (exs_of (within (map pure_range ranges.now))) (pure_lettings lettings.now) (pure_table table.old)) }
+    ensures ok { IfOk result (λ r. exs_of (within (map pure_range r))
+        ≡ put_exs (exs_of (within (map pure_range ranges.now))) (pure_lettings lettings.now) (pure_table table.old)) }
     ensures kept { OnOk result (table.new ≡ table.old) }
 {
     Ok(each_range(alloc, ranges, lettings, table)?)
@@ -35,7 +36,8 @@ fn each_range(
     lettings: &Lettings,
     table: &mut TypeTable,
 ) -> Result<Row<Range>, NoMemory>
-    ensures ok { IfOk result (λ r. map pure_range r ≡ map (λ x. put_with (pure_range x) (pure_lettings lettings.now) (pure_table table.old)) ranges.now) }
+    ensures ok { IfOk result (λ r. map pure_range r
+        ≡ map (λ x. put_with (pure_range x) (pure_lettings lettings.now) (pure_table table.old)) ranges.now) }
     ensures kept { OnOk result (table.new ≡ table.old) }
 {
     let mut puts = Row::with_capacity(alloc, ranges.len())?;
@@ -47,7 +49,7 @@ fn each_range(
 
 /// A range with lettings put in.
 #[cycle(put)]
-#[tactic(auto, using(crate::proofs::Putting::span_put, ess_core::proofs::PartEquations::pure_range_one, ess_core::proofs::PartEquations::pure_range_span))]
+#[tactic(auto, using(crate::proofs::Putting::ranges_put))]
 fn put_range(
     alloc: Global,
     range: &Range,
@@ -78,7 +80,8 @@ pub(crate) fn put_maybe(
     lettings: &Lettings,
     table: &mut TypeTable,
 ) -> Result<Option<Boxed<Ex>>, NoMemory>
-    ensures ok { IfOk result (λ o. option_map pure_ex o ≡ option_map (λ e. put_ex e (pure_lettings lettings.now) (pure_table table.old)) (option_map pure_ex ex.now)) }
+    ensures ok { IfOk result (λ o. option_map pure_ex o
+        ≡ option_map (λ e. put_ex e (pure_lettings lettings.now) (pure_table table.old)) (option_map pure_ex ex.now)) }
     ensures kept { OnOk result (table.new ≡ table.old) }
 {
     match ex {

@@ -35,7 +35,8 @@ fn each_ex(
     lettings: &Lettings,
     table: &mut TypeTable,
 ) -> Result<Row<Ex>, NoMemory>
-    ensures ok { IfOk result (λ r. map pure_ex r ≡ map (λ e. put_ex (pure_ex e) (pure_lettings lettings.now) (pure_table table.old)) exs.now) }
+    ensures ok { IfOk result (λ r. map pure_ex r
+        ≡ map (λ e. put_ex (pure_ex e) (pure_lettings lettings.now) (pure_table table.old)) exs.now) }
     ensures kept { OnOk result (table.new ≡ table.old) }
 {
     let mut puts = Row::with_capacity(alloc, exs.len())?;
@@ -53,7 +54,8 @@ pub(crate) fn put_pairs(
     lettings: &Lettings,
     table: &mut TypeTable,
 ) -> Result<Row<PairEx>, NoMemory>
-    ensures ok { IfOk result (λ r. exs_of (map pure_pair_ex r) ≡ put_exs (exs_of (map pure_pair_ex pairs.now)) (pure_lettings lettings.now) (pure_table table.old)) }
+    ensures ok { IfOk result (λ r. exs_of (map pure_pair_ex r)
+        ≡ put_exs (exs_of (map pure_pair_ex pairs.now)) (pure_lettings lettings.now) (pure_table table.old)) }
     ensures kept { OnOk result (table.new ≡ table.old) }
 {
     Ok(each_pair(alloc, pairs, lettings, table)?)
@@ -67,7 +69,8 @@ fn each_pair(
     lettings: &Lettings,
     table: &mut TypeTable,
 ) -> Result<Row<PairEx>, NoMemory>
-    ensures ok { IfOk result (λ r. map pure_pair_ex r ≡ map (λ p. put_ex (pure_pair_ex p) (pure_lettings lettings.now) (pure_table table.old)) pairs.now) }
+    ensures ok { IfOk result (λ r. map pure_pair_ex r
+        ≡ map (λ p. put_ex (pure_pair_ex p) (pure_lettings lettings.now) (pure_table table.old)) pairs.now) }
     ensures kept { OnOk result (table.new ≡ table.old) }
 {
     let mut puts = Row::with_capacity(alloc, pairs.len())?;
@@ -104,7 +107,8 @@ pub(crate) fn put_fields(
     table: &mut TypeTable,
 ) -> Result<Row<FieldEx>, NoMemory>
     ensures names { IfOk result (λ r. keys (map pure_field_ex r) ≡ keys (map pure_field_ex fields.now)) }
-    ensures ok { IfOk result (λ r. exs_of (field_values (map pure_field_ex r)) ≡ put_exs (exs_of (field_values (map pure_field_ex fields.now))) (pure_lettings lettings.now) (pure_table table.old)) }
+    ensures ok { IfOk result (λ r. exs_of (field_values (map pure_field_ex r))
+        ≡ put_exs (exs_of (field_values (map pure_field_ex fields.now))) (pure_lettings lettings.now) (pure_table table.old)) }
     ensures kept { OnOk result (table.new ≡ table.old) }
 {
     Ok(each_field(alloc, fields, lettings, table)?)
@@ -118,7 +122,8 @@ fn each_field(
     lettings: &Lettings,
     table: &mut TypeTable,
 ) -> Result<Row<FieldEx>, NoMemory>
-    ensures ok { IfOk result (λ r. map pure_field_ex r ≡ map (λ f. put_field (pure_field_ex f) (pure_lettings lettings.now) (pure_table table.old)) fields.now) }
+    ensures ok { IfOk result (λ r. map pure_field_ex r
+        ≡ map (λ f. put_field (pure_field_ex f) (pure_lettings lettings.now) (pure_table table.old)) fields.now) }
     ensures kept { OnOk result (table.new ≡ table.old) }
 {
     let mut puts = Row::with_capacity(alloc, fields.len())?;
@@ -137,7 +142,8 @@ fn put_field(
     lettings: &Lettings,
     table: &mut TypeTable,
 ) -> Result<Boxed<FieldEx>, NoMemory>
-    ensures ok { IfOk result (λ f. pure_field_ex f ≡ put_field (pure_field_ex field.now) (pure_lettings lettings.now) (pure_table table.old)) }
+    ensures ok { IfOk result (λ f. pure_field_ex f
+        ≡ put_field (pure_field_ex field.now) (pure_lettings lettings.now) (pure_table table.old)) }
     ensures kept { OnOk result (table.new ≡ table.old) }
 {
     let ex = put_ex(alloc, &field.ex, lettings, table)?;

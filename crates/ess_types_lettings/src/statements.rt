@@ -1,5 +1,6 @@
 //! The lettings and the types of names behind a statement.
-ghost use Rattle.std.specs.Prelude.{◌≡◌, ◌++◌, ◌∷◌, [], map, option_map, IfOk, OnOk, OnErr};
+ghost use Rattle.std.specs.Prelude.{◌≡◌, ◌++◌, ◌∷◌, [], true, false, map, option_map, is_some, IfOk, OnOk, OnErr};
+ghost use Rattle.ess_semantics.specs.Names.{look};
 ghost use Rattle.ess_semantics.specs.Types.{named_ty, or_any, type_of_dom};
 ghost use Rattle.ess_semantics.specs.Typing.{type_of};
 ghost use Rattle.ess_semantics.specs.Lettings.{lettings_after, types_after};
@@ -8,8 +9,9 @@ ghost use Rattle.ess_core.specs.TreeViews.{pure_ex, pure_dom};
 ghost use Rattle.ess_core.specs.StatementViews.{pure_stm};
 ghost use Rattle.ess_types_names.specs.Tables.{pure_table, pure_declared};
 ghost use Rattle.ess_types_names.specs.declared.table.Declared.TheVariants as declared;
-ghost use Rattle.ess_types_scopes.specs.Kept.{pure_lettings};
-ghost use Rattle.ess_types_scopes.specs.declared.added.Added.TheVariants.{New};
+ghost use Rattle.ess_types_scopes.specs.Kept.{pure_lettings, ex_added, dom_added};
+ghost use Rattle.ess_types_scopes.specs.declared.added.Added.TheVariants.{New, Standing};
+ghost use Rattle.ess_types_lettings.specs.Behind.{letting_added, typed_names, are_new};
 
 use ess_core::{Boxed, Dom, Ex, NoMemory, Stm, Text, Ty};
 use ess_types_names::{Declared, TypeTable, type_of};
@@ -21,7 +23,9 @@ use std::alloc::Global;
 /// Where there is a letting of its name already nothing changes, as the answer says. `NoMemory` where there is no room for it,
 /// and then nothing changes.
 pub fn lettings_after(alloc: Global, stm: &Stm, lettings: &mut Lettings) -> Result<Added, NoMemory>
+    ensures answer { IfOk result (λ r. r ≡ letting_added (pure_stm stm.now) (pure_lettings lettings.old)) }
     ensures ok { IfOk result (λ r. r ≡ New → pure_lettings lettings.new ≡ lettings_after (pure_stm stm.now) (pure_lettings lettings.old)) }
+    ensures standing { IfOk result (λ r. r ≡ Standing → lettings.new ≡ lettings.old) }
     ensures err { OnErr result (lettings.new ≡ lettings.old) }
 {
     match stm {
@@ -45,7 +49,11 @@ fn keep_ex(
     name: &Text,
     ex: Boxed<Ex>,
 ) -> Result<Added, NoMemory>
-    ensures ok { IfOk result (λ r. r ≡ New → pure_lettings lettings.new ≡ record (pure_lettings lettings.old) { exs = (name.now, pure_ex ex) ∷ (pure_lettings lettings.old).exs }) }
+    ensures answer { IfOk result (λ r. r ≡ ex_added lettings.old name.now) }
+    ensures ok { IfOk result (λ r. r ≡ New
+        → pure_lettings lettings.new
+        ≡ record (pure_lettings lettings.old) { exs = (name.now, pure_ex ex) ∷ (pure_lettings lettings.old).exs }) }
+    ensures standing { IfOk result (λ r. r ≡ Standing → lettings.new ≡ lettings.old) }
     ensures err { OnErr result (lettings.new ≡ lettings.old) }
 {
     lettings.let_ex(alloc, name, ex)
@@ -59,18 +67,26 @@ fn keep_dom(
     name: &Text,
     dom: Boxed<Dom>,
 ) -> Result<Added, NoMemory>
-    ensures ok { IfOk result (λ r. r ≡ New → pure_lettings lettings.new ≡ record (pure_lettings lettings.old) { doms = (name.now, pure_dom dom) ∷ (pure_lettings lettings.old).doms }) }
+    ensures answer { IfOk result (λ r. r ≡ dom_added lettings.old name.now) }
+    ensures ok { IfOk result (λ r. r ≡ New
+        → pure_lettings lettings.new
+        ≡ record (pure_lettings lettings.old) { doms = (name.now, pure_dom dom) ∷ (pure_lettings lettings.old).doms }) }
+    ensures standing { IfOk result (λ r. r ≡ Standing → lettings.new ≡ lettings.old) }
     ensures err { OnErr result (lettings.new ≡ lettings.old) }
 {
     lettings.let_dom(alloc, name, dom)
 }
 
 /// Declares the types of the names that a statement with lettings put in declares, in a table without bound names.
-/// Where one of them is declared already it keeps its type, as the answer says, and perhaps others aren't declared.
+/// Where one of them is declared already, or stands twice, it keeps its type, as the answer says, and perhaps others aren't
+/// declared.
 /// `NoMemory` where there is no room for them; the table may then have some of them.
 #[tactic(auto, using(ess_types_names::proofs::Tables::no_bound, crate::proofs::Values::values_in_front))]
 pub fn types_after(alloc: Global, stm: &Stm, table: &mut TypeTable) -> Result<Declared, NoMemory>
-    ensures ok { table.old.bound ≡ [] → IfOk result (λ r. r ≡ declared.Added → pure_table table.new ≡ types_after (pure_stm stm.now) (pure_table table.old)) }
+    ensures ok { table.old.bound ≡ []
+        → IfOk result (λ r. r ≡ declared.Added → pure_table table.new ≡ types_after (pure_stm stm.now) (pure_table table.old)) }
+    ensures standing { IfOk result (λ r. r ≡ declared.Standing
+        → are_new (typed_names (pure_stm stm.now)) (pure_declared table.old.declared) ≡ false) }
     ensures bound { OnOk result (table.new.bound ≡ table.old.bound) }
 {
     match stm {
@@ -83,14 +99,16 @@ pub fn types_after(alloc: Global, stm: &Stm, table: &mut TypeTable) -> Result<De
 }
 
 /// Declares a name at the type of a domain.
-#[tactic(auto, using(ess_types_names::proofs::Tables::declared_newest, ess_types_names::proofs::Tables::declared_behind))]
+#[tactic(auto, using(crate::proofs::Values::declared_or_standing))]
 fn declare_in(
     alloc: Global,
     table: &mut TypeTable,
     name: &Text,
     dom: &Dom,
 ) -> Result<Declared, NoMemory>
-    ensures ok { IfOk result (λ r. r ≡ declared.Added → pure_declared table.new.declared ≡ (name.now, type_of_dom (pure_dom dom.now)) ∷ pure_declared table.old.declared) }
+    ensures ok { IfOk result (λ r. r ≡ declared.Added
+        → pure_declared table.new.declared ≡ (name.now, type_of_dom (pure_dom dom.now)) ∷ pure_declared table.old.declared) }
+    ensures standing { IfOk result (λ r. r ≡ declared.Standing → are_new (name.now ∷ []) (pure_declared table.old.declared) ≡ false) }
     ensures bound { OnOk result (table.new.bound ≡ table.old.bound) }
 {
     let ty = type_of_dom(alloc, dom)?;
@@ -98,14 +116,17 @@ fn declare_in(
 }
 
 /// Declares a name at the type of an expression, or as that of the members of an empty literal where it has none.
-#[tactic(auto, using(ess_types_names::proofs::Tables::declared_newest, ess_types_names::proofs::Tables::declared_behind))]
+#[tactic(auto, using(crate::proofs::Values::declared_or_standing))]
 fn declare_as(
     alloc: Global,
     table: &mut TypeTable,
     name: &Text,
     ex: &Ex,
 ) -> Result<Declared, NoMemory>
-    ensures ok { IfOk result (λ r. r ≡ declared.Added → pure_declared table.new.declared ≡ (name.now, or_any (type_of (pure_ex ex.now) (pure_table table.old))) ∷ pure_declared table.old.declared) }
+    ensures ok { IfOk result (λ r. r ≡ declared.Added
+        → pure_declared table.new.declared
+        ≡ (name.now, or_any (type_of (pure_ex ex.now) (pure_table table.old))) ∷ pure_declared table.old.declared) }
+    ensures standing { IfOk result (λ r. r ≡ declared.Standing → are_new (name.now ∷ []) (pure_declared table.old.declared) ≡ false) }
     ensures bound { OnOk result (table.new.bound ≡ table.old.bound) }
 {
     let ty = some_or_any(alloc, type_of(alloc, ex, table)?)?;
@@ -130,7 +151,9 @@ fn declare_values(
     name: &Text,
     values: &[Text],
 ) -> Result<Declared, NoMemory>
-    ensures ok { IfOk result (λ r. r ≡ declared.Added → pure_declared table.new.declared ≡ map (λ n. (n, named_ty name.now)) values.now ++ pure_declared table.old.declared) }
+    ensures ok { IfOk result (λ r. r ≡ declared.Added
+        → pure_declared table.new.declared ≡ map (λ n. (n, named_ty name.now)) values.now ++ pure_declared table.old.declared) }
+    ensures standing { IfOk result (λ r. r ≡ declared.Standing → are_new values.now (pure_declared table.old.declared) ≡ false) }
     ensures bound { OnOk result (table.new.bound ≡ table.old.bound) }
 {
     for k in 0..values.len() {
@@ -143,14 +166,16 @@ fn declare_values(
 }
 
 /// Declares one value of an enumerated type.
-#[tactic(auto, using(ess_types_names::proofs::Tables::declared_newest, ess_types_names::proofs::Tables::declared_behind))]
+#[tactic(auto, using(crate::proofs::Values::declared_or_standing))]
 fn declare_value(
     alloc: Global,
     table: &mut TypeTable,
     name: &Text,
     value: &Text,
 ) -> Result<Declared, NoMemory>
-    ensures ok { IfOk result (λ r. r ≡ declared.Added → pure_declared table.new.declared ≡ (value.now, named_ty name.now) ∷ pure_declared table.old.declared) }
+    ensures ok { IfOk result (λ r. r ≡ declared.Added
+        → pure_declared table.new.declared ≡ (value.now, named_ty name.now) ∷ pure_declared table.old.declared) }
+    ensures standing { IfOk result (λ r. r ≡ declared.Standing → is_some (look (pure_declared table.old.declared) value.now) ≡ true) }
     ensures bound { OnOk result (table.new.bound ≡ table.old.bound) }
 {
     let ty = named_type(alloc, name)?;

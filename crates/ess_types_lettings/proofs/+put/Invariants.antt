@@ -16,44 +16,52 @@ invariant-rows::each_ex-loop-ex l = record {
 abbrev pub invariant-rows::each_pair-loop-pair : goal.invariant-rows::each_pair-loop-pair
 invariant-rows::each_pair-loop-pair l = record {
   kept : l.table ≡ l.initial.table;
-  puts : map pure_pair_ex l.puts ≡ map (λ p. put_ex (pure_pair_ex p) (pure_lettings l.lettings) (pure_table l.initial.table)) (take l.pair-index l.pairs);
+  puts : map pure_pair_ex l.puts
+      ≡ map (λ p. put_ex (pure_pair_ex p) (pure_lettings l.lettings) (pure_table l.initial.table)) (take l.pair-index l.pairs);
 }
 
 abbrev pub invariant-rows::each_field-loop-field : goal.invariant-rows::each_field-loop-field
 invariant-rows::each_field-loop-field l = record {
   kept : l.table ≡ l.initial.table;
-  puts : map pure_field_ex l.puts ≡ map (λ f. put_field (pure_field_ex f) (pure_lettings l.lettings) (pure_table l.initial.table)) (take l.field-index l.fields);
+  puts : map pure_field_ex l.puts
+      ≡ map (λ f. put_field (pure_field_ex f) (pure_lettings l.lettings) (pure_table l.initial.table)) (take l.field-index l.fields);
 }
 
 abbrev pub invariant-domain_rows::each_dom-loop-dom : goal.invariant-domain_rows::each_dom-loop-dom
 invariant-domain_rows::each_dom-loop-dom l = record {
   kept : l.table ≡ l.initial.table;
-  puts : map pure_dom l.puts ≡ map (λ d. put_dom (pure_dom d) (pure_lettings l.lettings) (pure_table l.initial.table)) (take l.dom-index l.doms);
+  puts : map pure_dom l.puts
+      ≡ map (λ d. put_dom (pure_dom d) (pure_lettings l.lettings) (pure_table l.initial.table)) (take l.dom-index l.doms);
 }
 
 abbrev pub invariant-domain_rows::each_field_dom-loop-field : goal.invariant-domain_rows::each_field_dom-loop-field
 invariant-domain_rows::each_field_dom-loop-field l = record {
   kept : l.table ≡ l.initial.table;
-  puts : map pure_field_dom l.puts ≡ map (λ f. put_field_dom (pure_field_dom f) (pure_lettings l.lettings) (pure_table l.initial.table)) (take l.field-index l.fields);
+  puts : map pure_field_dom l.puts
+      ≡ map (λ f. put_field_dom (pure_field_dom f) (pure_lettings l.lettings) (pure_table l.initial.table)) (take l.field-index l.fields);
 }
 
 abbrev pub invariant-ranges::each_range-loop-range : goal.invariant-ranges::each_range-loop-range
 invariant-ranges::each_range-loop-range l = record {
   kept : l.table ≡ l.initial.table;
-  puts : map pure_range l.puts ≡ map (λ x. put_with (pure_range x) (pure_lettings l.lettings) (pure_table l.initial.table)) (take l.range-index l.ranges);
+  puts : map pure_range l.puts
+      ≡ map (λ x. put_with (pure_range x) (pure_lettings l.lettings) (pure_table l.initial.table)) (take l.range-index l.ranges);
 }
 
 abbrev pub invariant-attributes::each_attr-loop-attr : goal.invariant-attributes::each_attr-loop-attr
 invariant-attributes::each_attr-loop-attr l = record {
   kept : l.table ≡ l.initial.table;
-  puts : map pure_attr l.puts ≡ map (λ x. put_with (pure_attr x) (pure_lettings l.lettings) (pure_table l.initial.table)) (take l.attr-index l.attrs);
+  puts : map pure_attr l.puts
+      ≡ map (λ x. put_with (pure_attr x) (pure_lettings l.lettings) (pure_table l.initial.table)) (take l.attr-index l.attrs);
 }
 
 abbrev pub invariant-indices::put_steps-loop-step : goal.invariant-indices::put_steps-loop-step
 invariant-indices::put_steps-loop-step l = record {
   kept : l.table ≡ l.initial.table;
   words : words_of (map pure_step l.puts) ++ words_of (map pure_step (drop l.step-index l.steps)) ≡ words_of (map pure_step l.steps);
-  operands : exs_before (within (map pure_step l.puts)) (put_operands (option_map pure_ty l.reached) (map pure_step (drop l.step-index l.steps)) (pure_lettings l.lettings) (pure_table l.initial.table))
+  operands : exs_before (within (map pure_step l.puts))
+      (put_operands (option_map pure_ty l.reached) (map pure_step (drop l.step-index l.steps)) (pure_lettings l.lettings)
+      (pure_table l.initial.table))
       ≡ put_operands (option_map pure_ty l.initial.reached) (map pure_step l.steps) (pure_lettings l.lettings) (pure_table l.initial.table);
 }
 

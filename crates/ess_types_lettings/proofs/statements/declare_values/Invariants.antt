@@ -6,5 +6,6 @@ use Rattle.ess_types_lettings.proofs.statements.declare_values.Given as goal
 abbrev pub invariant-loop-k : goal.invariant-loop-k
 invariant-loop-k l = record {
   bound : l.table.bound ≡ l.initial.table.bound;
-  done : pure_declared l.table.declared ≡ map (λ n. (n, named_ty l.name)) (drop (length l.values - l.k) l.values) ++ pure_declared l.initial.table.declared;
+  done : pure_declared l.table.declared
+      ≡ map (λ n. (n, named_ty l.name)) (drop (length l.values - l.k) l.values) ++ pure_declared l.initial.table.declared;
 }
