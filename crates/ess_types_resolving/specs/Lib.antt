@@ -1,0 +1,3 @@
+pub mod Generators
+pub mod Parts
+pub mod Paths
