@@ -61,6 +61,7 @@ comp_typed e gs g h u p = ap (λ o. and_then o (λ h. option_map (compound2 a_ma
 
 -- ---- trees
 
+-- One more is resolved: it stands in front of what is left.
 pub trees_more : (xs ys zs : List Gen) (i : ℕ) (x y : Gen) (g h : Names pure.Ty) → i < length xs → x ≡ get_or xs i x
     → pure_gen y ≡ resolved_item (pure_gen x) g → h ≡ item_behind (pure_gen x) g → zs ≡ ys ++ y ∷ []
     → map pure_gen zs ++ resolved_items (map pure_gen (drop (i + 1) xs)) h ≡ map pure_gen ys ++ resolved_items (map pure_gen (drop i xs)) g
@@ -73,12 +74,14 @@ trees_more xs ys zs i x y g h l is e q p =
     ∙ sym (at_drop_more (λ l. map pure_gen ys ++ resolved_items (map pure_gen l) g) xs i x l
     ∙ ap (λ z. map pure_gen ys ++ resolved_items (map pure_gen (z ∷ drop (i + 1) xs)) g) (sym is))
 
+-- Nothing is left to resolve.
 pub trees_all : (xs ys : List Gen) (i : ℕ) (g : Names pure.Ty) → length xs ≤ i
     → map pure_gen ys ++ resolved_items (map pure_gen (drop i xs)) g ≡ map pure_gen ys
 trees_all xs ys i g l = at_drop_all (λ l. map pure_gen ys ++ resolved_items (map pure_gen l) g) xs i l ∙ append-nil (map pure_gen ys)
 
 -- ---- names
 
+-- The names behind what is left are those behind all.
 pub names_more : (xs : List Gen) (i : ℕ) (x : Gen) (g h : Names pure.Ty) → i < length xs → x ≡ get_or xs i x
     → h ≡ item_behind (pure_gen x) g
     → names_behind (map pure_gen (drop (i + 1) xs)) h ≡ names_behind (map pure_gen (drop i xs)) g
@@ -87,11 +90,13 @@ names_more xs i x g h l is q =
     ∙ sym (at_drop_more (λ l. names_behind (map pure_gen l) g) xs i x l
     ∙ ap (λ z. names_behind (map pure_gen (z ∷ drop (i + 1) xs)) g) (sym is))
 
+-- Behind nothing the names stay.
 pub names_all : (xs : List Gen) (i : ℕ) (g : Names pure.Ty) → length xs ≤ i → names_behind (map pure_gen (drop i xs)) g ≡ g
 names_all xs i g l = at_drop_all (λ l. names_behind (map pure_gen l) g) xs i l
 
 -- ---- types
 
+-- One more fits or not: what is left fits where all before it does.
 pub types_more : (xs : List Gen) (i : ℕ) (x : Gen) (g h : Names pure.Ty) (u v r : Under) → i < length xs → x ≡ get_or xs i x
     → types_under (gens_of (pure_gen x ∷ [])) g ≡ under r h → v ≡ both_fit u r
     → fitting v (types_under (pure_gens (drop (i + 1) xs)) h) ≡ fitting u (types_under (pure_gens (drop i xs)) g)
@@ -103,6 +108,7 @@ types_more xs i x g h u v r l is e p = ap (λ v. fitting v (types_under (pure_ge
     go Fits Fits e = gens_more xs i x g h Fits l is e refl
     go Fits Misfits e = sym (gens_none xs i x g h Misfits l is e refl)
 
+-- With nothing left they fit where all did.
 pub types_all : (xs : List Gen) (i : ℕ) (g : Names pure.Ty) (u : Under) → length xs ≤ i
     → fitting u (types_under (pure_gens (drop i xs)) g) ≡ under u g
 types_all xs i g u l = ap (fitting u) (gens_end xs i g l) ∙ go u

@@ -12,16 +12,20 @@ literal-mark : (op : Op) (u : Option Ty) (us : Option (List Ty)) → ((ts : List
 literal-mark op u None h e = sym (ap is_bool e)
 literal-mark op u (Some ts) h e = sym (ap is_bool e ∙ h ts)
 
+-- A tuple literal is never Boolean.
 pub tuple_marked : (u : Option Ty) (us : Option (List Ty)) → u ≡ and_then us (type_of_op tuple_literal) → false ≡ is_bool u
 tuple_marked u us = literal-mark tuple_literal u us (λ ts. refl)
 
+-- A record literal is never Boolean.
 pub record_marked : (fs : List Text) (u : Option Ty) (us : Option (List Ty)) → u ≡ and_then us (type_of_op (record_literal fs))
     → false ≡ is_bool u
 record_marked fs u us = literal-mark (record_literal fs) u us (λ ts. refl)
 
+-- A set literal is never Boolean.
 pub set_marked : (u : Option Ty) (us : Option (List Ty)) → u ≡ and_then us (type_of_op set_literal) → false ≡ is_bool u
 set_marked u us = literal-mark set_literal u us (λ ts. never-one a_set (join_all ts))
 
+-- A multiset literal is never Boolean.
 pub mset_marked : (u : Option Ty) (us : Option (List Ty)) → u ≡ and_then us (type_of_op mset_literal) → false ≡ is_bool u
 mset_marked u us = literal-mark mset_literal u us (λ ts. never-one a_mset (join_all ts))
 
@@ -42,6 +46,7 @@ never-function (compound a_relation ts) = refl
 never-function (compound a_partition ts) = refl
 never-function (compound (a_record fs) ts) = refl
 
+-- A function literal is never Boolean.
 pub function_marked : (u : Option Ty) (us : Option (List Ty)) → u ≡ and_then us (type_of_op function_literal) → false ≡ is_bool u
 function_marked u us = literal-mark function_literal u us (λ ts. never-then function_ty never-function (join_all ts))
 
@@ -59,6 +64,7 @@ never-relation (compound a_relation ts) = refl
 never-relation (compound a_partition ts) = refl
 never-relation (compound (a_record fs) ts) = refl
 
+-- A relation literal is never Boolean.
 pub relation_marked : (u : Option Ty) (us : Option (List Ty)) → u ≡ and_then us (type_of_op relation_literal) → false ≡ is_bool u
 relation_marked u us = literal-mark relation_literal u us (λ ts. never-then relation_ty never-relation (join_all ts))
 
@@ -78,9 +84,11 @@ never-partition (compound a_relation ts) = refl
 never-partition (compound a_partition ts) = refl
 never-partition (compound (a_record fs) ts) = refl
 
+-- A partition literal is never Boolean.
 pub partition_marked : (u : Option Ty) (us : Option (List Ty)) → u ≡ and_then us (type_of_op partition_literal) → false ≡ is_bool u
 partition_marked u us = literal-mark partition_literal u us (λ ts. never-then partition_ty never-partition (join_all ts))
 
+-- A matrix literal without an index domain is never Boolean.
 pub list_marked : (u : Option Ty) (us : Option (List Ty)) → u ≡ and_then us (type_of_op matrix_literal) → false ≡ is_bool u
 list_marked u us = literal-mark matrix_literal u us go
   where

@@ -17,10 +17,12 @@ never-fit : (o : Option Ty) → is_bool (option_map (λ v. int_ty) o) ≡ false
 never-fit None = refl
 never-fit (Some t) = refl
 
+-- A type made of one other isn't bool.
 pub never-one : (k : Kind) (o : Option Ty) → is_bool (option_map (compound1 k) o) ≡ false
 never-one k None = refl
 never-one k (Some t) = refl
 
+-- A type made of two others isn't bool.
 pub never-two : (k : Kind) (i : Ty) (o : Option Ty) → is_bool (option_map (compound2 k i) o) ≡ false
 never-two k i None = refl
 never-two k i (Some t) = refl
@@ -60,6 +62,7 @@ never-subtracted int_ty = refl
 never-subtracted (named_ty a) = refl
 never-subtracted (compound k ts) = never-united (compound k ts)
 
+-- What is never bool isn't so behind a type that may be missing.
 pub never-then : (f : Ty → Option Ty) → ((t : Ty) → is_bool (f t) ≡ false) → (o : Option Ty) → is_bool (and_then o f) ≡ false
 never-then f h None = refl
 never-then f h (Some t) = h t

@@ -62,6 +62,7 @@ module _ {A : Type 0} (f : List A → List tree.Ex) (v : A → tree.Ex) (none : 
 
 -- ---- expressions
 
+-- One more expression has its type, or none.
 pub exs_types_more : (xs : List Ex) (i : ℕ) (x : Ex) (g : Names pure.Ty) (ts us : Option (List Ty)) (t : Option Ty) → i < length xs
     → x ≡ get_or xs i x
     → option_map pure_ty t ≡ type_of (pure_ex x) g
@@ -71,14 +72,16 @@ pub exs_types_more : (xs : List Ex) (i : ℕ) (x : Ex) (g : Names pure.Ty) (ts u
 exs_types_more xs i x g ts us t = more (map pure_ex) pure_ex refl (λ x xs. refl) xs i x g (option_map (map pure_ty) ts)
     (option_map (map pure_ty) us) (option_map pure_ty t)
 
+-- All expressions have theirs.
 pub exs_types_all : (xs : List Ex) (i : ℕ) (g : Names pure.Ty) (ts : Option (List Ty)) → length xs ≤ i
     → joined (option_map (map pure_ty) ts) (all_some (types_of (pure_exs (drop i xs)) g)) ≡ option_map (map pure_ty) ts
 exs_types_all xs i g ts = all (map pure_ex) pure_ex refl (λ x xs. refl) xs i g (option_map (map pure_ty) ts)
 
 -- ---- pairs
 
-pub pairs_types_more : (xs : List PairEx) (i : ℕ) (x : PairEx) (g : Names pure.Ty) (ts us : Option (List Ty)) (t : Option Ty) → i < length xs
-    → x ≡ get_or xs i x
+-- One more pair has its type, or none.
+pub pairs_types_more : (xs : List PairEx) (i : ℕ) (x : PairEx) (g : Names pure.Ty) (ts us : Option (List Ty)) (t : Option Ty)
+    → i < length xs → x ≡ get_or xs i x
     → option_map pure_ty t ≡ type_of (pure_pair_ex x) g
     → option_map (map pure_ty) us ≡ joined (option_map (map pure_ty) ts) (option_map (λ t. t ∷ []) (option_map pure_ty t))
     → joined (option_map (map pure_ty) us) (all_some (types_of (exs_of (map pure_pair_ex (drop (i + 1) xs))) g))
@@ -86,6 +89,7 @@ pub pairs_types_more : (xs : List PairEx) (i : ℕ) (x : PairEx) (g : Names pure
 pairs_types_more xs i x g ts us t = more (map pure_pair_ex) pure_pair_ex refl (λ x xs. refl) xs i x g (option_map (map pure_ty) ts)
     (option_map (map pure_ty) us) (option_map pure_ty t)
 
+-- All pairs have theirs.
 pub pairs_types_all : (xs : List PairEx) (i : ℕ) (g : Names pure.Ty) (ts : Option (List Ty)) → length xs ≤ i
     → joined (option_map (map pure_ty) ts) (all_some (types_of (exs_of (map pure_pair_ex (drop i xs))) g)) ≡ option_map (map pure_ty) ts
 pairs_types_all xs i g ts = all (map pure_pair_ex) pure_pair_ex refl (λ x xs. refl) xs i g (option_map (map pure_ty) ts)
@@ -96,8 +100,9 @@ pairs_types_all xs i g ts = all (map pure_pair_ex) pure_pair_ex refl (λ x xs. r
 abbrev pub field_exs : List FieldEx → List tree.Ex
 field_exs fs = field_values (map pure_field_ex fs)
 
-pub fields_types_more : (xs : List FieldEx) (i : ℕ) (x : FieldEx) (g : Names pure.Ty) (ts us : Option (List Ty)) (t : Option Ty) → i < length xs
-    → x ≡ get_or xs i x
+-- One more field has its type, or none.
+pub fields_types_more : (xs : List FieldEx) (i : ℕ) (x : FieldEx) (g : Names pure.Ty) (ts us : Option (List Ty)) (t : Option Ty)
+    → i < length xs → x ≡ get_or xs i x
     → option_map pure_ty t ≡ type_of (pure_field_ex x).1 g
     → option_map (map pure_ty) us ≡ joined (option_map (map pure_ty) ts) (option_map (λ t. t ∷ []) (option_map pure_ty t))
     → joined (option_map (map pure_ty) us) (all_some (types_of (exs_of (field_values (map pure_field_ex (drop (i + 1) xs)))) g))
@@ -105,6 +110,7 @@ pub fields_types_more : (xs : List FieldEx) (i : ℕ) (x : FieldEx) (g : Names p
 fields_types_more xs i x g ts us t = more field_exs (λ x. (pure_field_ex x).1) refl (λ x xs. refl) xs i x g (option_map (map pure_ty) ts)
     (option_map (map pure_ty) us) (option_map pure_ty t)
 
+-- All fields have theirs.
 pub fields_types_all : (xs : List FieldEx) (i : ℕ) (g : Names pure.Ty) (ts : Option (List Ty)) → length xs ≤ i
     → joined (option_map (map pure_ty) ts) (all_some (types_of (exs_of (field_values (map pure_field_ex (drop i xs)))) g))
     ≡ option_map (map pure_ty) ts

@@ -113,18 +113,21 @@ step-typed (Some t) ws g (named a) h = h
 
 -- ---- the steps of an index
 
+-- The steps of an index are those resolved one by one.
 pub path_steps : (t : Option pure.Ty) (xs : List Step) (g : Names pure.Ty)
     → steps_from t (words_of (map pure_step xs)) (statics (exs_of (within (map pure_step xs))))
     (types_of (exs_of (within (map pure_step xs))) g) ≡ words_of (resolved_path t (map pure_step xs) g)
 path_steps t [] g = refl
 path_steps t (x ∷ xs) g = step-said t (map pure_step xs) g (formed x) (path_steps (step_behind t (pure_step x) g) xs g)
 
+-- The values that are kept are those that stand in them.
 pub path_kept : (t : Option pure.Ty) (xs : List Step) (g : Names pure.Ty)
     → kept_indices (words_of (map pure_step xs)) (words_of (resolved_path t (map pure_step xs) g))
     (resolve_exs (exs_of (within (map pure_step xs))) g) ≡ exs_of (within (resolved_path t (map pure_step xs) g))
 path_kept t [] g = refl
 path_kept t (x ∷ xs) g = step-kept t (map pure_step xs) g (formed x) (path_kept (step_behind t (pure_step x) g) xs g)
 
+-- The type behind the steps is the one reached by them one by one.
 pub path_typed : (t : Option pure.Ty) (xs : List Step) (g : Names pure.Ty)
     → path_behind t (map pure_step xs) g
     ≡ and_then t (λ t. path_ty t (words_of (map pure_step xs)) (statics (exs_of (within (map pure_step xs))))
@@ -146,6 +149,7 @@ index_typed b qs e es g = go (type_of e g)
 
 -- ---- in a loop
 
+-- One more step is resolved: it stands in front of what is left.
 pub steps_more : (xs ys zs : List Step) (i : ℕ) (x y : Step) (g : Names pure.Ty) (t u : Option Ty) → i < length xs → x ≡ get_or xs i x
     → pure_step y ≡ resolved_step (option_map pure_ty t) (pure_step x) g
     → option_map pure_ty u ≡ step_behind (option_map pure_ty t) (pure_step x) g → zs ≡ ys ++ y ∷ []
@@ -161,10 +165,12 @@ steps_more xs ys zs i x y g t u l is e q p =
     ∙ sym (at_drop_more (λ l. map pure_step ys ++ resolved_path (option_map pure_ty t) (map pure_step l) g) xs i x l
     ∙ ap (λ z. map pure_step ys ++ resolved_path (option_map pure_ty t) (map pure_step (z ∷ drop (i + 1) xs)) g) (sym is))
 
+-- Nothing is left to resolve.
 pub steps_all : (xs ys : List Step) (i : ℕ) (g : Names pure.Ty) (t : Option pure.Ty) → length xs ≤ i
     → map pure_step ys ++ resolved_path t (map pure_step (drop i xs)) g ≡ map pure_step ys
 steps_all xs ys i g t l = at_drop_all (λ l. map pure_step ys ++ resolved_path t (map pure_step l) g) xs i l ∙ append-nil (map pure_step ys)
 
+-- One more step is taken: what is left reaches the same type.
 pub reached_more : (xs : List Step) (i : ℕ) (x : Step) (g : Names pure.Ty) (t u : Option Ty) → i < length xs → x ≡ get_or xs i x
     → option_map pure_ty u ≡ step_behind (option_map pure_ty t) (pure_step x) g
     → path_behind (option_map pure_ty u) (map pure_step (drop (i + 1) xs)) g
@@ -174,12 +180,14 @@ reached_more xs i x g t u l is q =
     ∙ sym (at_drop_more (λ l. path_behind (option_map pure_ty t) (map pure_step l) g) xs i x l
     ∙ ap (λ z. path_behind (option_map pure_ty t) (map pure_step (z ∷ drop (i + 1) xs)) g) (sym is))
 
+-- Behind no step the type stays.
 pub reached_all : (xs : List Step) (i : ℕ) (g : Names pure.Ty) (t : Option pure.Ty) → length xs ≤ i
     → path_behind t (map pure_step (drop i xs)) g ≡ t
 reached_all xs i g t l = at_drop_all (λ l. path_behind t (map pure_step l) g) xs i l
 
 -- ---- what an index is at a place
 
+-- At a tuple an index is the component of the number that it says.
 pub tuple_step_at : (ts : List Ty) (s : Static)
     → step_at (Some (pure_ty (variant.Tuple ts))) s ≡ said_step (option_map to_component (number_of s))
 tuple_step_at ts s = ap (λ p. step_at (Some p) s) (pure_tuple ts) ∙ go s
@@ -189,6 +197,7 @@ tuple_step_at ts s = ap (λ p. step_at (Some p) s) (pure_tuple ts) ∙ go s
     go (a_name a) = refl
     go other = refl
 
+-- At a record an index is the field of the name that it says.
 pub record_step_at : (fs : List FieldTy) (s : Static)
     → step_at (Some (pure_ty (variant.Rec fs))) s ≡ said_step (option_map to_field (name_of s))
 record_step_at fs s = ap (λ p. step_at (Some p) s) (pure_rec fs) ∙ go s

@@ -46,4 +46,5 @@ steps_read t ws g = steps_from t (words_of ws) (statics (exs_of (within ws))) (t
 -- An index of type u, of what is resolved to e and has type t, by these steps as they were read.
 abbrev pub resolved_index : Option Ty → Option Ty → Ex → List (With Step) → Names Ty → Ex
 resolved_index u t e ws g =
-    node_ex (is_bool u) (index (steps_read t ws g)) (more_exs e (kept_indices (words_of ws) (steps_read t ws g) (resolve_exs (exs_of (within ws)) g)))
+    node_ex (is_bool u) (index (steps_read t ws g))
+    (more_exs e (kept_indices (words_of ws) (steps_read t ws g) (resolve_exs (exs_of (within ws)) g)))

@@ -26,7 +26,8 @@ pub(crate) fn resolve_indexed(
     table: &mut TypeTable,
 ) -> Result<(Boxed<Ex>, Option<Boxed<Ty>>), NoMemory>
     ensures tree { IfOk result (λ r. pure_ex r.0
-        ≡ resolved_index (option_map pure_ty r.1) (option_map pure_ty place.1) (pure_ex place.0) (map pure_step steps.now) (pure_table table.old)) }
+        ≡ resolved_index (option_map pure_ty r.1) (option_map pure_ty place.1) (pure_ex place.0) (map pure_step steps.now)
+        (pure_table table.old)) }
     ensures types { IfOk result (λ r. option_map pure_ty r.1
         ≡ and_then (option_map pure_ty place.1) (λ t. steps_ty t (map pure_step steps.now) (pure_table table.old))) }
     ensures kept { OnOk result (table.new ≡ table.old) }

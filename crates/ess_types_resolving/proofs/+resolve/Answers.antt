@@ -24,7 +24,8 @@ expressions::resolve_typed-returns-in_ok-body-in-Comp-clause-tree t c =
     let ts : map pure_gen ys ≡ resolved_items (map pure_gen xs) g = search rules in
     let ns : h ≡ names_behind (map pure_gen xs) g = search rules in
     let bs : pure_ex b ≡ resolve (pure_ex e) h = search rules in
-    IfOk-weaker c.comp_node.result (λ r. pure_ex r.0 ≡ comp_ex (pure_ex b) (pure_gens ys)) (λ r. pure_ex r.0 ≡ resolve (pure_ex c.args.ex.now) g)
+    IfOk-weaker c.comp_node.result (λ r. pure_ex r.0 ≡ comp_ex (pure_ex b) (pure_gens ys))
+    (λ r. pure_ex r.0 ≡ resolve (pure_ex c.args.ex.now) g)
     (λ r p. p ∙ comp_made c.args.ex.now e b xs ys g h c.in-Comp.is ts ns bs) c.comp_node.ensures.tree
 
 pub rows::resolve_exs-loop-ex-preserved : goal.rows::resolve_exs-loop-ex-preserved
