@@ -2,3 +2,4 @@ pub mod ListLaws
 pub mod FrameLaws
 pub mod TokenLaws
 pub mod OtherTokens
+pub mod Bound

@@ -8,6 +8,7 @@ ghost use Rattle.ess_parse_frames.specs.Views.{view_frame, view_frames, Steps};
 ghost use Rattle.ess_parse_frames.specs.declared.frames.Frame.TheVariants as F;
 
 use crate::listing::{end_index, end_matrix};
+use ess_bound_names::BoundNames;
 use ess_core::{Gen, Pat};
 use ess_parse_frames::comprehensions::{comprehension_from, comprehension_where};
 use ess_parse_frames::stack::expression_read;
@@ -56,7 +57,7 @@ pub(crate) fn operand_then_close_square(
 fn close_items(
     alloc: Global,
     head: Head,
-    names: Row<Text>,
+    names: BoundNames,
     items: Row<Gen>,
     patterns: Row<Pat>,
     frames: Row<Frame>,
@@ -83,7 +84,7 @@ fn close_items(
 fn close_generator(
     alloc: Global,
     head: Head,
-    names: Row<Text>,
+    names: BoundNames,
     items: Row<Gen>,
     patterns: Row<Pat>,
     frames: Row<Frame>,

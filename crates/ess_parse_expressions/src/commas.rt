@@ -6,6 +6,7 @@ ghost use Rattle.ess_parse_frames.specs.Views.{view_frame, view_frames, Steps};
 ghost use Rattle.ess_parse_frames.specs.declared.frames.Frame.TheVariants as F;
 
 use crate::items::may_end_item;
+use ess_bound_names::BoundNames;
 use ess_core::{Attr, Ex, FieldEx, Gen, Key, PairEx, Pat, Range};
 use ess_parse_frames::commas::{next_condition, next_constraint, next_letting, next_unnamed};
 use ess_parse_frames::items::{generator_ended, item_ended};
@@ -150,7 +151,7 @@ fn more_fields(
 fn more_items(
     alloc: Global,
     head: Head,
-    names: Row<Text>,
+    names: BoundNames,
     items: Row<Gen>,
     patterns: Row<Pat>,
     frames: Row<Frame>,
@@ -175,7 +176,7 @@ fn more_items(
 fn more_behind_generator(
     alloc: Global,
     head: Head,
-    names: Row<Text>,
+    names: BoundNames,
     items: Row<Gen>,
     patterns: Row<Pat>,
     frames: Row<Frame>,

@@ -7,6 +7,7 @@ ghost use Rattle.ess_core.specs.TreeViews.{pure_ex};
 ghost use Rattle.ess_parse_frames.specs.Views.{view_frame, view_frames, Steps};
 ghost use Rattle.ess_parse_frames.specs.declared.frames.Frame.TheVariants as F;
 
+use ess_bound_names::BoundNames;
 use ess_core::{Ex, Gen, Pat};
 use ess_parse_frames::items::{all_conditions, all_from};
 use ess_parse_frames::stack::inside;
@@ -54,7 +55,7 @@ pub(crate) fn operand_then_dot(
 fn end_conditions(
     alloc: Global,
     head: Head,
-    names: Row<Text>,
+    names: BoundNames,
     items: Row<Gen>,
     patterns: Row<Pat>,
     frames: Row<Frame>,
@@ -83,7 +84,7 @@ fn end_conditions(
 fn end_generator(
     alloc: Global,
     head: Head,
-    names: Row<Text>,
+    names: BoundNames,
     items: Row<Gen>,
     patterns: Row<Pat>,
     frames: Row<Frame>,

@@ -2,9 +2,7 @@
 #![tactic(auto, using(crate::proofs::FrameLaws::frames_at, crate::proofs::FrameLaws::frames_all, ess_parse_frames::proofs::StackLaws::frames_none, ess_parse_frames::proofs::PatternLaws::pats_none, ess_parse_frames::proofs::RowLaws::gens_none, crate::proofs::ListLaws::one_is_bound, crate::proofs::ListLaws::several_are_not_bound))]
 
 ghost use Rattle.std.specs.Prelude.{◌≡◌, ◌∷◌, List, IfOk};
-ghost use Rattle.std.specs.List.{list_any};
 ghost use Rattle.std.specs.Option.{option_map};
-ghost use Rattle.std.specs.Str.{bytes_eq};
 ghost use Rattle.ess_grammar.specs.Patterns.{is_bound_name};
 ghost use Rattle.ess_parse_laws.specs.Frames as machine;
 ghost use Rattle.ess_parse_laws.specs.Items.{may_quantify, in_is_sign, may_end_item, begin_source, begin_quantifier};
@@ -13,12 +11,13 @@ ghost use Rattle.ess_parse_frames.specs.Patterns.{pattern_ex, is_pattern_operand
 ghost use Rattle.ess_parse_frames.specs.Views.{view_frame, view_frames, view_head, Steps};
 ghost use Rattle.ess_parse_expressions.specs.Lists.{wanting_operand};
 
+use ess_bound_names::BoundNames;
 use ess_core::{Fun, Pat};
 use ess_parse_frames::items::source_begun;
 use ess_parse_frames::stack::{Top, at, innermost, inside, within};
 use ess_parse_frames::stops::{let_frames_go, refuse, stop_in};
 use ess_parse_frames::{Frame, Head, Mode, Operand, State};
-use ess_rows::{NoMemory, Row, Text};
+use ess_rows::{NoMemory, Row};
 use std::alloc::Global;
 
 /// May a quantifier stand as the innermost operand?
@@ -41,27 +40,13 @@ pub(crate) fn may_quantify(frames: &Row<Frame>) -> bool
 }
 
 /// Is the pattern one of these names?
-fn is_bound(names: &Row<Text>, pattern: &Pat) -> bool
+fn is_bound(names: &BoundNames, pattern: &Pat) -> bool
     ensures { result ≡ is_bound_name names.now (pattern_ex (pure_pat pattern.now)) }
 {
     match pattern {
-        Pat::Name(name) => is_among(names.as_slice(), name),
+        Pat::Name(name) => names.has(name),
         Pat::Tuple(_) => false,
     }
-}
-
-/// Is the name one of these?
-fn is_among(names: &[Text], name: &Text) -> bool
-    ensures { result ≡ list_any (bytes_eq name.now) names.now }
-{
-    names.iter().any(|bound| is_same(name, bound))
-}
-
-/// Are the two names the same?
-fn is_same(left: &Text, right: &Text) -> bool
-    ensures { result ≡ bytes_eq left.now right.now }
-{
-    left.as_bytes() == right.as_bytes()
 }
 
 /// Is `in` behind this pattern, in this frame, a generator's sign?
@@ -130,7 +115,7 @@ pub(crate) fn quantifier_begun(
     }
     let items = Frame::Items(
         Head::Quantifier(fold),
-        Row::new(alloc),
+        BoundNames::new(alloc),
         Row::new(alloc),
         Row::new(alloc),
     );

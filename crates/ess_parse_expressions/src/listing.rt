@@ -17,6 +17,7 @@ ghost use Rattle.ess_parse_frames.specs.Views.{literal_op, view_frame, view_fram
 ghost use Rattle.ess_parse_expressions.specs.Lists.{has_no_items, begin_sum};
 
 use crate::items::may_quantify;
+use ess_bound_names::BoundNames;
 use ess_core::{Ex, Fun, Pat};
 use ess_parse_frames::operands::{expressions_of, with_operand};
 use ess_parse_frames::parts::{expressions_with, other_operand, steps_by};
@@ -296,7 +297,12 @@ fn end_pattern(
     if !may_quantify(&frames) {
         return stop_frames(frames);
     }
-    let items = Frame::Items(Head::Sum, Row::new(alloc), Row::new(alloc), Row::new(alloc));
+    let items = Frame::Items(
+        Head::Sum,
+        BoundNames::new(alloc),
+        Row::new(alloc),
+        Row::new(alloc),
+    );
     inside(
         Mode::OperandRead(Operand::Pattern(Pat::Tuple(patterns))),
         items,

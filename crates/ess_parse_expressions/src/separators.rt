@@ -12,6 +12,7 @@ ghost use Rattle.ess_parse_frames.specs.declared.frames.Listing.TheVariants as K
 
 use crate::items::begin_source;
 use crate::listing::{end_items, is_empty};
+use ess_bound_names::BoundNames;
 use ess_core::{Ex, Gen, Op1, Pat};
 use ess_parse_frames::items::domain_begun;
 use ess_parse_frames::reducing::one_operand;
@@ -53,7 +54,7 @@ pub(crate) fn operand_then_colon(
 /// A colon behind an item. `NoMemory` where there is no room.
 fn begin_domain(
     head: Head,
-    names: Row<Text>,
+    names: BoundNames,
     items: Row<Gen>,
     patterns: Row<Pat>,
     frames: Row<Frame>,
@@ -139,7 +140,7 @@ fn end_body(
     let_list_go(listed);
     let items = Frame::Items(
         Head::Comprehension(body),
-        Row::new(alloc),
+        BoundNames::new(alloc),
         Row::new(alloc),
         Row::new(alloc),
     );

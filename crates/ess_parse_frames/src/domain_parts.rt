@@ -12,8 +12,9 @@ ghost use Rattle.ess_parse_frames.specs.Views.{view_frame, view_head};
 use crate::generators::{over_each, with_all_names};
 use crate::rows::int_of_ranges;
 use crate::{Frame, Head, State};
+use ess_bound_names::BoundNames;
 use ess_core::{Attr, Dom, Gen, Pat};
-use ess_rows::{Boxed, NoMemory, Row, Text};
+use ess_rows::{Boxed, NoMemory, Row};
 use std::alloc::Global;
 
 /// All domains, in order, the last of which is `last`. `NoMemory` where there is no room for it.
@@ -52,7 +53,7 @@ pub fn whole_int(alloc: Global) -> Result<Boxed<Dom>, NoMemory>
 pub fn items_behind_domain(
     alloc: Global,
     head: Head,
-    names: Row<Text>,
+    names: BoundNames,
     items: Row<Gen>,
     patterns: Row<Pat>,
     domain: Boxed<Dom>,

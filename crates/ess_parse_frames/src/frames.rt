@@ -1,4 +1,5 @@
 use crate::Listed;
+use ess_bound_names::BoundNames;
 use ess_core::{Attr, Dom, Ex, FieldDom, FieldEx, Fun, Gen, Key, Op2, PairEx, Pat, Range, Stm};
 use ess_rows::{Boxed, Row, Text};
 
@@ -118,11 +119,11 @@ pub enum Frame {
     /// The same before the value of the field of this name.
     FieldValue(Row<FieldEx>, Text),
     /// The names that earlier items bind, the items, and the patterns that wait: before an item.
-    Items(Head, Row<Text>, Row<Gen>, Row<Pat>),
+    Items(Head, BoundNames, Row<Gen>, Row<Pat>),
     /// The same with a generator's patterns, before its value.
-    GeneratorSource(Head, Row<Text>, Row<Gen>, Row<Pat>),
+    GeneratorSource(Head, BoundNames, Row<Gen>, Row<Pat>),
     /// The same before its domain.
-    GeneratorDomain(Head, Row<Text>, Row<Gen>, Row<Pat>),
+    GeneratorDomain(Head, BoundNames, Row<Gen>, Row<Pat>),
     /// The items of a matrix, before its index domain.
     IndexDomain(Row<Ex>),
     /// The ranges of an int domain, before a range.

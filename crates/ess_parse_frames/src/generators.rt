@@ -10,22 +10,19 @@ ghost use Rattle.ess_parse_frames.specs.Patterns.{pattern_ex, pats_in_order, bac
 
 use crate::operands::expression_of;
 use crate::rows::with_item;
+use ess_bound_names::BoundNames;
 use ess_core::{Dom, Ex, Gen, Pat};
-use ess_rows::{Boxed, NoMemory, Row, Text};
+use ess_rows::{Boxed, NoMemory, Row};
 use std::alloc::Global;
 
 /// The names, and behind them those that a pattern binds. `NoMemory` where there is no room for them.
 #[cycle(names)]
 #[tactic(auto, using(crate::proofs::Bound::name_bound, crate::proofs::Bound::tuple_bound))]
-fn with_names(alloc: Global, names: Row<Text>, pattern: &Pat) -> Result<Row<Text>, NoMemory>
+fn with_names(alloc: Global, names: BoundNames, pattern: &Pat) -> Result<BoundNames, NoMemory>
     ensures { IfOk result (λ ns. ns ≡ names ++ bound_by (pattern_ex (pure_pat pattern.now))) }
 {
     match pattern {
-        Pat::Name(name) => {
-            let mut names = names;
-            names.push(name.copy(alloc)?)?;
-            Ok(names)
-        }
+        Pat::Name(name) => names.with(alloc, name),
         Pat::Tuple(parts) => with_all_names(alloc, names, parts),
     }
 }
@@ -35,9 +32,9 @@ fn with_names(alloc: Global, names: Row<Text>, pattern: &Pat) -> Result<Row<Text
 #[tactic(auto, using(crate::proofs::Bound::bound_none, crate::proofs::Bound::bound_more))]
 pub fn with_all_names(
     alloc: Global,
-    names: Row<Text>,
+    names: BoundNames,
     patterns: &Row<Pat>,
-) -> Result<Row<Text>, NoMemory>
+) -> Result<BoundNames, NoMemory>
     ensures { IfOk result (λ ns. ns ≡ names ++ all_bound_by (pats_in_order patterns.now)) }
 {
     let mut names = names;

@@ -14,8 +14,9 @@ ghost use Rattle.ess_parse_frames.specs.Views.{view_frame, view_head};
 
 use crate::generators::{from_each, with_all_names, with_conditions};
 use crate::{Frame, Head, Operand};
+use ess_bound_names::BoundNames;
 use ess_core::{Ex, Fun, Gen, Pat};
-use ess_rows::{Boxed, NoMemory, Row, Text};
+use ess_rows::{Boxed, NoMemory, Row};
 use std::alloc::Global;
 
 /// What items belong to behind their first generator.
@@ -41,7 +42,7 @@ fn with_pattern(patterns: Row<Pat>, pattern: Pat) -> Result<Row<Pat>, NoMemory>
 /// The frame behind a generator's sign, before its value. `NoMemory` where there is no room for it.
 pub fn source_begun(
     head: Head,
-    names: Row<Text>,
+    names: BoundNames,
     items: Row<Gen>,
     patterns: Row<Pat>,
     pattern: Pat,
@@ -60,7 +61,7 @@ pub fn source_begun(
 /// The frame behind a generator's colon, before its domain. `NoMemory` where there is no room for it.
 pub fn domain_begun(
     head: Head,
-    names: Row<Text>,
+    names: BoundNames,
     items: Row<Gen>,
     patterns: Row<Pat>,
     pattern: Pat,
@@ -80,7 +81,7 @@ pub fn domain_begun(
 pub fn item_ended(
     alloc: Global,
     head: Head,
-    names: Row<Text>,
+    names: BoundNames,
     items: Row<Gen>,
     patterns: Row<Pat>,
     operand: Operand,
@@ -108,14 +109,14 @@ pub fn item_ended(
 /// The names and the items behind a generator over a value.
 #[derive(Drop)]
 struct Bound {
-    names: Row<Text>,
+    names: BoundNames,
     items: Row<Gen>,
 }
 
 /// The names and the items behind a generator over a value. `NoMemory` where there is no room for them.
 fn bound_from(
     alloc: Global,
-    names: Row<Text>,
+    names: BoundNames,
     items: Row<Gen>,
     patterns: Row<Pat>,
     value: Operand,
@@ -133,7 +134,7 @@ fn bound_from(
 pub fn generator_ended(
     alloc: Global,
     head: Head,
-    names: Row<Text>,
+    names: BoundNames,
     items: Row<Gen>,
     patterns: Row<Pat>,
     value: Operand,
