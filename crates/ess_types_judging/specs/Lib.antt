@@ -1,0 +1,9 @@
+pub mod Holders
+pub mod Listed
+pub mod Findings
+pub mod Bounds
+pub mod ScopeViews
+pub mod Ordered
+pub mod Judging
+pub mod Indexing
+pub mod Forms
