@@ -6,11 +6,11 @@ ghost use Rattle.eprime_tree.specs.Views.{pure_ex};
 ghost use Rattle.eprime_read_convert.specs.Lines.{scope_of};
 ghost use Rattle.eprime_read_convert.specs.Converted.{model_ex};
 
-use eprime_read_convert::Lines;
 use eprime_read_convert::expressions::convert_ex;
+use eprime_read_convert::{Lines, Scopes};
 use eprime_tree::PEx;
 use ess_core::Ex;
-use ess_rows::{Boxed, NoMemory, Row, Text};
+use ess_rows::{Boxed, NoMemory};
 use std::alloc::Global;
 
 /// The expression in the box, where there is one.
@@ -29,7 +29,7 @@ pub(crate) fn model_expression(
     alloc: Global,
     lines: &Lines,
     finds: bool,
-    bound: &Row<Text>,
+    bound: &Scopes,
     ex: &Ex,
 ) -> Result<Option<PEx>, NoMemory>
     requires { ReadableEx (read_ex ex.now) }

@@ -16,19 +16,14 @@ use crate::drafts::Draft;
 use crate::growing::{with_find, with_given, with_greatest, with_least};
 use crate::openings::Opening;
 use crate::statements::{find_in, given_in, greatest_in, least_in, only};
-use eprime_read_convert::Lines;
+use eprime_read_convert::{Lines, Scopes};
 use eprime_tree::PEx;
 use ess_core::Stm;
-use ess_rows::{NoMemory, Row, Text};
+use ess_rows::{NoMemory, Row};
 use std::alloc::Global;
 
 /// The constraint of a model that a statement is, if it is one.
-fn rule_of(
-    alloc: Global,
-    lines: &Lines,
-    bound: &Row<Text>,
-    stm: &Stm,
-) -> Result<Option<PEx>, NoMemory>
+fn rule_of(alloc: Global, lines: &Lines, bound: &Scopes, stm: &Stm) -> Result<Option<PEx>, NoMemory>
     requires bound { bound.now ≡ [] }
     requires readable { ReadableStm (pure_stm stm.now) }
     ensures { IfOk result (λ o. option_map (pure_ex (scope_of lines.now)) o ≡ model_rule (scope_of lines.now) (pure_stm stm.now)) }
@@ -44,7 +39,7 @@ fn rules_of(alloc: Global, lines: &Lines, stms: &[Stm]) -> Result<Option<Row<PEx
     requires { ReadableStms (map pure_stm stms.now) }
     ensures { IfOk result (λ o. option_map (map (pure_ex (scope_of lines.now))) o ≡ model_rules (scope_of lines.now) (map pure_stm stms.now)) }
 {
-    let bound = Row::new(alloc);
+    let bound = Scopes::new(alloc);
     let mut rules = Row::new(alloc);
     for stm in stms {
         match rule_of(alloc, lines, &bound, stm)? {

@@ -10,8 +10,8 @@ ghost use Rattle.eprime_read.specs.Views.{view_draft};
 
 use crate::converting::model_expression;
 use crate::drafts::Draft;
-use eprime_read_convert::Lines;
 use eprime_read_convert::declarations::convert_decl;
+use eprime_read_convert::{Lines, Scopes};
 use eprime_tree::{PGoal, PModel};
 use ess_core::{Dom, Ex};
 use ess_rows::{NoMemory, Row, Text};
@@ -79,7 +79,7 @@ pub(crate) fn with_least(alloc: Global, draft: Draft, ex: &Ex) -> Result<Option<
     requires { ReadableEx (read_ex ex.now) }
     ensures { IfOk result (λ d. readable (with_objective (view_draft draft) (least (read_ex ex.now))) ≡ option_map view_draft d) }
 {
-    let bound = Row::new(alloc);
+    let bound = Scopes::new(alloc);
     match model_expression(alloc, &draft.lines, true, &bound, ex)? {
         Some(ex) => Ok(Some(draft.with_goal(PGoal::Minimise(ex)))),
         None => Ok(None),
@@ -91,7 +91,7 @@ pub(crate) fn with_greatest(alloc: Global, draft: Draft, ex: &Ex) -> Result<Opti
     requires { ReadableEx (read_ex ex.now) }
     ensures { IfOk result (λ d. readable (with_objective (view_draft draft) (greatest (read_ex ex.now))) ≡ option_map view_draft d) }
 {
-    let bound = Row::new(alloc);
+    let bound = Scopes::new(alloc);
     match model_expression(alloc, &draft.lines, true, &bound, ex)? {
         Some(ex) => Ok(Some(draft.with_goal(PGoal::Maximise(ex)))),
         None => Ok(None),

@@ -8,3 +8,5 @@ pub mod Readables
 pub mod Conversions
 pub mod ListForms
 pub mod Tables
+pub mod NameLaws
+pub mod ScopeLaws

@@ -1,12 +1,13 @@
 -- Loops that convert one item after the other: what is left gives the same in the end.
-use Rattle.std.proofs.Common.{◌≡◌, refl, sym, ap, ◌∙◌, List, [], ◌∷◌, ◌++◌, append_assoc, append-nil, map, Option, Some, None}
+use Rattle.std.proofs.Common.{◌≡◌, refl, sym, ap, ◌∙◌, subst, ℕ, ◌+◌, ◌<◌, List, [], ◌∷◌, ◌++◌, append_assoc, append-nil, length, get_or, drop, map, reverse, Option, Some, None}
+use Rattle.std.proofs.lemmas.List.{drop_more, map-append}
 use Rattle.std.specs.Option.{option_map}
 use Rattle.ess_semantics.specs.Values.{Text}
 use Rattle.ess_semantics.specs.Lists.{and_then, each_of}
 use Rattle.ess_grammar.specs.Models.{Scope}
 use Rattle.ess_core.specs.TreeViews.{Item}
 use Rattle.eprime_tree.specs.Views as P
-use Rattle.eprime_read_convert.specs.Converted.{model_item, model_items, names_of_item}
+use Rattle.eprime_read_convert.specs.Converted.{Each, model_item, model_items, names_of_item}
 
 -- The answers so far with those of the items that are left, where all are there.
 abbrev pub put : {B : Type 0} → List B → Option (List B) → Option (List B)
@@ -50,6 +51,27 @@ items-none s h js i rest g all e k = ap (λ o. put js (and_then o (λ j. option_
 
 pub items-end : (s : Scope) (h : List Text) (js : List P.Item) (g : List Text) (all : List Item) → ItemSweep s h js [] g all → Some js ≡ model_items s g all
 items-end s h js g all k = ap (λ xs. Some xs) (sym (append-nil js)) ∙ k
+
+-- What each item from the one at i on has, each behind it has.
+pub each-step : {G : Type 0} (P : Item → Type 0) (w : G → Item) (gs : List G) (i : ℕ) (p : G) → i < length gs → p ≡ get_or gs i p → Each P (map w (drop i gs)) → Each P (map w (drop (i + 1) gs))
+each-step P w gs i p lt hp k =
+    let e : drop i gs ≡ p ∷ drop (i + 1) gs = drop_more gs i p lt ∙ ap (λ q. q ∷ drop (i + 1) gs) (sym hp) in
+    let m : Each P (w p ∷ map w (drop (i + 1) gs)) = subst (λ hs. Each P (map w hs)) e k in
+    m.1
+
+-- The item at i has its answer, and the names that it binds are put behind those of the items before it.
+pub items-step : {G C : Type 0} (s : Scope) (h ns new : List Text) (v : C → P.Item) (w : G → Item) (xs ys : List C) (x : C) (o : Option C) (gs : List G) (i : ℕ) (p : G) → reverse new ≡ names_of_item (w p) ++ reverse ns →
+    option_map v o ≡ model_item s (reverse ns ++ h) (w p) → o ≡ Some x → ys ≡ xs ++ x ∷ [] → i < length gs → p ≡ get_or gs i p → ItemSweep s (reverse ns ++ h) (map v xs) (map w (drop i gs)) h (map w gs) →
+    ItemSweep s (reverse new ++ h) (map v ys) (map w (drop (i + 1) gs)) h (map w gs)
+items-step s h ns new v w xs ys x o gs i p hn hm ho hy lt hp k =
+    let rest : List Item = map w (drop (i + 1) gs) in
+    let e : map w (drop i gs) ≡ w p ∷ rest = ap (map w) (drop_more gs i p lt ∙ ap (λ q. q ∷ drop (i + 1) gs) (sym hp)) in
+    let m : ItemSweep s (reverse ns ++ h) (map v xs) (w p ∷ rest) h (map w gs) = subst (λ is. ItemSweep s (reverse ns ++ h) (map v xs) is h (map w gs)) e k in
+    let f : reverse new ++ h ≡ names_of_item (w p) ++ (reverse ns ++ h) = ap (λ l. l ++ h) hn ∙ append_assoc (names_of_item (w p)) (reverse ns) h in
+    let g : map v ys ≡ map v xs ++ v x ∷ [] = ap (map v) hy ∙ map-append v xs (x ∷ []) in
+    subst (λ js. ItemSweep s (reverse new ++ h) js rest h (map w gs)) (sym g)
+    (subst (λ l. ItemSweep s l (map v xs ++ v x ∷ []) rest h (map w gs)) (sym f)
+    (items-more s (reverse ns ++ h) (map v xs) (v x) (w p) rest h (map w gs) (sym (ap (option_map v) ho) ∙ hm) m))
 
 -- At first all items are left.
 pub sweep-start : {A B C : Type 0} (f : A → Option B) (v : C → B) (xs : List C) (all : List A) → xs ≡ [] → Sweep f (map v xs) all all

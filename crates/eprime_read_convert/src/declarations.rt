@@ -9,6 +9,7 @@ ghost use Rattle.eprime_read_convert.specs.Converted.{declared_table, model_dom,
 
 use crate::domains::convert_dom;
 use crate::lines::{Lines, truth_of};
+use crate::scopes::Scopes;
 use eprime_tree::{PDecl, PDom};
 use ess_core::Dom;
 use ess_rows::{NoMemory, Row, Text};
@@ -37,7 +38,7 @@ fn new_decl(alloc: Global, lines: &Lines, name: &Text, dom: &Dom) -> Result<Opti
     requires { ReadableDom (read_dom dom.now) }
     ensures { IfOk result (λ o. option_map (pure_decl (scope_of lines.now)) o ≡ table_model (scope_of lines.now) name.now (read_dom dom.now)) }
 {
-    let bound = Row::new(alloc);
+    let bound = Scopes::new(alloc);
     match dom {
         Dom::Matrix(axes, cell) => {
             let indices = convert_axes(alloc, lines, &bound, axes.as_slice())?;
@@ -55,7 +56,7 @@ fn new_decl(alloc: Global, lines: &Lines, name: &Text, dom: &Dom) -> Result<Opti
 fn convert_axes(
     alloc: Global,
     lines: &Lines,
-    bound: &Row<Text>,
+    bound: &Scopes,
     axes: &[Dom],
 ) -> Result<Option<Row<PDom>>, NoMemory>
     requires { ReadableDoms (read_doms axes.now) }

@@ -9,9 +9,10 @@ ghost use Rattle.eprime_read_convert.specs.Converted.{model_dom, model_range, so
 use crate::expressions::convert_ex;
 use crate::lines::Lines;
 use crate::nodes::{from, int_of, span, up_to, value};
+use crate::scopes::Scopes;
 use eprime_tree::{PDom, PRange};
 use ess_core::{Dom, Range};
-use ess_rows::{NoMemory, Row, Text};
+use ess_rows::{NoMemory, Row};
 use std::alloc::Global;
 
 /// Whether there are ranges, or need be none.
@@ -29,7 +30,7 @@ pub fn convert_dom(
     alloc: Global,
     lines: &Lines,
     half_open: bool,
-    bound: &Row<Text>,
+    bound: &Scopes,
     dom: &Dom,
 ) -> Result<Option<PDom>, NoMemory>
     requires { ReadableDom (read_dom dom.now) }
@@ -54,7 +55,7 @@ fn convert_ranges(
     alloc: Global,
     lines: &Lines,
     half_open: bool,
-    bound: &Row<Text>,
+    bound: &Scopes,
     ranges: &[Range],
 ) -> Result<Option<Row<PRange>>, NoMemory>
     requires { ReadableExs (exs_of (within (map read_range ranges.now))) }
@@ -76,7 +77,7 @@ fn convert_range(
     alloc: Global,
     lines: &Lines,
     half_open: bool,
-    bound: &Row<Text>,
+    bound: &Scopes,
     range: &Range,
 ) -> Result<Option<PRange>, NoMemory>
     requires { ReadableRange (read_range range.now) }

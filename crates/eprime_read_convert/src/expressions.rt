@@ -13,9 +13,10 @@ use crate::lists::convert_list;
 use crate::names::name_of;
 use crate::nodes::{cell, converted_name, fold, lex, one, push_ex, two};
 use crate::operators::{fold_word, infix, is_lex, prefix};
+use crate::scopes::Scopes;
 use eprime_tree::{PEx, POp1};
 use ess_core::{Ex, Fun, Step};
-use ess_rows::{Boxed, NoMemory, Row, Text};
+use ess_rows::{Boxed, NoMemory, Row};
 use std::alloc::Global;
 
 /// Converts an expression that a text was read as, inside generators that bind the names `bound`, where these lines declare
@@ -27,7 +28,7 @@ pub fn convert_ex(
     alloc: Global,
     lines: &Lines,
     finds: bool,
-    bound: &Row<Text>,
+    bound: &Scopes,
     ex: &Ex,
 ) -> Result<Option<Boxed<PEx>>, NoMemory>
     requires { ReadableEx (read_ex ex.now) }
@@ -74,7 +75,7 @@ fn convert_call(
     alloc: Global,
     lines: &Lines,
     finds: bool,
-    bound: &Row<Text>,
+    bound: &Scopes,
     fun: Fun,
     args: &[Ex],
 ) -> Result<Option<Boxed<PEx>>, NoMemory>
@@ -93,7 +94,7 @@ fn convert_word(
     alloc: Global,
     lines: &Lines,
     finds: bool,
-    bound: &Row<Text>,
+    bound: &Scopes,
     fun: Fun,
     only: &Ex,
 ) -> Result<Option<Boxed<PEx>>, NoMemory>
@@ -119,7 +120,7 @@ fn convert_access(
     alloc: Global,
     lines: &Lines,
     finds: bool,
-    bound: &Row<Text>,
+    bound: &Scopes,
     steps: &[Step],
     table: &Ex,
 ) -> Result<Option<Boxed<PEx>>, NoMemory>
@@ -144,7 +145,7 @@ fn convert_steps(
     alloc: Global,
     lines: &Lines,
     finds: bool,
-    bound: &Row<Text>,
+    bound: &Scopes,
     steps: &[Step],
 ) -> Result<Option<Row<PEx>>, NoMemory>
     requires { ReadableSteps (map read_step steps.now) }

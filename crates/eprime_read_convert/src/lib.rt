@@ -13,5 +13,7 @@ mod lists;
 mod names;
 mod nodes;
 mod operators;
+mod scopes;
 
 pub use lines::{Line, Lines};
+pub use scopes::Scopes;

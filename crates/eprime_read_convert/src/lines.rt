@@ -1,13 +1,11 @@
 ghost use Rattle.std.specs.Prelude.{◌≡◌, [], ◌∷◌, ◌++◌, ◌||◌, not, List, IfOk, option_map};
 ghost use Rattle.ess_semantics.specs.Lists.{is_some_and};
-ghost use Rattle.ess_semantics.specs.Order.{same_text};
 ghost use Rattle.ess_semantics.specs.Names.{look, is_among};
 ghost use Rattle.eprime_read_convert.specs.Lines.{scope_of, Indexes};
 ghost use Rattle.eprime_read_convert.specs.declared.lines.Line.{Line};
 
 use ess_rows::{NoMemory, Row, Text};
 use std::alloc::Global;
-use std::cmp::Ordering;
 use std::collections::BTreeMap;
 use std::marker::Model;
 
@@ -68,13 +66,6 @@ impl Lines {
     }
 }
 
-/// Whether two names are equal.
-fn same_name(a: &Text, b: &Text) -> bool
-    ensures { result ≡ same_text a.now b.now }
-{
-    a.cmp(b) == Ordering::Equal
-}
-
 /// What the lines declare of a name, where one of them declares it.
 fn known_of(lines: &Lines, name: &Text) -> Option<Known>
     ensures truth { option_map (λ d. d.truth) result ≡ look (scope_of lines.now).tables name.now }
@@ -119,11 +110,4 @@ pub fn may_stand(lines: &Lines, finds: bool, name: &Text) -> bool
     ensures { result ≡ (finds || not (is_among (scope_of lines.now).finds name.now)) }
 {
     finds || !is_found(lines, name)
-}
-
-/// Whether the name is among these.
-pub fn is_bound(bound: &Row<Text>, name: &Text) -> bool
-    ensures { result ≡ is_among bound.now name.now }
-{
-    bound.as_slice().iter().any(|other| same_name(other, name))
 }

@@ -1,4 +1,4 @@
-ghost use Rattle.std.specs.Prelude.{◌≡◌, IfOk, map, option_map};
+ghost use Rattle.std.specs.Prelude.{◌≡◌, ◌++◌, IfOk, map, option_map, reverse};
 ghost use Rattle.ess_semantics.specs.Lists.{each_of};
 ghost use Rattle.ess_grammar.specs.Readable.{ReadableEx, ReadableExs, ReadableGens};
 ghost use Rattle.ess_core.specs.TreeViews.{pure_ex as read_ex, pure_exs as read_exs, pure_gen as read_gen, pure_gens as read_gens};
@@ -9,11 +9,13 @@ ghost use Rattle.eprime_read_convert.specs.Converted.{model_ex, model_list, mode
 use crate::domains::convert_dom;
 use crate::expressions::convert_ex;
 use crate::lines::{Lines, is_found};
-use crate::names::{copy_names, name_before, names_before};
+use crate::names::{names_of, with_name};
 use crate::nodes::{comp, items_of, over, push_ex, test};
+use crate::scopes::Scopes;
 use eprime_tree::{PEx, PGen, PList};
+use ess_bound_names::BoundNames;
 use ess_core::{Ex, Gen, Pat};
-use ess_rows::{NoMemory, Row, Text};
+use ess_rows::{NoMemory, Row};
 use std::alloc::Global;
 
 /// A list: items, or a comprehension.
@@ -22,7 +24,7 @@ pub(crate) fn convert_list(
     alloc: Global,
     lines: &Lines,
     finds: bool,
-    bound: &Row<Text>,
+    bound: &Scopes,
     ex: &Ex,
 ) -> Result<Option<PList>, NoMemory>
     requires { ReadableEx (read_ex ex.now) }
@@ -34,9 +36,10 @@ pub(crate) fn convert_list(
             Some(_) => Ok(None),
         },
         Ex::Comp(body, gens) => {
-            let inner = names_before(alloc, gens.as_slice(), bound)?;
-            let item = convert_ex(alloc, lines, finds, &inner, body.get())?;
             let items = convert_gens(alloc, lines, bound, gens.as_slice())?;
+            let names = names_of(alloc, gens.as_slice())?;
+            let inner = bound.inside(alloc, &names)?;
+            let item = convert_ex(alloc, lines, finds, &inner, body.get())?;
             Ok(comp(item, items))
         }
         _ => Ok(None),
@@ -49,7 +52,7 @@ fn convert_exs(
     alloc: Global,
     lines: &Lines,
     finds: bool,
-    bound: &Row<Text>,
+    bound: &Scopes,
     exs: &[Ex],
 ) -> Result<Option<Row<PEx>>, NoMemory>
     requires { ReadableExs (read_exs exs.now) }
@@ -70,22 +73,38 @@ fn convert_exs(
 fn convert_gens(
     alloc: Global,
     lines: &Lines,
-    bound: &Row<Text>,
+    bound: &Scopes,
     gens: &[Gen],
 ) -> Result<Option<Row<PGen>>, NoMemory>
     requires { ReadableGens (read_gens gens.now) }
     ensures { IfOk result (λ o. option_map (map (pure_gen (scope_of lines.now))) o ≡ model_items (scope_of lines.now) bound.now (map read_gen gens.now)) }
 {
     let mut items = Row::new(alloc);
-    let mut inner = copy_names(alloc, bound)?;
+    let mut names = BoundNames::new(alloc);
     for part in gens {
-        match convert_gen(alloc, lines, &inner, part)? {
+        match convert_inner(alloc, lines, bound, &names, part)? {
             Some(item) => items.push(item)?,
             None => return Ok(None),
         }
-        inner = name_before(alloc, part, inner)?;
+        names = with_name(alloc, part, names)?;
     }
     Ok(Some(items))
+}
+
+/// A generator or a condition inside further names.
+#[cycle(convert)]
+fn convert_inner(
+    alloc: Global,
+    lines: &Lines,
+    bound: &Scopes,
+    names: &BoundNames,
+    part: &Gen,
+) -> Result<Option<PGen>, NoMemory>
+    requires { ReadableItem (read_gen part.now) }
+    ensures { IfOk result (λ o. option_map (pure_gen (scope_of lines.now)) o ≡ model_item (scope_of lines.now) (reverse names.now ++ bound.now) (read_gen part.now)) }
+{
+    let inner = bound.inside(alloc, names)?;
+    convert_gen(alloc, lines, &inner, part)
 }
 
 /// A generator or a condition.
@@ -93,7 +112,7 @@ fn convert_gens(
 fn convert_gen(
     alloc: Global,
     lines: &Lines,
-    bound: &Row<Text>,
+    bound: &Scopes,
     part: &Gen,
 ) -> Result<Option<PGen>, NoMemory>
     requires { ReadableItem (read_gen part.now) }

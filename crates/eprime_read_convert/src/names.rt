@@ -1,11 +1,12 @@
-ghost use Rattle.std.specs.Prelude.{◌≡◌, ◌++◌, IfOk};
+ghost use Rattle.std.specs.Prelude.{◌≡◌, [], ◌∷◌, ◌++◌, IfOk, reverse};
 ghost use Rattle.ess_grammar.specs.Models.{names_of_gens};
 ghost use Rattle.ess_core.specs.TreeViews.{pure_ex as read_ex, pure_gen as read_gen, pure_gens as read_gens};
 ghost use Rattle.std.specs.Option.{option_copied};
 ghost use Rattle.eprime_read_convert.specs.Converted.{name_in, names_of_item};
 
+use ess_bound_names::BoundNames;
 use ess_core::{Ex, Gen, Pat};
-use ess_rows::{NoMemory, Row, Text};
+use ess_rows::{NoMemory, Text};
 use std::alloc::Global;
 
 /// The name that an expression is, where it is one.
@@ -18,50 +19,38 @@ pub fn name_of(ex: &Ex) -> Option<&Text>
     }
 }
 
-/// A copy of names.
-pub fn copy_names(alloc: Global, names: &Row<Text>) -> Result<Row<Text>, NoMemory>
-    ensures { IfOk result (λ ns. ns ≡ names.now) }
-{
-    let mut copies = Row::with_capacity(alloc, names.len())?;
-    for name in names.as_slice() {
-        copies.push(name.copy(alloc)?)?;
-    }
-    Ok(copies)
-}
-
-/// The names that an item binds, before others.
-pub fn name_before(alloc: Global, part: &Gen, names: Row<Text>) -> Result<Row<Text>, NoMemory>
-    ensures { IfOk result (λ ns. ns ≡ names_of_item (read_gen part.now) ++ names) }
+/// These names, and behind them the one that an item binds. `NoMemory` where there is no room for it.
+#[tactic(auto, using(crate::proofs::NameLaws::one_newer))]
+pub fn with_name(alloc: Global, part: &Gen, names: BoundNames) -> Result<BoundNames, NoMemory>
+    ensures { IfOk result (λ ns. reverse ns ≡ names_of_item (read_gen part.now) ++ reverse names) }
 {
     match part {
-        Gen::Over(Pat::Name(name), _) | Gen::From(Pat::Name(name), _) => {
-            let mut more = names;
-            more.insert(0, name.copy(alloc)?)?;
-            Ok(more)
-        }
+        Gen::Over(Pat::Name(name), _) | Gen::From(Pat::Name(name), _) => names.with(alloc, name),
         _ => Ok(names),
     }
 }
 
-/// The names that generators over domains bind.
-fn names_of(alloc: Global, gens: &[Gen]) -> Result<Row<Text>, NoMemory>
-    ensures { IfOk result (λ ns. ns ≡ names_of_gens (read_gens gens.now)) }
+/// These names, and behind them the one that a generator over a domain binds.
+#[tactic(auto, using(crate::proofs::NameLaws::one_newer))]
+fn with_name_over(alloc: Global, part: &Gen, names: BoundNames) -> Result<BoundNames, NoMemory>
+    ensures { IfOk result (λ ns. reverse ns ≡ names_of_gens (read_gens (part.now ∷ [])) ++ reverse names) }
 {
-    let mut names = Row::new(alloc);
-    for part in gens {
-        if let Gen::Over(Pat::Name(name), _) = part {
-            names.push(name.copy(alloc)?)?;
-        }
+    match part {
+        Gen::Over(Pat::Name(name), _) => names.with(alloc, name),
+        _ => Ok(names),
     }
-    Ok(names)
 }
 
-/// The same, before others.
-pub fn names_before(alloc: Global, gens: &[Gen], bound: &Row<Text>) -> Result<Row<Text>, NoMemory>
-    ensures { IfOk result (λ ns. ns ≡ names_of_gens (read_gens gens.now) ++ bound.now) }
+/// The names that generators over domains bind, the first one last. `NoMemory` where there is no room for them.
+#[tactic(auto, using(crate::proofs::NameLaws::names_newer))]
+pub fn names_of(alloc: Global, gens: &[Gen]) -> Result<BoundNames, NoMemory>
+    ensures { IfOk result (λ ns. reverse ns ≡ names_of_gens (read_gens gens.now)) }
 {
-    let mut names = names_of(alloc, gens)?;
-    let mut others = copy_names(alloc, bound)?;
-    names.append(&mut others)?;
+    let mut names = BoundNames::new(alloc);
+    let mut left = gens.len();
+    while left > 0 {
+        left -= 1;
+        names = with_name_over(alloc, &gens[left], names)?;
+    }
     Ok(names)
 }

@@ -6,7 +6,8 @@ ghost use Rattle.eprime_tree.specs.Views.{pure_ex, pure_list, pure_gen, pure_dom
 ghost use Rattle.eprime_read_convert.specs.Lines.{scope_of};
 ghost use Rattle.eprime_read_convert.specs.Converted.{model_ex, under, between, comprehension, as_value, as_span, as_low, as_high, items_ex};
 
-use crate::lines::{Lines, is_bound, is_found, truth_of};
+use crate::lines::{Lines, is_found, truth_of};
+use crate::scopes::Scopes;
 use eprime_tree::{PDom, PEx, PFun, PGen, PList, POp1, POp2, PRange};
 use ess_rows::{Boxed, NoMemory, Row, Text};
 use std::alloc::Global;
@@ -16,13 +17,13 @@ pub fn converted_name(
     alloc: Global,
     lines: &Lines,
     finds: bool,
-    bound: &Row<Text>,
+    bound: &Scopes,
     name: &Text,
 ) -> Result<Option<Boxed<PEx>>, NoMemory>
     requires { IsTrue (is_name_token name.now) }
     ensures { IfOk result (λ o. option_map (pure_ex (scope_of lines.now)) o ≡ model_ex (scope_of lines.now) finds bound.now (name_ex name.now)) }
 {
-    if is_bound(bound, name) || truth_of(lines, name).is_none() {
+    if bound.has(name) || truth_of(lines, name).is_none() {
         Ok(Some(Boxed::new(alloc, PEx::Name(name.copy(alloc)?))?))
     } else if finds || !is_found(lines, name) {
         Ok(Some(Boxed::new(alloc, PEx::Cell(name.copy(alloc)?, Row::new(alloc)))?))

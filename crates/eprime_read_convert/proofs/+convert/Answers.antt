@@ -1,12 +1,12 @@
-use Rattle.std.proofs.Common.{sym, ap, ◌∙◌, map}
+use Rattle.std.proofs.Common.{sym, ap, ◌∙◌, ◌++◌, map, reverse}
 use Rattle.std.specs.Option.{option_map, option_copied}
 use Rattle.ess_core.specs.TreeViews.{pure_step, pure_ex}
 use Rattle.ess_core.specs.TreeViews as R
 use Rattle.eprime_tree.specs.Views.{pure_op2, pure_fun, pure_gen, pure_range}
-use Rattle.eprime_read_convert.specs.Converted.{model_range}
+use Rattle.eprime_read_convert.specs.Converted.{model_range, ReadableItem}
 use Rattle.eprime_read_convert.proofs.ModelNodes.{list_none}
 use Rattle.eprime_read_convert.proofs.ListForms.{not_list}
-use Rattle.eprime_read_convert.proofs.Sweeps.{sweep-start, items-start}
+use Rattle.eprime_read_convert.proofs.Sweeps.{sweep-start, items-start, each-step, items-step}
 use Rattle.eprime_read_convert.proofs.Readables.{each_item, ranges_readable}
 use Rattle.eprime_read_convert.specs.Lines.{scope_of}
 use Rattle.eprime_read_convert.proofs.Conversions.{if_ok, one_converted, lex_converted, plain_converted, to_int_converted, fold_converted, call_converted, call_none, access_converted, access_none, at_none, items_converted, comp_converted, over_converted, test_converted, int_converted, value_converted, span_converted, low_converted, high_converted}
@@ -38,9 +38,9 @@ pub expressions::convert_word-returns-in_ok-convert_list-in-Some : goal.expressi
 expressions::convert_word-returns-in_ok-convert_list-in-Some t c =
     if_ok c.fold.result c.fold.ensures (λ o h. fold_converted (scope_of c.args.lines.now) c.args.finds c.args.bound.now c.args.fun c.in-Some.word c.args.only.now _ _ (sym (ap (option_map pure_fun) c.in-Some.is) ∙ c.fold_word.ensures) c.in_ok-convert_list-in-Some.ensures (h (scope_of c.args.lines.now)))
 
-pub lists::convert_list-returns-in_ok-items-in-Comp : goal.lists::convert_list-returns-in_ok-items-in-Comp
-lists::convert_list-returns-in_ok-items-in-Comp t c =
-    comp_converted (scope_of c.args.lines.now) c.args.finds c.args.bound.now c.args.ex.now _ _ _ _ _ _ _ _ _ c.in-Comp.is c.get.ensures c.as_slice-in-Comp.ensures c.as_slice-in-Comp-2.ensures c.requires c.in_ok-inner-in-Comp.ensures c.in_ok-item-in-Comp.ensures c.in_ok-items-in-Comp.ensures (c.comp.ensures (scope_of c.args.lines.now))
+pub lists::convert_list-returns-in_ok-item-in-Comp : goal.lists::convert_list-returns-in_ok-item-in-Comp
+lists::convert_list-returns-in_ok-item-in-Comp t c =
+    comp_converted (scope_of c.args.lines.now) c.args.finds c.args.bound.now c.args.ex.now _ _ _ _ _ _ _ _ _ c.in-Comp.is c.get.ensures c.as_slice-in-Comp-2.ensures c.as_slice-in-Comp.ensures c.requires (c.in_ok-inner-in-Comp.ensures ∙ ap (λ ns. ns ++ c.args.bound.now) c.in_ok-names-in-Comp.ensures) c.in_ok-item-in-Comp.ensures c.in_ok-items-in-Comp.ensures (c.comp.ensures (scope_of c.args.lines.now))
 
 pub domains::convert_range-returns-in_ok-last-in-Some-high : goal.domains::convert_range-returns-in_ok-last-in-Some-high
 domains::convert_range-returns-in_ok-last-in-Some-high t c =
@@ -90,7 +90,14 @@ lists::convert_list-returns-in_ok-convert_exs-in-None t c =
 pub lists::convert_gens-loop-part-init : goal.lists::convert_gens-loop-part-init
 lists::convert_gens-loop-part-init t c = record {
   readable = each_item (map R.pure_gen c.args.gens.now) c.requires;
-  left = items-start (scope_of c.args.lines.now) c.in_ok-inner.inner c.args.bound.now (pure_gen (scope_of c.args.lines.now)) c.new-items.result (map R.pure_gen c.args.gens.now) c.new-items.ensures c.in_ok-inner.ensures;
+  left = items-start (scope_of c.args.lines.now) (reverse c.new-names.result ++ c.args.bound.now) c.args.bound.now (pure_gen (scope_of c.args.lines.now)) c.new-items.result (map R.pure_gen c.args.gens.now) c.new-items.ensures (ap (λ ns. reverse ns ++ c.args.bound.now) c.new-names.ensures);
+}
+
+pub lists::convert_gens-loop-part-preserved : goal.lists::convert_gens-loop-part-preserved
+lists::convert_gens-loop-part-preserved t c = record {
+  readable = each-step ReadableItem R.pure_gen c.args.gens.now c.loop-part.part-index c.part-item.result c.loop-part-test.true c.part-item.is c.loop-part.invariant.readable;
+  left = items-step (scope_of c.args.lines.now) c.args.bound.now c.loop-part.names c.in_ok-names.names (pure_gen (scope_of c.args.lines.now)) R.pure_gen c.loop-part.items c.push.new.self c.in-Some.item c.in_ok-item.field-0
+      c.args.gens.now c.loop-part.part-index c.part-item.result c.in_ok-names.ensures c.in_ok-item.ensures c.in-Some.is c.in_ok-push-in-Some.ensures.ok c.loop-part-test.true c.part-item.is c.loop-part.invariant.left;
 }
 
 pub domains::convert_ranges-loop-range-init : goal.domains::convert_ranges-loop-range-init

@@ -1,4 +1,4 @@
-use Rattle.std.proofs.Common.{drop, map}
+use Rattle.std.proofs.Common.{◌++◌, drop, map, reverse}
 use Rattle.ess_core.specs.TreeViews as R
 use Rattle.ess_grammar.specs.Readable.{ReadableExs}
 use Rattle.eprime_tree.specs.Views.{pure_ex, pure_gen, pure_range}
@@ -28,5 +28,5 @@ invariant-lists::convert_exs-loop-ex l = record {
 abbrev pub invariant-lists::convert_gens-loop-part : goal.invariant-lists::convert_gens-loop-part
 invariant-lists::convert_gens-loop-part l = record {
   readable : Each ReadableItem (map R.pure_gen (drop l.part-index l.gens));
-  left : ItemSweep (scope_of l.lines) l.inner (map (pure_gen (scope_of l.lines)) l.items) (map R.pure_gen (drop l.part-index l.gens)) l.fn.bound (map R.pure_gen l.gens);
+  left : ItemSweep (scope_of l.lines) (reverse l.names ++ l.bound) (map (pure_gen (scope_of l.lines)) l.items) (map R.pure_gen (drop l.part-index l.gens)) l.bound (map R.pure_gen l.gens);
 }
