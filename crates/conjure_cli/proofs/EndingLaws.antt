@@ -1,6 +1,6 @@
 -- Laws of endings: their causes, and what follows from them.
-use Rattle.std.proofs.Common.{◌≡◌, refl, sym, ap, ◌∙◌, subst, ℕ, ◌+◌, ◌<◌, ◌≤◌, inl, inr, List, [], length, take, arith, Option, Some, None}
-use Rattle.std.specs.Prelude.{IfSome, IsSomeAnd, ◌↔◌}
+use Rattle.std.proofs.Common.{◌≡◌, refl, sym, ap, ◌∙◌, subst, ℕ, ◌+◌, ◌<◌, ◌≤◌, inl, inr, List, length, take, arith, Option, Some, None}
+use Rattle.std.specs.Prelude.{IfSome, IsSomeAnd}
 use Rattle.std.specs.Option.{option_map}
 use Rattle.ess_io.specs.Counts.{Rose}
 use Rattle.ess_io.specs.Trees.{Tree, file_at, start_of_file, with_file, LeavesPrefix, KeepsOthers}
@@ -10,7 +10,8 @@ use Rattle.ess_io.specs.declared.files.FileNo.{FileNo}
 use Rattle.ess_io.specs.declared.files.FileNo.TheVariants.{Missing as file_missing, Failed as file_failed, NoMemory as file_memory}
 use Rattle.conjure_cli.specs.SmallGrammar.{IsInSmallGrammar}
 use Rattle.conjure_cli.specs.ModelText.{IsModelOf}
-use Rattle.conjure_cli.specs.Ending.{FilesSeen, SinkSeen, limit, out_line, status_of, ReadGives, IsReadable, CauseOf, LeavesModel, LeavesFiles, LeavesErr, Ran, Ends, IsRefusal, NoFault, MissingIsFour, IsDecided, TextDecides}
+use Rattle.conjure_cli.specs.Seen.{FilesSeen, SinkSeen, limit, ReadGives, WasRead}
+use Rattle.conjure_cli.specs.Ending.{out_line, status_of, IsReadable, CauseOf, LeavesModel, LeavesFiles, Ran, IsRefusal, NoFault, MissingIsFour, IsDecided, TextDecides}
 use Rattle.conjure_cli.specs.Refusals.{unrefined, unwritten}
 use Rattle.conjure_cli.specs.declared.model.ModelNo.{ModelNo}
 use Rattle.conjure_cli.specs.declared.model.ModelNo.TheVariants.{NotYet as model_not_yet, NoMemory as model_memory}
@@ -19,14 +20,11 @@ use Rattle.conjure_cli.specs.declared.ending.Ending.TheVariants.{Done, Usage, Mi
 
 -- ---- counts
 
-rose_later : (a b c : ℕ) → a ≤ b → Rose b c → Rose a c
+-- a count that rises later has risen
+pub rose_later : (a b c : ℕ) → a ≤ b → Rose b c → Rose a c
 rose_later a b c le rose = elim rose [ inl more ↦ inl (omega arith) | inr last ↦ inr last ]
 
 -- ---- what is read of a told tree
-
--- the start of the file was read, where the tree is told
-abbrev pub WasRead : Option Tree → List ℕ → List ℕ → Type 0
-WasRead tree file text = IfSome tree (λ files. start_of_file files file (limit + 1) ≡ Some text)
 
 gives : (tree : Option Tree) (file text : List ℕ) (P : List ℕ → Type 0) → WasRead tree file text → P text → ReadGives tree file P
 gives None file text P was p = tt

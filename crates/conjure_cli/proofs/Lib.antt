@@ -7,4 +7,7 @@ pub mod ReadingLaws
 pub mod NamingLaws
 pub mod PieceLaws
 pub mod EndingLaws
+pub mod TaskLaws
+pub mod JudgingLaws
+pub mod DecidedLaws
 pub mod RunLaws

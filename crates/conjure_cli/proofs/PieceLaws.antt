@@ -7,7 +7,8 @@ use Rattle.std.proofs.Math.Seq.{take-append_seam}
 use Rattle.ess_io.specs.Counts.{Rose}
 use Rattle.ess_io.specs.Sinks.{grown, GrewByPrefix}
 use Rattle.ess_io.proofs.Growth.{grown-grown}
-use Rattle.conjure_cli.specs.Ending.{SinkSeen, LeavesLine, LeavesErr, told_of, err_line, out_line}
+use Rattle.conjure_cli.specs.Seen.{SinkSeen, LeavesLine}
+use Rattle.conjure_cli.specs.Ending.{LeavesErr, told_of, err_line, out_line}
 use Rattle.conjure_cli.specs.declared.ending.Ending.{Ending}
 use Rattle.conjure_cli.specs.declared.ending.Ending.TheVariants.{Done, Usage, Missing, Unreadable, TooLong, NotYet, Unwritable, OutputFailed, NoMemory}
 

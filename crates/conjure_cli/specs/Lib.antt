@@ -4,5 +4,11 @@ pub mod ModelText
 pub mod Reading
 pub mod Lines
 pub mod Writing
+pub mod Seen
 pub mod Ending
 pub mod Refusals
+pub mod Tasks
+pub mod Reasons
+pub mod Judging
+pub mod Decided
+pub mod Runs

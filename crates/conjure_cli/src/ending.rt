@@ -3,7 +3,8 @@ ghost use Rattle.std.specs.Prelude.{◌≡◌, ◌≤◌, ◌++◌, map, OnOk, O
 ghost use Rattle.std.specs.List.{concat};
 ghost use Rattle.ess_io.specs.Counts.{Rose};
 ghost use Rattle.ess_io.specs.Sinks.{grown, GrewByPrefix};
-ghost use Rattle.conjure_cli.specs.Ending.{status_of, told_of, out_line, sink_at, LeavesErr};
+ghost use Rattle.conjure_cli.specs.Seen.{sink_at};
+ghost use Rattle.conjure_cli.specs.Ending.{status_of, told_of, out_line, LeavesErr};
 
 use ess_io::{PutNo, Sink, put_all};
 

@@ -1,11 +1,17 @@
 // The program: from the words to the status.
 ghost use Rattle.std.specs.Prelude.{◌≡◌, [], map, None, Some, true, IfOk, string_bytes, option_map};
 ghost use Rattle.ess_io.specs.Counts.{raised};
-ghost use Rattle.conjure_cli.specs.Ending.{begins_with_dash, file_named, takes_memory, model_in, refine, later, task_of, asked, status_of, ReadsAfter, files_at, sink_at, Ran, Ends, IsRefusal, KeepsAllElse, UsageIsTwo, LaterIsThree, MissingBy, DecidesBy, LeavesErr};
+ghost use Rattle.conjure_cli.specs.Seen.{files_at, sink_at};
+ghost use Rattle.conjure_cli.specs.Tasks.{begins_with_dash, file_named, takes_memory, refine, later, task_of, asked, ReadsAfter};
+ghost use Rattle.conjure_cli.specs.Ending.{model_in, status_of, Ran, IsRefusal, LeavesErr};
+ghost use Rattle.conjure_cli.specs.Runs.{outcome_status, Ends, KeepsAllElse, UsageIsTwo, LaterIsThree, MissingBy, DecidesBy};
 ghost use Rattle.conjure_cli.specs.Refusals.{unread, unrefined, unwritten};
 
 use crate::ending::{Ending, MODEL_FILE, put_wrote, report};
+use crate::judging::Names;
 use crate::model::{ModelNo, model_of};
+use crate::outcome::Outcome;
+use crate::validating::judged;
 use conjure_cli_words::{Command, WordsNo, words_of};
 use ess_io::{FileNo, Files, Sink};
 use ess_rows::NoMemory;
@@ -14,8 +20,9 @@ use std::alloc::Global;
 /// The most bytes that a file may have.
 const LIMIT: u64 = 16777216;
 
-/// What the program ends with: 0 where the work is done, 2 where the words don't fit, 3 where the text isn't supported
-/// yet, 4 where a file is missing, a read or a write failed, 5 where the file is too long, and 6 for want of memory.
+/// What the program ends with: 0 where the work is done or the solution is valid, 1 where it isn't valid, 2 where the words
+/// don't fit, 3 where an input is refused or isn't supported
+/// yet, 4 where a file is missing, a read or a write failed, 5 where a limit is met, and 6 for want of memory.
 #[derive(Clone, Copy, Debug, PartialEq, Eq)]
 pub struct Status(pub u8);
 
@@ -38,7 +45,7 @@ fn file_named(words: &[String]) -> Option<&str>
 }
 
 /// The ending where a read failed.
-fn unread(no: FileNo) -> Ending
+pub(crate) fn unread(no: FileNo) -> Ending
     ensures { result ≡ unread no }
 {
     match no {
@@ -119,35 +126,35 @@ fn refine_into<F: Files, O: Sink, E: Sink>(
     files: &mut F,
     out: &mut O,
     err: &mut E,
-) -> Ending
-    ensures ended { Ends result (status_of result) (Some (refine file.now (model_in folder.now))) true
+) -> Outcome
+    ensures ended { Ends result (outcome_status result) (Some (refine file.now (model_in folder.now))) true
         (files_at (F.tree files.old) (F.faults files.old) (F.misses files.old))
         (files_at (F.tree files.new) (F.faults files.new) (F.misses files.new))
         (sink_at (O.bytes out.old) (O.faults out.old)) (sink_at (O.bytes out.new) (O.faults out.new))
         (sink_at (E.bytes err.old) (E.faults err.old)) (sink_at (E.bytes err.new) (E.faults err.new)) }
-    ensures reads { ReadsAfter (Some (refine file.now (model_in folder.now))) true (status_of result) (F.reads files.old) (F.reads files.new) }
+    ensures reads { ReadsAfter (Some (refine file.now (model_in folder.now))) true (outcome_status result) (F.reads files.old) (F.reads files.new) }
 {
     match model_in(alloc, folder) {
         Ok(place) => {
             let ending = modelling(alloc, file, place.as_str(), files, out);
             report(err, file, place.as_str(), ending);
-            ending
+            Outcome::Plain(ending)
         }
         Err(NoMemory) => {
             report(err, "", "", Ending::NoMemory);
-            Ending::NoMemory
+            Outcome::Plain(Ending::NoMemory)
         }
     }
 }
 
 /// Says on `err` that this isn't supported yet.
-fn not_yet<E: Sink>(err: &mut E, name: &str) -> Ending
-    ensures ending { result ≡ Ending.NotYet }
+fn not_yet<E: Sink>(err: &mut E, name: &str) -> Outcome
+    ensures ending { result ≡ Outcome.Plain Ending.NotYet }
     ensures told { LeavesErr Ending.NotYet name.now []
         (sink_at (E.bytes err.old) (E.faults err.old)) (sink_at (E.bytes err.new) (E.faults err.new)) }
 {
     report(err, name, "", Ending::NotYet);
-    Ending::NotYet
+    Outcome::Plain(Ending::NotYet)
 }
 
 /// Does what a command asks for.
@@ -157,13 +164,13 @@ fn command_done<F: Files, O: Sink, E: Sink>(
     files: &mut F,
     out: &mut O,
     err: &mut E,
-) -> Ending
-    ensures ended { Ends result (status_of result) (Some (task_of command.now)) true
+) -> Outcome
+    ensures ended { Ends result (outcome_status result) (Some (task_of command.now)) true
         (files_at (F.tree files.old) (F.faults files.old) (F.misses files.old))
         (files_at (F.tree files.new) (F.faults files.new) (F.misses files.new))
         (sink_at (O.bytes out.old) (O.faults out.old)) (sink_at (O.bytes out.new) (O.faults out.new))
         (sink_at (E.bytes err.old) (E.faults err.old)) (sink_at (E.bytes err.new) (E.faults err.new)) }
-    ensures reads { ReadsAfter (Some (task_of command.now)) true (status_of result) (F.reads files.old) (F.reads files.new) }
+    ensures reads { ReadsAfter (Some (task_of command.now)) true (outcome_status result) (F.reads files.old) (F.reads files.new) }
 {
     match command {
         Command::Modelling(folder, file, options) => match options.use_repr {
@@ -172,7 +179,14 @@ fn command_done<F: Files, O: Sink, E: Sink>(
         },
         Command::Parameter(model, _, _) => not_yet(err, model.as_str()),
         Command::Solution(model, _, _, _) => not_yet(err, model.as_str()),
-        Command::Validate(essence, _, _) => not_yet(err, essence.as_str()),
+        Command::Validate(essence, param, solution) => {
+            let names = Names {
+                essence: essence.as_str(),
+                param: param.as_str(),
+                solution: solution.as_str(),
+            };
+            judged(alloc, names, files, out, err)
+        }
         Command::Selftest(_) => not_yet(err, "selftest"),
     }
 }
@@ -184,23 +198,23 @@ fn words_done<F: Files, O: Sink, E: Sink>(
     files: &mut F,
     out: &mut O,
     err: &mut E,
-) -> Ending
-    ensures ended { Ends result (status_of result) (asked (map string_bytes words.now)) true
+) -> Outcome
+    ensures ended { Ends result (outcome_status result) (asked (map string_bytes words.now)) true
         (files_at (F.tree files.old) (F.faults files.old) (F.misses files.old))
         (files_at (F.tree files.new) (F.faults files.new) (F.misses files.new))
         (sink_at (O.bytes out.old) (O.faults out.old)) (sink_at (O.bytes out.new) (O.faults out.new))
         (sink_at (E.bytes err.old) (E.faults err.old)) (sink_at (E.bytes err.new) (E.faults err.new)) }
-    ensures reads { ReadsAfter (asked (map string_bytes words.now)) true (status_of result) (F.reads files.old) (F.reads files.new) }
+    ensures reads { ReadsAfter (asked (map string_bytes words.now)) true (outcome_status result) (F.reads files.old) (F.reads files.new) }
 {
     match words_of(alloc, words) {
         Ok(command) => command_done(alloc, &command, files, out, err),
         Err(WordsNo::Usage) => {
             report(err, "", "", Ending::Usage);
-            Ending::Usage
+            Outcome::Plain(Ending::Usage)
         }
         Err(WordsNo::NoMemory) => {
             report(err, "", "", Ending::NoMemory);
-            Ending::NoMemory
+            Outcome::Plain(Ending::NoMemory)
         }
     }
 }
@@ -212,13 +226,13 @@ fn done<F: Files, O: Sink, E: Sink>(
     files: &mut F,
     out: &mut O,
     err: &mut E,
-) -> Ending
-    ensures ended { Ends result (status_of result) (asked (map string_bytes words.now)) (takes_memory (map string_bytes words.now))
+) -> Outcome
+    ensures ended { Ends result (outcome_status result) (asked (map string_bytes words.now)) (takes_memory (map string_bytes words.now))
         (files_at (F.tree files.old) (F.faults files.old) (F.misses files.old))
         (files_at (F.tree files.new) (F.faults files.new) (F.misses files.new))
         (sink_at (O.bytes out.old) (O.faults out.old)) (sink_at (O.bytes out.new) (O.faults out.new))
         (sink_at (E.bytes err.old) (E.faults err.old)) (sink_at (E.bytes err.new) (E.faults err.new)) }
-    ensures reads { ReadsAfter (asked (map string_bytes words.now)) (takes_memory (map string_bytes words.now)) (status_of result)
+    ensures reads { ReadsAfter (asked (map string_bytes words.now)) (takes_memory (map string_bytes words.now)) (outcome_status result)
         (F.reads files.old) (F.reads files.new) }
 {
     let Some(file) = file_named(words) else {
@@ -226,14 +240,15 @@ fn done<F: Files, O: Sink, E: Sink>(
     };
     let ending = modelling(alloc, file, MODEL_FILE, files, out);
     report(err, file, MODEL_FILE, ending);
-    ending
+    Outcome::Plain(ending)
 }
 
 /// Runs the program on the words after its name, and answers the status to end with.
 ///
 /// The words are those of `conjure_cli_words::words_of`. With `modelling [-o DIR] FILE` the model of FILE is written to
-/// `DIR/model000001.eprime`, and a line on `out` says so; DIR is `conjure-output` where it isn't given. The other commands
-/// and `--use-repr` aren't supported yet. Where something stands against it, a line on `err` says what.
+/// `DIR/model000001.eprime`, and a line on `out` says so; DIR is `conjure-output` where it isn't given. With
+/// `validate-solution --essence E --param P --solution S` a line on `out` says `valid`, or `not valid` and why. The other
+/// commands and `--use-repr` aren't supported yet. Where something stands against it, a line on `err` says what.
 pub fn run<F: Files, O: Sink, E: Sink>(
     alloc: Global,
     words: &[String],
@@ -242,7 +257,7 @@ pub fn run<F: Files, O: Sink, E: Sink>(
     err: &mut E,
 ) -> Status
     // Each ending has its status, its cause and its text, and leaves what it may.
-    ensures ended { (ending : Ending) × Ends ending result.0 (asked (map string_bytes words.now)) (takes_memory (map string_bytes words.now))
+    ensures ended { (outcome : Outcome) × Ends outcome result.0 (asked (map string_bytes words.now)) (takes_memory (map string_bytes words.now))
         (files_at (F.tree files.old) (F.faults files.old) (F.misses files.old))
         (files_at (F.tree files.new) (F.faults files.new) (F.misses files.new))
         (sink_at (O.bytes out.old) (O.faults out.old)) (sink_at (O.bytes out.new) (O.faults out.new))

@@ -1,5 +1,6 @@
 use Rattle.std.proofs.Common.{sym, map, string_bytes}
-use Rattle.conjure_cli.proofs.RunLaws.{ends_named, reads_named}
+use Rattle.conjure_cli.proofs.TaskLaws.{reads_named}
+use Rattle.conjure_cli.proofs.RunLaws.{ends_named}
 use Rattle.conjure_cli.proofs.program.done.Goals as goal
 
 pub returns-clause-ended : goal.returns-clause-ended
