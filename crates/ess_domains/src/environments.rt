@@ -17,7 +17,7 @@ use ess_eval::{EvalNo, value};
 use std::alloc::Global;
 
 /// The env without types and names. Nothing is allocated.
-pub(crate) fn no_env(alloc: Global) -> Env
+pub fn no_env(alloc: Global) -> Env
     ensures { pure_env result ≡ empty_env }
 {
     Env {
@@ -26,8 +26,10 @@ pub(crate) fn no_env(alloc: Global) -> Env
     }
 }
 
-/// Puts into the env what a statement declares, under a parameter and a solution.
-pub(crate) fn go_on(
+/// Puts into the env what a statement declares, under a parameter and a solution: the value of a given or find, the values of a
+/// type's names. A letting of an expression or a domain is put in already and declares nothing. `Big` only where the size of an
+/// unnamed type has a number outside 64 bits, else `NoMemory`; then the env may hold a part of it.
+pub fn go_on(
     alloc: Global,
     stm: &Stm,
     param: &Assignment,

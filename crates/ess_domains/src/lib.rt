@@ -20,6 +20,7 @@ mod unnamed;
 mod verdicts;
 
 pub use assignments::{Assignment, NamedValue, TypeNames};
+pub use environments::{go_on, no_env};
 pub use ess_eval::EvalNo;
 pub use membership::member;
 pub use parameters::param_fits;
