@@ -1,0 +1,11 @@
+pub mod SmallNames
+pub mod SmallStatements
+pub mod SmallPlans
+pub mod ReadableSmall
+pub mod SmallCells
+pub mod SmallTexts
+pub mod Bits
+pub mod SmallLines
+pub mod SmallHeaders
+pub mod SmallSpecifications
+pub mod WrittenModels
