@@ -8,8 +8,8 @@ use Rattle.ess_io.specs.Sinks.{grown, GrewByPrefix}
 use Rattle.ess_io.proofs.Written.{with_file-KeepsOthers, same-KeepsOthers, LeavesPrefix-KeepsOthers}
 use Rattle.ess_io.specs.declared.files.FileNo.{FileNo}
 use Rattle.ess_io.specs.declared.files.FileNo.TheVariants.{Missing as file_missing, Failed as file_failed, NoMemory as file_memory}
-use Rattle.conjure_cli.specs.SmallGrammar.{IsInSmallGrammar}
-use Rattle.conjure_cli.specs.ModelText.{IsModelOf}
+use Rattle.conjure_cli_laws.specs.SmallGrammar.{IsInSmallGrammar}
+use Rattle.conjure_cli_laws.specs.ModelText.{IsModelOf}
 use Rattle.conjure_cli.specs.Seen.{FilesSeen, SinkSeen, limit, ReadGives, WasRead}
 use Rattle.conjure_cli.specs.Ending.{out_line, status_of, IsReadable, CauseOf, LeavesModel, LeavesFiles, Ran, IsRefusal, NoFault, MissingIsFour, IsDecided, TextDecides}
 use Rattle.conjure_cli.specs.Refusals.{unrefined, unwritten}

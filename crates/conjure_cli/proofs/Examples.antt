@@ -1,9 +1,9 @@
 -- Worked examples of the definitions.
 use Rattle.std.specs.Prelude.{◌≡◌, true, false, List, [], ◌∷◌, ◌++◌, codes, refl}
 use Rattle.std.specs.Fmt.{digits}
-use Rattle.conjure_cli.specs.Words.{language_words}
-use Rattle.conjure_cli.specs.SmallGrammar.{Statement, find, such_that, is_name, is_number, value_from, lines_of, SayEach}
-use Rattle.conjure_cli.specs.ModelText.{model_lines, free_name, cells, with_commas}
+use Rattle.conjure_cli_laws.specs.Words.{language_words}
+use Rattle.conjure_cli_laws.specs.SmallGrammar.{Statement, find, such_that, is_name, is_number, value_from, lines_of, SayEach}
+use Rattle.conjure_cli_laws.specs.ModelText.{model_lines, free_name, cells, with_commas}
 
 -- lines
 no_lines : lines_of [] ≡ []

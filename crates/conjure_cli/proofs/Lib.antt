@@ -11,3 +11,4 @@ pub mod TaskLaws
 pub mod JudgingLaws
 pub mod DecidedLaws
 pub mod RunLaws
+pub mod StandingLaws

@@ -2,7 +2,7 @@
 use Rattle.std.proofs.Common.{◌≡◌, refl, sym, ap, ◌∙◌, ℕ, suc, ◌<◌, Bool, true, false, not, List, [], ◌∷◌, ◌++◌, length, take, drop, arith, append_assoc, Option, Some, None}
 use Rattle.std.specs.Prelude.{◌==◌, if◌then◌else◌}
 use Rattle.std.specs.Option.{option_map}
-use Rattle.conjure_cli.specs.SmallGrammar.{Statement, lines_of, onto_first_line}
+use Rattle.conjure_cli_laws.specs.SmallGrammar.{Statement, lines_of, onto_first_line}
 use Rattle.conjure_cli.specs.Reading.{run_len, is_in_line, read_lines, line_at, ◌>>=◌}
 
 -- what follows the first byte

@@ -6,7 +6,7 @@ use Rattle.std.specs.BTreeMap.{is_at}
 use Rattle.std.specs.Cmp.Lexicographic.{slice_cmp}
 use Rattle.std.specs.Prelude.{bytes_eq}
 use Rattle.std.specs.List.{list_any}
-use Rattle.conjure_cli.specs.Words.{is_among}
+use Rattle.conjure_cli_laws.specs.Words.{is_among}
 
 -- to look among what references point to is to look among the references
 pub among_views : (names : List (Bor (List ℕ))) (name : List ℕ)

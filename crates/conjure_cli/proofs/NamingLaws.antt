@@ -5,10 +5,10 @@ use Rattle.std.specs.List.{list_all}
 use Rattle.std.proofs.lemmas.Slice.Eq.{bytes_eq-Decides}
 use Rattle.std.proofs.lemmas.List.{append_cancel_right, reverse-append}
 use Rattle.std.proofs.Math.Bool.{or_assoc}
-use Rattle.conjure_cli.specs.Words.{is_among}
-use Rattle.conjure_cli.specs.SmallGrammar.{Statement, find, such_that, is_name_byte, fits_after, found_names, each_find, each_constraint, SayEach, Reads, IsInSmallGrammar, lines_of}
+use Rattle.conjure_cli_laws.specs.Words.{is_among}
+use Rattle.conjure_cli_laws.specs.SmallGrammar.{Statement, find, such_that, is_name_byte, fits_after, found_names, each_find, each_constraint, SayEach, Reads, IsInSmallGrammar, lines_of}
 use Rattle.conjure_cli.specs.Reading.{fit_from, read_lines}
-use Rattle.conjure_cli.specs.ModelText.{free_name, cell_name, cells_from, cells, cell_of, declaration, constraint, header_find, header_representation, constraint_lines, lines_with, model_text, ended, IsModelOf}
+use Rattle.conjure_cli_laws.specs.ModelText.{free_name, cell_name, cells_from, cells, cell_of, declaration, constraint, header_find, header_representation, constraint_lines, lines_with, model_text, ended, IsModelOf}
 use Rattle.conjure_cli.specs.Writing.{plain_cell, plain_text}
 use Rattle.conjure_cli.proofs.ReadingLaws.{both, untrue, name_bytes, lines-found, lines-here}
 

@@ -5,7 +5,7 @@ use Rattle.std.specs.Prelude.{if◌then◌else◌, codes, nat_le}
 use Rattle.std.specs.List.{list_all}
 use Rattle.std.proofs.lemmas.List.{take-append-drop}
 use borrow.Author.Tests.{eqb-true}
-use Rattle.conjure_cli.specs.SmallGrammar.{Statement, find, such_that, is_name, is_name_byte, is_letter, is_digit, is_number, value_from, IsNumeral, SaysFind, SaysSuchThat, Says, SayEach}
+use Rattle.conjure_cli_laws.specs.SmallGrammar.{Statement, find, such_that, is_name, is_name_byte, is_letter, is_digit, is_number, value_from, IsNumeral, SaysFind, SaysSuchThat, Says, SayEach}
 use Rattle.conjure_cli.specs.Reading.{run_len, behind, name_at, number_at, number_from, find_at, such_that_at, otherwise, line_at, at_end, read_lines, ◌>>=◌}
 
 -- ---- steps that may fail

@@ -6,8 +6,8 @@ use Rattle.std.specs.List.{list_all}
 use Rattle.std.specs.Cmp.Lexicographic.{pointwise}
 use Rattle.std.specs.Option.{option_map}
 use Rattle.std.proofs.Common.{Bor}
-use Rattle.conjure_cli.specs.SmallGrammar.{value_from, is_name, is_letter, is_name_byte}
-use Rattle.conjure_cli.specs.Words.{is_among, language_words}
+use Rattle.conjure_cli_laws.specs.SmallGrammar.{value_from, is_name, is_letter, is_name_byte}
+use Rattle.conjure_cli_laws.specs.Words.{is_among, language_words}
 use Rattle.conjure_cli.specs.Reading.{behind, number_from, at_end}
 
 -- a number's value only rises

@@ -4,8 +4,8 @@ use Rattle.std.specs.Prelude.{flat_map, codes}
 use Rattle.std.specs.List.{concat}
 use Rattle.std.proofs.lemmas.List.{take_more, map-append}
 use Rattle.std.proofs.lemmas.Grind.{flat_map-append}
-use Rattle.conjure_cli.specs.SmallGrammar.{Statement, find, such_that, each_find, each_constraint}
-use Rattle.conjure_cli.specs.ModelText.{ended, with_commas, constraint_lines, header_find, header_representation}
+use Rattle.conjure_cli_laws.specs.SmallGrammar.{Statement, find, such_that, each_find, each_constraint}
+use Rattle.conjure_cli_laws.specs.ModelText.{ended, with_commas, constraint_lines, header_find, header_representation}
 use Rattle.conjure_cli.specs.Writing.{find_lines, plain_constraint, constraints_after, before_constraint, behind_constraints, is_some_list, plain_declaration, plain_text}
 use Rattle.conjure_cli.specs.Lines.{statement, statements}
 use Rattle.conjure_cli.specs.declared.line.Line.{Line}

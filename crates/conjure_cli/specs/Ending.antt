@@ -3,8 +3,8 @@ use Rattle.std.specs.Prelude.{◌≡◌, ℕ, ◌+◌, ◌≤◌, ◌⊎◌, Lis
 use Rattle.ess_io.specs.Counts.{Rose}
 use Rattle.ess_io.specs.Trees.{file_at, start_of_file, with_file, LeavesPrefix}
 use Rattle.ess_io.specs.Sinks.{grown, GrewByPrefix}
-use Rattle.conjure_cli.specs.SmallGrammar.{IsInSmallGrammar}
-use Rattle.conjure_cli.specs.ModelText.{IsModelOf}
+use Rattle.conjure_cli_laws.specs.SmallGrammar.{IsInSmallGrammar}
+use Rattle.conjure_cli_laws.specs.ModelText.{IsModelOf}
 use Rattle.conjure_cli.specs.Seen.{FilesSeen, SinkSeen, limit, ReadGives, IsAbsent, LeavesLine}
 use Rattle.conjure_cli.specs.declared.ending.Ending.{Ending}
 use Rattle.conjure_cli.specs.declared.ending.Ending.TheVariants.{Done, Usage, Missing, Unreadable, TooLong, NotYet, Unwritable, OutputFailed, NoMemory}

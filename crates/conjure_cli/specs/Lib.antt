@@ -1,6 +1,3 @@
-pub mod Words
-pub mod SmallGrammar
-pub mod ModelText
 pub mod Reading
 pub mod Lines
 pub mod Writing
@@ -12,3 +9,4 @@ pub mod Reasons
 pub mod Judging
 pub mod Decided
 pub mod Runs
+pub mod Standing

@@ -4,8 +4,8 @@ use Rattle.std.specs.Borrow.{Bor}
 use Rattle.std.specs.BTreeSet.{BTreeSet, contains}
 use Rattle.std.specs.Ordering.{nat_cmp}
 use Rattle.std.specs.Cmp.Lexicographic.{slice_cmp}
-use Rattle.conjure_cli.specs.Words.{is_among}
-use Rattle.conjure_cli.specs.SmallGrammar.{Statement, find, such_that}
+use Rattle.conjure_cli_laws.specs.Words.{is_among}
+use Rattle.conjure_cli_laws.specs.SmallGrammar.{Statement, find, such_that}
 use Rattle.conjure_cli.specs.declared.line.Line.{Line}
 use Rattle.conjure_cli.specs.declared.line.Line.TheVariants.{Find, SuchThat}
 

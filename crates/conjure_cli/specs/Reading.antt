@@ -2,7 +2,7 @@
 -- rely on is the small grammar.
 use Rattle.std.specs.Prelude.{ℕ, suc, ◌^◌, nat_le, Bool, true, not, ◌&&◌, ◌++◌, List, [], ◌∷◌, codes, if◌then◌else◌, ◌==◌, take, drop, Option, Some, None}
 use Rattle.std.specs.Option.{option_and_then}
-use Rattle.conjure_cli.specs.SmallGrammar.{Statement, find, such_that, is_name_byte, is_digit, is_name, value_from, fits_after, found_names}
+use Rattle.conjure_cli_laws.specs.SmallGrammar.{Statement, find, such_that, is_name_byte, is_digit, is_name, value_from, fits_after, found_names}
 
 infixl 10 ◌>>=◌
 abbrev pub ◌>>=◌ : {A B : Type 0} → Option A → (A → Option B) → Option B

@@ -1,8 +1,8 @@
 -- How the lines of a model are written, one after another. Only the writer's own functions speak of
 -- it: what callers rely on is the text of a model.
 use Rattle.std.specs.Prelude.{ℕ, Bool, true, false, List, [], ◌∷◌, ◌++◌, codes, flat_map}
-use Rattle.conjure_cli.specs.SmallGrammar.{Statement, each_find}
-use Rattle.conjure_cli.specs.ModelText.{declaration, constraint, ended, lines_with}
+use Rattle.conjure_cli_laws.specs.SmallGrammar.{Statement, each_find}
+use Rattle.conjure_cli_laws.specs.ModelText.{declaration, constraint, ended, lines_with}
 
 -- the cell of a name where none is taken
 abbrev pub plain_cell : List ℕ → List ℕ

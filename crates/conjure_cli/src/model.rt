@@ -1,7 +1,7 @@
 // The model of a text.
 ghost use Rattle.std.specs.Prelude.{◌≡◌, List, IfOk, IsErrOf};
-ghost use Rattle.conjure_cli.specs.SmallGrammar.{Statement, Reads, IsInSmallGrammar};
-ghost use Rattle.conjure_cli.specs.ModelText.{IsModelOf, model_text};
+ghost use Rattle.conjure_cli_laws.specs.SmallGrammar.{Statement, Reads, IsInSmallGrammar};
+ghost use Rattle.conjure_cli_laws.specs.ModelText.{IsModelOf, model_text};
 ghost use Rattle.conjure_cli.specs.declared.model.ModelNo.TheVariants.{NoMemory as no_memory};
 
 use crate::names::are_well_named;

@@ -1,6 +1,6 @@
 // Which names are found, and which may be spoken of.
 ghost use Rattle.std.specs.Prelude.{◌≡◌, List, [], ◌∷◌, ◌++◌, ℕ, IfOk, true};
-ghost use Rattle.conjure_cli.specs.SmallGrammar.{fits_after, found_names};
+ghost use Rattle.conjure_cli_laws.specs.SmallGrammar.{fits_after, found_names};
 ghost use Rattle.conjure_cli.specs.Reading.{fit_from};
 ghost use Rattle.conjure_cli.specs.Lines.{statement, statements, Holds};
 

@@ -5,6 +5,7 @@ ghost use Rattle.conjure_cli.specs.Seen.{files_at, sink_at};
 ghost use Rattle.conjure_cli.specs.Tasks.{begins_with_dash, file_named, takes_memory, refine, later, task_of, asked, ReadsAfter};
 ghost use Rattle.conjure_cli.specs.Ending.{model_in, status_of, Ran, IsRefusal, LeavesErr};
 ghost use Rattle.conjure_cli.specs.Runs.{outcome_status, Ends, KeepsAllElse, UsageIsTwo, LaterIsThree, MissingBy, DecidesBy};
+ghost use Rattle.conjure_cli.specs.Standing.{ModelStands};
 ghost use Rattle.conjure_cli.specs.Refusals.{unread, unrefined, unwritten};
 
 use crate::ending::{Ending, MODEL_FILE, put_wrote, report};
@@ -262,6 +263,11 @@ pub fn run<F: Files, O: Sink, E: Sink>(
         (files_at (F.tree files.new) (F.faults files.new) (F.misses files.new))
         (sink_at (O.bytes out.old) (O.faults out.old)) (sink_at (O.bytes out.new) (O.faults out.new))
         (sink_at (E.bytes err.old) (E.faults err.old)) (sink_at (E.bytes err.new) (E.faults err.new)) }
+
+    // Where a model is written, it is one of the specification that was read, and each solution has exactly one assignment.
+    ensures stands { result.0 ≡ 0 → ModelStands (asked (map string_bytes words.now))
+        (files_at (F.tree files.old) (F.faults files.old) (F.misses files.old))
+        (files_at (F.tree files.new) (F.faults files.new) (F.misses files.new)) }
 
     // Status 2 comes exactly where the words don't fit, but for want of memory.
     ensures usage { UsageIsTwo result.0 (asked (map string_bytes words.now)) }

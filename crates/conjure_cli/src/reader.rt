@@ -2,7 +2,7 @@
 ghost use Rattle.std.specs.Prelude.{◌≡◌, ◌≤◌, ◌<◌, ◌^◌, length, MatchOption, ◌∷◌, Some, None, IfOk, IsErrOf};
 ghost use Rattle.std.specs.Option.{option_map};
 ghost use Rattle.std.specs.List.{list_all};
-ghost use Rattle.conjure_cli.specs.SmallGrammar.{is_letter, is_digit, is_name_byte, is_name, value_from, lines_of};
+ghost use Rattle.conjure_cli_laws.specs.SmallGrammar.{is_letter, is_digit, is_name_byte, is_name, value_from, lines_of};
 ghost use Rattle.conjure_cli.specs.Reading.{run_len, behind, name_at, number_at, find_at, such_that_at, line_at};
 ghost use Rattle.conjure_cli.specs.Reading.{is_in_line, read_lines};
 ghost use Rattle.conjure_cli.specs.Lines.{statement, statements};

@@ -1,6 +1,6 @@
 // The words of Essence that are no names.
 ghost use Rattle.std.specs.Prelude.{◌≡◌, map};
-ghost use Rattle.conjure_cli.specs.Words.{is_among, language_words};
+ghost use Rattle.conjure_cli_laws.specs.Words.{is_among, language_words};
 
 const WORDS: [&[u8]; 90] = [
     b"language",
@@ -104,7 +104,7 @@ fn is_among(names: &[&[u8]], name: &[u8]) -> bool
 }
 
 /// Whether the language reserves the word, or has it and this tool doesn't read it.
-#[tactic(auto, unfolding(crate::specs::Words::language_words))]
+#[tactic(auto, unfolding(conjure_cli_laws::specs::Words::language_words))]
 pub(crate) fn is_word(name: &[u8]) -> bool
     ensures { result ≡ is_among language_words name.now }
 {

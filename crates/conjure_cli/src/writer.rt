@@ -1,7 +1,7 @@
 // The writer of models.
 ghost use Rattle.std.specs.Prelude.{◌≡◌, [], ◌∷◌, ◌++◌, ◌||◌, OnOk, IfOk, flat_map, decimal};
-ghost use Rattle.conjure_cli.specs.SmallGrammar.{each_constraint};
-ghost use Rattle.conjure_cli.specs.ModelText.{domain, header_find, header_representation, constraint_lines, ended};
+ghost use Rattle.conjure_cli_laws.specs.SmallGrammar.{each_constraint};
+ghost use Rattle.conjure_cli_laws.specs.ModelText.{domain, header_find, header_representation, constraint_lines, ended};
 ghost use Rattle.conjure_cli.specs.Writing.{plain_cell, plain_declaration, plain_constraint, find_lines, plain_text, before_constraint, behind_constraints, constraints_after, is_some_list};
 ghost use Rattle.conjure_cli.specs.Lines.{statement, statements};
 

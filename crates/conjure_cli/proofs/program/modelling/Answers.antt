@@ -1,5 +1,5 @@
 use Rattle.std.proofs.Common.{ap, subst, Err, arith, ◌≤◌, ◌≡◌, length, ◌+◌}
-use Rattle.conjure_cli.specs.ModelText.{IsModelOf}
+use Rattle.conjure_cli_laws.specs.ModelText.{IsModelOf}
 use Rattle.conjure_cli.specs.Seen.{files_at, limit}
 use Rattle.conjure_cli.proofs.EndingLaws.{ran_long, ran_unrefined, ran_unwritten, ran_done, ran_untold}
 use Rattle.conjure_cli.proofs.program.modelling.Goals as goal

@@ -1,5 +1,5 @@
 use Rattle.std.proofs.Common.{◌≡◌, ◌+◌, drop}
-use Rattle.conjure_cli.specs.SmallGrammar.{is_digit}
+use Rattle.conjure_cli_laws.specs.SmallGrammar.{is_digit}
 use Rattle.conjure_cli.specs.Reading.{run_len}
 use Rattle.conjure_cli.proofs.reader.digits_len.Given as goal
 

@@ -1,5 +1,5 @@
 use Rattle.std.proofs.Common.{◌≡◌, length}
-use Rattle.conjure_cli.specs.SmallGrammar.{lines_of}
+use Rattle.conjure_cli_laws.specs.SmallGrammar.{lines_of}
 use Rattle.conjure_cli.specs.Reading.{read_lines}
 use Rattle.conjure_cli.specs.Lines.{statements}
 use Rattle.conjure_cli.proofs.LineLaws.{in_front}

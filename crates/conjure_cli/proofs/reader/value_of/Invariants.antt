@@ -1,5 +1,5 @@
 use Rattle.std.proofs.Common.{◌≡◌, drop}
-use Rattle.conjure_cli.specs.SmallGrammar.{value_from}
+use Rattle.conjure_cli_laws.specs.SmallGrammar.{value_from}
 use Rattle.conjure_cli.proofs.reader.value_of.Given as goal
 
 abbrev pub invariant-loop-digit : goal.invariant-loop-digit

@@ -1,5 +1,5 @@
 use Rattle.std.proofs.Common.{ap, ◌∙◌}
-use Rattle.conjure_cli.specs.ModelText.{header_find}
+use Rattle.conjure_cli_laws.specs.ModelText.{header_find}
 use Rattle.conjure_cli.proofs.WritingLaws.{next_find, next_other}
 use Rattle.conjure_cli.proofs.writer.put_header_finds.Goals as goal
 use Rattle.conjure_cli.proofs.writer.put_header_finds.Goals.{in-Find+in_ok-put_header_find-in-Find, in-SuchThat}

@@ -1,5 +1,5 @@
 use Rattle.std.proofs.Common.{ap, ◌∙◌}
-use Rattle.conjure_cli.specs.ModelText.{header_representation}
+use Rattle.conjure_cli_laws.specs.ModelText.{header_representation}
 use Rattle.conjure_cli.proofs.WritingLaws.{next_find, next_other}
 use Rattle.conjure_cli.proofs.writer.put_representations.Goals as goal
 use Rattle.conjure_cli.proofs.writer.put_representations.Goals.{in-Find+in_ok-put_representation-in-Find, in-SuchThat}

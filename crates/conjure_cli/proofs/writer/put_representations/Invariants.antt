@@ -1,5 +1,5 @@
 use Rattle.std.proofs.Common.{◌≡◌, ◌++◌, take}
-use Rattle.conjure_cli.specs.ModelText.{header_representation}
+use Rattle.conjure_cli_laws.specs.ModelText.{header_representation}
 use Rattle.conjure_cli.specs.Writing.{find_lines}
 use Rattle.conjure_cli.specs.Lines.{statements}
 use Rattle.conjure_cli.proofs.writer.put_representations.Given as goal
