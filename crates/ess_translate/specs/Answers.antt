@@ -13,7 +13,7 @@ use Rattle.ess_semantics.specs.LargeSpecifications.{parameter_is_large, solution
 use Rattle.ess_grammar.specs.Statements.{IsSpecification, IsLettingsFile}
 use Rattle.ess_translate_laws.specs.FileAssignments.{parameter_in, solution_in, judged, files_verdict}
 use Rattle.ess_types.specs.Refusals.{refusal}
-use Rattle.ess_types.specs.declared.typed.Typed.{Typed}
+use Rattle.ess_types.specs.declared.checking.Typed.{Typed}
 use Rattle.ess_core.specs.StatementViews.{pure_spec}
 use Rattle.ess_domains.specs.declared.verdicts.ParamVerdict.{ParamVerdict}
 use Rattle.ess_domains.specs.declared.verdicts.Verdict.{Verdict}
