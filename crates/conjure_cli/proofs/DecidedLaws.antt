@@ -34,7 +34,8 @@ use Rattle.conjure_cli.proofs.EndingLaws.{rose_later}
 -- ---- the same texts
 
 -- two readings of one file of a told tree are one
-one_text : (tree : Tree) (file held text : List ℕ) → start_of_file tree file (limit + 1) ≡ Some held → WasRead (Some tree) file text → text ≡ held
+one_text : (tree : Tree) (file held text : List ℕ) → start_of_file tree file (limit + 1) ≡ Some held → WasRead (Some tree) file text
+    → text ≡ held
 one_text tree file held text is was = some_one text held (sym was ∙ is)
   where
     some_one : (x y : List ℕ) → Some x ≡ Some y → x ≡ y
@@ -44,10 +45,12 @@ one_text tree file held text is was = some_one text held (sym was ∙ is)
 
 -- a file that is there, short and read without a fault stops nothing
 no_file_stops : (ending : Ending) (tree : Tree) (file held : List ℕ) (before after : FilesSeen) → before.tree ≡ Some tree
-    → start_of_file tree file (limit + 1) ≡ Some held → length held ≤ limit → (Rose before.faults after.faults → ⊥) → (ending ≡ Ending.NoMemory → ⊥)
+    → start_of_file tree file (limit + 1) ≡ Some held → length held ≤ limit → (Rose before.faults after.faults → ⊥)
+    → (ending ≡ Ending.NoMemory → ⊥)
     → FileStops ending file before after → ⊥
 no_file_stops Ending.Missing tree file held before after told is short quiet room h =
-    there (file_at tree file) refl (subst (λ t. IfSome t (λ files. (file_at files file ≡ None) × (Rose before.faults after.faults → ⊥))) told h.1)
+    there (file_at tree file) refl (subst (λ t. IfSome t (λ files. (file_at files file ≡ None) × (Rose before.faults after.faults
+    → ⊥))) told h.1)
   where
     there : (o : Option (List ℕ)) → file_at tree file ≡ o → (file_at tree file ≡ None) × (Rose before.faults after.faults → ⊥) → ⊥
     there o e k = let c : None ≡ Some held = sym (ap (option_map (λ bytes. take (limit + 1) bytes)) k.0) ∙ is in cc
@@ -64,11 +67,14 @@ no_file_stops Ending.Unwritable tree file held before after told is short quiet 
 no_file_stops Ending.OutputFailed tree file held before after told is short quiet room h = h
 
 -- nor does its text, where nothing is said against it
-no_stop : (outcome : Outcome) (tree : Tree) (file held : List ℕ) (before after : FilesSeen) (P : List ℕ → TransNo → Type 0) → before.tree ≡ Some tree
+no_stop : (outcome : Outcome) (tree : Tree) (file held : List ℕ) (before after : FilesSeen) (P : List ℕ → TransNo → Type 0)
+    → before.tree ≡ Some tree
     → start_of_file tree file (limit + 1) ≡ Some held → length held ≤ limit → (Rose before.faults after.faults → ⊥)
-    → (outcome ≡ Outcome.Plain Ending.NoMemory → ⊥) → ((why : TransNo) → IsTold why → P held why → ⊥) → StopsLater outcome file before after P → ⊥
+    → (outcome ≡ Outcome.Plain Ending.NoMemory → ⊥) → ((why : TransNo) → IsTold why → P held why → ⊥)
+    → StopsLater outcome file before after P → ⊥
 no_stop (Outcome.Plain ending) tree file held before after P told is short quiet room never h =
-    no_file_stops ending tree file held h.0 after (h.1.tree ∙ told) is short (λ rose. quiet (rose_later before.faults h.0.faults after.faults h.1.faults rose))
+    no_file_stops ending tree file held h.0 after (h.1.tree
+    ∙ told) is short (λ rose. quiet (rose_later before.faults h.0.faults after.faults h.1.faults rose))
     (λ e. room (ap Outcome.Plain e)) h.2
 no_stop (Outcome.Refused why) tree file held before after P told is short quiet room never h =
     let one : h.2.0 ≡ held = one_text tree file held h.2.0 is (subst (λ t. WasRead t file h.2.0) (h.1.tree ∙ told) h.2.1.was) in
@@ -126,7 +132,8 @@ one_essence tree file held S T is good h = let one : h.0 ≡ held = one_text tre
     good.spells.only T (subst (λ t. IsEssence t T) one h.2).spells.reads
 
 -- the parameter that was read
-one_param : (tree : Tree) (file held : List ℕ) (S F : List Stm) (p : Assignment) → start_of_file tree file (limit + 1) ≡ Some held → SpellsLettings held F
+one_param : (tree : Tree) (file held : List ℕ) (S F : List Stm) (p : Assignment) → start_of_file tree file (limit + 1) ≡ Some held
+    → SpellsLettings held F
     → ParamRead (Some tree) file S p → p ≡ parameter_in S F
 one_param tree file held S F p is spells h = let one : h.0 ≡ held = one_text tree file held h.0 is h.2.was in
     h.3.stands ∙ ap (parameter_in S) (spells.only h.1 (subst (λ t. IsParameter S t h.1 p) one h.3).spells.reads)
@@ -149,7 +156,8 @@ status_cut (false_constraint n) = refl
 status_cut no_objective = refl
 
 -- the verdict that was found
-one_verdict : (tree : Tree) (file held : List ℕ) (S G : List Stm) (p : Assignment) (v : Verdict) → start_of_file tree file (limit + 1) ≡ Some held
+one_verdict : (tree : Tree) (file held : List ℕ) (S G : List Stm) (p : Assignment) (v : Verdict)
+    → start_of_file tree file (limit + 1) ≡ Some held
     → SpellsLettings held G → SolutionRead (Some tree) file S p v → verdict_status v ≡ status_by (verdict S p (solution_in S p G))
 one_verdict tree file held S G p v is spells h =
     let one : h.0 ≡ held = one_text tree file held h.0 is h.1.was in
@@ -160,31 +168,39 @@ one_verdict tree file held S G p v is spells h =
 -- ---- the files decide
 
 module _ (tree : Tree) (e p s essence param sol : List ℕ) (S F G : List Stm)
-    (is_e : start_of_file tree e (limit + 1) ≡ Some essence) (is_p : start_of_file tree p (limit + 1) ≡ Some param) (is_s : start_of_file tree s (limit + 1) ≡ Some sol)
-    (short_e : length essence ≤ limit) (short_p : length param ≤ limit) (short_s : length sol ≤ limit) (good : AreGood essence param sol S F G) where
+    (is_e : start_of_file tree e (limit + 1) ≡ Some essence) (is_p : start_of_file tree p (limit + 1)
+    ≡ Some param) (is_s : start_of_file tree s (limit + 1) ≡ Some sol)
+    (short_e : length essence ≤ limit) (short_p : length param ≤ limit) (short_s : length sol ≤ limit)
+    (good : AreGood essence param sol S F G) where
   -- good files stop nothing
   good_stops : (outcome : Outcome) (at : Which) (before after : FilesSeen) → before.tree ≡ Some tree → (Rose before.faults after.faults → ⊥)
       → (outcome ≡ Outcome.Plain Ending.NoMemory → ⊥) → StopCause at outcome e p s before after → ⊥
   good_stops outcome Which.Essence before after told quiet room h =
-      no_stop outcome tree e essence before after IsNoEssence told is_e short_e quiet room (λ why t k. good_essence essence S why good.specification t k) h
+      no_stop outcome tree e essence before after IsNoEssence told is_e short_e quiet room
+      (λ why t k. good_essence essence S why good.specification t k) h
   good_stops outcome Which.Param before after told quiet room h =
       let one : h.0 ≡ S = one_essence tree e essence S h.0 is_e good.specification (subst (λ t. EssenceRead t e h.0) told h.1) in
       no_stop outcome tree p param before after (IsNoParameter S) told is_p short_p quiet room
-      (λ why t k. good_param param S F why good.parameter good.fits good.small_parameter t k) (subst (λ T. StopsLater outcome p before after (IsNoParameter T)) one h.2)
+      (λ why t k. good_param param S F why good.parameter good.fits good.small_parameter t k)
+      (subst (λ T. StopsLater outcome p before after (IsNoParameter T)) one h.2)
   good_stops outcome Which.Solution before after told quiet room h =
       let one : h.0 ≡ S = one_essence tree e essence S h.0 is_e good.specification (subst (λ t. EssenceRead t e h.0) told h.2) in
-      let given : ParamRead (Some tree) p S h.1 = subst (λ T. ParamRead (Some tree) p T h.1) one (subst (λ t. ParamRead t p h.0 h.1) told h.3) in
+      let given : ParamRead (Some tree) p S h.1 = subst (λ T. ParamRead (Some tree) p T h.1) one
+      (subst (λ t. ParamRead t p h.0 h.1) told h.3) in
       let its : h.1 ≡ parameter_in S F = one_param tree p param S F h.1 is_p good.parameter given in
       no_stop outcome tree s sol before after (IsNotJudged S (parameter_in S F)) told is_s short_s quiet room
       (λ why t k. good_solution sol S G (parameter_in S F) why good.solution good.small_solution t k)
-      (subst (λ a. StopsLater outcome s before after (IsNotJudged S a)) its (subst (λ T. StopsLater outcome s before after (IsNotJudged T h.1)) one h.4))
+      (subst (λ a. StopsLater outcome s before after (IsNotJudged S a)) its
+      (subst (λ T. StopsLater outcome s before after (IsNotJudged T h.1)) one h.4))
   good_stops outcome Which.Model before after told quiet room h = h
 
   -- the verdict found decides
-  good_found : (v : Verdict) → VerdictFound (Some tree) e p s v → verdict_status v ≡ status_by (verdict S (parameter_in S F) (solution_in S (parameter_in S F) G))
+  good_found : (v : Verdict) → VerdictFound (Some tree) e p s v
+      → verdict_status v ≡ status_by (verdict S (parameter_in S F) (solution_in S (parameter_in S F) G))
   good_found v h =
       let one : h.0 ≡ S = one_essence tree e essence S h.0 is_e good.specification h.2 in
-      let its : h.1 ≡ parameter_in S F = one_param tree p param S F h.1 is_p good.parameter (subst (λ T. ParamRead (Some tree) p T h.1) one h.3) in
+      let its : h.1 ≡ parameter_in S F = one_param tree p param S F h.1 is_p good.parameter
+      (subst (λ T. ParamRead (Some tree) p T h.1) one h.3) in
       one_verdict tree s sol S G (parameter_in S F) v is_s good.solution
       (subst (λ a. SolutionRead (Some tree) s S a v) its (subst (λ T. SolutionRead (Some tree) s T h.1 v) one h.4))
 
@@ -192,7 +208,8 @@ module _ (tree : Tree) (e p s essence param sol : List ℕ) (S F G : List Stm)
   good_decides : (outcome : Outcome) (status : ℕ) (at : Which) (before after : FilesSeen) (o o' : SinkSeen) → before.tree ≡ Some tree
       → NoFault before after o o' → status ≡ outcome_status outcome → JudgeCause outcome at e p s before after o o'
       → (status ≡ status_by (verdict S (parameter_in S F) (solution_in S (parameter_in S F) G))) ⊎ (status ≡ 6)
-  good_decides (Outcome.Judged v) status at before after o o' told quiet is h = inl (is ∙ good_found v (subst (λ t. VerdictFound t e p s v) told h))
+  good_decides (Outcome.Judged v) status at before after o o' told quiet is h = inl (is
+      ∙ good_found v (subst (λ t. VerdictFound t e p s v) told h))
   good_decides (Outcome.Plain Ending.NoMemory) status at before after o o' told quiet is h = inr is
   good_decides (Outcome.Plain Ending.OutputFailed) status at before after o o' told quiet is h = absurd (quiet.1 h)
   good_decides (Outcome.Plain Ending.Done) status at before after o o' told quiet is h =
@@ -213,7 +230,8 @@ module _ (tree : Tree) (e p s essence param sol : List ℕ) (S F G : List Stm)
       absurd (good_stops (Outcome.Refused why) at before after told quiet.0 (λ e. cc) h)
 
 -- the three files decide
-pub files_decide : (outcome : Outcome) (status : ℕ) (at : Which) (e p s : List ℕ) (before after : FilesSeen) (o o' : SinkSeen) → status ≡ outcome_status outcome
+pub files_decide : (outcome : Outcome) (status : ℕ) (at : Which) (e p s : List ℕ) (before after : FilesSeen) (o o' : SinkSeen)
+    → status ≡ outcome_status outcome
     → JudgeCause outcome at e p s before after o o' → FilesDecide status e p s before after o o'
 files_decide outcome status at e p s before after o o' is cause = told before.tree refl
   where
@@ -224,18 +242,21 @@ files_decide outcome status at e p s before after o o' is cause = told before.tr
     told (Some tree) seen = first (start_of_file tree e (limit + 1)) refl
       where
         third : (essence param : List ℕ) → start_of_file tree e (limit + 1) ≡ Some essence → start_of_file tree p (limit + 1) ≡ Some param
-            → (x : Option (List ℕ)) → start_of_file tree s (limit + 1) ≡ x → IfSome x (λ sol. NoFault before after o o' → IsJudgeDecided status essence param sol)
+            → (x : Option (List ℕ)) → start_of_file tree s (limit + 1) ≡ x
+            → IfSome x (λ sol. NoFault before after o o' → IsJudgeDecided status essence param sol)
         third essence param is_e is_p None is_s = tt
         third essence param is_e is_p (Some sol) is_s = λ quiet short_e short_p short_s S F G good.
             good_decides tree e p s essence param sol S F G is_e is_p is_s short_e short_p short_s good outcome status at before after o o' seen quiet is cause
 
         second : (essence : List ℕ) → start_of_file tree e (limit + 1) ≡ Some essence
             → (x : Option (List ℕ)) → start_of_file tree p (limit + 1) ≡ x
-            → IfSome x (λ param. IfSome (start_of_file tree s (limit + 1)) (λ sol. NoFault before after o o' → IsJudgeDecided status essence param sol))
+            → IfSome x (λ param. IfSome (start_of_file tree s (limit + 1)) (λ sol. NoFault before after o o'
+            → IsJudgeDecided status essence param sol))
         second essence is_e None is_p = tt
         second essence is_e (Some param) is_p = third essence param is_e is_p (start_of_file tree s (limit + 1)) refl
 
-        first : (x : Option (List ℕ)) → start_of_file tree e (limit + 1) ≡ x → IfSome x (λ essence. IfSome (start_of_file tree p (limit + 1)) (λ param.
+        first : (x : Option (List ℕ)) → start_of_file tree e (limit + 1) ≡ x
+            → IfSome x (λ essence. IfSome (start_of_file tree p (limit + 1)) (λ param.
             IfSome (start_of_file tree s (limit + 1)) (λ sol. NoFault before after o o' → IsJudgeDecided status essence param sol)))
         first None is_e = tt
         first (Some essence) is_e = second essence is_e (start_of_file tree p (limit + 1)) refl

@@ -20,7 +20,8 @@ use Rattle.conjure_cli.proofs.EndingLaws.{two_is_usage}
 -- ---- a file
 
 -- a refusal of a text stops the run
-pub refused_stops : (why : TransNo) (file text : List ℕ) (before after : FilesSeen) (P : List ℕ → TransNo → Type 0) → Took before.tree file text → P text why
+pub refused_stops : (why : TransNo) (file text : List ℕ) (before after : FilesSeen) (P : List ℕ → TransNo → Type 0)
+    → Took before.tree file text → P text why
     → StopsAt (refused why) file before after P
 refused_stops (TransNo.Read which e) file text before after P took h = (text, took, tt, h)
 refused_stops (TransNo.Typing e) file text before after P took h = (text, took, tt, h)
@@ -45,19 +46,22 @@ pub stop_essence : (outcome : Outcome) (e p s : List ℕ) (before after : FilesS
 stop_essence outcome e p s before after h = (before, later_itself before, h)
 
 -- at the second
-pub stop_param : (outcome : Outcome) (e p s : List ℕ) (S : List Stm) (before middle after : FilesSeen) → EssenceRead before.tree e S → IsLater before middle
+pub stop_param : (outcome : Outcome) (e p s : List ℕ) (S : List Stm) (before middle after : FilesSeen) → EssenceRead before.tree e S
+    → IsLater before middle
     → StopsAt outcome p middle after (IsNoParameter S) → StopCause Which.Param outcome e p s before after
 stop_param outcome e p s S before middle after read later h = (S, read, (middle, later, h))
 
 -- at the third
-pub stop_solution : (outcome : Outcome) (e p s : List ℕ) (S : List Stm) (a : Assignment) (before one two after : FilesSeen) → EssenceRead before.tree e S
+pub stop_solution : (outcome : Outcome) (e p s : List ℕ) (S : List Stm) (a : Assignment) (before one two after : FilesSeen)
+    → EssenceRead before.tree e S
     → IsLater before one → ParamRead one.tree p S a → IsLater one two → StopsAt outcome s two after (IsNotJudged S a)
     → StopCause Which.Solution outcome e p s before after
 stop_solution outcome e p s S a before one two after read later given more h =
     (S, a, read, subst (λ t. ParamRead t p S a) later.tree given, (two, later_later before one two later more, h))
 
 -- all are read
-pub found_verdict : (e p s : List ℕ) (S : List Stm) (a : Assignment) (v : Verdict) (before one two : FilesSeen) → EssenceRead before.tree e S
+pub found_verdict : (e p s : List ℕ) (S : List Stm) (a : Assignment) (v : Verdict) (before one two : FilesSeen)
+    → EssenceRead before.tree e S
     → IsLater before one → ParamRead one.tree p S a → IsLater one two → SolutionRead two.tree s S a v → VerdictFound before.tree e p s v
 found_verdict e p s S a v before one two read later given more solved =
     (S, a, read, subst (λ t. ParamRead t p S a) later.tree given, subst (λ t. SolutionRead t s S a v) (more.tree ∙ later.tree) solved)
@@ -66,16 +70,19 @@ found_verdict e p s S a v before one two read later given more solved =
 
 -- an outcome that stops no file is the cause at none
 stops_nowhere : (outcome : Outcome) (at : Which) (e p s : List ℕ) (before after : FilesSeen)
-    → ((file : List ℕ) (b a : FilesSeen) (P : List ℕ → TransNo → Type 0) → StopsAt outcome file b a P → ⊥) → StopCause at outcome e p s before after → ⊥
+    → ((file : List ℕ) (b a : FilesSeen) (P : List ℕ → TransNo → Type 0) → StopsAt outcome file b a P → ⊥)
+    → StopCause at outcome e p s before after → ⊥
 stops_nowhere outcome Which.Essence e p s before after never h = never e h.0 after IsNoEssence h.2
 stops_nowhere outcome Which.Param e p s before after never h = never p h.2.0 after (IsNoParameter h.0) h.2.2
 stops_nowhere outcome Which.Solution e p s before after never h = never s h.4.0 after (IsNotJudged h.0 h.1) h.4.2
 stops_nowhere outcome Which.Model e p s before after never h = h
 
 -- where a run stops, this is its cause
-stop_cause : (outcome : Outcome) (at : Which) (e p s : List ℕ) (before after : FilesSeen) (o o' : SinkSeen) → StopCause at outcome e p s before after
+stop_cause : (outcome : Outcome) (at : Which) (e p s : List ℕ) (before after : FilesSeen) (o o' : SinkSeen)
+    → StopCause at outcome e p s before after
     → JudgeCause outcome at e p s before after o o'
-stop_cause (Outcome.Judged v) at e p s before after o o' h = absurd (stops_nowhere (Outcome.Judged v) at e p s before after (λ file b a P n. n) h)
+stop_cause (Outcome.Judged v) at e p s before after o o' h = absurd
+    (stops_nowhere (Outcome.Judged v) at e p s before after (λ file b a P n. n) h)
 stop_cause (Outcome.Refused why) at e p s before after o o' h = h
 stop_cause (Outcome.Plain Ending.OutputFailed) at e p s before after o o' h =
     absurd (stops_nowhere (Outcome.Plain Ending.OutputFailed) at e p s before after (λ file b a P n. n) h)
@@ -89,9 +96,11 @@ stop_cause (Outcome.Plain Ending.NotYet) at e p s before after o o' h = h
 stop_cause (Outcome.Plain Ending.Unwritable) at e p s before after o o' h = h
 
 -- and nothing is told on `out`
-stop_out : (outcome : Outcome) (at : Which) (e p s : List ℕ) (before after : FilesSeen) (o : SinkSeen) → StopCause at outcome e p s before after
+stop_out : (outcome : Outcome) (at : Which) (e p s : List ℕ) (before after : FilesSeen) (o : SinkSeen)
+    → StopCause at outcome e p s before after
     → JudgeOut outcome before.tree e p s o o
-stop_out (Outcome.Judged v) at e p s before after o h = absurd (stops_nowhere (Outcome.Judged v) at e p s before after (λ file b a P n. n) h)
+stop_out (Outcome.Judged v) at e p s before after o h = absurd
+    (stops_nowhere (Outcome.Judged v) at e p s before after (λ file b a P n. n) h)
 stop_out (Outcome.Refused why) at e p s before after o h = refl
 stop_out (Outcome.Plain Ending.OutputFailed) at e p s before after o h =
     absurd (stops_nowhere (Outcome.Plain Ending.OutputFailed) at e p s before after (λ file b a P n. n) h)
@@ -128,8 +137,10 @@ ends_stopped outcome told at e p s before after o eb ea cause same h = elim h [
 ]
 
 -- a run that comes to a verdict
-pub ends_judged : (v : Verdict) (told : Outcome) (e p s : List ℕ) (before after : FilesSeen) (o o' eb ea : SinkSeen) → VerdictFound before.tree e p s v
-    → after.tree ≡ before.tree → VerdictTold v told o o' eb ea → Ends told (outcome_status told) (Some (judge e p s)) true before after o o' eb ea
+pub ends_judged : (v : Verdict) (told : Outcome) (e p s : List ℕ) (before after : FilesSeen) (o o' eb ea : SinkSeen)
+    → VerdictFound before.tree e p s v
+    → after.tree ≡ before.tree → VerdictTold v told o o' eb ea
+    → Ends told (outcome_status told) (Some (judge e p s)) true before after o o' eb ea
 ends_judged v (Outcome.Judged w) e p s before after o o' eb ea found same h =
     subst (λ u. Ends (Outcome.Judged u) (verdict_status u) (Some (judge e p s)) true before after o o' eb ea) (sym h.0)
     (record { at = Which.Solution; status_is = refl; cause = found; files = same; out = h.1; err = h.2 })
@@ -173,7 +184,8 @@ refusal_not_two TransNo.Big is = omega (arith, is)
 refusal_not_two TransNo.NoMemory is = omega (arith, is)
 
 -- a run that judges a solution never says that the words don't fit
-pub never_two : (outcome : Outcome) (at : Which) (e p s : List ℕ) (before after : FilesSeen) (o o' : SinkSeen) → JudgeCause outcome at e p s before after o o'
+pub never_two : (outcome : Outcome) (at : Which) (e p s : List ℕ) (before after : FilesSeen) (o o' : SinkSeen)
+    → JudgeCause outcome at e p s before after o o'
     → outcome_status outcome ≡ 2 → ⊥
 never_two (Outcome.Judged v) at e p s before after o o' cause two = verdict_not_two v two
 never_two (Outcome.Refused why) at e p s before after o o' cause two = refusal_not_two why two

@@ -15,7 +15,8 @@ use Rattle.conjure_cli.proofs.DecidedLaws.{files_decide}
 
 -- ---- how a run ends
 
-pub ends_over : (ending : Ending) (task : Option Task) (takes : Bool) (file place : List ℕ) (before after : FilesSeen) (out out' err err' : SinkSeen)
+pub ends_over : (ending : Ending) (task : Option Task) (takes : Bool) (file place : List ℕ) (before after : FilesSeen)
+    (out out' err err' : SinkSeen)
     → task ≡ Some (refine file place) → Ran ending file place before after out out' → LeavesErr ending file place err err'
     → Ends (Outcome.Plain ending) (status_of ending) task takes before after out out' err err'
 ends_over ending task takes file place before after out out' err err' is ran left =
@@ -51,7 +52,8 @@ pub ends_named : (ending : Ending) (words : List (List ℕ)) (file : List ℕ) (
     → file_named words ≡ Some file → Ran ending file model_file before after out out' → LeavesErr ending file model_file err err'
     → Ends (Outcome.Plain ending) (status_of ending) (asked words) (takes_memory words) before after out out' err err'
 ends_named ending words file before after out out' err err' is ran left =
-    ends_over ending (asked words) (takes_memory words) file model_file before after out out' err err' (named_is_asked words file is) ran left
+    ends_over ending (asked words) (takes_memory words) file model_file before after out out' err err'
+    (named_is_asked words file is) ran left
 
 -- ---- what follows from an ending
 
@@ -162,4 +164,5 @@ refused_keeps outcome status (Some (refine file place)) takes before after o o' 
 pub ends_with : (outcome : Outcome) (status : ℕ) (task : Option Task) (takes : Bool) (before after : FilesSeen) (o o' e e' : SinkSeen)
     → Ends outcome (outcome_status outcome) task takes before after o o' e e' → status ≡ outcome_status outcome
     → Ends outcome status task takes before after o o' e e'
-ends_with outcome status task takes before after o o' e e' ends is = subst (λ s. Ends outcome s task takes before after o o' e e') (sym is) ends
+ends_with outcome status task takes before after o o' e e' ends is = subst (λ s. Ends outcome s task takes before after o o' e e')
+    (sym is) ends

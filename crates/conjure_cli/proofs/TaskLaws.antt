@@ -34,7 +34,8 @@ named_is_asked [] file is = let h : None ≡ Some file = is in cc
 named_is_asked (command ∷ []) file is = let h : None ≡ Some file = is in cc
 named_is_asked (command ∷ name ∷ []) file is = cases (bytes_eq command (codes "modelling")) (begins_with_dash name) refl refl is
   where
-    cases : (b c : Bool) → bytes_eq command (codes "modelling") ≡ b → begins_with_dash name ≡ c → (if b && not c then Some name else None) ≡ Some file
+    cases : (b c : Bool) → bytes_eq command (codes "modelling") ≡ b → begins_with_dash name ≡ c
+        → (if b && not c then Some name else None) ≡ Some file
         → asked (command ∷ name ∷ []) ≡ Some (refine file model_file)
     cases false c at dash is = let h : None ≡ Some file = is in cc
     cases true true at dash is = let h : None ≡ Some file = is in cc
@@ -58,7 +59,8 @@ reads_over task takes file place status before after is once = subst (λ t. Read
     cases false = once
     cases true = inl once
 
-pub reads_later : (task : Option Task) (name : List ℕ) (status before : ℕ) → task ≡ Some (later name) → ReadsAfter task true status before before
+pub reads_later : (task : Option Task) (name : List ℕ) (status before : ℕ) → task ≡ Some (later name)
+    → ReadsAfter task true status before before
 reads_later task name status before is = subst (λ t. ReadsAfter t true status before before) (sym is) refl
 
 pub reads_usage : (task : Option Task) (status before : ℕ) → task ≡ None → ReadsAfter task true status before before
@@ -83,5 +85,6 @@ reads_one before one is = (1, omega arith, is)
 pub reads_two : (before one two : ℕ) → one ≡ raised before → two ≡ raised one → (k : ℕ) × (k ≤ 3) × (two ≡ reads_more k before)
 reads_two before one two is more = (2, omega arith, more ∙ ap raised is)
 
-pub reads_three : (before one two three : ℕ) → one ≡ raised before → two ≡ raised one → three ≡ raised two → (k : ℕ) × (k ≤ 3) × (three ≡ reads_more k before)
+pub reads_three : (before one two three : ℕ) → one ≡ raised before → two ≡ raised one → three ≡ raised two
+    → (k : ℕ) × (k ≤ 3) × (three ≡ reads_more k before)
 reads_three before one two three is more last = (3, omega arith, last ∙ ap raised (more ∙ ap raised is))

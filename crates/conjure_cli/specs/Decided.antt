@@ -36,4 +36,5 @@ IsJudgeDecided status essence param sol =
 abbrev pub FilesDecide : ℕ → List ℕ → List ℕ → List ℕ → FilesSeen → FilesSeen → SinkSeen → SinkSeen → Type 0
 FilesDecide status e p s before after out_before out_after = IfSome before.tree (λ tree.
     IfSome (start_of_file tree e (limit + 1)) (λ essence. IfSome (start_of_file tree p (limit + 1)) (λ param.
-    IfSome (start_of_file tree s (limit + 1)) (λ sol. NoFault before after out_before out_after → IsJudgeDecided status essence param sol))))
+    IfSome (start_of_file tree s (limit + 1)) (λ sol. NoFault before after out_before out_after
+    → IsJudgeDecided status essence param sol))))

@@ -114,4 +114,5 @@ VerdictTold v _ out_before out_after err_before err_after = ⊥
 -- What was told of an outcome, and how the run ends behind it.
 abbrev pub StopTold : Outcome → Outcome → List ℕ → SinkSeen → SinkSeen → Type 0
 StopTold outcome told file before after =
-    ((told ≡ outcome) × JudgeErr outcome file before after) ⊎ ((told ≡ Outcome.Plain Ending.NoMemory) × LeavesErr Ending.NoMemory [] [] before after)
+    ((told ≡ outcome) × JudgeErr outcome file before after) ⊎ ((told
+    ≡ Outcome.Plain Ending.NoMemory) × LeavesErr Ending.NoMemory [] [] before after)

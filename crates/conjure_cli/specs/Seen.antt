@@ -49,4 +49,5 @@ pub record IsLater (before after : FilesSeen) : Type 0 where
 
 -- a line was appended to a sink, or a prefix of it where a fault came
 abbrev pub LeavesLine : List ℕ → SinkSeen → SinkSeen → Type 0
-LeavesLine line before after = (after.bytes ≡ grown before.bytes line) ⊎ (Rose before.faults after.faults × GrewByPrefix before.bytes after.bytes line)
+LeavesLine line before after = (after.bytes
+    ≡ grown before.bytes line) ⊎ (Rose before.faults after.faults × GrewByPrefix before.bytes after.bytes line)

@@ -133,7 +133,8 @@ fn refine_into<F: Files, O: Sink, E: Sink>(
         (files_at (F.tree files.new) (F.faults files.new) (F.misses files.new))
         (sink_at (O.bytes out.old) (O.faults out.old)) (sink_at (O.bytes out.new) (O.faults out.new))
         (sink_at (E.bytes err.old) (E.faults err.old)) (sink_at (E.bytes err.new) (E.faults err.new)) }
-    ensures reads { ReadsAfter (Some (refine file.now (model_in folder.now))) true (outcome_status result) (F.reads files.old) (F.reads files.new) }
+    ensures reads { ReadsAfter (Some (refine file.now (model_in folder.now))) true (outcome_status result) (F.reads files.old)
+        (F.reads files.new) }
 {
     match model_in(alloc, folder) {
         Ok(place) => {
@@ -258,7 +259,8 @@ pub fn run<F: Files, O: Sink, E: Sink>(
     err: &mut E,
 ) -> Status
     // Each ending has its status, its cause and its text, and leaves what it may.
-    ensures ended { (outcome : Outcome) × Ends outcome result.0 (asked (map string_bytes words.now)) (takes_memory (map string_bytes words.now))
+    ensures ended { (outcome : Outcome) × Ends outcome result.0 (asked (map string_bytes words.now))
+        (takes_memory (map string_bytes words.now))
         (files_at (F.tree files.old) (F.faults files.old) (F.misses files.old))
         (files_at (F.tree files.new) (F.faults files.new) (F.misses files.new))
         (sink_at (O.bytes out.old) (O.faults out.old)) (sink_at (O.bytes out.new) (O.faults out.new))

@@ -19,12 +19,14 @@ pub(crate) fn judged<F: Files, O: Sink, E: Sink>(
     out: &mut O,
     err: &mut E,
 ) -> Outcome
-    ensures ended { Ends result (outcome_status result) (Some (judge names.entry.essence.now names.entry.param.now names.entry.solution.now)) true
+    ensures ended { Ends result (outcome_status result)
+        (Some (judge names.entry.essence.now names.entry.param.now names.entry.solution.now)) true
         (files_at (F.tree files.old) (F.faults files.old) (F.misses files.old))
         (files_at (F.tree files.new) (F.faults files.new) (F.misses files.new))
         (sink_at (O.bytes out.old) (O.faults out.old)) (sink_at (O.bytes out.new) (O.faults out.new))
         (sink_at (E.bytes err.old) (E.faults err.old)) (sink_at (E.bytes err.new) (E.faults err.new)) }
-    ensures reads { ReadsAfter (Some (judge names.entry.essence.now names.entry.param.now names.entry.solution.now)) true (outcome_status result)
+    ensures reads { ReadsAfter (Some (judge names.entry.essence.now names.entry.param.now names.entry.solution.now)) true
+        (outcome_status result)
         (F.reads files.old) (F.reads files.new) }
 {
     match verdict_on(alloc, names, files) {

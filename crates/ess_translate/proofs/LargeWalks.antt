@@ -88,7 +88,8 @@ own-value : (x : Text) (v : Option Value) → and_then (look ((x, v) ∷ []) x) 
 own-value x v = ap (λ o. and_then o (λ o. o)) (look-first x v [])
 
 -- The env behind a statement is the one that the whole assignment makes.
-step-env : (f : Side) (F : List Stm) (p : Assignment) (us ws : Names (Option Value)) (s : Stm) (env : Env) → IsNew (keys us) (names_here f s)
+step-env : (f : Side) (F : List Stm) (p : Assignment) (us ws : Names (Option Value)) (s : Stm) (env : Env)
+    → IsNew (keys us) (names_here f s)
     → let a : Assignment = assignment_from F (us ++ (values_here f F s env ++ ws)) in
     env_behind_stm f F p s env ≡ env_after s (param_of f a p) (sol_of f a) env
 step-env givens_side F p us ws (given x d) env h =
@@ -127,7 +128,8 @@ keys-here f F s env = go (valued_name f s)
     go (b ∷ bs) = ap (λ ns. b.0 ∷ ns) (go bs)
 
 -- Lists with the same names have the same names of a list.
-among-each : (xs ys : List Text) → ((x : Text) → is_among xs x ≡ is_among ys x) → (ms : List Text) → list_any (is_among xs) ms ≡ list_any (is_among ys) ms
+among-each : (xs ys : List Text) → ((x : Text) → is_among xs x ≡ is_among ys x) → (ms : List Text)
+    → list_any (is_among xs) ms ≡ list_any (is_among ys) ms
 among-each xs ys h [] = refl
 among-each xs ys h (m ∷ ms) = ap (λ b. b || list_any (is_among xs) ms) (h m) ∙ ap (λ b. is_among ys m || b) (among-each xs ys h ms)
 
@@ -157,7 +159,8 @@ abbrev pub is_large_place : Placed → Bool
 is_large_place l = declares_large_number l.stm l.env
 
 -- The walk finds a number outside 64 bits where a statement in its place declares one.
-pub walk-places : (f : Side) (F : List Stm) (p a : Assignment) (us : Names (Option Value)) (ss : List Stm) (env : Env) (k : ℕ) (done : List Text)
+pub walk-places : (f : Side) (F : List Stm) (p a : Assignment) (us : Names (Option Value)) (ss : List Stm) (env : Env) (k : ℕ)
+    (done : List Text)
     → ((x : Text) → is_among (keys us) x ≡ is_among done x) → are_fresh done (map (names_here f) ss) ≡ true
     → a ≡ assignment_from F (us ++ values_from f F p ss env)
     → declare_large_number f F p ss env ≡ list_any is_large_place (placed_from k ss (param_of f a p) (sol_of f a) env)
@@ -166,15 +169,19 @@ walk-places f F p a us (s ∷ ss) env k done h fresh e =
     let vs : Names (Option Value) = values_here f F s env in
     let behind : Env = env_behind_stm f F p s env in
     let ws : Names (Option Value) = values_from f F p ss behind in
-    let new : IsNew done (names_here f s) = and-left (not (list_any (is_among done) (names_here f s))) (are_fresh (names_here f s ++ done) (map (names_here f) ss)) fresh in
+    let new : IsNew done (names_here f s) = and-left (not (list_any (is_among done) (names_here f s)))
+    (are_fresh (names_here f s ++ done) (map (names_here f) ss)) fresh in
     let here : IsNew (keys us) (names_here f s) = ap not (among-each (keys us) done h (names_here f s)) ∙ new in
     let step : behind ≡ env_after s (param_of f a p) (sol_of f a) env =
     step-env f F p us ws s env here ∙ ap (λ b. env_after s (param_of f b p) (sol_of f b) env) (sym e) in
-    let rest : declare_large_number f F p ss behind ≡ list_any is_large_place (placed_from (suc k) ss (param_of f a p) (sol_of f a) behind) =
-    walk-places f F p a (us ++ vs) ss behind (suc k) (names_here f s ++ done) (passed-next us vs done (names_here f s) h (keys-here f F s env))
+    let rest : declare_large_number f F p ss behind
+    ≡ list_any is_large_place (placed_from (suc k) ss (param_of f a p) (sol_of f a) behind) =
+    walk-places f F p a (us ++ vs) ss behind (suc k) (names_here f s ++ done)
+    (passed-next us vs done (names_here f s) h (keys-here f F s env))
     (and-right (not (list_any (is_among done) (names_here f s))) (are_fresh (names_here f s ++ done) (map (names_here f) ss)) fresh)
     (e ∙ ap (assignment_from F) (sym (append_assoc us vs ws))) in
-    ap (λ b. declares_large_number s env || b) (rest ∙ ap (λ v. list_any is_large_place (placed_from (suc k) ss (param_of f a p) (sol_of f a) v)) step)
+    ap (λ b. declares_large_number s env || b) (rest
+    ∙ ap (λ v. list_any is_large_place (placed_from (suc k) ss (param_of f a p) (sol_of f a) v)) step)
 
 -- ---- specifications
 
@@ -182,7 +189,8 @@ walk-places f F p a us (s ∷ ss) env k done h fresh e =
 pub large_parameter : (S F : List Stm) → fault S ≡ None → declare_large_number givens_side F nothing_given (prepared S) empty_env ≡ true
     → parameter_is_large S (parameter_in S F) ≡ true
 large_parameter S F typed h =
-    sym (walk-places givens_side F nothing_given (parameter_in S F) [] (prepared S) empty_env 1 [] (λ x. refl) (fresh-prepared givens_side S typed) refl) ∙ h
+    sym (walk-places givens_side F nothing_given (parameter_in S F) [] (prepared S) empty_env 1 [] (λ x. refl)
+    (fresh-prepared givens_side S typed) refl) ∙ h
 
 -- What holds of one test in each place holds of either.
 either-place : (f g : Placed → Bool) (ls : List Placed) → list_any f ls ≡ true → list_any (λ l. f l || g l) ls ≡ true
@@ -199,4 +207,5 @@ pub large_solution : (S F : List Stm) (p : Assignment) → fault S ≡ None → 
     → solution_is_large S p (solution_in S p F) ≡ true
 large_solution S F p typed h =
     either-place is_large_place (λ l. asks_large_number l.stm l.env) (placed S p (solution_in S p F))
-    (sym (walk-places finds_side F p (solution_in S p F) [] (prepared S) empty_env 1 [] (λ x. refl) (fresh-prepared finds_side S typed) refl) ∙ h)
+    (sym (walk-places finds_side F p (solution_in S p F) [] (prepared S) empty_env 1 [] (λ x. refl)
+    (fresh-prepared finds_side S typed) refl) ∙ h)

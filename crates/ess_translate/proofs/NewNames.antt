@@ -27,7 +27,8 @@ are_fresh done (ns ∷ nss) = not (list_any (is_among done) ns) && are_fresh (ns
 -- ---- the names stay where lettings are put in
 
 -- Lettings put in, and resolving, leave a statement's names.
-pub names_here-prepared : (f : Side) (s : Stm) (l : Lettings) (g h : Names Ty) → names_here f (resolve_stm (put_stm s l g) h) ≡ names_here f s
+pub names_here-prepared : (f : Side) (s : Stm) (l : Lettings) (g h : Names Ty)
+    → names_here f (resolve_stm (put_stm s l g) h) ≡ names_here f s
 names_here-prepared givens_side (given x d) l g h = refl
 names_here-prepared givens_side (given_enum t) l g h = refl
 names_here-prepared givens_side (let_ex x e) l g h = refl
@@ -52,7 +53,8 @@ names_here-prepared finds_side (minimise e) l g h = refl
 names_here-prepared finds_side (maximise e) l g h = refl
 
 -- So they leave those of all statements.
-pub names-prepared : (f : Side) (ss : List Stm) (l : Lettings) (g h : Names Ty) → map (names_here f) (resolve_all (put_all ss l g) h) ≡ map (names_here f) ss
+pub names-prepared : (f : Side) (ss : List Stm) (l : Lettings) (g h : Names Ty)
+    → map (names_here f) (resolve_all (put_all ss l g) h) ≡ map (names_here f) ss
 names-prepared f [] l g h = refl
 names-prepared f (s ∷ ss) l g h =
     ap (λ ns. ns ∷ map (names_here f) (resolve_all (put_all ss (lettings_after (put_stm s l g) l) (types_after (put_stm s l g) g)) (types_after (put_stm s l g) h))) (names_here-prepared f s l g h)
@@ -70,7 +72,8 @@ pub is_among-before : (ns ms : List Text) (x : Text) → is_among ns x ≡ true 
 is_among-before ns ms x h = list_any-append (λ n. same_text n x) ns ms ∙ ap (λ b. b || is_among ms x) h
 
 -- The names of a type's values.
-enum_keys : (ns : List Text) (t : Ty) (g : Names Ty) (x : Text) → is_among (keys g) x ≡ true → is_among (keys (map (λ n. (n, t)) ns ++ g)) x ≡ true
+enum_keys : (ns : List Text) (t : Ty) (g : Names Ty) (x : Text) → is_among (keys g) x ≡ true
+    → is_among (keys (map (λ n. (n, t)) ns ++ g)) x ≡ true
 enum_keys [] t g x h = h
 enum_keys (n ∷ ns) t g x h = ap (λ b. same_text n x || b) (enum_keys ns t g x h) ∙ or-yes (same_text n x)
 
@@ -98,12 +101,15 @@ unless false o a h = cc
 -- A statement that fails no judgement declares new names alone.
 pub met-new : (w t : Stm) (s : Scope) → first_failed judgements w t s ≡ None → names_are_new w s ≡ true
 met-new w t s h =
-    let rest : _ = unless (names_are_known t s) (first_failed (double_name ∷ ill_typed ∷ not_finite ∷ not_enumerable ∷ open_given ∷ []) w t s) unknown_name h in
+    let rest : _ = unless (names_are_known t s)
+    (first_failed (double_name ∷ ill_typed ∷ not_finite ∷ not_enumerable ∷ open_given ∷ []) w t s) unknown_name h in
     (unless (names_are_new w s) (first_failed (ill_typed ∷ not_finite ∷ not_enumerable ∷ open_given ∷ []) w t s) double_name rest.1).0
 
 -- None of its names is in scope.
 pub new-out_of_scope : (w : Stm) (s : Scope) → names_are_new w s ≡ true → list_any (is_among (names_in_scope s)) (declares w) ≡ false
-new-out_of_scope w s h = not-true (list_any (is_among (names_in_scope s)) (declares w)) (part (all_distinct (declares w)) (not (list_any (is_among (names_in_scope s)) (declares w))) (no_value_name w s) (not (is_objective w && s.objective)) _ h)
+new-out_of_scope w s h = not-true (list_any (is_among (names_in_scope s)) (declares w))
+    (part (all_distinct (declares w)) (not (list_any (is_among (names_in_scope s)) (declares w))) (no_value_name w s)
+    (not (is_objective w && s.objective)) _ h)
   where
     part : (a b c d e : Bool) → a && b && c && d && e ≡ true → b ≡ true
     part true true c d e h = refl
@@ -117,7 +123,8 @@ abbrev pub Passed : List Text → Names Ty → Type 0
 Passed done g = (x : Text) → is_among done x ≡ true → is_among (keys g) x ≡ true
 
 -- A name that isn't in scope isn't among those passed.
-not_passed : (done : List Text) (s : Scope) (x : Text) → Passed done s.tys → is_among (names_in_scope s) x || false ≡ false → is_among done x || false ≡ false
+not_passed : (done : List Text) (s : Scope) (x : Text) → Passed done s.tys → is_among (names_in_scope s) x || false ≡ false
+    → is_among done x || false ≡ false
 not_passed done s x p h = go (is_among done x) refl
   where
     go : (b : Bool) → is_among done x ≡ b → b || false ≡ false
@@ -163,7 +170,8 @@ names-view finds_side (minimise e) = inl refl
 names-view finds_side (maximise e) = inl refl
 
 -- A statement's names aren't among those passed, where what it declares is out of scope.
-fresh-here : (f : Side) (w : Stm) (s : Scope) (done : List Text) → Passed done s.tys → list_any (is_among (names_in_scope s)) (declares w) ≡ false
+fresh-here : (f : Side) (w : Stm) (s : Scope) (done : List Text) → Passed done s.tys
+    → list_any (is_among (names_in_scope s)) (declares w) ≡ false
     → not (list_any (is_among done) (names_here f w)) ≡ true
 fresh-here f w s done p h = go (names-view f w)
   where
@@ -174,7 +182,8 @@ fresh-here f w s done p h = go (names-view f w)
         ∙ ap not (not_passed done s n.0 p (sym (ap (λ ns. list_any (is_among (names_in_scope s)) ns) n.2) ∙ h))
 
 -- Behind the statement the names passed have types.
-passed-on : (f : Side) (w : Stm) (s : Scope) (done : List Text) → Passed done s.tys → Passed (names_here f w ++ done) (types_after (put_in_scope w s) s.tys)
+passed-on : (f : Side) (w : Stm) (s : Scope) (done : List Text) → Passed done s.tys
+    → Passed (names_here f w ++ done) (types_after (put_in_scope w s) s.tys)
 passed-on f w s done p y h = go (names-view f w)
   where
     either : (a b c : Bool) → (b ≡ true → c ≡ true) → a || b ≡ true → a || c ≡ true
@@ -188,7 +197,8 @@ passed-on f w s done p y h = go (names-view f w)
         ∙ either (same_text n.0 y) (is_among done y) (is_among (keys s.tys) y) (p y) (sym (ap (λ ns. is_among (ns ++ done) y) n.1) ∙ h)
 
 -- No fault of a statement and of those behind it.
-faultless : (o : Option Judgement) (k : ℕ) (r : Option (Judgement × ℕ)) → ◌≡◌ {A = Option (Judgement × ℕ)} (elim o [ Some j ↦ Some (j, k) | None ↦ r ]) None → (o ≡ None) × (r ≡ None)
+faultless : (o : Option Judgement) (k : ℕ) (r : Option (Judgement × ℕ))
+    → ◌≡◌ {A = Option (Judgement × ℕ)} (elim o [ Some j ↦ Some (j, k) | None ↦ r ]) None → (o ≡ None) × (r ≡ None)
 faultless None k r h = (refl, h)
 faultless (Some j) k r h = cc
 

@@ -46,7 +46,8 @@ tokens-unrefused (bad_byte p) ts h = let k : None ≡ Some ts = h in cc
 tokens-unrefused (wide_number p) ts h = let k : None ≡ Some ts = h in cc
 tokens-unrefused (next_token t bytes p more) ts h = go (tokens_in more) refl h (tokens-unrefused more)
   where
-    go : (o : Option (List Token)) → tokens_in more ≡ o → option_map (λ us. t ∷ us) o ≡ Some ts → ((us : List Token) → tokens_in more ≡ Some us → refusal more ≡ None)
+    go : (o : Option (List Token)) → tokens_in more ≡ o → option_map (λ us. t ∷ us) o ≡ Some ts
+        → ((us : List Token) → tokens_in more ≡ Some us → refusal more ≡ None)
         → refusal more ≡ None
     go None e h rest = let k : None ≡ Some ts = h in cc
     go (Some us) e h rest = rest us e
@@ -58,10 +59,15 @@ unrefused Derives text a s =
     (tokens-unrefused (lexed text) s.reads.0 s.reads.1) s.limits.0 s.limits.1
 
 -- A text that spells a tree isn't refused.
-pub spelled-unrefused : {A : Type 0} (Derives : A → List Token → Type 0) (text : Text) (a : A) (why : ReadNo) → Spells Derives text a → IsRefusedFor Derives text why → ⊥
+pub spelled-unrefused : {A : Type 0} (Derives : A → List Token → Type 0) (text : Text) (a : A) (why : ReadNo) → Spells Derives text a
+    → IsRefusedFor Derives text why → ⊥
 spelled-unrefused Derives text a (ReadNo.Syntax p) s r = r.unread a s.reads
 spelled-unrefused Derives text a ReadNo.NoMemory s r = r.reason
-spelled-unrefused Derives text a (ReadNo.BadByte p) s r = let h : Some (ReadNo.BadByte p) ≡ None = sym r.first ∙ unrefused Derives text a s in cc
-spelled-unrefused Derives text a (ReadNo.WideNumber p) s r = let h : Some (ReadNo.WideNumber p) ≡ None = sym r.first ∙ unrefused Derives text a s in cc
-spelled-unrefused Derives text a (ReadNo.Unsupported p) s r = let h : Some (ReadNo.Unsupported p) ≡ None = sym r.first ∙ unrefused Derives text a s in cc
-spelled-unrefused Derives text a (ReadNo.TooDeep p) s r = let h : Some (ReadNo.TooDeep p) ≡ None = sym r.first ∙ unrefused Derives text a s in cc
+spelled-unrefused Derives text a (ReadNo.BadByte p) s r = let h : Some (ReadNo.BadByte p) ≡ None = sym r.first
+    ∙ unrefused Derives text a s in cc
+spelled-unrefused Derives text a (ReadNo.WideNumber p) s r = let h : Some (ReadNo.WideNumber p) ≡ None = sym r.first
+    ∙ unrefused Derives text a s in cc
+spelled-unrefused Derives text a (ReadNo.Unsupported p) s r = let h : Some (ReadNo.Unsupported p) ≡ None = sym r.first
+    ∙ unrefused Derives text a s in cc
+spelled-unrefused Derives text a (ReadNo.TooDeep p) s r = let h : Some (ReadNo.TooDeep p) ≡ None = sym r.first
+    ∙ unrefused Derives text a s in cc

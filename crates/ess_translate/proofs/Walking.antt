@@ -36,22 +36,27 @@ pub behind_here : (f : Side) (F : List Stm) (p : Assignment) (ts : List TypeName
     (sol_here f (record { types = map pure_type_names ts; vals = map pure_named_value vs })) env
     ≡ env_behind_stm f F p s env
 behind_here f F p ts vs s env h i =
-    ap (λ us. env_after s (param_here f (record { types = us; vals = map pure_named_value vs }) p) (sol_here f (record { types = us; vals = map pure_named_value vs })) env) h
-    ∙ ap (λ us. env_after s (param_here f (record { types = types_for f F; vals = us }) p) (sol_here f (record { types = types_for f F; vals = us })) env) i
-    ∙ ap (λ q. env_after s q (sol_here f (record { types = types_for f F; vals = values_here f F s env })) env) (param_here-as f F p (values_here f F s env))
+    ap (λ us. env_after s (param_here f (record { types = us; vals = map pure_named_value vs }) p)
+    (sol_here f (record { types = us; vals = map pure_named_value vs })) env) h
+    ∙ ap (λ us. env_after s (param_here f (record { types = types_for f F; vals = us }) p)
+    (sol_here f (record { types = types_for f F; vals = us })) env) i
+    ∙ ap (λ q. env_after s q (sol_here f (record { types = types_for f F; vals = values_here f F s env })) env)
+    (param_here-as f F p (values_here f F s env))
     ∙ ap (λ q. env_after s (as_parameter f F p (values_here f F s env)) q env) (sol_here-as f F (values_here f F s env))
 
 -- The values of the statements left, behind one more.
 pub values_on : (f : Side) (F : List Stm) (p : Assignment) (us vs : List NamedValue) (s : Stm) (ss : List Stm) (env : Env)
     → map pure_named_value vs ≡ values_here f F s env
-    → map pure_named_value (us ++ vs) ++ values_from f F p ss (env_behind_stm f F p s env) ≡ map pure_named_value us ++ values_from f F p (s ∷ ss) env
+    → map pure_named_value (us ++ vs) ++ values_from f F p ss (env_behind_stm f F p s env)
+    ≡ map pure_named_value us ++ values_from f F p (s ∷ ss) env
 values_on f F p us vs s ss env h =
     ap (λ ws. ws ++ values_from f F p ss (env_behind_stm f F p s env)) (map-append pure_named_value us vs)
     ∙ append_assoc (map pure_named_value us) (map pure_named_value vs) (values_from f F p ss (env_behind_stm f F p s env))
     ∙ ap (λ ws. map pure_named_value us ++ (ws ++ values_from f F p ss (env_behind_stm f F p s env))) h
 
 -- One more statement, over what the code holds.
-pub walk_on : (f : Side) (F : List Stm) (p : Assignment) (ts : List TypeNames) (us vs : List NamedValue) (s : Stm) (ss : List Stm) (env next : Env)
+pub walk_on : (f : Side) (F : List Stm) (p : Assignment) (ts : List TypeNames) (us vs : List NamedValue) (s : Stm) (ss : List Stm)
+    (env next : Env)
     (whole : Names (Option Value))
     → map pure_type_names ts ≡ types_for f F → map pure_named_value vs ≡ values_here f F s env
     → next ≡ env_after s (param_here f (record { types = map pure_type_names ts; vals = map pure_named_value vs }) p)
@@ -63,7 +68,8 @@ walk_on f F p ts us vs s ss env next whole h i e k =
     ∙ values_on f F p us vs s ss env i ∙ k
 
 -- The same of numbers outside 64 bits.
-pub large_on : (f : Side) (F : List Stm) (p : Assignment) (ts : List TypeNames) (vs : List NamedValue) (s : Stm) (ss : List Stm) (env next : Env)
+pub large_on : (f : Side) (F : List Stm) (p : Assignment) (ts : List TypeNames) (vs : List NamedValue) (s : Stm) (ss : List Stm)
+    (env next : Env)
     (whole : Bool)
     → map pure_type_names ts ≡ types_for f F → map pure_named_value vs ≡ values_here f F s env
     → next ≡ env_after s (param_here f (record { types = map pure_type_names ts; vals = map pure_named_value vs }) p)
@@ -71,7 +77,8 @@ pub large_on : (f : Side) (F : List Stm) (p : Assignment) (ts : List TypeNames) 
     → (declare_large_number f F p (s ∷ ss) env ≡ true → whole ≡ true)
     → declare_large_number f F p ss next ≡ true → whole ≡ true
 large_on f F p ts vs s ss env next whole h i e k l =
-    k (ap (λ b. declares_large_number s env || b) (sym (ap (λ v. declare_large_number f F p ss v) (e ∙ behind_here f F p ts vs s env h i)) ∙ l) ∙ or-yes (declares_large_number s env))
+    k (ap (λ b. declares_large_number s env || b) (sym (ap (λ v. declare_large_number f F p ss v) (e ∙ behind_here f F p ts vs s env h i))
+    ∙ l) ∙ or-yes (declares_large_number s env))
 
 -- The statements left, as the next one and those behind it.
 pub statements_left : (stms : List Stm.Stm) (k : ℕ) (s : Stm.Stm) → s ≡ get_or stms k s → k < length stms

@@ -49,7 +49,8 @@ fn judged(
     param: &Assignment,
     file: &[Letting],
 ) -> Result<Verdict, TransNo>
-    ensures { (S : List PureStm) → map pure_stm stms.now ≡ prepared S → fault S ≡ None → JudgedOrNot S (pure_assignment param.now) (map pure_letting file.now) result }
+    ensures { (S : List PureStm) → map pure_stm stms.now ≡ prepared S → fault S ≡ None
+        → JudgedOrNot S (pure_assignment param.now) (map pure_letting file.now) result }
 {
     match solution_in(alloc, stms, param, file) {
         Ok(sol) => match solves(alloc, stms, param, &sol) {
@@ -68,8 +69,11 @@ fn solution_in(
     param: &Assignment,
     file: &[Letting],
 ) -> Result<Assignment, WalkNo>
-    ensures ok { IfOk result (λ a. (S : List PureStm) → map pure_stm stms.now ≡ prepared S → pure_assignment a ≡ solution_in S (pure_assignment param.now) (map pure_letting file.now)) }
-    ensures big { result ≡ Err Big → (S : List PureStm) → map pure_stm stms.now ≡ prepared S → fault S ≡ None → solution_is_large S (pure_assignment param.now) (solution_in S (pure_assignment param.now) (map pure_letting file.now)) ≡ true }
+    ensures ok { IfOk result (λ a. (S : List PureStm) → map pure_stm stms.now ≡ prepared S
+        → pure_assignment a ≡ solution_in S (pure_assignment param.now) (map pure_letting file.now)) }
+    ensures big { result ≡ Err Big → (S : List PureStm) → map pure_stm stms.now ≡ prepared S → fault S ≡ None
+        → solution_is_large S (pure_assignment param.now)
+        (solution_in S (pure_assignment param.now) (map pure_letting file.now)) ≡ true }
 {
     assignment_in(alloc, Side::Finds, file, param, stms)
 }

@@ -49,7 +49,8 @@ pub(crate) fn value_in_file(
     dom: &Dom,
     env: &Env,
 ) -> Result<Option<Boxed<Val>>, NoMemory>
-    ensures { IfOk result (λ o. option_map pure_val o ≡ value_in_file (map pure_letting file.now) (pure_env env.now) (name.now, pure_dom dom.now)) }
+    ensures { IfOk result (λ o. option_map pure_val o
+        ≡ value_in_file (map pure_letting file.now) (pure_env env.now) (name.now, pure_dom dom.now)) }
 {
     match first_letting(file, name) {
         Some(ex) => literal_of(alloc, ex, dom, env),
@@ -59,7 +60,8 @@ pub(crate) fn value_in_file(
 
 /// The value of a literal of a domain's type, where it is one.
 fn literal_of(alloc: Global, ex: &Ex, dom: &Dom, env: &Env) -> Result<Option<Boxed<Val>>, NoMemory>
-    ensures { IfOk result (λ o. option_map pure_val o ≡ literal_value (pure_ex ex.now) (type_of_dom (pure_dom dom.now)) (pure_env env.now)) }
+    ensures { IfOk result (λ o. option_map pure_val o
+        ≡ literal_value (pure_ex ex.now) (type_of_dom (pure_dom dom.now)) (pure_env env.now)) }
 {
     let ty = type_of_dom(alloc, dom)?;
     match val_of(alloc, ex, ty.get(), env) {

@@ -37,7 +37,8 @@ pub fn parameter_of(alloc: Global, typed: &Typed, param: &[u8]) -> Result<Assign
 
 /// The parameter that a file stands for, where it fits.
 fn fitting(alloc: Global, stms: &[Stm], file: &[Letting]) -> Result<Assignment, TransNo>
-    ensures { (S : List PureStm) → map pure_stm stms.now ≡ prepared S → fault S ≡ None → FitsOrNot S (map pure_letting file.now) result }
+    ensures { (S : List PureStm) → map pure_stm stms.now ≡ prepared S → fault S ≡ None
+        → FitsOrNot S (map pure_letting file.now) result }
 {
     match parameter_in(alloc, stms, file) {
         Ok(param) => match param_fits(alloc, stms, &param) {
@@ -52,8 +53,10 @@ fn fitting(alloc: Global, stms: &[Stm], file: &[Letting]) -> Result<Assignment, 
 /// The parameter that a file stands for.
 #[tactic(auto, using(crate::proofs::LargeWalks::large_parameter))]
 fn parameter_in(alloc: Global, stms: &[Stm], file: &[Letting]) -> Result<Assignment, WalkNo>
-    ensures ok { IfOk result (λ p. (S : List PureStm) → map pure_stm stms.now ≡ prepared S → pure_assignment p ≡ parameter_in S (map pure_letting file.now)) }
-    ensures big { result ≡ Err Big → (S : List PureStm) → map pure_stm stms.now ≡ prepared S → fault S ≡ None → parameter_is_large S (parameter_in S (map pure_letting file.now)) ≡ true }
+    ensures ok { IfOk result (λ p. (S : List PureStm) → map pure_stm stms.now ≡ prepared S
+        → pure_assignment p ≡ parameter_in S (map pure_letting file.now)) }
+    ensures big { result ≡ Err Big → (S : List PureStm) → map pure_stm stms.now ≡ prepared S → fault S ≡ None
+        → parameter_is_large S (parameter_in S (map pure_letting file.now)) ≡ true }
 {
     assignment_in(alloc, Side::Givens, file, &Assignment::nothing(alloc), stms)
 }

@@ -30,8 +30,11 @@ pub(crate) fn assignment_in(
     param: &Assignment,
     stms: &[Stm],
 ) -> Result<Assignment, WalkNo>
-    ensures ok { IfOk result (λ a. pure_assignment a ≡ assignment_from (map pure_letting file.now) (values_from (pure_side side) (map pure_letting file.now) (pure_assignment param.now) (map pure_stm stms.now) empty_env)) }
-    ensures big { result ≡ Err Big → declare_large_number (pure_side side) (map pure_letting file.now) (pure_assignment param.now) (map pure_stm stms.now) empty_env ≡ true }
+    ensures ok { IfOk result (λ a. pure_assignment a
+        ≡ assignment_from (map pure_letting file.now)
+        (values_from (pure_side side) (map pure_letting file.now) (pure_assignment param.now) (map pure_stm stms.now) empty_env)) }
+    ensures big { result ≡ Err Big → declare_large_number (pure_side side) (map pure_letting file.now) (pure_assignment param.now)
+        (map pure_stm stms.now) empty_env ≡ true }
 {
     let vals = values_from(alloc, side, file, param, stms)?;
     let found = Assignment {
@@ -51,8 +54,10 @@ fn values_from(
     param: &Assignment,
     stms: &[Stm],
 ) -> Result<Row<NamedValue>, WalkNo>
-    ensures ok { IfOk result (λ vs. map pure_named_value vs ≡ values_from (pure_side side) (map pure_letting file.now) (pure_assignment param.now) (map pure_stm stms.now) empty_env) }
-    ensures big { result ≡ Err Big → declare_large_number (pure_side side) (map pure_letting file.now) (pure_assignment param.now) (map pure_stm stms.now) empty_env ≡ true }
+    ensures ok { IfOk result (λ vs. map pure_named_value vs
+        ≡ values_from (pure_side side) (map pure_letting file.now) (pure_assignment param.now) (map pure_stm stms.now) empty_env) }
+    ensures big { result ≡ Err Big → declare_large_number (pure_side side) (map pure_letting file.now) (pure_assignment param.now)
+        (map pure_stm stms.now) empty_env ≡ true }
 {
     let mut env = no_env(alloc);
     let mut vals = Row::new(alloc);
@@ -86,7 +91,8 @@ fn values_here(
     stm: &Stm,
     env: &Env,
 ) -> Result<Row<NamedValue>, NoMemory>
-    ensures { IfOk result (λ vs. map pure_named_value vs ≡ values_here (pure_side side) (map pure_letting file.now) (pure_stm stm.now) (pure_env env.now)) }
+    ensures { IfOk result (λ vs. map pure_named_value vs
+        ≡ values_here (pure_side side) (map pure_letting file.now) (pure_stm stm.now) (pure_env env.now)) }
 {
     match (side, stm) {
         (Side::Givens, Stm::Given(name, dom)) => one_value(alloc, file, name, dom.get(), env),
@@ -103,7 +109,8 @@ fn one_value(
     dom: &Dom,
     env: &Env,
 ) -> Result<Row<NamedValue>, NoMemory>
-    ensures { IfOk result (λ vs. map pure_named_value vs ≡ (name.now, value_in_file (map pure_letting file.now) (pure_env env.now) (name.now, pure_dom dom.now)) ∷ []) }
+    ensures { IfOk result (λ vs. map pure_named_value vs
+        ≡ (name.now, value_in_file (map pure_letting file.now) (pure_env env.now) (name.now, pure_dom dom.now)) ∷ []) }
 {
     let val = value_in_file(alloc, file, name, dom, env)?;
     let name = name.copy(alloc)?;
@@ -121,7 +128,9 @@ fn go_on_here(
     param: &Assignment,
     env: &mut Env,
 ) -> Result<(), WalkNo>
-    ensures ok { OnOk result (pure_env env.new ≡ env_after (pure_stm stm.now) (param_here (pure_side side) (pure_assignment here.now) (pure_assignment param.now)) (sol_here (pure_side side) (pure_assignment here.now)) (pure_env env.old)) }
+    ensures ok { OnOk result (pure_env env.new
+        ≡ env_after (pure_stm stm.now) (param_here (pure_side side) (pure_assignment here.now) (pure_assignment param.now))
+        (sol_here (pure_side side) (pure_assignment here.now)) (pure_env env.old)) }
     ensures big { result ≡ Err Big → declares_large_number (pure_stm stm.now) (pure_env env.old) ≡ true }
 {
     let gone = match side {
@@ -140,7 +149,8 @@ fn values_in_order(
     file: &[Letting],
     found: &Assignment,
 ) -> Result<Row<NamedValue>, NoMemory>
-    ensures { IfOk result (λ vs. map pure_named_value vs ≡ map (λ b. (b.0, value_of (pure_assignment found.now) b.0)) (value_lettings (map pure_letting file.now))) }
+    ensures { IfOk result (λ vs. map pure_named_value vs
+        ≡ map (λ b. (b.0, value_of (pure_assignment found.now) b.0)) (value_lettings (map pure_letting file.now))) }
 {
     let mut vals = Row::new(alloc);
     for letting in file {

@@ -22,10 +22,12 @@ loop-stm-preserved c =
     record {
       types = c.loop-stm.invariant.types;
       values = ap (λ us. map pure_named_value us ++ values_from f F p ss (pure_env c.go_on_here.new.env)) c.in_ok-append.ensures.ok ∙
-          walk_on f F p c.loop-stm.here.types c.loop-stm.vals c.in_ok-here.field-0 s ss (pure_env c.loop-stm.env) (pure_env c.go_on_here.new.env)
+          walk_on f F p c.loop-stm.here.types c.loop-stm.vals c.in_ok-here.field-0 s ss (pure_env c.loop-stm.env)
+          (pure_env c.go_on_here.new.env)
           (values_from f F p (map pure_stm c.args.stms.now) empty_env)
           c.loop-stm.invariant.types c.in_ok-here.ensures c.in_ok-go_on_here.ensures.ok
-          (ap (λ ts. map pure_named_value c.loop-stm.vals ++ values_from f F p ts (pure_env c.loop-stm.env)) (sym left) ∙ c.loop-stm.invariant.values);
+          (ap (λ ts. map pure_named_value c.loop-stm.vals ++ values_from f F p ts (pure_env c.loop-stm.env)) (sym left)
+          ∙ c.loop-stm.invariant.values);
       large = large_on f F p c.loop-stm.here.types c.in_ok-here.field-0 s ss (pure_env c.loop-stm.env) (pure_env c.go_on_here.new.env)
           (declare_large_number f F p (map pure_stm c.args.stms.now) empty_env)
           c.loop-stm.invariant.types c.in_ok-here.ensures c.in_ok-go_on_here.ensures.ok

@@ -14,8 +14,11 @@ invariant-loop-stm l =
     record {
       types : map pure_type_names l.here.types ≡ types_for (pure_side l.side) (map pure_letting l.file);
       values : map pure_named_value l.vals
-          ++ values_from (pure_side l.side) (map pure_letting l.file) (pure_assignment l.param) (map pure_stm (drop l.stm-index l.stms)) (pure_env l.env)
+          ++ values_from (pure_side l.side) (map pure_letting l.file) (pure_assignment l.param) (map pure_stm (drop l.stm-index l.stms))
+          (pure_env l.env)
           ≡ values_from (pure_side l.side) (map pure_letting l.file) (pure_assignment l.param) (map pure_stm l.stms) empty_env;
-      large : declare_large_number (pure_side l.side) (map pure_letting l.file) (pure_assignment l.param) (map pure_stm (drop l.stm-index l.stms)) (pure_env l.env) ≡ true
-          → declare_large_number (pure_side l.side) (map pure_letting l.file) (pure_assignment l.param) (map pure_stm l.stms) empty_env ≡ true;
+      large : declare_large_number (pure_side l.side) (map pure_letting l.file) (pure_assignment l.param)
+          (map pure_stm (drop l.stm-index l.stms)) (pure_env l.env) ≡ true
+          → declare_large_number (pure_side l.side) (map pure_letting l.file) (pure_assignment l.param) (map pure_stm l.stms) empty_env
+          ≡ true;
     }
