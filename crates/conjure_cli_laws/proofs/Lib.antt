@@ -9,3 +9,4 @@ pub mod SmallLines
 pub mod SmallHeaders
 pub mod SmallSpecifications
 pub mod WrittenModels
+pub mod ReadFields

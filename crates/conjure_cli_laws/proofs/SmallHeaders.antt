@@ -1,5 +1,5 @@
 -- The lines of the header of the small model are those of the specification's statements and representations.
-use Rattle.std.proofs.Common.{◌≡◌, refl, sym, ap, ◌∙◌, subst, ℕ, ◌<◌, Bool, true, false, ◌&&◌, not, List, [], ◌∷◌, ◌++◌, map, filter, pos, length, codes, Option, Some, None, nat_lt, ◌^◌, arith, decimal, slice_index, zero, suc}
+use Rattle.std.proofs.Common.{◌≡◌, refl, sym, ap, ◌∙◌, subst, ℕ, ◌<◌, Bool, true, false, ◌&&◌, not, List, [], ◌∷◌, ◌++◌, map, filter, pos, codes, nat_lt, ◌^◌, arith, decimal, slice_index, zero, suc}
 use Rattle.std.specs.List.{list_all}
 use Rattle.std.specs.Str.{is_utf8, IsUtf8}
 use Rattle.std.proofs.lemmas.Str.{IsUtf8-from_ascii, IsUtf8-append, IsUtf8-nil, is_utf8-from_IsUtf8}

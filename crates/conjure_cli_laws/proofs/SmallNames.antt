@@ -1,11 +1,11 @@
 -- Names of the small grammar have no `_`, so the names of tables are free, and each is a name that a text can spell.
-use Rattle.std.proofs.Common.{◌≡◌, refl, sym, ap, ◌∙◌, ℕ, Bool, true, false, ◌&&◌, ◌||◌, not, if◌then◌else◌, List, [], ◌∷◌, ◌++◌, nat_eq, Option, Some, None, is_some, codes, bytes_eq, arith, inl, inr}
+use Rattle.std.proofs.Common.{◌≡◌, refl, sym, ap, ◌∙◌, ℕ, Bool, true, false, ◌&&◌, ◌||◌, not, if◌then◌else◌, List, [], ◌∷◌, nat_eq, Some, None, is_some, bytes_eq, arith, inl, inr}
 use Rattle.std.proofs.lemmas.Bool.Decides.{nat_tests}
 use Rattle.std.specs.List.{list_all, list_any}
 use Rattle.ess_semantics.specs.Values.{Text}
 use Rattle.ess_semantics.specs.Names.{is_among, look_by}
 use Rattle.ess_semantics.specs.NameTokens.{is_name, is_letter, is_name_byte}
-use Rattle.ess_semantics.proofs.Tests.{and-left, and-right, and-both, not-true, or-left-no, or-right-no, or-yes}
+use Rattle.ess_semantics.proofs.Tests.{and-left, and-right, and-both, not-true, or-yes}
 use Rattle.ess_semantics.proofs.Texts.{same_text-equal, same_text-bytes, same_text-itself}
 use Rattle.ess_grammar.specs.Words.{Token, name, words, outside, is_outside}
 use Rattle.ess_grammar.specs.Readable.{is_name_token}

@@ -1,11 +1,11 @@
 -- The plans of a specification of the small grammar: each find has its one table, whose name is free. So its model is the small one.
-use Rattle.std.proofs.Common.{◌≡◌, refl, sym, ap, ◌∙◌, subst, ℕ, Bool, true, false, ◌&&◌, ◌||◌, not, if◌then◌else◌, List, [], ◌∷◌, ◌++◌, map, filter, pos, codes, ◌⊎◌, inl, inr, Option, Some, None, length}
+use Rattle.std.proofs.Common.{◌≡◌, refl, sym, ap, ◌∙◌, subst, ℕ, Bool, true, false, ◌&&◌, ◌||◌, not, if◌then◌else◌, List, [], ◌∷◌, ◌++◌, map, filter, pos, codes, ◌⊎◌, inl, inr, length}
 use Rattle.std.specs.List.{list_all}
 use Rattle.ess_semantics.specs.Values.{Text}
 use Rattle.ess_semantics.specs.Order.{same_text}
 use Rattle.ess_semantics.specs.Names.{Names, is_among, without}
-use Rattle.ess_semantics.specs.Trees.{repr, no_reprs, Ex, cell_ex, more_exs, number_ex, no_exs}
-use Rattle.ess_semantics.specs.TableNames.{Named, free_name, named_tables, free_within}
+use Rattle.ess_semantics.specs.Trees.{cell_ex, more_exs, number_ex, no_exs}
+use Rattle.ess_semantics.specs.TableNames.{free_name, free_within}
 use Rattle.ess_semantics.specs.Parameters.{all_declared}
 use Rattle.ess_semantics.specs.Plans.{Plan, value_plan, finds_side, givens_side, plans, plans_from}
 use Rattle.ess_semantics.specs.ModelTrees.{header_of, no_goal}
@@ -18,7 +18,7 @@ use Rattle.conjure_laws.specs.ModelsOfSets.{no_options, model_of, table_of, rule
 use Rattle.conjure_laws.proofs.SetScopes.{prepared-itself}
 use Rattle.conjure_laws.proofs.SetPlans.{Occ}
 use Rattle.conjure_laws.proofs.SetModels.{models-fine, exact-fine}
-use Rattle.conjure_cli_laws.specs.SmallGrammar.{Statement, find, such_that, is_name, each_find, found_names, each_constraint}
+use Rattle.conjure_cli_laws.specs.SmallGrammar.{Statement, find, such_that, each_find, found_names, each_constraint}
 use Rattle.conjure_cli_laws.specs.SmallSets.{lines, specification, table_name, table_decl, cell_rule, small_model}
 use Rattle.conjure_cli_laws.proofs.SmallNames.{not-among-test, has_pair, unmarked, name-unmarked, unmarked-pair, table-pair, table-once}
 use Rattle.conjure_cli_laws.proofs.SmallStatements.{Named as NamesAre, Spelled, small-fine}

@@ -1,11 +1,13 @@
--- The law of what is written, stated at a function that does nothing, so that its proof is checked with the code.
+-- Laws of what is read and written, each stated at a function that does nothing, so that its proof is checked with the code.
 use Rattle.std.specs.Prelude.{List}
 use Rattle.ess_semantics.specs.Values.{Text}
 use Rattle.ess_semantics.specs.Trees.{Stm}
+use Rattle.ess_semantics.specs.Contexts.{Each}
 use Rattle.ess_semantics.specs.ModelTrees.{Header, Model}
 use Rattle.ess_semantics.specs.Models.{Models, IsExact}
 use Rattle.ess_grammar.specs.Texts.{ReadsSpecification}
 use Rattle.ess_grammar.specs.HeaderTexts.{ReadsModelWithHeader}
+use Rattle.conjure_laws.specs.Fields.{HasItsFields}
 use Rattle.conjure_laws.specs.ModelsOfSets.{no_options}
 use Rattle.conjure_cli_laws.specs.ModelText.{IsModelOf}
 
@@ -23,3 +25,7 @@ pub record StandsForText (text model : Text) : Type 0 where
 -- What is written for a text of the small grammar stands for it.
 abbrev pub WrittenModelsStand : Type 0
 WrittenModelsStand = (text model : Text) → IsModelOf text model → StandsForText text model
+
+-- The domains of a specification that a text is read as have a name for each component of a record.
+abbrev pub ReadSpecificationsHaveFields : Type 0
+ReadSpecificationsHaveFields = (text : Text) (S : List Stm) → ReadsSpecification text S → Each S HasItsFields

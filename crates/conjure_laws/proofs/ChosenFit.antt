@@ -26,7 +26,8 @@ AllFit d rs = Each rs (λ r. fits r d ≡ true)
 -- what an item gives to its name
 item-fits : (ds : Names Dom) (done : List Text) (x : Text) (rs : List Repr) (d : Dom) → ItemFits ds done x rs → look ds x ≡ Some d →
     AllFit d rs
-item-fits ds done x rs d h e = each-of-list rs (λ r. fits r d) (sym (ap (λ o. is_some_and o (λ d. list_all (λ r. fits r d) rs)) e) ∙ h.fitting)
+item-fits ds done x rs d h e = each-of-list rs (λ r. fits r d)
+    (sym (ap (λ o. is_some_and o (λ d. list_all (λ r. fits r d) rs)) e) ∙ h.fitting)
 
 chosen-fit : (ds : Names Dom) (done : List Text) (o : Options) (x : Text) (d : Dom) → ItemsFit ds done o → look ds x ≡ Some d →
     AllFit d (chosen_reprs o x d)

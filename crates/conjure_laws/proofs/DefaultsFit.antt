@@ -53,7 +53,8 @@ abbrev default_by : Bool → Bool → Bool → List Mark → Dom → Repr → Re
 default_by a n t ms c rd rc =
     if a then over_child (if t then ReprKind.Function1D else ReprKind.Function1DPartial) rc
     else (if n then over_child (if t then ReprKind.FunctionND else ReprKind.FunctionNDPartial) rc
-    else over_child ReprKind.FunctionAsRelation (default_relation (a && is_atom c) (relation_is_sized ms) (more_reprs rd (more_reprs rc no_reprs))))
+    else over_child ReprKind.FunctionAsRelation
+    (default_relation (a && is_atom c) (relation_is_sized ms) (more_reprs rd (more_reprs rc no_reprs))))
 
 function-fits : (ms : List Mark) (es : Exs) (d c : Dom) (rd rc : Repr) → fits rd d ≡ true → fits rc c ≡ true →
     fits (default_function ms d c rd rc) (function_dom ms es d c) ≡ true
@@ -62,7 +63,9 @@ function-fits ms es d c rd rc h k = go (is_atom d) (is_atom_tuple d) (has_key Ke
     go : (a n t : Bool) → is_atom d ≡ a → is_atom_tuple d ≡ n → has_key Key.Total ms ≡ t →
         fits (default_by a n t ms c rd rc) (function_dom ms es d c) ≡ true
     go true n true e f g =
-        met (has_key Key.Total ms && is_atom d) (more_reprs rc no_reprs) (c ∷ []) (and-both (has_key Key.Total ms) (is_atom d) g e) (one rc c k)
+        met (has_key Key.Total ms && is_atom d) (more_reprs rc no_reprs) (c ∷ [])
+        (and-both (has_key Key.Total ms) (is_atom d) g e)
+        (one rc c k)
     go true n false e f g = met (is_atom d) (more_reprs rc no_reprs) (c ∷ []) e (one rc c k)
     go false true true e f g =
         met (has_key Key.Total ms && is_atom_tuple d) (more_reprs rc no_reprs) (c ∷ [])
@@ -74,7 +77,8 @@ function-fits ms es d c rd rc h k = go (is_atom d) (is_atom_tuple d) (has_key Ke
         let l : Bool = has_key Key.MinSize ms in
         let u : Bool = has_key Key.MaxSize ms || not (has_key Key.Total ms || has_key Key.Size ms) in
         one (default_relation false s (more_reprs rd (more_reprs rc no_reprs))) (child_relation_form ms d c)
-        (relation-fits false s (size_marks s l u) no_exs (more_doms d (more_doms c no_doms)) (more_reprs rd (more_reprs rc no_reprs)) (λ e. cc)
+        (relation-fits false s (size_marks s l u) no_exs (more_doms d (more_doms c no_doms))
+        (more_reprs rd (more_reprs rc no_reprs)) (λ e. cc)
         (sized s l u)
         (and-both (fits rd d) (fits rc c && true) h (one rc c k)))
 
@@ -98,7 +102,8 @@ partition-fits ms es d r h = go (is_atom d) refl
         let l' : Bool = has_key Key.MinPartSize ms in
         let u' : Bool = has_key Key.MaxPartSize ms in
         one (default_set false s (default_set false s' r)) (set_dom (size_marks s l u) no_exs (set_dom (size_marks s' l' u') no_exs d))
-        (set-fits false s (size_marks s l u) no_exs (set_dom (size_marks s' l' u') no_exs d) (default_set false s' r) (λ e. cc) (sized s l u)
+        (set-fits false s (size_marks s l u) no_exs (set_dom (size_marks s' l' u') no_exs d) (default_set false s' r) (λ e. cc)
+        (sized s l u)
         (set-fits false s' (size_marks s' l' u') no_exs d r (λ e. cc) (sized s' l' u') h))
 
 -- ---- all domains

@@ -26,7 +26,10 @@ truths : model_of (set_find (codes "x") boolean ∷ holds_lit (truth_lit true) (
 truths = refl
 
 -- `letting E be new type enum {a, b}`, `find x : set of E`, `such that b in x`: the type has two values, and `b` is the second.
-values : model_of (enum (codes "E") (codes "a" ∷ codes "b" ∷ []) ∷ set_find (codes "x") (typed (codes "E")) ∷ holds_lit (value_name (codes "b")) (codes "x") ∷ []) ≡
+values :
+    model_of
+    (enum (codes "E") (codes "a" ∷ codes "b" ∷ []) ∷ set_find (codes "x") (typed (codes "E")) ∷
+    holds_lit (value_name (codes "b")) (codes "x") ∷ []) ≡
     record {
       givens = [];
       finds = record { name = codes "x_Occurrence"; axes = range_dom (pos 1) (pos 2) ∷ []; cell = bool_dom } ∷ [];
@@ -39,7 +42,11 @@ values = refl
 sizes : model_of (given_type (codes "G") ∷ set_find (codes "x") (typed (codes "G")) ∷ []) ≡
     record {
       givens = record { name = codes "G_Size"; axes = []; cell = int_dom (low_end ∷ []) (more_exs (number_ex (pos 1)) no_exs) } ∷ [];
-      finds = record { name = codes "x_Occurrence"; axes = int_dom (both_ends ∷ []) (more_exs (number_ex (pos 1)) (more_exs (cell_ex false (codes "G_Size") no_exs) no_exs)) ∷ []; cell = bool_dom } ∷ [];
+      finds = record {
+        name = codes "x_Occurrence";
+        axes = int_dom (both_ends ∷ []) (more_exs (number_ex (pos 1)) (more_exs (cell_ex false (codes "G_Size") no_exs) no_exs)) ∷ [];
+        cell = bool_dom;
+      } ∷ [];
       goal = no_goal;
       rules = [];
     }

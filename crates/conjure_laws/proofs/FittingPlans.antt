@@ -13,6 +13,7 @@ use Rattle.ess_semantics.specs.Positions.{domain_with_positions}
 use Rattle.ess_semantics.specs.Assignments.{Assignment}
 use Rattle.ess_semantics.specs.Prepared.{prepared}
 use Rattle.ess_semantics.specs.Parameters.{Param, all_declared}
+use Rattle.ess_semantics.specs.Judgements.{is_well_typed}
 use Rattle.ess_semantics.specs.Plans.{Options, chosen_reprs, domain_of_stm, Side, givens_side, finds_side, value_plan, plans_of_name, plans_of_stm, plans_from, plans, kept_names}
 use Rattle.ess_semantics.specs.ChosenOptions.{OptionsFit}
 use Rattle.ess_repr_laws.specs.TypedDomains.{Typed, has_plain_relations}
@@ -21,9 +22,13 @@ use Rattle.ess_repr_laws.proofs.DenotedTypes.{denoted-typed}
 use Rattle.ess_repr_laws.proofs.MembersHaveTables.{roomy-covered}
 use Rattle.ess_repr_laws.proofs.PlanDomains.{plan-roomy}
 use Rattle.conjure_laws.specs.Premises.{here, PlanFits}
-use Rattle.conjure_laws.specs.Fields.{HasFields, NameFits, WellKept}
+use Rattle.conjure_laws.specs.Fields.{HasFields, HasItsFields, PlainMarks, NameFits, WellKept}
 use Rattle.conjure_laws.proofs.Lists.{each-append, each-map, each-both}
 use Rattle.conjure_laws.proofs.ChosenFit.{options-fit}
+use Rattle.conjure_laws.proofs.JudgedNames.{IsRight, judged-right}
+use Rattle.conjure_laws.proofs.JudgedDistinct.{kept-distinct}
+use Rattle.conjure_laws.proofs.WrittenFields.{written-fields}
+use Rattle.conjure_laws.proofs.PlainRelations.{denoted-plain}
 use Rattle.conjure_laws.proofs.TableCounts.{names-wide, named-long, declared-long}
 
 -- What is typed at each parameter.
@@ -97,3 +102,24 @@ well-kept S o h k ws = plans-fit S o (each-both (kept_names S) (λ x. Each (chos
       fields = w.fields;
       typed = w.typed;
     }
+
+-- What the judgements don't say of a domain.
+abbrev Complete : List Stm → Text × Dom → Type 0
+Complete S x = HasFields x.1 × TypedAt S x.1
+
+-- The plans of a well typed specification fit, where its records have their fields and its domains are typed.
+pub well-typed-plans : (S : List Stm) (o : Options) → is_well_typed S ≡ true → OptionsFit S o → Each S HasItsFields →
+    Each (kept_names S) (λ x. TypedAt S x.1) → Each (plans S o) (PlanFits S)
+well-typed-plans S o e h f t = well-kept S o h (kept-distinct S e) (each-both (kept_names S) IsRight (Complete S) (λ x. WellKept S x.1)
+    (λ x r c. record { well = r.0; known = r.1; fields = c.0; typed = c.1 })
+    (judged-right S e)
+    (each-both (kept_names S) (λ x. HasFields x.1) (λ x. TypedAt S x.1) (Complete S) (λ x c u. (c, u)) (written-fields S f) t))
+
+-- Domains are typed where no relation has an attribute without a number.
+pub plain-plans : (S : List Stm) (o : Options) → is_well_typed S ≡ true → OptionsFit S o → Each S HasItsFields →
+    Each (kept_names S) (λ x. PlainMarks x.1) → Each (plans S o) (PlanFits S)
+plain-plans S o e h f m = well-typed-plans S o e h f
+    (each-both (kept_names S) IsRight (λ x. PlainMarks x.1) (λ x. TypedAt S x.1)
+    (λ x r m p e P q. denoted-typed x.1 (here S p) e r.0 q (denoted-plain x.1 (here S p) e m q))
+    (judged-right S e)
+    m)

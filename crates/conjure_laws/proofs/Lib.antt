@@ -3,10 +3,6 @@ pub mod Lists
 -- Names of tables, and tables by their names
 pub mod NamedTables
 pub mod FreeNames
-pub mod TableCounts
-pub mod FittingPlans
-pub mod DefaultsFit
-pub mod ChosenFit
 -- Statements in their places
 pub mod Statements
 pub mod PlacedStatements
@@ -16,6 +12,16 @@ pub mod Matching
 pub mod MatchedTables
 pub mod HeldTables
 pub mod StoodTables
+-- What the judgements and options say of plans
+pub mod TableCounts
+pub mod DefaultsFit
+pub mod ChosenFit
+pub mod ResolvedDomains
+pub mod JudgedNames
+pub mod JudgedDistinct
+pub mod WrittenFields
+pub mod PlainRelations
+pub mod FittingPlans
 -- The given tables
 pub mod Givens
 -- A model stands for its specification
@@ -24,6 +30,7 @@ pub mod Reduction
 pub mod PlainTrees
 pub mod Lookups
 pub mod Views
+pub mod NumericTrees
 pub mod Chains
 -- Specifications of sets
 pub mod Occurrence
@@ -44,3 +51,4 @@ pub mod WellTypedSets
 pub mod SetModels
 -- Worked examples
 pub mod ExamplesSets
+pub mod ExamplesWrong

@@ -99,10 +99,11 @@ module _ (S : List Stm) (p a : Assignment) (x : Text) (r : Repr) (d : Dom) (ns :
 -- ---- a constraint with views in the place of names
 
 -- Values with positions, by their names.
-abbrev with_each-name : Vals → Vals
+abbrev pub with_each-name : Vals → Vals
 with_each-name g = map (λ b. (b.0, with_positions b.1)) g
 
-look-with : (g : Vals) (x : Text) → look (with_each-name g) x ≡ option_map with_positions (look g x)
+-- A name has its value with positions.
+pub look-with : (g : Vals) (x : Text) → look (with_each-name g) x ≡ option_map with_positions (look g x)
 look-with [] x = refl
 look-with (b ∷ g) x = go (same_text b.0 x) (look-with g x)
   where

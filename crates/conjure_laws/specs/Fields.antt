@@ -1,5 +1,5 @@
 -- Domains whose records have a name for each component, as the grammar reads them, and names whose representations fit theirs.
-use Rattle.std.specs.Prelude.{◌≡◌, true, List, length, Some}
+use Rattle.std.specs.Prelude.{◌≡◌, true, List, [], ◌∷◌, length, Some}
 use Rattle.ess_semantics.specs.Values.{Text}
 use Rattle.ess_semantics.specs.Domains.{Domain}
 use Rattle.ess_semantics.specs.Contexts.{Each}
@@ -12,7 +12,7 @@ use Rattle.ess_repr_laws.specs.WellFormed.{Well}
 use Rattle.ess_repr_laws.specs.TypedDomains.{Typed}
 use Rattle.ess_repr_laws.specs.Laws.{Fitting}
 use Rattle.conjure_laws.specs.Premises.{here}
-use Rattle.ess_semantics.specs.Trees.{Stm, Dom, Doms, tuple_dom, record_dom, matrix_dom, set_dom, mset_dom, function_dom, relation_dom, partition_dom, no_doms, more_doms}
+use Rattle.ess_semantics.specs.Trees.{Mark, flag, valued, Stm, given, let_dom, find, Dom, Doms, tuple_dom, record_dom, matrix_dom, set_dom, mset_dom, function_dom, relation_dom, partition_dom, no_doms, more_doms}
 use Rattle.ess_semantics.specs.Kinds.{dom_list}
 
 abbrev mutual
@@ -32,6 +32,37 @@ abbrev mutual
   pub AllHaveFields : Doms → Type 0
   AllHaveFields no_doms = Unit {0}
   AllHaveFields (more_doms d ds) = HasFields d × AllHaveFields ds
+
+-- The domain that a statement is with, as it is written, has its fields.
+abbrev pub HasItsFields : Stm → Type 0
+HasItsFields (given x d) = HasFields d
+HasItsFields (find x d) = HasFields d
+HasItsFields (let_dom x d) = HasFields d
+HasItsFields s = Unit {0}
+
+-- Each attribute stands with a number.
+abbrev pub AllValued : List Mark → Type 0
+AllValued [] = Unit {0}
+AllValued (valued k ∷ ms) = AllValued ms
+AllValued (flag k ∷ ms) = ⊥
+
+abbrev mutual
+  -- No relation in the domain has an attribute without a number.
+  pub PlainMarks : Dom → Type 0
+  PlainMarks (tuple_dom ds) = AllPlainMarks ds
+  PlainMarks (record_dom fs ds) = AllPlainMarks ds
+  PlainMarks (matrix_dom is d) = PlainMarks d
+  PlainMarks (set_dom ms es d) = PlainMarks d
+  PlainMarks (mset_dom ms es d) = PlainMarks d
+  PlainMarks (function_dom ms es d c) = PlainMarks d × PlainMarks c
+  PlainMarks (relation_dom ms es ds) = AllValued ms × AllPlainMarks ds
+  PlainMarks (partition_dom ms es d) = PlainMarks d
+  PlainMarks d = Unit {0}
+
+  -- So has none in these domains.
+  pub AllPlainMarks : Doms → Type 0
+  AllPlainMarks no_doms = Unit {0}
+  AllPlainMarks (more_doms d ds) = PlainMarks d × AllPlainMarks ds
 
 -- ---- a given or find with its representations
 

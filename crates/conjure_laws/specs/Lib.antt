@@ -8,6 +8,7 @@ pub mod Fields
 -- Views in the place of names
 pub mod PlainTrees
 pub mod Views
+pub mod Numeric
 -- Specifications of sets, and their models
 pub mod SetsOfAtoms
 pub mod ModelsOfSets
