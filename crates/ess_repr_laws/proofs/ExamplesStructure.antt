@@ -15,12 +15,14 @@ use Rattle.ess_semantics.specs.Declarations.{declarations, axes_of}
 use Rattle.ess_semantics.specs.CanonicalTest.{canonical}
 use Rattle.ess_semantics.specs.Meaning.{Env, meaning}
 use Rattle.ess_semantics.specs.Tidy.{over_axes}
-use Rattle.ess_repr_laws.specs.StructureParts.{tuple_set_dom, Terms, and_ex, keys_ex, total_key_ex}
+use Rattle.ess_repr_laws.specs.StructureParts.{tuple_set_dom, Terms, and_ex, keys_ex}
+use Rattle.ess_repr_laws.specs.FunctionParts.{with_total, flag_key_ex, value_key_ex}
 use Rattle.ess_repr_laws.specs.RelationParts.{diagonal_ex}
-use Rattle.ess_repr_laws.specs.ViewParts.{pair_relation_dom, pairs_ex, part_set_dom, parts_ex}
+use Rattle.ess_repr_laws.specs.ViewParts.{pair_relation_dom, pairs_ex, part_set_dom, parts_ex, all_taken_ex, components_differ_ex}
 use Rattle.ess_repr_laws.specs.Structure.{shapes, structure}
 use Rattle.ess_repr_laws.specs.CanonicalTables.{TablesFit}
-use Rattle.ess_repr_laws.specs.StructureMeaning.{Bound, M, Placed, axes_members, Ready}
+use Rattle.ess_repr_laws.specs.StructureMeaning.{Bound, M, Placed, axes_members}
+use Rattle.ess_repr_laws.specs.StructureReady.{Ready}
 use Rattle.ess_repr_laws.proofs.StructureOfTables.{structure-of-tables}
 
 abbrev slots : Dom → Ex
@@ -82,7 +84,7 @@ pub of-tuples : tuple_set_dom (valued Key.MaxSize ∷ flag Key.Symmetric ∷ val
 of-tuples = refl
 
 -- A total function with flags: each flag is true. The sizes say nothing of it.
-pub of-total : keys_ex (total_key_ex (name_ex (codes "e"))) (valued Key.MinSize ∷ flag Key.Total ∷ []) ≡ and_ex (name_ex (codes "e")) (truth_ex true)
+pub of-total : keys_ex (with_total (name_ex (codes "e")) (λ k. truth_ex true)) (valued Key.MinSize ∷ flag Key.Total ∷ []) ≡ and_ex (name_ex (codes "e")) (truth_ex true)
 of-total = refl
 
 -- An injective function from bool to atoms: the cells differ.
@@ -90,6 +92,24 @@ pub of-injective : structure name at_atom (repr ReprKind.Function1D (more_reprs 
     ≡ and_ex (fun1 true Fun.And (comp_ex (cell_ex true (codes "a") (more_exs (name_ex (codes "q")) no_exs)) (over (name_pat (codes "q")) bool_dom no_gens)))
     (and_ex (truth_ex true) (and_ex (fun1 true Fun.AllDiff (comp_ex (cell_ex true (codes "a") (more_exs (name_ex (codes "q")) no_exs)) (over (name_pat (codes "q")) bool_dom no_gens))) (truth_ex true)))
 of-injective = refl
+
+-- A surjective function from bool to bool: each truth value is the second part of a pair of its view.
+pub of-surjective : structure name at_atom (repr ReprKind.Function1D (more_reprs cell no_reprs)) (function_dom (flag Key.Surjective ∷ []) no_exs bool_dom bool_dom) ((codes "a") ∷ []) 1 no_exs
+    ≡ and_ex (fun1 true Fun.And (comp_ex (cell_ex true (codes "a") (more_exs (name_ex (codes "q")) no_exs)) (over (name_pat (codes "q")) bool_dom no_gens)))
+    (and_ex (truth_ex true) (and_ex (all_taken_ex name 1 bool_dom (seen_ex (repr ReprKind.Function1D (more_reprs cell no_reprs)) (function_dom [] no_exs bool_dom bool_dom) ((codes "a") ∷ []) no_exs)) (truth_ex true)))
+of-surjective = refl
+
+-- An injective function with flags: the second parts of the pairs of its view differ. A total one: each flag is true.
+pub of-flag-keys : flag_key_ex name 1 (bool_dom ∷ []) (codes "f") no_exs bool_dom (name_ex (codes "e")) Key.Injective ≡ components_differ_ex name 1 bool_dom 2 (name_ex (codes "e"))
+of-flag-keys = refl
+
+pub of-flag-total : flag_key_ex name 1 (bool_dom ∷ []) (codes "f") no_exs bool_dom (name_ex (codes "e")) Key.Total
+    ≡ fun1 true Fun.And (comp_ex (cell_ex true (codes "f") (more_exs (name_ex (codes "q")) no_exs)) (over (name_pat (codes "q")) bool_dom no_gens))
+of-flag-total = refl
+
+-- An injective function whose values are sets: the second parts of the pairs of its view differ.
+pub of-injective-sets : value_key_ex name 1 (bool_dom ∷ []) [] no_exs kinds written (name_ex (codes "e")) Key.Injective ≡ components_differ_ex name 1 written 2 (name_ex (codes "e"))
+of-injective-sets = refl
 
 -- A reflexive relation of truth values: the cell of each with itself is true.
 pub of-reflexive : diagonal_ex name 1 (bool_dom ∷ bool_dom ∷ []) (codes "a") no_exs

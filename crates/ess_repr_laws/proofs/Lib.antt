@@ -128,6 +128,7 @@ pub mod StructureFunctions
 pub mod StructureRelations
 pub mod StructureUse
 pub mod StructureSortedSlots
+pub mod FlaggedFunctions
 pub mod StructurePartial
 pub mod StructureCounts
 pub mod StructureMultisets
@@ -138,6 +139,8 @@ pub mod StructureFlags
 pub mod StructureTupleSets
 pub mod ViewsOfCells
 pub mod StructureConversions
+pub mod PairsOfViews
+pub mod FunctionViews
 pub mod StructurePairs
 pub mod SizeMarks
 pub mod OnceHeld

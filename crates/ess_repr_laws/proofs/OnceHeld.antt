@@ -1,11 +1,11 @@
 -- Sets are the parts of a partition where each value is in one of them, and none is empty.
-use Rattle.std.proofs.Common.{◌≡◌, refl, sym, ap, ◌∙◌, ℕ, zero, suc, ◌+◌, ◌≤◌, Bool, true, false, ◌&&◌, ◌||◌, not, if◌then◌else◌, List, [], ◌∷◌, ◌++◌, map, length, ℤ, pos, int_le, Some, nat_eq, arith}
+use Rattle.std.proofs.Common.{◌≡◌, refl, sym, ap, ◌∙◌, ℕ, zero, suc, ◌+◌, ◌≤◌, Bool, true, false, ◌&&◌, ◌||◌, not, if◌then◌else◌, List, [], ◌∷◌, length, pos, int_le, Some, nat_eq, arith}
 use Rattle.std.proofs.lemmas.Bool.{eq-eqb, eqb-true, le-leb}
 use Rattle.std.proofs.lemmas.Cmp.{tied_itself}
 use Rattle.std.specs.List.{list_all}
 use Rattle.std.specs.Ordering.{is_eq}
 use Rattle.std.specs.declared.cmp.Ordering.TheVariants.{Equal}
-use Rattle.ess_semantics.specs.Lists.{is_empty, is_some_and}
+use Rattle.ess_semantics.specs.Lists.{is_empty}
 use Rattle.ess_semantics.specs.Values.{a_set, Value, number, node, Values, to_list, of_list, itself, items_of}
 use Rattle.ess_semantics.specs.Order.{orders, same}
 use Rattle.ess_semantics.specs.Collections.{holds, count, sorted_once, rises, has_empty_part, has_overlap}
@@ -17,7 +17,7 @@ use Rattle.ess_semantics.proofs.Orders.{equal-of, orders_exact, orders_total, sa
 use Rattle.ess_semantics.proofs.Overlaps.{all_members, holds-append, no-overlap, overlap-none}
 use Rattle.ess_semantics.proofs.Repeats.{count-append}
 use Rattle.ess_semantics.proofs.Sorting.{Distinct, all-holds, holds-all, holds-sorted_once, one-set}
-use Rattle.ess_semantics.proofs.Tests.{and-left, and-right, and-both, both-ways, not-true, or-left-no, or-right-no}
+use Rattle.ess_semantics.proofs.Tests.{and-left, and-right, and-both, both-ways}
 use Rattle.ess_repr_laws.specs.Finite.{Complete}
 use Rattle.ess_repr_laws.proofs.BoundedLists.{count-once, sorted-set}
 use Rattle.ess_repr_laws.proofs.CanonicalPlaces.{AllOf}

@@ -1,7 +1,7 @@
 -- The rule on the sizes of a child stands twice: as marks, which say which attributes a domain has, and as attributes with their
 -- numbers. Of a domain with these attributes the child's keys are the same by both.
 use Rattle.std.specs.Prelude.{is_some}
-use Rattle.std.proofs.Common.{◌≡◌, refl, sym, ap, ◌∙◌, ℕ, Bool, true, false, ◌||◌, not, if◌then◌else◌, List, [], ◌∷◌, map, ℤ, Option, Some, None, option_map}
+use Rattle.std.proofs.Common.{◌≡◌, refl, ap, ◌∙◌, ℕ, Bool, true, false, ◌||◌, not, if◌then◌else◌, List, [], ◌∷◌, map, ℤ, Option, Some, None, option_map}
 use Rattle.ess_semantics.specs.declared.words.Key.{Key}
 use Rattle.ess_semantics.specs.Lists.{and_then, or_else}
 use Rattle.ess_semantics.specs.Values.{Value}
@@ -9,7 +9,7 @@ use Rattle.ess_semantics.specs.Trees.{Mark, flag, valued, Dom, Doms, set_dom, re
 use Rattle.ess_semantics.specs.Domains.{Attribute, numbered, flagged, Domain, Domains, sets, attribute, has, key_of_attribute, same_key}
 use Rattle.ess_semantics.specs.Kinds.{key_of, has_key, size_marks, child_relation_form, child_set_form, child_parts_form}
 use Rattle.ess_semantics.specs.Meaning.{as_int, attributes_of}
-use Rattle.ess_semantics.specs.Sizes.{bound, size_attributes, pair_sizes, child_relation, child_set, child_parts}
+use Rattle.ess_semantics.specs.Sizes.{bound, size_attributes, child_relation, child_set, child_parts}
 use Rattle.ess_repr_laws.proofs.CanonicalConversions.{keys_of}
 
 -- The marks of a set or relation.

@@ -7,7 +7,7 @@ use Rattle.ess_semantics.specs.Trees.{Repr, Reprs, repr, no_reprs, more_reprs, D
 use Rattle.ess_semantics.specs.Domains.{Domain, tuples, records, matrices, sets, msets, functions, relations, partitions, domain_list}
 use Rattle.ess_semantics.specs.Meaning.{Env}
 use Rattle.ess_repr_laws.specs.StructureParts.{Terms, tuple_set_dom}
-use Rattle.ess_repr_laws.specs.StructureMeaning.{Ready, AllReady}
+use Rattle.ess_repr_laws.specs.StructureReady.{Ready, AllReady}
 use Rattle.ess_repr_laws.proofs.StructureOf.{StructureOf}
 use Rattle.ess_repr_laws.proofs.StructureAtoms.{atom-structure}
 use Rattle.ess_repr_laws.proofs.StructureTuples.{EachStructure, none-structure, more-structure, tuple-structure, record-structure}
@@ -44,14 +44,14 @@ module _ (env0 : Env) (q : ℕ → Text) (q-apart : (m l : ℕ) → l < m → sa
     structures (repr ReprKind.ExplicitVarSizeWithFlags (more_reprs r no_reprs)) (set_dom ms es d) (sets ks e) h =
         flags-structure env0 q q-apart terms r ms es d ks e (structures r d e h.2) h.0 h.1
     structures (repr ReprKind.Function1D (more_reprs r no_reprs)) (function_dom ms es d c) (functions ks x y) h =
-        function-1d-structure env0 q q-apart terms r ms es d c ks x y h.0 h.1 h.2.0 h.2.1 h.3 h.4 (structures r c y h.5)
+        function-1d-structure env0 q q-apart terms r ms es d c ks x y h.0 h.1 h.2 h.3 h.4 (structures r c y h.5)
     structures (repr ReprKind.FunctionND (more_reprs r no_reprs)) (function_dom ms es (tuple_dom ds) c) (functions ks (tuples xs) y) h =
-        function-nd-structure env0 q q-apart terms r ms es ds c ks xs y h.0 h.1 h.2.0 h.2.1 h.3 h.4 (structures r c y h.5)
+        function-nd-structure env0 q q-apart terms r ms es ds c ks xs y h.0 h.1 h.2 h.3 h.4 (structures r c y h.5)
     structures (repr ReprKind.RelationAsMatrix no_reprs) (relation_dom ms es ds) (relations ks xs) h = relation-structure env0 q q-apart terms ms es ds ks xs h.0 h.1.0 h.1.1 h.2 h.3
     structures (repr ReprKind.Function1DPartial (more_reprs r no_reprs)) (function_dom ms es d c) (functions ks x y) h =
-        partial-1d-structure env0 q q-apart terms r ms es d c ks x y h.0 h.1.0 h.1.1 h.2 h.3 (structures r c y h.4)
+        partial-1d-structure env0 q q-apart terms r ms es d c ks x y h.0 h.1 h.2 h.3 (structures r c y h.4)
     structures (repr ReprKind.FunctionNDPartial (more_reprs r no_reprs)) (function_dom ms es (tuple_dom ds) c) (functions ks (tuples xs) y) h =
-        partial-nd-structure env0 q q-apart terms r ms es ds c ks xs y h.0 h.1.0 h.1.1 h.2 h.3 (structures r c y h.4)
+        partial-nd-structure env0 q q-apart terms r ms es ds c ks xs y h.0 h.1 h.2 h.3 (structures r c y h.4)
     structures (repr ReprKind.MSetOccurrence no_reprs) (mset_dom ms es d) (msets ks e) h = mset-occurrence-structure env0 q q-apart terms ms es d ks e h.0 h.1 h.2
     structures (repr ReprKind.MSetExplicitWithFlags (more_reprs r no_reprs)) (mset_dom ms es d) (msets ks e) h =
         counted-structure env0 q q-apart terms r ms es d ks e (structures r d e h.2) h.0 h.1

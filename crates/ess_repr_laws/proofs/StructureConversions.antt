@@ -1,6 +1,5 @@
 -- What is asked of a layer that only converts the value of its one child, and attributes without a number one by one.
 use Rattle.std.proofs.Common.{◌≡◌, refl, sym, ap, ◌∙◌, subst, Bool, true, false, ◌&&◌, List, [], ◌∷◌, length, ℤ, Option, Some, None, option_map}
-use Rattle.std.specs.List.{list_all}
 use Rattle.ess_semantics.specs.declared.words.ReprKind.{ReprKind}
 use Rattle.ess_semantics.specs.declared.words.Key.{Key}
 use Rattle.ess_semantics.specs.Lists.{and_then, each_of, is_some_and}
@@ -23,7 +22,6 @@ use Rattle.ess_repr_laws.specs.StructureParts.{keys_ex}
 use Rattle.ess_repr_laws.specs.StructureMeaning.{EachFlag}
 use Rattle.ess_repr_laws.proofs.Behind.{behind-none}
 use Rattle.ess_repr_laws.proofs.CanonicalParts.{asked_of}
-use Rattle.ess_repr_laws.proofs.CanonicalPlaces.{AllOf}
 use Rattle.ess_repr_laws.proofs.CellsOfOneChild.{one_child}
 use Rattle.ess_repr_laws.proofs.StructureLayers.{everywhere-valued}
 

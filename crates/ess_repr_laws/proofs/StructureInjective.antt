@@ -7,7 +7,7 @@ use Rattle.ess_semantics.specs.Values.{Text, Value, truth}
 use Rattle.ess_semantics.specs.Order.{same_text}
 use Rattle.ess_semantics.specs.Names.{look}
 use Rattle.ess_semantics.specs.Trees.{Repr, word, Exs, cell_ex, comp_ex, Dom, fun1}
-use Rattle.ess_semantics.specs.Domains.{Attribute, Domain, lists_of}
+use Rattle.ess_semantics.specs.Domains.{Domain, lists_of}
 use Rattle.ess_semantics.specs.Attributes.{is_injective}
 use Rattle.ess_semantics.specs.Operators.{all_different, list_value, false_where_undefined, value_of_node}
 use Rattle.ess_semantics.specs.Tables.{Table, Tables, cell_at}
@@ -18,9 +18,10 @@ use Rattle.ess_semantics.specs.CanonicalTest.{canonical}
 use Rattle.ess_semantics.specs.Meaning.{Env, is_bool_dom, cell_value, meaning}
 use Rattle.ess_semantics.proofs.Orders.{to_list-of_list}
 use Rattle.ess_semantics.proofs.Tests.{and-both}
-use Rattle.ess_repr_laws.specs.StructureParts.{Terms, row_gens, row_index, differ_ex, level_behind, first_name}
+use Rattle.ess_repr_laws.specs.StructureParts.{Terms, row_gens, row_index, level_behind, first_name}
+use Rattle.ess_repr_laws.specs.FunctionParts.{differ_ex}
 use Rattle.ess_repr_laws.specs.Structure.{shapes}
-use Rattle.ess_repr_laws.specs.StructureMeaning.{fit, Bound, M, AxesAre, Placed, axes_members, has_injective, AtomFor}
+use Rattle.ess_repr_laws.specs.StructureMeaning.{fit, Bound, M, AxesAre, Placed, axes_members}
 use Rattle.ess_repr_laws.specs.Rooms.{Covered}
 use Rattle.ess_repr_laws.proofs.CanonicalPlaces.{AllOf, all-of-map}
 use Rattle.ess_repr_laws.proofs.DifferentCells.{atom, numbers_differ, cells-differ, values-differ, place-values}
@@ -68,13 +69,13 @@ module _ (env0 : Env) (q : ℕ → Text) (q-apart : (m l : ℕ) → l < m → sa
         fits [] h = refl
         fits (p ∷ ps) h = let x = place-cell p h.0 in and-both (fit b (number_at p)) (list_all (fit b) (map number_at ps)) (ap (fit b) x.3 ∙ x.2) (fits ps h.1)
 
-  module _ (ks : List Attribute) (c : Dom) (y : Domain) (ns : List Text) (ts : Tables) where
-    -- Where `injective` stands, the constraint that the values differ says whether they do.
+  module _ (c : Dom) (y : Domain) (ns : List Text) (ts : Tables) where
+    -- The constraint that the values differ says whether they do.
     abbrev pub Differs : Repr → Type 0
     Differs r =
-        (b : Bool) × (has_injective ks ≡ true → meaning (differ_ex q l as' (shapes q terms r c ns) is) (M env0 q q-apart bs) ≡ Some (truth b)) ×
+        (b : Bool) × (meaning (differ_ex q l as' (shapes q terms r c ns) is) (M env0 q q-apart bs) ≡ Some (truth b)) ×
         ((xs vs : List Value) → length vs ≡ length xs → AllOf (lists_of bs0) (λ j. canonical r y (behind j (behind i (cells_of ts))) ≡ true) →
-        each_of (lists_of bs0) (λ j. value_of_cells r y (behind j (behind i (cells_of ts)))) ≡ Some vs → has_injective ks ≡ true → is_injective (with_arguments xs vs) ≡ b)
+        each_of (lists_of bs0) (λ j. value_of_cells r y (behind j (behind i (cells_of ts)))) ≡ Some vs → is_injective (with_arguments xs vs) ≡ b)
 
     abbrev Given : Repr → Type 0
     Given r = Covered r y → Placed env0 q q-apart (shapes q terms r c ns) (axes_members r y) ts → AllOf (lists_of bs0) (λ js. There env0 q q-apart (shapes q terms r c ns) (axes_members r y) ts (i ++ js)) → Differs r
@@ -84,24 +85,20 @@ module _ (env0 : Env) (q : ℕ → Text) (q-apart : (m l : ℕ) → l < m → sa
     differs-atoms (t ∷ u ∷ us) e a p th = let z = subst (λ ts. Placed env0 q q-apart (shapes q terms atom c ns) ([] ∷ []) ts) (sym e) p in absurd z.2
     differs-atoms (t ∷ []) e a p th =
         subst (λ ts. Covered atom y → Placed env0 q q-apart (shapes q terms atom c ns) ([] ∷ []) ts → AllOf (lists_of bs0) (λ js. There env0 q q-apart (shapes q terms atom c ns) ([] ∷ []) ts (i ++ js)) →
-        (b : Bool) × (has_injective ks ≡ true → meaning (differ_ex q l as' (shapes q terms atom c ns) is) (M env0 q q-apart bs) ≡ Some (truth b)) ×
+        (b : Bool) × (meaning (differ_ex q l as' (shapes q terms atom c ns) is) (M env0 q q-apart bs) ≡ Some (truth b)) ×
         ((xs vs : List Value) → length vs ≡ length xs → AllOf (lists_of bs0) (λ j. canonical atom y (behind j (behind i (cells_of ts))) ≡ true) →
-        each_of (lists_of bs0) (λ j. value_of_cells atom y (behind j (behind i (cells_of ts)))) ≡ Some vs → has_injective ks ≡ true → is_injective (with_arguments xs vs) ≡ b)) e
+        each_of (lists_of bs0) (λ j. value_of_cells atom y (behind j (behind i (cells_of ts)))) ≡ Some vs → is_injective (with_arguments xs vs) ≡ b)) e
         (λ a p th. (
           numbers_differ (map (number_at (is_bool_dom c) (first_name ns) t p.0) (lists_of bs0)),
-          (λ h. differ-means (is_bool_dom c) (first_name ns) t p.0
+          differ-means (is_bool_dom c) (first_name ns) t p.0
               (subst (λ a. AllOf (lists_of a) (λ js. is_some_and (cell_at t ((i ++ js) ++ [])) (fit (is_bool_dom c)) ≡ true)) (sym same)
               (all-of-map (lists_of bs0) (λ js. There env0 q q-apart (shapes q terms atom c ns) ([] ∷ []) (t ∷ []) (i ++ js)) (λ js. is_some_and (cell_at t ((i ++ js) ++ [])) (fit (is_bool_dom c)) ≡ true) (λ js x. x.0) th))
-              ∙ ap (λ a. Some (truth (numbers_differ (map (number_at (is_bool_dom c) (first_name ns) t p.0) (lists_of a))))) same),
-          λ xs vs n k v h.
+              ∙ ap (λ a. Some (truth (numbers_differ (map (number_at (is_bool_dom c) (first_name ns) t p.0) (lists_of a))))) same,
+          λ xs vs n k v.
               let z = place-values y a (λ js. cell_at t (i ++ js)) (lists_of bs0) vs k v in
               values-differ y a xs vs n z.0 ∙ ap numbers_differ z.1,
         )) a p th
 
-    -- So for a function whose values are atoms where it is injective.
-    pub differs : (r : Repr) → AtomFor ks r → Given r
-    differs r one a p th = go (has_injective ks) refl
-      where
-        go : (o : Bool) → has_injective ks ≡ o → Differs r
-        go false e = (true, (λ h. let z : true ≡ false = sym h ∙ e in cc), (λ xs vs n k v h. let z : true ≡ false = sym h ∙ e in cc))
-        go true e = subst Given (sym (one e)) (differs-atoms ts refl) a p th
+    -- So for a function whose values are atoms.
+    pub differs : (r : Repr) → r ≡ atom → Given r
+    differs r one = subst Given (sym one) (differs-atoms ts refl)

@@ -1,5 +1,5 @@
 -- What attributes without a number mean as constraints, and when a function with flags is total.
-use Rattle.std.proofs.Common.{◌≡◌, refl, sym, ap, ◌∙◌, Bool, true, false, ◌&&◌, ◌||◌, List, [], ◌∷◌, map, length, ℤ, pos, Option, Some, None, option_map, inl, inr}
+use Rattle.std.proofs.Common.{◌≡◌, refl, sym, ap, ◌∙◌, Bool, true, false, ◌&&◌, List, [], ◌∷◌, map, length, ℤ, pos, Option, Some, None, option_map, inl, inr}
 use Rattle.std.specs.List.{list_all}
 use Rattle.ess_semantics.specs.declared.words.Key.{Key}
 use Rattle.ess_semantics.specs.Lists.{and_then, is_some_and}
@@ -8,16 +8,15 @@ use Rattle.ess_semantics.specs.Order.{same_int}
 use Rattle.ess_semantics.specs.Collections.{holds}
 use Rattle.ess_semantics.specs.Trees.{Mark, flag, valued, Ex}
 use Rattle.ess_semantics.specs.Domains.{Attribute, numbered, flagged, Domain, booleans, members, member_list, lists_of}
-use Rattle.ess_semantics.specs.Attributes.{each_holds, is_total, is_injective, set_attributes_hold, function_attributes_hold, function_holds, size_holds}
+use Rattle.ess_semantics.specs.Attributes.{each_holds, is_total}
 use Rattle.ess_semantics.specs.Cells.{Grid, Axes, every_cell}
 use Rattle.ess_semantics.specs.Layers.{chosen}
 use Rattle.ess_semantics.specs.FunctionLayers.{with_arguments}
 use Rattle.ess_semantics.specs.Meaning.{Env, as_int, attributes_of, meaning}
 use Rattle.ess_semantics.specs.Tables.{is_cell}
 use Rattle.ess_semantics.proofs.Connectives.{and-means}
-use Rattle.ess_semantics.proofs.Tests.{or-yes}
-use Rattle.ess_repr_laws.specs.StructureParts.{keys_ex, total_key_ex, injective_key_ex}
-use Rattle.ess_repr_laws.specs.StructureMeaning.{has_flags_among, is_total_key, no_key, is_total_or_injective, is_injective_key, has_injective}
+use Rattle.ess_repr_laws.specs.StructureParts.{keys_ex}
+use Rattle.ess_repr_laws.specs.StructureMeaning.{has_flags_among, no_key}
 use Rattle.ess_repr_laws.proofs.Arguments.{Arguments, cell-arguments}
 use Rattle.ess_repr_laws.proofs.CanonicalPlaces.{AllOf, all-of-list}
 use Rattle.ess_repr_laws.proofs.Chosen.{Bit, on, chosen-holds}
@@ -72,34 +71,6 @@ attributes-apart (flagged k ∷ ks) f g = ap (λ b. g k && b) (attributes-apart 
 
 -- ---- total
 
--- `total` asks b.
-abbrev pub total_key : Bool → Key → Bool
-total_key b Key.Total = b
-total_key b _ = true
-
--- The constraint of `total`.
-pub total-keys-means : (env : Env) (e : Ex) (b : Bool) (ms : List Mark) (os : List (Option Value)) (ks : List Attribute) → attributes_of ms os ≡ Some ks → meaning e env ≡ Some (truth b) →
-    meaning (keys_ex (total_key_ex e) ms) env ≡ Some (truth (each_holds ks (λ k n. true) (total_key b)))
-total-keys-means env e b ms os ks a h = keys-means env (total_key_ex e) (total_key b) ms os ks a (λ z. each)
-  where
-    each : (k : Key) → meaning (total_key_ex e k) env ≡ Some (truth (total_key b k))
-    each Key.Total = h
-    each _ = refl
-
-total-alike : (ks : List Attribute) (x y : Domain) (ps : List Value) (b : Bool) → has_flags_among is_total_key ks ≡ true → (has_flags_among no_key ks ≡ false → is_total (members x) ps ≡ b) →
-    each_holds ks (λ k n. true) (λ k. function_holds k (members x) (members y) ps) ≡ each_holds ks (λ k n. true) (total_key b)
-total-alike [] x y ps b h t = refl
-total-alike (numbered k n ∷ ks) x y ps b h t = total-alike ks x y ps b h t
-total-alike (flagged Key.Total ∷ ks) x y ps b h t =
-    ap (λ c. c && each_holds ks (λ k n. true) (λ k. function_holds k (members x) (members y) ps)) (t refl) ∙ ap (λ c. b && c) (total-alike ks x y ps b h (λ z. t refl))
-total-alike (flagged _ ∷ ks) x y ps b h t = cc
-
--- Attributes of a function that speak of sizes, or are `total`.
-pub total-attributes : (ks : List Attribute) (x y : Domain) (ps : List Value) (b : Bool) → has_flags_among is_total_key ks ≡ true → (has_flags_among no_key ks ≡ false → is_total (members x) ps ≡ b) →
-    function_attributes_hold ks x y ps ≡ set_attributes_hold ks (length ps) && each_holds ks (λ k n. true) (total_key b)
-total-attributes ks x y ps b h t =
-    attributes-apart ks (λ k n. size_holds k n (length ps)) (λ k. function_holds k (members x) (members y) ps) ∙ ap (λ c. set_attributes_hold ks (length ps) && c) (total-alike ks x y ps b h t)
-
 -- Tests that agree on each of the items.
 pub all-equal : (zs : List Value) (f g : Value → Bool) → AllOf zs (λ z. f z ≡ g z) → list_all f zs ≡ list_all g zs
 all-equal [] f g h = refl
@@ -127,61 +98,3 @@ chosen-total x as' index args g ys vs me bits e long =
       chosen-holds (member_list x) (λ v. g (index v)) ys z e ∙ ap (λ b. b && on (g (index z))) h.0 ∙ bit-on (g (index z)) (bit-cell (g (index z)) k.0),
       each zs h.1 k.1,
     )
-
--- ---- injective
-
--- `injective` asks b.
-abbrev pub injective_key : Bool → Key → Bool
-injective_key b Key.Injective = b
-injective_key b _ = true
-
--- The constraint of `injective`.
-pub injective-keys-means : (env : Env) (e : Ex) (b : Bool) (ms : List Mark) (os : List (Option Value)) (ks : List Attribute) → attributes_of ms os ≡ Some ks → (has_injective ks ≡ true → meaning e env ≡ Some (truth b)) →
-    meaning (keys_ex (injective_key_ex e) ms) env ≡ Some (truth (each_holds ks (λ k n. true) (injective_key b)))
-injective-keys-means env e b [] [] ks a h = let q : [] ≡ ks = cc in ap (λ l. Some (truth (each_holds l (λ k n. true) (injective_key b)))) q
-injective-keys-means env e b [] (o ∷ os) ks a h = cc
-injective-keys-means env e b (flag k ∷ ms) os ks a h = go (attributes_of ms os) refl a (λ ls p i. injective-keys-means env e b ms os ls p i)
-  where
-    first : (k : Key) → (is_injective_key k ≡ true → meaning e env ≡ Some (truth b)) → meaning (injective_key_ex e k) env ≡ Some (truth (injective_key b k))
-    first Key.Injective i = i refl
-    first _ i = refl
-
-    go : (o : Option (List Attribute)) → attributes_of ms os ≡ o → option_map (λ xs. flagged k ∷ xs) o ≡ Some ks →
-        ((ls : List Attribute) → attributes_of ms os ≡ Some ls → (has_injective ls ≡ true → meaning e env ≡ Some (truth b)) →
-        meaning (keys_ex (injective_key_ex e) ms) env ≡ Some (truth (each_holds ls (λ k n. true) (injective_key b)))) →
-        meaning (keys_ex (injective_key_ex e) (flag k ∷ ms)) env ≡ Some (truth (each_holds ks (λ k n. true) (injective_key b)))
-    go None p a ih = cc
-    go (Some ls) p a ih =
-        let q : flagged k ∷ ls ≡ ks = cc in
-        and-means env (injective_key_ex e k) (keys_ex (injective_key_ex e) ms) (injective_key b k) (each_holds ls (λ k n. true) (injective_key b))
-        (first k (λ i. h (ap has_injective (sym q) ∙ ap (λ c. c || has_injective ls) i)))
-        (ih ls p (λ i. h (ap has_injective (sym q) ∙ ap (λ c. is_injective_key k || c) i ∙ or-yes (is_injective_key k))))
-        ∙ ap (λ l. Some (truth (each_holds l (λ k n. true) (injective_key b)))) q
-injective-keys-means env e b (valued k ∷ ms) [] ks a h = cc
-injective-keys-means env e b (valued k ∷ ms) (v ∷ os) ks a h = go (as_int v) (attributes_of ms os) refl a (λ ls p i. injective-keys-means env e b ms os ls p i)
-  where
-    go : (n : Option ℤ) (o : Option (List Attribute)) → attributes_of ms os ≡ o → and_then n (λ z. option_map (λ xs. numbered k z ∷ xs) o) ≡ Some ks →
-        ((ls : List Attribute) → attributes_of ms os ≡ Some ls → (has_injective ls ≡ true → meaning e env ≡ Some (truth b)) →
-        meaning (keys_ex (injective_key_ex e) ms) env ≡ Some (truth (each_holds ls (λ k n. true) (injective_key b)))) →
-        meaning (keys_ex (injective_key_ex e) ms) env ≡ Some (truth (each_holds ks (λ k n. true) (injective_key b)))
-    go None o p a ih = cc
-    go (Some z) None p a ih = cc
-    go (Some z) (Some ls) p a ih =
-        let q : numbered k z ∷ ls ≡ ks = cc in
-        ih ls p (λ i. h (ap has_injective (sym q) ∙ i)) ∙ ap (λ l. Some (truth (each_holds l (λ k n. true) (injective_key b)))) q
-
-injective-alike : (ks : List Attribute) (x y : Domain) (ps : List Value) (b : Bool) → has_flags_among is_total_or_injective ks ≡ true → is_total (members x) ps ≡ true → (has_injective ks ≡ true → is_injective ps ≡ b) →
-    each_holds ks (λ k n. true) (λ k. function_holds k (members x) (members y) ps) ≡ each_holds ks (λ k n. true) (injective_key b)
-injective-alike [] x y ps b h t i = refl
-injective-alike (numbered k n ∷ ks) x y ps b h t i = injective-alike ks x y ps b h t i
-injective-alike (flagged Key.Total ∷ ks) x y ps b h t i =
-    ap (λ c. c && each_holds ks (λ k n. true) (λ k. function_holds k (members x) (members y) ps)) t ∙ injective-alike ks x y ps b h t i
-injective-alike (flagged Key.Injective ∷ ks) x y ps b h t i =
-    ap (λ c. c && each_holds ks (λ k n. true) (λ k. function_holds k (members x) (members y) ps)) (i refl) ∙ ap (λ c. b && c) (injective-alike ks x y ps b h t (λ z. i refl))
-injective-alike (flagged _ ∷ ks) x y ps b h t i = cc
-
--- Attributes of a total function that speak of sizes, or are `total` or `injective`.
-pub injective-attributes : (ks : List Attribute) (x y : Domain) (ps : List Value) (b : Bool) → has_flags_among is_total_or_injective ks ≡ true → is_total (members x) ps ≡ true → (has_injective ks ≡ true → is_injective ps ≡ b) →
-    function_attributes_hold ks x y ps ≡ set_attributes_hold ks (length ps) && each_holds ks (λ k n. true) (injective_key b)
-injective-attributes ks x y ps b h t i =
-    attributes-apart ks (λ k n. size_holds k n (length ps)) (λ k. function_holds k (members x) (members y) ps) ∙ ap (λ c. set_attributes_hold ks (length ps) && c) (injective-alike ks x y ps b h t i)

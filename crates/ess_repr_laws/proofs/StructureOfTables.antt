@@ -15,7 +15,8 @@ use Rattle.ess_repr_laws.specs.StructureParts.{Terms}
 use Rattle.ess_repr_laws.specs.Structure.{shapes, structure}
 use Rattle.ess_repr_laws.specs.CanonicalTables.{TablesFit}
 use Rattle.ess_repr_laws.specs.Laws.{ShapesAreOfTables}
-use Rattle.ess_repr_laws.specs.StructureMeaning.{Bound, M, Placed, axes_members, Ready}
+use Rattle.ess_repr_laws.specs.StructureMeaning.{Bound, M, Placed, axes_members}
+use Rattle.ess_repr_laws.specs.StructureReady.{Ready}
 use Rattle.ess_repr_laws.proofs.AxesOfTables.{axes-differ}
 use Rattle.ess_repr_laws.proofs.Behind.{behind-none}
 use Rattle.ess_repr_laws.proofs.ExactCells.{Exact, AllExact, exact-items}

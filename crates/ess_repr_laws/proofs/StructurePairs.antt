@@ -1,39 +1,36 @@
 -- The structure constraint of a function whose pairs are a relation: that of the relation, and that no argument stands twice. Its
 -- attributes without a number are asked of the relation's view, the sizes are the relation's own.
-use Rattle.std.proofs.Common.{◌≡◌, refl, sym, ap, ◌∙◌, subst, ℕ, suc, ◌+◌, ◌≤◌, ◌<◌, Bool, true, false, ◌&&◌, ◌||◌, not, if◌then◌else◌, List, [], ◌∷◌, ◌++◌, map, length, ℤ, pos, int_le, Option, Some, None, option_map, arith, le_refl}
+use Rattle.std.proofs.Common.{◌≡◌, refl, sym, ap, ◌∙◌, subst, ℕ, ◌+◌, ◌≤◌, ◌<◌, Bool, true, false, ◌&&◌, ◌||◌, not, if◌then◌else◌, List, [], ◌∷◌, map, length, pos, int_le, Option, Some, None, arith}
 use Rattle.std.proofs.lemmas.Bool.{leb-true}
-use Rattle.std.specs.List.{list_all, list_any}
+use Rattle.std.specs.List.{list_all}
 use Rattle.ess_semantics.specs.declared.words.ReprKind.{ReprKind}
 use Rattle.ess_semantics.specs.declared.words.Key.{Key}
-use Rattle.ess_semantics.specs.declared.words.Op2.{Op2}
-use Rattle.ess_semantics.specs.declared.words.Fun.{Fun}
 use Rattle.ess_semantics.specs.Lists.{and_then, when, is_some_and, only_of, or_else}
 use Rattle.ess_semantics.specs.Values.{Text, Value, a_function, a_relation, node, pair, to_list, of_list, truth, from_of, to_of, itself, items_of}
 use Rattle.ess_semantics.specs.Order.{same, same_text}
-use Rattle.ess_semantics.specs.Collections.{holds, rises, no_twice, sorted_once, function_of}
-use Rattle.ess_semantics.specs.Trees.{Mark, Repr, repr, no_reprs, more_reprs, Ex, Exs, name_ex, comp_ex, no_gens, over, name_pat, Dom, function_dom, ex2, fun1}
-use Rattle.ess_semantics.specs.Domains.{Attribute, Domain, Domains, no_domains, more_domains, booleans, functions, relations, members, member_list, has, attribute}
+use Rattle.ess_semantics.specs.Collections.{holds, rises, no_twice, function_of}
+use Rattle.ess_semantics.specs.Trees.{Mark, Repr, repr, no_reprs, more_reprs, Ex, Exs, name_ex, Dom, function_dom}
+use Rattle.ess_semantics.specs.Domains.{Attribute, Domain, no_domains, more_domains, functions, members, member_list, has, attribute}
 use Rattle.ess_semantics.specs.Membership.{is_pair, member}
-use Rattle.ess_semantics.specs.Attributes.{each_holds, function_attributes_hold, function_holds, relation_attributes_hold, set_attributes_hold, size_holds, is_total, is_surjective}
-use Rattle.ess_semantics.specs.Operators.{as_truth, all_true, any_true}
+use Rattle.ess_semantics.specs.Attributes.{each_holds, function_attributes_hold, function_holds, relation_attributes_hold, set_attributes_hold, size_holds, is_total}
+use Rattle.ess_semantics.specs.Operators.{as_truth}
 use Rattle.ess_semantics.specs.Sizes.{bound, child_relation, pair_sizes, size_attributes}
-use Rattle.ess_semantics.specs.Tables.{Tables}
 use Rattle.ess_semantics.specs.Cells.{Cells, behind, cells_of}
 use Rattle.ess_semantics.specs.Layers.{only_child}
 use Rattle.ess_semantics.specs.FunctionLayers.{function_from}
-use Rattle.ess_semantics.specs.Representations.{width, value_of_cells}
-use Rattle.ess_semantics.specs.Declarations.{Declaration, under, declarations_below, axes_of}
+use Rattle.ess_semantics.specs.Representations.{width}
+use Rattle.ess_semantics.specs.Declarations.{Declaration, declarations_below}
 use Rattle.ess_semantics.specs.CanonicalTest.{canonical}
-use Rattle.ess_semantics.specs.Meaning.{Env, attributes_of, domain_of, items_under, meaning, meanings}
-use Rattle.ess_semantics.proofs.Connectives.{and-means, any-means, all-means, binary-means}
+use Rattle.ess_semantics.specs.Meaning.{Env, meaning, meanings}
+use Rattle.ess_semantics.proofs.Connectives.{and-means}
 use Rattle.ess_semantics.proofs.Orders.{same-equal, to_list-of_list}
-use Rattle.ess_semantics.proofs.Sorting.{Distinct, sorted_once-itself, holds-all, all-holds}
+use Rattle.ess_semantics.proofs.Sorting.{sorted_once-itself, holds-all, all-holds}
 use Rattle.ess_semantics.proofs.Tests.{and-left, and-right, and-both}
 use Rattle.ess_repr_laws.specs.Finite.{Enumerated}
-use Rattle.ess_repr_laws.specs.StructureParts.{Terms, and_ex, keys_ex}
+use Rattle.ess_repr_laws.specs.StructureParts.{Terms, keys_ex}
 use Rattle.ess_repr_laws.specs.Structure.{shapes, structure}
-use Rattle.ess_repr_laws.specs.StructureMeaning.{Bound, M, AxesAre, Attributes, DomainIs, EachFlag, BoolIs, PairKeyReady, has_flags_among, no_key, AreSizes, axes_members}
-use Rattle.ess_repr_laws.specs.ViewParts.{view_ex, component_ex, each_item, components_differ_ex, all_taken_ex, pair_key_ex, pair_relation_dom, pairs_ex}
+use Rattle.ess_repr_laws.specs.StructureMeaning.{Bound, M, Attributes, DomainIs, EachFlag, BoolIs, PairKeyReady, has_flags_among, no_key, AreSizes, axes_members}
+use Rattle.ess_repr_laws.specs.ViewParts.{view_ex, component_ex, components_differ_ex, pair_key_ex, pair_relation_dom, pairs_ex}
 use Rattle.ess_repr_laws.proofs.Behind.{behind-length}
 use Rattle.ess_repr_laws.proofs.CanonicalConversions.{is_pair_of, pairs-of-tuples, relation-member-form}
 use Rattle.ess_repr_laws.proofs.CanonicalForms.{right}
@@ -41,16 +38,16 @@ use Rattle.ess_repr_laws.proofs.CanonicalPlaces.{AllOf, all-of-list, all-of-map}
 use Rattle.ess_repr_laws.proofs.CellDomains.{axes-wide}
 use Rattle.ess_repr_laws.proofs.CellsOfMembers.{map-long}
 use Rattle.ess_repr_laws.proofs.FunctionPairs.{pair-of}
+use Rattle.ess_repr_laws.proofs.PairsOfViews.{PairTo, seconds-means, all-taken-means, one-to-one-means}
 use Rattle.ess_repr_laws.proofs.StructureAttributes.{relation-sizes}
 use Rattle.ess_repr_laws.proofs.StructureConversions.{conversion-asked, flags-means, each-flag}
 use Rattle.ess_repr_laws.proofs.StructureFits.{Fit}
 use Rattle.ess_repr_laws.proofs.StructureKeys.{attributes-apart}
 use Rattle.ess_repr_laws.proofs.StructureOf.{StructureOf}
 use Rattle.ess_repr_laws.proofs.StructurePlaces.{placed-long}
-use Rattle.ess_repr_laws.proofs.StructureRows.{From, looked}
 use Rattle.ess_repr_laws.proofs.StructureTupleSets.{plain}
 use Rattle.ess_repr_laws.proofs.Universes.{no-longer}
-use Rattle.ess_repr_laws.proofs.ViewsOfCells.{Stands, components-differ, different-distinct, first-means, images-differ, items-run, members-run, second-means, view-stands}
+use Rattle.ess_repr_laws.proofs.ViewsOfCells.{Stands, components-differ, different-distinct, first-means, images-differ, view-stands}
 
 -- ---- sizes
 
@@ -138,65 +135,16 @@ module _ (env0 : Env) (q : ℕ → Text) (q-apart : (m l : ℕ) → l < m → sa
         (all-of-map ps (Pair x y) (λ p. meaning (component_ex d 1 (name_ex (q l))) (N ((l, p) ∷ bs)) ≡ Some (from_of p))
         (λ p h. ap (λ z. meaning (component_ex d 1 (name_ex (q l))) (N ((l, z) ∷ bs))) h.0 ∙ first-means env0 q q-apart l d x (from_of p) (to_of p) bs bx h.1) pairs)
 
-    seconds-means : meaning (components_differ_ex q l c 2 e) (N bs) ≡ Some (truth (no_twice to_of ps))
-    seconds-means =
-        components-differ env0 q q-apart l c 2 e bs v to_of (st [] tt)
-        (all-of-map ps (Pair x y) (λ p. meaning (component_ex c 2 (name_ex (q l))) (N ((l, p) ∷ bs)) ≡ Some (to_of p))
-        (λ p h. ap (λ z. meaning (component_ex c 2 (name_ex (q l))) (N ((l, z) ∷ bs))) h.0 ∙ second-means env0 q q-apart l c y (from_of p) (to_of p) bs by' h.2) pairs)
-
-    -- Whether u is the second part of a pair.
-    taken-means : (u : Value) →
-        meaning (fun1 true Fun.Or (comp_ex (ex2 true Op2.Eq (component_ex c 2 (name_ex (q (suc l)))) (name_ex (q l))) (each_item q (suc l) e no_gens))) (N ((l, u) ∷ bs)) ≡ Some (truth (holds (map to_of ps) u))
-    taken-means u =
-        any-means (N ((l, u) ∷ bs)) test (each_item q (suc l) e no_gens) (map bit ps)
-        (items-run env0 q q-apart (suc l) e no_gens ((l, u) ∷ bs) (λ here. option_map (λ z. z ∷ []) (meaning test here)) v bit (st ((l, u) ∷ []) (le_refl l, tt))
-        (all-of-map ps (Pair x y) (λ p. option_map (λ z. z ∷ []) (meaning test (N ((suc l, p) ∷ (l, u) ∷ bs))) ≡ Some (bit p ∷ [])) (λ p h. ap (option_map (λ z. z ∷ [])) (one p h)) pairs))
-        ∙ ap (λ b. Some (truth b)) (some-bit ps)
-      where
-        test : Ex
-        test = ex2 true Op2.Eq (component_ex c 2 (name_ex (q (suc l)))) (name_ex (q l))
-
-        bit : Value → Value
-        bit p = truth (same (to_of p) u)
-
-        one : (p : Value) → Pair x y p → meaning test (N ((suc l, p) ∷ (l, u) ∷ bs)) ≡ Some (bit p)
-        one p h =
-            binary-means (N ((suc l, p) ∷ (l, u) ∷ bs)) true Op2.Eq (component_ex c 2 (name_ex (q (suc l)))) (name_ex (q l)) (to_of p) u
-            (ap (λ z. meaning (component_ex c 2 (name_ex (q (suc l)))) (N ((suc l, z) ∷ (l, u) ∷ bs))) h.0 ∙ second-means env0 q q-apart (suc l) c y (from_of p) (to_of p) ((l, u) ∷ bs) by' h.2)
-            (looked env0 q q-apart l u bs ((suc l, p) ∷ []) (le_refl (suc l), tt))
-
-        some-bit : (zs : List Value) → any_true (map bit zs) ≡ holds (map to_of zs) u
-        some-bit [] = refl
-        some-bit (z ∷ zs) = ap (λ b. same (to_of z) u || b) (some-bit zs)
-
-    all-taken-means : (members y ≡ Some (member_list y)) × AxesAre env0 q q-apart (c ∷ []) (member_list y ∷ []) → meaning (all_taken_ex q l c e) (N bs) ≡ Some (truth (is_surjective (members y) ps))
-    all-taken-means h =
-        all-means (N bs) part (over (name_pat (q l)) c no_gens) (map bit (member_list y))
-        (members-run env0 q q-apart l c no_gens bs (λ here. option_map (λ z. z ∷ []) (meaning part here)) (member_list y) bit (h.1.0 bs) (each (member_list y)))
-        ∙ ap (λ b. Some (truth b)) (all-bit (member_list y)) ∙ ap (λ o. Some (truth (is_some_and o (λ vs. list_all (λ u. holds (map to_of ps) u) vs)))) (sym h.0)
-      where
-        part : Ex
-        part = fun1 true Fun.Or (comp_ex (ex2 true Op2.Eq (component_ex c 2 (name_ex (q (suc l)))) (name_ex (q l))) (each_item q (suc l) e no_gens))
-
-        bit : Value → Value
-        bit u = truth (holds (map to_of ps) u)
-
-        each : (us : List Value) → AllOf us (λ u. option_map (λ z. z ∷ []) (meaning part (N ((l, u) ∷ bs))) ≡ Some (bit u ∷ []))
-        each [] = tt
-        each (u ∷ us) = (ap (option_map (λ z. z ∷ [])) (taken-means u), each us)
-
-        all-bit : (us : List Value) → all_true (map bit us) ≡ list_all (λ u. holds (map to_of ps) u) us
-        all-bit [] = refl
-        all-bit (u ∷ us) = ap (λ b. holds (map to_of ps) u && b) (all-bit us)
+    second_parts : AllOf ps (PairTo y)
+    second_parts = all-of-map ps (Pair x y) (PairTo y) (λ p h. (h.0, h.2)) pairs
 
     key-means : no_twice from_of ps ≡ true → (has Key.Total ks ≡ true → bound x ≤ length ps) → (k : Key) → PairKeyReady env0 q q-apart c ks x y k →
         meaning (pair_key_ex q l c e k) (N bs) ≡ Some (truth (function_holds k (members x) (members y) ps))
     key-means d n Key.Total h =
         ap (λ b. Some (truth b)) (sym (ap (λ o. is_total o ps) h.1 ∙ all-are-arguments x h.2 ps d (all-of-map ps (Pair x y) (λ p. member x (from_of p) ≡ true) (λ p z. z.1) pairs) (n h.0)))
-    key-means d n Key.Injective h = seconds-means
-    key-means d n Key.Surjective h = all-taken-means h
-    key-means d n Key.Bijective h =
-        and-means (N bs) (components_differ_ex q l c 2 e) (all_taken_ex q l c e) (no_twice to_of ps) (is_surjective (members y) ps) seconds-means (all-taken-means h)
+    key-means d n Key.Injective h = seconds-means env0 q q-apart c y by' l bs e v st second_parts
+    key-means d n Key.Surjective h = all-taken-means env0 q q-apart c y by' l bs e v st second_parts h
+    key-means d n Key.Bijective h = one-to-one-means env0 q q-apart c y by' l bs e v st second_parts h
     key-means d n _ h = refl
 
     -- What is asked of the pairs.

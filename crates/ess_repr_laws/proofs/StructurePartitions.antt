@@ -1,6 +1,6 @@
 -- The structure constraint of a partition whose parts are a set: that of the set, that each value is in one part, and that none is
 -- empty. The numbers and sizes of parts are the set's own.
-use Rattle.std.proofs.Common.{◌≡◌, refl, sym, ap, ◌∙◌, subst, ℕ, suc, ◌+◌, ◌<◌, Bool, true, false, ◌&&◌, ◌||◌, not, if◌then◌else◌, List, [], ◌∷◌, map, length, ℤ, pos, ◌+ℤ◌, Option, Some, option_map, arith, le_refl}
+use Rattle.std.proofs.Common.{◌≡◌, refl, sym, ap, ◌∙◌, subst, ℕ, suc, ◌+◌, ◌<◌, Bool, true, false, ◌&&◌, ◌||◌, not, if◌then◌else◌, List, [], ◌∷◌, map, length, pos, ◌+ℤ◌, Option, Some, option_map, arith, le_refl}
 use Rattle.std.specs.List.{list_all}
 use Rattle.ess_semantics.specs.declared.words.ReprKind.{ReprKind}
 use Rattle.ess_semantics.specs.declared.words.Key.{Key}
@@ -10,7 +10,7 @@ use Rattle.ess_semantics.specs.declared.words.Fun.{Fun}
 use Rattle.ess_semantics.specs.Lists.{when, is_some_and}
 use Rattle.ess_semantics.specs.Values.{Text, Value, a_set, a_partition, node, number, to_list, of_list, truth, itself, items_of}
 use Rattle.ess_semantics.specs.Order.{same, same_text}
-use Rattle.ess_semantics.specs.Collections.{holds, rises, sorted_once, partition_of, has_empty_part, has_overlap}
+use Rattle.ess_semantics.specs.Collections.{holds, rises, partition_of, has_empty_part, has_overlap}
 use Rattle.ess_semantics.specs.Trees.{unary, word, Mark, Repr, repr, no_reprs, more_reprs, Ex, Exs, number_ex, name_ex, comp_ex, no_gens, over, name_pat, Dom, partition_dom, ex1, ex2, fun1}
 use Rattle.ess_semantics.specs.Domains.{Attribute, Domain, sets, partitions, members, member_list}
 use Rattle.ess_semantics.specs.Membership.{covers, member}

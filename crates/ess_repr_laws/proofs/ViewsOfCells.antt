@@ -1,13 +1,13 @@
 -- What a view means where its tables are found, and what comprehensions over its items mean.
-use Rattle.std.proofs.Common.{◌≡◌, refl, sym, ap, ◌∙◌, ℕ, suc, ◌≤◌, ◌<◌, Bool, true, false, ◌&&◌, ◌||◌, not, List, [], ◌∷◌, ◌++◌, map, ℤ, Option, Some, option_map, arith, le_refl}
-use Rattle.std.specs.List.{list_all, list_any}
+use Rattle.std.proofs.Common.{◌≡◌, refl, sym, ap, ◌∙◌, ℕ, ◌<◌, Bool, true, false, ◌&&◌, ◌||◌, not, List, [], ◌∷◌, ◌++◌, map, ℤ, Option, Some, option_map}
+use Rattle.std.specs.List.{list_any}
 use Rattle.ess_semantics.specs.declared.words.Fun.{Fun}
 use Rattle.ess_semantics.specs.Lists.{and_then, all_some}
 use Rattle.ess_semantics.specs.Values.{a_tuple, a_matrix, a_set, a_mset, a_function, a_relation, a_partition, a_record, Text, Value, number, truth, item, node, pair, items_of}
 use Rattle.ess_semantics.specs.Order.{same, same_text}
 use Rattle.ess_semantics.specs.Collections.{holds, no_twice}
 use Rattle.ess_semantics.specs.Names.{look}
-use Rattle.ess_semantics.specs.Trees.{to_component, index, word, Repr, Ex, Exs, name_ex, comp_ex, Gens, no_gens, over, name_pat, Dom, fun1}
+use Rattle.ess_semantics.specs.Trees.{to_component, index, word, Repr, Ex, Exs, name_ex, Gens, no_gens, over, name_pat, Dom}
 use Rattle.ess_semantics.specs.Domains.{Domain, booleans}
 use Rattle.ess_semantics.specs.Membership.{member}
 use Rattle.ess_semantics.specs.Operators.{all_different, list_value, false_where_undefined, value_of_node}
@@ -21,7 +21,7 @@ use Rattle.ess_repr_laws.specs.StructureParts.{Shape}
 use Rattle.ess_repr_laws.specs.StructureMeaning.{Bound, M, Placed, DomainIs}
 use Rattle.ess_repr_laws.specs.ViewParts.{shape_names, view_ex, component_ex, each_item, components_differ_ex}
 use Rattle.ess_repr_laws.proofs.CanonicalPlaces.{AllOf}
-use Rattle.ess_repr_laws.proofs.StructureRows.{From, Steady, looked, steady-more}
+use Rattle.ess_repr_laws.proofs.StructureRows.{From, Steady, looked}
 
 -- ---- lists
 

@@ -30,7 +30,8 @@ use Rattle.ess_repr_laws.specs.TypedDomains.{OneType, SameOrder, Typed, has_plai
 use Rattle.ess_repr_laws.specs.CanonicalTables.{TablesFit, Right, OneForm, is_compound}
 use Rattle.ess_repr_laws.specs.StructureParts.{Terms}
 use Rattle.ess_repr_laws.specs.Structure.{shapes, structure}
-use Rattle.ess_repr_laws.specs.StructureMeaning.{Bound, M, FoundBy, Placed, axes_members, Ready}
+use Rattle.ess_repr_laws.specs.StructureMeaning.{Bound, M, FoundBy, Placed, axes_members}
+use Rattle.ess_repr_laws.specs.StructureReady.{Ready}
 
 -- The representation is one for the domain expression, which is well formed and needs slots of a known number.
 pub record Fitting (r : Repr) (d : Dom) : Type 0 where
@@ -119,9 +120,8 @@ pub record LayersAreComposed : Type 0 where
 -- are canonical. So for atoms, tuples, records and matrices; for sets kept as the members that occur, or in slots that are all in
 -- use, up to a marker, with flags, or with a dummy; for multisets by how often each member occurs, or in slots with these numbers
 -- or up to a marker, where of the latter nothing is asked but sizes; for functions with a value or a flag and a value for each
--- argument and relations as matrices or as sets, where of these nothing is asked but sizes, `total` of a function,
--- `injective` of one without flags whose values are atoms, and `reflexive` and `irreflexive` of a matrix; for functions as
--- relations, with all attributes; and for partitions as sets, with all attributes; in any nesting.
+-- argument, or as relations, with all attributes; for relations as matrices or as sets, where of these nothing is asked but sizes,
+-- and `reflexive` and `irreflexive` of a matrix; and for partitions as sets, with all attributes; in any nesting.
 abbrev pub StructuresMeanCanonical : Type 0
 StructuresMeanCanonical =
     (env0 : Env) (q : ℕ → Text) (apart : (m l : ℕ) → l < m → same_text (q m) (q l) ≡ false) (terms : Terms) →

@@ -10,8 +10,10 @@ pub mod TypedDomains
 pub mod StructureParts
 pub mod RelationParts
 pub mod ViewParts
+pub mod FunctionParts
 pub mod PartSizes
 pub mod Structure
 pub mod StructureMeaning
+pub mod StructureReady
 -- What is proved
 pub mod Laws

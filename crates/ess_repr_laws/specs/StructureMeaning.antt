@@ -1,16 +1,10 @@
 -- What is asked of a view and its tables so that its structure constraint means that the cells are canonical. Reserved names
 -- q 0, q 1 and so on may be bound, each to a value.
-use Rattle.std.specs.Prelude.{◌≡◌, if◌then◌else◌, length, ℕ, ◌<◌, Bool, true, false, ◌&&◌, ◌||◌, not, List, [], ◌∷◌, ◌++◌, map, ℤ, pos, Some}
-use Rattle.ess_repr_laws.specs.StructureParts.{Shape, Terms, tuple_set_dom}
-use Rattle.ess_repr_laws.specs.ViewParts.{pair_relation_dom, part_set_dom}
-use Rattle.ess_repr_laws.specs.PartSizes.{ArePartSizes}
-use Rattle.ess_semantics.specs.Kinds.{dom_list}
-use Rattle.ess_semantics.specs.Atoms.{IsAtom, AreAtoms}
-use Rattle.ess_repr_laws.specs.Finite.{HaveLists, Complete, Enumerated}
-use Rattle.ess_semantics.specs.Attributes.{each_holds, partition_holds, set_attributes_hold}
-use Rattle.ess_semantics.specs.Lists.{or_else}
-use Rattle.std.specs.List.{list_all}
-use Rattle.ess_repr_laws.specs.Rooms.{HasDummy}
+use Rattle.std.specs.Prelude.{◌≡◌, ℕ, ◌<◌, Bool, true, false, ◌&&◌, not, List, [], ◌∷◌, ◌++◌, map, ℤ, pos, Some}
+use Rattle.ess_repr_laws.specs.StructureParts.{Shape, Terms}
+use Rattle.ess_repr_laws.specs.FunctionParts.{bare_function_dom, is_one_cell}
+use Rattle.ess_repr_laws.specs.Finite.{Enumerated}
+use Rattle.ess_semantics.specs.Attributes.{set_attributes_hold}
 use Rattle.ess_semantics.specs.SetLayers.{dummy_of}
 use Rattle.ess_semantics.specs.Domains.{booleans, Attribute, attribute, has, numbered, flagged, Domain, Domains, no_domains, more_domains, tuples, records, matrices, sets, msets, functions, relations, partitions, domain_list, members, member_list}
 use Rattle.ess_semantics.specs.Layers.{as_cell}
@@ -18,10 +12,10 @@ use Rattle.ess_semantics.specs.Meaning.{Env, members_in, cell_value, meaning, me
 use Rattle.ess_semantics.specs.Names.{look}
 use Rattle.ess_semantics.specs.Numbers.{one_to}
 use Rattle.ess_semantics.specs.Order.{same_text}
-use Rattle.ess_semantics.specs.Sizes.{slots_of_set, slots_of_mset, size_attributes, pair_sizes, child_relation, child_set, child_parts, bound}
+use Rattle.ess_semantics.specs.Sizes.{slots_of_set, slots_of_mset, size_attributes, child_relation, child_set, child_parts}
 use Rattle.ess_semantics.specs.Tables.{Tables, is_cell}
-use Rattle.ess_semantics.specs.Trees.{Ex, Exs, Dom, Doms, no_doms, more_doms, Mark, Repr, Reprs, repr, no_reprs, more_reprs, tuple_dom, record_dom, matrix_dom, set_dom, mset_dom, function_dom, relation_dom, partition_dom, no_exs, more_exs}
-use Rattle.ess_semantics.specs.Values.{Text, Value, items_of, number, truth}
+use Rattle.ess_semantics.specs.Trees.{Ex, Exs, Dom, Mark, Repr, Reprs, repr, no_reprs, more_reprs, no_exs, more_exs}
+use Rattle.ess_semantics.specs.Values.{Text, Value, number, truth}
 use Rattle.ess_semantics.specs.declared.words.Key.{Key}
 use Rattle.ess_semantics.specs.declared.words.ReprKind.{ReprKind}
 
@@ -45,39 +39,9 @@ has_flags_among f [] = true
 has_flags_among f (numbered k n ∷ ks) = has_flags_among f ks
 has_flags_among f (flagged k ∷ ks) = f k && has_flags_among f ks
 
--- `total` alone.
-abbrev pub is_total_key : Key → Bool
-is_total_key Key.Total = true
-is_total_key k = false
-
--- `total` and `injective`.
-abbrev pub is_total_or_injective : Key → Bool
-is_total_or_injective Key.Total = true
-is_total_or_injective Key.Injective = true
-is_total_or_injective k = false
-
--- `injective` alone.
-abbrev pub is_injective_key : Key → Bool
-is_injective_key Key.Injective = true
-is_injective_key k = false
-
--- Whether `injective` is one of the attributes.
-abbrev pub has_injective : List Attribute → Bool
-has_injective [] = false
-has_injective (numbered k n ∷ ks) = has_injective ks
-has_injective (flagged k ∷ ks) = is_injective_key k || has_injective ks
-
--- The values of an injective function are atoms.
-abbrev pub AtomFor : List Attribute → Repr → Type 0
-AtomFor ks r = has_injective ks ≡ true → r ≡ repr ReprKind.Atom no_reprs
-
 -- None.
 abbrev pub no_key : Key → Bool
 no_key k = false
-
--- The members are listed, where an attribute without a number asks for them.
-abbrev pub ListedFor : List Attribute → Domain → Type 0
-ListedFor ks x = has_flags_among no_key ks ≡ false → members x ≡ Some (member_list x)
 
 -- `reflexive` and `irreflexive`.
 abbrev pub is_diagonal_key : Key → Bool
@@ -210,6 +174,29 @@ module _ (env0 : Env) (q : ℕ → Text) (q-apart : (m l : ℕ) → l < m → sa
   PairKeyReady c ks x y Key.Bijective = (members y ≡ Some (member_list y)) × AxesAre (c ∷ []) (member_list y ∷ [])
   PairKeyReady c ks x y _ = Unit {0}
 
+  -- The domain of functions from d to c of which nothing is asked is that from x to y, and c is bool only where y is.
+  abbrev pub BareFunctionIs : Dom → Dom → Domain → Domain → Type 0
+  BareFunctionIs d c x y = DomainIs (bare_function_dom d c) (functions [] x y) × BoolIs c y
+
+  -- The members of y are listed, and c has them.
+  abbrev pub ValuesListed : Dom → Domain → Type 0
+  ValuesListed c y = (members y ≡ Some (member_list y)) × AxesAre (c ∷ []) (member_list y ∷ [])
+
+  -- What an attribute without a number asks of a function from x to y with a value for each argument, as the domains d and c.
+  abbrev pub ValueKeyReady : Repr → Dom → Dom → Domain → Domain → Key → Type 0
+  ValueKeyReady r d c x y Key.Injective = is_one_cell r ≡ false → BareFunctionIs d c x y
+  ValueKeyReady r d c x y Key.Surjective = BareFunctionIs d c x y × ValuesListed c y
+  ValueKeyReady r d c x y Key.Bijective = BareFunctionIs d c x y × ValuesListed c y
+  ValueKeyReady r d c x y _ = Unit {0}
+
+  -- What it asks of one with flags.
+  abbrev pub FlagKeyReady : Dom → Dom → Domain → Domain → Key → Type 0
+  FlagKeyReady d c x y Key.Total = members x ≡ Some (member_list x)
+  FlagKeyReady d c x y Key.Injective = BareFunctionIs d c x y
+  FlagKeyReady d c x y Key.Surjective = BareFunctionIs d c x y × ValuesListed c y
+  FlagKeyReady d c x y Key.Bijective = BareFunctionIs d c x y × ValuesListed c y
+  FlagKeyReady d c x y _ = Unit {0}
+
 module _ (env0 : Env) (q : ℕ → Text) (q-apart : (m l : ℕ) → l < m → same_text (q m) (q l) ≡ false) (terms : Terms) where
   -- The attributes are these, whatever names are bound.
   abbrev pub Attributes : List Mark → Exs → List Attribute → Type 0
@@ -230,62 +217,3 @@ module _ (env0 : Env) (q : ℕ → Text) (q-apart : (m l : ℕ) → l < m → sa
   -- The term for the dummy is its number, whatever names are bound.
   abbrev pub DummyIs : Dom → Domain → Type 0
   DummyIs d e = (m : ℤ) × (dummy_of e ≡ Some m) × ((bs : Bound env0 q q-apart) → Number (terms.dummy d) (M env0 q q-apart bs) m)
-
-  abbrev mutual
-    -- What the domain's parts mean, whatever names are bound.
-    pub Ready : Repr → Dom → Domain → Type 0
-    Ready (repr ReprKind.Atom no_reprs) d e = (IsAtom e × (is_bool_dom d ≡ true → e ≡ booleans)) × AtomReady d e
-    Ready (repr ReprKind.Tuple rs) (tuple_dom ds) (tuples es) = AllReady rs ds (domain_list es)
-    Ready (repr ReprKind.Rec rs) (record_dom fs ds) (records gs es) = AllReady rs ds (domain_list es)
-    Ready (repr ReprKind.Matrix (more_reprs r no_reprs)) (matrix_dom is d) (matrices js e) =
-        (AreAtoms js × HaveLists js) × AxesAre env0 q q-apart (dom_list is) (index_members js) × Ready r d e
-    Ready (repr ReprKind.Occurrence no_reprs) (set_dom ms es d) (sets ks e) =
-        IsAtom e × (members e ≡ Some (member_list e)) ×
-        ((bs : Bound env0 q q-apart) → members_in (domain_of d (M env0 q q-apart bs)) ≡ Some (member_list e)) × Attributes ms es ks
-    Ready (repr ReprKind.Explicit (more_reprs r no_reprs)) (set_dom ms es d) (sets ks e) =
-        Attributes ms es ks × SlotsAre (set_dom ms es d) (slots_of_set ks e) × Ready r d e
-    Ready (repr ReprKind.ExplicitVarSizeWithMarker (more_reprs r no_reprs)) (set_dom ms es d) (sets ks e) =
-        Attributes ms es ks × SlotsAre (set_dom ms es d) (slots_of_set ks e) × Ready r d e
-    Ready (repr ReprKind.ExplicitVarSizeWithFlags (more_reprs r no_reprs)) (set_dom ms es d) (sets ks e) =
-        Attributes ms es ks × SlotsAre (set_dom ms es d) (slots_of_set ks e) × Ready r d e
-    Ready (repr ReprKind.Function1D (more_reprs r no_reprs)) (function_dom ms es d c) (functions ks x y) =
-        IsAtom x × (members x ≡ Some (member_list x)) × ((has_flags_among is_total_or_injective ks ≡ true) × AtomFor ks r) ×
-        AxesAre env0 q q-apart (d ∷ []) (member_list x ∷ []) × Attributes ms es ks × Ready r c y
-    Ready (repr ReprKind.FunctionND (more_reprs r no_reprs)) (function_dom ms es (tuple_dom ds) c) (functions ks (tuples xs) y) =
-        AreAtoms xs × (members (tuples xs) ≡ Some (member_list (tuples xs))) ×
-        ((has_flags_among is_total_or_injective ks ≡ true) × AtomFor ks r) × AxesAre env0 q q-apart (dom_list ds) (index_members xs) × Attributes ms es ks × Ready r c y
-    Ready (repr ReprKind.RelationAsMatrix no_reprs) (relation_dom ms es ds) (relations ks xs) =
-        AreAtoms xs × ((has_flags_among is_diagonal_key ks ≡ true) × PairsFor ks xs) ×
-        AxesAre env0 q q-apart (dom_list ds) (index_members xs) × Attributes ms es ks
-    Ready (repr ReprKind.Function1DPartial (more_reprs r no_reprs)) (function_dom ms es d c) (functions ks x y) =
-        IsAtom x × ((has_flags_among is_total_key ks ≡ true) × ListedFor ks x) × AxesAre env0 q q-apart (d ∷ []) (member_list x ∷ []) ×
-        Attributes ms es ks × Ready r c y
-    Ready (repr ReprKind.FunctionNDPartial (more_reprs r no_reprs)) (function_dom ms es (tuple_dom ds) c) (functions ks (tuples xs) y) =
-        AreAtoms xs × ((has_flags_among is_total_key ks ≡ true) × ListedFor ks (tuples xs)) ×
-        AxesAre env0 q q-apart (dom_list ds) (index_members xs) × Attributes ms es ks × Ready r c y
-    Ready (repr ReprKind.MSetOccurrence no_reprs) (mset_dom ms es d) (msets ks e) =
-        IsAtom e × AxesAre env0 q q-apart (d ∷ []) (member_list e ∷ []) × Attributes ms es ks
-    Ready (repr ReprKind.MSetExplicitWithFlags (more_reprs r no_reprs)) (mset_dom ms es d) (msets ks e) =
-        Attributes ms es ks × SlotsAre (mset_dom ms es d) (slots_of_mset ks e) × Ready r d e
-    Ready (repr ReprKind.MSetExplicitWithRepetition (more_reprs r no_reprs)) (mset_dom ms es d) (msets ks e) =
-        Attributes ms es ks × SlotsAre (mset_dom ms es d) (slots_of_mset ks e) × (asks_no_times ks ≡ true) × Ready r d e
-    Ready (repr ReprKind.ExplicitVarSizeWithDummy no_reprs) (set_dom ms es d) (sets ks e) =
-        (HasDummy e × (is_bool_dom d ≡ false) × AtomReady d e) × DummyIs d e × Attributes ms es ks ×
-        SlotsAre (set_dom ms es d) (slots_of_set ks e)
-    Ready (repr ReprKind.RelationAsSet (more_reprs r no_reprs)) (relation_dom ms es ds) (relations ks xs) =
-        ((has_flags_among no_key ks ≡ true) × AreSizes (tuple_set_sizes ks) ks) × Ready r (tuple_set_dom ms es ds) (child_set ks xs)
-    Ready (repr ReprKind.FunctionAsRelation (more_reprs r no_reprs)) (function_dom ms es d c) (functions ks x y) =
-        (BoolIs d x × BoolIs c y) × (AreSizes (pair_sizes ks x) ks × EachFlag (PairKeyReady env0 q q-apart c ks x y) ks) × Attributes ms es ks ×
-        DomainIs env0 q q-apart (pair_relation_dom terms ms es d c) (child_relation ks x y) ×
-        Ready r (pair_relation_dom terms ms es d c) (child_relation ks x y)
-    Ready (repr ReprKind.PartitionAsSet (more_reprs r no_reprs)) (partition_dom ms es d) (partitions ks x) =
-        ((members x ≡ Some (member_list x)) × Complete x × AxesAre env0 q q-apart (d ∷ []) (member_list x ∷ [])) ×
-        (ArePartSizes ks x × Attributes ms es ks) × DomainIs env0 q q-apart (part_set_dom terms ms es d) (child_parts ks x) ×
-        Ready r (part_set_dom terms ms es d) (child_parts ks x)
-    Ready _ d e = ⊥
-
-    -- The same of components.
-    pub AllReady : Reprs → Doms → List Domain → Type 0
-    AllReady no_reprs no_doms [] = Unit {0}
-    AllReady (more_reprs r rs) (more_doms d ds) (e ∷ es) = Ready r d e × AllReady rs ds es
-    AllReady _ _ es = ⊥

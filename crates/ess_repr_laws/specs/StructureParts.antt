@@ -64,16 +64,6 @@ keys_ex f [] = truth_ex true
 keys_ex f (flag k ∷ ms) = and_ex (f k) (keys_ex f ms)
 keys_ex f (valued k ∷ ms) = keys_ex f ms
 
--- `total` says e.
-abbrev pub total_key_ex : Ex → Key → Ex
-total_key_ex e Key.Total = e
-total_key_ex e _ = truth_ex true
-
--- `injective` says e.
-abbrev pub injective_key_ex : Ex → Key → Ex
-injective_key_ex e Key.Injective = e
-injective_key_ex e _ = truth_ex true
-
 -- The number of the first name behind those of the axes.
 abbrev pub level_behind : ℕ → List Dom → ℕ
 level_behind l [] = l
@@ -188,24 +178,6 @@ module _ (q : ℕ → Text) where
   -- How many places axes have.
   abbrev pub place_count_ex : ℕ → List Dom → Ex
   place_count_ex l as' = fun1 false Fun.Sum (comp_ex (number_ex (pos 1)) (row_gens l as'))
-
-  -- The values at the places differ, where each is one cell.
-  abbrev pub differ_ex : ℕ → List Dom → List Shape → Exs → Ex
-  differ_ex l as' (s ∷ []) is = fun1 true Fun.AllDiff (comp_ex (cell_ex s.truth s.name (row_index l as' is)) (row_gens l as'))
-  differ_ex l as' _ is = truth_ex false
-
-  -- A value at each place: each is canonical (part). Where the function is injective, they differ.
-  abbrev pub total_ex : ℕ → List Mark → Exs → List Dom → List Shape → Exs → Ex → Ex
-  total_ex l ms es as' ss is part =
-      and_ex (each_ex l as' part) (and_ex (size_ex ms es (place_count_ex l as')) (keys_ex (injective_key_ex (differ_ex l as' ss is)) ms))
-
-  -- A flag and a value at each place: where the flag is true the value is canonical (part), elsewhere its cells are 0 or false. Where
-  -- the function is total, each flag is true.
-  abbrev pub partial_ex : ℕ → List Mark → Exs → List Dom → Text → Exs → List Shape → Ex → Ex
-  partial_ex l ms es as' n is ss part =
-      let flag : Ex = cell_ex true n (row_index l as' is) in
-      and_ex (each_ex l as' (and_ex (implies_ex flag part) (implies_ex (ex1 true Op1.Not flag) (zeros_ex (level_behind l as') ss (row_index l as' is)))))
-      (and_ex (size_ex ms es (true_count_ex l as' n is)) (keys_ex (total_key_ex (each_ex l as' flag)) ms))
 
   -- The sum of the numbers of a table.
   abbrev pub number_sum_ex : ℕ → List Dom → Text → Exs → Ex

@@ -9,7 +9,7 @@ use Rattle.ess_semantics.specs.Domains.{same_key}
 use Rattle.ess_semantics.specs.Kinds.{has_key}
 use Rattle.ess_semantics.specs.Meaning.{is_bool_dom}
 use Rattle.ess_semantics.specs.Values.{Text}
-use Rattle.ess_semantics.specs.Trees.{flag, number_ex, ex1, to_component, index, Doms, no_doms, more_doms, relation_dom, set_dom, Mark, valued, Repr, name_pat, Ex, Exs, truth_ex, name_ex, node_ex, comp_ex, seen_ex, no_exs, more_exs, Gens, no_gens, over, from, Dom, ex2, fun1}
+use Rattle.ess_semantics.specs.Trees.{flag, number_ex, ex1, to_component, index, no_doms, more_doms, relation_dom, set_dom, Mark, valued, Repr, name_pat, Ex, Exs, truth_ex, name_ex, node_ex, comp_ex, seen_ex, no_exs, more_exs, Gens, no_gens, over, from, Dom, ex2, fun1}
 use Rattle.ess_repr_laws.specs.StructureParts.{Shape, Terms, and_ex, le_ex, keys_ex, number_of_key}
 
 -- The names of tables.
