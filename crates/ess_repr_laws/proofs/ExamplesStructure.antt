@@ -3,10 +3,11 @@ use Rattle.std.proofs.Common.{◌≡◌, refl, sym, ap, ℕ, ℤ, ◌<◌, true,
 use Rattle.ess_semantics.specs.declared.words.ReprKind.{ReprKind}
 use Rattle.ess_semantics.specs.declared.words.Fun.{Fun}
 use Rattle.ess_semantics.specs.declared.words.Key.{Key}
+use Rattle.ess_semantics.specs.declared.words.Op2.{Op2}
 use Rattle.std.specs.Prelude.{codes}
 use Rattle.ess_semantics.specs.Values.{Text, truth}
 use Rattle.ess_semantics.specs.Order.{same_text}
-use Rattle.ess_semantics.specs.Trees.{valued, flag, Repr, repr, no_reprs, more_reprs, Ex, number_ex, truth_ex, no_exs, Dom, bool_dom, tuple_dom, matrix_dom, set_dom, function_dom, no_doms, more_doms, more_exs, name_ex, cell_ex, comp_ex, over, name_pat, no_gens, fun1, relation_dom, partition_dom, node_ex, seen_ex, from, index, to_component}
+use Rattle.ess_semantics.specs.Trees.{valued, flag, Repr, repr, no_reprs, more_reprs, Ex, number_ex, truth_ex, no_exs, Dom, bool_dom, tuple_dom, matrix_dom, set_dom, function_dom, no_doms, more_doms, more_exs, name_ex, cell_ex, comp_ex, over, name_pat, no_gens, fun1, ex2, tuple_literal, relation_dom, partition_dom, node_ex, seen_ex, from, index, to_component}
 use Rattle.ess_semantics.specs.Domains.{Domain, booleans, sets}
 use Rattle.ess_semantics.specs.Tables.{Tables, is_cell}
 use Rattle.ess_semantics.specs.Cells.{cells_of}
@@ -17,7 +18,7 @@ use Rattle.ess_semantics.specs.Meaning.{Env, meaning}
 use Rattle.ess_semantics.specs.Tidy.{over_axes}
 use Rattle.ess_repr_laws.specs.StructureParts.{tuple_set_dom, Terms, and_ex, keys_ex}
 use Rattle.ess_repr_laws.specs.FunctionParts.{with_total, flag_key_ex, value_key_ex}
-use Rattle.ess_repr_laws.specs.RelationParts.{diagonal_ex}
+use Rattle.ess_repr_laws.specs.RelationParts.{diagonal_ex, has_pair_ex, relation_key_ex, matrix_key_ex}
 use Rattle.ess_repr_laws.specs.ViewParts.{pair_relation_dom, pairs_ex, part_set_dom, parts_ex, all_taken_ex, components_differ_ex}
 use Rattle.ess_repr_laws.specs.Structure.{shapes, structure}
 use Rattle.ess_repr_laws.specs.CanonicalTables.{TablesFit}
@@ -110,6 +111,29 @@ of-flag-total = refl
 -- An injective function whose values are sets: the second parts of the pairs of its view differ.
 pub of-injective-sets : value_key_ex name 1 (bool_dom ∷ []) [] no_exs kinds written (name_ex (codes "e")) Key.Injective ≡ components_differ_ex name 1 written 2 (name_ex (codes "e"))
 of-injective-sets = refl
+
+-- A symmetric relation of truth values: with each pair of its view it has the pair turned round.
+pub of-symmetric : relation_key_ex name 1 (more_doms bool_dom (more_doms bool_dom no_doms)) (name_ex (codes "e")) Key.Symmetric
+    ≡ fun1 true Fun.And (comp_ex (ex2 true Op2.Member (node_ex false tuple_literal
+    (more_exs (node_ex true (index (to_component 2 ∷ [])) (more_exs (name_ex (codes "q")) no_exs)) (more_exs (node_ex true (index (to_component 1 ∷ [])) (more_exs (name_ex (codes "q")) no_exs)) no_exs)))
+    (name_ex (codes "e"))) (from (name_pat (codes "q")) (name_ex (codes "e")) no_gens))
+of-symmetric = refl
+
+-- A relation of one component has no such attribute; `total` says nothing of one of two.
+pub of-one-component : relation_key_ex name 1 (more_doms bool_dom no_doms) (name_ex (codes "e")) Key.Symmetric ≡ truth_ex false
+of-one-component = refl
+
+pub of-other-key : relation_key_ex name 1 (more_doms bool_dom (more_doms bool_dom no_doms)) (name_ex (codes "e")) Key.Total ≡ truth_ex true
+of-other-key = refl
+
+-- A reflexive relation as a matrix is asked of the cells, as a set of the pairs of its view.
+pub of-reflexive-matrix : matrix_key_ex name 1 (more_doms bool_dom (more_doms bool_dom no_doms)) (bool_dom ∷ bool_dom ∷ []) (codes "a") no_exs (name_ex (codes "e")) Key.Reflexive
+    ≡ diagonal_ex name 1 (bool_dom ∷ bool_dom ∷ []) (codes "a") no_exs
+of-reflexive-matrix = refl
+
+pub of-reflexive-set : relation_key_ex name 1 (more_doms bool_dom (more_doms bool_dom no_doms)) (name_ex (codes "e")) Key.Reflexive
+    ≡ fun1 true Fun.And (comp_ex (has_pair_ex (name_ex (codes "e")) (name_ex (codes "q")) (name_ex (codes "q"))) (over (name_pat (codes "q")) bool_dom no_gens))
+of-reflexive-set = refl
 
 -- A reflexive relation of truth values: the cell of each with itself is true.
 pub of-reflexive : diagonal_ex name 1 (bool_dom ∷ bool_dom ∷ []) (codes "a") no_exs

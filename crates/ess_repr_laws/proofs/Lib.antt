@@ -140,6 +140,7 @@ pub mod StructureTupleSets
 pub mod ViewsOfCells
 pub mod StructureConversions
 pub mod PairsOfViews
+pub mod RelationsOfViews
 pub mod FunctionViews
 pub mod StructurePairs
 pub mod SizeMarks

@@ -10,7 +10,10 @@ use Rattle.ess_semantics.specs.Order.{same, same_text}
 use Rattle.ess_semantics.specs.Collections.{holds, no_twice}
 use Rattle.ess_semantics.specs.Trees.{Ex, name_ex, comp_ex, no_gens, over, name_pat, Dom, ex2, fun1}
 use Rattle.ess_semantics.specs.Domains.{Attribute, numbered, flagged, Domain, members, member_list}
-use Rattle.ess_semantics.specs.Membership.{member}
+use Rattle.ess_semantics.specs.Membership.{is_pair, member}
+use Rattle.ess_repr_laws.proofs.CanonicalConversions.{is_pair_of}
+use Rattle.ess_repr_laws.proofs.FunctionPairs.{pair-of}
+use Rattle.ess_semantics.proofs.Tests.{and-left, and-right}
 use Rattle.ess_semantics.specs.Attributes.{each_holds, function_attributes_hold, function_holds, set_attributes_hold, size_holds, is_surjective}
 use Rattle.ess_semantics.specs.FunctionLayers.{function_with, with_arguments}
 use Rattle.ess_semantics.specs.Operators.{all_true, any_true}
@@ -24,6 +27,16 @@ use Rattle.ess_repr_laws.proofs.CanonicalPlaces.{AllOf, all-of-map}
 use Rattle.ess_repr_laws.proofs.StructureKeys.{attributes-apart}
 use Rattle.ess_repr_laws.proofs.StructureRows.{looked}
 use Rattle.ess_repr_laws.proofs.ViewsOfCells.{Stands, components-differ, items-run, members-run, second-means}
+
+-- What is known of a pair of two members.
+abbrev pub Pair : Domain → Domain → Value → Type 0
+Pair x y p = (p ≡ pair (from_of p) (to_of p)) × (member x (from_of p) ≡ true) × (member y (to_of p) ≡ true)
+
+-- So where a test says it.
+pub pair-is : (x y : Domain) (p : Value) → is_pair_of x y p ≡ true → Pair x y p
+pair-is x y p h =
+    let a = and-left (is_pair p && member x (from_of p)) (member y (to_of p)) h in
+    (pair-of p (and-left (is_pair p) (member x (from_of p)) a), and-right (is_pair p) (member x (from_of p)) a, and-right (is_pair p && member x (from_of p)) (member y (to_of p)) h)
 
 -- A pair whose second part is a member of y.
 abbrev pub PairTo : Domain → Value → Type 0

@@ -1,6 +1,6 @@
 -- The constraint that each member with itself is in a relation of which is kept which pairs occur.
 use Rattle.std.specs.Prelude.{IsTrue, is_some}
-use Rattle.std.proofs.Common.{◌≡◌, refl, sym, ap, ◌∙◌, subst, ℕ, suc, ◌<◌, Bool, true, false, ◌&&◌, ◌||◌, not, List, [], ◌∷◌, ◌++◌, map, length, ℤ, pos, Option, Some, None, option_map, append_assoc, inl, inr}
+use Rattle.std.proofs.Common.{◌≡◌, refl, sym, ap, ◌∙◌, subst, ℕ, suc, ◌<◌, Bool, true, false, ◌&&◌, ◌||◌, not, List, [], ◌∷◌, ◌++◌, map, ℤ, pos, Option, Some, None, option_map, append_assoc, inl, inr}
 use Rattle.std.specs.List.{list_all}
 use Rattle.ess_semantics.specs.declared.words.Key.{Key}
 use Rattle.ess_semantics.specs.declared.words.Op1.{Op1}
@@ -8,71 +8,36 @@ use Rattle.ess_semantics.specs.Lists.{all_some, is_some_and}
 use Rattle.ess_semantics.specs.Values.{Text, Value, node, a_tuple, nil, cons, truth, pair, from_of, to_of}
 use Rattle.ess_semantics.specs.Order.{same, same_int, same_text}
 use Rattle.ess_semantics.specs.Names.{look}
-use Rattle.ess_semantics.specs.Trees.{Mark, Ex, Exs, name_ex, cell_ex, Dom, ex1}
-use Rattle.ess_semantics.specs.Domains.{Attribute, numbered, flagged, Domain, Domains, no_domains, more_domains, domain_list, tuples, booleans, members, member_list, lists_of}
-use Rattle.ess_semantics.specs.Attributes.{each_holds, head_members, related, relation_holds, relation_attributes_hold, set_attributes_hold, size_holds}
+use Rattle.ess_semantics.specs.Trees.{Ex, Exs, name_ex, cell_ex, Dom, ex1}
+use Rattle.ess_semantics.specs.Domains.{Domain, Domains, no_domains, more_domains, domain_list, tuples, booleans, members, member_list, lists_of}
+use Rattle.ess_semantics.specs.Attributes.{head_members, related, relation_holds}
 use Rattle.ess_semantics.specs.Collections.{holds}
 use Rattle.ess_semantics.specs.Membership.{member}
 use Rattle.ess_semantics.specs.Tables.{Table, code, cell_at, is_cell}
 use Rattle.ess_semantics.specs.Cells.{Grid, every_cell}
 use Rattle.ess_semantics.specs.Layers.{codes_of, chosen}
-use Rattle.ess_semantics.specs.Meaning.{Env, attributes_of, indices, meaning, meanings}
+use Rattle.ess_semantics.specs.Meaning.{Env, indices, meaning, meanings}
 use Rattle.ess_semantics.specs.Atoms.{IsAtom, AreAtoms}
 use Rattle.ess_semantics.proofs.Connectives.{not-means}
 use Rattle.ess_semantics.proofs.Orders.{same-equal, same-itself}
 use Rattle.ess_semantics.proofs.MemberLists.{atom-listed}
 use Rattle.ess_semantics.proofs.Tests.{and-left, and-right, and-both, or-yes, both-ways}
 use Rattle.ess_repr_laws.specs.Finite.{FiniteAtom}
-use Rattle.ess_repr_laws.specs.RelationParts.{diagonal_key_ex, diagonal_ex, off_diagonal_ex}
-use Rattle.ess_repr_laws.specs.StructureParts.{add_ex, each_ex, keys_ex}
-use Rattle.ess_repr_laws.specs.StructureMeaning.{Bound, M, AxesAre, PairsFor, index_members, has_flags_among, is_diagonal_key, no_key}
+use Rattle.ess_repr_laws.specs.RelationParts.{diagonal_ex, off_diagonal_ex}
+use Rattle.ess_repr_laws.specs.StructureParts.{add_ex, each_ex}
+use Rattle.ess_repr_laws.specs.StructureMeaning.{Bound, M, AxesAre, WithinOne, index_members}
 use Rattle.ess_repr_laws.proofs.Arguments.{tuple-arguments, cell-arguments, of-held, all-of-under}
 use Rattle.ess_repr_laws.proofs.CanonicalForms.{atoms-listed}
 use Rattle.ess_repr_laws.proofs.CanonicalPlaces.{AllOf, all-of-list, all-of-map}
 use Rattle.ess_repr_laws.proofs.Chosen.{Bit, on, chosen-holds}
 use Rattle.ess_repr_laws.proofs.CompleteLists.{atom-complete, tuples-complete}
 use Rattle.ess_repr_laws.proofs.SlotsUsed.{as_place, slots-are, bit-cell, all-map}
-use Rattle.ess_repr_laws.proofs.StructureKeys.{keys-means, attributes-apart, all-equal}
+use Rattle.ess_repr_laws.proofs.StructureKeys.{all-equal}
 use Rattle.ess_repr_laws.proofs.StructureNumbers.{meanings-add, indices-add}
 use Rattle.ess_repr_laws.proofs.StructurePlaces.{MeansAt, each-means}
 use Rattle.ess_repr_laws.proofs.StructureRows.{Steady}
 use Rattle.ess_repr_laws.proofs.StructureUse.{flag-means}
 use Rattle.ess_repr_laws.proofs.TupleMembers.{place_of, tuples-listed}
-
--- ---- attributes
-
--- `reflexive` asks b, `irreflexive` asks c.
-abbrev pub diagonal_key : Bool → Bool → Key → Bool
-diagonal_key b c Key.Reflexive = b
-diagonal_key b c Key.Irreflexive = c
-diagonal_key b c _ = true
-
-diagonal-alike : (ks : List Attribute) (xs : Option (List Value)) (ps : List Value) (b c : Bool) → has_flags_among is_diagonal_key ks ≡ true → (has_flags_among no_key ks ≡ false → relation_holds Key.Reflexive xs ps ≡ b) →
-    (has_flags_among no_key ks ≡ false → relation_holds Key.Irreflexive xs ps ≡ c) → each_holds ks (λ k n. true) (λ k. relation_holds k xs ps) ≡ each_holds ks (λ k n. true) (diagonal_key b c)
-diagonal-alike [] xs ps b c h t u = refl
-diagonal-alike (numbered k n ∷ ks) xs ps b c h t u = diagonal-alike ks xs ps b c h t u
-diagonal-alike (flagged Key.Reflexive ∷ ks) xs ps b c h t u =
-    ap (λ a. a && each_holds ks (λ k n. true) (λ k. relation_holds k xs ps)) (t refl) ∙ ap (λ a. b && a) (diagonal-alike ks xs ps b c h (λ z. t refl) (λ z. u refl))
-diagonal-alike (flagged Key.Irreflexive ∷ ks) xs ps b c h t u =
-    ap (λ a. a && each_holds ks (λ k n. true) (λ k. relation_holds k xs ps)) (u refl) ∙ ap (λ a. c && a) (diagonal-alike ks xs ps b c h (λ z. t refl) (λ z. u refl))
-diagonal-alike (flagged _ ∷ ks) xs ps b c h t u = cc
-
--- Attributes of a relation that speak of sizes, or are `reflexive` or `irreflexive`.
-pub diagonal-attributes : (ks : List Attribute) (ds : Domains) (ps : List Value) (b c : Bool) → has_flags_among is_diagonal_key ks ≡ true →
-    (has_flags_among no_key ks ≡ false → relation_holds Key.Reflexive (head_members ds) ps ≡ b) → (has_flags_among no_key ks ≡ false → relation_holds Key.Irreflexive (head_members ds) ps ≡ c) →
-    relation_attributes_hold ks ds ps ≡ set_attributes_hold ks (length ps) && each_holds ks (λ k n. true) (diagonal_key b c)
-diagonal-attributes ks ds ps b c h t u =
-    attributes-apart ks (λ k n. size_holds k n (length ps)) (λ k. relation_holds k (head_members ds) ps) ∙ ap (λ a. set_attributes_hold ks (length ps) && a) (diagonal-alike ks (head_members ds) ps b c h t u)
-
--- The constraint of both.
-pub diagonal-keys-means : (env : Env) (e f : Ex) (b c : Bool) (ms : List Mark) (os : List (Option Value)) (ks : List Attribute) → attributes_of ms os ≡ Some ks → (has_flags_among no_key ks ≡ false → meaning e env ≡ Some (truth b)) →
-    (has_flags_among no_key ks ≡ false → meaning f env ≡ Some (truth c)) → meaning (keys_ex (diagonal_key_ex e f) ms) env ≡ Some (truth (each_holds ks (λ k n. true) (diagonal_key b c)))
-diagonal-keys-means env e f b c ms os ks a h i = keys-means env (diagonal_key_ex e f) (diagonal_key b c) ms os ks a (λ n k. each n k)
-  where
-    each : has_flags_among no_key ks ≡ false → (k : Key) → meaning (diagonal_key_ex e f k) env ≡ Some (truth (diagonal_key b c k))
-    each n Key.Reflexive = h n
-    each n Key.Irreflexive = i n
-    each n _ = refl
 
 -- ---- pairs
 
@@ -230,19 +195,19 @@ module _ (env0 : Env) (q : ℕ → Text) (q-apart : (m l : ℕ) → l < m → sa
       each-place (ex1 true Op1.Not (cell_ex true n (add_ex (add_ex is (name_ex (q l))) (name_ex (q l))))) (λ js. not (true_at (cell_at t (i ++ (js ++ js)))))
       (λ x m. λ cs s. not-means (M env0 q q-apart cs) (cell_ex true n (add_ex (add_ex is (name_ex (q l))) (name_ex (q l)))) (true_at (cell_at t (i ++ (code x ∷ code x ∷ [])))) (itself-means x m cs s))
 
--- What a constraint says of an attribute, where one without a number stands.
-abbrev pub Said : Env → List Attribute → Option (List Value) → List Value → Ex → Key → Type 0
-Said env ks vs ys e k = (b : Bool) × (has_flags_among no_key ks ≡ false → meaning e env ≡ Some (truth b)) × (has_flags_among no_key ks ≡ false → relation_holds k vs ys ≡ b)
+-- What a constraint says of an attribute.
+abbrev pub Said : Env → Option (List Value) → List Value → Ex → Key → Type 0
+Said env vs ys e k = (b : Bool) × (meaning e env ≡ Some (truth b)) × (relation_holds k vs ys ≡ b)
 
 -- The constraints of the diagonal say whether the relation is reflexive, and whether it is irreflexive.
-pub diagonal-at : (env0 : Env) (q : ℕ → Text) (q-apart : (m l : ℕ) → l < m → same_text (q m) (q l) ≡ false) (ks : List Attribute) (as' : List Dom) (xs : Domains) → AreAtoms xs → PairsFor ks xs →
+pub diagonal-at : (env0 : Env) (q : ℕ → Text) (q-apart : (m l : ℕ) → l < m → same_text (q m) (q l) ≡ false) (as' : List Dom) (xs : Domains) → AreAtoms xs → WithinOne xs →
     AxesAre env0 q q-apart as' (index_members xs) → (n : Text) (t : Table) → look env0.cells n ≡ Some t → (l : ℕ) (is : Exs) (i : List ℤ) (bs : Bound env0 q q-apart) → Steady env0 q q-apart l is i bs →
     every_cell (map codes_of (domain_list xs)) (is_cell booleans) (λ js. cell_at t (i ++ js)) ≡ true → (ys : List Value) → chosen (member_list (tuples xs)) (λ v. cell_at t (i ++ place_of v)) ≡ Some ys →
-    Said (M env0 q q-apart bs) ks (head_members xs) ys (diagonal_ex q l as' n is) Key.Reflexive × Said (M env0 q q-apart bs) ks (head_members xs) ys (off_diagonal_ex q l as' n is) Key.Irreflexive
-diagonal-at env0 q q-apart ks as' xs a pairs ax n t ht l is i bs st bits ys e = go (has_flags_among no_key ks) refl
+    Said (M env0 q q-apart bs) (head_members xs) ys (diagonal_ex q l as' n is) Key.Reflexive × Said (M env0 q q-apart bs) (head_members xs) ys (off_diagonal_ex q l as' n is) Key.Irreflexive
+diagonal-at env0 q q-apart as' xs a w ax n t ht l is i bs st bits ys e = subst Found (sym w.1) (of-twice w.0 w.2) a ax bits e
   where
     Here : Domains → Ex → Key → Type 0
-    Here xs e k = (b : Bool) × (meaning e (M env0 q q-apart bs) ≡ Some (truth b)) × (relation_holds k (head_members xs) ys ≡ b)
+    Here xs e k = Said (M env0 q q-apart bs) (head_members xs) ys e k
 
     Found : Domains → Type 0
     Found xs = AreAtoms xs → AxesAre env0 q q-apart as' (index_members xs) → every_cell (map codes_of (domain_list xs)) (is_cell booleans) (λ js. cell_at t (i ++ js)) ≡ true →
@@ -265,15 +230,3 @@ diagonal-at env0 q q-apart ks as' xs a pairs ax n t ht l is i bs st bits ys e = 
             diagonal-irreflexive d a.0 me (λ js. cell_at t (i ++ js)) bits ys e,
           ),
         )
-
-    no : (e : Ex) (k : Key) → has_flags_among no_key ks ≡ true → Said (M env0 q q-apart bs) ks (head_members xs) ys e k
-    no e k p = (true, (λ h. let z : true ≡ false = sym p ∙ h in cc), (λ h. let z : true ≡ false = sym p ∙ h in cc))
-
-    go : (o : Bool) → has_flags_among no_key ks ≡ o → Said (M env0 q q-apart bs) ks (head_members xs) ys (diagonal_ex q l as' n is) Key.Reflexive × Said (M env0 q q-apart bs) ks (head_members xs) ys (off_diagonal_ex q l as' n is) Key.Irreflexive
-    go true p = (no (diagonal_ex q l as' n is) Key.Reflexive p, no (off_diagonal_ex q l as' n is) Key.Irreflexive p)
-    go false p =
-        let w = pairs p in
-        let r = subst Found (sym w.1) (of-twice w.0 w.2) a ax bits e in
-        let u = r.0 in
-        let v = r.1 in
-        ((u.0, (λ h. u.1), (λ h. u.2)), (v.0, (λ h. v.1), (λ h. v.2)))

@@ -6,12 +6,12 @@ use Rattle.std.specs.List.{list_all}
 use Rattle.ess_semantics.specs.declared.words.ReprKind.{ReprKind}
 use Rattle.ess_semantics.specs.declared.words.Key.{Key}
 use Rattle.ess_semantics.specs.Lists.{and_then, when, is_some_and, only_of, or_else}
-use Rattle.ess_semantics.specs.Values.{Text, Value, a_function, a_relation, node, pair, to_list, of_list, truth, from_of, to_of, itself, items_of}
+use Rattle.ess_semantics.specs.Values.{Text, Value, a_function, a_relation, node, to_list, of_list, truth, from_of, to_of, itself, items_of}
 use Rattle.ess_semantics.specs.Order.{same, same_text}
 use Rattle.ess_semantics.specs.Collections.{holds, rises, no_twice, function_of}
 use Rattle.ess_semantics.specs.Trees.{Mark, Repr, repr, no_reprs, more_reprs, Ex, Exs, name_ex, Dom, function_dom}
 use Rattle.ess_semantics.specs.Domains.{Attribute, Domain, no_domains, more_domains, functions, members, member_list, has, attribute}
-use Rattle.ess_semantics.specs.Membership.{is_pair, member}
+use Rattle.ess_semantics.specs.Membership.{member}
 use Rattle.ess_semantics.specs.Attributes.{each_holds, function_attributes_hold, function_holds, relation_attributes_hold, set_attributes_hold, size_holds, is_total}
 use Rattle.ess_semantics.specs.Operators.{as_truth}
 use Rattle.ess_semantics.specs.Sizes.{bound, child_relation, pair_sizes, size_attributes}
@@ -37,8 +37,7 @@ use Rattle.ess_repr_laws.proofs.CanonicalForms.{right}
 use Rattle.ess_repr_laws.proofs.CanonicalPlaces.{AllOf, all-of-list, all-of-map}
 use Rattle.ess_repr_laws.proofs.CellDomains.{axes-wide}
 use Rattle.ess_repr_laws.proofs.CellsOfMembers.{map-long}
-use Rattle.ess_repr_laws.proofs.FunctionPairs.{pair-of}
-use Rattle.ess_repr_laws.proofs.PairsOfViews.{PairTo, seconds-means, all-taken-means, one-to-one-means}
+use Rattle.ess_repr_laws.proofs.PairsOfViews.{Pair, pair-is, PairTo, seconds-means, all-taken-means, one-to-one-means}
 use Rattle.ess_repr_laws.proofs.StructureAttributes.{relation-sizes}
 use Rattle.ess_repr_laws.proofs.StructureConversions.{conversion-asked, flags-means, each-flag}
 use Rattle.ess_repr_laws.proofs.StructureFits.{Fit}
@@ -100,15 +99,6 @@ all-are-arguments x e ps d m n = holds-all (λ z. holds (map from_of ps) z) (mem
         listed w false s k = e.complete w (all-holds (member x) (map from_of ps) w (inside ps m) k)
 
 -- ---- pairs
-
--- What is known of a pair of two members.
-abbrev Pair : Domain → Domain → Value → Type 0
-Pair x y p = (p ≡ pair (from_of p) (to_of p)) × (member x (from_of p) ≡ true) × (member y (to_of p) ≡ true)
-
-pair-is : (x y : Domain) (p : Value) → is_pair_of x y p ≡ true → Pair x y p
-pair-is x y p h =
-    let a = and-left (is_pair p && member x (from_of p)) (member y (to_of p)) h in
-    (pair-of p (and-left (is_pair p) (member x (from_of p)) a), and-right (is_pair p) (member x (from_of p)) a, and-right (is_pair p && member x (from_of p)) (member y (to_of p)) h)
 
 -- The function that a list of pairs gives, and what is asked of it.
 pairs-asked : (ks : List Attribute) (x y : Domain) (ps : List Value) → rises itself ps ≡ true →

@@ -2,6 +2,7 @@
 -- q 0, q 1 and so on may be bound, each to a value.
 use Rattle.std.specs.Prelude.{◌≡◌, ℕ, ◌<◌, Bool, true, false, ◌&&◌, not, List, [], ◌∷◌, ◌++◌, map, ℤ, pos, Some}
 use Rattle.ess_repr_laws.specs.StructureParts.{Shape, Terms}
+use Rattle.ess_repr_laws.specs.RelationParts.{bare_relation_dom}
 use Rattle.ess_repr_laws.specs.FunctionParts.{bare_function_dom, is_one_cell}
 use Rattle.ess_repr_laws.specs.Finite.{Enumerated}
 use Rattle.ess_semantics.specs.Attributes.{set_attributes_hold}
@@ -14,7 +15,7 @@ use Rattle.ess_semantics.specs.Numbers.{one_to}
 use Rattle.ess_semantics.specs.Order.{same_text}
 use Rattle.ess_semantics.specs.Sizes.{slots_of_set, slots_of_mset, size_attributes, child_relation, child_set, child_parts}
 use Rattle.ess_semantics.specs.Tables.{Tables, is_cell}
-use Rattle.ess_semantics.specs.Trees.{Ex, Exs, Dom, Mark, Repr, Reprs, repr, no_reprs, more_reprs, no_exs, more_exs}
+use Rattle.ess_semantics.specs.Trees.{Ex, Exs, Dom, Doms, no_doms, more_doms, Mark, Repr, Reprs, repr, no_reprs, more_reprs, no_exs, more_exs}
 use Rattle.ess_semantics.specs.Values.{Text, Value, number, truth}
 use Rattle.ess_semantics.specs.declared.words.Key.{Key}
 use Rattle.ess_semantics.specs.declared.words.ReprKind.{ReprKind}
@@ -43,17 +44,9 @@ has_flags_among f (flagged k ∷ ks) = f k && has_flags_among f ks
 abbrev pub no_key : Key → Bool
 no_key k = false
 
--- `reflexive` and `irreflexive`.
-abbrev pub is_diagonal_key : Key → Bool
-is_diagonal_key Key.Reflexive = true
-is_diagonal_key Key.Irreflexive = true
-is_diagonal_key k = false
-
--- A relation of which an attribute without a number is asked is one between two members of one listed atom.
-abbrev pub PairsFor : List Attribute → Domains → Type 0
-PairsFor ks xs =
-    has_flags_among no_key ks ≡ false →
-    (d : Domain) × (xs ≡ more_domains d (more_domains d no_domains)) × (members d ≡ Some (member_list d))
+-- A relation between two members of one listed domain.
+abbrev pub WithinOne : Domains → Type 0
+WithinOne xs = (d : Domain) × (xs ≡ more_domains d (more_domains d no_domains)) × (members d ≡ Some (member_list d))
 
 -- `minOccur` or `maxOccur`.
 abbrev pub is_times_key : Key → Bool
@@ -196,6 +189,23 @@ module _ (env0 : Env) (q : ℕ → Text) (q-apart : (m l : ℕ) → l < m → sa
   FlagKeyReady d c x y Key.Surjective = BareFunctionIs d c x y × ValuesListed c y
   FlagKeyReady d c x y Key.Bijective = BareFunctionIs d c x y × ValuesListed c y
   FlagKeyReady d c x y _ = Unit {0}
+
+  -- What it asks of a relation between x and y, as the domain d of the one.
+  abbrev pub PairRelationKeyReady : Dom → Domain → Key → Type 0
+  PairRelationKeyReady d x Key.Reflexive = ValuesListed d x
+  PairRelationKeyReady d x _ = Unit {0}
+
+  -- The relation is one between two, and its view's domain v means w.
+  abbrev pub RelationKeyReady : Doms → Domains → Dom → Domain → Key → Type 0
+  RelationKeyReady (more_doms d (more_doms c no_doms)) (more_domains x (more_domains y no_domains)) v w k =
+      (BoolIs d x × BoolIs c y) × DomainIs v w × PairRelationKeyReady d x k
+  RelationKeyReady _ xs v w k = ⊥
+
+  -- What it asks of a relation as a matrix.
+  abbrev pub MatrixKeyReady : Doms → Domains → Key → Type 0
+  MatrixKeyReady ds xs Key.Reflexive = WithinOne xs
+  MatrixKeyReady ds xs Key.Irreflexive = WithinOne xs
+  MatrixKeyReady ds xs k = RelationKeyReady ds xs (bare_relation_dom ds) (relations [] xs) k
 
 module _ (env0 : Env) (q : ℕ → Text) (q-apart : (m l : ℕ) → l < m → same_text (q m) (q l) ≡ false) (terms : Terms) where
   -- The attributes are these, whatever names are bound.

@@ -2,7 +2,7 @@
 -- canonical.
 use Rattle.std.specs.Prelude.{◌≡◌, ℕ, ◌<◌, true, false, List, [], ◌∷◌, Some}
 use Rattle.ess_repr_laws.specs.StructureParts.{Terms, tuple_set_dom}
-use Rattle.ess_repr_laws.specs.StructureMeaning.{Attributes, SlotsAre, AtomReady, DummyIs, DomainIs, AxesAre, Bound, M, has_flags_among, no_key, is_diagonal_key, PairsFor, asks_no_times, tuple_set_sizes, EachFlag, BoolIs, AreSizes, PairKeyReady, ValueKeyReady, FlagKeyReady, index_members}
+use Rattle.ess_repr_laws.specs.StructureMeaning.{Attributes, SlotsAre, AtomReady, DummyIs, DomainIs, AxesAre, Bound, M, RelationKeyReady, MatrixKeyReady, asks_no_times, tuple_set_sizes, EachFlag, BoolIs, AreSizes, PairKeyReady, ValueKeyReady, FlagKeyReady, index_members}
 use Rattle.ess_repr_laws.specs.ViewParts.{pair_relation_dom, part_set_dom}
 use Rattle.ess_repr_laws.specs.PartSizes.{ArePartSizes}
 use Rattle.ess_semantics.specs.Kinds.{dom_list}
@@ -45,7 +45,7 @@ module _ (env0 : Env) (q : ℕ → Text) (q-apart : (m l : ℕ) → l < m → sa
         AxesAre env0 q q-apart (dom_list ds) (index_members xs) ×
         Attributes env0 q q-apart terms ms es ks × Ready r c y
     Ready (repr ReprKind.RelationAsMatrix no_reprs) (relation_dom ms es ds) (relations ks xs) =
-        AreAtoms xs × ((has_flags_among is_diagonal_key ks ≡ true) × PairsFor ks xs) ×
+        AreAtoms xs × EachFlag (MatrixKeyReady env0 q q-apart ds xs) ks ×
         AxesAre env0 q q-apart (dom_list ds) (index_members xs) × Attributes env0 q q-apart terms ms es ks
     Ready (repr ReprKind.Function1DPartial (more_reprs r no_reprs)) (function_dom ms es d c) (functions ks x y) =
         IsAtom x × EachFlag (FlagKeyReady env0 q q-apart d c x y) ks × AxesAre env0 q q-apart (d ∷ []) (member_list x ∷ []) ×
@@ -65,7 +65,8 @@ module _ (env0 : Env) (q : ℕ → Text) (q-apart : (m l : ℕ) → l < m → sa
         Attributes env0 q q-apart terms ms es ks ×
         SlotsAre env0 q q-apart terms (set_dom ms es d) (slots_of_set ks e)
     Ready (repr ReprKind.RelationAsSet (more_reprs r no_reprs)) (relation_dom ms es ds) (relations ks xs) =
-        ((has_flags_among no_key ks ≡ true) × AreSizes (tuple_set_sizes ks) ks) × Ready r (tuple_set_dom ms es ds) (child_set ks xs)
+        (AreSizes (tuple_set_sizes ks) ks × EachFlag (RelationKeyReady env0 q q-apart ds xs (tuple_set_dom ms es ds) (child_set ks xs)) ks) ×
+        Attributes env0 q q-apart terms ms es ks × Ready r (tuple_set_dom ms es ds) (child_set ks xs)
     Ready (repr ReprKind.FunctionAsRelation (more_reprs r no_reprs)) (function_dom ms es d c) (functions ks x y) =
         (BoolIs d x × BoolIs c y) × (AreSizes (pair_sizes ks x) ks × EachFlag (PairKeyReady env0 q q-apart c ks x y) ks) ×
         Attributes env0 q q-apart terms ms es ks ×
