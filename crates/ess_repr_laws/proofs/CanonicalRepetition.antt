@@ -34,8 +34,8 @@ use Rattle.ess_semantics.proofs.Multisets.{count-sorted, sorted-rises, sorted-le
 use Rattle.ess_semantics.proofs.Repeats.{list-both}
 use Rattle.ess_repr_laws.proofs.WeakForm.{Heaped, heaped-once}
 
--- sorting changes nothing that attributes ask
-occurs-sorted : (k : Key) (z : ℤ) (vs : List Value) → occurs_holds k z (sorted vs) ≡ occurs_holds k z vs
+-- Sorting changes nothing that attributes ask.
+pub occurs-sorted : (k : Key) (z : ℤ) (vs : List Value) → occurs_holds k z (sorted vs) ≡ occurs_holds k z vs
 occurs-sorted Key.MinOccur z vs =
     ap (λ f. list_all f (sorted vs)) (fun_ext (λ x. ap (λ n. int_le z (pos n)) (count-sorted vs x))) ∙ sorted-all (λ x. int_le z (pos (count vs x))) vs
 occurs-sorted Key.MaxOccur z vs =

@@ -7,7 +7,7 @@ use Rattle.ess_semantics.specs.declared.words.Op2.{Op2}
 use Rattle.std.specs.Prelude.{codes}
 use Rattle.ess_semantics.specs.Values.{Text, truth}
 use Rattle.ess_semantics.specs.Order.{same_text}
-use Rattle.ess_semantics.specs.Trees.{valued, flag, Repr, repr, no_reprs, more_reprs, Ex, number_ex, truth_ex, no_exs, Dom, bool_dom, tuple_dom, matrix_dom, set_dom, function_dom, no_doms, more_doms, more_exs, name_ex, cell_ex, comp_ex, over, name_pat, no_gens, fun1, ex2, tuple_literal, relation_dom, partition_dom, node_ex, seen_ex, from, index, to_component}
+use Rattle.ess_semantics.specs.Trees.{valued, flag, Repr, repr, no_reprs, more_reprs, Ex, number_ex, truth_ex, no_exs, Dom, bool_dom, tuple_dom, matrix_dom, set_dom, function_dom, no_doms, more_doms, more_exs, name_ex, cell_ex, comp_ex, over, name_pat, no_gens, fun1, ex2, word, tuple_literal, relation_dom, partition_dom, node_ex, seen_ex, from, index, to_component}
 use Rattle.ess_semantics.specs.Domains.{Domain, booleans, sets}
 use Rattle.ess_semantics.specs.Tables.{Tables, is_cell}
 use Rattle.ess_semantics.specs.Cells.{cells_of}
@@ -19,6 +19,7 @@ use Rattle.ess_semantics.specs.Tidy.{over_axes}
 use Rattle.ess_repr_laws.specs.StructureParts.{tuple_set_dom, Terms, and_ex, keys_ex}
 use Rattle.ess_repr_laws.specs.FunctionParts.{with_total, flag_key_ex, value_key_ex}
 use Rattle.ess_repr_laws.specs.RelationParts.{diagonal_ex, has_pair_ex, relation_key_ex, matrix_key_ex}
+use Rattle.ess_repr_laws.specs.MultisetParts.{occurs_ex}
 use Rattle.ess_repr_laws.specs.ViewParts.{pair_relation_dom, pairs_ex, part_set_dom, parts_ex, all_taken_ex, components_differ_ex}
 use Rattle.ess_repr_laws.specs.Structure.{shapes, structure}
 use Rattle.ess_repr_laws.specs.CanonicalTables.{TablesFit}
@@ -111,6 +112,13 @@ of-flag-total = refl
 -- An injective function whose values are sets: the second parts of the pairs of its view differ.
 pub of-injective-sets : value_key_ex name 1 (bool_dom ∷ []) [] no_exs kinds written (name_ex (codes "e")) Key.Injective ≡ components_differ_ex name 1 written 2 (name_ex (codes "e"))
 of-injective-sets = refl
+
+-- A multiset in slots up to a marker: each of its members occurs at least twice. A size says nothing of it.
+pub of-min-occur : occurs_ex name 1 (name_ex (codes "e")) (valued Key.MinOccur ∷ flag Key.Total ∷ valued Key.Size ∷ []) (more_exs (number_ex (pos 2)) (more_exs (number_ex (pos 3)) no_exs))
+    ≡ and_ex (fun1 true Fun.And (comp_ex (ex2 true Op2.Le (number_ex (pos 2)) (node_ex false (word Fun.Freq) (more_exs (name_ex (codes "e")) (more_exs (name_ex (codes "q")) no_exs))))
+    (from (name_pat (codes "q")) (fun1 false Fun.ToSet (name_ex (codes "e"))) no_gens)))
+    (and_ex (truth_ex true) (truth_ex true))
+of-min-occur = refl
 
 -- A symmetric relation of truth values: with each pair of its view it has the pair turned round.
 pub of-symmetric : relation_key_ex name 1 (more_doms bool_dom (more_doms bool_dom no_doms)) (name_ex (codes "e")) Key.Symmetric

@@ -133,6 +133,7 @@ pub mod StructurePartial
 pub mod StructureCounts
 pub mod StructureMultisets
 pub mod StructureCounted
+pub mod MultisetsOfViews
 pub mod StructureRepetition
 pub mod StructureDummies
 pub mod StructureFlags

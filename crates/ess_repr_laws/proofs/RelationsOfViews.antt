@@ -14,16 +14,16 @@ use Rattle.ess_semantics.specs.Attributes.{each_holds, head_members, related, re
 use Rattle.ess_semantics.specs.Operators.{as_truth, all_true, false_where_undefined, value_of_node}
 use Rattle.ess_semantics.specs.Meaning.{Env, is_bool_dom, meaning}
 use Rattle.ess_semantics.proofs.Connectives.{all-means, binary-means, implies-means, not-means, or-means}
-use Rattle.ess_repr_laws.specs.RelationParts.{has_pair_ex, first_ex, second_ex, each_pair_ex, turned_ex, parts_same_ex, linked_ex, pair_relation_key_ex, relation_key_ex}
+use Rattle.ess_repr_laws.specs.RelationParts.{has_pair_ex, first_ex, second_ex, turned_ex, parts_same_ex, linked_ex, pair_relation_key_ex, relation_key_ex}
 use Rattle.ess_repr_laws.specs.StructureParts.{or_ex}
 use Rattle.ess_repr_laws.specs.StructureMeaning.{Bound, M, BoolIs, DomainIs, EachFlag, PairRelationKeyReady, RelationKeyReady}
-use Rattle.ess_repr_laws.specs.ViewParts.{each_item}
+use Rattle.ess_repr_laws.specs.ViewParts.{every_item_ex}
 use Rattle.ess_repr_laws.proofs.CanonicalPlaces.{AllOf, all-of-list, all-of-map}
 use Rattle.ess_repr_laws.proofs.PairsOfViews.{Pair, pair-is, flags-alike}
 use Rattle.ess_repr_laws.proofs.CanonicalConversions.{is_pair_of, pairs-of-tuples}
 use Rattle.ess_repr_laws.proofs.StructureKeys.{attributes-apart}
 use Rattle.ess_repr_laws.proofs.StructureRows.{From, looked}
-use Rattle.ess_repr_laws.proofs.ViewsOfCells.{Stands, items-run, members-run, settled-member}
+use Rattle.ess_repr_laws.proofs.ViewsOfCells.{Stands, every-item-means, members-run, settled-member}
 
 -- The attributes of a relation are its sizes, and what each attribute without a number says.
 pub relation-attributes-apart : (ks : List Attribute) (xs : Domains) (ps : List Value) (n : ℕ) (F : Key → Bool) → EachFlag (λ k. relation_holds k (head_members xs) ps ≡ F k) ks →
@@ -54,19 +54,6 @@ module _ (env0 : Env) (q : ℕ → Text) (q-apart : (m l : ℕ) → l < m → sa
       ap (λ o. false_where_undefined (is_bool_dom c) (value_of_node (index (to_component 2 ∷ [])) (o ∷ []))) (looked env0 q q-apart l p bs cs f)
       ∙ ap (λ z. false_where_undefined (is_bool_dom c) (value_of_node (index (to_component 2 ∷ [])) (Some z ∷ []))) h.0 ∙ settled-member (is_bool_dom c) y b (to_of p) h.2
 
-  -- A test of each pair.
-  each-pair-means : (l : ℕ) (e : Ex) (bs : Bound env0 q q-apart) (v : Value) (test : Ex) (f : Value → Bool) → meaning e (N bs) ≡ Some v → AllOf (items_of v) (λ p. meaning test (N ((l, p) ∷ bs)) ≡ Some (truth (f p))) →
-      meaning (each_pair_ex q l e test) (N bs) ≡ Some (truth (list_all f (items_of v)))
-  each-pair-means l e bs v test f h a =
-      all-means (N bs) test (each_item q l e no_gens) (map (λ p. truth (f p)) (items_of v))
-      (items-run env0 q q-apart l e no_gens bs (λ here. option_map (λ z. z ∷ []) (meaning test here)) v (λ p. truth (f p)) h
-      (all-of-map (items_of v) (λ p. meaning test (N ((l, p) ∷ bs)) ≡ Some (truth (f p))) (λ p. option_map (λ z. z ∷ []) (meaning test (N ((l, p) ∷ bs))) ≡ Some (truth (f p) ∷ [])) (λ p z. ap (option_map (λ z. z ∷ [])) z) a))
-      ∙ ap (λ b. Some (truth b)) (all-bits (items_of v))
-    where
-      all-bits : (ps : List Value) → all_true (map (λ p. truth (f p)) ps) ≡ list_all f ps
-      all-bits [] = refl
-      all-bits (p ∷ ps) = ap (λ b. f p && b) (all-bits ps)
-
   -- What is asked is true or false.
   pub relation-key-settled : (l : ℕ) (ds : Doms) (e : Ex) (env : Env) (k : Key) → meaning (relation_key_ex q l ds e k) env ≡ Some (truth (as_truth (meaning (relation_key_ex q l ds e k) env)))
   relation-key-settled l no_doms e env k = refl
@@ -95,8 +82,8 @@ module _ (env0 : Env) (q : ℕ → Text) (q-apart : (m l : ℕ) → l < m → sa
         binary-means (N ((l, p) ∷ bs)) true Op2.Eq (first_ex q l d) (second_ex q l c) (from_of p) (to_of p) (first-of l d x y bx p h bs [] tt) (second-of l c x y by' p h bs [] tt)
 
     -- a test of each pair
-    each : (test : Ex) (f : Value → Bool) → ((p : Value) → Pair x y p → meaning test (N ((l, p) ∷ bs)) ≡ Some (truth (f p))) → meaning (each_pair_ex q l e test) (N bs) ≡ Some (truth (list_all f ps))
-    each test f h = each-pair-means l e bs v test f (st [] tt) (all-of-map ps (Pair x y) (λ p. meaning test (N ((l, p) ∷ bs)) ≡ Some (truth (f p))) h pairs)
+    each : (test : Ex) (f : Value → Bool) → ((p : Value) → Pair x y p → meaning test (N ((l, p) ∷ bs)) ≡ Some (truth (f p))) → meaning (every_item_ex q l e test) (N bs) ≡ Some (truth (list_all f ps))
+    each test f h = every-item-means env0 q q-apart l e bs v test f (st [] tt) (all-of-map ps (Pair x y) (λ p. meaning test (N ((l, p) ∷ bs)) ≡ Some (truth (f p))) h pairs)
 
     -- each member with itself
     itself-means : (us : List Value) → AllOf us (λ u. option_map (λ z. z ∷ []) (meaning (has_pair_ex e (name_ex (q l)) (name_ex (q l))) (N ((l, u) ∷ bs))) ≡ Some (truth (related ps u u) ∷ []))
@@ -142,8 +129,8 @@ module _ (env0 : Env) (q : ℕ → Text) (q-apart : (m l : ℕ) → l < m → sa
     relation-key-means Key.ASymmetric h =
         each (ex1 true Op1.Not (turned_ex q l d c e)) (λ p. not (related ps (to_of p) (from_of p))) (λ p g. not-means (N ((l, p) ∷ bs)) (turned_ex q l d c e) (related ps (to_of p) (from_of p)) (turned-means p g))
     relation-key-means Key.Transitive h =
-        each (each_pair_ex q (suc l) e (linked_ex q l d c e)) (λ p. list_all (λ r. not (same (to_of p) (from_of r)) || related ps (from_of p) (to_of r)) ps)
-        (λ p g. each-pair-means (suc l) e ((l, p) ∷ bs) v (linked_ex q l d c e) (λ r. not (same (to_of p) (from_of r)) || related ps (from_of p) (to_of r)) (st ((l, p) ∷ []) (le_refl l, tt))
+        each (every_item_ex q (suc l) e (linked_ex q l d c e)) (λ p. list_all (λ r. not (same (to_of p) (from_of r)) || related ps (from_of p) (to_of r)) ps)
+        (λ p g. every-item-means env0 q q-apart (suc l) e ((l, p) ∷ bs) v (linked_ex q l d c e) (λ r. not (same (to_of p) (from_of r)) || related ps (from_of p) (to_of r)) (st ((l, p) ∷ []) (le_refl l, tt))
         (all-of-map ps (Pair x y) (λ r. meaning (linked_ex q l d c e) (N ((suc l, r) ∷ (l, p) ∷ bs)) ≡ Some (truth (not (same (to_of p) (from_of r)) || related ps (from_of p) (to_of r)))) (linked-means p g) pairs))
     relation-key-means _ h = refl
 

@@ -42,7 +42,8 @@ valued-first k ms o os a ks e = go (as_int o) (attributes_of ms os) refl refl e
     go (Some z) None p r e = cc
     go (Some z) (Some ls) p r e = let w : numbered k z ∷ ls ≡ a ∷ ks = cc in let x : numbered k z ≡ a = cc in let v : ls ≡ ks = cc in (z, p, sym x, r ∙ ap Some v)
 
-valued-some : (k : Key) (ms : List Mark) (o : Option Value) (os : List (Option Value)) → attributes_of (valued k ∷ ms) (o ∷ os) ≡ Some [] → ⊥
+-- An attribute is there.
+pub valued-some : (k : Key) (ms : List Mark) (o : Option Value) (os : List (Option Value)) → attributes_of (valued k ∷ ms) (o ∷ os) ≡ Some [] → ⊥
 valued-some k ms o os e = go (as_int o) (attributes_of ms os) e
   where
     go : (x : Option ℤ) (y : Option (List Attribute)) → and_then x (λ n. option_map (λ ls. numbered k n ∷ ls) y) ≡ Some [] → ⊥
@@ -58,7 +59,8 @@ flagged-first k ms os a ks e = go (attributes_of ms os) refl e
     go None r e = cc
     go (Some ls) r e = let w : flagged k ∷ ls ≡ a ∷ ks = cc in let x : flagged k ≡ a = cc in let v : ls ≡ ks = cc in (sym x, r ∙ ap Some v)
 
-flagged-some : (k : Key) (ms : List Mark) (os : List (Option Value)) → attributes_of (flag k ∷ ms) os ≡ Some [] → ⊥
+-- So of one without a number.
+pub flagged-some : (k : Key) (ms : List Mark) (os : List (Option Value)) → attributes_of (flag k ∷ ms) os ≡ Some [] → ⊥
 flagged-some k ms os e = go (attributes_of ms os) e
   where
     go : (y : Option (List Attribute)) → option_map (λ ls. flagged k ∷ ls) y ≡ Some [] → ⊥

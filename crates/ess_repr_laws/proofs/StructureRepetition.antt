@@ -4,7 +4,7 @@ use Rattle.std.proofs.lemmas.Bool.{leb-true, le-leb, lt-leb}
 use Rattle.std.specs.List.{list_all}
 use Rattle.ess_semantics.specs.declared.words.Key.{Key}
 use Rattle.ess_semantics.specs.declared.words.ReprKind.{ReprKind}
-use Rattle.ess_semantics.specs.Lists.{is_some_and}
+use Rattle.ess_semantics.specs.Lists.{each_of, is_some_and}
 use Rattle.ess_semantics.specs.Values.{Text, Value, number, truth, items_of}
 use Rattle.ess_semantics.specs.Order.{same_text}
 use Rattle.ess_semantics.specs.Names.{look}
@@ -12,23 +12,31 @@ use Rattle.ess_semantics.specs.Numbers.{natural, one_to}
 use Rattle.ess_semantics.specs.Trees.{Mark, Repr, repr, no_reprs, more_reprs, Ex, Exs, name_ex, cell_ex, Dom, mset_dom}
 use Rattle.ess_semantics.specs.Domains.{Attribute, numbered, flagged, Domain, msets, lists_of}
 use Rattle.ess_semantics.specs.Attributes.{each_number_holds, occurs_holds, set_attributes_hold}
-use Rattle.ess_semantics.specs.Collections.{mset_of}
+use Rattle.ess_semantics.specs.Collections.{mset_of, sorted}
 use Rattle.ess_semantics.specs.Sizes.{slots_of_mset}
 use Rattle.ess_semantics.specs.Tables.{Table, Tables, cell_at, is_cell}
 use Rattle.ess_semantics.specs.Cells.{Cells, Axes, behind, cells_of}
 use Rattle.ess_semantics.specs.Layers.{OwnTable, up_to, up_to_marker, fixed_table, some_each, only_child, always_tidy, own_cell}
 use Rattle.ess_semantics.specs.SetLayers.{marker_table}
 use Rattle.ess_semantics.specs.MultisetLayers.{repetition_layer}
-use Rattle.ess_semantics.specs.Representations.{width, is_used}
+use Rattle.ess_semantics.specs.Representations.{width, is_used, places_by, value_of_cells}
 use Rattle.ess_semantics.specs.Declarations.{Declaration, widened, under, declarations_below, axes_of}
 use Rattle.ess_semantics.specs.CanonicalTest.{next_slot, canonical}
 use Rattle.ess_semantics.specs.Meaning.{Env, meaning}
 use Rattle.ess_semantics.proofs.Connectives.{and-means}
 use Rattle.ess_semantics.proofs.Tests.{all-run, if-so, or-yes, run-all}
-use Rattle.ess_repr_laws.specs.StructureParts.{Terms, add_ex, le_ex, upto, next_ex, first_name, use_ex, at_most_ex, size_ex}
+use Rattle.ess_repr_laws.specs.StructureParts.{Terms, add_ex, le_ex, upto, next_ex, first_name, use_ex, at_most_ex, size_ex, and_ex, own_shape, on_axes}
+use Rattle.ess_repr_laws.specs.MultisetParts.{bare_mset_dom, occurs_ex}
+use Rattle.ess_repr_laws.specs.ViewParts.{view_ex}
 use Rattle.ess_repr_laws.specs.Structure.{shapes, structure}
-use Rattle.ess_repr_laws.specs.StructureMeaning.{Number, Bound, M, Placed, axes_members, slot_numbers, Attributes, SlotsAre, asks_no_times}
+use Rattle.ess_repr_laws.specs.StructureMeaning.{Number, Bound, M, Placed, axes_members, slot_numbers, Attributes, SlotsAre, DomainIs, TimesReady, on_members}
 use Rattle.ess_repr_laws.proofs.CanonicalForms.{right}
+use Rattle.ess_repr_laws.proofs.CanonicalRepetition.{occurs-sorted}
+use Rattle.ess_repr_laws.proofs.FunctionViews.{built-of-values}
+use Rattle.ess_repr_laws.proofs.MultisetsOfViews.{occurs-settled, occurs-means}
+use Rattle.ess_repr_laws.proofs.ViewsOfCells.{Stands, view-stands}
+use Rattle.ess_semantics.proofs.Orders.{to_list-of_list}
+use Rattle.ess_semantics.specs.Operators.{as_truth}
 use Rattle.ess_repr_laws.proofs.CanonicalPlaces.{AllOf, all-of-list}
 use Rattle.ess_repr_laws.proofs.CellDomains.{axes-wide}
 use Rattle.ess_repr_laws.proofs.CellsOfMembers.{map-long}
@@ -45,13 +53,11 @@ use Rattle.ess_repr_laws.proofs.StructureSlotted.{slots-same}
 use Rattle.ess_repr_laws.proofs.StructureSortedSlots.{used_asked, parts-mean}
 use Rattle.ess_repr_laws.proofs.StructureUse.{slots-axis, cell-means, next-number, places-numbers}
 
--- Attributes that don't speak of numbers of times.
-no-times : (ks : List Attribute) → asks_no_times ks ≡ true → (xs : List Value) → each_number_holds ks (λ k z. occurs_holds k z xs) ≡ true
-no-times [] h xs = refl
-no-times (flagged k ∷ ks) h xs = no-times ks h xs
-no-times (numbered Key.MinOccur n ∷ ks) h xs = cc
-no-times (numbered Key.MaxOccur n ∷ ks) h xs = cc
-no-times (numbered _ n ∷ ks) h xs = no-times ks h xs
+-- Sorting changes nothing that all attributes ask.
+all-occurs-sorted : (ks : List Attribute) (vs : List Value) → each_number_holds ks (λ k z. occurs_holds k z (sorted vs)) ≡ each_number_holds ks (λ k z. occurs_holds k z vs)
+all-occurs-sorted [] vs = refl
+all-occurs-sorted (flagged k ∷ ks) vs = all-occurs-sorted ks vs
+all-occurs-sorted (numbered k z ∷ ks) vs = ap (λ b. b && each_number_holds ks (λ k z. occurs_holds k z (sorted vs))) (occurs-sorted k z vs) ∙ ap (λ b. occurs_holds k z vs && b) (all-occurs-sorted ks vs)
 
 -- Slots up to a marker stand first.
 marker-first : (S m : ℕ) → list_all (λ k. not (int_le (k +ℤ pos 1) (pos m)) || int_le k (pos m)) (one_to S) ≡ true
@@ -63,7 +69,7 @@ marker-first S m = run-all (λ k. not (int_le (k +ℤ pos 1) (pos m)) || int_le 
 
 module _ (env0 : Env) (q : ℕ → Text) (q-apart : (m l : ℕ) → l < m → same_text (q m) (q l) ≡ false) (terms : Terms)
     (r : Repr) (ms : List Mark) (es : Exs) (d : Dom) (ks : List Attribute) (e : Domain) (child : StructureOf env0 q q-apart terms r d e)
-    (at : Attributes env0 q q-apart terms ms es ks) (sl : SlotsAre env0 q q-apart terms (mset_dom ms es d) (slots_of_mset ks e)) (quiet : asks_no_times ks ≡ true) where
+    (at : Attributes env0 q q-apart terms ms es ks) (sl : SlotsAre env0 q q-apart terms (mset_dom ms es d) (slots_of_mset ks e)) (times : TimesReady env0 q q-apart (terms.slots (mset_dom ms es d)) d ks e) where
   abbrev S : ℕ
   S = slots_of_mset ks e
 
@@ -115,18 +121,20 @@ module _ (env0 : Env) (q : ℕ → Text) (q-apart : (m l : ℕ) → l < m → sa
       ∙ ap (λ o. Some (truth (is_some_and o (int_le (pos j))))) (sym m.1))
       (λ j a b. le-means (M env0 q q-apart ((l, number (pos j)) ∷ bs)) (next_ex q l) marker (pos (j + 1)) (pos m.0) (next-number env0 q q-apart l (pos j) bs [] tt) (at-slot m.0 m.1 j p.0)
       ∙ ap (λ o. Some (truth (is_some_and o (int_le (pos (j + 1)))))) (sym m.1)) in
-      and-means (M env0 q q-apart bs) (use_ex q l size here next rise (shapes q terms r d (drop 1 ns)) is part) (size_ex ms es marker)
+      and-means (M env0 q q-apart bs) (use_ex q l size here next rise (shapes q terms r d (drop 1 ns)) is part) (and_ex (size_ex ms es marker) (occurs_ex q l seen ms es))
       (used_asked env0 q q-apart terms r d e child size S sl ReprKind.MSetExplicitWithRepetition (msets ks e) own up_to_marker false (λ v. some_each (items_of v)) marker_table (λ c vss. Some (mset_of (only_child vss))) asked always_tidy mine (behind i (cells_of ts)))
-      (set_attributes_hold ks m.0) x.1
+      (set_attributes_hold ks m.0 && B) x.1
+      (and-means (M env0 q q-apart bs) (size_ex ms es marker) (occurs_ex q l seen ms es) (set_attributes_hold ks m.0) B
       (size-means (M env0 q q-apart bs) ms es marker m.0 ks z.0 z.1 (cell-means env0 q q-apart false (first_name ns) t is i bs (pos m.0) p.0 (st [] tt) (ap (cell_at t) (sym (append-nil i)) ∙ m.1)))
+      (occurs-settled env0 q q-apart terms l seen ms es (M env0 q q-apart bs)))
       ∙ ap (λ b. Some (truth b))
       (sym (layer-asked r e (right r e child.covered) (axes-wide r e child.covered) ReprKind.MSetExplicitWithRepetition (msets ks e) own (one_to S ∷ []) up_to_marker true false (λ v. some_each (items_of v)) marker_table
-      (λ c vss. Some (mset_of (only_child vss))) asked always_tidy mine (behind i (cells_of ts)) (set_attributes_hold ks m.0)
+      (λ c vss. Some (mset_of (only_child vss))) asked always_tidy mine (behind i (cells_of ts)) (set_attributes_hold ks m.0 && B)
       (ap (λ o. is_some_and o (is_cell (up_to S)) && true) m.1 ∙ ap (λ b. b && true) (up-to-fits S m.0 m.2))
       (child-long env0 q q-apart terms r d e child (upto size ∷ []) (slot_numbers S) (one_to S ∷ []) (slots-same env0 q q-apart S) refl (out || true) (drop 1 ns) ts i p.2 f.others)
       (lists_of (one_to m.0 ∷ [])) used.found (λ h. each m.0 m.1 m.2 h)
-      (λ vs n y u. ap (λ o. is_some_and o (λ m. set_attributes_hold ks (natural m)) && each_number_holds ks (λ k z. occurs_holds k z vs)) m.1 ∙ ap (λ b. set_attributes_hold ks m.0 && b) (no-times ks quiet vs) ∙ and-true (set_attributes_hold ks m.0))
-      ∙ ap (λ b. (b && used_asked env0 q q-apart terms r d e child size S sl ReprKind.MSetExplicitWithRepetition (msets ks e) own up_to_marker false (λ v. some_each (items_of v)) marker_table (λ c vss. Some (mset_of (only_child vss))) asked always_tidy mine (behind i (cells_of ts))) && set_attributes_hold ks m.0)
+      (λ vs n y u. ap (λ o. is_some_and o (λ m. set_attributes_hold ks (natural m)) && each_number_holds ks (λ k z. occurs_holds k z vs)) m.1 ∙ ap (λ b. set_attributes_hold ks m.0 && b) (occurs-asked vs m.0 used.found y))
+      ∙ ap (λ b. (b && used_asked env0 q q-apart terms r d e child size S sl ReprKind.MSetExplicitWithRepetition (msets ks e) own up_to_marker false (λ v. some_each (items_of v)) marker_table (λ c vss. Some (mset_of (only_child vss))) asked always_tidy mine (behind i (cells_of ts))) && (set_attributes_hold ks m.0 && B))
       (places-numbers S (λ js. not (is_used up_to_marker mine (next_slot js)) || is_used up_to_marker mine js)
       ∙ ap (λ o. list_all (λ k. not (is_some_and o (int_le (k +ℤ pos 1))) || is_some_and o (int_le k)) (one_to S)) m.1 ∙ marker-first S m.0)))
     where
@@ -148,9 +156,28 @@ module _ (env0 : Env) (q : ℕ → Text) (q-apart : (m l : ℕ) → l < m → sa
       part : Ex
       part = structure q terms r d (drop 1 ns) (suc l) (add_ex is (name_ex (q l)))
 
-      and-true : (b : Bool) → b && true ≡ b
-      and-true true = refl
-      and-true false = refl
+      -- its view
+      seen : Ex
+      seen = view_ex kind (bare_mset_dom size d) (own_shape ns false [] ∷ map (on_axes (upto size ∷ [])) (shapes q terms r d (drop 1 ns))) is
+
+      B : Bool
+      B = as_truth (meaning (occurs_ex q l seen ms es) (M env0 q q-apart bs))
+
+      stands : (vs : List Value) (m : ℕ) → places_by up_to_marker mine (lists_of (one_to S ∷ [])) ≡ Some (lists_of (one_to m ∷ [])) →
+          each_of (lists_of (one_to m ∷ [])) (λ j. value_of_cells r e (behind j (behind i (cells_of ts)))) ≡ Some vs →
+          DomainIs env0 q q-apart (bare_mset_dom size d) (msets (numbered Key.MaxSize (pos S) ∷ []) e) → Stands env0 q q-apart l seen (mset_of vs) bs
+      stands vs m f y dm =
+          view-stands env0 q q-apart kind (bare_mset_dom size d) (msets (numbered Key.MaxSize (pos S) ∷ []) e) (own_shape ns false [] ∷ map (on_axes (upto size ∷ [])) (shapes q terms r d (drop 1 ns)))
+          ([] ∷ on_members (slot_numbers S) (axes_members r e)) (t ∷ ts) l is i bs (mset_of vs) refl dm p st
+          (built-of-values ReprKind.MSetExplicitWithRepetition r (msets (numbered Key.MaxSize (pos S) ∷ []) e) e (repetition_layer (numbered Key.MaxSize (pos S) ∷ []) e) mine (behind i (cells_of ts)) (lists_of (one_to m ∷ [])) vs refl
+          (let g = own-fit out t ts i c in child-long env0 q q-apart terms r d e child (upto size ∷ []) (slot_numbers S) (one_to S ∷ []) (slots-same env0 q q-apart S) refl (out || true) (drop 1 ns) ts i p.2 g.others) f y)
+
+      -- How often members occur is what the view says.
+      occurs-asked : (vs : List Value) (m : ℕ) → places_by up_to_marker mine (lists_of (one_to S ∷ [])) ≡ Some (lists_of (one_to m ∷ [])) →
+          each_of (lists_of (one_to m ∷ [])) (λ j. value_of_cells r e (behind j (behind i (cells_of ts)))) ≡ Some vs → each_number_holds ks (λ k z. occurs_holds k z vs) ≡ B
+      occurs-asked vs m f y =
+          sym (all-occurs-sorted ks vs) ∙ ap (λ ys. each_number_holds ks (λ k z. occurs_holds k z ys)) (sym (to_list-of_list (sorted vs)))
+          ∙ sym (ap as_truth (occurs-means env0 q q-apart terms l bs seen (mset_of vs) ms es ks at (λ h. stands vs m f y (times h))))
 
       at-slot : (m : ℕ) → cell_at t (i ++ []) ≡ Some (pos m) → (j : ℕ) → look env0.cells (first_name ns) ≡ Some t → Number marker (M env0 q q-apart ((l, number (pos j)) ∷ bs)) (pos m)
       at-slot m h j ht = cell-means env0 q q-apart false (first_name ns) t is i ((l, number (pos j)) ∷ bs) (pos m) ht (st ((l, number (pos j)) ∷ []) (le_refl l, tt)) (ap (cell_at t) (sym (append-nil i)) ∙ h)

@@ -1,6 +1,6 @@
 -- What a view means where its tables are found, and what comprehensions over its items mean.
 use Rattle.std.proofs.Common.{◌≡◌, refl, sym, ap, ◌∙◌, ℕ, ◌<◌, Bool, true, false, ◌&&◌, ◌||◌, not, List, [], ◌∷◌, ◌++◌, map, ℤ, Option, Some, option_map}
-use Rattle.std.specs.List.{list_any}
+use Rattle.std.specs.List.{list_all, list_any}
 use Rattle.ess_semantics.specs.declared.words.Fun.{Fun}
 use Rattle.ess_semantics.specs.Lists.{and_then, all_some}
 use Rattle.ess_semantics.specs.Values.{a_tuple, a_matrix, a_set, a_mset, a_function, a_relation, a_partition, a_record, Text, Value, number, truth, item, node, pair, items_of}
@@ -10,17 +10,18 @@ use Rattle.ess_semantics.specs.Names.{look}
 use Rattle.ess_semantics.specs.Trees.{to_component, index, word, Repr, Ex, Exs, name_ex, Gens, no_gens, over, name_pat, Dom}
 use Rattle.ess_semantics.specs.Domains.{Domain, booleans}
 use Rattle.ess_semantics.specs.Membership.{member}
-use Rattle.ess_semantics.specs.Operators.{all_different, list_value, false_where_undefined, value_of_node}
+use Rattle.ess_semantics.specs.Operators.{all_true, all_different, list_value, false_where_undefined, value_of_node}
 use Rattle.ess_semantics.specs.Tables.{Tables}
 use Rattle.ess_semantics.specs.Meaning.{Env, collect, domain_of, indices, is_bool_dom, items_under, meaning, meanings, members_in, seen_in, tables_in}
 use Rattle.ess_semantics.specs.Representations.{value_of_tables}
+use Rattle.ess_semantics.proofs.Connectives.{all-means}
 use Rattle.ess_semantics.proofs.Orders.{same-itself, same-equal, to_list-of_list}
 use Rattle.ess_semantics.proofs.Sorting.{Distinct}
 use Rattle.ess_semantics.proofs.Tests.{and-left, and-right, both-ways, not-true}
 use Rattle.ess_repr_laws.specs.StructureParts.{Shape}
 use Rattle.ess_repr_laws.specs.StructureMeaning.{Bound, M, Placed, DomainIs}
-use Rattle.ess_repr_laws.specs.ViewParts.{shape_names, view_ex, component_ex, each_item, components_differ_ex}
-use Rattle.ess_repr_laws.proofs.CanonicalPlaces.{AllOf}
+use Rattle.ess_repr_laws.specs.ViewParts.{shape_names, view_ex, component_ex, each_item, every_item_ex, components_differ_ex}
+use Rattle.ess_repr_laws.proofs.CanonicalPlaces.{AllOf, all-of-map}
 use Rattle.ess_repr_laws.proofs.StructureRows.{From, Steady, looked}
 
 -- ---- lists
@@ -112,6 +113,19 @@ module _ (env0 : Env) (q : ℕ → Text) (q-apart : (m l : ℕ) → l < m → sa
       AllOf (items_of v) (λ x. items_under gs (N ((l, x) ∷ bs)) k ≡ Some (g x ∷ [])) → items_under (each_item q l e gs) (N bs) k ≡ Some (map g (items_of v))
   items-run l e gs bs k v g h a =
       ap (λ o. and_then o (λ s. collect (items_of s) (λ x. items_under gs (N ((l, x) ∷ bs)) k))) h ∙ collect-items (items_of v) (λ x. items_under gs (N ((l, x) ∷ bs)) k) g a
+
+  -- A test of each item.
+  pub every-item-means : (l : ℕ) (e : Ex) (bs : Bound env0 q q-apart) (v : Value) (test : Ex) (f : Value → Bool) → meaning e (N bs) ≡ Some v → AllOf (items_of v) (λ p. meaning test (N ((l, p) ∷ bs)) ≡ Some (truth (f p))) →
+      meaning (every_item_ex q l e test) (N bs) ≡ Some (truth (list_all f (items_of v)))
+  every-item-means l e bs v test f h a =
+      all-means (N bs) test (each_item q l e no_gens) (map (λ p. truth (f p)) (items_of v))
+      (items-run l e no_gens bs (λ here. option_map (λ z. z ∷ []) (meaning test here)) v (λ p. truth (f p)) h
+      (all-of-map (items_of v) (λ p. meaning test (N ((l, p) ∷ bs)) ≡ Some (truth (f p))) (λ p. option_map (λ z. z ∷ []) (meaning test (N ((l, p) ∷ bs))) ≡ Some (truth (f p) ∷ [])) (λ p z. ap (option_map (λ z. z ∷ [])) z) a))
+      ∙ ap (λ b. Some (truth b)) (all-bits (items_of v))
+    where
+      all-bits : (ps : List Value) → all_true (map (λ p. truth (f p)) ps) ≡ list_all f ps
+      all-bits [] = refl
+      all-bits (p ∷ ps) = ap (λ b. f p && b) (all-bits ps)
 
   -- Over the members of a domain.
   pub members-run : (l : ℕ) (d : Dom) (gs : Gens) (bs : Bound env0 q q-apart) (k : Env → Option (List Value)) (vs : List Value) (g : Value → Value) → members_in (domain_of d (N bs)) ≡ Some vs →

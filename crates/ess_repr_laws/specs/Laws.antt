@@ -119,9 +119,9 @@ pub record LayersAreComposed : Type 0 where
 -- The structure constraint of a view, over tables on the declared axes with items in the declared domains, means that the cells
 -- are canonical. So for atoms, tuples, records and matrices; for sets kept as the members that occur, or in slots that are all in
 -- use, up to a marker, with flags, or with a dummy; for multisets by how often each member occurs, or in slots with these numbers
--- or up to a marker, where of the latter nothing is asked but sizes; for functions with a value or a flag and a value for each
--- argument, or as relations, with all attributes; for relations as matrices or as sets, and for partitions as sets, with all
--- attributes; in any nesting.
+-- or up to a marker; for functions with a value or a flag and a value for each argument, or as relations; for relations as
+-- matrices or as sets; and for partitions as sets; with all attributes, in any nesting. Partitions by the number of each member's
+-- part are left out.
 abbrev pub StructuresMeanCanonical : Type 0
 StructuresMeanCanonical =
     (env0 : Env) (q : ℕ → Text) (apart : (m l : ℕ) → l < m → same_text (q m) (q l) ≡ false) (terms : Terms) →

@@ -11,6 +11,7 @@ pub mod StructureParts
 pub mod RelationParts
 pub mod ViewParts
 pub mod FunctionParts
+pub mod MultisetParts
 pub mod PartSizes
 pub mod Structure
 pub mod StructureMeaning

@@ -8,7 +8,7 @@ use Rattle.ess_semantics.specs.declared.words.Op2.{Op2}
 use Rattle.ess_semantics.specs.Values.{Text}
 use Rattle.ess_semantics.specs.Trees.{Mark, Ex, Exs, no_exs, more_exs, Dom, Doms, no_doms, more_doms, relation_dom, truth_ex, name_ex, cell_ex, comp_ex, node_ex, tuple_literal, no_gens, over, name_pat, ex1, ex2, fun1}
 use Rattle.ess_repr_laws.specs.StructureParts.{add_ex, and_ex, or_ex, implies_ex, each_ex, keys_ex, size_ex, true_count_ex}
-use Rattle.ess_repr_laws.specs.ViewParts.{component_ex, each_item}
+use Rattle.ess_repr_laws.specs.ViewParts.{component_ex, every_item_ex}
 
 -- `reflexive` says e, `irreflexive` says f, each other attribute what g says.
 abbrev pub with_diagonal : Ex → Ex → (Key → Ex) → Key → Ex
@@ -43,10 +43,6 @@ module _ (q : ℕ → Text) where
   abbrev pub second_ex : ℕ → Dom → Ex
   second_ex l c = component_ex c 2 (name_ex (q l))
 
-  -- The test holds of each pair that e has.
-  abbrev pub each_pair_ex : ℕ → Ex → Ex → Ex
-  each_pair_ex l e test = fun1 true Fun.And (comp_ex test (each_item q l e no_gens))
-
   -- The relation has the pair that q l is turned round.
   abbrev pub turned_ex : ℕ → Dom → Dom → Ex → Ex
   turned_ex l d c e = has_pair_ex e (second_ex l c) (first_ex l d)
@@ -64,11 +60,11 @@ module _ (q : ℕ → Text) where
   abbrev pub pair_relation_key_ex : ℕ → Dom → Dom → Ex → Key → Ex
   pair_relation_key_ex l d c e Key.Reflexive =
       fun1 true Fun.And (comp_ex (has_pair_ex e (name_ex (q l)) (name_ex (q l))) (over (name_pat (q l)) d no_gens))
-  pair_relation_key_ex l d c e Key.Irreflexive = each_pair_ex l e (ex1 true Op1.Not (parts_same_ex l d c))
-  pair_relation_key_ex l d c e Key.Symmetric = each_pair_ex l e (turned_ex l d c e)
-  pair_relation_key_ex l d c e Key.AntiSymmetric = each_pair_ex l e (or_ex (ex1 true Op1.Not (turned_ex l d c e)) (parts_same_ex l d c))
-  pair_relation_key_ex l d c e Key.ASymmetric = each_pair_ex l e (ex1 true Op1.Not (turned_ex l d c e))
-  pair_relation_key_ex l d c e Key.Transitive = each_pair_ex l e (each_pair_ex (suc l) e (linked_ex l d c e))
+  pair_relation_key_ex l d c e Key.Irreflexive = every_item_ex q l e (ex1 true Op1.Not (parts_same_ex l d c))
+  pair_relation_key_ex l d c e Key.Symmetric = every_item_ex q l e (turned_ex l d c e)
+  pair_relation_key_ex l d c e Key.AntiSymmetric = every_item_ex q l e (or_ex (ex1 true Op1.Not (turned_ex l d c e)) (parts_same_ex l d c))
+  pair_relation_key_ex l d c e Key.ASymmetric = every_item_ex q l e (ex1 true Op1.Not (turned_ex l d c e))
+  pair_relation_key_ex l d c e Key.Transitive = every_item_ex q l e (every_item_ex q (suc l) e (linked_ex l d c e))
   pair_relation_key_ex l d c e _ = truth_ex true
 
   -- The same for a relation over these components. One of more or fewer than two has no such attribute.

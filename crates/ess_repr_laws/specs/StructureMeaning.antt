@@ -3,6 +3,7 @@
 use Rattle.std.specs.Prelude.{◌≡◌, ℕ, ◌<◌, Bool, true, false, ◌&&◌, not, List, [], ◌∷◌, ◌++◌, map, ℤ, pos, Some}
 use Rattle.ess_repr_laws.specs.StructureParts.{Shape, Terms}
 use Rattle.ess_repr_laws.specs.RelationParts.{bare_relation_dom}
+use Rattle.ess_repr_laws.specs.MultisetParts.{bare_mset_dom}
 use Rattle.ess_repr_laws.specs.FunctionParts.{bare_function_dom, is_one_cell}
 use Rattle.ess_repr_laws.specs.Finite.{Enumerated}
 use Rattle.ess_semantics.specs.Attributes.{set_attributes_hold}
@@ -206,6 +207,12 @@ module _ (env0 : Env) (q : ℕ → Text) (q-apart : (m l : ℕ) → l < m → sa
   MatrixKeyReady ds xs Key.Reflexive = WithinOne xs
   MatrixKeyReady ds xs Key.Irreflexive = WithinOne xs
   MatrixKeyReady ds xs k = RelationKeyReady ds xs (bare_relation_dom ds) (relations [] xs) k
+
+  -- Where an attribute speaks of how often members occur, the domain of multisets of at most as many members as there are slots means
+  -- this.
+  abbrev pub TimesReady : Ex → Dom → List Attribute → Domain → Type 0
+  TimesReady size d ks e =
+      asks_no_times ks ≡ false → DomainIs (bare_mset_dom size d) (msets (numbered Key.MaxSize (pos (slots_of_mset ks e)) ∷ []) e)
 
 module _ (env0 : Env) (q : ℕ → Text) (q-apart : (m l : ℕ) → l < m → same_text (q m) (q l) ≡ false) (terms : Terms) where
   -- The attributes are these, whatever names are bound.

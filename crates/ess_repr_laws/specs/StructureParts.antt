@@ -220,12 +220,6 @@ module _ (q : ℕ → Text) where
       (use_ex l size here next (less_ex (suc l) ss (add_ex is (name_ex (q l))) (add_ex is (next_ex l))) ss is part))
       (counts_ex l ms es (upto size ∷ []) n is)
 
-  -- Slots up to a marker, in which equal members may stand.
-  abbrev pub repetition_ex : ℕ → List Mark → Exs → Ex → Text → List Shape → Exs → Ex → Ex
-  repetition_ex l ms es size n ss is part =
-      and_ex (use_ex l size (le_ex (name_ex (q l)) (cell_ex false n is)) (le_ex (next_ex l) (cell_ex false n is))
-      (at_most_ex (suc l) ss (add_ex is (name_ex (q l))) (add_ex is (next_ex l))) ss is part) (size_ex ms es (cell_ex false n is))
-
   -- How many slots hold another number than the dummy.
   abbrev pub member_count_ex : ℕ → Ex → Ex → Text → Exs → Ex
   member_count_ex l size dummy n is =

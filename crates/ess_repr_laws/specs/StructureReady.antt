@@ -2,7 +2,7 @@
 -- canonical.
 use Rattle.std.specs.Prelude.{◌≡◌, ℕ, ◌<◌, true, false, List, [], ◌∷◌, Some}
 use Rattle.ess_repr_laws.specs.StructureParts.{Terms, tuple_set_dom}
-use Rattle.ess_repr_laws.specs.StructureMeaning.{Attributes, SlotsAre, AtomReady, DummyIs, DomainIs, AxesAre, Bound, M, RelationKeyReady, MatrixKeyReady, asks_no_times, tuple_set_sizes, EachFlag, BoolIs, AreSizes, PairKeyReady, ValueKeyReady, FlagKeyReady, index_members}
+use Rattle.ess_repr_laws.specs.StructureMeaning.{Attributes, SlotsAre, AtomReady, DummyIs, DomainIs, AxesAre, Bound, M, RelationKeyReady, MatrixKeyReady, TimesReady, tuple_set_sizes, EachFlag, BoolIs, AreSizes, PairKeyReady, ValueKeyReady, FlagKeyReady, index_members}
 use Rattle.ess_repr_laws.specs.ViewParts.{pair_relation_dom, part_set_dom}
 use Rattle.ess_repr_laws.specs.PartSizes.{ArePartSizes}
 use Rattle.ess_semantics.specs.Kinds.{dom_list}
@@ -59,13 +59,14 @@ module _ (env0 : Env) (q : ℕ → Text) (q-apart : (m l : ℕ) → l < m → sa
         Attributes env0 q q-apart terms ms es ks × SlotsAre env0 q q-apart terms (mset_dom ms es d) (slots_of_mset ks e) × Ready r d e
     Ready (repr ReprKind.MSetExplicitWithRepetition (more_reprs r no_reprs)) (mset_dom ms es d) (msets ks e) =
         Attributes env0 q q-apart terms ms es ks × SlotsAre env0 q q-apart terms (mset_dom ms es d) (slots_of_mset ks e) ×
-        (asks_no_times ks ≡ true) × Ready r d e
+        TimesReady env0 q q-apart (terms.slots (mset_dom ms es d)) d ks e × Ready r d e
     Ready (repr ReprKind.ExplicitVarSizeWithDummy no_reprs) (set_dom ms es d) (sets ks e) =
         (HasDummy e × (is_bool_dom d ≡ false) × AtomReady env0 q q-apart terms d e) × DummyIs env0 q q-apart terms d e ×
         Attributes env0 q q-apart terms ms es ks ×
         SlotsAre env0 q q-apart terms (set_dom ms es d) (slots_of_set ks e)
     Ready (repr ReprKind.RelationAsSet (more_reprs r no_reprs)) (relation_dom ms es ds) (relations ks xs) =
-        (AreSizes (tuple_set_sizes ks) ks × EachFlag (RelationKeyReady env0 q q-apart ds xs (tuple_set_dom ms es ds) (child_set ks xs)) ks) ×
+        (AreSizes (tuple_set_sizes ks) ks ×
+        EachFlag (RelationKeyReady env0 q q-apart ds xs (tuple_set_dom ms es ds) (child_set ks xs)) ks) ×
         Attributes env0 q q-apart terms ms es ks × Ready r (tuple_set_dom ms es ds) (child_set ks xs)
     Ready (repr ReprKind.FunctionAsRelation (more_reprs r no_reprs)) (function_dom ms es d c) (functions ks x y) =
         (BoolIs d x × BoolIs c y) × (AreSizes (pair_sizes ks x) ks × EachFlag (PairKeyReady env0 q q-apart c ks x y) ks) ×

@@ -74,6 +74,10 @@ module _ (q : ℕ → Text) where
   abbrev pub each_item : ℕ → Ex → Gens → Gens
   each_item l e gs = from (name_pat (q l)) e gs
 
+  -- The test holds of each item of e.
+  abbrev pub every_item_ex : ℕ → Ex → Ex → Ex
+  every_item_ex l e test = fun1 true Fun.And (comp_ex test (each_item l e no_gens))
+
   -- The components of the tuples that e has differ.
   abbrev pub components_differ_ex : ℕ → Dom → ℕ → Ex → Ex
   components_differ_ex l d k e = fun1 true Fun.AllDiff (comp_ex (component_ex d k (name_ex (q l))) (each_item l e no_gens))
