@@ -3,11 +3,12 @@ use Rattle.std.proofs.Common.{◌≡◌, refl, sym, ap, ℕ, ℤ, ◌<◌, true,
 use Rattle.ess_semantics.specs.declared.words.ReprKind.{ReprKind}
 use Rattle.ess_semantics.specs.declared.words.Fun.{Fun}
 use Rattle.ess_semantics.specs.declared.words.Key.{Key}
+use Rattle.ess_semantics.specs.declared.words.Op1.{Op1}
 use Rattle.ess_semantics.specs.declared.words.Op2.{Op2}
 use Rattle.std.specs.Prelude.{codes}
 use Rattle.ess_semantics.specs.Values.{Text, truth}
 use Rattle.ess_semantics.specs.Order.{same_text}
-use Rattle.ess_semantics.specs.Trees.{valued, flag, Repr, repr, no_reprs, more_reprs, Ex, number_ex, truth_ex, no_exs, Dom, bool_dom, tuple_dom, matrix_dom, set_dom, function_dom, no_doms, more_doms, more_exs, name_ex, cell_ex, comp_ex, over, name_pat, no_gens, fun1, ex2, word, tuple_literal, relation_dom, partition_dom, node_ex, seen_ex, from, index, to_component}
+use Rattle.ess_semantics.specs.Trees.{valued, flag, Repr, repr, no_reprs, more_reprs, Ex, number_ex, truth_ex, no_exs, Dom, bool_dom, tuple_dom, matrix_dom, set_dom, function_dom, no_doms, more_doms, more_exs, name_ex, cell_ex, comp_ex, over, name_pat, no_gens, fun1, ex1, ex2, word, tuple_literal, relation_dom, partition_dom, node_ex, seen_ex, from, index, to_component}
 use Rattle.ess_semantics.specs.Domains.{Domain, booleans, sets}
 use Rattle.ess_semantics.specs.Tables.{Tables, is_cell}
 use Rattle.ess_semantics.specs.Cells.{cells_of}
@@ -20,7 +21,7 @@ use Rattle.ess_repr_laws.specs.StructureParts.{tuple_set_dom, Terms, and_ex, key
 use Rattle.ess_repr_laws.specs.FunctionParts.{with_total, flag_key_ex, value_key_ex}
 use Rattle.ess_repr_laws.specs.RelationParts.{diagonal_ex, has_pair_ex, relation_key_ex, matrix_key_ex}
 use Rattle.ess_repr_laws.specs.MultisetParts.{occurs_ex}
-use Rattle.ess_repr_laws.specs.ViewParts.{pair_relation_dom, pairs_ex, part_set_dom, parts_ex, all_taken_ex, components_differ_ex}
+use Rattle.ess_repr_laws.specs.ViewParts.{pair_relation_dom, pairs_ex, total_size_ex, part_set_dom, parts_ex, all_taken_ex, components_differ_ex}
 use Rattle.ess_repr_laws.specs.Structure.{shapes, structure}
 use Rattle.ess_repr_laws.specs.CanonicalTables.{TablesFit}
 use Rattle.ess_repr_laws.specs.StructureMeaning.{Bound, M, Placed, axes_members}
@@ -154,15 +155,21 @@ pub of-pair-sizes : pair_relation_dom at_atom (valued Key.MinSize ∷ flag Key.T
 of-pair-sizes = refl
 
 -- An injective function's pairs: first components differ, and so do second ones.
-pub of-pairs : pairs_ex name 1 (flag Key.Injective ∷ []) bool_dom bool_dom (name_ex (codes "e"))
+pub of-pairs : pairs_ex name 1 (flag Key.Injective ∷ []) no_exs bool_dom bool_dom (name_ex (codes "e"))
     ≡ and_ex (fun1 true Fun.AllDiff (comp_ex (node_ex true (index (to_component 1 ∷ [])) (more_exs (name_ex (codes "q")) no_exs)) (from (name_pat (codes "q")) (name_ex (codes "e")) no_gens)))
-    (and_ex (fun1 true Fun.AllDiff (comp_ex (node_ex true (index (to_component 2 ∷ [])) (more_exs (name_ex (codes "q")) no_exs)) (from (name_pat (codes "q")) (name_ex (codes "e")) no_gens))) (truth_ex true))
+    (and_ex (truth_ex true) (and_ex (fun1 true Fun.AllDiff (comp_ex (node_ex true (index (to_component 2 ∷ [])) (more_exs (name_ex (codes "q")) no_exs)) (from (name_pat (codes "q")) (name_ex (codes "e")) no_gens))) (truth_ex true)))
 of-pairs = refl
+
+-- A total function of three pairs: the relation has as many pairs as bool has members, and the size is asked of the view.
+pub of-total-size : total_size_ex (valued Key.MinSize ∷ flag Key.Total ∷ valued Key.Size ∷ []) (more_exs (number_ex (pos 1)) (more_exs (number_ex (pos 3)) no_exs)) (name_ex (codes "e"))
+    ≡ and_ex (truth_ex true)
+    (and_ex (and_ex (ex2 true Op2.Le (number_ex (pos 3)) (ex1 false Op1.Bar (name_ex (codes "e")))) (ex2 true Op2.Le (ex1 false Op1.Bar (name_ex (codes "e"))) (number_ex (pos 3)))) (truth_ex true))
+of-total-size = refl
 
 -- A function from bool to bool as a relation that is a matrix: what is asked of the relation, and of the pairs of its view.
 pub of-function-as-relation : structure name at_atom (repr ReprKind.FunctionAsRelation (more_reprs (repr ReprKind.RelationAsMatrix no_reprs) no_reprs)) (function_dom [] no_exs bool_dom bool_dom) ((codes "a") ∷ []) 1 no_exs
     ≡ and_ex (structure name at_atom (repr ReprKind.RelationAsMatrix no_reprs) (pair_relation_dom at_atom [] no_exs bool_dom bool_dom) ((codes "a") ∷ []) 1 no_exs)
-    (pairs_ex name 1 [] bool_dom bool_dom (seen_ex (repr ReprKind.RelationAsMatrix no_reprs) (relation_dom (valued Key.MaxSize ∷ []) (more_exs (number_ex (pos 2)) no_exs) (more_doms bool_dom (more_doms bool_dom no_doms))) ((codes "a") ∷ []) no_exs))
+    (pairs_ex name 1 [] no_exs bool_dom bool_dom (seen_ex (repr ReprKind.RelationAsMatrix no_reprs) (relation_dom (valued Key.MaxSize ∷ []) (more_exs (number_ex (pos 2)) no_exs) (more_doms bool_dom (more_doms bool_dom no_doms))) ((codes "a") ∷ []) no_exs))
 of-function-as-relation = refl
 
 -- The parts of a partition of bool in two parts of at most three: the set has two members, each of at most three.

@@ -143,6 +143,7 @@ pub mod StructureConversions
 pub mod PairsOfViews
 pub mod RelationsOfViews
 pub mod FunctionViews
+pub mod ExactSizes
 pub mod StructurePairs
 pub mod SizeMarks
 pub mod OnceHeld

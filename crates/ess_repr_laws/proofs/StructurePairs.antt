@@ -6,14 +6,14 @@ use Rattle.std.specs.List.{list_all}
 use Rattle.ess_semantics.specs.declared.words.ReprKind.{ReprKind}
 use Rattle.ess_semantics.specs.declared.words.Key.{Key}
 use Rattle.ess_semantics.specs.Lists.{and_then, when, is_some_and, only_of, or_else}
-use Rattle.ess_semantics.specs.Values.{Text, Value, a_function, a_relation, node, to_list, of_list, truth, from_of, to_of, itself, items_of}
+use Rattle.ess_semantics.specs.Values.{Text, Value, a_function, a_relation, node, to_list, of_list, truth, from_of, to_of, itself, items_of, number}
 use Rattle.ess_semantics.specs.Order.{same, same_text}
 use Rattle.ess_semantics.specs.Collections.{holds, rises, no_twice, function_of}
-use Rattle.ess_semantics.specs.Trees.{Mark, Repr, repr, no_reprs, more_reprs, Ex, Exs, name_ex, Dom, function_dom}
+use Rattle.ess_semantics.specs.Trees.{Mark, Repr, repr, no_reprs, more_reprs, Ex, Exs, name_ex, Dom, function_dom, ex1, unary}
 use Rattle.ess_semantics.specs.Domains.{Attribute, Domain, no_domains, more_domains, functions, members, member_list, has, attribute}
 use Rattle.ess_semantics.specs.Membership.{member}
 use Rattle.ess_semantics.specs.Attributes.{each_holds, function_attributes_hold, function_holds, relation_attributes_hold, set_attributes_hold, size_holds, is_total}
-use Rattle.ess_semantics.specs.Operators.{as_truth}
+use Rattle.ess_semantics.specs.Operators.{as_truth, value_of_node}
 use Rattle.ess_semantics.specs.Sizes.{bound, child_relation, pair_sizes, size_attributes}
 use Rattle.ess_semantics.specs.Cells.{Cells, behind, cells_of}
 use Rattle.ess_semantics.specs.Layers.{only_child}
@@ -25,18 +25,20 @@ use Rattle.ess_semantics.specs.Meaning.{Env, meaning, meanings}
 use Rattle.ess_semantics.proofs.Connectives.{and-means}
 use Rattle.ess_semantics.proofs.Orders.{same-equal, to_list-of_list}
 use Rattle.ess_semantics.proofs.Sorting.{sorted_once-itself, holds-all, all-holds}
-use Rattle.ess_semantics.proofs.Tests.{and-left, and-right, and-both}
+use Rattle.ess_semantics.proofs.Tests.{and-left, and-right, and-both, both-ways}
 use Rattle.ess_repr_laws.specs.Finite.{Enumerated}
-use Rattle.ess_repr_laws.specs.StructureParts.{Terms, keys_ex}
+use Rattle.ess_repr_laws.specs.StructureParts.{Terms, keys_ex, and_ex}
 use Rattle.ess_repr_laws.specs.Structure.{shapes, structure}
-use Rattle.ess_repr_laws.specs.StructureMeaning.{Bound, M, Attributes, DomainIs, EachFlag, BoolIs, PairKeyReady, has_flags_among, no_key, AreSizes, axes_members}
-use Rattle.ess_repr_laws.specs.ViewParts.{view_ex, component_ex, components_differ_ex, pair_key_ex, pair_relation_dom, pairs_ex}
+use Rattle.ess_repr_laws.specs.StructureMeaning.{Bound, M, Attributes, DomainIs, EachFlag, BoolIs, PairKeyReady, has_flags_among, no_key, ArePairSizes, exact_sizes_hold, axes_members}
+use Rattle.ess_repr_laws.specs.ViewParts.{view_ex, component_ex, components_differ_ex, pair_key_ex, pair_relation_dom, pairs_ex, total_size_ex}
+use Rattle.ess_semantics.specs.declared.words.Op1.{Op1}
 use Rattle.ess_repr_laws.proofs.Behind.{behind-length}
 use Rattle.ess_repr_laws.proofs.CanonicalConversions.{is_pair_of, pairs-of-tuples, relation-member-form}
 use Rattle.ess_repr_laws.proofs.CanonicalForms.{right}
 use Rattle.ess_repr_laws.proofs.CanonicalPlaces.{AllOf, all-of-list, all-of-map}
 use Rattle.ess_repr_laws.proofs.CellDomains.{axes-wide}
 use Rattle.ess_repr_laws.proofs.CellsOfMembers.{map-long}
+use Rattle.ess_repr_laws.proofs.ExactSizes.{exact-sizes, total-size-means}
 use Rattle.ess_repr_laws.proofs.PairsOfViews.{Pair, pair-is, PairTo, seconds-means, all-taken-means, one-to-one-means}
 use Rattle.ess_repr_laws.proofs.StructureAttributes.{relation-sizes}
 use Rattle.ess_repr_laws.proofs.StructureConversions.{conversion-asked, flags-means, each-flag}
@@ -114,7 +116,7 @@ module _ (env0 : Env) (q : ℕ → Text) (q-apart : (m l : ℕ) → l < m → sa
   abbrev N : Bound env0 q q-apart → Env
   N = M env0 q q-apart
 
-  module _ (ms : List Mark) (es : Exs) (d c : Dom) (ks : List Attribute) (x y : Domain) (bx : BoolIs d x) (by' : BoolIs c y) (sizes : AreSizes (pair_sizes ks x) ks) (keys : EachFlag (PairKeyReady env0 q q-apart c ks x y) ks)
+  module _ (ms : List Mark) (es : Exs) (d c : Dom) (ks : List Attribute) (x y : Domain) (bx : BoolIs d x) (by' : BoolIs c y) (sizes : ArePairSizes ks x) (keys : EachFlag (PairKeyReady env0 q q-apart c ks x y) ks)
       (at : Attributes env0 q q-apart terms ms es ks) (l : ℕ) (bs : Bound env0 q q-apart) (e : Ex) (v : Value) (st : Stands env0 q q-apart l e v bs) (pairs : AllOf (items_of v) (Pair x y)) where
     abbrev ps : List Value
     ps = items_of v
@@ -137,25 +139,45 @@ module _ (env0 : Env) (q : ℕ → Text) (q-apart : (m l : ℕ) → l < m → sa
     key-means d n Key.Bijective h = one-to-one-means env0 q q-apart c y by' l bs e v st second_parts h
     key-means d n _ h = refl
 
-    -- What is asked of the pairs.
-    pub pairs-means : set_attributes_hold (pair_sizes ks x) (length ps) ≡ true → meaning (pairs_ex q l ms d c e) (N bs) ≡ Some (truth (no_twice from_of ps && function_attributes_hold ks x y ps))
-    pairs-means s =
-        ap (λ o. Some (truth (as_truth o && as_truth (meaning (keys_ex (pair_key_ex q l c e) ms) (N bs))))) firsts-means ∙ go (no_twice from_of ps) refl
+    -- All sizes hold where `size` does beside `total`.
+    sizes-apart : set_attributes_hold (pair_sizes ks x) (length ps) ≡ true → set_attributes_hold ks (length ps) ≡ (if has Key.Total ks then exact_sizes_hold ks (length ps) else true)
+    sizes-apart s = both-ways (set_attributes_hold ks (length ps)) (if has Key.Total ks then exact_sizes_hold ks (length ps) else true) (to (has Key.Total ks)) (λ h. sizes (length ps) s (λ t. from (has Key.Total ks) t h))
       where
-        go : (b : Bool) → no_twice from_of ps ≡ b → Some (truth (b && as_truth (meaning (keys_ex (pair_key_ex q l c e) ms) (N bs)))) ≡ Some (truth (b && function_attributes_hold ks x y ps))
+        to : (b : Bool) → set_attributes_hold ks (length ps) ≡ true → (if b then exact_sizes_hold ks (length ps) else true) ≡ true
+        to true h = exact-sizes ks (length ps) h
+        to false h = refl
+
+        from : (b : Bool) → b ≡ true → (if b then exact_sizes_hold ks (length ps) else true) ≡ true → exact_sizes_hold ks (length ps) ≡ true
+        from true t h = h
+        from false t h = cc
+
+    -- What is asked of the pairs.
+    pub pairs-means : meaning (ex1 false Op1.Bar e) (N bs) ≡ Some (number (pos (length ps))) → set_attributes_hold (pair_sizes ks x) (length ps) ≡ true →
+        meaning (pairs_ex q l ms es d c e) (N bs) ≡ Some (truth (no_twice from_of ps && function_attributes_hold ks x y ps))
+    pairs-means size s =
+        ap (λ o. Some (truth (as_truth o && as_truth (meaning attribute_part (N bs))))) firsts-means ∙ go (no_twice from_of ps) refl
+      where
+        attribute_part : Ex
+        attribute_part = and_ex (total_size_ex ms es e) (keys_ex (pair_key_ex q l c e) ms)
+
+        keys_hold : Bool
+        keys_hold = each_holds ks (λ k n. true) (λ k. function_holds k (members x) (members y) ps)
+
+        go : (b : Bool) → no_twice from_of ps ≡ b → Some (truth (b && as_truth (meaning attribute_part (N bs)))) ≡ Some (truth (b && function_attributes_hold ks x y ps))
         go false h = refl
         go true h =
             let a = at bs in
             ap (λ o. Some (truth (as_truth o)))
+            (and-means (N bs) (total_size_ex ms es e) (keys_ex (pair_key_ex q l c e) ms) (if has Key.Total ks then exact_sizes_hold ks (length ps) else true) keys_hold
+            (total-size-means (N bs) e (length ps) size ms es ks a.0 a.1)
             (flags-means (N bs) (pair_key_ex q l c e) (λ k. function_holds k (members x) (members y) ps) ms (meanings es (N bs)) ks a.1
             (each-flag (PairKeyReady env0 q q-apart c ks x y) (λ k. meaning (pair_key_ex q l c e k) (N bs) ≡ Some (truth (function_holds k (members x) (members y) ps))) ks
-            (key-means h (λ t. total-size ks x (length ps) t s)) keys))
+            (key-means h (λ t. total-size ks x (length ps) t s)) keys)))
             ∙ ap (λ b. Some (truth b))
-            (sym (attributes-apart ks (λ k n. size_holds k n (length ps)) (λ k. function_holds k (members x) (members y) ps)
-            ∙ ap (λ b. b && each_holds ks (λ k n. true) (λ k. function_holds k (members x) (members y) ps)) (sizes (length ps) s)))
+            (sym (attributes-apart ks (λ k n. size_holds k n (length ps)) (λ k. function_holds k (members x) (members y) ps) ∙ ap (λ b. b && keys_hold) (sizes-apart s)))
 
   -- The structure constraint of a function as a relation means that its cells are canonical.
-  pub pairs-structure : (r : Repr) (ms : List Mark) (es : Exs) (d c : Dom) (ks : List Attribute) (x y : Domain) → BoolIs d x → BoolIs c y → AreSizes (pair_sizes ks x) ks → EachFlag (PairKeyReady env0 q q-apart c ks x y) ks →
+  pub pairs-structure : (r : Repr) (ms : List Mark) (es : Exs) (d c : Dom) (ks : List Attribute) (x y : Domain) → BoolIs d x → BoolIs c y → ArePairSizes ks x → EachFlag (PairKeyReady env0 q q-apart c ks x y) ks →
       Attributes env0 q q-apart terms ms es ks → DomainIs env0 q q-apart (pair_relation_dom terms ms es d c) (child_relation ks x y) → StructureOf env0 q q-apart terms r (pair_relation_dom terms ms es d c) (child_relation ks x y) →
       StructureOf env0 q q-apart terms (repr ReprKind.FunctionAsRelation (more_reprs r no_reprs)) (function_dom ms es d c) (functions ks x y)
   pairs-structure r ms es d c ks x y bx by' sizes keys at dm child = record {
@@ -165,7 +187,7 @@ module _ (env0 : Env) (q : ℕ → Text) (q-apart : (m l : ℕ) → l < m → sa
     found = λ ns ts w h. child.found ns ts (omega (arith, w)) h;
     there = λ out ns ts i p c'. child.there (out || false) ns ts i p (subst (λ l. Fit l (behind i (cells_of ts))) (plain (declarations_below (out || false) r E)) c');
     means = λ out ns ts l is i bs p c' st.
-        let second : Ex = pairs_ex q l ms d c (view_ex r D (shapes q terms r D ns) is) in
+        let second : Ex = pairs_ex q l ms es d c (view_ex r D (shapes q terms r D ns) is) in
         let inner : Cells = behind i (cells_of ts) in
         and-means (N bs) (structure q terms r D ns l is) second (canonical r E inner) (as_truth (meaning second (N bs)))
         (child.means (out || false) ns ts l is i bs p (subst (λ l. Fit l inner) (plain (declarations_below (out || false) r E)) c') st) refl
@@ -185,7 +207,9 @@ module _ (env0 : Env) (q : ℕ → Text) (q-apart : (m l : ℕ) → l < m → sa
         ap (λ w. is_some_and (function_from w) (λ v. function_attributes_hold ks x y (items_of v))) s.1 ∙ pairs-asked ks x y (to_list s.0) s.2
         ∙ ap (λ l. no_twice from_of l && function_attributes_hold ks x y l) (sym f)
         ∙ sym (ap as_truth (pairs-means ms es d c ks x y bx by' sizes keys at l bs (view_ex r D (shapes q terms r D ns) is) v
-        (view-stands env0 q q-apart r D E (shapes q terms r D ns) (axes_members r E) ts l is i bs v refl dm p st h) pairs n)))));
+        (view-stands env0 q q-apart r D E (shapes q terms r D ns) (axes_members r E) ts l is i bs v refl dm p st h) pairs
+        (ap (λ o. value_of_node (unary Op1.Bar) (o ∷ [])) (view-stands env0 q q-apart r D E (shapes q terms r D ns) (axes_members r E) ts l is i bs v refl dm p st h [] tt)
+        ∙ ap (λ w. value_of_node (unary Op1.Bar) (Some w ∷ [])) s.1 ∙ ap (λ l. Some (number (pos (length l)))) (sym f)) n)))));
   }
     where
       D : Dom

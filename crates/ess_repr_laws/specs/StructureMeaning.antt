@@ -6,7 +6,7 @@ use Rattle.ess_repr_laws.specs.RelationParts.{bare_relation_dom}
 use Rattle.ess_repr_laws.specs.MultisetParts.{bare_mset_dom}
 use Rattle.ess_repr_laws.specs.FunctionParts.{bare_function_dom, is_one_cell}
 use Rattle.ess_repr_laws.specs.Finite.{Enumerated}
-use Rattle.ess_semantics.specs.Attributes.{set_attributes_hold}
+use Rattle.ess_semantics.specs.Attributes.{each_number_holds, set_attributes_hold, size_holds}
 use Rattle.ess_semantics.specs.SetLayers.{dummy_of}
 use Rattle.ess_semantics.specs.Domains.{booleans, Attribute, attribute, has, numbered, flagged, Domain, Domains, no_domains, more_domains, tuples, records, matrices, sets, msets, functions, relations, partitions, domain_list, members, member_list}
 use Rattle.ess_semantics.specs.Layers.{as_cell}
@@ -14,7 +14,7 @@ use Rattle.ess_semantics.specs.Meaning.{Env, members_in, cell_value, meaning, me
 use Rattle.ess_semantics.specs.Names.{look}
 use Rattle.ess_semantics.specs.Numbers.{one_to}
 use Rattle.ess_semantics.specs.Order.{same_text}
-use Rattle.ess_semantics.specs.Sizes.{slots_of_set, slots_of_mset, size_attributes, child_relation, child_set, child_parts}
+use Rattle.ess_semantics.specs.Sizes.{child_parts, child_relation, child_set, pair_sizes, size_attributes, slots_of_mset, slots_of_set}
 use Rattle.ess_semantics.specs.Tables.{Tables, is_cell}
 use Rattle.ess_semantics.specs.Trees.{Ex, Exs, Dom, Doms, no_doms, more_doms, Mark, Repr, Reprs, repr, no_reprs, more_reprs, no_exs, more_exs}
 use Rattle.ess_semantics.specs.Values.{Text, Value, number, truth}
@@ -78,6 +78,22 @@ BoolIs d e = is_bool_dom d ≡ true → e ≡ booleans
 -- The sizes that the attributes as' allow are among those of ks. So where no attribute stands twice.
 abbrev pub AreSizes : List Attribute → List Attribute → Type 0
 AreSizes as' ks = (n : ℕ) → set_attributes_hold as' n ≡ true → set_attributes_hold ks n ≡ true
+
+-- `size` alone of m pairs.
+abbrev pub is_exact : ℕ → Key → ℤ → Bool
+is_exact m Key.Size z = size_holds Key.Size z m
+is_exact m k z = true
+
+-- Each `size` is that of m pairs.
+abbrev pub exact_sizes_hold : List Attribute → ℕ → Bool
+exact_sizes_hold ks m = each_number_holds ks (is_exact m)
+
+-- The sizes that the relation of the pairs of a function from x allows are among those of ks, but for `size` beside `total`. So where
+-- no attribute stands twice.
+abbrev pub ArePairSizes : List Attribute → Domain → Type 0
+ArePairSizes ks x =
+    (n : ℕ) → set_attributes_hold (pair_sizes ks x) n ≡ true → (has Key.Total ks ≡ true → exact_sizes_hold ks n ≡ true) →
+    set_attributes_hold ks n ≡ true
 
 -- Further axes in front, by their members.
 abbrev pub on_members : List (List Value) → List (List (List Value)) → List (List (List Value))

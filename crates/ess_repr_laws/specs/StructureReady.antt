@@ -2,7 +2,7 @@
 -- canonical.
 use Rattle.std.specs.Prelude.{◌≡◌, ℕ, ◌<◌, true, false, List, [], ◌∷◌, Some}
 use Rattle.ess_repr_laws.specs.StructureParts.{Terms, tuple_set_dom}
-use Rattle.ess_repr_laws.specs.StructureMeaning.{Attributes, SlotsAre, AtomReady, DummyIs, DomainIs, AxesAre, Bound, M, RelationKeyReady, MatrixKeyReady, TimesReady, tuple_set_sizes, EachFlag, BoolIs, AreSizes, PairKeyReady, ValueKeyReady, FlagKeyReady, index_members}
+use Rattle.ess_repr_laws.specs.StructureMeaning.{Attributes, SlotsAre, AtomReady, DummyIs, DomainIs, AxesAre, Bound, M, RelationKeyReady, MatrixKeyReady, TimesReady, tuple_set_sizes, EachFlag, BoolIs, AreSizes, ArePairSizes, PairKeyReady, ValueKeyReady, FlagKeyReady, index_members}
 use Rattle.ess_repr_laws.specs.ViewParts.{pair_relation_dom, part_set_dom}
 use Rattle.ess_repr_laws.specs.PartSizes.{ArePartSizes}
 use Rattle.ess_semantics.specs.Kinds.{dom_list}
@@ -12,7 +12,7 @@ use Rattle.ess_repr_laws.specs.Rooms.{HasDummy}
 use Rattle.ess_semantics.specs.Domains.{booleans, Domain, tuples, records, matrices, sets, msets, functions, relations, partitions, domain_list, members, member_list}
 use Rattle.ess_semantics.specs.Meaning.{Env, members_in, domain_of, is_bool_dom}
 use Rattle.ess_semantics.specs.Order.{same_text}
-use Rattle.ess_semantics.specs.Sizes.{slots_of_set, slots_of_mset, pair_sizes, child_relation, child_set, child_parts}
+use Rattle.ess_semantics.specs.Sizes.{slots_of_set, slots_of_mset, child_relation, child_set, child_parts}
 use Rattle.ess_semantics.specs.Trees.{Dom, Doms, no_doms, more_doms, Repr, Reprs, repr, no_reprs, more_reprs, tuple_dom, record_dom, matrix_dom, set_dom, mset_dom, function_dom, relation_dom, partition_dom}
 use Rattle.ess_semantics.specs.Values.{Text}
 use Rattle.ess_semantics.specs.declared.words.ReprKind.{ReprKind}
@@ -69,7 +69,7 @@ module _ (env0 : Env) (q : ℕ → Text) (q-apart : (m l : ℕ) → l < m → sa
         EachFlag (RelationKeyReady env0 q q-apart ds xs (tuple_set_dom ms es ds) (child_set ks xs)) ks) ×
         Attributes env0 q q-apart terms ms es ks × Ready r (tuple_set_dom ms es ds) (child_set ks xs)
     Ready (repr ReprKind.FunctionAsRelation (more_reprs r no_reprs)) (function_dom ms es d c) (functions ks x y) =
-        (BoolIs d x × BoolIs c y) × (AreSizes (pair_sizes ks x) ks × EachFlag (PairKeyReady env0 q q-apart c ks x y) ks) ×
+        (BoolIs d x × BoolIs c y) × (ArePairSizes ks x × EachFlag (PairKeyReady env0 q q-apart c ks x y) ks) ×
         Attributes env0 q q-apart terms ms es ks ×
         DomainIs env0 q q-apart (pair_relation_dom terms ms es d c) (child_relation ks x y) ×
         Ready r (pair_relation_dom terms ms es d c) (child_relation ks x y)

@@ -10,7 +10,7 @@ use Rattle.ess_semantics.specs.Kinds.{has_key}
 use Rattle.ess_semantics.specs.Meaning.{is_bool_dom}
 use Rattle.ess_semantics.specs.Values.{Text}
 use Rattle.ess_semantics.specs.Trees.{flag, number_ex, ex1, to_component, index, no_doms, more_doms, relation_dom, set_dom, Mark, valued, Repr, name_pat, Ex, Exs, truth_ex, name_ex, node_ex, comp_ex, seen_ex, no_exs, more_exs, Gens, no_gens, over, from, Dom, ex2, fun1}
-use Rattle.ess_repr_laws.specs.StructureParts.{Shape, Terms, and_ex, le_ex, keys_ex, number_of_key}
+use Rattle.ess_repr_laws.specs.StructureParts.{Shape, Terms, and_ex, le_ex, key_ex, keys_ex, number_of_key}
 
 -- The names of tables.
 abbrev pub shape_names : List Shape → List Text
@@ -69,6 +69,18 @@ abbrev pub regular_key_ex : Ex → Key → Ex
 regular_key_ex e Key.Regular = e
 regular_key_ex e _ = truth_ex true
 
+-- `size` says that the number m is its own.
+abbrev pub exact_size_ex : List Mark → Exs → Ex → Ex
+exact_size_ex [] es m = truth_ex true
+exact_size_ex (flag k ∷ ms) es m = exact_size_ex ms es m
+exact_size_ex (valued k ∷ ms) no_exs m = truth_ex true
+exact_size_ex (valued Key.Size ∷ ms) (more_exs e es) m = and_ex (key_ex Key.Size e m) (exact_size_ex ms es m)
+exact_size_ex (valued k ∷ ms) (more_exs e es) m = and_ex (truth_ex true) (exact_size_ex ms es m)
+
+-- `size` beside `total` of a function whose pairs e has. The relation of its pairs says all other sizes.
+abbrev pub total_size_ex : List Mark → Exs → Ex → Ex
+total_size_ex ms es e = if has_key Key.Total ms then exact_size_ex ms es (ex1 false Op1.Bar e) else truth_ex true
+
 module _ (q : ℕ → Text) where
   -- A generator over the items of e.
   abbrev pub each_item : ℕ → Ex → Gens → Gens
@@ -96,8 +108,8 @@ module _ (q : ℕ → Text) where
   pair_key_ex l c e _ = truth_ex true
 
   -- The pairs that e has are those of a function with these attributes.
-  abbrev pub pairs_ex : ℕ → List Mark → Dom → Dom → Ex → Ex
-  pairs_ex l ms d c e = and_ex (components_differ_ex l d 1 e) (keys_ex (pair_key_ex l c e) ms)
+  abbrev pub pairs_ex : ℕ → List Mark → Exs → Dom → Dom → Ex → Ex
+  pairs_ex l ms es d c e = and_ex (components_differ_ex l d 1 e) (and_ex (total_size_ex ms es e) (keys_ex (pair_key_ex l c e) ms))
 
   -- How many of the sets that e has the value q l is in.
   abbrev pub times_held_ex : ℕ → Ex → Ex
