@@ -87,7 +87,8 @@ pub of-tuples : tuple_set_dom (valued Key.MaxSize ∷ flag Key.Symmetric ∷ val
 of-tuples = refl
 
 -- A total function with flags: each flag is true. The sizes say nothing of it.
-pub of-total : keys_ex (with_total (name_ex (codes "e")) (λ k. truth_ex true)) (valued Key.MinSize ∷ flag Key.Total ∷ []) ≡ and_ex (name_ex (codes "e")) (truth_ex true)
+pub of-total : keys_ex (with_total (name_ex (codes "e")) (λ k. truth_ex true)) (valued Key.MinSize ∷ flag Key.Total ∷ []) ≡ and_ex
+    (name_ex (codes "e")) (truth_ex true)
 of-total = refl
 
 -- An injective function from bool to atoms: the cells differ.
@@ -97,26 +98,34 @@ pub of-injective : structure name at_atom (repr ReprKind.Function1D (more_reprs 
 of-injective = refl
 
 -- A surjective function from bool to bool: each truth value is the second part of a pair of its view.
-pub of-surjective : structure name at_atom (repr ReprKind.Function1D (more_reprs cell no_reprs)) (function_dom (flag Key.Surjective ∷ []) no_exs bool_dom bool_dom) ((codes "a") ∷ []) 1 no_exs
-    ≡ and_ex (fun1 true Fun.And (comp_ex (cell_ex true (codes "a") (more_exs (name_ex (codes "q")) no_exs)) (over (name_pat (codes "q")) bool_dom no_gens)))
-    (and_ex (truth_ex true) (and_ex (all_taken_ex name 1 bool_dom (seen_ex (repr ReprKind.Function1D (more_reprs cell no_reprs)) (function_dom [] no_exs bool_dom bool_dom) ((codes "a") ∷ []) no_exs)) (truth_ex true)))
+pub of-surjective : structure name at_atom (repr ReprKind.Function1D (more_reprs cell no_reprs))
+    (function_dom (flag Key.Surjective ∷ []) no_exs bool_dom bool_dom) ((codes "a") ∷ []) 1 no_exs
+    ≡ and_ex (fun1 true Fun.And (comp_ex (cell_ex true (codes "a") (more_exs (name_ex (codes "q")) no_exs))
+    (over (name_pat (codes "q")) bool_dom no_gens)))
+    (and_ex (truth_ex true) (and_ex (all_taken_ex name 1 bool_dom (seen_ex (repr ReprKind.Function1D (more_reprs cell no_reprs))
+    (function_dom [] no_exs bool_dom bool_dom) ((codes "a") ∷ []) no_exs)) (truth_ex true)))
 of-surjective = refl
 
 -- An injective function with flags: the second parts of the pairs of its view differ. A total one: each flag is true.
-pub of-flag-keys : flag_key_ex name 1 (bool_dom ∷ []) (codes "f") no_exs bool_dom (name_ex (codes "e")) Key.Injective ≡ components_differ_ex name 1 bool_dom 2 (name_ex (codes "e"))
+pub of-flag-keys : flag_key_ex name 1 (bool_dom ∷ []) (codes "f") no_exs bool_dom (name_ex (codes "e")) Key.Injective ≡
+    components_differ_ex name 1 bool_dom 2 (name_ex (codes "e"))
 of-flag-keys = refl
 
 pub of-flag-total : flag_key_ex name 1 (bool_dom ∷ []) (codes "f") no_exs bool_dom (name_ex (codes "e")) Key.Total
-    ≡ fun1 true Fun.And (comp_ex (cell_ex true (codes "f") (more_exs (name_ex (codes "q")) no_exs)) (over (name_pat (codes "q")) bool_dom no_gens))
+    ≡ fun1 true Fun.And (comp_ex (cell_ex true (codes "f") (more_exs (name_ex (codes "q")) no_exs))
+    (over (name_pat (codes "q")) bool_dom no_gens))
 of-flag-total = refl
 
 -- An injective function whose values are sets: the second parts of the pairs of its view differ.
-pub of-injective-sets : value_key_ex name 1 (bool_dom ∷ []) [] no_exs kinds written (name_ex (codes "e")) Key.Injective ≡ components_differ_ex name 1 written 2 (name_ex (codes "e"))
+pub of-injective-sets : value_key_ex name 1 (bool_dom ∷ []) [] no_exs kinds written (name_ex (codes "e")) Key.Injective ≡
+    components_differ_ex name 1 written 2 (name_ex (codes "e"))
 of-injective-sets = refl
 
 -- A multiset in slots up to a marker: each of its members occurs at least twice. A size says nothing of it.
-pub of-min-occur : occurs_ex name 1 (name_ex (codes "e")) (valued Key.MinOccur ∷ flag Key.Total ∷ valued Key.Size ∷ []) (more_exs (number_ex (pos 2)) (more_exs (number_ex (pos 3)) no_exs))
-    ≡ and_ex (fun1 true Fun.And (comp_ex (ex2 true Op2.Le (number_ex (pos 2)) (node_ex false (word Fun.Freq) (more_exs (name_ex (codes "e")) (more_exs (name_ex (codes "q")) no_exs))))
+pub of-min-occur : occurs_ex name 1 (name_ex (codes "e")) (valued Key.MinOccur ∷ flag Key.Total ∷ valued Key.Size ∷ [])
+    (more_exs (number_ex (pos 2)) (more_exs (number_ex (pos 3)) no_exs))
+    ≡ and_ex (fun1 true Fun.And (comp_ex (ex2 true Op2.Le (number_ex (pos 2))
+    (node_ex false (word Fun.Freq) (more_exs (name_ex (codes "e")) (more_exs (name_ex (codes "q")) no_exs))))
     (from (name_pat (codes "q")) (fun1 false Fun.ToSet (name_ex (codes "e"))) no_gens)))
     (and_ex (truth_ex true) (truth_ex true))
 of-min-occur = refl
@@ -124,7 +133,8 @@ of-min-occur = refl
 -- A symmetric relation of truth values: with each pair of its view it has the pair turned round.
 pub of-symmetric : relation_key_ex name 1 (more_doms bool_dom (more_doms bool_dom no_doms)) (name_ex (codes "e")) Key.Symmetric
     ≡ fun1 true Fun.And (comp_ex (ex2 true Op2.Member (node_ex false tuple_literal
-    (more_exs (node_ex true (index (to_component 2 ∷ [])) (more_exs (name_ex (codes "q")) no_exs)) (more_exs (node_ex true (index (to_component 1 ∷ [])) (more_exs (name_ex (codes "q")) no_exs)) no_exs)))
+    (more_exs (node_ex true (index (to_component 2 ∷ [])) (more_exs (name_ex (codes "q")) no_exs))
+    (more_exs (node_ex true (index (to_component 1 ∷ [])) (more_exs (name_ex (codes "q")) no_exs)) no_exs)))
     (name_ex (codes "e"))) (from (name_pat (codes "q")) (name_ex (codes "e")) no_gens))
 of-symmetric = refl
 
@@ -136,12 +146,14 @@ pub of-other-key : relation_key_ex name 1 (more_doms bool_dom (more_doms bool_do
 of-other-key = refl
 
 -- A reflexive relation as a matrix is asked of the cells, as a set of the pairs of its view.
-pub of-reflexive-matrix : matrix_key_ex name 1 (more_doms bool_dom (more_doms bool_dom no_doms)) (bool_dom ∷ bool_dom ∷ []) (codes "a") no_exs (name_ex (codes "e")) Key.Reflexive
+pub of-reflexive-matrix : matrix_key_ex name 1 (more_doms bool_dom (more_doms bool_dom no_doms)) (bool_dom ∷ bool_dom ∷ []) (codes "a")
+    no_exs (name_ex (codes "e")) Key.Reflexive
     ≡ diagonal_ex name 1 (bool_dom ∷ bool_dom ∷ []) (codes "a") no_exs
 of-reflexive-matrix = refl
 
 pub of-reflexive-set : relation_key_ex name 1 (more_doms bool_dom (more_doms bool_dom no_doms)) (name_ex (codes "e")) Key.Reflexive
-    ≡ fun1 true Fun.And (comp_ex (has_pair_ex (name_ex (codes "e")) (name_ex (codes "q")) (name_ex (codes "q"))) (over (name_pat (codes "q")) bool_dom no_gens))
+    ≡ fun1 true Fun.And (comp_ex (has_pair_ex (name_ex (codes "e")) (name_ex (codes "q")) (name_ex (codes "q")))
+    (over (name_pat (codes "q")) bool_dom no_gens))
 of-reflexive-set = refl
 
 -- A reflexive relation of truth values: the cell of each with itself is true.
@@ -157,19 +169,25 @@ of-pair-sizes = refl
 -- An injective function's pairs: first components differ, and so do second ones.
 pub of-pairs : pairs_ex name 1 (flag Key.Injective ∷ []) no_exs bool_dom bool_dom (name_ex (codes "e"))
     ≡ and_ex (fun1 true Fun.AllDiff (comp_ex (node_ex true (index (to_component 1 ∷ [])) (more_exs (name_ex (codes "q")) no_exs)) (from (name_pat (codes "q")) (name_ex (codes "e")) no_gens)))
-    (and_ex (truth_ex true) (and_ex (fun1 true Fun.AllDiff (comp_ex (node_ex true (index (to_component 2 ∷ [])) (more_exs (name_ex (codes "q")) no_exs)) (from (name_pat (codes "q")) (name_ex (codes "e")) no_gens))) (truth_ex true)))
+    (and_ex (truth_ex true)
+    (and_ex (fun1 true Fun.AllDiff (comp_ex (node_ex true (index (to_component 2 ∷ [])) (more_exs (name_ex (codes "q")) no_exs))
+    (from (name_pat (codes "q")) (name_ex (codes "e")) no_gens))) (truth_ex true)))
 of-pairs = refl
 
 -- A total function of three pairs: the relation has as many pairs as bool has members, and the size is asked of the view.
-pub of-total-size : total_size_ex (valued Key.MinSize ∷ flag Key.Total ∷ valued Key.Size ∷ []) (more_exs (number_ex (pos 1)) (more_exs (number_ex (pos 3)) no_exs)) (name_ex (codes "e"))
+pub of-total-size : total_size_ex (valued Key.MinSize ∷ flag Key.Total ∷ valued Key.Size ∷ [])
+    (more_exs (number_ex (pos 1)) (more_exs (number_ex (pos 3)) no_exs)) (name_ex (codes "e"))
     ≡ and_ex (truth_ex true)
-    (and_ex (and_ex (ex2 true Op2.Le (number_ex (pos 3)) (ex1 false Op1.Bar (name_ex (codes "e")))) (ex2 true Op2.Le (ex1 false Op1.Bar (name_ex (codes "e"))) (number_ex (pos 3)))) (truth_ex true))
+    (and_ex (and_ex (ex2 true Op2.Le (number_ex (pos 3)) (ex1 false Op1.Bar (name_ex (codes "e"))))
+    (ex2 true Op2.Le (ex1 false Op1.Bar (name_ex (codes "e"))) (number_ex (pos 3)))) (truth_ex true))
 of-total-size = refl
 
 -- A function from bool to bool as a relation that is a matrix: what is asked of the relation, and of the pairs of its view.
 pub of-function-as-relation : structure name at_atom (repr ReprKind.FunctionAsRelation (more_reprs (repr ReprKind.RelationAsMatrix no_reprs) no_reprs)) (function_dom [] no_exs bool_dom bool_dom) ((codes "a") ∷ []) 1 no_exs
     ≡ and_ex (structure name at_atom (repr ReprKind.RelationAsMatrix no_reprs) (pair_relation_dom at_atom [] no_exs bool_dom bool_dom) ((codes "a") ∷ []) 1 no_exs)
-    (pairs_ex name 1 [] no_exs bool_dom bool_dom (seen_ex (repr ReprKind.RelationAsMatrix no_reprs) (relation_dom (valued Key.MaxSize ∷ []) (more_exs (number_ex (pos 2)) no_exs) (more_doms bool_dom (more_doms bool_dom no_doms))) ((codes "a") ∷ []) no_exs))
+    (pairs_ex name 1 [] no_exs bool_dom bool_dom (seen_ex (repr ReprKind.RelationAsMatrix no_reprs)
+    (relation_dom (valued Key.MaxSize ∷ []) (more_exs (number_ex (pos 2)) no_exs) (more_doms bool_dom (more_doms bool_dom no_doms)))
+    ((codes "a") ∷ []) no_exs))
 of-function-as-relation = refl
 
 -- The parts of a partition of bool in two parts of at most three: the set has two members, each of at most three.

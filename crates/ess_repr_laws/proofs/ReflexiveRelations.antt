@@ -200,10 +200,12 @@ abbrev pub Said : Env → Option (List Value) → List Value → Ex → Key → 
 Said env vs ys e k = (b : Bool) × (meaning e env ≡ Some (truth b)) × (relation_holds k vs ys ≡ b)
 
 -- The constraints of the diagonal say whether the relation is reflexive, and whether it is irreflexive.
-pub diagonal-at : (env0 : Env) (q : ℕ → Text) (q-apart : (m l : ℕ) → l < m → same_text (q m) (q l) ≡ false) (as' : List Dom) (xs : Domains) → AreAtoms xs → WithinOne xs →
+pub diagonal-at : (env0 : Env) (q : ℕ → Text) (q-apart : (m l : ℕ) → l < m → same_text (q m) (q l) ≡ false) (as' : List Dom)
+    (xs : Domains) → AreAtoms xs → WithinOne xs →
     AxesAre env0 q q-apart as' (index_members xs) → (n : Text) (t : Table) → look env0.cells n ≡ Some t → (l : ℕ) (is : Exs) (i : List ℤ) (bs : Bound env0 q q-apart) → Steady env0 q q-apart l is i bs →
     every_cell (map codes_of (domain_list xs)) (is_cell booleans) (λ js. cell_at t (i ++ js)) ≡ true → (ys : List Value) → chosen (member_list (tuples xs)) (λ v. cell_at t (i ++ place_of v)) ≡ Some ys →
-    Said (M env0 q q-apart bs) (head_members xs) ys (diagonal_ex q l as' n is) Key.Reflexive × Said (M env0 q q-apart bs) (head_members xs) ys (off_diagonal_ex q l as' n is) Key.Irreflexive
+    Said (M env0 q q-apart bs) (head_members xs) ys (diagonal_ex q l as' n is) Key.Reflexive × Said (M env0 q q-apart bs) (head_members xs)
+    ys (off_diagonal_ex q l as' n is) Key.Irreflexive
 diagonal-at env0 q q-apart as' xs a w ax n t ht l is i bs st bits ys e = subst Found (sym w.1) (of-twice w.0 w.2) a ax bits e
   where
     Here : Domains → Ex → Key → Type 0

@@ -47,7 +47,8 @@ module _ (env0 : Env) (q : ℕ → Text) (q-apart : (m l : ℕ) → l < m → sa
         function-1d-structure env0 q q-apart terms r ms es d c ks x y h.0 h.1 h.2 h.3 h.4 (structures r c y h.5)
     structures (repr ReprKind.FunctionND (more_reprs r no_reprs)) (function_dom ms es (tuple_dom ds) c) (functions ks (tuples xs) y) h =
         function-nd-structure env0 q q-apart terms r ms es ds c ks xs y h.0 h.1 h.2 h.3 h.4 (structures r c y h.5)
-    structures (repr ReprKind.RelationAsMatrix no_reprs) (relation_dom ms es ds) (relations ks xs) h = relation-structure env0 q q-apart terms ms es ds ks xs h.0 h.1 h.2 h.3
+    structures (repr ReprKind.RelationAsMatrix no_reprs) (relation_dom ms es ds) (relations ks xs) h =
+        relation-structure env0 q q-apart terms ms es ds ks xs h.0 h.1 h.2 h.3
     structures (repr ReprKind.Function1DPartial (more_reprs r no_reprs)) (function_dom ms es d c) (functions ks x y) h =
         partial-1d-structure env0 q q-apart terms r ms es d c ks x y h.0 h.1 h.2 h.3 (structures r c y h.4)
     structures (repr ReprKind.FunctionNDPartial (more_reprs r no_reprs)) (function_dom ms es (tuple_dom ds) c) (functions ks (tuples xs) y) h =
@@ -60,7 +61,8 @@ module _ (env0 : Env) (q : ℕ → Text) (q-apart : (m l : ℕ) → l < m → sa
     structures (repr ReprKind.ExplicitVarSizeWithDummy no_reprs) (set_dom ms es d) (sets ks e) h =
         dummy-structure env0 q q-apart terms ms es d ks e h.0.0 h.0.1 h.0.2 h.1.0 h.1.1 h.1.2 h.2 h.3
     structures (repr ReprKind.RelationAsSet (more_reprs r no_reprs)) (relation_dom ms es ds) (relations ks xs) h =
-        tuple-set-structure env0 q q-apart terms r ms es ds ks xs h.0.0 h.0.1 h.1 (structures r (tuple_set_dom ms es ds) (child_set ks xs) h.2)
+        tuple-set-structure env0 q q-apart terms r ms es ds ks xs h.0.0 h.0.1 h.1
+        (structures r (tuple_set_dom ms es ds) (child_set ks xs) h.2)
     structures (repr ReprKind.FunctionAsRelation (more_reprs r no_reprs)) (function_dom ms es d c) (functions ks x y) h =
         pairs-structure env0 q q-apart terms r ms es d c ks x y h.0.0 h.0.1 h.1.0 h.1.1 h.2 h.3
         (structures r (pair_relation_dom terms ms es d c) (child_relation ks x y) h.4)

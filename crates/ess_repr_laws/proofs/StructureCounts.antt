@@ -43,7 +43,8 @@ valued-first k ms o os a ks e = go (as_int o) (attributes_of ms os) refl refl e
     go (Some z) (Some ls) p r e = let w : numbered k z ∷ ls ≡ a ∷ ks = cc in let x : numbered k z ≡ a = cc in let v : ls ≡ ks = cc in (z, p, sym x, r ∙ ap Some v)
 
 -- An attribute is there.
-pub valued-some : (k : Key) (ms : List Mark) (o : Option Value) (os : List (Option Value)) → attributes_of (valued k ∷ ms) (o ∷ os) ≡ Some [] → ⊥
+pub valued-some : (k : Key) (ms : List Mark) (o : Option Value) (os : List (Option Value)) →
+    attributes_of (valued k ∷ ms) (o ∷ os) ≡ Some [] → ⊥
 valued-some k ms o os e = go (as_int o) (attributes_of ms os) e
   where
     go : (x : Option ℤ) (y : Option (List Attribute)) → and_then x (λ n. option_map (λ ls. numbered k n ∷ ls) y) ≡ Some [] → ⊥

@@ -75,7 +75,8 @@ module _ (env0 : Env) (q : ℕ → Text) (q-apart : (m l : ℕ) → l < m → sa
     Differs r =
         (b : Bool) × (meaning (differ_ex q l as' (shapes q terms r c ns) is) (M env0 q q-apart bs) ≡ Some (truth b)) ×
         ((xs vs : List Value) → length vs ≡ length xs → AllOf (lists_of bs0) (λ j. canonical r y (behind j (behind i (cells_of ts))) ≡ true) →
-        each_of (lists_of bs0) (λ j. value_of_cells r y (behind j (behind i (cells_of ts)))) ≡ Some vs → is_injective (with_arguments xs vs) ≡ b)
+        each_of (lists_of bs0) (λ j. value_of_cells r y (behind j (behind i (cells_of ts)))) ≡ Some vs →
+        is_injective (with_arguments xs vs) ≡ b)
 
     abbrev Given : Repr → Type 0
     Given r = Covered r y → Placed env0 q q-apart (shapes q terms r c ns) (axes_members r y) ts → AllOf (lists_of bs0) (λ js. There env0 q q-apart (shapes q terms r c ns) (axes_members r y) ts (i ++ js)) → Differs r
@@ -87,7 +88,8 @@ module _ (env0 : Env) (q : ℕ → Text) (q-apart : (m l : ℕ) → l < m → sa
         subst (λ ts. Covered atom y → Placed env0 q q-apart (shapes q terms atom c ns) ([] ∷ []) ts → AllOf (lists_of bs0) (λ js. There env0 q q-apart (shapes q terms atom c ns) ([] ∷ []) ts (i ++ js)) →
         (b : Bool) × (meaning (differ_ex q l as' (shapes q terms atom c ns) is) (M env0 q q-apart bs) ≡ Some (truth b)) ×
         ((xs vs : List Value) → length vs ≡ length xs → AllOf (lists_of bs0) (λ j. canonical atom y (behind j (behind i (cells_of ts))) ≡ true) →
-        each_of (lists_of bs0) (λ j. value_of_cells atom y (behind j (behind i (cells_of ts)))) ≡ Some vs → is_injective (with_arguments xs vs) ≡ b)) e
+        each_of (lists_of bs0) (λ j. value_of_cells atom y (behind j (behind i (cells_of ts)))) ≡ Some vs →
+        is_injective (with_arguments xs vs) ≡ b)) e
         (λ a p th. (
           numbers_differ (map (number_at (is_bool_dom c) (first_name ns) t p.0) (lists_of bs0)),
           differ-means (is_bool_dom c) (first_name ns) t p.0

@@ -37,6 +37,17 @@ pub all-alike : {A : Type 0} (js : List A) (f g : A → Bool) → ((j : A) → f
 all-alike [] f g h = refl
 all-alike (j ∷ js) f g h = ap (λ b. b && list_all f js) (h j) ∙ ap (λ b. g j && b) (all-alike js f g h)
 
+-- Two tests at each item.
+pub all-two : {A : Type 0} (js : List A) (f g : A → Bool) → list_all (λ j. f j && g j) js ≡ list_all f js && list_all g js
+all-two [] f g = refl
+all-two (j ∷ js) f g = ap (λ b. (f j && g j) && b) (all-two js f g) ∙ swap (f j) (g j) (list_all f js) (list_all g js)
+  where
+    swap : (a b c d : Bool) → (a && b) && (c && d) ≡ (a && c) && (b && d)
+    swap false b c d = refl
+    swap true false false d = refl
+    swap true false true d = refl
+    swap true true c d = refl
+
 module _ (r : Repr) (e : Domain) (right : Right r e) (wide : length (axes_of r e) ≡ width r) where
   -- Canonical cells at places have values.
   pub places-values : (inner : Cells) (js : List (List ℤ)) → AllOf js (λ j. canonical r e (behind j inner) ≡ true) →

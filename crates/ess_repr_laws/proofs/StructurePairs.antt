@@ -116,7 +116,8 @@ module _ (env0 : Env) (q : ℕ → Text) (q-apart : (m l : ℕ) → l < m → sa
   abbrev N : Bound env0 q q-apart → Env
   N = M env0 q q-apart
 
-  module _ (ms : List Mark) (es : Exs) (d c : Dom) (ks : List Attribute) (x y : Domain) (bx : BoolIs d x) (by' : BoolIs c y) (sizes : ArePairSizes ks x) (keys : EachFlag (PairKeyReady env0 q q-apart c ks x y) ks)
+  module _ (ms : List Mark) (es : Exs) (d c : Dom) (ks : List Attribute) (x y : Domain) (bx : BoolIs d x) (by' : BoolIs c y)
+      (sizes : ArePairSizes ks x) (keys : EachFlag (PairKeyReady env0 q q-apart c ks x y) ks)
       (at : Attributes env0 q q-apart terms ms es ks) (l : ℕ) (bs : Bound env0 q q-apart) (e : Ex) (v : Value) (st : Stands env0 q q-apart l e v bs) (pairs : AllOf (items_of v) (Pair x y)) where
     abbrev ps : List Value
     ps = items_of v
@@ -140,8 +141,10 @@ module _ (env0 : Env) (q : ℕ → Text) (q-apart : (m l : ℕ) → l < m → sa
     key-means d n _ h = refl
 
     -- All sizes hold where `size` does beside `total`.
-    sizes-apart : set_attributes_hold (pair_sizes ks x) (length ps) ≡ true → set_attributes_hold ks (length ps) ≡ (if has Key.Total ks then exact_sizes_hold ks (length ps) else true)
-    sizes-apart s = both-ways (set_attributes_hold ks (length ps)) (if has Key.Total ks then exact_sizes_hold ks (length ps) else true) (to (has Key.Total ks)) (λ h. sizes (length ps) s (λ t. from (has Key.Total ks) t h))
+    sizes-apart : set_attributes_hold (pair_sizes ks x) (length ps) ≡ true →
+        set_attributes_hold ks (length ps) ≡ (if has Key.Total ks then exact_sizes_hold ks (length ps) else true)
+    sizes-apart s = both-ways (set_attributes_hold ks (length ps)) (if has Key.Total ks then exact_sizes_hold ks (length ps) else true)
+        (to (has Key.Total ks)) (λ h. sizes (length ps) s (λ t. from (has Key.Total ks) t h))
       where
         to : (b : Bool) → set_attributes_hold ks (length ps) ≡ true → (if b then exact_sizes_hold ks (length ps) else true) ≡ true
         to true h = exact-sizes ks (length ps) h
@@ -152,7 +155,8 @@ module _ (env0 : Env) (q : ℕ → Text) (q-apart : (m l : ℕ) → l < m → sa
         from false t h = cc
 
     -- What is asked of the pairs.
-    pub pairs-means : meaning (ex1 false Op1.Bar e) (N bs) ≡ Some (number (pos (length ps))) → set_attributes_hold (pair_sizes ks x) (length ps) ≡ true →
+    pub pairs-means : meaning (ex1 false Op1.Bar e) (N bs) ≡ Some (number (pos (length ps))) →
+        set_attributes_hold (pair_sizes ks x) (length ps) ≡ true →
         meaning (pairs_ex q l ms es d c e) (N bs) ≡ Some (truth (no_twice from_of ps && function_attributes_hold ks x y ps))
     pairs-means size s =
         ap (λ o. Some (truth (as_truth o && as_truth (meaning attribute_part (N bs))))) firsts-means ∙ go (no_twice from_of ps) refl
@@ -163,21 +167,25 @@ module _ (env0 : Env) (q : ℕ → Text) (q-apart : (m l : ℕ) → l < m → sa
         keys_hold : Bool
         keys_hold = each_holds ks (λ k n. true) (λ k. function_holds k (members x) (members y) ps)
 
-        go : (b : Bool) → no_twice from_of ps ≡ b → Some (truth (b && as_truth (meaning attribute_part (N bs)))) ≡ Some (truth (b && function_attributes_hold ks x y ps))
+        go : (b : Bool) → no_twice from_of ps ≡ b → Some (truth (b && as_truth (meaning attribute_part (N bs)))) ≡ Some
+            (truth (b && function_attributes_hold ks x y ps))
         go false h = refl
         go true h =
             let a = at bs in
             ap (λ o. Some (truth (as_truth o)))
-            (and-means (N bs) (total_size_ex ms es e) (keys_ex (pair_key_ex q l c e) ms) (if has Key.Total ks then exact_sizes_hold ks (length ps) else true) keys_hold
+            (and-means (N bs) (total_size_ex ms es e) (keys_ex (pair_key_ex q l c e) ms)
+            (if has Key.Total ks then exact_sizes_hold ks (length ps) else true) keys_hold
             (total-size-means (N bs) e (length ps) size ms es ks a.0 a.1)
             (flags-means (N bs) (pair_key_ex q l c e) (λ k. function_holds k (members x) (members y) ps) ms (meanings es (N bs)) ks a.1
             (each-flag (PairKeyReady env0 q q-apart c ks x y) (λ k. meaning (pair_key_ex q l c e k) (N bs) ≡ Some (truth (function_holds k (members x) (members y) ps))) ks
             (key-means h (λ t. total-size ks x (length ps) t s)) keys)))
             ∙ ap (λ b. Some (truth b))
-            (sym (attributes-apart ks (λ k n. size_holds k n (length ps)) (λ k. function_holds k (members x) (members y) ps) ∙ ap (λ b. b && keys_hold) (sizes-apart s)))
+            (sym (attributes-apart ks (λ k n. size_holds k n (length ps)) (λ k. function_holds k (members x) (members y) ps)
+            ∙ ap (λ b. b && keys_hold) (sizes-apart s)))
 
   -- The structure constraint of a function as a relation means that its cells are canonical.
-  pub pairs-structure : (r : Repr) (ms : List Mark) (es : Exs) (d c : Dom) (ks : List Attribute) (x y : Domain) → BoolIs d x → BoolIs c y → ArePairSizes ks x → EachFlag (PairKeyReady env0 q q-apart c ks x y) ks →
+  pub pairs-structure : (r : Repr) (ms : List Mark) (es : Exs) (d c : Dom) (ks : List Attribute) (x y : Domain) → BoolIs d x → BoolIs c y →
+      ArePairSizes ks x → EachFlag (PairKeyReady env0 q q-apart c ks x y) ks →
       Attributes env0 q q-apart terms ms es ks → DomainIs env0 q q-apart (pair_relation_dom terms ms es d c) (child_relation ks x y) → StructureOf env0 q q-apart terms r (pair_relation_dom terms ms es d c) (child_relation ks x y) →
       StructureOf env0 q q-apart terms (repr ReprKind.FunctionAsRelation (more_reprs r no_reprs)) (function_dom ms es d c) (functions ks x y)
   pairs-structure r ms es d c ks x y bx by' sizes keys at dm child = record {
@@ -208,7 +216,8 @@ module _ (env0 : Env) (q : ℕ → Text) (q-apart : (m l : ℕ) → l < m → sa
         ∙ ap (λ l. no_twice from_of l && function_attributes_hold ks x y l) (sym f)
         ∙ sym (ap as_truth (pairs-means ms es d c ks x y bx by' sizes keys at l bs (view_ex r D (shapes q terms r D ns) is) v
         (view-stands env0 q q-apart r D E (shapes q terms r D ns) (axes_members r E) ts l is i bs v refl dm p st h) pairs
-        (ap (λ o. value_of_node (unary Op1.Bar) (o ∷ [])) (view-stands env0 q q-apart r D E (shapes q terms r D ns) (axes_members r E) ts l is i bs v refl dm p st h [] tt)
+        (ap (λ o. value_of_node (unary Op1.Bar) (o ∷ [])) (view-stands env0 q q-apart r D E (shapes q terms r D ns) (axes_members r E) ts l
+        is i bs v refl dm p st h [] tt)
         ∙ ap (λ w. value_of_node (unary Op1.Bar) (Some w ∷ [])) s.1 ∙ ap (λ l. Some (number (pos (length l)))) (sym f)) n)))));
   }
     where

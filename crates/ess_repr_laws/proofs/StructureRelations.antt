@@ -61,7 +61,8 @@ arguments-chosen x as' index args f h =
     (r.0, r.1, ap count_true (row-arguments x as' index args f) ∙ chosen-count (member_list x) (λ v. f (index v)) r.0 r.1 bits)
 
 module _ (env0 : Env) (q : ℕ → Text) (q-apart : (m l : ℕ) → l < m → same_text (q m) (q l) ≡ false) (terms : Terms)
-    (ms : List Mark) (es : Exs) (ds : Doms) (ks : List Attribute) (xs : Domains) (a : AreAtoms xs) (keys : EachFlag (MatrixKeyReady env0 q q-apart ds xs) ks)
+    (ms : List Mark) (es : Exs) (ds : Doms) (ks : List Attribute) (xs : Domains) (a : AreAtoms xs)
+    (keys : EachFlag (MatrixKeyReady env0 q q-apart ds xs) ks)
     (ax : AxesAre env0 q q-apart (dom_list ds) (index_members xs)) (at : Attributes env0 q q-apart terms ms es ks) where
   abbrev kind : Repr
   kind = repr ReprKind.RelationAsMatrix no_reprs
@@ -86,7 +87,8 @@ module _ (env0 : Env) (q : ℕ → Text) (q-apart : (m l : ℕ) → l < m → sa
   abbrev seen : List Text → Exs → Ex
   seen ns is = view_ex kind (bare_relation_dom ds) (own_shape ns true (dom_list ds) ∷ []) is
 
-  module _ (out : Bool) (ns : List Text) (t : Table) (l : ℕ) (is : Exs) (i : List ℤ) (bs : Bound env0 q q-apart) (p : Placed env0 q q-apart (own_shape ns true (dom_list ds) ∷ []) (index_members xs ∷ []) (t ∷ []))
+  module _ (out : Bool) (ns : List Text) (t : Table) (l : ℕ) (is : Exs) (i : List ℤ) (bs : Bound env0 q q-apart)
+      (p : Placed env0 q q-apart (own_shape ns true (dom_list ds) ∷ []) (index_members xs ∷ []) (t ∷ []))
       (c : Fit (declarations_below out kind (relations ks xs)) (behind i (cells_of (t ∷ [])))) (st : Steady env0 q q-apart l is i bs) where
     abbrev grid : Grid
     grid = grid_at env0 q q-apart t i
@@ -100,12 +102,14 @@ module _ (env0 : Env) (q : ℕ → Text) (q-apart : (m l : ℕ) → l < m → sa
     settled : (k : Key) → meaning (key_ex k) (M env0 q q-apart bs) ≡ Some (truth (F k))
     settled Key.Reflexive = diagonal-settled (dom_list ds)
       where
-        diagonal-settled : (as' : List Dom) → meaning (diagonal_ex q l as' (first_name ns) is) (M env0 q q-apart bs) ≡ Some (truth (as_truth (meaning (diagonal_ex q l as' (first_name ns) is) (M env0 q q-apart bs))))
+        diagonal-settled : (as' : List Dom) → meaning (diagonal_ex q l as' (first_name ns) is) (M env0 q q-apart bs) ≡ Some
+            (truth (as_truth (meaning (diagonal_ex q l as' (first_name ns) is) (M env0 q q-apart bs))))
         diagonal-settled [] = refl
         diagonal-settled (a ∷ as') = refl
     settled Key.Irreflexive = off-settled (dom_list ds)
       where
-        off-settled : (as' : List Dom) → meaning (off_diagonal_ex q l as' (first_name ns) is) (M env0 q q-apart bs) ≡ Some (truth (as_truth (meaning (off_diagonal_ex q l as' (first_name ns) is) (M env0 q q-apart bs))))
+        off-settled : (as' : List Dom) → meaning (off_diagonal_ex q l as' (first_name ns) is) (M env0 q q-apart bs) ≡ Some
+            (truth (as_truth (meaning (off_diagonal_ex q l as' (first_name ns) is) (M env0 q q-apart bs))))
         off-settled [] = refl
         off-settled (a ∷ as') = refl
     settled k = relation-key-settled env0 q q-apart l ds (seen ns is) (M env0 q q-apart bs) k
@@ -120,43 +124,54 @@ module _ (env0 : Env) (q : ℕ → Text) (q-apart : (m l : ℕ) → l < m → sa
 
       stands : DomainIs env0 q q-apart (bare_relation_dom ds) (relations [] xs) → Stands env0 q q-apart l (seen ns is) v bs
       stands dm =
-          view-stands env0 q q-apart kind (bare_relation_dom ds) (relations [] xs) (own_shape ns true (dom_list ds) ∷ []) (index_members xs ∷ []) (t ∷ []) l is i bs v refl dm p st
+          view-stands env0 q q-apart kind (bare_relation_dom ds) (relations [] xs) (own_shape ns true (dom_list ds) ∷ [])
+          (index_members xs ∷ []) (t ∷ []) l is i bs v refl dm p st
           (ap (option_map (λ ys. node a_relation (of_list ys))) e)
 
       inside : list_all (tuple_member xs) ys ≡ true
-      inside = let m = tuples-listed xs (atoms-listed xs a) in tuples-of-members xs ys (chosen-all (member (tuples xs)) (member_list (tuples xs)) (λ v. grid (place_of v)) ys e m.members)
+      inside = let m = tuples-listed xs (atoms-listed xs a) in tuples-of-members xs ys
+          (chosen-all (member (tuples xs)) (member_list (tuples xs)) (λ v. grid (place_of v)) ys e m.members)
 
       of-view : (k : Key) → RelationKeyReady env0 q q-apart ds xs (bare_relation_dom ds) (relations [] xs) k →
           relation_holds k (head_members xs) (items_of v) ≡ as_truth (meaning (relation_key_ex q l ds (seen ns is) k) (M env0 q q-apart bs))
       of-view k h =
-          relation-key-asked env0 q q-apart l bs (seen ns is) v ds xs (bare_relation_dom ds) (relations [] xs) stands (ap (list_all (tuple_member xs)) (to_list-of_list ys) ∙ inside) k h
+          relation-key-asked env0 q q-apart l bs (seen ns is) v ds xs (bare_relation_dom ds) (relations [] xs) stands
+          (ap (list_all (tuple_member xs)) (to_list-of_list ys) ∙ inside) k h
 
       asked : (k : Key) → MatrixKeyReady env0 q q-apart ds xs k → relation_holds k (head_members xs) ys ≡ F k
-      asked Key.Reflexive h = let d = diagonal-at env0 q q-apart (dom_list ds) xs a h ax (first_name ns) t p.0 l is i bs st fits ys e in d.0.2 ∙ sym (ap as_truth d.0.1)
-      asked Key.Irreflexive h = let d = diagonal-at env0 q q-apart (dom_list ds) xs a h ax (first_name ns) t p.0 l is i bs st fits ys e in d.1.2 ∙ sym (ap as_truth d.1.1)
+      asked Key.Reflexive h = let d = diagonal-at env0 q q-apart (dom_list ds) xs a h ax (first_name ns) t p.0 l is i bs st fits ys e in
+          d.0.2 ∙ sym (ap as_truth d.0.1)
+      asked Key.Irreflexive h = let d = diagonal-at env0 q q-apart (dom_list ds) xs a h ax (first_name ns) t p.0 l is i bs st fits ys e in
+          d.1.2 ∙ sym (ap as_truth d.1.1)
       asked k h = ap (relation_holds k (head_members xs)) (sym (to_list-of_list ys)) ∙ of-view k h
 
-    one-means : meaning (relation_ex q l ms es ds (dom_list ds) (first_name ns) is (seen ns is)) (M env0 q q-apart bs) ≡ Some (truth (canonical kind (relations ks xs) (behind i (cells_of (t ∷ [])))))
+    one-means : meaning (relation_ex q l ms es ds (dom_list ds) (first_name ns) is (seen ns is)) (M env0 q q-apart bs) ≡ Some
+        (truth (canonical kind (relations ks xs) (behind i (cells_of (t ∷ [])))))
     one-means =
         let z = at bs in
         let x = matrix-there out ns (t ∷ []) i p c in
         let y = arguments-chosen (tuples xs) axes place_of (tuple-arguments xs (atoms-listed xs a)) grid fits in
         and-means (M env0 q q-apart bs) (size_ex ms es (true_count_ex q l (dom_list ds) (first_name ns) is)) (keys_ex key_ex ms)
         (set_attributes_hold ks (count_true (row (codes env0 q q-apart (index_members xs)) grid))) (each_holds ks (λ k n. true) F)
-        (size-means (M env0 q q-apart bs) ms es (true_count_ex q l (dom_list ds) (first_name ns) is) (count_true (row (codes env0 q q-apart (index_members xs)) grid)) ks z.0 z.1
+        (size-means (M env0 q q-apart bs) ms es (true_count_ex q l (dom_list ds) (first_name ns) is)
+        (count_true (row (codes env0 q q-apart (index_members xs)) grid)) ks z.0 z.1
         (true-count-means env0 q q-apart l (dom_list ds) (index_members xs) (first_name ns) is i bs t ax p.0 x.0 st))
-        (flags-means (M env0 q q-apart bs) key_ex F ms (meanings es (M env0 q q-apart bs)) ks z.1 (all-flags (λ k. meaning (key_ex k) (M env0 q q-apart bs) ≡ Some (truth (F k))) ks settled))
+        (flags-means (M env0 q q-apart bs) key_ex F ms (meanings es (M env0 q q-apart bs)) ks z.1
+        (all-flags (λ k. meaning (key_ex k) (M env0 q q-apart bs) ≡ Some (truth (F k))) ks settled))
         ∙ ap (λ s. Some (truth s))
         (ap (λ a. set_attributes_hold ks (count_true (row a grid)) && each_holds ks (λ k n. true) F) same
         ∙ ap (λ n. set_attributes_hold ks n && each_holds ks (λ k n. true) F) y.2
-        ∙ sym (relation-attributes-apart ks xs y.0 (length y.0) F (each-flag (MatrixKeyReady env0 q q-apart ds xs) (λ k. relation_holds k (head_members xs) y.0 ≡ F k) ks (asked y.0 y.1) keys))
+        ∙ sym (relation-attributes-apart ks xs y.0 (length y.0) F (each-flag (MatrixKeyReady env0 q q-apart ds xs)
+        (λ k. relation_holds k (head_members xs) y.0 ≡ F k) ks (asked y.0 y.1) keys))
         ∙ ap (relation_attributes_hold ks xs) (sym (to_list-of_list y.0))
-        ∙ sym (ap (λ o. (((every_cell axes (is_cell booleans) grid && true) && true) && true) && is_some_and (option_map (λ ys. node a_relation (of_list ys)) o) (λ v. relation_attributes_hold ks xs (items_of v))) y.1
+        ∙ sym (ap (λ o. (((every_cell axes (is_cell booleans) grid && true) && true) && true) && is_some_and
+        (option_map (λ ys. node a_relation (of_list ys)) o) (λ v. relation_attributes_hold ks xs (items_of v))) y.1
         ∙ ap (λ b. (((b && true) && true) && true) && relation_attributes_hold ks xs (items_of (node a_relation (of_list y.0)))) fits))
 
   matrix-means : (out : Bool) (ns : List Text) (ts : Tables) (l : ℕ) (is : Exs) (i : List ℤ) (bs : Bound env0 q q-apart) → Placed env0 q q-apart (own_shape ns true (dom_list ds) ∷ []) (index_members xs ∷ []) ts →
       Fit (declarations_below out kind (relations ks xs)) (behind i (cells_of ts)) → Steady env0 q q-apart l is i bs →
-      meaning (relation_ex q l ms es ds (dom_list ds) (first_name ns) is (seen ns is)) (M env0 q q-apart bs) ≡ Some (truth (canonical kind (relations ks xs) (behind i (cells_of ts))))
+      meaning (relation_ex q l ms es ds (dom_list ds) (first_name ns) is (seen ns is)) (M env0 q q-apart bs) ≡ Some
+      (truth (canonical kind (relations ks xs) (behind i (cells_of ts))))
   matrix-means out ns (t ∷ []) l is i bs p c st = one-means out ns t l is i bs p c st
   matrix-means out ns [] l is i bs p c st = absurd p
   matrix-means out ns (t ∷ u ∷ ts) l is i bs p c st = absurd p.2

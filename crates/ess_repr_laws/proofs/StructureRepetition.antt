@@ -54,10 +54,12 @@ use Rattle.ess_repr_laws.proofs.StructureSortedSlots.{used_asked, parts-mean}
 use Rattle.ess_repr_laws.proofs.StructureUse.{slots-axis, cell-means, next-number, places-numbers}
 
 -- Sorting changes nothing that all attributes ask.
-all-occurs-sorted : (ks : List Attribute) (vs : List Value) → each_number_holds ks (λ k z. occurs_holds k z (sorted vs)) ≡ each_number_holds ks (λ k z. occurs_holds k z vs)
+all-occurs-sorted : (ks : List Attribute) (vs : List Value) → each_number_holds ks (λ k z. occurs_holds k z (sorted vs)) ≡
+    each_number_holds ks (λ k z. occurs_holds k z vs)
 all-occurs-sorted [] vs = refl
 all-occurs-sorted (flagged k ∷ ks) vs = all-occurs-sorted ks vs
-all-occurs-sorted (numbered k z ∷ ks) vs = ap (λ b. b && each_number_holds ks (λ k z. occurs_holds k z (sorted vs))) (occurs-sorted k z vs) ∙ ap (λ b. occurs_holds k z vs && b) (all-occurs-sorted ks vs)
+all-occurs-sorted (numbered k z ∷ ks) vs = ap (λ b. b && each_number_holds ks (λ k z. occurs_holds k z (sorted vs))) (occurs-sorted k z vs)
+    ∙ ap (λ b. occurs_holds k z vs && b) (all-occurs-sorted ks vs)
 
 -- Slots up to a marker stand first.
 marker-first : (S m : ℕ) → list_all (λ k. not (int_le (k +ℤ pos 1) (pos m)) || int_le k (pos m)) (one_to S) ≡ true
@@ -69,7 +71,8 @@ marker-first S m = run-all (λ k. not (int_le (k +ℤ pos 1) (pos m)) || int_le 
 
 module _ (env0 : Env) (q : ℕ → Text) (q-apart : (m l : ℕ) → l < m → same_text (q m) (q l) ≡ false) (terms : Terms)
     (r : Repr) (ms : List Mark) (es : Exs) (d : Dom) (ks : List Attribute) (e : Domain) (child : StructureOf env0 q q-apart terms r d e)
-    (at : Attributes env0 q q-apart terms ms es ks) (sl : SlotsAre env0 q q-apart terms (mset_dom ms es d) (slots_of_mset ks e)) (times : TimesReady env0 q q-apart (terms.slots (mset_dom ms es d)) d ks e) where
+    (at : Attributes env0 q q-apart terms ms es ks) (sl : SlotsAre env0 q q-apart terms (mset_dom ms es d) (slots_of_mset ks e))
+    (times : TimesReady env0 q q-apart (terms.slots (mset_dom ms es d)) d ks e) where
   abbrev S : ℕ
   S = slots_of_mset ks e
 
@@ -121,7 +124,8 @@ module _ (env0 : Env) (q : ℕ → Text) (q-apart : (m l : ℕ) → l < m → sa
       ∙ ap (λ o. Some (truth (is_some_and o (int_le (pos j))))) (sym m.1))
       (λ j a b. le-means (M env0 q q-apart ((l, number (pos j)) ∷ bs)) (next_ex q l) marker (pos (j + 1)) (pos m.0) (next-number env0 q q-apart l (pos j) bs [] tt) (at-slot m.0 m.1 j p.0)
       ∙ ap (λ o. Some (truth (is_some_and o (int_le (pos (j + 1)))))) (sym m.1)) in
-      and-means (M env0 q q-apart bs) (use_ex q l size here next rise (shapes q terms r d (drop 1 ns)) is part) (and_ex (size_ex ms es marker) (occurs_ex q l seen ms es))
+      and-means (M env0 q q-apart bs) (use_ex q l size here next rise (shapes q terms r d (drop 1 ns)) is part)
+      (and_ex (size_ex ms es marker) (occurs_ex q l seen ms es))
       (used_asked env0 q q-apart terms r d e child size S sl ReprKind.MSetExplicitWithRepetition (msets ks e) own up_to_marker false (λ v. some_each (items_of v)) marker_table (λ c vss. Some (mset_of (only_child vss))) asked always_tidy mine (behind i (cells_of ts)))
       (set_attributes_hold ks m.0 && B) x.1
       (and-means (M env0 q q-apart bs) (size_ex ms es marker) (occurs_ex q l seen ms es) (set_attributes_hold ks m.0) B
@@ -133,8 +137,11 @@ module _ (env0 : Env) (q : ℕ → Text) (q-apart : (m l : ℕ) → l < m → sa
       (ap (λ o. is_some_and o (is_cell (up_to S)) && true) m.1 ∙ ap (λ b. b && true) (up-to-fits S m.0 m.2))
       (child-long env0 q q-apart terms r d e child (upto size ∷ []) (slot_numbers S) (one_to S ∷ []) (slots-same env0 q q-apart S) refl (out || true) (drop 1 ns) ts i p.2 f.others)
       (lists_of (one_to m.0 ∷ [])) used.found (λ h. each m.0 m.1 m.2 h)
-      (λ vs n y u. ap (λ o. is_some_and o (λ m. set_attributes_hold ks (natural m)) && each_number_holds ks (λ k z. occurs_holds k z vs)) m.1 ∙ ap (λ b. set_attributes_hold ks m.0 && b) (occurs-asked vs m.0 used.found y))
-      ∙ ap (λ b. (b && used_asked env0 q q-apart terms r d e child size S sl ReprKind.MSetExplicitWithRepetition (msets ks e) own up_to_marker false (λ v. some_each (items_of v)) marker_table (λ c vss. Some (mset_of (only_child vss))) asked always_tidy mine (behind i (cells_of ts))) && (set_attributes_hold ks m.0 && B))
+      (λ vs n y u. ap (λ o. is_some_and o (λ m. set_attributes_hold ks (natural m)) && each_number_holds ks (λ k z. occurs_holds k z vs))
+      m.1 ∙ ap (λ b. set_attributes_hold ks m.0 && b) (occurs-asked vs m.0 used.found y))
+      ∙ ap (λ b. (b && used_asked env0 q q-apart terms r d e child size S sl ReprKind.MSetExplicitWithRepetition (msets ks e) own
+      up_to_marker false (λ v. some_each (items_of v)) marker_table (λ c vss. Some (mset_of (only_child vss))) asked always_tidy mine
+      (behind i (cells_of ts))) && (set_attributes_hold ks m.0 && B))
       (places-numbers S (λ js. not (is_used up_to_marker mine (next_slot js)) || is_used up_to_marker mine js)
       ∙ ap (λ o. list_all (λ k. not (is_some_and o (int_le (k +ℤ pos 1))) || is_some_and o (int_le k)) (one_to S)) m.1 ∙ marker-first S m.0)))
     where
@@ -158,23 +165,29 @@ module _ (env0 : Env) (q : ℕ → Text) (q-apart : (m l : ℕ) → l < m → sa
 
       -- its view
       seen : Ex
-      seen = view_ex kind (bare_mset_dom size d) (own_shape ns false [] ∷ map (on_axes (upto size ∷ [])) (shapes q terms r d (drop 1 ns))) is
+      seen = view_ex kind (bare_mset_dom size d) (own_shape ns false [] ∷ map (on_axes (upto size ∷ [])) (shapes q terms r d (drop 1 ns)))
+          is
 
       B : Bool
       B = as_truth (meaning (occurs_ex q l seen ms es) (M env0 q q-apart bs))
 
       stands : (vs : List Value) (m : ℕ) → places_by up_to_marker mine (lists_of (one_to S ∷ [])) ≡ Some (lists_of (one_to m ∷ [])) →
           each_of (lists_of (one_to m ∷ [])) (λ j. value_of_cells r e (behind j (behind i (cells_of ts)))) ≡ Some vs →
-          DomainIs env0 q q-apart (bare_mset_dom size d) (msets (numbered Key.MaxSize (pos S) ∷ []) e) → Stands env0 q q-apart l seen (mset_of vs) bs
+          DomainIs env0 q q-apart (bare_mset_dom size d) (msets (numbered Key.MaxSize (pos S) ∷ []) e) →
+          Stands env0 q q-apart l seen (mset_of vs) bs
       stands vs m f y dm =
-          view-stands env0 q q-apart kind (bare_mset_dom size d) (msets (numbered Key.MaxSize (pos S) ∷ []) e) (own_shape ns false [] ∷ map (on_axes (upto size ∷ [])) (shapes q terms r d (drop 1 ns)))
+          view-stands env0 q q-apart kind (bare_mset_dom size d) (msets (numbered Key.MaxSize (pos S) ∷ []) e)
+          (own_shape ns false [] ∷ map (on_axes (upto size ∷ [])) (shapes q terms r d (drop 1 ns)))
           ([] ∷ on_members (slot_numbers S) (axes_members r e)) (t ∷ ts) l is i bs (mset_of vs) refl dm p st
-          (built-of-values ReprKind.MSetExplicitWithRepetition r (msets (numbered Key.MaxSize (pos S) ∷ []) e) e (repetition_layer (numbered Key.MaxSize (pos S) ∷ []) e) mine (behind i (cells_of ts)) (lists_of (one_to m ∷ [])) vs refl
-          (let g = own-fit out t ts i c in child-long env0 q q-apart terms r d e child (upto size ∷ []) (slot_numbers S) (one_to S ∷ []) (slots-same env0 q q-apart S) refl (out || true) (drop 1 ns) ts i p.2 g.others) f y)
+          (built-of-values ReprKind.MSetExplicitWithRepetition r (msets (numbered Key.MaxSize (pos S) ∷ []) e) e
+          (repetition_layer (numbered Key.MaxSize (pos S) ∷ []) e) mine (behind i (cells_of ts)) (lists_of (one_to m ∷ [])) vs refl
+          (let g = own-fit out t ts i c in child-long env0 q q-apart terms r d e child (upto size ∷ []) (slot_numbers S) (one_to S ∷ [])
+          (slots-same env0 q q-apart S) refl (out || true) (drop 1 ns) ts i p.2 g.others) f y)
 
       -- How often members occur is what the view says.
       occurs-asked : (vs : List Value) (m : ℕ) → places_by up_to_marker mine (lists_of (one_to S ∷ [])) ≡ Some (lists_of (one_to m ∷ [])) →
-          each_of (lists_of (one_to m ∷ [])) (λ j. value_of_cells r e (behind j (behind i (cells_of ts)))) ≡ Some vs → each_number_holds ks (λ k z. occurs_holds k z vs) ≡ B
+          each_of (lists_of (one_to m ∷ [])) (λ j. value_of_cells r e (behind j (behind i (cells_of ts)))) ≡ Some vs →
+          each_number_holds ks (λ k z. occurs_holds k z vs) ≡ B
       occurs-asked vs m f y =
           sym (all-occurs-sorted ks vs) ∙ ap (λ ys. each_number_holds ks (λ k z. occurs_holds k z ys)) (sym (to_list-of_list (sorted vs)))
           ∙ sym (ap as_truth (occurs-means env0 q q-apart terms l bs seen (mset_of vs) ms es ks at (λ h. stands vs m f y (times h))))

@@ -115,12 +115,15 @@ module _ (env0 : Env) (q : ℕ → Text) (q-apart : (m l : ℕ) → l < m → sa
       ap (λ o. and_then o (λ s. collect (items_of s) (λ x. items_under gs (N ((l, x) ∷ bs)) k))) h ∙ collect-items (items_of v) (λ x. items_under gs (N ((l, x) ∷ bs)) k) g a
 
   -- A test of each item.
-  pub every-item-means : (l : ℕ) (e : Ex) (bs : Bound env0 q q-apart) (v : Value) (test : Ex) (f : Value → Bool) → meaning e (N bs) ≡ Some v → AllOf (items_of v) (λ p. meaning test (N ((l, p) ∷ bs)) ≡ Some (truth (f p))) →
+  pub every-item-means : (l : ℕ) (e : Ex) (bs : Bound env0 q q-apart) (v : Value) (test : Ex) (f : Value → Bool) →
+      meaning e (N bs) ≡ Some v → AllOf (items_of v) (λ p. meaning test (N ((l, p) ∷ bs)) ≡ Some (truth (f p))) →
       meaning (every_item_ex q l e test) (N bs) ≡ Some (truth (list_all f (items_of v)))
   every-item-means l e bs v test f h a =
       all-means (N bs) test (each_item q l e no_gens) (map (λ p. truth (f p)) (items_of v))
       (items-run l e no_gens bs (λ here. option_map (λ z. z ∷ []) (meaning test here)) v (λ p. truth (f p)) h
-      (all-of-map (items_of v) (λ p. meaning test (N ((l, p) ∷ bs)) ≡ Some (truth (f p))) (λ p. option_map (λ z. z ∷ []) (meaning test (N ((l, p) ∷ bs))) ≡ Some (truth (f p) ∷ [])) (λ p z. ap (option_map (λ z. z ∷ [])) z) a))
+      (all-of-map (items_of v) (λ p. meaning test (N ((l, p) ∷ bs)) ≡ Some (truth (f p)))
+      (λ p. option_map (λ z. z ∷ []) (meaning test (N ((l, p) ∷ bs))) ≡ Some (truth (f p) ∷ []))
+      (λ p z. ap (option_map (λ z. z ∷ [])) z) a))
       ∙ ap (λ b. Some (truth b)) (all-bits (items_of v))
     where
       all-bits : (ps : List Value) → all_true (map (λ p. truth (f p)) ps) ≡ list_all f ps

@@ -55,5 +55,6 @@ module _ (q : ℕ → Text) where
   partial_ex l ms es as' n is ss c e part =
       let flag : Ex = cell_ex true n (row_index q l as' is) in
       and_ex
-      (each_ex q l as' (and_ex (implies_ex flag part) (implies_ex (ex1 true Op1.Not flag) (zeros_ex q (level_behind l as') ss (row_index q l as' is)))))
+      (each_ex q l as' (and_ex (implies_ex flag part) (implies_ex (ex1 true Op1.Not flag)
+      (zeros_ex q (level_behind l as') ss (row_index q l as' is)))))
       (and_ex (size_ex ms es (true_count_ex q l as' n is)) (keys_ex (flag_key_ex l as' n is c e) ms))
