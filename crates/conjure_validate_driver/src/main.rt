@@ -46,17 +46,18 @@ fn answer(alloc: Global, line: &str) -> Result<String, NoMemory> {
     let mut told = MemSink::new(alloc, Vec::new(alloc), 99, 999)?;
     let mut refused = MemSink::new(alloc, Vec::new(alloc), 99, 999)?;
     let status = run(alloc, &words, &mut files, &mut told, &mut refused);
-    let told = str::from_utf8(told.bytes()).unwrap_or("");
-    let refused = str::from_utf8(refused.bytes()).unwrap_or("");
     let mut out = String::new(alloc);
-    write!(
-        out,
-        "{} {}{}",
-        status.0,
-        told.trim_end(),
-        refused.trim_end()
-    )?;
+    write!(out, "{} ", status.0)?;
+    put_line(&mut out, told.bytes())?;
+    put_line(&mut out, refused.bytes())?;
     Ok(out)
+}
+
+/// Puts the line that a sink took, without its line feed.
+fn put_line(out: &mut String, bytes: &[u8]) -> Result<(), NoMemory> {
+    let line = str::from_utf8(bytes).unwrap_or("");
+    out.push_str(line.trim_end())?;
+    Ok(())
 }
 
 fn main(rt: HostRuntime) -> io::Result<()> {
