@@ -53,3 +53,6 @@ pub mod FunctionLookups
 pub mod ExamplesLookups
 pub mod OccurrenceListing
 pub mod ExamplesSetListings
+pub mod ListedSources
+pub mod ListingStructures
+pub mod ExamplesListedSources

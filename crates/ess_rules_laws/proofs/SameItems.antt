@@ -48,7 +48,8 @@ to_mset-unordered xs ys p = on-items (λ l. Some (node a_mset (of_list (sorted l
 
 -- ---- words that forget the order
 
-unordered-word : (f : Fun) → forgets_order (word f) ≡ true → Unordered f
+-- So they are, each of them.
+pub unordered-word : (f : Fun) → forgets_order (word f) ≡ true → Unordered f
 unordered-word Fun.Sum h = sum-unordered
 unordered-word Fun.Product h = product-unordered
 unordered-word Fun.And h = and-unordered

@@ -164,7 +164,7 @@ module _ (pl : Bool) (ts : List TypeEntry) (cs : Names Table) where
           (λ g' i' p. ap (option_map (λ v. v ∷ [])) (meaning-sim pl ts cs (for_name y h) (outside r) (outside s) Put put-named put-bound e g' i' body p))
 
       -- Both give the same items in the same order.
-      spliced-items : items_under (from (name_pat y) (comp_ex h ks) hs) (M g) old ≡ items_under (append_gens ks new_hs) (M g) new
+      pub spliced-items : items_under (from (name_pat y) (comp_ex h ks) hs) (M g) old ≡ items_under (append_gens ks new_hs) (M g) new
       spliced-items =
           read inner_items
           ∙ sym (items-through pl ts cs r h g (λ here. items_under new_hs here new) F at-item ks g inner (λ a t. refl) (have inner_items there))
@@ -178,7 +178,7 @@ module _ (pl : Bool) (ts : List TypeEntry) (cs : Names Table) where
       Behind v = MeetsGens hs (M ((y, v) ∷ g)) (λ here. Meets e here)
 
       -- And structures stay met.
-      spliced-met : Meets (comp_ex e (from (name_pat y) (comp_ex h ks) hs)) (M g) → Meets (comp_ex new_e (append_gens ks new_hs)) (M g)
+      pub spliced-met : Meets (comp_ex e (from (name_pat y) (comp_ex h ks) hs)) (M g) → Meets (comp_ex new_e (append_gens ks new_hs)) (M g)
       spliced-met m = meets-through r h g new_hs new_e Behind
           (λ i a v q b w. meets-sim-gens pl ts cs (for_name y h) (outside r) (outside s) PutMet (λ a g i o p. put-named a g i o p.0) met-bound name-met hs e ((y, v) ∷ g) i gens (put-item v g i a q, w)
           (λ g' i' p x. meets-sim pl ts cs (for_name y h) (outside r) (outside s) PutMet (λ a g i o p. put-named a g i o p.0) met-bound name-met e g' i' body p x) b)

@@ -19,3 +19,4 @@ pub mod FieldLiterals
 pub mod Lookups
 pub mod FunctionLookups
 pub mod SetListings
+pub mod ListedSources

@@ -8,6 +8,7 @@ ghost use Rattle.ess_rules_laws.specs.SourceRules.{SourceRulesKeep};
 ghost use Rattle.ess_rules_laws.specs.Lookups.{SelectRulesKeep};
 ghost use Rattle.ess_rules_laws.specs.FunctionLookups.{FunctionsAreLookedUp};
 ghost use Rattle.ess_rules_laws.specs.SetListings.{SetViewsAreListed};
+ghost use Rattle.ess_rules_laws.specs.ListedSources.{ListedSourcesKeep, ListingsAreMet};
 ghost use Rattle.ess_rules_laws.specs.RuleLaws.{FoldRulesKeep, MembershipRulesKeep, InclusionRulesKeep, SizeRulesKeep, ComponentRulesKeep, LiteralRulesKeep, ListingsList};
 
 /// A value of a name that isn't free in an expression changes no meaning. So a bound name may be any name that isn't free
@@ -120,4 +121,16 @@ pub fn functions_are_looked_up()
 /// A view of a set kept as the members that occur lists the members of the set: those of the inner domain whose cell is true.
 pub fn set_views_are_listed()
     ensures { SetViewsAreListed }
+{}
+
+/// A generator over a term that offers a listing becomes the generators of the listing, with the item in the place of the
+/// name: in a comprehension where the listing has the members in order, else under words that forget order, and under folds
+/// where the listing has several alternatives.
+pub fn listed_sources_keep()
+    ensures { ListedSourcesKeep }
+{}
+
+/// Tables that meet the structures of a term meet those of the alternatives that it offers.
+pub fn listings_are_met()
+    ensures { ListingsAreMet }
 {}
