@@ -65,7 +65,7 @@ each-met (f ∷ fs) (more_tys t ts) (more_tys u us) a b env m h = (((m, tt), ((h
 each-met _ _ _ a b env m h = tt
 
 -- A value of a type of records.
-record-value : (p : Bool) (es : List TypeEntry) (fs : List Text) (ts : Tys) (v : Value) → is_of p es (compound (a_record fs) ts) v ≡ true →
+pub record-value : (p : Bool) (es : List TypeEntry) (fs : List Text) (ts : Tys) (v : Value) → is_of p es (compound (a_record fs) ts) v ≡ true →
     (vs : Values) × (v ≡ node (a_record fs) vs) × (are_of p es ts (to_list vs) ≡ true)
 record-value p es fs ts (node (a_record gs) vs) h =
     (vs, ap (λ l. node (a_record l) vs) (sym (texts_exact fs gs (equal-of (order_texts fs gs) (and-left _ _ h)))), and-right _ _ h)

@@ -121,11 +121,13 @@ module _ (y : Text) (t u : Ty) (f a : Ex) (env : Env) (v w : Value) (new : Unuse
 
 -- ---- the lookup
 
-abbrev AnswerLooks : Option Ex → Ex → Env → Type 0
+-- What a lookup answers looks a term up.
+abbrev pub AnswerLooks : Option Ex → Ex → Env → Type 0
 AnswerLooks None t env = Unit {0}
 AnswerLooks (Some l) t env = Looked t l env
 
-looks : (o : Option Ex) (t l : Ex) (env : Env) → AnswerLooks o t env → o ≡ Some l → Looked t l env
+-- So it is where there is one.
+pub looks : (o : Option Ex) (t l : Ex) (env : Env) → AnswerLooks o t env → o ≡ Some l → Looked t l env
 looks o t l env h q = subst (λ z. AnswerLooks z t env) q h
 
 applied : (o : Option Ty) (y : Text) (f a : Ex) (env : Env) (v w : Value) → Unused y a → meaning f env ≡ Some v → meaning a env ≡ Some w →

@@ -56,3 +56,6 @@ pub mod ExamplesSetListings
 pub mod ListedSources
 pub mod ListingStructures
 pub mod ExamplesListedSources
+pub mod PartLookups
+pub mod MatrixLookups
+pub mod ExamplesPartLookups

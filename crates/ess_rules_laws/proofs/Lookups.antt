@@ -24,7 +24,7 @@ use Rattle.ess_rules_laws.proofs.Connectives.{any-means}
 -- ---- operands behind a new name
 
 -- None of the operands has the name.
-abbrev UnusedAll : Text → Exs → Type 0
+abbrev pub UnusedAll : Text → Exs → Type 0
 UnusedAll x es = NamesAreExs (λ a. not (same_text x a)) (λ a. true) es
 
 meanings-behind : (x : Text) (v : Value) (es : Exs) (env : Env) → UnusedAll x es → meanings es (behind x v env) ≡ meanings es env
@@ -51,7 +51,8 @@ put-means x v (more_exs a es) (suc (suc n)) t env q o j =
     ap (λ z. z ∷ meanings (put_nth es (suc n) (name_ex x)) (behind x v env)) (meaning-behind x v a env o.0)
     ∙ ap (λ zs. meaning a env ∷ zs) (put-means x v es (suc n) t env q o.1 j)
 
-put-met : (x : Text) (v : Value) (es : Exs) (k : ℕ) (env : Env) → UnusedAll x es → MeetsAll false es env → MeetsAll false (put_nth es k (name_ex x)) (behind x v env)
+-- Their structures stay met.
+pub put-met : (x : Text) (v : Value) (es : Exs) (k : ℕ) (env : Env) → UnusedAll x es → MeetsAll false es env → MeetsAll false (put_nth es k (name_ex x)) (behind x v env)
 put-met x v no_exs k env o m = tt
 put-met x v (more_exs a es) zero env o m = all-met-behind x v (more_exs a es) env o m
 put-met x v (more_exs a es) (suc zero) env o m = (tt, all-met-behind x v es env o.1 m.1)
@@ -79,13 +80,15 @@ plain-nowhere op os h j = go (connective op) refl h
     go None q h = ap (λ c. elim c [ Some f ↦ yes_no (f (map as_truth os)) | None ↦ and_then (all_some os) (value_of_op op) ]) q ∙ ap (λ z. and_then z (value_of_op op)) j
     go (Some f) q h = cc
 
-unguarded : (b : Bool) → not b ≡ true → b ≡ false
+-- An operator that isn't one that guards.
+pub unguarded : (b : Bool) → not b ≡ true → b ≡ false
 unguarded false h = refl
 unguarded true h = cc
 
 -- ---- one item, or none
 
-abbrev single : Option Value → Option (List Value)
+-- A value that is there as a list, where there is one.
+abbrev pub single : Option Value → Option (List Value)
 single o = option_map (λ u. u ∷ []) o
 
 or-false : (b : Bool) → b || false ≡ b
@@ -108,7 +111,8 @@ looked-items : (o : Option Value) (F : Value → Option (List Value)) → and_th
 looked-items None F = refl
 looked-items (Some s) F = refl
 
-collect-found : (o : Option (List Value)) → and_then o (λ xs. option_map (λ ys. xs ++ ys) (Some [])) ≡ o
+-- A list before no others.
+pub collect-found : (o : Option (List Value)) → and_then o (λ xs. option_map (λ ys. xs ++ ys) (Some [])) ≡ o
 collect-found None = refl
 collect-found (Some xs) = ap Some (append-nothing xs)
   where
@@ -144,16 +148,18 @@ module _ (x : Text) (k : ℕ) (l : Ex) (b : Bool) (op : Op) (es : Exs) (env : En
   at-value : (b : Bool) (v : Value) → meaning t env ≡ Some v → meaning (Body b) (behind x v env) ≡ meaning (Old b) env
   at-value b v j = ap (λ os. false_where_undefined b (value_of_node op os)) (put-means x v es k t env q new j)
 
-  at-nothing : meaning t env ≡ None → value_of_node op (meanings es env) ≡ None
+  -- Where the operand has no value the tree has none.
+  pub at-nothing : meaning t env ≡ None → value_of_node op (meanings es env) ≡ None
   at-nothing j = plain-nowhere op (meanings es env) (and-right (not (guards op)) _ plain) (nth-nowhere es k t env q j)
 
   -- What is collected over the lookup.
-  collected : (b : Bool) (o : Option Value) → meaning t env ≡ o →
+  pub collected : (b : Bool) (o : Option Value) → meaning t env ≡ o →
       and_then (meaning l env) (λ s. collect (items_of s) (λ v. single (meaning (Body b) (behind x v env)))) ≡ collect (found o) (λ v. single (meaning (Body b) (behind x v env)))
   collected b o j = looked-items (meaning l env) (λ v. single (meaning (Body b) (behind x v env)))
       ∙ ap (λ z. and_then z (λ us. collect us (λ v. single (meaning (Body b) (behind x v env))))) (looked.items ∙ ap (λ z. Some (found z)) j)
 
-  at-one : (b : Bool) (v : Value) → meaning t env ≡ Some v →
+  -- Over one value.
+  pub at-one : (b : Bool) (v : Value) → meaning t env ≡ Some v →
       and_then (meaning l env) (λ s. collect (items_of s) (λ v. single (meaning (Body b) (behind x v env)))) ≡ single (meaning (Old b) env)
   at-one b v j = collected b (Some v) j ∙ collect-found (single (meaning (Body b) (behind x v env))) ∙ ap single (at-value b v j)
 

@@ -20,3 +20,4 @@ pub mod Lookups
 pub mod FunctionLookups
 pub mod SetListings
 pub mod ListedSources
+pub mod PartLookups

@@ -7,6 +7,7 @@ ghost use Rattle.ess_rules_laws.specs.SplitRules.{SplitKeeps};
 ghost use Rattle.ess_rules_laws.specs.SourceRules.{SourceRulesKeep};
 ghost use Rattle.ess_rules_laws.specs.Lookups.{SelectRulesKeep};
 ghost use Rattle.ess_rules_laws.specs.FunctionLookups.{FunctionsAreLookedUp};
+ghost use Rattle.ess_rules_laws.specs.PartLookups.{PartsAreLookedUp};
 ghost use Rattle.ess_rules_laws.specs.SetListings.{SetViewsAreListed};
 ghost use Rattle.ess_rules_laws.specs.ListedSources.{ListedSourcesKeep, ListingsAreMet};
 ghost use Rattle.ess_rules_laws.specs.RuleLaws.{FoldRulesKeep, MembershipRulesKeep, InclusionRulesKeep, SizeRulesKeep, ComponentRulesKeep, LiteralRulesKeep, ListingsList};
@@ -133,4 +134,10 @@ pub fn listed_sources_keep()
 /// Tables that meet the structures of a term meet those of the alternatives that it offers.
 pub fn listings_are_met()
     ensures { ListingsAreMet }
+{}
+
+/// A component or a field is looked up through a lookup of the tuple or record, and so is what any other operator but a
+/// connective makes of a looked up operand; the item of a matrix at an index is looked up over the index domain.
+pub fn parts_are_looked_up()
+    ensures { PartsAreLookedUp }
 {}
