@@ -59,3 +59,8 @@ pub mod ExamplesListedSources
 pub mod PartLookups
 pub mod MatrixLookups
 pub mod ExamplesPartLookups
+pub mod TablesOfViews
+pub mod SlotNumbers
+pub mod SlotSets
+pub mod ExplicitListing
+pub mod ExamplesSlotListings

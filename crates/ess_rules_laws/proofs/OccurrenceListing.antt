@@ -29,7 +29,8 @@ use Rattle.ess_rules_laws.proofs.ListedItems.{same-lists, alone-listed}
 
 -- ---- index lists with one more index
 
-put-meanings : (x : Text) (v : Value) (js : Exs) (env : Env) → NamesAreExs (λ a. not (same_text x a)) (λ a. true) js →
+-- The last index is the new name's value.
+pub put-meanings : (x : Text) (v : Value) (js : Exs) (env : Env) → NamesAreExs (λ a. not (same_text x a)) (λ a. true) js →
     meanings (put_last js (name_ex x)) (behind x v env) ≡ meanings js env ++ (Some v ∷ [])
 put-meanings x v no_exs env o = ap (λ z. z ∷ []) (name-behind x v env)
 put-meanings x v (more_exs e es) env o =
@@ -52,7 +53,8 @@ map-last : (us : List Value) (v : Value) → map code (us ++ (v ∷ [])) ≡ map
 map-last [] v = refl
 map-last (u ∷ us) v = ap (λ zs. code u ∷ zs) (map-last us v)
 
-last-index : (os : List (Option Value)) (i : List ℤ) (v : Value) → indices os ≡ Some i → indices (os ++ (Some v ∷ [])) ≡ Some (i ++ (code v ∷ []))
+-- Its number stands behind the others.
+pub last-index : (os : List (Option Value)) (i : List ℤ) (v : Value) → indices os ≡ Some i → indices (os ++ (Some v ∷ [])) ≡ Some (i ++ (code v ∷ []))
 last-index os i v q = go (all_some os) refl q
   where
     go : (z : Option (List Value)) → all_some os ≡ z → option_map (map code) z ≡ Some i → indices (os ++ (Some v ∷ [])) ≡ Some (i ++ (code v ∷ []))

@@ -21,3 +21,4 @@ pub mod FunctionLookups
 pub mod SetListings
 pub mod ListedSources
 pub mod PartLookups
+pub mod SlotListings

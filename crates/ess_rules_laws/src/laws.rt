@@ -9,6 +9,7 @@ ghost use Rattle.ess_rules_laws.specs.Lookups.{SelectRulesKeep};
 ghost use Rattle.ess_rules_laws.specs.FunctionLookups.{FunctionsAreLookedUp};
 ghost use Rattle.ess_rules_laws.specs.PartLookups.{PartsAreLookedUp};
 ghost use Rattle.ess_rules_laws.specs.SetListings.{SetViewsAreListed};
+ghost use Rattle.ess_rules_laws.specs.SlotListings.{SlotViewsAreListed};
 ghost use Rattle.ess_rules_laws.specs.ListedSources.{ListedSourcesKeep, ListingsAreMet};
 ghost use Rattle.ess_rules_laws.specs.RuleLaws.{FoldRulesKeep, MembershipRulesKeep, InclusionRulesKeep, SizeRulesKeep, ComponentRulesKeep, LiteralRulesKeep, ListingsList};
 
@@ -140,4 +141,10 @@ pub fn listings_are_met()
 /// connective makes of a looked up operand; the item of a matrix at an index is looked up over the index domain.
 pub fn parts_are_looked_up()
     ensures { PartsAreLookedUp }
+{}
+
+/// A view of a set in slots all in use offers the views in its slots: they list the members of the set, and tables that meet
+/// its structure meet theirs.
+pub fn slot_views_are_listed()
+    ensures { SlotViewsAreListed }
 {}

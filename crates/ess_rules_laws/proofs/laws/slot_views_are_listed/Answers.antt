@@ -1,0 +1,5 @@
+use Rattle.ess_rules_laws.proofs.laws.slot_views_are_listed.Goals as goal
+use Rattle.ess_rules_laws.proofs.ExplicitListing.{explicit-listed}
+
+pub returns : goal.returns
+returns c = record { of_slots_all_in_use = explicit-listed }
