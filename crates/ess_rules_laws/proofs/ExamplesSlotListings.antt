@@ -8,8 +8,8 @@ use Rattle.ess_semantics.specs.Tables.{row_of}
 use Rattle.ess_semantics.specs.Meaning.{Env, empty_env, meaning}
 use Rattle.ess_semantics.proofs.Shorthands.{n, v, upto, sized}
 use Rattle.ess_rules_laws.specs.Listings.{Alternative, items_listed}
-use Rattle.ess_rules_laws.specs.SlotListings.{explicit_listing}
-use Rattle.ess_rules_laws.proofs.ExamplesLookups.{x}
+use Rattle.ess_rules_laws.specs.SlotListings.{explicit_listing, flags_listing}
+use Rattle.ess_rules_laws.proofs.ExamplesLookups.{x, f}
 use Rattle.ess_rules_laws.proofs.ExamplesSetListings.{s}
 
 abbrev atoms : Repr
@@ -41,3 +41,20 @@ first_slot = refl
 
 third_slot : items two (explicit_listing x (n 3) pair_view) ≡ None
 third_slot = refl
+
+-- ---- three slots, of which two are in use
+
+abbrev three : Env
+three = record empty_env {
+  cells = (s, row_of (pos 1 ∷ pos 2 ∷ pos 3 ∷ []) (pos 5 ∷ pos 3 ∷ pos 0 ∷ [])) ∷
+      (f, row_of (pos 1 ∷ pos 2 ∷ pos 3 ∷ []) (pos 1 ∷ pos 1 ∷ pos 0 ∷ [])) ∷ [];
+}
+
+abbrev flags_view : Ex
+flags_view = seen_ex (repr ReprKind.ExplicitVarSizeWithFlags (more_reprs atoms no_reprs)) (sized Key.MaxSize 3 (upto 9)) (f ∷ s ∷ []) no_exs
+
+flagged_members : option_map items_of (meaning flags_view three) ≡ Some (v 3 ∷ v 5 ∷ [])
+flagged_members = refl
+
+flagged_slots : items three (flags_listing x (n 3) flags_view) ≡ Some (v 5 ∷ v 3 ∷ [])
+flagged_slots = refl

@@ -64,3 +64,5 @@ pub mod SlotNumbers
 pub mod SlotSets
 pub mod ExplicitListing
 pub mod ExamplesSlotListings
+pub mod UsedSlots
+pub mod FlagsListing

@@ -1,9 +1,9 @@
 -- What views of sets kept in slots offer as listings, a kind at a time: a number runs over the slots, and the item is the view
 -- in the slot.
-use Rattle.std.specs.Prelude.{◌≡◌, [], ◌∷◌, List, Option, Some, None, pos}
+use Rattle.std.specs.Prelude.{◌≡◌, true, [], ◌∷◌, List, Option, Some, None, pos}
 use Rattle.ess_semantics.specs.declared.words.ReprKind.{ReprKind}
 use Rattle.ess_semantics.specs.Values.{Text, number}
-use Rattle.ess_semantics.specs.Trees.{both_ends, repr, no_reprs, more_reprs, name_pat, Ex, number_ex, name_ex, seen_ex, no_exs, more_exs, no_gens, over, Dom, int_dom, set_dom}
+use Rattle.ess_semantics.specs.Trees.{both_ends, repr, no_reprs, more_reprs, name_pat, Ex, number_ex, name_ex, seen_ex, no_exs, more_exs, no_gens, over, Dom, int_dom, set_dom, cell_ex, cond}
 use Rattle.ess_semantics.specs.Domains.{Attribute, Domain, sets}
 use Rattle.ess_semantics.specs.Sizes.{slots_of_set}
 use Rattle.ess_semantics.specs.Meaning.{Env, meaning, domain_of}
@@ -22,6 +22,15 @@ abbrev pub explicit_listing : Text → Ex → Ex → Option Alternative
 explicit_listing x n (seen_ex (repr ReprKind.Explicit (more_reprs r no_reprs)) (set_dom ms es d) ns js) =
     Some (record { gens = over (name_pat x) (slots_dom n) no_gens; item = seen_ex r d ns (put_last js (name_ex x)) })
 explicit_listing x n e = None
+
+-- Of one with flags: x over the slots, where the flag of slot x is true, and the view in slot x.
+abbrev pub flags_listing : Text → Ex → Ex → Option Alternative
+flags_listing x n (seen_ex (repr ReprKind.ExplicitVarSizeWithFlags (more_reprs r no_reprs)) (set_dom ms es d) (m ∷ ns) js) =
+    Some (record {
+      gens = over (name_pat x) (slots_dom n) (cond (cell_ex true m (put_last js (name_ex x))) no_gens);
+      item = seen_ex r d ns (put_last js (name_ex x));
+    })
+flags_listing x n e = None
 
 -- The expression has as its value the number of slots that the set of the view has.
 abbrev pub Counts : Ex → Ex → Env → Type 0
@@ -44,3 +53,5 @@ OffersWhereMet (Some a) e env = Offers e (a ∷ []) env
 pub record SlotViewsAreListed : Type 0 where
   pub of_slots_all_in_use : (x : Text) (n e : Ex) (env : Env) → Unused x e → Meets e env → SlotsAre n e env →
       OffersWhereMet (explicit_listing x n e) e env
+  pub of_slots_with_flags : (x : Text) (n e : Ex) (env : Env) → Unused x e → Meets e env → SlotsAre n e env →
+      OffersWhereMet (flags_listing x n e) e env
