@@ -4,11 +4,11 @@ use Rattle.ess_semantics.specs.declared.words.ReprKind.{ReprKind}
 use Rattle.ess_semantics.specs.declared.words.Key.{Key}
 use Rattle.ess_semantics.specs.Values.{Value, items_of}
 use Rattle.ess_semantics.specs.Trees.{Repr, repr, no_reprs, more_reprs, Ex, seen_ex, no_exs}
-use Rattle.ess_semantics.specs.Tables.{row_of}
+use Rattle.ess_semantics.specs.Tables.{one_cell, row_of}
 use Rattle.ess_semantics.specs.Meaning.{Env, empty_env, meaning}
 use Rattle.ess_semantics.proofs.Shorthands.{n, v, upto, sized}
 use Rattle.ess_rules_laws.specs.Listings.{Alternative, items_listed}
-use Rattle.ess_rules_laws.specs.SlotListings.{explicit_listing, flags_listing}
+use Rattle.ess_rules_laws.specs.SlotListings.{explicit_listing, flags_listing, marker_listing}
 use Rattle.ess_rules_laws.proofs.ExamplesLookups.{x, f}
 use Rattle.ess_rules_laws.proofs.ExamplesSetListings.{s}
 
@@ -58,3 +58,18 @@ flagged_members = refl
 
 flagged_slots : items three (flags_listing x (n 3) flags_view) ≡ Some (v 5 ∷ v 3 ∷ [])
 flagged_slots = refl
+
+-- ---- the same slots up to a marker
+
+abbrev marked : Env
+marked = record empty_env { cells = (s, row_of (pos 1 ∷ pos 2 ∷ pos 3 ∷ []) (pos 5 ∷ pos 3 ∷ pos 0 ∷ [])) ∷ (f, one_cell (pos 2)) ∷ [] }
+
+abbrev marker_view : Ex
+marker_view = seen_ex (repr ReprKind.ExplicitVarSizeWithMarker (more_reprs atoms no_reprs)) (sized Key.MaxSize 3 (upto 9)) (f ∷ s ∷ [])
+    no_exs
+
+marked_members : option_map items_of (meaning marker_view marked) ≡ Some (v 3 ∷ v 5 ∷ [])
+marked_members = refl
+
+marked_slots : items marked (marker_listing x (n 3) marker_view) ≡ Some (v 5 ∷ v 3 ∷ [])
+marked_slots = refl

@@ -66,3 +66,4 @@ pub mod ExplicitListing
 pub mod ExamplesSlotListings
 pub mod UsedSlots
 pub mod FlagsListing
+pub mod MarkerListing

@@ -1,9 +1,10 @@
 -- What views of sets kept in slots offer as listings, a kind at a time: a number runs over the slots, and the item is the view
 -- in the slot.
-use Rattle.std.specs.Prelude.{◌≡◌, true, [], ◌∷◌, List, Option, Some, None, pos}
+use Rattle.std.specs.Prelude.{◌≡◌, true, false, [], ◌∷◌, List, Option, Some, None, pos}
+use Rattle.ess_semantics.specs.declared.words.Op2.{Op2}
 use Rattle.ess_semantics.specs.declared.words.ReprKind.{ReprKind}
 use Rattle.ess_semantics.specs.Values.{Text, number}
-use Rattle.ess_semantics.specs.Trees.{both_ends, repr, no_reprs, more_reprs, name_pat, Ex, number_ex, name_ex, seen_ex, no_exs, more_exs, no_gens, over, Dom, int_dom, set_dom, cell_ex, cond}
+use Rattle.ess_semantics.specs.Trees.{both_ends, repr, no_reprs, more_reprs, name_pat, Ex, number_ex, name_ex, seen_ex, no_exs, more_exs, no_gens, over, Dom, int_dom, set_dom, cell_ex, cond, ex2}
 use Rattle.ess_semantics.specs.Domains.{Attribute, Domain, sets}
 use Rattle.ess_semantics.specs.Sizes.{slots_of_set}
 use Rattle.ess_semantics.specs.Meaning.{Env, meaning, domain_of}
@@ -22,6 +23,15 @@ abbrev pub explicit_listing : Text → Ex → Ex → Option Alternative
 explicit_listing x n (seen_ex (repr ReprKind.Explicit (more_reprs r no_reprs)) (set_dom ms es d) ns js) =
     Some (record { gens = over (name_pat x) (slots_dom n) no_gens; item = seen_ex r d ns (put_last js (name_ex x)) })
 explicit_listing x n e = None
+
+-- Of one with a marker: x over the slots up to the marker, and the view in slot x.
+abbrev pub marker_listing : Text → Ex → Ex → Option Alternative
+marker_listing x n (seen_ex (repr ReprKind.ExplicitVarSizeWithMarker (more_reprs r no_reprs)) (set_dom ms es d) (m ∷ ns) js) =
+    Some (record {
+      gens = over (name_pat x) (slots_dom n) (cond (ex2 true Op2.Le (name_ex x) (cell_ex false m js)) no_gens);
+      item = seen_ex r d ns (put_last js (name_ex x));
+    })
+marker_listing x n e = None
 
 -- Of one with flags: x over the slots, where the flag of slot x is true, and the view in slot x.
 abbrev pub flags_listing : Text → Ex → Ex → Option Alternative
@@ -55,3 +65,5 @@ pub record SlotViewsAreListed : Type 0 where
       OffersWhereMet (explicit_listing x n e) e env
   pub of_slots_with_flags : (x : Text) (n e : Ex) (env : Env) → Unused x e → Meets e env → SlotsAre n e env →
       OffersWhereMet (flags_listing x n e) e env
+  pub of_slots_up_to_a_marker : (x : Text) (n e : Ex) (env : Env) → Unused x e → Meets e env → SlotsAre n e env →
+      OffersWhereMet (marker_listing x n e) e env

@@ -143,8 +143,8 @@ pub fn parts_are_looked_up()
     ensures { PartsAreLookedUp }
 {}
 
-/// A view of a set in slots, all in use or with flags, offers the views in its slots in use: they list the members of the set,
-/// and tables that meet its structure meet theirs.
+/// A view of a set in slots, all in use, with flags or up to a marker, offers the views in its slots in use: they list the
+/// members of the set, and tables that meet its structure meet theirs.
 pub fn slot_views_are_listed()
     ensures { SlotViewsAreListed }
 {}
