@@ -67,3 +67,4 @@ pub mod ExamplesSlotListings
 pub mod UsedSlots
 pub mod FlagsListing
 pub mod MarkerListing
+pub mod OccurrencesInOrder

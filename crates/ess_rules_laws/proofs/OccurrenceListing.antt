@@ -138,7 +138,7 @@ module _ (x : Text) (ms : List Mark) (es js : Exs) (d : Dom) (n : Text) (env : E
       ∙ ap (λ o. where_true (Some (truth (as_truth (option_map (cell_value true) (cell_at t (i ++ (code v ∷ []))))))) (λ u. option_map (λ w. w ∷ []) o)) (name-behind x v env)
 
   -- The parts of the view that are there.
-  listed : (a : Option (List Attribute)) (e : Option Domain) (t : Option Table) (i : Option (List ℤ)) → attributes_of ms (meanings es env) ≡ a → domain_of d env ≡ e → look env.cells n ≡ t →
+  pub listed : (a : Option (List Attribute)) (e : Option Domain) (t : Option Table) (i : Option (List ℤ)) → attributes_of ms (meanings es env) ≡ a → domain_of d env ≡ e → look env.cells n ≡ t →
       indices (meanings js env) ≡ i → IsTrue (tidy_in occurrence (and_then a (λ ks. option_map (sets ks) e)) (and_then t (λ z. Some (z ∷ []))) i) → IsTrue (is_some (members_in e)) →
       option_map items_of (seen_in occurrence (and_then a (λ ks. option_map (sets ks) e)) (and_then t (λ z. Some (z ∷ []))) i) ≡ and_then (members_in e) (λ vs. collect vs At)
   listed (Some ks) (Some e) (Some t) (Some i) p q r s h m = go (members e) refl m

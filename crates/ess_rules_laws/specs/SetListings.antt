@@ -7,6 +7,7 @@ use Rattle.ess_semantics.specs.Meaning.{Env, domain_of, members_in}
 use Rattle.ess_semantics.specs.Meets.{Meets}
 use Rattle.ess_rules_laws.specs.Rules.{Unused}
 use Rattle.ess_rules_laws.specs.Listings.{Alternative, Lists}
+use Rattle.ess_rules_laws.specs.ListedSources.{OffersInOrder}
 
 -- One more operand behind the others.
 abbrev pub put_last : Exs → Ex → Exs
@@ -29,6 +30,14 @@ abbrev pub ListsWhereMet : Option Alternative → Ex → Env → Type 0
 ListsWhereMet None e env = Unit {0}
 ListsWhereMet (Some a) e env = Lists e (a ∷ []) env
 
+-- And it offers them in the order of the set, so that a rule may use the listing in any comprehension.
+abbrev pub InOrderWhereMet : Option Alternative → Ex → Env → Type 0
+InOrderWhereMet None e env = Unit {0}
+InOrderWhereMet (Some a) e env = OffersInOrder e a env
+
 -- So it is of these kinds.
 pub record SetViewsAreListed : Type 0 where
-  pub of_occurrences : (x : Text) (e : Ex) (env : Env) → Unused x e → Meets e env → InnerThere e env → ListsWhereMet (occurrence_listing x e) e env
+  pub of_occurrences : (x : Text) (e : Ex) (env : Env) → Unused x e → Meets e env → InnerThere e env →
+      ListsWhereMet (occurrence_listing x e) e env
+  pub occurrences_in_order : (x : Text) (e : Ex) (env : Env) → Unused x e → Meets e env → InnerThere e env →
+      InOrderWhereMet (occurrence_listing x e) e env

@@ -120,7 +120,8 @@ pub fn functions_are_looked_up()
     ensures { FunctionsAreLookedUp }
 {}
 
-/// A view of a set kept as the members that occur lists the members of the set: those of the inner domain whose cell is true.
+/// A view of a set kept as the members that occur lists the members of the set, in their order: those of the inner domain whose
+/// cell is true. Tables that meet its structure meet that of the listing.
 pub fn set_views_are_listed()
     ensures { SetViewsAreListed }
 {}
