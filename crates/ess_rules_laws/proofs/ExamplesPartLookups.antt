@@ -1,15 +1,17 @@
 -- Worked examples of lookups of components, fields and items of matrices.
-use Rattle.std.specs.Prelude.{◌≡◌, refl, false, [], ◌∷◌, codes, List, Option, Some, None, option_map}
+use Rattle.std.specs.Prelude.{◌≡◌, refl, false, [], ◌∷◌, pos, codes, List, Option, Some, None, option_map}
 use Rattle.ess_semantics.specs.declared.words.Op2.{Op2}
 use Rattle.ess_semantics.specs.Values.{Text, a_tuple, a_record, a_matrix, Value, matrix, of_list, items_of}
 use Rattle.ess_semantics.specs.Names.{Names}
-use Rattle.ess_semantics.specs.Trees.{index, by_value, name_pat, Ex, node_ex, comp_ex, no_gens, from}
+use Rattle.ess_semantics.specs.Trees.{index, by_value, name_pat, Ex, node_ex, comp_ex, no_gens, from, repr, seen_ex, more_reprs, no_reprs, matrix_dom, more_doms, no_doms, no_exs}
+use Rattle.ess_semantics.specs.declared.words.ReprKind.{ReprKind}
+use Rattle.ess_semantics.specs.Tables.{row_of}
 use Rattle.ess_semantics.specs.Types.{Ty, bool_ty, int_ty, compound, compound2, no_tys, more_tys}
 use Rattle.ess_semantics.specs.Meaning.{Env, empty_env, meaning}
-use Rattle.ess_semantics.proofs.Shorthands.{N, n, v, bi, range, es2}
+use Rattle.ess_semantics.proofs.Shorthands.{N, n, v, bi, range, upto, es2}
 use Rattle.ess_rules_laws.specs.ComponentRules.{component_of, field_of}
 use Rattle.ess_rules_laws.specs.Lookups.{found}
-use Rattle.ess_rules_laws.specs.PartLookups.{lookup_through, part_lookup, matrix_lookup}
+use Rattle.ess_rules_laws.specs.PartLookups.{lookup_through, part_lookup, matrix_lookup, indices_of}
 use Rattle.ess_rules_laws.proofs.ExamplesLookups.{x, l}
 
 abbrev m : Text
@@ -73,3 +75,15 @@ nothing_at_5 = refl
 -- Over another domain the lookup has nothing at a number that is no index.
 over_another : finds (matrix_lookup types x (range (n 5) (n 6)) (at_index (n 5))) ≡ None
 over_another = refl
+
+-- ---- a view of such a matrix
+
+abbrev seen : Env
+seen = record empty_env { cells = (m, row_of (pos 3 ∷ pos 4 ∷ []) (pos 7 ∷ pos 8 ∷ [])) ∷ [] }
+
+abbrev view : Ex
+view = seen_ex (repr ReprKind.Matrix (more_reprs (repr ReprKind.Atom no_reprs) no_reprs))
+    (matrix_dom (more_doms (range (n 3) (n 4)) no_doms) (upto 9)) (m ∷ []) no_exs
+
+indices_of_the_view : option_map indices_of (meaning view seen) ≡ Some (v 3 ∷ v 4 ∷ [])
+indices_of_the_view = refl

@@ -68,3 +68,4 @@ pub mod UsedSlots
 pub mod FlagsListing
 pub mod MarkerListing
 pub mod OccurrencesInOrder
+pub mod MatrixViews

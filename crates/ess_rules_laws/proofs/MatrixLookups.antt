@@ -32,6 +32,7 @@ use Rattle.ess_rules_laws.proofs.Connectives.{binary-means}
 use Rattle.ess_rules_laws.proofs.Listing.{append-none}
 use Rattle.ess_rules_laws.proofs.Lookups.{single, collect-found}
 use Rattle.ess_rules_laws.proofs.FunctionLookups.{AnswerLooks, looks}
+use Rattle.ess_rules_laws.proofs.MatrixViews.{view-indexed}
 use Rattle.ess_rules_laws.proofs.PartLookups.{looks-so, fits-found, typed-fits, no, no-place, through-answer, part-answer}
 
 -- ---- lists in which each value is once
@@ -220,4 +221,5 @@ parts-looked = record {
   of_tuples_and_records = λ g x l e f q o s env t h m. looks (part_lookup g x l e) (unmarked e) f env (part-answer g x l e o s env t h m) q;
   of_matrices = λ g x d e f q o s env t h by m. looks (matrix_lookup g x d e) (unmarked e) f env (matrix-answer g x d e o s env t h by m) q;
   literals_are_indexed = literal-indexed;
+  views_are_indexed = view-indexed;
 }

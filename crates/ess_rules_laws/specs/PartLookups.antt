@@ -2,9 +2,10 @@
 -- matrix, whatever term gives it.
 use Rattle.std.specs.Prelude.{◌≡◌, Bool, true, false, ◌&&◌, ℕ, [], ◌∷◌, List, Option, Some, None, option_map, IsTrue, is_some, if◌then◌else◌}
 use Rattle.ess_semantics.specs.declared.words.Op2.{Op2}
+use Rattle.ess_semantics.specs.declared.words.ReprKind.{ReprKind}
 use Rattle.ess_semantics.specs.Values.{Text, a_tuple, a_record, a_matrix, Value, matrix, to_list}
 use Rattle.ess_semantics.specs.Names.{Names}
-use Rattle.ess_semantics.specs.Trees.{by_value, to_component, to_field, index, name_pat, Ex, Exs, name_ex, node_ex, matrix_ex, comp_ex, ex2, no_exs, more_exs, no_gens, over, from, cond, Dom}
+use Rattle.ess_semantics.specs.Trees.{by_value, to_component, to_field, index, name_pat, Ex, Exs, name_ex, node_ex, matrix_ex, comp_ex, ex2, no_exs, more_exs, no_gens, over, from, cond, Dom, Reprs, repr, seen_ex, Doms, more_doms, matrix_dom}
 use Rattle.ess_semantics.specs.Types.{Ty, compound, compound2, is_bool}
 use Rattle.ess_semantics.specs.Typing.{type_of, component_ty, field_ty}
 use Rattle.ess_semantics.specs.Typed.{Typed}
@@ -115,3 +116,7 @@ pub record PartsAreLookedUp : Type 0 where
   pub literals_are_indexed : (es : Exs) (d : Dom) (env : Env) → IsTrue (is_some (meaning (matrix_ex es d) env)) →
       Meets (matrix_ex es d) env →
       IndexedBy (matrix_ex es d) d env
+  pub views_are_indexed : (rs : Reprs) (d e : Dom) (ds : Doms) (ns : List Text) (js : Exs) (env : Env) →
+      IsTrue (is_some (members_in (domain_of d env))) →
+      Meets (seen_ex (repr ReprKind.Matrix rs) (matrix_dom (more_doms d ds) e) ns js) env →
+      IndexedBy (seen_ex (repr ReprKind.Matrix rs) (matrix_dom (more_doms d ds) e) ns js) d env
