@@ -103,7 +103,8 @@ bool-fits bool_dom d env v q m = go v (subst (λ z. IsMember z) (sym q) m)
 bool-fits _ d env v q m = refl
 
 -- The structures of an index list with one more index are met.
-pub last-met : (x : Text) (v : Value) (js : Exs) (env : Env) → NamesAreExs (λ a. not (same_text x a)) (λ a. true) js → MeetsAll false js env →
+pub last-met : (x : Text) (v : Value) (js : Exs) (env : Env) → NamesAreExs (λ a. not (same_text x a)) (λ a. true) js →
+    MeetsAll false js env →
     MeetsAll false (put_last js (name_ex x)) (behind x v env)
 last-met x v no_exs env o m = (tt, tt)
 last-met x v (more_exs e es) env o m = (meets-behind x v e env o.0 m.0, last-met x v es env o.1 m.1)
