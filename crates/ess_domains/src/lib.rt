@@ -21,6 +21,7 @@ mod verdicts;
 
 pub use assignments::{Assignment, NamedValue, TypeNames};
 pub use environments::{go_on, no_env};
+pub use ess_domains_cells::cells;
 pub use ess_eval::EvalNo;
 pub use membership::member;
 pub use parameters::param_fits;
