@@ -69,7 +69,7 @@ found_verdict e p s S a v before one two read later given more solved =
 -- ---- how a run ends
 
 -- an outcome that stops no file is the cause at none
-stops_nowhere : (outcome : Outcome) (at : Which) (e p s : List ℕ) (before after : FilesSeen)
+pub stops_nowhere : (outcome : Outcome) (at : Which) (e p s : List ℕ) (before after : FilesSeen)
     → ((file : List ℕ) (b a : FilesSeen) (P : List ℕ → TransNo → Type 0) → StopsAt outcome file b a P → ⊥)
     → StopCause at outcome e p s before after → ⊥
 stops_nowhere outcome Which.Essence e p s before after never h = never e h.0 after IsNoEssence h.2

@@ -12,3 +12,4 @@ pub mod JudgingLaws
 pub mod DecidedLaws
 pub mod RunLaws
 pub mod StandingLaws
+pub mod HoldingLaws

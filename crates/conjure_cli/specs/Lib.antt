@@ -10,3 +10,4 @@ pub mod Judging
 pub mod Decided
 pub mod Runs
 pub mod Standing
+pub mod Holding

@@ -6,6 +6,7 @@ ghost use Rattle.conjure_cli.specs.Tasks.{begins_with_dash, file_named, takes_me
 ghost use Rattle.conjure_cli.specs.Ending.{model_in, status_of, Ran, IsRefusal, LeavesErr};
 ghost use Rattle.conjure_cli.specs.Runs.{outcome_status, Ends, KeepsAllElse, UsageIsTwo, LaterIsThree, MissingBy, DecidesBy};
 ghost use Rattle.conjure_cli.specs.Standing.{ModelStands};
+ghost use Rattle.conjure_cli.specs.Holding.{SaysWhetherSolution};
 ghost use Rattle.conjure_cli.specs.Refusals.{unread, unrefined, unwritten};
 
 use crate::ending::{Ending, MODEL_FILE, put_wrote, report};
@@ -270,6 +271,10 @@ pub fn run<F: Files, O: Sink, E: Sink>(
     ensures stands { result.0 ≡ 0 → ModelStands (asked (map string_bytes words.now))
         (files_at (F.tree files.old) (F.faults files.old) (F.misses files.old))
         (files_at (F.tree files.new) (F.faults files.new) (F.misses files.new)) }
+
+    // Where a solution is judged, status 0 says that it is one, and status 1 that it is none.
+    ensures judged { SaysWhetherSolution result.0 (asked (map string_bytes words.now))
+        (files_at (F.tree files.old) (F.faults files.old) (F.misses files.old)) }
 
     // Status 2 comes exactly where the words don't fit, but for want of memory.
     ensures usage { UsageIsTwo result.0 (asked (map string_bytes words.now)) }
