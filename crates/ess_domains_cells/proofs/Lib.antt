@@ -1,3 +1,4 @@
+mod Examples
 pub mod KeptNumbers
 pub mod UncoveredNumbers
 pub mod RangeSweeps
@@ -10,9 +11,11 @@ pub mod CountsKept
 pub mod LayerForms
 pub mod LayerSteps
 pub mod KindForms
+pub mod PartKinds
 pub mod SizeSteps
 pub mod ShapeSteps
 pub mod TreeSteps
 pub mod TreeForms
+pub mod RelationForms
 pub mod TreeLoops
 pub mod CellCounts
