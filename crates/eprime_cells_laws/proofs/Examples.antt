@@ -69,7 +69,7 @@ without_index = refl
 
 other_ranges :
     table_of from_1_to_3 false
-        (matrix_ex (exs (n 1 ∷ n 2 ∷ n 1 ∷ [])) (int_dom (one_value ∷ both_ends ∷ both_ends ∷ []) (exs (n 3 ∷ n 2 ∷ n 1 ∷ n 1 ∷ n 2 ∷ []))))
+    (matrix_ex (exs (n 1 ∷ n 2 ∷ n 1 ∷ [])) (int_dom (one_value ∷ both_ends ∷ both_ends ∷ []) (exs (n 3 ∷ n 2 ∷ n 1 ∷ n 1 ∷ n 2 ∷ []))))
     ≡ three_items
 other_ranges = refl
 
@@ -99,7 +99,7 @@ of_empty_lists = refl
 -- `[[false, true; int(1..2)], [true, false]; int(1..2)]`
 two_axes :
     table_of ((pos 1 ∷ pos 2 ∷ []) ∷ (pos 1 ∷ pos 2 ∷ []) ∷ []) true
-        (indexed (indexed (no ∷ yes ∷ []) (n 1) (n 2) ∷ list (yes ∷ no ∷ []) ∷ []) (n 1) (n 2))
+    (indexed (indexed (no ∷ yes ∷ []) (n 1) (n 2) ∷ list (yes ∷ no ∷ []) ∷ []) (n 1) (n 2))
     ≡ Some (record { axes = (pos 1 ∷ pos 2 ∷ []) ∷ (pos 1 ∷ pos 2 ∷ []) ∷ []; items = pos 0 ∷ pos 1 ∷ pos 1 ∷ pos 0 ∷ [] })
 two_axes = refl
 

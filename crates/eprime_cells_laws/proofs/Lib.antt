@@ -1,1 +1,11 @@
+-- Lemmas
+pub mod SpelledTables
+pub mod DerivedCells
+pub mod ItemsBack
+pub mod TablesBack
+pub mod NamesBack
+pub mod CellsBack
+pub mod WholeText
+-- Worked examples
 pub mod Examples
+pub mod ExamplesTexts
