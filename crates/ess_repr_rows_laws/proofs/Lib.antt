@@ -1,0 +1,14 @@
+-- Tables that are stacked
+pub mod Blocks
+pub mod Stacked
+-- Slots in order
+pub mod RowOrder
+pub mod SlotsInOrder
+-- Tables that are cut apart
+pub mod CutTables
+pub mod UsedSlots
+-- One layer
+pub mod LayerDownRows
+pub mod LayerUpRows
+-- Kind by kind
+pub mod SlotLayers
