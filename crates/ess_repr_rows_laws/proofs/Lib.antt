@@ -12,3 +12,4 @@ pub mod LayerDownRows
 pub mod LayerUpRows
 -- Kind by kind
 pub mod SlotLayers
+pub mod ArgumentLayers
