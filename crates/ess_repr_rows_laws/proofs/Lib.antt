@@ -13,3 +13,5 @@ pub mod LayerUpRows
 -- Kind by kind
 pub mod SlotLayers
 pub mod ArgumentLayers
+pub mod OwnCells
+pub mod LayerValues

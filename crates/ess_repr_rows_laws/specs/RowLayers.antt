@@ -1,7 +1,8 @@
 -- The tables of one layer, kind by kind, as rows: made of the tables of its slots.
-use Rattle.std.specs.Prelude.{ℕ, Bool, true, false, List, [], ◌∷◌, map, length, replicate, ℤ, pos, Option, Some, None, is_some}
-use Rattle.ess_semantics.specs.Numbers.{one_to}
-use Rattle.ess_semantics.specs.Tables.{Tables, truth_number, one_cell, row_of}
+use Rattle.std.specs.Prelude.{ℕ, Bool, true, false, if◌then◌else◌, List, [], ◌∷◌, map, length, replicate, ℤ, pos, Option, Some, None, is_some, option_map}
+use Rattle.ess_semantics.specs.Lists.{and_then, each_of}
+use Rattle.ess_semantics.specs.Numbers.{one_to, not_below_0}
+use Rattle.ess_semantics.specs.Tables.{Tables, truth_number, truth_of, one_cell, row_of}
 use Rattle.ess_semantics.specs.Cells.{Axes}
 use Rattle.ess_repr_rows_laws.specs.SlotOrder.{rows_in, by_rows}
 use Rattle.ess_repr_rows_laws.specs.Stacking.{fitted, stacked}
@@ -42,3 +43,15 @@ counted_tables n ass cs =
 -- A flag for each place, and the tables of the places in use as they stand.
 abbrev pub flagged_tables : Axes → List Axes → List (Option Tables) → Tables
 flagged_tables bs ass ss = record { axes = bs; items = map (λ s. truth_number (is_some s)) ss } ∷ stacked bs ass ss
+
+-- ---- up
+
+-- The items whose mark is true, where each mark is a truth value.
+abbrev pub picked : {A : Type 0} → List ℤ → List A → Option (List A)
+picked [] xs = Some []
+picked (n ∷ ns) [] = Some []
+picked (n ∷ ns) (x ∷ xs) = and_then (truth_of n) (λ b. option_map (λ ys. if b then x ∷ ys else ys) (picked ns xs))
+
+-- The numbers of times, where none is below 0.
+abbrev pub times_of : List ℤ → Option (List ℕ)
+times_of ns = each_of ns not_below_0
