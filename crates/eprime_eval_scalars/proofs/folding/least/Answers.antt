@@ -1,0 +1,5 @@
+use Rattle.eprime_eval_scalars.proofs.Extremes.{least_loop}
+use Rattle.eprime_eval_scalars.proofs.folding.least.Goals as goal
+
+pub loop-k-preserved : goal.loop-k-preserved
+loop-k-preserved c = least_loop c.args.items.now c.loop-k.k _ _ _ c.loop-k-test.true c.loop-k.invariant c.lower.ensures

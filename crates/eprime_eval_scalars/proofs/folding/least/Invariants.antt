@@ -1,0 +1,7 @@
+use Rattle.std.proofs.Common.{◌≡◌, ◌-◌, map, drop, length, option_map}
+use Rattle.ess_semantics.specs.Operators.{least}
+use Rattle.eprime_eval_scalars.specs.ScalarViews.{pure_scalar}
+use Rattle.eprime_eval_scalars.proofs.folding.least.Given as goal
+
+abbrev pub invariant-loop-k : goal.invariant-loop-k
+invariant-loop-k l = option_map pure_scalar (l.found) ≡ least (map pure_scalar (drop (length l.items - l.k) l.items))
