@@ -1,0 +1,5 @@
+-- Sizes as expressions
+pub mod SizeTerms
+-- Children and declared tables
+pub mod ChildDomains
+pub mod DeclaredTrees
