@@ -4,8 +4,8 @@ use Rattle.ess_semantics.specs.declared.words.Op1.{Op1}
 use Rattle.ess_semantics.specs.declared.words.Op2.{Op2}
 use Rattle.ess_semantics.specs.declared.words.Fun.{Fun}
 use Rattle.ess_semantics.specs.Values.{a_matrix}
-use Rattle.ess_semantics.specs.Trees.{unary, binary, word, one_value, both_ends, low_end, name_pat, Ex, number_ex, truth_ex, name_ex, comp_ex, cell_ex, no_exs, more_exs, no_gens, over, cond, Dom, bool_dom, int_dom, plain_node}
-use Rattle.ess_semantics.specs.Types.{Ty, any_ty, bool_ty, int_ty, compound2}
+use Rattle.ess_semantics.specs.Trees.{unary, binary, word, one_value, both_ends, low_end, name_pat, Ex, number_ex, truth_ex, name_ex, comp_ex, cell_ex, no_exs, no_gens, over, cond, Dom, bool_dom, int_dom, plain_node}
+use Rattle.ess_semantics.specs.Types.{any_ty, bool_ty, int_ty, compound2}
 use Rattle.ess_semantics.specs.DeclaredTables.{TableDecl}
 use Rattle.ess_semantics.specs.ModelMeaning.{Kinded, kinded, kinded_dom, nothing}
 use Rattle.ess_grammar.specs.Grammar.{one_ex, two_exs}
@@ -57,7 +57,8 @@ an_index_of_bool : here (cell_ex true (codes "m") (one_ex (truth_ex true))) ≡ 
 an_index_of_bool = refl
 
 -- an index that has nothing stays, so that the cell has nothing, and is false
-an_index_of_nothing : here (cell_ex true (codes "m") (one_ex (name_ex (codes "q")))) ≡ (cell_ex true (codes "m") (one_ex (name_ex [])), bool_ty)
+an_index_of_nothing : here (cell_ex true (codes "m") (one_ex (name_ex (codes "q"))))
+    ≡ (cell_ex true (codes "m") (one_ex (name_ex [])), bool_ty)
 an_index_of_nothing = refl
 
 -- ---- operators
@@ -70,7 +71,8 @@ to_int_of_a_number : here (plain_node (word Fun.ToInt) (one_ex the_n)) ≡ (name
 to_int_of_a_number = refl
 
 -- `toInt` of what is false is 0; a number above it then fits
-a_number_of_false : here (plain_node (word Fun.ToInt) (one_ex (plain_node (unary Op1.Not) (one_ex the_n)))) ≡ (plain_node (word Fun.ToInt) (one_ex (truth_ex false)), int_ty)
+a_number_of_false : here (plain_node (word Fun.ToInt) (one_ex (plain_node (unary Op1.Not) (one_ex the_n))))
+    ≡ (plain_node (word Fun.ToInt) (one_ex (truth_ex false)), int_ty)
 a_number_of_false = refl
 
 -- an operand that has nothing, though it fits everywhere
@@ -93,7 +95,8 @@ a_sum_of_truth_values = refl
 -- ---- bounds
 
 -- a bound of another kind has nothing
-a_bound_of_bool : kinded_dom tables (int_dom (both_ends ∷ []) (two_exs (num 1) (truth_ex true))) [] ≡ int_dom (both_ends ∷ []) (two_exs (num 1) (name_ex []))
+a_bound_of_bool : kinded_dom tables (int_dom (both_ends ∷ []) (two_exs (num 1) (truth_ex true))) []
+    ≡ int_dom (both_ends ∷ []) (two_exs (num 1) (name_ex []))
 a_bound_of_bool = refl
 
 by_itself : bounds_by here (one_value, truth_ex true ∷ []) ≡ (one_value, name_ex [] ∷ [])
@@ -108,7 +111,8 @@ from_one_on = refl
 
 -- ---- items in front
 
-in_front : with_items (over_item (codes "i") (int_to 3) ∷ cond_item (truth_ex true) ∷ []) (comp_ex (num 1) no_gens, int_ty) ≡ (comp_ex (num 1) (over (name_pat (codes "i")) (int_to 3) (cond (truth_ex true) no_gens)), int_ty)
+in_front : with_items (over_item (codes "i") (int_to 3) ∷ cond_item (truth_ex true) ∷ []) (comp_ex (num 1) no_gens, int_ty)
+    ≡ (comp_ex (num 1) (over (name_pat (codes "i")) (int_to 3) (cond (truth_ex true) no_gens)), int_ty)
 in_front = refl
 
 -- ---- shapes

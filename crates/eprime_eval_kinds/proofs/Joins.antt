@@ -1,5 +1,5 @@
 -- The kind with which all agree, from the last one on.
-use Rattle.std.proofs.Common.{◌≡◌, refl, sym, ap, ◌∙◌, ℕ, ◌+◌, ◌<◌, ◌≤◌, ◌&&◌, List, [], ◌∷◌, ◌++◌, map, take, drop, length, get_or, Option, Some, None, option_map}
+use Rattle.std.proofs.Common.{◌≡◌, refl, sym, ap, ◌∙◌, ℕ, ◌+◌, ◌<◌, ◌&&◌, List, [], ◌∷◌, ◌++◌, map, take, drop, length, get_or, Some, None}
 use Rattle.std.specs.List.{list_all}
 use Rattle.std.proofs.lemmas.List.{map-append, take-append-drop, drop_more}
 use Rattle.ess_semantics.specs.Lists.{and_then}
@@ -9,9 +9,11 @@ use Rattle.eprime_eval_kinds.specs.declared.tree.Kind.{Kind}
 use Rattle.eprime_eval_kinds.specs.KindedViews.{pure_kind}
 
 -- The next agrees with those behind it.
-pub joined_more : (ks : List Kind) (n : ℕ) (d j both : Kind) → n < length ks → Some (pure_kind j) ≡ join_all (map pure_kind (drop (n + 1) ks))
+pub joined_more : (ks : List Kind) (n : ℕ) (d j both : Kind) → n < length ks
+    → Some (pure_kind j) ≡ join_all (map pure_kind (drop (n + 1) ks))
     → Some (pure_kind both) ≡ join (pure_kind (get_or ks n d)) (pure_kind j) → Some (pure_kind both) ≡ join_all (map pure_kind (drop n ks))
-joined_more ks n d j both lt p q = q ∙ ap (λ o. and_then o (join (pure_kind (get_or ks n d)))) p ∙ sym (ap (λ l. join_all (map pure_kind l)) (drop_more ks n d lt))
+joined_more ks n d j both lt p q = q ∙ ap (λ o. and_then o (join (pure_kind (get_or ks n d)))) p
+    ∙ sym (ap (λ l. join_all (map pure_kind l)) (drop_more ks n d lt))
 
 none-behind : (ts us : List Ty) → join_all us ≡ None → join_all (ts ++ us) ≡ None
 none-behind [] us e = e

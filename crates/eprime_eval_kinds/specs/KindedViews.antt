@@ -1,7 +1,7 @@
 -- The pure trees that expressions and domains stand for as they are evaluated. A cell's number is that of its table's
 -- declaration, and `names` are the declared names in order.
-use Rattle.std.specs.Prelude.{ℕ, false, List, [], ◌∷◌, map, get_or}
-use Rattle.ess_semantics.specs.Values.{Text, a_matrix}
+use Rattle.std.specs.Prelude.{ℕ, false, List, [], ◌∷◌, get_or}
+use Rattle.ess_semantics.specs.Values.{Text}
 use Rattle.ess_semantics.specs.Types.{Ty, any_ty, bool_ty, int_ty}
 use Rattle.ess_semantics.specs.ModelMeaning as model
 use Rattle.ess_semantics.specs.Trees as pure

@@ -54,7 +54,8 @@ module _ (ss : List Shape) where
 
   -- Several expressions with their kinds.
   pub record AreKinded (g : Names Ty) (es : List PEx) (r : KindedRow) : Type 0 where
-    pub means : (ds : List TableDecl) (s : Scope) → map shape_of ds ≡ ss → pure_row (names_of ss) r ≡ model.kinded_all ds (exs_of (map (pure_ex s) es)) g
+    pub means : (ds : List TableDecl) (s : Scope) → map shape_of ds ≡ ss
+        → pure_row (names_of ss) r ≡ model.kinded_all ds (exs_of (map (pure_ex s) es)) g
 
   -- A list with its kind, or what has nothing.
   pub record IsKindedList (g : Names Ty) (l : PList) (o : Option KindedList) : Type 0 where
@@ -63,7 +64,8 @@ module _ (ss : List Shape) where
   -- Generators and conditions, which bring names into scope: h are then the kinds of all.
   pub record AreKindedGens (g : Names Ty) (xs : List PGen) (ks : List KGen) (h : Names Ty) : Type 0 where
     pub means : (ds : List TableDecl) (s : Scope) → map shape_of ds ≡ ss → (is : List Item) (k : Names Ty → model.Kinded)
-        → model.kinded_under ds (gens_of (map (pure_gen s) xs ++ is)) g k ≡ with_items (map (pure_kgen (names_of ss)) ks) (model.kinded_under ds (gens_of is) h k)
+        → model.kinded_under ds (gens_of (map (pure_gen s) xs ++ is)) g k
+        ≡ with_items (map (pure_kgen (names_of ss)) ks) (model.kinded_under ds (gens_of is) h k)
 
   -- A generator or a condition.
   abbrev pub IsKindedGen : Names Ty → PGen → KGen → Names Ty → Type 0
@@ -71,7 +73,8 @@ module _ (ss : List Shape) where
 
   -- A bound of a range.
   pub record IsKindedBound (g : Names Ty) (e : PEx) (k : KEx) : Type 0 where
-    pub means : (ds : List TableDecl) (s : Scope) → map shape_of ds ≡ ss → pure_kex (names_of ss) k ≡ as_bound (model.kinded ds (pure_ex s e) g)
+    pub means : (ds : List TableDecl) (s : Scope) → map shape_of ds ≡ ss
+        → pure_kex (names_of ss) k ≡ as_bound (model.kinded ds (pure_ex s e) g)
 
   -- A bound that may be missing.
   pub record IsKindedEnd (g : Names Ty) (o : Option PEx) (k : Option KEx) : Type 0 where
@@ -84,7 +87,8 @@ module _ (ss : List Shape) where
 
   -- A range.
   pub record IsKindedRange (g : Names Ty) (r : PRange) (k : KRange) : Type 0 where
-    pub means : (ds : List TableDecl) (s : Scope) → map shape_of ds ≡ ss → pure_krange (names_of ss) k ≡ bounds_by (λ e. model.kinded ds e g) (pure_range s r)
+    pub means : (ds : List TableDecl) (s : Scope) → map shape_of ds ≡ ss
+        → pure_krange (names_of ss) k ≡ bounds_by (λ e. model.kinded ds e g) (pure_range s r)
 
   -- Several ranges.
   pub record AreKindedRanges (g : Names Ty) (rs : List PRange) (ks : List KRange) : Type 0 where

@@ -19,4 +19,5 @@ first_of (Some x) o = Some x
 -- A map with the number n for one name more, where it has none for it yet.
 abbrev pub Noted : {A : Type 0} → Text → ℕ → List (String A × ℕ) → List (String A × ℕ) → Type 0
 Noted name n es fs =
-    (a : Text) → lookup (λ k. bytes_eq a (string_bytes k)) fs ≡ first_of (lookup (λ k. bytes_eq a (string_bytes k)) es) (if same_text name a then Some n else None)
+    (a : Text) → lookup (λ k. bytes_eq a (string_bytes k)) fs
+    ≡ first_of (lookup (λ k. bytes_eq a (string_bytes k)) es) (if same_text name a then Some n else None)

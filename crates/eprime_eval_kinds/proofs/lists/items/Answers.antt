@@ -1,4 +1,4 @@
-use Rattle.std.proofs.Common.{◌≡◌, ◌∙◌, sym, ap, [], map}
+use Rattle.std.proofs.Common.{◌∙◌, sym, ap, [], map}
 use Rattle.std.specs.List.{list_any}
 use Rattle.ess_semantics.specs.ModelMeaning.{is_nothing}
 use Rattle.eprime_eval_kinds.specs.KindedViews.{pure_kex, pure_kind}
@@ -8,7 +8,8 @@ use Rattle.eprime_eval_kinds.proofs.lists.items.Goals as goal
 
 pub returns-then-some_nothing : goal.returns-then-some_nothing
 returns-then-some_nothing c = λ names.
-    items_empty names c.args.row (sym c.if-some_nothing.true ∙ c.some_nothing.ensures ∙ ap (list_any (λ e. is_nothing (pure_kex [] e))) c.as_slice.ensures)
+    items_empty names c.args.row (sym c.if-some_nothing.true ∙ c.some_nothing.ensures
+    ∙ ap (list_any (λ e. is_nothing (pure_kex [] e))) c.as_slice.ensures)
 
 pub returns-in_ok-new-in-Some : goal.returns-in_ok-new-in-Some
 returns-in_ok-new-in-Some c = λ names.

@@ -1,11 +1,4 @@
-use Rattle.std.proofs.Common.{◌≡◌, ◌∙◌, refl, sym, ap, subst, List, [], ◌∷◌, Some, None}
-use Rattle.ess_semantics.specs.Values.{Text}
-use Rattle.ess_semantics.specs.Trees.{binary, word, no_exs, more_exs}
-use Rattle.ess_semantics.specs.OperatorTypes.{type_of_op}
-use Rattle.ess_semantics.specs.ModelMeaning.{kinded_node}
-use Rattle.eprime_tree.specs.Views.{pure_op2, pure_fun}
-use Rattle.eprime_eval_kinds.specs.KindedViews.{pure_kinded}
-use Rattle.eprime_eval_kinds.specs.KindedLists.{pure_listed}
+use Rattle.std.proofs.Common.{refl, Some, None}
 use Rattle.eprime_eval_kinds.proofs.Results.{ok-map}
 use Rattle.eprime_eval_kinds.proofs.MadeNodes.{lex_at, lex_none, lex_second_none}
 use Rattle.eprime_eval_kinds.proofs.operators.lex.Goals as goal
@@ -13,7 +6,8 @@ use Rattle.eprime_eval_kinds.proofs.operators.lex.Goals as goal
 pub returns-in-Some-Some : goal.returns-in-Some-Some
 returns-in-Some-Some c =
     ok-map c.lex_lists.result
-    (λ k h names. lex_at names c.args.op c.args.a c.args.b (Some c.in-Some-Some.a) (Some c.in-Some-Some.b) k c.in-Some-Some.is-0 c.in-Some-Some.is-1 (h names)) c.lex_lists.ensures
+    (λ k h names. lex_at names c.args.op c.args.a c.args.b (Some c.in-Some-Some.a)
+    (Some c.in-Some-Some.b) k c.in-Some-Some.is-0 c.in-Some-Some.is-1 (h names)) c.lex_lists.ensures
 
 pub returns-in-Some-None : goal.returns-in-Some-None
 returns-in-Some-None c =
@@ -25,4 +19,5 @@ pub returns-in-None-default : goal.returns-in-None-default
 returns-in-None-default c =
     ok-map c.broken-in-None-default.result
     (λ k h names. lex_at names c.args.op c.args.a c.args.b None c.args.b k c.in-None-default.is-0 refl
-    (lex_none names c.args.op c.args.b k c.kind_of_two-in-None-default.result c.kind_of_two-in-None-default.ensures (h names))) c.broken-in-None-default.ensures
+    (lex_none names c.args.op c.args.b k c.kind_of_two-in-None-default.result c.kind_of_two-in-None-default.ensures (h names)))
+    c.broken-in-None-default.ensures
