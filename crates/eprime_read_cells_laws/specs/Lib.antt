@@ -1,0 +1,2 @@
+pub mod CellMachine
+pub mod Laws
