@@ -1,3 +1,2 @@
-pub mod Lexing
 pub mod ValueViews
 pub mod MachineViews

@@ -11,7 +11,8 @@ use Rattle.eprime_cells_machine.specs.declared.values.Number.{Number}
 use Rattle.eprime_cells_machine.specs.declared.values.CellRange.{CellRange}
 use Rattle.eprime_cells_machine.specs.declared.values.CellValue.{CellValue}
 use Rattle.eprime_cells_machine.specs.declared.values.CellValue.TheOpen.{CellValue-F, CellList-F}
-use Rattle.eprime_cells_machine.specs.declared.values.CellValue.TheFolds.{fold-CellValue}
+use Rattle.eprime_cells_machine.specs.declared.values.CellValue.TheFolds.{fold-CellValue, fold-CellList}
+use Rattle.eprime_cells_machine.specs.declared.values.CellList.{CellList}
 use Rattle.eprime_cells_machine.specs.declared.values.CellLetting.{CellLetting}
 
 -- A number, or `-` before its opposite.
@@ -52,6 +53,10 @@ list_step l = list_of l.items l.ranges
 -- The expression of a value.
 abbrev pub pure_value : CellValue → Ex
 pure_value = fold-CellValue Ex Ex value_step list_step
+
+-- The expression of a list.
+abbrev pub pure_list : CellList → Ex
+pure_list = fold-CellList Ex Ex value_step list_step
 
 -- A name with its value.
 abbrev pub pure_letting : CellLetting → Text × Ex

@@ -3,7 +3,7 @@ ghost use Rattle.std.specs.Option.{option_map};
 ghost use Rattle.std.specs.Str.{IsAscii};
 ghost use Rattle.ess_semantics.specs.Values.{Text};
 ghost use Rattle.ess_grammar.specs.Kinds.{token};
-ghost use Rattle.eprime_cells_machine.specs.Lexing.{IsNatural};
+ghost use Rattle.ess_lex.specs.Lexing.{IsNatural};
 ghost use Rattle.eprime_read_cells_laws.specs.CellMachine.{step_letting_wanted, step_nothing_read, step_name, step_be, cells_step_at, cells_step, cells_finish, cells_start};
 ghost use Rattle.eprime_cells_machine.specs.ValueViews.{pure_lettings};
 ghost use Rattle.eprime_cells_machine.specs.MachineViews.{view_state, view_wanted, view_machine};
@@ -11,7 +11,7 @@ ghost use Rattle.eprime_cells_machine.specs.MachineViews.{view_state, view_wante
 use crate::stages::{Begun, Stage, State, Wanted};
 use crate::steps::step_value;
 use crate::values::CellLetting;
-use ess_grammar::Kind;
+use ess_lex::Kind;
 use ess_rows::{NoMemory, Row, Text};
 use std::alloc::Global;
 

@@ -4,7 +4,7 @@ ghost use Rattle.ess_semantics.specs.Values.{Text};
 ghost use Rattle.ess_semantics.specs.Names.{Names};
 ghost use Rattle.ess_semantics.specs.Trees.{one_value, both_ends, Ex};
 ghost use Rattle.ess_grammar.specs.Kinds.{token};
-ghost use Rattle.eprime_cells_machine.specs.Lexing.{IsNatural};
+ghost use Rattle.ess_lex.specs.Lexing.{IsNatural};
 ghost use Rattle.eprime_read_cells_laws.specs.CellMachine.{step_behind_range, step_low_wanted, step_low_digits, step_low_read, step_high_wanted, step_high_digits, step_ranges};
 ghost use Rattle.eprime_cells_machine.specs.ValueViews.{pure_number, all_ends, all_bounds};
 ghost use Rattle.eprime_cells_machine.specs.MachineViews.{view_range_stage, in_stage};
@@ -12,7 +12,7 @@ ghost use Rattle.eprime_cells_machine.specs.MachineViews.{view_range_stage, in_s
 use crate::numbers::{minus, plain};
 use crate::stages::{RangeStage, Stage};
 use crate::values::{CellRange, Number};
-use ess_grammar::Kind;
+use ess_lex::Kind;
 use ess_rows::{NoMemory, Row};
 
 /// The stage behind a token that stands behind a whole range.

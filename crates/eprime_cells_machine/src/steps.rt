@@ -2,7 +2,7 @@ ghost use Rattle.std.specs.Prelude.{◌≡◌, [], ◌∷◌, IfOk};
 ghost use Rattle.std.specs.Option.{option_map};
 ghost use Rattle.ess_semantics.specs.Values.{Text};
 ghost use Rattle.ess_grammar.specs.Kinds.{token};
-ghost use Rattle.eprime_cells_machine.specs.Lexing.{IsNatural};
+ghost use Rattle.ess_lex.specs.Lexing.{IsNatural};
 ghost use Rattle.eprime_read_cells_laws.specs.CellMachine.{step_value_wanted, step_first_wanted, step_digits, step_item_read, step_int_wanted, step_open_wanted, step_close, step_value};
 ghost use Rattle.eprime_cells_machine.specs.ValueViews.{pure_lettings, all_ends, all_bounds};
 ghost use Rattle.eprime_cells_machine.specs.MachineViews.{view_state, view_stage, view_lists};
@@ -12,7 +12,7 @@ use crate::numbers::{minus, plain};
 use crate::ranges::step_ranges;
 use crate::stages::{Begun, RangeStage, Stage, State};
 use crate::values::{CellRange, CellValue};
-use ess_grammar::Kind;
+use ess_lex::Kind;
 use ess_rows::{NoMemory, Row};
 use std::alloc::Global;
 
