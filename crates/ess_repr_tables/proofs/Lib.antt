@@ -1,0 +1,4 @@
+-- Lemmas on loops
+pub mod StackedTables
+pub mod SortedTables
+pub mod UsedNumbers

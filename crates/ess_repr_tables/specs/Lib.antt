@@ -1,0 +1,3 @@
+-- Slots with their tables
+pub mod SlotViews
+pub mod UseViews
