@@ -21,7 +21,8 @@ use Rattle.eprime_cells_laws.proofs.NamesBack.{none-missing, none-extra, AllFoun
 
 module _ (known : List TableDecl) (q : Names Table) where
   -- What is known of tables that fit their declarations: one, and the others.
-  pub fit-parts : (d : TableDecl) (ds : List TableDecl) (c : Text × Table) (cs : Names Table) → tables_fit known q (d ∷ ds) (c ∷ cs) ≡ true →
+  pub fit-parts : (d : TableDecl) (ds : List TableDecl) (c : Text × Table) (cs : Names Table) →
+      tables_fit known q (d ∷ ds) (c ∷ cs) ≡ true →
       (d.name ≡ c.0) × (table_fits known q d c.1 ≡ true) × (tables_fit known q ds cs ≡ true)
   fit-parts d ds c cs h =
       let both = and_parts (same_text d.name c.0 && table_fits known q d c.1) (tables_fit known q ds cs) h in
@@ -41,7 +42,8 @@ module _ (known : List TableDecl) (q : Names Table) where
   literals-keys (d ∷ ds) [] h = cc
   literals-keys (d ∷ ds) (c ∷ cs) h = ap (λ ns. c.0 ∷ ns) (literals-keys ds cs (fit-parts d ds c cs h).2)
 
-  tables-back : (all : Names Ex) (ds : List TableDecl) (cs : Names Table) → tables_fit known q ds cs ≡ true → list_all is_printable_table cs ≡ true →
+  tables-back : (all : Names Ex) (ds : List TableDecl) (cs : Names Table) → tables_fit known q ds cs ≡ true →
+      list_all is_printable_table cs ≡ true →
       AllFound all (cells_literals ds cs) → tables_of known q ds all ≡ tables cs
   tables-back all [] [] h p f = refl
   tables-back all [] (c ∷ cs) h p f = cc
@@ -51,7 +53,8 @@ module _ (known : List TableDecl) (q : Names Table) where
       let printable = and_parts (is_printable_table c) (list_all is_printable_table cs) p in
       let numbers = and_parts (is_name_token c.0) (list_all is_plain_axis c.1.axes && list_all in_64_bits c.1.items) printable.0 in
       let axes = (and_parts (list_all is_plain_axis c.1.axes) (list_all in_64_bits c.1.items) numbers.1).0 in
-      let next : Option Table → CellsAnswer = λ o. elim o [ None ↦ outside_domain d.name | Some t ↦ with_table d.name t (tables_of known q ds all) ] in
+      let next : Option Table → CellsAnswer =
+      λ o. elim o [ None ↦ outside_domain d.name | Some t ↦ with_table d.name t (tables_of known q ds all) ] in
       ap (λ a. next (and_then (look all a) (declared_table known q d))) parts.0
       ∙ ap (λ o. next (and_then o (declared_table known q d))) f.0
       ∙ ap next (table-back known q d c.1 parts.1 axes)
@@ -67,7 +70,8 @@ module _ (known : List TableDecl) (q : Names Table) where
       let names : keys es ≡ map (λ d. d.name) ds = literals-keys ds cs h ∙ sym (names-fit ds cs h) in
       let missing : first_missing ds (keys es) ≡ None = ap (first_missing ds) names ∙ none-missing ds in
       let distinct : all_distinct (map (λ d. d.name) ds) ≡ true = ap all_distinct (names-fit ds cs h) ∙ parts.0 in
-      let extra : first_extra (map (λ d. d.name) ds) (keys es) ≡ None = ap (first_extra (map (λ d. d.name) ds)) names ∙ none-extra (map (λ d. d.name) ds) distinct in
+      let extra : first_extra (map (λ d. d.name) ds) (keys es) ≡ None = ap (first_extra (map (λ d. d.name) ds)) names
+      ∙ none-extra (map (λ d. d.name) ds) distinct in
       let found = all-found es (ap all_distinct (literals-keys ds cs h) ∙ parts.0) in
       let later : Option Text → CellsAnswer = λ o. elim o [ Some x ↦ extra_letting x | None ↦ tables_of known q ds es ] in
       ap (λ o. elim o [ Some x ↦ missing_letting x | None ↦ later (first_extra (map (λ d. d.name) ds) (keys es)) ]) missing

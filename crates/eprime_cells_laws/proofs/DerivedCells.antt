@@ -21,12 +21,14 @@ number-derived (negsuc n) us = minus_number
 -- ---- runs
 
 runs-derived : (r : Run) (rs : List Run) (us : List Piece) →
-    CellRanges (run_ends (r ∷ rs)) (run_bounds (r ∷ rs)) (tokens_of (commas (range_printers (run_ends (r ∷ rs)) (operands (run_bounds (r ∷ rs)))) us)) (tokens_of us)
+    CellRanges (run_ends (r ∷ rs)) (run_bounds (r ∷ rs))
+    (tokens_of (commas (range_printers (run_ends (r ∷ rs)) (operands (run_bounds (r ∷ rs)))) us)) (tokens_of us)
 runs-derived r [] us =
     last_cell_range (numbers_range (number-derived r.0 (sign dots ∷ ex_pieces (number_literal r.1) us)) (number-derived r.1 us))
 runs-derived r (s ∷ rs) us =
     let rest = comma_space (commas (range_printers (run_ends (s ∷ rs)) (operands (run_bounds (s ∷ rs)))) us) in
-    next_cell_range (numbers_range (number-derived r.0 (sign dots ∷ ex_pieces (number_literal r.1) rest)) (number-derived r.1 rest)) (runs-derived s rs us)
+    next_cell_range (numbers_range (number-derived r.0 (sign dots ∷ ex_pieces (number_literal r.1) rest)) (number-derived r.1 rest))
+    (runs-derived s rs us)
 
 -- There is one or more.
 data SomeRuns : List Run → Type 0 where
@@ -52,7 +54,8 @@ AllDerived [] = Unit {0}
 AllDerived (v ∷ vs) = Derived v × AllDerived vs
 
 values-derived : (v : Value) (vs : List Value) → AllDerived (v ∷ vs) → (us : List Piece) →
-    CellValues (literals_of no_names (of_list (v ∷ vs))) (tokens_of (commas (wholes (operands (literals_of no_names (of_list (v ∷ vs))))) us)) (tokens_of us)
+    CellValues (literals_of no_names (of_list (v ∷ vs)))
+    (tokens_of (commas (wholes (operands (literals_of no_names (of_list (v ∷ vs))))) us)) (tokens_of us)
 values-derived v [] h us = last_value (h.0 us)
 values-derived v (w ∷ vs) h us =
     next_value (h.0 (comma_space (commas (wholes (operands (literals_of no_names (of_list (w ∷ vs))))) us))) (values-derived w vs h.1 us)
@@ -61,7 +64,8 @@ indexed-derived : (rs : List Run) → SomeRuns rs → (v : Value) (vs : List Val
     let es = literals_of no_names (of_list (v ∷ vs)) in let d = int_dom (run_ends rs) (run_bounds rs) in
     CellValue (matrix_ex es d) (tokens_of (ex_pieces (matrix_ex es d) us)) (tokens_of us)
 indexed-derived rs (some_runs {r = r} {rs = ss}) v vs h us =
-    indexed_value (values-derived v vs h (sign semicolon ∷ space ∷ dom_pieces (int_dom (run_ends rs) (run_bounds rs)) (sign close_square ∷ us)))
+    indexed_value
+    (values-derived v vs h (sign semicolon ∷ space ∷ dom_pieces (int_dom (run_ends rs) (run_bounds rs)) (sign close_square ∷ us)))
     (runs-derived r ss (sign close_round ∷ sign close_square ∷ us))
 
 cell-derived : (b : Bool) (n : ℤ) → Derived (cell_value b n)
@@ -72,7 +76,8 @@ cell-derived true n us = go (elim (truth_of n) [ Some b ↦ b | None ↦ false ]
     go true = true_value
     go false = false_value
 
-rows-derived : (f : List ℤ → Value) → ((is : List ℤ) → Derived (f is)) → (a : List ℤ) (v : ℕ) (is : List ℤ) → AllDerived (map f (rows_from a v is))
+rows-derived : (f : List ℤ → Value) → ((is : List ℤ) → Derived (f is)) → (a : List ℤ) (v : ℕ) (is : List ℤ) →
+    AllDerived (map f (rows_from a v is))
 rows-derived f p [] v is = tt
 rows-derived f p (x ∷ xs) v is = (p is, rows-derived f p xs v (drop v is))
 

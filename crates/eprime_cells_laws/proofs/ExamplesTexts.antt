@@ -25,7 +25,8 @@ unfolding digits
 one_axis = refl
 
 -- The index domain has the maximal runs of the axis.
-three_runs : written false ((negsuc 1 ∷ negsuc 0 ∷ pos 3 ∷ pos 5 ∷ pos 6 ∷ []) ∷ []) (pos 0 ∷ pos 0 ∷ pos 0 ∷ pos 0 ∷ pos 0 ∷ []) ≡ codes "[0, 0, 0, 0, 0; int(-2..-1, 3..3, 5..6)]"
+three_runs : written false ((negsuc 1 ∷ negsuc 0 ∷ pos 3 ∷ pos 5 ∷ pos 6 ∷ []) ∷ []) (pos 0 ∷ pos 0 ∷ pos 0 ∷ pos 0 ∷ pos 0 ∷ [])
+    ≡ codes "[0, 0, 0, 0, 0; int(-2..-1, 3..3, 5..6)]"
 unfolding digits
 three_runs = refl
 

@@ -35,7 +35,8 @@ truth-back n h = go (same_int n (pos 0)) refl
         let f = same_int-equal n (pos 1) (ap (λ i. i || same_int n (pos 1)) (sym e) ∙ h) in
         subst (λ m. item_of_value true (Some (cell_value true m)) ≡ Some m) (sym f) refl
 
-item-back : (b : Bool) (n : ℤ) → (b ≡ true → is_cell booleans n ≡ true) → item_of_value b (meaning (literal_of no_names (cell_value b n)) empty_env) ≡ Some n
+item-back : (b : Bool) (n : ℤ) → (b ≡ true → is_cell booleans n ≡ true) →
+    item_of_value b (meaning (literal_of no_names (cell_value b n)) empty_env) ≡ Some n
 item-back true n h = truth-back n (h refl)
 item-back false n h = ap (item_of_value false) (number-means n empty_env)
 
@@ -57,7 +58,8 @@ are-numbers : (a : List ℤ) → AllNumbers (map number a)
 are-numbers [] = tt
 are-numbers (x ∷ xs) = are-numbers xs
 
-index-back : (x : ℤ) (xs : List ℤ) → rises itself (map number (x ∷ xs)) ≡ true → is_index_of (x ∷ xs) (index_literal (of_list (map number (x ∷ xs)))) ≡ true
+index-back : (x : ℤ) (xs : List ℤ) → rises itself (map number (x ∷ xs)) ≡ true →
+    is_index_of (x ∷ xs) (index_literal (of_list (map number (x ∷ xs)))) ≡ true
 index-back x xs h =
     let found = numbers-printed empty_env x (map number xs) (are-numbers xs) h in
     ap (λ o. is_some_and (option_map (map code) o) (λ is. same_ints is (x ∷ xs))) found.members
@@ -89,7 +91,8 @@ taken zero m is = let e : m ≡ 0 + m = omega arith in ap (λ k. take k is) e
 taken (suc v) m [] = take-none m ∙ sym (take-none (suc v + m))
 taken (suc v) m (n ∷ is) = let e : suc (v + m) ≡ suc v + m = omega arith in ap (λ l. n ∷ l) (taken v m is) ∙ ap (λ k. take k (n ∷ is)) e
 
-one-more : (y t : List ℤ) (o : Option (List (List ℤ))) → option_map append_all o ≡ Some t → option_map append_all (option_map (λ ys. y ∷ ys) o) ≡ Some (y ++ t)
+one-more : (y t : List ℤ) (o : Option (List (List ℤ))) → option_map append_all o ≡ Some t →
+    option_map append_all (option_map (λ ys. y ∷ ys) o) ≡ Some (y ++ t)
 one-more y t None h = cc
 one-more y t (Some ys) h = let e : append_all ys ≡ t = cc in ap (λ l. Some (y ++ l)) e
 
@@ -109,19 +112,24 @@ first_row n v l h = omega (arith, h)
 
 -- The rows stand for the items, one behind the other.
 rows-back : (b : Bool) (f : List ℤ → Ex) (g : Ex → Option (List ℤ)) (v : ℕ) →
-    ((is : List ℤ) → ItemsFit b is → v ≤ length is → g (f is) ≡ Some (take v is)) → (a : List ℤ) (is : List ℤ) → ItemsFit b is → length a * v ≤ length is →
+    ((is : List ℤ) → ItemsFit b is → v ≤ length is → g (f is) ≡ Some (take v is)) → (a : List ℤ) (is : List ℤ) → ItemsFit b is →
+    length a * v ≤ length is →
     option_map append_all (each_of (map f (rows_from a v is)) g) ≡ Some (take (length a * v) is)
 rows-back b f g v p [] is h k = let e : 0 ≡ 0 * v = omega arith in ap (λ n. Some (take n is)) e
 rows-back b f g v p (x ∷ xs) is h k =
-    ap (λ o. option_map append_all (and_then o (λ y. option_map (λ ys. y ∷ ys) (each_of (map f (rows_from xs v (drop v is))) g)))) (p is h (one_row (length xs) v (length is) k))
+    ap (λ o. option_map append_all (and_then o (λ y. option_map (λ ys. y ∷ ys) (each_of (map f (rows_from xs v (drop v is))) g))))
+    (p is h (one_row (length xs) v (length is) k))
     ∙ one-more (take v is) (take (length xs * v) (drop v is)) (each_of (map f (rows_from xs v (drop v is))) g)
-    (rows-back b f g v p xs (drop v is) (λ e. all-behind (is_cell booleans) v is (h e)) (length-behind v (length xs * v) is (first_row (length xs) v (length is) k)))
+    (rows-back b f g v p xs (drop v is) (λ e. all-behind (is_cell booleans) v is (h e))
+    (length-behind v (length xs * v) is (first_row (length xs) v (length is) k)))
     ∙ ap Some (taken v (length xs * v) is) ∙ ap (λ n. Some (take n is)) (one_more_row (length xs) v)
 
 -- ---- tables
 
-list-back : (x : ℤ) (xs : List ℤ) (vs : List Value) (v : Value) → rises itself (map number (x ∷ xs)) ≡ true → length (v ∷ vs) ≡ length (x ∷ xs) →
-    list_over (x ∷ xs) (literal_of no_names (matrix (of_list (map number (x ∷ xs))) (of_list (v ∷ vs)))) ≡ Some (map (literal_of no_names) (v ∷ vs))
+list-back : (x : ℤ) (xs : List ℤ) (vs : List Value) (v : Value) → rises itself (map number (x ∷ xs)) ≡ true →
+    length (v ∷ vs) ≡ length (x ∷ xs) →
+    list_over (x ∷ xs) (literal_of no_names (matrix (of_list (map number (x ∷ xs))) (of_list (v ∷ vs))))
+    ≡ Some (map (literal_of no_names) (v ∷ vs))
 list-back x xs vs v h k =
     let es = literals_of no_names (of_list (v ∷ vs)) in
     ap (λ b. when (b && nat_eq (length (exs_list es)) (length (x ∷ xs))) (exs_list es)) (index-back x xs h)
@@ -134,7 +142,8 @@ list-back x xs vs v h k =
     map-length f (y ∷ ys) = ap suc (map-length f ys)
 
 -- The literal of a table stands for the first items.
-pub items-back : (b : Bool) (as' : List (List ℤ)) → list_all is_plain_axis as' ≡ true → (is : List ℤ) → ItemsFit b is → volume as' ≤ length is →
+pub items-back : (b : Bool) (as' : List (List ℤ)) → list_all is_plain_axis as' ≡ true → (is : List ℤ) → ItemsFit b is →
+    volume as' ≤ length is →
     items_over as' b (literal_of no_names (table_value b as' is)) ≡ Some (take (volume as') is)
 items-back b [] h [] f k = absurd (omega (arith, k))
 items-back b [] h (n ∷ is) f k = ap (option_map (λ n. n ∷ [])) (item-back b n (first-fits b n is f))
@@ -145,6 +154,7 @@ items-back b ((x ∷ xs) ∷ as') h is f k =
     let value = table_value b as' in
     let rows = rows_from (x ∷ xs) (volume as') is in
     ap (λ o. and_then o (λ es. option_map append_all (each_of es (items_over as' b))))
-    (list-back x xs (map value (rows_from xs (volume as') (drop (volume as') is))) (value is) axis.0 (rows-count value (x ∷ xs) (volume as') is))
+    (list-back x xs (map value (rows_from xs (volume as') (drop (volume as') is))) (value is) axis.0
+    (rows-count value (x ∷ xs) (volume as') is))
     ∙ ap (λ es. option_map append_all (each_of es (items_over as' b))) (map-map (literal_of no_names) value rows)
     ∙ rows-back b (λ js. literal_of no_names (value js)) (items_over as' b) (volume as') (items-back b as' parts.1) (x ∷ xs) is f k

@@ -22,8 +22,10 @@ one-more-name a ns (d ∷ ds) h = (ap (λ i. same_text a d.name || i) h.0 ∙ or
 
 own-names : (ds : List TableDecl) → AllAmong (map (λ d. d.name) ds) ds
 own-names [] = tt
-own-names (d ∷ ds) =
-    (ap (λ i. i || is_among (map (λ d. d.name) ds) d.name) (same_text-itself d.name), one-more-name d.name (map (λ d. d.name) ds) ds (own-names ds))
+own-names (d ∷ ds) = (
+  ap (λ i. i || is_among (map (λ d. d.name) ds) d.name) (same_text-itself d.name),
+  one-more-name d.name (map (λ d. d.name) ds) ds (own-names ds),
+)
 
 all-there : (ns : List Text) (ds : List TableDecl) → AllAmong ns ds → first_missing ds ns ≡ None
 all-there ns [] h = refl
@@ -45,7 +47,8 @@ none-extra [] h = refl
 none-extra (a ∷ ns) h =
     let parts = and_parts (not (is_among ns a)) (all_distinct ns) h in
     let rest : without a (a ∷ ns) ≡ ns =
-    ap (λ i. if not i then a ∷ without a ns else without a ns) (same_text-itself a) ∙ without-other a ns (not-true (is_among ns a) parts.0) in
+    ap (λ i. if not i then a ∷ without a ns else without a ns) (same_text-itself a)
+    ∙ without-other a ns (not-true (is_among ns a) parts.0) in
     ap (λ i. if i || is_among ns a then first_extra (without a (a ∷ ns)) ns else Some a) (same_text-itself a)
     ∙ ap (λ left. first_extra left ns) rest ∙ none-extra ns parts.1
 
@@ -59,11 +62,15 @@ AllFound all (c ∷ cs) = (look all c.0 ≡ Some c.1) × AllFound all cs
 behind-other : {A : Type 0} (b : Text × A) (all cs : Names A) → is_among (keys cs) b.0 ≡ false → AllFound all cs → AllFound (b ∷ all) cs
 behind-other b all [] h f = tt
 behind-other b all (c ∷ cs) h f =
-    let apart = same_text-either b.0 c.0 ∙ or-left-no (same_text c.0 b.0) (is_among (keys cs) b.0) h in
-    (ap (λ i. if i then Some b.1 else look all c.0) apart ∙ f.0, behind-other b all cs (or-right-no (same_text c.0 b.0) (is_among (keys cs) b.0) h) f.1)
+    let apart = same_text-either b.0 c.0 ∙ or-left-no (same_text c.0 b.0) (is_among (keys cs) b.0) h in (
+      ap (λ i. if i then Some b.1 else look all c.0) apart ∙ f.0,
+      behind-other b all cs (or-right-no (same_text c.0 b.0) (is_among (keys cs) b.0) h) f.1,
+    )
 
 pub all-found : {A : Type 0} (cs : Names A) → all_distinct (keys cs) ≡ true → AllFound cs cs
 all-found [] h = tt
 all-found (c ∷ cs) h =
-    let parts = and_parts (not (is_among (keys cs) c.0)) (all_distinct (keys cs)) h in
-    (ap (λ i. if i then Some c.1 else look cs c.0) (same_text-itself c.0), behind-other c cs cs (not-true (is_among (keys cs) c.0) parts.0) (all-found cs parts.1))
+    let parts = and_parts (not (is_among (keys cs) c.0)) (all_distinct (keys cs)) h in (
+      ap (λ i. if i then Some c.1 else look cs c.0) (same_text-itself c.0),
+      behind-other c cs cs (not-true (is_among (keys cs) c.0) parts.0) (all-found cs parts.1),
+    )

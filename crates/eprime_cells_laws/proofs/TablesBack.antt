@@ -29,7 +29,8 @@ same-axes-equal (a ∷ as') (b ∷ bs) h =
     ap (λ x. x ∷ as') (same_ints-equal a b parts.0) ∙ ap (λ l. b ∷ l) (same-axes-equal as' bs parts.1)
 
 -- The items of a table of truth values are truth values.
-truths-fit : (known : List TableDecl) (q : Names Table) (c : Dom) (is : List ℤ) → is_some_and (model_domain known q c) (λ e. list_all (is_cell e) is) ≡ true →
+truths-fit : (known : List TableDecl) (q : Names Table) (c : Dom) (is : List ℤ) →
+    is_some_and (model_domain known q c) (λ e. list_all (is_cell e) is) ≡ true →
     ItemsFit (is_bool_dom c) is
 truths-fit known q bool_dom is h = λ e. h
 truths-fit known q (int_dom rs es) is h = λ e. cc
@@ -49,9 +50,11 @@ filled-back : (b : Bool) (t : Table) → list_all is_plain_axis t.axes ≡ true 
 filled-back b t h f k =
     let e : length t.items ≡ volume t.axes = eqb-true (length t.items) (volume t.axes) k in
     ap (option_map (λ is. record { axes = t.axes; items = is })) (items-back b t.axes h t.items f (omega (arith, e)))
-    ∙ ap (λ is. Some (record { axes = t.axes; items = is })) (ap (λ n. take n t.items) (sym e) ∙ take_all (length t.items) t.items (omega arith))
+    ∙ ap (λ is. Some (record { axes = t.axes; items = is }))
+    (ap (λ n. take n t.items) (sym e) ∙ take_all (length t.items) t.items (omega arith))
 
-pub table-back : (known : List TableDecl) (q : Names Table) (d : TableDecl) (t : Table) → table_fits known q d t ≡ true → list_all is_plain_axis t.axes ≡ true →
+pub table-back : (known : List TableDecl) (q : Names Table) (d : TableDecl) (t : Table) → table_fits known q d t ≡ true →
+    list_all is_plain_axis t.axes ≡ true →
     declared_table known q d (literal_of no_names (table_value (is_bool_dom d.cell) t.axes t.items)) ≡ Some t
 table-back known q d t h p =
     let parts = and_parts (over_declared known q d t) (in_declared known q d t) h in
@@ -59,7 +62,9 @@ table-back known q d t h p =
     let found = some-and (each_of d.axes (axis_of known q)) (λ as'. same_axes as' t.axes) over.1 in
     let axes = same-axes-equal found.0 t.axes found.2 in
     let e = literal_of no_names (table_value (is_bool_dom d.cell) t.axes t.items) in
-    let next : List (List ℤ) → Option Table = λ as'. and_then (table_of as' (is_bool_dom d.cell) e) (λ u. when (in_declared known q d u) u) in
+    let next : List (List ℤ) → Option Table =
+    λ as'. and_then (table_of as' (is_bool_dom d.cell) e) (λ u. when (in_declared known q d u) u) in
     ap (λ o. and_then o next) found.1 ∙ ap next axes
-    ∙ ap (λ o. and_then o (λ u. when (in_declared known q d u) u)) (filled-back (is_bool_dom d.cell) t p (truths-fit known q d.cell t.items parts.1) over.0)
+    ∙ ap (λ o. and_then o (λ u. when (in_declared known q d u) u))
+    (filled-back (is_bool_dom d.cell) t p (truths-fit known q d.cell t.items parts.1) over.0)
     ∙ ap (λ b. when b t) parts.1

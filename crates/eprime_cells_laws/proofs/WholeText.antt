@@ -4,12 +4,13 @@ use Rattle.std.specs.List.{list_all}
 use Rattle.std.specs.Fmt.{digits}
 use Rattle.std.proofs.lemmas.Bool.{and_parts}
 use Rattle.ess_semantics.specs.Values.{Text}
-use Rattle.ess_semantics.specs.Names.{Names}
+use Rattle.ess_semantics.specs.Names.{Names, keys, all_distinct}
 use Rattle.ess_semantics.specs.Large.{in_64_bits}
 use Rattle.ess_semantics.specs.Trees.{Ex, let_ex}
 use Rattle.ess_semantics.specs.Meaning.{is_bool_dom}
 use Rattle.ess_semantics.specs.Tables.{Table}
 use Rattle.ess_semantics.specs.DeclaredTables.{TableDecl}
+use Rattle.ess_semantics.specs.Satisfaction.{tables_fit}
 use Rattle.ess_grammar.specs.Words.{number, prime_word, language_word, dot}
 use Rattle.ess_grammar.specs.ValueTexts.{value_text, literal_of}
 use Rattle.ess_grammar.specs.Readable.{is_name_token}
@@ -25,9 +26,10 @@ use Rattle.ess_print_laws.proofs.ValueTexts.{value-text-is}
 use Rattle.ess_print_laws.proofs.SafeTrees.{stm-safe}
 use Rattle.ess_print_laws.proofs.LexedPieces.{printed-tokens, printed-inside}
 use Rattle.eprime_cells_laws.specs.CellsText.{table_value, no_names, cells_line, cells_lines, cells_text, cells_literals}
-use Rattle.eprime_cells_laws.specs.Laws.{is_plain_axis, is_printable_table}
+use Rattle.eprime_cells_laws.specs.Laws.{is_plain_axis, is_printable_table, are_printable_tables, ReadsAsTables}
 use Rattle.eprime_cells_laws.proofs.SpelledTables.{table-spelled}
 use Rattle.eprime_cells_laws.proofs.DerivedCells.{table-derived}
+use Rattle.eprime_cells_laws.proofs.CellsBack.{cells-back}
 
 -- The literal of a table.
 abbrev table_literal : Bool → Table → Ex
@@ -41,7 +43,8 @@ lettings [] cs us = us
 lettings (d ∷ ds) [] us = us
 
 abbrev language_line : Printer
-language_line us = reserved language_word ∷ space ∷ token prime_word ∷ space ∷ token (number 1) ∷ sign dot ∷ token (number 0) ∷ next_line ∷ us
+language_line us =
+    reserved language_word ∷ space ∷ token prime_word ∷ space ∷ token (number 1) ∷ sign dot ∷ token (number 0) ∷ next_line ∷ us
 
 -- ---- one letting
 
@@ -62,17 +65,20 @@ letting-text : (b : Bool) (c : Text × Table) → Printable b c → (us : List P
 letting-text b c h us =
     let s = let_ex c.0 (table_literal b c.1) in
     text-behind (stm_pieces s) (stm-appends s) (next_line ∷ us)
-    ∙ ap (λ t. (codes "letting " ++ (c.0 ++ (codes " be " ++ t))) ++ (codes "\n" ++ text_of us)) (value-text-is no_names (table_value b c.1.axes c.1.items) h.spelled)
+    ∙ ap (λ t. (codes "letting " ++ (c.0 ++ (codes " be " ++ t))) ++ (codes "\n" ++ text_of us))
+    (value-text-is no_names (table_value b c.1.axes c.1.items) h.spelled)
     ∙ spread (value_text no_names (table_value b c.1.axes c.1.items)) (text_of us)
   where
-    spread : (v w : Text) → (codes "letting " ++ (c.0 ++ (codes " be " ++ v))) ++ (codes "\n" ++ w) ≡ (codes "letting " ++ c.0 ++ codes " be " ++ v ++ codes "\n") ++ w
+    spread : (v w : Text) → (codes "letting " ++ (c.0 ++ (codes " be " ++ v))) ++ (codes "\n" ++ w)
+        ≡ (codes "letting " ++ c.0 ++ codes " be " ++ v ++ codes "\n") ++ w
     spread v w =
         sym (append_assoc (codes "letting " ++ (c.0 ++ (codes " be " ++ v))) (codes "\n") w)
         ∙ ap (λ t. ((codes "letting " ++ t) ++ codes "\n") ++ w) (sym (append_assoc c.0 (codes " be ") v))
 
 -- ---- all lettings
 
-lettings-text : (ds : List TableDecl) (cs : Names Table) → list_all is_printable_table cs ≡ true → text_of (lettings ds cs []) ≡ cells_lines ds cs
+lettings-text : (ds : List TableDecl) (cs : Names Table) → list_all is_printable_table cs ≡ true →
+    text_of (lettings ds cs []) ≡ cells_lines ds cs
 lettings-text [] cs h = refl
 lettings-text (d ∷ ds) [] h = refl
 lettings-text (d ∷ ds) (c ∷ cs) h =
@@ -106,9 +112,19 @@ language-text : (us : List Piece) → text_of (language_line us) ≡ codes "lang
 unfolding digits
 language-text us = refl
 
-pub text-read : (ds : List TableDecl) (cs : Names Table) → list_all is_printable_table cs ≡ true → ReadsInSubset (cells_text ds cs) (IsCells (cells_literals ds cs))
+pub text-read : (ds : List TableDecl) (cs : Names Table) → list_all is_printable_table cs ≡ true →
+    ReadsInSubset (cells_text ds cs) (IsCells (cells_literals ds cs))
 text-read ds cs h =
     let ps = language_line (lettings ds cs []) in
     let separate = language-separate (lettings ds cs []) (lettings-separate ds cs h) in
-    subst (λ t. ReadsInSubset t (IsCells (cells_literals ds cs))) (language-text (lettings ds cs []) ∙ ap (λ t. codes "language ESSENCE' 1.0\n" ++ t) (lettings-text ds cs h))
+    subst (λ t. ReadsInSubset t (IsCells (cells_literals ds cs)))
+    (language-text (lettings ds cs []) ∙ ap (λ t. codes "language ESSENCE' 1.0\n" ++ t) (lettings-text ds cs h))
     ((tokens_of ps, printed-tokens ps separate, cells prime_line (lettings-derived ds cs)), printed-inside ps separate)
+
+-- The text of the declared tables is read as them.
+pub tables-read : (known : List TableDecl) (q : Names Table) (ds : List TableDecl) (cs : Names Table) (text : Text) →
+    tables_fit known q ds cs ≡ true →
+    are_printable_tables cs ≡ true → text ≡ cells_text ds cs → ReadsAsTables text known q ds cs
+tables-read known q ds cs text h p e =
+    subst (λ t. ReadsAsTables t known q ds cs) (sym e)
+    (text-read ds cs (and_parts (all_distinct (keys cs)) (list_all is_printable_table cs) p).1, cells-back known q ds cs h p)

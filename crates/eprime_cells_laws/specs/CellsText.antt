@@ -7,7 +7,7 @@ use Rattle.ess_semantics.specs.Trees.{Ex}
 use Rattle.ess_semantics.specs.DeclaredTables.{TableDecl}
 use Rattle.ess_semantics.specs.Tables.{Table, volume}
 use Rattle.ess_semantics.specs.Meaning.{cell_value, is_bool_dom}
-use Rattle.ess_grammar.specs.ValueTexts.{value_text, literal_of}
+use Rattle.ess_grammar.specs.ValueTexts.{value_text, literal_of, number_text, runs_of, runs_text}
 
 -- ---- tables as values
 
@@ -49,3 +49,14 @@ cells_text ds cs = codes "language ESSENCE' 1.0\n" ++ cells_lines ds cs
 abbrev pub cells_literals : List TableDecl → Names Table → Names Ex
 cells_literals (d ∷ ds) (c ∷ cs) = (c.0, literal_of no_names (table_value (is_bool_dom d.cell) c.1.axes c.1.items)) ∷ cells_literals ds cs
 cells_literals _ _ = []
+
+-- ---- parts of a list's text, in the words of the code that writes it
+
+-- The end of a list over an axis: its index domain where it has items, and the bracket.
+abbrev pub list_end : List ℤ → Text
+list_end [] = codes "]"
+list_end (n ∷ ns) = codes "; int(" ++ runs_text (runs_of (of_list (map number (n ∷ ns)))) ++ codes ")]"
+
+-- The end of one run of numbers and the begin of the next one.
+abbrev pub run_break : ℤ → ℤ → Text
+run_break l n = number_text l ++ codes ", " ++ number_text n ++ codes ".."
