@@ -11,5 +11,6 @@ mod Loops
 mod PrintedLists
 mod NextItem
 mod PrintedModels
+mod PrintedCells
 pub mod WholeModels
 mod ExamplesModels

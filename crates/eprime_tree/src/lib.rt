@@ -11,5 +11,5 @@ pub mod words;
 pub use ess_rows::{Boxed, NoMemory, Row, Text};
 pub use expressions::{PDom, PEx, PGen, PList, PRange};
 pub use models::{PDecl, PGoal, PModel};
-pub use printing::print_model;
+pub use printing::{print_cells, print_model};
 pub use words::{PFun, POp1, POp2};
