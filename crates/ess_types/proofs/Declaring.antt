@@ -18,7 +18,8 @@ use Rattle.ess_types_scopes.specs.Kept.{Kept, pure_lettings}
 use Rattle.ess_types_scopes.specs.declared.added.Added.{Added}
 use Rattle.ess_types_scopes.specs.declared.added.Added.TheVariants.{New, Standing}
 use Rattle.ess_types_scopes.proofs.Sets.{keys_look}
-use Rattle.ess_types_lettings.specs.Behind.{letting_added, typed_names, are_new}
+use Rattle.ess_types_entering.specs.Behind.{typed_names, are_new}
+use Rattle.ess_types_lettings.specs.Behind.{letting_added}
 use Rattle.ess_types_judging.specs.declared.scope.Scope.{Scope}
 use Rattle.ess_types_judging.specs.ScopeViews.{pure_scope}
 use Rattle.ess_types_judging.specs.Bounds.{finds_under}

@@ -14,8 +14,9 @@ ghost use Rattle.ess_types.specs.Progress.{IsOutside};
 
 use crate::fresh::is_objective;
 use ess_core::{NoMemory, Stm, Text};
+use ess_types_entering::types_after;
 use ess_types_judging::Scope;
-use ess_types_lettings::{lettings_after, types_after};
+use ess_types_lettings::lettings_after;
 use ess_types_names::TypeTable;
 use ess_types_scopes::{Lettings, NameSet};
 use std::alloc::Global;

@@ -1,3 +1,3 @@
+pub mod Paths
 pub mod Putting
 pub mod Steps
-pub mod Values

@@ -1,18 +1,19 @@
 //! Lettings put into expressions.
-ghost use Rattle.std.specs.Prelude.{◌≡◌, option_map, IfOk, OnOk};
+ghost use Rattle.std.specs.Prelude.{◌≡◌, map, option_map, IfOk, OnOk};
 ghost use Rattle.ess_semantics.specs.Names.{look};
-ghost use Rattle.ess_semantics.specs.Trees.{seen_ex};
+ghost use Rattle.ess_semantics.specs.Trees.{index, node_ex, more_exs, seen_ex};
 ghost use Rattle.ess_semantics.specs.Lettings.{put_ex, put_dom, put_name};
-ghost use Rattle.ess_core.specs.TreeViews.{pure_ex, pure_exs, pure_dom, pure_repr, pure_view};
+ghost use Rattle.ess_core.specs.TreeViews.{words_of, within, exs_of, pure_ex, pure_exs, pure_step, pure_dom, pure_repr, pure_view};
 ghost use Rattle.ess_types_names.specs.Tables.{pure_table};
 ghost use Rattle.ess_types_scopes.specs.Kept.{pure_lettings};
 
 use crate::domains::put_dom;
 use crate::generators::put_gens;
-use crate::indices::put_steps;
+use crate::indices::{PutSteps, put_steps};
 use crate::rows::{copied_texts, put_exs, put_fields, put_pairs};
+use crate::typed::put_typed;
 use ess_core::{Boxed, Dom, Ex, NoMemory, Row, Text, View};
-use ess_types_names::{TypeTable, type_of};
+use ess_types_names::TypeTable;
 use ess_types_scopes::Lettings;
 use std::alloc::Global;
 
@@ -47,10 +48,9 @@ pub fn put_ex(
             Boxed::new(alloc, Ex::Call(*is_bool, *fun, operands))
         }
         Ex::At(is_bool, place, steps) => {
-            let place = put_ex(alloc, place.get(), lettings, table)?;
-            let reached = type_of(alloc, place.get(), table)?;
-            let steps = put_steps(alloc, steps.as_slice(), reached, lettings, table)?;
-            Boxed::new(alloc, Ex::At(*is_bool, place, steps))
+            let (place, reached) = put_typed(alloc, place.get(), lettings, table)?;
+            let steps = put_steps(alloc, steps.as_slice(), reached, false, lettings, table)?;
+            index_of(alloc, *is_bool, place, steps)
         }
         Ex::Apply(is_bool, applied, arguments) => {
             let applied = put_ex(alloc, applied.get(), lettings, table)?;
@@ -107,6 +107,25 @@ pub fn put_ex(
             Boxed::new(alloc, Ex::Seen(view))
         }
     }
+}
+
+/// The index of a place by steps.
+fn index_of(
+    alloc: Global,
+    is_bool: bool,
+    place: Boxed<Ex>,
+    puts: PutSteps,
+) -> Result<Boxed<Ex>, NoMemory>
+    ensures { IfOk result (λ e. pure_ex e
+        ≡ node_ex is_bool (index (words_of (map pure_step puts.steps))) (more_exs (pure_ex place) (exs_of (within (map pure_step puts.steps))))) }
+{
+    let PutSteps {
+        steps,
+        behind,
+        is_own: _,
+    } = puts;
+    drop(behind);
+    Boxed::new(alloc, Ex::At(is_bool, place, steps))
 }
 
 /// A name, or the expression that it stands for.

@@ -1,6 +1,8 @@
 //! Lettings put into generators.
-ghost use Rattle.std.specs.Prelude.{◌≡◌, map, IfOk, OnOk};
-ghost use Rattle.ess_semantics.specs.Typing.{source_ty};
+ghost use Rattle.std.specs.Prelude.{◌≡◌, map, option_map, IfOk, OnOk};
+ghost use Rattle.ess_semantics.specs.Lists.{and_then};
+ghost use Rattle.ess_semantics.specs.Types.{or_any};
+ghost use Rattle.ess_semantics.specs.OperatorTypes.{member_ty};
 ghost use Rattle.ess_core.specs.TypeViews.{pure_ty};
 ghost use Rattle.ess_core.specs.TreeViews.{over_item, from_item, cond_item, pure_ex, pure_dom, pure_pat, pure_gen};
 ghost use Rattle.ess_types_names.specs.Tables.{pure_table, Extends};
@@ -9,8 +11,9 @@ ghost use Rattle.ess_types_lettings.specs.Putting.{put_item, item_behind, put_it
 
 use crate::domains::put_dom;
 use crate::expressions::put_ex;
+use crate::typed::put_typed;
 use ess_core::{Boxed, Dom, Ex, Gen, NoMemory, Pat, Row, Ty};
-use ess_types_names::{TypeTable, type_of};
+use ess_types_names::TypeTable;
 use ess_types_operators::{source_type, type_of_dom};
 use ess_types_scopes::Lettings;
 use std::alloc::Global;
@@ -97,20 +100,19 @@ fn put_from(
         ≡ item_behind (from_item (pure_pat pat.now) (pure_ex source.now)) (pure_lettings lettings.now) (pure_table table.old)) }
     ensures kept { OnOk result (Extends table.old table.new) }
 {
-    let source = put_ex(alloc, source, lettings, table)?;
-    let member = member_of(alloc, source.get(), table)?;
+    let (source, ty) = put_typed(alloc, source, lettings, table)?;
+    let member = member_of(alloc, ty)?;
     table.bind_pattern(alloc, pat, member.get())?;
     let pat = pat.copy(alloc)?;
     let source = source.into_inner();
     Boxed::new(alloc, Gen::From(pat, source))
 }
 
-/// The type of what a generator takes from a source. The table is as it was.
-fn member_of(alloc: Global, source: &Ex, table: &mut TypeTable) -> Result<Boxed<Ty>, NoMemory>
-    ensures ok { IfOk result (λ t. pure_ty t ≡ source_ty (pure_ex source.now) (pure_table table.old)) }
-    ensures kept { OnOk result (table.new ≡ table.old) }
+/// The type of what a generator takes from a source of this type.
+fn member_of(alloc: Global, ty: Option<Boxed<Ty>>) -> Result<Boxed<Ty>, NoMemory>
+    ensures { IfOk result (λ t. pure_ty t ≡ or_any (and_then (option_map pure_ty ty) member_ty)) }
 {
-    match type_of(alloc, source, table)? {
+    match ty {
         Some(ty) => source_type(alloc, Some(ty.get())),
         None => source_type(alloc, None),
     }

@@ -1,120 +1,202 @@
 //! Lettings put into the steps of an index.
-ghost use Rattle.std.specs.Prelude.{◌≡◌, ◌∷◌, List, None, map, option_map, if◌then◌else◌, IfOk, OnOk};
+ghost use Rattle.std.specs.Prelude.{◌≡◌, ◌≤◌, ◌<◌, ◌+◌, ◌∷◌, [], true, false, length, List, None, map, option_map, if◌then◌else◌, IfOk, OnOk};
 ghost use Rattle.ess_semantics.specs.Lists.{is_some_and};
-ghost use Rattle.ess_semantics.specs.Trees.{Step as PureStep};
+ghost use Rattle.ess_semantics.specs.Trees.{by_value, Step as PureStep};
 ghost use Rattle.ess_semantics.specs.Typing.{a_number, a_name, static, type_behind, type_of};
-ghost use Rattle.ess_semantics.specs.Lettings.{is_record_or_tuple, put_ex};
+ghost use Rattle.ess_semantics.specs.Lettings.{put_ex};
 ghost use Rattle.ess_core.specs.TypeViews.{pure_ty};
 ghost use Rattle.ess_core.specs.TreeViews.{With, words_of, within, exs_of, pure_ex, pure_step};
 ghost use Rattle.ess_types_names.specs.Tables.{pure_table};
 ghost use Rattle.ess_types_scopes.specs.Kept.{pure_lettings};
 ghost use Rattle.ess_types_lettings.specs.Putting.{put_operands, exs_before};
+ghost use Rattle.ess_types_lettings.specs.Paths.{path_behind};
 
 use crate::expressions::put_ex;
+use crate::kept::{is_own, kept_or_put};
+use crate::typed::put_typed;
 use ess_core::{Boxed, Ex, NoMemory, Row, Step, Text, Ty};
-use ess_types_names::{TypeTable, type_of};
+use ess_types_names::TypeTable;
 use ess_types_operators::{component_type, field_type, step_type};
 use ess_types_scopes::Lettings;
 use std::alloc::Global;
 
-/// The steps of an index with lettings put in, from a place of this type.
+/// Steps of an index with lettings put in.
+#[derive(Drop)]
+pub(crate) struct PutSteps {
+    pub steps: Row<Step>,
+    /// The type that is reached behind them.
+    pub behind: Option<Boxed<Ty>>,
+    /// Whether that is the type of the index. It may be another one where it wasn't asked, and behind a value that stays as it is
+    /// though it is a letting's name.
+    pub is_own: bool,
+}
+
+/// A step with lettings put in, with the same of it alone.
+#[derive(Drop)]
+struct PutStep {
+    step: Boxed<Step>,
+    behind: Option<Boxed<Ty>>,
+    is_own: bool,
+}
+
+/// The steps of an index with lettings put in, from a place of this type. The type behind the last one is found where it is
+/// asked.
 #[cycle(put)]
 #[tactic(auto, using(crate::proofs::Steps::steps_put))]
 pub(crate) fn put_steps(
     alloc: Global,
     steps: &[Step],
     place: Option<Boxed<Ty>>,
+    asked: bool,
     lettings: &Lettings,
     table: &mut TypeTable,
-) -> Result<Row<Step>, NoMemory>
-    ensures words { IfOk result (λ r. words_of (map pure_step r) ≡ words_of (map pure_step steps.now)) }
-    ensures operands { IfOk result (λ r. exs_of (within (map pure_step r))
+) -> Result<PutSteps, NoMemory>
+    ensures words { IfOk result (λ r. words_of (map pure_step r.steps) ≡ words_of (map pure_step steps.now)) }
+    ensures operands { IfOk result (λ r. exs_of (within (map pure_step r.steps))
         ≡ put_operands (option_map pure_ty place) (map pure_step steps.now) (pure_lettings lettings.now) (pure_table table.old)) }
+    ensures own { IfOk result (λ r. r.is_own ≡ true
+        → option_map pure_ty r.behind ≡ path_behind (option_map pure_ty place) (map pure_step r.steps) (pure_table table.old)) }
     ensures kept { OnOk result (table.new ≡ table.old) }
 {
     let mut puts = Row::with_capacity(alloc, steps.len())?;
     let mut reached = place;
-    for step in steps {
-        let (put, behind) = put_step(alloc, step, &reached, lettings, table)?;
+    let mut is_own = true;
+    for (i, step) in steps.iter().enumerate() {
+        let further = is_followed(asked, steps, i);
+        let PutStep {
+            step: put,
+            behind,
+            is_own: leads,
+        } = put_step(alloc, step, &reached, further, lettings, table)?;
         puts.push(put.into_inner())?;
         reached = behind;
+        is_own = is_own & leads;
     }
-    Ok(puts)
+    Ok(PutSteps {
+        steps: puts,
+        behind: reached,
+        is_own,
+    })
 }
 
-/// A step with lettings put in, and the type that it reaches.
+/// Whether the type behind the step at i is needed: where that behind all steps is asked, or a step follows.
+fn is_followed(asked: bool, steps: &[Step], i: usize) -> bool
+    requires { i < length steps.now }
+    ensures { result ≡ false → length steps.now ≤ i + 1 }
+{
+    asked | (i + 1 < steps.len())
+}
+
+/// A step with lettings put in, and the type that it reaches, which is found where something follows (`further`).
 #[cycle(put)]
 #[tactic(auto, using(crate::proofs::Steps::kinds_of_steps))]
 fn put_step(
     alloc: Global,
     step: &Step,
     place: &Option<Boxed<Ty>>,
+    further: bool,
     lettings: &Lettings,
     table: &mut TypeTable,
-) -> Result<(Boxed<Step>, Option<Boxed<Ty>>), NoMemory>
-    ensures word { IfOk result (λ r. (pure_step r.0).0 ≡ (pure_step step.now).0) }
-    ensures operands { IfOk result (λ r. (ws : List (With PureStep))
+) -> Result<PutStep, NoMemory>
+    ensures word { IfOk result (λ r. (pure_step r.step).0 ≡ (pure_step step.now).0) }
+    ensures operands { IfOk result (λ r. (ws : List (With PureStep)) → (further ≡ false → ws ≡ [])
         → put_operands (option_map pure_ty place.now) (pure_step step.now ∷ ws) (pure_lettings lettings.now) (pure_table table.old)
-        ≡ exs_before (pure_step r.0).1 (put_operands (option_map pure_ty r.1) ws (pure_lettings lettings.now) (pure_table table.old))) }
+        ≡ exs_before (pure_step r.step).1 (put_operands (option_map pure_ty r.behind) ws (pure_lettings lettings.now) (pure_table table.old))) }
+    ensures own { IfOk result (λ r. r.is_own ≡ true → (ws : List (With PureStep))
+        → path_behind (option_map pure_ty place.now) (pure_step r.step ∷ ws) (pure_table table.old)
+        ≡ path_behind (option_map pure_ty r.behind) ws (pure_table table.old)) }
     ensures kept { OnOk result (table.new ≡ table.old) }
 {
     match step {
-        Step::Value(ex) => {
-            let (ex, behind) = put_value(alloc, ex, place, lettings, table)?;
-            let step = Boxed::new(alloc, Step::Value(ex.into_inner()))?;
-            Ok((step, behind))
-        }
+        Step::Value(ex) => put_value(alloc, ex, place, further, lettings, table),
         Step::Component(number) => {
             let behind = component_behind(alloc, place, *number)?;
             let step = Boxed::new(alloc, Step::Component(*number))?;
-            Ok((step, behind))
+            Ok(PutStep {
+                step,
+                behind,
+                is_own: true,
+            })
         }
         Step::Field(name) => {
             let behind = field_behind(alloc, place, name)?;
             let step = Boxed::new(alloc, Step::Field(name.copy(alloc)?))?;
-            Ok((step, behind))
+            Ok(PutStep {
+                step,
+                behind,
+                is_own: true,
+            })
         }
     }
 }
 
-/// The value of a step, as it is from a place that is a record or a tuple, else with lettings put in; and the type that the
-/// step reaches.
+/// A step by a value with lettings put in. From a place that is a record or a tuple the value stays as it is.
 #[cycle(put)]
 fn put_value(
     alloc: Global,
     ex: &Ex,
     place: &Option<Boxed<Ty>>,
+    further: bool,
+    lettings: &Lettings,
+    table: &mut TypeTable,
+) -> Result<PutStep, NoMemory>
+    ensures word { IfOk result (λ r. (pure_step r.step).0 ≡ by_value) }
+    ensures operands { IfOk result (λ r. (ws : List (With PureStep)) → (further ≡ false → ws ≡ [])
+        → put_operands (option_map pure_ty place.now) ((by_value, pure_ex ex.now ∷ []) ∷ ws) (pure_lettings lettings.now) (pure_table table.old)
+        ≡ exs_before (pure_step r.step).1 (put_operands (option_map pure_ty r.behind) ws (pure_lettings lettings.now) (pure_table table.old))) }
+    ensures own { IfOk result (λ r. r.is_own ≡ true → (ws : List (With PureStep))
+        → path_behind (option_map pure_ty place.now) (pure_step r.step ∷ ws) (pure_table table.old)
+        ≡ path_behind (option_map pure_ty r.behind) ws (pure_table table.old)) }
+    ensures kept { OnOk result (table.new ≡ table.old) }
+{
+    let (put, behind) = put_behind(alloc, ex, place, further, lettings, table)?;
+    let is_own = is_own(place, ex, further, lettings);
+    let value = kept_or_put(alloc, place, ex, put)?;
+    let step = Boxed::new(alloc, Step::Value(value.into_inner()))?;
+    Ok(PutStep {
+        step,
+        behind,
+        is_own,
+    })
+}
+
+/// The value of a step with lettings put in, and the type that a step by it reaches, which is found where something follows.
+#[cycle(put)]
+fn put_behind(
+    alloc: Global,
+    ex: &Ex,
+    place: &Option<Boxed<Ty>>,
+    further: bool,
     lettings: &Lettings,
     table: &mut TypeTable,
 ) -> Result<(Boxed<Ex>, Option<Boxed<Ty>>), NoMemory>
-    ensures value { IfOk result (λ r. pure_ex r.0
-        ≡ (if is_some_and (option_map pure_ty place.now) is_record_or_tuple then pure_ex ex.now else put_ex (pure_ex ex.now)
-        (pure_lettings lettings.now) (pure_table table.old))) }
-    ensures behind { IfOk result (λ r. option_map pure_ty r.1
-        ≡ type_behind (option_map pure_ty place.now)
-        (static (put_ex (pure_ex ex.now) (pure_lettings lettings.now) (pure_table table.old)))
-        (type_of (put_ex (pure_ex ex.now) (pure_lettings lettings.now) (pure_table table.old)) (pure_table table.old))) }
+    ensures ok { IfOk result (λ r. pure_ex r.0 ≡ put_ex (pure_ex ex.now) (pure_lettings lettings.now) (pure_table table.old)) }
+    ensures behind { IfOk result (λ r. further ≡ true → option_map pure_ty r.1
+        ≡ type_behind (option_map pure_ty place.now) (static (pure_ex r.0)) (type_of (pure_ex r.0) (pure_table table.old))) }
     ensures kept { OnOk result (table.new ≡ table.old) }
 {
-    let put = put_ex(alloc, ex, lettings, table)?;
-    let behind = value_behind(alloc, place, put.get(), table)?;
-    let value = kept_or_put(alloc, place, ex, put)?;
-    Ok((value, behind))
+    if further {
+        let (put, ty) = put_typed(alloc, ex, lettings, table)?;
+        let behind = value_behind(alloc, place, put.get(), ty)?;
+        Ok((put, behind))
+    } else {
+        let put = put_ex(alloc, ex, lettings, table)?;
+        Ok((put, None))
+    }
 }
 
-/// The type that a step by a value reaches. The table is as it was.
+/// The type that a step by a value of this type reaches.
 fn value_behind(
     alloc: Global,
     place: &Option<Boxed<Ty>>,
     value: &Ex,
-    table: &mut TypeTable,
+    ty: Option<Boxed<Ty>>,
 ) -> Result<Option<Boxed<Ty>>, NoMemory>
-    ensures ok { IfOk result (λ o. option_map pure_ty o
-        ≡ type_behind (option_map pure_ty place.now) (static (pure_ex value.now)) (type_of (pure_ex value.now) (pure_table table.old))) }
-    ensures kept { OnOk result (table.new ≡ table.old) }
+    ensures { IfOk result (λ o. option_map pure_ty o
+        ≡ type_behind (option_map pure_ty place.now) (static (pure_ex value.now)) (option_map pure_ty ty)) }
 {
     match place {
-        Some(place) => match type_of(alloc, value, table)? {
+        Some(place) => match ty {
             Some(ty) => step_type(alloc, place.get(), value, Some(ty.get())),
             None => step_type(alloc, place.get(), value, None),
         },
@@ -147,44 +229,5 @@ fn field_behind(
     match place {
         Some(place) => field_type(alloc, place.get(), name),
         None => Ok(None),
-    }
-}
-
-/// The expression as it is from a place that is a record or a tuple, else with lettings put in.
-fn kept_or_put(
-    alloc: Global,
-    place: &Option<Boxed<Ty>>,
-    ex: &Ex,
-    put: Boxed<Ex>,
-) -> Result<Boxed<Ex>, NoMemory>
-    ensures { IfOk result (λ e. pure_ex e
-        ≡ (if is_some_and (option_map pure_ty place.now) is_record_or_tuple then pure_ex ex.now else pure_ex put)) }
-{
-    if is_kept(place) {
-        drop(put);
-        Boxed::new(alloc, ex.copy(alloc)?)
-    } else {
-        Ok(put)
-    }
-}
-
-/// Whether a place is a record or a tuple.
-fn is_kept(place: &Option<Boxed<Ty>>) -> bool
-    ensures { result ≡ is_some_and (option_map pure_ty place.now) is_record_or_tuple }
-{
-    match place {
-        Some(ty) => has_parts(ty.get()),
-        None => false,
-    }
-}
-
-/// Whether a type is one of records or tuples.
-fn has_parts(ty: &Ty) -> bool
-    ensures { result ≡ is_record_or_tuple (pure_ty ty.now) }
-{
-    match ty {
-        Ty::Tuple(_) => true,
-        Ty::Rec(_) => true,
-        _ => false,
     }
 }

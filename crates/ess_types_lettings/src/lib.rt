@@ -1,4 +1,4 @@
-//! Expressions, domains and statements with lettings put in, and what stands behind a statement.
+//! Expressions, domains and statements with lettings put in, and the lettings behind a statement.
 #![tactic(auto)]
 
 mod attributes;
@@ -7,12 +7,14 @@ mod domains;
 mod expressions;
 mod generators;
 mod indices;
+mod kept;
 mod put_statement;
 mod ranges;
 mod rows;
 mod statements;
+mod typed;
 
 pub use domains::put_dom;
 pub use expressions::put_ex;
 pub use put_statement::put_stm;
-pub use statements::{lettings_after, types_after};
+pub use statements::lettings_after;

@@ -1,7 +1,12 @@
+use Rattle.std.proofs.Common.{rules, ◌≡◌, ap, ◌∙◌, [], ◌∷◌, ◌++◌, option_map}
 use Rattle.std.proofs.lemmas.Result.{IfOk-weaker}
-use Rattle.ess_core.specs.TreeViews.{pure_range, pure_attr}
+use Rattle.ess_core.specs.TypeViews.{pure_ty}
+use Rattle.ess_core.specs.TreeViews.{pure_range, pure_attr, pure_step}
+use Rattle.ess_types_names.specs.Tables.{pure_table}
+use Rattle.ess_types_scopes.specs.Kept.{pure_lettings}
+use Rattle.ess_types_lettings.proofs.Paths.{path_more, path_all, leads_at}
 use Rattle.ess_types_lettings.proofs.Putting.{exs_put, pairs_put, fields_named, fields_put, doms_put, field_doms_named, field_doms_put, words_named, within_put, matrix_put}
-use Rattle.ess_types_lettings.proofs.Steps.{comp_put}
+use Rattle.ess_types_lettings.proofs.Steps.{comp_put, words_more, operands_more, puts_at}
 use Rattle.ess_types_lettings.proofs.+put.Goals as goal
 
 pub rows::put_exs-returns-clause-ok : goal.rows::put_exs-returns-clause-ok
@@ -50,3 +55,34 @@ expressions::put_ex-returns-in_ok-body-in-Comp-clause-ok t c =
     (λ y h. comp_put c.args.ex.now y _ _ _ _ _ _ _ _ _ c.in-Comp.is c.as_slice-in-Comp.ensures c.get-in-Comp.ensures h
     c.in_ok-gens-in-Comp.ensures.ok c.in_ok-gens-in-Comp.ensures.names c.in_ok-body-in-Comp.ensures.ok)
     c.new-in-Comp.ensures
+
+-- One step more.
+pub indices::put_steps-loop-i-preserved : goal.indices::put_steps-loop-i-preserved
+indices::put_steps-loop-i-preserved t c =
+    let is-put : c.into_inner.result ≡ c.in_ok-put.field-0.step = search rules in
+    let more : c.push.new.self ≡ c.loop-i.puts ++ c.into_inner.result ∷ [] = search rules in
+    record {
+      kept = c.in_ok-put.ensures.kept ∙ c.loop-i.invariant.kept;
+      words = words_more c.args.steps.now c.loop-i.i c.index-steps-i.result c.into_inner.result c.loop-i.puts c.push.new.self
+          c.loop-i-test.true c.index-steps-i.is (ap (λ x. (pure_step x).0) is-put ∙ c.in_ok-put.ensures.word) more
+          ∙ c.loop-i.invariant.words;
+      operands = operands_more c.args.steps.now c.loop-i.i c.is_followed-further.result c.index-steps-i.result c.into_inner.result
+          c.loop-i.puts c.push.new.self c.loop-i.reached c.in_ok-put.field-0.behind (pure_lettings c.args.lettings.now)
+          (pure_table c.args.table.now) c.loop-i-test.true c.index-steps-i.is c.is_followed-further.ensures
+          (puts_at c.is_followed-further.result (option_map pure_ty c.loop-i.reached) (option_map pure_ty c.in_ok-put.field-0.behind)
+          c.index-steps-i.result c.into_inner.result c.in_ok-put.field-0.step (pure_lettings c.args.lettings.now) c.loop-i.table
+          c.args.table.now c.loop-i.invariant.kept is-put c.in_ok-put.ensures.operands)
+          more ∙ c.loop-i.invariant.operands;
+      own = path_more c.loop-i.puts c.push.new.self c.into_inner.result (option_map pure_ty c.args.place)
+          (option_map pure_ty c.loop-i.reached) (option_map pure_ty c.in_ok-put.field-0.behind) (pure_table c.args.table.now)
+          c.loop-i.is_own c.in_ok-put.field-0.is_own c.loop-i.invariant.own
+          (leads_at c.in_ok-put.field-0.is_own (option_map pure_ty c.loop-i.reached) (option_map pure_ty c.in_ok-put.field-0.behind)
+          c.into_inner.result c.in_ok-put.field-0.step c.loop-i.table c.args.table.now c.loop-i.invariant.kept is-put
+          c.in_ok-put.ensures.own)
+          more;
+    }
+
+pub indices::put_steps-returns-clause-own : goal.indices::put_steps-returns-clause-own
+indices::put_steps-returns-clause-own t c =
+    path_all c.loop-i.puts (option_map pure_ty c.args.place) (option_map pure_ty c.loop-i.reached) (pure_table c.args.table.now)
+    c.loop-i.is_own c.loop-i.invariant.own

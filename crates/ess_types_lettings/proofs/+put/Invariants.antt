@@ -1,9 +1,11 @@
-use Rattle.std.proofs.Common.{◌≡◌, ◌++◌, map, take, drop, option_map}
+use Rattle.std.proofs.Common.{◌≡◌, ◌++◌, true, List, map, take, drop, option_map}
+use Rattle.ess_semantics.specs.Trees.{Step}
 use Rattle.ess_semantics.specs.Lettings.{put_ex, put_dom}
 use Rattle.ess_core.specs.TypeViews.{pure_ty}
-use Rattle.ess_core.specs.TreeViews.{words_of, within, pure_ex, pure_pair_ex, pure_field_ex, pure_step, pure_gen, pure_dom, pure_field_dom, pure_range, pure_attr}
+use Rattle.ess_core.specs.TreeViews.{With, words_of, within, pure_ex, pure_pair_ex, pure_field_ex, pure_step, pure_gen, pure_dom, pure_field_dom, pure_range, pure_attr}
 use Rattle.ess_types_names.specs.Tables.{pure_table, Extends}
 use Rattle.ess_types_scopes.specs.Kept.{pure_lettings}
+use Rattle.ess_types_lettings.specs.Paths.{path_behind}
 use Rattle.ess_types_lettings.specs.Putting.{put_field, put_field_dom, put_with, put_items, names_behind, put_operands, exs_before}
 use Rattle.ess_types_lettings.proofs.+put.Given as goal
 
@@ -55,14 +57,17 @@ invariant-attributes::each_attr-loop-attr l = record {
       ≡ map (λ x. put_with (pure_attr x) (pure_lettings l.lettings) (pure_table l.initial.table)) (take l.attr-index l.attrs);
 }
 
-abbrev pub invariant-indices::put_steps-loop-step : goal.invariant-indices::put_steps-loop-step
-invariant-indices::put_steps-loop-step l = record {
+abbrev pub invariant-indices::put_steps-loop-i : goal.invariant-indices::put_steps-loop-i
+invariant-indices::put_steps-loop-i l = record {
   kept : l.table ≡ l.initial.table;
-  words : words_of (map pure_step l.puts) ++ words_of (map pure_step (drop l.step-index l.steps)) ≡ words_of (map pure_step l.steps);
+  words : words_of (map pure_step l.puts) ++ words_of (map pure_step (drop l.i l.steps)) ≡ words_of (map pure_step l.steps);
   operands : exs_before (within (map pure_step l.puts))
-      (put_operands (option_map pure_ty l.reached) (map pure_step (drop l.step-index l.steps)) (pure_lettings l.lettings)
+      (put_operands (option_map pure_ty l.reached) (map pure_step (drop l.i l.steps)) (pure_lettings l.lettings)
       (pure_table l.initial.table))
       ≡ put_operands (option_map pure_ty l.initial.reached) (map pure_step l.steps) (pure_lettings l.lettings) (pure_table l.initial.table);
+  own : l.is_own ≡ true → (ws : List (With Step))
+      → path_behind (option_map pure_ty l.initial.reached) (map pure_step l.puts ++ ws) (pure_table l.initial.table)
+      ≡ path_behind (option_map pure_ty l.reached) ws (pure_table l.initial.table);
 }
 
 abbrev pub invariant-generators::put_gens-loop-item : goal.invariant-generators::put_gens-loop-item

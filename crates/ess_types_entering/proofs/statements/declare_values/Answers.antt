@@ -1,6 +1,6 @@
 use Rattle.std.proofs.Common.{◌∙◌}
-use Rattle.ess_types_lettings.proofs.Values.{values_more, values_standing}
-use Rattle.ess_types_lettings.proofs.statements.declare_values.Goals as goal
+use Rattle.ess_types_entering.proofs.Values.{values_more, values_standing}
+use Rattle.ess_types_entering.proofs.statements.declare_values.Goals as goal
 
 pub loop-k-preserved : goal.loop-k-preserved
 loop-k-preserved c = record {

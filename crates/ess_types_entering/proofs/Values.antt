@@ -9,7 +9,7 @@ use Rattle.ess_types_names.specs.Tables.{Types, pure_table, pure_declared, decla
 use Rattle.ess_types_names.specs.declared.table.Declared.{Declared}
 use Rattle.ess_types_names.specs.declared.table.Declared.TheVariants.{Added, Standing}
 use Rattle.ess_types_names.proofs.Tables.{no_bound, declared_newest, declared_behind}
-use Rattle.ess_types_lettings.specs.Behind.{are_new}
+use Rattle.ess_types_entering.specs.Behind.{are_new}
 
 -- One more value stands in front of those behind it.
 values-more : (xs : List Text) (i : ℕ) (x a : Text) (d e g : Names Ty) → i < length xs → x ≡ get_or xs i x

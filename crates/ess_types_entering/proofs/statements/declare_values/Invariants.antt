@@ -1,7 +1,7 @@
 use Rattle.std.proofs.Common.{◌≡◌, ◌-◌, ◌++◌, map, drop, length}
 use Rattle.ess_semantics.specs.Types.{named_ty}
 use Rattle.ess_types_names.specs.Tables.{pure_declared}
-use Rattle.ess_types_lettings.proofs.statements.declare_values.Given as goal
+use Rattle.ess_types_entering.proofs.statements.declare_values.Given as goal
 
 abbrev pub invariant-loop-k : goal.invariant-loop-k
 invariant-loop-k l = record {
