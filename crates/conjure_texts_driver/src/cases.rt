@@ -5,6 +5,7 @@ use std::alloc::{AllocError, Global};
 /// The answer to a case:
 ///
 /// - `specification TEXT`, `domain TEXT`, `representation TEXT`: what is read, printed again, or why nothing is read;
+/// - `representations TEXT`: the name of a header's line and its representations, or why they aren't read;
 /// - `reads TEXT`: whether it is a specification, or why not;
 /// - `lettings TEXT`: how many lettings the file has, or why it isn't read;
 /// - `trees TEXT ~ TEXT`: whether two specifications are one tree;
@@ -22,6 +23,7 @@ pub fn answer(alloc: Global, case: &str) -> Result<Text, NoMemory> {
         "reads" => specifications::reads(alloc, text),
         "domain" => specifications::domain(alloc, text),
         "representation" => specifications::representation(alloc, text),
+        "representations" => specifications::representations(alloc, text),
         "lettings" => specifications::lettings(alloc, text),
         "trees" => specifications::trees(alloc, text),
         "value" => values::value(alloc, text),

@@ -1,5 +1,7 @@
 use ess_core::{Boxed, NoMemory, Spec, Stm, Text};
-use ess_parse::{ReadNo, print_repr, print_stm, read_dom, read_lettings, read_repr, read_spec};
+use ess_parse::{
+    ReadNo, print_repr, print_stm, read_dom, read_lettings, read_named_reprs, read_repr, read_spec,
+};
 use ess_rows::Place;
 use std::alloc::Global;
 
@@ -95,6 +97,21 @@ pub fn domain(alloc: Global, text: &str) -> Result<Text, NoMemory> {
 pub fn representation(alloc: Global, text: &str) -> Result<Text, NoMemory> {
     match read_repr(alloc, text.as_bytes()) {
         Ok(repr) => print_repr(alloc, &repr),
+        Err(why) => refusal(alloc, why),
+    }
+}
+
+/// The name of a line of representations, and behind it these, printed again.
+pub fn representations(alloc: Global, text: &str) -> Result<Text, NoMemory> {
+    match read_named_reprs(alloc, text.as_bytes()) {
+        Ok(named) => {
+            let mut out = named.name.copy(alloc)?;
+            for tree in named.trees.as_slice() {
+                out.push_str(" ")?;
+                out.push_str(print_repr(alloc, tree)?.as_str())?;
+            }
+            Ok(out)
+        }
         Err(why) => refusal(alloc, why),
     }
 }

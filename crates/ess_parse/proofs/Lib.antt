@@ -4,6 +4,7 @@ pub mod Clauses
 mod KindSearch
 mod RepresentationSteps
 mod RepresentationLaws
+pub mod NamedRepresentationLaws
 pub mod StateLaws
 mod LettingsLaws
 pub mod ReadableAnswers

@@ -18,5 +18,5 @@ pub use ess_print::{print_repr, print_stm};
 pub use first::pass_first;
 pub use lettings::{Letting, Lettings, read_lettings};
 pub use refusal::ReadNo;
-pub use representations::read_repr;
+pub use representations::{NamedReprs, read_named_reprs, read_repr};
 pub use specifications::read_spec;

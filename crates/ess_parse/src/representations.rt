@@ -7,12 +7,14 @@ ghost use Rattle.ess_parse.specs.Machines.{step_representation, finish_represent
 
 mod kinds;
 mod machine;
+mod named;
 
 use crate::first::pass_first;
 use crate::refusal::ReadNo;
 use ess_core::Repr;
 use ess_lex::{Lexer, end_place};
 use machine::Machine;
+pub use named::{NamedReprs, read_named_reprs};
 use std::alloc::Global;
 
 /// Reads a representation, as `Explicit[Occurrence]`: the name of a kind as in the Conjure manual, and where it has
