@@ -1,16 +1,16 @@
 -- Layers whose places have an order of their own, on rows: functions by argument, matrices, and values that are kept as another one.
-use Rattle.std.proofs.Common.{◌≡◌, refl, sym, ap, ◌∙◌, ℕ, zero, suc, ◌+◌, Bool, true, false, ◌&&◌, List, [], ◌∷◌, ◌++◌, map, length, drop, ℤ, pos, Option, Some, None, is_some, append-nil, arith}
+use Rattle.std.proofs.Common.{◌≡◌, refl, sym, ap, ◌∙◌, ℕ, zero, suc, ◌+◌, Bool, true, ◌&&◌, List, [], ◌∷◌, ◌++◌, map, length, drop, ℤ, pos, Option, Some, None, is_some, append-nil, arith}
 use Rattle.std.proofs.lemmas.Bool.{eqb-true, eq-eqb}
 use Rattle.ess_semantics.specs.declared.words.ReprKind.{ReprKind}
 use Rattle.ess_semantics.specs.Values.{Value, a_set, a_relation, node, of_list, items_of}
 use Rattle.ess_semantics.specs.Collections.{value_at}
 use Rattle.ess_semantics.specs.Order.{same_ints}
 use Rattle.ess_semantics.specs.Trees.{Repr, repr, no_reprs, more_reprs}
-use Rattle.ess_semantics.specs.Domains.{Attribute, Domain, Domains, tuples, matrices, functions, relations, partitions, domain_list, member_list, lists_of}
+use Rattle.ess_semantics.specs.Domains.{Attribute, Domain, Domains, matrices, functions, relations, partitions, domain_list, member_list}
 use Rattle.ess_semantics.specs.Sizes.{child_relation, child_set, child_parts}
 use Rattle.ess_semantics.specs.Tables.{Table, Tables, volume, truth_number, is_filled, same_axes}
-use Rattle.ess_semantics.specs.Cells.{Axes, cells_of, tables_over}
-use Rattle.ess_semantics.specs.Layers.{Layer, Slot, codes_of, some_each, flags_table}
+use Rattle.ess_semantics.specs.Cells.{Axes}
+use Rattle.ess_semantics.specs.Layers.{Slot, codes_of, some_each, flags_table}
 use Rattle.ess_semantics.specs.ScalarLayers.{elements, matrix_layer}
 use Rattle.ess_semantics.specs.FunctionLayers.{total_layer, partial_layer, function_as_relation_layer}
 use Rattle.ess_semantics.specs.RelationLayers.{relation_as_set_layer}
@@ -26,7 +26,7 @@ use Rattle.ess_repr_laws.proofs.TablesAndCells.{AxesDiffer, AllAxesDiffer, table
 use Rattle.ess_repr_laws.proofs.Arguments.{Arguments}
 use Rattle.ess_repr_laws.proofs.ArgumentTables.{places-volume}
 use Rattle.ess_repr_rows_laws.specs.SlotOrder.{Filled, filled, tables_in}
-use Rattle.ess_repr_rows_laws.specs.Stacking.{zeros, fitted, items_of_table, items_in_turn, stacked_table, stacked_from, stacked}
+use Rattle.ess_repr_rows_laws.specs.Stacking.{fitted, items_of_table, stacked_from, stacked}
 use Rattle.ess_repr_rows_laws.specs.RowLayers.{all_used, spread, flagged_tables}
 use Rattle.ess_repr_rows_laws.proofs.Blocks.{map-length, fitted-behind, fitted-zero}
 use Rattle.ess_repr_rows_laws.proofs.Stacked.{slots_of, axes-equal}

@@ -1,5 +1,5 @@
 -- The value of one layer on rows, kind by kind: built of the items of its own tables and of the values of the slots in use.
-use Rattle.std.proofs.Common.{◌≡◌, refl, sym, ap, ◌∙◌, subst, true, List, [], ◌∷◌, ◌++◌, map, length, take, drop, ℤ, Option, Some, None, option_map}
+use Rattle.std.proofs.Common.{◌≡◌, refl, sym, ap, ◌∙◌, subst, true, List, [], ◌∷◌, ◌++◌, map, take, drop, ℤ, Option, Some, None, option_map}
 use Rattle.ess_semantics.specs.declared.words.ReprKind.{ReprKind}
 use Rattle.ess_semantics.specs.Lists.{and_then, each_of, append_all, only_of}
 use Rattle.ess_semantics.specs.Values.{Value, a_set, a_mset, a_relation, node, of_list, items_of}

@@ -15,3 +15,5 @@ pub mod SlotLayers
 pub mod ArgumentLayers
 pub mod OwnCells
 pub mod LayerValues
+-- Worked examples
+pub mod ExamplesRows

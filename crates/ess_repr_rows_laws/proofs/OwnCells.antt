@@ -1,9 +1,8 @@
 -- What own tables say at the members of a domain, on rows: cell by cell they are the items.
-use Rattle.std.proofs.Common.{◌≡◌, refl, sym, ap, ◌∙◌, subst, Bool, true, false, if◌then◌else◌, List, [], ◌∷◌, map, length, ℤ, Option, Some, None, option_map}
+use Rattle.std.proofs.Common.{◌≡◌, refl, sym, ap, ◌∙◌, subst, if◌then◌else◌, List, [], ◌∷◌, length, ℤ, Option, Some, option_map}
 use Rattle.ess_semantics.specs.Lists.{and_then, each_of}
 use Rattle.ess_semantics.specs.Values.{Value}
 use Rattle.ess_semantics.specs.Domains.{Domain, member_list, lists_of}
-use Rattle.ess_semantics.specs.Numbers.{one_to}
 use Rattle.ess_semantics.specs.Tables.{Table, volume, item_in, cell_at, truth_of}
 use Rattle.ess_semantics.specs.Cells.{Axes}
 use Rattle.ess_semantics.specs.Layers.{chosen}
