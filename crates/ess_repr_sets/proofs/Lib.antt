@@ -1,0 +1,2 @@
+-- Lemmas on loops
+pub mod PickedValues
