@@ -15,5 +15,6 @@ pub mod SlotLayers
 pub mod ArgumentLayers
 pub mod OwnCells
 pub mod LayerValues
+pub mod OwnLayers
 -- Worked examples
 pub mod ExamplesRows
