@@ -1,2 +1,4 @@
 -- Lemmas on loops
 pub mod SlotLoops
+pub mod CountedLoops
+pub mod PlaceLoops

@@ -63,7 +63,11 @@ pub fn flagged_slots(
 }
 
 /// A table in front of others. `NoMemory` where there is no room for it.
-fn with_first(alloc: Global, first: Table, others: Row<Table>) -> Result<Row<Table>, NoMemory>
+pub(crate) fn with_first(
+    alloc: Global,
+    first: Table,
+    others: Row<Table>,
+) -> Result<Row<Table>, NoMemory>
     ensures { IfOk result (λ ts. ts ≡ first ∷ others) }
 {
     let mut tables = Row::new(alloc);

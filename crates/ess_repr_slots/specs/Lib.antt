@@ -1,0 +1,2 @@
+-- Slots with a number
+pub mod CountedViews
