@@ -1,2 +1,3 @@
 -- Lemmas on loops
 pub mod PickedValues
+pub mod ListedMembers

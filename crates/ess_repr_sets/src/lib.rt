@@ -4,7 +4,9 @@
 mod atoms;
 mod built;
 mod members;
+mod sets;
 
 pub use atoms::{atom_value, code, codes};
 pub use built::{mset_in_slots, set_in_slots};
 pub use members::{occurrences, picked};
+pub use sets::{member_list, occurrence_set, occurrence_tables};
