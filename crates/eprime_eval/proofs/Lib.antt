@@ -1,0 +1,13 @@
+pub mod KnownTables
+pub mod Lookups
+pub mod OperatorValues
+pub mod CellValues
+pub mod Gathering
+pub mod Excuses
+pub mod Lists
+pub mod Generators
+pub mod Ranges
+pub mod MemberLists
+pub mod Unders
+pub mod Denoting
+pub mod Weights

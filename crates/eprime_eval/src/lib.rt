@@ -1,0 +1,20 @@
+//! Models in Essence Prime evaluated over tables: the members of declared domains, and whether tables satisfy a model.
+#![tactic(auto)]
+
+mod cells;
+mod closing;
+mod evaluating;
+mod generating;
+mod known;
+mod knowing;
+mod members;
+mod names;
+mod operators;
+mod powers;
+mod ranging;
+mod under;
+
+pub use closing::{EvalNo, axis, closed, inside, runs};
+pub use eprime_eval_scalars::Run;
+pub(crate) use eprime_eval_scalars::{NoMemory, Row, Scalar, Stop};
+pub use members::Closed;
