@@ -1,13 +1,12 @@
 -- The values of cells.
-use Rattle.std.proofs.Common.{◌≡◌, refl, sym, ap, ◌∙◌, Bool, true, false, ℤ, pos, negsuc, zero, suc, List, [], map, Option, Some, None, option_map, arith}
-use Rattle.std.specs.Ordering.{int_eq}
-use Rattle.ess_semantics.specs.Lists.{and_then, all_some, when}
-use Rattle.ess_semantics.specs.Values.{Text, Value, truth}
-use Rattle.ess_semantics.specs.Names.{Names, look}
+use Rattle.std.proofs.Common.{◌≡◌, refl, sym, ap, ◌∙◌, Bool, true, false, ℤ, List, [], map, Option, Some, None, option_map}
+use Rattle.ess_semantics.specs.Lists.{all_some, when}
+use Rattle.ess_semantics.specs.Values.{Text, Value}
+use Rattle.ess_semantics.specs.Names.{look}
 use Rattle.ess_semantics.specs.Tables as pure
 use Rattle.ess_semantics.specs.Tables.{cell_at, code}
 use Rattle.ess_semantics.specs.Trees.{Exs, cell_ex}
-use Rattle.ess_semantics.specs.Meaning.{Env, meaning, meanings, cell_in, cell_value, indices}
+use Rattle.ess_semantics.specs.Meaning.{Env, meaning, meanings, cell_in, cell_value}
 use Rattle.ess_semantics.specs.Operators.{false_where_undefined}
 use Rattle.eprime_eval_scalars.specs.declared.scalars.Scalar.{Scalar}
 use Rattle.eprime_eval_scalars.specs.declared.grids.Grid.{Grid}

@@ -1,5 +1,5 @@
 -- What declared domains denote under givens and their tables.
-use Rattle.std.proofs.Common.{◌≡◌, refl, sym, ap, ◌∙◌, Bool, true, List, [], ◌∷◌, ◌++◌, append-nil, map, Option, Some, None, option_map, ℤ}
+use Rattle.std.proofs.Common.{◌≡◌, sym, ap, ◌∙◌, Bool, true, List, [], ◌++◌, append-nil, map, Option, Some, ℤ}
 use Rattle.std.proofs.Common.{Result, Ok, Err}
 use Rattle.std.specs.Result.{IsErrAnd}
 use Rattle.eprime_eval.specs.declared.closing.EvalNo.{EvalNo}
@@ -7,31 +7,19 @@ use Rattle.ess_semantics.specs.Names.{Names}
 use Rattle.ess_semantics.specs.Tables as pure
 use Rattle.ess_semantics.specs.Domains.{Domain}
 use Rattle.ess_semantics.specs.DeclaredTables.{TableDecl, axis_members}
-use Rattle.ess_semantics.specs.Values.{Value}
-use Rattle.ess_semantics.specs.Meaning.{meaning, is_true, domain_of}
-use Rattle.ess_semantics.specs.Large.{is_large, is_large_dom}
-use Rattle.ess_semantics.specs.ModelMeaning.{kinded, kinded_dom, env_of_tables, model_domain, model_value}
-use Rattle.ess_semantics.specs.LargeModels.{dom_is_large, ex_is_large}
+use Rattle.ess_semantics.specs.ModelMeaning.{model_domain}
+use Rattle.ess_semantics.specs.LargeModels.{dom_is_large}
 use Rattle.ess_grammar.specs.Models.{Scope, empty_scope, with_given}
 use Rattle.ess_core.specs.declared.tables.Cells.{Cells}
 use Rattle.ess_core.specs.TableViews.{pure_cells, pure_named_table}
 use Rattle.eprime_tree.specs.declared.models.PDecl.{PDecl}
 use Rattle.eprime_tree.specs.declared.expressions.PDom.{PDom}
-use Rattle.eprime_tree.specs.declared.expressions.PEx.{PEx}
-use Rattle.eprime_tree.specs.Views.{pure_dom, pure_ex}
-use Rattle.eprime_eval_kinds.specs.declared.declared.Shape.{Shape}
-use Rattle.eprime_eval_kinds.specs.declared.nodes.KindedEx.{KindedEx}
-use Rattle.eprime_eval_kinds.specs.declared.tree.KDom.{KDom}
-use Rattle.eprime_eval_kinds.specs.KindedViews.{pure_kex, pure_kdom, pure_kinded}
-use Rattle.eprime_eval_kinds.specs.Shapes.{decl_shape, shape_of, names_of}
-use Rattle.eprime_eval_kinds.proofs.DeclaredShapes.{shapes_of_decls, names_of_shapes}
-use Rattle.eprime_eval.specs.declared.known.Known.{Known}
-use Rattle.eprime_eval.specs.declared.names.Bound.{Bound}
+use Rattle.eprime_tree.specs.Views.{pure_dom}
+use Rattle.eprime_eval_kinds.specs.Shapes.{decl_shape, shape_of}
+use Rattle.eprime_eval_kinds.proofs.DeclaredShapes.{shapes_of_decls}
 use Rattle.eprime_eval.specs.declared.under.Under.{Under}
 use Rattle.eprime_eval.specs.declared.members.Closed.{Closed}
 use Rattle.eprime_eval.specs.ClosedDomains.{pure_closed}
-use Rattle.eprime_eval.specs.KnownTables.{cells_of, IsKnown}
-use Rattle.eprime_eval.specs.Environments.{env_at}
 use Rattle.eprime_eval.specs.UnderTables.{IsUnder}
 use Rattle.eprime_eval.specs.DomainsOf.{given_decls, Denotes, HasMembers, HasLargeBound, IsItem, AreRunsOf}
 use Rattle.ess_semantics.specs.Domains.{Span}

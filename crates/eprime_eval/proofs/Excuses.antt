@@ -1,7 +1,7 @@
 -- Where a number in a part lies outside 64 bits, so does one of the whole.
-use Rattle.std.proofs.Common.{◌≡◌, Bool, true, false, ◌||◌, Option, refl, ap, sym, ◌∙◌, List, [], ◌∷◌, map, option_map}
+use Rattle.std.proofs.Common.{◌≡◌, Bool, true, false, ◌||◌, Option, refl, [], ◌∷◌, option_map}
 use Rattle.ess_semantics.specs.declared.words.Op2.{Op2}
-use Rattle.ess_semantics.specs.Values.{Text, Value}
+use Rattle.ess_semantics.specs.Values.{Text}
 use Rattle.ess_semantics.specs.Trees as pure
 use Rattle.ess_semantics.specs.Trees.{Op, node_ex, binary, cell_ex, more_exs, no_exs, is_truth_op2, ex2}
 use Rattle.ess_semantics.specs.Operators.{value_of_node, false_where_undefined}

@@ -1,10 +1,8 @@
 -- The items at a first generator or condition, and whether they are large.
-use Rattle.std.proofs.Common.{◌≡◌, ℕ, zero, suc, ◌+◌, ◌<◌, ◌++◌, add-one, arith, drop, length, get_or, Bool, true, false, ◌||◌, List, [], ◌∷◌, map, Option, Some, None, option_map, refl, ap, sym, ◌∙◌}
-use Rattle.std.specs.Prelude.{reverse}
+use Rattle.std.proofs.Common.{◌≡◌, ℕ, zero, suc, ◌+◌, ◌<◌, ◌++◌, add-one, arith, drop, length, get_or, Bool, true, false, List, [], ◌∷◌, map, Option, Some, None, option_map, refl, ap, sym, ◌∙◌}
 use Rattle.std.specs.List.{list_any}
 use Rattle.std.proofs.lemmas.List.{reverse-append}
 use Rattle.ess_semantics.specs.Values.{Text, Value, number, truth, item, node}
-use Rattle.ess_semantics.specs.Lists.{and_then}
 use Rattle.ess_semantics.specs.Meaning.{Env, meaning, domain_of, members_in, is_true, where_true, with_pat}
 use Rattle.ess_semantics.specs.Large.{is_large, is_large_dom}
 use Rattle.ess_semantics.specs.Trees as pure
@@ -20,7 +18,7 @@ use Rattle.eprime_eval_scalars.specs.declared.scalars.Scalar.{Scalar}
 use Rattle.eprime_eval_scalars.specs.ScalarViews.{pure_scalar}
 use Rattle.eprime_eval.specs.declared.known.Known.{Known}
 use Rattle.eprime_eval.specs.declared.names.Bound.{Bound}
-use Rattle.eprime_eval.specs.Environments.{env_at, bound_values}
+use Rattle.eprime_eval.specs.Environments.{env_at}
 use Rattle.eprime_eval.specs.Items.{Gathered, items_at, swept, large_items, large_swept}
 use Rattle.eprime_eval.proofs.Excuses.{or_left, or_right}
 use Rattle.eprime_eval.proofs.Gathering.{put_behind}

@@ -12,7 +12,7 @@ use Rattle.ess_semantics.proofs.Orders.{to_list-of_list}
 use Rattle.ess_grammar.specs.Models.{is_lex_operator}
 use Rattle.eprime_tree.specs.declared.words.PFun.{PFun}
 use Rattle.eprime_tree.specs.declared.words.POp2.{POp2}
-use Rattle.eprime_tree.specs.Views.{pure_fun, pure_op2, exs_of, gens_of}
+use Rattle.eprime_tree.specs.Views.{pure_fun, pure_op2, exs_of}
 use Rattle.eprime_eval_kinds.specs.declared.tree.KEx.{KEx}
 use Rattle.eprime_eval_kinds.specs.declared.tree.KList.{KList}
 use Rattle.eprime_eval_kinds.specs.declared.tree.KGen.{KGen}

@@ -1,6 +1,6 @@
 -- The numbers that stand for the members of a domain of numbers.
 use Rattle.std.proofs.Common.{◌≡◌, refl, sym, ap, ◌∙◌, List, [], ◌∷◌, map, Option, Some, None, option_map, ℤ}
-use Rattle.ess_semantics.specs.Values.{Value, number}
+use Rattle.ess_semantics.specs.Values.{number}
 use Rattle.ess_semantics.specs.Domains.{int_members, integers}
 use Rattle.ess_semantics.specs.DeclaredTables.{axis_members}
 use Rattle.ess_semantics.specs.Tables.{code}

@@ -1,17 +1,13 @@
 -- What operators give for numbers and truth values.
-use Rattle.std.proofs.Common.{◌≡◌, refl, ap, sym, ◌∙◌, ◌∷◌, [], map, List, Option, Some, None, option_map, Bool, true, false, pos, if◌then◌else◌}
-use Rattle.std.specs.Prelude.{nat_abs, ◌-ℤ◌, neg_ℤ}
+use Rattle.std.proofs.Common.{◌≡◌, refl, ◌∷◌, [], Some, pos}
+use Rattle.std.specs.Prelude.{nat_abs, ◌-ℤ◌}
 use Rattle.ess_semantics.specs.declared.words.Op1.{Op1}
 use Rattle.ess_semantics.specs.declared.words.Op2.{Op2}
-use Rattle.ess_semantics.specs.Lists.{when}
 use Rattle.ess_semantics.specs.Trees.{unary}
-use Rattle.ess_semantics.specs.Values.{Value}
 use Rattle.ess_semantics.specs.Operators.{whole, number_in, value_of_binary, value_of_node}
-use Rattle.eprime_tree.specs.declared.words.PFun.{PFun}
 use Rattle.eprime_eval_scalars.specs.declared.scalars.Scalar.{Scalar}
 use Rattle.eprime_eval_scalars.specs.declared.scalars.Scalar.TheVariants.{Num, Truth}
 use Rattle.eprime_eval_scalars.specs.ScalarViews.{pure_scalar}
-use Rattle.eprime_eval.specs.Operating.{folded}
 
 -- The difference of two scalars.
 pub minus_scalars : (a b : Scalar) → value_of_binary Op2.Minus (pure_scalar a) (pure_scalar b) ≡ whole (number_in (pure_scalar a) -ℤ number_in (pure_scalar b))

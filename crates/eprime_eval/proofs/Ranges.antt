@@ -1,5 +1,5 @@
 -- Domains of numbers, from their ranges.
-use Rattle.std.proofs.Common.{◌≡◌, refl, sym, ap, ◌∙◌, Bool, true, false, List, [], map, Option, Some, None, option_map}
+use Rattle.std.proofs.Common.{◌≡◌, sym, ap, Bool, true, false, List, [], map, Some, None, option_map}
 use Rattle.ess_semantics.specs.Lists.{append_all}
 use Rattle.ess_semantics.specs.Values.{Text}
 use Rattle.ess_semantics.specs.Domains.{integers}

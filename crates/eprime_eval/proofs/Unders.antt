@@ -1,17 +1,15 @@
 -- Declared domains under declarations and tables.
-use Rattle.std.proofs.Common.{◌≡◌, refl, sym, ap, ◌∙◌, Bool, true, List, [], ◌∷◌, ◌++◌, append-nil, map, Option, Some, None, option_map, ℤ}
+use Rattle.std.proofs.Common.{◌≡◌, refl, sym, ap, ◌∙◌, Bool, true, List, [], ◌∷◌, map, Option, option_map}
 use Rattle.ess_semantics.specs.Names.{Names}
 use Rattle.ess_semantics.specs.Tables as pure
 use Rattle.ess_semantics.specs.Domains.{Domain}
-use Rattle.ess_semantics.specs.DeclaredTables.{TableDecl, axis_members}
+use Rattle.ess_semantics.specs.DeclaredTables.{TableDecl}
 use Rattle.ess_semantics.specs.Values.{Value}
 use Rattle.ess_semantics.specs.Meaning.{meaning, is_true, domain_of}
 use Rattle.ess_semantics.specs.Large.{is_large, is_large_dom}
 use Rattle.ess_semantics.specs.ModelMeaning.{kinded, kinded_dom, env_of_tables, model_domain, model_value}
 use Rattle.ess_semantics.specs.LargeModels.{dom_is_large, ex_is_large}
-use Rattle.ess_grammar.specs.Models.{Scope, empty_scope, with_given}
-use Rattle.ess_core.specs.declared.tables.Cells.{Cells}
-use Rattle.ess_core.specs.TableViews.{pure_cells, pure_named_table}
+use Rattle.ess_grammar.specs.Models.{Scope}
 use Rattle.eprime_tree.specs.declared.models.PDecl.{PDecl}
 use Rattle.eprime_tree.specs.declared.expressions.PDom.{PDom}
 use Rattle.eprime_tree.specs.declared.expressions.PEx.{PEx}
@@ -21,8 +19,6 @@ use Rattle.eprime_eval_kinds.specs.declared.nodes.KindedEx.{KindedEx}
 use Rattle.eprime_eval_kinds.specs.declared.tree.KDom.{KDom}
 use Rattle.eprime_eval_kinds.specs.KindedViews.{pure_kex, pure_kdom, pure_kinded}
 use Rattle.eprime_eval_kinds.specs.Shapes.{decl_shape, shape_of, names_of}
-use Rattle.eprime_eval_kinds.proofs.DeclaredShapes.{shapes_of_decls, names_of_shapes}
-use Rattle.eprime_eval.specs.declared.known.Known.{Known}
 use Rattle.eprime_eval.specs.declared.names.Bound.{Bound}
 use Rattle.eprime_eval.specs.declared.under.Under.{Under}
 use Rattle.eprime_eval.specs.declared.members.Closed.{Closed}
@@ -94,4 +90,3 @@ truth_large u k e bs h z g ds s c i =
     sym (ap (λ t. is_large t (env_at u.known bs)) (ex-is u k e ds s c h i) ∙ ap (λ v. is_large (kinded ds (pure_ex s e) []).0 v) (env-is u bs (map shape_of ds) c z i)) ∙ g
 
 pub ruleset truths = (truth_there, truth_large)
-

@@ -1,5 +1,5 @@
 -- What a declared domain denotes under declarations of givens, whatever scope it was read in.
-use Rattle.std.specs.Prelude.{◌≡◌, Bool, true, List, map, Option, Some, ℤ}
+use Rattle.std.specs.Prelude.{◌≡◌, Bool, true, List, Option, Some, ℤ}
 use Rattle.ess_semantics.specs.DeclaredTables.{TableDecl}
 use Rattle.ess_semantics.specs.Domains.{Span, Domain}
 use Rattle.ess_semantics.specs.Tables.{is_cell}

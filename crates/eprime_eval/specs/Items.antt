@@ -1,13 +1,11 @@
 -- The items of a list, over all bindings of the generators of a comprehension.
 use Rattle.std.specs.Prelude.{◌≡◌, Bool, true, false, List, [], ◌∷◌, ◌++◌, Option, Some, None, option_map}
 use Rattle.std.specs.List.{list_any}
-use Rattle.ess_semantics.specs.Lists.{and_then}
 use Rattle.ess_semantics.specs.Values.{Text, Value, items_of}
-use Rattle.ess_semantics.specs.Trees.{Ex, name_pat, one_value, both_ends, low_end, high_end}
-use Rattle.ess_semantics.specs.Domains.{Span}
-use Rattle.ess_semantics.specs.Meaning.{Env, meaning, items_under, collect, with_pat, as_int}
+use Rattle.ess_semantics.specs.Trees.{Ex, name_pat}
+use Rattle.ess_semantics.specs.Meaning.{Env, meaning, items_under, collect, with_pat}
 use Rattle.ess_semantics.specs.Large.{is_large, is_large_under}
-use Rattle.eprime_tree.specs.Views.{Item, gens_of, Bounds}
+use Rattle.eprime_tree.specs.Views.{Item, gens_of}
 
 -- The items at all bindings of the generators and conditions, where each has a value.
 abbrev pub items_at : Ex → List Item → Env → Option (List Value)

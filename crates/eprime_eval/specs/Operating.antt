@@ -2,7 +2,7 @@
 use Rattle.std.specs.Prelude.{List, Option}
 use Rattle.ess_semantics.specs.Lists.{and_then}
 use Rattle.ess_semantics.specs.Values.{Value}
-use Rattle.ess_semantics.specs.Trees.{word, binary, is_truth_op, is_truth_op2}
+use Rattle.ess_semantics.specs.Trees.{word, is_truth_op, is_truth_op2}
 use Rattle.ess_semantics.specs.Operators.{yes_no, whole, sum_of, product_of, all_true, any_true, all_different, least, greatest, list_value, value_of_binary, false_where_undefined}
 use Rattle.eprime_tree.specs.declared.words.PFun.{PFun}
 use Rattle.eprime_tree.specs.declared.words.POp2.{POp2}

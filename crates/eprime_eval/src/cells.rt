@@ -60,5 +60,9 @@ fn item_value(mark: bool, item: Option<i64>) -> Option<Scalar>
 fn nothing(mark: bool) -> Option<Scalar>
     ensures { option_map pure_scalar result ≡ false_where_undefined mark None }
 {
-    if mark { Some(Scalar::Truth(false)) } else { None }
+    if mark {
+        Some(Scalar::Truth(false))
+    } else {
+        None
+    }
 }

@@ -87,7 +87,16 @@ fn runs_over(
         → large_items (pure_kex known.now.names item.now) (over_item name.now (pure_kdom known.now.names dom.now) ∷ map (pure_kgen known.now.names) rest.now) (env_at known.now bound.old) ≡ true }
 {
     match domain_members(alloc, dom, known, bound)? {
-        Some(vals) => sweep(alloc, item, name, vals.as_slice(), rest, known, bound, items),
+        Some(vals) => sweep(
+            alloc,
+            item,
+            name,
+            vals.as_slice(),
+            rest,
+            known,
+            bound,
+            items,
+        ),
         None => Ok(false),
     }
 }

@@ -32,7 +32,10 @@ pub(crate) fn value_of_name(name: &Text, bound: &[Bound]) -> Option<Scalar>
 fn newest<'a>(bound: &'a [Bound], name: &Text) -> Option<&'a Bound>
     ensures { option_copied result ≡ find (λ b. same_text b.name name.now) (reverse bound.now) }
 {
-    bound.iter().rev().find(|found| same_name(&found.name, name))
+    bound
+        .iter()
+        .rev()
+        .find(|found| same_name(&found.name, name))
 }
 
 /// Whether two names are equal.

@@ -14,13 +14,13 @@ ghost use Rattle.eprime_eval.specs.UnderTables.{IsUnder};
 ghost use Rattle.eprime_eval.specs.KnownTables.{IsKnown};
 ghost use Rattle.eprime_eval.specs.declared.closing.EvalNo.TheVariants.{Undefined, Big};
 
+use crate::closing::EvalNo;
 use crate::evaluating::value_at;
-use crate::known::Known;
 use crate::knowing::known_of;
+use crate::known::Known;
 use crate::members::Closed;
 use crate::operators::truth_of;
 use crate::ranging::closed_at;
-use crate::closing::EvalNo;
 use crate::{NoMemory, Row, Stop};
 use eprime_eval_kinds::{Declared, kinded, kinded_dom};
 use eprime_tree::{PDecl, PDom, PEx};

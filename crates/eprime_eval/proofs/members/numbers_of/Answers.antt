@@ -1,4 +1,4 @@
-use Rattle.std.proofs.Common.{◌≡◌, ap, sym, ◌∙◌, map, Some}
+use Rattle.std.proofs.Common.{ap, sym, ◌∙◌, map, Some}
 use Rattle.ess_semantics.specs.Domains.{int_members}
 use Rattle.ess_semantics.specs.DeclaredTables.{axis_members}
 use Rattle.eprime_eval_scalars.specs.Runs.{pure_run}

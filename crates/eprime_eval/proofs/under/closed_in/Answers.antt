@@ -1,4 +1,4 @@
-use Rattle.std.proofs.Common.{◌≡◌, ap, sym, ◌∙◌, Some, None, Err, option_map}
+use Rattle.std.proofs.Common.{ap, sym, ◌∙◌, Some, None, Err, option_map}
 use Rattle.ess_semantics.specs.Meaning.{domain_of}
 use Rattle.ess_semantics.specs.Large.{is_large_dom}
 use Rattle.eprime_eval_kinds.specs.KindedViews.{pure_kdom}

@@ -1,4 +1,4 @@
-use Rattle.std.proofs.Common.{◌≡◌, ap, sym, ◌∙◌, Err, option_map}
+use Rattle.std.proofs.Common.{ap, sym, ◌∙◌, Err, option_map}
 use Rattle.ess_semantics.specs.Meaning.{meaning}
 use Rattle.ess_semantics.specs.Large.{is_large}
 use Rattle.eprime_eval_kinds.specs.KindedViews.{pure_kex}
