@@ -6,7 +6,7 @@ use Rattle.ess_semantics.specs.declared.words.ReprKind.{ReprKind}
 use Rattle.ess_semantics.specs.Values.{Text}
 use Rattle.ess_semantics.specs.Trees.{one_value, both_ends, flag, valued, Repr, Reprs, repr, no_reprs, more_reprs, Ex, number_ex, name_ex, no_exs, more_exs, Dom, bool_dom, int_dom, name_dom, tuple_dom, set_dom, mset_dom, function_dom, relation_dom, partition_dom}
 use Rattle.ess_semantics.proofs.Shorthands.{n, es1, es2, ds2, upto, set}
-use Rattle.ess_repr_declare_laws.specs.SizeTerms.{zero_ex, one_ex, two_ex, next_ex, minus_ex, times_ex, power_ex, at_least_0_ex, listed_ex, bound_ex, slots_ex}
+use Rattle.ess_repr_declare_laws.specs.SizeTerms.{zero_ex, one_ex, two_ex, next_ex, plus_ex, minus_ex, times_ex, power_ex, at_least_0_ex, listed_ex, bound_ex, slots_ex}
 use Rattle.ess_repr_declare_laws.specs.ChildDomains.{child_doms}
 use Rattle.ess_repr_declare_laws.specs.DeclaredTrees.{from_to, decl, declared_trees}
 
@@ -21,8 +21,8 @@ leaf k = repr k no_reprs
 abbrev one : ReprKind → Repr → Repr
 one k r = repr k (more_reprs r no_reprs)
 
--- int(3..7) has 7 - 3 + 1 members, int(1..n) max([0, n]), int(5..4) none.
-span_of_numbers : bound_ex (numbers (n 3) (n 7)) ≡ next_ex (minus_ex (n 7) (n 3))
+-- int(3..7) has 1 - 3 + 7 members, int(1..n) max([0, n]), int(5..4) none.
+span_of_numbers : bound_ex (numbers (n 3) (n 7)) ≡ plus_ex (minus_ex one_ex (n 3)) (n 7)
 span_of_numbers = refl
 
 span_to_a_name : bound_ex (numbers (n 1) (name_ex (codes "n"))) ≡ at_least_0_ex (name_ex (codes "n"))

@@ -1,1 +1,5 @@
 pub mod ExamplesDeclared
+pub mod Readings
+pub mod SizeMeaning
+pub mod ChildTrees
+pub mod ChildLaw

@@ -2,10 +2,14 @@
 use Rattle.std.specs.Prelude.{List, [], ◌∷◌}
 use Rattle.ess_semantics.specs.declared.words.ReprKind.{ReprKind}
 use Rattle.ess_semantics.specs.Kinds.{dom_list}
-use Rattle.ess_semantics.specs.Trees.{Dom, tuple_dom, record_dom, matrix_dom, set_dom, mset_dom, function_dom, relation_dom, partition_dom}
+use Rattle.ess_semantics.specs.Trees.{Repr, repr, Dom, tuple_dom, record_dom, matrix_dom, set_dom, mset_dom, function_dom, relation_dom, partition_dom}
 use Rattle.ess_repr_laws.specs.StructureParts.{tuple_set_dom}
 use Rattle.ess_repr_laws.specs.ViewParts.{pair_relation_dom, part_set_dom}
 use Rattle.ess_repr_declare_laws.specs.SizeTerms.{size_terms}
+
+-- The kind of a representation.
+abbrev pub kind_of : Repr → ReprKind
+kind_of (repr k rs) = k
 
 -- The domains of a kind's children, where the kind is one for the domain.
 abbrev pub child_doms : ReprKind → Dom → List Dom

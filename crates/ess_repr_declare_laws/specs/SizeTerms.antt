@@ -73,7 +73,7 @@ numerals_order a b = and_then (numeral a) (λ m. option_map (λ n. int_cmp m n) 
 
 -- How many numbers there are from a to b, where b isn't below a.
 abbrev pub span_ex : Ex → Ex → Ex
-span_ex a b = if is_numeral (pos 0) a then next_ex b else (if is_numeral (pos 1) a then b else next_ex (minus_ex b a))
+span_ex a b = if is_numeral (pos 0) a then next_ex b else (if is_numeral (pos 1) a then b else plus_ex (minus_ex one_ex a) b)
 
 -- The same, as far as the order of a and b is known.
 abbrev pub span_by : Option Ordering → Ex → Ex → Ex
@@ -86,9 +86,14 @@ span_by None a b = at_least_0_ex (span_ex a b)
 abbrev pub between_ex : Ex → Ex → Ex
 between_ex a b = span_by (numerals_order a b) a b
 
+-- An int domain whose one range says that it has both bounds, and has none.
+abbrev pub lacks_bounds : Dom → Bool
+lacks_bounds (int_dom (both_ends ∷ []) no_exs) = true
+lacks_bounds _ = false
+
 -- A bound of a range without bounds, which no text has. It has no meaning.
 abbrev pub is_missing : Ex → Bool
-is_missing (seen_ex r (int_dom (both_ends ∷ []) no_exs) ns is) = true
+is_missing (seen_ex r d ns is) = lacks_bounds d
 is_missing _ = false
 
 -- A bound, or 0 for a missing one.
