@@ -3,3 +3,4 @@ pub mod Readings
 pub mod SizeMeaning
 pub mod ChildTrees
 pub mod ChildLaw
+pub mod DeclaredNames
