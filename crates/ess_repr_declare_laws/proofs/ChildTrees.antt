@@ -13,7 +13,7 @@ use Rattle.ess_repr_laws.specs.StructureParts.{number_of_key, tuple_set_dom}
 use Rattle.ess_repr_laws.specs.ViewParts.{number_as, pair_relation_dom, part_dom, part_set_dom}
 use Rattle.ess_repr_declare_laws.specs.SizeTerms.{number_of, bound_ex, size_terms}
 use Rattle.ess_repr_declare_laws.proofs.Readings.{Reads}
-use Rattle.ess_repr_declare_laws.proofs.SizeMeaning.{Numbered}
+use Rattle.ess_repr_declare_laws.proofs.SizeNumbers.{Numbered}
 
 -- ---- trees
 

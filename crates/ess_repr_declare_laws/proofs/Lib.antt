@@ -1,6 +1,15 @@
 pub mod ExamplesDeclared
 pub mod Readings
+pub mod SizeNumbers
+pub mod IntSizes
 pub mod SizeMeaning
 pub mod ChildTrees
+pub mod ChildSizes
+pub mod ChildNames
+pub mod ChildDomainsDenoted
 pub mod ChildLaw
+pub mod OwnNames
+pub mod ChildAxes
+pub mod AlikeChildren
+pub mod SoundChildren
 pub mod DeclaredNames

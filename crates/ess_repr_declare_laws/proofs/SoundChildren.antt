@@ -1,0 +1,291 @@
+-- The children of a sound domain are sound.
+use Rattle.std.proofs.Common.{◌≡◌, refl, sym, subst, true, List, [], ◌∷◌, Option, Some, None}
+use Rattle.std.specs.List.{list_all}
+use Rattle.ess_semantics.specs.declared.words.Key.{Key}
+use Rattle.ess_semantics.specs.declared.words.ReprKind.{ReprKind}
+use Rattle.ess_semantics.specs.Kinds.{dom_list, child_forms}
+use Rattle.ess_semantics.specs.Trees.{Ex, Dom, Doms, bool_dom, int_dom, name_dom, tuple_dom, record_dom, matrix_dom, set_dom, mset_dom, function_dom, relation_dom, partition_dom, no_doms, more_doms}
+use Rattle.ess_repr_laws.specs.WellFormed.{is_right}
+use Rattle.ess_repr_declare_laws.specs.SizeTerms.{number_of}
+use Rattle.ess_repr_declare_laws.specs.ChildDomains.{child_doms}
+use Rattle.ess_repr_declare_laws.specs.Laws.{are_numbered, Sound, AllSound}
+use Rattle.ess_repr_declare_laws.proofs.ChildTrees.{three, sets-are, pairs_size, pairs_greatest, pairs-are, part-is, parts_greatest, parts-are}
+
+-- ---- children are sound
+
+three-right : (s a b : Option Ex) → list_all is_right (three s a b).0 ≡ true
+three-right None None None = refl
+three-right None None (Some b) = refl
+three-right None (Some a) None = refl
+three-right None (Some a) (Some b) = refl
+three-right (Some s) None None = refl
+three-right (Some s) None (Some b) = refl
+three-right (Some s) (Some a) None = refl
+three-right (Some s) (Some a) (Some b) = refl
+
+three-numbered : (s a b : Option Ex) → are_numbered (three s a b).0 (three s a b).1 ≡ true
+three-numbered None None None = refl
+three-numbered None None (Some b) = refl
+three-numbered None (Some a) None = refl
+three-numbered None (Some a) (Some b) = refl
+three-numbered (Some s) None None = refl
+three-numbered (Some s) None (Some b) = refl
+three-numbered (Some s) (Some a) None = refl
+three-numbered (Some s) (Some a) (Some b) = refl
+
+-- Each of the domains is sound.
+abbrev pub EachSound : List Dom → Type 0
+EachSound [] = Unit {0}
+EachSound (d ∷ ds) = Sound d × EachSound ds
+
+parts-sound : (ts : Doms) → AllSound ts → EachSound (dom_list ts)
+parts-sound no_doms h = tt
+parts-sound (more_doms d ts) h = (h.0, parts-sound ts h.1)
+
+pub children-sound : (k : ReprKind) (d : Dom) (ds : List Dom) → Sound d → child_forms k d ≡ Some ds → EachSound (child_doms k d)
+children-sound ReprKind.Atom bool_dom ds s h = tt
+children-sound ReprKind.Atom (int_dom rs es) ds s h = tt
+children-sound ReprKind.Atom (name_dom a) ds s h = tt
+children-sound ReprKind.Atom (tuple_dom ts) ds s h = cc
+children-sound ReprKind.Atom (record_dom fs ts) ds s h = cc
+children-sound ReprKind.Atom (matrix_dom is d) ds s h = cc
+children-sound ReprKind.Atom (set_dom ms es d) ds s h = cc
+children-sound ReprKind.Atom (mset_dom ms es d) ds s h = cc
+children-sound ReprKind.Atom (function_dom ms es d c) ds s h = cc
+children-sound ReprKind.Atom (relation_dom ms es ts) ds s h = cc
+children-sound ReprKind.Atom (partition_dom ms es d) ds s h = cc
+children-sound ReprKind.Tuple bool_dom ds s h = cc
+children-sound ReprKind.Tuple (int_dom rs es) ds s h = cc
+children-sound ReprKind.Tuple (name_dom a) ds s h = cc
+children-sound ReprKind.Tuple (tuple_dom ts) ds s h = parts-sound ts s
+children-sound ReprKind.Tuple (record_dom fs ts) ds s h = cc
+children-sound ReprKind.Tuple (matrix_dom is d) ds s h = cc
+children-sound ReprKind.Tuple (set_dom ms es d) ds s h = cc
+children-sound ReprKind.Tuple (mset_dom ms es d) ds s h = cc
+children-sound ReprKind.Tuple (function_dom ms es d c) ds s h = cc
+children-sound ReprKind.Tuple (relation_dom ms es ts) ds s h = cc
+children-sound ReprKind.Tuple (partition_dom ms es d) ds s h = cc
+children-sound ReprKind.Rec bool_dom ds s h = cc
+children-sound ReprKind.Rec (int_dom rs es) ds s h = cc
+children-sound ReprKind.Rec (name_dom a) ds s h = cc
+children-sound ReprKind.Rec (tuple_dom ts) ds s h = cc
+children-sound ReprKind.Rec (record_dom fs ts) ds s h = parts-sound ts s
+children-sound ReprKind.Rec (matrix_dom is d) ds s h = cc
+children-sound ReprKind.Rec (set_dom ms es d) ds s h = cc
+children-sound ReprKind.Rec (mset_dom ms es d) ds s h = cc
+children-sound ReprKind.Rec (function_dom ms es d c) ds s h = cc
+children-sound ReprKind.Rec (relation_dom ms es ts) ds s h = cc
+children-sound ReprKind.Rec (partition_dom ms es d) ds s h = cc
+children-sound ReprKind.Matrix bool_dom ds s h = cc
+children-sound ReprKind.Matrix (int_dom rs es) ds s h = cc
+children-sound ReprKind.Matrix (name_dom a) ds s h = cc
+children-sound ReprKind.Matrix (tuple_dom ts) ds s h = cc
+children-sound ReprKind.Matrix (record_dom fs ts) ds s h = cc
+children-sound ReprKind.Matrix (matrix_dom is d) ds s h = (s.2, tt)
+children-sound ReprKind.Matrix (set_dom ms es d) ds s h = cc
+children-sound ReprKind.Matrix (mset_dom ms es d) ds s h = cc
+children-sound ReprKind.Matrix (function_dom ms es d c) ds s h = cc
+children-sound ReprKind.Matrix (relation_dom ms es ts) ds s h = cc
+children-sound ReprKind.Matrix (partition_dom ms es d) ds s h = cc
+children-sound ReprKind.Occurrence bool_dom ds s h = cc
+children-sound ReprKind.Occurrence (int_dom rs es) ds s h = cc
+children-sound ReprKind.Occurrence (name_dom a) ds s h = cc
+children-sound ReprKind.Occurrence (tuple_dom ts) ds s h = cc
+children-sound ReprKind.Occurrence (record_dom fs ts) ds s h = cc
+children-sound ReprKind.Occurrence (matrix_dom is d) ds s h = cc
+children-sound ReprKind.Occurrence (set_dom ms es d) ds s h = tt
+children-sound ReprKind.Occurrence (mset_dom ms es d) ds s h = cc
+children-sound ReprKind.Occurrence (function_dom ms es d c) ds s h = cc
+children-sound ReprKind.Occurrence (relation_dom ms es ts) ds s h = cc
+children-sound ReprKind.Occurrence (partition_dom ms es d) ds s h = cc
+children-sound ReprKind.Explicit bool_dom ds s h = cc
+children-sound ReprKind.Explicit (int_dom rs es) ds s h = cc
+children-sound ReprKind.Explicit (name_dom a) ds s h = cc
+children-sound ReprKind.Explicit (tuple_dom ts) ds s h = cc
+children-sound ReprKind.Explicit (record_dom fs ts) ds s h = cc
+children-sound ReprKind.Explicit (matrix_dom is d) ds s h = cc
+children-sound ReprKind.Explicit (set_dom ms es d) ds s h = (s.2, tt)
+children-sound ReprKind.Explicit (mset_dom ms es d) ds s h = cc
+children-sound ReprKind.Explicit (function_dom ms es d c) ds s h = cc
+children-sound ReprKind.Explicit (relation_dom ms es ts) ds s h = cc
+children-sound ReprKind.Explicit (partition_dom ms es d) ds s h = cc
+children-sound ReprKind.ExplicitVarSizeWithMarker bool_dom ds s h = cc
+children-sound ReprKind.ExplicitVarSizeWithMarker (int_dom rs es) ds s h = cc
+children-sound ReprKind.ExplicitVarSizeWithMarker (name_dom a) ds s h = cc
+children-sound ReprKind.ExplicitVarSizeWithMarker (tuple_dom ts) ds s h = cc
+children-sound ReprKind.ExplicitVarSizeWithMarker (record_dom fs ts) ds s h = cc
+children-sound ReprKind.ExplicitVarSizeWithMarker (matrix_dom is d) ds s h = cc
+children-sound ReprKind.ExplicitVarSizeWithMarker (set_dom ms es d) ds s h = (s.2, tt)
+children-sound ReprKind.ExplicitVarSizeWithMarker (mset_dom ms es d) ds s h = cc
+children-sound ReprKind.ExplicitVarSizeWithMarker (function_dom ms es d c) ds s h = cc
+children-sound ReprKind.ExplicitVarSizeWithMarker (relation_dom ms es ts) ds s h = cc
+children-sound ReprKind.ExplicitVarSizeWithMarker (partition_dom ms es d) ds s h = cc
+children-sound ReprKind.ExplicitVarSizeWithFlags bool_dom ds s h = cc
+children-sound ReprKind.ExplicitVarSizeWithFlags (int_dom rs es) ds s h = cc
+children-sound ReprKind.ExplicitVarSizeWithFlags (name_dom a) ds s h = cc
+children-sound ReprKind.ExplicitVarSizeWithFlags (tuple_dom ts) ds s h = cc
+children-sound ReprKind.ExplicitVarSizeWithFlags (record_dom fs ts) ds s h = cc
+children-sound ReprKind.ExplicitVarSizeWithFlags (matrix_dom is d) ds s h = cc
+children-sound ReprKind.ExplicitVarSizeWithFlags (set_dom ms es d) ds s h = (s.2, tt)
+children-sound ReprKind.ExplicitVarSizeWithFlags (mset_dom ms es d) ds s h = cc
+children-sound ReprKind.ExplicitVarSizeWithFlags (function_dom ms es d c) ds s h = cc
+children-sound ReprKind.ExplicitVarSizeWithFlags (relation_dom ms es ts) ds s h = cc
+children-sound ReprKind.ExplicitVarSizeWithFlags (partition_dom ms es d) ds s h = cc
+children-sound ReprKind.ExplicitVarSizeWithDummy bool_dom ds s h = cc
+children-sound ReprKind.ExplicitVarSizeWithDummy (int_dom rs es) ds s h = cc
+children-sound ReprKind.ExplicitVarSizeWithDummy (name_dom a) ds s h = cc
+children-sound ReprKind.ExplicitVarSizeWithDummy (tuple_dom ts) ds s h = cc
+children-sound ReprKind.ExplicitVarSizeWithDummy (record_dom fs ts) ds s h = cc
+children-sound ReprKind.ExplicitVarSizeWithDummy (matrix_dom is d) ds s h = cc
+children-sound ReprKind.ExplicitVarSizeWithDummy (set_dom ms es d) ds s h = tt
+children-sound ReprKind.ExplicitVarSizeWithDummy (mset_dom ms es d) ds s h = cc
+children-sound ReprKind.ExplicitVarSizeWithDummy (function_dom ms es d c) ds s h = cc
+children-sound ReprKind.ExplicitVarSizeWithDummy (relation_dom ms es ts) ds s h = cc
+children-sound ReprKind.ExplicitVarSizeWithDummy (partition_dom ms es d) ds s h = cc
+children-sound ReprKind.MSetOccurrence bool_dom ds s h = cc
+children-sound ReprKind.MSetOccurrence (int_dom rs es) ds s h = cc
+children-sound ReprKind.MSetOccurrence (name_dom a) ds s h = cc
+children-sound ReprKind.MSetOccurrence (tuple_dom ts) ds s h = cc
+children-sound ReprKind.MSetOccurrence (record_dom fs ts) ds s h = cc
+children-sound ReprKind.MSetOccurrence (matrix_dom is d) ds s h = cc
+children-sound ReprKind.MSetOccurrence (set_dom ms es d) ds s h = cc
+children-sound ReprKind.MSetOccurrence (mset_dom ms es d) ds s h = tt
+children-sound ReprKind.MSetOccurrence (function_dom ms es d c) ds s h = cc
+children-sound ReprKind.MSetOccurrence (relation_dom ms es ts) ds s h = cc
+children-sound ReprKind.MSetOccurrence (partition_dom ms es d) ds s h = cc
+children-sound ReprKind.MSetExplicitWithRepetition bool_dom ds s h = cc
+children-sound ReprKind.MSetExplicitWithRepetition (int_dom rs es) ds s h = cc
+children-sound ReprKind.MSetExplicitWithRepetition (name_dom a) ds s h = cc
+children-sound ReprKind.MSetExplicitWithRepetition (tuple_dom ts) ds s h = cc
+children-sound ReprKind.MSetExplicitWithRepetition (record_dom fs ts) ds s h = cc
+children-sound ReprKind.MSetExplicitWithRepetition (matrix_dom is d) ds s h = cc
+children-sound ReprKind.MSetExplicitWithRepetition (set_dom ms es d) ds s h = cc
+children-sound ReprKind.MSetExplicitWithRepetition (mset_dom ms es d) ds s h = (s.2, tt)
+children-sound ReprKind.MSetExplicitWithRepetition (function_dom ms es d c) ds s h = cc
+children-sound ReprKind.MSetExplicitWithRepetition (relation_dom ms es ts) ds s h = cc
+children-sound ReprKind.MSetExplicitWithRepetition (partition_dom ms es d) ds s h = cc
+children-sound ReprKind.MSetExplicitWithFlags bool_dom ds s h = cc
+children-sound ReprKind.MSetExplicitWithFlags (int_dom rs es) ds s h = cc
+children-sound ReprKind.MSetExplicitWithFlags (name_dom a) ds s h = cc
+children-sound ReprKind.MSetExplicitWithFlags (tuple_dom ts) ds s h = cc
+children-sound ReprKind.MSetExplicitWithFlags (record_dom fs ts) ds s h = cc
+children-sound ReprKind.MSetExplicitWithFlags (matrix_dom is d) ds s h = cc
+children-sound ReprKind.MSetExplicitWithFlags (set_dom ms es d) ds s h = cc
+children-sound ReprKind.MSetExplicitWithFlags (mset_dom ms es d) ds s h = (s.2, tt)
+children-sound ReprKind.MSetExplicitWithFlags (function_dom ms es d c) ds s h = cc
+children-sound ReprKind.MSetExplicitWithFlags (relation_dom ms es ts) ds s h = cc
+children-sound ReprKind.MSetExplicitWithFlags (partition_dom ms es d) ds s h = cc
+children-sound ReprKind.Function1D bool_dom ds s h = cc
+children-sound ReprKind.Function1D (int_dom rs es) ds s h = cc
+children-sound ReprKind.Function1D (name_dom a) ds s h = cc
+children-sound ReprKind.Function1D (tuple_dom ts) ds s h = cc
+children-sound ReprKind.Function1D (record_dom fs ts) ds s h = cc
+children-sound ReprKind.Function1D (matrix_dom is d) ds s h = cc
+children-sound ReprKind.Function1D (set_dom ms es d) ds s h = cc
+children-sound ReprKind.Function1D (mset_dom ms es d) ds s h = cc
+children-sound ReprKind.Function1D (function_dom ms es d c) ds s h = (s.4, tt)
+children-sound ReprKind.Function1D (relation_dom ms es ts) ds s h = cc
+children-sound ReprKind.Function1D (partition_dom ms es d) ds s h = cc
+children-sound ReprKind.Function1DPartial bool_dom ds s h = cc
+children-sound ReprKind.Function1DPartial (int_dom rs es) ds s h = cc
+children-sound ReprKind.Function1DPartial (name_dom a) ds s h = cc
+children-sound ReprKind.Function1DPartial (tuple_dom ts) ds s h = cc
+children-sound ReprKind.Function1DPartial (record_dom fs ts) ds s h = cc
+children-sound ReprKind.Function1DPartial (matrix_dom is d) ds s h = cc
+children-sound ReprKind.Function1DPartial (set_dom ms es d) ds s h = cc
+children-sound ReprKind.Function1DPartial (mset_dom ms es d) ds s h = cc
+children-sound ReprKind.Function1DPartial (function_dom ms es d c) ds s h = (s.4, tt)
+children-sound ReprKind.Function1DPartial (relation_dom ms es ts) ds s h = cc
+children-sound ReprKind.Function1DPartial (partition_dom ms es d) ds s h = cc
+children-sound ReprKind.FunctionND bool_dom ds s h = cc
+children-sound ReprKind.FunctionND (int_dom rs es) ds s h = cc
+children-sound ReprKind.FunctionND (name_dom a) ds s h = cc
+children-sound ReprKind.FunctionND (tuple_dom ts) ds s h = cc
+children-sound ReprKind.FunctionND (record_dom fs ts) ds s h = cc
+children-sound ReprKind.FunctionND (matrix_dom is d) ds s h = cc
+children-sound ReprKind.FunctionND (set_dom ms es d) ds s h = cc
+children-sound ReprKind.FunctionND (mset_dom ms es d) ds s h = cc
+children-sound ReprKind.FunctionND (function_dom ms es d c) ds s h = (s.4, tt)
+children-sound ReprKind.FunctionND (relation_dom ms es ts) ds s h = cc
+children-sound ReprKind.FunctionND (partition_dom ms es d) ds s h = cc
+children-sound ReprKind.FunctionNDPartial bool_dom ds s h = cc
+children-sound ReprKind.FunctionNDPartial (int_dom rs es) ds s h = cc
+children-sound ReprKind.FunctionNDPartial (name_dom a) ds s h = cc
+children-sound ReprKind.FunctionNDPartial (tuple_dom ts) ds s h = cc
+children-sound ReprKind.FunctionNDPartial (record_dom fs ts) ds s h = cc
+children-sound ReprKind.FunctionNDPartial (matrix_dom is d) ds s h = cc
+children-sound ReprKind.FunctionNDPartial (set_dom ms es d) ds s h = cc
+children-sound ReprKind.FunctionNDPartial (mset_dom ms es d) ds s h = cc
+children-sound ReprKind.FunctionNDPartial (function_dom ms es d c) ds s h = (s.4, tt)
+children-sound ReprKind.FunctionNDPartial (relation_dom ms es ts) ds s h = cc
+children-sound ReprKind.FunctionNDPartial (partition_dom ms es d) ds s h = cc
+children-sound ReprKind.FunctionAsRelation bool_dom ds s h = cc
+children-sound ReprKind.FunctionAsRelation (int_dom rs es) ds s h = cc
+children-sound ReprKind.FunctionAsRelation (name_dom a) ds s h = cc
+children-sound ReprKind.FunctionAsRelation (tuple_dom ts) ds s h = cc
+children-sound ReprKind.FunctionAsRelation (record_dom fs ts) ds s h = cc
+children-sound ReprKind.FunctionAsRelation (matrix_dom is d) ds s h = cc
+children-sound ReprKind.FunctionAsRelation (set_dom ms es d) ds s h = cc
+children-sound ReprKind.FunctionAsRelation (mset_dom ms es d) ds s h = cc
+children-sound ReprKind.FunctionAsRelation (function_dom ms es d c) ds s h =
+    let x = pairs_size ms es d in
+    let y = number_of Key.MinSize ms es in
+    let z = pairs_greatest ms es d in
+    (subst Sound (sym (pairs-are ms es d c)) (three-right x y z, three-numbered x y z, (s.3, (s.4, tt))), tt)
+children-sound ReprKind.FunctionAsRelation (relation_dom ms es ts) ds s h = cc
+children-sound ReprKind.FunctionAsRelation (partition_dom ms es d) ds s h = cc
+children-sound ReprKind.RelationAsMatrix bool_dom ds s h = cc
+children-sound ReprKind.RelationAsMatrix (int_dom rs es) ds s h = cc
+children-sound ReprKind.RelationAsMatrix (name_dom a) ds s h = cc
+children-sound ReprKind.RelationAsMatrix (tuple_dom ts) ds s h = cc
+children-sound ReprKind.RelationAsMatrix (record_dom fs ts) ds s h = cc
+children-sound ReprKind.RelationAsMatrix (matrix_dom is d) ds s h = cc
+children-sound ReprKind.RelationAsMatrix (set_dom ms es d) ds s h = cc
+children-sound ReprKind.RelationAsMatrix (mset_dom ms es d) ds s h = cc
+children-sound ReprKind.RelationAsMatrix (function_dom ms es d c) ds s h = cc
+children-sound ReprKind.RelationAsMatrix (relation_dom ms es ts) ds s h = tt
+children-sound ReprKind.RelationAsMatrix (partition_dom ms es d) ds s h = cc
+children-sound ReprKind.RelationAsSet bool_dom ds s h = cc
+children-sound ReprKind.RelationAsSet (int_dom rs es) ds s h = cc
+children-sound ReprKind.RelationAsSet (name_dom a) ds s h = cc
+children-sound ReprKind.RelationAsSet (tuple_dom ts) ds s h = cc
+children-sound ReprKind.RelationAsSet (record_dom fs ts) ds s h = cc
+children-sound ReprKind.RelationAsSet (matrix_dom is d) ds s h = cc
+children-sound ReprKind.RelationAsSet (set_dom ms es d) ds s h = cc
+children-sound ReprKind.RelationAsSet (mset_dom ms es d) ds s h = cc
+children-sound ReprKind.RelationAsSet (function_dom ms es d c) ds s h = cc
+children-sound ReprKind.RelationAsSet (relation_dom ms es ts) ds s h =
+    let x = number_of Key.Size ms es in
+    let y = number_of Key.MinSize ms es in
+    let z = number_of Key.MaxSize ms es in
+    (subst Sound (sym (sets-are ms es ts)) (three-right x y z, three-numbered x y z, s.2), tt)
+children-sound ReprKind.RelationAsSet (partition_dom ms es d) ds s h = cc
+children-sound ReprKind.PartitionOccurrence bool_dom ds s h = cc
+children-sound ReprKind.PartitionOccurrence (int_dom rs es) ds s h = cc
+children-sound ReprKind.PartitionOccurrence (name_dom a) ds s h = cc
+children-sound ReprKind.PartitionOccurrence (tuple_dom ts) ds s h = cc
+children-sound ReprKind.PartitionOccurrence (record_dom fs ts) ds s h = cc
+children-sound ReprKind.PartitionOccurrence (matrix_dom is d) ds s h = cc
+children-sound ReprKind.PartitionOccurrence (set_dom ms es d) ds s h = cc
+children-sound ReprKind.PartitionOccurrence (mset_dom ms es d) ds s h = cc
+children-sound ReprKind.PartitionOccurrence (function_dom ms es d c) ds s h = cc
+children-sound ReprKind.PartitionOccurrence (relation_dom ms es ts) ds s h = cc
+children-sound ReprKind.PartitionOccurrence (partition_dom ms es d) ds s h = tt
+children-sound ReprKind.PartitionAsSet bool_dom ds s h = cc
+children-sound ReprKind.PartitionAsSet (int_dom rs es) ds s h = cc
+children-sound ReprKind.PartitionAsSet (name_dom a) ds s h = cc
+children-sound ReprKind.PartitionAsSet (tuple_dom ts) ds s h = cc
+children-sound ReprKind.PartitionAsSet (record_dom fs ts) ds s h = cc
+children-sound ReprKind.PartitionAsSet (matrix_dom is d) ds s h = cc
+children-sound ReprKind.PartitionAsSet (set_dom ms es d) ds s h = cc
+children-sound ReprKind.PartitionAsSet (mset_dom ms es d) ds s h = cc
+children-sound ReprKind.PartitionAsSet (function_dom ms es d c) ds s h = cc
+children-sound ReprKind.PartitionAsSet (relation_dom ms es ts) ds s h = cc
+children-sound ReprKind.PartitionAsSet (partition_dom ms es d) ds s h =
+    let x = number_of Key.NumParts ms es in
+    let y = number_of Key.MinNumParts ms es in
+    let z = parts_greatest ms es d in
+    let u = number_of Key.PartSize ms es in
+    let v = number_of Key.MinPartSize ms es in
+    let w = number_of Key.MaxPartSize ms es in
+    (subst Sound (sym (parts-are ms es d)) (three-right x y z, three-numbered x y z, subst Sound (sym (part-is ms es d)) (three-right u v w, three-numbered u v w, s.2)), tt)
