@@ -1,4 +1,4 @@
-//! Models in Essence Prime evaluated over tables: the members of declared domains, and whether tables satisfy a model.
+//! Models in Essence Prime evaluated over tables: their expressions, and the members of declared domains.
 #![tactic(auto)]
 
 mod cells;

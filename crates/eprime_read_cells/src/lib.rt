@@ -4,6 +4,8 @@
 //! matter of the grammar.
 #![tactic(auto)]
 
+mod cells;
 mod lettings;
 
+pub use cells::{CellsNo, read_cells};
 pub use lettings::read_lettings;
