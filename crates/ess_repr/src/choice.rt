@@ -191,7 +191,11 @@ fn of_pairs(alloc: Global, sized: bool, from: Repr, to: Repr) -> Result<Repr, No
         kind: ReprKind::Tuple,
         children,
     };
-    over(alloc, ReprKind::RelationAsSet, in_slots(alloc, sized, tuple)?)
+    over(
+        alloc,
+        ReprKind::RelationAsSet,
+        in_slots(alloc, sized, tuple)?,
+    )
 }
 
 /// That of a relation.

@@ -16,6 +16,7 @@ use Rattle.ess_repr_declare_laws.specs.Laws.{has_numbers}
 use Rattle.ess_repr_declare_laws.proofs.SizeNumbers.{mapped, chained}
 use Rattle.ess_repr_declare_laws.proofs.ChildNames.{formed}
 use Rattle.ess_repr_declare_laws.proofs.ChildDomainsDenoted.{same-children, at, only, several, nd-children, nd-partial-children, SetOf, set-of, FunctionOf, function-of, Denote, pairs-are-denoted, tuples-are-denoted, parts-are-denoted}
+
 -- A named type has no children.
 atom-children : (a : Text) (env : Env) (e : Domain) (l : Layer) → domain_of (name_dom a) env ≡ Some e → layer ReprKind.Atom e ≡ Some l → each_of [] (λ c. domain_of c env) ≡ Some l.children
 atom-children a env booleans l h q = ap Some (same-children _ l q)

@@ -125,10 +125,7 @@ fn take_name(alloc: Global, kind: Kind, text: &[u8]) -> Result<Option<Line>, NoM
         Kind::Name => {
             let name = Text::from_ascii(alloc, text)?;
             let trees = Row::new(alloc);
-            Ok(Some(Line::TreeBegun(
-                NamedReprs { name, trees },
-                Machine::new(alloc),
-            )))
+            Ok(Some(Line::TreeBegun(NamedReprs { name, trees }, Machine::new(alloc))))
         }
         _ => Ok(None),
     }
@@ -154,7 +151,11 @@ fn step_in_tree(
 }
 
 /// Begins the next representation behind one that is whole.
-fn begin_next(alloc: Global, named: NamedReprs, last: Option<Repr>) -> Result<Option<Line>, NoMemory>
+fn begin_next(
+    alloc: Global,
+    named: NamedReprs,
+    last: Option<Repr>,
+) -> Result<Option<Line>, NoMemory>
     ensures { IfOk result (λ next. next_tree named.name (map pure_repr named.trees) (option_map pure_repr last) ≡ option_map view_line next) }
 {
     match with_last(named, last)? {
