@@ -1,6 +1,6 @@
 use crate::models::model_of;
 use crate::refusals::{put_eval_no, put_read_no};
-use crate::tables::{put_numbers, tables_of};
+use crate::tables::{number_of, put_numbers, tables_of};
 use eprime_eval::{EvalNo, Run, axis, inside, runs};
 use eprime_tree::{PDom, PModel};
 use ess_rows::{NoMemory, Row};
@@ -53,7 +53,7 @@ pub fn put_inside(
     number: &str,
 ) -> Result<(), NoMemory> {
     let givens = tables_of(alloc, givens)?;
-    let number = number.trim().parse().unwrap_or(0);
+    let number = number_of(number.trim()).unwrap_or(0);
     match model_of(alloc, model) {
         Ok(model) => match domain(&model) {
             Some(dom) => put_truth(out, inside(alloc, dom, &model.givens, &givens, number)),

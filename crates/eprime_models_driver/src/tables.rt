@@ -33,11 +33,16 @@ fn named_table(alloc: Global, text: &str) -> Result<NamedTable, NoMemory> {
 fn numbers(alloc: Global, text: &str) -> Result<Row<i64>, NoMemory> {
     let mut numbers = Row::new(alloc);
     for word in text.split(',') {
-        if let Ok(number) = word.trim().parse() {
+        if let Some(number) = number_of(word.trim()) {
             numbers.push(number)?;
         }
     }
     Ok(numbers)
+}
+
+/// The number that a word is, if it is one.
+pub fn number_of(word: &str) -> Option<i64> {
+    word.parse().ok()
 }
 
 /// Puts numbers with `,` between each two.
