@@ -1,4 +1,4 @@
 //! One layer of a representation on rows of numbers: what stands in its tables item by item, down and up.
 //!
-//! `specs` has the pure functions that code computes. `laws` says that they are the layers of cells. Everything else is lemmas.
+//! `specs` has the pure functions that code computes. The lemmas of `proofs` say that they are the layers of cells.
 #![tactic(auto)]
