@@ -4,7 +4,7 @@ use Rattle.ess_semantics.specs.declared.words.Op2.{Op2}
 use Rattle.ess_semantics.specs.declared.words.Fun.{Fun}
 use Rattle.ess_semantics.specs.declared.words.Key.{Key}
 use Rattle.ess_semantics.specs.Values.{Text}
-use Rattle.ess_semantics.specs.Trees.{Op, set_literal, flag, valued, Pat, name_pat, Ex, truth_ex, plain_node, comp_ex, no_exs, no_gens, over, from, cond, Dom, bool_dom, name_dom, record_dom, matrix_dom, set_dom, function_dom, relation_dom, partition_dom, no_doms, more_doms, Stm, given, let_ex, let_dom, let_unnamed, find, such_that, tuple_dom, tuple_pat, no_pats, more_pats, matrix_literal}
+use Rattle.ess_semantics.specs.Trees.{by_value, Op, index, set_literal, flag, valued, Pat, name_pat, Ex, truth_ex, node_ex, plain_node, comp_ex, no_exs, more_exs, no_gens, over, from, cond, Dom, bool_dom, name_dom, record_dom, matrix_dom, set_dom, function_dom, relation_dom, partition_dom, no_doms, more_doms, Stm, given, let_ex, let_dom, let_unnamed, find, such_that, tuple_dom, tuple_pat, no_pats, more_pats, matrix_literal}
 use Rattle.ess_semantics.specs.Judgements.{Judgement, unknown_name, double_name, ill_typed, not_finite, not_enumerable, open_given, fault}
 use Rattle.ess_semantics.proofs.Shorthands.{N, n, es1, es2, bi, fn, at, upto, from_1, any_int, set}
 
@@ -92,6 +92,17 @@ r_dom = record_dom (y ∷ []) (more_doms bool_dom no_doms)
 
 field_and_letting : fault (let_ex y (n 2) ∷ find x r_dom ∷ such_that (at (N x) (N y)) ∷ []) ≡ None
 field_and_letting = refl
+
+-- letting y be 2 / letting x1 be 3 / find x : record {y : record {x1 : bool}} / such that x[y, x1], as x[y][x1]
+abbrev nested_dom : Dom
+nested_dom = record_dom (y ∷ []) (more_doms (record_dom (i ∷ []) (more_doms bool_dom no_doms)) no_doms)
+
+fields_and_lettings : fault (let_ex y (n 2) ∷ let_ex i (n 3) ∷ find x nested_dom
+    ∷ such_that (node_ex true (index (by_value ∷ by_value ∷ [])) (more_exs (N x) (more_exs (N y) (more_exs (N i) no_exs)))) ∷ []) ≡ None
+fields_and_lettings = refl
+
+fields_in_turn : fault (let_ex y (n 2) ∷ let_ex i (n 3) ∷ find x nested_dom ∷ such_that (at (at (N x) (N y)) (N i)) ∷ []) ≡ None
+fields_in_turn = refl
 
 no_field : fault (find x r_dom ∷ such_that (at (N x) (N i)) ∷ []) ≡ Some (ill_typed, 2)
 no_field = refl

@@ -6,7 +6,7 @@ use Rattle.ess_semantics.specs.Values.{Text, a_tuple, a_record}
 use Rattle.ess_semantics.specs.Names.{Names, look}
 use Rattle.ess_semantics.specs.Trees.{Step, by_value, to_component, to_field, Op, index, Ex, Exs, number_ex, truth_ex, name_ex, node_ex, matrix_ex, comp_ex, cell_ex, seen_ex, no_exs, more_exs, Gens, no_gens, over, from, cond, Dom, Doms, bool_dom, int_dom, name_dom, tuple_dom, record_dom, matrix_dom, set_dom, mset_dom, function_dom, relation_dom, partition_dom, no_doms, more_doms, Stm, given, given_enum, let_ex, let_dom, let_enum, let_unnamed, needs, find, such_that, minimise, maximise}
 use Rattle.ess_semantics.specs.Types.{Ty, named_ty, compound, or_any, type_of_dom, bind_types}
-use Rattle.ess_semantics.specs.Typing.{Static, a_number, a_name, statics, type_behind, type_of, types_of, source_ty}
+use Rattle.ess_semantics.specs.Typing.{Static, static, a_number, a_name, statics, type_behind, type_of, types_of, source_ty}
 
 -- Lettings of expressions and of domains, with the lettings before them put in.
 pub record Lettings : Type 0 where
@@ -29,31 +29,38 @@ abbrev pub is_record_or_tuple : Ty → Bool
 is_record_or_tuple (compound a_tuple ts) = true
 is_record_or_tuple t = is_record t
 
--- Of each index by value whether the type reached has the property f.
-abbrev pub index_steps : (Ty → Bool) → Option Ty → List Step → List Static → List (Option Ty) → List Bool
-index_steps f t (by_value ∷ qs) (s ∷ ss) (u ∷ us) = is_some_and t f ∷ index_steps f (type_behind t s u) qs ss us
-index_steps f t (to_component k ∷ qs) ss us = index_steps f (type_behind t (a_number k) None) qs ss us
-index_steps f t (to_field a ∷ qs) ss us = index_steps f (type_behind t (a_name a) None) qs ss us
-index_steps f t _ _ _ = []
+-- Of each index by value whether the type reached is one of records: whether the value is a field.
+abbrev pub field_steps : Option Ty → List Step → List Static → List (Option Ty) → List Bool
+field_steps t (by_value ∷ qs) (s ∷ ss) (u ∷ us) = is_some_and t is_record ∷ field_steps (type_behind t s u) qs ss us
+field_steps t (to_component k ∷ qs) ss us = field_steps (type_behind t (a_number k) None) qs ss us
+field_steps t (to_field a ∷ qs) ss us = field_steps (type_behind t (a_name a) None) qs ss us
+field_steps t _ _ _ = []
 
--- The same of all operands of an index; the first operand is none.
-abbrev pub index_flags : (Ty → Bool) → Op → Exs → Names Ty → List Bool
-index_flags f (index qs) (more_exs e es) g = false ∷ index_steps f (type_of e g) qs (statics es) (types_of es g)
-index_flags f op es g = []
-
--- Of each operand of a node whether it is a field.
+-- Of each operand of a node whether it is a field; the first operand of an index is none.
 abbrev pub field_flags : Op → Exs → Names Ty → List Bool
-field_flags op es g = index_flags is_record op es g
+field_flags (index qs) (more_exs e es) g = false ∷ field_steps (type_of e g) qs (statics es) (types_of es g)
+field_flags op es g = []
 
--- Of each operand whether no letting is put in: a field is no name, and a tuple's index must be written as a number.
-abbrev pub kept_flags : Op → Exs → Names Ty → List Bool
-kept_flags op es g = index_flags is_record_or_tuple op es g
+-- ---- operands
 
--- The operands as they were where they are kept, else as they are with lettings put in.
-abbrev pub keep_operands : List Bool → Exs → Exs → Exs
-keep_operands [] es fs = fs
-keep_operands (b ∷ bs) (more_exs e es) (more_exs f fs) = more_exs (if b then e else f) (keep_operands bs es fs)
-keep_operands bs es fs = fs
+-- The value of an index as it was where the type reached is one of records or tuples, since a field is no name and a tuple's
+-- index must be written as a number; else with lettings put in.
+abbrev pub kept_or : Option Ty → Ex → Ex → Ex
+kept_or t e f = if is_some_and t is_record_or_tuple then e else f
+
+-- The values of an index's steps behind a place of type t, each by the type that the steps before it reach: es are they as they
+-- were, fs with lettings put in.
+abbrev pub put_steps : Option Ty → List Step → Exs → Exs → Names Ty → Exs
+put_steps t (by_value ∷ qs) (more_exs e es) (more_exs f fs) g =
+    let o : Ex = kept_or t e f in more_exs o (put_steps (type_behind t (static o) (type_of o g)) qs es fs g)
+put_steps t (to_component k ∷ qs) es fs g = put_steps (type_behind t (a_number k) None) qs es fs g
+put_steps t (to_field a ∷ qs) es fs g = put_steps (type_behind t (a_name a) None) qs es fs g
+put_steps t qs es fs g = fs
+
+-- The operands of a node: es are they as they were, fs with lettings put in.
+abbrev pub put_operands : Op → Exs → Exs → Names Ty → Exs
+put_operands (index qs) (more_exs e es) (more_exs f fs) g = more_exs f (put_steps (type_of f g) qs es fs g)
+put_operands op es fs g = fs
 
 -- ---- expressions and domains, under the types of names
 
@@ -73,7 +80,7 @@ abbrev mutual
   put_ex (number_ex n) l g = number_ex n
   put_ex (truth_ex b) l g = truth_ex b
   put_ex (name_ex a) l g = put_name (look l.exs a) a
-  put_ex (node_ex b op es) l g = let fs : Exs = put_exs es l g in node_ex b op (keep_operands (kept_flags op fs g) es fs)
+  put_ex (node_ex b op es) l g = node_ex b op (put_operands op es (put_exs es l g) g)
   put_ex (matrix_ex es d) l g = matrix_ex (put_exs es l g) (put_dom d l g)
   put_ex (comp_ex e gs) l g = put_gens gs l g (λ hs h. comp_ex (put_ex e l h) hs)
   put_ex (cell_ex b n es) l g = cell_ex b n (put_exs es l g)

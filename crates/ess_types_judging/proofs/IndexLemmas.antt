@@ -7,7 +7,7 @@ use Rattle.ess_semantics.specs.Trees as pure
 use Rattle.ess_semantics.specs.Trees.{by_value, to_component, to_field, index, node_ex, more_exs}
 use Rattle.ess_semantics.specs.Types.{Ty}
 use Rattle.ess_semantics.specs.Typing.{Static, static, statics, a_number, a_name, step_ty, type_behind, path_ty, type_of_node}
-use Rattle.ess_semantics.specs.Lettings.{is_record, index_steps}
+use Rattle.ess_semantics.specs.Lettings.{is_record, field_steps}
 use Rattle.ess_semantics.specs.Scopes.{Scope}
 use Rattle.ess_core.specs.TreeViews.{With, words_of, within, exs_of, pure_step}
 use Rattle.ess_core.specs.declared.expressions.Step.{Step}
@@ -35,7 +35,7 @@ over t f = over_parts t true f
 abbrev rest : Option Ty → List (With pure.Step) → Scope → Found
 rest o ws s =
     operands_found true
-    (index_steps is_record o (words_of ws) (statics (exs_of (within ws))) (types_in (judged_all (exs_of (within ws)) s)))
+    (field_steps o (words_of ws) (statics (exs_of (within ws))) (types_in (judged_all (exs_of (within ws)) s)))
     (judged_all (exs_of (within ws)) s)
 
 -- Before the first step.
@@ -74,7 +74,7 @@ index_value p e ws s =
     js = judged_all (exs_of (within ws)) s
 
     bs : List Bool
-    bs = index_steps is_record (type_behind p.ty (static e) (judged e s).ty) (words_of ws) (statics (exs_of (within ws))) (types_in js)
+    bs = field_steps (type_behind p.ty (static e) (judged e s).ty) (words_of ws) (statics (exs_of (within ws))) (types_in js)
 
     go : (b : Bool) →
         both p.found (operands_found true (b ∷ bs) (judged e s ∷ js))

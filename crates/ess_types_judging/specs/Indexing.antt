@@ -3,7 +3,7 @@ use Rattle.std.specs.Prelude.{true, List, option_map}
 use Rattle.ess_semantics.specs.Lists.{and_then}
 use Rattle.ess_semantics.specs.Trees.{Step}
 use Rattle.ess_semantics.specs.Typing.{statics, path_ty}
-use Rattle.ess_semantics.specs.Lettings.{is_record, index_steps}
+use Rattle.ess_semantics.specs.Lettings.{field_steps}
 use Rattle.ess_semantics.specs.Scopes.{Scope}
 use Rattle.ess_core.specs.TypeViews.{pure_ty}
 use Rattle.ess_core.specs.TreeViews.{With, words_of, within, exs_of}
@@ -25,7 +25,7 @@ index_on p ws s =
     let ss = statics (exs_of (within ws)) in
     let us = types_in (judged_all (exs_of (within ws)) s) in
     over_parts (and_then p.ty (λ t. path_ty t (words_of ws) ss us)) true
-    (both p.found (operands_found true (index_steps is_record p.ty (words_of ws) ss us) (judged_all (exs_of (within ws)) s)))
+    (both p.found (operands_found true (field_steps p.ty (words_of ws) ss us) (judged_all (exs_of (within ws)) s)))
 
 -- What is found of an index, where p is reached behind its last step.
 abbrev pub index_end : pure.Reached → Judged

@@ -5,7 +5,7 @@ use Rattle.ess_semantics.specs.Lists.{and_then, is_some_and}
 use Rattle.ess_semantics.specs.Trees.{Step, index, Ex, Exs, node_ex, more_exs}
 use Rattle.ess_semantics.specs.Types.{Ty}
 use Rattle.ess_semantics.specs.Typing.{Static, static, statics, a_number, a_name, step_ty, type_behind, path_ty, type_of_node}
-use Rattle.ess_semantics.specs.Lettings.{is_record, index_steps}
+use Rattle.ess_semantics.specs.Lettings.{is_record, field_steps}
 use Rattle.ess_semantics.specs.Scopes.{Scope}
 use Rattle.ess_types_judging_laws.specs.Found.{Found, both, at_place}
 use Rattle.ess_types_judging_laws.specs.Judged.{Judged, types_in, judged, judged_all}
@@ -58,7 +58,7 @@ reached-type (at_field a ∷ ps) p s = go p.ty ∙ reached-type ps (behind_step 
 -- ---- the rest
 
 reached-found : (ps : List Stepping) (p : Reached) (s : Scope) →
-    both p.found (operands_found true (index_steps is_record p.ty (steps_of ps) (statics (values_in ps)) (value_tys ps s)) (judged_all (values_in ps) s))
+    both p.found (operands_found true (field_steps p.ty (steps_of ps) (statics (values_in ps)) (value_tys ps s)) (judged_all (values_in ps) s))
     ≡ (behind_steps ps p s).found
 reached-found [] p s = both_well p.found
 reached-found (at_value e ∷ ps) p s = go (is_some_and p.ty is_record) ∙ reached-found ps (behind_value e (judged e s) p) s
@@ -67,7 +67,7 @@ reached-found (at_value e ∷ ps) p s = go (is_some_and p.ty is_record) ∙ reac
     t = type_behind p.ty (static e) (judged e s).ty
 
     bs : List Bool
-    bs = index_steps is_record t (steps_of ps) (statics (values_in ps)) (value_tys ps s)
+    bs = field_steps t (steps_of ps) (statics (values_in ps)) (value_tys ps s)
 
     go : (b : Bool) →
         both p.found (operands_found true (b ∷ bs) (judged e s ∷ judged_all (values_in ps) s))
@@ -91,4 +91,4 @@ judged_index b e ps s =
     ∙ ap (over (behind_steps ps (reached_first (judged e s)) s).ty) (reached-found ps (reached_first (judged e s)) s)
   where
     rest : Found
-    rest = operands_found true (index_steps is_record (judged e s).ty (steps_of ps) (statics (values_in ps)) (value_tys ps s)) (judged_all (values_in ps) s)
+    rest = operands_found true (field_steps (judged e s).ty (steps_of ps) (statics (values_in ps)) (value_tys ps s)) (judged_all (values_in ps) s)

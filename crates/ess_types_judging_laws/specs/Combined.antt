@@ -8,7 +8,7 @@ use Rattle.ess_semantics.specs.Trees.{Op, index, record_literal, Pat, Gens, no_g
 use Rattle.ess_semantics.specs.Types.{Ty, compound2, bool_ty, int_ty, join, join_all, or_any, type_of_dom}
 use Rattle.ess_semantics.specs.OperatorTypes.{member_ty}
 use Rattle.ess_semantics.specs.Typing.{Static, type_of_node, number_cell_ty}
-use Rattle.ess_semantics.specs.Lettings.{is_record, index_steps}
+use Rattle.ess_semantics.specs.Lettings.{field_steps}
 use Rattle.ess_semantics.specs.Kinds.{is_atom}
 use Rattle.ess_semantics.specs.Scopes.{Scope, names_in_scope, with_bound}
 use Rattle.ess_semantics.specs.DomainJudgements.{ranges_fit, ranges_of, marks_fit, index_domains, fields_distinct, is_finite, is_enumerable, listed_domains}
@@ -21,7 +21,7 @@ use Rattle.ess_types_judging_laws.specs.Judged.{Judged, types_in, judged, judged
 
 -- Of each operand of a node whether it is a field, from what the operands say and from their types.
 abbrev pub flags_of : Op → List Static → List (Option Ty) → List Bool
-flags_of (index qs) (s ∷ ss) (u ∷ us) = false ∷ index_steps is_record u qs ss us
+flags_of (index qs) (s ∷ ss) (u ∷ us) = false ∷ field_steps u qs ss us
 flags_of op ss us = []
 
 -- What is found of operands but those that are flagged. `counts` says whether order counts at their places.

@@ -9,7 +9,7 @@ use Rattle.ess_semantics.specs.Names.{Names, is_among}
 use Rattle.ess_semantics.specs.Trees.{Step, by_value, to_component, to_field, index, Pat, Pats, name_pat, tuple_pat, no_pats, more_pats, Ex, Exs, more_exs, no_exs}
 use Rattle.ess_semantics.specs.Types.{Ty, Tys, compound, pattern_names, all_pattern_names}
 use Rattle.ess_semantics.specs.Typing.{Static, a_number, a_name, other, static, statics, step_ty, type_behind, path_ty, type_of_node, type_of, types_of}
-use Rattle.ess_semantics.specs.Lettings.{is_record, index_steps}
+use Rattle.ess_semantics.specs.Lettings.{is_record, field_steps}
 use Rattle.ess_semantics.specs.Scopes.{names_but, Scope, Asked, nothing_asked, every, every_operand, depends_on_no_find}
 use Rattle.ess_semantics.specs.Scoped.{is_bound, is_bound_by_some, with_names}
 use Rattle.ess_semantics.specs.Resolving.{step_at, steps_from, kept_indices, resolve, resolve_exs}
@@ -166,14 +166,14 @@ module _ (q : Asked) (s : Scope) (ms ns : List Text) (u : Text → Bool) where
 
   -- The operands that are left of steps which lead somewhere have such free names.
   pub steps-free : (t : Option Ty) (qs : List Step) (es : Exs) → Leads s.tys t qs es → EachFree q s ms ns u es →
-      every_operand q (index_steps is_record t qs (statics es) (types_of es s.tys)) es (depending ms s) ≡ true →
-      every_operand fixed_parts (index_steps is_record t qs (statics es) (types_of es s.tys)) es (depending ns s) ≡ true →
+      every_operand q (field_steps t qs (statics es) (types_of es s.tys)) es (depending ms s) ≡ true →
+      every_operand fixed_parts (field_steps t qs (statics es) (types_of es s.tys)) es (depending ns s) ≡ true →
       FreeNamesAreExs u (kept_indices qs (steps_from t qs (statics es) (types_of es s.tys)) (resolve_exs es s.tys))
   steps-free t [] es i k a f = all-free es k a f
   steps-free t (by_value ∷ qs) no_exs i k a f = subst (FreeNamesAreExs u) (sym (kept-none qs qs)) tt
   steps-free t (by_value ∷ qs) (more_exs e es) i k a f =
       let v : Option Ty = type_behind t (static e) (type_of e s.tys) in
-      let bs : List Bool = index_steps is_record v qs (statics es) (types_of es s.tys) in
+      let bs : List Bool = field_steps v qs (statics es) (types_of es s.tys) in
       step-free u s.tys t qs (steps_from v qs (statics es) (types_of es s.tys)) e (resolve_exs es s.tys)
       (some-there v (λ p. path_ty p qs (statics es) (types_of es s.tys)) (value-leads s.tys t qs e es i))
       (λ n. k.0 (head-asked q (is_some_and t is_record) bs e es (depending ms s) n a)

@@ -7,7 +7,7 @@ use Rattle.ess_semantics.specs.Names.{is_among}
 use Rattle.ess_semantics.specs.Trees.{index, Ex, Exs, more_exs, number_ex, truth_ex, name_ex, node_ex, matrix_ex, comp_ex, cell_ex, seen_ex, no_exs, Gens, no_gens, over, from, cond, Dom, Doms, bool_dom, int_dom, name_dom, tuple_dom, record_dom, matrix_dom, set_dom, mset_dom, function_dom, relation_dom, partition_dom, no_doms, more_doms}
 use Rattle.ess_semantics.specs.Types.{Ty, pattern_names, type_of_dom, bind_types}
 use Rattle.ess_semantics.specs.Typing.{static, statics, type_of, types_of, source_ty}
-use Rattle.ess_semantics.specs.Lettings.{is_record, index_steps}
+use Rattle.ess_semantics.specs.Lettings.{field_steps}
 use Rattle.ess_semantics.specs.Scopes.{names_but, Scope, Asked, every, every_operand, every_under, every_dom, every_doms, is_fixed}
 use Rattle.ess_semantics.specs.Scoped.{with_names}
 use Rattle.ess_semantics.specs.Resolving.{resolve, resolve_exs, resolve_dom, resolve_doms}
@@ -40,7 +40,7 @@ module _ (q : Asked) (typed : (x : Ex) (z : Scope) → q.of_ex x z ≡ true → 
     fixed-free (name_ex x) s ms ns u h a f = h x (not-true (is_among ns x) f)
     fixed-free (node_ex b (index qs) no_exs) s ms ns u h a f = tt
     fixed-free (node_ex b (index qs) (more_exs e es)) s ms ns u h a f =
-        let bs : List Bool = index_steps is_record (type_of e s.tys) qs (statics es) (types_of es s.tys) in
+        let bs : List Bool = field_steps (type_of e s.tys) qs (statics es) (types_of es s.tys) in
         let o = and-right (q.of_ex (node_ex b (index qs) (more_exs e es)) (depending ms s)) (every_operand q (false ∷ bs)
         (more_exs e es) (depending ms s)) a in
         let i = typed (node_ex b (index qs) (more_exs e es)) (depending ms s)

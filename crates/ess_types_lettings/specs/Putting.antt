@@ -5,7 +5,7 @@ use Rattle.ess_semantics.specs.Names.{Names}
 use Rattle.ess_semantics.specs.Trees.{Step, Ex, Exs, Dom, more_exs}
 use Rattle.ess_semantics.specs.Types.{Ty, type_of_dom, bind_types}
 use Rattle.ess_semantics.specs.Typing.{statics, types_of, source_ty}
-use Rattle.ess_semantics.specs.Lettings.{Lettings, is_record_or_tuple, index_steps, keep_operands, put_ex, put_exs, put_dom}
+use Rattle.ess_semantics.specs.Lettings.{Lettings, is_record_or_tuple, field_steps, keep_operands, put_ex, put_exs, put_dom}
 use Rattle.ess_core.specs.TreeViews.{With, words_of, within, Item, over_item, from_item, cond_item, exs_of}
 
 -- A field of a record literal with lettings put in.
@@ -51,7 +51,7 @@ abbrev pub put_operands : Option Ty → List (With Step) → Lettings → Names 
 put_operands t ws l g =
     let es : Exs = exs_of (within ws) in
     let fs : Exs = put_exs es l g in
-    keep_operands (index_steps is_record_or_tuple t (words_of ws) (statics fs) (types_of fs g)) es fs
+    keep_operands (field_steps_or_tuple t (words_of ws) (statics fs) (types_of fs g)) es fs
 
 -- Operands in front of others.
 abbrev pub exs_before : List Ex → Exs → Exs
