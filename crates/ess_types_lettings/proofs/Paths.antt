@@ -1,63 +1,73 @@
 -- The types behind the steps of an index with lettings put in, one step at a time.
-use Rattle.std.proofs.Common.{◌≡◌, refl, sym, ap, ◌∙◌, Bool, true, false, ◌&&◌, if◌then◌else◌, List, [], ◌∷◌, ◌++◌, map, Option, Some, None}
+use Rattle.std.proofs.Common.{◌≡◌, refl, sym, ap, ◌∙◌, Bool, true, false, List, [], ◌∷◌, ◌++◌, map, Option, Some, None}
 use Rattle.std.proofs.lemmas.List.{map_push, append_assoc, append-nil}
 use Rattle.ess_semantics.specs.Lists.{is_some_and}
 use Rattle.ess_semantics.specs.Names.{Names}
+use Rattle.ess_semantics.specs.Values.{a_tuple, a_matrix, a_set, a_mset, a_function, a_relation, a_partition, a_record}
 use Rattle.ess_semantics.specs.Types as pure
+use Rattle.ess_semantics.specs.Types.{any_ty, bool_ty, int_ty, named_ty, compound}
 use Rattle.ess_semantics.specs.Trees as tree
 use Rattle.ess_semantics.specs.Trees.{by_value, index, node_ex, no_exs, more_exs}
-use Rattle.ess_semantics.specs.Typing.{static, statics, type_behind, type_of_node, type_of, types_of}
-use Rattle.ess_semantics.specs.Lettings.{Lettings, is_record_or_tuple, put_ex}
+use Rattle.ess_semantics.specs.Typing.{Static, a_number, a_name, other, static, statics, type_behind, type_of_node, type_of, types_of}
+use Rattle.ess_semantics.specs.Lettings.{Lettings, is_record_or_tuple, kept_or, put_ex}
 use Rattle.ess_core.specs.declared.expressions.Step.{Step}
 use Rattle.ess_core.specs.TreeViews.{With, words_of, within, exs_of, pure_step}
 use Rattle.ess_types_names.specs.Tables.{Types, pure_table}
 use Rattle.ess_types_lettings.specs.Paths.{path_behind}
-use Rattle.ess_types_lettings.specs.Putting.{put_operands, exs_before}
+use Rattle.ess_types_lettings.specs.Putting.{put_values, exs_before}
 
 -- ---- one step by a value
 
--- A value as it is, or with lettings put in.
-abbrev kept_or : Option pure.Ty → tree.Ex → tree.Ex → tree.Ex
-kept_or t e p = if is_some_and t is_record_or_tuple then e else p
+-- The type behind a value of a record or a tuple doesn't depend on the value's type.
+pub behind_kept : (t : Option pure.Ty) (s : Static) (u : Option pure.Ty) → is_some_and t is_record_or_tuple ≡ true
+    → type_behind t s u ≡ type_behind t s None
+behind_kept (Some (compound a_tuple ts)) (a_number k) u h = refl
+behind_kept (Some (compound a_tuple ts)) (a_name a) u h = refl
+behind_kept (Some (compound a_tuple ts)) other u h = refl
+behind_kept (Some (compound (a_record fs) ts)) (a_number k) u h = refl
+behind_kept (Some (compound (a_record fs) ts)) (a_name a) u h = refl
+behind_kept (Some (compound (a_record fs) ts)) other u h = refl
+behind_kept None s u h = refl
+behind_kept (Some any_ty) s u h = cc
+behind_kept (Some bool_ty) s u h = cc
+behind_kept (Some int_ty) s u h = cc
+behind_kept (Some (named_ty a)) s u h = cc
+behind_kept (Some (compound a_matrix ts)) s u h = cc
+behind_kept (Some (compound a_set ts)) s u h = cc
+behind_kept (Some (compound a_mset ts)) s u h = cc
+behind_kept (Some (compound a_function ts)) s u h = cc
+behind_kept (Some (compound a_relation ts)) s u h = cc
+behind_kept (Some (compound a_partition ts)) s u h = cc
 
--- What a step by a value has for an operand, whatever follows. Where nothing follows (b is false) the type that it reaches doesn't
--- matter.
-pub value_put : (b : Bool) (t u : Option pure.Ty) (e p v : tree.Ex) (q : With tree.Step) (l : Lettings) (g : Names pure.Ty)
-    → p ≡ put_ex e l g → v ≡ kept_or t e p → (b ≡ true → u ≡ type_behind t (static p) (type_of p g)) → q ≡ (by_value, v ∷ [])
+-- What a step by a value has for an operand, whatever follows: v stands there. Where nothing follows (b is false) the type that it
+-- reaches doesn't matter.
+pub value_put : (b : Bool) (t u : Option pure.Ty) (e v : tree.Ex) (q : With tree.Step) (l : Lettings) (g : Names pure.Ty)
+    → v ≡ kept_or t e (put_ex e l g) → (b ≡ true → u ≡ type_behind t (static v) (type_of v g)) → q ≡ (by_value, v ∷ [])
     → (ws : List (With tree.Step)) → (b ≡ false → ws ≡ [])
-    → put_operands t ((by_value, e ∷ []) ∷ ws) l g ≡ exs_before q.1 (put_operands u ws l g)
-value_put true t u e p v q l g hp hv hu hq ws hw =
-    ap (λ x. more_exs (kept_or t e x) (put_operands (type_behind t (static x) (type_of x g)) ws l g)) (sym hp)
-    ∙ ap (λ x. more_exs x (put_operands (type_behind t (static p) (type_of p g)) ws l g)) (sym hv)
-    ∙ ap (λ x. more_exs v (put_operands x ws l g)) (sym (hu refl))
-    ∙ ap (λ x. exs_before x.1 (put_operands u ws l g)) (sym hq)
-value_put false t u e p v q l g hp hv hu hq ws hw =
-    ap (λ x. put_operands t ((by_value, e ∷ []) ∷ x) l g) (hw refl)
-    ∙ ap (λ x. more_exs (kept_or t e x) no_exs) (sym hp)
+    → put_values t ((by_value, e ∷ []) ∷ ws) l g ≡ exs_before q.1 (put_values u ws l g)
+value_put true t u e v q l g hv hu hq ws hw =
+    ap (λ x. more_exs x (put_values (type_behind t (static x) (type_of x g)) ws l g)) (sym hv)
+    ∙ ap (λ x. more_exs v (put_values x ws l g)) (sym (hu refl))
+    ∙ ap (λ x. exs_before x.1 (put_values u ws l g)) (sym hq)
+value_put false t u e v q l g hv hu hq ws hw =
+    ap (λ x. put_values t ((by_value, e ∷ []) ∷ x) l g) (hw refl)
     ∙ ap (λ x. more_exs x no_exs) (sym hv)
-    ∙ ap (λ x. more_exs v (put_operands u x l g)) (sym (hw refl))
-    ∙ ap (λ x. exs_before x.1 (put_operands u ws l g)) (sym hq)
+    ∙ ap (λ x. more_exs v (put_values u x l g)) (sym (hw refl))
+    ∙ ap (λ x. exs_before x.1 (put_values u ws l g)) (sym hq)
 
 -- A step by a value leads to the type behind it.
-value-leads : (t u : Option pure.Ty) (v : tree.Ex) (g : Names pure.Ty) → u ≡ type_behind t (static v) (type_of v g)
-    → (ws : List (With tree.Step)) → path_behind t ((by_value, v ∷ []) ∷ ws) g ≡ path_behind u ws g
-value-leads None u v g h ws = ap (λ x. path_behind x ws g) (sym h)
-value-leads (Some t) u v g h ws = ap (λ x. path_behind x ws g) (sym h)
-
--- The type behind a step by a value is found from the value with lettings put in, and is that of the value that stands there where
--- these are one.
-pub value_leads : (b o : Bool) (t u : Option pure.Ty) (e p v : tree.Ex) (q : With tree.Step) (l : Lettings) (g : Names pure.Ty)
-    → p ≡ put_ex e l g → v ≡ kept_or t e p → (b ≡ true → u ≡ type_behind t (static p) (type_of p g)) → q ≡ (by_value, v ∷ [])
-    → (o ≡ true → b ≡ true) → (o ≡ true → (h : Names pure.Ty) → kept_or t e (put_ex e l h) ≡ put_ex e l h)
-    → o ≡ true → (ws : List (With tree.Step)) → path_behind t (q ∷ ws) g ≡ path_behind u ws g
-value_leads b o t u e p v q l g hp hv hu hq hb hs ho ws =
-    let is-put : v ≡ p = hv ∙ ap (kept_or t e) hp ∙ hs ho g ∙ sym hp in
-    ap (λ x. path_behind t (x ∷ ws) g) hq
-    ∙ value-leads t u v g (hu (hb ho) ∙ ap (λ x. type_behind t (static x) (type_of x g)) (sym is-put)) ws
+pub value_leads : (t u : Option pure.Ty) (v : tree.Ex) (q : With tree.Step) (g : Names pure.Ty)
+    → u ≡ type_behind t (static v) (type_of v g) → q ≡ (by_value, v ∷ [])
+    → (ws : List (With tree.Step)) → path_behind t (q ∷ ws) g ≡ path_behind u ws g
+value_leads t u v q g h hq ws = ap (λ x. path_behind t (x ∷ ws) g) hq ∙ go t ∙ ap (λ x. path_behind x ws g) (sym h)
+  where
+    go : (t : Option pure.Ty) → path_behind t ((by_value, v ∷ []) ∷ ws) g ≡ path_behind (type_behind t (static v) (type_of v g)) ws g
+    go None = refl
+    go (Some t) = refl
 
 -- ---- several steps
 
--- A step leads from a place of type u to type v.
+-- A step leads from a place of type u to type v, where s is true.
 abbrev pub Leads : Bool → Option pure.Ty → Step → Option pure.Ty → Names pure.Ty → Type 0
 Leads s u y v g = s ≡ true → (ws : List (With tree.Step)) → path_behind u (pure_step y ∷ ws) g ≡ path_behind v ws g
 
@@ -70,25 +80,17 @@ leads_at s u v y d k m e is p h ws =
     ∙ p h ws
     ∙ ap (λ z. path_behind v ws (pure_table z)) e
 
--- One step more leads on.
+-- One step more leads on, where the types behind the steps are asked (o) and so that behind this one is found (s).
 pub path_more : (ys zs : List Step) (y : Step) (t u v : Option pure.Ty) (g : Names pure.Ty) (o s : Bool)
     → (o ≡ true → (ws : List (With tree.Step)) → path_behind t (map pure_step ys ++ ws) g ≡ path_behind u ws g)
-    → Leads s u y v g → zs ≡ ys ++ y ∷ [] → o && s ≡ true → (ws : List (With tree.Step))
+    → Leads s u y v g → zs ≡ ys ++ y ∷ [] → (o ≡ true → s ≡ true) → o ≡ true → (ws : List (With tree.Step))
     → path_behind t (map pure_step zs ++ ws) g ≡ path_behind v ws g
-path_more ys zs y t u v g o s p q r h ws =
+path_more ys zs y t u v g o s p q r f h ws =
     ap (λ x. path_behind t (map pure_step x ++ ws) g) r
     ∙ ap (λ x. path_behind t (x ++ ws) g) (map_push pure_step ys y)
     ∙ ap (λ x. path_behind t x g) (append_assoc (map pure_step ys) (pure_step y ∷ []) ws)
-    ∙ p (first o s h) (pure_step y ∷ ws)
-    ∙ q (second o s h) ws
-  where
-    first : (o s : Bool) → o && s ≡ true → o ≡ true
-    first true s h = refl
-    first false s h = h
-
-    second : (o s : Bool) → o && s ≡ true → s ≡ true
-    second true s h = h
-    second false s h = cc
+    ∙ p h (pure_step y ∷ ws)
+    ∙ q (f h) ws
 
 no-steps : (u : Option pure.Ty) (g : Names pure.Ty) → path_behind u [] g ≡ u
 no-steps None g = refl

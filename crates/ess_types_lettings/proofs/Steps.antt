@@ -18,7 +18,7 @@ use Rattle.ess_core.proofs.ExpressionEquations.{pure_comp}
 use Rattle.ess_core.proofs.PartEquations.{pure_gen_over, pure_gen_from, pure_gen_if, pure_step_value, pure_step_component, pure_step_field}
 use Rattle.ess_types_names.specs.Tables.{Types, pure_table}
 use Rattle.ess_types_names.proofs.Tables.{extends_itself, extends_on}
-use Rattle.ess_types_lettings.specs.Putting.{put_item, item_behind, put_items, names_behind, put_operands, exs_before}
+use Rattle.ess_types_lettings.specs.Putting.{put_item, item_behind, put_items, names_behind, put_values, exs_before}
 
 -- ---- generators
 
@@ -125,38 +125,38 @@ words_all xs ys i h = at_drop_all (λ s. words_of (map pure_step ys) ++ words_of
 -- What a step has for an operand, whatever follows; nothing follows where b is false.
 abbrev pub Puts : Bool → Option pure.Ty → Step → Step → Option pure.Ty → Lettings → Names pure.Ty → Type 0
 Puts b t x y u l g = (ws : List (With tree.Step)) → (b ≡ false → ws ≡ [])
-    → put_operands t (pure_step x ∷ ws) l g ≡ exs_before (pure_step y).1 (put_operands u ws l g)
+    → put_values t (pure_step x ∷ ws) l g ≡ exs_before (pure_step y).1 (put_values u ws l g)
 
 -- The same of an equal step in an equal table.
 pub puts_at : (b : Bool) (t u : Option pure.Ty) (x y d : Step) (l : Lettings) (k m : Types) → k ≡ m → y ≡ d
     → Puts b t x d u l (pure_table k)
     → Puts b t x y u l (pure_table m)
 puts_at b t u x y d l k m e is p ws h =
-    sym (ap (λ z. put_operands t (pure_step x ∷ ws) l (pure_table z)) e)
+    sym (ap (λ z. put_values t (pure_step x ∷ ws) l (pure_table z)) e)
     ∙ p ws h
-    ∙ ap (λ z. exs_before (pure_step d).1 (put_operands u ws l (pure_table z))) e
-    ∙ ap (λ z. exs_before (pure_step z).1 (put_operands u ws l (pure_table m))) (sym is)
+    ∙ ap (λ z. exs_before (pure_step d).1 (put_values u ws l (pure_table z))) e
+    ∙ ap (λ z. exs_before (pure_step z).1 (put_values u ws l (pure_table m))) (sym is)
 
 -- One step's operand more.
 pub operands_more : (xs : List Step) (i : ℕ) (b : Bool) (x y : Step) (ys zs : List Step) (t u : Option Ty) (l : Lettings)
     (g : Names pure.Ty) → i < length xs → x ≡ get_or xs i x → (b ≡ false → length xs ≤ i + 1)
     → Puts b (option_map pure_ty t) x y (option_map pure_ty u) l g → zs ≡ ys ++ y ∷ []
-    → exs_before (within (map pure_step zs)) (put_operands (option_map pure_ty u) (map pure_step (drop (i + 1) xs)) l g)
-    ≡ exs_before (within (map pure_step ys)) (put_operands (option_map pure_ty t) (map pure_step (drop i xs)) l g)
+    → exs_before (within (map pure_step zs)) (put_values (option_map pure_ty u) (map pure_step (drop (i + 1) xs)) l g)
+    ≡ exs_before (within (map pure_step ys)) (put_values (option_map pure_ty t) (map pure_step (drop i xs)) l g)
 operands_more xs i b x y ys zs t u l g lt is last p r =
-    ap (λ s. exs_before (within (map pure_step s)) (put_operands (option_map pure_ty u) (map pure_step (drop (i + 1) xs)) l g)) r
-    ∙ within-push ys y (put_operands (option_map pure_ty u) (map pure_step (drop (i + 1) xs)) l g)
+    ap (λ s. exs_before (within (map pure_step s)) (put_values (option_map pure_ty u) (map pure_step (drop (i + 1) xs)) l g)) r
+    ∙ within-push ys y (put_values (option_map pure_ty u) (map pure_step (drop (i + 1) xs)) l g)
     ∙ ap (exs_before (within (map pure_step ys)))
     (sym (p (map pure_step (drop (i + 1) xs)) (λ h. at_drop_all (map pure_step) xs (i + 1) (last h))))
-    ∙ ap (λ s. exs_before (within (map pure_step ys)) (put_operands (option_map pure_ty t) (map pure_step (s ∷ drop (i + 1) xs)) l g)) is
-    ∙ sym (at_drop_more (λ s. exs_before (within (map pure_step ys)) (put_operands (option_map pure_ty t) (map pure_step s) l g)) xs i x lt)
+    ∙ ap (λ s. exs_before (within (map pure_step ys)) (put_values (option_map pure_ty t) (map pure_step (s ∷ drop (i + 1) xs)) l g)) is
+    ∙ sym (at_drop_more (λ s. exs_before (within (map pure_step ys)) (put_values (option_map pure_ty t) (map pure_step s) l g)) xs i x lt)
 
 -- The operands of all steps.
 pub operands_all : (xs ys : List Step) (i : ℕ) (t : Option Ty) (l : Lettings) (g : Names pure.Ty) → length xs ≤ i
-    → exs_before (within (map pure_step ys)) (put_operands (option_map pure_ty t) (map pure_step (drop i xs)) l g)
+    → exs_before (within (map pure_step ys)) (put_values (option_map pure_ty t) (map pure_step (drop i xs)) l g)
     ≡ exs_of (within (map pure_step ys))
 operands_all xs ys i t l g h =
-    at_drop_all (λ s. exs_before (within (map pure_step ys)) (put_operands (option_map pure_ty t) (map pure_step s) l g)) xs i h
+    at_drop_all (λ s. exs_before (within (map pure_step ys)) (put_values (option_map pure_ty t) (map pure_step s) l g)) xs i h
     ∙ exs_before-nothing (within (map pure_step ys))
 
 -- What a step stands for.
@@ -167,11 +167,11 @@ pub ruleset steps_put = (words_all, operands_all)
 
 -- An index has lettings put into its place, and into its operands by the place's type.
 pub index_put : (b : Bool) (e f : tree.Ex) (ws rs : List (With tree.Step)) (t : Option pure.Ty) (l : Lettings) (g : Names pure.Ty)
-    → f ≡ put_ex e l g → t ≡ type_of f g → words_of rs ≡ words_of ws → exs_of (within rs) ≡ put_operands t ws l g
+    → f ≡ put_ex e l g → t ≡ type_of f g → words_of rs ≡ words_of ws → exs_of (within rs) ≡ put_values t ws l g
     → node_ex b (index (words_of rs)) (more_exs f (exs_of (within rs)))
     ≡ put_ex (node_ex b (index (words_of ws)) (more_exs e (exs_of (within ws)))) l g
 index_put b e f ws rs t l g p q r s =
     ap (λ qs. node_ex b (index qs) (more_exs f (exs_of (within rs)))) r
     ∙ ap (λ es. node_ex b (index (words_of ws)) (more_exs f es)) s
-    ∙ ap (λ u. node_ex b (index (words_of ws)) (more_exs f (put_operands u ws l g))) q
-    ∙ ap (λ f. node_ex b (index (words_of ws)) (more_exs f (put_operands (type_of f g) ws l g))) p
+    ∙ ap (λ u. node_ex b (index (words_of ws)) (more_exs f (put_values u ws l g))) q
+    ∙ ap (λ f. node_ex b (index (words_of ws)) (more_exs f (put_values (type_of f g) ws l g))) p

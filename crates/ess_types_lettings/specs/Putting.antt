@@ -4,8 +4,8 @@ use Rattle.ess_semantics.specs.Values.{Text}
 use Rattle.ess_semantics.specs.Names.{Names}
 use Rattle.ess_semantics.specs.Trees.{Step, Ex, Exs, Dom, more_exs}
 use Rattle.ess_semantics.specs.Types.{Ty, type_of_dom, bind_types}
-use Rattle.ess_semantics.specs.Typing.{statics, types_of, source_ty}
-use Rattle.ess_semantics.specs.Lettings.{Lettings, is_record_or_tuple, field_steps, keep_operands, put_ex, put_exs, put_dom}
+use Rattle.ess_semantics.specs.Typing.{source_ty}
+use Rattle.ess_semantics.specs.Lettings.{Lettings, put_steps, put_ex, put_exs, put_dom}
 use Rattle.ess_core.specs.TreeViews.{With, words_of, within, Item, over_item, from_item, cond_item, exs_of}
 
 -- A field of a record literal with lettings put in.
@@ -46,12 +46,9 @@ names_behind (x ∷ xs) l g = names_behind xs l (item_behind x l g)
 
 -- ---- indices
 
--- The operands of an index behind a place of type t: as they were where they are kept, else with lettings put in.
-abbrev pub put_operands : Option Ty → List (With Step) → Lettings → Names Ty → Exs
-put_operands t ws l g =
-    let es : Exs = exs_of (within ws) in
-    let fs : Exs = put_exs es l g in
-    keep_operands (field_steps_or_tuple t (words_of ws) (statics fs) (types_of fs g)) es fs
+-- The values of steps behind a place of type t with lettings put in.
+abbrev pub put_values : Option Ty → List (With Step) → Lettings → Names Ty → Exs
+put_values t ws l g = let es : Exs = exs_of (within ws) in put_steps t (words_of ws) es (put_exs es l g) g
 
 -- Operands in front of others.
 abbrev pub exs_before : List Ex → Exs → Exs

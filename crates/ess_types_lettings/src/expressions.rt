@@ -119,11 +119,7 @@ fn index_of(
     ensures { IfOk result (λ e. pure_ex e
         ≡ node_ex is_bool (index (words_of (map pure_step puts.steps))) (more_exs (pure_ex place) (exs_of (within (map pure_step puts.steps))))) }
 {
-    let PutSteps {
-        steps,
-        behind,
-        is_own: _,
-    } = puts;
+    let PutSteps { steps, behind } = puts;
     drop(behind);
     Boxed::new(alloc, Ex::At(is_bool, place, steps))
 }

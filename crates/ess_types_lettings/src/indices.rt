@@ -1,22 +1,21 @@
 //! Lettings put into the steps of an index.
-ghost use Rattle.std.specs.Prelude.{◌≡◌, ◌≤◌, ◌<◌, ◌+◌, ◌∷◌, [], true, false, length, List, None, map, option_map, if◌then◌else◌, IfOk, OnOk};
-ghost use Rattle.ess_semantics.specs.Lists.{is_some_and};
+ghost use Rattle.std.specs.Prelude.{◌≡◌, ◌≤◌, ◌<◌, ◌+◌, ◌∷◌, [], true, false, length, List, None, map, option_map, IfOk, OnOk};
 ghost use Rattle.ess_semantics.specs.Trees.{by_value, Step as PureStep};
 ghost use Rattle.ess_semantics.specs.Typing.{a_number, a_name, static, type_behind, type_of};
-ghost use Rattle.ess_semantics.specs.Lettings.{put_ex};
+ghost use Rattle.ess_semantics.specs.Lettings.{kept_or, put_ex};
 ghost use Rattle.ess_core.specs.TypeViews.{pure_ty};
 ghost use Rattle.ess_core.specs.TreeViews.{With, words_of, within, exs_of, pure_ex, pure_step};
 ghost use Rattle.ess_types_names.specs.Tables.{pure_table};
 ghost use Rattle.ess_types_scopes.specs.Kept.{pure_lettings};
-ghost use Rattle.ess_types_lettings.specs.Putting.{put_operands, exs_before};
 ghost use Rattle.ess_types_lettings.specs.Paths.{path_behind};
+ghost use Rattle.ess_types_lettings.specs.Putting.{put_values, exs_before};
 
 use crate::expressions::put_ex;
-use crate::kept::{is_own, kept_or_put};
+use crate::kept::{is_kept, kept_value, value_behind};
 use crate::typed::put_typed;
 use ess_core::{Boxed, Ex, NoMemory, Row, Step, Text, Ty};
 use ess_types_names::TypeTable;
-use ess_types_operators::{component_type, field_type, step_type};
+use ess_types_operators::{component_type, field_type};
 use ess_types_scopes::Lettings;
 use std::alloc::Global;
 
@@ -24,19 +23,15 @@ use std::alloc::Global;
 #[derive(Drop)]
 pub(crate) struct PutSteps {
     pub steps: Row<Step>,
-    /// The type that is reached behind them.
+    /// The type that is reached behind them, where it was asked.
     pub behind: Option<Boxed<Ty>>,
-    /// Whether that is the type of the index. It may be another one where it wasn't asked, and behind a value that stays as it is
-    /// though it is a letting's name.
-    pub is_own: bool,
 }
 
-/// A step with lettings put in, with the same of it alone.
+/// A step with lettings put in, and the type that it reaches, where something follows.
 #[derive(Drop)]
 struct PutStep {
     step: Boxed<Step>,
     behind: Option<Boxed<Ty>>,
-    is_own: bool,
 }
 
 /// The steps of an index with lettings put in, from a place of this type. The type behind the last one is found where it is
@@ -53,36 +48,32 @@ pub(crate) fn put_steps(
 ) -> Result<PutSteps, NoMemory>
     ensures words { IfOk result (λ r. words_of (map pure_step r.steps) ≡ words_of (map pure_step steps.now)) }
     ensures operands { IfOk result (λ r. exs_of (within (map pure_step r.steps))
-        ≡ put_operands (option_map pure_ty place) (map pure_step steps.now) (pure_lettings lettings.now) (pure_table table.old)) }
-    ensures own { IfOk result (λ r. r.is_own ≡ true
+        ≡ put_values (option_map pure_ty place) (map pure_step steps.now) (pure_lettings lettings.now) (pure_table table.old)) }
+    ensures behind { IfOk result (λ r. asked ≡ true
         → option_map pure_ty r.behind ≡ path_behind (option_map pure_ty place) (map pure_step r.steps) (pure_table table.old)) }
     ensures kept { OnOk result (table.new ≡ table.old) }
 {
     let mut puts = Row::with_capacity(alloc, steps.len())?;
     let mut reached = place;
-    let mut is_own = true;
     for (i, step) in steps.iter().enumerate() {
         let further = is_followed(asked, steps, i);
-        let PutStep {
-            step: put,
-            behind,
-            is_own: leads,
-        } = put_step(alloc, step, &reached, further, lettings, table)?;
+        let PutStep { step: put, behind } = put_step(
+            alloc, step, &reached, further, lettings, table,
+        )?;
         puts.push(put.into_inner())?;
         reached = behind;
-        is_own = is_own & leads;
     }
     Ok(PutSteps {
         steps: puts,
         behind: reached,
-        is_own,
     })
 }
 
 /// Whether the type behind the step at i is needed: where that behind all steps is asked, or a step follows.
 fn is_followed(asked: bool, steps: &[Step], i: usize) -> bool
     requires { i < length steps.now }
-    ensures { result ≡ false → length steps.now ≤ i + 1 }
+    ensures last { result ≡ false → length steps.now ≤ i + 1 }
+    ensures asked { asked ≡ true → result ≡ true }
 {
     asked | (i + 1 < steps.len())
 }
@@ -100,9 +91,9 @@ fn put_step(
 ) -> Result<PutStep, NoMemory>
     ensures word { IfOk result (λ r. (pure_step r.step).0 ≡ (pure_step step.now).0) }
     ensures operands { IfOk result (λ r. (ws : List (With PureStep)) → (further ≡ false → ws ≡ [])
-        → put_operands (option_map pure_ty place.now) (pure_step step.now ∷ ws) (pure_lettings lettings.now) (pure_table table.old)
-        ≡ exs_before (pure_step r.step).1 (put_operands (option_map pure_ty r.behind) ws (pure_lettings lettings.now) (pure_table table.old))) }
-    ensures own { IfOk result (λ r. r.is_own ≡ true → (ws : List (With PureStep))
+        → put_values (option_map pure_ty place.now) (pure_step step.now ∷ ws) (pure_lettings lettings.now) (pure_table table.old)
+        ≡ exs_before (pure_step r.step).1 (put_values (option_map pure_ty r.behind) ws (pure_lettings lettings.now) (pure_table table.old))) }
+    ensures leads { IfOk result (λ r. further ≡ true → (ws : List (With PureStep))
         → path_behind (option_map pure_ty place.now) (pure_step r.step ∷ ws) (pure_table table.old)
         ≡ path_behind (option_map pure_ty r.behind) ws (pure_table table.old)) }
     ensures kept { OnOk result (table.new ≡ table.old) }
@@ -112,20 +103,12 @@ fn put_step(
         Step::Component(number) => {
             let behind = component_behind(alloc, place, *number)?;
             let step = Boxed::new(alloc, Step::Component(*number))?;
-            Ok(PutStep {
-                step,
-                behind,
-                is_own: true,
-            })
+            Ok(PutStep { step, behind })
         }
         Step::Field(name) => {
             let behind = field_behind(alloc, place, name)?;
             let step = Boxed::new(alloc, Step::Field(name.copy(alloc)?))?;
-            Ok(PutStep {
-                step,
-                behind,
-                is_own: true,
-            })
+            Ok(PutStep { step, behind })
         }
     }
 }
@@ -142,25 +125,20 @@ fn put_value(
 ) -> Result<PutStep, NoMemory>
     ensures word { IfOk result (λ r. (pure_step r.step).0 ≡ by_value) }
     ensures operands { IfOk result (λ r. (ws : List (With PureStep)) → (further ≡ false → ws ≡ [])
-        → put_operands (option_map pure_ty place.now) ((by_value, pure_ex ex.now ∷ []) ∷ ws) (pure_lettings lettings.now) (pure_table table.old)
-        ≡ exs_before (pure_step r.step).1 (put_operands (option_map pure_ty r.behind) ws (pure_lettings lettings.now) (pure_table table.old))) }
-    ensures own { IfOk result (λ r. r.is_own ≡ true → (ws : List (With PureStep))
+        → put_values (option_map pure_ty place.now) ((by_value, pure_ex ex.now ∷ []) ∷ ws) (pure_lettings lettings.now) (pure_table table.old)
+        ≡ exs_before (pure_step r.step).1 (put_values (option_map pure_ty r.behind) ws (pure_lettings lettings.now) (pure_table table.old))) }
+    ensures leads { IfOk result (λ r. further ≡ true → (ws : List (With PureStep))
         → path_behind (option_map pure_ty place.now) (pure_step r.step ∷ ws) (pure_table table.old)
         ≡ path_behind (option_map pure_ty r.behind) ws (pure_table table.old)) }
     ensures kept { OnOk result (table.new ≡ table.old) }
 {
-    let (put, behind) = put_behind(alloc, ex, place, further, lettings, table)?;
-    let is_own = is_own(place, ex, further, lettings);
-    let value = kept_or_put(alloc, place, ex, put)?;
+    let (value, behind) = put_behind(alloc, ex, place, further, lettings, table)?;
     let step = Boxed::new(alloc, Step::Value(value.into_inner()))?;
-    Ok(PutStep {
-        step,
-        behind,
-        is_own,
-    })
+    Ok(PutStep { step, behind })
 }
 
-/// The value of a step with lettings put in, and the type that a step by it reaches, which is found where something follows.
+/// The value of a step with lettings put in, or as it is from a place that is a record or a tuple, and the type that a step by it
+/// reaches, which is found where something follows.
 #[cycle(put)]
 fn put_behind(
     alloc: Global,
@@ -170,11 +148,15 @@ fn put_behind(
     lettings: &Lettings,
     table: &mut TypeTable,
 ) -> Result<(Boxed<Ex>, Option<Boxed<Ty>>), NoMemory>
-    ensures ok { IfOk result (λ r. pure_ex r.0 ≡ put_ex (pure_ex ex.now) (pure_lettings lettings.now) (pure_table table.old)) }
+    ensures value { IfOk result (λ r. pure_ex r.0
+        ≡ kept_or (option_map pure_ty place.now) (pure_ex ex.now) (put_ex (pure_ex ex.now) (pure_lettings lettings.now) (pure_table table.old))) }
     ensures behind { IfOk result (λ r. further ≡ true → option_map pure_ty r.1
         ≡ type_behind (option_map pure_ty place.now) (static (pure_ex r.0)) (type_of (pure_ex r.0) (pure_table table.old))) }
     ensures kept { OnOk result (table.new ≡ table.old) }
 {
+    if is_kept(place) {
+        return kept_value(alloc, ex, place);
+    }
     if further {
         let (put, ty) = put_typed(alloc, ex, lettings, table)?;
         let behind = value_behind(alloc, place, put.get(), ty)?;
@@ -182,25 +164,6 @@ fn put_behind(
     } else {
         let put = put_ex(alloc, ex, lettings, table)?;
         Ok((put, None))
-    }
-}
-
-/// The type that a step by a value of this type reaches.
-fn value_behind(
-    alloc: Global,
-    place: &Option<Boxed<Ty>>,
-    value: &Ex,
-    ty: Option<Boxed<Ty>>,
-) -> Result<Option<Boxed<Ty>>, NoMemory>
-    ensures { IfOk result (λ o. option_map pure_ty o
-        ≡ type_behind (option_map pure_ty place.now) (static (pure_ex value.now)) (option_map pure_ty ty)) }
-{
-    match place {
-        Some(place) => match ty {
-            Some(ty) => step_type(alloc, place.get(), value, Some(ty.get())),
-            None => step_type(alloc, place.get(), value, None),
-        },
-        None => Ok(None),
     }
 }
 

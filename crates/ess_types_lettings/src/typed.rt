@@ -1,5 +1,5 @@
 //! Lettings put into an expression whose type is asked: a place, the source of a generator, or a value that a step follows.
-ghost use Rattle.std.specs.Prelude.{◌≡◌, true, map, option_map, IfOk, OnOk};
+ghost use Rattle.std.specs.Prelude.{◌≡◌, map, option_map, IfOk, OnOk};
 ghost use Rattle.ess_semantics.specs.Trees.{index, node_ex, more_exs};
 ghost use Rattle.ess_semantics.specs.Typing.{type_of};
 ghost use Rattle.ess_semantics.specs.Lettings.{put_ex};
@@ -33,7 +33,7 @@ pub(crate) fn put_typed(
         Ex::At(is_bool, place, steps) => {
             let (place, reached) = put_typed(alloc, place.get(), lettings, table)?;
             let puts = put_steps(alloc, steps.as_slice(), reached, true, lettings, table)?;
-            typed_index(alloc, *is_bool, place, puts, table)
+            typed_index(alloc, *is_bool, place, puts)
         }
         _ => {
             let put = put_ex(alloc, ex, lettings, table)?;
@@ -43,32 +43,18 @@ pub(crate) fn put_typed(
     }
 }
 
-/// The index of a place by steps with lettings put in, and its type. The table is as it was.
+/// The index of a place by steps with lettings put in, and the type behind them.
 fn typed_index(
     alloc: Global,
     is_bool: bool,
     place: Boxed<Ex>,
     puts: PutSteps,
-    table: &mut TypeTable,
 ) -> Result<(Boxed<Ex>, Option<Boxed<Ty>>), NoMemory>
-    requires { puts.is_own ≡ true → option_map pure_ty puts.behind
-        ≡ type_of (node_ex is_bool (index (words_of (map pure_step puts.steps))) (more_exs (pure_ex place) (exs_of (within (map pure_step puts.steps)))))
-        (pure_table table.old) }
-    ensures ok { IfOk result (λ r. pure_ex r.0
+    ensures index { IfOk result (λ r. pure_ex r.0
         ≡ node_ex is_bool (index (words_of (map pure_step puts.steps))) (more_exs (pure_ex place) (exs_of (within (map pure_step puts.steps))))) }
-    ensures typed { IfOk result (λ r. option_map pure_ty r.1 ≡ type_of (pure_ex r.0) (pure_table table.old)) }
-    ensures kept { OnOk result (table.new ≡ table.old) }
+    ensures behind { IfOk result (λ r. option_map pure_ty r.1 ≡ option_map pure_ty puts.behind) }
 {
-    let PutSteps {
-        steps,
-        behind,
-        is_own,
-    } = puts;
+    let PutSteps { steps, behind } = puts;
     let put = Boxed::new(alloc, Ex::At(is_bool, place, steps))?;
-    if is_own {
-        return Ok((put, behind));
-    }
-    drop(behind);
-    let ty = type_of(alloc, put.get(), table)?;
-    Ok((put, ty))
+    Ok((put, behind))
 }

@@ -68,21 +68,21 @@ indices::put_steps-loop-i-preserved t c =
           ∙ c.loop-i.invariant.words;
       operands = operands_more c.args.steps.now c.loop-i.i c.is_followed-further.result c.index-steps-i.result c.into_inner.result
           c.loop-i.puts c.push.new.self c.loop-i.reached c.in_ok-put.field-0.behind (pure_lettings c.args.lettings.now)
-          (pure_table c.args.table.now) c.loop-i-test.true c.index-steps-i.is c.is_followed-further.ensures
+          (pure_table c.args.table.now) c.loop-i-test.true c.index-steps-i.is c.is_followed-further.ensures.last
           (puts_at c.is_followed-further.result (option_map pure_ty c.loop-i.reached) (option_map pure_ty c.in_ok-put.field-0.behind)
           c.index-steps-i.result c.into_inner.result c.in_ok-put.field-0.step (pure_lettings c.args.lettings.now) c.loop-i.table
           c.args.table.now c.loop-i.invariant.kept is-put c.in_ok-put.ensures.operands)
           more ∙ c.loop-i.invariant.operands;
-      own = path_more c.loop-i.puts c.push.new.self c.into_inner.result (option_map pure_ty c.args.place)
+      behind = path_more c.loop-i.puts c.push.new.self c.into_inner.result (option_map pure_ty c.args.place)
           (option_map pure_ty c.loop-i.reached) (option_map pure_ty c.in_ok-put.field-0.behind) (pure_table c.args.table.now)
-          c.loop-i.is_own c.in_ok-put.field-0.is_own c.loop-i.invariant.own
-          (leads_at c.in_ok-put.field-0.is_own (option_map pure_ty c.loop-i.reached) (option_map pure_ty c.in_ok-put.field-0.behind)
+          c.args.asked c.is_followed-further.result c.loop-i.invariant.behind
+          (leads_at c.is_followed-further.result (option_map pure_ty c.loop-i.reached) (option_map pure_ty c.in_ok-put.field-0.behind)
           c.into_inner.result c.in_ok-put.field-0.step c.loop-i.table c.args.table.now c.loop-i.invariant.kept is-put
-          c.in_ok-put.ensures.own)
-          more;
+          c.in_ok-put.ensures.leads)
+          more c.is_followed-further.ensures.asked;
     }
 
-pub indices::put_steps-returns-clause-own : goal.indices::put_steps-returns-clause-own
-indices::put_steps-returns-clause-own t c =
+pub indices::put_steps-returns-clause-behind : goal.indices::put_steps-returns-clause-behind
+indices::put_steps-returns-clause-behind t c =
     path_all c.loop-i.puts (option_map pure_ty c.args.place) (option_map pure_ty c.loop-i.reached) (pure_table c.args.table.now)
-    c.loop-i.is_own c.loop-i.invariant.own
+    c.args.asked c.loop-i.invariant.behind

@@ -6,7 +6,7 @@ use Rattle.ess_core.specs.TreeViews.{With, words_of, within, pure_ex, pure_pair_
 use Rattle.ess_types_names.specs.Tables.{pure_table, Extends}
 use Rattle.ess_types_scopes.specs.Kept.{pure_lettings}
 use Rattle.ess_types_lettings.specs.Paths.{path_behind}
-use Rattle.ess_types_lettings.specs.Putting.{put_field, put_field_dom, put_with, put_items, names_behind, put_operands, exs_before}
+use Rattle.ess_types_lettings.specs.Putting.{put_field, put_field_dom, put_with, put_items, names_behind, put_values, exs_before}
 use Rattle.ess_types_lettings.proofs.+put.Given as goal
 
 abbrev pub invariant-rows::each_ex-loop-ex : goal.invariant-rows::each_ex-loop-ex
@@ -62,10 +62,10 @@ invariant-indices::put_steps-loop-i l = record {
   kept : l.table ≡ l.initial.table;
   words : words_of (map pure_step l.puts) ++ words_of (map pure_step (drop l.i l.steps)) ≡ words_of (map pure_step l.steps);
   operands : exs_before (within (map pure_step l.puts))
-      (put_operands (option_map pure_ty l.reached) (map pure_step (drop l.i l.steps)) (pure_lettings l.lettings)
+      (put_values (option_map pure_ty l.reached) (map pure_step (drop l.i l.steps)) (pure_lettings l.lettings)
       (pure_table l.initial.table))
-      ≡ put_operands (option_map pure_ty l.initial.reached) (map pure_step l.steps) (pure_lettings l.lettings) (pure_table l.initial.table);
-  own : l.is_own ≡ true → (ws : List (With Step))
+      ≡ put_values (option_map pure_ty l.initial.reached) (map pure_step l.steps) (pure_lettings l.lettings) (pure_table l.initial.table);
+  behind : l.asked ≡ true → (ws : List (With Step))
       → path_behind (option_map pure_ty l.initial.reached) (map pure_step l.puts ++ ws) (pure_table l.initial.table)
       ≡ path_behind (option_map pure_ty l.reached) ws (pure_table l.initial.table);
 }
