@@ -69,3 +69,6 @@ pub mod FlagsListing
 pub mod MarkerListing
 pub mod OccurrencesInOrder
 pub mod MatrixViews
+pub mod SharedParts
+pub mod PartitionRules
+pub mod MatrixItems

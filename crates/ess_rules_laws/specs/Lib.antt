@@ -22,3 +22,6 @@ pub mod SetListings
 pub mod ListedSources
 pub mod PartLookups
 pub mod SlotListings
+pub mod PartitionRules
+pub mod GenericLaws
+pub mod MatrixRules
