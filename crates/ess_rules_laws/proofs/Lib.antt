@@ -72,3 +72,4 @@ pub mod MatrixViews
 pub mod SharedParts
 pub mod PartitionRules
 pub mod MatrixItems
+pub mod MatrixRules

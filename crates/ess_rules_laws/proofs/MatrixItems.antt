@@ -49,6 +49,14 @@ abbrev pub equal_options : Ty → Ty → Option Value → Option Value → Bool
 equal_options t u o q = as_truth (false_where_undefined true (value_of_node (binary Op2.Eq)
     (false_where_undefined (is_bool (Some t)) o ∷ false_where_undefined (is_bool (Some u)) q ∷ [])))
 
+-- Equality of matrices by their parts.
+pub parted : (is js xs ys : Values) → same (matrix is xs) (matrix js ys) ≡ same (tuple is) (tuple js) && is_eq (orders xs ys)
+parted is js xs ys = then-equal (orders is js) _ ∙ ap (λ b. is_eq (orders is js) && b) (then-equal (orders xs ys) _ ∙ right (is_eq (orders xs ys)))
+  where
+    right : (b : Bool) → b && true ≡ b
+    right true = refl
+    right false = refl
+
 module _ (p : Bool) (es : List TypeEntry) (t u : Ty) where
   both-typed : (x y : Value) → is_of p es t x ≡ true → is_of p es u y ≡ true → equal_options t u (Some x) (Some y) ≡ same x y
   both-typed x y h k =
@@ -93,14 +101,6 @@ module _ (p : Bool) (es : List TypeEntry) (t u : Ty) where
   equal-there is xs ys r m n h k =
       parted is is xs ys ∙ ap (λ b. b && is_eq (orders xs ys)) (same-itself (tuple is))
       ∙ sym (items-equal is xs ys (sorted-distinct (to_list is) (sorted-of (to_list is) r)) m n h k)
-
--- Equality of matrices by their parts.
-pub parted : (is js xs ys : Values) → same (matrix is xs) (matrix js ys) ≡ same (tuple is) (tuple js) && is_eq (orders xs ys)
-parted is js xs ys = then-equal (orders is js) _ ∙ ap (λ b. is_eq (orders is js) && b) (then-equal (orders xs ys) _ ∙ right (is_eq (orders xs ys)))
-  where
-    right : (b : Bool) → b && true ≡ b
-    right true = refl
-    right false = refl
 
 -- Two matrices are equal where each index of one is one of the other and the items at the indices of the first are equal.
 pub matrices-equal : (p : Bool) (es : List TypeEntry) (t u : Ty) (is js xs ys : Values) → rises itself (to_list is) ≡ true → rises itself (to_list js) ≡ true →
