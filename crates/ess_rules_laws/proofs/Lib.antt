@@ -73,3 +73,4 @@ pub mod SharedParts
 pub mod PartitionRules
 pub mod MatrixItems
 pub mod MatrixRules
+pub mod ConditionRules

@@ -25,3 +25,4 @@ pub mod SlotListings
 pub mod PartitionRules
 pub mod GenericLaws
 pub mod MatrixRules
+pub mod ConditionRules
