@@ -74,3 +74,5 @@ pub mod PartitionRules
 pub mod MatrixItems
 pub mod MatrixRules
 pub mod ConditionRules
+pub mod ContainerListings
+pub mod ListRules

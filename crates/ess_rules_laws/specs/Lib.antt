@@ -26,3 +26,5 @@ pub mod PartitionRules
 pub mod GenericLaws
 pub mod MatrixRules
 pub mod ConditionRules
+pub mod ContainerListings
+pub mod ListRules

@@ -3,6 +3,8 @@
 ghost use Rattle.ess_rules_laws.specs.GenericLaws.{PartitionRulesKeep};
 ghost use Rattle.ess_rules_laws.specs.MatrixRules.{MatrixRulesKeep};
 ghost use Rattle.ess_rules_laws.specs.ConditionRules.{ConditionRulesKeep};
+ghost use Rattle.ess_rules_laws.specs.ContainerListings.{MadeListingsList};
+ghost use Rattle.ess_rules_laws.specs.ListRules.{ListRulesKeep};
 
 /// The rule of `=` between partitions keeps what it rewrites: each part of one lies in a part of the other.
 pub fn partition_rules_keep()
@@ -19,4 +21,17 @@ pub fn matrix_rules_keep()
 /// generators of a fold for its body.
 pub fn condition_rules_keep()
     ensures { ConditionRulesKeep }
+{}
+
+/// Relations, arguments and preimages of functions, participants of partitions, and literals of functions and partitions and
+/// sets made of literals offer their listings: these have the members, each as often as it is there, and tables that meet the
+/// structures of the term meet theirs. The set of results of a function is that of the second components of its pairs.
+pub fn made_listings_list()
+    ensures { MadeListingsList }
+{}
+
+/// `min`, `max` and `allDiff` of any term and the signs that compare lists are those of the list of its members, and `allDiff`
+/// says of each item that it is there once.
+pub fn list_rules_keep()
+    ensures { ListRulesKeep }
 {}
