@@ -1,21 +1,21 @@
 -- Terms made of functions and of partitions, and literals of these, offer their listings.
-use Rattle.std.proofs.Common.{◌≡◌, refl, sym, ap, ◌∙◌, subst, ℕ, zero, suc, ◌≤◌, Bool, true, false, ◌&&◌, ◌||◌, not, if◌then◌else◌, List, [], ◌∷◌, ◌++◌, map, filter, Option, Some, None, option_map, arith}
+use Rattle.std.proofs.Common.{◌≡◌, refl, sym, ap, ◌∙◌, subst, ℕ, zero, suc, ◌≤◌, Bool, true, false, ◌&&◌, ◌||◌, not, if◌then◌else◌, List, [], ◌∷◌, ◌++◌, map, filter, length, nat_eq, Option, Some, None, option_map, arith}
 use Rattle.std.specs.Prelude.{IsTrue, is_some}
 use Rattle.std.specs.List.{list_all}
 use Rattle.ess_semantics.specs.declared.words.Op2.{Op2}
 use Rattle.ess_semantics.specs.declared.words.Fun.{Fun}
 use Rattle.ess_semantics.specs.Lists.{and_then, all_some, append_all, when}
-use Rattle.ess_semantics.specs.Values.{Text, a_function, a_partition, Value, truth, node, Values, to_list, of_list, items_of, from_of, to_of, itself}
+use Rattle.ess_semantics.specs.Values.{Text, matrix, a_function, a_partition, Value, truth, node, Values, to_list, of_list, items_of, from_of, to_of, itself}
 use Rattle.ess_semantics.specs.Order.{same, below}
 use Rattle.ess_semantics.specs.Collections.{holds, count, rises, sorted, sorted_once, set_of, mset_of, relation_of, function_of, partition_of, has_double_argument, has_empty_part, has_overlap}
 use Rattle.ess_semantics.specs.Names.{Names}
-use Rattle.ess_semantics.specs.Trees.{Op, word, function_literal, partition_literal, set_literal, mset_literal, matrix_literal, name_pat, Ex, Exs, name_ex, node_ex, comp_ex, ex2, fun1, no_exs, more_exs, no_gens, from, cond}
+use Rattle.ess_semantics.specs.Trees.{Op, word, function_literal, partition_literal, set_literal, mset_literal, matrix_literal, name_pat, Ex, Exs, name_ex, node_ex, matrix_ex, comp_ex, ex2, fun1, no_exs, more_exs, no_gens, from, cond, Dom}
 use Rattle.ess_semantics.specs.Types.{Ty, Tys, no_tys, more_tys, compound, compound2}
 use Rattle.ess_semantics.specs.Typing.{type_of}
 use Rattle.ess_semantics.specs.TypeMembers.{is_of, is_of_type}
 use Rattle.ess_semantics.specs.Typed.{Typed}
 use Rattle.ess_semantics.specs.Operators.{yes_no, as_truth, connective, list_value, value_of_op, value_of_node}
-use Rattle.ess_semantics.specs.Meaning.{Env, TypeEntry, meaning, meanings, items_under, collect, where_true}
+use Rattle.ess_semantics.specs.Meaning.{Env, TypeEntry, meaning, meanings, matrix_value, members_in, domain_of, collect, where_true}
 use Rattle.ess_semantics.specs.Contexts.{Each, guards}
 use Rattle.ess_semantics.specs.Meets.{Meets, MeetsAll}
 use Rattle.ess_semantics.proofs.Tests.{and-left, and-right, or-left-no, or-right-no, not-true}
@@ -39,66 +39,8 @@ use Rattle.ess_rules_laws.proofs.FunctionMembershipRules.{IsPairOf, pairs-of, fi
 use Rattle.ess_rules_laws.proofs.MembershipRules.{values, all-there}
 use Rattle.ess_rules_laws.proofs.ListedItems.{same-lists, counted-same, count-sorted_once, all-members, alone-listed, each-listed, firsts-list}
 use Rattle.ess_rules_laws.proofs.ListingStructures.{listings-met}
-
--- ---- lists without repeats
-
--- A list without repeats has each value once or not at all.
-pub count-distinct : (xs : List Value) (v : Value) → Distinct xs → count xs v ≡ (if holds xs v then 1 else 0)
-count-distinct [] v d = refl
-count-distinct (x ∷ xs) v d = go (same x v) refl (count-distinct xs v d.1)
-  where
-    go : (b : Bool) → same x v ≡ b → count xs v ≡ (if holds xs v then 1 else 0) →
-        (if b then suc (count xs v) else count xs v) ≡ (if b || holds xs v then 1 else 0)
-    go true q h = ap suc (count-absent xs v (ap (holds xs) (sym (same-equal x v q)) ∙ d.0))
-    go false q h = h
-
--- Sorting a list without repeats keeps how often each value is there.
-pub sorted-counts : (xs : List Value) → Distinct xs → (v : Value) → count (sorted_once xs) v ≡ count xs v
-sorted-counts xs d v = count-sorted_once xs v ∙ sym (count-distinct xs v d)
-
--- What a list lacks, a part of it lacks.
-absent-filtered : (c : Value → Value) (q : Value → Bool) (ps : List Value) (v : Value) → holds (map c ps) v ≡ false → holds (map c (filter q ps)) v ≡ false
-absent-filtered c q [] v h = refl
-absent-filtered c q (p ∷ ps) v h =
-    go (q p) (or-left-no (same (c p) v) (holds (map c ps) v) h) (absent-filtered c q ps v (or-right-no (same (c p) v) (holds (map c ps) v) h))
-  where
-    go : (b : Bool) → same (c p) v ≡ false → holds (map c (filter q ps)) v ≡ false → holds (map c (if b then p ∷ filter q ps else filter q ps)) v ≡ false
-    go true e r = ap (λ z. z || holds (map c (filter q ps)) v) e ∙ r
-    go false e r = r
-
--- A part of a list without repeats has none.
-distinct-filtered : (c : Value → Value) (q : Value → Bool) (ps : List Value) → Distinct (map c ps) → Distinct (map c (filter q ps))
-distinct-filtered c q [] d = tt
-distinct-filtered c q (p ∷ ps) d = go (q p) (distinct-filtered c q ps d.1)
-  where
-    go : (b : Bool) → Distinct (map c (filter q ps)) → Distinct (map c (if b then p ∷ filter q ps else filter q ps))
-    go true r = (absent-filtered c q ps (c p) d.0, r)
-    go false r = r
-
--- ---- what is collected
-
--- One answer for each item.
-collect-map : (c : Value → Value) (vs : List Value) (F : Value → Option (List Value)) → Each vs (λ v. F v ≡ Some (c v ∷ [])) → collect vs F ≡ Some (map c vs)
-collect-map c [] F h = refl
-collect-map c (v ∷ vs) F h =
-    ap (λ o. and_then o (λ xs. option_map (λ ys. xs ++ ys) (collect vs F))) h.0 ∙ ap (option_map (λ ys. c v ∷ ys)) (collect-map c vs F h.1)
-
--- One answer for each item that passes a test.
-collect-kept : (c : Value → Value) (q : Value → Bool) (vs : List Value) (F : Value → Option (List Value)) →
-    Each vs (λ v. F v ≡ where_true (Some (truth (q v))) (λ u. Some (c v ∷ []))) → collect vs F ≡ Some (map c (filter q vs))
-collect-kept c q [] F h = refl
-collect-kept c q (v ∷ vs) F h = ap (λ o. and_then o (λ xs. option_map (λ ys. xs ++ ys) (collect vs F))) h.0 ∙ go (q v) (collect-kept c q vs F h.1)
-  where
-    go : (b : Bool) → collect vs F ≡ Some (map c (filter q vs)) →
-        and_then (where_true (Some (truth b)) (λ u. Some (c v ∷ []))) (λ xs. option_map (λ ys. xs ++ ys) (collect vs F)) ≡ Some (map c (if b then v ∷ filter q vs else filter q vs))
-    go true e = ap (option_map (λ ys. c v ∷ ys)) e
-    go false e = ap (option_map (λ ys. ys)) e
-
--- A list for each item.
-collect-lists : (vs : List Value) (F : Value → Option (List Value)) → ((v : Value) → F v ≡ Some (items_of v)) → collect vs F ≡ Some (append_all (map items_of vs))
-collect-lists [] F h = refl
-collect-lists (v ∷ vs) F h =
-    ap (λ o. and_then o (λ xs. option_map (λ ys. xs ++ ys) (collect vs F))) (h v) ∙ ap (option_map (λ ys. items_of v ++ ys)) (collect-lists vs F h)
+use Rattle.ess_rules_laws.proofs.ListsOnce.{count-distinct, sorted-counts, absent-filtered, distinct-filtered, collect-map, collect-kept, collect-lists}
+use Rattle.ess_rules_laws.proofs.ContainerLiterals.{there, function-literal, partition-literal, set-made, matrix-offers}
 
 -- ---- values of functions and of partitions
 
@@ -131,11 +73,6 @@ partition-apart (Some (compound a_partition ts)) env v q f = go ts v (f (compoun
 partition-apart _ env v q f = cc
 
 -- ---- each term
-
--- The value of a word on a term that is there.
-there : (o : Option Value) (W : Fun) → is_some (value_of_node (word W) (o ∷ [])) ≡ true → (v : Value) × (o ≡ Some v)
-there None W t = cc
-there (Some v) W t = (v, refl)
 
 both-there : (o p : Option Value) (W : Fun) → is_some (value_of_node (word W) (o ∷ p ∷ [])) ≡ true → (v : Value) × (w : Value) × (o ≡ Some v) × (p ≡ Some w)
 both-there None p W t = cc
@@ -225,95 +162,6 @@ participants-offers o x y p env v j h m = go (is_partition o) refl
       met = ((m, each-in-any (meaning p env) _ (λ q. (tt, each-in-any (meaning (name_ex y) (behind y q env)) _ (λ u. tt)))), tt);
     }
 
--- ---- literals
-
-some-all : (os : List (Option Value)) → is_some (all_some os) ≡ true → list_all is_some os ≡ true
-some-all [] t = refl
-some-all (None ∷ os) t = cc
-some-all (Some x ∷ os) t = some-all os (go (all_some os) t)
-  where
-    go : (o : Option (List Value)) → is_some (option_map (λ xs. x ∷ xs) o) ≡ true → is_some o ≡ true
-    go None t = cc
-    go (Some xs) t = refl
-
--- The items of a literal that is there are.
-items-there : (os : List (Option Value)) (h : List Value → Option Value) → is_some (and_then (all_some os) h) ≡ true → list_all is_some os ≡ true
-items-there os h t = some-all os (go (all_some os) t)
-  where
-    go : (o : Option (List Value)) → is_some (and_then o h) ≡ true → is_some o ≡ true
-    go None t = cc
-    go (Some xs) t = refl
-
--- Where a literal has a value with these items sorted, it lists each once.
-firsts-offer : (e : Ex) (es : Exs) (env : Env) (s : Value) → list_all is_some (meanings es env) ≡ true → meaning e env ≡ Some s → items_of s ≡ sorted_once (values (meanings es env)) →
-    Lists e (each_first [] es) env
-firsts-offer e es env s t j q =
-    subst (λ z. SameLists z (all_listed (each_first [] es) env)) (sym (ap (option_map items_of) j)) (firsts-list es env s t q)
-
-function-made : (xs : List Value) → is_some (function_of xs) ≡ true → function_of xs ≡ Some (node a_function (of_list (sorted_once xs)))
-function-made xs t = go (not (has_double_argument xs)) t
-  where
-    go : (b : Bool) → is_some (when b (node a_function (of_list (sorted_once xs)))) ≡ true →
-        when b (node a_function (of_list (sorted_once xs))) ≡ Some (node a_function (of_list (sorted_once xs)))
-    go true t = refl
-    go false t = cc
-
-partition-made : (xs : List Value) → is_some (partition_of xs) ≡ true → (partition_of xs ≡ Some (node a_partition (of_list (sorted_once xs)))) × Distinct xs
-partition-made xs t = go (not (has_empty_part xs)) refl (not (has_overlap xs)) refl t
-  where
-    go : (b : Bool) → not (has_empty_part xs) ≡ b → (c : Bool) → not (has_overlap xs) ≡ c → is_some (when (b && c) (node a_partition (of_list (sorted_once xs)))) ≡ true →
-        (when (b && c) (node a_partition (of_list (sorted_once xs))) ≡ Some (node a_partition (of_list (sorted_once xs)))) × Distinct xs
-    go true q true r t = (refl, apart-distinct xs (not-true (has_empty_part xs) q) (no-overlap xs r))
-    go true q false r t = cc
-    go false q c r t = cc
-
--- The same from the values of operands.
-literal-means : (os : List (Option Value)) (h : List Value → Option Value) → list_all is_some os ≡ true → and_then (all_some os) h ≡ h (values os)
-literal-means os h t = ap (λ o. and_then o h) (all-there os t)
-
-function-literal : (x : Text) (es : Exs) (env : Env) → Unused x (node_ex false set_literal es) → is_some (meaning (node_ex false function_literal es) env) ≡ true → Meets (node_ex false function_literal es) env →
-    Offers (node_ex false function_literal es) (each_first [] es) env
-function-literal x es env new t m =
-    let h = items-there (meanings es env) function_of t in
-    let j = literal-means (meanings es env) function_of h in
-    let k = function-made (values (meanings es env)) (ap is_some (sym j) ∙ t) in record {
-  lists = firsts-offer (node_ex false function_literal es) es env (node a_function (of_list (sorted_once (values (meanings es env))))) h (j ∙ k) (to_list-of_list (sorted_once (values (meanings es env))));
-  met = listings-met [] x (node_ex false set_literal es) (each_first [] es) refl new env m;
-}
-
-partition-literal : (x : Text) (es : Exs) (env : Env) → Unused x (node_ex false set_literal es) → is_some (meaning (node_ex false partition_literal es) env) ≡ true → Meets (node_ex false partition_literal es) env →
-    Offers (node_ex false partition_literal es) (each_item es) env
-partition-literal x es env new t m =
-    let h = items-there (meanings es env) partition_of t in
-    let j = literal-means (meanings es env) partition_of h in
-    let k = partition-made (values (meanings es env)) (ap is_some (sym j) ∙ t) in record {
-  lists = counted-same _ _ (sorted_once (values (meanings es env))) (values (meanings es env))
-      (ap (option_map items_of) (j ∙ k.0) ∙ ap Some (to_list-of_list (sorted_once (values (meanings es env)))))
-      (each-listed es env ∙ all-there (meanings es env) h) (sorted-counts (values (meanings es env)) k.1);
-  met = listings-met [] x (node_ex false matrix_literal es) (each_item es) refl new env m;
-}
-
--- A set made of a literal; s is the value of the literal.
-set-made : (x : Text) (op : Op) (s : List Value → Value) → ((xs : List Value) → value_of_op op xs ≡ Some (s xs)) → ((xs : List Value) → sorted_once (items_of (s xs)) ≡ sorted_once xs) →
-    connective op ≡ None → guards op ≡ false → (es : Exs) (env : Env) → Unused x (node_ex false set_literal es) →
-    is_some (meaning (fun1 false Fun.ToSet (node_ex false op es)) env) ≡ true → MeetsAll false es env → Offers (fun1 false Fun.ToSet (node_ex false op es)) (each_first [] es) env
-set-made x op s made once c q es env new t m =
-    let r = there (meaning (node_ex false op es) env) Fun.ToSet t in
-    let i : value_of_node op (meanings es env) ≡ and_then (all_some (meanings es env)) (value_of_op op) = plain (connective op) c in
-    let h = items-there (meanings es env) (value_of_op op) (ap is_some (sym i ∙ r.1)) in
-    let j : meaning (node_ex false op es) env ≡ Some (s (values (meanings es env))) =
-        i ∙ literal-means (meanings es env) (value_of_op op) h ∙ made (values (meanings es env)) in record {
-  lists = firsts-offer (fun1 false Fun.ToSet (node_ex false op es)) es env (set_of (items_of (s (values (meanings es env))))) h
-      (ap (λ o. value_of_node (word Fun.ToSet) (o ∷ [])) j)
-      (to_list-of_list (sorted_once (items_of (s (values (meanings es env))))) ∙ once (values (meanings es env)));
-  met = listings-met [] x (node_ex false set_literal es) (each_first [] es) refl new env m;
-}
-  where
-    plain : (o : Option (List Bool → Bool)) → o ≡ None → elim o [ Some f ↦ yes_no (f (map as_truth (meanings es env))) | None ↦ and_then (all_some (meanings es env)) (value_of_op op) ]
-        ≡ and_then (all_some (meanings es env)) (value_of_op op)
-    plain None c = refl
-    plain (Some f) c = cc
-
 -- ---- all of them
 
 offers-answer : (g : Names Ty) (x y : Text) (e : Ex) → Unused x e → SoundOperands g e → (env : Env) → Typed g env → is_some (meaning e env) ≡ true → Meets e env →
@@ -333,6 +181,7 @@ offers-answer g x y (fun1 false Fun.ToSet (node_ex false matrix_literal es)) o s
 offers-answer g x y (fun1 false Fun.ToSet (node_ex false mset_literal es)) o s env t h m =
     set-made x mset_literal mset_of (λ xs. refl)
     (λ xs. ap sorted_once (to_list-of_list (sorted xs)) ∙ one-set (sorted xs) xs (same-members (sorted xs) xs (count-sorted xs))) refl refl es env o.0 h m.0
+offers-answer g x y (matrix_ex es d) o s env t h m = matrix-offers x es d env o.0 h m.0
 offers-answer g x y _ o s env t h m = tt
 
 -- ---- results

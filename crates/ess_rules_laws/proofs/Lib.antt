@@ -74,5 +74,10 @@ pub mod PartitionRules
 pub mod MatrixItems
 pub mod MatrixRules
 pub mod ConditionRules
+pub mod ListsOnce
+pub mod ContainerLiterals
 pub mod ContainerListings
 pub mod ListRules
+pub mod Progress
+pub mod SourceTypes
+pub mod SourceProgress

@@ -4,7 +4,7 @@ use Rattle.ess_semantics.specs.declared.words.Op2.{Op2}
 use Rattle.ess_semantics.specs.declared.words.Fun.{Fun}
 use Rattle.ess_semantics.specs.Values.{Text, a_function}
 use Rattle.ess_semantics.specs.Names.{Names}
-use Rattle.ess_semantics.specs.Trees.{word, function_literal, partition_literal, set_literal, mset_literal, matrix_literal, name_pat, Ex, name_ex, node_ex, comp_ex, ex2, fun1, no_exs, more_exs, Gens, no_gens, from, cond}
+use Rattle.ess_semantics.specs.Trees.{word, function_literal, partition_literal, set_literal, mset_literal, matrix_literal, name_pat, Ex, name_ex, node_ex, matrix_ex, comp_ex, ex2, fun1, no_exs, more_exs, Gens, no_gens, from, cond}
 use Rattle.ess_semantics.specs.Types.{Ty, compound2}
 use Rattle.ess_semantics.specs.Typing.{type_of}
 use Rattle.ess_semantics.specs.Typed.{Typed}
@@ -31,7 +31,7 @@ members_of_parts x y p = record { gens = from (name_pat y) p (from (name_pat x) 
 
 -- The alternatives of a term; x and y are new names. `toRelation(f)` has the pairs of f, `defined(f)` their first components,
 -- `preImage(f, b)` those whose second one is b, `participants(p)` the members of the parts of p. Literals of functions and sets
--- made of literals have each item once, and the parts of a partition literal differ.
+-- made of literals have each item once, and the parts of a partition literal differ. A matrix literal over a domain has its items.
 abbrev pub made_listing : Names Ty → Text → Text → Ex → Option (List Alternative)
 made_listing g x y (fun1 false Fun.ToRelation f) = of_function (type_of f g) (λ t u. those x f no_gens ∷ [])
 made_listing g x y (fun1 false Fun.Defined f) = of_function (type_of f g) (λ t u. arguments_listed x t f no_gens ∷ [])
@@ -42,6 +42,7 @@ made_listing g x y (node_ex false function_literal es) = Some (each_first [] es)
 made_listing g x y (node_ex false partition_literal es) = Some (each_item es)
 made_listing g x y (fun1 false Fun.ToSet (node_ex false matrix_literal es)) = Some (each_first [] es)
 made_listing g x y (fun1 false Fun.ToSet (node_ex false mset_literal es)) = Some (each_first [] es)
+made_listing g x y (matrix_ex es d) = Some (each_item es)
 made_listing g x y e = None
 
 -- `range(f)` is `toSet([x[2] | x <- f])`.

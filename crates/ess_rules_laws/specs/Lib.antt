@@ -28,3 +28,4 @@ pub mod MatrixRules
 pub mod ConditionRules
 pub mod ContainerListings
 pub mod ListRules
+pub mod Progress

@@ -5,6 +5,7 @@ ghost use Rattle.ess_rules_laws.specs.MatrixRules.{MatrixRulesKeep};
 ghost use Rattle.ess_rules_laws.specs.ConditionRules.{ConditionRulesKeep};
 ghost use Rattle.ess_rules_laws.specs.ContainerListings.{MadeListingsList};
 ghost use Rattle.ess_rules_laws.specs.ListRules.{ListRulesKeep};
+ghost use Rattle.ess_rules_laws.specs.Progress.{OperatorsHaveRules, SourcesHaveListings};
 
 /// The rule of `=` between partitions keeps what it rewrites: each part of one lies in a part of the other.
 pub fn partition_rules_keep()
@@ -34,4 +35,15 @@ pub fn made_listings_list()
 /// says of each item that it is there once.
 pub fn list_rules_keep()
     ensures { ListRulesKeep }
+{}
+
+/// Some rule fires at each typed operator that looks into a container.
+pub fn operators_have_rules()
+    ensures { OperatorsHaveRules }
+{}
+
+/// Each term whose type has members offers a listing, is written as a set that does, or is left to its kind, to a lookup or to
+/// what binds its name.
+pub fn sources_have_listings()
+    ensures { SourcesHaveListings }
 {}
