@@ -81,3 +81,4 @@ pub mod ListRules
 pub mod Progress
 pub mod SourceTypes
 pub mod SourceProgress
+pub mod ExamplesGenericRules
