@@ -82,3 +82,4 @@ pub mod Progress
 pub mod SourceTypes
 pub mod SourceProgress
 pub mod ExamplesGenericRules
+pub mod NamesStay

@@ -29,3 +29,4 @@ pub mod ConditionRules
 pub mod ContainerListings
 pub mod ListRules
 pub mod Progress
+pub mod NamesStay

@@ -6,6 +6,7 @@ ghost use Rattle.ess_rules_laws.specs.ConditionRules.{ConditionRulesKeep};
 ghost use Rattle.ess_rules_laws.specs.ContainerListings.{MadeListingsList};
 ghost use Rattle.ess_rules_laws.specs.ListRules.{ListRulesKeep};
 ghost use Rattle.ess_rules_laws.specs.Progress.{OperatorsHaveRules, SourcesHaveListings};
+ghost use Rattle.ess_rules_laws.specs.NamesStay.{NamesStay};
 
 /// The rule of `=` between partitions keeps what it rewrites: each part of one lies in a part of the other.
 pub fn partition_rules_keep()
@@ -46,4 +47,10 @@ pub fn operators_have_rules()
 /// what binds its name.
 pub fn sources_have_listings()
     ensures { SourcesHaveListings }
+{}
+
+/// A part that brings no new free name brings none to the whole, and so do any number of rules that keep what they rewrite and
+/// bring none: what mentions no find stays so.
+pub fn names_stay()
+    ensures { NamesStay }
 {}
