@@ -83,3 +83,4 @@ pub mod SourceTypes
 pub mod SourceProgress
 pub mod ExamplesGenericRules
 pub mod NamesStay
+pub mod LooseRules

@@ -30,3 +30,4 @@ pub mod ContainerListings
 pub mod ListRules
 pub mod Progress
 pub mod NamesStay
+pub mod LooseRules

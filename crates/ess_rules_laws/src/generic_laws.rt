@@ -7,6 +7,7 @@ ghost use Rattle.ess_rules_laws.specs.ContainerListings.{MadeListingsList};
 ghost use Rattle.ess_rules_laws.specs.ListRules.{ListRulesKeep};
 ghost use Rattle.ess_rules_laws.specs.Progress.{OperatorsHaveRules, SourcesHaveListings};
 ghost use Rattle.ess_rules_laws.specs.NamesStay.{NamesStay};
+ghost use Rattle.ess_rules_laws.specs.LooseRules.{LooseFoldsKeep};
 
 /// The rule of `=` between partitions keeps what it rewrites: each part of one lies in a part of the other.
 pub fn partition_rules_keep()
@@ -53,4 +54,9 @@ pub fn sources_have_listings()
 /// bring none: what mentions no find stays so.
 pub fn names_stay()
     ensures { NamesStay }
+{}
+
+/// A quantifier over the set of the members of a term keeps its meaning over the term, whose repeats it doesn't see.
+pub fn loose_folds_keep()
+    ensures { LooseFoldsKeep }
 {}
