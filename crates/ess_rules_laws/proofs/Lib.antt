@@ -84,3 +84,4 @@ pub mod SourceProgress
 pub mod ExamplesGenericRules
 pub mod NamesStay
 pub mod LooseRules
+pub mod NamesOfRules

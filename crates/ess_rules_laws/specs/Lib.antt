@@ -31,3 +31,4 @@ pub mod ListRules
 pub mod Progress
 pub mod NamesStay
 pub mod LooseRules
+pub mod NamesOfRules

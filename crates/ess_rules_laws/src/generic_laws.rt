@@ -8,6 +8,7 @@ ghost use Rattle.ess_rules_laws.specs.ListRules.{ListRulesKeep};
 ghost use Rattle.ess_rules_laws.specs.Progress.{OperatorsHaveRules, SourcesHaveListings};
 ghost use Rattle.ess_rules_laws.specs.NamesStay.{NamesStay};
 ghost use Rattle.ess_rules_laws.specs.LooseRules.{LooseFoldsKeep};
+ghost use Rattle.ess_rules_laws.specs.NamesOfRules.{RulesAddNoNames};
 
 /// The rule of `=` between partitions keeps what it rewrites: each part of one lies in a part of the other.
 pub fn partition_rules_keep()
@@ -59,4 +60,9 @@ pub fn names_stay()
 /// A quantifier over the set of the members of a term keeps its meaning over the term, whose repeats it doesn't see.
 pub fn loose_folds_keep()
     ensures { LooseFoldsKeep }
+{}
+
+/// The rules of folds, `in`, inclusion, equality, sizes and lists bring no new free name, whatever name they bind.
+pub fn rules_add_no_names()
+    ensures { RulesAddNoNames }
 {}
