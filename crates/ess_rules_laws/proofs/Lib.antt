@@ -72,6 +72,7 @@ pub mod MatrixViews
 pub mod SharedParts
 pub mod PartitionRules
 pub mod MatrixItems
+pub mod ListIndices
 pub mod MatrixRules
 pub mod ConditionRules
 pub mod ListsOnce

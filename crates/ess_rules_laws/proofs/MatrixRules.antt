@@ -30,6 +30,7 @@ use Rattle.ess_rules_laws.proofs.RuleAnswers.{AnswerKeeps, fires, both-there, be
 use Rattle.ess_rules_laws.proofs.Connectives.{binary-means, and-means, not-means, all-means, any-means, bits, collect-bits, all-bits, any-bits}
 use Rattle.ess_rules_laws.proofs.Horizontal.{any-holds}
 use Rattle.ess_rules_laws.proofs.Unordered.{same-turned}
+use Rattle.ess_rules_laws.proofs.ListIndices.{list-indexed}
 use Rattle.ess_rules_laws.proofs.MatrixItems.{MatrixOf, matrix-value, equal_options, equal-there, matrices-equal}
 
 -- ---- quantifiers over a domain
@@ -244,4 +245,5 @@ matrices-keep = record {
   over_two_domains = λ d c g x y e f q apart o new-d new-c s env t h by.
       fires (equal_matrices d c g x y e) e f env (matrices-answer d c g x y e apart o new-d new-c s env t h by) q;
   with_nothing = λ g x e f q o s env t h. fires (equal_to_nothing g x e) e f env (nothing-answer g x e s env t h) q;
+  lists_are_indexed = list-indexed;
 }

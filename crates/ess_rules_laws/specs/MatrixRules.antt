@@ -1,20 +1,23 @@
 -- Rules of `=` between matrices: over the index domain that both have, over two index domains, and with the empty list.
-use Rattle.std.specs.Prelude.{◌≡◌, Bool, true, false, not, List, [], ◌∷◌, Option, Some, None, if◌then◌else◌}
+use Rattle.std.specs.Prelude.{◌≡◌, Bool, true, false, not, List, [], ◌∷◌, length, pos, Option, Some, None, option_map, IsTrue, is_some, if◌then◌else◌}
 use Rattle.ess_semantics.specs.declared.words.Op1.{Op1}
 use Rattle.ess_semantics.specs.declared.words.Op2.{Op2}
 use Rattle.ess_semantics.specs.declared.words.Fun.{Fun}
-use Rattle.ess_semantics.specs.Values.{Text, a_matrix}
+use Rattle.ess_semantics.specs.Values.{Text, a_matrix, number, items_of}
 use Rattle.ess_semantics.specs.Order.{same_text}
 use Rattle.ess_semantics.specs.Names.{Names}
 use Rattle.ess_semantics.specs.Trees.{by_value, index, matrix_literal, name_pat, Ex, truth_ex, name_ex, node_ex, comp_ex, ex1, ex2, fun1, no_exs, more_exs, no_gens, over, from, Dom}
 use Rattle.ess_semantics.specs.Types.{Ty, compound2, is_bool}
 use Rattle.ess_semantics.specs.Typing.{type_of}
 use Rattle.ess_semantics.specs.Typed.{Typed}
-use Rattle.ess_semantics.specs.Meaning.{Env}
+use Rattle.ess_semantics.specs.Meaning.{Env, meaning}
+use Rattle.ess_semantics.specs.Meets.{Meets}
 use Rattle.ess_semantics.specs.Kept.{Keeps}
 use Rattle.ess_semantics.specs.Substitution.{NamesAreDom}
 use Rattle.ess_rules_laws.specs.Rules.{Unused, SoundOperands, OperandsThere, RuleKeepsTypedThere}
+use Rattle.ess_rules_laws.specs.FoldRules.{is_laid_open}
 use Rattle.ess_rules_laws.specs.PartLookups.{IndexedBy}
+use Rattle.ess_rules_laws.specs.SlotListings.{slots_dom}
 
 -- `and([body | x : d])`.
 abbrev pub every_over : Text → Dom → Ex → Ex
@@ -72,11 +75,16 @@ abbrev pub BothIndexed : Dom → Dom → Ex → Env → Type 0
 BothIndexed d c (ex2 m o a b) env = IndexedBy a d env × IndexedBy b c env
 BothIndexed d c e env = Unit {0}
 
+-- The expression has as its value the number of items of the list.
+abbrev pub CountsItems : Ex → Ex → Env → Type 0
+CountsItems n l env = meaning n env ≡ option_map (λ v. number (pos (length (items_of v)))) (meaning l env)
+
 -- The name stands nowhere in the domain.
 abbrev pub UnusedDom : Text → Dom → Type 0
 UnusedDom x d = NamesAreDom (λ a. not (same_text x a)) (λ a. true) d
 
--- So they keep what they rewrite, where the operands have values.
+-- So they keep what they rewrite, where the operands have values. A list that is there has the index domain `int(1..n)`, where n
+-- is the number of its items.
 pub record MatrixRulesKeep : Type 0 where
   pub over_one_domain : (d : Dom) (g : Names Ty) (x : Text) (e f : Ex) → equal_items d g x e ≡ Some f → Unused x e → SoundOperands g e →
       (env : Env) → Typed g env → OperandsThere e env → BothIndexed d d e env → Keeps e f env
@@ -84,3 +92,5 @@ pub record MatrixRulesKeep : Type 0 where
       same_text y x ≡ false → Unused x e → UnusedDom x d → UnusedDom x c → SoundOperands g e →
       (env : Env) → Typed g env → OperandsThere e env → BothIndexed d c e env → Keeps e f env
   pub with_nothing : RuleKeepsTypedThere equal_to_nothing
+  pub lists_are_indexed : (n l : Ex) (env : Env) → is_laid_open l ≡ true → IsTrue (is_some (meaning l env)) → CountsItems n l env → Meets n env →
+      IndexedBy l (slots_dom n) env
