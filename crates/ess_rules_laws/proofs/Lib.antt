@@ -86,3 +86,4 @@ pub mod ExamplesGenericRules
 pub mod NamesStay
 pub mod LooseRules
 pub mod NamesOfRules
+pub mod TupleNames

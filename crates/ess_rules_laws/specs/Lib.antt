@@ -32,3 +32,4 @@ pub mod Progress
 pub mod NamesStay
 pub mod LooseRules
 pub mod NamesOfRules
+pub mod TupleNames

@@ -9,6 +9,7 @@ ghost use Rattle.ess_rules_laws.specs.Progress.{OperatorsHaveRules, SourcesHaveL
 ghost use Rattle.ess_rules_laws.specs.NamesStay.{NamesStay};
 ghost use Rattle.ess_rules_laws.specs.LooseRules.{LooseFoldsKeep};
 ghost use Rattle.ess_rules_laws.specs.NamesOfRules.{RulesAddNoNames};
+ghost use Rattle.ess_rules_laws.specs.TupleNames.{NamesOverTuplesKeep};
 
 /// The rule of `=` between partitions keeps what it rewrites: each part of one lies in a part of the other.
 pub fn partition_rules_keep()
@@ -65,4 +66,9 @@ pub fn loose_folds_keep()
 /// The rules of folds, `in`, inclusion, equality, sizes and lists bring no new free name, whatever name they bind.
 pub fn rules_add_no_names()
     ensures { RulesAddNoNames }
+{}
+
+/// A name over a tuple of domains may run over the tuples of new names over the components.
+pub fn names_over_tuples_keep()
+    ensures { NamesOverTuplesKeep }
 {}
