@@ -1,17 +1,16 @@
 -- Folds within folds, and conditions in their bodies, keep what they rewrite.
 use Rattle.std.proofs.Common.{◌≡◌, refl, sym, ap, ◌∙◌, Bool, true, false, List, [], ◌∷◌, ◌++◌, pos, Option, Some, None, option_map, arith}
 use Rattle.std.proofs.lemmas.Int.{ints}
-use Rattle.std.specs.Prelude.{IsTrue, is_some, ℤ, ◌+ℤ◌, ◌-ℤ◌, ◌*ℤ◌}
+use Rattle.std.specs.Prelude.{is_some, ◌+ℤ◌, ◌-ℤ◌, ◌*ℤ◌}
 use Rattle.ess_semantics.specs.declared.words.Op2.{Op2}
 use Rattle.ess_semantics.specs.declared.words.Fun.{Fun}
 use Rattle.ess_semantics.specs.Lists.{and_then, list_or_none}
 use Rattle.ess_semantics.specs.Values.{Value, number, truth, item, node, items_of}
-use Rattle.ess_semantics.specs.Trees.{binary, word, Ex, number_ex, comp_ex, ex2, fun1, Gens, no_gens, over, from, cond}
-use Rattle.ess_semantics.specs.Operators.{as_truth, list_value, value_of_node, false_where_undefined}
+use Rattle.ess_semantics.specs.Trees.{binary, word, Ex, comp_ex, fun1, Gens, no_gens, over, from, cond}
+use Rattle.ess_semantics.specs.Operators.{list_value, value_of_node, false_where_undefined}
 use Rattle.ess_semantics.specs.Meaning.{Env, meaning, items_under, domain_of, members_in, with_pat, collect, where_true}
 use Rattle.ess_semantics.specs.Contexts.{WhenTrue}
 use Rattle.ess_semantics.specs.Meets.{Meets, MeetsGens}
-use Rattle.ess_semantics.specs.Kept.{Keeps}
 use Rattle.ess_rules_laws.specs.Rules.{IsTruth, IsNumber}
 use Rattle.ess_rules_laws.specs.SourceRules.{is_marked}
 use Rattle.ess_rules_laws.specs.SpliceRules.{append_gens}

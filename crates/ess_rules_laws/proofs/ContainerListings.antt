@@ -1,45 +1,42 @@
 -- Terms made of functions and of partitions, and literals of these, offer their listings.
-use Rattle.std.proofs.Common.{◌≡◌, refl, sym, ap, ◌∙◌, subst, ℕ, zero, suc, ◌≤◌, Bool, true, false, ◌&&◌, ◌||◌, not, if◌then◌else◌, List, [], ◌∷◌, ◌++◌, map, filter, length, nat_eq, Option, Some, None, option_map, arith}
+use Rattle.std.proofs.Common.{◌≡◌, refl, sym, ap, ◌∙◌, subst, Bool, true, false, ◌&&◌, if◌then◌else◌, List, [], ◌∷◌, map, filter, Option, Some, None, option_map}
 use Rattle.std.specs.Prelude.{IsTrue, is_some}
-use Rattle.std.specs.List.{list_all}
 use Rattle.ess_semantics.specs.declared.words.Op2.{Op2}
 use Rattle.ess_semantics.specs.declared.words.Fun.{Fun}
-use Rattle.ess_semantics.specs.Lists.{and_then, all_some, append_all, when}
-use Rattle.ess_semantics.specs.Values.{Text, matrix, a_function, a_partition, Value, truth, node, Values, to_list, of_list, items_of, from_of, to_of, itself}
+use Rattle.ess_semantics.specs.Lists.{and_then, append_all}
+use Rattle.ess_semantics.specs.Values.{Text, a_function, a_partition, Value, truth, node, to_list, items_of, from_of, to_of, itself}
 use Rattle.ess_semantics.specs.Order.{same, below}
-use Rattle.ess_semantics.specs.Collections.{holds, count, rises, sorted, sorted_once, set_of, mset_of, relation_of, function_of, partition_of, has_double_argument, has_empty_part, has_overlap}
+use Rattle.ess_semantics.specs.Collections.{rises, sorted, sorted_once, set_of, mset_of}
 use Rattle.ess_semantics.specs.Names.{Names}
-use Rattle.ess_semantics.specs.Trees.{Op, word, function_literal, partition_literal, set_literal, mset_literal, matrix_literal, name_pat, Ex, Exs, name_ex, node_ex, matrix_ex, comp_ex, ex2, fun1, no_exs, more_exs, no_gens, from, cond, Dom}
+use Rattle.ess_semantics.specs.Trees.{word, function_literal, partition_literal, mset_literal, matrix_literal, name_pat, Ex, name_ex, node_ex, matrix_ex, comp_ex, ex2, fun1, no_exs, more_exs, no_gens, from, cond}
 use Rattle.ess_semantics.specs.Types.{Ty, Tys, no_tys, more_tys, compound, compound2}
 use Rattle.ess_semantics.specs.Typing.{type_of}
-use Rattle.ess_semantics.specs.TypeMembers.{is_of, is_of_type}
+use Rattle.ess_semantics.specs.TypeMembers.{is_of_type}
 use Rattle.ess_semantics.specs.Typed.{Typed}
-use Rattle.ess_semantics.specs.Operators.{yes_no, as_truth, connective, list_value, value_of_op, value_of_node}
-use Rattle.ess_semantics.specs.Meaning.{Env, TypeEntry, meaning, meanings, matrix_value, members_in, domain_of, collect, where_true}
-use Rattle.ess_semantics.specs.Contexts.{Each, guards}
-use Rattle.ess_semantics.specs.Meets.{Meets, MeetsAll}
-use Rattle.ess_semantics.proofs.Tests.{and-left, and-right, or-left-no, or-right-no, not-true}
-use Rattle.ess_semantics.proofs.Orders.{to_list-of_list, same-equal, same-itself}
+use Rattle.ess_semantics.specs.Operators.{list_value, value_of_node}
+use Rattle.ess_semantics.specs.Meaning.{Env, meaning, collect, where_true}
+use Rattle.ess_semantics.specs.Contexts.{Each}
+use Rattle.ess_semantics.specs.Meets.{Meets}
+use Rattle.ess_semantics.proofs.Tests.{and-left, and-right}
+use Rattle.ess_semantics.proofs.Orders.{to_list-of_list}
 use Rattle.ess_semantics.proofs.Sorting.{Distinct, sorted-of, sorted_once-itself, one-set}
 use Rattle.ess_semantics.proofs.Multisets.{count-sorted, same-members}
 use Rattle.ess_semantics.proofs.Repeats.{sorted-distinct}
-use Rattle.ess_semantics.proofs.Overlaps.{all_members, no-overlap, apart-distinct}
-use Rattle.ess_rules_laws.specs.Rules.{Unused, SoundOperands, RuleKeepsTyped}
+use Rattle.ess_semantics.proofs.Overlaps.{no-overlap}
+use Rattle.ess_rules_laws.specs.Rules.{Unused, SoundOperands}
 use Rattle.ess_rules_laws.specs.ComponentRules.{component_of}
 use Rattle.ess_rules_laws.specs.ShortSizeRules.{is_partition}
-use Rattle.ess_rules_laws.specs.Listings.{Alternative, items_listed, all_listed, SameLists, Lists, each_item, each_first, those}
-use Rattle.ess_rules_laws.specs.ListedSources.{laid_out, AllMet, Offers}
+use Rattle.ess_rules_laws.specs.Listings.{Alternative, items_listed, those}
+use Rattle.ess_rules_laws.specs.ListedSources.{Offers}
 use Rattle.ess_rules_laws.specs.ContainerListings.{of_function, arguments_listed, members_of_parts, made_listing, range_as_set, MadeListingsList}
 use Rattle.ess_rules_laws.proofs.Bindings.{each-map}
-use Rattle.ess_rules_laws.proofs.RuleAnswers.{AnswerKeeps, fires, behind, meaning-behind, meets-behind, name-behind, each-in-any, each-any}
+use Rattle.ess_rules_laws.proofs.RuleAnswers.{AnswerKeeps, fires, behind, meaning-behind, meets-behind, name-behind, each-in-any}
 use Rattle.ess_rules_laws.proofs.Connectives.{binary-means}
-use Rattle.ess_rules_laws.proofs.ContainerValues.{Strictly, count-absent, count-present}
+use Rattle.ess_rules_laws.proofs.ContainerValues.{Strictly}
 use Rattle.ess_rules_laws.proofs.FunctionRules.{pairs-rise}
 use Rattle.ess_rules_laws.proofs.FunctionMembershipRules.{IsPairOf, pairs-of, first-means, second-means}
-use Rattle.ess_rules_laws.proofs.MembershipRules.{values, all-there}
-use Rattle.ess_rules_laws.proofs.ListedItems.{same-lists, counted-same, count-sorted_once, all-members, alone-listed, each-listed, firsts-list}
-use Rattle.ess_rules_laws.proofs.ListingStructures.{listings-met}
-use Rattle.ess_rules_laws.proofs.ListsOnce.{count-distinct, sorted-counts, absent-filtered, distinct-filtered, collect-map, collect-kept, collect-lists}
+use Rattle.ess_rules_laws.proofs.ListedItems.{same-lists, counted-same, all-members, alone-listed}
+use Rattle.ess_rules_laws.proofs.ListsOnce.{sorted-counts, distinct-filtered, collect-map, collect-kept, collect-lists}
 use Rattle.ess_rules_laws.proofs.ContainerLiterals.{there, function-literal, partition-literal, set-made, matrix-offers}
 
 -- ---- values of functions and of partitions

@@ -1,45 +1,27 @@
 -- Literals offer their items as listings.
-use Rattle.std.proofs.Common.{◌≡◌, refl, sym, ap, ◌∙◌, subst, ℕ, zero, suc, ◌≤◌, Bool, true, false, ◌&&◌, ◌||◌, not, if◌then◌else◌, List, [], ◌∷◌, ◌++◌, map, filter, length, nat_eq, Option, Some, None, option_map, arith}
-use Rattle.std.specs.Prelude.{IsTrue, is_some}
+use Rattle.std.proofs.Common.{◌≡◌, refl, sym, ap, ◌∙◌, subst, Bool, true, false, ◌&&◌, not, List, [], ◌∷◌, map, length, nat_eq, Option, Some, None, option_map}
+use Rattle.std.specs.Prelude.{is_some}
 use Rattle.std.specs.List.{list_all}
-use Rattle.ess_semantics.specs.declared.words.Op2.{Op2}
 use Rattle.ess_semantics.specs.declared.words.Fun.{Fun}
-use Rattle.ess_semantics.specs.Lists.{and_then, all_some, append_all, when}
-use Rattle.ess_semantics.specs.Values.{Text, matrix, a_function, a_partition, Value, truth, node, Values, to_list, of_list, items_of, from_of, to_of, itself}
-use Rattle.ess_semantics.specs.Order.{same, below}
-use Rattle.ess_semantics.specs.Collections.{holds, count, rises, sorted, sorted_once, set_of, mset_of, relation_of, function_of, partition_of, has_double_argument, has_empty_part, has_overlap}
-use Rattle.ess_semantics.specs.Names.{Names}
-use Rattle.ess_semantics.specs.Trees.{Op, word, function_literal, partition_literal, set_literal, mset_literal, matrix_literal, name_pat, Ex, Exs, name_ex, node_ex, matrix_ex, comp_ex, ex2, fun1, no_exs, more_exs, no_gens, from, cond, Dom}
-use Rattle.ess_semantics.specs.Types.{Ty, Tys, no_tys, more_tys, compound, compound2}
-use Rattle.ess_semantics.specs.Typing.{type_of}
-use Rattle.ess_semantics.specs.TypeMembers.{is_of, is_of_type}
-use Rattle.ess_semantics.specs.Typed.{Typed}
-use Rattle.ess_semantics.specs.Operators.{yes_no, as_truth, connective, list_value, value_of_op, value_of_node}
-use Rattle.ess_semantics.specs.Meaning.{Env, TypeEntry, meaning, meanings, matrix_value, members_in, domain_of, collect, where_true}
-use Rattle.ess_semantics.specs.Contexts.{Each, guards}
+use Rattle.ess_semantics.specs.Lists.{and_then, all_some, when}
+use Rattle.ess_semantics.specs.Values.{Text, matrix, a_function, a_partition, Value, node, of_list, items_of}
+use Rattle.ess_semantics.specs.Collections.{sorted_once, set_of, function_of, partition_of, has_double_argument, has_empty_part, has_overlap}
+use Rattle.ess_semantics.specs.Trees.{Op, word, function_literal, partition_literal, set_literal, matrix_literal, Ex, Exs, node_ex, matrix_ex, fun1, Dom}
+use Rattle.ess_semantics.specs.Operators.{yes_no, as_truth, connective, value_of_op, value_of_node}
+use Rattle.ess_semantics.specs.Meaning.{Env, meaning, meanings, matrix_value, members_in, domain_of}
+use Rattle.ess_semantics.specs.Contexts.{guards}
 use Rattle.ess_semantics.specs.Meets.{Meets, MeetsAll}
-use Rattle.ess_semantics.proofs.Tests.{and-left, and-right, or-left-no, or-right-no, not-true}
-use Rattle.ess_semantics.proofs.Orders.{to_list-of_list, same-equal, same-itself}
-use Rattle.ess_semantics.proofs.Sorting.{Distinct, sorted-of, sorted_once-itself, one-set}
-use Rattle.ess_semantics.proofs.Multisets.{count-sorted, same-members}
-use Rattle.ess_semantics.proofs.Repeats.{sorted-distinct}
-use Rattle.ess_semantics.proofs.Overlaps.{all_members, no-overlap, apart-distinct}
-use Rattle.ess_rules_laws.specs.Rules.{Unused, SoundOperands, RuleKeepsTyped}
-use Rattle.ess_rules_laws.specs.ComponentRules.{component_of}
-use Rattle.ess_rules_laws.specs.ShortSizeRules.{is_partition}
-use Rattle.ess_rules_laws.specs.Listings.{Alternative, items_listed, all_listed, SameLists, Lists, each_item, each_first, those}
-use Rattle.ess_rules_laws.specs.ListedSources.{laid_out, AllMet, Offers}
-use Rattle.ess_rules_laws.specs.ContainerListings.{of_function, arguments_listed, members_of_parts, made_listing, range_as_set, MadeListingsList}
-use Rattle.ess_rules_laws.proofs.Bindings.{each-map}
-use Rattle.ess_rules_laws.proofs.RuleAnswers.{AnswerKeeps, fires, behind, meaning-behind, meets-behind, name-behind, each-in-any, each-any}
-use Rattle.ess_rules_laws.proofs.Connectives.{binary-means}
-use Rattle.ess_rules_laws.proofs.ContainerValues.{Strictly, count-absent, count-present}
-use Rattle.ess_rules_laws.proofs.FunctionRules.{pairs-rise}
-use Rattle.ess_rules_laws.proofs.FunctionMembershipRules.{IsPairOf, pairs-of, first-means, second-means}
+use Rattle.ess_semantics.proofs.Tests.{not-true}
+use Rattle.ess_semantics.proofs.Orders.{to_list-of_list}
+use Rattle.ess_semantics.proofs.Sorting.{Distinct}
+use Rattle.ess_semantics.proofs.Overlaps.{no-overlap, apart-distinct}
+use Rattle.ess_rules_laws.specs.Rules.{Unused}
+use Rattle.ess_rules_laws.specs.Listings.{all_listed, SameLists, Lists, each_item, each_first}
+use Rattle.ess_rules_laws.specs.ListedSources.{Offers}
 use Rattle.ess_rules_laws.proofs.MembershipRules.{values, all-there}
-use Rattle.ess_rules_laws.proofs.ListedItems.{same-lists, counted-same, count-sorted_once, all-members, alone-listed, each-listed, firsts-list}
+use Rattle.ess_rules_laws.proofs.ListedItems.{same-lists, counted-same, each-listed, firsts-list}
 use Rattle.ess_rules_laws.proofs.ListingStructures.{listings-met}
-use Rattle.ess_rules_laws.proofs.ListsOnce.{count-distinct, sorted-counts, absent-filtered, distinct-filtered, collect-map, collect-kept, collect-lists}
+use Rattle.ess_rules_laws.proofs.ListsOnce.{sorted-counts}
 
 -- The value of a word on a term that is there.
 pub there : (o : Option Value) (W : Fun) → is_some (value_of_node (word W) (o ∷ [])) ≡ true → (v : Value) × (o ≡ Some v)
@@ -98,9 +80,9 @@ function-literal x es env new t m =
     let h = items-there (meanings es env) function_of t in
     let j = literal-means (meanings es env) function_of h in
     let k = function-made (values (meanings es env)) (ap is_some (sym j) ∙ t) in record {
-  lists = firsts-offer (node_ex false function_literal es) es env (node a_function (of_list (sorted_once (values (meanings es env))))) h (j ∙ k) (to_list-of_list (sorted_once (values (meanings es env))));
-  met = listings-met [] x (node_ex false set_literal es) (each_first [] es) refl new env m;
-}
+      lists = firsts-offer (node_ex false function_literal es) es env (node a_function (of_list (sorted_once (values (meanings es env))))) h (j ∙ k) (to_list-of_list (sorted_once (values (meanings es env))));
+      met = listings-met [] x (node_ex false set_literal es) (each_first [] es) refl new env m;
+    }
 
 pub partition-literal : (x : Text) (es : Exs) (env : Env) → Unused x (node_ex false set_literal es) → is_some (meaning (node_ex false partition_literal es) env) ≡ true → Meets (node_ex false partition_literal es) env →
     Offers (node_ex false partition_literal es) (each_item es) env
@@ -108,11 +90,11 @@ partition-literal x es env new t m =
     let h = items-there (meanings es env) partition_of t in
     let j = literal-means (meanings es env) partition_of h in
     let k = partition-made (values (meanings es env)) (ap is_some (sym j) ∙ t) in record {
-  lists = counted-same _ _ (sorted_once (values (meanings es env))) (values (meanings es env))
-      (ap (option_map items_of) (j ∙ k.0) ∙ ap Some (to_list-of_list (sorted_once (values (meanings es env)))))
-      (each-listed es env ∙ all-there (meanings es env) h) (sorted-counts (values (meanings es env)) k.1);
-  met = listings-met [] x (node_ex false matrix_literal es) (each_item es) refl new env m;
-}
+      lists = counted-same _ _ (sorted_once (values (meanings es env))) (values (meanings es env))
+          (ap (option_map items_of) (j ∙ k.0) ∙ ap Some (to_list-of_list (sorted_once (values (meanings es env)))))
+          (each-listed es env ∙ all-there (meanings es env) h) (sorted-counts (values (meanings es env)) k.1);
+      met = listings-met [] x (node_ex false matrix_literal es) (each_item es) refl new env m;
+    }
 
 -- A set made of a literal; s is the value of the literal.
 pub set-made : (x : Text) (op : Op) (s : List Value → Value) → ((xs : List Value) → value_of_op op xs ≡ Some (s xs)) → ((xs : List Value) → sorted_once (items_of (s xs)) ≡ sorted_once xs) →
@@ -123,12 +105,12 @@ set-made x op s made once c q es env new t m =
     let i : value_of_node op (meanings es env) ≡ and_then (all_some (meanings es env)) (value_of_op op) = plain (connective op) c in
     let h = items-there (meanings es env) (value_of_op op) (ap is_some (sym i ∙ r.1)) in
     let j : meaning (node_ex false op es) env ≡ Some (s (values (meanings es env))) =
-        i ∙ literal-means (meanings es env) (value_of_op op) h ∙ made (values (meanings es env)) in record {
-  lists = firsts-offer (fun1 false Fun.ToSet (node_ex false op es)) es env (set_of (items_of (s (values (meanings es env))))) h
-      (ap (λ o. value_of_node (word Fun.ToSet) (o ∷ [])) j)
-      (to_list-of_list (sorted_once (items_of (s (values (meanings es env))))) ∙ once (values (meanings es env)));
-  met = listings-met [] x (node_ex false set_literal es) (each_first [] es) refl new env m;
-}
+    i ∙ literal-means (meanings es env) (value_of_op op) h ∙ made (values (meanings es env)) in record {
+      lists = firsts-offer (fun1 false Fun.ToSet (node_ex false op es)) es env (set_of (items_of (s (values (meanings es env))))) h
+          (ap (λ o. value_of_node (word Fun.ToSet) (o ∷ [])) j)
+          (to_list-of_list (sorted_once (items_of (s (values (meanings es env))))) ∙ once (values (meanings es env)));
+      met = listings-met [] x (node_ex false set_literal es) (each_first [] es) refl new env m;
+    }
   where
     plain : (o : Option (List Bool → Bool)) → o ≡ None → elim o [ Some f ↦ yes_no (f (map as_truth (meanings es env))) | None ↦ and_then (all_some (meanings es env)) (value_of_op op) ]
         ≡ and_then (all_some (meanings es env)) (value_of_op op)
@@ -141,10 +123,10 @@ pub matrix-offers : (x : Text) (es : Exs) (d : Dom) (env : Env) → Unused x (no
 matrix-offers x es d env new t m =
     let h = items-there (meanings es env) (matrix_value (members_in (domain_of d env))) t in
     let j = literal-means (meanings es env) (matrix_value (members_in (domain_of d env))) h in record {
-  lists = same-lists _ _ (ap (option_map items_of) j ∙ made (members_in (domain_of d env)) (values (meanings es env)) (ap is_some (sym j) ∙ t)
-      ∙ sym (each-listed es env ∙ all-there (meanings es env) h));
-  met = listings-met [] x (node_ex false matrix_literal es) (each_item es) refl new env m;
-}
+      lists = same-lists _ _ (ap (option_map items_of) j ∙ made (members_in (domain_of d env)) (values (meanings es env)) (ap is_some (sym j) ∙ t)
+          ∙ sym (each-listed es env ∙ all-there (meanings es env) h));
+      met = listings-met [] x (node_ex false matrix_literal es) (each_item es) refl new env m;
+    }
   where
     made : (o : Option (List Value)) (xs : List Value) → is_some (matrix_value o xs) ≡ true → option_map items_of (matrix_value o xs) ≡ Some xs
     made None xs t = cc

@@ -1,24 +1,23 @@
 -- Worked examples of the rules on partitions and matrices, on folds, on lists, and of listings of made terms.
-use Rattle.std.specs.Prelude.{◌≡◌, refl, Bool, true, false, [], ◌∷◌, pos, codes, List, Option, Some, None}
+use Rattle.std.specs.Prelude.{◌≡◌, refl, true, false, [], ◌∷◌, codes, Some, None}
 use Rattle.ess_semantics.specs.declared.words.Op1.{Op1}
 use Rattle.ess_semantics.specs.declared.words.Op2.{Op2}
 use Rattle.ess_semantics.specs.declared.words.Fun.{Fun}
-use Rattle.ess_semantics.specs.Values.{Text, Value, number, truth, a_set, a_mset, a_function, a_partition, a_matrix, node, of_list}
+use Rattle.ess_semantics.specs.Values.{Text, truth, a_mset, a_function, a_partition, a_matrix, node, of_list}
 use Rattle.ess_semantics.specs.Collections.{set_of}
 use Rattle.ess_semantics.specs.Names.{Names}
-use Rattle.ess_semantics.specs.Trees.{by_value, index, word, matrix_literal, function_literal, partition_literal, name_pat, Ex, truth_ex, node_ex, comp_ex, ex1, ex2, fun1, no_exs, no_gens, over, from, cond}
+use Rattle.ess_semantics.specs.Trees.{matrix_literal, function_literal, partition_literal, name_pat, Ex, truth_ex, node_ex, comp_ex, ex1, no_exs, no_gens, over, from, cond}
 use Rattle.ess_semantics.specs.Types.{Ty, int_ty, compound1, compound2}
 use Rattle.ess_semantics.specs.Meaning.{Env, empty_env, meaning}
 use Rattle.ess_semantics.proofs.Shorthands.{N, n, v, es1, es2, bi, fn, fn2, range, upto}
 use Rattle.ess_rules_laws.specs.ComponentRules.{component_of}
 use Rattle.ess_rules_laws.specs.InclusionRules.{every, frequency}
-use Rattle.ess_rules_laws.specs.Listings.{those, listing}
 use Rattle.ess_rules_laws.specs.PartitionRules.{lie_together, equal_parts}
 use Rattle.ess_rules_laws.specs.MatrixRules.{every_over, lies_in, item_of, equal_items, equal_matrices, equal_to_nothing}
 use Rattle.ess_rules_laws.specs.ConditionRules.{fold_at_once, fold_within, fold_condition}
 use Rattle.ess_rules_laws.specs.ContainerListings.{arguments_listed, members_of_parts, made_listing, range_as_set}
 use Rattle.ess_rules_laws.specs.ListRules.{members_list, list_term, lex_left, different_term}
-use Rattle.ess_rules_laws.specs.Progress.{is_abstract, is_left, has_members, is_plain_source}
+use Rattle.ess_rules_laws.specs.Progress.{is_abstract, is_left}
 
 abbrev p : Text
 p = codes "p"
@@ -64,8 +63,10 @@ no_parts = refl
 
 -- `partition({1, 2}, {3})` and `partition({1}, {2}, {3})`: each part of the second lies in one of the first, which isn't enough.
 abbrev halves : Env
-halves = record empty_env { vals = (p, node a_partition (of_list (set_of (v 1 ∷ v 2 ∷ []) ∷ set_of (v 3 ∷ []) ∷ [])))
-    ∷ (q, node a_partition (of_list (set_of (v 1 ∷ []) ∷ set_of (v 2 ∷ []) ∷ set_of (v 3 ∷ []) ∷ []))) ∷ [] }
+halves = record empty_env {
+  vals = (p, node a_partition (of_list (set_of (v 1 ∷ v 2 ∷ []) ∷ set_of (v 3 ∷ []) ∷ [])))
+      ∷ (q, node a_partition (of_list (set_of (v 1 ∷ []) ∷ set_of (v 2 ∷ []) ∷ set_of (v 3 ∷ []) ∷ []))) ∷ [];
+}
 
 lie_one_way : (meaning (every x (N q) (lie_together (N x) (N p))) halves ≡ Some (truth true))
     × (meaning (every x (N p) (lie_together (N x) (N q))) halves ≡ Some (truth false)) × (meaning (bi Op2.Eq (N p) (N q)) halves ≡ Some (truth false))

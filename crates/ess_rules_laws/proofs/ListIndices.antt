@@ -1,5 +1,5 @@
 -- A list has the index domain from 1 to the number of its items.
-use Rattle.std.proofs.Common.{◌≡◌, refl, sym, ap, ◌∙◌, ℕ, suc, Bool, true, false, List, [], ◌∷◌, map, length, pos, Option, Some, None, option_map}
+use Rattle.std.proofs.Common.{◌≡◌, refl, sym, ap, ◌∙◌, ℕ, suc, true, false, List, [], ◌∷◌, map, length, pos, Option, Some, None, option_map}
 use Rattle.std.specs.Prelude.{IsTrue, is_some}
 use Rattle.ess_semantics.specs.Lists.{and_then, all_some}
 use Rattle.ess_semantics.specs.Values.{Value, number, items_of}
@@ -38,7 +38,7 @@ pub list-indexed : (n l : Ex) (env : Env) → is_laid_open l ≡ true → IsTrue
 list-indexed n l env q t c m =
     let r = made-list l env q t in
     let k : meaning n env ≡ Some (number (pos (length r.0))) =
-        c ∙ ap (option_map (λ v. number (pos (length (items_of v))))) r.1 ∙ ap (λ us. Some (number (pos (length us)))) (to_list-of_list r.0) in record {
-  indices = ap (option_map indices_of) r.1 ∙ ap Some (to_list-of_list (numbers_from 1 r.0) ∙ numbers-run 1 r.0) ∙ sym (slots-members n env (length r.0) k);
-  met = (tt, (m, tt));
-}
+    c ∙ ap (option_map (λ v. number (pos (length (items_of v))))) r.1 ∙ ap (λ us. Some (number (pos (length us)))) (to_list-of_list r.0) in record {
+      indices = ap (option_map indices_of) r.1 ∙ ap Some (to_list-of_list (numbers_from 1 r.0) ∙ numbers-run 1 r.0) ∙ sym (slots-members n env (length r.0) k);
+      met = (tt, (m, tt));
+    }

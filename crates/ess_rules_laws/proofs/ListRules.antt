@@ -1,5 +1,5 @@
 -- Rules of words and signs on lists keep what they rewrite.
-use Rattle.std.proofs.Common.{◌≡◌, refl, sym, ap, ◌∙◌, subst, ℕ, zero, suc, ◌≤◌, Bool, true, false, ◌&&◌, ◌||◌, not, if◌then◌else◌, List, [], ◌∷◌, ◌++◌, pos, Option, Some, None, option_map, arith}
+use Rattle.std.proofs.Common.{◌≡◌, refl, sym, ap, ◌∙◌, subst, suc, Bool, true, false, ◌&&◌, ◌||◌, not, if◌then◌else◌, List, [], ◌∷◌, pos, Option, Some, None, option_map, arith}
 use Rattle.std.specs.List.{list_all}
 use Rattle.ess_semantics.specs.declared.words.Op2.{Op2}
 use Rattle.ess_semantics.specs.declared.words.Fun.{Fun}
@@ -7,7 +7,7 @@ use Rattle.ess_semantics.specs.Lists.{and_then}
 use Rattle.ess_semantics.specs.Values.{Text, Value, number, truth, to_list, tuple, of_list, items_of}
 use Rattle.ess_semantics.specs.Order.{same, below}
 use Rattle.ess_semantics.specs.Collections.{holds, count, sorted, mset_of}
-use Rattle.ess_semantics.specs.Trees.{binary, word, name_pat, Ex, number_ex, name_ex, comp_ex, ex2, fun1, no_exs, more_exs, no_gens, from}
+use Rattle.ess_semantics.specs.Trees.{binary, word, Ex, number_ex, name_ex, ex2, fun1, no_exs, more_exs}
 use Rattle.ess_semantics.specs.Operators.{all_different, least, greatest, as_list, list_value, value_of_node, false_where_undefined}
 use Rattle.ess_semantics.specs.Meaning.{Env, meaning, collect}
 use Rattle.ess_semantics.specs.Meets.{Meets, MeetsAll}
@@ -15,8 +15,8 @@ use Rattle.ess_semantics.specs.Contexts.{guards}
 use Rattle.ess_semantics.proofs.Tests.{both-ways, and-left, and-right, and-both, not-true}
 use Rattle.ess_semantics.proofs.Orders.{to_list-of_list, same-itself, same-equal}
 use Rattle.ess_semantics.proofs.Sorting.{all-holds, holds-all}
-use Rattle.ess_semantics.proofs.Multisets.{count-sorted, count-holds, holds-count}
-use Rattle.ess_rules_laws.specs.Rules.{RuleKeepsNew, Unused}
+use Rattle.ess_semantics.proofs.Multisets.{count-sorted}
+use Rattle.ess_rules_laws.specs.Rules.{Unused}
 use Rattle.ess_rules_laws.specs.FoldRules.{is_laid_open}
 use Rattle.ess_rules_laws.specs.InclusionRules.{every, frequency}
 use Rattle.ess_rules_laws.specs.ListRules.{members_list, is_of_list, list_term, is_lex, lex_left, lex_right, different_term, ListRulesKeep}

@@ -1,13 +1,13 @@
 -- Quantifiers over the set of the members of a term keep their meaning over the term.
 use Rattle.std.proofs.Common.{◌≡◌, refl, sym, ap, ◌∙◌, subst, Bool, true, false, ◌&&◌, ◌||◌, not, List, [], ◌∷◌, ◌++◌, Option, Some, None, option_map}
 use Rattle.std.specs.Prelude.{is_some}
-use Rattle.std.specs.List.{list_all, list_any}
+use Rattle.std.specs.List.{list_all}
 use Rattle.ess_semantics.specs.declared.words.Fun.{Fun}
 use Rattle.ess_semantics.specs.Lists.{and_then}
-use Rattle.ess_semantics.specs.Values.{Value, truth, to_list, of_list, items_of}
+use Rattle.ess_semantics.specs.Values.{Value, truth, items_of}
 use Rattle.ess_semantics.specs.Order.{same}
-use Rattle.ess_semantics.specs.Collections.{holds, sorted_once, set_of}
-use Rattle.ess_semantics.specs.Trees.{word, Pat, Ex, comp_ex, fun1, Gens, from}
+use Rattle.ess_semantics.specs.Collections.{holds, sorted_once}
+use Rattle.ess_semantics.specs.Trees.{word, Ex, comp_ex, fun1, from}
 use Rattle.ess_semantics.specs.Operators.{truth_in, all_true, any_true, list_value, value_of_node, false_where_undefined}
 use Rattle.ess_semantics.specs.Meaning.{Env, meaning, items_under, with_pat, collect}
 use Rattle.ess_semantics.specs.Contexts.{Each, EachIn}

@@ -1,5 +1,5 @@
 -- The rules of `=` between matrices keep what they rewrite.
-use Rattle.std.proofs.Common.{◌≡◌, refl, sym, ap, ◌∙◌, subst, Bool, true, false, ◌&&◌, not, if◌then◌else◌, List, [], ◌∷◌, ◌++◌, length, zero, suc, Option, Some, None, option_map, arith}
+use Rattle.std.proofs.Common.{◌≡◌, refl, sym, ap, ◌∙◌, subst, Bool, true, false, not, if◌then◌else◌, List, [], ◌∷◌, length, zero, suc, Option, Some, None, option_map, arith}
 use Rattle.std.specs.Prelude.{IsTrue}
 use Rattle.std.specs.List.{list_all, list_any}
 use Rattle.ess_semantics.specs.declared.words.Op1.{Op1}
@@ -10,17 +10,17 @@ use Rattle.ess_semantics.specs.Values.{Text, a_matrix, Value, truth, Values, nil
 use Rattle.ess_semantics.specs.Order.{same, same_text}
 use Rattle.ess_semantics.specs.Collections.{holds}
 use Rattle.ess_semantics.specs.Names.{Names}
-use Rattle.ess_semantics.specs.Trees.{binary, by_value, index, matrix_literal, name_pat, Ex, truth_ex, name_ex, node_ex, comp_ex, ex1, ex2, fun1, no_exs, more_exs, no_gens, over, from, Dom}
+use Rattle.ess_semantics.specs.Trees.{binary, by_value, index, matrix_literal, name_pat, Ex, truth_ex, name_ex, node_ex, comp_ex, ex1, ex2, fun1, no_exs, no_gens, over, from, Dom}
 use Rattle.ess_semantics.specs.Types.{Ty, compound2, is_bool}
 use Rattle.ess_semantics.specs.Typing.{type_of}
 use Rattle.ess_semantics.specs.Typed.{Typed}
 use Rattle.ess_semantics.specs.TypeMembers.{is_of, is_of_type}
-use Rattle.ess_semantics.specs.Operators.{as_truth, at_index, item_at, value_of_node, false_where_undefined}
+use Rattle.ess_semantics.specs.Operators.{item_at, value_of_node, false_where_undefined}
 use Rattle.ess_semantics.specs.Meaning.{Env, TypeEntry, meaning, domain_of, members_in, collect}
 use Rattle.ess_semantics.specs.Contexts.{EachOf}
 use Rattle.ess_semantics.specs.Meets.{Meets, MeetsDom}
-use Rattle.ess_semantics.proofs.Orders.{of_list-to_list, to_list-of_list}
-use Rattle.ess_rules_laws.specs.Rules.{RuleKeepsTypedThere, Unused, SoundOperands, OperandsThere}
+use Rattle.ess_semantics.proofs.Orders.{of_list-to_list}
+use Rattle.ess_rules_laws.specs.Rules.{Unused, SoundOperands, OperandsThere}
 use Rattle.ess_rules_laws.specs.PartLookups.{indices_of, IndexedBy}
 use Rattle.ess_rules_laws.specs.MatrixRules.{every_over, some_over, item_of, lies_in, equal_each_at, both_matrices, equal_items, equal_matrices, is_matrix, equal_to_nothing, BothIndexed, UnusedDom, MatrixRulesKeep}
 use Rattle.ess_rules_laws.proofs.Simulation.{but}
@@ -79,10 +79,13 @@ module _ (x y : Text) (apart : same_text y x ≡ false) (d c : Dom) (env : Env) 
 
   pub lies-met : MeetsDom d env → MeetsDom c env → Meets (lies_in x y d c) env
   lies-met m n = over-met x d (some_over y c (ex2 true Op2.Eq (name_ex y) (name_ex x))) env m
-      (λ v. ((
-        meets-agree-dom env.positions env.types env.cells (but x) c env.vals ((x, v) ∷ env.vals) new (agree-but x v env.vals) n,
-        each-of-any (members_in (domain_of c (behind x v env))) _ (λ w. (tt, (tt, tt))),
-      ), tt))
+      (λ v. (
+        (
+          meets-agree-dom env.positions env.types env.cells (but x) c env.vals ((x, v) ∷ env.vals) new (agree-but x v env.vals) n,
+          each-of-any (members_in (domain_of c (behind x v env))) _ (λ w. (tt, (tt, tt))),
+        ),
+        tt,
+      ))
 
 -- ---- items at an index
 

@@ -1,5 +1,5 @@
 -- Rules at the root bring no new free name.
-use Rattle.std.proofs.Common.{◌≡◌, refl, sym, ap, ◌∙◌, subst, Bool, true, false, ◌&&◌, ◌||◌, not, if◌then◌else◌, [], ◌∷◌, Option, Some, None}
+use Rattle.std.proofs.Common.{◌≡◌, refl, ap, ◌∙◌, subst, Bool, true, false, ◌||◌, if◌then◌else◌, Option, Some, None}
 use Rattle.std.specs.Prelude.{IsTrue}
 use Rattle.ess_semantics.specs.declared.words.Op1.{Op1}
 use Rattle.ess_semantics.specs.declared.words.Op2.{Op2}
@@ -14,13 +14,13 @@ use Rattle.ess_semantics.specs.FreeNames.{with_bound_names, FreeNamesAre, FreeNa
 use Rattle.ess_semantics.proofs.Tests.{or-yes}
 use Rattle.ess_rules_laws.specs.FoldRules.{is_fold, is_laid_open, fold_alone, fold_nothing, fold_one, fold_bare, fold_term}
 use Rattle.ess_rules_laws.specs.MembershipRules.{equations, member_term, member_combined, member_changed, member_listed}
-use Rattle.ess_rules_laws.specs.InclusionRules.{every, unequal, included_turned, included_strictly, included_members, included_often, equal_members, equal_often, equal_pairs}
+use Rattle.ess_rules_laws.specs.InclusionRules.{unequal, included_turned, included_strictly, included_members, included_often, equal_members, equal_often, equal_pairs}
 use Rattle.ess_rules_laws.specs.SizeRules.{size_term, frequency_term, together_term}
 use Rattle.ess_rules_laws.specs.PartitionRules.{equal_parts}
 use Rattle.ess_rules_laws.specs.ListRules.{list_term, lex_left, lex_right, different_term}
 use Rattle.ess_rules_laws.specs.LooseRules.{fold_loosely}
 use Rattle.ess_rules_laws.specs.NamesStay.{AddsNoNames}
-use Rattle.ess_rules_laws.specs.NamesOfRules.{RuleAddsNone, RuleAddsNoneNew, RuleAddsNoneTyped, RulesAddNoNames}
+use Rattle.ess_rules_laws.specs.NamesOfRules.{RulesAddNoNames}
 use Rattle.ess_rules_laws.proofs.Agreement.{same_text-itself}
 
 -- ---- more names

@@ -1,6 +1,6 @@
 -- Some rule fires at each operator that looks into a container.
 use Rattle.std.proofs.Common.{◌≡◌, refl, sym, ap, ◌∙◌, Bool, true, false, ◌&&◌, ◌||◌, not, if◌then◌else◌, List, [], ◌∷◌, Option, Some, None, option_map}
-use Rattle.std.specs.Prelude.{IsTrue, is_some}
+use Rattle.std.specs.Prelude.{is_some}
 use Rattle.ess_semantics.specs.declared.words.Op1.{Op1}
 use Rattle.ess_semantics.specs.declared.words.Op2.{Op2}
 use Rattle.ess_semantics.specs.declared.words.Fun.{Fun}
@@ -20,7 +20,7 @@ use Rattle.ess_rules_laws.specs.ComponentRules.{has_text, are_fields, equal_wher
 use Rattle.ess_rules_laws.specs.SizeRules.{is_counted}
 use Rattle.ess_rules_laws.specs.MatrixRules.{both_matrices, equal_each_at}
 use Rattle.ess_rules_laws.specs.ListRules.{is_of_list, is_lex}
-use Rattle.ess_rules_laws.specs.Progress.{Fires, by_unequal, by_turned, by_strictly, by_often, by_member, by_size, by_frequency, by_together, by_fold, by_list, by_left, by_right, by_components, by_fields, by_sets, by_msets, by_functions, by_partitions, by_matrices, is_parted, looks_into, is_abstract, OperatorsHaveRules}
+use Rattle.ess_rules_laws.specs.Progress.{Fires, by_unequal, by_turned, by_strictly, by_often, by_member, by_size, by_frequency, by_together, by_fold, by_list, by_left, by_right, by_components, by_fields, by_sets, by_msets, by_functions, by_partitions, by_matrices, is_parted, looks_into, OperatorsHaveRules}
 
 no : {A : Type 0} → false ≡ true → A
 no h = cc

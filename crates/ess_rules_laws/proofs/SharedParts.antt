@@ -1,22 +1,22 @@
 -- Two partitions are equal where each part of one lies in a part of the other.
-use Rattle.std.proofs.Common.{◌≡◌, refl, sym, ap, ◌∙◌, subst, ℕ, ◌≤◌, Bool, true, false, ◌&&◌, ◌||◌, not, List, [], ◌∷◌, ◌++◌, map, Option, Some, nat_le, arith}
+use Rattle.std.proofs.Common.{◌≡◌, refl, sym, ap, ◌∙◌, subst, Bool, true, false, ◌&&◌, ◌||◌, not, List, [], ◌∷◌, ◌++◌, Option, Some, arith}
 use Rattle.std.specs.Prelude.{IsTrue}
 use Rattle.std.specs.List.{list_all, list_any}
-use Rattle.ess_semantics.specs.Lists.{is_empty, append_all}
+use Rattle.ess_semantics.specs.Lists.{is_empty}
 use Rattle.ess_semantics.specs.Values.{a_set, a_partition, Value, node, Values, to_list, of_list, items_of, itself}
 use Rattle.ess_semantics.specs.Order.{same}
-use Rattle.ess_semantics.specs.Collections.{holds, count, rises}
+use Rattle.ess_semantics.specs.Collections.{holds, rises}
 use Rattle.ess_semantics.specs.Types.{Ty, Tys, no_tys, more_tys, compound}
 use Rattle.ess_semantics.specs.TypeMembers.{is_of}
 use Rattle.ess_semantics.specs.Membership.{is_set, is_part}
 use Rattle.ess_semantics.specs.Meaning.{TypeEntry}
 use Rattle.ess_semantics.specs.Operators.{within}
-use Rattle.ess_semantics.proofs.Tests.{and-left, and-right, and-both, both-ways, or-left-no, or-right-no, or-yes, not-true}
+use Rattle.ess_semantics.proofs.Tests.{and-left, and-right, and-both, both-ways, or-right-no, or-yes, not-true}
 use Rattle.ess_semantics.proofs.Orders.{of_list-to_list, same-itself, same-equal}
 use Rattle.ess_semantics.proofs.Sorting.{Distinct, one-sorted-list, all-holds, holds-all}
 use Rattle.ess_semantics.proofs.Overlaps.{all_members, holds-append, no-overlap}
 use Rattle.ess_rules_laws.specs.PartitionRules.{both_partitions}
-use Rattle.ess_rules_laws.proofs.ContainerValues.{Pair, Strictly, one-strictly, pair-equal, within-counts, within-itself, within-both, count-present, count-absent}
+use Rattle.ess_rules_laws.proofs.ContainerValues.{Strictly, one-strictly, pair-equal, within-counts, within-itself, within-both, count-present, count-absent}
 
 -- ---- parts that share no member
 

@@ -1,24 +1,20 @@
 -- Each term whose type has members offers a listing, or is left.
-use Rattle.std.proofs.Common.{◌≡◌, refl, sym, ap, ◌∙◌, Bool, true, false, ◌&&◌, ◌||◌, not, if◌then◌else◌, List, [], ◌∷◌, map, Option, Some, None, option_map}
-use Rattle.std.specs.Prelude.{IsTrue, is_some}
+use Rattle.std.proofs.Common.{◌≡◌, refl, sym, ap, ◌∙◌, Bool, true, false, not, if◌then◌else◌, List, [], ◌∷◌, map, Option, Some, None, option_map}
 use Rattle.ess_semantics.specs.declared.words.Op1.{Op1}
 use Rattle.ess_semantics.specs.declared.words.Op2.{Op2}
 use Rattle.ess_semantics.specs.declared.words.Fun.{Fun}
-use Rattle.ess_semantics.specs.Lists.{and_then, all_some, list_or_none, tail_of, is_empty, when}
-use Rattle.ess_semantics.specs.Values.{Text, Kind, a_tuple, a_matrix, a_set, a_mset, a_function, a_relation, a_partition, a_record}
-use Rattle.ess_semantics.specs.Order.{same_text, same_kind}
+use Rattle.ess_semantics.specs.Lists.{and_then, tail_of, is_empty}
+use Rattle.ess_semantics.specs.Values.{Text, a_mset, a_function, a_partition}
 use Rattle.ess_semantics.specs.Names.{Names, look}
-use Rattle.ess_semantics.specs.Trees.{Op, is_truth_op2, is_truth_word, is_truth_op, unary, binary, word, index, application, tuple_literal, set_literal, mset_literal, function_literal, relation_literal, partition_literal, matrix_literal, record_literal, Ex, Exs, number_ex, truth_ex, name_ex, node_ex, matrix_ex, comp_ex, cell_ex, seen_ex, ex1, ex2, fun1, no_exs, more_exs}
-use Rattle.ess_semantics.specs.Types.{Ty, Tys, any_ty, bool_ty, int_ty, named_ty, no_tys, more_tys, compound, compound1, compound2, is_open, join, joins, fit}
-use Rattle.ess_semantics.specs.OperatorTypes.{arguments_ty, value_ty, to_set_ty, united, subtracted, sized, list_ty, chosen_ty, extreme_ty, member_ty, type_of_op}
+use Rattle.ess_semantics.specs.Trees.{Op, is_truth_op2, is_truth_word, is_truth_op, unary, binary, word, index, application, tuple_literal, set_literal, mset_literal, function_literal, relation_literal, partition_literal, matrix_literal, record_literal, Ex, Exs, number_ex, truth_ex, name_ex, node_ex, matrix_ex, comp_ex, cell_ex, seen_ex, fun1, no_exs, more_exs}
+use Rattle.ess_semantics.specs.Types.{Ty, any_ty, bool_ty, int_ty, named_ty, more_tys, compound, compound1, compound2, join, fit}
+use Rattle.ess_semantics.specs.OperatorTypes.{arguments_ty, united, subtracted, list_ty, type_of_op}
 use Rattle.ess_semantics.specs.Typing.{type_of, types_of, number_cell_ty}
-use Rattle.ess_semantics.proofs.Tests.{and-left, and-right, and-both, not-true}
-use Rattle.ess_rules_laws.specs.InclusionRules.{both_sets}
+use Rattle.ess_semantics.proofs.Tests.{and-left, and-right, not-true}
 use Rattle.ess_rules_laws.specs.ShortSizeRules.{is_partition}
-use Rattle.ess_rules_laws.specs.Listings.{Alternative, is_strict, listing}
-use Rattle.ess_rules_laws.specs.ContainerListings.{of_function, made_listing, range_as_set}
-use Rattle.ess_rules_laws.specs.Progress.{HasMembers, by_listing, by_made, by_results, is_another, is_left, is_told, are_told, is_plain_source, has_members, SourcesHaveListings}
-use Rattle.ess_rules_laws.proofs.SourceTypes.{no, so, of-function, all-of, listed, of-united, of-subtracted, kind-kept, named-kept, both-united, combined, fit-none, then-none, chosen-none, extreme-none, sized-none, first-is, rest-is, numbers, sets, first-of, united_ty}
+use Rattle.ess_rules_laws.specs.Listings.{is_strict}
+use Rattle.ess_rules_laws.specs.Progress.{HasMembers, by_listing, by_made, by_results, is_another, is_told, are_told, has_members, SourcesHaveListings}
+use Rattle.ess_rules_laws.proofs.SourceTypes.{no, so, of-function, listed, of-united, of-subtracted, fit-none, then-none, extreme-none, sized-none, first-is, numbers, sets, first-of}
 
 -- ---- the operators
 

@@ -1,10 +1,10 @@
 -- A name over a tuple of domains may run over the tuples of new names.
-use Rattle.std.proofs.Common.{◌≡◌, refl, sym, ap, ◌∙◌, subst, zero, suc, Bool, true, false, ◌&&◌, ◌||◌, not, if◌then◌else◌, List, [], ◌∷◌, ◌++◌, map, length, Option, Some, None, option_map, arith}
+use Rattle.std.proofs.Common.{◌≡◌, refl, sym, ap, ◌∙◌, subst, zero, suc, true, false, not, if◌then◌else◌, List, [], ◌∷◌, ◌++◌, map, length, Option, Some, None, option_map, arith}
 use Rattle.ess_semantics.specs.Lists.{and_then, all_some, list_or_none}
-use Rattle.ess_semantics.specs.Values.{Text, Value, tuple, of_list, to_list, items_of}
+use Rattle.ess_semantics.specs.Values.{Text, Value, tuple, of_list, items_of}
 use Rattle.ess_semantics.specs.Order.{same_text}
 use Rattle.ess_semantics.specs.Names.{Names, look}
-use Rattle.ess_semantics.specs.Trees.{tuple_literal, Pats, name_pat, tuple_pat, no_pats, more_pats, Ex, Exs, name_ex, node_ex, comp_ex, no_exs, more_exs, Gens, no_gens, over, from, Doms, tuple_dom, no_doms, more_doms}
+use Rattle.ess_semantics.specs.Trees.{tuple_literal, name_pat, tuple_pat, Ex, node_ex, comp_ex, over, from, Doms, tuple_dom, no_doms, more_doms}
 use Rattle.ess_semantics.specs.Domains.{Domain, Domains, tuples, no_domains, more_domains, add_heads, lists_of, members, members_of_each}
 use Rattle.ess_semantics.specs.Operators.{misfit, list_value, value_of_op}
 use Rattle.ess_semantics.specs.Meaning.{Env, bind_all, with_pat, meaning, meanings, items_under, domain_of, domains_of, members_in, collect}

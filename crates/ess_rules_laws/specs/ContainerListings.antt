@@ -1,10 +1,10 @@
 -- What terms made of functions and of partitions offer as a listing, and so what literals of these offer.
-use Rattle.std.specs.Prelude.{◌≡◌, Bool, true, false, List, [], ◌∷◌, Option, Some, None, IsTrue, is_some, if◌then◌else◌}
+use Rattle.std.specs.Prelude.{◌≡◌, true, false, List, [], ◌∷◌, Option, Some, None, IsTrue, is_some, if◌then◌else◌}
 use Rattle.ess_semantics.specs.declared.words.Op2.{Op2}
 use Rattle.ess_semantics.specs.declared.words.Fun.{Fun}
 use Rattle.ess_semantics.specs.Values.{Text, a_function}
 use Rattle.ess_semantics.specs.Names.{Names}
-use Rattle.ess_semantics.specs.Trees.{word, function_literal, partition_literal, set_literal, mset_literal, matrix_literal, name_pat, Ex, name_ex, node_ex, matrix_ex, comp_ex, ex2, fun1, no_exs, more_exs, Gens, no_gens, from, cond}
+use Rattle.ess_semantics.specs.Trees.{word, function_literal, partition_literal, mset_literal, matrix_literal, name_pat, Ex, name_ex, node_ex, matrix_ex, comp_ex, ex2, fun1, no_exs, more_exs, Gens, no_gens, from, cond}
 use Rattle.ess_semantics.specs.Types.{Ty, compound2}
 use Rattle.ess_semantics.specs.Typing.{type_of}
 use Rattle.ess_semantics.specs.Typed.{Typed}

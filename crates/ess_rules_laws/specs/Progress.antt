@@ -1,6 +1,6 @@
 -- That no operator on containers and no source is without a rule: of each operator that looks into a container some rule fires,
 -- by the types of its operands, and each source offers a listing unless it is left to what its kind or a lookup offers.
-use Rattle.std.specs.Prelude.{◌≡◌, Bool, true, false, ◌&&◌, ◌||◌, not, List, [], ◌∷◌, Option, Some, None, IsTrue, is_some}
+use Rattle.std.specs.Prelude.{◌≡◌, Bool, true, false, ◌&&◌, ◌||◌, not, List, Option, Some, None, IsTrue, is_some}
 use Rattle.ess_semantics.specs.declared.words.Op1.{Op1}
 use Rattle.ess_semantics.specs.declared.words.Op2.{Op2}
 use Rattle.ess_semantics.specs.declared.words.Fun.{Fun}

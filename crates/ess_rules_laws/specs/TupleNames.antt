@@ -1,7 +1,7 @@
 -- A name over a tuple of domains: the name becomes the tuple of new names over the components.
-use Rattle.std.specs.Prelude.{◌≡◌, Bool, true, false, ◌&&◌, not, List, [], ◌∷◌, Option, Some, None, if◌then◌else◌}
+use Rattle.std.specs.Prelude.{Bool, true, false, ◌&&◌, not, List, [], ◌∷◌, Option, Some, None, if◌then◌else◌}
 use Rattle.ess_semantics.specs.Values.{Text}
-use Rattle.ess_semantics.specs.Trees.{tuple_literal, Pats, name_pat, tuple_pat, no_pats, more_pats, Ex, Exs, name_ex, node_ex, comp_ex, no_exs, more_exs, Gens, no_gens, over, from, Doms, tuple_dom, no_doms, more_doms}
+use Rattle.ess_semantics.specs.Trees.{tuple_literal, Pats, name_pat, tuple_pat, no_pats, more_pats, Ex, Exs, name_ex, node_ex, comp_ex, no_exs, more_exs, no_gens, over, from, Doms, tuple_dom, no_doms, more_doms}
 use Rattle.ess_rules_laws.specs.Rules.{RuleKeeps}
 use Rattle.ess_rules_laws.specs.ComponentRules.{has_text}
 
