@@ -28,7 +28,8 @@ module _ (m : Bool) (f : Fun) (q : is_marked m f ≡ true) where
   abbrev Folds : Option (List Value) → Option (List Value) → Type 0
   Folds o p = (xs : List Value) → o ≡ Some xs → (ys : List Value) × (p ≡ Some ys) × (folded f xs ≡ folded f ys)
 
-  folds-collect : (vs : List Value) (F G : Value → Option (List Value)) → ((v : Value) → Folds (F v) (G v)) → Folds (collect vs F) (collect vs G)
+  folds-collect : (vs : List Value) (F G : Value → Option (List Value)) → ((v : Value) → Folds (F v) (G v)) →
+      Folds (collect vs F) (collect vs G)
   folds-collect [] F G h xs e = ([], refl, ap (folded f) (sym (ap list_or_none e)))
   folds-collect (v ∷ vs) F G h xs e =
       let b = both-lists (F v) (collect vs F) xs e in
@@ -36,7 +37,8 @@ module _ (m : Bool) (f : Fun) (q : is_marked m f ≡ true) where
       let d = folds-collect vs F G h b.1 b.3 in (
         c.0 ++ d.0,
         ap (λ o. and_then o (λ us. option_map (λ zs. us ++ zs) (collect vs G))) c.1 ∙ ap (option_map (λ zs. c.0 ++ zs)) d.1,
-        ap (folded f) (sym b.4) ∙ folded-append m f q b.0 b.1 d.0 d.2 ∙ ap (λ z. folded f (z ∷ d.0)) c.2 ∙ sym (folded-append m f q c.0 d.0 d.0 refl),
+        ap (folded f) (sym b.4) ∙ folded-append m f q b.0 b.1 d.0 d.2 ∙ ap (λ z. folded f (z ∷ d.0)) c.2
+            ∙ sym (folded-append m f q c.0 d.0 d.0 refl),
       )
 
   folds-then : (o : Option (List Value)) (F G : Value → Option (List Value)) → ((v : Value) → Folds (F v) (G v)) →
@@ -83,10 +85,12 @@ module _ (m : Bool) (f : Fun) (q : is_marked m f ≡ true) where
     Inner = fun1 m f (comp_ex e hs)
 
     -- Both mean the same where the list of the whole is there.
-    within-means : is_some (meaning (comp_ex e (append_gens gs hs)) env) ≡ true → meaning (fold_at_once m f e gs hs) env ≡ meaning (fold_within m f e gs hs) env
+    within-means : is_some (meaning (comp_ex e (append_gens gs hs)) env) ≡ true →
+        meaning (fold_at_once m f e gs hs) env ≡ meaning (fold_within m f e gs hs) env
     within-means t =
         let a = list-there (items_under (append_gens gs hs) env K) t in
-        let i : items_under gs env (λ here. items_under hs here K) ≡ Some a.0 = sym (items-append env.positions env.types env.cells gs hs env.vals K) ∙ a.1 in
+        let i : items_under gs env (λ here. items_under hs here K)
+        ≡ Some a.0 = sym (items-append env.positions env.types env.cells gs hs env.vals K) ∙ a.1 in
         let b = folds-under gs env (λ here. items_under hs here K) (λ here. option_map (λ v. v ∷ []) (meaning Inner here))
         (λ here. folds-alone (items_under hs here K)) a.0 i in
         fold-means m f q (items_under (append_gens gs hs) env K) a.0 a.1 ∙ ap Some b.2
@@ -96,13 +100,15 @@ module _ (m : Bool) (f : Fun) (q : is_marked m f ≡ true) where
 
 module _ (hs : Gens) (P Q : Env → Type 0) where
   -- Of generators behind others.
-  within-met : (gs : Gens) (env : Env) → ((here : Env) → MeetsGens hs here P → Q here) → MeetsGens (append_gens gs hs) env P → MeetsGens gs env Q
+  within-met : (gs : Gens) (env : Env) → ((here : Env) → MeetsGens hs here P → Q here) → MeetsGens (append_gens gs hs) env P →
+      MeetsGens gs env Q
   within-met no_gens env h m = h env m
   within-met (over p d gs) env h m = (m.0, each-of-map (members_in (domain_of d env)) _ _ (λ v. within-met gs (with_pat p v env) h) m.1)
   within-met (from p e gs) env h m = (m.0, each-in-map (meaning e env) _ _ (λ v. within-met gs (with_pat p v env) h) m.1)
   within-met (cond c gs) env h m = (m.0, λ t. within-met gs env h (m.1 t))
 
-  at-once-met : (gs : Gens) (env : Env) → ((here : Env) → Q here → MeetsGens hs here P) → MeetsGens gs env Q → MeetsGens (append_gens gs hs) env P
+  at-once-met : (gs : Gens) (env : Env) → ((here : Env) → Q here → MeetsGens hs here P) → MeetsGens gs env Q →
+      MeetsGens (append_gens gs hs) env P
   at-once-met no_gens env h m = h env m
   at-once-met (over p d gs) env h m = (m.0, each-of-map (members_in (domain_of d env)) _ _ (λ v. at-once-met gs (with_pat p v env) h) m.1)
   at-once-met (from p e gs) env h m = (m.0, each-in-map (meaning e env) _ _ (λ v. at-once-met gs (with_pat p v env) h) m.1)
@@ -115,7 +121,8 @@ abbrev Fold : Bool → Fun → Option (List Value) → Option Value
 Fold m f o = false_where_undefined m (value_of_node (word f) (option_map list_value o ∷ []))
 
 and-out : (c : Option Value) (o : Option (List Value)) →
-    Fold true Fun.And (where_true c (λ u. o)) ≡ false_where_undefined true (value_of_node (binary Op2.Implies) (c ∷ Fold true Fun.And o ∷ []))
+    Fold true Fun.And (where_true c (λ u. o))
+    ≡ false_where_undefined true (value_of_node (binary Op2.Implies) (c ∷ Fold true Fun.And o ∷ []))
 and-out (Some (truth true)) o = refl
 and-out None o = refl
 and-out (Some (truth false)) o = refl
@@ -138,7 +145,8 @@ Chosen c = value_of_node (word Fun.ToInt) (c ∷ [])
 
 sum-out : (c s : Option Value) (o : Option (List Value)) → IsTruth c → IsNumber s → WhenTrue c (s ≡ Fold false Fun.Sum o) →
     Fold false Fun.Sum (where_true c (λ u. o)) ≡ value_of_node (binary Op2.Times) (Chosen c ∷ s ∷ [])
-sum-out (Some (truth true)) (Some (number n)) o t k h = sym (h refl) ∙ ap (λ z. Some (number z)) (let e : n ≡ pos 1 *ℤ n = omega (arith, ints) in e)
+sum-out (Some (truth true)) (Some (number n)) o t k h = sym (h refl)
+    ∙ ap (λ z. Some (number z)) (let e : n ≡ pos 1 *ℤ n = omega (arith, ints) in e)
 sum-out (Some (truth false)) (Some (number n)) o t k h = ap (λ z. Some (number z)) (let e : pos 0 ≡ pos 0 *ℤ n = omega (arith, ints) in e)
 sum-out (Some (truth b)) None o t k h = absurd k
 sum-out (Some (truth b)) (Some (truth c)) o t k h = absurd k
@@ -148,7 +156,8 @@ sum-out _ s o t k h = absurd t
 
 abbrev Shifted : Option Value → Option Value → Option Value
 Shifted c s = value_of_node (binary Op2.Plus)
-    (value_of_node (binary Op2.Times) (Chosen c ∷ value_of_node (binary Op2.Minus) (s ∷ Some (number (pos 1)) ∷ []) ∷ []) ∷ Some (number (pos 1)) ∷ [])
+    (value_of_node (binary Op2.Times) (Chosen c ∷ value_of_node (binary Op2.Minus) (s ∷ Some (number (pos 1)) ∷ []) ∷ []) ∷ Some
+    (number (pos 1)) ∷ [])
 
 product-out : (c s : Option Value) (o : Option (List Value)) → IsTruth c → IsNumber s → WhenTrue c (s ≡ Fold false Fun.Product o) →
     Fold false Fun.Product (where_true c (λ u. o)) ≡ Shifted c s
@@ -164,9 +173,15 @@ product-out _ s o t k h = absurd t
 
 condition-answer : (s e : Ex) (env : Env) → ConditionFits s e env → AnswerKeeps (fold_condition s e) e env
 condition-answer s (fun1 true Fun.And (comp_ex e (cond c hs))) env t =
-    λ m. (and-out (meaning c env) (items_under hs env (λ here. option_map (λ v. v ∷ []) (meaning e here))), (m.0.0, λ z. ((m.0.1 z, tt), tt)))
+    λ m. (
+      and-out (meaning c env) (items_under hs env (λ here. option_map (λ v. v ∷ []) (meaning e here))),
+      (m.0.0, λ z. ((m.0.1 z, tt), tt)),
+    )
 condition-answer s (fun1 true Fun.Or (comp_ex e (cond c hs))) env t =
-    λ m. (or-out (meaning c env) (items_under hs env (λ here. option_map (λ v. v ∷ []) (meaning e here))), (m.0.0, λ z. ((m.0.1 z, tt), tt)))
+    λ m. (
+      or-out (meaning c env) (items_under hs env (λ here. option_map (λ v. v ∷ []) (meaning e here))),
+      (m.0.0, λ z. ((m.0.1 z, tt), tt)),
+    )
 condition-answer s (fun1 false Fun.Sum (comp_ex e (cond c hs))) env t =
     λ m. (
       sum-out (meaning c env) (meaning s env) (items_under hs env (λ here. option_map (λ v. v ∷ []) (meaning e here))) t.0 t.1 t.2,

@@ -40,7 +40,8 @@ some-all (Some x ∷ os) t = some-all os (go (all_some os) t)
     go (Some xs) t = refl
 
 -- The items of a literal that is there are.
-pub items-there : (os : List (Option Value)) (h : List Value → Option Value) → is_some (and_then (all_some os) h) ≡ true → list_all is_some os ≡ true
+pub items-there : (os : List (Option Value)) (h : List Value → Option Value) → is_some (and_then (all_some os) h) ≡ true →
+    list_all is_some os ≡ true
 items-there os h t = some-all os (go (all_some os) t)
   where
     go : (o : Option (List Value)) → is_some (and_then o h) ≡ true → is_some o ≡ true
@@ -48,7 +49,8 @@ items-there os h t = some-all os (go (all_some os) t)
     go (Some xs) t = refl
 
 -- Where a literal has a value with these items sorted, it lists each once.
-pub firsts-offer : (e : Ex) (es : Exs) (env : Env) (s : Value) → list_all is_some (meanings es env) ≡ true → meaning e env ≡ Some s → items_of s ≡ sorted_once (values (meanings es env)) →
+pub firsts-offer : (e : Ex) (es : Exs) (env : Env) (s : Value) → list_all is_some (meanings es env) ≡ true → meaning e env ≡ Some s →
+    items_of s ≡ sorted_once (values (meanings es env)) →
     Lists e (each_first [] es) env
 firsts-offer e es env s t j q =
     subst (λ z. SameLists z (all_listed (each_first [] es) env)) (sym (ap (option_map items_of) j)) (firsts-list es env s t q)
@@ -61,30 +63,37 @@ function-made xs t = go (not (has_double_argument xs)) t
     go true t = refl
     go false t = cc
 
-pub partition-made : (xs : List Value) → is_some (partition_of xs) ≡ true → (partition_of xs ≡ Some (node a_partition (of_list (sorted_once xs)))) × Distinct xs
+pub partition-made : (xs : List Value) → is_some (partition_of xs) ≡ true →
+    (partition_of xs ≡ Some (node a_partition (of_list (sorted_once xs)))) × Distinct xs
 partition-made xs t = go (not (has_empty_part xs)) refl (not (has_overlap xs)) refl t
   where
-    go : (b : Bool) → not (has_empty_part xs) ≡ b → (c : Bool) → not (has_overlap xs) ≡ c → is_some (when (b && c) (node a_partition (of_list (sorted_once xs)))) ≡ true →
+    go : (b : Bool) → not (has_empty_part xs) ≡ b → (c : Bool) → not (has_overlap xs) ≡ c →
+        is_some (when (b && c) (node a_partition (of_list (sorted_once xs)))) ≡ true →
         (when (b && c) (node a_partition (of_list (sorted_once xs))) ≡ Some (node a_partition (of_list (sorted_once xs)))) × Distinct xs
     go true q true r t = (refl, apart-distinct xs (not-true (has_empty_part xs) q) (no-overlap xs r))
     go true q false r t = cc
     go false q c r t = cc
 
 -- The same from the values of operands.
-pub literal-means : (os : List (Option Value)) (h : List Value → Option Value) → list_all is_some os ≡ true → and_then (all_some os) h ≡ h (values os)
+pub literal-means : (os : List (Option Value)) (h : List Value → Option Value) → list_all is_some os ≡ true →
+    and_then (all_some os) h ≡ h (values os)
 literal-means os h t = ap (λ o. and_then o h) (all-there os t)
 
-pub function-literal : (x : Text) (es : Exs) (env : Env) → Unused x (node_ex false set_literal es) → is_some (meaning (node_ex false function_literal es) env) ≡ true → Meets (node_ex false function_literal es) env →
+pub function-literal : (x : Text) (es : Exs) (env : Env) → Unused x (node_ex false set_literal es) →
+    is_some (meaning (node_ex false function_literal es) env) ≡ true → Meets (node_ex false function_literal es) env →
     Offers (node_ex false function_literal es) (each_first [] es) env
 function-literal x es env new t m =
     let h = items-there (meanings es env) function_of t in
     let j = literal-means (meanings es env) function_of h in
     let k = function-made (values (meanings es env)) (ap is_some (sym j) ∙ t) in record {
-      lists = firsts-offer (node_ex false function_literal es) es env (node a_function (of_list (sorted_once (values (meanings es env))))) h (j ∙ k) (to_list-of_list (sorted_once (values (meanings es env))));
+      lists = firsts-offer (node_ex false function_literal es) es env
+          (node a_function (of_list (sorted_once (values (meanings es env))))) h (j ∙ k)
+          (to_list-of_list (sorted_once (values (meanings es env))));
       met = listings-met [] x (node_ex false set_literal es) (each_first [] es) refl new env m;
     }
 
-pub partition-literal : (x : Text) (es : Exs) (env : Env) → Unused x (node_ex false set_literal es) → is_some (meaning (node_ex false partition_literal es) env) ≡ true → Meets (node_ex false partition_literal es) env →
+pub partition-literal : (x : Text) (es : Exs) (env : Env) → Unused x (node_ex false set_literal es) →
+    is_some (meaning (node_ex false partition_literal es) env) ≡ true → Meets (node_ex false partition_literal es) env →
     Offers (node_ex false partition_literal es) (each_item es) env
 partition-literal x es env new t m =
     let h = items-there (meanings es env) partition_of t in
@@ -97,9 +106,11 @@ partition-literal x es env new t m =
     }
 
 -- A set made of a literal; s is the value of the literal.
-pub set-made : (x : Text) (op : Op) (s : List Value → Value) → ((xs : List Value) → value_of_op op xs ≡ Some (s xs)) → ((xs : List Value) → sorted_once (items_of (s xs)) ≡ sorted_once xs) →
+pub set-made : (x : Text) (op : Op) (s : List Value → Value) → ((xs : List Value) → value_of_op op xs ≡ Some (s xs)) →
+    ((xs : List Value) → sorted_once (items_of (s xs)) ≡ sorted_once xs) →
     connective op ≡ None → guards op ≡ false → (es : Exs) (env : Env) → Unused x (node_ex false set_literal es) →
-    is_some (meaning (fun1 false Fun.ToSet (node_ex false op es)) env) ≡ true → MeetsAll false es env → Offers (fun1 false Fun.ToSet (node_ex false op es)) (each_first [] es) env
+    is_some (meaning (fun1 false Fun.ToSet (node_ex false op es)) env) ≡ true → MeetsAll false es env →
+    Offers (fun1 false Fun.ToSet (node_ex false op es)) (each_first [] es) env
 set-made x op s made once c q es env new t m =
     let r = there (meaning (node_ex false op es) env) Fun.ToSet t in
     let i : value_of_node op (meanings es env) ≡ and_then (all_some (meanings es env)) (value_of_op op) = plain (connective op) c in
@@ -112,26 +123,31 @@ set-made x op s made once c q es env new t m =
       met = listings-met [] x (node_ex false set_literal es) (each_first [] es) refl new env m;
     }
   where
-    plain : (o : Option (List Bool → Bool)) → o ≡ None → elim o [ Some f ↦ yes_no (f (map as_truth (meanings es env))) | None ↦ and_then (all_some (meanings es env)) (value_of_op op) ]
+    plain : (o : Option (List Bool → Bool)) → o ≡ None →
+        elim o [ Some f ↦ yes_no (f (map as_truth (meanings es env))) | None ↦ and_then (all_some (meanings es env)) (value_of_op op) ]
         ≡ and_then (all_some (meanings es env)) (value_of_op op)
     plain None c = refl
     plain (Some f) c = cc
 
 -- A matrix literal over a domain has its items.
-pub matrix-offers : (x : Text) (es : Exs) (d : Dom) (env : Env) → Unused x (node_ex false matrix_literal es) → is_some (meaning (matrix_ex es d) env) ≡ true → MeetsAll false es env →
+pub matrix-offers : (x : Text) (es : Exs) (d : Dom) (env : Env) → Unused x (node_ex false matrix_literal es) →
+    is_some (meaning (matrix_ex es d) env) ≡ true → MeetsAll false es env →
     Offers (matrix_ex es d) (each_item es) env
 matrix-offers x es d env new t m =
     let h = items-there (meanings es env) (matrix_value (members_in (domain_of d env))) t in
     let j = literal-means (meanings es env) (matrix_value (members_in (domain_of d env))) h in record {
-      lists = same-lists _ _ (ap (option_map items_of) j ∙ made (members_in (domain_of d env)) (values (meanings es env)) (ap is_some (sym j) ∙ t)
+      lists = same-lists _ _
+          (ap (option_map items_of) j ∙ made (members_in (domain_of d env)) (values (meanings es env)) (ap is_some (sym j) ∙ t)
           ∙ sym (each-listed es env ∙ all-there (meanings es env) h));
       met = listings-met [] x (node_ex false matrix_literal es) (each_item es) refl new env m;
     }
   where
-    made : (o : Option (List Value)) (xs : List Value) → is_some (matrix_value o xs) ≡ true → option_map items_of (matrix_value o xs) ≡ Some xs
+    made : (o : Option (List Value)) (xs : List Value) → is_some (matrix_value o xs) ≡ true →
+        option_map items_of (matrix_value o xs) ≡ Some xs
     made None xs t = cc
     made (Some is) xs t = go (nat_eq (length is) (length xs)) t
       where
-        go : (b : Bool) → is_some (when b (matrix (of_list is) (of_list xs))) ≡ true → option_map items_of (when b (matrix (of_list is) (of_list xs))) ≡ Some xs
+        go : (b : Bool) → is_some (when b (matrix (of_list is) (of_list xs))) ≡ true →
+            option_map items_of (when b (matrix (of_list is) (of_list xs))) ≡ Some xs
         go true t = ap Some (to_list-of_list xs)
         go false t = cc

@@ -69,7 +69,8 @@ halves = record empty_env {
 }
 
 lie_one_way : (meaning (every x (N q) (lie_together (N x) (N p))) halves ≡ Some (truth true))
-    × (meaning (every x (N p) (lie_together (N x) (N q))) halves ≡ Some (truth false)) × (meaning (bi Op2.Eq (N p) (N q)) halves ≡ Some (truth false))
+    × (meaning (every x (N p) (lie_together (N x) (N q))) halves ≡ Some (truth false)) ×
+    (meaning (bi Op2.Eq (N p) (N q)) halves ≡ Some (truth false))
 lie_one_way = (refl, refl, refl)
 
 -- ---- matrices
@@ -95,8 +96,11 @@ is_empty_list : equal_to_nothing types x (bi Op2.Eq (N m) (node_ex false matrix_
 is_empty_list = refl
 
 -- `[1/0] = []` is false, and `!(or([true | x <- [1/0]]))` is true.
-list_without_value : (meaning (bi Op2.Eq (node_ex false matrix_literal (es1 nothing)) (node_ex false matrix_literal no_exs)) empty_env ≡ Some (truth false))
-    × (meaning (ex1 true Op1.Not (fn Fun.Or (comp_ex (truth_ex true) (from (name_pat x) (node_ex false matrix_literal (es1 nothing)) no_gens)))) empty_env ≡ Some (truth true))
+list_without_value : (meaning (bi Op2.Eq (node_ex false matrix_literal (es1 nothing)) (node_ex false matrix_literal no_exs)) empty_env
+    ≡ Some (truth false))
+    × (meaning (ex1 true Op1.Not
+    (fn Fun.Or (comp_ex (truth_ex true) (from (name_pat x) (node_ex false matrix_literal (es1 nothing)) no_gens)))) empty_env
+    ≡ Some (truth true))
 list_without_value = (refl, refl)
 
 -- ---- folds
@@ -104,7 +108,8 @@ list_without_value = (refl, refl)
 condition_left : fold_condition (N y) (fn Fun.Sum (comp_ex (n 7) (cond (N x) no_gens))) ≡ Some (bi Op2.Times (fn Fun.ToInt (N x)) (N y))
 condition_left = refl
 
-condition_of_and : fold_condition (N y) (fn Fun.And (comp_ex (N q) (cond (N x) no_gens))) ≡ Some (bi Op2.Implies (N x) (fn Fun.And (comp_ex (N q) no_gens)))
+condition_of_and : fold_condition (N y) (fn Fun.And (comp_ex (N q) (cond (N x) no_gens)))
+    ≡ Some (bi Op2.Implies (N x) (fn Fun.And (comp_ex (N q) no_gens)))
 condition_of_and = refl
 
 -- `min` isn't a fold whose condition leaves.
@@ -113,9 +118,11 @@ condition_of_min = refl
 
 -- `or([1/1 = 1, 1/0 = 1] ..)`: where one inner list has nothing the fold of folds is true, and the fold at once is false.
 fold_without_value : (meaning (fold_at_once true Fun.Or (truth_ex true) (over (name_pat x) (upto 2) no_gens)
-    (from (name_pat y) (node_ex false matrix_literal (es1 (bi Op2.Div (n 1) (bi Op2.Minus (N x) (n 1))))) no_gens)) empty_env ≡ Some (truth false))
+    (from (name_pat y) (node_ex false matrix_literal (es1 (bi Op2.Div (n 1) (bi Op2.Minus (N x) (n 1))))) no_gens)) empty_env
+    ≡ Some (truth false))
     × (meaning (fold_within true Fun.Or (truth_ex true) (over (name_pat x) (upto 2) no_gens)
-    (from (name_pat y) (node_ex false matrix_literal (es1 (bi Op2.Div (n 1) (bi Op2.Minus (N x) (n 1))))) no_gens)) empty_env ≡ Some (truth true))
+    (from (name_pat y) (node_ex false matrix_literal (es1 (bi Op2.Div (n 1) (bi Op2.Minus (N x) (n 1))))) no_gens)) empty_env
+    ≡ Some (truth true))
 fold_without_value = (refl, refl)
 
 -- ---- listings
@@ -135,10 +142,15 @@ parts_of_a_literal : made_listing types x y (node_ex false partition_literal (es
 parts_of_a_literal = refl
 
 pairs_of_a_literal : made_listing types x y (node_ex false function_literal (es2 (N p) (N q))) ≡
-    Some (record { gens = no_gens; item = N p } ∷ record { gens = cond (ex1 true Op1.Not (bi Op2.Eq (N p) (N q))) no_gens; item = N q } ∷ [])
+    Some (record { gens = no_gens; item = N p } ∷ record {
+      gens = cond
+          (ex1 true Op1.Not (bi Op2.Eq (N p) (N q))) no_gens;
+      item = N q;
+    } ∷ [])
 pairs_of_a_literal = refl
 
-results : range_as_set types x (fn Fun.Range (N f)) ≡ Some (fn Fun.ToSet (comp_ex (component_of int_ty 2 (N x)) (from (name_pat x) (N f) no_gens)))
+results : range_as_set types x (fn Fun.Range (N f))
+    ≡ Some (fn Fun.ToSet (comp_ex (component_of int_ty 2 (N x)) (from (name_pat x) (N f) no_gens)))
 results = refl
 
 -- ---- lists

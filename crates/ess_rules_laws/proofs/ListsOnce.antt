@@ -29,12 +29,15 @@ pub sorted-counts : (xs : List Value) → Distinct xs → (v : Value) → count 
 sorted-counts xs d v = count-sorted_once xs v ∙ sym (count-distinct xs v d)
 
 -- What a list lacks, a part of it lacks.
-pub absent-filtered : (c : Value → Value) (q : Value → Bool) (ps : List Value) (v : Value) → holds (map c ps) v ≡ false → holds (map c (filter q ps)) v ≡ false
+pub absent-filtered : (c : Value → Value) (q : Value → Bool) (ps : List Value) (v : Value) → holds (map c ps) v ≡ false →
+    holds (map c (filter q ps)) v ≡ false
 absent-filtered c q [] v h = refl
 absent-filtered c q (p ∷ ps) v h =
-    go (q p) (or-left-no (same (c p) v) (holds (map c ps) v) h) (absent-filtered c q ps v (or-right-no (same (c p) v) (holds (map c ps) v) h))
+    go (q p) (or-left-no (same (c p) v) (holds (map c ps) v) h)
+    (absent-filtered c q ps v (or-right-no (same (c p) v) (holds (map c ps) v) h))
   where
-    go : (b : Bool) → same (c p) v ≡ false → holds (map c (filter q ps)) v ≡ false → holds (map c (if b then p ∷ filter q ps else filter q ps)) v ≡ false
+    go : (b : Bool) → same (c p) v ≡ false → holds (map c (filter q ps)) v ≡ false →
+        holds (map c (if b then p ∷ filter q ps else filter q ps)) v ≡ false
     go true e r = ap (λ z. z || holds (map c (filter q ps)) v) e ∙ r
     go false e r = r
 
@@ -50,7 +53,8 @@ distinct-filtered c q (p ∷ ps) d = go (q p) (distinct-filtered c q ps d.1)
 -- ---- what is collected
 
 -- One answer for each item.
-pub collect-map : (c : Value → Value) (vs : List Value) (F : Value → Option (List Value)) → Each vs (λ v. F v ≡ Some (c v ∷ [])) → collect vs F ≡ Some (map c vs)
+pub collect-map : (c : Value → Value) (vs : List Value) (F : Value → Option (List Value)) → Each vs (λ v. F v ≡ Some (c v ∷ [])) →
+    collect vs F ≡ Some (map c vs)
 collect-map c [] F h = refl
 collect-map c (v ∷ vs) F h =
     ap (λ o. and_then o (λ xs. option_map (λ ys. xs ++ ys) (collect vs F))) h.0 ∙ ap (option_map (λ ys. c v ∷ ys)) (collect-map c vs F h.1)
@@ -59,15 +63,19 @@ collect-map c (v ∷ vs) F h =
 pub collect-kept : (c : Value → Value) (q : Value → Bool) (vs : List Value) (F : Value → Option (List Value)) →
     Each vs (λ v. F v ≡ where_true (Some (truth (q v))) (λ u. Some (c v ∷ []))) → collect vs F ≡ Some (map c (filter q vs))
 collect-kept c q [] F h = refl
-collect-kept c q (v ∷ vs) F h = ap (λ o. and_then o (λ xs. option_map (λ ys. xs ++ ys) (collect vs F))) h.0 ∙ go (q v) (collect-kept c q vs F h.1)
+collect-kept c q (v ∷ vs) F h = ap (λ o. and_then o (λ xs. option_map (λ ys. xs ++ ys) (collect vs F))) h.0
+    ∙ go (q v) (collect-kept c q vs F h.1)
   where
     go : (b : Bool) → collect vs F ≡ Some (map c (filter q vs)) →
-        and_then (where_true (Some (truth b)) (λ u. Some (c v ∷ []))) (λ xs. option_map (λ ys. xs ++ ys) (collect vs F)) ≡ Some (map c (if b then v ∷ filter q vs else filter q vs))
+        and_then (where_true (Some (truth b)) (λ u. Some (c v ∷ []))) (λ xs. option_map (λ ys. xs ++ ys) (collect vs F))
+        ≡ Some (map c (if b then v ∷ filter q vs else filter q vs))
     go true e = ap (option_map (λ ys. c v ∷ ys)) e
     go false e = ap (option_map (λ ys. ys)) e
 
 -- A list for each item.
-pub collect-lists : (vs : List Value) (F : Value → Option (List Value)) → ((v : Value) → F v ≡ Some (items_of v)) → collect vs F ≡ Some (append_all (map items_of vs))
+pub collect-lists : (vs : List Value) (F : Value → Option (List Value)) → ((v : Value) → F v ≡ Some (items_of v)) →
+    collect vs F ≡ Some (append_all (map items_of vs))
 collect-lists [] F h = refl
 collect-lists (v ∷ vs) F h =
-    ap (λ o. and_then o (λ xs. option_map (λ ys. xs ++ ys) (collect vs F))) (h v) ∙ ap (option_map (λ ys. items_of v ++ ys)) (collect-lists vs F h)
+    ap (λ o. and_then o (λ xs. option_map (λ ys. xs ++ ys) (collect vs F))) (h v)
+    ∙ ap (option_map (λ ys. items_of v ++ ys)) (collect-lists vs F h)

@@ -30,11 +30,13 @@ abbrev any_in : Option (List Value) → Bool
 any_in None = false
 any_in (Some xs) = any_true xs
 
-and-means : (o : Option (List Value)) → false_where_undefined true (value_of_node (word Fun.And) (option_map list_value o ∷ [])) ≡ Some (truth (all_in o))
+and-means : (o : Option (List Value)) →
+    false_where_undefined true (value_of_node (word Fun.And) (option_map list_value o ∷ [])) ≡ Some (truth (all_in o))
 and-means None = refl
 and-means (Some xs) = ap (λ l. Some (truth (all_true l))) (to_list-of_list xs)
 
-or-means : (o : Option (List Value)) → false_where_undefined true (value_of_node (word Fun.Or) (option_map list_value o ∷ [])) ≡ Some (truth (any_in o))
+or-means : (o : Option (List Value)) →
+    false_where_undefined true (value_of_node (word Fun.Or) (option_map list_value o ∷ [])) ≡ Some (truth (any_in o))
 or-means None = refl
 or-means (Some xs) = ap (λ l. Some (truth (any_true l))) (to_list-of_list xs)
 
@@ -63,7 +65,8 @@ all-parts (Some xs) None = go (all_true xs)
     go false = refl
 all-parts (Some xs) (Some ys) = all-append xs ys
 
-any-parts : (o p : Option (List Value)) → any_in (and_then o (λ xs. option_map (λ ys. xs ++ ys) p)) ≡ (is_some o && is_some p) && (any_in o || any_in p)
+any-parts : (o p : Option (List Value)) →
+    any_in (and_then o (λ xs. option_map (λ ys. xs ++ ys) p)) ≡ (is_some o && is_some p) && (any_in o || any_in p)
 any-parts None p = refl
 any-parts (Some xs) None = refl
 any-parts (Some xs) (Some ys) = any-append xs ys
@@ -82,7 +85,8 @@ module _ (F : Value → Option (List Value)) where
   there-collected [] = refl
   there-collected (v ∷ vs) = there-parts (F v) (collect vs F) ∙ ap (λ b. is_some (F v) && b) (there-collected vs)
 
-  any-collected : (vs : List Value) → any_in (collect vs F) ≡ list_all (λ v. is_some (F v)) vs && not (list_all (λ v. not (any_in (F v))) vs)
+  any-collected : (vs : List Value) →
+      any_in (collect vs F) ≡ list_all (λ v. is_some (F v)) vs && not (list_all (λ v. not (any_in (F v))) vs)
   any-collected [] = refl
   any-collected (v ∷ vs) = any-parts (F v) (collect vs F)
       ∙ ap (λ b. (is_some (F v) && b) && (any_in (F v) || any_in (collect vs F))) (there-collected vs)
@@ -101,7 +105,8 @@ module _ (F : Value → Option (List Value)) where
 
   any-loosely : (vs : List Value) → any_in (collect (sorted_once vs) F) ≡ any_in (collect vs F)
   any-loosely vs =
-      any-collected (sorted_once vs) ∙ ap (λ b. b && not (list_all (λ v. not (any_in (F v))) (sorted_once vs))) (all-sorted_once (λ v. is_some (F v)) vs)
+      any-collected (sorted_once vs)
+      ∙ ap (λ b. b && not (list_all (λ v. not (any_in (F v))) (sorted_once vs))) (all-sorted_once (λ v. is_some (F v)) vs)
       ∙ ap (λ b. list_all (λ v. is_some (F v)) vs && not b) (all-sorted_once (λ v. not (any_in (F v))) vs) ∙ sym (any-collected vs)
 
 -- ---- structures
@@ -117,7 +122,8 @@ each-held P (y ∷ ys) v e h = go (same y v) refl h (λ k. each-held P ys v e.1 
 
 held-each : (P : Value → Type 0) (xs : List Value) → ((v : Value) → holds xs v ≡ true → P v) → Each xs P
 held-each P [] f = tt
-held-each P (x ∷ xs) f = (f x (ap (λ b. b || holds xs x) (same-itself x)), held-each P xs (λ v h. f v (ap (λ b. same x v || b) h ∙ or-yes (same x v))))
+held-each P (x ∷ xs) f =
+    (f x (ap (λ b. b || holds xs x) (same-itself x)), held-each P xs (λ v h. f v (ap (λ b. same x v || b) h ∙ or-yes (same x v))))
 
 loosely-met : (P : Value → Type 0) (o : Option Value) → EachIn (value_of_node (word Fun.ToSet) (o ∷ [])) P → EachIn o P
 loosely-met P None e = tt
@@ -127,7 +133,8 @@ loosely-met P (Some w) e = held-each P (items_of w) (λ v h. each-held P (sorted
 -- ---- the rule
 
 -- The items of a generator over a set that is made of a term.
-items-loosely : (f : Option (List Value) → Bool) (F : Value → Option (List Value)) → ((vs : List Value) → f (collect (sorted_once vs) F) ≡ f (collect vs F)) → (o : Option Value) →
+items-loosely : (f : Option (List Value) → Bool) (F : Value → Option (List Value)) →
+    ((vs : List Value) → f (collect (sorted_once vs) F) ≡ f (collect vs F)) → (o : Option Value) →
     f (and_then (value_of_node (word Fun.ToSet) (o ∷ [])) (λ s. collect (items_of s) F)) ≡ f (and_then o (λ s. collect (items_of s) F))
 items-loosely f F h None = refl
 items-loosely f F h (Some w) = ap (λ l. f (collect l F)) (to_list-of_list (sorted_once (items_of w))) ∙ h (items_of w)
@@ -135,7 +142,8 @@ items-loosely f F h (Some w) = ap (λ l. f (collect l F)) (to_list-of_list (sort
 loosely-answer : (e : Ex) (env : Env) → AnswerKeeps (fold_loosely e) e env
 loosely-answer (fun1 true Fun.And (comp_ex e (from p (fun1 false Fun.ToSet s) hs))) env = λ m. (
   and-means (and_then (value_of_node (word Fun.ToSet) (meaning s env ∷ [])) (λ w. collect (items_of w) F))
-      ∙ ap (λ b. Some (truth b)) (items-loosely all_in F (all-loosely F) (meaning s env)) ∙ sym (and-means (and_then (meaning s env) (λ w. collect (items_of w) F))),
+      ∙ ap (λ b. Some (truth b)) (items-loosely all_in F (all-loosely F) (meaning s env))
+      ∙ sym (and-means (and_then (meaning s env) (λ w. collect (items_of w) F))),
   ((m.0.0.0, loosely-met (λ v. MeetsGens hs (with_pat p v env) (λ here. Meets e here)) (meaning s env) m.0.1), tt),
 )
   where
@@ -143,7 +151,8 @@ loosely-answer (fun1 true Fun.And (comp_ex e (from p (fun1 false Fun.ToSet s) hs
     F v = items_under hs (with_pat p v env) (λ here. option_map (λ w. w ∷ []) (meaning e here))
 loosely-answer (fun1 true Fun.Or (comp_ex e (from p (fun1 false Fun.ToSet s) hs))) env = λ m. (
   or-means (and_then (value_of_node (word Fun.ToSet) (meaning s env ∷ [])) (λ w. collect (items_of w) F))
-      ∙ ap (λ b. Some (truth b)) (items-loosely any_in F (any-loosely F) (meaning s env)) ∙ sym (or-means (and_then (meaning s env) (λ w. collect (items_of w) F))),
+      ∙ ap (λ b. Some (truth b)) (items-loosely any_in F (any-loosely F) (meaning s env))
+      ∙ sym (or-means (and_then (meaning s env) (λ w. collect (items_of w) F))),
   ((m.0.0.0, loosely-met (λ v. MeetsGens hs (with_pat p v env) (λ here. Meets e here)) (meaning s env) m.0.1), tt),
 )
   where

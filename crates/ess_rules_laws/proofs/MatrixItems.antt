@@ -33,7 +33,8 @@ pub record MatrixOf (p : Bool) (es : List TypeEntry) (t : Ty) (v : Value) : Type
   pub typed : list_all (is_of p es t) (to_list parts) ≡ true
 
 -- A value of a type of matrices.
-pub matrix-value : (p : Bool) (es : List TypeEntry) (i t : Ty) (v : Value) → is_of p es (compound2 a_matrix i t) v ≡ true → MatrixOf p es t v
+pub matrix-value : (p : Bool) (es : List TypeEntry) (i t : Ty) (v : Value) → is_of p es (compound2 a_matrix i t) v ≡ true →
+    MatrixOf p es t v
 matrix-value p es i t (matrix is xs) h = let a = and-left _ _ (and-left _ _ h) in record {
   indices = is;
   parts = xs;
@@ -51,7 +52,8 @@ equal_options t u o q = as_truth (false_where_undefined true (value_of_node (bin
 
 -- Equality of matrices by their parts.
 pub parted : (is js xs ys : Values) → same (matrix is xs) (matrix js ys) ≡ same (tuple is) (tuple js) && is_eq (orders xs ys)
-parted is js xs ys = then-equal (orders is js) _ ∙ ap (λ b. is_eq (orders is js) && b) (then-equal (orders xs ys) _ ∙ right (is_eq (orders xs ys)))
+parted is js xs ys = then-equal (orders is js) _
+    ∙ ap (λ b. is_eq (orders is js) && b) (then-equal (orders xs ys) _ ∙ right (is_eq (orders xs ys)))
   where
     right : (b : Bool) → b && true ≡ b
     right true = refl
@@ -60,11 +62,13 @@ parted is js xs ys = then-equal (orders is js) _ ∙ ap (λ b. is_eq (orders is 
 module _ (p : Bool) (es : List TypeEntry) (t u : Ty) where
   both-typed : (x y : Value) → is_of p es t x ≡ true → is_of p es u y ≡ true → equal_options t u (Some x) (Some y) ≡ same x y
   both-typed x y h k =
-      ap (λ o. as_truth (false_where_undefined true (value_of_node (binary Op2.Eq) (o ∷ false_where_undefined (is_bool (Some u)) (Some y) ∷ [])))) (of-mark p es t x h)
+      ap (λ o. as_truth (false_where_undefined true
+      (value_of_node (binary Op2.Eq) (o ∷ false_where_undefined (is_bool (Some u)) (Some y) ∷ [])))) (of-mark p es t x h)
       ∙ ap (λ o. as_truth (false_where_undefined true (value_of_node (binary Op2.Eq) (Some x ∷ o ∷ [])))) (of-mark p es u y k)
 
   -- The items at all indices are equal where the lists of items are.
-  pub items-equal : (is xs ys : Values) → Distinct (to_list is) → length (to_list is) ≡ length (to_list xs) → length (to_list is) ≡ length (to_list ys) →
+  pub items-equal : (is xs ys : Values) → Distinct (to_list is) → length (to_list is) ≡ length (to_list xs) →
+      length (to_list is) ≡ length (to_list ys) →
       list_all (is_of p es t) (to_list xs) ≡ true → list_all (is_of p es u) (to_list ys) ≡ true →
       list_all (λ i. equal_options t u (item_at is xs i) (item_at is ys i)) (to_list is) ≡ is_eq (orders xs ys)
   items-equal nil nil nil d m n h k = refl
@@ -74,7 +78,9 @@ module _ (p : Bool) (es : List TypeEntry) (t u : Ty) where
   items-equal (cons i is) (cons x xs) nil d m n h k = absurd (let z : suc (length (to_list is)) ≡ zero = n in omega arith)
   items-equal (cons i is) (cons x xs) (cons y ys) d m n h k =
       ap (λ b. b && list_all There (to_list is)) here
-      ∙ ap (λ b. same x y && b) (all-agree There Behind (to_list is) behind ∙ items-equal is xs ys d.1 (omega arith) (omega arith) (and-right _ _ h) (and-right _ _ k))
+      ∙ ap (λ b. same x y && b)
+      (all-agree There Behind (to_list is) behind
+      ∙ items-equal is xs ys d.1 (omega arith) (omega arith) (and-right _ _ h) (and-right _ _ k))
       ∙ sym (then-equal _ (orders xs ys))
     where
       There : Value → Bool
@@ -88,14 +94,16 @@ module _ (p : Bool) (es : List TypeEntry) (t u : Ty) where
           ∙ both-typed x y (and-left _ _ h) (and-left _ _ k)
 
       behind : (j : Value) → holds (to_list is) j ≡ true → There j ≡ Behind j
-      behind j q = ap (λ b. equal_options t u (if b then Some x else item_at is xs j) (if b then Some y else item_at is ys j)) (go (same i j) refl)
+      behind j q = ap (λ b. equal_options t u (if b then Some x else item_at is xs j) (if b then Some y else item_at is ys j))
+          (go (same i j) refl)
         where
           go : (b : Bool) → same i j ≡ b → b ≡ false
           go false r = refl
           go true r = let e : holds (to_list is) i ≡ true = ap (holds (to_list is)) (same-equal i j r) ∙ q in let f = d.0 in cc
 
   -- Two matrices with one list of indices.
-  pub equal-there : (is xs ys : Values) → rises itself (to_list is) ≡ true → length (to_list is) ≡ length (to_list xs) → length (to_list is) ≡ length (to_list ys) →
+  pub equal-there : (is xs ys : Values) → rises itself (to_list is) ≡ true → length (to_list is) ≡ length (to_list xs) →
+      length (to_list is) ≡ length (to_list ys) →
       list_all (is_of p es t) (to_list xs) ≡ true → list_all (is_of p es u) (to_list ys) ≡ true →
       same (matrix is xs) (matrix is ys) ≡ list_all (λ i. equal_options t u (item_at is xs i) (item_at is ys i)) (to_list is)
   equal-there is xs ys r m n h k =
@@ -103,18 +111,23 @@ module _ (p : Bool) (es : List TypeEntry) (t u : Ty) where
       ∙ sym (items-equal is xs ys (sorted-distinct (to_list is) (sorted-of (to_list is) r)) m n h k)
 
 -- Two matrices are equal where each index of one is one of the other and the items at the indices of the first are equal.
-pub matrices-equal : (p : Bool) (es : List TypeEntry) (t u : Ty) (is js xs ys : Values) → rises itself (to_list is) ≡ true → rises itself (to_list js) ≡ true →
+pub matrices-equal : (p : Bool) (es : List TypeEntry) (t u : Ty) (is js xs ys : Values) → rises itself (to_list is) ≡ true →
+    rises itself (to_list js) ≡ true →
     length (to_list is) ≡ length (to_list xs) → length (to_list js) ≡ length (to_list ys) →
     list_all (is_of p es t) (to_list xs) ≡ true → list_all (is_of p es u) (to_list ys) ≡ true →
     same (matrix is xs) (matrix js ys)
-    ≡ (list_all (holds (to_list js)) (to_list is) && list_all (holds (to_list is)) (to_list js)) && list_all (λ i. equal_options t u (item_at is xs i) (item_at js ys i)) (to_list is)
-matrices-equal p es t u is js xs ys r s m n h k = go (list_all (holds (to_list js)) (to_list is) && list_all (holds (to_list is)) (to_list js)) refl
+    ≡ (list_all (holds (to_list js)) (to_list is) && list_all (holds (to_list is)) (to_list js)) &&
+    list_all (λ i. equal_options t u (item_at is xs i) (item_at js ys i)) (to_list is)
+matrices-equal p es t u is js xs ys r s m n h k = go
+    (list_all (holds (to_list js)) (to_list is) && list_all (holds (to_list is)) (to_list js)) refl
   where
     go : (b : Bool) → list_all (holds (to_list js)) (to_list is) && list_all (holds (to_list is)) (to_list js) ≡ b →
         same (matrix is xs) (matrix js ys) ≡ b && list_all (λ i. equal_options t u (item_at is xs i) (item_at js ys i)) (to_list is)
     go true q =
-        let e : to_list is ≡ to_list js = one-sorted-list (to_list is) (to_list js) r s (λ v. both-ways (holds (to_list is) v) (holds (to_list js) v)
-        (λ z. all-holds (holds (to_list js)) (to_list is) v (and-left _ _ q) z) (λ z. all-holds (holds (to_list is)) (to_list js) v (and-right _ _ q) z)) in
+        let e : to_list is ≡ to_list js = one-sorted-list (to_list is) (to_list js) r s
+        (λ v. both-ways (holds (to_list is) v) (holds (to_list js) v)
+        (λ z. all-holds (holds (to_list js)) (to_list is) v (and-left _ _ q) z)
+        (λ z. all-holds (holds (to_list is)) (to_list js) v (and-right _ _ q) z)) in
         let f : is ≡ js = sym (of_list-to_list is) ∙ ap of_list e ∙ of_list-to_list js in
         subst (λ z. same (matrix is xs) (matrix z ys) ≡ list_all (λ i. equal_options t u (item_at is xs i) (item_at z ys i)) (to_list is)) f
         (equal-there p es t u is xs ys r m (ap length e ∙ n) h k)
@@ -123,7 +136,8 @@ matrices-equal p es t u is js xs ys r s m n h k = go (list_all (holds (to_list j
         never : (b : Bool) → same (matrix is xs) (matrix js ys) ≡ b → b ≡ false
         never false z = refl
         never true z =
-            let e : same (tuple is) (tuple js) ≡ true = and-left (same (tuple is) (tuple js)) (is_eq (orders xs ys)) (sym (parted is js xs ys) ∙ z) in
+            let e : same (tuple is) (tuple js)
+            ≡ true = and-left (same (tuple is) (tuple js)) (is_eq (orders xs ys)) (sym (parted is js xs ys) ∙ z) in
             let l : to_list is ≡ to_list js = listed is js (same-equal (tuple is) (tuple js) e) in
             let a = subst (λ y. list_all (holds y) (to_list is) && list_all (holds (to_list is)) y ≡ true) l
             (and-both (list_all (holds (to_list is)) (to_list is)) (list_all (holds (to_list is)) (to_list is))

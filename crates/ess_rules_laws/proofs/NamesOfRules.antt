@@ -49,7 +49,8 @@ mutual
   more-names (name_ex a) u w f h = f a h
   more-names (node_ex b op es) u w f h = more-exs es u w f h
   more-names (matrix_ex es d) u w f h = (more-exs es u w f h.0, more-dom d u w f h.1)
-  more-names (comp_ex e gs) u w f h = (more-gens gs u w f h.0, more-names e (with_bound_names u gs) (with_bound_names w gs) (fewer-bound gs u w f) h.1)
+  more-names (comp_ex e gs) u w f h =
+      (more-gens gs u w f h.0, more-names e (with_bound_names u gs) (with_bound_names w gs) (fewer-bound gs u w f) h.1)
   more-names (cell_ex b n es) u w f h = more-exs es u w f h
   more-names (seen_ex r d ns es) u w f h = (more-dom d u w f h.0, more-exs es u w f h.1)
 
@@ -135,7 +136,8 @@ bare _ = tt
 of-term : (x : Text) (e : Ex) → Adds (fold_term x e) e
 of-term x (fun1 b f l) = go (is_fold f) (is_laid_open l)
   where
-    go : (c d : Bool) → Adds (if c then (if d then None else Some (fun1 b f (comp_ex (name_ex x) (from (name_pat x) l no_gens)))) else None) (fun1 b f l)
+    go : (c d : Bool) → Adds
+        (if c then (if d then None else Some (fun1 b f (comp_ex (name_ex x) (from (name_pat x) l no_gens)))) else None) (fun1 b f l)
     go true false = λ u h. (((h.0, tt), bound x u), tt)
     go true true = tt
     go false d = tt
@@ -182,7 +184,8 @@ strictly g x (ex2 true Op2.Subset a b) = adds-so _ _ (ex2 true Op2.Subset a b) (
 strictly g x _ = tt
 
 members : (g : Names Ty) (x : Text) (e : Ex) → Adds (included_members g x e) e
-members g x (ex2 true Op2.SubsetEq a b) = adds-so _ _ (ex2 true Op2.SubsetEq a b) (λ u h. (((h.0, tt), (bound x u, (behind x u b h.1.0, tt))), tt))
+members g x (ex2 true Op2.SubsetEq a b) = adds-so _ _ (ex2 true Op2.SubsetEq a b)
+    (λ u h. (((h.0, tt), (bound x u, (behind x u b h.1.0, tt))), tt))
 members g x _ = tt
 
 often : (x : Text) (e : Ex) → Adds (included_often x e) e

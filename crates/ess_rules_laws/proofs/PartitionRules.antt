@@ -25,16 +25,23 @@ together-body x b env w o q v =
     ap (λ z. false_where_undefined true (value_of_node (word Fun.Together) (z ∷ meaning b (behind x v env) ∷ []))) (name-behind x v env)
     ∙ ap (λ z. false_where_undefined true (value_of_node (word Fun.Together) (Some v ∷ z ∷ []))) (meaning-behind x v b env o ∙ q)
 
-parts-answer : (g : Names Ty) (x : Text) (e : Ex) → Unused x e → SoundOperands g e → (env : Env) → Typed g env → AnswerKeeps (equal_parts g x e) e env
+parts-answer : (g : Names Ty) (x : Text) (e : Ex) → Unused x e → SoundOperands g e → (env : Env) → Typed g env →
+    AnswerKeeps (equal_parts g x e) e env
 parts-answer g x (ex2 true Op2.Eq a b) o s env t = when-so (both_partitions (type_of a g) (type_of b g)) _ (ex2 true Op2.Eq a b) env
     (λ q m. (
       equal-means a b A B env (meaning a env) (meaning b env) refl refl (all-nowhere x a A1 env) (all-nowhere x b B1 env) (λ v w j k.
-          let r = partitions-of env.positions env.types (type_of a g) (type_of b g) v w q (λ y p. s.0 y p env t v j) (λ y p. s.1.0 y p env t w k) in
+          let r = partitions-of env.positions env.types (type_of a g) (type_of b g) v w q (λ y p. s.0 y p env t v j)
+          (λ y p. s.1.0 y p env t w k) in
           partition-equal v w r.0 r.1
-          ∙ sym (ap (λ z. as_truth z && as_truth (meaning B env)) (all-over x a A1 env (λ y. list_any (within y) (items_of w)) (together-body x b env w o.1.0 k) v j)
+          ∙ sym (ap (λ z. as_truth z && as_truth (meaning B env))
+          (all-over x a A1 env (λ y. list_any (within y) (items_of w)) (together-body x b env w o.1.0 k) v j)
           ∙ ap (λ z. list_all (λ y. list_any (within y) (items_of w)) (items_of v) && as_truth z)
           (all-over x b B1 env (λ y. list_any (within y) (items_of v)) (together-body x a env v o.0 j) w k))),
-      (every-met x a A1 env m.0 (λ v. (tt, (meets-behind x v b env o.1.0 m.1.0, tt))), λ z. (every-met x b B1 env m.1.0 (λ v. (tt, (meets-behind x v a env o.0 m.0, tt))), tt)),
+      (
+        every-met x a A1 env m.0 (λ v. (tt, (meets-behind x v b env o.1.0 m.1.0, tt))),
+        λ z.
+            (every-met x b B1 env m.1.0 (λ v. (tt, (meets-behind x v a env o.0 m.0, tt))), tt),
+      ),
     ))
   where
     A1 : Ex

@@ -56,24 +56,29 @@ mapped f None h = no h
 mapped f (Some x) h = refl
 
 -- The same of two records whose types agree.
-records-agree : (fs hs : List Text) (ts us : Tys) → are_fields fs ts ts ≡ true → is_some (join (compound (a_record fs) ts) (compound (a_record hs) us)) ≡ true →
+records-agree : (fs hs : List Text) (ts us : Tys) → are_fields fs ts ts ≡ true →
+    is_some (join (compound (a_record fs) ts) (compound (a_record hs) us)) ≡ true →
     same_texts fs hs && are_fields fs ts us ≡ true
 records-agree fs hs ts us h j = go (same_texts fs hs) j
   where
-    closed : (ts us : Tys) → are_fields fs ts ts ≡ true → is_some (if is_open (a_record fs) ts then Some us else (if is_open (a_record fs) us then Some ts else joins ts us)) ≡ true →
+    closed : (ts us : Tys) → are_fields fs ts ts ≡ true →
+        is_some (if is_open (a_record fs) ts then Some us else (if is_open (a_record fs) us then Some ts else joins ts us)) ≡ true →
         is_some (joins ts us) ≡ true
     closed no_tys no_tys h k = refl
     closed no_tys (more_tys u us) h k = k
     closed (more_tys t ts) no_tys h k = k
     closed (more_tys t ts) (more_tys u us) h k = k
 
-    go : (b : Bool) → is_some (if b then option_map (compound (a_record fs)) (if is_open (a_record fs) ts then Some us else (if is_open (a_record fs) us then Some ts else joins ts us)) else None) ≡ true →
+    go : (b : Bool) → is_some
+        (if b then option_map (compound (a_record fs))
+        (if is_open (a_record fs) ts then Some us else (if is_open (a_record fs) us then Some ts else joins ts us)) else None) ≡ true →
         b && are_fields fs ts us ≡ true
     go true k = record-fields fs ts us h (closed ts us h (mapped (compound (a_record fs)) _ k))
     go false k = no k
 
 -- No type of another kind is included in one.
-not-included : (k : Kind) → is_some (included (compound k no_tys)) ≡ false → (o : Option Tys) → is_some (and_then (option_map (compound k) o) included) ≡ true → false ≡ true
+not-included : (k : Kind) → is_some (included (compound k no_tys)) ≡ false → (o : Option Tys) →
+    is_some (and_then (option_map (compound k) o) included) ≡ true → false ≡ true
 not-included k q None t = t
 not-included a_tuple q (Some ts) t = t
 not-included a_matrix q (Some ts) t = t
@@ -91,16 +96,22 @@ module _ (g : Names Ty) (x : Text) (d : Dom) (a b : Ex) where
   equation : (o p : Option Ty) → type_of a g ≡ o → type_of b g ≡ p → is_parted o ≡ true → is_parted p ≡ true →
       is_some (and_then (all_some (o ∷ p ∷ [])) (type_of_op (binary Op2.Eq))) ≡ true → Fires g x d (ex2 true Op2.Eq a b)
   equation (Some (compound a_tuple ts)) (Some (compound a_tuple us)) q r h k t =
-      by_components (ap (λ z. equal_where (components z) (components (type_of b g)) a b) q ∙ ap (λ z. equal_where (Some ts) (components z) a b) r)
+      by_components (ap (λ z. equal_where (components z) (components (type_of b g)) a b) q
+      ∙ ap (λ z. equal_where (Some ts) (components z) a b) r)
   equation (Some (compound (a_record fs) ts)) (Some (compound (a_record hs) us)) q r h k t =
-      by_fields (ap (λ z. equal_where_fields z (type_of b g) a b) q ∙ ap (λ z. equal_where_fields (Some (compound (a_record fs) ts)) z a b) r
-      ∙ so (same_texts fs hs && are_fields fs ts us) _ (records-agree fs hs ts us h (mapped _ (join (compound (a_record fs) ts) (compound (a_record hs) us)) t)))
+      by_fields (ap (λ z. equal_where_fields z (type_of b g) a b) q
+      ∙ ap (λ z. equal_where_fields (Some (compound (a_record fs) ts)) z a b) r
+      ∙ so (same_texts fs hs && are_fields fs ts us) _
+      (records-agree fs hs ts us h (mapped _ (join (compound (a_record fs) ts) (compound (a_record hs) us)) t)))
   equation (Some (compound2 a_matrix i t)) (Some (compound2 a_matrix j u)) q r h k z =
-      by_matrices (ap (λ o. both_matrices o (type_of b g) (λ t u. equal_each_at x d t u a b)) q ∙ ap (λ o. both_matrices (Some (compound2 a_matrix i t)) o (λ t u. equal_each_at x d t u a b)) r)
-  equation (Some (compound a_set ts)) (Some (compound a_set us)) q r h k t = by_sets (so _ _ (ap (λ z. both_sets z (type_of b g)) q ∙ ap (both_sets (Some (compound a_set ts))) r))
+      by_matrices (ap (λ o. both_matrices o (type_of b g) (λ t u. equal_each_at x d t u a b)) q
+      ∙ ap (λ o. both_matrices (Some (compound2 a_matrix i t)) o (λ t u. equal_each_at x d t u a b)) r)
+  equation (Some (compound a_set ts)) (Some (compound a_set us)) q r h k t = by_sets
+      (so _ _ (ap (λ z. both_sets z (type_of b g)) q ∙ ap (both_sets (Some (compound a_set ts))) r))
   equation (Some (compound a_relation ts)) (Some (compound a_relation us)) q r h k t =
       by_sets (so _ _ (ap (λ z. both_sets z (type_of b g)) q ∙ ap (both_sets (Some (compound a_relation ts))) r))
-  equation (Some (compound a_mset ts)) (Some (compound a_mset us)) q r h k t = by_msets (so _ _ (ap (λ z. both_msets z (type_of b g)) q ∙ ap (both_msets (Some (compound a_mset ts))) r))
+  equation (Some (compound a_mset ts)) (Some (compound a_mset us)) q r h k t = by_msets
+      (so _ _ (ap (λ z. both_msets z (type_of b g)) q ∙ ap (both_msets (Some (compound a_mset ts))) r))
   equation (Some (compound a_function ts)) (Some (compound a_function us)) q r h k t =
       by_functions (so _ _ (ap (λ z. both_functions z (type_of b g)) q ∙ ap (both_functions (Some (compound a_function ts))) r))
   equation (Some (compound a_partition ts)) (Some (compound a_partition us)) q r h k t =
@@ -108,7 +119,8 @@ module _ (g : Names Ty) (x : Text) (d : Dom) (a b : Ex) where
   equation _ _ q r h k t = cc
 
   -- A strict inclusion.
-  strict : (o p : Option Ty) → is_parted o ≡ true → is_parted p ≡ true → is_some (and_then (all_some (o ∷ p ∷ [])) (type_of_op (binary Op2.Subset))) ≡ true →
+  strict : (o p : Option Ty) → is_parted o ≡ true → is_parted p ≡ true →
+      is_some (and_then (all_some (o ∷ p ∷ [])) (type_of_op (binary Op2.Subset))) ≡ true →
       both_sets o p || both_msets o p ≡ true
   strict (Some (compound a_set ts)) (Some (compound a_set us)) h k t = refl
   strict (Some (compound a_relation ts)) (Some (compound a_relation us)) h k t = refl
@@ -116,11 +128,15 @@ module _ (g : Names Ty) (x : Text) (d : Dom) (a b : Ex) where
   strict (Some (compound a_tuple ts)) (Some (compound a_tuple us)) h k t = no (not-included a_tuple refl _ t)
   strict (Some (compound (a_record fs) ts)) (Some (compound (a_record hs) us)) h k t = no (record-included (same_texts fs hs) t)
     where
-      record-included : (b : Bool) → is_some (and_then (if b then option_map (compound (a_record fs)) (if is_open (a_record fs) ts then Some us else (if is_open (a_record fs) us then Some ts else joins ts us)) else None) included) ≡ true →
+      record-included : (b : Bool) →
+          is_some (and_then (if b then option_map (compound (a_record fs))
+          (if is_open (a_record fs) ts then Some us else (if is_open (a_record fs) us then Some ts else joins ts us)) else None) included)
+          ≡ true →
           false ≡ true
       record-included true t = not-included (a_record fs) refl _ t
       record-included false t = t
-  strict (Some (compound2 a_matrix i t)) (Some (compound2 a_matrix j u)) h k z = no (not-included a_matrix refl (joins (more_tys i (more_tys t no_tys)) (more_tys j (more_tys u no_tys))) z)
+  strict (Some (compound2 a_matrix i t)) (Some (compound2 a_matrix j u)) h k z = no
+      (not-included a_matrix refl (joins (more_tys i (more_tys t no_tys)) (more_tys j (more_tys u no_tys))) z)
   strict (Some (compound a_function ts)) (Some (compound a_function us)) h k t = no (not-included a_function refl _ t)
   strict (Some (compound a_partition ts)) (Some (compound a_partition us)) h k t = no (not-included a_partition refl _ t)
   strict _ _ h k t = cc
@@ -134,9 +150,11 @@ module _ (g : Names Ty) (x : Text) (d : Dom) (a b : Ex) where
       go false q l t = by_right (so (is_lex o && not (is_laid_open b)) _ (and-both (is_lex o) (not (is_laid_open b)) l t))
 
   two : (o : Op2) → looks_into g o a b ≡ true → is_some (type_of (ex2 true o a b) g) ≡ true → Fires g x d (ex2 true o a b)
-  two Op2.Eq h t = equation (type_of a g) (type_of b g) refl refl (and-left (is_parted (type_of a g)) _ h) (and-right (is_parted (type_of a g)) _ h) t
+  two Op2.Eq h t = equation (type_of a g) (type_of b g) refl refl (and-left (is_parted (type_of a g)) _ h)
+      (and-right (is_parted (type_of a g)) _ h) t
   two Op2.Ne h t = by_unequal refl
-  two Op2.Subset h t = by_strictly (so _ _ (strict (type_of a g) (type_of b g) (and-left (is_parted (type_of a g)) _ h) (and-right (is_parted (type_of a g)) _ h) t))
+  two Op2.Subset h t = by_strictly
+      (so _ _ (strict (type_of a g) (type_of b g) (and-left (is_parted (type_of a g)) _ h) (and-right (is_parted (type_of a g)) _ h) t))
   two Op2.SubsetEq h t = by_often refl
   two Op2.Supset h t = by_turned refl
   two Op2.SupsetEq h t = by_turned refl
@@ -150,20 +168,24 @@ module _ (g : Names Ty) (x : Text) (d : Dom) (a b : Ex) where
 -- ---- one operand
 
 -- What has a size and parts is counted.
-counted : (o : Option Ty) → is_parted o ≡ true → is_some (and_then (all_some (o ∷ [])) (type_of_op (unary Op1.Bar))) ≡ true → is_counted o ≡ true
+counted : (o : Option Ty) → is_parted o ≡ true → is_some (and_then (all_some (o ∷ [])) (type_of_op (unary Op1.Bar))) ≡ true →
+    is_counted o ≡ true
 counted (Some (compound a_set ts)) h t = refl
 counted (Some (compound a_mset ts)) h t = refl
 counted (Some (compound a_function ts)) h t = refl
 counted (Some (compound a_relation ts)) h t = refl
 counted _ h t = cc
 
-of-words : (g : Names Ty) (x : Text) (d : Dom) (m : Bool) (f : Fun) (l : Ex) → (is_fold f || is_of_list f) && not (is_laid_open l) ≡ true → Fires g x d (fun1 m f l)
-of-words g x d m f l h = go (is_fold f) refl (and-left (is_fold f || is_of_list f) _ h) (is_laid_open l) refl (and-right (is_fold f || is_of_list f) _ h)
+of-words : (g : Names Ty) (x : Text) (d : Dom) (m : Bool) (f : Fun) (l : Ex) →
+    (is_fold f || is_of_list f) && not (is_laid_open l) ≡ true → Fires g x d (fun1 m f l)
+of-words g x d m f l h = go (is_fold f) refl (and-left (is_fold f || is_of_list f) _ h) (is_laid_open l) refl
+    (and-right (is_fold f || is_of_list f) _ h)
   where
     go : (s : Bool) → is_fold f ≡ s → s || is_of_list f ≡ true → (t : Bool) → is_laid_open l ≡ t → not t ≡ true → Fires g x d (fun1 m f l)
     go s q h true r k = no k
     go true q h false r k = by_fold (twice (is_fold f) (is_laid_open l) _ q r)
-    go false q h false r k = by_list (so (is_of_list f && not (is_laid_open l)) _ (and-both (is_of_list f) (not (is_laid_open l)) h (ap not r)))
+    go false q h false r k = by_list
+        (so (is_of_list f && not (is_laid_open l)) _ (and-both (is_of_list f) (not (is_laid_open l)) h (ap not r)))
 
 -- Some rule fires.
 pub operators-have : OperatorsHaveRules

@@ -92,7 +92,8 @@ within-holds a b v h k = go (holds (items_of b) v) refl
     go : (t : Bool) → holds (items_of b) v ≡ t → t ≡ true
     go true q = refl
     go false q =
-        let c = within-counts a b h v in let d = count-present (items_of a) v k in let e = count-absent (items_of b) v q in absurd (omega arith)
+        let c = within-counts a b h v in let d = count-present (items_of a) v k in let e = count-absent (items_of b) v q in
+        absurd (omega arith)
 
 -- ---- values of partitions
 
@@ -154,7 +155,8 @@ sets-one _ _ h k p q = cc
 
 -- A set that isn't empty has a member.
 a-member : (p : Value) → sound_part p ≡ true → (v : Value) × (holds (items_of p) v ≡ true)
-a-member p h = go (items_of p) (not-true (is_empty (items_of p)) (and-right (is_set p && rises itself (items_of p)) (not (is_empty (items_of p))) h))
+a-member p h = go (items_of p)
+    (not-true (is_empty (items_of p)) (and-right (is_set p && rises itself (items_of p)) (not (is_empty (items_of p))) h))
   where
     go : (xs : List Value) → is_empty xs ≡ false → (v : Value) × (holds xs v ≡ true)
     go [] e = cc
@@ -172,7 +174,8 @@ part-there xs ys d s t h k x m =
     let r = some-of (within q.0) xs (all-holds _ ys q.0 k q.1) in
     let v = a-member x (all-holds sound_part xs x s m) in
     let e : x ≡ r.0 = shared-part xs x r.0 v.0 d m r.1 v.1 (within-holds q.0 r.0 v.0 r.2 (within-holds x q.0 v.0 q.2 v.1)) in
-    let f : x ≡ q.0 = sets-one x q.0 (all-holds sound_part xs x s m) (all-holds sound_part ys q.0 t q.1) q.2 (subst (λ z. within q.0 z ≡ true) (sym e) r.2) in
+    let f : x ≡ q.0 = sets-one x q.0 (all-holds sound_part xs x s m) (all-holds sound_part ys q.0 t q.1) q.2
+    (subst (λ z. within q.0 z ≡ true) (sym e) r.2) in
     ap (holds ys) f ∙ q.1
 
 -- Each part of a list lies in itself.
@@ -181,10 +184,12 @@ lie-itself xs = holds-all _ xs (λ v h. of-some (within v) xs v h (within-itself
 
 -- The two lists of parts are one where each part lies in some part of the other.
 pub partition-equal : (a b : Value) → IsPartition a → IsPartition b →
-    same a b ≡ list_all (λ x. list_any (within x) (items_of b)) (items_of a) && list_all (λ x. list_any (within x) (items_of a)) (items_of b)
+    same a b ≡ list_all (λ x. list_any (within x) (items_of b)) (items_of a) &&
+    list_all (λ x. list_any (within x) (items_of a)) (items_of b)
 partition-equal a b p q =
     subst (λ z. same z b ≡ lie (items_of z) (items_of b) && lie (items_of b) (items_of z)) (sym p.is_partition)
-    (subst (λ z. same (node a_partition p.parts) z ≡ lie (to_list p.parts) (items_of z) && lie (items_of z) (to_list p.parts)) (sym q.is_partition)
+    (subst (λ z. same (node a_partition p.parts) z ≡ lie (to_list p.parts) (items_of z) && lie (items_of z) (to_list p.parts))
+    (sym q.is_partition)
     (both-ways _ _ same-lie lie-same))
   where
     xs : List Value

@@ -35,15 +35,20 @@ module _ (g : Names Ty) (x y : Text) where
   single-of : (op : Op) (es : Exs) (t : Ty) → types_of es g ≡ map Some (t ∷ []) → are_told g es ≡ true →
       ((a : Ex) → type_of a g ≡ Some t → is_told (Some t) ≡ true → Has (node_ex false op (more_exs a no_exs))) → Has (node_ex false op es)
   single-of op no_exs t q m f = no (sym (ap is_empty q))
-  single-of op (more_exs a no_exs) t q m f = f a (ap first-of q) (ap is_told (sym (ap first-of q)) ∙ and-left (is_told (type_of a g)) true m)
+  single-of op (more_exs a no_exs) t q m f = f a (ap first-of q)
+      (ap is_told (sym (ap first-of q)) ∙ and-left (is_told (type_of a g)) true m)
   single-of op (more_exs a (more_exs b es)) t q m f = no (ap (λ l. is_empty (tail_of l)) q)
 
   -- Two operands.
-  two-of : (o : Op2) (es : Exs) (t u : Ty) → types_of es g ≡ map Some (t ∷ u ∷ []) → has_members (type_of_op (binary o) (t ∷ u ∷ [])) ≡ true → is_truth_op2 o ≡ false → are_told g es ≡ true →
+  two-of : (o : Op2) (es : Exs) (t u : Ty) → types_of es g ≡ map Some (t ∷ u ∷ []) →
+      has_members (type_of_op (binary o) (t ∷ u ∷ [])) ≡ true → is_truth_op2 o ≡ false → are_told g es ≡ true →
       Has (node_ex false (binary o) es)
-  two-of Op2.Union es t u q h k m = pair-of (binary Op2.Union) es t u q m (λ a b r n. by_listing _ (so _ _ (sets g united of-united a b t u r h n)))
-  two-of Op2.Intersect es t u q h k m = pair-of (binary Op2.Intersect) es t u q m (λ a b r n. by_listing _ (so _ _ (sets g united of-united a b t u r h n)))
-  two-of Op2.Minus es t u q h k m = pair-of (binary Op2.Minus) es t u q m (λ a b r n. by_listing _ (so _ _ (sets g subtracted of-subtracted a b t u r h n)))
+  two-of Op2.Union es t u q h k m = pair-of (binary Op2.Union) es t u q m
+      (λ a b r n. by_listing _ (so _ _ (sets g united of-united a b t u r h n)))
+  two-of Op2.Intersect es t u q h k m = pair-of (binary Op2.Intersect) es t u q m
+      (λ a b r n. by_listing _ (so _ _ (sets g united of-united a b t u r h n)))
+  two-of Op2.Minus es t u q h k m = pair-of (binary Op2.Minus) es t u q m
+      (λ a b r n. by_listing _ (so _ _ (sets g subtracted of-subtracted a b t u r h n)))
   two-of Op2.Pow es t u q h k m = no (numbers t u h)
   two-of Op2.Times es t u q h k m = no (numbers t u h)
   two-of Op2.Div es t u q h k m = no (numbers t u h)
@@ -51,7 +56,8 @@ module _ (g : Names Ty) (x y : Text) where
   two-of Op2.Plus es t u q h k m = no (numbers t u h)
   two-of _ es t u q h k m = no (sym k)
 
-  two : (o : Op2) (es : Exs) (ts : List Ty) → types_of es g ≡ map Some ts → has_members (type_of_op (binary o) ts) ≡ true → is_truth_op2 o ≡ false → are_told g es ≡ true →
+  two : (o : Op2) (es : Exs) (ts : List Ty) → types_of es g ≡ map Some ts → has_members (type_of_op (binary o) ts) ≡ true →
+      is_truth_op2 o ≡ false → are_told g es ≡ true →
       Has (node_ex false (binary o) es)
   two o es [] q h k m = no h
   two o es (t ∷ []) q h k m = no h
@@ -59,27 +65,32 @@ module _ (g : Names Ty) (x y : Text) where
   two o es (t ∷ u ∷ v ∷ vs) q h k m = no h
 
   -- What is made of a function.
-  defined : (f : Ex) (t : Ty) → type_of f g ≡ Some t → is_told (Some t) ≡ true → has_members (type_of_op (word Fun.Defined) (t ∷ [])) ≡ true → Has (fun1 false Fun.Defined f)
+  defined : (f : Ex) (t : Ty) → type_of f g ≡ Some t → is_told (Some t) ≡ true →
+      has_members (type_of_op (word Fun.Defined) (t ∷ [])) ≡ true → Has (fun1 false Fun.Defined f)
   defined f (compound2 a_function t u) q k h = by_made _ (of-function (type_of f g) _ t u q)
   defined f any_ty q k h = no k
   defined f _ q k h = no h
 
-  related : (f : Ex) (t : Ty) → type_of f g ≡ Some t → is_told (Some t) ≡ true → has_members (type_of_op (word Fun.ToRelation) (t ∷ [])) ≡ true → Has (fun1 false Fun.ToRelation f)
+  related : (f : Ex) (t : Ty) → type_of f g ≡ Some t → is_told (Some t) ≡ true →
+      has_members (type_of_op (word Fun.ToRelation) (t ∷ [])) ≡ true → Has (fun1 false Fun.ToRelation f)
   related f (compound2 a_function t u) q k h = by_made _ (of-function (type_of f g) _ t u q)
   related f any_ty q k h = no k
   related f _ q k h = no h
 
-  results : (f : Ex) (t : Ty) → type_of f g ≡ Some t → is_told (Some t) ≡ true → has_members (type_of_op (word Fun.Range) (t ∷ [])) ≡ true → Has (fun1 false Fun.Range f)
+  results : (f : Ex) (t : Ty) → type_of f g ≡ Some t → is_told (Some t) ≡ true →
+      has_members (type_of_op (word Fun.Range) (t ∷ [])) ≡ true → Has (fun1 false Fun.Range f)
   results f (compound2 a_function t u) q k h = by_results _ (of-function (type_of f g) _ t u q)
   results f any_ty q k h = no k
   results f _ q k h = no h
 
-  parts : (p : Ex) (t : Ty) → type_of p g ≡ Some t → is_told (Some t) ≡ true → has_members (type_of_op (word Fun.Parts) (t ∷ [])) ≡ true → Has (fun1 false Fun.Parts p)
+  parts : (p : Ex) (t : Ty) → type_of p g ≡ Some t → is_told (Some t) ≡ true → has_members (type_of_op (word Fun.Parts) (t ∷ [])) ≡ true →
+      Has (fun1 false Fun.Parts p)
   parts p (compound1 a_partition t) q k h = by_listing _ (so _ _ (ap is_strict q))
   parts p any_ty q k h = no k
   parts p _ q k h = no h
 
-  participants : (p : Ex) (t : Ty) → type_of p g ≡ Some t → is_told (Some t) ≡ true → has_members (type_of_op (word Fun.Participants) (t ∷ [])) ≡ true → Has (fun1 false Fun.Participants p)
+  participants : (p : Ex) (t : Ty) → type_of p g ≡ Some t → is_told (Some t) ≡ true →
+      has_members (type_of_op (word Fun.Participants) (t ∷ [])) ≡ true → Has (fun1 false Fun.Participants p)
   participants p (compound1 a_partition t) q k h = by_made _ (so _ _ (ap is_partition q))
   participants p any_ty q k h = no k
   participants p _ q k h = no h
@@ -89,7 +100,8 @@ module _ (g : Names Ty) (x y : Text) where
   set-of s false r = is_another (ap not r)
 
   -- One operand of a word.
-  word-of : (f : Fun) (es : Exs) (t : Ty) → types_of es g ≡ map Some (t ∷ []) → has_members (type_of_op (word f) (t ∷ [])) ≡ true → is_truth_word f ≡ false → are_told g es ≡ true →
+  word-of : (f : Fun) (es : Exs) (t : Ty) → types_of es g ≡ map Some (t ∷ []) → has_members (type_of_op (word f) (t ∷ [])) ≡ true →
+      is_truth_word f ≡ false → are_told g es ≡ true →
       Has (node_ex false (word f) es)
   word-of Fun.Sum es t q h k m = no (then-none (λ e. fit e int_ty int_ty) (λ z. fit-none int_ty refl (join z int_ty)) (list_ty t) h)
   word-of Fun.Product es t q h k m = no (then-none (λ e. fit e int_ty int_ty) (λ z. fit-none int_ty refl (join z int_ty)) (list_ty t) h)
@@ -113,17 +125,22 @@ module _ (g : Names Ty) (x y : Text) where
   word-of Fun.PreImage es t q h k m = no h
 
   -- The arguments of a result.
-  image : (f b : Ex) (t u : Ty) → type_of f g ≡ Some t → is_told (Some t) ≡ true → has_members (and_then (join t (compound2 a_function any_ty u)) arguments_ty) ≡ true →
+  image : (f b : Ex) (t u : Ty) → type_of f g ≡ Some t → is_told (Some t) ≡ true →
+      has_members (and_then (join t (compound2 a_function any_ty u)) arguments_ty) ≡ true →
       Has (node_ex false (word Fun.PreImage) (more_exs f (more_exs b no_exs)))
   image f b (compound2 a_function a c) u r k h = by_made _ (of-function (type_of f g) _ a c r)
   image f b (compound1 a_function a) u r k h = no (short (join a any_ty) h)
     where
-      short : (o : Option Ty) → has_members (and_then (option_map (compound a_function) (and_then o (λ v. None))) arguments_ty) ≡ true → false ≡ true
+      short : (o : Option Ty) → has_members (and_then (option_map (compound a_function) (and_then o (λ v. None))) arguments_ty) ≡ true →
+          false ≡ true
       short None h = h
       short (Some v) h = h
   image f b (compound a_function (more_tys a (more_tys c (more_tys d ds)))) u r k h = no (long (join a any_ty) (join c u) h)
     where
-      long : (o p : Option Ty) → has_members (and_then (option_map (compound a_function) (and_then o (λ v. option_map (more_tys v) (and_then p (λ w. None))))) arguments_ty) ≡ true → false ≡ true
+      long : (o p : Option Ty) →
+          has_members (and_then
+          (option_map (compound a_function) (and_then o (λ v. option_map (more_tys v) (and_then p (λ w. None))))) arguments_ty) ≡ true →
+          false ≡ true
       long None p h = h
       long (Some v) None h = h
       long (Some v) (Some w) h = h
@@ -131,17 +148,20 @@ module _ (g : Names Ty) (x y : Text) where
   image f b _ u r k h = no h
 
   -- Two operands of a word.
-  words-of : (f : Fun) (es : Exs) (t u : Ty) → types_of es g ≡ map Some (t ∷ u ∷ []) → has_members (type_of_op (word f) (t ∷ u ∷ [])) ≡ true → is_truth_word f ≡ false → are_told g es ≡ true →
+  words-of : (f : Fun) (es : Exs) (t u : Ty) → types_of es g ≡ map Some (t ∷ u ∷ []) →
+      has_members (type_of_op (word f) (t ∷ u ∷ [])) ≡ true → is_truth_word f ≡ false → are_told g es ≡ true →
       Has (node_ex false (word f) es)
   words-of Fun.PreImage es t u q h k m = pair-of (word Fun.PreImage) es t u q m (λ f b r n.
-      let p = first-is (type_of f g) (type_of b g ∷ []) t (u ∷ []) r in image f b t u p (ap is_told (sym p) ∙ and-left (is_told (type_of f g)) _ n) h)
+      let p = first-is (type_of f g) (type_of b g ∷ []) t (u ∷ []) r in
+      image f b t u p (ap is_told (sym p) ∙ and-left (is_told (type_of f g)) _ n) h)
   words-of Fun.Freq es t u q h k m = no (fit-none int_ty refl (join t (compound1 a_mset u)) h)
   words-of Fun.Image es t u q h k m = is_another refl
   words-of Fun.Party es t u q h k m = is_another refl
   words-of Fun.Together es t u q h k m = no (sym k)
   words-of _ es t u q h k m = no h
 
-  word-has : (f : Fun) (es : Exs) (ts : List Ty) → types_of es g ≡ map Some ts → has_members (type_of_op (word f) ts) ≡ true → is_truth_word f ≡ false → are_told g es ≡ true →
+  word-has : (f : Fun) (es : Exs) (ts : List Ty) → types_of es g ≡ map Some ts → has_members (type_of_op (word f) ts) ≡ true →
+      is_truth_word f ≡ false → are_told g es ≡ true →
       Has (node_ex false (word f) es)
   word-has f es [] q h k m = no h
   word-has f es (t ∷ []) q h k m = word-of f es t q h k m
@@ -162,7 +182,8 @@ module _ (g : Names Ty) (x y : Text) where
   cell-none false (Some (named_ty a)) h = h
   cell-none false _ h = h
 
-  node-has : (op : Op) (es : Exs) → has_members (type_of (node_ex false op es) g) ≡ true → is_truth_op op ≡ false → are_told g es ≡ true → Has (node_ex false op es)
+  node-has : (op : Op) (es : Exs) → has_members (type_of (node_ex false op es) g) ≡ true → is_truth_op op ≡ false → are_told g es ≡ true →
+      Has (node_ex false op es)
   node-has (index qs) es h k m = is_another refl
   node-has application es h k m = is_another refl
   node-has (unary o) es h k m = let r = listed (types_of es g) (type_of_op (unary o)) h in no (unary-none o r.0 r.2 k)

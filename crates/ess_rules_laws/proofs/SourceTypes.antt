@@ -21,7 +21,8 @@ so true f h = refl
 so false f h = no h
 
 -- What is made of a type of functions.
-pub of-function : {A : Type 0} (o : Option Ty) (h : Ty → Ty → A) (t u : Ty) → o ≡ Some (compound2 a_function t u) → of_function o h ≡ Some (h t u)
+pub of-function : {A : Type 0} (o : Option Ty) (h : Ty → Ty → A) (t u : Ty) → o ≡ Some (compound2 a_function t u) →
+    of_function o h ≡ Some (h t u)
 of-function o h t u q = ap (λ z. of_function z h) q
 
 -- ---- types of operands
@@ -31,7 +32,8 @@ all-of [] ts q = ap (map Some) (ap list_or_none q)
 all-of (None ∷ os) ts q = cc
 all-of (Some t ∷ os) ts q = go (all_some os) q (λ us r. all-of os us r) refl
   where
-    go : (o : Option (List Ty)) → option_map (λ us. t ∷ us) o ≡ Some ts → ((us : List Ty) → all_some os ≡ Some us → os ≡ map Some us) → all_some os ≡ o →
+    go : (o : Option (List Ty)) → option_map (λ us. t ∷ us) o ≡ Some ts → ((us : List Ty) → all_some os ≡ Some us → os ≡ map Some us) →
+        all_some os ≡ o →
         Some t ∷ os ≡ map Some ts
     go None q f r = cc
     go (Some us) q f r = ap (λ z. Some t ∷ z) (f us r) ∙ ap (map Some) (ap list_or_none q)
@@ -41,7 +43,8 @@ pub listed : (os : List (Option Ty)) (F : List Ty → Option Ty) → has_members
     (ts : List Ty) × (os ≡ map Some ts) × (has_members (F ts) ≡ true)
 listed os F h = go (all_some os) refl h
   where
-    go : (o : Option (List Ty)) → all_some os ≡ o → has_members (and_then o F) ≡ true → (ts : List Ty) × (os ≡ map Some ts) × (has_members (F ts) ≡ true)
+    go : (o : Option (List Ty)) → all_some os ≡ o → has_members (and_then o F) ≡ true →
+        (ts : List Ty) × (os ≡ map Some ts) × (has_members (F ts) ≡ true)
     go None q h = no h
     go (Some ts) q h = (ts, all-of os ts q, h)
 
@@ -67,7 +70,8 @@ of-subtracted (compound a_set ts) h = refl
 of-subtracted (compound a_relation ts) h = refl
 of-subtracted _ h = no h
 
-pub kind-kept : (k : Kind) (o : Option Tys) (v : Ty) → option_map (compound k) o ≡ Some v → united_ty v ≡ true → united_ty (compound k no_tys) ≡ true
+pub kind-kept : (k : Kind) (o : Option Tys) (v : Ty) → option_map (compound k) o ≡ Some v → united_ty v ≡ true →
+    united_ty (compound k no_tys) ≡ true
 kind-kept k None v q h = cc
 kind-kept k (Some ts) v q h = same-kind k ts (ap united_ty (ap (λ o. elim o [ Some t ↦ t | None ↦ any_ty ]) q) ∙ h)
   where
@@ -80,7 +84,8 @@ pub named-kept : (b : Bool) (a : Text) (v : Ty) → when b (named_ty a) ≡ Some
 named-kept true a v q h = ap united_ty (ap (λ o. elim o [ Some t ↦ t | None ↦ any_ty ]) q) ∙ h
 named-kept false a v q h = cc
 
-pub both-united : (t u v : Ty) → join t u ≡ Some v → united_ty v ≡ true → is_told (Some t) ≡ true → is_told (Some u) ≡ true → both_sets (Some t) (Some u) ≡ true
+pub both-united : (t u v : Ty) → join t u ≡ Some v → united_ty v ≡ true → is_told (Some t) ≡ true → is_told (Some u) ≡ true →
+    both_sets (Some t) (Some u) ≡ true
 both-united (compound a_set ts) (compound a_set us) v q h k l = refl
 both-united (compound a_relation ts) (compound a_relation us) v q h k l = refl
 both-united (compound a_tuple ts) (compound a_tuple us) v q h k l = no (kind-kept a_tuple _ v q h)
@@ -90,7 +95,10 @@ both-united (compound a_function ts) (compound a_function us) v q h k l = no (ki
 both-united (compound a_partition ts) (compound a_partition us) v q h k l = no (kind-kept a_partition _ v q h)
 both-united (compound (a_record fs) ts) (compound (a_record hs) us) v q h k l = no (records (same_kind (a_record fs) (a_record hs)) q)
   where
-    records : (b : Bool) → (if b then option_map (compound (a_record fs)) (if is_open (a_record fs) ts then Some us else (if is_open (a_record fs) us then Some ts else joins ts us)) else None) ≡ Some v → false ≡ true
+    records : (b : Bool) →
+        (if b then option_map (compound (a_record fs))
+        (if is_open (a_record fs) ts then Some us else (if is_open (a_record fs) us then Some ts else joins ts us)) else None) ≡ Some v →
+        false ≡ true
     records true q = kind-kept (a_record fs) _ v q h
     records false q = cc
 both-united (named_ty a) (named_ty b) v q h k l = no (named-kept (same_text a b) a v q h)
@@ -98,7 +106,8 @@ both-united bool_ty bool_ty v q h k l = no (ap united_ty (ap (λ o. elim o [ Som
 both-united int_ty int_ty v q h k l = no (ap united_ty (ap (λ o. elim o [ Some t ↦ t | None ↦ any_ty ]) q) ∙ h)
 both-united _ _ v q h k l = cc
 
-pub combined : (F : Ty → Option Ty) → ((t : Ty) → has_members (F t) ≡ true → united_ty t ≡ true) → (t u : Ty) → has_members (and_then (join t u) F) ≡ true →
+pub combined : (F : Ty → Option Ty) → ((t : Ty) → has_members (F t) ≡ true → united_ty t ≡ true) → (t u : Ty) →
+    has_members (and_then (join t u) F) ≡ true →
     is_told (Some t) ≡ true → is_told (Some u) ≡ true → both_sets (Some t) (Some u) ≡ true
 combined F f t u h k l = go (join t u) refl h
   where
@@ -112,7 +121,8 @@ pub fit-none : (r : Ty) → has_members (Some r) ≡ false → (o : Option Ty) �
 fit-none r q None h = h
 fit-none r q (Some v) h = sym q ∙ h
 
-pub then-none : (F : Ty → Option Ty) → ((t : Ty) → has_members (F t) ≡ true → false ≡ true) → (o : Option Ty) → has_members (and_then o F) ≡ true → false ≡ true
+pub then-none : (F : Ty → Option Ty) → ((t : Ty) → has_members (F t) ≡ true → false ≡ true) → (o : Option Ty) →
+    has_members (and_then o F) ≡ true → false ≡ true
 then-none F f None h = h
 then-none F f (Some t) h = f t h
 
@@ -149,7 +159,8 @@ numbers t u h = then-none (λ z. fit z int_ty int_ty) (λ z. fit-none int_ty ref
 
 -- Both operands are sets or relations.
 pub sets : (g : Names Ty) (F : Ty → Option Ty) → ((t : Ty) → has_members (F t) ≡ true → united_ty t ≡ true) → (a b : Ex) (t u : Ty) →
-    type_of a g ∷ type_of b g ∷ [] ≡ map Some (t ∷ u ∷ []) → has_members (and_then (join t u) F) ≡ true → are_told g (more_exs a (more_exs b no_exs)) ≡ true →
+    type_of a g ∷ type_of b g ∷ [] ≡ map Some (t ∷ u ∷ []) → has_members (and_then (join t u) F) ≡ true →
+    are_told g (more_exs a (more_exs b no_exs)) ≡ true →
     both_sets (type_of a g) (type_of b g) ≡ true
 sets g F f a b t u q h m =
     let p = first-is (type_of a g) (type_of b g ∷ []) t (u ∷ []) q in

@@ -34,7 +34,8 @@ long-head v vs (l ∷ ls) vss h = (ap suc h.0, long-head v vs ls vss h.1)
 
 long-heads : (us vs : List Value) (ls vss : List (List Value)) → Long ls vss → Long (add_heads us ls) (vs ∷ vss)
 long-heads [] vs ls vss h = tt
-long-heads (u ∷ us) vs ls vss h = long-append (map (λ l. u ∷ l) ls) (add_heads us ls) (vs ∷ vss) (long-head u vs ls vss h) (long-heads us vs ls vss h)
+long-heads (u ∷ us) vs ls vss h = long-append (map (λ l. u ∷ l) ls) (add_heads us ls) (vs ∷ vss) (long-head u vs ls vss h)
+    (long-heads us vs ls vss h)
 
 lists-long : (vss : List (List Value)) → Long (lists_of vss) vss
 lists-long [] = (refl, tt)
@@ -43,7 +44,8 @@ lists-long (vs ∷ vss) = long-heads vs vs (lists_of vss) vss (lists-long vss)
 -- ---- names that are bound to the items of a list
 
 -- A name that is none of these keeps its value.
-look-kept : (ys : List Text) (l : List Value) (g : Names Value) (a : Text) → has_text ys a ≡ false → look (bind_all (named_pats ys) l g) a ≡ look g a
+look-kept : (ys : List Text) (l : List Value) (g : Names Value) (a : Text) → has_text ys a ≡ false →
+    look (bind_all (named_pats ys) l g) a ≡ look g a
 look-kept [] l g a h = refl
 look-kept (y ∷ ys) [] g a h = look-kept ys [] ((y, misfit) ∷ g) a (or-right-no (same_text y a) (has_text ys a) h)
     ∙ ap (λ b. if b then Some misfit else look g a) (or-left-no (same_text y a) (has_text ys a) h)
@@ -57,18 +59,22 @@ names-have [] no_doms [] env g h n = refl
 names-have [] no_doms (v ∷ l) env g h n = absurd (let z : suc (length l) ≡ zero = n in omega arith)
 names-have (y ∷ ys) (more_doms d ds) [] env g h n = absurd (let z : zero ≡ suc (length ys) = n in omega arith)
 names-have (y ∷ ys) (more_doms d ds) (v ∷ l) env g h n =
-    ap (λ o. and_then o (λ x. option_map (λ xs. x ∷ xs) (all_some (meanings (named_exs ys) (record env { vals = bind_all (named_pats ys) l ((y, v) ∷ g) })))))
+    ap (λ o. and_then o (λ x. option_map (λ xs. x ∷ xs)
+    (all_some (meanings (named_exs ys) (record env { vals = bind_all (named_pats ys) l ((y, v) ∷ g) })))))
     (look-kept ys l ((y, v) ∷ g) y (not-true (has_text ys y) (and-left (not (has_text ys y)) (are_names ys ds) h)) ∙ look-itself y v g)
-    ∙ ap (option_map (λ xs. v ∷ xs)) (names-have ys ds l env ((y, v) ∷ g) (and-right (not (has_text ys y)) (are_names ys ds) h) (omega arith))
+    ∙ ap (option_map (λ xs. v ∷ xs))
+    (names-have ys ds l env ((y, v) ∷ g) (and-right (not (has_text ys y)) (are_names ys ds) h) (omega arith))
 names-have [] (more_doms d ds) l env g h n = cc
 names-have (y ∷ ys) no_doms l env g h n = cc
 
 -- ---- members of a tuple of domains
 
 -- As many domains as there are names.
-as-many : (ys : List Text) (ds : Doms) (env : Env) (e : Domains) (vss : List (List Value)) → are_names ys ds ≡ true → domains_of ds env ≡ Some e → all_some (members_of_each e) ≡ Some vss →
+as-many : (ys : List Text) (ds : Doms) (env : Env) (e : Domains) (vss : List (List Value)) → are_names ys ds ≡ true →
+    domains_of ds env ≡ Some e → all_some (members_of_each e) ≡ Some vss →
     length vss ≡ length ys
-as-many [] no_doms env e vss h q k = ap length (sym (ap list_or_none (ap (λ o. all_some (members_of_each (elim o [ Some z ↦ z | None ↦ no_domains ]))) q ∙ k)))
+as-many [] no_doms env e vss h q k = ap length
+    (sym (ap list_or_none (ap (λ o. all_some (members_of_each (elim o [ Some z ↦ z | None ↦ no_domains ]))) q ∙ k)))
 as-many (y ∷ ys) (more_doms d ds) env e vss h q k = go (domain_of d env) (domains_of ds env) refl q
     (λ z us r t. as-many ys ds env z us (and-right (not (has_text ys y)) (are_names ys ds) h) r t)
   where
@@ -79,7 +85,8 @@ as-many (y ∷ ys) (more_doms d ds) env e vss h q k = go (domain_of d env) (doma
     inner (Some vs) (Some us) r w = ap length (sym (ap list_or_none w)) ∙ ap suc (r us refl)
 
     go : (o : Option Domain) (p : Option Domains) → domains_of ds env ≡ p → and_then o (λ x. option_map (more_domains x) p) ≡ Some e →
-        ((z : Domains) (us : List (List Value)) → domains_of ds env ≡ Some z → all_some (members_of_each z) ≡ Some us → length us ≡ length ys) → length vss ≡ suc (length ys)
+        ((z : Domains) (us : List (List Value)) → domains_of ds env ≡ Some z → all_some (members_of_each z) ≡ Some us →
+        length us ≡ length ys) → length vss ≡ suc (length ys)
     go None p r q f = cc
     go (Some x) None r q f = cc
     go (Some x) (Some z) r q f =
@@ -100,10 +107,13 @@ module _ (ys : List Text) (ds : Doms) (env : Env) (h : are_names ys ds ≡ true)
   -- The tuple of the names is the tuple that the pattern was bound to.
   item-is : (l : List Value) → length l ≡ length ys → At (tuple (of_list l)) ≡ Some (tuple (of_list l) ∷ [])
   item-is l n =
-      ap (λ us. option_map (λ w. w ∷ []) (and_then (all_some (meanings (named_exs ys) (record env { vals = bind_all (named_pats ys) us env.vals }))) (value_of_op tuple_literal))) (to_list-of_list l)
+      ap (λ us. option_map (λ w. w ∷ [])
+      (and_then (all_some (meanings (named_exs ys) (record env { vals = bind_all (named_pats ys) us env.vals })))
+      (value_of_op tuple_literal))) (to_list-of_list l)
       ∙ ap (λ o. option_map (λ w. w ∷ []) (and_then o (value_of_op tuple_literal))) (names-have ys ds l env env.vals h n)
 
-  collect-tuples : (ls vss : List (List Value)) → Long ls vss → length vss ≡ length ys → collect (map (λ l. tuple (of_list l)) ls) At ≡ Some (map (λ l. tuple (of_list l)) ls)
+  collect-tuples : (ls vss : List (List Value)) → Long ls vss → length vss ≡ length ys →
+      collect (map (λ l. tuple (of_list l)) ls) At ≡ Some (map (λ l. tuple (of_list l)) ls)
   collect-tuples [] vss k n = refl
   collect-tuples (l ∷ ls) vss k n =
       ap (λ o. and_then o (λ xs. option_map (λ zs. xs ++ zs) (collect (map (λ l. tuple (of_list l)) ls) At))) (item-is l (k.0 ∙ n))
@@ -114,11 +124,13 @@ module _ (ys : List Text) (ds : Doms) (env : Env) (h : are_names ys ds ≡ true)
   members-are = go (domains_of ds env) refl
     where
       at : (e : Domains) (p : Option (List (List Value))) → (all_some (members_of_each e) ≡ p) → domains_of ds env ≡ Some e →
-          and_then (option_map (λ ls. map (λ l. tuple (of_list l)) (lists_of ls)) p) (λ vs. collect vs At) ≡ option_map (λ ls. map (λ l. tuple (of_list l)) (lists_of ls)) p
+          and_then (option_map (λ ls. map (λ l. tuple (of_list l)) (lists_of ls)) p) (λ vs. collect vs At)
+          ≡ option_map (λ ls. map (λ l. tuple (of_list l)) (lists_of ls)) p
       at e None k q = refl
       at e (Some vss) k q = collect-tuples (lists_of vss) vss (lists-long vss) (as-many ys ds env e vss h q k)
 
-      go : (o : Option Domains) → domains_of ds env ≡ o → and_then (members_in (option_map tuples o)) (λ vs. collect vs At) ≡ members_in (option_map tuples o)
+      go : (o : Option Domains) → domains_of ds env ≡ o →
+          and_then (members_in (option_map tuples o)) (λ vs. collect vs At) ≡ members_in (option_map tuples o)
       go None q = refl
       go (Some e) q = at e (all_some (members_of_each e)) refl q
 
@@ -131,7 +143,8 @@ names-met [] env = tt
 names-met (y ∷ ys) env = (tt, names-met ys env)
 
 -- The items of a list of the values.
-through : (o : Option (List Value)) (F : Value → Option (List Value)) → and_then (option_map list_value o) (λ s. collect (items_of s) F) ≡ and_then o (λ vs. collect vs F)
+through : (o : Option (List Value)) (F : Value → Option (List Value)) →
+    and_then (option_map list_value o) (λ s. collect (items_of s) F) ≡ and_then o (λ vs. collect vs F)
 through None F = refl
 through (Some vs) F = ap (λ l. collect l F) (to_list-of_list vs)
 
@@ -145,8 +158,11 @@ each-of-any (Some vs) P f = each-any vs P f
 
 names-answer : (ys : List Text) (e : Ex) (env : Env) → AnswerKeeps (name_over_tuple ys e) e env
 names-answer ys (comp_ex e (over (name_pat x) (tuple_dom ds) hs)) env =
-    when-so (are_names ys ds) (comp_ex e (from (name_pat x) (tuples_over ys ds) hs)) (comp_ex e (over (name_pat x) (tuple_dom ds) hs)) env (λ h m. (
-      ap (option_map list_value) (sym (ap (λ o. and_then o (λ s. collect (items_of s) F)) (tuples-mean ys ds env h) ∙ through (members_in (domain_of (tuple_dom ds) env)) F)),
+    when-so (are_names ys ds) (comp_ex e (from (name_pat x) (tuples_over ys ds) hs)) (comp_ex e (over (name_pat x) (tuple_dom ds) hs)) env
+    (λ h m. (
+      ap (option_map list_value)
+          (sym (ap (λ o. and_then o (λ s. collect (items_of s) F)) (tuples-mean ys ds env h)
+          ∙ through (members_in (domain_of (tuple_dom ds) env)) F)),
       (
         (m.0, each-of-any (members_in (domain_of (tuple_dom ds) env)) _ (λ v. names-met ys (with_pat (tuple_pat (named_pats ys)) v env))),
         subst (λ o. EachIn o (λ v. MeetsGens hs (with_pat (name_pat x) v env) (λ here. Meets e here))) (sym (tuples-mean ys ds env h))

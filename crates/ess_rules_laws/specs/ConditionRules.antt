@@ -33,7 +33,8 @@ fold_condition s e = None
 -- fold where the condition is true, and the tables meet the structures of s.
 abbrev pub ConditionFits : Ex → Ex → Env → Type 0
 ConditionFits s (fun1 false f (comp_ex e (cond c hs))) env =
-    IsTruth (meaning c env) × IsNumber (meaning s env) × WhenTrue (meaning c env) (meaning s env ≡ meaning (fun1 false f (comp_ex e hs)) env) × Meets s env
+    IsTruth (meaning c env) × IsNumber (meaning s env) ×
+    WhenTrue (meaning c env) (meaning s env ≡ meaning (fun1 false f (comp_ex e hs)) env) × Meets s env
 ConditionFits s e env = Unit {0}
 
 -- So folds keep what they rewrite: one within the other where the whole comprehension has a value, both ways.

@@ -53,6 +53,7 @@ range_as_set g x e = None
 
 -- Where a term is there it offers its alternatives; and the set of results is what it is written as.
 pub record MadeListingsList : Type 0 where
-  pub offers : (g : Names Ty) (x y : Text) (e : Ex) (l : List Alternative) → made_listing g x y e ≡ Some l → Unused x e → SoundOperands g e →
+  pub offers : (g : Names Ty) (x y : Text) (e : Ex) (l : List Alternative) → made_listing g x y e ≡ Some l → Unused x e →
+      SoundOperands g e →
       (env : Env) → Typed g env → IsTrue (is_some (meaning e env)) → Meets e env → Offers e l env
   pub results : RuleKeepsTyped range_as_set

@@ -63,9 +63,11 @@ is_matrix t = false
 -- Of a matrix `a = []` and `[] = a` are `!(or([true | x <- a]))`.
 abbrev pub equal_to_nothing : Names Ty → Text → Ex → Option Ex
 equal_to_nothing g x (ex2 true Op2.Eq a (node_ex false matrix_literal no_exs)) =
-    if is_matrix (type_of a g) then Some (ex1 true Op1.Not (fun1 true Fun.Or (comp_ex (truth_ex true) (from (name_pat x) a no_gens)))) else None
+    if is_matrix (type_of a g) then Some
+    (ex1 true Op1.Not (fun1 true Fun.Or (comp_ex (truth_ex true) (from (name_pat x) a no_gens)))) else None
 equal_to_nothing g x (ex2 true Op2.Eq (node_ex false matrix_literal no_exs) a) =
-    if is_matrix (type_of a g) then Some (ex1 true Op1.Not (fun1 true Fun.Or (comp_ex (truth_ex true) (from (name_pat x) a no_gens)))) else None
+    if is_matrix (type_of a g) then Some
+    (ex1 true Op1.Not (fun1 true Fun.Or (comp_ex (truth_ex true) (from (name_pat x) a no_gens)))) else None
 equal_to_nothing g x e = None
 
 -- ---- what they count on
@@ -92,5 +94,6 @@ pub record MatrixRulesKeep : Type 0 where
       same_text y x ≡ false → Unused x e → UnusedDom x d → UnusedDom x c → SoundOperands g e →
       (env : Env) → Typed g env → OperandsThere e env → BothIndexed d c e env → Keeps e f env
   pub with_nothing : RuleKeepsTypedThere equal_to_nothing
-  pub lists_are_indexed : (n l : Ex) (env : Env) → is_laid_open l ≡ true → IsTrue (is_some (meaning l env)) → CountsItems n l env → Meets n env →
+  pub lists_are_indexed : (n l : Ex) (env : Env) → is_laid_open l ≡ true → IsTrue (is_some (meaning l env)) → CountsItems n l env →
+      Meets n env →
       IndexedBy l (slots_dom n) env

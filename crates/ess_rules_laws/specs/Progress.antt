@@ -128,4 +128,5 @@ has_members (Some t) = is_some (member_ty t)
 
 -- So each term whose type has members has a listing, or is left.
 abbrev pub SourcesHaveListings : Type 0
-SourcesHaveListings = (g : Names Ty) (x y : Text) (e : Ex) → has_members (type_of e g) ≡ true → is_plain_source g e ≡ true → HasMembers g x y e
+SourcesHaveListings = (g : Names Ty) (x y : Text) (e : Ex) → has_members (type_of e g) ≡ true → is_plain_source g e ≡ true →
+    HasMembers g x y e
