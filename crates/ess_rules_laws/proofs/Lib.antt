@@ -87,3 +87,5 @@ pub mod NamesStay
 pub mod LooseRules
 pub mod NamesOfRules
 pub mod TupleNames
+pub mod ChoiceRules
+pub mod ExamplesTupleNames

@@ -33,3 +33,4 @@ pub mod NamesStay
 pub mod LooseRules
 pub mod NamesOfRules
 pub mod TupleNames
+pub mod ChoiceRules

@@ -10,6 +10,7 @@ ghost use Rattle.ess_rules_laws.specs.NamesStay.{NamesStay};
 ghost use Rattle.ess_rules_laws.specs.LooseRules.{LooseFoldsKeep};
 ghost use Rattle.ess_rules_laws.specs.NamesOfRules.{RulesAddNoNames};
 ghost use Rattle.ess_rules_laws.specs.TupleNames.{NamesOverTuplesKeep};
+ghost use Rattle.ess_rules_laws.specs.ChoiceRules.{ChoicesKeep};
 
 /// The rule of `=` between partitions keeps what it rewrites: each part of one lies in a part of the other.
 pub fn partition_rules_keep()
@@ -71,4 +72,9 @@ pub fn rules_add_no_names()
 /// A name over a tuple of domains may run over the tuples of new names over the components.
 pub fn names_over_tuples_keep()
     ensures { NamesOverTuplesKeep }
+{}
+
+/// A product of numbers that conditions choose is one that both choose, and such a number times one is itself.
+pub fn choices_keep()
+    ensures { ChoicesKeep }
 {}
