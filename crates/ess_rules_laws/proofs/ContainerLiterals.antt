@@ -30,7 +30,8 @@ there (Some v) W t = (v, refl)
 
 -- ---- literals
 
-pub some-all : (os : List (Option Value)) → is_some (all_some os) ≡ true → list_all is_some os ≡ true
+-- Where all values are there each is.
+some-all : (os : List (Option Value)) → is_some (all_some os) ≡ true → list_all is_some os ≡ true
 some-all [] t = refl
 some-all (None ∷ os) t = cc
 some-all (Some x ∷ os) t = some-all os (go (all_some os) t)
@@ -40,7 +41,7 @@ some-all (Some x ∷ os) t = some-all os (go (all_some os) t)
     go (Some xs) t = refl
 
 -- The items of a literal that is there are.
-pub items-there : (os : List (Option Value)) (h : List Value → Option Value) → is_some (and_then (all_some os) h) ≡ true →
+items-there : (os : List (Option Value)) (h : List Value → Option Value) → is_some (and_then (all_some os) h) ≡ true →
     list_all is_some os ≡ true
 items-there os h t = some-all os (go (all_some os) t)
   where
@@ -49,13 +50,14 @@ items-there os h t = some-all os (go (all_some os) t)
     go (Some xs) t = refl
 
 -- Where a literal has a value with these items sorted, it lists each once.
-pub firsts-offer : (e : Ex) (es : Exs) (env : Env) (s : Value) → list_all is_some (meanings es env) ≡ true → meaning e env ≡ Some s →
+firsts-offer : (e : Ex) (es : Exs) (env : Env) (s : Value) → list_all is_some (meanings es env) ≡ true → meaning e env ≡ Some s →
     items_of s ≡ sorted_once (values (meanings es env)) →
     Lists e (each_first [] es) env
 firsts-offer e es env s t j q =
     subst (λ z. SameLists z (all_listed (each_first [] es) env)) (sym (ap (option_map items_of) j)) (firsts-list es env s t q)
 
-pub function-made : (xs : List Value) → is_some (function_of xs) ≡ true → function_of xs ≡ Some (node a_function (of_list (sorted_once xs)))
+-- A function literal that has a value has its pairs, each once.
+function-made : (xs : List Value) → is_some (function_of xs) ≡ true → function_of xs ≡ Some (node a_function (of_list (sorted_once xs)))
 function-made xs t = go (not (has_double_argument xs)) t
   where
     go : (b : Bool) → is_some (when b (node a_function (of_list (sorted_once xs)))) ≡ true →
@@ -63,7 +65,8 @@ function-made xs t = go (not (has_double_argument xs)) t
     go true t = refl
     go false t = cc
 
-pub partition-made : (xs : List Value) → is_some (partition_of xs) ≡ true →
+-- A partition literal that has a value has its parts, which differ.
+partition-made : (xs : List Value) → is_some (partition_of xs) ≡ true →
     (partition_of xs ≡ Some (node a_partition (of_list (sorted_once xs)))) × Distinct xs
 partition-made xs t = go (not (has_empty_part xs)) refl (not (has_overlap xs)) refl t
   where
@@ -75,10 +78,11 @@ partition-made xs t = go (not (has_empty_part xs)) refl (not (has_overlap xs)) r
     go false q c r t = cc
 
 -- The same from the values of operands.
-pub literal-means : (os : List (Option Value)) (h : List Value → Option Value) → list_all is_some os ≡ true →
+literal-means : (os : List (Option Value)) (h : List Value → Option Value) → list_all is_some os ≡ true →
     and_then (all_some os) h ≡ h (values os)
 literal-means os h t = ap (λ o. and_then o h) (all-there os t)
 
+-- A function literal that is there offers each pair once.
 pub function-literal : (x : Text) (es : Exs) (env : Env) → Unused x (node_ex false set_literal es) →
     is_some (meaning (node_ex false function_literal es) env) ≡ true → Meets (node_ex false function_literal es) env →
     Offers (node_ex false function_literal es) (each_first [] es) env
@@ -92,6 +96,7 @@ function-literal x es env new t m =
       met = listings-met [] x (node_ex false set_literal es) (each_first [] es) refl new env m;
     }
 
+-- A partition literal that is there offers its parts.
 pub partition-literal : (x : Text) (es : Exs) (env : Env) → Unused x (node_ex false set_literal es) →
     is_some (meaning (node_ex false partition_literal es) env) ≡ true → Meets (node_ex false partition_literal es) env →
     Offers (node_ex false partition_literal es) (each_item es) env

@@ -15,7 +15,7 @@ use Rattle.ess_rules_laws.proofs.ListedItems.{count-sorted_once}
 -- ---- lists without repeats
 
 -- A list without repeats has each value once or not at all.
-pub count-distinct : (xs : List Value) (v : Value) → Distinct xs → count xs v ≡ (if holds xs v then 1 else 0)
+count-distinct : (xs : List Value) (v : Value) → Distinct xs → count xs v ≡ (if holds xs v then 1 else 0)
 count-distinct [] v d = refl
 count-distinct (x ∷ xs) v d = go (same x v) refl (count-distinct xs v d.1)
   where
@@ -29,7 +29,7 @@ pub sorted-counts : (xs : List Value) → Distinct xs → (v : Value) → count 
 sorted-counts xs d v = count-sorted_once xs v ∙ sym (count-distinct xs v d)
 
 -- What a list lacks, a part of it lacks.
-pub absent-filtered : (c : Value → Value) (q : Value → Bool) (ps : List Value) (v : Value) → holds (map c ps) v ≡ false →
+absent-filtered : (c : Value → Value) (q : Value → Bool) (ps : List Value) (v : Value) → holds (map c ps) v ≡ false →
     holds (map c (filter q ps)) v ≡ false
 absent-filtered c q [] v h = refl
 absent-filtered c q (p ∷ ps) v h =

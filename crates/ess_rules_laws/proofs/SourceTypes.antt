@@ -13,9 +13,11 @@ use Rattle.ess_rules_laws.specs.InclusionRules.{both_sets}
 use Rattle.ess_rules_laws.specs.ContainerListings.{of_function}
 use Rattle.ess_rules_laws.specs.Progress.{is_told, are_told, has_members}
 
+-- From what can not be.
 pub no : {A : Type 0} → false ≡ true → A
 no h = cc
 
+-- An answer under a test that holds.
 pub so : {A : Type 0} (c : Bool) (f : A) → c ≡ true → (if c then Some f else None) ≡ Some f
 so true f h = refl
 so false f h = no h
@@ -27,7 +29,8 @@ of-function o h t u q = ap (λ z. of_function z h) q
 
 -- ---- types of operands
 
-pub all-of : (os : List (Option Ty)) (ts : List Ty) → all_some os ≡ Some ts → os ≡ map Some ts
+-- Values that are all there are these.
+all-of : (os : List (Option Ty)) (ts : List Ty) → all_some os ≡ Some ts → os ≡ map Some ts
 all-of [] ts q = ap (map Some) (ap list_or_none q)
 all-of (None ∷ os) ts q = cc
 all-of (Some t ∷ os) ts q = go (all_some os) q (λ us r. all-of os us r) refl
@@ -48,6 +51,7 @@ listed os F h = go (all_some os) refl h
     go None q h = no h
     go (Some ts) q h = (ts, all-of os ts q, h)
 
+-- The first of the values.
 abbrev pub first-of : (os : List (Option Ty)) → Option Ty
 first-of [] = None
 first-of (o ∷ os) = o
@@ -55,22 +59,25 @@ first-of (o ∷ os) = o
 -- ---- unions, intersections, differences
 
 -- Whether the type is of sets or of relations.
-abbrev pub united_ty : Ty → Bool
+abbrev united_ty : Ty → Bool
 united_ty (compound a_set ts) = true
 united_ty (compound a_relation ts) = true
 united_ty t = false
 
+-- Only sets and relations can be united.
 pub of-united : (t : Ty) → has_members (united t) ≡ true → united_ty t ≡ true
 of-united (compound a_set ts) h = refl
 of-united (compound a_relation ts) h = refl
 of-united _ h = no h
 
+-- Only sets and relations, and numbers, can be subtracted, and numbers have no members.
 pub of-subtracted : (t : Ty) → has_members (subtracted t) ≡ true → united_ty t ≡ true
 of-subtracted (compound a_set ts) h = refl
 of-subtracted (compound a_relation ts) h = refl
 of-subtracted _ h = no h
 
-pub kind-kept : (k : Kind) (o : Option Tys) (v : Ty) → option_map (compound k) o ≡ Some v → united_ty v ≡ true →
+-- Types of one kind agree in a type of that kind.
+kind-kept : (k : Kind) (o : Option Tys) (v : Ty) → option_map (compound k) o ≡ Some v → united_ty v ≡ true →
     united_ty (compound k no_tys) ≡ true
 kind-kept k None v q h = cc
 kind-kept k (Some ts) v q h = same-kind k ts (ap united_ty (ap (λ o. elim o [ Some t ↦ t | None ↦ any_ty ]) q) ∙ h)
@@ -80,11 +87,13 @@ kind-kept k (Some ts) v q h = same-kind k ts (ap united_ty (ap (λ o. elim o [ S
     same-kind a_relation ts h = refl
     same-kind _ ts h = no h
 
-pub named-kept : (b : Bool) (a : Text) (v : Ty) → when b (named_ty a) ≡ Some v → united_ty v ≡ true → false ≡ true
+-- Named types agree in a named type.
+named-kept : (b : Bool) (a : Text) (v : Ty) → when b (named_ty a) ≡ Some v → united_ty v ≡ true → false ≡ true
 named-kept true a v q h = ap united_ty (ap (λ o. elim o [ Some t ↦ t | None ↦ any_ty ]) q) ∙ h
 named-kept false a v q h = cc
 
-pub both-united : (t u v : Ty) → join t u ≡ Some v → united_ty v ≡ true → is_told (Some t) ≡ true → is_told (Some u) ≡ true →
+-- Two types that agree in one of sets or of relations are both so.
+both-united : (t u v : Ty) → join t u ≡ Some v → united_ty v ≡ true → is_told (Some t) ≡ true → is_told (Some u) ≡ true →
     both_sets (Some t) (Some u) ≡ true
 both-united (compound a_set ts) (compound a_set us) v q h k l = refl
 both-united (compound a_relation ts) (compound a_relation us) v q h k l = refl
@@ -106,7 +115,8 @@ both-united bool_ty bool_ty v q h k l = no (ap united_ty (ap (λ o. elim o [ Som
 both-united int_ty int_ty v q h k l = no (ap united_ty (ap (λ o. elim o [ Some t ↦ t | None ↦ any_ty ]) q) ∙ h)
 both-united _ _ v q h k l = cc
 
-pub combined : (F : Ty → Option Ty) → ((t : Ty) → has_members (F t) ≡ true → united_ty t ≡ true) → (t u : Ty) →
+-- The same of the types of two operands that may be combined.
+combined : (F : Ty → Option Ty) → ((t : Ty) → has_members (F t) ≡ true → united_ty t ≡ true) → (t u : Ty) →
     has_members (and_then (join t u) F) ≡ true →
     is_told (Some t) ≡ true → is_told (Some u) ≡ true → both_sets (Some t) (Some u) ≡ true
 combined F f t u h k l = go (join t u) refl h
@@ -117,26 +127,31 @@ combined F f t u h k l = go (join t u) refl h
 
 -- ---- types without members
 
+-- A type of no members has none.
 pub fit-none : (r : Ty) → has_members (Some r) ≡ false → (o : Option Ty) → has_members (option_map (λ v. r) o) ≡ true → false ≡ true
 fit-none r q None h = h
 fit-none r q (Some v) h = sym q ∙ h
 
+-- The same where the type comes of another one.
 pub then-none : (F : Ty → Option Ty) → ((t : Ty) → has_members (F t) ≡ true → false ≡ true) → (o : Option Ty) →
     has_members (and_then o F) ≡ true → false ≡ true
 then-none F f None h = h
 then-none F f (Some t) h = f t h
 
-pub chosen-none : (t : Ty) → has_members (chosen_ty t) ≡ true → false ≡ true
+-- What `min` and `max` choose among has no members.
+chosen-none : (t : Ty) → has_members (chosen_ty t) ≡ true → false ≡ true
 chosen-none int_ty h = h
 chosen-none (named_ty a) h = h
 chosen-none any_ty h = h
 chosen-none _ h = h
 
+-- So it is with the type of a least or greatest member.
 pub extreme-none : (t : Ty) → has_members (extreme_ty t) ≡ true → false ≡ true
 extreme-none (compound1 a_set e) h = chosen-none e h
 extreme-none (compound1 a_mset e) h = chosen-none e h
 extreme-none t h = then-none chosen_ty chosen-none (list_ty t) h
 
+-- A size has no members.
 pub sized-none : (t : Ty) → has_members (sized t) ≡ true → false ≡ true
 sized-none int_ty h = h
 sized-none any_ty h = h
@@ -150,7 +165,8 @@ sized-none _ h = h
 pub first-is : (o : Option Ty) (os : List (Option Ty)) (t : Ty) (ts : List Ty) → o ∷ os ≡ map Some (t ∷ ts) → o ≡ Some t
 first-is o os t ts q = ap first-of q
 
-pub rest-is : (o : Option Ty) (os : List (Option Ty)) (t : Ty) (ts : List Ty) → o ∷ os ≡ map Some (t ∷ ts) → os ≡ map Some ts
+-- The types of the other operands.
+rest-is : (o : Option Ty) (os : List (Option Ty)) (t : Ty) (ts : List Ty) → o ∷ os ≡ map Some (t ∷ ts) → os ≡ map Some ts
 rest-is o os t ts q = ap tail_of q
 
 -- Numbers have no members.
