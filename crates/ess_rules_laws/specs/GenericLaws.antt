@@ -1,4 +1,4 @@
--- The laws of the generic rules on partitions and matrices, on listings made of other terms, and on folds under conditions.
+-- The law of the rule of `=` between partitions. The laws of the other generic rules stand beside their definitions.
 use Rattle.ess_rules_laws.specs.Rules.{RuleKeepsTyped}
 use Rattle.ess_rules_laws.specs.PartitionRules.{equal_parts}
 
