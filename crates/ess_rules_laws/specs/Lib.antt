@@ -22,3 +22,15 @@ pub mod SetListings
 pub mod ListedSources
 pub mod PartLookups
 pub mod SlotListings
+pub mod PartitionRules
+pub mod GenericLaws
+pub mod MatrixRules
+pub mod ConditionRules
+pub mod ContainerListings
+pub mod ListRules
+pub mod Progress
+pub mod NamesStay
+pub mod LooseRules
+pub mod NamesOfRules
+pub mod TupleNames
+pub mod ChoiceRules
