@@ -69,3 +69,4 @@ pub mod FlagsListing
 pub mod MarkerListing
 pub mod OccurrencesInOrder
 pub mod MatrixViews
+pub mod IndexSteps

@@ -22,3 +22,5 @@ pub mod SetListings
 pub mod ListedSources
 pub mod PartLookups
 pub mod SlotListings
+pub mod IndexSteps
+pub mod ViewLaws
