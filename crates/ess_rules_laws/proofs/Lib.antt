@@ -70,3 +70,8 @@ pub mod MarkerListing
 pub mod OccurrencesInOrder
 pub mod MatrixViews
 pub mod IndexSteps
+pub mod FunctionCells
+pub mod Results
+pub mod FunctionViewParts
+pub mod FunctionResults
+pub mod FunctionViews

@@ -23,4 +23,5 @@ pub mod ListedSources
 pub mod PartLookups
 pub mod SlotListings
 pub mod IndexSteps
+pub mod FunctionViews
 pub mod ViewLaws
