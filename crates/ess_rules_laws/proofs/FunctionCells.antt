@@ -1,9 +1,9 @@
 -- A function kept by argument: what its tidy cells stand for, argument by argument.
-use Rattle.std.proofs.Common.{◌≡◌, refl, sym, ap, ◌∙◌, subst, Bool, true, false, ◌&&◌, if◌then◌else◌, List, [], ◌∷◌, map, length, suc, ℤ, Option, Some, None, option_map}
+use Rattle.std.proofs.Common.{◌≡◌, refl, sym, ap, ◌∙◌, subst, Bool, true, false, ◌&&◌, if◌then◌else◌, List, [], ◌∷◌, map, ℤ, Option, Some, None, option_map}
 use Rattle.std.specs.List.{list_all}
 use Rattle.ess_semantics.specs.declared.words.ReprKind.{ReprKind}
 use Rattle.ess_semantics.specs.Lists.{and_then, each_of, is_some_and}
-use Rattle.ess_semantics.specs.Values.{Value, from_of, to_of, pair, to_list, of_list}
+use Rattle.ess_semantics.specs.Values.{Value, from_of, to_of, pair}
 use Rattle.ess_semantics.specs.Collections.{rises}
 use Rattle.ess_semantics.specs.Trees.{Repr, repr, no_reprs, more_reprs}
 use Rattle.ess_semantics.specs.Domains.{Attribute, Domain, functions, lists_of, member_list}
@@ -79,7 +79,7 @@ module _ (k : ReprKind) (r : Repr) (ks : List Attribute) (d c : Domain) (index :
       go (Some v) None j q h k = cc
       go (Some v) (Some us) j q h k = let e : v ∷ us ≡ vs = cc in
           let g : list_all (is_pair_in d c) (with_arguments (y ∷ ys) (v ∷ us)) ≡ true =
-              ap (λ l. list_all (is_pair_in d c) (with_arguments (y ∷ ys) l)) e ∙ h in
+          ap (λ l. list_all (is_pair_in d c) (with_arguments (y ∷ ys) l)) e ∙ h in
           subst (λ l. list_all (member c) l ≡ true) e
           (both (member c v) (list_all (member c) us) (and-right (member d y) _ (and-left _ _ g))
           (k us j (and-right (is_pair_in d c (pair y v)) _ g)))
@@ -152,8 +152,12 @@ module _ (k : ReprKind) (r : Repr) (ks : List Attribute) (d c : Domain) (index :
         go : (o : Option (List Value)) → Chosen ≡ o → Orderly (partial_layer ks axes index d c) cs (places_in_use (partial_layer ks axes index d c) Own) ≡ true →
             (ys : List Value) × (Chosen ≡ Some ys) × FunctionStands cs ys
         go None q m = no (sym (ap (Orderly (partial_layer ks axes index d c) cs) (places ∙ ap (option_map (map index)) q)) ∙ m)
-        go (Some ys) q m = (ys, q, made-stands cs ys (partial_layer ks axes index d c) (map index ys) refl
-            (layer-value (partial_layer ks axes index d c) is_layer ∙ ap (Value-of cs Chosen) (places ∙ ap (option_map (map index)) q)
-            ∙ ap (λ o. Value-of cs o (Some (map index ys))) q)
-            (and-left _ (is_orderly R F cs) h)
-            (sym (ap (Orderly (partial_layer ks axes index d c) cs) (places ∙ ap (option_map (map index)) q)) ∙ m))
+        go (Some ys) q m = (
+          ys,
+          q,
+          made-stands cs ys (partial_layer ks axes index d c) (map index ys) refl
+              (layer-value (partial_layer ks axes index d c) is_layer ∙ ap (Value-of cs Chosen) (places ∙ ap (option_map (map index)) q)
+              ∙ ap (λ o. Value-of cs o (Some (map index ys))) q)
+              (and-left _ (is_orderly R F cs) h)
+              (sym (ap (Orderly (partial_layer ks axes index d c) cs) (places ∙ ap (option_map (map index)) q)) ∙ m),
+        )

@@ -1,5 +1,5 @@
 -- A function kept by argument: where a generator runs over arguments in use, its items and structures.
-use Rattle.std.proofs.Common.{◌≡◌, refl, sym, ap, ◌∙◌, subst, ℕ, ◌≤◌, Bool, true, false, ◌&&◌, if◌then◌else◌, List, [], ◌∷◌, ◌++◌, map, filter, length, ℤ, Option, Some, None, option_map}
+use Rattle.std.proofs.Common.{◌≡◌, refl, sym, ap, ◌∙◌, subst, ℕ, ◌≤◌, Bool, true, false, if◌then◌else◌, List, [], ◌∷◌, ◌++◌, map, filter, length, ℤ, Option, Some, None, option_map}
 use Rattle.std.specs.List.{list_all}
 use Rattle.ess_semantics.specs.Lists.{and_then, each_of}
 use Rattle.ess_semantics.specs.Values.{Text, Value, truth, pair}
@@ -67,7 +67,7 @@ module _ (t : Value → Bool) where
   collect-passing G H (x ∷ xs) h = go (t x) h.0 (collect-passing G H xs h.1)
     where
       go : (b : Bool) → G x ≡ where_true (Some (truth b)) (λ u. H x) → collect xs G ≡ collect (filter t xs) H →
-          and_then (G x) (λ xs' . option_map (λ ys. xs' ++ ys) (collect xs G)) ≡ collect (if b then x ∷ filter t xs else filter t xs) H
+          and_then (G x) (λ xs'. option_map (λ ys. xs' ++ ys) (collect xs G)) ≡ collect (if b then x ∷ filter t xs else filter t xs) H
       go true q r = ap (λ o. and_then o (λ xs'. option_map (λ ys. xs' ++ ys) (collect xs G))) q
           ∙ ap (λ o. and_then (H x) (λ xs'. option_map (λ ys. xs' ++ ys) o)) r
       go false q r = ap (λ o. and_then o (λ xs'. option_map (λ ys. xs' ++ ys) (collect xs G))) q ∙ append-none (collect xs G) ∙ r

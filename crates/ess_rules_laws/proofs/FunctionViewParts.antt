@@ -1,5 +1,5 @@
 -- A view of a function whose structure is met: its parts are there, and its child's tables have its axes behind each argument.
-use Rattle.std.proofs.Common.{◌≡◌, refl, sym, ap, ◌∙◌, suc, ◌≤◌, Bool, true, false, ◌&&◌, List, [], ◌∷◌, ◌++◌, map, drop, length, ℤ, pos, Option, Some, None, option_map, arith}
+use Rattle.std.proofs.Common.{◌≡◌, refl, sym, ap, ◌∙◌, suc, ◌≤◌, true, false, ◌&&◌, List, [], ◌∷◌, ◌++◌, map, drop, length, ℤ, pos, Option, Some, None, option_map, arith}
 use Rattle.std.specs.Prelude.{IsTrue}
 use Rattle.ess_semantics.specs.declared.words.ReprKind.{ReprKind}
 use Rattle.ess_semantics.specs.Lists.{and_then}
@@ -155,9 +155,9 @@ module _ (k : ReprKind) (r : Repr) (ks : List Attribute) (d c : Domain) (axes : 
       (same_axes (drop (length i) t.axes) axes ≡ true) ×
       ((j : List ℤ) → length j ≡ length axes → over_axes (i ++ j) (axes_of r c) ts ≡ true)
   partial-over index is_layer t ts h = let a = ap (λ o. over_axes i (axes_in (elim o [
-        | None ↦ []
-        | Some l ↦ map (declared_own false) l.own ++ declarations_of_children (leaves_out l.in_use) (more_reprs r no_reprs) l.children l.axes
-      ])) (t ∷ ts)) (sym is_layer) ∙ and-left _ _ h in (
+    | None ↦ []
+    | Some l ↦ map (declared_own false) l.own ++ declarations_of_children (leaves_out l.in_use) (more_reprs r no_reprs) l.children l.axes
+  ])) (t ∷ ts)) (sym is_layer) ∙ and-left _ _ h in (
     and-right _ _ (and-left _ _ a),
     λ j n. ap (λ z. over_axes (i ++ j) z ts) (sym (axes-same true r c))
         ∙ over-indices i j axes (declarations_below true r c) ts n (and-right _ _ a),

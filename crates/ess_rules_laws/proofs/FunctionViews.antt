@@ -1,5 +1,5 @@
 -- Views of functions kept by argument offer their pairs, in order.
-use Rattle.std.proofs.Common.{◌≡◌, refl, sym, ap, ◌∙◌, subst, Bool, true, false, List, [], ◌∷◌, ◌++◌, map, filter, take, drop, length, ℤ, Option, Some, None, option_map}
+use Rattle.std.proofs.Common.{◌≡◌, refl, sym, ap, ◌∙◌, subst, Bool, true, List, [], ◌∷◌, ◌++◌, map, filter, take, drop, length, ℤ, Some, option_map}
 use Rattle.std.specs.List.{list_all}
 use Rattle.ess_semantics.specs.declared.words.ReprKind.{ReprKind}
 use Rattle.ess_semantics.specs.Lists.{and_then, each_of, list_or_none}
@@ -7,22 +7,21 @@ use Rattle.ess_semantics.specs.Values.{Text, Value, truth, from_of, items_of}
 use Rattle.ess_semantics.specs.Collections.{rises}
 use Rattle.ess_semantics.specs.Names.{look}
 use Rattle.ess_semantics.specs.Trees.{Mark, Repr, repr, no_reprs, more_reprs, Ex, Exs, seen_ex, Dom, function_dom}
-use Rattle.ess_semantics.specs.Domains.{Attribute, Domain, functions, member_list}
+use Rattle.ess_semantics.specs.Domains.{functions, member_list}
 use Rattle.ess_semantics.specs.Operators.{as_truth}
 use Rattle.ess_semantics.specs.Tables.{Table, Tables, cell_at}
 use Rattle.ess_semantics.specs.Cells.{Cells, Axes, cells_at}
 use Rattle.ess_semantics.specs.Layers.{own_cell, chosen}
 use Rattle.ess_semantics.specs.FunctionLayers.{with_arguments, function_with, total_layer, partial_layer}
-use Rattle.ess_semantics.specs.Representations.{layer, own_width, own_part, child_part, value_of_tables}
+use Rattle.ess_semantics.specs.Representations.{layer, own_width, child_part, value_of_tables}
 use Rattle.ess_semantics.specs.Tidy.{tidy}
-use Rattle.ess_semantics.specs.Meaning.{Env, meaning, tables_in, members_in, domain_of, bind, collect, where_true}
-use Rattle.ess_semantics.specs.Contexts.{Each, EachOf}
-use Rattle.ess_semantics.specs.Meets.{Meets, MeetsDom, MeetsAll}
+use Rattle.ess_semantics.specs.Meaning.{Env, meaning, tables_in, members_in, bind, collect, where_true}
+use Rattle.ess_semantics.specs.Contexts.{EachOf}
+use Rattle.ess_semantics.specs.Meets.{Meets}
 use Rattle.ess_semantics.specs.Substitution.{NamesAreExs, NamesAreDom}
 use Rattle.ess_semantics.proofs.Tests.{and-right}
 use Rattle.ess_semantics.proofs.Orders.{to_list-of_list}
-use Rattle.ess_rules_laws.specs.Listings.{items_listed}
-use Rattle.ess_rules_laws.specs.ListedSources.{laid_out, OffersInOrder}
+use Rattle.ess_rules_laws.specs.ListedSources.{OffersInOrder}
 use Rattle.ess_rules_laws.specs.FunctionMembershipRules.{pair_ex}
 use Rattle.ess_rules_laws.specs.FunctionViews.{Run, result_at, flag_at, total_pairs, flagged_pairs}
 use Rattle.ess_rules_laws.proofs.Simulation.{any}
@@ -31,7 +30,7 @@ use Rattle.ess_rules_laws.proofs.SlotSets.{In, orderly_in}
 use Rattle.ess_rules_laws.proofs.Results.{is_flag, flag-is, flag-met}
 use Rattle.ess_rules_laws.proofs.FunctionCells.{FunctionStands, total-stands, partial-stands}
 use Rattle.ess_rules_laws.proofs.FunctionViewParts.{Opened, view-is, tables-split, total-over, partial-over, over-short}
-use Rattle.ess_rules_laws.proofs.FunctionResults.{chosen-picked, collect-passing, each-passing, each-filtered, Here, Keyed, RunsOver, Item, Facts, facts, pairs-listed, pairs-met}
+use Rattle.ess_rules_laws.proofs.FunctionResults.{chosen-picked, collect-passing, each-passing, each-filtered, Here, Keyed, RunsOver, Facts, facts, pairs-listed, pairs-met}
 
 module _ (n : Text → Bool) (u : Run) (index : Value → List ℤ) (k : ReprKind) (r : Repr) (ms : List Mark) (es : Exs) (dd ce : Dom) (js : Exs)
     (env : Env) (new-c : NamesAreDom n any ce) (new-js : NamesAreExs n any js) (axes : Axes) where
@@ -60,8 +59,8 @@ module _ (n : Text → Bool) (u : Run) (index : Value → List ℤ) (k : ReprKin
     pub total-view : TotalView
     total-view = let us-are : member_list o.d ≡ runs.us = ap list_or_none runs.are_members in
         let s = subst (λ l. FunctionStands k r o.ks o.d o.c index (cells_at o.tables o.i) l) us-are
-            (total-stands k r o.ks o.d o.c index axes (runs.places ∙ ap (map index) (sym us-are)) (cells_at o.tables o.i) is_layer
-            (and-right _ _ o.is_tidy)) in
+        (total-stands k r o.ks o.d o.c index axes (runs.places ∙ ap (map index) (sym us-are)) (cells_at o.tables o.i) is_layer
+        (and-right _ _ o.is_tidy)) in
         let over = total-over k r o.ks o.d o.c axes o.i is_layer o.tables o.is_tidy in
         let child : child_part k (cells_at o.tables o.i) ≡ cells_at o.tables o.i = ap (λ w. drop w (cells_at o.tables o.i)) own-none in record {
           vs = s.vs;
@@ -139,9 +138,9 @@ module _ (n : Text → Bool) (u : Run) (index : Value → List ℤ) (k : ReprKin
     flagged-view = let us-are : member_list o.d ≡ runs.us = ap list_or_none runs.are_members in
         let w = tables-split f names env o.tables o.tables_are in
         let h : tidy R (functions o.ks o.d o.c) (w.0 ∷ w.1) o.i ≡ true =
-            ap (λ l. tidy R (functions o.ks o.d o.c) l o.i) (sym w.4) ∙ o.is_tidy in
+        ap (λ l. tidy R (functions o.ks o.d o.c) l o.i) (sym w.4) ∙ o.is_tidy in
         let s = partial-stands k r o.ks o.d o.c index axes (runs.places ∙ ap (map index) (sym us-are)) (Own (w.0 ∷ w.1)) is_layer
-            (and-right _ _ h) in
+        (and-right _ _ h) in
         made-flagged w.0 w.1 s.0 w.2 w.3 w.4
         (chosen-picked (λ x. cell_at w.0 (o.i ++ index x)) runs.us s.0
         (ap (λ l. chosen l (λ x. cell_at w.0 (o.i ++ index x))) (sym us-are)

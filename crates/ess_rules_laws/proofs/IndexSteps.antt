@@ -1,11 +1,10 @@
 -- An index of several steps means what its first step and the others mean.
-use Rattle.std.proofs.Common.{◌≡◌, refl, sym, ap, ◌∙◌, ℕ, Bool, false, List, [], ◌∷◌, Option, Some, None, option_map}
+use Rattle.std.proofs.Common.{◌≡◌, refl, ap, ℕ, List, [], ◌∷◌, Option, Some, None, option_map}
 use Rattle.ess_semantics.specs.Lists.{and_then, all_some}
 use Rattle.ess_semantics.specs.Values.{Text, Value}
 use Rattle.ess_semantics.specs.Trees.{Step, by_value, to_component, to_field, index, Ex, node_ex, more_exs}
 use Rattle.ess_semantics.specs.Operators.{at_index, path_value, value_of_op, value_of_node, false_where_undefined}
 use Rattle.ess_semantics.specs.Meaning.{Env, meaning, meanings}
-use Rattle.ess_semantics.specs.Meets.{Meets}
 use Rattle.ess_rules_laws.specs.IndexSteps.{step_apart}
 use Rattle.ess_rules_laws.specs.ViewLaws.{StepsComeApart}
 use Rattle.ess_rules_laws.proofs.RuleAnswers.{AnswerKeeps, fires}

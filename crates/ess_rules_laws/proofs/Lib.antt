@@ -75,3 +75,12 @@ pub mod Results
 pub mod FunctionViewParts
 pub mod FunctionResults
 pub mod FunctionViews
+pub mod FunctionViewLookups
+pub mod FunctionViewResults
+pub mod ArgumentRuns
+pub mod TupleRuns
+pub mod Function1DViews
+pub mod Function1DPartialViews
+pub mod FunctionNDViews
+pub mod FunctionNDPartialViews
+pub mod ExamplesFunctionViews

@@ -1,6 +1,6 @@
 -- A view of a child behind further indices: what it means, where tables meet it, and the flags that stand there.
 use Rattle.std.proofs.Common.{◌≡◌, refl, sym, ap, ◌∙◌, subst, ◌≤◌, Bool, true, false, List, [], ◌∷◌, ◌++◌, map, take, length, ℤ, Option, Some, None, option_map, arith}
-use Rattle.ess_semantics.specs.Lists.{and_then, all_some, is_some_and}
+use Rattle.ess_semantics.specs.Lists.{all_some, is_some_and}
 use Rattle.ess_semantics.specs.Values.{Text, Value, number, truth, item, node}
 use Rattle.ess_semantics.specs.Names.{look}
 use Rattle.ess_semantics.specs.Trees.{Repr, Exs, no_exs, more_exs, Dom, bool_dom}

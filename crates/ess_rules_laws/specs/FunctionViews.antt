@@ -1,10 +1,13 @@
 -- What views of functions kept by argument offer, whatever the kind: a generator runs over the first domain, and the result is
 -- the view at the argument.
-use Rattle.std.specs.Prelude.{true, false, List, [], ◌∷◌, Option, Some, None, IsTrue, is_some}
+use Rattle.std.specs.Prelude.{Bool, true, false, not, ◌&&◌, List, [], ◌∷◌, Option, None, IsTrue, is_some}
 use Rattle.ess_semantics.specs.declared.words.Op2.{Op2}
+use Rattle.ess_semantics.specs.declared.words.Fun.{Fun}
 use Rattle.ess_semantics.specs.Values.{Text}
-use Rattle.ess_semantics.specs.Trees.{tuple_literal, name_pat, tuple_pat, Pat, Pats, no_pats, more_pats, Repr, Ex, Exs, name_ex, node_ex, comp_ex, cell_ex, seen_ex, ex2, no_exs, more_exs, no_gens, over, cond, Dom, function_dom}
+use Rattle.ess_semantics.specs.Trees.{word, application, tuple_literal, name_pat, tuple_pat, Pat, Pats, no_pats, more_pats, Repr, Ex, Exs, name_ex, node_ex, comp_ex, cell_ex, seen_ex, ex2, no_exs, more_exs, no_gens, over, cond, Dom, Doms, function_dom, no_doms, more_doms}
 use Rattle.ess_semantics.specs.Meaning.{Env, domain_of, members_in}
+use Rattle.ess_semantics.specs.Substitution.{NamesAre}
+use Rattle.ess_rules_laws.specs.ComponentRules.{has_text}
 use Rattle.ess_rules_laws.specs.FunctionMembershipRules.{pair_ex}
 use Rattle.ess_rules_laws.specs.Listings.{Alternative}
 
@@ -79,3 +82,26 @@ flagged_result u r d c m ns js a =
 abbrev pub FirstThere : Ex → Env → Type 0
 FirstThere (seen_ex r (function_dom ms es d c) ns js) env = IsTrue (is_some (members_in (domain_of d env)))
 FirstThere e env = Unit {0}
+
+-- ---- what a rule asks
+
+-- g of the function and the argument of an application or of `image`.
+abbrev pub of_application : (Ex → Ex → Option Ex) → Ex → Option Ex
+of_application g (node_ex b application (more_exs f (more_exs a no_exs))) = g f a
+of_application g (node_ex b (word Fun.Image) (more_exs f (more_exs a no_exs))) = g f a
+of_application g e = None
+
+-- The members of the first domain of the function that stands first can be listed.
+abbrev pub AppliedThere : Ex → Env → Type 0
+AppliedThere (node_ex b op (more_exs f es)) env = FirstThere f env
+AppliedThere e env = Unit {0}
+
+-- Whether there is a name for each domain, and the names differ.
+abbrev pub names_fit : List Text → Doms → Bool
+names_fit [] no_doms = true
+names_fit (x ∷ xs) (more_doms d ds) = not (has_text xs x) && names_fit xs ds
+names_fit xs ds = false
+
+-- The tree neither uses nor binds any of the names.
+abbrev pub NamesUnused : List Text → Ex → Type 0
+NamesUnused xs e = NamesAre (λ a. not (has_text xs a)) (λ a. true) e

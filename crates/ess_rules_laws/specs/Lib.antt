@@ -24,4 +24,8 @@ pub mod PartLookups
 pub mod SlotListings
 pub mod IndexSteps
 pub mod FunctionViews
+pub mod Function1DViews
+pub mod Function1DPartialViews
+pub mod FunctionNDViews
+pub mod FunctionNDPartialViews
 pub mod ViewLaws

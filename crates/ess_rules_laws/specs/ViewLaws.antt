@@ -1,9 +1,47 @@
 -- What each container offers: the laws of the listings and lookups of views and of literals.
-use Rattle.ess_rules_laws.specs.Rules.{RuleKeeps}
+use Rattle.std.specs.Prelude.{◌≡◌, List, Some}
+use Rattle.ess_semantics.specs.Values.{Text}
+use Rattle.ess_semantics.specs.Trees.{Ex}
+use Rattle.ess_semantics.specs.Meaning.{Env}
+use Rattle.ess_semantics.specs.Meets.{Meets}
+use Rattle.ess_rules_laws.specs.Rules.{Unused, RuleKeeps}
+use Rattle.ess_rules_laws.specs.SetListings.{InOrderWhereMet}
+use Rattle.ess_rules_laws.specs.Lookups.{Looked}
+use Rattle.ess_rules_laws.specs.FunctionLookups.{unmarked}
 use Rattle.ess_rules_laws.specs.IndexSteps.{step_apart}
+use Rattle.ess_rules_laws.specs.FunctionViews.{FirstThere, AppliedThere, NamesUnused}
+use Rattle.ess_rules_laws.specs.Function1DViews.{function_1d_listing, function_1d_lookup}
+use Rattle.ess_rules_laws.specs.Function1DPartialViews.{function_1d_partial_listing, function_1d_partial_lookup}
+use Rattle.ess_rules_laws.specs.FunctionNDViews.{function_nd_listing, function_nd_lookup}
+use Rattle.ess_rules_laws.specs.FunctionNDPartialViews.{function_nd_partial_listing, function_nd_partial_lookup}
 
 -- ---- indices
 
 -- An index of several steps keeps its meaning as one of its first step with an index of the others, whatever the operands are.
 abbrev pub StepsComeApart : Type 0
 StepsComeApart = RuleKeeps step_apart
+
+-- ---- functions
+
+-- A view of a function kept by argument offers its pairs, in the order of the function: of a total one and one with flags, from an
+-- atom and from a tuple of atoms.
+pub record FunctionViewsAreListed : Type 0 where
+  pub total_from_an_atom : (x : Text) (e : Ex) (env : Env) → Unused x e → Meets e env → FirstThere e env →
+      InOrderWhereMet (function_1d_listing x e) e env
+  pub flagged_from_an_atom : (x : Text) (e : Ex) (env : Env) → Unused x e → Meets e env → FirstThere e env →
+      InOrderWhereMet (function_1d_partial_listing x e) e env
+  pub total_from_a_tuple : (xs : List Text) (e : Ex) (env : Env) → NamesUnused xs e → Meets e env → FirstThere e env →
+      InOrderWhereMet (function_nd_listing xs e) e env
+  pub flagged_from_a_tuple : (xs : List Text) (e : Ex) (env : Env) → NamesUnused xs e → Meets e env → FirstThere e env →
+      InOrderWhereMet (function_nd_partial_listing xs e) e env
+
+-- And it is looked up: the lookup has the result at the argument, or no item where there is none.
+pub record FunctionViewsAreLookedUp : Type 0 where
+  pub total_from_an_atom : (x : Text) (e l : Ex) → function_1d_lookup x e ≡ Some l → Unused x e → (env : Env) → Meets e env →
+      AppliedThere e env → Looked (unmarked e) l env
+  pub flagged_from_an_atom : (x : Text) (e l : Ex) → function_1d_partial_lookup x e ≡ Some l → Unused x e → (env : Env) → Meets e env →
+      AppliedThere e env → Looked (unmarked e) l env
+  pub total_from_a_tuple : (xs : List Text) (e l : Ex) → function_nd_lookup xs e ≡ Some l → NamesUnused xs e → (env : Env) →
+      Meets e env → AppliedThere e env → Looked (unmarked e) l env
+  pub flagged_from_a_tuple : (xs : List Text) (e l : Ex) → function_nd_partial_lookup xs e ≡ Some l → NamesUnused xs e → (env : Env) →
+      Meets e env → AppliedThere e env → Looked (unmarked e) l env

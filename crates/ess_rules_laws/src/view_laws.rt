@@ -1,8 +1,20 @@
 //! What each container offers, each law the contract of a function that does nothing.
 
-ghost use Rattle.ess_rules_laws.specs.ViewLaws.{StepsComeApart};
+ghost use Rattle.ess_rules_laws.specs.ViewLaws.{StepsComeApart, FunctionViewsAreListed, FunctionViewsAreLookedUp};
 
 /// An index of several steps means what its first step means, and the other steps from there on.
 pub fn steps_come_apart()
     ensures { StepsComeApart }
+{}
+
+/// A view of a function kept by argument offers its pairs, in the order of the function, where the members of its first domain
+/// can be listed: of a total one and one with flags, from an atom and from a tuple of atoms. Tables that meet its structure
+/// meet those of the listing.
+pub fn function_views_are_listed()
+    ensures { FunctionViewsAreListed }
+{}
+
+/// There a result of the function at an argument, as `f(a)` or `image(f, a)`, is looked up over the arguments.
+pub fn function_views_are_looked_up()
+    ensures { FunctionViewsAreLookedUp }
 {}
