@@ -84,3 +84,6 @@ pub mod Function1DPartialViews
 pub mod FunctionNDViews
 pub mod FunctionNDPartialViews
 pub mod ExamplesFunctionViews
+pub mod DummySlots
+pub mod DummyListing
+pub mod ExamplesDummyListings

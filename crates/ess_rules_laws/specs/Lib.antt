@@ -28,4 +28,5 @@ pub mod Function1DViews
 pub mod Function1DPartialViews
 pub mod FunctionNDViews
 pub mod FunctionNDPartialViews
+pub mod DummyListings
 pub mod ViewLaws

@@ -6,6 +6,8 @@ use Rattle.ess_semantics.specs.Meaning.{Env}
 use Rattle.ess_semantics.specs.Meets.{Meets}
 use Rattle.ess_rules_laws.specs.Rules.{Unused, RuleKeeps}
 use Rattle.ess_rules_laws.specs.SetListings.{InOrderWhereMet}
+use Rattle.ess_rules_laws.specs.SlotListings.{SlotsAre, OffersWhereMet}
+use Rattle.ess_rules_laws.specs.DummyListings.{dummy_listing, DummyIs}
 use Rattle.ess_rules_laws.specs.Lookups.{Looked}
 use Rattle.ess_rules_laws.specs.FunctionLookups.{unmarked}
 use Rattle.ess_rules_laws.specs.IndexSteps.{step_apart}
@@ -20,6 +22,14 @@ use Rattle.ess_rules_laws.specs.FunctionNDPartialViews.{function_nd_partial_list
 -- An index of several steps keeps its meaning as one of its first step with an index of the others, whatever the operands are.
 abbrev pub StepsComeApart : Type 0
 StepsComeApart = RuleKeeps step_apart
+
+-- ---- sets
+
+-- A view of a set in slots with a dummy offers the atoms in its slots that don't hold the dummy, where one expression says how
+-- many slots there are and another one what the dummy is.
+abbrev pub DummyViewsAreListed : Type 0
+DummyViewsAreListed = (x : Text) (n m e : Ex) (env : Env) → Unused x e → Unused x m → Meets e env → SlotsAre n e env → DummyIs m e env →
+    OffersWhereMet (dummy_listing x n m e) e env
 
 -- ---- functions
 

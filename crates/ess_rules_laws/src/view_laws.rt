@@ -1,10 +1,16 @@
 //! What each container offers, each law the contract of a function that does nothing.
 
-ghost use Rattle.ess_rules_laws.specs.ViewLaws.{StepsComeApart, FunctionViewsAreListed, FunctionViewsAreLookedUp};
+ghost use Rattle.ess_rules_laws.specs.ViewLaws.{StepsComeApart, DummyViewsAreListed, FunctionViewsAreListed, FunctionViewsAreLookedUp};
 
 /// An index of several steps means what its first step means, and the other steps from there on.
 pub fn steps_come_apart()
     ensures { StepsComeApart }
+{}
+
+/// A view of a set in slots with a dummy offers the atoms in the slots that don't hold the dummy: over the numbers of the slots
+/// they list the members of the set, and tables that meet its structure meet theirs.
+pub fn dummy_views_are_listed()
+    ensures { DummyViewsAreListed }
 {}
 
 /// A view of a function kept by argument offers its pairs, in the order of the function, where the members of its first domain
