@@ -87,3 +87,5 @@ pub mod ExamplesFunctionViews
 pub mod DummySlots
 pub mod DummyListing
 pub mod ExamplesDummyListings
+pub mod LiteralLookups
+pub mod AlternativeSelections

@@ -86,7 +86,7 @@ FirstThere e env = Unit {0}
 -- ---- what a rule asks
 
 -- g of the function and the argument of an application or of `image`.
-abbrev pub of_application : (Ex → Ex → Option Ex) → Ex → Option Ex
+abbrev pub of_application : {A : Type 0} → (Ex → Ex → Option A) → Ex → Option A
 of_application g (node_ex b application (more_exs f (more_exs a no_exs))) = g f a
 of_application g (node_ex b (word Fun.Image) (more_exs f (more_exs a no_exs))) = g f a
 of_application g e = None

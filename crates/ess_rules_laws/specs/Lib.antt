@@ -29,4 +29,5 @@ pub mod Function1DPartialViews
 pub mod FunctionNDViews
 pub mod FunctionNDPartialViews
 pub mod DummyListings
+pub mod AlternativeLookups
 pub mod ViewLaws
