@@ -89,3 +89,4 @@ pub mod DummyListing
 pub mod ExamplesDummyListings
 pub mod LiteralLookups
 pub mod AlternativeSelections
+pub mod FunctionLiteralLookups
