@@ -1,11 +1,11 @@
 -- An operator on a picked value keeps its meaning where alternatives look the value up.
-use Rattle.std.proofs.Common.{◌≡◌, refl, sym, ap, ◌∙◌, subst, ℕ, zero, suc, Bool, true, false, ◌&&◌, ◌||◌, not, List, [], ◌∷◌, ◌++◌, Option, Some, None, option_map, arith}
+use Rattle.std.proofs.Common.{◌≡◌, refl, sym, ap, ◌∙◌, subst, ℕ, zero, suc, Bool, true, false, ◌&&◌, ◌||◌, List, [], ◌∷◌, Option, Some, None, option_map, arith}
 use Rattle.std.proofs.lemmas.Int.{ints}
 use Rattle.std.specs.Prelude.{is_some, ◌+ℤ◌, pos}
 use Rattle.ess_semantics.specs.declared.words.Fun.{Fun}
 use Rattle.ess_semantics.specs.Lists.{and_then, all_some, list_or_none}
 use Rattle.ess_semantics.specs.Values.{Text, Value, number, truth, item, node, items_of}
-use Rattle.ess_semantics.specs.Trees.{Op, matrix_literal, name_pat, Ex, Exs, name_ex, node_ex, no_exs, more_exs, no_gens, from}
+use Rattle.ess_semantics.specs.Trees.{Op, matrix_literal, Ex, Exs, name_ex, node_ex, no_exs, more_exs}
 use Rattle.ess_semantics.specs.Operators.{as_truth, value_of_node, false_where_undefined, list_value}
 use Rattle.ess_semantics.specs.Contexts.{guards}
 use Rattle.ess_semantics.specs.Meaning.{Env, meaning, meanings, collect}
@@ -18,7 +18,7 @@ use Rattle.ess_rules_laws.specs.LiteralRules.{nth}
 use Rattle.ess_rules_laws.specs.Listings.{Alternative, items_listed, all_listed}
 use Rattle.ess_rules_laws.specs.ListedSources.{laid_out, AllMet}
 use Rattle.ess_rules_laws.specs.SourceRules.{is_marked, list_of}
-use Rattle.ess_rules_laws.specs.Lookups.{found, Looked, put_nth, is_plain, picking, FitsNumber}
+use Rattle.ess_rules_laws.specs.Lookups.{found, put_nth, is_plain, picking, FitsNumber}
 use Rattle.ess_rules_laws.specs.AlternativeLookups.{LookedBy, fold_word, each_picked, picking_each, select_each, select_whole_each, LooksUpEach, SelectsEach, SelectsWholeEach}
 use Rattle.ess_rules_laws.proofs.RuleAnswers.{AnswerKeeps, fires, when-so, behind, each-in-any, collect-itself}
 use Rattle.ess_rules_laws.proofs.Folds.{folded, fold-means, folded-append, literal-means}
@@ -55,7 +55,7 @@ module _ (x : Text) (e : Ex) (env : Env) where
   each-picked b (a ∷ l) ws us p q =
       let d = both-lists (items_listed a env) (all_listed l env) ws p in
       let c = both-lists (collect d.0 Picked) (collect d.1 Picked) us (sym (collect-append d.0 d.1 Picked)
-          ∙ ap (λ l. collect l Picked) d.4 ∙ q) in
+      ∙ ap (λ l. collect l Picked) d.4 ∙ q) in
       let r = each-picked b l d.1 c.1 d.3 c.3 in (
         folded (fold_word b) c.0 ∷ r.0,
         ap (λ z. and_then z (λ y. option_map (λ ys. y ∷ ys) (all_some (meanings (each_picked b x l e) env))))
@@ -132,7 +132,7 @@ abbrev MeetsThere : Option Ex → Env → Type 0
 MeetsThere None env = Unit {0}
 MeetsThere (Some t) env = Meets t env
 
-nth-met : (es : Exs) (k : ℕ) (t : Ex) (env : Env) → nth es k ≡ Some t → MeetsAll false es env → Meets t env
+pub nth-met : (es : Exs) (k : ℕ) (t : Ex) (env : Env) → nth es k ≡ Some t → MeetsAll false es env → Meets t env
 nth-met no_exs k t env q m = cc
 nth-met (more_exs a es) zero t env q m = cc
 nth-met (more_exs a es) (suc zero) t env q m = subst (λ z. MeetsThere z env) q m.0
@@ -147,7 +147,7 @@ module _ (x : Text) (k : ℕ) (l : List Alternative) (b : Bool) (op : Op) (es : 
   Body = node_ex b op (put_nth es k (name_ex x))
 
   -- Where the operand has a value, the operator has its item there.
-  value-picked : (v : Value) → meaning t env ≡ Some v → Meets t env → collect (v ∷ []) (Picked x Body env) ≡ single (meaning Old env)
+  pub value-picked : (v : Value) → meaning t env ≡ Some v → Meets t env → collect (v ∷ []) (Picked x Body env) ≡ single (meaning Old env)
   value-picked v j m = sym (ap (λ o. and_then (value_of_node matrix_literal (o ∷ [])) (λ s. collect (items_of s) (Picked x Body env))) j)
       ∙ at-one x k (list_of (more_exs t no_exs)) b op es env t q new plain
       (record {
@@ -157,7 +157,7 @@ module _ (x : Text) (k : ℕ) (l : List Alternative) (b : Bool) (op : Op) (es : 
       }) b v j
 
   -- Where it has none, the operator has none.
-  nothing-there : meaning t env ≡ None → value_of_node op (meanings es env) ≡ None
+  pub nothing-there : meaning t env ≡ None → value_of_node op (meanings es env) ≡ None
   nothing-there j = at-nothing x k (list_of no_exs) b op es env t q new plain
       (record { items = ap (λ o. Some (found o)) (sym j); met = tt }) j
 

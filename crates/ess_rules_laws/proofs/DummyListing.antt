@@ -1,5 +1,5 @@
 -- A view of a set in slots with a dummy offers the atoms in the slots that don't hold the dummy.
-use Rattle.std.proofs.Common.{◌≡◌, refl, sym, ap, ◌∙◌, ℕ, ◌≤◌, Bool, true, false, not, List, [], ◌∷◌, ◌++◌, map, filter, length, ℤ, pos, Option, Some, None, option_map, arith}
+use Rattle.std.proofs.Common.{◌≡◌, refl, sym, ap, ◌∙◌, ℕ, ◌≤◌, true, false, not, List, [], ◌∷◌, ◌++◌, map, filter, ℤ, pos, Option, Some, None, option_map, arith}
 use Rattle.std.specs.Prelude.{IsTrue}
 use Rattle.std.specs.List.{list_all}
 use Rattle.ess_semantics.specs.declared.words.Op2.{Op2}
@@ -18,12 +18,12 @@ use Rattle.ess_semantics.specs.Tables.{Table, cell_at, atom_value}
 use Rattle.ess_semantics.specs.Cells.{Grid, cells_at}
 use Rattle.ess_semantics.specs.SetLayers.{dummy_of, but_dummy, dummies_last, set_in_slots, ends_in_dummies}
 use Rattle.ess_semantics.specs.Sizes.{slots_of_set}
-use Rattle.ess_semantics.specs.Declarations.{Declaration, axes_of}
+use Rattle.ess_semantics.specs.Declarations.{axes_of}
 use Rattle.ess_semantics.specs.Tidy.{is_orderly, over_axes, tidy}
 use Rattle.ess_semantics.specs.Meaning.{Env, meaning, meanings, attributes_of, domain_of, indices, tables_in, cell_value, cell_in, seen_in}
 use Rattle.ess_semantics.specs.Meets.{Meets, MeetsAll, MeetsDom, tidy_in}
 use Rattle.ess_semantics.specs.Substitution.{NamesAreExs, NamesAreDom}
-use Rattle.ess_semantics.proofs.Tests.{and-left, and-right, and-both}
+use Rattle.ess_semantics.proofs.Tests.{and-left, and-right}
 use Rattle.ess_semantics.proofs.Orders.{to_list-of_list}
 use Rattle.ess_semantics.proofs.Sorting.{all-sorted_once}
 use Rattle.ess_rules_laws.specs.Rules.{Unused}
@@ -36,7 +36,7 @@ use Rattle.ess_rules_laws.proofs.RuleAnswers.{behind, meaning-behind, meets-behi
 use Rattle.ess_rules_laws.proofs.OccurrenceListing.{put-meanings, last-index}
 use Rattle.ess_rules_laws.proofs.TablesOfViews.{over-behind}
 use Rattle.ess_rules_laws.proofs.SlotNumbers.{as_place}
-use Rattle.ess_rules_laws.proofs.SlotSets.{In, orderly_in}
+use Rattle.ess_rules_laws.proofs.SlotSets.{In}
 use Rattle.ess_rules_laws.proofs.ExplicitListing.{last-met}
 use Rattle.ess_rules_laws.proofs.UsedSlots.{used-offers}
 use Rattle.ess_rules_laws.proofs.DummySlots.{atom, atom-value, slots-orderly, atom-axes, holds_other, members-stand, members-differ}

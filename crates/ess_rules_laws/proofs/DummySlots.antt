@@ -1,25 +1,21 @@
 -- A set in slots with a dummy: what its tidy cells stand for, slot by slot.
-use Rattle.std.proofs.Common.{◌≡◌, refl, sym, ap, ◌∙◌, ℕ, zero, suc, ◌≤◌, Bool, true, false, ◌&&◌, ◌||◌, not, if◌then◌else◌, List, [], ◌∷◌, ◌++◌, map, filter, take, ℤ, pos, negsuc, Option, Some, None, option_map, nat_le}
+use Rattle.std.proofs.Common.{◌≡◌, refl, sym, ap, ◌∙◌, zero, suc, Bool, true, false, ◌&&◌, ◌||◌, not, if◌then◌else◌, List, [], ◌∷◌, map, filter, take, ℤ, pos, negsuc, Option, Some, None, option_map, nat_le}
 use Rattle.std.specs.List.{list_all, list_any}
 use Rattle.ess_semantics.specs.declared.words.ReprKind.{ReprKind}
 use Rattle.ess_semantics.specs.Lists.{and_then, each_of, append_all, is_some_and}
-use Rattle.ess_semantics.specs.Values.{Text, Value, number, truth, item, itself}
+use Rattle.ess_semantics.specs.Values.{Value, number, truth, item, itself}
 use Rattle.ess_semantics.specs.Order.{same, same_int}
-use Rattle.ess_semantics.specs.Collections.{no_twice, set_of, sorted_once}
-use Rattle.ess_semantics.specs.Numbers.{one_to}
+use Rattle.ess_semantics.specs.Collections.{no_twice}
 use Rattle.ess_semantics.specs.Trees.{Repr, repr, no_reprs}
-use Rattle.ess_semantics.specs.Domains.{Attribute, Domain, booleans, integers, named, tuples, records, matrices, sets, msets, functions, relations, partitions}
-use Rattle.ess_semantics.specs.Membership.{member}
-use Rattle.ess_semantics.specs.Tables.{Table, cell_at, code, truth_of, item_of_type, atom_value}
+use Rattle.ess_semantics.specs.Domains.{Domain, booleans, integers, named, tuples, records, matrices, sets, msets, functions, relations, partitions}
+use Rattle.ess_semantics.specs.Tables.{code, atom_value}
 use Rattle.ess_semantics.specs.Cells.{Cells, Grid, behind}
-use Rattle.ess_semantics.specs.SetLayers.{dummy_of, but_dummy, dummies_last, set_in_slots, ends_in_dummies}
-use Rattle.ess_semantics.specs.Sizes.{slots_of_set}
+use Rattle.ess_semantics.specs.SetLayers.{dummy_of, but_dummy, dummies_last}
 use Rattle.ess_semantics.specs.Representations.{width, value_of_cells}
 use Rattle.ess_semantics.specs.Declarations.{axes_of}
-use Rattle.ess_semantics.specs.Tidy.{is_orderly, over_axes, tidy}
+use Rattle.ess_semantics.specs.Tidy.{is_orderly}
 use Rattle.ess_semantics.proofs.Tests.{and-left, and-right, and-both, both-ways}
-use Rattle.ess_semantics.proofs.Orders.{to_list-of_list, same-equal, same-itself, same_int-equal, same_int-itself}
-use Rattle.ess_semantics.proofs.Sorting.{all-sorted_once}
+use Rattle.ess_semantics.proofs.Orders.{same-equal, same-itself, same_int-equal, same_int-itself}
 use Rattle.ess_rules_laws.proofs.SlotNumbers.{as_place}
 use Rattle.ess_rules_laws.proofs.SlotSets.{orderly_in}
 

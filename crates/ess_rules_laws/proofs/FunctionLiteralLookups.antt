@@ -1,5 +1,5 @@
 -- Results of function literals are looked up by cases.
-use Rattle.std.proofs.Common.{◌≡◌, refl, sym, ap, ◌∙◌, subst, Bool, true, false, ◌&&◌, ◌||◌, not, if◌then◌else◌, List, [], ◌∷◌, ◌++◌, Option, Some, None, option_map}
+use Rattle.std.proofs.Common.{◌≡◌, refl, sym, ap, ◌∙◌, subst, Bool, true, false, ◌||◌, not, if◌then◌else◌, List, [], ◌∷◌, ◌++◌, Option, Some, None, option_map}
 use Rattle.std.specs.Prelude.{is_some}
 use Rattle.std.specs.List.{list_any}
 use Rattle.ess_semantics.specs.declared.words.Op2.{Op2}
@@ -8,7 +8,7 @@ use Rattle.ess_semantics.specs.Lists.{and_then, all_some, when}
 use Rattle.ess_semantics.specs.Values.{Value, truth, node, a_function, of_list, from_of, to_of, pair}
 use Rattle.ess_semantics.specs.Order.{same}
 use Rattle.ess_semantics.specs.Collections.{holds, no_twice, sorted_once, has_double_argument, function_of, value_at}
-use Rattle.ess_semantics.specs.Trees.{Op, word, application, function_literal, tuple_literal, Ex, Exs, node_ex, ex2, no_exs, more_exs, Gens, no_gens, cond}
+use Rattle.ess_semantics.specs.Trees.{Op, word, application, function_literal, tuple_literal, Ex, Exs, node_ex, ex2, no_exs, more_exs, cond}
 use Rattle.ess_semantics.specs.Operators.{value_of_node}
 use Rattle.ess_semantics.specs.Meaning.{Env, meaning, meanings, items_under, where_true}
 use Rattle.ess_semantics.specs.Meets.{Meets, MeetsAll, MeetsGens}
@@ -19,7 +19,7 @@ use Rattle.ess_rules_laws.specs.Listings.{Alternative, all_listed, none_of}
 use Rattle.ess_rules_laws.specs.ListedSources.{AllMet}
 use Rattle.ess_rules_laws.specs.Lookups.{found}
 use Rattle.ess_rules_laws.specs.FunctionLookups.{unmarked}
-use Rattle.ess_rules_laws.specs.AlternativeLookups.{LookedBy, first_results, pairs_by_cases, function_literal_lookup, FirstOperandThere}
+use Rattle.ess_rules_laws.specs.AlternativeLookups.{first_results, pairs_by_cases, function_literal_lookup, FirstOperandThere}
 use Rattle.ess_rules_laws.proofs.Connectives.{binary-means, not-means}
 use Rattle.ess_rules_laws.proofs.Lookups.{single}
 use Rattle.ess_rules_laws.proofs.LiteralLookups.{same-swap, equal-none, AnswerCases}
@@ -264,8 +264,13 @@ literal-there ps env t = go (all_some (meanings ps env)) refl t
         (vs : List Value) × (all_some (meanings ps env) ≡ Some vs) × (has_double_argument vs ≡ false)
         × (meaning (node_ex false function_literal ps) env ≡ Some (node a_function (of_list (sorted_once vs))))
     at vs e true d t = no t
-    at vs e false d t = (vs, e, d, ap (λ o. and_then o function_of) e
-        ∙ ap (λ b. when (not b) (node a_function (of_list (sorted_once vs)))) d)
+    at vs e false d t = (
+      vs,
+      e,
+      d,
+      ap (λ o. and_then o function_of) e
+          ∙ ap (λ b. when (not b) (node a_function (of_list (sorted_once vs)))) d,
+    )
 
     go : (o : Option (List Value)) → all_some (meanings ps env) ≡ o → is_some (and_then o function_of) ≡ true →
         (vs : List Value) × (all_some (meanings ps env) ≡ Some vs) × (has_double_argument vs ≡ false)

@@ -90,3 +90,5 @@ pub mod ExamplesDummyListings
 pub mod LiteralLookups
 pub mod AlternativeSelections
 pub mod FunctionLiteralLookups
+pub mod LookedContainers
+pub mod ExamplesAlternativeLookups

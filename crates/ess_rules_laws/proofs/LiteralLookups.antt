@@ -1,13 +1,12 @@
 -- Items of list literals and results of function literals are looked up by cases.
-use Rattle.std.proofs.Common.{◌≡◌, refl, sym, ap, ◌∙◌, subst, ℕ, zero, suc, ◌+◌, ◌≤◌, ◌<◌, Bool, true, false, ◌&&◌, ◌||◌, not, if◌then◌else◌, List, [], ◌∷◌, ◌++◌, pos, Option, Some, None, option_map, arith}
+use Rattle.std.proofs.Common.{◌≡◌, refl, sym, ap, ◌∙◌, subst, ℕ, suc, ◌<◌, Bool, true, false, if◌then◌else◌, List, [], ◌∷◌, ◌++◌, pos, Option, Some, None, option_map, arith}
 use Rattle.std.proofs.lemmas.Int.{ints}
-use Rattle.std.specs.Prelude.{IsTrue, is_some}
+use Rattle.std.specs.Prelude.{is_some}
 use Rattle.ess_semantics.specs.declared.words.Op2.{Op2}
-use Rattle.ess_semantics.specs.declared.words.Fun.{Fun}
 use Rattle.ess_semantics.specs.Lists.{and_then, all_some}
-use Rattle.ess_semantics.specs.Values.{Text, Value, number, truth, of_list}
-use Rattle.ess_semantics.specs.Order.{same, same_int}
-use Rattle.ess_semantics.specs.Trees.{binary, by_value, index, matrix_literal, Ex, Exs, number_ex, node_ex, ex2, no_exs, more_exs, no_gens, cond}
+use Rattle.ess_semantics.specs.Values.{Value, number, truth, of_list}
+use Rattle.ess_semantics.specs.Order.{same}
+use Rattle.ess_semantics.specs.Trees.{binary, by_value, index, matrix_literal, Ex, Exs, number_ex, node_ex, ex2, no_exs, more_exs}
 use Rattle.ess_semantics.specs.Tables.{code}
 use Rattle.ess_semantics.specs.Operators.{numbers_from, item_at, list_value, value_of_node, false_where_undefined}
 use Rattle.ess_semantics.specs.Meaning.{Env, meaning, meanings, where_true}

@@ -4,13 +4,14 @@ use Rattle.std.specs.Prelude.{◌≡◌, ℕ, suc, Bool, true, false, ◌&&◌, 
 use Rattle.ess_semantics.specs.declared.words.Op2.{Op2}
 use Rattle.ess_semantics.specs.declared.words.Fun.{Fun}
 use Rattle.ess_semantics.specs.Values.{Text}
-use Rattle.ess_semantics.specs.Trees.{by_value, index, matrix_literal, function_literal, tuple_literal, name_pat, Ex, Exs, number_ex, name_ex, node_ex, ex2, fun1, no_exs, more_exs, Gens, no_gens, from, cond}
+use Rattle.ess_semantics.specs.Trees.{by_value, index, matrix_literal, function_literal, tuple_literal, name_pat, Ex, Exs, number_ex, name_ex, node_ex, ex2, fun1, no_exs, more_exs, no_gens, from, cond}
 use Rattle.ess_semantics.specs.Meaning.{Env, meaning}
 use Rattle.ess_rules_laws.specs.LiteralRules.{nth}
-use Rattle.ess_rules_laws.specs.Listings.{Alternative, all_listed, none_of}
+use Rattle.ess_rules_laws.specs.Listings.{Alternative, all_listed, none_of, those}
 use Rattle.ess_rules_laws.specs.ListedSources.{laid_out, AllMet}
 use Rattle.ess_rules_laws.specs.SourceRules.{list_of}
 use Rattle.ess_rules_laws.specs.Lookups.{found, put_nth, is_plain, picking, FitsNumber}
+use Rattle.ess_rules_laws.specs.PartLookups.{FitsWhereThere}
 use Rattle.ess_rules_laws.specs.FunctionViews.{of_application}
 
 -- The alternatives look up the value of a term: together they have it as their one item, or no item where there is none. The
@@ -103,3 +104,25 @@ abbrev pub members_of_each : Text → Text → List Alternative → List Alterna
 members_of_each y x [] = []
 members_of_each y x (a ∷ l) =
     record { gens = from (name_pat y) (laid_out a) (from (name_pat x) (name_ex y) no_gens); item = name_ex x } ∷ members_of_each y x l
+
+-- ---- one lookup, and what is made of a looked up operand
+
+-- A lookup as the one alternative; x is a new name.
+abbrev pub as_alternative : Text → Ex → List Alternative
+as_alternative x l = those x l no_gens ∷ []
+
+-- Each alternative's item, which is called x, as the operand in e.
+abbrev pub each_through : Text → List Alternative → Ex → List Alternative
+each_through x [] e = []
+each_through x (a ∷ l) e = record { gens = from (name_pat x) (laid_out a) no_gens; item = e } ∷ each_through x l e
+
+-- `N[t]` through the alternatives of t, which is the k-th operand of N; x is a new name.
+abbrev pub lookup_through_each : Text → ℕ → List Alternative → Ex → Option (List Alternative)
+lookup_through_each x k l (node_ex b op es) =
+    if is_plain op && is_some (nth es k) then Some (each_through x l (node_ex b op (put_nth es k (name_ex x)))) else None
+lookup_through_each x k l e = None
+
+-- What it counts on: the alternatives look up the operand, and where that has a value so has the tree.
+abbrev pub LooksThroughEach : ℕ → List Alternative → Ex → Env → Type 0
+LooksThroughEach k l (node_ex b op es) env = LooksUpEach (nth es k) l env × FitsWhereThere (nth es k) b (node_ex false op es) env
+LooksThroughEach k l e env = Unit {0}

@@ -1,9 +1,12 @@
 -- What each container offers: the laws of the listings and lookups of views and of literals.
-use Rattle.std.specs.Prelude.{◌≡◌, List, Some}
+use Rattle.std.specs.Prelude.{◌≡◌, ℕ, List, Some, IsTrue, is_some}
 use Rattle.ess_semantics.specs.Values.{Text}
 use Rattle.ess_semantics.specs.Trees.{Ex}
-use Rattle.ess_semantics.specs.Meaning.{Env}
+use Rattle.ess_semantics.specs.Meaning.{Env, meaning}
 use Rattle.ess_semantics.specs.Meets.{Meets}
+use Rattle.ess_semantics.specs.Kept.{Keeps}
+use Rattle.ess_rules_laws.specs.Listings.{Alternative}
+use Rattle.ess_rules_laws.specs.ListedSources.{Offers}
 use Rattle.ess_rules_laws.specs.Rules.{Unused, RuleKeeps}
 use Rattle.ess_rules_laws.specs.SetListings.{InOrderWhereMet}
 use Rattle.ess_rules_laws.specs.SlotListings.{SlotsAre, OffersWhereMet}
@@ -11,6 +14,7 @@ use Rattle.ess_rules_laws.specs.DummyListings.{dummy_listing, DummyIs}
 use Rattle.ess_rules_laws.specs.Lookups.{Looked}
 use Rattle.ess_rules_laws.specs.FunctionLookups.{unmarked}
 use Rattle.ess_rules_laws.specs.IndexSteps.{step_apart}
+use Rattle.ess_rules_laws.specs.AlternativeLookups.{LookedBy, list_lookup, function_literal_lookup, FirstOperandThere, select_each, select_whole_each, SelectsEach, SelectsWholeEach, members_of_each, as_alternative, lookup_through_each, LooksThroughEach}
 use Rattle.ess_rules_laws.specs.FunctionViews.{FirstThere, AppliedThere, NamesUnused}
 use Rattle.ess_rules_laws.specs.Function1DViews.{function_1d_listing, function_1d_lookup}
 use Rattle.ess_rules_laws.specs.Function1DPartialViews.{function_1d_partial_listing, function_1d_partial_lookup}
@@ -55,3 +59,27 @@ pub record FunctionViewsAreLookedUp : Type 0 where
       Meets e env → AppliedThere e env → Looked (unmarked e) l env
   pub flagged_from_a_tuple : (xs : List Text) (e l : Ex) → function_nd_partial_lookup xs e ≡ Some l → NamesUnused xs e → (env : Env) →
       Meets e env → AppliedThere e env → Looked (unmarked e) l env
+
+-- ---- lookups by alternatives
+
+-- The item of a list literal at an index and the result of a function literal at an argument are looked up by cases, where the
+-- literal has a value.
+pub record LiteralsAreLookedUp : Type 0 where
+  pub of_lists : (e : Ex) (l : List Alternative) → list_lookup e ≡ Some l → (env : Env) → FirstOperandThere e env → Meets e env →
+      LookedBy (unmarked e) l env
+  pub of_functions : (e : Ex) (l : List Alternative) → function_literal_lookup e ≡ Some l → (env : Env) → FirstOperandThere e env →
+      Meets e env → LookedBy (unmarked e) l env
+
+-- What alternatives that look a term up are good for: an operator on the term, and a scalar by itself, keep their meaning as `or`
+-- or `sum` over the alternatives; what any operator but a connective makes of the term is looked up by them; the members of a
+-- container that has a value are offered by them. A lookup is the one alternative.
+pub record AlternativesServe : Type 0 where
+  pub an_operand_is_selected : (x : Text) (k : ℕ) (l : List Alternative) (e f : Ex) → select_each x k l e ≡ Some f → Unused x e →
+      (env : Env) → SelectsEach k l e env → Keeps e f env
+  pub the_whole_is_selected : (x : Text) (l : List Alternative) (e f : Ex) → select_whole_each x l e ≡ Some f → (env : Env) →
+      SelectsWholeEach l e env → Keeps e f env
+  pub through_an_operand : (x : Text) (k : ℕ) (l : List Alternative) (e : Ex) (m : List Alternative) → lookup_through_each x k l e ≡ Some m →
+      Unused x e → (env : Env) → LooksThroughEach k l e env → Meets e env → LookedBy (unmarked e) m env
+  pub members_are_offered : (y x : Text) (t : Ex) (l : List Alternative) (env : Env) → LookedBy t l env → IsTrue (is_some (meaning t env)) →
+      Offers t (members_of_each y x l) env
+  pub a_lookup_is_one : (x : Text) (t l : Ex) (env : Env) → Looked t l env → LookedBy t (as_alternative x l) env

@@ -1,6 +1,6 @@
 //! What each container offers, each law the contract of a function that does nothing.
 
-ghost use Rattle.ess_rules_laws.specs.ViewLaws.{StepsComeApart, DummyViewsAreListed, FunctionViewsAreListed, FunctionViewsAreLookedUp};
+ghost use Rattle.ess_rules_laws.specs.ViewLaws.{StepsComeApart, DummyViewsAreListed, FunctionViewsAreListed, FunctionViewsAreLookedUp, LiteralsAreLookedUp, AlternativesServe};
 
 /// An index of several steps means what its first step means, and the other steps from there on.
 pub fn steps_come_apart()
@@ -23,4 +23,15 @@ pub fn function_views_are_listed()
 /// There a result of the function at an argument, as `f(a)` or `image(f, a)`, is looked up over the arguments.
 pub fn function_views_are_looked_up()
     ensures { FunctionViewsAreLookedUp }
+{}
+
+/// The item of a list literal at an index and the result of a function literal at an argument are looked up by cases.
+pub fn literals_are_looked_up()
+    ensures { LiteralsAreLookedUp }
+{}
+
+/// An operator on a term that alternatives look up keeps its meaning as one on the item of each, under `or` or `sum`; so does a
+/// scalar by itself. What an operator makes of the term is looked up too, and the members of a container are offered.
+pub fn alternatives_serve()
+    ensures { AlternativesServe }
 {}
