@@ -92,3 +92,4 @@ pub mod AlternativeSelections
 pub mod FunctionLiteralLookups
 pub mod LookedContainers
 pub mod ExamplesAlternativeLookups
+pub mod SureArguments

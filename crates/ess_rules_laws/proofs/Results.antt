@@ -28,7 +28,8 @@ no h = cc
 
 -- ---- index lists behind others
 
-meanings-append : (js ks : Exs) (env : Env) → meanings (append_exs js ks) env ≡ meanings js env ++ meanings ks env
+-- What they mean.
+pub meanings-append : (js ks : Exs) (env : Env) → meanings (append_exs js ks) env ≡ meanings js env ++ meanings ks env
 meanings-append no_exs ks env = refl
 meanings-append (more_exs e es) ks env = ap (λ l. meaning e env ∷ l) (meanings-append es ks env)
 
@@ -111,6 +112,35 @@ module _ (r : Repr) (d : Domain) (ts : Tables) (i : List ℤ) (short : length ts
       (and-both (is_some_and (value_of_tables r d ts (i ++ j)) (member d)) (is_orderly r d (cells_at ts (i ++ j)))
       (ap (λ o. is_some_and o (member d)) (sym (place-value j) ∙ q) ∙ m) (sym (ap (is_orderly r d) (place-cells j)) ∙ o))
 
+module _ (ce : Dom) (js : Exs) (names : List Text) (r : Repr) (c : Domain) (ts : Tables) (h : Env) (ks : Exs) (l : List ℤ)
+    (dom-here : domain_of ce h ≡ Some c) (tables-here : tables_in h.cells names ≡ Some ts)
+    (index-here : indices (meanings (append_exs js ks) h) ≡ Some l) where
+  -- The view has the value that stands there.
+  pub view-value : (v : Value) → value_of_tables r c ts l ≡ Some v → member c v ≡ true → meaning (result_at r ce names js ks) h ≡ Some v
+  view-value v q m =
+      ap (λ o. false_where_undefined (is_bool_dom ce) (seen_in r o (tables_in h.cells names) (indices (meanings (append_exs js ks) h))))
+      dom-here
+      ∙ ap (λ o. false_where_undefined (is_bool_dom ce) (seen_in r (Some c) o (indices (meanings (append_exs js ks) h)))) tables-here
+      ∙ ap (λ o. false_where_undefined (is_bool_dom ce) (seen_in r (Some c) (Some ts) o)) index-here
+      ∙ ap (false_where_undefined (is_bool_dom ce)) q ∙ bool-fits ce c h v dom-here m
+
+  -- Its structure is met where the tables are tidy there.
+  pub view-met : tidy r c ts l ≡ true → MeetsDom ce h → MeetsAll false js h → MeetsAll false ks h → Meets (result_at r ce names js ks) h
+  view-met t mc mj mk = (
+    ap (λ o. tidy_in r o (tables_in h.cells names) (indices (meanings (append_exs js ks) h))) dom-here
+        ∙ ap (λ o. tidy_in r (Some c) o (indices (meanings (append_exs js ks) h))) tables-here
+        ∙ ap (tidy_in r (Some c) (Some ts)) index-here ∙ t,
+    mc,
+    append-met js ks h mj mk,
+  )
+
+-- The flag there says whether the cell is true.
+pub flag-value : (js ks : Exs) (h : Env) (l : List ℤ) (m : Text) (t : Table) → indices (meanings (append_exs js ks) h) ≡ Some l →
+    look h.cells m ≡ Some t → meaning (flag_at m js ks) h ≡ Some (truth (is_flag (cell_at t l)))
+flag-value js ks h l m t e q = ap (λ o. Some (truth (as_truth (cell_in true o (indices (meanings (append_exs js ks) h)))))) q
+    ∙ ap (λ o. Some (truth (as_truth (cell_in true (Some t) o)))) e
+
+-- Under names that agree with those of an env.
 module _ (n : Text → Bool) (ce : Dom) (js : Exs) (names : List Text) (r : Repr) (env : Env) (c : Domain) (ts : Tables) (i : List ℤ)
     (new-c : NamesAreDom n any ce) (new-js : NamesAreExs n any js) (dom-is : domain_of ce env ≡ Some c)
     (tables-are : tables_in env.cells names ≡ Some ts) (index-is : indices (meanings js env) ≡ Some i)
@@ -130,11 +160,7 @@ module _ (n : Text → Bool) (ce : Dom) (js : Exs) (names : List Text) (r : Repr
   -- The view has the value that stands there.
   pub result-is : (v : Value) → value_of_tables r c ts (i ++ j) ≡ Some v → member c v ≡ true →
       meaning (result_at r ce names js ks) Here ≡ Some v
-  result-is v q m =
-      ap (λ o. false_where_undefined (is_bool_dom ce) (seen_in r o (tables_in env.cells names) (indices (meanings (append_exs js ks) Here)))) dom-here
-      ∙ ap (λ o. false_where_undefined (is_bool_dom ce) (seen_in r (Some c) o (indices (meanings (append_exs js ks) Here)))) tables-are
-      ∙ ap (λ o. false_where_undefined (is_bool_dom ce) (seen_in r (Some c) (Some ts) o)) index-here
-      ∙ ap (false_where_undefined (is_bool_dom ce)) q ∙ bool-fits ce c env v dom-is m
+  result-is = view-value ce js names r c ts Here ks (i ++ j) dom-here tables-are index-here
 
   js-met : MeetsAll false js env → MeetsAll false js Here
   js-met = agree-met n js env g new-js agree
@@ -142,19 +168,13 @@ module _ (n : Text → Bool) (ce : Dom) (js : Exs) (names : List Text) (r : Repr
   -- Its structure is met where the tables are tidy there.
   pub result-met : tidy r c ts (i ++ j) ≡ true → MeetsDom ce env → MeetsAll false js env → MeetsAll false ks Here →
       Meets (result_at r ce names js ks) Here
-  result-met h mc mj mk = (
-    ap (λ o. tidy_in r o (tables_in env.cells names) (indices (meanings (append_exs js ks) Here))) dom-here
-        ∙ ap (λ o. tidy_in r (Some c) o (indices (meanings (append_exs js ks) Here))) tables-are
-        ∙ ap (tidy_in r (Some c) (Some ts)) index-here ∙ h,
-    meets-agree-dom env.positions env.types env.cells n ce env.vals g new-c agree mc,
-    append-met js ks Here (js-met mj) mk,
-  )
+  result-met h mc mj mk = view-met ce js names r c ts Here ks (i ++ j) dom-here tables-are index-here h
+      (meets-agree-dom env.positions env.types env.cells n ce env.vals g new-c agree mc) (js-met mj) mk
 
   -- The flag there says whether the cell is true.
   pub flag-is : (m : Text) (t : Table) → look env.cells m ≡ Some t → meaning (flag_at m js ks) Here ≡
       Some (truth (is_flag (cell_at t (i ++ j))))
-  flag-is m t q = ap (λ o. Some (truth (as_truth (cell_in true o (indices (meanings (append_exs js ks) Here)))))) q
-      ∙ ap (λ o. Some (truth (as_truth (cell_in true (Some t) o)))) index-here
+  flag-is m t q = flag-value js ks Here (i ++ j) m t index-here q
 
   pub flag-met : (m : Text) → MeetsAll false js env → MeetsAll false ks Here → Meets (flag_at m js ks) Here
   flag-met m mj mk = append-met js ks Here (js-met mj) mk

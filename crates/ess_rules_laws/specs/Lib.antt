@@ -30,4 +30,5 @@ pub mod FunctionNDViews
 pub mod FunctionNDPartialViews
 pub mod DummyListings
 pub mod AlternativeLookups
+pub mod FunctionKeys
 pub mod ViewLaws
