@@ -48,3 +48,7 @@ runs-over_atom x env dd d q h = go (members d) refl (subst (λ o. is_some (membe
         argument_met = tt;
       });
     }
+
+-- The places over the axis of an atom are the indices of its members.
+pub atom-members-there : (d : Domain) (us : List Value) → members d ≡ Some us → lists_of (codes_of d ∷ []) ≡ map atom_index us
+atom-members-there d us q = ap (λ o. lists_of (map code (list_or_none o) ∷ [])) q ∙ atom-places us

@@ -93,3 +93,4 @@ pub mod FunctionLiteralLookups
 pub mod LookedContainers
 pub mod ExamplesAlternativeLookups
 pub mod SureArguments
+pub mod FunctionKeys

@@ -3,7 +3,8 @@ use Rattle.std.proofs.Common.{◌≡◌, refl, sym, ap, ◌∙◌, subst, suc, B
 use Rattle.std.specs.Prelude.{is_some}
 use Rattle.ess_semantics.specs.Lists.{and_then, all_some, list_or_none}
 use Rattle.ess_semantics.specs.Values.{Text, Value, tuple, of_list, items_of}
-use Rattle.ess_semantics.specs.Order.{same_text}
+use Rattle.ess_semantics.specs.Order.{same, same_text}
+use Rattle.ess_semantics.specs.Collections.{holds}
 use Rattle.ess_semantics.specs.Trees.{tuple_literal, tuple_pat, Doms, no_doms, more_doms, tuple_dom}
 use Rattle.ess_semantics.specs.Domains.{Domain, Domains, tuples, no_domains, more_domains, domain_list, add_heads, lists_of, members, members_of_each}
 use Rattle.ess_semantics.specs.Tables.{code}
@@ -14,7 +15,7 @@ use Rattle.ess_semantics.specs.Meaning.{Env, meanings, bind_all, domain_of, doma
 use Rattle.ess_semantics.specs.Contexts.{Each}
 use Rattle.ess_semantics.specs.Meets.{MeetsAll}
 use Rattle.ess_semantics.specs.Substitution.{BindsAll}
-use Rattle.ess_semantics.proofs.Orders.{to_list-of_list}
+use Rattle.ess_semantics.proofs.Orders.{same-equal, to_list-of_list}
 use Rattle.ess_semantics.proofs.Tests.{and-left, and-right}
 use Rattle.ess_rules_laws.specs.ComponentRules.{has_text}
 use Rattle.ess_rules_laws.specs.FunctionViews.{by_names, name_exs, name_pats, names_fit}
@@ -178,6 +179,14 @@ tuple-parts dds env d q = go (domains_of dds env) refl q
     go None a b = cc
     go (Some ds) a b = (ds, a, let z : tuples ds ≡ d = cc in z)
 
+coded-long : (l : List Value) → length (map code l) ≡ length l
+coded-long [] = refl
+coded-long (v ∷ l) = ap suc (coded-long l)
+
+lists-many : (ls : List (List Value)) → length (map (map code) ls) ≡ length ls
+lists-many [] = refl
+lists-many (l ∷ ls) = ap suc (lists-many ls)
+
 -- Names over a tuple of atoms.
 pub runs-over_tuple : (xs : List Text) (env : Env) (dds : Doms) (ds : Domains) → names_fit xs dds ≡ true → domains_of dds env ≡ Some ds →
     is_some (members (tuples ds)) ≡ true →
@@ -202,11 +211,29 @@ runs-over_tuple xs env dds ds h p t = go (all_some (members_of_each ds)) refl t
             argument_met = names-met xs _;
           }) (lists-long ls));
     }
-      where
-        coded-long : (l : List Value) → length (map code l) ≡ length l
-        coded-long [] = refl
-        coded-long (v ∷ l) = ap suc (coded-long l)
 
-        lists-many : (ls : List (List Value)) → length (map (map code) ls) ≡ length ls
-        lists-many [] = refl
-        lists-many (l ∷ ls) = ap suc (lists-many ls)
+-- ---- members of tuples of atoms
+
+-- What holds of each item holds of one that is held.
+pub each-held : (us : List Value) (P : Value → Type 0) (w : Value) → Each us P → holds us w ≡ true → P w
+each-held [] P w e h = no h
+each-held (u ∷ us) P w e h = go (same u w) refl h (λ z. each-held us P w e.1 z)
+  where
+    go : (b : Bool) → same u w ≡ b → b || holds us w ≡ true → (holds us w ≡ true → P w) → P w
+    go true s h r = subst P (same-equal u w s) e.0
+    go false s h r = r h
+
+-- The places over the axes are the indices of the members, as many as there are axes.
+pub tuple-members-there : (ds : Domains) (us : List Value) → members (tuples ds) ≡ Some us →
+    (lists_of (axes_over ds) ≡ map tuple_index us) × Each us (λ v. length (tuple_index v) ≡ length (axes_over ds))
+tuple-members-there ds us q = go (all_some (members_of_each ds)) refl q
+  where
+    go : (o : Option (List (List Value))) → all_some (members_of_each ds) ≡ o → option_map (λ ls. map T (lists_of ls)) o ≡ Some us →
+        (lists_of (axes_over ds) ≡ map tuple_index us) × Each us (λ v. length (tuple_index v) ≡ length (axes_over ds))
+    go None e q = cc
+    go (Some ls) e q = let c = each-codes ds ls e in let z : map T (lists_of ls) ≡ us = cc in (
+      ap lists_of c ∙ lists-mapped ls ∙ tuple-places (lists_of ls) ∙ ap (map tuple_index) z,
+      subst (λ l. Each l (λ v. length (tuple_index v) ≡ length (axes_over ds))) z (each-mapped T (lists_of ls) _
+          (each-map (lists_of ls) (LongAs ls) _ (λ l n. ap (λ z. length (map code z)) (to_list-of_list l) ∙ coded-long l ∙ n
+          ∙ sym (lists-many ls) ∙ sym (ap length c)) (lists-long ls))),
+    )
