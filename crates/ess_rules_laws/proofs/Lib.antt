@@ -94,3 +94,5 @@ pub mod LookedContainers
 pub mod ExamplesAlternativeLookups
 pub mod SureArguments
 pub mod FunctionKeys
+pub mod PlacesOfTables
+pub mod FlaggedArguments

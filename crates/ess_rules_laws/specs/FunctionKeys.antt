@@ -1,12 +1,13 @@
 -- Shorter forms of views of functions kept by argument, where the argument's own value is an index: the view at the argument, the
 -- flag at the argument.
-use Rattle.std.specs.Prelude.{◌≡◌, Bool, true, false, ◌&&◌, ◌||◌, not, ℤ, List, [], ◌∷◌, Option, Some, None, option_map, if◌then◌else◌}
+use Rattle.std.specs.Prelude.{◌≡◌, Bool, true, false, ◌&&◌, ◌||◌, not, ℤ, List, [], ◌∷◌, map, Option, Some, None, option_map, if◌then◌else◌}
 use Rattle.ess_semantics.specs.declared.words.Op2.{Op2}
 use Rattle.ess_semantics.specs.declared.words.Fun.{Fun}
 use Rattle.ess_semantics.specs.declared.words.ReprKind.{ReprKind}
-use Rattle.ess_semantics.specs.Values.{Text, Value}
+use Rattle.ess_semantics.specs.Values.{Text, Value, items_of}
 use Rattle.ess_semantics.specs.Collections.{holds}
 use Rattle.ess_semantics.specs.Trees.{word, application, tuple_literal, Repr, repr, no_reprs, more_reprs, Ex, Exs, truth_ex, node_ex, comp_ex, seen_ex, ex2, fun1, no_exs, more_exs, no_gens, cond, Dom, tuple_dom, function_dom}
+use Rattle.ess_semantics.specs.Tables.{code}
 use Rattle.ess_semantics.specs.Meaning.{Env, meaning, meanings, domain_of, members_in, indices, is_bool_dom}
 use Rattle.ess_rules_laws.specs.FunctionViews.{result_at, flag_at, of_application}
 
@@ -108,3 +109,19 @@ pub record IsTold (index : Value → List ℤ) (a : Ex) (d : Dom) (env : Env) : 
   pub is_value : meaning a env ≡ Some value
   pub are_members : members_in (domain_of d env) ≡ Some members
   pub is_told : (v : Value) → holds members v ≡ true → index v ≡ index value → v ≡ value
+
+-- So it is of the argument in the first domain of a function with flags.
+abbrev pub ToldBy : Ex → Ex → Env → Type 0
+ToldBy (seen_ex (repr ReprKind.Function1DPartial rs) (function_dom ms es d c) ns js) a env = IsTold (λ v. code v ∷ []) a d env
+ToldBy (seen_ex (repr ReprKind.FunctionNDPartial rs) (function_dom ms es d c) ns js) a env = IsTold (λ v. map code (items_of v)) a d env
+ToldBy f a env = Unit {0}
+
+-- In an application or an `image`.
+abbrev pub ArgumentTold : Ex → Env → Type 0
+ArgumentTold (node_ex b op (more_exs f (more_exs a no_exs))) env = ToldBy f a env
+ArgumentTold e env = Unit {0}
+
+-- In `a in defined(f)`.
+abbrev pub DefinedTold : Ex → Env → Type 0
+DefinedTold (ex2 b o a (fun1 e w f)) env = ToldBy f a env
+DefinedTold e env = Unit {0}
