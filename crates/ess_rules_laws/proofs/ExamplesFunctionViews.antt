@@ -19,7 +19,7 @@ use Rattle.ess_rules_laws.proofs.ExamplesSetListings.{s}
 abbrev y : Text
 y = codes "y"
 
-abbrev over_atoms : ReprKind → Repr
+abbrev pub over_atoms : ReprKind → Repr
 over_atoms k = repr k (more_reprs (repr ReprKind.Atom no_reprs) no_reprs)
 
 -- What a listing has, and what a lookup finds, under tables.
@@ -33,10 +33,10 @@ finds here (Some l) = option_map items_of (meaning l here)
 
 -- ---- 1 to 7 and 2 to 8
 
-abbrev from_two : Env
+abbrev pub from_two : Env
 from_two = record empty_env { cells = (s, row_of (pos 1 ∷ pos 2 ∷ []) (pos 7 ∷ pos 8 ∷ [])) ∷ [] }
 
-abbrev total : Dom → Ex
+abbrev pub total : Dom → Ex
 total d = seen_ex (over_atoms ReprKind.Function1D) (function_dom [] no_exs d (upto 9)) (s ∷ []) no_exs
 
 its_pairs : items from_two (function_1d_listing x (total (upto 2))) ≡ Some (pair (v 1) (v 7) ∷ pair (v 2) (v 8) ∷ [])
@@ -60,10 +60,10 @@ without_a_list = refl
 
 -- ---- with flags: 2 to 8 alone
 
-abbrev flags : Env
+abbrev pub flags : Env
 flags = record from_two { cells = (f, row_of (pos 1 ∷ pos 2 ∷ []) (pos 0 ∷ pos 1 ∷ [])) ∷ from_two.cells }
 
-abbrev partial : Ex
+abbrev pub partial : Ex
 partial = seen_ex (over_atoms ReprKind.Function1DPartial) (function_dom [] no_exs (upto 2) (upto 9)) (f ∷ s ∷ []) no_exs
 
 one_pair : items flags (function_1d_partial_listing x partial) ≡ option_map items_of (meaning partial flags)
@@ -80,7 +80,7 @@ eight_behind_a_flag = refl
 
 -- ---- from pairs of truth values
 
-abbrev four : Env
+abbrev pub four : Env
 four = record empty_env {
   cells = (s, record { axes = (pos 0 ∷ pos 1 ∷ []) ∷ (pos 0 ∷ pos 1 ∷ []) ∷ []; items = pos 5 ∷ pos 6 ∷ pos 7 ∷ pos 8 ∷ [] }) ∷
       (f, record { axes = (pos 0 ∷ pos 1 ∷ []) ∷ (pos 0 ∷ pos 1 ∷ []) ∷ []; items = pos 0 ∷ pos 0 ∷ pos 1 ∷ pos 0 ∷ [] }) ∷ [];
@@ -89,7 +89,7 @@ four = record empty_env {
 abbrev from_pairs : Dom
 from_pairs = function_dom [] no_exs (tuple_dom (ds2 bool_dom bool_dom)) (upto 9)
 
-abbrev both : Ex
+abbrev pub both : Ex
 both = seen_ex (over_atoms ReprKind.FunctionND) from_pairs (s ∷ []) no_exs
 
 all_four : items four (function_nd_listing (x ∷ y ∷ []) both) ≡ option_map items_of (meaning both four)
@@ -102,7 +102,7 @@ one_name = refl
 one_name_twice : function_nd_listing (x ∷ x ∷ []) both ≡ None
 one_name_twice = refl
 
-abbrev some : Ex
+abbrev pub some : Ex
 some = seen_ex (over_atoms ReprKind.FunctionNDPartial) from_pairs (f ∷ s ∷ []) no_exs
 
 the_third : items four (function_nd_partial_listing (x ∷ y ∷ []) some) ≡ option_map items_of (meaning some four)

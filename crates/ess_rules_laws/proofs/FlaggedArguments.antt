@@ -1,6 +1,6 @@
 -- A function kept by argument with flags at a term that its number tells from other arguments: the flag there says whether it is an
 -- argument, and where it is, the view there is the result.
-use Rattle.std.proofs.Common.{◌≡◌, refl, sym, ap, ◌∙◌, subst, ◌≤◌, Bool, true, false, ◌&&◌, ◌||◌, if◌then◌else◌, List, [], ◌∷◌, ◌++◌, map, filter, take, drop, length, ℤ, Option, Some, None, option_map}
+use Rattle.std.proofs.Common.{◌≡◌, refl, sym, ap, ◌∙◌, subst, Bool, true, false, ◌||◌, if◌then◌else◌, List, [], ◌∷◌, ◌++◌, map, filter, take, drop, length, ℤ, Option, Some, None, option_map}
 use Rattle.std.specs.List.{list_all}
 use Rattle.ess_semantics.specs.declared.words.Op2.{Op2}
 use Rattle.ess_semantics.specs.declared.words.Fun.{Fun}
@@ -18,13 +18,13 @@ use Rattle.ess_semantics.specs.Tables.{Table, Tables, cell_at, same_axes}
 use Rattle.ess_semantics.specs.Cells.{Axes, Cells, cells_at}
 use Rattle.ess_semantics.specs.Layers.{own_cell, chosen}
 use Rattle.ess_semantics.specs.FunctionLayers.{with_arguments, function_with, partial_layer}
-use Rattle.ess_semantics.specs.Representations.{layer, width, own_width, child_part, value_of_tables}
+use Rattle.ess_semantics.specs.Representations.{layer, own_width, child_part, value_of_tables}
 use Rattle.ess_semantics.specs.Declarations.{axes_of}
 use Rattle.ess_semantics.specs.Tidy.{over_axes, tidy}
 use Rattle.ess_semantics.specs.Meaning.{Env, meaning, meanings, indices, tables_in, where_true}
 use Rattle.ess_semantics.specs.Meets.{Meets, MeetsAll}
 use Rattle.ess_semantics.proofs.Tests.{and-right, both-ways}
-use Rattle.ess_semantics.proofs.Orders.{same-equal, to_list-of_list}
+use Rattle.ess_semantics.proofs.Orders.{same-equal}
 use Rattle.ess_rules_laws.specs.FunctionViews.{append_exs, result_at, flag_at}
 use Rattle.ess_rules_laws.specs.FunctionKeys.{result_behind_flag}
 use Rattle.ess_rules_laws.specs.Lookups.{found, Looked}
@@ -137,9 +137,9 @@ module _ (index : Value → List ℤ) (k : ReprKind) (r : Repr) (ms : List Mark)
   kept = let list-is : member_list o.d ≡ us = ap list_or_none us-are in
       let w = tables-split f names env o.tables o.tables_are in
       let h : tidy (repr k (more_reprs r no_reprs)) (functions o.ks o.d o.c) (w.0 ∷ w.1) o.i ≡ true =
-          ap (λ l. tidy (repr k (more_reprs r no_reprs)) (functions o.ks o.d o.c) l o.i) (sym w.4) ∙ o.is_tidy in
+      ap (λ l. tidy (repr k (more_reprs r no_reprs)) (functions o.ks o.d o.c) l o.i) (sym w.4) ∙ o.is_tidy in
       let s = partial-stands k r o.ks o.d o.c index axes (places ∙ ap (map index) (sym list-is)) (Own (w.0 ∷ w.1)) is_layer
-          (and-right _ _ h) in
+      (and-right _ _ h) in
       made-kept w.0 w.1 s.0 w.2 w.3 w.4
       (chosen-picked (λ x. cell_at w.0 (o.i ++ index x)) us s.0
       (ap (λ l. chosen l (λ x. cell_at w.0 (o.i ++ index x))) (sym list-is)

@@ -1,24 +1,24 @@
 -- Shorter forms of views of total functions keep what they rewrite.
-use Rattle.std.proofs.Common.{◌≡◌, refl, sym, ap, ◌∙◌, subst, Bool, true, false, ◌&&◌, ◌||◌, not, if◌then◌else◌, List, [], ◌∷◌, map, length, ℤ, Option, Some, None, option_map}
+use Rattle.std.proofs.Common.{◌≡◌, refl, sym, ap, ◌∙◌, subst, Bool, true, false, List, [], ◌∷◌, map, Option, Some, None, option_map}
 use Rattle.ess_semantics.specs.declared.words.Op2.{Op2}
 use Rattle.ess_semantics.specs.declared.words.Fun.{Fun}
 use Rattle.ess_semantics.specs.declared.words.ReprKind.{ReprKind}
 use Rattle.ess_semantics.specs.Lists.{and_then, all_some}
 use Rattle.ess_semantics.specs.Values.{Value, tuple, of_list}
-use Rattle.ess_semantics.specs.Trees.{Op, word, application, tuple_literal, repr, no_reprs, more_reprs, Ex, Exs, truth_ex, node_ex, seen_ex, ex2, fun1, no_exs, more_exs, Dom, tuple_dom, function_dom}
-use Rattle.ess_semantics.specs.Domains.{Domains, tuples, functions, members}
+use Rattle.ess_semantics.specs.Trees.{Op, word, application, tuple_literal, repr, no_reprs, more_reprs, Ex, Exs, truth_ex, node_ex, seen_ex, ex2, fun1, no_exs, more_exs, tuple_dom, function_dom}
+use Rattle.ess_semantics.specs.Domains.{functions, members}
 use Rattle.ess_semantics.specs.Tables.{code}
 use Rattle.ess_semantics.specs.FunctionLayers.{total_layer}
 use Rattle.ess_semantics.specs.Layers.{codes_of}
 use Rattle.ess_semantics.specs.Representations.{layer}
-use Rattle.ess_semantics.specs.Meaning.{Env, meaning, meanings, domain_of, members_in, indices}
-use Rattle.ess_semantics.specs.Meets.{Meets, MeetsAll}
+use Rattle.ess_semantics.specs.Meaning.{Env, meaning, meanings, members_in, indices}
+use Rattle.ess_semantics.specs.Meets.{Meets}
 use Rattle.ess_semantics.specs.Kept.{Keeps}
 use Rattle.ess_semantics.proofs.Orders.{to_list-of_list}
 use Rattle.ess_rules_laws.specs.FunctionViews.{result_at}
 use Rattle.ess_rules_laws.specs.FunctionKeys.{fits_mark, view_at, result_at_argument, is_total_view, defined_everywhere, HeldBy, ArgumentHeld, DefinedHeld}
 use Rattle.ess_rules_laws.proofs.RuleAnswers.{AnswerKeeps, fires, when-so}
-use Rattle.ess_rules_laws.proofs.FunctionViewParts.{Opened, opened}
+use Rattle.ess_rules_laws.proofs.FunctionViewParts.{opened}
 use Rattle.ess_rules_laws.proofs.FunctionViewLookups.{Applies, application-applies, image-applies}
 use Rattle.ess_rules_laws.proofs.ArgumentRuns.{atom_index, atom-members-there}
 use Rattle.ess_rules_laws.proofs.TupleRuns.{tuple_index, axes_over, tuple-parts, each-held, tuple-members-there}
@@ -28,7 +28,7 @@ no : {A : Type 0} → false ≡ true → A
 no h = cc
 
 -- The indices of a tuple that is written as a literal.
-literal-keys : (es : Exs) (env : Env) (w : Value) → meaning (node_ex false tuple_literal es) env ≡ Some w →
+pub literal-keys : (es : Exs) (env : Env) (w : Value) → meaning (node_ex false tuple_literal es) env ≡ Some w →
     indices (meanings es env) ≡ Some (tuple_index w)
 literal-keys es env w q = go (all_some (meanings es env)) refl q
   where

@@ -96,3 +96,5 @@ pub mod SureArguments
 pub mod FunctionKeys
 pub mod PlacesOfTables
 pub mod FlaggedArguments
+pub mod FunctionFlags
+pub mod ExamplesFunctionKeys

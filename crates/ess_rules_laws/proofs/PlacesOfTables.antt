@@ -1,5 +1,5 @@
 -- A table has a cell only at the places over its axes.
-use Rattle.std.proofs.Common.{◌≡◌, refl, sym, ap, ◌∙◌, subst, Bool, true, false, ◌&&◌, ◌||◌, if◌then◌else◌, ℕ, List, [], ◌∷◌, ◌++◌, map, take, drop, length, ℤ, Option, Some, None}
+use Rattle.std.proofs.Common.{◌≡◌, refl, sym, ap, ◌∙◌, Bool, true, false, ◌||◌, if◌then◌else◌, ℕ, List, [], ◌∷◌, ◌++◌, map, take, drop, length, ℤ, Option, Some, None}
 use Rattle.std.specs.List.{list_any}
 use Rattle.ess_semantics.specs.Lists.{and_then}
 use Rattle.ess_semantics.specs.Values.{Value}
@@ -9,7 +9,7 @@ use Rattle.ess_semantics.specs.Domains.{add_heads, lists_of}
 use Rattle.ess_semantics.specs.Tables.{Table, volume, chunk, item_in, cell_at, same_axes}
 use Rattle.ess_semantics.specs.Cells.{Axes}
 use Rattle.ess_semantics.proofs.Tests.{and-left, and-right}
-use Rattle.ess_semantics.proofs.Orders.{same_int-equal, same_int-itself, same_ints-equal, same_ints-itself, same-itself}
+use Rattle.ess_semantics.proofs.Orders.{same_int-equal, same_ints-equal, same_ints-itself, same-itself}
 
 no : {A : Type 0} → false ≡ true → A
 no h = cc

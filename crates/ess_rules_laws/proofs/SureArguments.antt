@@ -1,5 +1,5 @@
 -- A total function kept by argument at one of its arguments: the view there is the result, and the argument is defined.
-use Rattle.std.proofs.Common.{◌≡◌, refl, sym, ap, ◌∙◌, subst, Bool, true, false, ◌&&◌, ◌||◌, not, if◌then◌else◌, List, [], ◌∷◌, ◌++◌, map, drop, length, ℤ, Option, Some, None, option_map}
+use Rattle.std.proofs.Common.{◌≡◌, refl, sym, ap, ◌∙◌, subst, Bool, true, false, ◌||◌, if◌then◌else◌, List, [], ◌∷◌, ◌++◌, map, drop, length, ℤ, Option, Some, None, option_map}
 use Rattle.std.specs.List.{list_all}
 use Rattle.ess_semantics.specs.declared.words.Op2.{Op2}
 use Rattle.ess_semantics.specs.declared.words.Fun.{Fun}
@@ -15,7 +15,7 @@ use Rattle.ess_semantics.specs.Operators.{value_of_node, false_where_undefined}
 use Rattle.ess_semantics.specs.Cells.{Axes, cells_at}
 use Rattle.ess_semantics.specs.FunctionLayers.{with_arguments, function_with, total_layer}
 use Rattle.ess_semantics.specs.Representations.{layer, own_width, child_part}
-use Rattle.ess_semantics.specs.Meaning.{Env, meaning, meanings, domain_of, indices, is_bool_dom}
+use Rattle.ess_semantics.specs.Meaning.{Env, meaning, meanings, domain_of, indices}
 use Rattle.ess_semantics.specs.Meets.{Meets, MeetsAll}
 use Rattle.ess_semantics.proofs.Tests.{and-left, and-right}
 use Rattle.ess_semantics.proofs.Orders.{same-equal, to_list-of_list}
@@ -127,8 +127,8 @@ module _ (index : Value → List ℤ) (k : ReprKind) (r : Repr) (ms : List Mark)
   kept : Kept
   kept = let list-is : member_list o.d ≡ us = ap list_or_none us-are in
       let s = subst (λ l. FunctionStands k r o.ks o.d o.c index (cells_at o.tables o.i) l) list-is
-          (total-stands k r o.ks o.d o.c index axes (places ∙ ap (map index) (sym list-is)) (cells_at o.tables o.i) is_layer
-          (and-right _ _ o.is_tidy)) in
+      (total-stands k r o.ks o.d o.c index axes (places ∙ ap (map index) (sym list-is)) (cells_at o.tables o.i) is_layer
+      (and-right _ _ o.is_tidy)) in
       let child : child_part k (cells_at o.tables o.i) ≡ cells_at o.tables o.i = ap (λ w. drop w (cells_at o.tables o.i)) own-none in record {
         vs = s.vs;
         is_value = view-is (repr k (more_reprs r no_reprs)) ms es dd ce names js env o ∙ s.is_value;

@@ -1,6 +1,6 @@
 -- Shorter forms of views of functions kept by argument, where the argument's own value is an index: the view at the argument, the
 -- flag at the argument.
-use Rattle.std.specs.Prelude.{◌≡◌, Bool, true, false, ◌&&◌, ◌||◌, not, ℤ, List, [], ◌∷◌, map, Option, Some, None, option_map, if◌then◌else◌}
+use Rattle.std.specs.Prelude.{◌≡◌, Bool, true, false, ◌||◌, not, ℤ, List, [], ◌∷◌, map, Option, Some, None, if◌then◌else◌}
 use Rattle.ess_semantics.specs.declared.words.Op2.{Op2}
 use Rattle.ess_semantics.specs.declared.words.Fun.{Fun}
 use Rattle.ess_semantics.specs.declared.words.ReprKind.{ReprKind}
@@ -8,7 +8,7 @@ use Rattle.ess_semantics.specs.Values.{Text, Value, items_of}
 use Rattle.ess_semantics.specs.Collections.{holds}
 use Rattle.ess_semantics.specs.Trees.{word, application, tuple_literal, Repr, repr, no_reprs, more_reprs, Ex, Exs, truth_ex, node_ex, comp_ex, seen_ex, ex2, fun1, no_exs, more_exs, no_gens, cond, Dom, tuple_dom, function_dom}
 use Rattle.ess_semantics.specs.Tables.{code}
-use Rattle.ess_semantics.specs.Meaning.{Env, meaning, meanings, domain_of, members_in, indices, is_bool_dom}
+use Rattle.ess_semantics.specs.Meaning.{Env, meaning, domain_of, members_in, is_bool_dom}
 use Rattle.ess_rules_laws.specs.FunctionViews.{result_at, flag_at, of_application}
 
 -- Whether a result of this domain may stand where a truth value is asked, if one is.

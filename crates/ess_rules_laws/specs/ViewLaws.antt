@@ -16,6 +16,7 @@ use Rattle.ess_rules_laws.specs.FunctionLookups.{unmarked}
 use Rattle.ess_rules_laws.specs.IndexSteps.{step_apart}
 use Rattle.ess_rules_laws.specs.AlternativeLookups.{LookedBy, list_lookup, function_literal_lookup, FirstOperandThere, select_each, select_whole_each, SelectsEach, SelectsWholeEach, members_of_each, as_alternative, lookup_through_each, LooksThroughEach}
 use Rattle.ess_rules_laws.specs.FunctionViews.{FirstThere, AppliedThere, NamesUnused}
+use Rattle.ess_rules_laws.specs.FunctionKeys.{result_at_argument, defined_everywhere, defined_where_flagged, lookup_behind_flag, ArgumentHeld, DefinedHeld, ArgumentTold, DefinedTold}
 use Rattle.ess_rules_laws.specs.Function1DViews.{function_1d_listing, function_1d_lookup}
 use Rattle.ess_rules_laws.specs.Function1DPartialViews.{function_1d_partial_listing, function_1d_partial_lookup}
 use Rattle.ess_rules_laws.specs.FunctionNDViews.{function_nd_listing, function_nd_lookup}
@@ -59,6 +60,15 @@ pub record FunctionViewsAreLookedUp : Type 0 where
       Meets e env → AppliedThere e env → Looked (unmarked e) l env
   pub flagged_from_a_tuple : (xs : List Text) (e l : Ex) → function_nd_partial_lookup xs e ≡ Some l → NamesUnused xs e → (env : Env) →
       Meets e env → AppliedThere e env → Looked (unmarked e) l env
+
+-- Shorter forms, where the value of the argument is an index: of a total function the result at a member of the first domain is the
+-- view there, and each member is an argument; of one with flags a term that its number tells from all other members is an argument
+-- where the flag there is true, and the view behind the flag looks the result up.
+pub record FunctionKeysServe : Type 0 where
+  pub a_result_is_the_view : (e f : Ex) → result_at_argument e ≡ Some f → (env : Env) → ArgumentHeld e env → Keeps e f env
+  pub each_member_is_an_argument : (e f : Ex) → defined_everywhere e ≡ Some f → (env : Env) → DefinedHeld e env → Keeps e f env
+  pub a_flag_says_so : (e f : Ex) → defined_where_flagged e ≡ Some f → (env : Env) → DefinedTold e env → Keeps e f env
+  pub behind_a_flag : (e l : Ex) → lookup_behind_flag e ≡ Some l → (env : Env) → ArgumentTold e env → Meets e env → Looked (unmarked e) l env
 
 -- ---- lookups by alternatives
 

@@ -1,6 +1,6 @@
 //! What each container offers, each law the contract of a function that does nothing.
 
-ghost use Rattle.ess_rules_laws.specs.ViewLaws.{StepsComeApart, DummyViewsAreListed, FunctionViewsAreListed, FunctionViewsAreLookedUp, LiteralsAreLookedUp, AlternativesServe};
+ghost use Rattle.ess_rules_laws.specs.ViewLaws.{StepsComeApart, DummyViewsAreListed, FunctionViewsAreListed, FunctionViewsAreLookedUp, FunctionKeysServe, LiteralsAreLookedUp, AlternativesServe};
 
 /// An index of several steps means what its first step means, and the other steps from there on.
 pub fn steps_come_apart()
@@ -23,6 +23,12 @@ pub fn function_views_are_listed()
 /// There a result of the function at an argument, as `f(a)` or `image(f, a)`, is looked up over the arguments.
 pub fn function_views_are_looked_up()
     ensures { FunctionViewsAreLookedUp }
+{}
+
+/// Where the value of the argument is an index, the result of a total function is the view there, and the flag of one with flags
+/// says whether the term is an argument, and guards the view there.
+pub fn function_keys_serve()
+    ensures { FunctionKeysServe }
 {}
 
 /// The item of a list literal at an index and the result of a function literal at an argument are looked up by cases.
