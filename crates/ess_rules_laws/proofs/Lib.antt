@@ -98,3 +98,4 @@ pub mod PlacesOfTables
 pub mod FlaggedArguments
 pub mod FunctionFlags
 pub mod ExamplesFunctionKeys
+pub mod AtomViews

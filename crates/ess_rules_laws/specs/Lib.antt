@@ -31,4 +31,5 @@ pub mod FunctionNDPartialViews
 pub mod DummyListings
 pub mod AlternativeLookups
 pub mod FunctionKeys
+pub mod AtomViews
 pub mod ViewLaws
