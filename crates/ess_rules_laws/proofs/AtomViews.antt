@@ -1,12 +1,11 @@
 -- A view of an atom means what its cell means.
-use Rattle.std.proofs.Common.{◌≡◌, refl, sym, ap, ◌∙◌, subst, Bool, true, false, List, [], ◌∷◌, ◌++◌, ℤ, pos, Option, Some, None, option_map}
-use Rattle.std.specs.Prelude.{IsTrue}
+use Rattle.std.proofs.Common.{◌≡◌, refl, sym, ap, ◌∙◌, Bool, true, false, List, [], ◌∷◌, ◌++◌, ℤ, pos, Option, Some, None, option_map}
 use Rattle.ess_semantics.specs.declared.words.ReprKind.{ReprKind}
 use Rattle.ess_semantics.specs.Lists.{and_then, is_some_and}
 use Rattle.ess_semantics.specs.Values.{Text, Value, number, truth}
 use Rattle.ess_semantics.specs.Names.{look}
 use Rattle.ess_semantics.specs.Trees.{Repr, repr, no_reprs, Ex, Exs, cell_ex, seen_ex, Dom, bool_dom, int_dom, name_dom, tuple_dom, record_dom, matrix_dom, set_dom, mset_dom, function_dom, relation_dom, partition_dom}
-use Rattle.ess_semantics.specs.Domains.{Attribute, Domain, booleans, integers, named, tuples, records, matrices, sets, msets, functions, relations, partitions, between}
+use Rattle.ess_semantics.specs.Domains.{Attribute, Domain, booleans, integers, tuples, records, matrices, sets, msets, functions, relations, partitions, between}
 use Rattle.ess_semantics.specs.Membership.{member}
 use Rattle.ess_semantics.specs.Operators.{as_truth, false_where_undefined}
 use Rattle.ess_semantics.specs.Tables.{Table, Tables, cell_at, truth_of, atom_value}

@@ -42,7 +42,7 @@ no : {A : Type 0} → false ≡ true → A
 no h = cc
 
 -- A value that passes a test is among those that pass where it is among all.
-held-passing : (t : Value → Bool) (us : List Value) (w : Value) → (t w ≡ true → holds us w ≡ true) → holds (filter t us) w ≡ t w
+pub held-passing : (t : Value → Bool) (us : List Value) (w : Value) → (t w ≡ true → holds us w ≡ true) → holds (filter t us) w ≡ t w
 held-passing t us w f = both-ways (holds (filter t us) w) (t w) (passes us) (λ h. kept us h (f h))
   where
     passes : (us : List Value) → holds (filter t us) w ≡ true → t w ≡ true

@@ -99,3 +99,6 @@ pub mod FlaggedArguments
 pub mod FunctionFlags
 pub mod ExamplesFunctionKeys
 pub mod AtomViews
+pub mod OccurrenceTests
+pub mod OccurrenceViews
+pub mod ExamplesCellViews

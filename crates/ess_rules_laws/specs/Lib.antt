@@ -32,4 +32,5 @@ pub mod DummyListings
 pub mod AlternativeLookups
 pub mod FunctionKeys
 pub mod AtomViews
+pub mod OccurrenceViews
 pub mod ViewLaws

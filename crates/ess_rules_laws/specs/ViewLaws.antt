@@ -17,6 +17,8 @@ use Rattle.ess_rules_laws.specs.IndexSteps.{step_apart}
 use Rattle.ess_rules_laws.specs.AlternativeLookups.{LookedBy, list_lookup, function_literal_lookup, FirstOperandThere, select_each, select_whole_each, SelectsEach, SelectsWholeEach, members_of_each, as_alternative, lookup_through_each, LooksThroughEach}
 use Rattle.ess_rules_laws.specs.FunctionViews.{FirstThere, AppliedThere, NamesUnused}
 use Rattle.ess_rules_laws.specs.FunctionKeys.{result_at_argument, defined_everywhere, defined_where_flagged, lookup_behind_flag, ArgumentHeld, DefinedHeld, ArgumentTold, DefinedTold}
+use Rattle.ess_rules_laws.specs.AtomViews.{atom_cell, AtomCounts}
+use Rattle.ess_rules_laws.specs.OccurrenceViews.{relation_matrix_listing, TuplesThere, member_by_cell, MemberTold}
 use Rattle.ess_rules_laws.specs.Function1DViews.{function_1d_listing, function_1d_lookup}
 use Rattle.ess_rules_laws.specs.Function1DPartialViews.{function_1d_partial_listing, function_1d_partial_lookup}
 use Rattle.ess_rules_laws.specs.FunctionNDViews.{function_nd_listing, function_nd_lookup}
@@ -35,6 +37,17 @@ StepsComeApart = RuleKeeps step_apart
 abbrev pub DummyViewsAreListed : Type 0
 DummyViewsAreListed = (x : Text) (n m e : Ex) (env : Env) → Unused x e → Unused x m → Meets e env → SlotsAre n e env → DummyIs m e env →
     OffersWhereMet (dummy_listing x n m e) e env
+
+-- ---- atoms, and what is kept as a truth value for each possible member
+
+-- A view of an atom keeps its meaning as its cell. A term that its number tells from all other possible members is a member of a
+-- set or relation that is kept as a truth value for each of them where the cell there is true; such a relation offers its tuples, in
+-- order.
+pub record CellsServe : Type 0 where
+  pub an_atom_is_its_cell : (e f : Ex) → atom_cell e ≡ Some f → (env : Env) → AtomCounts e env → Keeps e f env
+  pub a_cell_says_member : (e f : Ex) → member_by_cell e ≡ Some f → (env : Env) → MemberTold e env → Keeps e f env
+  pub tuples_are_listed : (xs : List Text) (e : Ex) (env : Env) → NamesUnused xs e → Meets e env → TuplesThere e env →
+      InOrderWhereMet (relation_matrix_listing xs e) e env
 
 -- ---- functions
 
