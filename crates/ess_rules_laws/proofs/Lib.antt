@@ -89,6 +89,7 @@ pub mod DummyListing
 pub mod ExamplesDummyListings
 pub mod LiteralLookups
 pub mod AlternativeSelections
+pub mod PairResults
 pub mod FunctionLiteralLookups
 pub mod LookedContainers
 pub mod ExamplesAlternativeLookups
