@@ -151,7 +151,8 @@ module _ (x : Text) (k : ℕ) (l : List Alternative) (b : Bool) (op : Op) (es : 
   value-picked v j m = sym (ap (λ o. and_then (value_of_node matrix_literal (o ∷ [])) (λ s. collect (items_of s) (Picked x Body env))) j)
       ∙ at-one x k (list_of (more_exs t no_exs)) b op es env t q new plain
       (record {
-        items = ap (λ o. option_map items_of (and_then (and_then o (λ y. option_map (λ ys. y ∷ ys) (Some []))) (λ ys. Some (list_value ys)))) j
+        items = ap (λ o. option_map items_of (and_then (and_then o (λ y. option_map (λ ys. y ∷ ys) (Some [])))
+            (λ ys. Some (list_value ys)))) j
             ∙ ap (λ o. Some (found o)) (sym j);
         met = (m, tt);
       }) b v j
@@ -204,10 +205,12 @@ select_each-keeps x k l e f q new env s = fires (select_each x k l e) e f env (s
 
 -- ---- a picked scalar by itself
 
-whole-answer : (x : Text) (l : List Alternative) (e : Ex) (env : Env) → SelectsWholeEach l e env → AnswerKeeps (select_whole_each x l e) e env
+whole-answer : (x : Text) (l : List Alternative) (e : Ex) (env : Env) → SelectsWholeEach l e env →
+    AnswerKeeps (select_whole_each x l e) e env
 whole-answer x l (node_ex b op es) env s = λ m. (
   folded-itself b (value_of_node op (meanings es env)) s.1
-      ∙ sym (each-means x (name_ex x) env b l (found (value_of_node op (meanings es env))) (found (value_of_node op (meanings es env))) s.0.items
+      ∙ sym (each-means x (name_ex x) env b l (found (value_of_node op (meanings es env)))
+      (found (value_of_node op (meanings es env))) s.0.items
       (collect-itself x env (found (value_of_node op (meanings es env))))),
   picking_each-met x (name_ex x) env b l s.0.met (λ v. tt),
 )

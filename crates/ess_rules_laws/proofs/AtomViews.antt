@@ -52,7 +52,8 @@ module _ {A : Type 0} (t : Option Tables) (k : Option (List ℤ)) where
       go (Some ts) None h = no h
       go (Some ts) (Some i) h = no-atom e ts i (f e refl) h
 
-  no-map : {B : Type 0} (F : B → Domain) → ((x : B) → layer ReprKind.Atom (F x) ≡ None) → (o : Option B) → tidy_in atom (option_map F o) t k ≡
+  no-map : {B : Type 0} (F : B → Domain) → ((x : B) → layer ReprKind.Atom (F x) ≡ None) → (o : Option B) →
+      tidy_in atom (option_map F o) t k ≡
       true → A
   no-map F f None h = no h
   no-map F f (Some x) h = no-domain (Some (F x)) (λ e q. ap (λ o. layer-of o) (sym q) ∙ f x) h
@@ -89,7 +90,8 @@ module _ (n : Text) (js : Exs) (env : Env) where
       (qi : indices (meanings js env) ≡ Some i) where
     seen-is : (b : Bool) → Seen b o ≡ false_where_undefined b (value_of_tables atom e (x ∷ []) i)
     seen-is b = ap (λ z. false_where_undefined b (seen_in atom z (tables_in env.cells (n ∷ [])) (indices (meanings js env)))) qo
-        ∙ ap (λ z. false_where_undefined b (seen_in atom (Some e) (and_then z (λ t. option_map (λ us. t ∷ us) (Some []))) (indices (meanings js env)))) qx
+        ∙ ap (λ z. false_where_undefined b (seen_in atom (Some e) (and_then z (λ t. option_map (λ us. t ∷ us) (Some [])))
+        (indices (meanings js env)))) qx
         ∙ ap (λ z. false_where_undefined b (seen_in atom (Some e) (Some (x ∷ [])) z)) qi
 
     cell-is : (b : Bool) → Cell b ≡ false_where_undefined b (option_map (cell_value b) (cell_at x i))

@@ -84,7 +84,8 @@ module _ (ks : List Attribute) (d : Domain) (t : Table) (i : List ℤ) where
         dummy_is = q;
         values = λ V v. members-stand d m Cells-at V v (one_to Slots) ls e;
         is_value = ap (λ o. and_then o (λ m. set_in_slots Slots d m Cells-at)) q ∙ ap (option_map (λ ls. set_of (append_all ls))) e;
-        members = sym (ap (list_all (member d)) (to_list-of_list (sorted_once (append_all ls))) ∙ all-sorted_once (member d) (append_all ls))
+        members = sym (ap (list_all (member d)) (to_list-of_list (sorted_once (append_all ls)))
+            ∙ all-sorted_once (member d) (append_all ls))
             ∙ and-right _ _ (and-left _ _ a);
         differ = members-differ d m Cells-at (one_to Slots) zs ls f e b;
       }
@@ -155,10 +156,12 @@ module _ (x : Text) (n m : Ex) (ms : List Mark) (es js : Exs) (dd : Dom) (name :
     over-slots s k = ap (λ z. over_axes (i ++ (k ∷ [])) z (t ∷ [])) (atom-axes d s.dummy s.dummy_is)
         ∙ over-behind i k (one_to (slots_of_set ks d)) (record { axes = []; cell = d } ∷ []) (t ∷ []) (and-left _ _ h)
 
-    dummy-offers : (s : DummyStands ks d t i) → meaning m env ≡ Some (number s.dummy) → MeetsDom dd env → MeetsAll false js env → Meets n env →
+    dummy-offers : (s : DummyStands ks d t i) → meaning m env ≡ Some (number s.dummy) → MeetsDom dd env → MeetsAll false js env →
+        Meets n env →
         Meets m env → Offers View (Listing ∷ []) env
     dummy-offers s q md mj mn mm = used-offers x n Test dd (name ∷ []) js atom env d (t ∷ []) i new-d new-js dom-is tables-are index-is
-        (slots_of_set ks d) n-is (let e : 1 ≤ 1 = omega arith in e) (over-slots s) (holds_other d s.dummy (Cells-at ks d t i)) (says s q) s.vs
+        (slots_of_set ks d) n-is (let e : 1 ≤ 1 = omega arith in e) (over-slots s)
+        (holds_other d s.dummy (Cells-at ks d t i)) (says s q) s.vs
         (s.values (In atom d (cells_at (t ∷ []) i)) (λ k. atom-value d s.dummy (λ js. cell_at t (i ++ (k ∷ js))) s.dummy_is))
         s.members s.differ
         (slots-orderly d s.dummy (cells_at (t ∷ []) i)

@@ -209,7 +209,8 @@ module _ (d : Domain) (m : ℤ) (f : Grid) where
           list_any (λ y. same v y) (append_all ls) ≡ false
       at y ys e true h o b None w q r = cc
       at y ys e true h o b (Some ms) w q r =
-          ap (λ l. list_any (λ y. same v y) (append_all l)) (sym (let t : [] ∷ ms ≡ ls = cc in t)) ∙ r ys ms e w (rest-no (same_int z y) _ h)
+          ap (λ l. list_any (λ y. same v y) (append_all l)) (sym (let t : [] ∷ ms ≡ ls = cc in t))
+          ∙ r ys ms e w (rest-no (same_int z y) _ h)
       at y ys e false h None b p w q r = cc
       at y ys e false h (Some u) b None w q r = cc
       at y ys e false h (Some u) b (Some ms) w q r =

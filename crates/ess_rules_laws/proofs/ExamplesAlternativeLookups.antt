@@ -66,7 +66,8 @@ abbrev listed : Option (List Alternative) → Option (List Value)
 listed None = None
 listed (Some l) = all_listed (members_of_each s x l) empty_env
 
-members_of_the_second : listed (list_lookup (at (list_ex (es2 (set_ex (es1 (n 3))) (set_ex (es2 (n 5) (n 4))))) (n 2))) ≡ Some (v 4 ∷ v 5 ∷ [])
+members_of_the_second : listed (list_lookup (at (list_ex (es2 (set_ex (es1 (n 3))) (set_ex (es2 (n 5) (n 4))))) (n 2))) ≡
+    Some (v 4 ∷ v 5 ∷ [])
 members_of_the_second = refl
 
 -- ---- functions
@@ -91,7 +92,8 @@ name_as_pair = refl
 -- ---- several steps
 
 -- `m[1, 2]` is `m[1][2]`.
-two_steps : step_apart (node_ex false (index (by_value ∷ by_value ∷ [])) (more_exs (N f) (es2 (n 1) (n 2)))) ≡ Some (at (at (N f) (n 1)) (n 2))
+two_steps : step_apart (node_ex false (index (by_value ∷ by_value ∷ [])) (more_exs (N f) (es2 (n 1) (n 2)))) ≡
+    Some (at (at (N f) (n 1)) (n 2))
 two_steps = refl
 
 one_step : step_apart (at (N f) (n 1)) ≡ None

@@ -51,7 +51,8 @@ eight_at_2 = refl
 eight_as_image : finds from_two (function_1d_lookup x (fn2 Fun.Image (total (upto 2)) (n 2))) ≡ Some (v 8 ∷ [])
 eight_as_image = refl
 
-nothing_at_3 : finds from_two (function_1d_lookup x (app (total (upto 2)) (n 3))) ≡ Some (found (meaning (app (total (upto 2)) (n 3)) from_two))
+nothing_at_3 : finds from_two (function_1d_lookup x (app (total (upto 2)) (n 3))) ≡
+    Some (found (meaning (app (total (upto 2)) (n 3)) from_two))
 nothing_at_3 = refl
 
 -- From `int(1..)` there is no list of arguments.

@@ -49,11 +49,13 @@ held-passing t us w f = both-ways (holds (filter t us) w) (t w) (passes us) (λ 
     passes [] h = no h
     passes (u ∷ us) h = go (t u) refl h (λ z. passes us z)
       where
-        at : (b : Bool) → same u w ≡ b → t u ≡ true → b || holds (filter t us) w ≡ true → (holds (filter t us) w ≡ true → t w ≡ true) → t w ≡ true
+        at : (b : Bool) → same u w ≡ b → t u ≡ true → b || holds (filter t us) w ≡ true → (holds (filter t us) w ≡ true → t w ≡ true) →
+            t w ≡ true
         at true s e h r = ap t (sym (same-equal u w s)) ∙ e
         at false s e h r = r h
 
-        go : (b : Bool) → t u ≡ b → holds (if b then u ∷ filter t us else filter t us) w ≡ true → (holds (filter t us) w ≡ true → t w ≡ true) →
+        go : (b : Bool) → t u ≡ b → holds (if b then u ∷ filter t us else filter t us) w ≡ true →
+            (holds (filter t us) w ≡ true → t w ≡ true) →
             t w ≡ true
         go true e h r = at (same u w) refl e h r
         go false e h r = r h
@@ -66,7 +68,8 @@ held-passing t us w f = both-ways (holds (filter t us) w) (t w) (passes us) (λ 
         or-right true c h = refl
         or-right false c h = h
 
-        go : (b : Bool) → t u ≡ b → (c : Bool) → same u w ≡ c → c || holds us w ≡ true → (holds us w ≡ true → holds (filter t us) w ≡ true) →
+        go : (b : Bool) → t u ≡ b → (c : Bool) → same u w ≡ c → c || holds us w ≡ true →
+            (holds us w ≡ true → holds (filter t us) w ≡ true) →
             holds (if b then u ∷ filter t us else filter t us) w ≡ true
         go true q true s h r = ap (λ z. z || holds (filter t us) w) s
         go true q false s h r = or-right (same u w) _ (r h)
@@ -185,7 +188,8 @@ module _ (index : Value → List ℤ) (k : ReprKind) (r : Repr) (ms : List Mark)
 
       held-result : (s : Kept) → is_there s.t w ≡ true →
           Held o.c index (In r o.c (cells_at s.ts o.i)) (orderly_in r o.c (cells_at s.ts o.i)) w (Result-in s)
-      held-result s h = held o.c index (In r o.c (cells_at s.ts o.i)) (orderly_in r o.c (cells_at s.ts o.i)) w (filter (is_there s.t) us) s.vs
+      held-result s h = held o.c index (In r o.c (cells_at s.ts o.i)) (orderly_in r o.c (cells_at s.ts o.i)) w
+          (filter (is_there s.t) us) s.vs
           s.values s.typed s.orderly (among s ∙ h)
 
       view-here : (s : Kept) (h : is_there s.t w ≡ true) → meaning Res env ≡ Some (held-result s h).v
@@ -194,7 +198,8 @@ module _ (index : Value → List ℤ) (k : ReprKind) (r : Repr) (ms : List Mark)
           (sym (place-value r o.c s.ts o.i (over-short r o.c axes o.i s.ts s.over) (index w)) ∙ q.there) q.typed
 
       one-item : (s : Kept) (b : Bool) → is_there s.t w ≡ b →
-          option_map items_of (option_map list_value (where_true (Some (truth b)) (λ u. single (meaning Res env)))) ≡ Some (found (Result-in s))
+          option_map items_of (option_map list_value (where_true (Some (truth b)) (λ u. single (meaning Res env)))) ≡
+          Some (found (Result-in s))
       one-item s true h = ap (λ p. option_map items_of (option_map list_value (single p))) (view-here s h)
           ∙ ap (λ p. Some (found p)) (sym (held-result s h).result)
       one-item s false h = ap (λ p. Some (found p)) (sym (no-result (filter (is_there s.t) us) s.vs w (among s ∙ h)))
@@ -202,7 +207,8 @@ module _ (index : Value → List ℤ) (k : ReprKind) (r : Repr) (ms : List Mark)
       met-here : (s : Kept) → length (index w) ≡ length axes → is_there s.t w ≡ true → Meets Res env
       met-here s long h = let q = held-result s h in
           view-met ce js names r o.c s.ts env keys (o.i ++ index w) o.second_is s.are_tables index-is
-          (place-tidy r o.c s.ts o.i (over-short r o.c axes o.i s.ts s.over) (index w) q.v (s.over (index w) long) q.there q.typed q.orderly)
+          (place-tidy r o.c s.ts o.i (over-short r o.c axes o.i s.ts s.over) (index w) q.v
+          (s.over (index w) long) q.there q.typed q.orderly)
           m.1.2 m.2 keys-met
 
       -- The view behind the flag is the result, or nothing.

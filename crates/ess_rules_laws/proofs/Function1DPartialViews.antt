@@ -23,18 +23,23 @@ use Rattle.ess_rules_laws.proofs.ArgumentRuns.{atom_index, runs-over_atom}
 -- Their pairs.
 pub function_1d_partial-listed : (x : Text) (e : Ex) (env : Env) → Unused x e → Meets e env → FirstThere e env →
     InOrderWhereMet (function_1d_partial_listing x e) e env
-function_1d_partial-listed x (seen_ex (repr ReprKind.Function1DPartial (more_reprs r no_reprs)) (function_dom ms es d c) (f ∷ ns) js) env new m h =
+function_1d_partial-listed x (seen_ex (repr ReprKind.Function1DPartial (more_reprs r no_reprs)) (function_dom ms es d c)
+    (f ∷ ns) js) env new m h =
     let o = opened (repr ReprKind.Function1DPartial (more_reprs r no_reprs)) ms es d c (f ∷ ns) js env m in
-    flagged-offers (but x) (by_name x) atom_index ReprKind.Function1DPartial r ms es d c js env new.0.2 new.1 (codes_of o.d ∷ []) f ns o refl refl
+    flagged-offers (but x) (by_name x) atom_index ReprKind.Function1DPartial r ms es d c js env new.0.2 new.1
+    (codes_of o.d ∷ []) f ns o refl refl
     (runs-over_atom x env d o.d o.first_is h) m
 function_1d_partial-listed x _ env new m h = tt
 
 -- Their results.
-looked : (op : Op) → Applies op → (x : Text) (f a : Ex) (env : Env) → Unused x f → Unused x a → Meets f env → Meets a env → FirstThere f env →
+looked : (op : Op) → Applies op → (x : Text) (f a : Ex) (env : Env) → Unused x f → Unused x a → Meets f env → Meets a env →
+    FirstThere f env →
     AnswerLooks (function_1d_partial_result x f a) (node_ex false op (more_exs f (more_exs a no_exs))) env
-looked op p x (seen_ex (repr ReprKind.Function1DPartial (more_reprs r no_reprs)) (function_dom ms es d c) (f ∷ ns) js) a env new new-a m ma h =
+looked op p x (seen_ex (repr ReprKind.Function1DPartial (more_reprs r no_reprs)) (function_dom ms es d c)
+    (f ∷ ns) js) a env new new-a m ma h =
     let o = opened (repr ReprKind.Function1DPartial (more_reprs r no_reprs)) ms es d c (f ∷ ns) js env m in
-    flagged-looked (but x) (by_name x) atom_index ReprKind.Function1DPartial r ms es d c js env new.0.2 new.1 (codes_of o.d ∷ []) a new-a op p ma
+    flagged-looked (but x) (by_name x) atom_index ReprKind.Function1DPartial r ms es d c js env new.0.2 new.1
+    (codes_of o.d ∷ []) a new-a op p ma
     f ns o refl refl (runs-over_atom x env d o.d o.first_is h) m
 looked op p x _ a env new new-a m ma h = tt
 

@@ -30,7 +30,8 @@ function_1d-listed x (seen_ex (repr ReprKind.Function1D (more_reprs r no_reprs))
 function_1d-listed x _ env new m h = tt
 
 -- Their results.
-looked : (op : Op) → Applies op → (x : Text) (f a : Ex) (env : Env) → Unused x f → Unused x a → Meets f env → Meets a env → FirstThere f env →
+looked : (op : Op) → Applies op → (x : Text) (f a : Ex) (env : Env) → Unused x f → Unused x a → Meets f env → Meets a env →
+    FirstThere f env →
     AnswerLooks (function_1d_result x f a) (node_ex false op (more_exs f (more_exs a no_exs))) env
 looked op p x (seen_ex (repr ReprKind.Function1D (more_reprs r no_reprs)) (function_dom ms es d c) ns js) a env new new-a m ma h =
     let o = opened (repr ReprKind.Function1D (more_reprs r no_reprs)) ms es d c ns js env m in

@@ -105,7 +105,8 @@ module _ (k : ReprKind) (r : Repr) (ks : List Attribute) (d c : Domain) (index :
             values = j;
             is_value = v;
             rising = sym (ap (rises from_of) z) ∙ and-left _ _ (and-left _ _ a);
-            typed = results-typed (In r c (child_part k cs)) ys vs j (sym (ap (list_all (is_pair_in d c)) z) ∙ and-right _ _ (and-left _ _ a));
+            typed = results-typed (In r c (child_part k cs)) ys vs j (sym (ap (list_all (is_pair_in d c)) z)
+                ∙ and-right _ _ (and-left _ _ a));
             orderly = sym (ap (list_all (orderly_in r c (child_part k cs))) e) ∙ and-left _ _ (and-left _ _ o);
           }
 
@@ -124,7 +125,8 @@ module _ (k : ReprKind) (r : Repr) (ks : List Attribute) (d c : Domain) (index :
 
     module _ (l : Layer) (is_layer : layer k F ≡ Some l) where
       layer-value : value_of_cells R F cs ≡
-          and_then (places_in_use l Own) (λ js. and_then (values_of_children (more_reprs r no_reprs) l.children (child_part k cs) js) (l.built Own))
+          and_then (places_in_use l Own) (λ js. and_then (values_of_children (more_reprs r no_reprs) l.children (child_part k cs) js)
+          (l.built Own))
       layer-value = ap (λ o. and_then o (λ l. and_then (places_in_use l Own)
           (λ js. and_then (values_of_children (more_reprs r no_reprs) l.children (child_part k cs) js) (l.built Own)))) is_layer
 
@@ -147,9 +149,11 @@ module _ (k : ReprKind) (r : Repr) (ks : List Attribute) (d c : Domain) (index :
     -- Of one with flags those are that the flags choose.
     pub partial-stands : layer k F ≡ Some (partial_layer ks axes index d c) → tidy_cells R F cs ≡ true →
         (ys : List Value) × (Chosen ≡ Some ys) × FunctionStands cs ys
-    partial-stands is_layer h = go Chosen refl (layer-orderly (partial_layer ks axes index d c) is_layer (and-right _ (is_orderly R F cs) h))
+    partial-stands is_layer h = go Chosen refl (layer-orderly (partial_layer ks axes index d c) is_layer
+        (and-right _ (is_orderly R F cs) h))
       where
-        go : (o : Option (List Value)) → Chosen ≡ o → Orderly (partial_layer ks axes index d c) cs (places_in_use (partial_layer ks axes index d c) Own) ≡ true →
+        go : (o : Option (List Value)) → Chosen ≡ o → Orderly (partial_layer ks axes index d c) cs
+            (places_in_use (partial_layer ks axes index d c) Own) ≡ true →
             (ys : List Value) × (Chosen ≡ Some ys) × FunctionStands cs ys
         go None q m = no (sym (ap (Orderly (partial_layer ks axes index d c) cs) (places ∙ ap (option_map (map index)) q)) ∙ m)
         go (Some ys) q m = (

@@ -30,7 +30,8 @@ flag-answer (seen_ex (repr ReprKind.Function1DPartial (more_reprs r no_reprs)) (
     let o = opened (repr ReprKind.Function1DPartial (more_reprs r no_reprs)) ms es d c (f ∷ ns) js env m in
     let u : members o.d ≡ Some h.members = sym (ap members_in o.first_is) ∙ h.are_members in
     flag-defines atom_index ReprKind.Function1DPartial r ms es d c js env (codes_of o.d ∷ []) f ns o refl refl h.members u
-    (atom-members-there o.d h.members u) m h.value a h.is_value h.is_told (more_exs a no_exs) (ap (λ z. indices (z ∷ [])) h.is_value) (n, tt)
+    (atom-members-there o.d h.members u) m h.value a h.is_value h.is_told (more_exs a no_exs) (ap (λ z. indices (z ∷ [])) h.is_value)
+    (n, tt)
 flag-answer (seen_ex (repr ReprKind.FunctionNDPartial (more_reprs r no_reprs)) (function_dom ms es (tuple_dom ds) c) (f ∷ ns) js)
     (node_ex false tuple_literal as') env h m n = λ y.
     let o = opened (repr ReprKind.FunctionNDPartial (more_reprs r no_reprs)) ms es (tuple_dom ds) c (f ∷ ns) js env m in
@@ -38,7 +39,8 @@ flag-answer (seen_ex (repr ReprKind.FunctionNDPartial (more_reprs r no_reprs)) (
     let u : members o.d ≡ Some h.members = sym (ap members_in o.first_is) ∙ h.are_members in
     let t = tuple-members-there p.0 h.members (ap members p.2 ∙ u) in
     flag-defines tuple_index ReprKind.FunctionNDPartial r ms es (tuple_dom ds) c js env (axes_over p.0) f ns o
-    (subst (λ z. layer ReprKind.FunctionNDPartial (functions o.ks z o.c) ≡ Some (partial_layer o.ks (axes_over p.0) tuple_index z o.c)) p.2 refl)
+    (subst (λ z. layer ReprKind.FunctionNDPartial (functions o.ks z o.c) ≡
+    Some (partial_layer o.ks (axes_over p.0) tuple_index z o.c)) p.2 refl)
     refl h.members u t.0 m h.value (node_ex false tuple_literal as') h.is_value h.is_told as' (literal-keys as' env h.value h.is_value) n
 flag-answer _ a env h m n = tt
 
@@ -58,7 +60,8 @@ looked op k (seen_ex (repr ReprKind.Function1DPartial (more_reprs r no_reprs)) (
     let o = opened (repr ReprKind.Function1DPartial (more_reprs r no_reprs)) ms es d c (f ∷ ns) js env m in
     let u : members o.d ≡ Some h.members = sym (ap members_in o.first_is) ∙ h.are_members in
     flag-looks atom_index ReprKind.Function1DPartial r ms es d c js env (codes_of o.d ∷ []) f ns o refl refl h.members u
-    (atom-members-there o.d h.members u) m h.value a h.is_value h.is_told (more_exs a no_exs) (ap (λ z. indices (z ∷ [])) h.is_value) (n, tt)
+    (atom-members-there o.d h.members u) m h.value a h.is_value h.is_told (more_exs a no_exs) (ap (λ z. indices (z ∷ [])) h.is_value)
+    (n, tt)
     (λ z. refl) op k
 looked op k (seen_ex (repr ReprKind.FunctionNDPartial (more_reprs r no_reprs)) (function_dom ms es (tuple_dom ds) c) (f ∷ ns) js)
     (node_ex false tuple_literal as') env h m n =
@@ -67,7 +70,8 @@ looked op k (seen_ex (repr ReprKind.FunctionNDPartial (more_reprs r no_reprs)) (
     let u : members o.d ≡ Some h.members = sym (ap members_in o.first_is) ∙ h.are_members in
     let t = tuple-members-there p.0 h.members (ap members p.2 ∙ u) in
     flag-looks tuple_index ReprKind.FunctionNDPartial r ms es (tuple_dom ds) c js env (axes_over p.0) f ns o
-    (subst (λ z. layer ReprKind.FunctionNDPartial (functions o.ks z o.c) ≡ Some (partial_layer o.ks (axes_over p.0) tuple_index z o.c)) p.2 refl)
+    (subst (λ z. layer ReprKind.FunctionNDPartial (functions o.ks z o.c) ≡
+    Some (partial_layer o.ks (axes_over p.0) tuple_index z o.c)) p.2 refl)
     refl h.members u t.0 m h.value (node_ex false tuple_literal as') h.is_value h.is_told as' (literal-keys as' env h.value h.is_value) n
     (λ z. each-held h.members (λ v. length (tuple_index v) ≡ length (axes_over p.0)) h.value t.1 z) op k
 looked op k _ a env h m n = tt

@@ -57,13 +57,15 @@ at-answer op p b (seen_ex (repr ReprKind.FunctionND (more_reprs r no_reprs)) (fu
     let u : members o.d ≡ Some h.members = sym (ap members_in o.first_is) ∙ h.are_members in
     let t = tuple-members-there p'.0 h.members (ap members p'.2 ∙ u) in
     sure-result tuple_index ReprKind.FunctionND r ms es (tuple_dom ds) c js env (axes_over p'.0) ns o
-    (subst (λ z. layer ReprKind.FunctionND (functions o.ks z o.c) ≡ Some (total_layer o.ks (axes_over p'.0) z o.c)) p'.2 refl) refl h.members u
+    (subst (λ z. layer ReprKind.FunctionND (functions o.ks z o.c) ≡
+    Some (total_layer o.ks (axes_over p'.0) z o.c)) p'.2 refl) refl h.members u
     t.0 m h.value (node_ex false tuple_literal as') h.is_value h.is_held as' (literal-keys as' env h.value h.is_value)
     (each-held h.members _ h.value t.1 h.is_held) n op p b q)
 at-answer op p b _ a env h m n = tt
 
 result-answer : (e : Ex) (env : Env) → ArgumentHeld e env → Meets e env → AnswerKeeps (result_at_argument e) e env
-result-answer (node_ex b application (more_exs f (more_exs a no_exs))) env h m = at-answer application application-applies b f a env h m.0 m.1.0
+result-answer (node_ex b application (more_exs f (more_exs a no_exs))) env h m =
+    at-answer application application-applies b f a env h m.0 m.1.0
 result-answer (node_ex b (word Fun.Image) (more_exs f (more_exs a no_exs))) env h m =
     at-answer (word Fun.Image) image-applies b f a env h m.0 m.1.0
 result-answer _ env h m = tt
@@ -86,7 +88,8 @@ defined-held a (seen_ex (repr ReprKind.FunctionND (more_reprs r no_reprs)) (func
     let p = tuple-parts ds env o.d o.first_is in
     let u : members o.d ≡ Some h.members = sym (ap members_in o.first_is) ∙ h.are_members in
     sure-defined tuple_index ReprKind.FunctionND r ms es (tuple_dom ds) c js env (axes_over p.0) ns o
-    (subst (λ z. layer ReprKind.FunctionND (functions o.ks z o.c) ≡ Some (total_layer o.ks (axes_over p.0) z o.c)) p.2 refl) refl h.members u
+    (subst (λ z. layer ReprKind.FunctionND (functions o.ks z o.c) ≡
+    Some (total_layer o.ks (axes_over p.0) z o.c)) p.2 refl) refl h.members u
     (tuple-members-there p.0 h.members (ap members p.2 ∙ u)).0 m h.value a h.is_value h.is_held
 defined-held a _ env h m q = no q
 

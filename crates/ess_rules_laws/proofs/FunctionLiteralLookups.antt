@@ -1,20 +1,17 @@
 -- Results of function literals are looked up by cases.
 use Rattle.std.proofs.Common.{◌≡◌, refl, sym, ap, ◌∙◌, subst, Bool, true, false, ◌||◌, not, if◌then◌else◌, List, [], ◌∷◌, ◌++◌, Option, Some, None, option_map}
 use Rattle.std.specs.Prelude.{is_some}
-use Rattle.std.specs.List.{list_any}
 use Rattle.ess_semantics.specs.declared.words.Op2.{Op2}
 use Rattle.ess_semantics.specs.declared.words.Fun.{Fun}
 use Rattle.ess_semantics.specs.Lists.{and_then, all_some, when}
-use Rattle.ess_semantics.specs.Values.{Value, truth, node, a_function, of_list, from_of, to_of, pair}
+use Rattle.ess_semantics.specs.Values.{Value, truth, node, a_function, of_list, pair}
 use Rattle.ess_semantics.specs.Order.{same}
-use Rattle.ess_semantics.specs.Collections.{holds, no_twice, sorted_once, has_double_argument, function_of, value_at}
+use Rattle.ess_semantics.specs.Collections.{holds, sorted_once, has_double_argument, function_of, value_at}
 use Rattle.ess_semantics.specs.Trees.{Op, word, application, function_literal, tuple_literal, Ex, Exs, node_ex, ex2, no_exs, more_exs, cond}
 use Rattle.ess_semantics.specs.Operators.{value_of_node}
 use Rattle.ess_semantics.specs.Meaning.{Env, meaning, meanings, items_under, where_true}
 use Rattle.ess_semantics.specs.Meets.{Meets, MeetsAll, MeetsGens}
-use Rattle.ess_semantics.proofs.Tests.{and-left, and-right}
-use Rattle.ess_semantics.proofs.Orders.{same-equal, same-itself, to_list-of_list}
-use Rattle.ess_semantics.proofs.Sorting.{holds-sorted_once}
+use Rattle.ess_semantics.proofs.Orders.{to_list-of_list}
 use Rattle.ess_rules_laws.specs.Listings.{Alternative, all_listed, none_of}
 use Rattle.ess_rules_laws.specs.ListedSources.{AllMet}
 use Rattle.ess_rules_laws.specs.Lookups.{found}
@@ -92,7 +89,8 @@ module _ (x : Ex) (env : Env) where
   no-argument q bs _ = tt
 
   module _ (w : Value) (q : meaning x env ≡ Some w) where
-    case-is : (bs : List Ex) (us : List Value) (a b : Ex) (u v : Value) → Known bs us env → meaning a env ≡ Some u → meaning b env ≡ Some v →
+    case-is : (bs : List Ex) (us : List Value) (a b : Ex) (u v : Value) → Known bs us env → meaning a env ≡ Some u →
+        meaning b env ≡ Some v →
         items_under (Case bs a b).gens env (λ here. single (meaning b here)) ≡
         where_true (Some (truth (same u w))) (λ z. if holds us w then Some [] else Some (v ∷ []))
     case-is bs us a b u v k i j =
@@ -102,7 +100,8 @@ module _ (x : Ex) (env : Env) where
         (none-listed bs us x w env (λ here. single (meaning b here)) k q ∙ ap (λ o. if holds us w then Some [] else single o) j)
 
     -- The result at the argument, where none of the pairs before has it.
-    results-picked : (bs : List Ex) (us : List Value) (ps : Exs) (vs : List Value) → Known bs us env → all_some (meanings ps env) ≡ Some vs →
+    results-picked : (bs : List Ex) (us : List Value) (ps : Exs) (vs : List Value) → Known bs us env →
+        all_some (meanings ps env) ≡ Some vs →
         Cased (first_results bs x ps) (λ l. all_listed l env ≡ Some (found (if holds us w then None else value_at vs w)))
     results-picked bs us no_exs vs k e = go (holds us w) ∙ ap (λ l. Some (found (if holds us w then None else value_at l w)))
         (let z : [] ≡ vs = cc in z)
@@ -166,7 +165,8 @@ module _ (x : Ex) (env : Env) where
 
 -- What applies a function given by its pairs.
 abbrev AppliesPairs : Op → Type 0
-AppliesPairs op = (ps : List Value) (o : Option Value) → value_of_node op (Some (node a_function (of_list ps)) ∷ o ∷ []) ≡ and_then o (value_at ps)
+AppliesPairs op = (ps : List Value) (o : Option Value) → value_of_node op (Some (node a_function (of_list ps)) ∷ o ∷ []) ≡
+    and_then o (value_at ps)
 
 application-pairs : AppliesPairs application
 application-pairs ps None = refl
@@ -215,11 +215,14 @@ applied-cases op p (node_ex false function_literal ps) x env t m n = let r = lit
     (go r.0 r.1 r.2 (meaning x env) refl))
     (cases-met x env [] ps tt n m)
   where
-    go : (vs : List Value) → all_some (meanings ps env) ≡ Some vs → has_double_argument vs ≡ false → (o : Option Value) → meaning x env ≡ o →
+    go : (vs : List Value) → all_some (meanings ps env) ≡ Some vs → has_double_argument vs ≡ false → (o : Option Value) →
+        meaning x env ≡ o →
         Cased (first_results [] x ps) (λ l. all_listed l env ≡ Some (found (and_then (meaning x env) (value_at (sorted_once vs)))))
-    go vs e d None q = subst (λ z. Cased (first_results [] x ps) (λ l. all_listed l env ≡ Some (found (and_then z (value_at (sorted_once vs))))))
+    go vs e d None q = subst (λ z. Cased (first_results [] x ps) (λ l. all_listed l env ≡
+        Some (found (and_then z (value_at (sorted_once vs))))))
         (sym q) (no-argument x env q [] ps)
-    go vs e d (Some w) q = subst (λ z. Cased (first_results [] x ps) (λ l. all_listed l env ≡ Some (found (and_then z (value_at (sorted_once vs))))))
+    go vs e d (Some w) q = subst (λ z. Cased (first_results [] x ps) (λ l. all_listed l env ≡
+        Some (found (and_then z (value_at (sorted_once vs))))))
         (sym q) (subst (λ z. Cased (first_results [] x ps) (λ l. all_listed l env ≡ Some (found z))) (sym (value-sorted vs w d))
         (results-picked x env w q [] [] ps vs tt e))
 applied-cases op p _ x env t m n = tt

@@ -35,14 +35,17 @@ in-order-so false a e env h = tt
 -- Their pairs.
 pub function_nd_partial-listed : (xs : List Text) (e : Ex) (env : Env) → NamesUnused xs e → Meets e env → FirstThere e env →
     InOrderWhereMet (function_nd_partial_listing xs e) e env
-function_nd_partial-listed xs (seen_ex (repr ReprKind.FunctionNDPartial (more_reprs r no_reprs)) (function_dom ms es (tuple_dom ds) c) (f ∷ ns) js) env new m h =
+function_nd_partial-listed xs (seen_ex (repr ReprKind.FunctionNDPartial (more_reprs r no_reprs)) (function_dom ms es (tuple_dom ds) c)
+    (f ∷ ns) js) env new m h =
     in-order-so (names_fit xs ds) (flagged_pairs (by_names xs) r (tuple_dom ds) c f ns js) _ env (λ q.
     let o = opened (repr ReprKind.FunctionNDPartial (more_reprs r no_reprs)) ms es (tuple_dom ds) c (f ∷ ns) js env m in
     let p = tuple-parts ds env o.d o.first_is in
     let t : is_some (members (tuples p.0)) ≡ true = subst (λ z. is_some (members_in z) ≡ true) (o.first_is ∙ ap Some (sym p.2)) h in
-    flagged-offers (outside (has_text xs)) (by_names xs) tuple_index ReprKind.FunctionNDPartial r ms es (tuple_dom ds) c js env new.0.2 new.1
+    flagged-offers (outside (has_text xs)) (by_names xs) tuple_index ReprKind.FunctionNDPartial r ms es
+    (tuple_dom ds) c js env new.0.2 new.1
     (axes_over p.0) f ns o
-    (subst (λ z. layer ReprKind.FunctionNDPartial (functions o.ks z o.c) ≡ Some (partial_layer o.ks (axes_over p.0) tuple_index z o.c)) p.2 refl) refl
+    (subst (λ z. layer ReprKind.FunctionNDPartial (functions o.ks z o.c) ≡
+    Some (partial_layer o.ks (axes_over p.0) tuple_index z o.c)) p.2 refl) refl
     (subst (λ z. RunsOver (outside (has_text xs)) (by_names xs) tuple_index (length (axes_over p.0)) env z (axes_over p.0)) p.2
     (runs-over_tuple xs env ds p.0 q p.1 t)) m)
 function_nd_partial-listed xs _ env new m h = tt
@@ -51,15 +54,18 @@ function_nd_partial-listed xs _ env new m h = tt
 looked : (op : Op) → Applies op → (xs : List Text) (f a : Ex) (env : Env) → NamesUnused xs f → NamesUnused xs a → Meets f env →
     Meets a env → FirstThere f env →
     AnswerLooks (function_nd_partial_result xs f a) (node_ex false op (more_exs f (more_exs a no_exs))) env
-looked op k xs (seen_ex (repr ReprKind.FunctionNDPartial (more_reprs r no_reprs)) (function_dom ms es (tuple_dom ds) c) (f ∷ ns) js) a env new new-a m
+looked op k xs (seen_ex (repr ReprKind.FunctionNDPartial (more_reprs r no_reprs)) (function_dom ms es (tuple_dom ds) c)
+    (f ∷ ns) js) a env new new-a m
     ma h =
     looks-so (names_fit xs ds) (flagged_result (by_names xs) r (tuple_dom ds) c f ns js a) _ env (λ q.
     let o = opened (repr ReprKind.FunctionNDPartial (more_reprs r no_reprs)) ms es (tuple_dom ds) c (f ∷ ns) js env m in
     let p = tuple-parts ds env o.d o.first_is in
     let t : is_some (members (tuples p.0)) ≡ true = subst (λ z. is_some (members_in z) ≡ true) (o.first_is ∙ ap Some (sym p.2)) h in
-    flagged-looked (outside (has_text xs)) (by_names xs) tuple_index ReprKind.FunctionNDPartial r ms es (tuple_dom ds) c js env new.0.2 new.1
+    flagged-looked (outside (has_text xs)) (by_names xs) tuple_index ReprKind.FunctionNDPartial r ms es
+    (tuple_dom ds) c js env new.0.2 new.1
     (axes_over p.0) a new-a op k ma f ns o
-    (subst (λ z. layer ReprKind.FunctionNDPartial (functions o.ks z o.c) ≡ Some (partial_layer o.ks (axes_over p.0) tuple_index z o.c)) p.2 refl) refl
+    (subst (λ z. layer ReprKind.FunctionNDPartial (functions o.ks z o.c) ≡
+    Some (partial_layer o.ks (axes_over p.0) tuple_index z o.c)) p.2 refl) refl
     (subst (λ z. RunsOver (outside (has_text xs)) (by_names xs) tuple_index (length (axes_over p.0)) env z (axes_over p.0)) p.2
     (runs-over_tuple xs env ds p.0 q p.1 t)) m)
 looked op k xs _ a env new new-a m ma h = tt

@@ -146,7 +146,8 @@ module _ (n : Text → Bool) (u : Run) (index : Value → List ℤ) (many : ℕ)
     abbrev V : List ℤ → Option Value
     V = In r c (cells_at ts i)
 
-    fact : (v w : Value) → Keyed n u index many env v → V (index v) ≡ Some w → member c w ≡ true → orderly_in r c (cells_at ts i) (index v) ≡ true → Fact v w
+    fact : (v w : Value) → Keyed n u index many env v → V (index v) ≡ Some w → member c w ≡ true →
+        orderly_in r c (cells_at ts i) (index v) ≡ true → Fact v w
     fact v w k q m o = record {
       keyed = k;
       result = result-is n ce js names r env c ts i new-c new-js dom-is tables-are index-is (bind u.pattern v env.vals) k.agree u.keys
@@ -155,7 +156,8 @@ module _ (n : Text → Bool) (u : Run) (index : Value → List ℤ) (many : ℕ)
           (index v) k.codes (place-tidy r c ts i short (index v) w (over (index v) k.long) q m o) mc mj k.keys_met;
     }
 
-    pub facts : (ys vs : List Value) → Each ys (Keyed n u index many env) → each_of (map index ys) V ≡ Some vs → list_all (member c) vs ≡ true →
+    pub facts : (ys vs : List Value) → Each ys (Keyed n u index many env) → each_of (map index ys) V ≡ Some vs →
+        list_all (member c) vs ≡ true →
         list_all (orderly_in r c (cells_at ts i)) (map index ys) ≡ true → Facts ys vs
     facts [] vs k q m o = subst (λ l. Facts [] l) (let e : [] ≡ vs = cc in e) tt
     facts (y ∷ ys) vs k q m o = go (V (index y)) (each_of (map index ys) V) refl refl q (λ us j m. facts ys us k.1 j m (and-right _ _ o))

@@ -109,7 +109,8 @@ module _ (n : Text → Bool) (u : Run) (index : Value → List ℤ) (many : ℕ)
       behind-first : (y v : Value) (ys : List Value) → Fact n u index many env ce js names r c ts i y v → (b : Bool) → same y w ≡ b →
           collect (y ∷ ys) Picked ≡ option_map (λ us. (if b then v ∷ us else us)) (collect ys Picked)
       behind-first y v ys f true e = ap (λ o. and_then o (λ xs. option_map (λ us. xs ++ us) (collect ys Picked)))
-          (ap (λ o. where_true o (λ z. single (meaning Res (At y)))) (equal-is y w f.keyed q ∙ ap (λ b. Some (truth b)) e) ∙ ap single f.result)
+          (ap (λ o. where_true o (λ z. single (meaning Res (At y)))) (equal-is y w f.keyed q ∙ ap (λ b. Some (truth b)) e)
+          ∙ ap single f.result)
       behind-first y v ys f false e = ap (λ o. and_then o (λ xs. option_map (λ us. xs ++ us) (collect ys Picked)))
           (ap (λ o. where_true o (λ z. single (meaning Res (At y)))) (equal-is y w f.keyed q ∙ ap (λ b. Some (truth b)) e))
 

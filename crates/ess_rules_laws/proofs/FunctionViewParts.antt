@@ -146,7 +146,8 @@ module _ (k : ReprKind) (r : Repr) (ks : List Attribute) (d c : Domain) (axes : 
   total-over is_layer ts h j n = over-indices i j axes (declarations_below false r c) ts n
       (ap (λ o. over_axes i (axes_in (elim o [
         | None ↦ []
-        | Some l ↦ map (declared_own false) l.own ++ declarations_of_children (leaves_out l.in_use) (more_reprs r no_reprs) l.children l.axes
+        | Some l ↦ map (declared_own false) l.own ++ declarations_of_children (leaves_out l.in_use)
+            (more_reprs r no_reprs) l.children l.axes
       ])) ts) (sym is_layer) ∙ and-left _ _ h)
 
   -- And of the child of one with flags, whose table has the axes themselves.

@@ -67,7 +67,8 @@ module _ (n : Text → Bool) (u : Run) (index : Value → List ℤ) (k : ReprKin
           met = (
             m.1.1,
             subst (λ z. EachOf z (λ v. Meets Eq (Here n u index (length axes) env v)
-                × (as_truth (meaning Eq (Here n u index (length axes) env v)) ≡ true → Meets Res (Here n u index (length axes) env v)))) (sym b)
+                × (as_truth (meaning Eq (Here n u index (length axes) env v)) ≡ true →
+                Meets Res (Here n u index (length axes) env v)))) (sym b)
                 (each-join runs.us (Keyed n u index (length axes) env) (λ v. Meets Res (Here n u index (length axes) env v)) _
                 (λ v h g. (equal-met n u index (length axes) env ce js names r o.c o.tables o.i a new-a v h met-a, λ z. g)) runs.keyed
                 (results-met n u index (length axes) env ce js names r o.c o.tables o.i runs.us w.vs w.facts)),

@@ -62,7 +62,8 @@ module _ (n : Text → Bool) (u : Run) (index : Value → List ℤ) (k : ReprKin
         (total-stands k r o.ks o.d o.c index axes (runs.places ∙ ap (map index) (sym us-are)) (cells_at o.tables o.i) is_layer
         (and-right _ _ o.is_tidy)) in
         let over = total-over k r o.ks o.d o.c axes o.i is_layer o.tables o.is_tidy in
-        let child : child_part k (cells_at o.tables o.i) ≡ cells_at o.tables o.i = ap (λ w. drop w (cells_at o.tables o.i)) own-none in record {
+        let child : child_part k (cells_at o.tables o.i) ≡ cells_at o.tables o.i =
+        ap (λ w. drop w (cells_at o.tables o.i)) own-none in record {
           vs = s.vs;
           is_value = view-is R ms es dd ce names js env o ∙ s.is_value;
           rising = s.rising;
@@ -76,7 +77,8 @@ module _ (n : Text → Bool) (u : Run) (index : Value → List ℤ) (k : ReprKin
     pub total-offers : OffersInOrder View (total_pairs u r dd ce names js) env
     total-offers = let w = total-view in let a = ap members_in o.first_is ∙ runs.are_members in record {
       items = ap (option_map items_of) w.is_value ∙ ap Some (to_list-of_list (with_arguments runs.us w.vs))
-          ∙ sym (ap (λ z. and_then z (λ vs. collect vs (λ v. option_map (λ w. w ∷ []) (meaning Pair (Here n u index (length axes) env v))))) a
+          ∙ sym (ap (λ z. and_then z (λ vs. collect vs (λ v. option_map (λ w. w ∷ [])
+          (meaning Pair (Here n u index (length axes) env v))))) a
           ∙ pairs-listed n u index (length axes) env ce js names r o.c o.tables o.i runs.us w.vs w.facts);
       met = (
         m.1.1,
@@ -155,7 +157,8 @@ module _ (n : Text → Bool) (u : Run) (index : Value → List ℤ) (k : ReprKin
     -- The flag at an argument says whether there is a result.
     pub flag-says : (t : Table) → look env.cells f ≡ Some t → (v : Value) → Keyed n u index (length axes) env v →
         meaning Flag (Here n u index (length axes) env v) ≡ Some (truth (is_there t v))
-    flag-says t q v h = flag-is n ce js [] r env o.c [] o.i new-c new-js o.second_is refl o.index_is (bind u.pattern v env.vals) h.agree u.keys
+    flag-says t q v h = flag-is n ce js [] r env o.c [] o.i new-c new-js o.second_is refl o.index_is
+        (bind u.pattern v env.vals) h.agree u.keys
         (index v) h.codes f t q
 
     -- Its structures are met.
@@ -170,9 +173,11 @@ module _ (n : Text → Bool) (u : Run) (index : Value → List ℤ) (k : ReprKin
           ∙ sym (ap (λ z. and_then z (λ vs. collect vs (λ v.
           where_true (meaning Flag (Here n u index (length axes) env v))
           (λ z. option_map (λ w. w ∷ []) (meaning FlaggedPair (Here n u index (length axes) env v)))))) a
-          ∙ collect-passing (is_there w.t) _ (λ v. option_map (λ w. w ∷ []) (meaning FlaggedPair (Here n u index (length axes) env v))) runs.us
+          ∙ collect-passing (is_there w.t) _ (λ v. option_map (λ w. w ∷ [])
+          (meaning FlaggedPair (Here n u index (length axes) env v))) runs.us
           (each-map runs.us _ _ (λ v h. ap (λ z. where_true z
-          (λ z. option_map (λ w. w ∷ []) (meaning FlaggedPair (Here n u index (length axes) env v)))) (flag-says w.t w.is_table v h)) runs.keyed)
+          (λ z. option_map (λ w. w ∷ []) (meaning FlaggedPair (Here n u index (length axes) env v))))
+          (flag-says w.t w.is_table v h)) runs.keyed)
           ∙ pairs-listed n u index (length axes) env ce js names r o.c w.ts o.i (filter (is_there w.t) runs.us) w.vs w.facts);
       met = (
         m.1.1,

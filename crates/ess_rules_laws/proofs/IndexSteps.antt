@@ -37,7 +37,8 @@ by-value qs (Some v) (Some w) os = go (at_index v w) (all_some os)
 
 -- Into a tuple.
 to-component : (k : ℕ) (qs : List Step) (t : Option Value) (os : List (Option Value)) →
-    value_of_node (index (to_component k ∷ qs)) (t ∷ os) ≡ value_of_node (index qs) (value_of_node (index (to_component k ∷ [])) (t ∷ []) ∷ os)
+    value_of_node (index (to_component k ∷ qs)) (t ∷ os) ≡ value_of_node (index qs)
+    (value_of_node (index (to_component k ∷ [])) (t ∷ []) ∷ os)
 to-component k qs None os = refl
 to-component k qs (Some v) os = go (all_some os)
   where

@@ -30,7 +30,8 @@ same-swap a b = both-ways (same a b) (same b a) (λ h. ap (λ c. same b c) (same
     (λ h. ap (λ c. same a c) (same-equal b a h) ∙ same-itself a)
 
 -- What an equality with an operand without a value is.
-pub equal-none : (o p : Option Value) → o ≡ None → false_where_undefined true (value_of_node (binary Op2.Eq) (o ∷ p ∷ [])) ≡ Some (truth false)
+pub equal-none : (o p : Option Value) → o ≡ None → false_where_undefined true (value_of_node (binary Op2.Eq) (o ∷ p ∷ [])) ≡
+    Some (truth false)
 equal-none o p q = ap (λ z. false_where_undefined true (value_of_node (binary Op2.Eq) (z ∷ p ∷ []))) q
 
 -- What alternatives answer looks a term up.
@@ -39,7 +40,8 @@ AnswerCases None t env = Unit {0}
 AnswerCases (Some l) t env = LookedBy t l env
 
 -- So it is where there are some.
-pub looks-by : (o : Option (List Alternative)) (t : Ex) (l : List Alternative) (env : Env) → AnswerCases o t env → o ≡ Some l → LookedBy t l env
+pub looks-by : (o : Option (List Alternative)) (t : Ex) (l : List Alternative) (env : Env) → AnswerCases o t env → o ≡ Some l →
+    LookedBy t l env
 looks-by o t l env h q = subst (λ z. AnswerCases z t env) q h
 
 -- ---- items of lists
@@ -54,7 +56,8 @@ module _ (i : Ex) (env : Env) where
   no-index : meaning i env ≡ None → (k : ℕ) (es : Exs) → all_listed (numbered_items k i es) env ≡ Some []
   no-index q k no_exs = refl
   no-index q k (more_exs e es) = ap (λ o. and_then (where_true o (λ u. single (meaning e env)))
-      (λ xs. option_map (λ ys. xs ++ ys) (all_listed (numbered_items (suc k) i es) env))) (equal-none (meaning i env) (Some (number (pos k))) q)
+      (λ xs. option_map (λ ys. xs ++ ys) (all_listed (numbered_items (suc k) i es) env)))
+      (equal-none (meaning i env) (Some (number (pos k))) q)
       ∙ ap (option_map (λ ys. ys)) (no-index q (suc k) es)
 
   module _ (w : Value) (q : meaning i env ≡ Some w) where
@@ -110,7 +113,8 @@ module _ (i : Ex) (env : Env) where
             Some (found (if b then Some v else item_at (of_list (numbers_from (suc k) us)) (of_list us) w))
         at v us j c true s r t = case-is k x v (all_listed (numbered_items (suc k) i es) env) true s j
             ∙ ap (option_map (λ ys. v ∷ ys)) (t (same-equal (number (pos k)) w s) us c)
-        at v us j c false s r t = case-is k x v (all_listed (numbered_items (suc k) i es) env) false s j ∙ ap (option_map (λ ys. ys)) (r us c)
+        at v us j c false s r t = case-is k x v (all_listed (numbered_items (suc k) i es) env) false s j
+            ∙ ap (option_map (λ ys. ys)) (r us c)
 
         go : (o : Option Value) → meaning x env ≡ o → (p : Option (List Value)) → all_some (meanings es env) ≡ p →
             and_then o (λ v. option_map (λ us. v ∷ us) p) ≡ Some vs → Rest → Behind →

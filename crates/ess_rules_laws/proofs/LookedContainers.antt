@@ -30,7 +30,8 @@ use Rattle.ess_rules_laws.proofs.AlternativeSelections.{Picked, nothing-there, v
 -- The items of an alternative as a list.
 laid-items : (a : Alternative) (env : Env) (ws : List Value) (F : Value → Option (List Value)) → items_listed a env ≡ Some ws →
     and_then (meaning (laid_out a) env) (λ s. collect (items_of s) F) ≡ collect ws F
-laid-items a env ws F q = ap (λ o. and_then (option_map list_value o) (λ s. collect (items_of s) F)) q ∙ ap (λ l. collect l F) (to_list-of_list ws)
+laid-items a env ws F q = ap (λ o. and_then (option_map list_value o) (λ s. collect (items_of s) F)) q
+    ∙ ap (λ l. collect l F) (to_list-of_list ws)
 
 -- ---- members
 
@@ -86,7 +87,8 @@ through-listed : (x : Text) (e : Ex) (env : Env) (l : List Alternative) (ws : Li
     all_listed (each_through x l e) env ≡ collect ws (Picked x e env)
 through-listed x e env [] ws p = ap (λ l. collect l (Picked x e env)) (ap list_or_none p)
 through-listed x e env (a ∷ l) ws p = let d = both-lists (items_listed a env) (all_listed l env) ws p in
-    ap (λ o. and_then o (λ xs. option_map (λ ys. xs ++ ys) (all_listed (each_through x l e) env))) (laid-items a env d.0 (Picked x e env) d.2)
+    ap (λ o. and_then o (λ xs. option_map (λ ys. xs ++ ys) (all_listed (each_through x l e) env)))
+    (laid-items a env d.0 (Picked x e env) d.2)
     ∙ ap (λ o. and_then (collect d.0 (Picked x e env)) (λ xs. option_map (λ ys. xs ++ ys) o)) (through-listed x e env l d.1 d.3)
     ∙ sym (collect-append d.0 d.1 (Picked x e env)) ∙ ap (λ l. collect l (Picked x e env)) d.4
 
@@ -126,7 +128,8 @@ module _ (x : Text) (k : ℕ) (l : List Alternative) (b : Bool) (op : Op) (es : 
         (λ v. subst (λ z. MeetsAll z (put_nth es k (name_ex x)) (behind x v env)) (sym g) (put-met x v es k env new n));
   }
 
-cases-so : (c : Bool) (l : List Alternative) (t : Ex) (env : Env) → (c ≡ true → LookedBy t l env) → AnswerCases (if c then Some l else None) t env
+cases-so : (c : Bool) (l : List Alternative) (t : Ex) (env : Env) → (c ≡ true → LookedBy t l env) →
+    AnswerCases (if c then Some l else None) t env
 cases-so true l t env h = h refl
 cases-so false l t env h = tt
 

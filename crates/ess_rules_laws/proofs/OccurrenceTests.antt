@@ -64,7 +64,8 @@ module _ (R : Repr) (dom : Dom) (n : Text) (js : Exs) (env : Env) where
 
   -- It means what its table stands for.
   pub parts-mean : is_bool_dom dom ≡ false → (p : Parts) → meaning View env ≡ value_of_tables R p.d (p.t ∷ []) p.i
-  parts-mean q p = ap (λ b. false_where_undefined b (seen_in R (domain_of dom env) (tables_in env.cells (n ∷ [])) (indices (meanings js env)))) q
+  parts-mean q p = ap (λ b. false_where_undefined b (seen_in R (domain_of dom env) (tables_in env.cells (n ∷ []))
+      (indices (meanings js env)))) q
       ∙ ap (λ o. seen_in R o (tables_in env.cells (n ∷ [])) (indices (meanings js env))) p.domain_is
       ∙ ap (λ o. seen_in R (Some p.d) (and_then o (λ x. option_map (λ xs. x ∷ xs) (Some []))) (indices (meanings js env))) p.table_is
       ∙ ap (λ o. seen_in R (Some p.d) (Some (p.t ∷ [])) o) p.index_is
@@ -86,7 +87,8 @@ module _ (k : ReprKind) (d e : Domain) (kind : Kind) (index : Value → List ℤ
     where
       go : (o : Option (List Value)) → chosen (member_list e) (λ x. cell_at t (i ++ index x)) ≡ o →
           value_of_tables (repr k no_reprs) d (t ∷ []) i ≡ Some (node kind (of_list (filter occurs us)))
-      go None q = no (sym (ap (λ o. is_some_and o (member d)) (built (λ js. cell_at t (i ++ js)) ∙ ap (option_map (λ xs. node kind (of_list xs))) q))
+      go None q = no (sym (ap (λ o. is_some_and o (member d)) (built (λ js. cell_at t (i ++ js))
+          ∙ ap (option_map (λ xs. node kind (of_list xs))) q))
           ∙ and-left _ (is_orderly (repr k no_reprs) d (cells_at (t ∷ []) i)) (and-right _ _ h))
       go (Some ys) q = built (λ js. cell_at t (i ++ js)) ∙ ap (option_map (λ xs. node kind (of_list xs))) q
           ∙ ap (λ l. Some (node kind (of_list l))) (chosen-picked (λ x. cell_at t (i ++ index x)) us ys

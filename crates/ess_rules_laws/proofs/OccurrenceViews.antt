@@ -68,7 +68,8 @@ cell-answer (seen_ex (repr ReprKind.Occurrence no_reprs) (set_dom ms es d) (n �
           p.table_is,
       append-met js (more_exs a no_exs) env m.2 (k, tt),
     )
-cell-answer (seen_ex (repr ReprKind.RelationAsMatrix no_reprs) (relation_dom ms es ds) (n ∷ []) js) (node_ex false tuple_literal as') env h m k =
+cell-answer (seen_ex (repr ReprKind.RelationAsMatrix no_reprs) (relation_dom ms es ds) (n ∷ []) js)
+    (node_ex false tuple_literal as') env h m k =
     λ y.
     let p = parts (repr ReprKind.RelationAsMatrix no_reprs) (relation_dom ms es ds) n js env m in
     let q = two-parts relations (attributes_of ms (meanings es env)) (domains_of ds env) p.d p.domain_is in
@@ -79,13 +80,16 @@ cell-answer (seen_ex (repr ReprKind.RelationAsMatrix no_reprs) (relation_dom ms 
           h.value a_relation _ js as' n p.t (p.i ++ tuple_index h.value) h.is_value
           (parts-mean (repr ReprKind.RelationAsMatrix no_reprs) (relation_dom ms es ds) n js env refl p
           ∙ ap (λ z. value_of_tables (repr ReprKind.RelationAsMatrix no_reprs) z (p.t ∷ []) p.i) (sym q.3)
-          ∙ occurring ReprKind.RelationAsMatrix (relations q.0 q.1) (tuples q.1) a_relation tuple_index (axes_over q.1) (λ g. refl) refl p.t p.i t
+          ∙ occurring ReprKind.RelationAsMatrix (relations q.0 q.1) (tuples q.1) a_relation tuple_index (axes_over q.1)
+          (λ g. refl) refl p.t p.i t
           h.members u)
           (to_list-of_list _)
-          (occurs-holds ReprKind.RelationAsMatrix (relations q.0 q.1) (tuples q.1) a_relation tuple_index (axes_over q.1) (λ g. refl) refl p.t p.i t
+          (occurs-holds ReprKind.RelationAsMatrix (relations q.0 q.1) (tuples q.1) a_relation tuple_index (axes_over q.1)
+          (λ g. refl) refl p.t p.i t
           h.members u (tuple-members-there q.1 h.members u).0 h.value h.is_told)
           (ap indices (meanings-append js as' env)
-          ∙ indices-append (meanings js env) (meanings as' env) p.i (tuple_index h.value) p.index_is (literal-keys as' env h.value h.is_value))
+          ∙ indices-append (meanings js env) (meanings as' env) p.i (tuple_index h.value) p.index_is
+          (literal-keys as' env h.value h.is_value))
           p.table_is,
       append-met js as' env m.2 k,
     )
@@ -136,7 +140,8 @@ relation_matrix-listed xs (seen_ex (repr ReprKind.RelationAsMatrix no_reprs) (re
     let there : is_some (members (tuples q.1)) ≡ true = subst (λ o. is_some (members_in (option_map tuples o)) ≡ true) q.2 h in
     let runs = runs-over_tuple xs env ds q.1 fit q.2 there in
     let s : members_in (domain_of (tuple_dom ds) env) ≡ Some runs.us = ap (λ o. members_in (option_map tuples o)) q.2 ∙ runs.are_members in
-    let o : Value → Bool = occurs ReprKind.RelationAsMatrix (relations q.0 q.1) (tuples q.1) a_relation tuple_index (axes_over q.1) (λ g. refl) refl
+    let o : Value → Bool = occurs ReprKind.RelationAsMatrix (relations q.0 q.1) (tuples q.1) a_relation tuple_index (axes_over q.1)
+    (λ g. refl) refl
     p.t p.i t runs.us runs.are_members in
     let says : (v : Value) → Keyed (outside (has_text xs)) (by_names xs) tuple_index (length (axes_over q.1)) env v →
     meaning (flag_at n js (by_names xs).keys) (At xs q.1 env v) ≡ Some (truth (o v)) = λ v k.
@@ -145,21 +150,25 @@ relation_matrix-listed xs (seen_ex (repr ReprKind.RelationAsMatrix no_reprs) (re
       items =
           ap (option_map items_of) (parts-mean (repr ReprKind.RelationAsMatrix no_reprs) (relation_dom ms es ds) n js env refl p
           ∙ ap (λ z. value_of_tables (repr ReprKind.RelationAsMatrix no_reprs) z (p.t ∷ []) p.i) (sym q.3)
-          ∙ occurring ReprKind.RelationAsMatrix (relations q.0 q.1) (tuples q.1) a_relation tuple_index (axes_over q.1) (λ g. refl) refl p.t p.i t
+          ∙ occurring ReprKind.RelationAsMatrix (relations q.0 q.1) (tuples q.1) a_relation tuple_index (axes_over q.1)
+          (λ g. refl) refl p.t p.i t
           runs.us runs.are_members)
           ∙ ap (λ z. Some z) (to_list-of_list _)
           ∙ sym (ap (λ z. and_then z (λ vs. collect vs (Tested xs q.1 env n js))) s
           ∙ collect-passing o (Tested xs q.1 env n js) (λ v. single (meaning (by_names xs).argument (At xs q.1 env v))) runs.us
-          (each-map runs.us _ _ (λ v k. ap (λ z. where_true z (λ u. single (meaning (by_names xs).argument (At xs q.1 env v)))) (says v k)) runs.keyed)
+          (each-map runs.us _ _ (λ v k. ap (λ z. where_true z (λ u. single (meaning (by_names xs).argument (At xs q.1 env v))))
+          (says v k)) runs.keyed)
           ∙ arguments-listed (outside (has_text xs)) (by_names xs) tuple_index (length (axes_over q.1)) env (filter o runs.us)
           (each-filtered o (Keyed (outside (has_text xs)) (by_names xs) tuple_index (length (axes_over q.1)) env) runs.us runs.keyed));
       met = (
         m.1.1,
         subst (λ z. EachOf z (λ v. Meets (flag_at n js (by_names xs).keys) (At xs q.1 env v)
-            × (as_truth (meaning (flag_at n js (by_names xs).keys) (At xs q.1 env v)) ≡ true → Meets (by_names xs).argument (At xs q.1 env v))))
+            × (as_truth (meaning (flag_at n js (by_names xs).keys) (At xs q.1 env v)) ≡ true →
+            Meets (by_names xs).argument (At xs q.1 env v))))
             (sym s)
             (each-map runs.us _ _ (λ v k. (
-              flag-met (outside (has_text xs)) bool_dom js [] (repr ReprKind.RelationAsMatrix no_reprs) env booleans [] p.i tt new.1 refl refl
+              flag-met (outside (has_text xs)) bool_dom js []
+                  (repr ReprKind.RelationAsMatrix no_reprs) env booleans [] p.i tt new.1 refl refl
                   p.index_is (bind (by_names xs).pattern v env.vals) k.agree (by_names xs).keys (tuple_index v) k.codes n m.2 k.keys_met,
               λ z. k.argument_met,
             )) runs.keyed),

@@ -1,5 +1,5 @@
 -- The results of a function given by its pairs don't depend on their order, nor on repeats.
-use Rattle.std.proofs.Common.{◌≡◌, refl, sym, ap, ◌∙◌, Bool, true, false, ◌&&◌, ◌||◌, not, if◌then◌else◌, List, [], ◌∷◌, Option, Some, None}
+use Rattle.std.proofs.Common.{◌≡◌, refl, sym, ap, ◌∙◌, Bool, true, false, ◌||◌, not, if◌then◌else◌, List, [], ◌∷◌, Option, Some, None}
 use Rattle.std.specs.List.{list_any}
 use Rattle.ess_semantics.specs.Values.{Value, from_of, to_of}
 use Rattle.ess_semantics.specs.Order.{same}
@@ -12,7 +12,8 @@ no : {A : Type 0} → false ≡ true → A
 no h = cc
 
 -- A result that is there is that of a pair.
-value-held : (ps : List Value) (w u : Value) → value_at ps w ≡ Some u → (p : Value) × (holds ps p ≡ true) × (same (from_of p) w ≡ true) × (to_of p ≡ u)
+value-held : (ps : List Value) (w u : Value) → value_at ps w ≡ Some u → (p : Value) × (holds ps p ≡ true) × (same (from_of p) w ≡ true) ×
+    (to_of p ≡ u)
 value-held [] w u h = cc
 value-held (p ∷ ps) w u h = go (same (from_of p) w) refl h (λ z. value-held ps w u z)
   where
@@ -31,7 +32,8 @@ value-there : (ps : List Value) (p : Value) → no_twice from_of ps ≡ true →
 value-there [] p n h = no h
 value-there (q ∷ ps) p n h = go (same q p) refl h (λ z. value-there ps p (and-right _ _ n) z)
   where
-    held-any : (ps : List Value) (v p : Value) → holds ps p ≡ true → same v (from_of p) ≡ true → list_any (λ y. same v (from_of y)) ps ≡ true
+    held-any : (ps : List Value) (v p : Value) → holds ps p ≡ true → same v (from_of p) ≡ true →
+        list_any (λ y. same v (from_of y)) ps ≡ true
     held-any [] v p h e = no h
     held-any (y ∷ ys) v p h e = at (same y p) refl h (λ z. held-any ys v p z e)
       where
@@ -54,7 +56,8 @@ value-there (q ∷ ps) p n h = go (same q p) refl h (λ z. value-there ps p (and
     go true s h r = ap (λ z. if same (from_of z) (from_of p) then Some (to_of z) else value_at ps (from_of p)) (same-equal q p s)
         ∙ ap (λ b. if b then Some (to_of p) else value_at ps (from_of p)) (same-itself (from_of p))
     go false s h r = ap (λ b. if b then Some (to_of q) else value_at ps (from_of p))
-        (apart (list_any (λ y. same (from_of q) (from_of y)) ps) (same (from_of q) (from_of p)) (and-left _ _ n) (held-any ps (from_of q) p h))
+        (apart (list_any (λ y. same (from_of q) (from_of y)) ps) (same (from_of q) (from_of p)) (and-left _ _ n)
+        (held-any ps (from_of q) p h))
         ∙ r h
 
 -- Where there is no result no pair has the argument.
@@ -79,7 +82,8 @@ value-sorted ps w d = go (value_at ps w) refl (value_at (sorted_once ps) w) refl
         at true h = refl
         at false h = no (sym h)
 
-    go : (o : Option Value) → value_at ps w ≡ o → (p : Option Value) → value_at (sorted_once ps) w ≡ p → value_at (sorted_once ps) w ≡ value_at ps w
+    go : (o : Option Value) → value_at ps w ≡ o → (p : Option Value) → value_at (sorted_once ps) w ≡ p →
+        value_at (sorted_once ps) w ≡ value_at ps w
     go None e None f = f ∙ sym e
     go None e (Some u) f = let r = value-held (sorted_once ps) w u f in
         no (sym (value-none ps w r.0 e (sym (holds-sorted_once ps r.0) ∙ r.1)) ∙ r.2)

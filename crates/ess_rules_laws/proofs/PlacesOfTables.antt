@@ -30,7 +30,8 @@ any-append-left : (j : List ℤ) (ls ms : List (List ℤ)) → listed_in j ls �
 any-append-left j [] ms h = no h
 any-append-left j (l ∷ ls) ms h = go (same_ints j l) h (λ z. any-append-left j ls ms z)
   where
-    go : (b : Bool) → b || listed_in j ls ≡ true → (listed_in j ls ≡ true → listed_in j (ls ++ ms) ≡ true) → b || listed_in j (ls ++ ms) ≡ true
+    go : (b : Bool) → b || listed_in j ls ≡ true → (listed_in j ls ≡ true → listed_in j (ls ++ ms) ≡ true) →
+        b || listed_in j (ls ++ ms) ≡ true
     go true h r = refl
     go false h r = r h
 
@@ -42,7 +43,8 @@ any-head : (k : ℤ) (j : List ℤ) (ls : List (List ℤ)) → listed_in j ls �
 any-head k j [] h = no h
 any-head k j (l ∷ ls) h = go (same_ints j l) refl h (λ z. any-head k j ls z)
   where
-    go : (b : Bool) → same_ints j l ≡ b → b || listed_in j ls ≡ true → (listed_in j ls ≡ true → listed_in (k ∷ j) (map (λ l. k ∷ l) ls) ≡ true) →
+    go : (b : Bool) → same_ints j l ≡ b → b || listed_in j ls ≡ true →
+        (listed_in j ls ≡ true → listed_in (k ∷ j) (map (λ l. k ∷ l) ls) ≡ true) →
         same_ints (k ∷ j) (k ∷ l) || listed_in (k ∷ j) (map (λ l. k ∷ l) ls) ≡ true
     go true s h r = or-left _ _ (ap (λ z. same_ints (k ∷ j) (k ∷ z)) (sym (same_ints-equal j l s)) ∙ same_ints-itself (k ∷ j))
     go false s h r = or-right (same_ints (k ∷ j) (k ∷ l)) _ (r h)
@@ -85,9 +87,11 @@ axes-equal : (xs ys : Axes) → same_axes xs ys ≡ true → xs ≡ ys
 axes-equal [] [] h = refl
 axes-equal [] (y ∷ ys) h = no h
 axes-equal (x ∷ xs) [] h = no h
-axes-equal (x ∷ xs) (y ∷ ys) h = ap (λ z. z ∷ xs) (same_ints-equal x y (and-left _ _ h)) ∙ ap (λ l. y ∷ l) (axes-equal xs ys (and-right _ _ h))
+axes-equal (x ∷ xs) (y ∷ ys) h = ap (λ z. z ∷ xs) (same_ints-equal x y (and-left _ _ h))
+    ∙ ap (λ l. y ∷ l) (axes-equal xs ys (and-right _ _ h))
 
-behind-place : (as' axes : Axes) (is i j : List ℤ) (z : ℤ) → same_axes (drop (length i) as') axes ≡ true → item_in as' is (i ++ j) ≡ Some z →
+behind-place : (as' axes : Axes) (is i j : List ℤ) (z : ℤ) → same_axes (drop (length i) as') axes ≡ true →
+    item_in as' is (i ++ j) ≡ Some z →
     listed_in j (lists_of axes) ≡ true
 behind-place as' axes is [] j z h q = ap (λ l. listed_in j (lists_of l)) (sym (axes-equal as' axes h)) ∙ item-place as' is j z q
 behind-place [] axes is (k ∷ i) j z h q = cc

@@ -54,12 +54,14 @@ pub indices-append : (os ps : List (Option Value)) (i j : List ℤ) → indices 
     indices (os ++ ps) ≡ Some (i ++ j)
 indices-append os ps i j p q = go (all_some os) (all_some ps) refl refl p q
   where
-    go : (y z : Option (List Value)) → all_some os ≡ y → all_some ps ≡ z → option_map (map code) y ≡ Some i → option_map (map code) z ≡ Some j →
+    go : (y z : Option (List Value)) → all_some os ≡ y → all_some ps ≡ z → option_map (map code) y ≡ Some i →
+        option_map (map code) z ≡ Some j →
         indices (os ++ ps) ≡ Some (i ++ j)
     go None z a b p q = cc
     go (Some us) None a b p q = cc
     go (Some us) (Some vs) a b p q = ap (option_map (map code)) (all-append os ps us vs a b) ∙ ap Some (map-append us vs)
-        ∙ ap (λ l. Some (l ++ map code vs)) (let e : map code us ≡ i = cc in e) ∙ ap (λ l. Some (i ++ l)) (let e : map code vs ≡ j = cc in e)
+        ∙ ap (λ l. Some (l ++ map code vs)) (let e : map code us ≡ i = cc in e)
+        ∙ ap (λ l. Some (i ++ l)) (let e : map code vs ≡ j = cc in e)
 
 -- Structures of index lists.
 pub append-met : (js ks : Exs) (env : Env) → MeetsAll false js env → MeetsAll false ks env → MeetsAll false (append_exs js ks) env

@@ -78,19 +78,23 @@ pub firsts-of : (index : Value → List ℤ) (V : List ℤ → Option Value) (ys
 firsts-of index V [] vs q = refl
 firsts-of index V (y ∷ ys) vs q = go (V (index y)) (each_of (map index ys) V) refl q (λ us j. firsts-of index V ys us j)
   where
-    go : (a : Option Value) (p : Option (List Value)) → each_of (map index ys) V ≡ p → and_then a (λ v. option_map (λ us. v ∷ us) p) ≡ Some vs →
+    go : (a : Option Value) (p : Option (List Value)) → each_of (map index ys) V ≡ p →
+        and_then a (λ v. option_map (λ us. v ∷ us) p) ≡ Some vs →
         ((us : List Value) → each_of (map index ys) V ≡ Some us → map from_of (with_arguments ys us) ≡ ys) →
         map from_of (with_arguments (y ∷ ys) vs) ≡ y ∷ ys
     go None p j q r = cc
     go (Some v) None j q r = cc
-    go (Some v) (Some us) j q r = ap (λ l. map from_of (with_arguments (y ∷ ys) l)) (sym (let z : v ∷ us ≡ vs = cc in z)) ∙ ap (λ l. y ∷ l) (r us j)
+    go (Some v) (Some us) j q r = ap (λ l. map from_of (with_arguments (y ∷ ys) l)) (sym (let z : v ∷ us ≡ vs = cc in z))
+        ∙ ap (λ l. y ∷ l) (r us j)
 
 -- Whether an argument is defined, from the function.
-pub defined-is : (a f : Ex) (env : Env) (w : Value) (ys vs : List Value) → meaning a env ≡ Some w → meaning f env ≡ Some (function_with ys vs) →
+pub defined-is : (a f : Ex) (env : Env) (w : Value) (ys vs : List Value) → meaning a env ≡ Some w →
+    meaning f env ≡ Some (function_with ys vs) →
     map from_of (with_arguments ys vs) ≡ ys →
     meaning (ex2 true Op2.Member a (fun1 false Fun.Defined f)) env ≡ Some (truth (holds ys w))
 defined-is a f env w ys vs j q e =
-    ap (λ o. false_where_undefined true (value_of_node (binary Op2.Member) (o ∷ value_of_node (word Fun.Defined) (meaning f env ∷ []) ∷ []))) j
+    ap (λ o. false_where_undefined true (value_of_node (binary Op2.Member)
+    (o ∷ value_of_node (word Fun.Defined) (meaning f env ∷ []) ∷ []))) j
     ∙ ap (λ o. false_where_undefined true (value_of_node (binary Op2.Member) (Some w ∷ value_of_node (word Fun.Defined) (o ∷ []) ∷ []))) q
     ∙ ap (λ l. Some (truth (holds (to_list (of_list (sorted_once (map from_of l)))) w))) (to_list-of_list (with_arguments ys vs))
     ∙ ap (λ l. Some (truth (holds (to_list (of_list (sorted_once l))) w))) e
@@ -129,7 +133,8 @@ module _ (index : Value → List ℤ) (k : ReprKind) (r : Repr) (ms : List Mark)
       let s = subst (λ l. FunctionStands k r o.ks o.d o.c index (cells_at o.tables o.i) l) list-is
       (total-stands k r o.ks o.d o.c index axes (places ∙ ap (map index) (sym list-is)) (cells_at o.tables o.i) is_layer
       (and-right _ _ o.is_tidy)) in
-      let child : child_part k (cells_at o.tables o.i) ≡ cells_at o.tables o.i = ap (λ w. drop w (cells_at o.tables o.i)) own-none in record {
+      let child : child_part k (cells_at o.tables o.i) ≡ cells_at o.tables o.i =
+      ap (λ w. drop w (cells_at o.tables o.i)) own-none in record {
         vs = s.vs;
         is_value = view-is (repr k (more_reprs r no_reprs)) ms es dd ce names js env o ∙ s.is_value;
         values = ap (λ z. each_of (map index us) (In r o.c z)) (sym child) ∙ s.values;

@@ -74,7 +74,8 @@ lists-mapped (vs ∷ ls) = ap (add_heads (map code vs)) (lists-mapped ls) ∙ ma
 
 tuple-places : (ms : List (List Value)) → map (map code) ms ≡ map tuple_index (map T ms)
 tuple-places [] = refl
-tuple-places (l ∷ ms) = ap (λ z. map code z ∷ map (map code) ms) (sym (to_list-of_list l)) ∙ ap (λ z. tuple_index (T l) ∷ z) (tuple-places ms)
+tuple-places (l ∷ ms) = ap (λ z. map code z ∷ map (map code) ms) (sym (to_list-of_list l))
+    ∙ ap (λ z. tuple_index (T l) ∷ z) (tuple-places ms)
 
 -- They have as many items as there are lists.
 abbrev LongAs : List (List Value) → List Value → Type 0
@@ -88,7 +89,8 @@ each-mapped : {A B : Type 0} (f : A → B) (xs : List A) (P : B → Type 0) → 
 each-mapped f [] P a = tt
 each-mapped f (x ∷ xs) P a = (a.0, each-mapped f xs P a.1)
 
-heads-long : (us vs : List Value) (ms : List (List Value)) (ls : List (List Value)) → Each ms (LongAs ls) → Each (add_heads vs ms) (LongAs (us ∷ ls))
+heads-long : (us vs : List Value) (ms : List (List Value)) (ls : List (List Value)) → Each ms (LongAs ls) →
+    Each (add_heads vs ms) (LongAs (us ∷ ls))
 heads-long us [] ms ls h = tt
 heads-long us (v ∷ vs) ms ls h = each-both (map (λ l. v ∷ l) ms) (add_heads vs ms) (LongAs (us ∷ ls))
     (each-mapped (λ l. v ∷ l) ms (LongAs (us ∷ ls)) (each-map ms (LongAs ls) _ (λ l e. ap suc e) h)) (heads-long us vs ms ls h)

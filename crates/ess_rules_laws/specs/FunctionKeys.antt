@@ -25,7 +25,8 @@ fitting_result b r c ns js ks = if fits_mark b c then Some (result_at r c ns js 
 abbrev pub view_at : Bool → Ex → Ex → Option Ex
 view_at b (seen_ex (repr ReprKind.Function1D (more_reprs r no_reprs)) (function_dom ms es d c) ns js) a =
     fitting_result b r c ns js (more_exs a no_exs)
-view_at b (seen_ex (repr ReprKind.FunctionND (more_reprs r no_reprs)) (function_dom ms es (tuple_dom ds) c) ns js) (node_ex false tuple_literal as') =
+view_at b (seen_ex (repr ReprKind.FunctionND (more_reprs r no_reprs)) (function_dom ms es (tuple_dom ds) c) ns js)
+    (node_ex false tuple_literal as') =
     fitting_result b r c ns js as'
 view_at b f a = None
 
@@ -52,7 +53,8 @@ defined_everywhere e = None
 abbrev pub flag_of : Ex → Ex → Option Ex
 flag_of (seen_ex (repr ReprKind.Function1DPartial (more_reprs r no_reprs)) (function_dom ms es d c) (m ∷ ns) js) a =
     Some (flag_at m js (more_exs a no_exs))
-flag_of (seen_ex (repr ReprKind.FunctionNDPartial (more_reprs r no_reprs)) (function_dom ms es (tuple_dom ds) c) (m ∷ ns) js) (node_ex false tuple_literal as') =
+flag_of (seen_ex (repr ReprKind.FunctionNDPartial (more_reprs r no_reprs)) (function_dom ms es (tuple_dom ds) c) (m ∷ ns) js)
+    (node_ex false tuple_literal as') =
     Some (flag_at m js as')
 flag_of f a = None
 
@@ -69,7 +71,8 @@ result_behind_flag r c m ns js ks = comp_ex (result_at r c ns js ks) (cond (flag
 abbrev pub flagged_view_at : Ex → Ex → Option Ex
 flagged_view_at (seen_ex (repr ReprKind.Function1DPartial (more_reprs r no_reprs)) (function_dom ms es d c) (m ∷ ns) js) a =
     Some (result_behind_flag r c m ns js (more_exs a no_exs))
-flagged_view_at (seen_ex (repr ReprKind.FunctionNDPartial (more_reprs r no_reprs)) (function_dom ms es (tuple_dom ds) c) (m ∷ ns) js) (node_ex false tuple_literal as') =
+flagged_view_at (seen_ex (repr ReprKind.FunctionNDPartial (more_reprs r no_reprs)) (function_dom ms es (tuple_dom ds) c) (m ∷ ns) js)
+    (node_ex false tuple_literal as') =
     Some (result_behind_flag r c m ns js as')
 flagged_view_at f a = None
 

@@ -9,13 +9,15 @@ use Rattle.ess_rules_laws.specs.FunctionViews.{by_names, names_fit, flagged_pair
 
 -- Its pairs: the names over the first domain, where the flag there is true, with the result there.
 abbrev pub function_nd_partial_listing : List Text → Ex → Option Alternative
-function_nd_partial_listing xs (seen_ex (repr ReprKind.FunctionNDPartial (more_reprs r no_reprs)) (function_dom ms es (tuple_dom ds) c) (m ∷ ns) js) =
+function_nd_partial_listing xs (seen_ex (repr ReprKind.FunctionNDPartial (more_reprs r no_reprs)) (function_dom ms es (tuple_dom ds) c)
+    (m ∷ ns) js) =
     if names_fit xs ds then Some (flagged_pairs (by_names xs) r (tuple_dom ds) c m ns js) else None
 function_nd_partial_listing xs e = None
 
 -- Its result at a: the names over the first domain, where the tuple of them is a and the flag there is true, the result there.
 abbrev pub function_nd_partial_result : List Text → Ex → Ex → Option Ex
-function_nd_partial_result xs (seen_ex (repr ReprKind.FunctionNDPartial (more_reprs r no_reprs)) (function_dom ms es (tuple_dom ds) c) (m ∷ ns) js) a =
+function_nd_partial_result xs (seen_ex (repr ReprKind.FunctionNDPartial (more_reprs r no_reprs)) (function_dom ms es (tuple_dom ds) c)
+    (m ∷ ns) js) a =
     if names_fit xs ds then Some (flagged_result (by_names xs) r (tuple_dom ds) c m ns js a) else None
 function_nd_partial_result xs f a = None
 

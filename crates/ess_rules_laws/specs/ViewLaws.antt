@@ -81,7 +81,8 @@ pub record FunctionKeysServe : Type 0 where
   pub a_result_is_the_view : (e f : Ex) → result_at_argument e ≡ Some f → (env : Env) → ArgumentHeld e env → Keeps e f env
   pub each_member_is_an_argument : (e f : Ex) → defined_everywhere e ≡ Some f → (env : Env) → DefinedHeld e env → Keeps e f env
   pub a_flag_says_so : (e f : Ex) → defined_where_flagged e ≡ Some f → (env : Env) → DefinedTold e env → Keeps e f env
-  pub behind_a_flag : (e l : Ex) → lookup_behind_flag e ≡ Some l → (env : Env) → ArgumentTold e env → Meets e env → Looked (unmarked e) l env
+  pub behind_a_flag : (e l : Ex) → lookup_behind_flag e ≡ Some l → (env : Env) → ArgumentTold e env → Meets e env →
+      Looked (unmarked e) l env
 
 -- ---- lookups by alternatives
 
@@ -101,7 +102,8 @@ pub record AlternativesServe : Type 0 where
       (env : Env) → SelectsEach k l e env → Keeps e f env
   pub the_whole_is_selected : (x : Text) (l : List Alternative) (e f : Ex) → select_whole_each x l e ≡ Some f → (env : Env) →
       SelectsWholeEach l e env → Keeps e f env
-  pub through_an_operand : (x : Text) (k : ℕ) (l : List Alternative) (e : Ex) (m : List Alternative) → lookup_through_each x k l e ≡ Some m →
+  pub through_an_operand : (x : Text) (k : ℕ) (l : List Alternative) (e : Ex) (m : List Alternative) →
+      lookup_through_each x k l e ≡ Some m →
       Unused x e → (env : Env) → LooksThroughEach k l e env → Meets e env → LookedBy (unmarked e) m env
   pub members_are_offered : (y x : Text) (t : Ex) (l : List Alternative) (env : Env) → LookedBy t l env → IsTrue (is_some (meaning t env)) →
       Offers t (members_of_each y x l) env

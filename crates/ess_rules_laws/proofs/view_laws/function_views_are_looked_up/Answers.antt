@@ -13,7 +13,9 @@ use Rattle.ess_rules_laws.proofs.FunctionNDPartialViews.{function_nd_partial-loo
 pub returns : goal.returns
 returns c = record {
   total_from_an_atom = λ x e l q o env m h. looks (function_1d_lookup x e) (unmarked e) l env (function_1d-looked x e env o m h) q;
-  flagged_from_an_atom = λ x e l q o env m h. looks (function_1d_partial_lookup x e) (unmarked e) l env (function_1d_partial-looked x e env o m h) q;
+  flagged_from_an_atom = λ x e l q o env m h. looks (function_1d_partial_lookup x e) (unmarked e) l env
+      (function_1d_partial-looked x e env o m h) q;
   total_from_a_tuple = λ x e l q o env m h. looks (function_nd_lookup x e) (unmarked e) l env (function_nd-looked x e env o m h) q;
-  flagged_from_a_tuple = λ x e l q o env m h. looks (function_nd_partial_lookup x e) (unmarked e) l env (function_nd_partial-looked x e env o m h) q;
+  flagged_from_a_tuple = λ x e l q o env m h. looks (function_nd_partial_lookup x e) (unmarked e) l env
+      (function_nd_partial-looked x e env o m h) q;
 }
