@@ -103,3 +103,5 @@ pub mod AtomViews
 pub mod OccurrenceTests
 pub mod OccurrenceViews
 pub mod ExamplesCellViews
+pub mod SetSizes
+pub mod ExamplesSetSizes

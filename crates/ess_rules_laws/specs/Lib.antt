@@ -33,4 +33,5 @@ pub mod AlternativeLookups
 pub mod FunctionKeys
 pub mod AtomViews
 pub mod OccurrenceViews
+pub mod SetSizes
 pub mod ViewLaws

@@ -17,6 +17,7 @@ use Rattle.ess_rules_laws.specs.IndexSteps.{step_apart}
 use Rattle.ess_rules_laws.specs.AlternativeLookups.{LookedBy, list_lookup, function_literal_lookup, FirstOperandThere, select_each, select_whole_each, SelectsEach, SelectsWholeEach, members_of_each, as_alternative, lookup_through_each, LooksThroughEach}
 use Rattle.ess_rules_laws.specs.FunctionViews.{FirstThere, AppliedThere, NamesUnused}
 use Rattle.ess_rules_laws.specs.FunctionKeys.{result_at_argument, defined_everywhere, defined_where_flagged, lookup_behind_flag, ArgumentHeld, DefinedHeld, ArgumentTold, DefinedTold}
+use Rattle.ess_rules_laws.specs.SetSizes.{size_by_marker, size_by_slots, SizeOf}
 use Rattle.ess_rules_laws.specs.AtomViews.{atom_cell, AtomCounts}
 use Rattle.ess_rules_laws.specs.OccurrenceViews.{relation_matrix_listing, TuplesThere, member_by_cell, MemberTold}
 use Rattle.ess_rules_laws.specs.Function1DViews.{function_1d_listing, function_1d_lookup}
@@ -37,6 +38,12 @@ StepsComeApart = RuleKeeps step_apart
 abbrev pub DummyViewsAreListed : Type 0
 DummyViewsAreListed = (x : Text) (n m e : Ex) (env : Env) → Unused x e → Unused x m → Meets e env → SlotsAre n e env → DummyIs m e env →
     OffersWhereMet (dummy_listing x n m e) e env
+
+-- The size of a view of a set with a marker keeps its meaning as the marker, and that of one in slots all in use as the expression
+-- that says how many slots there are.
+pub record SizesOfSetsServe : Type 0 where
+  pub of_a_marker : (e f : Ex) → size_by_marker e ≡ Some f → (env : Env) → Keeps e f env
+  pub of_slots_all_in_use : (n e f : Ex) → size_by_slots n e ≡ Some f → (env : Env) → SizeOf n e env → Keeps e f env
 
 -- ---- atoms, and what is kept as a truth value for each possible member
 

@@ -1,6 +1,6 @@
 //! What each container offers, each law the contract of a function that does nothing.
 
-ghost use Rattle.ess_rules_laws.specs.ViewLaws.{StepsComeApart, DummyViewsAreListed, CellsServe, FunctionViewsAreListed, FunctionViewsAreLookedUp, FunctionKeysServe, LiteralsAreLookedUp, AlternativesServe};
+ghost use Rattle.ess_rules_laws.specs.ViewLaws.{StepsComeApart, DummyViewsAreListed, SizesOfSetsServe, CellsServe, FunctionViewsAreListed, FunctionViewsAreLookedUp, FunctionKeysServe, LiteralsAreLookedUp, AlternativesServe};
 
 /// An index of several steps means what its first step means, and the other steps from there on.
 pub fn steps_come_apart()
@@ -11,6 +11,11 @@ pub fn steps_come_apart()
 /// they list the members of the set, and tables that meet its structure meet theirs.
 pub fn dummy_views_are_listed()
     ensures { DummyViewsAreListed }
+{}
+
+/// The size of a view of a set with a marker is the marker, and that of one in slots all in use is the number of slots.
+pub fn sizes_of_sets_serve()
+    ensures { SizesOfSetsServe }
 {}
 
 /// A view of an atom is its cell, and the test of a member of a set or relation that is kept as a truth value for each possible
