@@ -29,7 +29,7 @@ use Rattle.ess_rules_laws.specs.SlotListings.{SlotsAre}
 use Rattle.ess_rules_laws.specs.SetSizes.{size_by_marker, size_by_slots, SizeOf}
 use Rattle.ess_rules_laws.proofs.RuleAnswers.{AnswerKeeps, fires}
 use Rattle.ess_rules_laws.proofs.SlotNumbers.{as_place, slots-are}
-use Rattle.ess_rules_laws.proofs.SlotSets.{In, SlotsStand, slots-stand}
+use Rattle.ess_rules_laws.proofs.SlotSets.{slots-stand}
 use Rattle.ess_rules_laws.proofs.FunctionViewParts.{tables-split}
 
 no : {A : Type 0} → false ≡ true → A
@@ -61,7 +61,8 @@ places-long : (n : ℕ) → length (lists_of (one_to n ∷ [])) ≡ n
 places-long n = ap length (slots-are (one_to n)) ∙ map-long (one_to n) ∙ run-length 1 n
 
 -- A marker that is there says how many places are in use.
-marker-counts : (o : Option ℤ) (ps js : List (List ℤ)) → and_then o (λ m. option_map (λ n. take n ps) (within_slots m (length ps))) ≡ Some js →
+marker-counts : (o : Option ℤ) (ps js : List (List ℤ)) → and_then o (λ m. option_map (λ n. take n ps) (within_slots m (length ps))) ≡
+    Some js →
     o ≡ Some (pos (length js))
 marker-counts None ps js e = cc
 marker-counts (Some (negsuc k)) ps js e = cc
@@ -126,7 +127,8 @@ module _ (R : Repr) (ms : List Mark) (es : Exs) (dd : Dom) (names : List Text) (
 
   view-is : (p : Parts) → meaning View env ≡ value_of_tables R (sets p.ks p.d) p.ts p.i
   view-is p =
-      ap (λ o. seen_in R (and_then o (λ ks. option_map (sets ks) (domain_of dd env))) (tables_in env.cells names) (indices (meanings js env)))
+      ap (λ o. seen_in R (and_then o (λ ks. option_map (sets ks) (domain_of dd env))) (tables_in env.cells names)
+      (indices (meanings js env)))
       p.attributes_are
       ∙ ap (λ o. seen_in R (option_map (sets p.ks) o) (tables_in env.cells names) (indices (meanings js env))) p.domain_is
       ∙ ap (λ o. seen_in R (Some (sets p.ks p.d)) o (indices (meanings js env))) p.tables_are
@@ -148,10 +150,11 @@ module _ (r : Repr) (ms : List Mark) (es : Exs) (dd : Dom) (m : Text) (ns : List
       tidy R (sets p.ks p.d) (t ∷ ts) p.i ≡ true → meaning (ex1 false Op1.Bar Marked) env ≡ meaning (cell_ex false m js) env
   marked-size p t ts a e h =
       let s = slots-stand ReprKind.ExplicitVarSizeWithMarker r p.ks p.d (slots_of_set p.ks p.d) up_to_marker
-          (fixed_table [] (up_to (slots_of_set p.ks p.d)) ∷ []) marker_table
-          (λ c vss. is_some_and (own_cell c []) (λ m. set_attributes_hold p.ks (natural m))) refl (cells_at (t ∷ ts) p.i) (and-right _ _ h) in
+      (fixed_table [] (up_to (slots_of_set p.ks p.d)) ∷ []) marker_table
+      (λ c vss. is_some_and (own_cell c []) (λ m. set_attributes_hold p.ks (natural m))) refl (cells_at (t ∷ ts) p.i)
+      (and-right _ _ h) in
       let c : cell_at t (p.i ++ []) ≡ Some (pos (length s.js)) =
-          marker-counts (cell_at t (p.i ++ [])) (lists_of (one_to (slots_of_set p.ks p.d) ∷ [])) s.js s.places in
+      marker-counts (cell_at t (p.i ++ [])) (lists_of (one_to (slots_of_set p.ks p.d) ∷ [])) s.js s.places in
       size-is Marked env s.vs
       (view-is R ms es dd (m ∷ ns) js env p ∙ ap (λ l. value_of_tables R (sets p.ks p.d) l p.i) e ∙ s.is_value) s.differ
       ∙ ap (λ n. Some (number (pos n))) (each-long _ s.js s.vs s.values)
@@ -163,7 +166,8 @@ module _ (r : Repr) (ms : List Mark) (es : Exs) (dd : Dom) (m : Text) (ns : List
       marked-size p w.0 w.1 w.2 w.4 (ap (λ l. tidy R (sets p.ks p.d) l p.i) (sym w.4) ∙ p.is_tidy)
 
 marker-answer : (e : Ex) (env : Env) → AnswerKeeps (size_by_marker e) e env
-marker-answer (ex1 false Op1.Bar (seen_ex (repr ReprKind.ExplicitVarSizeWithMarker (more_reprs r no_reprs)) (set_dom ms es d) (m ∷ ns) js)) env =
+marker-answer (ex1 false Op1.Bar (seen_ex (repr ReprKind.ExplicitVarSizeWithMarker (more_reprs r no_reprs)) (set_dom ms es d)
+    (m ∷ ns) js)) env =
     λ h. (marker-size r ms es d m ns js env h.0, h.0.2)
 marker-answer _ env = tt
 
@@ -180,11 +184,12 @@ slots-size : (r : Repr) (ms : List Mark) (es : Exs) (dd : Dom) (names : List Tex
 slots-size r ms es dd names js n env h c =
     let p = parts (repr ReprKind.Explicit (more_reprs r no_reprs)) ms es dd names js env h in
     let s = slots-stand ReprKind.Explicit r p.ks p.d (slots_of_set p.ks p.d) (all_slots (slots_of_set p.ks p.d)) [] no_own_tables
-        (λ c vss. set_attributes_hold p.ks (slots_of_set p.ks p.d)) refl (cells_at p.ts p.i) (and-right _ _ p.is_tidy) in
+    (λ c vss. set_attributes_hold p.ks (slots_of_set p.ks p.d)) refl (cells_at p.ts p.i) (and-right _ _ p.is_tidy) in
     size-is (View (repr ReprKind.Explicit (more_reprs r no_reprs)) ms es dd names js env) env s.vs
     (view-is (repr ReprKind.Explicit (more_reprs r no_reprs)) ms es dd names js env p ∙ s.is_value) s.differ
     ∙ ap (λ n. Some (number (pos n))) (each-long _ s.js s.vs s.values
-    ∙ ap length (sym (let z : lists_of (one_to (slots_of_set p.ks p.d) ∷ []) ≡ s.js = all-places (lists_of (one_to (slots_of_set p.ks p.d) ∷ [])) s.js s.places in z))
+    ∙ ap length (sym (let z : lists_of (one_to (slots_of_set p.ks p.d) ∷ []) ≡ s.js =
+    all-places (lists_of (one_to (slots_of_set p.ks p.d) ∷ [])) s.js s.places in z))
     ∙ places-long (slots_of_set p.ks p.d))
     ∙ sym (c.counts p.ks p.d (set-is (repr ReprKind.Explicit (more_reprs r no_reprs)) ms es dd names js env p))
   where
