@@ -13,7 +13,7 @@ use Rattle.ess_semantics.proofs.Tests.{and-left}
 use Rattle.ess_rules_laws.specs.Rules.{Unused}
 use Rattle.ess_rules_laws.specs.LiteralRules.{nth}
 use Rattle.ess_rules_laws.specs.Listings.{Alternative, items_listed, all_listed}
-use Rattle.ess_rules_laws.specs.ListedSources.{laid_out, AllMet, Offers}
+use Rattle.ess_rules_laws.specs.ListedSources.{laid_out, AllMet, Offers, OffersInOrder}
 use Rattle.ess_rules_laws.specs.Lookups.{found, Looked, put_nth, is_plain}
 use Rattle.ess_rules_laws.specs.FunctionLookups.{unmarked}
 use Rattle.ess_rules_laws.specs.PartLookups.{FitsPlace, FitsWhereThere}
@@ -71,6 +71,13 @@ members-offered y x t l env h i = record {
     go : (o : Option Value) → IsTrue (is_some o) → option_map items_of o ≡ collect (found o) (λ v. Some (items_of v))
     go None i = cc
     go (Some v) i = sym (collect-found (Some (items_of v)))
+
+-- A listing that has the members in order is one of its own.
+pub in_order-offered : (s : Ex) (a : Alternative) (env : Env) → OffersInOrder s a env → Offers s (a ∷ []) env
+in_order-offered s a env o = record {
+  lists = same-lists _ _ (o.items ∙ sym (alone-listed (items_listed a env)));
+  met = (o.met, tt);
+}
 
 -- ---- one lookup
 

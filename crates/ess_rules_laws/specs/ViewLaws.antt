@@ -1,12 +1,12 @@
 -- What each container offers: the laws of the listings and lookups of views and of literals.
-use Rattle.std.specs.Prelude.{◌≡◌, ℕ, List, Some, IsTrue, is_some}
+use Rattle.std.specs.Prelude.{◌≡◌, [], ◌∷◌, ℕ, List, Some, IsTrue, is_some}
 use Rattle.ess_semantics.specs.Values.{Text}
 use Rattle.ess_semantics.specs.Trees.{Ex}
 use Rattle.ess_semantics.specs.Meaning.{Env, meaning}
 use Rattle.ess_semantics.specs.Meets.{Meets}
 use Rattle.ess_semantics.specs.Kept.{Keeps}
 use Rattle.ess_rules_laws.specs.Listings.{Alternative}
-use Rattle.ess_rules_laws.specs.ListedSources.{Offers}
+use Rattle.ess_rules_laws.specs.ListedSources.{Offers, OffersInOrder}
 use Rattle.ess_rules_laws.specs.Rules.{Unused, RuleKeeps}
 use Rattle.ess_rules_laws.specs.SetListings.{InOrderWhereMet}
 use Rattle.ess_rules_laws.specs.SlotListings.{SlotsAre, OffersWhereMet}
@@ -103,7 +103,7 @@ pub record LiteralsAreLookedUp : Type 0 where
 
 -- What alternatives that look a term up are good for: an operator on the term, and a scalar by itself, keep their meaning as `or`
 -- or `sum` over the alternatives; what any operator but a connective makes of the term is looked up by them; the members of a
--- container that has a value are offered by them. A lookup is the one alternative.
+-- container that has a value are offered by them. A lookup is the one alternative, and a listing in order is a listing.
 pub record AlternativesServe : Type 0 where
   pub an_operand_is_selected : (x : Text) (k : ℕ) (l : List Alternative) (e f : Ex) → select_each x k l e ≡ Some f → Unused x e →
       (env : Env) → SelectsEach k l e env → Keeps e f env
@@ -115,3 +115,4 @@ pub record AlternativesServe : Type 0 where
   pub members_are_offered : (y x : Text) (t : Ex) (l : List Alternative) (env : Env) → LookedBy t l env → IsTrue (is_some (meaning t env)) →
       Offers t (members_of_each y x l) env
   pub a_lookup_is_one : (x : Text) (t l : Ex) (env : Env) → Looked t l env → LookedBy t (as_alternative x l) env
+  pub in_order_is_offered : (s : Ex) (a : Alternative) (env : Env) → OffersInOrder s a env → Offers s (a ∷ []) env

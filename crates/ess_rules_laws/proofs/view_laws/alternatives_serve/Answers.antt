@@ -3,7 +3,7 @@ use Rattle.ess_rules_laws.specs.AlternativeLookups.{lookup_through_each}
 use Rattle.ess_rules_laws.proofs.view_laws.alternatives_serve.Goals as goal
 use Rattle.ess_rules_laws.proofs.LiteralLookups.{looks-by}
 use Rattle.ess_rules_laws.proofs.AlternativeSelections.{select_each-keeps, select_whole_each-keeps}
-use Rattle.ess_rules_laws.proofs.LookedContainers.{members-offered, looked-alternative, through_each-answer}
+use Rattle.ess_rules_laws.proofs.LookedContainers.{in_order-offered, members-offered, looked-alternative, through_each-answer}
 
 pub returns : goal.returns
 returns c = record {
@@ -13,4 +13,5 @@ returns c = record {
       (through_each-answer x k l e o env h n) q;
   members_are_offered = members-offered;
   a_lookup_is_one = looked-alternative;
+  in_order_is_offered = in_order-offered;
 }
