@@ -34,3 +34,16 @@ pub mod LooseRules
 pub mod NamesOfRules
 pub mod TupleNames
 pub mod ChoiceRules
+pub mod IndexSteps
+pub mod FunctionViews
+pub mod Function1DViews
+pub mod Function1DPartialViews
+pub mod FunctionNDViews
+pub mod FunctionNDPartialViews
+pub mod DummyListings
+pub mod AlternativeLookups
+pub mod FunctionKeys
+pub mod AtomViews
+pub mod OccurrenceViews
+pub mod SetSizes
+pub mod ViewLaws

@@ -3,3 +3,4 @@
 
 pub mod generic_laws;
 pub mod laws;
+pub mod view_laws;

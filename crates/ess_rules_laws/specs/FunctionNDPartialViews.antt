@@ -1,0 +1,26 @@
+-- What a view of a function from tuples of atoms offers, kept as a flag and a result for each member of the first domain. The
+-- names are those of the components of an argument.
+use Rattle.std.specs.Prelude.{◌∷◌, List, Option, Some, None, if◌then◌else◌}
+use Rattle.ess_semantics.specs.declared.words.ReprKind.{ReprKind}
+use Rattle.ess_semantics.specs.Values.{Text}
+use Rattle.ess_semantics.specs.Trees.{repr, no_reprs, more_reprs, Ex, seen_ex, function_dom, tuple_dom}
+use Rattle.ess_rules_laws.specs.Listings.{Alternative}
+use Rattle.ess_rules_laws.specs.FunctionViews.{by_names, names_fit, flagged_pairs, flagged_result, of_application}
+
+-- Its pairs: the names over the first domain, where the flag there is true, with the result there.
+abbrev pub function_nd_partial_listing : List Text → Ex → Option Alternative
+function_nd_partial_listing xs (seen_ex (repr ReprKind.FunctionNDPartial (more_reprs r no_reprs)) (function_dom ms es (tuple_dom ds) c)
+    (m ∷ ns) js) =
+    if names_fit xs ds then Some (flagged_pairs (by_names xs) r (tuple_dom ds) c m ns js) else None
+function_nd_partial_listing xs e = None
+
+-- Its result at a: the names over the first domain, where the tuple of them is a and the flag there is true, the result there.
+abbrev pub function_nd_partial_result : List Text → Ex → Ex → Option Ex
+function_nd_partial_result xs (seen_ex (repr ReprKind.FunctionNDPartial (more_reprs r no_reprs)) (function_dom ms es (tuple_dom ds) c)
+    (m ∷ ns) js) a =
+    if names_fit xs ds then Some (flagged_result (by_names xs) r (tuple_dom ds) c m ns js a) else None
+function_nd_partial_result xs f a = None
+
+-- The lookup of `f(a)` and of `image(f, a)`.
+abbrev pub function_nd_partial_lookup : List Text → Ex → Option Ex
+function_nd_partial_lookup xs e = of_application (function_nd_partial_result xs) e
