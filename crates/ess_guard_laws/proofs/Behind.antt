@@ -39,6 +39,28 @@ pub behind-unless : (t : Bool) (c : Ex) (env : Env) (P : Type 0) → (t ≡ true
 behind-unless true c env P f t g = f refl
 behind-unless false c env P f t g = (t, g)
 
+-- ---- conditions that are total by themselves
+
+-- Each condition is total.
+abbrev pub EachTotal : List Ex → Env → Type 0
+EachTotal [] env = Unit {0}
+EachTotal (c ∷ cs) env = Total c env × EachTotal cs env
+
+-- Both lists are.
+pub each-total-append : (cs ds : List Ex) (env : Env) → EachTotal cs env → EachTotal ds env → EachTotal (cs ++ ds) env
+each-total-append [] ds env t u = u
+each-total-append (c ∷ cs) ds env t u = (t.0, each-total-append cs ds env t.1 u)
+
+-- One condition, or none.
+pub each-total-unless : (t : Bool) (c : Ex) (env : Env) → Total c env → EachTotal (unless t c) env
+each-total-unless true c env u = tt
+each-total-unless false c env u = (u, tt)
+
+-- What holds where they hold stands behind them.
+pub behind-asked : (cs : List Ex) (env : Env) (P : Type 0) → EachTotal cs env → (Hold cs env → P) → Behind cs env P
+behind-asked [] env P t f = f tt
+behind-asked (c ∷ cs) env P t f = (t.0, λ h. behind-asked cs env P t.1 (λ g. f (h, g)))
+
 -- ---- nodes
 
 -- A node of an operator that asks for nothing.

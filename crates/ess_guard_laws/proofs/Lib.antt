@@ -14,6 +14,9 @@ pub mod StructuresMet
 pub mod Safe
 pub mod Behind
 pub mod TotalRows
+pub mod Differ
+pub mod FunctionLiterals
+pub mod PartitionLiterals
 pub mod KnownNames
 pub mod Arguments
 pub mod TotalIndices

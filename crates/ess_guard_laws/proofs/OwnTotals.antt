@@ -29,6 +29,8 @@ use Rattle.ess_guard_laws.proofs.ItemRows.{defined-means}
 use Rattle.ess_guard_laws.proofs.Safe.{node-some, all-there}
 use Rattle.ess_guard_laws.proofs.Behind.{Behind, behind-append, behind-unless, safe-total}
 use Rattle.ess_guard_laws.proofs.TotalRows.{both-there, quotient-total, div-some, mod-some, power-total, item-total, least-there, greatest-there, party-total}
+use Rattle.ess_guard_laws.proofs.FunctionLiterals.{function-total}
+use Rattle.ess_guard_laws.proofs.PartitionLiterals.{partition-total}
 use Rattle.ess_guard_laws.proofs.KnownNames as K
 use Rattle.ess_guard_laws.proofs.Arguments.{view-full, full-value}
 
@@ -205,6 +207,6 @@ module _ (x y : Text) (pl : Bool) (ts : List TypeEntry) (cs : Names Table) where
   own-total k (index qs) no_exs g n v t = λ h. refl
   own-total k (index qs) (more_exs m is) g n v t = behind-map (path_conditions k x m qs is) (M g) (PathThere m qs is g) _ (path-there qs (meaning m (M g)) (meanings is (M g))) (path-total k m qs is g n v t.0 t.1)
   own-total k application es g n v t = cc
-  own-total k function_literal es g n v t = cc
-  own-total k partition_literal es g n v t = cc
+  own-total k function_literal es g n v t = function-total es (M g) v t
+  own-total k partition_literal es g n v t = partition-total x y es (M g) t
   own-total k op es g n v t = λ h. node-some op (meanings es (M g)) refl h

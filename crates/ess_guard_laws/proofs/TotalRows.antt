@@ -22,6 +22,7 @@ use Rattle.ess_semantics.proofs.Orders.{to_list-of_list, same-itself}
 use Rattle.ess_rules_laws.proofs.Bindings.{each-of-map, each-in-map}
 use Rattle.ess_guard_laws.specs.Origins.{Origin, is_number}
 use Rattle.ess_guard_laws.specs.Conditions.{unless, nil_ex, as_number, is_not_zero, is_above_zero, quotient_conditions, power_conditions, has_items, has_item, some_item, party_conditions}
+use Rattle.ess_guard_laws.specs.Holds.{Hold}
 use Rattle.ess_guard_laws.proofs.NumberForms.{NumbersIn, read-number}
 use Rattle.ess_guard_laws.proofs.ItemRows.{has-item-means, participants-means}
 use Rattle.ess_guard_laws.proofs.MetRows.{each-in-always}
@@ -161,7 +162,8 @@ under-map (cond c gs) env P Q f m = (m.0, λ t. under-map gs env P Q f (m.1 t))
 from-item-total : (x : Text) (s : Ex) (env : Env) → Total s env → Total (fun1 true Fun.Or (comp_ex (truth_ex true) (from (name_pat x) s no_gens))) env
 from-item-total x s env t = safe-total true (word Fun.Or) (more_exs (comp_ex (truth_ex true) (from (name_pat x) s no_gens)) no_exs) env refl ((t, each-in-always (meaning s env) _ (λ v. tt)), tt)
 
-has-item-total : (x : Text) (s : Ex) (env : Env) → Total s env → Total (has_item x s) env
+-- That a container has an item is total.
+pub has-item-total : (x : Text) (s : Ex) (env : Env) → Total s env → Total (has_item x s) env
 has-item-total x (comp_ex e gs) env t = safe-total true (word Fun.Or) (more_exs (comp_ex (truth_ex true) gs) no_exs) env refl (under-map gs env _ _ (λ h q. tt) t, tt)
 has-item-total x (number_ex n) env t = from-item-total x (number_ex n) env t
 has-item-total x (truth_ex b) env t = from-item-total x (truth_ex b) env t
@@ -217,7 +219,8 @@ first-there None q F v e = cc
 first-there (Some u) None F v e = cc
 first-there (Some u) (Some us) F v e = (u, us, e)
 
-some-value : (a b : Value) → Some a ≡ Some b → a ≡ b
+-- One value that is there.
+pub some-value : (a b : Value) → Some a ≡ Some b → a ≡ b
 some-value a b e = ap (λ o. elim o [ None ↦ a | Some z ↦ z ]) e
 
 -- A literal with an item.
@@ -236,6 +239,14 @@ items-form s env v t q = cc
 not-not : (b : Bool) → not b ≡ true → b ≡ false
 not-not true e = cc
 not-not false e = refl
+
+-- Where a container is told to have an item it has one.
+pub some-item-tells : (x : Text) (s : Ex) (env : Env) (v : Value) → meaning s env ≡ Some v → Hold (some_item x s) env → is_empty (items_of v) ≡ false
+some-item-tells x s env v e h = go (has_items s) refl h
+  where
+    go : (t : Bool) → has_items s ≡ t → Hold (unless t (has_item x s)) env → is_empty (items_of v) ≡ false
+    go true q h = items-form s env v q e
+    go false q h = not-not (is_empty (items_of v)) (sym (has-item-means x s env v e) ∙ h.0)
 
 -- The row of least and greatest items.
 pub item-total : (f : Fun) (g : List Value → Option Value) (x : Text) (s : Ex) (env : Env) → Total s env → ((v : Value) → value_of_node (word f) (Some v ∷ []) ≡ g (items_of v)) → ((xs : List Value) → is_empty xs ≡ false → is_some (g xs) ≡ true) →

@@ -1,6 +1,6 @@
 -- Trees whose partial operators are all among those that are known to be total under their conditions.
 use Rattle.std.specs.Prelude.{◌≡◌, Bool, true, false, ◌&&◌, ◌||◌, List, [], ◌∷◌, Option, Some}
-use Rattle.ess_semantics.specs.Trees.{Step, by_value, to_component, to_field, Op, index, application, function_literal, partition_literal, matrix_literal, Ex, Exs, number_ex, truth_ex, name_ex, node_ex, matrix_ex, comp_ex, cell_ex, seen_ex, no_exs, more_exs, Gens, no_gens, over, from, cond, Dom, Doms, bool_dom, int_dom, name_dom, tuple_dom, record_dom, matrix_dom, set_dom, mset_dom, function_dom, relation_dom, partition_dom, no_doms, more_doms}
+use Rattle.ess_semantics.specs.Trees.{Step, by_value, to_component, to_field, Op, index, application, tuple_literal, function_literal, matrix_literal, Ex, Exs, number_ex, truth_ex, name_ex, node_ex, matrix_ex, comp_ex, cell_ex, seen_ex, no_exs, more_exs, Gens, no_gens, over, from, cond, Dom, Doms, bool_dom, int_dom, name_dom, tuple_dom, record_dom, matrix_dom, set_dom, mset_dom, function_dom, relation_dom, partition_dom, no_doms, more_doms}
 use Rattle.ess_semantics.specs.Meaning.{is_bool_dom}
 use Rattle.ess_guard_laws.specs.IndexDomains.{dom_followed, first_index}
 use Rattle.ess_guard_laws.specs.Conditions.{at_step}
@@ -37,14 +37,25 @@ path_has_axes m (by_value ∷ qs) (more_exs i is) = has_axis m && path_has_axes 
 path_has_axes m (to_component c ∷ qs) is = path_has_axes (at_step (to_component c) m no_exs) qs is
 path_has_axes m (to_field a ∷ qs) is = path_has_axes (at_step (to_field a) m no_exs) qs is
 
+-- ---- pairs
+
+-- Whether the term is a pair.
+abbrev pub is_pair : Ex → Bool
+is_pair (node_ex false tuple_literal (more_exs a (more_exs b no_exs))) = true
+is_pair e = false
+
+-- Whether all are: what a literal of a function holds.
+abbrev pub are_pairs : Exs → Bool
+are_pairs no_exs = true
+are_pairs (more_exs e es) = is_pair e && are_pairs es
+
 -- ---- operators
 
 -- The operators that are.
 abbrev pub covers : Op → Exs → Bool
 covers (index qs) (more_exs m is) = path_has_axes m qs is
 covers application es = false
-covers function_literal es = false
-covers partition_literal es = false
+covers function_literal es = are_pairs es
 covers op es = true
 
 -- Whether the expression is marked as a Boolean.
