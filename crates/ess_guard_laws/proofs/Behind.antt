@@ -34,6 +34,11 @@ pub behind-hold : (cs : List Ex) (env : Env) (P : Type 0) → Behind cs env P �
 behind-hold [] env P b h = b
 behind-hold (c ∷ cs) env P b h = behind-hold cs env P (b.1 h.0) h.1
 
+-- What holds where conditions that are total hold stands behind them.
+pub behind-told : (cs : List Ex) (env : Env) (P : Type 0) → Behind cs env (Unit {0}) → (Hold cs env → P) → Behind cs env P
+behind-told [] env P b f = f tt
+behind-told (c ∷ cs) env P b f = (b.0, λ t. behind-told cs env P (b.1 t) (λ h. f (t, h)))
+
 -- What stands behind one condition, or none.
 pub behind-unless : (t : Bool) (c : Ex) (env : Env) (P : Type 0) → (t ≡ true → P) → Total c env → (as_truth (meaning c env) ≡ true → P) → Behind (unless t c) env P
 behind-unless true c env P f t g = f refl
@@ -83,7 +88,8 @@ all-of-total [] env P b = tt
 all-of-total (c ∷ []) env P b = b.0
 all-of-total (c ∷ d ∷ cs) env P b = chained-total (c ∷ []) (all_of (d ∷ cs)) env (b.0, λ t. all-of-total (d ∷ cs) env P (b.1 t))
 
-all-of-hold : (cs : List Ex) (env : Env) → as_truth (meaning (all_of cs) env) ≡ true → Hold cs env
+-- Where all conditions are told to hold they do.
+pub all-of-hold : (cs : List Ex) (env : Env) → as_truth (meaning (all_of cs) env) ≡ true → Hold cs env
 all-of-hold cs env h = tested-hold cs env (sym (all-of-truth cs env) ∙ h)
 
 -- ---- at each binding
@@ -119,13 +125,15 @@ module _ (b : Ex) (at : Value → Env) where
       go None e h = cc
       go (Some xs) e h = each-collected vs xs e (ap all_true (sym (to_list-of_list xs)) ∙ h)
 
-over-each : (b : Ex) (p : Pat) (env : Env) (o : Option (List Value)) →
+-- What a conjunction over the members of a domain tells.
+pub over-each : (b : Ex) (p : Pat) (env : Env) (o : Option (List Value)) →
     as_truth (false_where_undefined true (value_of_node (word Fun.And) (option_map list_value (and_then o (λ vs. collect vs (λ v. option_map (λ w. w ∷ []) (meaning b (with_pat p v env))))) ∷ []))) ≡ true →
     EachOf o (λ v. as_truth (meaning b (with_pat p v env)) ≡ true)
 over-each b p env None h = tt
 over-each b p env (Some vs) h = all-true-each b (λ v. with_pat p v env) vs h
 
-from-each : (b : Ex) (p : Pat) (env : Env) (o : Option Value) →
+-- What a conjunction over the items of a source tells.
+pub from-each : (b : Ex) (p : Pat) (env : Env) (o : Option Value) →
     as_truth (false_where_undefined true (value_of_node (word Fun.And) (option_map list_value (and_then o (λ s. collect (items_of s) (λ v. option_map (λ w. w ∷ []) (meaning b (with_pat p v env))))) ∷ []))) ≡ true →
     EachIn o (λ v. as_truth (meaning b (with_pat p v env)) ≡ true)
 from-each b p env None h = tt

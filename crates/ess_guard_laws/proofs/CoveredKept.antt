@@ -51,6 +51,7 @@ module _ (natural : Bool) (x y : Text) where
   axis-kept : (m : Ex) (k : Names Origin) → has_axis m ≡ true → has_axis (G k m) ≡ true
   axis-kept (node_ex false matrix_literal es) k t = refl
   axis-kept (comp_ex e gs) k t = refl
+  axis-kept (matrix_ex es d) k t = refl
   axis-kept (seen_ex r d ns es) k t = t
   axis-kept (node_ex false (index qs) (more_exs m is)) k t = ap (λ o. is_plain_axis (first_index o)) (followed-kept (node_ex false (index qs) (more_exs m is)) k) ∙ t
   axis-kept m k t = cc
@@ -75,7 +76,8 @@ module _ (natural : Bool) (x y : Text) where
   pair-kept (node_ex false tuple_literal (more_exs a (more_exs b no_exs))) k t = refl
   pair-kept e k t = cc
 
-  pairs-kept : (es : Exs) (k : Names Origin) → are_pairs es ≡ true → are_pairs (Gs k es) ≡ true
+  -- Pairs stay pairs.
+  pub pairs-kept : (es : Exs) (k : Names Origin) → are_pairs es ≡ true → are_pairs (Gs k es) ≡ true
   pairs-kept no_exs k t = refl
   pairs-kept (more_exs e es) k t = and-both (is_pair (G k e)) (are_pairs (Gs k es)) (pair-kept e k (and-left (is_pair e) (are_pairs es) t)) (pairs-kept es k (and-right (is_pair e) (are_pairs es) t))
 

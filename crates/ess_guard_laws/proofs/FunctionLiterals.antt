@@ -102,7 +102,3 @@ agreement-function es env t h k =
   where
     one : (ps : List Value) → no_twice from_of (sorted_once ps) ≡ true → is_some (function_of ps) ≡ true
     one ps e = ap (λ b. is_some (when (not (not b)) (node a_function (of_list (sorted_once ps))))) e
-
--- The row of function literals.
-pub function-total : (es : Exs) (env : Env) → are_pairs es ≡ true → TotalAll es env → Behind (function_conditions es) env (HasValue (value_of_node function_literal (meanings es env)) (meanings es env))
-function-total es env t u = behind-asked (function_conditions es) env _ (agreement-total es env u) (agreement-function es env t)

@@ -146,7 +146,8 @@ split-doms None p as' e = cc
 split-doms (Some a) None as' e = cc
 split-doms (Some a) (Some bs) as' e = (a, bs, refl, refl, ap (λ o. elim o [ None ↦ as' | Some z ↦ z ]) (sym e))
 
-some-dom : (a b : Dom) → Some a ≡ Some b → a ≡ b
+-- One domain that is there.
+pub some-dom : (a b : Dom) → Some a ≡ Some b → a ≡ b
 some-dom a b e = ap (λ o. elim o [ None ↦ a | Some z ↦ z ]) e
 
 -- A row of a nested matrix.

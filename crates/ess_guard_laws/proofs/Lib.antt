@@ -13,6 +13,7 @@ pub mod MetRows
 pub mod StructuresMet
 pub mod Safe
 pub mod Behind
+pub mod NumberTells
 pub mod TotalRows
 pub mod Differ
 pub mod FunctionLiterals
@@ -20,11 +21,15 @@ pub mod PartitionLiterals
 pub mod KnownNames
 pub mod Arguments
 pub mod TotalIndices
+pub mod AxisItems
 pub mod TotalAxes
 pub mod TotalMatrices
 pub mod CoveredKept
+pub mod RowsTell
 pub mod OwnTotals
+pub mod Told
 pub mod Totals
+pub mod Exact
 pub mod Flat
 pub mod Terms
 pub mod TotalLaws

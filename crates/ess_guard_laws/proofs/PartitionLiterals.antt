@@ -82,7 +82,3 @@ parts-partition x y es env h k =
   where
     one : (ps : List Value) → has_empty_part ps ≡ false → no_twice itself (append_all (map items_of ps)) ≡ true → is_some (partition_of ps) ≡ true
     one ps e f = ap (λ b. is_some (when b (node a_partition (of_list (sorted_once ps))))) (and-both (not (has_empty_part ps)) (not (has_overlap ps)) (ap not e) (ap (λ b. not (not b)) f))
-
--- The row of partition literals.
-pub partition-total : (x y : Text) (es : Exs) (env : Env) → TotalAll es env → Behind (partition_conditions x y es) env (HasValue (value_of_node partition_literal (meanings es env)) (meanings es env))
-partition-total x y es env t = behind-asked (partition_conditions x y es) env _ (parts-total x y es env t) (parts-partition x y es env)

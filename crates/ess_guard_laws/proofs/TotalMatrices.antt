@@ -17,12 +17,13 @@ use Rattle.ess_semantics.specs.Totality.{HasValue, TotalDom}
 use Rattle.ess_semantics.proofs.Orders.{same-equal, same_int-equal}
 use Rattle.ess_semantics.proofs.Sorting.{Distinct, sorted_once-length}
 use Rattle.ess_guard_laws.specs.IndexDomains.{number_of}
-use Rattle.ess_guard_laws.specs.Conditions.{has_size, matrix_conditions}
+use Rattle.ess_guard_laws.specs.Conditions.{unless, has_size, matrix_conditions}
+use Rattle.ess_guard_laws.specs.Holds.{Hold}
 use Rattle.ess_guard_laws.proofs.Holding.{the-value}
 use Rattle.ess_guard_laws.proofs.LiteralRows.{number-of-values, count-means}
 use Rattle.ess_guard_laws.proofs.MetRows.{each-of-always}
 use Rattle.ess_guard_laws.proofs.Safe.{all-there}
-use Rattle.ess_guard_laws.proofs.Behind.{Behind, behind-unless, safe-total}
+use Rattle.ess_guard_laws.proofs.Behind.{Behind, EachTotal, each-total-unless, behind-asked, safe-total}
 
 -- ---- the size of a range of numbers
 
@@ -94,10 +95,20 @@ number-there es d env s h =
     ap (λ o. is_some (and_then o (matrix_value (members_in (domain_of d env))))) r.1 ∙ ap (λ o. is_some (matrix_value o r.0)) s.1
     ∙ ap (λ b. is_some (when b (matrix (of_list s.0) (of_list r.0)))) (eq-eqb (length s.0) (length r.0) (s.2 ∙ number-of-values es env r.0 r.1))
 
--- The row of a matrix literal.
-pub matrix-total : (x : Text) (es fs : Exs) (d : Dom) (env : Env) → number_of es ≡ number_of fs → TotalDom d env → Behind (matrix_conditions x es d) env (HasValue (meaning (matrix_ex fs d) env) (meanings fs env))
-matrix-total x es fs d env q t = behind-unless (has_size d (number_of es)) _ env _
-    (λ z. let r = size-form d (number_of es) env z in number-there fs d env (r.0, r.1, r.2 ∙ q))
+-- The condition of a matrix literal tells that it has a value.
+pub matrix-tells : (x : Text) (es fs : Exs) (d : Dom) (env : Env) → number_of es ≡ number_of fs → Hold (matrix_conditions x es d) env → HasValue (meaning (matrix_ex fs d) env) (meanings fs env)
+matrix-tells x es fs d env q h = go (has_size d (number_of es)) refl h
+  where
+    go : (t : Bool) → has_size d (number_of es) ≡ t →
+        Hold (unless t (ex2 true Op2.Eq (fun1 false Fun.Sum (comp_ex (number_ex (pos 1)) (over (name_pat x) d no_gens))) (number_ex (pos (number_of es))))) env → HasValue (meaning (matrix_ex fs d) env) (meanings fs env)
+    go true z h = let r = size-form d (number_of es) env z in number-there fs d env (r.0, r.1, r.2 ∙ q)
+    go false z h = let r = size-tells x d (number_of es) env h.0 in number-there fs d env (r.0, r.1, r.2 ∙ q)
+
+matrix-asked : (x : Text) (es : Exs) (d : Dom) (env : Env) → TotalDom d env → EachTotal (matrix_conditions x es d) env
+matrix-asked x es d env t = each-total-unless (has_size d (number_of es)) _ env
     (safe-total true (binary Op2.Eq) (more_exs (fun1 false Fun.Sum (comp_ex (number_ex (pos 1)) (over (name_pat x) d no_gens))) (more_exs (number_ex (pos (number_of es))) no_exs)) env refl
     (safe-total false (word Fun.Sum) (more_exs (comp_ex (number_ex (pos 1)) (over (name_pat x) d no_gens)) no_exs) env refl ((t, each-of-always (members_in (domain_of d env)) (λ v. Unit {0}) (λ v. tt)), tt), (tt, tt)))
-    (λ h. let r = size-tells x d (number_of es) env h in number-there fs d env (r.0, r.1, r.2 ∙ q))
+
+-- The row of a matrix literal.
+pub matrix-total : (x : Text) (es fs : Exs) (d : Dom) (env : Env) → number_of es ≡ number_of fs → TotalDom d env → Behind (matrix_conditions x es d) env (HasValue (meaning (matrix_ex fs d) env) (meanings fs env))
+matrix-total x es fs d env q t = behind-asked (matrix_conditions x es d) env _ (matrix-asked x es d env t) (matrix-tells x es fs d env q)

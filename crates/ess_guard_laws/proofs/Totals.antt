@@ -71,7 +71,8 @@ module _ (x y : Text) (pl : Bool) (ts : List TypeEntry) (cs : Names Table) where
   pub asked-none : (e : Ex) (k : Names Origin) (env : Env) (P : Type 0) → asks_nothing e ≡ true → Behind (C k e) env P → P
   asked-none e k env P t b = subst (λ l. Behind l env P) (asks-none e k t) b
 
-  number-kept : (es : Exs) (k : Names Origin) → number_of (Gs k es) ≡ number_of es
+  -- Operands stay as many.
+  pub number-kept : (es : Exs) (k : Names Origin) → number_of (Gs k es) ≡ number_of es
   number-kept no_exs k = refl
   number-kept (more_exs e es) k = ap suc (number-kept es k)
 

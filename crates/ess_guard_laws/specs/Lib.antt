@@ -4,4 +4,5 @@ pub mod Conditions
 pub mod Guard
 pub mod Holds
 pub mod Covered
+pub mod Supplied
 pub mod Laws
