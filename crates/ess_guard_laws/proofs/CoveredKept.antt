@@ -8,6 +8,7 @@ use Rattle.ess_guard_laws.specs.Origins.{Origin}
 use Rattle.ess_guard_laws.specs.IndexDomains.{item_dom, dom_behind, dom_followed, first_index}
 use Rattle.ess_guard_laws.specs.Conditions.{chained, at_step}
 use Rattle.ess_guard_laws.specs.Guard.{connects, guarded, guarded_all, conditions_all}
+use Rattle.ess_guard_laws.proofs.RelationTerms.{relation-kept}
 use Rattle.ess_guard_laws.specs.Covered.{is_plain_axis, has_axis, path_has_axes, is_pair, are_pairs, covers}
 
 module _ (natural : Bool) (x y : Text) where
@@ -85,6 +86,6 @@ module _ (natural : Bool) (x y : Text) where
   pub covers-kept : (op : Op) (es : Exs) (k : Names Origin) → covers op es ≡ true → covers op (Gs k es) ≡ true
   covers-kept (index qs) no_exs k t = refl
   covers-kept (index qs) (more_exs m is) k t = path-kept m (G k m) qs is k (followed-kept m k, axis-kept m k) t
-  covers-kept application es k t = cc
+  covers-kept application (more_exs f es) k t = relation-kept natural x y f k t
   covers-kept function_literal es k t = pairs-kept es k t
   covers-kept op es k t = refl

@@ -30,7 +30,7 @@ use Rattle.ess_guard_laws.proofs.OwnTotals.{connects-some}
 use Rattle.ess_guard_laws.proofs.RowsTell as R
 use Rattle.ess_guard_laws.proofs.TotalMatrices.{matrix-tells}
 use Rattle.ess_guard_laws.proofs.CoveredKept.{pairs-kept}
-use Rattle.ess_guard_laws.proofs.Totals.{number-kept}
+use Rattle.ess_guard_laws.proofs.RelationTerms.{relation-kept}
 use Rattle.ess_guard_laws.proofs.Told.{over-told, from-told, given-told, collect-members, collect-items}
 
 -- A node that is a Boolean or a connective has a value; any other one where its conditions hold.
@@ -80,7 +80,7 @@ module _ (x y : Text) (pl : Bool) (ts : List TypeEntry) (cs : Names Table) where
   Cs k es = conditions_all false x y k false es
 
   known-kept : (op : Op) (es : Exs) (k : Names Origin) → is_known op es ≡ true → is_known op (Gs k es) ≡ true
-  known-kept application es k t = t
+  known-kept application (more_exs f es) k t = relation-kept false x y f k t
   known-kept function_literal es k t = pairs-kept false x y es k t
   known-kept op es k t = refl
 

@@ -25,6 +25,7 @@ pub mod AxisItems
 pub mod TotalAxes
 pub mod TotalMatrices
 pub mod CoveredKept
+pub mod RelationTerms
 pub mod RowsTell
 pub mod OwnTotals
 pub mod Told

@@ -104,7 +104,7 @@ module _ (x y : Text) (pl : Bool) (ts : List TypeEntry) (cs : Names Table) where
   own-asked k op es g n v t = tt
 
   covered-known : (op : Op) (es : Exs) → covers op es ≡ true → is_known op es ≡ true
-  covered-known application es v = v
+  covered-known application (more_exs f es) v = v
   covered-known function_literal es v = v
   covered-known op es v = refl
 

@@ -31,6 +31,7 @@ use Rattle.ess_guard_laws.proofs.NumberTells.{both-there, quotient-tells, div-so
 use Rattle.ess_guard_laws.proofs.TotalRows.{item-tells, least-there, greatest-there, party-tells}
 use Rattle.ess_guard_laws.proofs.FunctionLiterals.{agreement-function}
 use Rattle.ess_guard_laws.proofs.PartitionLiterals.{parts-partition}
+use Rattle.ess_guard_laws.proofs.RelationTerms.{application-tells}
 use Rattle.ess_guard_laws.proofs.KnownNames as K
 use Rattle.ess_guard_laws.proofs.Arguments.{view-full, full-value}
 
@@ -179,7 +180,8 @@ module _ (x y : Text) (pl : Bool) (ts : List TypeEntry) (cs : Names Table) where
   own-tells k (word Fun.Party) (more_exs a (more_exs p no_exs)) g n v h = party-tells a p (M g) h
   own-tells k (index qs) no_exs g n v h = λ q. refl
   own-tells k (index qs) (more_exs m is) g n v h = path-there qs (meaning m (M g)) (meanings is (M g)) (path-tells k m qs is g n h)
-  own-tells k application es g n v h = cc
+  own-tells k application no_exs g n v h = λ q. refl
+  own-tells k application (more_exs f es) g n v h = application-tells f es (M g) v
   own-tells k function_literal es g n v h = agreement-function es (M g) v h
   own-tells k partition_literal es g n v h = parts-partition x y es (M g) h
   own-tells k op es g n v h = λ q. node-some op (meanings es (M g)) refl q

@@ -2,7 +2,8 @@
 use Rattle.std.specs.Prelude.{◌≡◌, Bool, true, false, ◌&&◌, ◌||◌, List, [], ◌∷◌, Option, Some}
 use Rattle.ess_semantics.specs.declared.words.Op1.{Op1}
 use Rattle.ess_semantics.specs.declared.words.Op2.{Op2}
-use Rattle.ess_semantics.specs.Trees.{Step, by_value, to_component, to_field, Op, unary, binary, index, application, tuple_literal, function_literal, matrix_literal, Ex, Exs, number_ex, truth_ex, name_ex, node_ex, matrix_ex, comp_ex, cell_ex, seen_ex, no_exs, more_exs, Gens, no_gens, over, from, cond, Dom, Doms, bool_dom, int_dom, name_dom, tuple_dom, record_dom, matrix_dom, set_dom, mset_dom, function_dom, relation_dom, partition_dom, no_doms, more_doms}
+use Rattle.ess_semantics.specs.declared.words.Fun.{Fun}
+use Rattle.ess_semantics.specs.Trees.{Step, by_value, to_component, to_field, Op, unary, binary, word, index, application, tuple_literal, function_literal, relation_literal, matrix_literal, Ex, Exs, number_ex, truth_ex, name_ex, node_ex, matrix_ex, comp_ex, cell_ex, seen_ex, no_exs, more_exs, Gens, no_gens, over, from, cond, Dom, Doms, bool_dom, int_dom, name_dom, tuple_dom, record_dom, matrix_dom, set_dom, mset_dom, function_dom, relation_dom, partition_dom, no_doms, more_doms}
 use Rattle.ess_semantics.specs.Meaning.{is_bool_dom}
 use Rattle.ess_guard_laws.specs.IndexDomains.{dom_followed, first_index}
 use Rattle.ess_guard_laws.specs.Conditions.{at_step}
@@ -61,12 +62,24 @@ abbrev pub are_pairs : Exs → Bool
 are_pairs no_exs = true
 are_pairs (more_exs e es) = is_pair e && are_pairs es
 
+-- ---- relations
+
+-- Whether the form of a term tells that it is a relation: of a view, of a literal, and of what operators make of a relation.
+abbrev pub is_relation : Ex → Bool
+is_relation (seen_ex r (relation_dom ms es ds) ns is) = true
+is_relation (node_ex false relation_literal es) = true
+is_relation (node_ex false (word Fun.ToRelation) (more_exs f no_exs)) = true
+is_relation (node_ex false (binary Op2.Union) (more_exs a (more_exs b no_exs))) = is_relation a
+is_relation (node_ex false (binary Op2.Intersect) (more_exs a (more_exs b no_exs))) = is_relation a
+is_relation (node_ex false (binary Op2.Minus) (more_exs a (more_exs b no_exs))) = is_relation a
+is_relation e = false
+
 -- ---- operators
 
 -- The operators that are.
 abbrev pub covers : Op → Exs → Bool
 covers (index qs) (more_exs m is) = path_has_axes m qs is
-covers application es = false
+covers application (more_exs f es) = is_relation f
 covers function_literal es = are_pairs es
 covers op es = true
 

@@ -9,7 +9,7 @@ use Rattle.ess_semantics.specs.Meaning.{Env, meaning, meanings, domain_of, membe
 use Rattle.ess_semantics.specs.Contexts.{EachOf, EachIn, WhenTrue}
 use Rattle.ess_semantics.specs.Totality.{HasValue}
 use Rattle.ess_guard_laws.specs.Guard.{connects}
-use Rattle.ess_guard_laws.specs.Covered.{are_pairs}
+use Rattle.ess_guard_laws.specs.Covered.{are_pairs, is_relation}
 
 -- ---- numbers of domains
 
@@ -39,10 +39,11 @@ HasMembers d env = IsTrue (has_numbers d env) → IsTrue (is_some (members_in (d
 
 -- ---- trees
 
--- The operators whose conditions are known, where they aren't marked as Booleans: all but the application of a function, which
--- stands as an image in resolved trees. The operands of a function literal are pairs.
+-- The operators whose conditions are known, where they aren't marked as Booleans: all but an application of what isn't a
+-- relation by its form. Resolved, an application that is no Boolean has become an image. The operands of a function literal are
+-- pairs.
 abbrev pub is_known : Op → Exs → Bool
-is_known application es = false
+is_known application (more_exs f es) = is_relation f
 is_known function_literal es = are_pairs es
 is_known op es = true
 
