@@ -34,4 +34,5 @@ pub mod Exact
 pub mod Flat
 pub mod Terms
 pub mod TotalLaws
+pub mod TermLaws
 pub mod Examples

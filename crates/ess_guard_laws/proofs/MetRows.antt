@@ -73,7 +73,8 @@ gens-map (cond c gs) env P Q f m = (m.0, λ t. gens-map gs env P Q f (m.1 t))
 
 -- ---- Booleans of conditions
 
-conds-met : (cs : List Ex) (env : Env) (P : Env → Type 0) → Met cs env → P env → MeetsGens (conds cs) env P
+-- Conditions as generators.
+pub conds-met : (cs : List Ex) (env : Env) (P : Env → Type 0) → Met cs env → P env → MeetsGens (conds cs) env P
 conds-met [] env P m p = p
 conds-met (c ∷ cs) env P m p = (m.0, λ t. conds-met cs env P m.1 p)
 

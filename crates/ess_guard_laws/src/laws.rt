@@ -1,6 +1,6 @@
 //! Laws of undefined terms, each the contract of a function that does nothing.
 
-ghost use Rattle.ess_guard_laws.specs.Laws.{ConditionsHoldAtValues, ConditionsAreMet, GuardingKeepsMeanings, GuardedIsKept, NaturalIsKept, GuardedIsTotal, ConditionsMakeTotal, NumbersUnderConditions, FlatConstraintsStay, MarksStay};
+ghost use Rattle.ess_guard_laws.specs.Laws.{ConditionsHoldAtValues, ConditionsAreMet, GuardingKeepsMeanings, GuardedIsKept, NaturalIsKept, GuardedIsTotal, ConditionsMakeTotal, ConditionsTellValues, TermsUnderConditions, FlatConstraintsStay, MarksStay};
 
 /// Where a term has a value its conditions hold.
 pub fn conditions_hold_at_values()
@@ -37,9 +37,16 @@ pub fn conditions_make_total()
     ensures { ConditionsMakeTotal }
 {}
 
-/// The two answers for a number: that it has a value, and the number under its conditions.
-pub fn numbers_under_conditions()
-    ensures { NumbersUnderConditions }
+/// Whether its conditions hold says whether a term has a value: of every tree, where the names, cells and views that it reads have
+/// values and generators run over domains that can be listed.
+pub fn conditions_tell_values()
+    ensures { ConditionsTellValues }
+{}
+
+/// The two answers for a term: whether it has a value, and the term, which means the same there, and is total; a number is 0
+/// elsewhere.
+pub fn terms_under_conditions()
+    ensures { TermsUnderConditions }
 {}
 
 /// Flat constraints over cells stay as they are.
