@@ -12,7 +12,7 @@ use Rattle.ess_semantics.specs.Meaning.{Env, meaning, meanings, items_under, dom
 use Rattle.ess_guard_laws.specs.IndexDomains.{number_of, one_up_to, dom_followed, first_index, index_dom}
 use Rattle.ess_guard_laws.proofs.LiteralRows.{number-of-values}
 use Rattle.ess_guard_laws.proofs.Axes.{IsNested, HasAxis, nested-axis}
-use Rattle.ess_guard_laws.proofs.IndexRows.{Follows, split-doms, some-dom, follows, counted-under}
+use Rattle.ess_guard_laws.proofs.IndexRows.{Follows, split-doms, some-dom, plain-axis, follows, counted-under}
 use Rattle.ess_guard_laws.proofs.TotalIndices.{inside-items, list-there}
 
 -- The matrix has an item at each listed member of the domain.
@@ -66,4 +66,4 @@ pub axis-items : (m : Ex) (d : Dom) (env : Env) → index_dom m ≡ Some d → I
 axis-items (node_ex false matrix_literal es) d env i = subst (ItemsOver (node_ex false matrix_literal es) env) (some-dom _ d i) (list-items es env)
 axis-items (comp_ex b gs) d env i = subst (ItemsOver (comp_ex b gs) env) (some-dom _ d i) (comp-items b gs env)
 axis-items (matrix_ex es c) d env i = subst (ItemsOver (matrix_ex es c) env) (some-dom c d i) (matrix-items es c env)
-axis-items m d env i = followed-items m d env i
+axis-items m d env i = followed-items m d env (plain-axis (first_index (dom_followed m)) d i)

@@ -1,14 +1,16 @@
 -- The index domain of a matrix term is total, and the matrix has an item at each of its members.
-use Rattle.std.proofs.Common.{◌≡◌, refl, true, false, ◌∷◌, pos, Option, Some}
+use Rattle.std.proofs.Common.{◌≡◌, refl, sym, ◌∙◌, subst, Bool, true, false, if◌then◌else◌, ◌∷◌, pos, Option, Some, None, is_some}
 use Rattle.ess_semantics.specs.declared.words.Op1.{Op1}
 use Rattle.ess_semantics.specs.declared.words.Op2.{Op2}
 use Rattle.ess_semantics.specs.declared.words.Fun.{Fun}
-use Rattle.ess_semantics.specs.Trees.{unary, binary, word, matrix_literal, Ex, Exs, number_ex, name_ex, node_ex, matrix_ex, comp_ex, cell_ex, no_exs, more_exs, Gens, Dom, bool_dom, int_dom, name_dom, matrix_dom, more_doms, fun1}
+use Rattle.ess_semantics.specs.Trees.{unary, binary, word, matrix_literal, Ex, Exs, number_ex, name_ex, node_ex, matrix_ex, comp_ex, cell_ex, no_exs, more_exs, Gens, Dom, bool_dom, int_dom, name_dom, fun1}
 use Rattle.ess_semantics.specs.Meaning.{Env}
 use Rattle.ess_semantics.specs.Totality.{Total, TotalAll, TotalDom}
 use Rattle.ess_semantics.proofs.Tests.{and-left, and-right}
-use Rattle.ess_guard_laws.specs.IndexDomains.{number_of, one_up_to, dom_followed, first_index, index_dom}
-use Rattle.ess_guard_laws.specs.Covered.{is_plain_bound, are_plain_bounds, is_plain_axis, has_axis}
+use Rattle.ess_guard_laws.specs.IndexDomains.{number_of, one_up_to, dom_followed, first_index, is_plain_bound, are_plain_bounds, plain_axis, index_dom}
+use Rattle.ess_guard_laws.specs.Covered.{has_axis}
+use Rattle.ess_guard_laws.proofs.Holding.{the-value}
+use Rattle.ess_guard_laws.proofs.IndexRows.{some-dom}
 use Rattle.ess_guard_laws.proofs.AxisItems.{ItemsOver, axis-items}
 use Rattle.ess_guard_laws.proofs.Behind.{safe-total}
 use Rattle.ess_guard_laws.proofs.TotalRows.{under-map}
@@ -35,21 +37,22 @@ mutual
   bounds-total no_exs env t = tt
   bounds-total (more_exs e es) env t = (bound-total e env (and-left (is_plain_bound e) (are_plain_bounds es) t), bounds-total es env (and-right (is_plain_bound e) (are_plain_bounds es) t))
 
-axis-total : (d : Dom) (env : Env) → is_plain_axis (Some d) ≡ true → TotalDom d env
-axis-total bool_dom env t = tt
-axis-total (int_dom rs es) env t = bounds-total es env t
-axis-total (name_dom a) env t = tt
-axis-total d env t = cc
+-- A plain index domain is total.
+plain-total : (o : Option Dom) (d : Dom) (env : Env) → plain_axis o ≡ Some d → TotalDom d env
+plain-total (Some bool_dom) d env e = subst (λ z. TotalDom z env) (some-dom bool_dom d e) tt
+plain-total (Some (int_dom rs es)) d env e = go (are_plain_bounds es) refl e
+  where
+    go : (t : Bool) → are_plain_bounds es ≡ t → (if t then Some (int_dom rs es) else None) ≡ Some d → TotalDom d env
+    go true t e = subst (λ z. TotalDom z env) (some-dom (int_dom rs es) d e) (bounds-total es env t)
+    go false t e = cc
+plain-total (Some (name_dom a)) d env e = subst (λ z. TotalDom z env) (some-dom (name_dom a) d e) tt
+plain-total o d env e = cc
 
 comp-axis : (b : Ex) (gs : Gens) (env : Env) → Total (comp_ex b gs) env → TotalDom (one_up_to (fun1 false Fun.Sum (comp_ex (number_ex (pos 1)) gs))) env
 comp-axis b gs env t = (tt, (safe-total false (word Fun.Sum) (more_exs (comp_ex (number_ex (pos 1)) gs) no_exs) env refl (under-map gs env _ _ (λ h q. tt) t, tt), tt))
 
-followed-axis : (m : Ex) (env : Env) → index_dom m ≡ first_index (dom_followed m) → is_plain_axis (first_index (dom_followed m)) ≡ true → AxisOf m env
-followed-axis m env i t = go (first_index (dom_followed m)) i t
-  where
-    go : (o : Option Dom) → index_dom m ≡ o → is_plain_axis o ≡ true → AxisOf m env
-    go (Some d) i t = axis m env d i (axis-total d env t)
-    go o i t = cc
+followed-axis : (m : Ex) (env : Env) → index_dom m ≡ plain_axis (first_index (dom_followed m)) → is_some (index_dom m) ≡ true → AxisOf m env
+followed-axis m env i t = let r = the-value (index_dom m) t in axis m env r.0 r.1 (plain-total (first_index (dom_followed m)) r.0 env (sym i ∙ r.1))
 
 -- The index domain of a term that tells one.
 pub axis-of : (m : Ex) (env : Env) → has_axis m ≡ true → Total m env → AxisOf m env

@@ -1,46 +1,18 @@
 -- Trees whose partial operators are all among those that are known to be total under their conditions.
-use Rattle.std.specs.Prelude.{◌≡◌, Bool, true, false, ◌&&◌, ◌||◌, List, [], ◌∷◌, Option, Some}
-use Rattle.ess_semantics.specs.declared.words.Op1.{Op1}
+use Rattle.std.specs.Prelude.{◌≡◌, Bool, true, false, ◌&&◌, ◌||◌, List, [], ◌∷◌, Option, Some, is_some}
 use Rattle.ess_semantics.specs.declared.words.Op2.{Op2}
 use Rattle.ess_semantics.specs.declared.words.Fun.{Fun}
 use Rattle.ess_semantics.specs.Trees.{Step, by_value, to_component, to_field, Op, unary, binary, word, index, application, tuple_literal, function_literal, relation_literal, matrix_literal, Ex, Exs, number_ex, truth_ex, name_ex, node_ex, matrix_ex, comp_ex, cell_ex, seen_ex, no_exs, more_exs, Gens, no_gens, over, from, cond, Dom, Doms, bool_dom, int_dom, name_dom, tuple_dom, record_dom, matrix_dom, set_dom, mset_dom, function_dom, relation_dom, partition_dom, no_doms, more_doms}
 use Rattle.ess_semantics.specs.Meaning.{is_bool_dom}
-use Rattle.ess_guard_laws.specs.IndexDomains.{dom_followed, first_index}
+use Rattle.ess_guard_laws.specs.IndexDomains.{index_dom}
 use Rattle.ess_guard_laws.specs.Conditions.{at_step}
 use Rattle.ess_guard_laws.specs.Guard.{connects}
 
 -- ---- indices
 
-abbrev mutual
-  -- Numbers, names, cells, and sums, differences and products of these.
-  pub is_plain_bound : Ex → Bool
-  is_plain_bound (number_ex n) = true
-  is_plain_bound (name_ex a) = true
-  is_plain_bound (cell_ex b n es) = are_plain_bounds es
-  is_plain_bound (node_ex false (unary Op1.Minus) es) = are_plain_bounds es
-  is_plain_bound (node_ex false (binary Op2.Plus) es) = are_plain_bounds es
-  is_plain_bound (node_ex false (binary Op2.Minus) es) = are_plain_bounds es
-  is_plain_bound (node_ex false (binary Op2.Times) es) = are_plain_bounds es
-  is_plain_bound e = false
-
-  -- The same of several.
-  pub are_plain_bounds : Exs → Bool
-  are_plain_bounds no_exs = true
-  are_plain_bounds (more_exs e es) = is_plain_bound e && are_plain_bounds es
-
--- An index domain with such bounds.
-abbrev pub is_plain_axis : Option Dom → Bool
-is_plain_axis (Some bool_dom) = true
-is_plain_axis (Some (int_dom rs es)) = are_plain_bounds es
-is_plain_axis (Some (name_dom a)) = true
-is_plain_axis o = false
-
--- Whether the form of a matrix term tells its index domain: of a literal, a comprehension, and a declared matrix.
+-- Whether the form of a matrix term tells its index domain.
 abbrev pub has_axis : Ex → Bool
-has_axis (node_ex false matrix_literal es) = true
-has_axis (comp_ex e gs) = true
-has_axis (matrix_ex es d) = true
-has_axis m = is_plain_axis (first_index (dom_followed m))
+has_axis m = is_some (index_dom m)
 
 -- Whether it does so for each step by a value.
 abbrev pub path_has_axes : Ex → List Step → Exs → Bool
