@@ -35,4 +35,6 @@ pub mod Flat
 pub mod Terms
 pub mod TotalLaws
 pub mod TermLaws
+pub mod ScopedRows
+pub mod Scoping
 pub mod Examples

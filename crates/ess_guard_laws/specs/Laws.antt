@@ -12,10 +12,12 @@ use Rattle.ess_semantics.specs.Meaning.{Env, meaning}
 use Rattle.ess_semantics.specs.Meets.{Meets}
 use Rattle.ess_semantics.specs.Kept.{Kept}
 use Rattle.ess_semantics.specs.Totality.{Total}
+use Rattle.ess_semantics.specs.Scoped.{Scoped}
 use Rattle.ess_guard_laws.specs.Guard.{there, has_value, make_total, make_natural, make_total_term}
 use Rattle.ess_guard_laws.specs.Holds.{Hold}
 use Rattle.ess_guard_laws.specs.Covered.{is_boolean, asks_nothing, Covered}
 use Rattle.ess_guard_laws.specs.Supplied.{Supplied}
+use Rattle.ess_guard_laws.specs.Reserved.{AreReserved}
 
 -- ---- meanings
 
@@ -82,3 +84,11 @@ FlatConstraintsStay = (x y : Text) (ps : List Plan) (e : Ex) → IsTrue (is_flat
 -- A Boolean is marked as one still, and nothing else is.
 abbrev pub MarksStay : Type 0
 MarksStay = (x y : Text) (e : Ex) → (is_boolean (make_total x y e) ≡ is_boolean e) × (is_boolean (make_natural x y e) ≡ is_boolean e)
+
+-- Guarded, a tree is in scope as it was, and so are the conditions of a term and a number under them: where x and y are reserved
+-- at the tree, and the names that the domains of declarations use are in scope.
+pub record ScopesStay : Type 0 where
+  pub total : (x y : Text) (z s o : Text → Bool) (e : Ex) → AreReserved x y s e → ((a : Text) → z a ≡ true → s a ≡ true) → Scoped z s o e → Scoped z s o (make_total x y e)
+  pub natural : (x y : Text) (z s o : Text → Bool) (e : Ex) → AreReserved x y s e → ((a : Text) → z a ≡ true → s a ≡ true) → Scoped z s o e → Scoped z s o (make_natural x y e)
+  pub terms : (x y : Text) (z s o : Text → Bool) (is_int : Bool) (e : Ex) → AreReserved x y s e → ((a : Text) → z a ≡ true → s a ≡ true) → Scoped z s o e →
+      Scoped z s o ((make_total_term x y is_int e).0) × Scoped z s o ((make_total_term x y is_int e).1)

@@ -5,4 +5,5 @@ pub mod Guard
 pub mod Holds
 pub mod Covered
 pub mod Supplied
+pub mod Reserved
 pub mod Laws

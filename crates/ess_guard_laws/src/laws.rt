@@ -1,6 +1,6 @@
 //! Laws of undefined terms, each the contract of a function that does nothing.
 
-ghost use Rattle.ess_guard_laws.specs.Laws.{ConditionsHoldAtValues, ConditionsAreMet, GuardingKeepsMeanings, GuardedIsKept, NaturalIsKept, GuardedIsTotal, ConditionsMakeTotal, ConditionsTellValues, TermsUnderConditions, FlatConstraintsStay, MarksStay};
+ghost use Rattle.ess_guard_laws.specs.Laws.{ConditionsHoldAtValues, ConditionsAreMet, GuardingKeepsMeanings, GuardedIsKept, NaturalIsKept, GuardedIsTotal, ConditionsMakeTotal, ConditionsTellValues, TermsUnderConditions, FlatConstraintsStay, MarksStay, ScopesStay};
 
 /// Where a term has a value its conditions hold.
 pub fn conditions_hold_at_values()
@@ -57,4 +57,10 @@ pub fn flat_constraints_stay()
 /// A Boolean is marked as one still, and nothing else is.
 pub fn marks_stay()
     ensures { MarksStay }
+{}
+
+/// A guarded tree is in scope as it was, and so are both answers for a term: where the two names are reserved, and those that the
+/// domains of declarations use are in scope.
+pub fn scopes_stay()
+    ensures { ScopesStay }
 {}
