@@ -9,7 +9,8 @@ use Rattle.ess_semantics.specs.Trees.{matrix_literal, Ex, Exs, number_ex, node_e
 use Rattle.ess_semantics.specs.Operators.{number_in, at_index, value_of_op, list_value}
 use Rattle.ess_semantics.specs.Domains.{integers, members, member_list, between}
 use Rattle.ess_semantics.specs.Meaning.{Env, meaning, meanings, items_under, domain_of, domains_of, members_in, matrix_value}
-use Rattle.ess_guard_laws.specs.IndexDomains.{number_of, one_up_to, dom_followed, first_index, index_dom}
+use Rattle.ess_semantics.specs.Constants.{operand_count}
+use Rattle.ess_guard_laws.specs.IndexDomains.{one_up_to, dom_followed, first_index, index_dom}
 use Rattle.ess_guard_laws.proofs.LiteralRows.{number-of-values}
 use Rattle.ess_guard_laws.proofs.Axes.{IsNested, HasAxis, nested-axis}
 use Rattle.ess_guard_laws.proofs.IndexRows.{Follows, split-doms, some-dom, plain-axis, follows, counted-under}
@@ -22,7 +23,7 @@ ItemsOver m env d = (v w : Value) (is : List Value) → meaning m env ≡ Some v
 is-value : (u v : Value) → Some u ≡ Some v → v ≡ u
 is-value u v e = ap (λ o. elim o [ None ↦ v | Some z ↦ z ]) (sym e)
 
-list-items : (es : Exs) (env : Env) → ItemsOver (node_ex false matrix_literal es) env (one_up_to (number_ex (pos (number_of es))))
+list-items : (es : Exs) (env : Env) → ItemsOver (node_ex false matrix_literal es) env (one_up_to (number_ex (pos (operand_count es))))
 list-items es env v w is e q h = go (all_some (meanings es env)) refl e
   where
     go : (o : Option (List Value)) → all_some (meanings es env) ≡ o → and_then o (value_of_op matrix_literal) ≡ Some v → is_some (at_index v w) ≡ true

@@ -11,11 +11,11 @@ use Rattle.ess_semantics.specs.Tables.{Table}
 use Rattle.ess_semantics.specs.Meaning.{Env, TypeEntry, bind, with_pat, meaning, meanings, items_under, collect, where_true, domain_of, members_in, matrix_value}
 use Rattle.ess_semantics.specs.Contexts.{EachOf, EachIn}
 use Rattle.ess_semantics.specs.Totality.{HasValue}
+use Rattle.ess_semantics.specs.Constants.{operand_count}
 use Rattle.ess_semantics.proofs.Tests.{and-both}
 use Rattle.ess_rules_laws.proofs.Simulation.{Vals, E}
 use Rattle.ess_rules_laws.proofs.Bindings.{each-of-join, each-in-map, each-in-join}
 use Rattle.ess_guard_laws.specs.Origins.{Origin, with_any, with_over, known_behind}
-use Rattle.ess_guard_laws.specs.IndexDomains.{number_of}
 use Rattle.ess_guard_laws.specs.Conditions.{every, given_that, matrix_conditions, own}
 use Rattle.ess_guard_laws.specs.Guard.{connects, guarded, guarded_all, guarded_gens, guarded_dom, guarded_doms, conditions, conditions_all, conditions_gens, conditions_dom, conditions_doms}
 use Rattle.ess_guard_laws.specs.Holds.{Hold}

@@ -16,13 +16,14 @@ use Rattle.ess_semantics.specs.Operators.{as_truth, number_in, item_at, at_index
 use Rattle.ess_semantics.specs.Domains.{Domain, Domains, more_domains, integers, members, member_list, between}
 use Rattle.ess_semantics.specs.Membership.{member}
 use Rattle.ess_semantics.specs.Meaning.{Env, meaning, meanings, items_under, domain_of, domains_of, members_in, with_pat, collect, matrix_value}
+use Rattle.ess_semantics.specs.Constants.{operand_count}
 use Rattle.ess_semantics.proofs.Orders.{to_list-of_list, same-itself, same-equal, same_int-equal, same_int-itself}
 use Rattle.ess_semantics.proofs.Sorting.{all-holds}
 use Rattle.ess_semantics.proofs.MemberLists.{integers-listed}
 use Rattle.ess_semantics.proofs.Tests.{and-left, and-right, and-both}
 use Rattle.ess_rules_laws.proofs.Agreement.{look-itself}
 use Rattle.ess_guard_laws.specs.Origins.{Origin, is_sure}
-use Rattle.ess_guard_laws.specs.IndexDomains.{number_of, one_up_to, item_dom, dom_behind, dom_followed, first_index, are_plain_bounds, plain_axis, index_dom}
+use Rattle.ess_guard_laws.specs.IndexDomains.{one_up_to, item_dom, dom_behind, dom_followed, first_index, are_plain_bounds, plain_axis, index_dom}
 use Rattle.ess_guard_laws.specs.Conditions.{as_number, in_dom, at_step, index_conditions, path_conditions}
 use Rattle.ess_guard_laws.specs.Holds.{Hold}
 use Rattle.ess_guard_laws.proofs.Holding.{then-first, the-value, hold-append, unless-holds}
@@ -243,8 +244,8 @@ index-holds x (node_ex false matrix_literal es) i d env v w q e p h = go (all_so
   where
     go : (o : Option (List Value)) → all_some (meanings es env) ≡ o → and_then o (value_of_op matrix_literal) ≡ Some v → as_truth (meaning (in_dom x i d) env) ≡ true
     go None r e = cc
-    go (Some xs) r e = subst (λ z. as_truth (meaning (in_dom x i z) env) ≡ true) (some-dom (one_up_to (number_ex (pos (number_of es)))) d q)
-        (list-index x i (number_ex (pos (number_of es))) env xs w (ap (λ n. Some (number (pos n))) (number-of-values es env xs r)) p
+    go (Some xs) r e = subst (λ z. as_truth (meaning (in_dom x i z) env) ≡ true) (some-dom (one_up_to (number_ex (pos (operand_count es)))) d q)
+        (list-index x i (number_ex (pos (operand_count es))) env xs w (ap (λ n. Some (number (pos n))) (number-of-values es env xs r)) p
         (ap (λ z. is_some (at_index z w)) (ap (λ o. elim o [ None ↦ v | Some z ↦ z ]) e) ∙ h))
 index-holds x (matrix_ex es c) i d env v w q e p h = go (all_some (meanings es env)) (members_in (domain_of c env)) refl e
   where

@@ -37,4 +37,8 @@ pub mod TotalLaws
 pub mod TermLaws
 pub mod ScopedRows
 pub mod Scoping
+pub mod ConstantRows
+pub mod ConstantOwn
+pub mod ConstantsKept
+pub mod ConstantLaws
 pub mod Examples

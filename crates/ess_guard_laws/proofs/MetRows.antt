@@ -9,9 +9,10 @@ use Rattle.ess_semantics.specs.Operators.{as_truth}
 use Rattle.ess_semantics.specs.Meaning.{Env, meaning, domain_of, members_in, with_pat}
 use Rattle.ess_semantics.specs.Contexts.{Each, EachOf, EachIn, Guarded, guards}
 use Rattle.ess_semantics.specs.Meets.{Meets, MeetsAll, MeetsGens, MeetsDom}
+use Rattle.ess_semantics.specs.Constants.{operand_count}
 use Rattle.ess_rules_laws.proofs.Bindings.{each-of-map, each-in-map}
 use Rattle.ess_guard_laws.specs.Origins.{Origin, is_number, is_sure}
-use Rattle.ess_guard_laws.specs.IndexDomains.{number_of, item_dom, dom_behind, dom_followed, first_index, are_plain_bounds, plain_axis, index_dom}
+use Rattle.ess_guard_laws.specs.IndexDomains.{item_dom, dom_behind, dom_followed, first_index, are_plain_bounds, plain_axis, index_dom}
 use Rattle.ess_guard_laws.specs.Conditions.{conds, chained, all_of, every, given_that, unless, nil_ex, as_number, is_not_zero, is_above_zero, power_conditions, has_items, has_item, some_item, is_argument, agree, agree_all, function_conditions, have_members, are_disjoint, is_single_set, partition_conditions, has_size, matrix_conditions, in_dom, at_step, index_conditions, path_conditions, own}
 
 -- ---- conditions
@@ -167,8 +168,8 @@ over-any-met x e d env m f = (m, each-of-always (members_in (domain_of d env)) _
 
 -- The condition of a matrix literal.
 pub matrix-met : (x : Text) (es : Exs) (d : Dom) (env : Env) → MeetsDom d env → Met (matrix_conditions x es d) env
-matrix-met x es d env m = met-unless (has_size d (number_of es)) _ env
-    (two-met true (binary Op2.Eq) (fun1 false Fun.Sum (comp_ex (number_ex (pos 1)) (over (name_pat x) d no_gens))) (number_ex (pos (number_of es))) env (one-met false (word Fun.Sum) (comp_ex (number_ex (pos 1)) (over (name_pat x) d no_gens)) env (over-any-met x (number_ex (pos 1)) d env m (λ h. tt))) tt)
+matrix-met x es d env m = met-unless (has_size d (operand_count es)) _ env
+    (two-met true (binary Op2.Eq) (fun1 false Fun.Sum (comp_ex (number_ex (pos 1)) (over (name_pat x) d no_gens))) (number_ex (pos (operand_count es))) env (one-met false (word Fun.Sum) (comp_ex (number_ex (pos 1)) (over (name_pat x) d no_gens)) env (over-any-met x (number_ex (pos 1)) d env m (λ h. tt))) tt)
 
 -- ---- indices
 

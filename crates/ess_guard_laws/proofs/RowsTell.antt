@@ -13,9 +13,10 @@ use Rattle.ess_semantics.specs.Operators.{as_truth, value_of_node, value_of_op, 
 use Rattle.ess_semantics.specs.Tables.{Table}
 use Rattle.ess_semantics.specs.Meaning.{Env, TypeEntry, meaning, meanings, domain_of}
 use Rattle.ess_semantics.specs.Totality.{HasValue}
+use Rattle.ess_semantics.specs.Constants.{operand_count}
 use Rattle.ess_rules_laws.proofs.Simulation.{Vals, E}
 use Rattle.ess_guard_laws.specs.Origins.{Origin, is_sure}
-use Rattle.ess_guard_laws.specs.IndexDomains.{number_of, index_dom}
+use Rattle.ess_guard_laws.specs.IndexDomains.{index_dom}
 use Rattle.ess_guard_laws.specs.Conditions.{unless, is_argument, image_conditions, in_dom, index_conditions, at_step, path_conditions, own}
 use Rattle.ess_guard_laws.specs.Guard.{connects}
 use Rattle.ess_guard_laws.specs.Holds.{Hold}
@@ -37,7 +38,7 @@ use Rattle.ess_guard_laws.proofs.Arguments.{view-full, full-value}
 
 -- ---- operators on another number of operands
 
-odd-there : (op : Op) (es : Exs) (env : Env) → connects op ≡ false → ((xs : List Value) → length xs ≡ number_of es → is_some (value_of_op op xs) ≡ true) → HasValue (value_of_node op (meanings es env)) (meanings es env)
+odd-there : (op : Op) (es : Exs) (env : Env) → connects op ≡ false → ((xs : List Value) → length xs ≡ operand_count es → is_some (value_of_op op xs) ≡ true) → HasValue (value_of_node op (meanings es env)) (meanings es env)
 odd-there op es env c f h =
     let r = the-value (all_some (meanings es env)) (all-there (meanings es env) h) in
     ap is_some (node-value op (meanings es env) c) ∙ ap (λ o. is_some (and_then o (value_of_op op))) r.1 ∙ f r.0 (sym (number-of-values es env r.0 r.1))

@@ -9,10 +9,11 @@ use Rattle.ess_semantics.specs.Names.{Names}
 use Rattle.ess_semantics.specs.Trees.{Step, by_value, to_component, to_field, Op, unary, binary, word, index, tuple_literal, matrix_literal, function_literal, partition_literal, both_ends, Pat, name_pat, Ex, Exs, number_ex, truth_ex, name_ex, node_ex, matrix_ex, comp_ex, cell_ex, seen_ex, no_exs, more_exs, Gens, no_gens, over, from, cond, Dom, bool_dom, int_dom, name_dom, matrix_dom, more_doms, ex2, fun1}
 use Rattle.ess_semantics.specs.Substitution.{Binds, BindsAll, NamesAre, NamesAreExs, NamesAreDom}
 use Rattle.ess_semantics.specs.Scoped.{is_bound, BindsNew, with_names, Scoped, ScopedExs, ScopedGens, ScopedDom}
+use Rattle.ess_semantics.specs.Constants.{operand_count}
 use Rattle.ess_semantics.proofs.Texts.{same_text-itself}
 use Rattle.ess_semantics.proofs.Tests.{and-left, and-right, or-yes}
 use Rattle.ess_guard_laws.specs.Origins.{Origin, is_number, is_sure}
-use Rattle.ess_guard_laws.specs.IndexDomains.{number_of, item_dom, dom_behind, dom_followed, first_index, is_plain_bound, are_plain_bounds, plain_axis, index_dom}
+use Rattle.ess_guard_laws.specs.IndexDomains.{item_dom, dom_behind, dom_followed, first_index, is_plain_bound, are_plain_bounds, plain_axis, index_dom}
 use Rattle.ess_guard_laws.specs.Conditions.{conds, chained, summed, all_of, every, given_that, unless, nil_ex, as_number, is_not_zero, is_above_zero, power_conditions, has_items, has_item, some_item, is_argument, agree, agree_all, function_conditions, have_members, are_disjoint, is_single_set, partition_conditions, has_size, matrix_conditions, in_dom, at_step, index_conditions, path_conditions, own}
 
 -- The names of the domains of declarations are in scope.
@@ -226,7 +227,7 @@ module _ (z : Text → Bool) where
 
     -- The condition of a matrix literal.
     pub matrix-scoped : (es : Exs) (d : Dom) → ScopedDom z s o d → EachScoped s o (matrix_conditions x es d)
-    matrix-scoped es d m = scoped-unless s o (has_size d (number_of es)) _ ((((new-first, m, tt), tt)), (tt, tt))
+    matrix-scoped es d m = scoped-unless s o (has_size d (operand_count es)) _ ((((new-first, m, tt), tt)), (tt, tt))
 
     -- ---- indices
 

@@ -6,8 +6,9 @@ use Rattle.ess_semantics.specs.declared.words.Fun.{Fun}
 use Rattle.ess_semantics.specs.Trees.{unary, binary, word, matrix_literal, Ex, Exs, number_ex, name_ex, node_ex, matrix_ex, comp_ex, cell_ex, no_exs, more_exs, Gens, Dom, bool_dom, int_dom, name_dom, fun1}
 use Rattle.ess_semantics.specs.Meaning.{Env}
 use Rattle.ess_semantics.specs.Totality.{Total, TotalAll, TotalDom}
+use Rattle.ess_semantics.specs.Constants.{operand_count}
 use Rattle.ess_semantics.proofs.Tests.{and-left, and-right}
-use Rattle.ess_guard_laws.specs.IndexDomains.{number_of, one_up_to, dom_followed, first_index, is_plain_bound, are_plain_bounds, plain_axis, index_dom}
+use Rattle.ess_guard_laws.specs.IndexDomains.{one_up_to, dom_followed, first_index, is_plain_bound, are_plain_bounds, plain_axis, index_dom}
 use Rattle.ess_guard_laws.specs.Covered.{has_axis}
 use Rattle.ess_guard_laws.proofs.Holding.{the-value}
 use Rattle.ess_guard_laws.proofs.IndexRows.{some-dom}
@@ -56,7 +57,7 @@ followed-axis m env i t = let r = the-value (index_dom m) t in axis m env r.0 r.
 
 -- The index domain of a term that tells one.
 pub axis-of : (m : Ex) (env : Env) → has_axis m ≡ true → Total m env → AxisOf m env
-axis-of (node_ex false matrix_literal es) env t u = axis (node_ex false matrix_literal es) env (one_up_to (number_ex (pos (number_of es)))) refl (tt, (tt, tt))
+axis-of (node_ex false matrix_literal es) env t u = axis (node_ex false matrix_literal es) env (one_up_to (number_ex (pos (operand_count es)))) refl (tt, (tt, tt))
 axis-of (comp_ex b gs) env t u = axis (comp_ex b gs) env _ refl (comp-axis b gs env u)
 axis-of (matrix_ex es d) env t u = axis (matrix_ex es d) env d refl u.2
 axis-of m env t u = followed-axis m env refl t

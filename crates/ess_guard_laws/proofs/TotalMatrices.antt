@@ -14,9 +14,9 @@ use Rattle.ess_semantics.specs.Operators.{as_truth, value_of_node, false_where_u
 use Rattle.ess_semantics.specs.Domains.{numbers_up, interval}
 use Rattle.ess_semantics.specs.Meaning.{Env, meaning, meanings, domain_of, members_in, matrix_value, collect}
 use Rattle.ess_semantics.specs.Totality.{HasValue, TotalDom}
+use Rattle.ess_semantics.specs.Constants.{operand_count}
 use Rattle.ess_semantics.proofs.Orders.{same-equal, same_int-equal}
 use Rattle.ess_semantics.proofs.Sorting.{Distinct, sorted_once-length}
-use Rattle.ess_guard_laws.specs.IndexDomains.{number_of}
 use Rattle.ess_guard_laws.specs.Conditions.{unless, has_size, matrix_conditions}
 use Rattle.ess_guard_laws.specs.Holds.{Hold}
 use Rattle.ess_guard_laws.proofs.Holding.{the-value}
@@ -89,26 +89,26 @@ size-tells x d n env h = go (members_in (domain_of d env)) refl
         let r : same (number (pos (length is))) (number (pos n)) ≡ true = ap Eq (sym (count-means x d env is e)) ∙ h in
         (is, e, number-equal (length is) n (same-equal (number (pos (length is))) (number (pos n)) r))
 
-number-there : (es : Exs) (d : Dom) (env : Env) → (is : List Value) × (members_in (domain_of d env) ≡ Some is) × (length is ≡ number_of es) → HasValue (meaning (matrix_ex es d) env) (meanings es env)
+number-there : (es : Exs) (d : Dom) (env : Env) → (is : List Value) × (members_in (domain_of d env) ≡ Some is) × (length is ≡ operand_count es) → HasValue (meaning (matrix_ex es d) env) (meanings es env)
 number-there es d env s h =
     let r = the-value (all_some (meanings es env)) (all-there (meanings es env) h) in
     ap (λ o. is_some (and_then o (matrix_value (members_in (domain_of d env))))) r.1 ∙ ap (λ o. is_some (matrix_value o r.0)) s.1
     ∙ ap (λ b. is_some (when b (matrix (of_list s.0) (of_list r.0)))) (eq-eqb (length s.0) (length r.0) (s.2 ∙ number-of-values es env r.0 r.1))
 
 -- The condition of a matrix literal tells that it has a value.
-pub matrix-tells : (x : Text) (es fs : Exs) (d : Dom) (env : Env) → number_of es ≡ number_of fs → Hold (matrix_conditions x es d) env → HasValue (meaning (matrix_ex fs d) env) (meanings fs env)
-matrix-tells x es fs d env q h = go (has_size d (number_of es)) refl h
+pub matrix-tells : (x : Text) (es fs : Exs) (d : Dom) (env : Env) → operand_count es ≡ operand_count fs → Hold (matrix_conditions x es d) env → HasValue (meaning (matrix_ex fs d) env) (meanings fs env)
+matrix-tells x es fs d env q h = go (has_size d (operand_count es)) refl h
   where
-    go : (t : Bool) → has_size d (number_of es) ≡ t →
-        Hold (unless t (ex2 true Op2.Eq (fun1 false Fun.Sum (comp_ex (number_ex (pos 1)) (over (name_pat x) d no_gens))) (number_ex (pos (number_of es))))) env → HasValue (meaning (matrix_ex fs d) env) (meanings fs env)
-    go true z h = let r = size-form d (number_of es) env z in number-there fs d env (r.0, r.1, r.2 ∙ q)
-    go false z h = let r = size-tells x d (number_of es) env h.0 in number-there fs d env (r.0, r.1, r.2 ∙ q)
+    go : (t : Bool) → has_size d (operand_count es) ≡ t →
+        Hold (unless t (ex2 true Op2.Eq (fun1 false Fun.Sum (comp_ex (number_ex (pos 1)) (over (name_pat x) d no_gens))) (number_ex (pos (operand_count es))))) env → HasValue (meaning (matrix_ex fs d) env) (meanings fs env)
+    go true z h = let r = size-form d (operand_count es) env z in number-there fs d env (r.0, r.1, r.2 ∙ q)
+    go false z h = let r = size-tells x d (operand_count es) env h.0 in number-there fs d env (r.0, r.1, r.2 ∙ q)
 
 matrix-asked : (x : Text) (es : Exs) (d : Dom) (env : Env) → TotalDom d env → EachTotal (matrix_conditions x es d) env
-matrix-asked x es d env t = each-total-unless (has_size d (number_of es)) _ env
-    (safe-total true (binary Op2.Eq) (more_exs (fun1 false Fun.Sum (comp_ex (number_ex (pos 1)) (over (name_pat x) d no_gens))) (more_exs (number_ex (pos (number_of es))) no_exs)) env refl
+matrix-asked x es d env t = each-total-unless (has_size d (operand_count es)) _ env
+    (safe-total true (binary Op2.Eq) (more_exs (fun1 false Fun.Sum (comp_ex (number_ex (pos 1)) (over (name_pat x) d no_gens))) (more_exs (number_ex (pos (operand_count es))) no_exs)) env refl
     (safe-total false (word Fun.Sum) (more_exs (comp_ex (number_ex (pos 1)) (over (name_pat x) d no_gens)) no_exs) env refl ((t, each-of-always (members_in (domain_of d env)) (λ v. Unit {0}) (λ v. tt)), tt), (tt, tt)))
 
 -- The row of a matrix literal.
-pub matrix-total : (x : Text) (es fs : Exs) (d : Dom) (env : Env) → number_of es ≡ number_of fs → TotalDom d env → Behind (matrix_conditions x es d) env (HasValue (meaning (matrix_ex fs d) env) (meanings fs env))
+pub matrix-total : (x : Text) (es fs : Exs) (d : Dom) (env : Env) → operand_count es ≡ operand_count fs → TotalDom d env → Behind (matrix_conditions x es d) env (HasValue (meaning (matrix_ex fs d) env) (meanings fs env))
 matrix-total x es fs d env q t = behind-asked (matrix_conditions x es d) env _ (matrix-asked x es d env t) (matrix-tells x es fs d env q)

@@ -7,9 +7,9 @@ use Rattle.ess_semantics.specs.Operators.{value_of_node}
 use Rattle.ess_semantics.specs.Tables.{Table}
 use Rattle.ess_semantics.specs.Meaning.{Env, TypeEntry, bind, meaning, meanings, domain_of, members_in}
 use Rattle.ess_semantics.specs.Totality.{HasValue, Total, TotalAll, TotalUnder, TotalDom, TotalDoms}
+use Rattle.ess_semantics.specs.Constants.{operand_count}
 use Rattle.ess_rules_laws.proofs.Simulation.{Vals, E}
 use Rattle.ess_guard_laws.specs.Origins.{Origin, with_any, with_over, known_behind}
-use Rattle.ess_guard_laws.specs.IndexDomains.{number_of}
 use Rattle.ess_guard_laws.specs.Conditions.{chained, matrix_conditions, own}
 use Rattle.ess_guard_laws.specs.Guard.{connects, guarded, guarded_all, guarded_gens, guarded_dom, guarded_doms, conditions, conditions_all, conditions_gens, conditions_dom, conditions_doms}
 use Rattle.ess_guard_laws.specs.Covered.{covers, asks_nothing, AskNothing, Covered, CoveredAll, CoveredGens, CoveredDom, CoveredDoms}
@@ -72,7 +72,7 @@ module _ (x y : Text) (pl : Bool) (ts : List TypeEntry) (cs : Names Table) where
   asked-none e k env P t b = subst (λ l. Behind l env P) (asks-none e k t) b
 
   -- Operands stay as many.
-  pub number-kept : (es : Exs) (k : Names Origin) → number_of (Gs k es) ≡ number_of es
+  pub number-kept : (es : Exs) (k : Names Origin) → operand_count (Gs k es) ≡ operand_count es
   number-kept no_exs k = refl
   number-kept (more_exs e es) k = ap suc (number-kept es k)
 

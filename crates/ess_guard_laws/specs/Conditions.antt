@@ -8,8 +8,9 @@ use Rattle.ess_semantics.specs.Values.{Text}
 use Rattle.ess_semantics.specs.Order.{same_int}
 use Rattle.ess_semantics.specs.Names.{Names}
 use Rattle.ess_semantics.specs.Trees.{Step, by_value, to_component, to_field, Op, binary, word, index, tuple_literal, set_literal, mset_literal, function_literal, partition_literal, matrix_literal, both_ends, repr, more_reprs, name_pat, Ex, Exs, number_ex, truth_ex, name_ex, node_ex, comp_ex, seen_ex, no_exs, more_exs, Gens, no_gens, over, from, cond, Dom, int_dom, function_dom, ex2, fun1}
+use Rattle.ess_semantics.specs.Constants.{operand_count}
 use Rattle.ess_guard_laws.specs.Origins.{Origin, is_number, is_sure}
-use Rattle.ess_guard_laws.specs.IndexDomains.{number_of, index_dom}
+use Rattle.ess_guard_laws.specs.IndexDomains.{index_dom}
 
 -- ---- what is built of conditions
 
@@ -157,7 +158,7 @@ has_size d n = false
 -- `sum([1 | x : D]) = n`: a matrix literal has an item for each index.
 abbrev pub matrix_conditions : Text → Exs → Dom → List Ex
 matrix_conditions x es d =
-    unless (has_size d (number_of es)) (ex2 true Op2.Eq (fun1 false Fun.Sum (comp_ex (number_ex (pos 1)) (over (name_pat x) d no_gens))) (number_ex (pos (number_of es))))
+    unless (has_size d (operand_count es)) (ex2 true Op2.Eq (fun1 false Fun.Sum (comp_ex (number_ex (pos 1)) (over (name_pat x) d no_gens))) (number_ex (pos (operand_count es))))
 
 -- ---- indices
 

@@ -6,11 +6,7 @@ use Rattle.ess_semantics.specs.declared.words.Op1.{Op1}
 use Rattle.ess_semantics.specs.declared.words.Op2.{Op2}
 use Rattle.ess_semantics.specs.declared.words.Fun.{Fun}
 use Rattle.ess_semantics.specs.Trees.{Step, by_value, Op, unary, binary, index, matrix_literal, both_ends, repr, no_reprs, more_reprs, Ex, Exs, number_ex, name_ex, node_ex, matrix_ex, comp_ex, cell_ex, seen_ex, no_exs, more_exs, Dom, Doms, bool_dom, int_dom, name_dom, matrix_dom, no_doms, more_doms, fun1}
-
--- The number of operands.
-abbrev pub number_of : Exs → ℕ
-number_of no_exs = 0
-number_of (more_exs e es) = suc (number_of es)
+use Rattle.ess_semantics.specs.Constants.{operand_count}
 
 -- `int(1..n)`
 abbrev pub one_up_to : Ex → Dom
@@ -68,7 +64,7 @@ plain_axis o = None
 
 -- The index domain of a matrix term. Lists are numbered from 1.
 abbrev pub index_dom : Ex → Option Dom
-index_dom (node_ex false matrix_literal es) = Some (one_up_to (number_ex (pos (number_of es))))
+index_dom (node_ex false matrix_literal es) = Some (one_up_to (number_ex (pos (operand_count es))))
 index_dom (matrix_ex es d) = Some d
 index_dom (comp_ex e gs) = Some (one_up_to (fun1 false Fun.Sum (comp_ex (number_ex (pos 1)) gs)))
 index_dom m = plain_axis (first_index (dom_followed m))

@@ -13,11 +13,13 @@ use Rattle.ess_semantics.specs.Meets.{Meets}
 use Rattle.ess_semantics.specs.Kept.{Kept}
 use Rattle.ess_semantics.specs.Totality.{Total}
 use Rattle.ess_semantics.specs.Scoped.{Scoped}
+use Rattle.ess_semantics.specs.Constants.{constants_of_tree, among_constants}
 use Rattle.ess_guard_laws.specs.Guard.{there, has_value, make_total, make_natural, make_total_term}
 use Rattle.ess_guard_laws.specs.Holds.{Hold}
 use Rattle.ess_guard_laws.specs.Covered.{is_boolean, asks_nothing, Covered}
 use Rattle.ess_guard_laws.specs.Supplied.{Supplied}
 use Rattle.ess_guard_laws.specs.Reserved.{AreReserved}
+use Rattle.ess_guard_laws.specs.LiteralsFit.{LiteralsFit}
 
 -- ---- meanings
 
@@ -92,3 +94,11 @@ pub record ScopesStay : Type 0 where
   pub natural : (x y : Text) (z s o : Text → Bool) (e : Ex) → AreReserved x y s e → ((a : Text) → z a ≡ true → s a ≡ true) → Scoped z s o e → Scoped z s o (make_natural x y e)
   pub terms : (x y : Text) (z s o : Text → Bool) (is_int : Bool) (e : Ex) → AreReserved x y s e → ((a : Text) → z a ≡ true → s a ≡ true) → Scoped z s o e →
       Scoped z s o ((make_total_term x y is_int e).0) × Scoped z s o ((make_total_term x y is_int e).1)
+
+-- Guarded, a tree spells constants that it had, and so do the conditions of a term and a number under them: where each literal
+-- stands where types allow one.
+pub record ConstantsStay : Type 0 where
+  pub total : (x y : Text) (e : Ex) → LiteralsFit false e → IsTrue (among_constants (constants_of_tree (make_total x y e)) (constants_of_tree e))
+  pub natural : (x y : Text) (e : Ex) → LiteralsFit false e → IsTrue (among_constants (constants_of_tree (make_natural x y e)) (constants_of_tree e))
+  pub there : (x y : Text) (is_int : Bool) (e : Ex) → LiteralsFit false e → IsTrue (among_constants (constants_of_tree ((make_total_term x y is_int e).0)) (constants_of_tree e))
+  pub term : (x y : Text) (is_int : Bool) (e : Ex) → LiteralsFit false e → IsTrue (among_constants (constants_of_tree ((make_total_term x y is_int e).1)) (constants_of_tree e))

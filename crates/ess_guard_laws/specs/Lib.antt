@@ -6,4 +6,5 @@ pub mod Holds
 pub mod Covered
 pub mod Supplied
 pub mod Reserved
+pub mod LiteralsFit
 pub mod Laws

@@ -1,6 +1,6 @@
 //! Laws of undefined terms, each the contract of a function that does nothing.
 
-ghost use Rattle.ess_guard_laws.specs.Laws.{ConditionsHoldAtValues, ConditionsAreMet, GuardingKeepsMeanings, GuardedIsKept, NaturalIsKept, GuardedIsTotal, ConditionsMakeTotal, ConditionsTellValues, TermsUnderConditions, FlatConstraintsStay, MarksStay, ScopesStay};
+ghost use Rattle.ess_guard_laws.specs.Laws.{ConditionsHoldAtValues, ConditionsAreMet, GuardingKeepsMeanings, GuardedIsKept, NaturalIsKept, GuardedIsTotal, ConditionsMakeTotal, ConditionsTellValues, TermsUnderConditions, FlatConstraintsStay, MarksStay, ScopesStay, ConstantsStay};
 
 /// Where a term has a value its conditions hold.
 pub fn conditions_hold_at_values()
@@ -63,4 +63,10 @@ pub fn marks_stay()
 /// domains of declarations use are in scope.
 pub fn scopes_stay()
     ensures { ScopesStay }
+{}
+
+/// A guarded tree spells constants that it had: the numbers of the tree and of items of its counted literals, and 0, 1 and 2. So do
+/// both answers for a term.
+pub fn constants_stay()
+    ensures { ConstantsStay }
 {}
