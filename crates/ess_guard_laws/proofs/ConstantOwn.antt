@@ -1,5 +1,5 @@
 -- Row by row: the conditions of an operator spell constants of its operands.
-use Rattle.std.proofs.Common.{◌≡◌, refl, sym, ap, ◌∙◌, ℕ, Bool, true, false, ◌&&◌, ◌||◌, not, if◌then◌else◌, List, [], ◌∷◌, ◌++◌, ℤ, pos, Option, Some, None}
+use Rattle.std.proofs.Common.{◌≡◌, Bool, true, false, if◌then◌else◌, List, [], ◌∷◌, ◌++◌, ℤ, pos, Option, Some, None}
 use Rattle.ess_semantics.specs.declared.words.Op2.{Op2}
 use Rattle.ess_semantics.specs.declared.words.Fun.{Fun}
 use Rattle.ess_semantics.specs.Values.{Text}
@@ -63,7 +63,9 @@ module _ (P : ℤ → Type 0) (p0 : P (pos 0)) (p1 : P (pos 1)) where
   power-in : (k : Names Origin) (a b : Ex) → Tree false a → Tree false b → InEach (power_conditions k a b)
   power-in k a b q r = R.in-choose P p0 p1 (is_above_zero b) _ (
     compared k b r,
-    in-unless (is_not_zero a) _ (λ t. two false (ex2 true Op2.Ne (as_number k b) nil_ex) (ex2 true Op2.Ne (as_number k a) nil_ex) (compared k b r) (compared k a q)),
+    in-unless (is_not_zero a) _
+        (λ t. two false (ex2 true Op2.Ne (as_number k b) nil_ex) (ex2 true Op2.Ne (as_number k a) nil_ex) (compared k b r)
+        (compared k a q)),
   )
 
   -- ---- items
@@ -78,10 +80,12 @@ module _ (P : ℤ → Type 0) (p0 : P (pos 0)) (p1 : P (pos 1)) where
   AllOutside (more_exs e es) = Outside e × AllOutside es
 
   from-item-in : (x : Text) (e : Ex) → Tree false e → Tree false (fun1 true Fun.Or (comp_ex (truth_ex true) (from (name_pat x) e no_gens)))
-  from-item-in x e q = one true (comp_ex (truth_ex true) (from (name_pat x) e no_gens)) (comp true (truth_ex true) (from (name_pat x) e no_gens) tt (each-append (tree_constants false e) [] P q tt))
+  from-item-in x e q = one true (comp_ex (truth_ex true) (from (name_pat x) e no_gens))
+      (comp true (truth_ex true) (from (name_pat x) e no_gens) tt (each-append (tree_constants false e) [] P q tt))
 
   has-item-in : (x : Text) (e : Ex) → Tree false e → Tree false (has_item x e)
-  has-item-in x (comp_ex e gs) q = one true (comp_ex (truth_ex true) gs) (comp true (truth_ex true) gs tt (each-right (tree_constants false e) (gens_constants gs) P q))
+  has-item-in x (comp_ex e gs) q =
+      one true (comp_ex (truth_ex true) gs) (comp true (truth_ex true) gs tt (each-right (tree_constants false e) (gens_constants gs) P q))
   has-item-in x (number_ex n) q = from-item-in x (number_ex n) q
   has-item-in x (truth_ex b) q = from-item-in x (truth_ex b) q
   has-item-in x (name_ex a) q = from-item-in x (name_ex a) q
@@ -96,10 +100,12 @@ module _ (P : ℤ → Type 0) (p0 : P (pos 0)) (p1 : P (pos 1)) where
   -- ---- literals
 
   agree-in : (p q : Ex) → Tree false p → Tree false q → Tree false (agree p q)
-  agree-in (node_ex false tuple_literal (more_exs a (more_exs b no_exs))) (node_ex false tuple_literal (more_exs c (more_exs d no_exs))) m l =
+  agree-in (node_ex false tuple_literal (more_exs a (more_exs b no_exs)))
+      (node_ex false tuple_literal (more_exs c (more_exs d no_exs))) m l =
       two false (ex2 true Op2.Eq a c) (ex2 true Op2.Eq b d)
       (two false a c (first false a (more_exs b no_exs) m) (first false c (more_exs d no_exs) l))
-      (two false b d (first false b no_exs (rest false a (more_exs b no_exs) m)) (first false d no_exs (rest false c (more_exs d no_exs) l)))
+      (two false b d (first false b no_exs (rest false a (more_exs b no_exs) m))
+      (first false d no_exs (rest false c (more_exs d no_exs) l)))
   agree-in p q m l = tt
 
   agree-all-in : (p : Ex) (qs : Exs) → Tree false p → Trees false qs → InEach (agree_all p qs)
@@ -108,24 +114,32 @@ module _ (P : ℤ → Type 0) (p0 : P (pos 0)) (p1 : P (pos 1)) where
 
   function-in : (ps : Exs) → Trees false ps → InEach (function_conditions ps)
   function-in no_exs m = tt
-  function-in (more_exs p ps) m = in-append (agree_all p ps) (function_conditions ps) (agree-all-in p ps (first false p ps m) (rest false p ps m)) (function-in ps (rest false p ps m))
+  function-in (more_exs p ps) m =
+      in-append (agree_all p ps) (function_conditions ps) (agree-all-in p ps (first false p ps m) (rest false p ps m))
+      (function-in ps (rest false p ps m))
 
   members-in : (x : Text) (es : Exs) → Trees false es → InEach (have_members x es)
   members-in x no_exs m = tt
-  members-in x (more_exs e es) m = in-append (some_item x e) (have_members x es) (some-item-in x e (λ t. first false e es m)) (members-in x es (rest false e es m))
+  members-in x (more_exs e es) m =
+      in-append (some_item x e) (have_members x es) (some-item-in x e (λ t. first false e es m)) (members-in x es (rest false e es m))
 
   disjoint-in : (x y : Text) (es : Exs) → Each (one_to (operand_count es)) P → Trees false es → Tree false (are_disjoint x y es)
-  disjoint-in x y es n m = one true (comp_ex (name_ex x) (from (name_pat y) (node_ex false matrix_literal es) (from (name_pat x) (name_ex y) no_gens)))
+  disjoint-in x y es n m =
+      one true (comp_ex (name_ex x) (from (name_pat y) (node_ex false matrix_literal es) (from (name_pat x) (name_ex y) no_gens)))
       (comp true (name_ex x) (from (name_pat y) (node_ex false matrix_literal es) (from (name_pat x) (name_ex y) no_gens)) tt
-      (each-append (tree_constants false (node_ex false matrix_literal es)) [] P (each-append (one_to (operand_count es)) (operand_constants false es) P n m) tt))
+      (each-append (tree_constants false (node_ex false matrix_literal es)) [] P
+      (each-append (one_to (operand_count es)) (operand_constants false es) P n m) tt))
 
   partition-in : (x y : Text) (es : Exs) → Each (one_to (operand_count es)) P → Trees false es → InEach (partition_conditions x y es)
-  partition-in x y es n m = in-append (have_members x es) _ (members-in x es m) (in-unless (is_single_set es) (are_disjoint x y es) (λ t. disjoint-in x y es n m))
+  partition-in x y es n m =
+      in-append (have_members x es) _ (members-in x es m) (in-unless (is_single_set es) (are_disjoint x y es) (λ t. disjoint-in x y es n m))
 
   -- The condition of a matrix literal.
   pub matrix-in : (x : Text) (es : Exs) (d : Dom) → Each (one_to (operand_count es)) P → InDom d → InEach (matrix_conditions x es d)
-  matrix-in x es d n m = in-unless (has_size d (operand_count es)) _ (λ t. two false (fun1 false Fun.Sum (comp_ex (number_ex (pos 1)) (over (name_pat x) d no_gens))) (number_ex (pos (operand_count es)))
-      (one true (comp_ex (number_ex (pos 1)) (over (name_pat x) d no_gens)) (comp true (number_ex (pos 1)) (over (name_pat x) d no_gens) (p1, tt) (each-append (dom_constants d) [] P m tt)))
+  matrix-in x es d n m = in-unless (has_size d (operand_count es)) _
+      (λ t. two false (fun1 false Fun.Sum (comp_ex (number_ex (pos 1)) (over (name_pat x) d no_gens))) (number_ex (pos (operand_count es)))
+      (one true (comp_ex (number_ex (pos 1)) (over (name_pat x) d no_gens))
+      (comp true (number_ex (pos 1)) (over (name_pat x) d no_gens) (p1, tt) (each-append (dom_constants d) [] P m tt)))
       (R.count-in P p0 p1 (operand_count es) n, tt))
 
   -- ---- indices
@@ -135,17 +149,24 @@ module _ (P : ℤ → Type 0) (p0 : P (pos 0)) (p1 : P (pos 1)) where
       two false (ex2 true Op2.Le (as_number [] a) i) (ex2 true Op2.Le i (as_number [] b))
       (two false (as_number [] a) i (number-in [] a (first false a (more_exs b no_exs) l)) m)
       (two false i (as_number [] b) m (number-in [] b (first false b no_exs (rest false a (more_exs b no_exs) l))))
-  in-dom-in x i d m l = two false i (comp_ex (name_ex x) (over (name_pat x) d no_gens)) m (comp false (name_ex x) (over (name_pat x) d no_gens) tt (each-append (dom_constants d) [] P l tt))
+  in-dom-in x i d m l = two false i (comp_ex (name_ex x) (over (name_pat x) d no_gens)) m
+      (comp false (name_ex x) (over (name_pat x) d no_gens) tt (each-append (dom_constants d) [] P l tt))
 
-  one-index-in : (k : Names Origin) (x : Text) (d : Option Dom) (m i : Ex) → R.OptDom P p0 p1 d → Tree false m → Tree false i → InEach (index_conditions k x d m i)
+  one-index-in : (k : Names Origin) (x : Text) (d : Option Dom) (m i : Ex) → R.OptDom P p0 p1 d → Tree false m → Tree false i →
+      InEach (index_conditions k x d m i)
   one-index-in k x (Some d) m i h p q = in-unless (is_sure k i d) (in_dom x i d) (λ t. in-dom-in x i d q h)
-  one-index-in k x None m i h p q = (two false (at_step by_value m (more_exs i no_exs)) (at_step by_value m (more_exs i no_exs)) (two false m i p q) (two false m i p q), tt)
+  one-index-in k x None m i h p q = (
+    two false (at_step by_value m (more_exs i no_exs)) (at_step by_value m (more_exs i no_exs)) (two false m i p q) (two false m i p q),
+    tt,
+  )
 
-  path-in : (k : Names Origin) (x : Text) (m : Ex) (qs : List Step) (is : Exs) → Tree false m → Trees false is → InEach (path_conditions k x m qs is)
+  path-in : (k : Names Origin) (x : Text) (m : Ex) (qs : List Step) (is : Exs) → Tree false m → Trees false is →
+      InEach (path_conditions k x m qs is)
   path-in k x m [] is h l = tt
   path-in k x m (by_value ∷ qs) no_exs h l = tt
   path-in k x m (by_value ∷ qs) (more_exs i is) h l =
-      in-append (index_conditions k x (index_dom m) m i) _ (one-index-in k x (index_dom m) m i (R.index-dom-in P p0 p1 m h) h (first false i is l))
+      in-append (index_conditions k x (index_dom m) m i) _
+      (one-index-in k x (index_dom m) m i (R.index-dom-in P p0 p1 m h) h (first false i is l))
       (path-in k x (at_step by_value m (more_exs i no_exs)) qs is (two false m i h (first false i is l)) (rest false i is l))
   path-in k x m (to_component c ∷ qs) is h l = path-in k x (at_step (to_component c) m no_exs) qs is (one false m h) l
   path-in k x m (to_field a ∷ qs) is h l = path-in k x (at_step (to_field a) m no_exs) qs is (one false m h) l
@@ -158,16 +179,24 @@ module _ (P : ℤ → Type 0) (p0 : P (pos 0)) (p1 : P (pos 1)) where
   PartsCount op es = Unit {0}
 
   -- The conditions of an operator itself.
-  pub own-in : (k : Names Origin) (x y : Text) (op : Op) (es : Exs) → Trees (drops_items op) es → AllOutside es → PartsCount op es → InEach (own k x y op es)
-  own-in k x y (binary Op2.Div) (more_exs a (more_exs b no_exs)) m u n = in-unless (is_not_zero b) _ (λ t. compared k b (first false b no_exs (rest false a (more_exs b no_exs) m)))
-  own-in k x y (binary Op2.Mod) (more_exs a (more_exs b no_exs)) m u n = in-unless (is_not_zero b) _ (λ t. compared k b (first false b no_exs (rest false a (more_exs b no_exs) m)))
-  own-in k x y (binary Op2.Pow) (more_exs a (more_exs b no_exs)) m u n = power-in k a b (first false a (more_exs b no_exs) m) (first false b no_exs (rest false a (more_exs b no_exs) m))
+  pub own-in : (k : Names Origin) (x y : Text) (op : Op) (es : Exs) → Trees (drops_items op) es → AllOutside es → PartsCount op es →
+      InEach (own k x y op es)
+  own-in k x y (binary Op2.Div) (more_exs a (more_exs b no_exs)) m u n =
+      in-unless (is_not_zero b) _ (λ t. compared k b (first false b no_exs (rest false a (more_exs b no_exs) m)))
+  own-in k x y (binary Op2.Mod) (more_exs a (more_exs b no_exs)) m u n =
+      in-unless (is_not_zero b) _ (λ t. compared k b (first false b no_exs (rest false a (more_exs b no_exs) m)))
+  own-in k x y (binary Op2.Pow) (more_exs a (more_exs b no_exs)) m u n =
+      power-in k a b (first false a (more_exs b no_exs) m) (first false b no_exs (rest false a (more_exs b no_exs) m))
   own-in k x y (word Fun.Min) (more_exs e no_exs) m u n = some-item-in x e u.0
   own-in k x y (word Fun.Max) (more_exs e no_exs) m u n = some-item-in x e u.0
   own-in k x y (word Fun.Image) (more_exs f (more_exs a no_exs)) m u n = in-unless (is_argument k f a) _
-      (λ t. two false a (fun1 false Fun.Defined f) (first false a no_exs (rest false f (more_exs a no_exs) m)) (one false f (first false f (more_exs a no_exs) m)))
-  own-in k x y (word Fun.Party) (more_exs a (more_exs p no_exs)) m u n =
-      (two false a (fun1 false Fun.Participants p) (first false a (more_exs p no_exs) m) (one false p (first false p no_exs (rest false a (more_exs p no_exs) m))), tt)
+      (λ t. two false a (fun1 false Fun.Defined f) (first false a no_exs (rest false f (more_exs a no_exs) m))
+      (one false f (first false f (more_exs a no_exs) m)))
+  own-in k x y (word Fun.Party) (more_exs a (more_exs p no_exs)) m u n = (
+    two false a (fun1 false Fun.Participants p) (first false a (more_exs p no_exs) m)
+        (one false p (first false p no_exs (rest false a (more_exs p no_exs) m))),
+    tt,
+  )
   own-in k x y function_literal es m u n = function-in es m
   own-in k x y partition_literal es m u n = partition-in x y es n m
   own-in k x y (index qs) (more_exs e is) m u n = path-in k x e qs is (first false e is m) (rest false e is m)

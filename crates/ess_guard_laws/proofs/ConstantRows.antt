@@ -1,18 +1,12 @@
 -- An operator's own conditions spell numbers of its operands, 0 and 1, and the number of items of a counted literal.
-use Rattle.std.proofs.Common.{◌≡◌, refl, sym, ap, ◌∙◌, subst, ℕ, zero, suc, ◌+◌, Bool, true, false, ◌&&◌, ◌||◌, not, if◌then◌else◌, List, [], ◌∷◌, ◌++◌, ℤ, pos, Option, Some, None, arith}
-use Rattle.ess_semantics.specs.declared.words.Op1.{Op1}
-use Rattle.ess_semantics.specs.declared.words.Op2.{Op2}
+use Rattle.std.proofs.Common.{◌≡◌, refl, subst, ℕ, zero, suc, ◌+◌, Bool, true, false, if◌then◌else◌, List, [], ◌∷◌, ◌++◌, ℤ, pos, Option, Some, None, arith}
 use Rattle.ess_semantics.specs.declared.words.Fun.{Fun}
-use Rattle.ess_semantics.specs.Values.{Text}
-use Rattle.ess_semantics.specs.Names.{Names}
 use Rattle.ess_semantics.specs.Numbers.{run_from, one_to}
-use Rattle.ess_semantics.specs.Trees.{Step, by_value, to_component, to_field, Op, unary, binary, word, index, application, tuple_literal, set_literal, mset_literal, function_literal, relation_literal, partition_literal, matrix_literal, record_literal, both_ends, Pat, name_pat, Ex, Exs, number_ex, truth_ex, name_ex, node_ex, matrix_ex, comp_ex, cell_ex, seen_ex, no_exs, more_exs, Gens, no_gens, over, from, cond, Dom, bool_dom, int_dom, name_dom, matrix_dom, more_doms, ex2, fun1}
+use Rattle.ess_semantics.specs.Trees.{Step, by_value, index, matrix_literal, Ex, Exs, number_ex, node_ex, matrix_ex, comp_ex, seen_ex, no_exs, more_exs, Gens, Dom, bool_dom, int_dom, name_dom, matrix_dom, more_doms, fun1}
 use Rattle.ess_semantics.specs.Contexts.{Each}
-use Rattle.ess_semantics.specs.Constants.{operand_count, counts_of_op, counted_op, drops_items, tree_constants, operand_constants, gens_constants, dom_constants, doms_constants}
-use Rattle.ess_semantics.proofs.Tests.{and-left, and-right}
-use Rattle.ess_guard_laws.specs.Origins.{Origin, is_number, is_sure}
+use Rattle.ess_semantics.specs.Constants.{operand_count, tree_constants, operand_constants, gens_constants, dom_constants, doms_constants}
 use Rattle.ess_guard_laws.specs.IndexDomains.{item_dom, dom_behind, dom_followed, first_index, are_plain_bounds, plain_axis, index_dom}
-use Rattle.ess_guard_laws.specs.Conditions.{conds, chained, summed, all_of, every, given_that, unless, nil_ex, as_number, is_not_zero, is_above_zero, power_conditions, has_items, has_item, some_item, is_argument, agree, agree_all, function_conditions, have_members, are_disjoint, is_single_set, partition_conditions, has_size, matrix_conditions, in_dom, at_step, index_conditions, path_conditions, own}
+use Rattle.ess_guard_laws.specs.Conditions.{conds, chained, summed, all_of, every, given_that, unless}
 
 -- Both lists are so.
 pub each-append : {A : Type 0} (xs ys : List A) (P : A → Type 0) → Each xs P → Each ys P → Each (xs ++ ys) P
@@ -162,7 +156,8 @@ module _ (P : ℤ → Type 0) (p0 : P (pos 0)) (p1 : P (pos 1)) where
 
   item-in : (o : Option Dom) → OptDom o → OptDom (item_dom o)
   item-in (Some (matrix_dom (more_doms i (more_doms j is)) d)) p = each-append (doms_constants (more_doms j is)) (dom_constants d) P
-      (each-right (dom_constants i) (doms_constants (more_doms j is)) P (each-left (doms_constants (more_doms i (more_doms j is))) (dom_constants d) P p))
+      (each-right (dom_constants i) (doms_constants (more_doms j is)) P
+      (each-left (doms_constants (more_doms i (more_doms j is))) (dom_constants d) P p))
       (each-right (doms_constants (more_doms i (more_doms j is))) (dom_constants d) P p)
   item-in o p = tt
 
@@ -177,7 +172,8 @@ module _ (P : ℤ → Type 0) (p0 : P (pos 0)) (p1 : P (pos 1)) where
   followed-in m p = tt
 
   first-index-in : (o : Option Dom) → OptDom o → OptDom (first_index o)
-  first-index-in (Some (matrix_dom (more_doms i is) d)) p = each-left (dom_constants i) (doms_constants is) P (each-left (doms_constants (more_doms i is)) (dom_constants d) P p)
+  first-index-in (Some (matrix_dom (more_doms i is) d)) p =
+      each-left (dom_constants i) (doms_constants is) P (each-left (doms_constants (more_doms i is)) (dom_constants d) P p)
   first-index-in o p = tt
 
   plain-in : (o : Option Dom) → OptDom o → OptDom (plain_axis o)
@@ -192,7 +188,13 @@ module _ (P : ℤ → Type 0) (p0 : P (pos 0)) (p1 : P (pos 1)) where
 
   -- Those of the index domain of a term.
   pub index-dom-in : (m : Ex) → Tree false m → OptDom (index_dom m)
-  index-dom-in (node_ex false matrix_literal es) p = (p1, (count-in (operand_count es) (each-left (one_to (operand_count es)) (operand_constants false es) P p), tt))
+  index-dom-in (node_ex false matrix_literal es) p =
+      (p1, (count-in (operand_count es) (each-left (one_to (operand_count es)) (operand_constants false es) P p), tt))
   index-dom-in (matrix_ex es d) p = each-right (one_to (operand_count es) ++ operand_constants false es) (dom_constants d) P p
-  index-dom-in (comp_ex e gs) p = (p1, one-in false (fun1 false Fun.Sum (comp_ex (number_ex (pos 1)) gs)) (sum-in false (comp_ex (number_ex (pos 1)) gs) (comp-in true (number_ex (pos 1)) gs (p1, tt) (each-right (tree_constants false e) (gens_constants gs) P p))))
+  index-dom-in (comp_ex e gs) p = (
+    p1,
+    one-in false (fun1 false Fun.Sum (comp_ex (number_ex (pos 1)) gs))
+        (sum-in false (comp_ex (number_ex (pos 1)) gs)
+        (comp-in true (number_ex (pos 1)) gs (p1, tt) (each-right (tree_constants false e) (gens_constants gs) P p))),
+  )
   index-dom-in m p = plain-in (first_index (dom_followed m)) (first-index-in (dom_followed m) (followed-in m p))

@@ -39,6 +39,8 @@ pub mod ScopedRows
 pub mod Scoping
 pub mod ConstantRows
 pub mod ConstantOwn
+pub mod LiteralPlaces
+pub mod OutsideFolds
 pub mod ConstantsKept
 pub mod ConstantLaws
 pub mod Examples

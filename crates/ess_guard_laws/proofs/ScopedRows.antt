@@ -1,5 +1,5 @@
 -- Where operands are in scope an operator's own conditions are.
-use Rattle.std.proofs.Common.{◌≡◌, refl, sym, ap, ◌∙◌, subst, Bool, true, false, ◌&&◌, ◌||◌, not, if◌then◌else◌, List, [], ◌∷◌, ◌++◌, pos, Option, Some, None}
+use Rattle.std.proofs.Common.{◌≡◌, refl, ap, ◌∙◌, Bool, true, false, ◌||◌, not, if◌then◌else◌, List, [], ◌∷◌, ◌++◌, Option, Some, None}
 use Rattle.ess_semantics.specs.declared.words.Op1.{Op1}
 use Rattle.ess_semantics.specs.declared.words.Op2.{Op2}
 use Rattle.ess_semantics.specs.declared.words.Fun.{Fun}
@@ -7,8 +7,8 @@ use Rattle.ess_semantics.specs.Values.{Text}
 use Rattle.ess_semantics.specs.Order.{same_text}
 use Rattle.ess_semantics.specs.Names.{Names}
 use Rattle.ess_semantics.specs.Trees.{Step, by_value, to_component, to_field, Op, unary, binary, word, index, tuple_literal, matrix_literal, function_literal, partition_literal, both_ends, Pat, name_pat, Ex, Exs, number_ex, truth_ex, name_ex, node_ex, matrix_ex, comp_ex, cell_ex, seen_ex, no_exs, more_exs, Gens, no_gens, over, from, cond, Dom, bool_dom, int_dom, name_dom, matrix_dom, more_doms, ex2, fun1}
-use Rattle.ess_semantics.specs.Substitution.{Binds, BindsAll, NamesAre, NamesAreExs, NamesAreDom}
-use Rattle.ess_semantics.specs.Scoped.{is_bound, BindsNew, with_names, Scoped, ScopedExs, ScopedGens, ScopedDom}
+use Rattle.ess_semantics.specs.Substitution.{NamesAre, NamesAreExs, NamesAreDom}
+use Rattle.ess_semantics.specs.Scoped.{BindsNew, with_names, Scoped, ScopedExs, ScopedGens, ScopedDom}
 use Rattle.ess_semantics.specs.Constants.{operand_count}
 use Rattle.ess_semantics.proofs.Texts.{same_text-itself}
 use Rattle.ess_semantics.proofs.Tests.{and-left, and-right, or-yes}
@@ -47,7 +47,8 @@ module _ (z : Text → Bool) where
 
   -- ---- what is built of conditions
 
-  conds-scoped : (s o : Text → Bool) (cs : List Ex) (b : Ex) → EachScoped s o cs → Scoped z s o b → ScopedGens z s o (conds cs) (λ t p. Scoped z t p b)
+  conds-scoped : (s o : Text → Bool) (cs : List Ex) (b : Ex) → EachScoped s o cs → Scoped z s o b →
+      ScopedGens z s o (conds cs) (λ t p. Scoped z t p b)
   conds-scoped s o [] b p q = q
   conds-scoped s o (c ∷ cs) b p q = (p.0, conds-scoped s o cs b p.1 q)
 
@@ -68,12 +69,14 @@ module _ (z : Text → Bool) where
   all-of-scoped s o (c ∷ d ∷ cs) p = chained-scoped s o (c ∷ []) (all_of (d ∷ cs)) (p.0, tt) (all-of-scoped s o (d ∷ cs) p.1)
 
   -- Conditions at each member of a domain.
-  pub over-scoped : (s o : Text → Bool) (p : Pat) (d : Dom) (cs : List Ex) → BindsNew s p → ScopedDom z s o d → EachScoped (with_names s p) (with_names o p) cs → EachScoped s o (every (over p d no_gens) cs)
+  pub over-scoped : (s o : Text → Bool) (p : Pat) (d : Dom) (cs : List Ex) → BindsNew s p → ScopedDom z s o d →
+      EachScoped (with_names s p) (with_names o p) cs → EachScoped s o (every (over p d no_gens) cs)
   over-scoped s o p d [] b t q = tt
   over-scoped s o p d (c ∷ cs) b t q = (((b, t, all-of-scoped (with_names s p) (with_names o p) (c ∷ cs) q), tt), tt)
 
   -- Conditions at each item of a source.
-  pub from-scoped : (s o : Text → Bool) (p : Pat) (e : Ex) (cs : List Ex) → BindsNew s p → Scoped z s o e → EachScoped (with_names s p) o cs → EachScoped s o (every (from p e no_gens) cs)
+  pub from-scoped : (s o : Text → Bool) (p : Pat) (e : Ex) (cs : List Ex) → BindsNew s p → Scoped z s o e → EachScoped (with_names s p) o cs →
+      EachScoped s o (every (from p e no_gens) cs)
   from-scoped s o p e [] b t q = tt
   from-scoped s o p e (c ∷ cs) b t q = (((b, t, all-of-scoped (with_names s p) o (c ∷ cs) q), tt), tt)
 
@@ -83,7 +86,8 @@ module _ (z : Text → Bool) where
   given-scoped s o b (c ∷ cs) p q = ((p, (all-of-scoped s o (c ∷ cs) q, tt)), tt)
 
   -- What stands behind generators.
-  pub gens-scoped-map : (gs : Gens) (s o : Text → Bool) (K L : (Text → Bool) → (Text → Bool) → Type 0) → ((t p : Text → Bool) → K t p → L t p) → ScopedGens z s o gs K → ScopedGens z s o gs L
+  pub gens-scoped-map : (gs : Gens) (s o : Text → Bool) (K L : (Text → Bool) → (Text → Bool) → Type 0) →
+      ((t p : Text → Bool) → K t p → L t p) → ScopedGens z s o gs K → ScopedGens z s o gs L
   gens-scoped-map no_gens s o K L f q = f s o q
   gens-scoped-map (over p d gs) s o K L f q = (q.0, q.1, gens-scoped-map gs (with_names s p) (with_names o p) K L f q.2)
   gens-scoped-map (from p e gs) s o K L f q = (q.0, q.1, gens-scoped-map gs (with_names s p) o K L f q.2)
@@ -133,7 +137,10 @@ module _ (z : Text → Bool) where
 
       bounds-scoped : (es : Exs) → are_plain_bounds es ≡ true → NamesAreExs z (λ a. true) es → ScopedExs z s o es
       bounds-scoped no_exs t q = tt
-      bounds-scoped (more_exs e es) t q = (bound-scoped e (and-left (is_plain_bound e) (are_plain_bounds es) t) q.0, bounds-scoped es (and-right (is_plain_bound e) (are_plain_bounds es) t) q.1)
+      bounds-scoped (more_exs e es) t q = (
+        bound-scoped e (and-left (is_plain_bound e) (are_plain_bounds es) t) q.0,
+        bounds-scoped es (and-right (is_plain_bound e) (are_plain_bounds es) t) q.1,
+      )
 
     plain-scoped : (d : Option Dom) → Declared d → DomScoped s o (plain_axis d)
     plain-scoped (Some bool_dom) q = tt
@@ -195,7 +202,8 @@ module _ (z : Text → Bool) where
     some-item-scoped e q = scoped-unless s o (has_items e) (has_item x e) (has-item-scoped e q)
 
     agree-scoped : (p q : Ex) → Scoped z s o p → Scoped z s o q → Scoped z s o (agree p q)
-    agree-scoped (node_ex false tuple_literal (more_exs a (more_exs b no_exs))) (node_ex false tuple_literal (more_exs c (more_exs d no_exs))) m l =
+    agree-scoped (node_ex false tuple_literal (more_exs a (more_exs b no_exs)))
+        (node_ex false tuple_literal (more_exs c (more_exs d no_exs))) m l =
         ((m.0, (l.0, tt)), ((m.1.0, (l.1.0, tt)), tt))
     agree-scoped p q m l = tt
 
@@ -205,11 +213,13 @@ module _ (z : Text → Bool) where
 
     function-scoped : (ps : Exs) → ScopedExs z s o ps → EachScoped s o (function_conditions ps)
     function-scoped no_exs m = tt
-    function-scoped (more_exs p ps) m = scoped-append s o (agree_all p ps) (function_conditions ps) (agree-all-scoped p ps m.0 m.1) (function-scoped ps m.1)
+    function-scoped (more_exs p ps) m =
+        scoped-append s o (agree_all p ps) (function_conditions ps) (agree-all-scoped p ps m.0 m.1) (function-scoped ps m.1)
 
     members-scoped : (es : Exs) → ScopedExs z s o es → EachScoped s o (have_members x es)
     members-scoped no_exs m = tt
-    members-scoped (more_exs e es) m = scoped-append s o (some_item x e) (have_members x es) (some-item-scoped e m.0) (members-scoped es m.1)
+    members-scoped (more_exs e es) m =
+        scoped-append s o (some_item x e) (have_members x es) (some-item-scoped e m.0) (members-scoped es m.1)
 
     -- A name that is bound is in scope.
     bound-in : (u : Text → Bool) (a : Text) → with_names u (name_pat a) a ≡ true
@@ -223,7 +233,9 @@ module _ (z : Text → Bool) where
     disjoint-scoped es m = ((new-second, m, (first-behind, bound-in s y, bound-in (with_names s (name_pat y)) x)), tt)
 
     partition-scoped : (es : Exs) → ScopedExs z s o es → EachScoped s o (partition_conditions x y es)
-    partition-scoped es m = scoped-append s o (have_members x es) _ (members-scoped es m) (scoped-unless s o (is_single_set es) (are_disjoint x y es) (disjoint-scoped es m))
+    partition-scoped es m =
+        scoped-append s o (have_members x es) _ (members-scoped es m)
+        (scoped-unless s o (is_single_set es) (are_disjoint x y es) (disjoint-scoped es m))
 
     -- The condition of a matrix literal.
     pub matrix-scoped : (es : Exs) (d : Dom) → ScopedDom z s o d → EachScoped s o (matrix_conditions x es d)
@@ -232,18 +244,23 @@ module _ (z : Text → Bool) where
     -- ---- indices
 
     in-dom-scoped : (i : Ex) (d : Dom) → Scoped z s o i → ScopedDom z s o d → Scoped z s o (in_dom x i d)
-    in-dom-scoped i (int_dom (both_ends ∷ []) (more_exs a (more_exs b no_exs))) m l = ((number-scoped [] a l.0, (m, tt)), ((m, (number-scoped [] b l.1.0, tt)), tt))
+    in-dom-scoped i (int_dom (both_ends ∷ []) (more_exs a (more_exs b no_exs))) m l =
+        ((number-scoped [] a l.0, (m, tt)), ((m, (number-scoped [] b l.1.0, tt)), tt))
     in-dom-scoped i d m l = (m, ((new-first, l, bound-in s x), tt))
 
-    one-index-scoped : (k : Names Origin) (d : Option Dom) (m i : Ex) → DomScoped s o d → Scoped z s o m → Scoped z s o i → EachScoped s o (index_conditions k x d m i)
+    one-index-scoped : (k : Names Origin) (d : Option Dom) (m i : Ex) → DomScoped s o d → Scoped z s o m → Scoped z s o i →
+        EachScoped s o (index_conditions k x d m i)
     one-index-scoped k (Some d) m i h p q = scoped-unless s o (is_sure k i d) (in_dom x i d) (in-dom-scoped i d q h)
     one-index-scoped k None m i h p q = (((p, (q, tt)), ((p, (q, tt)), tt)), tt)
 
-    path-scoped : (k : Names Origin) (m : Ex) (qs : List Step) (is : Exs) → Scoped z s o m → ScopedExs z s o is → EachScoped s o (path_conditions k x m qs is)
+    path-scoped : (k : Names Origin) (m : Ex) (qs : List Step) (is : Exs) → Scoped z s o m → ScopedExs z s o is →
+        EachScoped s o (path_conditions k x m qs is)
     path-scoped k m [] is h l = tt
     path-scoped k m (by_value ∷ qs) no_exs h l = tt
     path-scoped k m (by_value ∷ qs) (more_exs i is) h l =
-        scoped-append s o (index_conditions k x (index_dom m) m i) _ (one-index-scoped k (index_dom m) m i (index-dom-scoped s o w m h) h l.0) (path-scoped k (at_step by_value m (more_exs i no_exs)) qs is (h, (l.0, tt)) l.1)
+        scoped-append s o (index_conditions k x (index_dom m) m i) _
+        (one-index-scoped k (index_dom m) m i (index-dom-scoped s o w m h) h l.0)
+        (path-scoped k (at_step by_value m (more_exs i no_exs)) qs is (h, (l.0, tt)) l.1)
     path-scoped k m (to_component c ∷ qs) is h l = path-scoped k (at_step (to_component c) m no_exs) qs is (h, tt) l
     path-scoped k m (to_field a ∷ qs) is h l = path-scoped k (at_step (to_field a) m no_exs) qs is (h, tt) l
 

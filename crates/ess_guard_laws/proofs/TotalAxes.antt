@@ -1,5 +1,5 @@
 -- The index domain of a matrix term is total, and the matrix has an item at each of its members.
-use Rattle.std.proofs.Common.{◌≡◌, refl, sym, ◌∙◌, subst, Bool, true, false, if◌then◌else◌, ◌∷◌, pos, Option, Some, None, is_some}
+use Rattle.std.proofs.Common.{◌≡◌, refl, sym, ◌∙◌, subst, Bool, true, false, if◌then◌else◌, pos, Option, Some, None, is_some}
 use Rattle.ess_semantics.specs.declared.words.Op1.{Op1}
 use Rattle.ess_semantics.specs.declared.words.Op2.{Op2}
 use Rattle.ess_semantics.specs.declared.words.Fun.{Fun}
@@ -36,7 +36,10 @@ mutual
 
   bounds-total : (es : Exs) (env : Env) → are_plain_bounds es ≡ true → TotalAll es env
   bounds-total no_exs env t = tt
-  bounds-total (more_exs e es) env t = (bound-total e env (and-left (is_plain_bound e) (are_plain_bounds es) t), bounds-total es env (and-right (is_plain_bound e) (are_plain_bounds es) t))
+  bounds-total (more_exs e es) env t = (
+    bound-total e env (and-left (is_plain_bound e) (are_plain_bounds es) t),
+    bounds-total es env (and-right (is_plain_bound e) (are_plain_bounds es) t),
+  )
 
 -- A plain index domain is total.
 plain-total : (o : Option Dom) (d : Dom) (env : Env) → plain_axis o ≡ Some d → TotalDom d env
@@ -49,15 +52,25 @@ plain-total (Some (int_dom rs es)) d env e = go (are_plain_bounds es) refl e
 plain-total (Some (name_dom a)) d env e = subst (λ z. TotalDom z env) (some-dom (name_dom a) d e) tt
 plain-total o d env e = cc
 
-comp-axis : (b : Ex) (gs : Gens) (env : Env) → Total (comp_ex b gs) env → TotalDom (one_up_to (fun1 false Fun.Sum (comp_ex (number_ex (pos 1)) gs))) env
-comp-axis b gs env t = (tt, (safe-total false (word Fun.Sum) (more_exs (comp_ex (number_ex (pos 1)) gs) no_exs) env refl (under-map gs env _ _ (λ h q. tt) t, tt), tt))
+comp-axis : (b : Ex) (gs : Gens) (env : Env) → Total (comp_ex b gs) env →
+    TotalDom (one_up_to (fun1 false Fun.Sum (comp_ex (number_ex (pos 1)) gs))) env
+comp-axis b gs env t = (
+  tt,
+  (
+    safe-total false (word Fun.Sum) (more_exs (comp_ex (number_ex (pos 1)) gs) no_exs) env refl
+        (under-map gs env _ _ (λ h q. tt) t, tt),
+    tt,
+  ),
+)
 
 followed-axis : (m : Ex) (env : Env) → index_dom m ≡ plain_axis (first_index (dom_followed m)) → is_some (index_dom m) ≡ true → AxisOf m env
-followed-axis m env i t = let r = the-value (index_dom m) t in axis m env r.0 r.1 (plain-total (first_index (dom_followed m)) r.0 env (sym i ∙ r.1))
+followed-axis m env i t = let r =
+    the-value (index_dom m) t in axis m env r.0 r.1 (plain-total (first_index (dom_followed m)) r.0 env (sym i ∙ r.1))
 
 -- The index domain of a term that tells one.
 pub axis-of : (m : Ex) (env : Env) → has_axis m ≡ true → Total m env → AxisOf m env
-axis-of (node_ex false matrix_literal es) env t u = axis (node_ex false matrix_literal es) env (one_up_to (number_ex (pos (operand_count es)))) refl (tt, (tt, tt))
+axis-of (node_ex false matrix_literal es) env t u =
+    axis (node_ex false matrix_literal es) env (one_up_to (number_ex (pos (operand_count es)))) refl (tt, (tt, tt))
 axis-of (comp_ex b gs) env t u = axis (comp_ex b gs) env _ refl (comp-axis b gs env u)
 axis-of (matrix_ex es d) env t u = axis (matrix_ex es d) env d refl u.2
 axis-of m env t u = followed-axis m env refl t

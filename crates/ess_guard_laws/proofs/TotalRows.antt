@@ -1,29 +1,23 @@
 -- Row by row: an operator's own conditions are total, each under those before it, and where they hold it has a value.
-use Rattle.std.proofs.Common.{◌≡◌, refl, sym, ap, ◌∙◌, ℕ, zero, suc, Bool, true, false, ◌||◌, not, if◌then◌else◌, List, [], ◌∷◌, ℤ, pos, negsuc, ◌-ℤ◌, ◌*ℤ◌, Option, Some, None, option_map, is_some, arith}
-use Rattle.std.proofs.lemmas.Int.{ints}
-use Rattle.std.specs.List.{list_all}
-use Rattle.std.specs.Ordering.{is_lt}
-use Rattle.std.specs.Cmp.{int_cmp_is}
+use Rattle.std.proofs.Common.{◌≡◌, refl, sym, ap, ◌∙◌, Bool, true, false, not, if◌then◌else◌, List, [], ◌∷◌, Option, Some, None, option_map, is_some}
 use Rattle.std.specs.declared.cmp.Ordering.{Ordering}
 use Rattle.std.specs.declared.cmp.Ordering.TheVariants.{Less, Equal, Greater}
 use Rattle.ess_semantics.specs.declared.words.Op2.{Op2}
 use Rattle.ess_semantics.specs.declared.words.Fun.{Fun}
 use Rattle.ess_semantics.specs.Lists.{and_then, all_some, is_empty}
-use Rattle.ess_semantics.specs.Values.{Text, Value, number, items_of}
-use Rattle.ess_semantics.specs.Order.{order, same, below}
+use Rattle.ess_semantics.specs.Values.{Text, Value, items_of}
+use Rattle.ess_semantics.specs.Order.{order}
 use Rattle.ess_semantics.specs.Names.{Names}
 use Rattle.ess_semantics.specs.Collections.{place, place_by, sorted_once, sorted, add, add_by, set_of, mset_of}
-use Rattle.ess_semantics.specs.Numbers.{div_down, mod_down, power_of}
 use Rattle.ess_semantics.specs.Trees.{binary, word, set_literal, mset_literal, matrix_literal, name_pat, Ex, number_ex, truth_ex, name_ex, node_ex, matrix_ex, comp_ex, cell_ex, seen_ex, no_exs, more_exs, Gens, no_gens, over, from, cond, ex2, fun1}
-use Rattle.ess_semantics.specs.Operators.{as_truth, number_in, on_ints, value_of_node, value_of_op, false_where_undefined, least, greatest}
+use Rattle.ess_semantics.specs.Operators.{value_of_node, value_of_op, least, greatest}
 use Rattle.ess_semantics.specs.Meaning.{Env, meaning, meanings, with_pat, domain_of, members_in}
 use Rattle.ess_semantics.specs.Totality.{HasValue, Total, TotalUnder}
-use Rattle.ess_semantics.proofs.Orders.{to_list-of_list, same-itself}
+use Rattle.ess_semantics.proofs.Orders.{to_list-of_list}
 use Rattle.ess_rules_laws.proofs.Bindings.{each-of-map, each-in-map}
 use Rattle.ess_guard_laws.specs.Origins.{Origin, is_number}
 use Rattle.ess_guard_laws.specs.Conditions.{unless, nil_ex, as_number, is_not_zero, is_above_zero, quotient_conditions, power_conditions, has_items, has_item, some_item, party_conditions}
 use Rattle.ess_guard_laws.specs.Holds.{Hold}
-use Rattle.ess_guard_laws.proofs.NumberForms.{NumbersIn, read-number}
 use Rattle.ess_guard_laws.proofs.ItemRows.{has-item-means, participants-means}
 use Rattle.ess_guard_laws.proofs.MetRows.{each-in-always}
 use Rattle.ess_guard_laws.proofs.Safe.{is_safe}
@@ -40,8 +34,11 @@ number-total k b env t = go (is_number k b)
     go true = t
     go false = safe-total false (binary Op2.Plus) (more_exs b (more_exs nil_ex no_exs)) env refl (t, (tt, tt))
 
-compare-total : (o : Op2) (k : Names Origin) (b : Ex) (env : Env) → is_safe (binary o) ≡ true → Total b env → Total (ex2 true o (as_number k b) nil_ex) env
-compare-total o k b env s t = safe-total true (binary o) (more_exs (as_number k b) (more_exs nil_ex no_exs)) env s (number-total k b env t, (tt, tt))
+compare-total : (o : Op2) (k : Names Origin) (b : Ex) (env : Env) → is_safe (binary o) ≡ true → Total b env →
+    Total (ex2 true o (as_number k b) nil_ex) env
+compare-total o k b env s t =
+    safe-total true (binary o) (more_exs (as_number k b) (more_exs nil_ex no_exs)) env s (number-total k b env t, (tt, tt))
+
 -- The condition of a quotient or a remainder is total.
 pub quotient-asked : (k : Names Origin) (b : Ex) (env : Env) → Total b env → EachTotal (quotient_conditions k b) env
 quotient-asked k b env t = each-total-unless (is_not_zero b) _ env (compare-total Op2.Ne k b env refl t)
@@ -51,12 +48,15 @@ pub power-asked : (k : Names Origin) (a b : Ex) (env : Env) → Total a env → 
 power-asked k a b env ta tb = go (is_above_zero b)
   where
     go : (t : Bool) →
-        EachTotal (if t then [] else ex2 true Op2.Ge (as_number k b) nil_ex ∷ unless (is_not_zero a) (ex2 true Op2.Or (ex2 true Op2.Ne (as_number k b) nil_ex) (ex2 true Op2.Ne (as_number k a) nil_ex))) env
+        EachTotal (if t then [] else ex2 true Op2.Ge (as_number k b) nil_ex ∷ unless (is_not_zero a)
+        (ex2 true Op2.Or (ex2 true Op2.Ne (as_number k b) nil_ex) (ex2 true Op2.Ne (as_number k a) nil_ex))) env
     go true = tt
     go false = (
       compare-total Op2.Ge k b env refl tb,
       each-total-unless (is_not_zero a) _ env
-          (safe-total true (binary Op2.Or) (more_exs (ex2 true Op2.Ne (as_number k b) nil_ex) (more_exs (ex2 true Op2.Ne (as_number k a) nil_ex) no_exs)) env refl (compare-total Op2.Ne k b env refl tb, (compare-total Op2.Ne k a env refl ta, tt))),
+          (safe-total true (binary Op2.Or)
+          (more_exs (ex2 true Op2.Ne (as_number k b) nil_ex) (more_exs (ex2 true Op2.Ne (as_number k a) nil_ex) no_exs)) env refl
+          (compare-total Op2.Ne k b env refl tb, (compare-total Op2.Ne k a env refl ta, tt))),
     )
 
 -- ---- items
@@ -68,12 +68,16 @@ under-map (over p d gs) env P Q f m = (m.0, each-of-map (members_in (domain_of d
 under-map (from p e gs) env P Q f m = (m.0, each-in-map (meaning e env) _ _ (λ v. under-map gs (with_pat p v env) P Q f) m.1)
 under-map (cond c gs) env P Q f m = (m.0, λ t. under-map gs env P Q f (m.1 t))
 
-from-item-total : (x : Text) (s : Ex) (env : Env) → Total s env → Total (fun1 true Fun.Or (comp_ex (truth_ex true) (from (name_pat x) s no_gens))) env
-from-item-total x s env t = safe-total true (word Fun.Or) (more_exs (comp_ex (truth_ex true) (from (name_pat x) s no_gens)) no_exs) env refl ((t, each-in-always (meaning s env) _ (λ v. tt)), tt)
+from-item-total : (x : Text) (s : Ex) (env : Env) → Total s env →
+    Total (fun1 true Fun.Or (comp_ex (truth_ex true) (from (name_pat x) s no_gens))) env
+from-item-total x s env t =
+    safe-total true (word Fun.Or) (more_exs (comp_ex (truth_ex true) (from (name_pat x) s no_gens)) no_exs) env refl
+    ((t, each-in-always (meaning s env) _ (λ v. tt)), tt)
 
 -- That a container has an item is total.
 pub has-item-total : (x : Text) (s : Ex) (env : Env) → Total s env → Total (has_item x s) env
-has-item-total x (comp_ex e gs) env t = safe-total true (word Fun.Or) (more_exs (comp_ex (truth_ex true) gs) no_exs) env refl (under-map gs env _ _ (λ h q. tt) t, tt)
+has-item-total x (comp_ex e gs) env t =
+    safe-total true (word Fun.Or) (more_exs (comp_ex (truth_ex true) gs) no_exs) env refl (under-map gs env _ _ (λ h q. tt) t, tt)
 has-item-total x (number_ex n) env t = from-item-total x (number_ex n) env t
 has-item-total x (truth_ex b) env t = from-item-total x (truth_ex b) env t
 has-item-total x (name_ex a) env t = from-item-total x (name_ex a) env t
@@ -122,7 +126,8 @@ sorted-empty x xs = go (sorted xs)
     go [] = refl
     go (y ∷ ys) = by-add (order x y) x y ys (add x ys)
 
-first-there : (o : Option Value) (q : Option (List Value)) (F : List Value → Option Value) (v : Value) → and_then (and_then o (λ z. option_map (λ zs. z ∷ zs) q)) F ≡ Some v →
+first-there : (o : Option Value) (q : Option (List Value)) (F : List Value → Option Value) (v : Value) →
+    and_then (and_then o (λ z. option_map (λ zs. z ∷ zs) q)) F ≡ Some v →
     (u : Value) × (us : List Value) × (F (u ∷ us) ≡ Some v)
 first-there None q F v e = cc
 first-there (Some u) None F v e = cc
@@ -139,10 +144,12 @@ items-form (node_ex false matrix_literal (more_exs e es)) env v t q =
     ap (λ z. is_empty (items_of z)) (sym (some-value _ v r.2))
 items-form (node_ex false set_literal (more_exs e es)) env v t q =
     let r = first-there (meaning e env) (all_some (meanings es env)) (value_of_op set_literal) v q in
-    ap (λ z. is_empty (items_of z)) (sym (some-value (set_of (r.0 ∷ r.1)) v r.2)) ∙ ap is_empty (to_list-of_list (sorted_once (r.0 ∷ r.1))) ∙ once-empty r.0 r.1
+    ap (λ z. is_empty (items_of z)) (sym (some-value (set_of (r.0 ∷ r.1)) v r.2)) ∙ ap is_empty (to_list-of_list (sorted_once (r.0 ∷ r.1)))
+    ∙ once-empty r.0 r.1
 items-form (node_ex false mset_literal (more_exs e es)) env v t q =
     let r = first-there (meaning e env) (all_some (meanings es env)) (value_of_op mset_literal) v q in
-    ap (λ z. is_empty (items_of z)) (sym (some-value (mset_of (r.0 ∷ r.1)) v r.2)) ∙ ap is_empty (to_list-of_list (sorted (r.0 ∷ r.1))) ∙ sorted-empty r.0 r.1
+    ap (λ z. is_empty (items_of z)) (sym (some-value (mset_of (r.0 ∷ r.1)) v r.2)) ∙ ap is_empty (to_list-of_list (sorted (r.0 ∷ r.1)))
+    ∙ sorted-empty r.0 r.1
 items-form s env v t q = cc
 
 not-not : (b : Bool) → not b ≡ true → b ≡ false
@@ -150,7 +157,8 @@ not-not true e = cc
 not-not false e = refl
 
 -- Where a container is told to have an item it has one.
-pub some-item-tells : (x : Text) (s : Ex) (env : Env) (v : Value) → meaning s env ≡ Some v → Hold (some_item x s) env → is_empty (items_of v) ≡ false
+pub some-item-tells : (x : Text) (s : Ex) (env : Env) (v : Value) → meaning s env ≡ Some v → Hold (some_item x s) env →
+    is_empty (items_of v) ≡ false
 some-item-tells x s env v e h = go (has_items s) refl h
   where
     go : (t : Bool) → has_items s ≡ t → Hold (unless t (has_item x s)) env → is_empty (items_of v) ≡ false
@@ -158,15 +166,25 @@ some-item-tells x s env v e h = go (has_items s) refl h
     go false q h = not-not (is_empty (items_of v)) (sym (has-item-means x s env v e) ∙ h.0)
 
 -- What the condition of least and greatest items tells.
-pub item-tells : (f : Fun) (g : List Value → Option Value) (x : Text) (s : Ex) (env : Env) → ((v : Value) → value_of_node (word f) (Some v ∷ []) ≡ g (items_of v)) → ((xs : List Value) → is_empty xs ≡ false → is_some (g xs) ≡ true) →
+pub item-tells : (f : Fun) (g : List Value → Option Value) (x : Text) (s : Ex) (env : Env) →
+    ((v : Value) → value_of_node (word f) (Some v ∷ []) ≡ g (items_of v)) →
+    ((xs : List Value) → is_empty xs ≡ false → is_some (g xs) ≡ true) →
     Hold (some_item x s) env → HasValue (value_of_node (word f) (meaning s env ∷ [])) (meaning s env ∷ [])
 item-tells f g x s env is some h k =
-    one-there (λ p. is_some (value_of_node (word f) (p ∷ [])) ≡ true) (meaning s env) (λ v e. ap is_some (is v) ∙ some (items_of v) (some-item-tells x s env v e h)) k
+    one-there (λ p. is_some (value_of_node (word f) (p ∷ [])) ≡ true) (meaning s env)
+    (λ v e. ap is_some (is v) ∙ some (items_of v) (some-item-tells x s env v e h)) k
 
 -- What the condition of a part tells.
-pub party-tells : (a p : Ex) (env : Env) → Hold (party_conditions a p) env → HasValue (value_of_node (word Fun.Party) (meaning a env ∷ meaning p env ∷ [])) (meaning a env ∷ meaning p env ∷ [])
-party-tells a p env h = both-there (λ o q. is_some (value_of_node (word Fun.Party) (o ∷ q ∷ [])) ≡ true) (meaning a env) (meaning p env) (λ w v e q. sym (participants-means a p env w v e q) ∙ h.0)
+pub party-tells : (a p : Ex) (env : Env) → Hold (party_conditions a p) env →
+    HasValue (value_of_node (word Fun.Party) (meaning a env ∷ meaning p env ∷ [])) (meaning a env ∷ meaning p env ∷ [])
+party-tells a p env h =
+    both-there (λ o q. is_some (value_of_node (word Fun.Party) (o ∷ q ∷ [])) ≡ true) (meaning a env) (meaning p env)
+    (λ w v e q. sym (participants-means a p env w v e q) ∙ h.0)
 
 -- The condition of a part is total.
 pub party-asked : (a p : Ex) (env : Env) → Total a env → Total p env → EachTotal (party_conditions a p) env
-party-asked a p env ta tp = (safe-total true (binary Op2.Member) (more_exs a (more_exs (fun1 false Fun.Participants p) no_exs)) env refl (ta, (safe-total false (word Fun.Participants) (more_exs p no_exs) env refl (tp, tt), tt)), tt)
+party-asked a p env ta tp = (
+  safe-total true (binary Op2.Member) (more_exs a (more_exs (fun1 false Fun.Participants p) no_exs)) env refl
+      (ta, (safe-total false (word Fun.Participants) (more_exs p no_exs) env refl (tp, tt), tt)),
+  tt,
+)

@@ -1,6 +1,6 @@
 -- The index domain of a matrix term, as its form tells it: of a literal, a comprehension, a declared matrix, and of what an
 -- index picks out of one.
-use Rattle.std.specs.Prelude.{ℕ, suc, Bool, true, false, ◌&&◌, if◌then◌else◌, List, [], ◌∷◌, pos, Option, Some, None}
+use Rattle.std.specs.Prelude.{Bool, true, false, ◌&&◌, if◌then◌else◌, List, [], ◌∷◌, pos, Option, Some, None}
 use Rattle.ess_semantics.specs.declared.words.ReprKind.{ReprKind}
 use Rattle.ess_semantics.specs.declared.words.Op1.{Op1}
 use Rattle.ess_semantics.specs.declared.words.Op2.{Op2}
@@ -79,5 +79,7 @@ is_whole_index qs ds = false
 
 -- Whether it is a declared matrix of atoms at an index: a cell.
 abbrev pub is_cell_index : Op → Exs → Bool
-is_cell_index (index qs) (more_exs (seen_ex (repr ReprKind.Matrix (more_reprs (repr ReprKind.Atom rs) no_reprs)) (matrix_dom ds d) ns js) is) = is_whole_index qs ds
+is_cell_index (index qs)
+    (more_exs (seen_ex (repr ReprKind.Matrix (more_reprs (repr ReprKind.Atom rs) no_reprs)) (matrix_dom ds d) ns js) is) =
+    is_whole_index qs ds
 is_cell_index op es = false

@@ -59,19 +59,25 @@ pub record ConditionsMakeTotal : Type 0 where
 
 -- Whether its conditions hold says whether a term has a value, where what it reads is there.
 abbrev pub ConditionsTellValues : Type 0
-ConditionsTellValues = (x y : Text) (e : Ex) (env : Env) → Supplied e env → as_truth (meaning (has_value x y e) env) ≡ is_some (meaning e env)
+ConditionsTellValues = (x y : Text) (e : Ex) (env : Env) → Supplied e env →
+    as_truth (meaning (has_value x y e) env) ≡ is_some (meaning e env)
 
 -- The two answers for a term: the first says whether it has a value; the second means the same where it has one, and is total
 -- there. Tables that meet the term's structures meet those of both. A number's second answer is 0 where the first one is false,
 -- and total everywhere.
 pub record TermsUnderConditions : Type 0 where
-  pub there : (x y : Text) (is_int : Bool) (e : Ex) (env : Env) → Supplied e env → as_truth (meaning ((make_total_term x y is_int e).0) env) ≡ is_some (meaning e env)
-  pub met : (x y : Text) (is_int : Bool) (e : Ex) (env : Env) → Meets e env → Meets ((make_total_term x y is_int e).0) env × Meets ((make_total_term x y is_int e).1) env
+  pub there : (x y : Text) (is_int : Bool) (e : Ex) (env : Env) → Supplied e env →
+      as_truth (meaning ((make_total_term x y is_int e).0) env) ≡ is_some (meaning e env)
+  pub met : (x y : Text) (is_int : Bool) (e : Ex) (env : Env) → Meets e env →
+      Meets ((make_total_term x y is_int e).0) env × Meets ((make_total_term x y is_int e).1) env
   pub there_total : (x y : Text) (is_int : Bool) (e : Ex) (env : Env) → Covered e → Total ((make_total_term x y is_int e).0) env
   pub term_same : (x y : Text) (e : Ex) (env : Env) → meaning ((make_total_term x y false e).1) env ≡ meaning e env
-  pub term_total : (x y : Text) (e : Ex) (env : Env) → Covered e → IsTrue (as_truth (meaning ((make_total_term x y false e).0) env)) → Total ((make_total_term x y false e).1) env
-  pub number_there : (x y : Text) (e : Ex) (env : Env) (n : ℤ) → meaning e env ≡ Some (number n) → meaning ((make_total_term x y true e).0) env ≡ Some (truth true)
-  pub number_same : (x y : Text) (e : Ex) (env : Env) (n : ℤ) → meaning e env ≡ Some (number n) → meaning ((make_total_term x y true e).1) env ≡ Some (number n)
+  pub term_total : (x y : Text) (e : Ex) (env : Env) → Covered e → IsTrue (as_truth (meaning ((make_total_term x y false e).0) env)) →
+      Total ((make_total_term x y false e).1) env
+  pub number_there : (x y : Text) (e : Ex) (env : Env) (n : ℤ) → meaning e env ≡ Some (number n) →
+      meaning ((make_total_term x y true e).0) env ≡ Some (truth true)
+  pub number_same : (x y : Text) (e : Ex) (env : Env) (n : ℤ) → meaning e env ≡ Some (number n) →
+      meaning ((make_total_term x y true e).1) env ≡ Some (number n)
   pub number_elsewhere : (x y : Text) (e : Ex) (env : Env) → as_truth (meaning ((make_total_term x y true e).0) env) ≡ false →
       meaning ((make_total_term x y true e).1) env ≡ Some (number (pos 0))
   pub number_total : (x y : Text) (e : Ex) (env : Env) → Covered e → Total ((make_total_term x y true e).1) env
@@ -90,15 +96,22 @@ MarksStay = (x y : Text) (e : Ex) → (is_boolean (make_total x y e) ≡ is_bool
 -- Guarded, a tree is in scope as it was, and so are the conditions of a term and a number under them: where x and y are reserved
 -- at the tree, and the names that the domains of declarations use are in scope.
 pub record ScopesStay : Type 0 where
-  pub total : (x y : Text) (z s o : Text → Bool) (e : Ex) → AreReserved x y s e → ((a : Text) → z a ≡ true → s a ≡ true) → Scoped z s o e → Scoped z s o (make_total x y e)
-  pub natural : (x y : Text) (z s o : Text → Bool) (e : Ex) → AreReserved x y s e → ((a : Text) → z a ≡ true → s a ≡ true) → Scoped z s o e → Scoped z s o (make_natural x y e)
-  pub terms : (x y : Text) (z s o : Text → Bool) (is_int : Bool) (e : Ex) → AreReserved x y s e → ((a : Text) → z a ≡ true → s a ≡ true) → Scoped z s o e →
+  pub total : (x y : Text) (z s o : Text → Bool) (e : Ex) → AreReserved x y s e → ((a : Text) → z a ≡ true → s a ≡ true) → Scoped z s o e →
+      Scoped z s o (make_total x y e)
+  pub natural : (x y : Text) (z s o : Text → Bool) (e : Ex) → AreReserved x y s e → ((a : Text) → z a ≡ true → s a ≡ true) → Scoped z s o e →
+      Scoped z s o (make_natural x y e)
+  pub terms : (x y : Text) (z s o : Text → Bool) (is_int : Bool) (e : Ex) → AreReserved x y s e → ((a : Text) → z a ≡ true → s a ≡ true) →
+      Scoped z s o e →
       Scoped z s o ((make_total_term x y is_int e).0) × Scoped z s o ((make_total_term x y is_int e).1)
 
 -- Guarded, a tree spells constants that it had, and so do the conditions of a term and a number under them: where each literal
 -- stands where types allow one.
 pub record ConstantsStay : Type 0 where
-  pub total : (x y : Text) (e : Ex) → LiteralsFit false e → IsTrue (among_constants (constants_of_tree (make_total x y e)) (constants_of_tree e))
-  pub natural : (x y : Text) (e : Ex) → LiteralsFit false e → IsTrue (among_constants (constants_of_tree (make_natural x y e)) (constants_of_tree e))
-  pub there : (x y : Text) (is_int : Bool) (e : Ex) → LiteralsFit false e → IsTrue (among_constants (constants_of_tree ((make_total_term x y is_int e).0)) (constants_of_tree e))
-  pub term : (x y : Text) (is_int : Bool) (e : Ex) → LiteralsFit false e → IsTrue (among_constants (constants_of_tree ((make_total_term x y is_int e).1)) (constants_of_tree e))
+  pub total : (x y : Text) (e : Ex) → LiteralsFit false e →
+      IsTrue (among_constants (constants_of_tree (make_total x y e)) (constants_of_tree e))
+  pub natural : (x y : Text) (e : Ex) → LiteralsFit false e →
+      IsTrue (among_constants (constants_of_tree (make_natural x y e)) (constants_of_tree e))
+  pub there : (x y : Text) (is_int : Bool) (e : Ex) → LiteralsFit false e →
+      IsTrue (among_constants (constants_of_tree ((make_total_term x y is_int e).0)) (constants_of_tree e))
+  pub term : (x y : Text) (is_int : Bool) (e : Ex) → LiteralsFit false e →
+      IsTrue (among_constants (constants_of_tree ((make_total_term x y is_int e).1)) (constants_of_tree e))

@@ -1,8 +1,7 @@
 -- What a tree reads is there: names, cells and views have values, and what generators run over can be listed. Whether a term
 -- has a value is then decided by its partial operators alone.
-use Rattle.std.specs.Prelude.{◌≡◌, Bool, true, false, ◌&&◌, ◌||◌, List, Option, IsTrue, is_some}
+use Rattle.std.specs.Prelude.{◌≡◌, Bool, true, false, ◌&&◌, ◌||◌, IsTrue, is_some}
 use Rattle.std.specs.List.{list_all}
-use Rattle.ess_semantics.specs.Values.{Value}
 use Rattle.ess_semantics.specs.Names.{look}
 use Rattle.ess_semantics.specs.Trees.{Op, application, function_literal, Ex, Exs, number_ex, truth_ex, name_ex, node_ex, matrix_ex, comp_ex, cell_ex, seen_ex, no_exs, more_exs, Gens, no_gens, over, from, cond, Dom, Doms, bool_dom, int_dom, name_dom, tuple_dom, record_dom, matrix_dom, set_dom, mset_dom, function_dom, relation_dom, partition_dom, no_doms, more_doms}
 use Rattle.ess_semantics.specs.Meaning.{Env, meaning, meanings, domain_of, members_in, with_pat, cell_in, indices}
@@ -62,7 +61,8 @@ abbrev mutual
   Supplied (node_ex b op es) env = Unless (b || connects op) ((is_known op es ≡ true) × SuppliedAll es env)
   Supplied (matrix_ex es d) env = SuppliedAll es env
   Supplied (comp_ex e gs) env = SuppliedUnder gs env (λ here. Supplied e here)
-  Supplied (cell_ex b n es) env = Unless b (HasValue (cell_in b (look env.cells n) (indices (meanings es env))) (meanings es env) × SuppliedAll es env)
+  Supplied (cell_ex b n es) env =
+      Unless b (HasValue (cell_in b (look env.cells n) (indices (meanings es env))) (meanings es env) × SuppliedAll es env)
   Supplied (seen_ex r d ns es) env = IsTrue (is_some (meaning (seen_ex r d ns es) env))
 
   -- The same of operands.
