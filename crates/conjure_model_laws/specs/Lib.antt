@@ -1,0 +1,8 @@
+-- Names: reserved ones, what stands in their place over tables, and printed ones
+pub mod ToldApart
+pub mod Shown
+pub mod Printed
+-- Models
+pub mod IsBuiltFrom
+-- What is proved
+pub mod Laws
