@@ -44,3 +44,4 @@ pub mod OutsideFolds
 pub mod ConstantsKept
 pub mod ConstantLaws
 pub mod Examples
+pub mod ExamplesLaws
