@@ -4,5 +4,6 @@ pub mod Shown
 pub mod Printed
 -- Models
 pub mod IsBuiltFrom
+pub mod RulesComeFrom
 -- What is proved
 pub mod Laws
