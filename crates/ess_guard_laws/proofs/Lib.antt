@@ -34,6 +34,7 @@ pub mod Exact
 pub mod Flat
 pub mod Terms
 pub mod TotalLaws
+pub mod TruthRows
 pub mod TermLaws
 pub mod ScopedRows
 pub mod Scoping

@@ -57,17 +57,17 @@ pub record ConditionsMakeTotal : Type 0 where
 
 -- ---- terms
 
--- Whether its conditions hold says whether a term has a value, where what it reads is there.
+-- That its conditions hold is a truth value: whether a term has a value, where what it reads is there.
 abbrev pub ConditionsTellValues : Type 0
 ConditionsTellValues = (x y : Text) (e : Ex) (env : Env) → Supplied e env →
-    as_truth (meaning (has_value x y e) env) ≡ is_some (meaning e env)
+    meaning (has_value x y e) env ≡ Some (truth (is_some (meaning e env)))
 
 -- The two answers for a term: the first says whether it has a value; the second means the same where it has one, and is total
 -- there. Tables that meet the term's structures meet those of both. A number's second answer is 0 where the first one is false,
 -- and total everywhere.
 pub record TermsUnderConditions : Type 0 where
   pub there : (x y : Text) (is_int : Bool) (e : Ex) (env : Env) → Supplied e env →
-      as_truth (meaning ((make_total_term x y is_int e).0) env) ≡ is_some (meaning e env)
+      meaning ((make_total_term x y is_int e).0) env ≡ Some (truth (is_some (meaning e env)))
   pub met : (x y : Text) (is_int : Bool) (e : Ex) (env : Env) → Meets e env →
       Meets ((make_total_term x y is_int e).0) env × Meets ((make_total_term x y is_int e).1) env
   pub there_total : (x y : Text) (is_int : Bool) (e : Ex) (env : Env) → Covered e → Total ((make_total_term x y is_int e).0) env
@@ -98,7 +98,8 @@ MarksStay = (x y : Text) (e : Ex) → (is_boolean (make_total x y e) ≡ is_bool
 pub record ScopesStay : Type 0 where
   pub total : (x y : Text) (z s o : Text → Bool) (e : Ex) → AreReserved x y s e → ((a : Text) → z a ≡ true → s a ≡ true) → Scoped z s o e →
       Scoped z s o (make_total x y e)
-  pub natural : (x y : Text) (z s o : Text → Bool) (e : Ex) → AreReserved x y s e → ((a : Text) → z a ≡ true → s a ≡ true) → Scoped z s o e →
+  pub natural : (x y : Text) (z s o : Text → Bool) (e : Ex) → AreReserved x y s e → ((a : Text) → z a ≡ true → s a ≡ true) →
+      Scoped z s o e →
       Scoped z s o (make_natural x y e)
   pub terms : (x y : Text) (z s o : Text → Bool) (is_int : Bool) (e : Ex) → AreReserved x y s e → ((a : Text) → z a ≡ true → s a ≡ true) →
       Scoped z s o e →
