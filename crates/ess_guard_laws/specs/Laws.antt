@@ -45,12 +45,12 @@ NaturalIsKept = (x y : Text) (g : Names Ty) (e : Ex) → Kept g e (make_natural 
 
 -- ---- totality
 
--- A guarded Boolean is total, in every env.
+-- A guarded Boolean is total, in every env, where its tree is covered.
 abbrev pub GuardedIsTotal : Type 0
 GuardedIsTotal = (x y : Text) (e : Ex) (env : Env) → Covered e → IsTrue (asks_nothing e) → Total (make_total x y e) env
 
--- The conditions of a term, each under those before it, are total; and where they hold the term is: each operator in it has
--- a value where its operands have one.
+-- The conditions of a covered term, each under those before it, are total; and where they hold the term is: each operator in it
+-- has a value where its operands have one.
 pub record ConditionsMakeTotal : Type 0 where
   pub conditions : (x y : Text) (e : Ex) (env : Env) → Covered e → Total (has_value x y e) env
   pub term : (x y : Text) (e : Ex) (env : Env) → Covered e → Hold (there x y e) env → Total (make_total x y e) env

@@ -27,18 +27,19 @@ pub fn natural_is_kept()
     ensures { NaturalIsKept }
 {}
 
-/// A guarded Boolean is total, in every env.
+/// A guarded Boolean is total, in every env, where its tree is covered: where each index has a domain that its form tells, what is
+/// applied is a relation by its form, and function literals are of pairs.
 pub fn guarded_is_total()
     ensures { GuardedIsTotal }
 {}
 
-/// The conditions of a term, each under those before it, are total; and where they hold the term is.
+/// The conditions of a covered term, each under those before it, are total; and where they hold the term is.
 pub fn conditions_make_total()
     ensures { ConditionsMakeTotal }
 {}
 
-/// Whether its conditions hold says whether a term has a value: of every tree, where the names, cells and views that it reads have
-/// values and generators run over domains that can be listed.
+/// That its conditions hold is a truth value, and says whether a term has a value: for each operator that is no application of a
+/// function, where the names, cells and views that the term reads have values and its generators run over domains that can be listed.
 pub fn conditions_tell_values()
     ensures { ConditionsTellValues }
 {}
