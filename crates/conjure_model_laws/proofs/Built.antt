@@ -2,11 +2,12 @@
 use Rattle.std.proofs.Common.{◌≡◌, refl, sym, ◌∙◌, true, false, Bool, List, [], ◌∷◌, map}
 use Rattle.ess_semantics.specs.Values.{Text}
 use Rattle.ess_semantics.specs.Names.{Names}
-use Rattle.ess_semantics.specs.Trees.{Ex, truth_ex, Stm}
+use Rattle.ess_semantics.specs.Trees.{Ex, Exs, truth_ex, no_exs, more_exs, Dom, bool_dom, int_dom, Stm}
 use Rattle.ess_semantics.specs.Types.{Ty}
 use Rattle.ess_semantics.specs.Kept.{Kept}
 use Rattle.ess_semantics.specs.Typed.{Typed}
-use Rattle.ess_semantics.specs.Plans.{Options, finds_side, plans_for}
+use Rattle.ess_semantics.specs.DeclaredTables.{TableDecl}
+use Rattle.ess_semantics.specs.Plans.{Options, givens_side, finds_side, plans_for}
 use Rattle.ess_semantics.specs.Prepared.{prepared}
 use Rattle.ess_semantics.specs.ModelTrees.{Header, Model, Goal, no_goal, least, greatest, goal_of, same_direction}
 use Rattle.ess_semantics.specs.Models.{constraints_of}
@@ -17,8 +18,8 @@ use Rattle.ess_guard_laws.proofs.StructuresMet.{same, met}
 use Rattle.conjure_laws.specs.SideBySide.{Along}
 use Rattle.conjure_model_laws.specs.ToldApart.{reserved}
 use Rattle.conjure_model_laws.specs.Shown.{Shows, shows_of}
-use Rattle.conjure_model_laws.specs.IsBuiltFrom.{tree_of, constraint_tree, condition_tree, structure_tree, all_channel_trees, taken_names, IsWrittenFor, AreWrittenFor, GoalIsWrittenFor, IsBuiltFrom}
-use Rattle.conjure_model_laws.specs.RulesComeFrom.{IsPrintedFor, ArePrintedFor, GoalIsPrintedFor, RulesComeFrom}
+use Rattle.conjure_model_laws.specs.IsBuiltFrom.{all_declared_of, BoundsAreWrittenFor, DomIsWrittenFor, DeclIsWrittenFor, tree_of, constraint_tree, condition_tree, structure_tree, all_channel_trees, taken_names, IsWrittenFor, AreWrittenFor, GoalIsWrittenFor, IsBuiltFrom}
+use Rattle.conjure_model_laws.specs.RulesComeFrom.{IsPrintedFor, ArePrintedFor, BoundsArePrintedFor, DomIsPrintedFor, DeclIsPrintedFor, DeclarationsComeFrom, GoalIsPrintedFor, RulesComeFrom}
 
 -- Any number of rules that keep.
 pub rules-keep : (a b : Ex) → Rewritten Typed Kept [] a b → Kept [] a b
@@ -118,3 +119,32 @@ written-direction taken sh (least e) (greatest f) rs w = absurd w
 written-direction taken sh (greatest e) no_goal rs w = absurd w
 written-direction taken sh (greatest e) (least f) rs w = absurd w
 written-direction taken sh (greatest e) (greatest f) rs w = refl
+
+-- ---- declarations
+
+bounds-printed : (taken : List Text) (es fs : Exs) → BoundsAreWrittenFor Kept taken es fs → BoundsArePrintedFor taken es fs
+bounds-printed taken no_exs no_exs w = tt
+bounds-printed taken no_exs (more_exs f fs) w = absurd w
+bounds-printed taken (more_exs e es) no_exs w = absurd w
+bounds-printed taken (more_exs e es) (more_exs f fs) w = (written-printed taken e f w.0, bounds-printed taken es fs w.1)
+
+dom-printed : (taken : List Text) (d e : Dom) → DomIsWrittenFor Kept taken d e → DomIsPrintedFor taken d e
+dom-printed taken bool_dom bool_dom w = tt
+dom-printed taken (int_dom rs es) (int_dom ss fs) w = (w.0, bounds-printed taken es fs w.1)
+dom-printed taken d e w = absurd w
+
+decl-printed : (taken : List Text) (t u : TableDecl) → DeclIsWrittenFor Kept taken t u → DeclIsPrintedFor taken t u
+decl-printed taken t u w = (
+  w.0,
+  along-each t.axes u.axes (DomIsWrittenFor Kept taken) (DomIsPrintedFor taken) (dom-printed taken) w.1,
+  dom-printed taken t.cell u.cell w.2,
+)
+
+-- The declarations of a model that is built by rules that keep.
+pub declarations-come : (S : List Stm) (o : Options) (H : Header) (E : Model) → IsBuiltFrom Kept S o H E → DeclarationsComeFrom S o E
+declarations-come S o H E b = record {
+  givens_come = along-each (all_declared_of givens_side S o) E.givens (DeclIsWrittenFor Kept (taken_names S o))
+      (DeclIsPrintedFor (taken_names S o)) (decl-printed (taken_names S o)) b.givens;
+  finds_come = along-each (all_declared_of finds_side S o) E.finds (DeclIsWrittenFor Kept (taken_names S o))
+      (DeclIsPrintedFor (taken_names S o)) (decl-printed (taken_names S o)) b.finds;
+}
