@@ -34,10 +34,38 @@ pub behind-hold : (cs : List Ex) (env : Env) (P : Type 0) → Behind cs env P �
 behind-hold [] env P b h = b
 behind-hold (c ∷ cs) env P b h = behind-hold cs env P (b.1 h.0) h.1
 
+-- What holds where conditions that are total hold stands behind them.
+pub behind-told : (cs : List Ex) (env : Env) (P : Type 0) → Behind cs env (Unit {0}) → (Hold cs env → P) → Behind cs env P
+behind-told [] env P b f = f tt
+behind-told (c ∷ cs) env P b f = (b.0, λ t. behind-told cs env P (b.1 t) (λ h. f (t, h)))
+
 -- What stands behind one condition, or none.
-pub behind-unless : (t : Bool) (c : Ex) (env : Env) (P : Type 0) → (t ≡ true → P) → Total c env → (as_truth (meaning c env) ≡ true → P) → Behind (unless t c) env P
+pub behind-unless : (t : Bool) (c : Ex) (env : Env) (P : Type 0) → (t ≡ true → P) → Total c env → (as_truth (meaning c env) ≡ true → P) →
+    Behind (unless t c) env P
 behind-unless true c env P f t g = f refl
 behind-unless false c env P f t g = (t, g)
+
+-- ---- conditions that are total by themselves
+
+-- Each condition is total.
+abbrev pub EachTotal : List Ex → Env → Type 0
+EachTotal [] env = Unit {0}
+EachTotal (c ∷ cs) env = Total c env × EachTotal cs env
+
+-- Both lists are.
+pub each-total-append : (cs ds : List Ex) (env : Env) → EachTotal cs env → EachTotal ds env → EachTotal (cs ++ ds) env
+each-total-append [] ds env t u = u
+each-total-append (c ∷ cs) ds env t u = (t.0, each-total-append cs ds env t.1 u)
+
+-- One condition, or none.
+pub each-total-unless : (t : Bool) (c : Ex) (env : Env) → Total c env → EachTotal (unless t c) env
+each-total-unless true c env u = tt
+each-total-unless false c env u = (u, tt)
+
+-- What holds where they hold stands behind them.
+pub behind-asked : (cs : List Ex) (env : Env) (P : Type 0) → EachTotal cs env → (Hold cs env → P) → Behind cs env P
+behind-asked [] env P t f = f tt
+behind-asked (c ∷ cs) env P t f = (t.0, λ h. behind-asked cs env P t.1 (λ g. f (h, g)))
 
 -- ---- nodes
 
@@ -53,7 +81,8 @@ conds-total (c ∷ cs) env b t = (t.0, λ q. conds-total cs env b (t.1 q))
 -- A Boolean under conditions is total where it is total behind them.
 pub chained-total : (cs : List Ex) (b : Ex) (env : Env) → Behind cs env (Total b env) → Total (chained cs b) env
 chained-total [] b env t = t
-chained-total (c ∷ cs) b env t = safe-total true (word Fun.Or) (more_exs (comp_ex b (conds (c ∷ cs))) no_exs) env refl (conds-total (c ∷ cs) env b t, tt)
+chained-total (c ∷ cs) b env t =
+    safe-total true (word Fun.Or) (more_exs (comp_ex b (conds (c ∷ cs))) no_exs) env refl (conds-total (c ∷ cs) env b t, tt)
 
 -- That all conditions hold is total.
 pub all-of-total : (cs : List Ex) (env : Env) (P : Type 0) → Behind cs env P → Total (all_of cs) env
@@ -61,7 +90,8 @@ all-of-total [] env P b = tt
 all-of-total (c ∷ []) env P b = b.0
 all-of-total (c ∷ d ∷ cs) env P b = chained-total (c ∷ []) (all_of (d ∷ cs)) env (b.0, λ t. all-of-total (d ∷ cs) env P (b.1 t))
 
-all-of-hold : (cs : List Ex) (env : Env) → as_truth (meaning (all_of cs) env) ≡ true → Hold cs env
+-- Where all conditions are told to hold they do.
+pub all-of-hold : (cs : List Ex) (env : Env) → as_truth (meaning (all_of cs) env) ≡ true → Hold cs env
 all-of-hold cs env h = tested-hold cs env (sym (all-of-truth cs env) ∙ h)
 
 -- ---- at each binding
@@ -81,8 +111,10 @@ module _ (b : Ex) (at : Value → Env) where
   each-collected [] xs e h = tt
   each-collected (v ∷ vs) xs e h = go (meaning b (at v)) (collect vs F) refl e (λ ys q r. each-collected vs ys q r)
     where
-      go : (o : Option Value) (c : Option (List Value)) → meaning b (at v) ≡ o → and_then (option_map (λ w. w ∷ []) o) (λ zs. option_map (λ ys. zs ++ ys) c) ≡ Some xs →
-          ((ys : List Value) → c ≡ Some ys → all_true ys ≡ true → Each vs (λ v. as_truth (meaning b (at v)) ≡ true)) → (as_truth (meaning b (at v)) ≡ true) × Each vs (λ v. as_truth (meaning b (at v)) ≡ true)
+      go : (o : Option Value) (c : Option (List Value)) → meaning b (at v) ≡ o →
+          and_then (option_map (λ w. w ∷ []) o) (λ zs. option_map (λ ys. zs ++ ys) c) ≡ Some xs →
+          ((ys : List Value) → c ≡ Some ys → all_true ys ≡ true → Each vs (λ v. as_truth (meaning b (at v)) ≡ true)) →
+          (as_truth (meaning b (at v)) ≡ true) × Each vs (λ v. as_truth (meaning b (at v)) ≡ true)
       go None c q e k = cc
       go (Some w) None q e k = cc
       go (Some w) (Some ys) q e k =
@@ -90,27 +122,40 @@ module _ (b : Ex) (at : Value → Env) where
           (ap as_truth q ∙ truth-read w (and-left (truth_in w) (all_true ys) r), k ys refl (and-right (truth_in w) (all_true ys) r))
 
   -- Where a conjunction is true, each item is.
-  pub all-true-each : (vs : List Value) → as_truth (false_where_undefined true (value_of_node (word Fun.And) (option_map list_value (collect vs F) ∷ []))) ≡ true → Each vs (λ v. as_truth (meaning b (at v)) ≡ true)
+  pub all-true-each : (vs : List Value) →
+      as_truth (false_where_undefined true (value_of_node (word Fun.And) (option_map list_value (collect vs F) ∷ []))) ≡ true →
+      Each vs (λ v. as_truth (meaning b (at v)) ≡ true)
   all-true-each vs h = go (collect vs F) refl h
     where
-      go : (o : Option (List Value)) → collect vs F ≡ o → as_truth (false_where_undefined true (value_of_node (word Fun.And) (option_map list_value o ∷ []))) ≡ true → Each vs (λ v. as_truth (meaning b (at v)) ≡ true)
+      go : (o : Option (List Value)) → collect vs F ≡ o →
+          as_truth (false_where_undefined true (value_of_node (word Fun.And) (option_map list_value o ∷ []))) ≡ true →
+          Each vs (λ v. as_truth (meaning b (at v)) ≡ true)
       go None e h = cc
       go (Some xs) e h = each-collected vs xs e (ap all_true (sym (to_list-of_list xs)) ∙ h)
 
-over-each : (b : Ex) (p : Pat) (env : Env) (o : Option (List Value)) →
-    as_truth (false_where_undefined true (value_of_node (word Fun.And) (option_map list_value (and_then o (λ vs. collect vs (λ v. option_map (λ w. w ∷ []) (meaning b (with_pat p v env))))) ∷ []))) ≡ true →
+-- What a conjunction over the members of a domain tells.
+pub over-each : (b : Ex) (p : Pat) (env : Env) (o : Option (List Value)) →
+    as_truth (false_where_undefined true
+    (value_of_node (word Fun.And)
+    (option_map list_value
+    (and_then o (λ vs. collect vs (λ v. option_map (λ w. w ∷ []) (meaning b (with_pat p v env))))) ∷ []))) ≡ true →
     EachOf o (λ v. as_truth (meaning b (with_pat p v env)) ≡ true)
 over-each b p env None h = tt
 over-each b p env (Some vs) h = all-true-each b (λ v. with_pat p v env) vs h
 
-from-each : (b : Ex) (p : Pat) (env : Env) (o : Option Value) →
-    as_truth (false_where_undefined true (value_of_node (word Fun.And) (option_map list_value (and_then o (λ s. collect (items_of s) (λ v. option_map (λ w. w ∷ []) (meaning b (with_pat p v env))))) ∷ []))) ≡ true →
+-- What a conjunction over the items of a source tells.
+pub from-each : (b : Ex) (p : Pat) (env : Env) (o : Option Value) →
+    as_truth (false_where_undefined true
+    (value_of_node (word Fun.And)
+    (option_map list_value
+    (and_then o (λ s. collect (items_of s) (λ v. option_map (λ w. w ∷ []) (meaning b (with_pat p v env))))) ∷ []))) ≡ true →
     EachIn o (λ v. as_truth (meaning b (with_pat p v env)) ≡ true)
 from-each b p env None h = tt
 from-each b p env (Some s) h = all-true-each b (λ v. with_pat p v env) (items_of s) h
 
 -- Conditions at each member of a domain.
-pub over-behind : (p : Pat) (d : Dom) (cs : List Ex) (env : Env) (Q : Value → Type 0) → TotalDom d env → EachOf (members_in (domain_of d env)) (λ v. Behind cs (with_pat p v env) (Q v)) →
+pub over-behind : (p : Pat) (d : Dom) (cs : List Ex) (env : Env) (Q : Value → Type 0) → TotalDom d env →
+    EachOf (members_in (domain_of d env)) (λ v. Behind cs (with_pat p v env) (Q v)) →
     Behind (every (over p d no_gens) cs) env (TotalDom d env × EachOf (members_in (domain_of d env)) Q)
 over-behind p d [] env Q t e = (t, e)
 over-behind p d (c ∷ cs) env Q t e = (
@@ -118,13 +163,15 @@ over-behind p d (c ∷ cs) env Q t e = (
       ((t, each-of-map (members_in (domain_of d env)) _ _ (λ v q. all-of-total (c ∷ cs) (with_pat p v env) (Q v) q) e), tt),
   λ h. (
     t,
-    each-of-join (members_in (domain_of d env)) _ _ _ (λ v q r. behind-hold (c ∷ cs) (with_pat p v env) (Q v) q (all-of-hold (c ∷ cs) (with_pat p v env) r)) e
+    each-of-join (members_in (domain_of d env)) _ _ _
+        (λ v q r. behind-hold (c ∷ cs) (with_pat p v env) (Q v) q (all-of-hold (c ∷ cs) (with_pat p v env) r)) e
         (over-each (all_of (c ∷ cs)) p env (members_in (domain_of d env)) h),
   ),
 )
 
 -- Conditions at each item of a source.
-pub from-behind : (p : Pat) (s : Ex) (cs : List Ex) (env : Env) (Q : Value → Type 0) → Total s env → EachIn (meaning s env) (λ v. Behind cs (with_pat p v env) (Q v)) →
+pub from-behind : (p : Pat) (s : Ex) (cs : List Ex) (env : Env) (Q : Value → Type 0) → Total s env →
+    EachIn (meaning s env) (λ v. Behind cs (with_pat p v env) (Q v)) →
     Behind (every (from p s no_gens) cs) env (Total s env × EachIn (meaning s env) Q)
 from-behind p s [] env Q t e = (t, e)
 from-behind p s (c ∷ cs) env Q t e = (
@@ -132,30 +179,39 @@ from-behind p s (c ∷ cs) env Q t e = (
       ((t, each-in-map (meaning s env) _ _ (λ v q. all-of-total (c ∷ cs) (with_pat p v env) (Q v) q) e), tt),
   λ h. (
     t,
-    each-in-join (meaning s env) _ _ _ (λ v q r. behind-hold (c ∷ cs) (with_pat p v env) (Q v) q (all-of-hold (c ∷ cs) (with_pat p v env) r)) e
+    each-in-join (meaning s env) _ _ _
+        (λ v q r. behind-hold (c ∷ cs) (with_pat p v env) (Q v) q (all-of-hold (c ∷ cs) (with_pat p v env) r)) e
         (from-each (all_of (c ∷ cs)) p env (meaning s env) h),
   ),
 )
 
 -- Conditions behind another one.
-pub given-behind : (b : Ex) (cs : List Ex) (env : Env) (Q : Type 0) → Total b env → Behind cs env Q → Behind (given_that b cs) env (Total b env × WhenTrue (meaning b env) Q)
+pub given-behind : (b : Ex) (cs : List Ex) (env : Env) (Q : Type 0) → Total b env → Behind cs env Q →
+    Behind (given_that b cs) env (Total b env × WhenTrue (meaning b env) Q)
 given-behind b [] env Q t q = (t, λ h. q)
 given-behind b (c ∷ cs) env Q t q = (
   safe-total true (binary Op2.Implies) (more_exs b (more_exs (all_of (c ∷ cs)) no_exs)) env refl (t, (all-of-total (c ∷ cs) env Q q, tt)),
-  λ h. (t, λ r. behind-hold (c ∷ cs) env Q q (all-of-hold (c ∷ cs) env (if-so (as_truth (meaning b env)) (as_truth (meaning (all_of (c ∷ cs)) env)) r h))),
+  λ h. (
+    t,
+    λ r. behind-hold (c ∷ cs) env Q q
+        (all-of-hold (c ∷ cs) env (if-so (as_truth (meaning b env)) (as_truth (meaning (all_of (c ∷ cs)) env)) r h)),
+  ),
 )
 
 -- ---- what holds at a member
 
-each-held : (xs ys : List Value) (P : Value → Type 0) → ((v : Value) → holds ys v ≡ true → P v) → ((v : Value) → holds xs v ≡ true → holds ys v ≡ true) → Each xs P
+each-held : (xs ys : List Value) (P : Value → Type 0) → ((v : Value) → holds ys v ≡ true → P v) →
+    ((v : Value) → holds xs v ≡ true → holds ys v ≡ true) → Each xs P
 each-held [] ys P f g = tt
-each-held (x ∷ xs) ys P f g = (f x (g x (ap (λ b. b || holds xs x) (same-itself x))), each-held xs ys P f (λ v h. g v (later (same x v) (holds xs v) h)))
+each-held (x ∷ xs) ys P f g =
+    (f x (g x (ap (λ b. b || holds xs x) (same-itself x))), each-held xs ys P f (λ v h. g v (later (same x v) (holds xs v) h)))
   where
     later : (a b : Bool) → b ≡ true → a || b ≡ true
     later true b e = refl
     later false b e = e
 
 -- What follows of each member holds at each.
-pub each-member : (o : Option (List Value)) (P : Value → Type 0) → ((vs : List Value) (v : Value) → o ≡ Some vs → holds vs v ≡ true → P v) → EachOf o P
+pub each-member : (o : Option (List Value)) (P : Value → Type 0) → ((vs : List Value) (v : Value) → o ≡ Some vs → holds vs v ≡ true → P v) →
+    EachOf o P
 each-member None P f = tt
 each-member (Some vs) P f = each-held vs vs P (λ v h. f vs v refl h) (λ v h. h)

@@ -1,14 +1,15 @@
 -- What tells an index domain stays with the Booleans of a tree guarded.
-use Rattle.std.proofs.Common.{◌≡◌, refl, ap, ◌∙◌, Bool, true, false, ◌&&◌, not, if◌then◌else◌, List, [], ◌∷◌, Option, None}
+use Rattle.std.proofs.Common.{◌≡◌, refl, ap, ◌∙◌, Bool, true, false, ◌&&◌, not, if◌then◌else◌, List, [], ◌∷◌, Option, None, is_some}
 use Rattle.ess_semantics.specs.Values.{Text}
 use Rattle.ess_semantics.specs.Names.{Names}
-use Rattle.ess_semantics.specs.Trees.{Step, by_value, to_component, to_field, Op, index, application, function_literal, partition_literal, matrix_literal, Ex, Exs, number_ex, truth_ex, name_ex, node_ex, matrix_ex, comp_ex, cell_ex, seen_ex, no_exs, more_exs, Dom}
+use Rattle.ess_semantics.specs.Trees.{Step, by_value, to_component, to_field, Op, index, application, tuple_literal, function_literal, matrix_literal, Ex, Exs, number_ex, truth_ex, name_ex, node_ex, matrix_ex, comp_ex, cell_ex, seen_ex, no_exs, more_exs, Dom}
 use Rattle.ess_semantics.proofs.Tests.{and-left, and-right, and-both}
 use Rattle.ess_guard_laws.specs.Origins.{Origin}
-use Rattle.ess_guard_laws.specs.IndexDomains.{item_dom, dom_behind, dom_followed, first_index}
+use Rattle.ess_guard_laws.specs.IndexDomains.{item_dom, dom_behind, dom_followed, first_index, plain_axis}
 use Rattle.ess_guard_laws.specs.Conditions.{chained, at_step}
 use Rattle.ess_guard_laws.specs.Guard.{connects, guarded, guarded_all, conditions_all}
-use Rattle.ess_guard_laws.specs.Covered.{is_plain_axis, has_axis, path_has_axes, covers}
+use Rattle.ess_guard_laws.proofs.RelationTerms.{relation-kept}
+use Rattle.ess_guard_laws.specs.Covered.{has_axis, path_has_axes, is_pair, are_pairs, covers}
 
 module _ (natural : Bool) (x y : Text) where
   abbrev G : Names Origin → Ex → Ex
@@ -51,8 +52,9 @@ module _ (natural : Bool) (x y : Text) where
   axis-kept : (m : Ex) (k : Names Origin) → has_axis m ≡ true → has_axis (G k m) ≡ true
   axis-kept (node_ex false matrix_literal es) k t = refl
   axis-kept (comp_ex e gs) k t = refl
+  axis-kept (matrix_ex es d) k t = refl
   axis-kept (seen_ex r d ns es) k t = t
-  axis-kept (node_ex false (index qs) (more_exs m is)) k t = ap (λ o. is_plain_axis (first_index o)) (followed-kept (node_ex false (index qs) (more_exs m is)) k) ∙ t
+  axis-kept (node_ex false (index qs) (more_exs m is)) k t = ap (λ o. is_some (plain_axis (first_index o))) (followed-kept (node_ex false (index qs) (more_exs m is)) k) ∙ t
   axis-kept m k t = cc
 
   -- Two terms that tell the same.
@@ -60,7 +62,7 @@ module _ (natural : Bool) (x y : Text) where
   Alike m n = (dom_followed n ≡ dom_followed m) × (has_axis m ≡ true → has_axis n ≡ true)
 
   step-alike : (m n i j : Ex) → Alike m n → Alike (at_step by_value m (more_exs i no_exs)) (at_step by_value n (more_exs j no_exs))
-  step-alike m n i j a = (ap item_dom a.0, λ t. ap (λ o. is_plain_axis (first_index (item_dom o))) a.0 ∙ t)
+  step-alike m n i j a = (ap item_dom a.0, λ t. ap (λ o. is_some (plain_axis (first_index (item_dom o)))) a.0 ∙ t)
 
   path-kept : (m n : Ex) (qs : List Step) (is : Exs) (k : Names Origin) → Alike m n → path_has_axes m qs is ≡ true → path_has_axes n qs (Gs k is) ≡ true
   path-kept m n [] is k a t = refl
@@ -71,11 +73,19 @@ module _ (natural : Bool) (x y : Text) where
   path-kept m n (to_component c ∷ qs) is k a t = path-kept (at_step (to_component c) m no_exs) (at_step (to_component c) n no_exs) qs is k (refl, λ z. z) t
   path-kept m n (to_field f ∷ qs) is k a t = path-kept (at_step (to_field f) m no_exs) (at_step (to_field f) n no_exs) qs is k (refl, λ z. z) t
 
+  pair-kept : (e : Ex) (k : Names Origin) → is_pair e ≡ true → is_pair (G k e) ≡ true
+  pair-kept (node_ex false tuple_literal (more_exs a (more_exs b no_exs))) k t = refl
+  pair-kept e k t = cc
+
+  -- Pairs stay pairs.
+  pub pairs-kept : (es : Exs) (k : Names Origin) → are_pairs es ≡ true → are_pairs (Gs k es) ≡ true
+  pairs-kept no_exs k t = refl
+  pairs-kept (more_exs e es) k t = and-both (is_pair (G k e)) (are_pairs (Gs k es)) (pair-kept e k (and-left (is_pair e) (are_pairs es) t)) (pairs-kept es k (and-right (is_pair e) (are_pairs es) t))
+
   -- So an operator is covered still.
   pub covers-kept : (op : Op) (es : Exs) (k : Names Origin) → covers op es ≡ true → covers op (Gs k es) ≡ true
   covers-kept (index qs) no_exs k t = refl
   covers-kept (index qs) (more_exs m is) k t = path-kept m (G k m) qs is k (followed-kept m k, axis-kept m k) t
-  covers-kept application es k t = cc
-  covers-kept function_literal es k t = cc
-  covers-kept partition_literal es k t = cc
+  covers-kept application (more_exs f es) k t = relation-kept natural x y f k t
+  covers-kept function_literal es k t = pairs-kept es k t
   covers-kept op es k t = refl

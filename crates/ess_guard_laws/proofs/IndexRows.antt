@@ -1,5 +1,5 @@
 -- The conditions of indices hold where the index has an item.
-use Rattle.std.proofs.Common.{◌≡◌, refl, sym, ap, ◌∙◌, subst, ℕ, suc, ◌+◌, ◌≤◌, Bool, true, false, ◌&&◌, ◌||◌, not, List, [], ◌∷◌, ◌++◌, length, ℤ, pos, ◌≤ℤ◌, ◌<ℤ◌, Option, Some, None, option_map, is_some, nat_eq, int_le, arith}
+use Rattle.std.proofs.Common.{◌≡◌, refl, sym, ap, ◌∙◌, subst, ℕ, suc, ◌+◌, ◌≤◌, Bool, true, false, ◌&&◌, ◌||◌, not, if◌then◌else◌, List, [], ◌∷◌, ◌++◌, length, ℤ, pos, ◌≤ℤ◌, ◌<ℤ◌, Option, Some, None, option_map, is_some, nat_eq, int_le, arith}
 use Rattle.std.proofs.lemmas.Int.{ints}
 use Rattle.std.specs.Ordering.{int_cmp, is_lt}
 use Rattle.std.specs.Cmp.{int_cmp_is}
@@ -11,18 +11,19 @@ use Rattle.ess_semantics.specs.Values.{Text, Value, number, truth, item, node, o
 use Rattle.ess_semantics.specs.Order.{same, below, same_int}
 use Rattle.ess_semantics.specs.Names.{Names}
 use Rattle.ess_semantics.specs.Collections.{holds}
-use Rattle.ess_semantics.specs.Trees.{Gens, Step, by_value, to_component, to_field, binary, word, index, matrix_literal, both_ends, name_pat, Ex, Exs, number_ex, name_ex, node_ex, matrix_ex, comp_ex, seen_ex, no_exs, more_exs, no_gens, over, Dom, Doms, no_doms, more_doms, int_dom, matrix_dom, ex2, fun1}
+use Rattle.ess_semantics.specs.Trees.{Gens, Step, by_value, to_component, to_field, binary, word, index, matrix_literal, both_ends, name_pat, Ex, Exs, number_ex, name_ex, node_ex, matrix_ex, comp_ex, seen_ex, no_exs, more_exs, no_gens, over, Dom, Doms, no_doms, more_doms, bool_dom, int_dom, name_dom, matrix_dom, ex2, fun1}
 use Rattle.ess_semantics.specs.Operators.{as_truth, number_in, item_at, at_index, at_component, at_field, path_value, value_of_node, value_of_op, false_where_undefined, list_value, numbers_from, sum_of}
 use Rattle.ess_semantics.specs.Domains.{Domain, Domains, more_domains, integers, members, member_list, between}
 use Rattle.ess_semantics.specs.Membership.{member}
 use Rattle.ess_semantics.specs.Meaning.{Env, meaning, meanings, items_under, domain_of, domains_of, members_in, with_pat, collect, matrix_value}
+use Rattle.ess_semantics.specs.Constants.{operand_count}
 use Rattle.ess_semantics.proofs.Orders.{to_list-of_list, same-itself, same-equal, same_int-equal, same_int-itself}
 use Rattle.ess_semantics.proofs.Sorting.{all-holds}
 use Rattle.ess_semantics.proofs.MemberLists.{integers-listed}
 use Rattle.ess_semantics.proofs.Tests.{and-left, and-right, and-both}
 use Rattle.ess_rules_laws.proofs.Agreement.{look-itself}
 use Rattle.ess_guard_laws.specs.Origins.{Origin, is_sure}
-use Rattle.ess_guard_laws.specs.IndexDomains.{number_of, one_up_to, item_dom, dom_behind, dom_followed, first_index, index_dom}
+use Rattle.ess_guard_laws.specs.IndexDomains.{one_up_to, item_dom, dom_behind, dom_followed, first_index, are_plain_bounds, plain_axis, index_dom}
 use Rattle.ess_guard_laws.specs.Conditions.{as_number, in_dom, at_step, index_conditions, path_conditions}
 use Rattle.ess_guard_laws.specs.Holds.{Hold}
 use Rattle.ess_guard_laws.proofs.Holding.{then-first, the-value, hold-append, unless-holds}
@@ -146,7 +147,8 @@ split-doms None p as' e = cc
 split-doms (Some a) None as' e = cc
 split-doms (Some a) (Some bs) as' e = (a, bs, refl, refl, ap (λ o. elim o [ None ↦ as' | Some z ↦ z ]) (sym e))
 
-some-dom : (a b : Dom) → Some a ≡ Some b → a ≡ b
+-- One domain that is there.
+pub some-dom : (a b : Dom) → Some a ≡ Some b → a ≡ b
 some-dom a b e = ap (λ o. elim o [ None ↦ a | Some z ↦ z ]) e
 
 -- A row of a nested matrix.
@@ -216,6 +218,17 @@ first-listed d env a w e h = go (members a) refl h
     go None q h = cc
     go (Some is) q h = (is, ap members_in e ∙ q, h)
 
+-- A plain index domain is the index domain.
+pub plain-axis : (o : Option Dom) (d : Dom) → plain_axis o ≡ Some d → o ≡ Some d
+plain-axis (Some bool_dom) d e = e
+plain-axis (Some (int_dom rs es)) d e = go (are_plain_bounds es) e
+  where
+    go : (t : Bool) → (if t then Some (int_dom rs es) else None) ≡ Some d → Some (int_dom rs es) ≡ Some d
+    go true e = e
+    go false e = cc
+plain-axis (Some (name_dom a)) d e = e
+plain-axis o d e = cc
+
 -- An index of a matrix that follows a domain is a member of its first index domain.
 axis-index : (x : Text) (i : Ex) (o : Option Dom) (d : Dom) (env : Env) (v w : Value) → Follows o env v → first_index o ≡ Some d → meaning i env ≡ Some w → is_some (at_index v w) ≡ true → as_truth (meaning (in_dom x i d) env) ≡ true
 axis-index x i (Some (matrix_dom (more_doms c is) e)) d env v w f q p h =
@@ -231,8 +244,8 @@ index-holds x (node_ex false matrix_literal es) i d env v w q e p h = go (all_so
   where
     go : (o : Option (List Value)) → all_some (meanings es env) ≡ o → and_then o (value_of_op matrix_literal) ≡ Some v → as_truth (meaning (in_dom x i d) env) ≡ true
     go None r e = cc
-    go (Some xs) r e = subst (λ z. as_truth (meaning (in_dom x i z) env) ≡ true) (some-dom (one_up_to (number_ex (pos (number_of es)))) d q)
-        (list-index x i (number_ex (pos (number_of es))) env xs w (ap (λ n. Some (number (pos n))) (number-of-values es env xs r)) p
+    go (Some xs) r e = subst (λ z. as_truth (meaning (in_dom x i z) env) ≡ true) (some-dom (one_up_to (number_ex (pos (operand_count es)))) d q)
+        (list-index x i (number_ex (pos (operand_count es))) env xs w (ap (λ n. Some (number (pos n))) (number-of-values es env xs r)) p
         (ap (λ z. is_some (at_index z w)) (ap (λ o. elim o [ None ↦ v | Some z ↦ z ]) e) ∙ h))
 index-holds x (matrix_ex es c) i d env v w q e p h = go (all_some (meanings es env)) (members_in (domain_of c env)) refl e
   where
@@ -252,7 +265,7 @@ index-holds x (comp_ex b gs) i d env v w q e p h = go (items_under gs env (λ he
     go (Some xs) r e = subst (λ z. as_truth (meaning (in_dom x i z) env) ≡ true) (some-dom (one_up_to (fun1 false Fun.Sum (comp_ex (number_ex (pos 1)) gs))) d q)
         (list-index x i (fun1 false Fun.Sum (comp_ex (number_ex (pos 1)) gs)) env xs w (counted-under b gs env xs r) p
         (ap (λ z. is_some (at_index z w)) (ap (λ o. elim o [ None ↦ v | Some z ↦ z ]) e) ∙ h))
-index-holds x m i d env v w q e p h = axis-index x i (dom_followed m) d env v w (follows m env v e) q p h
+index-holds x m i d env v w q e p h = axis-index x i (dom_followed m) d env v w (follows m env v e) (plain-axis (first_index (dom_followed m)) d q) p h
 
 -- The condition of an index.
 one-index : (k : Names Origin) (x : Text) (m i : Ex) (env : Env) (v w : Value) → meaning m env ≡ Some v → meaning i env ≡ Some w → is_some (at_index v w) ≡ true → Hold (index_conditions k x (index_dom m) m i) env

@@ -11,11 +11,11 @@ use Rattle.ess_semantics.specs.Collections.{holds, sorted_once, no_twice, has_do
 use Rattle.ess_semantics.specs.Trees.{binary, word, name_pat, tuple_literal, matrix_literal, Ex, Exs, number_ex, name_ex, node_ex, comp_ex, no_exs, more_exs, no_gens, over, from, Dom, fun1}
 use Rattle.ess_semantics.specs.Operators.{as_truth, implies, all_different, sum_of, list_value, value_of_node, value_of_op, false_where_undefined}
 use Rattle.ess_semantics.specs.Meaning.{Env, meaning, meanings, items_under, with_pat, collect, domain_of, members_in, matrix_value}
+use Rattle.ess_semantics.specs.Constants.{operand_count}
 use Rattle.ess_semantics.proofs.Orders.{to_list-of_list, same-itself, same-equal}
 use Rattle.ess_semantics.proofs.Sorting.{Distinct, holds-sorted_once, twice-distinct}
 use Rattle.ess_semantics.proofs.Tests.{and-left, and-right, and-both, not-true}
 use Rattle.ess_rules_laws.proofs.Agreement.{look-itself}
-use Rattle.ess_guard_laws.specs.IndexDomains.{number_of}
 use Rattle.ess_guard_laws.specs.Conditions.{some_item, agree, agree_all, function_conditions, have_members, are_disjoint, is_single_set, partition_conditions, has_size, matrix_conditions}
 use Rattle.ess_guard_laws.specs.Holds.{Hold}
 use Rattle.ess_guard_laws.proofs.Holding.{hold-append, unless-holds}
@@ -211,7 +211,7 @@ partition-holds x y es env h = go (all_some (meanings es env)) refl h
 -- ---- matrices
 
 -- Operands are as many as their values.
-pub number-of-values : (es : Exs) (env : Env) (ws : List Value) → all_some (meanings es env) ≡ Some ws → number_of es ≡ length ws
+pub number-of-values : (es : Exs) (env : Env) (ws : List Value) → all_some (meanings es env) ≡ Some ws → operand_count es ≡ length ws
 number-of-values no_exs env ws e = ap length (sym (no-values ws e))
 number-of-values (more_exs s es) env ws e =
     let r = first-value (meaning s env) (all_some (meanings es env)) ws e in
@@ -243,7 +243,7 @@ matrix-holds x es d env h = go (all_some (meanings es env)) (members_in (domain_
     go : (o p : Option (List Value)) → all_some (meanings es env) ≡ o → members_in (domain_of d env) ≡ p → is_some (and_then o (matrix_value p)) ≡ true → Hold (matrix_conditions x es d) env
     go None p e f h = cc
     go (Some ws) None e f h = cc
-    go (Some ws) (Some is) e f h = unless-holds (has_size d (number_of es)) _ env
-        (ap (λ o. as_truth (false_where_undefined true (value_of_node (binary Op2.Eq) (o ∷ Some (number (pos (number_of es))) ∷ [])))) (count-means x d env is f)
+    go (Some ws) (Some is) e f h = unless-holds (has_size d (operand_count es)) _ env
+        (ap (λ o. as_truth (false_where_undefined true (value_of_node (binary Op2.Eq) (o ∷ Some (number (pos (operand_count es))) ∷ [])))) (count-means x d env is f)
         ∙ ap (λ n. same (number (pos (length is))) (number (pos n))) (number-of-values es env ws e ∙ sym (eqb-true (length is) (length ws) (when-some (nat_eq (length is) (length ws)) _ h)))
         ∙ same-itself (number (pos (length is))))

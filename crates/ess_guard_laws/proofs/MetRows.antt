@@ -4,14 +4,15 @@ use Rattle.ess_semantics.specs.declared.words.Op2.{Op2}
 use Rattle.ess_semantics.specs.declared.words.Fun.{Fun}
 use Rattle.ess_semantics.specs.Values.{Text, Value, items_of}
 use Rattle.ess_semantics.specs.Names.{Names}
-use Rattle.ess_semantics.specs.Trees.{Step, by_value, to_component, to_field, Op, binary, word, index, tuple_literal, matrix_literal, function_literal, partition_literal, both_ends, name_pat, Pat, Ex, Exs, number_ex, truth_ex, name_ex, node_ex, matrix_ex, comp_ex, cell_ex, seen_ex, no_exs, more_exs, Gens, no_gens, over, from, cond, Dom, int_dom, matrix_dom, more_doms, ex2, fun1}
+use Rattle.ess_semantics.specs.Trees.{Step, by_value, to_component, to_field, Op, binary, word, index, tuple_literal, matrix_literal, function_literal, partition_literal, both_ends, name_pat, Pat, Ex, Exs, number_ex, truth_ex, name_ex, node_ex, matrix_ex, comp_ex, cell_ex, seen_ex, no_exs, more_exs, Gens, no_gens, over, from, cond, Dom, bool_dom, int_dom, name_dom, matrix_dom, more_doms, ex2, fun1}
 use Rattle.ess_semantics.specs.Operators.{as_truth}
 use Rattle.ess_semantics.specs.Meaning.{Env, meaning, domain_of, members_in, with_pat}
 use Rattle.ess_semantics.specs.Contexts.{Each, EachOf, EachIn, Guarded, guards}
 use Rattle.ess_semantics.specs.Meets.{Meets, MeetsAll, MeetsGens, MeetsDom}
+use Rattle.ess_semantics.specs.Constants.{operand_count}
 use Rattle.ess_rules_laws.proofs.Bindings.{each-of-map, each-in-map}
 use Rattle.ess_guard_laws.specs.Origins.{Origin, is_number, is_sure}
-use Rattle.ess_guard_laws.specs.IndexDomains.{number_of, item_dom, dom_behind, dom_followed, first_index, index_dom}
+use Rattle.ess_guard_laws.specs.IndexDomains.{item_dom, dom_behind, dom_followed, first_index, are_plain_bounds, plain_axis, index_dom}
 use Rattle.ess_guard_laws.specs.Conditions.{conds, chained, all_of, every, given_that, unless, nil_ex, as_number, is_not_zero, is_above_zero, power_conditions, has_items, has_item, some_item, is_argument, agree, agree_all, function_conditions, have_members, are_disjoint, is_single_set, partition_conditions, has_size, matrix_conditions, in_dom, at_step, index_conditions, path_conditions, own}
 
 -- ---- conditions
@@ -73,7 +74,8 @@ gens-map (cond c gs) env P Q f m = (m.0, λ t. gens-map gs env P Q f (m.1 t))
 
 -- ---- Booleans of conditions
 
-conds-met : (cs : List Ex) (env : Env) (P : Env → Type 0) → Met cs env → P env → MeetsGens (conds cs) env P
+-- Conditions as generators.
+pub conds-met : (cs : List Ex) (env : Env) (P : Env → Type 0) → Met cs env → P env → MeetsGens (conds cs) env P
 conds-met [] env P m p = p
 conds-met (c ∷ cs) env P m p = (m.0, λ t. conds-met cs env P m.1 p)
 
@@ -166,8 +168,8 @@ over-any-met x e d env m f = (m, each-of-always (members_in (domain_of d env)) _
 
 -- The condition of a matrix literal.
 pub matrix-met : (x : Text) (es : Exs) (d : Dom) (env : Env) → MeetsDom d env → Met (matrix_conditions x es d) env
-matrix-met x es d env m = met-unless (has_size d (number_of es)) _ env
-    (two-met true (binary Op2.Eq) (fun1 false Fun.Sum (comp_ex (number_ex (pos 1)) (over (name_pat x) d no_gens))) (number_ex (pos (number_of es))) env (one-met false (word Fun.Sum) (comp_ex (number_ex (pos 1)) (over (name_pat x) d no_gens)) env (over-any-met x (number_ex (pos 1)) d env m (λ h. tt))) tt)
+matrix-met x es d env m = met-unless (has_size d (operand_count es)) _ env
+    (two-met true (binary Op2.Eq) (fun1 false Fun.Sum (comp_ex (number_ex (pos 1)) (over (name_pat x) d no_gens))) (number_ex (pos (operand_count es))) env (one-met false (word Fun.Sum) (comp_ex (number_ex (pos 1)) (over (name_pat x) d no_gens)) env (over-any-met x (number_ex (pos 1)) d env m (λ h. tt))) tt)
 
 -- ---- indices
 
@@ -199,11 +201,21 @@ first-index-met : (o : Option Dom) (env : Env) → DomMet o env → DomMet (firs
 first-index-met (Some (matrix_dom (more_doms i is) d)) env m = m.0.0
 first-index-met o env m = tt
 
+plain-met : (o : Option Dom) (env : Env) → DomMet o env → DomMet (plain_axis o) env
+plain-met (Some bool_dom) env h = h
+plain-met (Some (int_dom rs es)) env h = go (are_plain_bounds es)
+  where
+    go : (t : Bool) → DomMet (if t then Some (int_dom rs es) else None) env
+    go true = h
+    go false = tt
+plain-met (Some (name_dom a)) env h = h
+plain-met o env h = tt
+
 index-dom-met : (m : Ex) (env : Env) → Meets m env → DomMet (index_dom m) env
 index-dom-met (node_ex false matrix_literal es) env h = (tt, (tt, tt))
 index-dom-met (matrix_ex es d) env h = h.1
 index-dom-met (comp_ex e gs) env h = (tt, ((gens-map gs env _ _ (λ here q. tt) h, tt), tt))
-index-dom-met m env h = first-index-met (dom_followed m) env (followed-met m env h)
+index-dom-met m env h = plain-met (first_index (dom_followed m)) env (first-index-met (dom_followed m) env (followed-met m env h))
 
 one-index-met : (k : Names Origin) (x : Text) (o : Option Dom) (m i : Ex) (env : Env) → DomMet o env → Meets m env → Meets i env → Met (index_conditions k x o m i) env
 one-index-met k x (Some d) m i env h p q = met-unless (is_sure k i d) (in_dom x i d) env (in-dom-met x i d env q h)

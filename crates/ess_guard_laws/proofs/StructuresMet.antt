@@ -5,7 +5,7 @@ use Rattle.ess_semantics.specs.Values.{Text}
 use Rattle.ess_semantics.specs.Names.{Names}
 use Rattle.ess_semantics.specs.Trees.{Op, binary, Ex, Exs, number_ex, truth_ex, name_ex, node_ex, matrix_ex, comp_ex, cell_ex, seen_ex, no_exs, more_exs, Gens, no_gens, over, from, cond, Dom, Doms, bool_dom, int_dom, name_dom, tuple_dom, record_dom, matrix_dom, set_dom, mset_dom, function_dom, relation_dom, partition_dom, no_doms, more_doms}
 use Rattle.ess_semantics.specs.Operators.{as_truth}
-use Rattle.ess_semantics.specs.Meaning.{Env, meaning, domain_of, members_in, with_pat}
+use Rattle.ess_semantics.specs.Meaning.{Env, meaning, meanings, domain_of, members_in, with_pat}
 use Rattle.ess_semantics.specs.Contexts.{EachOf, EachIn, guards}
 use Rattle.ess_semantics.specs.Meets.{Meets, MeetsAll, MeetsGens, MeetsDom, MeetsDoms}
 use Rattle.ess_semantics.proofs.Tests.{and-right, not-true}
@@ -45,6 +45,10 @@ module _ (natural : Bool) (x y : Text) where
   -- Guarded, a tree means the same.
   abbrev pub same : (e : Ex) (k : Names Origin) (env : Env) → meaning (G k e) env ≡ meaning e env
   same = M.same natural x y (own-holds x y) (matrix-holds x)
+
+  -- So do operands.
+  abbrev pub same-all : (es : Exs) (k : Names Origin) (env : Env) → meanings (Gs k es) env ≡ meanings es env
+  same-all = M.same-all natural x y (own-holds x y) (matrix-holds x)
 
   -- A domain too.
   abbrev pub same-dom : (d : Dom) (k : Names Origin) (env : Env) → domain_of (guarded_dom natural x y k d) env ≡ domain_of d env

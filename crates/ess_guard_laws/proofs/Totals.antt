@@ -7,9 +7,9 @@ use Rattle.ess_semantics.specs.Operators.{value_of_node}
 use Rattle.ess_semantics.specs.Tables.{Table}
 use Rattle.ess_semantics.specs.Meaning.{Env, TypeEntry, bind, meaning, meanings, domain_of, members_in}
 use Rattle.ess_semantics.specs.Totality.{HasValue, Total, TotalAll, TotalUnder, TotalDom, TotalDoms}
+use Rattle.ess_semantics.specs.Constants.{operand_count}
 use Rattle.ess_rules_laws.proofs.Simulation.{Vals, E}
 use Rattle.ess_guard_laws.specs.Origins.{Origin, with_any, with_over, known_behind}
-use Rattle.ess_guard_laws.specs.IndexDomains.{number_of}
 use Rattle.ess_guard_laws.specs.Conditions.{chained, matrix_conditions, own}
 use Rattle.ess_guard_laws.specs.Guard.{connects, guarded, guarded_all, guarded_gens, guarded_dom, guarded_doms, conditions, conditions_all, conditions_gens, conditions_dom, conditions_doms}
 use Rattle.ess_guard_laws.specs.Covered.{covers, asks_nothing, AskNothing, Covered, CoveredAll, CoveredGens, CoveredDom, CoveredDoms}
@@ -26,7 +26,8 @@ behind-two : (cs ds : List Ex) (env : Env) (P Q : Type 0) → Behind cs env P �
 behind-two cs ds env P Q p q = behind-append cs ds env P (P × Q) (λ t. behind-map ds env Q (P × Q) (λ u. (t, u)) q) p
 
 -- A node of each kind.
-node-choice : (b c : Bool) (cs : List Ex) (n t : Ex) (env : Env) → (c ≡ true → Total n env) → (c ≡ false → Behind cs env (Total n env)) → (c ≡ false → Behind cs env (Total t env)) →
+node-choice : (b c : Bool) (cs : List Ex) (n t : Ex) (env : Env) → (c ≡ true → Total n env) → (c ≡ false → Behind cs env (Total n env)) →
+    (c ≡ false → Behind cs env (Total t env)) →
     Behind (if b || c then [] else cs) env (Total (if b && not c then chained cs t else n) env)
 node-choice true true cs n t env f g h = f refl
 node-choice true false cs n t env f g h = chained-total cs t env (h refl)
@@ -52,7 +53,8 @@ module _ (x y : Text) (pl : Bool) (ts : List TypeEntry) (cs : Names Table) where
   abbrev Cs : Names Origin → Exs → List Ex
   Cs k es = conditions_all false x y k false es
 
-  abbrev own-total : (k : Names Origin) (op : Op) (es : Exs) (g : Vals) → Known k g → covers op es ≡ true → TotalAll es (M g) → Behind (own k x y op es) (M g) (HasValue (value_of_node op (meanings es (M g))) (meanings es (M g)))
+  abbrev own-total : (k : Names Origin) (op : Op) (es : Exs) (g : Vals) → Known k g → covers op es ≡ true → TotalAll es (M g) →
+      Behind (own k x y op es) (M g) (HasValue (value_of_node op (meanings es (M g))) (meanings es (M g)))
   own-total = O.own-total x y pl ts cs
 
   -- ---- whole trees
@@ -71,7 +73,8 @@ module _ (x y : Text) (pl : Bool) (ts : List TypeEntry) (cs : Names Table) where
   pub asked-none : (e : Ex) (k : Names Origin) (env : Env) (P : Type 0) → asks_nothing e ≡ true → Behind (C k e) env P → P
   asked-none e k env P t b = subst (λ l. Behind l env P) (asks-none e k t) b
 
-  number-kept : (es : Exs) (k : Names Origin) → number_of (Gs k es) ≡ number_of es
+  -- Operands stay as many.
+  pub number-kept : (es : Exs) (k : Names Origin) → operand_count (Gs k es) ≡ operand_count es
   number-kept no_exs k = refl
   number-kept (more_exs e es) k = ap suc (number-kept es k)
 
@@ -81,17 +84,22 @@ module _ (x y : Text) (pl : Bool) (ts : List TypeEntry) (cs : Names Table) where
     total (number_ex n) k g h v = tt
     total (truth_ex b) k g h v = tt
     total (name_ex a) k g h v = tt
-    total (node_ex b op es) k g h v = node-choice b (connects op) (Cs k es ++ own k x y op (Gs k es)) (node_ex b op (Gs k es)) (node_ex true op (Gs k es)) (M g)
+    total (node_ex b op es) k g h v =
+        node-choice b (connects op) (Cs k es ++ own k x y op (Gs k es)) (node_ex b op (Gs k es)) (node_ex true op (Gs k es)) (M g)
         (λ c. ((λ q. connects-some op (meanings (Gs k es) (M g)) c), total-truths es k g h (subst (λ z. AskNothing z es) c v.1) v.2))
         (λ c. behind-append (Cs k es) (own k x y op (Gs k es)) (M g) (TotalAll (Gs k es) (M g)) (Total (node_ex b op (Gs k es)) (M g))
-        (λ t. behind-map (own k x y op (Gs k es)) (M g) _ _ (λ q. (q, t)) (own-total k op (Gs k es) g h (covers-kept false x y op es k v.0) t)) (total-all es k g h v.2))
+        (λ t. behind-map (own k x y op (Gs k es)) (M g) _ _ (λ q. (q, t))
+        (own-total k op (Gs k es) g h (covers-kept false x y op es k v.0) t)) (total-all es k g h v.2))
         (λ c. behind-append (Cs k es) (own k x y op (Gs k es)) (M g) (TotalAll (Gs k es) (M g)) (Total (node_ex true op (Gs k es)) (M g))
-        (λ t. behind-map (own k x y op (Gs k es)) (M g) _ _ (λ q. (q, t)) (own-total k op (Gs k es) g h (covers-kept false x y op es k v.0) t)) (total-all es k g h v.2))
+        (λ t. behind-map (own k x y op (Gs k es)) (M g) _ _ (λ q. (q, t))
+        (own-total k op (Gs k es) g h (covers-kept false x y op es k v.0) t)) (total-all es k g h v.2))
     total (matrix_ex es d) k g h v = behind-append (Cs k es) _ (M g) (TotalAll (Gs k es) (M g)) _
         (λ t. behind-append (conditions_dom false x y k d) _ (M g) (TotalDom (guarded_dom false x y k d) (M g)) _
-        (λ u. behind-map (matrix_conditions x es (guarded_dom false x y k d)) (M g) _ _ (λ f. ((λ m. f), t, u)) (matrix-total x es (Gs k es) (guarded_dom false x y k d) (M g) (sym (number-kept es k)) u))
+        (λ u. behind-map (matrix_conditions x es (guarded_dom false x y k d)) (M g) _ _ (λ f. ((λ m. f), t, u))
+        (matrix-total x es (Gs k es) (guarded_dom false x y k d) (M g) (sym (number-kept es k)) u))
         (total-dom d k g h v.1)) (total-all es k g h v.0)
-    total (comp_ex e gs) k g h v = total-gens gs k g (G (known_behind gs k) e) (C (known_behind gs k) e) (λ i q. total e (known_behind gs k) i q v.0) h v.1
+    total (comp_ex e gs) k g h v =
+        total-gens gs k g (G (known_behind gs k) e) (C (known_behind gs k) e) (λ i q. total e (known_behind gs k) i q v.0) h v.1
     total (cell_ex true n es) k g h v = chained-total (Cs k es) (cell_ex true n (Gs k es)) (M g) (total-all es k g h v)
     total (cell_ex false n es) k g h v = total-all es k g h v
     total (seen_ex r d ns es) k g h v = tt
@@ -99,46 +107,68 @@ module _ (x y : Text) (pl : Bool) (ts : List TypeEntry) (cs : Names Table) where
     -- The same of operands.
     pub total-all : (es : Exs) (k : Names Origin) (g : Vals) → Known k g → CoveredAll es → Behind (Cs k es) (M g) (TotalAll (Gs k es) (M g))
     total-all no_exs k g h v = tt
-    total-all (more_exs e es) k g h v = behind-two (C k e) (Cs k es) (M g) (Total (G k e) (M g)) (TotalAll (Gs k es) (M g)) (total e k g h v.0) (total-all es k g h v.1)
+    total-all (more_exs e es) k g h v =
+        behind-two (C k e) (Cs k es) (M g) (Total (G k e) (M g)) (TotalAll (Gs k es) (M g)) (total e k g h v.0) (total-all es k g h v.1)
 
     -- The same of the operands of connectives.
     pub total-truths : (es : Exs) (k : Names Origin) (g : Vals) → Known k g → AskNothing true es → CoveredAll es → TotalAll (Gs k es) (M g)
     total-truths no_exs k g h a v = tt
-    total-truths (more_exs e es) k g h a v = (asked-none e k (M g) (Total (G k e) (M g)) a.0 (total e k g h v.0), total-truths es k g h a.1 v.1)
+    total-truths (more_exs e es) k g h a v =
+        (asked-none e k (M g) (Total (G k e) (M g)) a.0 (total e k g h v.0), total-truths es k g h a.1 v.1)
 
     -- The same of generators.
-    pub total-gens : (gs : Gens) (k : Names Origin) (g : Vals) (a : Ex) (ds : List Ex) → ((i : Vals) → Known (known_behind gs k) i → Behind ds (M i) (Total a (M i))) → Known k g → CoveredGens gs →
+    pub total-gens : (gs : Gens) (k : Names Origin) (g : Vals) (a : Ex) (ds : List Ex) →
+        ((i : Vals) → Known (known_behind gs k) i → Behind ds (M i) (Total a (M i))) → Known k g → CoveredGens gs →
         Behind (conditions_gens false x y k gs ds) (M g) (TotalUnder (guarded_gens false x y k gs) (M g) (λ here. Total a here))
     total-gens no_gens k g a ds f h v = f g h
-    total-gens (over p d gs) k g a ds f h v = behind-append (conditions_dom false x y k d) _ (M g) (TotalDom (guarded_dom false x y k d) (M g)) _
-        (λ t. over-behind p (guarded_dom false x y k d) (conditions_gens false x y (with_over p d k) gs ds) (M g) (λ v. TotalUnder (guarded_gens false x y (with_over p d k) gs) (M (bind p v g)) (λ here. Total a here)) t
+    total-gens (over p d gs) k g a ds f h v =
+        behind-append (conditions_dom false x y k d) _ (M g) (TotalDom (guarded_dom false x y k d) (M g)) _
+        (λ t. over-behind p (guarded_dom false x y k d) (conditions_gens false x y (with_over p d k) gs ds) (M g)
+        (λ v. TotalUnder (guarded_gens false x y (with_over p d k) gs) (M (bind p v g)) (λ here. Total a here)) t
         (each-member (members_in (domain_of (guarded_dom false x y k d) (M g))) _
-        (λ vs w e q. total-gens gs (with_over p d k) (bind p w g) a ds f (K.known-over pl ts cs p d w k g (g, vs, ap members_in (sym (S.same-dom false x y d k (M g))) ∙ e, q) h) v.1)))
+        (λ vs w e q. total-gens gs (with_over p d k) (bind p w g) a ds f
+        (K.known-over pl ts cs p d w k g (g, vs, ap members_in (sym (S.same-dom false x y d k (M g))) ∙ e, q) h) v.1)))
         (total-dom d k g h v.0)
     total-gens (from p e gs) k g a ds f h v = behind-append (C k e) _ (M g) (Total (G k e) (M g)) _
-        (λ t. from-behind p (G k e) (conditions_gens false x y (with_any p k) gs ds) (M g) (λ v. TotalUnder (guarded_gens false x y (with_any p k) gs) (M (bind p v g)) (λ here. Total a here)) t
-        (each-in-always (meaning (G k e) (M g)) _ (λ w. total-gens gs (with_any p k) (bind p w g) a ds f (K.known-any pl ts cs p w k g h) v.1)))
+        (λ t. from-behind p (G k e) (conditions_gens false x y (with_any p k) gs ds) (M g)
+        (λ v. TotalUnder (guarded_gens false x y (with_any p k) gs) (M (bind p v g)) (λ here. Total a here)) t
+        (each-in-always (meaning (G k e) (M g)) _
+        (λ w. total-gens gs (with_any p k) (bind p w g) a ds f (K.known-any pl ts cs p w k g h) v.1)))
         (total e k g h v.0)
-    total-gens (cond c gs) k g a ds f h v = given-behind (G k c) (conditions_gens false x y k gs ds) (M g) (TotalUnder (guarded_gens false x y k gs) (M g) (λ here. Total a here))
+    total-gens (cond c gs) k g a ds f h v =
+        given-behind (G k c) (conditions_gens false x y k gs ds) (M g)
+        (TotalUnder (guarded_gens false x y k gs) (M g) (λ here. Total a here))
         (asked-none c k (M g) (Total (G k c) (M g)) v.0 (total c k g h v.1)) (total-gens gs k g a ds f h v.2)
 
     -- The same of a domain.
-    pub total-dom : (d : Dom) (k : Names Origin) (g : Vals) → Known k g → CoveredDom d → Behind (conditions_dom false x y k d) (M g) (TotalDom (guarded_dom false x y k d) (M g))
+    pub total-dom : (d : Dom) (k : Names Origin) (g : Vals) → Known k g → CoveredDom d →
+        Behind (conditions_dom false x y k d) (M g) (TotalDom (guarded_dom false x y k d) (M g))
     total-dom bool_dom k g h v = tt
     total-dom (int_dom rs es) k g h v = total-all es k g h v
     total-dom (name_dom a) k g h v = tt
     total-dom (tuple_dom ds) k g h v = total-doms ds k g h v
     total-dom (record_dom fs ds) k g h v = total-doms ds k g h v
-    total-dom (matrix_dom is d) k g h v = behind-two (conditions_doms false x y k is) (conditions_dom false x y k d) (M g) _ _ (total-doms is k g h v.0) (total-dom d k g h v.1)
-    total-dom (set_dom ms es d) k g h v = behind-two (Cs k es) (conditions_dom false x y k d) (M g) _ _ (total-all es k g h v.0) (total-dom d k g h v.1)
-    total-dom (mset_dom ms es d) k g h v = behind-two (Cs k es) (conditions_dom false x y k d) (M g) _ _ (total-all es k g h v.0) (total-dom d k g h v.1)
+    total-dom (matrix_dom is d) k g h v =
+        behind-two (conditions_doms false x y k is) (conditions_dom false x y k d) (M g) _ _ (total-doms is k g h v.0)
+        (total-dom d k g h v.1)
+    total-dom (set_dom ms es d) k g h v =
+        behind-two (Cs k es) (conditions_dom false x y k d) (M g) _ _ (total-all es k g h v.0) (total-dom d k g h v.1)
+    total-dom (mset_dom ms es d) k g h v =
+        behind-two (Cs k es) (conditions_dom false x y k d) (M g) _ _ (total-all es k g h v.0) (total-dom d k g h v.1)
     total-dom (function_dom ms es d c) k g h v = behind-append (Cs k es) _ (M g) (TotalAll (Gs k es) (M g)) _
-        (λ t. behind-append (conditions_dom false x y k d) (conditions_dom false x y k c) (M g) (TotalDom (guarded_dom false x y k d) (M g)) _
-        (λ u. behind-map (conditions_dom false x y k c) (M g) (TotalDom (guarded_dom false x y k c) (M g)) _ (λ w. (t, u, w)) (total-dom c k g h v.2)) (total-dom d k g h v.1)) (total-all es k g h v.0)
-    total-dom (relation_dom ms es ds) k g h v = behind-two (Cs k es) (conditions_doms false x y k ds) (M g) _ _ (total-all es k g h v.0) (total-doms ds k g h v.1)
-    total-dom (partition_dom ms es d) k g h v = behind-two (Cs k es) (conditions_dom false x y k d) (M g) _ _ (total-all es k g h v.0) (total-dom d k g h v.1)
+        (λ t. behind-append (conditions_dom false x y k d) (conditions_dom false x y k c) (M g)
+        (TotalDom (guarded_dom false x y k d) (M g)) _
+        (λ u. behind-map (conditions_dom false x y k c) (M g) (TotalDom (guarded_dom false x y k c) (M g)) _ (λ w. (t, u, w))
+        (total-dom c k g h v.2)) (total-dom d k g h v.1)) (total-all es k g h v.0)
+    total-dom (relation_dom ms es ds) k g h v =
+        behind-two (Cs k es) (conditions_doms false x y k ds) (M g) _ _ (total-all es k g h v.0) (total-doms ds k g h v.1)
+    total-dom (partition_dom ms es d) k g h v =
+        behind-two (Cs k es) (conditions_dom false x y k d) (M g) _ _ (total-all es k g h v.0) (total-dom d k g h v.1)
 
     -- The same of several domains.
-    pub total-doms : (ds : Doms) (k : Names Origin) (g : Vals) → Known k g → CoveredDoms ds → Behind (conditions_doms false x y k ds) (M g) (TotalDoms (guarded_doms false x y k ds) (M g))
+    pub total-doms : (ds : Doms) (k : Names Origin) (g : Vals) → Known k g → CoveredDoms ds →
+        Behind (conditions_doms false x y k ds) (M g) (TotalDoms (guarded_doms false x y k ds) (M g))
     total-doms no_doms k g h v = tt
-    total-doms (more_doms d ds) k g h v = behind-two (conditions_dom false x y k d) (conditions_doms false x y k ds) (M g) _ _ (total-dom d k g h v.0) (total-doms ds k g h v.1)
+    total-doms (more_doms d ds) k g h v =
+        behind-two (conditions_dom false x y k d) (conditions_doms false x y k ds) (M g) _ _ (total-dom d k g h v.0)
+        (total-doms ds k g h v.1)

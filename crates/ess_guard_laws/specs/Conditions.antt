@@ -8,8 +8,9 @@ use Rattle.ess_semantics.specs.Values.{Text}
 use Rattle.ess_semantics.specs.Order.{same_int}
 use Rattle.ess_semantics.specs.Names.{Names}
 use Rattle.ess_semantics.specs.Trees.{Step, by_value, to_component, to_field, Op, binary, word, index, tuple_literal, set_literal, mset_literal, function_literal, partition_literal, matrix_literal, both_ends, repr, more_reprs, name_pat, Ex, Exs, number_ex, truth_ex, name_ex, node_ex, comp_ex, seen_ex, no_exs, more_exs, Gens, no_gens, over, from, cond, Dom, int_dom, function_dom, ex2, fun1}
+use Rattle.ess_semantics.specs.Constants.{operand_count}
 use Rattle.ess_guard_laws.specs.Origins.{Origin, is_number, is_sure}
-use Rattle.ess_guard_laws.specs.IndexDomains.{number_of, index_dom}
+use Rattle.ess_guard_laws.specs.IndexDomains.{index_dom}
 
 -- ---- what is built of conditions
 
@@ -79,7 +80,8 @@ quotient_conditions k b = unless (is_not_zero b) (ex2 true Op2.Ne (as_number k b
 abbrev pub power_conditions : Names Origin → Ex → Ex → List Ex
 power_conditions k a b =
     if is_above_zero b then [] else
-    ex2 true Op2.Ge (as_number k b) nil_ex ∷ unless (is_not_zero a) (ex2 true Op2.Or (ex2 true Op2.Ne (as_number k b) nil_ex) (ex2 true Op2.Ne (as_number k a) nil_ex))
+    ex2 true Op2.Ge (as_number k b) nil_ex ∷ unless (is_not_zero a)
+    (ex2 true Op2.Or (ex2 true Op2.Ne (as_number k b) nil_ex) (ex2 true Op2.Ne (as_number k a) nil_ex))
 
 -- ---- containers
 
@@ -137,7 +139,8 @@ have_members x (more_exs s ss) = some_item x s ++ have_members x ss
 
 -- That no two parts share a member: `allDiff([x | y <- [s1, .., sk], x <- y])`.
 abbrev pub are_disjoint : Text → Text → Exs → Ex
-are_disjoint x y ss = fun1 true Fun.AllDiff (comp_ex (name_ex x) (from (name_pat y) (node_ex false matrix_literal ss) (from (name_pat x) (name_ex y) no_gens)))
+are_disjoint x y ss = fun1 true Fun.AllDiff
+    (comp_ex (name_ex x) (from (name_pat y) (node_ex false matrix_literal ss) (from (name_pat x) (name_ex y) no_gens)))
 
 -- Whether they are no sets, or a single set literal.
 abbrev pub is_single_set : Exs → Bool
@@ -157,13 +160,16 @@ has_size d n = false
 -- `sum([1 | x : D]) = n`: a matrix literal has an item for each index.
 abbrev pub matrix_conditions : Text → Exs → Dom → List Ex
 matrix_conditions x es d =
-    unless (has_size d (number_of es)) (ex2 true Op2.Eq (fun1 false Fun.Sum (comp_ex (number_ex (pos 1)) (over (name_pat x) d no_gens))) (number_ex (pos (number_of es))))
+    unless (has_size d (operand_count es))
+    (ex2 true Op2.Eq (fun1 false Fun.Sum (comp_ex (number_ex (pos 1)) (over (name_pat x) d no_gens)))
+    (number_ex (pos (operand_count es))))
 
 -- ---- indices
 
 -- `i in D`: `a <= i /\ i <= b` for one range, else that i is one of the list of the members.
 abbrev pub in_dom : Text → Ex → Dom → Ex
-in_dom x i (int_dom (both_ends ∷ []) (more_exs a (more_exs b no_exs))) = ex2 true Op2.And (ex2 true Op2.Le (as_number [] a) i) (ex2 true Op2.Le i (as_number [] b))
+in_dom x i (int_dom (both_ends ∷ []) (more_exs a (more_exs b no_exs))) =
+    ex2 true Op2.And (ex2 true Op2.Le (as_number [] a) i) (ex2 true Op2.Le i (as_number [] b))
 in_dom x i d = ex2 true Op2.Member i (comp_ex (name_ex x) (over (name_pat x) d no_gens))
 
 -- A matrix at an index, and a step of a path.

@@ -1,33 +1,18 @@
 -- Trees whose partial operators are all among those that are known to be total under their conditions.
-use Rattle.std.specs.Prelude.{◌≡◌, Bool, true, false, ◌&&◌, ◌||◌, List, [], ◌∷◌, Option, Some}
-use Rattle.ess_semantics.specs.Trees.{Step, by_value, to_component, to_field, Op, index, application, function_literal, partition_literal, matrix_literal, Ex, Exs, number_ex, truth_ex, name_ex, node_ex, matrix_ex, comp_ex, cell_ex, seen_ex, no_exs, more_exs, Gens, no_gens, over, from, cond, Dom, Doms, bool_dom, int_dom, name_dom, tuple_dom, record_dom, matrix_dom, set_dom, mset_dom, function_dom, relation_dom, partition_dom, no_doms, more_doms}
+use Rattle.std.specs.Prelude.{◌≡◌, Bool, true, false, ◌&&◌, ◌||◌, List, [], ◌∷◌, is_some}
+use Rattle.ess_semantics.specs.declared.words.Op2.{Op2}
+use Rattle.ess_semantics.specs.declared.words.Fun.{Fun}
+use Rattle.ess_semantics.specs.Trees.{Step, by_value, to_component, to_field, Op, binary, word, index, application, tuple_literal, function_literal, relation_literal, Ex, Exs, number_ex, truth_ex, name_ex, node_ex, matrix_ex, comp_ex, cell_ex, seen_ex, no_exs, more_exs, Gens, no_gens, over, from, cond, Dom, Doms, bool_dom, int_dom, name_dom, tuple_dom, record_dom, matrix_dom, set_dom, mset_dom, function_dom, relation_dom, partition_dom, no_doms, more_doms}
 use Rattle.ess_semantics.specs.Meaning.{is_bool_dom}
-use Rattle.ess_guard_laws.specs.IndexDomains.{dom_followed, first_index}
+use Rattle.ess_guard_laws.specs.IndexDomains.{index_dom}
 use Rattle.ess_guard_laws.specs.Conditions.{at_step}
 use Rattle.ess_guard_laws.specs.Guard.{connects}
 
 -- ---- indices
 
--- Numbers, names and single cells.
-abbrev pub are_plain_bounds : Exs → Bool
-are_plain_bounds no_exs = true
-are_plain_bounds (more_exs (number_ex n) es) = are_plain_bounds es
-are_plain_bounds (more_exs (name_ex a) es) = are_plain_bounds es
-are_plain_bounds (more_exs (cell_ex b n no_exs) es) = are_plain_bounds es
-are_plain_bounds es = false
-
--- An index domain with such bounds.
-abbrev pub is_plain_axis : Option Dom → Bool
-is_plain_axis (Some bool_dom) = true
-is_plain_axis (Some (int_dom rs es)) = are_plain_bounds es
-is_plain_axis (Some (name_dom a)) = true
-is_plain_axis o = false
-
--- Whether the form of a matrix term tells its index domain: of a list literal, a comprehension, and a declared matrix.
+-- Whether the form of a matrix term tells its index domain.
 abbrev pub has_axis : Ex → Bool
-has_axis (node_ex false matrix_literal es) = true
-has_axis (comp_ex e gs) = true
-has_axis m = is_plain_axis (first_index (dom_followed m))
+has_axis m = is_some (index_dom m)
 
 -- Whether it does so for each step by a value.
 abbrev pub path_has_axes : Ex → List Step → Exs → Bool
@@ -37,14 +22,37 @@ path_has_axes m (by_value ∷ qs) (more_exs i is) = has_axis m && path_has_axes 
 path_has_axes m (to_component c ∷ qs) is = path_has_axes (at_step (to_component c) m no_exs) qs is
 path_has_axes m (to_field a ∷ qs) is = path_has_axes (at_step (to_field a) m no_exs) qs is
 
+-- ---- pairs
+
+-- Whether the term is a pair.
+abbrev pub is_pair : Ex → Bool
+is_pair (node_ex false tuple_literal (more_exs a (more_exs b no_exs))) = true
+is_pair e = false
+
+-- Whether all are: what a literal of a function holds.
+abbrev pub are_pairs : Exs → Bool
+are_pairs no_exs = true
+are_pairs (more_exs e es) = is_pair e && are_pairs es
+
+-- ---- relations
+
+-- Whether the form of a term tells that it is a relation: of a view, of a literal, and of what operators make of a relation.
+abbrev pub is_relation : Ex → Bool
+is_relation (seen_ex r (relation_dom ms es ds) ns is) = true
+is_relation (node_ex false relation_literal es) = true
+is_relation (node_ex false (word Fun.ToRelation) (more_exs f no_exs)) = true
+is_relation (node_ex false (binary Op2.Union) (more_exs a (more_exs b no_exs))) = is_relation a
+is_relation (node_ex false (binary Op2.Intersect) (more_exs a (more_exs b no_exs))) = is_relation a
+is_relation (node_ex false (binary Op2.Minus) (more_exs a (more_exs b no_exs))) = is_relation a
+is_relation e = false
+
 -- ---- operators
 
 -- The operators that are.
 abbrev pub covers : Op → Exs → Bool
 covers (index qs) (more_exs m is) = path_has_axes m qs is
-covers application es = false
-covers function_literal es = false
-covers partition_literal es = false
+covers application (more_exs f es) = is_relation f
+covers function_literal es = are_pairs es
 covers op es = true
 
 -- Whether the expression is marked as a Boolean.

@@ -71,11 +71,13 @@ module _ (natural : Bool) (x y : Text) where
     guarded k (name_ex a) = name_ex a
     guarded k (node_ex b op es) =
         if b && not (connects op) then
-        chained (conditions_all k (opens op es) es ++ own_at k (opens op es && is_cell_index op es) op (guarded_all k es)) (node_ex true op (guarded_all k es)) else
+        chained (conditions_all k (opens op es) es ++ own_at k (opens op es && is_cell_index op es) op (guarded_all k es))
+        (node_ex true op (guarded_all k es)) else
         node_ex b op (guarded_all k es)
     guarded k (matrix_ex es d) = matrix_ex (guarded_all k es) (guarded_dom k d)
     guarded k (comp_ex e gs) = comp_ex (guarded (known_behind gs k) e) (guarded_gens k gs)
-    guarded k (cell_ex b n es) = if b then chained (conditions_all k false es) (cell_ex true n (guarded_all k es)) else cell_ex false n (guarded_all k es)
+    guarded k (cell_ex b n es) =
+        if b then chained (conditions_all k false es) (cell_ex true n (guarded_all k es)) else cell_ex false n (guarded_all k es)
     guarded k (seen_ex r d ns es) = seen_ex r d ns es
 
     -- The same of operands.
@@ -131,7 +133,8 @@ module _ (natural : Bool) (x y : Text) where
     -- The conditions of generators, one by one, and of what stands behind them, whose conditions are cs.
     pub conditions_gens : Names Origin → Gens → List Ex → List Ex
     conditions_gens k no_gens cs = cs
-    conditions_gens k (over p d gs) cs = conditions_dom k d ++ every (over p (guarded_dom k d) no_gens) (conditions_gens (with_over p d k) gs cs)
+    conditions_gens k (over p d gs) cs =
+        conditions_dom k d ++ every (over p (guarded_dom k d) no_gens) (conditions_gens (with_over p d k) gs cs)
     conditions_gens k (from p e gs) cs = conditions k false e ++ every (from p (guarded k e) no_gens) (conditions_gens (with_any p k) gs cs)
     conditions_gens k (cond c gs) cs = given_that (guarded k c) (conditions_gens k gs cs)
 

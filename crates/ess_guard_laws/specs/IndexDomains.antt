@@ -1,14 +1,12 @@
 -- The index domain of a matrix term, as its form tells it: of a literal, a comprehension, a declared matrix, and of what an
 -- index picks out of one.
-use Rattle.std.specs.Prelude.{ℕ, suc, Bool, true, false, List, [], ◌∷◌, pos, Option, Some, None}
+use Rattle.std.specs.Prelude.{Bool, true, false, ◌&&◌, if◌then◌else◌, List, [], ◌∷◌, pos, Option, Some, None}
 use Rattle.ess_semantics.specs.declared.words.ReprKind.{ReprKind}
+use Rattle.ess_semantics.specs.declared.words.Op1.{Op1}
+use Rattle.ess_semantics.specs.declared.words.Op2.{Op2}
 use Rattle.ess_semantics.specs.declared.words.Fun.{Fun}
-use Rattle.ess_semantics.specs.Trees.{Step, by_value, Op, index, matrix_literal, both_ends, repr, no_reprs, more_reprs, Ex, Exs, number_ex, node_ex, matrix_ex, comp_ex, seen_ex, no_exs, more_exs, Dom, Doms, int_dom, matrix_dom, no_doms, more_doms, fun1}
-
--- The number of operands.
-abbrev pub number_of : Exs → ℕ
-number_of no_exs = 0
-number_of (more_exs e es) = suc (number_of es)
+use Rattle.ess_semantics.specs.Trees.{Step, by_value, Op, unary, binary, index, matrix_literal, both_ends, repr, no_reprs, more_reprs, Ex, Exs, number_ex, name_ex, node_ex, matrix_ex, comp_ex, cell_ex, seen_ex, no_exs, more_exs, Dom, Doms, bool_dom, int_dom, name_dom, matrix_dom, no_doms, more_doms, fun1}
+use Rattle.ess_semantics.specs.Constants.{operand_count}
 
 -- `int(1..n)`
 abbrev pub one_up_to : Ex → Dom
@@ -38,12 +36,38 @@ abbrev pub first_index : Option Dom → Option Dom
 first_index (Some (matrix_dom (more_doms i is) d)) = Some i
 first_index o = None
 
+-- ---- plain index domains
+
+abbrev mutual
+  -- Numbers, names, cells, and sums, differences and products of these.
+  pub is_plain_bound : Ex → Bool
+  is_plain_bound (number_ex n) = true
+  is_plain_bound (name_ex a) = true
+  is_plain_bound (cell_ex b n es) = are_plain_bounds es
+  is_plain_bound (node_ex false (unary Op1.Minus) es) = are_plain_bounds es
+  is_plain_bound (node_ex false (binary Op2.Plus) es) = are_plain_bounds es
+  is_plain_bound (node_ex false (binary Op2.Minus) es) = are_plain_bounds es
+  is_plain_bound (node_ex false (binary Op2.Times) es) = are_plain_bounds es
+  is_plain_bound e = false
+
+  -- The same of several.
+  pub are_plain_bounds : Exs → Bool
+  are_plain_bounds no_exs = true
+  are_plain_bounds (more_exs e es) = is_plain_bound e && are_plain_bounds es
+
+-- An index domain with such bounds, which binds no names. Only such a one is copied out of a view.
+abbrev pub plain_axis : Option Dom → Option Dom
+plain_axis (Some bool_dom) = Some bool_dom
+plain_axis (Some (int_dom rs es)) = if are_plain_bounds es then Some (int_dom rs es) else None
+plain_axis (Some (name_dom a)) = Some (name_dom a)
+plain_axis o = None
+
 -- The index domain of a matrix term. Lists are numbered from 1.
 abbrev pub index_dom : Ex → Option Dom
-index_dom (node_ex false matrix_literal es) = Some (one_up_to (number_ex (pos (number_of es))))
+index_dom (node_ex false matrix_literal es) = Some (one_up_to (number_ex (pos (operand_count es))))
 index_dom (matrix_ex es d) = Some d
 index_dom (comp_ex e gs) = Some (one_up_to (fun1 false Fun.Sum (comp_ex (number_ex (pos 1)) gs)))
-index_dom m = first_index (dom_followed m)
+index_dom m = plain_axis (first_index (dom_followed m))
 
 -- ---- declared matrices of atoms
 
@@ -55,5 +79,7 @@ is_whole_index qs ds = false
 
 -- Whether it is a declared matrix of atoms at an index: a cell.
 abbrev pub is_cell_index : Op → Exs → Bool
-is_cell_index (index qs) (more_exs (seen_ex (repr ReprKind.Matrix (more_reprs (repr ReprKind.Atom rs) no_reprs)) (matrix_dom ds d) ns js) is) = is_whole_index qs ds
+is_cell_index (index qs)
+    (more_exs (seen_ex (repr ReprKind.Matrix (more_reprs (repr ReprKind.Atom rs) no_reprs)) (matrix_dom ds d) ns js) is) =
+    is_whole_index qs ds
 is_cell_index op es = false

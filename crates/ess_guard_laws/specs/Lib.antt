@@ -4,4 +4,7 @@ pub mod Conditions
 pub mod Guard
 pub mod Holds
 pub mod Covered
+pub mod Supplied
+pub mod Reserved
+pub mod LiteralsFit
 pub mod Laws

@@ -87,9 +87,11 @@ abbrev mutual
 abbrev pub same_bound : Ex → Ex → Bool
 same_bound (number_ex n) (number_ex m) = same_int n m
 same_bound (cell_ex false a no_exs) (cell_ex false b no_exs) = same_text a b
-same_bound (node_ex false (binary Op2.Plus) (more_exs a (more_exs b no_exs))) (node_ex false (binary Op2.Plus) (more_exs c (more_exs d no_exs))) =
+same_bound (node_ex false (binary Op2.Plus) (more_exs a (more_exs b no_exs)))
+    (node_ex false (binary Op2.Plus) (more_exs c (more_exs d no_exs))) =
     same_bound a c && same_bound b d
-same_bound (node_ex false (binary Op2.Minus) (more_exs a (more_exs b no_exs))) (node_ex false (binary Op2.Minus) (more_exs c (more_exs d no_exs))) =
+same_bound (node_ex false (binary Op2.Minus) (more_exs a (more_exs b no_exs)))
+    (node_ex false (binary Op2.Minus) (more_exs c (more_exs d no_exs))) =
     same_bound a c && same_bound b d
 same_bound e f = false
 
@@ -114,7 +116,8 @@ holds_range c d a b = int_le c a && int_le b d
 
 -- Whether the second domain is sure to hold all members of the first, by their forms alone.
 abbrev pub lies_within : Dom → Dom → Bool
-lies_within (int_dom (both_ends ∷ []) (more_exs (number_ex a) (more_exs (number_ex b) no_exs))) (int_dom (both_ends ∷ []) (more_exs (number_ex c) (more_exs (number_ex d) no_exs))) =
+lies_within (int_dom (both_ends ∷ []) (more_exs (number_ex a) (more_exs (number_ex b) no_exs)))
+    (int_dom (both_ends ∷ []) (more_exs (number_ex c) (more_exs (number_ex d) no_exs))) =
     holds_range c d a b
 lies_within bool_dom bool_dom = true
 lies_within (int_dom rs es) (int_dom ss fs) = same_ends rs ss && same_bounds es fs
