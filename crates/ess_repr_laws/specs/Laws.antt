@@ -120,8 +120,8 @@ pub record LayersAreComposed : Type 0 where
 -- are canonical. So for atoms, tuples, records and matrices; for sets kept as the members that occur, or in slots that are all in
 -- use, up to a marker, with flags, or with a dummy; for multisets by how often each member occurs, or in slots with these numbers
 -- or up to a marker; for functions with a value or a flag and a value for each argument, or as relations; for relations as
--- matrices or as sets; and for partitions as sets; with all attributes, in any nesting. Partitions by the number of each member's
--- part are left out.
+-- matrices or as sets; and for partitions as sets or by the number of each member's part; with all attributes, in any nesting. So for
+-- every kind.
 abbrev pub StructuresMeanCanonical : Type 0
 StructuresMeanCanonical =
     (env0 : Env) (q : ℕ → Text) (apart : (m l : ℕ) → l < m → same_text (q m) (q l) ≡ false) (terms : Terms) →

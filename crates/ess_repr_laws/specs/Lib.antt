@@ -12,6 +12,7 @@ pub mod RelationParts
 pub mod ViewParts
 pub mod FunctionParts
 pub mod MultisetParts
+pub mod PartitionParts
 pub mod PartSizes
 pub mod Structure
 pub mod StructureMeaning
