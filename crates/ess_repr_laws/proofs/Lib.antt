@@ -157,3 +157,6 @@ pub mod StructureNumbered
 pub mod StructureAll
 pub mod StructureOfTables
 pub mod ExamplesStructure
+-- Two views of one value
+pub mod Channels
+pub mod ExamplesChannel

@@ -17,5 +17,7 @@ pub mod PartSizes
 pub mod Structure
 pub mod StructureMeaning
 pub mod StructureReady
+-- Two views of one value
+pub mod Channel
 -- What is proved
 pub mod Laws
