@@ -1,0 +1,2 @@
+-- What the judgements say of a domain
+pub mod DomainNumbers

@@ -1,0 +1,1 @@
+//! Laws of structures of judged domains, each the contract of a function that does nothing.
