@@ -4,3 +4,9 @@ pub mod WholeNumbers
 pub mod AtomsReady
 pub mod NeatDomains
 pub mod ToldSizes
+pub mod FittingChildren
+pub mod ReadyParts
+pub mod ReadySets
+pub mod ReadyFunctions
+pub mod ReadyConversions
+pub mod ReadyAll

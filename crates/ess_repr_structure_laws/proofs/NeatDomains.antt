@@ -85,18 +85,26 @@ sizes-unflagged Q (Some n) (Some m) None = tt
 sizes-unflagged Q (Some n) (Some m) (Some o) = tt
 
 pair-sizes-neat : (Q : Key → Type 0) (ks : List Attribute) (x : Domain) → Told (pair_sizes ks x) × EachFlag Q (pair_sizes ks x)
-pair-sizes-neat Q ks x = go (has Key.Total ks)
+pair-sizes-neat Q ks x =
+    go (has Key.Total ks) (if has Key.Size ks then attribute Key.MaxSize ks else or_else (attribute Key.MaxSize ks) (Some (bound x)))
   where
-    go : (b : Bool) → Told (if b then size_attributes (Some (bound x)) (attribute Key.MinSize ks) (attribute Key.MaxSize ks)
-        else size_attributes (attribute Key.Size ks) (attribute Key.MinSize ks) (if has Key.Size ks then attribute Key.MaxSize ks else or_else (attribute Key.MaxSize ks) (Some (bound x))))
+    go : (b : Bool) (o : Option ℕ) →
+        Told (if b then size_attributes (Some (bound x)) (attribute Key.MinSize ks) (attribute Key.MaxSize ks)
+        else size_attributes (attribute Key.Size ks) (attribute Key.MinSize ks) o)
         × EachFlag Q (if b then size_attributes (Some (bound x)) (attribute Key.MinSize ks) (attribute Key.MaxSize ks)
-        else size_attributes (attribute Key.Size ks) (attribute Key.MinSize ks) (if has Key.Size ks then attribute Key.MaxSize ks else or_else (attribute Key.MaxSize ks) (Some (bound x))))
-    go true = (sizes-told _ _ _, sizes-unflagged Q _ _ _)
-    go false = (sizes-told _ _ _, sizes-unflagged Q _ _ _)
+        else size_attributes (attribute Key.Size ks) (attribute Key.MinSize ks) o)
+    go true o = (
+      sizes-told (Some (bound x)) (attribute Key.MinSize ks) (attribute Key.MaxSize ks),
+      sizes-unflagged Q (Some (bound x)) (attribute Key.MinSize ks) (attribute Key.MaxSize ks),
+    )
+    go false o = (
+      sizes-told (attribute Key.Size ks) (attribute Key.MinSize ks) o,
+      sizes-unflagged Q (attribute Key.Size ks) (attribute Key.MinSize ks) o,
+    )
 
 -- The relation of a function's pairs.
 pub relation-neat : (ks : List Attribute) (x y : Domain) → NeatDomain x → NeatDomain y → NeatDomain (child_relation ks x y)
-relation-neat ks x y n m = let p = pair-sizes-neat (PairFlag x y) ks x in (p.0, p.1, (n, m, tt))
+relation-neat ks x y n m = let p = pair-sizes-neat (PairFlag x y) ks x in (p.0, p.1, (n, (m, tt)))
 
 -- The set of a relation's tuples.
 pub set-neat : (ks : List Attribute) (xs : Domains) → AllNeatDomains xs → NeatDomain (child_set ks xs)
