@@ -10,3 +10,6 @@ pub mod ReadySets
 pub mod ReadyFunctions
 pub mod ReadyConversions
 pub mod ReadyAll
+-- From the judgements
+pub mod OrderlyDenoted
+pub mod NamesApart

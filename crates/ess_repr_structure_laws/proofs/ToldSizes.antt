@@ -24,12 +24,13 @@ numbers-of-each P (numbered k z ∷ ks) h = and-both (P k z) (each_number_holds 
 numbers-of-each P (flagged k ∷ ks) h = numbers-of-each P ks h
 
 -- What follows of two things that are said of each number.
-each-of-two : (P Q R : Key → ℤ → Type 0) (ks : List Attribute) → ((k : Key) (z : ℤ) → P k z → Q k z → R k z) → EachNumber P ks → EachNumber Q ks → EachNumber R ks
+pub each-of-two : (P Q R : Key → ℤ → Type 0) (ks : List Attribute) → ((k : Key) (z : ℤ) → P k z → Q k z → R k z) → EachNumber P ks → EachNumber Q ks → EachNumber R ks
 each-of-two P Q R [] f h i = tt
 each-of-two P Q R (numbered k z ∷ ks) f h i = (f k z h.0 i.0, each-of-two P Q R ks f h.1 i.1)
 each-of-two P Q R (flagged k ∷ ks) f h i = each-of-two P Q R ks f h i
 
-each-follows : (P R : Key → ℤ → Type 0) (ks : List Attribute) → ((k : Key) (z : ℤ) → P k z → R k z) → EachNumber P ks → EachNumber R ks
+-- What follows of each number.
+pub each-follows : (P R : Key → ℤ → Type 0) (ks : List Attribute) → ((k : Key) (z : ℤ) → P k z → R k z) → EachNumber P ks → EachNumber R ks
 each-follows P R [] f h = tt
 each-follows P R (numbered k z ∷ ks) f h = (f k z h.0, each-follows P R ks f h.1)
 each-follows P R (flagged k ∷ ks) f h = each-follows P R ks f h
