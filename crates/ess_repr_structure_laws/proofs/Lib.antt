@@ -13,3 +13,5 @@ pub mod ReadyAll
 -- From the judgements
 pub mod OrderlyDenoted
 pub mod NamesApart
+pub mod OrderlyJudged
+pub mod JudgedViews
