@@ -1,10 +1,10 @@
 -- The term for an atom says whether a number is one of the atom's, and the dummy's term is the dummy, where the atom's bounds are numbers.
-use Rattle.std.proofs.Common.{◌≡◌, refl, sym, ap, ◌∙◌, subst, ℕ, ◌<◌, Bool, true, false, ◌&&◌, ◌||◌, if◌then◌else◌, List, [], ◌∷◌, ℤ, pos, ◌+ℤ◌, ◌-ℤ◌, Option, Some, None, int_le, is_some, IsTrue, arith, suc}
+use Rattle.std.proofs.Common.{◌≡◌, refl, sym, ap, ◌∙◌, subst, ℕ, ◌<◌, Bool, true, false, ◌&&◌, ◌||◌, if◌then◌else◌, List, [], ◌∷◌, ℤ, pos, ◌+ℤ◌, ◌-ℤ◌, Option, Some, None, int_le, arith}
 use Rattle.std.proofs.lemmas.Int.{ints}
 use Rattle.std.specs.List.{list_any}
 use Rattle.ess_semantics.specs.declared.words.Op2.{Op2}
-use Rattle.ess_semantics.specs.Lists.{and_then, is_none_or}
-use Rattle.ess_semantics.specs.Values.{Text, Value, number, truth}
+use Rattle.ess_semantics.specs.Lists.{and_then}
+use Rattle.ess_semantics.specs.Values.{Text, number, truth}
 use Rattle.ess_semantics.specs.Numbers.{natural}
 use Rattle.ess_semantics.specs.Order.{same, same_text}
 use Rattle.ess_semantics.specs.Atoms.{IsAtom}
@@ -16,14 +16,14 @@ use Rattle.ess_semantics.specs.Tables.{is_cell}
 use Rattle.ess_semantics.specs.Trees.{Ends, one_value, both_ends, low_end, high_end, Ex, Exs, no_exs, more_exs, Dom, bool_dom, int_dom, name_dom, ex2}
 use Rattle.ess_semantics.specs.Domains.{Span, Domain, booleans, integers, named, between}
 use Rattle.ess_semantics.specs.Sizes.{bound}
-use Rattle.ess_semantics.specs.Meaning.{Env, TypeEntry, type_entry, named_domain, as_int, with_span, spans_of, is_bool_dom, domain_of, meaning, meanings, cell_value}
+use Rattle.ess_semantics.specs.Meaning.{Env, TypeEntry, type_entry, named_domain, as_int, with_span, spans_of, domain_of, meaning, meanings}
 use Rattle.ess_semantics.proofs.Connectives.{and-means, or-means, binary-means}
 use Rattle.ess_repr_laws.specs.Rooms.{HasDummy}
 use Rattle.ess_repr_laws.specs.StructureParts.{le_ex, and_ex}
-use Rattle.ess_repr_laws.specs.StructureMeaning.{Number, AllNumbers, fit, Bound, M, AtomReady, DummyIs, DomainIs}
+use Rattle.ess_repr_laws.specs.StructureMeaning.{Number, AllNumbers, Bound, M, AtomReady, DummyIs, DomainIs}
 use Rattle.ess_repr_laws.proofs.DomainForms.{same_form}
 use Rattle.ess_repr_laws.proofs.StructureNumbers.{le-means}
-use Rattle.ess_repr_declare_laws.specs.SizeTerms.{zero_ex, one_ex, listed_ex, next_ex, is_missing, bound_or_0, dummy_ex, in_ranges_ex, inside_ex, size_terms}
+use Rattle.ess_repr_declare_laws.specs.SizeTerms.{zero_ex, one_ex, listed_ex, is_missing, bound_or_0, in_ranges_ex, inside_ex, size_terms}
 use Rattle.ess_repr_declare_laws.proofs.SizeNumbers.{mapped, chained}
 use Rattle.ess_repr_declare_laws.proofs.IntSizes.{name-reads, span-long, bound-reads-same}
 use Rattle.ess_repr_structure_laws.specs.DomainNumbers.{NumbersIn}
@@ -197,11 +197,14 @@ module _ (env0 : Env) (q : ℕ → Text) (q-apart : (m l : ℕ) → l < m → sa
           let d = chained (as_int (meaning b env)) (λ j. with_span (Some c'.0) (Some j) None) u.0 c'.2 in
           let q = d.2 in cc
   dummy-ready (int_dom (both_ends ∷ []) (more_exs a (more_exs b no_exs))) e h r s m n =
-      let x = last (N []) e (m []) in
-      (x.0 +ℤ pos 1, x.2, λ bs.
-      let y = last (N bs) e (m bs) in
-      let q : y.0 ≡ x.0 = one-more (y.0) (x.0) (sym y.2 ∙ x.2) in
-      binary-means (N bs) false Op2.Plus (bound_or_0 b) one_ex (number x.0) (number (pos 1)) (whole (is_missing b) refl (N bs) x.0 (n bs) (y.1 ∙ ap Some q)) refl)
+      let x = last (N []) e (m []) in (
+        x.0 +ℤ pos 1,
+        x.2,
+        λ bs.
+            let y = last (N bs) e (m bs) in
+            let q : y.0 ≡ x.0 = one-more (y.0) (x.0) (sym y.2 ∙ x.2) in
+            binary-means (N bs) false Op2.Plus (bound_or_0 b) one_ex (number x.0) (number (pos 1)) (whole (is_missing b) refl (N bs) x.0 (n bs) (y.1 ∙ ap Some q)) refl,
+      )
     where
       one-more : (i j : ℤ) → Some (i +ℤ pos 1) ≡ Some (j +ℤ pos 1) → i ≡ j
       one-more i j h = let w : i +ℤ pos 1 ≡ j +ℤ pos 1 = cc in omega (arith, ints)

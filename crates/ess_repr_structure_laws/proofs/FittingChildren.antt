@@ -3,13 +3,12 @@ use Rattle.std.proofs.Common.{◌≡◌, refl, sym, ap, ◌∙◌, subst, Bool, 
 use Rattle.ess_semantics.specs.declared.words.ReprKind.{ReprKind}
 use Rattle.ess_semantics.specs.declared.words.Key.{Key}
 use Rattle.ess_semantics.specs.Children.{without_sizes}
-use Rattle.ess_semantics.specs.Kinds.{has_key, child_forms, fits, all_fit, are_atoms}
+use Rattle.ess_semantics.specs.Kinds.{has_key, child_forms, fits, all_fit}
 use Rattle.ess_semantics.specs.Meaning.{Env}
-use Rattle.ess_semantics.specs.Trees.{Mark, Repr, Reprs, repr, no_reprs, more_reprs, Ex, Exs, no_exs, Dom, Doms, bool_dom, int_dom, name_dom, tuple_dom, record_dom, matrix_dom, set_dom, mset_dom, function_dom, relation_dom, partition_dom, no_doms, more_doms}
-use Rattle.ess_semantics.proofs.Tests.{and-left, and-right}
+use Rattle.ess_semantics.specs.Trees.{Mark, Reprs, repr, no_reprs, more_reprs, Ex, Exs, no_exs, Dom, Doms, bool_dom, int_dom, name_dom, tuple_dom, record_dom, matrix_dom, set_dom, mset_dom, function_dom, relation_dom, partition_dom, no_doms, more_doms}
 use Rattle.ess_repr_laws.specs.StructureMeaning.{AllNumbers}
 use Rattle.ess_repr_laws.specs.StructureParts.{tuple_set_dom}
-use Rattle.ess_repr_laws.specs.ViewParts.{pair_relation_dom, part_dom, part_set_dom}
+use Rattle.ess_repr_laws.specs.ViewParts.{pair_relation_dom, part_set_dom}
 use Rattle.ess_repr_laws.specs.WellFormed.{Well, AllWell}
 use Rattle.ess_repr_declare_laws.specs.SizeTerms.{number_of, bound_ex, size_terms}
 use Rattle.ess_repr_declare_laws.specs.ChildDomains.{child_doms}
@@ -19,7 +18,7 @@ use Rattle.ess_repr_declare_laws.proofs.ChildLaw.{children-are}
 use Rattle.ess_repr_declare_laws.proofs.ChildTrees.{in_front, three, sets-are, pairs_size, pairs_greatest, pairs-are, part-is, parts_greatest, parts-are}
 use Rattle.ess_repr_declare_laws.proofs.SoundChildren.{EachSound, children-sound}
 use Rattle.ess_repr_structure_laws.specs.DomainNumbers.{NumbersIn, AllNumbersIn}
-use Rattle.ess_repr_structure_laws.proofs.WholeNumbers.{WholeEx, WholeOption, number-of-whole, bound-whole}
+use Rattle.ess_repr_structure_laws.proofs.WholeNumbers.{WholeOption, number-of-whole, bound-whole}
 
 -- ---- sound domains
 
@@ -108,29 +107,36 @@ module _ (env : Env) where
   -- The set of a relation's tuples.
   pub set-numbers : (ms : List Mark) (es : Exs) (ds : Doms) → AllNumbers es env → AllNumbersIn ds env → NumbersIn (tuple_set_dom ms es ds) env
   set-numbers ms es ds h n =
-      subst (λ x. NumbersIn x env) (sym (sets-are ms es ds))
-      (three-numbers (number_of Key.Size ms es) (number_of Key.MinSize ms es) (number_of Key.MaxSize ms es) (number-of-whole env Key.Size ms es h)
-      (number-of-whole env Key.MinSize ms es h) (number-of-whole env Key.MaxSize ms es h), n)
+      subst (λ x. NumbersIn x env) (sym (sets-are ms es ds)) (
+        three-numbers (number_of Key.Size ms es) (number_of Key.MinSize ms es) (number_of Key.MaxSize ms es) (number-of-whole env Key.Size ms es h)
+            (number-of-whole env Key.MinSize ms es h) (number-of-whole env Key.MaxSize ms es h),
+        n,
+      )
 
   -- The relation of a function's pairs.
   pub pair-numbers : (ms : List Mark) (es : Exs) (d c : Dom) → AllNumbers es env → NumbersIn d env → NumbersIn c env →
       NumbersIn (pair_relation_dom size_terms ms es d c) env
   pair-numbers ms es d c h n m =
-      subst (λ x. NumbersIn x env) (sym (pairs-are ms es d c))
-      (three-numbers (pairs_size ms es d) (number_of Key.MinSize ms es) (pairs_greatest ms es d)
-      (if-whole (has_key Key.Total ms) (Some (bound_ex d)) (number_of Key.Size ms es) (bound-whole env d n) (number-of-whole env Key.Size ms es h))
-      (number-of-whole env Key.MinSize ms es h)
-      (if-whole (has_key Key.MaxSize ms || (has_key Key.Total ms || has_key Key.Size ms)) (number_of Key.MaxSize ms es) (Some (bound_ex d))
-      (number-of-whole env Key.MaxSize ms es h) (bound-whole env d n)), (n, (m, tt)))
+      subst (λ x. NumbersIn x env) (sym (pairs-are ms es d c)) (
+        three-numbers (pairs_size ms es d) (number_of Key.MinSize ms es) (pairs_greatest ms es d)
+            (if-whole (has_key Key.Total ms) (Some (bound_ex d)) (number_of Key.Size ms es) (bound-whole env d n) (number-of-whole env Key.Size ms es h))
+            (number-of-whole env Key.MinSize ms es h)
+            (if-whole (has_key Key.MaxSize ms || (has_key Key.Total ms || has_key Key.Size ms)) (number_of Key.MaxSize ms es) (Some (bound_ex d))
+            (number-of-whole env Key.MaxSize ms es h) (bound-whole env d n)),
+        (n, (m, tt)),
+      )
 
   -- The set of a partition's parts.
   pub part-numbers : (ms : List Mark) (es : Exs) (d : Dom) → AllNumbers es env → NumbersIn d env → NumbersIn (part_set_dom size_terms ms es d) env
   part-numbers ms es d h n =
-      subst (λ x. NumbersIn x env) (sym (parts-are ms es d))
-      (three-numbers (number_of Key.NumParts ms es) (number_of Key.MinNumParts ms es) (parts_greatest ms es d) (number-of-whole env Key.NumParts ms es h)
-      (number-of-whole env Key.MinNumParts ms es h)
-      (if-whole (has_key Key.MaxNumParts ms || has_key Key.NumParts ms) (number_of Key.MaxNumParts ms es) (Some (bound_ex d))
-      (number-of-whole env Key.MaxNumParts ms es h) (bound-whole env d n)),
-      subst (λ x. NumbersIn x env) (sym (part-is ms es d))
-      (three-numbers (number_of Key.PartSize ms es) (number_of Key.MinPartSize ms es) (number_of Key.MaxPartSize ms es)
-      (number-of-whole env Key.PartSize ms es h) (number-of-whole env Key.MinPartSize ms es h) (number-of-whole env Key.MaxPartSize ms es h), n))
+      subst (λ x. NumbersIn x env) (sym (parts-are ms es d)) (
+        three-numbers (number_of Key.NumParts ms es) (number_of Key.MinNumParts ms es) (parts_greatest ms es d) (number-of-whole env Key.NumParts ms es h)
+            (number-of-whole env Key.MinNumParts ms es h)
+            (if-whole (has_key Key.MaxNumParts ms || has_key Key.NumParts ms) (number_of Key.MaxNumParts ms es) (Some (bound_ex d))
+            (number-of-whole env Key.MaxNumParts ms es h) (bound-whole env d n)),
+        subst (λ x. NumbersIn x env) (sym (part-is ms es d)) (
+          three-numbers (number_of Key.PartSize ms es) (number_of Key.MinPartSize ms es) (number_of Key.MaxPartSize ms es)
+              (number-of-whole env Key.PartSize ms es h) (number-of-whole env Key.MinPartSize ms es h) (number-of-whole env Key.MaxPartSize ms es h),
+          n,
+        ),
+      )

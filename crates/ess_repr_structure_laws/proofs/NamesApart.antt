@@ -1,7 +1,6 @@
 -- A domain whose free names aren't reserved means the same whatever reserved names are bound, and so do the numbers in it.
-use Rattle.std.proofs.Common.{◌≡◌, refl, sym, ap, ◌∙◌, ℕ, ◌<◌, Bool, true, false, List, [], ◌∷◌, ◌++◌, map, ℤ, Option, Some, if◌then◌else◌}
-use Rattle.std.specs.Prelude.{IsTrue}
-use Rattle.ess_semantics.specs.Values.{Text, Value, number}
+use Rattle.std.proofs.Common.{◌≡◌, refl, sym, ap, ◌∙◌, ℕ, ◌<◌, Bool, true, false, [], ◌∷◌, ◌++◌, map, Some, if◌then◌else◌}
+use Rattle.ess_semantics.specs.Values.{Text, Value}
 use Rattle.ess_semantics.specs.Order.{same_text}
 use Rattle.ess_semantics.specs.Names.{look}
 use Rattle.ess_semantics.specs.Trees.{Ex, Exs, no_exs, more_exs, Dom, Doms, bool_dom, int_dom, name_dom, tuple_dom, record_dom, matrix_dom, set_dom, mset_dom, function_dom, relation_dom, partition_dom, no_doms, more_doms}
@@ -33,7 +32,8 @@ module _ (env0 : Env) (q : ℕ → Text) (q-apart : (m l : ℕ) → l < m → sa
   same-numbers : (es : Exs) → FreeNamesAreExs u es → AllNumbers es env0 → AllNumbers es B
   same-numbers no_exs f n = tt
   same-numbers (more_exs e es) f n = (
-    λ z h. same-meaning e f.0 ∙ n.0 z (ap as_int (sym (same-meaning e f.0)) ∙ h), same-numbers es f.1 n.1,
+    λ z h. same-meaning e f.0 ∙ n.0 z (ap as_int (sym (same-meaning e f.0)) ∙ h),
+    same-numbers es f.1 n.1,
   )
 
   mutual

@@ -1,11 +1,11 @@
 -- What a judged expression's domain has: each attribute with a number stands once, and the domains are listed whose members attributes
 -- ask for. Children that a kind makes of such a domain are such domains.
-use Rattle.std.proofs.Common.{◌≡◌, refl, sym, ap, ◌∙◌, subst, ℕ, Bool, true, false, ◌||◌, if◌then◌else◌, List, [], ◌∷◌, ℤ, pos, Option, Some, None}
+use Rattle.std.proofs.Common.{◌≡◌, refl, ap, ◌∙◌, ℕ, Bool, true, false, ◌||◌, if◌then◌else◌, List, [], ◌∷◌, ℤ, pos, Option, Some, None}
 use Rattle.std.proofs.lemmas.Bool.{eq-eqb}
 use Rattle.ess_semantics.specs.declared.words.Key.{Key}
 use Rattle.ess_semantics.specs.Lists.{or_else}
-use Rattle.ess_semantics.specs.Domains.{Attribute, numbered, flagged, Domain, Domains, booleans, integers, named, tuples, records, matrices, sets, msets, functions, relations, partitions, no_domains, more_domains, attribute, has, same_key, key_number}
-use Rattle.ess_semantics.specs.Sizes.{bound, sized_if, size_attributes, pair_sizes, child_relation, child_set, child_parts}
+use Rattle.ess_semantics.specs.Domains.{Attribute, numbered, flagged, Domain, Domains, tuples, records, matrices, sets, msets, functions, relations, partitions, no_domains, more_domains, attribute, has, same_key, key_number}
+use Rattle.ess_semantics.specs.Sizes.{bound, size_attributes, pair_sizes, child_relation, child_set, child_parts}
 use Rattle.ess_semantics.proofs.Tests.{or-yes}
 use Rattle.ess_repr_laws.specs.StructureMeaning.{EachFlag}
 use Rattle.ess_repr_laws.proofs.Enumerables.{IsEnumerated}

@@ -1,18 +1,18 @@
 -- An orderly expression is sound, and denotes a neat domain.
-use Rattle.std.proofs.Common.{◌≡◌, refl, sym, ap, ◌∙◌, subst, ℕ, Bool, true, false, ◌&&◌, ◌||◌, not, if◌then◌else◌, List, [], ◌∷◌, ◌++◌, ℤ, pos, negsuc, int_le, Option, Some, None, option_map}
+use Rattle.std.proofs.Common.{◌≡◌, refl, sym, ap, ◌∙◌, subst, Bool, true, false, ◌&&◌, ◌||◌, not, if◌then◌else◌, List, [], ◌∷◌, ◌++◌, ℤ, pos, negsuc, int_le, Option, Some, None, option_map}
 use Rattle.std.specs.List.{list_all}
-use Rattle.std.proofs.lemmas.Bool.{eq-eqb, eqb-true}
+use Rattle.std.proofs.lemmas.Bool.{eq-eqb}
 use Rattle.ess_semantics.specs.declared.words.Key.{Key}
 use Rattle.ess_semantics.specs.Lists.{and_then}
 use Rattle.ess_semantics.specs.Numbers.{natural}
 use Rattle.ess_semantics.specs.Values.{Value}
-use Rattle.ess_semantics.specs.DomainJudgements.{is_key, size_keys, marks_among, marks_distinct, is_binary, relation_flags, marks_fit, is_enumerable, listed_domains}
-use Rattle.ess_semantics.specs.Kinds.{key_of, has_key, dom_list, are_atoms, is_atom}
+use Rattle.ess_semantics.specs.DomainJudgements.{is_key, size_keys, marks_among, marks_distinct, is_binary, relation_flags, is_enumerable}
+use Rattle.ess_semantics.specs.Kinds.{has_key, dom_list, are_atoms, is_atom}
 use Rattle.ess_semantics.specs.Membership.{no_negative_attribute, each_layer_of_all}
 use Rattle.ess_semantics.specs.Trees.{Mark, flag, valued, Exs, no_exs, more_exs, Dom, Doms, bool_dom, int_dom, name_dom, tuple_dom, record_dom, matrix_dom, set_dom, mset_dom, function_dom, relation_dom, partition_dom, no_doms, more_doms}
 use Rattle.ess_semantics.specs.Domains.{Attribute, numbered, flagged, Domain, Domains, booleans, integers, named, between, tuples, records, matrices, sets, msets, functions, relations, partitions, no_domains, more_domains, attribute, has, same_key, key_number}
 use Rattle.ess_semantics.specs.Meaning.{Env, TypeEntry, type_entry, named_domain, as_int, spans_of, attributes_of, domain_of, domains_of, meaning, meanings}
-use Rattle.ess_semantics.proofs.Tests.{and-left, and-right, and-both, or-left-no, or-right-no, not-true, or-yes}
+use Rattle.ess_semantics.proofs.Tests.{and-left, and-right, or-left-no, or-right-no, not-true, or-yes}
 use Rattle.ess_repr_laws.specs.StructureMeaning.{EachFlag}
 use Rattle.ess_repr_laws.specs.WellFormed.{is_numbered, is_right, Well, AllWell}
 use Rattle.ess_repr_laws.proofs.DenotedDomains.{marks-right}
@@ -27,8 +27,7 @@ use Rattle.ess_repr_structure_laws.specs.OrderlyDomains.{LayerIsOrderly, Orderly
 use Rattle.ess_repr_structure_laws.proofs.FittingChildren.{sound-well}
 use Rattle.ess_repr_structure_laws.proofs.NeatDomains.{EachNumber, IsTold, Told, FunctionFlag, PairFlag, RelationFlag, NeatDomain, AllNeatDomains, flags-there}
 use Rattle.ess_repr_structure_laws.proofs.ReadyParts.{flags-both}
-use Rattle.ess_repr_structure_laws.proofs.Shapes.{tuple-parts, record-parts, matrix-parts, set-parts, mset-parts, partition-parts, function-parts, relation-parts, first-of}
-use Rattle.ess_repr_structure_laws.proofs.ToldSizes.{each-of-two, each-follows}
+use Rattle.ess_repr_structure_laws.proofs.ToldSizes.{each-of-two}
 
 -- ---- attributes
 
@@ -82,11 +81,15 @@ told-of (valued j ∷ ms) (o ∷ os) ks d h n =
     let a : int_le (pos 0) c.0 && not_below m.0 ≡ true = ap not_below m.2 ∙ n in
     let t = told-of ms os m.0 (and-right (not (has_key j ms)) (marks_distinct ms) d) m.1 (and-right (int_le (pos 0) c.0) (not_below m.0) a) in
     let p = apart-of j ms os m.0 (not-true (has_key j ms) (and-left (not (has_key j ms)) (marks_distinct ms) d)) m.1 in
-    subst Told m.2
-    ((natural c.0, not-negative c.0 (and-left (int_le (pos 0) c.0) (not_below m.0) a),
-    ap (λ b. if b then Some (natural c.0) else attribute j m.0) (eq-eqb (key_number j) (key_number j) refl)),
-    each-of-two (IsTold m.0) (λ k z. same_key k j ≡ false) (IsTold (numbered j c.0 ∷ m.0)) m.0
-    (λ k z i e. (i.0, i.1, ap (λ b. if b then Some (natural c.0) else attribute k m.0) e ∙ i.2)) t p)
+    subst Told m.2 (
+      (
+        natural c.0,
+        not-negative c.0 (and-left (int_le (pos 0) c.0) (not_below m.0) a),
+        ap (λ b. if b then Some (natural c.0) else attribute j m.0) (eq-eqb (key_number j) (key_number j) refl),
+      ),
+      each-of-two (IsTold m.0) (λ k z. same_key k j ≡ false) (IsTold (numbered j c.0 ∷ m.0)) m.0
+          (λ k z i e. (i.0, i.1, ap (λ b. if b then Some (natural c.0) else attribute k m.0) e ∙ i.2)) t p,
+    )
 
 -- Each attribute without a number is among those that may stand.
 flags-among : (vs fs : List Key) (ms : List Mark) (os : List (Option Value)) (ks : List Attribute) → marks_among vs fs ms ≡ true → attributes_of ms os ≡ Some ks →
@@ -164,20 +167,27 @@ mutual
   orderly-sound (function_dom ms es d c) env e o h =
       let k = chained (attributes_of ms (meanings es env)) (λ ks. and_then (domain_of d env) (λ x. option_map (functions ks x) (domain_of c env))) e h in
       let x = chained (domain_of d env) (λ x. option_map (functions k.0 x) (domain_of c env)) e k.2 in
-      let y = mapped (functions k.0 x.0) (domain_of c env) e x.2 in
-      (marks-sound size_keys (Key.Total ∷ Key.Injective ∷ Key.Surjective ∷ Key.Bijective ∷ []) ms refl refl o.0.0, numbered-of ms es env k.0 k.1,
-      first-enumerable (has_key Key.Total ms) (has_key Key.Surjective ms || has_key Key.Bijective ms) d c o.0.1,
-      orderly-sound d env x.0 o.1 x.1, orderly-sound c env y.0 o.2 y.1)
+      let y = mapped (functions k.0 x.0) (domain_of c env) e x.2 in (
+        marks-sound size_keys (Key.Total ∷ Key.Injective ∷ Key.Surjective ∷ Key.Bijective ∷ []) ms refl refl o.0.0,
+        numbered-of ms es env k.0 k.1,
+        first-enumerable (has_key Key.Total ms) (has_key Key.Surjective ms || has_key Key.Bijective ms) d c o.0.1,
+        orderly-sound d env x.0 o.1 x.1,
+        orderly-sound c env y.0 o.2 y.1,
+      )
   orderly-sound (relation_dom ms es ds) env e o h =
       let c = chained (attributes_of ms (meanings es env)) (λ ks. option_map (relations ks) (domains_of ds env)) e h in
-      let m = mapped (relations c.0) (domains_of ds env) e c.2 in
-      (marks-sound size_keys (relation_flags (dom_list ds)) ms refl (flags-unnumbered (dom_list ds)) o.0.0, numbered-of ms es env c.0 c.1,
-      all-orderly-sound ds env m.0 o.1 m.1)
+      let m = mapped (relations c.0) (domains_of ds env) e c.2 in (
+        marks-sound size_keys (relation_flags (dom_list ds)) ms refl (flags-unnumbered (dom_list ds)) o.0.0,
+        numbered-of ms es env c.0 c.1,
+        all-orderly-sound ds env m.0 o.1 m.1,
+      )
   orderly-sound (partition_dom ms es d) env e o h =
       let c = chained (attributes_of ms (meanings es env)) (λ ks. option_map (partitions ks) (domain_of d env)) e h in
-      let m = mapped (partitions c.0) (domain_of d env) e c.2 in
-      (marks-sound (Key.NumParts ∷ Key.MinNumParts ∷ Key.MaxNumParts ∷ Key.PartSize ∷ Key.MinPartSize ∷ Key.MaxPartSize ∷ []) (Key.Regular ∷ []) ms refl refl o.0.0,
-      numbered-of ms es env c.0 c.1, orderly-sound d env m.0 o.1 m.1)
+      let m = mapped (partitions c.0) (domain_of d env) e c.2 in (
+        marks-sound (Key.NumParts ∷ Key.MinNumParts ∷ Key.MaxNumParts ∷ Key.PartSize ∷ Key.MinPartSize ∷ Key.MaxPartSize ∷ []) (Key.Regular ∷ []) ms refl refl o.0.0,
+        numbered-of ms es env c.0 c.1,
+        orderly-sound d env m.0 o.1 m.1,
+      )
 
   all-orderly-sound : (ds : Doms) (env : Env) (es : Domains) → AllOrderly ds → domains_of ds env ≡ Some es → AllSound ds
   all-orderly-sound no_doms env es o h = tt
@@ -248,9 +258,10 @@ relation-flag ms es ds env xs o s g h k i m = let t = binary-two ds (flag-binary
             same-side x y p r q = let z : Some x ≡ Some y = sym p ∙ ap (λ b. domain_of b env) q ∙ r in cc
 
             one : (x y : Domain) → domain_of d env ≡ Some x → domain_of c env ≡ Some y → (k : Key) → has_key k ms ≡ true → PairFlag x y k
-            one x y p r Key.Reflexive m =
-                (listed-of d env x s.0 (listed (has_key Key.Reflexive ms) o.1 m) p,
-                same-side x y p r (g (ap (λ b. b || has_key Key.Irreflexive ms) m)))
+            one x y p r Key.Reflexive m = (
+              listed-of d env x s.0 (listed (has_key Key.Reflexive ms) o.1 m) p,
+              same-side x y p r (g (ap (λ b. b || has_key Key.Irreflexive ms) m)),
+            )
             one x y p r Key.Irreflexive m =
                 same-side x y p r (g (ap (λ b. has_key Key.Reflexive ms || b) m ∙ or-yes (has_key Key.Reflexive ms)))
             one x y p r _ m = tt
@@ -279,50 +290,56 @@ mutual
       let c = chained (attributes_of ms (meanings es env)) (λ ks. option_map (sets ks) (domain_of d env)) e h in
       let m = mapped (sets c.0) (domain_of d env) e c.2 in
       let p : not_below c.0 && no_negative_attribute m.0 ≡ true = ap no_negative_attribute m.2 ∙ n in
-      subst NeatDomain m.2
-      (told-of ms (meanings es env) c.0 (and-right (marks_among size_keys [] ms) (marks_distinct ms) o.0.0) c.1 (and-left (not_below c.0) (no_negative_attribute m.0) p),
-      orderly-neat d env m.0 o.1 g s.2 m.1 (and-right (not_below c.0) (no_negative_attribute m.0) p))
+      subst NeatDomain m.2 (
+        told-of ms (meanings es env) c.0 (and-right (marks_among size_keys [] ms) (marks_distinct ms) o.0.0) c.1 (and-left (not_below c.0) (no_negative_attribute m.0) p),
+        orderly-neat d env m.0 o.1 g s.2 m.1 (and-right (not_below c.0) (no_negative_attribute m.0) p),
+      )
   orderly-neat (mset_dom ms es d) env e o g s h n =
       let c = chained (attributes_of ms (meanings es env)) (λ ks. option_map (msets ks) (domain_of d env)) e h in
       let m = mapped (msets c.0) (domain_of d env) e c.2 in
       let p : not_below c.0 && no_negative_attribute m.0 ≡ true = ap no_negative_attribute m.2 ∙ n in
-      subst NeatDomain m.2
-      (told-of ms (meanings es env) c.0 (and-right (marks_among (Key.MinOccur ∷ Key.MaxOccur ∷ size_keys) [] ms) (marks_distinct ms) o.0.0) c.1
-      (and-left (not_below c.0) (no_negative_attribute m.0) p), orderly-neat d env m.0 o.1 g s.2 m.1 (and-right (not_below c.0) (no_negative_attribute m.0) p))
+      subst NeatDomain m.2 (
+        told-of ms (meanings es env) c.0 (and-right (marks_among (Key.MinOccur ∷ Key.MaxOccur ∷ size_keys) [] ms) (marks_distinct ms) o.0.0) c.1
+            (and-left (not_below c.0) (no_negative_attribute m.0) p),
+        orderly-neat d env m.0 o.1 g s.2 m.1 (and-right (not_below c.0) (no_negative_attribute m.0) p),
+      )
   orderly-neat (function_dom ms es d c) env e o g s h n =
       let k = chained (attributes_of ms (meanings es env)) (λ ks. and_then (domain_of d env) (λ x. option_map (functions ks x) (domain_of c env))) e h in
       let x = chained (domain_of d env) (λ x. option_map (functions k.0 x) (domain_of c env)) e k.2 in
       let y = mapped (functions k.0 x.0) (domain_of c env) e x.2 in
       let p : (not_below k.0 && no_negative_attribute x.0) && no_negative_attribute y.0 ≡ true = ap no_negative_attribute y.2 ∙ n in
       let f = and-left (not_below k.0 && no_negative_attribute x.0) (no_negative_attribute y.0) p in
-      subst NeatDomain y.2
-      (told-of ms (meanings es env) k.0 (and-right (marks_among size_keys (Key.Total ∷ Key.Injective ∷ Key.Surjective ∷ Key.Bijective ∷ []) ms) (marks_distinct ms) o.0.0) k.1
-      (and-left (not_below k.0) (no_negative_attribute x.0) f),
-      function-flags ms es d c env k.0 x.0 y.0 o.0 k.1 (λ t. listed-of d env x.0 s.3 t x.1) (λ t. listed-of c env y.0 s.4 t y.1),
-      orderly-neat d env x.0 o.1 g.0 s.3 x.1 (and-right (not_below k.0) (no_negative_attribute x.0) f),
-      orderly-neat c env y.0 o.2 g.1 s.4 y.1 (and-right (not_below k.0 && no_negative_attribute x.0) (no_negative_attribute y.0) p))
+      subst NeatDomain y.2 (
+        told-of ms (meanings es env) k.0 (and-right (marks_among size_keys (Key.Total ∷ Key.Injective ∷ Key.Surjective ∷ Key.Bijective ∷ []) ms) (marks_distinct ms) o.0.0) k.1
+            (and-left (not_below k.0) (no_negative_attribute x.0) f),
+        function-flags ms es d c env k.0 x.0 y.0 o.0 k.1 (λ t. listed-of d env x.0 s.3 t x.1) (λ t. listed-of c env y.0 s.4 t y.1),
+        orderly-neat d env x.0 o.1 g.0 s.3 x.1 (and-right (not_below k.0) (no_negative_attribute x.0) f),
+        orderly-neat c env y.0 o.2 g.1 s.4 y.1 (and-right (not_below k.0 && no_negative_attribute x.0) (no_negative_attribute y.0) p),
+      )
   orderly-neat (relation_dom ms es ds) env e o g s h n =
       let c = chained (attributes_of ms (meanings es env)) (λ ks. option_map (relations ks) (domains_of ds env)) e h in
       let m = mapped (relations c.0) (domains_of ds env) e c.2 in
       let p : not_below c.0 && each_layer_of_all not_below m.0 ≡ true = ap no_negative_attribute m.2 ∙ n in
-      subst NeatDomain m.2
-      (told-of ms (meanings es env) c.0 (and-right (marks_among size_keys (relation_flags (dom_list ds)) ms) (marks_distinct ms) o.0.0) c.1
-      (and-left (not_below c.0) (each_layer_of_all not_below m.0) p),
-      flags-both (λ k. is_key (relation_flags (dom_list ds)) k ≡ true) (λ k. has_key k ms ≡ true) (RelationFlag m.0) c.0
-      (relation-flag ms es ds env m.0 o.0 s.2 g.0 m.1)
-      (flags-among size_keys (relation_flags (dom_list ds)) ms (meanings es env) c.0 (and-left (marks_among size_keys (relation_flags (dom_list ds)) ms) (marks_distinct ms) o.0.0) c.1)
-      (flags-marked ms (meanings es env) c.0 c.1),
-      all-orderly-neat ds env m.0 o.1 g.1 s.2 m.1 (and-right (not_below c.0) (each_layer_of_all not_below m.0) p))
+      subst NeatDomain m.2 (
+        told-of ms (meanings es env) c.0 (and-right (marks_among size_keys (relation_flags (dom_list ds)) ms) (marks_distinct ms) o.0.0) c.1
+            (and-left (not_below c.0) (each_layer_of_all not_below m.0) p),
+        flags-both (λ k. is_key (relation_flags (dom_list ds)) k ≡ true) (λ k. has_key k ms ≡ true) (RelationFlag m.0) c.0
+            (relation-flag ms es ds env m.0 o.0 s.2 g.0 m.1)
+            (flags-among size_keys (relation_flags (dom_list ds)) ms (meanings es env) c.0 (and-left (marks_among size_keys (relation_flags (dom_list ds)) ms) (marks_distinct ms) o.0.0) c.1)
+            (flags-marked ms (meanings es env) c.0 c.1),
+        all-orderly-neat ds env m.0 o.1 g.1 s.2 m.1 (and-right (not_below c.0) (each_layer_of_all not_below m.0) p),
+      )
   orderly-neat (partition_dom ms es d) env e o g s h n =
       let c = chained (attributes_of ms (meanings es env)) (λ ks. option_map (partitions ks) (domain_of d env)) e h in
       let m = mapped (partitions c.0) (domain_of d env) e c.2 in
       let p : not_below c.0 && no_negative_attribute m.0 ≡ true = ap no_negative_attribute m.2 ∙ n in
-      subst NeatDomain m.2
-      (told-of ms (meanings es env) c.0
-      (and-right (marks_among (Key.NumParts ∷ Key.MinNumParts ∷ Key.MaxNumParts ∷ Key.PartSize ∷ Key.MinPartSize ∷ Key.MaxPartSize ∷ []) (Key.Regular ∷ []) ms) (marks_distinct ms) o.0.0) c.1
-      (and-left (not_below c.0) (no_negative_attribute m.0) p),
-      listed-of d env m.0 s.2 (and-left (is_enumerable d) true o.0.1) m.1,
-      orderly-neat d env m.0 o.1 g s.2 m.1 (and-right (not_below c.0) (no_negative_attribute m.0) p))
+      subst NeatDomain m.2 (
+        told-of ms (meanings es env) c.0
+            (and-right (marks_among (Key.NumParts ∷ Key.MinNumParts ∷ Key.MaxNumParts ∷ Key.PartSize ∷ Key.MinPartSize ∷ Key.MaxPartSize ∷ []) (Key.Regular ∷ []) ms) (marks_distinct ms) o.0.0) c.1
+            (and-left (not_below c.0) (no_negative_attribute m.0) p),
+        listed-of d env m.0 s.2 (and-left (is_enumerable d) true o.0.1) m.1,
+        orderly-neat d env m.0 o.1 g s.2 m.1 (and-right (not_below c.0) (no_negative_attribute m.0) p),
+      )
 
   all-orderly-neat : (ds : Doms) (env : Env) (es : Domains) → AllOrderly ds → AllDiagonal ds → AllSound ds → domains_of ds env ≡ Some es →
       each_layer_of_all not_below es ≡ true → AllNeatDomains es
@@ -331,6 +348,7 @@ mutual
       let c = chained (domain_of d env) (λ x. option_map (more_domains x) (domains_of ds env)) es h in
       let m = mapped (more_domains c.0) (domains_of ds env) es c.2 in
       let p : no_negative_attribute c.0 && each_layer_of_all not_below m.0 ≡ true = ap (each_layer_of_all not_below) m.2 ∙ n in
-      subst AllNeatDomains m.2
-      (orderly-neat d env c.0 o.0 g.0 s.0 c.1 (and-left (no_negative_attribute c.0) (each_layer_of_all not_below m.0) p),
-      all-orderly-neat ds env m.0 o.1 g.1 s.1 m.1 (and-right (no_negative_attribute c.0) (each_layer_of_all not_below m.0) p))
+      subst AllNeatDomains m.2 (
+        orderly-neat d env c.0 o.0 g.0 s.0 c.1 (and-left (no_negative_attribute c.0) (each_layer_of_all not_below m.0) p),
+        all-orderly-neat ds env m.0 o.1 g.1 s.1 m.1 (and-right (no_negative_attribute c.0) (each_layer_of_all not_below m.0) p),
+      )

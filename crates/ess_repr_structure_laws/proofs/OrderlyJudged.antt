@@ -1,5 +1,5 @@
 -- A domain of which each part meets the judgements on types and on what is enumerable is orderly.
-use Rattle.std.proofs.Common.{◌≡◌, refl, sym, ap, ◌∙◌, Bool, true, false, ◌&&◌, List, [], Option, Some}
+use Rattle.std.proofs.Common.{◌≡◌, sym, ap, ◌∙◌, Bool, true, ◌&&◌, [], Some}
 use Rattle.std.specs.List.{list_all}
 use Rattle.ess_semantics.specs.Lists.{is_none_or}
 use Rattle.ess_semantics.specs.Trees.{Dom, Doms, bool_dom, int_dom, name_dom, tuple_dom, record_dom, matrix_dom, set_dom, mset_dom, function_dom, relation_dom, partition_dom, no_doms, more_doms, Stm}
@@ -7,7 +7,7 @@ use Rattle.ess_semantics.specs.Kinds.{is_atom}
 use Rattle.ess_semantics.specs.Scopes.{Scope, Asked, asking, every, every_dom, every_doms, every_operand}
 use Rattle.ess_semantics.specs.DomainJudgements.{marks_fit, are_ints, ranges_fit, numbers_of, ranges_of, index_domains, fields_distinct, dom_fits, is_enumerable, listed_domains, all_fixed, dom_is_enumerable}
 use Rattle.ess_semantics.specs.ExpressionJudgements.{ex_fits, pattern_fits}
-use Rattle.ess_semantics.specs.Judgements.{ill_typed, not_enumerable, expression_of, domain_in, every_of_stm, place_fits, order_is_fit, size_is_fixed, meets}
+use Rattle.ess_semantics.specs.Judgements.{expression_of, domain_in, every_of_stm, place_fits, order_is_fit, size_is_fixed}
 use Rattle.ess_semantics.proofs.Tests.{and-left, and-right}
 use Rattle.ess_repr_structure_laws.specs.OrderlyDomains.{LayerIsOrderly, Orderly, AllOrderly}
 use Rattle.ess_repr_structure_laws.specs.Laws.{JudgedDomainsAreOrderly}

@@ -1,5 +1,5 @@
 -- A view of which this much is known is ready, by induction over its representation.
-use Rattle.std.proofs.Common.{◌≡◌, refl, sym, ap, ◌∙◌, subst, ℕ, ◌<◌, true, false, ◌&&◌, List, [], ◌∷◌, Some}
+use Rattle.std.proofs.Common.{◌≡◌, refl, sym, subst, ℕ, ◌<◌, true, false, []}
 use Rattle.ess_semantics.specs.declared.words.ReprKind.{ReprKind}
 use Rattle.ess_semantics.specs.Values.{Text}
 use Rattle.ess_semantics.specs.Order.{same_text}
@@ -8,7 +8,7 @@ use Rattle.ess_semantics.specs.Membership.{no_negative_attribute, each_layer_of_
 use Rattle.ess_semantics.specs.Sizes.{child_relation, child_set, child_parts}
 use Rattle.ess_semantics.specs.Trees.{Repr, Reprs, repr, no_reprs, more_reprs, Dom, Doms, no_doms, more_doms, tuple_dom, record_dom, matrix_dom, set_dom, mset_dom, function_dom, relation_dom, partition_dom}
 use Rattle.ess_semantics.specs.Domains.{Domain, Domains, tuples, records, matrices, sets, msets, functions, relations, partitions, domain_list, no_domains, more_domains}
-use Rattle.ess_semantics.specs.Meaning.{Env, domain_of, domains_of}
+use Rattle.ess_semantics.specs.Meaning.{Env}
 use Rattle.ess_semantics.proofs.Tests.{and-left, and-right}
 use Rattle.ess_repr_laws.specs.Finite.{FiniteAtoms, HaveLists}
 use Rattle.ess_repr_laws.specs.StructureParts.{tuple_set_dom}
@@ -21,7 +21,7 @@ use Rattle.ess_repr_structure_laws.proofs.AtomsReady.{atom-ready}
 use Rattle.ess_repr_structure_laws.proofs.FittingChildren.{ChildrenFit, children-fit}
 use Rattle.ess_repr_structure_laws.proofs.ReadyConversions.{matrix-ready, tuples-known, tuples-ready, pairs-known, pairs-ready, numbers-ready, parts-known, parts-ready}
 use Rattle.ess_repr_structure_laws.proofs.ReadyFunctions.{from-is, function-child, function-1d-ready, function-nd-ready, function-1d-partial-ready, function-nd-partial-ready}
-use Rattle.ess_repr_structure_laws.proofs.ReadyParts.{Names, N, Known, AllKnown, are-atoms, bool-is, axes-are}
+use Rattle.ess_repr_structure_laws.proofs.ReadyParts.{N, Known, AllKnown, are-atoms, bool-is, axes-are}
 use Rattle.ess_repr_structure_laws.proofs.ReadySets.{set-child, set-ready, occurrence-ready, with-dummy-ready, mset-child, mset-ready, times-ready, mset-occurrence-ready}
 use Rattle.ess_repr_structure_laws.proofs.Shapes.{denoted-same, tuple-shape, record-shape, matrix-shape, set-shape, mset-shape, function-shape, relation-shape, partition-shape, tuple-parts, record-parts, matrix-parts, first-of}
 
@@ -62,18 +62,19 @@ module _ (env0 : Env) (q : ℕ → Text) (q-apart : (m l : ℕ) → l < m → sa
         let s = matrix-shape d js e (form k d (matrices js e) i) in
         let j : Has k (matrix_dom s.0 s.1) (matrices js e) = subst (λ d. Has k d (matrices js e)) s.2 i in
         let f : ChildrenFit ReprKind.Matrix (more_reprs r no_reprs) (matrix_dom s.0 s.1) = children-fit ReprKind.Matrix (more_reprs r no_reprs) (matrix_dom s.0 s.1) j.sound j.fit in
-        subst (λ d. Is k d (matrices js e)) (sym s.2)
-        ((are-atoms js j.room.0, have-lists js j.room.0),
-        axes-are env0 q q-apart s.0 js (λ bs. let p = matrix-parts s.0 s.1 (N env0 q q-apart bs) js e (j.means bs) in p.0) j.room.0,
-        ready r s.1 e (record {
-          sound = j.sound.2;
-          fit = and-left (fits r s.1) true f.fit;
-          room = j.room.1;
-          neat = j.neat;
-          plain = and-right (each_layer_of_all not_below js) (no_negative_attribute e) j.plain;
-          means = λ bs. let p = matrix-parts s.0 s.1 (N env0 q q-apart bs) js e (j.means bs) in p.1;
-          numbers = λ bs. let n = j.numbers bs in n.1;
-        }))
+        subst (λ d. Is k d (matrices js e)) (sym s.2) (
+          (are-atoms js j.room.0, have-lists js j.room.0),
+          axes-are env0 q q-apart s.0 js (λ bs. let p = matrix-parts s.0 s.1 (N env0 q q-apart bs) js e (j.means bs) in p.0) j.room.0,
+          ready r s.1 e (record {
+            sound = j.sound.2;
+            fit = and-left (fits r s.1) true f.fit;
+            room = j.room.1;
+            neat = j.neat;
+            plain = and-right (each_layer_of_all not_below js) (no_negative_attribute e) j.plain;
+            means = λ bs. let p = matrix-parts s.0 s.1 (N env0 q q-apart bs) js e (j.means bs) in p.1;
+            numbers = λ bs. let n = j.numbers bs in n.1;
+          }),
+        )
     ready (repr ReprKind.Occurrence no_reprs) d (sets ks e) i =
         let k = repr ReprKind.Occurrence no_reprs in
         let s = set-shape d ks e (form k d (sets ks e) i) in
@@ -118,9 +119,12 @@ module _ (env0 : Env) (q : ℕ → Text) (q-apart : (m l : ℕ) → l < m → sa
         let s = mset-shape d ks e (form k d (msets ks e) i) in
         let j : Has k (mset_dom s.0 s.1 s.2) (msets ks e) = subst (λ d. Has k d (msets ks e)) s.3 i in
         let a = mset-ready env0 q q-apart k s.0 s.1 s.2 ks e j in
-        subst (λ d. Is k d (msets ks e)) (sym s.3)
-        (a.0, a.1, times-ready env0 q q-apart k s.0 s.1 s.2 ks e j,
-        ready r s.2 e (mset-child env0 q q-apart ReprKind.MSetExplicitWithRepetition r s.0 s.1 s.2 ks e refl j j.room.0))
+        subst (λ d. Is k d (msets ks e)) (sym s.3) (
+          a.0,
+          a.1,
+          times-ready env0 q q-apart k s.0 s.1 s.2 ks e j,
+          ready r s.2 e (mset-child env0 q q-apart ReprKind.MSetExplicitWithRepetition r s.0 s.1 s.2 ks e refl j j.room.0),
+        )
     ready (repr ReprKind.Function1D (more_reprs r no_reprs)) d (functions ks x y) i =
         let k = repr ReprKind.Function1D (more_reprs r no_reprs) in
         let s = function-shape d ks x y (form k d (functions ks x y) i) in
@@ -181,24 +185,26 @@ module _ (env0 : Env) (q : ℕ → Text) (q-apart : (m l : ℕ) → l < m → sa
     -- The same of components.
     pub all-ready : (rs : Reprs) (ds : Doms) (es : Domains) → AllKnown env0 q q-apart rs ds es → AllReady env0 q q-apart size_terms rs ds (domain_list es)
     all-ready no_reprs no_doms no_domains i = tt
-    all-ready (more_reprs r rs) (more_doms d ds) (more_domains e es) i =
-        (ready r d e (record {
-          sound = i.sound.0;
-          fit = and-left (fits r d) (all_fit rs (dom_list ds)) i.fit;
-          room = i.room.0;
-          neat = i.neat.0;
-          plain = and-left (no_negative_attribute e) (each_layer_of_all not_below es) i.plain;
-          means = λ bs. let p = first-of d ds (N env0 q q-apart bs) e es (i.means bs) in p.0;
-          numbers = λ bs. let n = i.numbers bs in n.0;
-        }), all-ready rs ds es (record {
-          sound = i.sound.1;
-          fit = and-right (fits r d) (all_fit rs (dom_list ds)) i.fit;
-          room = i.room.1;
-          neat = i.neat.1;
-          plain = and-right (no_negative_attribute e) (each_layer_of_all not_below es) i.plain;
-          means = λ bs. let p = first-of d ds (N env0 q q-apart bs) e es (i.means bs) in p.1;
-          numbers = λ bs. let n = i.numbers bs in n.1;
-        }))
+    all-ready (more_reprs r rs) (more_doms d ds) (more_domains e es) i = (
+      ready r d e (record {
+        sound = i.sound.0;
+        fit = and-left (fits r d) (all_fit rs (dom_list ds)) i.fit;
+        room = i.room.0;
+        neat = i.neat.0;
+        plain = and-left (no_negative_attribute e) (each_layer_of_all not_below es) i.plain;
+        means = λ bs. let p = first-of d ds (N env0 q q-apart bs) e es (i.means bs) in p.0;
+        numbers = λ bs. let n = i.numbers bs in n.0;
+      }),
+      all-ready rs ds es (record {
+        sound = i.sound.1;
+        fit = and-right (fits r d) (all_fit rs (dom_list ds)) i.fit;
+        room = i.room.1;
+        neat = i.neat.1;
+        plain = and-right (no_negative_attribute e) (each_layer_of_all not_below es) i.plain;
+        means = λ bs. let p = first-of d ds (N env0 q q-apart bs) e es (i.means bs) in p.1;
+        numbers = λ bs. let n = i.numbers bs in n.1;
+      }),
+    )
     all-ready no_reprs (more_doms d ds) no_domains i = let z = i.fit in cc
     all-ready no_reprs ds (more_domains e es) i = absurd i.room
     all-ready (more_reprs r rs) ds no_domains i = absurd i.room

@@ -1,24 +1,23 @@
 -- Relations, functions and partitions are ready that are kept as a matrix, as a set, as a relation or by part numbers.
-use Rattle.std.proofs.Common.{◌≡◌, refl, sym, ap, ◌∙◌, subst, ℕ, ◌<◌, Bool, true, false, ◌&&◌, if◌then◌else◌, List, [], ◌∷◌, pos, int_le, Option, Some, None, option_map, arith}
+use Rattle.std.proofs.Common.{◌≡◌, refl, sym, ap, ℕ, ◌<◌, Bool, true, false, ◌&&◌, if◌then◌else◌, List, [], ◌∷◌, pos, int_le, Option, Some, None, option_map, arith}
 use Rattle.std.proofs.lemmas.Bool.{le-leb}
 use Rattle.ess_semantics.specs.declared.words.ReprKind.{ReprKind}
 use Rattle.ess_semantics.specs.declared.words.Key.{Key}
 use Rattle.ess_semantics.specs.Lists.{and_then, each_of, or_else}
 use Rattle.ess_semantics.specs.Values.{Text}
 use Rattle.ess_semantics.specs.Order.{same_text}
-use Rattle.ess_semantics.specs.Kinds.{dom_list, fits, all_fit}
+use Rattle.ess_semantics.specs.Kinds.{fits}
 use Rattle.ess_semantics.specs.Membership.{no_negative_attribute, each_layer_of_all}
 use Rattle.ess_semantics.specs.Sizes.{bound, size_attributes, pair_sizes, child_relation, child_set, child_parts}
 use Rattle.ess_semantics.specs.Trees.{Mark, Repr, repr, no_reprs, more_reprs, Exs, Dom, Doms, no_doms, more_doms, function_dom, relation_dom, partition_dom}
-use Rattle.ess_semantics.specs.Domains.{Attribute, Domain, Domains, functions, relations, partitions, no_domains, more_domains, members, member_list, attribute, has}
-use Rattle.ess_semantics.specs.Meaning.{Env, attributes_of, domain_of, domains_of, meanings}
+use Rattle.ess_semantics.specs.Domains.{Attribute, Domain, Domains, functions, relations, partitions, no_domains, more_domains, attribute, has}
+use Rattle.ess_semantics.specs.Meaning.{Env, domain_of, domains_of}
 use Rattle.ess_semantics.proofs.Tests.{and-left, and-right, and-both}
 use Rattle.ess_repr_laws.specs.Finite.{FiniteAtoms}
-use Rattle.ess_repr_laws.specs.PartitionParts.{bare_partition_dom}
 use Rattle.ess_repr_laws.specs.RelationParts.{bare_relation_dom}
 use Rattle.ess_repr_laws.specs.StructureParts.{tuple_set_dom}
 use Rattle.ess_repr_laws.specs.ViewParts.{pair_relation_dom, part_set_dom}
-use Rattle.ess_repr_laws.specs.StructureMeaning.{Attributes, DomainIs, BoolIs, EachFlag, PairKeyReady, PairRelationKeyReady, RelationKeyReady, MatrixKeyReady, WithinOne}
+use Rattle.ess_repr_laws.specs.StructureMeaning.{Attributes, DomainIs, PairKeyReady, PairRelationKeyReady, RelationKeyReady, MatrixKeyReady, WithinOne}
 use Rattle.ess_repr_laws.specs.StructureReady.{Ready}
 use Rattle.ess_repr_laws.proofs.Enumerables.{IsEnumerated}
 use Rattle.ess_repr_laws.proofs.StructureConversions.{each-flag}
@@ -130,9 +129,12 @@ module _ (env0 : Env) (q : ℕ → Text) (q-apart : (m l : ℕ) → l < m → sa
   pub matrix-ready : (ms : List Mark) (es : Exs) (ds : Doms) (ks : List Attribute) (xs : Domains) →
       Known env0 q q-apart (repr ReprKind.RelationAsMatrix no_reprs) (relation_dom ms es ds) (relations ks xs) →
       Ready env0 q q-apart size_terms (repr ReprKind.RelationAsMatrix no_reprs) (relation_dom ms es ds) (relations ks xs)
-  matrix-ready ms es ds ks xs i =
-      (are-atoms xs i.room, each-flag (RelationFlag xs) (MatrixKeyReady env0 q q-apart ds xs) ks one i.neat.1, axes-are env0 q q-apart ds xs m i.room,
-      relation-attributes (repr ReprKind.RelationAsMatrix no_reprs) ms es ds ks xs i)
+  matrix-ready ms es ds ks xs i = (
+    are-atoms xs i.room,
+    each-flag (RelationFlag xs) (MatrixKeyReady env0 q q-apart ds xs) ks one i.neat.1,
+    axes-are env0 q q-apart ds xs m i.room,
+    relation-attributes (repr ReprKind.RelationAsMatrix no_reprs) ms es ds ks xs i,
+  )
     where
       m : (bs : Names env0 q q-apart) → domains_of ds (E bs) ≡ Some xs
       m = components (repr ReprKind.RelationAsMatrix no_reprs) ms es ds ks xs i
@@ -166,10 +168,15 @@ module _ (env0 : Env) (q : ℕ → Text) (q-apart : (m l : ℕ) → l < m → sa
       Ready env0 q q-apart size_terms (repr ReprKind.RelationAsSet (more_reprs r no_reprs)) (relation_dom ms es ds) (relations ks xs)
   tuples-ready r ms es ds ks xs i child =
       let k = repr ReprKind.RelationAsSet (more_reprs r no_reprs) in
-      let c : Known env0 q q-apart r (tuple_set_dom ms es ds) (child_set ks xs) = tuples-known r ms es ds ks xs i in
-      ((are-sizes ks i.neat.0, each-flag (RelationFlag xs) (RelationKeyReady env0 q q-apart ds xs (tuple_set_dom ms es ds) (child_set ks xs)) ks
-      (pair-key-ready ds xs (components k ms es ds ks xs i) (tuple_set_dom ms es ds) (child_set ks xs) c.means) i.neat.1),
-      relation-attributes k ms es ds ks xs i, child)
+      let c : Known env0 q q-apart r (tuple_set_dom ms es ds) (child_set ks xs) = tuples-known r ms es ds ks xs i in (
+        (
+          are-sizes ks i.neat.0,
+          each-flag (RelationFlag xs) (RelationKeyReady env0 q q-apart ds xs (tuple_set_dom ms es ds) (child_set ks xs)) ks
+              (pair-key-ready ds xs (components k ms es ds ks xs i) (tuple_set_dom ms es ds) (child_set ks xs) c.means) i.neat.1,
+        ),
+        relation-attributes k ms es ds ks xs i,
+        child,
+      )
 
   -- ---- functions as relations
 
@@ -199,10 +206,13 @@ module _ (env0 : Env) (q : ℕ → Text) (q-apart : (m l : ℕ) → l < m → sa
       Ready env0 q q-apart size_terms r (pair_relation_dom size_terms ms es d c) (child_relation ks x y) →
       Ready env0 q q-apart size_terms (repr ReprKind.FunctionAsRelation (more_reprs r no_reprs)) (function_dom ms es d c) (functions ks x y)
   pairs-ready r ms es d c ks x y i child =
-      let b : Known env0 q q-apart r (pair_relation_dom size_terms ms es d c) (child_relation ks x y) = pairs-known r ms es d c ks x y i in
-      ((bool-is d (E []) x (dm []), bool-is c (E []) y (cm [])),
-      (are-pair-sizes ks x i.neat.0, flags-both (λ k. has k ks ≡ true) (FunctionFlag x y) (PairKeyReady env0 q q-apart c ks x y) ks one (flags-there ks) i.neat.1),
-      function-attributes env0 q q-apart k ms es d c ks x y i, b.means, child)
+      let b : Known env0 q q-apart r (pair_relation_dom size_terms ms es d c) (child_relation ks x y) = pairs-known r ms es d c ks x y i in (
+        (bool-is d (E []) x (dm []), bool-is c (E []) y (cm [])),
+        (are-pair-sizes ks x i.neat.0, flags-both (λ k. has k ks ≡ true) (FunctionFlag x y) (PairKeyReady env0 q q-apart c ks x y) ks one (flags-there ks) i.neat.1),
+        function-attributes env0 q q-apart k ms es d c ks x y i,
+        b.means,
+        child,
+      )
     where
       k : Repr
       k = repr ReprKind.FunctionAsRelation (more_reprs r no_reprs)

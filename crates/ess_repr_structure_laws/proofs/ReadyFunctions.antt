@@ -1,5 +1,5 @@
 -- Functions are ready: what their structures ask of them follows from what is known of them.
-use Rattle.std.proofs.Common.{◌≡◌, refl, sym, ap, ◌∙◌, ℕ, ◌<◌, true, false, ◌&&◌, List, [], ◌∷◌, Some}
+use Rattle.std.proofs.Common.{◌≡◌, sym, ap, ◌∙◌, ℕ, ◌<◌, true, false, ◌&&◌, List, [], ◌∷◌}
 use Rattle.ess_semantics.specs.declared.words.ReprKind.{ReprKind}
 use Rattle.ess_semantics.specs.declared.words.Key.{Key}
 use Rattle.ess_semantics.specs.Values.{Text}
@@ -7,20 +7,19 @@ use Rattle.ess_semantics.specs.Order.{same_text}
 use Rattle.ess_semantics.specs.Kinds.{fits, all_fit}
 use Rattle.ess_semantics.specs.Membership.{no_negative_attribute}
 use Rattle.ess_semantics.specs.Trees.{Mark, Repr, repr, no_reprs, more_reprs, Exs, Dom, Doms, tuple_dom, function_dom}
-use Rattle.ess_semantics.specs.Domains.{Attribute, Domain, Domains, functions, tuples, members, member_list}
-use Rattle.ess_semantics.specs.Meaning.{Env, attributes_of, domain_of, domains_of, meanings}
+use Rattle.ess_semantics.specs.Domains.{Attribute, Domain, Domains, functions, tuples}
+use Rattle.ess_semantics.specs.Meaning.{Env}
 use Rattle.ess_semantics.proofs.Tests.{and-left, and-right}
 use Rattle.ess_repr_laws.specs.Rooms.{Roomy}
 use Rattle.ess_repr_laws.specs.StructureMeaning.{Attributes, DomainIs, EachFlag, ValueKeyReady, FlagKeyReady}
 use Rattle.ess_repr_laws.specs.StructureReady.{Ready}
-use Rattle.ess_repr_laws.proofs.Enumerables.{IsEnumerated}
 use Rattle.ess_repr_laws.proofs.StructureConversions.{each-flag}
 use Rattle.ess_repr_declare_laws.specs.ChildDomains.{child_doms}
 use Rattle.ess_repr_declare_laws.specs.SizeTerms.{size_terms}
 use Rattle.ess_repr_declare_laws.proofs.SizeNumbers.{not_below}
 use Rattle.ess_repr_structure_laws.proofs.FittingChildren.{ChildrenFit, children-fit}
 use Rattle.ess_repr_structure_laws.proofs.NeatDomains.{FunctionFlag}
-use Rattle.ess_repr_structure_laws.proofs.ReadyParts.{Names, N, Known, listed-is, tuples-listed, are-atoms, axis-are, axes-are, bare-function-is, values-listed, attributes-are}
+use Rattle.ess_repr_structure_laws.proofs.ReadyParts.{N, Known, listed-is, tuples-listed, are-atoms, axis-are, axes-are, bare-function-is, values-listed, attributes-are}
 use Rattle.ess_repr_structure_laws.proofs.Shapes.{function-parts, tuple-parts}
 
 module _ (env0 : Env) (q : ℕ → Text) (q-apart : (m l : ℕ) → l < m → same_text (q m) (q l) ≡ false) where
@@ -95,9 +94,14 @@ module _ (env0 : Env) (q : ℕ → Text) (q-apart : (m l : ℕ) → l < m → sa
       Ready env0 q q-apart size_terms (repr ReprKind.FunctionND (more_reprs r no_reprs)) (function_dom ms es (tuple_dom ds) c) (functions ks (tuples xs) y)
   function-nd-ready r ms es ds c ks xs y i child =
       let k = repr ReprKind.FunctionND (more_reprs r no_reprs) in
-      let m = from-is k ms es (tuple_dom ds) c ks (tuples xs) y i in
-      (are-atoms xs i.room.0, tuples-listed xs i.room.0, value-keys k ms es (tuple_dom ds) c ks (tuples xs) y i r,
-      axes-are env0 q q-apart ds xs (λ bs. tuple-parts ds (N env0 q q-apart bs) xs (m bs)) i.room.0, function-attributes k ms es (tuple_dom ds) c ks (tuples xs) y i, child)
+      let m = from-is k ms es (tuple_dom ds) c ks (tuples xs) y i in (
+        are-atoms xs i.room.0,
+        tuples-listed xs i.room.0,
+        value-keys k ms es (tuple_dom ds) c ks (tuples xs) y i r,
+        axes-are env0 q q-apart ds xs (λ bs. tuple-parts ds (N env0 q q-apart bs) xs (m bs)) i.room.0,
+        function-attributes k ms es (tuple_dom ds) c ks (tuples xs) y i,
+        child,
+      )
 
   -- A flag and a value for each argument.
   pub function-1d-partial-ready : (r : Repr) (ms : List Mark) (es : Exs) (d c : Dom) (ks : List Attribute) (x y : Domain) →
@@ -114,6 +118,10 @@ module _ (env0 : Env) (q : ℕ → Text) (q-apart : (m l : ℕ) → l < m → sa
       Ready env0 q q-apart size_terms (repr ReprKind.FunctionNDPartial (more_reprs r no_reprs)) (function_dom ms es (tuple_dom ds) c) (functions ks (tuples xs) y)
   function-nd-partial-ready r ms es ds c ks xs y i child =
       let k = repr ReprKind.FunctionNDPartial (more_reprs r no_reprs) in
-      let m = from-is k ms es (tuple_dom ds) c ks (tuples xs) y i in
-      (are-atoms xs i.room.0, flag-keys k ms es (tuple_dom ds) c ks (tuples xs) y i,
-      axes-are env0 q q-apart ds xs (λ bs. tuple-parts ds (N env0 q q-apart bs) xs (m bs)) i.room.0, function-attributes k ms es (tuple_dom ds) c ks (tuples xs) y i, child)
+      let m = from-is k ms es (tuple_dom ds) c ks (tuples xs) y i in (
+        are-atoms xs i.room.0,
+        flag-keys k ms es (tuple_dom ds) c ks (tuples xs) y i,
+        axes-are env0 q q-apart ds xs (λ bs. tuple-parts ds (N env0 q q-apart bs) xs (m bs)) i.room.0,
+        function-attributes k ms es (tuple_dom ds) c ks (tuples xs) y i,
+        child,
+      )

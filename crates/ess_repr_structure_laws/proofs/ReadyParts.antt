@@ -1,6 +1,5 @@
 -- What is known of a view's domain on the way down its representation, and what follows of its parts under each binding of names.
-use Rattle.std.proofs.Common.{◌≡◌, refl, sym, ap, ◌∙◌, subst, ℕ, ◌<◌, ◌*◌, Bool, true, false, ◌&&◌, not, List, [], ◌∷◌, pos, Option, Some, None, option_map, is_some, IsTrue}
-use Rattle.ess_semantics.specs.declared.words.ReprKind.{ReprKind}
+use Rattle.std.proofs.Common.{◌≡◌, refl, sym, ap, ◌∙◌, ℕ, ◌<◌, ◌*◌, true, false, List, [], ◌∷◌, pos, Option, Some, None, option_map, is_some, IsTrue}
 use Rattle.ess_semantics.specs.declared.words.Key.{Key}
 use Rattle.ess_semantics.specs.Lists.{and_then, list_or_none}
 use Rattle.ess_semantics.specs.Values.{Text, Value}
@@ -8,19 +7,17 @@ use Rattle.ess_semantics.specs.Order.{same_text}
 use Rattle.ess_semantics.specs.Kinds.{dom_list, fits, all_fit, has_dummy}
 use Rattle.ess_semantics.specs.Membership.{no_negative_attribute, each_layer_of_all}
 use Rattle.ess_semantics.specs.Sizes.{bound, greatest_size, slots_of_set, slots_of_mset, occurrences}
-use Rattle.ess_semantics.specs.Trees.{Mark, Repr, Reprs, repr, no_reprs, more_reprs, Ex, Exs, no_exs, Dom, Doms, bool_dom, int_dom, name_dom, no_doms, more_doms, tuple_dom, record_dom, matrix_dom, set_dom, mset_dom, function_dom, relation_dom, partition_dom}
-use Rattle.ess_semantics.specs.Domains.{Attribute, numbered, flagged, Domain, Domains, booleans, integers, named, sets, msets, functions, domain_list, no_domains, more_domains, members, member_list, tuples, records, matrices, relations, partitions}
-use Rattle.ess_semantics.specs.Meaning.{Env, TypeEntry, type_entry, named_domain, spans_of, attributes_of, is_bool_dom, domain_of, domains_of, members_in, meaning, meanings}
+use Rattle.ess_semantics.specs.Trees.{Mark, Repr, Reprs, Exs, Dom, Doms, bool_dom, int_dom, name_dom, no_doms, more_doms, tuple_dom, record_dom, matrix_dom, set_dom, mset_dom, function_dom, relation_dom, partition_dom}
+use Rattle.ess_semantics.specs.Domains.{Attribute, numbered, flagged, Domain, Domains, booleans, integers, named, functions, domain_list, no_domains, more_domains, members, member_list, tuples}
+use Rattle.ess_semantics.specs.Meaning.{Env, attributes_of, is_bool_dom, domain_of, domains_of, members_in, meanings}
 use Rattle.ess_semantics.specs.Atoms.{IsAtom, AreAtoms}
-use Rattle.ess_semantics.proofs.Tests.{and-left, and-right}
 use Rattle.ess_repr_laws.specs.Finite.{FiniteAtom, FiniteAtoms, Enumerable, AllEnumerable}
-use Rattle.ess_repr_laws.specs.FunctionParts.{bare_function_dom}
 use Rattle.ess_repr_laws.specs.Rooms.{Roomy, AllRoomy, HasDummy}
-use Rattle.ess_repr_laws.specs.StructureMeaning.{Number, AllNumbers, Bound, M, AxesAre, Attributes, SlotsAre, DomainIs, BoolIs, BareFunctionIs, ValuesListed, EachFlag, index_members}
+use Rattle.ess_repr_laws.specs.StructureMeaning.{AllNumbers, Bound, M, AxesAre, Attributes, SlotsAre, DomainIs, BoolIs, BareFunctionIs, ValuesListed, EachFlag, index_members}
 use Rattle.ess_repr_laws.proofs.EnumerableDomains.{enumerable-listed}
 use Rattle.ess_repr_laws.proofs.Enumerables.{IsEnumerated}
 use Rattle.ess_repr_declare_laws.specs.Laws.{Sound, AllSound}
-use Rattle.ess_repr_declare_laws.specs.SizeTerms.{bound_ex, greatest_size_of, occurrences_ex, times_ex, slots_ex, size_terms}
+use Rattle.ess_repr_declare_laws.specs.SizeTerms.{bound_ex, greatest_size_of, occurrences_ex, times_ex, size_terms}
 use Rattle.ess_repr_declare_laws.proofs.Readings.{times-reads}
 use Rattle.ess_repr_declare_laws.proofs.SizeMeaning.{bound-is}
 use Rattle.ess_repr_declare_laws.proofs.SizeNumbers.{not_below, default-numbered, greatest-reads, occurrences-reads}

@@ -1,5 +1,5 @@
 -- Sets and multisets are ready: what their structures ask of them follows from what is known of them.
-use Rattle.std.proofs.Common.{◌≡◌, refl, sym, ap, ◌∙◌, subst, ℕ, ◌<◌, Bool, true, false, ◌&&◌, if◌then◌else◌, List, [], ◌∷◌, pos, Option, Some, None, option_map}
+use Rattle.std.proofs.Common.{◌≡◌, refl, sym, ap, ◌∙◌, ℕ, ◌<◌, Bool, true, false, if◌then◌else◌, List, [], ◌∷◌, pos, Some, None, option_map}
 use Rattle.ess_semantics.specs.declared.words.ReprKind.{ReprKind}
 use Rattle.ess_semantics.specs.declared.words.Key.{Key}
 use Rattle.ess_semantics.specs.Lists.{and_then}
@@ -8,12 +8,11 @@ use Rattle.ess_semantics.specs.Order.{same_text}
 use Rattle.ess_semantics.specs.Kinds.{fits, all_fit, has_dummy}
 use Rattle.ess_semantics.specs.Membership.{no_negative_attribute}
 use Rattle.ess_semantics.specs.Sizes.{slots_of_set, slots_of_mset}
-use Rattle.ess_semantics.specs.Trees.{Mark, valued, Repr, repr, no_reprs, more_reprs, Ex, Exs, no_exs, Dom, set_dom, mset_dom}
-use Rattle.ess_semantics.specs.Domains.{Attribute, numbered, Domain, sets, msets, member_list}
-use Rattle.ess_semantics.specs.Meaning.{Env, attributes_of, domain_of, meaning, meanings, as_int}
+use Rattle.ess_semantics.specs.Trees.{Mark, Repr, repr, no_reprs, more_reprs, Exs, Dom, set_dom, mset_dom}
+use Rattle.ess_semantics.specs.Domains.{Attribute, numbered, Domain, sets, msets}
+use Rattle.ess_semantics.specs.Meaning.{Env, attributes_of, domain_of, meanings, as_int}
 use Rattle.ess_semantics.proofs.Tests.{and-left, and-right}
 use Rattle.ess_repr_laws.specs.Rooms.{Roomy}
-use Rattle.ess_repr_laws.specs.MultisetParts.{bare_mset_dom}
 use Rattle.ess_repr_laws.specs.StructureMeaning.{Attributes, SlotsAre, DomainIs, TimesReady}
 use Rattle.ess_repr_laws.specs.StructureReady.{Ready}
 use Rattle.ess_repr_declare_laws.specs.ChildDomains.{child_doms}
@@ -58,9 +57,10 @@ module _ (env0 : Env) (q : ℕ → Text) (q-apart : (m l : ℕ) → l < m → sa
     pub set-ready : SetReady
     set-ready =
         let low = and-left (not_below ks) (no_negative_attribute e) i.plain in
-        let plain = and-right (not_below ks) (no_negative_attribute e) i.plain in
-        (attributes-are env0 q q-apart ms es d ks e low plain at inner (λ bs. let n = i.numbers bs in n.0) (λ bs. let n = i.numbers bs in n.1),
-        set-slots-are env0 q q-apart ms es d ks e low plain at inner (λ bs. let n = i.numbers bs in n.0) (λ bs. let n = i.numbers bs in n.1))
+        let plain = and-right (not_below ks) (no_negative_attribute e) i.plain in (
+          attributes-are env0 q q-apart ms es d ks e low plain at inner (λ bs. let n = i.numbers bs in n.0) (λ bs. let n = i.numbers bs in n.1),
+          set-slots-are env0 q q-apart ms es d ks e low plain at inner (λ bs. let n = i.numbers bs in n.0) (λ bs. let n = i.numbers bs in n.1),
+        )
 
   -- Which members occur.
   pub occurrence-ready : (ms : List Mark) (es : Exs) (d : Dom) (ks : List Attribute) (e : Domain) →
@@ -121,9 +121,10 @@ module _ (env0 : Env) (q : ℕ → Text) (q-apart : (m l : ℕ) → l < m → sa
     pub mset-ready : Attributes env0 q q-apart size_terms ms es ks × SlotsAre env0 q q-apart size_terms (mset_dom ms es d) (slots_of_mset ks e)
     mset-ready =
         let low = and-left (not_below ks) (no_negative_attribute e) i.plain in
-        let plain = and-right (not_below ks) (no_negative_attribute e) i.plain in
-        (attributes-are env0 q q-apart ms es d ks e low plain mset-at mset-inner (λ bs. let n = i.numbers bs in n.0) (λ bs. let n = i.numbers bs in n.1),
-        mset-slots-are env0 q q-apart ms es d ks e low plain mset-at mset-inner (λ bs. let n = i.numbers bs in n.0) (λ bs. let n = i.numbers bs in n.1))
+        let plain = and-right (not_below ks) (no_negative_attribute e) i.plain in (
+          attributes-are env0 q q-apart ms es d ks e low plain mset-at mset-inner (λ bs. let n = i.numbers bs in n.0) (λ bs. let n = i.numbers bs in n.1),
+          mset-slots-are env0 q q-apart ms es d ks e low plain mset-at mset-inner (λ bs. let n = i.numbers bs in n.0) (λ bs. let n = i.numbers bs in n.1),
+        )
 
     -- The domain of as many members as there are slots.
     pub times-ready : TimesReady env0 q q-apart (slots_ex (mset_dom ms es d)) d ks e

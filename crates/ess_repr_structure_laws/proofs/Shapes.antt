@@ -1,9 +1,8 @@
 -- A domain that an expression denotes has the expression's form, and its parts are what the parts of the expression denote.
-use Rattle.std.proofs.Common.{◌≡◌, refl, sym, ap, ◌∙◌, Bool, true, false, List, [], ◌∷◌, Option, Some, None, option_map}
-use Rattle.ess_semantics.specs.Lists.{and_then}
+use Rattle.std.proofs.Common.{◌≡◌, refl, sym, ap, ◌∙◌, Bool, true, false, List, Option, Some, None, option_map}
 use Rattle.ess_semantics.specs.Values.{Text}
-use Rattle.ess_semantics.specs.Trees.{Mark, Ends, Exs, Dom, Doms, bool_dom, int_dom, name_dom, tuple_dom, record_dom, matrix_dom, set_dom, mset_dom, function_dom, relation_dom, partition_dom, no_doms, more_doms}
-use Rattle.ess_semantics.specs.Domains.{Span, Attribute, Domain, Domains, booleans, integers, named, tuples, records, matrices, sets, msets, functions, relations, partitions, no_domains, more_domains, between}
+use Rattle.ess_semantics.specs.Trees.{Mark, Exs, Dom, Doms, bool_dom, int_dom, name_dom, tuple_dom, record_dom, matrix_dom, set_dom, mset_dom, function_dom, relation_dom, partition_dom, more_doms}
+use Rattle.ess_semantics.specs.Domains.{Attribute, Domain, Domains, booleans, integers, named, tuples, records, matrices, sets, msets, functions, relations, partitions, more_domains, between}
 use Rattle.ess_semantics.specs.Meaning.{Env, TypeEntry, type_entry, attributes_of, meanings, spans_of, named_domain, domain_of, domains_of}
 use Rattle.std.specs.Prelude.{pos}
 use Rattle.ess_repr_laws.proofs.DomainForms.{same_form}

@@ -1,15 +1,15 @@
 -- The sizes that a child takes over are those that the attributes ask for, where each attribute's number is the only one of its key.
-use Rattle.std.proofs.Common.{◌≡◌, refl, sym, ap, ◌∙◌, ℕ, Bool, true, false, ◌&&◌, if◌then◌else◌, List, [], ◌∷◌, length, ℤ, pos, Option, Some, None}
+use Rattle.std.proofs.Common.{◌≡◌, refl, sym, ap, ◌∙◌, ℕ, Bool, true, false, if◌then◌else◌, List, [], ◌∷◌, length, ℤ, pos, Option, Some, None}
 use Rattle.std.specs.List.{list_all}
 use Rattle.ess_semantics.specs.declared.words.Key.{Key}
 use Rattle.ess_semantics.specs.Lists.{or_else}
 use Rattle.ess_semantics.specs.Values.{Value, items_of}
 use Rattle.ess_semantics.specs.Attributes.{each_number_holds, part_sizes, partition_holds, set_attributes_hold, size_holds}
 use Rattle.ess_semantics.specs.Domains.{Attribute, numbered, flagged, Domain, attribute, has}
-use Rattle.ess_semantics.specs.Sizes.{bound, size_attributes, pair_sizes}
+use Rattle.ess_semantics.specs.Sizes.{bound, size_attributes}
 use Rattle.ess_semantics.proofs.Tests.{and-left, and-right, and-both}
-use Rattle.ess_repr_laws.specs.PartSizes.{ArePartSizes, part_counts, part_sizes_of}
-use Rattle.ess_repr_laws.specs.StructureMeaning.{AreSizes, ArePairSizes, exact_sizes_hold, is_exact, tuple_set_sizes}
+use Rattle.ess_repr_laws.specs.PartSizes.{ArePartSizes, part_sizes_of}
+use Rattle.ess_repr_laws.specs.StructureMeaning.{AreSizes, ArePairSizes, is_exact, tuple_set_sizes}
 use Rattle.ess_repr_structure_laws.proofs.NeatDomains.{EachNumber, IsTold, Told}
 
 -- Each number holds.

@@ -1,5 +1,5 @@
 -- Sizes of domains as terms are whole numbers, where the numbers in the domains are.
-use Rattle.std.proofs.Common.{◌≡◌, refl, sym, ap, ◌∙◌, Bool, true, false, if◌then◌else◌, List, [], ◌∷◌, ℕ, ℤ, pos, Option, Some, None, option_map}
+use Rattle.std.proofs.Common.{◌≡◌, ap, Bool, true, false, if◌then◌else◌, List, [], ◌∷◌, ℤ, pos, Option, Some, None, option_map}
 use Rattle.std.specs.declared.cmp.Ordering.{Ordering}
 use Rattle.std.specs.declared.cmp.Ordering.TheVariants.{Less, Equal, Greater}
 use Rattle.ess_semantics.specs.declared.words.Op2.{Op2}
@@ -10,12 +10,12 @@ use Rattle.ess_semantics.specs.Values.{Value, number}
 use Rattle.ess_semantics.specs.Order.{below}
 use Rattle.ess_semantics.specs.Numbers.{power_of}
 use Rattle.ess_semantics.specs.Operators.{number_in, false_where_undefined, value_of_node, list_value}
-use Rattle.ess_semantics.specs.Trees.{binary, word, matrix_literal, Ends, one_value, both_ends, low_end, high_end, Mark, flag, valued, name_pat, Ex, Exs, number_ex, no_exs, more_exs, no_gens, over, Dom, Doms, bool_dom, int_dom, name_dom, tuple_dom, record_dom, matrix_dom, set_dom, mset_dom, function_dom, relation_dom, partition_dom, no_doms, more_doms}
+use Rattle.ess_semantics.specs.Trees.{binary, word, matrix_literal, Ends, one_value, both_ends, low_end, high_end, Mark, flag, valued, name_pat, Ex, Exs, no_exs, more_exs, no_gens, over, Dom, Doms, bool_dom, int_dom, name_dom, tuple_dom, record_dom, matrix_dom, set_dom, mset_dom, function_dom, relation_dom, partition_dom, no_doms, more_doms}
 use Rattle.ess_semantics.specs.Domains.{same_key}
 use Rattle.ess_semantics.specs.Kinds.{is_bounded}
 use Rattle.ess_semantics.specs.Meaning.{Env, as_int, meaning, items_under}
-use Rattle.ess_repr_laws.specs.StructureMeaning.{Number, AllNumbers}
-use Rattle.ess_repr_declare_laws.specs.SizeTerms.{zero_ex, one_ex, two_ex, plus_ex, minus_ex, times_ex, power_ex, next_ex, at_least_0_ex, unused_name, listed_ex, is_numeral, numerals_order, span_ex, span_by, between_ex, is_missing, bound_or_0, count_ex, number_of, greatest_size_of, occurrences_ex, bound_ex, product_ex, product_behind, slots_ex, dummy_ex}
+use Rattle.ess_repr_laws.specs.StructureMeaning.{AllNumbers}
+use Rattle.ess_repr_declare_laws.specs.SizeTerms.{zero_ex, one_ex, two_ex, plus_ex, minus_ex, times_ex, power_ex, next_ex, unused_name, listed_ex, is_numeral, numerals_order, span_ex, span_by, between_ex, is_missing, bound_or_0, count_ex, number_of, greatest_size_of, occurrences_ex, bound_ex, product_ex, product_behind, slots_ex}
 use Rattle.ess_repr_structure_laws.specs.DomainNumbers.{NumbersIn, AllNumbersIn}
 
 -- A value that is read as a number is that number.

@@ -1,6 +1,5 @@
 -- The numbers in a domain are whole numbers, and no truth values that are read as ones. The judgements on types say so of bounds and
 -- attribute values.
-use Rattle.std.specs.Prelude.{List}
 use Rattle.ess_semantics.specs.Trees.{Dom, Doms, bool_dom, int_dom, name_dom, tuple_dom, record_dom, matrix_dom, set_dom, mset_dom, function_dom, relation_dom, partition_dom, no_doms, more_doms}
 use Rattle.ess_semantics.specs.Meaning.{Env}
 use Rattle.ess_repr_laws.specs.StructureMeaning.{AllNumbers}

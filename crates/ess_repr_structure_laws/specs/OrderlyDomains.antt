@@ -4,7 +4,7 @@ use Rattle.std.specs.List.{list_all}
 use Rattle.ess_semantics.specs.declared.words.Key.{Key}
 use Rattle.ess_semantics.specs.DomainJudgements.{marks_fit, is_enumerable, listed_domains}
 use Rattle.ess_semantics.specs.Kinds.{are_atoms, has_key}
-use Rattle.ess_semantics.specs.Trees.{Dom, Doms, bool_dom, int_dom, name_dom, tuple_dom, record_dom, matrix_dom, set_dom, mset_dom, function_dom, relation_dom, partition_dom, no_doms, more_doms}
+use Rattle.ess_semantics.specs.Trees.{Dom, Doms, tuple_dom, record_dom, matrix_dom, set_dom, mset_dom, function_dom, relation_dom, partition_dom, no_doms, more_doms}
 
 -- The attributes are those of the domain's kind, none stands twice, and the domains whose members they list are enumerable.
 abbrev pub LayerIsOrderly : Dom → Type 0
