@@ -8,7 +8,7 @@ use Rattle.ess_semantics.specs.declared.words.Op2.{Op2}
 use Rattle.std.specs.Prelude.{codes}
 use Rattle.ess_semantics.specs.Values.{Text, truth}
 use Rattle.ess_semantics.specs.Order.{same_text}
-use Rattle.ess_semantics.specs.Trees.{valued, flag, Repr, repr, no_reprs, more_reprs, Ex, number_ex, truth_ex, no_exs, Dom, bool_dom, tuple_dom, matrix_dom, set_dom, function_dom, no_doms, more_doms, more_exs, name_ex, cell_ex, comp_ex, over, name_pat, no_gens, fun1, ex1, ex2, word, tuple_literal, relation_dom, partition_dom, node_ex, seen_ex, from, index, to_component}
+use Rattle.ess_semantics.specs.Trees.{valued, flag, Repr, repr, no_reprs, more_reprs, Ex, number_ex, truth_ex, no_exs, Dom, bool_dom, tuple_dom, matrix_dom, set_dom, function_dom, no_doms, more_doms, more_exs, name_ex, cell_ex, comp_ex, over, cond, name_pat, no_gens, fun1, ex1, ex2, word, tuple_literal, relation_dom, partition_dom, node_ex, seen_ex, from, index, to_component}
 use Rattle.ess_semantics.specs.Domains.{Domain, booleans, sets}
 use Rattle.ess_semantics.specs.Tables.{Tables, is_cell}
 use Rattle.ess_semantics.specs.Cells.{cells_of}
@@ -17,10 +17,11 @@ use Rattle.ess_semantics.specs.Declarations.{declarations, axes_of}
 use Rattle.ess_semantics.specs.CanonicalTest.{canonical}
 use Rattle.ess_semantics.specs.Meaning.{Env, meaning}
 use Rattle.ess_semantics.specs.Tidy.{over_axes}
-use Rattle.ess_repr_laws.specs.StructureParts.{tuple_set_dom, Terms, and_ex, keys_ex}
+use Rattle.ess_repr_laws.specs.StructureParts.{tuple_set_dom, Terms, and_ex, or_ex, keys_ex}
 use Rattle.ess_repr_laws.specs.FunctionParts.{with_total, flag_key_ex, value_key_ex}
 use Rattle.ess_repr_laws.specs.RelationParts.{diagonal_ex, has_pair_ex, relation_key_ex, matrix_key_ex}
 use Rattle.ess_repr_laws.specs.MultisetParts.{occurs_ex}
+use Rattle.ess_repr_laws.specs.PartitionParts.{numbered_on_ex, part_key_ex, part_sizes_ex}
 use Rattle.ess_repr_laws.specs.ViewParts.{pair_relation_dom, pairs_ex, total_size_ex, part_set_dom, parts_ex, all_taken_ex, components_differ_ex}
 use Rattle.ess_repr_laws.specs.Structure.{shapes, structure}
 use Rattle.ess_repr_laws.specs.CanonicalTables.{TablesFit}
@@ -200,3 +201,39 @@ pub of-partition-as-set : structure name at_atom (repr ReprKind.PartitionAsSet (
     ≡ and_ex (structure name at_atom (repr ReprKind.ExplicitVarSizeWithMarker (more_reprs (repr ReprKind.Occurrence no_reprs) no_reprs)) (part_set_dom at_atom [] no_exs bool_dom) ((codes "m") ∷ (codes "a") ∷ []) 1 no_exs)
     (parts_ex name 1 [] bool_dom (seen_ex (repr ReprKind.ExplicitVarSizeWithMarker (more_reprs (repr ReprKind.Occurrence no_reprs) no_reprs)) (set_dom (valued Key.MaxSize ∷ []) (more_exs (number_ex (pos 2)) no_exs) (set_dom [] no_exs bool_dom)) ((codes "m") ∷ (codes "a") ∷ []) no_exs))
 of-partition-as-set = refl
+
+-- A partition of bool by part numbers: each number is one of 1 to n, and is 1 or comes after the one before it; n is 0 or taken.
+pub of-partition-by-numbers : structure name at_atom (repr ReprKind.PartitionOccurrence no_reprs)
+    (partition_dom (valued Key.MinNumParts ∷ []) (more_exs (number_ex (pos 2)) no_exs) bool_dom)
+    ((codes "n") ∷ (codes "w") ∷ []) 1 no_exs
+    ≡ and_ex (and_ex (fun1 true Fun.And (comp_ex (numbered_on_ex name 1 bool_dom (cell_ex false (codes "n") no_exs) (codes "w") no_exs)
+    (over (name_pat (codes "q")) bool_dom no_gens)))
+    (or_ex (ex2 true Op2.Eq (cell_ex false (codes "n") no_exs) (number_ex (pos 0)))
+    (fun1 true Fun.Or (comp_ex (ex2 true Op2.Eq (cell_ex false (codes "w") (more_exs (name_ex (codes "q")) no_exs))
+    (cell_ex false (codes "n") no_exs))
+    (over (name_pat (codes "q")) bool_dom no_gens)))))
+    (and_ex (and_ex (ex2 true Op2.Le (number_ex (pos 2)) (cell_ex false (codes "n") no_exs)) (truth_ex true)) (truth_ex true))
+of-partition-by-numbers = refl
+
+-- The first member's number is 1, or one more than that of a member before it.
+pub of-numbered-on : numbered_on_ex name 1 bool_dom (name_ex (codes "n")) (codes "w") no_exs
+    ≡ and_ex (and_ex (ex2 true Op2.Le (number_ex (pos 1)) (cell_ex false (codes "w") (more_exs (name_ex (codes "q")) no_exs)))
+    (ex2 true Op2.Le (cell_ex false (codes "w") (more_exs (name_ex (codes "q")) no_exs)) (name_ex (codes "n"))))
+    (or_ex (ex2 true Op2.Eq (number_ex (pos 1)) (cell_ex false (codes "w") (more_exs (name_ex (codes "q")) no_exs)))
+    (fun1 true Fun.Or (comp_ex (ex2 true Op2.Eq (cell_ex false (codes "w") (more_exs (name_ex (codes "q")) no_exs))
+    (ex2 false Op2.Plus (cell_ex false (codes "w") (more_exs (name_ex (codes "q")) no_exs)) (number_ex (pos 1))))
+    (over (name_pat (codes "q")) bool_dom (cond (ex2 true Op2.Lt (name_ex (codes "q")) (name_ex (codes "q"))) no_gens)))))
+of-numbered-on = refl
+
+-- The size of a part is asked of each part of the view; the number of parts of the cell; `regular` isn't asked of numbers.
+pub of-part-key-sizes : part_key_ex name 1 (name_ex (codes "n")) (name_ex (codes "e")) Key.MaxPartSize (number_ex (pos 3))
+    ≡ fun1 true Fun.And (comp_ex (ex2 true Op2.Le (ex1 false Op1.Bar (name_ex (codes "q"))) (number_ex (pos 3)))
+    (from (name_pat (codes "q")) (name_ex (codes "e")) no_gens))
+of-part-key-sizes = refl
+
+pub of-part-key-number : part_key_ex name 1 (name_ex (codes "n")) (name_ex (codes "e")) Key.MaxNumParts (number_ex (pos 3))
+    ≡ ex2 true Op2.Le (name_ex (codes "n")) (number_ex (pos 3))
+of-part-key-number = refl
+
+pub of-part-key-regular : part_sizes_ex name 1 (name_ex (codes "n")) (name_ex (codes "e")) (flag Key.Regular ∷ []) no_exs ≡ truth_ex true
+of-part-key-regular = refl

@@ -28,6 +28,8 @@ pub mod CanonicalDummy
 pub mod Numberings
 pub mod PartNumbers
 pub mod CanonicalNumbers
+pub mod NumberedParts
+pub mod NumberedAsked
 pub mod CanonicalForms
 pub mod TablesAndCells
 pub mod AxesOfTables
@@ -148,6 +150,13 @@ pub mod StructurePairs
 pub mod SizeMarks
 pub mod OnceHeld
 pub mod StructurePartitions
+pub mod SizesOfParts
+pub mod OrderOfCodes
+pub mod NumbersOfCells
+pub mod StructureNumbered
 pub mod StructureAll
 pub mod StructureOfTables
 pub mod ExamplesStructure
+-- Two views of one value
+pub mod Channels
+pub mod ExamplesChannel

@@ -95,7 +95,7 @@ down xs w b (suc t) y h k p q r = by_lt_z k (w y) (λ l. go (λ x i lo hi. down 
         before z x (inr n) m = omega (arith, ints)
 
 -- a number that is taken is taken before where it is below that of an item
-taken : (xs : List Value) (w : Value → ℤ) → ByLeast xs w → (y : Value) → holds xs y ≡ true → (k : ℤ) → pos 1 ≤ℤ k → k ≤ℤ w y → (z : Value) × (holds xs z ≡ true) × ((z ≡ y) ⊎ Before z y) × (w z ≡ k)
+pub taken : (xs : List Value) (w : Value → ℤ) → ByLeast xs w → (y : Value) → holds xs y ≡ true → (k : ℤ) → pos 1 ≤ℤ k → k ≤ℤ w y → (z : Value) × (holds xs z ≡ true) × ((z ≡ y) ⊎ Before z y) × (w z ≡ k)
 taken xs w b y h k p q = go (w y -ℤ k) refl
   where
     go : (m : ℤ) → w y -ℤ k ≡ m → (z : Value) × (holds xs z ≡ true) × ((z ≡ y) ⊎ Before z y) × (w z ≡ k)

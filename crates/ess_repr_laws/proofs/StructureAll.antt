@@ -24,6 +24,7 @@ use Rattle.ess_semantics.specs.Sizes.{child_relation, child_set, child_parts}
 use Rattle.ess_repr_laws.specs.ViewParts.{pair_relation_dom, part_set_dom}
 use Rattle.ess_repr_laws.proofs.StructurePairs.{pairs-structure}
 use Rattle.ess_repr_laws.proofs.StructurePartitions.{partition-structure}
+use Rattle.ess_repr_laws.proofs.StructureNumbered.{numbered-structure, listed-complete}
 use Rattle.ess_repr_laws.proofs.StructureTupleSets.{tuple-set-structure}
 use Rattle.ess_repr_laws.proofs.StructureSets.{occurrence-structure, explicit-structure, marker-structure}
 
@@ -69,6 +70,8 @@ module _ (env0 : Env) (q : ℕ → Text) (q-apart : (m l : ℕ) → l < m → sa
     structures (repr ReprKind.PartitionAsSet (more_reprs r no_reprs)) (partition_dom ms es d) (partitions ks x) h =
         partition-structure env0 q q-apart terms r ms es d ks x h.0.0 h.0.1 h.0.2 h.1.0 h.1.1 h.2
         (structures r (part_set_dom terms ms es d) (child_parts ks x) h.3)
+    structures (repr ReprKind.PartitionOccurrence no_reprs) (partition_dom ms es d) (partitions ks x) h =
+        numbered-structure env0 q q-apart terms ms es d ks x h.0.0 h.0.1 (listed-complete x h.0.0 h.0.1) h.1 h.2 h.3
     structures _ d e h = absurd h
 
     -- The same of components.

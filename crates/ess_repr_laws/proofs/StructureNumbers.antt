@@ -28,7 +28,8 @@ not-less a b = grind arith
 pub le-means : (env : Env) (a b : Ex) (x y : ℤ) → Number a env x → Number b env y → meaning (le_ex a b) env ≡ Some (truth (int_le x y))
 le-means env a b x y p r = binary-means env true Op2.Le a b (number x) (number y) p r ∙ ap (λ s. Some (truth s)) (not-less x y)
 
-key-means : (env : Env) (k : Key) (e m : Ex) (z : ℤ) (n : ℕ) → Number e env z → Number m env (pos n) → meaning (key_ex k e m) env ≡ Some (truth (size_holds k z n))
+-- What an attribute asks of a set with n members.
+pub key-means : (env : Env) (k : Key) (e m : Ex) (z : ℤ) (n : ℕ) → Number e env z → Number m env (pos n) → meaning (key_ex k e m) env ≡ Some (truth (size_holds k z n))
 key-means env Key.Size e m z n p r = and-means env (le_ex e m) (le_ex m e) (int_le z (pos n)) (int_le (pos n) z) (le-means env e m z (pos n) p r) (le-means env m e (pos n) z r p)
 key-means env Key.MinSize e m z n p r = le-means env e m z (pos n) p r
 key-means env Key.MaxSize e m z n p r = le-means env m e (pos n) z r p

@@ -148,7 +148,8 @@ module _ (env0 : Env) (q : ℕ → Text) (q-apart : (m l : ℕ) → l < m → sa
         all-bit [] = refl
         all-bit (z ∷ zs) = ap (λ b. is_full z && b) (all-bit zs)
 
-    bar-means : (k : ℕ) (p : Value) (b : Bound env0 q q-apart) → SetOf x p → meaning (name_ex (q k)) (N b) ≡ Some p → meaning (ex1 false Op1.Bar (name_ex (q k))) (N b) ≡ Some (number (pos (length (items_of p))))
+    -- The size of a part.
+    pub bar-means : (k : ℕ) (p : Value) (b : Bound env0 q q-apart) → SetOf x p → meaning (name_ex (q k)) (N b) ≡ Some p → meaning (ex1 false Op1.Bar (name_ex (q k))) (N b) ≡ Some (number (pos (length (items_of p))))
     bar-means k p b h m =
         ap (λ o. false_where_undefined false (value_of_node (unary Op1.Bar) (o ∷ []))) m
         ∙ ap (λ z. false_where_undefined false (value_of_node (unary Op1.Bar) (Some z ∷ []))) h.1 ∙ ap (λ z. Some (number (pos (length (items_of z))))) (sym h.1)
@@ -192,9 +193,10 @@ module _ (env0 : Env) (q : ℕ → Text) (q-apart : (m l : ℕ) → l < m → sa
         all-bit [] = refl
         all-bit (z ∷ zs) = ap (λ b. is_as_large ps z && b) (all-bit zs)
 
-    key-means : (k : Key) → meaning (regular_key_ex (one_size_ex q l e) k) (N bs) ≡ Some (truth (parts_hold k ps))
-    key-means Key.Regular = one-size-means
-    key-means _ = refl
+    -- What is asked of the sizes of parts that are to be equal.
+    pub regular-key-means : (k : Key) → meaning (regular_key_ex (one_size_ex q l e) k) (N bs) ≡ Some (truth (parts_hold k ps))
+    regular-key-means Key.Regular = one-size-means
+    regular-key-means _ = refl
 
     join : (a b c : Bool) → a && (b && c) ≡ (a && b) && c
     join true b c = refl
@@ -207,7 +209,7 @@ module _ (env0 : Env) (q : ℕ → Text) (q-apart : (m l : ℕ) → l < m → sa
         and-means (N bs) (fun1 true Fun.And (comp_ex (ex2 true Op2.Eq (times_held_ex q l e) (number_ex (pos 1))) (over (name_pat (q l)) d no_gens))) (and_ex filled (keys_ex (regular_key_ex (one_size_ex q l e)) ms))
         (list_all (is_once_held ps) (member_list x)) (list_all is_full ps && regular) once-means
         (and-means (N bs) filled (keys_ex (regular_key_ex (one_size_ex q l e)) ms) (list_all is_full ps) regular full-means
-        (flags-means (N bs) (regular_key_ex (one_size_ex q l e)) (λ k. parts_hold k ps) ms os ks at (all-flags (λ k. meaning (regular_key_ex (one_size_ex q l e) k) (N bs) ≡ Some (truth (parts_hold k ps))) ks key-means)))
+        (flags-means (N bs) (regular_key_ex (one_size_ex q l e)) (λ k. parts_hold k ps) ms os ks at (all-flags (λ k. meaning (regular_key_ex (one_size_ex q l e) k) (N bs) ≡ Some (truth (parts_hold k ps))) ks regular-key-means)))
         ∙ ap (λ b. Some (truth b)) (join (list_all (is_once_held ps) (member_list x)) (list_all is_full ps) regular ∙ ap (λ b. b && regular) (once-parts x me full ps parts))
       where
         filled : Ex

@@ -17,12 +17,13 @@ use Rattle.ess_semantics.specs.CanonicalTest.{canonical}
 use Rattle.ess_semantics.specs.Tidy.{over_axes}
 use Rattle.ess_semantics.specs.Layers.{Layer}
 use Rattle.ess_semantics.specs.OneLayer.{inner_values, layer_tables, inner_tables, layer_value}
-use Rattle.ess_semantics.specs.Meaning.{Env, meaning, domain_of}
+use Rattle.ess_semantics.specs.Meaning.{Env, meaning, domain_of, is_bool_dom}
 use Rattle.ess_semantics.specs.Positions.{with_positions, domain_with_positions, with_types}
 use Rattle.ess_semantics.specs.Scopes.{Scope}
 use Rattle.ess_semantics.specs.DomainJudgements.{is_finite, is_enumerable, needs_known_slots}
 use Rattle.ess_semantics.specs.Judgements.{ill_typed, not_finite, not_enumerable, open_given, domain_in, found_domain, given_domain, meets}
 use Rattle.ess_semantics.specs.Plans.{plan_domain, stands_for_member, value_with_types}
+use Rattle.ess_repr_laws.specs.Channel.{Seen, SaysSame}
 use Rattle.ess_repr_laws.specs.Finite.{Enumerated, Bounded, Finite, Enumerable}
 use Rattle.ess_repr_laws.specs.Rooms.{Covered, Roomy}
 use Rattle.ess_repr_laws.specs.WellFormed.{Well}
@@ -120,8 +121,8 @@ pub record LayersAreComposed : Type 0 where
 -- are canonical. So for atoms, tuples, records and matrices; for sets kept as the members that occur, or in slots that are all in
 -- use, up to a marker, with flags, or with a dummy; for multisets by how often each member occurs, or in slots with these numbers
 -- or up to a marker; for functions with a value or a flag and a value for each argument, or as relations; for relations as
--- matrices or as sets; and for partitions as sets; with all attributes, in any nesting. Partitions by the number of each member's
--- part are left out.
+-- matrices or as sets; and for partitions as sets or by the number of each member's part; with all attributes, in any nesting. So for
+-- every kind.
 abbrev pub StructuresMeanCanonical : Type 0
 StructuresMeanCanonical =
     (env0 : Env) (q : ℕ → Text) (apart : (m l : ℕ) → l < m → same_text (q m) (q l) ≡ false) (terms : Terms) →
@@ -138,3 +139,9 @@ pub record ShapesAreOfTables : Type 0 where
   pub placed : (env0 : Env) (q : ℕ → Text) (apart : (m l : ℕ) → l < m → same_text (q m) (q l) ≡ false) (terms : Terms) →
       (r : Repr) (d : Dom) (e : Domain) → Ready env0 q apart terms r d e → (ns : List Text) (ts : Tables) → length ns ≡ width r →
       FoundBy env0 q apart ns ts → Placed env0 q apart (shapes q terms r d ns) (axes_members r e) ts
+
+-- Two views of a domain, by their representations and tables: their channel says that they stand for one value. So of each domain but bool.
+abbrev pub ChannelsSaySame : Type 0
+ChannelsSaySame =
+    (env : Env) (d : Dom) (e : Domain) (r s : Repr) (ns ms : List Text) (ts us : Tables) → is_bool_dom d ≡ false →
+    Seen env d e ns ts → Seen env d e ms us → SaysSame env d e r s ns ms ts us

@@ -12,9 +12,12 @@ pub mod RelationParts
 pub mod ViewParts
 pub mod FunctionParts
 pub mod MultisetParts
+pub mod PartitionParts
 pub mod PartSizes
 pub mod Structure
 pub mod StructureMeaning
 pub mod StructureReady
+-- Two views of one value
+pub mod Channel
 -- What is proved
 pub mod Laws

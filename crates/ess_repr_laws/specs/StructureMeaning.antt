@@ -138,6 +138,7 @@ abbrev mutual
   axes_members (repr ReprKind.RelationAsSet (more_reprs r no_reprs)) (relations ks xs) = axes_members r (child_set ks xs)
   axes_members (repr ReprKind.FunctionAsRelation (more_reprs r no_reprs)) (functions ks x y) = axes_members r (child_relation ks x y)
   axes_members (repr ReprKind.PartitionAsSet (more_reprs r no_reprs)) (partitions ks x) = axes_members r (child_parts ks x)
+  axes_members (repr ReprKind.PartitionOccurrence no_reprs) (partitions ks x) = [] ∷ (member_list x ∷ []) ∷ []
   axes_members _ e = []
 
   -- Those of the views of components.

@@ -5,6 +5,7 @@ use Rattle.ess_repr_laws.specs.StructureParts.{Terms, tuple_set_dom}
 use Rattle.ess_repr_laws.specs.StructureMeaning.{Attributes, SlotsAre, AtomReady, DummyIs, DomainIs, AxesAre, Bound, M, RelationKeyReady, MatrixKeyReady, TimesReady, tuple_set_sizes, EachFlag, BoolIs, AreSizes, ArePairSizes, PairKeyReady, ValueKeyReady, FlagKeyReady, index_members}
 use Rattle.ess_repr_laws.specs.ViewParts.{pair_relation_dom, part_set_dom}
 use Rattle.ess_repr_laws.specs.PartSizes.{ArePartSizes}
+use Rattle.ess_repr_laws.specs.PartitionParts.{bare_partition_dom}
 use Rattle.ess_semantics.specs.Kinds.{dom_list}
 use Rattle.ess_semantics.specs.Atoms.{IsAtom, AreAtoms}
 use Rattle.ess_repr_laws.specs.Finite.{HaveLists, Complete}
@@ -78,6 +79,9 @@ module _ (env0 : Env) (q : ℕ → Text) (q-apart : (m l : ℕ) → l < m → sa
         (ArePartSizes ks x × Attributes env0 q q-apart terms ms es ks) ×
         DomainIs env0 q q-apart (part_set_dom terms ms es d) (child_parts ks x) ×
         Ready r (part_set_dom terms ms es d) (child_parts ks x)
+    Ready (repr ReprKind.PartitionOccurrence no_reprs) (partition_dom ms es d) (partitions ks x) =
+        (IsAtom x × (members x ≡ Some (member_list x))) × AxesAre env0 q q-apart (d ∷ []) (member_list x ∷ []) ×
+        DomainIs env0 q q-apart (bare_partition_dom d) (partitions [] x) × Attributes env0 q q-apart terms ms es ks
     Ready _ d e = ⊥
 
     -- The same of components.

@@ -1,6 +1,6 @@
 //! Laws of canonical tables, each the contract of a function that does nothing.
 
-ghost use Rattle.ess_repr_laws.specs.Laws.{MembersHaveCanonicalTables, JudgedDomainsAreWell, CanonicalTablesAreOne, CanonicalCellsAreRight, BoundsAreRight, PositionsStandForTypes, PlansStandForMembers, LayersAreComposed, StructuresMeanCanonical, ShapesAreOfTables};
+ghost use Rattle.ess_repr_laws.specs.Laws.{MembersHaveCanonicalTables, JudgedDomainsAreWell, CanonicalTablesAreOne, CanonicalCellsAreRight, BoundsAreRight, PositionsStandForTypes, PlansStandForMembers, LayersAreComposed, StructuresMeanCanonical, ShapesAreOfTables, ChannelsSaySame};
 
 /// Each member of a domain has canonical tables under a representation that fits the domain: they are over exactly the declared
 /// axes, in the declared domains, canonical, stand for the member, and are the only ones.
@@ -51,4 +51,9 @@ pub fn structures_mean_canonical()
 /// A view has as many shapes as tables, and tables that are found by their names are those of the shapes.
 pub fn shapes_are_of_tables()
     ensures { ShapesAreOfTables }
+{}
+
+/// A channel between two views of a domain is true exactly where both stand for one value.
+pub fn channels_say_same()
+    ensures { ChannelsSaySame }
 {}

@@ -1,0 +1,64 @@
+-- Laws of structures of judged domains, each stated at a function that does nothing.
+use Rattle.std.specs.Prelude.{◌≡◌, ℕ, ◌<◌, Bool, true, false, List, [], length, Some}
+use Rattle.ess_semantics.specs.Values.{Text, truth}
+use Rattle.ess_semantics.specs.Order.{same_text}
+use Rattle.ess_semantics.specs.Trees.{Repr, no_exs, Dom, Stm}
+use Rattle.ess_semantics.specs.Domains.{Domain}
+use Rattle.ess_semantics.specs.Membership.{no_negative_attribute}
+use Rattle.ess_semantics.specs.Tables.{Tables}
+use Rattle.ess_semantics.specs.Cells.{cells_of}
+use Rattle.ess_semantics.specs.Kinds.{fits}
+use Rattle.ess_semantics.specs.Representations.{width}
+use Rattle.ess_semantics.specs.Declarations.{declarations, axes_of}
+use Rattle.ess_semantics.specs.CanonicalTest.{canonical}
+use Rattle.ess_semantics.specs.Tidy.{over_axes}
+use Rattle.ess_semantics.specs.Meaning.{Env, meaning, domain_of}
+use Rattle.ess_semantics.specs.FreeNames.{FreeNamesAreDom}
+use Rattle.ess_semantics.specs.Scopes.{Scope}
+use Rattle.ess_semantics.specs.DomainJudgements.{needs_known_slots}
+use Rattle.ess_semantics.specs.Judgements.{ill_typed, not_enumerable, domain_in, meets}
+use Rattle.ess_repr_laws.specs.CanonicalTables.{TablesFit}
+use Rattle.ess_repr_laws.specs.Structure.{structure}
+use Rattle.ess_repr_laws.specs.StructureMeaning.{Bound, M, FoundBy}
+use Rattle.ess_repr_laws.specs.StructureReady.{Ready}
+use Rattle.ess_repr_declare_laws.specs.SizeTerms.{size_terms}
+use Rattle.ess_repr_structure_laws.specs.DomainNumbers.{NumbersIn}
+use Rattle.ess_repr_structure_laws.specs.OrderlyDomains.{Orderly, Diagonal}
+
+-- The free names of the domain are among names that aren't reserved.
+pub record NamesApart (q : ℕ → Text) (d : Dom) : Type 0 where
+  pub names : Text → Bool
+  pub apart : (l : ℕ) (a : Text) → names a ≡ true → same_text (q l) a ≡ false
+  pub free : FreeNamesAreDom names d
+
+-- A view of a judged domain, whose representation fits: the domain denotes e, no attribute value is below 0, its numbers are numbers,
+-- and it mentions no reserved name.
+pub record JudgedView (env0 : Env) (q : ℕ → Text) (r : Repr) (d : Dom) (e : Domain) : Type 0 where
+  pub orderly : Orderly d
+  pub diagonal : Diagonal d
+  pub known : needs_known_slots d ≡ true
+  pub fit : fits r d ≡ true
+  pub denotes : domain_of d env0 ≡ Some e
+  pub plain : no_negative_attribute e ≡ true
+  pub numbers : NumbersIn d env0
+  pub apart : NamesApart q d
+
+-- A domain that is judged to be well typed, with enumerable domains where members are listed, is orderly.
+abbrev pub JudgedDomainsAreOrderly : Type 0
+JudgedDomainsAreOrderly =
+    (w t : Stm) (s : Scope) (d : Dom) → domain_in t ≡ Some d → meets ill_typed w t s ≡ true → meets not_enumerable w t s ≡ true → Orderly d
+
+-- What structures ask of the parts of a domain follows from the judgements, with the sizes as terms.
+abbrev pub JudgedViewsAreReady : Type 0
+JudgedViewsAreReady =
+    (env0 : Env) (q : ℕ → Text) (apart : (m l : ℕ) → l < m → same_text (q m) (q l) ≡ false) (r : Repr) (d : Dom) (e : Domain) →
+    JudgedView env0 q r d e → Ready env0 q apart size_terms r d e
+
+-- So the structure constraint of a view of a judged domain means that the cells are canonical, over tables that are found by their names,
+-- on the declared axes with items in the declared domains.
+abbrev pub JudgedStructuresMeanCanonical : Type 0
+JudgedStructuresMeanCanonical =
+    (env0 : Env) (q : ℕ → Text) (apart : (m l : ℕ) → l < m → same_text (q m) (q l) ≡ false) (r : Repr) (d : Dom) (e : Domain) →
+    JudgedView env0 q r d e → (ns : List Text) (ts : Tables) (l : ℕ) (bs : Bound env0 q apart) → length ns ≡ width r →
+    FoundBy env0 q apart ns ts → over_axes [] (axes_of r e) ts ≡ true → TablesFit (declarations r e) ts →
+    meaning (structure q size_terms r d ns l no_exs) (M env0 q apart bs) ≡ Some (truth (canonical r e (cells_of ts)))
