@@ -21,7 +21,8 @@ abbrev or_place : Option ℕ → Option ℕ → Option ℕ
 or_place (Some p) o = Some p
 or_place None o = o
 
-push-place : (ns : List Text) (n a : Text) → place_of (ns ++ n ∷ []) a ≡ or_place (place_of ns a) (if same_text n a then Some (length ns) else None)
+push-place : (ns : List Text) (n a : Text) → place_of (ns ++ n ∷ []) a
+    ≡ or_place (place_of ns a) (if same_text n a then Some (length ns) else None)
 push-place [] n a = refl
 push-place (m ∷ ns) n a = go (same_text m a) (push-place ns n a)
   where
@@ -29,12 +30,14 @@ push-place (m ∷ ns) n a = go (same_text m a) (push-place ns n a)
     next true k = refl
     next false k = refl
 
-    moved : (o : Option ℕ) (b : Bool) (k : ℕ) → option_map suc (or_place o (if b then Some k else None)) ≡ or_place (option_map suc o) (if b then Some (suc k) else None)
+    moved : (o : Option ℕ) (b : Bool) (k : ℕ) → option_map suc (or_place o (if b then Some k else None))
+        ≡ or_place (option_map suc o) (if b then Some (suc k) else None)
     moved (Some p) b k = refl
     moved None b k = next b k
 
     go : (c : Bool) → place_of (ns ++ n ∷ []) a ≡ or_place (place_of ns a) (if same_text n a then Some (length ns) else None) →
-        (if c then Some 0 else option_map suc (place_of (ns ++ n ∷ []) a)) ≡ or_place (if c then Some 0 else option_map suc (place_of ns a)) (if same_text n a then Some (suc (length ns)) else None)
+        (if c then Some 0 else option_map suc (place_of (ns ++ n ∷ []) a))
+        ≡ or_place (if c then Some 0 else option_map suc (place_of ns a)) (if same_text n a then Some (suc (length ns)) else None)
     go true h = refl
     go false h = ap (option_map suc) h ∙ moved (place_of ns a) (same_text n a) (length ns)
 
@@ -43,7 +46,8 @@ pub no_places : (m : BTreeMap Text ℕ) → IsEmpty m → HasPlaces [] m
 no_places m e a = ap (λ es. lookup (is_at (order_text a)) es) e
 
 -- A name that isn't known is put at its place,
-pub place_put : (ns : List Text) (n k : Text) (i : ℕ) (m p : BTreeMap Text ℕ) → HasPlaces ns m → is_some (get order_text m n) ≡ false → k ≡ n → i ≡ length ns → Updates order_text m p k (Some i) → HasPlaces (ns ++ n ∷ []) p
+pub place_put : (ns : List Text) (n k : Text) (i : ℕ) (m p : BTreeMap Text ℕ) → HasPlaces ns m → is_some (get order_text m n) ≡ false → k
+    ≡ n → i ≡ length ns → Updates order_text m p k (Some i) → HasPlaces (ns ++ n ∷ []) p
 place_put ns n k i m p h new ke ie u a =
     let w : Updates order_text m p n (Some i) = subst (λ k. Updates order_text m p k (Some i)) ke u in
     w.0 a ∙ ap (cond (same_text n a) (Some i)) (h a) ∙ here (same_text n a) refl (place_of ns a) refl ∙ sym (push-place ns n a)
@@ -53,14 +57,16 @@ place_put ns n k i m p h new ke ie u a =
         let same : get order_text m n ≡ Some q = ap (get order_text m) (same_text-equal n a s) ∙ h a ∙ e in
         let x : is_some (get order_text m n) ≡ true = ap is_some same in cc
 
-    here : (b : Bool) → same_text n a ≡ b → (o : Option ℕ) → place_of ns a ≡ o → cond b (Some i) o ≡ or_place o (if b then Some (length ns) else None)
+    here : (b : Bool) → same_text n a ≡ b → (o : Option ℕ) → place_of ns a ≡ o → cond b (Some i) o
+        ≡ or_place o (if b then Some (length ns) else None)
     here true s None e = ap (λ j. Some j) ie
     here true s (Some q) e = absurd (none-there s q e)
     here false s None e = refl
     here false s (Some q) e = refl
 
 -- and one that is known stays at its first place.
-pub place_known : (ns : List Text) (n : Text) (m : BTreeMap Text ℕ) → HasPlaces ns m → is_some (get order_text m n) ≡ true → HasPlaces (ns ++ n ∷ []) m
+pub place_known : (ns : List Text) (n : Text) (m : BTreeMap Text ℕ) → HasPlaces ns m → is_some (get order_text m n) ≡ true →
+    HasPlaces (ns ++ n ∷ []) m
 place_known ns n m h known a = h a ∙ here (same_text n a) refl (place_of ns a) refl ∙ sym (push-place ns n a)
   where
     some-there : same_text n a ≡ true → place_of ns a ≡ None → ⊥
@@ -80,7 +86,8 @@ place_known ns n m h known a = h a ∙ here (same_text n a) refl (place_of ns a)
 abbrev pub Placed : List CellLetting → ℕ → BTreeMap Text ℕ → Type 0
 Placed ls i m = HasPlaces (names_of (take i ls)) m
 
-names-more : (ls : List CellLetting) (i : ℕ) (l : CellLetting) → i < length ls → l ≡ get_or ls i l → names_of (take (i + 1) ls) ≡ names_of (take i ls) ++ l.name ∷ []
+names-more : (ls : List CellLetting) (i : ℕ) (l : CellLetting) → i < length ls → l ≡ get_or ls i l → names_of (take (i + 1) ls)
+    ≡ names_of (take i ls) ++ l.name ∷ []
 names-more ls i l lt is =
     ap names_of (take_more ls i l lt ∙ ap (λ x. take i ls ++ x ∷ []) (sym is)) ∙ map-append (λ l. l.name) (take i ls) (l ∷ [])
 
@@ -89,12 +96,14 @@ names-length ls zero h = refl
 names-length [] (suc i) h = absurd (omega (arith, h))
 names-length (l ∷ ls) (suc i) h = ap suc (names-length ls i (omega (arith, h)))
 
-pub placed_step : (ls : List CellLetting) (i : ℕ) (l : CellLetting) (m p : BTreeMap Text ℕ) → Placed ls i m → i < length ls → l ≡ get_or ls i l →
+pub placed_step : (ls : List CellLetting) (i : ℕ) (l : CellLetting) (m p : BTreeMap Text ℕ) → Placed ls i m → i < length ls → l
+    ≡ get_or ls i l →
     ((ns : List Text) → HasPlaces ns m → i ≡ length ns → HasPlaces (ns ++ l.name ∷ []) p) → Placed ls (i + 1) p
 placed_step ls i l m p h lt is f =
     subst (λ ns. HasPlaces ns p) (sym (names-more ls i l lt is)) (f (names_of (take i ls)) h (names-length ls i (omega (arith, lt))))
 
-pub placed_all : (ls : List CellLetting) (i : ℕ) (m : BTreeMap Text ℕ) → Placed ls i m → length ls ≤ i → HasPlaces (keys (pure_lettings ls)) m
+pub placed_all : (ls : List CellLetting) (i : ℕ) (m : BTreeMap Text ℕ) → Placed ls i m → length ls ≤ i →
+    HasPlaces (keys (pure_lettings ls)) m
 placed_all ls i m h le = subst (λ ns. HasPlaces ns m) (ap names_of (take_all i ls le) ∙ sym (keys-names ls)) h
 
 -- ---- what is looked up
@@ -109,7 +118,8 @@ place-among (n ∷ ns) a = go (same_text n a) (place_of ns a) (place-among ns a)
     go false (Some p) h = h
 
 -- A name is there where it has a place.
-pub named_there : (ns : List Text) (m : BTreeMap Text ℕ) (a : Text) (b : Bool) → HasPlaces ns m → b ≡ is_some (get order_text m a) → b ≡ is_among ns a
+pub named_there : (ns : List Text) (m : BTreeMap Text ℕ) (a : Text) (b : Bool) → HasPlaces ns m → b ≡ is_some (get order_text m a) → b
+    ≡ is_among ns a
 named_there ns m a b h e = e ∙ ap is_some (h a) ∙ place-among ns a
 
 before-place : (ns : List Text) (i : ℕ) (a : Text) → is_some_and (place_of ns a) (λ p. nat_lt p i) ≡ is_among (take i ns) a
@@ -124,7 +134,8 @@ before-place (n ∷ ns) (suc i) a = go (same_text n a) (place_of ns a) (before-p
     shift : (p : ℕ) → nat_lt (suc p) (suc i) ≡ nat_lt p i
     shift p = grind (arith, nat_tests)
 
-    go : (b : Bool) (o : Option ℕ) → is_some_and o (λ p. nat_lt p i) ≡ is_among (take i ns) a → is_some_and (if b then Some 0 else option_map suc o) (λ p. nat_lt p (suc i)) ≡ b || is_among (take i ns) a
+    go : (b : Bool) (o : Option ℕ) → is_some_and o (λ p. nat_lt p i) ≡ is_among (take i ns) a →
+        is_some_and (if b then Some 0 else option_map suc o) (λ p. nat_lt p (suc i)) ≡ b || is_among (take i ns) a
     go true o h = grind (arith, nat_tests)
     go false None h = h
     go false (Some p) h = shift p ∙ h
@@ -135,29 +146,39 @@ keys-take [] (suc i) = refl
 keys-take (l ∷ ls) (suc i) = ap (λ ns. l.name ∷ ns) (keys-take ls i)
 
 -- One of the first lettings has the name where its place is among theirs,
-pub named_before : (ls : List CellLetting) (m : BTreeMap Text ℕ) (i p : ℕ) (a : Text) → HasPlaces (keys (pure_lettings ls)) m → get order_text m a ≡ Some p → nat_lt p i ≡ is_among (keys (pure_lettings (take i ls))) a
+pub named_before : (ls : List CellLetting) (m : BTreeMap Text ℕ) (i p : ℕ) (a : Text) → HasPlaces (keys (pure_lettings ls)) m →
+    get order_text m a ≡ Some p → nat_lt p i ≡ is_among (keys (pure_lettings (take i ls))) a
 named_before ls m i p a h e =
-    ap (λ o. is_some_and o (λ q. nat_lt q i)) (sym e ∙ h a) ∙ before-place (keys (pure_lettings ls)) i a ∙ ap (λ ns. is_among ns a) (keys-take ls i)
+    ap (λ o. is_some_and o (λ q. nat_lt q i)) (sym e ∙ h a) ∙ before-place (keys (pure_lettings ls)) i a
+    ∙ ap (λ ns. is_among ns a) (keys-take ls i)
 
 -- and none has it where it has no place.
-pub named_nowhere : (ls : List CellLetting) (m : BTreeMap Text ℕ) (i : ℕ) (a : Text) → HasPlaces (keys (pure_lettings ls)) m → get order_text m a ≡ None → false ≡ is_among (keys (pure_lettings (take i ls))) a
+pub named_nowhere : (ls : List CellLetting) (m : BTreeMap Text ℕ) (i : ℕ) (a : Text) → HasPlaces (keys (pure_lettings ls)) m →
+    get order_text m a ≡ None → false ≡ is_among (keys (pure_lettings (take i ls))) a
 named_nowhere ls m i a h e =
-    ap (λ o. is_some_and o (λ q. nat_lt q i)) (sym e ∙ h a) ∙ before-place (keys (pure_lettings ls)) i a ∙ ap (λ ns. is_among ns a) (keys-take ls i)
+    ap (λ o. is_some_and o (λ q. nat_lt q i)) (sym e ∙ h a) ∙ before-place (keys (pure_lettings ls)) i a
+    ∙ ap (λ ns. is_among ns a) (keys-take ls i)
 
 -- The value at the place of a name.
-look-place : (ls : List CellLetting) (a : Text) → look (pure_lettings ls) a ≡ and_then (place_of (keys (pure_lettings ls)) a) (λ p. option_map (λ l. pure_value l.value) (slice_get ls p))
+look-place : (ls : List CellLetting) (a : Text) → look (pure_lettings ls) a
+    ≡ and_then (place_of (keys (pure_lettings ls)) a) (λ p. option_map (λ l. pure_value l.value) (slice_get ls p))
 look-place [] a = refl
 look-place (l ∷ ls) a = go (same_text l.name a) (place_of (keys (pure_lettings ls)) a) (look-place ls a)
   where
     go : (b : Bool) (o : Option ℕ) → look (pure_lettings ls) a ≡ and_then o (λ p. option_map (λ l. pure_value l.value) (slice_get ls p)) →
-        (if b then Some (pure_value l.value) else look (pure_lettings ls) a) ≡ and_then (if b then Some 0 else option_map suc o) (λ p. option_map (λ l. pure_value l.value) (slice_get (l ∷ ls) p))
+        (if b then Some (pure_value l.value) else look (pure_lettings ls) a)
+        ≡ and_then (if b then Some 0 else option_map suc o) (λ p. option_map (λ l. pure_value l.value) (slice_get (l ∷ ls) p))
     go true o h = refl
     go false None h = h
     go false (Some p) h = h
 
-pub value_missing : (ls : List CellLetting) (m : BTreeMap Text ℕ) (a : Text) → HasPlaces (keys (pure_lettings ls)) m → get order_text m a ≡ None → None ≡ look (pure_lettings ls) a
-value_missing ls m a h e = sym (look-place ls a ∙ ap (λ o. and_then o (λ p. option_map (λ l. pure_value l.value) (slice_get ls p))) (sym (h a) ∙ e))
+pub value_missing : (ls : List CellLetting) (m : BTreeMap Text ℕ) (a : Text) → HasPlaces (keys (pure_lettings ls)) m → get order_text m a
+    ≡ None → None ≡ look (pure_lettings ls) a
+value_missing ls m a h e = sym (look-place ls a
+    ∙ ap (λ o. and_then o (λ p. option_map (λ l. pure_value l.value) (slice_get ls p))) (sym (h a) ∙ e))
 
-pub value_there : (ls : List CellLetting) (m : BTreeMap Text ℕ) (a : Text) (p : ℕ) → HasPlaces (keys (pure_lettings ls)) m → get order_text m a ≡ Some p →
+pub value_there : (ls : List CellLetting) (m : BTreeMap Text ℕ) (a : Text) (p : ℕ) → HasPlaces (keys (pure_lettings ls)) m →
+    get order_text m a ≡ Some p →
     option_map (λ l. pure_value l.value) (slice_get ls p) ≡ look (pure_lettings ls) a
-value_there ls m a p h e = sym (look-place ls a ∙ ap (λ o. and_then o (λ p. option_map (λ l. pure_value l.value) (slice_get ls p))) (sym (h a) ∙ e))
+value_there ls m a p h e = sym (look-place ls a
+    ∙ ap (λ o. and_then o (λ p. option_map (λ l. pure_value l.value) (slice_get ls p))) (sym (h a) ∙ e))

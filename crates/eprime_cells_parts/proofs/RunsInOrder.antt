@@ -32,7 +32,8 @@ run_none a ns = ap (λ b. same_ints (up_from b (length ns)) ns) (omega (arith, i
 
 -- The next number beside the next one of the run.
 run-next : (a : ℤ) (ns : List ℤ) (i : ℕ) (x : ℤ) → Run a ns i → i < length ns → x ≡ get_or ns i x →
-    same_ints (up_from a (length ns)) ns ≡ same_int (a +ℤ pos i) x && same_ints (up_from ((a +ℤ pos i) +ℤ pos 1) (length (drop (i + 1) ns))) (drop (i + 1) ns)
+    same_ints (up_from a (length ns)) ns ≡ same_int (a +ℤ pos i) x && same_ints
+    (up_from ((a +ℤ pos i) +ℤ pos 1) (length (drop (i + 1) ns))) (drop (i + 1) ns)
 run-next a ns i x r lt is =
     r ∙ ap (λ ms. same_ints (up_from (a +ℤ pos i) (length ms)) ms) (left-more ns i x lt is)
     ∙ same-more (a +ℤ pos i) x (up_from ((a +ℤ pos i) +ℤ pos 1) (length (drop (i + 1) ns))) (drop (i + 1) ns)
@@ -42,10 +43,12 @@ run_more a ns i x r lt is h =
     let here : a +ℤ pos i ≡ x = omega (arith, ints, h) in
     let next : (a +ℤ pos i) +ℤ pos 1 ≡ a +ℤ pos (i + 1) = omega (arith, ints) in
     run-next a ns i x r lt is
-    ∙ ap (λ b. b && same_ints (up_from ((a +ℤ pos i) +ℤ pos 1) (length (drop (i + 1) ns))) (drop (i + 1) ns)) (ap (λ y. same_int y x) here ∙ same_int-itself x)
+    ∙ ap (λ b. b && same_ints (up_from ((a +ℤ pos i) +ℤ pos 1) (length (drop (i + 1) ns))) (drop (i + 1) ns))
+    (ap (λ y. same_int y x) here ∙ same_int-itself x)
     ∙ ap (λ b. same_ints (up_from b (length (drop (i + 1) ns))) (drop (i + 1) ns)) next
 
-pub run_stop : (a : ℤ) (ns : List ℤ) (i : ℕ) (x : ℤ) → Run a ns i → i < length ns → x ≡ get_or ns i x → (x -ℤ a ≡ pos i → ⊥) → false ≡ same_ints (up_from a (length ns)) ns
+pub run_stop : (a : ℤ) (ns : List ℤ) (i : ℕ) (x : ℤ) → Run a ns i → i < length ns → x ≡ get_or ns i x → (x -ℤ a ≡ pos i → ⊥) → false
+    ≡ same_ints (up_from a (length ns)) ns
 run_stop a ns i x r lt is h =
     sym (run-next a ns i x r lt is
     ∙ ap (λ b. b && same_ints (up_from ((a +ℤ pos i) +ℤ pos 1) (length (drop (i + 1) ns))) (drop (i + 1) ns))
@@ -101,7 +104,8 @@ pub behind_nothing : (from end : ℤ) (ns : List ℤ) → end ≤ℤ from → So
 behind_nothing from end ns h = sym (ap (λ xs. behind xs ns) (none-up from (end -ℤ from) (omega (arith, ints, h))))
 
 -- one that is longer than the list,
-pub behind_longer : (from end : ℤ) (ns : List ℤ) → pos (length ns) <ℤ (end -ℤ from) → None ≡ behind (up_from from (natural (end -ℤ from))) ns
+pub behind_longer : (from end : ℤ) (ns : List ℤ) → pos (length ns) <ℤ (end -ℤ from) → None
+    ≡ behind (up_from from (natural (end -ℤ from))) ns
 behind_longer from end ns h = go (end -ℤ from) h
   where
     go : (d : ℤ) → pos (length ns) <ℤ d → None ≡ behind (up_from from (natural d)) ns
@@ -109,11 +113,13 @@ behind_longer from end ns h = go (end -ℤ from) h
     go (negsuc n) k = absurd (omega (arith, ints, k))
 
 -- and one that is as long as a part at the front.
-pub behind_part : (from end : ℤ) (ns front rest : List ℤ) (b : Bool) → ns ≡ front ++ rest → pos (length front) ≡ end -ℤ from → b ≡ same_ints (up_from from (length front)) front →
+pub behind_part : (from end : ℤ) (ns front rest : List ℤ) (b : Bool) → ns ≡ front ++ rest → pos (length front) ≡ end -ℤ from → b
+    ≡ same_ints (up_from from (length front)) front →
     (if b then Some rest else None) ≡ behind (up_from from (natural (end -ℤ from))) ns
 behind_part from end ns front rest b e l h =
     ap (λ c. if c then Some rest else None) h
-    ∙ sym (ap (λ n. behind (up_from from n) ns) (natural-of (end -ℤ from) (length front) (sym l)) ∙ ap (behind (up_from from (length front))) e
+    ∙ sym (ap (λ n. behind (up_from from n) ns) (natural-of (end -ℤ from) (length front) (sym l))
+    ∙ ap (behind (up_from from (length front))) e
     ∙ behind-front (up_from from (length front)) front rest (up_length from (length front)))
 
 -- ---- all ranges
@@ -136,30 +142,38 @@ pub record Swept (first : ℤ) (rs : List Ends) (axis : List ℤ) (i : ℕ) (k :
   pub high : k ≤ℤ pos 9223372036854775808
 
 -- The next range.
-sweep-next : (first : ℤ) (rs : List Ends) (axis : List ℤ) (i : ℕ) (k : ℤ) (left : List ℤ) (r : Ends) → Swept first rs axis i k left → i < length rs → r ≡ get_or rs i r →
+sweep-next : (first : ℤ) (rs : List Ends) (axis : List ℤ) (i : ℕ) (k : ℤ) (left : List ℤ) (r : Ends) → Swept first rs axis i k left →
+    i < length rs → r ≡ get_or rs i r →
     same_ints (swept first rs) axis
-    ≡ is_some_and (behind (up_from (greater k r.from) (natural ((r.to +ℤ pos 1) -ℤ greater k r.from))) left) (same_ints (swept (greater k (r.to +ℤ pos 1)) (drop (i + 1) rs)))
+    ≡ is_some_and (behind (up_from (greater k r.from) (natural ((r.to +ℤ pos 1) -ℤ greater k r.from))) left)
+    (same_ints (swept (greater k (r.to +ℤ pos 1)) (drop (i + 1) rs)))
 sweep-next first rs axis i k left r s lt is =
     s.same ∙ ap (λ us. same_ints (swept k us) left) (left-more rs i r lt is)
-    ∙ front-same (up_from (greater k r.from) (natural ((r.to +ℤ pos 1) -ℤ greater k r.from))) (swept (greater k (r.to +ℤ pos 1)) (drop (i + 1) rs)) left
+    ∙ front-same (up_from (greater k r.from) (natural ((r.to +ℤ pos 1) -ℤ greater k r.from)))
+    (swept (greater k (r.to +ℤ pos 1)) (drop (i + 1) rs)) left
 
-pub swept_stop : (first : ℤ) (rs : List Ends) (axis : List ℤ) (i : ℕ) (k : ℤ) (left : List ℤ) (r : Ends) → Swept first rs axis i k left → i < length rs → r ≡ get_or rs i r →
-    None ≡ behind (up_from (greater k r.from) (natural ((r.to +ℤ pos 1) -ℤ greater k r.from))) left → false ≡ same_ints (swept first rs) axis
+pub swept_stop : (first : ℤ) (rs : List Ends) (axis : List ℤ) (i : ℕ) (k : ℤ) (left : List ℤ) (r : Ends) → Swept first rs axis i k left →
+    i < length rs → r ≡ get_or rs i r →
+    None ≡ behind (up_from (greater k r.from) (natural ((r.to +ℤ pos 1) -ℤ greater k r.from))) left → false
+    ≡ same_ints (swept first rs) axis
 swept_stop first rs axis i k left r s lt is h =
     sym (sweep-next first rs axis i k left r s lt is
     ∙ ap (λ o. is_some_and o (same_ints (swept (greater k (r.to +ℤ pos 1)) (drop (i + 1) rs)))) (sym h))
 
-pub swept_more : (first : ℤ) (rs : List Ends) (axis : List ℤ) (i : ℕ) (k : ℤ) (left rest : List ℤ) (r : Ends) → Swept first rs axis i k left → i < length rs → r ≡ get_or rs i r →
+pub swept_more : (first : ℤ) (rs : List Ends) (axis : List ℤ) (i : ℕ) (k : ℤ) (left rest : List ℤ) (r : Ends) →
+    Swept first rs axis i k left → i < length rs → r ≡ get_or rs i r →
     Some rest ≡ behind (up_from (greater k r.from) (natural ((r.to +ℤ pos 1) -ℤ greater k r.from))) left →
     same_ints (swept first rs) axis ≡ same_ints (swept (greater k (r.to +ℤ pos 1)) (drop (i + 1) rs)) rest
 swept_more first rs axis i k left rest r s lt is h =
     sweep-next first rs axis i k left r s lt is
     ∙ ap (λ o. is_some_and o (same_ints (swept (greater k (r.to +ℤ pos 1)) (drop (i + 1) rs)))) (sym h)
 
-pub swept_none : (first : ℤ) (rs : List Ends) (axis : List ℤ) → negsuc 9223372036854775807 ≤ℤ first → first ≤ℤ pos 9223372036854775808 → Swept first rs axis 0 first axis
+pub swept_none : (first : ℤ) (rs : List Ends) (axis : List ℤ) → negsuc 9223372036854775807 ≤ℤ first → first ≤ℤ pos 9223372036854775808 →
+    Swept first rs axis 0 first axis
 swept_none first rs axis l h = record { same = refl; low = l; high = h }
 
-pub swept_all : (first : ℤ) (rs : List Ends) (axis : List ℤ) (i : ℕ) (k : ℤ) (left : List ℤ) → Swept first rs axis i k left → length rs ≤ i → same_ints [] left ≡ same_ints (swept first rs) axis
+pub swept_all : (first : ℤ) (rs : List Ends) (axis : List ℤ) (i : ℕ) (k : ℤ) (left : List ℤ) → Swept first rs axis i k left →
+    length rs ≤ i → same_ints [] left ≡ same_ints (swept first rs) axis
 swept_all first rs axis i k left s le = sym (s.same ∙ ap (λ us. same_ints (swept k us) left) (left-none rs i le))
 
 -- The greater one of two numbers stays within bounds of both.
@@ -167,6 +181,7 @@ pub greater_within : (k a : ℤ) → negsuc 9223372036854775807 ≤ℤ k → k �
     (negsuc 9223372036854775807 ≤ℤ greater k a) × (greater k a ≤ℤ pos 9223372036854775808)
 greater_within k a l h u = go (int_le k a) refl
   where
-    go : (b : Bool) → int_le k a ≡ b → (negsuc 9223372036854775807 ≤ℤ (if b then a else k)) × ((if b then a else k) ≤ℤ pos 9223372036854775808)
+    go : (b : Bool) → int_le k a ≡ b → (negsuc 9223372036854775807 ≤ℤ (if b then a else k)) ×
+        ((if b then a else k) ≤ℤ pos 9223372036854775808)
     go true e = (grind (arith, ints), u)
     go false e = (l, h)

@@ -87,10 +87,16 @@ swept-is k [] z h = and-no (int_le k z)
     and-no false = refl
 swept-is k (r ∷ rs) z h =
     let g = greater k r.from in let e = r.to +ℤ pos 1 in
-    ap (λ l. holds l (number z)) (map-append number (up_from g (natural (e -ℤ g))) (swept (greater k e) rs) ∙ ap (λ l. l ++ map number (swept (greater k e) rs)) (up-values g (natural (e -ℤ g))))
+    ap (λ l. holds l (number z)) (map-append number (up_from g (natural (e -ℤ g))) (swept (greater k e) rs)
+    ∙ ap (λ l. l ++ map number (swept (greater k e) rs)) (up-values g (natural (e -ℤ g))))
     ∙ holds-append (numbers_up g (natural (e -ℤ g))) (map number (swept (greater k e) rs)) (number z)
-    ∙ ap (λ b. b || holds (map number (swept (greater k e) rs)) (number z)) (before-end g e z ∙ ap (λ b. b && int_le (z +ℤ pos 1) e) (greater-le k r.from z) ∙ ap (λ b. (int_le k z && int_le r.from z) && b) (let y : int_le (z +ℤ pos 1) (r.to +ℤ pos 1) ≡ int_le z r.to = grind (arith, ints) in y))
-    ∙ ap (λ b. ((int_le k z && int_le r.from z) && int_le z r.to) || b) (swept-is (greater k e) rs z h.1 ∙ ap (λ b. b && list_any (has z) rs) (greater-le k e z ∙ ap (λ b. int_le k z && b) (let y : int_le (r.to +ℤ pos 1) z ≡ not (int_le z r.to) = grind (arith, ints) in y)))
+    ∙ ap (λ b. b || holds (map number (swept (greater k e) rs)) (number z))
+    (before-end g e z ∙ ap (λ b. b && int_le (z +ℤ pos 1) e) (greater-le k r.from z)
+    ∙ ap (λ b. (int_le k z && int_le r.from z) && b)
+    (let y : int_le (z +ℤ pos 1) (r.to +ℤ pos 1) ≡ int_le z r.to = grind (arith, ints) in y))
+    ∙ ap (λ b. ((int_le k z && int_le r.from z) && int_le z r.to) || b)
+    (swept-is (greater k e) rs z h.1 ∙ ap (λ b. b && list_any (has z) rs)
+    (greater-le k e z ∙ ap (λ b. int_le k z && b) (let y : int_le (r.to +ℤ pos 1) z ≡ not (int_le z r.to) = grind (arith, ints) in y)))
     ∙ table (int_le k z) (int_le r.from z) (int_le z r.to) (list_any (has z) rs) (λ c. let l : r.from ≤ℤ z = h.0 z c in grind (arith, ints))
 
 -- ---- the members rise
@@ -106,7 +112,11 @@ from-lower j k (x ∷ xs) h r = (let l = r.0 in omega (arith, ints, h, l), r.1)
 
 up-rises : (a : ℤ) (n : ℕ) (ys : List ℤ) → RisesFrom (a +ℤ pos n) ys → RisesFrom a (up_from a n ++ ys)
 up-rises a zero ys h = from-lower a (a +ℤ pos 0) ys (omega (arith, ints)) h
-up-rises a (suc n) ys h = (omega (arith, ints), up-rises (a +ℤ pos 1) n ys (from-lower ((a +ℤ pos 1) +ℤ pos n) (a +ℤ pos (suc n)) ys (omega (arith, ints)) h))
+up-rises a (suc n) ys h = (
+  omega (arith, ints),
+  up-rises (a +ℤ pos 1) n ys
+      (from-lower ((a +ℤ pos 1) +ℤ pos n) (a +ℤ pos (suc n)) ys (omega (arith, ints)) h),
+)
 
 greater-first : (k a : ℤ) → k ≤ℤ greater k a
 greater-first k a = go (int_le k a) refl
@@ -124,14 +134,18 @@ greater-second k a = go (int_le k a) refl
 
 swept-rises : (k : ℤ) (rs : List Ends) → RisesFrom k (swept k rs)
 swept-rises k [] = tt
-swept-rises k (r ∷ rs) = go ((r.to +ℤ pos 1) -ℤ greater k r.from) refl (greater-first k r.from) (greater-first k (r.to +ℤ pos 1)) (greater-second k (r.to +ℤ pos 1)) (swept-rises (greater k (r.to +ℤ pos 1)) rs)
+swept-rises k (r ∷ rs) = go ((r.to +ℤ pos 1) -ℤ greater k r.from) refl (greater-first k r.from) (greater-first k (r.to +ℤ pos 1))
+    (greater-second k (r.to +ℤ pos 1)) (swept-rises (greater k (r.to +ℤ pos 1)) rs)
   where
-    go : (d : ℤ) → (r.to +ℤ pos 1) -ℤ greater k r.from ≡ d → k ≤ℤ greater k r.from → k ≤ℤ greater k (r.to +ℤ pos 1) → (r.to +ℤ pos 1) ≤ℤ greater k (r.to +ℤ pos 1) →
+    go : (d : ℤ) → (r.to +ℤ pos 1) -ℤ greater k r.from ≡ d → k ≤ℤ greater k r.from → k ≤ℤ greater k (r.to +ℤ pos 1) →
+        (r.to +ℤ pos 1) ≤ℤ greater k (r.to +ℤ pos 1) →
         RisesFrom (greater k (r.to +ℤ pos 1)) (swept (greater k (r.to +ℤ pos 1)) rs) →
         RisesFrom k (up_from (greater k r.from) (natural d) ++ swept (greater k (r.to +ℤ pos 1)) rs)
     go (pos n) e l m u h =
         from-lower k (greater k r.from) (up_from (greater k r.from) n ++ swept (greater k (r.to +ℤ pos 1)) rs) l
-        (up-rises (greater k r.from) n (swept (greater k (r.to +ℤ pos 1)) rs) (from-lower (greater k r.from +ℤ pos n) (greater k (r.to +ℤ pos 1)) (swept (greater k (r.to +ℤ pos 1)) rs) (omega (arith, ints, e, u)) h))
+        (up-rises (greater k r.from) n (swept (greater k (r.to +ℤ pos 1)) rs)
+        (from-lower (greater k r.from +ℤ pos n) (greater k (r.to +ℤ pos 1)) (swept (greater k (r.to +ℤ pos 1)) rs)
+        (omega (arith, ints, e, u)) h))
     go (negsuc n) e l m u h = from-lower k (greater k (r.to +ℤ pos 1)) (swept (greater k (r.to +ℤ pos 1)) rs) m h
 
 next-below : (x y : ℤ) → (x +ℤ pos 1) ≤ℤ y → below (number x) (number y) ≡ true
@@ -140,14 +154,16 @@ next-below x y h = grind (arith, ints)
 values-rise : (k : ℤ) (xs : List ℤ) → RisesFrom k xs → rises itself (map number xs) ≡ true
 values-rise k [] h = refl
 values-rise k (x ∷ []) h = refl
-values-rise k (x ∷ y ∷ ys) h = and-both (below (number x) (number y)) (rises itself (map number (y ∷ ys))) (next-below x y h.1.0) (values-rise (x +ℤ pos 1) (y ∷ ys) h.1)
+values-rise k (x ∷ y ∷ ys) h = and-both (below (number x) (number y)) (rises itself (map number (y ∷ ys))) (next-below x y h.1.0)
+    (values-rise (x +ℤ pos 1) (y ∷ ys) h.1)
 
 -- ---- ranges in order
 
 lows-tail : (r : Ends) (rs : List Ends) → LowsRise (r ∷ rs) → LowsRise rs
 lows-tail r rs h k d a b =
     let at : suc (k + 1) ≡ suc k + 1 = omega arith in
-    ap (λ j. is_lt (int_cmp (slice_index_or (r ∷ rs) j d).from (slice_index_or rs k d).from)) at ∙ h (suc k) d (omega arith) (omega (arith, b))
+    ap (λ j. is_lt (int_cmp (slice_index_or (r ∷ rs) j d).from (slice_index_or rs k d).from)) at
+    ∙ h (suc k) d (omega arith) (omega (arith, b))
 
 not-below : (x y : ℤ) → is_lt (int_cmp x y) ≡ false → y ≤ℤ x
 not-below x y h = grind (arith, ints)
@@ -169,16 +185,19 @@ lows-rise (r ∷ rs) h = ((λ z e. lows-first r rs z h e), lows-rise rs (lows-ta
 
 -- ---- the domain of the ranges
 
-all-listed : (rs : List CellRange) → all_some (map span_members (map span_of rs)) ≡ Some (map (λ r. interval (ends_of r).from (ends_of r).to) rs)
+all-listed : (rs : List CellRange) → all_some (map span_members (map span_of rs))
+    ≡ Some (map (λ r. interval (ends_of r).from (ends_of r).to) rs)
 all-listed [] = refl
 all-listed (CellRange.One a ∷ rs) = ap (option_map (λ ls. interval (number_of a) (number_of a) ∷ ls)) (all-listed rs)
 all-listed (CellRange.Span a b ∷ rs) = ap (option_map (λ ls. interval (number_of a) (number_of b) ∷ ls)) (all-listed rs)
 
-intervals-are : (rs : List CellRange) (z : ℤ) → holds (append_all (map (λ r. interval (ends_of r).from (ends_of r).to) rs)) (number z) ≡ list_any (has z) (map ends_of rs)
+intervals-are : (rs : List CellRange) (z : ℤ) → holds (append_all (map (λ r. interval (ends_of r).from (ends_of r).to) rs)) (number z)
+    ≡ list_any (has z) (map ends_of rs)
 intervals-are [] z = refl
 intervals-are (r ∷ rs) z =
     holds-append (interval (ends_of r).from (ends_of r).to) (append_all (map (λ r. interval (ends_of r).from (ends_of r).to) rs)) (number z)
-    ∙ ap (λ b. b || holds (append_all (map (λ r. interval (ends_of r).from (ends_of r).to) rs)) (number z)) (interval-is (ends_of r).from (ends_of r).to z)
+    ∙ ap (λ b. b || holds (append_all (map (λ r. interval (ends_of r).from (ends_of r).to) rs)) (number z))
+    (interval-is (ends_of r).from (ends_of r).to z)
     ∙ ap (λ b. has z (ends_of r) || b) (intervals-are rs z)
 
 -- ---- lists of numbers hold nothing else
@@ -214,7 +233,8 @@ none-by-range (r ∷ rs) v h =
     ∙ ap (λ b. b || holds (by_range rs) v) (none-up (ends_of r).from (natural (((ends_of r).to -ℤ (ends_of r).from) +ℤ pos 1)) v h)
     ∙ none-by-range rs v h
 
-same-held : (ns : List ℤ) (rs : List CellRange) → ((z : ℤ) → holds (map number ns) (number z) ≡ holds (by_range rs) (number z)) → (v : Value) → holds (map number ns) v ≡ holds (by_range rs) v
+same-held : (ns : List ℤ) (rs : List CellRange) → ((z : ℤ) → holds (map number ns) (number z) ≡ holds (by_range rs) (number z)) →
+    (v : Value) → holds (map number ns) v ≡ holds (by_range rs) v
 same-held ns rs h (number z) = h z
 same-held ns rs h (truth b) = none-in ns (truth b) refl ∙ sym (none-by-range rs (truth b) refl)
 same-held ns rs h (item t n) = none-in ns (item t n) refl ∙ sym (none-by-range rs (item t n) refl)
@@ -229,10 +249,12 @@ from-first f z false h = no (int_le f z)
     no false = refl
 
 -- The members of ranges in order, from the lowest end on, are those of their domain.
-swept-members : (r : CellRange) (rs : List CellRange) (es ss : List Ends) (f : ℤ) → es ≡ map ends_of (r ∷ rs) → IsPermutation es ss → LowsRise ss →
+swept-members : (r : CellRange) (rs : List CellRange) (es ss : List Ends) (f : ℤ) → es ≡ map ends_of (r ∷ rs) → IsPermutation es ss →
+    LowsRise ss →
     ((z : ℤ) → list_any (has z) ss ≡ true → f ≤ℤ z) → Some (map number (swept f ss)) ≡ int_members (map span_of (r ∷ rs))
 swept-members r rs es ss f e p l h =
-    ap (λ vs. Some vs) (one-sorted-list (map number (swept f ss)) (sorted_once (by_range (r ∷ rs))) (values-rise f (swept f ss) (swept-rises f ss)) (sorted_once-rises (by_range (r ∷ rs)))
+    ap (λ vs. Some vs) (one-sorted-list (map number (swept f ss)) (sorted_once (by_range (r ∷ rs)))
+    (values-rise f (swept f ss) (swept-rises f ss)) (sorted_once-rises (by_range (r ∷ rs)))
     (λ v. same-held (swept f ss) (r ∷ rs) numbers v ∙ sym (holds-sorted_once (by_range (r ∷ rs)) v)))
     ∙ sym (ap (option_map (λ ls. sorted_once (append_all ls))) (all-listed (r ∷ rs)))
   where
@@ -254,18 +276,22 @@ first-lowest s ss z h e = go (has z s) refl e
     go false k m = lows-first s ss z h m
 
 -- Ranges of which there is a lowest one have the members of an axis where the sweep from there on gives it.
-pub index_swept : (axis : List ℤ) (rs : List CellRange) (es ss : List Ends) (s : Ends) → es ≡ map ends_of rs → IsPermutation es ss → LowsRise ss → slice_get ss 0 ≡ Some s →
+pub index_swept : (axis : List ℤ) (rs : List CellRange) (es ss : List Ends) (s : Ends) → es ≡ map ends_of rs → IsPermutation es ss →
+    LowsRise ss → slice_get ss 0 ≡ Some s →
     is_index_of axis (int_dom (all_ends rs) (listed (all_bounds rs))) ≡ same_ints (swept s.from ss) axis
 index_swept axis rs es [] s e p l h = cc
-index_swept axis [] es (t ∷ ss) s e p l h = absurd (let n = length_permutation es (t ∷ ss) p in let m : length es ≡ 0 = ap length e in omega (arith, n, m))
+index_swept axis [] es (t ∷ ss) s e p l h = absurd
+    (let n = length_permutation es (t ∷ ss) p in let m : length es ≡ 0 = ap length e in omega (arith, n, m))
 index_swept axis (r ∷ rs) es (t ∷ ss) s e p l h =
     let same : t ≡ s = cc in
     index_members axis (r ∷ rs) (Some (swept s.from (t ∷ ss)))
     (swept-members r rs es (t ∷ ss) s.from e p l (λ z k. subst (λ (u : Ends). u.from ≤ℤ z) same (first-lowest t ss z l k)))
 
 -- No ranges have no list of members.
-pub index_empty : (axis : List ℤ) (rs : List CellRange) (es ss : List Ends) → es ≡ map ends_of rs → IsPermutation es ss → slice_get ss 0 ≡ None →
+pub index_empty : (axis : List ℤ) (rs : List CellRange) (es ss : List Ends) → es ≡ map ends_of rs → IsPermutation es ss → slice_get ss 0
+    ≡ None →
     is_index_of axis (int_dom (all_ends rs) (listed (all_bounds rs))) ≡ false
 index_empty axis [] es ss e p h = index_members axis [] None refl
-index_empty axis (r ∷ rs) es [] e p h = absurd (let n = length_permutation es [] p in let m : length es ≡ suc (length (map ends_of rs)) = ap length e in omega (arith, n, m))
+index_empty axis (r ∷ rs) es [] e p h = absurd
+    (let n = length_permutation es [] p in let m : length es ≡ suc (length (map ends_of rs)) = ap length e in omega (arith, n, m))
 index_empty axis (r ∷ rs) es (t ∷ ss) e p h = cc

@@ -12,7 +12,8 @@ returns-in-Some c =
     let from : ℤ = c.in-Some.lowest.now.from in
     let same : to_z w64 (of_z w64 from) ≡ from = first_of (omega (arith, ints), search rules) in
     let first : slice_get c.in_ok-ranges.ranges 0 ≡ Some c.in-Some.lowest.now = sym c.first.ensures ∙ ap option_copied c.in-Some.is in
-    index_swept c.args.axis.now c.args.ranges.now c.in_ok-all_ends.field-0 c.in_ok-ranges.ranges c.in-Some.lowest.now c.in_ok-all_ends.ensures c.in_ok-ranges.ensures.same c.in_ok-ranges.ensures.rising first
+    index_swept c.args.axis.now c.args.ranges.now c.in_ok-all_ends.field-0 c.in_ok-ranges.ranges c.in-Some.lowest.now
+    c.in_ok-all_ends.ensures c.in_ok-ranges.ensures.same c.in_ok-ranges.ensures.rising first
     ∙ ap (λ a. same_ints (swept a c.in_ok-ranges.ranges) c.args.axis.now) (sym same)
     ∙ ap (λ rs. same_ints (swept (to_z w64 (of_z w64 from)) rs) c.args.axis.now) (sym c.as_slice.ensures)
     ∙ sym c.are_members.ensures
@@ -20,4 +21,5 @@ returns-in-Some c =
 pub returns : goal.returns
 returns c =
     let none : slice_get c.in_ok-ranges.ranges 0 ≡ None = sym c.first.ensures ∙ ap option_copied c.in-None.is in
-    index_empty c.args.axis.now c.args.ranges.now c.in_ok-all_ends.field-0 c.in_ok-ranges.ranges c.in_ok-all_ends.ensures c.in_ok-ranges.ensures.same none
+    index_empty c.args.axis.now c.args.ranges.now c.in_ok-all_ends.field-0 c.in_ok-ranges.ranges c.in_ok-all_ends.ensures
+    c.in_ok-ranges.ensures.same none

@@ -18,7 +18,8 @@ returns-then-is_run c =
     let count : pos (length c.split_at.result.0.now) ≡ c.args.end -ℤ c.args.from = grind (arith, ints) in
     let from : to_z w128 (of_z w128 c.args.from) ≡ c.args.from = omega (arith, ints) in
     behind_part c.args.from c.args.end c.args.list.now c.split_at.result.0.now c.split_at.result.1.now true parts count
-    (sym c.if-is_run.true ∙ c.is_run.ensures ∙ ap (λ a. same_ints (up_from a (length c.split_at.result.0.now)) c.split_at.result.0.now) from)
+    (sym c.if-is_run.true ∙ c.is_run.ensures ∙ ap (λ a. same_ints (up_from a (length c.split_at.result.0.now)) c.split_at.result.0.now)
+    from)
 
 pub returns-else-is_run : goal.returns-else-is_run
 returns-else-is_run c =
@@ -26,4 +27,5 @@ returns-else-is_run c =
     let count : pos (length c.split_at.result.0.now) ≡ c.args.end -ℤ c.args.from = grind (arith, ints) in
     let from : to_z w128 (of_z w128 c.args.from) ≡ c.args.from = omega (arith, ints) in
     behind_part c.args.from c.args.end c.args.list.now c.split_at.result.0.now c.split_at.result.1.now false parts count
-    (sym c.if-is_run.false ∙ c.is_run.ensures ∙ ap (λ a. same_ints (up_from a (length c.split_at.result.0.now)) c.split_at.result.0.now) from)
+    (sym c.if-is_run.false ∙ c.is_run.ensures
+    ∙ ap (λ a. same_ints (up_from a (length c.split_at.result.0.now)) c.split_at.result.0.now) from)
