@@ -2,12 +2,11 @@
 use Rattle.std.proofs.Common.{◌≡◌, refl, sym, ap, ◌∙◌, ℕ, ◌+◌, ◌<◌, ◌≤◌, ℤ, Bool, true, false, ◌||◌, List, [], ◌∷◌, ◌++◌, append_assoc, append-nil, map, length, get_or, drop, Option, Some, None, option_map}
 use Rattle.std.specs.List.{list_any}
 use Rattle.ess_semantics.specs.Lists.{and_then, each_of}
-use Rattle.ess_semantics.specs.Domains.{Domain}
 use Rattle.ess_semantics.specs.Trees.{Dom}
 use Rattle.ess_grammar.specs.Models.{Scope}
 use Rattle.eprime_tree.specs.declared.expressions.PDom.{PDom}
 use Rattle.eprime_tree.specs.Views.{pure_dom}
-use Rattle.eprime_cells_judging.proofs.WhatIsLeft.{left-more, left-none}
+use Rattle.eprime_cells_parts.proofs.WhatIsLeft.{left-more, left-none}
 
 -- Lists before those of an answer.
 abbrev pub with_lists : List (List ℤ) → Option (List (List ℤ)) → Option (List (List ℤ))

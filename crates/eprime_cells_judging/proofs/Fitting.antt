@@ -1,5 +1,5 @@
 -- Lettings as tables over declarations, one declaration after the other.
-use Rattle.std.proofs.Common.{◌≡◌, refl, sym, ap, ◌∙◌, ℕ, ◌+◌, ◌<◌, ◌≤◌, Bool, true, false, ◌||◌, if◌then◌else◌, List, [], ◌∷◌, ◌++◌, append_assoc, append-nil, map, length, get_or, drop, Option, Some, None, option_map}
+use Rattle.std.proofs.Common.{◌≡◌, refl, sym, ap, ◌∙◌, ℕ, ◌+◌, ◌<◌, ◌≤◌, Bool, true, false, ◌||◌, if◌then◌else◌, List, [], ◌∷◌, ◌++◌, append_assoc, append-nil, map, length, get_or, drop, Option, Some, None}
 use Rattle.std.specs.List.{list_any}
 use Rattle.ess_semantics.specs.Lists.{and_then}
 use Rattle.ess_semantics.specs.Values.{Text}
@@ -11,9 +11,9 @@ use Rattle.ess_semantics.specs.LargeModels.{decl_is_large}
 use Rattle.ess_grammar.specs.Models.{Scope}
 use Rattle.eprime_tree.specs.declared.models.PDecl.{PDecl}
 use Rattle.eprime_tree.specs.Views.{pure_decl, pure_decls}
-use Rattle.eprime_cells_judging.proofs.WhatIsLeft.{left-more, left-none}
+use Rattle.eprime_cells_parts.proofs.WhatIsLeft.{left-more, left-none}
 use Rattle.eprime_cells_laws.specs.TableReading.{declared_table, CellsAnswer, tables, missing_letting, extra_letting, outside_domain, first_missing, first_extra, with_table, tables_of, cells_answer}
-use Rattle.eprime_cells_judging.specs.DeclaredNames.{declared_names, missing_of}
+use Rattle.eprime_cells_parts.specs.DeclaredNames.{declared_names, missing_of}
 
 -- Tables before those of an answer.
 abbrev pub with_tables : Names pure.Table → CellsAnswer → CellsAnswer

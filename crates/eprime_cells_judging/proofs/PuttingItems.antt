@@ -1,8 +1,8 @@
 -- Items of several values, put one behind the other.
-use Rattle.std.proofs.Common.{◌≡◌, refl, sym, ap, ◌∙◌, subst, ℕ, ◌+◌, ◌<◌, ◌≤◌, ℤ, Bool, true, false, List, [], ◌∷◌, ◌++◌, append_assoc, append-nil, map, length, get_or, drop, Option, Some, None, option_map}
+use Rattle.std.proofs.Common.{◌≡◌, sym, ap, ◌∙◌, subst, ℕ, ◌+◌, ◌<◌, ◌≤◌, ℤ, Bool, true, false, List, ◌∷◌, ◌++◌, append_assoc, append-nil, map, length, get_or, drop, Option, Some, None, option_map}
 use Rattle.ess_semantics.specs.Lists.{and_then, each_of, append_all}
 use Rattle.ess_semantics.specs.Trees.{Ex}
-use Rattle.eprime_cells_judging.proofs.WhatIsLeft.{left-more, left-none}
+use Rattle.eprime_cells_parts.proofs.WhatIsLeft.{left-more, left-none}
 use Rattle.eprime_cells_machine.specs.declared.values.CellValue.{CellValue}
 use Rattle.eprime_cells_machine.specs.ValueViews.{pure_value}
 use Rattle.eprime_cells_judging.specs.Putting.{Puts, all_items}

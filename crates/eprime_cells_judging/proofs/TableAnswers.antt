@@ -1,8 +1,8 @@
 -- The answers of the judge, from those of its parts.
-use Rattle.std.proofs.Common.{◌≡◌, refl, sym, ap, ◌∙◌, subst, ℕ, ◌<◌, ℤ, Bool, true, false, ◌||◌, List, [], ◌∷◌, ◌++◌, map, length, get_or, Option, Some, None, option_map, Ok, Err}
+use Rattle.std.proofs.Common.{◌≡◌, refl, sym, ap, ◌∙◌, subst, ℕ, ◌<◌, ℤ, Bool, true, false, ◌||◌, List, [], ◌++◌, map, length, get_or, Option, Some, None, option_map, Ok, Err}
 use Rattle.std.specs.declared.result.Result.{Result}
 use Rattle.std.specs.List.{list_all, list_any}
-use Rattle.ess_semantics.specs.Lists.{and_then, when, each_of, is_some_and}
+use Rattle.ess_semantics.specs.Lists.{and_then, when, is_some_and}
 use Rattle.ess_semantics.specs.Values.{Text}
 use Rattle.ess_semantics.specs.Names.{Names, keys, look}
 use Rattle.ess_semantics.specs.Trees.{Ex}
@@ -10,7 +10,6 @@ use Rattle.ess_semantics.specs.Tables as pure
 use Rattle.ess_semantics.specs.Tables.{is_cell}
 use Rattle.ess_semantics.specs.Meaning.{is_bool_dom}
 use Rattle.ess_semantics.specs.DeclaredTables.{TableDecl}
-use Rattle.ess_semantics.specs.Satisfaction.{axis_of}
 use Rattle.ess_semantics.specs.ModelMeaning.{model_domain}
 use Rattle.ess_semantics.specs.LargeModels.{dom_is_large}
 use Rattle.ess_grammar.specs.Models.{Scope}
@@ -20,13 +19,13 @@ use Rattle.ess_core.specs.TableViews.{pure_cells, pure_table}
 use Rattle.eprime_tree.specs.declared.models.PDecl.{PDecl}
 use Rattle.eprime_tree.specs.Views.{pure_dom, pure_decl, pure_decls}
 use Rattle.eprime_eval.specs.DomainsOf.{given_decls}
-use Rattle.eprime_cells_laws.specs.TableReading.{items_over, declared_table, missing_letting, extra_letting, first_extra, tables_of, cells_answer}
+use Rattle.eprime_cells_laws.specs.TableReading.{items_over, declared_table, first_extra, tables_of, cells_answer}
 use Rattle.eprime_cells_judging.specs.declared.tables.JudgeNo.{JudgeNo}
 use Rattle.eprime_cells_judging.specs.declared.judging.FitNo.{FitNo}
 use Rattle.eprime_cells_judging.specs.Putting.{Puts}
-use Rattle.eprime_cells_judging.specs.DeclaredNames.{declared_names, missing_of}
+use Rattle.eprime_cells_parts.specs.DeclaredNames.{declared_names, missing_of}
 use Rattle.eprime_cells_judging.specs.TablesJudged.{AreAxes, AreInside, IsTable, IsInside}
-use Rattle.eprime_cells_judging.specs.Fitting.{judged_no, IsTableOf, AreTables, IsFit}
+use Rattle.eprime_cells_judging.specs.Fitting.{judged_no, names_no, IsTableOf, AreTables, IsFit}
 use Rattle.eprime_cells_judging.proofs.Fitting.{Judged, judged_large, answer_by, answer_parts}
 
 -- ---- one table
@@ -88,6 +87,10 @@ module _ (ks : List PDecl) (q : Cells) (d : PDecl) (e : Ex) where
 
 -- ---- lettings
 
+-- The refusal of the names by its two parts.
+abbrev pub no_by : Option Text → Option Text → Option FitNo
+no_by m e = elim m [ Some a ↦ Some (FitNo.Missing a) | None ↦ option_map FitNo.Extra e ]
+
 -- A name with a letting,
 pub table_found : (ks : List PDecl) (q : Cells) (d : PDecl) (cs : Names Ex) (e : Ex) (r : Result (Option Table) JudgeNo) → look cs d.name ≡ Some e → IsTable ks q d e r → IsTableOf ks q d cs r
 table_found ks q d cs e (Ok o) h t = λ s. ap (λ x. and_then x (declared_table (given_decls ks) (pure_cells q) (pure_decl s d))) h ∙ t s
@@ -124,6 +127,39 @@ module _ (ks : List PDecl) (q : Cells) (ds : List PDecl) (cs : Names Ex) where
   fit_tables (Err FitNo.NoMemory) h k t = tt
   fit_tables (Err (FitNo.Missing a)) h k t = absurd t
   fit_tables (Err (FitNo.Extra a)) h k t = absurd t
+
+  -- A refusal of the names is the answer,
+  pub fit_refused : (why : FitNo) → names_no (declared_names ds) (keys cs) ≡ Some why → IsFit ks q ds cs (Err why)
+  fit_refused why h = go (missing_of (declared_names ds) (keys cs)) refl (first_extra (declared_names ds) (keys cs)) refl h
+    where
+      go : (m : Option Text) → missing_of (declared_names ds) (keys cs) ≡ m → (e : Option Text) → first_extra (declared_names ds) (keys cs) ≡ e →
+          no_by m e ≡ Some why → IsFit ks q ds cs (Err why)
+      go (Some a) p e k h = let x : FitNo.Missing a ≡ why = cc in subst (λ n. IsFit ks q ds cs (Err n)) x (fit_missing a p)
+      go None p (Some b) k h = let x : FitNo.Extra b ≡ why = cc in subst (λ n. IsFit ks q ds cs (Err n)) x (fit_extra b p k)
+      go None p None k h = cc
+
+  -- and without one the tables are.
+  pub fit_passed : (r : Result Cells FitNo) → names_no (declared_names ds) (keys cs) ≡ None → AreTables ks q ds cs r → IsFit ks q ds cs r
+  fit_passed r h t = go (missing_of (declared_names ds) (keys cs)) refl (first_extra (declared_names ds) (keys cs)) refl h
+    where
+      go : (m : Option Text) → missing_of (declared_names ds) (keys cs) ≡ m → (e : Option Text) → first_extra (declared_names ds) (keys cs) ≡ e → no_by m e ≡ None → IsFit ks q ds cs r
+      go (Some a) p e k h = cc
+      go None p (Some b) k h = cc
+      go None p None k h = fit_tables r p k t
+
+-- ---- names
+
+-- A declared name without a letting,
+pub named_missing : (ds ns : List Text) (a : Text) → missing_of ds ns ≡ Some a → names_no ds ns ≡ Some (FitNo.Missing a)
+named_missing ds ns a h = ap (λ m. no_by m (first_extra ds ns)) h
+
+-- a name too many,
+pub named_extra : (ds ns : List Text) (a : Text) → missing_of ds ns ≡ None → first_extra ds ns ≡ Some a → names_no ds ns ≡ Some (FitNo.Extra a)
+named_extra ds ns a h k = ap (λ m. no_by m (first_extra ds ns)) h ∙ ap (option_map FitNo.Extra) k
+
+-- or neither.
+pub named_none : (ds ns : List Text) → missing_of ds ns ≡ None → first_extra ds ns ≡ None → names_no ds ns ≡ None
+named_none ds ns h k = ap (λ m. no_by m (first_extra ds ns)) h ∙ ap (option_map FitNo.Extra) k
 
 -- A table that isn't judged.
 pub judged_err : (ks : List PDecl) (q : Cells) (ds : List PDecl) (cs : Names Ex) (i : ℕ) (d : PDecl) (ts : Names pure.Table) (why : JudgeNo) → Judged (given_decls ks) (pure_cells q) cs ds i ts → i < length ds → d ≡ get_or ds i d →

@@ -1,8 +1,9 @@
 -- What is said of lettings as tables over declarations, whatever scopes the declarations stand in.
-use Rattle.std.specs.Prelude.{◌≡◌, true, List, [], ◌∷◌, map, Option, Some, None, Ok, Err, option_map}
+use Rattle.std.specs.Prelude.{◌≡◌, true, List, Option, Some, None, Ok, Err, option_map}
 use Rattle.std.specs.declared.result.Result.{Result}
 use Rattle.std.specs.List.{list_any}
 use Rattle.ess_semantics.specs.Lists.{and_then}
+use Rattle.ess_semantics.specs.Values.{Text}
 use Rattle.ess_semantics.specs.Names.{Names, look}
 use Rattle.ess_semantics.specs.Trees.{Ex}
 use Rattle.ess_semantics.specs.DeclaredTables.{TableDecl}
@@ -14,7 +15,8 @@ use Rattle.ess_core.specs.TableViews.{pure_cells, pure_table}
 use Rattle.eprime_tree.specs.declared.models.PDecl.{PDecl}
 use Rattle.eprime_tree.specs.Views.{pure_decl, pure_decls}
 use Rattle.eprime_eval.specs.DomainsOf.{given_decls}
-use Rattle.eprime_cells_laws.specs.TableReading.{declared_table, tables, missing_letting, extra_letting, outside_domain, tables_of, cells_answer}
+use Rattle.eprime_cells_laws.specs.TableReading.{declared_table, tables, missing_letting, extra_letting, outside_domain, first_extra, tables_of, cells_answer}
+use Rattle.eprime_cells_parts.specs.DeclaredNames.{missing_of}
 use Rattle.eprime_cells_judging.specs.declared.tables.JudgeNo.{JudgeNo}
 use Rattle.eprime_cells_judging.specs.declared.judging.FitNo.{FitNo}
 
@@ -22,6 +24,10 @@ use Rattle.eprime_cells_judging.specs.declared.judging.FitNo.{FitNo}
 abbrev pub judged_no : JudgeNo → FitNo
 judged_no JudgeNo.Big = FitNo.Big
 judged_no JudgeNo.NoMemory = FitNo.NoMemory
+
+-- The first of the declared names ds that isn't among the names ns of lettings, or else the first of these that is one too many.
+abbrev pub names_no : List Text → List Text → Option FitNo
+names_no ds ns = elim (missing_of ds ns) [ Some a ↦ Some (FitNo.Missing a) | None ↦ option_map FitNo.Extra (first_extra ds ns) ]
 
 -- The table of a declaration.
 abbrev pub IsTableOf : List PDecl → Cells → PDecl → Names Ex → Result (Option Table) JudgeNo → Type 0

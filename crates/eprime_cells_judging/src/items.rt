@@ -1,12 +1,10 @@
 ghost use Rattle.std.specs.Prelude.{◌≡◌, [], IfOk};
-ghost use Rattle.ess_semantics.specs.Meaning.{meaning, empty_env};
 ghost use Rattle.eprime_cells_laws.specs.TableReading.{items_over};
 ghost use Rattle.eprime_cells_machine.specs.ValueViews.{pure_value};
 ghost use Rattle.eprime_cells_judging.specs.Putting.{Puts, all_items};
 
-use crate::indices::is_over;
-use crate::numbers::item_of;
 use eprime_cells_machine::CellValue;
+use eprime_cells_parts::{is_over, item_of};
 use ess_rows::{NoMemory, Row};
 use std::alloc::Global;
 

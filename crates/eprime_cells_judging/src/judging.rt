@@ -1,15 +1,18 @@
-ghost use Rattle.std.specs.Prelude.{◌≡◌};
+ghost use Rattle.std.specs.Prelude.{◌≡◌, IfOk};
+ghost use Rattle.ess_semantics.specs.Names.{keys};
 ghost use Rattle.eprime_cells_machine.specs.ValueViews.{pure_lettings};
+ghost use Rattle.eprime_cells_parts.specs.DeclaredNames.{declared_names, HasPlaces};
 ghost use Rattle.eprime_cells_judging.specs.declared.judging.FitNo.{FitNo};
-ghost use Rattle.eprime_cells_judging.specs.Fitting.{judged_no, IsTableOf, AreTables, IsFit};
+ghost use Rattle.eprime_cells_judging.specs.Fitting.{judged_no, names_no, IsTableOf, AreTables, IsFit};
 
-use crate::names::{first_extra, first_missing, value_of};
 use crate::tables::{JudgeNo, table_of};
 use eprime_cells_machine::CellLetting;
+use eprime_cells_parts::{first_extra, first_missing, names_of, places_of, value_of};
 use eprime_tree::PDecl;
 use ess_core::{Cells, NamedTable, Table};
 use ess_rows::{NoMemory, Row, Text};
 use std::alloc::Global;
+use std::collections::BTreeMap;
 
 /// Why lettings aren't tables over declarations. Of several reasons the first in this order is given, but for `NoMemory`, which
 /// may come at any point.
@@ -51,28 +54,62 @@ pub fn fit(
 ) -> Result<Cells, FitNo>
     ensures { IsFit known.now givens.now decls.now (pure_lettings lettings.now) result }
 {
-    if let Some(name) = first_missing(decls.as_slice(), lettings.as_slice()) {
-        return Err(FitNo::Missing(name.copy(alloc)?));
-    }
-    if let Some(name) = first_extra(decls.as_slice(), lettings.as_slice()) {
-        return Err(FitNo::Extra(name.copy(alloc)?));
-    }
-    tables(alloc, lettings.as_slice(), decls.as_slice(), known, givens)
+    fit_over(alloc, lettings.as_slice(), decls.as_slice(), known, givens)
 }
 
-/// The tables in order of declaration.
-fn tables(
+/// The tables that lettings are over declarations, in order of declaration.
+fn fit_over(
     alloc: Global,
     lettings: &[CellLetting],
     decls: &[PDecl],
     known: &Row<PDecl>,
     givens: &Cells,
 ) -> Result<Cells, FitNo>
+    ensures { IsFit known.now givens.now decls.now (pure_lettings lettings.now) result }
+{
+    let places = places_of(alloc, lettings)?;
+    match first_name(alloc, lettings, &places, decls)? {
+        Some(no) => Err(no),
+        None => tables(alloc, lettings, &places, decls, known, givens),
+    }
+}
+
+/// The first name that is missing, or else the first one too many, as a refusal. `NoMemory` where there is no room for the names.
+#[tactic(auto, using(crate::proofs::TableAnswers::named_missing, crate::proofs::TableAnswers::named_extra, crate::proofs::TableAnswers::named_none))]
+fn first_name(
+    alloc: Global,
+    lettings: &[CellLetting],
+    places: &BTreeMap<Text, usize>,
+    decls: &[PDecl],
+) -> Result<Option<FitNo>, NoMemory>
+    requires { HasPlaces (keys (pure_lettings lettings.now)) places.now }
+    ensures { IfOk result (λ no. names_no (declared_names decls.now) (keys (pure_lettings lettings.now)) ≡ no) }
+{
+    if let Some(name) = first_missing(decls, lettings, places) {
+        return Ok(Some(FitNo::Missing(name.copy(alloc)?)));
+    }
+    let declared = names_of(alloc, decls)?;
+    match first_extra(&declared, lettings, places) {
+        Some(name) => Ok(Some(FitNo::Extra(name.copy(alloc)?))),
+        None => Ok(None),
+    }
+}
+
+/// The tables in order of declaration. The places are those of the lettings.
+fn tables(
+    alloc: Global,
+    lettings: &[CellLetting],
+    places: &BTreeMap<Text, usize>,
+    decls: &[PDecl],
+    known: &Row<PDecl>,
+    givens: &Cells,
+) -> Result<Cells, FitNo>
+    requires { HasPlaces (keys (pure_lettings lettings.now)) places.now }
     ensures { AreTables known.now givens.now decls.now (pure_lettings lettings.now) result }
 {
     let mut list = Row::new(alloc);
     for decl in decls {
-        let found = match table(alloc, lettings, decl, known, givens) {
+        let found = match table(alloc, lettings, places, decl, known, givens) {
             Ok(found) => found,
             Err(why) => return Err(no_of(why)),
         };
@@ -97,17 +134,19 @@ fn no_of(why: JudgeNo) -> FitNo
     }
 }
 
-/// The table of a declaration.
+/// The table of a declaration. The places are those of the lettings.
 fn table(
     alloc: Global,
     lettings: &[CellLetting],
+    places: &BTreeMap<Text, usize>,
     decl: &PDecl,
     known: &Row<PDecl>,
     givens: &Cells,
 ) -> Result<Option<Table>, JudgeNo>
+    requires { HasPlaces (keys (pure_lettings lettings.now)) places.now }
     ensures { IsTableOf known.now givens.now decl.now (pure_lettings lettings.now) result }
 {
-    match value_of(lettings, &decl.name) {
+    match value_of(lettings, places, &decl.name) {
         Some(value) => table_of(alloc, decl, value, known, givens),
         None => Ok(None),
     }

@@ -8,6 +8,7 @@ mod cells;
 mod domains;
 mod lettings;
 mod models;
+mod numbers;
 mod refusals;
 mod tables;
 mod texts;

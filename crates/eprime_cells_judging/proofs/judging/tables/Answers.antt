@@ -1,4 +1,4 @@
-use Rattle.std.proofs.Common.{◌≡◌, sym, ap, ◌∙◌, subst, List, [], ◌∷◌, ◌++◌, map, Ok, Err, Some, None}
+use Rattle.std.proofs.Common.{sym, ap, ◌∙◌, subst, [], ◌∷◌, ◌++◌, map, Ok, Err}
 use Rattle.std.proofs.lemmas.List.{map-append}
 use Rattle.ess_core.specs.TableViews.{pure_cells, pure_table, pure_named_table}
 use Rattle.eprime_eval.specs.DomainsOf.{given_decls}

@@ -1,4 +1,4 @@
-use Rattle.std.proofs.Common.{◌≡◌, refl, ap, ◌∙◌, subst, true, false, Ok}
+use Rattle.std.proofs.Common.{refl, ap, ◌∙◌, subst, true, false, Ok}
 use Rattle.eprime_cells_judging.specs.TablesJudged.{AreInside}
 use Rattle.eprime_cells_judging.proofs.tables.inside_cells.Goals as goal
 
