@@ -1,0 +1,3 @@
+pub mod FreeTexts
+pub mod FifthToken
+pub mod MarkedLines

@@ -1,0 +1,2 @@
+-- What is asked of the front of a text
+pub mod FrontTokens

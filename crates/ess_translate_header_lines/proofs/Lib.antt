@@ -1,0 +1,4 @@
+mod LanguageParts
+mod ReadLines
+mod Turns
+mod Answered

@@ -1,0 +1,5 @@
+pub mod HeaderStatements
+pub mod DistinctNames
+pub mod ChosenAgain
+pub mod HeaderPlans
+mod ExamplesTables
