@@ -31,7 +31,6 @@ use Rattle.eprime_verdicts.specs.Denoting.{Denotes, AreDenoted, IsClosed, AreClo
 use Rattle.eprime_verdicts.specs.ClosedDecls.{are_over, fits, outside_of}
 use Rattle.eprime_verdicts.specs.ModelVerdicts.{AreFound}
 use Rattle.eprime_verdicts.proofs.Denoting.{and-lost, or-won}
-use Rattle.eprime_verdicts.proofs.TablesFit.{is_over}
 
 -- ---- declarations and tables as they are held
 

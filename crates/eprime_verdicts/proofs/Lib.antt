@@ -6,3 +6,4 @@ pub mod Denoting
 pub mod RulesInOrder
 pub mod FoundDecls
 pub mod VerdictParts
+pub mod ListedMembers

@@ -1,30 +1,22 @@
 -- Tables over declared domains, one after the other.
 use Rattle.std.proofs.Common.{◌≡◌, ◌≢◌, refl, sym, ap, ◌∙◌, ℕ, suc, ◌+◌, ◌<◌, ◌≤◌, ℤ, Bool, true, false, ◌&&◌, List, [], ◌∷◌, map, length, get_or, drop, Option, Some, None, if◌then◌else◌, arith}
 use Rattle.std.proofs.lemmas.List.{at_drop_more, drop_all}
-use Rattle.ess_semantics.specs.Lists.{is_some_and}
 use Rattle.ess_semantics.specs.Values.{Text}
-use Rattle.ess_semantics.specs.Order.{same_ints}
 use Rattle.ess_semantics.specs.Tables as pure
-use Rattle.ess_semantics.specs.DeclaredTables.{axis_members}
 use Rattle.ess_core.specs.declared.tables.NamedTable.{NamedTable}
 use Rattle.ess_core.specs.TableViews.{pure_named_table, pure_table}
 use Rattle.eprime_eval.specs.declared.members.Closed.{Closed}
-use Rattle.eprime_eval.specs.ClosedDomains.{pure_closed}
 use Rattle.eprime_verdicts.specs.declared.domains.ClosedDecl.{ClosedDecl}
-use Rattle.eprime_verdicts.specs.ClosedDecls.{are_over, fits, outside_of}
+use Rattle.eprime_verdicts.specs.ClosedDecls.{has_axis, are_over, fits, outside_of}
 
 -- ---- axes
-
--- Whether numbers are the members of a domain.
-abbrev pub is_over : Closed → List ℤ → Bool
-is_over d a = is_some_and (axis_members (Some (pure_closed d))) (λ ns. same_ints ns a)
 
 -- As many axes as domains are wanted.
 pub over_uneven : (ds : List Closed) (as' : List (List ℤ)) → length ds ≢ length as' → false ≡ are_over ds as'
 over_uneven [] [] h = absurd (h refl)
 over_uneven [] (a ∷ as') h = refl
 over_uneven (d ∷ ds) [] h = refl
-over_uneven (d ∷ ds) (a ∷ as') h = uneven (is_over d a) (over_uneven ds as' (λ e. h (ap suc e)))
+over_uneven (d ∷ ds) (a ∷ as') h = uneven (has_axis d a) (over_uneven ds as' (λ e. h (ap suc e)))
   where
     uneven : (b : Bool) {c : Bool} → false ≡ c → false ≡ b && c
     uneven true e = e
@@ -35,7 +27,7 @@ abbrev pub OverBehind : List Closed → List (List ℤ) → ℕ → Type 0
 OverBehind ds as' i = are_over ds as' ≡ are_over (drop i ds) (drop i as')
 
 next-over : (ds : List Closed) (as' : List (List ℤ)) (i : ℕ) (d : Closed) (a : List ℤ) → i < length ds → d ≡ get_or ds i d → i < length as' → a ≡ get_or as' i a
-    → are_over (drop i ds) (drop i as') ≡ is_over d a && are_over (drop (i + 1) ds) (drop (i + 1) as')
+    → are_over (drop i ds) (drop i as') ≡ has_axis d a && are_over (drop (i + 1) ds) (drop (i + 1) as')
 next-over ds as' i d a l g m h =
     at_drop_more (λ us. are_over us (drop i as')) ds i d l
     ∙ ap (λ u. are_over (u ∷ drop (i + 1) ds) (drop i as')) (sym g)
@@ -43,11 +35,11 @@ next-over ds as' i d a l g m h =
     ∙ ap (λ u. are_over (d ∷ drop (i + 1) ds) (u ∷ drop (i + 1) as')) (sym h)
 
 pub over_not : (ds : List Closed) (as' : List (List ℤ)) (i : ℕ) (d : Closed) (a : List ℤ) → OverBehind ds as' i → i < length ds → d ≡ get_or ds i d
-    → i < length as' → a ≡ get_or as' i a → is_over d a ≡ false → false ≡ are_over ds as'
+    → i < length as' → a ≡ get_or as' i a → has_axis d a ≡ false → false ≡ are_over ds as'
 over_not ds as' i d a k l g m h e = sym (k ∙ next-over ds as' i d a l g m h ∙ ap (λ b. b && are_over (drop (i + 1) ds) (drop (i + 1) as')) e)
 
 pub over_more : (ds : List Closed) (as' : List (List ℤ)) (i : ℕ) (d : Closed) (a : List ℤ) → OverBehind ds as' i → i < length ds → d ≡ get_or ds i d
-    → i < length as' → a ≡ get_or as' i a → is_over d a ≡ true → OverBehind ds as' (i + 1)
+    → i < length as' → a ≡ get_or as' i a → has_axis d a ≡ true → OverBehind ds as' (i + 1)
 over_more ds as' i d a k l g m h e = k ∙ next-over ds as' i d a l g m h ∙ ap (λ b. b && are_over (drop (i + 1) ds) (drop (i + 1) as')) e
 
 pub over_all : (ds : List Closed) (as' : List (List ℤ)) (i : ℕ) → OverBehind ds as' i → length ds ≤ i → length ds ≡ length as' → true ≡ are_over ds as'

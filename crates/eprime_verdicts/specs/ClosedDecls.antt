@@ -11,10 +11,14 @@ use Rattle.eprime_eval.specs.declared.members.Closed.{Closed}
 use Rattle.eprime_eval.specs.ClosedDomains.{pure_closed}
 use Rattle.eprime_verdicts.specs.declared.domains.ClosedDecl.{ClosedDecl}
 
+-- Whether numbers are the members of a domain, rising.
+abbrev pub has_axis : Closed → List ℤ → Bool
+has_axis d a = is_some_and (axis_members (Some (pure_closed d))) (λ ns. same_ints ns a)
+
 -- Whether axes are the members of domains, each of its own.
 abbrev pub are_over : List Closed → List (List ℤ) → Bool
 are_over [] [] = true
-are_over (d ∷ ds) (a ∷ as') = is_some_and (axis_members (Some (pure_closed d))) (λ ns. same_ints ns a) && are_over ds as'
+are_over (d ∷ ds) (a ∷ as') = has_axis d a && are_over ds as'
 are_over _ _ = false
 
 -- Whether a table is over these axes and has its items in this domain.

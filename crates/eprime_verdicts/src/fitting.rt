@@ -8,12 +8,12 @@ ghost use Rattle.ess_core.specs.TableViews.{pure_table, pure_named_table};
 ghost use Rattle.eprime_eval.specs.ClosedDomains.{pure_closed};
 ghost use Rattle.eprime_verdicts.specs.ClosedDecls.{are_over, fits, outside_of};
 
+use crate::axes::axes_fit;
 use crate::domains::ClosedDecl;
-use eprime_eval::{Closed, numbers_of};
+use eprime_eval::Closed;
 use ess_core::{NamedTable, Table};
 use ess_rows::{NoMemory, Row, Text};
 use std::alloc::Global;
-use std::cmp::Ordering;
 
 /// The first declared name whose table isn't over its axes or has an item outside its domain, where the tables stand in order of
 /// declaration. `NoMemory` where there is no room to tell.
@@ -47,39 +47,6 @@ fn table_fits(alloc: Global, decl: &ClosedDecl, table: &Table) -> Result<bool, N
         return Ok(false);
     }
     Ok(are_inside(&decl.cell, table.items.as_slice()))
-}
-
-/// Whether axes are the members of domains, each of its own. `NoMemory` where there is no room to tell.
-#[tactic(auto, using(crate::proofs::TablesFit::overs))]
-fn axes_fit(alloc: Global, domains: &[Closed], axes: &[Row<i64>]) -> Result<bool, NoMemory>
-    ensures { IfOk result (λ b. b ≡ are_over domains.now axes.now) }
-{
-    if domains.len() != axes.len() {
-        return Ok(false);
-    }
-    for (place, domain) in domains.iter().enumerate() {
-        if !has_members(alloc, domain, axes[place].as_slice())? {
-            return Ok(false);
-        }
-    }
-    Ok(true)
-}
-
-/// Whether numbers are the members of a domain, rising. `NoMemory` where there is no room to tell.
-fn has_members(alloc: Global, domain: &Closed, numbers: &[i64]) -> Result<bool, NoMemory>
-    ensures { IfOk result (λ b. b ≡ is_some_and (axis_members (Some (pure_closed domain.now))) (λ ns. same_ints ns numbers.now)) }
-{
-    match numbers_of(alloc, domain)? {
-        Some(members) => Ok(same_numbers(members.as_slice(), numbers)),
-        None => Ok(false),
-    }
-}
-
-/// Whether two lists of numbers are equal.
-fn same_numbers(a: &[i64], b: &[i64]) -> bool
-    ensures { result ≡ same_ints a.now b.now }
-{
-    a.cmp(b) == Ordering::Equal
 }
 
 /// Whether each item is in a domain.

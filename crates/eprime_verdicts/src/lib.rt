@@ -1,6 +1,7 @@
 //! Whether tables satisfy a model in Essence Prime, or what they fail first.
 #![tactic(auto)]
 
+mod axes;
 mod domains;
 mod fitting;
 mod names;
