@@ -6,7 +6,7 @@ ghost use Rattle.eprime_eval.specs.declared.closing.EvalNo.TheVariants.{Undefine
 
 use crate::members::{Closed, numbers_of, runs_in};
 use crate::under::{closed_in, with_tables};
-use crate::{Row, Run};
+use crate::{NoMemory, Row, Run};
 use eprime_tree::{PDecl, PDom};
 use ess_core::Cells;
 use std::alloc::Global;
@@ -22,6 +22,17 @@ pub enum EvalNo {
     TooManyCells(u128),
     /// There is no room for the answer.
     NoMemory,
+}
+
+impl From<NoMemory> for EvalNo {
+    ghost use Rattle.std.specs.Prelude.{◌≡◌};
+    ghost use Rattle.eprime_eval.specs.declared.closing.EvalNo.TheVariants.{NoMemory};
+
+    ghost from_gives = { λ _ e. e ≡ NoMemory };
+
+    fn from(_: NoMemory) -> EvalNo {
+        EvalNo::NoMemory
+    }
 }
 
 /// The domain that a declared domain denotes under given tables, where `known` are the declarations of the givens.

@@ -17,4 +17,5 @@ mod under;
 pub use closing::{EvalNo, axis, closed, inside, runs};
 pub use eprime_eval_scalars::Run;
 pub(crate) use eprime_eval_scalars::{NoMemory, Row, Scalar, Stop};
-pub use members::Closed;
+pub use members::{Closed, numbers_of};
+pub use under::{Under, closed_in, truth_in, with_tables};

@@ -39,7 +39,7 @@ impl Closed {
 
 /// The members of a domain as numbers, rising, where they can be listed. `NoMemory` where there is no room for them.
 #[tactic(auto, using(crate::proofs::MemberLists::codes))]
-pub(crate) fn numbers_of(alloc: Global, domain: &Closed) -> Result<Option<Row<i64>>, NoMemory>
+pub fn numbers_of(alloc: Global, domain: &Closed) -> Result<Option<Row<i64>>, NoMemory>
     ensures { IfOk result (λ o. o ≡ axis_members (Some (pure_closed domain.now))) }
 {
     match domain {

@@ -36,7 +36,7 @@ pub struct Under {
 
 /// Declarations of a model with given and found tables. `NoMemory` where there is no room for them.
 #[tactic(auto, using(crate::proofs::Unders::is_under))]
-pub(crate) fn with_tables(
+pub fn with_tables(
     alloc: Global,
     givens: &[PDecl],
     finds: &[PDecl],
@@ -53,7 +53,7 @@ pub(crate) fn with_tables(
 /// The domain that a declared domain denotes. `Undefined` where a bound has no meaning, `Big` where a number on the way lies
 /// outside 64 bits, `NoMemory` where there is no room for it.
 #[tactic(auto, using(crate::proofs::Unders::closings))]
-pub(crate) fn closed_in(alloc: Global, dom: &PDom, under: &Under) -> Result<Closed, EvalNo>
+pub fn closed_in(alloc: Global, dom: &PDom, under: &Under) -> Result<Closed, EvalNo>
     requires known { IsKnown under.now.known }
     ensures ok { IfOk result (λ r. (ds : List TableDecl) (s : Scope) (c : Names pure.Table) → IsUnder under.now (map shape_of ds) c → model_domain ds c (pure_dom s dom.now) ≡ Some (pure_closed r)) }
     ensures undefined { result ≡ Err Undefined → (ds : List TableDecl) (s : Scope) (c : Names pure.Table) → IsUnder under.now (map shape_of ds) c → model_domain ds c (pure_dom s dom.now) ≡ None }
@@ -76,7 +76,7 @@ pub(crate) fn closed_in(alloc: Global, dom: &PDom, under: &Under) -> Result<Clos
 /// Whether an expression is true: false where it is false, no truth value, or without a value. `Big` where a number on the
 /// way lies outside 64 bits, `NoMemory` where there is no room to tell.
 #[tactic(auto, using(crate::proofs::Unders::truths))]
-pub(crate) fn truth_in(alloc: Global, ex: &PEx, under: &Under) -> Result<bool, EvalNo>
+pub fn truth_in(alloc: Global, ex: &PEx, under: &Under) -> Result<bool, EvalNo>
     requires known { IsKnown under.now.known }
     ensures ok { IfOk result (λ b. (ds : List TableDecl) (s : Scope) (c : Names pure.Table) → IsUnder under.now (map shape_of ds) c → is_true (model_value ds c (pure_ex s ex.now)) ≡ b) }
     ensures big { result ≡ Err Big → (ds : List TableDecl) (s : Scope) (c : Names pure.Table) → IsUnder under.now (map shape_of ds) c → ex_is_large ds c (pure_ex s ex.now) ≡ true }

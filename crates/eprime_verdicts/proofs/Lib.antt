@@ -1,0 +1,9 @@
+pub mod Stops
+pub mod NamesInOrder
+pub mod TablesFit
+pub mod Volumes
+pub mod Denoting
+pub mod RulesInOrder
+pub mod FoundDecls
+pub mod VerdictParts
+pub mod ListedMembers
