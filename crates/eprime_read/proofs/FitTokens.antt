@@ -1,5 +1,5 @@
 -- The tokens of a text that isn't refused first are fit.
-use Rattle.std.proofs.Common.{◌≡◌, sym, subst, None, IsTrue}
+use Rattle.std.proofs.Common.{◌≡◌, sym, subst, true, None, IsTrue}
 use Rattle.ess_rows.specs.declared.place.Place.{Place}
 use Rattle.ess_semantics.specs.Values.{Text}
 use Rattle.ess_grammar.specs.Words.{Token}
@@ -11,6 +11,8 @@ use Rattle.ess_parse.specs.Refusals.{refused_first}
 use Rattle.ess_parse.proofs.FirstRefusals.{none-first}
 use Rattle.ess_parse.proofs.Runs.{all_tokens, all-these}
 use Rattle.eprime_read.specs.Drafts.{is_fit_token, AreFit}
+use Rattle.eprime_read_headers.specs.FrontTokens.{is_free_for}
+use Rattle.eprime_read_headers.proofs.FreeTexts.{free_from}
 use Rattle.eprime_read.proofs.PartTokens.{all_fit}
 
 -- All tokens are fit.
@@ -25,6 +27,10 @@ lexed_fit text h =
 -- The lexer refuses nothing.
 pub unrefused : (text : Text) → refused_first text ≡ None → refusal (lexed text) ≡ None
 unrefused text h = (none-first (refusal (lexed text)) (first_outside (lexed text)) (too_deep (lexed text)) h).0
+
+-- Nothing of the language line is refused.
+pub unrefused_front : (text : Text) → refused_first text ≡ None → is_free_for 5 (lexed text) ≡ true
+unrefused_front text h = free_from 5 (lexed text) (unrefused text h)
 
 -- The first token, and those behind it.
 pub front_fit : (t : Token) (bytes : Text) (p : Place) (more all : Lexed) → next_token t bytes p more ≡ all → AreFitTokens all → IsTrue (is_fit_token t) × AreFitTokens more

@@ -6,6 +6,3 @@ pub mod PartTokens
 pub mod PartStatements
 pub mod ModelLaws
 pub mod FitTokens
-pub mod FreeTexts
-pub mod FifthToken
-pub mod MarkedLines

@@ -2,4 +2,3 @@ pub mod Openings
 pub mod Drafts
 pub mod Statements
 pub mod Views
-pub mod FrontTokens

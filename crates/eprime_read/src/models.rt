@@ -8,8 +8,8 @@ ghost use Rattle.eprime_read_laws.specs.ModelMachine.{at_begin, model_step, mode
 ghost use Rattle.eprime_tree.specs.Views.{pure_model};
 ghost use Rattle.eprime_tree.specs.ModelText.{is_head_line};
 
-use crate::header::header_lines;
 use crate::machine::Machine;
+use eprime_read_headers::header_lines;
 use eprime_tree::PModel;
 use ess_lex::{Lexer, end_place};
 use ess_parse::{ReadNo, pass_first};
@@ -39,7 +39,7 @@ pub fn read_model(alloc: Global, text: &[u8]) -> Result<PModel, ReadNo>
 }
 
 /// Runs the machine over the tokens of a text.
-#[tactic(auto, using(crate::proofs::FitTokens::unrefused))]
+#[tactic(auto, using(crate::proofs::FitTokens::unrefused_front))]
 fn run(alloc: Global, text: &[u8]) -> Result<PModel, ReadNo>
     ensures reading { IsReading model_step model_finish at_begin pure_model text.now result }
     ensures head { IfOk result (λ m. m.head ≡ header_lines text.now) }
