@@ -19,7 +19,7 @@ use Rattle.ess_core.specs.TreeViews.{pure_repr, pure_dom, pure_doms, pure_field_
 use Rattle.ess_core.proofs.RepresentationEquations.{pure_repr_is}
 use Rattle.ess_core.proofs.DomainEquations.{pure_bool, pure_int, pure_name}
 use Rattle.ess_core.proofs.PartEquations.{pure_field_dom_is}
-use Rattle.ess_repr.proofs.Children.{kids, kind_in}
+use Rattle.ess_repr.proofs.FittingChildren.{kids, kind_in}
 
 -- ---- made
 

@@ -1,6 +1,16 @@
 pub mod Ranges
 pub mod Marks
 pub mod DomainLists
-pub mod Children
+pub mod FittingChildren
 pub mod SizedForms
 pub mod Chosen
+pub mod Present
+pub mod SizeSteps
+pub mod Made
+pub mod ChildRows
+pub mod SizedRows
+pub mod OwnTrees
+pub mod Fronts
+pub mod FreeNames
+pub mod CellDomains
+pub mod DeclaredLayers

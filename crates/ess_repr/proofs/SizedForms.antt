@@ -9,7 +9,7 @@ use Rattle.ess_semantics.specs.Kinds.{has_key, size_marks, child_relation_form, 
 use Rattle.ess_core.specs.TreeViews.{pure_repr}
 use Rattle.ess_core.specs.declared.representations.Repr as code
 use Rattle.ess_core.specs.declared.representations.Repr.TheViews.{out-Repr}
-use Rattle.ess_repr.proofs.Children.{kids, kind_in}
+use Rattle.ess_repr.proofs.FittingChildren.{kids, kind_in}
 
 -- The marks of a size alone.
 abbrev pub alone : Bool → List Mark

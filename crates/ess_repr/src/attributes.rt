@@ -1,10 +1,12 @@
 //! The attributes of domains.
-ghost use Rattle.std.specs.Prelude.{◌≡◌, map};
+ghost use Rattle.std.specs.Prelude.{◌≡◌, map, option_map};
+ghost use Rattle.std.specs.Option.{option_copied};
 ghost use Rattle.ess_semantics.specs.Domains.{key_number, same_key as same_keys};
 ghost use Rattle.ess_semantics.specs.Kinds.{has_key as has_the_key};
-ghost use Rattle.ess_core.specs.TreeViews.{words_of, pure_attr};
+ghost use Rattle.ess_core.specs.TreeViews.{words_of, within, exs_of, pure_attr, pure_ex};
+ghost use Rattle.ess_repr_declare_laws.specs.SizeTerms.{number_of as number_in, greatest_size_of};
 
-use ess_core::{Attr, Key};
+use ess_core::{Attr, Ex, Key};
 
 /// The place of an attribute in the list of all, by which two are told apart.
 fn number_of(key: Key) -> u8
@@ -54,4 +56,33 @@ pub(crate) fn has_key(attrs: &[Attr], key: Key) -> bool
         }
     }
     false
+}
+
+/// The number of an attribute, where it stands with one.
+#[tactic(auto, using(crate::proofs::Marks::value_here, crate::proofs::Marks::value_absent, crate::proofs::Marks::value_other, crate::proofs::Marks::value_nowhere))]
+pub(crate) fn value_of(attrs: &[Attr], key: Key) -> Option<&Ex>
+    ensures { option_map pure_ex (option_copied result) ≡ number_in key (words_of (map pure_attr attrs.now))
+        (exs_of (within (map pure_attr attrs.now))) }
+{
+    for (i, attr) in attrs.iter().enumerate() {
+        if same_key(attr.key, key) {
+            match &attr.value {
+                Some(value) => return Some(value),
+                None => {}
+            }
+        }
+    }
+    None
+}
+
+/// `size`, else `maxSize`.
+#[tactic(auto, using(crate::proofs::SizeSteps::greatest_there, crate::proofs::SizeSteps::greatest_other))]
+pub(crate) fn greatest_size(attrs: &[Attr]) -> Option<&Ex>
+    ensures { option_map pure_ex (option_copied result) ≡ greatest_size_of (words_of (map pure_attr attrs.now))
+        (exs_of (within (map pure_attr attrs.now))) }
+{
+    match value_of(attrs, Key::Size) {
+        Some(size) => Some(size),
+        None => value_of(attrs, Key::MaxSize),
+    }
 }

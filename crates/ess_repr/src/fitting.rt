@@ -15,7 +15,7 @@ use ess_core::{Attr, Dom, FieldDom, Key, Repr, ReprKind};
 
 /// Whether a representation fits a domain: each kind is one for its layer, and each child fits its own domain. Takes no memory.
 #[cycle(fits)]
-#[tactic(auto, using(crate::proofs::Children::kind_in, crate::proofs::SizedForms::ints_alike, crate::proofs::SizedForms::names_alike, crate::proofs::SizedForms::set_sized, crate::proofs::SizedForms::relation_sized))]
+#[tactic(auto, using(crate::proofs::FittingChildren::kind_in, crate::proofs::SizedForms::ints_alike, crate::proofs::SizedForms::names_alike, crate::proofs::SizedForms::set_sized, crate::proofs::SizedForms::relation_sized))]
 pub fn fits(repr: &Repr, dom: &Dom) -> bool
     ensures { result ≡ fits_meant (pure_repr repr.now) (pure_dom dom.now) }
 {
@@ -41,7 +41,7 @@ pub fn fits(repr: &Repr, dom: &Dom) -> bool
 }
 
 /// Whether a representation is one of atoms.
-#[tactic(auto, using(crate::proofs::Children::kind_in))]
+#[tactic(auto, using(crate::proofs::FittingChildren::kind_in))]
 fn atom_fits(repr: &Repr) -> bool
     ensures { result ≡ fits_meant (pure_repr repr.now) bool_dom }
 {
@@ -53,7 +53,7 @@ fn atom_fits(repr: &Repr) -> bool
 
 /// Whether a representation fits tuples of these components.
 #[cycle(fits)]
-#[tactic(auto, using(crate::proofs::Children::kind_in))]
+#[tactic(auto, using(crate::proofs::FittingChildren::kind_in))]
 pub(crate) fn tuple_fits(repr: &Repr, parts: &[Dom]) -> bool
     ensures { result ≡ fits_meant (pure_repr repr.now) (tuple_dom (pure_doms parts.now)) }
 {
@@ -65,7 +65,7 @@ pub(crate) fn tuple_fits(repr: &Repr, parts: &[Dom]) -> bool
 
 /// Whether a representation fits records of these fields.
 #[cycle(fits)]
-#[tactic(auto, using(crate::proofs::Children::kind_in))]
+#[tactic(auto, using(crate::proofs::FittingChildren::kind_in))]
 fn record_fits(repr: &Repr, fields: &[FieldDom]) -> bool
     ensures { result ≡ fits_meant (pure_repr repr.now) (record_dom (keys (map pure_field_dom fields.now)) (doms_of (field_values (map pure_field_dom fields.now)))) }
 {
@@ -77,7 +77,7 @@ fn record_fits(repr: &Repr, fields: &[FieldDom]) -> bool
 
 /// Whether a representation fits matrices over these axes.
 #[cycle(fits)]
-#[tactic(auto, using(crate::proofs::Children::kind_in))]
+#[tactic(auto, using(crate::proofs::FittingChildren::kind_in))]
 fn matrix_fits(repr: &Repr, axes: &[Dom], item: &Dom) -> bool
     ensures { result ≡ fits_meant (pure_repr repr.now) (matrix_dom (pure_doms axes.now) (pure_dom item.now)) }
 {
@@ -89,7 +89,7 @@ fn matrix_fits(repr: &Repr, axes: &[Dom], item: &Dom) -> bool
 
 /// Whether there are as many children as domains, and each fits its own.
 #[cycle(fits)]
-#[tactic(auto, using(crate::proofs::Children::parts_unequal, crate::proofs::Children::parts_more, crate::proofs::Children::parts_none, crate::proofs::Children::parts_all))]
+#[tactic(auto, using(crate::proofs::FittingChildren::parts_unequal, crate::proofs::FittingChildren::parts_more, crate::proofs::FittingChildren::parts_none, crate::proofs::FittingChildren::parts_all))]
 fn parts_fit(children: &[Repr], parts: &[Dom]) -> bool
     ensures { result ≡ all_fit_meant (reprs_of (map pure_repr children.now)) (dom_list (pure_doms parts.now)) }
 {
@@ -106,7 +106,7 @@ fn parts_fit(children: &[Repr], parts: &[Dom]) -> bool
 
 /// The same of the domains of fields.
 #[cycle(fits)]
-#[tactic(auto, using(crate::proofs::Children::fields_unequal, crate::proofs::Children::fields_more, crate::proofs::Children::fields_none, crate::proofs::Children::fields_all))]
+#[tactic(auto, using(crate::proofs::FittingChildren::fields_unequal, crate::proofs::FittingChildren::fields_more, crate::proofs::FittingChildren::fields_none, crate::proofs::FittingChildren::fields_all))]
 fn fields_fit(children: &[Repr], fields: &[FieldDom]) -> bool
     ensures { result ≡ all_fit_meant (reprs_of (map pure_repr children.now)) (dom_list (doms_of (field_values (map pure_field_dom fields.now)))) }
 {
@@ -123,7 +123,7 @@ fn fields_fit(children: &[Repr], fields: &[FieldDom]) -> bool
 
 /// Whether a representation fits a multiset.
 #[cycle(fits)]
-#[tactic(auto, using(crate::proofs::Children::kind_in))]
+#[tactic(auto, using(crate::proofs::FittingChildren::kind_in))]
 fn mset_fits(repr: &Repr, attrs: &[Attr], member: &Dom) -> bool
     ensures { result ≡ fits_meant (pure_repr repr.now) (mset_dom (words_of (map pure_attr attrs.now)) (exs_of (within (map pure_attr attrs.now))) (pure_dom member.now)) }
 {
@@ -138,7 +138,7 @@ fn mset_fits(repr: &Repr, attrs: &[Attr], member: &Dom) -> bool
 
 /// Whether a representation fits a function.
 #[cycle(fits)]
-#[tactic(auto, using(crate::proofs::Children::kind_in, crate::proofs::SizedForms::pairs_are))]
+#[tactic(auto, using(crate::proofs::FittingChildren::kind_in, crate::proofs::SizedForms::pairs_are))]
 fn function_fits(repr: &Repr, attrs: &[Attr], from: &Dom, to: &Dom) -> bool
     ensures { result ≡ fits_meant (pure_repr repr.now) (function_dom (words_of (map pure_attr attrs.now)) (exs_of (within (map pure_attr attrs.now))) (pure_dom from.now) (pure_dom to.now)) }
 {
@@ -162,7 +162,7 @@ fn function_fits(repr: &Repr, attrs: &[Attr], from: &Dom, to: &Dom) -> bool
 
 /// Whether a representation fits a partition.
 #[cycle(fits)]
-#[tactic(auto, using(crate::proofs::Children::kind_in, crate::proofs::SizedForms::parts_are))]
+#[tactic(auto, using(crate::proofs::FittingChildren::kind_in, crate::proofs::SizedForms::parts_are))]
 fn partition_fits(repr: &Repr, attrs: &[Attr], member: &Dom) -> bool
     ensures { result ≡ fits_meant (pure_repr repr.now) (partition_dom (words_of (map pure_attr attrs.now)) (exs_of (within (map pure_attr attrs.now))) (pure_dom member.now)) }
 {

@@ -12,7 +12,7 @@ use ess_core::{Dom, Repr, ReprKind};
 
 /// Whether there is one child alone, which fits the relation of the pairs, which has the attribute `size` or not.
 #[cycle(fits)]
-#[tactic(auto, using(crate::proofs::Children::only_none, crate::proofs::Children::only_some))]
+#[tactic(auto, using(crate::proofs::FittingChildren::only_none, crate::proofs::FittingChildren::only_some))]
 pub(crate) fn pairs_fit(children: &[Repr], sized: bool, from: &Dom, to: &Dom) -> bool
     ensures { result ≡ all_fit_meant (reprs_of (map pure_repr children.now)) (relation_dom (size_marks sized false false) no_exs (more_doms (pure_dom from.now) (more_doms (pure_dom to.now) no_doms)) ∷ []) }
 {
@@ -24,7 +24,7 @@ pub(crate) fn pairs_fit(children: &[Repr], sized: bool, from: &Dom, to: &Dom) ->
 
 /// Whether a representation fits a relation of two components.
 #[cycle(fits)]
-#[tactic(auto, using(crate::proofs::Children::kind_in, crate::proofs::SizedForms::set_child))]
+#[tactic(auto, using(crate::proofs::FittingChildren::kind_in, crate::proofs::SizedForms::set_child))]
 fn pair_relation_fits(repr: &Repr, sized: bool, from: &Dom, to: &Dom) -> bool
     ensures { result ≡ fits_meant (pure_repr repr.now) (relation_dom (size_marks sized false false) no_exs (more_doms (pure_dom from.now) (more_doms (pure_dom to.now) no_doms))) }
 {
@@ -38,7 +38,7 @@ fn pair_relation_fits(repr: &Repr, sized: bool, from: &Dom, to: &Dom) -> bool
 
 /// Whether there is one child alone, which fits the set of the pairs, which has the attribute `size` or not.
 #[cycle(fits)]
-#[tactic(auto, using(crate::proofs::Children::only_none, crate::proofs::Children::only_some))]
+#[tactic(auto, using(crate::proofs::FittingChildren::only_none, crate::proofs::FittingChildren::only_some))]
 fn pair_sets_fit(children: &[Repr], sized: bool, from: &Dom, to: &Dom) -> bool
     ensures { result ≡ all_fit_meant (reprs_of (map pure_repr children.now)) (set_dom (size_marks sized false false) no_exs (tuple_dom (more_doms (pure_dom from.now) (more_doms (pure_dom to.now) no_doms))) ∷ []) }
 {
@@ -50,7 +50,7 @@ fn pair_sets_fit(children: &[Repr], sized: bool, from: &Dom, to: &Dom) -> bool
 
 /// Whether a representation fits a set of pairs.
 #[cycle(fits)]
-#[tactic(auto, using(crate::proofs::Children::kind_in))]
+#[tactic(auto, using(crate::proofs::FittingChildren::kind_in))]
 fn pair_set_fits(repr: &Repr, sized: bool, from: &Dom, to: &Dom) -> bool
     ensures { result ≡ fits_meant (pure_repr repr.now) (set_dom (size_marks sized false false) no_exs (tuple_dom (more_doms (pure_dom from.now) (more_doms (pure_dom to.now) no_doms)))) }
 {
@@ -65,7 +65,7 @@ fn pair_set_fits(repr: &Repr, sized: bool, from: &Dom, to: &Dom) -> bool
 
 /// Whether there is one child alone, which fits the pairs.
 #[cycle(fits)]
-#[tactic(auto, using(crate::proofs::Children::only_none, crate::proofs::Children::only_some))]
+#[tactic(auto, using(crate::proofs::FittingChildren::only_none, crate::proofs::FittingChildren::only_some))]
 fn only_pair_fits(children: &[Repr], from: &Dom, to: &Dom) -> bool
     ensures { result ≡ all_fit_meant (reprs_of (map pure_repr children.now)) (tuple_dom (more_doms (pure_dom from.now) (more_doms (pure_dom to.now) no_doms)) ∷ []) }
 {
@@ -77,7 +77,7 @@ fn only_pair_fits(children: &[Repr], from: &Dom, to: &Dom) -> bool
 
 /// Whether a representation fits pairs.
 #[cycle(fits)]
-#[tactic(auto, using(crate::proofs::Children::kind_in))]
+#[tactic(auto, using(crate::proofs::FittingChildren::kind_in))]
 fn pair_fits(repr: &Repr, from: &Dom, to: &Dom) -> bool
     ensures { result ≡ fits_meant (pure_repr repr.now) (tuple_dom (more_doms (pure_dom from.now) (more_doms (pure_dom to.now) no_doms))) }
 {
@@ -89,7 +89,7 @@ fn pair_fits(repr: &Repr, from: &Dom, to: &Dom) -> bool
 
 /// Whether there are two children, each of which fits its domain.
 #[cycle(fits)]
-#[tactic(auto, using(crate::proofs::Children::two_fit, crate::proofs::Children::first_misfits, crate::proofs::Children::not_two))]
+#[tactic(auto, using(crate::proofs::FittingChildren::two_fit, crate::proofs::FittingChildren::first_misfits, crate::proofs::FittingChildren::not_two))]
 fn both_fit(children: &[Repr], from: &Dom, to: &Dom) -> bool
     ensures { result ≡ all_fit_meant (reprs_of (map pure_repr children.now)) (pure_dom from.now ∷ pure_dom to.now ∷ []) }
 {

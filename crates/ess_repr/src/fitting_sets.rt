@@ -23,7 +23,7 @@ pub(crate) fn only_child(children: &[Repr]) -> Option<&Repr>
 }
 
 /// Whether there is no child.
-#[tactic(auto, using(crate::proofs::Children::no_child, crate::proofs::Children::some_child))]
+#[tactic(auto, using(crate::proofs::FittingChildren::no_child, crate::proofs::FittingChildren::some_child))]
 pub(crate) fn is_leaf(children: &[Repr]) -> bool
     ensures { result ≡ all_fit_meant (reprs_of (map pure_repr children.now)) [] }
 {
@@ -32,7 +32,7 @@ pub(crate) fn is_leaf(children: &[Repr]) -> bool
 
 /// Whether there is one child alone, which fits the domain.
 #[cycle(fits)]
-#[tactic(auto, using(crate::proofs::Children::only_none, crate::proofs::Children::only_some))]
+#[tactic(auto, using(crate::proofs::FittingChildren::only_none, crate::proofs::FittingChildren::only_some))]
 pub(crate) fn child_fits(children: &[Repr], dom: &Dom) -> bool
     ensures { result ≡ all_fit_meant (reprs_of (map pure_repr children.now)) (pure_dom dom.now ∷ []) }
 {
@@ -44,7 +44,7 @@ pub(crate) fn child_fits(children: &[Repr], dom: &Dom) -> bool
 
 /// Whether a representation fits a set, which has the attribute `size` or not.
 #[cycle(fits)]
-#[tactic(auto, using(crate::proofs::Children::kind_in))]
+#[tactic(auto, using(crate::proofs::FittingChildren::kind_in))]
 pub(crate) fn set_fits(repr: &Repr, sized: bool, member: &Dom) -> bool
     ensures { result ≡ fits_meant (pure_repr repr.now) (set_dom (size_marks sized false false) no_exs (pure_dom member.now)) }
 {
@@ -61,7 +61,7 @@ pub(crate) fn set_fits(repr: &Repr, sized: bool, member: &Dom) -> bool
 
 /// Whether there is one child alone, which fits a set, which has the attribute `size` or not.
 #[cycle(fits)]
-#[tactic(auto, using(crate::proofs::Children::only_none, crate::proofs::Children::only_some))]
+#[tactic(auto, using(crate::proofs::FittingChildren::only_none, crate::proofs::FittingChildren::only_some))]
 fn part_fits(children: &[Repr], sized: bool, member: &Dom) -> bool
     ensures { result ≡ all_fit_meant (reprs_of (map pure_repr children.now)) (set_dom (size_marks sized false false) no_exs (pure_dom member.now) ∷ []) }
 {
@@ -73,7 +73,7 @@ fn part_fits(children: &[Repr], sized: bool, member: &Dom) -> bool
 
 /// Whether a representation fits a set of sets.
 #[cycle(fits)]
-#[tactic(auto, using(crate::proofs::Children::kind_in))]
+#[tactic(auto, using(crate::proofs::FittingChildren::kind_in))]
 fn set_of_sets_fits(repr: &Repr, sized: bool, part_sized: bool, member: &Dom) -> bool
     ensures { result ≡ fits_meant (pure_repr repr.now) (set_dom (size_marks sized false false) no_exs (set_dom (size_marks part_sized false false) no_exs (pure_dom member.now))) }
 {
@@ -88,7 +88,7 @@ fn set_of_sets_fits(repr: &Repr, sized: bool, part_sized: bool, member: &Dom) ->
 
 /// Whether there is one child alone, which fits the set of a partition's parts: it has `size` or not, as have its members.
 #[cycle(fits)]
-#[tactic(auto, using(crate::proofs::Children::only_none, crate::proofs::Children::only_some))]
+#[tactic(auto, using(crate::proofs::FittingChildren::only_none, crate::proofs::FittingChildren::only_some))]
 pub(crate) fn parts_fit_sets(children: &[Repr], sized: bool, part_sized: bool, member: &Dom) -> bool
     ensures { result ≡ all_fit_meant (reprs_of (map pure_repr children.now)) (set_dom (size_marks sized false false) no_exs (set_dom (size_marks part_sized false false) no_exs (pure_dom member.now)) ∷ []) }
 {

@@ -12,7 +12,7 @@ use ess_core::{Dom, Repr, ReprKind};
 
 /// Whether a representation fits a relation of these components, which has the attribute `size` or not.
 #[cycle(fits)]
-#[tactic(auto, using(crate::proofs::Children::kind_in, crate::proofs::SizedForms::set_child))]
+#[tactic(auto, using(crate::proofs::FittingChildren::kind_in, crate::proofs::SizedForms::set_child))]
 pub(crate) fn relation_fits(repr: &Repr, sized: bool, parts: &[Dom]) -> bool
     ensures { result ≡ fits_meant (pure_repr repr.now) (relation_dom (size_marks sized false false) no_exs (pure_doms parts.now)) }
 {
@@ -26,7 +26,7 @@ pub(crate) fn relation_fits(repr: &Repr, sized: bool, parts: &[Dom]) -> bool
 
 /// Whether there is one child alone, which fits the set of tuples, which has the attribute `size` or not.
 #[cycle(fits)]
-#[tactic(auto, using(crate::proofs::Children::only_none, crate::proofs::Children::only_some))]
+#[tactic(auto, using(crate::proofs::FittingChildren::only_none, crate::proofs::FittingChildren::only_some))]
 fn tuple_sets_fit(children: &[Repr], sized: bool, parts: &[Dom]) -> bool
     ensures { result ≡ all_fit_meant (reprs_of (map pure_repr children.now)) (set_dom (size_marks sized false false) no_exs (tuple_dom (pure_doms parts.now)) ∷ []) }
 {
@@ -38,7 +38,7 @@ fn tuple_sets_fit(children: &[Repr], sized: bool, parts: &[Dom]) -> bool
 
 /// Whether a representation fits a set of tuples.
 #[cycle(fits)]
-#[tactic(auto, using(crate::proofs::Children::kind_in))]
+#[tactic(auto, using(crate::proofs::FittingChildren::kind_in))]
 fn tuple_set_fits(repr: &Repr, sized: bool, parts: &[Dom]) -> bool
     ensures { result ≡ fits_meant (pure_repr repr.now) (set_dom (size_marks sized false false) no_exs (tuple_dom (pure_doms parts.now))) }
 {
@@ -53,7 +53,7 @@ fn tuple_set_fits(repr: &Repr, sized: bool, parts: &[Dom]) -> bool
 
 /// Whether there is one child alone, which fits the tuples.
 #[cycle(fits)]
-#[tactic(auto, using(crate::proofs::Children::only_none, crate::proofs::Children::only_some))]
+#[tactic(auto, using(crate::proofs::FittingChildren::only_none, crate::proofs::FittingChildren::only_some))]
 fn tuples_fit(children: &[Repr], parts: &[Dom]) -> bool
     ensures { result ≡ all_fit_meant (reprs_of (map pure_repr children.now)) (tuple_dom (pure_doms parts.now) ∷ []) }
 {

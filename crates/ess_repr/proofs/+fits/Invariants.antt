@@ -1,6 +1,6 @@
 use Rattle.std.proofs.Common.{◌≡◌, drop}
 use Rattle.ess_semantics.specs.Kinds.{all_fit}
-use Rattle.ess_repr.proofs.Children.{kids, parts, field_parts}
+use Rattle.ess_repr.proofs.FittingChildren.{kids, parts, field_parts}
 use Rattle.ess_repr.proofs.+fits.Given as goal
 
 abbrev pub invariant-fitting::parts_fit-loop-i : goal.invariant-fitting::parts_fit-loop-i
