@@ -11,6 +11,7 @@ pub mod ReadyFunctions
 pub mod ReadyConversions
 pub mod ReadyAll
 -- From the judgements
+pub mod OrderlyAttributes
 pub mod OrderlyDenoted
 pub mod NamesApart
 pub mod OrderlyJudged
