@@ -12,6 +12,8 @@ use std::alloc::Global;
 /// - `runs MODEL ## TABLES`: the maximal runs of the domain;
 /// - `cells MODEL ## TABLES ## TEXT`: the tables that the text of cells is for the finds, and these printed, or why there are none;
 /// - `print MODEL ## TABLES`: the tables printed as those of the finds of the model;
+/// - `satisfies MODEL ## TABLES ## TABLES`: whether tables of the finds satisfy the model under those of the givens, or what they fail
+///   first;
 /// - `lettings TEXT`: the lettings that the text of cells has, or why none are read.
 pub fn answer(alloc: Global, line: &str) -> Result<String, NoMemory> {
     let (word, rest) = line.split_once(' ').unwrap_or((line, ""));

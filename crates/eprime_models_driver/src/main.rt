@@ -12,6 +12,7 @@ mod numbers;
 mod refusals;
 mod tables;
 mod texts;
+mod verdicts;
 
 use ess_rows::NoMemory;
 use std::io;

@@ -2,6 +2,7 @@ use crate::cells::{put_printed, put_read};
 use crate::domains::put_domain;
 use crate::refusals::put_read_no;
 use crate::tables::tables_of;
+use crate::verdicts::put_verdict;
 use eprime_read::{ReadNo, read_model};
 use eprime_tree::PModel;
 use ess_core::Cells;
@@ -40,6 +41,7 @@ fn put_asked(
     match word {
         "cells" => put_read(alloc, out, model, tables, third),
         "print" => put_printed(alloc, out, tables, &model.finds),
+        "satisfies" => put_verdict(alloc, out, model, tables, third),
         _ => put_domain(alloc, out, word, model, tables, third),
     }
 }
