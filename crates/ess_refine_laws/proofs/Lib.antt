@@ -1,0 +1,5 @@
+pub mod Replaced
+pub mod PartialNumbers
+pub mod Bounds
+pub mod Everywhere
+pub mod ExamplesEverywhere
