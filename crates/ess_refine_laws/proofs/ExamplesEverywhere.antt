@@ -4,9 +4,10 @@ use Rattle.ess_semantics.specs.declared.words.Op1.{Op1}
 use Rattle.ess_semantics.specs.declared.words.Op2.{Op2}
 use Rattle.ess_semantics.specs.declared.words.Fun.{Fun}
 use Rattle.ess_semantics.specs.Values.{Text, number}
-use Rattle.ess_semantics.specs.Trees.{matrix_literal, name_pat, Ex, truth_ex, node_ex, comp_ex, no_exs, no_gens, over, cond}
+use Rattle.ess_semantics.specs.Trees.{matrix_literal, name_pat, Ex, truth_ex, node_ex, comp_ex, no_exs, cell_ex, no_gens, over, cond}
 use Rattle.ess_semantics.specs.Meaning.{Env, empty_env, meaning}
-use Rattle.ess_semantics.proofs.Shorthands.{N, n, v, es2, bi, fn, un, neg, range, upto}
+use Rattle.ess_semantics.proofs.Shorthands.{N, n, v, es1, es2, bi, fn, un, neg, range, upto}
+use Rattle.ess_refine_laws.specs.LeavingConditions.{condition_leaves}
 use Rattle.ess_refine_laws.specs.Everywhere.{raised, base, exponent, everywhere}
 
 abbrev x : Text
@@ -75,3 +76,40 @@ booleans_stay = refl
 bounds_do_not : meaning (everywhere (fn Fun.Sum (comp_ex (N j) (over (name_pat j) (range (n 1) (bi Op2.Div (n 1) (n 0))) no_gens)))) empty_env
     ≡ Some (v 1)
 bounds_do_not = refl
+
+-- ---- conditions that leave
+
+abbrev f : Text
+f = codes "f"
+
+-- The cell `f[j]`, and a number that has nothing where it is 0.
+abbrev flag : Ex
+flag = cell_ex true f (es1 (N j))
+
+abbrev part : Ex
+part = bi Op2.Div (n 6) (cell_ex false f (es1 (N j)))
+
+-- `sum([6 / f[j] | j : int(1..2), f[j]])` is `sum([toInt(f[j]) * sum([6 / (f[j] + toInt(f[j] = 0)) | ]) | j : int(1..2)])`.
+leaves_a_sum : condition_leaves (fn Fun.Sum (comp_ex part (over (name_pat j) (upto 2) (cond flag no_gens)))) ≡
+    Some (fn Fun.Sum (comp_ex (bi Op2.Times (fn Fun.ToInt flag) (fn Fun.Sum (comp_ex (everywhere part) no_gens))) (over (name_pat j) (upto 2) no_gens)))
+leaves_a_sum = refl
+
+-- Of two conditions that read cells the last one leaves; one that reads none stays.
+leaves_the_last : condition_leaves (fn Fun.And (comp_ex (N x) (cond flag (cond (N x) (cond flag (cond (N x) no_gens)))))) ≡
+    Some (fn Fun.And (comp_ex (bi Op2.Implies flag (fn Fun.And (comp_ex (N x) (cond (N x) no_gens)))) (cond flag (cond (N x) no_gens))))
+leaves_the_last = refl
+
+leaves_no_other : (condition_leaves (fn Fun.Or (comp_ex (N x) (cond (N x) no_gens))) ≡ None)
+    × (condition_leaves (fn Fun.Min (comp_ex (N x) (cond flag no_gens))) ≡ None)
+    × (condition_leaves (fn Fun.Or (comp_ex (bi Op2.Member (n 1) (N x)) (cond flag no_gens))) ≡ None)
+leaves_no_other = (refl, refl, refl)
+
+-- Over the table f = [0, 1] both are 6: where the cell is 0 the old number has nothing, and isn't asked.
+abbrev zero_and_one : Env
+zero_and_one = record empty_env { cells = (f, record { axes = (pos 1 ∷ pos 2 ∷ []) ∷ []; items = pos 0 ∷ pos 1 ∷ [] }) ∷ [] }
+
+sums_over_the_table : (meaning (fn Fun.Sum (comp_ex part (over (name_pat j) (upto 2) (cond flag no_gens)))) zero_and_one ≡ Some (v 6))
+    × (meaning (fn Fun.Sum (comp_ex (bi Op2.Times (fn Fun.ToInt flag) (everywhere part)) (over (name_pat j) (upto 2) no_gens))) zero_and_one
+    ≡ Some (v 6))
+    × (meaning (fn Fun.Sum (comp_ex (bi Op2.Times (fn Fun.ToInt flag) part) (over (name_pat j) (upto 2) no_gens))) zero_and_one ≡ None)
+sums_over_the_table = (refl, refl, refl)

@@ -1,9 +1,16 @@
 //! Laws of refining, each the contract of a function that does nothing.
 
 ghost use Rattle.ess_refine_laws.specs.Everywhere.{EverywhereServes};
+ghost use Rattle.ess_refine_laws.specs.LeavingConditions.{ConditionsLeave};
 
 /// A refined number becomes one that is there wherever the names and cells in it are, and that is the same where the old one
 /// has a value.
 pub fn everywhere_serves()
     ensures { EverywhereServes }
+{}
+
+/// A condition that reads cells leaves the generators of a fold for its body, and the fold is kept where its comprehension has a
+/// value. Refined numbers stay refined where they become ones that are there everywhere.
+pub fn conditions_leave()
+    ensures { ConditionsLeave }
 {}
