@@ -4,4 +4,5 @@ pub mod Bounds
 pub mod Everywhere
 pub mod RefinedTrees
 pub mod LeavingConditions
+pub mod AllRules
 pub mod ExamplesEverywhere

@@ -1,2 +1,3 @@
 pub mod Everywhere
 pub mod LeavingConditions
+pub mod AllRules

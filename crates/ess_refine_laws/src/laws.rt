@@ -2,6 +2,7 @@
 
 ghost use Rattle.ess_refine_laws.specs.Everywhere.{EverywhereServes};
 ghost use Rattle.ess_refine_laws.specs.LeavingConditions.{ConditionsLeave};
+ghost use Rattle.ess_refine_laws.specs.AllRules.{AllRulesKeep};
 
 /// A refined number becomes one that is there wherever the names and cells in it are, and that is the same where the old one
 /// has a value.
@@ -13,4 +14,9 @@ pub fn everywhere_serves()
 /// value. Refined numbers stay refined where they become ones that are there everywhere.
 pub fn conditions_leave()
     ensures { ConditionsLeave }
+{}
+
+/// Each rule that needs no kind keeps what it rewrites where it has what it counts on, and so does the first one that fires.
+pub fn all_rules_keep()
+    ensures { AllRulesKeep }
 {}
