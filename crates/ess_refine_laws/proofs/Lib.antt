@@ -5,4 +5,6 @@ pub mod Everywhere
 pub mod RefinedTrees
 pub mod LeavingConditions
 pub mod AllRules
+pub mod ScalarOperands
+pub mod Progress
 pub mod ExamplesEverywhere
