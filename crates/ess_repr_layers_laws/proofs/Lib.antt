@@ -1,0 +1,5 @@
+-- Axes
+pub mod LayerAxes
+-- One child
+pub mod OneChild
+pub mod SlotTables
