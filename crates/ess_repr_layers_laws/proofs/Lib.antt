@@ -3,3 +3,9 @@ pub mod LayerAxes
 -- One child
 pub mod OneChild
 pub mod SlotTables
+-- Up
+pub mod LayerUp
+pub mod ComponentsUp
+-- Down
+pub mod LayerDown
+pub mod ComponentsDown
