@@ -1,6 +1,6 @@
 -- Lemmas on the loops over arguments and axes.
-use Rattle.std.proofs.Common.{◌≡◌, refl, sym, ap, ◌∙◌, ℕ, ◌+◌, ◌<◌, List, [], ◌∷◌, ◌++◌, map, length, take, get_or, Option, Some, None}
-use Rattle.std.proofs.lemmas.List.{take_more, map-append}
+use Rattle.std.proofs.Common.{◌≡◌, refl, sym, ap, ◌∙◌, ℕ, ◌+◌, ◌<◌, ◌≤◌, ℤ, List, [], ◌∷◌, ◌++◌, map, length, take, get_or, Option, Some, None}
+use Rattle.std.proofs.lemmas.List.{take_more, take_all, map-append}
 use Rattle.ess_semantics.specs.Values.{Value}
 use Rattle.ess_semantics.specs.Domains.{Domain, domain_list}
 use Rattle.ess_semantics.specs.Layers.{codes_of}
@@ -16,8 +16,8 @@ domains-again [] = refl
 domains-again (d ∷ ds) = ap (λ l. d ∷ l) (domains-again ds)
 
 -- The axes of all domains.
-pub axes_all : (ds : List Closed) → map codes_of (map pure_closed ds) ≡ map codes_of (domain_list (pure_closeds ds))
-axes_all ds = ap (map codes_of) (sym (domains-again (map pure_closed ds)))
+pub axes_all : (ds : List Closed) (i : ℕ) (as' : List (List ℤ)) → length ds ≤ i → as' ≡ map codes_of (map pure_closed (take i ds)) → as' ≡ map codes_of (domain_list (pure_closeds ds))
+axes_all ds i as' h e = e ∙ ap (λ l. map codes_of (map pure_closed l)) (take_all i ds h) ∙ ap (map codes_of) (sym (domains-again (map pure_closed ds)))
 
 somes-append : (xs ys : List (Option Value)) → somes (xs ++ ys) ≡ somes xs ++ somes ys
 somes-append [] ys = refl

@@ -2,14 +2,11 @@
 use Rattle.std.specs.Prelude.{◌≡◌, refl, true, false, List, [], ◌∷◌, Some, None}
 use Rattle.ess_semantics.specs.declared.words.ReprKind.{ReprKind}
 use Rattle.ess_semantics.specs.Values.{Value, truth, pair, node, a_relation, of_list}
-use Rattle.ess_semantics.specs.Choice.{over_child}
-use Rattle.ess_semantics.specs.Trees.{Repr, no_reprs, more_reprs}
-use Rattle.ess_semantics.specs.Domains.{Domain, booleans, sets, functions, relations, tuples}
+use Rattle.ess_semantics.specs.Domains.{Domain, booleans, sets, functions, tuples}
 use Rattle.ess_semantics.specs.Tables.{Tables}
 use Rattle.ess_semantics.specs.Cells.{Axes}
-use Rattle.ess_semantics.specs.OneLayer.{layer_tables, inner_tables, layer_value}
-use Rattle.ess_semantics.proofs.CellWords.{n, upto, ints, atom, both, one, table, table2, set, function}
-use Rattle.ess_repr_functions.specs.declared.forms.Form.{Form}
+use Rattle.ess_semantics.specs.OneLayer.{layer_value}
+use Rattle.ess_semantics.proofs.CellWords.{n, upto, ints, both, one, table, table2, set, function}
 use Rattle.ess_repr_functions.specs.declared.forms.Form.TheVariants.{ForEach, Flagged, AsRelation}
 use Rattle.ess_repr_functions.specs.FunctionForms.{form_of, over_functions}
 use Rattle.ess_repr_functions.specs.FunctionRows.{values_at_members, has_values, relation_of_pairs, parts_by, tables_by, inner_by, value_by}

@@ -1,8 +1,7 @@
 -- The arguments of a function among axes, and which tables are a layer's own.
-use Rattle.std.proofs.Common.{◌≡◌, ap, ◌∙◌, subst, true, Bool, ◌&&◌, List, [], ◌∷◌, ◌++◌, map, append-nil, length, Some}
+use Rattle.std.proofs.Common.{◌≡◌, ap, ◌∙◌, subst, true, ◌&&◌, List, [], ◌∷◌, ◌++◌, map, append-nil, length, Some}
 use Rattle.std.proofs.lemmas.Bool.{eqb-true}
 use Rattle.ess_semantics.specs.declared.words.ReprKind.{ReprKind}
-use Rattle.ess_semantics.specs.Values.{Value, items_of}
 use Rattle.ess_semantics.specs.Trees.{Repr, Reprs, repr, no_reprs, more_reprs}
 use Rattle.ess_semantics.specs.Domains.{Attribute, Domain, Domains, functions, sets, relations, tuples, no_domains, more_domains, domain_list}
 use Rattle.ess_semantics.specs.Tables.{Table, Tables, volume, code, is_filled, same_axes}

@@ -1,14 +1,14 @@
 -- One layer of a function on rows is its layer on cells: parts, tables, tables of the parts, values.
-use Rattle.std.proofs.Common.{◌≡◌, refl, sym, ap, ◌∙◌, subst, true, List, [], ◌∷◌, ◌++◌, map, length, take, drop, ℤ, Option, Some, None, option_map, append-nil}
+use Rattle.std.proofs.Common.{◌≡◌, refl, sym, ap, ◌∙◌, subst, true, List, [], ◌∷◌, ◌++◌, map, length, take, drop, ℤ, Some, option_map, append-nil}
 use Rattle.std.specs.List.{list_all}
 use Rattle.ess_semantics.specs.declared.words.ReprKind.{ReprKind}
 use Rattle.ess_semantics.specs.Lists.{and_then}
 use Rattle.ess_semantics.specs.Values.{Value, a_function, node, nil, items_of}
 use Rattle.ess_semantics.specs.Collections.{value_at}
 use Rattle.ess_semantics.specs.Trees.{Repr, Reprs, repr, no_reprs, more_reprs}
-use Rattle.ess_semantics.specs.Domains.{Attribute, Domain, Domains, functions, tuples, domain_list, member_list}
+use Rattle.ess_semantics.specs.Domains.{Attribute, Domain, functions, tuples, domain_list, member_list}
 use Rattle.ess_semantics.specs.Sizes.{child_relation}
-use Rattle.ess_semantics.specs.Tables.{Table, Tables, code, volume}
+use Rattle.ess_semantics.specs.Tables.{Tables, code, volume}
 use Rattle.ess_semantics.specs.Cells.{Axes}
 use Rattle.ess_semantics.specs.Layers.{codes_of, everywhere, where_flagged}
 use Rattle.ess_semantics.specs.FunctionLayers.{total_layer, partial_layer, function_with, function_as_relation_layer}
@@ -25,14 +25,11 @@ use Rattle.ess_repr_laws.proofs.Arguments.{Arguments}
 use Rattle.ess_repr_laws.proofs.TupleMembers.{place_of}
 use Rattle.ess_repr_rows_laws.specs.Stacking.{stacked}
 use Rattle.ess_repr_rows_laws.specs.Cutting.{parts_at, used_numbers}
-use Rattle.ess_repr_rows_laws.specs.RowLayers.{spread}
 use Rattle.ess_repr_rows_laws.proofs.ArgumentLayers.{tables-spread, total-rows, partial-rows, arguments-count}
 use Rattle.ess_repr_rows_laws.proofs.LayerDownRows.{tables-with-child}
 use Rattle.ess_repr_rows_laws.proofs.UsedSlots.{UseOver}
 use Rattle.ess_repr_rows_laws.proofs.LayerUpRows.{inner-with-child}
 use Rattle.ess_repr_rows_laws.proofs.LayerValues.{total-value, partial-value}
-use Rattle.ess_repr_rows_laws.proofs.OwnCells.{TableOver}
-use Rattle.ess_repr_functions.specs.declared.forms.Form.{Form}
 use Rattle.ess_repr_functions.specs.declared.forms.Form.TheVariants.{ForEach, Flagged, AsRelation}
 use Rattle.ess_repr_functions.specs.FunctionForms.{form_of}
 use Rattle.ess_repr_functions.specs.FunctionRows.{relation_of_pairs, parts_by, tables_by, inner_by, value_by}

@@ -1,5 +1,5 @@
 -- Flags that are picked by are truth values.
-use Rattle.std.proofs.Common.{◌≡◌, refl, sym, ap, ◌∙◌, ℕ, suc, Bool, true, false, if◌then◌else◌, List, [], ◌∷◌, length, ℤ, Option, Some, None, is_some, option_map}
+use Rattle.std.proofs.Common.{◌≡◌, refl, sym, ◌∙◌, ℕ, suc, Bool, if◌then◌else◌, List, [], ◌∷◌, length, ℤ, Option, Some, None, is_some, option_map}
 use Rattle.ess_semantics.specs.Lists.{and_then}
 use Rattle.ess_semantics.specs.Tables.{truth_of}
 use Rattle.ess_repr_rows_laws.specs.Cutting.{flagged_from}

@@ -2,12 +2,14 @@
 use Rattle.std.proofs.Common.{◌≡◌, refl, sym, ap, ◌∙◌, ℕ, ◌+◌, ◌<◌, ◌≤◌, List, [], ◌∷◌, ◌++◌, map, length, drop, get_or}
 use Rattle.std.proofs.lemmas.List.{append_assoc, append-nil, map-append, at_drop_more, at_drop_all}
 use Rattle.ess_semantics.specs.Values.{Value, pair}
-use Rattle.ess_semantics.specs.FunctionLayers.{with_arguments}
+use Rattle.ess_semantics.specs.Collections.{function_of}
+use Rattle.ess_semantics.specs.FunctionLayers.{with_arguments, function_from}
+use Rattle.ess_semantics.proofs.Orders.{to_list-of_list}
 use Rattle.ess_core.specs.declared.values.Val.{Val}
 use Rattle.ess_core.specs.declared.values.Val.TheVariants as variant
 use Rattle.ess_core.specs.declared.values.Pair.{Pair}
 use Rattle.ess_core.specs.ValueViews.{pure_val, pure_pair}
-use Rattle.ess_core.proofs.ValueEquations.{pure_tuple}
+use Rattle.ess_core.proofs.ValueEquations.{pure_tuple, pure_relation}
 
 -- What is left of arguments and values, behind the pairs that are made.
 abbrev pub Left : List Val → List Val → List Pair → ℕ → Type 0
@@ -47,3 +49,9 @@ pair_of_two t (a ∷ []) x y p e l is it q = cc
 pair_of_two t (a ∷ b ∷ []) x y p e l is it q =
     q ∙ ap (λ z. pair (pure_val z) (pure_val y)) is ∙ ap (λ z. pair (pure_val a) (pure_val z)) it ∙ sym (ap pure_val e ∙ pure_tuple (a ∷ b ∷ []))
 pair_of_two t (a ∷ b ∷ c ∷ vs) x y p e l is it q = cc
+
+-- The pairs of a relation.
+pub relation_read : (v : Val) (ts us : List Val) → v ≡ variant.Relation ts → us ≡ ts → function_of (map pure_val us) ≡ function_from (pure_val v)
+relation_read v ts us e q =
+    ap (λ l. function_of (map pure_val l)) q
+    ∙ sym (ap (λ w. function_from (pure_val w)) e ∙ ap function_from (pure_relation ts) ∙ ap function_of (to_list-of_list (map pure_val ts)))

@@ -1,5 +1,5 @@
 -- How a kind keeps functions from a domain, and for which domains a layer is one of functions.
-use Rattle.std.specs.Prelude.{List, [], ◌∷◌, map, Option, Some, None, option_map}
+use Rattle.std.specs.Prelude.{[], ◌∷◌, map, Option, Some, None, option_map}
 use Rattle.ess_semantics.specs.declared.words.ReprKind.{ReprKind}
 use Rattle.ess_semantics.specs.Domains.{Domain, functions, tuples, domain_list}
 use Rattle.ess_semantics.specs.Cells.{Axes}

@@ -1,6 +1,5 @@
 -- One layer of a function on rows: its parts, its tables, the tables of its parts and its value, by the form in which it is kept.
 use Rattle.std.specs.Prelude.{Bool, true, List, [], ◌∷◌, map, length, take, drop, Option, Some, is_some, option_map}
-use Rattle.ess_semantics.specs.declared.words.ReprKind.{ReprKind}
 use Rattle.ess_semantics.specs.Lists.{and_then, only_of}
 use Rattle.ess_semantics.specs.Values.{a_relation, Value, node, of_list, items_of}
 use Rattle.ess_semantics.specs.Collections.{value_at}

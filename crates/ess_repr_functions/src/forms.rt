@@ -73,7 +73,6 @@ fn component_axes(alloc: Global, from: &Closed) -> Result<Option<Row<Row<i64>>>,
 }
 
 /// One axis for each domain. `NoMemory` where there is no room for them.
-#[tactic(auto, using(crate::proofs::ArgumentLoops::axes_all))]
 fn axes_of(alloc: Global, domains: &[Closed]) -> Result<Row<Row<i64>>, NoMemory>
     ensures { IfOk result (λ r. r ≡ map codes_of (domain_list (pure_closeds domains.now))) }
 {

@@ -3,12 +3,12 @@
 #![tactic(auto)]
 
 mod built;
-mod down;
+mod contents;
 mod forms;
 mod lookup;
-mod parts;
-mod up;
+mod tables_down;
+mod tables_up;
 
-pub use down::down;
-pub use parts::parts;
-pub use up::{inner, up};
+pub use contents::parts;
+pub use tables_down::down;
+pub use tables_up::{inner, up};

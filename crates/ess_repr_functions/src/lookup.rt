@@ -40,7 +40,6 @@ pub(crate) fn has_values(alloc: Global, from: &Closed, value: &Val) -> Result<Ro
 
 /// Copies of the values of a function, given by its pairs, at these arguments, where it has one. `NoMemory` where there is no room
 /// for them.
-#[tactic(auto, using(crate::proofs::ArgumentLoops::values_more))]
 fn values_at(alloc: Global, items: &[Val], arguments: &[Val]) -> Result<Row<Val>, NoMemory>
     ensures { IfOk result (λ r. map pure_val r ≡ somes (map (the_value_at (map pure_val items.now)) (map pure_val arguments.now))) }
 {

@@ -16,7 +16,6 @@ use std::alloc::Global;
 /// The inner values of a function of this domain, kept by this kind: its values at the arguments, in the order of these, or the
 /// relation of its pairs alone. Nothing where the domain is none of functions, or the kind none for it. `NoMemory` where there is
 /// no room for them.
-#[tactic(auto, using(crate::proofs::FunctionLayers::parts_over))]
 pub fn parts(
     alloc: Global,
     kind: ReprKind,

@@ -28,7 +28,6 @@ use std::alloc::Global;
 /// The tables of the parts of a function of this domain that stand in `tables`, kept by this kind: those of the arguments that have
 /// a value, or those of the relation. Nothing where the flags are no truth values, where the domain is none of functions, or the
 /// kind none for it. `NoMemory` where there is no room for them.
-#[tactic(auto, using(crate::proofs::FunctionLayers::inner_over))]
 pub fn inner(
     alloc: Global,
     kind: ReprKind,
@@ -116,7 +115,6 @@ fn other_tables(tables: &[Table]) -> &[Table]
 /// their order. Nothing where the flags are no truth values, where two pairs of the relation have one argument and differ, where
 /// the domain is none of functions, or the kind none for it. `NoMemory` where there is no room for it, and where a relation holds a
 /// tuple that is no pair.
-#[tactic(auto, using(crate::proofs::FunctionLayers::value_over))]
 pub fn up(
     alloc: Global,
     kind: ReprKind,

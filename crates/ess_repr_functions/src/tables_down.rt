@@ -23,7 +23,6 @@ use std::alloc::Global;
 /// The canonical tables of a function of this domain, kept by this kind: `inner` are those of its parts in their order, each over
 /// `axes`, the axes of the tables of the kind's child. Nothing where the domain is none of functions, or the kind none for it.
 /// `NoMemory` where there is no room for them.
-#[tactic(auto, using(crate::proofs::FunctionLayers::tables_over))]
 pub fn down(
     alloc: Global,
     kind: ReprKind,
