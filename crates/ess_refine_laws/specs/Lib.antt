@@ -1,4 +1,5 @@
 pub mod Everywhere
 pub mod LeavingConditions
+pub mod ScalarItems
 pub mod AllRules
 pub mod Progress
