@@ -14,3 +14,4 @@ pub mod MovingGenerators
 pub mod Progress
 pub mod ExamplesEverywhere
 pub mod ExamplesAllRules
+pub mod TypesStay

@@ -3,3 +3,4 @@ pub mod LeavingConditions
 pub mod ScalarItems
 pub mod AllRules
 pub mod Progress
+pub mod TypesStay
