@@ -15,3 +15,4 @@ pub mod Progress
 pub mod ExamplesEverywhere
 pub mod ExamplesAllRules
 pub mod TypesStay
+pub mod MarksStay

@@ -145,7 +145,7 @@ node-stays (record_literal fs) = plain-stays (record_literal fs) (λ ss us. refl
 module _ (a b : Ex) where
   mutual
     -- No expression changes the type of a domain.
-    dom-type : (c : InDom) → type_of_dom (fill_dom c a) ≡ type_of_dom (fill_dom c b)
+    pub dom-type : (c : InDom) → type_of_dom (fill_dom c a) ≡ type_of_dom (fill_dom c b)
     dom-type (in_bound rs c) = refl
     dom-type (in_component c) = ap (compound a_tuple) (doms-type c)
     dom-type (in_field fs c) = ap (compound (a_record fs)) (doms-type c)
@@ -191,7 +191,7 @@ module _ (a b : Ex) where
     body-stays c (Some k) h t e = map-stays (compound2 a_matrix int_ty) (type_of (fill c a) k) (type_of (fill c b) k) (h k refl) t e
 
     mutual
-      part-stays : (c : In) (g : Names Ty) → KeepsType (names_at c g) a b → KeepsType g (fill c a) (fill c b)
+      pub part-stays : (c : In) (g : Names Ty) → KeepsType (names_at c g) a b → KeepsType g (fill c a) (fill c b)
       part-stays hole g k = k
       part-stays (in_operand m op c) g k =
           node-stays op (statics (fill_exs c a)) (statics (fill_exs c b)) (types_of (fill_exs c a) g) (types_of (fill_exs c b) g)

@@ -4,3 +4,4 @@ pub mod ScalarItems
 pub mod AllRules
 pub mod Progress
 pub mod TypesStay
+pub mod MarksStay

@@ -5,6 +5,7 @@ ghost use Rattle.ess_refine_laws.specs.LeavingConditions.{ConditionsLeave};
 ghost use Rattle.ess_refine_laws.specs.AllRules.{AllRulesKeep};
 ghost use Rattle.ess_refine_laws.specs.Progress.{TreesMakeProgress};
 ghost use Rattle.ess_refine_laws.specs.TypesStay.{WholesKeepTypes};
+ghost use Rattle.ess_refine_laws.specs.MarksStay.{WholesKeepMarks};
 
 /// A refined number becomes one that is there wherever the names and cells in it are, and that is the same where the old one
 /// has a value.
@@ -32,4 +33,9 @@ pub fn trees_make_progress()
 /// type, each at some part.
 pub fn types_stay()
     ensures { WholesKeepTypes }
+{}
+
+/// A part that keeps its type and its marks keeps the marks of the whole, and so do any number of rules that do, each at some part.
+pub fn marks_stay()
+    ensures { WholesKeepMarks }
 {}
