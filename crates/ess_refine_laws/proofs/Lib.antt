@@ -16,3 +16,5 @@ pub mod ExamplesEverywhere
 pub mod ExamplesAllRules
 pub mod TypesStay
 pub mod MarksStay
+pub mod ScopesStay
+pub mod ConstantsStay

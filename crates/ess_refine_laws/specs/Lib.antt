@@ -5,3 +5,5 @@ pub mod AllRules
 pub mod Progress
 pub mod TypesStay
 pub mod MarksStay
+pub mod ScopesStay
+pub mod ConstantsStay

@@ -6,6 +6,8 @@ ghost use Rattle.ess_refine_laws.specs.AllRules.{AllRulesKeep};
 ghost use Rattle.ess_refine_laws.specs.Progress.{TreesMakeProgress};
 ghost use Rattle.ess_refine_laws.specs.TypesStay.{WholesKeepTypes};
 ghost use Rattle.ess_refine_laws.specs.MarksStay.{WholesKeepMarks};
+ghost use Rattle.ess_refine_laws.specs.ScopesStay.{WholesKeepScopes};
+ghost use Rattle.ess_refine_laws.specs.ConstantsStay.{WholesKeepConstants};
 
 /// A refined number becomes one that is there wherever the names and cells in it are, and that is the same where the old one
 /// has a value.
@@ -38,4 +40,15 @@ pub fn types_stay()
 /// A part that keeps its type and its marks keeps the marks of the whole, and so do any number of rules that do, each at some part.
 pub fn marks_stay()
     ensures { WholesKeepMarks }
+{}
+
+/// A part outside of views that keeps its scope keeps that of the whole, and so do any number of such rules, each at some part.
+pub fn scopes_stay()
+    ensures { WholesKeepScopes }
+{}
+
+/// A part that spells no new numbers but 0, 1 and 2 makes the whole spell none, and so do any number of such rules, each at some
+/// part.
+pub fn constants_stay()
+    ensures { WholesKeepConstants }
 {}
