@@ -1,19 +1,19 @@
 -- All rules keep what they rewrite.
-use Rattle.std.proofs.Common.{◌≡◌, refl, ap, ◌∙◌, Bool, true, List, [], ◌∷◌, Option, Some, None}
+use Rattle.std.proofs.Common.{◌≡◌, refl, ap, ◌∙◌, Bool, true, false, if◌then◌else◌, List, [], ◌∷◌, Option, Some, None}
 use Rattle.std.specs.Prelude.{IsTrue, is_some}
 use Rattle.ess_semantics.specs.Lists.{and_then, or_else}
-use Rattle.ess_semantics.specs.Values.{Text}
 use Rattle.ess_semantics.specs.Names.{Names}
-use Rattle.ess_semantics.specs.Trees.{name_pat, Ex, comp_ex, ex2, fun1, Gens, from}
-use Rattle.ess_semantics.specs.declared.words.Fun.{Fun}
+use Rattle.ess_semantics.specs.Trees.{name_pat, Ex, comp_ex, ex2, fun1, from}
 use Rattle.ess_semantics.specs.Types.{Ty}
 use Rattle.ess_semantics.specs.Typed.{Typed}
 use Rattle.ess_semantics.specs.Meaning.{Env}
-use Rattle.ess_semantics.specs.Contexts.{Each}
 use Rattle.ess_semantics.specs.Kept.{Keeps}
 use Rattle.ess_rules_laws.specs.Rules.{OperandsThere}
 use Rattle.ess_rules_laws.specs.Listings.{Alternative}
 use Rattle.ess_rules_laws.specs.ListedSources.{source_alone, source_parts}
+use Rattle.ess_rules_laws.specs.InclusionRules.{unequal}
+use Rattle.ess_rules_laws.specs.LiteralRules.{different_listed}
+use Rattle.ess_rules_laws.specs.ListRules.{different_term}
 use Rattle.ess_rules_laws.proofs.FoldRules.{alone-keeps, nothing-keeps, one-keeps, bare-keeps, term-keeps}
 use Rattle.ess_rules_laws.proofs.LooseRules.{loosely-keeps}
 use Rattle.ess_rules_laws.proofs.LiteralSources.{fold_items-keeps}
@@ -36,7 +36,7 @@ use Rattle.ess_rules_laws.proofs.ShortSizeRules.{size_made-keeps, frequency_made
 use Rattle.ess_rules_laws.proofs.ListRules.{lists-keep}
 use Rattle.ess_rules_laws.proofs.ContainerListings.{made-listings}
 use Rattle.ess_rules_laws.proofs.ChoiceRules.{choices-keep}
-use Rattle.ess_refine_laws.specs.AllRules.{Rule, over_nothing, over_one, over_one_binding, over_a_term, over_a_literal, over_a_made_set, over_a_source, of_one_source, over_a_comprehension, over_tuples, over_a_tuple, over_a_condition, component_of_a_tuple, field_of_a_record, not_equal, turned, strictly, equal_tuples, equal_records, equal_sets, equal_multisets, equal_functions, equal_partitions, with_nothing, equal_matrices_at, included_sets, included_multisets, in_two, in_one_made_of_another, in_a_literal, in_what_a_function_has, in_its_pairs, in_a_term, size_of_one_made_of_another, size, frequency_in_one_made_of_another, frequency_in_a_literal, frequency, together, least_of_a_literal, different_items, list_of_a_term, list_on_the_left, list_on_the_right, all_different, results, choice, condition, Supply, offered, source_listed, only_one, source_listed_once, matrices_at, rewrite, OfSome, ListedApart, SourceListed, MatricesIndexed, CountsOn, all_rules, first_rewrite, FiringFit, AllRulesKeep}
+use Rattle.ess_refine_laws.specs.AllRules.{Rule, over_nothing, over_one, over_one_binding, over_a_term, over_a_literal, over_a_made_set, over_a_source, of_one_source, over_a_comprehension, over_tuples, over_a_tuple, over_a_condition, component_of_a_tuple, field_of_a_record, not_equal, turned, strictly, equal_tuples, equal_records, equal_sets, equal_multisets, equal_functions, equal_partitions, with_nothing, equal_matrices_at, included_sets, included_multisets, in_two, in_one_made_of_another, in_a_literal, in_what_a_function_has, in_its_pairs, in_a_term, size_of_one_made_of_another, size, frequency_in_one_made_of_another, frequency_in_a_literal, frequency, together, least_of_a_literal, different_items, list_of_a_term, list_on_the_left, list_on_the_right, all_different, results, choice, condition, Supply, offered, source_listed, only_one, source_listed_once, matrices_at, compares_compound, tells_scalars_apart, rewrite, OfSome, ListedApart, SourceListed, CountsOn, all_rules, first_rewrite, FiringFit, AllRulesKeep}
 use Rattle.ess_refine_laws.proofs.LeavingConditions.{conditions-leave}
 
 -- ---- listings of the first source
@@ -78,6 +78,15 @@ matrices-at-keep s g _ f q env t c = cc
 
 -- ---- each rule
 
+-- A rule under a test, and one where a test fails.
+under-test : (b : Bool) (o : Option Ex) (f : Ex) → (if b then o else None) ≡ Some f → o ≡ Some f
+under-test true o f q = q
+under-test false o f q = cc
+
+unless-test : (b : Bool) (o : Option Ex) (f : Ex) → (if b then None else o) ≡ Some f → o ≡ Some f
+unless-test true o f q = cc
+unless-test false o f q = q
+
 each-keeps : (s : Supply) (g : Names Ty) (r : Rule) (e f : Ex) → rewrite s g r e ≡ Some f → (env : Env) → Typed g env →
     CountsOn s g r e env → Keeps e f env
 each-keeps s g over_nothing e f q env t c = nothing-keeps e f q env
@@ -94,7 +103,7 @@ each-keeps s g over_a_tuple e f q env t c = names-over-tuples s.parts e f q env
 each-keeps s g over_a_condition e f q env t c = alone-keeps e f q env
 each-keeps s g component_of_a_tuple e f q env t c = component_listed-keeps e f q env c
 each-keeps s g field_of_a_record e f q env t c = field_listed-keeps e f q env c
-each-keeps s g not_equal e f q env t c = unequal-keeps e f q env c
+each-keeps s g not_equal e f q env t c = unequal-keeps e f (under-test (compares_compound g e) (unequal e) f q) env c
 each-keeps s g turned e f q env t c = turned-keeps e f q env
 each-keeps s g strictly e f q env t c = strictly-keeps g s.one e f q c.0 c.1 env t
 each-keeps s g equal_tuples e f q env t c = equal_components-keeps g s.one e f q c.0 c.1 env t c.2
@@ -120,11 +129,12 @@ each-keeps s g frequency_in_a_literal e f q env t c = frequency_listed-keeps e f
 each-keeps s g frequency e f q env t c = frequency_term-keeps s.one e f q c.0 env c.1
 each-keeps s g together e f q env t c = together_term-keeps s.one e f q c env
 each-keeps s g least_of_a_literal e f q env t c = extreme_listed-keeps e f q env
-each-keeps s g different_items e f q env t c = different_listed-keeps e f q env c
+each-keeps s g different_items e f q env t c = different_listed-keeps e f (unless-test (tells_scalars_apart g e) (different_listed e) f q) env c
 each-keeps s g list_of_a_term e f q env t c = lists-keep.of_a_term s.one e f q c env
 each-keeps s g list_on_the_left e f q env t c = lists-keep.on_the_left s.one e f q c env
 each-keeps s g list_on_the_right e f q env t c = lists-keep.on_the_right s.one e f q c env
-each-keeps s g all_different e f q env t c = lists-keep.all_different s.one e f q c env
+each-keeps s g all_different e f q env t c =
+    lists-keep.all_different s.one e f (unless-test (tells_scalars_apart g e) (different_term s.one e) f q) c env
 each-keeps s g results e f q env t c = made-listings.results g s.one e f q c.0 c.1 env t
 each-keeps s g choice e f q env t c = choices-keep e f q env c
 each-keeps s g condition e f q env t c = conditions-leave.keeps e f q env c

@@ -1,11 +1,11 @@
 -- Ranges whose bounds are there everywhere can be listed, and are the same where the old ones were there.
-use Rattle.std.proofs.Common.{◌≡◌, refl, sym, ap, ◌∙◌, subst, Bool, true, false, List, [], ◌∷◌, map, ℤ, Option, Some, None, option_map}
+use Rattle.std.proofs.Common.{◌≡◌, refl, sym, ap, ◌∙◌, subst, true, List, [], ◌∷◌, map, Option, Some, None, option_map}
 use Rattle.std.specs.Prelude.{is_some}
 use Rattle.ess_semantics.specs.Lists.{and_then, all_some, append_all}
 use Rattle.ess_semantics.specs.Values.{Value, number}
 use Rattle.ess_semantics.specs.Collections.{sorted_once}
 use Rattle.ess_semantics.specs.Trees.{Ends, one_value, both_ends, low_end, high_end, Exs, no_exs, more_exs}
-use Rattle.ess_semantics.specs.Domains.{Span, Domain, integers, members, interval, span_members}
+use Rattle.ess_semantics.specs.Domains.{Span, integers, interval, span_members}
 use Rattle.ess_semantics.specs.Meaning.{Env, meanings, as_int, with_span, spans_of, members_in}
 use Rattle.ess_refine_laws.specs.Everywhere.{bounds_fit, everywhere_exs, Replaces}
 use Rattle.ess_refine_laws.proofs.Replaced.{number-of, same-one, AllReplaced}

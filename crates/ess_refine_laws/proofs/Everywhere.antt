@@ -1,26 +1,24 @@
 -- A refined number is there everywhere once it is made so, and is the same where it was there.
-use Rattle.std.proofs.Common.{◌≡◌, refl, sym, ap, ◌∙◌, subst, Bool, true, false, if◌then◌else◌, List, [], ◌∷◌, ◌++◌, ℤ, pos, Option, Some, None, option_map}
-use Rattle.std.specs.Prelude.{IsTrue, is_some, ◌+ℤ◌}
+use Rattle.std.proofs.Common.{◌≡◌, refl, sym, ap, ◌∙◌, subst, Bool, true, false, if◌then◌else◌, List, [], ◌∷◌, ◌++◌, Option, Some, None, option_map}
+use Rattle.std.specs.Prelude.{is_some}
 use Rattle.std.proofs.Math.IntN.{+ℤ_idr}
 use Rattle.ess_semantics.specs.declared.words.Op1.{Op1}
 use Rattle.ess_semantics.specs.declared.words.Op2.{Op2}
 use Rattle.ess_semantics.specs.declared.words.Fun.{Fun}
 use Rattle.ess_semantics.specs.Lists.{and_then, all_some}
-use Rattle.ess_semantics.specs.Values.{Text, Value, number, truth, item, node, items_of, to_list, of_list}
+use Rattle.ess_semantics.specs.Values.{Text, Value, number, truth, item, node, items_of}
 use Rattle.ess_semantics.specs.Order.{below}
-use Rattle.ess_semantics.specs.Domains.{Domain, booleans, integers, named, between}
-use Rattle.ess_semantics.specs.Trees.{unary, binary, word, matrix_literal, Ex, Exs, number_ex, name_ex, truth_ex, node_ex, comp_ex, cell_ex, ex1, ex2, fun1, no_exs, more_exs, Gens, no_gens, over, from, cond, Dom, bool_dom, int_dom, name_dom}
-use Rattle.ess_semantics.specs.Operators.{value_of_node, value_of_op, value_of_unary, list_value, least, greatest, sum_of, number_in, false_where_undefined, any_true}
+use Rattle.ess_semantics.specs.Trees.{unary, word, matrix_literal, Ex, Exs, number_ex, name_ex, truth_ex, node_ex, comp_ex, cell_ex, ex1, ex2, fun1, no_exs, more_exs, Gens, no_gens, over, from, cond, Dom, bool_dom, int_dom, name_dom}
+use Rattle.ess_semantics.specs.Operators.{value_of_node, value_of_op, list_value, least, greatest, any_true}
 use Rattle.ess_semantics.specs.Meaning.{Env, TypeEntry, meaning, meanings, items_under, collect, where_true, domain_of, members_in, with_pat, named_domain, type_entry}
-use Rattle.ess_semantics.specs.Contexts.{Each, EachOf}
+use Rattle.ess_semantics.specs.Contexts.{Each}
 use Rattle.ess_semantics.proofs.Orders.{to_list-of_list}
 use Rattle.ess_semantics.proofs.Connectives.{any-means, bits}
 use Rattle.ess_rules_laws.specs.Rules.{IsNumber}
-use Rattle.ess_rules_laws.specs.SourceRules.{list_of}
 use Rattle.ess_rules_laws.proofs.Bindings.{each-of-map}
 use Rattle.ess_rules_laws.proofs.SourceRules.{both-lists}
-use Rattle.ess_refine_laws.specs.Everywhere.{is_nonzero, divisor, raised, extreme, nil_number, everywhere, everywhere_list, everywhere_exs, everywhere_gens, everywhere_dom, ReadsNumbers, ReadsItems, AllRead, ReadsUnder, ReadsBounds, Replaces, EverywhereServes}
-use Rattle.ess_refine_laws.proofs.Replaced.{number-of, replaces-itself, same-one, replaced-one, through-two, replaced-two, ReplacesList, replaces-alone, front-there, replaces-over, replaces-where, replaces-made, AllReplaced, replaces-all}
+use Rattle.ess_refine_laws.specs.Everywhere.{extreme, everywhere, everywhere_list, everywhere_exs, everywhere_gens, everywhere_dom, ReadsNumbers, ReadsItems, AllRead, ReadsUnder, ReadsBounds, Replaces, EverywhereServes}
+use Rattle.ess_refine_laws.proofs.Replaced.{replaces-itself, replaced-one, through-two, replaced-two, ReplacesList, replaces-alone, front-there, replaces-over, replaces-where, replaces-made, AllReplaced, replaces-all}
 use Rattle.ess_refine_laws.proofs.PartialNumbers.{off_zero, Quotient, divisor-means, divided, remains, raised-means}
 use Rattle.ess_refine_laws.proofs.Bounds.{ranges-listed}
 

@@ -1,14 +1,13 @@
 -- Worked examples of numbers that are there everywhere.
 use Rattle.std.specs.Prelude.{◌≡◌, refl, true, false, pos, [], ◌∷◌, codes, Some, None}
-use Rattle.ess_semantics.specs.declared.words.Op1.{Op1}
 use Rattle.ess_semantics.specs.declared.words.Op2.{Op2}
 use Rattle.ess_semantics.specs.declared.words.Fun.{Fun}
-use Rattle.ess_semantics.specs.Values.{Text, number}
+use Rattle.ess_semantics.specs.Values.{Text}
 use Rattle.ess_semantics.specs.Trees.{matrix_literal, name_pat, Ex, truth_ex, node_ex, comp_ex, no_exs, cell_ex, no_gens, over, cond}
 use Rattle.ess_semantics.specs.Meaning.{Env, empty_env, meaning}
-use Rattle.ess_semantics.proofs.Shorthands.{N, n, v, es1, es2, bi, fn, un, neg, range, upto}
+use Rattle.ess_semantics.proofs.Shorthands.{N, n, v, es1, es2, bi, fn, neg, range, upto}
 use Rattle.ess_refine_laws.specs.LeavingConditions.{condition_leaves}
-use Rattle.ess_refine_laws.specs.Everywhere.{raised, base, exponent, everywhere}
+use Rattle.ess_refine_laws.specs.Everywhere.{everywhere}
 
 abbrev x : Text
 x = codes "x"

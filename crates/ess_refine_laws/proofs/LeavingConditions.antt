@@ -9,25 +9,25 @@ use Rattle.ess_semantics.specs.Occurrences.{has_cells}
 use Rattle.ess_semantics.specs.Refined.{is_refined, are_refined_gens}
 use Rattle.ess_semantics.specs.Operators.{list_value, as_truth}
 use Rattle.ess_semantics.specs.Meaning.{Env, meaning, items_under, domain_of, members_in, with_pat, collect, where_true}
-use Rattle.ess_semantics.specs.Contexts.{Each, EachOf, EachIn, AtEach, WhenTrue, hole, in_operand, in_body, in_first}
+use Rattle.ess_semantics.specs.Contexts.{Each, EachOf, EachIn, AtEach, hole, in_operand, in_body, in_first}
 use Rattle.ess_semantics.specs.Meets.{Meets}
 use Rattle.ess_semantics.specs.Kept.{Keeps}
 use Rattle.ess_semantics.proofs.Tests.{and-left, and-right}
 use Rattle.ess_rules_laws.specs.Rules.{IsTruth}
 use Rattle.ess_rules_laws.specs.SourceRules.{is_marked}
 use Rattle.ess_rules_laws.specs.SpliceRules.{append_gens}
-use Rattle.ess_rules_laws.specs.ConditionRules.{fold_condition, ConditionFits}
-use Rattle.ess_rules_laws.proofs.Bindings.{each-of-map, each-in-map, at-each-map}
+use Rattle.ess_rules_laws.specs.ConditionRules.{ConditionFits}
+use Rattle.ess_rules_laws.proofs.Bindings.{at-each-map}
 use Rattle.ess_rules_laws.proofs.Places.{at-each-join}
 use Rattle.ess_rules_laws.proofs.RuleAnswers.{AnswerKeeps, fires, when-so, each-any, each-in-any}
-use Rattle.ess_rules_laws.proofs.SourceRules.{both-lists, list-there}
+use Rattle.ess_rules_laws.proofs.SourceRules.{list-there}
 use Rattle.ess_rules_laws.proofs.Folds.{folded, fold-means}
 use Rattle.ess_rules_laws.proofs.KeptUnder.{step-here}
 use Rattle.ess_rules_laws.proofs.ConditionRules.{conditions-keep}
-use Rattle.ess_refine_laws.specs.Everywhere.{everywhere, ReadsNumbers, Replaces}
+use Rattle.ess_refine_laws.specs.Everywhere.{everywhere, ReadsNumbers}
 use Rattle.ess_refine_laws.specs.LeavingConditions.{Parted, with_before, at_last_condition, under_condition, condition_leaves, NumbersRead, LeavesFits, ConditionsLeave}
 use Rattle.ess_refine_laws.proofs.Everywhere.{everywhere-serves}
-use Rattle.ess_refine_laws.proofs.RefinedTrees.{refined-met, gens-met, everywhere-refined}
+use Rattle.ess_refine_laws.proofs.RefinedTrees.{refined-met, everywhere-refined}
 
 -- ---- the generators, taken apart
 
@@ -52,7 +52,7 @@ made-up (cond c gs) = go (at_last_condition gs) (made-up gs)
     last false = tt
 
     go : (o : Option Parted) → MakesUp o gs → MakesUp (elim o [
-      Some t ↦ Some (with_before (cond c) t)
+      | Some t ↦ Some (with_before (cond c) t)
       | None ↦ if has_cells c then Some (record { before = no_gens; condition = c; after = gs }) else None
     ]) (cond c gs)
     go None m = last (has_cells c)
@@ -128,9 +128,9 @@ module _ (e c : Ex) (hs : Gens) (re : is_refined e ≡ true) (rh : are_refined_g
         t,
         s.is_number,
         (λ w.
-          let a = list-there Items (some-list Items (behind-there w h)) in
-          let g = fold-means false f q Items a.0 a.1 in
-          s.is_same (folded f a.0) g ∙ sym g),
+            let a = list-there Items (some-list Items (behind-there w h)) in
+            let g = fold-means false f q Items a.0 a.1 in
+            s.is_same (folded f a.0) g ∙ sym g),
         number-met f q,
       )
     where
@@ -211,7 +211,7 @@ module _ (m : Bool) (f : Fun) (e : Ex) (gs : Gens) (env : Env) where
 
   parted-answer : (o : Option Parted) → MakesUp o gs → is_some (meaning (comp_ex e gs) env) ≡ true → NumbersRead m f e o env →
       AnswerKeeps (elim o [
-        None ↦ None
+        | None ↦ None
         | Some t ↦ if is_marked m f && (is_refined t.condition && (is_refined e && are_refined_gens t.after))
             then Some (fun1 m f (comp_ex (under_condition f t.condition (fun1 m f (comp_ex e t.after))) t.before)) else None
       ]) (fun1 m f (comp_ex e gs)) env
@@ -219,10 +219,10 @@ module _ (m : Bool) (f : Fun) (e : Ex) (gs : Gens) (env : Env) where
   parted-answer (Some t) u v n = when-so (is_marked m f && (is_refined t.condition && (is_refined e && are_refined_gens t.after)))
       (fun1 m f (comp_ex (under_condition f t.condition (fun1 m f (comp_ex e t.after))) t.before)) (fun1 m f (comp_ex e gs)) env
       (λ h.
-        let k = and-right (is_marked m f) (is_refined t.condition && (is_refined e && are_refined_gens t.after)) h in
-        let l = and-right (is_refined t.condition) (is_refined e && are_refined_gens t.after) k in
-        parted-kept t (and-left (is_marked m f) (is_refined t.condition && (is_refined e && are_refined_gens t.after)) h) u
-            (and-left (is_refined e) (are_refined_gens t.after) l) (and-right (is_refined e) (are_refined_gens t.after) l) v n)
+      let k = and-right (is_marked m f) (is_refined t.condition && (is_refined e && are_refined_gens t.after)) h in
+      let l = and-right (is_refined t.condition) (is_refined e && are_refined_gens t.after) k in
+      parted-kept t (and-left (is_marked m f) (is_refined t.condition && (is_refined e && are_refined_gens t.after)) h) u
+      (and-left (is_refined e) (are_refined_gens t.after) l) (and-right (is_refined e) (are_refined_gens t.after) l) v n)
 
 leaves-answer : (e : Ex) (env : Env) → LeavesFits e env → AnswerKeeps (condition_leaves e) e env
 leaves-answer (fun1 m f (comp_ex e gs)) env h = parted-answer m f e gs env (at_last_condition gs) (made-up gs) h.0 h.1

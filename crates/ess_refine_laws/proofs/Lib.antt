@@ -6,5 +6,15 @@ pub mod RefinedTrees
 pub mod LeavingConditions
 pub mod AllRules
 pub mod ScalarOperands
+pub mod RulesFire
+pub mod NeverScalars
+pub mod MovingNodes
+pub mod MovingWords
+pub mod MovingGenerators
 pub mod Progress
 pub mod ExamplesEverywhere
+pub mod ExamplesAllRules
+pub mod TypesStay
+pub mod MarksStay
+pub mod ScopesStay
+pub mod ConstantsStay

@@ -1,5 +1,5 @@
 -- Divisors, bases and exponents that are there everywhere.
-use Rattle.std.proofs.Common.{◌≡◌, refl, sym, ap, ◌∙◌, subst, ℕ, zero, suc, Bool, true, false, ◌&&◌, not, if◌then◌else◌, List, [], ◌∷◌, ℤ, pos, negsuc, Option, Some, None, option_map, arith}
+use Rattle.std.proofs.Common.{◌≡◌, refl, sym, ap, ◌∙◌, subst, ℕ, zero, suc, Bool, true, false, ◌&&◌, not, if◌then◌else◌, [], ◌∷◌, ℤ, pos, negsuc, Option, Some, None, arith}
 use Rattle.std.proofs.lemmas.Int.{ints}
 use Rattle.std.specs.Prelude.{◌+ℤ◌}
 use Rattle.std.specs.Ordering.{is_eq, is_lt}
@@ -7,9 +7,8 @@ use Rattle.std.specs.declared.cmp.Ordering.TheVariants.{Less, Greater}
 use Rattle.std.specs.Cmp.{int_cmp_is}
 use Rattle.ess_semantics.specs.declared.words.Op2.{Op2}
 use Rattle.ess_semantics.specs.declared.words.Fun.{Fun}
-use Rattle.ess_semantics.specs.Values.{Value, number, truth}
+use Rattle.ess_semantics.specs.Values.{Value, number}
 use Rattle.ess_semantics.specs.Order.{same, below}
-use Rattle.ess_semantics.specs.Numbers.{div_down, mod_down, power_of}
 use Rattle.ess_semantics.specs.Trees.{binary, word, matrix_literal, Ex, number_ex, ex2}
 use Rattle.ess_semantics.specs.Operators.{value_of_node, false_where_undefined, number_in}
 use Rattle.ess_semantics.specs.Meaning.{Env, meaning}

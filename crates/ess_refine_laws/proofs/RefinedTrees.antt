@@ -1,20 +1,20 @@
 -- Refined trees have no views, so that any tables meet them; and they stay refined with numbers that are there everywhere.
-use Rattle.std.proofs.Common.{◌≡◌, refl, ap, ◌∙◌, Bool, true, false, ◌&&◌, ◌||◌, if◌then◌else◌, List, [], ◌∷◌, Option, Some, None}
+use Rattle.std.proofs.Common.{◌≡◌, refl, ap, ◌∙◌, Bool, true, false, ◌&&◌, ◌||◌, if◌then◌else◌, List, Option, Some, None}
 use Rattle.ess_semantics.specs.declared.words.Op1.{Op1}
 use Rattle.ess_semantics.specs.declared.words.Op2.{Op2}
 use Rattle.ess_semantics.specs.declared.words.Fun.{Fun}
 use Rattle.ess_semantics.specs.Values.{Value}
-use Rattle.ess_semantics.specs.Trees.{matrix_literal, Op, is_truth_op, name_pat, Ex, Exs, number_ex, truth_ex, name_ex, node_ex, comp_ex, cell_ex, ex1, ex2, fun1, no_exs, more_exs, Gens, no_gens, over, from, cond, Dom, bool_dom, int_dom, name_dom}
+use Rattle.ess_semantics.specs.Trees.{matrix_literal, is_truth_op, name_pat, Ex, Exs, number_ex, truth_ex, name_ex, node_ex, comp_ex, cell_ex, ex1, ex2, fun1, no_exs, more_exs, Gens, no_gens, over, cond, bool_dom, int_dom, name_dom}
 use Rattle.ess_semantics.specs.Operators.{iff}
 use Rattle.ess_semantics.specs.Kinds.{is_bounded}
 use Rattle.ess_semantics.specs.Refined.{is_scalar_op, is_list_op, is_refined, are_refined, is_refined_list, are_refined_lists, are_refined_gens}
 use Rattle.ess_semantics.specs.Meaning.{Env, meaning, domain_of, members_in, with_pat}
-use Rattle.ess_semantics.specs.Contexts.{Each, EachOf, guards}
+use Rattle.ess_semantics.specs.Contexts.{EachOf, guards}
 use Rattle.ess_semantics.specs.Meets.{Meets, MeetsAll, MeetsGens}
-use Rattle.ess_semantics.proofs.Tests.{and-left, and-right, and-both}
+use Rattle.ess_semantics.proofs.Tests.{and-left, and-right}
 use Rattle.ess_rules_laws.proofs.Kept.{guarded-true}
 use Rattle.ess_rules_laws.proofs.RuleAnswers.{each-any}
-use Rattle.ess_refine_laws.specs.Everywhere.{is_nonzero, is_positive, nil_number, chosen, divisor, base, exponent, raised, extreme, everywhere, everywhere_list, everywhere_exs, everywhere_gens, everywhere_dom}
+use Rattle.ess_refine_laws.specs.Everywhere.{is_nonzero, is_positive, nil_number, chosen, divisor, base, exponent, raised, everywhere, everywhere_list, everywhere_exs, everywhere_gens}
 
 -- ---- tables meet them
 

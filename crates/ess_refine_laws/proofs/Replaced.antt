@@ -1,7 +1,6 @@
 -- Values and lists of values that a number takes the place of: there is always a number, the same where there was one.
-use Rattle.std.proofs.Common.{◌≡◌, refl, sym, ap, ◌∙◌, subst, Bool, true, false, List, [], ◌∷◌, ◌++◌, ℤ, Option, Some, None, option_map}
-use Rattle.std.specs.Prelude.{IsTrue, is_some}
-use Rattle.ess_semantics.specs.declared.words.Fun.{Fun}
+use Rattle.std.proofs.Common.{◌≡◌, refl, sym, ap, ◌∙◌, subst, true, false, List, [], ◌∷◌, ◌++◌, ℤ, Option, Some, None, option_map}
+use Rattle.std.specs.Prelude.{is_some}
 use Rattle.ess_semantics.specs.Lists.{and_then, all_some}
 use Rattle.ess_semantics.specs.Values.{Value, number, truth, item, node}
 use Rattle.ess_semantics.specs.Operators.{as_truth}

@@ -1,17 +1,14 @@
 -- Operands of scalar operators are scalars: what the types of operators say of the types of operands that are known.
-use Rattle.std.proofs.Common.{◌≡◌, refl, sym, ap, ◌∙◌, subst, Bool, true, false, ◌&&◌, ◌||◌, if◌then◌else◌, List, [], ◌∷◌, Option, Some, None, option_map}
+use Rattle.std.proofs.Common.{◌≡◌, refl, sym, ap, ◌∙◌, Bool, true, false, ◌||◌, if◌then◌else◌, List, [], ◌∷◌, Option, Some, None, option_map}
 use Rattle.std.specs.Prelude.{is_some}
-use Rattle.ess_semantics.specs.declared.words.Op1.{Op1}
-use Rattle.ess_semantics.specs.declared.words.Op2.{Op2}
-use Rattle.ess_semantics.specs.declared.words.Fun.{Fun}
 use Rattle.ess_semantics.specs.Lists.{and_then, all_some, when}
-use Rattle.ess_semantics.specs.Values.{Text, Kind, a_tuple, a_matrix, a_set, a_mset, a_function, a_relation, a_partition, a_record}
+use Rattle.ess_semantics.specs.Values.{Kind, a_tuple, a_matrix, a_set, a_mset, a_function, a_relation, a_partition, a_record}
 use Rattle.ess_semantics.specs.Order.{same_text, same_kind}
-use Rattle.ess_semantics.specs.Types.{Ty, Tys, any_ty, bool_ty, int_ty, named_ty, compound, compound2, join, joins, join_all, is_open, fit}
-use Rattle.ess_semantics.specs.OperatorTypes.{united, subtracted, compared, included, chosen_ty}
-use Rattle.ess_semantics.proofs.Tests.{and-left, and-right}
+use Rattle.ess_semantics.specs.Types.{Ty, Tys, any_ty, bool_ty, int_ty, named_ty, compound, join, joins, is_open, fit}
+use Rattle.ess_semantics.specs.OperatorTypes.{united, subtracted, compared, included}
 use Rattle.ess_rules_laws.specs.Progress.{is_parted}
-use Rattle.ess_refine_laws.specs.Progress.{is_scalar, is_known}
+use Rattle.ess_refine_laws.specs.ScalarItems.{is_scalar}
+use Rattle.ess_refine_laws.specs.Progress.{is_known}
 
 no : {A : Type 0} → false ≡ true → A
 no h = cc

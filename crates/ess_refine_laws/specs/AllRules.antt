@@ -1,12 +1,15 @@
 -- All rules that need no kind, in one place: what each makes of the root of a tree, in the order in which they are tried, and what
 -- each counts on.
-use Rattle.std.specs.Prelude.{◌≡◌, Bool, false, List, [], ◌∷◌, Option, Some, None, IsTrue, is_some}
+use Rattle.std.specs.Prelude.{◌≡◌, Bool, true, false, ◌&&◌, if◌then◌else◌, List, [], ◌∷◌, Option, Some, None, IsTrue, is_some}
+use Rattle.ess_semantics.specs.declared.words.Op2.{Op2}
+use Rattle.ess_semantics.specs.declared.words.Fun.{Fun}
 use Rattle.ess_semantics.specs.Lists.{and_then, or_else}
 use Rattle.ess_semantics.specs.Values.{Text}
 use Rattle.ess_semantics.specs.Order.{same_text}
 use Rattle.ess_semantics.specs.Names.{Names}
 use Rattle.ess_semantics.specs.Trees.{name_pat, Ex, comp_ex, ex2, fun1, from, Dom}
 use Rattle.ess_semantics.specs.Types.{Ty}
+use Rattle.ess_semantics.specs.Typing.{type_of}
 use Rattle.ess_semantics.specs.Typed.{Typed}
 use Rattle.ess_semantics.specs.Meaning.{Env}
 use Rattle.ess_semantics.specs.Contexts.{Each}
@@ -33,6 +36,8 @@ use Rattle.ess_rules_laws.specs.SizeRules.{size_term, frequency_term, together_t
 use Rattle.ess_rules_laws.specs.ShortSizeRules.{SoundWithin, size_made, frequency_made, frequency_listed}
 use Rattle.ess_rules_laws.specs.ListRules.{list_term, lex_left, lex_right, different_term}
 use Rattle.ess_rules_laws.specs.ChoiceRules.{choice_shorter, ChoicesFit}
+use Rattle.ess_rules_laws.specs.Progress.{is_parted}
+use Rattle.ess_refine_laws.specs.ScalarItems.{has_scalar_items}
 use Rattle.ess_refine_laws.specs.LeavingConditions.{condition_leaves, LeavesFits}
 
 -- The rules, by what they rewrite.
@@ -89,6 +94,16 @@ abbrev pub matrices_at : Supply → Names Ty → Ex → Option Ex
 matrices_at s g (ex2 m o a b) = equal_matrices (s.index_domain a) (s.index_domain b) g s.one s.other (ex2 m o a b)
 matrices_at s g e = None
 
+-- Whether the root says that compound values differ. Of scalars models say it.
+abbrev pub compares_compound : Names Ty → Ex → Bool
+compares_compound g (ex2 true Op2.Ne a b) = is_parted (type_of a g) && is_parted (type_of b g)
+compares_compound g e = false
+
+-- Whether the root is `allDiff` of scalars, or of what isn't laid open. Of scalars models have it.
+abbrev pub tells_scalars_apart : Names Ty → Ex → Bool
+tells_scalars_apart g (fun1 true Fun.AllDiff l) = has_scalar_items l g
+tells_scalars_apart g e = false
+
 -- What the rule makes of the root, where it fires.
 abbrev pub rewrite : Supply → Names Ty → Rule → Ex → Option Ex
 rewrite s g over_nothing e = fold_nothing e
@@ -105,7 +120,7 @@ rewrite s g over_a_tuple e = name_over_tuple s.parts e
 rewrite s g over_a_condition e = fold_alone e
 rewrite s g component_of_a_tuple e = component_listed e
 rewrite s g field_of_a_record e = field_listed e
-rewrite s g not_equal e = unequal e
+rewrite s g not_equal e = if compares_compound g e then unequal e else None
 rewrite s g turned e = included_turned e
 rewrite s g strictly e = included_strictly g s.one e
 rewrite s g equal_tuples e = equal_components g s.one e
@@ -131,11 +146,11 @@ rewrite s g frequency_in_a_literal e = frequency_listed e
 rewrite s g frequency e = frequency_term s.one e
 rewrite s g together e = together_term s.one e
 rewrite s g least_of_a_literal e = extreme_listed e
-rewrite s g different_items e = different_listed e
+rewrite s g different_items e = if tells_scalars_apart g e then None else different_listed e
 rewrite s g list_of_a_term e = list_term s.one e
 rewrite s g list_on_the_left e = lex_left s.one e
 rewrite s g list_on_the_right e = lex_right s.one e
-rewrite s g all_different e = different_term s.one e
+rewrite s g all_different e = if tells_scalars_apart g e then None else different_term s.one e
 rewrite s g results e = range_as_set g s.one e
 rewrite s g choice e = choice_shorter e
 rewrite s g condition e = condition_leaves e

@@ -1,6 +1,6 @@
 -- A number in the place of a refined one that has a value everywhere: where the old one has a value it is the same. So a
 -- condition that guards a number may leave the generators for the body.
-use Rattle.std.specs.Prelude.{◌≡◌, Bool, true, false, List, [], ◌∷◌, zero, suc, pos, negsuc, Option, Some, IsTrue, is_some, if◌then◌else◌}
+use Rattle.std.specs.Prelude.{◌≡◌, Bool, true, false, List, [], ◌∷◌, suc, pos, negsuc, Option, Some, IsTrue, is_some, if◌then◌else◌}
 use Rattle.ess_semantics.specs.declared.words.Op1.{Op1}
 use Rattle.ess_semantics.specs.declared.words.Op2.{Op2}
 use Rattle.ess_semantics.specs.declared.words.Fun.{Fun}

@@ -29,7 +29,7 @@ at_last_condition no_gens = None
 at_last_condition (over p d gs) = option_map (with_before (over p d)) (at_last_condition gs)
 at_last_condition (from p e gs) = option_map (with_before (from p e)) (at_last_condition gs)
 at_last_condition (cond c gs) = elim (at_last_condition gs) [
-  Some t ↦ Some (with_before (cond c) t)
+  | Some t ↦ Some (with_before (cond c) t)
   | None ↦ if has_cells c then Some (record { before = no_gens; condition = c; after = gs }) else None
 ]
 
@@ -45,7 +45,7 @@ under_condition f c e =
 -- `F([e | gs, c, hs])` is `F([F([e | hs]) under c | gs])`, where c is the last condition that reads a cell, and c, e and hs are refined.
 abbrev pub condition_leaves : Ex → Option Ex
 condition_leaves (fun1 m f (comp_ex e gs)) = elim (at_last_condition gs) [
-  None ↦ None
+  | None ↦ None
   | Some t ↦ if is_marked m f && (is_refined t.condition && (is_refined e && are_refined_gens t.after))
       then Some (fun1 m f (comp_ex (under_condition f t.condition (fun1 m f (comp_ex e t.after))) t.before)) else None
 ]

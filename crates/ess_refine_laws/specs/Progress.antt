@@ -1,12 +1,12 @@
 -- Progress: in a tree of a scalar that isn't refined some rule fires at some part, or a part is left to a kind or to a lookup.
-use Rattle.std.specs.Prelude.{◌≡◌, Bool, true, false, ◌&&◌, ◌||◌, not, List, Option, Some, None}
+use Rattle.std.specs.Prelude.{◌≡◌, Bool, true, false, ◌&&◌, ◌||◌, not, List, Option, Some, IsTrue, is_some}
 use Rattle.std.specs.List.{list_all}
 use Rattle.ess_semantics.specs.declared.words.Fun.{Fun}
 use Rattle.ess_semantics.specs.Values.{Text}
 use Rattle.ess_semantics.specs.Names.{Names}
 use Rattle.ess_semantics.specs.Operators.{iff}
-use Rattle.ess_semantics.specs.Trees.{Op, word, matrix_literal, index, application, is_truth_op, Pat, name_pat, Ex, Exs, number_ex, truth_ex, name_ex, node_ex, matrix_ex, comp_ex, cell_ex, seen_ex, no_exs, more_exs, Gens, no_gens, over, from, cond, Dom, Doms, bool_dom, int_dom, name_dom, tuple_dom, record_dom}
-use Rattle.ess_semantics.specs.Types.{Ty, bool_ty, int_ty, named_ty, type_of_dom, bind_types}
+use Rattle.ess_semantics.specs.Trees.{Op, word, index, application, is_truth_op, Pat, name_pat, Ex, Exs, number_ex, truth_ex, name_ex, node_ex, matrix_ex, comp_ex, cell_ex, seen_ex, no_exs, more_exs, Gens, no_gens, over, from, cond, Dom, Doms, bool_dom, int_dom, name_dom, tuple_dom, record_dom}
+use Rattle.ess_semantics.specs.Types.{Ty, type_of_dom, bind_types}
 use Rattle.ess_semantics.specs.Typing.{type_of, types_of, source_ty}
 use Rattle.ess_semantics.specs.Kinds.{is_bounded}
 use Rattle.ess_semantics.specs.ExpressionJudgements.{pattern_fits}
@@ -16,19 +16,13 @@ use Rattle.ess_semantics.specs.Refined.{is_list_op, is_refined}
 use Rattle.ess_rules_laws.specs.SpliceRules.{append_gens}
 use Rattle.ess_rules_laws.specs.SplitRules.{split}
 use Rattle.ess_rules_laws.specs.TupleNames.{name_over_tuple, are_names}
-use Rattle.ess_rules_laws.specs.ListRules.{different_term}
-use Rattle.ess_rules_laws.specs.Progress.{Fires, HasMembers, is_parted, is_plain_source, has_members}
+use Rattle.ess_refine_laws.specs.ScalarItems.{is_scalar, has_scalar_items}
+use Rattle.ess_refine_laws.specs.AllRules.{Supply, rule_at}
+use Rattle.ess_rules_laws.specs.Progress.{HasMembers, is_parted, is_plain_source, has_members}
 
 -- ---- judged trees
 
--- Whether the type is of truth values, of numbers, or a named one.
-abbrev pub is_scalar : Option Ty → Bool
-is_scalar (Some bool_ty) = true
-is_scalar (Some int_ty) = true
-is_scalar (Some (named_ty t)) = true
-is_scalar t = false
-
--- Whether the type is one of these or of compound values: not that of the members of an empty literal.
+-- Whether the type is of scalars or of compound values: not that of the members of an empty literal.
 abbrev pub is_known : Option Ty → Bool
 is_known t = is_scalar t || is_parted t
 
@@ -40,13 +34,7 @@ is_picked (node_ex b application es) = true
 is_picked (node_ex b (word Fun.Image) es) = true
 is_picked e = false
 
--- Whether the items of a comprehension or a list literal are scalars.
-abbrev pub has_scalar_items : Ex → Names Ty → Bool
-has_scalar_items (comp_ex e gs) g = is_scalar (type_of e (names_behind gs g))
-has_scalar_items (node_ex false matrix_literal es) g = list_all is_scalar (types_of es g)
-has_scalar_items l g = true
-
--- The same of several.
+-- Whether the items of each of these are scalars.
 abbrev pub have_scalar_items : Exs → Names Ty → Bool
 have_scalar_items no_exs g = true
 have_scalar_items (more_exs l es) g = has_scalar_items l g && have_scalar_items es g
@@ -101,15 +89,14 @@ abbrev mutual
 
 -- ---- what moves
 
--- Some rule fires at the root, or at a generator of it, or the root is left to a kind or a lookup; x and y are new names, d an
--- index domain. A source offers a listing or is left. A name over a tuple of domains becomes a tuple of any new names; one
--- over a record of domains is left too.
-module _ (x y : Text) (d : Dom) where
+-- Some rule fires at the root, or at a generator of it, or the root is left to a kind or a lookup; s are what the rules take. A
+-- source offers a listing or is left, a pattern over a tuple of domains comes apart, a name over one becomes a tuple of any new
+-- names, and one over a record of domains is left.
+module _ (s : Supply) where
   pub data Moves : Names Ty → Ex → Type 0 where
-    by_a_rule : {g : Names Ty} {e : Ex} → Fires g x d e → Moves g e
-    by_all_different : {g : Names Ty} {e f : Ex} → different_term x e ≡ Some f → Moves g e
-    at_a_source : {g : Names Ty} (e : Ex) (gs : Gens) (p : Pat) (s : Ex) (hs : Gens) → HasMembers (names_behind gs g) x y s →
-        Moves g (comp_ex e (append_gens gs (from p s hs)))
+    by_a_rule : {g : Names Ty} {e : Ex} → IsTrue (is_some (rule_at s g e)) → Moves g e
+    at_a_source : {g : Names Ty} (e : Ex) (gs : Gens) (p : Pat) (t : Ex) (hs : Gens) → HasMembers (names_behind gs g) s.one s.other t →
+        Moves g (comp_ex e (append_gens gs (from p t hs)))
     at_a_pattern : {g : Names Ty} (e f : Ex) (gs : Gens) (p : Pat) (c : Dom) (hs : Gens) → split (comp_ex e (over p c hs)) ≡ Some f →
         Moves g (comp_ex e (append_gens gs (over p c hs)))
     at_a_tuple : {g : Names Ty} (e : Ex) (gs : Gens) (a : Text) (ds : Doms) (hs : Gens) →
@@ -134,6 +121,8 @@ module _ (x y : Text) (d : Dom) where
 
 -- ---- the law
 
--- So it is with each judged tree of a scalar.
-abbrev pub TreesMakeProgress : Type 0
-TreesMakeProgress = (x y : Text) (d : Dom) (g : Names Ty) (e : Ex) → is_judged e g ≡ true → is_scalar (type_of e g) ≡ true → Progress x y d g e
+-- So it is with each judged tree of a scalar; and where nothing moves at any part the tree is refined.
+pub record TreesMakeProgress : Type 0 where
+  pub moves : (s : Supply) (g : Names Ty) (e : Ex) → is_judged e g ≡ true → is_scalar (type_of e g) ≡ true → Progress s g e
+  pub is_refined_where_none_does : (s : Supply) (g : Names Ty) (e : Ex) → is_judged e g ≡ true → is_scalar (type_of e g) ≡ true →
+      ((c : In) (a : Ex) → e ≡ fill c a → Moves s (names_at c g) a → ⊥) → is_refined e ≡ true

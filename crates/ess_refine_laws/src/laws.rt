@@ -4,6 +4,10 @@ ghost use Rattle.ess_refine_laws.specs.Everywhere.{EverywhereServes};
 ghost use Rattle.ess_refine_laws.specs.LeavingConditions.{ConditionsLeave};
 ghost use Rattle.ess_refine_laws.specs.AllRules.{AllRulesKeep};
 ghost use Rattle.ess_refine_laws.specs.Progress.{TreesMakeProgress};
+ghost use Rattle.ess_refine_laws.specs.TypesStay.{WholesKeepTypes};
+ghost use Rattle.ess_refine_laws.specs.MarksStay.{WholesKeepMarks};
+ghost use Rattle.ess_refine_laws.specs.ScopesStay.{WholesKeepScopes};
+ghost use Rattle.ess_refine_laws.specs.ConstantsStay.{WholesKeepConstants};
 
 /// A refined number becomes one that is there wherever the names and cells in it are, and that is the same where the old one
 /// has a value.
@@ -25,4 +29,26 @@ pub fn all_rules_keep()
 /// In a judged tree of a scalar that isn't refined some rule fires at some part, or a part is left to a kind or to a lookup.
 pub fn trees_make_progress()
     ensures { TreesMakeProgress }
+{}
+
+/// A part that keeps its type keeps the type of the whole, and so do any number of rules that keep what they rewrite with its
+/// type, each at some part.
+pub fn types_stay()
+    ensures { WholesKeepTypes }
+{}
+
+/// A part that keeps its type and its marks keeps the marks of the whole, and so do any number of rules that do, each at some part.
+pub fn marks_stay()
+    ensures { WholesKeepMarks }
+{}
+
+/// A part outside of views that keeps its scope keeps that of the whole, and so do any number of such rules, each at some part.
+pub fn scopes_stay()
+    ensures { WholesKeepScopes }
+{}
+
+/// A part that spells no new numbers but 0, 1 and 2 makes the whole spell none, and so do any number of such rules, each at some
+/// part.
+pub fn constants_stay()
+    ensures { WholesKeepConstants }
 {}
