@@ -20,13 +20,13 @@ use Rattle.ess_repr_structure_laws.proofs.BuiltParts as C
 
 module _ (q : ℕ → Text) (P : Ex → Type 0) (L : Dom → Type 0) (built : BuiltOf q P L) where
   abbrev AllHave : Exs → Type 0
-  AllHave = B.AllHave q P L
+  AllHave = B.AllHave P
 
   abbrev DomHas : Dom → Type 0
-  DomHas = B.DomHas q P L
+  DomHas = B.DomHas P
 
   abbrev ListHas : List Dom → Type 0
-  ListHas = B.ListHas q P L
+  ListHas = B.ListHas P
 
   abbrev ShapesHave : List Shape → Type 0
   ShapesHave = C.ShapesHave q P L built
@@ -57,7 +57,8 @@ module _ (q : ℕ → Text) (P : Ex → Type 0) (L : Dom → Type 0) (built : Bu
   every-has : (l : ℕ) (e test : Ex) → P e → P test → P (every_item_ex q l e test)
   every-has l e test h t = C.all-has q P L built test _ t ((l, refl), h, tt)
 
-  differ-has : (l : ℕ) (d : Dom) (k : ℕ) (e : Ex) → P e → P (components_differ_ex q l d k e)
+  -- That components differ.
+  pub differ-has : (l : ℕ) (d : Dom) (k : ℕ) (e : Ex) → P e → P (components_differ_ex q l d k e)
   differ-has l d k e h = C.differ-has q P L built _ _ (component-has d k (name_ex (q l)) (name-has l)) ((l, refl), h, tt)
 
   taken-has : (l : ℕ) (c : Dom) (e : Ex) → DomHas c → P e → P (all_taken_ex q l c e)
@@ -145,11 +146,11 @@ module _ (q : ℕ → Text) (P : Ex → Type 0) (L : Dom → Type 0) (built : Bu
       (has-pair-has e (first_ex q l d) (second_ex q (suc l) c) h (first-has l d) (second-has (suc l) c))))
   pair-relation-key-has l d c e _ x h = built.truths true
 
-  pub relation-key-has : (l : ℕ) (ds : Doms) (e : Ex) (k : Key) → B.DomsHave q P L ds → P e → P (relation_key_ex q l ds e k)
+  pub relation-key-has : (l : ℕ) (ds : Doms) (e : Ex) (k : Key) → B.DomsHave P ds → P e → P (relation_key_ex q l ds e k)
   relation-key-has l (more_doms d (more_doms c no_doms)) e k x h = pair-relation-key-has l d c e k x.0 h
   relation-key-has l _ e k x h = built.truths false
 
-  pub relation-has : (l : ℕ) (ms : List Mark) (es : Exs) (ds : Doms) (as' : List Dom) (n : Text) (is : Exs) (e : Ex) → AllHave es → ListHas as' → AllHave is → B.DomsHave q P L ds → P e →
+  pub relation-has : (l : ℕ) (ms : List Mark) (es : Exs) (ds : Doms) (as' : List Dom) (n : Text) (is : Exs) (e : Ex) → AllHave es → ListHas as' → AllHave is → B.DomsHave P ds → P e →
       P (relation_ex q l ms es ds as' n is e)
   relation-has l ms es ds as' n is e g x a y h =
       and-has _ _ (C.size-has q P L built ms es (true_count_ex q l as' n is) g (C.true-count-has q P L built l as' n is x a))
@@ -157,7 +158,8 @@ module _ (q : ℕ → Text) (P : Ex → Type 0) (L : Dom → Type 0) (built : Bu
 
   -- ---- functions over cells
 
-  differ-cells-have : (l : ℕ) (as' : List Dom) (ss : List Shape) (is : Exs) → ListHas as' → AllHave is → P (differ_ex q l as' ss is)
+  -- That cells differ.
+  pub differ-cells-have : (l : ℕ) (as' : List Dom) (ss : List Shape) (is : Exs) → ListHas as' → AllHave is → P (differ_ex q l as' ss is)
   differ-cells-have l as' (s ∷ []) is x a = C.differ-has q P L built _ _ (C.cell-has q P L built s.truth s.name l as' is a) (C.row-gens-have q P L built l as' x)
   differ-cells-have l as' _ is x a = built.truths false
 
@@ -240,7 +242,18 @@ module _ (q : ℕ → Text) (P : Ex → Type 0) (L : Dom → Type 0) (built : Bu
   part-sizes-have l n e (valued k ∷ ks) no_exs f h a = built.truths true
   part-sizes-have l n e (valued k ∷ ks) (more_exs m ms) f h a = and-has _ _ (part-key-has l n e k m f h a.0) (part-sizes-have l n e ks ms f h a.1)
 
+  -- That parts are numbered.
+  abbrev pub numbers_of : ℕ → Dom → Ex → Text → Exs → Ex
+  numbers_of l d n w is = and_ex (each_ex q l (d ∷ []) (numbered_on_ex q l d n w is)) (taken_ex q l d n w is)
+
+  pub numbers-have : (l : ℕ) (d : Dom) (n : Ex) (w : Text) (is : Exs) → DomHas d → P n → AllHave is → P (numbers_of l d n w is)
+  numbers-have l d n w is x f a =
+      and-has _ _ (C.each-has q P L built l (d ∷ []) _ (x, tt) (numbered-on-has l d n w is x f a)) (number-taken-has l d n w is x f a)
+
+  -- What attributes ask of the parts of a view.
+  pub part-attributes-have : (l : ℕ) (ks : List Mark) (ms : Exs) (n e : Ex) → AllHave ms → P n → P e → P (and_ex (part_sizes_ex q l n e ks ms) (keys_ex (regular_key_ex (one_size_ex q l e)) ks))
+  part-attributes-have l ks ms n e g f h =
+      and-has _ _ (part-sizes-have l n e ks ms f h g) (C.keys-have q P L built (regular_key_ex (one_size_ex q l e)) ks (λ k. regular-has (one_size_ex q l e) k (one-size-has l e h)))
+
   pub numbered-has : (l : ℕ) (ks : List Mark) (ms : Exs) (d : Dom) (n : Ex) (w : Text) (is : Exs) (e : Ex) → AllHave ms → DomHas d → P n → AllHave is → P e → P (numbered_ex q l ks ms d n w is e)
-  numbered-has l ks ms d n w is e g x f a h =
-      and-has _ _ (and-has _ _ (C.each-has q P L built l (d ∷ []) _ (x, tt) (numbered-on-has l d n w is x f a)) (number-taken-has l d n w is x f a))
-      (and-has _ _ (part-sizes-have l n e ks ms f h g) (C.keys-have q P L built (regular_key_ex (one_size_ex q l e)) ks (λ k. regular-has (one_size_ex q l e) k (one-size-has l e h))))
+  numbered-has l ks ms d n w is e g x f a h = and-has _ _ (numbers-have l d n w is x f a) (part-attributes-have l ks ms n e g f h)

@@ -41,7 +41,7 @@ module _ (env0 : Env) (q : ℕ → Text) (q-apart : (m l : ℕ) → l < m → sa
   denoted-total x y v bs = record { domain = e; means = denoted-kept x y d (N bs) e (denoted v bs); plain = v.plain }
 
   -- What is known of the view is known of it.
-  known-total : (x y : Text) (r : Repr) → Known env0 q q-apart r d e → JudgedView env0 q r d e → Known env0 q q-apart r (total_dom x y d) e
+  pub known-total : (x y : Text) (r : Repr) → Known env0 q q-apart r d e → JudgedView env0 q r d e → Known env0 q q-apart r (total_dom x y d) e
   known-total x y r k v = record {
     sound = orderly-sound (total_dom x y d) env0 e (orderly-kept x y d v.orderly) (denoted-kept x y d env0 e v.denotes);
     fit = fits-kept x y r d ∙ v.fit;
