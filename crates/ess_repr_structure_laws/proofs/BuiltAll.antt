@@ -1,20 +1,20 @@
 -- Structures are built of what has a property: by induction over the representation.
-use Rattle.std.proofs.Common.{◌≡◌, refl, ℕ, suc, Bool, true, false, List, [], ◌∷◌, ◌++◌, map, take, drop, pos, if◌then◌else◌}
+use Rattle.std.proofs.Common.{refl, ℕ, suc, Bool, true, false, List, [], ◌∷◌, ◌++◌, map, take, drop, pos, if◌then◌else◌}
 use Rattle.ess_semantics.specs.declared.words.Op2.{Op2}
 use Rattle.ess_semantics.specs.declared.words.ReprKind.{ReprKind}
 use Rattle.ess_semantics.specs.Values.{Text}
 use Rattle.ess_semantics.specs.Meaning.{is_bool_dom}
 use Rattle.ess_semantics.specs.Kinds.{dom_list}
 use Rattle.ess_semantics.specs.Representations.{width}
-use Rattle.ess_semantics.specs.Trees.{Ends, one_value, both_ends, low_end, high_end, Repr, Reprs, repr, no_reprs, more_reprs, Ex, Exs, number_ex, truth_ex, name_ex, cell_ex, seen_ex, no_exs, more_exs, Dom, Doms, bool_dom, int_dom, name_dom, tuple_dom, record_dom, matrix_dom, set_dom, mset_dom, function_dom, relation_dom, partition_dom, no_doms, more_doms, ex2}
-use Rattle.ess_repr_laws.specs.StructureParts.{Shape, add_ex, and_ex, or_ex, le_ex, upto, row_index, level_behind, on_axes, own_shape, first_name, tuple_set_dom}
+use Rattle.ess_semantics.specs.Trees.{Ends, one_value, both_ends, low_end, high_end, Repr, Reprs, repr, no_reprs, more_reprs, Ex, Exs, number_ex, name_ex, cell_ex, seen_ex, no_exs, more_exs, Dom, Doms, int_dom, name_dom, tuple_dom, record_dom, matrix_dom, set_dom, mset_dom, function_dom, relation_dom, partition_dom, more_doms, ex2}
+use Rattle.ess_repr_laws.specs.StructureParts.{Shape, add_ex, or_ex, le_ex, upto, row_index, level_behind, on_axes, own_shape, first_name, tuple_set_dom}
 use Rattle.ess_repr_laws.specs.ViewParts.{view_ex, pair_relation_dom, part_set_dom, shape_names}
 use Rattle.ess_repr_laws.specs.RelationParts.{bare_relation_dom, relation_key_ex}
 use Rattle.ess_repr_laws.specs.FunctionParts.{bare_function_dom}
-use Rattle.ess_repr_laws.specs.MultisetParts.{bare_mset_dom, repetition_ex}
+use Rattle.ess_repr_laws.specs.MultisetParts.{bare_mset_dom}
 use Rattle.ess_repr_laws.specs.PartitionParts.{bare_partition_dom}
 use Rattle.ess_repr_laws.specs.Structure.{shapes, shapes_of_each, structure, structure_of_each}
-use Rattle.ess_repr_declare_laws.specs.SizeTerms.{is_missing, bound_or_0, slots_ex, dummy_ex, in_ranges_ex, inside_ex, listed_ex, size_terms}
+use Rattle.ess_repr_declare_laws.specs.SizeTerms.{is_missing, slots_ex, dummy_ex, in_ranges_ex, inside_ex, listed_ex, size_terms}
 use Rattle.ess_repr_structure_laws.proofs.BuiltStructures as B
 use Rattle.ess_repr_structure_laws.proofs.BuiltStructures.{BuiltOf, two-have}
 use Rattle.ess_repr_structure_laws.proofs.BuiltParts as C

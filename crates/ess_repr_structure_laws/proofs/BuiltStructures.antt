@@ -1,6 +1,6 @@
 -- What each expression that structures are built of has, structures have: one induction for all properties of their form. L is what is
 -- known of ranges, named types and multisets beside that their numbers have the property.
-use Rattle.std.proofs.Common.{◌≡◌, refl, ℕ, suc, Bool, true, false, ◌&&◌, ◌||◌, List, [], ◌∷◌, ◌++◌, map, take, drop, pos, Option, Some, None, if◌then◌else◌}
+use Rattle.std.proofs.Common.{◌≡◌, refl, ℕ, Bool, true, false, ◌&&◌, ◌||◌, List, [], ◌∷◌, ◌++◌, pos, Option, Some, None, if◌then◌else◌}
 use Rattle.ess_semantics.specs.declared.words.Op1.{Op1}
 use Rattle.ess_semantics.specs.declared.words.Op2.{Op2}
 use Rattle.ess_semantics.specs.declared.words.Fun.{Fun}
@@ -9,9 +9,9 @@ use Rattle.ess_semantics.specs.Lists.{or_else, or_default}
 use Rattle.ess_semantics.specs.Values.{Text}
 use Rattle.ess_semantics.specs.Domains.{same_key}
 use Rattle.ess_semantics.specs.Kinds.{dom_list, has_key}
-use Rattle.ess_semantics.specs.Trees.{Op, unary, binary, word, set_literal, mset_literal, function_literal, relation_literal, partition_literal, matrix_literal, Mark, flag, valued, Pat, name_pat, tuple_pat, Repr, Ex, Exs, number_ex, truth_ex, name_ex, node_ex, comp_ex, cell_ex, seen_ex, no_exs, more_exs, Gens, no_gens, over, from, cond, Dom, Doms, bool_dom, int_dom, name_dom, tuple_dom, record_dom, matrix_dom, set_dom, mset_dom, function_dom, relation_dom, partition_dom, no_doms, more_doms, ex1, ex2, fun1}
+use Rattle.ess_semantics.specs.Trees.{Op, unary, binary, word, set_literal, mset_literal, function_literal, relation_literal, partition_literal, matrix_literal, Mark, flag, valued, name_pat, tuple_pat, Ex, Exs, number_ex, truth_ex, name_ex, node_ex, comp_ex, cell_ex, no_exs, more_exs, Gens, no_gens, over, from, cond, Dom, Doms, bool_dom, int_dom, name_dom, tuple_dom, record_dom, matrix_dom, set_dom, mset_dom, function_dom, relation_dom, partition_dom, no_doms, more_doms, ex1, ex2, fun1}
 use Rattle.ess_guard_laws.proofs.Safe.{is_safe}
-use Rattle.ess_repr_laws.specs.StructureParts.{Shape, add_ex, key_ex, size_ex, keys_ex, upto, row_gens, row_index, on_axes, number_of_key, tuple_set_dom}
+use Rattle.ess_repr_laws.specs.StructureParts.{number_of_key, tuple_set_dom}
 use Rattle.ess_repr_laws.specs.ViewParts.{pair_relation_dom, part_set_dom, part_dom, number_as}
 use Rattle.ess_repr_declare_laws.specs.SizeTerms.{bound_ex, listed_ex, number_of, greatest_size_of, occurrences_ex, slots_ex, size_terms}
 

@@ -1,19 +1,16 @@
 -- Structures spell numbers of the domain, and 0, 1 and 2.
-use Rattle.std.proofs.Common.{◌≡◌, refl, sym, ap, subst, ℕ, Bool, true, false, if◌then◌else◌, List, [], ◌∷◌, ◌++◌, ℤ, pos, Option, Some, None}
-use Rattle.std.specs.declared.cmp.Ordering.{Ordering}
-use Rattle.std.specs.declared.cmp.Ordering.TheVariants.{Less, Equal, Greater}
+use Rattle.std.proofs.Common.{◌≡◌, refl, sym, subst, ℕ, Bool, true, false, List, [], ◌++◌, ℤ, pos}
 use Rattle.ess_semantics.specs.declared.words.Op2.{Op2}
 use Rattle.ess_semantics.specs.declared.words.Fun.{Fun}
 use Rattle.ess_semantics.specs.Values.{Text}
-use Rattle.ess_semantics.specs.Kinds.{is_bounded}
 use Rattle.ess_semantics.specs.Contexts.{Each}
-use Rattle.ess_semantics.specs.Constants.{operand_count, counted_op, counts_of_op, drops_items, tree_constants, operand_constants, gens_constants, dom_constants, doms_constants}
-use Rattle.ess_semantics.specs.Trees.{Ends, one_value, both_ends, low_end, high_end, Op, unary, binary, word, index, application, tuple_literal, set_literal, mset_literal, function_literal, relation_literal, partition_literal, matrix_literal, record_literal, Mark, Repr, name_pat, tuple_pat, Ex, Exs, number_ex, truth_ex, name_ex, node_ex, matrix_ex, comp_ex, cell_ex, seen_ex, no_exs, more_exs, Gens, no_gens, over, from, cond, Dom, Doms, bool_dom, int_dom, name_dom, tuple_dom, record_dom, matrix_dom, set_dom, mset_dom, function_dom, relation_dom, partition_dom, no_doms, more_doms, ex2, fun1}
+use Rattle.ess_semantics.specs.Constants.{operand_count, counted_op, drops_items, tree_constants, operand_constants, gens_constants, dom_constants, doms_constants}
+use Rattle.ess_semantics.specs.Trees.{Op, binary, word, tuple_literal, set_literal, mset_literal, function_literal, relation_literal, partition_literal, matrix_literal, record_literal, Repr, name_pat, tuple_pat, Ex, Exs, number_ex, truth_ex, name_ex, node_ex, matrix_ex, comp_ex, cell_ex, seen_ex, no_exs, more_exs, Gens, no_gens, over, from, cond, Dom, Doms, bool_dom, int_dom, name_dom, tuple_dom, record_dom, matrix_dom, set_dom, mset_dom, function_dom, relation_dom, partition_dom, no_doms, more_doms, ex2, fun1}
 use Rattle.ess_semantics.proofs.Tests.{and-right}
 use Rattle.ess_guard_laws.proofs.ConstantRows.{each-append, each-left, each-right}
 use Rattle.ess_guard_laws.proofs.Safe.{is_safe}
 use Rattle.ess_repr_laws.specs.Structure.{structure}
-use Rattle.ess_repr_declare_laws.specs.SizeTerms.{zero_ex, one_ex, two_ex, plus_ex, minus_ex, times_ex, power_ex, next_ex, at_least_0_ex, unused_name, listed_ex, is_numeral, numerals_order, span_ex, span_by, is_missing, bound_or_0, count_ex, occurrences_ex, bound_ex, product_ex, product_behind, size_terms}
+use Rattle.ess_repr_declare_laws.specs.SizeTerms.{zero_ex, one_ex, two_ex, at_least_0_ex, unused_name, listed_ex, size_terms}
 use Rattle.ess_repr_structure_laws.proofs.BuiltStructures as B
 use Rattle.ess_repr_structure_laws.proofs.BuiltStructures.{is_used, counts_nothing, BuiltOf}
 use Rattle.ess_repr_structure_laws.proofs.BuiltSizes.{SizesOf, bound-has}

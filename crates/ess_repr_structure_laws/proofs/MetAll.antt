@@ -1,5 +1,5 @@
 -- Tables that fit meet the structure of each view of a judged domain: by induction over the representation.
-use Rattle.std.proofs.Common.{◌≡◌, refl, sym, ap, ◌∙◌, subst, ℕ, ◌<◌, Bool, true, false, ◌&&◌, ◌||◌, List, [], ◌∷◌, ◌++◌, map, option_map, Some, pos}
+use Rattle.std.proofs.Common.{◌≡◌, refl, ap, ◌∙◌, subst, ℕ, ◌<◌, true, false, ◌||◌, [], ◌∷◌, option_map, Some, pos}
 use Rattle.ess_semantics.specs.declared.words.Key.{Key}
 use Rattle.ess_semantics.specs.declared.words.ReprKind.{ReprKind}
 use Rattle.ess_semantics.specs.Lists.{and_then}
@@ -8,9 +8,9 @@ use Rattle.ess_semantics.specs.Order.{same_text}
 use Rattle.ess_semantics.specs.Kinds.{fits, all_fit, dom_list}
 use Rattle.ess_semantics.specs.Membership.{no_negative_attribute, each_layer_of_all}
 use Rattle.ess_semantics.specs.Sizes.{slots_of_mset, child_relation, child_set, child_parts}
-use Rattle.ess_semantics.specs.Trees.{Mark, Repr, Reprs, repr, no_reprs, more_reprs, Ex, Exs, cell_ex, Dom, Doms, no_doms, more_doms, tuple_dom, record_dom, matrix_dom, set_dom, mset_dom, function_dom, relation_dom, partition_dom}
-use Rattle.ess_semantics.specs.Domains.{Attribute, numbered, Domain, Domains, no_domains, more_domains, tuples, records, matrices, sets, msets, functions, relations, partitions, domain_list}
-use Rattle.ess_semantics.specs.Declarations.{Declaration, declarations_below}
+use Rattle.ess_semantics.specs.Trees.{Repr, Reprs, repr, no_reprs, more_reprs, Ex, cell_ex, Dom, Doms, no_doms, more_doms, tuple_dom, record_dom, matrix_dom, set_dom, mset_dom, function_dom, relation_dom, partition_dom}
+use Rattle.ess_semantics.specs.Domains.{numbered, Domain, Domains, no_domains, more_domains, tuples, records, matrices, sets, msets, functions, relations, partitions, domain_list}
+use Rattle.ess_semantics.specs.Declarations.{declarations_below}
 use Rattle.ess_semantics.specs.Cells.{behind, cells_of}
 use Rattle.ess_semantics.specs.Meaning.{Env, as_int, is_bool_dom, domain_of}
 use Rattle.ess_semantics.proofs.Tests.{and-left, and-right}
@@ -31,7 +31,7 @@ use Rattle.ess_repr_structure_laws.proofs.BuiltStructures.{BuiltOf}
 use Rattle.ess_repr_structure_laws.proofs.BuiltParts as C
 use Rattle.ess_repr_structure_laws.proofs.BuiltAll as A
 use Rattle.ess_repr_structure_laws.proofs.FittingChildren.{ChildrenFit, children-fit}
-use Rattle.ess_repr_structure_laws.proofs.MetParts.{Any, MetIn, and-met}
+use Rattle.ess_repr_structure_laws.proofs.MetParts.{Any, and-met}
 use Rattle.ess_repr_structure_laws.proofs.MetLayers as M'
 use Rattle.ess_repr_structure_laws.proofs.MetLayers.{here}
 use Rattle.ess_repr_structure_laws.proofs.MetKinds as K
@@ -43,7 +43,7 @@ use Rattle.ess_repr_structure_laws.proofs.ReadyParts.{Known, AllKnown, listed-is
 use Rattle.ess_repr_structure_laws.proofs.ReadySets.{set-child, mset-child}
 use Rattle.ess_repr_structure_laws.proofs.ReadyFunctions.{from-is, to-is, function-child}
 use Rattle.ess_repr_structure_laws.proofs.ReadyConversions.{tuples-known, pairs-known, parts-known}
-use Rattle.ess_repr_structure_laws.proofs.Shapes.{tuple-parts, record-parts, matrix-parts, mset-parts, relation-parts, partition-parts, first-of}
+use Rattle.ess_repr_structure_laws.proofs.Shapes.{tuple-parts, record-parts, matrix-parts, mset-parts, relation-parts, first-of}
 
 module _ (env0 : Env) (q : ℕ → Text) (q-apart : (m l : ℕ) → l < m → same_text (q m) (q l) ≡ false) where
   abbrev N : Bound env0 q q-apart → Env

@@ -1,28 +1,25 @@
 -- Tables meet the structures of matrices, functions, relations and partitions.
-use Rattle.std.proofs.Common.{◌≡◌, refl, sym, ap, ◌∙◌, subst, ℕ, suc, ◌+◌, ◌<◌, Bool, true, false, ◌&&◌, ◌||◌, List, [], ◌∷◌, ◌++◌, map, drop, length, ℤ, pos, Some, arith}
+use Rattle.std.proofs.Common.{◌≡◌, refl, ℕ, ◌<◌, Bool, true, false, ◌||◌, List, [], ◌∷◌, ◌++◌, map, drop, length, ℤ, Some}
 use Rattle.ess_semantics.specs.declared.words.ReprKind.{ReprKind}
-use Rattle.ess_semantics.specs.Values.{Text, Value}
+use Rattle.ess_semantics.specs.Values.{Text}
 use Rattle.ess_semantics.specs.Order.{same_text}
 use Rattle.ess_semantics.specs.Kinds.{dom_list}
-use Rattle.ess_semantics.specs.Operators.{as_truth}
 use Rattle.ess_semantics.specs.Trees.{Mark, Repr, repr, no_reprs, more_reprs, Ex, Exs, cell_ex, no_exs, Dom, Doms, tuple_dom, matrix_dom, function_dom, relation_dom, partition_dom}
 use Rattle.ess_semantics.specs.Domains.{Attribute, Domain, Domains, booleans, tuples, matrices, functions, relations, partitions, domain_list, members, member_list}
 use Rattle.ess_semantics.specs.Atoms.{IsAtom, AreAtoms}
 use Rattle.ess_semantics.specs.Layers.{codes_of}
 use Rattle.ess_semantics.specs.Tables.{Tables, Table, cell_at}
-use Rattle.ess_semantics.specs.Cells.{Axes, behind, cells_of}
+use Rattle.ess_semantics.specs.Cells.{behind, cells_of}
 use Rattle.ess_semantics.specs.Declarations.{Declaration, under, declarations_below}
 use Rattle.ess_semantics.specs.Tidy.{over_axes}
-use Rattle.ess_semantics.specs.Meaning.{Env, meaning}
-use Rattle.ess_semantics.specs.Meets.{Meets}
+use Rattle.ess_semantics.specs.Meaning.{Env}
 use Rattle.ess_semantics.proofs.Tests.{and-both}
 use Rattle.ess_repr_laws.specs.FunctionParts.{bare_function_dom}
 use Rattle.ess_repr_laws.specs.PartitionParts.{bare_partition_dom}
 use Rattle.ess_repr_laws.specs.RelationParts.{bare_relation_dom}
-use Rattle.ess_repr_laws.specs.StructureParts.{and_ex, implies_ex, row_index, level_behind, each_ex, first_name, on_axes, zeros_ex}
+use Rattle.ess_repr_laws.specs.StructureParts.{first_name}
 use Rattle.ess_repr_laws.specs.Structure.{shapes, structure}
-use Rattle.ess_repr_laws.specs.StructureMeaning.{Bound, M, AxesAre, Placed, DomainIs, axes_members, on_members, index_members}
-use Rattle.ess_repr_laws.proofs.CanonicalPlaces.{all-of-map}
+use Rattle.ess_repr_laws.specs.StructureMeaning.{Bound, M, AxesAre, Placed, DomainIs, axes_members, index_members}
 use Rattle.ess_repr_laws.proofs.StructureFits.{Fit, first-fit}
 use Rattle.ess_repr_laws.proofs.StructureFunctions.{function-1d-structure, function-nd-structure}
 use Rattle.ess_repr_laws.proofs.StructureMatrices.{index-codes, axes-even}
@@ -30,13 +27,12 @@ use Rattle.ess_repr_laws.proofs.StructureNumbered.{numbered-structure, listed-co
 use Rattle.ess_repr_laws.proofs.StructureOf.{StructureOf}
 use Rattle.ess_repr_laws.proofs.StructurePartial.{partial-1d-structure, partial-nd-structure}
 use Rattle.ess_repr_laws.proofs.StructureRelations.{relation-structure}
-use Rattle.ess_repr_laws.proofs.StructureRows.{Steady, codes, all_codes}
+use Rattle.ess_repr_laws.proofs.StructureRows.{Steady, all_codes}
 use Rattle.ess_repr_declare_laws.specs.SizeTerms.{size_terms}
 use Rattle.ess_repr_structure_laws.proofs.BuiltStructures as B
 use Rattle.ess_repr_structure_laws.proofs.BuiltStructures.{BuiltOf}
-use Rattle.ess_repr_structure_laws.proofs.BuiltParts as C
 use Rattle.ess_repr_structure_laws.proofs.BuiltAll as A
-use Rattle.ess_repr_structure_laws.proofs.MetParts.{Any, MetIn, and-met, implies-met}
+use Rattle.ess_repr_structure_laws.proofs.MetParts.{Any, MetIn}
 use Rattle.ess_repr_structure_laws.proofs.MetLayers as M'
 use Rattle.ess_repr_structure_laws.proofs.MetLayers.{here}
 use Rattle.ess_repr_structure_laws.proofs.MetKinds as K

@@ -1,26 +1,24 @@
 -- Tables meet the structure of each kind: of slots, of functions, relations, multisets and partitions over their views.
-use Rattle.std.proofs.Common.{◌≡◌, refl, sym, ap, ◌∙◌, subst, ℕ, zero, suc, ◌+◌, ◌≤◌, ◌<◌, Bool, true, false, ◌&&◌, ◌||◌, if◌then◌else◌, List, [], ◌∷◌, ◌++◌, map, take, drop, length, ℤ, pos, Option, Some, arith, append-nil}
-use Rattle.std.proofs.lemmas.Bool.{le-leb}
+use Rattle.std.proofs.Common.{◌≡◌, refl, sym, ap, ◌∙◌, subst, ℕ, suc, ◌≤◌, ◌<◌, Bool, true, false, if◌then◌else◌, List, [], ◌∷◌, ◌++◌, map, length, ℤ, pos}
 use Rattle.ess_semantics.specs.declared.words.Op1.{Op1}
 use Rattle.ess_semantics.specs.declared.words.Key.{Key}
-use Rattle.ess_semantics.specs.Values.{Text, Value, number, truth}
+use Rattle.ess_semantics.specs.Values.{Text, Value, number}
 use Rattle.ess_semantics.specs.Order.{same_text}
 use Rattle.ess_semantics.specs.Numbers.{one_to}
 use Rattle.ess_semantics.specs.Operators.{as_truth}
 use Rattle.ess_semantics.specs.Trees.{Mark, Repr, Ex, Exs, number_ex, name_ex, cell_ex, Dom, Doms, ex1}
 use Rattle.ess_semantics.specs.Domains.{Domain, lists_of}
-use Rattle.ess_semantics.specs.Tables.{Tables, Table, cell_at}
+use Rattle.ess_semantics.specs.Tables.{Tables}
 use Rattle.ess_semantics.specs.Cells.{Axes, behind, cells_of}
 use Rattle.ess_semantics.specs.Declarations.{under, declarations_below}
 use Rattle.ess_semantics.specs.Tidy.{over_axes}
 use Rattle.ess_semantics.specs.Meaning.{Env, meaning}
-use Rattle.ess_semantics.specs.Meets.{Meets}
-use Rattle.ess_repr_laws.specs.FunctionParts.{is_one_cell, differ_ex, value_key_ex, total_ex, flag_key_ex, partial_ex}
-use Rattle.ess_repr_laws.specs.MultisetParts.{occurs_ex, repetition_ex}
+use Rattle.ess_repr_laws.specs.FunctionParts.{is_one_cell, differ_ex, value_key_ex, total_ex, flag_key_ex}
+use Rattle.ess_repr_laws.specs.MultisetParts.{occurs_ex}
 use Rattle.ess_repr_laws.specs.PartitionParts.{numbered_ex}
 use Rattle.ess_repr_laws.specs.RelationParts.{relation_key_ex, relation_ex}
-use Rattle.ess_repr_laws.specs.StructureParts.{Shape, add_ex, and_ex, implies_ex, le_ex, zeros_ex, keys_ex, size_ex, upto, true_count_ex, row_index, level_behind, each_ex, next_ex, slots_ex, use_ex, flags_ex, counted_ex, explicit_ex, marker_ex, on_axes}
-use Rattle.ess_repr_laws.specs.ViewParts.{pair_key_ex, pairs_ex, parts_ex, components_differ_ex}
+use Rattle.ess_repr_laws.specs.StructureParts.{Shape, add_ex, and_ex, implies_ex, le_ex, zeros_ex, keys_ex, size_ex, upto, true_count_ex, row_index, level_behind, each_ex, slots_ex, use_ex, on_axes}
+use Rattle.ess_repr_laws.specs.ViewParts.{pairs_ex, parts_ex, components_differ_ex}
 use Rattle.ess_repr_laws.specs.Structure.{shapes, structure}
 use Rattle.ess_repr_laws.specs.StructureMeaning.{Bound, M, Number, AxesAre, Placed, axes_members, on_members, slot_numbers}
 use Rattle.ess_repr_laws.proofs.CanonicalPlaces.{AllOf, all-of-both, all-of-map}

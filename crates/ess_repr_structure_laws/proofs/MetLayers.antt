@@ -1,23 +1,21 @@
 -- Tables meet the structure of a layer: at each place or slot those of its child, and where the layer's shape holds its view is tidy.
-use Rattle.std.proofs.Common.{◌≡◌, refl, sym, ap, ◌∙◌, subst, ℕ, zero, suc, ◌+◌, ◌≤◌, ◌<◌, Bool, true, false, ◌&&◌, List, [], ◌∷◌, ◌++◌, map, take, drop, length, ℤ, pos, Some, option_map, arith, le_refl, append-nil, append_assoc, IsTrue}
-use Rattle.std.proofs.lemmas.List.{map-append}
-use Rattle.ess_semantics.specs.Values.{Text, Value, number, truth}
+use Rattle.std.proofs.Common.{◌≡◌, refl, sym, ap, ◌∙◌, subst, ℕ, zero, suc, ◌+◌, ◌≤◌, ◌<◌, Bool, true, false, ◌&&◌, List, [], ◌∷◌, ◌++◌, map, take, drop, length, ℤ, pos, Some, option_map, arith, le_refl, append-nil, append_assoc}
+use Rattle.ess_semantics.specs.Values.{Text, Value, number}
 use Rattle.ess_semantics.specs.Order.{same_text}
-use Rattle.ess_semantics.specs.Numbers.{one_to, run_from}
+use Rattle.ess_semantics.specs.Numbers.{run_from}
 use Rattle.ess_semantics.specs.Operators.{as_truth}
 use Rattle.ess_semantics.specs.Contexts.{Each, EachOf}
-use Rattle.ess_semantics.specs.Trees.{both_ends, name_pat, Repr, Ex, Exs, name_ex, no_gens, over, cond, Dom}
+use Rattle.ess_semantics.specs.Trees.{both_ends, Repr, Ex, Exs, name_ex, no_gens, cond, Dom}
 use Rattle.ess_semantics.specs.Domains.{Domain, integers, add_heads, lists_of}
-use Rattle.ess_semantics.specs.Tables.{Tables, Table, code, same_axes, is_filled}
+use Rattle.ess_semantics.specs.Tables.{Tables, code, same_axes, is_filled}
 use Rattle.ess_semantics.specs.Cells.{Axes, behind, cells_of}
 use Rattle.ess_semantics.specs.Declarations.{declarations_below, axes_of}
-use Rattle.ess_semantics.specs.CanonicalTest.{canonical}
 use Rattle.ess_semantics.specs.Tidy.{over_axes, tidy_cells}
-use Rattle.ess_semantics.specs.Meaning.{Env, meaning, meanings, indices, spans_of, members_in, domain_of, tables_in}
+use Rattle.ess_semantics.specs.Meaning.{Env, meaning, meanings, indices, spans_of, members_in, tables_in}
 use Rattle.ess_semantics.specs.Meets.{Meets, MeetsGens, tidy_in}
 use Rattle.ess_semantics.proofs.Tests.{and-left, and-right, and-both}
 use Rattle.ess_repr_laws.specs.CanonicalTables.{Right}
-use Rattle.ess_repr_laws.specs.StructureParts.{Shape, add_ex, upto, row_gens, row_index, level_behind, each_ex, over_slots}
+use Rattle.ess_repr_laws.specs.StructureParts.{add_ex, upto, row_gens, row_index, level_behind, each_ex, over_slots}
 use Rattle.ess_repr_laws.specs.Structure.{shapes, structure}
 use Rattle.ess_repr_laws.specs.StructureMeaning.{Bound, M, Number, AxesAre, DomainIs, Placed, axes_members}
 use Rattle.ess_repr_laws.specs.ViewParts.{view_ex, shape_names}
@@ -30,7 +28,6 @@ use Rattle.ess_repr_laws.proofs.StructureSlots.{members-ones}
 use Rattle.ess_repr_laws.proofs.ViewsOfCells.{tables-found}
 use Rattle.ess_repr_declare_laws.specs.SizeTerms.{size_terms}
 use Rattle.ess_repr_structure_laws.proofs.BuiltStructures as B
-use Rattle.ess_repr_structure_laws.proofs.BuiltParts as C
 use Rattle.ess_repr_structure_laws.proofs.MetParts as P
 use Rattle.ess_repr_structure_laws.proofs.MetParts.{MetIn}
 
@@ -72,9 +69,11 @@ pub over-split : (i : List ℤ) (ass bss : List Axes) (ts : Tables) → over_axe
 over-split i [] bss ts h = (refl, h)
 over-split i (a ∷ ass) bss [] h = cc
 over-split i (a ∷ ass) bss (t ∷ ts) h =
-    let x = over-split i ass bss ts (and-right (is_filled t && same_axes (drop (length i) t.axes) a) (over_axes i (ass ++ bss) ts) h) in
-    (and-both (is_filled t && same_axes (drop (length i) t.axes) a) (over_axes i ass (take (length ass) ts))
-    (and-left (is_filled t && same_axes (drop (length i) t.axes) a) (over_axes i (ass ++ bss) ts) h) x.0, x.1)
+    let x = over-split i ass bss ts (and-right (is_filled t && same_axes (drop (length i) t.axes) a) (over_axes i (ass ++ bss) ts) h) in (
+      and-both (is_filled t && same_axes (drop (length i) t.axes) a) (over_axes i ass (take (length ass) ts))
+          (and-left (is_filled t && same_axes (drop (length i) t.axes) a) (over_axes i (ass ++ bss) ts) h) x.0,
+      x.1,
+    )
 
 -- The lists over axes are as long as there are axes.
 pub lists-long : (bs : Axes) → AllOf (lists_of bs) (λ js. length js ≡ length bs)
@@ -145,16 +144,18 @@ module _ (env0 : Env) (q : ℕ → Text) (q-apart : (m l : ℕ) → l < m → sa
       (out : Bool) (ns : List Text) (ts : Tables) (l : ℕ) (is : Exs) (i : List ℤ) (bs : Names) → Placed env0 q q-apart (shapes q size_terms r d ns) (axes_members r e) ts →
       Fit (declarations_below out r e) (behind i (cells_of ts)) → over_axes i (all_codes env0 q q-apart (axes_members r e)) ts ≡ true → Steady env0 q q-apart l is i bs → B.AllHave G is →
       as_truth (meaning (structure q size_terms r d ns l is) (N bs)) ≡ true → H l bs (view_ex r d (shapes q size_terms r d ns) is)
-  view-met r d e s dm md out ns ts l is i bs p c o st ix t = record { at = λ ds x.
-      let y : Later l bs ds = x in
-      subst (λ z. Meets (view_ex r d (shapes q size_terms r d ns) is) (N z)) (sym y.are) (
-        ap (λ o. tidy_in r o (tables_in env0.cells (shape_names (shapes q size_terms r d ns))) (indices (meanings is (N (y.names ++ bs))))) (dm (y.names ++ bs))
-            ∙ ap (λ o. tidy_in r (Some e) o (indices (meanings is (N (y.names ++ bs))))) (tables-found env0 q q-apart (shapes q size_terms r d ns) (axes_members r e) ts p)
-            ∙ ap (tidy_in r (Some e) (Some ts)) (st y.names y.from)
-            ∙ and-both (over_axes i (axes_of r e) ts) (tidy_cells r e (behind i (cells_of ts))) (ap (λ a. over_axes i a ts) (sym s.axes) ∙ o) tidied,
-        P.dom-met env0 q q-apart Always (λ k. k) (λ bs k v r. tt) d md (y.names ++ bs) tt,
-        P.operands-met env0 q q-apart Always (λ k. k) (λ bs k v r. tt) false is ix (y.names ++ bs) tt,
-      ) }
+  view-met r d e s dm md out ns ts l is i bs p c o st ix t = record {
+    at = λ ds x.
+        let y : Later l bs ds = x in
+        subst (λ z. Meets (view_ex r d (shapes q size_terms r d ns) is) (N z)) (sym y.are) (
+          ap (λ o. tidy_in r o (tables_in env0.cells (shape_names (shapes q size_terms r d ns))) (indices (meanings is (N (y.names ++ bs))))) (dm (y.names ++ bs))
+              ∙ ap (λ o. tidy_in r (Some e) o (indices (meanings is (N (y.names ++ bs))))) (tables-found env0 q q-apart (shapes q size_terms r d ns) (axes_members r e) ts p)
+              ∙ ap (tidy_in r (Some e) (Some ts)) (st y.names y.from)
+              ∙ and-both (over_axes i (axes_of r e) ts) (tidy_cells r e (behind i (cells_of ts))) (ap (λ a. over_axes i a ts) (sym s.axes) ∙ o) tidied,
+          P.dom-met env0 q q-apart Always (λ k. k) (λ bs k v r. tt) d md (y.names ++ bs) tt,
+          P.operands-met env0 q q-apart Always (λ k. k) (λ bs k v r. tt) false is ix (y.names ++ bs) tt,
+        );
+  }
     where
       tidied : tidy_cells r e (behind i (cells_of ts)) ≡ true
       tidied =
@@ -211,14 +212,16 @@ module _ (env0 : Env) (q : ℕ → Text) (q-apart : (m l : ℕ) → l < m → sa
   -- At each slot where the test holds.
   pub over-slots-met : (l : ℕ) (size test part : Ex) (s : ℕ) (bs : Names) → Number size (N bs) (pos s) → G size → G test →
       ((k : ℕ) → 1 ≤ k → k ≤ s → MetIn part (N ((l, number (pos k)) ∷ bs))) → MetIn (over_slots q l size test part) (N bs)
-  over-slots-met l size test part s bs hs g t h = record { met = (
-    (
-      P.dom-met env0 q q-apart Always (λ k. k) (λ bs k v r. tt) (upto size) (record { at = λ cs r. tt }, (g, tt)) bs tt,
-      subst (λ o. EachOf o K) (sym (ap (λ o. members_in (option_map integers (spans_of (both_ends ∷ []) (Some (number (pos 1)) ∷ o ∷ [])))) hs ∙ ap Some (members-ones s)))
-          (run 1 s (λ k a b. h k a (omega (arith, b)))),
-    ),
-    tt,
-  ) }
+  over-slots-met l size test part s bs hs g t h = record {
+    met = (
+      (
+        P.dom-met env0 q q-apart Always (λ k. k) (λ bs k v r. tt) (upto size) (record { at = λ cs r. tt }, (g, tt)) bs tt,
+        subst (λ o. EachOf o K) (sym (ap (λ o. members_in (option_map integers (spans_of (both_ends ∷ []) (Some (number (pos 1)) ∷ o ∷ [])))) hs ∙ ap Some (members-ones s)))
+            (run 1 s (λ k a b. h k a (omega (arith, b)))),
+      ),
+      tt,
+    );
+  }
     where
       K : Value → Type 0
       K v = MeetsGens (cond test no_gens) (N ((l, v) ∷ bs)) (λ here. Meets part here)

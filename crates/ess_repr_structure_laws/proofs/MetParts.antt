@@ -1,18 +1,17 @@
 -- Tables meet the structures of what structures are built of: where names with a property are bound, of which each name of a part is one.
-use Rattle.std.proofs.Common.{◌≡◌, refl, sym, ap, ◌∙◌, subst, ℕ, ◌<◌, Bool, true, false, List, [], ◌∷◌, pos}
-use Rattle.ess_semantics.specs.declared.words.Op2.{Op2}
+use Rattle.std.proofs.Common.{◌≡◌, sym, subst, ℕ, ◌<◌, Bool, true, false, ◌∷◌}
 use Rattle.ess_semantics.specs.declared.words.Fun.{Fun}
 use Rattle.ess_semantics.specs.Values.{Text, Value}
 use Rattle.ess_semantics.specs.Order.{same_text}
 use Rattle.ess_semantics.specs.Operators.{as_truth}
-use Rattle.ess_semantics.specs.Contexts.{guards, WhenTrue}
-use Rattle.ess_semantics.specs.Trees.{Op, binary, word, matrix_literal, name_pat, tuple_pat, Ex, Exs, node_ex, comp_ex, no_exs, more_exs, Gens, no_gens, over, from, cond, Dom, Doms, bool_dom, int_dom, name_dom, tuple_dom, record_dom, matrix_dom, set_dom, mset_dom, function_dom, relation_dom, partition_dom, no_doms, more_doms}
+use Rattle.ess_semantics.specs.Contexts.{guards}
+use Rattle.ess_semantics.specs.Trees.{Op, word, matrix_literal, name_pat, tuple_pat, Ex, Exs, node_ex, comp_ex, no_exs, more_exs, Gens, no_gens, over, from, cond, Dom, Doms, bool_dom, int_dom, name_dom, tuple_dom, record_dom, matrix_dom, set_dom, mset_dom, function_dom, relation_dom, partition_dom, no_doms, more_doms}
 use Rattle.ess_semantics.specs.Meaning.{Env, meaning, domain_of, members_in}
 use Rattle.ess_semantics.specs.Meets.{Meets, MeetsAll, MeetsGens, MeetsDom, MeetsDoms}
 use Rattle.ess_guard_laws.proofs.MetRows.{each-of-always, each-in-always}
 use Rattle.ess_repr_laws.specs.StructureParts.{and_ex, implies_ex}
 use Rattle.ess_repr_laws.specs.StructureMeaning.{Bound, M}
-use Rattle.ess_repr_declare_laws.specs.SizeTerms.{zero_ex, one_ex, unused_name, listed_ex}
+use Rattle.ess_repr_declare_laws.specs.SizeTerms.{zero_ex, one_ex, unused_name}
 use Rattle.ess_repr_structure_laws.proofs.BuiltStructures as B
 use Rattle.ess_repr_structure_laws.proofs.BuiltStructures.{BuiltOf}
 use Rattle.ess_repr_structure_laws.proofs.BuiltSizes.{SizesOf, bound-has}

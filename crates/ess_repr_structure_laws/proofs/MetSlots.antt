@@ -1,5 +1,5 @@
 -- Tables meet the structures of sets and multisets.
-use Rattle.std.proofs.Common.{◌≡◌, refl, sym, ap, ◌∙◌, subst, ℕ, zero, suc, ◌+◌, ◌≤◌, ◌<◌, Bool, true, false, ◌&&◌, ◌||◌, if◌then◌else◌, List, [], ◌∷◌, ◌++◌, map, drop, length, ℤ, pos, int_le, Option, Some, arith, append-nil}
+use Rattle.std.proofs.Common.{◌≡◌, sym, ap, ◌∙◌, ℕ, suc, ◌<◌, Bool, true, false, ◌&&◌, ◌||◌, if◌then◌else◌, List, [], ◌∷◌, ◌++◌, drop, length, ℤ, pos, int_le, Some, append-nil}
 use Rattle.std.proofs.lemmas.Bool.{le-leb}
 use Rattle.ess_semantics.specs.declared.words.Key.{Key}
 use Rattle.ess_semantics.specs.declared.words.ReprKind.{ReprKind}
@@ -17,12 +17,11 @@ use Rattle.ess_semantics.specs.Cells.{Axes, behind, cells_of}
 use Rattle.ess_semantics.specs.Declarations.{Declaration, under, widened, declarations_below}
 use Rattle.ess_semantics.specs.Tidy.{over_axes}
 use Rattle.ess_semantics.specs.Meaning.{Env, as_int, meaning}
-use Rattle.ess_semantics.specs.Meets.{Meets}
 use Rattle.ess_semantics.proofs.Tests.{and-both, and-right}
 use Rattle.ess_repr_laws.specs.MultisetParts.{bare_mset_dom}
-use Rattle.ess_repr_laws.specs.StructureParts.{add_ex, and_ex, le_ex, size_ex, upto, first_name, first_ex, use_ex, next_ex, at_most_ex, less_ex, true_count_ex}
+use Rattle.ess_repr_laws.specs.StructureParts.{add_ex, le_ex, upto, first_name, next_ex, at_most_ex, less_ex, true_count_ex}
 use Rattle.ess_repr_laws.specs.Structure.{shapes, structure}
-use Rattle.ess_repr_laws.specs.StructureMeaning.{Bound, M, Number, Placed, DomainIs, Attributes, SlotsAre, axes_members, on_members, slot_numbers}
+use Rattle.ess_repr_laws.specs.StructureMeaning.{Bound, M, Number, Placed, DomainIs, Attributes, SlotsAre, axes_members}
 use Rattle.ess_repr_laws.proofs.StructureFits.{Fit, first-fit}
 use Rattle.ess_repr_laws.proofs.StructureNumbers.{le-means}
 use Rattle.ess_repr_laws.proofs.StructureOf.{StructureOf}
@@ -153,9 +152,9 @@ module _ (env0 : Env) (q : ℕ → Text) (q-apart : (m l : ℕ) → l < m → sa
         let f = first-fit (record { axes = one_to S' ∷ []; cell = if (if out then false else false) then widened (up_to (occurrences ks)) else up_to (occurrences ks) }) (inner_declared' out) (λ js. cell_at t (i ++ js)) (behind i (cells_of ts)) c in
         let x = A.shapes-have q G Any bt r d (drop 1 ns) g.2 in
         let used : G (le_ex (number_ex (pos 1)) (cell_ex false (first_name ns) (add_ex is (name_ex (q l))))) = C.le-has q G Any bt (number_ex (pos 1)) _ (K.one-met env0 q q-apart)
-            (cell-met false (first_name ns) (add_ex is (name_ex (q l))) (C.name-added q G Any bt l is a)) in
+        (cell-met false (first_name ns) (add_ex is (name_ex (q l))) (C.name-added q G Any bt l is a)) in
         let next : G (le_ex (number_ex (pos 1)) (cell_ex false (first_name ns) (add_ex is (next_ex q l)))) = C.le-has q G Any bt (number_ex (pos 1)) _ (K.one-met env0 q q-apart)
-            (cell-met false (first_name ns) (add_ex is (next_ex q l)) (C.next-added q G Any bt l is a)) in
+        (cell-met false (first_name ns) (add_ex is (next_ex q l)) (C.next-added q G Any bt l is a)) in
         and-met _ _ (N bs)
         (and-met _ _ (N bs) (here env0 q q-apart (C.first-has q G Any bt l size' _ _ size-met' used next) bs)
         (λ w. K.use-met env0 q q-apart l size' (le_ex (number_ex (pos 1)) (cell_ex false (first_name ns) (add_ex is (name_ex (q l))))) (le_ex (number_ex (pos 1)) (cell_ex false (first_name ns) (add_ex is (next_ex q l))))
@@ -197,8 +196,8 @@ module _ (env0 : Env) (q : ℕ → Text) (q-apart : (m l : ℕ) → l < m → sa
           let x = A.shapes-have q G Any bt r d (drop 1 ns) g.2 in
           let cell : G (cell_ex false (first_name ns) is) = cell-met false (first_name ns) is a in
           let le-cell : meaning (le_ex (cell_ex false (first_name ns) is) size') (N bs) ≡ Some (truth (int_le (pos mk.0) (pos S'))) =
-              le-means (N bs) (cell_ex false (first_name ns) is) size' (pos mk.0) (pos S')
-              (cell-means env0 q q-apart false (first_name ns) t is i bs (pos mk.0) p.0 (st [] tt) (ap (cell_at t) (sym (append-nil i)) ∙ mk.1)) (sl bs) in
+          le-means (N bs) (cell_ex false (first_name ns) is) size' (pos mk.0) (pos S')
+          (cell-means env0 q q-apart false (first_name ns) t is i bs (pos mk.0) p.0 (st [] tt) (ap (cell_at t) (sym (append-nil i)) ∙ mk.1)) (sl bs) in
           and-met _ _ (N bs)
           (K.use-met env0 q q-apart l size' (le_ex (name_ex (q l)) (cell_ex false (first_name ns) is)) (le_ex (next_ex q l) (cell_ex false (first_name ns) is))
           (at_most_ex q (suc l) (shapes q size_terms r d (drop 1 ns)) (add_ex is (name_ex (q l))) (add_ex is (next_ex q l))) (shapes q size_terms r d (drop 1 ns)) is _ S' bs (sl bs) size-met'

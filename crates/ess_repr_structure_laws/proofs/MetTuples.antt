@@ -1,5 +1,5 @@
 -- Tables meet the structures of tuples and records: those of each component.
-use Rattle.std.proofs.Common.{◌≡◌, refl, sym, ap, ◌∙◌, subst, ℕ, ◌<◌, Bool, true, false, ◌||◌, List, [], ◌∷◌, ◌++◌, map, take, drop, length, ℤ}
+use Rattle.std.proofs.Common.{◌≡◌, sym, ap, ◌∙◌, subst, ℕ, ◌<◌, Bool, true, false, ◌||◌, List, [], ◌∷◌, ◌++◌, take, drop, length, ℤ}
 use Rattle.std.proofs.lemmas.List.{map-append}
 use Rattle.ess_semantics.specs.declared.words.ReprKind.{ReprKind}
 use Rattle.ess_semantics.specs.Values.{Text, Value}
@@ -12,7 +12,6 @@ use Rattle.ess_semantics.specs.Representations.{width}
 use Rattle.ess_semantics.specs.Declarations.{under, declarations_below, declarations_of_children}
 use Rattle.ess_semantics.specs.Tidy.{over_axes}
 use Rattle.ess_semantics.specs.Meaning.{Env}
-use Rattle.ess_semantics.specs.Meets.{Meets}
 use Rattle.ess_repr_laws.specs.StructureParts.{Shape}
 use Rattle.ess_repr_laws.specs.Structure.{shapes, shapes_of_each, structure, structure_of_each}
 use Rattle.ess_repr_laws.specs.StructureMeaning.{Bound, M, Placed, axes_members, members_of_axes}

@@ -1,6 +1,6 @@
 -- Tables over the declared axes with items in the declared domains meet the structures of views of judged domains, also with the
 -- domain's numbers under their conditions.
-use Rattle.std.proofs.Common.{◌≡◌, refl, sym, ap, ◌∙◌, subst, ℕ, suc, ◌<◌, true, false, ◌&&◌, List, [], ◌∷◌, length, Some}
+use Rattle.std.proofs.Common.{◌≡◌, refl, sym, ap, ◌∙◌, subst, ℕ, ◌<◌, true, false, ◌&&◌, List, [], ◌∷◌, length}
 use Rattle.std.proofs.lemmas.Bool.{eqb-true}
 use Rattle.ess_semantics.specs.Values.{Text}
 use Rattle.ess_semantics.specs.Order.{same_text}
@@ -29,7 +29,7 @@ use Rattle.ess_repr_laws.proofs.StructureFits.{Fit}
 use Rattle.ess_repr_laws.proofs.StructureOf.{StructureOf}
 use Rattle.ess_repr_laws.proofs.TablesWithin.{tables-within}
 use Rattle.ess_repr_declare_laws.specs.SizeTerms.{size_terms}
-use Rattle.ess_repr_structure_laws.specs.Laws.{JudgedView, TablesMeetStructures}
+use Rattle.ess_repr_structure_laws.specs.Laws.{TablesMeetStructures}
 use Rattle.ess_repr_structure_laws.specs.TotalNumbers.{total_numbers, total_dom, total_doms}
 use Rattle.ess_repr_structure_laws.proofs.BuiltStructures as B
 use Rattle.ess_repr_structure_laws.proofs.JudgedViews.{judged-known}
@@ -124,8 +124,8 @@ module _ (env0 : Env) (q : ℕ → Text) (q-apart : (m l : ℕ) → l < m → sa
       let p : Met env0 q q-apart r d e = met-all env0 q q-apart r d e k h (met-good d m) in
       let c = tables-within (declarations r e) ts (axes-differ r e s.covered) o t in
       let x : MetIn (structure q size_terms r d ns l no_exs) (N bs) =
-          p.met false ns ts l no_exs [] bs (s.found ns ts w f) (subst (Fit (declarations r e)) (sym (behind-none (cells_of ts))) (c, filled-exact (declarations r e) ts o t))
-          (ap (λ a. over_axes [] a ts) s.axes ∙ o) (λ cs g. refl) tt in x.met
+      p.met false ns ts l no_exs [] bs (s.found ns ts w f) (subst (Fit (declarations r e)) (sym (behind-none (cells_of ts))) (c, filled-exact (declarations r e) ts o t))
+      (ap (λ a. over_axes [] a ts) s.axes ∙ o) (λ cs g. refl) tt in x.met
 
 -- So structures are met.
 pub structures-met : TablesMeetStructures

@@ -1,10 +1,9 @@
 -- Structures are total, whatever reserved names are bound, where the numbers of the domain are.
-use Rattle.std.proofs.Common.{◌≡◌, refl, sym, ap, ◌∙◌, subst, ℕ, suc, ◌+◌, ◌*◌, ◌^◌, ◌<◌, Bool, true, false, List, [], ◌∷◌, pos}
-use Rattle.ess_semantics.specs.declared.words.Op2.{Op2}
-use Rattle.ess_semantics.specs.Values.{Text, Value}
+use Rattle.std.proofs.Common.{◌≡◌, refl, sym, subst, ℕ, suc, ◌*◌, ◌^◌, ◌<◌, false, List, ◌∷◌, pos}
+use Rattle.ess_semantics.specs.Values.{Text}
 use Rattle.ess_semantics.specs.Order.{same_text}
-use Rattle.ess_semantics.specs.Trees.{Op, Mark, Repr, name_pat, tuple_pat, Ex, Exs, node_ex, no_exs, more_exs, Gens, no_gens, over, from, cond, Dom, Doms, bool_dom, int_dom, name_dom, tuple_dom, record_dom, matrix_dom, set_dom, mset_dom, function_dom, relation_dom, partition_dom, no_doms, more_doms}
-use Rattle.ess_semantics.specs.Meaning.{Env, meaning, domain_of, members_in, with_pat}
+use Rattle.ess_semantics.specs.Trees.{Mark, Repr, name_pat, tuple_pat, Ex, Exs, no_exs, more_exs, Gens, no_gens, over, from, cond, Dom, Doms, bool_dom, int_dom, name_dom, tuple_dom, record_dom, matrix_dom, set_dom, mset_dom, function_dom, relation_dom, partition_dom, no_doms, more_doms}
+use Rattle.ess_semantics.specs.Meaning.{Env, meaning, domain_of, members_in}
 use Rattle.ess_semantics.specs.Totality.{Total, TotalAll, TotalUnder, TotalDom, TotalDoms}
 use Rattle.ess_semantics.proofs.Tests.{and-left}
 use Rattle.ess_guard_laws.proofs.Behind.{safe-total}

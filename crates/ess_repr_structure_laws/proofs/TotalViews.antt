@@ -1,22 +1,11 @@
 -- Structures of views are total, also with the domain's numbers under their conditions, with which they mean the same.
-use Rattle.std.proofs.Common.{◌≡◌, refl, ap, ◌∙◌, ℕ, suc, ◌<◌, true, false, List, [], ◌∷◌, length, Some}
-use Rattle.ess_semantics.specs.Values.{Text, truth}
+use Rattle.std.proofs.Common.{◌≡◌, ◌∙◌, ℕ, ◌<◌, false, Some}
+use Rattle.ess_semantics.specs.Values.{Text}
 use Rattle.ess_semantics.specs.Order.{same_text}
 use Rattle.ess_semantics.specs.Trees.{Repr, no_exs, Dom}
 use Rattle.ess_semantics.specs.Domains.{Domain}
-use Rattle.ess_semantics.specs.Tables.{Tables}
-use Rattle.ess_semantics.specs.Cells.{cells_of}
-use Rattle.ess_semantics.specs.Representations.{width}
-use Rattle.ess_semantics.specs.Declarations.{declarations, axes_of}
-use Rattle.ess_semantics.specs.CanonicalTest.{canonical}
-use Rattle.ess_semantics.specs.Tidy.{over_axes}
-use Rattle.ess_semantics.specs.Meaning.{Env, meaning, domain_of}
-use Rattle.ess_semantics.specs.Totality.{Total, TotalDom}
-use Rattle.ess_guard_laws.specs.Covered.{CoveredDom}
-use Rattle.ess_repr_laws.specs.CanonicalTables.{TablesFit}
-use Rattle.ess_repr_laws.specs.Structure.{structure}
-use Rattle.ess_repr_laws.specs.StructureMeaning.{Bound, M, FoundBy}
-use Rattle.ess_repr_declare_laws.specs.SizeTerms.{size_terms}
+use Rattle.ess_semantics.specs.Meaning.{Env, domain_of}
+use Rattle.ess_repr_laws.specs.StructureMeaning.{Bound, M}
 use Rattle.ess_repr_structure_laws.specs.Laws.{NamesApart, JudgedView, DenotedView, StructuresAreTotal}
 use Rattle.ess_repr_structure_laws.specs.TotalNumbers.{total_dom}
 use Rattle.ess_repr_structure_laws.proofs.DenotedParts.{Denotes}
