@@ -1,28 +1,27 @@
 -- The parts of structures are built of what has a property.
-use Rattle.std.proofs.Common.{◌≡◌, refl, ℕ, suc, Bool, true, false, List, [], ◌∷◌, map, pos, if◌then◌else◌}
+use Rattle.std.proofs.Common.{◌≡◌, refl, ℕ, suc, Bool, true, false, List, [], ◌∷◌, pos}
 use Rattle.ess_semantics.specs.declared.words.Op1.{Op1}
 use Rattle.ess_semantics.specs.declared.words.Op2.{Op2}
 use Rattle.ess_semantics.specs.declared.words.Fun.{Fun}
 use Rattle.ess_semantics.specs.declared.words.Key.{Key}
 use Rattle.ess_semantics.specs.Values.{Text}
-use Rattle.ess_semantics.specs.Meaning.{is_bool_dom}
-use Rattle.ess_semantics.specs.Trees.{Op, binary, index, to_component, word, tuple_literal, both_ends, Mark, flag, valued, name_pat, Ex, Exs, number_ex, truth_ex, name_ex, node_ex, comp_ex, cell_ex, no_exs, more_exs, Gens, no_gens, over, from, cond, Dom, Doms, no_doms, more_doms, int_dom, ex1, ex2, fun1}
-use Rattle.ess_repr_laws.specs.StructureParts.{Shape, add_ex, and_ex, or_ex, implies_ex, le_ex, all_ex, key_ex, size_ex, keys_ex, upto, row_gens, row_index, each_ex, row_ex, less_ex, at_most_ex, out_ex, zero_ex, zeros_ex, over_slots, next_ex, slots_ex, marker_ex, explicit_ex, use_ex, first_ex, true_count_ex, place_count_ex, number_sum_ex, times_of_ex, times_ex, counts_ex, flags_ex, counted_ex, member_count_ex, dummy_ex, occurrence_ex, on_axes}
+use Rattle.ess_semantics.specs.Trees.{binary, Mark, flag, valued, name_pat, Ex, Exs, number_ex, name_ex, comp_ex, cell_ex, no_exs, more_exs, Gens, no_gens, over, cond, Dom, ex1, ex2, fun1}
+use Rattle.ess_repr_laws.specs.StructureParts.{Shape, add_ex, and_ex, or_ex, implies_ex, le_ex, all_ex, key_ex, size_ex, keys_ex, upto, row_gens, row_index, each_ex, row_ex, less_ex, at_most_ex, out_ex, zero_ex, zeros_ex, over_slots, next_ex, slots_ex, marker_ex, explicit_ex, use_ex, first_ex, true_count_ex, place_count_ex, number_sum_ex, times_of_ex, times_ex, counts_ex, flags_ex, counted_ex, member_count_ex, dummy_ex, occurrence_ex}
 use Rattle.ess_repr_structure_laws.proofs.BuiltStructures as B
 use Rattle.ess_repr_structure_laws.proofs.BuiltStructures.{is_used, BuiltOf, one-has, two-have, word-has, lists-have}
 
 module _ (q : ℕ → Text) (P : Ex → Type 0) (L : Dom → Type 0) (built : BuiltOf q P L) where
   abbrev AllHave : Exs → Type 0
-  AllHave = B.AllHave q P L
+  AllHave = B.AllHave P
 
   abbrev DomHas : Dom → Type 0
-  DomHas = B.DomHas q P L
+  DomHas = B.DomHas P
 
   abbrev ListHas : List Dom → Type 0
-  ListHas = B.ListHas q P L
+  ListHas = B.ListHas P
 
   abbrev GensHave : Gens → Type 0
-  GensHave = B.GensHave q P L
+  GensHave = B.GensHave q P
 
   -- ---- connectives and comparisons
 
@@ -153,36 +152,59 @@ module _ (q : ℕ → Text) (P : Ex → Type 0) (L : Dom → Type 0) (built : Bu
   over-slots-have : (l : ℕ) (size test e : Ex) → P size → P test → P e → P (over_slots q l size test e)
   over-slots-have l size test e s t h = all-has e (over (name_pat (q l)) (upto size) (cond test no_gens)) h ((l, refl), upto-has size s, (t, tt))
 
-  next-has : (l : ℕ) → P (next_ex q l)
+  -- The number of the next slot.
+  pub next-has : (l : ℕ) → P (next_ex q l)
   next-has l = two-have q P L built false Op2.Plus (name_ex (q l)) (number_ex (pos 1)) refl (built.names l) built.one
 
-  next-added : (l : ℕ) (is : Exs) → AllHave is → AllHave (add_ex is (next_ex q l))
+  pub next-added : (l : ℕ) (is : Exs) → AllHave is → AllHave (add_ex is (next_ex q l))
   next-added l is a = add-has is (next_ex q l) a (next-has l)
+
+  rest-of-slots : (l : ℕ) (size test rise out : Ex) → P size → P test → P rise → P out → (zeros : Ex) → P zeros →
+      P (and_ex (over_slots q l size test rise) (over_slots q l size out zeros))
+  rest-of-slots l size test rise out s t r o zeros z = and-has _ _ (over-slots-have l size test rise s t r) (over-slots-have l size out zeros s o z)
+
+  zeros-behind : (l : ℕ) (ss : List Shape) (is : Exs) → ShapesHave ss → AllHave is → P (zeros_ex q (suc l) ss (add_ex is (name_ex (q l))))
+  zeros-behind l ss is x a = zeros-have (suc l) ss (add_ex is (name_ex (q l))) x (name-added l is a)
+
+  -- That a slot's cells are below those of the next one.
+  pub rise-has : (l : ℕ) (ss : List Shape) (is : Exs) → ShapesHave ss → AllHave is → P (less_ex q (suc l) ss (add_ex is (name_ex (q l))) (add_ex is (next_ex q l)))
+  rise-has l ss is x a = less-has (suc l) ss (add_ex is (name_ex (q l))) (add_ex is (next_ex q l)) x (name-added l is a) (next-added l is a)
+
+  -- What is said of slots beside what each one in use holds.
+  abbrev pub slots_rest : ℕ → Ex → Ex → List Shape → Exs → Ex
+  slots_rest l size m ss is =
+      and_ex (over_slots q l size (le_ex (next_ex q l) m) (less_ex q (suc l) ss (add_ex is (name_ex (q l))) (add_ex is (next_ex q l))))
+      (over_slots q l size (ex1 true Op1.Not (le_ex (name_ex (q l)) m)) (zeros_ex q (suc l) ss (add_ex is (name_ex (q l)))))
+
+  pub slots-rest-have : (l : ℕ) (size m : Ex) (ss : List Shape) (is : Exs) → P size → P m → ShapesHave ss → AllHave is → P (slots_rest l size m ss is)
+  slots-rest-have l size m ss is s h x a =
+      rest-of-slots l size (le_ex (next_ex q l) m) _ (ex1 true Op1.Not (le_ex (name_ex (q l)) m)) s (le-has (next_ex q l) m (next-has l) h) (rise-has l ss is x a)
+      (not-has (le_ex (name_ex (q l)) m) (le-has (name_ex (q l)) m (built.names l) h)) _ (zeros-behind l ss is x a)
 
   pub slots-have : (l : ℕ) (size m : Ex) (ss : List Shape) (is : Exs) (part : Ex) → P size → P m → ShapesHave ss → AllHave is → P part → P (slots_ex q l size m ss is part)
   slots-have l size m ss is part s h x a p =
-      let used : P (le_ex (name_ex (q l)) m) = le-has (name_ex (q l)) m (built.names l) h in
-      and-has _ _ (over-slots-have l size (le_ex (name_ex (q l)) m) part s used p)
-      (and-has _ _
-      (over-slots-have l size (le_ex (next_ex q l) m) (less_ex q (suc l) ss (add_ex is (name_ex (q l))) (add_ex is (next_ex q l))) s (le-has (next_ex q l) m (next-has l) h)
-      (less-has (suc l) ss (add_ex is (name_ex (q l))) (add_ex is (next_ex q l)) x (name-added l is a) (next-added l is a)))
-      (over-slots-have l size (ex1 true Op1.Not (le_ex (name_ex (q l)) m)) (zeros_ex q (suc l) ss (add_ex is (name_ex (q l)))) s (not-has (le_ex (name_ex (q l)) m) used)
-      (zeros-have (suc l) ss (add_ex is (name_ex (q l))) x (name-added l is a))))
+      and-has _ _ (over-slots-have l size (le_ex (name_ex (q l)) m) part s (le-has (name_ex (q l)) m (built.names l) h) p) (slots-rest-have l size m ss is s h x a)
+
+  -- The same where it is said of each slot that it is in use.
+  abbrev pub use_rest : ℕ → Ex → Ex → Ex → Ex → List Shape → Exs → Ex
+  use_rest l size here next rise ss is =
+      and_ex (over_slots q l size (le_ex (next_ex q l) size) (implies_ex next rise))
+      (over_slots q l size (ex1 true Op1.Not here) (zeros_ex q (suc l) ss (add_ex is (name_ex (q l)))))
+
+  pub use-rest-have : (l : ℕ) (size here next rise : Ex) (ss : List Shape) (is : Exs) → P size → P here → P next → P rise → ShapesHave ss → AllHave is →
+      P (use_rest l size here next rise ss is)
+  use-rest-have l size here next rise ss is s h n r x a =
+      rest-of-slots l size (le_ex (next_ex q l) size) (implies_ex next rise) (ex1 true Op1.Not here) s (le-has (next_ex q l) size (next-has l) s) (implies-has next rise n r) (not-has here h) _
+      (zeros-behind l ss is x a)
 
   use-has : (l : ℕ) (size here next rise : Ex) (ss : List Shape) (is : Exs) (part : Ex) → P size → P here → P next → P rise → ShapesHave ss → AllHave is → P part →
       P (use_ex q l size here next rise ss is part)
-  use-has l size here next rise ss is part s h n r x a p =
-      and-has _ _ (over-slots-have l size here part s h p)
-      (and-has _ _ (over-slots-have l size (le_ex (next_ex q l) size) (implies_ex next rise) s (le-has (next_ex q l) size (next-has l) s) (implies-has next rise n r))
-      (over-slots-have l size (ex1 true Op1.Not here) (zeros_ex q (suc l) ss (add_ex is (name_ex (q l)))) s (not-has here h)
-      (zeros-have (suc l) ss (add_ex is (name_ex (q l))) x (name-added l is a))))
+  use-has l size here next rise ss is part s h n r x a p = and-has _ _ (over-slots-have l size here part s h p) (use-rest-have l size here next rise ss is s h n r x a)
 
-  first-has : (l : ℕ) (size here next : Ex) → P size → P here → P next → P (first_ex q l size here next)
+  -- That slots in use stand first.
+  pub first-has : (l : ℕ) (size here next : Ex) → P size → P here → P next → P (first_ex q l size here next)
   first-has l size here next s h n =
       over-slots-have l size (le_ex (next_ex q l) size) (implies_ex next here) s (le-has (next_ex q l) size (next-has l) s) (implies-has next here n h)
-
-  rise-has : (l : ℕ) (ss : List Shape) (is : Exs) → ShapesHave ss → AllHave is → P (less_ex q (suc l) ss (add_ex is (name_ex (q l))) (add_ex is (next_ex q l)))
-  rise-has l ss is x a = less-has (suc l) ss (add_ex is (name_ex (q l))) (add_ex is (next_ex q l)) x (name-added l is a) (next-added l is a)
 
   -- ---- counts
 

@@ -1,5 +1,5 @@
 -- What structures say of the items of views is built of what has a property.
-use Rattle.std.proofs.Common.{◌≡◌, refl, ℕ, suc, Bool, true, false, List, [], ◌∷◌, map, pos, if◌then◌else◌}
+use Rattle.std.proofs.Common.{refl, ℕ, suc, Bool, true, false, List, [], ◌∷◌, pos, if◌then◌else◌}
 use Rattle.ess_semantics.specs.declared.words.Op1.{Op1}
 use Rattle.ess_semantics.specs.declared.words.Op2.{Op2}
 use Rattle.ess_semantics.specs.declared.words.Fun.{Fun}
@@ -7,10 +7,10 @@ use Rattle.ess_semantics.specs.declared.words.Key.{Key}
 use Rattle.ess_semantics.specs.Values.{Text}
 use Rattle.ess_semantics.specs.Meaning.{is_bool_dom}
 use Rattle.ess_semantics.specs.Kinds.{has_key}
-use Rattle.ess_semantics.specs.Trees.{Op, index, to_component, word, tuple_literal, Repr, Mark, flag, valued, name_pat, Ex, Exs, number_ex, truth_ex, name_ex, node_ex, comp_ex, cell_ex, no_exs, more_exs, Gens, no_gens, over, from, cond, Dom, Doms, no_doms, more_doms, ex1, ex2, fun1}
-use Rattle.ess_repr_laws.specs.StructureParts.{Shape, add_ex, and_ex, or_ex, implies_ex, le_ex, key_ex, size_ex, keys_ex, row_index, each_ex, place_count_ex, true_count_ex, zeros_ex, level_behind}
+use Rattle.ess_semantics.specs.Trees.{index, to_component, word, tuple_literal, Repr, Mark, flag, valued, Ex, Exs, number_ex, truth_ex, name_ex, node_ex, cell_ex, no_exs, more_exs, Dom, Doms, no_doms, more_doms, ex1, ex2}
+use Rattle.ess_repr_laws.specs.StructureParts.{Shape, and_ex, or_ex, le_ex, keys_ex, row_index, each_ex, place_count_ex, true_count_ex, level_behind}
 use Rattle.ess_repr_laws.specs.ViewParts.{component_ex, every_item_ex, components_differ_ex, all_taken_ex, pair_key_ex, exact_size_ex, total_size_ex, pairs_ex, times_held_ex, one_size_ex, regular_key_ex, parts_ex}
-use Rattle.ess_repr_laws.specs.RelationParts.{has_pair_ex, first_ex, second_ex, turned_ex, parts_same_ex, linked_ex, pair_relation_key_ex, relation_key_ex, relation_ex}
+use Rattle.ess_repr_laws.specs.RelationParts.{has_pair_ex, first_ex, second_ex, turned_ex, parts_same_ex, pair_relation_key_ex, relation_key_ex, relation_ex}
 use Rattle.ess_repr_laws.specs.FunctionParts.{is_one_cell, differ_ex, value_key_ex, total_ex, flag_key_ex, partial_ex}
 use Rattle.ess_repr_laws.specs.MultisetParts.{freq_ex, occurs_key_ex, occurs_ex}
 use Rattle.ess_repr_laws.specs.PartitionParts.{part_number_ex, after_ex, numbered_on_ex, taken_ex, each_size_ex, part_key_ex, part_sizes_ex, numbered_ex}
@@ -20,13 +20,13 @@ use Rattle.ess_repr_structure_laws.proofs.BuiltParts as C
 
 module _ (q : ℕ → Text) (P : Ex → Type 0) (L : Dom → Type 0) (built : BuiltOf q P L) where
   abbrev AllHave : Exs → Type 0
-  AllHave = B.AllHave q P L
+  AllHave = B.AllHave P
 
   abbrev DomHas : Dom → Type 0
-  DomHas = B.DomHas q P L
+  DomHas = B.DomHas P
 
   abbrev ListHas : List Dom → Type 0
-  ListHas = B.ListHas q P L
+  ListHas = B.ListHas P
 
   abbrev ShapesHave : List Shape → Type 0
   ShapesHave = C.ShapesHave q P L built
@@ -57,7 +57,8 @@ module _ (q : ℕ → Text) (P : Ex → Type 0) (L : Dom → Type 0) (built : Bu
   every-has : (l : ℕ) (e test : Ex) → P e → P test → P (every_item_ex q l e test)
   every-has l e test h t = C.all-has q P L built test _ t ((l, refl), h, tt)
 
-  differ-has : (l : ℕ) (d : Dom) (k : ℕ) (e : Ex) → P e → P (components_differ_ex q l d k e)
+  -- That components differ.
+  pub differ-has : (l : ℕ) (d : Dom) (k : ℕ) (e : Ex) → P e → P (components_differ_ex q l d k e)
   differ-has l d k e h = C.differ-has q P L built _ _ (component-has d k (name_ex (q l)) (name-has l)) ((l, refl), h, tt)
 
   taken-has : (l : ℕ) (c : Dom) (e : Ex) → DomHas c → P e → P (all_taken_ex q l c e)
@@ -145,11 +146,11 @@ module _ (q : ℕ → Text) (P : Ex → Type 0) (L : Dom → Type 0) (built : Bu
       (has-pair-has e (first_ex q l d) (second_ex q (suc l) c) h (first-has l d) (second-has (suc l) c))))
   pair-relation-key-has l d c e _ x h = built.truths true
 
-  pub relation-key-has : (l : ℕ) (ds : Doms) (e : Ex) (k : Key) → B.DomsHave q P L ds → P e → P (relation_key_ex q l ds e k)
+  pub relation-key-has : (l : ℕ) (ds : Doms) (e : Ex) (k : Key) → B.DomsHave P ds → P e → P (relation_key_ex q l ds e k)
   relation-key-has l (more_doms d (more_doms c no_doms)) e k x h = pair-relation-key-has l d c e k x.0 h
   relation-key-has l _ e k x h = built.truths false
 
-  pub relation-has : (l : ℕ) (ms : List Mark) (es : Exs) (ds : Doms) (as' : List Dom) (n : Text) (is : Exs) (e : Ex) → AllHave es → ListHas as' → AllHave is → B.DomsHave q P L ds → P e →
+  pub relation-has : (l : ℕ) (ms : List Mark) (es : Exs) (ds : Doms) (as' : List Dom) (n : Text) (is : Exs) (e : Ex) → AllHave es → ListHas as' → AllHave is → B.DomsHave P ds → P e →
       P (relation_ex q l ms es ds as' n is e)
   relation-has l ms es ds as' n is e g x a y h =
       and-has _ _ (C.size-has q P L built ms es (true_count_ex q l as' n is) g (C.true-count-has q P L built l as' n is x a))
@@ -157,7 +158,8 @@ module _ (q : ℕ → Text) (P : Ex → Type 0) (L : Dom → Type 0) (built : Bu
 
   -- ---- functions over cells
 
-  differ-cells-have : (l : ℕ) (as' : List Dom) (ss : List Shape) (is : Exs) → ListHas as' → AllHave is → P (differ_ex q l as' ss is)
+  -- That cells differ.
+  pub differ-cells-have : (l : ℕ) (as' : List Dom) (ss : List Shape) (is : Exs) → ListHas as' → AllHave is → P (differ_ex q l as' ss is)
   differ-cells-have l as' (s ∷ []) is x a = C.differ-has q P L built _ _ (C.cell-has q P L built s.truth s.name l as' is a) (C.row-gens-have q P L built l as' x)
   differ-cells-have l as' _ is x a = built.truths false
 
@@ -240,7 +242,18 @@ module _ (q : ℕ → Text) (P : Ex → Type 0) (L : Dom → Type 0) (built : Bu
   part-sizes-have l n e (valued k ∷ ks) no_exs f h a = built.truths true
   part-sizes-have l n e (valued k ∷ ks) (more_exs m ms) f h a = and-has _ _ (part-key-has l n e k m f h a.0) (part-sizes-have l n e ks ms f h a.1)
 
+  -- That parts are numbered.
+  abbrev pub numbers_of : ℕ → Dom → Ex → Text → Exs → Ex
+  numbers_of l d n w is = and_ex (each_ex q l (d ∷ []) (numbered_on_ex q l d n w is)) (taken_ex q l d n w is)
+
+  pub numbers-have : (l : ℕ) (d : Dom) (n : Ex) (w : Text) (is : Exs) → DomHas d → P n → AllHave is → P (numbers_of l d n w is)
+  numbers-have l d n w is x f a =
+      and-has _ _ (C.each-has q P L built l (d ∷ []) _ (x, tt) (numbered-on-has l d n w is x f a)) (number-taken-has l d n w is x f a)
+
+  -- What attributes ask of the parts of a view.
+  pub part-attributes-have : (l : ℕ) (ks : List Mark) (ms : Exs) (n e : Ex) → AllHave ms → P n → P e → P (and_ex (part_sizes_ex q l n e ks ms) (keys_ex (regular_key_ex (one_size_ex q l e)) ks))
+  part-attributes-have l ks ms n e g f h =
+      and-has _ _ (part-sizes-have l n e ks ms f h g) (C.keys-have q P L built (regular_key_ex (one_size_ex q l e)) ks (λ k. regular-has (one_size_ex q l e) k (one-size-has l e h)))
+
   pub numbered-has : (l : ℕ) (ks : List Mark) (ms : Exs) (d : Dom) (n : Ex) (w : Text) (is : Exs) (e : Ex) → AllHave ms → DomHas d → P n → AllHave is → P e → P (numbered_ex q l ks ms d n w is e)
-  numbered-has l ks ms d n w is e g x f a h =
-      and-has _ _ (and-has _ _ (C.each-has q P L built l (d ∷ []) _ (x, tt) (numbered-on-has l d n w is x f a)) (number-taken-has l d n w is x f a))
-      (and-has _ _ (part-sizes-have l n e ks ms f h g) (C.keys-have q P L built (regular_key_ex (one_size_ex q l e)) ks (λ k. regular-has (one_size_ex q l e) k (one-size-has l e h))))
+  numbered-has l ks ms d n w is e g x f a h = and-has _ _ (numbers-have l d n w is x f a) (part-attributes-have l ks ms n e g f h)

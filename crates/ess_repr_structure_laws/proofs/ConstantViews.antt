@@ -1,11 +1,11 @@
 -- Each number that the structure of a view spells is one of its domain, or 0, 1 or 2.
-use Rattle.std.proofs.Common.{◌≡◌, refl, ap, Bool, true, false, ◌||◌, List, [], ◌∷◌, ◌++◌, ℕ, ℤ, pos}
+use Rattle.std.proofs.Common.{◌≡◌, refl, true, false, List, [], ◌∷◌, ◌++◌, ℤ, pos}
 use Rattle.std.specs.List.{list_any}
 use Rattle.ess_semantics.specs.Values.{Text}
 use Rattle.ess_semantics.specs.Order.{same_int}
 use Rattle.ess_semantics.specs.Contexts.{Each}
 use Rattle.ess_semantics.specs.Constants.{tree_constants, operand_constants, constants_of_tree, among_constants, dom_constants, doms_constants}
-use Rattle.ess_semantics.specs.Trees.{Repr, Ex, Exs, no_exs, more_exs, Dom, Doms, bool_dom, int_dom, name_dom, tuple_dom, record_dom, matrix_dom, set_dom, mset_dom, function_dom, relation_dom, partition_dom, no_doms, more_doms}
+use Rattle.ess_semantics.specs.Trees.{Ex, Exs, no_exs, more_exs, Dom, Doms, bool_dom, int_dom, name_dom, tuple_dom, record_dom, matrix_dom, set_dom, mset_dom, function_dom, relation_dom, partition_dom, no_doms, more_doms}
 use Rattle.ess_rules_laws.proofs.Bindings.{each-map}
 use Rattle.ess_guard_laws.specs.Conditions.{summed}
 use Rattle.ess_guard_laws.specs.Guard.{there, make_total}

@@ -1,11 +1,11 @@
 -- What a domain that denotes one without attribute values below 0 says of its parts: they denote such domains, and sizes read numbers.
-use Rattle.std.proofs.Common.{◌≡◌, refl, ap, ◌∙◌, ℕ, true, ◌&&◌, List, pos, Some, option_map}
+use Rattle.std.proofs.Common.{◌≡◌, ap, ◌∙◌, ℕ, true, ◌&&◌, List, pos, Some, option_map}
 use Rattle.ess_semantics.specs.Lists.{and_then}
 use Rattle.ess_semantics.specs.Values.{Text}
-use Rattle.ess_semantics.specs.Domains.{Attribute, Domain, Domains, booleans, integers, tuples, records, matrices, sets, msets, functions, relations, partitions, no_domains, more_domains}
+use Rattle.ess_semantics.specs.Domains.{Domain, Domains, integers, tuples, records, matrices, sets, msets, functions, relations, partitions, more_domains}
 use Rattle.ess_semantics.specs.Membership.{no_negative_attribute, each_layer_of_all}
 use Rattle.ess_semantics.specs.Sizes.{bound, occurrences}
-use Rattle.ess_semantics.specs.Trees.{Ends, Mark, Ex, Exs, Dom, Doms, bool_dom, int_dom, name_dom, tuple_dom, record_dom, matrix_dom, set_dom, mset_dom, function_dom, relation_dom, partition_dom, no_doms, more_doms}
+use Rattle.ess_semantics.specs.Trees.{Ends, Mark, Ex, Exs, Dom, Doms, int_dom, name_dom, tuple_dom, record_dom, matrix_dom, set_dom, mset_dom, function_dom, relation_dom, partition_dom, more_doms}
 use Rattle.ess_semantics.specs.Meaning.{Env, meanings, spans_of, attributes_of, domain_of, domains_of}
 use Rattle.ess_semantics.proofs.Tests.{and-left, and-right}
 use Rattle.ess_repr_declare_laws.specs.SizeTerms.{count_ex, listed_ex, occurrences_ex}

@@ -20,6 +20,7 @@ pub mod JudgedViews
 pub mod BuiltStructures
 pub mod BuiltParts
 pub mod BuiltViews
+pub mod BuiltSizes
 pub mod BuiltAll
 -- Structures are total
 pub mod DenotedParts
@@ -31,3 +32,12 @@ pub mod TotalTerms
 pub mod ConstantStructures
 pub mod ConstantViews
 pub mod TotalViews
+-- Tables meet structures
+pub mod MetParts
+pub mod MetLayers
+pub mod MetKinds
+pub mod MetSlots
+pub mod MetFunctions
+pub mod MetTuples
+pub mod MetAll
+pub mod MetViews

@@ -1,5 +1,5 @@
 -- Relations, functions and partitions are ready that are kept as a matrix, as a set, as a relation or by part numbers.
-use Rattle.std.proofs.Common.{◌≡◌, refl, sym, ap, ℕ, ◌<◌, Bool, true, false, ◌&&◌, if◌then◌else◌, List, [], ◌∷◌, pos, int_le, Option, Some, None, option_map, arith}
+use Rattle.std.proofs.Common.{◌≡◌, refl, ap, ℕ, ◌<◌, Bool, true, false, ◌&&◌, if◌then◌else◌, List, [], ◌∷◌, pos, int_le, Option, Some, None, option_map, arith}
 use Rattle.std.proofs.lemmas.Bool.{le-leb}
 use Rattle.ess_semantics.specs.declared.words.ReprKind.{ReprKind}
 use Rattle.ess_semantics.specs.declared.words.Key.{Key}
@@ -13,7 +13,6 @@ use Rattle.ess_semantics.specs.Trees.{Mark, Repr, repr, no_reprs, more_reprs, Ex
 use Rattle.ess_semantics.specs.Domains.{Attribute, Domain, Domains, functions, relations, partitions, no_domains, more_domains, attribute, has}
 use Rattle.ess_semantics.specs.Meaning.{Env, domain_of, domains_of}
 use Rattle.ess_semantics.proofs.Tests.{and-left, and-right, and-both}
-use Rattle.ess_repr_laws.specs.Finite.{FiniteAtoms}
 use Rattle.ess_repr_laws.specs.RelationParts.{bare_relation_dom}
 use Rattle.ess_repr_laws.specs.StructureParts.{tuple_set_dom}
 use Rattle.ess_repr_laws.specs.ViewParts.{pair_relation_dom, part_set_dom}

@@ -1,13 +1,13 @@
 -- A domain with its numbers under their conditions has the form that it had: it is judged as it was, and the same representations fit.
-use Rattle.std.proofs.Common.{◌≡◌, refl, sym, ap, ◌∙◌, Bool, true, false, ◌&&◌, ◌||◌, if◌then◌else◌, List, [], ◌∷◌, ◌++◌, map, Option, Some, None, option_map, is_some}
+use Rattle.std.proofs.Common.{◌≡◌, refl, ap, ◌∙◌, Bool, true, false, ◌&&◌, ◌||◌, if◌then◌else◌, List, [], ◌∷◌, ◌++◌, map, Option, Some, None, option_map, is_some}
 use Rattle.std.specs.List.{list_all}
 use Rattle.ess_semantics.specs.declared.words.Key.{Key}
 use Rattle.ess_semantics.specs.declared.words.ReprKind.{ReprKind}
 use Rattle.ess_semantics.specs.Values.{Text, a_tuple, a_record, a_matrix, a_set, a_mset, a_function, a_relation, a_partition}
 use Rattle.ess_semantics.specs.Types.{Ty, compound, compound1, compound2, more_tys, join, type_of_dom, types_of_doms, nested_ty}
-use Rattle.ess_semantics.specs.Kinds.{dom_list, has_key, is_bounded, is_atom, is_one_cell, has_dummy, are_atoms, is_atom_tuple, child_forms, fits, all_fit}
-use Rattle.ess_semantics.specs.DomainJudgements.{size_keys, marks_among, marks_distinct, marks_fit, is_finite, are_finite, is_enumerable, are_enumerable, listed_domains, needs_known_slots, all_need_known_slots, bounds_occurrences}
-use Rattle.ess_semantics.specs.Trees.{both_ends, Mark, Repr, Reprs, repr, no_reprs, more_reprs, Exs, no_exs, more_exs, Dom, Doms, bool_dom, int_dom, name_dom, tuple_dom, record_dom, matrix_dom, set_dom, mset_dom, function_dom, relation_dom, partition_dom, no_doms, more_doms}
+use Rattle.ess_semantics.specs.Kinds.{dom_list, has_key, is_atom, is_one_cell, has_dummy, are_atoms, is_atom_tuple, child_forms, fits, all_fit}
+use Rattle.ess_semantics.specs.DomainJudgements.{size_keys, marks_among, marks_distinct, marks_fit, is_finite, are_finite, is_enumerable, are_enumerable, needs_known_slots, all_need_known_slots, bounds_occurrences}
+use Rattle.ess_semantics.specs.Trees.{both_ends, Mark, Repr, Reprs, repr, no_reprs, more_reprs, Exs, Dom, Doms, bool_dom, int_dom, name_dom, tuple_dom, record_dom, matrix_dom, set_dom, mset_dom, function_dom, relation_dom, partition_dom, no_doms, more_doms}
 use Rattle.ess_repr_structure_laws.specs.OrderlyDomains.{LayerIsOrderly, Orderly, AllOrderly}
 use Rattle.ess_repr_structure_laws.specs.TotalNumbers.{total_numbers, total_dom, total_doms}
 

@@ -1,7 +1,5 @@
 -- The bound of a domain as a term is total, where ranges, named types and multisets have sizes and their numbers are total.
-use Rattle.std.proofs.Common.{◌≡◌, refl, sym, ap, ◌∙◌, ℕ, suc, ◌*◌, ◌^◌, Bool, true, false, if◌then◌else◌, List, [], ◌∷◌, ℤ, pos, Option, Some, None, is_some, option_map}
-use Rattle.std.specs.Prelude.{IsTrue}
-use Rattle.std.specs.List.{list_all}
+use Rattle.std.proofs.Common.{◌≡◌, refl, ℕ, suc, ◌^◌, Bool, true, false, if◌then◌else◌, List, [], ◌∷◌, ℤ, pos, Option, Some, None, is_some}
 use Rattle.std.specs.declared.cmp.Ordering.{Ordering}
 use Rattle.std.specs.declared.cmp.Ordering.TheVariants.{Less, Equal, Greater}
 use Rattle.ess_semantics.specs.declared.words.Op2.{Op2}
@@ -9,12 +7,12 @@ use Rattle.ess_semantics.specs.declared.words.Fun.{Fun}
 use Rattle.ess_semantics.specs.Values.{Value, number}
 use Rattle.ess_semantics.specs.Kinds.{is_bounded}
 use Rattle.ess_semantics.specs.Operators.{value_of_node, false_where_undefined}
-use Rattle.ess_semantics.specs.Trees.{Ends, one_value, both_ends, low_end, high_end, binary, word, matrix_literal, Ex, Exs, number_ex, node_ex, comp_ex, no_exs, more_exs, no_gens, over, name_pat, Dom, Doms, bool_dom, int_dom, name_dom, tuple_dom, record_dom, matrix_dom, set_dom, mset_dom, function_dom, relation_dom, partition_dom, no_doms, more_doms, ex2, fun1}
-use Rattle.ess_semantics.specs.Meaning.{Env, meaning, meanings, as_int, domain_of, members_in}
+use Rattle.ess_semantics.specs.Trees.{Ends, one_value, both_ends, binary, word, matrix_literal, Ex, Exs, comp_ex, no_exs, more_exs, no_gens, over, name_pat, Dom, int_dom}
+use Rattle.ess_semantics.specs.Meaning.{Env, meaning, as_int, domain_of, members_in}
 use Rattle.ess_semantics.specs.Totality.{HasValue, Total, TotalAll, TotalDom}
 use Rattle.ess_guard_laws.proofs.Behind.{safe-total}
 use Rattle.ess_guard_laws.proofs.MetRows.{each-of-always}
-use Rattle.ess_repr_declare_laws.specs.SizeTerms.{zero_ex, one_ex, two_ex, plus_ex, minus_ex, times_ex, power_ex, next_ex, at_least_0_ex, listed_ex, is_numeral, numerals_order, span_ex, span_by, between_ex, is_missing, bound_or_0, count_ex, unused_name}
+use Rattle.ess_repr_declare_laws.specs.SizeTerms.{zero_ex, one_ex, plus_ex, minus_ex, times_ex, power_ex, next_ex, at_least_0_ex, listed_ex, is_numeral, numerals_order, span_ex, span_by, is_missing, bound_or_0, count_ex, unused_name}
 use Rattle.ess_repr_declare_laws.proofs.Readings.{Reads, power-reads}
 
 module _ (env : Env) where

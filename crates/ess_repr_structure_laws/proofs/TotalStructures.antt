@@ -1,10 +1,9 @@
 -- Structures are total, whatever reserved names are bound, where the numbers of the domain are.
-use Rattle.std.proofs.Common.{◌≡◌, refl, sym, ap, ◌∙◌, subst, ℕ, suc, ◌+◌, ◌*◌, ◌^◌, ◌<◌, Bool, true, false, List, [], ◌∷◌, pos}
-use Rattle.ess_semantics.specs.declared.words.Op2.{Op2}
-use Rattle.ess_semantics.specs.Values.{Text, Value}
+use Rattle.std.proofs.Common.{◌≡◌, refl, sym, subst, ℕ, suc, ◌*◌, ◌^◌, ◌<◌, false, List, ◌∷◌, pos}
+use Rattle.ess_semantics.specs.Values.{Text}
 use Rattle.ess_semantics.specs.Order.{same_text}
-use Rattle.ess_semantics.specs.Trees.{Op, Mark, Repr, name_pat, tuple_pat, Ex, Exs, node_ex, no_exs, more_exs, Gens, no_gens, over, from, cond, Dom, Doms, bool_dom, int_dom, name_dom, tuple_dom, record_dom, matrix_dom, set_dom, mset_dom, function_dom, relation_dom, partition_dom, no_doms, more_doms}
-use Rattle.ess_semantics.specs.Meaning.{Env, meaning, domain_of, members_in, with_pat}
+use Rattle.ess_semantics.specs.Trees.{Mark, Repr, name_pat, tuple_pat, Ex, Exs, no_exs, more_exs, Gens, no_gens, over, from, cond, Dom, Doms, bool_dom, int_dom, name_dom, tuple_dom, record_dom, matrix_dom, set_dom, mset_dom, function_dom, relation_dom, partition_dom, no_doms, more_doms}
+use Rattle.ess_semantics.specs.Meaning.{Env, meaning, domain_of, members_in}
 use Rattle.ess_semantics.specs.Totality.{Total, TotalAll, TotalUnder, TotalDom, TotalDoms}
 use Rattle.ess_semantics.proofs.Tests.{and-left}
 use Rattle.ess_guard_laws.proofs.Behind.{safe-total}
@@ -39,13 +38,13 @@ module _ (env0 : Env) (q : ℕ → Text) (q-apart : (m l : ℕ) → l < m → sa
   Sized _ = Unit {0}
 
   abbrev AllHave : Exs → Type 0
-  AllHave = B.AllHave q T Sized
+  AllHave = B.AllHave T
 
   abbrev Good : Dom → Type 0
-  Good = B.Good q T Sized
+  Good = B.Good T Sized
 
   abbrev AllGood : Doms → Type 0
-  AllGood = B.AllGood q T Sized
+  AllGood = B.AllGood T Sized
 
   -- ---- what structures are built of
 
@@ -54,7 +53,7 @@ module _ (env0 : Env) (q : ℕ → Text) (q-apart : (m l : ℕ) → l < m → sa
   all-total (more_exs e es) a bs = (a.0 bs, all-total es a.1 bs)
 
   mutual
-    dom-total : (d : Dom) → B.DomHas q T Sized d → (bs : Names) → TotalDom d (N bs)
+    dom-total : (d : Dom) → B.DomHas T d → (bs : Names) → TotalDom d (N bs)
     dom-total bool_dom h bs = tt
     dom-total (int_dom rs es) h bs = all-total es h bs
     dom-total (name_dom a) h bs = tt
@@ -67,11 +66,11 @@ module _ (env0 : Env) (q : ℕ → Text) (q-apart : (m l : ℕ) → l < m → sa
     dom-total (relation_dom ms es ds) h bs = (all-total es h.0 bs, doms-total ds h.1 bs)
     dom-total (partition_dom ms es d) h bs = (all-total es h.0 bs, dom-total d h.1 bs)
 
-    doms-total : (ds : Doms) → B.DomsHave q T Sized ds → (bs : Names) → TotalDoms ds (N bs)
+    doms-total : (ds : Doms) → B.DomsHave T ds → (bs : Names) → TotalDoms ds (N bs)
     doms-total no_doms h bs = tt
     doms-total (more_doms d ds) h bs = (dom-total d h.0 bs, doms-total ds h.1 bs)
 
-  under-total : (gs : Gens) (e : Ex) → T e → B.GensHave q T Sized gs → (bs : Names) → TotalUnder gs (N bs) (λ here. Total e here)
+  under-total : (gs : Gens) (e : Ex) → T e → B.GensHave q T gs → (bs : Names) → TotalUnder gs (N bs) (λ here. Total e here)
   under-total no_gens e t h bs = t bs
   under-total (over (name_pat a) d gs) e t h bs =
       subst (λ n. TotalUnder (over (name_pat n) d gs) (N bs) (λ here. Total e here)) (sym h.0.1)
@@ -107,7 +106,7 @@ module _ (env0 : Env) (q : ℕ → Text) (q-apart : (m l : ℕ) → l < m → sa
   two-power b bs h = let y : Natural b (N bs) = h.natural in power-is two_ex b 1 y.number bs refl y.reads tt h.total
 
   occurrences-total : (ms : List Mark) (es : Exs) → AllHave es → (bs : Names) → Total (occurrences_ex ms es) (N bs)
-  occurrences-total ms es a bs = B.occurrences-may q T Sized ms es a (λ cs. tt) bs
+  occurrences-total ms es a bs = B.occurrences-may T ms es a (λ cs. tt) bs
 
   mutual
     bound-is : (d : Dom) → Good d → (bs : Names) → BoundIs (bound_ex d) bs
@@ -149,7 +148,6 @@ module _ (env0 : Env) (q : ℕ → Text) (q-apart : (m l : ℕ) → l < m → sa
     nodes = λ b op es u a bs. safe-total b op es (N bs) (and-left (is_safe op) (counts_nothing op) u) (all-total es a bs);
     comps = λ e gs t h bs. under-total gs e t h bs;
     cells = λ b n es a bs. all-total es a bs;
-    views = λ r d ns es h a bs. tt;
     bounds = λ d g bs. let b : BoundIs (bound_ex d) bs = bound-is d g bs in b.total;
     listed = λ a g bs. listed-total (N bs) (name_dom a) tt;
   }
@@ -210,4 +208,4 @@ module _ (env0 : Env) (q : ℕ → Text) (q-apart : (m l : ℕ) → l < m → sa
 
   -- The structure of such a domain is total.
   pub structure-total : (r : Repr) (d : Dom) (ns : List Text) (l : ℕ) (is : Exs) → Able d → AllHave is → T (structure q size_terms r d ns l is)
-  structure-total r d ns l is h a = structure-has q T Sized built-total r d ns l is (able-good d h) a
+  structure-total r d ns l is h a = structure-has q T Sized built-total (λ r d ns es h a bs. tt) r d ns l is (able-good d h) a

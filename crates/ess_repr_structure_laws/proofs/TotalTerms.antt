@@ -1,6 +1,6 @@
 -- Numbers under their conditions read what they read where they have a value, are numbers, and are total where they are covered. So a
 -- domain with its numbers under their conditions denotes what it denoted.
-use Rattle.std.proofs.Common.{◌≡◌, refl, sym, ap, ◌∙◌, Bool, true, false, if◌then◌else◌, List, [], ◌∷◌, ℤ, pos, ◌+ℤ◌, Option, Some, None, is_some, option_map}
+use Rattle.std.proofs.Common.{◌≡◌, refl, sym, ap, ◌∙◌, true, false, if◌then◌else◌, List, [], ◌∷◌, ℤ, Option, Some, None, is_some, option_map}
 use Rattle.std.proofs.Math.IntN.{+ℤ_idr}
 use Rattle.ess_semantics.specs.declared.words.Fun.{Fun}
 use Rattle.ess_semantics.specs.Lists.{and_then}

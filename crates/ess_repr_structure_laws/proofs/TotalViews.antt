@@ -1,22 +1,11 @@
 -- Structures of views are total, also with the domain's numbers under their conditions, with which they mean the same.
-use Rattle.std.proofs.Common.{◌≡◌, refl, ap, ◌∙◌, ℕ, suc, ◌<◌, true, false, List, [], ◌∷◌, length, Some}
-use Rattle.ess_semantics.specs.Values.{Text, truth}
+use Rattle.std.proofs.Common.{◌≡◌, ◌∙◌, ℕ, ◌<◌, false, Some}
+use Rattle.ess_semantics.specs.Values.{Text}
 use Rattle.ess_semantics.specs.Order.{same_text}
 use Rattle.ess_semantics.specs.Trees.{Repr, no_exs, Dom}
 use Rattle.ess_semantics.specs.Domains.{Domain}
-use Rattle.ess_semantics.specs.Tables.{Tables}
-use Rattle.ess_semantics.specs.Cells.{cells_of}
-use Rattle.ess_semantics.specs.Representations.{width}
-use Rattle.ess_semantics.specs.Declarations.{declarations, axes_of}
-use Rattle.ess_semantics.specs.CanonicalTest.{canonical}
-use Rattle.ess_semantics.specs.Tidy.{over_axes}
-use Rattle.ess_semantics.specs.Meaning.{Env, meaning, domain_of}
-use Rattle.ess_semantics.specs.Totality.{Total, TotalDom}
-use Rattle.ess_guard_laws.specs.Covered.{CoveredDom}
-use Rattle.ess_repr_laws.specs.CanonicalTables.{TablesFit}
-use Rattle.ess_repr_laws.specs.Structure.{structure}
-use Rattle.ess_repr_laws.specs.StructureMeaning.{Bound, M, FoundBy}
-use Rattle.ess_repr_declare_laws.specs.SizeTerms.{size_terms}
+use Rattle.ess_semantics.specs.Meaning.{Env, domain_of}
+use Rattle.ess_repr_laws.specs.StructureMeaning.{Bound, M}
 use Rattle.ess_repr_structure_laws.specs.Laws.{NamesApart, JudgedView, DenotedView, StructuresAreTotal}
 use Rattle.ess_repr_structure_laws.specs.TotalNumbers.{total_dom}
 use Rattle.ess_repr_structure_laws.proofs.DenotedParts.{Denotes}
@@ -41,7 +30,7 @@ module _ (env0 : Env) (q : ℕ → Text) (q-apart : (m l : ℕ) → l < m → sa
   denoted-total x y v bs = record { domain = e; means = denoted-kept x y d (N bs) e (denoted v bs); plain = v.plain }
 
   -- What is known of the view is known of it.
-  known-total : (x y : Text) (r : Repr) → Known env0 q q-apart r d e → JudgedView env0 q r d e → Known env0 q q-apart r (total_dom x y d) e
+  pub known-total : (x y : Text) (r : Repr) → Known env0 q q-apart r d e → JudgedView env0 q r d e → Known env0 q q-apart r (total_dom x y d) e
   known-total x y r k v = record {
     sound = orderly-sound (total_dom x y d) env0 e (orderly-kept x y d v.orderly) (denoted-kept x y d env0 e v.denotes);
     fit = fits-kept x y r d ∙ v.fit;

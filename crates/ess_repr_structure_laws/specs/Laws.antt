@@ -14,6 +14,7 @@ use Rattle.ess_semantics.specs.CanonicalTest.{canonical}
 use Rattle.ess_semantics.specs.Tidy.{over_axes}
 use Rattle.ess_semantics.specs.Meaning.{Env, meaning, domain_of}
 use Rattle.ess_semantics.specs.Totality.{Total, TotalDom}
+use Rattle.ess_semantics.specs.Meets.{Meets, MeetsDom}
 use Rattle.ess_semantics.specs.Constants.{constants_of_tree, among_constants, dom_constants}
 use Rattle.ess_semantics.specs.FreeNames.{FreeNamesAreDom}
 use Rattle.ess_semantics.specs.Scopes.{Scope}
@@ -94,3 +95,18 @@ pub record StructuresSpellConstants : Type 0 where
       among_constants (constants_of_tree (structure q size_terms r d ns l no_exs)) (pos 0 ∷ pos 1 ∷ pos 2 ∷ dom_constants d) ≡ true
   pub guarded : (x y : Text) (q : ℕ → Text) (r : Repr) (d : Dom) (ns : List Text) (l : ℕ) → DomLiteralsFit d →
       among_constants (constants_of_tree (structure q size_terms r (total_dom x y d) ns l no_exs)) (pos 0 ∷ pos 1 ∷ pos 2 ∷ dom_constants d) ≡ true
+
+-- Tables that are found by their names, on the declared axes with items in the declared domains, meet the structures of the structure
+-- itself: each of its views is tidy wherever its context holds, where they meet those of the domain's numbers. So they do with the
+-- numbers under their conditions.
+pub record TablesMeetStructures : Type 0 where
+  pub own : (env0 : Env) (q : ℕ → Text) (apart : (m l : ℕ) → l < m → same_text (q m) (q l) ≡ false) (r : Repr) (d : Dom) (e : Domain) →
+      JudgedView env0 q r d e → ((bs : Bound env0 q apart) → MeetsDom d (M env0 q apart bs)) →
+      (ns : List Text) (ts : Tables) (l : ℕ) (bs : Bound env0 q apart) → length ns ≡ width r →
+      FoundBy env0 q apart ns ts → over_axes [] (axes_of r e) ts ≡ true → TablesFit (declarations r e) ts →
+      Meets (structure q size_terms r d ns l no_exs) (M env0 q apart bs)
+  pub guarded : (x y : Text) (env0 : Env) (q : ℕ → Text) (apart : (m l : ℕ) → l < m → same_text (q m) (q l) ≡ false) (r : Repr) (d : Dom)
+      (e : Domain) → JudgedView env0 q r d e → ((bs : Bound env0 q apart) → MeetsDom d (M env0 q apart bs)) →
+      (ns : List Text) (ts : Tables) (l : ℕ) (bs : Bound env0 q apart) → length ns ≡ width r →
+      FoundBy env0 q apart ns ts → over_axes [] (axes_of r e) ts ≡ true → TablesFit (declarations r e) ts →
+      Meets (structure q size_terms r (total_dom x y d) ns l no_exs) (M env0 q apart bs)

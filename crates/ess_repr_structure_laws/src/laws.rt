@@ -1,6 +1,6 @@
 //! Laws of structures of judged domains, each the contract of a function that does nothing.
 
-ghost use Rattle.ess_repr_structure_laws.specs.Laws.{JudgedDomainsAreOrderly, JudgedViewsAreReady, JudgedStructuresMeanCanonical, StructuresAreTotal, StructuresSpellConstants};
+ghost use Rattle.ess_repr_structure_laws.specs.Laws.{JudgedDomainsAreOrderly, JudgedViewsAreReady, JudgedStructuresMeanCanonical, StructuresAreTotal, StructuresSpellConstants, TablesMeetStructures};
 
 /// A domain that meets the judgements is one that the other laws speak of.
 pub fn judged_domains_are_orderly()
@@ -26,4 +26,9 @@ pub fn structures_are_total()
 /// The structure constraint of a view spells no numbers but those of its domain, 0, 1 and 2.
 pub fn structures_spell_constants()
     ensures { StructuresSpellConstants }
+{}
+
+/// Tables on the declared axes with items in the declared domains meet the structures of the structure constraint.
+pub fn tables_meet_structures()
+    ensures { TablesMeetStructures }
 {}
