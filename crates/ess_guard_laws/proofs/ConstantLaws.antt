@@ -21,14 +21,16 @@ use Rattle.ess_guard_laws.proofs.ConstantsKept.{kept, asked}
 abbrev pub Is : List ℤ → ℤ → Type 0
 Is ms n = list_any (same_int n) ms ≡ true
 
-each-itself : (ns : List ℤ) → Each ns (Is ns)
+-- Each of these numbers is one of them.
+pub each-itself : (ns : List ℤ) → Each ns (Is ns)
 each-itself [] = tt
 each-itself (n ∷ ns) = (
   ap (λ b. b || list_any (same_int n) ns) (same_int-itself n),
   each-map ns (Is ns) (Is (n ∷ ns)) (λ k p. later (same_int k n) (list_any (same_int k) ns) p) (each-itself ns),
 )
 
-among : (ns ms : List ℤ) → Each ns (Is ms) → among_constants ns ms ≡ true
+-- Numbers each of which is one of these.
+pub among : (ns ms : List ℤ) → Each ns (Is ms) → among_constants ns ms ≡ true
 among [] ms p = refl
 among (n ∷ ns) ms p = and-both (list_any (same_int n) ms) (among_constants ns ms) p.0 (among ns ms p.1)
 

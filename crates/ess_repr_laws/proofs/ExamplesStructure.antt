@@ -19,7 +19,7 @@ use Rattle.ess_semantics.specs.Meaning.{Env, meaning}
 use Rattle.ess_semantics.specs.Tidy.{over_axes}
 use Rattle.ess_repr_laws.specs.StructureParts.{tuple_set_dom, Terms, and_ex, or_ex, keys_ex}
 use Rattle.ess_repr_laws.specs.FunctionParts.{with_total, flag_key_ex, value_key_ex}
-use Rattle.ess_repr_laws.specs.RelationParts.{diagonal_ex, has_pair_ex, relation_key_ex, matrix_key_ex}
+use Rattle.ess_repr_laws.specs.RelationParts.{has_pair_ex, relation_key_ex, relation_ex}
 use Rattle.ess_repr_laws.specs.MultisetParts.{occurs_ex}
 use Rattle.ess_repr_laws.specs.PartitionParts.{numbered_on_ex, part_key_ex, part_sizes_ex}
 use Rattle.ess_repr_laws.specs.ViewParts.{pair_relation_dom, pairs_ex, total_size_ex, part_set_dom, parts_ex, all_taken_ex, components_differ_ex}
@@ -146,21 +146,26 @@ of-one-component = refl
 pub of-other-key : relation_key_ex name 1 (more_doms bool_dom (more_doms bool_dom no_doms)) (name_ex (codes "e")) Key.Total ≡ truth_ex true
 of-other-key = refl
 
--- A reflexive relation as a matrix is asked of the cells, as a set of the pairs of its view.
-pub of-reflexive-matrix : matrix_key_ex name 1 (more_doms bool_dom (more_doms bool_dom no_doms)) (bool_dom ∷ bool_dom ∷ []) (codes "a")
-    no_exs (name_ex (codes "e")) Key.Reflexive
-    ≡ diagonal_ex name 1 (bool_dom ∷ bool_dom ∷ []) (codes "a") no_exs
+-- A reflexive relation as a matrix: of its view is asked what is asked of each view of one.
+pub of-reflexive-matrix : relation_ex name 1 (flag Key.Reflexive ∷ []) no_exs (more_doms bool_dom (more_doms bool_dom no_doms))
+    (bool_dom ∷ bool_dom ∷ []) (codes "a") no_exs (name_ex (codes "e"))
+    ≡ and_ex (truth_ex true) (and_ex (relation_key_ex name 1 (more_doms bool_dom (more_doms bool_dom no_doms)) (name_ex (codes "e")) Key.Reflexive)
+    (truth_ex true))
 of-reflexive-matrix = refl
 
+-- Each member of the first domain is related to itself.
 pub of-reflexive-set : relation_key_ex name 1 (more_doms bool_dom (more_doms bool_dom no_doms)) (name_ex (codes "e")) Key.Reflexive
     ≡ fun1 true Fun.And (comp_ex (has_pair_ex (name_ex (codes "e")) (name_ex (codes "q")) (name_ex (codes "q")))
     (over (name_pat (codes "q")) bool_dom no_gens))
 of-reflexive-set = refl
 
--- A reflexive relation of truth values: the cell of each with itself is true.
-pub of-reflexive : diagonal_ex name 1 (bool_dom ∷ bool_dom ∷ []) (codes "a") no_exs
-    ≡ fun1 true Fun.And (comp_ex (cell_ex true (codes "a") (more_exs (name_ex (codes "q")) (more_exs (name_ex (codes "q")) no_exs))) (over (name_pat (codes "q")) bool_dom no_gens))
-of-reflexive = refl
+-- An irreflexive relation, also one between two domains that differ: no pair has one member twice.
+pub of-irreflexive : relation_key_ex name 1 (more_doms bool_dom (more_doms written no_doms)) (name_ex (codes "e")) Key.Irreflexive
+    ≡ fun1 true Fun.And (comp_ex (ex1 true Op1.Not (ex2 true Op2.Eq
+    (node_ex true (index (to_component 1 ∷ [])) (more_exs (name_ex (codes "q")) no_exs))
+    (node_ex false (index (to_component 2 ∷ [])) (more_exs (name_ex (codes "q")) no_exs))))
+    (from (name_pat (codes "q")) (name_ex (codes "e")) no_gens))
+of-irreflexive = refl
 
 -- The relation of a total function's pairs has as many pairs as bool has members; the least size is the function's.
 pub of-pair-sizes : pair_relation_dom at_atom (valued Key.MinSize ∷ flag Key.Total ∷ []) (more_exs (number_ex (pos 1)) no_exs) bool_dom bool_dom

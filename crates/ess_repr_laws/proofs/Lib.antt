@@ -118,7 +118,6 @@ pub mod StructureOf
 pub mod StructureKeys
 pub mod DifferentCells
 pub mod StructureInjective
-pub mod ReflexiveRelations
 pub mod StructureLayers
 pub mod StructureMatrices
 pub mod StructureTuples

@@ -5,7 +5,7 @@ use Rattle.ess_semantics.specs.Lists.{is_some_and, or_default}
 use Rattle.ess_semantics.specs.Values.{Text, Value, a_relation, node, of_list, truth, items_of}
 use Rattle.ess_semantics.specs.Order.{same_text}
 use Rattle.ess_semantics.specs.Kinds.{dom_list}
-use Rattle.ess_semantics.specs.Trees.{Mark, Repr, repr, no_reprs, Ex, Exs, Dom, Doms, relation_dom}
+use Rattle.ess_semantics.specs.Trees.{Mark, Repr, repr, no_reprs, Ex, Exs, Doms, relation_dom}
 use Rattle.ess_semantics.specs.Domains.{Attribute, Domain, Domains, booleans, relations, tuples, domain_list, member_list}
 use Rattle.ess_semantics.specs.Attributes.{each_holds, head_members, relation_holds, relation_attributes_hold, set_attributes_hold}
 use Rattle.ess_semantics.specs.Membership.{member, tuple_member}
@@ -21,17 +21,16 @@ use Rattle.ess_semantics.specs.Meaning.{Env, meaning, meanings}
 use Rattle.ess_semantics.specs.Atoms.{AreAtoms}
 use Rattle.ess_semantics.proofs.Connectives.{and-means}
 use Rattle.ess_semantics.proofs.Orders.{to_list-of_list}
-use Rattle.ess_repr_laws.specs.RelationParts.{bare_relation_dom, diagonal_ex, off_diagonal_ex, relation_key_ex, matrix_key_ex, relation_ex}
+use Rattle.ess_repr_laws.specs.RelationParts.{bare_relation_dom, relation_key_ex, relation_ex}
 use Rattle.ess_repr_laws.specs.ViewParts.{view_ex}
 use Rattle.ess_repr_laws.specs.StructureParts.{Terms, first_name, own_shape, keys_ex, size_ex, true_count_ex}
-use Rattle.ess_repr_laws.specs.StructureMeaning.{Bound, M, AxesAre, Placed, Attributes, index_members, EachFlag, DomainIs, RelationKeyReady, MatrixKeyReady}
+use Rattle.ess_repr_laws.specs.StructureMeaning.{Bound, M, AxesAre, Placed, Attributes, index_members, EachFlag, DomainIs, RelationKeyReady}
 use Rattle.ess_repr_laws.proofs.Arguments.{Arguments, tuple-arguments, cell-arguments}
 use Rattle.ess_repr_laws.proofs.CanonicalForms.{atoms-listed}
 use Rattle.ess_repr_laws.proofs.CanonicalPlaces.{all-of-map}
 use Rattle.ess_repr_laws.proofs.Chosen.{Bit, chosen-there, chosen-count, chosen-all}
 use Rattle.ess_repr_laws.proofs.PlacesOfTables.{row-places}
 use Rattle.ess_repr_laws.proofs.SlotsUsed.{bit-cell}
-use Rattle.ess_repr_laws.proofs.ReflexiveRelations.{diagonal-at}
 use Rattle.ess_repr_laws.proofs.RelationsOfViews.{relation-attributes-apart, relation-key-settled, relation-key-asked}
 use Rattle.ess_repr_laws.proofs.StructureConversions.{flags-means, all-flags, each-flag}
 use Rattle.ess_repr_laws.proofs.ViewsOfCells.{Stands, view-stands}
@@ -62,7 +61,7 @@ arguments-chosen x as' index args f h =
 
 module _ (env0 : Env) (q : ℕ → Text) (q-apart : (m l : ℕ) → l < m → same_text (q m) (q l) ≡ false) (terms : Terms)
     (ms : List Mark) (es : Exs) (ds : Doms) (ks : List Attribute) (xs : Domains) (a : AreAtoms xs)
-    (keys : EachFlag (MatrixKeyReady env0 q q-apart ds xs) ks)
+    (keys : EachFlag (RelationKeyReady env0 q q-apart ds xs (bare_relation_dom ds) (relations [] xs)) ks)
     (ax : AxesAre env0 q q-apart (dom_list ds) (index_members xs)) (at : Attributes env0 q q-apart terms ms es ks) where
   abbrev kind : Repr
   kind = repr ReprKind.RelationAsMatrix no_reprs
@@ -94,24 +93,12 @@ module _ (env0 : Env) (q : ℕ → Text) (q-apart : (m l : ℕ) → l < m → sa
     grid = grid_at env0 q q-apart t i
 
     abbrev key_ex : Key → Ex
-    key_ex = matrix_key_ex q l ds (dom_list ds) (first_name ns) is (seen ns is)
+    key_ex = relation_key_ex q l ds (seen ns is)
 
     abbrev F : Key → Bool
     F k = as_truth (meaning (key_ex k) (M env0 q q-apart bs))
 
     settled : (k : Key) → meaning (key_ex k) (M env0 q q-apart bs) ≡ Some (truth (F k))
-    settled Key.Reflexive = diagonal-settled (dom_list ds)
-      where
-        diagonal-settled : (as' : List Dom) → meaning (diagonal_ex q l as' (first_name ns) is) (M env0 q q-apart bs) ≡ Some
-            (truth (as_truth (meaning (diagonal_ex q l as' (first_name ns) is) (M env0 q q-apart bs))))
-        diagonal-settled [] = refl
-        diagonal-settled (a ∷ as') = refl
-    settled Key.Irreflexive = off-settled (dom_list ds)
-      where
-        off-settled : (as' : List Dom) → meaning (off_diagonal_ex q l as' (first_name ns) is) (M env0 q q-apart bs) ≡ Some
-            (truth (as_truth (meaning (off_diagonal_ex q l as' (first_name ns) is) (M env0 q q-apart bs))))
-        off-settled [] = refl
-        off-settled (a ∷ as') = refl
     settled k = relation-key-settled env0 q q-apart l ds (seen ns is) (M env0 q q-apart bs) k
 
     fits : every_cell axes (is_cell booleans) grid ≡ true
@@ -138,11 +125,7 @@ module _ (env0 : Env) (q : ℕ → Text) (q-apart : (m l : ℕ) → l < m → sa
           relation-key-asked env0 q q-apart l bs (seen ns is) v ds xs (bare_relation_dom ds) (relations [] xs) stands
           (ap (list_all (tuple_member xs)) (to_list-of_list ys) ∙ inside) k h
 
-      asked : (k : Key) → MatrixKeyReady env0 q q-apart ds xs k → relation_holds k (head_members xs) ys ≡ F k
-      asked Key.Reflexive h = let d = diagonal-at env0 q q-apart (dom_list ds) xs a h ax (first_name ns) t p.0 l is i bs st fits ys e in
-          d.0.2 ∙ sym (ap as_truth d.0.1)
-      asked Key.Irreflexive h = let d = diagonal-at env0 q q-apart (dom_list ds) xs a h ax (first_name ns) t p.0 l is i bs st fits ys e in
-          d.1.2 ∙ sym (ap as_truth d.1.1)
+      asked : (k : Key) → RelationKeyReady env0 q q-apart ds xs (bare_relation_dom ds) (relations [] xs) k → relation_holds k (head_members xs) ys ≡ F k
       asked k h = ap (relation_holds k (head_members xs)) (sym (to_list-of_list ys)) ∙ of-view k h
 
     one-means : meaning (relation_ex q l ms es ds (dom_list ds) (first_name ns) is (seen ns is)) (M env0 q q-apart bs) ≡ Some
@@ -161,7 +144,7 @@ module _ (env0 : Env) (q : ℕ → Text) (q-apart : (m l : ℕ) → l < m → sa
         ∙ ap (λ s. Some (truth s))
         (ap (λ a. set_attributes_hold ks (count_true (row a grid)) && each_holds ks (λ k n. true) F) same
         ∙ ap (λ n. set_attributes_hold ks n && each_holds ks (λ k n. true) F) y.2
-        ∙ sym (relation-attributes-apart ks xs y.0 (length y.0) F (each-flag (MatrixKeyReady env0 q q-apart ds xs)
+        ∙ sym (relation-attributes-apart ks xs y.0 (length y.0) F (each-flag (RelationKeyReady env0 q q-apart ds xs (bare_relation_dom ds) (relations [] xs))
         (λ k. relation_holds k (head_members xs) y.0 ≡ F k) ks (asked y.0 y.1) keys))
         ∙ ap (relation_attributes_hold ks xs) (sym (to_list-of_list y.0))
         ∙ sym (ap (λ o. (((every_cell axes (is_cell booleans) grid && true) && true) && true) && is_some_and

@@ -1,20 +1,14 @@
 -- The constraint that the cells of a relation as a matrix are canonical, and what attributes without a number ask of the pairs that a
 -- view of a relation has.
-use Rattle.std.specs.Prelude.{ℕ, suc, true, false, List, [], ◌∷◌}
+use Rattle.std.specs.Prelude.{ℕ, suc, true, false, List, []}
 use Rattle.ess_semantics.specs.declared.words.Fun.{Fun}
 use Rattle.ess_semantics.specs.declared.words.Key.{Key}
 use Rattle.ess_semantics.specs.declared.words.Op1.{Op1}
 use Rattle.ess_semantics.specs.declared.words.Op2.{Op2}
 use Rattle.ess_semantics.specs.Values.{Text}
-use Rattle.ess_semantics.specs.Trees.{Mark, Ex, Exs, no_exs, more_exs, Dom, Doms, no_doms, more_doms, relation_dom, truth_ex, name_ex, cell_ex, comp_ex, node_ex, tuple_literal, no_gens, over, name_pat, ex1, ex2, fun1}
-use Rattle.ess_repr_laws.specs.StructureParts.{add_ex, and_ex, or_ex, implies_ex, each_ex, keys_ex, size_ex, true_count_ex}
+use Rattle.ess_semantics.specs.Trees.{Mark, Ex, Exs, no_exs, more_exs, Dom, Doms, no_doms, more_doms, relation_dom, truth_ex, name_ex, comp_ex, node_ex, tuple_literal, no_gens, over, name_pat, ex1, ex2, fun1}
+use Rattle.ess_repr_laws.specs.StructureParts.{and_ex, or_ex, implies_ex, keys_ex, size_ex, true_count_ex}
 use Rattle.ess_repr_laws.specs.ViewParts.{component_ex, every_item_ex}
-
--- `reflexive` says e, `irreflexive` says f, each other attribute what g says.
-abbrev pub with_diagonal : Ex → Ex → (Key → Ex) → Key → Ex
-with_diagonal e f g Key.Reflexive = e
-with_diagonal e f g Key.Irreflexive = f
-with_diagonal e f g k = g k
 
 -- The relation e has the pair of a and b.
 abbrev pub has_pair_ex : Ex → Ex → Ex → Ex
@@ -25,17 +19,6 @@ abbrev pub bare_relation_dom : Doms → Dom
 bare_relation_dom ds = relation_dom [] no_exs ds
 
 module _ (q : ℕ → Text) where
-  -- The cell of each member with itself is true.
-  abbrev pub diagonal_ex : ℕ → List Dom → Text → Exs → Ex
-  diagonal_ex l [] n is = truth_ex false
-  diagonal_ex l (a ∷ as') n is = each_ex q l (a ∷ []) (cell_ex true n (add_ex (add_ex is (name_ex (q l))) (name_ex (q l))))
-
-  -- The cell of each member with itself is false.
-  abbrev pub off_diagonal_ex : ℕ → List Dom → Text → Exs → Ex
-  off_diagonal_ex l [] n is = truth_ex false
-  off_diagonal_ex l (a ∷ as') n is =
-      each_ex q l (a ∷ []) (ex1 true Op1.Not (cell_ex true n (add_ex (add_ex is (name_ex (q l))) (name_ex (q l)))))
-
   -- Both parts of the pair that q l is, as the domains d and c.
   abbrev pub first_ex : ℕ → Dom → Ex
   first_ex l d = component_ex d 1 (name_ex (q l))
@@ -72,11 +55,6 @@ module _ (q : ℕ → Text) where
   relation_key_ex l (more_doms d (more_doms c no_doms)) e k = pair_relation_key_ex l d c e k
   relation_key_ex l _ e k = truth_ex false
 
-  -- What it asks of a relation as a matrix, whose view is e: where it is reflexive, each member with itself is in it; where it is
-  -- irreflexive, none is.
-  abbrev pub matrix_key_ex : ℕ → Doms → List Dom → Text → Exs → Ex → Key → Ex
-  matrix_key_ex l ds as' n is e = with_diagonal (diagonal_ex l as' n is) (off_diagonal_ex l as' n is) (relation_key_ex l ds e)
-
   -- Which tuples occur. Its view e has the attributes without a number.
   abbrev pub relation_ex : ℕ → List Mark → Exs → Doms → List Dom → Text → Exs → Ex → Ex
-  relation_ex l ms es ds as' n is e = and_ex (size_ex ms es (true_count_ex q l as' n is)) (keys_ex (matrix_key_ex l ds as' n is e) ms)
+  relation_ex l ms es ds as' n is e = and_ex (size_ex ms es (true_count_ex q l as' n is)) (keys_ex (relation_key_ex l ds e) ms)

@@ -2,7 +2,6 @@
 -- q 0, q 1 and so on may be bound, each to a value.
 use Rattle.std.specs.Prelude.{◌≡◌, ℕ, ◌<◌, Bool, true, false, ◌&&◌, not, List, [], ◌∷◌, ◌++◌, map, ℤ, pos, Some}
 use Rattle.ess_repr_laws.specs.StructureParts.{Shape, Terms}
-use Rattle.ess_repr_laws.specs.RelationParts.{bare_relation_dom}
 use Rattle.ess_repr_laws.specs.MultisetParts.{bare_mset_dom}
 use Rattle.ess_repr_laws.specs.FunctionParts.{bare_function_dom, is_one_cell}
 use Rattle.ess_repr_laws.specs.Finite.{Enumerated}
@@ -44,10 +43,6 @@ has_flags_among f (flagged k ∷ ks) = f k && has_flags_among f ks
 -- None.
 abbrev pub no_key : Key → Bool
 no_key k = false
-
--- A relation between two members of one listed domain.
-abbrev pub WithinOne : Domains → Type 0
-WithinOne xs = (d : Domain) × (xs ≡ more_domains d (more_domains d no_domains)) × (members d ≡ Some (member_list d))
 
 -- `minOccur` or `maxOccur`.
 abbrev pub is_times_key : Key → Bool
@@ -218,12 +213,6 @@ module _ (env0 : Env) (q : ℕ → Text) (q-apart : (m l : ℕ) → l < m → sa
   RelationKeyReady (more_doms d (more_doms c no_doms)) (more_domains x (more_domains y no_domains)) v w k =
       (BoolIs d x × BoolIs c y) × DomainIs v w × PairRelationKeyReady d x k
   RelationKeyReady _ xs v w k = ⊥
-
-  -- What it asks of a relation as a matrix.
-  abbrev pub MatrixKeyReady : Doms → Domains → Key → Type 0
-  MatrixKeyReady ds xs Key.Reflexive = WithinOne xs
-  MatrixKeyReady ds xs Key.Irreflexive = WithinOne xs
-  MatrixKeyReady ds xs k = RelationKeyReady ds xs (bare_relation_dom ds) (relations [] xs) k
 
   -- Where an attribute speaks of how often members occur, the domain of multisets of at most as many members as there are slots means
   -- this.

@@ -2,8 +2,9 @@
 -- canonical.
 use Rattle.std.specs.Prelude.{◌≡◌, ℕ, ◌<◌, true, false, List, [], ◌∷◌, Some}
 use Rattle.ess_repr_laws.specs.StructureParts.{Terms, tuple_set_dom}
-use Rattle.ess_repr_laws.specs.StructureMeaning.{Attributes, SlotsAre, AtomReady, DummyIs, DomainIs, AxesAre, Bound, M, RelationKeyReady, MatrixKeyReady, TimesReady, tuple_set_sizes, EachFlag, BoolIs, AreSizes, ArePairSizes, PairKeyReady, ValueKeyReady, FlagKeyReady, index_members}
+use Rattle.ess_repr_laws.specs.StructureMeaning.{Attributes, SlotsAre, AtomReady, DummyIs, DomainIs, AxesAre, Bound, M, RelationKeyReady, TimesReady, tuple_set_sizes, EachFlag, BoolIs, AreSizes, ArePairSizes, PairKeyReady, ValueKeyReady, FlagKeyReady, index_members}
 use Rattle.ess_repr_laws.specs.ViewParts.{pair_relation_dom, part_set_dom}
+use Rattle.ess_repr_laws.specs.RelationParts.{bare_relation_dom}
 use Rattle.ess_repr_laws.specs.PartSizes.{ArePartSizes}
 use Rattle.ess_repr_laws.specs.PartitionParts.{bare_partition_dom}
 use Rattle.ess_semantics.specs.Kinds.{dom_list}
@@ -46,7 +47,7 @@ module _ (env0 : Env) (q : ℕ → Text) (q-apart : (m l : ℕ) → l < m → sa
         AxesAre env0 q q-apart (dom_list ds) (index_members xs) ×
         Attributes env0 q q-apart terms ms es ks × Ready r c y
     Ready (repr ReprKind.RelationAsMatrix no_reprs) (relation_dom ms es ds) (relations ks xs) =
-        AreAtoms xs × EachFlag (MatrixKeyReady env0 q q-apart ds xs) ks ×
+        AreAtoms xs × EachFlag (RelationKeyReady env0 q q-apart ds xs (bare_relation_dom ds) (relations [] xs)) ks ×
         AxesAre env0 q q-apart (dom_list ds) (index_members xs) × Attributes env0 q q-apart terms ms es ks
     Ready (repr ReprKind.Function1DPartial (more_reprs r no_reprs)) (function_dom ms es d c) (functions ks x y) =
         IsAtom x × EachFlag (FlagKeyReady env0 q q-apart d c x y) ks × AxesAre env0 q q-apart (d ∷ []) (member_list x ∷ []) ×

@@ -16,3 +16,18 @@ pub mod OrderlyDenoted
 pub mod NamesApart
 pub mod OrderlyJudged
 pub mod JudgedViews
+-- What structures are built of
+pub mod BuiltStructures
+pub mod BuiltParts
+pub mod BuiltViews
+pub mod BuiltAll
+-- Structures are total
+pub mod DenotedParts
+pub mod TotalSizes
+pub mod TotalStructures
+pub mod TotalForms
+pub mod TotalTerms
+-- Structures spell numbers of the domain
+pub mod ConstantStructures
+pub mod ConstantViews
+pub mod TotalViews

@@ -31,10 +31,9 @@ FunctionFlag x y Key.Surjective = IsEnumerated y
 FunctionFlag x y Key.Bijective = IsEnumerated y
 FunctionFlag x y _ = Unit {0}
 
--- So of a relation between x and y, which are one domain where the attribute speaks of a member with itself.
+-- So of a relation between x and y.
 abbrev pub PairFlag : Domain → Domain → Key → Type 0
-PairFlag x y Key.Reflexive = IsEnumerated x × (x ≡ y)
-PairFlag x y Key.Irreflexive = x ≡ y
+PairFlag x y Key.Reflexive = IsEnumerated x
 PairFlag x y _ = Unit {0}
 
 -- A relation with an attribute without a number is one between two.

@@ -18,7 +18,7 @@ use Rattle.ess_repr_laws.proofs.Enumerables.{IsEnumerated}
 use Rattle.ess_repr_laws.proofs.StructureConversions.{each-flag}
 use Rattle.ess_repr_declare_laws.specs.Laws.{Sound, AllSound}
 use Rattle.ess_repr_declare_laws.proofs.SizeNumbers.{mapped, chained, not_below}
-use Rattle.ess_repr_structure_laws.specs.OrderlyDomains.{LayerIsOrderly, Orderly, AllOrderly, SameSides, Diagonal, AllDiagonal}
+use Rattle.ess_repr_structure_laws.specs.OrderlyDomains.{LayerIsOrderly, Orderly, AllOrderly}
 use Rattle.ess_repr_structure_laws.proofs.FittingChildren.{sound-well}
 use Rattle.ess_repr_structure_laws.proofs.NeatDomains.{FunctionFlag, PairFlag, RelationFlag, NeatDomain, AllNeatDomains}
 use Rattle.ess_repr_structure_laws.proofs.OrderlyAttributes.{numbered-of, told-of, flags-among, flags-marked}
@@ -146,18 +146,17 @@ flag-binary ds k h = go (is_binary ds) h
 
 -- What is known of a relation, from which its attributes without a number are ready.
 relation-flag : (ms : List Mark) (es : Exs) (ds : Doms) (env : Env) (xs : Domains) → LayerIsOrderly (relation_dom ms es ds) → AllSound ds →
-    (has_key Key.Reflexive ms || has_key Key.Irreflexive ms ≡ true → SameSides ds) → domains_of ds env ≡ Some xs →
+    domains_of ds env ≡ Some xs →
     (k : Key) → is_key (relation_flags (dom_list ds)) k ≡ true → has_key k ms ≡ true → RelationFlag xs k
-relation-flag ms es ds env xs o s g h k i m = let t = binary-two ds (flag-binary (dom_list ds) k i) in go ds t.0 t.1 t.2 o s g h
+relation-flag ms es ds env xs o s h k i m = let t = binary-two ds (flag-binary (dom_list ds) k i) in go ds t.0 t.1 t.2 o s h
   where
     go : (ds : Doms) (d c : Dom) → ds ≡ more_doms d (more_doms c no_doms) → LayerIsOrderly (relation_dom ms es ds) → AllSound ds →
-        (has_key Key.Reflexive ms || has_key Key.Irreflexive ms ≡ true → SameSides ds) → domains_of ds env ≡ Some xs → RelationFlag xs k
-    go ds d c q o s g h = two xs (subst (λ z. LayerIsOrderly (relation_dom ms es z)) q o) (subst AllSound q s)
-        (subst (λ z. has_key Key.Reflexive ms || has_key Key.Irreflexive ms ≡ true → SameSides z) q g) (ap (λ z. domains_of z env) (sym q) ∙ h)
+        domains_of ds env ≡ Some xs → RelationFlag xs k
+    go ds d c q o s h = two xs (subst (λ z. LayerIsOrderly (relation_dom ms es z)) q o) (subst AllSound q s) (ap (λ z. domains_of z env) (sym q) ∙ h)
       where
         two : (xs : Domains) → LayerIsOrderly (relation_dom ms es (more_doms d (more_doms c no_doms))) → AllSound (more_doms d (more_doms c no_doms)) →
-            (has_key Key.Reflexive ms || has_key Key.Irreflexive ms ≡ true → d ≡ c) → domains_of (more_doms d (more_doms c no_doms)) env ≡ Some xs → RelationFlag xs k
-        two xs o s g h =
+            domains_of (more_doms d (more_doms c no_doms)) env ≡ Some xs → RelationFlag xs k
+        two xs o s h =
             let a = chained (domain_of d env) (λ x. option_map (more_domains x) (domains_of (more_doms c no_doms) env)) xs h in
             let b = mapped (more_domains a.0) (domains_of (more_doms c no_doms) env) xs a.2 in
             let f = chained (domain_of c env) (λ y. option_map (more_domains y) (Some no_domains)) b.0 b.1 in
@@ -168,56 +167,48 @@ relation-flag ms es ds env xs o s g h k i m = let t = binary-two ds (flag-binary
             listed true h e = and-left (is_enumerable d) true h
             listed false h e = cc
 
-            same-side : (x y : Domain) → domain_of d env ≡ Some x → domain_of c env ≡ Some y → d ≡ c → x ≡ y
-            same-side x y p r q = let z : Some x ≡ Some y = sym p ∙ ap (λ b. domain_of b env) q ∙ r in cc
-
             one : (x y : Domain) → domain_of d env ≡ Some x → domain_of c env ≡ Some y → (k : Key) → has_key k ms ≡ true → PairFlag x y k
-            one x y p r Key.Reflexive m = (
-              listed-of d env x s.0 (listed (has_key Key.Reflexive ms) o.1 m) p,
-              same-side x y p r (g (ap (λ b. b || has_key Key.Irreflexive ms) m)),
-            )
-            one x y p r Key.Irreflexive m =
-                same-side x y p r (g (ap (λ b. has_key Key.Reflexive ms || b) m ∙ or-yes (has_key Key.Reflexive ms)))
+            one x y p r Key.Reflexive m = listed-of d env x s.0 (listed (has_key Key.Reflexive ms) o.1 m) p
             one x y p r _ m = tt
 
 mutual
   -- An orderly expression denotes a neat domain.
-  pub orderly-neat : (d : Dom) (env : Env) (e : Domain) → Orderly d → Diagonal d → Sound d → domain_of d env ≡ Some e → no_negative_attribute e ≡ true → NeatDomain e
-  orderly-neat bool_dom env e o g s h n = let q : booleans ≡ e = cc in subst NeatDomain q tt
-  orderly-neat (int_dom rs es) env e o g s h n = let m = mapped integers (spans_of rs (meanings es env)) e h in subst NeatDomain m.2 tt
-  orderly-neat (name_dom a) env e o g s h n = go env.positions (type_entry env.types a) h
+  pub orderly-neat : (d : Dom) (env : Env) (e : Domain) → Orderly d → Sound d → domain_of d env ≡ Some e → no_negative_attribute e ≡ true → NeatDomain e
+  orderly-neat bool_dom env e o s h n = let q : booleans ≡ e = cc in subst NeatDomain q tt
+  orderly-neat (int_dom rs es) env e o s h n = let m = mapped integers (spans_of rs (meanings es env)) e h in subst NeatDomain m.2 tt
+  orderly-neat (name_dom a) env e o s h n = go env.positions (type_entry env.types a) h
     where
       go : (b : Bool) (t : Option TypeEntry) → named_domain b a t ≡ Some e → NeatDomain e
       go b None h = cc
       go true (Some t) h = let q : between (pos 1) (pos t.count) ≡ e = cc in subst NeatDomain q tt
       go false (Some t) h = let q : named a t.count ≡ e = cc in subst NeatDomain q tt
-  orderly-neat (tuple_dom ds) env e o g s h n =
-      let m = mapped tuples (domains_of ds env) e h in subst NeatDomain m.2 (all-orderly-neat ds env m.0 o g s m.1 (ap no_negative_attribute m.2 ∙ n))
-  orderly-neat (record_dom fs ds) env e o g s h n =
-      let m = mapped (records fs) (domains_of ds env) e h in subst NeatDomain m.2 (all-orderly-neat ds env m.0 o g s m.1 (ap no_negative_attribute m.2 ∙ n))
-  orderly-neat (matrix_dom is d) env e o g s h n =
+  orderly-neat (tuple_dom ds) env e o s h n =
+      let m = mapped tuples (domains_of ds env) e h in subst NeatDomain m.2 (all-orderly-neat ds env m.0 o s m.1 (ap no_negative_attribute m.2 ∙ n))
+  orderly-neat (record_dom fs ds) env e o s h n =
+      let m = mapped (records fs) (domains_of ds env) e h in subst NeatDomain m.2 (all-orderly-neat ds env m.0 o s m.1 (ap no_negative_attribute m.2 ∙ n))
+  orderly-neat (matrix_dom is d) env e o s h n =
       let c = chained (domains_of is env) (λ js. option_map (matrices js) (domain_of d env)) e h in
       let m = mapped (matrices c.0) (domain_of d env) e c.2 in
       subst NeatDomain m.2
-      (orderly-neat d env m.0 o.1 g s.2 m.1 (and-right (each_layer_of_all not_below c.0) (no_negative_attribute m.0) (ap no_negative_attribute m.2 ∙ n)))
-  orderly-neat (set_dom ms es d) env e o g s h n =
+      (orderly-neat d env m.0 o.1 s.2 m.1 (and-right (each_layer_of_all not_below c.0) (no_negative_attribute m.0) (ap no_negative_attribute m.2 ∙ n)))
+  orderly-neat (set_dom ms es d) env e o s h n =
       let c = chained (attributes_of ms (meanings es env)) (λ ks. option_map (sets ks) (domain_of d env)) e h in
       let m = mapped (sets c.0) (domain_of d env) e c.2 in
       let p : not_below c.0 && no_negative_attribute m.0 ≡ true = ap no_negative_attribute m.2 ∙ n in
       subst NeatDomain m.2 (
         told-of ms (meanings es env) c.0 (and-right (marks_among size_keys [] ms) (marks_distinct ms) o.0.0) c.1 (and-left (not_below c.0) (no_negative_attribute m.0) p),
-        orderly-neat d env m.0 o.1 g s.2 m.1 (and-right (not_below c.0) (no_negative_attribute m.0) p),
+        orderly-neat d env m.0 o.1 s.2 m.1 (and-right (not_below c.0) (no_negative_attribute m.0) p),
       )
-  orderly-neat (mset_dom ms es d) env e o g s h n =
+  orderly-neat (mset_dom ms es d) env e o s h n =
       let c = chained (attributes_of ms (meanings es env)) (λ ks. option_map (msets ks) (domain_of d env)) e h in
       let m = mapped (msets c.0) (domain_of d env) e c.2 in
       let p : not_below c.0 && no_negative_attribute m.0 ≡ true = ap no_negative_attribute m.2 ∙ n in
       subst NeatDomain m.2 (
         told-of ms (meanings es env) c.0 (and-right (marks_among (Key.MinOccur ∷ Key.MaxOccur ∷ size_keys) [] ms) (marks_distinct ms) o.0.0) c.1
             (and-left (not_below c.0) (no_negative_attribute m.0) p),
-        orderly-neat d env m.0 o.1 g s.2 m.1 (and-right (not_below c.0) (no_negative_attribute m.0) p),
+        orderly-neat d env m.0 o.1 s.2 m.1 (and-right (not_below c.0) (no_negative_attribute m.0) p),
       )
-  orderly-neat (function_dom ms es d c) env e o g s h n =
+  orderly-neat (function_dom ms es d c) env e o s h n =
       let k = chained (attributes_of ms (meanings es env)) (λ ks. and_then (domain_of d env) (λ x. option_map (functions ks x) (domain_of c env))) e h in
       let x = chained (domain_of d env) (λ x. option_map (functions k.0 x) (domain_of c env)) e k.2 in
       let y = mapped (functions k.0 x.0) (domain_of c env) e x.2 in
@@ -227,10 +218,10 @@ mutual
         told-of ms (meanings es env) k.0 (and-right (marks_among size_keys (Key.Total ∷ Key.Injective ∷ Key.Surjective ∷ Key.Bijective ∷ []) ms) (marks_distinct ms) o.0.0) k.1
             (and-left (not_below k.0) (no_negative_attribute x.0) f),
         function-flags ms es d c env k.0 x.0 y.0 o.0 k.1 (λ t. listed-of d env x.0 s.3 t x.1) (λ t. listed-of c env y.0 s.4 t y.1),
-        orderly-neat d env x.0 o.1 g.0 s.3 x.1 (and-right (not_below k.0) (no_negative_attribute x.0) f),
-        orderly-neat c env y.0 o.2 g.1 s.4 y.1 (and-right (not_below k.0 && no_negative_attribute x.0) (no_negative_attribute y.0) p),
+        orderly-neat d env x.0 o.1 s.3 x.1 (and-right (not_below k.0) (no_negative_attribute x.0) f),
+        orderly-neat c env y.0 o.2 s.4 y.1 (and-right (not_below k.0 && no_negative_attribute x.0) (no_negative_attribute y.0) p),
       )
-  orderly-neat (relation_dom ms es ds) env e o g s h n =
+  orderly-neat (relation_dom ms es ds) env e o s h n =
       let c = chained (attributes_of ms (meanings es env)) (λ ks. option_map (relations ks) (domains_of ds env)) e h in
       let m = mapped (relations c.0) (domains_of ds env) e c.2 in
       let p : not_below c.0 && each_layer_of_all not_below m.0 ≡ true = ap no_negative_attribute m.2 ∙ n in
@@ -238,12 +229,12 @@ mutual
         told-of ms (meanings es env) c.0 (and-right (marks_among size_keys (relation_flags (dom_list ds)) ms) (marks_distinct ms) o.0.0) c.1
             (and-left (not_below c.0) (each_layer_of_all not_below m.0) p),
         flags-both (λ k. is_key (relation_flags (dom_list ds)) k ≡ true) (λ k. has_key k ms ≡ true) (RelationFlag m.0) c.0
-            (relation-flag ms es ds env m.0 o.0 s.2 g.0 m.1)
+            (relation-flag ms es ds env m.0 o.0 s.2 m.1)
             (flags-among size_keys (relation_flags (dom_list ds)) ms (meanings es env) c.0 (and-left (marks_among size_keys (relation_flags (dom_list ds)) ms) (marks_distinct ms) o.0.0) c.1)
             (flags-marked ms (meanings es env) c.0 c.1),
-        all-orderly-neat ds env m.0 o.1 g.1 s.2 m.1 (and-right (not_below c.0) (each_layer_of_all not_below m.0) p),
+        all-orderly-neat ds env m.0 o.1 s.2 m.1 (and-right (not_below c.0) (each_layer_of_all not_below m.0) p),
       )
-  orderly-neat (partition_dom ms es d) env e o g s h n =
+  orderly-neat (partition_dom ms es d) env e o s h n =
       let c = chained (attributes_of ms (meanings es env)) (λ ks. option_map (partitions ks) (domain_of d env)) e h in
       let m = mapped (partitions c.0) (domain_of d env) e c.2 in
       let p : not_below c.0 && no_negative_attribute m.0 ≡ true = ap no_negative_attribute m.2 ∙ n in
@@ -252,17 +243,17 @@ mutual
             (and-right (marks_among (Key.NumParts ∷ Key.MinNumParts ∷ Key.MaxNumParts ∷ Key.PartSize ∷ Key.MinPartSize ∷ Key.MaxPartSize ∷ []) (Key.Regular ∷ []) ms) (marks_distinct ms) o.0.0) c.1
             (and-left (not_below c.0) (no_negative_attribute m.0) p),
         listed-of d env m.0 s.2 (and-left (is_enumerable d) true o.0.1) m.1,
-        orderly-neat d env m.0 o.1 g s.2 m.1 (and-right (not_below c.0) (no_negative_attribute m.0) p),
+        orderly-neat d env m.0 o.1 s.2 m.1 (and-right (not_below c.0) (no_negative_attribute m.0) p),
       )
 
-  all-orderly-neat : (ds : Doms) (env : Env) (es : Domains) → AllOrderly ds → AllDiagonal ds → AllSound ds → domains_of ds env ≡ Some es →
+  all-orderly-neat : (ds : Doms) (env : Env) (es : Domains) → AllOrderly ds → AllSound ds → domains_of ds env ≡ Some es →
       each_layer_of_all not_below es ≡ true → AllNeatDomains es
-  all-orderly-neat no_doms env es o g s h n = let q : no_domains ≡ es = cc in subst AllNeatDomains q tt
-  all-orderly-neat (more_doms d ds) env es o g s h n =
+  all-orderly-neat no_doms env es o s h n = let q : no_domains ≡ es = cc in subst AllNeatDomains q tt
+  all-orderly-neat (more_doms d ds) env es o s h n =
       let c = chained (domain_of d env) (λ x. option_map (more_domains x) (domains_of ds env)) es h in
       let m = mapped (more_domains c.0) (domains_of ds env) es c.2 in
       let p : no_negative_attribute c.0 && each_layer_of_all not_below m.0 ≡ true = ap (each_layer_of_all not_below) m.2 ∙ n in
       subst AllNeatDomains m.2 (
-        orderly-neat d env c.0 o.0 g.0 s.0 c.1 (and-left (no_negative_attribute c.0) (each_layer_of_all not_below m.0) p),
-        all-orderly-neat ds env m.0 o.1 g.1 s.1 m.1 (and-right (no_negative_attribute c.0) (each_layer_of_all not_below m.0) p),
+        orderly-neat d env c.0 o.0 s.0 c.1 (and-left (no_negative_attribute c.0) (each_layer_of_all not_below m.0) p),
+        all-orderly-neat ds env m.0 o.1 s.1 m.1 (and-right (no_negative_attribute c.0) (each_layer_of_all not_below m.0) p),
       )

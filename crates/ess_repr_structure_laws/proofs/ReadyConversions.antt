@@ -17,7 +17,7 @@ use Rattle.ess_repr_laws.specs.Finite.{FiniteAtoms}
 use Rattle.ess_repr_laws.specs.RelationParts.{bare_relation_dom}
 use Rattle.ess_repr_laws.specs.StructureParts.{tuple_set_dom}
 use Rattle.ess_repr_laws.specs.ViewParts.{pair_relation_dom, part_set_dom}
-use Rattle.ess_repr_laws.specs.StructureMeaning.{Attributes, DomainIs, PairKeyReady, PairRelationKeyReady, RelationKeyReady, MatrixKeyReady, WithinOne}
+use Rattle.ess_repr_laws.specs.StructureMeaning.{Attributes, DomainIs, PairKeyReady, PairRelationKeyReady, RelationKeyReady}
 use Rattle.ess_repr_laws.specs.StructureReady.{Ready}
 use Rattle.ess_repr_laws.proofs.Enumerables.{IsEnumerated}
 use Rattle.ess_repr_laws.proofs.StructureConversions.{each-flag}
@@ -66,18 +66,6 @@ only-of d env x h = go (domain_of d env) h
     go None h = cc
     go (Some y) h = let q : y ≡ x = cc in ap Some q
 
-reflexive-one : (xs : Domains) → RelationFlag xs Key.Reflexive → RelationFlag xs Key.Irreflexive
-reflexive-one (more_domains x (more_domains y no_domains)) f = f.1
-reflexive-one no_domains f = absurd f
-reflexive-one (more_domains x no_domains) f = absurd f
-reflexive-one (more_domains x (more_domains y (more_domains z xs))) f = absurd f
-
-within-one : (xs : Domains) → FiniteAtoms xs → RelationFlag xs Key.Irreflexive → WithinOne xs
-within-one (more_domains x (more_domains y no_domains)) a f = (x, ap (λ z. more_domains x (more_domains z no_domains)) (sym f), listed-is x a.0.1)
-within-one no_domains a f = absurd f
-within-one (more_domains x no_domains) a f = absurd f
-within-one (more_domains x (more_domains y (more_domains z xs))) a f = absurd f
-
 none-behind : (o : Option Domain) (p : Option Domains) → and_then o (λ x. option_map (more_domains x) p) ≡ Some no_domains → ⊥
 none-behind None p h = cc
 none-behind (Some x) None h = cc
@@ -104,7 +92,7 @@ module _ (env0 : Env) (q : ℕ → Text) (q-apart : (m l : ℕ) → l < m → sa
           let r = first-of c no_doms (E bs) y no_domains p.1 in r.0
 
       one : (k : Key) → PairFlag x y k → PairRelationKeyReady env0 q q-apart d x k
-      one Key.Reflexive f = values-listed env0 q q-apart d x dm f.0
+      one Key.Reflexive f = values-listed env0 q q-apart d x dm f
       one _ f = tt
   pair-key-ready no_doms (more_domains x (more_domains y no_domains)) m v w vm k f = let z = m [] in cc
   pair-key-ready (more_doms d no_doms) (more_domains x (more_domains y no_domains)) m v w vm k f =
@@ -131,7 +119,7 @@ module _ (env0 : Env) (q : ℕ → Text) (q-apart : (m l : ℕ) → l < m → sa
       Ready env0 q q-apart size_terms (repr ReprKind.RelationAsMatrix no_reprs) (relation_dom ms es ds) (relations ks xs)
   matrix-ready ms es ds ks xs i = (
     are-atoms xs i.room,
-    each-flag (RelationFlag xs) (MatrixKeyReady env0 q q-apart ds xs) ks one i.neat.1,
+    each-flag (RelationFlag xs) (RelationKeyReady env0 q q-apart ds xs (bare_relation_dom ds) (relations [] xs)) ks one i.neat.1,
     axes-are env0 q q-apart ds xs m i.room,
     relation-attributes (repr ReprKind.RelationAsMatrix no_reprs) ms es ds ks xs i,
   )
@@ -139,9 +127,7 @@ module _ (env0 : Env) (q : ℕ → Text) (q-apart : (m l : ℕ) → l < m → sa
       m : (bs : Names env0 q q-apart) → domains_of ds (E bs) ≡ Some xs
       m = components (repr ReprKind.RelationAsMatrix no_reprs) ms es ds ks xs i
 
-      one : (k : Key) → RelationFlag xs k → MatrixKeyReady env0 q q-apart ds xs k
-      one Key.Reflexive f = within-one xs i.room (reflexive-one xs f)
-      one Key.Irreflexive f = within-one xs i.room f
+      one : (k : Key) → RelationFlag xs k → RelationKeyReady env0 q q-apart ds xs (bare_relation_dom ds) (relations [] xs) k
       one k f = pair-key-ready ds xs m (bare_relation_dom ds) (relations [] xs) (λ bs. ap (option_map (relations [])) (m bs)) k f
 
   -- What is known of the set of a relation's tuples.

@@ -1,5 +1,5 @@
 -- Laws of structures of judged domains, each stated at a function that does nothing.
-use Rattle.std.specs.Prelude.{◌≡◌, ℕ, ◌<◌, Bool, true, false, List, [], length, Some}
+use Rattle.std.specs.Prelude.{◌≡◌, ℕ, ◌<◌, Bool, true, false, List, [], ◌∷◌, length, pos, Some}
 use Rattle.ess_semantics.specs.Values.{Text, truth}
 use Rattle.ess_semantics.specs.Order.{same_text}
 use Rattle.ess_semantics.specs.Trees.{Repr, no_exs, Dom, Stm}
@@ -13,17 +13,22 @@ use Rattle.ess_semantics.specs.Declarations.{declarations, axes_of}
 use Rattle.ess_semantics.specs.CanonicalTest.{canonical}
 use Rattle.ess_semantics.specs.Tidy.{over_axes}
 use Rattle.ess_semantics.specs.Meaning.{Env, meaning, domain_of}
+use Rattle.ess_semantics.specs.Totality.{Total, TotalDom}
+use Rattle.ess_semantics.specs.Constants.{constants_of_tree, among_constants, dom_constants}
 use Rattle.ess_semantics.specs.FreeNames.{FreeNamesAreDom}
 use Rattle.ess_semantics.specs.Scopes.{Scope}
 use Rattle.ess_semantics.specs.DomainJudgements.{needs_known_slots}
 use Rattle.ess_semantics.specs.Judgements.{ill_typed, not_enumerable, domain_in, meets}
+use Rattle.ess_guard_laws.specs.Covered.{CoveredDom}
+use Rattle.ess_guard_laws.specs.LiteralsFit.{DomLiteralsFit}
 use Rattle.ess_repr_laws.specs.CanonicalTables.{TablesFit}
 use Rattle.ess_repr_laws.specs.Structure.{structure}
 use Rattle.ess_repr_laws.specs.StructureMeaning.{Bound, M, FoundBy}
 use Rattle.ess_repr_laws.specs.StructureReady.{Ready}
 use Rattle.ess_repr_declare_laws.specs.SizeTerms.{size_terms}
 use Rattle.ess_repr_structure_laws.specs.DomainNumbers.{NumbersIn}
-use Rattle.ess_repr_structure_laws.specs.OrderlyDomains.{Orderly, Diagonal}
+use Rattle.ess_repr_structure_laws.specs.OrderlyDomains.{Orderly}
+use Rattle.ess_repr_structure_laws.specs.TotalNumbers.{total_dom}
 
 -- The free names of the domain are among names that aren't reserved.
 pub record NamesApart (q : ℕ → Text) (d : Dom) : Type 0 where
@@ -35,12 +40,17 @@ pub record NamesApart (q : ℕ → Text) (d : Dom) : Type 0 where
 -- and it mentions no reserved name.
 pub record JudgedView (env0 : Env) (q : ℕ → Text) (r : Repr) (d : Dom) (e : Domain) : Type 0 where
   pub orderly : Orderly d
-  pub diagonal : Diagonal d
   pub known : needs_known_slots d ≡ true
   pub fit : fits r d ≡ true
   pub denotes : domain_of d env0 ≡ Some e
   pub plain : no_negative_attribute e ≡ true
   pub numbers : NumbersIn d env0
+  pub apart : NamesApart q d
+
+-- The domain denotes e, without attribute values below 0, and mentions no reserved name.
+pub record DenotedView (env0 : Env) (q : ℕ → Text) (d : Dom) (e : Domain) : Type 0 where
+  pub denotes : domain_of d env0 ≡ Some e
+  pub plain : no_negative_attribute e ≡ true
   pub apart : NamesApart q d
 
 -- A domain that is judged to be well typed, with enumerable domains where members are listed, is orderly.
@@ -62,3 +72,25 @@ JudgedStructuresMeanCanonical =
     JudgedView env0 q r d e → (ns : List Text) (ts : Tables) (l : ℕ) (bs : Bound env0 q apart) → length ns ≡ width r →
     FoundBy env0 q apart ns ts → over_axes [] (axes_of r e) ts ≡ true → TablesFit (declarations r e) ts →
     meaning (structure q size_terms r d ns l no_exs) (M env0 q apart bs) ≡ Some (truth (canonical r e (cells_of ts)))
+
+-- The structure of a view is total, whatever reserved names are bound: where the numbers of the domain are; and with each bound and
+-- attribute value under its conditions, where these are covered. With them there it means that the cells are canonical, as without.
+pub record StructuresAreTotal : Type 0 where
+  pub total : (env0 : Env) (q : ℕ → Text) (apart : (m l : ℕ) → l < m → same_text (q m) (q l) ≡ false) (r : Repr) (d : Dom) (e : Domain) →
+      DenotedView env0 q d e → ((bs : Bound env0 q apart) → TotalDom d (M env0 q apart bs)) → (ns : List Text) (l : ℕ) (bs : Bound env0 q apart) →
+      Total (structure q size_terms r d ns l no_exs) (M env0 q apart bs)
+  pub guarded : (x y : Text) (env0 : Env) (q : ℕ → Text) (apart : (m l : ℕ) → l < m → same_text (q m) (q l) ≡ false) (r : Repr) (d : Dom)
+      (e : Domain) → DenotedView env0 q d e → CoveredDom d → (ns : List Text) (l : ℕ) (bs : Bound env0 q apart) →
+      Total (structure q size_terms r (total_dom x y d) ns l no_exs) (M env0 q apart bs)
+  pub means : (x y : Text) (env0 : Env) (q : ℕ → Text) (apart : (m l : ℕ) → l < m → same_text (q m) (q l) ≡ false) (r : Repr) (d : Dom)
+      (e : Domain) → JudgedView env0 q r d e → (ns : List Text) (ts : Tables) (l : ℕ) (bs : Bound env0 q apart) → length ns ≡ width r →
+      FoundBy env0 q apart ns ts → over_axes [] (axes_of r e) ts ≡ true → TablesFit (declarations r e) ts →
+      meaning (structure q size_terms r (total_dom x y d) ns l no_exs) (M env0 q apart bs) ≡ Some (truth (canonical r e (cells_of ts)))
+
+-- The structure of a view spells no numbers but those of its domain, 0, 1 and 2; also with the domain's numbers under their conditions,
+-- where its literals stand where types allow them.
+pub record StructuresSpellConstants : Type 0 where
+  pub own : (q : ℕ → Text) (r : Repr) (d : Dom) (ns : List Text) (l : ℕ) →
+      among_constants (constants_of_tree (structure q size_terms r d ns l no_exs)) (pos 0 ∷ pos 1 ∷ pos 2 ∷ dom_constants d) ≡ true
+  pub guarded : (x y : Text) (q : ℕ → Text) (r : Repr) (d : Dom) (ns : List Text) (l : ℕ) → DomLiteralsFit d →
+      among_constants (constants_of_tree (structure q size_terms r (total_dom x y d) ns l no_exs)) (pos 0 ∷ pos 1 ∷ pos 2 ∷ dom_constants d) ≡ true

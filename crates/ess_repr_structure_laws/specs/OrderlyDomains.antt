@@ -1,9 +1,8 @@
 -- What the judgements on domains say of each layer of a domain, as far as structures need it.
-use Rattle.std.specs.Prelude.{◌≡◌, ◌||◌, true}
+use Rattle.std.specs.Prelude.{◌≡◌, true}
 use Rattle.std.specs.List.{list_all}
-use Rattle.ess_semantics.specs.declared.words.Key.{Key}
 use Rattle.ess_semantics.specs.DomainJudgements.{marks_fit, is_enumerable, listed_domains}
-use Rattle.ess_semantics.specs.Kinds.{are_atoms, has_key}
+use Rattle.ess_semantics.specs.Kinds.{are_atoms}
 use Rattle.ess_semantics.specs.Trees.{Dom, Doms, tuple_dom, record_dom, matrix_dom, set_dom, mset_dom, function_dom, relation_dom, partition_dom, no_doms, more_doms}
 
 -- The attributes are those of the domain's kind, none stands twice, and the domains whose members they list are enumerable.
@@ -27,26 +26,3 @@ abbrev mutual
   pub AllOrderly : Doms → Type 0
   AllOrderly no_doms = Unit {0}
   AllOrderly (more_doms d ds) = Orderly d × AllOrderly ds
-
--- Both components are one domain.
-abbrev pub SameSides : Doms → Type 0
-SameSides (more_doms d (more_doms c no_doms)) = d ≡ c
-SameSides ds = ⊥
-
-abbrev mutual
-  -- A relation that is asked to be reflexive or irreflexive is one between a domain and itself.
-  pub Diagonal : Dom → Type 0
-  Diagonal (tuple_dom ds) = AllDiagonal ds
-  Diagonal (record_dom fs ds) = AllDiagonal ds
-  Diagonal (matrix_dom is d) = Diagonal d
-  Diagonal (set_dom ms es d) = Diagonal d
-  Diagonal (mset_dom ms es d) = Diagonal d
-  Diagonal (function_dom ms es d c) = Diagonal d × Diagonal c
-  Diagonal (relation_dom ms es ds) = (has_key Key.Reflexive ms || has_key Key.Irreflexive ms ≡ true → SameSides ds) × AllDiagonal ds
-  Diagonal (partition_dom ms es d) = Diagonal d
-  Diagonal d = Unit {0}
-
-  -- The same of several domains.
-  pub AllDiagonal : Doms → Type 0
-  AllDiagonal no_doms = Unit {0}
-  AllDiagonal (more_doms d ds) = Diagonal d × AllDiagonal ds

@@ -1,6 +1,6 @@
 //! Laws of structures of judged domains, each the contract of a function that does nothing.
 
-ghost use Rattle.ess_repr_structure_laws.specs.Laws.{JudgedDomainsAreOrderly, JudgedViewsAreReady, JudgedStructuresMeanCanonical};
+ghost use Rattle.ess_repr_structure_laws.specs.Laws.{JudgedDomainsAreOrderly, JudgedViewsAreReady, JudgedStructuresMeanCanonical, StructuresAreTotal, StructuresSpellConstants};
 
 /// A domain that meets the judgements is one that the other laws speak of.
 pub fn judged_domains_are_orderly()
@@ -15,4 +15,15 @@ pub fn judged_views_are_ready()
 /// The structure constraint of a view of a judged domain means that its cells are canonical.
 pub fn judged_structures_mean_canonical()
     ensures { JudgedStructuresMeanCanonical }
+{}
+
+/// The structure constraint of a view is total where the numbers of its domain are, or stand under their conditions; and means the same
+/// with them.
+pub fn structures_are_total()
+    ensures { StructuresAreTotal }
+{}
+
+/// The structure constraint of a view spells no numbers but those of its domain, 0, 1 and 2.
+pub fn structures_spell_constants()
+    ensures { StructuresSpellConstants }
 {}

@@ -1,0 +1,10 @@
+pub mod Replaced
+pub mod PartialNumbers
+pub mod Bounds
+pub mod Everywhere
+pub mod RefinedTrees
+pub mod LeavingConditions
+pub mod AllRules
+pub mod ScalarOperands
+pub mod Progress
+pub mod ExamplesEverywhere

@@ -1,0 +1,252 @@
+-- All rules that need no kind, in one place: what each makes of the root of a tree, in the order in which they are tried, and what
+-- each counts on.
+use Rattle.std.specs.Prelude.{◌≡◌, Bool, false, List, [], ◌∷◌, Option, Some, None, IsTrue, is_some}
+use Rattle.ess_semantics.specs.Lists.{and_then, or_else}
+use Rattle.ess_semantics.specs.Values.{Text}
+use Rattle.ess_semantics.specs.Order.{same_text}
+use Rattle.ess_semantics.specs.Names.{Names}
+use Rattle.ess_semantics.specs.Trees.{name_pat, Ex, comp_ex, ex2, fun1, from, Dom}
+use Rattle.ess_semantics.specs.Types.{Ty}
+use Rattle.ess_semantics.specs.Typed.{Typed}
+use Rattle.ess_semantics.specs.Meaning.{Env}
+use Rattle.ess_semantics.specs.Contexts.{Each}
+use Rattle.ess_semantics.specs.Kept.{Keeps}
+use Rattle.ess_rules_laws.specs.Rules.{Unused, SoundOperands, OperandsThere}
+use Rattle.ess_rules_laws.specs.FoldRules.{fold_alone, fold_nothing, fold_one, fold_bare, fold_term, ItemFits, BareFits}
+use Rattle.ess_rules_laws.specs.LooseRules.{fold_loosely}
+use Rattle.ess_rules_laws.specs.SourceRules.{fold_items, ItemsApart}
+use Rattle.ess_rules_laws.specs.SpliceRules.{splice, SourceThere, NamesApart}
+use Rattle.ess_rules_laws.specs.SplitRules.{split, DomainThere, DomainApart}
+use Rattle.ess_rules_laws.specs.TupleNames.{name_over_tuple}
+use Rattle.ess_rules_laws.specs.Listings.{Alternative, listing}
+use Rattle.ess_rules_laws.specs.ContainerListings.{made_listing, range_as_set}
+use Rattle.ess_rules_laws.specs.ListedSources.{source_alone, source_parts, SourceApart, SourceOffers}
+use Rattle.ess_rules_laws.specs.LiteralRules.{component_listed, different_listed, extreme_listed, ComponentFits, ListThere}
+use Rattle.ess_rules_laws.specs.FieldLiterals.{field_listed, FieldFits}
+use Rattle.ess_rules_laws.specs.InclusionRules.{unequal, included_turned, included_strictly, included_members, included_often, equal_members, equal_often, equal_pairs}
+use Rattle.ess_rules_laws.specs.ComponentRules.{equal_components, equal_fields}
+use Rattle.ess_rules_laws.specs.PartitionRules.{equal_parts}
+use Rattle.ess_rules_laws.specs.MatrixRules.{equal_matrices, equal_to_nothing, BothIndexed, UnusedDom}
+use Rattle.ess_rules_laws.specs.MembershipRules.{member_term, member_combined, member_changed, member_listed, CombinedThere, ItemsThere}
+use Rattle.ess_rules_laws.specs.FunctionMembershipRules.{member_of_function, member_related}
+use Rattle.ess_rules_laws.specs.SizeRules.{size_term, frequency_term, together_term}
+use Rattle.ess_rules_laws.specs.ShortSizeRules.{SoundWithin, size_made, frequency_made, frequency_listed}
+use Rattle.ess_rules_laws.specs.ListRules.{list_term, lex_left, lex_right, different_term}
+use Rattle.ess_rules_laws.specs.ChoiceRules.{choice_shorter, ChoicesFit}
+use Rattle.ess_refine_laws.specs.LeavingConditions.{condition_leaves, LeavesFits}
+
+-- The rules, by what they rewrite.
+pub data Rule : Type 0 where
+  -- Folds: over nothing, one item, any term, a literal, a set made of another container.
+  over_nothing over_one over_one_binding over_a_term over_a_literal over_a_made_set : Rule
+  -- Generators: over what offers a listing, a comprehension, a tuple of domains by a pattern or by a name; a condition alone.
+  over_a_source of_one_source over_a_comprehension over_tuples over_a_tuple over_a_condition : Rule
+  -- Components and fields of literals.
+  component_of_a_tuple field_of_a_record : Rule
+  -- Comparisons.
+  not_equal turned strictly equal_tuples equal_records equal_sets equal_multisets equal_functions equal_partitions : Rule
+  with_nothing equal_matrices_at included_sets included_multisets : Rule
+  -- Membership.
+  in_two in_one_made_of_another in_a_literal in_what_a_function_has in_its_pairs in_a_term : Rule
+  -- Sizes and frequencies.
+  size_of_one_made_of_another size frequency_in_one_made_of_another frequency_in_a_literal frequency together : Rule
+  -- Lists, and sets of results.
+  least_of_a_literal different_items list_of_a_term list_on_the_left list_on_the_right all_different results : Rule
+  -- Numbers that conditions choose, and conditions that read cells.
+  choice condition : Rule
+
+-- What the rules take: names that stand nowhere in the tree, two and one for each component of a domain, and the index domain of
+-- each matrix.
+pub record Supply : Type 0 where
+  pub one : Text
+  pub other : Text
+  pub parts : List Text
+  pub index_domain : Ex → Dom
+
+-- What the term offers as a listing.
+abbrev pub offered : Supply → Names Ty → Ex → Option (List Alternative)
+offered s g t = or_else (listing g s.one t) (made_listing g s.one s.other t)
+
+-- A fold over the alternatives of the first source.
+abbrev pub source_listed : Supply → Names Ty → Ex → Option Ex
+source_listed s g (fun1 m f (comp_ex e (from (name_pat y) t hs))) =
+    and_then (offered s g t) (λ l. source_parts l (fun1 m f (comp_ex e (from (name_pat y) t hs))))
+source_listed s g e = None
+
+-- The only alternative.
+abbrev pub only_one : Option (List Alternative) → Option Alternative
+only_one (Some (a ∷ [])) = Some a
+only_one o = None
+
+-- A word that forgets order over the only alternative of the first source.
+abbrev pub source_listed_once : Supply → Names Ty → Ex → Option Ex
+source_listed_once s g (fun1 m f (comp_ex e (from (name_pat y) t hs))) =
+    and_then (only_one (offered s g t)) (λ a. source_alone a (fun1 m f (comp_ex e (from (name_pat y) t hs))))
+source_listed_once s g e = None
+
+-- Matrices by their items, over the index domains of both.
+abbrev pub matrices_at : Supply → Names Ty → Ex → Option Ex
+matrices_at s g (ex2 m o a b) = equal_matrices (s.index_domain a) (s.index_domain b) g s.one s.other (ex2 m o a b)
+matrices_at s g e = None
+
+-- What the rule makes of the root, where it fires.
+abbrev pub rewrite : Supply → Names Ty → Rule → Ex → Option Ex
+rewrite s g over_nothing e = fold_nothing e
+rewrite s g over_one e = fold_one e
+rewrite s g over_one_binding e = fold_bare e
+rewrite s g over_a_term e = fold_term s.one e
+rewrite s g over_a_literal e = fold_items e
+rewrite s g over_a_made_set e = fold_loosely e
+rewrite s g over_a_source e = source_listed s g e
+rewrite s g of_one_source e = source_listed_once s g e
+rewrite s g over_a_comprehension e = splice e
+rewrite s g over_tuples e = split e
+rewrite s g over_a_tuple e = name_over_tuple s.parts e
+rewrite s g over_a_condition e = fold_alone e
+rewrite s g component_of_a_tuple e = component_listed e
+rewrite s g field_of_a_record e = field_listed e
+rewrite s g not_equal e = unequal e
+rewrite s g turned e = included_turned e
+rewrite s g strictly e = included_strictly g s.one e
+rewrite s g equal_tuples e = equal_components g s.one e
+rewrite s g equal_records e = equal_fields g s.one e
+rewrite s g equal_sets e = equal_members g s.one e
+rewrite s g equal_multisets e = equal_often g s.one e
+rewrite s g equal_functions e = equal_pairs g s.one e
+rewrite s g equal_partitions e = equal_parts g s.one e
+rewrite s g with_nothing e = equal_to_nothing g s.one e
+rewrite s g equal_matrices_at e = matrices_at s g e
+rewrite s g included_sets e = included_members g s.one e
+rewrite s g included_multisets e = included_often s.one e
+rewrite s g in_two e = member_combined e
+rewrite s g in_one_made_of_another e = member_changed e
+rewrite s g in_a_literal e = member_listed e
+rewrite s g in_what_a_function_has e = member_of_function g s.one e
+rewrite s g in_its_pairs e = member_related s.one e
+rewrite s g in_a_term e = member_term s.one e
+rewrite s g size_of_one_made_of_another e = size_made g s.one e
+rewrite s g size e = size_term g s.one e
+rewrite s g frequency_in_one_made_of_another e = frequency_made g s.one e
+rewrite s g frequency_in_a_literal e = frequency_listed e
+rewrite s g frequency e = frequency_term s.one e
+rewrite s g together e = together_term s.one e
+rewrite s g least_of_a_literal e = extreme_listed e
+rewrite s g different_items e = different_listed e
+rewrite s g list_of_a_term e = list_term s.one e
+rewrite s g list_on_the_left e = lex_left s.one e
+rewrite s g list_on_the_right e = lex_right s.one e
+rewrite s g all_different e = different_term s.one e
+rewrite s g results e = range_as_set g s.one e
+rewrite s g choice e = choice_shorter e
+rewrite s g condition e = condition_leaves e
+
+-- ---- what they count on
+
+-- P of what is there.
+abbrev pub OfSome : {A : Type 0} → Option A → (A → Type 0) → Type 0
+OfSome None P = Unit {0}
+OfSome (Some a) P = P a
+
+-- Names are told apart, and the first source is there and offers the alternatives.
+abbrev pub ListedApart : List Alternative → Ex → Env → Type 0
+ListedApart l e env = (r : Text → Bool) × (u : Text → Bool) × SourceApart r u l e × SourceOffers l e env
+
+-- What the first source offers.
+abbrev pub SourceListed : Supply → Names Ty → Ex → Env → Type 0
+SourceListed s g (fun1 m f (comp_ex e (from (name_pat y) t hs))) env =
+    OfSome (offered s g t) (λ l. ListedApart l (fun1 m f (comp_ex e (from (name_pat y) t hs))) env)
+SourceListed s g e env = Unit {0}
+
+-- The index domains are those of the operands, and the first new name stands in neither.
+abbrev pub MatricesIndexed : Supply → Ex → Env → Type 0
+MatricesIndexed s (ex2 m o a b) env =
+    (same_text s.other s.one ≡ false) × UnusedDom s.one (s.index_domain a) × UnusedDom s.one (s.index_domain b)
+    × BothIndexed (s.index_domain a) (s.index_domain b) (ex2 m o a b) env
+MatricesIndexed s e env = Unit {0}
+
+-- What the rule counts on at a root, beside that names have values of their types.
+abbrev pub CountsOn : Supply → Names Ty → Rule → Ex → Env → Type 0
+CountsOn s g over_nothing e env = Unit {0}
+CountsOn s g over_one e env = ItemFits e env
+CountsOn s g over_one_binding e env = BareFits e env
+CountsOn s g over_a_term e env = Unused s.one e
+CountsOn s g over_a_literal e env = (u : Text → Bool) × ItemsApart u e × OperandsThere e env
+CountsOn s g over_a_made_set e env = Unit {0}
+CountsOn s g over_a_source e env = SourceListed s g e env × OperandsThere e env
+CountsOn s g of_one_source e env = SourceListed s g e env
+CountsOn s g over_a_comprehension e env = (r : Text → Bool) × (u : Text → Bool) × NamesApart r u e × SourceThere e env
+CountsOn s g over_tuples e env = (r : Text → Bool) × DomainApart r e × DomainThere e env
+CountsOn s g over_a_tuple e env = Unit {0}
+CountsOn s g over_a_condition e env = Unit {0}
+CountsOn s g component_of_a_tuple e env = ComponentFits e env
+CountsOn s g field_of_a_record e env = FieldFits e env
+CountsOn s g not_equal e env = OperandsThere e env
+CountsOn s g turned e env = Unit {0}
+CountsOn s g strictly e env = Unused s.one e × SoundOperands g e
+CountsOn s g equal_tuples e env = Unused s.one e × SoundOperands g e × OperandsThere e env
+CountsOn s g equal_records e env = Unused s.one e × SoundOperands g e × OperandsThere e env
+CountsOn s g equal_sets e env = Unused s.one e × SoundOperands g e
+CountsOn s g equal_multisets e env = Unused s.one e × SoundOperands g e
+CountsOn s g equal_functions e env = Unused s.one e × SoundOperands g e
+CountsOn s g equal_partitions e env = Unused s.one e × SoundOperands g e
+CountsOn s g with_nothing e env = Unused s.one e × SoundOperands g e × OperandsThere e env
+CountsOn s g equal_matrices_at e env = Unused s.one e × SoundOperands g e × OperandsThere e env × MatricesIndexed s e env
+CountsOn s g included_sets e env = Unused s.one e × SoundOperands g e × OperandsThere e env
+CountsOn s g included_multisets e env = Unused s.one e × OperandsThere e env
+CountsOn s g in_two e env = CombinedThere e env
+CountsOn s g in_one_made_of_another e env = Unit {0}
+CountsOn s g in_a_literal e env = ItemsThere e env
+CountsOn s g in_what_a_function_has e env = Unused s.one e × SoundWithin g e
+CountsOn s g in_its_pairs e env = Unused s.one e
+CountsOn s g in_a_term e env = Unused s.one e
+CountsOn s g size_of_one_made_of_another e env = Unused s.one e × SoundWithin g e
+CountsOn s g size e env = Unused s.one e × SoundOperands g e
+CountsOn s g frequency_in_one_made_of_another e env = Unused s.one e × SoundWithin g e × OperandsThere e env
+CountsOn s g frequency_in_a_literal e env = OperandsThere e env
+CountsOn s g frequency e env = Unused s.one e × OperandsThere e env
+CountsOn s g together e env = Unused s.one e
+CountsOn s g least_of_a_literal e env = Unit {0}
+CountsOn s g different_items e env = ListThere e env
+CountsOn s g list_of_a_term e env = Unused s.one e
+CountsOn s g list_on_the_left e env = Unused s.one e
+CountsOn s g list_on_the_right e env = Unused s.one e
+CountsOn s g all_different e env = Unused s.one e
+CountsOn s g results e env = Unused s.one e × SoundOperands g e
+CountsOn s g choice e env = ChoicesFit e env
+CountsOn s g condition e env = LeavesFits e env
+
+-- ---- the order
+
+-- The rules in the order in which they are tried at a node: shorter forms before the general ones, conditions last. That all items
+-- differ is said of pairs where these can be listed.
+abbrev pub all_rules : List Rule
+all_rules =
+    over_nothing ∷ over_one ∷ over_one_binding ∷ over_a_condition ∷ over_a_made_set ∷ over_tuples ∷ over_a_tuple
+    ∷ over_a_comprehension ∷ over_a_literal ∷ over_a_source ∷ of_one_source ∷ over_a_term
+    ∷ component_of_a_tuple ∷ field_of_a_record
+    ∷ not_equal ∷ turned ∷ strictly ∷ equal_tuples ∷ equal_records ∷ equal_sets ∷ equal_multisets ∷ equal_functions ∷ equal_partitions
+    ∷ with_nothing ∷ equal_matrices_at ∷ included_sets ∷ included_multisets
+    ∷ in_two ∷ in_one_made_of_another ∷ in_a_literal ∷ in_what_a_function_has ∷ in_its_pairs ∷ in_a_term
+    ∷ size_of_one_made_of_another ∷ size ∷ frequency_in_one_made_of_another ∷ frequency_in_a_literal ∷ frequency ∷ together
+    ∷ least_of_a_literal ∷ different_items ∷ list_of_a_term ∷ list_on_the_left ∷ list_on_the_right ∷ all_different ∷ results
+    ∷ choice ∷ condition ∷ []
+
+-- What the first of the rules that fires makes of the root.
+abbrev pub first_rewrite : Supply → Names Ty → List Rule → Ex → Option Ex
+first_rewrite s g [] e = None
+first_rewrite s g (r ∷ rs) e = or_else (rewrite s g r e) (first_rewrite s g rs e)
+
+-- What all rules together make of the root.
+abbrev pub rule_at : Supply → Names Ty → Ex → Option Ex
+rule_at s g e = first_rewrite s g all_rules e
+
+-- Each rule that fires has what it counts on.
+abbrev pub FiringFit : Supply → Names Ty → List Rule → Ex → Env → Type 0
+FiringFit s g rs e env = Each rs (λ r. IsTrue (is_some (rewrite s g r e)) → CountsOn s g r e env)
+
+-- So each rule keeps what it rewrites, and so do all together.
+pub record AllRulesKeep : Type 0 where
+  pub each : (s : Supply) (g : Names Ty) (r : Rule) (e f : Ex) → rewrite s g r e ≡ Some f → (env : Env) → Typed g env →
+      CountsOn s g r e env → Keeps e f env
+  pub together : (s : Supply) (g : Names Ty) (e f : Ex) → rule_at s g e ≡ Some f → (env : Env) → Typed g env →
+      FiringFit s g all_rules e env → Keeps e f env

@@ -1,0 +1,4 @@
+pub mod Everywhere
+pub mod LeavingConditions
+pub mod AllRules
+pub mod Progress

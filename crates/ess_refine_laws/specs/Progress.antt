@@ -1,0 +1,139 @@
+-- Progress: in a tree of a scalar that isn't refined some rule fires at some part, or a part is left to a kind or to a lookup.
+use Rattle.std.specs.Prelude.{◌≡◌, Bool, true, false, ◌&&◌, ◌||◌, not, List, Option, Some, None}
+use Rattle.std.specs.List.{list_all}
+use Rattle.ess_semantics.specs.declared.words.Fun.{Fun}
+use Rattle.ess_semantics.specs.Values.{Text}
+use Rattle.ess_semantics.specs.Names.{Names}
+use Rattle.ess_semantics.specs.Operators.{iff}
+use Rattle.ess_semantics.specs.Trees.{Op, word, matrix_literal, index, application, is_truth_op, Pat, name_pat, Ex, Exs, number_ex, truth_ex, name_ex, node_ex, matrix_ex, comp_ex, cell_ex, seen_ex, no_exs, more_exs, Gens, no_gens, over, from, cond, Dom, Doms, bool_dom, int_dom, name_dom, tuple_dom, record_dom}
+use Rattle.ess_semantics.specs.Types.{Ty, bool_ty, int_ty, named_ty, type_of_dom, bind_types}
+use Rattle.ess_semantics.specs.Typing.{type_of, types_of, source_ty}
+use Rattle.ess_semantics.specs.Kinds.{is_bounded}
+use Rattle.ess_semantics.specs.ExpressionJudgements.{pattern_fits}
+use Rattle.ess_semantics.specs.Contexts.{In, fill}
+use Rattle.ess_semantics.specs.NamesAt.{names_behind, names_at}
+use Rattle.ess_semantics.specs.Refined.{is_list_op, is_refined}
+use Rattle.ess_rules_laws.specs.SpliceRules.{append_gens}
+use Rattle.ess_rules_laws.specs.SplitRules.{split}
+use Rattle.ess_rules_laws.specs.TupleNames.{name_over_tuple, are_names}
+use Rattle.ess_rules_laws.specs.ListRules.{different_term}
+use Rattle.ess_rules_laws.specs.Progress.{Fires, HasMembers, is_parted, is_plain_source, has_members}
+
+-- ---- judged trees
+
+-- Whether the type is of truth values, of numbers, or a named one.
+abbrev pub is_scalar : Option Ty → Bool
+is_scalar (Some bool_ty) = true
+is_scalar (Some int_ty) = true
+is_scalar (Some (named_ty t)) = true
+is_scalar t = false
+
+-- Whether the type is one of these or of compound values: not that of the members of an empty literal.
+abbrev pub is_known : Option Ty → Bool
+is_known t = is_scalar t || is_parted t
+
+-- Whether the operand is left to a kind or to a lookup: a view, an index, an application or `image`.
+abbrev pub is_picked : Ex → Bool
+is_picked (seen_ex r d ns es) = true
+is_picked (node_ex b (index qs) es) = true
+is_picked (node_ex b application es) = true
+is_picked (node_ex b (word Fun.Image) es) = true
+is_picked e = false
+
+-- Whether the items of a comprehension or a list literal are scalars.
+abbrev pub has_scalar_items : Ex → Names Ty → Bool
+has_scalar_items (comp_ex e gs) g = is_scalar (type_of e (names_behind gs g))
+has_scalar_items (node_ex false matrix_literal es) g = list_all is_scalar (types_of es g)
+has_scalar_items l g = true
+
+-- The same of several.
+abbrev pub have_scalar_items : Exs → Names Ty → Bool
+have_scalar_items no_exs g = true
+have_scalar_items (more_exs l es) g = has_scalar_items l g && have_scalar_items es g
+
+-- Whether the operator reads lists whose items must be scalars: each operator on lists but `allDiff`.
+abbrev pub reads_scalars : Op → Bool
+reads_scalars (word Fun.AllDiff) = false
+reads_scalars op = is_list_op op
+
+-- Whether the lists that such an operator reads have scalars.
+abbrev pub lists_fit : Op → Exs → Names Ty → Bool
+lists_fit op es g = not (reads_scalars op) || have_scalar_items es g
+
+abbrev mutual
+  -- What progress counts on in each part: marks are right, operands have known types, lists under folds, `min`, `max` and the
+  -- lexicographic signs have scalars, indices of cells are scalars, generators run over atoms, tuples and records of
+  -- domains, which patterns fit, or over terms that have members.
+  pub is_judged : Ex → Names Ty → Bool
+  is_judged (number_ex n) g = true
+  is_judged (truth_ex b) g = true
+  is_judged (name_ex a) g = true
+  is_judged (node_ex b op es) g =
+      is_picked (node_ex b op es)
+      || (iff b (is_truth_op op) && (lists_fit op es g && (list_all is_known (types_of es g) && are_judged es g)))
+  is_judged (matrix_ex es d) g = true
+  is_judged (comp_ex e gs) g =
+      is_judged e (names_behind gs g) && gens_judged gs g
+  is_judged (cell_ex b n es) g = list_all is_scalar (types_of es g) && are_judged es g
+  is_judged (seen_ex r d ns es) g = true
+
+  -- The same of operands.
+  pub are_judged : Exs → Names Ty → Bool
+  are_judged no_exs g = true
+  are_judged (more_exs e es) g = is_judged e g && are_judged es g
+
+  -- The same of generators.
+  pub gens_judged : Gens → Names Ty → Bool
+  gens_judged no_gens g = true
+  gens_judged (over p d gs) g = pattern_fits p (type_of_dom d) && (dom_judged d g && gens_judged gs (bind_types p (type_of_dom d) g))
+  gens_judged (from p e gs) g =
+      has_members (type_of e g) && (is_plain_source g e && gens_judged gs (bind_types p (source_ty e g) g))
+  gens_judged (cond c gs) g = is_scalar (type_of c g) && (is_judged c g && gens_judged gs g)
+
+  -- The same of the domain of a generator.
+  pub dom_judged : Dom → Names Ty → Bool
+  dom_judged bool_dom g = true
+  dom_judged (name_dom t) g = true
+  dom_judged (int_dom rs es) g = is_bounded rs && (list_all is_scalar (types_of es g) && are_judged es g)
+  dom_judged (tuple_dom ds) g = true
+  dom_judged (record_dom fs ds) g = true
+  dom_judged d g = false
+
+-- ---- what moves
+
+-- Some rule fires at the root, or at a generator of it, or the root is left to a kind or a lookup; x and y are new names, d an
+-- index domain. A source offers a listing or is left. A name over a tuple of domains becomes a tuple of any new names; one
+-- over a record of domains is left too.
+module _ (x y : Text) (d : Dom) where
+  pub data Moves : Names Ty → Ex → Type 0 where
+    by_a_rule : {g : Names Ty} {e : Ex} → Fires g x d e → Moves g e
+    by_all_different : {g : Names Ty} {e f : Ex} → different_term x e ≡ Some f → Moves g e
+    at_a_source : {g : Names Ty} (e : Ex) (gs : Gens) (p : Pat) (s : Ex) (hs : Gens) → HasMembers (names_behind gs g) x y s →
+        Moves g (comp_ex e (append_gens gs (from p s hs)))
+    at_a_pattern : {g : Names Ty} (e f : Ex) (gs : Gens) (p : Pat) (c : Dom) (hs : Gens) → split (comp_ex e (over p c hs)) ≡ Some f →
+        Moves g (comp_ex e (append_gens gs (over p c hs)))
+    at_a_tuple : {g : Names Ty} (e : Ex) (gs : Gens) (a : Text) (ds : Doms) (hs : Gens) →
+        ((ys : List Text) → are_names ys ds ≡ true →
+        (f : Ex) × (name_over_tuple ys (comp_ex e (over (name_pat a) (tuple_dom ds) hs)) ≡ Some f)) →
+        Moves g (comp_ex e (append_gens gs (over (name_pat a) (tuple_dom ds) hs)))
+    at_a_record : {g : Names Ty} (e : Ex) (gs : Gens) (a : Text) (fs : List Text) (ds : Doms) (hs : Gens) →
+        Moves g (comp_ex e (append_gens gs (over (name_pat a) (record_dom fs ds) hs)))
+    is_left : {g : Names Ty} {e : Ex} → is_picked e ≡ true → Moves g e
+
+  -- A part of the tree at which this is so.
+  pub record Work (g : Names Ty) (e : Ex) : Type 0 where
+    pub context : In
+    pub part : Ex
+    pub whole : e ≡ fill context part
+    pub moves : Moves (names_at context g) part
+
+  -- The tree is refined, or has such a part.
+  pub data Progress (g : Names Ty) (e : Ex) : Type 0 where
+    is_done : is_refined e ≡ true → Progress g e
+    goes_on : Work g e → Progress g e
+
+-- ---- the law
+
+-- So it is with each judged tree of a scalar.
+abbrev pub TreesMakeProgress : Type 0
+TreesMakeProgress = (x y : Text) (d : Dom) (g : Names Ty) (e : Ex) → is_judged e g ≡ true → is_scalar (type_of e g) ≡ true → Progress x y d g e

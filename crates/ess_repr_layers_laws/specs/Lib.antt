@@ -1,0 +1,4 @@
+-- What a kind has over a domain
+pub mod LayerParts
+-- Components of tuples and records
+pub mod Components

@@ -1,0 +1,266 @@
+-- The parts of structures are built of what has a property.
+use Rattle.std.proofs.Common.{◌≡◌, refl, ℕ, suc, Bool, true, false, List, [], ◌∷◌, map, pos, if◌then◌else◌}
+use Rattle.ess_semantics.specs.declared.words.Op1.{Op1}
+use Rattle.ess_semantics.specs.declared.words.Op2.{Op2}
+use Rattle.ess_semantics.specs.declared.words.Fun.{Fun}
+use Rattle.ess_semantics.specs.declared.words.Key.{Key}
+use Rattle.ess_semantics.specs.Values.{Text}
+use Rattle.ess_semantics.specs.Meaning.{is_bool_dom}
+use Rattle.ess_semantics.specs.Trees.{Op, binary, index, to_component, word, tuple_literal, both_ends, Mark, flag, valued, name_pat, Ex, Exs, number_ex, truth_ex, name_ex, node_ex, comp_ex, cell_ex, no_exs, more_exs, Gens, no_gens, over, from, cond, Dom, Doms, no_doms, more_doms, int_dom, ex1, ex2, fun1}
+use Rattle.ess_repr_laws.specs.StructureParts.{Shape, add_ex, and_ex, or_ex, implies_ex, le_ex, all_ex, key_ex, size_ex, keys_ex, upto, row_gens, row_index, each_ex, row_ex, less_ex, at_most_ex, out_ex, zero_ex, zeros_ex, over_slots, next_ex, slots_ex, marker_ex, explicit_ex, use_ex, first_ex, true_count_ex, place_count_ex, number_sum_ex, times_of_ex, times_ex, counts_ex, flags_ex, counted_ex, member_count_ex, dummy_ex, occurrence_ex, on_axes}
+use Rattle.ess_repr_structure_laws.proofs.BuiltStructures as B
+use Rattle.ess_repr_structure_laws.proofs.BuiltStructures.{is_used, BuiltOf, one-has, two-have, word-has, lists-have}
+
+module _ (q : ℕ → Text) (P : Ex → Type 0) (L : Dom → Type 0) (built : BuiltOf q P L) where
+  abbrev AllHave : Exs → Type 0
+  AllHave = B.AllHave q P L
+
+  abbrev DomHas : Dom → Type 0
+  DomHas = B.DomHas q P L
+
+  abbrev ListHas : List Dom → Type 0
+  ListHas = B.ListHas q P L
+
+  abbrev GensHave : Gens → Type 0
+  GensHave = B.GensHave q P L
+
+  -- ---- connectives and comparisons
+
+  pub and-has : (a b : Ex) → P a → P b → P (and_ex a b)
+  and-has a b g h = two-have q P L built true Op2.And a b refl g h
+
+  pub or-has : (a b : Ex) → P a → P b → P (or_ex a b)
+  or-has a b g h = two-have q P L built true Op2.Or a b refl g h
+
+  pub implies-has : (a b : Ex) → P a → P b → P (implies_ex a b)
+  implies-has a b g h = two-have q P L built true Op2.Implies a b refl g h
+
+  pub le-has : (a b : Ex) → P a → P b → P (le_ex a b)
+  le-has a b g h = two-have q P L built true Op2.Le a b refl g h
+
+  pub eq-has : (a b : Ex) → P a → P b → P (ex2 true Op2.Eq a b)
+  eq-has a b g h = two-have q P L built true Op2.Eq a b refl g h
+
+  pub not-has : (a : Ex) → P a → P (ex1 true Op1.Not a)
+  not-has a h = one-has q P L built true Op1.Not a refl h
+
+  pub bar-has : (a : Ex) → P a → P (ex1 false Op1.Bar a)
+  bar-has a h = one-has q P L built false Op1.Bar a refl h
+
+  -- ---- folds
+
+  pub all-has : (e : Ex) (gs : Gens) → P e → GensHave gs → P (all_ex e gs)
+  all-has e gs h g = word-has q P L built true Fun.And (comp_ex e gs) refl (built.comps e gs h g)
+
+  pub some-has : (e : Ex) (gs : Gens) → P e → GensHave gs → P (fun1 true Fun.Or (comp_ex e gs))
+  some-has e gs h g = word-has q P L built true Fun.Or (comp_ex e gs) refl (built.comps e gs h g)
+
+  pub sum-has : (e : Ex) (gs : Gens) → P e → GensHave gs → P (fun1 false Fun.Sum (comp_ex e gs))
+  sum-has e gs h g = word-has q P L built false Fun.Sum (comp_ex e gs) refl (built.comps e gs h g)
+
+  pub differ-has : (e : Ex) (gs : Gens) → P e → GensHave gs → P (fun1 true Fun.AllDiff (comp_ex e gs))
+  differ-has e gs h g = word-has q P L built true Fun.AllDiff (comp_ex e gs) refl (built.comps e gs h g)
+
+  pub number-has : (a : Ex) → P a → P (fun1 false Fun.ToInt a)
+  number-has a h = word-has q P L built false Fun.ToInt a refl h
+
+  -- ---- attributes
+
+  pub key-has : (k : Key) (e m : Ex) → P e → P m → P (key_ex k e m)
+  key-has Key.Size e m g h = and-has (le_ex e m) (le_ex m e) (le-has e m g h) (le-has m e h g)
+  key-has Key.MinSize e m g h = le-has e m g h
+  key-has Key.MaxSize e m g h = le-has m e h g
+  key-has _ e m g h = built.truths true
+
+  pub size-has : (ms : List Mark) (es : Exs) (m : Ex) → AllHave es → P m → P (size_ex ms es m)
+  size-has [] es m a h = built.truths true
+  size-has (flag k ∷ ms) es m a h = size-has ms es m a h
+  size-has (valued k ∷ ms) no_exs m a h = built.truths true
+  size-has (valued k ∷ ms) (more_exs e es) m a h = and-has (key_ex k e m) (size_ex ms es m) (key-has k e m a.0 h) (size-has ms es m a.1 h)
+
+  pub keys-have : (f : Key → Ex) (ms : List Mark) → ((k : Key) → P (f k)) → P (keys_ex f ms)
+  keys-have f [] h = built.truths true
+  keys-have f (flag k ∷ ms) h = and-has (f k) (keys_ex f ms) (h k) (keys-have f ms h)
+  keys-have f (valued k ∷ ms) h = keys-have f ms h
+
+  -- ---- rows of cells
+
+  pub add-has : (is : Exs) (e : Ex) → AllHave is → P e → AllHave (add_ex is e)
+  add-has no_exs e a h = (h, tt)
+  add-has (more_exs x is) e a h = (a.0, add-has is e a.1 h)
+
+  -- One more name.
+  pub name-added : (l : ℕ) (is : Exs) → AllHave is → AllHave (add_ex is (name_ex (q l)))
+  name-added l is a = add-has is (name_ex (q l)) a (built.names l)
+
+  pub upto-has : (n : Ex) → P n → DomHas (upto n)
+  upto-has n h = (built.one, (h, tt))
+
+  pub row-gens-have : (l : ℕ) (as' : List Dom) → ListHas as' → GensHave (row_gens q l as')
+  row-gens-have l [] a = tt
+  row-gens-have l (d ∷ as') a = ((l, refl), a.0, row-gens-have (suc l) as' a.1)
+
+  pub row-index-has : (l : ℕ) (as' : List Dom) (is : Exs) → AllHave is → AllHave (row_index q l as' is)
+  row-index-has l [] is a = a
+  row-index-has l (d ∷ as') is a = row-index-has (suc l) as' (add_ex is (name_ex (q l))) (name-added l is a)
+
+  pub each-has : (l : ℕ) (as' : List Dom) (part : Ex) → ListHas as' → P part → P (each_ex q l as' part)
+  each-has l as' part a h = all-has part (row_gens q l as') h (row-gens-have l as' a)
+
+  -- A cell behind the names of axes.
+  pub cell-has : (b : Bool) (n : Text) (l : ℕ) (as' : List Dom) (is : Exs) → AllHave is → P (cell_ex b n (row_index q l as' is))
+  cell-has b n l as' is a = built.cells b n (row_index q l as' is) (row-index-has l as' is a)
+
+  -- The axes of tables have the property.
+  abbrev pub ShapesHave : List Shape → Type 0
+  ShapesHave [] = Unit {0}
+  ShapesHave (s ∷ ss) = ListHas s.axes × ShapesHave ss
+
+  row-has : (l : ℕ) (s : Shape) (is : Exs) → ListHas s.axes → AllHave is → P (row_ex q l s is)
+  row-has l s is x a = built.comps (cell_ex s.truth s.name (row_index q l s.axes is)) (row_gens q l s.axes) (cell-has s.truth s.name l s.axes is a) (row-gens-have l s.axes x)
+
+  less-rows : (o : Op2) (l : ℕ) (s : Shape) (is js : Exs) → is_used (binary o) ≡ true → ListHas s.axes → AllHave is → AllHave js →
+      P (ex2 true o (row_ex q l s is) (row_ex q l s js))
+  less-rows o l s is js u x a b = two-have q P L built true o (row_ex q l s is) (row_ex q l s js) u (row-has l s is x a) (row-has l s js x b)
+
+  pub less-has : (l : ℕ) (ss : List Shape) (is js : Exs) → ShapesHave ss → AllHave is → AllHave js → P (less_ex q l ss is js)
+  less-has l [] is js x a b = built.truths false
+  less-has l (s ∷ ss) is js x a b =
+      or-has (ex2 true Op2.LexLt (row_ex q l s is) (row_ex q l s js)) (and_ex (ex2 true Op2.LexLe (row_ex q l s is) (row_ex q l s js)) (less_ex q l ss is js))
+      (less-rows Op2.LexLt l s is js refl x.0 a b)
+      (and-has (ex2 true Op2.LexLe (row_ex q l s is) (row_ex q l s js)) (less_ex q l ss is js) (less-rows Op2.LexLe l s is js refl x.0 a b) (less-has l ss is js x.1 a b))
+
+  pub at-most-has : (l : ℕ) (ss : List Shape) (is js : Exs) → ShapesHave ss → AllHave is → AllHave js → P (at_most_ex q l ss is js)
+  at-most-has l [] is js x a b = built.truths true
+  at-most-has l (s ∷ ss) is js x a b =
+      or-has (ex2 true Op2.LexLt (row_ex q l s is) (row_ex q l s js)) (and_ex (ex2 true Op2.LexLe (row_ex q l s is) (row_ex q l s js)) (at_most_ex q l ss is js))
+      (less-rows Op2.LexLt l s is js refl x.0 a b)
+      (and-has (ex2 true Op2.LexLe (row_ex q l s is) (row_ex q l s js)) (at_most_ex q l ss is js) (less-rows Op2.LexLe l s is js refl x.0 a b) (at-most-has l ss is js x.1 a b))
+
+  out-has : (b : Bool) (n : Text) (is : Exs) → AllHave is → P (out_ex q b n is)
+  out-has true n is a = not-has (cell_ex true n is) (built.cells true n is a)
+  out-has false n is a = eq-has (number_ex (pos 0)) (cell_ex false n is) built.zero (built.cells false n is a)
+
+  pub zeros-have : (l : ℕ) (ss : List Shape) (is : Exs) → ShapesHave ss → AllHave is → P (zeros_ex q l ss is)
+  zeros-have l [] is x a = built.truths true
+  zeros-have l (s ∷ ss) is x a =
+      and-has (zero_ex q l s is) (zeros_ex q l ss is)
+      (all-has (out_ex q s.truth s.name (row_index q l s.axes is)) (row_gens q l s.axes) (out-has s.truth s.name (row_index q l s.axes is) (row-index-has l s.axes is a)) (row-gens-have l s.axes x.0))
+      (zeros-have l ss is x.1 a)
+
+  -- ---- slots
+
+  over-slots-have : (l : ℕ) (size test e : Ex) → P size → P test → P e → P (over_slots q l size test e)
+  over-slots-have l size test e s t h = all-has e (over (name_pat (q l)) (upto size) (cond test no_gens)) h ((l, refl), upto-has size s, (t, tt))
+
+  next-has : (l : ℕ) → P (next_ex q l)
+  next-has l = two-have q P L built false Op2.Plus (name_ex (q l)) (number_ex (pos 1)) refl (built.names l) built.one
+
+  next-added : (l : ℕ) (is : Exs) → AllHave is → AllHave (add_ex is (next_ex q l))
+  next-added l is a = add-has is (next_ex q l) a (next-has l)
+
+  pub slots-have : (l : ℕ) (size m : Ex) (ss : List Shape) (is : Exs) (part : Ex) → P size → P m → ShapesHave ss → AllHave is → P part → P (slots_ex q l size m ss is part)
+  slots-have l size m ss is part s h x a p =
+      let used : P (le_ex (name_ex (q l)) m) = le-has (name_ex (q l)) m (built.names l) h in
+      and-has _ _ (over-slots-have l size (le_ex (name_ex (q l)) m) part s used p)
+      (and-has _ _
+      (over-slots-have l size (le_ex (next_ex q l) m) (less_ex q (suc l) ss (add_ex is (name_ex (q l))) (add_ex is (next_ex q l))) s (le-has (next_ex q l) m (next-has l) h)
+      (less-has (suc l) ss (add_ex is (name_ex (q l))) (add_ex is (next_ex q l)) x (name-added l is a) (next-added l is a)))
+      (over-slots-have l size (ex1 true Op1.Not (le_ex (name_ex (q l)) m)) (zeros_ex q (suc l) ss (add_ex is (name_ex (q l)))) s (not-has (le_ex (name_ex (q l)) m) used)
+      (zeros-have (suc l) ss (add_ex is (name_ex (q l))) x (name-added l is a))))
+
+  use-has : (l : ℕ) (size here next rise : Ex) (ss : List Shape) (is : Exs) (part : Ex) → P size → P here → P next → P rise → ShapesHave ss → AllHave is → P part →
+      P (use_ex q l size here next rise ss is part)
+  use-has l size here next rise ss is part s h n r x a p =
+      and-has _ _ (over-slots-have l size here part s h p)
+      (and-has _ _ (over-slots-have l size (le_ex (next_ex q l) size) (implies_ex next rise) s (le-has (next_ex q l) size (next-has l) s) (implies-has next rise n r))
+      (over-slots-have l size (ex1 true Op1.Not here) (zeros_ex q (suc l) ss (add_ex is (name_ex (q l)))) s (not-has here h)
+      (zeros-have (suc l) ss (add_ex is (name_ex (q l))) x (name-added l is a))))
+
+  first-has : (l : ℕ) (size here next : Ex) → P size → P here → P next → P (first_ex q l size here next)
+  first-has l size here next s h n =
+      over-slots-have l size (le_ex (next_ex q l) size) (implies_ex next here) s (le-has (next_ex q l) size (next-has l) s) (implies-has next here n h)
+
+  rise-has : (l : ℕ) (ss : List Shape) (is : Exs) → ShapesHave ss → AllHave is → P (less_ex q (suc l) ss (add_ex is (name_ex (q l))) (add_ex is (next_ex q l)))
+  rise-has l ss is x a = less-has (suc l) ss (add_ex is (name_ex (q l))) (add_ex is (next_ex q l)) x (name-added l is a) (next-added l is a)
+
+  -- ---- counts
+
+  pub true-count-has : (l : ℕ) (as' : List Dom) (n : Text) (is : Exs) → ListHas as' → AllHave is → P (true_count_ex q l as' n is)
+  true-count-has l as' n is x a =
+      sum-has (fun1 false Fun.ToInt (cell_ex true n (row_index q l as' is))) (row_gens q l as') (number-has (cell_ex true n (row_index q l as' is)) (cell-has true n l as' is a)) (row-gens-have l as' x)
+
+  pub place-count-has : (l : ℕ) (as' : List Dom) → ListHas as' → P (place_count_ex q l as')
+  place-count-has l as' x = sum-has (number_ex (pos 1)) (row_gens q l as') built.one (row-gens-have l as' x)
+
+  number-sum-has : (l : ℕ) (as' : List Dom) (n : Text) (is : Exs) → ListHas as' → AllHave is → P (number_sum_ex q l as' n is)
+  number-sum-has l as' n is x a = sum-has (cell_ex false n (row_index q l as' is)) (row_gens q l as') (cell-has false n l as' is a) (row-gens-have l as' x)
+
+  times-of-has : (l : ℕ) (k : Key) (e : Ex) (as' : List Dom) (n : Text) (is : Exs) → P e → ListHas as' → AllHave is → P (times_of_ex q l k e as' n is)
+  times-of-has l Key.MinOccur e as' n is h x a =
+      let c = cell-has false n l as' is a in
+      each-has l as' _ x (or-has _ _ (eq-has (number_ex (pos 0)) (cell_ex false n (row_index q l as' is)) built.zero c) (le-has e (cell_ex false n (row_index q l as' is)) h c))
+  times-of-has l Key.MaxOccur e as' n is h x a =
+      let c = cell-has false n l as' is a in
+      each-has l as' _ x (or-has _ _ (eq-has (number_ex (pos 0)) (cell_ex false n (row_index q l as' is)) built.zero c) (le-has (cell_ex false n (row_index q l as' is)) e c h))
+  times-of-has l _ e as' n is h x a = built.truths true
+
+  times-have : (l : ℕ) (ms : List Mark) (es : Exs) (as' : List Dom) (n : Text) (is : Exs) → AllHave es → ListHas as' → AllHave is → P (times_ex q l ms es as' n is)
+  times-have l [] es as' n is g x a = built.truths true
+  times-have l (flag k ∷ ms) es as' n is g x a = times-have l ms es as' n is g x a
+  times-have l (valued k ∷ ms) no_exs as' n is g x a = built.truths true
+  times-have l (valued k ∷ ms) (more_exs e es) as' n is g x a =
+      and-has (times_of_ex q l k e as' n is) (times_ex q l ms es as' n is) (times-of-has l k e as' n is g.0 x a) (times-have l ms es as' n is g.1 x a)
+
+  pub counts-have : (l : ℕ) (ms : List Mark) (es : Exs) (as' : List Dom) (n : Text) (is : Exs) → AllHave es → ListHas as' → AllHave is → P (counts_ex q l ms es as' n is)
+  counts-have l ms es as' n is g x a =
+      and-has (size_ex ms es (number_sum_ex q l as' n is)) (times_ex q l ms es as' n is) (size-has ms es (number_sum_ex q l as' n is) g (number-sum-has l as' n is x a)) (times-have l ms es as' n is g x a)
+
+  -- ---- whole layers of sets and multisets
+
+  pub occurrence-has : (l : ℕ) (ms : List Mark) (es : Exs) (d : Dom) (n : Text) (is : Exs) → AllHave es → DomHas d → AllHave is → P (occurrence_ex q l ms es d n is)
+  occurrence-has l ms es d n is g x a = size-has ms es (true_count_ex q l (d ∷ []) n is) g (true-count-has l (d ∷ []) n is (x, tt) a)
+
+  pub marker-has : (l : ℕ) (ms : List Mark) (es : Exs) (size : Ex) (n : Text) (ss : List Shape) (is : Exs) (part : Ex) → AllHave es → P size → ShapesHave ss → AllHave is → P part →
+      P (marker_ex q l ms es size n ss is part)
+  marker-has l ms es size n ss is part g s x a p =
+      let c : P (cell_ex false n is) = built.cells false n is a in
+      and-has (size_ex ms es (cell_ex false n is)) (slots_ex q l size (cell_ex false n is) ss is part) (size-has ms es (cell_ex false n is) g c) (slots-have l size (cell_ex false n is) ss is part s c x a p)
+
+  pub explicit-has : (l : ℕ) (ms : List Mark) (es : Exs) (size : Ex) (ss : List Shape) (is : Exs) (part : Ex) → AllHave es → P size → ShapesHave ss → AllHave is → P part →
+      P (explicit_ex q l ms es size ss is part)
+  explicit-has l ms es size ss is part g s x a p = and-has (size_ex ms es size) (slots_ex q l size size ss is part) (size-has ms es size g s) (slots-have l size size ss is part s s x a p)
+
+  pub flags-have : (l : ℕ) (ms : List Mark) (es : Exs) (size : Ex) (n : Text) (ss : List Shape) (is : Exs) (part : Ex) → AllHave es → P size → ShapesHave ss → AllHave is → P part →
+      P (flags_ex q l ms es size n ss is part)
+  flags-have l ms es size n ss is part g s x a p =
+      let here : P (cell_ex true n (add_ex is (name_ex (q l)))) = built.cells true n (add_ex is (name_ex (q l))) (name-added l is a) in
+      let next : P (cell_ex true n (add_ex is (next_ex q l))) = built.cells true n (add_ex is (next_ex q l)) (next-added l is a) in
+      and-has _ _ (and-has _ _ (first-has l size (cell_ex true n (add_ex is (name_ex (q l)))) (cell_ex true n (add_ex is (next_ex q l))) s here next)
+      (use-has l size (cell_ex true n (add_ex is (name_ex (q l)))) (cell_ex true n (add_ex is (next_ex q l))) _ ss is part s here next (rise-has l ss is x a) x a p))
+      (size-has ms es (true_count_ex q l (upto size ∷ []) n is) g (true-count-has l (upto size ∷ []) n is (upto-has size s, tt) a))
+
+  pub counted-has : (l : ℕ) (ms : List Mark) (es : Exs) (size : Ex) (n : Text) (ss : List Shape) (is : Exs) (part : Ex) → AllHave es → P size → ShapesHave ss → AllHave is → P part →
+      P (counted_ex q l ms es size n ss is part)
+  counted-has l ms es size n ss is part g s x a p =
+      let here : P (le_ex (number_ex (pos 1)) (cell_ex false n (add_ex is (name_ex (q l))))) = le-has (number_ex (pos 1)) (cell_ex false n (add_ex is (name_ex (q l)))) built.one (built.cells false n (add_ex is (name_ex (q l))) (name-added l is a)) in
+      let next : P (le_ex (number_ex (pos 1)) (cell_ex false n (add_ex is (next_ex q l)))) = le-has (number_ex (pos 1)) (cell_ex false n (add_ex is (next_ex q l))) built.one (built.cells false n (add_ex is (next_ex q l)) (next-added l is a)) in
+      and-has _ _ (and-has _ _ (first-has l size _ _ s here next) (use-has l size _ _ _ ss is part s here next (rise-has l ss is x a) x a p))
+      (counts-have l ms es (upto size ∷ []) n is g (upto-has size s, tt) a)
+
+  pub dummy-has : (l : ℕ) (ms : List Mark) (es : Exs) (size dummy : Ex) (atom : Ex → Ex) (n : Text) (is : Exs) → AllHave es → P size → P dummy → ((x : Ex) → P x → P (atom x)) → AllHave is →
+      P (dummy_ex q l ms es size dummy atom n is)
+  dummy-has l ms es size dummy atom n is g s m f a =
+      let here : P (cell_ex false n (add_ex is (name_ex (q l)))) = built.cells false n (add_ex is (name_ex (q l))) (name-added l is a) in
+      let next : P (cell_ex false n (add_ex is (next_ex q l))) = built.cells false n (add_ex is (next_ex q l)) (next-added l is a) in
+      and-has _ _ (and-has _ _ (each-has l (upto size ∷ []) _ (upto-has size s, tt) (or-has _ _ (f _ here) (eq-has dummy _ m here)))
+      (over-slots-have l size (le_ex (next_ex q l) size) _ s (le-has (next_ex q l) size (next-has l) s) (or-has _ _ (eq-has dummy _ m next) (two-have q P L built true Op2.Lt _ _ refl here next))))
+      (size-has ms es (member_count_ex q l size dummy n is) g
+      (sum-has _ (row_gens q l (upto size ∷ [])) (number-has _ (not-has _ (eq-has dummy _ m here))) (row-gens-have l (upto size ∷ []) (upto-has size s, tt))))
+
+  pub repetition-use-has : (l : ℕ) (size : Ex) (n : Text) (ss : List Shape) (is : Exs) (part : Ex) → P size → ShapesHave ss → AllHave is → P part →
+      P (use_ex q l size (le_ex (name_ex (q l)) (cell_ex false n is)) (le_ex (next_ex q l) (cell_ex false n is)) (at_most_ex q (suc l) ss (add_ex is (name_ex (q l))) (add_ex is (next_ex q l))) ss is part)
+  repetition-use-has l size n ss is part s x a p =
+      let c : P (cell_ex false n is) = built.cells false n is a in
+      use-has l size _ _ _ ss is part s (le-has (name_ex (q l)) (cell_ex false n is) (built.names l) c) (le-has (next_ex q l) (cell_ex false n is) (next-has l) c)
+      (at-most-has (suc l) ss (add_ex is (name_ex (q l))) (add_ex is (next_ex q l)) x (name-added l is a) (next-added l is a)) x a p

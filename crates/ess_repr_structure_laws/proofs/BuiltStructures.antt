@@ -1,0 +1,242 @@
+-- What each expression that structures are built of has, structures have: one induction for all properties of their form. L is what is
+-- known of ranges, named types and multisets beside that their numbers have the property.
+use Rattle.std.proofs.Common.{◌≡◌, refl, ℕ, suc, Bool, true, false, ◌&&◌, ◌||◌, List, [], ◌∷◌, ◌++◌, map, take, drop, pos, Option, Some, None, if◌then◌else◌}
+use Rattle.ess_semantics.specs.declared.words.Op1.{Op1}
+use Rattle.ess_semantics.specs.declared.words.Op2.{Op2}
+use Rattle.ess_semantics.specs.declared.words.Fun.{Fun}
+use Rattle.ess_semantics.specs.declared.words.Key.{Key}
+use Rattle.ess_semantics.specs.Lists.{or_else, or_default}
+use Rattle.ess_semantics.specs.Values.{Text}
+use Rattle.ess_semantics.specs.Domains.{same_key}
+use Rattle.ess_semantics.specs.Kinds.{dom_list, has_key}
+use Rattle.ess_semantics.specs.Trees.{Op, unary, binary, word, set_literal, mset_literal, function_literal, relation_literal, partition_literal, matrix_literal, Mark, flag, valued, Pat, name_pat, tuple_pat, Repr, Ex, Exs, number_ex, truth_ex, name_ex, node_ex, comp_ex, cell_ex, seen_ex, no_exs, more_exs, Gens, no_gens, over, from, cond, Dom, Doms, bool_dom, int_dom, name_dom, tuple_dom, record_dom, matrix_dom, set_dom, mset_dom, function_dom, relation_dom, partition_dom, no_doms, more_doms, ex1, ex2, fun1}
+use Rattle.ess_guard_laws.proofs.Safe.{is_safe}
+use Rattle.ess_repr_laws.specs.StructureParts.{Shape, add_ex, key_ex, size_ex, keys_ex, upto, row_gens, row_index, on_axes, number_of_key, tuple_set_dom}
+use Rattle.ess_repr_laws.specs.ViewParts.{pair_relation_dom, part_set_dom, part_dom, number_as}
+use Rattle.ess_repr_declare_laws.specs.SizeTerms.{bound_ex, listed_ex, number_of, greatest_size_of, occurrences_ex, slots_ex, size_terms}
+
+-- Whether an operator isn't a literal whose items are counted.
+abbrev pub counts_nothing : Op → Bool
+counts_nothing set_literal = false
+counts_nothing mset_literal = false
+counts_nothing function_literal = false
+counts_nothing relation_literal = false
+counts_nothing partition_literal = false
+counts_nothing matrix_literal = false
+counts_nothing op = true
+
+-- Whether structures may use the operator.
+abbrev pub is_used : Op → Bool
+is_used op = is_safe op && counts_nothing op
+
+module _ (q : ℕ → Text) (P : Ex → Type 0) (L : Dom → Type 0) where
+  -- Each operand has the property.
+  abbrev pub AllHave : Exs → Type 0
+  AllHave no_exs = Unit {0}
+  AllHave (more_exs e es) = P e × AllHave es
+
+  abbrev mutual
+    -- Each number in a domain has it.
+    pub DomHas : Dom → Type 0
+    DomHas bool_dom = Unit {0}
+    DomHas (int_dom rs es) = AllHave es
+    DomHas (name_dom a) = Unit {0}
+    DomHas (tuple_dom ds) = DomsHave ds
+    DomHas (record_dom fs ds) = DomsHave ds
+    DomHas (matrix_dom is d) = DomsHave is × DomHas d
+    DomHas (set_dom ms es d) = AllHave es × DomHas d
+    DomHas (mset_dom ms es d) = AllHave es × DomHas d
+    DomHas (function_dom ms es d c) = AllHave es × DomHas d × DomHas c
+    DomHas (relation_dom ms es ds) = AllHave es × DomsHave ds
+    DomHas (partition_dom ms es d) = AllHave es × DomHas d
+
+    -- The same of several domains.
+    pub DomsHave : Doms → Type 0
+    DomsHave no_doms = Unit {0}
+    DomsHave (more_doms d ds) = DomHas d × DomsHave ds
+
+  abbrev mutual
+    -- So has each, and L holds of each range, named type and multiset.
+    pub Good : Dom → Type 0
+    Good bool_dom = Unit {0}
+    Good (int_dom rs es) = L (int_dom rs es) × AllHave es
+    Good (name_dom a) = L (name_dom a)
+    Good (tuple_dom ds) = AllGood ds
+    Good (record_dom fs ds) = AllGood ds
+    Good (matrix_dom is d) = AllGood is × Good d
+    Good (set_dom ms es d) = AllHave es × Good d
+    Good (mset_dom ms es d) = L (mset_dom ms es d) × AllHave es × Good d
+    Good (function_dom ms es d c) = AllHave es × Good d × Good c
+    Good (relation_dom ms es ds) = AllHave es × AllGood ds
+    Good (partition_dom ms es d) = AllHave es × Good d
+
+    -- The same of several domains.
+    pub AllGood : Doms → Type 0
+    AllGood no_doms = Unit {0}
+    AllGood (more_doms d ds) = Good d × AllGood ds
+
+  -- Each of a list of domains has the property.
+  abbrev pub ListHas : List Dom → Type 0
+  ListHas [] = Unit {0}
+  ListHas (d ∷ ds) = DomHas d × ListHas ds
+
+  -- Generators over domains and items, and conditions, that have it, where the names are those of q.
+  abbrev pub GensHave : Gens → Type 0
+  GensHave no_gens = Unit {0}
+  GensHave (over (name_pat a) d gs) = ((l : ℕ) × (a ≡ q l)) × DomHas d × GensHave gs
+  GensHave (over (tuple_pat ps) d gs) = ⊥
+  GensHave (from (name_pat a) e gs) = ((l : ℕ) × (a ≡ q l)) × P e × GensHave gs
+  GensHave (from (tuple_pat ps) e gs) = ⊥
+  GensHave (cond e gs) = P e × GensHave gs
+
+  -- What structures are built of has the property.
+  pub record BuiltOf : Type 0 where
+    pub truths : (b : Bool) → P (truth_ex b)
+    pub zero : P (number_ex (pos 0))
+    pub one : P (number_ex (pos 1))
+    pub names : (l : ℕ) → P (name_ex (q l))
+    pub nodes : (b : Bool) (op : Op) (es : Exs) → is_used op ≡ true → AllHave es → P (node_ex b op es)
+    pub comps : (e : Ex) (gs : Gens) → P e → GensHave gs → P (comp_ex e gs)
+    pub cells : (b : Bool) (n : Text) (es : Exs) → AllHave es → P (cell_ex b n es)
+    pub views : (r : Repr) (d : Dom) (ns : List Text) (es : Exs) → DomHas d → AllHave es → P (seen_ex r d ns es)
+    pub bounds : (d : Dom) → Good d → P (bound_ex d)
+    pub listed : (a : Text) → Good (name_dom a) → P (listed_ex (name_dom a))
+
+  -- ---- domains
+
+  mutual
+    -- The numbers of a good domain have the property.
+    pub good-has : (d : Dom) → Good d → DomHas d
+    good-has bool_dom g = tt
+    good-has (int_dom rs es) g = g.1
+    good-has (name_dom a) g = tt
+    good-has (tuple_dom ds) g = all-good-have ds g
+    good-has (record_dom fs ds) g = all-good-have ds g
+    good-has (matrix_dom is d) g = (all-good-have is g.0, good-has d g.1)
+    good-has (set_dom ms es d) g = (g.0, good-has d g.1)
+    good-has (mset_dom ms es d) g = (g.1, good-has d g.2)
+    good-has (function_dom ms es d c) g = (g.0, good-has d g.1, good-has c g.2)
+    good-has (relation_dom ms es ds) g = (g.0, all-good-have ds g.1)
+    good-has (partition_dom ms es d) g = (g.0, good-has d g.1)
+
+    -- The same of several domains.
+    pub all-good-have : (ds : Doms) → AllGood ds → DomsHave ds
+    all-good-have no_doms g = tt
+    all-good-have (more_doms d ds) g = (good-has d g.0, all-good-have ds g.1)
+
+  -- As a list.
+  pub list-has : (ds : Doms) → AllGood ds → ListHas (dom_list ds)
+  list-has no_doms g = tt
+  list-has (more_doms d ds) g = (good-has d g.0, list-has ds g.1)
+
+  -- One list behind the other.
+  pub lists-have : (as' bs : List Dom) → ListHas as' → ListHas bs → ListHas (as' ++ bs)
+  lists-have [] bs a b = b
+  lists-have (d ∷ as') bs a b = (a.0, lists-have as' bs a.1 b)
+
+  -- ---- numbers that are picked
+
+  if-have : (b : Bool) (x y : List Mark × Exs) → AllHave x.1 → AllHave y.1 → AllHave ((if b then x else y).1)
+  if-have true x y a b = a
+  if-have false x y a b = b
+
+  -- The number of an attribute, in front of others.
+  pub key-picked : (k : Key) (ms : List Mark) (es : Exs) (ns : List Mark) (os : Exs) → AllHave es → AllHave os → AllHave ((number_of_key k ms es ns os).1)
+  key-picked k [] es ns os a b = b
+  key-picked k (flag j ∷ ms) es ns os a b = key-picked k ms es ns os a b
+  key-picked k (valued j ∷ ms) no_exs ns os a b = b
+  key-picked k (valued j ∷ ms) (more_exs e es) ns os a b =
+      if-have (same_key j k) (valued k ∷ ns, more_exs e os) (number_of_key k ms es ns os) (a.0, b) (key-picked k ms es ns os a.1 b)
+
+  -- The same as another attribute.
+  pub key-picked-as : (k j : Key) (ms : List Mark) (es : Exs) (ns : List Mark) (os : Exs) → AllHave es → AllHave os → AllHave ((number_as k j ms es ns os).1)
+  key-picked-as k j [] es ns os a b = b
+  key-picked-as k j (flag i ∷ ms) es ns os a b = key-picked-as k j ms es ns os a b
+  key-picked-as k j (valued i ∷ ms) no_exs ns os a b = b
+  key-picked-as k j (valued i ∷ ms) (more_exs e es) ns os a b =
+      if-have (same_key i k) (valued j ∷ ns, more_exs e os) (number_as k j ms es ns os) (a.0, b) (key-picked-as k j ms es ns os a.1 b)
+
+  -- A number that is there has the property.
+  abbrev pub MayHave : Option Ex → Type 0
+  MayHave None = Unit {0}
+  MayHave (Some e) = P e
+
+  if-may : (b : Bool) (e : Ex) (o : Option Ex) → P e → MayHave o → MayHave (if b then Some e else o)
+  if-may true e o p h = p
+  if-may false e o p h = h
+
+  else-may : (o p : Option Ex) → MayHave o → MayHave p → MayHave (or_else o p)
+  else-may None p g h = h
+  else-may (Some e) p g h = g
+
+  default-has : (o : Option Ex) (e : Ex) → MayHave o → P e → P (or_default o e)
+  default-has None e g h = h
+  default-has (Some f) e g h = g
+
+  number-may : (k : Key) (ms : List Mark) (es : Exs) → AllHave es → MayHave (number_of k ms es)
+  number-may k [] es a = tt
+  number-may k (flag j ∷ ms) es a = number-may k ms es a
+  number-may k (valued j ∷ ms) no_exs a = tt
+  number-may k (valued j ∷ ms) (more_exs e es) a = if-may (same_key j k) e (number_of k ms es) a.0 (number-may k ms es a.1)
+
+  greatest-may : (ms : List Mark) (es : Exs) → AllHave es → MayHave (greatest_size_of ms es)
+  greatest-may ms es a = else-may (number_of Key.Size ms es) (number_of Key.MaxSize ms es) (number-may Key.Size ms es a) (number-may Key.MaxSize ms es a)
+
+  -- How often members of a multiset occur.
+  pub occurrences-may : (ms : List Mark) (es : Exs) → AllHave es → P (number_ex (pos 0)) → P (occurrences_ex ms es)
+  occurrences-may ms es a z = default-has (or_else (number_of Key.MaxOccur ms es) (greatest_size_of ms es)) (number_ex (pos 0))
+      (else-may (number_of Key.MaxOccur ms es) (greatest_size_of ms es) (number-may Key.MaxOccur ms es a) (greatest-may ms es a)) z
+
+  module _ (B : BuiltOf) where
+    -- An operator on one and on two operands.
+    pub one-has : (b : Bool) (o : Op1) (a : Ex) → is_used (unary o) ≡ true → P a → P (ex1 b o a)
+    one-has b o a u h = B.nodes b (unary o) (more_exs a no_exs) u (h, tt)
+
+    pub two-have : (b : Bool) (o : Op2) (x y : Ex) → is_used (binary o) ≡ true → P x → P y → P (ex2 b o x y)
+    two-have b o x y u g h = B.nodes b (binary o) (more_exs x (more_exs y no_exs)) u (g, (h, tt))
+
+    pub word-has : (b : Bool) (f : Fun) (a : Ex) → is_used (word f) ≡ true → P a → P (fun1 b f a)
+    word-has b f a u h = B.nodes b (word f) (more_exs a no_exs) u (h, tt)
+
+    -- The slots of a set or multiset.
+    pub set-slots-have : (ms : List Mark) (es : Exs) (d : Dom) → Good (set_dom ms es d) → P (slots_ex (set_dom ms es d))
+    set-slots-have ms es d g = default-has (greatest_size_of ms es) (bound_ex d) (greatest-may ms es g.0) (B.bounds d g.1)
+
+    pub mset-slots-have : (ms : List Mark) (es : Exs) (d : Dom) → Good (mset_dom ms es d) → P (slots_ex (mset_dom ms es d))
+    mset-slots-have ms es d g = default-has (greatest_size_of ms es) (ex2 false Op2.Times (occurrences_ex ms es) (bound_ex d)) (greatest-may ms es g.1)
+        (two-have false Op2.Times (occurrences_ex ms es) (bound_ex d) refl (occurrences-may ms es g.1 B.zero) (B.bounds d g.2))
+
+    -- The domains of children are good.
+    pub tuple-set-good : (ms : List Mark) (es : Exs) (ds : Doms) → Good (relation_dom ms es ds) → Good (tuple_set_dom ms es ds)
+    tuple-set-good ms es ds g =
+        let a : List Mark × Exs = number_of_key Key.MaxSize ms es [] no_exs in
+        let b : List Mark × Exs = number_of_key Key.MinSize ms es a.0 a.1 in
+        (key-picked Key.Size ms es b.0 b.1 g.0 (key-picked Key.MinSize ms es a.0 a.1 g.0 (key-picked Key.MaxSize ms es [] no_exs g.0 tt)), g.1)
+
+    pub pair-relation-good : (ms : List Mark) (es : Exs) (d c : Dom) → Good (function_dom ms es d c) → Good (pair_relation_dom size_terms ms es d c)
+    pair-relation-good ms es d c g =
+        let a0 : List Mark × Exs = number_of_key Key.MaxSize ms es [] no_exs in
+        let a1 : List Mark × Exs = (valued Key.MaxSize ∷ [], more_exs (bound_ex d) no_exs) in
+        let a : List Mark × Exs = if has_key Key.MaxSize ms || (has_key Key.Total ms || has_key Key.Size ms) then a0 else a1 in
+        let b : List Mark × Exs = number_of_key Key.MinSize ms es a.0 a.1 in
+        let s0 : List Mark × Exs = (valued Key.Size ∷ b.0, more_exs (bound_ex d) b.1) in
+        let s1 : List Mark × Exs = number_of_key Key.Size ms es b.0 b.1 in
+        let ha : AllHave a.1 = if-have (has_key Key.MaxSize ms || (has_key Key.Total ms || has_key Key.Size ms)) a0 a1 (key-picked Key.MaxSize ms es [] no_exs g.0 tt) (B.bounds d g.1, tt) in
+        let hb : AllHave b.1 = key-picked Key.MinSize ms es a.0 a.1 g.0 ha in
+        (if-have (has_key Key.Total ms) s0 s1 (B.bounds d g.1, hb) (key-picked Key.Size ms es b.0 b.1 g.0 hb), (g.1, (g.2, tt)))
+
+    part-good : (ms : List Mark) (es : Exs) (d : Dom) → Good (partition_dom ms es d) → Good (part_dom ms es d)
+    part-good ms es d g =
+        let a : List Mark × Exs = number_as Key.MaxPartSize Key.MaxSize ms es [] no_exs in
+        let b : List Mark × Exs = number_as Key.MinPartSize Key.MinSize ms es a.0 a.1 in
+        let ha : AllHave a.1 = key-picked-as Key.MaxPartSize Key.MaxSize ms es [] no_exs g.0 tt in
+        (key-picked-as Key.PartSize Key.Size ms es b.0 b.1 g.0 (key-picked-as Key.MinPartSize Key.MinSize ms es a.0 a.1 g.0 ha), g.1)
+
+    pub part-set-good : (ms : List Mark) (es : Exs) (d : Dom) → Good (partition_dom ms es d) → Good (part_set_dom size_terms ms es d)
+    part-set-good ms es d g =
+        let a0 : List Mark × Exs = number_as Key.MaxNumParts Key.MaxSize ms es [] no_exs in
+        let a1 : List Mark × Exs = (valued Key.MaxSize ∷ [], more_exs (bound_ex d) no_exs) in
+        let a : List Mark × Exs = if has_key Key.MaxNumParts ms || has_key Key.NumParts ms then a0 else a1 in
+        let b : List Mark × Exs = number_as Key.MinNumParts Key.MinSize ms es a.0 a.1 in
+        let ha : AllHave a.1 = if-have (has_key Key.MaxNumParts ms || has_key Key.NumParts ms) a0 a1 (key-picked-as Key.MaxNumParts Key.MaxSize ms es [] no_exs g.0 tt) (B.bounds d g.1, tt) in
+        (key-picked-as Key.NumParts Key.Size ms es b.0 b.1 g.0 (key-picked-as Key.MinNumParts Key.MinSize ms es a.0 a.1 g.0 ha), part-good ms es d g)
