@@ -1,0 +1,2 @@
+-- What the headers of the code stand for
+pub mod Views
