@@ -1,0 +1,5 @@
+mod ExamplesForms
+pub mod ListedForms
+pub mod BuiltForms
+pub mod ConvertedForms
+pub mod StoodForms
