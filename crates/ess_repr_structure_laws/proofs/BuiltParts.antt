@@ -6,7 +6,7 @@ use Rattle.ess_semantics.specs.declared.words.Fun.{Fun}
 use Rattle.ess_semantics.specs.declared.words.Key.{Key}
 use Rattle.ess_semantics.specs.Values.{Text}
 use Rattle.ess_semantics.specs.Trees.{binary, Mark, flag, valued, name_pat, Ex, Exs, number_ex, name_ex, comp_ex, cell_ex, no_exs, more_exs, Gens, no_gens, over, cond, Dom, ex1, ex2, fun1}
-use Rattle.ess_repr_laws.specs.StructureParts.{Shape, add_ex, and_ex, or_ex, implies_ex, le_ex, all_ex, key_ex, size_ex, keys_ex, upto, row_gens, row_index, each_ex, row_ex, less_ex, at_most_ex, out_ex, zero_ex, zeros_ex, over_slots, next_ex, slots_ex, marker_ex, explicit_ex, use_ex, first_ex, true_count_ex, place_count_ex, number_sum_ex, times_of_ex, times_ex, counts_ex, flags_ex, counted_ex, member_count_ex, dummy_ex, occurrence_ex}
+use Rattle.ess_repr_laws.specs.StructureParts.{Shape, add_ex, and_ex, or_ex, implies_ex, le_ex, all_ex, key_ex, size_ex, keys_ex, upto, row_gens, row_index, each_ex, row_ex, less_ex, at_most_ex, out_ex, zero_ex, zeros_ex, over_slots, pairs_dom, over_pairs, each_pair, next_ex, slots_ex, marker_ex, explicit_ex, use_ex, first_ex, true_count_ex, place_count_ex, number_sum_ex, times_of_ex, times_ex, counts_ex, flags_ex, counted_ex, member_count_ex, dummy_ex, occurrence_ex}
 use Rattle.ess_repr_structure_laws.proofs.BuiltStructures as B
 use Rattle.ess_repr_structure_laws.proofs.BuiltStructures.{is_used, BuiltOf, one-has, two-have, word-has, lists-have}
 
@@ -159,9 +159,15 @@ module _ (q : ℕ → Text) (P : Ex → Type 0) (L : Dom → Type 0) (built : Bu
   pub next-added : (l : ℕ) (is : Exs) → AllHave is → AllHave (add_ex is (next_ex q l))
   next-added l is a = add-has is (next_ex q l) a (next-has l)
 
-  rest-of-slots : (l : ℕ) (size test rise out : Ex) → P size → P test → P rise → P out → (zeros : Ex) → P zeros →
-      P (and_ex (over_slots q l size test rise) (over_slots q l size out zeros))
-  rest-of-slots l size test rise out s t r o zeros z = and-has _ _ (over-slots-have l size test rise s t r) (over-slots-have l size out zeros s o z)
+  -- The numbers of all slots but the last.
+  pairs-have : (size : Ex) → P size → DomHas (pairs_dom q size)
+  pairs-have size s = upto-has (ex2 false Op2.Minus size (number_ex (pos 1))) (two-have q P L built false Op2.Minus size (number_ex (pos 1)) refl s built.one)
+
+  over-pairs-have : (l : ℕ) (size test e : Ex) → P size → P test → P e → P (over_pairs q l size test e)
+  over-pairs-have l size test e s t h = all-has e (over (name_pat (q l)) (pairs_dom q size) (cond test no_gens)) h ((l, refl), pairs-have size s, (t, tt))
+
+  each-pair-has : (l : ℕ) (size e : Ex) → P size → P e → P (each_pair q l size e)
+  each-pair-has l size e s h = each-has l (pairs_dom q size ∷ []) e (pairs-have size s, tt) h
 
   zeros-behind : (l : ℕ) (ss : List Shape) (is : Exs) → ShapesHave ss → AllHave is → P (zeros_ex q (suc l) ss (add_ex is (name_ex (q l))))
   zeros-behind l ss is x a = zeros-have (suc l) ss (add_ex is (name_ex (q l))) x (name-added l is a)
@@ -173,13 +179,13 @@ module _ (q : ℕ → Text) (P : Ex → Type 0) (L : Dom → Type 0) (built : Bu
   -- What is said of slots beside what each one in use holds.
   abbrev pub slots_rest : ℕ → Ex → Ex → List Shape → Exs → Ex
   slots_rest l size m ss is =
-      and_ex (over_slots q l size (le_ex (next_ex q l) m) (less_ex q (suc l) ss (add_ex is (name_ex (q l))) (add_ex is (next_ex q l))))
+      and_ex (over_pairs q l size (le_ex (next_ex q l) m) (less_ex q (suc l) ss (add_ex is (name_ex (q l))) (add_ex is (next_ex q l))))
       (over_slots q l size (ex1 true Op1.Not (le_ex (name_ex (q l)) m)) (zeros_ex q (suc l) ss (add_ex is (name_ex (q l)))))
 
   pub slots-rest-have : (l : ℕ) (size m : Ex) (ss : List Shape) (is : Exs) → P size → P m → ShapesHave ss → AllHave is → P (slots_rest l size m ss is)
   slots-rest-have l size m ss is s h x a =
-      rest-of-slots l size (le_ex (next_ex q l) m) _ (ex1 true Op1.Not (le_ex (name_ex (q l)) m)) s (le-has (next_ex q l) m (next-has l) h) (rise-has l ss is x a)
-      (not-has (le_ex (name_ex (q l)) m) (le-has (name_ex (q l)) m (built.names l) h)) _ (zeros-behind l ss is x a)
+      and-has _ _ (over-pairs-have l size (le_ex (next_ex q l) m) _ s (le-has (next_ex q l) m (next-has l) h) (rise-has l ss is x a))
+      (over-slots-have l size (ex1 true Op1.Not (le_ex (name_ex (q l)) m)) _ s (not-has (le_ex (name_ex (q l)) m) (le-has (name_ex (q l)) m (built.names l) h)) (zeros-behind l ss is x a))
 
   pub slots-have : (l : ℕ) (size m : Ex) (ss : List Shape) (is : Exs) (part : Ex) → P size → P m → ShapesHave ss → AllHave is → P part → P (slots_ex q l size m ss is part)
   slots-have l size m ss is part s h x a p =
@@ -188,14 +194,12 @@ module _ (q : ℕ → Text) (P : Ex → Type 0) (L : Dom → Type 0) (built : Bu
   -- The same where it is said of each slot that it is in use.
   abbrev pub use_rest : ℕ → Ex → Ex → Ex → Ex → List Shape → Exs → Ex
   use_rest l size here next rise ss is =
-      and_ex (over_slots q l size (le_ex (next_ex q l) size) (implies_ex next rise))
-      (over_slots q l size (ex1 true Op1.Not here) (zeros_ex q (suc l) ss (add_ex is (name_ex (q l)))))
+      and_ex (each_pair q l size (implies_ex next rise)) (over_slots q l size (ex1 true Op1.Not here) (zeros_ex q (suc l) ss (add_ex is (name_ex (q l)))))
 
   pub use-rest-have : (l : ℕ) (size here next rise : Ex) (ss : List Shape) (is : Exs) → P size → P here → P next → P rise → ShapesHave ss → AllHave is →
       P (use_rest l size here next rise ss is)
   use-rest-have l size here next rise ss is s h n r x a =
-      rest-of-slots l size (le_ex (next_ex q l) size) (implies_ex next rise) (ex1 true Op1.Not here) s (le-has (next_ex q l) size (next-has l) s) (implies-has next rise n r) (not-has here h) _
-      (zeros-behind l ss is x a)
+      and-has _ _ (each-pair-has l size (implies_ex next rise) s (implies-has next rise n r)) (over-slots-have l size (ex1 true Op1.Not here) _ s (not-has here h) (zeros-behind l ss is x a))
 
   use-has : (l : ℕ) (size here next rise : Ex) (ss : List Shape) (is : Exs) (part : Ex) → P size → P here → P next → P rise → ShapesHave ss → AllHave is → P part →
       P (use_ex q l size here next rise ss is part)
@@ -203,8 +207,7 @@ module _ (q : ℕ → Text) (P : Ex → Type 0) (L : Dom → Type 0) (built : Bu
 
   -- That slots in use stand first.
   pub first-has : (l : ℕ) (size here next : Ex) → P size → P here → P next → P (first_ex q l size here next)
-  first-has l size here next s h n =
-      over-slots-have l size (le_ex (next_ex q l) size) (implies_ex next here) s (le-has (next_ex q l) size (next-has l) s) (implies-has next here n h)
+  first-has l size here next s h n = each-pair-has l size (implies_ex next here) s (implies-has next here n h)
 
   -- ---- counts
 
@@ -276,7 +279,7 @@ module _ (q : ℕ → Text) (P : Ex → Type 0) (L : Dom → Type 0) (built : Bu
       let here : P (cell_ex false n (add_ex is (name_ex (q l)))) = built.cells false n (add_ex is (name_ex (q l))) (name-added l is a) in
       let next : P (cell_ex false n (add_ex is (next_ex q l))) = built.cells false n (add_ex is (next_ex q l)) (next-added l is a) in
       and-has _ _ (and-has _ _ (each-has l (upto size ∷ []) _ (upto-has size s, tt) (or-has _ _ (f _ here) (eq-has dummy _ m here)))
-      (over-slots-have l size (le_ex (next_ex q l) size) _ s (le-has (next_ex q l) size (next-has l) s) (or-has _ _ (eq-has dummy _ m next) (two-have q P L built true Op2.Lt _ _ refl here next))))
+      (each-pair-has l size _ s (or-has _ _ (eq-has dummy _ m next) (two-have q P L built true Op2.Lt _ _ refl here next))))
       (size-has ms es (member_count_ex q l size dummy n is) g
       (sum-has _ (row_gens q l (upto size ∷ [])) (number-has _ (not-has _ (eq-has dummy _ m here))) (row-gens-have l (upto size ∷ []) (upto-has size s, tt))))
 

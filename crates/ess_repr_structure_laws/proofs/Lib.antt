@@ -41,3 +41,5 @@ pub mod MetFunctions
 pub mod MetTuples
 pub mod MetAll
 pub mod MetViews
+-- Worked examples
+pub mod ExamplesStructures

@@ -21,7 +21,7 @@ use Rattle.ess_repr_laws.proofs.RowsOfCells.{axes-below}
 use Rattle.ess_repr_laws.proofs.StructureFits.{Fit, fit-split}
 use Rattle.ess_repr_laws.proofs.StructureOf.{StructureOf}
 use Rattle.ess_repr_laws.proofs.StructureRows.{Steady, all_codes}
-use Rattle.ess_repr_laws.proofs.StructureTuples.{under-none, first-cells, other-cells}
+use Rattle.ess_repr_laws.proofs.StructureTuples.{placed-split, under-none, first-cells, other-cells}
 use Rattle.ess_repr_declare_laws.specs.SizeTerms.{size_terms}
 use Rattle.ess_repr_structure_laws.proofs.BuiltStructures as B
 use Rattle.ess_repr_structure_laws.proofs.MetParts.{MetIn, and-met}
@@ -45,17 +45,6 @@ module _ (env0 : Env) (q : ℕ → Text) (q-apart : (m l : ℕ) → l < m → sa
     pub met : (out : Bool) (ns : List Text) (ts : Tables) (l : ℕ) (is : Exs) (i : List ℤ) (bs : Names) → Placed env0 q q-apart (shapes_of_each q size_terms rs ds ns) (members_of_axes rs es) ts →
         Fit (declarations_of_children out rs es []) (behind i (cells_of ts)) → over_axes i (all_codes env0 q q-apart (members_of_axes rs es)) ts ≡ true → Steady env0 q q-apart l is i bs → B.AllHave G is →
         MetIn (structure_of_each q size_terms rs ds ns l is) (N bs)
-
-  -- Tables of two parts are found side by side.
-  placed-halves : (ss ss' : List Shape) (vsss wsss : List (List (List Value))) (ts : Tables) → length ss ≡ length vsss → Placed env0 q q-apart (ss ++ ss') (vsss ++ wsss) ts →
-      Placed env0 q q-apart ss vsss (take (length ss) ts) × Placed env0 q q-apart ss' wsss (drop (length ss) ts)
-  placed-halves [] ss' [] wsss ts n h = (tt, h)
-  placed-halves [] ss' (vss ∷ vsss) wsss ts n h = cc
-  placed-halves (s ∷ ss) ss' [] wsss ts n h = cc
-  placed-halves (s ∷ ss) ss' (vss ∷ vsss) wsss [] n h = absurd h
-  placed-halves (s ∷ ss) ss' (vss ∷ vsss) wsss (t ∷ ts) n h =
-      let n' : length ss ≡ length vsss = cc in
-      let x = placed-halves ss ss' vsss wsss ts n' h.2 in ((h.0, h.1, x.0), x.1)
 
   pub none-met : (rs : Reprs) (ds : Doms) (es : List Domain) → ((ns : List Text) (l : ℕ) (is : Exs) (bs : Names) → MetIn (structure_of_each q size_terms rs ds ns l is) (N bs)) → EachMet rs ds es
   none-met rs ds es h = record { met = λ out ns ts l is i bs p c o st a. h ns l is bs }
@@ -83,7 +72,7 @@ module _ (env0 : Env) (q : ℕ → Text) (q-apart : (m l : ℕ) → l < m → sa
       halves : (ns : List Text) (ts : Tables) → Placed env0 q q-apart (S ns ++ T ns) (axes_members r e ++ members_of_axes rs es) ts →
           Placed env0 q q-apart (S ns) (axes_members r e) (take (width r) ts) × Placed env0 q q-apart (T ns) (members_of_axes rs es) (drop (width r) ts)
       halves ns ts p = subst (λ n. Placed env0 q q-apart (S ns) (axes_members r e) (take n ts) × Placed env0 q q-apart (T ns) (members_of_axes rs es) (drop n ts)) (s.long (take (width r) ns))
-          (placed-halves (S ns) (T ns) (axes_members r e) (members_of_axes rs es) ts (s.long (take (width r) ns) ∙ sym wide) p)
+          (placed-split env0 q q-apart (S ns) (T ns) (axes_members r e) (members_of_axes rs es) ts (s.long (take (width r) ns) ∙ sym wide) p)
 
       declared-long : (out : Bool) → length (declarations_below out r e) ≡ width r
       declared-long out = sym (map-long (λ t. t.axes) (declarations_below out r e)) ∙ ap length (axes-below out r e) ∙ axes-wide r e s.covered

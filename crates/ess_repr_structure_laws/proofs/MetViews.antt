@@ -27,6 +27,7 @@ use Rattle.ess_repr_laws.proofs.RowsOfCells.{axes_in}
 use Rattle.ess_repr_laws.proofs.StructureAll.{structures}
 use Rattle.ess_repr_laws.proofs.StructureFits.{Fit}
 use Rattle.ess_repr_laws.proofs.StructureOf.{StructureOf}
+use Rattle.ess_repr_laws.proofs.StructureOfTables.{tables-exact}
 use Rattle.ess_repr_laws.proofs.TablesWithin.{tables-within}
 use Rattle.ess_repr_declare_laws.specs.SizeTerms.{size_terms}
 use Rattle.ess_repr_structure_laws.specs.Laws.{TablesMeetStructures}
@@ -72,16 +73,6 @@ module _ (x y : Text) (env : Env) where
 
 -- ---- views
 
--- Filled tables over the declared axes are there exactly over these.
-filled-exact : (ds : List Declaration) (ts : Tables) → over_axes [] (axes_in ds) ts ≡ true → TablesFit ds ts → AllExact (axes_in ds) (cells_of ts)
-filled-exact [] [] o f = tt
-filled-exact [] (t ∷ ts) o f = absurd f
-filled-exact (d ∷ ds) [] o f = absurd f
-filled-exact (d ∷ ds) (t ∷ ts) o f =
-    let one = and-left (is_filled t && same_axes t.axes d.axes) (over_axes [] (axes_in ds) ts) o in
-    let full = eqb-true (length t.items) (volume t.axes) (and-left (is_filled t) (same_axes t.axes d.axes) one) in
-    (subst (λ a. Exact a (cell_at t)) f.0 (exact-items t.axes t.items full), filled-exact ds ts (and-right (is_filled t && same_axes t.axes d.axes) (over_axes [] (axes_in ds) ts) o) f.2)
-
 module _ (env0 : Env) (q : ℕ → Text) (q-apart : (m l : ℕ) → l < m → same_text (q m) (q l) ≡ false) where
   abbrev Names : Type 0
   Names = Bound env0 q q-apart
@@ -124,7 +115,7 @@ module _ (env0 : Env) (q : ℕ → Text) (q-apart : (m l : ℕ) → l < m → sa
       let p : Met env0 q q-apart r d e = met-all env0 q q-apart r d e k h (met-good d m) in
       let c = tables-within (declarations r e) ts (axes-differ r e s.covered) o t in
       let x : MetIn (structure q size_terms r d ns l no_exs) (N bs) =
-      p.met false ns ts l no_exs [] bs (s.found ns ts w f) (subst (Fit (declarations r e)) (sym (behind-none (cells_of ts))) (c, filled-exact (declarations r e) ts o t))
+      p.met false ns ts l no_exs [] bs (s.found ns ts w f) (subst (Fit (declarations r e)) (sym (behind-none (cells_of ts))) (c, tables-exact (declarations r e) ts o t))
       (ap (λ a. over_axes [] a ts) s.axes ∙ o) (λ cs g. refl) tt in x.met
 
 -- So structures are met.
