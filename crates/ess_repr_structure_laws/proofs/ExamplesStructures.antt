@@ -1,16 +1,14 @@
 -- Worked examples: numbers of domains under their conditions, structures with sizes as terms, and a reflexive relation between two domains
 -- that differ.
-use Rattle.std.proofs.Common.{◌≡◌, refl, ℕ, Bool, true, false, List, [], ◌∷◌, ℤ, pos, Some, None}
+use Rattle.std.proofs.Common.{◌≡◌, refl, ℕ, true, false, List, [], ◌∷◌, ℤ, pos, Some, None}
 use Rattle.std.specs.Prelude.{codes}
 use Rattle.ess_semantics.specs.declared.words.Fun.{Fun}
 use Rattle.ess_semantics.specs.declared.words.Key.{Key}
-use Rattle.ess_semantics.specs.declared.words.Op1.{Op1}
 use Rattle.ess_semantics.specs.declared.words.Op2.{Op2}
 use Rattle.ess_semantics.specs.declared.words.ReprKind.{ReprKind}
 use Rattle.ess_semantics.specs.Values.{Text, number, truth}
-use Rattle.ess_semantics.specs.Trees.{Ends, both_ends, Mark, flag, valued, Repr, repr, no_reprs, more_reprs, name_pat, Ex, Exs, number_ex, truth_ex, name_ex, comp_ex, cell_ex, seen_ex, no_exs, more_exs, no_gens, over, cond, Dom, bool_dom, int_dom, set_dom, relation_dom, no_doms, more_doms, ex1, ex2, fun1}
-use Rattle.ess_semantics.specs.Domains.{Domain, numbered, flagged, booleans, sets, relations, between, more_domains, no_domains}
-use Rattle.ess_semantics.specs.Tables.{Table}
+use Rattle.ess_semantics.specs.Trees.{both_ends, flag, valued, Repr, repr, no_reprs, more_reprs, name_pat, Ex, Exs, number_ex, truth_ex, name_ex, comp_ex, cell_ex, no_exs, more_exs, no_gens, over, cond, Dom, bool_dom, int_dom, set_dom, relation_dom, no_doms, more_doms, ex2, fun1}
+use Rattle.ess_semantics.specs.Domains.{numbered, flagged, booleans, sets, relations, between, more_domains, no_domains}
 use Rattle.ess_semantics.specs.Constants.{constants_of_tree}
 use Rattle.ess_semantics.specs.Meaning.{Env, empty_env, meaning, domain_of}
 use Rattle.ess_repr_laws.specs.Structure.{structure}

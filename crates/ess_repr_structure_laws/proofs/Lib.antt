@@ -16,6 +16,7 @@ pub mod OrderlyDenoted
 pub mod NamesApart
 pub mod OrderlyJudged
 pub mod JudgedViews
+pub mod JudgedNumbers
 -- What structures are built of
 pub mod BuiltStructures
 pub mod BuiltParts

@@ -2,7 +2,7 @@
 use Rattle.std.proofs.Common.{◌≡◌, sym, ap, ◌∙◌, subst, ℕ, ◌<◌, Bool, true, false, ◌||◌, List, [], ◌∷◌, ◌++◌, take, drop, length, ℤ}
 use Rattle.std.proofs.lemmas.List.{map-append}
 use Rattle.ess_semantics.specs.declared.words.ReprKind.{ReprKind}
-use Rattle.ess_semantics.specs.Values.{Text, Value}
+use Rattle.ess_semantics.specs.Values.{Text}
 use Rattle.ess_semantics.specs.Order.{same_text}
 use Rattle.ess_semantics.specs.Trees.{Repr, Reprs, repr, more_reprs, Ex, Exs, Dom, Doms, more_doms, tuple_dom, record_dom}
 use Rattle.ess_semantics.specs.Domains.{Domain, Domains, tuples, records, domain_list}

@@ -1,19 +1,17 @@
 -- Tables over the declared axes with items in the declared domains meet the structures of views of judged domains, also with the
 -- domain's numbers under their conditions.
-use Rattle.std.proofs.Common.{◌≡◌, refl, sym, ap, ◌∙◌, subst, ℕ, ◌<◌, true, false, ◌&&◌, List, [], ◌∷◌, length}
-use Rattle.std.proofs.lemmas.Bool.{eqb-true}
+use Rattle.std.proofs.Common.{◌≡◌, refl, sym, ap, ◌∙◌, subst, ℕ, ◌<◌, true, false, List, [], length}
 use Rattle.ess_semantics.specs.Values.{Text}
 use Rattle.ess_semantics.specs.Order.{same_text}
 use Rattle.ess_semantics.specs.Trees.{Repr, Ex, Exs, no_exs, more_exs, Dom, Doms, bool_dom, int_dom, name_dom, tuple_dom, record_dom, matrix_dom, set_dom, mset_dom, function_dom, relation_dom, partition_dom, no_doms, more_doms}
 use Rattle.ess_semantics.specs.Domains.{Domain}
-use Rattle.ess_semantics.specs.Tables.{Tables, volume, cell_at, is_filled, same_axes}
+use Rattle.ess_semantics.specs.Tables.{Tables}
 use Rattle.ess_semantics.specs.Cells.{cells_of}
 use Rattle.ess_semantics.specs.Representations.{width}
-use Rattle.ess_semantics.specs.Declarations.{Declaration, declarations, axes_of}
+use Rattle.ess_semantics.specs.Declarations.{declarations, axes_of}
 use Rattle.ess_semantics.specs.Tidy.{over_axes}
 use Rattle.ess_semantics.specs.Meaning.{Env}
 use Rattle.ess_semantics.specs.Meets.{Meets, MeetsAll, MeetsDom, MeetsDoms}
-use Rattle.ess_semantics.proofs.Tests.{and-left, and-right}
 use Rattle.ess_guard_laws.specs.Guard.{there, make_total, make_total_term}
 use Rattle.ess_guard_laws.proofs.StructuresMet as S
 use Rattle.ess_guard_laws.proofs.Terms.{summed-met}
@@ -22,8 +20,6 @@ use Rattle.ess_repr_laws.specs.Structure.{structure}
 use Rattle.ess_repr_laws.specs.StructureMeaning.{Bound, M, FoundBy}
 use Rattle.ess_repr_laws.proofs.AxesOfTables.{axes-differ}
 use Rattle.ess_repr_laws.proofs.Behind.{behind-none}
-use Rattle.ess_repr_laws.proofs.ExactCells.{Exact, AllExact, exact-items}
-use Rattle.ess_repr_laws.proofs.RowsOfCells.{axes_in}
 use Rattle.ess_repr_laws.proofs.StructureAll.{structures}
 use Rattle.ess_repr_laws.proofs.StructureFits.{Fit}
 use Rattle.ess_repr_laws.proofs.StructureOf.{StructureOf}

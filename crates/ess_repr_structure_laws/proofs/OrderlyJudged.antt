@@ -95,7 +95,7 @@ module _ (q p : Asked) (fits : (d : Dom) (s : Scope) → q.of_dom d s ≡ true �
 -- ---- statements
 
 -- What is asked of each part of a statement is asked of those of its domain.
-of-domain : (q : Asked) (t : Stm) (s : Scope) (d : Dom) → domain_in t ≡ Some d → every_of_stm q t s ≡ true → every_dom q d s ≡ true
+pub of-domain : (q : Asked) (t : Stm) (s : Scope) (d : Dom) → domain_in t ≡ Some d → every_of_stm q t s ≡ true → every_dom q d s ≡ true
 of-domain q t s d e h =
     sym (ap (λ o. is_none_or o (λ x. every_dom q x s)) e)
     ∙ and-right (is_none_or (expression_of t) (λ x. every q x s)) (is_none_or (domain_in t) (λ x. every_dom q x s)) h
