@@ -18,6 +18,7 @@ use Rattle.ess_repr_declare_laws.specs.SizeTerms.{is_missing, slots_ex, dummy_ex
 use Rattle.ess_repr_structure_laws.proofs.BuiltStructures as B
 use Rattle.ess_repr_structure_laws.proofs.BuiltStructures.{BuiltOf, two-have}
 use Rattle.ess_repr_structure_laws.proofs.BuiltParts as C
+use Rattle.ess_repr_structure_laws.proofs.BuiltSets as D
 use Rattle.ess_repr_structure_laws.proofs.BuiltViews as V
 
 module _ (q : ℕ → Text) (P : Ex → Type 0) (L : Dom → Type 0) (built : BuiltOf q P L) where
@@ -156,15 +157,15 @@ module _ (q : ℕ → Text) (P : Ex → Type 0) (L : Dom → Type 0) (built : Bu
         C.each-has q P L built l (dom_list is) _ (B.list-has P L is g.0)
         (structure-has r d ns (level_behind l (dom_list is)) (row_index q l (dom_list is) js) g.1 (C.row-index-has q P L built l (dom_list is) js a))
     structure-has (repr ReprKind.Occurrence no_reprs) (set_dom ms es d) ns l is g a =
-        C.occurrence-has q P L built l ms es d (first_name ns) is g.0 (B.good-has P L d g.1) a
+        D.occurrence-has q P L built l ms es d (first_name ns) is g.0 (B.good-has P L d g.1) a
     structure-has (repr ReprKind.Explicit (more_reprs r no_reprs)) (set_dom ms es d) ns l is g a =
-        C.explicit-has q P L built l ms es _ _ is _ g.0 (B.set-slots-have q P L built ms es d g) (shapes-have q P L built r d ns g.1) a
+        D.explicit-has q P L built l ms es _ _ is _ g.0 (B.set-slots-have q P L built ms es d g) (shapes-have q P L built r d ns g.1) a
         (structure-has r d ns (suc l) (add_ex is (name_ex (q l))) g.1 (named l is a))
     structure-has (repr ReprKind.ExplicitVarSizeWithMarker (more_reprs r no_reprs)) (set_dom ms es d) ns l is g a =
-        C.marker-has q P L built l ms es _ (first_name ns) _ is _ g.0 (B.set-slots-have q P L built ms es d g) (shapes-have q P L built r d (drop 1 ns) g.1) a
+        D.marker-has q P L built l ms es _ (first_name ns) _ is _ g.0 (B.set-slots-have q P L built ms es d g) (shapes-have q P L built r d (drop 1 ns) g.1) a
         (structure-has r d (drop 1 ns) (suc l) (add_ex is (name_ex (q l))) g.1 (named l is a))
     structure-has (repr ReprKind.ExplicitVarSizeWithFlags (more_reprs r no_reprs)) (set_dom ms es d) ns l is g a =
-        C.flags-have q P L built l ms es _ (first_name ns) _ is _ g.0 (B.set-slots-have q P L built ms es d g) (shapes-have q P L built r d (drop 1 ns) g.1) a
+        D.flags-have q P L built l ms es _ (first_name ns) _ is _ g.0 (B.set-slots-have q P L built ms es d g) (shapes-have q P L built r d (drop 1 ns) g.1) a
         (structure-has r d (drop 1 ns) (suc l) (add_ex is (name_ex (q l))) g.1 (named l is a))
     structure-has (repr ReprKind.Function1D (more_reprs r no_reprs)) (function_dom ms es d c) ns l is g a =
         let y : B.DomHas P c = B.good-has P L c g.2 in
@@ -194,20 +195,20 @@ module _ (q : ℕ → Text) (P : Ex → Type 0) (L : Dom → Type 0) (built : Bu
     structure-has (repr ReprKind.MSetOccurrence no_reprs) (mset_dom ms es d) ns l is g a =
         C.counts-have q P L built l ms es (d ∷ []) (first_name ns) is g.1 (one-domain q P L built d g.2) a
     structure-has (repr ReprKind.MSetExplicitWithFlags (more_reprs r no_reprs)) (mset_dom ms es d) ns l is g a =
-        C.counted-has q P L built l ms es _ (first_name ns) _ is _ g.1 (B.mset-slots-have q P L built ms es d g) (shapes-have q P L built r d (drop 1 ns) g.2) a
+        D.counted-has q P L built l ms es _ (first_name ns) _ is _ g.1 (B.mset-slots-have q P L built ms es d g) (shapes-have q P L built r d (drop 1 ns) g.2) a
         (structure-has r d (drop 1 ns) (suc l) (add_ex is (name_ex (q l))) g.2 (named l is a))
     structure-has (repr ReprKind.MSetExplicitWithRepetition (more_reprs r no_reprs)) (mset_dom ms es d) ns l is g a =
         let s : P (slots_ex (mset_dom ms es d)) = B.mset-slots-have q P L built ms es d g in
         let c : P (cell_ex false (first_name ns) is) = built.cells false (first_name ns) is a in
         C.and-has q P L built _ _
-        (C.repetition-use-has q P L built l _ (first_name ns) _ is _ s (shapes-have q P L built r d (drop 1 ns) g.2) a
+        (D.repetition-use-has q P L built l _ (first_name ns) _ is _ s (shapes-have q P L built r d (drop 1 ns) g.2) a
         (structure-has r d (drop 1 ns) (suc l) (add_ex is (name_ex (q l))) g.2 (named l is a)))
         (C.and-has q P L built _ _ (C.size-has q P L built ms es (cell_ex false (first_name ns) is) g.1 c)
         (V.occurs-have q P L built l _ ms es
         (view-has (repr ReprKind.MSetExplicitWithRepetition (more_reprs r no_reprs)) (bare_mset_dom (slots_ex (mset_dom ms es d)) d)
         (own_shape ns false [] ∷ map (on_axes (upto (slots_ex (mset_dom ms es d)) ∷ [])) (shapes q size_terms r d (drop 1 ns))) is ((s, tt), B.good-has P L d g.2) a) g.1))
     structure-has (repr ReprKind.ExplicitVarSizeWithDummy no_reprs) (set_dom ms es d) ns l is g a =
-        C.dummy-has q P L built l ms es _ _ (inside_ex d) (first_name ns) is g.0 (B.set-slots-have q P L built ms es d g) (dummy-has q P L built d g.1) (λ x p. inside-has q P L built d x g.1 p) a
+        D.dummy-has q P L built l ms es _ _ (inside_ex d) (first_name ns) is g.0 (B.set-slots-have q P L built ms es d g) (dummy-has q P L built d g.1) (λ x p. inside-has q P L built d x g.1 p) a
     structure-has (repr ReprKind.RelationAsSet (more_reprs r no_reprs)) (relation_dom ms es ds) ns l is g a =
         let h : B.Good P L (tuple_set_dom ms es ds) = B.tuple-set-good q P L built ms es ds g in
         let v : P (view_ex r (tuple_set_dom ms es ds) (shapes q size_terms r (tuple_set_dom ms es ds) ns) is) = view-has r (tuple_set_dom ms es ds) (shapes q size_terms r (tuple_set_dom ms es ds) ns) is (B.good-has P L (tuple_set_dom ms es ds) h) a in

@@ -6,7 +6,7 @@ use Rattle.ess_semantics.specs.declared.words.Fun.{Fun}
 use Rattle.ess_semantics.specs.declared.words.Key.{Key}
 use Rattle.ess_semantics.specs.Values.{Text}
 use Rattle.ess_semantics.specs.Trees.{binary, Mark, flag, valued, name_pat, Ex, Exs, number_ex, name_ex, comp_ex, cell_ex, no_exs, more_exs, Gens, no_gens, over, cond, Dom, ex1, ex2, fun1}
-use Rattle.ess_repr_laws.specs.StructureParts.{Shape, add_ex, and_ex, or_ex, implies_ex, le_ex, all_ex, key_ex, size_ex, keys_ex, upto, row_gens, row_index, each_ex, row_ex, less_ex, at_most_ex, out_ex, zero_ex, zeros_ex, over_slots, pairs_dom, over_pairs, each_pair, next_ex, slots_ex, marker_ex, explicit_ex, use_ex, first_ex, true_count_ex, place_count_ex, number_sum_ex, times_of_ex, times_ex, counts_ex, flags_ex, counted_ex, member_count_ex, dummy_ex, occurrence_ex}
+use Rattle.ess_repr_laws.specs.StructureParts.{Shape, add_ex, and_ex, or_ex, implies_ex, le_ex, all_ex, key_ex, size_ex, keys_ex, upto, row_gens, row_index, each_ex, row_ex, less_ex, at_most_ex, out_ex, zero_ex, zeros_ex, over_slots, pairs_dom, over_pairs, each_pair, next_ex, slots_ex, use_ex, first_ex, true_count_ex, place_count_ex, number_sum_ex, times_of_ex, times_ex, counts_ex}
 use Rattle.ess_repr_structure_laws.proofs.BuiltStructures as B
 use Rattle.ess_repr_structure_laws.proofs.BuiltStructures.{is_used, BuiltOf, one-has, two-have, word-has, lists-have}
 
@@ -166,7 +166,7 @@ module _ (q : ℕ → Text) (P : Ex → Type 0) (L : Dom → Type 0) (built : Bu
   over-pairs-have : (l : ℕ) (size test e : Ex) → P size → P test → P e → P (over_pairs q l size test e)
   over-pairs-have l size test e s t h = all-has e (over (name_pat (q l)) (pairs_dom q size) (cond test no_gens)) h ((l, refl), pairs-have size s, (t, tt))
 
-  each-pair-has : (l : ℕ) (size e : Ex) → P size → P e → P (each_pair q l size e)
+  pub each-pair-has : (l : ℕ) (size e : Ex) → P size → P e → P (each_pair q l size e)
   each-pair-has l size e s h = each-has l (pairs_dom q size ∷ []) e (pairs-have size s, tt) h
 
   zeros-behind : (l : ℕ) (ss : List Shape) (is : Exs) → ShapesHave ss → AllHave is → P (zeros_ex q (suc l) ss (add_ex is (name_ex (q l))))
@@ -201,7 +201,7 @@ module _ (q : ℕ → Text) (P : Ex → Type 0) (L : Dom → Type 0) (built : Bu
   use-rest-have l size here next rise ss is s h n r x a =
       and-has _ _ (each-pair-has l size (implies_ex next rise) s (implies-has next rise n r)) (over-slots-have l size (ex1 true Op1.Not here) _ s (not-has here h) (zeros-behind l ss is x a))
 
-  use-has : (l : ℕ) (size here next rise : Ex) (ss : List Shape) (is : Exs) (part : Ex) → P size → P here → P next → P rise → ShapesHave ss → AllHave is → P part →
+  pub use-has : (l : ℕ) (size here next rise : Ex) (ss : List Shape) (is : Exs) (part : Ex) → P size → P here → P next → P rise → ShapesHave ss → AllHave is → P part →
       P (use_ex q l size here next rise ss is part)
   use-has l size here next rise ss is part s h n r x a p = and-has _ _ (over-slots-have l size here part s h p) (use-rest-have l size here next rise ss is s h n r x a)
 
@@ -240,52 +240,3 @@ module _ (q : ℕ → Text) (P : Ex → Type 0) (L : Dom → Type 0) (built : Bu
   pub counts-have : (l : ℕ) (ms : List Mark) (es : Exs) (as' : List Dom) (n : Text) (is : Exs) → AllHave es → ListHas as' → AllHave is → P (counts_ex q l ms es as' n is)
   counts-have l ms es as' n is g x a =
       and-has (size_ex ms es (number_sum_ex q l as' n is)) (times_ex q l ms es as' n is) (size-has ms es (number_sum_ex q l as' n is) g (number-sum-has l as' n is x a)) (times-have l ms es as' n is g x a)
-
-  -- ---- whole layers of sets and multisets
-
-  pub occurrence-has : (l : ℕ) (ms : List Mark) (es : Exs) (d : Dom) (n : Text) (is : Exs) → AllHave es → DomHas d → AllHave is → P (occurrence_ex q l ms es d n is)
-  occurrence-has l ms es d n is g x a = size-has ms es (true_count_ex q l (d ∷ []) n is) g (true-count-has l (d ∷ []) n is (x, tt) a)
-
-  pub marker-has : (l : ℕ) (ms : List Mark) (es : Exs) (size : Ex) (n : Text) (ss : List Shape) (is : Exs) (part : Ex) → AllHave es → P size → ShapesHave ss → AllHave is → P part →
-      P (marker_ex q l ms es size n ss is part)
-  marker-has l ms es size n ss is part g s x a p =
-      let c : P (cell_ex false n is) = built.cells false n is a in
-      and-has (size_ex ms es (cell_ex false n is)) (slots_ex q l size (cell_ex false n is) ss is part) (size-has ms es (cell_ex false n is) g c) (slots-have l size (cell_ex false n is) ss is part s c x a p)
-
-  pub explicit-has : (l : ℕ) (ms : List Mark) (es : Exs) (size : Ex) (ss : List Shape) (is : Exs) (part : Ex) → AllHave es → P size → ShapesHave ss → AllHave is → P part →
-      P (explicit_ex q l ms es size ss is part)
-  explicit-has l ms es size ss is part g s x a p = and-has (size_ex ms es size) (slots_ex q l size size ss is part) (size-has ms es size g s) (slots-have l size size ss is part s s x a p)
-
-  pub flags-have : (l : ℕ) (ms : List Mark) (es : Exs) (size : Ex) (n : Text) (ss : List Shape) (is : Exs) (part : Ex) → AllHave es → P size → ShapesHave ss → AllHave is → P part →
-      P (flags_ex q l ms es size n ss is part)
-  flags-have l ms es size n ss is part g s x a p =
-      let here : P (cell_ex true n (add_ex is (name_ex (q l)))) = built.cells true n (add_ex is (name_ex (q l))) (name-added l is a) in
-      let next : P (cell_ex true n (add_ex is (next_ex q l))) = built.cells true n (add_ex is (next_ex q l)) (next-added l is a) in
-      and-has _ _ (and-has _ _ (first-has l size (cell_ex true n (add_ex is (name_ex (q l)))) (cell_ex true n (add_ex is (next_ex q l))) s here next)
-      (use-has l size (cell_ex true n (add_ex is (name_ex (q l)))) (cell_ex true n (add_ex is (next_ex q l))) _ ss is part s here next (rise-has l ss is x a) x a p))
-      (size-has ms es (true_count_ex q l (upto size ∷ []) n is) g (true-count-has l (upto size ∷ []) n is (upto-has size s, tt) a))
-
-  pub counted-has : (l : ℕ) (ms : List Mark) (es : Exs) (size : Ex) (n : Text) (ss : List Shape) (is : Exs) (part : Ex) → AllHave es → P size → ShapesHave ss → AllHave is → P part →
-      P (counted_ex q l ms es size n ss is part)
-  counted-has l ms es size n ss is part g s x a p =
-      let here : P (le_ex (number_ex (pos 1)) (cell_ex false n (add_ex is (name_ex (q l))))) = le-has (number_ex (pos 1)) (cell_ex false n (add_ex is (name_ex (q l)))) built.one (built.cells false n (add_ex is (name_ex (q l))) (name-added l is a)) in
-      let next : P (le_ex (number_ex (pos 1)) (cell_ex false n (add_ex is (next_ex q l)))) = le-has (number_ex (pos 1)) (cell_ex false n (add_ex is (next_ex q l))) built.one (built.cells false n (add_ex is (next_ex q l)) (next-added l is a)) in
-      and-has _ _ (and-has _ _ (first-has l size _ _ s here next) (use-has l size _ _ _ ss is part s here next (rise-has l ss is x a) x a p))
-      (counts-have l ms es (upto size ∷ []) n is g (upto-has size s, tt) a)
-
-  pub dummy-has : (l : ℕ) (ms : List Mark) (es : Exs) (size dummy : Ex) (atom : Ex → Ex) (n : Text) (is : Exs) → AllHave es → P size → P dummy → ((x : Ex) → P x → P (atom x)) → AllHave is →
-      P (dummy_ex q l ms es size dummy atom n is)
-  dummy-has l ms es size dummy atom n is g s m f a =
-      let here : P (cell_ex false n (add_ex is (name_ex (q l)))) = built.cells false n (add_ex is (name_ex (q l))) (name-added l is a) in
-      let next : P (cell_ex false n (add_ex is (next_ex q l))) = built.cells false n (add_ex is (next_ex q l)) (next-added l is a) in
-      and-has _ _ (and-has _ _ (each-has l (upto size ∷ []) _ (upto-has size s, tt) (or-has _ _ (f _ here) (eq-has dummy _ m here)))
-      (each-pair-has l size _ s (or-has _ _ (eq-has dummy _ m next) (two-have q P L built true Op2.Lt _ _ refl here next))))
-      (size-has ms es (member_count_ex q l size dummy n is) g
-      (sum-has _ (row_gens q l (upto size ∷ [])) (number-has _ (not-has _ (eq-has dummy _ m here))) (row-gens-have l (upto size ∷ []) (upto-has size s, tt))))
-
-  pub repetition-use-has : (l : ℕ) (size : Ex) (n : Text) (ss : List Shape) (is : Exs) (part : Ex) → P size → ShapesHave ss → AllHave is → P part →
-      P (use_ex q l size (le_ex (name_ex (q l)) (cell_ex false n is)) (le_ex (next_ex q l) (cell_ex false n is)) (at_most_ex q (suc l) ss (add_ex is (name_ex (q l))) (add_ex is (next_ex q l))) ss is part)
-  repetition-use-has l size n ss is part s x a p =
-      let c : P (cell_ex false n is) = built.cells false n is a in
-      use-has l size _ _ _ ss is part s (le-has (name_ex (q l)) (cell_ex false n is) (built.names l) c) (le-has (next_ex q l) (cell_ex false n is) (next-has l) c)
-      (at-most-has (suc l) ss (add_ex is (name_ex (q l))) (add_ex is (next_ex q l)) x (name-added l is a) (next-added l is a)) x a p

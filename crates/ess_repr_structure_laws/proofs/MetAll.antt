@@ -29,6 +29,7 @@ use Rattle.ess_repr_declare_laws.proofs.SizeNumbers.{not_below}
 use Rattle.ess_repr_structure_laws.proofs.BuiltStructures as B
 use Rattle.ess_repr_structure_laws.proofs.BuiltStructures.{BuiltOf}
 use Rattle.ess_repr_structure_laws.proofs.BuiltParts as C
+use Rattle.ess_repr_structure_laws.proofs.BuiltSets as D
 use Rattle.ess_repr_structure_laws.proofs.BuiltAll as A
 use Rattle.ess_repr_structure_laws.proofs.FittingChildren.{ChildrenFit, children-fit}
 use Rattle.ess_repr_structure_laws.proofs.MetParts.{Any, and-met}
@@ -97,7 +98,7 @@ module _ (env0 : Env) (q : ℕ → Text) (q-apart : (m l : ℕ) → l < m → sa
           numbers = λ bs. let n = k.numbers bs in n.1;
         }) h.2 g.1) h.1 g
     met-all (repr ReprKind.Occurrence no_reprs) (set_dom ms es d) (sets ks e) k h g = record {
-      met = λ out ns ts l is i bs p c o st a. here env0 q q-apart (C.occurrence-has q G Any bt l ms es d (first_name ns) is g.0 (B.good-has G Any d g.1) a) bs;
+      met = λ out ns ts l is i bs p c o st a. here env0 q q-apart (D.occurrence-has q G Any bt l ms es d (first_name ns) is g.0 (B.good-has G Any d g.1) a) bs;
     }
     met-all (repr ReprKind.Explicit (more_reprs r no_reprs)) (set_dom ms es d) (sets ks e) k h g =
         explicit-met env0 q q-apart r ms es d ks e (of r d e h.2) (met-all r d e (set-child env0 q q-apart ReprKind.Explicit r ms es d ks e refl k k.room.1) h.2 g.1) h.1 g
@@ -107,7 +108,7 @@ module _ (env0 : Env) (q : ℕ → Text) (q-apart : (m l : ℕ) → l < m → sa
         flags-met env0 q q-apart r ms es d ks e (of r d e h.2) (met-all r d e (set-child env0 q q-apart ReprKind.ExplicitVarSizeWithFlags r ms es d ks e refl k k.room.1) h.2 g.1) h.1 g
     met-all (repr ReprKind.ExplicitVarSizeWithDummy no_reprs) (set_dom ms es d) (sets ks e) k h g = record {
       met = λ out ns ts l is i bs p c o st a.
-          here env0 q q-apart (C.dummy-has q G Any bt l ms es _ _ _ (first_name ns) is g.0 (B.set-slots-have q G Any bt ms es d g) (A.dummy-has q G Any bt d g.1) (λ x p. A.inside-has q G Any bt d x g.1 p) a) bs;
+          here env0 q q-apart (D.dummy-has q G Any bt l ms es _ _ _ (first_name ns) is g.0 (B.set-slots-have q G Any bt ms es d g) (A.dummy-has q G Any bt d g.1) (λ x p. A.inside-has q G Any bt d x g.1 p) a) bs;
     }
     met-all (repr ReprKind.MSetOccurrence no_reprs) (mset_dom ms es d) (msets ks e) k h g = record {
       met = λ out ns ts l is i bs p c o st a. here env0 q q-apart (C.counts-have q G Any bt l ms es (d ∷ []) (first_name ns) is g.1 (A.one-domain q G Any bt d g.2) a) bs;
