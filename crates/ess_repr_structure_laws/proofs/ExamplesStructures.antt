@@ -79,13 +79,16 @@ cell = repr ReprKind.Atom no_reprs
 
 -- How many members of int(1..3) occur.
 abbrev occurring : Ex
-occurring = fun1 false Fun.Sum (comp_ex (fun1 false Fun.ToInt (cell_ex true (codes "a") (one (name_ex (codes "q"))))) (over (name_pat (codes "q")) (up_to (pos 3)) no_gens))
+occurring = fun1 false Fun.Sum (comp_ex (fun1 false Fun.ToInt (cell_ex true (codes "a") (one (name_ex (codes "q")))))
+    (over (name_pat (codes "q")) (up_to (pos 3)) no_gens))
 
 -- `set (size 2) of int(1..3)` by the members that occur: two of them do.
 abbrev of_two : Ex
-of_two = structure name size_terms (repr ReprKind.Occurrence no_reprs) (set_dom (valued Key.Size ∷ []) (one (number_ex (pos 2))) (up_to (pos 3))) (codes "a" ∷ []) 1 no_exs
+of_two = structure name size_terms (repr ReprKind.Occurrence no_reprs)
+    (set_dom (valued Key.Size ∷ []) (one (number_ex (pos 2))) (up_to (pos 3))) (codes "a" ∷ []) 1 no_exs
 
-pub of-occurrence : of_two ≡ and_ex (and_ex (ex2 true Op2.Le (number_ex (pos 2)) occurring) (ex2 true Op2.Le occurring (number_ex (pos 2)))) (truth_ex true)
+pub of-occurrence : of_two ≡ and_ex (and_ex (ex2 true Op2.Le (number_ex (pos 2)) occurring) (ex2 true Op2.Le occurring (number_ex (pos 2))))
+    (truth_ex true)
 of-occurrence = refl
 
 -- It spells the numbers of the domain.
@@ -104,13 +107,17 @@ of-three-members = refl
 
 -- `set (maxSize 2) of int(1..3)` in slots with a marker.
 abbrev of_slots : Ex
-of_slots = structure name size_terms (repr ReprKind.ExplicitVarSizeWithMarker (more_reprs cell no_reprs)) (set_dom (valued Key.MaxSize ∷ []) (one (number_ex (pos 2))) (up_to (pos 3)))
+of_slots = structure name size_terms (repr ReprKind.ExplicitVarSizeWithMarker (more_reprs cell no_reprs))
+    (set_dom (valued Key.MaxSize ∷ []) (one (number_ex (pos 2))) (up_to (pos 3)))
     (codes "m" ∷ codes "a" ∷ []) 1 no_exs
 
 -- An env with a marker and two slots.
 abbrev slots_env : ℤ → List ℤ → Env
 slots_env m zs =
-    record empty_env { cells = (codes "m", record { axes = []; items = m ∷ [] }) ∷ (codes "a", record { axes = (pos 1 ∷ pos 2 ∷ []) ∷ []; items = zs }) ∷ [] }
+    record empty_env {
+      cells = (codes "m", record { axes = []; items = m ∷ [] }) ∷
+          (codes "a", record { axes = (pos 1 ∷ pos 2 ∷ []) ∷ []; items = zs }) ∷ [];
+    }
 
 -- Members rise, and a slot out of use holds 0.
 pub of-rising : meaning of_slots (slots_env (pos 2) (pos 1 ∷ pos 3 ∷ [])) ≡ Some (truth true)
@@ -139,21 +146,30 @@ of_reflexive = structure name size_terms matrix reflexive (codes "a" ∷ []) 1 n
 
 -- An env with a matrix of three rows.
 abbrev matrix_env : List ℤ → Env
-matrix_env zs = record empty_env { cells = (codes "a", record { axes = (pos 1 ∷ pos 2 ∷ pos 3 ∷ []) ∷ (pos 1 ∷ pos 2 ∷ pos 3 ∷ pos 4 ∷ []) ∷ []; items = zs }) ∷ [] }
+matrix_env zs = record empty_env {
+  cells = (
+    codes "a",
+    record
+        { axes = (pos 1 ∷ pos 2 ∷ pos 3 ∷ []) ∷ (pos 1 ∷ pos 2 ∷ pos 3 ∷ pos 4 ∷ []) ∷ []; items = zs },
+  ) ∷ [];
+}
 
 -- Each member of the first domain is related to itself.
-pub of-related : meaning of_reflexive (matrix_env (pos 1 ∷ pos 0 ∷ pos 0 ∷ pos 1 ∷ pos 0 ∷ pos 1 ∷ pos 0 ∷ pos 0 ∷ pos 0 ∷ pos 0 ∷ pos 1 ∷ pos 0 ∷ [])) ≡ Some (truth true)
+pub of-related : meaning of_reflexive (matrix_env (pos 1 ∷ pos 0 ∷ pos 0 ∷ pos 1 ∷ pos 0 ∷ pos 1 ∷ pos 0 ∷ pos 0 ∷ pos 0 ∷ pos 0 ∷ pos 1 ∷
+    pos 0 ∷ [])) ≡ Some (truth true)
 of-related = refl
 
 -- The second one isn't.
-pub of-unrelated : meaning of_reflexive (matrix_env (pos 1 ∷ pos 0 ∷ pos 0 ∷ pos 1 ∷ pos 0 ∷ pos 0 ∷ pos 0 ∷ pos 0 ∷ pos 0 ∷ pos 0 ∷ pos 1 ∷ pos 0 ∷ [])) ≡ Some (truth false)
+pub of-unrelated : meaning of_reflexive (matrix_env
+    (pos 1 ∷ pos 0 ∷ pos 0 ∷ pos 1 ∷ pos 0 ∷ pos 0 ∷ pos 0 ∷ pos 0 ∷ pos 0 ∷ pos 0 ∷ pos 1 ∷ pos 0 ∷ [])) ≡ Some (truth false)
 of-unrelated = refl
 
 number-is : (n z : ℤ) → Some n ≡ Some z → Some (number n) ≡ Some (number z)
 number-is n z h = cc
 
 -- It is a view that the laws speak of.
-pub of-judged : JudgedView empty_env name matrix reflexive (relations (flagged Key.Reflexive ∷ []) (more_domains (between (pos 1) (pos 3)) (more_domains (between (pos 1) (pos 4)) no_domains)))
+pub of-judged : JudgedView empty_env name matrix reflexive
+    (relations (flagged Key.Reflexive ∷ []) (more_domains (between (pos 1) (pos 3)) (more_domains (between (pos 1) (pos 4)) no_domains)))
 of-judged = record {
   orderly = ((refl, refl), (tt, (tt, tt)));
   known = refl;

@@ -94,7 +94,12 @@ module _ (env0 : Env) (q : ℕ → Text) (q-apart : (m l : ℕ) → l < m → sa
     met-good (matrix_dom is d) m = (met-all-good is (λ bs. let z = m bs in z.0), met-good d (λ bs. let z = m bs in z.1))
     met-good (set_dom ms es d) m = (all-met es (λ bs. let z = m bs in z.0), met-good d (λ bs. let z = m bs in z.1))
     met-good (mset_dom ms es d) m = (tt, all-met es (λ bs. let z = m bs in z.0), met-good d (λ bs. let z = m bs in z.1))
-    met-good (function_dom ms es d c) m = (all-met es (λ bs. let z = m bs in z.0), met-good d (λ bs. let z = m bs in z.1), met-good c (λ bs. let z = m bs in z.2))
+    met-good (function_dom ms es d c) m = (
+      all-met es (λ bs. let z = m bs in z.0),
+      met-good d (λ bs. let z = m bs in z.1),
+      met-good c
+          (λ bs. let z = m bs in z.2),
+    )
     met-good (relation_dom ms es ds) m = (all-met es (λ bs. let z = m bs in z.0), met-all-good ds (λ bs. let z = m bs in z.1))
     met-good (partition_dom ms es d) m = (all-met es (λ bs. let z = m bs in z.0), met-good d (λ bs. let z = m bs in z.1))
 
@@ -103,15 +108,18 @@ module _ (env0 : Env) (q : ℕ → Text) (q-apart : (m l : ℕ) → l < m → sa
     met-all-good (more_doms d ds) m = (met-good d (λ bs. let z = m bs in z.0), met-all-good ds (λ bs. let z = m bs in z.1))
 
   -- Tables that fit meet the structure of a view of which enough is known.
-  known-met : (r : Repr) (d : Dom) (e : Domain) → Known env0 q q-apart r d e → ((bs : Names) → MeetsDom d (N bs)) → (ns : List Text) (ts : Tables) (l : ℕ) (bs : Names) →
-      length ns ≡ width r → FoundBy env0 q q-apart ns ts → over_axes [] (axes_of r e) ts ≡ true → TablesFit (declarations r e) ts → Meets (structure q size_terms r d ns l no_exs) (N bs)
+  known-met : (r : Repr) (d : Dom) (e : Domain) → Known env0 q q-apart r d e → ((bs : Names) → MeetsDom d (N bs)) → (ns : List Text)
+      (ts : Tables) (l : ℕ) (bs : Names) →
+      length ns ≡ width r → FoundBy env0 q q-apart ns ts → over_axes [] (axes_of r e) ts ≡ true → TablesFit (declarations r e) ts → Meets
+      (structure q size_terms r d ns l no_exs) (N bs)
   known-met r d e k m ns ts l bs w f o t =
       let h = ready env0 q q-apart r d e k in
       let s : StructureOf env0 q q-apart size_terms r d e = structures env0 q q-apart size_terms r d e h in
       let p : Met env0 q q-apart r d e = met-all env0 q q-apart r d e k h (met-good d m) in
       let c = tables-within (declarations r e) ts (axes-differ r e s.covered) o t in
       let x : MetIn (structure q size_terms r d ns l no_exs) (N bs) =
-      p.met false ns ts l no_exs [] bs (s.found ns ts w f) (subst (Fit (declarations r e)) (sym (behind-none (cells_of ts))) (c, tables-exact (declarations r e) ts o t))
+      p.met false ns ts l no_exs [] bs (s.found ns ts w f)
+      (subst (Fit (declarations r e)) (sym (behind-none (cells_of ts))) (c, tables-exact (declarations r e) ts o t))
       (ap (λ a. over_axes [] a ts) s.axes ∙ o) (λ cs g. refl) tt in x.met
 
 -- So structures are met.
@@ -119,5 +127,6 @@ pub structures-met : TablesMeetStructures
 structures-met = record {
   own = λ env0 q apart r d e v m ns ts l bs w f o t. known-met env0 q apart r d e (judged-known env0 q apart r d e v) m ns ts l bs w f o t;
   guarded = λ x y env0 q apart r d e v m ns ts l bs w f o t.
-      known-met env0 q apart r (total_dom x y d) e (known-total env0 q apart d e x y r (judged-known env0 q apart r d e v) v) (λ cs. total-dom-met x y (M env0 q apart cs) d (m cs)) ns ts l bs w f o t;
+      known-met env0 q apart r (total_dom x y d) e (known-total env0 q apart d e x y r (judged-known env0 q apart r d e v) v)
+      (λ cs. total-dom-met x y (M env0 q apart cs) d (m cs)) ns ts l bs w f o t;
 }

@@ -83,7 +83,8 @@ JudgedStructuresMeanCanonical =
 -- attribute value under its conditions, where these are covered. With them there it means that the cells are canonical, as without.
 pub record StructuresAreTotal : Type 0 where
   pub total : (env0 : Env) (q : ℕ → Text) (apart : (m l : ℕ) → l < m → same_text (q m) (q l) ≡ false) (r : Repr) (d : Dom) (e : Domain) →
-      DenotedView env0 q d e → ((bs : Bound env0 q apart) → TotalDom d (M env0 q apart bs)) → (ns : List Text) (l : ℕ) (bs : Bound env0 q apart) →
+      DenotedView env0 q d e → ((bs : Bound env0 q apart) → TotalDom d (M env0 q apart bs)) → (ns : List Text) (l : ℕ)
+      (bs : Bound env0 q apart) →
       Total (structure q size_terms r d ns l no_exs) (M env0 q apart bs)
   pub guarded : (x y : Text) (env0 : Env) (q : ℕ → Text) (apart : (m l : ℕ) → l < m → same_text (q m) (q l) ≡ false) (r : Repr) (d : Dom)
       (e : Domain) → DenotedView env0 q d e → CoveredDom d → (ns : List Text) (l : ℕ) (bs : Bound env0 q apart) →
@@ -99,7 +100,8 @@ pub record StructuresSpellConstants : Type 0 where
   pub own : (q : ℕ → Text) (r : Repr) (d : Dom) (ns : List Text) (l : ℕ) →
       among_constants (constants_of_tree (structure q size_terms r d ns l no_exs)) (pos 0 ∷ pos 1 ∷ pos 2 ∷ dom_constants d) ≡ true
   pub guarded : (x y : Text) (q : ℕ → Text) (r : Repr) (d : Dom) (ns : List Text) (l : ℕ) → DomLiteralsFit d →
-      among_constants (constants_of_tree (structure q size_terms r (total_dom x y d) ns l no_exs)) (pos 0 ∷ pos 1 ∷ pos 2 ∷ dom_constants d) ≡ true
+      among_constants (constants_of_tree (structure q size_terms r (total_dom x y d) ns l no_exs)) (pos 0 ∷ pos 1 ∷ pos 2 ∷ dom_constants d)
+      ≡ true
 
 -- Tables that are found by their names, on the declared axes with items in the declared domains, meet the structures of the structure
 -- itself: each of its views is tidy wherever its context holds, where they meet those of the domain's numbers. So they do with the
@@ -121,5 +123,6 @@ pub record TablesMeetStructures : Type 0 where
 abbrev pub JudgedNumbersAreNumbers : Type 0
 JudgedNumbersAreNumbers =
     (w t : Stm) (s : Scope) (d : Dom) (env : Env) → domain_in t ≡ Some d → meets ill_typed w t s ≡ true →
-    every_dom (record asking { of_ex = relation_has_parts }) d s ≡ true → list_any is_cell_or_view (parts_of_dom d) ≡ false → Typed s.tys env →
+    every_dom (record asking { of_ex = relation_has_parts }) d s ≡ true → list_any is_cell_or_view (parts_of_dom d) ≡ false → Typed s.tys
+    env →
     NumbersIn (resolve_dom d s.tys) env
