@@ -17,7 +17,7 @@ use Rattle.ess_semantics.specs.Declarations.{declarations, axes_of}
 use Rattle.ess_semantics.specs.CanonicalTest.{canonical}
 use Rattle.ess_semantics.specs.Meaning.{Env, meaning}
 use Rattle.ess_semantics.specs.Tidy.{over_axes}
-use Rattle.ess_repr_laws.specs.StructureParts.{tuple_set_dom, Terms, and_ex, or_ex, keys_ex}
+use Rattle.ess_repr_laws.specs.StructureParts.{tuple_set_dom, Terms, and_ex, or_ex, keys_ex, upto, slots_ex, first_ex}
 use Rattle.ess_repr_laws.specs.FunctionParts.{with_total, flag_key_ex, value_key_ex}
 use Rattle.ess_repr_laws.specs.RelationParts.{has_pair_ex, relation_key_ex, relation_ex}
 use Rattle.ess_repr_laws.specs.MultisetParts.{occurs_ex}
@@ -242,3 +242,19 @@ of-part-key-number = refl
 
 pub of-part-key-regular : part_sizes_ex name 1 (name_ex (codes "n")) (name_ex (codes "e")) (flag Key.Regular ∷ []) no_exs ≡ truth_ex true
 of-part-key-regular = refl
+
+-- Slots of which the first m are in use: pairs of slots run over all slots but the last.
+pub of-rising-slots : slots_ex name 1 (number_ex (pos 2)) (name_ex (codes "m")) [] no_exs (name_ex (codes "e"))
+    ≡ and_ex (fun1 true Fun.And (comp_ex (name_ex (codes "e")) (over (name_pat (codes "q")) (upto (number_ex (pos 2)))
+    (cond (ex2 true Op2.Le (name_ex (codes "q")) (name_ex (codes "m"))) no_gens))))
+    (and_ex (fun1 true Fun.And (comp_ex (truth_ex false) (over (name_pat (codes "q")) (upto (ex2 false Op2.Minus (number_ex (pos 2)) (number_ex (pos 1))))
+    (cond (ex2 true Op2.Le (ex2 false Op2.Plus (name_ex (codes "q")) (number_ex (pos 1))) (name_ex (codes "m"))) no_gens))))
+    (fun1 true Fun.And (comp_ex (truth_ex true) (over (name_pat (codes "q")) (upto (number_ex (pos 2)))
+    (cond (ex1 true Op1.Not (ex2 true Op2.Le (name_ex (codes "q")) (name_ex (codes "m")))) no_gens)))))
+of-rising-slots = refl
+
+-- Slots with flags: those in use stand first, of each slot but the last.
+pub of-first-slots : first_ex name 1 (number_ex (pos 2)) (name_ex (codes "h")) (name_ex (codes "n"))
+    ≡ fun1 true Fun.And (comp_ex (ex2 true Op2.Implies (name_ex (codes "n")) (name_ex (codes "h")))
+    (over (name_pat (codes "q")) (upto (ex2 false Op2.Minus (number_ex (pos 2)) (number_ex (pos 1)))) no_gens))
+of-first-slots = refl

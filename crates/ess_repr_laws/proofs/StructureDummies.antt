@@ -1,6 +1,5 @@
 -- The structure constraint of a set in slots of which the dummy stands for no member.
 use Rattle.std.proofs.Common.{◌≡◌, refl, sym, ap, ◌∙◌, ℕ, suc, ◌+◌, ◌≤◌, ◌<◌, Bool, true, false, ◌&&◌, ◌||◌, not, if◌then◌else◌, List, [], ◌∷◌, ◌++◌, map, filter, length, ℤ, pos, ◌+ℤ◌, Option, Some, None, option_map, int_le, int_lt, arith}
-use Rattle.std.proofs.lemmas.Bool.{leb-true}
 use Rattle.std.specs.List.{list_all}
 use Rattle.std.specs.Ordering.{is_lt, int_cmp}
 use Rattle.ess_semantics.specs.declared.words.Fun.{Fun}
@@ -31,22 +30,22 @@ use Rattle.ess_semantics.proofs.Connectives.{and-means, or-means, not-means, bin
 use Rattle.ess_semantics.proofs.Orders.{same_int-equal, same_int-itself, to_list-of_list}
 use Rattle.ess_semantics.proofs.Tests.{all-run, both-ways, and-left, and-right}
 use Rattle.ess_repr_laws.specs.Rooms.{HasDummy}
-use Rattle.ess_repr_laws.specs.StructureParts.{Terms, add_ex, and_ex, or_ex, le_ex, upto, next_ex, first_name, own_shape, each_ex, over_slots, size_ex, dummy_ex, member_count_ex}
+use Rattle.ess_repr_laws.specs.StructureParts.{Terms, add_ex, and_ex, or_ex, upto, next_ex, first_name, own_shape, each_ex, each_pair, size_ex, dummy_ex, member_count_ex}
 use Rattle.ess_repr_laws.specs.StructureMeaning.{Number, Bound, M, Placed, slot_numbers, fit, Attributes, SlotsAre, AtomReady}
 use Rattle.ess_repr_laws.proofs.CanonicalPlaces.{AllOf, all-of-map}
 use Rattle.ess_repr_laws.proofs.Dummies.{both-sides}
 use Rattle.ess_repr_laws.proofs.ExactCells.{none-of}
-use Rattle.ess_repr_laws.proofs.SlotsUsed.{as_place, each-run, slots-are}
+use Rattle.ess_repr_laws.proofs.SlotsUsed.{as_place, slots-are}
 use Rattle.ess_repr_laws.proofs.StructureFits.{Fit, first-fit}
 use Rattle.ess_repr_laws.proofs.StructureFlags.{no-more-slots}
 use Rattle.ess_repr_laws.proofs.StructureMultisets.{cells-there}
-use Rattle.ess_repr_laws.proofs.StructureNumbers.{le-means, size-means}
+use Rattle.ess_repr_laws.proofs.StructureNumbers.{size-means}
 use Rattle.ess_repr_laws.proofs.StructureOf.{StructureOf, own-found}
 use Rattle.ess_repr_laws.proofs.StructurePlaces.{MeansAt, ValueAt, each-means, places-run}
 use Rattle.ess_repr_laws.proofs.StructureRows.{Steady, There, codes, grid_at}
-use Rattle.ess_repr_laws.proofs.StructureSlots.{over-slots-means}
+use Rattle.ess_repr_laws.proofs.StructureSlots.{each-pair-means}
 use Rattle.ess_repr_laws.proofs.StructureSlotted.{slots-same}
-use Rattle.ess_repr_laws.proofs.StructureUse.{cell-means, here-index, next-number, next-steady, next-alike, places-numbers, slots-axis}
+use Rattle.ess_repr_laws.proofs.StructureUse.{cell-means, here-index, next-steady, places-numbers, slots-axis}
 
 -- ---- the domain with the dummy
 
@@ -191,14 +190,10 @@ module _ (env0 : Env) (q : ℕ → Text) (q-apart : (m l : ℕ) → l < m → sa
             ∙ ap (λ o. not (is_some_and o (λ n. not (same_int m n))) || is_some_and (Some z) (λ a. is_some_and o (int_lt a))) (sym v)
             ∙ ap (λ o. not (is_some_and (f (pos (k + 1) ∷ [])) (λ n. not (same_int m n))) || is_some_and o (λ a. is_some_and (f (pos (k + 1) ∷ [])) (int_lt a))) (sym u))
 
-    rise-mean : meaning (over_slots q l size (le_ex (next_ex q l) size) (or_ex (ex2 true Op2.Eq (terms.dummy d) next) (ex2 true Op2.Lt here next))) (M env0 q q-apart bs) ≡ Some (truth (dummies_rise S m f))
+    rise-mean : meaning (each_pair q l size (or_ex (ex2 true Op2.Eq (terms.dummy d) next) (ex2 true Op2.Lt here next))) (M env0 q q-apart bs) ≡ Some (truth (dummies_rise S m f))
     rise-mean =
-        over-slots-means env0 q q-apart l size (le_ex (next_ex q l) size) (or_ex (ex2 true Op2.Eq (terms.dummy d) next) (ex2 true Op2.Lt here next)) S (λ k. int_le (k +ℤ pos 1) (pos S)) (λ k. not (U (k +ℤ pos 1)) || X k) bs (sl bs)
-        (each-run _ 1 S (λ k a b. (
-          le-means (M env0 q q-apart ((l, number (pos k)) ∷ bs)) (next_ex q l) size (pos k +ℤ pos 1) (pos S) (next-number env0 q q-apart l (pos k) bs [] tt) (sl ((l, number (pos k)) ∷ bs)),
-          λ t. let x : k + 1 ≤ S = leb-true (k + 1) S t in rise-at k a x,
-        )))
-        ∙ ap (λ b. Some (truth b)) (next-alike S U X (ap (λ o. is_some_and o (λ n. not (same_int m n))) c.ends))
+        each-pair-means env0 q q-apart l size (or_ex (ex2 true Op2.Eq (terms.dummy d) next) (ex2 true Op2.Lt here next)) S (λ k. not (U (k +ℤ pos 1)) || X k) bs (sl bs)
+        (ap (λ b. not b || X (pos S)) (ap (λ o. is_some_and o (λ n. not (same_int m n))) c.ends)) rise-at
 
     held-at : (js : List ℤ) → is_some_and (f js) (λ z. true) ≡ true →
         ValueAt env0 q q-apart (suc l) (add_ex is (name_ex (q l))) (fun1 false Fun.ToInt (ex1 true Op1.Not (ex2 true Op2.Eq (terms.dummy d) here))) (i ++ js) (number (pos (if is_some_and (f js) (λ n. not (same_int m n)) then 1 else 0)))
@@ -242,7 +237,7 @@ module _ (env0 : Env) (q : ℕ → Text) (q-apart : (m l : ℕ) → l < m → sa
         member_part = each_ex q l (upto size ∷ []) (or_ex (terms.atom d here) (ex2 true Op2.Eq (terms.dummy d) here))
 
         rise_part : Ex
-        rise_part = over_slots q l size (le_ex (next_ex q l) size) (or_ex (ex2 true Op2.Eq (terms.dummy d) next) (ex2 true Op2.Lt here next))
+        rise_part = each_pair q l size (or_ex (ex2 true Op2.Eq (terms.dummy d) next) (ex2 true Op2.Lt here next))
 
         arrange : (a b c : Bool) → (a && b) && c ≡ (((a && true) && true) && true) && (b && c)
         arrange true b c = refl

@@ -28,7 +28,7 @@ use Rattle.ess_repr_laws.proofs.TablesWithin.{tables-within}
 use Rattle.ess_repr_laws.proofs.StructureAll.{structures}
 
 -- Filled tables over the declared axes are there exactly over these.
-tables-exact : (ds : List Declaration) (ts : Tables) → over_axes [] (axes_in ds) ts ≡ true → TablesFit ds ts → AllExact (axes_in ds) (cells_of ts)
+pub tables-exact : (ds : List Declaration) (ts : Tables) → over_axes [] (axes_in ds) ts ≡ true → TablesFit ds ts → AllExact (axes_in ds) (cells_of ts)
 tables-exact [] [] o f = tt
 tables-exact [] (t ∷ ts) o f = absurd f
 tables-exact (d ∷ ds) [] o f = absurd f

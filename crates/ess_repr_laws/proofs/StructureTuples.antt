@@ -126,7 +126,8 @@ pub other-cells : (n : ℕ) (i : List ℤ) (ts : Tables) → drop n (behind i (c
 other-cells n i ts = behind-drop i n (cells_of ts) ∙ ap (behind i) (drop-map cell_at n ts)
 
 module _ (env0 : Env) (q : ℕ → Text) (q-apart : (m l : ℕ) → l < m → same_text (q m) (q l) ≡ false) where
-  placed-split : (ss ss' : List Shape) (vsss wsss : List (List (List Value))) (ts : Tables) → length ss ≡ length vsss → Placed env0 q q-apart (ss ++ ss') (vsss ++ wsss) ts →
+  -- Tables of two parts are found side by side.
+  pub placed-split : (ss ss' : List Shape) (vsss wsss : List (List (List Value))) (ts : Tables) → length ss ≡ length vsss → Placed env0 q q-apart (ss ++ ss') (vsss ++ wsss) ts →
       Placed env0 q q-apart ss vsss (take (length ss) ts) × Placed env0 q q-apart ss' wsss (drop (length ss) ts)
   placed-split [] ss' [] wsss ts n h = (tt, h)
   placed-split [] ss' (vss ∷ vsss) wsss ts n h = cc

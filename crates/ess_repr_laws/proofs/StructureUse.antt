@@ -1,6 +1,5 @@
 -- The structure constraint of slots of which those in use rise means the test of each slot.
-use Rattle.std.proofs.Common.{◌≡◌, refl, sym, ap, ◌∙◌, ℕ, zero, suc, ◌+◌, ◌≤◌, ◌<◌, Bool, true, false, ◌&&◌, ◌||◌, not, List, [], ◌∷◌, ◌++◌, ℤ, pos, ◌+ℤ◌, Option, Some, None, option_map, int_le, nat_le, arith}
-use Rattle.std.proofs.lemmas.Bool.{leb-true, leb-false}
+use Rattle.std.proofs.Common.{◌≡◌, refl, sym, ap, ◌∙◌, ℕ, zero, suc, ◌+◌, ◌≤◌, ◌<◌, Bool, true, false, ◌&&◌, ◌||◌, not, List, [], ◌∷◌, ◌++◌, ℤ, pos, ◌+ℤ◌, Option, Some, None, option_map, arith}
 use Rattle.std.specs.List.{list_all}
 use Rattle.ess_semantics.specs.declared.words.Op1.{Op1}
 use Rattle.ess_semantics.specs.declared.words.Op2.{Op2}
@@ -16,14 +15,13 @@ use Rattle.ess_semantics.specs.Cells.{behind, cells_of, are_zero}
 use Rattle.ess_semantics.specs.Meaning.{Env, cell_in, cell_value, indices, members_in, spans_of, meaning, meanings}
 use Rattle.ess_semantics.specs.Operators.{false_where_undefined}
 use Rattle.ess_semantics.proofs.Connectives.{and-means, not-means, implies-means, binary-means}
-use Rattle.ess_repr_laws.specs.StructureParts.{Shape, add_ex, and_ex, le_ex, implies_ex, upto, zeros_ex, over_slots, next_ex, use_ex, first_ex}
+use Rattle.ess_repr_laws.specs.StructureParts.{Shape, add_ex, and_ex, implies_ex, upto, zeros_ex, over_slots, each_pair, next_ex, use_ex, first_ex}
 use Rattle.ess_repr_laws.specs.StructureMeaning.{Number, Bound, M, AxesAre, Placed, slot_numbers}
 use Rattle.ess_repr_laws.proofs.ExactCells.{same_int-turned}
 use Rattle.ess_repr_laws.proofs.SlotsUsed.{as_place, all-map, each-run, slots-are}
-use Rattle.ess_repr_laws.proofs.StructureNumbers.{le-means}
 use Rattle.ess_repr_laws.proofs.StructureOccurrences.{bit-one}
 use Rattle.ess_repr_laws.proofs.StructureRows.{From, Steady, There, all_codes, looked, steady-more, steady-name, steady-add, zeros-means}
-use Rattle.ess_repr_laws.proofs.StructureSlots.{members-ones, over-slots-means}
+use Rattle.ess_repr_laws.proofs.StructureSlots.{members-ones, over-slots-means, each-pair-means}
 
 -- ---- tests of numbers in a row
 
@@ -33,18 +31,6 @@ run-alike f g a zero h = refl
 run-alike f g a (suc n) h =
     ap (λ b. b && list_all f (run_from (suc a) n)) (h a (omega arith) (omega arith))
     ∙ ap (λ b. g (pos a) && b) (run-alike f g (suc a) n (λ k x y. h k (omega arith) (omega arith)))
-
--- A test of slots and the next one: the last slot's next one is never in use.
-pub next-alike : (s : ℕ) (U X : ℤ → Bool) → U (pos (s + 1)) ≡ false →
-    list_all (λ k. not (int_le (k +ℤ pos 1) (pos s)) || (not (U (k +ℤ pos 1)) || X k)) (one_to s) ≡ list_all (λ k. not (U (k +ℤ pos 1)) || X k) (one_to s)
-next-alike s U X h = run-alike (λ k. not (int_le (k +ℤ pos 1) (pos s)) || (not (U (k +ℤ pos 1)) || X k)) (λ k. not (U (k +ℤ pos 1)) || X k) 1 s (λ k x y. go k x y (nat_le (k + 1) s) refl)
-  where
-    go : (k : ℕ) → 1 ≤ k → k < 1 + s → (b : Bool) → nat_le (k + 1) s ≡ b → not (nat_le (k + 1) s) || (not (U (pos (k + 1))) || X (pos k)) ≡ not (U (pos (k + 1))) || X (pos k)
-    go k x y true e = ap (λ b. not b || (not (U (pos (k + 1))) || X (pos k))) e
-    go k x y false e = ap (λ b. not b || (not (U (pos (k + 1))) || X (pos k))) e ∙ sym (ap (λ b. not b || X (pos k)) (ap (λ j. U (pos j)) (last k x y e) ∙ h))
-      where
-        last : (k : ℕ) → 1 ≤ k → k < 1 + s → nat_le (k + 1) s ≡ false → k + 1 ≡ s + 1
-        last k x y e = let z : s < k + 1 = leb-false (k + 1) s e in omega arith
 
 -- A test of places as one of numbers.
 pub places-numbers : (s : ℕ) (f : List ℤ → Bool) → list_all f (lists_of (one_to s ∷ [])) ≡ list_all (λ k. f (k ∷ [])) (one_to s)
@@ -106,20 +92,12 @@ module _ (env0 : Env) (q : ℕ → Text) (q-apart : (m l : ℕ) → l < m → sa
 
   module _ (l : ℕ) (size here next rise : Ex) (ss : List Shape) (vsss : List (List (List Value))) (ts : Tables) (is : Exs) (i : List ℤ) (bs : Bound env0 q q-apart) (part : Ex) (s : ℕ) (U X P : ℤ → Bool)
       (v : Slots l size here next rise ss vsss ts is i bs part s U X P) where
-    has-next : (k : ℕ) → meaning (le_ex (next_ex q l) size) (M env0 q q-apart ((l, number (pos k)) ∷ bs)) ≡ Some (truth (int_le (pos k +ℤ pos 1) (pos s)))
-    has-next k = le-means (M env0 q q-apart ((l, number (pos k)) ∷ bs)) (next_ex q l) size (pos k +ℤ pos 1) (pos s) (next-number l (pos k) bs [] tt) (v.size_at (pos k))
-
     -- a constraint of a slot where the next one is in use
     of-next : (e : Ex) (Y : ℤ → Bool) → ((k : ℕ) → 1 ≤ k → k + 1 ≤ s → meaning e (M env0 q q-apart ((l, number (pos k)) ∷ bs)) ≡ Some (truth (Y (pos k)))) →
-        meaning (over_slots q l size (le_ex (next_ex q l) size) (implies_ex next e)) (M env0 q q-apart bs) ≡ Some (truth (list_all (λ k. not (U (k +ℤ pos 1)) || Y k) (one_to s)))
+        meaning (each_pair q l size (implies_ex next e)) (M env0 q q-apart bs) ≡ Some (truth (list_all (λ k. not (U (k +ℤ pos 1)) || Y k) (one_to s)))
     of-next e Y h =
-        over-slots-means env0 q q-apart l size (le_ex (next_ex q l) size) (implies_ex next e) s (λ k. int_le (k +ℤ pos 1) (pos s)) (λ k. not (U (k +ℤ pos 1)) || Y k) bs v.size_is
-        (each-run _ 1 s (λ k a b. (
-          has-next k,
-          λ t. let x : k + 1 ≤ s = leb-true (k + 1) s t in
-              implies-means (M env0 q q-apart ((l, number (pos k)) ∷ bs)) next e (U (pos (k + 1))) (Y (pos k)) (v.next_is k a x) (h k a x),
-        )))
-        ∙ ap (λ b. Some (truth b)) (next-alike s U Y v.ends)
+        each-pair-means env0 q q-apart l size (implies_ex next e) s (λ k. not (U (k +ℤ pos 1)) || Y k) bs v.size_is (ap (λ b. not b || Y (pos s)) v.ends)
+        (λ k a x. implies-means (M env0 q q-apart ((l, number (pos k)) ∷ bs)) next e (U (pos (k + 1))) (Y (pos k)) (v.next_is k a x) (h k a x))
 
     -- The slots in use stand first.
     pub first-means : meaning (first_ex q l size here next) (M env0 q q-apart bs) ≡ Some (truth (list_all (λ k. not (U (k +ℤ pos 1)) || U k) (one_to s)))
@@ -144,7 +122,7 @@ module _ (env0 : Env) (q : ℕ → Text) (q-apart : (m l : ℕ) → l < m → sa
         ∙ ap (λ b. Some (truth b)) (run-alike (λ k. not (not (U k)) || Z k) (λ k. U k || Z k) 1 s (λ k x y. not-not (U (pos k)) (Z (pos k))))))
       where
         rise_part : Ex
-        rise_part = over_slots q l size (le_ex (next_ex q l) size) (implies_ex next rise)
+        rise_part = each_pair q l size (implies_ex next rise)
 
         zero_part : Ex
         zero_part = over_slots q l size (ex1 true Op1.Not here) (zeros_ex q (suc l) ss (add_ex is (name_ex (q l))))

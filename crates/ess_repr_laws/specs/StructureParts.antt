@@ -144,11 +144,23 @@ module _ (q : ℕ → Text) where
   abbrev pub next_ex : ℕ → Ex
   next_ex l = ex2 false Op2.Plus (name_ex (q l)) (number_ex (pos 1))
 
+  -- The numbers of all slots but the last, as those of which each has a next one.
+  abbrev pub pairs_dom : Ex → Dom
+  pairs_dom size = upto (ex2 false Op2.Minus size (number_ex (pos 1)))
+
+  -- e of each slot but the last where the test holds.
+  abbrev pub over_pairs : ℕ → Ex → Ex → Ex → Ex
+  over_pairs l size test e = all_ex e (over (name_pat (q l)) (pairs_dom size) (cond test no_gens))
+
+  -- e of each slot but the last.
+  abbrev pub each_pair : ℕ → Ex → Ex → Ex
+  each_pair l size e = each_ex l (pairs_dom size ∷ []) e
+
   -- Of the slots the first m are in use: each of these is canonical (part), they rise, and all others hold 0 or false.
   abbrev pub slots_ex : ℕ → Ex → Ex → List Shape → Exs → Ex → Ex
   slots_ex l size m ss is part =
       and_ex (over_slots l size (le_ex (name_ex (q l)) m) part)
-      (and_ex (over_slots l size (le_ex (next_ex l) m) (less_ex (suc l) ss (add_ex is (name_ex (q l))) (add_ex is (next_ex l))))
+      (and_ex (over_pairs l size (le_ex (next_ex l) m) (less_ex (suc l) ss (add_ex is (name_ex (q l))) (add_ex is (next_ex l))))
       (over_slots l size (ex1 true Op1.Not (le_ex (name_ex (q l)) m)) (zeros_ex (suc l) ss (add_ex is (name_ex (q l))))))
 
   -- Slots up to a marker.
@@ -164,12 +176,12 @@ module _ (q : ℕ → Text) where
   abbrev pub use_ex : ℕ → Ex → Ex → Ex → Ex → List Shape → Exs → Ex → Ex
   use_ex l size here next rise ss is part =
       and_ex (over_slots l size here part)
-      (and_ex (over_slots l size (le_ex (next_ex l) size) (implies_ex next rise))
+      (and_ex (each_pair l size (implies_ex next rise))
       (over_slots l size (ex1 true Op1.Not here) (zeros_ex (suc l) ss (add_ex is (name_ex (q l))))))
 
   -- The slots in use stand first.
   abbrev pub first_ex : ℕ → Ex → Ex → Ex → Ex
-  first_ex l size here next = over_slots l size (le_ex (next_ex l) size) (implies_ex next here)
+  first_ex l size here next = each_pair l size (implies_ex next here)
 
   -- How many cells of a table are true.
   abbrev pub true_count_ex : ℕ → List Dom → Text → Exs → Ex
@@ -232,7 +244,7 @@ module _ (q : ℕ → Text) where
       let here : Ex = cell_ex false n (add_ex is (name_ex (q l))) in
       let next : Ex = cell_ex false n (add_ex is (next_ex l)) in
       and_ex (and_ex (each_ex l (upto size ∷ []) (or_ex (atom here) (ex2 true Op2.Eq dummy here)))
-      (over_slots l size (le_ex (next_ex l) size) (or_ex (ex2 true Op2.Eq dummy next) (ex2 true Op2.Lt here next))))
+      (each_pair l size (or_ex (ex2 true Op2.Eq dummy next) (ex2 true Op2.Lt here next))))
       (size_ex ms es (member_count_ex l size dummy n is))
 
   -- Which members occur.

@@ -49,11 +49,13 @@ ranges-mean env (one_value ∷ rs) (more_exs e es) ss h a x z n =
 ranges-mean env (both_ends ∷ rs) no_exs ss h a x z n = cc
 ranges-mean env (both_ends ∷ rs) (more_exs e no_exs) ss h a x z n = cc
 ranges-mean env (both_ends ∷ rs) (more_exs e (more_exs f es)) ss h a x z n =
-    let c = chained (as_int (meaning e env)) (λ k. and_then (as_int (meaning f env)) (λ j. with_span (Some k) (Some j) (spans_of rs (meanings es env)))) ss h in
+    let c = chained (as_int (meaning e env)) (λ k. and_then (as_int (meaning f env))
+    (λ j. with_span (Some k) (Some j) (spans_of rs (meanings es env)))) ss h in
     let d = chained (as_int (meaning f env)) (λ j. with_span (Some c.0) (Some j) (spans_of rs (meanings es env))) ss c.2 in
     let m = mapped (λ l. record { low = Some c.0; high = Some d.0 } ∷ l) (spans_of rs (meanings es env)) ss d.2 in
     or-means env (and_ex (le_ex e x) (le_ex x f)) (in_ranges_ex rs es x) (int_le c.0 z && int_le z d.0) (list_any (in_span z) m.0)
-    (and-means env (le_ex e x) (le_ex x f) (int_le c.0 z) (int_le z d.0) (le-means env e x c.0 z (a.0 c.0 c.1) n) (le-means env x f z d.0 n (a.1.0 d.0 d.1)))
+    (and-means env (le_ex e x) (le_ex x f) (int_le c.0 z) (int_le z d.0) (le-means env e x c.0 z (a.0 c.0 c.1) n)
+    (le-means env x f z d.0 n (a.1.0 d.0 d.1)))
     (ranges-mean env rs es m.0 m.1 a.1.1 x z n)
     ∙ ap (λ l. Some (truth (list_any (in_span z) l))) m.2
 ranges-mean env (low_end ∷ rs) no_exs ss h a x z n = cc
@@ -84,7 +86,8 @@ some-range env one_value rs (more_exs e es) h =
 some-range env both_ends rs no_exs h = cc
 some-range env both_ends rs (more_exs e no_exs) h = cc
 some-range env both_ends rs (more_exs e (more_exs f es)) h =
-    let c = chained (as_int (meaning e env)) (λ k. and_then (as_int (meaning f env)) (λ j. with_span (Some k) (Some j) (spans_of rs (meanings es env)))) [] h in
+    let c = chained (as_int (meaning e env)) (λ k. and_then (as_int (meaning f env))
+    (λ j. with_span (Some k) (Some j) (spans_of rs (meanings es env)))) [] h in
     let d = chained (as_int (meaning f env)) (λ j. with_span (Some c.0) (Some j) (spans_of rs (meanings es env))) [] c.2 in
     let m = mapped (λ l. record { low = Some c.0; high = Some d.0 } ∷ l) (spans_of rs (meanings es env)) [] d.2 in let q = m.2 in cc
 some-range env low_end rs no_exs h = cc
@@ -96,13 +99,15 @@ some-range env high_end rs (more_exs e es) h =
     let c = chained (as_int (meaning e env)) (λ k. with_span None (Some k) (spans_of rs (meanings es env))) [] h in
     let m = mapped (λ l. record { low = None; high = Some c.0 } ∷ l) (spans_of rs (meanings es env)) [] c.2 in let q = m.2 in cc
 
-ints-mean : (env : Env) (rs : List Ends) (es : Exs) (ss : List Span) → domain_of (int_dom rs es) env ≡ Some (integers ss) → AllNumbers es env →
+ints-mean : (env : Env) (rs : List Ends) (es : Exs) (ss : List Span) → domain_of (int_dom rs es) env ≡ Some (integers ss) → AllNumbers es
+    env →
     (x : Ex) (z : ℤ) → Number x env z → meaning (inside_ex (int_dom rs es) x) env ≡ Some (truth (in_spans ss z))
 ints-mean env rs es ss h a x z n =
     let m = mapped integers (spans_of rs (meanings es env)) (integers ss) h in
     let q : m.0 ≡ ss = let r = m.2 in cc in go rs ss (m.1 ∙ ap Some q)
   where
-    go : (rs : List Ends) (ss : List Span) → spans_of rs (meanings es env) ≡ Some ss → meaning (inside_ex (int_dom rs es) x) env ≡ Some (truth (in_spans ss z))
+    go : (rs : List Ends) (ss : List Span) → spans_of rs (meanings es env) ≡ Some ss → meaning (inside_ex (int_dom rs es) x) env ≡ Some
+        (truth (in_spans ss z))
     go [] ss p = none es ss p
       where
         none : (es : Exs) (ss : List Span) → spans_of [] (meanings es env) ≡ Some ss → Some (truth true) ≡ Some (truth (in_spans ss z))
@@ -114,12 +119,14 @@ ints-mean env rs es ss h a x z n =
 -- ---- named types
 
 -- How many values a named type has.
-type-count : (env : Env) (a : Text) (e : Domain) (n : ℕ) → domain_of (name_dom a) env ≡ Some e → bound e ≡ n → Number (listed_ex (name_dom a)) env (pos n)
+type-count : (env : Env) (a : Text) (e : Domain) (n : ℕ) → domain_of (name_dom a) env ≡ Some e → bound e ≡ n → Number
+    (listed_ex (name_dom a)) env (pos n)
 type-count env a e n h b = listed-whole env (name_dom a) (pos n) (name-reads env a e h ∙ ap (λ k. Some (pos k)) b)
 
 -- What is known of the numbers of a type's values.
 abbrev Cells : Domain → Type 0
-Cells e = (n : ℕ) × (bound e ≡ n) × ((z : ℤ) → is_cell (as_cell e) z ≡ int_le (pos 1) z && int_le z (pos n)) × (dummy_of e ≡ Some (pos n +ℤ pos 1))
+Cells e = (n : ℕ) × (bound e ≡ n) × ((z : ℤ) → is_cell (as_cell e) z ≡ int_le (pos 1) z && int_le z (pos n)) ×
+    (dummy_of e ≡ Some (pos n +ℤ pos 1))
 
 -- The numbers of a type's values, as positions or by name.
 named-cells : (env : Env) (a : Text) (e : Domain) → domain_of (name_dom a) env ≡ Some e → Cells e
@@ -131,11 +138,13 @@ named-cells env a e h = go env.positions (type_entry env.types a) h
 
     go : (b : Bool) (o : Option TypeEntry) → named_domain b a o ≡ Some e → Cells e
     go b None h = cc
-    go true (Some t) h = let q : between (pos 1) (pos t.count) ≡ e = cc in subst Cells q (t.count, counted t.count, (λ z. or-no (int_le (pos 1) z && int_le z (pos t.count))), refl)
+    go true (Some t) h = let q : between (pos 1) (pos t.count) ≡ e = cc in subst Cells q
+        (t.count, counted t.count, (λ z. or-no (int_le (pos 1) z && int_le z (pos t.count))), refl)
       where
         counted : (n : ℕ) → bound (between (pos 1) (pos n)) ≡ n
         counted n = span-long (pos 1) (pos n) ∙ (let e : (pos n -ℤ pos 1) +ℤ pos 1 ≡ pos n = omega (arith, ints) in ap natural e)
-    go false (Some t) h = let q : named a t.count ≡ e = cc in subst Cells q (t.count, refl, (λ z. or-no (int_le (pos 1) z && int_le z (pos t.count))), refl)
+    go false (Some t) h = let q : named a t.count ≡ e = cc in subst Cells q
+        (t.count, refl, (λ z. or-no (int_le (pos 1) z && int_le z (pos t.count))), refl)
 
 -- ---- the terms of atoms
 
@@ -147,26 +156,31 @@ module _ (env0 : Env) (q : ℕ → Text) (q-apart : (m l : ℕ) → l < m → sa
   bool-ready bool_dom s x bs z f h = ap (λ b. Some (truth b)) (sym f)
   bool-ready d s x bs z f h = cc
 
-  int-ready : (d : Dom) (ss : List Span) → same_form d (integers ss) ≡ true → DomainIs env0 q q-apart d (integers ss) → ((bs : Bound env0 q q-apart) → NumbersIn d (N bs)) →
+  int-ready : (d : Dom) (ss : List Span) → same_form d (integers ss) ≡ true → DomainIs env0 q q-apart d (integers ss) →
+      ((bs : Bound env0 q q-apart) → NumbersIn d (N bs)) →
       AtomReady env0 q q-apart size_terms d (integers ss)
   int-ready (int_dom rs es) ss s m n x bs z f h = ints-mean (N bs) rs es ss (m bs) (n bs) x z h
   int-ready (name_dom a) ss s m n x bs z f h =
       let c = named-cells (N bs) a (integers ss) (m bs) in
-      and-means (N bs) (le_ex one_ex x) (le_ex x (listed_ex (name_dom a))) (int_le (pos 1) z) (int_le z (pos c.0)) (le-means (N bs) one_ex x (pos 1) z refl h)
+      and-means (N bs) (le_ex one_ex x) (le_ex x (listed_ex (name_dom a))) (int_le (pos 1) z) (int_le z (pos c.0))
+      (le-means (N bs) one_ex x (pos 1) z refl h)
       (le-means (N bs) x (listed_ex (name_dom a)) z (pos c.0) h (type-count (N bs) a (integers ss) c.0 (m bs) c.1))
       ∙ ap (λ b. Some (truth b)) (sym (c.2 z))
   int-ready d ss s m n x bs z f h = cc
 
-  named-ready : (d : Dom) (t : Text) (k : ℕ) → same_form d (named t k) ≡ true → DomainIs env0 q q-apart d (named t k) → AtomReady env0 q q-apart size_terms d (named t k)
+  named-ready : (d : Dom) (t : Text) (k : ℕ) → same_form d (named t k) ≡ true → DomainIs env0 q q-apart d (named t k) → AtomReady env0 q
+      q-apart size_terms d (named t k)
   named-ready (name_dom a) t k s m x bs z f h =
       let c = named-cells (N bs) a (named t k) (m bs) in
-      and-means (N bs) (le_ex one_ex x) (le_ex x (listed_ex (name_dom a))) (int_le (pos 1) z) (int_le z (pos c.0)) (le-means (N bs) one_ex x (pos 1) z refl h)
+      and-means (N bs) (le_ex one_ex x) (le_ex x (listed_ex (name_dom a))) (int_le (pos 1) z) (int_le z (pos c.0))
+      (le-means (N bs) one_ex x (pos 1) z refl h)
       (le-means (N bs) x (listed_ex (name_dom a)) z (pos c.0) h (type-count (N bs) a (named t k) c.0 (m bs) c.1))
       ∙ ap (λ b. Some (truth b)) (sym (c.2 z))
   named-ready d t k s m x bs z f h = cc
 
   -- The term for an atom is ready.
-  pub atom-ready : (d : Dom) (e : Domain) → IsAtom e → same_form d e ≡ true → DomainIs env0 q q-apart d e → ((bs : Bound env0 q q-apart) → NumbersIn d (N bs)) →
+  pub atom-ready : (d : Dom) (e : Domain) → IsAtom e → same_form d e ≡ true → DomainIs env0 q q-apart d e →
+      ((bs : Bound env0 q q-apart) → NumbersIn d (N bs)) →
       AtomReady env0 q q-apart size_terms d e
   atom-ready d booleans a s m n = bool-ready d s
   atom-ready d (integers ss) a s m n = int-ready d ss s m n
@@ -177,23 +191,30 @@ module _ (env0 : Env) (q : ℕ → Text) (q-apart : (m l : ℕ) → l < m → sa
   pub dummy-ready : (d : Dom) (e : Domain) → has_dummy d ≡ true → HasDummy e → same_form d e ≡ true → DomainIs env0 q q-apart d e →
       ((bs : Bound env0 q q-apart) → NumbersIn d (N bs)) → DummyIs env0 q q-apart size_terms d e
   dummy-ready (name_dom a) e h r s m n =
-      let c = named-cells (N []) a e (m []) in
-      (pos c.0 +ℤ pos 1, c.3, λ bs. binary-means (N bs) false Op2.Plus (listed_ex (name_dom a)) one_ex (number (pos c.0)) (number (pos 1)) (type-count (N bs) a e c.0 (m bs) c.1) refl)
+      let c = named-cells (N []) a e (m []) in (
+        pos c.0 +ℤ pos 1,
+        c.3,
+        λ bs. binary-means (N bs) false Op2.Plus (listed_ex (name_dom a)) one_ex (number (pos c.0)) (number (pos 1))
+            (type-count (N bs) a e c.0 (m bs) c.1) refl,
+      )
   dummy-ready (int_dom (both_ends ∷ []) no_exs) e h r s m n = let x = m [] in cc
   dummy-ready (int_dom (both_ends ∷ []) (more_exs a no_exs)) e h r s m n = let x = m [] in cc
   dummy-ready (int_dom (both_ends ∷ []) (more_exs a (more_exs b (more_exs c es)))) e h r s m n =
       let x = ends (N []) a b (more_exs c es) e (m []) in let q = x.2 in cc
     where
-      ends : (env : Env) (a b : Ex) (es : Exs) (e : Domain) → domain_of (int_dom (both_ends ∷ []) (more_exs a (more_exs b es))) env ≡ Some e →
+      ends : (env : Env) (a b : Ex) (es : Exs) (e : Domain) → domain_of (int_dom (both_ends ∷ []) (more_exs a (more_exs b es))) env ≡ Some e
+          →
           (j : ℤ) × (as_int (meaning b env) ≡ Some j) × (spans_of [] (meanings es env) ≡ Some [])
       ends env a b no_exs e h =
           let u = mapped integers (spans_of (both_ends ∷ []) (meanings (more_exs a (more_exs b no_exs)) env)) e h in
-          let c = chained (as_int (meaning a env)) (λ k. and_then (as_int (meaning b env)) (λ j. with_span (Some k) (Some j) (Some []))) u.0 u.1 in
+          let c = chained (as_int (meaning a env)) (λ k. and_then (as_int (meaning b env)) (λ j. with_span (Some k) (Some j) (Some []))) u.0
+          u.1 in
           let d = chained (as_int (meaning b env)) (λ j. with_span (Some c.0) (Some j) (Some [])) u.0 c.2 in
           (d.0, d.1, refl)
       ends env a b (more_exs c es) e h =
           let u = mapped integers (spans_of (both_ends ∷ []) (meanings (more_exs a (more_exs b (more_exs c es))) env)) e h in
-          let c' = chained (as_int (meaning a env)) (λ k. and_then (as_int (meaning b env)) (λ j. with_span (Some k) (Some j) None)) u.0 u.1 in
+          let c' = chained (as_int (meaning a env)) (λ k. and_then (as_int (meaning b env)) (λ j. with_span (Some k) (Some j) None)) u.0 u.1
+          in
           let d = chained (as_int (meaning b env)) (λ j. with_span (Some c'.0) (Some j) None) u.0 c'.2 in
           let q = d.2 in cc
   dummy-ready (int_dom (both_ends ∷ []) (more_exs a (more_exs b no_exs))) e h r s m n =
@@ -203,7 +224,8 @@ module _ (env0 : Env) (q : ℕ → Text) (q-apart : (m l : ℕ) → l < m → sa
         λ bs.
             let y = last (N bs) e (m bs) in
             let q : y.0 ≡ x.0 = one-more (y.0) (x.0) (sym y.2 ∙ x.2) in
-            binary-means (N bs) false Op2.Plus (bound_or_0 b) one_ex (number x.0) (number (pos 1)) (whole (is_missing b) refl (N bs) x.0 (n bs) (y.1 ∙ ap Some q)) refl,
+            binary-means (N bs) false Op2.Plus (bound_or_0 b) one_ex (number x.0) (number (pos 1))
+            (whole (is_missing b) refl (N bs) x.0 (n bs) (y.1 ∙ ap Some q)) refl,
       )
     where
       one-more : (i j : ℤ) → Some (i +ℤ pos 1) ≡ Some (j +ℤ pos 1) → i ≡ j
@@ -213,12 +235,14 @@ module _ (env0 : Env) (q : ℕ → Text) (q-apart : (m l : ℕ) → l < m → sa
           (j : ℤ) × (as_int (meaning b env) ≡ Some j) × (dummy_of e ≡ Some (j +ℤ pos 1))
       last env e h =
           let u = mapped integers (spans_of (both_ends ∷ []) (meanings (more_exs a (more_exs b no_exs)) env)) e h in
-          let c = chained (as_int (meaning a env)) (λ k. and_then (as_int (meaning b env)) (λ j. with_span (Some k) (Some j) (Some []))) u.0 u.1 in
+          let c = chained (as_int (meaning a env)) (λ k. and_then (as_int (meaning b env)) (λ j. with_span (Some k) (Some j) (Some []))) u.0
+          u.1 in
           let d = chained (as_int (meaning b env)) (λ j. with_span (Some c.0) (Some j) (Some [])) u.0 c.2 in
           let w : record { low = Some c.0; high = Some d.0 } ∷ [] ≡ u.0 = let z = d.2 in cc in
           (d.0, d.1, ap dummy_of (sym u.2) ∙ ap (λ l. dummy_of (integers l)) (sym w))
 
-      whole : (t : Bool) → is_missing b ≡ t → (env : Env) (j : ℤ) → AllNumbers (more_exs a (more_exs b no_exs)) env → as_int (meaning b env) ≡ Some j → Number (bound_or_0 b) env j
+      whole : (t : Bool) → is_missing b ≡ t → (env : Env) (j : ℤ) → AllNumbers (more_exs a (more_exs b no_exs)) env → as_int (meaning b env)
+          ≡ Some j → Number (bound_or_0 b) env j
       whole false p env j n h = ap (λ t. meaning (if' t) env) p ∙ n.1.0 j h
         where
           if' : Bool → Ex

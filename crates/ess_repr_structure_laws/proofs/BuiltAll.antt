@@ -18,6 +18,7 @@ use Rattle.ess_repr_declare_laws.specs.SizeTerms.{is_missing, slots_ex, dummy_ex
 use Rattle.ess_repr_structure_laws.proofs.BuiltStructures as B
 use Rattle.ess_repr_structure_laws.proofs.BuiltStructures.{BuiltOf, two-have}
 use Rattle.ess_repr_structure_laws.proofs.BuiltParts as C
+use Rattle.ess_repr_structure_laws.proofs.BuiltSets as D
 use Rattle.ess_repr_structure_laws.proofs.BuiltViews as V
 
 module _ (q : ℕ → Text) (P : Ex → Type 0) (L : Dom → Type 0) (built : BuiltOf q P L) where
@@ -58,7 +59,8 @@ module _ (q : ℕ → Text) (P : Ex → Type 0) (L : Dom → Type 0) (built : Bu
   -- That a number lies in an atom.
   pub inside-has : (d : Dom) (x : Ex) → Good d → P x → P (inside_ex d x)
   inside-has (int_dom (r ∷ rs) es) x g p = ranges-have (r ∷ rs) es x g.1 p
-  inside-has (name_dom a) x g p = C.and-has q P L built _ _ (le-has (number_ex (pos 1)) x built.one p) (le-has x (listed_ex (name_dom a)) p (built.listed a g))
+  inside-has (name_dom a) x g p = C.and-has q P L built _ _ (le-has (number_ex (pos 1)) x built.one p)
+      (le-has x (listed_ex (name_dom a)) p (built.listed a g))
   inside-has _ x g p = built.truths true
 
   bound-or-has : (b : Bool) (e : Ex) → P e → P (if b then number_ex (pos 0) else e)
@@ -101,14 +103,17 @@ module _ (q : ℕ → Text) (P : Ex → Type 0) (L : Dom → Type 0) (built : Bu
     shapes-have (repr ReprKind.Atom no_reprs) d ns g = (tt, tt)
     shapes-have (repr ReprKind.Tuple rs) (tuple_dom ds) ns g = all-shapes-have rs ds ns g
     shapes-have (repr ReprKind.Rec rs) (record_dom fs ds) ns g = all-shapes-have rs ds ns g
-    shapes-have (repr ReprKind.Matrix (more_reprs r no_reprs)) (matrix_dom is d) ns g = on-axes (dom_list is) _ (B.list-has P L is g.0) (shapes-have r d ns g.1)
+    shapes-have (repr ReprKind.Matrix (more_reprs r no_reprs)) (matrix_dom is d) ns g = on-axes (dom_list is) _ (B.list-has P L is g.0)
+        (shapes-have r d ns g.1)
     shapes-have (repr ReprKind.Occurrence no_reprs) (set_dom ms es d) ns g = (one-domain d g.1, tt)
-    shapes-have (repr ReprKind.Explicit (more_reprs r no_reprs)) (set_dom ms es d) ns g = on-axes (upto (slots_ex (set_dom ms es d)) ∷ []) _ (set-slots ms es d g) (shapes-have r d ns g.1)
+    shapes-have (repr ReprKind.Explicit (more_reprs r no_reprs)) (set_dom ms es d) ns g = on-axes (upto (slots_ex (set_dom ms es d)) ∷ []) _
+        (set-slots ms es d g) (shapes-have r d ns g.1)
     shapes-have (repr ReprKind.ExplicitVarSizeWithMarker (more_reprs r no_reprs)) (set_dom ms es d) ns g =
         (tt, on-axes (upto (slots_ex (set_dom ms es d)) ∷ []) _ (set-slots ms es d g) (shapes-have r d (drop 1 ns) g.1))
     shapes-have (repr ReprKind.ExplicitVarSizeWithFlags (more_reprs r no_reprs)) (set_dom ms es d) ns g =
         (set-slots ms es d g, on-axes (upto (slots_ex (set_dom ms es d)) ∷ []) _ (set-slots ms es d g) (shapes-have r d (drop 1 ns) g.1))
-    shapes-have (repr ReprKind.Function1D (more_reprs r no_reprs)) (function_dom ms es d c) ns g = on-axes (d ∷ []) _ (one-domain d g.1) (shapes-have r c ns g.2)
+    shapes-have (repr ReprKind.Function1D (more_reprs r no_reprs)) (function_dom ms es d c) ns g = on-axes (d ∷ []) _ (one-domain d g.1)
+        (shapes-have r c ns g.2)
     shapes-have (repr ReprKind.FunctionND (more_reprs r no_reprs)) (function_dom ms es (tuple_dom ds) c) ns g =
         on-axes (dom_list ds) _ (B.list-has P L ds g.1) (shapes-have r c ns g.2)
     shapes-have (repr ReprKind.RelationAsMatrix no_reprs) (relation_dom ms es ds) ns g = (B.list-has P L ds g.1, tt)
@@ -148,89 +153,114 @@ module _ (q : ℕ → Text) (P : Ex → Type 0) (L : Dom → Type 0) (built : Bu
 
   mutual
     -- The constraint that the cells of a view of a good domain are canonical has the property.
-    pub structure-has : (r : Repr) (d : Dom) (ns : List Text) (l : ℕ) (is : Exs) → B.Good P L d → B.AllHave P is → P (structure q size_terms r d ns l is)
-    structure-has (repr ReprKind.Atom no_reprs) d ns l is g a = inside-has q P L built d _ g (built.cells (is_bool_dom d) (first_name ns) is a)
+    pub structure-has : (r : Repr) (d : Dom) (ns : List Text) (l : ℕ) (is : Exs) → B.Good P L d → B.AllHave P is → P
+        (structure q size_terms r d ns l is)
+    structure-has (repr ReprKind.Atom no_reprs) d ns l is g a = inside-has q P L built d _ g
+        (built.cells (is_bool_dom d) (first_name ns) is a)
     structure-has (repr ReprKind.Tuple rs) (tuple_dom ds) ns l is g a = all-structures-have rs ds ns l is g a
     structure-has (repr ReprKind.Rec rs) (record_dom fs ds) ns l is g a = all-structures-have rs ds ns l is g a
     structure-has (repr ReprKind.Matrix (more_reprs r no_reprs)) (matrix_dom is d) ns l js g a =
         C.each-has q P L built l (dom_list is) _ (B.list-has P L is g.0)
-        (structure-has r d ns (level_behind l (dom_list is)) (row_index q l (dom_list is) js) g.1 (C.row-index-has q P L built l (dom_list is) js a))
+        (structure-has r d ns (level_behind l (dom_list is)) (row_index q l (dom_list is) js) g.1
+        (C.row-index-has q P L built l (dom_list is) js a))
     structure-has (repr ReprKind.Occurrence no_reprs) (set_dom ms es d) ns l is g a =
-        C.occurrence-has q P L built l ms es d (first_name ns) is g.0 (B.good-has P L d g.1) a
+        D.occurrence-has q P L built l ms es d (first_name ns) is g.0 (B.good-has P L d g.1) a
     structure-has (repr ReprKind.Explicit (more_reprs r no_reprs)) (set_dom ms es d) ns l is g a =
-        C.explicit-has q P L built l ms es _ _ is _ g.0 (B.set-slots-have q P L built ms es d g) (shapes-have q P L built r d ns g.1) a
+        D.explicit-has q P L built l ms es _ _ is _ g.0 (B.set-slots-have q P L built ms es d g) (shapes-have q P L built r d ns g.1) a
         (structure-has r d ns (suc l) (add_ex is (name_ex (q l))) g.1 (named l is a))
     structure-has (repr ReprKind.ExplicitVarSizeWithMarker (more_reprs r no_reprs)) (set_dom ms es d) ns l is g a =
-        C.marker-has q P L built l ms es _ (first_name ns) _ is _ g.0 (B.set-slots-have q P L built ms es d g) (shapes-have q P L built r d (drop 1 ns) g.1) a
+        D.marker-has q P L built l ms es _ (first_name ns) _ is _ g.0 (B.set-slots-have q P L built ms es d g)
+        (shapes-have q P L built r d (drop 1 ns) g.1) a
         (structure-has r d (drop 1 ns) (suc l) (add_ex is (name_ex (q l))) g.1 (named l is a))
     structure-has (repr ReprKind.ExplicitVarSizeWithFlags (more_reprs r no_reprs)) (set_dom ms es d) ns l is g a =
-        C.flags-have q P L built l ms es _ (first_name ns) _ is _ g.0 (B.set-slots-have q P L built ms es d g) (shapes-have q P L built r d (drop 1 ns) g.1) a
+        D.flags-have q P L built l ms es _ (first_name ns) _ is _ g.0 (B.set-slots-have q P L built ms es d g)
+        (shapes-have q P L built r d (drop 1 ns) g.1) a
         (structure-has r d (drop 1 ns) (suc l) (add_ex is (name_ex (q l))) g.1 (named l is a))
     structure-has (repr ReprKind.Function1D (more_reprs r no_reprs)) (function_dom ms es d c) ns l is g a =
         let y : B.DomHas P c = B.good-has P L c g.2 in
         V.total-has q P L built l ms es (d ∷ []) (shapes q size_terms r c ns) is r c _ _ g.0 (one-domain q P L built d g.1) a y
-        (view-has (repr ReprKind.Function1D (more_reprs r no_reprs)) (bare_function_dom d c) (map (on_axes (d ∷ [])) (shapes q size_terms r c ns)) is (tt, B.good-has P L d g.1, y) a)
+        (view-has (repr ReprKind.Function1D (more_reprs r no_reprs)) (bare_function_dom d c)
+        (map (on_axes (d ∷ [])) (shapes q size_terms r c ns)) is (tt, B.good-has P L d g.1, y) a)
         (structure-has r c ns (suc l) (add_ex is (name_ex (q l))) g.2 (named l is a))
     structure-has (repr ReprKind.FunctionND (more_reprs r no_reprs)) (function_dom ms es (tuple_dom ds) c) ns l is g a =
         let y : B.DomHas P c = B.good-has P L c g.2 in
         V.total-has q P L built l ms es (dom_list ds) (shapes q size_terms r c ns) is r c _ _ g.0 (B.list-has P L ds g.1) a y
-        (view-has (repr ReprKind.FunctionND (more_reprs r no_reprs)) (bare_function_dom (tuple_dom ds) c) (map (on_axes (dom_list ds)) (shapes q size_terms r c ns)) is (tt, B.all-good-have P L ds g.1, y) a)
-        (structure-has r c ns (level_behind l (dom_list ds)) (row_index q l (dom_list ds) is) g.2 (C.row-index-has q P L built l (dom_list ds) is a))
+        (view-has (repr ReprKind.FunctionND (more_reprs r no_reprs)) (bare_function_dom (tuple_dom ds) c)
+        (map (on_axes (dom_list ds)) (shapes q size_terms r c ns)) is (tt, B.all-good-have P L ds g.1, y) a)
+        (structure-has r c ns (level_behind l (dom_list ds)) (row_index q l (dom_list ds) is) g.2
+        (C.row-index-has q P L built l (dom_list ds) is a))
     structure-has (repr ReprKind.RelationAsMatrix no_reprs) (relation_dom ms es ds) ns l is g a =
         V.relation-has q P L built l ms es ds (dom_list ds) (first_name ns) is _ g.0 (B.list-has P L ds g.1) a (B.all-good-have P L ds g.1)
-        (view-has (repr ReprKind.RelationAsMatrix no_reprs) (bare_relation_dom ds) (own_shape ns true (dom_list ds) ∷ []) is (tt, B.all-good-have P L ds g.1) a)
+        (view-has (repr ReprKind.RelationAsMatrix no_reprs) (bare_relation_dom ds) (own_shape ns true (dom_list ds) ∷ []) is
+        (tt, B.all-good-have P L ds g.1) a)
     structure-has (repr ReprKind.Function1DPartial (more_reprs r no_reprs)) (function_dom ms es d c) ns l is g a =
         let y : B.DomHas P c = B.good-has P L c g.2 in
-        V.partial-has q P L built l ms es (d ∷ []) (first_name ns) is (shapes q size_terms r c (drop 1 ns)) c _ _ g.0 (one-domain q P L built d g.1) a (shapes-have q P L built r c (drop 1 ns) g.2) y
+        V.partial-has q P L built l ms es (d ∷ []) (first_name ns) is (shapes q size_terms r c (drop 1 ns)) c _ _ g.0
+        (one-domain q P L built d g.1) a (shapes-have q P L built r c (drop 1 ns) g.2) y
         (view-has (repr ReprKind.Function1DPartial (more_reprs r no_reprs)) (bare_function_dom d c)
         (own_shape ns true (d ∷ []) ∷ map (on_axes (d ∷ [])) (shapes q size_terms r c (drop 1 ns))) is (tt, B.good-has P L d g.1, y) a)
         (structure-has r c (drop 1 ns) (suc l) (add_ex is (name_ex (q l))) g.2 (named l is a))
     structure-has (repr ReprKind.FunctionNDPartial (more_reprs r no_reprs)) (function_dom ms es (tuple_dom ds) c) ns l is g a =
         let y : B.DomHas P c = B.good-has P L c g.2 in
-        V.partial-has q P L built l ms es (dom_list ds) (first_name ns) is (shapes q size_terms r c (drop 1 ns)) c _ _ g.0 (B.list-has P L ds g.1) a (shapes-have q P L built r c (drop 1 ns) g.2) y
+        V.partial-has q P L built l ms es (dom_list ds) (first_name ns) is (shapes q size_terms r c (drop 1 ns)) c _ _ g.0
+        (B.list-has P L ds g.1) a (shapes-have q P L built r c (drop 1 ns) g.2) y
         (view-has (repr ReprKind.FunctionNDPartial (more_reprs r no_reprs)) (bare_function_dom (tuple_dom ds) c)
-        (own_shape ns true (dom_list ds) ∷ map (on_axes (dom_list ds)) (shapes q size_terms r c (drop 1 ns))) is (tt, B.all-good-have P L ds g.1, y) a)
-        (structure-has r c (drop 1 ns) (level_behind l (dom_list ds)) (row_index q l (dom_list ds) is) g.2 (C.row-index-has q P L built l (dom_list ds) is a))
+        (own_shape ns true (dom_list ds) ∷ map (on_axes (dom_list ds)) (shapes q size_terms r c (drop 1 ns))) is
+        (tt, B.all-good-have P L ds g.1, y) a)
+        (structure-has r c (drop 1 ns) (level_behind l (dom_list ds)) (row_index q l (dom_list ds) is) g.2
+        (C.row-index-has q P L built l (dom_list ds) is a))
     structure-has (repr ReprKind.MSetOccurrence no_reprs) (mset_dom ms es d) ns l is g a =
         C.counts-have q P L built l ms es (d ∷ []) (first_name ns) is g.1 (one-domain q P L built d g.2) a
     structure-has (repr ReprKind.MSetExplicitWithFlags (more_reprs r no_reprs)) (mset_dom ms es d) ns l is g a =
-        C.counted-has q P L built l ms es _ (first_name ns) _ is _ g.1 (B.mset-slots-have q P L built ms es d g) (shapes-have q P L built r d (drop 1 ns) g.2) a
+        D.counted-has q P L built l ms es _ (first_name ns) _ is _ g.1 (B.mset-slots-have q P L built ms es d g)
+        (shapes-have q P L built r d (drop 1 ns) g.2) a
         (structure-has r d (drop 1 ns) (suc l) (add_ex is (name_ex (q l))) g.2 (named l is a))
     structure-has (repr ReprKind.MSetExplicitWithRepetition (more_reprs r no_reprs)) (mset_dom ms es d) ns l is g a =
         let s : P (slots_ex (mset_dom ms es d)) = B.mset-slots-have q P L built ms es d g in
         let c : P (cell_ex false (first_name ns) is) = built.cells false (first_name ns) is a in
         C.and-has q P L built _ _
-        (C.repetition-use-has q P L built l _ (first_name ns) _ is _ s (shapes-have q P L built r d (drop 1 ns) g.2) a
+        (D.repetition-use-has q P L built l _ (first_name ns) _ is _ s (shapes-have q P L built r d (drop 1 ns) g.2) a
         (structure-has r d (drop 1 ns) (suc l) (add_ex is (name_ex (q l))) g.2 (named l is a)))
         (C.and-has q P L built _ _ (C.size-has q P L built ms es (cell_ex false (first_name ns) is) g.1 c)
         (V.occurs-have q P L built l _ ms es
         (view-has (repr ReprKind.MSetExplicitWithRepetition (more_reprs r no_reprs)) (bare_mset_dom (slots_ex (mset_dom ms es d)) d)
-        (own_shape ns false [] ∷ map (on_axes (upto (slots_ex (mset_dom ms es d)) ∷ [])) (shapes q size_terms r d (drop 1 ns))) is ((s, tt), B.good-has P L d g.2) a) g.1))
+        (own_shape ns false [] ∷ map (on_axes (upto (slots_ex (mset_dom ms es d)) ∷ [])) (shapes q size_terms r d (drop 1 ns))) is
+        ((s, tt), B.good-has P L d g.2) a) g.1))
     structure-has (repr ReprKind.ExplicitVarSizeWithDummy no_reprs) (set_dom ms es d) ns l is g a =
-        C.dummy-has q P L built l ms es _ _ (inside_ex d) (first_name ns) is g.0 (B.set-slots-have q P L built ms es d g) (dummy-has q P L built d g.1) (λ x p. inside-has q P L built d x g.1 p) a
+        D.dummy-has q P L built l ms es _ _ (inside_ex d) (first_name ns) is g.0 (B.set-slots-have q P L built ms es d g)
+        (dummy-has q P L built d g.1) (λ x p. inside-has q P L built d x g.1 p) a
     structure-has (repr ReprKind.RelationAsSet (more_reprs r no_reprs)) (relation_dom ms es ds) ns l is g a =
         let h : B.Good P L (tuple_set_dom ms es ds) = B.tuple-set-good q P L built ms es ds g in
-        let v : P (view_ex r (tuple_set_dom ms es ds) (shapes q size_terms r (tuple_set_dom ms es ds) ns) is) = view-has r (tuple_set_dom ms es ds) (shapes q size_terms r (tuple_set_dom ms es ds) ns) is (B.good-has P L (tuple_set_dom ms es ds) h) a in
+        let v : P (view_ex r (tuple_set_dom ms es ds) (shapes q size_terms r (tuple_set_dom ms es ds) ns) is) = view-has r
+        (tuple_set_dom ms es ds) (shapes q size_terms r (tuple_set_dom ms es ds) ns) is (B.good-has P L (tuple_set_dom ms es ds) h) a in
         C.and-has q P L built _ _ (structure-has r (tuple_set_dom ms es ds) ns l is h a)
-        (C.keys-have q P L built (relation_key_ex q l ds (view_ex r (tuple_set_dom ms es ds) (shapes q size_terms r (tuple_set_dom ms es ds) ns) is)) ms
+        (C.keys-have q P L built (relation_key_ex q l ds
+        (view_ex r (tuple_set_dom ms es ds) (shapes q size_terms r (tuple_set_dom ms es ds) ns) is)) ms
         (λ k. V.relation-key-has q P L built l ds _ k (B.all-good-have P L ds g.1) v))
     structure-has (repr ReprKind.FunctionAsRelation (more_reprs r no_reprs)) (function_dom ms es d c) ns l is g a =
         let h : B.Good P L (pair_relation_dom size_terms ms es d c) = B.pair-relation-good q P L built ms es d c g in
         C.and-has q P L built _ _ (structure-has r (pair_relation_dom size_terms ms es d c) ns l is h a)
-        (V.pairs-have q P L built l ms es d c _ g.0 (B.good-has P L c g.2) (view-has r (pair_relation_dom size_terms ms es d c) (shapes q size_terms r (pair_relation_dom size_terms ms es d c) ns) is (B.good-has P L (pair_relation_dom size_terms ms es d c) h) a))
+        (V.pairs-have q P L built l ms es d c _ g.0 (B.good-has P L c g.2)
+        (view-has r (pair_relation_dom size_terms ms es d c) (shapes q size_terms r (pair_relation_dom size_terms ms es d c) ns) is
+        (B.good-has P L (pair_relation_dom size_terms ms es d c) h) a))
     structure-has (repr ReprKind.PartitionAsSet (more_reprs r no_reprs)) (partition_dom ms es d) ns l is g a =
         let h : B.Good P L (part_set_dom size_terms ms es d) = B.part-set-good q P L built ms es d g in
         C.and-has q P L built _ _ (structure-has r (part_set_dom size_terms ms es d) ns l is h a)
-        (V.parts-have q P L built l ms d _ (B.good-has P L d g.1) (view-has r (part_set_dom size_terms ms es d) (shapes q size_terms r (part_set_dom size_terms ms es d) ns) is (B.good-has P L (part_set_dom size_terms ms es d) h) a))
+        (V.parts-have q P L built l ms d _ (B.good-has P L d g.1)
+        (view-has r (part_set_dom size_terms ms es d) (shapes q size_terms r (part_set_dom size_terms ms es d) ns) is
+        (B.good-has P L (part_set_dom size_terms ms es d) h) a))
     structure-has (repr ReprKind.PartitionOccurrence no_reprs) (partition_dom ms es d) ns l is g a =
         let x : B.DomHas P d = B.good-has P L d g.1 in
-        V.numbered-has q P L built l ms es d (cell_ex false (first_name ns) is) (first_name (drop 1 ns)) is _ g.0 x (built.cells false (first_name ns) is a) a
+        V.numbered-has q P L built l ms es d (cell_ex false (first_name ns) is) (first_name (drop 1 ns)) is _ g.0 x
+        (built.cells false (first_name ns) is a) a
         (view-has (repr ReprKind.PartitionOccurrence no_reprs) (bare_partition_dom d)
         (own_shape ns false [] ∷ own_shape (drop 1 ns) false (d ∷ []) ∷ []) is (tt, x) a)
     structure-has _ d ns l is g a = built.truths false
 
     -- The same of components.
-    pub all-structures-have : (rs : Reprs) (ds : Doms) (ns : List Text) (l : ℕ) (is : Exs) → B.AllGood P L ds → B.AllHave P is → P (structure_of_each q size_terms rs ds ns l is)
+    pub all-structures-have : (rs : Reprs) (ds : Doms) (ns : List Text) (l : ℕ) (is : Exs) → B.AllGood P L ds → B.AllHave P is → P
+        (structure_of_each q size_terms rs ds ns l is)
     all-structures-have (more_reprs r rs) (more_doms d ds) ns l is g a =
-        C.and-has q P L built _ _ (structure-has r d (take (width r) ns) l is g.0 a) (all-structures-have rs ds (drop (width r) ns) l is g.1 a)
+        C.and-has q P L built _ _ (structure-has r d (take (width r) ns) l is g.0 a)
+        (all-structures-have rs ds (drop (width r) ns) l is g.1 a)
     all-structures-have _ _ ns l is g a = built.truths true

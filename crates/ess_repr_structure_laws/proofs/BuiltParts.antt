@@ -6,7 +6,7 @@ use Rattle.ess_semantics.specs.declared.words.Fun.{Fun}
 use Rattle.ess_semantics.specs.declared.words.Key.{Key}
 use Rattle.ess_semantics.specs.Values.{Text}
 use Rattle.ess_semantics.specs.Trees.{binary, Mark, flag, valued, name_pat, Ex, Exs, number_ex, name_ex, comp_ex, cell_ex, no_exs, more_exs, Gens, no_gens, over, cond, Dom, ex1, ex2, fun1}
-use Rattle.ess_repr_laws.specs.StructureParts.{Shape, add_ex, and_ex, or_ex, implies_ex, le_ex, all_ex, key_ex, size_ex, keys_ex, upto, row_gens, row_index, each_ex, row_ex, less_ex, at_most_ex, out_ex, zero_ex, zeros_ex, over_slots, next_ex, slots_ex, marker_ex, explicit_ex, use_ex, first_ex, true_count_ex, place_count_ex, number_sum_ex, times_of_ex, times_ex, counts_ex, flags_ex, counted_ex, member_count_ex, dummy_ex, occurrence_ex}
+use Rattle.ess_repr_laws.specs.StructureParts.{Shape, add_ex, and_ex, or_ex, implies_ex, le_ex, all_ex, key_ex, size_ex, keys_ex, upto, row_gens, row_index, each_ex, row_ex, less_ex, at_most_ex, out_ex, zero_ex, zeros_ex, over_slots, pairs_dom, over_pairs, each_pair, next_ex, slots_ex, use_ex, first_ex, true_count_ex, place_count_ex, number_sum_ex, times_of_ex, times_ex, counts_ex}
 use Rattle.ess_repr_structure_laws.proofs.BuiltStructures as B
 use Rattle.ess_repr_structure_laws.proofs.BuiltStructures.{is_used, BuiltOf, one-has, two-have, word-has, lists-have}
 
@@ -116,25 +116,31 @@ module _ (q : ℕ → Text) (P : Ex → Type 0) (L : Dom → Type 0) (built : Bu
   ShapesHave (s ∷ ss) = ListHas s.axes × ShapesHave ss
 
   row-has : (l : ℕ) (s : Shape) (is : Exs) → ListHas s.axes → AllHave is → P (row_ex q l s is)
-  row-has l s is x a = built.comps (cell_ex s.truth s.name (row_index q l s.axes is)) (row_gens q l s.axes) (cell-has s.truth s.name l s.axes is a) (row-gens-have l s.axes x)
+  row-has l s is x a = built.comps (cell_ex s.truth s.name (row_index q l s.axes is)) (row_gens q l s.axes)
+      (cell-has s.truth s.name l s.axes is a) (row-gens-have l s.axes x)
 
   less-rows : (o : Op2) (l : ℕ) (s : Shape) (is js : Exs) → is_used (binary o) ≡ true → ListHas s.axes → AllHave is → AllHave js →
       P (ex2 true o (row_ex q l s is) (row_ex q l s js))
-  less-rows o l s is js u x a b = two-have q P L built true o (row_ex q l s is) (row_ex q l s js) u (row-has l s is x a) (row-has l s js x b)
+  less-rows o l s is js u x a b = two-have q P L built true o (row_ex q l s is) (row_ex q l s js) u (row-has l s is x a)
+      (row-has l s js x b)
 
   pub less-has : (l : ℕ) (ss : List Shape) (is js : Exs) → ShapesHave ss → AllHave is → AllHave js → P (less_ex q l ss is js)
   less-has l [] is js x a b = built.truths false
   less-has l (s ∷ ss) is js x a b =
-      or-has (ex2 true Op2.LexLt (row_ex q l s is) (row_ex q l s js)) (and_ex (ex2 true Op2.LexLe (row_ex q l s is) (row_ex q l s js)) (less_ex q l ss is js))
+      or-has (ex2 true Op2.LexLt (row_ex q l s is) (row_ex q l s js))
+      (and_ex (ex2 true Op2.LexLe (row_ex q l s is) (row_ex q l s js)) (less_ex q l ss is js))
       (less-rows Op2.LexLt l s is js refl x.0 a b)
-      (and-has (ex2 true Op2.LexLe (row_ex q l s is) (row_ex q l s js)) (less_ex q l ss is js) (less-rows Op2.LexLe l s is js refl x.0 a b) (less-has l ss is js x.1 a b))
+      (and-has (ex2 true Op2.LexLe (row_ex q l s is) (row_ex q l s js)) (less_ex q l ss is js) (less-rows Op2.LexLe l s is js refl x.0 a b)
+      (less-has l ss is js x.1 a b))
 
   pub at-most-has : (l : ℕ) (ss : List Shape) (is js : Exs) → ShapesHave ss → AllHave is → AllHave js → P (at_most_ex q l ss is js)
   at-most-has l [] is js x a b = built.truths true
   at-most-has l (s ∷ ss) is js x a b =
-      or-has (ex2 true Op2.LexLt (row_ex q l s is) (row_ex q l s js)) (and_ex (ex2 true Op2.LexLe (row_ex q l s is) (row_ex q l s js)) (at_most_ex q l ss is js))
+      or-has (ex2 true Op2.LexLt (row_ex q l s is) (row_ex q l s js))
+      (and_ex (ex2 true Op2.LexLe (row_ex q l s is) (row_ex q l s js)) (at_most_ex q l ss is js))
       (less-rows Op2.LexLt l s is js refl x.0 a b)
-      (and-has (ex2 true Op2.LexLe (row_ex q l s is) (row_ex q l s js)) (at_most_ex q l ss is js) (less-rows Op2.LexLe l s is js refl x.0 a b) (at-most-has l ss is js x.1 a b))
+      (and-has (ex2 true Op2.LexLe (row_ex q l s is) (row_ex q l s js)) (at_most_ex q l ss is js)
+      (less-rows Op2.LexLe l s is js refl x.0 a b) (at-most-has l ss is js x.1 a b))
 
   out-has : (b : Bool) (n : Text) (is : Exs) → AllHave is → P (out_ex q b n is)
   out-has true n is a = not-has (cell_ex true n is) (built.cells true n is a)
@@ -144,13 +150,15 @@ module _ (q : ℕ → Text) (P : Ex → Type 0) (L : Dom → Type 0) (built : Bu
   zeros-have l [] is x a = built.truths true
   zeros-have l (s ∷ ss) is x a =
       and-has (zero_ex q l s is) (zeros_ex q l ss is)
-      (all-has (out_ex q s.truth s.name (row_index q l s.axes is)) (row_gens q l s.axes) (out-has s.truth s.name (row_index q l s.axes is) (row-index-has l s.axes is a)) (row-gens-have l s.axes x.0))
+      (all-has (out_ex q s.truth s.name (row_index q l s.axes is)) (row_gens q l s.axes)
+      (out-has s.truth s.name (row_index q l s.axes is) (row-index-has l s.axes is a)) (row-gens-have l s.axes x.0))
       (zeros-have l ss is x.1 a)
 
   -- ---- slots
 
   over-slots-have : (l : ℕ) (size test e : Ex) → P size → P test → P e → P (over_slots q l size test e)
-  over-slots-have l size test e s t h = all-has e (over (name_pat (q l)) (upto size) (cond test no_gens)) h ((l, refl), upto-has size s, (t, tt))
+  over-slots-have l size test e s t h = all-has e (over (name_pat (q l)) (upto size) (cond test no_gens)) h
+      ((l, refl), upto-has size s, (t, tt))
 
   -- The number of the next slot.
   pub next-has : (l : ℕ) → P (next_ex q l)
@@ -159,130 +167,105 @@ module _ (q : ℕ → Text) (P : Ex → Type 0) (L : Dom → Type 0) (built : Bu
   pub next-added : (l : ℕ) (is : Exs) → AllHave is → AllHave (add_ex is (next_ex q l))
   next-added l is a = add-has is (next_ex q l) a (next-has l)
 
-  rest-of-slots : (l : ℕ) (size test rise out : Ex) → P size → P test → P rise → P out → (zeros : Ex) → P zeros →
-      P (and_ex (over_slots q l size test rise) (over_slots q l size out zeros))
-  rest-of-slots l size test rise out s t r o zeros z = and-has _ _ (over-slots-have l size test rise s t r) (over-slots-have l size out zeros s o z)
+  -- The numbers of all slots but the last.
+  pairs-have : (size : Ex) → P size → DomHas (pairs_dom q size)
+  pairs-have size s = upto-has (ex2 false Op2.Minus size (number_ex (pos 1)))
+      (two-have q P L built false Op2.Minus size (number_ex (pos 1)) refl s built.one)
+
+  over-pairs-have : (l : ℕ) (size test e : Ex) → P size → P test → P e → P (over_pairs q l size test e)
+  over-pairs-have l size test e s t h = all-has e (over (name_pat (q l)) (pairs_dom q size) (cond test no_gens)) h
+      ((l, refl), pairs-have size s, (t, tt))
+
+  pub each-pair-has : (l : ℕ) (size e : Ex) → P size → P e → P (each_pair q l size e)
+  each-pair-has l size e s h = each-has l (pairs_dom q size ∷ []) e (pairs-have size s, tt) h
 
   zeros-behind : (l : ℕ) (ss : List Shape) (is : Exs) → ShapesHave ss → AllHave is → P (zeros_ex q (suc l) ss (add_ex is (name_ex (q l))))
   zeros-behind l ss is x a = zeros-have (suc l) ss (add_ex is (name_ex (q l))) x (name-added l is a)
 
   -- That a slot's cells are below those of the next one.
-  pub rise-has : (l : ℕ) (ss : List Shape) (is : Exs) → ShapesHave ss → AllHave is → P (less_ex q (suc l) ss (add_ex is (name_ex (q l))) (add_ex is (next_ex q l)))
+  pub rise-has : (l : ℕ) (ss : List Shape) (is : Exs) → ShapesHave ss → AllHave is → P
+      (less_ex q (suc l) ss (add_ex is (name_ex (q l))) (add_ex is (next_ex q l)))
   rise-has l ss is x a = less-has (suc l) ss (add_ex is (name_ex (q l))) (add_ex is (next_ex q l)) x (name-added l is a) (next-added l is a)
 
   -- What is said of slots beside what each one in use holds.
   abbrev pub slots_rest : ℕ → Ex → Ex → List Shape → Exs → Ex
   slots_rest l size m ss is =
-      and_ex (over_slots q l size (le_ex (next_ex q l) m) (less_ex q (suc l) ss (add_ex is (name_ex (q l))) (add_ex is (next_ex q l))))
+      and_ex (over_pairs q l size (le_ex (next_ex q l) m) (less_ex q (suc l) ss (add_ex is (name_ex (q l))) (add_ex is (next_ex q l))))
       (over_slots q l size (ex1 true Op1.Not (le_ex (name_ex (q l)) m)) (zeros_ex q (suc l) ss (add_ex is (name_ex (q l)))))
 
-  pub slots-rest-have : (l : ℕ) (size m : Ex) (ss : List Shape) (is : Exs) → P size → P m → ShapesHave ss → AllHave is → P (slots_rest l size m ss is)
+  pub slots-rest-have : (l : ℕ) (size m : Ex) (ss : List Shape) (is : Exs) → P size → P m → ShapesHave ss → AllHave is → P
+      (slots_rest l size m ss is)
   slots-rest-have l size m ss is s h x a =
-      rest-of-slots l size (le_ex (next_ex q l) m) _ (ex1 true Op1.Not (le_ex (name_ex (q l)) m)) s (le-has (next_ex q l) m (next-has l) h) (rise-has l ss is x a)
-      (not-has (le_ex (name_ex (q l)) m) (le-has (name_ex (q l)) m (built.names l) h)) _ (zeros-behind l ss is x a)
+      and-has _ _ (over-pairs-have l size (le_ex (next_ex q l) m) _ s (le-has (next_ex q l) m (next-has l) h) (rise-has l ss is x a))
+      (over-slots-have l size (ex1 true Op1.Not (le_ex (name_ex (q l)) m)) _ s
+      (not-has (le_ex (name_ex (q l)) m) (le-has (name_ex (q l)) m (built.names l) h)) (zeros-behind l ss is x a))
 
-  pub slots-have : (l : ℕ) (size m : Ex) (ss : List Shape) (is : Exs) (part : Ex) → P size → P m → ShapesHave ss → AllHave is → P part → P (slots_ex q l size m ss is part)
+  pub slots-have : (l : ℕ) (size m : Ex) (ss : List Shape) (is : Exs) (part : Ex) → P size → P m → ShapesHave ss → AllHave is → P part → P
+      (slots_ex q l size m ss is part)
   slots-have l size m ss is part s h x a p =
-      and-has _ _ (over-slots-have l size (le_ex (name_ex (q l)) m) part s (le-has (name_ex (q l)) m (built.names l) h) p) (slots-rest-have l size m ss is s h x a)
+      and-has _ _ (over-slots-have l size (le_ex (name_ex (q l)) m) part s (le-has (name_ex (q l)) m (built.names l) h) p)
+      (slots-rest-have l size m ss is s h x a)
 
   -- The same where it is said of each slot that it is in use.
   abbrev pub use_rest : ℕ → Ex → Ex → Ex → Ex → List Shape → Exs → Ex
   use_rest l size here next rise ss is =
-      and_ex (over_slots q l size (le_ex (next_ex q l) size) (implies_ex next rise))
+      and_ex (each_pair q l size (implies_ex next rise))
       (over_slots q l size (ex1 true Op1.Not here) (zeros_ex q (suc l) ss (add_ex is (name_ex (q l)))))
 
-  pub use-rest-have : (l : ℕ) (size here next rise : Ex) (ss : List Shape) (is : Exs) → P size → P here → P next → P rise → ShapesHave ss → AllHave is →
+  pub use-rest-have : (l : ℕ) (size here next rise : Ex) (ss : List Shape) (is : Exs) → P size → P here → P next → P rise → ShapesHave ss →
+      AllHave is →
       P (use_rest l size here next rise ss is)
   use-rest-have l size here next rise ss is s h n r x a =
-      rest-of-slots l size (le_ex (next_ex q l) size) (implies_ex next rise) (ex1 true Op1.Not here) s (le-has (next_ex q l) size (next-has l) s) (implies-has next rise n r) (not-has here h) _
-      (zeros-behind l ss is x a)
+      and-has _ _ (each-pair-has l size (implies_ex next rise) s (implies-has next rise n r))
+      (over-slots-have l size (ex1 true Op1.Not here) _ s (not-has here h) (zeros-behind l ss is x a))
 
-  use-has : (l : ℕ) (size here next rise : Ex) (ss : List Shape) (is : Exs) (part : Ex) → P size → P here → P next → P rise → ShapesHave ss → AllHave is → P part →
+  pub use-has : (l : ℕ) (size here next rise : Ex) (ss : List Shape) (is : Exs) (part : Ex) → P size → P here → P next → P rise → ShapesHave
+      ss → AllHave is → P part →
       P (use_ex q l size here next rise ss is part)
-  use-has l size here next rise ss is part s h n r x a p = and-has _ _ (over-slots-have l size here part s h p) (use-rest-have l size here next rise ss is s h n r x a)
+  use-has l size here next rise ss is part s h n r x a p = and-has _ _ (over-slots-have l size here part s h p)
+      (use-rest-have l size here next rise ss is s h n r x a)
 
   -- That slots in use stand first.
   pub first-has : (l : ℕ) (size here next : Ex) → P size → P here → P next → P (first_ex q l size here next)
-  first-has l size here next s h n =
-      over-slots-have l size (le_ex (next_ex q l) size) (implies_ex next here) s (le-has (next_ex q l) size (next-has l) s) (implies-has next here n h)
+  first-has l size here next s h n = each-pair-has l size (implies_ex next here) s (implies-has next here n h)
 
   -- ---- counts
 
   pub true-count-has : (l : ℕ) (as' : List Dom) (n : Text) (is : Exs) → ListHas as' → AllHave is → P (true_count_ex q l as' n is)
   true-count-has l as' n is x a =
-      sum-has (fun1 false Fun.ToInt (cell_ex true n (row_index q l as' is))) (row_gens q l as') (number-has (cell_ex true n (row_index q l as' is)) (cell-has true n l as' is a)) (row-gens-have l as' x)
+      sum-has (fun1 false Fun.ToInt (cell_ex true n (row_index q l as' is))) (row_gens q l as')
+      (number-has (cell_ex true n (row_index q l as' is)) (cell-has true n l as' is a)) (row-gens-have l as' x)
 
   pub place-count-has : (l : ℕ) (as' : List Dom) → ListHas as' → P (place_count_ex q l as')
   place-count-has l as' x = sum-has (number_ex (pos 1)) (row_gens q l as') built.one (row-gens-have l as' x)
 
   number-sum-has : (l : ℕ) (as' : List Dom) (n : Text) (is : Exs) → ListHas as' → AllHave is → P (number_sum_ex q l as' n is)
-  number-sum-has l as' n is x a = sum-has (cell_ex false n (row_index q l as' is)) (row_gens q l as') (cell-has false n l as' is a) (row-gens-have l as' x)
+  number-sum-has l as' n is x a = sum-has (cell_ex false n (row_index q l as' is)) (row_gens q l as') (cell-has false n l as' is a)
+      (row-gens-have l as' x)
 
-  times-of-has : (l : ℕ) (k : Key) (e : Ex) (as' : List Dom) (n : Text) (is : Exs) → P e → ListHas as' → AllHave is → P (times_of_ex q l k e as' n is)
+  times-of-has : (l : ℕ) (k : Key) (e : Ex) (as' : List Dom) (n : Text) (is : Exs) → P e → ListHas as' → AllHave is → P
+      (times_of_ex q l k e as' n is)
   times-of-has l Key.MinOccur e as' n is h x a =
       let c = cell-has false n l as' is a in
-      each-has l as' _ x (or-has _ _ (eq-has (number_ex (pos 0)) (cell_ex false n (row_index q l as' is)) built.zero c) (le-has e (cell_ex false n (row_index q l as' is)) h c))
+      each-has l as' _ x (or-has _ _ (eq-has (number_ex (pos 0)) (cell_ex false n (row_index q l as' is)) built.zero c)
+      (le-has e (cell_ex false n (row_index q l as' is)) h c))
   times-of-has l Key.MaxOccur e as' n is h x a =
       let c = cell-has false n l as' is a in
-      each-has l as' _ x (or-has _ _ (eq-has (number_ex (pos 0)) (cell_ex false n (row_index q l as' is)) built.zero c) (le-has (cell_ex false n (row_index q l as' is)) e c h))
+      each-has l as' _ x (or-has _ _ (eq-has (number_ex (pos 0)) (cell_ex false n (row_index q l as' is)) built.zero c)
+      (le-has (cell_ex false n (row_index q l as' is)) e c h))
   times-of-has l _ e as' n is h x a = built.truths true
 
-  times-have : (l : ℕ) (ms : List Mark) (es : Exs) (as' : List Dom) (n : Text) (is : Exs) → AllHave es → ListHas as' → AllHave is → P (times_ex q l ms es as' n is)
+  times-have : (l : ℕ) (ms : List Mark) (es : Exs) (as' : List Dom) (n : Text) (is : Exs) → AllHave es → ListHas as' → AllHave is → P
+      (times_ex q l ms es as' n is)
   times-have l [] es as' n is g x a = built.truths true
   times-have l (flag k ∷ ms) es as' n is g x a = times-have l ms es as' n is g x a
   times-have l (valued k ∷ ms) no_exs as' n is g x a = built.truths true
   times-have l (valued k ∷ ms) (more_exs e es) as' n is g x a =
-      and-has (times_of_ex q l k e as' n is) (times_ex q l ms es as' n is) (times-of-has l k e as' n is g.0 x a) (times-have l ms es as' n is g.1 x a)
+      and-has (times_of_ex q l k e as' n is) (times_ex q l ms es as' n is) (times-of-has l k e as' n is g.0 x a)
+      (times-have l ms es as' n is g.1 x a)
 
-  pub counts-have : (l : ℕ) (ms : List Mark) (es : Exs) (as' : List Dom) (n : Text) (is : Exs) → AllHave es → ListHas as' → AllHave is → P (counts_ex q l ms es as' n is)
+  pub counts-have : (l : ℕ) (ms : List Mark) (es : Exs) (as' : List Dom) (n : Text) (is : Exs) → AllHave es → ListHas as' → AllHave is → P
+      (counts_ex q l ms es as' n is)
   counts-have l ms es as' n is g x a =
-      and-has (size_ex ms es (number_sum_ex q l as' n is)) (times_ex q l ms es as' n is) (size-has ms es (number_sum_ex q l as' n is) g (number-sum-has l as' n is x a)) (times-have l ms es as' n is g x a)
-
-  -- ---- whole layers of sets and multisets
-
-  pub occurrence-has : (l : ℕ) (ms : List Mark) (es : Exs) (d : Dom) (n : Text) (is : Exs) → AllHave es → DomHas d → AllHave is → P (occurrence_ex q l ms es d n is)
-  occurrence-has l ms es d n is g x a = size-has ms es (true_count_ex q l (d ∷ []) n is) g (true-count-has l (d ∷ []) n is (x, tt) a)
-
-  pub marker-has : (l : ℕ) (ms : List Mark) (es : Exs) (size : Ex) (n : Text) (ss : List Shape) (is : Exs) (part : Ex) → AllHave es → P size → ShapesHave ss → AllHave is → P part →
-      P (marker_ex q l ms es size n ss is part)
-  marker-has l ms es size n ss is part g s x a p =
-      let c : P (cell_ex false n is) = built.cells false n is a in
-      and-has (size_ex ms es (cell_ex false n is)) (slots_ex q l size (cell_ex false n is) ss is part) (size-has ms es (cell_ex false n is) g c) (slots-have l size (cell_ex false n is) ss is part s c x a p)
-
-  pub explicit-has : (l : ℕ) (ms : List Mark) (es : Exs) (size : Ex) (ss : List Shape) (is : Exs) (part : Ex) → AllHave es → P size → ShapesHave ss → AllHave is → P part →
-      P (explicit_ex q l ms es size ss is part)
-  explicit-has l ms es size ss is part g s x a p = and-has (size_ex ms es size) (slots_ex q l size size ss is part) (size-has ms es size g s) (slots-have l size size ss is part s s x a p)
-
-  pub flags-have : (l : ℕ) (ms : List Mark) (es : Exs) (size : Ex) (n : Text) (ss : List Shape) (is : Exs) (part : Ex) → AllHave es → P size → ShapesHave ss → AllHave is → P part →
-      P (flags_ex q l ms es size n ss is part)
-  flags-have l ms es size n ss is part g s x a p =
-      let here : P (cell_ex true n (add_ex is (name_ex (q l)))) = built.cells true n (add_ex is (name_ex (q l))) (name-added l is a) in
-      let next : P (cell_ex true n (add_ex is (next_ex q l))) = built.cells true n (add_ex is (next_ex q l)) (next-added l is a) in
-      and-has _ _ (and-has _ _ (first-has l size (cell_ex true n (add_ex is (name_ex (q l)))) (cell_ex true n (add_ex is (next_ex q l))) s here next)
-      (use-has l size (cell_ex true n (add_ex is (name_ex (q l)))) (cell_ex true n (add_ex is (next_ex q l))) _ ss is part s here next (rise-has l ss is x a) x a p))
-      (size-has ms es (true_count_ex q l (upto size ∷ []) n is) g (true-count-has l (upto size ∷ []) n is (upto-has size s, tt) a))
-
-  pub counted-has : (l : ℕ) (ms : List Mark) (es : Exs) (size : Ex) (n : Text) (ss : List Shape) (is : Exs) (part : Ex) → AllHave es → P size → ShapesHave ss → AllHave is → P part →
-      P (counted_ex q l ms es size n ss is part)
-  counted-has l ms es size n ss is part g s x a p =
-      let here : P (le_ex (number_ex (pos 1)) (cell_ex false n (add_ex is (name_ex (q l))))) = le-has (number_ex (pos 1)) (cell_ex false n (add_ex is (name_ex (q l)))) built.one (built.cells false n (add_ex is (name_ex (q l))) (name-added l is a)) in
-      let next : P (le_ex (number_ex (pos 1)) (cell_ex false n (add_ex is (next_ex q l)))) = le-has (number_ex (pos 1)) (cell_ex false n (add_ex is (next_ex q l))) built.one (built.cells false n (add_ex is (next_ex q l)) (next-added l is a)) in
-      and-has _ _ (and-has _ _ (first-has l size _ _ s here next) (use-has l size _ _ _ ss is part s here next (rise-has l ss is x a) x a p))
-      (counts-have l ms es (upto size ∷ []) n is g (upto-has size s, tt) a)
-
-  pub dummy-has : (l : ℕ) (ms : List Mark) (es : Exs) (size dummy : Ex) (atom : Ex → Ex) (n : Text) (is : Exs) → AllHave es → P size → P dummy → ((x : Ex) → P x → P (atom x)) → AllHave is →
-      P (dummy_ex q l ms es size dummy atom n is)
-  dummy-has l ms es size dummy atom n is g s m f a =
-      let here : P (cell_ex false n (add_ex is (name_ex (q l)))) = built.cells false n (add_ex is (name_ex (q l))) (name-added l is a) in
-      let next : P (cell_ex false n (add_ex is (next_ex q l))) = built.cells false n (add_ex is (next_ex q l)) (next-added l is a) in
-      and-has _ _ (and-has _ _ (each-has l (upto size ∷ []) _ (upto-has size s, tt) (or-has _ _ (f _ here) (eq-has dummy _ m here)))
-      (over-slots-have l size (le_ex (next_ex q l) size) _ s (le-has (next_ex q l) size (next-has l) s) (or-has _ _ (eq-has dummy _ m next) (two-have q P L built true Op2.Lt _ _ refl here next))))
-      (size-has ms es (member_count_ex q l size dummy n is) g
-      (sum-has _ (row_gens q l (upto size ∷ [])) (number-has _ (not-has _ (eq-has dummy _ m here))) (row-gens-have l (upto size ∷ []) (upto-has size s, tt))))
-
-  pub repetition-use-has : (l : ℕ) (size : Ex) (n : Text) (ss : List Shape) (is : Exs) (part : Ex) → P size → ShapesHave ss → AllHave is → P part →
-      P (use_ex q l size (le_ex (name_ex (q l)) (cell_ex false n is)) (le_ex (next_ex q l) (cell_ex false n is)) (at_most_ex q (suc l) ss (add_ex is (name_ex (q l))) (add_ex is (next_ex q l))) ss is part)
-  repetition-use-has l size n ss is part s x a p =
-      let c : P (cell_ex false n is) = built.cells false n is a in
-      use-has l size _ _ _ ss is part s (le-has (name_ex (q l)) (cell_ex false n is) (built.names l) c) (le-has (next_ex q l) (cell_ex false n is) (next-has l) c)
-      (at-most-has (suc l) ss (add_ex is (name_ex (q l))) (add_ex is (next_ex q l)) x (name-added l is a) (next-added l is a)) x a p
+      and-has (size_ex ms es (number_sum_ex q l as' n is)) (times_ex q l ms es as' n is)
+      (size-has ms es (number_sum_ex q l as' n is) g (number-sum-has l as' n is x a)) (times-have l ms es as' n is g x a)

@@ -67,13 +67,17 @@ module _ (P : Ex → Type 0) (L : Dom → Type 0) (sizes : SizesOf P) where
     bound-has (name_dom a) g = sizes.listed (name_dom a) tt
     bound-has (tuple_dom ds) g = product-has ds g
     bound-has (record_dom fs ds) g = product-has ds g
-    bound-has (matrix_dom is d) g = power-has (next_ex (bound_ex d)) (product_ex is) (next-has (bound_ex d) (bound-has d g.1)) (product-has is g.0)
+    bound-has (matrix_dom is d) g = power-has (next_ex (bound_ex d)) (product_ex is) (next-has (bound_ex d) (bound-has d g.1))
+        (product-has is g.0)
     bound-has (set_dom ms es d) g = power-has two_ex (bound_ex d) sizes.two (bound-has d g.1)
     bound-has (mset_dom ms es d) g =
-        power-has (next_ex (occurrences_ex ms es)) (bound_ex d) (next-has (occurrences_ex ms es) (B.occurrences-may P ms es g.1 sizes.zero)) (bound-has d g.2)
-    bound-has (function_dom ms es d c) g = power-has (next_ex (bound_ex c)) (bound_ex d) (next-has (bound_ex c) (bound-has c g.2)) (bound-has d g.1)
+        power-has (next_ex (occurrences_ex ms es)) (bound_ex d) (next-has (occurrences_ex ms es) (B.occurrences-may P ms es g.1 sizes.zero))
+        (bound-has d g.2)
+    bound-has (function_dom ms es d c) g = power-has (next_ex (bound_ex c)) (bound_ex d) (next-has (bound_ex c) (bound-has c g.2))
+        (bound-has d g.1)
     bound-has (relation_dom ms es ds) g = power-has two_ex (product_ex ds) sizes.two (product-has ds g.1)
-    bound-has (partition_dom ms es d) g = power-has (next_ex (bound_ex d)) (bound_ex d) (next-has (bound_ex d) (bound-has d g.1)) (bound-has d g.1)
+    bound-has (partition_dom ms es d) g = power-has (next_ex (bound_ex d)) (bound_ex d) (next-has (bound_ex d) (bound-has d g.1))
+        (bound-has d g.1)
 
     product-has : (ds : Doms) → B.AllGood P L ds → P (product_ex ds)
     product-has no_doms g = sizes.one

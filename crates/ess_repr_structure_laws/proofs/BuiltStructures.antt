@@ -72,7 +72,8 @@ module _ (P : Ex → Type 0) where
   if-have false x y a b = b
 
   -- The number of an attribute, in front of others.
-  pub key-picked : (k : Key) (ms : List Mark) (es : Exs) (ns : List Mark) (os : Exs) → AllHave es → AllHave os → AllHave ((number_of_key k ms es ns os).1)
+  pub key-picked : (k : Key) (ms : List Mark) (es : Exs) (ns : List Mark) (os : Exs) → AllHave es → AllHave os → AllHave
+      ((number_of_key k ms es ns os).1)
   key-picked k [] es ns os a b = b
   key-picked k (flag j ∷ ms) es ns os a b = key-picked k ms es ns os a b
   key-picked k (valued j ∷ ms) no_exs ns os a b = b
@@ -80,7 +81,8 @@ module _ (P : Ex → Type 0) where
       if-have (same_key j k) (valued k ∷ ns, more_exs e os) (number_of_key k ms es ns os) (a.0, b) (key-picked k ms es ns os a.1 b)
 
   -- The same as another attribute.
-  pub key-picked-as : (k j : Key) (ms : List Mark) (es : Exs) (ns : List Mark) (os : Exs) → AllHave es → AllHave os → AllHave ((number_as k j ms es ns os).1)
+  pub key-picked-as : (k j : Key) (ms : List Mark) (es : Exs) (ns : List Mark) (os : Exs) → AllHave es → AllHave os → AllHave
+      ((number_as k j ms es ns os).1)
   key-picked-as k j [] es ns os a b = b
   key-picked-as k j (flag i ∷ ms) es ns os a b = key-picked-as k j ms es ns os a b
   key-picked-as k j (valued i ∷ ms) no_exs ns os a b = b
@@ -111,7 +113,8 @@ module _ (P : Ex → Type 0) where
   number-may k (valued j ∷ ms) (more_exs e es) a = if-may (same_key j k) e (number_of k ms es) a.0 (number-may k ms es a.1)
 
   greatest-may : (ms : List Mark) (es : Exs) → AllHave es → MayHave (greatest_size_of ms es)
-  greatest-may ms es a = else-may (number_of Key.Size ms es) (number_of Key.MaxSize ms es) (number-may Key.Size ms es a) (number-may Key.MaxSize ms es a)
+  greatest-may ms es a = else-may (number_of Key.Size ms es) (number_of Key.MaxSize ms es) (number-may Key.Size ms es a)
+      (number-may Key.MaxSize ms es a)
 
   -- How often members of a multiset occur.
   pub occurrences-may : (ms : List Mark) (es : Exs) → AllHave es → P (number_ex (pos 0)) → P (occurrences_ex ms es)
@@ -227,17 +230,22 @@ module _ (q : ℕ → Text) (P : Ex → Type 0) (L : Dom → Type 0) where
     set-slots-have ms es d g = default-has P (greatest_size_of ms es) (bound_ex d) (greatest-may P ms es g.0) (B.bounds d g.1)
 
     pub mset-slots-have : (ms : List Mark) (es : Exs) (d : Dom) → Good P L (mset_dom ms es d) → P (slots_ex (mset_dom ms es d))
-    mset-slots-have ms es d g = default-has P (greatest_size_of ms es) (ex2 false Op2.Times (occurrences_ex ms es) (bound_ex d)) (greatest-may P ms es g.1)
+    mset-slots-have ms es d g = default-has P (greatest_size_of ms es) (ex2 false Op2.Times (occurrences_ex ms es) (bound_ex d))
+        (greatest-may P ms es g.1)
         (two-have false Op2.Times (occurrences_ex ms es) (bound_ex d) refl (occurrences-may P ms es g.1 B.zero) (B.bounds d g.2))
 
     -- The domains of children are good.
     pub tuple-set-good : (ms : List Mark) (es : Exs) (ds : Doms) → Good P L (relation_dom ms es ds) → Good P L (tuple_set_dom ms es ds)
     tuple-set-good ms es ds g =
         let a : List Mark × Exs = number_of_key Key.MaxSize ms es [] no_exs in
-        let b : List Mark × Exs = number_of_key Key.MinSize ms es a.0 a.1 in
-        (key-picked P Key.Size ms es b.0 b.1 g.0 (key-picked P Key.MinSize ms es a.0 a.1 g.0 (key-picked P Key.MaxSize ms es [] no_exs g.0 tt)), g.1)
+        let b : List Mark × Exs = number_of_key Key.MinSize ms es a.0 a.1 in (
+          key-picked P Key.Size ms es b.0 b.1 g.0 (key-picked P Key.MinSize ms es a.0 a.1 g.0
+              (key-picked P Key.MaxSize ms es [] no_exs g.0 tt)),
+          g.1,
+        )
 
-    pub pair-relation-good : (ms : List Mark) (es : Exs) (d c : Dom) → Good P L (function_dom ms es d c) → Good P L (pair_relation_dom size_terms ms es d c)
+    pub pair-relation-good : (ms : List Mark) (es : Exs) (d c : Dom) → Good P L (function_dom ms es d c) → Good P L
+        (pair_relation_dom size_terms ms es d c)
     pair-relation-good ms es d c g =
         let a0 : List Mark × Exs = number_of_key Key.MaxSize ms es [] no_exs in
         let a1 : List Mark × Exs = (valued Key.MaxSize ∷ [], more_exs (bound_ex d) no_exs) in
@@ -245,7 +253,8 @@ module _ (q : ℕ → Text) (P : Ex → Type 0) (L : Dom → Type 0) where
         let b : List Mark × Exs = number_of_key Key.MinSize ms es a.0 a.1 in
         let s0 : List Mark × Exs = (valued Key.Size ∷ b.0, more_exs (bound_ex d) b.1) in
         let s1 : List Mark × Exs = number_of_key Key.Size ms es b.0 b.1 in
-        let ha : AllHave P a.1 = if-have P (has_key Key.MaxSize ms || (has_key Key.Total ms || has_key Key.Size ms)) a0 a1 (key-picked P Key.MaxSize ms es [] no_exs g.0 tt) (B.bounds d g.1, tt) in
+        let ha : AllHave P a.1 = if-have P (has_key Key.MaxSize ms || (has_key Key.Total ms || has_key Key.Size ms)) a0 a1
+        (key-picked P Key.MaxSize ms es [] no_exs g.0 tt) (B.bounds d g.1, tt) in
         let hb : AllHave P b.1 = key-picked P Key.MinSize ms es a.0 a.1 g.0 ha in
         (if-have P (has_key Key.Total ms) s0 s1 (B.bounds d g.1, hb) (key-picked P Key.Size ms es b.0 b.1 g.0 hb), (g.1, (g.2, tt)))
 
@@ -256,11 +265,15 @@ module _ (q : ℕ → Text) (P : Ex → Type 0) (L : Dom → Type 0) where
         let ha : AllHave P a.1 = key-picked-as P Key.MaxPartSize Key.MaxSize ms es [] no_exs g.0 tt in
         (key-picked-as P Key.PartSize Key.Size ms es b.0 b.1 g.0 (key-picked-as P Key.MinPartSize Key.MinSize ms es a.0 a.1 g.0 ha), g.1)
 
-    pub part-set-good : (ms : List Mark) (es : Exs) (d : Dom) → Good P L (partition_dom ms es d) → Good P L (part_set_dom size_terms ms es d)
+    pub part-set-good : (ms : List Mark) (es : Exs) (d : Dom) → Good P L (partition_dom ms es d) → Good P L
+        (part_set_dom size_terms ms es d)
     part-set-good ms es d g =
         let a0 : List Mark × Exs = number_as Key.MaxNumParts Key.MaxSize ms es [] no_exs in
         let a1 : List Mark × Exs = (valued Key.MaxSize ∷ [], more_exs (bound_ex d) no_exs) in
         let a : List Mark × Exs = if has_key Key.MaxNumParts ms || has_key Key.NumParts ms then a0 else a1 in
         let b : List Mark × Exs = number_as Key.MinNumParts Key.MinSize ms es a.0 a.1 in
-        let ha : AllHave P a.1 = if-have P (has_key Key.MaxNumParts ms || has_key Key.NumParts ms) a0 a1 (key-picked-as P Key.MaxNumParts Key.MaxSize ms es [] no_exs g.0 tt) (B.bounds d g.1, tt) in
-        (key-picked-as P Key.NumParts Key.Size ms es b.0 b.1 g.0 (key-picked-as P Key.MinNumParts Key.MinSize ms es a.0 a.1 g.0 ha), part-good ms es d g)
+        let ha : AllHave P a.1 = if-have P (has_key Key.MaxNumParts ms || has_key Key.NumParts ms) a0 a1
+        (key-picked-as P Key.MaxNumParts Key.MaxSize ms es [] no_exs g.0 tt) (B.bounds d g.1, tt) in (
+          key-picked-as P Key.NumParts Key.Size ms es b.0 b.1 g.0 (key-picked-as P Key.MinNumParts Key.MinSize ms es a.0 a.1 g.0 ha),
+          part-good ms es d g,
+        )

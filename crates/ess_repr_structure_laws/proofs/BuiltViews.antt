@@ -64,7 +64,8 @@ module _ (q : ℕ → Text) (P : Ex → Type 0) (L : Dom → Type 0) (built : Bu
   taken-has : (l : ℕ) (c : Dom) (e : Ex) → DomHas c → P e → P (all_taken_ex q l c e)
   taken-has l c e d h =
       C.all-has q P L built _ _
-      (C.some-has q P L built _ _ (eq-has _ (name_ex (q l)) (component-has c 2 (name_ex (q (suc l))) (name-has (suc l))) (name-has l)) ((suc l, refl), h, tt))
+      (C.some-has q P L built _ _ (eq-has _ (name_ex (q l)) (component-has c 2 (name_ex (q (suc l))) (name-has (suc l))) (name-has l))
+      ((suc l, refl), h, tt))
       ((l, refl), d, tt)
 
   pub pair-key-has : (l : ℕ) (c : Dom) (e : Ex) (k : Key) → DomHas c → P e → P (pair_key_ex q l c e k)
@@ -90,20 +91,23 @@ module _ (q : ℕ → Text) (P : Ex → Type 0) (L : Dom → Type 0) (built : Bu
   pairs-have l ms es d c e a x h =
       and-has _ _ (differ-has l d 1 e h)
       (and-has (total_size_ex ms es e) (keys_ex (pair_key_ex q l c e) ms)
-      (if-has (has_key Key.Total ms) (exact_size_ex ms es (ex1 false Op1.Bar e)) (truth_ex true) (exact-has ms es (ex1 false Op1.Bar e) a (C.bar-has q P L built e h)) (built.truths true))
+      (if-has (has_key Key.Total ms) (exact_size_ex ms es (ex1 false Op1.Bar e)) (truth_ex true)
+      (exact-has ms es (ex1 false Op1.Bar e) a (C.bar-has q P L built e h)) (built.truths true))
       (C.keys-have q P L built (pair_key_ex q l c e) ms (λ k. pair-key-has l c e k x h)))
 
   -- ---- partitions as sets
 
   held-has : (l : ℕ) (e : Ex) → P e → P (times_held_ex q l e)
   held-has l e h =
-      C.sum-has q P L built _ _ (C.number-has q P L built _ (two-have q P L built true Op2.Member (name_ex (q l)) (name_ex (q (suc l))) refl (name-has l) (name-has (suc l))))
+      C.sum-has q P L built _ _ (C.number-has q P L built _
+      (two-have q P L built true Op2.Member (name_ex (q l)) (name_ex (q (suc l))) refl (name-has l) (name-has (suc l))))
       ((suc l, refl), h, tt)
 
   one-size-has : (l : ℕ) (e : Ex) → P e → P (one_size_ex q l e)
   one-size-has l e h =
       C.all-has q P L built _ _
-      (C.all-has q P L built _ _ (eq-has _ _ (C.bar-has q P L built (name_ex (q l)) (name-has l)) (C.bar-has q P L built (name_ex (q (suc l))) (name-has (suc l)))) ((suc l, refl), h, tt))
+      (C.all-has q P L built _ _ (eq-has _ _ (C.bar-has q P L built (name_ex (q l)) (name-has l))
+      (C.bar-has q P L built (name_ex (q (suc l))) (name-has (suc l)))) ((suc l, refl), h, tt))
       ((l, refl), h, tt)
 
   regular-has : (e : Ex) (k : Key) → P e → P (regular_key_ex e k)
@@ -112,7 +116,8 @@ module _ (q : ℕ → Text) (P : Ex → Type 0) (L : Dom → Type 0) (built : Bu
 
   pub parts-have : (l : ℕ) (ms : List Mark) (d : Dom) (e : Ex) → DomHas d → P e → P (parts_ex q l ms d e)
   parts-have l ms d e x h =
-      and-has _ _ (C.all-has q P L built _ _ (eq-has (times_held_ex q l e) (number_ex (pos 1)) (held-has l e h) built.one) ((l, refl), x, tt))
+      and-has _ _ (C.all-has q P L built _ _ (eq-has (times_held_ex q l e) (number_ex (pos 1)) (held-has l e h) built.one)
+      ((l, refl), x, tt))
       (and-has _ _ (every-has l e _ h (le-has (number_ex (pos 1)) _ built.one (C.bar-has q P L built (name_ex (q l)) (name-has l))))
       (C.keys-have q P L built (regular_key_ex (one_size_ex q l e)) ms (λ k. regular-has (one_size_ex q l e) k (one-size-has l e h))))
 
@@ -136,10 +141,12 @@ module _ (q : ℕ → Text) (P : Ex → Type 0) (L : Dom → Type 0) (built : Bu
   parts-same-has l d c = eq-has (first_ex q l d) (second_ex q l c) (first-has l d) (second-has l c)
 
   pair-relation-key-has : (l : ℕ) (d c : Dom) (e : Ex) (k : Key) → DomHas d → P e → P (pair_relation_key_ex q l d c e k)
-  pair-relation-key-has l d c e Key.Reflexive x h = C.all-has q P L built _ _ (has-pair-has e (name_ex (q l)) (name_ex (q l)) h (name-has l) (name-has l)) ((l, refl), x, tt)
+  pair-relation-key-has l d c e Key.Reflexive x h = C.all-has q P L built _ _
+      (has-pair-has e (name_ex (q l)) (name_ex (q l)) h (name-has l) (name-has l)) ((l, refl), x, tt)
   pair-relation-key-has l d c e Key.Irreflexive x h = every-has l e _ h (not-has _ (parts-same-has l d c))
   pair-relation-key-has l d c e Key.Symmetric x h = every-has l e _ h (turned-has l d c e h)
-  pair-relation-key-has l d c e Key.AntiSymmetric x h = every-has l e _ h (or-has _ _ (not-has _ (turned-has l d c e h)) (parts-same-has l d c))
+  pair-relation-key-has l d c e Key.AntiSymmetric x h = every-has l e _ h
+      (or-has _ _ (not-has _ (turned-has l d c e h)) (parts-same-has l d c))
   pair-relation-key-has l d c e Key.ASymmetric x h = every-has l e _ h (not-has _ (turned-has l d c e h))
   pair-relation-key-has l d c e Key.Transitive x h =
       every-has l e _ h (every-has (suc l) e _ h (C.implies-has q P L built _ _ (eq-has _ _ (second-has l c) (first-has (suc l) d))
@@ -150,7 +157,8 @@ module _ (q : ℕ → Text) (P : Ex → Type 0) (L : Dom → Type 0) (built : Bu
   relation-key-has l (more_doms d (more_doms c no_doms)) e k x h = pair-relation-key-has l d c e k x.0 h
   relation-key-has l _ e k x h = built.truths false
 
-  pub relation-has : (l : ℕ) (ms : List Mark) (es : Exs) (ds : Doms) (as' : List Dom) (n : Text) (is : Exs) (e : Ex) → AllHave es → ListHas as' → AllHave is → B.DomsHave P ds → P e →
+  pub relation-has : (l : ℕ) (ms : List Mark) (es : Exs) (ds : Doms) (as' : List Dom) (n : Text) (is : Exs) (e : Ex) → AllHave es → ListHas
+      as' → AllHave is → B.DomsHave P ds → P e →
       P (relation_ex q l ms es ds as' n is e)
   relation-has l ms es ds as' n is e g x a y h =
       and-has _ _ (C.size-has q P L built ms es (true_count_ex q l as' n is) g (C.true-count-has q P L built l as' n is x a))
@@ -160,31 +168,38 @@ module _ (q : ℕ → Text) (P : Ex → Type 0) (L : Dom → Type 0) (built : Bu
 
   -- That cells differ.
   pub differ-cells-have : (l : ℕ) (as' : List Dom) (ss : List Shape) (is : Exs) → ListHas as' → AllHave is → P (differ_ex q l as' ss is)
-  differ-cells-have l as' (s ∷ []) is x a = C.differ-has q P L built _ _ (C.cell-has q P L built s.truth s.name l as' is a) (C.row-gens-have q P L built l as' x)
+  differ-cells-have l as' (s ∷ []) is x a = C.differ-has q P L built _ _ (C.cell-has q P L built s.truth s.name l as' is a)
+      (C.row-gens-have q P L built l as' x)
   differ-cells-have l as' _ is x a = built.truths false
 
-  value-key-has : (l : ℕ) (as' : List Dom) (ss : List Shape) (is : Exs) (r : Repr) (c : Dom) (e : Ex) (k : Key) → ListHas as' → AllHave is → DomHas c → P e → P (value_key_ex q l as' ss is r c e k)
+  value-key-has : (l : ℕ) (as' : List Dom) (ss : List Shape) (is : Exs) (r : Repr) (c : Dom) (e : Ex) (k : Key) → ListHas as' → AllHave is →
+      DomHas c → P e → P (value_key_ex q l as' ss is r c e k)
   value-key-has l as' ss is r c e Key.Injective x a y h =
-      if-has (is_one_cell r) (differ_ex q l as' ss is) (components_differ_ex q l c 2 e) (differ-cells-have l as' ss is x a) (differ-has l c 2 e h)
+      if-has (is_one_cell r) (differ_ex q l as' ss is) (components_differ_ex q l c 2 e) (differ-cells-have l as' ss is x a)
+      (differ-has l c 2 e h)
   value-key-has l as' ss is r c e k x a y h = pair-key-has l c e k y h
 
-  pub total-has : (l : ℕ) (ms : List Mark) (es : Exs) (as' : List Dom) (ss : List Shape) (is : Exs) (r : Repr) (c : Dom) (e part : Ex) → AllHave es → ListHas as' → AllHave is → DomHas c → P e → P part →
+  pub total-has : (l : ℕ) (ms : List Mark) (es : Exs) (as' : List Dom) (ss : List Shape) (is : Exs) (r : Repr) (c : Dom) (e part : Ex) →
+      AllHave es → ListHas as' → AllHave is → DomHas c → P e → P part →
       P (total_ex q l ms es as' ss is r c e part)
   total-has l ms es as' ss is r c e part g x a y h p =
       and-has _ _ (C.each-has q P L built l as' part x p)
       (and-has _ _ (C.size-has q P L built ms es (place_count_ex q l as') g (C.place-count-has q P L built l as' x))
       (C.keys-have q P L built (value_key_ex q l as' ss is r c e) ms (λ k. value-key-has l as' ss is r c e k x a y h)))
 
-  flag-key-has : (l : ℕ) (as' : List Dom) (n : Text) (is : Exs) (c : Dom) (e : Ex) (k : Key) → ListHas as' → AllHave is → DomHas c → P e → P (flag_key_ex q l as' n is c e k)
+  flag-key-has : (l : ℕ) (as' : List Dom) (n : Text) (is : Exs) (c : Dom) (e : Ex) (k : Key) → ListHas as' → AllHave is → DomHas c → P e → P
+      (flag_key_ex q l as' n is c e k)
   flag-key-has l as' n is c e Key.Total x a y h = C.each-has q P L built l as' _ x (C.cell-has q P L built true n l as' is a)
   flag-key-has l as' n is c e k x a y h = pair-key-has l c e k y h
 
-  pub partial-has : (l : ℕ) (ms : List Mark) (es : Exs) (as' : List Dom) (n : Text) (is : Exs) (ss : List Shape) (c : Dom) (e part : Ex) → AllHave es → ListHas as' → AllHave is → ShapesHave ss → DomHas c → P e → P part →
+  pub partial-has : (l : ℕ) (ms : List Mark) (es : Exs) (as' : List Dom) (n : Text) (is : Exs) (ss : List Shape) (c : Dom) (e part : Ex) →
+      AllHave es → ListHas as' → AllHave is → ShapesHave ss → DomHas c → P e → P part →
       P (partial_ex q l ms es as' n is ss c e part)
   partial-has l ms es as' n is ss c e part g x a s y h p =
       let f : P (cell_ex true n (row_index q l as' is)) = C.cell-has q P L built true n l as' is a in
       and-has _ _ (C.each-has q P L built l as' _ x (and-has _ _ (C.implies-has q P L built _ part f p)
-      (C.implies-has q P L built _ _ (not-has _ f) (C.zeros-have q P L built (level_behind l as') ss (row_index q l as' is) s (C.row-index-has q P L built l as' is a)))))
+      (C.implies-has q P L built _ _ (not-has _ f) (C.zeros-have q P L built (level_behind l as') ss (row_index q l as' is) s
+      (C.row-index-has q P L built l as' is a)))))
       (and-has _ _ (C.size-has q P L built ms es (true_count_ex q l as' n is) g (C.true-count-has q P L built l as' n is x a))
       (C.keys-have q P L built (flag_key_ex q l as' n is c e) ms (λ k. flag-key-has l as' n is c e k x a y h)))
 
@@ -212,17 +227,20 @@ module _ (q : ℕ → Text) (P : Ex → Type 0) (L : Dom → Type 0) (built : Bu
   after-has : (l : ℕ) (d : Dom) (w : Text) (is : Exs) → DomHas d → AllHave is → P (after_ex q l d w is)
   after-has l d w is x a =
       C.some-has q P L built _ _
-      (eq-has _ _ (part-number-has l w is a) (two-have q P L built false Op2.Plus _ (number_ex (pos 1)) refl (part-number-has (suc l) w is a) built.one))
+      (eq-has _ _ (part-number-has l w is a) (two-have q P L built false Op2.Plus _ (number_ex (pos 1)) refl
+      (part-number-has (suc l) w is a) built.one))
       ((suc l, refl), x, (two-have q P L built true Op2.Lt (name_ex (q (suc l))) (name_ex (q l)) refl (name-has (suc l)) (name-has l), tt))
 
   numbered-on-has : (l : ℕ) (d : Dom) (n : Ex) (w : Text) (is : Exs) → DomHas d → P n → AllHave is → P (numbered_on_ex q l d n w is)
   numbered-on-has l d n w is x h a =
       let p = part-number-has l w is a in
-      and-has _ _ (and-has _ _ (le-has (number_ex (pos 1)) _ built.one p) (le-has _ n p h)) (or-has _ _ (eq-has (number_ex (pos 1)) _ built.one p) (after-has l d w is x a))
+      and-has _ _ (and-has _ _ (le-has (number_ex (pos 1)) _ built.one p) (le-has _ n p h))
+      (or-has _ _ (eq-has (number_ex (pos 1)) _ built.one p) (after-has l d w is x a))
 
   number-taken-has : (l : ℕ) (d : Dom) (n : Ex) (w : Text) (is : Exs) → DomHas d → P n → AllHave is → P (taken_ex q l d n w is)
   number-taken-has l d n w is x h a =
-      or-has _ _ (eq-has n (number_ex (pos 0)) h built.zero) (C.some-has q P L built _ _ (eq-has _ n (part-number-has l w is a) h) ((l, refl), x, tt))
+      or-has _ _ (eq-has n (number_ex (pos 0)) h built.zero)
+      (C.some-has q P L built _ _ (eq-has _ n (part-number-has l w is a) h) ((l, refl), x, tt))
 
   each-size-has : (l : ℕ) (e : Ex) (k : Key) (m : Ex) → P e → P m → P (each_size_ex q l e k m)
   each-size-has l e k m h g = every-has l e _ h (C.key-has q P L built k m _ g (C.bar-has q P L built (name_ex (q l)) (name-has l)))
@@ -240,7 +258,8 @@ module _ (q : ℕ → Text) (P : Ex → Type 0) (L : Dom → Type 0) (built : Bu
   part-sizes-have l n e [] ms f h a = built.truths true
   part-sizes-have l n e (flag k ∷ ks) ms f h a = part-sizes-have l n e ks ms f h a
   part-sizes-have l n e (valued k ∷ ks) no_exs f h a = built.truths true
-  part-sizes-have l n e (valued k ∷ ks) (more_exs m ms) f h a = and-has _ _ (part-key-has l n e k m f h a.0) (part-sizes-have l n e ks ms f h a.1)
+  part-sizes-have l n e (valued k ∷ ks) (more_exs m ms) f h a = and-has _ _ (part-key-has l n e k m f h a.0)
+      (part-sizes-have l n e ks ms f h a.1)
 
   -- That parts are numbered.
   abbrev pub numbers_of : ℕ → Dom → Ex → Text → Exs → Ex
@@ -251,9 +270,12 @@ module _ (q : ℕ → Text) (P : Ex → Type 0) (L : Dom → Type 0) (built : Bu
       and-has _ _ (C.each-has q P L built l (d ∷ []) _ (x, tt) (numbered-on-has l d n w is x f a)) (number-taken-has l d n w is x f a)
 
   -- What attributes ask of the parts of a view.
-  pub part-attributes-have : (l : ℕ) (ks : List Mark) (ms : Exs) (n e : Ex) → AllHave ms → P n → P e → P (and_ex (part_sizes_ex q l n e ks ms) (keys_ex (regular_key_ex (one_size_ex q l e)) ks))
+  pub part-attributes-have : (l : ℕ) (ks : List Mark) (ms : Exs) (n e : Ex) → AllHave ms → P n → P e → P
+      (and_ex (part_sizes_ex q l n e ks ms) (keys_ex (regular_key_ex (one_size_ex q l e)) ks))
   part-attributes-have l ks ms n e g f h =
-      and-has _ _ (part-sizes-have l n e ks ms f h g) (C.keys-have q P L built (regular_key_ex (one_size_ex q l e)) ks (λ k. regular-has (one_size_ex q l e) k (one-size-has l e h)))
+      and-has _ _ (part-sizes-have l n e ks ms f h g)
+      (C.keys-have q P L built (regular_key_ex (one_size_ex q l e)) ks (λ k. regular-has (one_size_ex q l e) k (one-size-has l e h)))
 
-  pub numbered-has : (l : ℕ) (ks : List Mark) (ms : Exs) (d : Dom) (n : Ex) (w : Text) (is : Exs) (e : Ex) → AllHave ms → DomHas d → P n → AllHave is → P e → P (numbered_ex q l ks ms d n w is e)
+  pub numbered-has : (l : ℕ) (ks : List Mark) (ms : Exs) (d : Dom) (n : Ex) (w : Text) (is : Exs) (e : Ex) → AllHave ms → DomHas d → P n →
+      AllHave is → P e → P (numbered_ex q l ks ms d n w is e)
   numbered-has l ks ms d n w is e g x f a h = and-has _ _ (numbers-have l d n w is x f a) (part-attributes-have l ks ms n e g f h)

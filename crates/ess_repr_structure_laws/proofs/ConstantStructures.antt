@@ -56,7 +56,8 @@ module _ (q : ℕ → Text) (P : ℤ → Type 0) (p0 : P (pos 0)) (p1 : P (pos 1
   -- An operator that isn't a literal.
   node-in : (b : Bool) (op : Op) (es : Exs) → counts_nothing op ≡ true → AllHave es → K (node_ex b op es)
   node-in b op es c a i =
-      subst (λ l. Each (l ++ operand_constants (drops_items op) es) P) (sym (counted-none i op (operand_count es) c)) (operands-in es a (drops_items op))
+      subst (λ l. Each (l ++ operand_constants (drops_items op) es) P) (sym (counted-none i op (operand_count es) c))
+      (operands-in es a (drops_items op))
 
   two-in : (b : Bool) (o : Op2) (x y : Ex) → K x → K y → K (ex2 b o x y)
   two-in b o x y g h = node-in b (binary o) (more_exs x (more_exs y no_exs)) refl (g, (h, tt))
@@ -77,8 +78,10 @@ module _ (q : ℕ → Text) (P : ℤ → Type 0) (p0 : P (pos 0)) (p1 : P (pos 1
     dom-in (function_dom ms es d c) h =
         each-append (operand_constants false es ++ dom_constants d) (dom_constants c) P
         (each-append (operand_constants false es) (dom_constants d) P (operands-in es h.0 false) (dom-in d h.1)) (dom-in c h.2)
-    dom-in (relation_dom ms es ds) h = each-append (operand_constants false es) (doms_constants ds) P (operands-in es h.0 false) (doms-in ds h.1)
-    dom-in (partition_dom ms es d) h = each-append (operand_constants false es) (dom_constants d) P (operands-in es h.0 false) (dom-in d h.1)
+    dom-in (relation_dom ms es ds) h = each-append (operand_constants false es) (doms_constants ds) P (operands-in es h.0 false)
+        (doms-in ds h.1)
+    dom-in (partition_dom ms es d) h = each-append (operand_constants false es) (dom_constants d) P (operands-in es h.0 false)
+        (dom-in d h.1)
 
     doms-in : (ds : Doms) → B.DomsHave K ds → Each (doms_constants ds) P
     doms-in no_doms h = tt
@@ -118,7 +121,15 @@ module _ (q : ℕ → Text) (P : ℤ → Type 0) (p0 : P (pos 0)) (p1 : P (pos 1
       (comp-in one_ex (over (name_pat unused_name) d no_gens) one-in (each-append (dom_constants d) [] P h tt))
 
   sizes-in : SizesOf K
-  sizes-in = record { zero = zero-in; one = one-in; two = two-numeral-in; nodes = node-in; most = most-in; listed = λ d h. listed-in d (dom-in d h) }
+  sizes-in = record {
+    zero = zero-in;
+    one = one-in;
+    two = two-numeral-in;
+    nodes = node-in;
+    most = most-in;
+    listed = λ d h. listed-in d
+        (dom-in d h);
+  }
 
   -- What structures are built of spells such numbers.
   built-in : BuiltOf q K Any
@@ -173,25 +184,46 @@ module _ (q : ℕ → Text) (P : ℤ → Type 0) (p0 : P (pos 0)) (p1 : P (pos 1
     dom-out (name_dom a) p = tt
     dom-out (tuple_dom ds) p = doms-out ds p
     dom-out (record_dom fs ds) p = doms-out ds p
-    dom-out (matrix_dom is d) p = (doms-out is (each-left (doms_constants is) (dom_constants d) P p), dom-out d (each-right (doms_constants is) (dom_constants d) P p))
-    dom-out (set_dom ms es d) p =
-        (operands-out es (each-left (operand_constants false es) (dom_constants d) P p), dom-out d (each-right (operand_constants false es) (dom_constants d) P p))
-    dom-out (mset_dom ms es d) p =
-        (tt, operands-out es (each-left (operand_constants false es) (dom_constants d) P p), dom-out d (each-right (operand_constants false es) (dom_constants d) P p))
+    dom-out (matrix_dom is d) p = (
+      doms-out is (each-left (doms_constants is) (dom_constants d) P p),
+      dom-out d
+          (each-right (doms_constants is) (dom_constants d) P p),
+    )
+    dom-out (set_dom ms es d) p = (
+      operands-out es (each-left (operand_constants false es) (dom_constants d) P p),
+      dom-out d
+          (each-right (operand_constants false es) (dom_constants d) P p),
+    )
+    dom-out (mset_dom ms es d) p = (
+      tt,
+      operands-out es (each-left (operand_constants false es) (dom_constants d) P p),
+      dom-out d
+          (each-right (operand_constants false es) (dom_constants d) P p),
+    )
     dom-out (function_dom ms es d c) p =
         let r = each-left (operand_constants false es ++ dom_constants d) (dom_constants c) P p in (
           operands-out es (each-left (operand_constants false es) (dom_constants d) P r),
           dom-out d (each-right (operand_constants false es) (dom_constants d) P r),
           dom-out c (each-right (operand_constants false es ++ dom_constants d) (dom_constants c) P p),
         )
-    dom-out (relation_dom ms es ds) p =
-        (operands-out es (each-left (operand_constants false es) (doms_constants ds) P p), doms-out ds (each-right (operand_constants false es) (doms_constants ds) P p))
-    dom-out (partition_dom ms es d) p =
-        (operands-out es (each-left (operand_constants false es) (dom_constants d) P p), dom-out d (each-right (operand_constants false es) (dom_constants d) P p))
+    dom-out (relation_dom ms es ds) p = (
+      operands-out es (each-left (operand_constants false es) (doms_constants ds) P p),
+      doms-out ds
+          (each-right (operand_constants false es) (doms_constants ds) P p),
+    )
+    dom-out (partition_dom ms es d) p = (
+      operands-out es (each-left (operand_constants false es) (dom_constants d) P p),
+      dom-out d
+          (each-right (operand_constants false es) (dom_constants d) P p),
+    )
 
     doms-out : (ds : Doms) → Each (doms_constants ds) P → AllGood ds
     doms-out no_doms p = tt
-    doms-out (more_doms d ds) p = (dom-out d (each-left (dom_constants d) (doms_constants ds) P p), doms-out ds (each-right (dom_constants d) (doms_constants ds) P p))
+    doms-out (more_doms d ds) p = (
+      dom-out d (each-left (dom_constants d) (doms_constants ds) P p),
+      doms-out ds
+          (each-right (dom_constants d) (doms_constants ds) P p),
+    )
 
   -- The structure of a view spells such numbers, where its domain does.
   pub structure-in : (r : Repr) (d : Dom) (ns : List Text) (l : ℕ) → Each (dom_constants d) P → K (structure q size_terms r d ns l no_exs)

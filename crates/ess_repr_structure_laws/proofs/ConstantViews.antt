@@ -23,10 +23,13 @@ use Rattle.ess_repr_structure_laws.proofs.ConstantStructures.{structure-in}
 -- ---- numbers under their conditions
 
 module _ (x y : Text) (P : ℤ → Type 0) (p0 : P (pos 0)) (p1 : P (pos 1)) where
-  number-in : (e : Ex) → LiteralsFit false e → Each (tree_constants false e) P → Each (tree_constants false (summed (there x y e) (make_total x y e))) P
-  number-in e f p = summed-in P p0 p1 (there x y e) (make_total x y e) (asked false x y P p0 p1 e [] false false f p) (kept false x y P p0 p1 e [] false f p)
+  number-in : (e : Ex) → LiteralsFit false e → Each (tree_constants false e) P → Each
+      (tree_constants false (summed (there x y e) (make_total x y e))) P
+  number-in e f p = summed-in P p0 p1 (there x y e) (make_total x y e) (asked false x y P p0 p1 e [] false false f p)
+      (kept false x y P p0 p1 e [] false f p)
 
-  numbers-in : (es : Exs) → AllLiteralsFit false es → Each (operand_constants false es) P → Each (operand_constants false (total_numbers x y es)) P
+  numbers-in : (es : Exs) → AllLiteralsFit false es → Each (operand_constants false es) P → Each
+      (operand_constants false (total_numbers x y es)) P
   numbers-in no_exs f p = tt
   numbers-in (more_exs e es) f p =
       each-append (tree_constants false (summed (there x y e) (make_total x y e))) (operand_constants false (total_numbers x y es)) P
@@ -44,24 +47,32 @@ module _ (x y : Text) (P : ℤ → Type 0) (p0 : P (pos 0)) (p1 : P (pos 1)) whe
     total-in (tuple_dom ds) f p = all-total-in ds f p
     total-in (record_dom fs ds) f p = all-total-in ds f p
     total-in (matrix_dom is d) f p =
-        both-in (doms_constants is) (dom_constants d) (doms_constants (total_doms x y is)) (dom_constants (total_dom x y d)) (all-total-in is f.0) (total-in d f.1) p
+        both-in (doms_constants is) (dom_constants d) (doms_constants (total_doms x y is)) (dom_constants (total_dom x y d))
+        (all-total-in is f.0) (total-in d f.1) p
     total-in (set_dom ms es d) f p =
-        both-in (operand_constants false es) (dom_constants d) (operand_constants false (total_numbers x y es)) (dom_constants (total_dom x y d)) (numbers-in es f.0) (total-in d f.1) p
+        both-in (operand_constants false es) (dom_constants d) (operand_constants false (total_numbers x y es))
+        (dom_constants (total_dom x y d)) (numbers-in es f.0) (total-in d f.1) p
     total-in (mset_dom ms es d) f p =
-        both-in (operand_constants false es) (dom_constants d) (operand_constants false (total_numbers x y es)) (dom_constants (total_dom x y d)) (numbers-in es f.0) (total-in d f.1) p
+        both-in (operand_constants false es) (dom_constants d) (operand_constants false (total_numbers x y es))
+        (dom_constants (total_dom x y d)) (numbers-in es f.0) (total-in d f.1) p
     total-in (function_dom ms es d c) f p =
-        both-in (operand_constants false es ++ dom_constants d) (dom_constants c) (operand_constants false (total_numbers x y es) ++ dom_constants (total_dom x y d)) (dom_constants (total_dom x y c))
-        (both-in (operand_constants false es) (dom_constants d) (operand_constants false (total_numbers x y es)) (dom_constants (total_dom x y d)) (numbers-in es f.0) (total-in d f.1))
+        both-in (operand_constants false es ++ dom_constants d) (dom_constants c)
+        (operand_constants false (total_numbers x y es) ++ dom_constants (total_dom x y d)) (dom_constants (total_dom x y c))
+        (both-in (operand_constants false es) (dom_constants d) (operand_constants false (total_numbers x y es))
+        (dom_constants (total_dom x y d)) (numbers-in es f.0) (total-in d f.1))
         (total-in c f.2) p
     total-in (relation_dom ms es ds) f p =
-        both-in (operand_constants false es) (doms_constants ds) (operand_constants false (total_numbers x y es)) (doms_constants (total_doms x y ds)) (numbers-in es f.0) (all-total-in ds f.1) p
+        both-in (operand_constants false es) (doms_constants ds) (operand_constants false (total_numbers x y es))
+        (doms_constants (total_doms x y ds)) (numbers-in es f.0) (all-total-in ds f.1) p
     total-in (partition_dom ms es d) f p =
-        both-in (operand_constants false es) (dom_constants d) (operand_constants false (total_numbers x y es)) (dom_constants (total_dom x y d)) (numbers-in es f.0) (total-in d f.1) p
+        both-in (operand_constants false es) (dom_constants d) (operand_constants false (total_numbers x y es))
+        (dom_constants (total_dom x y d)) (numbers-in es f.0) (total-in d f.1) p
 
     all-total-in : (ds : Doms) → DomsLiteralsFit ds → Each (doms_constants ds) P → Each (doms_constants (total_doms x y ds)) P
     all-total-in no_doms f p = tt
     all-total-in (more_doms d ds) f p =
-        both-in (dom_constants d) (doms_constants ds) (dom_constants (total_dom x y d)) (doms_constants (total_doms x y ds)) (total-in d f.0) (all-total-in ds f.1) p
+        both-in (dom_constants d) (doms_constants ds) (dom_constants (total_dom x y d)) (doms_constants (total_doms x y ds))
+        (total-in d f.0) (all-total-in ds f.1) p
 
 -- ---- views
 
@@ -71,7 +82,8 @@ allowed d = pos 0 ∷ pos 1 ∷ pos 2 ∷ dom_constants d
 
 own : (d : Dom) → Each (dom_constants d) (Is (allowed d))
 own d = each-map (dom_constants d) (Is (dom_constants d)) (Is (allowed d))
-    (λ n p. later (same_int n (pos 0)) _ (later (same_int n (pos 1)) _ (later (same_int n (pos 2)) (list_any (same_int n) (dom_constants d)) p)))
+    (λ n p. later (same_int n (pos 0)) _ (later (same_int n (pos 1)) _
+    (later (same_int n (pos 2)) (list_any (same_int n) (dom_constants d)) p)))
     (each-itself (dom_constants d))
 
 all-allowed : (a : Ex) (d : Dom) → Each (tree_constants false a) (Is (allowed d)) → among_constants (constants_of_tree a) (allowed d) ≡ true
@@ -80,7 +92,8 @@ all-allowed a d p = among (constants_of_tree a) (allowed d) (refl, (refl, (refl,
 -- So structures spell constants of the domain.
 pub structures-spell : StructuresSpellConstants
 structures-spell = record {
-  own = λ q r d ns l. all-allowed (structure q size_terms r d ns l no_exs) d (structure-in q (Is (allowed d)) refl refl refl r d ns l (own d) false);
+  own = λ q r d ns l. all-allowed (structure q size_terms r d ns l no_exs) d
+      (structure-in q (Is (allowed d)) refl refl refl r d ns l (own d) false);
   guarded = λ x y q r d ns l f. all-allowed (structure q size_terms r (total_dom x y d) ns l no_exs) d
       (structure-in q (Is (allowed d)) refl refl refl r (total_dom x y d) ns l (total-in x y (Is (allowed d)) refl refl d f (own d)) false);
 }

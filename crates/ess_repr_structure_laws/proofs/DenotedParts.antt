@@ -68,18 +68,25 @@ set-denotes ms es d env h =
     record { domain = m.0; means = m.1; plain = and-right (not_below c.0) (no_negative_attribute m.0) p }
 
 -- A multiset's member, and how often one occurs.
-pub mset-denotes : (ms : List Mark) (es : Exs) (d : Dom) (env : Env) → Denotes (mset_dom ms es d) env → Natural (occurrences_ex ms es) env × Denotes d env
+pub mset-denotes : (ms : List Mark) (es : Exs) (d : Dom) (env : Env) → Denotes (mset_dom ms es d) env → Natural (occurrences_ex ms es) env ×
+    Denotes d env
 mset-denotes ms es d env h =
     let c = chained (attributes_of ms (meanings es env)) (λ ks. option_map (msets ks) (domain_of d env)) h.domain h.means in
     let m = mapped (msets c.0) (domain_of d env) h.domain c.2 in
     let p : not_below c.0 && no_negative_attribute m.0 ≡ true = ap no_negative_attribute m.2 ∙ h.plain in (
-      record { number = occurrences c.0; reads = occurrences-reads env ms es c.0 c.1 (and-left (not_below c.0) (no_negative_attribute m.0) p) },
+      record {
+        number = occurrences c.0;
+        reads = occurrences-reads env ms es c.0 c.1
+            (and-left (not_below c.0) (no_negative_attribute m.0) p);
+      },
       record { domain = m.0; means = m.1; plain = and-right (not_below c.0) (no_negative_attribute m.0) p },
     )
 
-pub function-denotes : (ms : List Mark) (es : Exs) (d c : Dom) (env : Env) → Denotes (function_dom ms es d c) env → Denotes d env × Denotes c env
+pub function-denotes : (ms : List Mark) (es : Exs) (d c : Dom) (env : Env) → Denotes (function_dom ms es d c) env → Denotes d env × Denotes
+    c env
 function-denotes ms es d c env h =
-    let k = chained (attributes_of ms (meanings es env)) (λ ks. and_then (domain_of d env) (λ x. option_map (functions ks x) (domain_of c env))) h.domain h.means in
+    let k = chained (attributes_of ms (meanings es env))
+    (λ ks. and_then (domain_of d env) (λ x. option_map (functions ks x) (domain_of c env))) h.domain h.means in
     let x = chained (domain_of d env) (λ x. option_map (functions k.0 x) (domain_of c env)) h.domain k.2 in
     let y = mapped (functions k.0 x.0) (domain_of c env) h.domain x.2 in
     let p : (not_below k.0 && no_negative_attribute x.0) && no_negative_attribute y.0 ≡ true = ap no_negative_attribute y.2 ∙ h.plain in

@@ -84,14 +84,16 @@ children-fit k rs d s f = go (child_forms k d) refl f
         let a = children-are k d ds (sound-well d s) (sound-numbers d s) e in
         let q : ds ≡ map (without_sizes k) (child_doms k d) = same-list ds (map (without_sizes k) (child_doms k d)) (sym e ∙ a.forms) in
         record {
-          fit = alike-fit rs (child_doms k d) (map (without_sizes k) (child_doms k d)) (all-alike k (child_doms k d)) ∙ ap (all_fit rs) (sym q) ∙ h;
+          fit = alike-fit rs (child_doms k d) (map (without_sizes k) (child_doms k d)) (all-alike k (child_doms k d)) ∙ ap (all_fit rs)
+              (sym q) ∙ h;
           sound = children-sound k d ds s e;
         }
 
 -- ---- numbers in children
 
 module _ (env : Env) where
-  front-numbers : (k : Key) (o : Option Ex) (p : List Mark × Exs) → WholeOption env o → AllNumbers p.1 env → AllNumbers (in_front k o p).1 env
+  front-numbers : (k : Key) (o : Option Ex) (p : List Mark × Exs) → WholeOption env o → AllNumbers p.1 env → AllNumbers (in_front k o p).1
+      env
   front-numbers k None p w h = h
   front-numbers k (Some e) p w h = (w, h)
 
@@ -105,10 +107,12 @@ module _ (env : Env) where
   if-whole false o p u v = v
 
   -- The set of a relation's tuples.
-  pub set-numbers : (ms : List Mark) (es : Exs) (ds : Doms) → AllNumbers es env → AllNumbersIn ds env → NumbersIn (tuple_set_dom ms es ds) env
+  pub set-numbers : (ms : List Mark) (es : Exs) (ds : Doms) → AllNumbers es env → AllNumbersIn ds env → NumbersIn (tuple_set_dom ms es ds)
+      env
   set-numbers ms es ds h n =
       subst (λ x. NumbersIn x env) (sym (sets-are ms es ds)) (
-        three-numbers (number_of Key.Size ms es) (number_of Key.MinSize ms es) (number_of Key.MaxSize ms es) (number-of-whole env Key.Size ms es h)
+        three-numbers (number_of Key.Size ms es) (number_of Key.MinSize ms es) (number_of Key.MaxSize ms es)
+            (number-of-whole env Key.Size ms es h)
             (number-of-whole env Key.MinSize ms es h) (number-of-whole env Key.MaxSize ms es h),
         n,
       )
@@ -119,24 +123,29 @@ module _ (env : Env) where
   pair-numbers ms es d c h n m =
       subst (λ x. NumbersIn x env) (sym (pairs-are ms es d c)) (
         three-numbers (pairs_size ms es d) (number_of Key.MinSize ms es) (pairs_greatest ms es d)
-            (if-whole (has_key Key.Total ms) (Some (bound_ex d)) (number_of Key.Size ms es) (bound-whole env d n) (number-of-whole env Key.Size ms es h))
+            (if-whole (has_key Key.Total ms) (Some (bound_ex d)) (number_of Key.Size ms es) (bound-whole env d n)
+            (number-of-whole env Key.Size ms es h))
             (number-of-whole env Key.MinSize ms es h)
-            (if-whole (has_key Key.MaxSize ms || (has_key Key.Total ms || has_key Key.Size ms)) (number_of Key.MaxSize ms es) (Some (bound_ex d))
+            (if-whole (has_key Key.MaxSize ms || (has_key Key.Total ms || has_key Key.Size ms)) (number_of Key.MaxSize ms es)
+            (Some (bound_ex d))
             (number-of-whole env Key.MaxSize ms es h) (bound-whole env d n)),
         (n, (m, tt)),
       )
 
   -- The set of a partition's parts.
-  pub part-numbers : (ms : List Mark) (es : Exs) (d : Dom) → AllNumbers es env → NumbersIn d env → NumbersIn (part_set_dom size_terms ms es d) env
+  pub part-numbers : (ms : List Mark) (es : Exs) (d : Dom) → AllNumbers es env → NumbersIn d env → NumbersIn
+      (part_set_dom size_terms ms es d) env
   part-numbers ms es d h n =
       subst (λ x. NumbersIn x env) (sym (parts-are ms es d)) (
-        three-numbers (number_of Key.NumParts ms es) (number_of Key.MinNumParts ms es) (parts_greatest ms es d) (number-of-whole env Key.NumParts ms es h)
+        three-numbers (number_of Key.NumParts ms es) (number_of Key.MinNumParts ms es) (parts_greatest ms es d)
+            (number-of-whole env Key.NumParts ms es h)
             (number-of-whole env Key.MinNumParts ms es h)
             (if-whole (has_key Key.MaxNumParts ms || has_key Key.NumParts ms) (number_of Key.MaxNumParts ms es) (Some (bound_ex d))
             (number-of-whole env Key.MaxNumParts ms es h) (bound-whole env d n)),
         subst (λ x. NumbersIn x env) (sym (part-is ms es d)) (
           three-numbers (number_of Key.PartSize ms es) (number_of Key.MinPartSize ms es) (number_of Key.MaxPartSize ms es)
-              (number-of-whole env Key.PartSize ms es h) (number-of-whole env Key.MinPartSize ms es h) (number-of-whole env Key.MaxPartSize ms es h),
+              (number-of-whole env Key.PartSize ms es h) (number-of-whole env Key.MinPartSize ms es h)
+              (number-of-whole env Key.MaxPartSize ms es h),
           n,
         ),
       )

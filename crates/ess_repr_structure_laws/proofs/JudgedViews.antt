@@ -27,7 +27,8 @@ use Rattle.ess_repr_structure_laws.proofs.ReadyAll.{ready}
 use Rattle.ess_repr_structure_laws.proofs.ReadyParts.{Known}
 
 -- What the judgements say is what is to be known.
-pub judged-known : (env0 : Env) (q : ℕ → Text) (apart : (m l : ℕ) → l < m → same_text (q m) (q l) ≡ false) (r : Repr) (d : Dom) (e : Domain) →
+pub judged-known : (env0 : Env) (q : ℕ → Text) (apart : (m l : ℕ) → l < m → same_text (q m) (q l) ≡ false) (r : Repr) (d : Dom) (e : Domain)
+    →
     JudgedView env0 q r d e → Known env0 q apart r d e
 judged-known env0 q apart r d e v =
     let a : NamesApart q d = v.apart in
@@ -54,7 +55,8 @@ found-long env0 q apart (n ∷ ns) [] f = absurd f
 found-long env0 q apart (n ∷ ns) (t ∷ ts) f = ap suc (found-long env0 q apart ns ts f.1)
 
 -- The structure of a view of which enough is known means that its cells are canonical.
-pub known-structures : (env0 : Env) (q : ℕ → Text) (apart : (m l : ℕ) → l < m → same_text (q m) (q l) ≡ false) (r : Repr) (d : Dom) (e : Domain) →
+pub known-structures : (env0 : Env) (q : ℕ → Text) (apart : (m l : ℕ) → l < m → same_text (q m) (q l) ≡ false) (r : Repr) (d : Dom)
+    (e : Domain) →
     Known env0 q apart r d e → (ns : List Text) (ts : Tables) (l : ℕ) (bs : Bound env0 q apart) → length ns ≡ width r →
     FoundBy env0 q apart ns ts → over_axes [] (axes_of r e) ts ≡ true → TablesFit (declarations r e) ts →
     meaning (structure q size_terms r d ns l no_exs) (M env0 q apart bs) ≡ Some (truth (canonical r e (cells_of ts)))
@@ -65,4 +67,5 @@ known-structures env0 q apart r d e k ns ts l bs w f o t =
 
 -- So the structures of views of judged domains do.
 pub judged-structures : JudgedStructuresMeanCanonical
-judged-structures env0 q apart r d e v ns ts l bs w f o t = known-structures env0 q apart r d e (judged-known env0 q apart r d e v) ns ts l bs w f o t
+judged-structures env0 q apart r d e v ns ts l bs w f o t = known-structures env0 q apart r d e (judged-known env0 q apart r d e v) ns ts l
+    bs w f o t

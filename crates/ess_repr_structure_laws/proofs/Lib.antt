@@ -16,9 +16,12 @@ pub mod OrderlyDenoted
 pub mod NamesApart
 pub mod OrderlyJudged
 pub mod JudgedViews
+pub mod SoundTogether
+pub mod JudgedNumbers
 -- What structures are built of
 pub mod BuiltStructures
 pub mod BuiltParts
+pub mod BuiltSets
 pub mod BuiltViews
 pub mod BuiltSizes
 pub mod BuiltAll
@@ -41,3 +44,5 @@ pub mod MetFunctions
 pub mod MetTuples
 pub mod MetAll
 pub mod MetViews
+-- Worked examples
+pub mod ExamplesStructures

@@ -58,10 +58,12 @@ over-inner bs i js (a ∷ ass) [] n h = cc
 over-inner bs i js (a ∷ ass) (t ∷ ts) n h =
     let one = and-left (is_filled t && same_axes (drop (length i) t.axes) (bs ++ a)) (over_axes i (map (λ a. bs ++ a) ass) ts) h in
     and-both (is_filled t && same_axes (drop (length (i ++ js)) t.axes) a) (over_axes (i ++ js) ass ts)
-    (and-both (is_filled t) (same_axes (drop (length (i ++ js)) t.axes) a) (and-left (is_filled t) (same_axes (drop (length i) t.axes) (bs ++ a)) one)
+    (and-both (is_filled t) (same_axes (drop (length (i ++ js)) t.axes) a)
+    (and-left (is_filled t) (same_axes (drop (length i) t.axes) (bs ++ a)) one)
     (ap (λ z. same_axes z a) (drop-both i js t.axes)
     ∙ same-drop (length js) bs (drop (length i) t.axes) a n (and-right (is_filled t) (same_axes (drop (length i) t.axes) (bs ++ a)) one)))
-    (over-inner bs i js ass ts n (and-right (is_filled t && same_axes (drop (length i) t.axes) (bs ++ a)) (over_axes i (map (λ a. bs ++ a) ass) ts) h))
+    (over-inner bs i js ass ts n (and-right (is_filled t && same_axes (drop (length i) t.axes) (bs ++ a))
+    (over_axes i (map (λ a. bs ++ a) ass) ts) h))
 
 -- Of tables side by side, those on each side are.
 pub over-split : (i : List ℤ) (ass bss : List Axes) (ts : Tables) → over_axes i (ass ++ bss) ts ≡ true →
@@ -85,7 +87,8 @@ lists-long (b ∷ bs) = go b (lists-long bs)
     front k [] ms x y = y
     front k (p ∷ ps) ms x y = (ap suc x.0, front k ps ms x.1 y)
 
-    go : (ks : List ℤ) → AllOf (lists_of bs) (λ js. length js ≡ length bs) → AllOf (add_heads ks (lists_of bs)) (λ js. length js ≡ suc (length bs))
+    go : (ks : List ℤ) → AllOf (lists_of bs) (λ js. length js ≡ length bs) → AllOf (add_heads ks (lists_of bs))
+        (λ js. length js ≡ suc (length bs))
     go [] h = tt
     go (k ∷ ks) h = front k (lists_of bs) (add_heads ks (lists_of bs)) h (go ks h)
 
@@ -116,7 +119,12 @@ module _ (env0 : Env) (q : ℕ → Text) (q-apart : (m l : ℕ) → l < m → sa
     pub are : ds ≡ names ++ bs
 
   pub later-more : (l : ℕ) (bs ds : Names) (k : ℕ) (v : Value) → Later l bs ds → Later l bs ((name_from l k, v) ∷ ds)
-  later-more l bs ds k v h = record { names = (name_from l k, v) ∷ h.names; from = (from-low l k, h.from); are = ap (λ z. (name_from l k, v) ∷ z) h.are }
+  later-more l bs ds k v h = record {
+    names = (name_from l k, v) ∷ h.names;
+    from = (from-low l k, h.from);
+    are = ap
+        (λ z. (name_from l k, v) ∷ z) h.are;
+  }
 
   -- Tables meet the structures of the expression whatever is bound.
   abbrev pub G : Ex → Type 0
@@ -140,18 +148,24 @@ module _ (env0 : Env) (q : ℕ → Text) (q-apart : (m l : ℕ) → l < m → sa
   -- ---- views
 
   -- The view of tables that meet its structure is tidy.
-  pub view-met : (r : Repr) (d : Dom) (e : Domain) → StructureOf env0 q q-apart size_terms r d e → DomainIs env0 q q-apart d e → B.DomHas G d →
-      (out : Bool) (ns : List Text) (ts : Tables) (l : ℕ) (is : Exs) (i : List ℤ) (bs : Names) → Placed env0 q q-apart (shapes q size_terms r d ns) (axes_members r e) ts →
-      Fit (declarations_below out r e) (behind i (cells_of ts)) → over_axes i (all_codes env0 q q-apart (axes_members r e)) ts ≡ true → Steady env0 q q-apart l is i bs → B.AllHave G is →
+  pub view-met : (r : Repr) (d : Dom) (e : Domain) → StructureOf env0 q q-apart size_terms r d e → DomainIs env0 q q-apart d e → B.DomHas G
+      d →
+      (out : Bool) (ns : List Text) (ts : Tables) (l : ℕ) (is : Exs) (i : List ℤ) (bs : Names) → Placed env0 q q-apart
+      (shapes q size_terms r d ns) (axes_members r e) ts →
+      Fit (declarations_below out r e) (behind i (cells_of ts)) → over_axes i (all_codes env0 q q-apart (axes_members r e)) ts ≡ true →
+      Steady env0 q q-apart l is i bs → B.AllHave G is →
       as_truth (meaning (structure q size_terms r d ns l is) (N bs)) ≡ true → H l bs (view_ex r d (shapes q size_terms r d ns) is)
   view-met r d e s dm md out ns ts l is i bs p c o st ix t = record {
     at = λ ds x.
         let y : Later l bs ds = x in
         subst (λ z. Meets (view_ex r d (shapes q size_terms r d ns) is) (N z)) (sym y.are) (
-          ap (λ o. tidy_in r o (tables_in env0.cells (shape_names (shapes q size_terms r d ns))) (indices (meanings is (N (y.names ++ bs))))) (dm (y.names ++ bs))
-              ∙ ap (λ o. tidy_in r (Some e) o (indices (meanings is (N (y.names ++ bs))))) (tables-found env0 q q-apart (shapes q size_terms r d ns) (axes_members r e) ts p)
+          ap (λ o. tidy_in r o (tables_in env0.cells (shape_names (shapes q size_terms r d ns)))
+              (indices (meanings is (N (y.names ++ bs))))) (dm (y.names ++ bs))
+              ∙ ap (λ o. tidy_in r (Some e) o (indices (meanings is (N (y.names ++ bs)))))
+              (tables-found env0 q q-apart (shapes q size_terms r d ns) (axes_members r e) ts p)
               ∙ ap (tidy_in r (Some e) (Some ts)) (st y.names y.from)
-              ∙ and-both (over_axes i (axes_of r e) ts) (tidy_cells r e (behind i (cells_of ts))) (ap (λ a. over_axes i a ts) (sym s.axes) ∙ o) tidied,
+              ∙ and-both (over_axes i (axes_of r e) ts) (tidy_cells r e (behind i (cells_of ts)))
+              (ap (λ a. over_axes i a ts) (sym s.axes) ∙ o) tidied,
           P.dom-met env0 q q-apart Always (λ k. k) (λ bs k v r. tt) d md (y.names ++ bs) tt,
           P.operands-met env0 q q-apart Always (λ k. k) (λ bs k v r. tt) false is ix (y.names ++ bs) tt,
         );
@@ -169,16 +183,20 @@ module _ (env0 : Env) (q : ℕ → Text) (q-apart : (m l : ℕ) → l < m → sa
   MetAt l is part js = (cs : Names) → Steady env0 q q-apart l is js cs → MetIn part (N cs)
 
   -- At each place.
-  gens-met : (l : ℕ) (as' : List Dom) (vss : List (List Value)) (is : Exs) (i : List ℤ) (bs : Names) (part : Ex) → AxesAre env0 q q-apart as' vss → B.ListHas G as' →
-      Steady env0 q q-apart l is i bs → AllOf (lists_of (codes env0 q q-apart vss)) (λ js. MetAt (level_behind l as') (row_index q l as' is) part (i ++ js)) →
+  gens-met : (l : ℕ) (as' : List Dom) (vss : List (List Value)) (is : Exs) (i : List ℤ) (bs : Names) (part : Ex) → AxesAre env0 q q-apart
+      as' vss → B.ListHas G as' →
+      Steady env0 q q-apart l is i bs → AllOf (lists_of (codes env0 q q-apart vss))
+      (λ js. MetAt (level_behind l as') (row_index q l as' is) part (i ++ js)) →
       MeetsGens (row_gens q l as') (N bs) (λ here. Meets part here)
-  gens-met l [] [] is i bs part ax m st h = let x : MetIn part (N bs) = h.0 bs (subst (λ j. Steady env0 q q-apart l is j bs) (sym (append-nil i)) st) in x.met
+  gens-met l [] [] is i bs part ax m st h = let x : MetIn part (N bs) = h.0 bs
+      (subst (λ j. Steady env0 q q-apart l is j bs) (sym (append-nil i)) st) in x.met
   gens-met l [] (vs ∷ vss) is i bs part ax m st h = absurd ax
   gens-met l (a ∷ as') [] is i bs part ax m st h = absurd ax
   gens-met l (a ∷ as') (vs ∷ vss) is i bs part ax m st h = (
     P.dom-met env0 q q-apart Always (λ k. k) (λ bs k v r. tt) a m.0 bs tt,
     subst (λ o. EachOf o K) (sym (ax.0 bs)) (each vs h
-        (λ u x. gens-met (suc l) as' vss (add_ex is (name_ex (q l))) (i ++ (code u ∷ [])) ((l, u) ∷ bs) part ax.1 m.1 (steady-name env0 q q-apart l u is i bs st) x)),
+        (λ u x. gens-met (suc l) as' vss (add_ex is (name_ex (q l))) (i ++ (code u ∷ [])) ((l, u) ∷ bs) part ax.1 m.1
+        (steady-name env0 q q-apart l u is i bs st) x)),
   )
     where
       K : Value → Type 0
@@ -190,7 +208,8 @@ module _ (env0 : Env) (q : ℕ → Text) (q-apart : (m l : ℕ) → l < m → sa
       Here : List ℤ → Type 0
       Here js = MetAt (level_behind l (a ∷ as')) (row_index q l (a ∷ as') is) part js
 
-      front : (k : ℤ) (ps ms : List (List ℤ)) → AllOf (map (λ p. k ∷ p) ps ++ ms) (λ js. Here (i ++ js)) → AllOf ps (λ js. Here ((i ++ (k ∷ [])) ++ js))
+      front : (k : ℤ) (ps ms : List (List ℤ)) → AllOf (map (λ p. k ∷ p) ps ++ ms) (λ js. Here (i ++ js)) → AllOf ps
+          (λ js. Here ((i ++ (k ∷ [])) ++ js))
       front k [] ms h = tt
       front k (p ∷ ps) ms h = (subst Here (sym (append_assoc i (k ∷ []) p)) h.0, front k ps ms h.1)
 
@@ -198,12 +217,19 @@ module _ (env0 : Env) (q : ℕ → Text) (q-apart : (m l : ℕ) → l < m → sa
       rest k [] ms h = h
       rest k (p ∷ ps) ms h = rest k ps ms h.1
 
-      each : (us : List Value) → AllOf (add_heads (map code us) L) (λ js. Here (i ++ js)) → ((u : Value) → AllOf L (λ js. Here ((i ++ (code u ∷ [])) ++ js)) → K u) → Each us K
+      each : (us : List Value) → AllOf (add_heads (map code us) L) (λ js. Here (i ++ js)) →
+          ((u : Value) → AllOf L (λ js. Here ((i ++ (code u ∷ [])) ++ js)) → K u) → Each us K
       each [] h ih = tt
-      each (u ∷ us) h ih = (ih u (front (code u) L (add_heads (map code us) L) h), each us (rest (code u) L (add_heads (map code us) L) h) ih)
+      each (u ∷ us) h ih = (
+        ih u (front (code u) L (add_heads (map code us) L) h),
+        each us (rest (code u) L (add_heads (map code us) L) h)
+            ih,
+      )
 
-  pub each-met : (l : ℕ) (as' : List Dom) (vss : List (List Value)) (is : Exs) (i : List ℤ) (bs : Names) (part : Ex) → AxesAre env0 q q-apart as' vss → B.ListHas G as' →
-      Steady env0 q q-apart l is i bs → AllOf (lists_of (codes env0 q q-apart vss)) (λ js. MetAt (level_behind l as') (row_index q l as' is) part (i ++ js)) →
+  pub each-met : (l : ℕ) (as' : List Dom) (vss : List (List Value)) (is : Exs) (i : List ℤ) (bs : Names) (part : Ex) → AxesAre env0 q
+      q-apart as' vss → B.ListHas G as' →
+      Steady env0 q q-apart l is i bs → AllOf (lists_of (codes env0 q q-apart vss))
+      (λ js. MetAt (level_behind l as') (row_index q l as' is) part (i ++ js)) →
       MetIn (each_ex q l as' part) (N bs)
   each-met l as' vss is i bs part ax m st h = record { met = (gens-met l as' vss is i bs part ax m st h, tt) }
 
@@ -216,7 +242,8 @@ module _ (env0 : Env) (q : ℕ → Text) (q-apart : (m l : ℕ) → l < m → sa
     met = (
       (
         P.dom-met env0 q q-apart Always (λ k. k) (λ bs k v r. tt) (upto size) (record { at = λ cs r. tt }, (g, tt)) bs tt,
-        subst (λ o. EachOf o K) (sym (ap (λ o. members_in (option_map integers (spans_of (both_ends ∷ []) (Some (number (pos 1)) ∷ o ∷ [])))) hs ∙ ap Some (members-ones s)))
+        subst (λ o. EachOf o K) (sym (ap (λ o. members_in
+            (option_map integers (spans_of (both_ends ∷ []) (Some (number (pos 1)) ∷ o ∷ [])))) hs ∙ ap Some (members-ones s)))
             (run 1 s (λ k a b. h k a (omega (arith, b)))),
       ),
       tt,
@@ -229,6 +256,10 @@ module _ (env0 : Env) (q : ℕ → Text) (q-apart : (m l : ℕ) → l < m → sa
       run : (a n : ℕ) → ((k : ℕ) → a ≤ k → k < a + n → MetIn part (N ((l, number (pos k)) ∷ bs))) → Each (map number (run_from a n)) K
       run a zero f = tt
       run a (suc n) f = (
-        (t.at ((l, number (pos a)) ∷ bs) tt, λ w. let x : MetIn part (N ((l, number (pos a)) ∷ bs)) = f a (omega arith) (omega arith) in x.met),
+        (
+          t.at ((l, number (pos a)) ∷ bs) tt,
+          λ w. let x : MetIn part (N ((l, number (pos a)) ∷ bs)) = f a (omega arith) (omega arith) in
+              x.met,
+        ),
         run (suc a) n (λ k x y. f k (omega arith) (omega arith)),
       )

@@ -32,7 +32,8 @@ implies-met a b env p f = record { met = (p.met, λ t. (f.met, tt)) }
 abbrev pub Any : Dom → Type 0
 Any d = Unit {0}
 
-module _ (env0 : Env) (q : ℕ → Text) (q-apart : (m l : ℕ) → l < m → same_text (q m) (q l) ≡ false) (R : Bound env0 q q-apart → Type 0) (f : ℕ → ℕ)
+module _ (env0 : Env) (q : ℕ → Text) (q-apart : (m l : ℕ) → l < m → same_text (q m) (q l) ≡ false) (R : Bound env0 q q-apart → Type 0)
+    (f : ℕ → ℕ)
     (more : (bs : Bound env0 q q-apart) (k : ℕ) (v : Value) → R bs → R ((f k, v) ∷ bs)) where
   abbrev Names : Type 0
   Names = Bound env0 q q-apart
@@ -80,8 +81,11 @@ module _ (env0 : Env) (q : ℕ → Text) (q-apart : (m l : ℕ) → l < m → sa
   gens-met : (gs : Gens) (e : Ex) → W e → B.GensHave own_name W gs → (bs : Names) → R bs → MeetsGens gs (N bs) (λ here. Meets e here)
   gens-met no_gens e t h bs r = t.at bs r
   gens-met (over (name_pat a) d gs) e t h bs r =
-      subst (λ n. MeetsGens (over (name_pat n) d gs) (N bs) (λ here. Meets e here)) (sym h.0.1)
-      (dom-met d h.1 bs r, each-of-always (members_in (domain_of d (N bs))) _ (λ v. gens-met gs e t h.2 ((f h.0.0, v) ∷ bs) (more bs h.0.0 v r)))
+      subst (λ n. MeetsGens (over (name_pat n) d gs) (N bs) (λ here. Meets e here)) (sym h.0.1) (
+        dom-met d h.1 bs r,
+        each-of-always (members_in (domain_of d (N bs))) _
+            (λ v. gens-met gs e t h.2 ((f h.0.0, v) ∷ bs) (more bs h.0.0 v r)),
+      )
   gens-met (over (tuple_pat ps) d gs) e t h bs r = absurd h
   gens-met (from (name_pat a) x gs) e t h bs r =
       subst (λ n. MeetsGens (from (name_pat n) x gs) (N bs) (λ here. Meets e here)) (sym h.0.1)
@@ -100,7 +104,10 @@ module _ (env0 : Env) (q : ℕ → Text) (q-apart : (m l : ℕ) → l < m → sa
     two = record { at = λ bs r. tt };
     nodes = λ b op es u a. record { at = λ bs r. operands-met (guards op) es a bs r };
     most = λ a h. one-met false (word Fun.Max) (node_ex false matrix_literal (more_exs zero_ex (more_exs a no_exs)))
-        (record { at = λ bs r. operands-met (guards matrix_literal) (more_exs zero_ex (more_exs a no_exs)) (record { at = λ cs s. tt }, (h, tt)) bs r });
+        (record {
+          at = λ bs r. operands-met (guards matrix_literal) (more_exs zero_ex (more_exs a no_exs))
+              (record { at = λ cs s. tt }, (h, tt)) bs r;
+        });
     listed = λ d h. one-met false (word Fun.Sum) (comp_ex one_ex (over (name_pat unused_name) d no_gens))
         (record { at = λ bs r. (dom-met d h bs r, each-of-always (members_in (domain_of d (N bs))) _ (λ v. tt)) });
   }

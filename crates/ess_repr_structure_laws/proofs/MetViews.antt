@@ -1,19 +1,17 @@
 -- Tables over the declared axes with items in the declared domains meet the structures of views of judged domains, also with the
 -- domain's numbers under their conditions.
-use Rattle.std.proofs.Common.{◌≡◌, refl, sym, ap, ◌∙◌, subst, ℕ, ◌<◌, true, false, ◌&&◌, List, [], ◌∷◌, length}
-use Rattle.std.proofs.lemmas.Bool.{eqb-true}
+use Rattle.std.proofs.Common.{◌≡◌, refl, sym, ap, ◌∙◌, subst, ℕ, ◌<◌, true, false, List, [], length}
 use Rattle.ess_semantics.specs.Values.{Text}
 use Rattle.ess_semantics.specs.Order.{same_text}
 use Rattle.ess_semantics.specs.Trees.{Repr, Ex, Exs, no_exs, more_exs, Dom, Doms, bool_dom, int_dom, name_dom, tuple_dom, record_dom, matrix_dom, set_dom, mset_dom, function_dom, relation_dom, partition_dom, no_doms, more_doms}
 use Rattle.ess_semantics.specs.Domains.{Domain}
-use Rattle.ess_semantics.specs.Tables.{Tables, volume, cell_at, is_filled, same_axes}
+use Rattle.ess_semantics.specs.Tables.{Tables}
 use Rattle.ess_semantics.specs.Cells.{cells_of}
 use Rattle.ess_semantics.specs.Representations.{width}
-use Rattle.ess_semantics.specs.Declarations.{Declaration, declarations, axes_of}
+use Rattle.ess_semantics.specs.Declarations.{declarations, axes_of}
 use Rattle.ess_semantics.specs.Tidy.{over_axes}
 use Rattle.ess_semantics.specs.Meaning.{Env}
 use Rattle.ess_semantics.specs.Meets.{Meets, MeetsAll, MeetsDom, MeetsDoms}
-use Rattle.ess_semantics.proofs.Tests.{and-left, and-right}
 use Rattle.ess_guard_laws.specs.Guard.{there, make_total, make_total_term}
 use Rattle.ess_guard_laws.proofs.StructuresMet as S
 use Rattle.ess_guard_laws.proofs.Terms.{summed-met}
@@ -22,11 +20,10 @@ use Rattle.ess_repr_laws.specs.Structure.{structure}
 use Rattle.ess_repr_laws.specs.StructureMeaning.{Bound, M, FoundBy}
 use Rattle.ess_repr_laws.proofs.AxesOfTables.{axes-differ}
 use Rattle.ess_repr_laws.proofs.Behind.{behind-none}
-use Rattle.ess_repr_laws.proofs.ExactCells.{Exact, AllExact, exact-items}
-use Rattle.ess_repr_laws.proofs.RowsOfCells.{axes_in}
 use Rattle.ess_repr_laws.proofs.StructureAll.{structures}
 use Rattle.ess_repr_laws.proofs.StructureFits.{Fit}
 use Rattle.ess_repr_laws.proofs.StructureOf.{StructureOf}
+use Rattle.ess_repr_laws.proofs.StructureOfTables.{tables-exact}
 use Rattle.ess_repr_laws.proofs.TablesWithin.{tables-within}
 use Rattle.ess_repr_declare_laws.specs.SizeTerms.{size_terms}
 use Rattle.ess_repr_structure_laws.specs.Laws.{TablesMeetStructures}
@@ -72,16 +69,6 @@ module _ (x y : Text) (env : Env) where
 
 -- ---- views
 
--- Filled tables over the declared axes are there exactly over these.
-filled-exact : (ds : List Declaration) (ts : Tables) → over_axes [] (axes_in ds) ts ≡ true → TablesFit ds ts → AllExact (axes_in ds) (cells_of ts)
-filled-exact [] [] o f = tt
-filled-exact [] (t ∷ ts) o f = absurd f
-filled-exact (d ∷ ds) [] o f = absurd f
-filled-exact (d ∷ ds) (t ∷ ts) o f =
-    let one = and-left (is_filled t && same_axes t.axes d.axes) (over_axes [] (axes_in ds) ts) o in
-    let full = eqb-true (length t.items) (volume t.axes) (and-left (is_filled t) (same_axes t.axes d.axes) one) in
-    (subst (λ a. Exact a (cell_at t)) f.0 (exact-items t.axes t.items full), filled-exact ds ts (and-right (is_filled t && same_axes t.axes d.axes) (over_axes [] (axes_in ds) ts) o) f.2)
-
 module _ (env0 : Env) (q : ℕ → Text) (q-apart : (m l : ℕ) → l < m → same_text (q m) (q l) ≡ false) where
   abbrev Names : Type 0
   Names = Bound env0 q q-apart
@@ -107,7 +94,12 @@ module _ (env0 : Env) (q : ℕ → Text) (q-apart : (m l : ℕ) → l < m → sa
     met-good (matrix_dom is d) m = (met-all-good is (λ bs. let z = m bs in z.0), met-good d (λ bs. let z = m bs in z.1))
     met-good (set_dom ms es d) m = (all-met es (λ bs. let z = m bs in z.0), met-good d (λ bs. let z = m bs in z.1))
     met-good (mset_dom ms es d) m = (tt, all-met es (λ bs. let z = m bs in z.0), met-good d (λ bs. let z = m bs in z.1))
-    met-good (function_dom ms es d c) m = (all-met es (λ bs. let z = m bs in z.0), met-good d (λ bs. let z = m bs in z.1), met-good c (λ bs. let z = m bs in z.2))
+    met-good (function_dom ms es d c) m = (
+      all-met es (λ bs. let z = m bs in z.0),
+      met-good d (λ bs. let z = m bs in z.1),
+      met-good c
+          (λ bs. let z = m bs in z.2),
+    )
     met-good (relation_dom ms es ds) m = (all-met es (λ bs. let z = m bs in z.0), met-all-good ds (λ bs. let z = m bs in z.1))
     met-good (partition_dom ms es d) m = (all-met es (λ bs. let z = m bs in z.0), met-good d (λ bs. let z = m bs in z.1))
 
@@ -116,15 +108,18 @@ module _ (env0 : Env) (q : ℕ → Text) (q-apart : (m l : ℕ) → l < m → sa
     met-all-good (more_doms d ds) m = (met-good d (λ bs. let z = m bs in z.0), met-all-good ds (λ bs. let z = m bs in z.1))
 
   -- Tables that fit meet the structure of a view of which enough is known.
-  known-met : (r : Repr) (d : Dom) (e : Domain) → Known env0 q q-apart r d e → ((bs : Names) → MeetsDom d (N bs)) → (ns : List Text) (ts : Tables) (l : ℕ) (bs : Names) →
-      length ns ≡ width r → FoundBy env0 q q-apart ns ts → over_axes [] (axes_of r e) ts ≡ true → TablesFit (declarations r e) ts → Meets (structure q size_terms r d ns l no_exs) (N bs)
+  known-met : (r : Repr) (d : Dom) (e : Domain) → Known env0 q q-apart r d e → ((bs : Names) → MeetsDom d (N bs)) → (ns : List Text)
+      (ts : Tables) (l : ℕ) (bs : Names) →
+      length ns ≡ width r → FoundBy env0 q q-apart ns ts → over_axes [] (axes_of r e) ts ≡ true → TablesFit (declarations r e) ts → Meets
+      (structure q size_terms r d ns l no_exs) (N bs)
   known-met r d e k m ns ts l bs w f o t =
       let h = ready env0 q q-apart r d e k in
       let s : StructureOf env0 q q-apart size_terms r d e = structures env0 q q-apart size_terms r d e h in
       let p : Met env0 q q-apart r d e = met-all env0 q q-apart r d e k h (met-good d m) in
       let c = tables-within (declarations r e) ts (axes-differ r e s.covered) o t in
       let x : MetIn (structure q size_terms r d ns l no_exs) (N bs) =
-      p.met false ns ts l no_exs [] bs (s.found ns ts w f) (subst (Fit (declarations r e)) (sym (behind-none (cells_of ts))) (c, filled-exact (declarations r e) ts o t))
+      p.met false ns ts l no_exs [] bs (s.found ns ts w f)
+      (subst (Fit (declarations r e)) (sym (behind-none (cells_of ts))) (c, tables-exact (declarations r e) ts o t))
       (ap (λ a. over_axes [] a ts) s.axes ∙ o) (λ cs g. refl) tt in x.met
 
 -- So structures are met.
@@ -132,5 +127,6 @@ pub structures-met : TablesMeetStructures
 structures-met = record {
   own = λ env0 q apart r d e v m ns ts l bs w f o t. known-met env0 q apart r d e (judged-known env0 q apart r d e v) m ns ts l bs w f o t;
   guarded = λ x y env0 q apart r d e v m ns ts l bs w f o t.
-      known-met env0 q apart r (total_dom x y d) e (known-total env0 q apart d e x y r (judged-known env0 q apart r d e v) v) (λ cs. total-dom-met x y (M env0 q apart cs) d (m cs)) ns ts l bs w f o t;
+      known-met env0 q apart r (total_dom x y d) e (known-total env0 q apart d e x y r (judged-known env0 q apart r d e v) v)
+      (λ cs. total-dom-met x y (M env0 q apart cs) d (m cs)) ns ts l bs w f o t;
 }

@@ -112,7 +112,8 @@ set-neat ks xs n = (sizes-told (attribute Key.Size ks) (attribute Key.MinSize ks
 -- The set of a partition's parts.
 pub parts-neat : (ks : List Attribute) (x : Domain) → NeatDomain x → NeatDomain (child_parts ks x)
 parts-neat ks x n = (
-  sizes-told (attribute Key.NumParts ks) (attribute Key.MinNumParts ks) (if has Key.NumParts ks then attribute Key.MaxNumParts ks else or_else (attribute Key.MaxNumParts ks) (Some (bound x))),
+  sizes-told (attribute Key.NumParts ks) (attribute Key.MinNumParts ks)
+      (if has Key.NumParts ks then attribute Key.MaxNumParts ks else or_else (attribute Key.MaxNumParts ks) (Some (bound x))),
   (sizes-told (attribute Key.PartSize ks) (attribute Key.MinPartSize ks) (attribute Key.MaxPartSize ks), n),
 )
 
@@ -128,4 +129,8 @@ flags-there ks = go ks (λ k h. h)
     go : (js : List Attribute) → ((k : Key) → has k js ≡ true → has k ks ≡ true) → EachFlag (λ k. has k ks ≡ true) js
     go [] f = tt
     go (numbered k n ∷ js) f = go js (λ j h. f j (ap (λ b. same_key j k || b) h ∙ or-yes (same_key j k)))
-    go (flagged k ∷ js) f = (f k (ap (λ b. b || has k js) (key-itself k)), go js (λ j h. f j (ap (λ b. same_key j k || b) h ∙ or-yes (same_key j k))))
+    go (flagged k ∷ js) f = (
+      f k (ap (λ b. b || has k js) (key-itself k)),
+      go js
+          (λ j h. f j (ap (λ b. same_key j k || b) h ∙ or-yes (same_key j k))),
+    )

@@ -34,7 +34,8 @@ flags-unnumbered : (ds : List Dom) → list_all (λ k. not (is_numbered k)) (rel
 flags-unnumbered ds = go (is_binary ds)
   where
     go : (b : Bool) →
-        list_all (λ k. not (is_numbered k)) (if b then Key.Reflexive ∷ Key.Irreflexive ∷ Key.Symmetric ∷ Key.AntiSymmetric ∷ Key.ASymmetric ∷ Key.Transitive ∷ [] else []) ≡ true
+        list_all (λ k. not (is_numbered k)) (if b then Key.Reflexive ∷ Key.Irreflexive ∷ Key.Symmetric ∷ Key.AntiSymmetric ∷ Key.ASymmetric
+        ∷ Key.Transitive ∷ [] else []) ≡ true
     go true = refl
     go false = refl
 
@@ -57,7 +58,11 @@ atom-well d h = cc
 
 atoms-well : (ds : Doms) → are_atoms ds ≡ true → AllWell ds
 atoms-well no_doms h = tt
-atoms-well (more_doms d ds) h = (atom-well d (and-left (is_atom d) (are_atoms ds) h), atoms-well ds (and-right (is_atom d) (are_atoms ds) h))
+atoms-well (more_doms d ds) h = (
+  atom-well d (and-left (is_atom d) (are_atoms ds) h),
+  atoms-well ds
+      (and-right (is_atom d) (are_atoms ds) h),
+)
 
 mutual
   -- An orderly expression that denotes a domain is sound.
@@ -76,10 +81,15 @@ mutual
       (marks-sound size_keys [] ms refl refl o.0.0, numbered-of ms es env c.0 c.1, orderly-sound d env m.0 o.1 m.1)
   orderly-sound (mset_dom ms es d) env e o h =
       let c = chained (attributes_of ms (meanings es env)) (λ ks. option_map (msets ks) (domain_of d env)) e h in
-      let m = mapped (msets c.0) (domain_of d env) e c.2 in
-      (marks-sound (Key.MinOccur ∷ Key.MaxOccur ∷ size_keys) [] ms refl refl o.0.0, numbered-of ms es env c.0 c.1, orderly-sound d env m.0 o.1 m.1)
+      let m = mapped (msets c.0) (domain_of d env) e c.2 in (
+        marks-sound (Key.MinOccur ∷ Key.MaxOccur ∷ size_keys) [] ms refl refl o.0.0,
+        numbered-of ms es env c.0 c.1,
+        orderly-sound d env m.0
+            o.1 m.1,
+      )
   orderly-sound (function_dom ms es d c) env e o h =
-      let k = chained (attributes_of ms (meanings es env)) (λ ks. and_then (domain_of d env) (λ x. option_map (functions ks x) (domain_of c env))) e h in
+      let k = chained (attributes_of ms (meanings es env))
+      (λ ks. and_then (domain_of d env) (λ x. option_map (functions ks x) (domain_of c env))) e h in
       let x = chained (domain_of d env) (λ x. option_map (functions k.0 x) (domain_of c env)) e k.2 in
       let y = mapped (functions k.0 x.0) (domain_of c env) e x.2 in (
         marks-sound size_keys (Key.Total ∷ Key.Injective ∷ Key.Surjective ∷ Key.Bijective ∷ []) ms refl refl o.0.0,
@@ -98,7 +108,8 @@ mutual
   orderly-sound (partition_dom ms es d) env e o h =
       let c = chained (attributes_of ms (meanings es env)) (λ ks. option_map (partitions ks) (domain_of d env)) e h in
       let m = mapped (partitions c.0) (domain_of d env) e c.2 in (
-        marks-sound (Key.NumParts ∷ Key.MinNumParts ∷ Key.MaxNumParts ∷ Key.PartSize ∷ Key.MinPartSize ∷ Key.MaxPartSize ∷ []) (Key.Regular ∷ []) ms refl refl o.0.0,
+        marks-sound (Key.NumParts ∷ Key.MinNumParts ∷ Key.MaxNumParts ∷ Key.PartSize ∷ Key.MinPartSize ∷ Key.MaxPartSize ∷ [])
+            (Key.Regular ∷ []) ms refl refl o.0.0,
         numbered-of ms es env c.0 c.1,
         orderly-sound d env m.0 o.1 m.1,
       )
@@ -116,9 +127,12 @@ mutual
 listed-of : (d : Dom) (env : Env) (e : Domain) → Sound d → is_enumerable d ≡ true → domain_of d env ≡ Some e → IsEnumerated e
 listed-of d env e s h q = enumerable-listed e (denoted-enumerable d env e (sound-well d s) h q)
 
-function-flags : (ms : List Mark) (es : Exs) (d c : Dom) (env : Env) (ks : List Attribute) (x y : Domain) → LayerIsOrderly (function_dom ms es d c) →
-    attributes_of ms (meanings es env) ≡ Some ks → (is_enumerable d ≡ true → IsEnumerated x) → (is_enumerable c ≡ true → IsEnumerated y) → EachFlag (FunctionFlag x y) ks
-function-flags ms es d c env ks x y o h f g = each-flag (λ k. has_key k ms ≡ true) (FunctionFlag x y) ks one (flags-marked ms (meanings es env) ks h)
+function-flags : (ms : List Mark) (es : Exs) (d c : Dom) (env : Env) (ks : List Attribute) (x y : Domain) → LayerIsOrderly
+    (function_dom ms es d c) →
+    attributes_of ms (meanings es env) ≡ Some ks → (is_enumerable d ≡ true → IsEnumerated x) → (is_enumerable c ≡ true → IsEnumerated y) →
+    EachFlag (FunctionFlag x y) ks
+function-flags ms es d c env ks x y o h f g = each-flag (λ k. has_key k ms ≡ true) (FunctionFlag x y) ks one
+    (flags-marked ms (meanings es env) ks h)
   where
     surely : (k : Bool) → k ≡ true → has_key Key.Surjective ms || k ≡ true
     surely k e = ap (λ b. has_key Key.Surjective ms || b) e ∙ or-yes (has_key Key.Surjective ms)
@@ -126,8 +140,10 @@ function-flags ms es d c env ks x y o h f g = each-flag (λ k. has_key k ms ≡ 
     one : (k : Key) → has_key k ms ≡ true → FunctionFlag x y k
     one Key.Total e = f (first-enumerable (has_key Key.Total ms) (has_key Key.Surjective ms || has_key Key.Bijective ms) d c o.1 e)
     one Key.Surjective e =
-        g (second-enumerable (has_key Key.Total ms) (has_key Key.Surjective ms || has_key Key.Bijective ms) d c o.1 (ap (λ b. b || has_key Key.Bijective ms) e))
-    one Key.Bijective e = g (second-enumerable (has_key Key.Total ms) (has_key Key.Surjective ms || has_key Key.Bijective ms) d c o.1 (surely (has_key Key.Bijective ms) e))
+        g (second-enumerable (has_key Key.Total ms) (has_key Key.Surjective ms || has_key Key.Bijective ms) d c o.1
+        (ap (λ b. b || has_key Key.Bijective ms) e))
+    one Key.Bijective e = g (second-enumerable (has_key Key.Total ms) (has_key Key.Surjective ms || has_key Key.Bijective ms) d c o.1
+        (surely (has_key Key.Bijective ms) e))
     one _ e = tt
 
 -- A relation with an attribute without a number is one between two.
@@ -140,7 +156,8 @@ binary-two (more_doms d (more_doms c (more_doms b ds))) h = cc
 flag-binary : (ds : List Dom) (k : Key) → is_key (relation_flags ds) k ≡ true → is_binary ds ≡ true
 flag-binary ds k h = go (is_binary ds) h
   where
-    go : (b : Bool) → is_key (if b then Key.Reflexive ∷ Key.Irreflexive ∷ Key.Symmetric ∷ Key.AntiSymmetric ∷ Key.ASymmetric ∷ Key.Transitive ∷ [] else []) k ≡ true → b ≡ true
+    go : (b : Bool) → is_key (if b then Key.Reflexive ∷ Key.Irreflexive ∷ Key.Symmetric ∷ Key.AntiSymmetric ∷ Key.ASymmetric ∷
+        Key.Transitive ∷ [] else []) k ≡ true → b ≡ true
     go true h = refl
     go false h = cc
 
@@ -152,9 +169,11 @@ relation-flag ms es ds env xs o s h k i m = let t = binary-two ds (flag-binary (
   where
     go : (ds : Doms) (d c : Dom) → ds ≡ more_doms d (more_doms c no_doms) → LayerIsOrderly (relation_dom ms es ds) → AllSound ds →
         domains_of ds env ≡ Some xs → RelationFlag xs k
-    go ds d c q o s h = two xs (subst (λ z. LayerIsOrderly (relation_dom ms es z)) q o) (subst AllSound q s) (ap (λ z. domains_of z env) (sym q) ∙ h)
+    go ds d c q o s h = two xs (subst (λ z. LayerIsOrderly (relation_dom ms es z)) q o) (subst AllSound q s)
+        (ap (λ z. domains_of z env) (sym q) ∙ h)
       where
-        two : (xs : Domains) → LayerIsOrderly (relation_dom ms es (more_doms d (more_doms c no_doms))) → AllSound (more_doms d (more_doms c no_doms)) →
+        two : (xs : Domains) → LayerIsOrderly (relation_dom ms es (more_doms d (more_doms c no_doms))) → AllSound
+            (more_doms d (more_doms c no_doms)) →
             domains_of (more_doms d (more_doms c no_doms)) env ≡ Some xs → RelationFlag xs k
         two xs o s h =
             let a = chained (domain_of d env) (λ x. option_map (more_domains x) (domains_of (more_doms c no_doms) env)) xs h in
@@ -173,7 +192,8 @@ relation-flag ms es ds env xs o s h k i m = let t = binary-two ds (flag-binary (
 
 mutual
   -- An orderly expression denotes a neat domain.
-  pub orderly-neat : (d : Dom) (env : Env) (e : Domain) → Orderly d → Sound d → domain_of d env ≡ Some e → no_negative_attribute e ≡ true → NeatDomain e
+  pub orderly-neat : (d : Dom) (env : Env) (e : Domain) → Orderly d → Sound d → domain_of d env ≡ Some e → no_negative_attribute e ≡ true →
+      NeatDomain e
   orderly-neat bool_dom env e o s h n = let q : booleans ≡ e = cc in subst NeatDomain q tt
   orderly-neat (int_dom rs es) env e o s h n = let m = mapped integers (spans_of rs (meanings es env)) e h in subst NeatDomain m.2 tt
   orderly-neat (name_dom a) env e o s h n = go env.positions (type_entry env.types a) h
@@ -183,20 +203,24 @@ mutual
       go true (Some t) h = let q : between (pos 1) (pos t.count) ≡ e = cc in subst NeatDomain q tt
       go false (Some t) h = let q : named a t.count ≡ e = cc in subst NeatDomain q tt
   orderly-neat (tuple_dom ds) env e o s h n =
-      let m = mapped tuples (domains_of ds env) e h in subst NeatDomain m.2 (all-orderly-neat ds env m.0 o s m.1 (ap no_negative_attribute m.2 ∙ n))
+      let m = mapped tuples (domains_of ds env) e h in subst NeatDomain m.2
+      (all-orderly-neat ds env m.0 o s m.1 (ap no_negative_attribute m.2 ∙ n))
   orderly-neat (record_dom fs ds) env e o s h n =
-      let m = mapped (records fs) (domains_of ds env) e h in subst NeatDomain m.2 (all-orderly-neat ds env m.0 o s m.1 (ap no_negative_attribute m.2 ∙ n))
+      let m = mapped (records fs) (domains_of ds env) e h in subst NeatDomain m.2
+      (all-orderly-neat ds env m.0 o s m.1 (ap no_negative_attribute m.2 ∙ n))
   orderly-neat (matrix_dom is d) env e o s h n =
       let c = chained (domains_of is env) (λ js. option_map (matrices js) (domain_of d env)) e h in
       let m = mapped (matrices c.0) (domain_of d env) e c.2 in
       subst NeatDomain m.2
-      (orderly-neat d env m.0 o.1 s.2 m.1 (and-right (each_layer_of_all not_below c.0) (no_negative_attribute m.0) (ap no_negative_attribute m.2 ∙ n)))
+      (orderly-neat d env m.0 o.1 s.2 m.1 (and-right (each_layer_of_all not_below c.0) (no_negative_attribute m.0)
+      (ap no_negative_attribute m.2 ∙ n)))
   orderly-neat (set_dom ms es d) env e o s h n =
       let c = chained (attributes_of ms (meanings es env)) (λ ks. option_map (sets ks) (domain_of d env)) e h in
       let m = mapped (sets c.0) (domain_of d env) e c.2 in
       let p : not_below c.0 && no_negative_attribute m.0 ≡ true = ap no_negative_attribute m.2 ∙ n in
       subst NeatDomain m.2 (
-        told-of ms (meanings es env) c.0 (and-right (marks_among size_keys [] ms) (marks_distinct ms) o.0.0) c.1 (and-left (not_below c.0) (no_negative_attribute m.0) p),
+        told-of ms (meanings es env) c.0 (and-right (marks_among size_keys [] ms) (marks_distinct ms) o.0.0) c.1
+            (and-left (not_below c.0) (no_negative_attribute m.0) p),
         orderly-neat d env m.0 o.1 s.2 m.1 (and-right (not_below c.0) (no_negative_attribute m.0) p),
       )
   orderly-neat (mset_dom ms es d) env e o s h n =
@@ -204,18 +228,21 @@ mutual
       let m = mapped (msets c.0) (domain_of d env) e c.2 in
       let p : not_below c.0 && no_negative_attribute m.0 ≡ true = ap no_negative_attribute m.2 ∙ n in
       subst NeatDomain m.2 (
-        told-of ms (meanings es env) c.0 (and-right (marks_among (Key.MinOccur ∷ Key.MaxOccur ∷ size_keys) [] ms) (marks_distinct ms) o.0.0) c.1
+        told-of ms (meanings es env) c.0 (and-right (marks_among (Key.MinOccur ∷ Key.MaxOccur ∷ size_keys) [] ms) (marks_distinct ms) o.0.0)
+            c.1
             (and-left (not_below c.0) (no_negative_attribute m.0) p),
         orderly-neat d env m.0 o.1 s.2 m.1 (and-right (not_below c.0) (no_negative_attribute m.0) p),
       )
   orderly-neat (function_dom ms es d c) env e o s h n =
-      let k = chained (attributes_of ms (meanings es env)) (λ ks. and_then (domain_of d env) (λ x. option_map (functions ks x) (domain_of c env))) e h in
+      let k = chained (attributes_of ms (meanings es env))
+      (λ ks. and_then (domain_of d env) (λ x. option_map (functions ks x) (domain_of c env))) e h in
       let x = chained (domain_of d env) (λ x. option_map (functions k.0 x) (domain_of c env)) e k.2 in
       let y = mapped (functions k.0 x.0) (domain_of c env) e x.2 in
       let p : (not_below k.0 && no_negative_attribute x.0) && no_negative_attribute y.0 ≡ true = ap no_negative_attribute y.2 ∙ n in
       let f = and-left (not_below k.0 && no_negative_attribute x.0) (no_negative_attribute y.0) p in
       subst NeatDomain y.2 (
-        told-of ms (meanings es env) k.0 (and-right (marks_among size_keys (Key.Total ∷ Key.Injective ∷ Key.Surjective ∷ Key.Bijective ∷ []) ms) (marks_distinct ms) o.0.0) k.1
+        told-of ms (meanings es env) k.0 (and-right
+            (marks_among size_keys (Key.Total ∷ Key.Injective ∷ Key.Surjective ∷ Key.Bijective ∷ []) ms) (marks_distinct ms) o.0.0) k.1
             (and-left (not_below k.0) (no_negative_attribute x.0) f),
         function-flags ms es d c env k.0 x.0 y.0 o.0 k.1 (λ t. listed-of d env x.0 s.3 t x.1) (λ t. listed-of c env y.0 s.4 t y.1),
         orderly-neat d env x.0 o.1 s.3 x.1 (and-right (not_below k.0) (no_negative_attribute x.0) f),
@@ -230,7 +257,8 @@ mutual
             (and-left (not_below c.0) (each_layer_of_all not_below m.0) p),
         flags-both (λ k. is_key (relation_flags (dom_list ds)) k ≡ true) (λ k. has_key k ms ≡ true) (RelationFlag m.0) c.0
             (relation-flag ms es ds env m.0 o.0 s.2 m.1)
-            (flags-among size_keys (relation_flags (dom_list ds)) ms (meanings es env) c.0 (and-left (marks_among size_keys (relation_flags (dom_list ds)) ms) (marks_distinct ms) o.0.0) c.1)
+            (flags-among size_keys (relation_flags (dom_list ds)) ms (meanings es env) c.0
+            (and-left (marks_among size_keys (relation_flags (dom_list ds)) ms) (marks_distinct ms) o.0.0) c.1)
             (flags-marked ms (meanings es env) c.0 c.1),
         all-orderly-neat ds env m.0 o.1 s.2 m.1 (and-right (not_below c.0) (each_layer_of_all not_below m.0) p),
       )
@@ -240,7 +268,8 @@ mutual
       let p : not_below c.0 && no_negative_attribute m.0 ≡ true = ap no_negative_attribute m.2 ∙ n in
       subst NeatDomain m.2 (
         told-of ms (meanings es env) c.0
-            (and-right (marks_among (Key.NumParts ∷ Key.MinNumParts ∷ Key.MaxNumParts ∷ Key.PartSize ∷ Key.MinPartSize ∷ Key.MaxPartSize ∷ []) (Key.Regular ∷ []) ms) (marks_distinct ms) o.0.0) c.1
+            (and-right (marks_among (Key.NumParts ∷ Key.MinNumParts ∷ Key.MaxNumParts ∷ Key.PartSize ∷ Key.MinPartSize ∷ Key.MaxPartSize ∷
+            []) (Key.Regular ∷ []) ms) (marks_distinct ms) o.0.0) c.1
             (and-left (not_below c.0) (no_negative_attribute m.0) p),
         listed-of d env m.0 s.2 (and-left (is_enumerable d) true o.0.1) m.1,
         orderly-neat d env m.0 o.1 s.2 m.1 (and-right (not_below c.0) (no_negative_attribute m.0) p),

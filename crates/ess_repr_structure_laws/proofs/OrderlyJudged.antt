@@ -17,14 +17,16 @@ layer-orderly : (d : Dom) (s : Scope) → dom_fits d s ≡ true → dom_is_enume
 layer-orderly d s h k = (
   and-right (are_ints (numbers_of d) s && ranges_fit (ranges_of d)) (marks_fit d)
       (and-left (are_ints (numbers_of d) s && ranges_fit (ranges_of d) && marks_fit d) (list_all is_atom (index_domains d))
-      (and-left (are_ints (numbers_of d) s && ranges_fit (ranges_of d) && marks_fit d && list_all is_atom (index_domains d)) (fields_distinct d) h)),
+      (and-left (are_ints (numbers_of d) s && ranges_fit (ranges_of d) && marks_fit d && list_all is_atom (index_domains d))
+      (fields_distinct d) h)),
   and-left (list_all is_enumerable (listed_domains d)) (all_fixed (numbers_of d) s) k,
 )
 
 index-atoms : (d : Dom) (s : Scope) → dom_fits d s ≡ true → list_all is_atom (index_domains d) ≡ true
 index-atoms d s h =
     and-right (are_ints (numbers_of d) s && ranges_fit (ranges_of d) && marks_fit d) (list_all is_atom (index_domains d))
-    (and-left (are_ints (numbers_of d) s && ranges_fit (ranges_of d) && marks_fit d && list_all is_atom (index_domains d)) (fields_distinct d) h)
+    (and-left (are_ints (numbers_of d) s && ranges_fit (ranges_of d) && marks_fit d && list_all is_atom (index_domains d))
+    (fields_distinct d) h)
 
 -- Of three tests in a row.
 first : (a b c : Bool) → a && b && c ≡ true → a ≡ true
@@ -39,23 +41,27 @@ module _ (q p : Asked) (fits : (d : Dom) (s : Scope) → q.of_dom d s ≡ true �
     judged-orderly (int_dom rs es) s h k = tt
     judged-orderly (name_dom a) s h k = tt
     judged-orderly (tuple_dom ds) s h k =
-        all-judged ds s (and-right (q.of_dom (tuple_dom ds) s) (every_doms q ds s) h) (and-right (p.of_dom (tuple_dom ds) s) (every_doms p ds s) k)
+        all-judged ds s (and-right (q.of_dom (tuple_dom ds) s) (every_doms q ds s) h)
+        (and-right (p.of_dom (tuple_dom ds) s) (every_doms p ds s) k)
     judged-orderly (record_dom fs ds) s h k =
         all-judged ds s (and-right (q.of_dom (record_dom fs ds) s) (every_doms q ds s) h)
         (and-right (p.of_dom (record_dom fs ds) s) (every_doms p ds s) k)
     judged-orderly (matrix_dom is d) s h k = (
-      index-atoms (matrix_dom is d) s (fits (matrix_dom is d) s (first (q.of_dom (matrix_dom is d) s) (every_doms q is s) (every_dom q d s) h)),
+      index-atoms (matrix_dom is d) s (fits (matrix_dom is d) s
+          (first (q.of_dom (matrix_dom is d) s) (every_doms q is s) (every_dom q d s) h)),
       judged-orderly d s (and-right (q.of_dom (matrix_dom is d) s && every_doms q is s) (every_dom q d s) h)
           (and-right (p.of_dom (matrix_dom is d) s && every_doms p is s) (every_dom p d s) k),
     )
     judged-orderly (set_dom ms es d) s h k = (
-      layer-orderly (set_dom ms es d) s (fits (set_dom ms es d) s (first (q.of_dom (set_dom ms es d) s) (every_operand q [] es s) (every_dom q d s) h))
+      layer-orderly (set_dom ms es d) s (fits (set_dom ms es d) s
+          (first (q.of_dom (set_dom ms es d) s) (every_operand q [] es s) (every_dom q d s) h))
           (lists (set_dom ms es d) s (first (p.of_dom (set_dom ms es d) s) (every_operand p [] es s) (every_dom p d s) k)),
       judged-orderly d s (and-right (q.of_dom (set_dom ms es d) s && every_operand q [] es s) (every_dom q d s) h)
           (and-right (p.of_dom (set_dom ms es d) s && every_operand p [] es s) (every_dom p d s) k),
     )
     judged-orderly (mset_dom ms es d) s h k = (
-      layer-orderly (mset_dom ms es d) s (fits (mset_dom ms es d) s (first (q.of_dom (mset_dom ms es d) s) (every_operand q [] es s) (every_dom q d s) h))
+      layer-orderly (mset_dom ms es d) s (fits (mset_dom ms es d) s
+          (first (q.of_dom (mset_dom ms es d) s) (every_operand q [] es s) (every_dom q d s) h))
           (lists (mset_dom ms es d) s (first (p.of_dom (mset_dom ms es d) s) (every_operand p [] es s) (every_dom p d s) k)),
       judged-orderly d s (and-right (q.of_dom (mset_dom ms es d) s && every_operand q [] es s) (every_dom q d s) h)
           (and-right (p.of_dom (mset_dom ms es d) s && every_operand p [] es s) (every_dom p d s) k),
@@ -72,13 +78,15 @@ module _ (q p : Asked) (fits : (d : Dom) (s : Scope) → q.of_dom d s ≡ true �
               (and-right (p.of_dom f s && every_operand p [] es s && every_dom p d s) (every_dom p c s) k),
         )
     judged-orderly (relation_dom ms es ds) s h k = (
-      layer-orderly (relation_dom ms es ds) s (fits (relation_dom ms es ds) s (first (q.of_dom (relation_dom ms es ds) s) (every_operand q [] es s) (every_doms q ds s) h))
+      layer-orderly (relation_dom ms es ds) s (fits (relation_dom ms es ds) s
+          (first (q.of_dom (relation_dom ms es ds) s) (every_operand q [] es s) (every_doms q ds s) h))
           (lists (relation_dom ms es ds) s (first (p.of_dom (relation_dom ms es ds) s) (every_operand p [] es s) (every_doms p ds s) k)),
       all-judged ds s (and-right (q.of_dom (relation_dom ms es ds) s && every_operand q [] es s) (every_doms q ds s) h)
           (and-right (p.of_dom (relation_dom ms es ds) s && every_operand p [] es s) (every_doms p ds s) k),
     )
     judged-orderly (partition_dom ms es d) s h k = (
-      layer-orderly (partition_dom ms es d) s (fits (partition_dom ms es d) s (first (q.of_dom (partition_dom ms es d) s) (every_operand q [] es s) (every_dom q d s) h))
+      layer-orderly (partition_dom ms es d) s (fits (partition_dom ms es d) s
+          (first (q.of_dom (partition_dom ms es d) s) (every_operand q [] es s) (every_dom q d s) h))
           (lists (partition_dom ms es d) s (first (p.of_dom (partition_dom ms es d) s) (every_operand p [] es s) (every_dom p d s) k)),
       judged-orderly d s (and-right (q.of_dom (partition_dom ms es d) s && every_operand q [] es s) (every_dom q d s) h)
           (and-right (p.of_dom (partition_dom ms es d) s && every_operand p [] es s) (every_dom p d s) k),
@@ -95,7 +103,7 @@ module _ (q p : Asked) (fits : (d : Dom) (s : Scope) → q.of_dom d s ≡ true �
 -- ---- statements
 
 -- What is asked of each part of a statement is asked of those of its domain.
-of-domain : (q : Asked) (t : Stm) (s : Scope) (d : Dom) → domain_in t ≡ Some d → every_of_stm q t s ≡ true → every_dom q d s ≡ true
+pub of-domain : (q : Asked) (t : Stm) (s : Scope) (d : Dom) → domain_in t ≡ Some d → every_of_stm q t s ≡ true → every_dom q d s ≡ true
 of-domain q t s d e h =
     sym (ap (λ o. is_none_or o (λ x. every_dom q x s)) e)
     ∙ and-right (is_none_or (expression_of t) (λ x. every q x s)) (is_none_or (domain_in t) (λ x. every_dom q x s)) h
@@ -111,5 +119,6 @@ enumerated = record asking { of_dom = dom_is_enumerable; of_generator = λ d z. 
 pub stated-orderly : JudgedDomainsAreOrderly
 stated-orderly w t s d e h k =
     judged-orderly typed enumerated (λ x z y. y) (λ x z y. y) d s
-    (of-domain typed t s d e (and-left (every_of_stm typed t s) (place_fits t s) (and-left (every_of_stm typed t s && place_fits t s) (order_is_fit t s) h)))
+    (of-domain typed t s d e (and-left (every_of_stm typed t s) (place_fits t s)
+    (and-left (every_of_stm typed t s && place_fits t s) (order_is_fit t s) h)))
     (of-domain enumerated t s d e (and-left (every_of_stm enumerated t s) (size_is_fixed t s) k))

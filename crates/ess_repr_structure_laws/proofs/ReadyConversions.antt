@@ -50,9 +50,11 @@ sizes-plain s a b = go s (go' a (go'' b))
     go (Some n) h = and-both (int_le (pos 0) (pos n)) (not_below (size_attributes None a b)) (low n) h
 
 pairs-plain : (ks : List Attribute) (x : Domain) → not_below (pair_sizes ks x) ≡ true
-pairs-plain ks x = go (has Key.Total ks) (if has Key.Size ks then attribute Key.MaxSize ks else or_else (attribute Key.MaxSize ks) (Some (bound x)))
+pairs-plain ks x = go (has Key.Total ks) (if has Key.Size ks then attribute Key.MaxSize ks else or_else (attribute Key.MaxSize ks)
+    (Some (bound x)))
   where
-    go : (b : Bool) (o : Option ℕ) → not_below (if b then size_attributes (Some (bound x)) (attribute Key.MinSize ks) (attribute Key.MaxSize ks)
+    go : (b : Bool) (o : Option ℕ) → not_below (if b then size_attributes (Some (bound x)) (attribute Key.MinSize ks)
+        (attribute Key.MaxSize ks)
         else size_attributes (attribute Key.Size ks) (attribute Key.MinSize ks) o) ≡ true
     go true o = sizes-plain (Some (bound x)) (attribute Key.MinSize ks) (attribute Key.MaxSize ks)
     go false o = sizes-plain (attribute Key.Size ks) (attribute Key.MinSize ks) o
@@ -77,7 +79,8 @@ module _ (env0 : Env) (q : ℕ → Text) (q-apart : (m l : ℕ) → l < m → sa
   -- ---- relations
 
   -- What an attribute without a number asks of a relation between two, whose view's domain is v.
-  pair-key-ready : (ds : Doms) (xs : Domains) → ((bs : Names env0 q q-apart) → domains_of ds (E bs) ≡ Some xs) → (v : Dom) (w : Domain) → DomainIs env0 q q-apart v w →
+  pair-key-ready : (ds : Doms) (xs : Domains) → ((bs : Names env0 q q-apart) → domains_of ds (E bs) ≡ Some xs) → (v : Dom) (w : Domain) →
+      DomainIs env0 q q-apart v w →
       (k : Key) → RelationFlag xs k → RelationKeyReady env0 q q-apart ds xs v w k
   pair-key-ready (more_doms d (more_doms c no_doms)) (more_domains x (more_domains y no_domains)) m v w vm k f =
       ((bool-is d (E []) x (dm []), bool-is c (E []) y (cm [])), vm, one k f)
@@ -134,15 +137,19 @@ module _ (env0 : Env) (q : ℕ → Text) (q-apart : (m l : ℕ) → l < m → sa
       Known env0 q q-apart (repr ReprKind.RelationAsSet (more_reprs r no_reprs)) (relation_dom ms es ds) (relations ks xs) →
       Known env0 q q-apart r (tuple_set_dom ms es ds) (child_set ks xs)
   tuples-known r ms es ds ks xs i =
-      let f : ChildrenFit ReprKind.RelationAsSet (more_reprs r no_reprs) (relation_dom ms es ds) = children-fit ReprKind.RelationAsSet (more_reprs r no_reprs) (relation_dom ms es ds) i.sound i.fit in
+      let f : ChildrenFit ReprKind.RelationAsSet (more_reprs r no_reprs) (relation_dom ms es ds) = children-fit ReprKind.RelationAsSet
+      (more_reprs r no_reprs) (relation_dom ms es ds) i.sound i.fit in
       record {
         sound = f.sound.0;
         fit = and-left (fits r (tuple_set_dom ms es ds)) true f.fit;
         room = i.room;
         neat = set-neat ks xs i.neat.2;
-        plain = and-both (not_below (size_attributes (attribute Key.Size ks) (attribute Key.MinSize ks) (attribute Key.MaxSize ks))) (each_layer_of_all not_below xs)
-            (sizes-plain (attribute Key.Size ks) (attribute Key.MinSize ks) (attribute Key.MaxSize ks)) (and-right (not_below ks) (each_layer_of_all not_below xs) i.plain);
-        means = λ bs. only-of (tuple_set_dom ms es ds) (E bs) (child_set ks xs) (tuples-are-denoted ms es ds (E bs) (relations ks xs) _ (i.means bs) refl i.plain);
+        plain = and-both (not_below (size_attributes (attribute Key.Size ks) (attribute Key.MinSize ks) (attribute Key.MaxSize ks)))
+            (each_layer_of_all not_below xs)
+            (sizes-plain (attribute Key.Size ks) (attribute Key.MinSize ks) (attribute Key.MaxSize ks))
+            (and-right (not_below ks) (each_layer_of_all not_below xs) i.plain);
+        means = λ bs. only-of (tuple_set_dom ms es ds) (E bs) (child_set ks xs)
+            (tuples-are-denoted ms es ds (E bs) (relations ks xs) _ (i.means bs) refl i.plain);
         numbers = λ bs. let n = i.numbers bs in set-numbers (E bs) ms es ds n.0 n.1;
       }
 
@@ -170,7 +177,8 @@ module _ (env0 : Env) (q : ℕ → Text) (q-apart : (m l : ℕ) → l < m → sa
       Known env0 q q-apart (repr ReprKind.FunctionAsRelation (more_reprs r no_reprs)) (function_dom ms es d c) (functions ks x y) →
       Known env0 q q-apart r (pair_relation_dom size_terms ms es d c) (child_relation ks x y)
   pairs-known r ms es d c ks x y i =
-      let f : ChildrenFit ReprKind.FunctionAsRelation (more_reprs r no_reprs) (function_dom ms es d c) = children-fit ReprKind.FunctionAsRelation (more_reprs r no_reprs) (function_dom ms es d c) i.sound i.fit in
+      let f : ChildrenFit ReprKind.FunctionAsRelation (more_reprs r no_reprs) (function_dom ms es d c) = children-fit
+      ReprKind.FunctionAsRelation (more_reprs r no_reprs) (function_dom ms es d c) i.sound i.fit in
       let p = and-left (not_below ks && no_negative_attribute x) (no_negative_attribute y) i.plain in
       record {
         sound = f.sound.0;
@@ -179,9 +187,11 @@ module _ (env0 : Env) (q : ℕ → Text) (q-apart : (m l : ℕ) → l < m → sa
         neat = relation-neat ks x y i.neat.2 i.neat.3;
         plain = and-both (not_below (pair_sizes ks x)) (no_negative_attribute x && (no_negative_attribute y && true)) (pairs-plain ks x)
             (and-both (no_negative_attribute x) (no_negative_attribute y && true) (and-right (not_below ks) (no_negative_attribute x) p)
-            (and-both (no_negative_attribute y) true (and-right (not_below ks && no_negative_attribute x) (no_negative_attribute y) i.plain) refl));
+            (and-both (no_negative_attribute y) true (and-right (not_below ks && no_negative_attribute x) (no_negative_attribute y) i.plain)
+            refl));
         means = λ bs. only-of (pair_relation_dom size_terms ms es d c) (E bs) (child_relation ks x y)
-            (pairs-are-denoted ms es d c (record { right = i.sound.0; full = i.sound.1 }) (E bs) (functions ks x y) _ (i.means bs) refl i.plain);
+            (pairs-are-denoted ms es d c (record { right = i.sound.0; full = i.sound.1 }) (E bs) (functions ks x y) _ (i.means bs) refl
+            i.plain);
         numbers = λ bs. let n = i.numbers bs in pair-numbers (E bs) ms es d c n.0 n.1 n.2;
       }
 
@@ -193,7 +203,11 @@ module _ (env0 : Env) (q : ℕ → Text) (q-apart : (m l : ℕ) → l < m → sa
   pairs-ready r ms es d c ks x y i child =
       let b : Known env0 q q-apart r (pair_relation_dom size_terms ms es d c) (child_relation ks x y) = pairs-known r ms es d c ks x y i in (
         (bool-is d (E []) x (dm []), bool-is c (E []) y (cm [])),
-        (are-pair-sizes ks x i.neat.0, flags-both (λ k. has k ks ≡ true) (FunctionFlag x y) (PairKeyReady env0 q q-apart c ks x y) ks one (flags-there ks) i.neat.1),
+        (
+          are-pair-sizes ks x i.neat.0,
+          flags-both (λ k. has k ks ≡ true) (FunctionFlag x y) (PairKeyReady env0 q q-apart c ks x y) ks one
+              (flags-there ks) i.neat.1,
+        ),
         function-attributes env0 q q-apart k ms es d c ks x y i,
         b.means,
         child,
@@ -231,27 +245,39 @@ module _ (env0 : Env) (q : ℕ → Text) (q-apart : (m l : ℕ) → l < m → sa
   numbers-ready ms es d ks x i =
       let k = repr ReprKind.PartitionOccurrence no_reprs in
       let l = listed-is x i.room.0.1 in
-      let m = inside k ms es d ks x i in
-      ((i.room.0.0, l), axis-are env0 q q-apart d x m l, (λ bs. ap (option_map (partitions [])) (m bs)), partition-attributes k ms es d ks x i)
+      let m = inside k ms es d ks x i in (
+        (i.room.0.0, l),
+        axis-are env0 q q-apart d x m l,
+        (λ bs. ap (option_map (partitions [])) (m bs)),
+        partition-attributes k ms es d ks x
+            i,
+      )
 
   -- What is known of the set of a partition's parts.
   pub parts-known : (r : Repr) (ms : List Mark) (es : Exs) (d : Dom) (ks : List Attribute) (x : Domain) →
       Known env0 q q-apart (repr ReprKind.PartitionAsSet (more_reprs r no_reprs)) (partition_dom ms es d) (partitions ks x) →
       Known env0 q q-apart r (part_set_dom size_terms ms es d) (child_parts ks x)
   parts-known r ms es d ks x i =
-      let f : ChildrenFit ReprKind.PartitionAsSet (more_reprs r no_reprs) (partition_dom ms es d) = children-fit ReprKind.PartitionAsSet (more_reprs r no_reprs) (partition_dom ms es d) i.sound i.fit in
-      let greatest = if has Key.NumParts ks then attribute Key.MaxNumParts ks else or_else (attribute Key.MaxNumParts ks) (Some (bound x)) in
+      let f : ChildrenFit ReprKind.PartitionAsSet (more_reprs r no_reprs) (partition_dom ms es d) = children-fit ReprKind.PartitionAsSet
+      (more_reprs r no_reprs) (partition_dom ms es d) i.sound i.fit in
+      let greatest = if has Key.NumParts ks then attribute Key.MaxNumParts ks else or_else (attribute Key.MaxNumParts ks) (Some (bound x))
+      in
       record {
         sound = f.sound.0;
         fit = and-left (fits r (part_set_dom size_terms ms es d)) true f.fit;
         room = i.room.1;
         neat = parts-neat ks x i.neat.2;
-        plain = and-both (not_below (size_attributes (attribute Key.NumParts ks) (attribute Key.MinNumParts ks) greatest)) (not_below (size_attributes (attribute Key.PartSize ks) (attribute Key.MinPartSize ks) (attribute Key.MaxPartSize ks)) && no_negative_attribute x)
+        plain = and-both (not_below (size_attributes (attribute Key.NumParts ks) (attribute Key.MinNumParts ks) greatest))
+            (not_below (size_attributes (attribute Key.PartSize ks) (attribute Key.MinPartSize ks) (attribute Key.MaxPartSize ks)) &&
+            no_negative_attribute x)
             (sizes-plain (attribute Key.NumParts ks) (attribute Key.MinNumParts ks) greatest)
-            (and-both (not_below (size_attributes (attribute Key.PartSize ks) (attribute Key.MinPartSize ks) (attribute Key.MaxPartSize ks))) (no_negative_attribute x)
-            (sizes-plain (attribute Key.PartSize ks) (attribute Key.MinPartSize ks) (attribute Key.MaxPartSize ks)) (and-right (not_below ks) (no_negative_attribute x) i.plain));
+            (and-both (not_below (size_attributes (attribute Key.PartSize ks) (attribute Key.MinPartSize ks)
+            (attribute Key.MaxPartSize ks))) (no_negative_attribute x)
+            (sizes-plain (attribute Key.PartSize ks) (attribute Key.MinPartSize ks) (attribute Key.MaxPartSize ks))
+            (and-right (not_below ks) (no_negative_attribute x) i.plain));
         means = λ bs. only-of (part_set_dom size_terms ms es d) (E bs) (child_parts ks x)
-            (parts-are-denoted ms es d (record { right = i.sound.0; full = i.sound.1 }) (E bs) (partitions ks x) _ (i.means bs) refl i.plain);
+            (parts-are-denoted ms es d (record { right = i.sound.0; full = i.sound.1 }) (E bs) (partitions ks x) _ (i.means bs) refl
+            i.plain);
         numbers = λ bs. let n = i.numbers bs in part-numbers (E bs) ms es d n.0 n.1;
       }
 
@@ -265,5 +291,9 @@ module _ (env0 : Env) (q : ℕ → Text) (q-apart : (m l : ℕ) → l < m → sa
       let e : IsEnumerated x = i.neat.1 in
       let l = listed-is x e.there in
       let n = e.enumerated in
-      let b : Known env0 q q-apart r (part_set_dom size_terms ms es d) (child_parts ks x) = parts-known r ms es d ks x i in
-      ((l, n.complete, axis-are env0 q q-apart d x (inside k ms es d ks x i) l), (are-part-sizes ks x i.neat.0, partition-attributes k ms es d ks x i), b.means, child)
+      let b : Known env0 q q-apart r (part_set_dom size_terms ms es d) (child_parts ks x) = parts-known r ms es d ks x i in (
+        (l, n.complete, axis-are env0 q q-apart d x (inside k ms es d ks x i) l),
+        (are-part-sizes ks x i.neat.0, partition-attributes k ms es d ks x i),
+        b.means,
+        child,
+      )

@@ -37,7 +37,8 @@ module _ (env0 : Env) (q : ℕ → Text) (q-apart : (m l : ℕ) → l < m → sa
     -- A function's attributes.
     pub function-attributes : Attributes env0 q q-apart size_terms ms es ks
     function-attributes =
-        attributes-are env0 q q-apart ms es d ks x (and-left (not_below ks) (no_negative_attribute x) front) (and-right (not_below ks) (no_negative_attribute x) front)
+        attributes-are env0 q q-apart ms es d ks x (and-left (not_below ks) (no_negative_attribute x) front)
+        (and-right (not_below ks) (no_negative_attribute x) front)
         (λ bs. let p = function-parts ms es d c (N env0 q q-apart bs) ks x y (i.means bs) in p.0) from-is
         (λ bs. let n = i.numbers bs in n.0) (λ bs. let n = i.numbers bs in n.1)
 
@@ -65,9 +66,11 @@ module _ (env0 : Env) (q : ℕ → Text) (q-apart : (m l : ℕ) → l < m → sa
   -- What is known of the second domain of a function whose kind has it as its only child.
   pub function-child : (k : ReprKind) (r : Repr) (ms : List Mark) (es : Exs) (d c : Dom) (ks : List Attribute) (x y : Domain) →
       child_doms k (function_dom ms es d c) ≡ c ∷ [] →
-      Known env0 q q-apart (repr k (more_reprs r no_reprs)) (function_dom ms es d c) (functions ks x y) → Roomy r y → Known env0 q q-apart r c y
+      Known env0 q q-apart (repr k (more_reprs r no_reprs)) (function_dom ms es d c) (functions ks x y) → Roomy r y → Known env0 q q-apart r
+      c y
   function-child k r ms es d c ks x y e i room =
-      let f : ChildrenFit k (more_reprs r no_reprs) (function_dom ms es d c) = children-fit k (more_reprs r no_reprs) (function_dom ms es d c) i.sound i.fit in
+      let f : ChildrenFit k (more_reprs r no_reprs) (function_dom ms es d c) = children-fit k (more_reprs r no_reprs)
+      (function_dom ms es d c) i.sound i.fit in
       record {
         sound = i.sound.4;
         fit = and-left (fits r c) true (sym (ap (all_fit (more_reprs r no_reprs)) e) ∙ f.fit);
@@ -85,13 +88,22 @@ module _ (env0 : Env) (q : ℕ → Text) (q-apart : (m l : ℕ) → l < m → sa
       Ready env0 q q-apart size_terms (repr ReprKind.Function1D (more_reprs r no_reprs)) (function_dom ms es d c) (functions ks x y)
   function-1d-ready r ms es d c ks x y i child =
       let k = repr ReprKind.Function1D (more_reprs r no_reprs) in
-      let l = listed-is x i.room.0.1 in
-      (i.room.0.0, l, value-keys k ms es d c ks x y i r, axis-are env0 q q-apart d x (from-is k ms es d c ks x y i) l, function-attributes k ms es d c ks x y i, child)
+      let l = listed-is x i.room.0.1 in (
+        i.room.0.0,
+        l,
+        value-keys k ms es d c ks x y i r,
+        axis-are env0 q q-apart d x (from-is k ms es d c ks x y i) l,
+        function-attributes k
+            ms es d c ks x y i,
+        child,
+      )
 
   pub function-nd-ready : (r : Repr) (ms : List Mark) (es : Exs) (ds : Doms) (c : Dom) (ks : List Attribute) (xs : Domains) (y : Domain) →
-      Known env0 q q-apart (repr ReprKind.FunctionND (more_reprs r no_reprs)) (function_dom ms es (tuple_dom ds) c) (functions ks (tuples xs) y) →
+      Known env0 q q-apart (repr ReprKind.FunctionND (more_reprs r no_reprs)) (function_dom ms es (tuple_dom ds) c)
+      (functions ks (tuples xs) y) →
       Ready env0 q q-apart size_terms r c y →
-      Ready env0 q q-apart size_terms (repr ReprKind.FunctionND (more_reprs r no_reprs)) (function_dom ms es (tuple_dom ds) c) (functions ks (tuples xs) y)
+      Ready env0 q q-apart size_terms (repr ReprKind.FunctionND (more_reprs r no_reprs)) (function_dom ms es (tuple_dom ds) c)
+      (functions ks (tuples xs) y)
   function-nd-ready r ms es ds c ks xs y i child =
       let k = repr ReprKind.FunctionND (more_reprs r no_reprs) in
       let m = from-is k ms es (tuple_dom ds) c ks (tuples xs) y i in (
@@ -109,13 +121,21 @@ module _ (env0 : Env) (q : ℕ → Text) (q-apart : (m l : ℕ) → l < m → sa
       Ready env0 q q-apart size_terms r c y →
       Ready env0 q q-apart size_terms (repr ReprKind.Function1DPartial (more_reprs r no_reprs)) (function_dom ms es d c) (functions ks x y)
   function-1d-partial-ready r ms es d c ks x y i child =
-      let k = repr ReprKind.Function1DPartial (more_reprs r no_reprs) in
-      (i.room.0.0, flag-keys k ms es d c ks x y i, axis-are env0 q q-apart d x (from-is k ms es d c ks x y i) (listed-is x i.room.0.1), function-attributes k ms es d c ks x y i, child)
+      let k = repr ReprKind.Function1DPartial (more_reprs r no_reprs) in (
+        i.room.0.0,
+        flag-keys k ms es d c ks x y i,
+        axis-are env0 q q-apart d x (from-is k ms es d c ks x y i) (listed-is x i.room.0.1),
+        function-attributes k ms es d c ks x y i,
+        child,
+      )
 
-  pub function-nd-partial-ready : (r : Repr) (ms : List Mark) (es : Exs) (ds : Doms) (c : Dom) (ks : List Attribute) (xs : Domains) (y : Domain) →
-      Known env0 q q-apart (repr ReprKind.FunctionNDPartial (more_reprs r no_reprs)) (function_dom ms es (tuple_dom ds) c) (functions ks (tuples xs) y) →
+  pub function-nd-partial-ready : (r : Repr) (ms : List Mark) (es : Exs) (ds : Doms) (c : Dom) (ks : List Attribute) (xs : Domains)
+      (y : Domain) →
+      Known env0 q q-apart (repr ReprKind.FunctionNDPartial (more_reprs r no_reprs)) (function_dom ms es (tuple_dom ds) c)
+      (functions ks (tuples xs) y) →
       Ready env0 q q-apart size_terms r c y →
-      Ready env0 q q-apart size_terms (repr ReprKind.FunctionNDPartial (more_reprs r no_reprs)) (function_dom ms es (tuple_dom ds) c) (functions ks (tuples xs) y)
+      Ready env0 q q-apart size_terms (repr ReprKind.FunctionNDPartial (more_reprs r no_reprs)) (function_dom ms es (tuple_dom ds) c)
+      (functions ks (tuples xs) y)
   function-nd-partial-ready r ms es ds c ks xs y i child =
       let k = repr ReprKind.FunctionNDPartial (more_reprs r no_reprs) in
       let m = from-is k ms es (tuple_dom ds) c ks (tuples xs) y i in (

@@ -67,7 +67,8 @@ dummy-not-bool (name_dom a) h = refl
 dummy-not-bool d h = cc
 
 -- Of two things that are said of each attribute without a number.
-pub flags-both : (P Q R : Key → Type 0) (ks : List Attribute) → ((k : Key) → P k → Q k → R k) → EachFlag P ks → EachFlag Q ks → EachFlag R ks
+pub flags-both : (P Q R : Key → Type 0) (ks : List Attribute) → ((k : Key) → P k → Q k → R k) → EachFlag P ks → EachFlag Q ks → EachFlag R
+    ks
 flags-both P Q R [] f h i = tt
 flags-both P Q R (numbered k n ∷ ks) f h i = flags-both P Q R ks f h i
 flags-both P Q R (flagged k ∷ ks) f h i = (f k h.0 i.0, flags-both P Q R ks f h.1 i.1)
@@ -117,11 +118,13 @@ module _ (env0 : Env) (q : ℕ → Text) (q-apart : (m l : ℕ) → l < m → sa
   -- ---- axes
 
   -- The members of a domain that a listed one is.
-  pub axis-are : (d : Dom) (x : Domain) → DomainIs env0 q q-apart d x → members x ≡ Some (member_list x) → AxesAre env0 q q-apart (d ∷ []) (member_list x ∷ [])
+  pub axis-are : (d : Dom) (x : Domain) → DomainIs env0 q q-apart d x → members x ≡ Some (member_list x) → AxesAre env0 q q-apart (d ∷ [])
+      (member_list x ∷ [])
   axis-are d x m h = (λ bs. ap members_in (m bs) ∙ h, tt)
 
   -- Those of several atoms.
-  pub axes-are : (is : Doms) (js : Domains) → ((bs : Names) → domains_of is (N bs) ≡ Some js) → FiniteAtoms js → AxesAre env0 q q-apart (dom_list is) (index_members js)
+  pub axes-are : (is : Doms) (js : Domains) → ((bs : Names) → domains_of is (N bs) ≡ Some js) → FiniteAtoms js → AxesAre env0 q q-apart
+      (dom_list is) (index_members js)
   axes-are no_doms no_domains m h = tt
   axes-are no_doms (more_domains j js) m h = let x = m [] in cc
   axes-are (more_doms i is) no_domains m h = absurd (none (domain_of i (N [])) (domains_of is (N [])) (m []))
@@ -137,7 +140,8 @@ module _ (env0 : Env) (q : ℕ → Text) (q-apart : (m l : ℕ) → l < m → sa
 
   -- ---- functions without attributes
 
-  pub bare-function-is : (d c : Dom) (x y : Domain) → DomainIs env0 q q-apart d x → DomainIs env0 q q-apart c y → BareFunctionIs env0 q q-apart d c x y
+  pub bare-function-is : (d c : Dom) (x y : Domain) → DomainIs env0 q q-apart d x → DomainIs env0 q q-apart c y → BareFunctionIs env0 q
+      q-apart d c x y
   bare-function-is d c x y m n = (
     λ bs. ap (λ o. and_then o (λ x. option_map (functions [] x) (domain_of c (N bs)))) (m bs) ∙ ap (option_map (functions [] x)) (n bs),
     bool-is c (N []) y (n []),
@@ -148,7 +152,8 @@ module _ (env0 : Env) (q : ℕ → Text) (q-apart : (m l : ℕ) → l < m → sa
 
   -- ---- slots
 
-  module _ (ms : List Mark) (es : Exs) (d : Dom) (ks : List Attribute) (e : Domain) (low : not_below ks ≡ true) (plain : no_negative_attribute e ≡ true)
+  module _ (ms : List Mark) (es : Exs) (d : Dom) (ks : List Attribute) (e : Domain) (low : not_below ks ≡ true)
+      (plain : no_negative_attribute e ≡ true)
       (at : (bs : Names) → attributes_of ms (meanings es (N bs)) ≡ Some ks) (means : DomainIs env0 q q-apart d e)
       (all : (bs : Names) → AllNumbers es (N bs)) (numbers : (bs : Names) → NumbersIn d (N bs)) where
     -- The attributes are these.
@@ -159,14 +164,16 @@ module _ (env0 : Env) (q : ℕ → Text) (q-apart : (m l : ℕ) → l < m → sa
     pub set-slots-are : SlotsAre env0 q q-apart size_terms (set_dom ms es d) (slots_of_set ks e)
     set-slots-are bs =
         set-slots-whole (N bs) ms es d (all bs) (numbers bs) (pos (slots_of_set ks e))
-        (default-numbered (N bs) (greatest_size_of ms es) (greatest_size ks) (bound_ex d) (bound e) (greatest-reads (N bs) ms es ks (at bs) low)
+        (default-numbered (N bs) (greatest_size_of ms es) (greatest_size ks) (bound_ex d) (bound e)
+        (greatest-reads (N bs) ms es ks (at bs) low)
         (bound-is (N bs) d e (means bs) plain))
 
     -- A multiset's.
     pub mset-slots-are : SlotsAre env0 q q-apart size_terms (mset_dom ms es d) (slots_of_mset ks e)
     mset-slots-are bs =
         mset-slots-whole (N bs) ms es d (all bs) (numbers bs) (pos (slots_of_mset ks e))
-        (default-numbered (N bs) (greatest_size_of ms es) (greatest_size ks) (times_ex (occurrences_ex ms es) (bound_ex d)) (occurrences ks * bound e)
+        (default-numbered (N bs) (greatest_size_of ms es) (greatest_size ks) (times_ex (occurrences_ex ms es) (bound_ex d))
+        (occurrences ks * bound e)
         (greatest-reads (N bs) ms es ks (at bs) low)
         (times-reads (N bs) (occurrences_ex ms es) (bound_ex d) (occurrences ks) (bound e) (occurrences-reads (N bs) ms es ks (at bs) low)
         (bound-is (N bs) d e (means bs) plain)))

@@ -120,11 +120,14 @@ module _ (x y : Text) where
   forms-kept ReprKind.MSetExplicitWithRepetition (mset_dom ms es d) = refl
   forms-kept ReprKind.MSetExplicitWithFlags (mset_dom ms es d) = refl
   forms-kept ReprKind.Function1D (function_dom ms es d c) =
-      if-kept (has_key Key.Total ms && is_atom (G d)) (has_key Key.Total ms && is_atom d) (c ∷ []) (ap (λ b. has_key Key.Total ms && b) (atom-kept d))
+      if-kept (has_key Key.Total ms && is_atom (G d)) (has_key Key.Total ms && is_atom d) (c ∷ [])
+      (ap (λ b. has_key Key.Total ms && b) (atom-kept d))
   forms-kept ReprKind.Function1DPartial (function_dom ms es d c) = if-kept (is_atom (G d)) (is_atom d) (c ∷ []) (atom-kept d)
   forms-kept ReprKind.FunctionND (function_dom ms es d c) =
-      if-kept (has_key Key.Total ms && is_atom_tuple (G d)) (has_key Key.Total ms && is_atom_tuple d) (c ∷ []) (ap (λ b. has_key Key.Total ms && b) (atom-tuple-kept d))
-  forms-kept ReprKind.FunctionNDPartial (function_dom ms es d c) = if-kept (is_atom_tuple (G d)) (is_atom_tuple d) (c ∷ []) (atom-tuple-kept d)
+      if-kept (has_key Key.Total ms && is_atom_tuple (G d)) (has_key Key.Total ms && is_atom_tuple d) (c ∷ [])
+      (ap (λ b. has_key Key.Total ms && b) (atom-tuple-kept d))
+  forms-kept ReprKind.FunctionNDPartial (function_dom ms es d c) = if-kept (is_atom_tuple (G d)) (is_atom_tuple d) (c ∷ [])
+      (atom-tuple-kept d)
   forms-kept ReprKind.FunctionAsRelation (function_dom ms es d c) = refl
   forms-kept ReprKind.RelationAsMatrix (relation_dom ms es ds) = if-kept (are_atoms (Gs ds)) (are_atoms ds) [] (atoms-kept ds)
   forms-kept ReprKind.RelationAsSet (relation_dom ms es ds) = refl
@@ -136,7 +139,8 @@ module _ (x y : Text) where
   abbrev fit_there : Reprs → Option (List Dom) → Bool
   fit_there rs o = elim o [ None ↦ false | Some ds ↦ all_fit rs ds ]
 
-  there-kept : (rs : Reprs) (o : Option (List Dom)) → ((ds : List Dom) → all_fit rs (map G ds) ≡ all_fit rs ds) → fit_there rs (option_map (map G) o) ≡ fit_there rs o
+  there-kept : (rs : Reprs) (o : Option (List Dom)) → ((ds : List Dom) → all_fit rs (map G ds) ≡ all_fit rs ds) → fit_there rs
+      (option_map (map G) o) ≡ fit_there rs o
   there-kept rs None h = refl
   there-kept rs (Some ds) h = h ds
 
@@ -163,7 +167,8 @@ module _ (x y : Text) where
     type-kept (matrix_dom is d) = nested-kept is (type_of_dom (G d)) ∙ ap (nested_ty is) (type-kept d)
     type-kept (set_dom ms es d) = ap (compound1 a_set) (type-kept d)
     type-kept (mset_dom ms es d) = ap (compound1 a_mset) (type-kept d)
-    type-kept (function_dom ms es d c) = ap (λ t. compound2 a_function t (type_of_dom (G c))) (type-kept d) ∙ ap (compound2 a_function (type_of_dom d)) (type-kept c)
+    type-kept (function_dom ms es d c) = ap (λ t. compound2 a_function t (type_of_dom (G c))) (type-kept d) ∙ ap
+        (compound2 a_function (type_of_dom d)) (type-kept c)
     type-kept (relation_dom ms es ds) = ap (compound a_relation) (types-kept ds)
     type-kept (partition_dom ms es d) = ap (compound1 a_partition) (type-kept d)
 
@@ -173,7 +178,8 @@ module _ (x y : Text) where
 
     nested-kept : (is : Doms) (t : Ty) → nested_ty (Gs is) t ≡ nested_ty is t
     nested-kept no_doms t = refl
-    nested-kept (more_doms d ds) t = ap (λ u. compound2 a_matrix u (nested_ty (Gs ds) t)) (type-kept d) ∙ ap (compound2 a_matrix (type_of_dom d)) (nested-kept ds t)
+    nested-kept (more_doms d ds) t = ap (λ u. compound2 a_matrix u (nested_ty (Gs ds) t)) (type-kept d) ∙ ap
+        (compound2 a_matrix (type_of_dom d)) (nested-kept ds t)
 
   -- ---- judgements
 
@@ -186,16 +192,20 @@ module _ (x y : Text) where
   two-listed true b d c = both-kept (enumerable-kept d) (if-listed b c)
   two-listed false b d c = if-listed b c
 
-  function-orderly : (d c : Dom) (ms : List _) (es : Exs) → LayerIsOrderly (function_dom ms es d c) → LayerIsOrderly (function_dom ms (total_numbers x y es) (G d) (G c))
+  function-orderly : (d c : Dom) (ms : List _) (es : Exs) → LayerIsOrderly (function_dom ms es d c) → LayerIsOrderly
+      (function_dom ms (total_numbers x y es) (G d) (G c))
   function-orderly d c ms es o = (o.0, two-listed (has_key Key.Total ms) (has_key Key.Surjective ms || has_key Key.Bijective ms) d c ∙ o.1)
 
   flags-kept : (ms : List Mark) (es : Exs) (d c : Dom) →
-      marks_fit (relation_dom ms (total_numbers x y es) (more_doms (G d) (more_doms (G c) no_doms))) ≡ marks_fit (relation_dom ms es (more_doms d (more_doms c no_doms)))
+      marks_fit (relation_dom ms (total_numbers x y es) (more_doms (G d) (more_doms (G c) no_doms))) ≡ marks_fit
+      (relation_dom ms es (more_doms d (more_doms c no_doms)))
   flags-kept ms es d c =
-      ap (λ o. marks_among size_keys (if is_some o then Key.Reflexive ∷ Key.Irreflexive ∷ Key.Symmetric ∷ Key.AntiSymmetric ∷ Key.ASymmetric ∷ Key.Transitive ∷ [] else []) ms && marks_distinct ms)
+      ap (λ o. marks_among size_keys (if is_some o then Key.Reflexive ∷ Key.Irreflexive ∷ Key.Symmetric ∷ Key.AntiSymmetric ∷ Key.ASymmetric
+      ∷ Key.Transitive ∷ [] else []) ms && marks_distinct ms)
       (ap (λ t. join t (type_of_dom (G c))) (type-kept d) ∙ ap (join (type_of_dom d)) (type-kept c))
 
-  relation-orderly : (ds : Doms) (ms : List _) (es : Exs) → LayerIsOrderly (relation_dom ms es ds) → LayerIsOrderly (relation_dom ms (total_numbers x y es) (Gs ds))
+  relation-orderly : (ds : Doms) (ms : List _) (es : Exs) → LayerIsOrderly (relation_dom ms es ds) → LayerIsOrderly
+      (relation_dom ms (total_numbers x y es) (Gs ds))
   relation-orderly no_doms ms es o = o
   relation-orderly (more_doms d no_doms) ms es o = (o.0, if-listed (has_key Key.Reflexive ms) d ∙ o.1)
   relation-orderly (more_doms d (more_doms c no_doms)) ms es o = (flags-kept ms es d c ∙ o.0, if-listed (has_key Key.Reflexive ms) d ∙ o.1)

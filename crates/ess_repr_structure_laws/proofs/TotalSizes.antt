@@ -33,7 +33,8 @@ module _ (env : Env) where
   read-some (Some v) z h = refl
 
   -- A power of a number above 0, whose exponent isn't below 0.
-  pub power-total : (a b : Ex) (m n : ℕ) → Reads a env (pos (suc m)) → Reads b env (pos n) → Total a env → Total b env → Total (power_ex a b) env
+  pub power-total : (a b : Ex) (m n : ℕ) → Reads a env (pos (suc m)) → Reads b env (pos n) → Total a env → Total b env → Total
+      (power_ex a b) env
   power-total a b m n p q g h = (
     λ z. read-some (value_of_node (binary Op2.Pow) (meaning a env ∷ meaning b env ∷ [])) (pos (suc m ^ n)) (power-reads env a b m n p q),
     (g, (h, tt)),

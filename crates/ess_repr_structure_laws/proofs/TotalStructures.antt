@@ -89,7 +89,8 @@ module _ (env0 : Env) (q : ℕ → Text) (q-apart : (m l : ℕ) → l < m → sa
     total : Total e (N bs)
     natural : Natural e (N bs)
 
-  power-is : (a b : Ex) (m n : ℕ) (bs : Names) → Reads a (N bs) (pos (suc m)) → Reads b (N bs) (pos n) → Total a (N bs) → Total b (N bs) → BoundIs (power_ex a b) bs
+  power-is : (a b : Ex) (m n : ℕ) (bs : Names) → Reads a (N bs) (pos (suc m)) → Reads b (N bs) (pos n) → Total a (N bs) → Total b (N bs) →
+      BoundIs (power_ex a b) bs
   power-is a b m n bs p r g h = record {
     total = power-total (N bs) a b m n p r g h;
     natural = record { number = suc m ^ n; reads = power-reads (N bs) a b m n p r };
@@ -118,7 +119,8 @@ module _ (env0 : Env) (q : ℕ → Text) (q-apart : (m l : ℕ) → l < m → sa
     bound-is (matrix_dom is d) g bs = next-power (bound_ex d) (product_ex is) bs (bound-is d g.1 bs) (product-is is g.0 bs)
     bound-is (set_dom ms es d) g bs = two-power (bound_ex d) bs (bound-is d g.1 bs)
     bound-is (mset_dom ms es d) g bs =
-        next-power (occurrences_ex ms es) (bound_ex d) bs (record { total = occurrences-total ms es g.1 bs; natural = g.0 bs }) (bound-is d g.2 bs)
+        next-power (occurrences_ex ms es) (bound_ex d) bs (record { total = occurrences-total ms es g.1 bs; natural = g.0 bs })
+        (bound-is d g.2 bs)
     bound-is (function_dom ms es d c) g bs = next-power (bound_ex c) (bound_ex d) bs (bound-is c g.2 bs) (bound-is d g.1 bs)
     bound-is (relation_dom ms es ds) g bs = two-power (product_ex ds) bs (product-is ds g.1 bs)
     bound-is (partition_dom ms es d) g bs = next-power (bound_ex d) (bound_ex d) bs (bound-is d g.1 bs) (bound-is d g.1 bs)
@@ -207,5 +209,6 @@ module _ (env0 : Env) (q : ℕ → Text) (q-apart : (m l : ℕ) → l < m → sa
     )
 
   -- The structure of such a domain is total.
-  pub structure-total : (r : Repr) (d : Dom) (ns : List Text) (l : ℕ) (is : Exs) → Able d → AllHave is → T (structure q size_terms r d ns l is)
+  pub structure-total : (r : Repr) (d : Dom) (ns : List Text) (l : ℕ) (is : Exs) → Able d → AllHave is → T
+      (structure q size_terms r d ns l is)
   structure-total r d ns l is h a = structure-has q T Sized built-total (λ r d ns es h a bs. tt) r d ns l is (able-good d h) a

@@ -36,7 +36,8 @@ summed-reads (c ∷ cs) e env z h p =
     let u : From (meaning e env) z = read-from (meaning e env) z p in
     ap (λ o. as_int (value_of_node (word Fun.Sum) (option_map list_value o ∷ [])))
     (conds-items (c ∷ cs) env (λ here. option_map (λ v. v ∷ []) (meaning e here)))
-    ∙ ap (λ t. as_int (value_of_node (word Fun.Sum) (option_map list_value (if t then option_map (λ v. v ∷ []) (meaning e env) else Some []) ∷ [])))
+    ∙ ap (λ t. as_int (value_of_node (word Fun.Sum)
+    (option_map list_value (if t then option_map (λ v. v ∷ []) (meaning e env) else Some []) ∷ [])))
     (hold-tested (c ∷ cs) env h)
     ∙ ap (λ o. as_int (value_of_node (word Fun.Sum) (option_map list_value (option_map (λ v. v ∷ []) o) ∷ []))) u.there
     ∙ ap Some (+ℤ_idr (number_in u.value) ∙ u.reads)
@@ -50,7 +51,8 @@ summed-number : (cs : List Ex) (e : Ex) (env : Env) → IsNumber e env → IsNum
 summed-number [] e env h = h
 summed-number (c ∷ cs) e env h = go (meaning (comp_ex e (conds (c ∷ cs))) env)
   where
-    go : (o : Option Value) (z : ℤ) → as_int (value_of_node (word Fun.Sum) (o ∷ [])) ≡ Some z → value_of_node (word Fun.Sum) (o ∷ []) ≡ Some (number z)
+    go : (o : Option Value) (z : ℤ) → as_int (value_of_node (word Fun.Sum) (o ∷ [])) ≡ Some z → value_of_node (word Fun.Sum) (o ∷ []) ≡ Some
+        (number z)
     go None z p = cc
     go (Some v) z p = cc
 
@@ -83,7 +85,8 @@ module _ (x y : Text) where
   abbrev Gs : Doms → Doms
   Gs = total_doms x y
 
-  spans-kept : (rs : List Ends) (es : Exs) (env : Env) (ss : List Span) → spans_of rs (meanings es env) ≡ Some ss → spans_of rs (meanings (Ns es) env) ≡ Some ss
+  spans-kept : (rs : List Ends) (es : Exs) (env : Env) (ss : List Span) → spans_of rs (meanings es env) ≡ Some ss → spans_of rs
+      (meanings (Ns es) env) ≡ Some ss
   spans-kept [] no_exs env ss h = h
   spans-kept [] (more_exs e es) env ss h = cc
   spans-kept (one_value ∷ rs) no_exs env ss h = cc
@@ -95,10 +98,12 @@ module _ (x y : Text) where
   spans-kept (both_ends ∷ rs) no_exs env ss h = cc
   spans-kept (both_ends ∷ rs) (more_exs a no_exs) env ss h = cc
   spans-kept (both_ends ∷ rs) (more_exs a (more_exs b es)) env ss h =
-      let c = chained (as_int (meaning a env)) (λ n. and_then (as_int (meaning b env)) (λ m. with_span (Some n) (Some m) (spans_of rs (meanings es env)))) ss h in
+      let c = chained (as_int (meaning a env)) (λ n. and_then (as_int (meaning b env))
+      (λ m. with_span (Some n) (Some m) (spans_of rs (meanings es env)))) ss h in
       let d = chained (as_int (meaning b env)) (λ m. with_span (Some c.0) (Some m) (spans_of rs (meanings es env))) ss c.2 in
       let m = mapped (λ l. record { low = Some c.0; high = Some d.0 } ∷ l) (spans_of rs (meanings es env)) ss d.2 in
-      ap (λ o. and_then o (λ n. and_then (as_int (meaning ((make_total_term x y true b).1) env)) (λ m. with_span (Some n) (Some m) (spans_of rs (meanings (Ns es) env))))) (number-reads a env c.0 c.1)
+      ap (λ o. and_then o (λ n. and_then (as_int (meaning ((make_total_term x y true b).1) env))
+      (λ m. with_span (Some n) (Some m) (spans_of rs (meanings (Ns es) env))))) (number-reads a env c.0 c.1)
       ∙ ap (λ o. and_then o (λ m. with_span (Some c.0) (Some m) (spans_of rs (meanings (Ns es) env)))) (number-reads b env d.0 d.1)
       ∙ ap (with_span (Some c.0) (Some d.0)) (spans-kept rs es env m.0 m.1) ∙ ap Some m.2
   spans-kept (low_end ∷ rs) no_exs env ss h = cc
@@ -114,7 +119,8 @@ module _ (x y : Text) where
       ap (λ o. and_then o (λ n. with_span None (Some n) (spans_of rs (meanings (Ns es) env)))) (number-reads a env c.0 c.1)
       ∙ ap (with_span None (Some c.0)) (spans-kept rs es env m.0 m.1) ∙ ap Some m.2
 
-  attributes-kept : (ms : List Mark) (es : Exs) (env : Env) (ks : List Attribute) → attributes_of ms (meanings es env) ≡ Some ks → attributes_of ms (meanings (Ns es) env) ≡ Some ks
+  attributes-kept : (ms : List Mark) (es : Exs) (env : Env) (ks : List Attribute) → attributes_of ms (meanings es env) ≡ Some ks →
+      attributes_of ms (meanings (Ns es) env) ≡ Some ks
   attributes-kept [] no_exs env ks h = h
   attributes-kept [] (more_exs e es) env ks h = cc
   attributes-kept (flag k ∷ ms) es env ks h =
@@ -134,7 +140,8 @@ module _ (x y : Text) where
     denoted-kept (int_dom rs es) env e h =
         let m = mapped integers (spans_of rs (meanings es env)) e h in ap (option_map integers) (spans-kept rs es env m.0 m.1) ∙ ap Some m.2
     denoted-kept (name_dom a) env e h = h
-    denoted-kept (tuple_dom ds) env e h = let m = mapped tuples (domains_of ds env) e h in ap (option_map tuples) (all-denoted-kept ds env m.0 m.1) ∙ ap Some m.2
+    denoted-kept (tuple_dom ds) env e h = let m = mapped tuples (domains_of ds env) e h in ap (option_map tuples)
+        (all-denoted-kept ds env m.0 m.1) ∙ ap Some m.2
     denoted-kept (record_dom fs ds) env e h =
         let m = mapped (records fs) (domains_of ds env) e h in ap (option_map (records fs)) (all-denoted-kept ds env m.0 m.1) ∙ ap Some m.2
     denoted-kept (matrix_dom is d) env e h =
@@ -153,10 +160,12 @@ module _ (x y : Text) where
         ap (λ o. and_then o (λ ks. option_map (msets ks) (domain_of (G d) env))) (attributes-kept ms es env c.0 c.1)
         ∙ ap (option_map (msets c.0)) (denoted-kept d env m.0 m.1) ∙ ap Some m.2
     denoted-kept (function_dom ms es d c) env e h =
-        let k = chained (attributes_of ms (meanings es env)) (λ ks. and_then (domain_of d env) (λ x. option_map (functions ks x) (domain_of c env))) e h in
+        let k = chained (attributes_of ms (meanings es env))
+        (λ ks. and_then (domain_of d env) (λ x. option_map (functions ks x) (domain_of c env))) e h in
         let u = chained (domain_of d env) (λ x. option_map (functions k.0 x) (domain_of c env)) e k.2 in
         let v = mapped (functions k.0 u.0) (domain_of c env) e u.2 in
-        ap (λ o. and_then o (λ ks. and_then (domain_of (G d) env) (λ x. option_map (functions ks x) (domain_of (G c) env)))) (attributes-kept ms es env k.0 k.1)
+        ap (λ o. and_then o (λ ks. and_then (domain_of (G d) env) (λ x. option_map (functions ks x) (domain_of (G c) env))))
+        (attributes-kept ms es env k.0 k.1)
         ∙ ap (λ o. and_then o (λ x. option_map (functions k.0 x) (domain_of (G c) env))) (denoted-kept d env u.0 u.1)
         ∙ ap (option_map (functions k.0 u.0)) (denoted-kept c env v.0 v.1) ∙ ap Some v.2
     denoted-kept (relation_dom ms es ds) env e h =

@@ -30,7 +30,8 @@ module _ (env0 : Env) (q : ℕ → Text) (q-apart : (m l : ℕ) → l < m → sa
   denoted-total x y v bs = record { domain = e; means = denoted-kept x y d (N bs) e (denoted v bs); plain = v.plain }
 
   -- What is known of the view is known of it.
-  pub known-total : (x y : Text) (r : Repr) → Known env0 q q-apart r d e → JudgedView env0 q r d e → Known env0 q q-apart r (total_dom x y d) e
+  pub known-total : (x y : Text) (r : Repr) → Known env0 q q-apart r d e → JudgedView env0 q r d e → Known env0 q q-apart r
+      (total_dom x y d) e
   known-total x y r k v = record {
     sound = orderly-sound (total_dom x y d) env0 e (orderly-kept x y d v.orderly) (denoted-kept x y d env0 e v.denotes);
     fit = fits-kept x y r d ∙ v.fit;
@@ -45,9 +46,12 @@ module _ (env0 : Env) (q : ℕ → Text) (q-apart : (m l : ℕ) → l < m → sa
 pub structures-total : StructuresAreTotal
 structures-total = record {
   total = λ env0 q apart r d e v t ns l bs.
-      structure-total env0 q apart r d ns l no_exs (λ cs. (record { domain = e; means = denoted env0 q apart d e v cs; plain = v.plain }, t cs)) tt bs;
+      structure-total env0 q apart r d ns l no_exs (λ cs.
+      (record { domain = e; means = denoted env0 q apart d e v cs; plain = v.plain }, t cs)) tt bs;
   guarded = λ x y env0 q apart r d e v c ns l bs.
-      structure-total env0 q apart r (total_dom x y d) ns l no_exs (λ cs. (denoted-total env0 q apart d e x y v cs, covered-total x y d (M env0 q apart cs) c)) tt bs;
+      structure-total env0 q apart r (total_dom x y d) ns l no_exs
+      (λ cs. (denoted-total env0 q apart d e x y v cs, covered-total x y d (M env0 q apart cs) c)) tt bs;
   means = λ x y env0 q apart r d e v ns ts l bs w f o t.
-      known-structures env0 q apart r (total_dom x y d) e (known-total env0 q apart d e x y r (judged-known env0 q apart r d e v) v) ns ts l bs w f o t;
+      known-structures env0 q apart r (total_dom x y d) e (known-total env0 q apart d e x y r (judged-known env0 q apart r d e v) v) ns ts l
+      bs w f o t;
 }

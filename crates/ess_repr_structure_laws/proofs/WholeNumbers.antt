@@ -57,7 +57,8 @@ power-whole None (Some v) = none-whole
 power-whole None None = none-whole
 
 max-whole : (x : Option Value) → IsWhole x →
-    IsWhole (false_where_undefined false (value_of_node (word Fun.Max) (false_where_undefined false (value_of_node matrix_literal (Some (number (pos 0)) ∷ x ∷ [])) ∷ [])))
+    IsWhole (false_where_undefined false (value_of_node (word Fun.Max)
+    (false_where_undefined false (value_of_node matrix_literal (Some (number (pos 0)) ∷ x ∷ [])) ∷ [])))
 max-whole None h = none-whole
 max-whole (Some v) h = go (below (number (pos 0)) v)
   where
@@ -135,7 +136,8 @@ module _ (env : Env) where
   count-is (both_ends ∷ []) (more_exs a (more_exs b no_exs)) h = between-is (bound_or_0 a) (bound_or_0 b) (bound-or-0-is b h.1.0)
   count-is (both_ends ∷ []) no_exs h = counted-is (both_ends ∷ []) no_exs
   count-is (both_ends ∷ []) (more_exs a no_exs) h = counted-is (both_ends ∷ []) (more_exs a no_exs)
-  count-is (both_ends ∷ []) (more_exs a (more_exs b (more_exs c es))) h = counted-is (both_ends ∷ []) (more_exs a (more_exs b (more_exs c es)))
+  count-is (both_ends ∷ []) (more_exs a (more_exs b (more_exs c es))) h = counted-is (both_ends ∷ [])
+      (more_exs a (more_exs b (more_exs c es)))
   count-is (low_end ∷ []) es h = counted-is (low_end ∷ []) es
   count-is (high_end ∷ []) es h = counted-is (high_end ∷ []) es
   count-is (one_value ∷ r ∷ rs) es h = counted-is (one_value ∷ r ∷ rs) es
@@ -171,12 +173,14 @@ module _ (env : Env) where
 
   greatest-whole : (ms : List Mark) (es : Exs) → AllNumbers es env → WholeOption (greatest_size_of ms es)
   greatest-whole ms es h =
-      else-whole (number_of Key.Size ms es) (number_of Key.MaxSize ms es) (number-of-whole Key.Size ms es h) (number-of-whole Key.MaxSize ms es h)
+      else-whole (number_of Key.Size ms es) (number_of Key.MaxSize ms es) (number-of-whole Key.Size ms es h)
+      (number-of-whole Key.MaxSize ms es h)
 
   occurrences-whole : (ms : List Mark) (es : Exs) → AllNumbers es env → W (occurrences_ex ms es)
   occurrences-whole ms es h =
       default-whole (or_else (number_of Key.MaxOccur ms es) (greatest_size_of ms es)) zero_ex
-      (else-whole (number_of Key.MaxOccur ms es) (greatest_size_of ms es) (number-of-whole Key.MaxOccur ms es h) (greatest-whole ms es h)) zero-is
+      (else-whole (number_of Key.MaxOccur ms es) (greatest_size_of ms es) (number-of-whole Key.MaxOccur ms es h) (greatest-whole ms es h))
+      zero-is
 
   -- ---- bounds and slots
 
@@ -210,4 +214,5 @@ module _ (env : Env) where
   -- Those of a multiset.
   pub mset-slots-whole : (ms : List Mark) (es : Exs) (d : Dom) → AllNumbers es env → NumbersIn d env → W (slots_ex (mset_dom ms es d))
   mset-slots-whole ms es d h k =
-      default-whole (greatest_size_of ms es) (times_ex (occurrences_ex ms es) (bound_ex d)) (greatest-whole ms es h) (times-is (occurrences_ex ms es) (bound_ex d))
+      default-whole (greatest_size_of ms es) (times_ex (occurrences_ex ms es) (bound_ex d)) (greatest-whole ms es h)
+      (times-is (occurrences_ex ms es) (bound_ex d))

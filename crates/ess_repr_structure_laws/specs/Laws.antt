@@ -1,5 +1,6 @@
 -- Laws of structures of judged domains, each stated at a function that does nothing.
 use Rattle.std.specs.Prelude.{◌≡◌, ℕ, ◌<◌, Bool, true, false, List, [], ◌∷◌, length, pos, Some}
+use Rattle.std.specs.List.{list_any}
 use Rattle.ess_semantics.specs.Values.{Text, truth}
 use Rattle.ess_semantics.specs.Order.{same_text}
 use Rattle.ess_semantics.specs.Trees.{Repr, no_exs, Dom, Stm}
@@ -17,7 +18,11 @@ use Rattle.ess_semantics.specs.Totality.{Total, TotalDom}
 use Rattle.ess_semantics.specs.Meets.{Meets, MeetsDom}
 use Rattle.ess_semantics.specs.Constants.{constants_of_tree, among_constants, dom_constants}
 use Rattle.ess_semantics.specs.FreeNames.{FreeNamesAreDom}
-use Rattle.ess_semantics.specs.Scopes.{Scope}
+use Rattle.ess_semantics.specs.Scopes.{Scope, asking, every_dom}
+use Rattle.ess_semantics.specs.Occurrences.{parts_of_dom, is_cell_or_view}
+use Rattle.ess_semantics.specs.Resolving.{resolve_dom}
+use Rattle.ess_semantics.specs.Typed.{Typed}
+use Rattle.ess_types_laws.specs.SoundParts.{relation_has_parts}
 use Rattle.ess_semantics.specs.DomainJudgements.{needs_known_slots}
 use Rattle.ess_semantics.specs.Judgements.{ill_typed, not_enumerable, domain_in, meets}
 use Rattle.ess_guard_laws.specs.Covered.{CoveredDom}
@@ -78,7 +83,8 @@ JudgedStructuresMeanCanonical =
 -- attribute value under its conditions, where these are covered. With them there it means that the cells are canonical, as without.
 pub record StructuresAreTotal : Type 0 where
   pub total : (env0 : Env) (q : ℕ → Text) (apart : (m l : ℕ) → l < m → same_text (q m) (q l) ≡ false) (r : Repr) (d : Dom) (e : Domain) →
-      DenotedView env0 q d e → ((bs : Bound env0 q apart) → TotalDom d (M env0 q apart bs)) → (ns : List Text) (l : ℕ) (bs : Bound env0 q apart) →
+      DenotedView env0 q d e → ((bs : Bound env0 q apart) → TotalDom d (M env0 q apart bs)) → (ns : List Text) (l : ℕ)
+      (bs : Bound env0 q apart) →
       Total (structure q size_terms r d ns l no_exs) (M env0 q apart bs)
   pub guarded : (x y : Text) (env0 : Env) (q : ℕ → Text) (apart : (m l : ℕ) → l < m → same_text (q m) (q l) ≡ false) (r : Repr) (d : Dom)
       (e : Domain) → DenotedView env0 q d e → CoveredDom d → (ns : List Text) (l : ℕ) (bs : Bound env0 q apart) →
@@ -94,7 +100,8 @@ pub record StructuresSpellConstants : Type 0 where
   pub own : (q : ℕ → Text) (r : Repr) (d : Dom) (ns : List Text) (l : ℕ) →
       among_constants (constants_of_tree (structure q size_terms r d ns l no_exs)) (pos 0 ∷ pos 1 ∷ pos 2 ∷ dom_constants d) ≡ true
   pub guarded : (x y : Text) (q : ℕ → Text) (r : Repr) (d : Dom) (ns : List Text) (l : ℕ) → DomLiteralsFit d →
-      among_constants (constants_of_tree (structure q size_terms r (total_dom x y d) ns l no_exs)) (pos 0 ∷ pos 1 ∷ pos 2 ∷ dom_constants d) ≡ true
+      among_constants (constants_of_tree (structure q size_terms r (total_dom x y d) ns l no_exs)) (pos 0 ∷ pos 1 ∷ pos 2 ∷ dom_constants d)
+      ≡ true
 
 -- Tables that are found by their names, on the declared axes with items in the declared domains, meet the structures of the structure
 -- itself: each of its views is tidy wherever its context holds, where they meet those of the domain's numbers. So they do with the
@@ -110,3 +117,12 @@ pub record TablesMeetStructures : Type 0 where
       (ns : List Text) (ts : Tables) (l : ℕ) (bs : Bound env0 q apart) → length ns ≡ width r →
       FoundBy env0 q apart ns ts → over_axes [] (axes_of r e) ts ≡ true → TablesFit (declarations r e) ts →
       Meets (structure q size_terms r (total_dom x y d) ns l no_exs) (M env0 q apart bs)
+
+-- The bounds and attribute values of a domain that is judged to be well typed, resolved, are whole numbers, under an env that gives names
+-- values of their types: where the domain mentions no table, and the tuples of relation literals in it have parts, as in each text.
+abbrev pub JudgedNumbersAreNumbers : Type 0
+JudgedNumbersAreNumbers =
+    (w t : Stm) (s : Scope) (d : Dom) (env : Env) → domain_in t ≡ Some d → meets ill_typed w t s ≡ true →
+    every_dom (record asking { of_ex = relation_has_parts }) d s ≡ true → list_any is_cell_or_view (parts_of_dom d) ≡ false → Typed s.tys
+    env →
+    NumbersIn (resolve_dom d s.tys) env

@@ -1,6 +1,6 @@
 //! Laws of structures of judged domains, each the contract of a function that does nothing.
 
-ghost use Rattle.ess_repr_structure_laws.specs.Laws.{JudgedDomainsAreOrderly, JudgedViewsAreReady, JudgedStructuresMeanCanonical, StructuresAreTotal, StructuresSpellConstants, TablesMeetStructures};
+ghost use Rattle.ess_repr_structure_laws.specs.Laws.{JudgedDomainsAreOrderly, JudgedViewsAreReady, JudgedStructuresMeanCanonical, StructuresAreTotal, StructuresSpellConstants, TablesMeetStructures, JudgedNumbersAreNumbers};
 
 /// A domain that meets the judgements is one that the other laws speak of.
 pub fn judged_domains_are_orderly()
@@ -31,4 +31,9 @@ pub fn structures_spell_constants()
 /// Tables on the declared axes with items in the declared domains meet the structures of the structure constraint.
 pub fn tables_meet_structures()
     ensures { TablesMeetStructures }
+{}
+
+/// The bounds and attribute values of a judged domain are whole numbers.
+pub fn judged_numbers_are_numbers()
+    ensures { JudgedNumbersAreNumbers }
 {}
