@@ -1,9 +1,9 @@
 -- A part that spells no more numbers makes the whole spell no more.
-use Rattle.std.proofs.Common.{◌≡◌, refl, sym, ap, ◌∙◌, subst, ℕ, suc, Bool, true, false, ◌&&◌, List, [], ◌∷◌, ◌++◌, ℤ, pos}
+use Rattle.std.proofs.Common.{◌≡◌, refl, ap, subst, suc, Bool, true, false, List, [], ◌∷◌, ◌++◌, ℤ}
 use Rattle.std.specs.List.{list_all}
 use Rattle.ess_semantics.specs.Names.{Names}
 use Rattle.ess_semantics.specs.Numbers.{one_to}
-use Rattle.ess_semantics.specs.Trees.{Ex, Exs}
+use Rattle.ess_semantics.specs.Trees.{Ex}
 use Rattle.ess_semantics.specs.Types.{Ty}
 use Rattle.ess_semantics.specs.Typed.{Typed}
 use Rattle.ess_semantics.specs.Constants.{operand_count, counted_op, drops_items, tree_constants, operand_constants, gens_constants, dom_constants, doms_constants}

@@ -18,3 +18,4 @@ pub mod TypesStay
 pub mod MarksStay
 pub mod ScopesStay
 pub mod ConstantsStay
+pub mod ExamplesChains
