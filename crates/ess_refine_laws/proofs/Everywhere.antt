@@ -273,7 +273,7 @@ mutual
   under (from p x gs) e env f h = absurd h
   under (cond c gs) e env f h = replaces-where (meaning c env) _ _ (λ t. under gs e env f (h t))
 
-  bounded : (d : Dom) (env : Env) → ReadsBounds d env →
+  pub bounded : (d : Dom) (env : Env) → ReadsBounds d env →
       (is_some (members_in (domain_of (everywhere_dom d) env)) ≡ true)
       × ((vs : List Value) → members_in (domain_of d env) ≡ Some vs → members_in (domain_of (everywhere_dom d) env) ≡ Some vs)
   bounded bool_dom env h = (refl, λ vs e. e)

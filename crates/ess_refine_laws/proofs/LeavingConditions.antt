@@ -32,7 +32,7 @@ use Rattle.ess_refine_laws.proofs.RefinedTrees.{refined-met, everywhere-refined}
 -- ---- the generators, taken apart
 
 -- The parts of generators make them up.
-abbrev MakesUp : Option Parted → Gens → Type 0
+abbrev pub MakesUp : Option Parted → Gens → Type 0
 MakesUp None gs = Unit {0}
 MakesUp (Some t) gs = gs ≡ append_gens t.before (cond t.condition t.after)
 
@@ -41,7 +41,7 @@ made-up-behind : (f : Gens → Gens) → ((gs hs : Gens) → append_gens (f gs) 
 made-up-behind f h None gs m = tt
 made-up-behind f h (Some t) gs m = ap f m ∙ sym (h t.before (cond t.condition t.after))
 
-made-up : (gs : Gens) → MakesUp (at_last_condition gs) gs
+pub made-up : (gs : Gens) → MakesUp (at_last_condition gs) gs
 made-up no_gens = tt
 made-up (over p d gs) = made-up-behind (over p d) (λ gs hs. refl) (at_last_condition gs) gs (made-up gs)
 made-up (from p e gs) = made-up-behind (from p e) (λ gs hs. refl) (at_last_condition gs) gs (made-up gs)

@@ -19,3 +19,5 @@ pub mod MarksStay
 pub mod ScopesStay
 pub mod ConstantsStay
 pub mod ExamplesChains
+pub mod MixedLists
+pub mod ExtremeRules

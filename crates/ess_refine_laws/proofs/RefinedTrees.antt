@@ -205,7 +205,7 @@ mutual
       pairs (is_refined e) (is_refined (everywhere e)) (are_refined es) (are_refined (everywhere_exs es)) (everywhere-refined e)
       (operands-refined es) h
 
-  gens-refined : (gs : Gens) → are_refined_gens gs ≡ true → are_refined_gens (everywhere_gens gs) ≡ true
+  pub gens-refined : (gs : Gens) → are_refined_gens gs ≡ true → are_refined_gens (everywhere_gens gs) ≡ true
   gens-refined no_gens h = refl
   gens-refined (over (name_pat a) bool_dom gs) h = gens-refined gs h
   gens-refined (over (name_pat a) (name_dom t) gs) h = gens-refined gs h

@@ -7,3 +7,4 @@ pub mod TypesStay
 pub mod MarksStay
 pub mod ScopesStay
 pub mod ConstantsStay
+pub mod ExtremeRules
