@@ -1,5 +1,5 @@
 -- The least and the greatest under a condition that reads cells keep their meaning with another number for what is left out.
-use Rattle.std.proofs.Common.{◌≡◌, refl, sym, ap, ◌∙◌, subst, Bool, true, false, ◌&&◌, if◌then◌else◌, List, [], ◌∷◌, ◌++◌, ℤ, pos, Option, Some, None, option_map, arith}
+use Rattle.std.proofs.Common.{◌≡◌, refl, sym, ap, ◌∙◌, subst, true, false, ◌&&◌, if◌then◌else◌, List, [], ◌∷◌, ◌++◌, ℤ, pos, Option, Some, None, option_map, arith}
 use Rattle.std.proofs.lemmas.Int.{ints}
 use Rattle.std.specs.Prelude.{is_some, ◌+ℤ◌, ◌*ℤ◌}
 use Rattle.ess_semantics.specs.declared.words.Op1.{Op1}
@@ -20,7 +20,7 @@ use Rattle.ess_rules_laws.specs.SpliceRules.{append_gens}
 use Rattle.ess_rules_laws.proofs.Bindings.{each-of-map}
 use Rattle.ess_rules_laws.proofs.RuleAnswers.{AnswerKeeps, fires, when-so}
 use Rattle.ess_rules_laws.proofs.SourceRules.{both-lists}
-use Rattle.ess_refine_laws.specs.Everywhere.{everywhere, everywhere_gens, everywhere_dom, ReadsNumbers, ReadsUnder, Replaces}
+use Rattle.ess_refine_laws.specs.Everywhere.{everywhere, everywhere_gens, everywhere_dom, ReadsNumbers, ReadsUnder}
 use Rattle.ess_refine_laws.specs.LeavingConditions.{Parted, at_last_condition}
 use Rattle.ess_refine_laws.specs.ExtremeRules.{is_extreme, opposite, are_none, either_number, extreme_condition, OppositeFits, ExtremeFits, ExtremesKeep}
 use Rattle.ess_refine_laws.proofs.Replaced.{number-of}

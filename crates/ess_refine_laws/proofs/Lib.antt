@@ -4,6 +4,7 @@ pub mod Bounds
 pub mod Everywhere
 pub mod RefinedTrees
 pub mod LeavingConditions
+pub mod RecordNames
 pub mod AllRules
 pub mod ScalarOperands
 pub mod RulesFire
@@ -21,3 +22,4 @@ pub mod ConstantsStay
 pub mod ExamplesChains
 pub mod MixedLists
 pub mod ExtremeRules
+pub mod ExamplesExtremes

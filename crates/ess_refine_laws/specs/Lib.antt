@@ -1,6 +1,7 @@
 pub mod Everywhere
 pub mod LeavingConditions
 pub mod ScalarItems
+pub mod RecordNames
 pub mod AllRules
 pub mod Progress
 pub mod TypesStay
