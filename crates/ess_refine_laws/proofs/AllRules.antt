@@ -55,18 +55,22 @@ only-offered (Some []) P c = tt
 only-offered (Some (a ∷ [])) P c = c
 only-offered (Some (a ∷ b ∷ l)) P c = tt
 
-listed-keeps : (s : Supply) (g : Names Ty) (e f : Ex) → source_listed s g e ≡ Some f → (env : Env) → SourceListed s g e env → OperandsThere e env →
+listed-keeps : (s : Supply) (g : Names Ty) (e f : Ex) → source_listed s g e ≡ Some f → (env : Env) → SourceListed s g e env →
+    OperandsThere e env →
     Keeps e f env
 listed-keeps s g (fun1 m w (comp_ex e (from (name_pat y) t hs))) f q env c o =
     of-offered (offered s g t) (λ l. source_parts l (fun1 m w (comp_ex e (from (name_pat y) t hs)))) f
-    (λ l. ListedApart l (fun1 m w (comp_ex e (from (name_pat y) t hs))) env) (Keeps (fun1 m w (comp_ex e (from (name_pat y) t hs))) f env) q c
+    (λ l. ListedApart l (fun1 m w (comp_ex e (from (name_pat y) t hs))) env) (Keeps (fun1 m w (comp_ex e (from
+    (name_pat y) t hs))) f env) q c
     (λ l p d. listed_sources-keep.in_parts d.0 d.1 l (fun1 m w (comp_ex e (from (name_pat y) t hs))) f p d.2 env d.3 o)
 listed-keeps s g _ f q env c o = cc
 
-listed-once-keeps : (s : Supply) (g : Names Ty) (e f : Ex) → source_listed_once s g e ≡ Some f → (env : Env) → SourceListed s g e env → Keeps e f env
+listed-once-keeps : (s : Supply) (g : Names Ty) (e f : Ex) → source_listed_once s g e ≡ Some f → (env : Env) → SourceListed s g e env →
+    Keeps e f env
 listed-once-keeps s g (fun1 m w (comp_ex e (from (name_pat y) t hs))) f q env c =
     of-offered (only_one (offered s g t)) (λ a. source_alone a (fun1 m w (comp_ex e (from (name_pat y) t hs)))) f
-    (λ a. ListedApart (a ∷ []) (fun1 m w (comp_ex e (from (name_pat y) t hs))) env) (Keeps (fun1 m w (comp_ex e (from (name_pat y) t hs))) f env) q
+    (λ a. ListedApart (a ∷ []) (fun1 m w (comp_ex e (from (name_pat y) t hs))) env) (Keeps (fun1 m w (comp_ex e (from
+    (name_pat y) t hs))) f env) q
     (only-offered (offered s g t) (λ l. ListedApart l (fun1 m w (comp_ex e (from (name_pat y) t hs))) env) c)
     (λ a p d. listed_sources-keep.alone d.0 d.1 a (fun1 m w (comp_ex e (from (name_pat y) t hs))) f p d.2 env d.3)
 listed-once-keeps s g _ f q env c = cc
@@ -74,7 +78,8 @@ listed-once-keeps s g _ f q env c = cc
 matrices-at-keep : (s : Supply) (g : Names Ty) (e f : Ex) → matrices_at s g e ≡ Some f → (env : Env) → Typed g env →
     CountsOn s g equal_matrices_at e env → Keeps e f env
 matrices-at-keep s g (ex2 m o a b) f q env t c =
-    matrices-keep.over_two_domains (s.index_domain a) (s.index_domain b) g s.one s.other (ex2 m o a b) f q c.3.0 c.0 c.3.1 c.3.2 c.1 env t c.2 c.3.3
+    matrices-keep.over_two_domains (s.index_domain a) (s.index_domain b) g s.one s.other
+    (ex2 m o a b) f q c.3.0 c.0 c.3.1 c.3.2 c.1 env t c.2 c.3.3
 matrices-at-keep s g _ f q env t c = cc
 
 -- ---- each rule
@@ -131,7 +136,8 @@ each-keeps s g frequency_in_a_literal e f q env t c = frequency_listed-keeps e f
 each-keeps s g frequency e f q env t c = frequency_term-keeps s.one e f q c.0 env c.1
 each-keeps s g together e f q env t c = together_term-keeps s.one e f q c env
 each-keeps s g least_of_a_literal e f q env t c = extreme_listed-keeps e f q env
-each-keeps s g different_items e f q env t c = different_listed-keeps e f (unless-test (tells_scalars_apart g e) (different_listed e) f q) env c
+each-keeps s g different_items e f q env t c =
+    different_listed-keeps e f (unless-test (tells_scalars_apart g e) (different_listed e) f q) env c
 each-keeps s g list_of_a_term e f q env t c = lists-keep.of_a_term s.one e f q c env
 each-keeps s g list_on_the_left e f q env t c = lists-keep.on_the_left s.one e f q c env
 each-keeps s g list_on_the_right e f q env t c = lists-keep.on_the_right s.one e f q c env

@@ -44,7 +44,8 @@ chosen_or_most : either_number flag (N j) most ≡
 chosen_or_most = refl
 
 -- A condition that reads no cell stays, and one before a generator.
-others_stay : (extreme_condition most (fn Fun.Min (comp_ex (N j) (over (name_pat j) (upto 3) (cond (bi Op2.Lt (n 1) (N j)) no_gens)))) ≡ None)
+others_stay : (extreme_condition most (fn Fun.Min (comp_ex (N j) (over (name_pat j) (upto 3) (cond (bi Op2.Lt (n 1)
+    (N j)) no_gens)))) ≡ None)
     × (extreme_condition most (fn Fun.Min (comp_ex (N j) (cond flag (over (name_pat q) (upto 3) no_gens)))) ≡ None)
     × (extreme_condition most (fn Fun.Sum (comp_ex (N j) (over (name_pat j) (upto 3) (cond flag no_gens)))) ≡ None)
 others_stay = (refl, refl, refl)
@@ -75,7 +76,8 @@ same_records : meaning (comp_ex (N x) (over (name_pat x) (record_dom (f ∷ x �
 same_records = refl
 
 -- Fields out of order, a field twice, too few names or one name twice: no rule.
-other_records : (are_in_order (x ∷ f ∷ []) parts ≡ false) × (are_in_order (f ∷ f ∷ []) parts ≡ false) × (are_in_order (f ∷ []) parts ≡ false)
+other_records : (are_in_order (x ∷ f ∷ []) parts ≡ false) × (are_in_order (f ∷ f ∷ []) parts ≡ false)
+    × (are_in_order (f ∷ []) parts ≡ false)
     × (name_over_record (j ∷ []) (comp_ex (N x) (over (name_pat x) (record_dom (f ∷ x ∷ []) parts) no_gens)) ≡ None)
     × (name_over_record (j ∷ j ∷ []) (comp_ex (N x) (over (name_pat x) (record_dom (f ∷ x ∷ []) parts) no_gens)) ≡ None)
 other_records = (refl, refl, refl, refl, refl)

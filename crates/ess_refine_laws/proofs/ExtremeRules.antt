@@ -75,7 +75,14 @@ module _ (k : Value) where
   mixed-over o None F A P t h e = cc
   mixed-over o (Some vs) F A P t h e =
       let c = mixed-collect vs F A P e in
-      record { all = c.all; mixed = c.mixed; all_there = c.all_there; mixed_there = c.mixed_there; mixes = λ xs q. c.mixes xs (go o h xs q) }
+      record {
+        all = c.all;
+        mixed = c.mixed;
+        all_there = c.all_there;
+        mixed_there = c.mixed_there;
+        mixes =
+            λ xs q. c.mixes xs (go o h xs q);
+      }
     where
       go : (o : Option (List Value)) → ((ws : List Value) → o ≡ Some ws → Some vs ≡ Some ws) → (xs : List Value) →
           and_then o (λ vs. collect vs F) ≡ Some xs → collect vs F ≡ Some xs
@@ -114,7 +121,8 @@ one-binding (Some (truth true)) o n m i k t p q s = record {
   mixes = λ xs e. go o s xs e;
 }
   where
-    go : (o : Option Value) → ((v : Value) → o ≡ Some v → n ≡ Some v) → (xs : List Value) → Alone o ≡ Some xs → Mix (number k) xs (number i ∷ []) (number i ∷ [])
+    go : (o : Option Value) → ((v : Value) → o ≡ Some v → n ≡ Some v) → (xs : List Value) → Alone o ≡ Some xs →
+        Mix (number k) xs (number i ∷ []) (number i ∷ [])
     go None s xs e = cc
     go (Some v) s xs e =
         subst (λ z. Mix (number k) z (number i ∷ []) (number i ∷ []))
@@ -125,7 +133,8 @@ one-binding (Some (truth false)) o n m i k t p q s = record {
   all_there = ap Alone p;
   mixed_there = ap (λ z. Alone (Chooses (Some (truth false)) z m)) p ∙ ap (λ z. Alone (Chooses (Some (truth false)) (Some (number i)) z)) q
       ∙ ap (λ z. Some (number z ∷ [])) (let e : (pos 0 *ℤ i) +ℤ (pos 1 *ℤ k) ≡ k = omega (arith, ints) in e);
-  mixes = λ xs e. subst (λ z. Mix (number k) z (number i ∷ []) (number k ∷ [])) (let j : [] ≡ xs = cc in j) (mix_left (number i) [] [] [] mix_none);
+  mixes = λ xs e. subst (λ z. Mix (number k) z (number i ∷ []) (number k ∷ [])) (let j : [] ≡ xs =
+      cc in j) (mix_left (number i) [] [] [] mix_none);
 }
 one-binding None o n m i k t p q s = absurd t
 one-binding (Some (number j)) o n m i k t p q s = absurd t
@@ -154,7 +163,8 @@ module _ (e c m : Ex) (k : ℤ) where
       one-binding (meaning c here) (meaning e here) (meaning (everywhere e) here) (meaning m here) n.0 k r.0 n.1 r.2 s.is_same
 
   mixed-under : (gs : Gens) (env : Env) → ReadsUnder gs env (λ here. Read here) →
-      Mixed (number k) (items_under (append_gens gs (cond c no_gens)) env (λ h. Alone (meaning e h))) (items_under (everywhere_gens gs) env All)
+      Mixed (number k) (items_under (append_gens gs (cond c no_gens)) env (λ h. Alone (meaning e h))) (items_under
+      (everywhere_gens gs) env All)
       (items_under (everywhere_gens gs) env New)
   mixed-under no_gens env h = mixed-here env h
   mixed-under (over p d gs) env h =
@@ -235,22 +245,28 @@ no-generators (from p e gs) h = cc
 no-generators (cond c gs) h = cc
 
 module _ (m e : Ex) (f : Fun) (gs : Gens) (env : Env) where
-  parted-answer : (o : Option Parted) → MakesUp o gs → is_some (meaning (fun1 false f (comp_ex e gs)) env) ≡ true → OppositeFits m f e o env →
+  parted-answer : (o : Option Parted) → MakesUp o gs → is_some (meaning (fun1 false f (comp_ex e gs)) env) ≡ true →
+      OppositeFits m f e o env →
       AnswerKeeps (elim o [
         | None ↦ None
-        | Some t ↦ if (is_extreme f && are_none t.after) && (is_refined t.condition && (is_refined e && (is_refined m && are_refined_gens t.before)))
+        | Some t ↦ if (is_extreme f && are_none t.after) && (is_refined t.condition && (is_refined e && (is_refined m
+            && are_refined_gens t.before)))
             then Some (fun1 false f (comp_ex (either_number t.condition (everywhere e) m) (everywhere_gens t.before))) else None
       ]) (fun1 false f (comp_ex e gs)) env
   parted-answer None u v n = tt
   parted-answer (Some t) u v n =
-      when-so ((is_extreme f && are_none t.after) && (is_refined t.condition && (is_refined e && (is_refined m && are_refined_gens t.before))))
+      when-so ((is_extreme f && are_none t.after) && (is_refined t.condition && (is_refined e && (is_refined m
+      && are_refined_gens t.before))))
       (fun1 false f (comp_ex (either_number t.condition (everywhere e) m) (everywhere_gens t.before))) (fun1 false f (comp_ex e gs)) env
       (λ h.
-      let x = and-left (is_extreme f && are_none t.after) (is_refined t.condition && (is_refined e && (is_refined m && are_refined_gens t.before))) h in
-      let y = and-right (is_extreme f && are_none t.after) (is_refined t.condition && (is_refined e && (is_refined m && are_refined_gens t.before))) h in
+      let x = and-left (is_extreme f && are_none t.after) (is_refined t.condition && (is_refined e && (is_refined m
+      && are_refined_gens t.before))) h in
+      let y = and-right (is_extreme f && are_none t.after) (is_refined t.condition && (is_refined e && (is_refined m
+      && are_refined_gens t.before))) h in
       let y1 = and-right (is_refined t.condition) (is_refined e && (is_refined m && are_refined_gens t.before)) y in
       let y2 = and-right (is_refined e) (is_refined m && are_refined_gens t.before) y1 in
-      let w = u ∙ ap (λ z. append_gens t.before (cond t.condition z)) (no-generators t.after (and-right (is_extreme f) (are_none t.after) x)) in
+      let w = u ∙ ap (λ z. append_gens t.before (cond t.condition z)) (no-generators t.after (and-right (is_extreme f)
+      (are_none t.after) x)) in
       subst (λ z. Keeps (fun1 false f (comp_ex e z))
       (fun1 false f (comp_ex (either_number t.condition (everywhere e) m) (everywhere_gens t.before))) env) (sym w)
       (extreme-kept m e t.condition f t.before env (and-left (is_extreme f) (are_none t.after) x)

@@ -30,7 +30,8 @@ module _ (a b : Ex) (nothing : static a ≡ other) where
   -- The type of a source stays.
   source-same : (c : In) (g : Names Ty) → KeepsType (names_at c g) a b → is_some (and_then (type_of (fill c a) g) member_ty) ≡ true →
       and_then (type_of (fill c b) g) member_ty ≡ and_then (type_of (fill c a) g) member_ty
-  source-same c g k t = ap (λ o. and_then o member_ty) (there-same (type_of (fill c a) g) (type_of (fill c b) g) (part-stays a b nothing c g k)
+  source-same c g k t = ap (λ o. and_then o member_ty) (there-same (type_of (fill c a) g) (type_of (fill c b) g)
+      (part-stays a b nothing c g k)
       (first (type_of (fill c a) g) t))
     where
       first : (o : Option Ty) → is_some (and_then o member_ty) ≡ true → is_some o ≡ true

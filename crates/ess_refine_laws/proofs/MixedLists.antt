@@ -38,7 +38,8 @@ Joined b x (Some m) = if b m x then m else x
 
 first-cons : (b : Value → Value → Bool) (x : Value) (xs : List Value) → First b (x ∷ xs) ≡ Some (Joined b x (First b xs))
 first-cons b x [] = refl
-first-cons b x (y ∷ ys) = ap (option_map (λ m. if b m x then m else x)) (first-cons b y ys) ∙ ap (λ o. Some (Joined b x o)) (sym (first-cons b y ys))
+first-cons b x (y ∷ ys) = ap (option_map (λ m. if b m x then m else x)) (first-cons b y ys)
+    ∙ ap (λ o. Some (Joined b x o)) (sym (first-cons b y ys))
 
 least-first : (xs : List Value) → least xs ≡ First below xs
 least-first [] = refl
@@ -60,7 +61,8 @@ pub data Mix (k : Value) : List Value → List Value → List Value → Type 0 w
 
 pub mix-append : (k : Value) (xs us ps ys ws qs : List Value) → Mix k xs us ps → Mix k ys ws qs → Mix k (xs ++ ys) (us ++ ws) (ps ++ qs)
 mix-append k xs us ps ys ws qs mix_none n = n
-mix-append k xs us ps ys ws qs (mix_taken x vs ts rs m) n = mix_taken x (vs ++ ys) (ts ++ ws) (rs ++ qs) (mix-append k vs ts rs ys ws qs m n)
+mix-append k xs us ps ys ws qs (mix_taken x vs ts rs m) n =
+    mix_taken x (vs ++ ys) (ts ++ ws) (rs ++ qs) (mix-append k vs ts rs ys ws qs m n)
 mix-append k xs us ps ys ws qs (mix_left u vs ts rs m) n = mix_left u (vs ++ ys) (ts ++ ws) (rs ++ qs) (mix-append k vs ts rs ys ws qs m n)
 
 module _ (b : Value → Value → Bool) (once : (x y : Value) → b x y ≡ true → b y x ≡ false)
@@ -81,7 +83,8 @@ module _ (b : Value → Value → Bool) (once : (x y : Value) → b x y ≡ true
     where
       empty : (xs : List Value) → First (λ x y. b y x) xs ≡ None → Each xs (λ u. b k u ≡ false)
       empty [] q = tt
-      empty (y ∷ ys) q = let r : None ≡ Some (Joined (λ x y. b y x) y (First (λ x y. b y x) ys)) = sym q ∙ first-cons (λ x y. b y x) y ys in cc
+      empty (y ∷ ys) q = let r : None ≡ Some (Joined (λ x y. b y x) y (First (λ x y. b y x) ys)) = sym q
+          ∙ first-cons (λ x y. b y x) y ys in cc
 
       behind : (m u : Value) → b x m ≡ false → b m u ≡ false → b x u ≡ false
       behind m u p q = look (b x u) refl (b u m) refl
@@ -95,7 +98,8 @@ module _ (b : Value → Value → Bool) (once : (x y : Value) → b x y ≡ true
       all-behind m [] p h = tt
       all-behind m (u ∷ us) p h = (behind m u p h.0, all-behind m us p h.1)
 
-      pick : (m : Value) (s : Bool) → b x m ≡ s → Each xs (λ u. b m u ≡ false) → (if s then m else x) ≡ k → Each (x ∷ xs) (λ u. b k u ≡ false)
+      pick : (m : Value) (s : Bool) → b x m ≡ s → Each xs (λ u. b m u ≡ false) → (if s then m else x) ≡ k →
+          Each (x ∷ xs) (λ u. b k u ≡ false)
       pick m true p h e = subst (λ z. Each (x ∷ xs) (λ u. b z u ≡ false)) e (once x m p, h)
       pick m false p h e = subst (λ z. Each (x ∷ xs) (λ u. b z u ≡ false)) e (not-itself x, all-behind m xs p h)
 
@@ -122,7 +126,8 @@ module _ (b : Value → Value → Bool) (once : (x y : Value) → b x y ≡ true
       go : Capped k (First b vs) (First b rs) → Capped k (First b (x ∷ vs)) (First b (x ∷ rs))
       go (same_first v p q n) = same_first (if b v x then v else x)
           (first-cons b x vs ∙ ap (λ o. Some (Joined b x o)) p) (first-cons b x rs ∙ ap (λ o. Some (Joined b x o)) q) (chosen v (b v x) n)
-      go (neither p q) = same_first x (first-cons b x vs ∙ ap (λ o. Some (Joined b x o)) p) (first-cons b x rs ∙ ap (λ o. Some (Joined b x o)) q) h.0
+      go (neither p q) = same_first x (first-cons b x vs ∙ ap (λ o. Some (Joined b x o)) p) (first-cons b x rs
+          ∙ ap (λ o. Some (Joined b x o)) q) h.0
       go (only_last p q) = same_first x (first-cons b x vs ∙ ap (λ o. Some (Joined b x o)) p)
           (first-cons b x rs ∙ ap (λ o. Some (Joined b x o)) q ∙ ap (λ s. Some (if s then k else x)) h.0) h.0
   capped k xs us ps (mix_left u vs ts rs m) h = go (capped k vs ts rs m h.1)
@@ -142,7 +147,8 @@ module _ (b : Value → Value → Bool) (once : (x y : Value) → b x y ≡ true
       go (only_last p q) = only_last p (first-cons b k rs ∙ ap (λ o. Some (Joined b k o)) q ∙ ap Some (alone (b k k)))
 
   -- So the first one stays first.
-  first-stays : (k : Value) (xs us ps : List Value) → Mix k xs us ps → First (λ x y. b y x) us ≡ Some k → (v : Value) → First b xs ≡ Some v →
+  first-stays : (k : Value) (xs us ps : List Value) → Mix k xs us ps → First (λ x y. b y x) us ≡ Some k → (v : Value) →
+      First b xs ≡ Some v →
       First b ps ≡ Some v
   first-stays k xs us ps m e v f = go (capped k xs us ps m (last-of us k e))
     where
@@ -152,12 +158,15 @@ module _ (b : Value → Value → Bool) (once : (x y : Value) → b x y ≡ true
       go (only_last p q) = let r : None ≡ Some v = sym p ∙ f in cc
 
 -- The least stays, with the greatest for what is left out, and the greatest with the least.
-pub least-stays : (k : Value) (xs us ps : List Value) → Mix k xs us ps → greatest us ≡ Some k → (v : Value) → least xs ≡ Some v → least ps ≡ Some v
-least-stays k xs us ps m e v f = least-first ps ∙ first-stays below below-once below-on below-one k xs us ps m (sym (greatest-first us) ∙ e) v
+pub least-stays : (k : Value) (xs us ps : List Value) → Mix k xs us ps → greatest us ≡ Some k → (v : Value) → least xs ≡ Some v →
+    least ps ≡ Some v
+least-stays k xs us ps m e v f = least-first ps
+    ∙ first-stays below below-once below-on below-one k xs us ps m (sym (greatest-first us) ∙ e) v
     (sym (least-first xs) ∙ f)
 
 pub greatest-stays : (k : Value) (xs us ps : List Value) → Mix k xs us ps → least us ≡ Some k → (v : Value) → greatest xs ≡ Some v →
     greatest ps ≡ Some v
 greatest-stays k xs us ps m e v f =
-    greatest-first ps ∙ first-stays (λ x y. below y x) (λ x y q. below-once y x q) (λ x y z p q. below-on z y x q p) (λ x y p q. below-one x y q p)
+    greatest-first ps ∙ first-stays (λ x y. below y x) (λ x y q. below-once y x q) (λ x y z p q. below-on z y x q p)
+    (λ x y p q. below-one x y q p)
     k xs us ps m (sym (least-first us) ∙ e) v (sym (greatest-first xs) ∙ f)

@@ -24,7 +24,8 @@ use Rattle.ess_refine_laws.proofs.MovingNodes.{OnExs, exs_done, exs_go, OnLists,
 -- The first generator that isn't refined, where it is over a source, a pattern, a tuple or a record of domains.
 module _ (sup : Supply) where
   pub data GensMove (g : Names Ty) (gs : Gens) : Type 0 where
-    source_moves : (hs : Gens) (p : Pat) (s : Ex) (ks : Gens) → gs ≡ append_gens hs (from p s ks) → HasMembers (names_behind hs g) sup.one sup.other s →
+    source_moves : (hs : Gens) (p : Pat) (s : Ex) (ks : Gens) → gs ≡ append_gens hs (from p s ks) →
+        HasMembers (names_behind hs g) sup.one sup.other s →
         GensMove g gs
     pattern_moves : (hs : Gens) (p : Pat) (c : Dom) (ks : Gens) → gs ≡ append_gens hs (over p c ks) →
         ((e : Ex) → (f : Ex) × (split (comp_ex e (over p c ks)) ≡ Some f)) → GensMove g gs
@@ -61,8 +62,11 @@ split-fires ps ds ks e h = (comp_ex e (each_over ps ds ks), ap (λ b. if b then 
 -- A name over a tuple becomes the tuple of any new names.
 name-fires : (ys : List Text) (a : Text) (ds : Doms) (ks : Gens) (e : Ex) → are_names ys ds ≡ true →
     (f : Ex) × (name_over_tuple ys (comp_ex e (over (name_pat a) (tuple_dom ds) ks)) ≡ Some f)
-name-fires ys a ds ks e h =
-    (comp_ex e (from (name_pat a) (tuples_over ys ds) ks), ap (λ b. if b then Some (comp_ex e (from (name_pat a) (tuples_over ys ds) ks)) else None) h)
+name-fires ys a ds ks e h = (
+  comp_ex e (from (name_pat a) (tuples_over ys ds) ks),
+  ap (λ b. if b then Some (comp_ex e (from (name_pat a)
+      (tuples_over ys ds) ks)) else None) h,
+)
 
 -- A name over a record becomes the record of any new names.
 record-fires : (ys : List Text) (a : Text) (fs : List Text) (ds : Doms) (ks : Gens) (e : Ex) → are_names ys ds ≡ true →

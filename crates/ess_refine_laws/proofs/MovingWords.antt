@@ -33,7 +33,8 @@ module _ (sup : Supply) (g : Names Ty) where
     -- A word on a list whose items are scalars.
     word-on-list : (f : Fun) → is_list_op (word f) ≡ true →
         (is_abstract g (fun1 (is_truth_op (word f)) f l) ≡ not (is_laid_open l)) → has_scalar_items l g && true ≡ true →
-        is_scalar (type_of (fun1 (is_truth_op (word f)) f l) g) ≡ true → Lists sup g One → Progress sup g (node_ex (is_truth_op (word f)) (word f) One)
+        is_scalar (type_of (fun1 (is_truth_op (word f)) f l) g) ≡ true → Lists sup g One →
+        Progress sup g (node_ex (is_truth_op (word f)) (word f) One)
     word-on-list f q a i s k = go (is_laid_open l) refl
       where
         go : (u : Bool) → is_laid_open l ≡ u → Progress sup g (node_ex (is_truth_op (word f)) (word f) One)

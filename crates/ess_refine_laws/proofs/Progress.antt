@@ -134,7 +134,11 @@ module _ (sup : Supply) where
 
 -- Each judged tree of a scalar.
 pub trees-make-progress : TreesMakeProgress
-trees-make-progress = record { moves = λ s g e j t. on-tree s e g j t; is_refined_where_none_does = λ s g e j t n. done s g e (on-tree s e g j t) n }
+trees-make-progress = record {
+  moves = λ s g e j t. on-tree s e g j t;
+  is_refined_where_none_does =
+      λ s g e j t n. done s g e (on-tree s e g j t) n;
+}
   where
     done : (s : Supply) (g : Names Ty) (e : Ex) → Progress s g e → ((c : In) (a : Ex) → e ≡ fill c a → Moves s (names_at c g) a → ⊥) →
         is_refined e ≡ true

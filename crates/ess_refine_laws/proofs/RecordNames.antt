@@ -108,7 +108,8 @@ in-order-stays (f ∷ fs) ds [] h n = refl
 in-order-stays (f ∷ []) ds (v ∷ l) h n = refl
 in-order-stays (f ∷ g ∷ fs) (more_doms d ds) (v ∷ []) h n = absurd (let z : suc zero ≡ suc (suc (length fs)) = n in omega arith)
 in-order-stays (f ∷ g ∷ fs) (more_doms d ds) (v ∷ w ∷ l) h n =
-    ap (insert_name (f, v)) (in-order-stays (g ∷ fs) ds (w ∷ l) (and-right (is_lt (order_text f g)) (are_in_order (g ∷ fs) ds) h) (omega arith))
+    ap (insert_name (f, v)) (in-order-stays (g ∷ fs) ds (w ∷ l) (and-right (is_lt (order_text f g)) (are_in_order (g ∷ fs) ds) h)
+    (omega arith))
     ∙ ap (λ o. insert_by o (f, v) (g, w) (zip fs l) (insert_name (f, v) (zip fs l)))
     (less-of (order_text f g) (and-left (is_lt (order_text f g)) (are_in_order (g ∷ fs) ds) h))
 in-order-stays (f ∷ g ∷ fs) no_doms (v ∷ l) h n = cc
@@ -153,7 +154,8 @@ as-many-fields ys fs ds h k = names-count ys ds h ∙ sym (fields-count fs ds k)
 -- The record of these values.
 record-is : (fs : List Text) (ds : Doms) (l : List Value) → are_in_order fs ds ≡ true → length l ≡ length fs →
     record_value (by_name (zip fs l)) ≡ node (a_record fs) (of_list l)
-record-is fs ds l h n = ap record_value (in-order-stays fs ds l h n) ∙ ap (λ z. node (a_record z) (of_list (map (λ p. p.1) (zip fs l)))) (keys-are fs l n)
+record-is fs ds l h n = ap record_value (in-order-stays fs ds l h n)
+    ∙ ap (λ z. node (a_record z) (of_list (map (λ p. p.1) (zip fs l)))) (keys-are fs l n)
     ∙ ap (λ z. node (a_record fs) (of_list z)) (values-are fs l n)
 
 -- ---- the rule

@@ -31,10 +31,12 @@ fires-by s g e {f = f} r n i q = first-there s g e f r all_rules n i q
 
 both-there : (o p : Option Ty) (F G : Ty → Ty → Ex) (f : Ex) → both_matrices o p F ≡ Some f →
     (h : Ex) × (both_matrices o p G ≡ Some h)
-both-there (Some (compound a_matrix (more_tys i (more_tys t no_tys)))) (Some (compound a_matrix (more_tys j (more_tys u no_tys)))) F G f q = (G t u, refl)
+both-there (Some (compound a_matrix (more_tys i (more_tys t no_tys)))) (Some (compound a_matrix (more_tys j
+    (more_tys u no_tys)))) F G f q = (G t u, refl)
 both-there _ _ F G f q = cc
 
-matrices-there : (s : Supply) (g : Names Ty) (d : Dom) (e f : Ex) → equal_items d g s.one e ≡ Some f → (h : Ex) × (matrices_at s g e ≡ Some h)
+matrices-there : (s : Supply) (g : Names Ty) (d : Dom) (e f : Ex) → equal_items d g s.one e ≡ Some f → (h : Ex)
+    × (matrices_at s g e ≡ Some h)
 matrices-there s g d (ex2 true Op2.Eq a b) f q =
     both-there (type_of a g) (type_of b g) (λ t u. equal_each_at s.one d t u a b)
     (λ t u. ex2 true Op2.And (ex2 true Op2.And (lies_in s.one s.other (s.index_domain a) (s.index_domain b))

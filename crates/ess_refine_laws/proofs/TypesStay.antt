@@ -31,7 +31,8 @@ map-stays f None p h t e = cc
 map-stays f (Some u) p h t e = ap (option_map f) (h u refl) ∙ e
 
 -- The source of a generator, by its own type.
-source-stays : {B : Type 0} (o : Option Ty) (F G : Ty → Option B) → Stays (F (or_any o)) (G (or_any o)) → Stays (and_then o F) (and_then o G)
+source-stays : {B : Type 0} (o : Option Ty) (F G : Ty → Option B) → Stays (F (or_any o)) (G (or_any o)) →
+    Stays (and_then o F) (and_then o G)
 source-stays None F G h t e = cc
 source-stays (Some u) F G h t e = h t e
 
@@ -108,7 +109,8 @@ path-stays p qs (s ∷ ss) (v ∷ vs) (u ∷ us) [] f = absurd f
 plain-stays : (op : Op) → ((ss : List Static) (us : List (Option Ty)) → type_of_node op ss us ≡ and_then (all_some us) (type_of_op op)) →
     (ss vs : List Static) (us ws : List (Option Ty)) → Follows ss vs us ws → Stays (type_of_node op ss us) (type_of_node op vs ws)
 plain-stays op h ss vs us ws f t e =
-    h vs ws ∙ then-stays (all_some us) (all_some ws) (type_of_op op) (type_of_op op) (all-stay ss vs us ws f) (λ x u q. q) t (sym (h ss us) ∙ e)
+    h vs ws ∙ then-stays (all_some us) (all_some ws) (type_of_op op) (type_of_op op) (all-stay ss vs us ws f) (λ x u q. q) t (sym
+    (h ss us) ∙ e)
 
 index-stays : (qs : List Step) (ss vs : List Static) (us ws : List (Option Ty)) → Follows ss vs us ws →
     Stays (type_of_node (index qs) ss us) (type_of_node (index qs) vs ws)
@@ -197,7 +199,8 @@ module _ (a b : Ex) where
           (operands-follow c g k)
       part-stays (in_item c d) g k =
           then-stays (all_some (types_of (fill_exs c a) g)) (all_some (types_of (fill_exs c b) g))
-          (λ ts. option_map (compound2 a_matrix (type_of_dom d)) (join_all ts)) (λ ts. option_map (compound2 a_matrix (type_of_dom d)) (join_all ts))
+          (λ ts. option_map (compound2 a_matrix (type_of_dom d)) (join_all ts)) (λ ts. option_map (compound2 a_matrix (type_of_dom d))
+          (join_all ts))
           (all-stay (statics (fill_exs c a)) (statics (fill_exs c b)) (types_of (fill_exs c a) g) (types_of (fill_exs c b) g)
           (operands-follow c g k)) (λ ts t e. e)
       part-stays (in_index_domain es c) g k = λ t e.

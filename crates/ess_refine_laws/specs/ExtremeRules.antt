@@ -39,7 +39,8 @@ either_number c n m =
 abbrev pub extreme_condition : Ex → Ex → Option Ex
 extreme_condition m (fun1 false f (comp_ex e gs)) = elim (at_last_condition gs) [
   | None ↦ None
-  | Some t ↦ if (is_extreme f && are_none t.after) && (is_refined t.condition && (is_refined e && (is_refined m && are_refined_gens t.before)))
+  | Some t ↦ if (is_extreme f && are_none t.after) && (is_refined t.condition && (is_refined e && (is_refined m
+      && are_refined_gens t.before)))
       then Some (fun1 false f (comp_ex (either_number t.condition (everywhere e) m) (everywhere_gens t.before))) else None
 ]
 extreme_condition m e = None
