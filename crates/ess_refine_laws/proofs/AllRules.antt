@@ -36,7 +36,8 @@ use Rattle.ess_rules_laws.proofs.ShortSizeRules.{size_made-keeps, frequency_made
 use Rattle.ess_rules_laws.proofs.ListRules.{lists-keep}
 use Rattle.ess_rules_laws.proofs.ContainerListings.{made-listings}
 use Rattle.ess_rules_laws.proofs.ChoiceRules.{choices-keep}
-use Rattle.ess_refine_laws.specs.AllRules.{Rule, over_nothing, over_one, over_one_binding, over_a_term, over_a_literal, over_a_made_set, over_a_source, of_one_source, over_a_comprehension, over_tuples, over_a_tuple, over_a_condition, component_of_a_tuple, field_of_a_record, not_equal, turned, strictly, equal_tuples, equal_records, equal_sets, equal_multisets, equal_functions, equal_partitions, with_nothing, equal_matrices_at, included_sets, included_multisets, in_two, in_one_made_of_another, in_a_literal, in_what_a_function_has, in_its_pairs, in_a_term, size_of_one_made_of_another, size, frequency_in_one_made_of_another, frequency_in_a_literal, frequency, together, least_of_a_literal, different_items, list_of_a_term, list_on_the_left, list_on_the_right, all_different, results, choice, condition, Supply, offered, source_listed, only_one, source_listed_once, matrices_at, compares_compound, tells_scalars_apart, rewrite, OfSome, ListedApart, SourceListed, CountsOn, all_rules, first_rewrite, FiringFit, AllRulesKeep}
+use Rattle.ess_refine_laws.specs.AllRules.{Rule, over_nothing, over_one, over_one_binding, over_a_term, over_a_literal, over_a_made_set, over_a_source, of_one_source, over_a_comprehension, over_tuples, over_a_tuple, over_a_record, over_a_condition, component_of_a_tuple, field_of_a_record, not_equal, turned, strictly, equal_tuples, equal_records, equal_sets, equal_multisets, equal_functions, equal_partitions, with_nothing, equal_matrices_at, included_sets, included_multisets, in_two, in_one_made_of_another, in_a_literal, in_what_a_function_has, in_its_pairs, in_a_term, size_of_one_made_of_another, size, frequency_in_one_made_of_another, frequency_in_a_literal, frequency, together, least_of_a_literal, different_items, list_of_a_term, list_on_the_left, list_on_the_right, all_different, results, choice, condition, Supply, offered, source_listed, only_one, source_listed_once, matrices_at, compares_compound, tells_scalars_apart, rewrite, OfSome, ListedApart, SourceListed, CountsOn, all_rules, first_rewrite, FiringFit, AllRulesKeep}
+use Rattle.ess_refine_laws.proofs.RecordNames.{names-over-records}
 use Rattle.ess_refine_laws.proofs.LeavingConditions.{conditions-leave}
 
 -- ---- listings of the first source
@@ -54,18 +55,22 @@ only-offered (Some []) P c = tt
 only-offered (Some (a ∷ [])) P c = c
 only-offered (Some (a ∷ b ∷ l)) P c = tt
 
-listed-keeps : (s : Supply) (g : Names Ty) (e f : Ex) → source_listed s g e ≡ Some f → (env : Env) → SourceListed s g e env → OperandsThere e env →
+listed-keeps : (s : Supply) (g : Names Ty) (e f : Ex) → source_listed s g e ≡ Some f → (env : Env) → SourceListed s g e env →
+    OperandsThere e env →
     Keeps e f env
 listed-keeps s g (fun1 m w (comp_ex e (from (name_pat y) t hs))) f q env c o =
     of-offered (offered s g t) (λ l. source_parts l (fun1 m w (comp_ex e (from (name_pat y) t hs)))) f
-    (λ l. ListedApart l (fun1 m w (comp_ex e (from (name_pat y) t hs))) env) (Keeps (fun1 m w (comp_ex e (from (name_pat y) t hs))) f env) q c
+    (λ l. ListedApart l (fun1 m w (comp_ex e (from (name_pat y) t hs))) env) (Keeps (fun1 m w (comp_ex e (from
+    (name_pat y) t hs))) f env) q c
     (λ l p d. listed_sources-keep.in_parts d.0 d.1 l (fun1 m w (comp_ex e (from (name_pat y) t hs))) f p d.2 env d.3 o)
 listed-keeps s g _ f q env c o = cc
 
-listed-once-keeps : (s : Supply) (g : Names Ty) (e f : Ex) → source_listed_once s g e ≡ Some f → (env : Env) → SourceListed s g e env → Keeps e f env
+listed-once-keeps : (s : Supply) (g : Names Ty) (e f : Ex) → source_listed_once s g e ≡ Some f → (env : Env) → SourceListed s g e env →
+    Keeps e f env
 listed-once-keeps s g (fun1 m w (comp_ex e (from (name_pat y) t hs))) f q env c =
     of-offered (only_one (offered s g t)) (λ a. source_alone a (fun1 m w (comp_ex e (from (name_pat y) t hs)))) f
-    (λ a. ListedApart (a ∷ []) (fun1 m w (comp_ex e (from (name_pat y) t hs))) env) (Keeps (fun1 m w (comp_ex e (from (name_pat y) t hs))) f env) q
+    (λ a. ListedApart (a ∷ []) (fun1 m w (comp_ex e (from (name_pat y) t hs))) env) (Keeps (fun1 m w (comp_ex e (from
+    (name_pat y) t hs))) f env) q
     (only-offered (offered s g t) (λ l. ListedApart l (fun1 m w (comp_ex e (from (name_pat y) t hs))) env) c)
     (λ a p d. listed_sources-keep.alone d.0 d.1 a (fun1 m w (comp_ex e (from (name_pat y) t hs))) f p d.2 env d.3)
 listed-once-keeps s g _ f q env c = cc
@@ -73,7 +78,8 @@ listed-once-keeps s g _ f q env c = cc
 matrices-at-keep : (s : Supply) (g : Names Ty) (e f : Ex) → matrices_at s g e ≡ Some f → (env : Env) → Typed g env →
     CountsOn s g equal_matrices_at e env → Keeps e f env
 matrices-at-keep s g (ex2 m o a b) f q env t c =
-    matrices-keep.over_two_domains (s.index_domain a) (s.index_domain b) g s.one s.other (ex2 m o a b) f q c.3.0 c.0 c.3.1 c.3.2 c.1 env t c.2 c.3.3
+    matrices-keep.over_two_domains (s.index_domain a) (s.index_domain b) g s.one s.other
+    (ex2 m o a b) f q c.3.0 c.0 c.3.1 c.3.2 c.1 env t c.2 c.3.3
 matrices-at-keep s g _ f q env t c = cc
 
 -- ---- each rule
@@ -100,6 +106,7 @@ each-keeps s g of_one_source e f q env t c = listed-once-keeps s g e f q env c
 each-keeps s g over_a_comprehension e f q env t c = splice-keeps c.0 c.1 e f q c.2 env c.3
 each-keeps s g over_tuples e f q env t c = split-keeps c.0 e f q c.1 env c.2
 each-keeps s g over_a_tuple e f q env t c = names-over-tuples s.parts e f q env
+each-keeps s g over_a_record e f q env t c = names-over-records s.parts e f q env
 each-keeps s g over_a_condition e f q env t c = alone-keeps e f q env
 each-keeps s g component_of_a_tuple e f q env t c = component_listed-keeps e f q env c
 each-keeps s g field_of_a_record e f q env t c = field_listed-keeps e f q env c
@@ -129,7 +136,8 @@ each-keeps s g frequency_in_a_literal e f q env t c = frequency_listed-keeps e f
 each-keeps s g frequency e f q env t c = frequency_term-keeps s.one e f q c.0 env c.1
 each-keeps s g together e f q env t c = together_term-keeps s.one e f q c env
 each-keeps s g least_of_a_literal e f q env t c = extreme_listed-keeps e f q env
-each-keeps s g different_items e f q env t c = different_listed-keeps e f (unless-test (tells_scalars_apart g e) (different_listed e) f q) env c
+each-keeps s g different_items e f q env t c =
+    different_listed-keeps e f (unless-test (tells_scalars_apart g e) (different_listed e) f q) env c
 each-keeps s g list_of_a_term e f q env t c = lists-keep.of_a_term s.one e f q c env
 each-keeps s g list_on_the_left e f q env t c = lists-keep.on_the_left s.one e f q c env
 each-keeps s g list_on_the_right e f q env t c = lists-keep.on_the_right s.one e f q c env

@@ -1,9 +1,9 @@
 -- A part that spells no more numbers makes the whole spell no more.
-use Rattle.std.proofs.Common.{◌≡◌, refl, sym, ap, ◌∙◌, subst, ℕ, suc, Bool, true, false, ◌&&◌, List, [], ◌∷◌, ◌++◌, ℤ, pos}
+use Rattle.std.proofs.Common.{◌≡◌, refl, ap, subst, suc, Bool, true, false, List, [], ◌∷◌, ◌++◌, ℤ}
 use Rattle.std.specs.List.{list_all}
 use Rattle.ess_semantics.specs.Names.{Names}
 use Rattle.ess_semantics.specs.Numbers.{one_to}
-use Rattle.ess_semantics.specs.Trees.{Ex, Exs}
+use Rattle.ess_semantics.specs.Trees.{Ex}
 use Rattle.ess_semantics.specs.Types.{Ty}
 use Rattle.ess_semantics.specs.Typed.{Typed}
 use Rattle.ess_semantics.specs.Constants.{operand_count, counted_op, drops_items, tree_constants, operand_constants, gens_constants, dom_constants, doms_constants}
@@ -62,7 +62,8 @@ module _ (q : ℤ → Bool) where
           (second-part (one_to (operand_count (fill_exs c a))) (operand_constants false (fill_exs c a))
           (operand_constants false (fill_exs c b)) (exs-numbers c false k)) h)
       part-numbers (in_index_domain es c) m k h =
-          second-part (one_to (operand_count es) ++ operand_constants false es) (dom_constants (fill_dom c a)) (dom_constants (fill_dom c b))
+          second-part (one_to (operand_count es) ++ operand_constants false es) (dom_constants (fill_dom c a)) (dom_constants
+          (fill_dom c b))
           (dom-numbers c k) h
       part-numbers (in_body c gs) m k h =
           first-part (tree_constants false (fill c a)) (tree_constants false (fill c b)) (gens_constants gs) (part-numbers c false k) h
@@ -105,11 +106,13 @@ module _ (q : ℤ → Bool) where
       dom-numbers (in_element is c) k h =
           second-part (doms_constants is) (dom_constants (fill_dom c a)) (dom_constants (fill_dom c b)) (dom-numbers c k) h
       dom-numbers (in_set_number ms c d) k h =
-          first-part (operand_constants false (fill_exs c a)) (operand_constants false (fill_exs c b)) (dom_constants d) (exs-numbers c false k) h
+          first-part (operand_constants false (fill_exs c a)) (operand_constants false (fill_exs c b)) (dom_constants d)
+          (exs-numbers c false k) h
       dom-numbers (in_set_member ms es c) k h =
           second-part (operand_constants false es) (dom_constants (fill_dom c a)) (dom_constants (fill_dom c b)) (dom-numbers c k) h
       dom-numbers (in_mset_number ms c d) k h =
-          first-part (operand_constants false (fill_exs c a)) (operand_constants false (fill_exs c b)) (dom_constants d) (exs-numbers c false k) h
+          first-part (operand_constants false (fill_exs c a)) (operand_constants false (fill_exs c b)) (dom_constants d)
+          (exs-numbers c false k) h
       dom-numbers (in_mset_member ms es c) k h =
           second-part (operand_constants false es) (dom_constants (fill_dom c a)) (dom_constants (fill_dom c b)) (dom-numbers c k) h
       dom-numbers (in_function_number ms c d r) k h =
@@ -118,18 +121,21 @@ module _ (q : ℤ → Bool) where
           (first-part (operand_constants false (fill_exs c a)) (operand_constants false (fill_exs c b)) (dom_constants d)
           (exs-numbers c false k)) h
       dom-numbers (in_argument ms es c r) k h =
-          first-part (operand_constants false es ++ dom_constants (fill_dom c a)) (operand_constants false es ++ dom_constants (fill_dom c b))
+          first-part (operand_constants false es ++ dom_constants (fill_dom c a)) (operand_constants false es ++ dom_constants
+          (fill_dom c b))
           (dom_constants r)
           (second-part (operand_constants false es) (dom_constants (fill_dom c a)) (dom_constants (fill_dom c b)) (dom-numbers c k)) h
       dom-numbers (in_result ms es d c) k h =
           second-part (operand_constants false es ++ dom_constants d) (dom_constants (fill_dom c a)) (dom_constants (fill_dom c b))
           (dom-numbers c k) h
       dom-numbers (in_relation_number ms c ds) k h =
-          first-part (operand_constants false (fill_exs c a)) (operand_constants false (fill_exs c b)) (doms_constants ds) (exs-numbers c false k) h
+          first-part (operand_constants false (fill_exs c a)) (operand_constants false (fill_exs c b)) (doms_constants ds)
+          (exs-numbers c false k) h
       dom-numbers (in_relation_component ms es c) k h =
           second-part (operand_constants false es) (doms_constants (fill_doms c a)) (doms_constants (fill_doms c b)) (doms-numbers c k) h
       dom-numbers (in_partition_number ms c d) k h =
-          first-part (operand_constants false (fill_exs c a)) (operand_constants false (fill_exs c b)) (dom_constants d) (exs-numbers c false k) h
+          first-part (operand_constants false (fill_exs c a)) (operand_constants false (fill_exs c b)) (dom_constants d)
+          (exs-numbers c false k) h
       dom-numbers (in_partition_member ms es c) k h =
           second-part (operand_constants false es) (dom_constants (fill_dom c a)) (dom_constants (fill_dom c b)) (dom-numbers c k) h
 

@@ -32,7 +32,8 @@ bits-append : (us ws : List Value) → bits (λ v. true) (us ++ ws) ≡ bits (λ
 bits-append [] ws = refl
 bits-append (u ∷ us) ws = ap (λ l. truth true ∷ l) (bits-append us ws)
 
-marks-collect : (vs : List Value) (F G : Value → Option (List Value)) → ((v : Value) → Marks (F v) (G v)) → Marks (collect vs F) (collect vs G)
+marks-collect : (vs : List Value) (F G : Value → Option (List Value)) → ((v : Value) → Marks (F v) (G v)) →
+    Marks (collect vs F) (collect vs G)
 marks-collect [] F G h xs e = ap (option_map (bits (λ v. true))) e
 marks-collect (v ∷ vs) F G h xs e =
     let b = both-lists (F v) (collect vs F) xs e in
@@ -98,7 +99,8 @@ picks f = false
 abbrev Made : Fun → Option (List Value) → Option Value
 Made f o = value_of_node (word f) (option_map list_value o ∷ [])
 
-made-number : (f : Fun) → picks f ≡ true → (x : Value) (xs : List Value) → Each (x ∷ xs) (λ v. IsNumber (Some v)) → IsNumber (Made f (Some (x ∷ xs)))
+made-number : (f : Fun) → picks f ≡ true → (x : Value) (xs : List Value) → Each (x ∷ xs) (λ v. IsNumber (Some v)) →
+    IsNumber (Made f (Some (x ∷ xs)))
 made-number Fun.Min q x xs h = subst (λ l. IsNumber (least l)) (sym (to_list-of_list (x ∷ xs))) (least-number x xs h.0 h.1)
 made-number Fun.Max q x xs h = subst (λ l. IsNumber (greatest l)) (sym (to_list-of_list (x ∷ xs))) (greatest-number x xs h.0 h.1)
 made-number _ q x xs h = cc
@@ -109,7 +111,8 @@ made-nothing Fun.Max q = refl
 made-nothing _ q = cc
 
 -- A word on a list that has an item.
-made-front : (f : Fun) → picks f ≡ true → (o p : Option (List Value)) (r : ReplacesList o p) (y : Value) (ys : List Value) → r.items ≡ y ∷ ys →
+made-front : (f : Fun) → picks f ≡ true → (o p : Option (List Value)) (r : ReplacesList o p) (y : Value) (ys : List Value) →
+    r.items ≡ y ∷ ys →
     Replaces (Made f o) (Made f p)
 made-front f q o p r y ys e = replaces-made (Made f) o p r refl
     (subst (λ l. IsNumber (Made f (Some l))) (sym e) (made-number f q y ys (subst (λ l. Each l (λ v. IsNumber (Some v))) e r.are_numbers)))
@@ -176,7 +179,8 @@ truth-number : (o : Option Value) → is_some o ≡ true → IsNumber (value_of_
 truth-number None e = cc
 truth-number (Some v) e = tt
 
-named-members : (b : Bool) (a : Text) (t : Option TypeEntry) → is_some (named_domain b a t) ≡ true → is_some (members_in (named_domain b a t)) ≡ true
+named-members : (b : Bool) (a : Text) (t : Option TypeEntry) → is_some (named_domain b a t) ≡ true →
+    is_some (members_in (named_domain b a t)) ≡ true
 named-members b a None e = cc
 named-members true a (Some t) e = refl
 named-members false a (Some t) e = refl
@@ -245,7 +249,8 @@ mutual
       picked f q (Items e gs env) (Items (everywhere e) (everywhere_gens gs) env) (under gs e env (λ here k. replaced e here k) h)
       (meaning (fun1 true Fun.Or (comp_ex (truth_ex true) (everywhere_gens gs))) env)
       (λ xs j. any-means env (truth_ex true) (everywhere_gens gs) (bits (λ v. true) xs)
-      (marks-under (everywhere_gens gs) env (λ here. option_map (λ v. v ∷ []) (meaning (everywhere e) here)) (λ here. Some (truth true ∷ []))
+      (marks-under (everywhere_gens gs) env (λ here. option_map (λ v. v ∷ []) (meaning (everywhere e) here)) (λ here. Some
+      (truth true ∷ []))
       (λ here. marks-alone (meaning (everywhere e) here)) xs j))
   extremes f q (node_ex false matrix_literal no_exs) env h =
       record { is_number = tt; is_same = λ v e. let w : None ≡ Some v = sym (made-nothing f q) ∙ e in cc }
@@ -263,7 +268,8 @@ mutual
   each no_exs env h = tt
   each (more_exs e es) env h = (replaced e env h.0, each es env h.1)
 
-  under : (gs : Gens) (e : Ex) (env : Env) → ((here : Env) → ReadsNumbers e here → Replaces (meaning e here) (meaning (everywhere e) here)) →
+  under : (gs : Gens) (e : Ex) (env : Env) → ((here : Env) → ReadsNumbers e here →
+      Replaces (meaning e here) (meaning (everywhere e) here)) →
       ReadsUnder gs env (λ here. ReadsNumbers e here) → ReplacesList (Items e gs env) (Items (everywhere e) (everywhere_gens gs) env)
   under no_gens e env f h = replaces-alone (meaning e env) (meaning (everywhere e) env) (f env h)
   under (over p d gs) e env f h =
@@ -273,7 +279,7 @@ mutual
   under (from p x gs) e env f h = absurd h
   under (cond c gs) e env f h = replaces-where (meaning c env) _ _ (λ t. under gs e env f (h t))
 
-  bounded : (d : Dom) (env : Env) → ReadsBounds d env →
+  pub bounded : (d : Dom) (env : Env) → ReadsBounds d env →
       (is_some (members_in (domain_of (everywhere_dom d) env)) ≡ true)
       × ((vs : List Value) → members_in (domain_of d env) ≡ Some vs → members_in (domain_of (everywhere_dom d) env) ≡ Some vs)
   bounded bool_dom env h = (refl, λ vs e. e)

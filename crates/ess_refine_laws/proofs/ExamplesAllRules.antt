@@ -57,7 +57,8 @@ fold_of_name = refl
 members_of_a_name : rule_at supply types (fn Fun.Or (comp_ex (bi Op2.Eq (N j) (n 1)) (from (name_pat j) (N s) no_gens))) ≡ None
 members_of_a_name = refl
 
-members_of_a_union : rule_at supply types (fn Fun.Or (comp_ex (bi Op2.Eq (N j) (n 1)) (from (name_pat j) (bi Op2.Union (N s) (N t)) no_gens))) ≡
+members_of_a_union : rule_at supply types (fn Fun.Or (comp_ex (bi Op2.Eq (N j) (n 1)) (from (name_pat j) (bi Op2.Union (N s)
+    (N t)) no_gens))) ≡
     rewrite supply types over_a_source (fn Fun.Or (comp_ex (bi Op2.Eq (N j) (n 1)) (from (name_pat j) (bi Op2.Union (N s) (N t)) no_gens)))
 members_of_a_union = refl
 
@@ -69,8 +70,10 @@ scalars_stay = (refl, refl, refl)
 
 -- Sets don't.
 sets_do_not : (rule_at supply types (bi Op2.Ne (N s) (N t)) ≡ rewrite supply types not_equal (bi Op2.Ne (N s) (N t)))
-    × (rule_at supply types (fn Fun.AllDiff (list2 (N s) (N t))) ≡ rewrite supply types different_items (fn Fun.AllDiff (list2 (N s) (N t))))
-    × (rule_at supply types (fn Fun.AllDiff (comp_ex (N s) no_gens)) ≡ rewrite supply types all_different (fn Fun.AllDiff (comp_ex (N s) no_gens)))
+    × (rule_at supply types (fn Fun.AllDiff (list2 (N s) (N t))) ≡ rewrite supply types different_items (fn Fun.AllDiff (list2 (N s)
+    (N t))))
+    × (rule_at supply types (fn Fun.AllDiff (comp_ex (N s) no_gens)) ≡ rewrite supply types all_different (fn Fun.AllDiff (comp_ex
+    (N s) no_gens)))
 sets_do_not = (refl, refl, refl)
 
 tuples_come_apart : rule_at supply types (comp_ex (n 1) (over (tuple_pat (more_pats (name_pat s) (more_pats (name_pat t) no_pats)))

@@ -36,7 +36,8 @@ divided_by_3 = refl
 -- ---- powers
 
 power_of_names : everywhere (bi Op2.Pow (N x) (N j)) ≡
-    bi Op2.Pow (bi Op2.Plus (N x) (fn Fun.ToInt (bi Op2.And (bi Op2.Eq (N x) (n 0)) (bi Op2.Le (N j) (n 0))))) (fn Fun.Max (list2 (N j) (n 0)))
+    bi Op2.Pow (bi Op2.Plus (N x) (fn Fun.ToInt (bi Op2.And (bi Op2.Eq (N x) (n 0)) (bi Op2.Le (N j) (n 0))))) (fn Fun.Max (list2 (N j)
+    (n 0)))
 power_of_names = refl
 
 power_of_2 : everywhere (bi Op2.Pow (n 2) (N j)) ≡ bi Op2.Pow (n 2) (fn Fun.Max (list2 (N j) (n 0)))
@@ -72,7 +73,8 @@ booleans_stay : everywhere (bi Op2.Plus (fn Fun.ToInt (bi Op2.Eq (bi Op2.Div (n 
 booleans_stay = refl
 
 -- The bounds of generators don't: `sum([j | j : int(1..1/0)])` becomes a sum over `int(1..1)`.
-bounds_do_not : meaning (everywhere (fn Fun.Sum (comp_ex (N j) (over (name_pat j) (range (n 1) (bi Op2.Div (n 1) (n 0))) no_gens)))) empty_env
+bounds_do_not : meaning (everywhere (fn Fun.Sum (comp_ex (N j) (over (name_pat j) (range (n 1) (bi Op2.Div (n 1)
+    (n 0))) no_gens)))) empty_env
     ≡ Some (v 1)
 bounds_do_not = refl
 
@@ -90,7 +92,8 @@ part = bi Op2.Div (n 6) (cell_ex false f (es1 (N j)))
 
 -- `sum([6 / f[j] | j : int(1..2), f[j]])` is `sum([toInt(f[j]) * sum([6 / (f[j] + toInt(f[j] = 0)) | ]) | j : int(1..2)])`.
 leaves_a_sum : condition_leaves (fn Fun.Sum (comp_ex part (over (name_pat j) (upto 2) (cond flag no_gens)))) ≡
-    Some (fn Fun.Sum (comp_ex (bi Op2.Times (fn Fun.ToInt flag) (fn Fun.Sum (comp_ex (everywhere part) no_gens))) (over (name_pat j) (upto 2) no_gens)))
+    Some (fn Fun.Sum (comp_ex (bi Op2.Times (fn Fun.ToInt flag) (fn Fun.Sum (comp_ex (everywhere part) no_gens))) (over (name_pat j)
+    (upto 2) no_gens)))
 leaves_a_sum = refl
 
 -- Of two conditions that read cells the last one leaves; one that reads none stays.

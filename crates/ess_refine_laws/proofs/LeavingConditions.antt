@@ -32,7 +32,7 @@ use Rattle.ess_refine_laws.proofs.RefinedTrees.{refined-met, everywhere-refined}
 -- ---- the generators, taken apart
 
 -- The parts of generators make them up.
-abbrev MakesUp : Option Parted → Gens → Type 0
+abbrev pub MakesUp : Option Parted → Gens → Type 0
 MakesUp None gs = Unit {0}
 MakesUp (Some t) gs = gs ≡ append_gens t.before (cond t.condition t.after)
 
@@ -41,7 +41,7 @@ made-up-behind : (f : Gens → Gens) → ((gs hs : Gens) → append_gens (f gs) 
 made-up-behind f h None gs m = tt
 made-up-behind f h (Some t) gs m = ap f m ∙ sym (h t.before (cond t.condition t.after))
 
-made-up : (gs : Gens) → MakesUp (at_last_condition gs) gs
+pub made-up : (gs : Gens) → MakesUp (at_last_condition gs) gs
 made-up no_gens = tt
 made-up (over p d gs) = made-up-behind (over p d) (λ gs hs. refl) (at_last_condition gs) gs (made-up gs)
 made-up (from p e gs) = made-up-behind (from p e) (λ gs hs. refl) (at_last_condition gs) gs (made-up gs)
@@ -180,7 +180,8 @@ all-bindings (cond c gs) env P h = λ t. all-bindings gs env P h
 
 read-at-each : (m : Bool) (f : Fun) (e : Ex) (t : Parted) (env : Env) → NumbersRead m f e (Some t) env →
     AtEach t.before env (Read m f e t.condition t.after)
-read-at-each true f e t env n = all-bindings t.before env (Read true f e t.condition t.after) (λ here q. absurd (let z : true ≡ false = q in never z))
+read-at-each true f e t env n = all-bindings t.before env (Read true f e t.condition t.after) (λ here q. absurd (let z : true ≡ false =
+    q in never z))
   where
     never : true ≡ false → ⊥
     never z = cc
@@ -194,9 +195,11 @@ module _ (m : Bool) (f : Fun) (e : Ex) (gs : Gens) (env : Env) where
       Keeps (fun1 m f (comp_ex e gs)) (fun1 m f (comp_ex (under_condition f t.condition (fun1 m f (comp_ex e t.after))) t.before)) env
   parted-kept t q u re rh v n =
       let w = subst (λ hs. is_some (meaning (comp_ex e hs) env) ≡ true) u v in
-      let l = list-there (items_under (append_gens t.before (cond t.condition t.after)) env (λ h. option_map (λ v. v ∷ []) (meaning e h))) w in
+      let l = list-there (items_under (append_gens t.before (cond t.condition t.after)) env (λ h. option_map (λ v. v ∷ [])
+      (meaning e h))) w in
       let i = inner-there (cond t.condition t.after) (λ h. option_map (λ v. v ∷ []) (meaning e h)) t.before env (ap is_some l.1) in
-      subst (λ hs. Keeps (fun1 m f (comp_ex e hs)) (fun1 m f (comp_ex (under_condition f t.condition (fun1 m f (comp_ex e t.after))) t.before)) env)
+      subst (λ hs. Keeps (fun1 m f (comp_ex e hs)) (fun1 m f (comp_ex (under_condition f t.condition (fun1 m f
+      (comp_ex e t.after))) t.before)) env)
       (sym u)
       (kept-both (fun1 m f (comp_ex e (append_gens t.before (cond t.condition t.after))))
       (fun1 m f (comp_ex (fun1 m f (comp_ex e (cond t.condition t.after))) t.before))
@@ -207,7 +210,8 @@ module _ (m : Bool) (f : Fun) (e : Ex) (gs : Gens) (env : Env) where
       (at-each-join t.before env
       (λ here. is_some (items_under (cond t.condition t.after) here (λ h. option_map (λ v. v ∷ []) (meaning e h))) ≡ true)
       (Read m f e t.condition t.after)
-      (Keeps (fun1 m f (comp_ex e (cond t.condition t.after))) (under_condition f t.condition (fun1 m f (comp_ex e t.after)))) (λ here a b. body-kept e t.condition t.after re rh here m f q a b) i (read-at-each m f e t env n))))
+      (Keeps (fun1 m f (comp_ex e (cond t.condition t.after))) (under_condition f t.condition (fun1 m f (comp_ex e t.after))))
+      (λ here a b. body-kept e t.condition t.after re rh here m f q a b) i (read-at-each m f e t env n))))
 
   parted-answer : (o : Option Parted) → MakesUp o gs → is_some (meaning (comp_ex e gs) env) ≡ true → NumbersRead m f e o env →
       AnswerKeeps (elim o [

@@ -4,6 +4,7 @@ pub mod Bounds
 pub mod Everywhere
 pub mod RefinedTrees
 pub mod LeavingConditions
+pub mod RecordNames
 pub mod AllRules
 pub mod ScalarOperands
 pub mod RulesFire
@@ -18,3 +19,7 @@ pub mod TypesStay
 pub mod MarksStay
 pub mod ScopesStay
 pub mod ConstantsStay
+pub mod ExamplesChains
+pub mod MixedLists
+pub mod ExtremeRules
+pub mod ExamplesExtremes

@@ -1,16 +1,15 @@
 -- A part that keeps its type and marks keeps the marks of the whole.
-use Rattle.std.proofs.Common.{◌≡◌, refl, sym, ap, ◌∙◌, subst, Bool, true, false, Option, Some, None}
+use Rattle.std.proofs.Common.{◌≡◌, refl, sym, ap, ◌∙◌, subst, Bool, true, Option, Some, None}
 use Rattle.std.specs.Prelude.{is_some}
 use Rattle.ess_semantics.specs.Lists.{and_then}
 use Rattle.ess_semantics.specs.Names.{Names}
-use Rattle.ess_semantics.specs.Trees.{Op, Ex, Exs, Gens, Pat}
+use Rattle.ess_semantics.specs.Trees.{Op, Ex}
 use Rattle.ess_semantics.specs.Types.{Ty, or_any, type_of_dom, bind_types}
 use Rattle.ess_semantics.specs.OperatorTypes.{member_ty}
 use Rattle.ess_semantics.specs.Typing.{static, other, type_of, source_ty}
 use Rattle.ess_semantics.specs.Typed.{Typed}
 use Rattle.ess_semantics.specs.Contexts.{In, Ins, InGens, InDom, InDoms, hole, in_operand, in_item, in_index_domain, in_body, in_generators, in_cell_index, in_view_domain, in_view_index, in_first, in_later, in_generator_domain, behind_over, in_source, behind_from, in_condition, behind_condition, in_bound, in_component, in_field, in_index, in_element, in_set_number, in_set_member, in_mset_number, in_mset_member, in_function_number, in_argument, in_result, in_relation_number, in_relation_component, in_partition_number, in_partition_member, in_first_domain, in_later_domain, fill, fill_exs, fill_gens, fill_dom, fill_doms}
 use Rattle.ess_semantics.specs.NamesAt.{names_behind, names_at, names_at_exs, names_at_gens, names_at_dom, names_at_doms}
-use Rattle.ess_semantics.specs.Kept.{Kept}
 use Rattle.ess_rules_laws.specs.Rewriting.{Rewritten, as_it_was, rewritten_at}
 use Rattle.ess_rules_laws.proofs.KeptUnder.{rewritten-kept}
 use Rattle.ess_refine_laws.specs.TypesStay.{KeepsType}
@@ -31,7 +30,8 @@ module _ (a b : Ex) (nothing : static a ≡ other) where
   -- The type of a source stays.
   source-same : (c : In) (g : Names Ty) → KeepsType (names_at c g) a b → is_some (and_then (type_of (fill c a) g) member_ty) ≡ true →
       and_then (type_of (fill c b) g) member_ty ≡ and_then (type_of (fill c a) g) member_ty
-  source-same c g k t = ap (λ o. and_then o member_ty) (there-same (type_of (fill c a) g) (type_of (fill c b) g) (part-stays a b nothing c g k)
+  source-same c g k t = ap (λ o. and_then o member_ty) (there-same (type_of (fill c a) g) (type_of (fill c b) g)
+      (part-stays a b nothing c g k)
       (first (type_of (fill c a) g) t))
     where
       first : (o : Option Ty) → is_some (and_then o member_ty) ≡ true → is_some o ≡ true

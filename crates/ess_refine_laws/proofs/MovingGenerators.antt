@@ -15,6 +15,7 @@ use Rattle.ess_rules_laws.specs.SplitRules.{as_many, split, each_over}
 use Rattle.ess_rules_laws.specs.TupleNames.{are_names, name_over_tuple, tuples_over}
 use Rattle.ess_rules_laws.specs.Progress.{HasMembers}
 use Rattle.ess_refine_laws.specs.AllRules.{Supply}
+use Rattle.ess_refine_laws.specs.RecordNames.{are_in_order, records_over, name_over_record}
 use Rattle.ess_refine_laws.specs.Progress.{Moves, at_a_source, at_a_pattern, at_a_tuple, at_a_record, Progress, is_done, goes_on}
 use Rattle.ess_refine_laws.proofs.MovingNodes.{OnExs, exs_done, exs_go, OnLists, lists_done, lists_go, OnList, list_done, list_goes, here}
 
@@ -23,26 +24,27 @@ use Rattle.ess_refine_laws.proofs.MovingNodes.{OnExs, exs_done, exs_go, OnLists,
 -- The first generator that isn't refined, where it is over a source, a pattern, a tuple or a record of domains.
 module _ (sup : Supply) where
   pub data GensMove (g : Names Ty) (gs : Gens) : Type 0 where
-    source_moves : (hs : Gens) (p : Pat) (s : Ex) (ks : Gens) → gs ≡ append_gens hs (from p s ks) → HasMembers (names_behind hs g) sup.one sup.other s →
+    source_moves : (hs : Gens) (p : Pat) (s : Ex) (ks : Gens) → gs ≡ append_gens hs (from p s ks) →
+        HasMembers (names_behind hs g) sup.one sup.other s →
         GensMove g gs
     pattern_moves : (hs : Gens) (p : Pat) (c : Dom) (ks : Gens) → gs ≡ append_gens hs (over p c ks) →
         ((e : Ex) → (f : Ex) × (split (comp_ex e (over p c ks)) ≡ Some f)) → GensMove g gs
     tuple_moves : (hs : Gens) (a : Text) (ds : Doms) (ks : Gens) → gs ≡ append_gens hs (over (name_pat a) (tuple_dom ds) ks) → GensMove g gs
     record_moves : (hs : Gens) (a : Text) (fs : List Text) (ds : Doms) (ks : Gens) →
-        gs ≡ append_gens hs (over (name_pat a) (record_dom fs ds) ks) → GensMove g gs
+        gs ≡ append_gens hs (over (name_pat a) (record_dom fs ds) ks) → are_in_order fs ds ≡ true → GensMove g gs
 
   -- Behind one more generator.
   move-over : (g : Names Ty) (p : Pat) (c : Dom) (gs : Gens) → GensMove (bind_types p (type_of_dom c) g) gs → GensMove g (over p c gs)
   move-over g p c gs (source_moves hs q s ks e m) = source_moves (over p c hs) q s ks (ap (over p c) e) m
   move-over g p c gs (pattern_moves hs q b ks e m) = pattern_moves (over p c hs) q b ks (ap (over p c) e) m
   move-over g p c gs (tuple_moves hs a ds ks e) = tuple_moves (over p c hs) a ds ks (ap (over p c) e)
-  move-over g p c gs (record_moves hs a fs ds ks e) = record_moves (over p c hs) a fs ds ks (ap (over p c) e)
+  move-over g p c gs (record_moves hs a fs ds ks e o) = record_moves (over p c hs) a fs ds ks (ap (over p c) e) o
 
   move-cond : (g : Names Ty) (c : Ex) (gs : Gens) → GensMove g gs → GensMove g (cond c gs)
   move-cond g c gs (source_moves hs q s ks e m) = source_moves (cond c hs) q s ks (ap (cond c) e) m
   move-cond g c gs (pattern_moves hs q b ks e m) = pattern_moves (cond c hs) q b ks (ap (cond c) e) m
   move-cond g c gs (tuple_moves hs a ds ks e) = tuple_moves (cond c hs) a ds ks (ap (cond c) e)
-  move-cond g c gs (record_moves hs a fs ds ks e) = record_moves (cond c hs) a fs ds ks (ap (cond c) e)
+  move-cond g c gs (record_moves hs a fs ds ks e o) = record_moves (cond c hs) a fs ds ks (ap (cond c) e) o
 
 -- A pattern that fits a tuple of domains has as many parts.
 pub parts-fit : (ps : Pats) (ds : Doms) → patterns_fit ps (types_of_doms ds) ≡ true → as_many ps ds ≡ true
@@ -60,8 +62,20 @@ split-fires ps ds ks e h = (comp_ex e (each_over ps ds ks), ap (λ b. if b then 
 -- A name over a tuple becomes the tuple of any new names.
 name-fires : (ys : List Text) (a : Text) (ds : Doms) (ks : Gens) (e : Ex) → are_names ys ds ≡ true →
     (f : Ex) × (name_over_tuple ys (comp_ex e (over (name_pat a) (tuple_dom ds) ks)) ≡ Some f)
-name-fires ys a ds ks e h =
-    (comp_ex e (from (name_pat a) (tuples_over ys ds) ks), ap (λ b. if b then Some (comp_ex e (from (name_pat a) (tuples_over ys ds) ks)) else None) h)
+name-fires ys a ds ks e h = (
+  comp_ex e (from (name_pat a) (tuples_over ys ds) ks),
+  ap (λ b. if b then Some (comp_ex e (from (name_pat a)
+      (tuples_over ys ds) ks)) else None) h,
+)
+
+-- A name over a record becomes the record of any new names.
+record-fires : (ys : List Text) (a : Text) (fs : List Text) (ds : Doms) (ks : Gens) (e : Ex) → are_names ys ds ≡ true →
+    are_in_order fs ds ≡ true → (f : Ex) × (name_over_record ys (comp_ex e (over (name_pat a) (record_dom fs ds) ks)) ≡ Some f)
+record-fires ys a fs ds ks e h k = (
+  comp_ex e (from (name_pat a) (records_over fs ys ds) ks),
+  ap (λ b. if b then Some (comp_ex e (from (name_pat a) (records_over fs ys ds) ks)) else None)
+      (and-both (are_names ys ds) (are_in_order fs ds) h k),
+)
 
 module _ (sup : Supply) where
   pub record WorkGens (g : Names Ty) (gs : Gens) : Type 0 where
@@ -156,8 +170,8 @@ module _ (sup : Supply) where
       let r = m e in subst (λ z. Moves sup g (comp_ex e z)) (sym q) (at_a_pattern e r.0 hs p c ks r.1)
   comp-moves g e gs (tuple_moves hs a ds ks q) =
       subst (λ z. Moves sup g (comp_ex e z)) (sym q) (at_a_tuple e hs a ds ks (λ ys n. name-fires ys a ds ks e n))
-  comp-moves g e gs (record_moves hs a fs ds ks q) =
-      subst (λ z. Moves sup g (comp_ex e z)) (sym q) (at_a_record e hs a fs ds ks)
+  comp-moves g e gs (record_moves hs a fs ds ks q o) =
+      subst (λ z. Moves sup g (comp_ex e z)) (sym q) (at_a_record e hs a fs ds ks (λ ys n. record-fires ys a fs ds ks e n o))
 
   pub of-comp : (g : Names Ty) (e : Ex) (gs : Gens) → Progress sup (names_behind gs g) e → OnGens g gs → OnList sup g (comp_ex e gs)
   of-comp g e gs p (gens_go w) = list_goes (record {

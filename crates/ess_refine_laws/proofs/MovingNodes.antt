@@ -63,11 +63,14 @@ module _ (sup : Supply) where
   firing g e a s = goes_on (here (by_a_rule (fires-at sup g e a (operators-have g sup.one bool_dom e a (scalar-there (type_of e g) s)))))
 
   -- An operator of models on operands.
-  pub scalar-node : (g : Names Ty) (op : Op) (es : Exs) → is_scalar_op op ≡ true → OnExs g es → Progress sup g (node_ex (is_truth_op op) op es)
+  pub scalar-node : (g : Names Ty) (op : Op) (es : Exs) → is_scalar_op op ≡ true → OnExs g es →
+      Progress sup g (node_ex (is_truth_op op) op es)
   scalar-node g op es q (exs_done h) =
-      is_done (and-both (iff (is_truth_op op) (is_truth_op op)) ((is_scalar_op op && are_refined es) || (is_list_op op && are_refined_lists es))
+      is_done (and-both (iff (is_truth_op op) (is_truth_op op)) ((is_scalar_op op && are_refined es) || (is_list_op op
+      && are_refined_lists es))
       (itself (is_truth_op op))
-      (or-left (is_scalar_op op && are_refined es) (is_list_op op && are_refined_lists es) (and-both (is_scalar_op op) (are_refined es) q h)))
+      (or-left (is_scalar_op op && are_refined es) (is_list_op op
+      && are_refined_lists es) (and-both (is_scalar_op op) (are_refined es) q h)))
     where
       itself : (b : Bool) → iff b b ≡ true
       itself true = refl
@@ -79,11 +82,14 @@ module _ (sup : Supply) where
     moves = w.moves;
   })
 
-  pub list-node : (g : Names Ty) (op : Op) (es : Exs) → is_list_op op ≡ true → OnLists g es → Progress sup g (node_ex (is_truth_op op) op es)
+  pub list-node : (g : Names Ty) (op : Op) (es : Exs) → is_list_op op ≡ true → OnLists g es →
+      Progress sup g (node_ex (is_truth_op op) op es)
   list-node g op es q (lists_done h) =
-      is_done (and-both (iff (is_truth_op op) (is_truth_op op)) ((is_scalar_op op && are_refined es) || (is_list_op op && are_refined_lists es))
+      is_done (and-both (iff (is_truth_op op) (is_truth_op op)) ((is_scalar_op op && are_refined es) || (is_list_op op
+      && are_refined_lists es))
       (itself (is_truth_op op))
-      (or-right (is_scalar_op op && are_refined es) (is_list_op op && are_refined_lists es) (and-both (is_list_op op) (are_refined_lists es) q h)))
+      (or-right (is_scalar_op op && are_refined es) (is_list_op op
+      && are_refined_lists es) (and-both (is_list_op op) (are_refined_lists es) q h)))
     where
       itself : (b : Bool) → iff b b ≡ true
       itself true = refl
@@ -111,7 +117,8 @@ module _ (sup : Supply) where
     unary-node o no_exs k s f = no s
     unary-node o (more_exs a (more_exs b es)) k s f = no (more (type_of a g) (type_of b g) (types_of es g) s)
       where
-        more : (p q : Option Ty) (os : List (Option Ty)) → is_scalar (and_then (all_some (p ∷ q ∷ os)) (type_of_op (unary o))) ≡ true → false ≡ true
+        more : (p q : Option Ty) (os : List (Option Ty)) → is_scalar (and_then (all_some (p ∷ q ∷ os)) (type_of_op (unary o))) ≡ true →
+            false ≡ true
         more None q os e = e
         more (Some t) None os e = e
         more (Some t) (Some u) os e = rest (all_some os) e
@@ -177,20 +184,24 @@ module _ (sup : Supply) where
           is_scalar (and_then (all_some (types_of Both g)) (type_of_op (binary o))) ≡ true → Scalars Both → Lists Both →
           Progress sup g (node_ex (is_truth_op (binary o)) (binary o) Both)
       binary-two Op2.Pow i k s f l = numbers Op2.Pow refl (λ t. fit t int_ty int_ty) (fits-none int_ty refl int_ty) k (paired Op2.Pow s) f
-      binary-two Op2.Times i k s f l = numbers Op2.Times refl (λ t. fit t int_ty int_ty) (fits-none int_ty refl int_ty) k (paired Op2.Times s) f
+      binary-two Op2.Times i k s f l = numbers Op2.Times refl (λ t. fit t int_ty int_ty) (fits-none int_ty refl int_ty) k
+          (paired Op2.Times s) f
       binary-two Op2.Div i k s f l = numbers Op2.Div refl (λ t. fit t int_ty int_ty) (fits-none int_ty refl int_ty) k (paired Op2.Div s) f
       binary-two Op2.Mod i k s f l = numbers Op2.Mod refl (λ t. fit t int_ty int_ty) (fits-none int_ty refl int_ty) k (paired Op2.Mod s) f
-      binary-two Op2.Plus i k s f l = numbers Op2.Plus refl (λ t. fit t int_ty int_ty) (fits-none int_ty refl int_ty) k (paired Op2.Plus s) f
+      binary-two Op2.Plus i k s f l = numbers Op2.Plus refl (λ t. fit t int_ty int_ty) (fits-none int_ty refl int_ty) k
+          (paired Op2.Plus s) f
       binary-two Op2.Minus i k s f l = numbers Op2.Minus refl subtracted subtracted-none k (paired Op2.Minus s) f
       binary-two Op2.Lt i k s f l = numbers Op2.Lt refl compared compared-none k (paired Op2.Lt s) f
       binary-two Op2.Le i k s f l = numbers Op2.Le refl compared compared-none k (paired Op2.Le s) f
       binary-two Op2.Gt i k s f l = numbers Op2.Gt refl compared compared-none k (paired Op2.Gt s) f
       binary-two Op2.Ge i k s f l = numbers Op2.Ge refl compared compared-none k (paired Op2.Ge s) f
-      binary-two Op2.And i k s f l = numbers Op2.And refl (λ t. fit t bool_ty bool_ty) (fits-none bool_ty refl bool_ty) k (paired Op2.And s) f
+      binary-two Op2.And i k s f l = numbers Op2.And refl (λ t. fit t bool_ty bool_ty) (fits-none bool_ty refl bool_ty) k
+          (paired Op2.And s) f
       binary-two Op2.Or i k s f l = numbers Op2.Or refl (λ t. fit t bool_ty bool_ty) (fits-none bool_ty refl bool_ty) k (paired Op2.Or s) f
       binary-two Op2.Implies i k s f l =
           numbers Op2.Implies refl (λ t. fit t bool_ty bool_ty) (fits-none bool_ty refl bool_ty) k (paired Op2.Implies s) f
-      binary-two Op2.Iff i k s f l = numbers Op2.Iff refl (λ t. fit t bool_ty bool_ty) (fits-none bool_ty refl bool_ty) k (paired Op2.Iff s) f
+      binary-two Op2.Iff i k s f l = numbers Op2.Iff refl (λ t. fit t bool_ty bool_ty) (fits-none bool_ty refl bool_ty) k
+          (paired Op2.Iff s) f
       binary-two Op2.Eq i k s f l =
           two-alike (type_of a g) (type_of b g) (known-a k) (known-b k) (paired Op2.Eq s)
           (λ p q. scalar-node g (binary Op2.Eq) Both refl (f (two-all (type_of a g) (type_of b g) p q)))

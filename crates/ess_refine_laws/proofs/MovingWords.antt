@@ -33,7 +33,8 @@ module _ (sup : Supply) (g : Names Ty) where
     -- A word on a list whose items are scalars.
     word-on-list : (f : Fun) → is_list_op (word f) ≡ true →
         (is_abstract g (fun1 (is_truth_op (word f)) f l) ≡ not (is_laid_open l)) → has_scalar_items l g && true ≡ true →
-        is_scalar (type_of (fun1 (is_truth_op (word f)) f l) g) ≡ true → Lists sup g One → Progress sup g (node_ex (is_truth_op (word f)) (word f) One)
+        is_scalar (type_of (fun1 (is_truth_op (word f)) f l) g) ≡ true → Lists sup g One →
+        Progress sup g (node_ex (is_truth_op (word f)) (word f) One)
     word-on-list f q a i s k = go (is_laid_open l) refl
       where
         go : (u : Bool) → is_laid_open l ≡ u → Progress sup g (node_ex (is_truth_op (word f)) (word f) One)
@@ -47,7 +48,7 @@ module _ (sup : Supply) (g : Names Ty) where
       where
         go : (u : Bool) → has_scalar_items l g ≡ u → Progress sup g (node_ex true (word Fun.AllDiff) One)
         go true j = word-on-list Fun.AllDiff refl refl (and-both (has_scalar_items l g) true j refl) s k
-        go false j = goes_on (here sup (by_a_rule (fires-by sup g (fun1 true Fun.AllDiff l) all_different 44 refl
+        go false j = goes_on (here sup (by_a_rule (fires-by sup g (fun1 true Fun.AllDiff l) all_different 45 refl
             (ap (λ c. if c then None else different_term sup.one (fun1 true Fun.AllDiff l)) j))))
 
     never-word : (f : Fun) → ((t : Ty) → is_scalar (type_of_word1 f t) ≡ false) →

@@ -57,13 +57,15 @@ not-below-zero k = ap is_lt (sym (int_cmp_is (pos (suc k)) (pos 0) Greater (omeg
 
 shifted : (m : ℤ) → m +ℤ one_if (same (number m) (number (pos 0))) ≡ off_zero m
 shifted (pos zero) = refl
-shifted (pos (suc k)) = ap (λ b. pos (suc k) +ℤ one_if b) (not-zero k) ∙ (let e : pos (suc k) +ℤ pos 0 ≡ pos (suc k) = omega (arith, ints) in e)
+shifted (pos (suc k)) = ap (λ b. pos (suc k) +ℤ one_if b) (not-zero k) ∙ (let e : pos (suc k) +ℤ pos 0 ≡ pos (suc k) =
+    omega (arith, ints) in e)
 shifted (negsuc k) = let e : negsuc k +ℤ pos 0 ≡ negsuc k = omega (arith, ints) in e
 
 -- The sum of a number and whether it is 0.
 abbrev Shift : Option Value → Option Value
 Shift o = value_of_node (binary Op2.Plus)
-    (o ∷ value_of_node (word Fun.ToInt) (false_where_undefined true (value_of_node (binary Op2.Eq) (o ∷ Some (number (pos 0)) ∷ [])) ∷ []) ∷ [])
+    (o ∷ value_of_node (word Fun.ToInt) (false_where_undefined true (value_of_node (binary Op2.Eq) (o ∷ Some (number
+    (pos 0)) ∷ [])) ∷ []) ∷ [])
 
 pub divisor-means : (b : Ex) (env : Env) (m : ℤ) → meaning b env ≡ Some (number m) → meaning (divisor b) env ≡ Some (number (off_zero m))
 divisor-means b env m e = go (is_nonzero b) refl
@@ -77,7 +79,8 @@ divisor-means b env m e = go (is_nonzero b) refl
 abbrev pub Quotient : Op2 → Option Value → Option Value → Option Value
 Quotient o a b = value_of_node (binary o) (a ∷ b ∷ [])
 
-pub divided : (n m : ℤ) → Replaces (Quotient Op2.Div (Some (number n)) (Some (number m))) (Quotient Op2.Div (Some (number n)) (Some (number (off_zero m))))
+pub divided : (n m : ℤ) → Replaces (Quotient Op2.Div (Some (number n)) (Some (number m))) (Quotient Op2.Div (Some (number n)) (Some
+    (number (off_zero m))))
 divided (pos a) (pos zero) = record { is_number = tt; is_same = λ v e. cc }
 divided (negsuc a) (pos zero) = record { is_number = tt; is_same = λ v e. cc }
 divided (pos a) (pos (suc b)) = replaces-itself _ tt
@@ -85,7 +88,8 @@ divided (negsuc a) (pos (suc b)) = replaces-itself _ tt
 divided (pos a) (negsuc b) = replaces-itself _ tt
 divided (negsuc a) (negsuc b) = replaces-itself _ tt
 
-pub remains : (n m : ℤ) → Replaces (Quotient Op2.Mod (Some (number n)) (Some (number m))) (Quotient Op2.Mod (Some (number n)) (Some (number (off_zero m))))
+pub remains : (n m : ℤ) → Replaces (Quotient Op2.Mod (Some (number n)) (Some (number m))) (Quotient Op2.Mod (Some (number n)) (Some
+    (number (off_zero m))))
 remains (pos a) (pos zero) = record { is_number = tt; is_same = λ v e. cc }
 remains (negsuc a) (pos zero) = record { is_number = tt; is_same = λ v e. cc }
 remains (pos a) (pos (suc b)) = replaces-itself _ tt

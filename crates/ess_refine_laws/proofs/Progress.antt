@@ -18,6 +18,7 @@ use Rattle.ess_rules_laws.specs.Progress.{is_plain_source, has_members}
 use Rattle.ess_rules_laws.proofs.SourceProgress.{sources-have}
 use Rattle.ess_refine_laws.specs.AllRules.{Supply}
 use Rattle.ess_refine_laws.specs.ScalarItems.{is_scalar, has_scalar_items}
+use Rattle.ess_refine_laws.specs.RecordNames.{are_in_order}
 use Rattle.ess_refine_laws.specs.Progress.{is_known, have_scalar_items, is_judged, are_judged, gens_judged, Moves, is_left, Progress, is_done, goes_on, TreesMakeProgress}
 use Rattle.ess_refine_laws.proofs.NeverScalars.{no}
 use Rattle.ess_refine_laws.proofs.MovingNodes.{all_open, OnExs, exs_done, OnLists, lists_done, OnList, here}
@@ -97,7 +98,8 @@ module _ (sup : Supply) where
         (on-gens gs ((a, int_ty) ∷ g)
         (and-right (is_bounded rs && (list_all is_scalar (types_of es g) && are_judged es g)) (gens_judged gs ((a, int_ty) ∷ g)) j))
     on-gens (over (name_pat a) (tuple_dom ds) gs) g j = gens_move (tuple_moves no_gens a ds gs refl)
-    on-gens (over (name_pat a) (record_dom fs ds) gs) g j = gens_move (record_moves no_gens a fs ds gs refl)
+    on-gens (over (name_pat a) (record_dom fs ds) gs) g j = gens_move (record_moves no_gens a fs ds gs refl
+        (and-left (are_in_order fs ds) (gens_judged gs ((a, type_of_dom (record_dom fs ds)) ∷ g)) j))
     on-gens (over (name_pat a) (matrix_dom is c) gs) g j = no j
     on-gens (over (name_pat a) (set_dom ms es c) gs) g j = no j
     on-gens (over (name_pat a) (mset_dom ms es c) gs) g j = no j
@@ -132,7 +134,11 @@ module _ (sup : Supply) where
 
 -- Each judged tree of a scalar.
 pub trees-make-progress : TreesMakeProgress
-trees-make-progress = record { moves = λ s g e j t. on-tree s e g j t; is_refined_where_none_does = λ s g e j t n. done s g e (on-tree s e g j t) n }
+trees-make-progress = record {
+  moves = λ s g e j t. on-tree s e g j t;
+  is_refined_where_none_does =
+      λ s g e j t n. done s g e (on-tree s e g j t) n;
+}
   where
     done : (s : Supply) (g : Names Ty) (e : Ex) → Progress s g e → ((c : In) (a : Ex) → e ≡ fill c a → Moves s (names_at c g) a → ⊥) →
         is_refined e ≡ true

@@ -59,7 +59,8 @@ mutual
   lists-met no_exs h g env = tt
   lists-met (more_exs e es) h g env = (
     list-met e (and-left (is_refined_list e) (are_refined_lists es) h) env,
-    guarded-true g (meaning e env) (MeetsAll false es env) (lists-met es (and-right (is_refined_list e) (are_refined_lists es) h) false env),
+    guarded-true g (meaning e env) (MeetsAll false es env) (lists-met es (and-right (is_refined_list e)
+        (are_refined_lists es) h) false env),
   )
 
   -- So do they generators of refined trees, and what stands under them.
@@ -159,11 +160,14 @@ mutual
   everywhere-refined (ex1 false Op1.Minus a) h = one (is_refined a) (is_refined (everywhere a)) (everywhere-refined a) h
   everywhere-refined (ex1 false Op1.Bar a) h = one (is_refined a) (is_refined (everywhere a)) (everywhere-refined a) h
   everywhere-refined (ex2 false Op2.Plus a b) h =
-      two (is_refined a) (is_refined b) (is_refined (everywhere a)) (is_refined (everywhere b)) (everywhere-refined a) (everywhere-refined b) h
+      two (is_refined a) (is_refined b) (is_refined (everywhere a)) (is_refined (everywhere b)) (everywhere-refined a)
+      (everywhere-refined b) h
   everywhere-refined (ex2 false Op2.Minus a b) h =
-      two (is_refined a) (is_refined b) (is_refined (everywhere a)) (is_refined (everywhere b)) (everywhere-refined a) (everywhere-refined b) h
+      two (is_refined a) (is_refined b) (is_refined (everywhere a)) (is_refined (everywhere b)) (everywhere-refined a)
+      (everywhere-refined b) h
   everywhere-refined (ex2 false Op2.Times a b) h =
-      two (is_refined a) (is_refined b) (is_refined (everywhere a)) (is_refined (everywhere b)) (everywhere-refined a) (everywhere-refined b) h
+      two (is_refined a) (is_refined b) (is_refined (everywhere a)) (is_refined (everywhere b)) (everywhere-refined a)
+      (everywhere-refined b) h
   everywhere-refined (ex2 false Op2.Div a b) h =
       two (is_refined a) (is_refined b) (is_refined (everywhere a)) (is_refined (divisor (everywhere b))) (everywhere-refined a)
       (λ k. divisor-refined (everywhere b) (everywhere-refined b k)) h
@@ -171,17 +175,20 @@ mutual
       two (is_refined a) (is_refined b) (is_refined (everywhere a)) (is_refined (divisor (everywhere b))) (everywhere-refined a)
       (λ k. divisor-refined (everywhere b) (everywhere-refined b k)) h
   everywhere-refined (ex2 false Op2.Pow a b) h =
-      both-true (is_refined a) (is_refined b) h (λ p q. raised-refined (everywhere a) (everywhere b) (everywhere-refined a p) (everywhere-refined b q))
+      both-true (is_refined a) (is_refined b) h (λ p q. raised-refined (everywhere a) (everywhere b) (everywhere-refined a p)
+      (everywhere-refined b q))
   everywhere-refined (fun1 false Fun.Sum l) h =
       folded (is_refined_list l) (is_refined_list (everywhere_list l)) (list-refined l) h
   everywhere-refined (fun1 false Fun.Product l) h =
       folded (is_refined_list l) (is_refined_list (everywhere_list l)) (list-refined l) h
   everywhere-refined (fun1 false Fun.Min (comp_ex e gs)) h =
       picked-refined (is_refined (everywhere e)) (are_refined_gens (everywhere_gens gs))
-      (folded (is_refined_list (comp_ex e gs)) (is_refined_list (comp_ex (everywhere e) (everywhere_gens gs))) (list-refined (comp_ex e gs)) h)
+      (folded (is_refined_list (comp_ex e gs)) (is_refined_list (comp_ex (everywhere e) (everywhere_gens gs))) (list-refined
+      (comp_ex e gs)) h)
   everywhere-refined (fun1 false Fun.Max (comp_ex e gs)) h =
       picked-refined (is_refined (everywhere e)) (are_refined_gens (everywhere_gens gs))
-      (folded (is_refined_list (comp_ex e gs)) (is_refined_list (comp_ex (everywhere e) (everywhere_gens gs))) (list-refined (comp_ex e gs)) h)
+      (folded (is_refined_list (comp_ex e gs)) (is_refined_list (comp_ex (everywhere e) (everywhere_gens gs))) (list-refined
+      (comp_ex e gs)) h)
   everywhere-refined (fun1 false Fun.Min (node_ex false matrix_literal no_exs)) h = refl
   everywhere-refined (fun1 false Fun.Max (node_ex false matrix_literal no_exs)) h = refl
   everywhere-refined (fun1 false Fun.Min (node_ex false matrix_literal (more_exs a es))) h =
@@ -205,7 +212,7 @@ mutual
       pairs (is_refined e) (is_refined (everywhere e)) (are_refined es) (are_refined (everywhere_exs es)) (everywhere-refined e)
       (operands-refined es) h
 
-  gens-refined : (gs : Gens) → are_refined_gens gs ≡ true → are_refined_gens (everywhere_gens gs) ≡ true
+  pub gens-refined : (gs : Gens) → are_refined_gens gs ≡ true → are_refined_gens (everywhere_gens gs) ≡ true
   gens-refined no_gens h = refl
   gens-refined (over (name_pat a) bool_dom gs) h = gens-refined gs h
   gens-refined (over (name_pat a) (name_dom t) gs) h = gens-refined gs h

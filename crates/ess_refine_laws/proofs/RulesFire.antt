@@ -31,10 +31,12 @@ fires-by s g e {f = f} r n i q = first-there s g e f r all_rules n i q
 
 both-there : (o p : Option Ty) (F G : Ty → Ty → Ex) (f : Ex) → both_matrices o p F ≡ Some f →
     (h : Ex) × (both_matrices o p G ≡ Some h)
-both-there (Some (compound a_matrix (more_tys i (more_tys t no_tys)))) (Some (compound a_matrix (more_tys j (more_tys u no_tys)))) F G f q = (G t u, refl)
+both-there (Some (compound a_matrix (more_tys i (more_tys t no_tys)))) (Some (compound a_matrix (more_tys j
+    (more_tys u no_tys)))) F G f q = (G t u, refl)
 both-there _ _ F G f q = cc
 
-matrices-there : (s : Supply) (g : Names Ty) (d : Dom) (e f : Ex) → equal_items d g s.one e ≡ Some f → (h : Ex) × (matrices_at s g e ≡ Some h)
+matrices-there : (s : Supply) (g : Names Ty) (d : Dom) (e f : Ex) → equal_items d g s.one e ≡ Some f → (h : Ex)
+    × (matrices_at s g e ≡ Some h)
 matrices-there s g d (ex2 true Op2.Eq a b) f q =
     both-there (type_of a g) (type_of b g) (λ t u. equal_each_at s.one d t u a b)
     (λ t u. ex2 true Op2.And (ex2 true Op2.And (lies_in s.one s.other (s.index_domain a) (s.index_domain b))
@@ -43,27 +45,27 @@ matrices-there s g d _ f q = cc
 
 unequal-there : (s : Supply) (g : Names Ty) (e f : Ex) → unequal e ≡ Some f → is_abstract g e ≡ true → is_some (rule_at s g e) ≡ true
 unequal-there s g (ex2 true Op2.Ne a b) f q h =
-    fires-by s g (ex2 true Op2.Ne a b) not_equal 14 refl (ap (λ c. if c then unequal (ex2 true Op2.Ne a b) else None) h)
+    fires-by s g (ex2 true Op2.Ne a b) not_equal 15 refl (ap (λ c. if c then unequal (ex2 true Op2.Ne a b) else None) h)
 unequal-there s g _ f q h = cc
 
 -- What fires at an operator that looks into a container.
 pub fires-at : (s : Supply) (g : Names Ty) {d : Dom} (e : Ex) → is_abstract g e ≡ true → Fires g s.one d e → is_some (rule_at s g e) ≡ true
 fires-at s g e h (by_unequal {f = f} q) = unequal-there s g e f q h
-fires-at s g e h (by_turned q) = fires-by s g e turned 15 refl q
-fires-at s g e h (by_strictly q) = fires-by s g e strictly 16 refl q
-fires-at s g e h (by_often q) = fires-by s g e included_multisets 26 refl q
-fires-at s g e h (by_member q) = fires-by s g e in_a_term 32 refl q
-fires-at s g e h (by_size q) = fires-by s g e size 34 refl q
-fires-at s g e h (by_frequency q) = fires-by s g e frequency 37 refl q
-fires-at s g e h (by_together q) = fires-by s g e together 38 refl q
-fires-at s g e h (by_fold q) = fires-by s g e over_a_term 11 refl q
-fires-at s g e h (by_list q) = fires-by s g e list_of_a_term 41 refl q
-fires-at s g e h (by_left q) = fires-by s g e list_on_the_left 42 refl q
-fires-at s g e h (by_right q) = fires-by s g e list_on_the_right 43 refl q
-fires-at s g e h (by_components q) = fires-by s g e equal_tuples 17 refl q
-fires-at s g e h (by_fields q) = fires-by s g e equal_records 18 refl q
-fires-at s g e h (by_sets q) = fires-by s g e equal_sets 19 refl q
-fires-at s g e h (by_msets q) = fires-by s g e equal_multisets 20 refl q
-fires-at s g e h (by_functions q) = fires-by s g e equal_functions 21 refl q
-fires-at s g e h (by_partitions q) = fires-by s g e equal_partitions 22 refl q
-fires-at s g {d = d} e h (by_matrices {f = f} q) = let r = matrices-there s g d e f q in fires-by s g e equal_matrices_at 24 refl r.1
+fires-at s g e h (by_turned q) = fires-by s g e turned 16 refl q
+fires-at s g e h (by_strictly q) = fires-by s g e strictly 17 refl q
+fires-at s g e h (by_often q) = fires-by s g e included_multisets 27 refl q
+fires-at s g e h (by_member q) = fires-by s g e in_a_term 33 refl q
+fires-at s g e h (by_size q) = fires-by s g e size 35 refl q
+fires-at s g e h (by_frequency q) = fires-by s g e frequency 38 refl q
+fires-at s g e h (by_together q) = fires-by s g e together 39 refl q
+fires-at s g e h (by_fold q) = fires-by s g e over_a_term 12 refl q
+fires-at s g e h (by_list q) = fires-by s g e list_of_a_term 42 refl q
+fires-at s g e h (by_left q) = fires-by s g e list_on_the_left 43 refl q
+fires-at s g e h (by_right q) = fires-by s g e list_on_the_right 44 refl q
+fires-at s g e h (by_components q) = fires-by s g e equal_tuples 18 refl q
+fires-at s g e h (by_fields q) = fires-by s g e equal_records 19 refl q
+fires-at s g e h (by_sets q) = fires-by s g e equal_sets 20 refl q
+fires-at s g e h (by_msets q) = fires-by s g e equal_multisets 21 refl q
+fires-at s g e h (by_functions q) = fires-by s g e equal_functions 22 refl q
+fires-at s g e h (by_partitions q) = fires-by s g e equal_partitions 23 refl q
+fires-at s g {d = d} e h (by_matrices {f = f} q) = let r = matrices-there s g d e f q in fires-by s g e equal_matrices_at 25 refl r.1

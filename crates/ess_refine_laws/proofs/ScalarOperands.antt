@@ -114,7 +114,8 @@ pub subtracted-none : (k : Kind) (ts : Tys) → is_scalar (subtracted (compound 
 subtracted-none k ts = united-none k ts
 
 -- No union of scalars is one.
-pub no-union : (t u : Ty) → is_known (Some t) ≡ true → is_known (Some u) ≡ true → is_scalar (and_then (join t u) united) ≡ true → false ≡ true
+pub no-union : (t u : Ty) → is_known (Some t) ≡ true → is_known (Some u) ≡ true → is_scalar (and_then (join t u) united) ≡ true →
+    false ≡ true
 no-union t u h k e = let s = two-scalars united united-none t u h k e in go t u s.0 s.1 e
   where
     go : (t u : Ty) → is_scalar (Some t) ≡ true → is_scalar (Some u) ≡ true → is_scalar (and_then (join t u) united) ≡ true → false ≡ true
@@ -210,7 +211,8 @@ pair-scalars F n (Some t) None h k e = no e
 pair-scalars F n (Some t) (Some u) h k e = two-scalars F n t u h k e
 
 -- What is never a scalar makes none.
-pub never-one : (F : Ty → Option Ty) → ((t : Ty) → is_scalar (F t) ≡ false) → (o : Option Ty) → is_scalar (and_then o F) ≡ true → false ≡ true
+pub never-one : (F : Ty → Option Ty) → ((t : Ty) → is_scalar (F t) ≡ false) → (o : Option Ty) → is_scalar (and_then o F) ≡ true →
+    false ≡ true
 never-one F n None e = e
 never-one F n (Some t) e = sym (n t) ∙ e
 

@@ -1,16 +1,15 @@
 -- A part that keeps its type keeps that of the whole.
 use Rattle.std.proofs.Common.{◌≡◌, refl, sym, ap, ◌∙◌, subst, List, [], ◌∷◌, Option, Some, None, option_map}
-use Rattle.ess_semantics.specs.Lists.{and_then, all_some, tail_of}
-use Rattle.ess_semantics.specs.Values.{Text, a_tuple, a_matrix, a_set, a_mset, a_function, a_relation, a_partition, a_record}
+use Rattle.ess_semantics.specs.Lists.{and_then, all_some}
+use Rattle.ess_semantics.specs.Values.{a_tuple, a_matrix, a_set, a_mset, a_function, a_relation, a_partition, a_record}
 use Rattle.ess_semantics.specs.Names.{Names}
-use Rattle.ess_semantics.specs.Trees.{Step, by_value, to_component, to_field, Op, unary, binary, word, index, application, tuple_literal, set_literal, mset_literal, function_literal, relation_literal, partition_literal, matrix_literal, record_literal, Ex, Exs, no_exs, more_exs, Gens}
-use Rattle.ess_semantics.specs.Types.{Ty, Tys, any_ty, bool_ty, int_ty, compound, compound2, no_tys, more_tys, join, join_all, or_any, type_of_dom, types_of_doms, nested_ty, bind_types}
+use Rattle.ess_semantics.specs.Trees.{Step, by_value, to_component, to_field, Op, unary, binary, word, index, application, tuple_literal, set_literal, mset_literal, function_literal, relation_literal, partition_literal, matrix_literal, record_literal, Ex, Exs, no_exs, more_exs}
+use Rattle.ess_semantics.specs.Types.{Ty, any_ty, bool_ty, int_ty, compound, compound2, no_tys, more_tys, join, join_all, or_any, type_of_dom, types_of_doms, nested_ty, bind_types}
 use Rattle.ess_semantics.specs.OperatorTypes.{type_of_op, member_ty}
-use Rattle.ess_semantics.specs.Typing.{Static, a_number, a_name, other, static, statics, component_ty, field_ty, step_ty, path_ty, type_of_node, type_of, types_of, types_under, source_ty}
+use Rattle.ess_semantics.specs.Typing.{Static, a_number, a_name, other, static, statics, step_ty, path_ty, type_of_node, type_of, types_of, types_under, source_ty}
 use Rattle.ess_semantics.specs.Typed.{Typed}
 use Rattle.ess_semantics.specs.Contexts.{In, Ins, InGens, InDom, InDoms, hole, in_operand, in_item, in_index_domain, in_body, in_generators, in_cell_index, in_view_domain, in_view_index, in_first, in_later, in_generator_domain, behind_over, in_source, behind_from, in_condition, behind_condition, in_bound, in_component, in_field, in_index, in_element, in_set_number, in_set_member, in_mset_number, in_mset_member, in_function_number, in_argument, in_result, in_relation_number, in_relation_component, in_partition_number, in_partition_member, in_first_domain, in_later_domain, fill, fill_exs, fill_gens, fill_dom, fill_doms}
 use Rattle.ess_semantics.specs.NamesAt.{names_behind, names_at, names_at_exs, names_at_gens}
-use Rattle.ess_semantics.specs.Kept.{Kept}
 use Rattle.ess_types_laws.proofs.ResolvedTypes.{behind-types}
 use Rattle.ess_rules_laws.specs.Rewriting.{Rewritten, as_it_was, rewritten_at}
 use Rattle.ess_rules_laws.proofs.KeptUnder.{rewritten-kept}
@@ -32,7 +31,8 @@ map-stays f None p h t e = cc
 map-stays f (Some u) p h t e = ap (option_map f) (h u refl) ∙ e
 
 -- The source of a generator, by its own type.
-source-stays : {B : Type 0} (o : Option Ty) (F G : Ty → Option B) → Stays (F (or_any o)) (G (or_any o)) → Stays (and_then o F) (and_then o G)
+source-stays : {B : Type 0} (o : Option Ty) (F G : Ty → Option B) → Stays (F (or_any o)) (G (or_any o)) →
+    Stays (and_then o F) (and_then o G)
 source-stays None F G h t e = cc
 source-stays (Some u) F G h t e = h t e
 
@@ -109,7 +109,8 @@ path-stays p qs (s ∷ ss) (v ∷ vs) (u ∷ us) [] f = absurd f
 plain-stays : (op : Op) → ((ss : List Static) (us : List (Option Ty)) → type_of_node op ss us ≡ and_then (all_some us) (type_of_op op)) →
     (ss vs : List Static) (us ws : List (Option Ty)) → Follows ss vs us ws → Stays (type_of_node op ss us) (type_of_node op vs ws)
 plain-stays op h ss vs us ws f t e =
-    h vs ws ∙ then-stays (all_some us) (all_some ws) (type_of_op op) (type_of_op op) (all-stay ss vs us ws f) (λ x u q. q) t (sym (h ss us) ∙ e)
+    h vs ws ∙ then-stays (all_some us) (all_some ws) (type_of_op op) (type_of_op op) (all-stay ss vs us ws f) (λ x u q. q) t (sym
+    (h ss us) ∙ e)
 
 index-stays : (qs : List Step) (ss vs : List Static) (us ws : List (Option Ty)) → Follows ss vs us ws →
     Stays (type_of_node (index qs) ss us) (type_of_node (index qs) vs ws)
@@ -198,7 +199,8 @@ module _ (a b : Ex) where
           (operands-follow c g k)
       part-stays (in_item c d) g k =
           then-stays (all_some (types_of (fill_exs c a) g)) (all_some (types_of (fill_exs c b) g))
-          (λ ts. option_map (compound2 a_matrix (type_of_dom d)) (join_all ts)) (λ ts. option_map (compound2 a_matrix (type_of_dom d)) (join_all ts))
+          (λ ts. option_map (compound2 a_matrix (type_of_dom d)) (join_all ts)) (λ ts. option_map (compound2 a_matrix (type_of_dom d))
+          (join_all ts))
           (all-stay (statics (fill_exs c a)) (statics (fill_exs c b)) (types_of (fill_exs c a) g) (types_of (fill_exs c b) g)
           (operands-follow c g k)) (λ ts t e. e)
       part-stays (in_index_domain es c) g k = λ t e.

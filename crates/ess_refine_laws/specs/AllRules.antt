@@ -38,14 +38,16 @@ use Rattle.ess_rules_laws.specs.ListRules.{list_term, lex_left, lex_right, diffe
 use Rattle.ess_rules_laws.specs.ChoiceRules.{choice_shorter, ChoicesFit}
 use Rattle.ess_rules_laws.specs.Progress.{is_parted}
 use Rattle.ess_refine_laws.specs.ScalarItems.{has_scalar_items}
+use Rattle.ess_refine_laws.specs.RecordNames.{name_over_record}
 use Rattle.ess_refine_laws.specs.LeavingConditions.{condition_leaves, LeavesFits}
 
 -- The rules, by what they rewrite.
 pub data Rule : Type 0 where
   -- Folds: over nothing, one item, any term, a literal, a set made of another container.
   over_nothing over_one over_one_binding over_a_term over_a_literal over_a_made_set : Rule
-  -- Generators: over what offers a listing, a comprehension, a tuple of domains by a pattern or by a name; a condition alone.
-  over_a_source of_one_source over_a_comprehension over_tuples over_a_tuple over_a_condition : Rule
+  -- Generators: over what offers a listing, a comprehension, a tuple of domains by a pattern or by a name, a record of domains; a
+  -- condition alone.
+  over_a_source of_one_source over_a_comprehension over_tuples over_a_tuple over_a_record over_a_condition : Rule
   -- Components and fields of literals.
   component_of_a_tuple field_of_a_record : Rule
   -- Comparisons.
@@ -117,6 +119,7 @@ rewrite s g of_one_source e = source_listed_once s g e
 rewrite s g over_a_comprehension e = splice e
 rewrite s g over_tuples e = split e
 rewrite s g over_a_tuple e = name_over_tuple s.parts e
+rewrite s g over_a_record e = name_over_record s.parts e
 rewrite s g over_a_condition e = fold_alone e
 rewrite s g component_of_a_tuple e = component_listed e
 rewrite s g field_of_a_record e = field_listed e
@@ -192,6 +195,7 @@ CountsOn s g of_one_source e env = SourceListed s g e env
 CountsOn s g over_a_comprehension e env = (r : Text → Bool) × (u : Text → Bool) × NamesApart r u e × SourceThere e env
 CountsOn s g over_tuples e env = (r : Text → Bool) × DomainApart r e × DomainThere e env
 CountsOn s g over_a_tuple e env = Unit {0}
+CountsOn s g over_a_record e env = Unit {0}
 CountsOn s g over_a_condition e env = Unit {0}
 CountsOn s g component_of_a_tuple e env = ComponentFits e env
 CountsOn s g field_of_a_record e env = FieldFits e env
@@ -236,7 +240,7 @@ CountsOn s g condition e env = LeavesFits e env
 -- differ is said of pairs where these can be listed.
 abbrev pub all_rules : List Rule
 all_rules =
-    over_nothing ∷ over_one ∷ over_one_binding ∷ over_a_condition ∷ over_a_made_set ∷ over_tuples ∷ over_a_tuple
+    over_nothing ∷ over_one ∷ over_one_binding ∷ over_a_condition ∷ over_a_made_set ∷ over_tuples ∷ over_a_tuple ∷ over_a_record
     ∷ over_a_comprehension ∷ over_a_literal ∷ over_a_source ∷ of_one_source ∷ over_a_term
     ∷ component_of_a_tuple ∷ field_of_a_record
     ∷ not_equal ∷ turned ∷ strictly ∷ equal_tuples ∷ equal_records ∷ equal_sets ∷ equal_multisets ∷ equal_functions ∷ equal_partitions

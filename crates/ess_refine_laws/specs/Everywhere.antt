@@ -53,7 +53,8 @@ raised a b = if is_positive b then ex2 false Op2.Pow a b else ex2 false Op2.Pow 
 
 -- `sum([min(l) | or([true | gs])])`, where gs are the generators of l, and so with `max`. Of the empty list it is 0.
 abbrev pub extreme : Fun → Ex → Ex
-extreme f (comp_ex e gs) = fun1 false Fun.Sum (comp_ex (fun1 false f (comp_ex e gs)) (cond (fun1 true Fun.Or (comp_ex (truth_ex true) gs)) no_gens))
+extreme f (comp_ex e gs) = fun1 false Fun.Sum (comp_ex (fun1 false f (comp_ex e gs)) (cond (fun1 true Fun.Or (comp_ex
+    (truth_ex true) gs)) no_gens))
 extreme f (node_ex false matrix_literal no_exs) = nil_number
 extreme f l = fun1 false f l
 

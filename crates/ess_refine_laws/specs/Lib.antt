@@ -1,9 +1,11 @@
 pub mod Everywhere
 pub mod LeavingConditions
 pub mod ScalarItems
+pub mod RecordNames
 pub mod AllRules
 pub mod Progress
 pub mod TypesStay
 pub mod MarksStay
 pub mod ScopesStay
 pub mod ConstantsStay
+pub mod ExtremeRules

@@ -16,6 +16,7 @@ use Rattle.ess_semantics.specs.Refined.{is_list_op, is_refined}
 use Rattle.ess_rules_laws.specs.SpliceRules.{append_gens}
 use Rattle.ess_rules_laws.specs.SplitRules.{split}
 use Rattle.ess_rules_laws.specs.TupleNames.{name_over_tuple, are_names}
+use Rattle.ess_refine_laws.specs.RecordNames.{are_in_order, name_over_record}
 use Rattle.ess_refine_laws.specs.ScalarItems.{is_scalar, has_scalar_items}
 use Rattle.ess_refine_laws.specs.AllRules.{Supply, rule_at}
 use Rattle.ess_rules_laws.specs.Progress.{HasMembers, is_parted, is_plain_source, has_members}
@@ -51,7 +52,7 @@ lists_fit op es g = not (reads_scalars op) || have_scalar_items es g
 abbrev mutual
   -- What progress counts on in each part: marks are right, operands have known types, lists under folds, `min`, `max` and the
   -- lexicographic signs have scalars, indices of cells are scalars, generators run over atoms, tuples and records of
-  -- domains, which patterns fit, or over terms that have members.
+  -- domains, which patterns fit, with fields in their order, or over terms that have members.
   pub is_judged : Ex → Names Ty → Bool
   is_judged (number_ex n) g = true
   is_judged (truth_ex b) g = true
@@ -84,14 +85,14 @@ abbrev mutual
   dom_judged (name_dom t) g = true
   dom_judged (int_dom rs es) g = is_bounded rs && (list_all is_scalar (types_of es g) && are_judged es g)
   dom_judged (tuple_dom ds) g = true
-  dom_judged (record_dom fs ds) g = true
+  dom_judged (record_dom fs ds) g = are_in_order fs ds
   dom_judged d g = false
 
 -- ---- what moves
 
 -- Some rule fires at the root, or at a generator of it, or the root is left to a kind or a lookup; s are what the rules take. A
 -- source offers a listing or is left, a pattern over a tuple of domains comes apart, a name over one becomes a tuple of any new
--- names, and one over a record of domains is left.
+-- names, and so with a record of domains.
 module _ (s : Supply) where
   pub data Moves : Names Ty → Ex → Type 0 where
     by_a_rule : {g : Names Ty} {e : Ex} → IsTrue (is_some (rule_at s g e)) → Moves g e
@@ -104,6 +105,8 @@ module _ (s : Supply) where
         (f : Ex) × (name_over_tuple ys (comp_ex e (over (name_pat a) (tuple_dom ds) hs)) ≡ Some f)) →
         Moves g (comp_ex e (append_gens gs (over (name_pat a) (tuple_dom ds) hs)))
     at_a_record : {g : Names Ty} (e : Ex) (gs : Gens) (a : Text) (fs : List Text) (ds : Doms) (hs : Gens) →
+        ((ys : List Text) → are_names ys ds ≡ true →
+        (f : Ex) × (name_over_record ys (comp_ex e (over (name_pat a) (record_dom fs ds) hs)) ≡ Some f)) →
         Moves g (comp_ex e (append_gens gs (over (name_pat a) (record_dom fs ds) hs)))
     is_left : {g : Names Ty} {e : Ex} → is_picked e ≡ true → Moves g e
 

@@ -4,11 +4,9 @@ use Rattle.ess_semantics.specs.Values.{Text}
 use Rattle.ess_semantics.specs.Names.{Names}
 use Rattle.ess_semantics.specs.Trees.{Ex, Gens, no_gens, over, from, cond}
 use Rattle.ess_semantics.specs.Types.{Ty}
-use Rattle.ess_semantics.specs.Typed.{Typed}
 use Rattle.ess_semantics.specs.Scoped.{with_names, Scoped}
 use Rattle.ess_semantics.specs.Contexts.{In, Ins, InGens, InDom, InDoms, hole, in_operand, in_item, in_index_domain, in_body, in_generators, in_cell_index, in_view_domain, in_view_index, in_first, in_later, in_generator_domain, behind_over, in_source, behind_from, in_condition, behind_condition, in_bound, in_component, in_field, in_index, in_element, in_set_number, in_set_member, in_mset_number, in_mset_member, in_function_number, in_argument, in_result, in_relation_number, in_relation_component, in_partition_number, in_partition_member, in_first_domain, in_later_domain, fill}
 use Rattle.ess_semantics.specs.Kept.{Kept}
-use Rattle.ess_rules_laws.specs.Rewriting.{Rewritten}
 
 -- ---- names in scope
 

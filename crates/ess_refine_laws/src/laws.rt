@@ -8,6 +8,8 @@ ghost use Rattle.ess_refine_laws.specs.TypesStay.{WholesKeepTypes};
 ghost use Rattle.ess_refine_laws.specs.MarksStay.{WholesKeepMarks};
 ghost use Rattle.ess_refine_laws.specs.ScopesStay.{WholesKeepScopes};
 ghost use Rattle.ess_refine_laws.specs.ConstantsStay.{WholesKeepConstants};
+ghost use Rattle.ess_refine_laws.specs.ExtremeRules.{ExtremesKeep};
+ghost use Rattle.ess_refine_laws.specs.RecordNames.{NamesOverRecordsKeep};
 
 /// A refined number becomes one that is there wherever the names and cells in it are, and that is the same where the old one
 /// has a value.
@@ -51,4 +53,14 @@ pub fn scopes_stay()
 /// part.
 pub fn constants_stay()
     ensures { WholesKeepConstants }
+{}
+
+/// `min` and `max` over a condition that reads cells keep what they are with the greatest or least of all for what it leaves out.
+pub fn extremes_keep()
+    ensures { ExtremesKeep }
+{}
+
+/// A name over a record of domains may run over the records of new names over the components.
+pub fn names_over_records_keep()
+    ensures { NamesOverRecordsKeep }
 {}
