@@ -1,10 +1,8 @@
 -- The axes of all tables, as code puts them one behind the other.
 use Rattle.std.proofs.Common.{◌≡◌, refl, sym, ap, ◌∙◌, ℕ, ◌+◌, ◌<◌, ◌≤◌, List, [], ◌∷◌, ◌++◌, map, length, take, drop, get_or}
 use Rattle.std.proofs.lemmas.List.{map-append, append_assoc, append-nil, take_more, take_all, at_drop_more, at_drop_all}
-use Rattle.ess_semantics.specs.declared.words.ReprKind.{ReprKind}
 use Rattle.ess_semantics.specs.Trees as pure
 use Rattle.ess_semantics.specs.Trees.{more_reprs, no_reprs}
-use Rattle.ess_semantics.specs.Domains.{Domain}
 use Rattle.ess_semantics.specs.Choice.{reprs_of}
 use Rattle.ess_semantics.specs.Cells.{Axes}
 use Rattle.ess_semantics.specs.Declarations.{axes_of}
@@ -21,12 +19,14 @@ use Rattle.ess_repr_layers_laws.proofs.LayerAxes.{axes_of-layer}
 abbrev pub trees : List Repr → pure.Reprs
 trees rs = reprs_of (map pure_repr rs)
 
-pub axes_made : (x : Repr) (d : Closed) (own all : List Axes) (ds : List Closed) (front : Axes) →
+pub axes_made : (x : Repr) (d : Closed) (own all : List Axes) (kids : List Repr) (ds es : List Closed) (front bs : Axes) →
     own ≡ own_axes_of (out-Repr x).kind (pure_closed d) → map pure_closed ds ≡ children_of (out-Repr x).kind (pure_closed d) →
-    front ≡ front_axes (out-Repr x).kind (pure_closed d) → all ≡ own ++ axes_below (trees (out-Repr x).children) (map pure_closed ds) front →
-    all ≡ axes_of (pure_repr x) (pure_closed d)
-axes_made x d own all ds front p q r e =
-    e ∙ ap (λ l. l ++ axes_below (trees (out-Repr x).children) (map pure_closed ds) front) p
+    front ≡ front_axes (out-Repr x).kind (pure_closed d) → kids ≡ (out-Repr x).children → es ≡ ds → bs ≡ front →
+    all ≡ own ++ axes_below (reprs_of (map pure_repr kids)) (map pure_closed es) bs → all ≡ axes_of (pure_repr x) (pure_closed d)
+axes_made x d own all kids ds es front bs p q r f g h e =
+    e ∙ ap (λ l. own ++ axes_below (trees l) (map pure_closed es) bs) f ∙ ap (λ l. own ++ axes_below (trees (out-Repr x).children) (map pure_closed l) bs) g
+    ∙ ap (λ l. own ++ axes_below (trees (out-Repr x).children) (map pure_closed ds) l) h
+    ∙ ap (λ l. l ++ axes_below (trees (out-Repr x).children) (map pure_closed ds) front) p
     ∙ ap (λ es. own_axes_of (out-Repr x).kind (pure_closed d) ++ axes_below (trees (out-Repr x).children) es front) q
     ∙ ap (λ bs. own_axes_of (out-Repr x).kind (pure_closed d) ++ axes_below (trees (out-Repr x).children) (children_of (out-Repr x).kind (pure_closed d)) bs) r
     ∙ sym (axes_of-layer (out-Repr x).kind (trees (out-Repr x).children) (pure_closed d)) ∙ ap (λ t. axes_of t (pure_closed d)) (sym (pure_repr_is x))

@@ -1,10 +1,11 @@
 -- The axis of each form of domain, and several axes.
-use Rattle.std.proofs.Common.{◌≡◌, refl, sym, ap, ◌∙◌, ℕ, zero, suc, ◌+◌, ◌<◌, ◌≤◌, true, false, List, [], ◌∷◌, ◌++◌, map, length, take, replicate, get_or, ℤ, pos, Option, Some, None, option_map, arith}
+use Rattle.std.proofs.Common.{◌≡◌, refl, sym, ap, ◌∙◌, ℕ, zero, suc, ◌+◌, ◌<◌, ◌≤◌, List, [], ◌∷◌, ◌++◌, map, length, take, replicate, get_or, ℤ, pos, Option, Some, None, option_map, arith}
 use Rattle.std.proofs.lemmas.List.{take_more, take_all, map-append}
 use Rattle.ess_semantics.specs.Lists.{all_some, list_or_none}
-use Rattle.ess_semantics.specs.Values.{Text, a_record, Kind, Value, number, item, node, of_list, tuple}
+use Rattle.ess_semantics.specs.Values.{Text, a_tuple, a_record, Kind, Value, number, node, of_list}
 use Rattle.ess_semantics.specs.Numbers.{run_from, one_to}
-use Rattle.ess_semantics.specs.Domains.{Domain, Domains, booleans, integers, named, tuples, records, domain_list, member_list, members, members_of_each, int_members, items_from, lists_of}
+use Rattle.ess_semantics.specs.Domains.{Domain, Domains, tuples, records, domain_list, member_list, members, members_of_each, int_members, items_from, lists_of}
+use Rattle.ess_semantics.specs.Names.{keys}
 use Rattle.ess_semantics.specs.Tables.{code}
 use Rattle.ess_semantics.specs.Layers.{codes_of}
 use Rattle.ess_core.specs.declared.values.Val.{Val}
@@ -60,7 +61,7 @@ pub axis_tuple : (ds : List Closed) → replicate (length (member_list (pure_clo
 axis_tuple ds = ap (λ d. replicate (length (member_list d)) (pos 0)) (pure_closed_tuple ds) ∙ tuple-codes (pure_closeds ds) ∙ ap codes_of (sym (pure_closed_tuple ds))
 
 pub axis_record : (fs : List FieldClosed) → replicate (length (member_list (pure_closed (variant.Rec fs)))) (pos 0) ≡ codes_of (pure_closed (variant.Rec fs))
-axis_record fs = ap (λ d. replicate (length (member_list d)) (pos 0)) (pure_closed_rec fs) ∙ record-codes _ _ ∙ ap codes_of (sym (pure_closed_rec fs))
+axis_record fs = ap (λ d. replicate (length (member_list d)) (pos 0)) (pure_closed_rec fs) ∙ record-codes (keys (map pure_field_closed fs)) (domains_of (map (λ f. f.1) (map pure_field_closed fs))) ∙ ap codes_of (sym (pure_closed_rec fs))
 
 map-long : {A B : Type 0} (f : A → B) (xs : List A) → length (map f xs) ≡ length xs
 map-long f [] = refl

@@ -1,10 +1,10 @@
 -- The steps by which code counts a bound.
-use Rattle.std.proofs.Common.{◌≡◌, refl, sym, ap, ◌∙◌, ℕ, zero, suc, ◌+◌, ◌*◌, ◌^◌, ◌<◌, ◌≤◌, List, [], ◌∷◌, ℤ, map, length, drop, get_or, Option, Some, None, option_map, arith}
+use Rattle.std.proofs.Common.{◌≡◌, refl, sym, ap, ◌∙◌, ℕ, zero, suc, ◌+◌, ◌*◌, ◌^◌, ◌<◌, ◌≤◌, List, [], ◌∷◌, ℤ, map, length, drop, get_or, Some, None, arith}
 use Rattle.std.proofs.Math.Nat.{mul_assoc, mul_comm, one-mul, mul-one, zero-mul, pow-zero, pow-succ'}
 use Rattle.std.proofs.lemmas.List.{at_drop_more, at_drop_all}
 use Rattle.ess_semantics.specs.Lists.{list_or_none}
-use Rattle.ess_semantics.specs.Values.{Text, Value, number}
-use Rattle.ess_semantics.specs.Domains.{Domain, Domains, integers, member_list, int_members}
+use Rattle.ess_semantics.specs.Values.{Text, number}
+use Rattle.ess_semantics.specs.Domains.{integers, member_list, int_members}
 use Rattle.ess_semantics.specs.Sizes.{occurrences, bound, product_bound}
 use Rattle.ess_eval_domains.specs.declared.closed.Span.{Span}
 use Rattle.ess_eval_domains.specs.declared.closed.Attribute.{Attribute}

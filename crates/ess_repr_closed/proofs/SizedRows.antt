@@ -1,11 +1,11 @@
 -- The attributes that code puts beside each other, and the domains that it makes with them.
 use Rattle.std.proofs.Common.{◌≡◌, refl, sym, ap, ◌∙◌, ℕ, Bool, true, false, if◌then◌else◌, List, [], ◌∷◌, ◌++◌, map, ℤ, pos, Option, Some, None}
-use Rattle.std.proofs.lemmas.List.{map-append, append_assoc, append-nil}
+use Rattle.std.proofs.lemmas.List.{map-append, append-nil}
 use Rattle.ess_semantics.specs.declared.words.Key.{Key}
 use Rattle.ess_semantics.specs.Lists.{or_else}
 use Rattle.ess_semantics.specs.Domains as pure
 use Rattle.ess_semantics.specs.Domains.{Domain, Domains, numbered, sets, relations, tuples, no_domains, more_domains, attribute, has}
-use Rattle.ess_semantics.specs.Sizes.{bound, sized_if, size_attributes, pair_sizes, child_relation, child_set, child_parts}
+use Rattle.ess_semantics.specs.Sizes.{bound, sized_if, size_attributes, child_relation, child_set, child_parts}
 use Rattle.ess_eval_domains.specs.declared.closed.Attribute.{Attribute}
 use Rattle.ess_eval_domains.specs.declared.closed.Attribute.TheVariants.{Numbered}
 use Rattle.ess_eval_domains.specs.declared.closed.Closed.{Closed}
@@ -29,7 +29,6 @@ pub sizes_made : (r0 r1 r2 r3 : List Attribute) (s a b : Option ℕ) → r0 ≡ 
     pure_attributes r3 ≡ size_attributes s a b
 sizes_made r0 r1 r2 r3 s a b e p q r =
     r ∙ ap (λ l. l ++ sized_if Key.MaxSize b) (q ∙ ap (λ l. l ++ sized_if Key.MinSize a) (p ∙ ap (λ l. pure_attributes l ++ sized_if Key.Size s) e))
-    ∙ append_assoc (sized_if Key.Size s) (sized_if Key.MinSize a) (sized_if Key.MaxSize b)
 
 -- ---- conditions
 
@@ -69,7 +68,8 @@ pub tuples_made : (as' : List Attribute) (ds ps qs : List Closed) (t : Closed) (
     map pure_closed ds ≡ child_set ks (pure_closeds qs) ∷ []
 tuples_made as' ds ps qs t ks i j k p =
     ap (map pure_closed) i ∙ ap (λ y. pure_closed (variant.Set as' y) ∷ []) (j ∙ ap variant.Tuple k)
-    ∙ ap (λ r. r ∷ []) (pure_closed_set as' (variant.Tuple qs) ∙ ap (λ l. sets l (pure_closed (variant.Tuple qs))) p ∙ ap (sets _) (pure_closed_tuple qs))
+    ∙ ap (λ r. r ∷ []) (pure_closed_set as' (variant.Tuple qs) ∙ ap (λ l. sets l (pure_closed (variant.Tuple qs))) p
+    ∙ ap (sets (size_attributes (attribute Key.Size ks) (attribute Key.MinSize ks) (attribute Key.MaxSize ks))) (pure_closed_tuple qs))
 
 pub part_made : (as' : List Attribute) (r d m : Closed) (ks : List pure.Attribute) → r ≡ variant.Set as' d → d ≡ m →
     pure_attributes as' ≡ size_attributes (attribute Key.PartSize ks) (attribute Key.MinPartSize ks) (attribute Key.MaxPartSize ks) →
@@ -84,4 +84,5 @@ pub parts_made : (as' : List Attribute) (ds : List Closed) (p' d : Closed) (ks :
 parts_made as' ds p' d ks b i p g h =
     ap (map pure_closed) i
     ∙ ap (λ r. r ∷ [])
-    (pure_closed_set as' p' ∙ ap (λ l. sets l (pure_closed p')) (p ∙ ap (size_attributes (attribute Key.NumParts ks) (attribute Key.MinNumParts ks)) g) ∙ ap (sets _) h)
+    (pure_closed_set as' p' ∙ ap (λ l. sets l (pure_closed p')) (p ∙ ap (size_attributes (attribute Key.NumParts ks) (attribute Key.MinNumParts ks)) g)
+    ∙ ap (sets (size_attributes (attribute Key.NumParts ks) (attribute Key.MinNumParts ks) (if has Key.NumParts ks then attribute Key.MaxNumParts ks else or_else (attribute Key.MaxNumParts ks) (Some (bound (pure_closed d)))))) h)

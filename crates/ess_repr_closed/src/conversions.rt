@@ -54,7 +54,12 @@ fn greatest_of_pairs(
     if has(Key::Total, own) {
         return Ok(attribute(Key::MaxSize, own));
     }
-    given_or_bound(alloc, has(Key::Size, own), attribute(Key::MaxSize, own), from)
+    given_or_bound(
+        alloc,
+        has(Key::Size, own),
+        attribute(Key::MaxSize, own),
+        from,
+    )
 }
 
 /// The greatest number, where it is given or the exact one is; else the bound of the domain.

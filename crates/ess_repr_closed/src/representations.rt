@@ -17,40 +17,37 @@ use std::alloc::Global;
 /// them, or a size can't be counted.
 #[cycle(axes)]
 #[tactic(auto, using(crate::proofs::AllAxes::axes_made))]
-pub fn axes_of(
-    alloc: Global,
-    repr: &Repr,
-    domain: &Closed,
-) -> Result<Row<Row<Row<i64>>>, NoMemory>
+pub fn axes_of(alloc: Global, repr: &Repr, domain: &Closed) -> Result<Row<Row<Row<i64>>>, NoMemory>
     ensures { IfOk result (λ r. r ≡ axes_meant (pure_repr repr.now) (pure_closed domain.now)) }
 {
-    let mut all = own_axes(alloc, repr.kind, domain)?;
+    let own = own_axes(alloc, repr.kind, domain)?;
     let parts = children(alloc, repr.kind, domain)?;
     let front = front_axes(alloc, repr.kind, domain)?;
-    add_children(alloc, &mut all, repr.children.as_slice(), parts.as_slice(), front.as_slice())?;
-    Ok(all)
+    let kids = repr.children.as_slice();
+    Ok(with_children(alloc, own, kids, parts.as_slice(), front.as_slice())?)
 }
 
-/// Puts the axes of the tables of the children, behind others, after those that are there.
+/// The axes of own tables, then those of the children's tables behind others.
 #[cycle(axes)]
 #[tactic(auto, using(crate::proofs::AllAxes::children_more, crate::proofs::AllAxes::children_short, crate::proofs::AllAxes::children_all))]
-fn add_children(
+fn with_children(
     alloc: Global,
-    all: &mut Row<Row<Row<i64>>>,
+    own: Row<Row<Row<i64>>>,
     reprs: &[Repr],
     parts: &[Closed],
     front: &[Row<i64>],
-) -> Result<(), NoMemory>
-    ensures { OnOk result (all.new ≡ all.old ++ axes_below (reprs_of (map pure_repr reprs.now)) (map pure_closed parts.now) front.now) }
+) -> Result<Row<Row<Row<i64>>>, NoMemory>
+    ensures { IfOk result (λ r. r ≡ own ++ axes_below (reprs_of (map pure_repr reprs.now)) (map pure_closed parts.now) front.now) }
 {
+    let mut all = own;
     for (index, repr) in reprs.iter().enumerate() {
         if index >= parts.len() {
-            return Ok(());
+            return Ok(all);
         }
-        let own = axes_of(alloc, repr, &parts[index])?;
-        add_under(alloc, all, front, own.as_slice())?;
+        let below = axes_of(alloc, repr, &parts[index])?;
+        add_under(alloc, &mut all, front, below.as_slice())?;
     }
-    Ok(())
+    Ok(all)
 }
 
 /// Puts lists of axes behind others, after those that are there.
@@ -84,11 +81,7 @@ fn both_axes(
 }
 
 /// Puts copies of axes behind others. `NoMemory` where there is no room for them.
-fn add_axes(
-    alloc: Global,
-    all: &mut Row<Row<i64>>,
-    axes: &[Row<i64>],
-) -> Result<(), NoMemory>
+fn add_axes(alloc: Global, all: &mut Row<Row<i64>>, axes: &[Row<i64>]) -> Result<(), NoMemory>
     ensures { OnOk result (all.new ≡ all.old ++ axes.now) }
 {
     for axis in axes {

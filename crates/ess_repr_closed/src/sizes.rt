@@ -30,7 +30,11 @@ pub fn occurrences(attributes: &[Attribute]) -> u64
 
 /// The slots of a set of members of a domain: `size`, else `maxSize`, else the bound of the domain. `NoMemory` where they can't be
 /// counted.
-pub fn set_slots(alloc: Global, attributes: &[Attribute], member: &Closed) -> Result<usize, NoMemory>
+pub fn set_slots(
+    alloc: Global,
+    attributes: &[Attribute],
+    member: &Closed,
+) -> Result<usize, NoMemory>
     ensures { IfOk result (λ n. n ≡ slots_of_set (pure_attributes attributes.now) (pure_closed member.now)) }
 {
     match greatest_size(attributes) {
@@ -41,7 +45,11 @@ pub fn set_slots(alloc: Global, attributes: &[Attribute], member: &Closed) -> Re
 
 /// The slots of a multiset: `size`, else `maxSize`, else the bound of the domain as often as a member occurs. `NoMemory` where they
 /// can't be counted.
-pub fn mset_slots(alloc: Global, attributes: &[Attribute], member: &Closed) -> Result<usize, NoMemory>
+pub fn mset_slots(
+    alloc: Global,
+    attributes: &[Attribute],
+    member: &Closed,
+) -> Result<usize, NoMemory>
     ensures { IfOk result (λ n. n ≡ slots_of_mset (pure_attributes attributes.now) (pure_closed member.now)) }
 {
     match greatest_size(attributes) {

@@ -1,5 +1,5 @@
 use Rattle.std.proofs.Common.{◌≡◌, take}
-use Rattle.ess_repr_closed.proofs.+copy_closed.Given as goal
+use Rattle.ess_repr_closed.proofs.copies.+copy_closed.Given as goal
 
 abbrev pub invariant-several-loop-domain : goal.invariant-several-loop-domain
 invariant-several-loop-domain l = l.copies ≡ take l.domain-index l.domains
