@@ -29,7 +29,7 @@ use Rattle.ess_repr_layers_laws.proofs.OneChild.{OneChild, one-child}
 -- ---- tables of several members
 
 module _ (r : Repr) (e : Domain) (room : Roomy r e) where
-  has : (v : Value) → member e v ≡ true → HasTables r e v
+  pub has : (v : Value) → member e v ≡ true → HasTables r e v
   has v m = cells-tables r e v (let w = members_have_cells r e room in w.of_member v m)
 
   -- Members have tables, and these are over the axes.
@@ -65,7 +65,7 @@ each-long {A} {B} f (x ∷ xs) ys h = go (f x) (each_of xs f) (each-long f xs) h
 -- ---- one child
 
 module _ (k : ReprKind) (r : Repr) (d : Domain) (v : Value) (simple : is_compound k ≡ false) (room : Roomy (repr k (more_reprs r no_reprs)) d) where
-  abbrev x : OneChild k r d
+  abbrev pub x : OneChild k r d
   x = one-child k r d simple (roomy-covered (repr k (more_reprs r no_reprs)) d room)
 
   -- The only child.

@@ -48,7 +48,7 @@ over-long (x ∷ ass) (t ∷ ts) h = ap suc (over-long ass ts (and-right (is_fil
 
 module _ (k : ReprKind) (r : Repr) (d : Domain) (ts : Tables) (simple : is_compound k ≡ false) (cover : Covered (repr k (more_reprs r no_reprs)) d)
     (over : over_axes [] (axes_of (repr k (more_reprs r no_reprs)) d) ts ≡ true) where
-  abbrev x : OneChild k r d
+  abbrev pub x : OneChild k r d
   x = one-child k r d simple cover
 
   axes : axes_of (repr k (more_reprs r no_reprs)) d ≡ own_axes x.the.own ++ map (λ as'. x.the.axes ++ as') (axes_of r x.child)

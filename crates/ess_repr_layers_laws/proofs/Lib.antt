@@ -9,3 +9,6 @@ pub mod ComponentsUp
 -- Down
 pub mod LayerDown
 pub mod ComponentsDown
+pub mod Compounds
+-- Steps
+pub mod LayerSteps

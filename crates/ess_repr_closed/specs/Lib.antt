@@ -1,0 +1,2 @@
+-- Axes of tuples
+pub mod ComponentAxes

@@ -1,0 +1,2 @@
+-- Members and components
+pub mod Members
