@@ -35,24 +35,29 @@ first_among-taken T (n ∷ ns) a h = go (is_among T n) refl h (first_among-taken
     go false e k f = f k
 
 -- It is one of the names.
-pub first_among-one : (T S ns : List Text) (a : Text) → first_among T ns ≡ Some a → Each ns (λ c. is_among S c ≡ false) → is_among S a ≡ false
+pub first_among-one : (T S ns : List Text) (a : Text) → first_among T ns ≡ Some a → Each ns (λ c. is_among S c ≡ false) →
+    is_among S a ≡ false
 first_among-one T S [] a h p = cc
 first_among-one T S (n ∷ ns) a h p = go (is_among T n) h (λ k. first_among-one T S ns a k p.1)
   where
-    go : (b : Bool) → (if b then Some n else first_among T ns) ≡ Some a → (first_among T ns ≡ Some a → is_among S a ≡ false) → is_among S a ≡ false
+    go : (b : Bool) → (if b then Some n else first_among T ns) ≡ Some a → (first_among T ns ≡ Some a → is_among S a ≡ false) →
+        is_among S a ≡ false
     go true k f = let same : n ≡ a = cc in ap (is_among S) (sym same) ∙ p.0
     go false k f = f k
 
 -- ---- the names of declared trees
 
-pub named_trees-names : (x : Text) (ts : List TableDecl) (S : List Text) → map decl_name (named_trees x ts S) ≡ named_tables x (map decl_name ts) S
+pub named_trees-names : (x : Text) (ts : List TableDecl) (S : List Text) →
+    map decl_name (named_trees x ts S) ≡ named_tables x (map decl_name ts) S
 named_trees-names x [] S = refl
 named_trees-names x (t ∷ ts) S =
     ap (λ l. (free_name S (x ++ t.name), length t.axes) ∷ l) (named_trees-names x ts (free_name S (x ++ t.name) ∷ S))
 
 -- They are none of those that are avoided.
-pub named_trees-new : (x : Text) (ts : List TableDecl) (S : List Text) → Each (keys (map decl_name (named_trees x ts S))) (λ c. is_among S c ≡ false)
-named_trees-new x ts S = subst (λ l. Each (keys l) (λ c. is_among S c ≡ false)) (sym (named_trees-names x ts S)) (tables-are-new x (map decl_name ts) S)
+pub named_trees-new : (x : Text) (ts : List TableDecl) (S : List Text) →
+    Each (keys (map decl_name (named_trees x ts S))) (λ c. is_among S c ≡ false)
+named_trees-new x ts S =
+    subst (λ l. Each (keys l) (λ c. is_among S c ≡ false)) (sym (named_trees-names x ts S)) (tables-are-new x (map decl_name ts) S)
 
 -- ---- one more name is avoided
 

@@ -18,7 +18,8 @@ settled zero T a h = ap (λ b. if b then free_within 0 T (a ++ codes "_") else a
 settled (suc k) T a h = go (is_among T a) h (settled k T (a ++ codes "_"))
   where
     go : (b : Bool) → is_among T (if b then free_within k T (a ++ codes "_") else a) ≡ false →
-        (is_among T (free_within k T (a ++ codes "_")) ≡ false → free_within (suc k) T (a ++ codes "_") ≡ free_within k T (a ++ codes "_")) →
+        (is_among T (free_within k T (a ++ codes "_")) ≡ false →
+        free_within (suc k) T (a ++ codes "_") ≡ free_within k T (a ++ codes "_")) →
         (if b then free_within (suc k) T (a ++ codes "_") else a) ≡ (if b then free_within k T (a ++ codes "_") else a)
     go true h f = f h
     go false h f = refl
@@ -144,7 +145,8 @@ beside-alike false x D E h = λ a. among-without x D a ∙ ap (λ b. not (same_t
 abbrev pub AreSome : List Text → List Text → Type 0
 AreSome S T = (a : Text) → is_among S a ≡ true → is_among T a ≡ true
 
-fewer-tries : (k : ℕ) (S T : List Text) (a : Text) → AreSome S T → is_among T (free_within k S a) ≡ false → free_within k T a ≡ free_within k S a
+fewer-tries : (k : ℕ) (S T : List Text) (a : Text) → AreSome S T → is_among T (free_within k S a) ≡ false →
+    free_within k T a ≡ free_within k S a
 fewer-tries zero S T a h f = refl
 fewer-tries (suc k) S T a h f = go (is_among S a) refl f (fewer-tries k S T (a ++ codes "_") h)
   where
@@ -159,7 +161,8 @@ free-beside-all S T a h f =
     let m : ℕ = suc (length S) in
     let n : ℕ = suc (length T) in
     let e = fewer-tries m S T a h f in
-    sym e ∙ sym (more-settled n m T a (ap (is_among T) e ∙ f)) ∙ ap (λ k. free_within k T a) (turned n m) ∙ more-settled m n T a (name-is-free T a)
+    sym e ∙ sym (more-settled n m T a (ap (is_among T) e ∙ f)) ∙ ap (λ k. free_within k T a) (turned n m)
+    ∙ more-settled m n T a (name-is-free T a)
 
 not-taken : (p q : Bool) → (p ≡ true → q ≡ true) → q ≡ false → p ≡ false
 not-taken true true h e = e
@@ -197,7 +200,8 @@ first-some : (a : Text) (S : List Text) → AreSome (a ∷ []) (a ∷ S)
 first-some a S = λ c. or-some (same_text a c) false (is_among S c) (λ e. let clash : false ≡ true = e in cc)
 
 -- Names of tables beside a few names that are free beside all are those beside all.
-pub tables-beside-all : (x : Text) (ns : List Named) (S T : List Text) → AreSome S T → Each (keys (named_tables x ns S)) (λ c. is_among T c ≡ false) →
+pub tables-beside-all : (x : Text) (ns : List Named) (S T : List Text) → AreSome S T →
+    Each (keys (named_tables x ns S)) (λ c. is_among T c ≡ false) →
     named_tables x ns S ≡ named_tables x ns T
 tables-beside-all x [] S T h f = refl
 tables-beside-all x (n ∷ ns) S T h f =
@@ -205,7 +209,8 @@ tables-beside-all x (n ∷ ns) S T h f =
     let e = free-beside-all S T (x ++ n.0) h f.0 in
     ap (λ l. (a, n.1) ∷ l)
     (tables-beside-all x ns (a ∷ S) (a ∷ T) (some-more a S T h)
-    (each-both (keys (named_tables x ns (a ∷ S))) (λ c. is_among (a ∷ []) c ≡ false) (λ c. is_among T c ≡ false) (λ c. is_among (a ∷ T) c ≡ false)
+    (each-both (keys (named_tables x ns (a ∷ S))) (λ c. is_among (a ∷ []) c ≡ false) (λ c. is_among T c ≡ false)
+    (λ c. is_among (a ∷ T) c ≡ false)
     (λ c p q. no-or (same_text a c) (is_among T c) p q) (named-free x ns (a ∷ S) (a ∷ []) (first-some a S)) f.1))
     ∙ ap (λ c. (c, n.1) ∷ named_tables x ns (c ∷ T)) e
 

@@ -47,7 +47,8 @@ plans-alike (q ∷ qs) D E S T h k =
 
 -- ---- the plans of a name
 
-name-alike : (f : Side) (x : Text) (d : Dom) (rs : List Repr) (S T : List Text) → SameNames S T → plans_of_name f x d rs S ≡ plans_of_name f x d rs T
+name-alike : (f : Side) (x : Text) (d : Dom) (rs : List Repr) (S T : List Text) → SameNames S T →
+    plans_of_name f x d rs S ≡ plans_of_name f x d rs T
 name-alike f x d [] S T h = refl
 name-alike f x d (r ∷ rs) S T h =
     let ns = named_tables x (table_names r d) T in
@@ -105,7 +106,8 @@ names_of ss = append_all (map domain_of_stm ss)
 
 -- The plans of the statements, where the representations that are left stand behind others in the options.
 abbrev FromHere : List Stm → Type 0
-FromHere ss = (o before rs : Names (List Repr)) (D T : List Text) → all_distinct (keys o) ≡ true → o ≡ before ++ rs → are_reprs_of (names_of ss) rs ≡ true →
+FromHere ss = (o before rs : Names (List Repr)) (D T : List Text) → all_distinct (keys o) ≡ true → o ≡ before ++ rs →
+    are_reprs_of (names_of ss) rs ≡ true →
     plans_for_all (requests ss rs) D T ≡ plans_from ss o D T
 
 found : (o before : Names (List Repr)) (a : Text) (qs : List Repr) (rs : Names (List Repr)) → all_distinct (keys o) ≡ true →
@@ -113,7 +115,8 @@ found : (o before : Names (List Repr)) (a : Text) (qs : List Repr) (rs : Names (
 found o before a qs rs n e =
     ap (λ l. look l a) e ∙ look-middle before rs a qs (ap (λ l. all_distinct (keys l)) (sym e) ∙ n)
 
-name-plans : (f : Side) (x : Text) (d : Dom) (ss : List Stm) (a : Text) (qs : List Repr) (o before rs : Names (List Repr)) (D T : List Text) → FromHere ss →
+name-plans : (f : Side) (x : Text) (d : Dom) (ss : List Stm) (a : Text) (qs : List Repr) (o before rs : Names (List Repr))
+    (D T : List Text) → FromHere ss →
     all_distinct (keys o) ≡ true → o ≡ before ++ ((a, qs) ∷ rs) → are_reprs_of ((x, d) ∷ names_of ss) ((a, qs) ∷ rs) ≡ true →
     plans_for_all (all_tables_of f x d qs ++ requests ss rs) D T ≡
     plans_of_name f x d (chosen_reprs o x d) (without x D ++ T)

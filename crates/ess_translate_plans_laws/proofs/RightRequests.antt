@@ -35,7 +35,8 @@ mutual
   all-sound no_doms w h = tt
   all-sound (more_doms d ds) w h = (well-sound d w.0 h.0, all-sound ds w.1 h.1)
 
-all-right : (f : Side) (x : Text) (d : Dom) (rs : List Repr) → Sound d → list_all (λ r. fits r d) rs ≡ true → Each (all_tables_of f x d rs) IsRightRequest
+all-right : (f : Side) (x : Text) (d : Dom) (rs : List Repr) → Sound d → list_all (λ r. fits r d) rs ≡ true →
+    Each (all_tables_of f x d rs) IsRightRequest
 all-right f x d [] s h = tt
 all-right f x d (r ∷ rs) s h =
     ((and-left (fits r d) (list_all (λ q. fits q d) rs) h, s), all-right f x d rs s (and-right (fits r d) (list_all (λ q. fits q d) rs) h))
@@ -60,7 +61,8 @@ abbrev names_of : List Stm → Names Dom
 names_of ss = append_all (map domain_of_stm ss)
 
 abbrev AllRight : List Stm → Type 0
-AllRight ss = (rs : Names (List Repr)) → are_reprs_of (names_of ss) rs ≡ true → Each (names_of ss) (λ x. Sound x.1) → Each (requests ss rs) IsRightRequest
+AllRight ss = (rs : Names (List Repr)) → are_reprs_of (names_of ss) rs ≡ true → Each (names_of ss) (λ x. Sound x.1) →
+    Each (requests ss rs) IsRightRequest
 
 name-right : (f : Side) (x : Text) (d : Dom) (ss : List Stm) (a : Text) (qs : List Repr) (rs : Names (List Repr)) → AllRight ss →
     are_reprs_of ((x, d) ∷ names_of ss) ((a, qs) ∷ rs) ≡ true → Sound d → Each (names_of ss) (λ x. Sound x.1) →
