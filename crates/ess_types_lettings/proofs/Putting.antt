@@ -21,7 +21,8 @@ use Rattle.ess_types_lettings.specs.Putting.{put_field, put_field_dom, put_with}
 -- ---- one by one
 
 -- One part more: with y the parts ys stand for what is made of one item more.
-pub part_more : {A C : Type 0} (v w : A → C) (xs ys zs : List A) (i : ℕ) (x y : A) → i < length xs → x ≡ get_or xs i x → zs ≡ ys ++ y ∷ []
+pub part_more : {A C : Type 0} (v w : A → C) (xs ys zs : List A) (i : ℕ) (x y : A) → i < length xs → x ≡ get_or xs i x
+    → zs ≡ ys ++ y ∷ []
     → v y ≡ w x → map v ys ≡ map w (take i xs) → map v zs ≡ map w (take (i + 1) xs)
 part_more v w xs ys zs i x y lt is p e h =
     ap (map v) p

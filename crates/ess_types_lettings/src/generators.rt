@@ -29,7 +29,8 @@ pub(crate) fn put_gens(
     lettings: &Lettings,
     table: &mut TypeTable,
 ) -> Result<(Row<Gen>, Under), NoMemory>
-    ensures ok { IfOk result (λ r. map pure_gen r.0 ≡ put_items (map pure_gen gens.now) (pure_lettings lettings.now) (pure_table table.old)) }
+    ensures ok { IfOk result (λ r. map pure_gen r.0
+        ≡ put_items (map pure_gen gens.now) (pure_lettings lettings.now) (pure_table table.old)) }
     ensures types { IfOk result (λ r. asked ≡ true
         → types_under (pure_gens r.0) (pure_table table.old) ≡ under_of r.1 (pure_table table.new)) }
     ensures names { OnOk result (pure_table table.new
@@ -82,7 +83,8 @@ fn put_over(
 ) -> Result<(Boxed<Gen>, Under), NoMemory>
     ensures ok { IfOk result (λ r. pure_gen r.0
         ≡ put_item (over_item (pure_pat pat.now) (pure_dom dom.now)) (pure_lettings lettings.now) (pure_table table.old)) }
-    ensures types { IfOk result (λ r. types_under (gens_of (pure_gen r.0 ∷ [])) (pure_table table.old) ≡ under_of r.1 (pure_table table.new)) }
+    ensures types { IfOk result (λ r. types_under (gens_of (pure_gen r.0 ∷ [])) (pure_table table.old)
+        ≡ under_of r.1 (pure_table table.new)) }
     ensures names { OnOk result (pure_table table.new
         ≡ item_behind (over_item (pure_pat pat.now) (pure_dom dom.now)) (pure_lettings lettings.now) (pure_table table.old)) }
     ensures kept { OnOk result (Extends table.old table.new) }
@@ -106,7 +108,8 @@ fn put_from(
 ) -> Result<(Boxed<Gen>, Under), NoMemory>
     ensures ok { IfOk result (λ r. pure_gen r.0
         ≡ put_item (from_item (pure_pat pat.now) (pure_ex source.now)) (pure_lettings lettings.now) (pure_table table.old)) }
-    ensures types { IfOk result (λ r. types_under (gens_of (pure_gen r.0 ∷ [])) (pure_table table.old) ≡ under_of r.1 (pure_table table.new)) }
+    ensures types { IfOk result (λ r. types_under (gens_of (pure_gen r.0 ∷ [])) (pure_table table.old)
+        ≡ under_of r.1 (pure_table table.new)) }
     ensures names { OnOk result (pure_table table.new
         ≡ item_behind (from_item (pure_pat pat.now) (pure_ex source.now)) (pure_lettings lettings.now) (pure_table table.old)) }
     ensures kept { OnOk result (Extends table.old table.new) }

@@ -41,7 +41,8 @@ pub(crate) fn typed_index(
     puts: PutSteps,
 ) -> Result<(Boxed<Ex>, Option<Boxed<Ty>>), NoMemory>
     ensures index { IfOk result (λ r. pure_ex r.0
-        ≡ node_ex is_bool (index (words_of (map pure_step puts.steps))) (more_exs (pure_ex place) (exs_of (within (map pure_step puts.steps))))) }
+        ≡ node_ex is_bool (index (words_of (map pure_step puts.steps)))
+        (more_exs (pure_ex place) (exs_of (within (map pure_step puts.steps))))) }
     ensures behind { IfOk result (λ r. option_map pure_ty r.1 ≡ option_map pure_ty puts.behind) }
 {
     let PutSteps { steps, behind } = puts;

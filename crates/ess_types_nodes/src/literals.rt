@@ -152,7 +152,8 @@ fn partition_type(alloc: Global, tys: Option<Row<Ty>>) -> Result<Option<Boxed<Ty
     }
 }
 
-/// A matrix literal without an index domain: its type is right under any names where those of its items are. `NoMemory` where there is no room for it.
+/// A matrix literal without an index domain: its type is right under any names where those of its items are. `NoMemory` where
+/// there is no room for it.
 #[tactic(auto, using(crate::proofs::NodeTypes::list_typed))]
 pub fn list_node(
     alloc: Global,

@@ -1,4 +1,4 @@
-use Rattle.std.proofs.Common.{rules, ◌≡◌, ap, ◌∙◌, ◌<◌, List, [], ◌∷◌, ◌++◌, length, map, get_or, option_map}
+use Rattle.std.proofs.Common.{rules, ◌≡◌, ap, ◌∙◌, ◌<◌, [], ◌∷◌, ◌++◌, length, map, get_or, option_map}
 use Rattle.std.proofs.lemmas.List.{map_push}
 use Rattle.std.proofs.lemmas.Result.{IfOk-weaker}
 use Rattle.ess_semantics.specs.Typing.{type_of}
@@ -52,7 +52,8 @@ pub expressions::put_typed-returns-in_ok-body-in-Comp-clause-ok : goal.expressio
 expressions::put_typed-returns-in_ok-body-in-Comp-clause-ok t c =
     IfOk-weaker c.comp_node.result _ _
     (λ y h. h ∙ comp_put c.args.ex.now c.in-Comp.body _ c.in_ok-body-in-Comp.body.0 c.in-Comp.gens _ c.in_ok-gens-in-Comp.gens.0 _ _ _
-    c.in-Comp.is c.as_slice-in-Comp.ensures c.get-in-Comp.ensures c.in_ok-gens-in-Comp.ensures.ok c.in_ok-gens-in-Comp.ensures.names c.in_ok-body-in-Comp.ensures.ok)
+    c.in-Comp.is c.as_slice-in-Comp.ensures c.get-in-Comp.ensures c.in_ok-gens-in-Comp.ensures.ok
+    c.in_ok-gens-in-Comp.ensures.names c.in_ok-body-in-Comp.ensures.ok)
     c.comp_node.ensures.tree
 
 -- One expression more.
