@@ -1,7 +1,7 @@
 ghost use Rattle.std.specs.Prelude.{◌≡◌, map, option_map, IfOk};
 ghost use Rattle.ess_semantics.specs.Collections.{set_of as the_set, mset_of as the_mset};
 ghost use Rattle.ess_core.specs.ValueViews.{pure_val};
-ghost use Rattle.ess_repr_rows_laws.specs.Cutting.{used_numbers as numbers_used};
+ghost use Rattle.ess_repr_rows_laws.specs.Cutting.{first_items as items_of_first, used_numbers as numbers_used};
 ghost use Rattle.ess_repr_tables.specs.SlotViews.{pure_tables};
 ghost use Rattle.ess_repr_tables.specs.UseViews.{pure_use};
 
@@ -42,4 +42,14 @@ pub fn mset_in_slots(
         Some(_) => Ok(Some(mset_of(alloc, vals)?)),
         None => Ok(None),
     }
+}
+
+/// The items of the first table; none where there is no table.
+pub fn first_items(tables: &[Table]) -> &[i64]
+    ensures { result.now ≡ items_of_first (pure_tables tables.now) }
+{
+    if tables.len() == 0 {
+        return &[];
+    }
+    tables[0].items.as_slice()
 }

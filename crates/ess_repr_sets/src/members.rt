@@ -30,7 +30,7 @@ fn bit(truth: bool) -> i64
 }
 
 /// Whether a value is in the list.
-fn holds(items: &[Val], val: &Val) -> bool
+pub fn holds(items: &[Val], val: &Val) -> bool
     ensures { result ≡ is_held (map pure_val items.now) (pure_val val.now) }
 {
     for item in items {
@@ -42,7 +42,7 @@ fn holds(items: &[Val], val: &Val) -> bool
 }
 
 /// Whether two values are equal.
-fn same(a: &Val, b: &Val) -> bool
+pub(crate) fn same(a: &Val, b: &Val) -> bool
     ensures { result ≡ are_same (pure_val a.now) (pure_val b.now) }
 {
     order(a, b) == Ordering::Equal
@@ -84,7 +84,7 @@ fn pick(alloc: Global, chosen: &mut Row<Val>, flag: i64, val: &Val) -> Result<bo
 }
 
 /// Puts a copy of a value behind others. `NoMemory` where there is no room for it.
-fn add_copy(alloc: Global, row: &mut Row<Val>, val: &Val) -> Result<(), NoMemory>
+pub(crate) fn add_copy(alloc: Global, row: &mut Row<Val>, val: &Val) -> Result<(), NoMemory>
     ensures { OnOk result (row.new ≡ row.old ++ val.now ∷ []) }
 {
     match val.copy(alloc) {

@@ -35,12 +35,12 @@ pub fn occurrence_tables(alloc: Global, member: &Closed, val: &Val) -> Result<Ro
 pub fn occurrence_set(
     alloc: Global,
     member: &Closed,
-    table: &Table,
+    items: &[i64],
 ) -> Result<Option<Val>, NoMemory>
-    ensures { IfOk result (λ o. option_map pure_val o ≡ option_map (λ xs. node a_set (of_list xs)) (picked_of table.now.items (list_of_members (pure_closed member.now)))) }
+    ensures { IfOk result (λ o. option_map pure_val o ≡ option_map (λ xs. node a_set (of_list xs)) (picked_of items.now (list_of_members (pure_closed member.now)))) }
 {
     let members = member_list(alloc, member)?;
-    match picked(alloc, table.items.as_slice(), members.as_slice())? {
+    match picked(alloc, items, members.as_slice())? {
         Some(chosen) => Ok(Some(Val::Set(chosen))),
         None => Ok(None),
     }

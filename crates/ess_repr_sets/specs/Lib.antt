@@ -1,0 +1,4 @@
+-- What callers know
+pub mod PartTables
+-- Sets and multisets on rows
+pub mod SetRows
