@@ -87,7 +87,7 @@ fn cell_at(
     Ok(value)
 }
 
-/// What an operand means. One that is a number or a name is looked at where it stands.
+/// What an operand means. One that is a number, a name or a cell is looked at where it stands.
 #[cycle(value)]
 fn operand_at(
     alloc: Global,
@@ -103,6 +103,9 @@ fn operand_at(
     match ex {
         KEx::Num(number) => Ok(Some(Scalar::Num(*number))),
         KEx::Name(name) => Ok(value_of_name(name, bound.as_slice())),
+        KEx::Cell(mark, number, index) => {
+            cell_at(alloc, *mark, *number, index.as_slice(), known, bound)
+        }
         _ => value_at(alloc, ex, known, bound),
     }
 }
