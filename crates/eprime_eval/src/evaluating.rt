@@ -154,7 +154,7 @@ fn two_at(
     two_value(alloc, op, a, b)
 }
 
-/// A word over a list.
+/// A word over a list. Its items have room for 16 before they are moved.
 #[cycle(value)]
 #[tactic(auto, using(crate::proofs::Lists::folds, crate::proofs::Excuses::large_in_operand))]
 fn fold_at(
@@ -171,7 +171,7 @@ fn fold_at(
     ensures big { result ≡ Err Big
         → is_large (plain_node (word (pure_fun fun)) (more_exs (pure_klist known.now.names list.now) no_exs)) (env_at known.now bound.old) ≡ true }
 {
-    let mut items = Row::new(alloc);
+    let mut items = Row::with_capacity(alloc, 16)?;
     if list_at(alloc, list, known, bound, &mut items)? {
         let value = fold_value(fun, items.as_slice())?;
         Ok(value)
