@@ -87,7 +87,7 @@ fn cell_at(
     Ok(value)
 }
 
-/// What an operand means. One that is a number or a name is looked at where it stands.
+/// What an operand means. One that is a number, a name or a cell is looked at where it stands.
 #[cycle(value)]
 fn operand_at(
     alloc: Global,
@@ -103,6 +103,9 @@ fn operand_at(
     match ex {
         KEx::Num(number) => Ok(Some(Scalar::Num(*number))),
         KEx::Name(name) => Ok(value_of_name(name, bound.as_slice())),
+        KEx::Cell(mark, number, index) => {
+            cell_at(alloc, *mark, *number, index.as_slice(), known, bound)
+        }
         _ => value_at(alloc, ex, known, bound),
     }
 }
@@ -151,7 +154,7 @@ fn two_at(
     two_value(alloc, op, a, b)
 }
 
-/// A word over a list.
+/// A word over a list. Its items have room for 16 before they are moved.
 #[cycle(value)]
 #[tactic(auto, using(crate::proofs::Lists::folds, crate::proofs::Excuses::large_in_operand))]
 fn fold_at(
@@ -168,7 +171,7 @@ fn fold_at(
     ensures big { result ≡ Err Big
         → is_large (plain_node (word (pure_fun fun)) (more_exs (pure_klist known.now.names list.now) no_exs)) (env_at known.now bound.old) ≡ true }
 {
-    let mut items = Row::new(alloc);
+    let mut items = Row::with_capacity(alloc, 16)?;
     if list_at(alloc, list, known, bound, &mut items)? {
         let value = fold_value(fun, items.as_slice())?;
         Ok(value)
