@@ -36,10 +36,16 @@ first-rest : (mss : List (List Val)) (ms e : List Val) → (length mss ≡ 0 →
 first-rest [] ms e h is = absurd (h refl)
 first-rest (ns ∷ mss) ms e h is = ap (λ l. l ∷ mss) (sym is)
 
-pub matrix_made : (mss : List (List Val)) (ms ns e : List Val) (n : ℕ) (vs items : List Val) → (length mss ≡ 0 → ⊥) → ms ≡ get_or mss 0 e → n ≡ length ms → ns ≡ ms →
+one-first : (mss : List (List Val)) (ms ns e f : List Val) → (length mss ≡ 0 → ⊥) → ms ≡ get_or mss 0 e → ns ≡ get_or mss 0 f → ns ≡ ms
+one-first [] ms ns e f h is js = absurd (h refl)
+one-first (ps ∷ mss) ms ns e f h is js = js ∙ sym is
+
+pub matrix_made : (mss : List (List Val)) (ms ns ps e f : List Val) (n : ℕ) (vs items : List Val) → (length mss ≡ 0 → ⊥) → ms ≡ get_or mss 0 e → n ≡ length ms →
+    ps ≡ get_or mss 0 f → ns ≡ ps →
     Some (map pure_val items) ≡ each_of (in_lists_of n (places_in (pure_index (drop 1 mss))) (map pure_val vs)) (nested_in (pure_index (drop 1 mss))) →
     Some (pure_val (val.Matrix ns items)) ≡ nested_in (pure_index mss) (map pure_val vs)
-matrix_made mss ms ns e n vs items h is long same p =
+matrix_made mss ms ns ps e f n vs items h is long js copied p =
+    let same : ns ≡ ms = copied ∙ one-first mss ms ps e f h is js in
     ap Some (pure_matrix ns items ∙ ap (λ l. matrix (of_list (map pure_val l)) (of_list (map pure_val items))) same)
     ∙ ap (option_map (λ ys. matrix (of_list (map pure_val ms)) (of_list ys)))
     (p ∙ ap (λ k. each_of (in_lists_of k (places_in (pure_index (drop 1 mss))) (map pure_val vs)) (nested_in (pure_index (drop 1 mss)))) (long ∙ sym (map-long ms)))

@@ -5,7 +5,7 @@ use Rattle.ess_semantics.specs.declared.words.ReprKind.{ReprKind}
 use Rattle.ess_semantics.specs.Values.{Text, Value}
 use Rattle.ess_semantics.specs.Trees.{Reprs, repr, no_reprs, more_reprs}
 use Rattle.ess_semantics.specs.Domains as pure
-use Rattle.ess_semantics.specs.Domains.{Domain, Domains, booleans, integers, named, matrices, domain_list}
+use Rattle.ess_semantics.specs.Domains.{Domain, Domains, booleans, integers, named, matrices, relations, domain_list}
 use Rattle.ess_semantics.specs.Tables.{Tables, code, one_cell}
 use Rattle.ess_semantics.specs.Cells.{Axes}
 use Rattle.ess_semantics.specs.Layers.{codes_of, some_each}
@@ -22,7 +22,6 @@ use Rattle.ess_repr_rows_laws.specs.Stacking.{stacked}
 use Rattle.ess_repr_rows_laws.proofs.ArgumentLayers.{matrix-rows}
 use Rattle.ess_repr_rows_laws.proofs.OwnLayers.{atom-rows}
 use Rattle.ess_repr_layers_laws.specs.LayerCalls.{PartsOver, TablesReady}
-use Rattle.ess_repr_layers_laws.proofs.OneChild.{OneChild, one-child}
 use Rattle.ess_eval_domains.specs.declared.closed.Span.{Span}
 use Rattle.ess_eval_domains.specs.declared.closed.Closed.{Closed}
 use Rattle.ess_eval_domains.specs.declared.closed.Closed.TheVariants as variant
@@ -72,14 +71,11 @@ module _ (k : ReprKind) (v : Value) (ass : List Axes) (tss : List Tables) (o : O
 matrix-tables : (k : ReprKind) (ds : Domains) (e : Domain) (v : Value) (ass : List Axes) (tss : List Tables) (rs : Reprs) → Covered (repr k rs) (matrices ds e) →
     TablesReady k rs (matrices ds e) v ass tss → for_matrix k (Some (stacked (map codes_of (domain_list ds)) ass (all_used tss))) ≡ layer_tables (repr k rs) (matrices ds e) v tss
 matrix-tables ReprKind.Matrix ds e v ass tss (more_reprs r no_reprs) c t =
-    let x : OneChild ReprKind.Matrix r (matrices ds e) = one-child ReprKind.Matrix r (matrices ds e) refl c in
-    let p : PartsOver r e (length (somes-list ds v)) ass tss = t in
+    let x = axes-differ (repr ReprKind.RelationAsMatrix no_reprs) (relations [] ds) c.0 in
+    let p : PartsOver r e (length (somes (some_each (elements ds v)) ++ [])) ass tss = t in
     ap (λ l. Some (stacked (map codes_of (domain_list ds)) l (all_used tss))) (sym p.axes)
-    ∙ sym (matrix-rows r v tss ds e x.differ (axes-differ r e c.2) (all-of-list tss (over_axes [] (axes_of r e)) (ap (λ l. list_all (over_axes [] l) tss) p.axes ∙ p.over))
+    ∙ sym (matrix-rows r tss v ds e x.0 (axes-differ r e c.2) (all-of-list tss (over_axes [] (axes_of r e)) (ap (λ l. list_all (over_axes [] l) tss) p.axes ∙ p.over))
     (p.count ∙ ap length (append-nil (somes (some_each (elements ds v))) ∙ somes-each (elements ds v))))
-  where
-    abbrev somes-list : Domains → Value → List Value
-    somes-list ds v = somes (some_each (elements ds v)) ++ []
 matrix-tables ReprKind.Matrix ds e v ass tss no_reprs c t = absurd c
 matrix-tables ReprKind.Matrix ds e v ass tss (more_reprs r (more_reprs q rs)) c t = absurd c
 matrix-tables _ ds e v ass tss rs c t = refl

@@ -2,7 +2,7 @@
 use Rattle.std.proofs.Common.{◌≡◌, refl, sym, ap, ◌∙◌, ℕ, zero, suc, List, [], ◌∷◌, ◌++◌, map, length, Option, Some, None, option_map, append-nil}
 use Rattle.ess_semantics.specs.declared.words.ReprKind.{ReprKind}
 use Rattle.ess_semantics.specs.Lists.{append_all}
-use Rattle.ess_semantics.specs.Values.{Text, a_tuple, a_matrix, a_set, a_mset, a_function, a_relation, a_partition, a_record, Value, number, truth, item, node, Values, nil, cons, to_list, matrix}
+use Rattle.ess_semantics.specs.Values.{Text, Value, to_list, matrix}
 use Rattle.ess_semantics.specs.Domains as pure
 use Rattle.ess_semantics.specs.Domains.{Domain, Domains, booleans, integers, named, matrices, no_domains, more_domains, domain_list}
 use Rattle.ess_semantics.specs.Layers.{some_each}
@@ -62,25 +62,25 @@ map-same f g h (v ∷ vs) = ap (λ x. x ∷ map f vs) (h v) ∙ ap (λ l. g v �
 pub elements-at : (ds : Domains) (v : Value) → elements ds v ≡ elements_at (length (domain_list ds)) v
 elements-at no_domains v = refl
 elements-at (more_domains d ds) (matrix is xs) = ap append_all (map-same (elements ds) (elements_at (length (domain_list ds))) (elements-at ds) (to_list xs))
-elements-at (more_domains d ds) (number n) = refl
-elements-at (more_domains d ds) (truth b) = refl
-elements-at (more_domains d ds) (item t k) = refl
-elements-at (more_domains d ds) v = other v
-  where
-    other : (v : Value) → elements (more_domains d ds) v ≡ elements_at (suc (length (domain_list ds))) v
-    other v = refl
+elements-at (more_domains d ds) _ = refl
 
-matrix-parts : (k : ReprKind) (ds : Domains) (e : Domain) (v : Value) → for_matrix k (Some (elements_at (length (domain_list ds)) v)) ≡ inner_of k (matrices ds e) v
-matrix-parts ReprKind.Matrix ds e v =
-    ap Some (sym (elements-at ds v) ∙ sym (somes-each (elements ds v)) ∙ sym (append-nil (somes (some_each (elements ds v)))))
+matrix-parts : (k : ReprKind) (ds : Domains) (e : Domain) (v : Value) → for_matrix k (Some (elements ds v)) ≡ inner_of k (matrices ds e) v
+matrix-parts ReprKind.Matrix ds e v = ap Some (sym (somes-each (elements ds v)) ∙ sym (append-nil (somes (some_each (elements ds v)))))
 matrix-parts _ ds e v = refl
 
 depth : (is : List Closed) → length (domain_list (pure_closeds is)) ≡ length is
 depth [] = refl
 depth (d ∷ is) = ap suc (depth is)
 
-pub of_matrix : (k : ReprKind) (v : Value) (is : List Closed) (d : Closed) (n : ℕ) (o : Option (List Value)) → n ≡ length is → o ≡ for_matrix k (Some (elements_at n v)) →
+pub deep : (k : ReprKind) (v : Value) (is : List Closed) (n : ℕ) (r : List Value) → k ≡ ReprKind.Matrix → n ≡ length is → r ≡ elements_at n v →
+    Some r ≡ for_matrix k (Some (elements (pure_closeds is) v))
+deep k v is n r q h e =
+    ap Some (e ∙ ap (λ m. elements_at m v) (h ∙ sym (depth is)) ∙ sym (elements-at (pure_closeds is) v)) ∙ ap (λ j. for_matrix j (Some (elements (pure_closeds is) v))) (sym q)
+
+pub of_matrix : (k : ReprKind) (v : Value) (is : List Closed) (d : Closed) (o : Option (List Value)) → o ≡ for_matrix k (Some (elements (pure_closeds is) v)) →
     o ≡ over_scalars (pure_closed (variant.Matrix is d)) (option_map (λ l. inner_values l v) (layer k (pure_closed (variant.Matrix is d))))
-of_matrix k v is d n o h e =
-    e ∙ ap (λ m. for_matrix k (Some (elements_at m v))) (h ∙ sym (depth is)) ∙ matrix-parts k (pure_closeds is) (pure_closed d) v
-    ∙ ap (λ d. over_scalars d (inner_of k d v)) (sym (pure_closed_matrix is d))
+of_matrix k v is d o e = e ∙ matrix-parts k (pure_closeds is) (pure_closed d) v ∙ ap (λ d. over_scalars d (inner_of k d v)) (sym (pure_closed_matrix is d))
+
+pub at_matrix : (k : ReprKind) (v : Value) (is : List Closed) (d x : Closed) (o : Option (List Value)) → x ≡ variant.Matrix is d → o ≡ for_matrix k (Some (elements (pure_closeds is) v)) →
+    o ≡ over_scalars (pure_closed x) (option_map (λ l. inner_values l v) (layer k (pure_closed x)))
+at_matrix k v is d x o h e = of_matrix k v is d o e ∙ ap (λ y. over_scalars (pure_closed y) (inner_of k (pure_closed y) v)) (sym h)

@@ -49,12 +49,7 @@ fn add_elements(
 /// Puts the elements of each of several values that are nested so deep behind others.
 #[cycle(elements)]
 #[tactic(auto, using(crate::proofs::ElementLoops::each_more, crate::proofs::ElementLoops::each_all))]
-fn add_each(
-    alloc: Global,
-    all: &mut Row<Val>,
-    depth: usize,
-    vals: &[Val],
-) -> Result<(), NoMemory>
+fn add_each(alloc: Global, all: &mut Row<Val>, depth: usize, vals: &[Val]) -> Result<(), NoMemory>
     ensures { OnOk result (map pure_val all.new ≡ map pure_val all.old ++ append_all (map (elements_at depth) (map pure_val vals.now))) }
 {
     for val in vals {

@@ -1,8 +1,9 @@
 //! The calls of one layer, for atoms and matrices.
-ghost use Rattle.std.specs.Prelude.{◌≡◌, [], Some, true, length, map, option_map, IfOk};
+ghost use Rattle.std.specs.Prelude.{◌≡◌, [], Some, true, map, option_map, IfOk};
 ghost use Rattle.ess_semantics.specs.Trees.{Reprs, repr};
 ghost use Rattle.ess_semantics.specs.Domains.{domain_list, member_list as list_of_members};
 ghost use Rattle.ess_semantics.specs.Layers.{codes_of};
+ghost use Rattle.ess_semantics.specs.ScalarLayers.{elements as elements_of};
 ghost use Rattle.ess_semantics.specs.Declarations.{axes_of};
 ghost use Rattle.ess_semantics.specs.Representations.{layer};
 ghost use Rattle.ess_semantics.specs.OneLayer.{inner_values, layer_tables, layer_value};
@@ -15,7 +16,7 @@ ghost use Rattle.ess_repr_rows_laws.specs.Stacking.{stacked as tables_stacked};
 ghost use Rattle.ess_repr_layers_laws.specs.LayerCalls.{TablesReady};
 ghost use Rattle.ess_repr_tables.specs.SlotViews.{pure_tables};
 ghost use Rattle.ess_repr_scalars.specs.ScalarForms.{over_scalars, for_matrix};
-ghost use Rattle.ess_repr_scalars.specs.NestedMatrices.{elements_at, nested_in};
+ghost use Rattle.ess_repr_scalars.specs.NestedMatrices.{nested_in};
 
 use crate::atoms::{atom_of, atom_parts, atom_tables};
 use crate::elements::elements;
@@ -43,7 +44,7 @@ pub fn parts(
         Closed::Bool => Ok(atom_parts(alloc, kind)),
         Closed::Int(_) => Ok(atom_parts(alloc, kind)),
         Closed::Named(_, _) => Ok(atom_parts(alloc, kind)),
-        Closed::Matrix(axes, _) => Ok(matrix_parts(alloc, kind, axes.len(), value)?),
+        Closed::Matrix(index, _) => Ok(matrix_parts(alloc, kind, index.as_slice(), value)?),
         _ => Ok(None),
     }
 }
@@ -99,17 +100,18 @@ pub fn up(
     }
 }
 
-/// The elements of a matrix that is nested so deep.
+/// The elements of a matrix over these index domains.
+#[tactic(auto, using(crate::proofs::ScalarParts::deep))]
 fn matrix_parts(
     alloc: Global,
     kind: ReprKind,
-    depth: usize,
+    index: &[Closed],
     value: &Val,
 ) -> Result<Option<Row<Val>>, NoMemory>
-    ensures { IfOk result (λ o. option_map (map pure_val) o ≡ for_matrix kind (Some (elements_at depth (pure_val value.now)))) }
+    ensures { IfOk result (λ o. option_map (map pure_val) o ≡ for_matrix kind (Some (elements_of (pure_closeds index.now) (pure_val value.now)))) }
 {
     match kind {
-        ReprKind::Matrix => Ok(Some(elements(alloc, depth, value)?)),
+        ReprKind::Matrix => Ok(Some(elements(alloc, index.len(), value)?)),
         _ => Ok(None),
     }
 }
