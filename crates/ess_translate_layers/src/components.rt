@@ -1,18 +1,15 @@
 //! Tuples and records, component by component.
 ghost use Rattle.std.specs.Prelude.{◌≡◌, [], true, map, option_map, IfOk};
 ghost use Rattle.ess_semantics.specs.Choice.{reprs_of};
-ghost use Rattle.ess_semantics.specs.Values.{a_record, node, of_list};
-ghost use Rattle.ess_semantics.specs.Names.{keys};
 ghost use Rattle.ess_semantics.specs.Tidy.{over_axes};
 ghost use Rattle.ess_core.specs.TreeViews.{pure_repr};
 ghost use Rattle.ess_core.specs.TableViews.{pure_table};
-ghost use Rattle.ess_core.specs.ValueViews.{record_value, pure_val, pure_field_val};
-ghost use Rattle.ess_eval_domains.specs.ClosedViews.{pure_closed, pure_field_closed};
-ghost use Rattle.ess_repr_laws.specs.Rooms.{Covered, AllCovered, AllRoomy};
+ghost use Rattle.ess_core.specs.ValueViews.{pure_val};
+ghost use Rattle.ess_eval_domains.specs.ClosedViews.{pure_closed};
+ghost use Rattle.ess_repr_laws.specs.Rooms.{AllCovered, AllRoomy};
 ghost use Rattle.ess_repr_layers_laws.specs.LayerParts.{axes_below};
-ghost use Rattle.ess_repr_layers_laws.specs.Components.{tables_of_components as tables_meant, values_of_components as values_meant, compound_of};
+ghost use Rattle.ess_repr_layers_laws.specs.Components.{tables_of_components as tables_meant, values_of_components as values_meant, members_each};
 ghost use Rattle.ess_repr_tables.specs.SlotViews.{pure_tables};
-ghost use Rattle.ess_translate_layers.specs.Members.{members_each};
 
 use crate::down::down_all;
 use crate::kinds::width;
@@ -24,7 +21,7 @@ use std::alloc::Global;
 
 /// The tables of the components, one behind the other, each a member of the domain beside it.
 #[cycle(down)]
-#[tactic(auto, using(crate::proofs::ComponentLoops::tables_none, crate::proofs::ComponentLoops::tables_more, crate::proofs::ComponentLoops::tables_stop, crate::proofs::ComponentLoops::tables_short, crate::proofs::ComponentLoops::tables_all))]
+#[tactic(auto, using(crate::proofs::ComponentLoops::tables_none, crate::proofs::ComponentLoops::tables_more, crate::proofs::ComponentLoops::tables_stop, crate::proofs::ComponentLoops::tables_short, crate::proofs::ComponentLoops::tables_few, crate::proofs::ComponentLoops::tables_all))]
 pub(crate) fn tables_of_components(
     alloc: Global,
     reprs: &[Repr],

@@ -2,6 +2,7 @@
 ghost use Rattle.std.specs.Prelude.{◌≡◌, [], ◌∷◌, true, false, map, option_map, IfOk};
 ghost use Rattle.std.specs.List.{list_all};
 ghost use Rattle.ess_semantics.specs.Lists.{each_of};
+ghost use Rattle.ess_semantics.specs.Choice.{reprs_of};
 ghost use Rattle.ess_semantics.specs.Trees.{repr as tree, no_reprs, more_reprs};
 ghost use Rattle.ess_semantics.specs.Membership.{member};
 ghost use Rattle.ess_semantics.specs.Canonical.{tables_of_value};
@@ -26,7 +27,7 @@ use std::alloc::Global;
 /// The canonical tables of a member of a domain, where the representation is one for the domain and has room. What it answers for
 /// another value isn't said. `NoMemory` where there is no room for them.
 #[cycle(down)]
-#[tactic(auto, using(crate::proofs::DownSteps::components_made, crate::proofs::DownSteps::only_made, crate::proofs::DownSteps::alone_made))]
+#[tactic(auto, using(crate::proofs::DownSteps::components_made, crate::proofs::DownSteps::layer_made))]
 pub fn down_all(
     alloc: Global,
     repr: &Repr,
@@ -39,13 +40,45 @@ pub fn down_all(
     let parts = children(alloc, repr.kind, domain)?;
     if is_compound(repr.kind) {
         let items = items_of(alloc, value)?;
-        return tables_of_components(alloc, repr.children.as_slice(), parts.as_slice(), items.as_slice());
+        return Ok(tables_of_components(
+            alloc,
+            repr.children.as_slice(),
+            parts.as_slice(),
+            items.as_slice(),
+        )?);
     }
-    if repr.children.len() == 1 && parts.len() == 1 {
-        of_child(alloc, repr.kind, &repr.children.as_slice()[0], domain, &parts.as_slice()[0], value)
-    } else {
-        layer_down(alloc, repr.kind, domain, &[], value, Row::new(alloc))
+    Ok(of_layer(
+        alloc,
+        repr.kind,
+        repr.children.as_slice(),
+        domain,
+        parts.as_slice(),
+        value,
+    )?)
+}
+
+/// The tables of a layer whose kind isn't one of components.
+#[cycle(down)]
+#[tactic(auto, using(crate::proofs::DownSteps::only_made, crate::proofs::DownSteps::other_reprs, crate::proofs::DownSteps::other_parts))]
+fn of_layer(
+    alloc: Global,
+    kind: ReprKind,
+    reprs: &[Repr],
+    domain: &Closed,
+    parts: &[Closed],
+    value: &Val,
+) -> Result<Option<Row<Table>>, NoMemory>
+    ensures { IfOk result (λ o. has_components kind ≡ false → map pure_closed parts.now ≡ children_of kind (pure_closed domain.now) →
+        Roomy (tree kind (reprs_of (map pure_repr reprs.now))) (pure_closed domain.now) → member (pure_closed domain.now) (pure_val value.now) ≡ true →
+        option_map (map pure_table) o ≡ tables_of_value (tree kind (reprs_of (map pure_repr reprs.now))) (pure_closed domain.now) (pure_val value.now)) }
+{
+    if reprs.len() != 1 {
+        return Ok(layer_down(alloc, kind, domain, &[], value, no_tables(alloc))?);
     }
+    if parts.len() != 1 {
+        return Ok(layer_down(alloc, kind, domain, &[], value, no_tables(alloc))?);
+    }
+    Ok(of_child(alloc, kind, &reprs[0], domain, &parts[0], value)?)
 }
 
 /// The tables of a layer with one child.
@@ -67,7 +100,7 @@ fn of_child(
         Some(vals) => match tables_of_each(alloc, child, part, vals.as_slice())? {
             Some(inner) => {
                 let axes = axes_of(alloc, child, part)?;
-                layer_down(alloc, kind, domain, axes.as_slice(), value, inner)
+                Ok(layer_down(alloc, kind, domain, axes.as_slice(), value, inner)?)
             }
             None => Ok(None),
         },
@@ -95,4 +128,11 @@ fn tables_of_each(
         }
     }
     Ok(Some(each))
+}
+
+/// No tables of parts.
+fn no_tables(alloc: Global) -> Row<Row<Table>>
+    ensures { result ≡ [] }
+{
+    Row::new(alloc)
 }

@@ -34,7 +34,8 @@ pub(crate) fn inner(
     let count = volume(axes.as_slice())?;
     let own = first_tables(tables, own_width(kind));
     let rest = other_tables(tables, own_width(kind));
-    slots_in_use(alloc, slots_of(kind), axes.len(), count, own, rest)
+    let slots = slots_of(kind);
+    Ok(slots_in_use(alloc, slots, axes.len(), count, own, rest)?)
 }
 
 /// The first tables; all where there are no more.

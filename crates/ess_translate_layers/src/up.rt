@@ -2,6 +2,8 @@
 ghost use Rattle.std.specs.Prelude.{◌≡◌, [], ◌∷◌, true, false, map, option_map, IfOk};
 ghost use Rattle.std.specs.List.{list_all};
 ghost use Rattle.ess_semantics.specs.Lists.{each_of};
+ghost use Rattle.ess_semantics.specs.declared.words.ReprKind.{ReprKind};
+ghost use Rattle.ess_semantics.specs.Choice.{reprs_of};
 ghost use Rattle.ess_semantics.specs.Trees.{repr as tree, no_reprs, more_reprs};
 ghost use Rattle.ess_semantics.specs.Declarations.{axes_of};
 ghost use Rattle.ess_semantics.specs.Representations.{value_of_tables};
@@ -27,7 +29,7 @@ use std::alloc::Global;
 /// The value of a domain that tables stand for, or nothing where they stand for none, where the representation is one for the domain and
 /// the tables are over its axes. What it answers of other tables isn't said. `NoMemory` where there is no room for it.
 #[cycle(up)]
-#[tactic(auto, using(crate::proofs::UpSteps::components_made, crate::proofs::UpSteps::components_none, crate::proofs::UpSteps::only_made, crate::proofs::UpSteps::alone_made))]
+#[tactic(auto, using(crate::proofs::UpSteps::components_made, crate::proofs::UpSteps::layer_made))]
 pub fn up_all(
     alloc: Global,
     repr: &Repr,
@@ -40,16 +42,68 @@ pub fn up_all(
 {
     let parts = children(alloc, repr.kind, domain)?;
     if is_compound(repr.kind) {
-        return match values_of_components(alloc, repr.children.as_slice(), parts.as_slice(), tables)? {
-            Some(vals) => compound(alloc, domain, vals),
-            None => Ok(None),
-        };
+        return Ok(of_components(
+            alloc,
+            repr.children.as_slice(),
+            domain,
+            parts.as_slice(),
+            tables,
+        )?);
     }
-    if repr.children.len() == 1 && parts.len() == 1 {
-        of_child(alloc, repr.kind, &repr.children.as_slice()[0], domain, &parts.as_slice()[0], tables)
-    } else {
-        layer_up(alloc, repr.kind, domain, tables, Row::new(alloc))
+    Ok(of_layer(
+        alloc,
+        repr.kind,
+        repr.children.as_slice(),
+        domain,
+        parts.as_slice(),
+        tables,
+    )?)
+}
+
+/// The tuple or record of the values of the components.
+#[cycle(up)]
+#[tactic(auto, using(crate::proofs::UpSteps::compound_made, crate::proofs::UpSteps::compound_none))]
+fn of_components(
+    alloc: Global,
+    reprs: &[Repr],
+    domain: &Closed,
+    parts: &[Closed],
+    tables: &[Table],
+) -> Result<Option<Val>, NoMemory>
+    ensures { IfOk result (λ o. (kind : ReprKind) → has_components kind ≡ true → map pure_closed parts.now ≡ children_of kind (pure_closed domain.now) →
+        Covered (tree kind (reprs_of (map pure_repr reprs.now))) (pure_closed domain.now) →
+        over_axes [] (axes_of (tree kind (reprs_of (map pure_repr reprs.now))) (pure_closed domain.now)) (pure_tables tables.now) ≡ true →
+        option_map pure_val o ≡ value_of_tables (tree kind (reprs_of (map pure_repr reprs.now))) (pure_closed domain.now) (pure_tables tables.now) []) }
+{
+    match values_of_components(alloc, reprs, parts, tables)? {
+        Some(vals) => Ok(compound(alloc, domain, vals)?),
+        None => Ok(None),
     }
+}
+
+/// The value of a layer whose kind isn't one of components.
+#[cycle(up)]
+#[tactic(auto, using(crate::proofs::UpSteps::only_made, crate::proofs::UpSteps::other_reprs, crate::proofs::UpSteps::other_parts))]
+fn of_layer(
+    alloc: Global,
+    kind: ReprKind,
+    reprs: &[Repr],
+    domain: &Closed,
+    parts: &[Closed],
+    tables: &[Table],
+) -> Result<Option<Val>, NoMemory>
+    ensures { IfOk result (λ o. has_components kind ≡ false → map pure_closed parts.now ≡ children_of kind (pure_closed domain.now) →
+        Covered (tree kind (reprs_of (map pure_repr reprs.now))) (pure_closed domain.now) →
+        over_axes [] (axes_of (tree kind (reprs_of (map pure_repr reprs.now))) (pure_closed domain.now)) (pure_tables tables.now) ≡ true →
+        option_map pure_val o ≡ value_of_tables (tree kind (reprs_of (map pure_repr reprs.now))) (pure_closed domain.now) (pure_tables tables.now) []) }
+{
+    if reprs.len() != 1 {
+        return Ok(layer_up(alloc, kind, domain, tables, no_values(alloc))?);
+    }
+    if parts.len() != 1 {
+        return Ok(layer_up(alloc, kind, domain, tables, no_values(alloc))?);
+    }
+    Ok(of_child(alloc, kind, &reprs[0], domain, &parts[0], tables)?)
 }
 
 /// The value of a layer with one child.
@@ -70,7 +124,7 @@ fn of_child(
 {
     match inner(alloc, kind, domain, tables)? {
         Some(slots) => match values_of_each(alloc, child, part, slots.as_slice())? {
-            Some(vals) => layer_up(alloc, kind, domain, tables, vals),
+            Some(vals) => Ok(layer_up(alloc, kind, domain, tables, vals)?),
             None => Ok(None),
         },
         None => Ok(None),
@@ -98,4 +152,11 @@ fn values_of_each(
         }
     }
     Ok(Some(vals))
+}
+
+/// No values.
+fn no_values(alloc: Global) -> Row<Val>
+    ensures { result ≡ [] }
+{
+    Row::new(alloc)
 }
