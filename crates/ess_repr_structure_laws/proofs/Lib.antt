@@ -21,6 +21,7 @@ pub mod SoundTogether
 pub mod JudgedNumbers
 -- What structures are built of
 pub mod BuiltStructures
+pub mod BuiltShapes
 pub mod BuiltParts
 pub mod BuiltSets
 pub mod BuiltViews
@@ -45,5 +46,8 @@ pub mod MetFunctions
 pub mod MetTuples
 pub mod MetAll
 pub mod MetViews
+-- Tables are full for structures
+pub mod FullParts
+pub mod FullCells
 -- Worked examples
 pub mod ExamplesStructures
