@@ -31,7 +31,7 @@ use Rattle.ess_repr_structure_laws.proofs.BuiltStructures as B
 use Rattle.ess_repr_structure_laws.proofs.FullParts.{Anywhere, FullIn, operands-anywhere, dom-anywhere, row-index-anywhere, truth-full, number-full, two-full, one-full, size-full, in-here}
 
 -- Cells that are there with a property are there.
-every-there : (as' : Axes) (p : ℤ → Bool) (f : Grid) → every_cell as' p f ≡ true → AllOf (lists_of as') (λ js. is_some (f js) ≡ true)
+pub every-there : (as' : Axes) (p : ℤ → Bool) (f : Grid) → every_cell as' p f ≡ true → AllOf (lists_of as') (λ js. is_some (f js) ≡ true)
 every-there [] p f h = (one (f []) h, tt)
   where
     one : (o : Option ℤ) → is_some_and o p ≡ true → is_some o ≡ true

@@ -49,5 +49,12 @@ pub mod MetViews
 -- Tables are full for structures
 pub mod FullParts
 pub mod FullCells
+pub mod FullSlots
+pub mod FullCounts
+pub mod FullSeen
+pub mod FullKinds
+pub mod FullSets
+pub mod FullFunctions
+pub mod FullTuples
 -- Worked examples
 pub mod ExamplesStructures
