@@ -62,7 +62,7 @@ module _ (env0 : Env) (q : ℕ → Text) (q-apart : (m l : ℕ) → l < m → sa
   abbrev N : B' → Env
   N = M env0 q q-apart
 
-  abbrev Here : Repr → Dom → Domain → List Text → Tables → ℕ → Exs → List ℤ → B' → Type 0
+  abbrev pub Here : Repr → Dom → Domain → List Text → Tables → ℕ → Exs → List ℤ → B' → Type 0
   Here r d e ns ts l is i bs =
       Placed env0 q q-apart (shapes q size_terms r d ns) (axes_members r e) ts →
       There env0 q q-apart (shapes q size_terms r d ns) (axes_members r e) ts i →

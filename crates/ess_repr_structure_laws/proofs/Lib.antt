@@ -56,5 +56,8 @@ pub mod FullKinds
 pub mod FullSets
 pub mod FullFunctions
 pub mod FullTuples
+pub mod FullLayers
+pub mod FullAll
+pub mod FullNumbers
 -- Worked examples
 pub mod ExamplesStructures
