@@ -59,5 +59,6 @@ pub mod FullTuples
 pub mod FullLayers
 pub mod FullAll
 pub mod FullNumbers
+pub mod FullViews
 -- Worked examples
 pub mod ExamplesStructures
