@@ -7,6 +7,7 @@ use Rattle.ess_semantics.specs.declared.words.Key.{Key}
 use Rattle.ess_semantics.specs.Values.{Text}
 use Rattle.ess_semantics.specs.Trees.{binary, Mark, flag, valued, name_pat, Ex, Exs, number_ex, name_ex, comp_ex, cell_ex, no_exs, more_exs, Gens, no_gens, over, cond, Dom, ex1, ex2, fun1}
 use Rattle.ess_repr_laws.specs.StructureParts.{Shape, add_ex, and_ex, or_ex, implies_ex, le_ex, all_ex, key_ex, size_ex, keys_ex, upto, row_gens, row_index, each_ex, row_ex, less_ex, at_most_ex, out_ex, zero_ex, zeros_ex, over_slots, pairs_dom, over_pairs, each_pair, next_ex, slots_ex, use_ex, first_ex, true_count_ex, place_count_ex, number_sum_ex, times_of_ex, times_ex, counts_ex}
+use Rattle.ess_repr_structure_laws.proofs.BuiltShapes.{AxesHave}
 use Rattle.ess_repr_structure_laws.proofs.BuiltStructures as B
 use Rattle.ess_repr_structure_laws.proofs.BuiltStructures.{is_used, BuiltOf, one-has, two-have, word-has, lists-have}
 
@@ -112,8 +113,7 @@ module _ (q : ℕ → Text) (P : Ex → Type 0) (L : Dom → Type 0) (built : Bu
 
   -- The axes of tables have the property.
   abbrev pub ShapesHave : List Shape → Type 0
-  ShapesHave [] = Unit {0}
-  ShapesHave (s ∷ ss) = ListHas s.axes × ShapesHave ss
+  ShapesHave = AxesHave P
 
   row-has : (l : ℕ) (s : Shape) (is : Exs) → ListHas s.axes → AllHave is → P (row_ex q l s is)
   row-has l s is x a = built.comps (cell_ex s.truth s.name (row_index q l s.axes is)) (row_gens q l s.axes)

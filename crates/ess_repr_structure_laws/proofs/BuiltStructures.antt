@@ -201,6 +201,68 @@ module _ (q : ℕ → Text) (P : Ex → Type 0) where
   GensHave (from (tuple_pat ps) e gs) = ⊥
   GensHave (cond e gs) = P e × GensHave gs
 
+module _ (P : Ex → Type 0) (L : Dom → Type 0) where
+  -- Bounds of domains have the property, and what sizes are built of.
+  pub record SizedBy : Type 0 where
+    pub zero : P (number_ex (pos 0))
+    pub one : P (number_ex (pos 1))
+    pub products : (a b : Ex) → P a → P b → P (ex2 false Op2.Times a b)
+    pub bounds : (d : Dom) → Good P L d → P (bound_ex d)
+
+  module _ (S : SizedBy) where
+    -- The slots of a set or multiset.
+    pub set-slots : (ms : List Mark) (es : Exs) (d : Dom) → Good P L (set_dom ms es d) → P (slots_ex (set_dom ms es d))
+    set-slots ms es d g = default-has P (greatest_size_of ms es) (bound_ex d) (greatest-may P ms es g.0) (S.bounds d g.1)
+
+    pub mset-slots : (ms : List Mark) (es : Exs) (d : Dom) → Good P L (mset_dom ms es d) → P (slots_ex (mset_dom ms es d))
+    mset-slots ms es d g = default-has P (greatest_size_of ms es) (ex2 false Op2.Times (occurrences_ex ms es) (bound_ex d))
+        (greatest-may P ms es g.1)
+        (S.products (occurrences_ex ms es) (bound_ex d) (occurrences-may P ms es g.1 S.zero) (S.bounds d g.2))
+
+    -- The domains of children are good.
+    pub tuples-good : (ms : List Mark) (es : Exs) (ds : Doms) → Good P L (relation_dom ms es ds) → Good P L (tuple_set_dom ms es ds)
+    tuples-good ms es ds g =
+        let a : List Mark × Exs = number_of_key Key.MaxSize ms es [] no_exs in
+        let b : List Mark × Exs = number_of_key Key.MinSize ms es a.0 a.1 in (
+          key-picked P Key.Size ms es b.0 b.1 g.0 (key-picked P Key.MinSize ms es a.0 a.1 g.0
+              (key-picked P Key.MaxSize ms es [] no_exs g.0 tt)),
+          g.1,
+        )
+
+    pub pairs-good : (ms : List Mark) (es : Exs) (d c : Dom) → Good P L (function_dom ms es d c) → Good P L
+        (pair_relation_dom size_terms ms es d c)
+    pairs-good ms es d c g =
+        let a0 : List Mark × Exs = number_of_key Key.MaxSize ms es [] no_exs in
+        let a1 : List Mark × Exs = (valued Key.MaxSize ∷ [], more_exs (bound_ex d) no_exs) in
+        let a : List Mark × Exs = if has_key Key.MaxSize ms || (has_key Key.Total ms || has_key Key.Size ms) then a0 else a1 in
+        let b : List Mark × Exs = number_of_key Key.MinSize ms es a.0 a.1 in
+        let s0 : List Mark × Exs = (valued Key.Size ∷ b.0, more_exs (bound_ex d) b.1) in
+        let s1 : List Mark × Exs = number_of_key Key.Size ms es b.0 b.1 in
+        let ha : AllHave P a.1 = if-have P (has_key Key.MaxSize ms || (has_key Key.Total ms || has_key Key.Size ms)) a0 a1
+        (key-picked P Key.MaxSize ms es [] no_exs g.0 tt) (S.bounds d g.1, tt) in
+        let hb : AllHave P b.1 = key-picked P Key.MinSize ms es a.0 a.1 g.0 ha in
+        (if-have P (has_key Key.Total ms) s0 s1 (S.bounds d g.1, hb) (key-picked P Key.Size ms es b.0 b.1 g.0 hb), (g.1, (g.2, tt)))
+
+    part-good : (ms : List Mark) (es : Exs) (d : Dom) → Good P L (partition_dom ms es d) → Good P L (part_dom ms es d)
+    part-good ms es d g =
+        let a : List Mark × Exs = number_as Key.MaxPartSize Key.MaxSize ms es [] no_exs in
+        let b : List Mark × Exs = number_as Key.MinPartSize Key.MinSize ms es a.0 a.1 in
+        let ha : AllHave P a.1 = key-picked-as P Key.MaxPartSize Key.MaxSize ms es [] no_exs g.0 tt in
+        (key-picked-as P Key.PartSize Key.Size ms es b.0 b.1 g.0 (key-picked-as P Key.MinPartSize Key.MinSize ms es a.0 a.1 g.0 ha), g.1)
+
+    pub parts-good : (ms : List Mark) (es : Exs) (d : Dom) → Good P L (partition_dom ms es d) → Good P L
+        (part_set_dom size_terms ms es d)
+    parts-good ms es d g =
+        let a0 : List Mark × Exs = number_as Key.MaxNumParts Key.MaxSize ms es [] no_exs in
+        let a1 : List Mark × Exs = (valued Key.MaxSize ∷ [], more_exs (bound_ex d) no_exs) in
+        let a : List Mark × Exs = if has_key Key.MaxNumParts ms || has_key Key.NumParts ms then a0 else a1 in
+        let b : List Mark × Exs = number_as Key.MinNumParts Key.MinSize ms es a.0 a.1 in
+        let ha : AllHave P a.1 = if-have P (has_key Key.MaxNumParts ms || has_key Key.NumParts ms) a0 a1
+        (key-picked-as P Key.MaxNumParts Key.MaxSize ms es [] no_exs g.0 tt) (S.bounds d g.1, tt) in (
+          key-picked-as P Key.NumParts Key.Size ms es b.0 b.1 g.0 (key-picked-as P Key.MinNumParts Key.MinSize ms es a.0 a.1 g.0 ha),
+          part-good ms es d g,
+        )
+
 module _ (q : ℕ → Text) (P : Ex → Type 0) (L : Dom → Type 0) where
   -- What structures are built of has the property.
   pub record BuiltOf : Type 0 where
@@ -225,55 +287,29 @@ module _ (q : ℕ → Text) (P : Ex → Type 0) (L : Dom → Type 0) where
     pub word-has : (b : Bool) (f : Fun) (a : Ex) → is_used (word f) ≡ true → P a → P (fun1 b f a)
     word-has b f a u h = B.nodes b (word f) (more_exs a no_exs) u (h, tt)
 
+    pub sized : SizedBy P L
+    sized = record {
+      zero = B.zero;
+      one = B.one;
+      products = λ a b g h. two-have false Op2.Times a b refl g h;
+      bounds = B.bounds;
+    }
+
     -- The slots of a set or multiset.
     pub set-slots-have : (ms : List Mark) (es : Exs) (d : Dom) → Good P L (set_dom ms es d) → P (slots_ex (set_dom ms es d))
-    set-slots-have ms es d g = default-has P (greatest_size_of ms es) (bound_ex d) (greatest-may P ms es g.0) (B.bounds d g.1)
+    set-slots-have = set-slots P L sized
 
     pub mset-slots-have : (ms : List Mark) (es : Exs) (d : Dom) → Good P L (mset_dom ms es d) → P (slots_ex (mset_dom ms es d))
-    mset-slots-have ms es d g = default-has P (greatest_size_of ms es) (ex2 false Op2.Times (occurrences_ex ms es) (bound_ex d))
-        (greatest-may P ms es g.1)
-        (two-have false Op2.Times (occurrences_ex ms es) (bound_ex d) refl (occurrences-may P ms es g.1 B.zero) (B.bounds d g.2))
+    mset-slots-have = mset-slots P L sized
 
     -- The domains of children are good.
     pub tuple-set-good : (ms : List Mark) (es : Exs) (ds : Doms) → Good P L (relation_dom ms es ds) → Good P L (tuple_set_dom ms es ds)
-    tuple-set-good ms es ds g =
-        let a : List Mark × Exs = number_of_key Key.MaxSize ms es [] no_exs in
-        let b : List Mark × Exs = number_of_key Key.MinSize ms es a.0 a.1 in (
-          key-picked P Key.Size ms es b.0 b.1 g.0 (key-picked P Key.MinSize ms es a.0 a.1 g.0
-              (key-picked P Key.MaxSize ms es [] no_exs g.0 tt)),
-          g.1,
-        )
+    tuple-set-good = tuples-good P L sized
 
     pub pair-relation-good : (ms : List Mark) (es : Exs) (d c : Dom) → Good P L (function_dom ms es d c) → Good P L
         (pair_relation_dom size_terms ms es d c)
-    pair-relation-good ms es d c g =
-        let a0 : List Mark × Exs = number_of_key Key.MaxSize ms es [] no_exs in
-        let a1 : List Mark × Exs = (valued Key.MaxSize ∷ [], more_exs (bound_ex d) no_exs) in
-        let a : List Mark × Exs = if has_key Key.MaxSize ms || (has_key Key.Total ms || has_key Key.Size ms) then a0 else a1 in
-        let b : List Mark × Exs = number_of_key Key.MinSize ms es a.0 a.1 in
-        let s0 : List Mark × Exs = (valued Key.Size ∷ b.0, more_exs (bound_ex d) b.1) in
-        let s1 : List Mark × Exs = number_of_key Key.Size ms es b.0 b.1 in
-        let ha : AllHave P a.1 = if-have P (has_key Key.MaxSize ms || (has_key Key.Total ms || has_key Key.Size ms)) a0 a1
-        (key-picked P Key.MaxSize ms es [] no_exs g.0 tt) (B.bounds d g.1, tt) in
-        let hb : AllHave P b.1 = key-picked P Key.MinSize ms es a.0 a.1 g.0 ha in
-        (if-have P (has_key Key.Total ms) s0 s1 (B.bounds d g.1, hb) (key-picked P Key.Size ms es b.0 b.1 g.0 hb), (g.1, (g.2, tt)))
-
-    part-good : (ms : List Mark) (es : Exs) (d : Dom) → Good P L (partition_dom ms es d) → Good P L (part_dom ms es d)
-    part-good ms es d g =
-        let a : List Mark × Exs = number_as Key.MaxPartSize Key.MaxSize ms es [] no_exs in
-        let b : List Mark × Exs = number_as Key.MinPartSize Key.MinSize ms es a.0 a.1 in
-        let ha : AllHave P a.1 = key-picked-as P Key.MaxPartSize Key.MaxSize ms es [] no_exs g.0 tt in
-        (key-picked-as P Key.PartSize Key.Size ms es b.0 b.1 g.0 (key-picked-as P Key.MinPartSize Key.MinSize ms es a.0 a.1 g.0 ha), g.1)
+    pair-relation-good = pairs-good P L sized
 
     pub part-set-good : (ms : List Mark) (es : Exs) (d : Dom) → Good P L (partition_dom ms es d) → Good P L
         (part_set_dom size_terms ms es d)
-    part-set-good ms es d g =
-        let a0 : List Mark × Exs = number_as Key.MaxNumParts Key.MaxSize ms es [] no_exs in
-        let a1 : List Mark × Exs = (valued Key.MaxSize ∷ [], more_exs (bound_ex d) no_exs) in
-        let a : List Mark × Exs = if has_key Key.MaxNumParts ms || has_key Key.NumParts ms then a0 else a1 in
-        let b : List Mark × Exs = number_as Key.MinNumParts Key.MinSize ms es a.0 a.1 in
-        let ha : AllHave P a.1 = if-have P (has_key Key.MaxNumParts ms || has_key Key.NumParts ms) a0 a1
-        (key-picked-as P Key.MaxNumParts Key.MaxSize ms es [] no_exs g.0 tt) (B.bounds d g.1, tt) in (
-          key-picked-as P Key.NumParts Key.Size ms es b.0 b.1 g.0 (key-picked-as P Key.MinNumParts Key.MinSize ms es a.0 a.1 g.0 ha),
-          part-good ms es d g,
-        )
+    part-set-good = parts-good P L sized

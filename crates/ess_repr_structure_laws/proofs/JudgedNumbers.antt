@@ -27,14 +27,14 @@ use Rattle.ess_repr_structure_laws.proofs.OrderlyJudged.{of-domain}
 use Rattle.ess_repr_structure_laws.proofs.SoundTogether.{typed, both-dom}
 
 -- None of these is a cell or a view.
-abbrev Plain : List Ex → Type 0
+abbrev pub Plain : List Ex → Type 0
 Plain xs = list_any is_cell_or_view xs ≡ false
 
-left-plain : (xs ys : List Ex) → Plain (xs ++ ys) → Plain xs
+pub left-plain : (xs ys : List Ex) → Plain (xs ++ ys) → Plain xs
 left-plain xs ys h = or-left-no (list_any is_cell_or_view xs) (list_any is_cell_or_view ys)
     (sym (list_any-append is_cell_or_view xs ys) ∙ h)
 
-right-plain : (xs ys : List Ex) → Plain (xs ++ ys) → Plain ys
+pub right-plain : (xs ys : List Ex) → Plain (xs ++ ys) → Plain ys
 right-plain xs ys h = or-right-no (list_any is_cell_or_view xs) (list_any is_cell_or_view ys)
     (sym (list_any-append is_cell_or_view xs ys) ∙ h)
 

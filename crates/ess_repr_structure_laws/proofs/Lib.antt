@@ -21,6 +21,7 @@ pub mod SoundTogether
 pub mod JudgedNumbers
 -- What structures are built of
 pub mod BuiltStructures
+pub mod BuiltShapes
 pub mod BuiltParts
 pub mod BuiltSets
 pub mod BuiltViews
@@ -45,5 +46,19 @@ pub mod MetFunctions
 pub mod MetTuples
 pub mod MetAll
 pub mod MetViews
+-- Tables are full for structures
+pub mod FullParts
+pub mod FullCells
+pub mod FullSlots
+pub mod FullCounts
+pub mod FullSeen
+pub mod FullKinds
+pub mod FullSets
+pub mod FullFunctions
+pub mod FullTuples
+pub mod FullLayers
+pub mod FullAll
+pub mod FullNumbers
+pub mod FullViews
 -- Worked examples
 pub mod ExamplesStructures

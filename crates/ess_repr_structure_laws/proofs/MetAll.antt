@@ -66,13 +66,13 @@ module _ (env0 : Env) (q : ℕ → Text) (q-apart : (m l : ℕ) → l < m → sa
   of = structures env0 q q-apart size_terms
 
   -- Functions of which nothing is asked.
-  bare-functions : (d c : Dom) (x y : Domain) → DomainIs env0 q q-apart d x → DomainIs env0 q q-apart c y → DomainIs env0 q q-apart
+  pub bare-functions : (d c : Dom) (x y : Domain) → DomainIs env0 q q-apart d x → DomainIs env0 q q-apart c y → DomainIs env0 q q-apart
       (bare_function_dom d c) (functions [] x y)
   bare-functions d c x y dm cm bs = ap (λ o. and_then o (λ u. option_map (functions [] u) (domain_of c (N bs)))) (dm bs) ∙ ap
       (option_map (functions [] x)) (cm bs)
 
   -- Multisets of at most as many members as there are slots.
-  bare-msets : (size : Ex) (d : Dom) (S : ℕ) (e : Domain) → ((bs : Bound env0 q q-apart) → Number size (N bs) (pos S)) → DomainIs env0 q
+  pub bare-msets : (size : Ex) (d : Dom) (S : ℕ) (e : Domain) → ((bs : Bound env0 q q-apart) → Number size (N bs) (pos S)) → DomainIs env0 q
       q-apart d e →
       DomainIs env0 q q-apart (bare_mset_dom size d) (msets (numbered Key.MaxSize (pos S) ∷ []) e)
   bare-msets size d S e sl dm bs =

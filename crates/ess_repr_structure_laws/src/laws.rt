@@ -1,6 +1,6 @@
 //! Laws of structures of judged domains, each the contract of a function that does nothing.
 
-ghost use Rattle.ess_repr_structure_laws.specs.Laws.{JudgedDomainsAreOrderly, JudgedViewsAreReady, JudgedStructuresMeanCanonical, StructuresAreTotal, StructuresSpellConstants, TablesMeetStructures, JudgedNumbersAreNumbers};
+ghost use Rattle.ess_repr_structure_laws.specs.Laws.{JudgedDomainsAreOrderly, JudgedViewsAreReady, JudgedStructuresMeanCanonical, StructuresAreTotal, StructuresSpellConstants, TablesMeetStructures, TablesAreFull, JudgedNumbersAreNumbers};
 
 /// A domain that meets the judgements is one that the other laws speak of.
 pub fn judged_domains_are_orderly()
@@ -31,6 +31,12 @@ pub fn structures_spell_constants()
 /// Tables on the declared axes with items in the declared domains meet the structures of the structure constraint.
 pub fn tables_meet_structures()
     ensures { TablesMeetStructures }
+{}
+
+/// Tables on the declared axes with items in the declared domains are full for the structure constraint, where its view's domain reads no
+/// table.
+pub fn tables_are_full()
+    ensures { TablesAreFull }
 {}
 
 /// The bounds and attribute values of a judged domain are whole numbers.
