@@ -92,7 +92,7 @@ module _ (hs : Gens) (k : Env → Option (List Value)) where
   where-there (Some (node a vs)) o t h = cc
 
   -- At each binding of the first generators.
-  inner-there : (gs : Gens) (env : Env) → is_some (items_under (append_gens gs hs) env k) ≡ true →
+  pub inner-there : (gs : Gens) (env : Env) → is_some (items_under (append_gens gs hs) env k) ≡ true →
       AtEach gs env (λ here. is_some (items_under hs here k) ≡ true)
   inner-there no_gens env h = h
   inner-there (over p d gs) env h =

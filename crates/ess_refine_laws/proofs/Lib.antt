@@ -23,4 +23,5 @@ pub mod ConstantsStay
 pub mod ExamplesChains
 pub mod MixedLists
 pub mod ExtremeRules
+pub mod MovingConditions
 pub mod ExamplesExtremes

@@ -9,3 +9,4 @@ pub mod MarksStay
 pub mod ScopesStay
 pub mod ConstantsStay
 pub mod ExtremeRules
+pub mod MovingConditions

@@ -9,6 +9,7 @@ ghost use Rattle.ess_refine_laws.specs.MarksStay.{WholesKeepMarks};
 ghost use Rattle.ess_refine_laws.specs.ScopesStay.{WholesKeepScopes};
 ghost use Rattle.ess_refine_laws.specs.ConstantsStay.{WholesKeepConstants};
 ghost use Rattle.ess_refine_laws.specs.ExtremeRules.{ExtremesKeep};
+ghost use Rattle.ess_refine_laws.specs.MovingConditions.{ConditionsMove};
 ghost use Rattle.ess_refine_laws.specs.RecordNames.{NamesOverRecordsKeep};
 
 /// A refined number becomes one that is there wherever the names and cells in it are, and that is the same where the old one
@@ -58,6 +59,11 @@ pub fn constants_stay()
 /// `min` and `max` over a condition that reads cells keep what they are with the greatest or least of all for what it leaves out.
 pub fn extremes_keep()
     ensures { ExtremesKeep }
+{}
+
+/// A condition that reads cells may move behind the generators after it under `min` and `max`.
+pub fn conditions_move()
+    ensures { ConditionsMove }
 {}
 
 /// A name over a record of domains may run over the records of new names over the components.
