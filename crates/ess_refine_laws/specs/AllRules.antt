@@ -39,7 +39,10 @@ use Rattle.ess_rules_laws.specs.ChoiceRules.{choice_shorter, ChoicesFit}
 use Rattle.ess_rules_laws.specs.Progress.{is_parted}
 use Rattle.ess_refine_laws.specs.ScalarItems.{has_scalar_items}
 use Rattle.ess_refine_laws.specs.RecordNames.{name_over_record}
-use Rattle.ess_refine_laws.specs.LeavingConditions.{condition_leaves, LeavesFits}
+use Rattle.ess_refine_laws.specs.Everywhere.{everywhere, everywhere_gens}
+use Rattle.ess_refine_laws.specs.LeavingConditions.{at_last_condition, condition_leaves, LeavesFits}
+use Rattle.ess_refine_laws.specs.ExtremeRules.{opposite, extreme_condition, ExtremeFits}
+use Rattle.ess_refine_laws.specs.MovingConditions.{condition_later, LaterFits}
 
 -- The rules, by what they rewrite.
 pub data Rule : Type 0 where
@@ -61,14 +64,17 @@ pub data Rule : Type 0 where
   least_of_a_literal different_items list_of_a_term list_on_the_left list_on_the_right all_different results : Rule
   -- Numbers that conditions choose, and conditions that read cells.
   choice condition : Rule
+  -- The least and the greatest under a condition that reads cells: it moves behind the generators, and then into the numbers.
+  condition_behind least_under_a_condition : Rule
 
--- What the rules take: names that stand nowhere in the tree, two and one for each component of a domain, and the index domain of
--- each matrix.
+-- What the rules take: names that stand nowhere in the tree, two and one for each component of a domain, the index domain of
+-- each matrix, and another way to write each tree, with bound names of its own.
 pub record Supply : Type 0 where
   pub one : Text
   pub other : Text
   pub parts : List Text
   pub index_domain : Ex → Dom
+  pub copy : Ex → Ex
 
 -- What the term offers as a listing.
 abbrev pub offered : Supply → Names Ty → Ex → Option (List Alternative)
@@ -95,6 +101,15 @@ source_listed_once s g e = None
 abbrev pub matrices_at : Supply → Names Ty → Ex → Option Ex
 matrices_at s g (ex2 m o a b) = equal_matrices (s.index_domain a) (s.index_domain b) g s.one s.other (ex2 m o a b)
 matrices_at s g e = None
+
+-- A copy of the greatest of what `min` runs over once a condition is left out, or of the least of what `max` does; the whole where
+-- there is no such condition.
+abbrev pub opposite_copied : Supply → Ex → Ex
+opposite_copied s (fun1 false f (comp_ex e gs)) = elim (at_last_condition gs) [
+  | None ↦ fun1 false f (comp_ex e gs)
+  | Some t ↦ s.copy (fun1 false (opposite f) (comp_ex (everywhere e) (everywhere_gens t.before)))
+]
+opposite_copied s e = e
 
 -- Whether the root says that compound values differ. Of scalars models say it.
 abbrev pub compares_compound : Names Ty → Ex → Bool
@@ -157,6 +172,8 @@ rewrite s g all_different e = if tells_scalars_apart g e then None else differen
 rewrite s g results e = range_as_set g s.one e
 rewrite s g choice e = choice_shorter e
 rewrite s g condition e = condition_leaves e
+rewrite s g condition_behind e = condition_later e
+rewrite s g least_under_a_condition e = extreme_condition (opposite_copied s e) e
 
 -- ---- what they count on
 
@@ -233,6 +250,8 @@ CountsOn s g all_different e env = Unused s.one e
 CountsOn s g results e env = Unused s.one e × SoundOperands g e
 CountsOn s g choice e env = ChoicesFit e env
 CountsOn s g condition e env = LeavesFits e env
+CountsOn s g condition_behind e env = (r : Text → Bool) × LaterFits r e env
+CountsOn s g least_under_a_condition e env = ExtremeFits (opposite_copied s e) e env
 
 -- ---- the order
 
@@ -248,7 +267,7 @@ all_rules =
     ∷ in_two ∷ in_one_made_of_another ∷ in_a_literal ∷ in_what_a_function_has ∷ in_its_pairs ∷ in_a_term
     ∷ size_of_one_made_of_another ∷ size ∷ frequency_in_one_made_of_another ∷ frequency_in_a_literal ∷ frequency ∷ together
     ∷ least_of_a_literal ∷ different_items ∷ list_of_a_term ∷ list_on_the_left ∷ list_on_the_right ∷ all_different ∷ results
-    ∷ choice ∷ condition ∷ []
+    ∷ choice ∷ condition ∷ condition_behind ∷ least_under_a_condition ∷ []
 
 -- What the first of the rules that fires makes of the root.
 abbrev pub first_rewrite : Supply → Names Ty → List Rule → Ex → Option Ex
