@@ -23,5 +23,6 @@ pub mod ConstantsStay
 pub mod ExamplesChains
 pub mod MixedLists
 pub mod ExtremeRules
+pub mod Copies
 pub mod MovingConditions
 pub mod ExamplesExtremes

@@ -39,9 +39,9 @@ use Rattle.ess_rules_laws.specs.ChoiceRules.{choice_shorter, ChoicesFit}
 use Rattle.ess_rules_laws.specs.Progress.{is_parted}
 use Rattle.ess_refine_laws.specs.ScalarItems.{has_scalar_items}
 use Rattle.ess_refine_laws.specs.RecordNames.{name_over_record}
-use Rattle.ess_refine_laws.specs.Everywhere.{everywhere, everywhere_gens}
 use Rattle.ess_refine_laws.specs.LeavingConditions.{at_last_condition, condition_leaves, LeavesFits}
-use Rattle.ess_refine_laws.specs.ExtremeRules.{opposite, extreme_condition, ExtremeFits}
+use Rattle.ess_refine_laws.specs.ExtremeRules.{extreme_condition}
+use Rattle.ess_refine_laws.specs.Copies.{opposite_of, CopyFits}
 use Rattle.ess_refine_laws.specs.MovingConditions.{condition_later, LaterFits}
 
 -- The rules, by what they rewrite.
@@ -107,7 +107,7 @@ matrices_at s g e = None
 abbrev pub opposite_copied : Supply → Ex → Ex
 opposite_copied s (fun1 false f (comp_ex e gs)) = elim (at_last_condition gs) [
   | None ↦ fun1 false f (comp_ex e gs)
-  | Some t ↦ s.copy (fun1 false (opposite f) (comp_ex (everywhere e) (everywhere_gens t.before)))
+  | Some t ↦ s.copy (opposite_of f e t)
 ]
 opposite_copied s e = e
 
@@ -251,7 +251,7 @@ CountsOn s g results e env = Unused s.one e × SoundOperands g e
 CountsOn s g choice e env = ChoicesFit e env
 CountsOn s g condition e env = LeavesFits e env
 CountsOn s g condition_behind e env = (r : Text → Bool) × LaterFits r e env
-CountsOn s g least_under_a_condition e env = ExtremeFits (opposite_copied s e) e env
+CountsOn s g least_under_a_condition e env = (r : Text → Bool) × CopyFits r (opposite_copied s e) e env
 
 -- ---- the order
 

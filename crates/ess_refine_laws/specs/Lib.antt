@@ -9,4 +9,5 @@ pub mod MarksStay
 pub mod ScopesStay
 pub mod ConstantsStay
 pub mod ExtremeRules
+pub mod Copies
 pub mod MovingConditions

@@ -10,6 +10,7 @@ ghost use Rattle.ess_refine_laws.specs.ScopesStay.{WholesKeepScopes};
 ghost use Rattle.ess_refine_laws.specs.ConstantsStay.{WholesKeepConstants};
 ghost use Rattle.ess_refine_laws.specs.ExtremeRules.{ExtremesKeep};
 ghost use Rattle.ess_refine_laws.specs.MovingConditions.{ConditionsMove};
+ghost use Rattle.ess_refine_laws.specs.Copies.{CopiesServe};
 ghost use Rattle.ess_refine_laws.specs.RecordNames.{NamesOverRecordsKeep};
 
 /// A refined number becomes one that is there wherever the names and cells in it are, and that is the same where the old one
@@ -64,6 +65,11 @@ pub fn extremes_keep()
 /// A condition that reads cells may move behind the generators after it under `min` and `max`.
 pub fn conditions_move()
     ensures { ConditionsMove }
+{}
+
+/// What a condition leaves out of `min` and `max` may be said by a copy with bound names of its own.
+pub fn copies_serve()
+    ensures { CopiesServe }
 {}
 
 /// A name over a record of domains may run over the records of new names over the components.
