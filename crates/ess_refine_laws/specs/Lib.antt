@@ -9,5 +9,6 @@ pub mod MarksStay
 pub mod ScopesStay
 pub mod ConstantsStay
 pub mod ExtremeRules
+pub mod ExtremeAlternatives
 pub mod Copies
 pub mod MovingConditions
