@@ -11,6 +11,7 @@ ghost use Rattle.ess_refine_laws.specs.ConstantsStay.{WholesKeepConstants};
 ghost use Rattle.ess_refine_laws.specs.ExtremeRules.{ExtremesKeep};
 ghost use Rattle.ess_refine_laws.specs.MovingConditions.{ConditionsMove};
 ghost use Rattle.ess_refine_laws.specs.Copies.{CopiesServe};
+ghost use Rattle.ess_refine_laws.specs.ExtremeAlternatives.{AlternativesServe};
 ghost use Rattle.ess_refine_laws.specs.RecordNames.{NamesOverRecordsKeep};
 
 /// A refined number becomes one that is there wherever the names and cells in it are, and that is the same where the old one
@@ -70,6 +71,12 @@ pub fn conditions_move()
 /// What a condition leaves out of `min` and `max` may be said by a copy with bound names of its own.
 pub fn copies_serve()
     ensures { CopiesServe }
+{}
+
+/// `min` and `max` of a term with several alternatives are those of one number for each. A comprehension over a source with several
+/// alternatives has as many.
+pub fn alternatives_serve()
+    ensures { AlternativesServe }
 {}
 
 /// A name over a record of domains may run over the records of new names over the components.
