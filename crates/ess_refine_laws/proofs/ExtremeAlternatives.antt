@@ -27,11 +27,12 @@ use Rattle.ess_rules_laws.proofs.SourceRules.{both-lists}
 use Rattle.ess_rules_laws.proofs.Connectives.{any-means, bits}
 use Rattle.ess_refine_laws.specs.Everywhere.{extreme}
 use Rattle.ess_refine_laws.specs.ExtremeRules.{is_extreme}
-use Rattle.ess_refine_laws.specs.ExtremeAlternatives.{has_items, extreme_or, each_extreme, extreme_parts, is_past, PastAll, AlternativesFit, AlternativesServe}
+use Rattle.ess_refine_laws.specs.ExtremeAlternatives.{has_items, extreme_or, each_extreme, extreme_parts, past_all, extreme_alternatives, is_past, AlternativesFit, NumbersFit, AlternativesServe}
 use Rattle.ess_refine_laws.proofs.Replaced.{number-of}
 use Rattle.ess_refine_laws.proofs.Everywhere.{least-number, greatest-number, marks-under, marks-alone}
 use Rattle.ess_refine_laws.proofs.LeavingConditions.{all-bindings}
 use Rattle.ess_refine_laws.proofs.MixedLists.{or_else_value, least-of-lists, greatest-of-lists}
+use Rattle.ess_refine_laws.proofs.PastAll.{past-all}
 use Rattle.ess_refine_laws.proofs.FlatSources.{there-is, offered-items, flat-serves}
 
 -- ---- the first of a list, by the word
@@ -202,9 +203,23 @@ parts-answer m l (fun1 false f t) env c =
     when-so (is_extreme f) (fun1 false f (list_of (each_extreme f m l))) (fun1 false f t) env (λ q. parts-kept m l f t env q c)
 parts-answer m l _ env c = tt
 
+numbers-fit : (l : List Alternative) (f : Fun) (t : Ex) (env : Env) → is_extreme f ≡ true → NumbersFit l (fun1 false f t) env →
+    AlternativesFit (past_all f l) l (fun1 false f t) env
+numbers-fit l f t env q c =
+    let w = there-is (meaning t env) (term-there f q (meaning t env) c.0) in
+    let ws = offered-items t l env w.0 w.1 c.1 in
+    (c.0, c.1, past-all f q l env ws.0 ws.1 c.1.met (subst (λ o. EachOf o (λ v. IsNumber (Some v))) ws.1 c.2))
+
+numbers-answer : (l : List Alternative) (e : Ex) (env : Env) → NumbersFit l e env → AnswerKeeps (extreme_alternatives l e) e env
+numbers-answer l (fun1 false f t) env c =
+    when-so (is_extreme f) (fun1 false f (list_of (each_extreme f (past_all f l) l))) (fun1 false f t) env
+    (λ q. parts-kept (past_all f l) l f t env q (numbers-fit l f t env q c))
+numbers-answer l _ env c = tt
+
 -- What alternatives serve for.
 pub alternatives-serve : AlternativesServe
 alternatives-serve = record {
   of_a_comprehension = flat-serves;
   of_a_term = λ m l e f q env c. fires (extreme_parts m l e) e f env (parts-answer m l e env c) q;
+  of_numbers = λ l e f q env c. fires (extreme_alternatives l e) e f env (numbers-answer l e env c) q;
 }

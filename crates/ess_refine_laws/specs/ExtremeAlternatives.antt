@@ -58,6 +58,21 @@ abbrev pub extreme_parts : Ex → List Alternative → Ex → Option Ex
 extreme_parts m l (fun1 false f t) = if is_extreme f then Some (fun1 false f (list_of (each_extreme f m l))) else None
 extreme_parts m l e = None
 
+-- The sum of the sizes of all items, `sum([|e| | gs])` for each alternative: no item is above it.
+abbrev pub each_size : List Alternative → Exs
+each_size [] = no_exs
+each_size (a ∷ l) = more_exs (fun1 false Fun.Sum (comp_ex (ex1 false Op1.Bar a.item) a.gens)) (each_size l)
+
+-- That sum for `min`, and for `max` what it is below 0.
+abbrev pub past_all : Fun → List Alternative → Ex
+past_all Fun.Max l = ex1 false Op1.Minus (fun1 false Fun.Sum (list_of (each_size l)))
+past_all f l = fun1 false Fun.Sum (list_of (each_size l))
+
+-- `min(t)` with this number where an alternative has none.
+abbrev pub extreme_alternatives : List Alternative → Ex → Option Ex
+extreme_alternatives l (fun1 false f t) = extreme_parts (past_all f l) l (fun1 false f t)
+extreme_alternatives l e = None
+
 -- Whether a value is beyond k: above it for `min`, below it for `max`.
 abbrev pub is_past : Fun → Value → Value → Bool
 is_past Fun.Max k v = below v k
@@ -74,12 +89,19 @@ abbrev pub AlternativesFit : Ex → List Alternative → Ex → Env → Type 0
 AlternativesFit m l (fun1 b f t) env = IsTrue (is_some (meaning (fun1 b f t) env)) × Offers t l env × PastAll m f l env
 AlternativesFit m l e env = Unit {0}
 
+-- The same where items are numbers, which the number past them is made of.
+abbrev pub NumbersFit : List Alternative → Ex → Env → Type 0
+NumbersFit l (fun1 b f t) env =
+    IsTrue (is_some (meaning (fun1 b f t) env)) × Offers t l env × EachOf (all_listed l env) (λ v. IsNumber (Some v))
+NumbersFit l e env = Unit {0}
+
 -- ---- the laws
 
 -- A comprehension that is there offers the alternatives that it has by its first source; and the least of a term that offers
--- alternatives is kept with one number for each.
+-- alternatives is kept with one number for each, with any number past all items or with the sum of their sizes.
 pub record AlternativesServe : Type 0 where
   pub of_a_comprehension : (r s : Text → Bool) (l : List Alternative) (e : Ex) (k : List Alternative) → flat l e ≡ Some k →
       SourceApart r s l e → (env : Env) → IsTrue (is_some (meaning e env)) → Meets e env → FirstOffers l e env → Offers e k env
   pub of_a_term : (m : Ex) (l : List Alternative) (e f : Ex) → extreme_parts m l e ≡ Some f → (env : Env) → AlternativesFit m l e env →
       Keeps e f env
+  pub of_numbers : (l : List Alternative) (e f : Ex) → extreme_alternatives l e ≡ Some f → (env : Env) → NumbersFit l e env → Keeps e f env
