@@ -29,3 +29,4 @@ pub mod FlatSources
 pub mod Copies
 pub mod MovingConditions
 pub mod ExamplesExtremes
+pub mod ExamplesAlternatives
