@@ -23,6 +23,7 @@ pub mod ConstantsStay
 pub mod ExamplesChains
 pub mod MixedLists
 pub mod ExtremeRules
+pub mod IndexedLists
 pub mod PastAll
 pub mod ExtremeAlternatives
 pub mod FlatSources

@@ -9,6 +9,7 @@ pub mod MarksStay
 pub mod ScopesStay
 pub mod ConstantsStay
 pub mod ExtremeRules
+pub mod IndexedLists
 pub mod ExtremeAlternatives
 pub mod Copies
 pub mod MovingConditions

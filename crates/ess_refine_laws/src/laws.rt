@@ -12,6 +12,7 @@ ghost use Rattle.ess_refine_laws.specs.ExtremeRules.{ExtremesKeep};
 ghost use Rattle.ess_refine_laws.specs.MovingConditions.{ConditionsMove};
 ghost use Rattle.ess_refine_laws.specs.Copies.{CopiesServe};
 ghost use Rattle.ess_refine_laws.specs.ExtremeAlternatives.{AlternativesServe};
+ghost use Rattle.ess_refine_laws.specs.IndexedLists.{ListsAreIndices};
 ghost use Rattle.ess_refine_laws.specs.RecordNames.{NamesOverRecordsKeep};
 
 /// A refined number becomes one that is there wherever the names and cells in it are, and that is the same where the old one
@@ -77,6 +78,11 @@ pub fn copies_serve()
 /// alternatives has as many.
 pub fn alternatives_serve()
     ensures { AlternativesServe }
+{}
+
+/// A list literal is what its indices pick, in order.
+pub fn lists_are_indices()
+    ensures { ListsAreIndices }
 {}
 
 /// A name over a record of domains may run over the records of new names over the components.
