@@ -31,3 +31,4 @@ pub mod Copies
 pub mod MovingConditions
 pub mod ExamplesExtremes
 pub mod ExamplesAlternatives
+pub mod ExamplesLists
