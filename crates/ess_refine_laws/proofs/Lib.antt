@@ -1,4 +1,5 @@
 pub mod Replaced
+pub mod SparingRules
 pub mod PartialNumbers
 pub mod Bounds
 pub mod Everywhere

@@ -13,6 +13,7 @@ ghost use Rattle.ess_refine_laws.specs.MovingConditions.{ConditionsMove};
 ghost use Rattle.ess_refine_laws.specs.Copies.{CopiesServe};
 ghost use Rattle.ess_refine_laws.specs.ExtremeAlternatives.{AlternativesServe};
 ghost use Rattle.ess_refine_laws.specs.IndexedLists.{ListsAreIndices};
+ghost use Rattle.ess_refine_laws.specs.SparingRules.{RulesSpare};
 ghost use Rattle.ess_refine_laws.specs.RecordNames.{NamesOverRecordsKeep};
 
 /// A refined number becomes one that is there wherever the names and cells in it are, and that is the same where the old one
@@ -83,6 +84,11 @@ pub fn alternatives_serve()
 /// A list literal is what its indices pick, in order.
 pub fn lists_are_indices()
     ensures { ListsAreIndices }
+{}
+
+/// Rules that keep whole operands spell no new numbers but 0, 1 and 2.
+pub fn rules_spare()
+    ensures { RulesSpare }
 {}
 
 /// A name over a record of domains may run over the records of new names over the components.
