@@ -1,5 +1,6 @@
 pub mod Replaced
 pub mod SparingRules
+pub mod RulesSpare
 pub mod PartialNumbers
 pub mod Bounds
 pub mod Everywhere

@@ -1,4 +1,4 @@
--- Rules that keep operands spell no new numbers.
+-- What rules answer that keep operands spells no new numbers.
 use Rattle.std.proofs.Common.{◌≡◌, refl, sym, subst, ℕ, Bool, true, false, ◌&&◌, ◌||◌, if◌then◌else◌, List, [], ◌∷◌, ◌++◌, ℤ, pos, Option, Some, None}
 use Rattle.std.specs.List.{list_all}
 use Rattle.ess_semantics.specs.declared.words.Op1.{Op1}
@@ -16,8 +16,6 @@ use Rattle.ess_rules_laws.specs.LooseRules.{fold_loosely}
 use Rattle.ess_rules_laws.specs.InclusionRules.{both_sets, both_msets, both_functions, every, unequal, included_turned, included_strictly, included_members, included_often, equal_members, equal_pairs}
 use Rattle.ess_rules_laws.specs.MembershipRules.{member_term, member_combined, member_changed}
 use Rattle.ess_rules_laws.specs.SizeRules.{is_counted, size_term, frequency_term, together_term}
-use Rattle.ess_refine_laws.specs.AllRules.{Rule, over_nothing, over_one_binding, over_a_made_set, over_a_condition, not_equal, turned, strictly, included_sets, included_multisets, equal_sets, equal_functions, in_two, in_one_made_of_another, in_a_term, size, frequency, together, Supply, compares_compound, rewrite}
-use Rattle.ess_refine_laws.specs.SparingRules.{keeps_operands, RulesSpare}
 use Rattle.ess_refine_laws.proofs.ConstantsStay.{All, all-left, all-right, all-both}
 
 -- How often a value is in a container.
@@ -32,11 +30,11 @@ counted-inside _ n = refl
 
 module _ (q : ℤ → Bool) (o : q (pos 0) ≡ true) (i : q (pos 1) ≡ true) where
   -- All numbers of a tree pass.
-  abbrev A : Bool → Ex → Type 0
+  abbrev pub A : Bool → Ex → Type 0
   A m e = All q (tree_constants m e)
 
   -- So do those of what a rule answers.
-  abbrev Answers : Bool → Option Ex → Type 0
+  abbrev pub Answers : Bool → Option Ex → Type 0
   Answers m None = Unit {0}
   Answers m (Some f) = A m f
 
@@ -111,14 +109,14 @@ module _ (q : ℤ → Bool) (o : q (pos 0) ≡ true) (i : q (pos 1) ≡ true) wh
 
   -- ---- each rule
 
-  nothing : (m : Bool) (e : Ex) → A m e → Answers m (fold_nothing e)
+  pub nothing : (m : Bool) (e : Ex) → A m e → Answers m (fold_nothing e)
   nothing m (fun1 true Fun.And (node_ex false matrix_literal no_exs)) h = refl
   nothing m (fun1 true Fun.Or (node_ex false matrix_literal no_exs)) h = refl
   nothing m (fun1 false Fun.Sum (node_ex false matrix_literal no_exs)) h = and-both (q (pos 0)) true o refl
   nothing m (fun1 false Fun.Product (node_ex false matrix_literal no_exs)) h = and-both (q (pos 1)) true i refl
   nothing m _ h = tt
 
-  bare : (m : Bool) (e : Ex) → A m e → Answers m (fold_bare e)
+  pub bare : (m : Bool) (e : Ex) → A m e → Answers m (fold_bare e)
   bare m (fun1 true Fun.And (comp_ex e no_gens)) h = inside m e (comp-of true e no_gens (one-of m true (word Fun.And) (comp_ex e no_gens) h)).0
   bare m (fun1 true Fun.Or (comp_ex e no_gens)) h = inside m e (comp-of true e no_gens (one-of m true (word Fun.Or) (comp_ex e no_gens) h)).0
   bare m (fun1 false Fun.Sum (comp_ex e no_gens)) h =
@@ -127,7 +125,7 @@ module _ (q : ℤ → Bool) (o : q (pos 0) ≡ true) (i : q (pos 1) ≡ true) wh
       inside m e (comp-of true e no_gens (one-of m false (word Fun.Product) (comp_ex e no_gens) h)).0
   bare m _ h = tt
 
-  alone : (m : Bool) (e : Ex) → A m e → Answers m (fold_alone e)
+  pub alone : (m : Bool) (e : Ex) → A m e → Answers m (fold_alone e)
   alone m (fun1 true Fun.And (comp_ex e (cond c no_gens))) h =
       let k = comp-of true e (cond c no_gens) (one-of m true (word Fun.And) (comp_ex e (cond c no_gens)) h) in
       of-two m true (binary Op2.Implies) c e (uncounted m) (all-left q (tree_constants false c) [] k.1) k.0
@@ -136,7 +134,7 @@ module _ (q : ℤ → Bool) (o : q (pos 0) ≡ true) (i : q (pos 1) ≡ true) wh
       of-two m true (binary Op2.And) c e (uncounted m) (all-left q (tree_constants false c) [] k.1) k.0
   alone m _ h = tt
 
-  loosely : (m : Bool) (e : Ex) → A m e → Answers m (fold_loosely e)
+  pub loosely : (m : Bool) (e : Ex) → A m e → Answers m (fold_loosely e)
   loosely m (fun1 true Fun.And (comp_ex e (from p (fun1 false Fun.ToSet s) hs))) h =
       let k = comp-of true e (from p (fun1 false Fun.ToSet s) hs) (one-of m true (word Fun.And) (comp_ex e (from p
       (fun1 false Fun.ToSet s) hs)) h) in
@@ -147,20 +145,20 @@ module _ (q : ℤ → Bool) (o : q (pos 0) ≡ true) (i : q (pos 1) ≡ true) wh
       of-one m true (word Fun.Or) (comp_ex e (from p s hs)) (uncounted m) (of-comp true e (from p s hs) k.0 (of-set p s hs k.1))
   loosely m _ h = tt
 
-  apart : (m : Bool) (e : Ex) → A m e → Answers m (unequal e)
+  pub apart : (m : Bool) (e : Ex) → A m e → Answers m (unequal e)
   apart m (ex2 true Op2.Ne a b) h =
       let k = two-of m true (binary Op2.Ne) a b h in
       of-one m true (unary Op1.Not) (ex2 true Op2.Eq a b) (uncounted m) (of-two false true (binary Op2.Eq) a b refl k.0 k.1)
   apart m _ h = tt
 
-  turns : (m : Bool) (e : Ex) → A m e → Answers m (included_turned e)
+  pub turns : (m : Bool) (e : Ex) → A m e → Answers m (included_turned e)
   turns m (ex2 true Op2.SupsetEq a b) h =
       let k = two-of m true (binary Op2.SupsetEq) a b h in of-two m true (binary Op2.SubsetEq) b a (uncounted m) k.1 k.0
   turns m (ex2 true Op2.Supset a b) h =
       let k = two-of m true (binary Op2.Supset) a b h in of-two m true (binary Op2.Subset) b a (uncounted m) k.1 k.0
   turns m _ h = tt
 
-  strict : (g : Names Ty) (x : Text) (m : Bool) (e : Ex) → A m e → Answers m (included_strictly g x e)
+  pub strict : (g : Names Ty) (x : Text) (m : Bool) (e : Ex) → A m e → Answers m (included_strictly g x e)
   strict g x m (ex2 true Op2.Subset a b) h =
       let k = two-of m true (binary Op2.Subset) a b h in
       when (both_sets (type_of a g) (type_of b g) || both_msets (type_of a g) (type_of b g)) m
@@ -174,14 +172,14 @@ module _ (q : ℤ → Bool) (o : q (pos 0) ≡ true) (i : q (pos 1) ≡ true) wh
   of-member : (x : Text) (b : Ex) → A false b → A false (ex2 true Op2.Member (name_ex x) b)
   of-member x b h = of-two false true (binary Op2.Member) (name_ex x) b refl refl h
 
-  members : (g : Names Ty) (x : Text) (m : Bool) (e : Ex) → A m e → Answers m (included_members g x e)
+  pub members : (g : Names Ty) (x : Text) (m : Bool) (e : Ex) → A m e → Answers m (included_members g x e)
   members g x m (ex2 true Op2.SubsetEq a b) h =
       let k = two-of m true (binary Op2.SubsetEq) a b h in
       when (both_sets (type_of a g) (type_of b g)) m (every x a (ex2 true Op2.Member (name_ex x) b))
       (of-every m x a (ex2 true Op2.Member (name_ex x) b) k.0 (of-member x b k.1))
   members g x m _ h = tt
 
-  often : (g : Names Ty) (x : Text) (m : Bool) (e : Ex) → A m e → Answers m (included_often x e)
+  pub often : (g : Names Ty) (x : Text) (m : Bool) (e : Ex) → A m e → Answers m (included_often x e)
   often g x m (ex2 true Op2.SubsetEq a b) h =
       let k = two-of m true (binary Op2.SubsetEq) a b h in
       of-every m x a (ex2 true Op2.Le (how_often a (name_ex x)) (how_often b (name_ex x))) k.0
@@ -189,7 +187,7 @@ module _ (q : ℤ → Bool) (o : q (pos 0) ≡ true) (i : q (pos 1) ≡ true) wh
       (of-two false false (word Fun.Freq) a (name_ex x) refl k.0 refl) (of-two false false (word Fun.Freq) b (name_ex x) refl k.1 refl))
   often g x m _ h = tt
 
-  same_members : (g : Names Ty) (x : Text) (m : Bool) (e : Ex) → A m e → Answers m (equal_members g x e)
+  pub same_members : (g : Names Ty) (x : Text) (m : Bool) (e : Ex) → A m e → Answers m (equal_members g x e)
   same_members g x m (ex2 true Op2.Eq a b) h =
       let k = two-of m true (binary Op2.Eq) a b h in
       when (both_sets (type_of a g) (type_of b g)) m
@@ -202,7 +200,7 @@ module _ (q : ℤ → Bool) (o : q (pos 0) ≡ true) (i : q (pos 1) ≡ true) wh
   abbrev pairs : Ex → Ex
   pairs a = fun1 false Fun.ToRelation a
 
-  same_pairs : (g : Names Ty) (x : Text) (m : Bool) (e : Ex) → A m e → Answers m (equal_pairs g x e)
+  pub same_pairs : (g : Names Ty) (x : Text) (m : Bool) (e : Ex) → A m e → Answers m (equal_pairs g x e)
   same_pairs g x m (ex2 true Op2.Eq a b) h =
       let k = two-of m true (binary Op2.Eq) a b h in
       when (both_functions (type_of a g) (type_of b g)) m
@@ -215,7 +213,7 @@ module _ (q : ℤ → Bool) (o : q (pos 0) ≡ true) (i : q (pos 1) ≡ true) wh
       (of-member x (pairs a) (of-one false false (word Fun.ToRelation) a refl k.0))))
   same_pairs g x m _ h = tt
 
-  combined : (m : Bool) (e : Ex) → A m e → Answers m (member_combined e)
+  pub combined : (m : Bool) (e : Ex) → A m e → Answers m (member_combined e)
   combined m (ex2 true Op2.Member x (ex2 false Op2.Union a b)) h =
       let k = two-of m true (binary Op2.Member) x (ex2 false Op2.Union a b) h in
       let l = two-of false false (binary Op2.Union) a b k.1 in
@@ -234,7 +232,7 @@ module _ (q : ℤ → Bool) (o : q (pos 0) ≡ true) (i : q (pos 1) ≡ true) wh
       (of-one false true (unary Op1.Not) (ex2 true Op2.Member x b) refl (of-two false true (binary Op2.Member) x b refl k.0 l.1))
   combined m _ h = tt
 
-  changed : (m : Bool) (e : Ex) → A m e → Answers m (member_changed e)
+  pub changed : (m : Bool) (e : Ex) → A m e → Answers m (member_changed e)
   changed m (ex2 true Op2.Member x (fun1 false Fun.ToSet s)) h =
       let k = two-of m true (binary Op2.Member) x (fun1 false Fun.ToSet s) h in
       of-two m true (binary Op2.Member) x s (uncounted m) k.0 (one-of false false (word Fun.ToSet) s k.1)
@@ -246,7 +244,7 @@ module _ (q : ℤ → Bool) (o : q (pos 0) ≡ true) (i : q (pos 1) ≡ true) wh
       of-two m true (binary Op2.Member) x s (uncounted m) k.0 (one-of false false (word Fun.Parts) s k.1)
   changed m _ h = tt
 
-  member : (x : Text) (m : Bool) (e : Ex) → A m e → Answers m (member_term x e)
+  pub member : (x : Text) (m : Bool) (e : Ex) → A m e → Answers m (member_term x e)
   member x m (ex2 true Op2.Member a s) h =
       let k = two-of m true (binary Op2.Member) a s h in
       of-one m true (word Fun.Or) (comp_ex (ex2 true Op2.Eq (name_ex x) a) (from (name_pat x) s no_gens)) (uncounted m)
@@ -257,7 +255,7 @@ module _ (q : ℤ → Bool) (o : q (pos 0) ≡ true) (i : q (pos 1) ≡ true) wh
   one-number : A false (number_ex (pos 1))
   one-number = and-both (q (pos 1)) true i refl
 
-  sized : (g : Names Ty) (x : Text) (m : Bool) (e : Ex) → A m e → Answers m (size_term g x e)
+  pub sized : (g : Names Ty) (x : Text) (m : Bool) (e : Ex) → A m e → Answers m (size_term g x e)
   sized g x m (ex1 false Op1.Bar s) h =
       when (is_counted (type_of s g)) m (fun1 false Fun.Sum (comp_ex (number_ex (pos 1)) (from (name_pat x) s no_gens)))
       (of-one m false (word Fun.Sum) (comp_ex (number_ex (pos 1)) (from (name_pat x) s no_gens)) (uncounted m)
@@ -265,7 +263,7 @@ module _ (q : ℤ → Bool) (o : q (pos 0) ≡ true) (i : q (pos 1) ≡ true) wh
       (one-source (name_pat x) s no_gens (one-of m false (unary Op1.Bar) s h) refl)))
   sized g x m _ h = tt
 
-  counted : (x : Text) (m : Bool) (e : Ex) → A m e → Answers m (frequency_term x e)
+  pub counted : (x : Text) (m : Bool) (e : Ex) → A m e → Answers m (frequency_term x e)
   counted x m (node_ex false (word Fun.Freq) (more_exs s (more_exs a no_exs))) h =
       let k = two-of m false (word Fun.Freq) s a h in
       of-one m false (word Fun.Sum) (comp_ex (number_ex (pos 1)) (from (name_pat x) s (cond (ex2 true Op2.Eq (name_ex x) a) no_gens)))
@@ -276,7 +274,7 @@ module _ (q : ℤ → Bool) (o : q (pos 0) ≡ true) (i : q (pos 1) ≡ true) wh
       refl)))
   counted x m _ h = tt
 
-  one-part : (x : Text) (m : Bool) (e : Ex) → A m e → Answers m (together_term x e)
+  pub one-part : (x : Text) (m : Bool) (e : Ex) → A m e → Answers m (together_term x e)
   one-part x m (node_ex true (word Fun.Together) (more_exs s (more_exs p no_exs))) h =
       let k = two-of m true (word Fun.Together) s p h in
       of-one m true (word Fun.Or) (comp_ex (ex2 true Op2.SubsetEq s (name_ex x)) (from (name_pat x) (fun1 false Fun.Parts p) no_gens))
@@ -285,35 +283,3 @@ module _ (q : ℤ → Bool) (o : q (pos 0) ≡ true) (i : q (pos 1) ≡ true) wh
       (of-two false true (binary Op2.SubsetEq) s (name_ex x) refl k.0 refl)
       (one-source (name_pat x) (fun1 false Fun.Parts p) no_gens (of-one false false (word Fun.Parts) p refl k.1) refl))
   one-part x m _ h = tt
-
-  under : (c : Bool) (m : Bool) (r : Option Ex) → Answers m r → Answers m (if c then r else None)
-  under true m r h = h
-  under false m r h = tt
-
-  each-spares : (s : Supply) (g : Names Ty) (r : Rule) → keeps_operands r ≡ true → (m : Bool) (e : Ex) → A m e →
-      Answers m (rewrite s g r e)
-  each-spares s g over_nothing k m e h = nothing m e h
-  each-spares s g over_one_binding k m e h = bare m e h
-  each-spares s g over_a_made_set k m e h = loosely m e h
-  each-spares s g over_a_condition k m e h = alone m e h
-  each-spares s g not_equal k m e h = under (compares_compound g e) m (unequal e) (apart m e h)
-  each-spares s g turned k m e h = turns m e h
-  each-spares s g strictly k m e h = strict g s.one m e h
-  each-spares s g included_sets k m e h = members g s.one m e h
-  each-spares s g included_multisets k m e h = often g s.one m e h
-  each-spares s g equal_sets k m e h = same_members g s.one m e h
-  each-spares s g equal_functions k m e h = same_pairs g s.one m e h
-  each-spares s g in_two k m e h = combined m e h
-  each-spares s g in_one_made_of_another k m e h = changed m e h
-  each-spares s g in_a_term k m e h = member s.one m e h
-  each-spares s g size k m e h = sized g s.one m e h
-  each-spares s g frequency k m e h = counted s.one m e h
-  each-spares s g together k m e h = one-part s.one m e h
-  each-spares s g _ k m e h = cc
-
-  answered : (m : Bool) (r : Option Ex) (f : Ex) → r ≡ Some f → Answers m r → A m f
-  answered m r f p h = subst (λ z. Answers m z) p h
-
--- What they spell.
-pub rules-spare : RulesSpare
-rules-spare s g r k m e f p q o i t h = answered q o i m (rewrite s g r e) f p (each-spares q o i s g r k m e h)
