@@ -1,15 +1,17 @@
 -- All rules keep what they rewrite.
-use Rattle.std.proofs.Common.{◌≡◌, refl, ap, ◌∙◌, Bool, true, false, if◌then◌else◌, List, [], ◌∷◌, Option, Some, None}
+use Rattle.std.proofs.Common.{◌≡◌, refl, ap, ◌∙◌, Bool, true, false, if◌then◌else◌, List, [], ◌∷◌, map, Option, Some, None}
 use Rattle.std.specs.Prelude.{IsTrue, is_some}
 use Rattle.ess_semantics.specs.Lists.{and_then, or_else}
 use Rattle.ess_semantics.specs.Names.{Names}
 use Rattle.ess_semantics.specs.Trees.{name_pat, Ex, comp_ex, ex2, fun1, from}
 use Rattle.ess_semantics.specs.Types.{Ty}
 use Rattle.ess_semantics.specs.Typed.{Typed}
-use Rattle.ess_semantics.specs.Meaning.{Env}
+use Rattle.ess_semantics.specs.Meaning.{Env, meaning}
+use Rattle.ess_semantics.specs.Contexts.{EachOf}
 use Rattle.ess_semantics.specs.Kept.{Keeps}
-use Rattle.ess_rules_laws.specs.Rules.{OperandsThere}
-use Rattle.ess_rules_laws.specs.Listings.{Alternative}
+use Rattle.ess_semantics.proofs.Tests.{and-left}
+use Rattle.ess_rules_laws.specs.Rules.{IsNumber, OperandsThere}
+use Rattle.ess_rules_laws.specs.Listings.{Alternative, all_listed}
 use Rattle.ess_rules_laws.specs.ListedSources.{source_alone, source_parts}
 use Rattle.ess_rules_laws.specs.InclusionRules.{unequal}
 use Rattle.ess_rules_laws.specs.LiteralRules.{different_listed}
@@ -36,9 +38,13 @@ use Rattle.ess_rules_laws.proofs.ShortSizeRules.{size_made-keeps, frequency_made
 use Rattle.ess_rules_laws.proofs.ListRules.{lists-keep}
 use Rattle.ess_rules_laws.proofs.ContainerListings.{made-listings}
 use Rattle.ess_rules_laws.proofs.ChoiceRules.{choices-keep}
-use Rattle.ess_refine_laws.specs.AllRules.{Rule, over_nothing, over_one, over_one_binding, over_a_term, over_a_literal, over_a_made_set, over_a_source, of_one_source, over_a_comprehension, over_tuples, over_a_tuple, over_a_record, over_a_condition, component_of_a_tuple, field_of_a_record, not_equal, turned, strictly, equal_tuples, equal_records, equal_sets, equal_multisets, equal_functions, equal_partitions, with_nothing, equal_matrices_at, included_sets, included_multisets, in_two, in_one_made_of_another, in_a_literal, in_what_a_function_has, in_its_pairs, in_a_term, size_of_one_made_of_another, size, frequency_in_one_made_of_another, frequency_in_a_literal, frequency, together, least_of_a_literal, different_items, list_of_a_term, list_on_the_left, list_on_the_right, all_different, results, choice, condition, Supply, offered, source_listed, only_one, source_listed_once, matrices_at, compares_compound, tells_scalars_apart, rewrite, OfSome, ListedApart, SourceListed, CountsOn, all_rules, first_rewrite, FiringFit, AllRulesKeep}
+use Rattle.ess_refine_laws.specs.AllRules.{Rule, over_nothing, over_one, over_one_binding, over_a_term, over_a_literal, over_a_made_set, over_a_source, of_one_source, over_a_comprehension, over_tuples, over_a_tuple, over_a_record, over_a_condition, component_of_a_tuple, field_of_a_record, not_equal, turned, strictly, equal_tuples, equal_records, equal_sets, equal_multisets, equal_functions, equal_partitions, with_nothing, equal_matrices_at, included_sets, included_multisets, in_two, in_one_made_of_another, in_a_literal, in_what_a_function_has, in_its_pairs, in_a_term, size_of_one_made_of_another, size, frequency_in_one_made_of_another, frequency_in_a_literal, frequency, together, least_of_a_literal, different_items, list_of_a_term, list_on_the_left, list_on_the_right, all_different, results, choice, condition, condition_behind, least_under_a_condition, least_of_alternatives, Supply, offered, source_listed, only_one, source_listed_once, extremes_listed, matrices_at, opposite_copied, compares_compound, tells_scalars_apart, rewrite, OfSome, ListedApart, SourceListed, NumbersListed, CountsOn, all_rules, first_rewrite, FiringFit, AllRulesKeep}
+use Rattle.ess_refine_laws.specs.ExtremeAlternatives.{put_alternative, extreme_alternatives}
 use Rattle.ess_refine_laws.proofs.RecordNames.{names-over-records}
 use Rattle.ess_refine_laws.proofs.LeavingConditions.{conditions-leave}
+use Rattle.ess_refine_laws.proofs.Copies.{copies-serve}
+use Rattle.ess_refine_laws.proofs.ExtremeAlternatives.{alternatives-serve}
+use Rattle.ess_refine_laws.proofs.MovingConditions.{conditions-move}
 
 -- ---- listings of the first source
 
@@ -74,6 +80,20 @@ listed-once-keeps s g (fun1 m w (comp_ex e (from (name_pat y) t hs))) f q env c 
     (only-offered (offered s g t) (λ l. ListedApart l (fun1 m w (comp_ex e (from (name_pat y) t hs))) env) c)
     (λ a p d. listed_sources-keep.alone d.0 d.1 a (fun1 m w (comp_ex e (from (name_pat y) t hs))) f p d.2 env d.3)
 listed-once-keeps s g _ f q env c = cc
+
+alternatives-keep : (s : Supply) (g : Names Ty) (e f : Ex) → extremes_listed s g e ≡ Some f → (env : Env) →
+    CountsOn s g least_of_alternatives e env → Keeps e f env
+alternatives-keep s g (fun1 false w (comp_ex e (from (name_pat y) t hs))) f q env c =
+    of-offered (offered s g t) (λ l. extreme_alternatives (map (put_alternative y e hs) l) (fun1 false w (comp_ex e (from
+    (name_pat y) t hs)))) f
+    (λ l. ListedApart l (fun1 false w (comp_ex e (from (name_pat y) t hs))) env
+    × EachOf (all_listed (map (put_alternative y e hs) l) env) (λ v. IsNumber (Some v)))
+    (Keeps (fun1 false w (comp_ex e (from (name_pat y) t hs))) f env) q c.2
+    (λ l p d m. alternatives-serve.of_numbers (map (put_alternative y e hs) l) (fun1 false w (comp_ex e (from
+    (name_pat y) t hs))) f p env
+    (c.0, alternatives-serve.of_a_comprehension d.0.0 d.0.1 l (comp_ex e (from (name_pat y) t hs)) (map (put_alternative y e hs) l) refl
+    d.0.2 env (and-left (is_some (meaning (comp_ex e (from (name_pat y) t hs)) env)) true c.1) m.0 d.0.3.1, d.1) m)
+alternatives-keep s g _ f q env c = cc
 
 matrices-at-keep : (s : Supply) (g : Names Ty) (e f : Ex) → matrices_at s g e ≡ Some f → (env : Env) → Typed g env →
     CountsOn s g equal_matrices_at e env → Keeps e f env
@@ -146,6 +166,9 @@ each-keeps s g all_different e f q env t c =
 each-keeps s g results e f q env t c = made-listings.results g s.one e f q c.0 c.1 env t
 each-keeps s g choice e f q env t c = choices-keep e f q env c
 each-keeps s g condition e f q env t c = conditions-leave.keeps e f q env c
+each-keeps s g condition_behind e f q env t c = conditions-move c.0 e f q env c.1
+each-keeps s g least_of_alternatives e f q env t c = alternatives-keep s g e f q env c
+each-keeps s g least_under_a_condition e f q env t c = copies-serve c.0 (opposite_copied s e) e f q env c.1
 
 -- The first that fires.
 first-keeps : (s : Supply) (g : Names Ty) (rs : List Rule) (e f : Ex) → first_rewrite s g rs e ≡ Some f → (env : Env) → Typed g env →

@@ -14,19 +14,19 @@ use Rattle.ess_rules_laws.proofs.Kept.{kept-itself, kept-chain}
 use Rattle.ess_refine_laws.specs.ConstantsStay.{dropping_at, dropping_at_exs, dropping_at_gens, dropping_at_dom, dropping_at_doms, SpellsNoMore, SparingRewriting, same_numbers, sparing_at, WholesKeepConstants}
 
 module _ (q : ℤ → Bool) where
-  abbrev All : List ℤ → Type 0
+  abbrev pub All : List ℤ → Type 0
   All ns = list_all q ns ≡ true
 
-  all-left : (ns ms : List ℤ) → All (ns ++ ms) → All ns
+  pub all-left : (ns ms : List ℤ) → All (ns ++ ms) → All ns
   all-left [] ms h = refl
   all-left (n ∷ ns) ms h =
       and-both (q n) (list_all q ns) (and-left (q n) (list_all q (ns ++ ms)) h) (all-left ns ms (and-right (q n) (list_all q (ns ++ ms)) h))
 
-  all-right : (ns ms : List ℤ) → All (ns ++ ms) → All ms
+  pub all-right : (ns ms : List ℤ) → All (ns ++ ms) → All ms
   all-right [] ms h = h
   all-right (n ∷ ns) ms h = all-right ns ms (and-right (q n) (list_all q (ns ++ ms)) h)
 
-  all-both : (ns ms : List ℤ) → All ns → All ms → All (ns ++ ms)
+  pub all-both : (ns ms : List ℤ) → All ns → All ms → All (ns ++ ms)
   all-both [] ms h k = k
   all-both (n ∷ ns) ms h k =
       and-both (q n) (list_all q (ns ++ ms)) (and-left (q n) (list_all q ns) h) (all-both ns ms (and-right (q n) (list_all q ns) h) k)

@@ -59,14 +59,14 @@ marks-where (Some (number n)) o p h xs e = ap (option_map (bits (λ v. true))) e
 marks-where (Some (item t k)) o p h xs e = ap (option_map (bits (λ v. true))) e
 marks-where (Some (node k vs)) o p h xs e = ap (option_map (bits (λ v. true))) e
 
-marks-under : (gs : Gens) (env : Env) (k k' : Env → Option (List Value)) → ((here : Env) → Marks (k here) (k' here)) →
+pub marks-under : (gs : Gens) (env : Env) (k k' : Env → Option (List Value)) → ((here : Env) → Marks (k here) (k' here)) →
     Marks (items_under gs env k) (items_under gs env k')
 marks-under no_gens env k k' h = h env
 marks-under (over p d gs) env k k' h = marks-over (members_in (domain_of d env)) _ _ (λ v. marks-under gs (with_pat p v env) k k' h)
 marks-under (from p e gs) env k k' h = marks-from (meaning e env) _ _ (λ v. marks-under gs (with_pat p v env) k k' h)
 marks-under (cond c gs) env k k' h = marks-where (meaning c env) _ _ (marks-under gs env k k' h)
 
-marks-alone : (o : Option Value) → Marks (option_map (λ v. v ∷ []) o) (Some (truth true ∷ []))
+pub marks-alone : (o : Option Value) → Marks (option_map (λ v. v ∷ []) o) (Some (truth true ∷ []))
 marks-alone None xs e = cc
 marks-alone (Some v) xs e = ap (option_map (bits (λ v. true))) e
 
@@ -81,11 +81,11 @@ earlier-number f x (Some m) t s = go (f x m)
     go true = s
     go false = t
 
-least-number : (x : Value) (xs : List Value) → IsNumber (Some x) → Each xs (λ v. IsNumber (Some v)) → IsNumber (least (x ∷ xs))
+pub least-number : (x : Value) (xs : List Value) → IsNumber (Some x) → Each xs (λ v. IsNumber (Some v)) → IsNumber (least (x ∷ xs))
 least-number x [] t h = t
 least-number x (y ∷ ys) t h = earlier-number (λ x m. below m x) x (least (y ∷ ys)) t (least-number y ys h.0 h.1)
 
-greatest-number : (x : Value) (xs : List Value) → IsNumber (Some x) → Each xs (λ v. IsNumber (Some v)) → IsNumber (greatest (x ∷ xs))
+pub greatest-number : (x : Value) (xs : List Value) → IsNumber (Some x) → Each xs (λ v. IsNumber (Some v)) → IsNumber (greatest (x ∷ xs))
 greatest-number x [] t h = t
 greatest-number x (y ∷ ys) t h = earlier-number (λ x m. below x m) x (greatest (y ∷ ys)) t (greatest-number y ys h.0 h.1)
 

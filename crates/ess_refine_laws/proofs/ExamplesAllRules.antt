@@ -24,7 +24,7 @@ abbrev j : Text
 j = codes "j"
 
 abbrev supply : Supply
-supply = record { one = codes "x"; other = codes "y"; parts = codes "u" ∷ codes "v" ∷ []; index_domain = λ e. upto 2 }
+supply = record { one = codes "x"; other = codes "y"; parts = codes "u" ∷ codes "v" ∷ []; index_domain = λ e. upto 2; copy = λ e. e }
 
 -- Sets s and t, and a list m of sets.
 abbrev types : Names Ty

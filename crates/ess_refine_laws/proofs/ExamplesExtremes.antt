@@ -8,6 +8,8 @@ use Rattle.ess_semantics.specs.Trees.{name_pat, Ex, comp_ex, cell_ex, no_gens, o
 use Rattle.ess_semantics.specs.Meaning.{Env, empty_env, meaning}
 use Rattle.ess_semantics.proofs.Shorthands.{N, n, v, es1, ds2, bi, un, fn, upto}
 use Rattle.ess_refine_laws.specs.ExtremeRules.{either_number, extreme_condition}
+use Rattle.ess_refine_laws.specs.AllRules.{Supply, rule_at}
+use Rattle.ess_refine_laws.specs.MovingConditions.{condition_later}
 use Rattle.ess_refine_laws.specs.RecordNames.{are_in_order, records_over, name_over_record}
 
 abbrev f : Text
@@ -60,6 +62,37 @@ no_flags = record empty_env { cells = (f, record { axes = (pos 1 ∷ pos 2 ∷ p
 over_the_table : (meaning least table ≡ Some (v 2)) × (meaning all_of_them table ≡ Some (v 2)) × (meaning least no_flags ≡ None)
     × (meaning all_of_them no_flags ≡ Some (v 3))
 over_the_table = (refl, refl, refl, refl)
+
+-- ---- a condition that isn't last
+
+-- `min([j * q | j : int(1..3), f[j], q : int(1..3)])`, and with the condition behind the second generator.
+abbrev products : Ex
+products = fn Fun.Min (comp_ex (bi Op2.Times (N j) (N q)) (over (name_pat j) (upto 3) (cond flag (over (name_pat q) (upto 3) no_gens))))
+
+abbrev condition_last : Ex
+condition_last =
+    fn Fun.Min (comp_ex (bi Op2.Times (N j) (N q)) (over (name_pat j) (upto 3) (over (name_pat q) (upto 3) (cond flag no_gens))))
+
+-- So it moves until it is last; then it is taken into the numbers. Under `sum` it doesn't move.
+moved : (condition_later products ≡ Some condition_last) × (condition_later condition_last ≡ None)
+    × (condition_later (fn Fun.Sum (comp_ex (N j) (over (name_pat j) (upto 3) (cond flag (over (name_pat q) (upto 3) no_gens))))) ≡ None)
+moved = (refl, refl, refl)
+
+-- Behind another condition too.
+behind_a_condition :
+    condition_later (fn Fun.Max (comp_ex (N j) (over (name_pat j) (upto 3) (cond flag (cond (bi Op2.Lt (n 1) (N j)) no_gens)))))
+    ≡ Some (fn Fun.Max (comp_ex (N j) (over (name_pat j) (upto 3) (cond (bi Op2.Lt (n 1) (N j)) (cond flag no_gens)))))
+behind_a_condition = refl
+
+same_products : (meaning products table ≡ Some (v 2)) × (meaning condition_last table ≡ Some (v 2))
+same_products = (refl, refl)
+
+-- With a copy of what it takes the greatest of, both fire among all rules.
+abbrev supply : Supply
+supply = record { one = x; other = q; parts = []; index_domain = λ e. upto 3; copy = λ e. most }
+
+among_all_rules : (rule_at supply [] products ≡ Some condition_last) × (rule_at supply [] least ≡ Some all_of_them)
+among_all_rules = (refl, refl)
 
 -- ---- records
 

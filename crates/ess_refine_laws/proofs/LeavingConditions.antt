@@ -92,7 +92,7 @@ module _ (hs : Gens) (k : Env → Option (List Value)) where
   where-there (Some (node a vs)) o t h = cc
 
   -- At each binding of the first generators.
-  inner-there : (gs : Gens) (env : Env) → is_some (items_under (append_gens gs hs) env k) ≡ true →
+  pub inner-there : (gs : Gens) (env : Env) → is_some (items_under (append_gens gs hs) env k) ≡ true →
       AtEach gs env (λ here. is_some (items_under hs here k) ≡ true)
   inner-there no_gens env h = h
   inner-there (over p d gs) env h =
@@ -168,7 +168,7 @@ kept-both a b c env f g m = let r = f m in let s = g r.1 in (r.0 ∙ s.0, s.1)
 abbrev Read : Bool → Fun → Ex → Ex → Gens → Env → Type 0
 Read m f e c hs here = m ≡ false → IsTruth (meaning c here) × ReadsNumbers (fun1 m f (comp_ex e hs)) here
 
-all-bindings : (gs : Gens) (env : Env) (P : Env → Type 0) → ((here : Env) → P here) → AtEach gs env P
+pub all-bindings : (gs : Gens) (env : Env) (P : Env → Type 0) → ((here : Env) → P here) → AtEach gs env P
 all-bindings no_gens env P h = h env
 all-bindings (over p d gs) env P h = of-any (members_in (domain_of d env)) _ (λ v. all-bindings gs (with_pat p v env) P h)
   where

@@ -1,4 +1,6 @@
 pub mod Replaced
+pub mod SparingRules
+pub mod RulesSpare
 pub mod PartialNumbers
 pub mod Bounds
 pub mod Everywhere
@@ -23,4 +25,12 @@ pub mod ConstantsStay
 pub mod ExamplesChains
 pub mod MixedLists
 pub mod ExtremeRules
+pub mod IndexedLists
+pub mod PastAll
+pub mod ExtremeAlternatives
+pub mod FlatSources
+pub mod Copies
+pub mod MovingConditions
 pub mod ExamplesExtremes
+pub mod ExamplesAlternatives
+pub mod ExamplesLists

@@ -1,6 +1,6 @@
 -- All rules that need no kind, in one place: what each makes of the root of a tree, in the order in which they are tried, and what
 -- each counts on.
-use Rattle.std.specs.Prelude.{◌≡◌, Bool, true, false, ◌&&◌, if◌then◌else◌, List, [], ◌∷◌, Option, Some, None, IsTrue, is_some}
+use Rattle.std.specs.Prelude.{◌≡◌, Bool, true, false, ◌&&◌, if◌then◌else◌, List, [], ◌∷◌, map, Option, Some, None, IsTrue, is_some}
 use Rattle.ess_semantics.specs.declared.words.Op2.{Op2}
 use Rattle.ess_semantics.specs.declared.words.Fun.{Fun}
 use Rattle.ess_semantics.specs.Lists.{and_then, or_else}
@@ -11,17 +11,17 @@ use Rattle.ess_semantics.specs.Trees.{name_pat, Ex, comp_ex, ex2, fun1, from, Do
 use Rattle.ess_semantics.specs.Types.{Ty}
 use Rattle.ess_semantics.specs.Typing.{type_of}
 use Rattle.ess_semantics.specs.Typed.{Typed}
-use Rattle.ess_semantics.specs.Meaning.{Env}
-use Rattle.ess_semantics.specs.Contexts.{Each}
+use Rattle.ess_semantics.specs.Meaning.{Env, meaning}
+use Rattle.ess_semantics.specs.Contexts.{Each, EachOf}
 use Rattle.ess_semantics.specs.Kept.{Keeps}
-use Rattle.ess_rules_laws.specs.Rules.{Unused, SoundOperands, OperandsThere}
+use Rattle.ess_rules_laws.specs.Rules.{IsNumber, Unused, SoundOperands, OperandsThere}
 use Rattle.ess_rules_laws.specs.FoldRules.{fold_alone, fold_nothing, fold_one, fold_bare, fold_term, ItemFits, BareFits}
 use Rattle.ess_rules_laws.specs.LooseRules.{fold_loosely}
 use Rattle.ess_rules_laws.specs.SourceRules.{fold_items, ItemsApart}
 use Rattle.ess_rules_laws.specs.SpliceRules.{splice, SourceThere, NamesApart}
 use Rattle.ess_rules_laws.specs.SplitRules.{split, DomainThere, DomainApart}
 use Rattle.ess_rules_laws.specs.TupleNames.{name_over_tuple}
-use Rattle.ess_rules_laws.specs.Listings.{Alternative, listing}
+use Rattle.ess_rules_laws.specs.Listings.{Alternative, all_listed, listing}
 use Rattle.ess_rules_laws.specs.ContainerListings.{made_listing, range_as_set}
 use Rattle.ess_rules_laws.specs.ListedSources.{source_alone, source_parts, SourceApart, SourceOffers}
 use Rattle.ess_rules_laws.specs.LiteralRules.{component_listed, different_listed, extreme_listed, ComponentFits, ListThere}
@@ -39,7 +39,11 @@ use Rattle.ess_rules_laws.specs.ChoiceRules.{choice_shorter, ChoicesFit}
 use Rattle.ess_rules_laws.specs.Progress.{is_parted}
 use Rattle.ess_refine_laws.specs.ScalarItems.{has_scalar_items}
 use Rattle.ess_refine_laws.specs.RecordNames.{name_over_record}
-use Rattle.ess_refine_laws.specs.LeavingConditions.{condition_leaves, LeavesFits}
+use Rattle.ess_refine_laws.specs.LeavingConditions.{at_last_condition, condition_leaves, LeavesFits}
+use Rattle.ess_refine_laws.specs.ExtremeRules.{extreme_condition}
+use Rattle.ess_refine_laws.specs.Copies.{opposite_of, CopyFits}
+use Rattle.ess_refine_laws.specs.ExtremeAlternatives.{put_alternative, extreme_alternatives}
+use Rattle.ess_refine_laws.specs.MovingConditions.{condition_later, LaterFits}
 
 -- The rules, by what they rewrite.
 pub data Rule : Type 0 where
@@ -61,14 +65,19 @@ pub data Rule : Type 0 where
   least_of_a_literal different_items list_of_a_term list_on_the_left list_on_the_right all_different results : Rule
   -- Numbers that conditions choose, and conditions that read cells.
   choice condition : Rule
+  -- The least and the greatest under a condition that reads cells: it moves behind the generators, and then into the numbers.
+  condition_behind least_under_a_condition : Rule
+  -- The least and the greatest over several alternatives of the first source.
+  least_of_alternatives : Rule
 
--- What the rules take: names that stand nowhere in the tree, two and one for each component of a domain, and the index domain of
--- each matrix.
+-- What the rules take: names that stand nowhere in the tree, two and one for each component of a domain, the index domain of
+-- each matrix, and another way to write each tree, with bound names of its own.
 pub record Supply : Type 0 where
   pub one : Text
   pub other : Text
   pub parts : List Text
   pub index_domain : Ex → Dom
+  pub copy : Ex → Ex
 
 -- What the term offers as a listing.
 abbrev pub offered : Supply → Names Ty → Ex → Option (List Alternative)
@@ -91,10 +100,26 @@ source_listed_once s g (fun1 m f (comp_ex e (from (name_pat y) t hs))) =
     and_then (only_one (offered s g t)) (λ a. source_alone a (fun1 m f (comp_ex e (from (name_pat y) t hs))))
 source_listed_once s g e = None
 
+-- The least or the greatest over the alternatives of the first source.
+abbrev pub extremes_listed : Supply → Names Ty → Ex → Option Ex
+extremes_listed s g (fun1 false f (comp_ex e (from (name_pat y) t hs))) =
+    and_then (offered s g t)
+    (λ l. extreme_alternatives (map (put_alternative y e hs) l) (fun1 false f (comp_ex e (from (name_pat y) t hs))))
+extremes_listed s g e = None
+
 -- Matrices by their items, over the index domains of both.
 abbrev pub matrices_at : Supply → Names Ty → Ex → Option Ex
 matrices_at s g (ex2 m o a b) = equal_matrices (s.index_domain a) (s.index_domain b) g s.one s.other (ex2 m o a b)
 matrices_at s g e = None
+
+-- A copy of the greatest of what `min` runs over once a condition is left out, or of the least of what `max` does; the whole where
+-- there is no such condition.
+abbrev pub opposite_copied : Supply → Ex → Ex
+opposite_copied s (fun1 false f (comp_ex e gs)) = elim (at_last_condition gs) [
+  | None ↦ fun1 false f (comp_ex e gs)
+  | Some t ↦ s.copy (opposite_of f e t)
+]
+opposite_copied s e = e
 
 -- Whether the root says that compound values differ. Of scalars models say it.
 abbrev pub compares_compound : Names Ty → Ex → Bool
@@ -157,6 +182,9 @@ rewrite s g all_different e = if tells_scalars_apart g e then None else differen
 rewrite s g results e = range_as_set g s.one e
 rewrite s g choice e = choice_shorter e
 rewrite s g condition e = condition_leaves e
+rewrite s g condition_behind e = condition_later e
+rewrite s g least_of_alternatives e = extremes_listed s g e
+rewrite s g least_under_a_condition e = extreme_condition (opposite_copied s e) e
 
 -- ---- what they count on
 
@@ -174,6 +202,13 @@ abbrev pub SourceListed : Supply → Names Ty → Ex → Env → Type 0
 SourceListed s g (fun1 m f (comp_ex e (from (name_pat y) t hs))) env =
     OfSome (offered s g t) (λ l. ListedApart l (fun1 m f (comp_ex e (from (name_pat y) t hs))) env)
 SourceListed s g e env = Unit {0}
+
+-- The first source offers the alternatives, by which the items are numbers.
+abbrev pub NumbersListed : Supply → Names Ty → Ex → Env → Type 0
+NumbersListed s g (fun1 m f (comp_ex e (from (name_pat y) t hs))) env =
+    OfSome (offered s g t) (λ l. ListedApart l (fun1 m f (comp_ex e (from (name_pat y) t hs))) env
+    × EachOf (all_listed (map (put_alternative y e hs) l) env) (λ v. IsNumber (Some v)))
+NumbersListed s g e env = Unit {0}
 
 -- The index domains are those of the operands, and the first new name stands in neither.
 abbrev pub MatricesIndexed : Supply → Ex → Env → Type 0
@@ -233,6 +268,9 @@ CountsOn s g all_different e env = Unused s.one e
 CountsOn s g results e env = Unused s.one e × SoundOperands g e
 CountsOn s g choice e env = ChoicesFit e env
 CountsOn s g condition e env = LeavesFits e env
+CountsOn s g condition_behind e env = (r : Text → Bool) × LaterFits r e env
+CountsOn s g least_of_alternatives e env = IsTrue (is_some (meaning e env)) × OperandsThere e env × NumbersListed s g e env
+CountsOn s g least_under_a_condition e env = (r : Text → Bool) × CopyFits r (opposite_copied s e) e env
 
 -- ---- the order
 
@@ -248,7 +286,7 @@ all_rules =
     ∷ in_two ∷ in_one_made_of_another ∷ in_a_literal ∷ in_what_a_function_has ∷ in_its_pairs ∷ in_a_term
     ∷ size_of_one_made_of_another ∷ size ∷ frequency_in_one_made_of_another ∷ frequency_in_a_literal ∷ frequency ∷ together
     ∷ least_of_a_literal ∷ different_items ∷ list_of_a_term ∷ list_on_the_left ∷ list_on_the_right ∷ all_different ∷ results
-    ∷ choice ∷ condition ∷ []
+    ∷ choice ∷ condition ∷ condition_behind ∷ least_under_a_condition ∷ least_of_alternatives ∷ []
 
 -- What the first of the rules that fires makes of the root.
 abbrev pub first_rewrite : Supply → Names Ty → List Rule → Ex → Option Ex

@@ -8,4 +8,9 @@ pub mod TypesStay
 pub mod MarksStay
 pub mod ScopesStay
 pub mod ConstantsStay
+pub mod SparingRules
 pub mod ExtremeRules
+pub mod IndexedLists
+pub mod ExtremeAlternatives
+pub mod Copies
+pub mod MovingConditions

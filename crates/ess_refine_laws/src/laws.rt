@@ -9,6 +9,11 @@ ghost use Rattle.ess_refine_laws.specs.MarksStay.{WholesKeepMarks};
 ghost use Rattle.ess_refine_laws.specs.ScopesStay.{WholesKeepScopes};
 ghost use Rattle.ess_refine_laws.specs.ConstantsStay.{WholesKeepConstants};
 ghost use Rattle.ess_refine_laws.specs.ExtremeRules.{ExtremesKeep};
+ghost use Rattle.ess_refine_laws.specs.MovingConditions.{ConditionsMove};
+ghost use Rattle.ess_refine_laws.specs.Copies.{CopiesServe};
+ghost use Rattle.ess_refine_laws.specs.ExtremeAlternatives.{AlternativesServe};
+ghost use Rattle.ess_refine_laws.specs.IndexedLists.{ListsAreIndices};
+ghost use Rattle.ess_refine_laws.specs.SparingRules.{RulesSpare};
 ghost use Rattle.ess_refine_laws.specs.RecordNames.{NamesOverRecordsKeep};
 
 /// A refined number becomes one that is there wherever the names and cells in it are, and that is the same where the old one
@@ -58,6 +63,32 @@ pub fn constants_stay()
 /// `min` and `max` over a condition that reads cells keep what they are with the greatest or least of all for what it leaves out.
 pub fn extremes_keep()
     ensures { ExtremesKeep }
+{}
+
+/// A condition that reads cells may move behind the generators after it under `min` and `max`.
+pub fn conditions_move()
+    ensures { ConditionsMove }
+{}
+
+/// What a condition leaves out of `min` and `max` may be said by a copy with bound names of its own.
+pub fn copies_serve()
+    ensures { CopiesServe }
+{}
+
+/// `min` and `max` of a term with several alternatives are those of one number for each. A comprehension over a source with several
+/// alternatives has as many.
+pub fn alternatives_serve()
+    ensures { AlternativesServe }
+{}
+
+/// A list literal is what its indices pick, in order.
+pub fn lists_are_indices()
+    ensures { ListsAreIndices }
+{}
+
+/// Rules that keep whole operands spell no new numbers but 0, 1 and 2.
+pub fn rules_spare()
+    ensures { RulesSpare }
 {}
 
 /// A name over a record of domains may run over the records of new names over the components.
