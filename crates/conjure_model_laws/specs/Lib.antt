@@ -6,4 +6,5 @@ pub mod Printed
 pub mod IsBuiltFrom
 pub mod RulesComeFrom
 -- What is proved
+pub mod TreeLaws
 pub mod Laws
