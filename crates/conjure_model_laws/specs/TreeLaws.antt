@@ -1,14 +1,19 @@
 -- Laws of the trees on the way from a constraint to its rule, each stated at a function that does nothing.
-use Rattle.std.specs.Prelude.{◌≡◌, ℕ, ◌≤◌, ◌^◌, Bool, false, []}
+use Rattle.std.specs.Prelude.{◌≡◌, ℕ, suc, ◌+◌, ◌<◌, ◌≤◌, ◌^◌, Bool, true, false, List, [], length}
 use Rattle.ess_semantics.specs.Values.{Text}
-use Rattle.ess_semantics.specs.Names.{Names}
+use Rattle.ess_semantics.specs.Order.{same_text}
+use Rattle.ess_semantics.specs.Names.{Names, is_among}
 use Rattle.ess_semantics.specs.Trees.{Ex}
 use Rattle.ess_semantics.specs.Types.{Ty}
 use Rattle.ess_semantics.specs.Meaning.{Env, meaning}
 use Rattle.ess_semantics.specs.FreeNames.{FreeNamesAre}
 use Rattle.ess_semantics.specs.Kept.{Kept}
+use Rattle.ess_semantics.specs.Meets.{Meets}
+use Rattle.ess_semantics.specs.Typed.{Typed}
+use Rattle.ess_semantics.specs.Refined.{is_refined}
 use Rattle.conjure_laws.specs.PlainTrees.{Plain}
 use Rattle.conjure_model_laws.specs.ToldApart.{reserved, is_unreserved, told, told_apart}
+use Rattle.conjure_model_laws.specs.Printed.{printed_name, printed, binders}
 
 -- A tree of a specification with its bound names told apart means what it meant, in every env, and is kept. It may use names, which it
 -- doesn't bind, that aren't reserved ones from the k-th on: those before it, and those of specifications. What it binds is free, also
@@ -21,3 +26,21 @@ pub record NamesToldApart : Type 0 where
   pub plain : (k : ℕ) (e : Ex) → Plain e → Plain (told_apart k e)
   pub of_specifications : (k : ℕ) (e : Ex) → Plain e → FreeNamesAre is_unreserved e → (told e [] k).1 ≤ 2 ^ 64 → (env : Env) →
       meaning (told_apart k e) env ≡ meaning e env
+
+-- A refined tree with printed names means what it meant, in every env. It may use names, which it doesn't bind, that aren't printed ones:
+-- those that are taken, or none. Two printed names differ, and none is taken. So rules lead from a tree to what is printed. Numbers of
+-- names go up to 2 ^ 64.
+pub record NamesPrinted : Type 0 where
+  pub means : (taken : List Text) (u : Text → Bool) (e : Ex) → is_refined e ≡ true → FreeNamesAre u e →
+      ((j : ℕ) → j < binders e → u (printed_name taken j) ≡ false) → binders e + length taken < 2 ^ 64 → (env : Env) →
+      meaning (printed taken e []) env ≡ meaning e env
+  pub of_taken : (taken : List Text) (e : Ex) → is_refined e ≡ true → FreeNamesAre (is_among taken) e →
+      binders e + length taken < 2 ^ 64 → (env : Env) → meaning (printed taken e []) env ≡ meaning e env
+  pub of_closed : (taken : List Text) (e : Ex) → is_refined e ≡ true → FreeNamesAre (λ a. false) e →
+      binders e + length taken < 2 ^ 64 → (env : Env) → meaning (printed taken e []) env ≡ meaning e env
+  pub of_kept : (taken : List Text) (g : Names Ty) (old e : Ex) → Kept g old e → is_refined e ≡ true → FreeNamesAre (λ a. false) e →
+      binders e + length taken < 2 ^ 64 → (env : Env) → Typed g env → Meets old env →
+      meaning (printed taken e []) env ≡ meaning old env
+  pub differ : (taken : List Text) (i j : ℕ) → i < j → suc j + length taken < 2 ^ 64 →
+      same_text (printed_name taken j) (printed_name taken i) ≡ false
+  pub free : (taken : List Text) (k : ℕ) → suc k + length taken < 2 ^ 64 → is_among taken (printed_name taken k) ≡ false

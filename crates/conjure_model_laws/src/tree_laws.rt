@@ -1,9 +1,15 @@
 //! Laws of the trees on the way from a constraint to its rule, each the contract of a function that does nothing.
 
-ghost use Rattle.conjure_model_laws.specs.TreeLaws.{NamesToldApart};
+ghost use Rattle.conjure_model_laws.specs.TreeLaws.{NamesPrinted, NamesToldApart};
 
 /// A tree of a specification means with its bound names told apart what it meant, in every env, and is kept, where the names that it
 /// doesn't bind aren't reserved ones, as none of a specification is.
 pub fn told_apart_keeps()
     ensures { NamesToldApart }
+{}
+
+/// A refined tree means with printed names what it meant, in every env, where the names that it doesn't bind are taken ones or none.
+/// Printed names differ, and none is taken.
+pub fn printed_means_the_same()
+    ensures { NamesPrinted }
 {}
