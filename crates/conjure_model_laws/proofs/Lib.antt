@@ -8,6 +8,9 @@ mod SingleNames
 mod PrintedMeanings
 pub mod PrintedLaws
 mod ExamplesPrinted
+mod ShownMeanings
+mod ShownMeets
+pub mod ShownLaws
 pub mod Built
 pub mod Examples
 pub mod ExamplesBuilt

@@ -3,16 +3,19 @@ use Rattle.std.specs.Prelude.{◌≡◌, ℕ, suc, ◌+◌, ◌<◌, ◌≤◌, 
 use Rattle.ess_semantics.specs.Values.{Text}
 use Rattle.ess_semantics.specs.Order.{same_text}
 use Rattle.ess_semantics.specs.Names.{Names, is_among}
-use Rattle.ess_semantics.specs.Trees.{Ex}
+use Rattle.ess_semantics.specs.Trees.{Ex, Dom}
 use Rattle.ess_semantics.specs.Types.{Ty}
-use Rattle.ess_semantics.specs.Meaning.{Env, meaning}
+use Rattle.ess_semantics.specs.Substitution.{NamesAre, NamesAreDom}
+use Rattle.ess_semantics.specs.Meaning.{Env, meaning, domain_of}
 use Rattle.ess_semantics.specs.FreeNames.{FreeNamesAre}
 use Rattle.ess_semantics.specs.Kept.{Kept}
 use Rattle.ess_semantics.specs.Meets.{Meets}
 use Rattle.ess_semantics.specs.Typed.{Typed}
 use Rattle.ess_semantics.specs.Refined.{is_refined}
-use Rattle.conjure_laws.specs.PlainTrees.{Plain}
+use Rattle.conjure_laws.specs.PlainTrees.{Plain, PlainDom}
 use Rattle.conjure_model_laws.specs.ToldApart.{reserved, is_unreserved, told, told_apart}
+use Rattle.conjure_model_laws.specs.Shown.{Shows, shown, shown_dom}
+use Rattle.conjure_model_laws.specs.StandsFor.{StandsFor, is_unshown}
 use Rattle.conjure_model_laws.specs.Printed.{printed_name, printed, binders}
 
 -- A tree of a specification with its bound names told apart means what it meant, in every env, and is kept. It may use names, which it
@@ -44,3 +47,12 @@ pub record NamesPrinted : Type 0 where
   pub differ : (taken : List Text) (i j : ℕ) → i < j → suc j + length taken < 2 ^ 64 →
       same_text (printed_name taken j) (printed_name taken i) ≡ false
   pub free : (taken : List Text) (k : ℕ) → suc k + length taken < 2 ^ 64 → is_among taken (printed_name taken k) ≡ false
+
+-- What is shown of a tree of a specification means over tables what the tree means over values, and its structures are met, where what is
+-- shown stands for the values. The tree binds no name in whose place something is shown.
+pub record ShownStands : Type 0 where
+  pub means : (sh : Shows) (n : Text → Bool) (env there : Env) → StandsFor sh n env there → (e : Ex) → Plain e →
+      NamesAre n (is_unshown sh) e → meaning (shown sh e) there ≡ meaning e env
+  pub meets : (sh : Shows) (n : Text → Bool) (env there : Env) → StandsFor sh n env there → (e : Ex) → Plain e → Meets (shown sh e) there
+  pub domains : (sh : Shows) (n : Text → Bool) (env there : Env) → StandsFor sh n env there → (d : Dom) → PlainDom d →
+      NamesAreDom n (is_unshown sh) d → domain_of (shown_dom sh d) there ≡ domain_of d env
