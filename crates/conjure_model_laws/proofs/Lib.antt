@@ -1,3 +1,16 @@
+mod Renames
+mod Counted
+mod ToldMeanings
+pub mod ToldLaws
+mod ExamplesTold
+mod PrintedNames
+mod SingleNames
+mod PrintedMeanings
+pub mod PrintedLaws
+mod ExamplesPrinted
+mod ShownMeanings
+mod ShownMeets
+pub mod ShownLaws
 pub mod Built
 pub mod Examples
 pub mod ExamplesBuilt

@@ -59,3 +59,32 @@ module _ (taken : List Text) where
     pub printed_dom : Dom → Names Text → Dom
     printed_dom (int_dom rs es) r = int_dom rs (printed_all es r)
     printed_dom d r = d
+
+abbrev mutual
+  -- How many generators of a refined tree bind a name.
+  pub binders : Ex → ℕ
+  binders (number_ex n) = 0
+  binders (truth_ex b) = 0
+  binders (name_ex a) = 0
+  binders (node_ex b op es) = binders_of_all es
+  binders (matrix_ex es d) = binders_of_all es
+  binders (comp_ex e gs) = binders_of_gens gs + binders e
+  binders (cell_ex b n es) = binders_of_all es
+  binders (seen_ex s d ns es) = 0
+
+  -- The same of operands.
+  pub binders_of_all : Exs → ℕ
+  binders_of_all no_exs = 0
+  binders_of_all (more_exs e es) = binders e + binders_of_all es
+
+  -- The same of generators.
+  pub binders_of_gens : Gens → ℕ
+  binders_of_gens no_gens = 0
+  binders_of_gens (over p d gs) = suc (binders_of_dom d + binders_of_gens gs)
+  binders_of_gens (from p e gs) = suc (binders e + binders_of_gens gs)
+  binders_of_gens (cond e gs) = binders e + binders_of_gens gs
+
+  -- The same of a range.
+  pub binders_of_dom : Dom → ℕ
+  binders_of_dom (int_dom rs es) = binders_of_all es
+  binders_of_dom d = 0

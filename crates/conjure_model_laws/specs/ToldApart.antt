@@ -1,5 +1,5 @@
 -- Bound names told apart: each becomes a reserved name of its own. A reserved name begins with `#`, as no name of a text does.
-use Rattle.std.specs.Prelude.{ℕ, suc, [], ◌∷◌, ◌++◌, codes, decimal}
+use Rattle.std.specs.Prelude.{ℕ, suc, Bool, true, not, [], ◌∷◌, ◌++◌, codes, decimal, nat_eq}
 use Rattle.ess_semantics.specs.Lists.{or_default}
 use Rattle.ess_semantics.specs.Values.{Text}
 use Rattle.ess_semantics.specs.Names.{Names, look}
@@ -8,6 +8,11 @@ use Rattle.ess_semantics.specs.Trees.{Pat, Pats, name_pat, tuple_pat, no_pats, m
 -- The reserved name with this number.
 abbrev pub reserved : ℕ → Text
 reserved k = codes "#" ++ decimal k
+
+-- Whether a name begins otherwise than the reserved ones, as each name of a specification does.
+abbrev pub is_unreserved : Text → Bool
+is_unreserved [] = true
+is_unreserved (c ∷ cs) = not (nat_eq c 35)
 
 -- What a name has become, where it is bound, else the name.
 abbrev pub renamed : Names Text → Text → Text

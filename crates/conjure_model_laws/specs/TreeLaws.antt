@@ -1,0 +1,58 @@
+-- Laws of the trees on the way from a constraint to its rule, each stated at a function that does nothing.
+use Rattle.std.specs.Prelude.{◌≡◌, ℕ, suc, ◌+◌, ◌<◌, ◌≤◌, ◌^◌, Bool, true, false, List, [], length}
+use Rattle.ess_semantics.specs.Values.{Text}
+use Rattle.ess_semantics.specs.Order.{same_text}
+use Rattle.ess_semantics.specs.Names.{Names, is_among}
+use Rattle.ess_semantics.specs.Trees.{Ex, Dom}
+use Rattle.ess_semantics.specs.Types.{Ty}
+use Rattle.ess_semantics.specs.Substitution.{NamesAre, NamesAreDom}
+use Rattle.ess_semantics.specs.Meaning.{Env, meaning, domain_of}
+use Rattle.ess_semantics.specs.FreeNames.{FreeNamesAre}
+use Rattle.ess_semantics.specs.Kept.{Kept}
+use Rattle.ess_semantics.specs.Meets.{Meets}
+use Rattle.ess_semantics.specs.Typed.{Typed}
+use Rattle.ess_semantics.specs.Refined.{is_refined}
+use Rattle.conjure_laws.specs.PlainTrees.{Plain, PlainDom}
+use Rattle.conjure_model_laws.specs.ToldApart.{reserved, is_unreserved, told, told_apart}
+use Rattle.conjure_model_laws.specs.Shown.{Shows, shown, shown_dom}
+use Rattle.conjure_model_laws.specs.StandsFor.{StandsFor, is_unshown}
+use Rattle.conjure_model_laws.specs.Printed.{printed_name, printed, binders}
+
+-- A tree of a specification with its bound names told apart means what it meant, in every env, and is kept. It may use names, which it
+-- doesn't bind, that aren't reserved ones from the k-th on: those before it, and those of specifications. What it binds is free, also
+-- where one bound name hides another. Numbers of names go up to 2 ^ 64.
+pub record NamesToldApart : Type 0 where
+  pub means : (k : ℕ) (u : Text → Bool) (e : Ex) → Plain e → FreeNamesAre u e → ((j : ℕ) → k ≤ j → u (reserved j) ≡ false) →
+      (told e [] k).1 ≤ 2 ^ 64 → (env : Env) → meaning (told_apart k e) env ≡ meaning e env
+  pub keeps : (k : ℕ) (u : Text → Bool) (e : Ex) → Plain e → FreeNamesAre u e → ((j : ℕ) → k ≤ j → u (reserved j) ≡ false) →
+      (told e [] k).1 ≤ 2 ^ 64 → (g : Names Ty) → Kept g e (told_apart k e)
+  pub plain : (k : ℕ) (e : Ex) → Plain e → Plain (told_apart k e)
+  pub of_specifications : (k : ℕ) (e : Ex) → Plain e → FreeNamesAre is_unreserved e → (told e [] k).1 ≤ 2 ^ 64 → (env : Env) →
+      meaning (told_apart k e) env ≡ meaning e env
+
+-- A refined tree with printed names means what it meant, in every env. It may use names, which it doesn't bind, that aren't printed ones:
+-- those that are taken, or none. Two printed names differ, and none is taken. So rules lead from a tree to what is printed. Numbers of
+-- names go up to 2 ^ 64.
+pub record NamesPrinted : Type 0 where
+  pub means : (taken : List Text) (u : Text → Bool) (e : Ex) → is_refined e ≡ true → FreeNamesAre u e →
+      ((j : ℕ) → j < binders e → u (printed_name taken j) ≡ false) → binders e + length taken < 2 ^ 64 → (env : Env) →
+      meaning (printed taken e []) env ≡ meaning e env
+  pub of_taken : (taken : List Text) (e : Ex) → is_refined e ≡ true → FreeNamesAre (is_among taken) e →
+      binders e + length taken < 2 ^ 64 → (env : Env) → meaning (printed taken e []) env ≡ meaning e env
+  pub of_closed : (taken : List Text) (e : Ex) → is_refined e ≡ true → FreeNamesAre (λ a. false) e →
+      binders e + length taken < 2 ^ 64 → (env : Env) → meaning (printed taken e []) env ≡ meaning e env
+  pub of_kept : (taken : List Text) (g : Names Ty) (old e : Ex) → Kept g old e → is_refined e ≡ true → FreeNamesAre (λ a. false) e →
+      binders e + length taken < 2 ^ 64 → (env : Env) → Typed g env → Meets old env →
+      meaning (printed taken e []) env ≡ meaning old env
+  pub differ : (taken : List Text) (i j : ℕ) → i < j → suc j + length taken < 2 ^ 64 →
+      same_text (printed_name taken j) (printed_name taken i) ≡ false
+  pub free : (taken : List Text) (k : ℕ) → suc k + length taken < 2 ^ 64 → is_among taken (printed_name taken k) ≡ false
+
+-- What is shown of a tree of a specification means over tables what the tree means over values, and its structures are met, where what is
+-- shown stands for the values. The tree binds no name in whose place something is shown.
+pub record ShownStands : Type 0 where
+  pub means : (sh : Shows) (n : Text → Bool) (env there : Env) → StandsFor sh n env there → (e : Ex) → Plain e →
+      NamesAre n (is_unshown sh) e → meaning (shown sh e) there ≡ meaning e env
+  pub meets : (sh : Shows) (n : Text → Bool) (env there : Env) → StandsFor sh n env there → (e : Ex) → Plain e → Meets (shown sh e) there
+  pub domains : (sh : Shows) (n : Text → Bool) (env there : Env) → StandsFor sh n env there → (d : Dom) → PlainDom d →
+      NamesAreDom n (is_unshown sh) d → domain_of (shown_dom sh d) there ≡ domain_of d env
