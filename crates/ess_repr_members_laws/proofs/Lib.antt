@@ -8,3 +8,4 @@ pub mod FunctionsLaid
 pub mod ConstructedLaid
 pub mod LayerCases
 pub mod DeclaredMembers
+pub mod ExamplesMembers
