@@ -1,27 +1,27 @@
 -- The members of axes: the numbers from 1 on, and the members of atoms as numbers.
 use Rattle.std.specs.Prelude.{is_some, IsTrue}
 use Rattle.std.specs.Cmp.{int_cmp_is}
-use Rattle.std.proofs.Common.{◌≡◌, refl, sym, ap, ◌∙◌, subst, ℕ, zero, suc, Bool, true, false, ◌&&◌, List, [], ◌∷◌, map, length, ℤ, pos, ◌+ℤ◌, ◌-ℤ◌, Option, Some, None, option_map, arith}
+use Rattle.std.proofs.Common.{◌≡◌, refl, sym, ap, ◌∙◌, subst, ℕ, zero, suc, Bool, true, false, ◌&&◌, [], ◌∷◌, map, ℤ, pos, ◌+ℤ◌, ◌-ℤ◌, Option, Some, None, option_map, arith}
 use Rattle.std.proofs.lemmas.Int.{ints}
 use Rattle.std.proofs.lemmas.List.{append-nil}
 use Rattle.std.specs.Ordering.{is_lt}
 use Rattle.std.specs.declared.cmp.Ordering.TheVariants.{Less}
 use Rattle.ess_semantics.specs.declared.words.ReprKind.{ReprKind}
 use Rattle.ess_semantics.specs.Lists.{and_then, each_of, list_or_none}
-use Rattle.ess_semantics.specs.Values.{Text, Value, itself}
+use Rattle.ess_semantics.specs.Values.{Text, itself}
 use Rattle.ess_semantics.specs.Collections.{rises, sorted_once}
 use Rattle.ess_semantics.specs.Numbers.{natural, run_from, one_to}
 use Rattle.ess_semantics.specs.Domains.{Domain, Domains, booleans, integers, named, no_domains, more_domains, domain_list, interval, numbers_up, items_from, members, between}
 use Rattle.ess_semantics.specs.Sizes.{bound}
 use Rattle.ess_semantics.specs.Tables.{code}
-use Rattle.ess_semantics.specs.Kinds.{dom_list, is_bounded, is_atom, are_atoms}
+use Rattle.ess_semantics.specs.Kinds.{dom_list, is_atom, are_atoms}
 use Rattle.ess_semantics.specs.Trees.{Ex, Dom, Doms, bool_dom, int_dom, name_dom, tuple_dom, record_dom, matrix_dom, set_dom, mset_dom, function_dom, relation_dom, partition_dom, no_doms, more_doms}
-use Rattle.ess_semantics.specs.Layers.{codes_of, as_numbers, as_cell, Layer}
+use Rattle.ess_semantics.specs.Layers.{codes_of, as_numbers, as_cell}
 use Rattle.ess_semantics.specs.ScalarLayers.{atom_layer}
 use Rattle.ess_semantics.specs.SetLayers.{dummy_of}
 use Rattle.ess_semantics.specs.Representations.{layer}
 use Rattle.ess_semantics.specs.DeclaredTables.{axis_members}
-use Rattle.ess_semantics.specs.Meaning.{Env, TypeEntry, meanings, spans_of, with_span, as_int, named_domain, type_entry, domain_of, domains_of}
+use Rattle.ess_semantics.specs.Meaning.{Env, TypeEntry, with_span, named_domain, type_entry, domain_of, domains_of}
 use Rattle.ess_semantics.proofs.Tests.{and-left, and-right}
 use Rattle.ess_semantics.proofs.Sorting.{sorted_once-itself}
 use Rattle.ess_repr_laws.specs.StructureParts.{upto}
@@ -29,7 +29,7 @@ use Rattle.ess_repr_laws.specs.Finite.{FiniteAtom}
 use Rattle.ess_repr_laws.proofs.DomainForms.{atom-finite}
 use Rattle.ess_repr_laws.proofs.DenotedDomains.{domain-formed}
 use Rattle.ess_repr_declare_laws.specs.SizeTerms.{listed_ex}
-use Rattle.ess_repr_declare_laws.specs.DeclaredTrees.{axis_dom, argument_axes}
+use Rattle.ess_repr_declare_laws.specs.DeclaredTrees.{axis_dom}
 use Rattle.ess_repr_declare_laws.proofs.Readings.{Reads}
 use Rattle.ess_repr_declare_laws.proofs.SizeNumbers.{mapped, chained, there}
 use Rattle.ess_repr_declare_laws.proofs.IntSizes.{span-long, name-reads}

@@ -1,12 +1,12 @@
 -- The layers whose child is a relation or a set that is made of the domain.
-use Rattle.std.proofs.Common.{◌≡◌, refl, sym, ap, ◌∙◌, subst, true, ◌&&◌, if◌then◌else◌, List, [], ◌∷◌, ℕ, Option, Some, option_map}
+use Rattle.std.proofs.Common.{◌≡◌, refl, sym, ap, ◌∙◌, subst, true, ◌&&◌, if◌then◌else◌, List, ℕ, Option, Some, option_map}
 use Rattle.ess_semantics.specs.declared.words.Key.{Key}
 use Rattle.ess_semantics.specs.declared.words.ReprKind.{ReprKind}
 use Rattle.ess_semantics.specs.Lists.{or_else}
-use Rattle.ess_semantics.specs.Domains.{Attribute, Domain, Domains, functions, relations, partitions, attribute, has}
+use Rattle.ess_semantics.specs.Domains.{Attribute, Domain, relations, partitions, attribute, has}
 use Rattle.ess_semantics.specs.Membership.{no_negative_attribute, each_layer_of_all}
 use Rattle.ess_semantics.specs.Sizes.{bound, size_attributes, pair_sizes}
-use Rattle.ess_semantics.specs.Trees.{Mark, Ex, Exs, Dom, Doms, function_dom, relation_dom, partition_dom}
+use Rattle.ess_semantics.specs.Trees.{Mark, Exs, Dom, Doms, function_dom, relation_dom, partition_dom}
 use Rattle.ess_semantics.specs.Layers.{Layer}
 use Rattle.ess_semantics.specs.Representations.{layer}
 use Rattle.ess_semantics.specs.FunctionLayers.{function_as_relation_layer}
@@ -14,9 +14,8 @@ use Rattle.ess_semantics.specs.RelationLayers.{relation_as_set_layer}
 use Rattle.ess_semantics.specs.PartitionLayers.{partition_as_set_layer}
 use Rattle.ess_semantics.specs.Meaning.{Env, meanings, attributes_of, domain_of, domains_of}
 use Rattle.ess_semantics.proofs.Tests.{and-left, and-right, and-both}
-use Rattle.ess_repr_declare_laws.specs.SizeTerms.{number_of}
 use Rattle.ess_repr_declare_laws.proofs.SizeNumbers.{mapped, chained, not_below}
-use Rattle.ess_repr_declare_laws.proofs.ChildTrees.{three, sets-are, pairs_size, pairs_greatest, pairs-are, part-is, parts_greatest, parts-are}
+use Rattle.ess_repr_declare_laws.proofs.ChildTrees.{sets-are, pairs-are, part-is, parts-are}
 use Rattle.ess_repr_declare_laws.proofs.ChildSizes.{Whole}
 use Rattle.ess_repr_declare_laws.proofs.ChildDomainsDenoted.{SetOf, set-of, FunctionOf, function-of, pairs-are-denoted, tuples-are-denoted, parts-are-denoted}
 use Rattle.ess_repr_members_laws.specs.Fields.{Fielded, AllFielded}
@@ -36,9 +35,12 @@ function_as_relation-laid env ms es d c e w g h n =
       axes = refl;
       frees = refl;
       children = pairs-are-denoted ms es d c w env e o h (ap (λ x. layer ReprKind.FunctionAsRelation x) (sym f.whole)) n;
-      plain = (and-both (not_below (pair_sizes f.keys f.first)) (no_negative_attribute f.first && (no_negative_attribute f.second && true)) (pairs-plain f.keys f.first)
-          (and-both (no_negative_attribute f.first) (no_negative_attribute f.second && true) (and-right (not_below f.keys) (no_negative_attribute f.first) q)
-          (and-both (no_negative_attribute f.second) true (and-right (not_below f.keys && no_negative_attribute f.first) (no_negative_attribute f.second) p) refl)), tt);
+      plain = (
+        and-both (not_below (pair_sizes f.keys f.first)) (no_negative_attribute f.first && (no_negative_attribute f.second && true)) (pairs-plain f.keys f.first)
+            (and-both (no_negative_attribute f.first) (no_negative_attribute f.second && true) (and-right (not_below f.keys) (no_negative_attribute f.first) q)
+            (and-both (no_negative_attribute f.second) true (and-right (not_below f.keys && no_negative_attribute f.first) (no_negative_attribute f.second) p) refl)),
+        tt,
+      );
       fielded = (subst Fielded (sym (pairs-are ms es d c)) (g.0, (g.1, tt)), tt);
       named = tt;
     }
@@ -58,8 +60,11 @@ relation_as_set-laid env ms es ts e g h n =
       axes = refl;
       frees = refl;
       children = tuples-are-denoted ms es ts env e o h (ap (λ x. layer ReprKind.RelationAsSet x) (sym m.2)) n;
-      plain = (and-both (not_below s) (each_layer_of_all not_below m.0) (sizes-plain (attribute Key.Size c.0) (attribute Key.MinSize c.0) (attribute Key.MaxSize c.0))
-          (and-right (not_below c.0) (each_layer_of_all not_below m.0) p), tt);
+      plain = (
+        and-both (not_below s) (each_layer_of_all not_below m.0) (sizes-plain (attribute Key.Size c.0) (attribute Key.MinSize c.0) (attribute Key.MaxSize c.0))
+            (and-right (not_below c.0) (each_layer_of_all not_below m.0) p),
+        tt,
+      );
       fielded = (subst Fielded (sym (sets-are ms es ts)) g, tt);
       named = tt;
     }
@@ -80,9 +85,12 @@ partition_as_set-laid env ms es d e w g h n =
       axes = refl;
       frees = refl;
       children = parts-are-denoted ms es d w env e o h (ap (λ x. layer ReprKind.PartitionAsSet x) (sym s.whole)) n;
-      plain = (and-both (not_below u) (not_below v && no_negative_attribute s.inner) (sizes-plain (attribute Key.NumParts s.keys) (attribute Key.MinNumParts s.keys) most)
-          (and-both (not_below v) (no_negative_attribute s.inner) (sizes-plain (attribute Key.PartSize s.keys) (attribute Key.MinPartSize s.keys) (attribute Key.MaxPartSize s.keys))
-          (and-right (not_below s.keys) (no_negative_attribute s.inner) p)), tt);
+      plain = (
+        and-both (not_below u) (not_below v && no_negative_attribute s.inner) (sizes-plain (attribute Key.NumParts s.keys) (attribute Key.MinNumParts s.keys) most)
+            (and-both (not_below v) (no_negative_attribute s.inner) (sizes-plain (attribute Key.PartSize s.keys) (attribute Key.MinPartSize s.keys) (attribute Key.MaxPartSize s.keys))
+            (and-right (not_below s.keys) (no_negative_attribute s.inner) p)),
+        tt,
+      );
       fielded = (subst Fielded (sym (parts-are ms es d)) (subst Fielded (sym (part-is ms es d)) g), tt);
       named = tt;
     }

@@ -1,12 +1,12 @@
 -- Worked examples of the members of declared tables, as trees under an env and as declarations of the domain.
-use Rattle.std.proofs.Common.{◌≡◌, refl, ℕ, Bool, true, false, List, [], ◌∷◌, map, codes, ℤ, pos, negsuc, Option, Some, None}
+use Rattle.std.proofs.Common.{◌≡◌, refl, ℕ, true, false, List, [], ◌∷◌, map, codes, ℤ, pos, negsuc, Option, Some}
 use Rattle.std.specs.Fmt.{digits}
 use Rattle.ess_semantics.specs.declared.words.Key.{Key}
 use Rattle.ess_semantics.specs.declared.words.ReprKind.{ReprKind}
-use Rattle.ess_semantics.specs.Values.{Text, number}
+use Rattle.ess_semantics.specs.Values.{number}
 use Rattle.ess_semantics.specs.Lists.{each_of}
-use Rattle.ess_semantics.specs.Trees.{both_ends, flag, valued, Repr, repr, no_reprs, more_reprs, Ex, name_ex, number_ex, no_exs, more_exs, Dom, bool_dom, int_dom, name_dom, tuple_dom, record_dom, set_dom, mset_dom, function_dom, relation_dom, partition_dom, no_doms, more_doms}
-use Rattle.ess_semantics.specs.Domains.{Span, numbered, flagged, Domain, booleans, integers, named, tuples, records, sets, msets, functions, relations, partitions, no_domains, more_domains, between}
+use Rattle.ess_semantics.specs.Trees.{both_ends, valued, Repr, repr, no_reprs, more_reprs, Ex, name_ex, no_exs, Dom, bool_dom, int_dom, name_dom, tuple_dom, record_dom, set_dom, mset_dom, function_dom, partition_dom, no_doms, more_doms}
+use Rattle.ess_semantics.specs.Domains.{Span, numbered, Domain, booleans, integers, named, tuples, sets, msets, functions, partitions, no_domains, more_domains, between}
 use Rattle.ess_semantics.specs.Cells.{Axes}
 use Rattle.ess_semantics.specs.Layers.{up_to}
 use Rattle.ess_semantics.specs.Choice.{alone, over_child}

@@ -1,29 +1,27 @@
 -- The layers of functions, relations and partitions.
-use Rattle.std.proofs.Common.{◌≡◌, refl, sym, ap, ◌∙◌, subst, Bool, true, ◌&&◌, List, [], ◌∷◌, map, pos, Some, option_map}
+use Rattle.std.proofs.Common.{◌≡◌, refl, ap, ◌∙◌, subst, true, ◌&&◌, List, [], ◌∷◌, map, pos, Some, option_map}
 use Rattle.ess_semantics.specs.declared.words.ReprKind.{ReprKind}
-use Rattle.ess_semantics.specs.Domains.{Attribute, Domain, Domains, booleans, tuples, functions, relations, partitions, domain_list, between}
-use Rattle.ess_semantics.specs.Membership.{no_negative_attribute, each_layer_of_all}
-use Rattle.ess_semantics.specs.Sizes.{bound, child_relation, child_set, child_parts, pair_sizes}
+use Rattle.ess_semantics.specs.Domains.{Domain, Domains, booleans, tuples, functions, relations, partitions, domain_list, between}
+use Rattle.ess_semantics.specs.Membership.{no_negative_attribute}
+use Rattle.ess_semantics.specs.Sizes.{bound}
 use Rattle.ess_semantics.specs.Kinds.{dom_list, is_atom, is_atom_tuple, are_atoms}
-use Rattle.ess_semantics.specs.Trees.{Mark, Ex, Exs, no_exs, more_exs, both_ends, Dom, Doms, bool_dom, int_dom, name_dom, tuple_dom, record_dom, matrix_dom, set_dom, mset_dom, function_dom, relation_dom, partition_dom}
+use Rattle.ess_semantics.specs.Trees.{Mark, Exs, no_exs, more_exs, both_ends, Dom, Doms, bool_dom, int_dom, name_dom, tuple_dom, record_dom, matrix_dom, set_dom, mset_dom, function_dom, relation_dom, partition_dom}
 use Rattle.ess_semantics.specs.Layers.{codes_of, up_to}
-use Rattle.ess_semantics.specs.FunctionLayers.{function_1d_layer, function_1d_partial_layer, function_nd_layer, function_nd_partial_layer, function_as_relation_layer}
-use Rattle.ess_semantics.specs.RelationLayers.{relation_matrix_layer, relation_as_set_layer}
-use Rattle.ess_semantics.specs.PartitionLayers.{partition_occurrence_layer, partition_as_set_layer}
+use Rattle.ess_semantics.specs.FunctionLayers.{function_1d_layer, function_1d_partial_layer, function_nd_layer, function_nd_partial_layer}
+use Rattle.ess_semantics.specs.RelationLayers.{relation_matrix_layer}
+use Rattle.ess_semantics.specs.PartitionLayers.{partition_occurrence_layer}
 use Rattle.ess_semantics.specs.Meaning.{Env, meanings, attributes_of, domain_of, domains_of}
-use Rattle.ess_semantics.proofs.Tests.{and-left, and-right, and-both}
-use Rattle.ess_repr_laws.specs.StructureParts.{upto}
+use Rattle.ess_semantics.proofs.Tests.{and-left, and-right}
 use Rattle.ess_repr_declare_laws.specs.SizeTerms.{zero_ex, one_ex, bound_ex}
-use Rattle.ess_repr_declare_laws.specs.DeclaredTrees.{axis_dom, argument_axes, from_to, widened_if}
+use Rattle.ess_repr_declare_laws.specs.DeclaredTrees.{axis_dom, argument_axes, from_to}
 use Rattle.ess_repr_declare_laws.proofs.Readings.{Reads}
 use Rattle.ess_repr_declare_laws.proofs.SizeNumbers.{mapped, chained, not_below}
 use Rattle.ess_repr_declare_laws.proofs.SizeMeaning.{bound-is}
-use Rattle.ess_repr_declare_laws.proofs.ChildSizes.{Whole}
 use Rattle.ess_repr_declare_laws.proofs.ChildDomainsDenoted.{only, SetOf, set-of, FunctionOf, function-of}
-use Rattle.ess_repr_members_laws.specs.Fields.{Fielded, AllFielded}
+use Rattle.ess_repr_members_laws.specs.Fields.{Fielded}
 use Rattle.ess_repr_members_laws.proofs.TableLists.{Ranged, one-axis}
 use Rattle.ess_repr_members_laws.proofs.AtomAxes.{atom-axis, atom-axes, upto-denotes}
-use Rattle.ess_repr_members_laws.proofs.SizeDomains.{wide_if, up_to-denotes, widened_if-denotes}
+use Rattle.ess_repr_members_laws.proofs.SizeDomains.{up_to-denotes, widened_if-denotes}
 use Rattle.ess_repr_members_laws.proofs.LayerParts.{own-fixed, LaidOut}
 
 -- ---- functions
@@ -162,11 +160,15 @@ partition_occurrence-laid env ms es d e a h n =
     subst (LaidOut env ReprKind.PartitionOccurrence (partition_dom ms es d)) s.whole (record {
       over = partition_occurrence_layer s.keys s.inner;
       there = refl;
-      own = λ out. ((own-fixed env [] [] (from_to zero_ex (bound_ex d)) (up_to (bound s.inner)) refl (up_to-denotes env (bound_ex d) (bound s.inner) b) out).0,
-          (own-fixed env [] [] (from_to zero_ex (bound_ex d)) (up_to (bound s.inner)) refl (up_to-denotes env (bound_ex d) (bound s.inner) b) out).1,
-          (atom-ranged env d s.inner a s.part,
+      own = λ out. (
+        (own-fixed env [] [] (from_to zero_ex (bound_ex d)) (up_to (bound s.inner)) refl (up_to-denotes env (bound_ex d) (bound s.inner) b) out).0,
+        (own-fixed env [] [] (from_to zero_ex (bound_ex d)) (up_to (bound s.inner)) refl (up_to-denotes env (bound_ex d) (bound s.inner) b) out).1,
+        (
+          atom-ranged env d s.inner a s.part,
           widened_if-denotes env out (both_ends ∷ []) (more_exs one_ex (more_exs (bound_ex d) no_exs)) (between (pos 1) (pos (bound s.inner))) (upto-denotes env (bound_ex d) (bound s.inner) b),
-          tt));
+          tt,
+        ),
+      );
       axes = refl;
       frees = refl;
       children = refl;

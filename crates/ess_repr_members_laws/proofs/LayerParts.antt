@@ -1,9 +1,8 @@
 -- What is known of the layer of a kind over a domain: its own tables, its axes, and its children, as trees and as they are denoted.
-use Rattle.std.proofs.Common.{◌≡◌, refl, ◌∙◌, ap, Bool, true, false, ◌&&◌, if◌then◌else◌, List, [], ◌∷◌, map, ℕ, suc, pos, Option, Some, None, arith}
+use Rattle.std.proofs.Common.{◌≡◌, refl, Bool, true, false, if◌then◌else◌, List, [], ◌∷◌, map, ℕ, suc, pos, Option, Some, None, arith}
 use Rattle.std.specs.Prelude.{int_le}
 use Rattle.std.proofs.lemmas.Bool.{le-leb}
 use Rattle.ess_semantics.specs.declared.words.ReprKind.{ReprKind}
-use Rattle.ess_semantics.specs.Values.{Text}
 use Rattle.ess_semantics.specs.Lists.{each_of, or_else}
 use Rattle.ess_semantics.specs.declared.words.Key.{Key}
 use Rattle.ess_semantics.specs.Domains.{Attribute, Domain, Domains, no_domains, more_domains, domain_list, attribute, has}

@@ -1,21 +1,21 @@
 -- The layers of atoms, tuples, records and matrices.
-use Rattle.std.proofs.Common.{◌≡◌, refl, sym, ap, ◌∙◌, subst, Bool, true, false, ◌&&◌, List, [], ◌∷◌, ◌++◌, map, codes, pos, Some, option_map}
+use Rattle.std.proofs.Common.{◌≡◌, refl, sym, ap, ◌∙◌, subst, Bool, true, false, List, [], ◌∷◌, ◌++◌, map, codes, pos, Some, option_map}
 use Rattle.ess_semantics.specs.declared.words.ReprKind.{ReprKind}
 use Rattle.ess_semantics.specs.Values.{Text}
-use Rattle.ess_semantics.specs.Domains.{Domain, booleans, integers, tuples, records, matrices, domain_list, between}
+use Rattle.ess_semantics.specs.Domains.{Domain, booleans, integers, tuples, records, matrices, between}
 use Rattle.ess_semantics.specs.Membership.{no_negative_attribute, each_layer_of_all}
 use Rattle.ess_semantics.specs.Kinds.{dom_list, are_atoms}
-use Rattle.ess_semantics.specs.Trees.{Ends, number_ex, Exs, no_exs, more_exs, both_ends, Ex, Dom, Doms, bool_dom, int_dom, name_dom, tuple_dom, record_dom, matrix_dom, no_doms, more_doms}
+use Rattle.ess_semantics.specs.Trees.{Ends, Exs, no_exs, more_exs, both_ends, Dom, Doms, bool_dom, int_dom, name_dom, tuple_dom, record_dom, matrix_dom, no_doms, more_doms}
 use Rattle.ess_semantics.specs.ScalarLayers.{atom_layer, tuple_layer, record_layer, matrix_layer}
 use Rattle.ess_semantics.specs.Meaning.{Env, meanings, spans_of, domain_of, domains_of}
-use Rattle.ess_semantics.proofs.Tests.{and-left, and-right}
+use Rattle.ess_semantics.proofs.Tests.{and-right}
 use Rattle.ess_repr_laws.specs.StructureParts.{upto}
 use Rattle.ess_repr_declare_laws.specs.SizeTerms.{one_ex, listed_ex}
 use Rattle.ess_repr_declare_laws.specs.DeclaredTrees.{widened_if}
 use Rattle.ess_repr_declare_laws.proofs.SizeNumbers.{mapped, chained, not_below}
 use Rattle.ess_repr_declare_laws.proofs.ChildDomainsDenoted.{only, several}
 use Rattle.ess_repr_members_laws.specs.Fields.{are_paired, Fielded, AllFielded}
-use Rattle.ess_repr_members_laws.proofs.AtomAxes.{NamedAs, named-as, upto-denotes, values-read, atom-axes}
+use Rattle.ess_repr_members_laws.proofs.AtomAxes.{named-as, upto-denotes, values-read, atom-axes}
 use Rattle.ess_repr_members_laws.proofs.SizeDomains.{wide_if, widened_if-denotes}
 use Rattle.ess_repr_members_laws.proofs.LayerParts.{all-plain, each-fielded, Paired, numbered-paired, LaidOut}
 
@@ -63,8 +63,12 @@ name-laid env a e h =
     record {
       over = atom_layer e;
       there = k.1.layered;
-      own = λ out. (refl, widened_if-denotes env out (both_ends ∷ []) (more_exs one_ex (more_exs (listed_ex (name_dom a)) no_exs)) (between (pos 1) (pos k.0)) u
-          ∙ ap (λ x. Some (wide_if out x)) (sym k.1.celled), tt);
+      own = λ out. (
+        refl,
+        widened_if-denotes env out (both_ends ∷ []) (more_exs one_ex (more_exs (listed_ex (name_dom a)) no_exs)) (between (pos 1) (pos k.0)) u
+            ∙ ap (λ x. Some (wide_if out x)) (sym k.1.celled),
+        tt,
+      );
       axes = refl;
       frees = refl;
       children = refl;

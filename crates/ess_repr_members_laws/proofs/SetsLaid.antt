@@ -1,5 +1,5 @@
 -- The layers of sets and multisets.
-use Rattle.std.proofs.Common.{◌≡◌, refl, sym, ap, ◌∙◌, subst, ℕ, true, ◌&&◌, List, [], ◌∷◌, pos, Some}
+use Rattle.std.proofs.Common.{◌≡◌, refl, ap, ◌∙◌, subst, ℕ, true, ◌&&◌, List, [], ◌∷◌, pos, Some}
 use Rattle.ess_semantics.specs.declared.words.ReprKind.{ReprKind}
 use Rattle.ess_semantics.specs.Numbers.{one_to}
 use Rattle.ess_semantics.specs.Domains.{Attribute, Domain, booleans, sets, msets}
@@ -7,13 +7,13 @@ use Rattle.ess_semantics.specs.Membership.{no_negative_attribute}
 use Rattle.ess_semantics.specs.Sizes.{occurrences, slots_of_set, slots_of_mset}
 use Rattle.ess_semantics.specs.Kinds.{is_atom, has_dummy}
 use Rattle.ess_semantics.specs.Trees.{Mark, Exs, Dom, bool_dom, set_dom, mset_dom}
-use Rattle.ess_semantics.specs.Layers.{codes_of, as_numbers, up_to}
-use Rattle.ess_semantics.specs.SetLayers.{occurrence_layer, explicit_layer, marker_layer, flags_layer, dummy_layer, dummy_of, with_number}
+use Rattle.ess_semantics.specs.Layers.{codes_of, up_to}
+use Rattle.ess_semantics.specs.SetLayers.{occurrence_layer, explicit_layer, marker_layer, flags_layer, dummy_layer}
 use Rattle.ess_semantics.specs.MultisetLayers.{mset_occurrence_layer, repetition_layer, mset_flags_layer}
-use Rattle.ess_semantics.specs.Meaning.{Env, meanings, attributes_of, domain_of}
+use Rattle.ess_semantics.specs.Meaning.{Env, domain_of}
 use Rattle.ess_semantics.proofs.Tests.{and-left, and-right}
 use Rattle.ess_repr_declare_laws.specs.SizeTerms.{zero_ex, occurrences_ex, slots_ex}
-use Rattle.ess_repr_declare_laws.specs.DeclaredTrees.{axis_dom, from_to, slot_axis, with_dummy}
+use Rattle.ess_repr_declare_laws.specs.DeclaredTrees.{axis_dom, from_to, slot_axis}
 use Rattle.ess_repr_declare_laws.proofs.Readings.{Reads}
 use Rattle.ess_repr_declare_laws.proofs.SizeNumbers.{not_below, occurrences-reads}
 use Rattle.ess_repr_declare_laws.proofs.ChildDomainsDenoted.{only, SetOf, set-of}

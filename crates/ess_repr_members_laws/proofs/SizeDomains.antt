@@ -1,6 +1,5 @@
 -- The domains whose bounds are sizes: slots, markers, numbers of times, cells that can be out of use, and dummies.
-use Rattle.std.specs.Prelude.{IsTrue}
-use Rattle.std.proofs.Common.{◌≡◌, refl, sym, ap, ◌∙◌, subst, ℕ, ◌*◌, Bool, true, false, ◌&&◌, if◌then◌else◌, List, [], ◌∷◌, ℤ, pos, ◌+ℤ◌, Option, Some, None, option_map}
+use Rattle.std.proofs.Common.{◌≡◌, refl, sym, ap, ◌∙◌, ℕ, ◌*◌, Bool, true, false, if◌then◌else◌, List, [], ◌∷◌, ℤ, pos, ◌+ℤ◌, Some, None, option_map}
 use Rattle.ess_semantics.specs.Lists.{and_then}
 use Rattle.ess_semantics.specs.Numbers.{one_to}
 use Rattle.ess_semantics.specs.Domains.{Span, Attribute, Domain, integers, between}
@@ -22,7 +21,7 @@ use Rattle.ess_repr_declare_laws.proofs.SizeNumbers.{mapped, chained, default-nu
 use Rattle.ess_repr_declare_laws.proofs.IntSizes.{bound-reads-same}
 use Rattle.ess_repr_declare_laws.proofs.SizeMeaning.{bound-is}
 use Rattle.ess_repr_members_laws.proofs.TableLists.{Ranged, one-axis}
-use Rattle.ess_repr_members_laws.proofs.AtomAxes.{one_to-members, NamedAs, named-as, upto-denotes, values-read}
+use Rattle.ess_repr_members_laws.proofs.AtomAxes.{one_to-members, named-as, upto-denotes, values-read}
 
 -- ---- slots
 
