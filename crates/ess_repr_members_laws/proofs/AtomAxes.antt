@@ -103,8 +103,10 @@ named-as env a e h = go env.positions (type_entry env.types a) h
 
     go : (b : Bool) (o : Option TypeEntry) → named_domain b a o ≡ Some e → (n : ℕ) × NamedAs e n
     go b None k = cc
-    go true (Some t) k = let q : between (pos 1) (pos t.count) ≡ e = cc in (t.count, subst (λ x. NamedAs x t.count) q (of-positions t.count))
-    go false (Some t) k = let q : named a t.count ≡ e = cc in (t.count, subst (λ x. NamedAs x t.count) q (of-type a t.count))
+    go true (Some t) k =
+        let q : between (pos 1) (pos t.count) ≡ e = cc in (t.count, subst (λ x. NamedAs x t.count) q (of-positions t.count))
+    go false (Some t) k =
+        let q : named a t.count ≡ e = cc in (t.count, subst (λ x. NamedAs x t.count) q (of-type a t.count))
 
 -- ---- axes over atoms
 
@@ -113,7 +115,8 @@ pub upto-denotes : (env : Env) (e : Ex) (n : ℕ) → Reads e env (pos n) → do
 upto-denotes env e n h = ap (λ o. option_map integers (and_then o (λ m. with_span (Some (pos 1)) (Some m) (Some [])))) h
 
 -- The number of values of a named type is read.
-pub values-read : (env : Env) (a : Text) (e : Domain) (n : ℕ) → domain_of (name_dom a) env ≡ Some e → NamedAs e n → Reads (listed_ex (name_dom a)) env (pos n)
+pub values-read : (env : Env) (a : Text) (e : Domain) (n : ℕ) → domain_of (name_dom a) env ≡ Some e → NamedAs e n →
+    Reads (listed_ex (name_dom a)) env (pos n)
 values-read env a e n h k = name-reads env a e h ∙ ap (λ m. Some (pos m)) k.size
 
 -- Members that are known are those of the axis.

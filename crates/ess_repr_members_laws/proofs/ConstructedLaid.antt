@@ -21,12 +21,16 @@ use Rattle.ess_repr_declare_laws.proofs.ChildDomainsDenoted.{SetOf, set-of, Func
 use Rattle.ess_repr_members_laws.specs.Fields.{Fielded, AllFielded}
 use Rattle.ess_repr_members_laws.proofs.LayerParts.{sizes-plain, pairs-plain, LaidOut}
 
-pub function_as_relation-laid : (env : Env) (ms : List Mark) (es : Exs) (d c : Dom) (e : Domain) → Whole ms es → Fielded (function_dom ms es d c) →
-    domain_of (function_dom ms es d c) env ≡ Some e → no_negative_attribute e ≡ true → LaidOut env ReprKind.FunctionAsRelation (function_dom ms es d c) e
+pub function_as_relation-laid : (env : Env) (ms : List Mark) (es : Exs) (d c : Dom) (e : Domain) → Whole ms es →
+    Fielded (function_dom ms es d c) →
+    domain_of (function_dom ms es d c) env ≡ Some e → no_negative_attribute e ≡ true →
+    LaidOut env ReprKind.FunctionAsRelation (function_dom ms es d c) e
 function_as_relation-laid env ms es d c e w g h n =
     let f : FunctionOf ms es d c env e = function-of ms es d c env e h in
-    let p : (not_below f.keys && no_negative_attribute f.first) && no_negative_attribute f.second ≡ true = ap no_negative_attribute f.whole ∙ n in
-    let q : not_below f.keys && no_negative_attribute f.first ≡ true = and-left (not_below f.keys && no_negative_attribute f.first) (no_negative_attribute f.second) p in
+    let p : (not_below f.keys && no_negative_attribute f.first) && no_negative_attribute f.second ≡ true =
+    ap no_negative_attribute f.whole ∙ n in
+    let q : not_below f.keys && no_negative_attribute f.first ≡ true =
+    and-left (not_below f.keys && no_negative_attribute f.first) (no_negative_attribute f.second) p in
     let o : Layer = function_as_relation_layer f.keys f.first f.second in
     record {
       over = o;
@@ -36,16 +40,20 @@ function_as_relation-laid env ms es d c e w g h n =
       frees = refl;
       children = pairs-are-denoted ms es d c w env e o h (ap (λ x. layer ReprKind.FunctionAsRelation x) (sym f.whole)) n;
       plain = (
-        and-both (not_below (pair_sizes f.keys f.first)) (no_negative_attribute f.first && (no_negative_attribute f.second && true)) (pairs-plain f.keys f.first)
-            (and-both (no_negative_attribute f.first) (no_negative_attribute f.second && true) (and-right (not_below f.keys) (no_negative_attribute f.first) q)
-            (and-both (no_negative_attribute f.second) true (and-right (not_below f.keys && no_negative_attribute f.first) (no_negative_attribute f.second) p) refl)),
+        and-both (not_below (pair_sizes f.keys f.first)) (no_negative_attribute f.first && (no_negative_attribute f.second && true))
+        (pairs-plain f.keys f.first)
+            (and-both (no_negative_attribute f.first) (no_negative_attribute f.second && true)
+            (and-right (not_below f.keys) (no_negative_attribute f.first) q)
+            (and-both (no_negative_attribute f.second) true
+            (and-right (not_below f.keys && no_negative_attribute f.first) (no_negative_attribute f.second) p) refl)),
         tt,
       );
       fielded = (subst Fielded (sym (pairs-are ms es d c)) (g.0, (g.1, tt)), tt);
       named = tt;
     }
 
-pub relation_as_set-laid : (env : Env) (ms : List Mark) (es : Exs) (ts : Doms) (e : Domain) → AllFielded ts → domain_of (relation_dom ms es ts) env ≡ Some e →
+pub relation_as_set-laid : (env : Env) (ms : List Mark) (es : Exs) (ts : Doms) (e : Domain) → AllFielded ts →
+    domain_of (relation_dom ms es ts) env ≡ Some e →
     no_negative_attribute e ≡ true → LaidOut env ReprKind.RelationAsSet (relation_dom ms es ts) e
 relation_as_set-laid env ms es ts e g h n =
     let c = chained (attributes_of ms (meanings es env)) (λ ks. option_map (relations ks) (domains_of ts env)) e h in
@@ -61,7 +69,8 @@ relation_as_set-laid env ms es ts e g h n =
       frees = refl;
       children = tuples-are-denoted ms es ts env e o h (ap (λ x. layer ReprKind.RelationAsSet x) (sym m.2)) n;
       plain = (
-        and-both (not_below s) (each_layer_of_all not_below m.0) (sizes-plain (attribute Key.Size c.0) (attribute Key.MinSize c.0) (attribute Key.MaxSize c.0))
+        and-both (not_below s) (each_layer_of_all not_below m.0)
+        (sizes-plain (attribute Key.Size c.0) (attribute Key.MinSize c.0) (attribute Key.MaxSize c.0))
             (and-right (not_below c.0) (each_layer_of_all not_below m.0) p),
         tt,
       );
@@ -69,15 +78,19 @@ relation_as_set-laid env ms es ts e g h n =
       named = tt;
     }
 
-pub partition_as_set-laid : (env : Env) (ms : List Mark) (es : Exs) (d : Dom) (e : Domain) → Whole ms es → Fielded d → domain_of (partition_dom ms es d) env ≡ Some e →
+pub partition_as_set-laid : (env : Env) (ms : List Mark) (es : Exs) (d : Dom) (e : Domain) → Whole ms es → Fielded d →
+    domain_of (partition_dom ms es d) env ≡ Some e →
     no_negative_attribute e ≡ true → LaidOut env ReprKind.PartitionAsSet (partition_dom ms es d) e
 partition_as_set-laid env ms es d e w g h n =
     let s : SetOf partitions ms es d env e = set-of partitions ms es d env e h in
     let p : not_below s.keys && no_negative_attribute s.inner ≡ true = ap no_negative_attribute s.whole ∙ n in
     let o : Layer = partition_as_set_layer s.keys s.inner in
-    let most : Option ℕ = if has Key.NumParts s.keys then attribute Key.MaxNumParts s.keys else or_else (attribute Key.MaxNumParts s.keys) (Some (bound s.inner)) in
+    let most : Option ℕ =
+    if has Key.NumParts s.keys then attribute Key.MaxNumParts s.keys else or_else (attribute Key.MaxNumParts s.keys)
+    (Some (bound s.inner)) in
     let u : List Attribute = size_attributes (attribute Key.NumParts s.keys) (attribute Key.MinNumParts s.keys) most in
-    let v : List Attribute = size_attributes (attribute Key.PartSize s.keys) (attribute Key.MinPartSize s.keys) (attribute Key.MaxPartSize s.keys) in
+    let v : List Attribute = size_attributes (attribute Key.PartSize s.keys) (attribute Key.MinPartSize s.keys)
+    (attribute Key.MaxPartSize s.keys) in
     record {
       over = o;
       there = ap (λ x. layer ReprKind.PartitionAsSet x) (sym s.whole);
@@ -86,8 +99,10 @@ partition_as_set-laid env ms es d e w g h n =
       frees = refl;
       children = parts-are-denoted ms es d w env e o h (ap (λ x. layer ReprKind.PartitionAsSet x) (sym s.whole)) n;
       plain = (
-        and-both (not_below u) (not_below v && no_negative_attribute s.inner) (sizes-plain (attribute Key.NumParts s.keys) (attribute Key.MinNumParts s.keys) most)
-            (and-both (not_below v) (no_negative_attribute s.inner) (sizes-plain (attribute Key.PartSize s.keys) (attribute Key.MinPartSize s.keys) (attribute Key.MaxPartSize s.keys))
+        and-both (not_below u) (not_below v && no_negative_attribute s.inner)
+        (sizes-plain (attribute Key.NumParts s.keys) (attribute Key.MinNumParts s.keys) most)
+            (and-both (not_below v) (no_negative_attribute s.inner)
+            (sizes-plain (attribute Key.PartSize s.keys) (attribute Key.MinPartSize s.keys) (attribute Key.MaxPartSize s.keys))
             (and-right (not_below s.keys) (no_negative_attribute s.inner) p)),
         tt,
       );

@@ -77,7 +77,8 @@ fit-forms k rs d s f = go (child_forms k d) refl f
     go None e h = cc
     go (Some ds) e h =
         let a = children-are k d ds (sound-well d s) (sound-numbers d s) e in
-        let q : map (without_sizes k) (child_doms k d) ≡ ds = let z : Some (map (without_sizes k) (child_doms k d)) ≡ Some ds = sym a.forms ∙ e in cc in
+        let z : Some (map (without_sizes k) (child_doms k d)) ≡ Some ds = sym a.forms ∙ e in
+        let q : map (without_sizes k) (child_doms k d) ≡ ds = cc in
         record { forms = ds; there = e; fit = h; alike = subst (AllAlike (child_doms k d)) q (all-alike k (child_doms k d)) }
 
 -- ---- one layer
@@ -105,12 +106,14 @@ layer-denoted env out k rs d e l h =
     ]
 
 -- A child's tables in front of those of the others.
-more-denoted : (env : Env) (out : Bool) (r : Repr) (rs : Reprs) (c : Named) (cs : List Named) (d : Dom) (ds : List Dom) (x : Domain) (xs : List Domain)
-    (as' : List Dom) (bs : Axes) → Ranged env as' bs → Denoted env (trees_below out r d) (declarations_below out r x) →
+more-denoted : (env : Env) (out : Bool) (r : Repr) (rs : Reprs) (c : Named) (cs : List Named) (d : Dom) (ds : List Dom) (x : Domain)
+    (xs : List Domain) (as' : List Dom) (bs : Axes) → Ranged env as' bs → Denoted env (trees_below out r d) (declarations_below out r x) →
     Denoted env (trees_of_children out rs (zip cs ds) as') (declarations_of_children out rs xs bs) →
-    Denoted env (trees_of_children out (more_reprs r rs) (zip (c ∷ cs) (d ∷ ds)) as') (declarations_of_children out (more_reprs r rs) (x ∷ xs) bs)
+    Denoted env (trees_of_children out (more_reprs r rs) (zip (c ∷ cs) (d ∷ ds)) as')
+    (declarations_of_children out (more_reprs r rs) (x ∷ xs) bs)
 more-denoted env out r rs c cs d ds x xs as' bs g h t =
-    append-denoted env (map (below_layer c.0 as') (trees_below out r d)) (trees_of_children out rs (zip cs ds) as') (under bs (declarations_below out r x))
+    append-denoted env (map (below_layer c.0 as') (trees_below out r d)) (trees_of_children out rs (zip cs ds) as')
+    (under bs (declarations_below out r x))
     (declarations_of_children out rs xs bs) (below-denoted env c.0 as' bs g (trees_below out r d) (declarations_below out r x) h) t
 
 -- ---- all layers
@@ -130,17 +133,21 @@ first-of env d ds xs h =
     record { one = u.0; others = m.0; first = u.1; behind = m.1; whole = m.2 }
 
 mutual
-  members-below : (env : Env) (out : Bool) (r : Repr) (d : Dom) (e : Domain) → Sound d → Fielded d → fits r d ≡ true → domain_of d env ≡ Some e →
+  members-below : (env : Env) (out : Bool) (r : Repr) (d : Dom) (e : Domain) → Sound d → Fielded d → fits r d ≡ true →
+      domain_of d env ≡ Some e →
       no_negative_attribute e ≡ true → Denoted env (trees_below out r d) (declarations_below out r e)
   members-below env out (repr k rs) d e s g f h n =
       let p : Forms k rs d = fit-forms k rs d s f in
       let l : LaidOut env k d e = laid-out env k d p.forms e s g p.there h n in
       layer-denoted env out k rs d e l
-      (members-children env (out || frees_children k) rs (child_names k d) (child_doms k d) p.forms l.over.children (layer_axes k d) l.over.axes l.axes l.named p.alike
+      (members-children env (out || frees_children k) rs (child_names k d) (child_doms k d) p.forms l.over.children
+      (layer_axes k d) l.over.axes l.axes l.named p.alike
       (children-sound k d p.forms s p.there) l.fielded p.fit l.children l.plain)
 
-  members-children : (env : Env) (out : Bool) (rs : Reprs) (cs : List Named) (ds fs : List Dom) (xs : List Domain) (as' : List Dom) (bs : Axes) → Ranged env as' bs →
-      Paired cs ds → AllAlike ds fs → EachSound ds → EachFielded ds → all_fit rs fs ≡ true → each_of ds (λ c. domain_of c env) ≡ Some xs → EachPlain xs →
+  members-children : (env : Env) (out : Bool) (rs : Reprs) (cs : List Named) (ds fs : List Dom) (xs : List Domain) (as' : List Dom)
+      (bs : Axes) → Ranged env as' bs →
+      Paired cs ds → AllAlike ds fs → EachSound ds → EachFielded ds → all_fit rs fs ≡ true → each_of ds (λ c. domain_of c env) ≡ Some xs →
+      EachPlain xs →
       Denoted env (trees_of_children out rs (zip cs ds) as') (declarations_of_children out rs xs bs)
   members-children env out no_reprs cs ds fs xs as' bs g p a s i f h n = tt
   members-children env out (more_reprs r rs) [] [] [] xs as' bs g p a s i f h n = cc
@@ -151,13 +158,15 @@ mutual
   members-children env out (more_reprs r rs) (c ∷ cs) (d ∷ ds) (y ∷ fs) xs as' bs g p a s i f h n =
       let u : First env d ds xs = first-of env d ds xs h in
       let m : EachPlain (u.one ∷ u.others) = subst EachPlain (sym u.whole) n in
-      subst (λ z. Denoted env (trees_of_children out (more_reprs r rs) (zip (c ∷ cs) (d ∷ ds)) as') (declarations_of_children out (more_reprs r rs) z bs)) u.whole
+      subst (λ z. Denoted env (trees_of_children out (more_reprs r rs) (zip (c ∷ cs) (d ∷ ds)) as')
+      (declarations_of_children out (more_reprs r rs) z bs)) u.whole
       (more-denoted env out r rs c cs d ds u.one u.others as' bs g
       (members-below env out r d u.one s.0 i.0 (a.0.1 r ∙ and-left (fits r y) (all_fit rs fs) f) u.first m.0)
       (members-children env out rs cs ds fs u.others as' bs g p a.1 s.1 i.1 (and-right (fits r y) (all_fit rs fs) f) u.behind m.1))
 
 -- The declared trees declare the tables of the representation.
-pub trees-declare : (r : Repr) (d : Dom) (x : Text) (taken : List Text) → Sound d → Fielded d → fits r d ≡ true → Declares r d x taken (declared_trees r d x taken)
+pub trees-declare : (r : Repr) (d : Dom) (x : Text) (taken : List Text) → Sound d → Fielded d → fits r d ≡ true →
+    Declares r d x taken (declared_trees r d x taken)
 trees-declare r d x taken s g f = record {
   names = names-are r d x taken s f;
   members = λ env e h n. denoted-as env (declared_trees r d x taken) (declarations r e)

@@ -17,7 +17,8 @@ use Rattle.ess_repr_members_laws.proofs.FunctionsLaid.{function_1d-laid, functio
 use Rattle.ess_repr_members_laws.proofs.ConstructedLaid.{function_as_relation-laid, relation_as_set-laid, partition_as_set-laid}
 
 -- What is known of the layer of a kind that is one for the domain.
-pub laid-out : (env : Env) (k : ReprKind) (d : Dom) (ds : List Dom) (e : Domain) → Sound d → Fielded d → child_forms k d ≡ Some ds → domain_of d env ≡ Some e →
+pub laid-out : (env : Env) (k : ReprKind) (d : Dom) (ds : List Dom) (e : Domain) → Sound d → Fielded d → child_forms k d ≡ Some ds →
+    domain_of d env ≡ Some e →
     no_negative_attribute e ≡ true → LaidOut env k d e
 laid-out env ReprKind.Atom bool_dom ds e s g p h n = bool-laid env e h
 laid-out env ReprKind.Atom (int_dom rs es) ds e s g p h n = int-laid env rs es e h
@@ -162,7 +163,8 @@ laid-out env ReprKind.Function1D (matrix_dom is d) ds e s g p h n = cc
 laid-out env ReprKind.Function1D (set_dom ms es d) ds e s g p h n = cc
 laid-out env ReprKind.Function1D (mset_dom ms es d) ds e s g p h n = cc
 laid-out env ReprKind.Function1D (function_dom ms es d c) ds e s g p h n =
-    function_1d-laid env ms es d c e (and-right (has_key Key.Total ms) (is_atom d) (if-there (has_key Key.Total ms && is_atom d) (c ∷ []) ds p)) g.1 h n
+    function_1d-laid env ms es d c e (and-right (has_key Key.Total ms) (is_atom d)
+    (if-there (has_key Key.Total ms && is_atom d) (c ∷ []) ds p)) g.1 h n
 laid-out env ReprKind.Function1D (relation_dom ms es ts) ds e s g p h n = cc
 laid-out env ReprKind.Function1D (partition_dom ms es d) ds e s g p h n = cc
 laid-out env ReprKind.Function1DPartial bool_dom ds e s g p h n = cc
@@ -186,7 +188,8 @@ laid-out env ReprKind.FunctionND (matrix_dom is d) ds e s g p h n = cc
 laid-out env ReprKind.FunctionND (set_dom ms es d) ds e s g p h n = cc
 laid-out env ReprKind.FunctionND (mset_dom ms es d) ds e s g p h n = cc
 laid-out env ReprKind.FunctionND (function_dom ms es d c) ds e s g p h n =
-    function_nd-laid env ms es d c e (and-right (has_key Key.Total ms) (is_atom_tuple d) (if-there (has_key Key.Total ms && is_atom_tuple d) (c ∷ []) ds p)) g.1 h n
+    function_nd-laid env ms es d c e (and-right (has_key Key.Total ms) (is_atom_tuple d)
+    (if-there (has_key Key.Total ms && is_atom_tuple d) (c ∷ []) ds p)) g.1 h n
 laid-out env ReprKind.FunctionND (relation_dom ms es ts) ds e s g p h n = cc
 laid-out env ReprKind.FunctionND (partition_dom ms es d) ds e s g p h n = cc
 laid-out env ReprKind.FunctionNDPartial bool_dom ds e s g p h n = cc

@@ -34,7 +34,8 @@ EachPlain (x ∷ xs) = (no_negative_attribute x ≡ true) × EachPlain xs
 pub all-plain : (xs : Domains) → each_layer_of_all not_below xs ≡ true → EachPlain (domain_list xs)
 all-plain no_domains h = tt
 all-plain (more_domains x xs) h =
-    (and-left (no_negative_attribute x) (each_layer_of_all not_below xs) h, all-plain xs (and-right (no_negative_attribute x) (each_layer_of_all not_below xs) h))
+    (and-left (no_negative_attribute x) (each_layer_of_all not_below xs) h,
+    all-plain xs (and-right (no_negative_attribute x) (each_layer_of_all not_below xs) h))
 
 -- Each domain's records have their components.
 abbrev pub EachFielded : List Dom → Type 0
@@ -87,15 +88,12 @@ pairs-plain ks x = go (has Key.Total ks)
 
 -- ---- own tables
 
--- A table of a fixed domain, and one that gets a 0.
-pub own-fixed : (env : Env) (as' : List Dom) (bs : Axes) (c : Dom) (x : Domain) → Ranged env as' bs → domain_of c env ≡ Some x → (out : Bool) →
+-- A table of a fixed domain is denoted, whether its cells can be out of use or not.
+pub own-fixed : (env : Env) (as' : List Dom) (bs : Axes) (c : Dom) (x : Domain) → Ranged env as' bs → domain_of c env ≡ Some x →
+    (out : Bool) →
     Denoted env (decl [] as' c ∷ []) (map (declared_own out) (fixed_table bs x ∷ []))
 own-fixed env as' bs c x r h true = (r, h, tt)
 own-fixed env as' bs c x r h false = (r, h, tt)
-
-pub own-widened : (env : Env) (as' : List Dom) (bs : Axes) (out : Bool) (c : Dom) (x : Domain) → Ranged env as' bs → domain_of (widened_if out c) env ≡ Some (wide_if out x) →
-    Denoted env (decl [] as' (widened_if out c) ∷ []) (map (declared_own out) (widened_table bs x ∷ []))
-own-widened env as' bs out c x r h = (r, h, tt)
 
 -- ---- layers
 

@@ -41,7 +41,8 @@ bool-laid env e h =
       named = tt;
     })
 
-pub int-laid : (env : Env) (rs : List Ends) (es : Exs) (e : Domain) → domain_of (int_dom rs es) env ≡ Some e → LaidOut env ReprKind.Atom (int_dom rs es) e
+pub int-laid : (env : Env) (rs : List Ends) (es : Exs) (e : Domain) → domain_of (int_dom rs es) env ≡ Some e →
+    LaidOut env ReprKind.Atom (int_dom rs es) e
 int-laid env rs es e h =
     let m = mapped integers (spans_of rs (meanings es env)) e h in
     subst (LaidOut env ReprKind.Atom (int_dom rs es)) m.2 (record {
@@ -59,13 +60,15 @@ int-laid env rs es e h =
 pub name-laid : (env : Env) (a : Text) (e : Domain) → domain_of (name_dom a) env ≡ Some e → LaidOut env ReprKind.Atom (name_dom a) e
 name-laid env a e h =
     let k = named-as env a e h in
-    let u : domain_of (upto (listed_ex (name_dom a))) env ≡ Some (between (pos 1) (pos k.0)) = upto-denotes env (listed_ex (name_dom a)) k.0 (values-read env a e k.0 h k.1) in
+    let u : domain_of (upto (listed_ex (name_dom a))) env ≡ Some (between (pos 1) (pos k.0)) =
+    upto-denotes env (listed_ex (name_dom a)) k.0 (values-read env a e k.0 h k.1) in
     record {
       over = atom_layer e;
       there = k.1.layered;
       own = λ out. (
         refl,
-        widened_if-denotes env out (both_ends ∷ []) (more_exs one_ex (more_exs (listed_ex (name_dom a)) no_exs)) (between (pos 1) (pos k.0)) u
+        widened_if-denotes env out (both_ends ∷ []) (more_exs one_ex (more_exs (listed_ex (name_dom a)) no_exs))
+        (between (pos 1) (pos k.0)) u
             ∙ ap (λ x. Some (wide_if out x)) (sym k.1.celled),
         tt,
       );
@@ -79,7 +82,8 @@ name-laid env a e h =
 
 -- ---- tuples, records and matrices
 
-pub tuple-laid : (env : Env) (ts : Doms) (e : Domain) → AllFielded ts → domain_of (tuple_dom ts) env ≡ Some e → no_negative_attribute e ≡ true →
+pub tuple-laid : (env : Env) (ts : Doms) (e : Domain) → AllFielded ts → domain_of (tuple_dom ts) env ≡ Some e →
+    no_negative_attribute e ≡ true →
     LaidOut env ReprKind.Tuple (tuple_dom ts) e
 tuple-laid env ts e g h n =
     let m = mapped tuples (domains_of ts env) e h in
@@ -101,7 +105,8 @@ fields-paired [] (more_doms d ts) h = cc
 fields-paired (f ∷ fs) no_doms h = cc
 fields-paired (f ∷ fs) (more_doms d ts) h = fields-paired fs ts h
 
-pub record-laid : (env : Env) (fs : List Text) (ts : Doms) (e : Domain) → Fielded (record_dom fs ts) → domain_of (record_dom fs ts) env ≡ Some e →
+pub record-laid : (env : Env) (fs : List Text) (ts : Doms) (e : Domain) → Fielded (record_dom fs ts) →
+    domain_of (record_dom fs ts) env ≡ Some e →
     no_negative_attribute e ≡ true → LaidOut env ReprKind.Rec (record_dom fs ts) e
 record-laid env fs ts e g h n =
     let m = mapped (records fs) (domains_of ts env) e h in
@@ -117,7 +122,8 @@ record-laid env fs ts e g h n =
       named = fields-paired fs ts g.0;
     })
 
-pub matrix-laid : (env : Env) (is : Doms) (d : Dom) (e : Domain) → are_atoms is ≡ true → Fielded d → domain_of (matrix_dom is d) env ≡ Some e →
+pub matrix-laid : (env : Env) (is : Doms) (d : Dom) (e : Domain) → are_atoms is ≡ true → Fielded d →
+    domain_of (matrix_dom is d) env ≡ Some e →
     no_negative_attribute e ≡ true → LaidOut env ReprKind.Matrix (matrix_dom is d) e
 matrix-laid env is d e a g h n =
     let c = chained (domains_of is env) (λ js. option_map (matrices js) (domain_of d env)) e h in

@@ -29,17 +29,27 @@ record Parts (make : List Attribute → Domain → Domain) (ms : List Mark) (es 
   pub keys-plain : not_below set.keys ≡ true
   pub inner-plain : no_negative_attribute set.inner ≡ true
 
-set-parts : (env : Env) (ms : List Mark) (es : Exs) (d : Dom) (e : Domain) → domain_of (set_dom ms es d) env ≡ Some e → no_negative_attribute e ≡ true → Parts sets ms es d env e
+set-parts : (env : Env) (ms : List Mark) (es : Exs) (d : Dom) (e : Domain) → domain_of (set_dom ms es d) env ≡ Some e →
+    no_negative_attribute e ≡ true → Parts sets ms es d env e
 set-parts env ms es d e h n =
     let s : SetOf sets ms es d env e = set-of sets ms es d env e h in
     let p : not_below s.keys && no_negative_attribute s.inner ≡ true = ap no_negative_attribute s.whole ∙ n in
-    record { set = s; keys-plain = and-left (not_below s.keys) (no_negative_attribute s.inner) p; inner-plain = and-right (not_below s.keys) (no_negative_attribute s.inner) p }
+    record {
+      set = s;
+      keys-plain = and-left (not_below s.keys) (no_negative_attribute s.inner) p;
+      inner-plain = and-right (not_below s.keys) (no_negative_attribute s.inner) p;
+    }
 
-mset-parts : (env : Env) (ms : List Mark) (es : Exs) (d : Dom) (e : Domain) → domain_of (mset_dom ms es d) env ≡ Some e → no_negative_attribute e ≡ true → Parts msets ms es d env e
+mset-parts : (env : Env) (ms : List Mark) (es : Exs) (d : Dom) (e : Domain) → domain_of (mset_dom ms es d) env ≡ Some e →
+    no_negative_attribute e ≡ true → Parts msets ms es d env e
 mset-parts env ms es d e h n =
     let s : SetOf msets ms es d env e = set-of msets ms es d env e h in
     let p : not_below s.keys && no_negative_attribute s.inner ≡ true = ap no_negative_attribute s.whole ∙ n in
-    record { set = s; keys-plain = and-left (not_below s.keys) (no_negative_attribute s.inner) p; inner-plain = and-right (not_below s.keys) (no_negative_attribute s.inner) p }
+    record {
+      set = s;
+      keys-plain = and-left (not_below s.keys) (no_negative_attribute s.inner) p;
+      inner-plain = and-right (not_below s.keys) (no_negative_attribute s.inner) p;
+    }
 
 -- The slots are read.
 set-read : (env : Env) (ms : List Mark) (es : Exs) (d : Dom) (e : Domain) (p : Parts sets ms es d env e) →
@@ -52,7 +62,8 @@ mset-read env ms es d e p = mset-slots env ms es d p.set.keys p.set.inner p.set.
 
 -- ---- sets
 
-pub occurrence-laid : (env : Env) (ms : List Mark) (es : Exs) (d : Dom) (e : Domain) → is_atom d ≡ true → domain_of (set_dom ms es d) env ≡ Some e →
+pub occurrence-laid : (env : Env) (ms : List Mark) (es : Exs) (d : Dom) (e : Domain) → is_atom d ≡ true →
+    domain_of (set_dom ms es d) env ≡ Some e →
     no_negative_attribute e ≡ true → LaidOut env ReprKind.Occurrence (set_dom ms es d) e
 occurrence-laid env ms es d e a h n =
     let p : Parts sets ms es d env e = set-parts env ms es d e h n in
@@ -121,7 +132,8 @@ flags-laid env ms es d e g h n =
       named = tt;
     })
 
-pub dummy-laid : (env : Env) (ms : List Mark) (es : Exs) (d : Dom) (e : Domain) → has_dummy d ≡ true → domain_of (set_dom ms es d) env ≡ Some e →
+pub dummy-laid : (env : Env) (ms : List Mark) (es : Exs) (d : Dom) (e : Domain) → has_dummy d ≡ true →
+    domain_of (set_dom ms es d) env ≡ Some e →
     no_negative_attribute e ≡ true → LaidOut env ReprKind.ExplicitVarSizeWithDummy (set_dom ms es d) e
 dummy-laid env ms es d e a h n =
     let p : Parts sets ms es d env e = set-parts env ms es d e h n in
@@ -141,16 +153,19 @@ dummy-laid env ms es d e a h n =
 
 -- ---- multisets
 
-pub mset_occurrence-laid : (env : Env) (ms : List Mark) (es : Exs) (d : Dom) (e : Domain) → is_atom d ≡ true → domain_of (mset_dom ms es d) env ≡ Some e →
+pub mset_occurrence-laid : (env : Env) (ms : List Mark) (es : Exs) (d : Dom) (e : Domain) → is_atom d ≡ true →
+    domain_of (mset_dom ms es d) env ≡ Some e →
     no_negative_attribute e ≡ true → LaidOut env ReprKind.MSetOccurrence (mset_dom ms es d) e
 mset_occurrence-laid env ms es d e a h n =
     let p : Parts msets ms es d env e = mset-parts env ms es d e h n in
     subst (LaidOut env ReprKind.MSetOccurrence (mset_dom ms es d)) p.set.whole (record {
       over = mset_occurrence_layer p.set.keys p.set.inner;
       there = refl;
-      own = own-fixed env (axis_dom d ∷ []) (codes_of p.set.inner ∷ []) (from_to zero_ex (occurrences_ex ms es)) (up_to (occurrences p.set.keys))
+      own = own-fixed env (axis_dom d ∷ []) (codes_of p.set.inner ∷ []) (from_to zero_ex (occurrences_ex ms es))
+          (up_to (occurrences p.set.keys))
           (one-axis env (axis_dom d) (codes_of p.set.inner) (atom-axis env d p.set.inner a p.set.part))
-          (up_to-denotes env (occurrences_ex ms es) (occurrences p.set.keys) (occurrences-reads env ms es p.set.keys p.set.denoted p.keys-plain));
+          (up_to-denotes env (occurrences_ex ms es) (occurrences p.set.keys)
+          (occurrences-reads env ms es p.set.keys p.set.denoted p.keys-plain));
       axes = refl;
       frees = refl;
       children = refl;
@@ -159,7 +174,8 @@ mset_occurrence-laid env ms es d e a h n =
       named = tt;
     })
 
-pub repetition-laid : (env : Env) (ms : List Mark) (es : Exs) (d : Dom) (e : Domain) → Fielded d → domain_of (mset_dom ms es d) env ≡ Some e →
+pub repetition-laid : (env : Env) (ms : List Mark) (es : Exs) (d : Dom) (e : Domain) → Fielded d →
+    domain_of (mset_dom ms es d) env ≡ Some e →
     no_negative_attribute e ≡ true → LaidOut env ReprKind.MSetExplicitWithRepetition (mset_dom ms es d) e
 repetition-laid env ms es d e g h n =
     let p : Parts msets ms es d env e = mset-parts env ms es d e h n in
@@ -177,7 +193,8 @@ repetition-laid env ms es d e g h n =
       named = tt;
     })
 
-pub mset_flags-laid : (env : Env) (ms : List Mark) (es : Exs) (d : Dom) (e : Domain) → Fielded d → domain_of (mset_dom ms es d) env ≡ Some e →
+pub mset_flags-laid : (env : Env) (ms : List Mark) (es : Exs) (d : Dom) (e : Domain) → Fielded d →
+    domain_of (mset_dom ms es d) env ≡ Some e →
     no_negative_attribute e ≡ true → LaidOut env ReprKind.MSetExplicitWithFlags (mset_dom ms es d) e
 mset_flags-laid env ms es d e g h n =
     let p : Parts msets ms es d env e = mset-parts env ms es d e h n in
@@ -186,8 +203,10 @@ mset_flags-laid env ms es d e g h n =
     subst (LaidOut env ReprKind.MSetExplicitWithFlags (mset_dom ms es d)) p.set.whole (record {
       over = mset_flags_layer p.set.keys p.set.inner;
       there = refl;
-      own = own-fixed env (slot_axis (mset_dom ms es d)) (one_to m ∷ []) (from_to zero_ex (occurrences_ex ms es)) (up_to (occurrences p.set.keys)) r
-          (up_to-denotes env (occurrences_ex ms es) (occurrences p.set.keys) (occurrences-reads env ms es p.set.keys p.set.denoted p.keys-plain));
+      own = own-fixed env (slot_axis (mset_dom ms es d)) (one_to m ∷ []) (from_to zero_ex (occurrences_ex ms es))
+          (up_to (occurrences p.set.keys)) r
+          (up_to-denotes env (occurrences_ex ms es) (occurrences p.set.keys)
+          (occurrences-reads env ms es p.set.keys p.set.denoted p.keys-plain));
       axes = r;
       frees = refl;
       children = only d env p.set.inner p.set.part;

@@ -30,17 +30,24 @@ pub up_to-denotes : (env : Env) (e : Ex) (n : ℕ) → Reads e env (pos n) → d
 up_to-denotes env e n h = ap (λ o. option_map integers (and_then o (λ m. with_span (Some (pos 0)) (Some m) (Some [])))) h
 
 -- The slots of a set and of a multiset are read.
-pub set-slots : (env : Env) (ms : List Mark) (es : Exs) (d : Dom) (ks : List Attribute) (x : Domain) → attributes_of ms (meanings es env) ≡ Some ks →
-    not_below ks ≡ true → domain_of d env ≡ Some x → no_negative_attribute x ≡ true → Reads (slots_ex (set_dom ms es d)) env (pos (slots_of_set ks x))
+pub set-slots : (env : Env) (ms : List Mark) (es : Exs) (d : Dom) (ks : List Attribute) (x : Domain) →
+    attributes_of ms (meanings es env) ≡ Some ks →
+    not_below ks ≡ true → domain_of d env ≡ Some x → no_negative_attribute x ≡ true →
+    Reads (slots_ex (set_dom ms es d)) env (pos (slots_of_set ks x))
 set-slots env ms es d ks x a n h p =
-    default-numbered env (greatest_size_of ms es) (greatest_size ks) (bound_ex d) (bound x) (greatest-reads env ms es ks a n) (bound-is env d x h p)
+    default-numbered env (greatest_size_of ms es) (greatest_size ks) (bound_ex d) (bound x) (greatest-reads env ms es ks a n)
+    (bound-is env d x h p)
 
-pub mset-slots : (env : Env) (ms : List Mark) (es : Exs) (d : Dom) (ks : List Attribute) (x : Domain) → attributes_of ms (meanings es env) ≡ Some ks →
-    not_below ks ≡ true → domain_of d env ≡ Some x → no_negative_attribute x ≡ true → Reads (slots_ex (mset_dom ms es d)) env (pos (slots_of_mset ks x))
+pub mset-slots : (env : Env) (ms : List Mark) (es : Exs) (d : Dom) (ks : List Attribute) (x : Domain) →
+    attributes_of ms (meanings es env) ≡ Some ks →
+    not_below ks ≡ true → domain_of d env ≡ Some x → no_negative_attribute x ≡ true →
+    Reads (slots_ex (mset_dom ms es d)) env (pos (slots_of_mset ks x))
 mset-slots env ms es d ks x a n h p =
-    default-numbered env (greatest_size_of ms es) (greatest_size ks) (times_ex (occurrences_ex ms es) (bound_ex d)) (occurrences ks * bound x)
+    default-numbered env (greatest_size_of ms es) (greatest_size ks) (times_ex (occurrences_ex ms es) (bound_ex d))
+    (occurrences ks * bound x)
     (greatest-reads env ms es ks a n)
-    (times-reads env (occurrences_ex ms es) (bound_ex d) (occurrences ks) (bound x) (occurrences-reads env ms es ks a n) (bound-is env d x h p))
+    (times-reads env (occurrences_ex ms es) (bound_ex d) (occurrences ks) (bound x) (occurrences-reads env ms es ks a n)
+    (bound-is env d x h p))
 
 -- The axis of slots has the numbers from 1 on.
 pub slots-ranged : (env : Env) (d : Dom) (n : ℕ) → Reads (slots_ex d) env (pos n) → Ranged env (slot_axis d) (one_to n ∷ [])
@@ -77,25 +84,32 @@ range-and-number : (env : Env) (a b c : Ex) (x y z : ℤ) → Reads a env x → 
     domain_of (int_dom (both_ends ∷ one_value ∷ []) (more_exs a (more_exs b (more_exs c no_exs)))) env
     ≡ Some (integers (record { low = Some x; high = Some y } ∷ record { low = Some z; high = Some z } ∷ []))
 range-and-number env a b c x y z p q r =
-    ap (λ o. option_map integers (and_then o (λ m. and_then (as_int (meaning b env)) (λ n. with_span (Some m) (Some n) (and_then (as_int (meaning c env)) (λ k. with_span (Some k) (Some k) (Some []))))))) p
-    ∙ ap (λ o. option_map integers (and_then o (λ n. with_span (Some x) (Some n) (and_then (as_int (meaning c env)) (λ k. with_span (Some k) (Some k) (Some [])))))) q
+    ap (λ o. option_map integers (and_then o (λ m. and_then (as_int (meaning b env))
+    (λ n. with_span (Some m) (Some n) (and_then (as_int (meaning c env)) (λ k. with_span (Some k) (Some k) (Some []))))))) p
+    ∙ ap (λ o. option_map integers (and_then o (λ n. with_span (Some x) (Some n)
+    (and_then (as_int (meaning c env)) (λ k. with_span (Some k) (Some k) (Some [])))))) q
     ∙ ap (λ o. option_map integers (with_span (Some x) (Some y) (and_then o (λ k. with_span (Some k) (Some k) (Some []))))) r
 
 -- The cells of an atom and its dummy.
 pub dummy-denotes : (env : Env) (out : Bool) (d : Dom) (e : Domain) → has_dummy d ≡ true → domain_of d env ≡ Some e →
     domain_of (widened_if out (with_dummy d)) env ≡ Some (wide_if out (with_number (dummy_of e) (as_numbers e)))
 dummy-denotes env out (int_dom (both_ends ∷ []) (more_exs a (more_exs b no_exs))) e t h =
-    let m = mapped integers (and_then (as_int (meaning a env)) (λ x. and_then (as_int (meaning b env)) (λ y. with_span (Some x) (Some y) (Some [])))) e h in
-    let u = chained (as_int (meaning a env)) (λ x. and_then (as_int (meaning b env)) (λ y. with_span (Some x) (Some y) (Some []))) m.0 m.1 in
+    let m = mapped integers (and_then (as_int (meaning a env))
+    (λ x. and_then (as_int (meaning b env)) (λ y. with_span (Some x) (Some y) (Some [])))) e h in
+    let u = chained (as_int (meaning a env)) (λ x. and_then (as_int (meaning b env))
+    (λ y. with_span (Some x) (Some y) (Some []))) m.0 m.1 in
     let v = chained (as_int (meaning b env)) (λ y. with_span (Some u.0) (Some y) (Some [])) m.0 u.2 in
     let q : between u.0 v.0 ≡ e = let w = v.2 in let k = m.2 in cc in
-    widened_if-denotes env out (both_ends ∷ one_value ∷ []) (more_exs a (more_exs b (more_exs (next_ex (bound_or_0 b)) no_exs))) (with_number (dummy_of (between u.0 v.0)) (as_numbers (between u.0 v.0)))
-    (range-and-number env a b (next_ex (bound_or_0 b)) u.0 v.0 (v.0 +ℤ pos 1) u.1 v.1 (plus-reads env (bound_or_0 b) one_ex v.0 (pos 1) (bound-reads-same env b v.0 v.1) refl))
+    widened_if-denotes env out (both_ends ∷ one_value ∷ []) (more_exs a (more_exs b (more_exs (next_ex (bound_or_0 b)) no_exs)))
+    (with_number (dummy_of (between u.0 v.0)) (as_numbers (between u.0 v.0)))
+    (range-and-number env a b (next_ex (bound_or_0 b)) u.0 v.0 (v.0 +ℤ pos 1) u.1 v.1
+    (plus-reads env (bound_or_0 b) one_ex v.0 (pos 1) (bound-reads-same env b v.0 v.1) refl))
     ∙ ap (λ x. Some (wide_if out (with_number (dummy_of x) (as_numbers x)))) q
 dummy-denotes env out (int_dom (both_ends ∷ []) no_exs) e t h = cc
 dummy-denotes env out (int_dom (both_ends ∷ []) (more_exs a no_exs)) e t h = cc
 dummy-denotes env out (int_dom (both_ends ∷ []) (more_exs a (more_exs b (more_exs c es)))) e t h =
-    let m = mapped integers (and_then (as_int (meaning a env)) (λ x. and_then (as_int (meaning b env)) (λ y. with_span (Some x) (Some y) None))) e h in
+    let m = mapped integers (and_then (as_int (meaning a env))
+    (λ x. and_then (as_int (meaning b env)) (λ y. with_span (Some x) (Some y) None))) e h in
     let u = chained (as_int (meaning a env)) (λ x. and_then (as_int (meaning b env)) (λ y. with_span (Some x) (Some y) None)) m.0 m.1 in
     let v = chained (as_int (meaning b env)) (λ y. with_span (Some u.0) (Some y) None) m.0 u.2 in let w = v.2 in cc
 dummy-denotes env out (int_dom (both_ends ∷ r ∷ rs) es) e t h = cc
@@ -107,8 +121,10 @@ dummy-denotes env out (name_dom a) e t h =
     let k = named-as env a e h in
     let r : Reads (listed_ex (name_dom a)) env (pos k.0) = values-read env a e k.0 h k.1 in
     let l : Ex = listed_ex (name_dom a) in
-    widened_if-denotes env out (both_ends ∷ one_value ∷ []) (more_exs one_ex (more_exs l (more_exs (next_ex l) no_exs))) (with_number (Some (pos k.0 +ℤ pos 1)) (between (pos 1) (pos k.0)))
-    (range-and-number env one_ex l (next_ex l) (pos 1) (pos k.0) (pos k.0 +ℤ pos 1) refl r (plus-reads env l one_ex (pos k.0) (pos 1) r refl))
+    widened_if-denotes env out (both_ends ∷ one_value ∷ []) (more_exs one_ex (more_exs l (more_exs (next_ex l) no_exs)))
+    (with_number (Some (pos k.0 +ℤ pos 1)) (between (pos 1) (pos k.0)))
+    (range-and-number env one_ex l (next_ex l) (pos 1) (pos k.0) (pos k.0 +ℤ pos 1) refl r
+    (plus-reads env l one_ex (pos k.0) (pos 1) r refl))
     ∙ ap (λ x. Some (wide_if out (with_number (Some (pos k.0 +ℤ pos 1)) x))) (sym k.1.numbers)
     ∙ ap (λ o. Some (wide_if out (with_number o (as_numbers e)))) (sym k.1.dummy)
 dummy-denotes env out bool_dom e t h = cc

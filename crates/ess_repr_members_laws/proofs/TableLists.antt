@@ -57,7 +57,8 @@ each_of-append f (x ∷ xs) ys us vs p q =
     ∙ ap (λ l. Some (l ++ vs)) m.2
 
 -- Further axes stand in front of each table's.
-pub below-denoted : (env : Env) (n : Text) (as' : List Dom) (bs : Axes) → Ranged env as' bs → (ts : List TableDecl) (ds : List Declaration) →
+pub below-denoted : (env : Env) (n : Text) (as' : List Dom) (bs : Axes) → Ranged env as' bs →
+    (ts : List TableDecl) (ds : List Declaration) →
     Denoted env ts ds → Denoted env (map (below_layer n as') ts) (under bs ds)
 below-denoted env n as' bs r [] [] h = tt
 below-denoted env n as' bs r [] (d ∷ ds) h = absurd h
