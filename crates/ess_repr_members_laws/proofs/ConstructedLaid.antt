@@ -21,6 +21,7 @@ use Rattle.ess_repr_declare_laws.proofs.ChildDomainsDenoted.{SetOf, set-of, Func
 use Rattle.ess_repr_members_laws.specs.Fields.{Fielded, AllFielded}
 use Rattle.ess_repr_members_laws.proofs.LayerParts.{sizes-plain, pairs-plain, LaidOut}
 
+-- A function is kept as the relation of its pairs, a relation as the set of its tuples, a partition as the set of its parts.
 pub function_as_relation-laid : (env : Env) (ms : List Mark) (es : Exs) (d c : Dom) (e : Domain) → Whole ms es →
     Fielded (function_dom ms es d c) →
     domain_of (function_dom ms es d c) env ≡ Some e → no_negative_attribute e ≡ true →
@@ -41,7 +42,7 @@ function_as_relation-laid env ms es d c e w g h n =
       children = pairs-are-denoted ms es d c w env e o h (ap (λ x. layer ReprKind.FunctionAsRelation x) (sym f.whole)) n;
       plain = (
         and-both (not_below (pair_sizes f.keys f.first)) (no_negative_attribute f.first && (no_negative_attribute f.second && true))
-        (pairs-plain f.keys f.first)
+            (pairs-plain f.keys f.first)
             (and-both (no_negative_attribute f.first) (no_negative_attribute f.second && true)
             (and-right (not_below f.keys) (no_negative_attribute f.first) q)
             (and-both (no_negative_attribute f.second) true
@@ -70,7 +71,7 @@ relation_as_set-laid env ms es ts e g h n =
       children = tuples-are-denoted ms es ts env e o h (ap (λ x. layer ReprKind.RelationAsSet x) (sym m.2)) n;
       plain = (
         and-both (not_below s) (each_layer_of_all not_below m.0)
-        (sizes-plain (attribute Key.Size c.0) (attribute Key.MinSize c.0) (attribute Key.MaxSize c.0))
+            (sizes-plain (attribute Key.Size c.0) (attribute Key.MinSize c.0) (attribute Key.MaxSize c.0))
             (and-right (not_below c.0) (each_layer_of_all not_below m.0) p),
         tt,
       );
@@ -100,7 +101,7 @@ partition_as_set-laid env ms es d e w g h n =
       children = parts-are-denoted ms es d w env e o h (ap (λ x. layer ReprKind.PartitionAsSet x) (sym s.whole)) n;
       plain = (
         and-both (not_below u) (not_below v && no_negative_attribute s.inner)
-        (sizes-plain (attribute Key.NumParts s.keys) (attribute Key.MinNumParts s.keys) most)
+            (sizes-plain (attribute Key.NumParts s.keys) (attribute Key.MinNumParts s.keys) most)
             (and-both (not_below v) (no_negative_attribute s.inner)
             (sizes-plain (attribute Key.PartSize s.keys) (attribute Key.MinPartSize s.keys) (attribute Key.MaxPartSize s.keys))
             (and-right (not_below s.keys) (no_negative_attribute s.inner) p)),

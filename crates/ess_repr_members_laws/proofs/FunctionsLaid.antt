@@ -55,6 +55,7 @@ atom-ranged : (env : Env) (d : Dom) (x : Domain) → is_atom d ≡ true → doma
     Ranged env (axis_dom d ∷ []) (codes_of x ∷ [])
 atom-ranged env d x a h = one-axis env (axis_dom d) (codes_of x) (atom-axis env d x a h)
 
+-- The layer of each kind is laid out.
 pub function_1d-laid : (env : Env) (ms : List Mark) (es : Exs) (d c : Dom) (e : Domain) → is_atom d ≡ true → Fielded c →
     domain_of (function_dom ms es d c) env ≡ Some e →
     no_negative_attribute e ≡ true → LaidOut env ReprKind.Function1D (function_dom ms es d c) e
@@ -143,7 +144,7 @@ function_nd_partial-laid env ms es d c e a g h n =
       named = tt;
     })
 
--- ---- relations and partitions over atoms
+-- ---- relations and partitions over atoms: the layer of each kind is laid out
 
 pub relation_matrix-laid : (env : Env) (ms : List Mark) (es : Exs) (ts : Doms) (e : Domain) → are_atoms ts ≡ true →
     domain_of (relation_dom ms es ts) env ≡ Some e →

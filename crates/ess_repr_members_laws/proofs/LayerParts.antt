@@ -33,9 +33,10 @@ EachPlain (x ∷ xs) = (no_negative_attribute x ≡ true) × EachPlain xs
 
 pub all-plain : (xs : Domains) → each_layer_of_all not_below xs ≡ true → EachPlain (domain_list xs)
 all-plain no_domains h = tt
-all-plain (more_domains x xs) h =
-    (and-left (no_negative_attribute x) (each_layer_of_all not_below xs) h,
-    all-plain xs (and-right (no_negative_attribute x) (each_layer_of_all not_below xs) h))
+all-plain (more_domains x xs) h = (
+  and-left (no_negative_attribute x) (each_layer_of_all not_below xs) h,
+  all-plain xs (and-right (no_negative_attribute x) (each_layer_of_all not_below xs) h),
+)
 
 -- Each domain's records have their components.
 abbrev pub EachFielded : List Dom → Type 0

@@ -9,3 +9,4 @@ pub mod ConstructedLaid
 pub mod LayerCases
 pub mod DeclaredMembers
 pub mod ExamplesMembers
+pub mod PairedFields

@@ -41,6 +41,7 @@ bool-laid env e h =
       named = tt;
     })
 
+-- Numbers, and positions of a named type.
 pub int-laid : (env : Env) (rs : List Ends) (es : Exs) (e : Domain) → domain_of (int_dom rs es) env ≡ Some e →
     LaidOut env ReprKind.Atom (int_dom rs es) e
 int-laid env rs es e h =
@@ -68,7 +69,7 @@ name-laid env a e h =
       own = λ out. (
         refl,
         widened_if-denotes env out (both_ends ∷ []) (more_exs one_ex (more_exs (listed_ex (name_dom a)) no_exs))
-        (between (pos 1) (pos k.0)) u
+            (between (pos 1) (pos k.0)) u
             ∙ ap (λ x. Some (wide_if out x)) (sym k.1.celled),
         tt,
       );

@@ -60,7 +60,7 @@ mset-read : (env : Env) (ms : List Mark) (es : Exs) (d : Dom) (e : Domain) (p : 
     Reads (slots_ex (mset_dom ms es d)) env (pos (slots_of_mset p.set.keys p.set.inner))
 mset-read env ms es d e p = mset-slots env ms es d p.set.keys p.set.inner p.set.denoted p.keys-plain p.set.part p.inner-plain
 
--- ---- sets
+-- ---- sets: the layer of each kind is laid out
 
 pub occurrence-laid : (env : Env) (ms : List Mark) (es : Exs) (d : Dom) (e : Domain) → is_atom d ≡ true →
     domain_of (set_dom ms es d) env ≡ Some e →
@@ -151,7 +151,7 @@ dummy-laid env ms es d e a h n =
       named = tt;
     })
 
--- ---- multisets
+-- ---- multisets: the layer of each kind is laid out
 
 pub mset_occurrence-laid : (env : Env) (ms : List Mark) (es : Exs) (d : Dom) (e : Domain) → is_atom d ≡ true →
     domain_of (mset_dom ms es d) env ≡ Some e →
