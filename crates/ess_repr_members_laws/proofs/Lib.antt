@@ -1,0 +1,12 @@
+pub mod TableLists
+pub mod AtomAxes
+pub mod SizeDomains
+pub mod LayerParts
+pub mod ScalarsLaid
+pub mod SetsLaid
+pub mod FunctionsLaid
+pub mod ConstructedLaid
+pub mod LayerCases
+pub mod DeclaredMembers
+pub mod ExamplesMembers
+pub mod PairedFields

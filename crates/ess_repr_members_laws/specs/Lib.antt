@@ -1,0 +1,4 @@
+-- What is asked of records
+pub mod Fields
+-- What is proved
+pub mod Laws
