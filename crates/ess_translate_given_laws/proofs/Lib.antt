@@ -1,0 +1,3 @@
+pub mod ChosenReprs
+pub mod GivenPlans
+pub mod GivenTables
