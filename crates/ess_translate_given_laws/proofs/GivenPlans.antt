@@ -1,12 +1,12 @@
 -- Each plan of a given, and of the size of a given enumerated type, has its tables under a parameter.
-use Rattle.std.proofs.Common.{◌≡◌, refl, sym, ap, ◌∙◌, ℕ, Bool, true, false, ◌&&◌, ◌||◌, not, List, [], ◌∷◌, ◌++◌, length, pos, ◌⊎◌, inl, inr, Option, Some, None, option_map, arith}
+use Rattle.std.proofs.Common.{◌≡◌, refl, sym, ap, ◌∙◌, true, false, ◌&&◌, ◌||◌, not, List, [], ◌∷◌, ◌++◌, length, pos, ◌⊎◌, inl, inr, Some, option_map, arith}
 use Rattle.std.proofs.lemmas.Bool.{le-leb}
 use Rattle.ess_semantics.specs.Lists.{is_empty, list_or_none}
 use Rattle.ess_semantics.specs.Values.{Text}
-use Rattle.ess_semantics.specs.Names.{Names, look, keys, without}
+use Rattle.ess_semantics.specs.Names.{look, keys, without}
 use Rattle.ess_semantics.specs.Trees.{Repr, Dom, Stm, given, given_enum, let_ex, let_dom, let_enum, let_unnamed, needs, find, such_that, minimise, maximise}
 use Rattle.ess_semantics.specs.Membership.{member}
-use Rattle.ess_semantics.specs.Tables.{Table, Tables, one_cell}
+use Rattle.ess_semantics.specs.Tables.{Tables, one_cell}
 use Rattle.ess_semantics.specs.Declarations.{declarations}
 use Rattle.ess_semantics.specs.TableNames.{Named, table_names, named_tables}
 use Rattle.ess_semantics.specs.Meaning.{Env, domain_of}

@@ -1,21 +1,17 @@
 -- A parameter of a header of this tool has its given tables: those of its plans, one behind the other.
-use Rattle.std.proofs.Common.{◌≡◌, refl, sym, ap, ◌∙◌, true, List, [], ◌∷◌, Some, option_map}
+use Rattle.std.proofs.Common.{◌≡◌, sym, ap, ◌∙◌, true, List, [], ◌∷◌, Some, option_map}
 use Rattle.ess_semantics.specs.Lists.{append_all}
-use Rattle.ess_semantics.specs.Names.{Names}
 use Rattle.ess_semantics.specs.Trees.{Stm}
-use Rattle.ess_semantics.specs.Tables.{Table, Tables}
+use Rattle.ess_semantics.specs.Tables.{Tables}
 use Rattle.ess_semantics.specs.Contexts.{Each}
-use Rattle.ess_semantics.specs.Judgements.{fault}
 use Rattle.ess_semantics.specs.Assignments.{Assignment}
 use Rattle.ess_semantics.specs.Parameters.{Param}
-use Rattle.ess_semantics.specs.ModelTrees.{Header}
 use Rattle.ess_semantics.specs.Plans.{Options, givens_side, Plan, names_of_plan, plans_for, plans, declared_by_plan, name_tables, canonical_by_plan}
 use Rattle.conjure_laws.specs.SideBySide.{Along}
 use Rattle.conjure_laws.specs.Premises.{is_on, here, Settled, PlanFits, tables_are}
-use Rattle.conjure_laws.proofs.Lists.{all-items, in-filter, along-found, along-map, along-over, each-along, left-of}
+use Rattle.conjure_laws.proofs.Lists.{all-items, in-filter, along-found, along-map, each-along, left-of}
 use Rattle.conjure_laws.proofs.NamedTables.{chunks, AsMany, chunks-zip, all-join}
-use Rattle.ess_translate_header_laws.specs.Headers.{IsOurs}
-use Rattle.ess_translate_given_laws.specs.Ready.{Ready, HasCanonical, GivenTables}
+use Rattle.ess_translate_given_laws.specs.Ready.{HasCanonical, GivenTables}
 use Rattle.ess_translate_given_laws.specs.Laws.{GivenTablesAreThere}
 use Rattle.ess_translate_given_laws.proofs.ChosenReprs.{header-plans-fit}
 use Rattle.ess_translate_given_laws.proofs.GivenPlans.{PlanTables, plan-tables}

@@ -1,3 +1,5 @@
 pub mod ChosenReprs
 pub mod GivenPlans
 pub mod GivenTables
+pub mod ByPlans
+pub mod Counts

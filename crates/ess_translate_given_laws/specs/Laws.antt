@@ -1,11 +1,46 @@
 -- Laws of given tables, each stated at a function that does nothing, so that its proof is checked with the code.
+use Rattle.std.specs.Prelude.{◌≡◌, ◌+◌, List, [], ◌∷◌, ◌++◌, Some, option_map}
+use Rattle.ess_semantics.specs.Lists.{and_then}
+use Rattle.ess_semantics.specs.Values.{Text}
+use Rattle.ess_semantics.specs.Names.{Names}
+use Rattle.ess_semantics.specs.Trees.{Stm}
+use Rattle.ess_semantics.specs.Tables.{Table}
+use Rattle.ess_semantics.specs.Meaning.{Env}
 use Rattle.ess_semantics.specs.ModelTrees.{Header}
 use Rattle.ess_semantics.specs.Assignments.{Assignment}
 use Rattle.ess_semantics.specs.Parameters.{Param}
+use Rattle.ess_semantics.specs.Plans.{Options, Side, Plan, plans, declared_under, cells_of_name, canonical_tables}
+use Rattle.conjure_laws.specs.Premises.{here}
 use Rattle.ess_translate_header_laws.specs.Headers.{IsOurs}
 use Rattle.ess_translate_given_laws.specs.Ready.{Ready, GivenTables}
+use Rattle.ess_translate_given_laws.specs.ByPlans.{tables_on, tables_by_plans, declared_on, declared_by_plans, cells_on, cells_by_plans}
+use Rattle.ess_translate_given_laws.specs.Counts.{too_many, first_plan_above}
 
 -- A parameter of a header of this tool has its given tables.
 abbrev pub GivenTablesAreThere : Type 0
 GivenTablesAreThere = (H : Header) (p : Assignment) → IsOurs H → Ready H.statements → Param H.statements p →
     GivenTables H.statements H.reprs p
+
+-- Canonical tables, declarations and numbers of cells are those that the plans add one after the other. Each plan adds its own: to what
+-- plans before it have, and in front of what is still to come behind tables that are there.
+pub record PlansAddOneByOne : Type 0 where
+  pub tables : (f : Side) (S : List Stm) (o : Options) (p a : Assignment) →
+      canonical_tables f S o p a ≡ tables_by_plans f (here S p) a (plans S o)
+  pub declared : (f : Side) (S : List Stm) (o : Options) (p : Assignment) →
+      declared_under f S o p ≡ declared_by_plans f (here S p) (plans S o)
+  pub cells : (S : List Stm) (o : Options) (p : Assignment) (x : Text) → cells_of_name S o p x ≡ cells_by_plans x (here S p) (plans S o)
+  pub tables_more : (f : Side) (env : Env) (a : Assignment) (q c : Names Table) (P : Plan) (Ps : List Plan) →
+      tables_on f env a P ≡ Some c →
+      option_map (λ d. q ++ d) (tables_by_plans f env a (P ∷ Ps)) ≡ option_map (λ d. (q ++ c) ++ d) (tables_by_plans f env a Ps)
+  pub tables_behind : (f : Side) (env : Env) (a : Assignment) (Ps : List Plan) (P : Plan) →
+      tables_by_plans f env a (Ps ++ (P ∷ [])) ≡
+      and_then (tables_by_plans f env a Ps) (λ q. option_map (λ c. q ++ c) (tables_on f env a P))
+  pub declared_behind : (f : Side) (env : Env) (Ps : List Plan) (P : Plan) →
+      declared_by_plans f env (Ps ++ (P ∷ [])) ≡ declared_by_plans f env Ps ++ declared_on f env P
+  pub cells_behind : (x : Text) (env : Env) (Ps : List Plan) (P : Plan) →
+      cells_by_plans x env (Ps ++ (P ∷ [])) ≡ cells_by_plans x env Ps + cells_on x env P
+
+-- The first given or find of a header of this tool that has too many cells is the name of the first plan whose name has.
+abbrev pub TooManyByPlans : Type 0
+TooManyByPlans = (H : Header) (p : Assignment) → IsOurs H →
+    too_many H p ≡ first_plan_above (cells_of_name H.statements H.reprs p) (plans H.statements H.reprs)

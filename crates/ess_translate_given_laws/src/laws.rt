@@ -1,8 +1,18 @@
 //! Laws of given tables, each the contract of a function that does nothing.
 
-ghost use Rattle.ess_translate_given_laws.specs.Laws.{GivenTablesAreThere};
+ghost use Rattle.ess_translate_given_laws.specs.Laws.{GivenTablesAreThere, PlansAddOneByOne, TooManyByPlans};
 
 /// A parameter of a header of this tool has its given tables, and each plan of a given its own among them.
 pub fn given_tables_are_there()
     ensures { GivenTablesAreThere }
+{}
+
+/// Tables, declarations and numbers of cells are what the plans add one after the other.
+pub fn plans_add_one_by_one()
+    ensures { PlansAddOneByOne }
+{}
+
+/// The first given or find with too many cells is found plan by plan.
+pub fn too_many_by_plans()
+    ensures { TooManyByPlans }
 {}
