@@ -3,3 +3,5 @@ pub mod GivenPlans
 pub mod GivenTables
 pub mod ByPlans
 pub mod Counts
+pub mod Printable
+pub mod Printed

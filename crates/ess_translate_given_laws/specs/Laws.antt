@@ -1,19 +1,27 @@
 -- Laws of given tables, each stated at a function that does nothing, so that its proof is checked with the code.
-use Rattle.std.specs.Prelude.{◌≡◌, ◌+◌, List, [], ◌∷◌, ◌++◌, Some, option_map}
+use Rattle.std.specs.Prelude.{◌≡◌, true, ◌+◌, List, [], ◌∷◌, ◌++◌, Some, option_map}
 use Rattle.ess_semantics.specs.Lists.{and_then}
 use Rattle.ess_semantics.specs.Values.{Text}
 use Rattle.ess_semantics.specs.Names.{Names}
 use Rattle.ess_semantics.specs.Trees.{Stm}
 use Rattle.ess_semantics.specs.Tables.{Table}
+use Rattle.ess_semantics.specs.DeclaredTables.{TableDecl, DeclaredAs}
+use Rattle.ess_semantics.specs.ModelMeaning.{model_domain}
+use Rattle.ess_semantics.specs.Satisfaction.{tables_fit}
 use Rattle.ess_semantics.specs.Meaning.{Env}
-use Rattle.ess_semantics.specs.ModelTrees.{Header}
+use Rattle.ess_semantics.specs.ModelTrees.{Header, Model, all_decls}
 use Rattle.ess_semantics.specs.Assignments.{Assignment}
 use Rattle.ess_semantics.specs.Parameters.{Param}
-use Rattle.ess_semantics.specs.Plans.{Options, Side, Plan, plans, declared_under, cells_of_name, canonical_tables}
+use Rattle.ess_semantics.specs.Plans.{givens_side, given_tables, Options, Side, Plan, plans, declared_under, cells_of_name, canonical_tables}
+use Rattle.ess_grammar.specs.Models.{is_readable_model}
+use Rattle.eprime_cells_laws.specs.CellsText.{cells_text}
+use Rattle.eprime_cells_laws.specs.Laws.{are_printable_tables, ReadsAsTables}
 use Rattle.conjure_laws.specs.Premises.{here}
+use Rattle.ess_translate_tables_laws.specs.HeaderTables.{DeclaresTables}
 use Rattle.ess_translate_header_laws.specs.Headers.{IsOurs}
 use Rattle.ess_translate_given_laws.specs.Ready.{Ready, GivenTables}
 use Rattle.ess_translate_given_laws.specs.ByPlans.{tables_on, tables_by_plans, declared_on, declared_by_plans, cells_on, cells_by_plans}
+use Rattle.ess_translate_given_laws.specs.Printable.{are_in_64_bits}
 use Rattle.ess_translate_given_laws.specs.Counts.{too_many, first_plan_above}
 
 -- A parameter of a header of this tool has its given tables.
@@ -44,3 +52,15 @@ pub record PlansAddOneByOne : Type 0 where
 abbrev pub TooManyByPlans : Type 0
 TooManyByPlans = (H : Header) (p : Assignment) → IsOurs H →
     too_many H p ≡ first_plan_above (cells_of_name H.statements H.reprs p) (plans H.statements H.reprs)
+
+-- The given tables of a parameter fit the declarations of a model that declares the header's tables with their members. Tables that fit
+-- the given declarations of a model that some text has, with numbers in 64 bits, may be printed: their text is read as them.
+pub record GivenTablesArePrinted : Type 0 where
+  pub fit : (H : Header) (E : Model) (p : Assignment) (q : Names Table) → IsOurs H → Ready H.statements → Param H.statements p →
+      DeclaresTables H E → given_tables H.statements H.reprs p ≡ Some q →
+      DeclaredAs (model_domain (all_decls E) q) E.givens (declared_under givens_side H.statements H.reprs p) →
+      tables_fit (all_decls E) q E.givens q ≡ true
+  pub printable : (E : Model) (known : List TableDecl) (q c : Names Table) → is_readable_model E ≡ true →
+      tables_fit known q E.givens c ≡ true → are_in_64_bits c ≡ true → are_printable_tables c ≡ true
+  pub read : (E : Model) (known : List TableDecl) (q c : Names Table) → is_readable_model E ≡ true →
+      tables_fit known q E.givens c ≡ true → are_in_64_bits c ≡ true → ReadsAsTables (cells_text E.givens c) known q E.givens c
