@@ -5,3 +5,4 @@ pub mod ByPlans
 pub mod Counts
 pub mod Printable
 pub mod Printed
+mod ExamplesGiven
