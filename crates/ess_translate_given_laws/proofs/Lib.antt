@@ -1,4 +1,5 @@
 pub mod ChosenReprs
+pub mod ReadyHeaders
 pub mod GivenPlans
 pub mod GivenTables
 pub mod ByPlans

@@ -10,19 +10,27 @@ use Rattle.ess_semantics.specs.ModelMeaning.{model_domain}
 use Rattle.ess_semantics.specs.Satisfaction.{tables_fit}
 use Rattle.ess_semantics.specs.Meaning.{Env}
 use Rattle.ess_semantics.specs.ModelTrees.{Header, Model, all_decls}
+use Rattle.ess_semantics.specs.Contexts.{Each}
 use Rattle.ess_semantics.specs.Assignments.{Assignment}
 use Rattle.ess_semantics.specs.Parameters.{Param}
-use Rattle.ess_semantics.specs.Plans.{givens_side, given_tables, Options, Side, Plan, plans, declared_under, cells_of_name, canonical_tables}
+use Rattle.ess_semantics.specs.Plans.{kept_names, givens_side, given_tables, Options, Side, Plan, plans, declared_under, cells_of_name, canonical_tables}
 use Rattle.ess_grammar.specs.Models.{is_readable_model}
 use Rattle.eprime_cells_laws.specs.CellsText.{cells_text}
 use Rattle.eprime_cells_laws.specs.Laws.{are_printable_tables, ReadsAsTables}
-use Rattle.conjure_laws.specs.Premises.{here}
+use Rattle.conjure_laws.specs.Fields.{HasItsFields, PlainMarks}
+use Rattle.conjure_laws.specs.Premises.{here, Settled, PlanFits}
 use Rattle.ess_translate_tables_laws.specs.HeaderTables.{DeclaresTables}
 use Rattle.ess_translate_header_laws.specs.Headers.{IsOurs}
 use Rattle.ess_translate_given_laws.specs.Ready.{Ready, GivenTables}
 use Rattle.ess_translate_given_laws.specs.ByPlans.{tables_on, tables_by_plans, declared_on, declared_by_plans, cells_on, cells_by_plans}
 use Rattle.ess_translate_given_laws.specs.Printable.{are_in_64_bits}
 use Rattle.ess_translate_given_laws.specs.Counts.{too_many, first_plan_above}
+
+-- Each plan of a header of this tool fits its domain. Where no relation has an attribute without a number the domains are typed.
+pub record HeadersFit : Type 0 where
+  pub plans_fit : (H : Header) → IsOurs H → Ready H.statements → Each (plans H.statements H.reprs) (PlanFits H.statements)
+  pub plain : (H : Header) → IsOurs H → Settled H.statements → Each H.statements HasItsFields →
+      Each (kept_names H.statements) (λ x. PlainMarks x.1) → Ready H.statements
 
 -- A parameter of a header of this tool has its given tables.
 abbrev pub GivenTablesAreThere : Type 0

@@ -1,6 +1,11 @@
 //! Laws of given tables, each the contract of a function that does nothing.
 
-ghost use Rattle.ess_translate_given_laws.specs.Laws.{GivenTablesAreThere, PlansAddOneByOne, TooManyByPlans, GivenTablesArePrinted};
+ghost use Rattle.ess_translate_given_laws.specs.Laws.{HeadersFit, GivenTablesAreThere, PlansAddOneByOne, TooManyByPlans, GivenTablesArePrinted};
+
+/// Each plan of a header of this tool fits its domain.
+pub fn headers_fit()
+    ensures { HeadersFit }
+{}
 
 /// A parameter of a header of this tool has its given tables, and each plan of a given its own among them.
 pub fn given_tables_are_there()
