@@ -13,7 +13,7 @@ use Rattle.ess_semantics.specs.Trees.{Repr, Reprs, repr, no_reprs, more_reprs, M
 use Rattle.ess_semantics.specs.Domains.{numbered, Domain, Domains, no_domains, more_domains, tuples, records, matrices, sets, msets, functions, relations, partitions, domain_list}
 use Rattle.ess_semantics.specs.Meaning.{Env, as_int}
 use Rattle.ess_semantics.proofs.Tests.{and-left, and-right}
-use Rattle.ess_repr_laws.specs.StructureParts.{tuple_set_dom, keys_ex}
+use Rattle.ess_repr_laws.specs.StructureParts.{tuple_set_dom}
 use Rattle.ess_repr_laws.specs.StructureMeaning.{Bound, M, Number, Attributes, index_members}
 use Rattle.ess_repr_laws.specs.StructureReady.{Ready, AllReady}
 use Rattle.ess_repr_laws.specs.ViewParts.{pair_relation_dom, part_set_dom}

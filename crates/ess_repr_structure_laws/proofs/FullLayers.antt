@@ -1,5 +1,5 @@
 -- Tables that fit are full for the structures of functions over their views, and of partitions by numbers.
-use Rattle.std.proofs.Common.{◌≡◌, refl, ℕ, suc, ◌<◌, Bool, true, false, List, [], ◌∷◌, ◌++◌, map, drop, length, ℤ, pos, Some, is_some}
+use Rattle.std.proofs.Common.{◌≡◌, refl, ℕ, suc, ◌<◌, true, false, List, [], ◌∷◌, ◌++◌, drop, length, ℤ, pos, Some, is_some}
 use Rattle.ess_semantics.specs.declared.words.Op2.{Op2}
 use Rattle.ess_semantics.specs.declared.words.Fun.{Fun}
 use Rattle.ess_semantics.specs.declared.words.ReprKind.{ReprKind}
@@ -12,7 +12,6 @@ use Rattle.ess_semantics.specs.Trees.{Mark, Repr, repr, no_reprs, more_reprs, Ex
 use Rattle.ess_semantics.specs.Domains.{Attribute, Domain, Domains, tuples, functions, partitions, member_list, members}
 use Rattle.ess_semantics.specs.Atoms.{IsAtom, AreAtoms}
 use Rattle.ess_semantics.specs.Tables.{Table, Tables, code, cell_at}
-use Rattle.ess_semantics.specs.Cells.{every_cell}
 use Rattle.ess_semantics.specs.Meaning.{Env}
 use Rattle.ess_semantics.specs.Full.{Full}
 use Rattle.ess_semantics.specs.Occurrences.{has_cells}
@@ -26,7 +25,7 @@ use Rattle.ess_repr_laws.proofs.StructureMatrices.{axes-even}
 use Rattle.ess_repr_laws.proofs.StructureNumbered.{numbered-structure, listed-complete}
 use Rattle.ess_repr_laws.proofs.StructureOf.{StructureOf}
 use Rattle.ess_repr_laws.proofs.StructurePartial.{partial-1d-structure, partial-nd-structure}
-use Rattle.ess_repr_laws.proofs.StructureRows.{Steady, grid_at, steady-more, steady-name}
+use Rattle.ess_repr_laws.proofs.StructureRows.{Steady, steady-more, steady-name}
 use Rattle.ess_repr_declare_laws.specs.SizeTerms.{size_terms}
 use Rattle.ess_repr_structure_laws.proofs.BuiltStructures as B
 use Rattle.ess_repr_structure_laws.proofs.MetParts.{Any}
@@ -143,9 +142,12 @@ module _ (env0 : Env) (q : ℕ → Text) (q-apart : (m l : ℕ) → l < m → sa
           (ex2 true Op2.Eq (part_number_ex q l w is) (ex2 false Op2.Plus (part_number_ex q (suc l) w is) (number_ex (pos 1))))
           ((l, v) ∷ bs) (B.good-has Anywhere Any d g.1) (ax.0 ((l, v) ∷ bs))
           (all-of-map (member_list x) (λ v. is_some (cell_at u (i ++ (code v ∷ []))) ≡ true) _
-          (λ z k. λ o. (test z o, reached (has_cells (ex2 true Op2.Lt (name_ex (q (suc l))) (name_ex (q l))))
-              (ex2 true Op2.Lt (name_ex (q (suc l))) (name_ex (q l))) (two z) _
-              (let f = part z k in f.full o))) c))
+          (λ z k. λ o. (
+            test z o,
+            reached (has_cells (ex2 true Op2.Lt (name_ex (q (suc l))) (name_ex (q l))))
+                (ex2 true Op2.Lt (name_ex (q (suc l))) (name_ex (q l))) (two z) _
+                (let f = part z k in f.full o),
+          )) c))
         where
           two : Value → Env
           two z = N ((suc l, z) ∷ (l, v) ∷ bs)

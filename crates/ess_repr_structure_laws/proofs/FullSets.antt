@@ -1,24 +1,24 @@
 -- Tables that fit are full for the structures of sets and multisets.
-use Rattle.std.proofs.Common.{◌≡◌, refl, sym, ap, ◌∙◌, ℕ, suc, ◌+◌, ◌≤◌, ◌<◌, Bool, true, false, List, [], ◌∷◌, map, drop, ℤ, pos, Some, arith}
+use Rattle.std.proofs.Common.{◌≡◌, ℕ, suc, ◌+◌, ◌≤◌, ◌<◌, true, false, List, [], ◌∷◌, drop, ℤ, pos, arith}
 use Rattle.ess_semantics.specs.declared.words.Op1.{Op1}
 use Rattle.ess_semantics.specs.declared.words.Op2.{Op2}
 use Rattle.ess_semantics.specs.declared.words.Fun.{Fun}
 use Rattle.ess_semantics.specs.declared.words.Key.{Key}
 use Rattle.ess_semantics.specs.declared.words.ReprKind.{ReprKind}
-use Rattle.ess_semantics.specs.Values.{Text, Value, number}
+use Rattle.ess_semantics.specs.Values.{Text, number}
 use Rattle.ess_semantics.specs.Order.{same_text}
 use Rattle.ess_semantics.specs.Sizes.{slots_of_set, slots_of_mset}
-use Rattle.ess_semantics.specs.Trees.{word, unary, Mark, valued, Repr, repr, no_reprs, more_reprs, Ex, Exs, number_ex, name_ex, cell_ex, no_exs, more_exs, Dom, set_dom, mset_dom}
+use Rattle.ess_semantics.specs.Trees.{word, unary, Mark, Repr, repr, no_reprs, more_reprs, Ex, Exs, number_ex, name_ex, cell_ex, Dom, set_dom, mset_dom}
 use Rattle.ess_semantics.specs.Domains.{Attribute, numbered, Domain, sets, msets, member_list}
-use Rattle.ess_semantics.specs.Tables.{Tables, Table}
-use Rattle.ess_semantics.specs.Meaning.{Env, as_int, meaning}
+use Rattle.ess_semantics.specs.Tables.{Tables}
+use Rattle.ess_semantics.specs.Meaning.{Env}
 use Rattle.ess_repr_laws.specs.MultisetParts.{bare_mset_dom}
-use Rattle.ess_repr_laws.specs.StructureParts.{Shape, add_ex, le_ex, upto, on_axes, own_shape, first_name, next_ex, less_ex, at_most_ex, dummy_ex}
+use Rattle.ess_repr_laws.specs.StructureParts.{Shape, add_ex, le_ex, upto, own_shape, first_name, next_ex}
 use Rattle.ess_repr_laws.specs.Structure.{shapes, structure}
-use Rattle.ess_repr_laws.specs.StructureMeaning.{Bound, M, Number, Placed, DomainIs, SlotsAre, axes_members, slot_numbers, fit}
+use Rattle.ess_repr_laws.specs.StructureMeaning.{Bound, M, Placed, DomainIs, SlotsAre, axes_members, slot_numbers, fit}
 use Rattle.ess_repr_laws.proofs.StructureOf.{StructureOf}
 use Rattle.ess_repr_laws.proofs.StructureRows.{Steady, There, steady-more}
-use Rattle.ess_repr_declare_laws.specs.SizeTerms.{slots_ex, inside_ex, size_terms}
+use Rattle.ess_repr_declare_laws.specs.SizeTerms.{slots_ex, size_terms}
 use Rattle.ess_repr_structure_laws.proofs.BuiltShapes as S'
 use Rattle.ess_repr_structure_laws.proofs.BuiltShapes.{AxesHave}
 use Rattle.ess_repr_structure_laws.proofs.BuiltStructures as B
@@ -121,11 +121,11 @@ module _ (env0 : Env) (q : ℕ → Text) (q-apart : (m l : ℕ) → l < m → sa
         (two-full (N cs) true Op2.Eq (size_terms.dummy d) _ (in-here (size_terms.dummy d) (N cs) df) c))))
         (each-pair-full env0 q q-apart l size _ S bs (sl bs) size-free
         (λ k x y. let z : B' = (l, number (pos k)) ∷ bs in
-            two-full (N z) true Op2.Or _ _ (two-full (N z) true Op2.Eq (size_terms.dummy d) _ (in-here (size_terms.dummy d) (N z) df)
-            (next-full env0 q q-apart false n t S (fit false) l is i bs p.0 th.0 st a k x y))
-            (two-full (N z) true Op2.Lt _ _
-            (here-full env0 q q-apart false n t S (fit false) l is i bs p.0 th.0 st a k x (omega (arith, y)))
-            (next-full env0 q q-apart false n t S (fit false) l is i bs p.0 th.0 st a k x y)))))
+        two-full (N z) true Op2.Or _ _ (two-full (N z) true Op2.Eq (size_terms.dummy d) _ (in-here (size_terms.dummy d) (N z) df)
+        (next-full env0 q q-apart false n t S (fit false) l is i bs p.0 th.0 st a k x y))
+        (two-full (N z) true Op2.Lt _ _
+        (here-full env0 q q-apart false n t S (fit false) l is i bs p.0 th.0 st a k x (omega (arith, y)))
+        (next-full env0 q q-apart false n t S (fit false) l is i bs p.0 th.0 st a k x y)))))
         (size-full (N bs) ms es _ g.0 (fold-full env0 q q-apart false Fun.Sum _ bs
         (of-cells env0 q q-apart l false n t (upto size ∷ []) (slot_numbers S) is i bs _ (fit false) p.0 p.1
         ((number-anywhere (pos 1), (size-free, tt)), tt) a th.0 st

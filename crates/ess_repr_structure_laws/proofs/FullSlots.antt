@@ -1,5 +1,5 @@
 -- Tables that fit are full for what is said of slots.
-use Rattle.std.proofs.Common.{◌≡◌, refl, sym, ap, ◌∙◌, subst, ℕ, zero, suc, ◌+◌, ◌≤◌, ◌<◌, Bool, true, false, List, [], ◌∷◌, ◌++◌, map, ℤ, pos, ◌+ℤ◌, ◌-ℤ◌, Some, option_map, arith}
+use Rattle.std.proofs.Common.{◌≡◌, refl, sym, ap, ◌∙◌, subst, ℕ, zero, suc, ◌+◌, ◌≤◌, ◌<◌, true, false, List, [], ◌∷◌, ◌++◌, map, ℤ, pos, ◌+ℤ◌, ◌-ℤ◌, Some, option_map, arith}
 use Rattle.std.proofs.lemmas.Int.{ints}
 use Rattle.ess_semantics.specs.declared.words.Op1.{Op1}
 use Rattle.ess_semantics.specs.declared.words.Op2.{Op2}
@@ -15,11 +15,11 @@ use Rattle.ess_semantics.specs.Contexts.{Each, EachOf}
 use Rattle.ess_semantics.specs.Trees.{both_ends, unary, name_pat, Ex, Exs, number_ex, name_ex, comp_ex, Gens, no_gens, over, cond, Dom, ex1}
 use Rattle.ess_semantics.specs.Domains.{integers, interval}
 use Rattle.ess_semantics.specs.Tables.{Tables}
-use Rattle.ess_semantics.specs.Meaning.{Env, meaning, spans_of, members_in, domain_of}
+use Rattle.ess_semantics.specs.Meaning.{Env, spans_of, members_in, domain_of}
 use Rattle.ess_semantics.specs.Full.{Full, FullUnder}
 use Rattle.ess_semantics.specs.Occurrences.{has_cells}
 use Rattle.ess_semantics.proofs.Connectives.{binary-means}
-use Rattle.ess_repr_laws.specs.StructureParts.{Shape, add_ex, and_ex, le_ex, implies_ex, upto, less_ex, at_most_ex, zeros_ex, over_slots, next_ex, pairs_dom, over_pairs, each_pair, slots_ex, use_ex, first_ex}
+use Rattle.ess_repr_laws.specs.StructureParts.{Shape, add_ex, le_ex, implies_ex, upto, less_ex, at_most_ex, zeros_ex, over_slots, next_ex, pairs_dom, over_pairs, each_pair, slots_ex, use_ex, first_ex}
 use Rattle.ess_repr_laws.specs.StructureMeaning.{Bound, M, Number, Placed}
 use Rattle.ess_repr_laws.proofs.StructureRows.{Steady, There, steady-name}
 use Rattle.ess_repr_laws.proofs.StructureSlots.{members-ones}
@@ -68,8 +68,8 @@ module _ (env0 : Env) (q : ℕ → Text) (q-apart : (m l : ℕ) → l < m → sa
       FullIn (comp_ex part (over (name_pat (q l)) D gs)) (N bs)
   run-full l D gs part m bs a e f = record {
     full = λ g. (
-        dom-anywhere D a g (N bs),
-        subst (λ o. EachOf o (K g)) (sym e) (run g 1 m (λ k x y. f k x y (bind_types (name_pat (q l)) (type_of_dom D) g))),
+      dom-anywhere D a g (N bs),
+      subst (λ o. EachOf o (K g)) (sym e) (run g 1 m (λ k x y. f k x y (bind_types (name_pat (q l)) (type_of_dom D) g))),
     );
   }
     where

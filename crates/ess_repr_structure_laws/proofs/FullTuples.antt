@@ -1,5 +1,5 @@
 -- Tables that fit are full for the structures of tuples and records: for those of each component.
-use Rattle.std.proofs.Common.{◌≡◌, refl, sym, ap, ◌∙◌, subst, ℕ, ◌<◌, Bool, true, false, List, [], ◌∷◌, ◌++◌, take, drop, length, ℤ}
+use Rattle.std.proofs.Common.{◌≡◌, sym, ap, ◌∙◌, subst, ℕ, ◌<◌, true, false, List, [], ◌∷◌, ◌++◌, take, drop, length, ℤ}
 use Rattle.ess_semantics.specs.declared.words.Op2.{Op2}
 use Rattle.ess_semantics.specs.Values.{Text, Value}
 use Rattle.ess_semantics.specs.Order.{same_text}
