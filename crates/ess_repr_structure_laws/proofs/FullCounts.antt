@@ -34,7 +34,8 @@ module _ (env : Env) where
   le-full a b g h = two-full env true Op2.Le a b g h
 
   ranges-full : (rs : List Ends) (es : Exs) (x : Ex) → B.AllHave Anywhere es → F x → F (in_ranges_ex rs es x)
-  ranges-full (one_value ∷ rs) (more_exs a es) x h p = or-full _ _ (two-full env true Op2.Eq x a p (in-here a env h.0)) (ranges-full rs es x h.1 p)
+  ranges-full (one_value ∷ rs) (more_exs a es) x h p = or-full _ _ (two-full env true Op2.Eq x a p (in-here a env h.0))
+      (ranges-full rs es x h.1 p)
   ranges-full (both_ends ∷ rs) (more_exs a (more_exs b es)) x h p =
       or-full _ _ (two-full env true Op2.And _ _ (le-full a x (in-here a env h.0) p) (le-full x b p (in-here b env h.1.0)))
       (ranges-full rs es x h.1.1 p)
@@ -76,7 +77,8 @@ module _ (env0 : Env) (q : ℕ → Text) (q-apart : (m l : ℕ) → l < m → sa
   N = M env0 q q-apart
 
   -- How many places there are.
-  pub place-count-full : (l : ℕ) (as' : List Dom) (vss : List (List Value)) (is : Exs) (i : List ℤ) (bs : B') → AxesAre env0 q q-apart as' vss
+  pub place-count-full : (l : ℕ) (as' : List Dom) (vss : List (List Value)) (is : Exs) (i : List ℤ) (bs : B') →
+      AxesAre env0 q q-apart as' vss
       → B.ListHas Anywhere as' → Steady env0 q q-apart l is i bs → FullIn (place_count_ex q l as') (N bs)
   place-count-full l as' vss is i bs ax m st =
       fold-full env0 q q-apart false Fun.Sum _ bs (places-full env0 q q-apart l as' vss is i bs (number_ex (pos 1)) ax m st

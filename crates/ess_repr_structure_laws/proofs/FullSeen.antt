@@ -163,7 +163,8 @@ module _ (env0 : Env) (q : ℕ → Text) (q-apart : (m l : ℕ) → l < m → sa
     if-full true x y g h = g
     if-full false x y g h = h
 
-    pub pairs-full : (ms : List Mark) (es : Exs) (d c : Dom) → B.AllHave Anywhere es → B.DomHas Anywhere c → FullIn (pairs_ex q l ms es d c e)
+    pub pairs-full : (ms : List Mark) (es : Exs) (d c : Dom) → B.AllHave Anywhere es → B.DomHas Anywhere c →
+        FullIn (pairs_ex q l ms es d c e)
         (N bs)
     pairs-full ms es d c a x =
         two-full (N bs) true Op2.And _ _ (differ-full d 1)
@@ -191,7 +192,8 @@ module _ (env0 : Env) (q : ℕ → Text) (q-apart : (m l : ℕ) → l < m → sa
     pub parts-full : (ms : List Mark) (d : Dom) → B.DomHas Anywhere d → FullIn (parts_ex q l ms d e) (N bs)
     parts-full ms d a =
         two-full (N bs) true Op2.And _ _
-        (fold true Fun.And _ bs (members-full l d _ bs a (λ v. two-full (N ((l, v) ∷ bs)) true Op2.Eq (times_held_ex q l e) (number_ex (pos 1))
+        (fold true Fun.And _ bs (members-full l d _ bs a (λ v. two-full (N ((l, v) ∷ bs)) true Op2.Eq (times_held_ex q l e) (number_ex
+            (pos 1))
         (fold false Fun.Sum _ ((l, v) ∷ bs) (items-full (suc l) e _ ((l, v) ∷ bs) (seen-one l bs e s v)
         (λ w. fold false Fun.ToInt _ ((suc l, w) ∷ (l, v) ∷ bs)
         (two-full (N ((suc l, w) ∷ (l, v) ∷ bs)) true Op2.Member _ _ (name-full l ((suc l, w) ∷ (l, v) ∷ bs))

@@ -31,7 +31,8 @@ use Rattle.ess_repr_structure_laws.proofs.FullSeen.{view-full, occurs-full}
 use Rattle.ess_repr_structure_laws.proofs.FullKinds.{FullOf, own-cell-full, slot-full, slot-there, slots-placed, here-full, next-full}
 
 -- The axes of a view's tables read no table.
-pub axes-free : (q : ℕ → Text) (r : Repr) (d : Dom) (ns : List Text) → B.Good Anywhere Any d → AxesHave Anywhere (shapes q size_terms r d ns)
+pub axes-free : (q : ℕ → Text) (r : Repr) (d : Dom) (ns : List Text) → B.Good Anywhere Any d →
+    AxesHave Anywhere (shapes q size_terms r d ns)
 axes-free q r d ns g = S'.shapes-have q Anywhere Any sized-anywhere r d ns g
 
 module _ (env0 : Env) (q : ℕ → Text) (q-apart : (m l : ℕ) → l < m → same_text (q m) (q l) ≡ false) where
@@ -49,7 +50,8 @@ module _ (env0 : Env) (q : ℕ → Text) (q-apart : (m l : ℕ) → l < m → sa
     where
       at : (ns : List Text) (ts : Tables) (l : ℕ) (is : Exs) (i : List ℤ) (bs : B') → Placed env0 q q-apart
           (shapes q size_terms (repr ReprKind.Atom no_reprs) d ns) (axes_members (repr ReprKind.Atom no_reprs) e) ts →
-          There env0 q q-apart (shapes q size_terms (repr ReprKind.Atom no_reprs) d ns) (axes_members (repr ReprKind.Atom no_reprs) e) ts i →
+          There env0 q q-apart (shapes q size_terms (repr ReprKind.Atom no_reprs) d ns) (axes_members
+              (repr ReprKind.Atom no_reprs) e) ts i →
           Steady env0 q q-apart l is i bs → B.AllHave Anywhere is →
           FullIn (structure q size_terms (repr ReprKind.Atom no_reprs) d ns l is) (N bs)
       at ns [] l is i bs p th st a = absurd p
@@ -115,7 +117,8 @@ module _ (env0 : Env) (q : ℕ → Text) (q-apart : (m l : ℕ) → l < m → sa
         let df : Anywhere (size_terms.dummy d) = dummy-anywhere d g.1 in
         two-full (N bs) true Op2.And _ _
         (two-full (N bs) true Op2.And _ _
-        (fold-full env0 q q-apart true Fun.And _ bs (of-cells env0 q q-apart l false n t (upto size ∷ []) (slot_numbers S) is i bs _ (fit false) p.0 p.1
+        (fold-full env0 q q-apart true Fun.And _ bs (of-cells env0 q q-apart l false n t (upto size ∷ []) (slot_numbers S) is i bs _
+            (fit false) p.0 p.1
         ((number-anywhere (pos 1), (size-free, tt)), tt) a th.0 st
         (λ cs c. two-full (N cs) true Op2.Or _ _ (inside-full (N cs) d _ g.1 c)
         (two-full (N cs) true Op2.Eq (size_terms.dummy d) _ (in-here (size_terms.dummy d) (N cs) df) c))))
@@ -164,7 +167,8 @@ module _ (env0 : Env) (q : ℕ → Text) (q-apart : (m l : ℕ) → l < m → sa
           (steady-more env0 q q-apart l (number (pos k)) is i bs st) a)
           (slot-full env0 q q-apart r d e m size S (drop 1 ns) ts i p.2 th.1 l is bs a st))
 
-      pub marker-full : FullOf env0 q q-apart (repr ReprKind.ExplicitVarSizeWithMarker (more_reprs r no_reprs)) (set_dom ms es d) (sets ks e)
+      pub marker-full : FullOf env0 q q-apart (repr ReprKind.ExplicitVarSizeWithMarker (more_reprs r no_reprs)) (set_dom ms es d)
+          (sets ks e)
       marker-full = record { full = marker-at }
 
       flags-at : (ns : List Text) (ts : Tables) (l : ℕ) (is : Exs) (i : List ℤ) (bs : B') →
