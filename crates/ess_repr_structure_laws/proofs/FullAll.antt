@@ -172,7 +172,7 @@ module _ (env0 : Env) (q : ℕ → Text) (q-apart : (m l : ℕ) → l < m → sa
           full = λ ns ts l is i bs p th st a.
               let w : Seen env0 q q-apart l bs _ = view-full env0 q q-apart r (tuple_set_dom ms es ds) (child_set ks xs)
               (of r (tuple_set_dom ms es ds) (child_set ks xs) h.2) j.means (B.good-has Anywhere Any
-                  (tuple_set_dom ms es ds) v) ns ts l is i
+              (tuple_set_dom ms es ds) v) ns ts l is i
               bs p th st a in
               two-full (N bs) true Op2.And _ _ (m.full ns ts l is i bs p th st a)
               (keys-full (N bs) (relation_key_ex q l ds _) ms
@@ -200,7 +200,7 @@ module _ (env0 : Env) (q : ℕ → Text) (q-apart : (m l : ℕ) → l < m → sa
               (parts-full env0 q q-apart l bs _ (view-full env0 q q-apart r (part_set_dom size_terms ms es d) (child_parts ks x)
               (of r (part_set_dom size_terms ms es d) (child_parts ks x) h.3) j.means
               (B.good-has Anywhere Any (part_set_dom size_terms ms es d) v) ns ts l is i bs p th st a) ms d
-                  (B.good-has Anywhere Any d g.1));
+              (B.good-has Anywhere Any d g.1));
         }
     full-all (repr ReprKind.PartitionOccurrence no_reprs) (partition_dom ms es d) (partitions ks x) k h g =
         numbered-full env0 q q-apart ms es d ks x h.0.0 h.0.1 h.1 h.2 g

@@ -150,9 +150,9 @@ module _ (env0 : Env) (q : ℕ → Text) (q-apart : (m l : ℕ) → l < m → sa
   pub of-cells : (l : ℕ) (b : Bool) (n : Text) (t : Table) (as' : List Dom) (vss : List (List Value)) (is : Exs) (i : List ℤ) (bs : B')
       (part : Ex) (p : ℤ → Bool) → look env0.cells n ≡ Some t → AxesAre env0 q q-apart as' vss → B.ListHas Anywhere as' →
       B.AllHave Anywhere is → every_cell (codes env0 q q-apart vss) p (grid_at env0 q q-apart t i) ≡ true →
-          Steady env0 q q-apart l is i bs →
+      Steady env0 q q-apart l is i bs →
       ((cs : B') → FullIn (cell_ex b n (row_index q l as' is)) (N cs) → FullIn part (N cs)) →
-          FullIn (comp_ex part (row_gens q l as')) (N bs)
+      FullIn (comp_ex part (row_gens q l as')) (N bs)
   of-cells l b n t as' vss is i bs part p h ax m a e st f =
       places-full l as' vss is i bs part ax m st
       (all-of-map (lists_of (codes env0 q q-apart vss))

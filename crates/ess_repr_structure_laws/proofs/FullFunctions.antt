@@ -84,7 +84,7 @@ module _ (env0 : Env) (q : ℕ → Text) (q-apart : (m l : ℕ) → l < m → sa
   -- That the values of cells differ.
   differ-cells : (c : Dom) (y : Domain) (as' : List Dom) (uss : List (List Value)) → AxesAre env0 q q-apart as' uss →
       B.ListHas Anywhere as' → (r : Repr) → is_one_cell r ≡ true →
-          (ns : List Text) (ts : Tables) (l : ℕ) (is : Exs) (i : List ℤ) (bs : B') →
+      (ns : List Text) (ts : Tables) (l : ℕ) (is : Exs) (i : List ℤ) (bs : B') →
       Placed env0 q q-apart (map (on_axes as') (shapes q size_terms r c ns)) (on_members uss (axes_members r y)) ts →
       There env0 q q-apart (map (on_axes as') (shapes q size_terms r c ns)) (on_members uss (axes_members r y)) ts i →
       Steady env0 q q-apart l is i bs → B.AllHave Anywhere is → FullIn (differ_ex q l as' (shapes q size_terms r c ns) is) (N bs)
@@ -135,7 +135,7 @@ module _ (env0 : Env) (q : ℕ → Text) (q-apart : (m l : ℕ) → l < m → sa
         Steady env0 q q-apart l is i bs → B.AllHave Anywhere is → FullIn (flag_key_ex q l as' n is c e k) (N bs)
     flag-key-full n t l is i bs e Key.Total s h x st a =
         fold-full env0 q q-apart true Fun.And _ bs (of-cells env0 q q-apart l true n t as' uss is i bs _ (fit true) h ax af a x st
-            (λ cs z. z))
+        (λ cs z. z))
     flag-key-full n t l is i bs e k s h x st a = pair-key-full env0 q q-apart l bs e s c k (B.good-has Anywhere Any c cf)
 
     pub partial-full : (ns : List Text) (n : Text) (t : Table) (ts : Tables) (l : ℕ) (is : Exs) (i : List ℤ) (bs : B') (e : Ex) →

@@ -24,6 +24,11 @@ use Rattle.ess_repr_structure_laws.proofs.FullParts.{Anywhere, FullIn, name-adde
 use Rattle.ess_repr_structure_laws.proofs.FullCells.{every-there, cell-full, FullAt}
 use Rattle.ess_repr_structure_laws.proofs.FullSlots.{Slot, next-index}
 
+-- Nothing, of each of a list.
+units : (xs : List (List ℤ)) → AllOf xs (λ js. Unit {0})
+units [] = tt
+units (x ∷ xs) = (tt, units xs)
+
 module _ (env0 : Env) (q : ℕ → Text) (q-apart : (m l : ℕ) → l < m → same_text (q m) (q l) ≡ false) where
   abbrev B' : Type 0
   B' = Bound env0 q q-apart
@@ -37,20 +42,8 @@ module _ (env0 : Env) (q : ℕ → Text) (q-apart : (m l : ℕ) → l < m → sa
       There env0 q q-apart (map (on_axes as') ss) (on_members uss vsss) ts i → AllOf (lists_of (codes env0 q q-apart uss))
       (λ js. There env0 q q-apart ss vsss ts (i ++ js))
   inner-there as' uss [] vsss ts i h = units (lists_of (codes env0 q q-apart uss))
-    where
-      units : (xs : List (List ℤ)) → AllOf xs (λ js. Unit {0})
-      units [] = tt
-      units (x ∷ xs) = (tt, units xs)
   inner-there as' uss (s ∷ ss) [] ts i h = units (lists_of (codes env0 q q-apart uss))
-    where
-      units : (xs : List (List ℤ)) → AllOf xs (λ js. Unit {0})
-      units [] = tt
-      units (x ∷ xs) = (tt, units xs)
   inner-there as' uss (s ∷ ss) (vss ∷ vsss) [] i h = units (lists_of (codes env0 q q-apart uss))
-    where
-      units : (xs : List (List ℤ)) → AllOf xs (λ js. Unit {0})
-      units [] = tt
-      units (x ∷ xs) = (tt, units xs)
   inner-there as' uss (s ∷ ss) (vss ∷ vsss) (t ∷ ts) i h =
       all-of-both (lists_of (codes env0 q q-apart uss))
       (λ js. every_cell (codes env0 q q-apart vss) (fit s.truth) (λ ks. cell_at t (i ++ (js ++ ks))) ≡ true)

@@ -64,7 +64,7 @@ module _ (env0 : Env) (q : ℕ → Text) (q-apart : (m l : ℕ) → l < m → sa
 
     flagged-at : (ns : List Text) (ts : Tables) (l : ℕ) (is : Exs) (i : List ℤ) (bs : B') →
         Here env0 q q-apart (repr ReprKind.Function1DPartial (more_reprs r no_reprs)) (function_dom ms es d c)
-            (functions ks x y) ns ts l is i
+        (functions ks x y) ns ts l is i
         bs
     flagged-at ns [] l is i bs p th st a = absurd p
     flagged-at ns (t ∷ ts) l is i bs p th st a =
@@ -108,7 +108,7 @@ module _ (env0 : Env) (q : ℕ → Text) (q-apart : (m l : ℕ) → l < m → sa
     many-at ns [] l is i bs p th st a = absurd p
     many-at ns (t ∷ ts) l is i bs p th st a =
         partial-full env0 q q-apart r c y m (dom_list ds) (index_members xs) ax even axes g.2 ms es g.0 (drop 1 ns)
-            (first_name ns) t ts l is
+        (first_name ns) t ts l is
         i bs _
         (view-full env0 q q-apart (repr ReprKind.FunctionNDPartial (more_reprs r no_reprs)) (bare_function_dom (tuple_dom ds) c)
         (functions [] (tuples xs) y)
@@ -162,7 +162,7 @@ module _ (env0 : Env) (q : ℕ → Text) (q-apart : (m l : ℕ) → l < m → sa
 
           part : (z : Value) → is_some (cell_at u (i ++ (code z ∷ []))) ≡ true →
               FullIn (ex2 true Op2.Eq (part_number_ex q l w is) (ex2 false Op2.Plus (part_number_ex q (suc l) w is) (number_ex
-                  (pos 1)))) (two z)
+              (pos 1)))) (two z)
           part z k = two-full (two z) true Op2.Eq _ _
               (part-number-full l (suc (suc l)) v ((suc l, z) ∷ (l, v) ∷ bs) (steady-more env0 q q-apart (suc l) z
               (add_ex is (name_ex (q l))) (i ++ (code v ∷ [])) ((l, v) ∷ bs) (steady-name env0 q q-apart l v is i bs st)) y)
@@ -177,7 +177,7 @@ module _ (env0 : Env) (q : ℕ → Text) (q-apart : (m l : ℕ) → l < m → sa
       numbers-full l bs st fn =
           two-full (N bs) true Op2.And _ _
           (fold-full env0 q q-apart true Fun.And _ bs (members-each env0 q q-apart l d (member_list x) no_gens
-              (numbered_on_ex q l d n w is) bs
+          (numbered_on_ex q l d n w is) bs
           (B.good-has Anywhere Any d g.1) (ax.0 bs)
           (all-of-map (member_list x) (λ v. is_some (cell_at u (i ++ (code v ∷ []))) ≡ true) _
           (λ v k. λ o. (let f = numbered v k in f.full o)) c)))

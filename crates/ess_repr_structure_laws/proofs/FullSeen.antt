@@ -193,7 +193,7 @@ module _ (env0 : Env) (q : ℕ → Text) (q-apart : (m l : ℕ) → l < m → sa
     parts-full ms d a =
         two-full (N bs) true Op2.And _ _
         (fold true Fun.And _ bs (members-full l d _ bs a (λ v. two-full (N ((l, v) ∷ bs)) true Op2.Eq (times_held_ex q l e) (number_ex
-            (pos 1))
+        (pos 1))
         (fold false Fun.Sum _ ((l, v) ∷ bs) (items-full (suc l) e _ ((l, v) ∷ bs) (seen-one l bs e s v)
         (λ w. fold false Fun.ToInt _ ((suc l, w) ∷ (l, v) ∷ bs)
         (two-full (N ((suc l, w) ∷ (l, v) ∷ bs)) true Op2.Member _ _ (name-full l ((suc l, w) ∷ (l, v) ∷ bs))
@@ -229,19 +229,16 @@ module _ (env0 : Env) (q : ℕ → Text) (q-apart : (m l : ℕ) → l < m → sa
 
     -- ---- members of multisets
 
+    freq-full : (v : Value) → FullIn (freq_ex q l e) (N ((l, v) ∷ bs))
+    freq-full v = let f : FullIn e (N ((l, v) ∷ bs)) = seen-one l bs e s v in record { full = λ g. (f.full g, (tt, tt)) }
+
     occurs-key-full : (k : Key) (n : Ex) → Anywhere n → FullIn (occurs_key_ex q l e k n) (N bs)
     occurs-key-full Key.MinOccur n a = fold true Fun.And _ bs (items-full l (fun1 false Fun.ToSet e) _ bs
         (fold false Fun.ToSet e bs (seen-here l bs e s)) (λ v. two-full (N ((l, v) ∷ bs)) true Op2.Le n (freq_ex q l e)
         (in-here n (N ((l, v) ∷ bs)) a) (freq-full v)))
-      where
-        freq-full : (v : Value) → FullIn (freq_ex q l e) (N ((l, v) ∷ bs))
-        freq-full v = let f : FullIn e (N ((l, v) ∷ bs)) = seen-one l bs e s v in record { full = λ g. (f.full g, (tt, tt)) }
     occurs-key-full Key.MaxOccur n a = fold true Fun.And _ bs (items-full l (fun1 false Fun.ToSet e) _ bs
         (fold false Fun.ToSet e bs (seen-here l bs e s)) (λ v. two-full (N ((l, v) ∷ bs)) true Op2.Le (freq_ex q l e) n (freq-full v)
         (in-here n (N ((l, v) ∷ bs)) a)))
-      where
-        freq-full : (v : Value) → FullIn (freq_ex q l e) (N ((l, v) ∷ bs))
-        freq-full v = let f : FullIn e (N ((l, v) ∷ bs)) = seen-one l bs e s v in record { full = λ g. (f.full g, (tt, tt)) }
     occurs-key-full _ n a = truth-full (N bs) true
 
     pub occurs-full : (ms : List Mark) (ns : Exs) → B.AllHave Anywhere ns → FullIn (occurs_ex q l e ms ns) (N bs)

@@ -51,7 +51,7 @@ module _ (env0 : Env) (q : ℕ → Text) (q-apart : (m l : ℕ) → l < m → sa
       at : (ns : List Text) (ts : Tables) (l : ℕ) (is : Exs) (i : List ℤ) (bs : B') → Placed env0 q q-apart
           (shapes q size_terms (repr ReprKind.Atom no_reprs) d ns) (axes_members (repr ReprKind.Atom no_reprs) e) ts →
           There env0 q q-apart (shapes q size_terms (repr ReprKind.Atom no_reprs) d ns) (axes_members
-              (repr ReprKind.Atom no_reprs) e) ts i →
+          (repr ReprKind.Atom no_reprs) e) ts i →
           Steady env0 q q-apart l is i bs → B.AllHave Anywhere is →
           FullIn (structure q size_terms (repr ReprKind.Atom no_reprs) d ns l is) (N bs)
       at ns [] l is i bs p th st a = absurd p
@@ -118,7 +118,7 @@ module _ (env0 : Env) (q : ℕ → Text) (q-apart : (m l : ℕ) → l < m → sa
         two-full (N bs) true Op2.And _ _
         (two-full (N bs) true Op2.And _ _
         (fold-full env0 q q-apart true Fun.And _ bs (of-cells env0 q q-apart l false n t (upto size ∷ []) (slot_numbers S) is i bs _
-            (fit false) p.0 p.1
+        (fit false) p.0 p.1
         ((number-anywhere (pos 1), (size-free, tt)), tt) a th.0 st
         (λ cs c. two-full (N cs) true Op2.Or _ _ (inside-full (N cs) d _ g.1 c)
         (two-full (N cs) true Op2.Eq (size_terms.dummy d) _ (in-here (size_terms.dummy d) (N cs) df) c))))

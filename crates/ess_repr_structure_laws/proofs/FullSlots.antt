@@ -93,7 +93,7 @@ module _ (env0 : Env) (q : ℕ → Text) (q-apart : (m l : ℕ) → l < m → sa
   over-slots-full l size test part s bs hs a t p =
       fold-full env0 q q-apart true Fun.And _ bs (run-full l (upto size) (cond test no_gens) part s bs (number-anywhere (pos 1), (a, tt))
       (ap (λ o. members_in (option_map integers (spans_of (both_ends ∷ []) (Some (number (pos 1)) ∷ o ∷ [])))) hs ∙ ap Some
-          (members-ones s))
+      (members-ones s))
       (λ k x y g. tested l test part bs k (t k x (omega (arith, y))) (p k x (omega (arith, y))) g))
 
   pairs-anywhere : (size : Ex) → Anywhere size → B.DomHas Anywhere (pairs_dom q size)
@@ -129,8 +129,11 @@ module _ (env0 : Env) (q : ℕ → Text) (q-apart : (m l : ℕ) → l < m → sa
       (th : (k : ℕ) → 1 ≤ k → k ≤ s → There env0 q q-apart ss vsss ts (i ++ (pos k ∷ []))) (ax : AxesHave Anywhere ss)
       (a : B.AllHave Anywhere is) (st : Steady env0 q q-apart l is i bs) where
     zeros-at : (k : ℕ) → 1 ≤ k → k ≤ s → Slot l bs (zeros_ex q (suc l) ss (add_ex is (name_ex (q l)))) k
-    zeros-at k x y = zeros-full env0 q q-apart (suc l) ss vsss ts (add_ex is (name_ex (q l))) (i ++ (pos k ∷ [])) ((l, number
-        (pos k)) ∷ bs) p
+    zeros-at k x y = zeros-full env0 q q-apart (suc l) ss vsss ts (add_ex is (name_ex (q l))) (i ++ (pos k ∷ [])) ((
+      l,
+      number
+          (pos k),
+    ) ∷ bs) p
         (th k x y) ax (name-added q l is a) (steady-name env0 q q-apart l (number (pos k)) is i bs st)
 
     pub less-at : (k : ℕ) → 1 ≤ k → k + 1 ≤ s → Slot l bs (less_ex q (suc l) ss (add_ex is (name_ex (q l))) (add_ex is (next_ex q l))) k

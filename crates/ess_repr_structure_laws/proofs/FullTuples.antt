@@ -82,7 +82,7 @@ module _ (env0 : Env) (q : ℕ → Text) (q-apart : (m l : ℕ) → l < m → sa
       placed ns ts p = subst (λ n. Placed env0 q q-apart (S ns) (axes_members r e) (take n ts) × Placed env0 q q-apart (T ns)
           (members_of_axes rs es) (drop n ts)) (s.long (take (width r) ns))
           (placed-split env0 q q-apart (S ns) (T ns) (axes_members r e) (members_of_axes rs es) ts (s.long (take
-              (width r) ns) ∙ sym wide) p)
+          (width r) ns) ∙ sym wide) p)
 
       there : (ns : List Text) (ts : Tables) (i : List ℤ) →
           There env0 q q-apart (S ns ++ T ns) (axes_members r e ++ members_of_axes rs es) ts
