@@ -1,5 +1,5 @@
 -- Structures are built of what has a property: by induction over the representation.
-use Rattle.std.proofs.Common.{refl, ℕ, suc, Bool, true, false, List, [], ◌∷◌, ◌++◌, map, take, drop, pos, if◌then◌else◌}
+use Rattle.std.proofs.Common.{refl, ℕ, suc, Bool, true, false, List, [], ◌∷◌, map, take, drop, pos, if◌then◌else◌}
 use Rattle.ess_semantics.specs.declared.words.Op2.{Op2}
 use Rattle.ess_semantics.specs.declared.words.ReprKind.{ReprKind}
 use Rattle.ess_semantics.specs.Values.{Text}
@@ -13,7 +13,7 @@ use Rattle.ess_repr_laws.specs.RelationParts.{bare_relation_dom, relation_key_ex
 use Rattle.ess_repr_laws.specs.FunctionParts.{bare_function_dom}
 use Rattle.ess_repr_laws.specs.MultisetParts.{bare_mset_dom}
 use Rattle.ess_repr_laws.specs.PartitionParts.{bare_partition_dom}
-use Rattle.ess_repr_laws.specs.Structure.{shapes, shapes_of_each, structure, structure_of_each}
+use Rattle.ess_repr_laws.specs.Structure.{shapes, structure, structure_of_each}
 use Rattle.ess_repr_declare_laws.specs.SizeTerms.{is_missing, slots_ex, dummy_ex, in_ranges_ex, inside_ex, listed_ex, size_terms}
 use Rattle.ess_repr_structure_laws.proofs.BuiltStructures as B
 use Rattle.ess_repr_structure_laws.proofs.BuiltStructures.{BuiltOf, two-have}

@@ -7,6 +7,7 @@ use Rattle.ess_semantics.specs.Kinds.{is_bounded}
 use Rattle.ess_semantics.specs.Trees.{Ends, one_value, both_ends, Op, binary, Ex, Exs, node_ex, no_exs, more_exs, Dom, Doms, bool_dom, int_dom, name_dom, tuple_dom, record_dom, matrix_dom, set_dom, mset_dom, function_dom, relation_dom, partition_dom, no_doms, more_doms, ex2}
 use Rattle.ess_repr_declare_laws.specs.SizeTerms.{zero_ex, one_ex, two_ex, plus_ex, minus_ex, times_ex, power_ex, next_ex, at_least_0_ex, listed_ex, is_numeral, numerals_order, span_ex, span_by, is_missing, bound_or_0, count_ex, occurrences_ex, bound_ex, product_ex, product_behind}
 use Rattle.ess_repr_structure_laws.proofs.BuiltStructures as B
+use Rattle.ess_repr_structure_laws.proofs.PickedNumbers.{occurrences-may}
 use Rattle.ess_repr_structure_laws.proofs.BuiltStructures.{counts_nothing}
 
 -- What sizes are built of has the property.
@@ -71,7 +72,7 @@ module _ (P : Ex → Type 0) (L : Dom → Type 0) (sizes : SizesOf P) where
         (product-has is g.0)
     bound-has (set_dom ms es d) g = power-has two_ex (bound_ex d) sizes.two (bound-has d g.1)
     bound-has (mset_dom ms es d) g =
-        power-has (next_ex (occurrences_ex ms es)) (bound_ex d) (next-has (occurrences_ex ms es) (B.occurrences-may P ms es g.1 sizes.zero))
+        power-has (next_ex (occurrences_ex ms es)) (bound_ex d) (next-has (occurrences_ex ms es) (occurrences-may P ms es g.1 sizes.zero))
         (bound-has d g.2)
     bound-has (function_dom ms es d c) g = power-has (next_ex (bound_ex c)) (bound_ex d) (next-has (bound_ex c) (bound-has c g.2))
         (bound-has d g.1)

@@ -1,19 +1,19 @@
 -- What each expression that structures are built of has, structures have: one induction for all properties of their form. L is what is
 -- known of ranges, named types and multisets beside that their numbers have the property.
-use Rattle.std.proofs.Common.{◌≡◌, refl, ℕ, Bool, true, false, ◌&&◌, ◌||◌, List, [], ◌∷◌, ◌++◌, pos, Option, Some, None, if◌then◌else◌}
+use Rattle.std.proofs.Common.{◌≡◌, refl, ℕ, Bool, true, false, ◌&&◌, ◌||◌, List, [], ◌∷◌, ◌++◌, pos, if◌then◌else◌}
 use Rattle.ess_semantics.specs.declared.words.Op1.{Op1}
 use Rattle.ess_semantics.specs.declared.words.Op2.{Op2}
 use Rattle.ess_semantics.specs.declared.words.Fun.{Fun}
 use Rattle.ess_semantics.specs.declared.words.Key.{Key}
-use Rattle.ess_semantics.specs.Lists.{or_else, or_default}
 use Rattle.ess_semantics.specs.Values.{Text}
-use Rattle.ess_semantics.specs.Domains.{same_key}
 use Rattle.ess_semantics.specs.Kinds.{dom_list, has_key}
-use Rattle.ess_semantics.specs.Trees.{Op, unary, binary, word, set_literal, mset_literal, function_literal, relation_literal, partition_literal, matrix_literal, Mark, flag, valued, name_pat, tuple_pat, Ex, Exs, number_ex, truth_ex, name_ex, node_ex, comp_ex, cell_ex, no_exs, more_exs, Gens, no_gens, over, from, cond, Dom, Doms, bool_dom, int_dom, name_dom, tuple_dom, record_dom, matrix_dom, set_dom, mset_dom, function_dom, relation_dom, partition_dom, no_doms, more_doms, ex1, ex2, fun1}
+use Rattle.ess_semantics.specs.Trees.{Op, unary, binary, word, set_literal, mset_literal, function_literal, relation_literal, partition_literal, matrix_literal, Mark, valued, name_pat, tuple_pat, Ex, Exs, number_ex, truth_ex, name_ex, node_ex, comp_ex, cell_ex, no_exs, more_exs, Gens, no_gens, over, from, cond, Dom, Doms, bool_dom, int_dom, name_dom, tuple_dom, record_dom, matrix_dom, set_dom, mset_dom, function_dom, relation_dom, partition_dom, no_doms, more_doms, ex1, ex2, fun1}
 use Rattle.ess_guard_laws.proofs.Safe.{is_safe}
 use Rattle.ess_repr_laws.specs.StructureParts.{number_of_key, tuple_set_dom}
 use Rattle.ess_repr_laws.specs.ViewParts.{pair_relation_dom, part_set_dom, part_dom, number_as}
-use Rattle.ess_repr_declare_laws.specs.SizeTerms.{bound_ex, listed_ex, number_of, greatest_size_of, occurrences_ex, slots_ex, size_terms}
+use Rattle.ess_repr_declare_laws.specs.SizeTerms.{bound_ex, listed_ex, greatest_size_of, occurrences_ex, slots_ex, size_terms}
+use Rattle.ess_repr_structure_laws.proofs.PickedNumbers as K
+use Rattle.ess_repr_structure_laws.proofs.PickedNumbers.{if-have, key-picked, key-picked-as, default-has, greatest-may, occurrences-may}
 
 -- Whether an operator isn't a literal whose items are counted.
 abbrev pub counts_nothing : Op → Bool
@@ -32,8 +32,7 @@ is_used op = is_safe op && counts_nothing op
 module _ (P : Ex → Type 0) where
   -- Each operand has the property.
   abbrev pub AllHave : Exs → Type 0
-  AllHave no_exs = Unit {0}
-  AllHave (more_exs e es) = P e × AllHave es
+  AllHave = K.AllHave P
 
   abbrev mutual
     -- Each number in a domain has it.
@@ -64,62 +63,6 @@ module _ (P : Ex → Type 0) where
   pub lists-have : (as' bs : List Dom) → ListHas as' → ListHas bs → ListHas (as' ++ bs)
   lists-have [] bs a b = b
   lists-have (d ∷ as') bs a b = (a.0, lists-have as' bs a.1 b)
-
-  -- ---- numbers that are picked
-
-  if-have : (b : Bool) (x y : List Mark × Exs) → AllHave x.1 → AllHave y.1 → AllHave ((if b then x else y).1)
-  if-have true x y a b = a
-  if-have false x y a b = b
-
-  -- The number of an attribute, in front of others.
-  pub key-picked : (k : Key) (ms : List Mark) (es : Exs) (ns : List Mark) (os : Exs) → AllHave es → AllHave os → AllHave
-      ((number_of_key k ms es ns os).1)
-  key-picked k [] es ns os a b = b
-  key-picked k (flag j ∷ ms) es ns os a b = key-picked k ms es ns os a b
-  key-picked k (valued j ∷ ms) no_exs ns os a b = b
-  key-picked k (valued j ∷ ms) (more_exs e es) ns os a b =
-      if-have (same_key j k) (valued k ∷ ns, more_exs e os) (number_of_key k ms es ns os) (a.0, b) (key-picked k ms es ns os a.1 b)
-
-  -- The same as another attribute.
-  pub key-picked-as : (k j : Key) (ms : List Mark) (es : Exs) (ns : List Mark) (os : Exs) → AllHave es → AllHave os → AllHave
-      ((number_as k j ms es ns os).1)
-  key-picked-as k j [] es ns os a b = b
-  key-picked-as k j (flag i ∷ ms) es ns os a b = key-picked-as k j ms es ns os a b
-  key-picked-as k j (valued i ∷ ms) no_exs ns os a b = b
-  key-picked-as k j (valued i ∷ ms) (more_exs e es) ns os a b =
-      if-have (same_key i k) (valued j ∷ ns, more_exs e os) (number_as k j ms es ns os) (a.0, b) (key-picked-as k j ms es ns os a.1 b)
-
-  -- A number that is there has the property.
-  abbrev pub MayHave : Option Ex → Type 0
-  MayHave None = Unit {0}
-  MayHave (Some e) = P e
-
-  if-may : (b : Bool) (e : Ex) (o : Option Ex) → P e → MayHave o → MayHave (if b then Some e else o)
-  if-may true e o p h = p
-  if-may false e o p h = h
-
-  else-may : (o p : Option Ex) → MayHave o → MayHave p → MayHave (or_else o p)
-  else-may None p g h = h
-  else-may (Some e) p g h = g
-
-  default-has : (o : Option Ex) (e : Ex) → MayHave o → P e → P (or_default o e)
-  default-has None e g h = h
-  default-has (Some f) e g h = g
-
-  number-may : (k : Key) (ms : List Mark) (es : Exs) → AllHave es → MayHave (number_of k ms es)
-  number-may k [] es a = tt
-  number-may k (flag j ∷ ms) es a = number-may k ms es a
-  number-may k (valued j ∷ ms) no_exs a = tt
-  number-may k (valued j ∷ ms) (more_exs e es) a = if-may (same_key j k) e (number_of k ms es) a.0 (number-may k ms es a.1)
-
-  greatest-may : (ms : List Mark) (es : Exs) → AllHave es → MayHave (greatest_size_of ms es)
-  greatest-may ms es a = else-may (number_of Key.Size ms es) (number_of Key.MaxSize ms es) (number-may Key.Size ms es a)
-      (number-may Key.MaxSize ms es a)
-
-  -- How often members of a multiset occur.
-  pub occurrences-may : (ms : List Mark) (es : Exs) → AllHave es → P (number_ex (pos 0)) → P (occurrences_ex ms es)
-  occurrences-may ms es a z = default-has (or_else (number_of Key.MaxOccur ms es) (greatest_size_of ms es)) (number_ex (pos 0))
-      (else-may (number_of Key.MaxOccur ms es) (greatest_size_of ms es) (number-may Key.MaxOccur ms es a) (greatest-may ms es a)) z
 
 -- Where P has Q behind it, operands and domains that have P have Q.
 module _ (P Q : Ex → Type 0) (f : (e : Ex) → P e → Q e) where

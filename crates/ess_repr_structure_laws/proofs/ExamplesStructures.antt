@@ -18,14 +18,14 @@ use Rattle.ess_repr_structure_laws.specs.Laws.{JudgedView}
 use Rattle.ess_repr_structure_laws.specs.TotalNumbers.{total_dom}
 
 -- Several operands.
-abbrev one : Ex → Exs
+abbrev pub one : Ex → Exs
 one e = more_exs e no_exs
 
 abbrev two : Ex → Ex → Exs
 two a b = more_exs a (one b)
 
 -- `int(1..n)`
-abbrev up_to : ℤ → Dom
+abbrev pub up_to : ℤ → Dom
 up_to n = int_dom (both_ends ∷ []) (two (number_ex (pos 1)) (number_ex n))
 
 -- The reserved names of conditions, and of structures.
@@ -35,7 +35,7 @@ x = codes "x"
 abbrev y : Text
 y = codes "y"
 
-abbrev name : ℕ → Text
+abbrev pub name : ℕ → Text
 name l = codes "q"
 
 -- ---- numbers under their conditions
@@ -74,7 +74,7 @@ of-zero-under = refl
 
 -- ---- structures with sizes as terms
 
-abbrev cell : Repr
+abbrev pub cell : Repr
 cell = repr ReprKind.Atom no_reprs
 
 -- How many members of int(1..3) occur.
@@ -106,13 +106,13 @@ pub of-three-members : meaning of_two (members_env (pos 1 ∷ pos 1 ∷ pos 1 �
 of-three-members = refl
 
 -- `set (maxSize 2) of int(1..3)` in slots with a marker.
-abbrev of_slots : Ex
+abbrev pub of_slots : Ex
 of_slots = structure name size_terms (repr ReprKind.ExplicitVarSizeWithMarker (more_reprs cell no_reprs))
     (set_dom (valued Key.MaxSize ∷ []) (one (number_ex (pos 2))) (up_to (pos 3)))
     (codes "m" ∷ codes "a" ∷ []) 1 no_exs
 
 -- An env with a marker and two slots.
-abbrev slots_env : ℤ → List ℤ → Env
+abbrev pub slots_env : ℤ → List ℤ → Env
 slots_env m zs =
     record empty_env {
       cells = (codes "m", record { axes = []; items = m ∷ [] }) ∷

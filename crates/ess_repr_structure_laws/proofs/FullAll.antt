@@ -13,7 +13,7 @@ use Rattle.ess_semantics.specs.Trees.{Repr, Reprs, repr, no_reprs, more_reprs, M
 use Rattle.ess_semantics.specs.Domains.{numbered, Domain, Domains, no_domains, more_domains, tuples, records, matrices, sets, msets, functions, relations, partitions, domain_list}
 use Rattle.ess_semantics.specs.Meaning.{Env, as_int}
 use Rattle.ess_semantics.proofs.Tests.{and-left, and-right}
-use Rattle.ess_repr_laws.specs.StructureParts.{tuple_set_dom, keys_ex}
+use Rattle.ess_repr_laws.specs.StructureParts.{tuple_set_dom}
 use Rattle.ess_repr_laws.specs.StructureMeaning.{Bound, M, Number, Attributes, index_members}
 use Rattle.ess_repr_laws.specs.StructureReady.{Ready, AllReady}
 use Rattle.ess_repr_laws.specs.ViewParts.{pair_relation_dom, part_set_dom}
@@ -152,7 +152,8 @@ module _ (env0 : Env) (q : ℕ → Text) (q-apart : (m l : ℕ) → l < m → sa
         partial-1d-full env0 q q-apart r ms es d c ks x y (of r c y h.4)
         (full-all r c y (function-child env0 q q-apart ReprKind.Function1DPartial r ms es d c ks x y refl k k.room.1) h.4 g.2) h.0 h.2
         (bare-functions env0 q q-apart d c x y (from-is env0 q q-apart _ ms es d c ks x y k) (to-is env0 q q-apart _ ms es d c ks x y k)) g
-    full-all (repr ReprKind.FunctionNDPartial (more_reprs r no_reprs)) (function_dom ms es (tuple_dom ds) c) (functions ks (tuples xs) y) k h
+    full-all (repr ReprKind.FunctionNDPartial (more_reprs r no_reprs)) (function_dom ms es (tuple_dom ds) c) (functions ks
+        (tuples xs) y) k h
         g =
         partial-nd-full env0 q q-apart r ms es ds c ks xs y (of r c y h.4)
         (full-all r c y (function-child env0 q q-apart ReprKind.FunctionNDPartial r ms es (tuple_dom ds) c ks (tuples xs) y refl k
@@ -170,7 +171,8 @@ module _ (env0 : Env) (q : ℕ → Text) (q-apart : (m l : ℕ) → l < m → sa
         h.2 v in record {
           full = λ ns ts l is i bs p th st a.
               let w : Seen env0 q q-apart l bs _ = view-full env0 q q-apart r (tuple_set_dom ms es ds) (child_set ks xs)
-              (of r (tuple_set_dom ms es ds) (child_set ks xs) h.2) j.means (B.good-has Anywhere Any (tuple_set_dom ms es ds) v) ns ts l is i
+              (of r (tuple_set_dom ms es ds) (child_set ks xs) h.2) j.means (B.good-has Anywhere Any
+              (tuple_set_dom ms es ds) v) ns ts l is i
               bs p th st a in
               two-full (N bs) true Op2.And _ _ (m.full ns ts l is i bs p th st a)
               (keys-full (N bs) (relation_key_ex q l ds _) ms
@@ -197,14 +199,16 @@ module _ (env0 : Env) (q : ℕ → Text) (q-apart : (m l : ℕ) → l < m → sa
               two-full (N bs) true Op2.And _ _ (m.full ns ts l is i bs p th st a)
               (parts-full env0 q q-apart l bs _ (view-full env0 q q-apart r (part_set_dom size_terms ms es d) (child_parts ks x)
               (of r (part_set_dom size_terms ms es d) (child_parts ks x) h.3) j.means
-              (B.good-has Anywhere Any (part_set_dom size_terms ms es d) v) ns ts l is i bs p th st a) ms d (B.good-has Anywhere Any d g.1));
+              (B.good-has Anywhere Any (part_set_dom size_terms ms es d) v) ns ts l is i bs p th st a) ms d
+              (B.good-has Anywhere Any d g.1));
         }
     full-all (repr ReprKind.PartitionOccurrence no_reprs) (partition_dom ms es d) (partitions ks x) k h g =
         numbered-full env0 q q-apart ms es d ks x h.0.0 h.0.1 h.1 h.2 g
     full-all _ d e k h g = absurd h
 
     -- The same of components.
-    pub each-full-all : (rs : Reprs) (ds : Doms) (es : Domains) → AllKnown env0 q q-apart rs ds es → AllReady env0 q q-apart size_terms rs ds
+    pub each-full-all : (rs : Reprs) (ds : Doms) (es : Domains) → AllKnown env0 q q-apart rs ds es →
+        AllReady env0 q q-apart size_terms rs ds
         (domain_list es) → B.AllGood Anywhere Any ds →
         EachFull env0 q q-apart rs ds (domain_list es)
     each-full-all no_reprs no_doms no_domains k h g = record { full = λ ns ts l is i bs p th st a. truth-full (N bs) true }

@@ -1,34 +1,30 @@
 -- Tables that fit are full for their rows, at index lists of which each cell is there.
-use Rattle.std.proofs.Common.{◌≡◌, refl, sym, ap, ◌∙◌, subst, ℕ, suc, ◌≤◌, ◌<◌, ◌+◌, zero, Bool, true, false, ◌||◌, List, [], ◌∷◌, ◌++◌, map, ℤ, pos, ◌+ℤ◌, ◌-ℤ◌, Option, Some, None, IsTrue, is_some, option_map, arith, append-nil, append_assoc}
-use Rattle.std.proofs.lemmas.Int.{ints}
+use Rattle.std.proofs.Common.{◌≡◌, refl, sym, ap, subst, ℕ, suc, ◌<◌, Bool, true, false, ◌||◌, List, [], ◌∷◌, ◌++◌, map, ℤ, pos, Option, Some, None, is_some, append-nil, append_assoc}
 use Rattle.std.specs.List.{list_all}
 use Rattle.ess_semantics.specs.declared.words.Op1.{Op1}
 use Rattle.ess_semantics.specs.declared.words.Op2.{Op2}
 use Rattle.ess_semantics.specs.declared.words.Fun.{Fun}
-use Rattle.ess_semantics.specs.declared.words.Key.{Key}
 use Rattle.ess_semantics.specs.Lists.{is_some_and}
-use Rattle.ess_semantics.specs.Values.{Text, Value, number}
+use Rattle.ess_semantics.specs.Values.{Text, Value}
 use Rattle.ess_semantics.specs.Order.{same_text}
-use Rattle.ess_semantics.specs.Numbers.{run_from}
 use Rattle.ess_semantics.specs.Names.{look, Names}
 use Rattle.ess_semantics.specs.Types.{Ty, bind_types, type_of_dom}
 use Rattle.ess_semantics.specs.Contexts.{Each, EachOf}
-use Rattle.ess_semantics.specs.Trees.{both_ends, word, unary, Mark, flag, valued, name_pat, Ex, Exs, number_ex, name_ex, comp_ex, cell_ex, no_exs, more_exs, no_gens, over, cond, Dom, ex1, ex2, fun1}
-use Rattle.ess_semantics.specs.Domains.{integers, add_heads, lists_of}
+use Rattle.ess_semantics.specs.Trees.{word, unary, name_pat, Ex, Exs, number_ex, name_ex, comp_ex, cell_ex, Dom, fun1}
+use Rattle.ess_semantics.specs.Domains.{add_heads, lists_of}
 use Rattle.ess_semantics.specs.Tables.{Table, Tables, code, cell_at}
 use Rattle.ess_semantics.specs.Cells.{Axes, Grid, every_cell}
-use Rattle.ess_semantics.specs.Meaning.{Env, meaning, spans_of, members_in, domain_of}
-use Rattle.ess_semantics.specs.Full.{Full, FullAll, FullUnder}
-use Rattle.ess_semantics.specs.Occurrences.{has_cells}
+use Rattle.ess_semantics.specs.Meaning.{Env, meaning}
+use Rattle.ess_semantics.specs.Full.{Full, FullUnder}
 use Rattle.ess_semantics.proofs.Tests.{and-left, and-right}
-use Rattle.ess_repr_laws.specs.StructureParts.{Shape, add_ex, and_ex, or_ex, upto, row_gens, row_index, row_ex, less_ex, at_most_ex, out_ex, zero_ex, zeros_ex, level_behind, each_ex, over_slots, next_ex, pairs_dom, over_pairs, each_pair, true_count_ex, place_count_ex, number_sum_ex, times_of_ex, times_ex, counts_ex, size_ex}
-use Rattle.ess_repr_laws.specs.StructureMeaning.{Bound, M, Number, AxesAre, Placed, fit}
+use Rattle.ess_repr_laws.specs.StructureParts.{Shape, add_ex, row_gens, row_index, row_ex, less_ex, at_most_ex, out_ex, zero_ex, zeros_ex, level_behind}
+use Rattle.ess_repr_laws.specs.StructureMeaning.{Bound, M, AxesAre, Placed, fit}
 use Rattle.ess_repr_laws.proofs.CanonicalPlaces.{AllOf, all-of-map}
 use Rattle.ess_repr_laws.proofs.StructureRows.{Steady, There, codes, grid_at, steady-name}
 use Rattle.ess_repr_laws.proofs.StructureUse.{cell-means}
 use Rattle.ess_repr_structure_laws.proofs.BuiltShapes.{AxesHave}
 use Rattle.ess_repr_structure_laws.proofs.BuiltStructures as B
-use Rattle.ess_repr_structure_laws.proofs.FullParts.{Anywhere, FullIn, operands-anywhere, dom-anywhere, row-index-anywhere, truth-full, number-full, two-full, one-full, size-full, in-here}
+use Rattle.ess_repr_structure_laws.proofs.FullParts.{Anywhere, FullIn, operands-anywhere, dom-anywhere, row-index-anywhere, truth-full, number-full, two-full, one-full}
 
 -- Cells that are there with a property are there.
 pub every-there : (as' : Axes) (p : ℤ → Bool) (f : Grid) → every_cell as' p f ≡ true → AllOf (lists_of as') (λ js. is_some (f js) ≡ true)
@@ -98,7 +94,8 @@ module _ (env0 : Env) (q : ℕ → Text) (q-apart : (m l : ℕ) → l < m → sa
   )
     where
       K : Value → Type 0
-      K v = FullUnder (row_gens q (suc l) as') (bind_types (name_pat (q l)) (type_of_dom a) g) (N ((l, v) ∷ bs)) (λ h here. Full part h here)
+      K v = FullUnder (row_gens q (suc l) as') (bind_types (name_pat (q l)) (type_of_dom a) g) (N ((l, v) ∷ bs))
+          (λ h here. Full part h here)
 
       L : List (List ℤ)
       L = lists_of (codes env0 q q-apart vss)
@@ -152,8 +149,10 @@ module _ (env0 : Env) (q : ℕ → Text) (q-apart : (m l : ℕ) → l < m → sa
   -- What is built of one cell at each place.
   pub of-cells : (l : ℕ) (b : Bool) (n : Text) (t : Table) (as' : List Dom) (vss : List (List Value)) (is : Exs) (i : List ℤ) (bs : B')
       (part : Ex) (p : ℤ → Bool) → look env0.cells n ≡ Some t → AxesAre env0 q q-apart as' vss → B.ListHas Anywhere as' →
-      B.AllHave Anywhere is → every_cell (codes env0 q q-apart vss) p (grid_at env0 q q-apart t i) ≡ true → Steady env0 q q-apart l is i bs →
-      ((cs : B') → FullIn (cell_ex b n (row_index q l as' is)) (N cs) → FullIn part (N cs)) → FullIn (comp_ex part (row_gens q l as')) (N bs)
+      B.AllHave Anywhere is → every_cell (codes env0 q q-apart vss) p (grid_at env0 q q-apart t i) ≡ true →
+      Steady env0 q q-apart l is i bs →
+      ((cs : B') → FullIn (cell_ex b n (row_index q l as' is)) (N cs) → FullIn part (N cs)) →
+      FullIn (comp_ex part (row_gens q l as')) (N bs)
   of-cells l b n t as' vss is i bs part p h ax m a e st f =
       places-full l as' vss is i bs part ax m st
       (all-of-map (lists_of (codes env0 q q-apart vss))

@@ -1,26 +1,25 @@
 -- Tables that fit are full for counts of cells, for the tests of atoms, and for what attributes without a number ask of views.
-use Rattle.std.proofs.Common.{◌≡◌, refl, sym, ap, ◌∙◌, subst, ℕ, suc, ◌≤◌, ◌<◌, Bool, true, false, ◌&&◌, if◌then◌else◌, List, [], ◌∷◌, ◌++◌, map, ℤ, pos, IsTrue, Some, append_assoc}
-use Rattle.ess_semantics.specs.declared.words.Op1.{Op1}
+use Rattle.std.proofs.Common.{◌≡◌, ℕ, ◌<◌, Bool, true, false, if◌then◌else◌, List, [], ◌∷◌, ℤ, pos, Some}
 use Rattle.ess_semantics.specs.declared.words.Op2.{Op2}
 use Rattle.ess_semantics.specs.declared.words.Fun.{Fun}
 use Rattle.ess_semantics.specs.declared.words.Key.{Key}
 use Rattle.ess_semantics.specs.Values.{Text, Value}
 use Rattle.ess_semantics.specs.Order.{same_text}
 use Rattle.ess_semantics.specs.Names.{look}
-use Rattle.ess_semantics.specs.Trees.{Ends, one_value, both_ends, low_end, high_end, word, unary, Mark, flag, valued, Ex, Exs, number_ex, comp_ex, cell_ex, no_exs, more_exs, Dom, int_dom, name_dom, ex2}
+use Rattle.ess_semantics.specs.Trees.{Ends, one_value, both_ends, low_end, high_end, word, Mark, flag, valued, Ex, Exs, number_ex, comp_ex, cell_ex, no_exs, more_exs, Dom, int_dom, name_dom, ex2}
 use Rattle.ess_semantics.specs.Tables.{Table}
 use Rattle.ess_semantics.specs.Cells.{every_cell}
 use Rattle.ess_semantics.specs.Meaning.{Env}
-use Rattle.ess_repr_laws.specs.StructureParts.{add_ex, or_ex, le_ex, and_ex, row_gens, row_index, true_count_ex, place_count_ex, number_sum_ex, times_of_ex, times_ex, counts_ex}
+use Rattle.ess_repr_laws.specs.StructureParts.{or_ex, le_ex, row_gens, row_index, true_count_ex, place_count_ex, number_sum_ex, times_of_ex, times_ex, counts_ex}
 use Rattle.ess_repr_laws.specs.StructureMeaning.{Bound, M, AxesAre}
-use Rattle.ess_repr_laws.proofs.CanonicalPlaces.{AllOf, all-of-map}
+use Rattle.ess_repr_laws.proofs.CanonicalPlaces.{AllOf}
 use Rattle.ess_repr_laws.proofs.StructureRows.{Steady, codes, grid_at}
 use Rattle.ess_semantics.specs.Domains.{lists_of}
 use Rattle.ess_repr_declare_laws.specs.SizeTerms.{is_missing, dummy_ex, in_ranges_ex, inside_ex, listed_ex}
 use Rattle.ess_repr_structure_laws.proofs.BuiltStructures as B
 use Rattle.ess_repr_structure_laws.proofs.MetParts.{Any}
 use Rattle.ess_repr_structure_laws.proofs.FullParts.{Anywhere, FullIn, in-here, truth-full, number-full, two-full, one-full, size-full, number-anywhere, two-anywhere, listed-anywhere}
-use Rattle.ess_repr_structure_laws.proofs.FullCells.{FullAt, places-full, cells-full, of-cells, fold-full}
+use Rattle.ess_repr_structure_laws.proofs.FullCells.{places-full, of-cells, fold-full}
 
 -- ---- atoms
 
@@ -35,7 +34,8 @@ module _ (env : Env) where
   le-full a b g h = two-full env true Op2.Le a b g h
 
   ranges-full : (rs : List Ends) (es : Exs) (x : Ex) → B.AllHave Anywhere es → F x → F (in_ranges_ex rs es x)
-  ranges-full (one_value ∷ rs) (more_exs a es) x h p = or-full _ _ (two-full env true Op2.Eq x a p (in-here a env h.0)) (ranges-full rs es x h.1 p)
+  ranges-full (one_value ∷ rs) (more_exs a es) x h p = or-full _ _ (two-full env true Op2.Eq x a p (in-here a env h.0))
+      (ranges-full rs es x h.1 p)
   ranges-full (both_ends ∷ rs) (more_exs a (more_exs b es)) x h p =
       or-full _ _ (two-full env true Op2.And _ _ (le-full a x (in-here a env h.0) p) (le-full x b p (in-here b env h.1.0)))
       (ranges-full rs es x h.1.1 p)
@@ -77,7 +77,8 @@ module _ (env0 : Env) (q : ℕ → Text) (q-apart : (m l : ℕ) → l < m → sa
   N = M env0 q q-apart
 
   -- How many places there are.
-  pub place-count-full : (l : ℕ) (as' : List Dom) (vss : List (List Value)) (is : Exs) (i : List ℤ) (bs : B') → AxesAre env0 q q-apart as' vss
+  pub place-count-full : (l : ℕ) (as' : List Dom) (vss : List (List Value)) (is : Exs) (i : List ℤ) (bs : B') →
+      AxesAre env0 q q-apart as' vss
       → B.ListHas Anywhere as' → Steady env0 q q-apart l is i bs → FullIn (place_count_ex q l as') (N bs)
   place-count-full l as' vss is i bs ax m st =
       fold-full env0 q q-apart false Fun.Sum _ bs (places-full env0 q q-apart l as' vss is i bs (number_ex (pos 1)) ax m st

@@ -1,5 +1,5 @@
 -- Tables that fit are full for the structures of matrices, functions, relations and partitions.
-use Rattle.std.proofs.Common.{◌≡◌, refl, sym, ap, ◌∙◌, subst, ℕ, suc, ◌≤◌, ◌<◌, Bool, true, false, if◌then◌else◌, List, [], ◌∷◌, ◌++◌, map, drop, length, ℤ, pos, Option, Some, None, is_some, append-nil}
+use Rattle.std.proofs.Common.{◌≡◌, refl, sym, ap, ◌∙◌, subst, ℕ, ◌<◌, Bool, true, false, if◌then◌else◌, List, [], ◌∷◌, ◌++◌, map, length, ℤ, Option, Some, None, is_some, append-nil}
 use Rattle.std.specs.List.{list_all}
 use Rattle.ess_semantics.specs.declared.words.Op1.{Op1}
 use Rattle.ess_semantics.specs.declared.words.Op2.{Op2}
@@ -13,32 +13,30 @@ use Rattle.ess_semantics.specs.Kinds.{dom_list}
 use Rattle.ess_semantics.specs.Names.{look, Names}
 use Rattle.ess_semantics.specs.Types.{Ty, bind_types, type_of_dom}
 use Rattle.ess_semantics.specs.Contexts.{Each, EachOf}
-use Rattle.ess_semantics.specs.Trees.{unary, Mark, name_pat, Repr, repr, no_reprs, more_reprs, Ex, Exs, number_ex, name_ex, comp_ex, cell_ex, no_exs, more_exs, Gens, no_gens, over, cond, Dom, Doms, tuple_dom, matrix_dom, function_dom, relation_dom, partition_dom, ex1, ex2}
-use Rattle.ess_semantics.specs.Domains.{Attribute, Domain, Domains, tuples, matrices, functions, relations, partitions, member_list, lists_of}
+use Rattle.ess_semantics.specs.Trees.{unary, Mark, name_pat, Repr, repr, no_reprs, more_reprs, Ex, Exs, comp_ex, cell_ex, Gens, over, Dom, Doms, matrix_dom, relation_dom, ex1}
+use Rattle.ess_semantics.specs.Domains.{Attribute, Domain, Domains, matrices, relations, lists_of}
 use Rattle.ess_semantics.specs.Tables.{Table, Tables, code, cell_at}
 use Rattle.ess_semantics.specs.Cells.{every_cell}
-use Rattle.ess_semantics.specs.Meaning.{Env, meaning, members_in, domain_of, is_bool_dom}
+use Rattle.ess_semantics.specs.Meaning.{Env, members_in, domain_of, is_bool_dom}
 use Rattle.ess_semantics.specs.Full.{Full, FullUnder}
-use Rattle.ess_semantics.specs.Occurrences.{has_cells}
 use Rattle.ess_semantics.proofs.Tests.{and-left, and-right}
-use Rattle.ess_repr_laws.specs.FunctionParts.{bare_function_dom, is_one_cell, differ_ex, value_key_ex, total_ex, flag_key_ex, partial_ex}
-use Rattle.ess_repr_laws.specs.PartitionParts.{bare_partition_dom, part_number_ex, after_ex, numbered_on_ex, taken_ex, numbered_ex}
+use Rattle.ess_repr_laws.specs.FunctionParts.{is_one_cell, differ_ex, value_key_ex, total_ex, flag_key_ex, partial_ex}
 use Rattle.ess_repr_laws.specs.RelationParts.{bare_relation_dom, relation_key_ex}
-use Rattle.ess_repr_laws.specs.StructureParts.{Shape, add_ex, and_ex, implies_ex, row_gens, row_index, level_behind, each_ex, zeros_ex, size_ex, place_count_ex, true_count_ex, keys_ex, on_axes, own_shape, first_name}
+use Rattle.ess_repr_laws.specs.StructureParts.{and_ex, implies_ex, row_index, level_behind, zeros_ex, on_axes, first_name}
 use Rattle.ess_repr_laws.specs.ViewParts.{components_differ_ex}
 use Rattle.ess_repr_laws.specs.Structure.{shapes, structure}
 use Rattle.ess_repr_laws.specs.StructureMeaning.{Bound, M, AxesAre, Placed, DomainIs, axes_members, index_members, on_members, fit}
 use Rattle.ess_repr_laws.proofs.CanonicalPlaces.{AllOf, all-of-map, all-of-both}
 use Rattle.ess_repr_laws.proofs.StructureOf.{StructureOf}
-use Rattle.ess_repr_laws.proofs.StructureRows.{Steady, There, codes, grid_at, steady-more, steady-name}
+use Rattle.ess_repr_laws.proofs.StructureRows.{Steady, There, codes, grid_at}
 use Rattle.ess_repr_declare_laws.specs.SizeTerms.{size_terms}
 use Rattle.ess_repr_structure_laws.proofs.BuiltStructures as B
 use Rattle.ess_repr_structure_laws.proofs.MetParts.{Any}
-use Rattle.ess_repr_structure_laws.proofs.FullParts.{Anywhere, FullIn, dom-anywhere, number-full, number-anywhere, name-anywhere, name-added, in-here, two-full, one-full, size-full, keys-full, truth-full, reached, row-index-anywhere}
-use Rattle.ess_repr_structure_laws.proofs.FullCells.{FullAt, cell-full, cells-full, of-cells, places-full, fold-full, zeros-full}
+use Rattle.ess_repr_structure_laws.proofs.FullParts.{Anywhere, FullIn, dom-anywhere, two-full, one-full, size-full, keys-full, row-index-anywhere}
+use Rattle.ess_repr_structure_laws.proofs.FullCells.{FullAt, cells-full, of-cells, places-full, fold-full, zeros-full}
 use Rattle.ess_repr_structure_laws.proofs.FullCounts.{place-count-full, true-count-full}
-use Rattle.ess_repr_structure_laws.proofs.FullSeen.{Seen, view-full, differ-full, pair-key-full, relation-key-full, part-attributes-full}
-use Rattle.ess_repr_structure_laws.proofs.FullKinds.{FullOf, own-cell-full, child-full, child-there, child-placed}
+use Rattle.ess_repr_structure_laws.proofs.FullSeen.{Seen, view-full, differ-full, pair-key-full, relation-key-full}
+use Rattle.ess_repr_structure_laws.proofs.FullKinds.{FullOf, child-full, child-there, child-placed}
 use Rattle.ess_repr_structure_laws.proofs.FullSets.{axes-free}
 
 -- The cells of a table with one axis are there at each of its members.
@@ -85,7 +83,8 @@ module _ (env0 : Env) (q : ℕ → Text) (q-apart : (m l : ℕ) → l < m → sa
 
   -- That the values of cells differ.
   differ-cells : (c : Dom) (y : Domain) (as' : List Dom) (uss : List (List Value)) → AxesAre env0 q q-apart as' uss →
-      B.ListHas Anywhere as' → (r : Repr) → is_one_cell r ≡ true → (ns : List Text) (ts : Tables) (l : ℕ) (is : Exs) (i : List ℤ) (bs : B') →
+      B.ListHas Anywhere as' → (r : Repr) → is_one_cell r ≡ true →
+      (ns : List Text) (ts : Tables) (l : ℕ) (is : Exs) (i : List ℤ) (bs : B') →
       Placed env0 q q-apart (map (on_axes as') (shapes q size_terms r c ns)) (on_members uss (axes_members r y)) ts →
       There env0 q q-apart (map (on_axes as') (shapes q size_terms r c ns)) (on_members uss (axes_members r y)) ts i →
       Steady env0 q q-apart l is i bs → B.AllHave Anywhere is → FullIn (differ_ex q l as' (shapes q size_terms r c ns) is) (N bs)
@@ -135,7 +134,8 @@ module _ (env0 : Env) (q : ℕ → Text) (q-apart : (m l : ℕ) → l < m → sa
         look env0.cells n ≡ Some t → every_cell (codes env0 q q-apart uss) (fit true) (grid_at env0 q q-apart t i) ≡ true →
         Steady env0 q q-apart l is i bs → B.AllHave Anywhere is → FullIn (flag_key_ex q l as' n is c e k) (N bs)
     flag-key-full n t l is i bs e Key.Total s h x st a =
-        fold-full env0 q q-apart true Fun.And _ bs (of-cells env0 q q-apart l true n t as' uss is i bs _ (fit true) h ax af a x st (λ cs z. z))
+        fold-full env0 q q-apart true Fun.And _ bs (of-cells env0 q q-apart l true n t as' uss is i bs _ (fit true) h ax af a x st
+        (λ cs z. z))
     flag-key-full n t l is i bs e k s h x st a = pair-key-full env0 q q-apart l bs e s c k (B.good-has Anywhere Any c cf)
 
     pub partial-full : (ns : List Text) (n : Text) (t : Table) (ts : Tables) (l : ℕ) (is : Exs) (i : List ℤ) (bs : B') (e : Ex) →

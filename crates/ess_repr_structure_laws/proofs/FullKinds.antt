@@ -4,7 +4,6 @@ use Rattle.std.proofs.Math.Path.{fun_ext}
 use Rattle.std.proofs.lemmas.List.{map-append}
 use Rattle.ess_semantics.specs.Values.{Text, Value, number}
 use Rattle.ess_semantics.specs.Order.{same_text}
-use Rattle.ess_semantics.specs.Numbers.{one_to}
 use Rattle.ess_semantics.specs.Names.{look}
 use Rattle.ess_semantics.specs.Trees.{Repr, Ex, Exs, name_ex, cell_ex, Dom}
 use Rattle.ess_semantics.specs.Domains.{Domain, lists_of}
@@ -25,6 +24,11 @@ use Rattle.ess_repr_structure_laws.proofs.FullParts.{Anywhere, FullIn, name-adde
 use Rattle.ess_repr_structure_laws.proofs.FullCells.{every-there, cell-full, FullAt}
 use Rattle.ess_repr_structure_laws.proofs.FullSlots.{Slot, next-index}
 
+-- Nothing, of each of a list.
+units : (xs : List (List ℤ)) → AllOf xs (λ js. Unit {0})
+units [] = tt
+units (x ∷ xs) = (tt, units xs)
+
 module _ (env0 : Env) (q : ℕ → Text) (q-apart : (m l : ℕ) → l < m → same_text (q m) (q l) ≡ false) where
   abbrev B' : Type 0
   B' = Bound env0 q q-apart
@@ -33,24 +37,13 @@ module _ (env0 : Env) (q : ℕ → Text) (q-apart : (m l : ℕ) → l < m → sa
   N = M env0 q q-apart
 
   -- Cells that are there behind further axes are there at each place of these.
-  pub inner-there : (as' : List Dom) (uss : List (List Value)) (ss : List Shape) (vsss : List (List (List Value))) (ts : Tables) (i : List ℤ) →
+  pub inner-there : (as' : List Dom) (uss : List (List Value)) (ss : List Shape) (vsss : List (List (List Value))) (ts : Tables)
+      (i : List ℤ) →
       There env0 q q-apart (map (on_axes as') ss) (on_members uss vsss) ts i → AllOf (lists_of (codes env0 q q-apart uss))
       (λ js. There env0 q q-apart ss vsss ts (i ++ js))
   inner-there as' uss [] vsss ts i h = units (lists_of (codes env0 q q-apart uss))
-    where
-      units : (xs : List (List ℤ)) → AllOf xs (λ js. Unit {0})
-      units [] = tt
-      units (x ∷ xs) = (tt, units xs)
   inner-there as' uss (s ∷ ss) [] ts i h = units (lists_of (codes env0 q q-apart uss))
-    where
-      units : (xs : List (List ℤ)) → AllOf xs (λ js. Unit {0})
-      units [] = tt
-      units (x ∷ xs) = (tt, units xs)
   inner-there as' uss (s ∷ ss) (vss ∷ vsss) [] i h = units (lists_of (codes env0 q q-apart uss))
-    where
-      units : (xs : List (List ℤ)) → AllOf xs (λ js. Unit {0})
-      units [] = tt
-      units (x ∷ xs) = (tt, units xs)
   inner-there as' uss (s ∷ ss) (vss ∷ vsss) (t ∷ ts) i h =
       all-of-both (lists_of (codes env0 q q-apart uss))
       (λ js. every_cell (codes env0 q q-apart vss) (fit s.truth) (λ ks. cell_at t (i ++ (js ++ ks))) ≡ true)
@@ -64,7 +57,8 @@ module _ (env0 : Env) (q : ℕ → Text) (q-apart : (m l : ℕ) → l < m → sa
       (inner-there as' uss ss vsss ts i h.1)
 
   -- A cell of a table without axes.
-  pub own-cell-full : (b : Bool) (n : Text) (t : Table) (p : ℤ → Bool) (l : ℕ) (is : Exs) (i : List ℤ) (bs : B') → look env0.cells n ≡ Some t →
+  pub own-cell-full : (b : Bool) (n : Text) (t : Table) (p : ℤ → Bool) (l : ℕ) (is : Exs) (i : List ℤ) (bs : B') →
+      look env0.cells n ≡ Some t →
       every_cell [] p (grid_at env0 q q-apart t i) ≡ true → Steady env0 q q-apart l is i bs → B.AllHave Anywhere is →
       FullIn (cell_ex b n is) (N bs)
   own-cell-full b n t p l is i bs h e st a =
@@ -144,5 +138,6 @@ module _ (env0 : Env) (q : ℕ → Text) (q-apart : (m l : ℕ) → l < m → sa
         (steady-name env0 q q-apart l (number (pos k)) is i bs st) (name-added q l is a) (present k x y)
 
     pub next-full : (k : ℕ) → 1 ≤ k → k + 1 ≤ S → Slot env0 q q-apart l bs (cell_ex b n (add_ex is (next_ex q l))) k
-    next-full k x y = cell-full env0 q q-apart b n t (add_ex is (next_ex q l)) (i ++ (pos (k + 1) ∷ [])) ((l, number (pos k)) ∷ bs) h (suc l)
+    next-full k x y = cell-full env0 q q-apart b n t (add_ex is (next_ex q l)) (i ++ (pos (k + 1) ∷ [])) ((l, number (pos k)) ∷ bs) h
+        (suc l)
         (next-index env0 q q-apart l k is i bs st) (next-added q l is a) (present (k + 1) (omega (arith, x)) y)

@@ -1,5 +1,5 @@
 -- Tables that fit are full for the structures of functions over their views, and of partitions by numbers.
-use Rattle.std.proofs.Common.{◌≡◌, refl, ℕ, suc, ◌<◌, Bool, true, false, List, [], ◌∷◌, ◌++◌, map, drop, length, ℤ, pos, Some, is_some}
+use Rattle.std.proofs.Common.{◌≡◌, refl, ℕ, suc, ◌<◌, true, false, List, [], ◌∷◌, ◌++◌, drop, length, ℤ, pos, Some, is_some}
 use Rattle.ess_semantics.specs.declared.words.Op2.{Op2}
 use Rattle.ess_semantics.specs.declared.words.Fun.{Fun}
 use Rattle.ess_semantics.specs.declared.words.ReprKind.{ReprKind}
@@ -12,7 +12,6 @@ use Rattle.ess_semantics.specs.Trees.{Mark, Repr, repr, no_reprs, more_reprs, Ex
 use Rattle.ess_semantics.specs.Domains.{Attribute, Domain, Domains, tuples, functions, partitions, member_list, members}
 use Rattle.ess_semantics.specs.Atoms.{IsAtom, AreAtoms}
 use Rattle.ess_semantics.specs.Tables.{Table, Tables, code, cell_at}
-use Rattle.ess_semantics.specs.Cells.{every_cell}
 use Rattle.ess_semantics.specs.Meaning.{Env}
 use Rattle.ess_semantics.specs.Full.{Full}
 use Rattle.ess_semantics.specs.Occurrences.{has_cells}
@@ -26,7 +25,7 @@ use Rattle.ess_repr_laws.proofs.StructureMatrices.{axes-even}
 use Rattle.ess_repr_laws.proofs.StructureNumbered.{numbered-structure, listed-complete}
 use Rattle.ess_repr_laws.proofs.StructureOf.{StructureOf}
 use Rattle.ess_repr_laws.proofs.StructurePartial.{partial-1d-structure, partial-nd-structure}
-use Rattle.ess_repr_laws.proofs.StructureRows.{Steady, grid_at, steady-more, steady-name}
+use Rattle.ess_repr_laws.proofs.StructureRows.{Steady, steady-more, steady-name}
 use Rattle.ess_repr_declare_laws.specs.SizeTerms.{size_terms}
 use Rattle.ess_repr_structure_laws.proofs.BuiltStructures as B
 use Rattle.ess_repr_structure_laws.proofs.MetParts.{Any}
@@ -64,7 +63,8 @@ module _ (env0 : Env) (q : ℕ → Text) (q-apart : (m l : ℕ) → l < m → sa
     }
 
     flagged-at : (ns : List Text) (ts : Tables) (l : ℕ) (is : Exs) (i : List ℤ) (bs : B') →
-        Here env0 q q-apart (repr ReprKind.Function1DPartial (more_reprs r no_reprs)) (function_dom ms es d c) (functions ks x y) ns ts l is i
+        Here env0 q q-apart (repr ReprKind.Function1DPartial (more_reprs r no_reprs)) (function_dom ms es d c)
+        (functions ks x y) ns ts l is i
         bs
     flagged-at ns [] l is i bs p th st a = absurd p
     flagged-at ns (t ∷ ts) l is i bs p th st a =
@@ -107,14 +107,16 @@ module _ (env0 : Env) (q : ℕ → Text) (q-apart : (m l : ℕ) → l < m → sa
         (functions ks (tuples xs) y) ns ts l is i bs
     many-at ns [] l is i bs p th st a = absurd p
     many-at ns (t ∷ ts) l is i bs p th st a =
-        partial-full env0 q q-apart r c y m (dom_list ds) (index_members xs) ax even axes g.2 ms es g.0 (drop 1 ns) (first_name ns) t ts l is
+        partial-full env0 q q-apart r c y m (dom_list ds) (index_members xs) ax even axes g.2 ms es g.0 (drop 1 ns)
+        (first_name ns) t ts l is
         i bs _
         (view-full env0 q q-apart (repr ReprKind.FunctionNDPartial (more_reprs r no_reprs)) (bare_function_dom (tuple_dom ds) c)
         (functions [] (tuples xs) y)
         (partial-nd-structure env0 q q-apart size_terms r [] no_exs ds c [] xs y at tt ax (λ bs. (tt, refl)) s) inside
         (tt, B.all-good-have Anywhere Any ds g.1, B.good-has Anywhere Any c g.2) ns (t ∷ ts) l is i bs p th st a) p.0 th.0 p.2 th.1 st a
 
-    pub partial-nd-full : FullOf env0 q q-apart (repr ReprKind.FunctionNDPartial (more_reprs r no_reprs)) (function_dom ms es (tuple_dom ds) c)
+    pub partial-nd-full : FullOf env0 q q-apart (repr ReprKind.FunctionNDPartial (more_reprs r no_reprs)) (function_dom ms es
+        (tuple_dom ds) c)
         (functions ks (tuples xs) y)
     partial-nd-full = record { full = many-at }
 
@@ -143,9 +145,12 @@ module _ (env0 : Env) (q : ℕ → Text) (q-apart : (m l : ℕ) → l < m → sa
           (ex2 true Op2.Eq (part_number_ex q l w is) (ex2 false Op2.Plus (part_number_ex q (suc l) w is) (number_ex (pos 1))))
           ((l, v) ∷ bs) (B.good-has Anywhere Any d g.1) (ax.0 ((l, v) ∷ bs))
           (all-of-map (member_list x) (λ v. is_some (cell_at u (i ++ (code v ∷ []))) ≡ true) _
-          (λ z k. λ o. (test z o, reached (has_cells (ex2 true Op2.Lt (name_ex (q (suc l))) (name_ex (q l))))
-              (ex2 true Op2.Lt (name_ex (q (suc l))) (name_ex (q l))) (two z) _
-              (let f = part z k in f.full o))) c))
+          (λ z k. λ o. (
+            test z o,
+            reached (has_cells (ex2 true Op2.Lt (name_ex (q (suc l))) (name_ex (q l))))
+                (ex2 true Op2.Lt (name_ex (q (suc l))) (name_ex (q l))) (two z) _
+                (let f = part z k in f.full o),
+          )) c))
         where
           two : Value → Env
           two z = N ((suc l, z) ∷ (l, v) ∷ bs)
@@ -156,7 +161,8 @@ module _ (env0 : Env) (q : ℕ → Text) (q-apart : (m l : ℕ) → l < m → sa
               f.full o
 
           part : (z : Value) → is_some (cell_at u (i ++ (code z ∷ []))) ≡ true →
-              FullIn (ex2 true Op2.Eq (part_number_ex q l w is) (ex2 false Op2.Plus (part_number_ex q (suc l) w is) (number_ex (pos 1)))) (two z)
+              FullIn (ex2 true Op2.Eq (part_number_ex q l w is) (ex2 false Op2.Plus (part_number_ex q (suc l) w is) (number_ex
+              (pos 1)))) (two z)
           part z k = two-full (two z) true Op2.Eq _ _
               (part-number-full l (suc (suc l)) v ((suc l, z) ∷ (l, v) ∷ bs) (steady-more env0 q q-apart (suc l) z
               (add_ex is (name_ex (q l))) (i ++ (code v ∷ [])) ((l, v) ∷ bs) (steady-name env0 q q-apart l v is i bs st)) y)
@@ -170,7 +176,8 @@ module _ (env0 : Env) (q : ℕ → Text) (q-apart : (m l : ℕ) → l < m → sa
           FullIn n (N cs)) → FullIn (and_ex (each_ex q l (d ∷ []) (numbered_on_ex q l d n w is)) (taken_ex q l d n w is)) (N bs)
       numbers-full l bs st fn =
           two-full (N bs) true Op2.And _ _
-          (fold-full env0 q q-apart true Fun.And _ bs (members-each env0 q q-apart l d (member_list x) no_gens (numbered_on_ex q l d n w is) bs
+          (fold-full env0 q q-apart true Fun.And _ bs (members-each env0 q q-apart l d (member_list x) no_gens
+          (numbered_on_ex q l d n w is) bs
           (B.good-has Anywhere Any d g.1) (ax.0 bs)
           (all-of-map (member_list x) (λ v. is_some (cell_at u (i ++ (code v ∷ []))) ≡ true) _
           (λ v k. λ o. (let f = numbered v k in f.full o)) c)))
@@ -197,7 +204,8 @@ module _ (env0 : Env) (q : ℕ → Text) (q-apart : (m l : ℕ) → l < m → sa
               (two-full (one v) true Op2.Or _ _ (two-full (one v) true Op2.Eq _ _ (number-full (one v) (pos 1)) (own v k))
               (after-full l v bs st k))
 
-          taken : (v : Value) → is_some (cell_at u (i ++ (code v ∷ []))) ≡ true → FullIn (ex2 true Op2.Eq (part_number_ex q l w is) n) (one v)
+          taken : (v : Value) → is_some (cell_at u (i ++ (code v ∷ []))) ≡ true →
+              FullIn (ex2 true Op2.Eq (part_number_ex q l w is) n) (one v)
           taken v k = two-full (one v) true Op2.Eq _ n (own v k) (many v)
 
     numbered-at : (ns : List Text) (ts : Tables) (l : ℕ) (is : Exs) (i : List ℤ) (bs : B') →

@@ -1,15 +1,12 @@
 -- Whatever tables there are, they are full for a domain whose numbers read none.
-use Rattle.std.proofs.Common.{◌≡◌, refl, sym, ◌∙◌, Bool, true, false, ◌||◌, List, [], ◌∷◌, ◌++◌}
-use Rattle.std.specs.List.{list_any}
-use Rattle.std.proofs.lemmas.List.Folds.{list_any-append}
+use Rattle.std.proofs.Common.{◌++◌}
 use Rattle.ess_semantics.specs.Names.{Names}
 use Rattle.ess_semantics.specs.Types.{Ty, bind_types, type_of_dom}
 use Rattle.ess_semantics.specs.Typing.{source_ty}
 use Rattle.ess_semantics.specs.Trees.{Ex, Exs, number_ex, truth_ex, name_ex, node_ex, matrix_ex, comp_ex, cell_ex, seen_ex, no_exs, more_exs, Gens, no_gens, over, from, cond, Dom, Doms, bool_dom, int_dom, name_dom, tuple_dom, record_dom, matrix_dom, set_dom, mset_dom, function_dom, relation_dom, partition_dom, no_doms, more_doms}
-use Rattle.ess_semantics.specs.Meaning.{Env, meaning, domain_of, members_in}
+use Rattle.ess_semantics.specs.Meaning.{Env, domain_of, members_in}
 use Rattle.ess_semantics.specs.Full.{Full, FullUnder}
-use Rattle.ess_semantics.specs.Occurrences.{parts_of, parts_of_all, parts_of_gens, parts_of_dom, parts_of_doms, is_cell_or_view, has_cells}
-use Rattle.ess_semantics.proofs.Tests.{or-left-no, or-right-no}
+use Rattle.ess_semantics.specs.Occurrences.{parts_of, parts_of_all, parts_of_gens, parts_of_dom, parts_of_doms, has_cells}
 use Rattle.ess_guard_laws.proofs.MetRows.{each-of-always}
 use Rattle.ess_repr_structure_laws.proofs.BuiltStructures as B
 use Rattle.ess_repr_structure_laws.proofs.JudgedNumbers.{Plain, left-plain, right-plain}

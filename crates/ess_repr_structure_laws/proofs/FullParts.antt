@@ -1,19 +1,17 @@
 -- Tables are full for what reads none, whatever is bound; and what the tables are full for here.
-use Rattle.std.proofs.Common.{◌≡◌, refl, sym, ℕ, suc, Bool, true, false, List, [], ◌∷◌, ℤ, pos}
-use Rattle.ess_semantics.specs.declared.words.Op1.{Op1}
+use Rattle.std.proofs.Common.{ℕ, suc, Bool, true, false, List, [], ◌∷◌, ℤ, pos}
 use Rattle.ess_semantics.specs.declared.words.Op2.{Op2}
 use Rattle.ess_semantics.specs.declared.words.Fun.{Fun}
 use Rattle.ess_semantics.specs.declared.words.Key.{Key}
 use Rattle.ess_semantics.specs.Values.{Text}
 use Rattle.ess_semantics.specs.Names.{Names}
 use Rattle.ess_semantics.specs.Types.{Ty}
-use Rattle.ess_semantics.specs.Trees.{Op, word, matrix_literal, Mark, flag, valued, name_pat, Ex, Exs, number_ex, truth_ex, name_ex, node_ex, matrix_ex, comp_ex, cell_ex, seen_ex, no_exs, more_exs, Gens, no_gens, over, from, cond, Dom, Doms, bool_dom, int_dom, name_dom, tuple_dom, record_dom, matrix_dom, set_dom, mset_dom, function_dom, relation_dom, partition_dom, no_doms, more_doms, ex1, ex2, fun1}
-use Rattle.ess_semantics.specs.Contexts.{EachOf}
-use Rattle.ess_semantics.specs.Full.{Full, FullAll, FullDom, FullDoms, FullUnder, Reached}
+use Rattle.ess_semantics.specs.Trees.{Op, word, matrix_literal, Mark, flag, valued, Ex, Exs, number_ex, truth_ex, name_ex, node_ex, no_exs, more_exs, Dom, Doms, bool_dom, int_dom, name_dom, tuple_dom, record_dom, matrix_dom, set_dom, mset_dom, function_dom, relation_dom, partition_dom, no_doms, more_doms, ex2}
+use Rattle.ess_semantics.specs.Full.{Full, FullAll, FullDom, FullDoms, Reached}
 use Rattle.ess_semantics.specs.Meaning.{Env, meaning, domain_of, members_in}
 use Rattle.ess_guard_laws.proofs.MetRows.{each-of-always}
-use Rattle.ess_repr_laws.specs.StructureParts.{add_ex, and_ex, key_ex, size_ex, keys_ex, row_index, upto, next_ex}
-use Rattle.ess_repr_declare_laws.specs.SizeTerms.{zero_ex, one_ex, unused_name, bound_ex, listed_ex}
+use Rattle.ess_repr_laws.specs.StructureParts.{add_ex, key_ex, size_ex, keys_ex, row_index, next_ex}
+use Rattle.ess_repr_declare_laws.specs.SizeTerms.{zero_ex, listed_ex}
 use Rattle.ess_repr_structure_laws.proofs.BuiltStructures as B
 use Rattle.ess_repr_structure_laws.proofs.BuiltStructures.{SizedBy}
 use Rattle.ess_repr_structure_laws.proofs.BuiltSizes.{SizesOf, bound-has}

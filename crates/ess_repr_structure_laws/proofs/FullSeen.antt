@@ -1,5 +1,5 @@
 -- Tables that fit are full for a view, and for what attributes ask of what it has.
-use Rattle.std.proofs.Common.{◌≡◌, refl, sym, ap, ◌∙◌, subst, ℕ, suc, ◌≤◌, ◌<◌, Bool, true, false, ◌&&◌, if◌then◌else◌, List, [], ◌∷◌, ◌++◌, map, ℤ, pos, IsTrue, Some, is_some, le_refl, arith}
+use Rattle.std.proofs.Common.{◌≡◌, refl, sym, ap, ◌∙◌, ℕ, suc, ◌<◌, Bool, true, false, if◌then◌else◌, List, [], ◌∷◌, ◌++◌, map, ℤ, pos, is_some, le_refl, arith}
 use Rattle.std.specs.List.{list_all}
 use Rattle.ess_semantics.specs.declared.words.Op1.{Op1}
 use Rattle.ess_semantics.specs.declared.words.Op2.{Op2}
@@ -8,19 +8,17 @@ use Rattle.ess_semantics.specs.declared.words.Key.{Key}
 use Rattle.ess_semantics.specs.Lists.{is_some_and}
 use Rattle.ess_semantics.specs.Values.{Text, Value}
 use Rattle.ess_semantics.specs.Order.{same_text}
-use Rattle.ess_semantics.specs.Names.{Names}
-use Rattle.ess_semantics.specs.Types.{Ty}
 use Rattle.ess_semantics.specs.Kinds.{has_key}
-use Rattle.ess_semantics.specs.Trees.{word, unary, tuple_literal, index, to_component, Mark, flag, valued, Repr, name_pat, Ex, Exs, number_ex, truth_ex, name_ex, node_ex, comp_ex, no_exs, more_exs, Gens, no_gens, over, from, Dom, Doms, no_doms, more_doms, ex1, ex2, fun1}
+use Rattle.ess_semantics.specs.Trees.{word, unary, tuple_literal, index, to_component, Mark, flag, valued, Repr, name_pat, Ex, Exs, number_ex, truth_ex, name_ex, node_ex, comp_ex, no_exs, more_exs, no_gens, over, from, Dom, Doms, no_doms, more_doms, ex1, fun1}
 use Rattle.ess_semantics.specs.Domains.{Domain, lists_of}
 use Rattle.ess_semantics.specs.Tables.{Tables, cell_at}
-use Rattle.ess_semantics.specs.Cells.{Axes, every_cell}
+use Rattle.ess_semantics.specs.Cells.{every_cell}
 use Rattle.ess_semantics.specs.Declarations.{Declaration, declarations}
-use Rattle.ess_semantics.specs.Meaning.{Env, meaning, meanings, indices, domain_of, members_in, tables_in, is_bool_dom}
-use Rattle.ess_semantics.specs.Full.{Full, are_there}
+use Rattle.ess_semantics.specs.Meaning.{Env, meanings, indices, domain_of, members_in, tables_in, is_bool_dom}
+use Rattle.ess_semantics.specs.Full.{are_there}
 use Rattle.ess_semantics.proofs.Tests.{and-both}
 use Rattle.ess_guard_laws.proofs.MetRows.{each-of-always}
-use Rattle.ess_repr_laws.specs.StructureParts.{Shape, and_ex, or_ex, le_ex, implies_ex, key_ex, keys_ex}
+use Rattle.ess_repr_laws.specs.StructureParts.{Shape, and_ex, keys_ex}
 use Rattle.ess_repr_laws.specs.ViewParts.{shape_names, view_ex, component_ex, every_item_ex, components_differ_ex, all_taken_ex, pair_key_ex, exact_size_ex, total_size_ex, pairs_ex, times_held_ex, one_size_ex, regular_key_ex, parts_ex}
 use Rattle.ess_repr_laws.specs.RelationParts.{has_pair_ex, first_ex, second_ex, turned_ex, parts_same_ex, linked_ex, pair_relation_key_ex, relation_key_ex}
 use Rattle.ess_repr_laws.specs.MultisetParts.{freq_ex, occurs_key_ex, occurs_ex}
@@ -114,8 +112,8 @@ module _ (env0 : Env) (q : ℕ → Text) (q-apart : (m l : ℕ) → l < m → sa
       FullIn (comp_ex part (over (name_pat (q l)) d no_gens)) (N bs)
   members-full l d part bs a f = record {
     full = λ g. (
-        dom-anywhere d a g (N bs),
-        each-of-always (members_in (domain_of d (N bs))) _ (λ v. (let x : FullIn part (N ((l, v) ∷ bs)) = f v in x.full _)),
+      dom-anywhere d a g (N bs),
+      each-of-always (members_in (domain_of d (N bs))) _ (λ v. (let x : FullIn part (N ((l, v) ∷ bs)) = f v in x.full _)),
     );
   }
 
@@ -165,7 +163,8 @@ module _ (env0 : Env) (q : ℕ → Text) (q-apart : (m l : ℕ) → l < m → sa
     if-full true x y g h = g
     if-full false x y g h = h
 
-    pub pairs-full : (ms : List Mark) (es : Exs) (d c : Dom) → B.AllHave Anywhere es → B.DomHas Anywhere c → FullIn (pairs_ex q l ms es d c e)
+    pub pairs-full : (ms : List Mark) (es : Exs) (d c : Dom) → B.AllHave Anywhere es → B.DomHas Anywhere c →
+        FullIn (pairs_ex q l ms es d c e)
         (N bs)
     pairs-full ms es d c a x =
         two-full (N bs) true Op2.And _ _ (differ-full d 1)
@@ -193,7 +192,8 @@ module _ (env0 : Env) (q : ℕ → Text) (q-apart : (m l : ℕ) → l < m → sa
     pub parts-full : (ms : List Mark) (d : Dom) → B.DomHas Anywhere d → FullIn (parts_ex q l ms d e) (N bs)
     parts-full ms d a =
         two-full (N bs) true Op2.And _ _
-        (fold true Fun.And _ bs (members-full l d _ bs a (λ v. two-full (N ((l, v) ∷ bs)) true Op2.Eq (times_held_ex q l e) (number_ex (pos 1))
+        (fold true Fun.And _ bs (members-full l d _ bs a (λ v. two-full (N ((l, v) ∷ bs)) true Op2.Eq (times_held_ex q l e) (number_ex
+        (pos 1))
         (fold false Fun.Sum _ ((l, v) ∷ bs) (items-full (suc l) e _ ((l, v) ∷ bs) (seen-one l bs e s v)
         (λ w. fold false Fun.ToInt _ ((suc l, w) ∷ (l, v) ∷ bs)
         (two-full (N ((suc l, w) ∷ (l, v) ∷ bs)) true Op2.Member _ _ (name-full l ((suc l, w) ∷ (l, v) ∷ bs))
@@ -229,19 +229,16 @@ module _ (env0 : Env) (q : ℕ → Text) (q-apart : (m l : ℕ) → l < m → sa
 
     -- ---- members of multisets
 
+    freq-full : (v : Value) → FullIn (freq_ex q l e) (N ((l, v) ∷ bs))
+    freq-full v = let f : FullIn e (N ((l, v) ∷ bs)) = seen-one l bs e s v in record { full = λ g. (f.full g, (tt, tt)) }
+
     occurs-key-full : (k : Key) (n : Ex) → Anywhere n → FullIn (occurs_key_ex q l e k n) (N bs)
     occurs-key-full Key.MinOccur n a = fold true Fun.And _ bs (items-full l (fun1 false Fun.ToSet e) _ bs
         (fold false Fun.ToSet e bs (seen-here l bs e s)) (λ v. two-full (N ((l, v) ∷ bs)) true Op2.Le n (freq_ex q l e)
         (in-here n (N ((l, v) ∷ bs)) a) (freq-full v)))
-      where
-        freq-full : (v : Value) → FullIn (freq_ex q l e) (N ((l, v) ∷ bs))
-        freq-full v = let f : FullIn e (N ((l, v) ∷ bs)) = seen-one l bs e s v in record { full = λ g. (f.full g, (tt, tt)) }
     occurs-key-full Key.MaxOccur n a = fold true Fun.And _ bs (items-full l (fun1 false Fun.ToSet e) _ bs
         (fold false Fun.ToSet e bs (seen-here l bs e s)) (λ v. two-full (N ((l, v) ∷ bs)) true Op2.Le (freq_ex q l e) n (freq-full v)
         (in-here n (N ((l, v) ∷ bs)) a)))
-      where
-        freq-full : (v : Value) → FullIn (freq_ex q l e) (N ((l, v) ∷ bs))
-        freq-full v = let f : FullIn e (N ((l, v) ∷ bs)) = seen-one l bs e s v in record { full = λ g. (f.full g, (tt, tt)) }
     occurs-key-full _ n a = truth-full (N bs) true
 
     pub occurs-full : (ms : List Mark) (ns : Exs) → B.AllHave Anywhere ns → FullIn (occurs_ex q l e ms ns) (N bs)

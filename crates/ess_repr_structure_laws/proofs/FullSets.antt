@@ -1,24 +1,24 @@
 -- Tables that fit are full for the structures of sets and multisets.
-use Rattle.std.proofs.Common.{◌≡◌, refl, sym, ap, ◌∙◌, ℕ, suc, ◌+◌, ◌≤◌, ◌<◌, Bool, true, false, List, [], ◌∷◌, map, drop, ℤ, pos, Some, arith}
+use Rattle.std.proofs.Common.{◌≡◌, ℕ, suc, ◌+◌, ◌≤◌, ◌<◌, true, false, List, [], ◌∷◌, drop, ℤ, pos, arith}
 use Rattle.ess_semantics.specs.declared.words.Op1.{Op1}
 use Rattle.ess_semantics.specs.declared.words.Op2.{Op2}
 use Rattle.ess_semantics.specs.declared.words.Fun.{Fun}
 use Rattle.ess_semantics.specs.declared.words.Key.{Key}
 use Rattle.ess_semantics.specs.declared.words.ReprKind.{ReprKind}
-use Rattle.ess_semantics.specs.Values.{Text, Value, number}
+use Rattle.ess_semantics.specs.Values.{Text, number}
 use Rattle.ess_semantics.specs.Order.{same_text}
 use Rattle.ess_semantics.specs.Sizes.{slots_of_set, slots_of_mset}
-use Rattle.ess_semantics.specs.Trees.{word, unary, Mark, valued, Repr, repr, no_reprs, more_reprs, Ex, Exs, number_ex, name_ex, cell_ex, no_exs, more_exs, Dom, set_dom, mset_dom}
+use Rattle.ess_semantics.specs.Trees.{word, unary, Mark, Repr, repr, no_reprs, more_reprs, Ex, Exs, number_ex, name_ex, cell_ex, Dom, set_dom, mset_dom}
 use Rattle.ess_semantics.specs.Domains.{Attribute, numbered, Domain, sets, msets, member_list}
-use Rattle.ess_semantics.specs.Tables.{Tables, Table}
-use Rattle.ess_semantics.specs.Meaning.{Env, as_int, meaning}
+use Rattle.ess_semantics.specs.Tables.{Tables}
+use Rattle.ess_semantics.specs.Meaning.{Env}
 use Rattle.ess_repr_laws.specs.MultisetParts.{bare_mset_dom}
-use Rattle.ess_repr_laws.specs.StructureParts.{Shape, add_ex, le_ex, upto, on_axes, own_shape, first_name, next_ex, less_ex, at_most_ex, dummy_ex}
+use Rattle.ess_repr_laws.specs.StructureParts.{Shape, add_ex, le_ex, upto, own_shape, first_name, next_ex}
 use Rattle.ess_repr_laws.specs.Structure.{shapes, structure}
-use Rattle.ess_repr_laws.specs.StructureMeaning.{Bound, M, Number, Placed, DomainIs, SlotsAre, axes_members, slot_numbers, fit}
+use Rattle.ess_repr_laws.specs.StructureMeaning.{Bound, M, Placed, DomainIs, SlotsAre, axes_members, slot_numbers, fit}
 use Rattle.ess_repr_laws.proofs.StructureOf.{StructureOf}
 use Rattle.ess_repr_laws.proofs.StructureRows.{Steady, There, steady-more}
-use Rattle.ess_repr_declare_laws.specs.SizeTerms.{slots_ex, inside_ex, size_terms}
+use Rattle.ess_repr_declare_laws.specs.SizeTerms.{slots_ex, size_terms}
 use Rattle.ess_repr_structure_laws.proofs.BuiltShapes as S'
 use Rattle.ess_repr_structure_laws.proofs.BuiltShapes.{AxesHave}
 use Rattle.ess_repr_structure_laws.proofs.BuiltStructures as B
@@ -31,7 +31,8 @@ use Rattle.ess_repr_structure_laws.proofs.FullSeen.{view-full, occurs-full}
 use Rattle.ess_repr_structure_laws.proofs.FullKinds.{FullOf, own-cell-full, slot-full, slot-there, slots-placed, here-full, next-full}
 
 -- The axes of a view's tables read no table.
-pub axes-free : (q : ℕ → Text) (r : Repr) (d : Dom) (ns : List Text) → B.Good Anywhere Any d → AxesHave Anywhere (shapes q size_terms r d ns)
+pub axes-free : (q : ℕ → Text) (r : Repr) (d : Dom) (ns : List Text) → B.Good Anywhere Any d →
+    AxesHave Anywhere (shapes q size_terms r d ns)
 axes-free q r d ns g = S'.shapes-have q Anywhere Any sized-anywhere r d ns g
 
 module _ (env0 : Env) (q : ℕ → Text) (q-apart : (m l : ℕ) → l < m → same_text (q m) (q l) ≡ false) where
@@ -49,7 +50,8 @@ module _ (env0 : Env) (q : ℕ → Text) (q-apart : (m l : ℕ) → l < m → sa
     where
       at : (ns : List Text) (ts : Tables) (l : ℕ) (is : Exs) (i : List ℤ) (bs : B') → Placed env0 q q-apart
           (shapes q size_terms (repr ReprKind.Atom no_reprs) d ns) (axes_members (repr ReprKind.Atom no_reprs) e) ts →
-          There env0 q q-apart (shapes q size_terms (repr ReprKind.Atom no_reprs) d ns) (axes_members (repr ReprKind.Atom no_reprs) e) ts i →
+          There env0 q q-apart (shapes q size_terms (repr ReprKind.Atom no_reprs) d ns) (axes_members
+          (repr ReprKind.Atom no_reprs) e) ts i →
           Steady env0 q q-apart l is i bs → B.AllHave Anywhere is →
           FullIn (structure q size_terms (repr ReprKind.Atom no_reprs) d ns l is) (N bs)
       at ns [] l is i bs p th st a = absurd p
@@ -115,17 +117,18 @@ module _ (env0 : Env) (q : ℕ → Text) (q-apart : (m l : ℕ) → l < m → sa
         let df : Anywhere (size_terms.dummy d) = dummy-anywhere d g.1 in
         two-full (N bs) true Op2.And _ _
         (two-full (N bs) true Op2.And _ _
-        (fold-full env0 q q-apart true Fun.And _ bs (of-cells env0 q q-apart l false n t (upto size ∷ []) (slot_numbers S) is i bs _ (fit false) p.0 p.1
+        (fold-full env0 q q-apart true Fun.And _ bs (of-cells env0 q q-apart l false n t (upto size ∷ []) (slot_numbers S) is i bs _
+        (fit false) p.0 p.1
         ((number-anywhere (pos 1), (size-free, tt)), tt) a th.0 st
         (λ cs c. two-full (N cs) true Op2.Or _ _ (inside-full (N cs) d _ g.1 c)
         (two-full (N cs) true Op2.Eq (size_terms.dummy d) _ (in-here (size_terms.dummy d) (N cs) df) c))))
         (each-pair-full env0 q q-apart l size _ S bs (sl bs) size-free
         (λ k x y. let z : B' = (l, number (pos k)) ∷ bs in
-            two-full (N z) true Op2.Or _ _ (two-full (N z) true Op2.Eq (size_terms.dummy d) _ (in-here (size_terms.dummy d) (N z) df)
-            (next-full env0 q q-apart false n t S (fit false) l is i bs p.0 th.0 st a k x y))
-            (two-full (N z) true Op2.Lt _ _
-            (here-full env0 q q-apart false n t S (fit false) l is i bs p.0 th.0 st a k x (omega (arith, y)))
-            (next-full env0 q q-apart false n t S (fit false) l is i bs p.0 th.0 st a k x y)))))
+        two-full (N z) true Op2.Or _ _ (two-full (N z) true Op2.Eq (size_terms.dummy d) _ (in-here (size_terms.dummy d) (N z) df)
+        (next-full env0 q q-apart false n t S (fit false) l is i bs p.0 th.0 st a k x y))
+        (two-full (N z) true Op2.Lt _ _
+        (here-full env0 q q-apart false n t S (fit false) l is i bs p.0 th.0 st a k x (omega (arith, y)))
+        (next-full env0 q q-apart false n t S (fit false) l is i bs p.0 th.0 st a k x y)))))
         (size-full (N bs) ms es _ g.0 (fold-full env0 q q-apart false Fun.Sum _ bs
         (of-cells env0 q q-apart l false n t (upto size ∷ []) (slot_numbers S) is i bs _ (fit false) p.0 p.1
         ((number-anywhere (pos 1), (size-free, tt)), tt) a th.0 st
@@ -164,7 +167,8 @@ module _ (env0 : Env) (q : ℕ → Text) (q-apart : (m l : ℕ) → l < m → sa
           (steady-more env0 q q-apart l (number (pos k)) is i bs st) a)
           (slot-full env0 q q-apart r d e m size S (drop 1 ns) ts i p.2 th.1 l is bs a st))
 
-      pub marker-full : FullOf env0 q q-apart (repr ReprKind.ExplicitVarSizeWithMarker (more_reprs r no_reprs)) (set_dom ms es d) (sets ks e)
+      pub marker-full : FullOf env0 q q-apart (repr ReprKind.ExplicitVarSizeWithMarker (more_reprs r no_reprs)) (set_dom ms es d)
+          (sets ks e)
       marker-full = record { full = marker-at }
 
       flags-at : (ns : List Text) (ts : Tables) (l : ℕ) (is : Exs) (i : List ℤ) (bs : B') →

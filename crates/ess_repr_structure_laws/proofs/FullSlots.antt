@@ -1,5 +1,5 @@
 -- Tables that fit are full for what is said of slots.
-use Rattle.std.proofs.Common.{◌≡◌, refl, sym, ap, ◌∙◌, subst, ℕ, zero, suc, ◌+◌, ◌≤◌, ◌<◌, Bool, true, false, List, [], ◌∷◌, ◌++◌, map, ℤ, pos, ◌+ℤ◌, ◌-ℤ◌, Some, option_map, arith}
+use Rattle.std.proofs.Common.{◌≡◌, refl, sym, ap, ◌∙◌, subst, ℕ, zero, suc, ◌+◌, ◌≤◌, ◌<◌, true, false, List, [], ◌∷◌, ◌++◌, map, ℤ, pos, ◌+ℤ◌, ◌-ℤ◌, Some, option_map, arith}
 use Rattle.std.proofs.lemmas.Int.{ints}
 use Rattle.ess_semantics.specs.declared.words.Op1.{Op1}
 use Rattle.ess_semantics.specs.declared.words.Op2.{Op2}
@@ -15,11 +15,11 @@ use Rattle.ess_semantics.specs.Contexts.{Each, EachOf}
 use Rattle.ess_semantics.specs.Trees.{both_ends, unary, name_pat, Ex, Exs, number_ex, name_ex, comp_ex, Gens, no_gens, over, cond, Dom, ex1}
 use Rattle.ess_semantics.specs.Domains.{integers, interval}
 use Rattle.ess_semantics.specs.Tables.{Tables}
-use Rattle.ess_semantics.specs.Meaning.{Env, meaning, spans_of, members_in, domain_of}
+use Rattle.ess_semantics.specs.Meaning.{Env, spans_of, members_in, domain_of}
 use Rattle.ess_semantics.specs.Full.{Full, FullUnder}
 use Rattle.ess_semantics.specs.Occurrences.{has_cells}
 use Rattle.ess_semantics.proofs.Connectives.{binary-means}
-use Rattle.ess_repr_laws.specs.StructureParts.{Shape, add_ex, and_ex, le_ex, implies_ex, upto, less_ex, at_most_ex, zeros_ex, over_slots, next_ex, pairs_dom, over_pairs, each_pair, slots_ex, use_ex, first_ex}
+use Rattle.ess_repr_laws.specs.StructureParts.{Shape, add_ex, le_ex, implies_ex, upto, less_ex, at_most_ex, zeros_ex, over_slots, next_ex, pairs_dom, over_pairs, each_pair, slots_ex, use_ex, first_ex}
 use Rattle.ess_repr_laws.specs.StructureMeaning.{Bound, M, Number, Placed}
 use Rattle.ess_repr_laws.proofs.StructureRows.{Steady, There, steady-name}
 use Rattle.ess_repr_laws.proofs.StructureSlots.{members-ones}
@@ -40,7 +40,8 @@ pairs-run : (q : ℕ → Text) (size : Ex) (s : ℕ) (env : Env) → Number size
 pairs-run q size s env h = go s (ap (λ o. members_in (option_map integers (spans_of (both_ends ∷ []) (Some (number (pos 1)) ∷ o ∷ []))))
     (binary-means env false Op2.Minus size (number_ex (pos 1)) (number (pos s)) (number (pos 1)) h refl))
   where
-    go : (s : ℕ) → members_in (domain_of (pairs_dom q size) env) ≡ Some (sorted_once (append_all (interval (pos 1) (pos s -ℤ pos 1) ∷ []))) →
+    go : (s : ℕ) → members_in (domain_of (pairs_dom q size) env) ≡ Some (sorted_once (append_all (interval (pos 1)
+        (pos s -ℤ pos 1) ∷ []))) →
         Pairs s (pairs_dom q size) env
     go zero e = record { many = 0; members = e; below = λ k x y. absurd (omega (arith, x, y)) }
     go (suc n) e =
@@ -68,8 +69,8 @@ module _ (env0 : Env) (q : ℕ → Text) (q-apart : (m l : ℕ) → l < m → sa
       FullIn (comp_ex part (over (name_pat (q l)) D gs)) (N bs)
   run-full l D gs part m bs a e f = record {
     full = λ g. (
-        dom-anywhere D a g (N bs),
-        subst (λ o. EachOf o (K g)) (sym e) (run g 1 m (λ k x y. f k x y (bind_types (name_pat (q l)) (type_of_dom D) g))),
+      dom-anywhere D a g (N bs),
+      subst (λ o. EachOf o (K g)) (sym e) (run g 1 m (λ k x y. f k x y (bind_types (name_pat (q l)) (type_of_dom D) g))),
     );
   }
     where
@@ -81,7 +82,8 @@ module _ (env0 : Env) (q : ℕ → Text) (q-apart : (m l : ℕ) → l < m → sa
       run g a (suc n) f = (f a (omega arith) (omega arith), run g (suc a) n (λ k x y. f k (omega arith) (omega arith)))
 
   -- Where a test holds.
-  tested : (l : ℕ) (test part : Ex) (bs : B') (k : ℕ) → Slot l bs test k → Slot l bs part k → (g : Names Ty) → FullUnder (cond test no_gens) g
+  tested : (l : ℕ) (test part : Ex) (bs : B') (k : ℕ) → Slot l bs test k → Slot l bs part k → (g : Names Ty) →
+      FullUnder (cond test no_gens) g
       (N ((l, number (pos k)) ∷ bs)) (λ h here. Full part h here)
   tested l test part bs k t p g = (t.full g, reached (has_cells test) test (N ((l, number (pos k)) ∷ bs)) _ (p.full g))
 
@@ -90,7 +92,8 @@ module _ (env0 : Env) (q : ℕ → Text) (q-apart : (m l : ℕ) → l < m → sa
       (N bs)
   over-slots-full l size test part s bs hs a t p =
       fold-full env0 q q-apart true Fun.And _ bs (run-full l (upto size) (cond test no_gens) part s bs (number-anywhere (pos 1), (a, tt))
-      (ap (λ o. members_in (option_map integers (spans_of (both_ends ∷ []) (Some (number (pos 1)) ∷ o ∷ [])))) hs ∙ ap Some (members-ones s))
+      (ap (λ o. members_in (option_map integers (spans_of (both_ends ∷ []) (Some (number (pos 1)) ∷ o ∷ [])))) hs ∙ ap Some
+      (members-ones s))
       (λ k x y g. tested l test part bs k (t k x (omega (arith, y))) (p k x (omega (arith, y))) g))
 
   pairs-anywhere : (size : Ex) → Anywhere size → B.DomHas Anywhere (pairs_dom q size)
@@ -126,7 +129,11 @@ module _ (env0 : Env) (q : ℕ → Text) (q-apart : (m l : ℕ) → l < m → sa
       (th : (k : ℕ) → 1 ≤ k → k ≤ s → There env0 q q-apart ss vsss ts (i ++ (pos k ∷ []))) (ax : AxesHave Anywhere ss)
       (a : B.AllHave Anywhere is) (st : Steady env0 q q-apart l is i bs) where
     zeros-at : (k : ℕ) → 1 ≤ k → k ≤ s → Slot l bs (zeros_ex q (suc l) ss (add_ex is (name_ex (q l)))) k
-    zeros-at k x y = zeros-full env0 q q-apart (suc l) ss vsss ts (add_ex is (name_ex (q l))) (i ++ (pos k ∷ [])) ((l, number (pos k)) ∷ bs) p
+    zeros-at k x y = zeros-full env0 q q-apart (suc l) ss vsss ts (add_ex is (name_ex (q l))) (i ++ (pos k ∷ [])) ((
+      l,
+      number
+          (pos k),
+    ) ∷ bs) p
         (th k x y) ax (name-added q l is a) (steady-name env0 q q-apart l (number (pos k)) is i bs st)
 
     pub less-at : (k : ℕ) → 1 ≤ k → k + 1 ≤ s → Slot l bs (less_ex q (suc l) ss (add_ex is (name_ex (q l))) (add_ex is (next_ex q l))) k
@@ -154,7 +161,8 @@ module _ (env0 : Env) (q : ℕ → Text) (q-apart : (m l : ℕ) → l < m → sa
         (λ k x y. one-full (N ((l, number (pos k)) ∷ bs)) true (unary Op1.Not) (le_ex (name_ex (q l)) m) (le-m k)) zeros-at))
       where
         le-m : (k : ℕ) → Slot l bs (le_ex (name_ex (q l)) m) k
-        le-m k = two-full (N ((l, number (pos k)) ∷ bs)) true Op2.Le (name_ex (q l)) m (in-here (name_ex (q l)) _ (name-anywhere (q l))) (fm k)
+        le-m k = two-full (N ((l, number (pos k)) ∷ bs)) true Op2.Le (name_ex (q l)) m (in-here (name_ex (q l)) _ (name-anywhere (q l)))
+            (fm k)
 
     -- Slots of which those in use rise.
     pub use-full : (here next rise part : Ex) → ((k : ℕ) → 1 ≤ k → k ≤ s → Slot l bs here k) →

@@ -1,5 +1,5 @@
 -- Tables that fit are full for the structures of tuples and records: for those of each component.
-use Rattle.std.proofs.Common.{◌≡◌, refl, sym, ap, ◌∙◌, subst, ℕ, ◌<◌, Bool, true, false, List, [], ◌∷◌, ◌++◌, take, drop, length, ℤ}
+use Rattle.std.proofs.Common.{◌≡◌, sym, ap, ◌∙◌, subst, ℕ, ◌<◌, true, false, List, [], ◌∷◌, ◌++◌, take, drop, length, ℤ}
 use Rattle.ess_semantics.specs.declared.words.Op2.{Op2}
 use Rattle.ess_semantics.specs.Values.{Text, Value}
 use Rattle.ess_semantics.specs.Order.{same_text}
@@ -53,7 +53,8 @@ module _ (env0 : Env) (q : ℕ → Text) (q-apart : (m l : ℕ) → l < m → sa
         B.AllHave Anywhere is → FullIn (structure_of_each q size_terms rs ds ns l is) (N bs)
 
   -- One more component.
-  pub more-full : (r : Repr) (rs : Reprs) (d : Dom) (ds : Doms) (e : Domain) (es : List Domain) → StructureOf env0 q q-apart size_terms r d e
+  pub more-full : (r : Repr) (rs : Reprs) (d : Dom) (ds : Doms) (e : Domain) (es : List Domain) →
+      StructureOf env0 q q-apart size_terms r d e
       → FullOf env0 q q-apart r d e → EachFull rs ds es →
       EachFull (more_reprs r rs) (more_doms d ds) (e ∷ es)
   more-full r rs d ds e es s m each = record {
@@ -80,9 +81,11 @@ module _ (env0 : Env) (q : ℕ → Text) (q-apart : (m l : ℕ) → l < m → sa
           (drop (width r) ts)
       placed ns ts p = subst (λ n. Placed env0 q q-apart (S ns) (axes_members r e) (take n ts) × Placed env0 q q-apart (T ns)
           (members_of_axes rs es) (drop n ts)) (s.long (take (width r) ns))
-          (placed-split env0 q q-apart (S ns) (T ns) (axes_members r e) (members_of_axes rs es) ts (s.long (take (width r) ns) ∙ sym wide) p)
+          (placed-split env0 q q-apart (S ns) (T ns) (axes_members r e) (members_of_axes rs es) ts (s.long (take
+          (width r) ns) ∙ sym wide) p)
 
-      there : (ns : List Text) (ts : Tables) (i : List ℤ) → There env0 q q-apart (S ns ++ T ns) (axes_members r e ++ members_of_axes rs es) ts
+      there : (ns : List Text) (ts : Tables) (i : List ℤ) →
+          There env0 q q-apart (S ns ++ T ns) (axes_members r e ++ members_of_axes rs es) ts
           i →
           There env0 q q-apart (S ns) (axes_members r e) (take (width r) ts) i × There env0 q q-apart (T ns) (members_of_axes rs es)
           (drop (width r) ts) i

@@ -1,6 +1,6 @@
 -- Tables over the declared axes with items in the declared domains are full for the structures of views of judged domains, also with the
 -- domain's numbers under their conditions.
-use Rattle.std.proofs.Common.{◌≡◌, refl, sym, ap, ◌∙◌, subst, ℕ, ◌<◌, true, false, List, [], length}
+use Rattle.std.proofs.Common.{◌≡◌, refl, sym, subst, ℕ, ◌<◌, true, false, List, [], length}
 use Rattle.ess_semantics.specs.Values.{Text}
 use Rattle.ess_semantics.specs.Order.{same_text}
 use Rattle.ess_semantics.specs.Names.{Names}

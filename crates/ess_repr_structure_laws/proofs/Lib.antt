@@ -20,6 +20,7 @@ pub mod JudgedViews
 pub mod SoundTogether
 pub mod JudgedNumbers
 -- What structures are built of
+pub mod PickedNumbers
 pub mod BuiltStructures
 pub mod BuiltShapes
 pub mod BuiltParts
@@ -62,3 +63,4 @@ pub mod FullNumbers
 pub mod FullViews
 -- Worked examples
 pub mod ExamplesStructures
+pub mod ExamplesFull

@@ -14,6 +14,7 @@ use Rattle.ess_repr_laws.specs.StructureMeaning.{Bound, M}
 use Rattle.ess_repr_declare_laws.specs.SizeTerms.{two_ex, times_ex, power_ex, next_ex, count_ex, listed_ex, occurrences_ex, bound_ex, product_ex, product_behind, size_terms}
 use Rattle.ess_repr_declare_laws.proofs.Readings.{Reads, times-reads, next-reads, power-reads}
 use Rattle.ess_repr_structure_laws.proofs.BuiltStructures as B
+use Rattle.ess_repr_structure_laws.proofs.PickedNumbers.{occurrences-may}
 use Rattle.ess_repr_structure_laws.proofs.BuiltStructures.{is_used, counts_nothing, BuiltOf}
 use Rattle.ess_repr_structure_laws.proofs.BuiltAll.{structure-has}
 use Rattle.ess_repr_structure_laws.proofs.DenotedParts.{Denotes, AllDenote, Natural, first-denotes, tuple-denotes, record-denotes, matrix-denotes, set-denotes, mset-denotes, function-denotes, relation-denotes, partition-denotes, range-natural, name-natural}
@@ -107,7 +108,7 @@ module _ (env0 : Env) (q : ℕ → Text) (q-apart : (m l : ℕ) → l < m → sa
   two-power b bs h = let y : Natural b (N bs) = h.natural in power-is two_ex b 1 y.number bs refl y.reads tt h.total
 
   occurrences-total : (ms : List Mark) (es : Exs) → AllHave es → (bs : Names) → Total (occurrences_ex ms es) (N bs)
-  occurrences-total ms es a bs = B.occurrences-may T ms es a (λ cs. tt) bs
+  occurrences-total ms es a bs = occurrences-may T ms es a (λ cs. tt) bs
 
   mutual
     bound-is : (d : Dom) → Good d → (bs : Names) → BoundIs (bound_ex d) bs
