@@ -90,9 +90,12 @@ alternatives-keep s g (fun1 false w (comp_ex e (from (name_pat y) t hs))) f q en
     × EachOf (all_listed (map (put_alternative y e hs) l) env) (λ v. IsNumber (Some v)))
     (Keeps (fun1 false w (comp_ex e (from (name_pat y) t hs))) f env) q c.2
     (λ l p d m. alternatives-serve.of_numbers (map (put_alternative y e hs) l) (fun1 false w (comp_ex e (from
-    (name_pat y) t hs))) f p env
-    (c.0, alternatives-serve.of_a_comprehension d.0.0 d.0.1 l (comp_ex e (from (name_pat y) t hs)) (map (put_alternative y e hs) l) refl
-    d.0.2 env (and-left (is_some (meaning (comp_ex e (from (name_pat y) t hs)) env)) true c.1) m.0 d.0.3.1, d.1) m)
+    (name_pat y) t hs))) f p env (
+      c.0,
+      alternatives-serve.of_a_comprehension d.0.0 d.0.1 l (comp_ex e (from (name_pat y) t hs)) (map (put_alternative y e hs) l) refl
+          d.0.2 env (and-left (is_some (meaning (comp_ex e (from (name_pat y) t hs)) env)) true c.1) m.0 d.0.3.1,
+      d.1,
+    ) m)
 alternatives-keep s g _ f q env c = cc
 
 matrices-at-keep : (s : Supply) (g : Names Ty) (e f : Ex) → matrices_at s g e ≡ Some f → (env : Env) → Typed g env →
