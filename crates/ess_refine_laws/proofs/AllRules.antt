@@ -38,7 +38,7 @@ use Rattle.ess_rules_laws.proofs.ShortSizeRules.{size_made-keeps, frequency_made
 use Rattle.ess_rules_laws.proofs.ListRules.{lists-keep}
 use Rattle.ess_rules_laws.proofs.ContainerListings.{made-listings}
 use Rattle.ess_rules_laws.proofs.ChoiceRules.{choices-keep}
-use Rattle.ess_refine_laws.specs.AllRules.{Rule, over_nothing, over_one, over_one_binding, over_a_term, over_a_literal, over_a_made_set, over_a_source, of_one_source, over_a_comprehension, over_tuples, over_a_tuple, over_a_record, over_a_condition, component_of_a_tuple, field_of_a_record, not_equal, turned, strictly, equal_tuples, equal_records, equal_sets, equal_multisets, equal_functions, equal_partitions, with_nothing, equal_matrices_at, included_sets, included_multisets, in_two, in_one_made_of_another, in_a_literal, in_what_a_function_has, in_its_pairs, in_a_term, size_of_one_made_of_another, size, frequency_in_one_made_of_another, frequency_in_a_literal, frequency, together, least_of_a_literal, different_items, list_of_a_term, list_on_the_left, list_on_the_right, all_different, results, choice, condition, condition_behind, least_under_a_condition, least_of_alternatives, Supply, offered, source_listed, only_one, source_listed_once, extremes_listed, matrices_at, opposite_copied, compares_compound, tells_scalars_apart, rewrite, OfSome, ListedApart, SourceListed, NumbersListed, CountsOn, all_rules, first_rewrite, FiringFit, AllRulesKeep}
+use Rattle.ess_refine_laws.specs.AllRules.{Rule, over_nothing, over_one, over_one_binding, over_a_term, over_a_literal, over_a_made_set, over_a_source, of_one_source, over_a_comprehension, over_tuples, over_a_tuple, over_a_record, over_a_condition, component_of_a_tuple, field_of_a_record, not_equal, turned, strictly, equal_tuples, equal_records, equal_sets, equal_multisets, equal_functions, equal_partitions, with_nothing, equal_matrices_at, included_sets, included_multisets, in_two, in_one_made_of_another, in_a_literal, in_what_a_function_has, in_its_pairs, in_a_term, size_of_one_made_of_another, size, frequency_in_one_made_of_another, frequency_in_a_literal, frequency, together, least_of_a_literal, different_items, list_of_a_term, list_on_the_left, list_on_the_right, all_different, results, choice, condition, condition_behind, least_under_a_condition, least_of_alternatives, Supply, offered, source_listed, only_one, source_listed_once, extremes_listed, matrices_at, opposite_copied, compares_compound, tells_scalars_apart, rewrite, OfSome, ListedApart, SourceListed, CountsOn, all_rules, first_rewrite, FiringFit, AllRulesKeep}
 use Rattle.ess_refine_laws.specs.ExtremeAlternatives.{put_alternative, extreme_alternatives}
 use Rattle.ess_refine_laws.proofs.RecordNames.{names-over-records}
 use Rattle.ess_refine_laws.proofs.LeavingConditions.{conditions-leave}
@@ -90,9 +90,12 @@ alternatives-keep s g (fun1 false w (comp_ex e (from (name_pat y) t hs))) f q en
     × EachOf (all_listed (map (put_alternative y e hs) l) env) (λ v. IsNumber (Some v)))
     (Keeps (fun1 false w (comp_ex e (from (name_pat y) t hs))) f env) q c.2
     (λ l p d m. alternatives-serve.of_numbers (map (put_alternative y e hs) l) (fun1 false w (comp_ex e (from
-    (name_pat y) t hs))) f p env
-    (c.0, alternatives-serve.of_a_comprehension d.0.0 d.0.1 l (comp_ex e (from (name_pat y) t hs)) (map (put_alternative y e hs) l) refl
-    d.0.2 env (and-left (is_some (meaning (comp_ex e (from (name_pat y) t hs)) env)) true c.1) m.0 d.0.3.1, d.1) m)
+    (name_pat y) t hs))) f p env (
+      c.0,
+      alternatives-serve.of_a_comprehension d.0.0 d.0.1 l (comp_ex e (from (name_pat y) t hs)) (map (put_alternative y e hs) l) refl
+          d.0.2 env (and-left (is_some (meaning (comp_ex e (from (name_pat y) t hs)) env)) true c.1) m.0 d.0.3.1,
+      d.1,
+    ) m)
 alternatives-keep s g _ f q env c = cc
 
 matrices-at-keep : (s : Supply) (g : Names Ty) (e f : Ex) → matrices_at s g e ≡ Some f → (env : Env) → Typed g env →

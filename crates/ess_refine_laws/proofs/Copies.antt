@@ -1,8 +1,7 @@
 -- A copy that uses no name that generators bind means the same at each of their bindings.
 use Rattle.std.proofs.Common.{◌≡◌, ◌∙◌, Bool, false, ℤ, Option, Some, None}
-use Rattle.std.specs.Prelude.{is_some}
 use Rattle.ess_semantics.specs.declared.words.Fun.{Fun}
-use Rattle.ess_semantics.specs.Values.{Text, Value, number}
+use Rattle.ess_semantics.specs.Values.{Text, number}
 use Rattle.ess_semantics.specs.Trees.{Ex, comp_ex, fun1, Gens, no_gens, over, from, cond}
 use Rattle.ess_semantics.specs.Meaning.{Env, bind, meaning, domain_of, members_in, with_pat}
 use Rattle.ess_semantics.specs.Substitution.{NamesAre, NamesAreGens}

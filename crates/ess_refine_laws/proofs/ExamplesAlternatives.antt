@@ -1,18 +1,17 @@
 -- Worked examples of the least and the greatest over several alternatives.
-use Rattle.std.specs.Prelude.{◌≡◌, refl, true, false, List, [], ◌∷◌, map, codes, Some, None}
+use Rattle.std.specs.Prelude.{◌≡◌, refl, true, false, List, [], ◌∷◌, codes, Some, None}
 use Rattle.ess_semantics.specs.declared.words.Op1.{Op1}
 use Rattle.ess_semantics.specs.declared.words.Op2.{Op2}
 use Rattle.ess_semantics.specs.declared.words.Fun.{Fun}
-use Rattle.ess_semantics.specs.Values.{Text, Value, a_set, node, of_list, number}
+use Rattle.ess_semantics.specs.Values.{Text, Value, a_set, node, of_list}
 use Rattle.ess_semantics.specs.Names.{Names}
-use Rattle.ess_semantics.specs.Trees.{name_pat, Ex, comp_ex, ex1, ex2, truth_ex, no_gens, from, cond}
+use Rattle.ess_semantics.specs.Trees.{name_pat, Ex, comp_ex, ex1, ex2, no_gens, from, cond}
 use Rattle.ess_semantics.specs.Types.{Ty, int_ty, compound1}
 use Rattle.ess_semantics.specs.Meaning.{Env, empty_env, meaning}
-use Rattle.ess_semantics.proofs.Shorthands.{N, n, v, es2, bi, un, fn, upto, neg}
+use Rattle.ess_semantics.proofs.Shorthands.{N, n, v, es2, bi, fn, upto}
 use Rattle.ess_rules_laws.specs.Listings.{Alternative, those}
 use Rattle.ess_rules_laws.specs.SourceRules.{list_of}
-use Rattle.ess_refine_laws.specs.Everywhere.{extreme}
-use Rattle.ess_refine_laws.specs.ExtremeAlternatives.{put_alternative, flat, has_items, extreme_or, past_all, extreme_parts, extreme_alternatives}
+use Rattle.ess_refine_laws.specs.ExtremeAlternatives.{flat, extreme_or, past_all, extreme_alternatives}
 use Rattle.ess_refine_laws.specs.AllRules.{Supply, rule_at}
 
 abbrev s : Text

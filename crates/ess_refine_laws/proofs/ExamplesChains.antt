@@ -1,10 +1,10 @@
 -- Worked examples of what stays along a chain: types, marks, scopes and numbers.
-use Rattle.std.specs.Prelude.{◌≡◌, refl, true, false, pos, [], ◌∷◌, codes, Some, None}
+use Rattle.std.specs.Prelude.{◌≡◌, refl, true, false, pos, [], ◌∷◌, codes, Some, None, option_map}
 use Rattle.ess_semantics.specs.declared.words.Op2.{Op2}
 use Rattle.ess_semantics.specs.declared.words.Fun.{Fun}
 use Rattle.ess_semantics.specs.Values.{Text, a_set, a_tuple}
 use Rattle.ess_semantics.specs.Names.{Names}
-use Rattle.ess_semantics.specs.Trees.{by_value, to_component, binary, word, index, matrix_literal, name_pat, truth_ex, node_ex, no_exs, no_gens, over, from}
+use Rattle.ess_semantics.specs.Trees.{by_value, to_component, binary, word, index, matrix_literal, set_literal, name_pat, Ex, truth_ex, node_ex, no_exs, more_exs, no_gens, over, from}
 use Rattle.ess_semantics.specs.declared.words.ReprKind.{ReprKind}
 use Rattle.ess_semantics.specs.Choice.{alone}
 use Rattle.ess_semantics.specs.Types.{Ty, bool_ty, int_ty, compound1, compound2}
@@ -14,6 +14,9 @@ use Rattle.ess_semantics.specs.Contexts.{In, hole, in_operand, in_body, in_view_
 use Rattle.ess_semantics.proofs.Shorthands.{N, n, es1, es2, bi, fn, upto, set}
 use Rattle.ess_refine_laws.specs.MarksStay.{HasMarks}
 use Rattle.ess_refine_laws.specs.ScopesStay.{Scope, scope_at, is_outside_views}
+use Rattle.ess_rules_laws.specs.FoldRules.{fold_term}
+use Rattle.ess_refine_laws.specs.AllRules.{over_a_term, size}
+use Rattle.ess_refine_laws.specs.SparingRules.{keeps_operands}
 use Rattle.ess_refine_laws.specs.ConstantsStay.{dropping_at}
 
 abbrev s : Text
@@ -85,3 +88,17 @@ uncounted = (refl, refl)
 counted : (dropping_at (in_operand true (binary Op2.Eq) (in_first hole (es1 (N j)))) true ≡ false)
     × (tree_constants false (node_ex false matrix_literal (es2 (n 7) (n 8))) ≡ pos 1 ∷ pos 2 ∷ pos 7 ∷ pos 8 ∷ [])
 counted = (refl, refl)
+
+-- ---- rules that spell no more
+
+spared : (keeps_operands size ≡ true) × (keeps_operands over_a_term ≡ false)
+spared = (refl, refl)
+
+-- `sum({7, 7, 7})` isn't counted, but as a source the literal is: 3 is new then. So the rule of a fold over a term isn't among them.
+abbrev sevens : Ex
+sevens = node_ex false set_literal (more_exs (n 7) (es2 (n 7) (n 7)))
+
+counted_as_a_source : (tree_constants false (fn Fun.Sum sevens) ≡ pos 7 ∷ pos 7 ∷ pos 7 ∷ [])
+    × (option_map (tree_constants false) (fold_term j (fn Fun.Sum sevens))
+    ≡ Some (pos 1 ∷ pos 2 ∷ pos 3 ∷ pos 7 ∷ pos 7 ∷ pos 7 ∷ []))
+counted_as_a_source = (refl, refl)

@@ -1,31 +1,29 @@
 -- The least of several alternatives is kept with one number for each.
-use Rattle.std.proofs.Common.{◌≡◌, refl, sym, ap, ◌∙◌, subst, Bool, true, false, if◌then◌else◌, List, [], ◌∷◌, ◌++◌, map, ℤ, pos, Option, Some, None, option_map, arith}
+use Rattle.std.proofs.Common.{◌≡◌, refl, sym, ap, ◌∙◌, subst, true, false, List, [], ◌∷◌, ◌++◌, map, ℤ, pos, Option, Some, None, option_map, arith}
 use Rattle.std.proofs.lemmas.Int.{ints}
-use Rattle.std.specs.Prelude.{IsTrue, is_some, ◌+ℤ◌, ◌*ℤ◌}
+use Rattle.std.specs.Prelude.{is_some, ◌+ℤ◌, ◌*ℤ◌}
 use Rattle.ess_semantics.specs.declared.words.Op1.{Op1}
 use Rattle.ess_semantics.specs.declared.words.Op2.{Op2}
 use Rattle.ess_semantics.specs.declared.words.Fun.{Fun}
 use Rattle.ess_semantics.specs.Lists.{and_then, all_some, append_all}
-use Rattle.ess_semantics.specs.Values.{Value, number, truth, item, node, items_of}
-use Rattle.ess_semantics.specs.Order.{below}
-use Rattle.ess_semantics.specs.Trees.{unary, binary, word, Ex, truth_ex, comp_ex, fun1, Gens, no_gens, over, from, cond}
+use Rattle.ess_semantics.specs.Values.{Value, number, truth, items_of}
+use Rattle.ess_semantics.specs.Trees.{unary, binary, word, Ex, truth_ex, fun1}
 use Rattle.ess_semantics.specs.Operators.{list_value, any_true, least, greatest, value_of_node, false_where_undefined}
-use Rattle.ess_semantics.specs.Meaning.{Env, meaning, meanings, items_under, domain_of, members_in, with_pat, collect, where_true}
-use Rattle.ess_semantics.specs.Contexts.{Each, EachOf, AtEach}
-use Rattle.ess_semantics.specs.Meets.{Meets, MeetsAll, MeetsGens}
+use Rattle.ess_semantics.specs.Meaning.{Env, meaning, meanings, where_true}
+use Rattle.ess_semantics.specs.Contexts.{Each, EachOf}
+use Rattle.ess_semantics.specs.Meets.{Meets, MeetsAll}
 use Rattle.ess_semantics.specs.Kept.{Keeps}
 use Rattle.ess_semantics.proofs.Orders.{to_list-of_list}
 use Rattle.ess_rules_laws.specs.Rules.{IsNumber}
 use Rattle.ess_rules_laws.specs.Listings.{Alternative, items_listed, all_listed}
 use Rattle.ess_rules_laws.specs.SourceRules.{list_of}
-use Rattle.ess_rules_laws.specs.ListedSources.{laid_out, AllMet, Offers}
+use Rattle.ess_rules_laws.specs.ListedSources.{laid_out, AllMet}
 use Rattle.ess_rules_laws.proofs.Steps.{meets-gens-join}
 use Rattle.ess_rules_laws.proofs.Permutations.{Perm}
 use Rattle.ess_rules_laws.proofs.LeastGreatest.{least-perm, greatest-perm}
 use Rattle.ess_rules_laws.proofs.RuleAnswers.{AnswerKeeps, fires, when-so}
 use Rattle.ess_rules_laws.proofs.SourceRules.{both-lists}
 use Rattle.ess_rules_laws.proofs.Connectives.{any-means, bits}
-use Rattle.ess_refine_laws.specs.Everywhere.{extreme}
 use Rattle.ess_refine_laws.specs.ExtremeRules.{is_extreme}
 use Rattle.ess_refine_laws.specs.ExtremeAlternatives.{has_items, extreme_or, each_extreme, extreme_parts, past_all, extreme_alternatives, is_past, AlternativesFit, NumbersFit, AlternativesServe}
 use Rattle.ess_refine_laws.proofs.Replaced.{number-of}

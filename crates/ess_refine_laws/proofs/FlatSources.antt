@@ -3,7 +3,6 @@ use Rattle.std.proofs.Common.{◌≡◌, refl, sym, ap, ◌∙◌, subst, Bool, 
 use Rattle.std.specs.Prelude.{IsTrue, is_some}
 use Rattle.ess_semantics.specs.Lists.{and_then, list_or_none}
 use Rattle.ess_semantics.specs.Values.{Text, Value, items_of}
-use Rattle.ess_semantics.specs.Collections.{count}
 use Rattle.ess_semantics.specs.Trees.{name_pat, Ex, comp_ex, Gens, from}
 use Rattle.ess_semantics.specs.Operators.{list_value}
 use Rattle.ess_semantics.specs.Meaning.{Env, meaning, items_under, collect}

@@ -1,23 +1,22 @@
 -- A list is what its indices pick, in order.
-use Rattle.std.proofs.Common.{◌≡◌, refl, sym, ap, ◌∙◌, subst, ℕ, zero, suc, ◌≤◌, Bool, true, false, if◌then◌else◌, List, [], ◌∷◌, ◌++◌, map, length, pos, Option, Some, None, option_map, arith}
-use Rattle.std.specs.Prelude.{IsTrue, is_some}
+use Rattle.std.proofs.Common.{◌≡◌, refl, sym, ap, ◌∙◌, subst, ℕ, suc, ◌≤◌, Bool, true, false, if◌then◌else◌, List, [], ◌∷◌, ◌++◌, map, length, pos, Option, Some, None, option_map, arith}
+use Rattle.std.specs.Prelude.{is_some}
 use Rattle.ess_semantics.specs.Lists.{and_then, all_some}
 use Rattle.ess_semantics.specs.Values.{Text, Value, number, truth, item, node, of_list, a_matrix}
 use Rattle.ess_semantics.specs.Order.{same}
 use Rattle.ess_semantics.specs.Names.{Names}
-use Rattle.ess_semantics.specs.Numbers.{one_to, run_from}
-use Rattle.ess_semantics.specs.Trees.{by_value, index, matrix_literal, name_pat, Ex, Exs, number_ex, name_ex, node_ex, no_exs, more_exs}
+use Rattle.ess_semantics.specs.Numbers.{run_from}
+use Rattle.ess_semantics.specs.Trees.{by_value, index, matrix_literal, Ex, Exs, number_ex, name_ex, node_ex, no_exs, more_exs}
 use Rattle.ess_semantics.specs.Types.{Ty, no_tys, more_tys, compound, is_bool}
 use Rattle.ess_semantics.specs.Typing.{type_of}
 use Rattle.ess_semantics.specs.Constants.{operand_count}
 use Rattle.ess_semantics.specs.Operators.{item_at, numbers_from, list_value, value_of_node, false_where_undefined}
-use Rattle.ess_semantics.specs.Meaning.{Env, meaning, meanings, domain_of, members_in, collect}
+use Rattle.ess_semantics.specs.Meaning.{Env, meaning, meanings, collect}
 use Rattle.ess_semantics.specs.Contexts.{Each, EachOf}
 use Rattle.ess_semantics.specs.Meets.{Meets}
 use Rattle.ess_semantics.specs.Kept.{Keeps}
 use Rattle.ess_semantics.proofs.Orders.{same-equal, same-itself}
 use Rattle.ess_rules_laws.specs.Rules.{Unused, IsTruth}
-use Rattle.ess_rules_laws.specs.SlotListings.{slots_dom}
 use Rattle.ess_rules_laws.specs.MatrixRules.{item_of}
 use Rattle.ess_rules_laws.proofs.SlotNumbers.{slots-members}
 use Rattle.ess_rules_laws.proofs.RuleAnswers.{AnswerKeeps, fires, behind, meaning-behind, meets-behind, name-behind, each-any}

@@ -1,32 +1,27 @@
 -- A condition that moves behind the generators after it keeps the least and the greatest.
-use Rattle.std.proofs.Common.{◌≡◌, refl, sym, ap, ◌∙◌, subst, Bool, true, false, ◌&&◌, not, if◌then◌else◌, List, [], ◌∷◌, ◌++◌, Option, Some, None, option_map}
+use Rattle.std.proofs.Common.{◌≡◌, refl, sym, ap, ◌∙◌, subst, Bool, true, false, ◌&&◌, if◌then◌else◌, List, [], ◌∷◌, ◌++◌, Option, Some, None, option_map}
 use Rattle.std.specs.Prelude.{is_some}
 use Rattle.ess_semantics.specs.declared.words.Fun.{Fun}
 use Rattle.ess_semantics.specs.Lists.{and_then}
 use Rattle.ess_semantics.specs.Values.{Text, Value, number, truth, item, node}
-use Rattle.ess_semantics.specs.Names.{Names}
 use Rattle.ess_semantics.specs.Trees.{word, Ex, comp_ex, fun1, Pat, name_pat, Gens, no_gens, over, from, cond, Dom, bool_dom, int_dom, name_dom}
 use Rattle.ess_semantics.specs.Kinds.{is_bounded}
 use Rattle.ess_semantics.specs.Refined.{is_refined, are_refined, are_refined_gens}
-use Rattle.ess_semantics.specs.Operators.{as_truth, list_value, value_of_node}
-use Rattle.ess_semantics.specs.Tables.{Table}
-use Rattle.ess_semantics.specs.Meaning.{Env, TypeEntry, bind, meaning, items_under, domain_of, members_in, with_pat, collect, where_true}
-use Rattle.ess_semantics.specs.Contexts.{Each, EachOf, AtEach}
-use Rattle.ess_semantics.specs.Meets.{Meets, MeetsGens, MeetsDom}
+use Rattle.ess_semantics.specs.Operators.{list_value, value_of_node}
+use Rattle.ess_semantics.specs.Meaning.{Env, bind, meaning, items_under, domain_of, members_in, with_pat, collect, where_true}
+use Rattle.ess_semantics.specs.Contexts.{Each, AtEach}
 use Rattle.ess_semantics.specs.Kept.{Keeps}
 use Rattle.ess_semantics.specs.Substitution.{NamesAre, Binds}
 use Rattle.ess_semantics.proofs.Tests.{and-left, and-right, and-both}
 use Rattle.ess_rules_laws.specs.SpliceRules.{append_gens}
 use Rattle.ess_rules_laws.proofs.Agreement.{outside, meaning-agree}
-use Rattle.ess_rules_laws.proofs.MeetsSimulation.{meets-agree}
 use Rattle.ess_rules_laws.proofs.Simulation.{any, collect-same}
 use Rattle.ess_rules_laws.proofs.Splices.{bind-outside}
-use Rattle.ess_rules_laws.proofs.Bindings.{each-map}
 use Rattle.ess_rules_laws.proofs.Places.{at-each-join}
 use Rattle.ess_rules_laws.proofs.RuleAnswers.{AnswerKeeps, fires, each-any}
 use Rattle.ess_rules_laws.proofs.SourceRules.{list-there}
 use Rattle.ess_rules_laws.proofs.Tails.{tails-congruent}
-use Rattle.ess_refine_laws.specs.Everywhere.{everywhere_exs, everywhere_dom, ReadsBounds}
+use Rattle.ess_refine_laws.specs.Everywhere.{everywhere_exs, everywhere_dom}
 use Rattle.ess_refine_laws.specs.LeavingConditions.{Parted, at_last_condition}
 use Rattle.ess_refine_laws.specs.ExtremeRules.{is_extreme}
 use Rattle.ess_refine_laws.specs.MovingConditions.{one_later, condition_later, BoundsRead, ConditionApart, LaterApart, LaterRead, LaterFits, ConditionsMove}

@@ -1,26 +1,25 @@
 -- The sum of the sizes of all items is past each of them.
-use Rattle.std.proofs.Common.{◌≡◌, refl, sym, ap, ◌∙◌, subst, ℕ, suc, ◌+◌, Bool, true, false, List, [], ◌∷◌, ◌++◌, map, ℤ, pos, negsuc, neg_ℤ, Option, Some, None, option_map, arith}
+use Rattle.std.proofs.Common.{◌≡◌, refl, sym, ap, ◌∙◌, subst, ℕ, suc, ◌+◌, true, false, List, [], ◌∷◌, ◌++◌, map, ℤ, pos, negsuc, neg_ℤ, Option, Some, None, option_map, arith}
 use Rattle.std.proofs.lemmas.Int.{ints}
-use Rattle.std.specs.Prelude.{is_some, nat_abs, ◌+ℤ◌, ◌<ℤ◌}
+use Rattle.std.specs.Prelude.{nat_abs, ◌+ℤ◌, ◌<ℤ◌}
 use Rattle.std.specs.Cmp.{int_ranks}
 use Rattle.std.specs.Ordering.{MatchOrdering, int_cmp, is_lt}
 use Rattle.std.specs.declared.cmp.Ordering.{Ordering}
 use Rattle.std.specs.declared.cmp.Ordering.TheVariants.{Less, Equal, Greater}
 use Rattle.ess_semantics.specs.declared.words.Op1.{Op1}
 use Rattle.ess_semantics.specs.declared.words.Fun.{Fun}
-use Rattle.ess_semantics.specs.Lists.{and_then, all_some, append_all}
+use Rattle.ess_semantics.specs.Lists.{and_then, all_some}
 use Rattle.ess_semantics.specs.Values.{Value, number, truth, item, node, items_of}
 use Rattle.ess_semantics.specs.Order.{below}
-use Rattle.ess_semantics.specs.Trees.{unary, word, Ex, comp_ex, ex1, fun1, Gens, no_gens, over, from, cond}
-use Rattle.ess_semantics.specs.Operators.{number_in, sum_of, list_value, value_of_unary, value_of_node}
+use Rattle.ess_semantics.specs.Trees.{unary, Ex, ex1, fun1, Gens, no_gens, over, from, cond}
+use Rattle.ess_semantics.specs.Operators.{number_in, sum_of, value_of_unary, value_of_node}
 use Rattle.ess_semantics.specs.Meaning.{Env, meaning, meanings, items_under, domain_of, members_in, with_pat, collect, where_true}
 use Rattle.ess_semantics.specs.Contexts.{Each, EachOf}
 use Rattle.ess_semantics.specs.Meets.{Meets, MeetsAll}
-use Rattle.ess_semantics.proofs.Orders.{to_list-of_list}
 use Rattle.ess_rules_laws.specs.Rules.{IsNumber}
 use Rattle.ess_rules_laws.specs.Listings.{Alternative, items_listed, all_listed}
 use Rattle.ess_rules_laws.specs.SourceRules.{list_of}
-use Rattle.ess_rules_laws.specs.ListedSources.{laid_out, AllMet}
+use Rattle.ess_rules_laws.specs.ListedSources.{AllMet}
 use Rattle.ess_rules_laws.proofs.Steps.{meets-gens-join}
 use Rattle.ess_rules_laws.proofs.SourceRules.{both-lists}
 use Rattle.ess_rules_laws.proofs.Folds.{fold-means, literal-means}

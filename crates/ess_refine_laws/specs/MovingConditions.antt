@@ -1,6 +1,5 @@
 -- A condition that reads cells moves behind the generators after it, so that `min` and `max` find it last.
 use Rattle.std.specs.Prelude.{◌≡◌, Bool, true, false, ◌&&◌, not, Option, Some, None, option_map, IsTrue, is_some, if◌then◌else◌}
-use Rattle.ess_semantics.specs.declared.words.Fun.{Fun}
 use Rattle.ess_semantics.specs.Values.{Text}
 use Rattle.ess_semantics.specs.Trees.{Ex, comp_ex, fun1, Gens, over, cond}
 use Rattle.ess_semantics.specs.Refined.{is_refined, are_refined_gens}

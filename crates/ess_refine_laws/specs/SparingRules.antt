@@ -1,5 +1,5 @@
 -- Rules that spell no new numbers but 0, 1 and 2.
-use Rattle.std.specs.Prelude.{◌≡◌, Bool, true, false, Option, Some}
+use Rattle.std.specs.Prelude.{◌≡◌, Bool, true, false, Some}
 use Rattle.ess_semantics.specs.Names.{Names}
 use Rattle.ess_semantics.specs.Trees.{Ex}
 use Rattle.ess_semantics.specs.Types.{Ty}
