@@ -11,6 +11,9 @@ mod ExamplesPrinted
 mod ShownMeanings
 mod ShownMeets
 pub mod ShownLaws
+mod ExamplesShown
+mod ToldNames
+pub mod WrittenLaws
 pub mod Built
 pub mod Examples
 pub mod ExamplesBuilt

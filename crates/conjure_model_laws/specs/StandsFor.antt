@@ -1,10 +1,13 @@
 -- When what stands in the place of names over tables has their values.
-use Rattle.std.specs.Prelude.{◌≡◌, Bool, not, Some, None, IsTrue}
+use Rattle.std.specs.Prelude.{◌≡◌, Bool, not, Some, None, IsTrue, ℕ, ◌≤◌, ◌^◌, false, []}
 use Rattle.ess_semantics.specs.Values.{Text, Value}
 use Rattle.ess_semantics.specs.Names.{Names, look, keys, is_among}
 use Rattle.ess_semantics.specs.Trees.{Ex, name_dom}
 use Rattle.ess_semantics.specs.Meaning.{Env, meaning, domain_of}
 use Rattle.ess_semantics.specs.Meets.{Meets, MeetsDom}
+use Rattle.ess_semantics.specs.FreeNames.{FreeNamesAre}
+use Rattle.conjure_laws.specs.PlainTrees.{Plain}
+use Rattle.conjure_model_laws.specs.ToldApart.{reserved, told}
 use Rattle.conjure_model_laws.specs.Shown.{Shows, range_of_type}
 
 -- The env with other values of names.
@@ -28,3 +31,15 @@ pub record StandsFor (sh : Shows) (n : Text → Bool) (env there : Env) : Type 0
 -- A name in whose place nothing is shown.
 abbrev pub is_unshown : Shows → Text → Bool
 is_unshown sh a = not (is_among (keys sh.first) a)
+
+-- A tree of a specification may be told apart from the k-th reserved name on and shown: what is shown stands for the values, none of it
+-- for a reserved name, and the names that the tree uses and doesn't bind (u) are in use and not among those that it gets.
+pub record IsReady (sh : Shows) (n : Text → Bool) (env there : Env) (k : ℕ) (u : Text → Bool) (e : Ex) : Type 0 where
+  pub stands : StandsFor sh n env there
+  pub plain : Plain e
+  pub free : FreeNamesAre u e
+  pub in_use : (a : Text) → IsTrue (u a) → IsTrue (n a)
+  pub reserved_in_use : (j : ℕ) → IsTrue (n (reserved j))
+  pub reserved_unshown : (j : ℕ) → IsTrue (is_unshown sh (reserved j))
+  pub unreserved : (j : ℕ) → k ≤ j → u (reserved j) ≡ false
+  pub few : (told e [] k).1 ≤ 2 ^ 64

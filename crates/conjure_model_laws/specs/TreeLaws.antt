@@ -15,7 +15,7 @@ use Rattle.ess_semantics.specs.Refined.{is_refined}
 use Rattle.conjure_laws.specs.PlainTrees.{Plain, PlainDom}
 use Rattle.conjure_model_laws.specs.ToldApart.{reserved, is_unreserved, told, told_apart}
 use Rattle.conjure_model_laws.specs.Shown.{Shows, shown, shown_dom}
-use Rattle.conjure_model_laws.specs.StandsFor.{StandsFor, is_unshown}
+use Rattle.conjure_model_laws.specs.StandsFor.{StandsFor, is_unshown, IsReady}
 use Rattle.conjure_model_laws.specs.Printed.{printed_name, printed, binders}
 
 -- A tree of a specification with its bound names told apart means what it meant, in every env, and is kept. It may use names, which it
@@ -56,3 +56,15 @@ pub record ShownStands : Type 0 where
   pub meets : (sh : Shows) (n : Text → Bool) (env there : Env) → StandsFor sh n env there → (e : Ex) → Plain e → Meets (shown sh e) there
   pub domains : (sh : Shows) (n : Text → Bool) (env there : Env) → StandsFor sh n env there → (d : Dom) → PlainDom d →
       NamesAreDom n (is_unshown sh) d → domain_of (shown_dom sh d) there ≡ domain_of d env
+
+-- A tree of a specification, told apart and shown, means over tables what it means over values, and its structures are met. Where rules
+-- that keep lead from there to a refined tree without free names, what is printed for that one means it too.
+pub record WrittenTreesStand : Type 0 where
+  pub means : (sh : Shows) (n : Text → Bool) (env there : Env) (k : ℕ) (u : Text → Bool) (e : Ex) → IsReady sh n env there k u e →
+      meaning (shown sh (told_apart k e)) there ≡ meaning e env
+  pub meets : (sh : Shows) (n : Text → Bool) (env there : Env) (k : ℕ) (u : Text → Bool) (e : Ex) → IsReady sh n env there k u e →
+      Meets (shown sh (told_apart k e)) there
+  pub written : (sh : Shows) (n : Text → Bool) (env there : Env) (k : ℕ) (u : Text → Bool) (e : Ex) → IsReady sh n env there k u e →
+      (taken : List Text) (g : Names Ty) (last : Ex) → Kept g (shown sh (told_apart k e)) last → is_refined last ≡ true →
+      FreeNamesAre (λ a. false) last → binders last + length taken < 2 ^ 64 → Typed g there →
+      meaning (printed taken last []) there ≡ meaning e env

@@ -1,6 +1,6 @@
 //! Laws of the trees on the way from a constraint to its rule, each the contract of a function that does nothing.
 
-ghost use Rattle.conjure_model_laws.specs.TreeLaws.{NamesPrinted, NamesToldApart, ShownStands};
+ghost use Rattle.conjure_model_laws.specs.TreeLaws.{NamesPrinted, NamesToldApart, ShownStands, WrittenTreesStand};
 
 /// A tree of a specification means with its bound names told apart what it meant, in every env, and is kept, where the names that it
 /// doesn't bind aren't reserved ones, as none of a specification is.
@@ -18,4 +18,10 @@ pub fn shown_stands_for_the_tree()
 /// Printed names differ, and none is taken.
 pub fn printed_means_the_same()
     ensures { NamesPrinted }
+{}
+
+/// A constraint, told apart and shown, means over tables what it means over values, and so does what is printed for a refined tree that
+/// rules lead to from there.
+pub fn written_trees_stand()
+    ensures { WrittenTreesStand }
 {}
