@@ -48,7 +48,8 @@ plan_by_plan : tables_by_plans givens_side (here small some_values) some_values 
 unfolding digits
 plan_by_plan = refl
 
-declared_too : declared_by_plans givens_side (here small some_values) (plans small twice) ≡ declared_under givens_side small twice some_values
+declared_too : declared_by_plans givens_side (here small some_values) (plans small twice) ≡
+    declared_under givens_side small twice some_values
 unfolding digits
 declared_too = refl
 

@@ -1,6 +1,7 @@
 //! Laws of given tables, each the contract of a function that does nothing.
 
-ghost use Rattle.ess_translate_given_laws.specs.Laws.{HeadersFit, GivenTablesAreThere, PlansAddOneByOne, TooManyByPlans, GivenTablesArePrinted};
+ghost use Rattle.ess_translate_given_laws.specs.Laws.{HeadersFit, GivenTablesAreThere, GivenTablesArePrinted};
+ghost use Rattle.ess_translate_given_laws.specs.Laws.{PlansAddOneByOne, TooManyByPlans};
 
 /// Each plan of a header of this tool fits its domain.
 pub fn headers_fit()
