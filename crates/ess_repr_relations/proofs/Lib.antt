@@ -1,0 +1,10 @@
+-- Lemmas on loops
+pub mod OnlyParts
+pub mod PartLists
+pub mod NumberedMembers
+-- One layer, kind by kind
+pub mod RelationLaws
+pub mod PartitionLaws
+-- The calls by kind
+pub mod RelationCalls
+pub mod PartitionCalls
