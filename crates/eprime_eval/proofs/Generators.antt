@@ -1,7 +1,8 @@
 -- The items at a first generator or condition, and whether they are large.
-use Rattle.std.proofs.Common.{◌≡◌, ℕ, zero, suc, ◌+◌, ◌<◌, ◌++◌, add-one, arith, drop, length, get_or, Bool, true, false, List, [], ◌∷◌, map, Option, Some, None, option_map, refl, ap, sym, ◌∙◌}
-use Rattle.std.specs.List.{list_any}
-use Rattle.std.proofs.lemmas.List.{reverse-append}
+use Rattle.std.proofs.Common.{◌≡◌, ℕ, zero, suc, ◌+◌, ◌≤◌, ◌++◌, add-one, drop, length, Bool, true, false}
+use Rattle.std.proofs.Common.{List, [], ◌∷◌, map, Option, Some, None, option_map, refl, ap, sym, ◌∙◌}
+use Rattle.std.specs.Prelude.{slice_get}
+use Rattle.std.proofs.lemmas.List.{append-nil, drop_all, reverse-append}
 use Rattle.ess_semantics.specs.Values.{Text, Value, number, truth, item, node}
 use Rattle.ess_semantics.specs.Meaning.{Env, meaning, domain_of, members_in, is_true, where_true, with_pat}
 use Rattle.ess_semantics.specs.Large.{is_large, is_large_dom}
@@ -17,11 +18,13 @@ use Rattle.eprime_eval_kinds.proofs.KindedEquations.{pure_kgen_if, pure_kgen_ove
 use Rattle.eprime_eval_scalars.specs.declared.scalars.Scalar.{Scalar}
 use Rattle.eprime_eval_scalars.specs.ScalarViews.{pure_scalar}
 use Rattle.eprime_eval.specs.declared.known.Known.{Known}
+use Rattle.eprime_eval.specs.declared.members.Members.{Members}
 use Rattle.eprime_eval.specs.declared.names.Bound.{Bound}
 use Rattle.eprime_eval.specs.Environments.{env_at}
+use Rattle.eprime_eval.specs.MemberViews.{member_values}
 use Rattle.eprime_eval.specs.Items.{Gathered, items_at, swept, large_items, large_swept}
 use Rattle.eprime_eval.proofs.Excuses.{or_left, or_right}
-use Rattle.eprime_eval.proofs.Gathering.{put_behind}
+use Rattle.eprime_eval.proofs.Gathering.{put_behind, none_all}
 
 -- ---- over a domain
 
@@ -81,72 +84,69 @@ large_behind ns body e rest env h = rw (pure_kgen_if ns e) (or_right (is_large (
 
 -- ---- one value after the other
 
-large_next : (f : Value → Bool) (vs : List Scalar) (i : ℕ) (v : Scalar) → i < length vs → v ≡ get_or vs i v → f (pure_scalar v) ≡ true
-    → list_any f (map pure_scalar (drop i vs)) ≡ true
-large_next f [] i v l e h = absurd (omega arith)
-large_next f (w ∷ vs) zero v l e h = let k : f (pure_scalar w) ≡ true = rw (← e) h in or_left (f (pure_scalar w)) (list_any f (map pure_scalar vs)) k
-large_next f (w ∷ vs) (suc i) v l e h = large_next f vs i v (omega arith) e h
+drop-suc : (vs : List Value) (i : ℕ) (v : Value) → slice_get vs i ≡ Some v → drop i vs ≡ v ∷ drop (suc i) vs
+drop-suc [] i v e = cc
+drop-suc (w ∷ vs) zero v e = let k : w ≡ v = cc in ap (λ x. x ∷ vs) k
+drop-suc (w ∷ vs) (suc i) v e = drop-suc vs i v e
 
--- The value at an index is one of those from there on.
-pub large_at : (body : pure.Ex) (p : Text) (vs : List Scalar) (i : ℕ) (v : Scalar) (gs : List Item) (env : Env) → i < length vs
-    → v ≡ get_or vs i v
-    → large_items body gs (with_pat (name_pat p) (pure_scalar v) env) ≡ true → large_swept body p (map pure_scalar (drop i vs)) gs env ≡ true
-large_at body p vs i v gs env l e h = large_next (λ w. large_items body gs (with_pat (name_pat p) w env)) vs i v l e h
+drop-at : (vs : List Value) (i : ℕ) (v : Value) → slice_get vs i ≡ Some v → drop i vs ≡ v ∷ drop (i + 1) vs
+drop-at vs i v e = rw (add-one i) (drop-suc vs i v e)
+
+-- The items at one value were put behind the others, and those at the rest are left.
+pub sweep_more : (body : pure.Ex) (p q : Text) (vs : List Value) (i : ℕ) (v : Value) (gs : List Item) (e : Known) (bs cs : List Bound)
+    (t : Bool) (old mid : List Value) (all : Option (List Value)) → slice_get vs i ≡ Some v → q ≡ p → cs ≡ bs → t ≡ true
+    → Gathered t old mid (items_at body gs (with_pat (name_pat q) v (env_at e cs)))
+    → option_map (λ xs. old ++ xs) (swept body p (drop i vs) gs (env_at e bs)) ≡ all
+    → option_map (λ xs. mid ++ xs) (swept body p (drop (i + 1) vs) gs (env_at e bs)) ≡ all
+sweep_more body p q vs i v gs e bs cs t old mid all g r z y h k =
+    let m = rw (y, z, r) at h in
+    let n = rw (drop-at vs i v g) at k in
+    put_behind old mid (items_at body gs (with_pat (name_pat p) v (env_at e bs))) (swept body p (drop (i + 1) vs) gs (env_at e bs)) m ∙ n
+
+-- Where those at one value aren't there, none are.
+pub sweep_stops : (body : pure.Ex) (p q : Text) (vs : List Value) (i : ℕ) (v : Value) (gs : List Item) (e : Known) (bs cs : List Bound)
+    (t : Bool) (old mid first : List Value) (all : Option (List Value)) → slice_get vs i ≡ Some v → q ≡ p → cs ≡ bs → t ≡ false
+    → Gathered t old mid (items_at body gs (with_pat (name_pat q) v (env_at e cs)))
+    → option_map (λ xs. old ++ xs) (swept body p (drop i vs) gs (env_at e bs)) ≡ option_map (λ xs. first ++ xs) all
+    → all ≡ None
+sweep_stops body p q vs i v gs e bs cs t old mid first all g r z y h k =
+    let m = rw (y, z, r) at h in
+    let n = rw (drop-at vs i v g) at k in
+    none_all first all (sym (rw m at n))
+
+-- Behind the last value nothing is left.
+pub sweep_ends : (body : pure.Ex) (p : Text) (vs : List Value) (i : ℕ) (gs : List Item) (env : Env) (old first : List Value)
+    (all : Option (List Value)) → length vs ≤ i
+    → option_map (λ xs. old ++ xs) (swept body p (drop i vs) gs env) ≡ option_map (λ xs. first ++ xs) all
+    → option_map (λ xs. first ++ xs) all ≡ Some old
+sweep_ends body p vs i gs env old first all l h =
+    let k = rw (drop_all i vs l) at h in sym k ∙ ap Some (append-nil old)
+
+-- Where a number is large at one value, one is from there on.
+pub large_at : (body : pure.Ex) (p q : Text) (vs : List Value) (i : ℕ) (v : Value) (gs : List Item) (e : Known) (bs cs : List Bound)
+    → slice_get vs i ≡ Some v → q ≡ p → cs ≡ bs → large_items body gs (with_pat (name_pat q) v (env_at e cs)) ≡ true
+    → large_swept body p (drop i vs) gs (env_at e bs) ≡ true
+large_at body p q vs i v gs e bs cs g r z h =
+    let k = rw (z, r) at h in rw (drop-at vs i v g) (or_left _ (large_swept body p (drop (i + 1) vs) gs (env_at e bs)) k)
+
+-- Where one is at a later value, one is from here on.
+pub large_more : (body : pure.Ex) (p : Text) (vs : List Value) (i : ℕ) (v : Value) (gs : List Item) (env : Env) → slice_get vs i ≡ Some v
+    → large_swept body p (drop (i + 1) vs) gs env ≡ true → large_swept body p (drop i vs) gs env ≡ true
+large_more body p vs i v gs env g h = rw (drop-at vs i v g) (or_right (large_items body gs (with_pat (name_pat p) v env)) _ h)
+
+pub ruleset sweeps = (sweep_stops, sweep_ends, large_at)
 
 -- ---- in the env below generators
 
 -- Over the members of a domain, as a call finds them.
 pub large_over_there : (body : pure.Ex) (p : Text) (d : pure.Dom) (gs : List Item) (e : Known) (bs cs : List Bound)
-    (o : Option (List Scalar)) (ws vs : List Scalar) → option_map (map pure_scalar) o ≡ members_in (domain_of d (env_at e bs)) → o ≡ Some vs
-    → ws ≡ vs → cs ≡ bs → large_swept body p (map pure_scalar ws) gs (env_at e cs) ≡ true
+    (o : Option Members) (vs : Members) → option_map member_values o ≡ members_in (domain_of d (env_at e bs)) → o ≡ Some vs
+    → cs ≡ bs → large_swept body p (member_values vs) gs (env_at e cs) ≡ true
     → large_items body (over_item p d ∷ gs) (env_at e bs) ≡ true
-large_over_there body p d gs e bs cs o ws vs m n w z h =
-    let k = rw (w, z) at h in
+large_over_there body p d gs e bs cs o vs m n z h =
+    let k = rw z at h in
     let v = rw n at m in
-    large_over_swept body p d gs (env_at e bs) (map pure_scalar vs) v k
-
-drop_at : (vs : List Scalar) (i : ℕ) (v : Scalar) → i < length vs → v ≡ get_or vs i v → drop i vs ≡ v ∷ drop (suc i) vs
-drop_at [] i v l e = absurd (omega arith)
-drop_at (w ∷ vs) zero v l e = ap (λ x. x ∷ vs) (sym e)
-drop_at (w ∷ vs) (suc i) v l e = drop_at vs i v (omega arith) e
-
--- The items at one value were put behind the others, and those at the rest are left.
-pub sweep_more : (body : pure.Ex) (p : Text) (vs : List Scalar) (i : ℕ) (v : Scalar) (gs : List Item) (e : Known) (bs cs : List Bound)
-    (t : Bool) (old mid : List Value) (all : Option (List Value)) → i < length vs → v ≡ get_or vs i v → cs ≡ bs → t ≡ true
-    → Gathered t old mid (items_at body gs (with_pat (name_pat p) (pure_scalar v) (env_at e cs)))
-    → option_map (λ xs. old ++ xs) (swept body p (map pure_scalar (drop i vs)) gs (env_at e bs)) ≡ all
-    → option_map (λ xs. mid ++ xs) (swept body p (map pure_scalar (drop (i + 1) vs)) gs (env_at e bs)) ≡ all
-sweep_more body p vs i v gs e bs cs t old mid all l g z y h k =
-    let m = rw (y, z) at h in
-    let n = rw (drop_at vs i v l g) at k in
-    rw (add-one i) (put_behind old mid (items_at body gs (with_pat (name_pat p) (pure_scalar v) (env_at e bs))) (swept body p (map pure_scalar (drop (suc i) vs)) gs (env_at e bs)) m ∙ n)
-
--- Where a later value is large, one from here on is.
-pub large_more : (body : pure.Ex) (p : Text) (vs : List Scalar) (i : ℕ) (v : Scalar) (gs : List Item) (env : Env) → i < length vs
-    → v ≡ get_or vs i v → large_swept body p (map pure_scalar (drop (i + 1) vs)) gs env ≡ true
-    → large_swept body p (map pure_scalar (drop i vs)) gs env ≡ true
-large_more body p vs i v gs env l g h =
-    let k = rw (add-one i) at h in
-    rw (drop_at vs i v l g) (or_right (large_items body gs (with_pat (name_pat p) (pure_scalar v) env)) _ k)
-
-get-again : (vs : List Scalar) (i : ℕ) (d : Scalar) → i < length vs → get_or vs i d ≡ get_or vs i (get_or vs i d)
-get-again [] i d h = absurd (omega arith)
-get-again (x ∷ xs) zero d h = refl
-get-again (x ∷ xs) (suc i) d h = get-again xs i d (omega arith)
-
--- The same of the value at a place.
-pub sweep_more_at : (body : pure.Ex) (p : Text) (vs : List Scalar) (i : ℕ) (d : Scalar) (gs : List Item) (e : Known) (bs cs : List Bound)
-    (t : Bool) (old mid : List Value) (all : Option (List Value)) → i < length vs → cs ≡ bs → t ≡ true
-    → Gathered t old mid (items_at body gs (with_pat (name_pat p) (pure_scalar (get_or vs i d)) (env_at e cs)))
-    → option_map (λ xs. old ++ xs) (swept body p (map pure_scalar (drop i vs)) gs (env_at e bs)) ≡ all
-    → option_map (λ xs. mid ++ xs) (swept body p (map pure_scalar (drop (i + 1) vs)) gs (env_at e bs)) ≡ all
-sweep_more_at body p vs i d gs e bs cs t old mid all l z y h k =
-    sweep_more body p vs i (get_or vs i d) gs e bs cs t old mid all l (get-again vs i d l) z y h k
-
-pub large_more_at : (body : pure.Ex) (p : Text) (vs : List Scalar) (i : ℕ) (d : Scalar) (gs : List Item) (env : Env) → i < length vs
-    → large_swept body p (map pure_scalar (drop (i + 1) vs)) gs env ≡ true
-    → large_swept body p (map pure_scalar (drop i vs)) gs env ≡ true
-large_more_at body p vs i d gs env l h = large_more body p vs i (get_or vs i d) gs env l (get-again vs i d l) h
+    large_over_swept body p d gs (env_at e bs) (member_values vs) v k
 
 -- A generator in front.
 pub large_in_front : (ns : List Text) (body : KEx) (a : Text) (d : KDom) (rest : List KGen) (env : Env)

@@ -2,6 +2,7 @@
 pub mod KnownTables
 pub mod Environments
 pub mod ClosedDomains
+pub mod MemberViews
 pub mod Items
 pub mod Operating
 pub mod DomainsOf

@@ -1,5 +1,5 @@
-ghost use Rattle.std.specs.Prelude.{◌≡◌, IfOk, IfErr, None, map, option_map};
-ghost use Rattle.ess_semantics.specs.Lists.{when};
+ghost use Rattle.std.specs.Prelude.{◌≡◌, ◌∷◌, [], IfOk, IfErr, IfSome, None, map, option_map};
+ghost use Rattle.ess_semantics.specs.Lists.{all_some, when};
 ghost use Rattle.ess_semantics.specs.Names.{look};
 ghost use Rattle.ess_semantics.specs.Tables.{code};
 ghost use Rattle.ess_semantics.specs.Meaning.{cell_in, cell_value as value_of_item};
@@ -11,6 +11,7 @@ ghost use Rattle.eprime_eval.specs.KnownTables.{cells_of, IsKnown};
 
 use crate::known::{Known, table_of};
 use crate::{Scalar, Stop};
+use eprime_eval_kinds::KEx;
 use eprime_eval_scalars::item_at;
 
 /// The value of a cell of the table with this number, where each index is there. `NoMemory` where no declaration has the
@@ -37,6 +38,71 @@ pub(crate) fn cell_value(
             }
         }
         None => Ok(nothing(mark)),
+    }
+}
+
+/// The first of expressions, where it is the only one.
+pub(crate) fn only(exs: &[KEx]) -> Option<&KEx>
+    ensures { IfSome result (λ a. exs.now ≡ a.now ∷ []) }
+{
+    match exs.split_first() {
+        Some((ex, rest)) => match rest.split_first() {
+            Some(_) => None,
+            None => Some(ex),
+        },
+        None => None,
+    }
+}
+
+/// The first two of expressions, where they are the only ones.
+pub(crate) fn pair(exs: &[KEx]) -> Option<(&KEx, &KEx)>
+    ensures { IfSome result (λ p. exs.now ≡ p.0.now ∷ p.1.now ∷ []) }
+{
+    match exs.split_first() {
+        Some((first, rest)) => match only(rest) {
+            Some(second) => Some((first, second)),
+            None => None,
+        },
+        None => None,
+    }
+}
+
+/// The value of a cell with one index.
+pub(crate) fn cell_of_one(
+    known: &Known,
+    mark: bool,
+    number: usize,
+    a: Option<Scalar>,
+) -> Result<Option<Scalar>, Stop>
+    requires known { IsKnown known.now }
+    ensures ok { IfOk result (λ o. option_map pure_scalar o
+        ≡ false_where_undefined mark (cell_in mark (look (cells_of known.now) (name_at known.now.names number))
+        (option_map (map code) (all_some (option_map pure_scalar a ∷ []))))) }
+    ensures never { IfErr result (λ no. no ≡ NoMemory) }
+{
+    match a {
+        Some(a) => cell_value(known, mark, number, true, &[a]),
+        None => cell_value(known, mark, number, false, &[]),
+    }
+}
+
+/// The value of a cell with two indices.
+pub(crate) fn cell_of_two(
+    known: &Known,
+    mark: bool,
+    number: usize,
+    a: Option<Scalar>,
+    b: Option<Scalar>,
+) -> Result<Option<Scalar>, Stop>
+    requires known { IsKnown known.now }
+    ensures ok { IfOk result (λ o. option_map pure_scalar o
+        ≡ false_where_undefined mark (cell_in mark (look (cells_of known.now) (name_at known.now.names number))
+        (option_map (map code) (all_some (option_map pure_scalar a ∷ option_map pure_scalar b ∷ []))))) }
+    ensures never { IfErr result (λ no. no ≡ NoMemory) }
+{
+    match (a, b) {
+        (Some(a), Some(b)) => cell_value(known, mark, number, true, &[a, b]),
+        (_, _) => cell_value(known, mark, number, false, &[]),
     }
 }
 

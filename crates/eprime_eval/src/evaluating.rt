@@ -1,7 +1,7 @@
 ghost use Rattle.std.specs.Prelude.{◌≡◌, IfOk, OnOk, true, map, option_map};
 ghost use Rattle.ess_semantics.specs.Lists.{all_some};
 ghost use Rattle.ess_semantics.specs.Trees.{word, cell_ex, more_exs, no_exs, plain_node, ex2, is_truth_op2};
-ghost use Rattle.ess_semantics.specs.Meaning.{meaning, meanings, as_int};
+ghost use Rattle.ess_semantics.specs.Meaning.{meaning, meanings};
 ghost use Rattle.ess_semantics.specs.Large.{is_large, any_large};
 ghost use Rattle.eprime_tree.specs.Views.{pure_op1, pure_op2, pure_fun, exs_of};
 ghost use Rattle.eprime_eval_kinds.specs.KindedViews.{pure_kex, pure_klist, name_at};
@@ -11,14 +11,13 @@ ghost use Rattle.eprime_eval.specs.KnownTables.{IsKnown};
 ghost use Rattle.eprime_eval.specs.Environments.{env_at};
 ghost use Rattle.eprime_eval.specs.Items.{Gathered, items_in};
 
-use crate::cells::cell_value;
+use crate::cells::{cell_of_one, cell_of_two, cell_value, only, pair};
 use crate::generating::runs;
 use crate::known::Known;
 use crate::names::{Bound, value_of_name};
 use crate::operators::{fold_value, lex_value, nothing_folded, one_value, two_value};
 use crate::{Row, Scalar, Stop};
 use eprime_eval_kinds::{KEx, KList};
-use eprime_eval_scalars::number_in;
 use eprime_tree::{PFun, POp1, POp2, Text};
 use std::alloc::Global;
 
@@ -55,7 +54,7 @@ pub(crate) fn value_at(
 
 /// A cell.
 #[cycle(value)]
-#[tactic(auto, using(crate::proofs::CellValues::cell_there, crate::proofs::Excuses::large_in_cell))]
+#[tactic(auto, using(crate::proofs::CellValues::cell_there, crate::proofs::CellValues::short_cells, crate::proofs::Excuses::large_in_cell))]
 fn cell_at(
     alloc: Global,
     mark: bool,
@@ -71,10 +70,44 @@ fn cell_at(
     ensures big { result ≡ Err Big
         → is_large (cell_ex mark (name_at known.now.names number) (exs_of (map (pure_kex known.now.names) index.now))) (env_at known.now bound.old) ≡ true }
 {
+    if let Some(a) = only(index) {
+        let a = operand_at(alloc, a, known, bound)?;
+        let value = cell_of_one(known, mark, number, a)?;
+        return Ok(value);
+    }
+    if let Some((a, b)) = pair(index) {
+        let a = operand_at(alloc, a, known, bound)?;
+        let b = operand_at(alloc, b, known, bound)?;
+        let value = cell_of_two(known, mark, number, a, b)?;
+        return Ok(value);
+    }
     let mut at = Row::new(alloc);
     let there = values_at(alloc, index, known, bound, &mut at)?;
     let value = cell_value(known, mark, number, there, at.as_slice())?;
     Ok(value)
+}
+
+/// What an operand means. One that is a number, a name or a cell is looked at where it stands.
+#[cycle(value)]
+fn operand_at(
+    alloc: Global,
+    ex: &KEx,
+    known: &Known,
+    bound: &mut Row<Bound>,
+) -> Result<Option<Scalar>, Stop>
+    requires known { IsKnown known.now }
+    ensures ok { IfOk result (λ o. option_map pure_scalar o ≡ meaning (pure_kex known.now.names ex.now) (env_at known.now bound.old)) }
+    ensures kept { OnOk result (bound.new ≡ bound.old) }
+    ensures big { result ≡ Err Big → is_large (pure_kex known.now.names ex.now) (env_at known.now bound.old) ≡ true }
+{
+    match ex {
+        KEx::Num(number) => Ok(Some(Scalar::Num(*number))),
+        KEx::Name(name) => Ok(value_of_name(name, bound.as_slice())),
+        KEx::Cell(mark, number, index) => {
+            cell_at(alloc, *mark, *number, index.as_slice(), known, bound)
+        }
+        _ => value_at(alloc, ex, known, bound),
+    }
 }
 
 /// An operator over one operand.
@@ -116,12 +149,12 @@ fn two_at(
     ensures big { result ≡ Err Big
         → is_large (ex2 (is_truth_op2 (pure_op2 op)) (pure_op2 op) (pure_kex known.now.names a.now) (pure_kex known.now.names b.now)) (env_at known.now bound.old) ≡ true }
 {
-    let a = value_at(alloc, a, known, bound)?;
-    let b = value_at(alloc, b, known, bound)?;
+    let a = operand_at(alloc, a, known, bound)?;
+    let b = operand_at(alloc, b, known, bound)?;
     two_value(alloc, op, a, b)
 }
 
-/// A word over a list.
+/// A word over a list. Its items have room for 16 before they are moved.
 #[cycle(value)]
 #[tactic(auto, using(crate::proofs::Lists::folds, crate::proofs::Excuses::large_in_operand))]
 fn fold_at(
@@ -138,7 +171,7 @@ fn fold_at(
     ensures big { result ≡ Err Big
         → is_large (plain_node (word (pure_fun fun)) (more_exs (pure_klist known.now.names list.now) no_exs)) (env_at known.now bound.old) ≡ true }
 {
-    let mut items = Row::new(alloc);
+    let mut items = Row::with_capacity(alloc, 16)?;
     if list_at(alloc, list, known, bound, &mut items)? {
         let value = fold_value(fun, items.as_slice())?;
         Ok(value)
@@ -246,24 +279,5 @@ fn values_at(
             }
             None => Ok(false),
         },
-    }
-}
-
-/// The whole number that a bound reads.
-#[cycle(value)]
-pub(crate) fn number_at(
-    alloc: Global,
-    ex: &KEx,
-    known: &Known,
-    bound: &mut Row<Bound>,
-) -> Result<Option<i64>, Stop>
-    requires known { IsKnown known.now }
-    ensures ok { IfOk result (λ o. o ≡ as_int (meaning (pure_kex known.now.names ex.now) (env_at known.now bound.old))) }
-    ensures kept { OnOk result (bound.new ≡ bound.old) }
-    ensures big { result ≡ Err Big → is_large (pure_kex known.now.names ex.now) (env_at known.now bound.old) ≡ true }
-{
-    match value_at(alloc, ex, known, bound)? {
-        Some(scalar) => Ok(Some(number_in(scalar))),
-        None => Ok(None),
     }
 }

@@ -8,11 +8,12 @@ ghost use Rattle.eprime_eval_scalars.specs.ScalarViews.{pure_scalar};
 ghost use Rattle.eprime_eval_scalars.specs.declared.Stop.TheVariants.{Big};
 ghost use Rattle.eprime_eval.specs.KnownTables.{IsKnown};
 ghost use Rattle.eprime_eval.specs.Environments.{env_at};
+ghost use Rattle.eprime_eval.specs.MemberViews.{member_values};
 ghost use Rattle.eprime_eval.specs.Items.{Gathered, items_at, swept, large_items, large_swept};
 
 use crate::evaluating::value_at;
 use crate::known::Known;
-use crate::members::scalars_of;
+use crate::members::{Members, members_of};
 use crate::names::{Bound, as_it_is};
 use crate::operators::truth_of;
 use crate::ranging::closed_at;
@@ -87,16 +88,7 @@ fn runs_over(
         → large_items (pure_kex known.now.names item.now) (over_item name.now (pure_kdom known.now.names dom.now) ∷ map (pure_kgen known.now.names) rest.now) (env_at known.now bound.old) ≡ true }
 {
     match domain_members(alloc, dom, known, bound)? {
-        Some(vals) => sweep(
-            alloc,
-            item,
-            name,
-            vals.as_slice(),
-            rest,
-            known,
-            bound,
-            items,
-        ),
+        Some(vals) => sweep(alloc, item, name, &vals, rest, known, bound, items),
         None => Ok(false),
     }
 }
@@ -108,26 +100,27 @@ fn domain_members(
     dom: &KDom,
     known: &Known,
     bound: &mut Row<Bound>,
-) -> Result<Option<Row<Scalar>>, Stop>
+) -> Result<Option<Members>, Stop>
     requires known { IsKnown known.now }
-    ensures ok { IfOk result (λ o. option_map (map pure_scalar) o ≡ members_in (domain_of (pure_kdom known.now.names dom.now) (env_at known.now bound.old))) }
+    ensures ok { IfOk result (λ o. option_map member_values o
+        ≡ members_in (domain_of (pure_kdom known.now.names dom.now) (env_at known.now bound.old))) }
     ensures kept { OnOk result (bound.new ≡ bound.old) }
     ensures big { result ≡ Err Big → is_large_dom (pure_kdom known.now.names dom.now) (env_at known.now bound.old) ≡ true }
 {
     match closed_at(alloc, dom, known, bound)? {
-        Some(domain) => Ok(scalars_of(alloc, &domain)?),
+        Some(domain) => Ok(members_of(alloc, &domain)?),
         None => Ok(None),
     }
 }
 
-/// The same for a name that takes the values, one after the other.
+/// The same for a name that takes the values, one after the other. The name is copied once.
 #[cycle(value)]
-#[tactic(auto, using(crate::proofs::Gathering::put_behind, crate::proofs::Gathering::none_all, crate::proofs::Generators::large_at, crate::proofs::Generators::sweep_more, crate::proofs::Generators::large_more))]
+#[tactic(auto, using(crate::proofs::Generators::sweeps))]
 fn sweep(
     alloc: Global,
     item: &KEx,
     name: &Text,
-    vals: &[Scalar],
+    vals: &Members,
     rest: &[KGen],
     known: &Known,
     bound: &mut Row<Bound>,
@@ -135,43 +128,52 @@ fn sweep(
 ) -> Result<bool, Stop>
     requires known { IsKnown known.now }
     ensures ok { IfOk result (λ b. Gathered b (map pure_scalar items.old) (map pure_scalar items.new)
-        (swept (pure_kex known.now.names item.now) name.now (map pure_scalar vals.now) (map (pure_kgen known.now.names) rest.now) (env_at known.now bound.old))) }
+        (swept (pure_kex known.now.names item.now) name.now (member_values vals.now) (map (pure_kgen known.now.names) rest.now)
+        (env_at known.now bound.old))) }
     ensures kept { OnOk result (bound.new ≡ bound.old) }
     ensures big { result ≡ Err Big
-        → large_swept (pure_kex known.now.names item.now) name.now (map pure_scalar vals.now) (map (pure_kgen known.now.names) rest.now) (env_at known.now bound.old) ≡ true }
+        → large_swept (pure_kex known.now.names item.now) name.now (member_values vals.now) (map (pure_kgen known.now.names) rest.now)
+        (env_at known.now bound.old) ≡ true }
 {
-    for val in vals {
-        if !point(alloc, item, name, *val, rest, known, bound, items)? {
+    let mut own = name.copy(alloc)?;
+    for place in 0..vals.len() {
+        let value = vals.at(place)?;
+        let (found, name) = point(alloc, item, own, value, rest, known, bound, items)?;
+        own = name;
+        if !found {
             return Ok(false);
         }
     }
     Ok(true)
 }
 
-/// The same for a name that takes the value.
+/// The same for a name that takes the value. The name comes back.
 #[cycle(value)]
 #[tactic(auto, using(crate::proofs::Generators::bound_name))]
 fn point(
     alloc: Global,
     item: &KEx,
-    name: &Text,
+    name: Text,
     value: Scalar,
     rest: &[KGen],
     known: &Known,
     bound: &mut Row<Bound>,
     items: &mut Row<Scalar>,
-) -> Result<bool, Stop>
+) -> Result<(bool, Text), Stop>
     requires known { IsKnown known.now }
-    ensures ok { IfOk result (λ b. Gathered b (map pure_scalar items.old) (map pure_scalar items.new)
-        (items_at (pure_kex known.now.names item.now) (map (pure_kgen known.now.names) rest.now) (with_pat (name_pat name.now) (pure_scalar value) (env_at known.now bound.old)))) }
+    ensures ok { IfOk result (λ r. Gathered r.0 (map pure_scalar items.old) (map pure_scalar items.new)
+        (items_at (pure_kex known.now.names item.now) (map (pure_kgen known.now.names) rest.now)
+        (with_pat (name_pat name) (pure_scalar value) (env_at known.now bound.old)))) }
+    ensures named { IfOk result (λ r. r.1 ≡ name) }
     ensures kept { OnOk result (bound.new ≡ bound.old) }
     ensures big { result ≡ Err Big
-        → large_items (pure_kex known.now.names item.now) (map (pure_kgen known.now.names) rest.now) (with_pat (name_pat name.now) (pure_scalar value) (env_at known.now bound.old)) ≡ true }
+        → large_items (pure_kex known.now.names item.now) (map (pure_kgen known.now.names) rest.now)
+        (with_pat (name_pat name) (pure_scalar value) (env_at known.now bound.old)) ≡ true }
 {
-    let depth = bound.len();
-    let name = name.copy(alloc)?;
     bound.push(Bound { name, value })?;
     let found = runs(alloc, item, rest, known, bound, items)?;
-    bound.truncate(depth);
-    Ok(found)
+    match bound.pop() {
+        Some(Bound { name, .. }) => Ok((found, name)),
+        None => Err(Stop::NoMemory),
+    }
 }

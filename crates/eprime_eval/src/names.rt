@@ -38,11 +38,15 @@ fn newest<'a>(bound: &'a [Bound], name: &Text) -> Option<&'a Bound>
         .find(|found| same_name(&found.name, name))
 }
 
-/// Whether two names are equal.
+/// Whether two names are equal. Those of two bytes, as most names that generators bind, are compared here.
+#[tactic(auto, using(crate::proofs::Lookups::short_names))]
 pub(crate) fn same_name(a: &Text, b: &Text) -> bool
     ensures { result ≡ same_text a.now b.now }
 {
-    a.cmp(b) == Ordering::Equal
+    match (a.as_bytes(), b.as_bytes()) {
+        ([x, y], [z, w]) => { if *y == *w { *x == *z } else { false } }
+        (_, _) => a.cmp(b) == Ordering::Equal,
+    }
 }
 
 /// The name, as it is.

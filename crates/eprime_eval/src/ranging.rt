@@ -1,9 +1,9 @@
 ghost use Rattle.std.specs.Prelude.{◌≡◌, IfOk, OnOk, true, map, option_map};
 ghost use Rattle.ess_semantics.specs.Lists.{append_all};
-ghost use Rattle.ess_semantics.specs.Meaning.{meanings, domain_of, spans_of};
-ghost use Rattle.ess_semantics.specs.Large.{any_large, is_large_dom};
+ghost use Rattle.ess_semantics.specs.Meaning.{meaning, meanings, as_int, domain_of, spans_of};
+ghost use Rattle.ess_semantics.specs.Large.{is_large, any_large, is_large_dom};
 ghost use Rattle.eprime_tree.specs.Views.{exs_of};
-ghost use Rattle.eprime_eval_kinds.specs.KindedViews.{pure_kdom, pure_krange};
+ghost use Rattle.eprime_eval_kinds.specs.KindedViews.{pure_kex, pure_kdom, pure_krange};
 ghost use Rattle.eprime_eval_scalars.specs.Runs.{pure_run};
 ghost use Rattle.eprime_eval_scalars.specs.declared.Stop.TheVariants.{Big};
 ghost use Rattle.eprime_eval.specs.KnownTables.{IsKnown};
@@ -11,12 +11,13 @@ ghost use Rattle.eprime_eval.specs.Environments.{env_at};
 ghost use Rattle.eprime_eval.specs.Items.{Gathered};
 ghost use Rattle.eprime_eval.specs.ClosedDomains.{pure_closed};
 
-use crate::evaluating::number_at;
+use crate::evaluating::value_at;
 use crate::known::Known;
 use crate::members::Closed;
 use crate::names::Bound;
 use crate::{Row, Run, Stop};
-use eprime_eval_kinds::{KDom, KRange};
+use eprime_eval_kinds::{KDom, KEx, KRange};
+use eprime_eval_scalars::number_in;
 use std::alloc::Global;
 
 /// The domain that a domain expression denotes, where each bound has a meaning.
@@ -109,5 +110,24 @@ fn add_ranges(
             }
             None => Ok(false),
         },
+    }
+}
+
+/// The whole number that a bound reads.
+#[cycle(value)]
+fn number_at(
+    alloc: Global,
+    ex: &KEx,
+    known: &Known,
+    bound: &mut Row<Bound>,
+) -> Result<Option<i64>, Stop>
+    requires known { IsKnown known.now }
+    ensures ok { IfOk result (λ o. o ≡ as_int (meaning (pure_kex known.now.names ex.now) (env_at known.now bound.old))) }
+    ensures kept { OnOk result (bound.new ≡ bound.old) }
+    ensures big { result ≡ Err Big → is_large (pure_kex known.now.names ex.now) (env_at known.now bound.old) ≡ true }
+{
+    match value_at(alloc, ex, known, bound)? {
+        Some(scalar) => Ok(Some(number_in(scalar))),
+        None => Ok(None),
     }
 }

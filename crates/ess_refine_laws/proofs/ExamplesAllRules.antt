@@ -6,6 +6,7 @@ use Rattle.ess_semantics.specs.Values.{Text, a_set, a_matrix}
 use Rattle.ess_semantics.specs.Names.{Names}
 use Rattle.ess_semantics.specs.Trees.{binary, set_literal, matrix_literal, name_pat, tuple_pat, no_pats, more_pats, Ex, node_ex, comp_ex, no_gens, over, from, tuple_dom}
 use Rattle.ess_semantics.specs.Types.{Ty, int_ty, compound1, compound2}
+use Rattle.ess_semantics.specs.Typing.{type_of}
 use Rattle.ess_semantics.proofs.Shorthands.{N, n, es2, bi, fn, ds2, upto, any_int, set}
 use Rattle.ess_refine_laws.specs.AllRules.{Supply, over_a_term, over_a_source, equal_sets, equal_matrices_at, not_equal, in_a_literal, in_a_term, different_items, all_different, rewrite, rule_at}
 use Rattle.ess_refine_laws.specs.Progress.{is_judged}
@@ -88,10 +89,10 @@ sums_are_judged = refl
 members_are_judged : is_judged (fn Fun.Or (comp_ex (bi Op2.Eq (N j) (n 1)) (from (name_pat j) (N s) no_gens))) types ≡ true
 members_are_judged = refl
 
--- A wrong mark isn't, nor is a generator over all numbers or over sets, a sum of sets, or a name without a type.
+-- A wrong mark isn't, nor is a generator over all numbers or over sets, or a name without a type. A sum of sets has no type.
 others_are_not : (is_judged (node_ex true (binary Op2.Plus) (es2 (n 1) (n 1))) types ≡ false)
     × (is_judged (fn Fun.Sum (comp_ex (n 1) (over (name_pat j) any_int no_gens))) types ≡ false)
     × (is_judged (fn Fun.Sum (comp_ex (n 1) (over (name_pat j) (set (upto 2)) no_gens))) types ≡ false)
-    × (is_judged (fn Fun.Sum (list2 (N s) (N t))) types ≡ false)
+    × (type_of (fn Fun.Sum (list2 (N s) (N t))) types ≡ None)
     × (is_judged (bi Op2.Plus (N j) (n 1)) types ≡ false)
 others_are_not = (refl, refl, refl, refl, refl)

@@ -9,6 +9,7 @@ pub mod AllRules
 pub mod ScalarOperands
 pub mod RulesFire
 pub mod NeverScalars
+pub mod OpenLists
 pub mod MovingNodes
 pub mod MovingWords
 pub mod MovingGenerators

@@ -9,7 +9,7 @@ use Rattle.ess_semantics.specs.Names.{Names}
 use Rattle.ess_semantics.specs.Operators.{iff}
 use Rattle.ess_semantics.specs.Trees.{Op, unary, binary, is_truth_op, Ex, Exs, node_ex, ex1, ex2, no_exs, more_exs, bool_dom}
 use Rattle.ess_semantics.specs.Types.{Ty, Tys, bool_ty, int_ty, compound, join, fit}
-use Rattle.ess_semantics.specs.OperatorTypes.{type_of_op, type_of_binary, subtracted, compared}
+use Rattle.ess_semantics.specs.OperatorTypes.{type_of_op, type_of_binary, subtracted, compared, lex_compared}
 use Rattle.ess_semantics.specs.Typing.{type_of, types_of}
 use Rattle.ess_semantics.specs.Contexts.{Ins, hole, in_operand, fill_exs}
 use Rattle.ess_semantics.specs.NamesAt.{names_at_exs}
@@ -21,9 +21,10 @@ use Rattle.ess_rules_laws.specs.Progress.{is_parted, is_abstract}
 use Rattle.ess_rules_laws.proofs.Progress.{operators-have}
 use Rattle.ess_refine_laws.specs.AllRules.{Supply}
 use Rattle.ess_refine_laws.proofs.RulesFire.{fires-at}
-use Rattle.ess_refine_laws.specs.ScalarItems.{is_scalar}
-use Rattle.ess_refine_laws.specs.Progress.{is_known, have_scalar_items, lists_fit, Moves, by_a_rule, Work, Progress, is_done, goes_on}
+use Rattle.ess_refine_laws.specs.ScalarItems.{is_scalar, has_scalar_items}
+use Rattle.ess_refine_laws.specs.Progress.{is_known, have_scalar_items, is_judged, are_judged, Moves, by_a_rule, Work, Progress, is_done, goes_on}
 use Rattle.ess_refine_laws.proofs.ScalarOperands.{known-is, fits-none, compared-none, subtracted-none, alone-type, pair-type, many-types, one-scalar, never-one, scalar-there}
+use Rattle.ess_refine_laws.proofs.OpenLists.{open-type, lex-scalars, judged-items, typed-there, second-there}
 use Rattle.ess_refine_laws.proofs.NeverScalars.{no, or-left, or-right, two-alike, two-included, two-united, one-all, two-all, scalars}
 
 -- ---- parts that move
@@ -143,15 +144,25 @@ module _ (sup : Supply) where
     -- A sign that compares lists.
     lex-node : (o : Op2) (a b : Ex) → is_lex o ≡ true → is_list_op (binary o) ≡ true → is_truth_op (binary o) ≡ true →
         ((a b : Ex) → is_abstract g (ex2 true o a b) ≡ (is_lex o && (not (is_laid_open a) || not (is_laid_open b)))) →
-        have_scalar_items (more_exs a (more_exs b no_exs)) g ≡ true →
+        are_judged (more_exs a (more_exs b no_exs)) g ≡ true →
+        is_scalar (and_then (type_of a g) (λ t. and_then (type_of b g) (λ u. and_then (join t u) lex_compared))) ≡ true →
         is_scalar (type_of (ex2 true o a b) g) ≡ true → Lists (more_exs a (more_exs b no_exs)) →
         Progress sup g (ex2 true o a b)
-    lex-node o a b l q t e i s f = go (is_laid_open a) (is_laid_open b) refl refl
+    lex-node o a b l q t e i w s f = go (is_laid_open a) (is_laid_open b) refl refl
       where
+        items : is_laid_open a ≡ true → is_laid_open b ≡ true → have_scalar_items (more_exs a (more_exs b no_exs)) g ≡ true
+        items j k =
+            let r = lex-scalars g a b
+            (open-type g a j (judged-items g a (and-left (is_judged a g) (is_judged b g && true) i))
+            (typed-there (type_of a g) (λ t. and_then (type_of b g) (λ u. and_then (join t u) lex_compared)) w))
+            (open-type g b k (judged-items g b (and-left (is_judged b g) true (and-right (is_judged a g) (is_judged b g && true) i)))
+            (second-there (type_of a g) (type_of b g) (λ t u. and_then (join t u) lex_compared) w)) w in
+            and-both (has_scalar_items a g) (has_scalar_items b g && true) r.0 (and-both (has_scalar_items b g) true r.1 refl)
+
         go : (u v : Bool) → is_laid_open a ≡ u → is_laid_open b ≡ v → Progress sup g (ex2 true o a b)
         go true true j k = subst (λ z. Progress sup g (node_ex z (binary o) (more_exs a (more_exs b no_exs)))) t
             (list-node g (binary o) (more_exs a (more_exs b no_exs)) q
-            (f (and-both (is_laid_open a) (is_laid_open b && true) j (and-both (is_laid_open b) true k refl)) i))
+            (f (and-both (is_laid_open a) (is_laid_open b && true) j (and-both (is_laid_open b) true k refl)) (items j k)))
         go true false j k = firing g (ex2 true o a b)
             (e a b ∙ and-both (is_lex o) (not (is_laid_open a) || not (is_laid_open b)) l
             (or-right (not (is_laid_open a)) (not (is_laid_open b)) (ap not k))) s
@@ -180,7 +191,7 @@ module _ (sup : Supply) where
           Progress sup g (node_ex (is_truth_op (binary o)) (binary o) Both)
       numbers o q F n k s f = scalar-node g (binary o) Both q (f (scalars F n (type_of a g) (type_of b g) k s))
 
-      binary-two : (o : Op2) → lists_fit (binary o) Both g ≡ true → list_all is_known (types_of Both g) ≡ true →
+      binary-two : (o : Op2) → are_judged Both g ≡ true → list_all is_known (types_of Both g) ≡ true →
           is_scalar (and_then (all_some (types_of Both g)) (type_of_op (binary o))) ≡ true → Scalars Both → Lists Both →
           Progress sup g (node_ex (is_truth_op (binary o)) (binary o) Both)
       binary-two Op2.Pow i k s f l = numbers Op2.Pow refl (λ t. fit t int_ty int_ty) (fits-none int_ty refl int_ty) k (paired Op2.Pow s) f
@@ -219,12 +230,12 @@ module _ (sup : Supply) where
       binary-two Op2.Member i k s f l = firing g (ex2 true Op2.Member a b) refl s
       binary-two Op2.Union i k s f l = no (two-united (type_of a g) (type_of b g) (known-a k) (known-b k) (paired Op2.Union s))
       binary-two Op2.Intersect i k s f l = no (two-united (type_of a g) (type_of b g) (known-a k) (known-b k) (paired Op2.Intersect s))
-      binary-two Op2.LexLt i k s f l = lex-node Op2.LexLt a b refl refl refl (λ a b. refl) i s l
-      binary-two Op2.LexLe i k s f l = lex-node Op2.LexLe a b refl refl refl (λ a b. refl) i s l
-      binary-two Op2.LexGt i k s f l = lex-node Op2.LexGt a b refl refl refl (λ a b. refl) i s l
-      binary-two Op2.LexGe i k s f l = lex-node Op2.LexGe a b refl refl refl (λ a b. refl) i s l
+      binary-two Op2.LexLt i k s f l = lex-node Op2.LexLt a b refl refl refl (λ a b. refl) i (paired Op2.LexLt s) s l
+      binary-two Op2.LexLe i k s f l = lex-node Op2.LexLe a b refl refl refl (λ a b. refl) i (paired Op2.LexLe s) s l
+      binary-two Op2.LexGt i k s f l = lex-node Op2.LexGt a b refl refl refl (λ a b. refl) i (paired Op2.LexGt s) s l
+      binary-two Op2.LexGe i k s f l = lex-node Op2.LexGe a b refl refl refl (λ a b. refl) i (paired Op2.LexGe s) s l
 
-    pub binary-node : (o : Op2) (es : Exs) → lists_fit (binary o) es g ≡ true → list_all is_known (types_of es g) ≡ true →
+    pub binary-node : (o : Op2) (es : Exs) → are_judged es g ≡ true → list_all is_known (types_of es g) ≡ true →
         is_scalar (and_then (all_some (types_of es g)) (type_of_op (binary o))) ≡ true → Scalars es → Lists es →
         Progress sup g (node_ex (is_truth_op (binary o)) (binary o) es)
     binary-node o no_exs i k s f l = no s

@@ -18,8 +18,9 @@ use Rattle.ess_rules_laws.specs.Progress.{is_abstract}
 use Rattle.ess_refine_laws.specs.AllRules.{Supply, all_different}
 use Rattle.ess_refine_laws.proofs.RulesFire.{fires-by}
 use Rattle.ess_refine_laws.specs.ScalarItems.{is_scalar, has_scalar_items}
-use Rattle.ess_refine_laws.specs.Progress.{is_known, is_picked, lists_fit, is_judged, are_judged, by_a_rule, is_left, Progress, goes_on}
+use Rattle.ess_refine_laws.specs.Progress.{is_known, is_picked, is_judged, are_judged, by_a_rule, is_left, Progress, goes_on}
 use Rattle.ess_refine_laws.proofs.ScalarOperands.{fits-none, alone-type, pair-type, many-types, one-scalar, never-one, never-two}
+use Rattle.ess_refine_laws.proofs.OpenLists.{ListType, open-type, folded-scalars, extreme-scalars, judged-items, typed-there}
 use Rattle.ess_refine_laws.proofs.NeverScalars.{no, mark-is, one-all, never-defined, never-range, never-relation, never-parts, never-participants, made-compound, never-set, never-mset, never-preimage, never-party, never-list, then-compound, never-function, never-tuples, never-partition, never-matrix}
 use Rattle.ess_refine_laws.proofs.MovingNodes.{here, firing, scalar-node, list-node, Scalars, Lists, unary-node, binary-node}
 
@@ -32,13 +33,14 @@ module _ (sup : Supply) (g : Names Ty) where
 
     -- A word on a list whose items are scalars.
     word-on-list : (f : Fun) → is_list_op (word f) ≡ true →
-        (is_abstract g (fun1 (is_truth_op (word f)) f l) ≡ not (is_laid_open l)) → has_scalar_items l g && true ≡ true →
+        (is_abstract g (fun1 (is_truth_op (word f)) f l) ≡ not (is_laid_open l)) →
+        (is_laid_open l ≡ true → has_scalar_items l g && true ≡ true) →
         is_scalar (type_of (fun1 (is_truth_op (word f)) f l) g) ≡ true → Lists sup g One →
         Progress sup g (node_ex (is_truth_op (word f)) (word f) One)
     word-on-list f q a i s k = go (is_laid_open l) refl
       where
         go : (u : Bool) → is_laid_open l ≡ u → Progress sup g (node_ex (is_truth_op (word f)) (word f) One)
-        go true j = list-node sup g (word f) One q (k (and-both (is_laid_open l) true j refl) i)
+        go true j = list-node sup g (word f) One q (k (and-both (is_laid_open l) true j refl) (i j))
         go false j = firing sup g (fun1 (is_truth_op (word f)) f l) (a ∙ ap not j) s
 
     -- `allDiff` of any list.
@@ -47,7 +49,7 @@ module _ (sup : Supply) (g : Names Ty) where
     on-different s k = go (has_scalar_items l g) refl
       where
         go : (u : Bool) → has_scalar_items l g ≡ u → Progress sup g (node_ex true (word Fun.AllDiff) One)
-        go true j = word-on-list Fun.AllDiff refl refl (and-both (has_scalar_items l g) true j refl) s k
+        go true j = word-on-list Fun.AllDiff refl refl (λ o. and-both (has_scalar_items l g) true j refl) s k
         go false j = goes_on (here sup (by_a_rule (fires-by sup g (fun1 true Fun.AllDiff l) all_different 45 refl
             (ap (λ c. if c then None else different_term sup.one (fun1 true Fun.AllDiff l)) j))))
 
@@ -56,15 +58,32 @@ module _ (sup : Supply) (g : Names Ty) where
     never-word f n s = never-one (type_of_word1 f) n (type_of l g)
         (ap is_scalar (sym (alone-type (type_of l g) (type_of_op (word f)))) ∙ s)
 
-    word-one : (f : Fun) → lists_fit (word f) One g ≡ true → list_all is_known (types_of One g) ≡ true →
+    -- The type of the list by itself.
+    alone : (f : Fun) → is_scalar (and_then (all_some (types_of One g)) (type_of_op (word f))) ≡ true →
+        is_scalar (and_then (type_of l g) (type_of_word1 f)) ≡ true
+    alone f s = ap is_scalar (sym (alone-type (type_of l g) (type_of_op (word f)))) ∙ s
+
+    items : (f : Fun) → are_judged One g ≡ true → is_scalar (and_then (all_some (types_of One g)) (type_of_op (word f))) ≡ true →
+        is_laid_open l ≡ true → (ListType g l → has_scalar_items l g ≡ true) → has_scalar_items l g && true ≡ true
+    items f i s o h = and-both (has_scalar_items l g) true
+        (h (open-type g l o (judged-items g l (and-left (is_judged l g) true i)) (typed-there (type_of l g) (type_of_word1 f)
+        (alone f s)))) refl
+
+    word-one : (f : Fun) → are_judged One g ≡ true → list_all is_known (types_of One g) ≡ true →
         is_scalar (and_then (all_some (types_of One g)) (type_of_op (word f))) ≡ true → Scalars sup g One → Lists sup g One →
         Progress sup g (node_ex (is_truth_op (word f)) (word f) One)
-    word-one Fun.Sum i k s f m = word-on-list Fun.Sum refl refl i s m
-    word-one Fun.Product i k s f m = word-on-list Fun.Product refl refl i s m
-    word-one Fun.And i k s f m = word-on-list Fun.And refl refl i s m
-    word-one Fun.Or i k s f m = word-on-list Fun.Or refl refl i s m
-    word-one Fun.Min i k s f m = word-on-list Fun.Min refl refl i s m
-    word-one Fun.Max i k s f m = word-on-list Fun.Max refl refl i s m
+    word-one Fun.Sum i k s f m = word-on-list Fun.Sum refl refl (λ o. items Fun.Sum i s o (λ z. folded-scalars g l int_ty int_ty refl z
+        (alone Fun.Sum s))) s m
+    word-one Fun.Product i k s f m = word-on-list Fun.Product refl refl (λ o. items Fun.Product i s o
+        (λ z. folded-scalars g l int_ty int_ty refl z (alone Fun.Product s))) s m
+    word-one Fun.And i k s f m = word-on-list Fun.And refl refl (λ o. items Fun.And i s o
+        (λ z. folded-scalars g l bool_ty bool_ty refl z (alone Fun.And s))) s m
+    word-one Fun.Or i k s f m = word-on-list Fun.Or refl refl (λ o. items Fun.Or i s o (λ z. folded-scalars g l bool_ty bool_ty refl z
+        (alone Fun.Or s))) s m
+    word-one Fun.Min i k s f m = word-on-list Fun.Min refl refl (λ o. items Fun.Min i s o (λ z. extreme-scalars g l z
+        (alone Fun.Min s))) s m
+    word-one Fun.Max i k s f m = word-on-list Fun.Max refl refl (λ o. items Fun.Max i s o (λ z. extreme-scalars g l z
+        (alone Fun.Max s))) s m
     word-one Fun.AllDiff i k s f m = on-different s m
     word-one Fun.ToInt i k s f m =
         scalar-node sup g (word Fun.ToInt) One refl (f (one-all (type_of l g)
@@ -115,7 +134,7 @@ module _ (sup : Supply) (g : Names Ty) where
     word-two Fun.Parts s = no (never-words Fun.Parts (λ t u. refl) s)
     word-two Fun.Participants s = no (never-words Fun.Participants (λ t u. refl) s)
 
-  word-node : (f : Fun) (es : Exs) → lists_fit (word f) es g ≡ true → list_all is_known (types_of es g) ≡ true →
+  word-node : (f : Fun) (es : Exs) → are_judged es g ≡ true → list_all is_known (types_of es g) ≡ true →
       is_scalar (and_then (all_some (types_of es g)) (type_of_op (word f))) ≡ true → Scalars sup g es → Lists sup g es →
       Progress sup g (node_ex (is_truth_op (word f)) (word f) es)
   word-node f no_exs i k s h l = no s
@@ -126,7 +145,7 @@ module _ (sup : Supply) (g : Names Ty) where
 
   -- ---- nodes
 
-  node-at : (op : Op) (es : Exs) → lists_fit op es g ≡ true → list_all is_known (types_of es g) ≡ true →
+  node-at : (op : Op) (es : Exs) → are_judged es g ≡ true → list_all is_known (types_of es g) ≡ true →
       is_scalar (type_of (node_ex (is_truth_op op) op es) g) ≡ true → Scalars sup g es → Lists sup g es →
       Progress sup g (node_ex (is_truth_op op) op es)
   node-at (unary o) es i k s f l = unary-node sup g o es k s f
@@ -153,14 +172,12 @@ module _ (sup : Supply) (g : Names Ty) where
   node b op es j s f l = go (is_picked (node_ex b op es)) refl j
     where
       go : (q : Bool) → is_picked (node_ex b op es) ≡ q →
-          q || (iff b (is_truth_op op) && (lists_fit op es g && (list_all is_known (types_of es g) && are_judged es g))) ≡ true →
+          q || (iff b (is_truth_op op) && (list_all is_known (types_of es g) && are_judged es g)) ≡ true →
           Progress sup g (node_ex b op es)
       go true q j = goes_on (here sup (is_left q))
       go false q j =
-          let m = and-left (iff b (is_truth_op op)) (lists_fit op es g && (list_all is_known (types_of es g) && are_judged es g)) j in
-          let r = and-right (iff b (is_truth_op op)) (lists_fit op es g && (list_all is_known (types_of es g) && are_judged es g)) j in
-          let i = and-left (lists_fit op es g) (list_all is_known (types_of es g) && are_judged es g) r in
-          let t = and-right (lists_fit op es g) (list_all is_known (types_of es g) && are_judged es g) r in
-          let k = and-left (list_all is_known (types_of es g)) (are_judged es g) t in
-          let u = and-right (list_all is_known (types_of es g)) (are_judged es g) t in
-          subst (λ z. Progress sup g (node_ex z op es)) (sym (mark-is b (is_truth_op op) m)) (node-at op es i k s (f u) (l u))
+          let m = and-left (iff b (is_truth_op op)) (list_all is_known (types_of es g) && are_judged es g) j in
+          let r = and-right (iff b (is_truth_op op)) (list_all is_known (types_of es g) && are_judged es g) j in
+          let k = and-left (list_all is_known (types_of es g)) (are_judged es g) r in
+          let u = and-right (list_all is_known (types_of es g)) (are_judged es g) r in
+          subst (λ z. Progress sup g (node_ex z op es)) (sym (mark-is b (is_truth_op op) m)) (node-at op es u k s (f u) (l u))

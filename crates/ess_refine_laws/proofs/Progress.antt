@@ -69,8 +69,9 @@ module _ (sup : Supply) where
 
     on-list : (l : Ex) (g : Names Ty) → is_judged l g ≡ true → is_laid_open l ≡ true → has_scalar_items l g ≡ true → OnList sup g l
     on-list (comp_ex e gs) g j o i =
-        of-comp sup g e gs (on-tree e (names_behind gs g) (and-left (is_judged e (names_behind gs g)) (gens_judged gs g) j) i)
-        (on-gens gs g (and-right (is_judged e (names_behind gs g)) (gens_judged gs g) j))
+        let r = and-right (is_known (type_of e (names_behind gs g))) (is_judged e (names_behind gs g) && gens_judged gs g) j in
+        of-comp sup g e gs (on-tree e (names_behind gs g) (and-left (is_judged e (names_behind gs g)) (gens_judged gs g) r) i)
+        (on-gens gs g (and-right (is_judged e (names_behind gs g)) (gens_judged gs g) r))
     on-list (node_ex false matrix_literal es) g j o i =
         of-literal sup g es (on-exs es g (and-right (list_all is_known (types_of es g)) (are_judged es g) j) i)
     on-list _ g j o i = no o

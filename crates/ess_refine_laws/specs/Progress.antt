@@ -1,18 +1,18 @@
 -- Progress: in a tree of a scalar that isn't refined some rule fires at some part, or a part is left to a kind or to a lookup.
-use Rattle.std.specs.Prelude.{◌≡◌, Bool, true, false, ◌&&◌, ◌||◌, not, List, Option, Some, IsTrue, is_some}
+use Rattle.std.specs.Prelude.{◌≡◌, Bool, true, false, ◌&&◌, ◌||◌, List, Option, Some, IsTrue, is_some}
 use Rattle.std.specs.List.{list_all}
 use Rattle.ess_semantics.specs.declared.words.Fun.{Fun}
 use Rattle.ess_semantics.specs.Values.{Text}
 use Rattle.ess_semantics.specs.Names.{Names}
 use Rattle.ess_semantics.specs.Operators.{iff}
-use Rattle.ess_semantics.specs.Trees.{Op, word, index, application, is_truth_op, Pat, name_pat, Ex, Exs, number_ex, truth_ex, name_ex, node_ex, matrix_ex, comp_ex, cell_ex, seen_ex, no_exs, more_exs, Gens, no_gens, over, from, cond, Dom, Doms, bool_dom, int_dom, name_dom, tuple_dom, record_dom}
+use Rattle.ess_semantics.specs.Trees.{word, index, application, is_truth_op, Pat, name_pat, Ex, Exs, number_ex, truth_ex, name_ex, node_ex, matrix_ex, comp_ex, cell_ex, seen_ex, no_exs, more_exs, Gens, no_gens, over, from, cond, Dom, Doms, bool_dom, int_dom, name_dom, tuple_dom, record_dom}
 use Rattle.ess_semantics.specs.Types.{Ty, type_of_dom, bind_types}
 use Rattle.ess_semantics.specs.Typing.{type_of, types_of, source_ty}
 use Rattle.ess_semantics.specs.Kinds.{is_bounded}
 use Rattle.ess_semantics.specs.ExpressionJudgements.{pattern_fits}
 use Rattle.ess_semantics.specs.Contexts.{In, fill}
 use Rattle.ess_semantics.specs.NamesAt.{names_behind, names_at}
-use Rattle.ess_semantics.specs.Refined.{is_list_op, is_refined}
+use Rattle.ess_semantics.specs.Refined.{is_refined}
 use Rattle.ess_rules_laws.specs.SpliceRules.{append_gens}
 use Rattle.ess_rules_laws.specs.SplitRules.{split}
 use Rattle.ess_rules_laws.specs.TupleNames.{name_over_tuple, are_names}
@@ -40,29 +40,20 @@ abbrev pub have_scalar_items : Exs → Names Ty → Bool
 have_scalar_items no_exs g = true
 have_scalar_items (more_exs l es) g = has_scalar_items l g && have_scalar_items es g
 
--- Whether the operator reads lists whose items must be scalars: each operator on lists but `allDiff`.
-abbrev pub reads_scalars : Op → Bool
-reads_scalars (word Fun.AllDiff) = false
-reads_scalars op = is_list_op op
-
--- Whether the lists that such an operator reads have scalars.
-abbrev pub lists_fit : Op → Exs → Names Ty → Bool
-lists_fit op es g = not (reads_scalars op) || have_scalar_items es g
-
 abbrev mutual
-  -- What progress counts on in each part: marks are right, operands have known types, lists under folds, `min`, `max` and the
-  -- lexicographic signs have scalars, indices of cells are scalars, generators run over atoms, tuples and records of
-  -- domains, which patterns fit, with fields in their order, or over terms that have members.
+  -- What progress counts on in each part: marks are right, operands and the items of comprehensions have known types, indices of
+  -- cells are scalars, generators run over atoms, tuples and records of domains, which patterns fit, with fields in their order,
+  -- or over terms that have members.
   pub is_judged : Ex → Names Ty → Bool
   is_judged (number_ex n) g = true
   is_judged (truth_ex b) g = true
   is_judged (name_ex a) g = true
   is_judged (node_ex b op es) g =
       is_picked (node_ex b op es)
-      || (iff b (is_truth_op op) && (lists_fit op es g && (list_all is_known (types_of es g) && are_judged es g)))
+      || (iff b (is_truth_op op) && (list_all is_known (types_of es g) && are_judged es g))
   is_judged (matrix_ex es d) g = true
   is_judged (comp_ex e gs) g =
-      is_judged e (names_behind gs g) && gens_judged gs g
+      is_known (type_of e (names_behind gs g)) && (is_judged e (names_behind gs g) && gens_judged gs g)
   is_judged (cell_ex b n es) g = list_all is_scalar (types_of es g) && are_judged es g
   is_judged (seen_ex r d ns es) g = true
 

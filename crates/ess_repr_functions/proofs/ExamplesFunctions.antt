@@ -9,7 +9,7 @@ use Rattle.ess_semantics.specs.OneLayer.{layer_value}
 use Rattle.ess_semantics.proofs.CellWords.{n, upto, ints, both, one, table, table2, set, function}
 use Rattle.ess_repr_functions.specs.declared.forms.Form.TheVariants.{ForEach, Flagged, AsRelation}
 use Rattle.ess_repr_functions.specs.FunctionForms.{form_of, over_functions}
-use Rattle.ess_repr_functions.specs.FunctionRows.{values_at_members, has_values, relation_of_pairs, parts_by, tables_by, inner_by, value_by}
+use Rattle.ess_repr_functions.specs.FunctionRows.{values_at_members, has_values, relation_of_pairs, parts_by, tables_by, value_by}
 use Rattle.ess_repr_functions.specs.FunctionPremises.{children_of}
 
 -- ---- the forms
@@ -74,31 +74,24 @@ part_marks = refl
 part_parts : parts_by (Flagged truths) booleans in_part ≡ n 5 ∷ []
 part_parts = refl
 
-part_tables : tables_by (Flagged truths) booleans in_part ([] ∷ []) ((one 5 ∷ []) ∷ []) ≡ table (0 ∷ 1 ∷ []) (0 ∷ 1 ∷ []) ∷ table (0 ∷ 1 ∷ []) (0 ∷ 5 ∷ []) ∷ []
+part_tables : tables_by (Flagged truths) booleans in_part ([] ∷ []) ((one 5 ∷ []) ∷ [])
+    ≡ table (0 ∷ 1 ∷ []) (0 ∷ 1 ∷ []) ∷ table (0 ∷ 1 ∷ []) (0 ∷ 5 ∷ []) ∷ []
 part_tables = refl
 
-part_inner : inner_by (Flagged truths) (table (0 ∷ 1 ∷ []) (0 ∷ 1 ∷ []) ∷ table (0 ∷ 1 ∷ []) (0 ∷ 5 ∷ []) ∷ []) ≡ Some ((one 5 ∷ []) ∷ [])
-part_inner = refl
-
--- what is out of use may hold anything
-part_other : inner_by (Flagged truths) (table (0 ∷ 1 ∷ []) (0 ∷ 1 ∷ []) ∷ table (0 ∷ 1 ∷ []) (4 ∷ 5 ∷ []) ∷ []) ≡ Some ((one 5 ∷ []) ∷ [])
-part_other = refl
-
--- a flag that is no truth value
-part_wrong : inner_by (Flagged truths) (table (0 ∷ 1 ∷ []) (0 ∷ 2 ∷ []) ∷ table (0 ∷ 1 ∷ []) (0 ∷ 5 ∷ []) ∷ []) ≡ None
-part_wrong = refl
-
-part_value : value_by (Flagged truths) booleans (table (0 ∷ 1 ∷ []) (0 ∷ 1 ∷ []) ∷ table (0 ∷ 1 ∷ []) (0 ∷ 5 ∷ []) ∷ []) (n 5 ∷ []) ≡ Some in_part
+part_value : value_by (Flagged truths) booleans (table (0 ∷ 1 ∷ []) (0 ∷ 1 ∷ []) ∷ table (0 ∷ 1 ∷ []) (0 ∷ 5 ∷ []) ∷ []) (n 5 ∷ [])
+    ≡ Some in_part
 part_value = refl
 
-part_no_value : value_by (Flagged truths) booleans (table (0 ∷ 1 ∷ []) (0 ∷ 2 ∷ []) ∷ table (0 ∷ 1 ∷ []) (0 ∷ 5 ∷ []) ∷ []) (n 5 ∷ []) ≡ None
+part_no_value : value_by (Flagged truths) booleans (table (0 ∷ 1 ∷ []) (0 ∷ 2 ∷ []) ∷ table (0 ∷ 1 ∷ []) (0 ∷ 5 ∷ []) ∷ []) (n 5 ∷ [])
+    ≡ None
 part_no_value = refl
 
 -- ---- a total function from tuples: (false, 1) --> {}, (false, 2) --> {1}, (true, 1) --> {2}, (true, 2) --> {1, 2}
 
 abbrev sets_of_tuples : Value
 sets_of_tuples =
-    function (pair (pair (truth false) (n 1)) (set []) ∷ pair (pair (truth false) (n 2)) (set (1 ∷ [])) ∷ pair (pair (truth true) (n 1)) (set (2 ∷ [])) ∷
+    function (pair (pair (truth false) (n 1)) (set []) ∷ pair (pair (truth false) (n 2)) (set (1 ∷ [])) ∷
+    pair (pair (truth true) (n 1)) (set (2 ∷ [])) ∷
     pair (pair (truth true) (n 2)) (set (1 ∷ 2 ∷ [])) ∷ [])
 
 -- each set by its members that occur
@@ -108,7 +101,8 @@ each_set =
     (table (1 ∷ 2 ∷ []) (1 ∷ 1 ∷ []) ∷ []) ∷ []
 
 abbrev all_sets : Tables
-all_sets = record { axes = ints (0 ∷ 1 ∷ []) ∷ ints (1 ∷ 2 ∷ []) ∷ ints (1 ∷ 2 ∷ []) ∷ []; items = ints (0 ∷ 0 ∷ 1 ∷ 0 ∷ 0 ∷ 1 ∷ 1 ∷ 1 ∷ []) } ∷ []
+all_sets =
+    record { axes = ints (0 ∷ 1 ∷ []) ∷ ints (1 ∷ 2 ∷ []) ∷ ints (1 ∷ 2 ∷ []) ∷ []; items = ints (0 ∷ 0 ∷ 1 ∷ 0 ∷ 0 ∷ 1 ∷ 1 ∷ 1 ∷ []) } ∷ []
 
 total_parts : parts_by (ForEach places) tupled sets_of_tuples ≡ set [] ∷ set (1 ∷ []) ∷ set (2 ∷ []) ∷ set (1 ∷ 2 ∷ []) ∷ []
 total_parts = refl
@@ -116,14 +110,12 @@ total_parts = refl
 total_tables : tables_by (ForEach places) tupled sets_of_tuples ((ints (1 ∷ 2 ∷ []) ∷ []) ∷ []) each_set ≡ all_sets
 total_tables = refl
 
-total_inner : inner_by (ForEach places) all_sets ≡ Some each_set
-total_inner = refl
-
 total_value : value_by (ForEach places) tupled all_sets (set [] ∷ set (1 ∷ []) ∷ set (2 ∷ []) ∷ set (1 ∷ 2 ∷ []) ∷ []) ≡ Some sets_of_tuples
 total_value = refl
 
 -- the same by the definitions of layers
-total_layer : layer_value ReprKind.FunctionND (functions [] tupled (sets [] (upto 2))) all_sets (set [] ∷ set (1 ∷ []) ∷ set (2 ∷ []) ∷ set (1 ∷ 2 ∷ []) ∷ []) ≡ Some sets_of_tuples
+total_layer : layer_value ReprKind.FunctionND (functions [] tupled (sets [] (upto 2))) all_sets
+    (set [] ∷ set (1 ∷ []) ∷ set (2 ∷ []) ∷ set (1 ∷ 2 ∷ []) ∷ []) ≡ Some sets_of_tuples
 total_layer = refl
 
 -- ---- as a relation
@@ -137,18 +129,17 @@ relation_pairs = refl
 relation_parts : parts_by AsRelation booleans in_part ≡ pairs ∷ []
 relation_parts = refl
 
-relation_tables : tables_by AsRelation booleans in_part ((ints (0 ∷ 1 ∷ []) ∷ ints (4 ∷ 5 ∷ []) ∷ []) ∷ []) ((table2 (0 ∷ 1 ∷ []) (4 ∷ 5 ∷ []) (0 ∷ 0 ∷ 0 ∷ 1 ∷ []) ∷ []) ∷ []) ≡
+relation_tables : tables_by AsRelation booleans in_part ((ints (0 ∷ 1 ∷ []) ∷ ints (4 ∷ 5 ∷ []) ∷ []) ∷ [])
+    ((table2 (0 ∷ 1 ∷ []) (4 ∷ 5 ∷ []) (0 ∷ 0 ∷ 0 ∷ 1 ∷ []) ∷ []) ∷ []) ≡
     table2 (0 ∷ 1 ∷ []) (4 ∷ 5 ∷ []) (0 ∷ 0 ∷ 0 ∷ 1 ∷ []) ∷ []
 relation_tables = refl
-
-relation_inner : inner_by AsRelation (table2 (0 ∷ 1 ∷ []) (4 ∷ 5 ∷ []) (0 ∷ 0 ∷ 0 ∷ 1 ∷ []) ∷ []) ≡ Some ((table2 (0 ∷ 1 ∷ []) (4 ∷ 5 ∷ []) (0 ∷ 0 ∷ 0 ∷ 1 ∷ []) ∷ []) ∷ [])
-relation_inner = refl
 
 relation_value : value_by AsRelation booleans [] (pairs ∷ []) ≡ Some in_part
 relation_value = refl
 
 -- two values at one argument
-relation_double : value_by AsRelation booleans [] (node a_relation (of_list (pair (truth true) (n 4) ∷ pair (truth true) (n 5) ∷ [])) ∷ []) ≡ None
+relation_double : value_by AsRelation booleans [] (node a_relation (of_list (pair (truth true) (n 4) ∷ pair (truth true) (n 5) ∷ [])) ∷ [])
+    ≡ None
 relation_double = refl
 
 -- no relation

@@ -3,7 +3,8 @@ use Rattle.std.proofs.Common.{◌≡◌, ap, ◌∙◌, subst, true, ◌&&◌, L
 use Rattle.std.proofs.lemmas.Bool.{eqb-true}
 use Rattle.ess_semantics.specs.declared.words.ReprKind.{ReprKind}
 use Rattle.ess_semantics.specs.Trees.{Repr, Reprs, repr, no_reprs, more_reprs}
-use Rattle.ess_semantics.specs.Domains.{Attribute, Domain, Domains, functions, sets, relations, tuples, no_domains, more_domains, domain_list}
+use Rattle.ess_semantics.specs.Domains.{Attribute, Domain, Domains, functions, sets, relations, tuples, no_domains, more_domains}
+use Rattle.ess_semantics.specs.Domains.{domain_list}
 use Rattle.ess_semantics.specs.Tables.{Table, Tables, volume, code, is_filled, same_axes}
 use Rattle.ess_semantics.specs.Cells.{Axes}
 use Rattle.ess_semantics.specs.Layers.{Layer, codes_of}
@@ -67,7 +68,8 @@ module _ (as' : Axes) (ass : List Axes) (t : Table) (ts : Tables) (h : over_axes
   pub first-over : TableOver as' t
   first-over =
       let a = axes-equal t.axes as' (and-right (is_filled t) (same_axes t.axes as') first) in
-      record { over = a; filled = eqb-true (length t.items) (volume t.axes) (and-left (is_filled t) (same_axes t.axes as') first) ∙ ap volume a }
+      let n = eqb-true (length t.items) (volume t.axes) (and-left (is_filled t) (same_axes t.axes as') first) in
+      record { over = a; filled = n ∙ ap volume a }
 
   -- The others are over the others.
   pub others-over : over_axes [] ass ts ≡ true
@@ -81,6 +83,7 @@ no-child ReprKind.Atom ks d c h = h
 no-child _ ks d c h = h
 
 -- And with no second one.
-pub second-child : (k : ReprKind) (r s : Repr) (rs : Reprs) (ks : List Attribute) (d c : Domain) → Covered (repr k (more_reprs r (more_reprs s rs))) (functions ks d c) → ⊥
+pub second-child : (k : ReprKind) (r s : Repr) (rs : Reprs) (ks : List Attribute) (d c : Domain) →
+    Covered (repr k (more_reprs r (more_reprs s rs))) (functions ks d c) → ⊥
 second-child ReprKind.Atom r s rs ks d c h = h
 second-child _ r s rs ks d c h = h

@@ -10,7 +10,7 @@ use Rattle.ess_semantics.specs.Cells.{Axes}
 use Rattle.ess_semantics.specs.Representations.{layer}
 use Rattle.ess_semantics.specs.Declarations.{axes_of}
 use Rattle.ess_semantics.specs.Tidy.{over_axes}
-use Rattle.ess_semantics.specs.OneLayer.{inner_values, layer_tables, inner_tables, layer_value}
+use Rattle.ess_semantics.specs.OneLayer.{inner_values, layer_tables, layer_value}
 use Rattle.ess_eval_domains.specs.declared.closed.Attribute.{Attribute}
 use Rattle.ess_eval_domains.specs.declared.closed.Closed.{Closed}
 use Rattle.ess_eval_domains.specs.declared.closed.Closed.TheVariants as variant
@@ -18,9 +18,9 @@ use Rattle.ess_eval_domains.specs.ClosedViews.{pure_attributes, pure_closed}
 use Rattle.ess_eval_domains.proofs.ClosedEquations.{pure_closed_function}
 use Rattle.ess_repr_laws.specs.Rooms.{Covered}
 use Rattle.ess_repr_functions.specs.FunctionForms.{form_of, over_functions}
-use Rattle.ess_repr_functions.specs.FunctionRows.{parts_by, tables_by, inner_by, value_by}
+use Rattle.ess_repr_functions.specs.FunctionRows.{parts_by, tables_by, value_by}
 use Rattle.ess_repr_functions.specs.FunctionPremises.{children_of, ChildOver}
-use Rattle.ess_repr_functions.proofs.FunctionLaws.{parts-layer, tables-layer, inner-layer, value-layer}
+use Rattle.ess_repr_functions.proofs.FunctionLaws.{parts-layer, tables-layer, value-layer}
 
 -- d is the domain of the arguments.
 module _ (k : ReprKind) (dom e d c : Closed) (ks : List Attribute) (is : dom ≡ variant.Function ks e c) (get : d ≡ e) where
@@ -40,21 +40,16 @@ module _ (k : ReprKind) (dom e d c : Closed) (ks : List Attribute) (is : dom ≡
       Covered (repr k rs) (pure_closed dom) → ChildOver rs (children_of k (pure_closed dom)) ass tss →
       o ≡ over_functions (pure_closed dom) (layer_tables (repr k rs) (pure_closed dom) v tss)
   tables_over v ass tss o rs q h p =
-      q ∙ tables-layer k rs (pure_attributes ks) (pure_closed d) (pure_closed c) v ass tss (subst (Covered (repr k rs)) pure h) (subst (λ x. ChildOver rs (children_of k x) ass tss) pure p)
+      q ∙ tables-layer k rs (pure_attributes ks) (pure_closed d) (pure_closed c) v ass tss (subst (Covered (repr k rs)) pure h)
+      (subst (λ x. ChildOver rs (children_of k x) ass tss) pure p)
       ∙ ap (λ x. over_functions x (layer_tables (repr k rs) x v tss)) (sym pure)
 
-  -- The tables of its parts.
-  pub inner_over : (ts : Tables) (o : Option (List Tables)) (rs : Reprs) → o ≡ and_then (form_of k (pure_closed d)) (λ f. inner_by f ts) →
-      Covered (repr k rs) (pure_closed dom) → over_axes [] (axes_of (repr k rs) (pure_closed dom)) ts ≡ true →
-      o ≡ over_functions (pure_closed dom) (inner_tables k (pure_closed dom) ts)
-  inner_over ts o rs q h p =
-      q ∙ inner-layer k rs (pure_attributes ks) (pure_closed d) (pure_closed c) ts (subst (Covered (repr k rs)) pure h) (subst (λ x. over_axes [] (axes_of (repr k rs) x) ts ≡ true) pure p)
-      ∙ ap (λ x. over_functions x (inner_tables k x ts)) (sym pure)
-
   -- The function that tables stand for.
-  pub value_over : (ts : Tables) (vs : List Value) (o : Option Value) (rs : Reprs) → o ≡ and_then (form_of k (pure_closed d)) (λ f. value_by f (pure_closed d) ts vs) →
+  pub value_over : (ts : Tables) (vs : List Value) (o : Option Value) (rs : Reprs) →
+      o ≡ and_then (form_of k (pure_closed d)) (λ f. value_by f (pure_closed d) ts vs) →
       Covered (repr k rs) (pure_closed dom) → over_axes [] (axes_of (repr k rs) (pure_closed dom)) ts ≡ true →
       o ≡ over_functions (pure_closed dom) (layer_value k (pure_closed dom) ts vs)
   value_over ts vs o rs q h p =
-      q ∙ value-layer k rs (pure_attributes ks) (pure_closed d) (pure_closed c) ts vs (subst (Covered (repr k rs)) pure h) (subst (λ x. over_axes [] (axes_of (repr k rs) x) ts ≡ true) pure p)
+      q ∙ value-layer k rs (pure_attributes ks) (pure_closed d) (pure_closed c) ts vs (subst (Covered (repr k rs)) pure h)
+      (subst (λ x. over_axes [] (axes_of (repr k rs) x) ts ≡ true) pure p)
       ∙ ap (λ x. over_functions x (layer_value k x ts vs)) (sym pure)

@@ -1,5 +1,6 @@
 -- Flags that are picked by are truth values.
-use Rattle.std.proofs.Common.{◌≡◌, refl, sym, ◌∙◌, ℕ, suc, Bool, if◌then◌else◌, List, [], ◌∷◌, length, ℤ, Option, Some, None, is_some, option_map}
+use Rattle.std.proofs.Common.{◌≡◌, refl, sym, ◌∙◌, ℕ, suc, Bool, if◌then◌else◌, List, [], ◌∷◌, length, ℤ, Option, Some, None, is_some}
+use Rattle.std.proofs.Common.{option_map}
 use Rattle.ess_semantics.specs.Lists.{and_then}
 use Rattle.ess_semantics.specs.Tables.{truth_of}
 use Rattle.ess_repr_rows_laws.specs.Cutting.{flagged_from}
@@ -10,16 +11,19 @@ some-map f None = refl
 some-map f (Some x) = refl
 
 -- Flags have numbers where items can be picked by them.
-flagged-some : {A : Type 0} (k : ℕ) (ns : List ℤ) (xs : List A) → length ns ≡ length xs → is_some (flagged_from k ns) ≡ is_some (picked ns xs)
+flagged-some : {A : Type 0} (k : ℕ) (ns : List ℤ) (xs : List A) → length ns ≡ length xs →
+    is_some (flagged_from k ns) ≡ is_some (picked ns xs)
 flagged-some k [] xs e = refl
 flagged-some k (n ∷ ns) [] e = cc
 flagged-some {A = A} k (n ∷ ns) (x ∷ xs) e = let q : length ns ≡ length xs = cc in go (truth_of n) (flagged-some (suc k) ns xs q)
   where
     go : (t : Option Bool) → is_some (flagged_from (suc k) ns) ≡ is_some (picked ns xs) →
-        is_some (and_then t (λ b. option_map (λ ks. if b then k ∷ ks else ks) (flagged_from (suc k) ns))) ≡ is_some (and_then t (λ b. option_map (λ ys. if b then x ∷ ys else ys) (picked ns xs)))
+        is_some (and_then t (λ b. option_map (λ ks. if b then k ∷ ks else ks) (flagged_from (suc k) ns)))
+        ≡ is_some (and_then t (λ b. option_map (λ ys. if b then x ∷ ys else ys) (picked ns xs)))
     go None h = refl
     go (Some b) h =
-        some-map (λ ks. if b then k ∷ ks else ks) (flagged_from (suc k) ns) ∙ h ∙ sym (some-map (λ (ys : List A). if b then x ∷ ys else ys) (picked ns xs))
+        some-map (λ ks. if b then k ∷ ks else ks) (flagged_from (suc k) ns) ∙ h
+        ∙ sym (some-map (λ (ys : List A). if b then x ∷ ys else ys) (picked ns xs))
 
 -- Whether flags have numbers needn't be asked where items are picked by them.
 pub flagged-picked : {A B : Type 0} (g : List A → B) (k : ℕ) (ns : List ℤ) (xs : List A) → length ns ≡ length xs →

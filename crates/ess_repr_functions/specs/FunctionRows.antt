@@ -1,4 +1,4 @@
--- One layer of a function on rows: its parts, its tables, the tables of its parts and its value, by the form in which it is kept.
+-- One layer of a function on rows: its parts, its tables and its value, by the form in which it is kept.
 use Rattle.std.specs.Prelude.{Bool, true, List, [], ◌∷◌, map, length, take, drop, Option, Some, is_some, option_map}
 use Rattle.ess_semantics.specs.Lists.{and_then, only_of}
 use Rattle.ess_semantics.specs.Values.{a_relation, Value, node, of_list, items_of}
@@ -9,7 +9,7 @@ use Rattle.ess_semantics.specs.Cells.{Axes}
 use Rattle.ess_semantics.specs.Layers.{everywhere, where_flagged}
 use Rattle.ess_semantics.specs.FunctionLayers.{function_with, function_from}
 use Rattle.ess_semantics.specs.Canonical.{somes}
-use Rattle.ess_repr_rows_laws.specs.Cutting.{parts_at, first_items, used_numbers}
+use Rattle.ess_repr_rows_laws.specs.Cutting.{first_items}
 use Rattle.ess_repr_rows_laws.specs.RowLayers.{spread, flagged_tables, picked}
 use Rattle.ess_repr_rows_laws.specs.Stacking.{stacked}
 use Rattle.ess_repr_functions.specs.declared.forms.Form.{Form}
@@ -37,12 +37,6 @@ abbrev pub tables_by : Form → Domain → Value → List Axes → List Tables �
 tables_by (ForEach as') d v ass tss = stacked as' ass (spread (has_values d v) tss)
 tables_by (Flagged as') d v ass tss = flagged_tables as' ass (spread (has_values d v) tss)
 tables_by AsRelation d v ass tss = stacked [] ass (spread (true ∷ []) tss)
-
--- The tables of the parts that are in use.
-abbrev pub inner_by : Form → Tables → Option (List Tables)
-inner_by (ForEach as') ts = option_map (map (parts_at (length as') ts)) (used_numbers everywhere (volume as') [])
-inner_by (Flagged as') ts = option_map (map (parts_at (length as') (drop 1 ts))) (used_numbers where_flagged (volume as') (take 1 ts))
-inner_by AsRelation ts = option_map (map (parts_at 0 ts)) (used_numbers everywhere 1 [])
 
 -- The function of the values of the parts in use.
 abbrev pub value_by : Form → Domain → Tables → List Value → Option Value

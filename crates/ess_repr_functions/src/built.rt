@@ -2,7 +2,8 @@ ghost use Rattle.std.specs.Prelude.{◌≡◌, map, option_map, IfOk};
 ghost use Rattle.ess_semantics.specs.Lists.{and_then, only_of};
 ghost use Rattle.ess_semantics.specs.Values.{pair as a_pair};
 ghost use Rattle.ess_semantics.specs.Collections.{function_of as the_function_of};
-ghost use Rattle.ess_semantics.specs.FunctionLayers.{with_arguments as pairs_with_arguments, function_with as the_function_with, function_from};
+ghost use Rattle.ess_semantics.specs.FunctionLayers.{with_arguments as pairs_with_arguments, function_with as the_function_with};
+ghost use Rattle.ess_semantics.specs.FunctionLayers.{function_from};
 ghost use Rattle.ess_core.specs.ValueViews.{pure_val, pure_pair};
 
 use ess_core::{NoMemory, Pair, Row, Val};
@@ -19,7 +20,7 @@ pub(crate) fn function_with(alloc: Global, arguments: &[Val], vals: &[Val]) -> R
 }
 
 /// The pairs of these arguments and values, as far as both go. `NoMemory` where there is no room for them.
-#[tactic(auto, using(crate::proofs::PairsOfValues::pairs_more, crate::proofs::PairsOfValues::pairs_short, crate::proofs::PairsOfValues::pairs_all))]
+#[tactic(auto, using(crate::proofs::PairsOfValues::pairs_made))]
 fn with_arguments(alloc: Global, arguments: &[Val], vals: &[Val]) -> Result<Row<Pair>, NoMemory>
     ensures { IfOk result (λ r. map pure_pair r ≡ pairs_with_arguments (map pure_val arguments.now) (map pure_val vals.now)) }
 {

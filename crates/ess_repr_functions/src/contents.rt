@@ -23,7 +23,8 @@ pub fn parts(
     value: &Val,
 ) -> Result<Option<Row<Val>>, NoMemory>
     ensures { IfOk result (λ o. option_map (map pure_val) o ≡
-        over_functions (pure_closed domain.now) (option_map (λ l. inner_values l (pure_val value.now)) (layer kind (pure_closed domain.now)))) }
+        over_functions (pure_closed domain.now)
+        (option_map (λ l. inner_values l (pure_val value.now)) (layer kind (pure_closed domain.now)))) }
 {
     match domain {
         Closed::Function(_, from, _) => parts_from(alloc, kind, from.get(), value),

@@ -11,4 +11,4 @@ mod tables_up;
 
 pub use contents::parts;
 pub use tables_down::down;
-pub use tables_up::{inner, up};
+pub use tables_up::up;

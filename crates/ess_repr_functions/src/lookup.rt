@@ -57,7 +57,8 @@ fn add_value(
     items: &[Val],
     argument: &Val,
 ) -> Result<(), NoMemory>
-    ensures { OnOk result (map pure_val values.new ≡ map pure_val values.old ++ somes (the_value_at (map pure_val items.now) (pure_val argument.now) ∷ [])) }
+    ensures { OnOk result (map pure_val values.new ≡
+        map pure_val values.old ++ somes (the_value_at (map pure_val items.now) (pure_val argument.now) ∷ [])) }
 {
     match value_at(items, argument) {
         Some(value) => match value.copy(alloc) {

@@ -34,7 +34,8 @@ pub fn down(
     ensures { IfOk result (λ o. (rs : Reprs) → Covered (repr kind rs) (pure_closed domain.now) →
         ChildOver rs (children_of kind (pure_closed domain.now)) axes.now (map pure_tables inner) →
         option_map (map pure_table) o ≡
-        over_functions (pure_closed domain.now) (layer_tables (repr kind rs) (pure_closed domain.now) (pure_val value.now) (map pure_tables inner))) }
+        over_functions (pure_closed domain.now)
+        (layer_tables (repr kind rs) (pure_closed domain.now) (pure_val value.now) (map pure_tables inner))) }
 {
     match domain {
         Closed::Function(_, from, _) => tables_from(alloc, kind, from.get(), axes, value, inner),
@@ -52,7 +53,8 @@ fn tables_from(
     inner: Row<Row<Table>>,
 ) -> Result<Option<Row<Table>>, NoMemory>
     ensures { IfOk result (λ o. option_map (map pure_table) o ≡
-        option_map (λ f. tables_by f (pure_closed from.now) (pure_val value.now) axes.now (map pure_tables inner)) (form_for kind (pure_closed from.now))) }
+        option_map (λ f. tables_by f (pure_closed from.now) (pure_val value.now) axes.now (map pure_tables inner))
+        (form_for kind (pure_closed from.now))) }
 {
     match form_of(alloc, kind, from)? {
         Some(form) => Ok(Some(tables_in(alloc, form, from, axes, value, inner)?)),

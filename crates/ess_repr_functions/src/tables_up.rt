@@ -1,115 +1,26 @@
-ghost use Rattle.std.specs.Prelude.{◌≡◌, true, [], map, take, drop, option_map, IfOk};
+ghost use Rattle.std.specs.Prelude.{◌≡◌, true, [], map, option_map, IfOk};
 ghost use Rattle.ess_semantics.specs.Lists.{and_then};
 ghost use Rattle.ess_semantics.specs.Trees.{Reprs, repr};
 ghost use Rattle.ess_semantics.specs.Domains.{member_list as list_of_members};
 ghost use Rattle.ess_semantics.specs.FunctionLayers.{function_with as the_function_with};
 ghost use Rattle.ess_semantics.specs.Declarations.{axes_of};
 ghost use Rattle.ess_semantics.specs.Tidy.{over_axes};
-ghost use Rattle.ess_semantics.specs.OneLayer.{inner_tables, layer_value};
+ghost use Rattle.ess_semantics.specs.OneLayer.{layer_value};
 ghost use Rattle.ess_core.specs.ValueViews.{pure_val};
-ghost use Rattle.ess_core.specs.TableViews.{pure_table};
 ghost use Rattle.ess_eval_domains.specs.ClosedViews.{pure_closed};
 ghost use Rattle.ess_repr_laws.specs.Rooms.{Covered};
 ghost use Rattle.ess_repr_rows_laws.specs.Cutting.{first_items as items_of_first};
 ghost use Rattle.ess_repr_rows_laws.specs.RowLayers.{picked as picked_of};
 ghost use Rattle.ess_repr_tables.specs.SlotViews.{pure_tables};
 ghost use Rattle.ess_repr_functions.specs.FunctionForms.{form_of as form_for, over_functions};
-ghost use Rattle.ess_repr_functions.specs.FunctionRows.{inner_by, value_by};
+ghost use Rattle.ess_repr_functions.specs.FunctionRows.{value_by};
 
 use crate::built::{function_of_relation, function_with};
 use crate::forms::{Form, form_of};
 use ess_core::{NoMemory, ReprKind, Row, Table, Val};
 use ess_eval_domains::Closed;
 use ess_repr_sets::{member_list, picked};
-use ess_repr_slots::slots_in_use;
-use ess_repr_tables::{SlotsInUse, volume};
 use std::alloc::Global;
-
-/// The tables of the parts of a function of this domain that stand in `tables`, kept by this kind: those of the arguments that have
-/// a value, or those of the relation. Nothing where the flags are no truth values, where the domain is none of functions, or the
-/// kind none for it. `NoMemory` where there is no room for them.
-pub fn inner(
-    alloc: Global,
-    kind: ReprKind,
-    domain: &Closed,
-    tables: &[Table],
-) -> Result<Option<Row<Row<Table>>>, NoMemory>
-    ensures { IfOk result (λ o. (rs : Reprs) → Covered (repr kind rs) (pure_closed domain.now) →
-        over_axes [] (axes_of (repr kind rs) (pure_closed domain.now)) (pure_tables tables.now) ≡ true →
-        option_map (map pure_tables) o ≡
-        over_functions (pure_closed domain.now) (inner_tables kind (pure_closed domain.now) (pure_tables tables.now))) }
-{
-    match domain {
-        Closed::Function(_, from, _) => inner_from(alloc, kind, from.get(), tables),
-        _ => Ok(None),
-    }
-}
-
-/// The same of a function from a domain.
-fn inner_from(
-    alloc: Global,
-    kind: ReprKind,
-    from: &Closed,
-    tables: &[Table],
-) -> Result<Option<Row<Row<Table>>>, NoMemory>
-    ensures { IfOk result (λ o. option_map (map pure_tables) o ≡
-        and_then (form_for kind (pure_closed from.now)) (λ f. inner_by f (pure_tables tables.now))) }
-{
-    match form_of(alloc, kind, from)? {
-        Some(form) => inner_in(alloc, form, tables),
-        None => Ok(None),
-    }
-}
-
-/// The same of a function that is kept in this form.
-fn inner_in(
-    alloc: Global,
-    form: Form,
-    tables: &[Table],
-) -> Result<Option<Row<Row<Table>>>, NoMemory>
-    ensures { IfOk result (λ o. option_map (map pure_tables) o ≡ inner_by form (pure_tables tables.now)) }
-{
-    match form {
-        Form::ForEach(arguments) => {
-            let count = volume(arguments.as_slice())?;
-            slots_in_use(alloc, SlotsInUse::All, arguments.len(), count, &[], tables)
-        }
-        Form::Flagged(arguments) => {
-            let count = volume(arguments.as_slice())?;
-            slots_in_use(
-                alloc,
-                SlotsInUse::Flagged,
-                arguments.len(),
-                count,
-                first_table(tables),
-                other_tables(tables),
-            )
-        }
-        Form::AsRelation => slots_in_use(alloc, SlotsInUse::All, 0, 1, &[], tables),
-    }
-}
-
-/// The first table alone.
-fn first_table(tables: &[Table]) -> &[Table]
-    ensures { result.now ≡ take 1 tables.now }
-{
-    if tables.len() == 0 {
-        tables
-    } else {
-        &tables[..1]
-    }
-}
-
-/// The tables behind the first one.
-fn other_tables(tables: &[Table]) -> &[Table]
-    ensures { result.now ≡ drop 1 tables.now }
-{
-    if tables.len() == 0 {
-        tables
-    } else {
-        &tables[1..]
-    }
-}
 
 /// The function of this domain that the tables stand for, kept by this kind, where `vals` are the values of its parts in use in
 /// their order. Nothing where the flags are no truth values, where two pairs of the relation have one argument and differ, where
@@ -142,7 +53,8 @@ fn value_from(
     vals: Row<Val>,
 ) -> Result<Option<Val>, NoMemory>
     ensures { IfOk result (λ o. option_map pure_val o ≡
-        and_then (form_for kind (pure_closed from.now)) (λ f. value_by f (pure_closed from.now) (pure_tables tables.now) (map pure_val vals))) }
+        and_then (form_for kind (pure_closed from.now))
+        (λ f. value_by f (pure_closed from.now) (pure_tables tables.now) (map pure_val vals))) }
 {
     match form_of(alloc, kind, from)? {
         Some(form) => value_in(alloc, form, from, tables, vals.as_slice()),
@@ -158,7 +70,8 @@ fn value_in(
     tables: &[Table],
     vals: &[Val],
 ) -> Result<Option<Val>, NoMemory>
-    ensures { IfOk result (λ o. option_map pure_val o ≡ value_by form (pure_closed from.now) (pure_tables tables.now) (map pure_val vals.now)) }
+    ensures { IfOk result (λ o. option_map pure_val o ≡
+        value_by form (pure_closed from.now) (pure_tables tables.now) (map pure_val vals.now)) }
 {
     match form {
         Form::ForEach(_) => {
@@ -179,7 +92,8 @@ fn flagged_value(
     vals: &[Val],
 ) -> Result<Option<Val>, NoMemory>
     ensures { IfOk result (λ o. option_map pure_val o ≡
-        option_map (λ xs. the_function_with xs (map pure_val vals.now)) (picked_of (items_of_first (pure_tables tables.now)) (list_of_members (pure_closed from.now)))) }
+        option_map (λ xs. the_function_with xs (map pure_val vals.now))
+        (picked_of (items_of_first (pure_tables tables.now)) (list_of_members (pure_closed from.now)))) }
 {
     let members = member_list(alloc, from)?;
     match picked(alloc, first_items(tables), members.as_slice())? {

@@ -89,7 +89,9 @@ module _ (k : ReprKind) (r : Repr) (d e : Domain) (v : Value) (simple : is_compo
         let count : length tss ≡ length values = down.each-long (tables_of_value r e) vs tss each ∙ ap length same-values in
         let x = down.x k r d v simple room in
         let one : OnlyOver r (e ∷ []) (length values) ass tss = record {
-          axes = sym a; over = ap (λ xs. list_all (over_axes [] xs) tss) a ∙ over; count = count;
+          axes = sym a;
+          over = ap (λ xs. list_all (over_axes [] xs) tss) a ∙ over;
+          count = count;
         } in
         let two : OnlyOver r x.the.children (length values) ass tss = subst (λ es. OnlyOver r es (length values) ass tss) (sym (x.only ∙ ap (λ c. c ∷ []) same-child)) one in
         let ready : TablesReady k (more_reprs r no_reprs) d v ass tss = subst

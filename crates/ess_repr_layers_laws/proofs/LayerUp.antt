@@ -58,9 +58,10 @@ module _ (k : ReprKind) (r : Repr) (d : Domain) (ts : Tables) (simple : is_compo
 
   parts : (over_axes [] (own_axes x.the.own) (take (own_width k) ts) ≡ true) × (over_axes [] (map (λ as'. x.the.axes ++ as') (axes_of r x.child)) (drop (own_width k) ts) ≡ true)
   parts =
-      let p = over-both (own_axes x.the.own) (map (λ as'. x.the.axes ++ as') (axes_of r x.child)) ts (subst (λ ass. over_axes [] ass ts ≡ true) axes over) in
-      (subst (λ n. over_axes [] (own_axes x.the.own) (take n ts) ≡ true) x.wide p.0,
-      subst (λ n. over_axes [] (map (λ as'. x.the.axes ++ as') (axes_of r x.child)) (drop n ts) ≡ true) x.wide p.1)
+      let p = over-both (own_axes x.the.own) (map (λ as'. x.the.axes ++ as') (axes_of r x.child)) ts (subst (λ ass. over_axes [] ass ts ≡ true) axes over) in (
+        subst (λ n. over_axes [] (own_axes x.the.own) (take n ts) ≡ true) x.wide p.0,
+        subst (λ n. over_axes [] (map (λ as'. x.the.axes ++ as') (axes_of r x.child)) (drop n ts) ≡ true) x.wide p.1,
+      )
 
   rows : inner_tables k d ts ≡ option_map (map (parts_at (length x.the.axes) (drop (own_width k) ts))) (used_numbers x.the.in_use (volume x.the.axes) (take (own_width k) ts))
   rows = inner-with-child k d x.child x.the (axes_of r x.child) ts x.at x.only x.differ (x.used (take (own_width k) ts) parts.0) parts.1

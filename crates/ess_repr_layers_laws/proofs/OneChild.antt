@@ -81,55 +81,159 @@ pub one-child : (k : ReprKind) (r : Repr) (d : Domain) → is_compound k ≡ fal
 one-child ReprKind.Tuple r d n h = cc
 one-child ReprKind.Rec r d n h = cc
 one-child ReprKind.Matrix r (matrices is d) n h = record {
-  child = d; the = matrix_layer is d; at = refl; only = refl; covered = h.2; differ = atom-axes is h.0; wide = refl;
-  used = λ ts o. tt; same = λ m ts. refl; content = λ v. (_, refl);
+  child = d;
+  the = matrix_layer is d;
+  at = refl;
+  only = refl;
+  covered = h.2;
+  differ = atom-axes is h.0;
+  wide = refl;
+  used = λ ts o. tt;
+  same = λ m ts. refl;
+  content = λ v. (_, refl);
 }
 one-child ReprKind.Explicit r (sets ks d) n h = record {
-  child = d; the = explicit_layer ks d; at = refl; only = refl; covered = h; differ = slots (slots_of_set ks d); wide = refl;
-  used = λ ts o. tt; same = λ m ts. refl; content = λ v. (_, refl);
+  child = d;
+  the = explicit_layer ks d;
+  at = refl;
+  only = refl;
+  covered = h;
+  differ = slots (slots_of_set ks d);
+  wide = refl;
+  used = λ ts o. tt;
+  same = λ m ts. refl;
+  content = λ v. (_, refl);
 }
 one-child ReprKind.ExplicitVarSizeWithMarker r (sets ks d) n h = record {
-  child = d; the = marker_layer ks d; at = refl; only = refl; covered = h; differ = slots (slots_of_set ks d); wide = refl;
-  used = marker-over (one_to (slots_of_set ks d) ∷ []); same = λ m ts. refl; content = λ v. (_, refl);
+  child = d;
+  the = marker_layer ks d;
+  at = refl;
+  only = refl;
+  covered = h;
+  differ = slots (slots_of_set ks d);
+  wide = refl;
+  used = marker-over (one_to (slots_of_set ks d) ∷ []);
+  same = λ m ts. refl;
+  content = λ v. (_, refl);
 }
 one-child ReprKind.ExplicitVarSizeWithFlags r (sets ks d) n h = record {
-  child = d; the = flags_layer ks d; at = refl; only = refl; covered = h; differ = slots (slots_of_set ks d); wide = refl;
-  used = flags-over (one_to (slots_of_set ks d) ∷ []); same = λ m ts. refl; content = λ v. (_, refl);
+  child = d;
+  the = flags_layer ks d;
+  at = refl;
+  only = refl;
+  covered = h;
+  differ = slots (slots_of_set ks d);
+  wide = refl;
+  used = flags-over (one_to (slots_of_set ks d) ∷ []);
+  same = λ m ts. refl;
+  content = λ v. (_, refl);
 }
 one-child ReprKind.MSetExplicitWithRepetition r (msets ks d) n h = record {
-  child = d; the = repetition_layer ks d; at = refl; only = refl; covered = h; differ = slots (slots_of_mset ks d); wide = refl;
-  used = marker-over (one_to (slots_of_mset ks d) ∷ []); same = λ m ts. refl; content = λ v. (_, refl);
+  child = d;
+  the = repetition_layer ks d;
+  at = refl;
+  only = refl;
+  covered = h;
+  differ = slots (slots_of_mset ks d);
+  wide = refl;
+  used = marker-over (one_to (slots_of_mset ks d) ∷ []);
+  same = λ m ts. refl;
+  content = λ v. (_, refl);
 }
 one-child ReprKind.MSetExplicitWithFlags r (msets ks d) n h = record {
-  child = d; the = mset_flags_layer ks d; at = refl; only = refl; covered = h; differ = slots (slots_of_mset ks d); wide = refl;
-  used = counts-over (one_to (slots_of_mset ks d) ∷ []); same = λ m ts. refl; content = λ v. (_, refl);
+  child = d;
+  the = mset_flags_layer ks d;
+  at = refl;
+  only = refl;
+  covered = h;
+  differ = slots (slots_of_mset ks d);
+  wide = refl;
+  used = counts-over (one_to (slots_of_mset ks d) ∷ []);
+  same = λ m ts. refl;
+  content = λ v. (_, refl);
 }
 one-child ReprKind.Function1D r (functions ks d c) n h = record {
-  child = c; the = function_1d_layer ks d c; at = refl; only = refl; covered = h.1; differ = atom-axis d h.0; wide = refl;
-  used = λ ts o. tt; same = λ m ts. refl; content = λ v. (_, refl);
+  child = c;
+  the = function_1d_layer ks d c;
+  at = refl;
+  only = refl;
+  covered = h.1;
+  differ = atom-axis d h.0;
+  wide = refl;
+  used = λ ts o. tt;
+  same = λ m ts. refl;
+  content = λ v. (_, refl);
 }
 one-child ReprKind.Function1DPartial r (functions ks d c) n h = record {
-  child = c; the = function_1d_partial_layer ks d c; at = refl; only = refl; covered = h.1; differ = atom-axis d h.0; wide = refl;
-  used = flags-over (codes_of d ∷ []); same = λ m ts. refl; content = λ v. (_, refl);
+  child = c;
+  the = function_1d_partial_layer ks d c;
+  at = refl;
+  only = refl;
+  covered = h.1;
+  differ = atom-axis d h.0;
+  wide = refl;
+  used = flags-over (codes_of d ∷ []);
+  same = λ m ts. refl;
+  content = λ v. (_, refl);
 }
 one-child ReprKind.FunctionND r (functions ks (tuples ds) c) n h = record {
-  child = c; the = function_nd_layer ks ds c; at = refl; only = refl; covered = h.1; differ = atom-axes ds h.0; wide = refl;
-  used = λ ts o. tt; same = λ m ts. refl; content = λ v. (_, refl);
+  child = c;
+  the = function_nd_layer ks ds c;
+  at = refl;
+  only = refl;
+  covered = h.1;
+  differ = atom-axes ds h.0;
+  wide = refl;
+  used = λ ts o. tt;
+  same = λ m ts. refl;
+  content = λ v. (_, refl);
 }
 one-child ReprKind.FunctionNDPartial r (functions ks (tuples ds) c) n h = record {
-  child = c; the = function_nd_partial_layer ks ds c; at = refl; only = refl; covered = h.1; differ = atom-axes ds h.0; wide = refl;
-  used = flags-over (map codes_of (domain_list ds)); same = λ m ts. refl; content = λ v. (_, refl);
+  child = c;
+  the = function_nd_partial_layer ks ds c;
+  at = refl;
+  only = refl;
+  covered = h.1;
+  differ = atom-axes ds h.0;
+  wide = refl;
+  used = flags-over (map codes_of (domain_list ds));
+  same = λ m ts. refl;
+  content = λ v. (_, refl);
 }
 one-child ReprKind.FunctionAsRelation r (functions ks d c) n h = record {
-  child = child_relation ks d c; the = function_as_relation_layer ks d c; at = refl; only = refl; covered = h; differ = tt; wide = refl;
-  used = λ ts o. tt; same = λ m ts. refl; content = λ v. (_, refl);
+  child = child_relation ks d c;
+  the = function_as_relation_layer ks d c;
+  at = refl;
+  only = refl;
+  covered = h;
+  differ = tt;
+  wide = refl;
+  used = λ ts o. tt;
+  same = λ m ts. refl;
+  content = λ v. (_, refl);
 }
 one-child ReprKind.RelationAsSet r (relations ks ds) n h = record {
-  child = child_set ks ds; the = relation_as_set_layer ks ds; at = refl; only = refl; covered = h; differ = tt; wide = refl;
-  used = λ ts o. tt; same = λ m ts. refl; content = λ v. (_, refl);
+  child = child_set ks ds;
+  the = relation_as_set_layer ks ds;
+  at = refl;
+  only = refl;
+  covered = h;
+  differ = tt;
+  wide = refl;
+  used = λ ts o. tt;
+  same = λ m ts. refl;
+  content = λ v. (_, refl);
 }
 one-child ReprKind.PartitionAsSet r (partitions ks d) n h = record {
-  child = child_parts ks d; the = partition_as_set_layer ks d; at = refl; only = refl; covered = h; differ = tt; wide = refl;
-  used = λ ts o. tt; same = λ m ts. refl; content = λ v. (_, refl);
+  child = child_parts ks d;
+  the = partition_as_set_layer ks d;
+  at = refl;
+  only = refl;
+  covered = h;
+  differ = tt;
+  wide = refl;
+  used = λ ts o. tt;
+  same = λ m ts. refl;
+  content = λ v. (_, refl);
 }
 one-child _ r d n h = absurd h

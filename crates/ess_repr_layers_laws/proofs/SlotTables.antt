@@ -18,7 +18,6 @@ use Rattle.ess_repr_rows_laws.proofs.UsedSlots.{UseOver}
 
 -- ---- the numbers in use
 
-
 -- A run of numbers is below its end.
 numbers-below : (k m n : ℕ) → k + m ≤ n → AllOf (numbers_from k m) (λ i. i < n)
 numbers-below k zero n h = tt

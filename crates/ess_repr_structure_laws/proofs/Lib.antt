@@ -13,6 +13,7 @@ pub mod ReadyAll
 -- From the judgements
 pub mod OrderlyAttributes
 pub mod OrderlyDenoted
+pub mod FreeTotals
 pub mod NamesApart
 pub mod OrderlyJudged
 pub mod JudgedViews

@@ -26,7 +26,7 @@ use Rattle.ess_repr_laws.proofs.StructureOf.{StructureOf}
 use Rattle.ess_repr_laws.proofs.StructureOfTables.{tables-exact}
 use Rattle.ess_repr_laws.proofs.TablesWithin.{tables-within}
 use Rattle.ess_repr_declare_laws.specs.SizeTerms.{size_terms}
-use Rattle.ess_repr_structure_laws.specs.Laws.{TablesMeetStructures}
+use Rattle.ess_repr_structure_laws.specs.Laws.{NamesApart, JudgedView, TablesMeetStructures}
 use Rattle.ess_repr_structure_laws.specs.TotalNumbers.{total_numbers, total_dom, total_doms}
 use Rattle.ess_repr_structure_laws.proofs.BuiltStructures as B
 use Rattle.ess_repr_structure_laws.proofs.JudgedViews.{judged-known}
@@ -34,6 +34,7 @@ use Rattle.ess_repr_structure_laws.proofs.MetAll.{met-all}
 use Rattle.ess_repr_structure_laws.proofs.MetKinds.{Met}
 use Rattle.ess_repr_structure_laws.proofs.MetLayers as M'
 use Rattle.ess_repr_structure_laws.proofs.MetParts.{Any, MetIn}
+use Rattle.ess_repr_structure_laws.proofs.NamesApart.{same-met}
 use Rattle.ess_repr_structure_laws.proofs.ReadyAll.{ready}
 use Rattle.ess_repr_structure_laws.proofs.ReadyParts.{Known}
 use Rattle.ess_repr_structure_laws.proofs.TotalViews.{known-total}
@@ -123,10 +124,16 @@ module _ (env0 : Env) (q : ℕ → Text) (q-apart : (m l : ℕ) → l < m → sa
       (ap (λ a. over_axes [] a ts) s.axes ∙ o) (λ cs g. refl) tt in x.met
 
 -- So structures are met.
+-- The domain's numbers are met there.
+met-there : (env0 : Env) (q : ℕ → Text) (apart : (m l : ℕ) → l < m → same_text (q m) (q l) ≡ false) (r : Repr) (d : Dom) (e : Domain) →
+    JudgedView env0 q r d e → MeetsDom d env0 → (bs : Bound env0 q apart) → MeetsDom d (M env0 q apart bs)
+met-there env0 q apart r d e v m bs = let a : NamesApart q d = v.apart in same-met env0 q apart a.names a.apart bs d a.free m
+
 pub structures-met : TablesMeetStructures
 structures-met = record {
-  own = λ env0 q apart r d e v m ns ts l bs w f o t. known-met env0 q apart r d e (judged-known env0 q apart r d e v) m ns ts l bs w f o t;
+  own = λ env0 q apart r d e v m ns ts l bs w f o t.
+      known-met env0 q apart r d e (judged-known env0 q apart r d e v) (met-there env0 q apart r d e v m) ns ts l bs w f o t;
   guarded = λ x y env0 q apart r d e v m ns ts l bs w f o t.
       known-met env0 q apart r (total_dom x y d) e (known-total env0 q apart d e x y r (judged-known env0 q apart r d e v) v)
-      (λ cs. total-dom-met x y (M env0 q apart cs) d (m cs)) ns ts l bs w f o t;
+      (λ cs. total-dom-met x y (M env0 q apart cs) d (met-there env0 q apart r d e v m cs)) ns ts l bs w f o t;
 }

@@ -8,6 +8,9 @@ use Rattle.ess_semantics.specs.FreeNames.{FreeNamesAre, FreeNamesAreExs, FreeNam
 use Rattle.ess_semantics.specs.Meaning.{Env, as_int, domain_of, meaning}
 use Rattle.ess_rules_laws.proofs.Agreement.{AgreeOn}
 use Rattle.ess_rules_laws.proofs.FreeNames.{meaning-free, domain-free}
+use Rattle.ess_semantics.specs.Meets.{MeetsDom}
+use Rattle.ess_semantics.specs.Totality.{TotalDom}
+use Rattle.ess_repr_structure_laws.proofs.FreeTotals.{total-dom-free, met-dom-free}
 use Rattle.ess_repr_laws.specs.StructureMeaning.{AllNumbers, Bound, M}
 use Rattle.ess_repr_structure_laws.specs.DomainNumbers.{NumbersIn, AllNumbersIn}
 
@@ -28,6 +31,13 @@ module _ (env0 : Env) (q : ℕ → Text) (q-apart : (m l : ℕ) → l < m → sa
   -- The domain is the same.
   pub same-domain : (d : Dom) → FreeNamesAreDom u d → domain_of d B ≡ domain_of d env0
   same-domain d f = domain-free env0.positions env0.types env0.cells d u B.vals env0.vals f (agree bs)
+
+  -- It is total, and its structures are met, where they were.
+  pub same-total : (d : Dom) → FreeNamesAreDom u d → TotalDom d env0 → TotalDom d B
+  same-total d f t = total-dom-free env0.positions env0.types env0.cells d u env0.vals B.vals f (λ a h. sym (agree bs a h)) t
+
+  pub same-met : (d : Dom) → FreeNamesAreDom u d → MeetsDom d env0 → MeetsDom d B
+  same-met d f t = met-dom-free env0.positions env0.types env0.cells d u env0.vals B.vals f (λ a h. sym (agree bs a h)) t
 
   same-numbers : (es : Exs) → FreeNamesAreExs u es → AllNumbers es env0 → AllNumbers es B
   same-numbers no_exs f n = tt

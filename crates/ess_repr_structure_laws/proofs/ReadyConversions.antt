@@ -199,7 +199,8 @@ module _ (env0 : Env) (q : ℕ → Text) (q-apart : (m l : ℕ) → l < m → sa
   pub pairs-ready : (r : Repr) (ms : List Mark) (es : Exs) (d c : Dom) (ks : List Attribute) (x y : Domain) →
       Known env0 q q-apart (repr ReprKind.FunctionAsRelation (more_reprs r no_reprs)) (function_dom ms es d c) (functions ks x y) →
       Ready env0 q q-apart size_terms r (pair_relation_dom size_terms ms es d c) (child_relation ks x y) →
-      Ready env0 q q-apart size_terms (repr ReprKind.FunctionAsRelation (more_reprs r no_reprs)) (function_dom ms es d c) (functions ks x y)
+      Ready env0 q q-apart size_terms (repr ReprKind.FunctionAsRelation (more_reprs r no_reprs)) (function_dom ms es d c)
+      (functions ks x y)
   pairs-ready r ms es d c ks x y i child =
       let b : Known env0 q q-apart r (pair_relation_dom size_terms ms es d c) (child_relation ks x y) = pairs-known r ms es d c ks x y i in (
         (bool-is d (E []) x (dm []), bool-is c (E []) y (cm [])),

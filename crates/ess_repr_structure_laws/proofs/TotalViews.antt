@@ -5,12 +5,13 @@ use Rattle.ess_semantics.specs.Order.{same_text}
 use Rattle.ess_semantics.specs.Trees.{Repr, no_exs, Dom}
 use Rattle.ess_semantics.specs.Domains.{Domain}
 use Rattle.ess_semantics.specs.Meaning.{Env, domain_of}
+use Rattle.ess_semantics.specs.Totality.{TotalDom}
 use Rattle.ess_repr_laws.specs.StructureMeaning.{Bound, M}
 use Rattle.ess_repr_structure_laws.specs.Laws.{NamesApart, JudgedView, DenotedView, StructuresAreTotal}
 use Rattle.ess_repr_structure_laws.specs.TotalNumbers.{total_dom}
 use Rattle.ess_repr_structure_laws.proofs.DenotedParts.{Denotes}
 use Rattle.ess_repr_structure_laws.proofs.JudgedViews.{judged-known, known-structures}
-use Rattle.ess_repr_structure_laws.proofs.NamesApart.{same-domain}
+use Rattle.ess_repr_structure_laws.proofs.NamesApart.{same-domain, same-total}
 use Rattle.ess_repr_structure_laws.proofs.OrderlyDenoted.{orderly-sound}
 use Rattle.ess_repr_structure_laws.proofs.ReadyParts.{Known}
 use Rattle.ess_repr_structure_laws.proofs.TotalForms.{fits-kept, orderly-kept}
@@ -24,6 +25,10 @@ module _ (env0 : Env) (q : ℕ → Text) (q-apart : (m l : ℕ) → l < m → sa
   -- The domain denotes the same whatever reserved names are bound.
   denoted : DenotedView env0 q d e → (bs : Bound env0 q q-apart) → domain_of d (N bs) ≡ Some e
   denoted v bs = let a : NamesApart q d = v.apart in same-domain env0 q q-apart a.names a.apart bs d a.free ∙ v.denotes
+
+  -- Its numbers are total.
+  total-there : DenotedView env0 q d e → TotalDom d env0 → (bs : Bound env0 q q-apart) → TotalDom d (N bs)
+  total-there v t bs = let a : NamesApart q d = v.apart in same-total env0 q q-apart a.names a.apart bs d a.free t
 
   -- With its numbers under their conditions.
   denoted-total : (x y : Text) → DenotedView env0 q d e → (bs : Bound env0 q q-apart) → Denotes (total_dom x y d) (N bs)
@@ -47,7 +52,7 @@ pub structures-total : StructuresAreTotal
 structures-total = record {
   total = λ env0 q apart r d e v t ns l bs.
       structure-total env0 q apart r d ns l no_exs (λ cs.
-      (record { domain = e; means = denoted env0 q apart d e v cs; plain = v.plain }, t cs)) tt bs;
+      (record { domain = e; means = denoted env0 q apart d e v cs; plain = v.plain }, total-there env0 q apart d e v t cs)) tt bs;
   guarded = λ x y env0 q apart r d e v c ns l bs.
       structure-total env0 q apart r (total_dom x y d) ns l no_exs
       (λ cs. (denoted-total env0 q apart d e x y v cs, covered-total x y d (M env0 q apart cs) c)) tt bs;

@@ -79,12 +79,11 @@ JudgedStructuresMeanCanonical =
     FoundBy env0 q apart ns ts → over_axes [] (axes_of r e) ts ≡ true → TablesFit (declarations r e) ts →
     meaning (structure q size_terms r d ns l no_exs) (M env0 q apart bs) ≡ Some (truth (canonical r e (cells_of ts)))
 
--- The structure of a view is total, whatever reserved names are bound: where the numbers of the domain are; and with each bound and
--- attribute value under its conditions, where these are covered. With them there it means that the cells are canonical, as without.
+-- The structure of a view is total, whatever reserved names are bound: where the domain is, at the names that aren't reserved; and with
+-- each bound and attribute value under its conditions, where these are covered. With them there it means that the cells are canonical, as without.
 pub record StructuresAreTotal : Type 0 where
   pub total : (env0 : Env) (q : ℕ → Text) (apart : (m l : ℕ) → l < m → same_text (q m) (q l) ≡ false) (r : Repr) (d : Dom) (e : Domain) →
-      DenotedView env0 q d e → ((bs : Bound env0 q apart) → TotalDom d (M env0 q apart bs)) → (ns : List Text) (l : ℕ)
-      (bs : Bound env0 q apart) →
+      DenotedView env0 q d e → TotalDom d env0 → (ns : List Text) (l : ℕ) (bs : Bound env0 q apart) →
       Total (structure q size_terms r d ns l no_exs) (M env0 q apart bs)
   pub guarded : (x y : Text) (env0 : Env) (q : ℕ → Text) (apart : (m l : ℕ) → l < m → same_text (q m) (q l) ≡ false) (r : Repr) (d : Dom)
       (e : Domain) → DenotedView env0 q d e → CoveredDom d → (ns : List Text) (l : ℕ) (bs : Bound env0 q apart) →
@@ -104,18 +103,16 @@ pub record StructuresSpellConstants : Type 0 where
       ≡ true
 
 -- Tables that are found by their names, on the declared axes with items in the declared domains, meet the structures of the structure
--- itself: each of its views is tidy wherever its context holds, where they meet those of the domain's numbers. So they do with the
--- numbers under their conditions.
+-- itself: each of its views is tidy wherever its context holds, where they meet those of the domain, at the names that aren't reserved.
+-- So they do with the numbers under their conditions.
 pub record TablesMeetStructures : Type 0 where
   pub own : (env0 : Env) (q : ℕ → Text) (apart : (m l : ℕ) → l < m → same_text (q m) (q l) ≡ false) (r : Repr) (d : Dom) (e : Domain) →
-      JudgedView env0 q r d e → ((bs : Bound env0 q apart) → MeetsDom d (M env0 q apart bs)) →
-      (ns : List Text) (ts : Tables) (l : ℕ) (bs : Bound env0 q apart) → length ns ≡ width r →
-      FoundBy env0 q apart ns ts → over_axes [] (axes_of r e) ts ≡ true → TablesFit (declarations r e) ts →
+      JudgedView env0 q r d e → MeetsDom d env0 → (ns : List Text) (ts : Tables) (l : ℕ) (bs : Bound env0 q apart) →
+      length ns ≡ width r → FoundBy env0 q apart ns ts → over_axes [] (axes_of r e) ts ≡ true → TablesFit (declarations r e) ts →
       Meets (structure q size_terms r d ns l no_exs) (M env0 q apart bs)
   pub guarded : (x y : Text) (env0 : Env) (q : ℕ → Text) (apart : (m l : ℕ) → l < m → same_text (q m) (q l) ≡ false) (r : Repr) (d : Dom)
-      (e : Domain) → JudgedView env0 q r d e → ((bs : Bound env0 q apart) → MeetsDom d (M env0 q apart bs)) →
-      (ns : List Text) (ts : Tables) (l : ℕ) (bs : Bound env0 q apart) → length ns ≡ width r →
-      FoundBy env0 q apart ns ts → over_axes [] (axes_of r e) ts ≡ true → TablesFit (declarations r e) ts →
+      (e : Domain) → JudgedView env0 q r d e → MeetsDom d env0 → (ns : List Text) (ts : Tables) (l : ℕ) (bs : Bound env0 q apart) →
+      length ns ≡ width r → FoundBy env0 q apart ns ts → over_axes [] (axes_of r e) ts ≡ true → TablesFit (declarations r e) ts →
       Meets (structure q size_terms r (total_dom x y d) ns l no_exs) (M env0 q apart bs)
 
 -- The bounds and attribute values of a domain that is judged to be well typed, resolved, are whole numbers, under an env that gives names

@@ -1,5 +1,5 @@
 -- The types behind the steps of an index with lettings put in, one step at a time.
-use Rattle.std.proofs.Common.{◌≡◌, refl, sym, ap, ◌∙◌, Bool, true, false, List, [], ◌∷◌, ◌++◌, map, Option, Some, None}
+use Rattle.std.proofs.Common.{◌≡◌, refl, sym, ap, ◌∙◌, Bool, true, List, [], ◌∷◌, ◌++◌, map, Option, Some, None}
 use Rattle.std.proofs.lemmas.List.{map_push, append_assoc, append-nil}
 use Rattle.ess_semantics.specs.Lists.{is_some_and}
 use Rattle.ess_semantics.specs.Names.{Names}
@@ -7,14 +7,13 @@ use Rattle.ess_semantics.specs.Values.{a_tuple, a_matrix, a_set, a_mset, a_funct
 use Rattle.ess_semantics.specs.Types as pure
 use Rattle.ess_semantics.specs.Types.{any_ty, bool_ty, int_ty, named_ty, compound}
 use Rattle.ess_semantics.specs.Trees as tree
-use Rattle.ess_semantics.specs.Trees.{by_value, index, node_ex, no_exs, more_exs}
+use Rattle.ess_semantics.specs.Trees.{index, node_ex, more_exs}
 use Rattle.ess_semantics.specs.Typing.{Static, a_number, a_name, other, static, statics, type_behind, type_of_node, type_of, types_of}
-use Rattle.ess_semantics.specs.Lettings.{Lettings, is_record_or_tuple, kept_or, put_ex}
+use Rattle.ess_semantics.specs.Lettings.{is_record_or_tuple}
 use Rattle.ess_core.specs.declared.expressions.Step.{Step}
 use Rattle.ess_core.specs.TreeViews.{With, words_of, within, exs_of, pure_step}
 use Rattle.ess_types_names.specs.Tables.{Types, pure_table}
 use Rattle.ess_types_lettings.specs.Paths.{path_behind}
-use Rattle.ess_types_lettings.specs.Putting.{put_values, exs_before}
 
 -- ---- one step by a value
 
@@ -38,32 +37,6 @@ behind_kept (Some (compound a_mset ts)) s u h = cc
 behind_kept (Some (compound a_function ts)) s u h = cc
 behind_kept (Some (compound a_relation ts)) s u h = cc
 behind_kept (Some (compound a_partition ts)) s u h = cc
-
--- What a step by a value has for an operand, whatever follows: v stands there. Where nothing follows (b is false) the type that it
--- reaches doesn't matter.
-pub value_put : (b : Bool) (t u : Option pure.Ty) (e v : tree.Ex) (q : With tree.Step) (l : Lettings) (g : Names pure.Ty)
-    → v ≡ kept_or t e (put_ex e l g) → (b ≡ true → u ≡ type_behind t (static v) (type_of v g)) → q ≡ (by_value, v ∷ [])
-    → (ws : List (With tree.Step)) → (b ≡ false → ws ≡ [])
-    → put_values t ((by_value, e ∷ []) ∷ ws) l g ≡ exs_before q.1 (put_values u ws l g)
-value_put true t u e v q l g hv hu hq ws hw =
-    ap (λ x. more_exs x (put_values (type_behind t (static x) (type_of x g)) ws l g)) (sym hv)
-    ∙ ap (λ x. more_exs v (put_values x ws l g)) (sym (hu refl))
-    ∙ ap (λ x. exs_before x.1 (put_values u ws l g)) (sym hq)
-value_put false t u e v q l g hv hu hq ws hw =
-    ap (λ x. put_values t ((by_value, e ∷ []) ∷ x) l g) (hw refl)
-    ∙ ap (λ x. more_exs x no_exs) (sym hv)
-    ∙ ap (λ x. more_exs v (put_values u x l g)) (sym (hw refl))
-    ∙ ap (λ x. exs_before x.1 (put_values u ws l g)) (sym hq)
-
--- A step by a value leads to the type behind it.
-pub value_leads : (t u : Option pure.Ty) (v : tree.Ex) (q : With tree.Step) (g : Names pure.Ty)
-    → u ≡ type_behind t (static v) (type_of v g) → q ≡ (by_value, v ∷ [])
-    → (ws : List (With tree.Step)) → path_behind t (q ∷ ws) g ≡ path_behind u ws g
-value_leads t u v q g h hq ws = ap (λ x. path_behind t (x ∷ ws) g) hq ∙ go t ∙ ap (λ x. path_behind x ws g) (sym h)
-  where
-    go : (t : Option pure.Ty) → path_behind t ((by_value, v ∷ []) ∷ ws) g ≡ path_behind (type_behind t (static v) (type_of v g)) ws g
-    go None = refl
-    go (Some t) = refl
 
 -- ---- several steps
 

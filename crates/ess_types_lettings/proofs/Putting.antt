@@ -1,24 +1,35 @@
 -- Lettings put into several parts.
-use Rattle.std.proofs.Common.{◌≡◌, refl, sym, ap, ◌∙◌, false, List, [], ◌∷◌, ◌++◌, map, Option, Some, None, option_map}
+use Rattle.std.proofs.Common.{◌≡◌, refl, sym, ap, ◌∙◌, ℕ, ◌+◌, ◌<◌, List, [], ◌∷◌, ◌++◌, length, map, take, get_or, Option, Some, None, option_map}
+use Rattle.std.proofs.lemmas.List.{map_push, map_more}
 use Rattle.ess_semantics.specs.Values.{Text}
 use Rattle.ess_semantics.specs.Names.{Names, keys}
 use Rattle.ess_semantics.specs.declared.words.Key.{Key}
 use Rattle.ess_semantics.specs.Kinds.{doms_of}
 use Rattle.ess_semantics.specs.Types.{Ty}
 use Rattle.ess_semantics.specs.Trees as tree
-use Rattle.ess_semantics.specs.Trees.{matrix_literal, node_ex, matrix_ex, more_exs, more_doms, no_exs}
+use Rattle.ess_semantics.specs.Trees.{more_exs, more_doms}
 use Rattle.ess_semantics.specs.Lettings.{Lettings, put_ex, put_exs, put_dom, put_doms}
 use Rattle.ess_core.specs.declared.expressions.Ex.{Ex}
-use Rattle.ess_core.specs.declared.expressions.Ex.TheVariants as variant
 use Rattle.ess_core.specs.declared.expressions.PairEx.{PairEx}
 use Rattle.ess_core.specs.declared.expressions.FieldEx.{FieldEx}
 use Rattle.ess_core.specs.declared.domains.Dom.{Dom}
 use Rattle.ess_core.specs.declared.domains.FieldDom.{FieldDom}
-use Rattle.ess_core.specs.TreeViews.{With, words_of, within, exs_of, field_values, matrix_literal_of, span, attribute, pure_ex, pure_exs, pure_pair_ex, pure_field_ex, pure_dom, pure_doms, pure_field_dom}
-use Rattle.ess_core.proofs.ExpressionEquations.{pure_plain_matrix, pure_matrix_on}
+use Rattle.ess_core.specs.TreeViews.{With, words_of, within, exs_of, field_values, span, attribute, pure_ex, pure_exs, pure_pair_ex, pure_field_ex, pure_dom, pure_doms, pure_field_dom}
 use Rattle.ess_core.proofs.PartEquations.{pure_range_one, pure_range_span}
-use Rattle.ess_types_names.specs.Tables.{Types, pure_table}
 use Rattle.ess_types_lettings.specs.Putting.{put_field, put_field_dom, put_with}
+
+-- ---- one by one
+
+-- One part more: with y the parts ys stand for what is made of one item more.
+pub part_more : {A C : Type 0} (v w : A → C) (xs ys zs : List A) (i : ℕ) (x y : A) → i < length xs → x ≡ get_or xs i x
+    → zs ≡ ys ++ y ∷ []
+    → v y ≡ w x → map v ys ≡ map w (take i xs) → map v zs ≡ map w (take (i + 1) xs)
+part_more v w xs ys zs i x y lt is p e h =
+    ap (map v) p
+    ∙ map_push v ys y
+    ∙ ap (λ s. s ++ v y ∷ []) h
+    ∙ ap (λ z. map w (take i xs) ++ z ∷ []) (e ∙ ap w is)
+    ∙ sym (map_more w xs i x lt)
 
 -- ---- operands
 
@@ -93,32 +104,6 @@ pub field_doms_put : (fs rs : List FieldDom) (l : Lettings) (g : Names Ty)
     → map pure_field_dom rs ≡ map (λ f. put_field_dom (pure_field_dom f) l g) fs
     → doms_of (field_values (map pure_field_dom rs)) ≡ put_doms (doms_of (field_values (map pure_field_dom fs))) l g
 field_doms_put fs rs l g h = ap (λ ns. doms_of (field_values ns)) h ∙ field-doms fs l g
-
--- ---- matrix literals
-
--- A matrix literal, with its index domain where it is written.
-matrix-is : (es : List Ex) (o : Option Dom) → pure_ex (variant.Matrix es o) ≡ matrix_literal_of (map pure_ex es) (option_map pure_dom o)
-matrix-is es None = pure_plain_matrix es
-matrix-is es (Some d) = pure_matrix_on es d
-
-literal-put : (es fs : List tree.Ex) (o q : Option tree.Dom) (l : Lettings) (g : Names Ty) → exs_of fs ≡ put_exs (exs_of es) l g
-    → q ≡ option_map (λ d. put_dom d l g) o
-    → matrix_literal_of fs q ≡ put_ex (matrix_literal_of es o) l g
-literal-put es fs None q l g p r = ap (matrix_literal_of fs) r ∙ ap (λ zs. node_ex false matrix_literal zs) p
-literal-put es fs (Some d) q l g p r = ap (matrix_literal_of fs) r ∙ ap (λ zs. matrix_ex zs (put_dom d l g)) p
-
--- A matrix literal has lettings put into its items and into its index domain.
-pub matrix_put : (x y : Ex) (es ss rs : List Ex) (o q : Option Dom) (l : Lettings) (t u : Types) → x ≡ variant.Matrix es o → ss ≡ es
-    → y ≡ variant.Matrix rs q → u ≡ t
-    → pure_exs rs ≡ put_exs (pure_exs ss) l (pure_table t)
-    → option_map pure_dom q ≡ option_map (λ d. put_dom d l (pure_table u)) (option_map pure_dom o)
-    → pure_ex y ≡ put_ex (pure_ex x) l (pure_table t)
-matrix_put x y es ss rs o q l t u hx hs hy hu p r =
-    ap pure_ex hy ∙ matrix-is rs q
-    ∙ literal-put (map pure_ex es) (map pure_ex rs) (option_map pure_dom o) (option_map pure_dom q) l (pure_table t)
-    (p ∙ ap (λ zs. put_exs (pure_exs zs) l (pure_table t)) hs)
-    (r ∙ ap (λ v. option_map (λ d. put_dom d l (pure_table v)) (option_map pure_dom o)) hu)
-    ∙ ap (λ e. put_ex e l (pure_table t)) (sym (ap pure_ex hx ∙ matrix-is es o))
 
 -- ---- words with expressions
 

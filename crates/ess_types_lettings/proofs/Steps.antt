@@ -13,11 +13,12 @@ use Rattle.ess_core.specs.declared.expressions.Gen.{Gen}
 use Rattle.ess_core.specs.declared.expressions.Step.{Step}
 use Rattle.ess_core.specs.declared.types.Ty.{Ty}
 use Rattle.ess_core.specs.TypeViews.{pure_ty}
-use Rattle.ess_core.specs.TreeViews.{With, words_of, within, Item, over_item, from_item, cond_item, exs_of, gens_of, pure_ex, pure_gen, pure_step}
+use Rattle.ess_core.specs.TreeViews.{With, words_of, within, Item, over_item, from_item, cond_item, exs_of, gens_of, pure_ex, pure_gen, pure_gens, pure_step}
 use Rattle.ess_core.proofs.ExpressionEquations.{pure_comp}
 use Rattle.ess_core.proofs.PartEquations.{pure_gen_over, pure_gen_from, pure_gen_if, pure_step_value, pure_step_component, pure_step_field}
 use Rattle.ess_types_names.specs.Tables.{Types, pure_table}
 use Rattle.ess_types_names.proofs.Tables.{extends_itself, extends_on}
+use Rattle.ess_types_nodes.proofs.Fitting.{under_more}
 use Rattle.ess_types_lettings.specs.Putting.{put_item, item_behind, put_items, names_behind, put_values, exs_before}
 
 -- ---- generators
@@ -30,14 +31,12 @@ put_gens-items (over_item p d ∷ xs) l g k = put_gens-items xs l (item_behind (
 put_gens-items (from_item p e ∷ xs) l g k = put_gens-items xs l (item_behind (from_item p e) l g) (λ hs h. k (from p (put_ex e l g) hs) h)
 put_gens-items (cond_item e ∷ xs) l g k = put_gens-items xs l g (λ hs h. k (cond (put_ex e l g) hs) h)
 
--- A comprehension has lettings put into its generators, and into its body under them.
-pub comp_put : (x y e b f : Ex) (gs ss hs : List Gen) (l : Lettings) (g n : Names pure.Ty) → x ≡ variant.Comp e gs → ss ≡ gs → b ≡ e
-    → y ≡ variant.Comp f hs
+-- A comprehension of e under gs has lettings put into its generators, hs, and into its body under them, f.
+pub comp_put : (x e b f : Ex) (gs ss hs : List Gen) (l : Lettings) (g n : Names pure.Ty) → x ≡ variant.Comp e gs → ss ≡ gs → b ≡ e
     → map pure_gen hs ≡ put_items (map pure_gen ss) l g → n ≡ names_behind (map pure_gen ss) l g → pure_ex f ≡ put_ex (pure_ex b) l n
-    → pure_ex y ≡ put_ex (pure_ex x) l g
-comp_put x y e b f gs ss hs l g n hx hs-is hb hy p q r =
-    ap pure_ex hy ∙ pure_comp f hs
-    ∙ ap (λ zs. comp_ex (pure_ex f) (gens_of zs)) (p ∙ ap (λ zs. put_items (map pure_gen zs) l g) hs-is)
+    → comp_ex (pure_ex f) (pure_gens hs) ≡ put_ex (pure_ex x) l g
+comp_put x e b f gs ss hs l g n hx hs-is hb p q r =
+    ap (λ zs. comp_ex (pure_ex f) (gens_of zs)) (p ∙ ap (λ zs. put_items (map pure_gen zs) l g) hs-is)
     ∙ ap (λ z. comp_ex z (gens_of (put_items (map pure_gen gs) l g)))
     (r ∙ ap (λ z. put_ex (pure_ex z) l n) hb ∙ ap (put_ex (pure_ex e) l) (q ∙ ap (λ zs. names_behind (map pure_gen zs) l g) hs-is))
     ∙ sym (put_gens-items (map pure_gen gs) l g (λ hs n. comp_ex (put_ex (pure_ex e) l n) hs))
@@ -79,7 +78,7 @@ names_all xs i l g h = at_drop_all (λ s. names_behind (map pure_gen s) l g) xs 
 pub ruleset kinds_of_gens = (pure_gen_over, pure_gen_from, pure_gen_if)
 
 -- Generators, one at a time.
-pub ruleset gens_put = (items_more, names_more, items_all, names_all, extends_itself, extends_on)
+pub ruleset gens_put = (items_more, names_more, items_all, names_all, under_more, extends_itself, extends_on)
 
 -- ---- indices
 

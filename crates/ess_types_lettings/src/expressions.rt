@@ -1,26 +1,30 @@
 //! Lettings put into expressions.
-ghost use Rattle.std.specs.Prelude.{◌≡◌, map, option_map, IfOk, OnOk};
+ghost use Rattle.std.specs.Prelude.{◌≡◌, true, option_map, IfOk, OnOk};
 ghost use Rattle.ess_semantics.specs.Names.{look};
-ghost use Rattle.ess_semantics.specs.Trees.{index, node_ex, more_exs, seen_ex};
-ghost use Rattle.ess_semantics.specs.Lettings.{put_ex, put_dom, put_name};
-ghost use Rattle.ess_core.specs.TreeViews.{words_of, within, exs_of, pure_ex, pure_exs, pure_step, pure_dom, pure_repr, pure_view};
+ghost use Rattle.ess_semantics.specs.Trees.{seen_ex};
+ghost use Rattle.ess_semantics.specs.Typing.{type_of};
+ghost use Rattle.ess_semantics.specs.Lettings.{put_ex, put_name};
+ghost use Rattle.ess_core.specs.TypeViews.{pure_ty};
+ghost use Rattle.ess_core.specs.TreeViews.{pure_ex, pure_exs, pure_dom, pure_repr, pure_view};
 ghost use Rattle.ess_types_names.specs.Tables.{pure_table};
 ghost use Rattle.ess_types_scopes.specs.Kept.{pure_lettings};
 
 use crate::domains::put_dom;
 use crate::generators::put_gens;
-use crate::indices::{PutSteps, put_steps};
+use crate::indices::{put_steps, typed_index};
 use crate::rows::{copied_texts, put_exs, put_fields, put_pairs};
-use crate::typed::put_typed;
-use ess_core::{Boxed, Dom, Ex, NoMemory, Row, Text, View};
+use ess_core::{Boxed, Dom, Ex, NoMemory, Row, Text, Ty, View};
 use ess_types_names::TypeTable;
+use ess_types_nodes::{
+    apply_node, call_node, comp_node, function_node, leaf_node, list_node, matrix_node, mset_node,
+    one_node, partition_node, record_node, relation_node, set_node, tuple_node, two_node,
+};
 use ess_types_scopes::Lettings;
 use std::alloc::Global;
 
 /// The expression with lettings put in, under the types of names. A field of a record stays as it is, and an index of a tuple
 /// too. The table is as it was. `NoMemory` where there is no room for it; the table may then hold further bound names.
 #[cycle(put)]
-#[tactic(auto, using(crate::proofs::Steps::index_put, ess_types_names::proofs::Tables::unbound_back))]
 pub fn put_ex(
     alloc: Global,
     ex: &Ex,
@@ -30,98 +34,113 @@ pub fn put_ex(
     ensures ok { IfOk result (λ e. pure_ex e ≡ put_ex (pure_ex ex.now) (pure_lettings lettings.now) (pure_table table.old)) }
     ensures kept { OnOk result (table.new ≡ table.old) }
 {
+    let (put, ty) = put_typed(alloc, ex, false, lettings, table)?;
+    drop(ty);
+    Ok(put)
+}
+
+/// The expression with lettings put in, and its type then, under the types of names. The type is found where it is asked, from
+/// those of its parts: so the type of each part is found once. The table is as it was.
+#[cycle(put)]
+#[tactic(auto, using(crate::proofs::Steps::index_put, crate::proofs::Paths::index_typed, ess_types_names::proofs::Tables::unbound_back))]
+pub(crate) fn put_typed(
+    alloc: Global,
+    ex: &Ex,
+    asked: bool,
+    lettings: &Lettings,
+    table: &mut TypeTable,
+) -> Result<(Boxed<Ex>, Option<Boxed<Ty>>), NoMemory>
+    ensures ok { IfOk result (λ r. pure_ex r.0 ≡ put_ex (pure_ex ex.now) (pure_lettings lettings.now) (pure_table table.old)) }
+    ensures typed { IfOk result (λ r. asked ≡ true → option_map pure_ty r.1 ≡ type_of (pure_ex r.0) (pure_table table.old)) }
+    ensures kept { OnOk result (table.new ≡ table.old) }
+{
     match ex {
-        Ex::Num(number) => Boxed::new(alloc, Ex::Num(*number)),
-        Ex::Truth(truth) => Boxed::new(alloc, Ex::Truth(*truth)),
-        Ex::Name(name) => put_name(alloc, name, lettings),
+        Ex::Num(number) => leaf_node(alloc, Boxed::new(alloc, Ex::Num(*number))?, asked, table),
+        Ex::Truth(truth) => leaf_node(alloc, Boxed::new(alloc, Ex::Truth(*truth))?, asked, table),
+        Ex::Name(name) => leaf_node(alloc, put_name(alloc, name, lettings)?, asked, table),
         Ex::One(op, operand) => {
-            let operand = put_ex(alloc, operand.get(), lettings, table)?;
-            Boxed::new(alloc, Ex::One(*op, operand))
+            let operand = put_typed(alloc, operand.get(), asked, lettings, table)?;
+            one_node(alloc, *op, operand)
         }
         Ex::Two(op, a, b) => {
-            let a = put_ex(alloc, a.get(), lettings, table)?;
-            let b = put_ex(alloc, b.get(), lettings, table)?;
-            Boxed::new(alloc, Ex::Two(*op, a, b))
+            let first = put_typed(alloc, a.get(), asked, lettings, table)?;
+            let second = put_typed(alloc, b.get(), asked, lettings, table)?;
+            two_node(alloc, *op, first, second)
         }
         Ex::Call(is_bool, fun, operands) => {
-            let operands = put_exs(alloc, operands.as_slice(), lettings, table)?;
-            Boxed::new(alloc, Ex::Call(*is_bool, *fun, operands))
+            let operands = put_exs(alloc, operands.as_slice(), asked, lettings, table)?;
+            call_node(alloc, *is_bool, *fun, operands)
         }
         Ex::At(is_bool, place, steps) => {
-            let (place, reached) = put_typed(alloc, place.get(), lettings, table)?;
-            let steps = put_steps(alloc, steps.as_slice(), reached, false, lettings, table)?;
-            index_of(alloc, *is_bool, place, steps)
+            let (place, reached) = put_typed(alloc, place.get(), true, lettings, table)?;
+            let puts = put_steps(alloc, steps.as_slice(), reached, asked, lettings, table)?;
+            typed_index(alloc, *is_bool, place, puts)
         }
         Ex::Apply(is_bool, applied, arguments) => {
-            let applied = put_ex(alloc, applied.get(), lettings, table)?;
-            let arguments = put_exs(alloc, arguments.as_slice(), lettings, table)?;
-            Boxed::new(alloc, Ex::Apply(*is_bool, applied, arguments))
+            let applied = put_typed(alloc, applied.get(), asked, lettings, table)?;
+            let arguments = put_exs(alloc, arguments.as_slice(), asked, lettings, table)?;
+            apply_node(alloc, *is_bool, applied, arguments)
         }
         Ex::Tuple(items) => {
-            let items = put_exs(alloc, items.as_slice(), lettings, table)?;
-            Boxed::new(alloc, Ex::Tuple(items))
+            let items = put_exs(alloc, items.as_slice(), asked, lettings, table)?;
+            tuple_node(alloc, items)
         }
         Ex::Rec(fields) => {
-            let fields = put_fields(alloc, fields.as_slice(), lettings, table)?;
-            Boxed::new(alloc, Ex::Rec(fields))
+            let fields = put_fields(alloc, fields.as_slice(), asked, lettings, table)?;
+            record_node(alloc, fields)
         }
         Ex::Set(members) => {
-            let members = put_exs(alloc, members.as_slice(), lettings, table)?;
-            Boxed::new(alloc, Ex::Set(members))
+            let members = put_exs(alloc, members.as_slice(), asked, lettings, table)?;
+            set_node(alloc, members)
         }
         Ex::MSet(members) => {
-            let members = put_exs(alloc, members.as_slice(), lettings, table)?;
-            Boxed::new(alloc, Ex::MSet(members))
+            let members = put_exs(alloc, members.as_slice(), asked, lettings, table)?;
+            mset_node(alloc, members)
         }
         Ex::Function(pairs) => {
-            let pairs = put_pairs(alloc, pairs.as_slice(), lettings, table)?;
-            Boxed::new(alloc, Ex::Function(pairs))
+            let pairs = put_pairs(alloc, pairs.as_slice(), asked, lettings, table)?;
+            function_node(alloc, pairs)
         }
         Ex::Relation(tuples) => {
-            let tuples = put_exs(alloc, tuples.as_slice(), lettings, table)?;
-            Boxed::new(alloc, Ex::Relation(tuples))
+            let tuples = put_exs(alloc, tuples.as_slice(), asked, lettings, table)?;
+            relation_node(alloc, tuples)
         }
         Ex::Partition(parts) => {
-            let parts = put_exs(alloc, parts.as_slice(), lettings, table)?;
-            Boxed::new(alloc, Ex::Partition(parts))
+            let parts = put_exs(alloc, parts.as_slice(), asked, lettings, table)?;
+            partition_node(alloc, parts)
         }
-        Ex::Matrix(items, axis) => {
-            let items = put_exs(alloc, items.as_slice(), lettings, table)?;
-            let axis = put_axis(alloc, axis, lettings, table)?;
-            Boxed::new(alloc, Ex::Matrix(items, axis))
+        Ex::Matrix(items, None) => {
+            let items = put_exs(alloc, items.as_slice(), asked, lettings, table)?;
+            list_node(alloc, items)
+        }
+        Ex::Matrix(items, Some(axis)) => {
+            let items = put_exs(alloc, items.as_slice(), asked, lettings, table)?;
+            let axis = put_dom(alloc, axis.get(), lettings, table)?;
+            matrix_node(alloc, items, axis)
         }
         Ex::Comp(body, gens) => {
             let mark = table.bound_len();
-            let gens = put_gens(alloc, gens.as_slice(), lettings, table)?;
-            let body = put_ex(alloc, body.get(), lettings, table)?;
+            let gens = put_gens(alloc, gens.as_slice(), asked, lettings, table)?;
+            let body = put_typed(alloc, body.get(), asked, lettings, table)?;
             table.unbind(mark);
-            Boxed::new(alloc, Ex::Comp(body, gens))
+            comp_node(alloc, body, gens)
         }
         Ex::Cell(is_bool, name, at) => {
-            let at = put_exs(alloc, at.as_slice(), lettings, table)?;
+            let (at, tys) = put_exs(alloc, at.as_slice(), false, lettings, table)?;
+            drop(tys);
             let name = name.copy(alloc)?;
-            Boxed::new(alloc, Ex::Cell(*is_bool, name, at))
+            leaf_node(
+                alloc,
+                Boxed::new(alloc, Ex::Cell(*is_bool, name, at))?,
+                asked,
+                table,
+            )
         }
         Ex::Seen(view) => {
             let view = put_view(alloc, view.get(), lettings, table)?;
-            Boxed::new(alloc, Ex::Seen(view))
+            leaf_node(alloc, Boxed::new(alloc, Ex::Seen(view))?, asked, table)
         }
     }
-}
-
-/// The index of a place by steps.
-fn index_of(
-    alloc: Global,
-    is_bool: bool,
-    place: Boxed<Ex>,
-    puts: PutSteps,
-) -> Result<Boxed<Ex>, NoMemory>
-    ensures { IfOk result (λ e. pure_ex e
-        ≡ node_ex is_bool (index (words_of (map pure_step puts.steps))) (more_exs (pure_ex place) (exs_of (within (map pure_step puts.steps))))) }
-{
-    let PutSteps { steps, behind } = puts;
-    drop(behind);
-    Boxed::new(alloc, Ex::At(is_bool, place, steps))
 }
 
 /// A name, or the expression that it stands for.
@@ -131,24 +150,6 @@ fn put_name(alloc: Global, name: &Text, lettings: &Lettings) -> Result<Boxed<Ex>
     match lettings.ex(name) {
         Some(ex) => Boxed::new(alloc, ex.copy(alloc)?),
         None => Boxed::new(alloc, Ex::Name(name.copy(alloc)?)),
-    }
-}
-
-/// The index domain of a matrix literal with lettings put in, where there is one.
-#[cycle(put)]
-fn put_axis(
-    alloc: Global,
-    axis: &Option<Boxed<Dom>>,
-    lettings: &Lettings,
-    table: &mut TypeTable,
-) -> Result<Option<Boxed<Dom>>, NoMemory>
-    ensures ok { IfOk result (λ o. option_map pure_dom o
-        ≡ option_map (λ d. put_dom d (pure_lettings lettings.now) (pure_table table.old)) (option_map pure_dom axis.now)) }
-    ensures kept { OnOk result (table.new ≡ table.old) }
-{
-    match axis {
-        Some(axis) => Ok(Some(put_dom(alloc, axis.get(), lettings, table)?)),
-        None => Ok(None),
     }
 }
 
@@ -165,7 +166,8 @@ fn put_view(
     ensures kept { OnOk result (table.new ≡ table.old) }
 {
     let dom = put_dom(alloc, &view.dom, lettings, table)?;
-    let at = put_exs(alloc, view.at.as_slice(), lettings, table)?;
+    let (at, tys) = put_exs(alloc, view.at.as_slice(), false, lettings, table)?;
+    drop(tys);
     view_of(alloc, view, dom, at)
 }
 

@@ -1,6 +1,6 @@
 //! Lettings put into the steps of an index.
 ghost use Rattle.std.specs.Prelude.{◌≡◌, ◌≤◌, ◌<◌, ◌+◌, ◌∷◌, [], true, false, length, List, None, map, option_map, IfOk, OnOk};
-ghost use Rattle.ess_semantics.specs.Trees.{by_value, Step as PureStep};
+ghost use Rattle.ess_semantics.specs.Trees.{by_value, index, node_ex, more_exs, Step as PureStep};
 ghost use Rattle.ess_semantics.specs.Typing.{a_number, a_name, static, type_behind, type_of};
 ghost use Rattle.ess_semantics.specs.Lettings.{kept_or, put_ex};
 ghost use Rattle.ess_core.specs.TypeViews.{pure_ty};
@@ -10,9 +10,8 @@ ghost use Rattle.ess_types_scopes.specs.Kept.{pure_lettings};
 ghost use Rattle.ess_types_lettings.specs.Paths.{path_behind};
 ghost use Rattle.ess_types_lettings.specs.Putting.{put_values, exs_before};
 
-use crate::expressions::put_ex;
+use crate::expressions::put_typed;
 use crate::kept::{is_kept, kept_value, value_behind};
-use crate::typed::put_typed;
 use ess_core::{Boxed, Ex, NoMemory, Row, Step, Text, Ty};
 use ess_types_names::TypeTable;
 use ess_types_operators::{component_type, field_type};
@@ -32,6 +31,23 @@ pub(crate) struct PutSteps {
 struct PutStep {
     step: Boxed<Step>,
     behind: Option<Boxed<Ty>>,
+}
+
+/// The index of a place by steps with lettings put in, and the type behind them.
+pub(crate) fn typed_index(
+    alloc: Global,
+    is_bool: bool,
+    place: Boxed<Ex>,
+    puts: PutSteps,
+) -> Result<(Boxed<Ex>, Option<Boxed<Ty>>), NoMemory>
+    ensures index { IfOk result (λ r. pure_ex r.0
+        ≡ node_ex is_bool (index (words_of (map pure_step puts.steps)))
+        (more_exs (pure_ex place) (exs_of (within (map pure_step puts.steps))))) }
+    ensures behind { IfOk result (λ r. option_map pure_ty r.1 ≡ option_map pure_ty puts.behind) }
+{
+    let PutSteps { steps, behind } = puts;
+    let put = Boxed::new(alloc, Ex::At(is_bool, place, steps))?;
+    Ok((put, behind))
 }
 
 /// The steps of an index with lettings put in, from a place of this type. The type behind the last one is found where it is
@@ -157,14 +173,9 @@ fn put_behind(
     if is_kept(place) {
         return kept_value(alloc, ex, place);
     }
-    if further {
-        let (put, ty) = put_typed(alloc, ex, lettings, table)?;
-        let behind = value_behind(alloc, place, put.get(), ty)?;
-        Ok((put, behind))
-    } else {
-        let put = put_ex(alloc, ex, lettings, table)?;
-        Ok((put, None))
-    }
+    let (put, ty) = put_typed(alloc, ex, further, lettings, table)?;
+    let behind = value_behind(alloc, place, put.get(), ty)?;
+    Ok((put, behind))
 }
 
 /// The type that a step to a component reaches.

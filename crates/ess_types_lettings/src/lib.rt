@@ -12,7 +12,6 @@ mod put_statement;
 mod ranges;
 mod rows;
 mod statements;
-mod typed;
 
 pub use domains::put_dom;
 pub use expressions::put_ex;

@@ -1,33 +1,61 @@
-use Rattle.std.proofs.Common.{rules, ◌≡◌, ◌∙◌, ◌∷◌, map, get_or, true, false}
+use Rattle.std.proofs.Common.{rules, ◌≡◌, ◌∙◌, ◌∷◌, ◌++◌, map, true, false, Err, option_map}
 use Rattle.eprime_eval_kinds.specs.KindedViews.{pure_kex, pure_kgen, pure_kdom}
-use Rattle.eprime_eval_scalars.specs.declared.scalars.Scalar.TheVariants.{Truth}
 use Rattle.eprime_eval_scalars.specs.ScalarViews.{pure_scalar}
 use Rattle.eprime_eval.specs.Environments.{env_at}
+use Rattle.eprime_eval.specs.Items.{swept}
+use Rattle.eprime_eval_scalars.specs.declared.Stop.TheVariants.{Big}
+use Rattle.eprime_eval.specs.MemberViews.{member_values}
 use Rattle.eprime_eval_kinds.specs.declared.tree.KGen.TheVariants.{Over}
 use Rattle.eprime_eval.proofs.Lists.{listed_at, swept_at}
-use Rattle.eprime_eval.proofs.Generators.{large_over_there, over_front, sweep_more_at, large_more_at}
+use Rattle.eprime_eval.proofs.Generators.{large_over_there, over_front, sweep_more, sweep_stops, large_at, large_more}
 use Rattle.eprime_eval.proofs.+value.Goals as goal
 
 pub generating::runs_over-returns-in-Some-clause-big : goal.generating::runs_over-returns-in-Some-clause-big
 generating::runs_over-returns-in-Some-clause-big t c = λ h.
     large_over_there (pure_kex c.args.known.now.names c.args.item.now) c.args.name.now (pure_kdom c.args.known.now.names c.args.dom.now)
     (map (pure_kgen c.args.known.now.names) c.args.rest.now) c.args.known.now
-    c.args.bound.now c.domain_members.new.bound c.in_ok-vals.field-0 c.as_slice.result.now c.in-Some.vals
-    c.in_ok-vals.ensures.ok c.in-Some.is c.as_slice.ensures c.in_ok-vals.ensures.kept (c.sweep.ensures.big h)
+    c.args.bound.now c.domain_members.new.bound c.in_ok-vals.field-0 c.in-Some.vals
+    c.in_ok-vals.ensures.ok c.in-Some.is c.in_ok-vals.ensures.kept (c.sweep.ensures.big h)
 
-pub generating::sweep-loop-val-preserved : goal.generating::sweep-loop-val-preserved
-generating::sweep-loop-val-preserved t c =
+pub generating::sweep-loop-place-preserved : goal.generating::sweep-loop-place-preserved
+generating::sweep-loop-place-preserved t c =
     let ns = c.args.known.now.names in
-    let y : c.in_ok-point.field-0 ≡ true = search rules in
+    let y : c.in_ok-found.found ≡ true = search rules in
     record {
-      bound_same = c.in_ok-point.ensures.kept ∙ c.loop-val.invariant.bound_same;
-      left = sweep_more_at (pure_kex ns c.args.item.now) c.args.name.now c.args.vals.now c.loop-val.val-index _ (map (pure_kgen ns) c.args.rest.now) c.args.known.now
-          c.args.bound.now c.loop-val.bound c.in_ok-point.field-0 (map pure_scalar c.loop-val.items) (map pure_scalar c.point.new.items) _ c.loop-val-test.true
-          c.loop-val.invariant.bound_same y c.in_ok-point.ensures.ok c.loop-val.invariant.left;
-      large_left = λ h. c.loop-val.invariant.large_left
-          (large_more_at (pure_kex ns c.args.item.now) c.args.name.now c.args.vals.now c.loop-val.val-index (get_or c.args.vals.now 0 (Truth false)) (map (pure_kgen ns) c.args.rest.now)
-          (env_at c.args.known.now c.args.bound.now) c.loop-val-test.true h);
+      bound_same = c.in_ok-found.ensures.kept ∙ c.loop-place.invariant.bound_same;
+      named = c.in_ok-found.ensures.named ∙ c.loop-place.invariant.named;
+      left = sweep_more (pure_kex ns c.args.item.now) c.args.name.now c.loop-place.own (member_values c.args.vals.now) c.loop-place.place _
+          (map (pure_kgen ns) c.args.rest.now) c.args.known.now c.args.bound.now c.loop-place.bound c.in_ok-found.found
+          (map pure_scalar c.loop-place.items) (map pure_scalar c.point.new.items)
+          (option_map (λ xs. map pure_scalar c.args.items.now ++ xs) (swept (pure_kex ns c.args.item.now) c.args.name.now (member_values c.args.vals.now)
+          (map (pure_kgen ns) c.args.rest.now) (env_at c.args.known.now c.args.bound.now))) c.in_ok-value.ensures
+          c.loop-place.invariant.named c.loop-place.invariant.bound_same y c.in_ok-found.ensures.ok c.loop-place.invariant.left;
+      large_left = λ h. c.loop-place.invariant.large_left
+          (large_more (pure_kex ns c.args.item.now) c.args.name.now (member_values c.args.vals.now) c.loop-place.place _
+          (map (pure_kgen ns) c.args.rest.now) (env_at c.args.known.now c.args.bound.now) c.in_ok-value.ensures h);
     }
+
+pub generating::sweep-returns-then-not-found-clause-ok : goal.generating::sweep-returns-then-not-found-clause-ok
+generating::sweep-returns-then-not-found-clause-ok t c =
+    let ns = c.args.known.now.names in
+    let y : c.in_ok-found.found ≡ false = search rules in
+    sweep_stops (pure_kex ns c.args.item.now) c.args.name.now c.loop-place.own (member_values c.args.vals.now) c.loop-place.place _
+    (map (pure_kgen ns) c.args.rest.now) c.args.known.now c.args.bound.now c.loop-place.bound c.in_ok-found.found
+    (map pure_scalar c.loop-place.items) (map pure_scalar c.point.new.items) (map pure_scalar c.args.items.now)
+    (swept (pure_kex ns c.args.item.now) c.args.name.now (member_values c.args.vals.now) (map (pure_kgen ns) c.args.rest.now)
+    (env_at c.args.known.now c.args.bound.now))
+    c.in_ok-value.ensures c.loop-place.invariant.named c.loop-place.invariant.bound_same y
+    c.in_ok-found.ensures.ok c.loop-place.invariant.left
+
+pub generating::sweep-returns-in_err-found-clause-big : goal.generating::sweep-returns-in_err-found-clause-big
+generating::sweep-returns-in_err-found-clause-big t c = λ h.
+    let ns = c.args.known.now.names in
+    let k : c.point.result ≡ Err Big = first_of (search rules, cc) in
+    c.loop-place.invariant.large_left
+    (large_at (pure_kex ns c.args.item.now) c.args.name.now c.loop-place.own (member_values c.args.vals.now) c.loop-place.place _
+    (map (pure_kgen ns) c.args.rest.now) c.args.known.now c.args.bound.now c.loop-place.bound c.in_ok-value.ensures
+    c.loop-place.invariant.named c.loop-place.invariant.bound_same
+    (c.point.ensures.big k))
 
 pub evaluating::list_at-returns-in_ok-there-in-Items-clause-ok : goal.evaluating::list_at-returns-in_ok-there-in-Items-clause-ok
 evaluating::list_at-returns-in_ok-there-in-Items-clause-ok t c =

@@ -1,9 +1,12 @@
 use Rattle.std.proofs.Common.{◌≡◌, ◌++◌, true, List, map, take, drop, option_map}
+use Rattle.ess_semantics.specs.Lists.{all_some}
 use Rattle.ess_semantics.specs.Trees.{Step}
+use Rattle.ess_semantics.specs.Typing.{types_of, types_under}
 use Rattle.ess_semantics.specs.Lettings.{put_ex, put_dom}
 use Rattle.ess_core.specs.TypeViews.{pure_ty}
-use Rattle.ess_core.specs.TreeViews.{With, words_of, within, pure_ex, pure_pair_ex, pure_field_ex, pure_step, pure_gen, pure_dom, pure_field_dom, pure_range, pure_attr}
+use Rattle.ess_core.specs.TreeViews.{With, words_of, within, exs_of, gens_of, field_values, pure_ex, pure_pair_ex, pure_field_ex, pure_step, pure_gen, pure_dom, pure_field_dom, pure_range, pure_attr}
 use Rattle.ess_types_names.specs.Tables.{pure_table, Extends}
+use Rattle.ess_types_names.specs.Generators.{under}
 use Rattle.ess_types_scopes.specs.Kept.{pure_lettings}
 use Rattle.ess_types_lettings.specs.Paths.{path_behind}
 use Rattle.ess_types_lettings.specs.Putting.{put_field, put_field_dom, put_with, put_items, names_behind, put_values, exs_before}
@@ -13,6 +16,7 @@ abbrev pub invariant-rows::each_ex-loop-ex : goal.invariant-rows::each_ex-loop-e
 invariant-rows::each_ex-loop-ex l = record {
   kept : l.table ≡ l.initial.table;
   puts : map pure_ex l.puts ≡ map (λ e. put_ex (pure_ex e) (pure_lettings l.lettings) (pure_table l.initial.table)) (take l.ex-index l.exs);
+  types : l.asked ≡ true → option_map (map pure_ty) l.tys ≡ all_some (types_of (exs_of (map pure_ex l.puts)) (pure_table l.initial.table));
 }
 
 abbrev pub invariant-rows::each_pair-loop-pair : goal.invariant-rows::each_pair-loop-pair
@@ -20,6 +24,8 @@ invariant-rows::each_pair-loop-pair l = record {
   kept : l.table ≡ l.initial.table;
   puts : map pure_pair_ex l.puts
       ≡ map (λ p. put_ex (pure_pair_ex p) (pure_lettings l.lettings) (pure_table l.initial.table)) (take l.pair-index l.pairs);
+  types : l.asked ≡ true
+      → option_map (map pure_ty) l.tys ≡ all_some (types_of (exs_of (map pure_pair_ex l.puts)) (pure_table l.initial.table));
 }
 
 abbrev pub invariant-rows::each_field-loop-field : goal.invariant-rows::each_field-loop-field
@@ -27,6 +33,9 @@ invariant-rows::each_field-loop-field l = record {
   kept : l.table ≡ l.initial.table;
   puts : map pure_field_ex l.puts
       ≡ map (λ f. put_field (pure_field_ex f) (pure_lettings l.lettings) (pure_table l.initial.table)) (take l.field-index l.fields);
+  types : l.asked ≡ true
+      → option_map (map pure_ty) l.tys
+      ≡ all_some (types_of (exs_of (field_values (map pure_field_ex l.puts))) (pure_table l.initial.table));
 }
 
 abbrev pub invariant-domain_rows::each_dom-loop-dom : goal.invariant-domain_rows::each_dom-loop-dom
@@ -75,6 +84,8 @@ invariant-generators::put_gens-loop-item l = record {
   kept : Extends l.initial.table l.table;
   puts : map pure_gen l.puts ++ put_items (map pure_gen (drop l.item-index l.gens)) (pure_lettings l.lettings) (pure_table l.table)
       ≡ put_items (map pure_gen l.gens) (pure_lettings l.lettings) (pure_table l.initial.table);
+  types : l.asked ≡ true
+      → types_under (gens_of (map pure_gen l.puts)) (pure_table l.initial.table) ≡ under l.under (pure_table l.table);
   names : names_behind (map pure_gen (drop l.item-index l.gens)) (pure_lettings l.lettings) (pure_table l.table)
       ≡ names_behind (map pure_gen l.gens) (pure_lettings l.lettings) (pure_table l.initial.table);
 }

@@ -5,4 +5,5 @@ use Rattle.ess_core.specs.ValueViews.{pure_val}
 use Rattle.ess_repr_functions.proofs.lookup.values_at.Given as goal
 
 abbrev pub invariant-loop-argument : goal.invariant-loop-argument
-invariant-loop-argument l = map pure_val l.values ≡ somes (map (value_at (map pure_val l.items)) (map pure_val (take l.argument-index l.arguments)))
+invariant-loop-argument l =
+    map pure_val l.values ≡ somes (map (value_at (map pure_val l.items)) (map pure_val (take l.argument-index l.arguments)))

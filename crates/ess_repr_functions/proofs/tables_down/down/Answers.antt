@@ -9,5 +9,6 @@ use Rattle.ess_repr_functions.proofs.tables_down.down.Goals as goal
 pub returns-in-Function : goal.returns-in-Function
 returns-in-Function c =
     IfOk-weaker c.tables_from.result _ _
-    (λ o e rs h p. tables_over c.args.kind c.args.domain.now _ c.get.result.now _ _ c.in-Function.is c.get.ensures (pure_val c.args.value.now) c.args.axes.now (map pure_tables c.args.inner) (option_map (map pure_table) o) rs e h p)
+    (λ o e rs h p. tables_over c.args.kind c.args.domain.now _ c.get.result.now _ _ c.in-Function.is c.get.ensures
+    (pure_val c.args.value.now) c.args.axes.now (map pure_tables c.args.inner) (option_map (map pure_table) o) rs e h p)
     c.tables_from.ensures

@@ -1,0 +1,9 @@
+-- Atoms
+mod AtomCells
+-- Matrices
+mod ElementLoops
+mod NestingLoops
+-- By kind
+mod ScalarParts
+mod ScalarDown
+mod ScalarUp

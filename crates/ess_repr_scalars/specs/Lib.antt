@@ -1,0 +1,3 @@
+-- Atoms and matrices
+pub mod ScalarForms
+pub mod NestedMatrices

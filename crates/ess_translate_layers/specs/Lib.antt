@@ -1,2 +1,0 @@
--- Members and components
-pub mod Members

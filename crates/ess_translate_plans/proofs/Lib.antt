@@ -1,0 +1,5 @@
+mod Turns
+mod Numbers
+mod Trying
+mod Added
+mod SideTables
