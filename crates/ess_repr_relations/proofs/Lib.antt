@@ -8,3 +8,5 @@ pub mod PartitionLaws
 -- The calls by kind
 pub mod RelationCalls
 pub mod PartitionCalls
+-- The calls over any domain
+pub mod KindCalls

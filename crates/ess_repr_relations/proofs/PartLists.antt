@@ -3,9 +3,14 @@ use Rattle.std.proofs.Common.{◌≡◌, refl, sym, ap, ◌∙◌, ℕ, zero, su
 use Rattle.std.proofs.lemmas.List.{take_more, at_drop_more, map-append}
 use Rattle.ess_semantics.specs.Values.{Value, items_of}
 use Rattle.ess_semantics.specs.Collections.{holds}
+use Rattle.ess_semantics.specs.Domains.{Domain, member_list}
+use Rattle.ess_semantics.specs.Tables.{code, one_cell, row_of}
+use Rattle.ess_semantics.specs.Layers.{codes_of}
 use Rattle.ess_semantics.specs.PartitionLayers.{part_number}
 use Rattle.ess_core.specs.declared.values.Val.{Val}
+use Rattle.ess_core.specs.declared.tables.Table.{Table}
 use Rattle.ess_core.specs.ValueViews.{pure_val}
+use Rattle.ess_core.specs.TableViews.{pure_table}
 use Rattle.ess_repr_relations.specs.PartNumbers.{list_number}
 use Rattle.ess_repr_relations.proofs.PartitionLaws.{number-of-list}
 
@@ -26,6 +31,19 @@ numbers_of_lists xss ps xs ns e h = h ∙ ap (λ l. map (list_number 1 l) xs) e 
     go : (xs : List Value) → map (list_number 1 (map items_of ps)) xs ≡ map (part_number 1 ps) xs
     go [] = refl
     go (x ∷ xs) = ap (λ n. n ∷ map (list_number 1 (map items_of ps)) xs) (number-of-list 1 ps x) ∙ ap (λ l. part_number 1 ps x ∷ l) (go xs)
+
+-- The two tables of a partition by the numbers of parts.
+pub tables_of_numbers : (d : Domain) (v : Value) (members parts : List Value) (xss : List (List Value)) (ns cs : List ℤ) (n : ℤ) (t u : Table) (ts us : List Table) →
+    members ≡ member_list d → parts ≡ items_of v → xss ≡ map items_of parts → ns ≡ map (list_number 1 xss) members →
+    n ≡ pos (length parts) → cs ≡ map code members → pure_table t ≡ one_cell n → pure_table u ≡ row_of cs ns → ts ≡ t ∷ [] → us ≡ ts ++ u ∷ [] →
+    map pure_table us ≡ one_cell (pos (length (items_of v))) ∷ row_of (codes_of d) (map (part_number 1 (items_of v)) (member_list d)) ∷ []
+tables_of_numbers d v members parts xss ns cs n t u ts us m p l h k c first second one two =
+    ap (map pure_table) (two ∙ ap (λ l. l ++ u ∷ []) one)
+    ∙ ap (λ x. x ∷ pure_table u ∷ []) (first ∙ ap one_cell (k ∙ ap (λ l. pos (length l)) p))
+    ∙ ap (λ x. one_cell (pos (length (items_of v))) ∷ x ∷ [])
+    (second ∙ ap (λ l. row_of l ns) (c ∙ ap (map code) m)
+    ∙ ap (row_of (codes_of d))
+    (numbers_of_lists xss parts members ns l h ∙ ap (λ l. map (part_number 1 l) members) p ∙ ap (map (part_number 1 (items_of v))) m))
 
 -- What is left of the lists behind k of them.
 abbrev pub LeftBehind : List (List Val) → Value → ℕ → Type 0

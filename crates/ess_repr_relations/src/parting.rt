@@ -55,7 +55,7 @@ fn other_tables(tables: &[Table]) -> &[Table]
 }
 
 /// The partition of the members whose parts have the numbers up to a count.
-#[tactic(auto, using(crate::proofs::NumberedMembers::parts_below, crate::proofs::NumberedMembers::numbers_wrong, crate::proofs::NumberedMembers::parts_from))]
+#[tactic(auto, using(crate::proofs::NumberedMembers::parts_below))]
 fn partition_by(
     alloc: Global,
     members: &[Val],
@@ -70,10 +70,8 @@ fn partition_by(
                 return Ok(None);
             }
             let axis = slot_axis(alloc, parts)?;
-            partition_value(
-                alloc,
-                parts_numbered(alloc, members, numbers, axis.as_slice())?,
-            )
+            let sets = parts_numbered(alloc, members, numbers, axis.as_slice())?;
+            Ok(partition_value(alloc, sets)?)
         }
         Err(_) => Ok(None),
     }
@@ -116,7 +114,6 @@ fn parts_numbered(
 }
 
 /// The set of the members with a number. `NoMemory` where there is no room for it.
-#[tactic(auto, using(crate::proofs::NumberedMembers::picked_set))]
 fn part_numbered(
     alloc: Global,
     members: &[Val],
@@ -127,7 +124,7 @@ fn part_numbered(
 {
     let marks = marks(alloc, numbers, number)?;
     match picked(alloc, marks.as_slice(), members)? {
-        Some(own) => set_of(alloc, own),
+        Some(own) => Ok(set_of(alloc, own)?),
         None => Err(NoMemory),
     }
 }
