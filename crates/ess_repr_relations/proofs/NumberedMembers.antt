@@ -1,6 +1,8 @@
 -- Members by the numbers of their parts.
 use Rattle.std.proofs.Common.{◌≡◌, refl, sym, ap, ◌∙◌, ℕ, zero, suc, ◌+◌, ◌<◌, Bool, true, false, ◌&&◌, if◌then◌else◌, List, [], ◌∷◌, ◌++◌, map, length, take, drop, get_or, ℤ, pos, negsuc, int_le, Option, Some, None, option_map}
+use Rattle.std.specs.Prelude.{nat_abs}
 use Rattle.std.specs.List.{list_all}
+use Rattle.std.specs.Int.{FitsUnsignedBits}
 use Rattle.std.proofs.lemmas.List.{take_more, map-append}
 use Rattle.ess_semantics.specs.Lists.{and_then, only_of}
 use Rattle.ess_semantics.specs.Values.{Value}
@@ -77,6 +79,11 @@ sets_more xs ws axis i n ps qs v h is e o q =
     F k = Some (set_of (members_numbered xs ws k))
 
 -- ---- all parts
+
+-- A number of parts that isn't below 0.
+pub count_is : (count : ℤ) (n : ℕ) → FitsUnsignedBits 64 count → n ≡ nat_abs count → count ≡ pos n
+count_is (pos m) n f e = ap (λ k. pos k) (sym e)
+count_is (negsuc m) n f e = absurd f
 
 module _ (xs : List Value) (ws : List ℤ) (count : ℤ) (n : ℕ) (is : count ≡ pos n) where
   -- A number that is none of a part.

@@ -6,8 +6,8 @@ use Rattle.ess_core.specs.ValueViews.{pure_val}
 use Rattle.ess_repr_relations.proofs.NumberedMembers.{picked_set}
 use Rattle.ess_repr_relations.proofs.parting.part_numbered.Goals as goal
 
-pub returns-in_ok-set_of-in-Some : goal.returns-in_ok-set_of-in-Some
-returns-in_ok-set_of-in-Some c =
+pub returns-in-Some : goal.returns-in-Some
+returns-in-Some c =
     picked_set (map pure_val c.args.members.now) c.args.numbers.now c.as_slice.result.now c.args.number c.in-Some.own c.in_ok-own.field-0
     (pure_val c.in_ok-set_of-in-Some.field-0) c.in-Some.is
     (c.as_slice.ensures ∙ c.in_ok-marks.ensures
