@@ -1,0 +1,2 @@
+-- Numbers of parts, and the domains of this family
+pub mod PartNumbers
