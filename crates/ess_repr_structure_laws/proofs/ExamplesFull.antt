@@ -37,10 +37,12 @@ of-no-cell = refl
 -- ---- slots
 
 -- Of two slots the second one is there, a third one isn't: so pairs of slots end with the last one.
-pub of-second-slot : cell_is_there false (cell_ex false (codes "a") (one (number_ex (pos 2)))) (slots_env (pos 2) (pos 1 ∷ pos 3 ∷ [])) ≡ true
+pub of-second-slot : cell_is_there false (cell_ex false (codes "a") (one (number_ex (pos 2))))
+    (slots_env (pos 2) (pos 1 ∷ pos 3 ∷ [])) ≡ true
 of-second-slot = refl
 
-pub of-third-slot : cell_is_there false (cell_ex false (codes "a") (one (number_ex (pos 3)))) (slots_env (pos 2) (pos 1 ∷ pos 3 ∷ [])) ≡ false
+pub of-third-slot : cell_is_there false (cell_ex false (codes "a") (one (number_ex (pos 3))))
+    (slots_env (pos 2) (pos 1 ∷ pos 3 ∷ [])) ≡ false
 of-third-slot = refl
 
 -- A cell that is a truth value counts as there, as it is false where it has none.
