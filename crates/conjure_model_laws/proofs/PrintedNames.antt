@@ -136,7 +136,8 @@ left-at f k (suc n) d l = go (f (q k)) refl d (many-step f k n) l (left-at f (su
     go true e zero s l r = record {
       t = 0;
       inside = omega arith;
-      is = ap (λ b. item_number (if b then q k ∷ filter f (q_names (suc k) n) else filter f (q_names (suc k) n)) 0) e ∙ ap (λ m. Some (q m)) (omega arith);
+      is = ap (λ b. item_number (if b then q k ∷ filter f (q_names (suc k) n) else filter f (q_names (suc k) n)) 0) e
+          ∙ ap (λ m. Some (q m)) (omega arith);
       has = ap (λ m. f (q m)) (omega arith) ∙ e;
       before = refl;
     }

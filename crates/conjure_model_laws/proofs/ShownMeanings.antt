@@ -73,7 +73,8 @@ module _ (sh : Shows) (n : Text → Bool) (env there : Env) (S : StandsFor sh n 
 
   mutual
     -- An expression.
-    pub meaning-shown : (e : Ex) (g h : Vals) → Plain e → NamesAre n (is_unshown sh) e → R g h → meaning (shown sh e) (N h) ≡ meaning e (M g)
+    pub meaning-shown : (e : Ex) (g h : Vals) → Plain e → NamesAre n (is_unshown sh) e → R g h →
+        meaning (shown sh e) (N h) ≡ meaning e (M g)
     meaning-shown (number_ex m) g h w o r = refl
     meaning-shown (truth_ex m) g h w o r = refl
     meaning-shown (name_ex a) g h w o r = at-first a g h o r
@@ -131,7 +132,8 @@ module _ (sh : Shows) (n : Text → Bool) (env there : Env) (S : StandsFor sh n 
     domain-shown (tuple_dom ds) g h w o r = ap (option_map tuples) (domains-shown ds g h w o r)
     domain-shown (record_dom fs ds) g h w o r = ap (option_map (records fs)) (domains-shown ds g h w o r)
     domain-shown (matrix_dom is d) g h w o r =
-        two (domains_of (shown_doms sh is) (N h)) (domains_of is (M g)) matrices (domains-shown is g h w.0 o.0 r) (domain-shown d g h w.1 o.1 r)
+        two (domains_of (shown_doms sh is) (N h)) (domains_of is (M g)) matrices (domains-shown is g h w.0 o.0 r)
+        (domain-shown d g h w.1 o.1 r)
     domain-shown (set_dom ks es d) g h w o r =
         two (attributes_of ks (meanings (shown_all sh es) (N h))) (attributes_of ks (meanings es (M g))) sets
         (ap (attributes_of ks) (meanings-shown es g h w.0 o.0 r)) (domain-shown d g h w.1 o.1 r)
@@ -154,4 +156,5 @@ module _ (sh : Shows) (n : Text → Bool) (env there : Env) (S : StandsFor sh n 
         domains_of (shown_doms sh ds) (N h) ≡ domains_of ds (M g)
     domains-shown no_doms g h w o r = refl
     domains-shown (more_doms d ds) g h w o r =
-        two (domain_of (shown_dom sh d) (N h)) (domain_of d (M g)) more_domains (domain-shown d g h w.0 o.0 r) (domains-shown ds g h w.1 o.1 r)
+        two (domain_of (shown_dom sh d) (N h)) (domain_of d (M g)) more_domains (domain-shown d g h w.0 o.0 r)
+        (domains-shown ds g h w.1 o.1 r)

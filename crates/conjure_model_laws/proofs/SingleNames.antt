@@ -64,15 +64,19 @@ mutual
       (refined-single e (and-left (is_refined e) (are_refined es) h), all-single es (and-right (is_refined e) (are_refined es) h))
 
   list-single : (e : Ex) → is_refined_list e ≡ true → Single e
-  list-single (comp_ex e gs) h =
-      (refined-single e (and-left (is_refined e) (are_refined_gens gs) h), gens-single gs (and-right (is_refined e) (are_refined_gens gs) h))
+  list-single (comp_ex e gs) h = (
+    refined-single e (and-left (is_refined e) (are_refined_gens gs) h),
+    gens-single gs (and-right (is_refined e) (are_refined_gens gs) h),
+  )
   list-single (node_ex false matrix_literal es) h = all-single es h
   list-single _ h = cc
 
   lists-single : (es : Exs) → are_refined_lists es ≡ true → SingleAll es
   lists-single no_exs h = tt
-  lists-single (more_exs e es) h =
-      (list-single e (and-left (is_refined_list e) (are_refined_lists es) h), lists-single es (and-right (is_refined_list e) (are_refined_lists es) h))
+  lists-single (more_exs e es) h = (
+    list-single e (and-left (is_refined_list e) (are_refined_lists es) h),
+    lists-single es (and-right (is_refined_list e) (are_refined_lists es) h),
+  )
 
   gens-single : (gs : Gens) → are_refined_gens gs ≡ true → SingleGens gs
   gens-single no_gens h = tt
@@ -82,6 +86,8 @@ mutual
     all-single es (and-right (is_bounded rs) (are_refined es) (and-left (is_bounded rs && are_refined es) (are_refined_gens gs) h)),
     gens-single gs (and-right (is_bounded rs && are_refined es) (are_refined_gens gs) h),
   )
-  gens-single (cond e gs) h =
-      (refined-single e (and-left (is_refined e) (are_refined_gens gs) h), gens-single gs (and-right (is_refined e) (are_refined_gens gs) h))
+  gens-single (cond e gs) h = (
+    refined-single e (and-left (is_refined e) (are_refined_gens gs) h),
+    gens-single gs (and-right (is_refined e) (are_refined_gens gs) h),
+  )
   gens-single _ h = cc
