@@ -10,3 +10,5 @@ pub mod RelationCalls
 pub mod PartitionCalls
 -- The calls over any domain
 pub mod KindCalls
+-- Worked examples
+pub mod ExamplesPartNumbers

@@ -1,37 +1,32 @@
 -- One layer of partitions, down and up, under what callers know.
-use Rattle.std.proofs.Common.{◌≡◌, refl, sym, ap, ◌∙◌, ℕ, zero, suc, Bool, true, false, ◌&&◌, ◌||◌, not, if◌then◌else◌, List, [], ◌∷◌, ◌++◌, map, length, take, drop, ℤ, pos, negsuc, Option, Some, None, option_map}
-use Rattle.std.specs.List.{list_any, list_all}
+use Rattle.std.proofs.Common.{◌≡◌, refl, sym, ap, ℕ, suc, true, if◌then◌else◌, List, [], ◌∷◌}
+use Rattle.std.proofs.Common.{map, length, drop, pos, Some}
 use Rattle.ess_semantics.specs.declared.words.ReprKind.{ReprKind}
-use Rattle.ess_semantics.specs.Lists.{when, and_then, only_of, is_empty}
-use Rattle.ess_semantics.specs.Values.{Value, a_partition, node, of_list, items_of}
-use Rattle.ess_semantics.specs.Order.{same_int}
-use Rattle.ess_semantics.specs.Collections.{holds, sorted_once, set_of, partition_of, has_empty_part, has_overlap}
-use Rattle.ess_semantics.specs.Trees.{Repr, Reprs, repr, no_reprs, more_reprs}
-use Rattle.ess_semantics.specs.Numbers.{one_to}
+use Rattle.ess_semantics.specs.Lists.{and_then, only_of}
+use Rattle.ess_semantics.specs.Values.{Value, items_of}
+use Rattle.ess_semantics.specs.Collections.{holds}
+use Rattle.ess_semantics.specs.Trees.{Reprs, repr, no_reprs, more_reprs}
 use Rattle.ess_semantics.specs.Domains.{Attribute, Domain, partitions, member_list}
 use Rattle.ess_semantics.specs.Sizes.{child_parts}
-use Rattle.ess_semantics.specs.Tables.{Table, Tables, code, one_cell, row_of}
+use Rattle.ess_semantics.specs.Tables.{Tables, one_cell, row_of}
 use Rattle.ess_semantics.specs.Cells.{Axes}
-use Rattle.ess_semantics.specs.Layers.{Layer, codes_of, everywhere}
-use Rattle.ess_semantics.specs.PartitionLayers.{members_numbered, is_part_number, partition_from_numbers, part_number, partition_from, partition_occurrence_layer, partition_as_set_layer}
+use Rattle.ess_semantics.specs.Layers.{codes_of}
+use Rattle.ess_semantics.specs.PartitionLayers.{partition_from_numbers, part_number, partition_from}
 use Rattle.ess_semantics.specs.Declarations.{axes_of}
-use Rattle.ess_semantics.specs.Representations.{layer}
-use Rattle.ess_semantics.specs.OneLayer.{layer_tables, inner_tables, layer_value}
+use Rattle.ess_semantics.specs.OneLayer.{layer_tables, layer_value}
 use Rattle.ess_semantics.specs.Tidy.{over_axes}
 use Rattle.ess_semantics.proofs.MemberLists.{atom-listed}
 use Rattle.ess_repr_laws.specs.Rooms.{Covered}
 use Rattle.ess_repr_laws.proofs.Arguments.{atom-arguments}
 use Rattle.ess_repr_laws.proofs.AxesOfTables.{axes-differ}
 use Rattle.ess_repr_laws.proofs.CanonicalPlaces.{AllOf}
-use Rattle.ess_repr_rows_laws.specs.Cutting.{parts_at, first_items, used_numbers}
-use Rattle.ess_repr_rows_laws.proofs.OwnCells.{TableOver}
-use Rattle.ess_repr_rows_laws.proofs.LayerUpRows.{inner-with-child}
+use Rattle.ess_repr_rows_laws.specs.Cutting.{first_items}
 use Rattle.ess_repr_rows_laws.proofs.LayerValues.{partition-occurrence-value}
 use Rattle.ess_repr_rows_laws.proofs.OwnLayers.{partition-occurrence-rows}
 use Rattle.ess_repr_rows_laws.proofs.ArgumentLayers.{partition-as-set-rows}
-use Rattle.ess_repr_sets.specs.PartTables.{PartTables, PartsFit}
+use Rattle.ess_repr_sets.specs.PartTables.{PartsFit}
 use Rattle.ess_repr_relations.specs.PartNumbers.{list_number}
-use Rattle.ess_repr_sets.proofs.OverDeclared.{first-over, rest-over, over-child, each-over}
+use Rattle.ess_repr_sets.proofs.OverDeclared.{first-over, rest-over, each-over}
 
 -- ---- numbers of parts
 
@@ -53,7 +48,8 @@ module _ (ks : List Attribute) (e : Domain) where
 
   pub numbers-up : (ts : Tables) (vs : List Value) (rs : Reprs) → Covered (repr ReprKind.PartitionOccurrence rs) (partitions ks e) →
       over_axes [] (axes_of (repr ReprKind.PartitionOccurrence rs) (partitions ks e)) ts ≡ true →
-      and_then (only_of (first_items ts)) (partition_from_numbers (member_list e) (first_items (drop 1 ts))) ≡ layer_value ReprKind.PartitionOccurrence (partitions ks e) ts vs
+      and_then (only_of (first_items ts)) (partition_from_numbers (member_list e)
+      (first_items (drop 1 ts))) ≡ layer_value ReprKind.PartitionOccurrence (partitions ks e) ts vs
   numbers-up ts vs (more_reprs r rs) c h = absurd c
   numbers-up ts vs no_reprs c h = go ts h
     where
@@ -61,19 +57,23 @@ module _ (ks : List Attribute) (e : Domain) where
       a = codes_of e ∷ []
 
       go : (ts : Tables) → over_axes [] ([] ∷ a ∷ []) ts ≡ true →
-          and_then (only_of (first_items ts)) (partition_from_numbers (member_list e) (first_items (drop 1 ts))) ≡ layer_value ReprKind.PartitionOccurrence (partitions ks e) ts vs
+          and_then (only_of (first_items ts)) (partition_from_numbers (member_list e)
+          (first_items (drop 1 ts))) ≡ layer_value ReprKind.PartitionOccurrence (partitions ks e) ts vs
       go [] h = cc
       go (n ∷ []) h = let z = rest-over [] (a ∷ []) n [] h in cc
       go (n ∷ t ∷ u ∷ ts) h = let z = rest-over a [] t (u ∷ ts) (rest-over [] (a ∷ []) n (t ∷ u ∷ ts) h) in cc
       go (n ∷ t ∷ []) h =
           let d = axes-differ (repr ReprKind.PartitionOccurrence no_reprs) (partitions ks e) c in
           let o = first-over [] (a ∷ []) n (t ∷ []) h in
-          sym (partition-occurrence-value ks e n t vs (atom-arguments e (atom-listed e c)) d.1.0 o.over (first-over a [] t [] (rest-over [] (a ∷ []) n (t ∷ []) h)))
+          sym (partition-occurrence-value ks e n t vs (atom-arguments e (atom-listed e c)) d.1.0 o.over (first-over a [] t [] (rest-over []
+          (a ∷ []) n (t ∷ []) h)))
 
   -- ---- as a set
 
-  pub parts-down : (v : Value) (ass : List Axes) (tss : List Tables) (rs : Reprs) → Covered (repr ReprKind.PartitionAsSet rs) (partitions ks e) →
-      PartsFit ReprKind.PartitionAsSet rs (partitions ks e) v ass tss → only_of tss ≡ layer_tables (repr ReprKind.PartitionAsSet rs) (partitions ks e) v tss
+  pub parts-down : (v : Value) (ass : List Axes) (tss : List Tables) (rs : Reprs) →
+      Covered (repr ReprKind.PartitionAsSet rs) (partitions ks e) →
+      PartsFit ReprKind.PartitionAsSet rs (partitions ks e) v ass tss →
+      only_of tss ≡ layer_tables (repr ReprKind.PartitionAsSet rs) (partitions ks e) v tss
   parts-down v ass tss no_reprs c h = absurd c
   parts-down v ass tss (more_reprs r (more_reprs s rs)) c h = absurd c
   parts-down v ass tss (more_reprs r no_reprs) c h = go tss h.count (each-over (axes_of r (child_parts ks e)) ass tss h.axes h.over)
@@ -84,5 +84,6 @@ module _ (ks : List Attribute) (e : Domain) where
       go (ts ∷ us ∷ tss) e' o = cc
       go (ts ∷ []) e' o = sym (partition-as-set-rows r v ts ks e (axes-differ r (child_parts ks e) c) o.0)
 
-  pub parts-up : (ts : Tables) (vs : List Value) → and_then (only_of vs) partition_from ≡ layer_value ReprKind.PartitionAsSet (partitions ks e) ts vs
+  pub parts-up : (ts : Tables) (vs : List Value) →
+      and_then (only_of vs) partition_from ≡ layer_value ReprKind.PartitionAsSet (partitions ks e) ts vs
   parts-up ts vs = refl

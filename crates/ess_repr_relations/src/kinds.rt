@@ -25,7 +25,9 @@ pub fn parts(
     domain: &Closed,
     val: &Val,
 ) -> Result<Option<Row<Val>>, NoMemory>
-    ensures { IfOk result (λ o. option_map (map pure_val) o ≡ over_relations (pure_closed domain.now) (option_map (λ l. inner_values l (pure_val val.now)) (layer kind (pure_closed domain.now)))) }
+    ensures { IfOk result (λ o. option_map (map pure_val) o ≡
+        over_relations (pure_closed domain.now) (option_map (λ l. inner_values l (pure_val val.now)) (layer kind
+        (pure_closed domain.now)))) }
 {
     match domain {
         Closed::Relation(_, _) => relation_parts(alloc, kind, val),
@@ -45,7 +47,9 @@ pub fn down(
 ) -> Result<Option<Row<Table>>, NoMemory>
     ensures { IfOk result (λ o. (ass : List (List (List ℤ))) (rs : Reprs) → Covered (repr kind rs) (pure_closed domain.now) →
         PartsFit kind rs (pure_closed domain.now) (pure_val val.now) ass (map pure_tables inner) →
-        option_map pure_tables o ≡ over_relations (pure_closed domain.now) (layer_tables (repr kind rs) (pure_closed domain.now) (pure_val val.now) (map pure_tables inner))) }
+        option_map pure_tables o ≡
+        over_relations (pure_closed domain.now) (layer_tables (repr kind rs) (pure_closed domain.now) (pure_val val.now)
+        (map pure_tables inner))) }
 {
     match domain {
         Closed::Relation(_, components) => {
@@ -67,7 +71,8 @@ pub fn up(
 ) -> Result<Option<Val>, NoMemory>
     ensures { IfOk result (λ o. (rs : Reprs) → Covered (repr kind rs) (pure_closed domain.now) →
         over_axes [] (axes_of (repr kind rs) (pure_closed domain.now)) (pure_tables tables.now) ≡ true →
-        option_map pure_val o ≡ over_relations (pure_closed domain.now) (layer_value kind (pure_closed domain.now) (pure_tables tables.now) (map pure_val vals))) }
+        option_map pure_val o ≡
+        over_relations (pure_closed domain.now) (layer_value kind (pure_closed domain.now) (pure_tables tables.now) (map pure_val vals))) }
 {
     match domain {
         Closed::Relation(_, components) => {

@@ -19,7 +19,9 @@ use std::alloc::Global;
 /// The tables of a partition by the numbers of parts: how many there are, and the number of each member's part. `NoMemory` where there
 /// is no room for them.
 pub fn number_tables(alloc: Global, member: &Closed, val: &Val) -> Result<Row<Table>, NoMemory>
-    ensures { IfOk result (λ ts. map pure_table ts ≡ cell_alone (pos (length (the_items (pure_val val.now)))) ∷ row_of (codes_of (pure_closed member.now)) (map (part_number 1 (the_items (pure_val val.now))) (list_of_members (pure_closed member.now))) ∷ []) }
+    ensures { IfOk result (λ ts. map pure_table ts ≡
+        cell_alone (pos (length (the_items (pure_val val.now)))) ∷ row_of (codes_of (pure_closed member.now)) (map (part_number 1
+        (the_items (pure_val val.now))) (list_of_members (pure_closed member.now))) ∷ []) }
 {
     let members = member_list(alloc, member)?;
     let parts = items_of(alloc, val)?;

@@ -104,7 +104,8 @@ fn parts_numbered(
     numbers: &[i64],
     axis: &[i64],
 ) -> Result<Row<Option<Val>>, NoMemory>
-    ensures { IfOk result (λ r. map (option_map pure_val) r ≡ map (λ k. Some (the_set (members_numbered (map pure_val members.now) numbers.now k))) axis.now) }
+    ensures { IfOk result (λ r. map (option_map pure_val) r ≡
+        map (λ k. Some (the_set (members_numbered (map pure_val members.now) numbers.now k))) axis.now) }
 {
     let mut parts = Row::with_capacity(alloc, axis.len())?;
     for number in axis {

@@ -26,7 +26,8 @@ pub fn partition_parts(
     kind: ReprKind,
     val: &Val,
 ) -> Result<Option<Row<Val>>, NoMemory>
-    ensures { IfOk result (λ o. (ks : List Attribute) (d : Domain) → option_map (map pure_val) o ≡ option_map (λ l. inner_values l (pure_val val.now)) (layer kind (partitions ks d))) }
+    ensures { IfOk result (λ o. (ks : List Attribute) (d : Domain) → option_map (map pure_val) o ≡
+        option_map (λ l. inner_values l (pure_val val.now)) (layer kind (partitions ks d))) }
 {
     match kind {
         ReprKind::PartitionOccurrence => Ok(Some(Row::new(alloc))),
@@ -35,7 +36,7 @@ pub fn partition_parts(
     }
 }
 
-/// The canonical tables of a partition; `inner` are those of its parts, over the axes `axes`. Nothing where the kind isn't one of
+/// The canonical tables of a partition; `inner` are those of its parts, in order. Nothing where the kind isn't one of
 /// partitions. `NoMemory` where there is no room for them.
 #[tactic(auto, using(crate::proofs::PartitionCalls::numbers_called, crate::proofs::PartitionCalls::parts_called))]
 pub fn partition_down(
@@ -45,9 +46,11 @@ pub fn partition_down(
     val: &Val,
     inner: Row<Row<Table>>,
 ) -> Result<Option<Row<Table>>, NoMemory>
-    ensures { IfOk result (λ o. (ks : List Attribute) (ass : List (List (List ℤ))) (rs : Reprs) → Covered (repr kind rs) (partitions ks (pure_closed member.now)) →
+    ensures { IfOk result (λ o. (ks : List Attribute) (ass : List (List (List ℤ))) (rs : Reprs) →
+        Covered (repr kind rs) (partitions ks (pure_closed member.now)) →
         PartsFit kind rs (partitions ks (pure_closed member.now)) (pure_val val.now) ass (map pure_tables inner) →
-        option_map pure_tables o ≡ layer_tables (repr kind rs) (partitions ks (pure_closed member.now)) (pure_val val.now) (map pure_tables inner)) }
+        option_map pure_tables o ≡
+        layer_tables (repr kind rs) (partitions ks (pure_closed member.now)) (pure_val val.now) (map pure_tables inner)) }
 {
     match kind {
         ReprKind::PartitionOccurrence => Ok(Some(number_tables(alloc, member, val)?)),

@@ -26,7 +26,8 @@ pub fn relation_parts(
     kind: ReprKind,
     val: &Val,
 ) -> Result<Option<Row<Val>>, NoMemory>
-    ensures { IfOk result (λ o. (ks : List Attribute) (ds : Domains) → option_map (map pure_val) o ≡ option_map (λ l. inner_values l (pure_val val.now)) (layer kind (relations ks ds))) }
+    ensures { IfOk result (λ o. (ks : List Attribute) (ds : Domains) → option_map (map pure_val) o ≡
+        option_map (λ l. inner_values l (pure_val val.now)) (layer kind (relations ks ds))) }
 {
     match kind {
         ReprKind::RelationAsMatrix => Ok(Some(Row::new(alloc))),
@@ -35,7 +36,7 @@ pub fn relation_parts(
     }
 }
 
-/// The canonical tables of a relation; `inner` are those of its parts, over the axes `axes`. Nothing where the kind isn't one of
+/// The canonical tables of a relation; `inner` are those of its parts, in order. Nothing where the kind isn't one of
 /// relations. `NoMemory` where there is no room for them.
 #[tactic(auto, using(crate::proofs::RelationCalls::matrix_called, crate::proofs::RelationCalls::set_called))]
 pub fn relation_down(
@@ -45,9 +46,11 @@ pub fn relation_down(
     val: &Val,
     inner: Row<Row<Table>>,
 ) -> Result<Option<Row<Table>>, NoMemory>
-    ensures { IfOk result (λ o. (ks : List Attribute) (ass : List (List (List ℤ))) (rs : Reprs) → Covered (repr kind rs) (relations ks (pure_closeds components.now)) →
+    ensures { IfOk result (λ o. (ks : List Attribute) (ass : List (List (List ℤ))) (rs : Reprs) →
+        Covered (repr kind rs) (relations ks (pure_closeds components.now)) →
         PartsFit kind rs (relations ks (pure_closeds components.now)) (pure_val val.now) ass (map pure_tables inner) →
-        option_map pure_tables o ≡ layer_tables (repr kind rs) (relations ks (pure_closeds components.now)) (pure_val val.now) (map pure_tables inner)) }
+        option_map pure_tables o ≡
+        layer_tables (repr kind rs) (relations ks (pure_closeds components.now)) (pure_val val.now) (map pure_tables inner)) }
 {
     match kind {
         ReprKind::RelationAsMatrix => Ok(Some(matrix_tables(alloc, components, val)?)),
@@ -68,7 +71,8 @@ pub fn relation_up(
 ) -> Result<Option<Val>, NoMemory>
     ensures { IfOk result (λ o. (ks : List Attribute) (rs : Reprs) → Covered (repr kind rs) (relations ks (pure_closeds components.now)) →
         over_axes [] (axes_of (repr kind rs) (relations ks (pure_closeds components.now))) (pure_tables tables.now) ≡ true →
-        option_map pure_val o ≡ layer_value kind (relations ks (pure_closeds components.now)) (pure_tables tables.now) (map pure_val vals)) }
+        option_map pure_val o ≡
+        layer_value kind (relations ks (pure_closeds components.now)) (pure_tables tables.now) (map pure_val vals)) }
 {
     match kind {
         ReprKind::RelationAsMatrix => {

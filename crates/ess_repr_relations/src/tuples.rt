@@ -24,7 +24,8 @@ pub fn matrix_tables(
 ) -> Result<Row<Table>, NoMemory>
     ensures { IfOk result (λ ts. map pure_table ts ≡ record {
       axes = map codes_of (domain_list (pure_closeds components.now));
-      items = map (λ x. truth_number (is_held (the_items (pure_val val.now)) x)) (list_of_members (tuples_of (pure_closeds components.now)));
+      items = map (λ x. truth_number (is_held (the_items (pure_val val.now)) x)) (list_of_members (tuples_of
+          (pure_closeds components.now)));
     } ∷ []) }
 {
     let members = tuple_members(alloc, components)?;
@@ -43,7 +44,8 @@ pub fn matrix_relation(
     components: &[Closed],
     items: &[i64],
 ) -> Result<Option<Val>, NoMemory>
-    ensures { IfOk result (λ o. option_map pure_val o ≡ option_map (λ xs. node a_relation (of_list xs)) (picked_of items.now (list_of_members (tuples_of (pure_closeds components.now))))) }
+    ensures { IfOk result (λ o. option_map pure_val o ≡
+        option_map (λ xs. node a_relation (of_list xs)) (picked_of items.now (list_of_members (tuples_of (pure_closeds components.now))))) }
 {
     let members = tuple_members(alloc, components)?;
     match picked(alloc, items, members.as_slice())? {

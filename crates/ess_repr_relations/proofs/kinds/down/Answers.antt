@@ -8,13 +8,15 @@ use Rattle.ess_repr_relations.proofs.kinds.down.Goals as goal
 pub returns-in-Relation : goal.returns-in-Relation
 returns-in-Relation c =
     IfOk-weaker c.relation_down.result _ _
-    (λ o q. relation_tables_over c.args.kind c.args.domain.now c.as_slice.result.now c.in-Relation.components _ c.in-Relation.is c.as_slice.ensures
+    (λ o q. relation_tables_over c.args.kind c.args.domain.now c.as_slice.result.now c.in-Relation.components _
+    c.in-Relation.is c.as_slice.ensures
     (pure_val c.args.val.now) (map pure_tables c.args.inner) (option_map pure_tables o) q)
     c.relation_down.ensures
 
 pub returns-in-Partition : goal.returns-in-Partition
 returns-in-Partition c =
     IfOk-weaker c.partition_down.result _ _
-    (λ o q. partition_tables_over c.args.kind c.args.domain.now c.get.result.now c.in-Partition.member _ c.in-Partition.is c.get.ensures
+    (λ o q. partition_tables_over c.args.kind c.args.domain.now c.get.result.now c.in-Partition.member _
+    c.in-Partition.is c.get.ensures
     (pure_val c.args.val.now) (map pure_tables c.args.inner) (option_map pure_tables o) q)
     c.partition_down.ensures

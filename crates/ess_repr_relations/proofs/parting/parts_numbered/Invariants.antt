@@ -6,4 +6,5 @@ use Rattle.ess_repr_relations.proofs.parting.parts_numbered.Given as goal
 
 abbrev pub invariant-loop-number : goal.invariant-loop-number
 invariant-loop-number l =
-    map (option_map pure_val) l.parts ≡ map (λ k. Some (set_of (members_numbered (map pure_val l.members) l.numbers k))) (take l.number-index l.axis)
+    map (option_map pure_val) l.parts ≡ map (λ k. Some (set_of (members_numbered (map pure_val l.members) l.numbers k)))
+    (take l.number-index l.axis)

@@ -10,6 +10,8 @@ pub returns-in_ok-matrix_relation-in-RelationAsMatrix : goal.returns-in_ok-matri
 returns-in_ok-matrix_relation-in-RelationAsMatrix c =
     let is = c.in-RelationAsMatrix.is in
     let e : c.args.kind ≡ ReprKind.RelationAsMatrix = cc in
-    subst (λ k. UpOfRelation k (pure_closeds c.args.components.now) (pure_tables c.args.tables.now) (map pure_val c.args.vals) c.in_ok-matrix_relation-in-RelationAsMatrix.field-0) (sym e)
-    (λ ks rs. matrix_meant ks (pure_closeds c.args.components.now) (pure_tables c.args.tables.now) (map pure_val c.args.vals) c.in_ok-matrix_relation-in-RelationAsMatrix.field-0 rs c.first_items.result.now c.first_items.ensures
+    subst (λ k. UpOfRelation k (pure_closeds c.args.components.now) (pure_tables c.args.tables.now)
+    (map pure_val c.args.vals) c.in_ok-matrix_relation-in-RelationAsMatrix.field-0) (sym e)
+    (λ ks rs. matrix_meant ks (pure_closeds c.args.components.now) (pure_tables c.args.tables.now)
+    (map pure_val c.args.vals) c.in_ok-matrix_relation-in-RelationAsMatrix.field-0 rs c.first_items.result.now c.first_items.ensures
     c.in_ok-matrix_relation-in-RelationAsMatrix.ensures)
