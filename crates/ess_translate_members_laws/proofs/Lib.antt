@@ -1,0 +1,2 @@
+pub mod PlainLayers
+pub mod PlainDeclarations

@@ -1,0 +1,4 @@
+-- Cells as numbers
+pub mod CellForms
+-- What is said of them
+pub mod Laws
