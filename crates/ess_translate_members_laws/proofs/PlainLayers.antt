@@ -1,5 +1,5 @@
 -- A layer over a domain with positions has the axes and the cells' numbers of the layer over the domain, and children with positions.
-use Rattle.std.proofs.Common.{◌≡◌, refl, sym, ap, ◌∙◌, ℕ, suc, ◌*◌, Bool, true, false, if◌then◌else◌, List, [], ◌∷◌, map, pos, ◌+ℤ◌, Option, Some, None}
+use Rattle.std.proofs.Common.{◌≡◌, refl, sym, ap, ◌∙◌, ℕ, ◌*◌, Bool, true, false, if◌then◌else◌, List, [], ◌∷◌, map, pos, ◌+ℤ◌, Option, Some, None}
 use Rattle.ess_semantics.specs.declared.words.ReprKind.{ReprKind}
 use Rattle.ess_semantics.specs.declared.words.Key.{Key}
 use Rattle.ess_semantics.specs.Lists.{or_default, or_else}
