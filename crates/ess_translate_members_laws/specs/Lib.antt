@@ -1,5 +1,6 @@
 -- Cells as numbers
 pub mod CellForms
+pub mod LayerCells
 -- Plans with their domains
 pub mod PlanDomains
 -- A model beside its header
