@@ -22,7 +22,7 @@ use Rattle.ess_repr_structure_laws.proofs.BuiltParts as C
 use Rattle.ess_repr_structure_laws.proofs.BuiltSets as D
 use Rattle.ess_repr_structure_laws.proofs.BuiltViews as V
 
-module _ (q : ℕ → Text) (P : Ex → Type 0) (L : Dom → Type 0) (built : BuiltOf q P L) where
+module _ (q : ℕ → Text) (P : Ex → Type 0) (L : Dom → Type 0) {F : Type 0} (built : BuiltOf q P L F) where
   abbrev AllHave : Exs → Type 0
   AllHave = B.AllHave P
 
@@ -87,7 +87,7 @@ module _ (q : ℕ → Text) (P : Ex → Type 0) (L : Dom → Type 0) (built : Bu
   pub shapes-have : (r : Repr) (d : Dom) (ns : List Text) → Good d → ShapesHave (shapes q size_terms r d ns)
   shapes-have = S.shapes-have q P L (B.sized q P L built)
 
-module _ (q : ℕ → Text) (P : Ex → Type 0) (L : Dom → Type 0) (built : BuiltOf q P L)
+module _ (q : ℕ → Text) (P : Ex → Type 0) (L : Dom → Type 0) (built : BuiltOf q P L (Unit {0}))
     (views : (r : Repr) (d : Dom) (ns : List Text) (es : Exs) → B.DomHas P d → B.AllHave P es → P (seen_ex r d ns es)) where
   -- ---- structures
 

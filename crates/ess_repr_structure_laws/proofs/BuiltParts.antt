@@ -11,7 +11,7 @@ use Rattle.ess_repr_structure_laws.proofs.BuiltShapes.{AxesHave}
 use Rattle.ess_repr_structure_laws.proofs.BuiltStructures as B
 use Rattle.ess_repr_structure_laws.proofs.BuiltStructures.{is_used, BuiltOf, one-has, two-have, word-has, lists-have}
 
-module _ (q : ℕ → Text) (P : Ex → Type 0) (L : Dom → Type 0) (built : BuiltOf q P L) where
+module _ (q : ℕ → Text) (P : Ex → Type 0) (L : Dom → Type 0) {F : Type 0} (built : BuiltOf q P L F) where
   abbrev AllHave : Exs → Type 0
   AllHave = B.AllHave P
 
@@ -22,7 +22,7 @@ module _ (q : ℕ → Text) (P : Ex → Type 0) (L : Dom → Type 0) (built : Bu
   ListHas = B.ListHas P
 
   abbrev GensHave : Gens → Type 0
-  GensHave = B.GensHave q P
+  GensHave = B.GensHave q P F
 
   -- ---- connectives and comparisons
 

@@ -8,7 +8,7 @@ use Rattle.ess_repr_structure_laws.proofs.BuiltStructures as B
 use Rattle.ess_repr_structure_laws.proofs.BuiltStructures.{is_used, BuiltOf, one-has, two-have, word-has, lists-have}
 use Rattle.ess_repr_structure_laws.proofs.BuiltParts as C
 
-module _ (q : ℕ → Text) (P : Ex → Type 0) (L : Dom → Type 0) (built : BuiltOf q P L) where
+module _ (q : ℕ → Text) (P : Ex → Type 0) (L : Dom → Type 0) {F : Type 0} (built : BuiltOf q P L F) where
   abbrev AllHave : Exs → Type 0
   AllHave = B.AllHave P
 

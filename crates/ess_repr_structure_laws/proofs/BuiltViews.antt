@@ -18,7 +18,7 @@ use Rattle.ess_repr_structure_laws.proofs.BuiltStructures as B
 use Rattle.ess_repr_structure_laws.proofs.BuiltStructures.{BuiltOf, two-have, word-has}
 use Rattle.ess_repr_structure_laws.proofs.BuiltParts as C
 
-module _ (q : ℕ → Text) (P : Ex → Type 0) (L : Dom → Type 0) (built : BuiltOf q P L) where
+module _ (q : ℕ → Text) (P : Ex → Type 0) (L : Dom → Type 0) (built : BuiltOf q P L (Unit {0})) where
   abbrev AllHave : Exs → Type 0
   AllHave = B.AllHave P
 
@@ -55,17 +55,17 @@ module _ (q : ℕ → Text) (P : Ex → Type 0) (L : Dom → Type 0) (built : Bu
   component-has d k e h = built.nodes (is_bool_dom d) (index (to_component k ∷ [])) (more_exs e no_exs) refl (h, tt)
 
   every-has : (l : ℕ) (e test : Ex) → P e → P test → P (every_item_ex q l e test)
-  every-has l e test h t = C.all-has q P L built test _ t ((l, refl), h, tt)
+  every-has l e test h t = C.all-has q P L built test _ t ((l, refl), h, tt, tt)
 
   -- That components differ.
   pub differ-has : (l : ℕ) (d : Dom) (k : ℕ) (e : Ex) → P e → P (components_differ_ex q l d k e)
-  differ-has l d k e h = C.differ-has q P L built _ _ (component-has d k (name_ex (q l)) (name-has l)) ((l, refl), h, tt)
+  differ-has l d k e h = C.differ-has q P L built _ _ (component-has d k (name_ex (q l)) (name-has l)) ((l, refl), h, tt, tt)
 
   taken-has : (l : ℕ) (c : Dom) (e : Ex) → DomHas c → P e → P (all_taken_ex q l c e)
   taken-has l c e d h =
       C.all-has q P L built _ _
       (C.some-has q P L built _ _ (eq-has _ (name_ex (q l)) (component-has c 2 (name_ex (q (suc l))) (name-has (suc l))) (name-has l))
-      ((suc l, refl), h, tt))
+      ((suc l, refl), h, tt, tt))
       ((l, refl), d, tt)
 
   pub pair-key-has : (l : ℕ) (c : Dom) (e : Ex) (k : Key) → DomHas c → P e → P (pair_key_ex q l c e k)
@@ -101,14 +101,14 @@ module _ (q : ℕ → Text) (P : Ex → Type 0) (L : Dom → Type 0) (built : Bu
   held-has l e h =
       C.sum-has q P L built _ _ (C.number-has q P L built _
       (two-have q P L built true Op2.Member (name_ex (q l)) (name_ex (q (suc l))) refl (name-has l) (name-has (suc l))))
-      ((suc l, refl), h, tt)
+      ((suc l, refl), h, tt, tt)
 
   one-size-has : (l : ℕ) (e : Ex) → P e → P (one_size_ex q l e)
   one-size-has l e h =
       C.all-has q P L built _ _
       (C.all-has q P L built _ _ (eq-has _ _ (C.bar-has q P L built (name_ex (q l)) (name-has l))
-      (C.bar-has q P L built (name_ex (q (suc l))) (name-has (suc l)))) ((suc l, refl), h, tt))
-      ((l, refl), h, tt)
+      (C.bar-has q P L built (name_ex (q (suc l))) (name-has (suc l)))) ((suc l, refl), h, tt, tt))
+      ((l, refl), h, tt, tt)
 
   regular-has : (e : Ex) (k : Key) → P e → P (regular_key_ex e k)
   regular-has e Key.Regular h = h

@@ -50,19 +50,19 @@ module _ (env0 : Env) (q : ℕ → Text) (q-apart : (m l : ℕ) → l < m → sa
   H = M'.H env0 q q-apart
 
   -- What structures are built of, but for views.
-  pub built : BuiltOf q G Any
+  pub built : BuiltOf q G Any (Unit {0})
   built = P.built-met env0 q q-apart (M'.Always env0 q q-apart) (λ k. k) (λ bs k v r. tt)
 
   -- The same of what stands under the names of index lists.
-  built-later : (l : ℕ) (bs : Names) → BuiltOf (λ k. q (name_from l k)) (H l bs) Any
+  built-later : (l : ℕ) (bs : Names) → BuiltOf (λ k. q (name_from l k)) (H l bs) Any (Unit {0})
   built-later l bs = P.built-met env0 q q-apart (Later env0 q q-apart l bs) (name_from l) (later-more env0 q q-apart l bs)
 
   -- Names and 1.
   pub name-met : (l : ℕ) → G (name_ex (q l))
-  name-met l = let k : BuiltOf q G Any = built in k.names l
+  name-met l = let k : BuiltOf q G Any (Unit {0}) = built in k.names l
 
   pub one-met : G (number_ex (pos 1))
-  one-met = let k : BuiltOf q G Any = built in k.one
+  one-met = let k : BuiltOf q G Any (Unit {0}) = built in k.one
 
   dom-later : (l : ℕ) (bs : Names) (d : Dom) → B.DomHas G d → B.DomHas (H l bs) d
   dom-later l bs d h = B.dom-more G (H l bs) (M'.always-later env0 q q-apart l bs) d h

@@ -78,7 +78,7 @@ module _ (env0 : Env) (q : ℕ → Text) (q-apart : (m l : ℕ) → l < m → sa
     doms-met no_doms h bs r = tt
     doms-met (more_doms d ds) h bs r = (dom-met d h.0 bs r, doms-met ds h.1 bs r)
 
-  gens-met : (gs : Gens) (e : Ex) → W e → B.GensHave own_name W gs → (bs : Names) → R bs → MeetsGens gs (N bs) (λ here. Meets e here)
+  gens-met : (gs : Gens) (e : Ex) → W e → B.GensHave own_name W (Unit {0}) gs → (bs : Names) → R bs → MeetsGens gs (N bs) (λ here. Meets e here)
   gens-met no_gens e t h bs r = t.at bs r
   gens-met (over (name_pat a) d gs) e t h bs r =
       subst (λ n. MeetsGens (over (name_pat n) d gs) (N bs) (λ here. Meets e here)) (sym h.0.1) (
@@ -113,7 +113,7 @@ module _ (env0 : Env) (q : ℕ → Text) (q-apart : (m l : ℕ) → l < m → sa
   }
 
   -- What structures are built of is so.
-  pub built-met : BuiltOf own_name W Any
+  pub built-met : BuiltOf own_name W Any (Unit {0})
   built-met = record {
     truths = λ b. record { at = λ bs r. tt };
     zero = record { at = λ bs r. tt };
