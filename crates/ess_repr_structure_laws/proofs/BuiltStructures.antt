@@ -207,8 +207,8 @@ module _ (P : Ex → Type 0) (L : Dom → Type 0) where
           part-good ms es d g,
         )
 
-module _ (q : ℕ → Text) (P : Ex → Type 0) (L : Dom → Type 0) (F : Type 0) where
-  -- What structures are built of has the property, with generators over items where F says so.
+module _ (q : ℕ → Text) (P : Ex → Type 0) (L : Dom → Type 0) (F H : Type 0) where
+  -- What structures are built of has the property, with generators over items where F says so, and cells where H does.
   pub record BuiltOf : Type 0 where
     pub truths : (b : Bool) → P (truth_ex b)
     pub zero : P (number_ex (pos 0))
@@ -216,11 +216,11 @@ module _ (q : ℕ → Text) (P : Ex → Type 0) (L : Dom → Type 0) (F : Type 0
     pub names : (l : ℕ) → P (name_ex (q l))
     pub nodes : (b : Bool) (op : Op) (es : Exs) → is_used op ≡ true → AllHave P es → P (node_ex b op es)
     pub comps : (e : Ex) (gs : Gens) → P e → GensHave q P F gs → P (comp_ex e gs)
-    pub cells : (b : Bool) (n : Text) (es : Exs) → AllHave P es → P (cell_ex b n es)
+    pub cells : (b : Bool) (n : Text) (es : Exs) → AllHave P es → H → P (cell_ex b n es)
     pub bounds : (d : Dom) → Good P L d → P (bound_ex d)
     pub listed : (a : Text) → Good P L (name_dom a) → P (listed_ex (name_dom a))
 
-module _ (q : ℕ → Text) (P : Ex → Type 0) (L : Dom → Type 0) {F : Type 0} (B : BuiltOf q P L F) where
+module _ (q : ℕ → Text) (P : Ex → Type 0) (L : Dom → Type 0) {F H : Type 0} (B : BuiltOf q P L F H) where
   -- An operator on one and on two operands.
   pub one-has : (b : Bool) (o : Op1) (a : Ex) → is_used (unary o) ≡ true → P a → P (ex1 b o a)
   one-has b o a u h = B.nodes b (unary o) (more_exs a no_exs) u (h, tt)

@@ -132,7 +132,7 @@ module _ (q : ℕ → Text) (P : ℤ → Type 0) (p0 : P (pos 0)) (p1 : P (pos 1
   }
 
   -- What structures are built of spells such numbers.
-  built-in : BuiltOf q K Any (Unit {0})
+  built-in : BuiltOf q K Any (Unit {0}) (Unit {0})
   built-in = record {
     truths = λ b i. tt;
     zero = zero-in;
@@ -140,7 +140,7 @@ module _ (q : ℕ → Text) (P : ℤ → Type 0) (p0 : P (pos 0)) (p1 : P (pos 1
     names = λ l i. tt;
     nodes = λ b op es u a. node-in b op es (and-right (is_safe op) (counts_nothing op) u) a;
     comps = λ e gs h g. comp-in e gs h (gens-in gs g);
-    cells = λ b n es a i. operands-in es a false;
+    cells = λ b n es a h i. operands-in es a false;
     bounds = bound-has K Any sizes-in;
     listed = λ a g. listed-in (name_dom a) tt;
   }

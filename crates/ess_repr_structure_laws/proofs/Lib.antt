@@ -25,6 +25,7 @@ pub mod BuiltStructures
 pub mod BuiltShapes
 pub mod BuiltParts
 pub mod BuiltSets
+pub mod BuiltItems
 pub mod BuiltViews
 pub mod BuiltSizes
 pub mod BuiltAll

@@ -142,7 +142,7 @@ module _ (env0 : Env) (q : ℕ → Text) (q-apart : (m l : ℕ) → l < m → sa
         }) g.1
 
   -- What structures are built of is total.
-  built-total : BuiltOf q T Sized (Unit {0})
+  built-total : BuiltOf q T Sized (Unit {0}) (Unit {0})
   built-total = record {
     truths = λ b bs. tt;
     zero = λ bs. tt;
@@ -150,7 +150,7 @@ module _ (env0 : Env) (q : ℕ → Text) (q-apart : (m l : ℕ) → l < m → sa
     names = λ l bs. tt;
     nodes = λ b op es u a bs. safe-total b op es (N bs) (and-left (is_safe op) (counts_nothing op) u) (all-total es a bs);
     comps = λ e gs t h bs. under-total gs e t h bs;
-    cells = λ b n es a bs. all-total es a bs;
+    cells = λ b n es a h bs. all-total es a bs;
     bounds = λ d g bs. let b : BoundIs (bound_ex d) bs = bound-is d g bs in b.total;
     listed = λ a g bs. listed-total (N bs) (name_dom a) tt;
   }
