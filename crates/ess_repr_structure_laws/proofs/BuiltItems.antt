@@ -1,5 +1,5 @@
 -- What structures say of the items of views is built of what has a property.
-use Rattle.std.proofs.Common.{refl, ℕ, suc, Bool, true, false, List, [], ◌∷◌, pos, if◌then◌else◌}
+use Rattle.std.proofs.Common.{refl, ℕ, suc, true, false, List, [], ◌∷◌, pos}
 use Rattle.ess_semantics.specs.declared.words.Op1.{Op1}
 use Rattle.ess_semantics.specs.declared.words.Op2.{Op2}
 use Rattle.ess_semantics.specs.declared.words.Fun.{Fun}
@@ -7,13 +7,12 @@ use Rattle.ess_semantics.specs.declared.words.Key.{Key}
 use Rattle.ess_semantics.specs.Values.{Text}
 use Rattle.ess_semantics.specs.Meaning.{is_bool_dom}
 use Rattle.ess_semantics.specs.Kinds.{has_key}
-use Rattle.ess_semantics.specs.Trees.{index, to_component, word, tuple_literal, Repr, Mark, flag, valued, Ex, Exs, number_ex, truth_ex, name_ex, node_ex, cell_ex, no_exs, more_exs, Dom, Doms, no_doms, more_doms, ex1, ex2}
-use Rattle.ess_repr_laws.specs.StructureParts.{Shape, and_ex, or_ex, le_ex, keys_ex, row_index, each_ex, place_count_ex, true_count_ex, level_behind}
+use Rattle.ess_semantics.specs.Trees.{index, to_component, word, tuple_literal, Mark, flag, valued, Ex, Exs, number_ex, truth_ex, name_ex, node_ex, no_exs, more_exs, Dom, Doms, no_doms, more_doms, ex1, ex2}
+use Rattle.ess_repr_laws.specs.StructureParts.{and_ex, or_ex, le_ex, keys_ex}
 use Rattle.ess_repr_laws.specs.ViewParts.{component_ex, every_item_ex, components_differ_ex, all_taken_ex, pair_key_ex, exact_size_ex, total_size_ex, pairs_ex, times_held_ex, one_size_ex, regular_key_ex, parts_ex}
-use Rattle.ess_repr_laws.specs.RelationParts.{has_pair_ex, first_ex, second_ex, turned_ex, parts_same_ex, pair_relation_key_ex, relation_key_ex, relation_ex}
-use Rattle.ess_repr_laws.specs.FunctionParts.{is_one_cell, differ_ex, value_key_ex, total_ex, flag_key_ex, partial_ex}
+use Rattle.ess_repr_laws.specs.RelationParts.{has_pair_ex, first_ex, second_ex, turned_ex, parts_same_ex, pair_relation_key_ex, relation_key_ex}
 use Rattle.ess_repr_laws.specs.MultisetParts.{freq_ex, occurs_key_ex, occurs_ex}
-use Rattle.ess_repr_laws.specs.PartitionParts.{part_number_ex, after_ex, numbered_on_ex, taken_ex, each_size_ex, part_key_ex, part_sizes_ex, numbered_ex}
+use Rattle.ess_repr_laws.specs.PartitionParts.{each_size_ex, part_key_ex, part_sizes_ex}
 use Rattle.ess_repr_structure_laws.proofs.BuiltStructures as B
 use Rattle.ess_repr_structure_laws.proofs.BuiltStructures.{BuiltOf, two-have, word-has}
 use Rattle.ess_repr_structure_laws.proofs.BuiltParts as C

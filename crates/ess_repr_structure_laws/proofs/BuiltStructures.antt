@@ -134,6 +134,26 @@ module _ (P : Ex → Type 0) (L : Dom → Type 0) where
   list-has no_doms g = tt
   list-has (more_doms d ds) g = (good-has d g.0, list-has ds g.1)
 
+-- So good domains are good for Q.
+module _ (P Q : Ex → Type 0) (L : Dom → Type 0) (f : (e : Ex) → P e → Q e) where
+  mutual
+    pub good-more : (d : Dom) → Good P L d → Good Q L d
+    good-more bool_dom g = tt
+    good-more (int_dom rs es) g = (g.0, have-more P Q f es g.1)
+    good-more (name_dom a) g = g
+    good-more (tuple_dom ds) g = all-good-more ds g
+    good-more (record_dom fs ds) g = all-good-more ds g
+    good-more (matrix_dom is d) g = (all-good-more is g.0, good-more d g.1)
+    good-more (set_dom ms es d) g = (have-more P Q f es g.0, good-more d g.1)
+    good-more (mset_dom ms es d) g = (g.0, have-more P Q f es g.1, good-more d g.2)
+    good-more (function_dom ms es d c) g = (have-more P Q f es g.0, good-more d g.1, good-more c g.2)
+    good-more (relation_dom ms es ds) g = (have-more P Q f es g.0, all-good-more ds g.1)
+    good-more (partition_dom ms es d) g = (have-more P Q f es g.0, good-more d g.1)
+
+    pub all-good-more : (ds : Doms) → AllGood P L ds → AllGood Q L ds
+    all-good-more no_doms g = tt
+    all-good-more (more_doms d ds) g = (good-more d g.0, all-good-more ds g.1)
+
 module _ (q : ℕ → Text) (P : Ex → Type 0) (F : Type 0) where
   -- Generators over domains and items, and conditions, that have it, where the names are those of q. F says whether there may be ones over
   -- items.

@@ -61,6 +61,9 @@ pub mod FullTuples
 pub mod FullLayers
 pub mod FullAll
 pub mod FullNumbers
+pub mod PassingParts
+pub mod FreeUnder
+pub mod FreeStructures
 pub mod FullViews
 -- Worked examples
 pub mod ExamplesStructures
