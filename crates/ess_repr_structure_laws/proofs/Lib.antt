@@ -25,6 +25,7 @@ pub mod BuiltStructures
 pub mod BuiltShapes
 pub mod BuiltParts
 pub mod BuiltSets
+pub mod BuiltItems
 pub mod BuiltViews
 pub mod BuiltSizes
 pub mod BuiltAll
@@ -60,6 +61,9 @@ pub mod FullTuples
 pub mod FullLayers
 pub mod FullAll
 pub mod FullNumbers
+pub mod PassingParts
+pub mod FreeUnder
+pub mod FreeStructures
 pub mod FullViews
 -- Worked examples
 pub mod ExamplesStructures

@@ -33,8 +33,8 @@ pub fn tables_meet_structures()
     ensures { TablesMeetStructures }
 {}
 
-/// Tables on the declared axes with items in the declared domains are full for the structure constraint, where its view's domain reads no
-/// table.
+/// Tables on the declared axes with items in the declared domains are full for the structure constraint, and no name over items stands in an
+/// index list under it, where its view's domain reads no table.
 pub fn tables_are_full()
     ensures { TablesAreFull }
 {}
