@@ -34,3 +34,7 @@ pub mod MovingConditions
 pub mod ExamplesExtremes
 pub mod ExamplesAlternatives
 pub mod ExamplesLists
+mod CountedOnce
+mod ItemsOnceOver
+mod ItemsOnce
+mod ExamplesItemsOnce

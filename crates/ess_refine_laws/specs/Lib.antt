@@ -14,3 +14,4 @@ pub mod IndexedLists
 pub mod ExtremeAlternatives
 pub mod Copies
 pub mod MovingConditions
+pub mod ItemsOnce
