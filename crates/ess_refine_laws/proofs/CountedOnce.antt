@@ -75,7 +75,8 @@ module _ (f : Value → List Value) where
       new-count q (v ∷ vs) w t
       ∙ ap (λ c. if not (q t || holds (all_of (if c then v ∷ filter (λ s. below s w) vs else filter (λ s. below s w) vs)) t)
       then (if holds (f w) t then 1 else 0) else 0) b
-      ∙ ap (λ c. if not (q t || c) then (if holds (f w) t then 1 else 0) else 0) (holds-append (f v) (all_of (filter (λ s. below s w) vs)) t)
+      ∙ ap (λ c. if not (q t || c) then (if holds (f w) t then 1 else 0) else 0)
+      (holds-append (f v) (all_of (filter (λ s. below s w) vs)) t)
       ∙ ap (λ c. if not c then (if holds (f w) t then 1 else 0) else 0)
       (shift (q t) (holds (f v) t) (holds (all_of (filter (λ s. below s w) vs)) t))
       ∙ sym (new-count (λ u. q u || holds (f v) u) vs w t)

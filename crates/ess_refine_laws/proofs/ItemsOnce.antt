@@ -70,11 +70,13 @@ over-offers y z w x d e gs env o t m a = go (members_in (domain_of d env)) refl 
     there None h = cc
     there (Some vs) h = (each-collected vs At0 (is-there (collect vs At0) h), refl)
       where
-        is-there : (c : Option (List Value)) → is_some (value_of_node (word Fun.ToSet) (option_map list_value c ∷ [])) ≡ true → is_some c ≡ true
+        is-there : (c : Option (List Value)) → is_some (value_of_node (word Fun.ToSet) (option_map list_value c ∷ [])) ≡ true →
+            is_some c ≡ true
         is-there None h = cc
         is-there (Some c) h = refl
 
-    go : (p : Option (List Value)) → members_in (domain_of d env) ≡ p → EachOf p (λ v. At0 v ≡ Some (list_or_none (At0 v))) × IsTrue (is_some p) →
+    go : (p : Option (List Value)) → members_in (domain_of d env) ≡ p →
+        EachOf p (λ v. At0 v ≡ Some (list_or_none (At0 v))) × IsTrue (is_some p) →
         EachOf p (λ v. MeetsGens gs (behind x v env) (λ here. Meets e here)) →
         Offers (set_of_items e (over (name_pat x) d gs))
         (items_over y z w x d e gs ∷ []) env

@@ -37,7 +37,8 @@ use Rattle.ess_refine_laws.proofs.CountedOnce.{none-held, all_of, new_of, once, 
 -- ---- domains of atoms
 
 -- The members of an atom rise.
-pub atom-rises : (d : Dom) (env : Env) (vs : List Value) → is_atom_dom d ≡ true → members_in (domain_of d env) ≡ Some vs → Rising order_total vs
+pub atom-rises : (d : Dom) (env : Env) (vs : List Value) → is_atom_dom d ≡ true → members_in (domain_of d env) ≡ Some vs →
+    Rising order_total vs
 atom-rises d env vs a m = rising (domain_of d env) (λ c q. of d a c q) m
   where
     atom : (b c : Domain) → Some b ≡ Some c → IsAtom b → IsAtom c

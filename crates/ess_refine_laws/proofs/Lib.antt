@@ -38,3 +38,9 @@ mod CountedOnce
 mod ItemsOnceOver
 mod ItemsOnce
 mod ExamplesItemsOnce
+mod Spelling
+mod SpellingParts
+mod SpellingRules
+mod SpellingContainers
+mod NumbersAreSpared
+mod ExamplesSpelling

@@ -15,3 +15,4 @@ pub mod ExtremeAlternatives
 pub mod Copies
 pub mod MovingConditions
 pub mod ItemsOnce
+pub mod Spelling

@@ -16,6 +16,7 @@ ghost use Rattle.ess_refine_laws.specs.IndexedLists.{ListsAreIndices};
 ghost use Rattle.ess_refine_laws.specs.SparingRules.{RulesSpare};
 ghost use Rattle.ess_refine_laws.specs.RecordNames.{NamesOverRecordsKeep};
 ghost use Rattle.ess_refine_laws.specs.ItemsOnce.{ItemsOnceOffer};
+ghost use Rattle.ess_refine_laws.specs.Spelling.{NumbersAreSpared};
 
 /// A refined number becomes one that is there wherever the names and cells in it are, and that is the same where the old one
 /// has a value.
@@ -100,4 +101,10 @@ pub fn names_over_records_keep()
 /// The set of the items of a comprehension offers each item once, generator by generator over domains of atoms.
 pub fn items_are_offered_once()
     ensures { ItemsOnceOffer }
+{}
+
+/// Every rule spells no new numbers but 0 and 1, where sets and multisets are counted wherever they stand, and so do any number of
+/// rules at parts.
+pub fn numbers_are_spared()
+    ensures { NumbersAreSpared }
 {}
