@@ -34,3 +34,13 @@ pub mod MovingConditions
 pub mod ExamplesExtremes
 pub mod ExamplesAlternatives
 pub mod ExamplesLists
+mod CountedOnce
+mod ItemsOnceOver
+mod ItemsOnce
+mod ExamplesItemsOnce
+mod Spelling
+mod SpellingParts
+mod SpellingRules
+mod SpellingContainers
+mod NumbersAreSpared
+mod ExamplesSpelling

@@ -14,3 +14,5 @@ pub mod IndexedLists
 pub mod ExtremeAlternatives
 pub mod Copies
 pub mod MovingConditions
+pub mod ItemsOnce
+pub mod Spelling

@@ -15,6 +15,8 @@ ghost use Rattle.ess_refine_laws.specs.ExtremeAlternatives.{AlternativesServe};
 ghost use Rattle.ess_refine_laws.specs.IndexedLists.{ListsAreIndices};
 ghost use Rattle.ess_refine_laws.specs.SparingRules.{RulesSpare};
 ghost use Rattle.ess_refine_laws.specs.RecordNames.{NamesOverRecordsKeep};
+ghost use Rattle.ess_refine_laws.specs.ItemsOnce.{ItemsOnceOffer};
+ghost use Rattle.ess_refine_laws.specs.Spelling.{NumbersAreSpared};
 
 /// A refined number becomes one that is there wherever the names and cells in it are, and that is the same where the old one
 /// has a value.
@@ -94,4 +96,15 @@ pub fn rules_spare()
 /// A name over a record of domains may run over the records of new names over the components.
 pub fn names_over_records_keep()
     ensures { NamesOverRecordsKeep }
+{}
+
+/// The set of the items of a comprehension offers each item once, generator by generator over domains of atoms.
+pub fn items_are_offered_once()
+    ensures { ItemsOnceOffer }
+{}
+
+/// Every rule spells no new numbers but 0 and 1, where sets and multisets are counted wherever they stand, and so do any number of
+/// rules at parts.
+pub fn numbers_are_spared()
+    ensures { NumbersAreSpared }
 {}
