@@ -1,0 +1,5 @@
+pub mod PlainLayers
+pub mod PlainDeclarations
+pub mod RunsOnce
+pub mod SideTables
+mod ExamplesMembers
