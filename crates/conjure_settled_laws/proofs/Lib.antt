@@ -8,4 +8,5 @@ pub mod FixedParts
 pub mod StaysLater
 pub mod JudgedStatements
 pub mod SettledStatements
+pub mod EndValues
 mod ExamplesSettled

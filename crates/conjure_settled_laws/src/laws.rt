@@ -1,8 +1,13 @@
 //! Laws of well typed specifications, each the contract of a function that does nothing.
 
-ghost use Rattle.conjure_settled_laws.specs.Laws.{TypedIsSettled};
+ghost use Rattle.conjure_settled_laws.specs.Laws.{TypedIsSettled, TypedHasEndValues};
 
 /// Each statement of a well typed specification says at its place what it says behind all statements.
 pub fn typed_is_settled()
     ensures { TypedIsSettled }
+{}
+
+/// Behind all statements of a well typed specification each declared name has what its statement says.
+pub fn typed_has_end_values()
+    ensures { TypedHasEndValues }
 {}

@@ -36,7 +36,8 @@ HasDomain S p (size_plan t a) = (ns : List Text) × (look p.types t ≡ Some ns)
 HasDomain S p (value_plan f x r d ns) = (e : Domain) × PlanDomain S p r d ns e
 
 -- The parameter p gives x the value v, which is a member of the plan's domain; so it is with positions.
-pub record PlanMember (S : List Stm) (p : Assignment) (x : Text) (r : Repr) (d : Dom) (ns : List Named) (e : Domain) (v : Value) : Type 0 where
+pub record PlanMember (S : List Stm) (p : Assignment) (x : Text) (r : Repr) (d : Dom) (ns : List Named) (e : Domain) (v : Value) :
+    Type 0 where
   pub domain : PlanDomain S p r d ns e
   pub value : value_of p x ≡ Some v
   pub inside : member e v ≡ true
