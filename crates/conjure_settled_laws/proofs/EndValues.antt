@@ -1,10 +1,11 @@
 -- Behind all statements each declared name has what its statement says.
-use Rattle.std.proofs.Common.{◌≡◌, refl, sym, ap, ◌∙◌, ℕ, suc, Bool, true, false, ◌||◌, not, if◌then◌else◌, List, [], ◌∷◌, ◌++◌, map, Option, Some, None}
+use Rattle.std.proofs.Common.{◌≡◌, refl, sym, ap, ◌∙◌, ℕ, suc, Bool, true, false, ◌||◌, not, if◌then◌else◌, List, [], ◌∷◌, ◌++◌, map, inl, Option, Some, None}
 use Rattle.std.specs.List.{list_any}
 use Rattle.ess_semantics.specs.Lists.{append_all, list_or_none}
 use Rattle.ess_semantics.specs.Values.{Text, Value, item}
 use Rattle.ess_semantics.specs.Order.{same_text}
 use Rattle.ess_semantics.specs.Names.{Names, look, is_among, all_distinct}
+use Rattle.ess_semantics.specs.NameTokens.{is_name_token, are_name_tokens}
 use Rattle.ess_semantics.specs.Trees.{Ex, Stm, given, given_enum, let_ex, let_dom, let_enum, let_unnamed, needs, find, such_that, minimise, maximise}
 use Rattle.ess_semantics.specs.Lettings.{put_ex}
 use Rattle.ess_semantics.specs.Prepared.{resolve_stm}
@@ -22,7 +23,8 @@ use Rattle.conjure_laws.proofs.SetScopesTyped.{no-fault}
 use Rattle.conjure_settled_laws.specs.EndValues.{AreItems, IsInEnv, valued_by, valued_in}
 use Rattle.conjure_settled_laws.specs.Laws.{TypedHasEndValues}
 use Rattle.conjure_settled_laws.proofs.ScopesGrow.{scope-grows, none-shared}
-use Rattle.conjure_settled_laws.proofs.LaterEnvs.{given_values, all_added, behind-agrees, one-agrees, value-past, items-past, off-left, off-right}
+use Rattle.conjure_settled_laws.proofs.LaterEnvs.{given_values, added, all_added, behind-agrees, one-agrees, value-past, items-past, off-left, off-right}
+use Rattle.conjure_settled_laws.proofs.GivenNames.{given-names-spelled}
 use Rattle.conjure_settled_laws.proofs.FixedParts.{SameGivens, fixed-same}
 use Rattle.conjure_settled_laws.proofs.StaysLater.{AreOutside}
 use Rattle.conjure_settled_laws.proofs.JudgedStatements.{type_parts, has-type, Judged, judged, same-behind}
@@ -92,6 +94,16 @@ all-past (w ∷ ws) s p a env y v g =
     valued-past w s p a env y (off-left (valued_by w) (valued_in ws) y v) (off-left (given_values p w) (all_given_values p ws) y g)
     ∙ all-past ws (scope_after t s) p a (env_after (resolve_stm t s.tys) p a env) y (off-right (valued_by w) (valued_in ws) y v)
     (off-right (given_values p w) (all_given_values p ws) y g)
+
+-- What can't be spelled is none of names that can be.
+not-token : (ns : List Text) (y : Text) → are_name_tokens ns ≡ true → is_name_token y ≡ false → is_among ns y ≡ false
+not-token [] y h n = refl
+not-token (m ∷ ns) y h n = go (same_text m y) refl (not-token ns y (and-right (is_name_token m) (are_name_tokens ns) h) n)
+  where
+    go : (b : Bool) → same_text m y ≡ b → is_among ns y ≡ false → (b || is_among ns y) ≡ false
+    go false q r = r
+    go true q r =
+        let v : true ≡ false = sym (and-left (is_name_token m) (are_name_tokens ns) h) ∙ ap is_name_token (same_text-equal m y q) ∙ n in cc
 
 module _ (S : List Stm) (p : Assignment) (P : Param S p) (a : Assignment) where
   -- Declared names that aren't in scope yet have no value.
@@ -207,6 +219,38 @@ module _ (S : List Stm) (p : Assignment) (P : Param S p) (a : Assignment) where
       ∙ ap (λ c. c || is_among (all_given_values p ws) y) (given-apart S p P w ws s h y i)
       ∙ all-apart (suc k) ws (scope_after (put_in_scope w s) s) (next S p P w ws s h) y i
 
+  -- Each value of a given type has a name that can be spelled.
+  spelled : (w : Stm) (ws : List Stm) (s : Scope) → At S p P (w ∷ ws) s → (y : Text) → is_name_token y ≡ false →
+      is_among (given_values p w) y ≡ false
+  spelled (given_enum t) ws s h y n =
+      not-token (list_or_none (look p.types t)) y (given-names-spelled S p P t (h.enums t (inl refl))) n
+  spelled (given x d) ws s h y n = refl
+  spelled (let_ex x e) ws s h y n = refl
+  spelled (let_dom x d) ws s h y n = refl
+  spelled (let_enum t ns) ws s h y n = refl
+  spelled (let_unnamed t e) ws s h y n = refl
+  spelled (needs e) ws s h y n = refl
+  spelled (find x d) ws s h y n = refl
+  spelled (such_that e) ws s h y n = refl
+  spelled (minimise e) ws s h y n = refl
+  spelled (maximise e) ws s h y n = refl
+
+  none-added : (ws : List Stm) (s : Scope) → At S p P ws s → (y : Text) → is_among (all_declared S) y ≡ false → is_name_token y ≡ false →
+      is_among (all_added p ws) y ≡ false
+  none-added [] s h y i n = refl
+  none-added (w ∷ ws) s h y i n =
+      among-append (added p w) (all_added p ws) y
+      ∙ ap (λ c. c || is_among (all_added p ws) y)
+      (among-append (declares w) (given_values p w) y
+      ∙ ap (λ c. c || is_among (given_values p w) y) (not-declared (is_among (declares w) y) refl) ∙ spelled w ws s h y n)
+      ∙ none-added ws (scope_after (put_in_scope w s) s) (next S p P w ws s h) y i n
+    where
+      not-declared : (c : Bool) → is_among (declares w) y ≡ c → is_among (declares w) y ≡ false
+      not-declared false q = q
+      not-declared true q =
+          let v : true ≡ false =
+          sym (h.ahead y (among-append (declares w) (all_declared ws) y ∙ ap (λ c. c || is_among (all_declared ws) y) q)) ∙ i in cc
+
 -- Behind all statements of a well typed specification each declared name has what its statement says.
 pub typed-has-end-values : TypedHasEndValues
 typed-has-end-values S p a e P =
@@ -214,5 +258,8 @@ typed-has-end-values S p a e P =
     (record { positions = refl; cells = refl; types = refl; vals = λ y i. refl }) refl refl in record {
       types = r.1;
       declared = r.0;
+      unspelled = λ y i n.
+          let g = behind-agrees S empty_scope p a empty_env in
+          sym (g.vals y (none-added S p P a S empty_scope (start S p P) y i n));
       others = λ y i v. sym (all-past S empty_scope p a empty_env y v (all-apart S p P a 1 S empty_scope (start S p P) y i));
     }

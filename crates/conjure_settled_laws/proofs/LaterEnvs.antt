@@ -69,7 +69,8 @@ item-keys t k [] = refl
 item-keys t k (n ∷ ns) = ap (λ l. n ∷ l) (item-keys t (suc k) ns)
 
 -- Nor do values of other names.
-pub items-past : (t : Text) (ns : List Text) (g : Names Value) (a : Text) → is_among ns a ≡ false → look g a ≡ look (enum_items t 1 ns ++ g) a
+pub items-past : (t : Text) (ns : List Text) (g : Names Value) (a : Text) → is_among ns a ≡ false →
+    look g a ≡ look (enum_items t 1 ns ++ g) a
 items-past t ns g a e = sym (look-right (enum_items t 1 ns) g a (ap (λ l. is_among l a) (item-keys t 1 ns) ∙ e))
 
 same-env : (ns : List Text) (env : Env) → Agrees ns env env

@@ -9,4 +9,5 @@ pub mod StaysLater
 pub mod JudgedStatements
 pub mod SettledStatements
 pub mod EndValues
+pub mod NamesInUse
 mod ExamplesSettled

@@ -3,6 +3,7 @@ use Rattle.std.specs.Prelude.{◌≡◌, ℕ, suc, true, false, List, [], ◌∷
 use Rattle.ess_semantics.specs.Lists.{append_all, list_or_none}
 use Rattle.ess_semantics.specs.Values.{Text, item}
 use Rattle.ess_semantics.specs.Names.{look, is_among}
+use Rattle.ess_semantics.specs.NameTokens.{is_name_token}
 use Rattle.ess_semantics.specs.Trees.{Stm, given, given_enum, let_enum, let_unnamed, find}
 use Rattle.ess_semantics.specs.Contexts.{Each}
 use Rattle.ess_semantics.specs.Meaning.{Env, type_entry, meaning}
@@ -42,9 +43,10 @@ abbrev pub valued_in : List Stm → List Text
 valued_in S = append_all (map valued_by S)
 
 -- Behind all statements the types are those of the parameter, each declared name has what its statement says, and no other declared
--- name has a value.
+-- name has a value, nor has one that isn't declared and that no text can spell.
 pub record HasEndValues (S : List Stm) (p a : Assignment) : Type 0 where
   pub types : (env_of S p a).types ≡ (here S p).types
   pub declared : Each (prepared S) (IsInEnv S p a (env_of S p a))
   pub others : (x : Text) → is_among (all_declared S) x ≡ true → is_among (valued_in S) x ≡ false →
       look (env_of S p a).vals x ≡ None
+  pub unspelled : (x : Text) → is_among (all_declared S) x ≡ false → is_name_token x ≡ false → look (env_of S p a).vals x ≡ None
