@@ -14,6 +14,8 @@ pub mod ShownLaws
 mod ExamplesShown
 mod ToldNames
 pub mod WrittenLaws
+pub mod WrittenDomains
 pub mod Built
 pub mod Examples
 pub mod ExamplesBuilt
+mod ExamplesDomains

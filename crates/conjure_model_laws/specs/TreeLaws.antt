@@ -9,13 +9,13 @@ use Rattle.ess_semantics.specs.Substitution.{NamesAre, NamesAreDom}
 use Rattle.ess_semantics.specs.Meaning.{Env, meaning, domain_of}
 use Rattle.ess_semantics.specs.FreeNames.{FreeNamesAre}
 use Rattle.ess_semantics.specs.Kept.{Kept}
-use Rattle.ess_semantics.specs.Meets.{Meets}
+use Rattle.ess_semantics.specs.Meets.{Meets, MeetsDom}
 use Rattle.ess_semantics.specs.Typed.{Typed}
 use Rattle.ess_semantics.specs.Refined.{is_refined}
 use Rattle.conjure_laws.specs.PlainTrees.{Plain, PlainDom}
-use Rattle.conjure_model_laws.specs.ToldApart.{reserved, is_unreserved, told, told_apart}
+use Rattle.conjure_model_laws.specs.ToldApart.{reserved, is_unreserved, told, told_dom, told_apart}
 use Rattle.conjure_model_laws.specs.Shown.{Shows, shown, shown_dom}
-use Rattle.conjure_model_laws.specs.StandsFor.{StandsFor, is_unshown, IsReady}
+use Rattle.conjure_model_laws.specs.StandsFor.{StandsFor, is_unshown, IsReady, DomIsReady}
 use Rattle.conjure_model_laws.specs.Printed.{printed_name, printed, binders}
 
 -- A tree of a specification with its bound names told apart means what it meant, in every env, and is kept. It may use names, which it
@@ -68,3 +68,10 @@ pub record WrittenTreesStand : Type 0 where
       (taken : List Text) (g : Names Ty) (last : Ex) → Kept g (shown sh (told_apart k e)) last → is_refined last ≡ true →
       FreeNamesAre (λ a. false) last → binders last + length taken < 2 ^ 64 → Typed g there →
       meaning (printed taken last []) there ≡ meaning e env
+
+-- A declared domain, told apart and shown, is over tables what it is over values, and its structures are met.
+pub record WrittenDomainsStand : Type 0 where
+  pub domains : (sh : Shows) (n : Text → Bool) (env there : Env) (k : ℕ) (u : Text → Bool) (d : Dom) → DomIsReady sh n env there k u d →
+      domain_of (shown_dom sh (told_dom d [] k).0) there ≡ domain_of d env
+  pub meets : (sh : Shows) (n : Text → Bool) (env there : Env) (k : ℕ) (u : Text → Bool) (d : Dom) → DomIsReady sh n env there k u d →
+      MeetsDom (shown_dom sh (told_dom d [] k).0) there
