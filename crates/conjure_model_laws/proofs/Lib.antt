@@ -15,6 +15,7 @@ mod ExamplesShown
 mod ToldNames
 pub mod WrittenLaws
 pub mod WrittenDomains
+pub mod ViewValues
 pub mod Built
 pub mod Examples
 pub mod ExamplesBuilt
