@@ -14,6 +14,9 @@ pub mod ShownLaws
 mod ExamplesShown
 mod ToldNames
 pub mod WrittenLaws
+pub mod WrittenDomains
+pub mod ViewValues
 pub mod Built
 pub mod Examples
 pub mod ExamplesBuilt
+mod ExamplesDomains
