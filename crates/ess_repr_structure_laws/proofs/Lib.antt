@@ -19,6 +19,8 @@ pub mod OrderlyJudged
 pub mod JudgedViews
 pub mod SoundTogether
 pub mod JudgedNumbers
+pub mod LiteralMarks
+pub mod JudgedLiterals
 -- What structures are built of
 pub mod PickedNumbers
 pub mod BuiltStructures

@@ -3,7 +3,7 @@ use Rattle.std.specs.Prelude.{◌≡◌, ℕ, ◌<◌, Bool, true, false, List, 
 use Rattle.std.specs.List.{list_any}
 use Rattle.ess_semantics.specs.Values.{Text, truth}
 use Rattle.ess_semantics.specs.Order.{same_text}
-use Rattle.ess_semantics.specs.Trees.{Repr, no_exs, Dom, Stm}
+use Rattle.ess_semantics.specs.Trees.{Repr, Ex, no_exs, Dom, Stm}
 use Rattle.ess_semantics.specs.Domains.{Domain}
 use Rattle.ess_semantics.specs.Membership.{no_negative_attribute}
 use Rattle.ess_semantics.specs.Tables.{Tables}
@@ -22,13 +22,13 @@ use Rattle.ess_semantics.specs.Constants.{constants_of_tree, among_constants, do
 use Rattle.ess_semantics.specs.FreeNames.{FreeNamesAreDom}
 use Rattle.ess_semantics.specs.Scopes.{Scope, asking, every_dom}
 use Rattle.ess_semantics.specs.Occurrences.{parts_of_dom, is_cell_or_view}
-use Rattle.ess_semantics.specs.Resolving.{resolve_dom}
+use Rattle.ess_semantics.specs.Resolving.{resolve, resolve_dom}
 use Rattle.ess_semantics.specs.Typed.{Typed}
 use Rattle.ess_types_laws.specs.SoundParts.{relation_has_parts}
 use Rattle.ess_semantics.specs.DomainJudgements.{needs_known_slots}
-use Rattle.ess_semantics.specs.Judgements.{ill_typed, not_enumerable, domain_in, meets}
+use Rattle.ess_semantics.specs.Judgements.{ill_typed, not_enumerable, expression_of, domain_in, meets}
 use Rattle.ess_guard_laws.specs.Covered.{CoveredDom}
-use Rattle.ess_guard_laws.specs.LiteralsFit.{DomLiteralsFit}
+use Rattle.ess_guard_laws.specs.LiteralsFit.{LiteralsFit, DomLiteralsFit}
 use Rattle.ess_repr_laws.specs.CanonicalTables.{TablesFit}
 use Rattle.ess_repr_laws.specs.Structure.{structure}
 use Rattle.ess_repr_laws.specs.StructureMeaning.{Bound, M, FoundBy}
@@ -144,3 +144,11 @@ JudgedNumbersAreNumbers =
     (w t : Stm) (s : Scope) (d : Dom) (env : Env) → domain_in t ≡ Some d → meets ill_typed w t s ≡ true →
     every_dom (record asking { of_ex = relation_has_parts }) d s ≡ true → ReadsNoTable d → Typed s.tys env →
     NumbersIn (resolve_dom d s.tys) env
+
+-- Literals stand where types allow them in the expression of a judged statement and in its domain, once they are resolved: none is a
+-- Boolean, and in a fold or beside a lexicographic sign stand lists, sets and multisets alone.
+pub record JudgedLiteralsFit : Type 0 where
+  pub expressions : (w t : Stm) (s : Scope) (e : Ex) → expression_of t ≡ Some e → meets ill_typed w t s ≡ true →
+      LiteralsFit false (resolve e s.tys)
+  pub domains : (w t : Stm) (s : Scope) (d : Dom) → domain_in t ≡ Some d → meets ill_typed w t s ≡ true →
+      DomLiteralsFit (resolve_dom d s.tys)
