@@ -44,3 +44,9 @@ mod SpellingRules
 mod SpellingContainers
 mod NumbersAreSpared
 mod ExamplesSpelling
+mod WiderScopes
+mod ScopesOfParts
+mod ScopesOfContainers
+mod ScopesOfConditions
+mod ScopesOfGenerators
+mod ScopesOfRules

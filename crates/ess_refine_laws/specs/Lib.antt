@@ -16,3 +16,4 @@ pub mod Copies
 pub mod MovingConditions
 pub mod ItemsOnce
 pub mod Spelling
+pub mod ScopesOfRules

@@ -17,6 +17,7 @@ ghost use Rattle.ess_refine_laws.specs.SparingRules.{RulesSpare};
 ghost use Rattle.ess_refine_laws.specs.RecordNames.{NamesOverRecordsKeep};
 ghost use Rattle.ess_refine_laws.specs.ItemsOnce.{ItemsOnceOffer};
 ghost use Rattle.ess_refine_laws.specs.Spelling.{NumbersAreSpared};
+ghost use Rattle.ess_refine_laws.specs.ScopesOfRules.{RulesKeepScopes};
 
 /// A refined number becomes one that is there wherever the names and cells in it are, and that is the same where the old one
 /// has a value.
@@ -107,4 +108,9 @@ pub fn items_are_offered_once()
 /// rules at parts.
 pub fn numbers_are_spared()
     ensures { NumbersAreSpared }
+{}
+
+/// Each rule that puts no term in the place of a name keeps what is in scope, where the names that it takes are new.
+pub fn rules_keep_scopes()
+    ensures { RulesKeepScopes }
 {}
