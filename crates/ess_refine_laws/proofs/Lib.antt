@@ -45,8 +45,14 @@ mod SpellingContainers
 mod NumbersAreSpared
 mod ExamplesSpelling
 mod WiderScopes
+mod PutScopes
+mod PutTerms
 mod ScopesOfParts
 mod ScopesOfContainers
 mod ScopesOfConditions
 mod ScopesOfGenerators
 mod ScopesOfRules
+mod TypesOfFolds
+mod TypesOfComparisons
+mod TypesOfRules
+mod ExamplesTypesOfRules

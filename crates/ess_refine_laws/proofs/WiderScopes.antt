@@ -25,7 +25,7 @@ fewer-with u w p f a h = go (u a) refl h
     go true q h = ap (λ b. b || is_bound p a) (f a q)
     go false q h = ap (λ b. w a || b) h ∙ or-yes (w a)
 
-among-with : (t s n : Text → Bool) (p : Pat) → Among t s n → Among (with_names t p) (with_names s p) n
+pub among-with : (t s n : Text → Bool) (p : Pat) → Among t s n → Among (with_names t p) (with_names s p) n
 among-with t s n p f a h = go (t a) refl h
   where
     left : (b c d : Bool) → b || d ≡ true → (b || c) || d ≡ true
@@ -71,7 +71,7 @@ wider-index o p f (more_exs _ es) h = absurd h
 -- ---- trees
 
 -- Names in scope, those bound over domains, and more of both.
-record Wider (n s t o p : Text → Bool) : Type 0 where
+pub record Wider (n s t o p : Text → Bool) : Type 0 where
   pub fewer : Fewer s t
   pub plain : Fewer o p
   pub among : Among t s n
@@ -88,7 +88,7 @@ one-with n s t o p q w = record { fewer = fewer-with s t q w.fewer; plain = w.pl
 
 module _ (z n : Text → Bool) where
   mutual
-    wider : (e : Ex) (s t o p : Text → Bool) → Wider n s t o p → NamesAre (λ a. true) (λ a. not (n a)) e → Scoped z s o e → Scoped z t p e
+    pub wider : (e : Ex) (s t o p : Text → Bool) → Wider n s t o p → NamesAre (λ a. true) (λ a. not (n a)) e → Scoped z s o e → Scoped z t p e
     wider (number_ex k) s t o p w b h = tt
     wider (truth_ex k) s t o p w b h = tt
     wider (name_ex a) s t o p w b h = w.fewer a h

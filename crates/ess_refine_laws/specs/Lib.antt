@@ -17,3 +17,4 @@ pub mod MovingConditions
 pub mod ItemsOnce
 pub mod Spelling
 pub mod ScopesOfRules
+pub mod TypesOfRules

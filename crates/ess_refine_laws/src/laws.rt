@@ -18,6 +18,7 @@ ghost use Rattle.ess_refine_laws.specs.RecordNames.{NamesOverRecordsKeep};
 ghost use Rattle.ess_refine_laws.specs.ItemsOnce.{ItemsOnceOffer};
 ghost use Rattle.ess_refine_laws.specs.Spelling.{NumbersAreSpared};
 ghost use Rattle.ess_refine_laws.specs.ScopesOfRules.{RulesKeepScopes};
+ghost use Rattle.ess_refine_laws.specs.TypesOfRules.{RulesKeepTypes};
 
 /// A refined number becomes one that is there wherever the names and cells in it are, and that is the same where the old one
 /// has a value.
@@ -113,4 +114,9 @@ pub fn numbers_are_spared()
 /// Each rule that puts no term in the place of a name keeps what is in scope, where the names that it takes are new.
 pub fn rules_keep_scopes()
     ensures { RulesKeepScopes }
+{}
+
+/// Rules on folds, tuples, comparisons, lists and sizes keep types.
+pub fn rules_keep_types()
+    ensures { RulesKeepTypes }
 {}
