@@ -51,6 +51,7 @@ mod ScopesOfParts
 mod ScopesOfContainers
 mod ScopesOfConditions
 mod ScopesOfGenerators
+mod ScopesOfSources
 mod ScopesOfRules
 mod TypesOfFolds
 mod TypesOfComparisons

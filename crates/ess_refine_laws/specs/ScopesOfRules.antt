@@ -3,13 +3,15 @@ use Rattle.std.specs.Prelude.{◌≡◌, Bool, true, false, not, List, [], ◌�
 use Rattle.ess_semantics.specs.Values.{Text}
 use Rattle.ess_semantics.specs.Order.{same_text}
 use Rattle.ess_semantics.specs.Names.{Names}
-use Rattle.ess_semantics.specs.Trees.{Pats, more_pats, name_pat, tuple_pat, Ex, comp_ex, ex2, fun1, Gens, over, Doms, more_doms, tuple_dom, record_dom}
+use Rattle.ess_semantics.specs.Trees.{Pats, more_pats, name_pat, tuple_pat, Ex, node_ex, comp_ex, ex2, fun1, Gens, over, from, Doms, more_doms, tuple_dom, record_dom}
 use Rattle.ess_semantics.specs.Types.{Ty}
 use Rattle.ess_semantics.specs.Scoped.{is_bound, with_names, AllBindNew, Scoped, ScopedGens, ScopedDom}
 use Rattle.ess_semantics.specs.Substitution.{NamesAre, NamesAreDom, NamesAreDoms}
+use Rattle.ess_rules_laws.specs.Listings.{Alternative, each_item}
+use Rattle.ess_rules_laws.specs.ListedSources.{laid_out}
 use Rattle.ess_refine_laws.specs.LeavingConditions.{Parted, at_last_condition}
 use Rattle.ess_refine_laws.specs.ScopesStay.{Scope, KeepsScope}
-use Rattle.ess_refine_laws.specs.AllRules.{Rule, over_a_literal, over_a_source, of_one_source, over_a_comprehension, over_tuples, over_a_tuple, over_a_record, equal_matrices_at, condition_behind, least_under_a_condition, least_of_alternatives, Supply, opposite_copied, rewrite}
+use Rattle.ess_refine_laws.specs.AllRules.{Rule, over_a_literal, over_a_source, of_one_source, over_a_comprehension, over_tuples, over_a_tuple, over_a_record, equal_matrices_at, condition_behind, least_under_a_condition, least_of_alternatives, Supply, offered, OfSome, opposite_copied, rewrite}
 
 -- The tree binds no name of n.
 abbrev pub BindsNone : (Text → Bool) → Ex → Type 0
@@ -48,33 +50,41 @@ abbrev pub CopyScoped : (Text → Bool) → Scope → Ex → Option Parted → T
 CopyScoped z s m None = Unit {0}
 CopyScoped z s m (Some t) = ScopedGens z s.all s.over_domains t.before (λ all over_domains. Scoped z all over_domains m)
 
+-- No alternative binds one of these names.
+abbrev pub EachBindsNone : (Text → Bool) → List Alternative → Type 0
+EachBindsNone u [] = Unit {0}
+EachBindsNone u (a ∷ l) = BindsNone u (laid_out a) × EachBindsNone u l
+
+-- What is asked where the alternatives stand for y in `[e | y <- .., hs]`: y is no name of a declaration's domain and none over a domain,
+-- and what stands behind y binds names u alone, which no alternative binds.
+abbrev pub TermsApart : (Text → Bool) → Scope → Text → Ex → Gens → List Alternative → Type 0
+TermsApart z s y e hs l =
+    (z y ≡ false) × (s.over_domains y ≡ false) × (u : Text → Bool) × NamesAre (λ a. true) u (comp_ex e hs) × EachBindsNone u l
+
 -- What single rules count on: patterns and the domains that they take are apart; a name over a tuple or record of domains is no index of
--- a view; index domains are in scope and don't bind new names; and so a copy.
-abbrev pub ScopeFits : (Text → Bool) → Supply → Scope → Rule → Ex → Type 0
-ScopeFits z t s over_tuples (comp_ex e (over (tuple_pat ps) (tuple_dom ds) hs)) = PartsApart ps ds
-ScopeFits z t s over_a_tuple (comp_ex e (over (name_pat x) (tuple_dom ds) hs)) =
+-- a view; index domains are in scope and don't bind new names; so a copy; and terms for names are apart.
+abbrev pub ScopeFits : (Text → Bool) → Supply → Names Ty → Scope → Rule → Ex → Type 0
+ScopeFits z t g s over_tuples (comp_ex e (over (tuple_pat ps) (tuple_dom ds) hs)) = PartsApart ps ds
+ScopeFits z t g s over_a_tuple (comp_ex e (over (name_pat x) (tuple_dom ds) hs)) =
     ScopedGens z (with_names s.all (name_pat x)) s.over_domains hs (λ all over_domains. Scoped z all over_domains e)
-ScopeFits z t s over_a_record (comp_ex e (over (name_pat x) (record_dom fs ds) hs)) =
+ScopeFits z t g s over_a_record (comp_ex e (over (name_pat x) (record_dom fs ds) hs)) =
     ScopedGens z (with_names s.all (name_pat x)) s.over_domains hs (λ all over_domains. Scoped z all over_domains e)
-ScopeFits z t s equal_matrices_at (ex2 m o a b) =
+ScopeFits z t g s equal_matrices_at (ex2 m o a b) =
     ScopedDom z s.all s.over_domains (t.index_domain a) × ScopedDom z s.all s.over_domains (t.index_domain b)
     × NamesAreDom (λ a. true) (λ c. not (same_text t.one c)) (t.index_domain a)
     × NamesAreDom (λ a. true) (λ c. not (same_text t.one c)) (t.index_domain b)
-ScopeFits z t s condition_behind (fun1 m f (comp_ex e gs)) = LaterBinds (at_last_condition gs)
-ScopeFits z t s least_under_a_condition (fun1 m f (comp_ex e gs)) =
+ScopeFits z t g s condition_behind (fun1 m f (comp_ex e gs)) = LaterBinds (at_last_condition gs)
+ScopeFits z t g s least_under_a_condition (fun1 m f (comp_ex e gs)) =
     CopyScoped z s (opposite_copied t (fun1 m f (comp_ex e gs))) (at_last_condition gs)
-ScopeFits z t s r e = Unit {0}
+ScopeFits z t g s over_a_comprehension (comp_ex e (from (name_pat y) (comp_ex h ks) hs)) =
+    TermsApart z s y e hs (record { gens = ks; item = h } ∷ [])
+ScopeFits z t g s over_a_literal (fun1 m f (comp_ex e (from (name_pat y) (node_ex b op es) hs))) = TermsApart z s y e hs (each_item es)
+ScopeFits z t g s over_a_source (fun1 m f (comp_ex e (from (name_pat y) k hs))) = OfSome (offered t g k) (TermsApart z s y e hs)
+ScopeFits z t g s of_one_source (fun1 m f (comp_ex e (from (name_pat y) k hs))) = OfSome (offered t g k) (TermsApart z s y e hs)
+ScopeFits z t g s least_of_alternatives (fun1 m f (comp_ex e (from (name_pat y) k hs))) = OfSome (offered t g k) (TermsApart z s y e hs)
+ScopeFits z t g s r e = Unit {0}
 
--- Whether the rule puts no term in the place of a name.
-abbrev pub puts_no_terms : Rule → Bool
-puts_no_terms over_a_literal = false
-puts_no_terms over_a_source = false
-puts_no_terms of_one_source = false
-puts_no_terms over_a_comprehension = false
-puts_no_terms least_of_alternatives = false
-puts_no_terms r = true
-
--- Each rule that puts no term in the place of a name keeps the scope where it fires.
+-- Each rule keeps the scope where it fires.
 abbrev pub RulesKeepScopes : Type 0
 RulesKeepScopes = (z : Text → Bool) (t : Supply) (g : Names Ty) (r : Rule) (s : Scope) (e f : Ex) → rewrite t g r e ≡ Some f →
-    puts_no_terms r ≡ true → NewSupply t s e → ScopeFits z t s r e → KeepsScope z s e f
+    NewSupply t s e → ScopeFits z t g s r e → KeepsScope z s e f

@@ -111,7 +111,7 @@ pub fn numbers_are_spared()
     ensures { NumbersAreSpared }
 {}
 
-/// Each rule that puts no term in the place of a name keeps what is in scope, where the names that it takes are new.
+/// Each rule keeps what is in scope, where the names that it takes are new, and terms that it puts for names are apart.
 pub fn rules_keep_scopes()
     ensures { RulesKeepScopes }
 {}
