@@ -44,3 +44,16 @@ mod SpellingRules
 mod SpellingContainers
 mod NumbersAreSpared
 mod ExamplesSpelling
+mod WiderScopes
+mod PutScopes
+mod PutTerms
+mod ScopesOfParts
+mod ScopesOfContainers
+mod ScopesOfConditions
+mod ScopesOfGenerators
+mod ScopesOfSources
+mod ScopesOfRules
+mod TypesOfFolds
+mod TypesOfComparisons
+mod TypesOfRules
+mod ExamplesTypesOfRules

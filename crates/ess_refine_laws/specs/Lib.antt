@@ -16,3 +16,5 @@ pub mod Copies
 pub mod MovingConditions
 pub mod ItemsOnce
 pub mod Spelling
+pub mod ScopesOfRules
+pub mod TypesOfRules

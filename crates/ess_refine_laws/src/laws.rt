@@ -17,6 +17,8 @@ ghost use Rattle.ess_refine_laws.specs.SparingRules.{RulesSpare};
 ghost use Rattle.ess_refine_laws.specs.RecordNames.{NamesOverRecordsKeep};
 ghost use Rattle.ess_refine_laws.specs.ItemsOnce.{ItemsOnceOffer};
 ghost use Rattle.ess_refine_laws.specs.Spelling.{NumbersAreSpared};
+ghost use Rattle.ess_refine_laws.specs.ScopesOfRules.{RulesKeepScopes};
+ghost use Rattle.ess_refine_laws.specs.TypesOfRules.{RulesKeepTypes};
 
 /// A refined number becomes one that is there wherever the names and cells in it are, and that is the same where the old one
 /// has a value.
@@ -107,4 +109,14 @@ pub fn items_are_offered_once()
 /// rules at parts.
 pub fn numbers_are_spared()
     ensures { NumbersAreSpared }
+{}
+
+/// Each rule keeps what is in scope, where the names that it takes are new, and terms that it puts for names are apart.
+pub fn rules_keep_scopes()
+    ensures { RulesKeepScopes }
+{}
+
+/// Rules on folds, tuples, comparisons, lists and sizes keep types.
+pub fn rules_keep_types()
+    ensures { RulesKeepTypes }
 {}

@@ -1,0 +1,198 @@
+-- Rules keep types.
+use Rattle.std.specs.Prelude.{IsTrue}
+use Rattle.std.proofs.Common.{◌≡◌, refl, ap, ◌∙◌, ℕ, zero, suc, Bool, true, false, ◌&&◌, ◌||◌, if◌then◌else◌, List, [], ◌∷◌, ℤ, pos, Option, Some, None, not, subst, map, option_map}
+use Rattle.ess_semantics.specs.declared.words.Op2.{Op2}
+use Rattle.ess_semantics.specs.declared.words.Fun.{Fun}
+use Rattle.ess_semantics.specs.Lists.{and_then, or_else}
+use Rattle.ess_semantics.specs.Values.{Text, a_record, a_function, a_matrix, a_tuple}
+use Rattle.ess_semantics.specs.Order.{same_text, same_texts}
+use Rattle.ess_semantics.specs.Names.{Names}
+use Rattle.ess_semantics.specs.Trees.{to_component, to_field, word, index, tuple_literal, mset_literal, matrix_literal, record_literal, Pats, more_pats, no_pats, name_pat, tuple_pat, Ex, Exs, name_ex, node_ex, comp_ex, ex2, fun1, no_exs, more_exs, Gens, no_gens, over, from, cond, Doms, no_doms, more_doms, tuple_dom, record_dom, binary, set_literal, relation_literal, number_ex, truth_ex, ex1, Dom, function_literal, partition_literal, matrix_ex, int_dom}
+use Rattle.ess_semantics.specs.Types.{Ty, Tys, no_tys, more_tys, compound, compound2}
+use Rattle.ess_semantics.specs.Typing.{type_of}
+use Rattle.ess_semantics.specs.ExpressionJudgements.{forgets_order}
+use Rattle.ess_semantics.specs.Substitution.{substitute, substitute_gens, for_name}
+use Rattle.ess_semantics.specs.Constants.{drops_items}
+use Rattle.ess_rules_laws.specs.FoldRules.{is_fold, is_laid_open, fold_alone, fold_nothing, fold_one, fold_bare, fold_term}
+use Rattle.ess_rules_laws.specs.LooseRules.{fold_loosely}
+use Rattle.ess_rules_laws.specs.SourceRules.{is_marked, each_fold, fold_items}
+use Rattle.ess_rules_laws.specs.SpliceRules.{append_gens, splice}
+use Rattle.ess_rules_laws.specs.SplitRules.{as_many, each_over, split}
+use Rattle.ess_rules_laws.specs.TupleNames.{named_exs, name_over_tuple, are_names}
+use Rattle.ess_rules_laws.specs.Listings.{Alternative, each_item, none_of, each_first, is_strict, listing}
+use Rattle.ess_rules_laws.specs.ListedSources.{put_listed, source_alone, each_put, source_parts}
+use Rattle.ess_rules_laws.specs.LiteralRules.{nth, component_listed, unequal_each, unequal_pairs, different_listed, extreme_listed}
+use Rattle.ess_rules_laws.specs.FieldLiterals.{field_term, field_listed}
+use Rattle.ess_rules_laws.specs.InclusionRules.{both_sets, both_msets, unequal, included_turned, included_strictly, both_functions, included_members, included_often, equal_members, equal_often, equal_pairs}
+use Rattle.ess_rules_laws.specs.ComponentRules.{components, equal_from, equal_where, equal_components, are_fields, equal_each, equal_where_fields, equal_fields, component_of}
+use Rattle.ess_refine_laws.specs.RecordNames.{are_in_order, name_over_record}
+use Rattle.ess_refine_laws.specs.AllRules.{only_one, Supply, offered, Rule, over_nothing, over_one, over_one_binding, over_a_term, over_a_literal, over_a_made_set, over_a_source, of_one_source, over_a_comprehension, over_tuples, over_a_tuple, over_a_record, over_a_condition, component_of_a_tuple, field_of_a_record, not_equal, turned, strictly, equal_tuples, equal_records, equal_sets, equal_multisets, equal_functions, equal_partitions, with_nothing, equal_matrices_at, included_sets, included_multisets, in_two, in_one_made_of_another, in_a_literal, in_what_a_function_has, in_its_pairs, in_a_term, size_of_one_made_of_another, size, frequency_in_one_made_of_another, frequency_in_a_literal, frequency, together, least_of_a_literal, different_items, list_of_a_term, list_on_the_left, list_on_the_right, all_different, choice, condition, condition_behind, least_under_a_condition, least_of_alternatives, source_listed, source_listed_once, extremes_listed, matrices_at, opposite_copied, compares_compound, tells_scalars_apart, rewrite}
+use Rattle.ess_semantics.specs.declared.words.Op1.{Op1}
+use Rattle.ess_rules_laws.specs.ContainerListings.{of_function, range_as_set, made_listing}
+use Rattle.ess_rules_laws.specs.PartitionRules.{both_partitions, equal_parts}
+use Rattle.ess_rules_laws.specs.MatrixRules.{is_matrix, lies_in, equal_each_at, both_matrices, equal_matrices, equal_to_nothing}
+use Rattle.ess_rules_laws.specs.MembershipRules.{equations, member_term, member_combined, member_changed, member_listed}
+use Rattle.ess_rules_laws.specs.FunctionMembershipRules.{an_argument, a_result, a_source, member_of_function, member_related}
+use Rattle.ess_rules_laws.specs.SizeRules.{is_counted, size_term, frequency_term, together_term}
+use Rattle.ess_rules_laws.specs.ShortSizeRules.{is_function, is_partition, size_made, frequency_made, ones_where, frequency_listed}
+use Rattle.ess_rules_laws.specs.ListRules.{is_of_list, is_lex, list_term, lex_left, lex_right, different_term}
+use Rattle.ess_rules_laws.specs.ChoiceRules.{choice_shorter}
+use Rattle.ess_semantics.specs.Refined.{is_refined, are_refined_gens}
+use Rattle.ess_refine_laws.specs.LeavingConditions.{Parted, at_last_condition, under_condition, condition_leaves, with_before}
+use Rattle.ess_refine_laws.specs.MovingConditions.{one_later, condition_later}
+use Rattle.ess_refine_laws.specs.ExtremeRules.{is_extreme, are_none, extreme_condition, either_number}
+use Rattle.ess_refine_laws.specs.Everywhere.{everywhere, everywhere_gens, divisor, base, exponent, raised, extreme, is_nonzero, is_positive, everywhere_list, everywhere_exs, everywhere_dom}
+use Rattle.ess_refine_laws.specs.ExtremeAlternatives.{put_alternative, each_extreme, each_size, past_all, extreme_alternatives}
+use Rattle.ess_semantics.specs.Occurrences.{has_cells}
+use Rattle.std.proofs.Common.{sym}
+use Rattle.std.specs.Prelude.{is_some}
+use Rattle.ess_semantics.specs.Lists.{all_some}
+use Rattle.ess_semantics.specs.Values.{a_set, a_mset, a_relation, a_partition}
+use Rattle.ess_semantics.specs.Names.{look}
+use Rattle.ess_semantics.specs.Trees.{Op, unary}
+use Rattle.ess_semantics.specs.Types.{any_ty, bool_ty, int_ty, named_ty, compound1, tys_of, join, joins, join_all, fit, type_of_dom, bind_types}
+use Rattle.ess_semantics.specs.OperatorTypes.{type_of_op, member_ty, asked_ty, list_ty, chosen_ty, extreme_ty, included, type_of_list}
+use Rattle.ess_semantics.specs.Typing.{a_number, a_name, other, type_of_node, step_ty, component_ty, types_of, types_under}
+use Rattle.ess_rules_laws.specs.Progress.{is_told}
+use Rattle.ess_rules_laws.specs.ListRules.{members_list}
+use Rattle.ess_rules_laws.proofs.Agreement.{look-itself}
+use Rattle.ess_refine_laws.specs.TypesStay.{KeepsType}
+use Rattle.ess_semantics.specs.Order.{same_kind}
+use Rattle.ess_semantics.specs.Lists.{when as given}
+use Rattle.ess_semantics.specs.Types.{is_open, types_of_doms, bind_all_types}
+use Rattle.ess_semantics.specs.Values.{Kind, node, nil}
+use Rattle.std.specs.Ordering.{ordering_then}
+use Rattle.std.specs.declared.cmp.Ordering.TheVariants.{Equal}
+use Rattle.ess_semantics.proofs.Orders.{order_exact, equal-of}
+use Rattle.ess_semantics.specs.Order.{order_kind}
+use Rattle.ess_rules_laws.proofs.Agreement.{same_text-equal, same_text-itself}
+use Rattle.ess_refine_laws.proofs.TypesOfFolds.{one_type, two_type, list_of_type, Stays, then-stays, one-stays, TypeKept, when, members-typed}
+use Rattle.ess_refine_laws.specs.AllRules.{Rule, over_nothing, over_one, over_one_binding, over_a_term, over_a_made_set, over_a_condition, over_tuples, component_of_a_tuple, not_equal, turned, strictly, with_nothing, size, least_of_a_literal, list_of_a_term, results, choice, compares_compound, rewrite}
+use Rattle.ess_refine_laws.specs.TypesOfRules.{keeps_type, TypeTold, RulesKeepTypes}
+use Rattle.ess_refine_laws.proofs.TypesOfFolds.{nothing, one-item, bare, alone, loosely, term}
+use Rattle.ess_refine_laws.proofs.TypesOfComparisons.{apart, turns, strict, splits, shorter, list-of-term, least-listed, nth-type}
+
+module _ (g : Names Ty) where
+  -- ---- components
+
+  component : (e : Ex) → TypeKept g e (component_listed e)
+  component (node_ex b (index (to_component k ∷ [])) (more_exs (node_ex false tuple_literal es) no_exs)) = go (nth es k) refl
+    where
+      parts : (t : Ty) (o : Option (List Ty)) →
+          type_of_node (index (to_component k ∷ [])) (other ∷ []) (and_then o (λ ts. Some (compound a_tuple (tys_of ts))) ∷ []) ≡ Some t →
+          and_then (and_then o (λ ts. Some (compound a_tuple (tys_of ts)))) (λ u. and_then (step_ty u (a_number k) None) (λ v. Some v)) ≡ Some t
+      parts t None q = cc
+      parts t (Some ts) q = q
+
+      go : (r : Option Ex) → nth es k ≡ r → TypeKept g (node_ex b (index (to_component k ∷ [])) (more_exs (node_ex false tuple_literal es) no_exs)) r
+      go None n = tt
+      go (Some a) n = λ t q. nth-type g es k a t (all_some (types_of es g)) refl n (parts t (all_some (types_of es g)) q)
+  component _ = tt
+
+  -- ---- what is made of functions, matrices and containers
+
+  result-type : (x : Text) (t u : Ty) →
+      one_type (word Fun.ToSet) (list_of_type (type_of (component_of u 2 (name_ex x)) ((x, compound2 a_tuple t u) ∷ g))) ≡ Some (compound1 a_set u)
+  result-type x t u =
+      ap (λ o. one_type (word Fun.ToSet) (list_of_type (type_of_node (index (to_component 2 ∷ [])) (a_name x ∷ []) (o ∷ []))))
+      (look-itself x (compound2 a_tuple t u) g)
+
+  range-typed : (x : Text) (e : Ex) → TypeKept g e (range_as_set g x e)
+  range-typed x (fun1 false Fun.Range f) = go (type_of f g) refl
+    where
+      go : (o : Option Ty) → type_of f g ≡ o → TypeKept g (fun1 false Fun.Range f) (of_function o
+          (λ t u. fun1 false Fun.ToSet (comp_ex (component_of u 2 (name_ex x)) (from (name_pat x) f no_gens))))
+      go (Some (compound2 a_function t u)) p = λ s q.
+          ap (λ o. one_type (word Fun.ToSet) (and_then (and_then (and_then o member_ty) (λ m. Some ((x, m) ∷ g)))
+          (λ h. list_of_type (type_of (component_of u 2 (name_ex x)) h)))) p
+          ∙ result-type x t u ∙ ap (λ o. one_type (word Fun.Range) o) (sym p) ∙ q
+      go _ p = tt
+  range-typed x _ = tt
+
+  -- The type of a term with one for each member.
+  ones-type : (x : Text) (s e : Ex) (u : Ty) → ((h : Names Ty) → type_of e h ≡ Some u) → is_some (and_then (type_of s g) member_ty) ≡ true →
+      type_of (comp_ex e (from (name_pat x) s no_gens)) g ≡ Some (compound2 a_matrix int_ty u)
+  ones-type x s e u h k = go (and_then (type_of s g) member_ty) k
+    where
+      go : (m : Option Ty) → is_some m ≡ true →
+          and_then (and_then m (λ t. Some ((x, t) ∷ g))) (λ i. list_of_type (type_of e i)) ≡ Some (compound2 a_matrix int_ty u)
+      go None k = cc
+      go (Some t) k = ap list_of_type (h ((x, t) ∷ g))
+
+  sized-int : (o : Option Ty) → is_counted o ≡ true → one_type (unary Op1.Bar) o ≡ Some int_ty
+  sized-int (Some (compound a_set ts)) k = refl
+  sized-int (Some (compound a_mset ts)) k = refl
+  sized-int (Some (compound a_function ts)) k = refl
+  sized-int (Some (compound a_relation ts)) k = refl
+  sized-int _ k = cc
+
+  sized-typed : (x : Text) (e : Ex) → TypeTold g size e → TypeKept g e (size_term g x e)
+  sized-typed x (ex1 false Op1.Bar s) k = go (is_counted (type_of s g)) refl
+    where
+      go : (c : Bool) → is_counted (type_of s g) ≡ c → TypeKept g (ex1 false Op1.Bar s)
+          (if c then Some (fun1 false Fun.Sum (comp_ex (number_ex (pos 1)) (from (name_pat x) s no_gens))) else None)
+      go true p = λ t q.
+          ap (λ o. one_type (word Fun.Sum) o) (ones-type x s (number_ex (pos 1)) int_ty (λ h. refl) k) ∙ sym (sized-int (type_of s g) p) ∙ q
+      go false p = tt
+  sized-typed x _ k = tt
+
+  matrix-members : (o : Option Ty) → is_matrix o ≡ true → is_some (and_then o member_ty) ≡ true
+  matrix-members (Some (compound2 a_matrix i t)) k = refl
+  matrix-members _ k = cc
+
+  -- An equation is a truth value.
+  equation : (o p : Option Ty) (t : Ty) → two_type (binary Op2.Eq) o p ≡ Some t → t ≡ bool_ty
+  equation None p t q = cc
+  equation (Some u) None t q = cc
+  equation (Some u) (Some v) t q = go (join u v) q
+    where
+      go : (j : Option Ty) → option_map (λ w. bool_ty) j ≡ Some t → t ≡ bool_ty
+      go None q = cc
+      go (Some w) q = cc
+
+  no-items-type : (x : Text) (a : Ex) → is_matrix (type_of a g) ≡ true →
+      type_of (ex1 true Op1.Not (fun1 true Fun.Or (comp_ex (truth_ex true) (from (name_pat x) a no_gens)))) g ≡ Some bool_ty
+  no-items-type x a k = ap (λ o. one_type (unary Op1.Not) (one_type (word Fun.Or) o))
+      (ones-type x a (truth_ex true) bool_ty (λ h. refl) (matrix-members (type_of a g) k))
+
+  empty-typed : (x : Text) (a b c : Ex) (o : Bool) → is_matrix (type_of c g) ≡ o → TypeKept g (ex2 true Op2.Eq a b)
+      (if o then Some (ex1 true Op1.Not (fun1 true Fun.Or (comp_ex (truth_ex true) (from (name_pat x) c no_gens)))) else None)
+  empty-typed x a b c true k = λ t q. no-items-type x c k ∙ ap Some (sym (equation (type_of a g) (type_of b g) t q))
+  empty-typed x a b c false k = tt
+
+  nothing-typed : (x : Text) (e : Ex) → TypeKept g e (equal_to_nothing g x e)
+  nothing-typed x (ex2 true Op2.Eq a (node_ex false matrix_literal no_exs)) =
+      empty-typed x a (node_ex false matrix_literal no_exs) a (is_matrix (type_of a g)) refl
+  nothing-typed x (ex2 true Op2.Eq (node_ex false matrix_literal no_exs) a) =
+      empty-typed x (node_ex false matrix_literal no_exs) a a (is_matrix (type_of a g)) refl
+  nothing-typed x _ = tt
+
+  -- ---- each rule
+
+  under : (c : Bool) (e : Ex) (r : Option Ex) → TypeKept g e r → TypeKept g e (if c then r else None)
+  under true e r h = h
+  under false e r h = tt
+
+  each-typed : (s : Supply) (r : Rule) (e : Ex) → keeps_type r ≡ true → TypeTold g r e → TypeKept g e (rewrite s g r e)
+  each-typed s over_nothing e k h = nothing g e
+  each-typed s over_one e k h = one-item g e h
+  each-typed s over_one_binding e k h = bare g e h
+  each-typed s over_a_term e k h = term g s.one e
+  each-typed s over_a_made_set e k h = loosely g e
+  each-typed s over_a_condition e k h = alone g e
+  each-typed s over_tuples e k h = splits g e
+  each-typed s component_of_a_tuple e k h = component e
+  each-typed s not_equal e k h = under (compares_compound g e) e (unequal e) (apart g e)
+  each-typed s turned e k h = turns g e
+  each-typed s strictly e k h = strict g s.one e
+  each-typed s with_nothing e k h = nothing-typed s.one e
+  each-typed s size e k h = sized-typed s.one e h
+  each-typed s least_of_a_literal e k h = least-listed g e
+  each-typed s list_of_a_term e k h = list-of-term g s.one e
+  each-typed s results e k h = range-typed s.one e
+  each-typed s choice e k h = shorter g e
+  each-typed s _ e k h = cc
+
+-- What they keep.
+pub rules-keep-types : RulesKeepTypes
+rules-keep-types s g r e f q k h = subst (λ o. TypeKept g e o) q (each-typed g s r e k h)
