@@ -16,6 +16,7 @@ mod ToldNames
 pub mod WrittenLaws
 pub mod WrittenDomains
 pub mod ViewValues
+mod Directions
 pub mod Built
 pub mod Examples
 pub mod ExamplesBuilt

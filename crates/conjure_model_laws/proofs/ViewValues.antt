@@ -4,7 +4,7 @@ use Rattle.std.proofs.Common.{◌≡◌, refl, sym, ap, ◌∙◌, subst, Bool, 
 use Rattle.ess_semantics.specs.declared.words.ReprKind.{ReprKind}
 use Rattle.ess_semantics.specs.Values.{Text, Value, number, truth, item, node}
 use Rattle.ess_semantics.specs.Names.{Names, look, keys, is_among, all_distinct}
-use Rattle.ess_semantics.specs.Trees.{Repr, repr, no_reprs, more_reprs, Ex, cell_ex, no_exs, Dom, bool_dom, int_dom, name_dom, tuple_dom, record_dom, matrix_dom, set_dom, mset_dom, function_dom, relation_dom, partition_dom, Stm}
+use Rattle.ess_semantics.specs.Trees.{Repr, repr, no_reprs, more_reprs, Ex, cell_ex, seen_ex, no_exs, Dom, bool_dom, int_dom, name_dom, tuple_dom, record_dom, matrix_dom, set_dom, mset_dom, function_dom, relation_dom, partition_dom, Stm}
 use Rattle.ess_semantics.specs.Lists.{and_then, all_some}
 use Rattle.ess_semantics.specs.Domains.{Domain, booleans, integers, named, tuples, records, matrices, sets, msets, functions, relations, partitions}
 use Rattle.ess_semantics.specs.Atoms.{IsAtom}
@@ -71,7 +71,8 @@ atom-cell : (d : Dom) (env : Env) (e : Domain) → env.positions ≡ false → d
 atom-cell bool_dom env e pl q a v m =
     let z : booleans ≡ e = cc in of-truth v (ap (λ x. member (domain_with_positions x) v) z ∙ m)
 atom-cell (int_dom rs es) env e pl q a v m =
-    let x = some-map (spans_of rs (meanings es env)) integers e q in of-number (domain_with_positions e) x.0 (ap domain_with_positions (sym x.2)) v m
+    let x = some-map (spans_of rs (meanings es env)) integers e q in
+    of-number (domain_with_positions e) x.0 (ap domain_with_positions (sym x.2)) v m
 atom-cell (name_dom t) env e pl q a v m =
     of-named t (type_entry env.types t) e (ap (λ b. named_domain b t (type_entry env.types t)) (sym pl) ∙ q) v m
 atom-cell (tuple_dom ds) env e pl q a v m =
@@ -106,7 +107,8 @@ atom-tables (integers ss) v a = refl
 atom-tables (named t n) v a = refl
 atom-tables _ v a = absurd a
 
-first-there : (o : Option Table) (r : Option Tables) (t : Table) → and_then o (λ x. option_map (λ xs. x ∷ xs) r) ≡ Some (t ∷ []) → o ≡ Some t
+first-there : (o : Option Table) (r : Option Tables) (t : Table) → and_then o (λ x. option_map (λ xs. x ∷ xs) r) ≡ Some (t ∷ []) →
+    o ≡ Some t
 first-there None r t e = cc
 first-there (Some x) None t e = cc
 first-there (Some x) (Some xs) t e = let z : x ≡ t = cc in ap (λ y. Some y) z
@@ -141,6 +143,14 @@ cell-has S p a x d n ns ts m cs h q =
       tt,
     )
 
+-- The view of a plan that is none of an atom.
+seen-has : (S : List Stm) (p a : Assignment) (x : Text) (r : Repr) (d : Dom) (ns : List Named) (ts : Tables) (m : Match S p a x r d ns ts)
+    (cs : Names Table) (b : Dom) (h : Vals) → tables_in cs (keys ns) ≡ Some ts →
+    domain_of b (tables_with S p cs h) ≡ plan_domain d (here S p) → MeetsDom b (tables_with S p cs h) →
+    Has (seen_ex r b (keys ns) no_exs) (tables_with S p cs h) (with_positions m.v)
+seen-has S p a x r d ns ts m cs b h q e g =
+    (view-value S p a x r d ns ts m cs b h q e, view-is-tidy S p a x r d ns ts m cs b h q e g)
+
 -- The view by a plan whose tables match.
 view-has : (S : List Stm) (p a : Assignment) (f : Side) (x : Text) (r : Repr) (d : Dom) (ns : List Named) (ts : Tables)
     (m : Match S p a x r d ns ts) (cs : Names Table) (b : Dom) (h : Vals) → tables_in cs (keys ns) ≡ Some ts →
@@ -149,47 +159,47 @@ view-has : (S : List Stm) (p a : Assignment) (f : Side) (x : Text) (r : Repr) (d
 view-has S p a f x (repr ReprKind.Atom no_reprs) d (n ∷ ns) ts m cs b h q e g = cell-has S p a x d n ns ts m cs h q
 view-has S p a f x (repr ReprKind.Atom (more_reprs r rs)) d (n ∷ ns) ts m cs b h q e g = absurd m.fit.roomy
 view-has S p a f x (repr ReprKind.Atom rs) d [] ts m cs b h q e g =
-    (view-value S p a x (repr ReprKind.Atom rs) d [] ts m cs b h q e, view-is-tidy S p a x (repr ReprKind.Atom rs) d [] ts m cs b h q e g)
+    seen-has S p a x (repr ReprKind.Atom rs) d [] ts m cs b h q e g
 view-has S p a f x (repr ReprKind.Tuple rs) d ns ts m cs b h q e g =
-    (view-value S p a x (repr ReprKind.Tuple rs) d ns ts m cs b h q e, view-is-tidy S p a x (repr ReprKind.Tuple rs) d ns ts m cs b h q e g)
+    seen-has S p a x (repr ReprKind.Tuple rs) d ns ts m cs b h q e g
 view-has S p a f x (repr ReprKind.Rec rs) d ns ts m cs b h q e g =
-    (view-value S p a x (repr ReprKind.Rec rs) d ns ts m cs b h q e, view-is-tidy S p a x (repr ReprKind.Rec rs) d ns ts m cs b h q e g)
+    seen-has S p a x (repr ReprKind.Rec rs) d ns ts m cs b h q e g
 view-has S p a f x (repr ReprKind.Matrix rs) d ns ts m cs b h q e g =
-    (view-value S p a x (repr ReprKind.Matrix rs) d ns ts m cs b h q e, view-is-tidy S p a x (repr ReprKind.Matrix rs) d ns ts m cs b h q e g)
+    seen-has S p a x (repr ReprKind.Matrix rs) d ns ts m cs b h q e g
 view-has S p a f x (repr ReprKind.Occurrence rs) d ns ts m cs b h q e g =
-    (view-value S p a x (repr ReprKind.Occurrence rs) d ns ts m cs b h q e, view-is-tidy S p a x (repr ReprKind.Occurrence rs) d ns ts m cs b h q e g)
+    seen-has S p a x (repr ReprKind.Occurrence rs) d ns ts m cs b h q e g
 view-has S p a f x (repr ReprKind.Explicit rs) d ns ts m cs b h q e g =
-    (view-value S p a x (repr ReprKind.Explicit rs) d ns ts m cs b h q e, view-is-tidy S p a x (repr ReprKind.Explicit rs) d ns ts m cs b h q e g)
+    seen-has S p a x (repr ReprKind.Explicit rs) d ns ts m cs b h q e g
 view-has S p a f x (repr ReprKind.ExplicitVarSizeWithMarker rs) d ns ts m cs b h q e g =
-    (view-value S p a x (repr ReprKind.ExplicitVarSizeWithMarker rs) d ns ts m cs b h q e, view-is-tidy S p a x (repr ReprKind.ExplicitVarSizeWithMarker rs) d ns ts m cs b h q e g)
+    seen-has S p a x (repr ReprKind.ExplicitVarSizeWithMarker rs) d ns ts m cs b h q e g
 view-has S p a f x (repr ReprKind.ExplicitVarSizeWithFlags rs) d ns ts m cs b h q e g =
-    (view-value S p a x (repr ReprKind.ExplicitVarSizeWithFlags rs) d ns ts m cs b h q e, view-is-tidy S p a x (repr ReprKind.ExplicitVarSizeWithFlags rs) d ns ts m cs b h q e g)
+    seen-has S p a x (repr ReprKind.ExplicitVarSizeWithFlags rs) d ns ts m cs b h q e g
 view-has S p a f x (repr ReprKind.ExplicitVarSizeWithDummy rs) d ns ts m cs b h q e g =
-    (view-value S p a x (repr ReprKind.ExplicitVarSizeWithDummy rs) d ns ts m cs b h q e, view-is-tidy S p a x (repr ReprKind.ExplicitVarSizeWithDummy rs) d ns ts m cs b h q e g)
+    seen-has S p a x (repr ReprKind.ExplicitVarSizeWithDummy rs) d ns ts m cs b h q e g
 view-has S p a f x (repr ReprKind.MSetOccurrence rs) d ns ts m cs b h q e g =
-    (view-value S p a x (repr ReprKind.MSetOccurrence rs) d ns ts m cs b h q e, view-is-tidy S p a x (repr ReprKind.MSetOccurrence rs) d ns ts m cs b h q e g)
+    seen-has S p a x (repr ReprKind.MSetOccurrence rs) d ns ts m cs b h q e g
 view-has S p a f x (repr ReprKind.MSetExplicitWithRepetition rs) d ns ts m cs b h q e g =
-    (view-value S p a x (repr ReprKind.MSetExplicitWithRepetition rs) d ns ts m cs b h q e, view-is-tidy S p a x (repr ReprKind.MSetExplicitWithRepetition rs) d ns ts m cs b h q e g)
+    seen-has S p a x (repr ReprKind.MSetExplicitWithRepetition rs) d ns ts m cs b h q e g
 view-has S p a f x (repr ReprKind.MSetExplicitWithFlags rs) d ns ts m cs b h q e g =
-    (view-value S p a x (repr ReprKind.MSetExplicitWithFlags rs) d ns ts m cs b h q e, view-is-tidy S p a x (repr ReprKind.MSetExplicitWithFlags rs) d ns ts m cs b h q e g)
+    seen-has S p a x (repr ReprKind.MSetExplicitWithFlags rs) d ns ts m cs b h q e g
 view-has S p a f x (repr ReprKind.Function1D rs) d ns ts m cs b h q e g =
-    (view-value S p a x (repr ReprKind.Function1D rs) d ns ts m cs b h q e, view-is-tidy S p a x (repr ReprKind.Function1D rs) d ns ts m cs b h q e g)
+    seen-has S p a x (repr ReprKind.Function1D rs) d ns ts m cs b h q e g
 view-has S p a f x (repr ReprKind.Function1DPartial rs) d ns ts m cs b h q e g =
-    (view-value S p a x (repr ReprKind.Function1DPartial rs) d ns ts m cs b h q e, view-is-tidy S p a x (repr ReprKind.Function1DPartial rs) d ns ts m cs b h q e g)
+    seen-has S p a x (repr ReprKind.Function1DPartial rs) d ns ts m cs b h q e g
 view-has S p a f x (repr ReprKind.FunctionND rs) d ns ts m cs b h q e g =
-    (view-value S p a x (repr ReprKind.FunctionND rs) d ns ts m cs b h q e, view-is-tidy S p a x (repr ReprKind.FunctionND rs) d ns ts m cs b h q e g)
+    seen-has S p a x (repr ReprKind.FunctionND rs) d ns ts m cs b h q e g
 view-has S p a f x (repr ReprKind.FunctionNDPartial rs) d ns ts m cs b h q e g =
-    (view-value S p a x (repr ReprKind.FunctionNDPartial rs) d ns ts m cs b h q e, view-is-tidy S p a x (repr ReprKind.FunctionNDPartial rs) d ns ts m cs b h q e g)
+    seen-has S p a x (repr ReprKind.FunctionNDPartial rs) d ns ts m cs b h q e g
 view-has S p a f x (repr ReprKind.FunctionAsRelation rs) d ns ts m cs b h q e g =
-    (view-value S p a x (repr ReprKind.FunctionAsRelation rs) d ns ts m cs b h q e, view-is-tidy S p a x (repr ReprKind.FunctionAsRelation rs) d ns ts m cs b h q e g)
+    seen-has S p a x (repr ReprKind.FunctionAsRelation rs) d ns ts m cs b h q e g
 view-has S p a f x (repr ReprKind.RelationAsMatrix rs) d ns ts m cs b h q e g =
-    (view-value S p a x (repr ReprKind.RelationAsMatrix rs) d ns ts m cs b h q e, view-is-tidy S p a x (repr ReprKind.RelationAsMatrix rs) d ns ts m cs b h q e g)
+    seen-has S p a x (repr ReprKind.RelationAsMatrix rs) d ns ts m cs b h q e g
 view-has S p a f x (repr ReprKind.RelationAsSet rs) d ns ts m cs b h q e g =
-    (view-value S p a x (repr ReprKind.RelationAsSet rs) d ns ts m cs b h q e, view-is-tidy S p a x (repr ReprKind.RelationAsSet rs) d ns ts m cs b h q e g)
+    seen-has S p a x (repr ReprKind.RelationAsSet rs) d ns ts m cs b h q e g
 view-has S p a f x (repr ReprKind.PartitionOccurrence rs) d ns ts m cs b h q e g =
-    (view-value S p a x (repr ReprKind.PartitionOccurrence rs) d ns ts m cs b h q e, view-is-tidy S p a x (repr ReprKind.PartitionOccurrence rs) d ns ts m cs b h q e g)
+    seen-has S p a x (repr ReprKind.PartitionOccurrence rs) d ns ts m cs b h q e g
 view-has S p a f x (repr ReprKind.PartitionAsSet rs) d ns ts m cs b h q e g =
-    (view-value S p a x (repr ReprKind.PartitionAsSet rs) d ns ts m cs b h q e, view-is-tidy S p a x (repr ReprKind.PartitionAsSet rs) d ns ts m cs b h q e g)
+    seen-has S p a x (repr ReprKind.PartitionAsSet rs) d ns ts m cs b h q e g
 
 -- ---- at an instance with canonical tables
 

@@ -96,7 +96,8 @@ side_of_values finds_side p a = a
 -- is of a scalar, whose view is a cell.
 abbrev pub ViewsHaveValues : Type 0
 ViewsHaveValues =
-    (S : List Stm) (o : Options) (M : Model) → Base S o M → (p a : Assignment) (q c : Names Table) → Instance S o p q → Canonical S o p a c →
+    (S : List Stm) (o : Options) (M : Model) → Base S o M → (p a : Assignment) (q c : Names Table) → Instance S o p q →
+    Canonical S o p a c →
     (f : Side) (x : Text) (r : Repr) (d : Dom) (ns : List Named) → In (value_plan f x r d ns) (plans S o) → (b : Dom) (h : Names Value) →
     domain_of b (tables_with S p (q ++ c) h) ≡ plan_domain d (here S p) → MeetsDom b (tables_with S p (q ++ c) h) →
     (v : Value) × (value_of (side_of_values f p a) x ≡ Some v) ×

@@ -1,6 +1,7 @@
 //! Laws of the trees on the way from a constraint to its rule, each the contract of a function that does nothing.
 
-ghost use Rattle.conjure_model_laws.specs.TreeLaws.{NamesPrinted, NamesToldApart, ShownStands, ViewsHaveValues, WrittenDomainsStand, WrittenTreesStand};
+ghost use Rattle.conjure_model_laws.specs.TreeLaws.{NamesPrinted, NamesToldApart, ShownStands, ViewsHaveValues};
+ghost use Rattle.conjure_model_laws.specs.TreeLaws.{WrittenDomainsStand, WrittenTreesStand};
 
 /// A tree of a specification means with its bound names told apart what it meant, in every env, and is kept, where the names that it
 /// doesn't bind aren't reserved ones, as none of a specification is.
