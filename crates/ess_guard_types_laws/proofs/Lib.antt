@@ -10,3 +10,5 @@ mod TypedRows
 mod FormsStay
 mod PartsStay
 mod TypesStay
+-- Worked examples
+mod ExamplesTypes
