@@ -57,3 +57,5 @@ mod TypesOfFolds
 mod TypesOfComparisons
 mod TypesOfRules
 mod ExamplesTypesOfRules
+mod TruthTypes
+mod JudgedTrees
