@@ -19,6 +19,7 @@ use Rattle.ess_refine_laws.specs.ScalarItems.{is_scalar}
 use Rattle.ess_refine_laws.specs.MarksStay.{MarkFits, HasMarks, HaveMarks, GensHaveMarks, DomHasMarks}
 use Rattle.ess_refine_laws.specs.Progress.{is_known, is_picked, is_judged, are_judged, gens_judged, dom_judged}
 use Rattle.ess_refine_laws.specs.JudgedTrees.{has_told_operands, are_types_told, all_types_told, gens_types_told, dom_types_told, TypedTreesAreJudged}
+use Rattle.ess_refine_laws.proofs.Progress.{trees-make-progress}
 use Rattle.ess_refine_laws.proofs.TruthTypes.{no-truth, is-truth}
 
 -- ---- types that are there
@@ -243,4 +244,7 @@ mutual
 
 -- What is judged.
 pub typed-trees-are-judged : TypedTreesAreJudged
-typed-trees-are-judged e g m t k = judged e g m t k
+typed-trees-are-judged = record {
+  are_judged = λ e g m t k. judged e g m t k;
+  make_progress = λ s e g m t k. trees-make-progress.moves s g e (judged e g m (scalar-there (type_of e g) t) k) t;
+}

@@ -59,3 +59,4 @@ mod TypesOfRules
 mod ExamplesTypesOfRules
 mod TruthTypes
 mod JudgedTrees
+mod ExamplesJudgedTrees

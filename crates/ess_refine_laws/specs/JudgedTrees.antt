@@ -12,7 +12,8 @@ use Rattle.ess_rules_laws.specs.Progress.{is_told, are_told}
 use Rattle.ess_refine_laws.specs.RecordNames.{are_in_order}
 use Rattle.ess_refine_laws.specs.ScalarItems.{is_scalar}
 use Rattle.ess_refine_laws.specs.MarksStay.{HasMarks}
-use Rattle.ess_refine_laws.specs.Progress.{is_known, is_picked, is_judged}
+use Rattle.ess_refine_laws.specs.AllRules.{Supply}
+use Rattle.ess_refine_laws.specs.Progress.{is_known, is_picked, is_judged, Progress}
 
 -- Whether each operand of the source has a type other than that of an empty literal's members.
 abbrev pub has_told_operands : Ex → Names Ty → Bool
@@ -57,7 +58,9 @@ abbrev mutual
   dom_types_told (record_dom fs ds) g = are_in_order fs ds
   dom_types_told d g = false
 
--- So a typed tree with right marks, whose types are told, is judged.
-abbrev pub TypedTreesAreJudged : Type 0
-TypedTreesAreJudged = (e : Ex) (g : Names Ty) → HasMarks e g → IsTrue (is_some (type_of e g)) → are_types_told e g ≡ true →
-    is_judged e g ≡ true
+-- So a typed tree with right marks, whose types are told, is judged; and one of a scalar makes progress.
+pub record TypedTreesAreJudged : Type 0 where
+  pub are_judged : (e : Ex) (g : Names Ty) → HasMarks e g → IsTrue (is_some (type_of e g)) → are_types_told e g ≡ true →
+      is_judged e g ≡ true
+  pub make_progress : (s : Supply) (e : Ex) (g : Names Ty) → HasMarks e g → is_scalar (type_of e g) ≡ true → are_types_told e g ≡ true →
+      Progress s g e

@@ -122,7 +122,7 @@ pub fn rules_keep_types()
     ensures { RulesKeepTypes }
 {}
 
-/// A typed tree with right marks and told types is judged, as progress counts on it.
+/// A typed tree with right marks and told types is judged, as progress counts on it, and one of a scalar makes progress.
 pub fn typed_trees_are_judged()
     ensures { TypedTreesAreJudged }
 {}
