@@ -57,3 +57,6 @@ mod TypesOfFolds
 mod TypesOfComparisons
 mod TypesOfRules
 mod ExamplesTypesOfRules
+mod TruthTypes
+mod JudgedTrees
+mod ExamplesJudgedTrees

@@ -67,10 +67,10 @@ use Rattle.ess_semantics.proofs.Orders.{order_exact, equal-of}
 use Rattle.ess_semantics.specs.Order.{order_kind}
 use Rattle.ess_rules_laws.proofs.Agreement.{same_text-equal, same_text-itself}
 use Rattle.ess_refine_laws.proofs.TypesOfFolds.{one_type, two_type, list_of_type, Stays, then-stays, one-stays, TypeKept, when, members-typed}
-use Rattle.ess_refine_laws.specs.AllRules.{Rule, over_nothing, over_one, over_one_binding, over_a_term, over_a_made_set, over_a_condition, over_tuples, component_of_a_tuple, not_equal, turned, strictly, with_nothing, size, least_of_a_literal, list_of_a_term, results, choice, compares_compound, rewrite}
+use Rattle.ess_refine_laws.specs.AllRules.{Rule, over_nothing, over_one, over_one_binding, over_a_term, over_a_made_set, over_a_condition, over_tuples, component_of_a_tuple, not_equal, turned, strictly, with_nothing, size, size_of_one_made_of_another, frequency_in_one_made_of_another, least_of_a_literal, list_of_a_term, results, choice, compares_compound, rewrite}
 use Rattle.ess_refine_laws.specs.TypesOfRules.{keeps_type, TypeTold, RulesKeepTypes}
 use Rattle.ess_refine_laws.proofs.TypesOfFolds.{nothing, one-item, bare, alone, loosely, term}
-use Rattle.ess_refine_laws.proofs.TypesOfComparisons.{apart, turns, strict, splits, shorter, list-of-term, least-listed, nth-type}
+use Rattle.ess_refine_laws.proofs.TypesOfComparisons.{join-swap, apart, turns, strict, splits, shorter, list-of-term, least-listed, nth-type}
 
 module _ (g : Names Ty) where
   -- ---- components
@@ -167,6 +167,92 @@ module _ (g : Names Ty) where
       empty-typed x (node_ex false matrix_literal no_exs) a a (is_matrix (type_of a g)) refl
   nothing-typed x _ = tt
 
+  -- ---- what is made of containers
+
+  function-size : (o : Option Ty) → is_function o ≡ true → one_type (unary Op1.Bar) o ≡ Some int_ty
+  function-size (Some (compound a_function ts)) k = refl
+  function-size _ k = cc
+
+  set-size : (o : Option Ty) → both_sets o o ≡ true → one_type (unary Op1.Bar) o ≡ Some int_ty
+  set-size (Some (compound a_set ts)) k = refl
+  set-size (Some (compound a_relation ts)) k = refl
+  set-size _ k = cc
+
+  -- A size is a number.
+  size-number : (o : Option Ty) (t : Ty) → one_type (unary Op1.Bar) o ≡ Some t → t ≡ int_ty
+  size-number None t q = cc
+  size-number (Some int_ty) t q = cc
+  size-number (Some any_ty) t q = cc
+  size-number (Some bool_ty) t q = cc
+  size-number (Some (named_ty a)) t q = cc
+  size-number (Some (compound a_set ts)) t q = cc
+  size-number (Some (compound a_mset ts)) t q = cc
+  size-number (Some (compound a_function ts)) t q = cc
+  size-number (Some (compound a_relation ts)) t q = cc
+  size-number (Some (compound _ ts)) t q = cc
+
+  -- Under a test that tells the size.
+  sized-so : (c : Bool) (m f : Ex) → (c ≡ true → type_of f g ≡ Some int_ty) → TypeKept g (ex1 false Op1.Bar m) (if c then Some f else None)
+  sized-so true m f h = λ t q. h refl ∙ ap Some (sym (size-number (type_of m g) t q))
+  sized-so false m f h = tt
+
+  parts-there : (o : Option Ty) (t : Ty) → one_type (unary Op1.Bar) (one_type (word Fun.Parts) o) ≡ Some t → is_partition o ≡ true →
+      is_some (and_then o member_ty) ≡ true
+  parts-there (Some (compound1 a_partition a)) t q k = refl
+  parts-there (Some (compound a_partition no_tys)) t q k = cc
+  parts-there (Some (compound a_partition (more_tys a (more_tys b ts)))) t q k = cc
+  parts-there _ t q k = cc
+
+  size-made-typed : (x : Text) (e : Ex) → TypeKept g e (size_made g x e)
+  size-made-typed x (ex1 false Op1.Bar (fun1 false Fun.Defined f)) =
+      sized-so (is_function (type_of f g)) (fun1 false Fun.Defined f) (ex1 false Op1.Bar f) (function-size (type_of f g))
+  size-made-typed x (ex1 false Op1.Bar (fun1 false Fun.ToRelation f)) =
+      sized-so (is_function (type_of f g)) (fun1 false Fun.ToRelation f) (ex1 false Op1.Bar f) (function-size (type_of f g))
+  size-made-typed x (ex1 false Op1.Bar (fun1 false Fun.ToMSet m)) =
+      sized-so (is_counted (type_of m g)) (fun1 false Fun.ToMSet m) (ex1 false Op1.Bar m) (sized-int (type_of m g))
+  size-made-typed x (ex1 false Op1.Bar (fun1 false Fun.ToSet m)) =
+      sized-so (both_sets (type_of m g) (type_of m g)) (fun1 false Fun.ToSet m) (ex1 false Op1.Bar m) (set-size (type_of m g))
+  size-made-typed x (ex1 false Op1.Bar (fun1 false Fun.Parts p)) = go (is_partition (type_of p g)) refl
+    where
+      go : (c : Bool) → is_partition (type_of p g) ≡ c → TypeKept g (ex1 false Op1.Bar (fun1 false Fun.Parts p))
+          (if c then Some (fun1 false Fun.Sum (comp_ex (number_ex (pos 1)) (from (name_pat x) p no_gens))) else None)
+      go true k = λ t q.
+          ap (λ o. one_type (word Fun.Sum) o) (ones-type x p (number_ex (pos 1)) int_ty (λ h. refl) (parts-there (type_of p g) t q k))
+          ∙ ap Some (sym (size-number (one_type (word Fun.Parts) (type_of p g)) t q))
+      go false k = tt
+  size-made-typed x _ = tt
+
+  -- How often a value is in a multiset made of a set says whether it is there.
+  made-frequency : (o p : Option Ty) → both_sets o o ≡ true →
+      Stays (two_type (word Fun.Freq) (one_type (word Fun.ToMSet) o) p) (one_type (word Fun.ToInt) (two_type (binary Op2.Member) p o))
+  made-frequency (Some (compound1 a_set m)) None k t q = cc
+  made-frequency (Some (compound1 a_set m)) (Some u) k t q = go (join m u) (join u m) (join-swap m u) q
+    where
+      go : (i j : Option Ty) → i ≡ j →
+          option_map (λ v. int_ty) (option_map (compound a_mset) (and_then i (λ v. option_map (more_tys v) (Some no_tys)))) ≡ Some t →
+          one_type (word Fun.ToInt) (option_map (λ v. bool_ty) j) ≡ Some t
+      go None j e q = cc
+      go (Some v) None e q = cc
+      go (Some v) (Some w) e q = q
+  made-frequency (Some (compound a_set no_tys)) None k t q = cc
+  made-frequency (Some (compound a_set no_tys)) (Some u) k t q = cc
+  made-frequency (Some (compound a_set (more_tys a (more_tys b ts)))) None k t q = cc
+  made-frequency (Some (compound a_set (more_tys a (more_tys b ts)))) (Some u) k t q = cc
+  made-frequency (Some (compound a_relation ts)) None k t q = cc
+  made-frequency (Some (compound a_relation ts)) (Some u) k t q = cc
+  made-frequency _ p k t q = cc
+
+  frequency-typed : (x : Text) (e : Ex) → TypeKept g e (frequency_made g x e)
+  frequency-typed x (node_ex false (word Fun.Freq) (more_exs (fun1 false Fun.ToMSet m) (more_exs a no_exs))) =
+      go (both_sets (type_of m g) (type_of m g)) refl
+    where
+      go : (c : Bool) → both_sets (type_of m g) (type_of m g) ≡ c →
+          TypeKept g (node_ex false (word Fun.Freq) (more_exs (fun1 false Fun.ToMSet m) (more_exs a no_exs)))
+          (if c then Some (fun1 false Fun.ToInt (ex2 true Op2.Member a m)) else None)
+      go true k = made-frequency (type_of m g) (type_of a g) k
+      go false k = tt
+  frequency-typed x _ = tt
+
   -- ---- each rule
 
   under : (c : Bool) (e : Ex) (r : Option Ex) → TypeKept g e r → TypeKept g e (if c then r else None)
@@ -187,6 +273,8 @@ module _ (g : Names Ty) where
   each-typed s strictly e k h = strict g s.one e
   each-typed s with_nothing e k h = nothing-typed s.one e
   each-typed s size e k h = sized-typed s.one e h
+  each-typed s size_of_one_made_of_another e k h = size-made-typed s.one e
+  each-typed s frequency_in_one_made_of_another e k h = frequency-typed s.one e
   each-typed s least_of_a_literal e k h = least-listed g e
   each-typed s list_of_a_term e k h = list-of-term g s.one e
   each-typed s results e k h = range-typed s.one e

@@ -18,3 +18,4 @@ pub mod ItemsOnce
 pub mod Spelling
 pub mod ScopesOfRules
 pub mod TypesOfRules
+pub mod JudgedTrees

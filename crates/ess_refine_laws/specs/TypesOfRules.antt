@@ -9,7 +9,7 @@ use Rattle.ess_semantics.specs.OperatorTypes.{member_ty}
 use Rattle.ess_semantics.specs.Typing.{type_of}
 use Rattle.ess_rules_laws.specs.Progress.{is_told}
 use Rattle.ess_refine_laws.specs.TypesStay.{KeepsType}
-use Rattle.ess_refine_laws.specs.AllRules.{Rule, over_nothing, over_one, over_one_binding, over_a_term, over_a_made_set, over_a_condition, over_tuples, component_of_a_tuple, not_equal, turned, strictly, with_nothing, size, least_of_a_literal, list_of_a_term, results, choice, Supply, rewrite}
+use Rattle.ess_refine_laws.specs.AllRules.{Rule, over_nothing, over_one, over_one_binding, over_a_term, over_a_made_set, over_a_condition, over_tuples, component_of_a_tuple, not_equal, turned, strictly, with_nothing, size, size_of_one_made_of_another, frequency_in_one_made_of_another, least_of_a_literal, list_of_a_term, results, choice, Supply, rewrite}
 
 -- Rules that are shown to keep types.
 abbrev pub keeps_type : Rule → Bool
@@ -26,6 +26,8 @@ keeps_type turned = true
 keeps_type strictly = true
 keeps_type with_nothing = true
 keeps_type size = true
+keeps_type size_of_one_made_of_another = true
+keeps_type frequency_in_one_made_of_another = true
 keeps_type least_of_a_literal = true
 keeps_type list_of_a_term = true
 keeps_type results = true

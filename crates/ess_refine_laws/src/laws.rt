@@ -19,6 +19,7 @@ ghost use Rattle.ess_refine_laws.specs.ItemsOnce.{ItemsOnceOffer};
 ghost use Rattle.ess_refine_laws.specs.Spelling.{NumbersAreSpared};
 ghost use Rattle.ess_refine_laws.specs.ScopesOfRules.{RulesKeepScopes};
 ghost use Rattle.ess_refine_laws.specs.TypesOfRules.{RulesKeepTypes};
+ghost use Rattle.ess_refine_laws.specs.JudgedTrees.{TypedTreesAreJudged};
 
 /// A refined number becomes one that is there wherever the names and cells in it are, and that is the same where the old one
 /// has a value.
@@ -119,4 +120,9 @@ pub fn rules_keep_scopes()
 /// Rules on folds, tuples, comparisons, lists and sizes keep types.
 pub fn rules_keep_types()
     ensures { RulesKeepTypes }
+{}
+
+/// A typed tree with right marks and told types is judged, as progress counts on it, and one of a scalar makes progress.
+pub fn typed_trees_are_judged()
+    ensures { TypedTreesAreJudged }
 {}
