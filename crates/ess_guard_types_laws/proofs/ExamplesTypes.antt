@@ -1,5 +1,5 @@
 -- Worked examples: trees in which each part has a type, and what the conditions of terms have.
-use Rattle.std.proofs.Common.{◌≡◌, refl, true, false, List, [], ◌∷◌, pos, Some, None}
+use Rattle.std.proofs.Common.{◌≡◌, refl, true, false, [], ◌∷◌, pos, Some, None}
 use Rattle.std.specs.Prelude.{codes}
 use Rattle.ess_semantics.specs.declared.words.Op2.{Op2}
 use Rattle.ess_semantics.specs.Names.{Names}
@@ -31,7 +31,8 @@ abbrev to_three : Dom
 to_three = int_dom (both_ends ∷ []) (more_exs (number_ex (pos 1)) (more_exs (number_ex (pos 3)) no_exs))
 
 -- Membership in the list of a domain's members has no type, membership in their set has.
-pub of-list : type_of (ex2 true Op2.Member (number_ex (pos 2)) (comp_ex (name_ex (codes "p")) (over (name_pat (codes "p")) to_three no_gens)))
+pub of-list : type_of (ex2 true Op2.Member (number_ex (pos 2)) (comp_ex (name_ex (codes "p"))
+    (over (name_pat (codes "p")) to_three no_gens)))
     numbers ≡ None
 of-list = refl
 

@@ -43,7 +43,8 @@ of-kinds true k None h = cc
 of-kinds true k (Some ts) h = (refl, refl)
 of-kinds false k o h = cc
 
-to-kinds : (c : Bool) (k : Kind) (o : Option Tys) → c ≡ true → is_some o ≡ true → is_some (if c then option_map (compound k) o else None) ≡ true
+to-kinds : (c : Bool) (k : Kind) (o : Option Tys) → c ≡ true → is_some o ≡ true → is_some
+    (if c then option_map (compound k) o else None) ≡ true
 to-kinds true k None e h = h
 to-kinds true k (Some ts) e h = refl
 to-kinds false k o e h = cc
@@ -54,7 +55,8 @@ pair-some None y h = cc
 pair-some (Some v) None h = cc
 pair-some (Some v) (Some ws) h = (refl, refl)
 
-some-pair : (x : Option Ty) (y : Option Tys) → is_some x ≡ true → is_some y ≡ true → is_some (and_then x (λ v. option_map (more_tys v) y)) ≡ true
+some-pair : (x : Option Ty) (y : Option Tys) → is_some x ≡ true → is_some y ≡ true → is_some
+    (and_then x (λ v. option_map (more_tys v) y)) ≡ true
 some-pair None y h k = h
 some-pair (Some v) None h k = k
 some-pair (Some v) (Some ws) h k = refl
@@ -220,7 +222,11 @@ mutual
   below (compound k ts) _ j e u h = (cc, cc)
 
   all-below : (ts us : Tys) → PartsBelow ts us
-  all-below no_tys no_tys vs e ws h = let q : no_tys ≡ vs = cc in (subst (λ z. AgreeAll ws z) (sym q) h, subst (λ z. AgreeAll ws z) (sym q) h)
+  all-below no_tys no_tys vs e ws h = let q : no_tys ≡ vs = cc in (
+    subst (λ z. AgreeAll ws z) (sym q) h,
+    subst (λ z. AgreeAll ws z)
+        (sym q) h,
+  )
   all-below (more_tys t ts) (more_tys u us) vs e ws h =
       more-below t ts u us (below t u) (all-below ts us) vs ws (join t u) refl (joins ts us) refl e h
   all-below no_tys (more_tys u us) vs e ws h = (cc, cc)

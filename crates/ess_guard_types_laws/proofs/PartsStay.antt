@@ -79,7 +79,8 @@ module _ (natural : Bool) (x y : Text) where
 
   module _ (k : Names Origin) (op : Op) (es : Exs) (g : Names Ty) (a : AllStay k es g) (n : indexes_items op es ≡ true) where
     node-same : (b : Bool) → type_of (node_ex b op (Gs k es)) g ≡ type_of (node_ex b op es) g
-    node-same b = ap (λ ss. type_of_node op ss (types_of (Gs k es) g)) (F.statics-kept natural x y es k) ∙ ap (type_of_node op (statics es)) a.same
+    node-same b = ap (λ ss. type_of_node op ss (types_of (Gs k es) g)) (F.statics-kept natural x y es k) ∙ ap
+        (type_of_node op (statics es)) a.same
 
     asked-at : (w : Bool) → is_some (type_of (node_ex false op es) g) ≡ true → Conds (own_at natural x y k w op (Gs k es)) g
     asked-at w i = if-conds (w && is_plain op (Gs k es)) (own k x y op (Gs k es)) g
@@ -149,8 +150,10 @@ module _ (natural : Bool) (x y : Text) where
       DomStays k d g → Stays k (matrix_ex es d) g
   matrix-stays es d k g i a s =
       let e : type_of (matrix_ex (Gs k es) (guarded_dom natural x y k d)) g ≡ type_of (matrix_ex es d) g =
-      ap (λ os. and_then (all_some os) (λ ts. option_map (compound2 a_matrix (type_of_dom (guarded_dom natural x y k d))) (join_all ts))) a.same
-      ∙ ap (λ t. and_then (all_some (types_of es g)) (λ ts. option_map (compound2 a_matrix t) (join_all ts))) (F.dom-type natural x y d k) in record {
+      ap (λ os. and_then (all_some os) (λ ts. option_map (compound2 a_matrix (type_of_dom (guarded_dom natural x y k d)))
+      (join_all ts))) a.same
+      ∙ ap (λ t. and_then (all_some (types_of es g)) (λ ts. option_map (compound2 a_matrix t) (join_all ts)))
+      (F.dom-type natural x y d k) in record {
         typed = (ap is_some e ∙ i, a.typed, s.typed);
         same = e;
         asked = λ w. both-conds (Cs k false es) _ g (a.asked false)
@@ -158,7 +161,8 @@ module _ (natural : Bool) (x y : Text) where
             (matrix-conds x es (guarded_dom natural x y k d) g s.typed));
       }
 
-  pub comp-stays : (e : Ex) (gs : Gens) (k : Names Origin) (g : Names Ty) → GensHaveTypes gs g → HasTypes e (names_behind gs g) → GensStay k gs g →
+  pub comp-stays : (e : Ex) (gs : Gens) (k : Names Origin) (g : Names Ty) → GensHaveTypes gs g → HasTypes e (names_behind gs g) →
+      GensStay k gs g →
       Stays (known_behind gs k) e (names_behind gs g) → Stays k (comp_ex e gs) g
   comp-stays e gs k g h i a s =
       let j : Names Origin = known_behind gs k in
@@ -174,7 +178,8 @@ module _ (natural : Bool) (x y : Text) where
       GensStay (with_over p d k) gs (bind_types p (type_of_dom d) g) → GensStay k (over p d gs) g
   over-stays p d gs k g s a =
       let c : Dom = guarded_dom natural x y k d in
-      let e : bind_types p (type_of_dom d) g ≡ bind_types p (type_of_dom c) g = ap (λ t. bind_types p t g) (sym (F.dom-type natural x y d k)) in record {
+      let e : bind_types p (type_of_dom d) g ≡ bind_types p (type_of_dom c) g = ap (λ t. bind_types p t g)
+      (sym (F.dom-type natural x y d k)) in record {
         typed = (s.typed, subst (λ n. GensHaveTypes (guarded_gens natural x y (with_over p d k) gs) n) e a.typed);
         behind = ap (names_behind (guarded_gens natural x y (with_over p d k) gs)) (sym e) ∙ a.behind;
         asked = λ ds q. both-conds (conditions_dom natural x y k d) _ g s.asked
@@ -195,7 +200,8 @@ module _ (natural : Bool) (x y : Text) where
             (subst (λ z. Conds (conditions_gens natural x y (with_any p k) gs ds) z) e (a.asked ds q)));
       }
 
-  pub cond-stays : (c : Ex) (gs : Gens) (k : Names Origin) (g : Names Ty) → agrees (type_of c g) bool_ty ≡ true → Stays k c g → GensStay k gs g →
+  pub cond-stays : (c : Ex) (gs : Gens) (k : Names Origin) (g : Names Ty) → agrees (type_of c g) bool_ty ≡ true → Stays k c g →
+      GensStay k gs g →
       GensStay k (cond c gs) g
   cond-stays c gs k g n s a =
       let b : agrees (type_of (G k c) g) bool_ty ≡ true = ap (λ o. agrees o bool_ty) s.same ∙ n in record {
@@ -213,7 +219,8 @@ module _ (natural : Bool) (x y : Text) where
   pub record-stays : (fs : List Text) (ds : Doms) (k : Names Origin) (g : Names Ty) → DomsStay k ds g → DomStays k (record_dom fs ds) g
   record-stays fs ds k g a = record { typed = a.typed; asked = a.asked }
 
-  pub matrix-dom-stays : (is : Doms) (d : Dom) (k : Names Origin) (g : Names Ty) → DomsStay k is g → DomStays k d g → DomStays k (matrix_dom is d) g
+  pub matrix-dom-stays : (is : Doms) (d : Dom) (k : Names Origin) (g : Names Ty) → DomsStay k is g → DomStays k d g → DomStays k
+      (matrix_dom is d) g
   matrix-dom-stays is d k g a s = record { typed = (a.typed, s.typed); asked = both-conds _ _ g a.asked s.asked }
 
   pub set-stays : (ms : List Mark) (es : Exs) (d : Dom) (k : Names Origin) (g : Names Ty) → NumbersStay k es g → DomStays k d g →
@@ -239,5 +246,6 @@ module _ (natural : Bool) (x y : Text) where
       DomStays k (partition_dom ms es d) g
   partition-stays ms es d k g a s = record { typed = (a.typed, s.typed); asked = both-conds _ _ g (a.asked false) s.asked }
 
-  pub more-doms-stay : (d : Dom) (ds : Doms) (k : Names Origin) (g : Names Ty) → DomStays k d g → DomsStay k ds g → DomsStay k (more_doms d ds) g
+  pub more-doms-stay : (d : Dom) (ds : Doms) (k : Names Origin) (g : Names Ty) → DomStays k d g → DomsStay k ds g → DomsStay k
+      (more_doms d ds) g
   more-doms-stay d ds k g s a = record { typed = (s.typed, a.typed); asked = both-conds _ _ g s.asked a.asked }

@@ -135,7 +135,8 @@ conds-types (c ∷ cs) g p =
 -- `and` and `or` of a comprehension.
 pub fold-cond : (f : Fun) (e : Ex) (gs : Gens) (g : Names Ty) → type_of_word1 f (compound2 a_matrix int_ty bool_ty) ≡ Some bool_ty →
     GensHaveTypes gs g → Cond e (names_behind gs g) → Cond (fun1 true f (comp_ex e gs)) g
-fold-cond f e gs g r h c = word-cond f (comp_ex e gs) (compound2 a_matrix int_ty bool_ty) g (h, c.typed) (comp-type e gs bool_ty g h c.bool) r
+fold-cond f e gs g r h c = word-cond f (comp_ex e gs) (compound2 a_matrix int_ty bool_ty) g (h, c.typed)
+    (comp-type e gs bool_ty g h c.bool) r
 
 -- A Boolean under conditions.
 pub chained-cond : (cs : List Ex) (b : Ex) (g : Names Ty) → Conds cs g → Cond b g → Cond (chained cs b) g

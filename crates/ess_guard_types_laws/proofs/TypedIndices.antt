@@ -124,7 +124,8 @@ list-axis : (i : Ty) (o : Option Ty) (t : Ty) → option_map (compound2 a_matrix
 list-axis i None t h = (any_ty, cc)
 list-axis i (Some e) t h = (e, cc)
 
-then-axis : (i : Ty) (o : Option (List Ty)) (f : List Ty → Option Ty) (t : Ty) → and_then o (λ ts. option_map (compound2 a_matrix i) (f ts)) ≡ Some t →
+then-axis : (i : Ty) (o : Option (List Ty)) (f : List Ty → Option Ty) (t : Ty) → and_then o
+    (λ ts. option_map (compound2 a_matrix i) (f ts)) ≡ Some t →
     (e : Ty) × (t ≡ compound2 a_matrix i e)
 then-axis i None f t h = (any_ty, cc)
 then-axis i (Some ts) f t h = list-axis i (f ts) t h
@@ -135,7 +136,8 @@ literal-axis None r t h = (any_ty, cc)
 literal-axis (Some x) None t h = (any_ty, cc)
 literal-axis (Some x) (Some ys) t h = list-axis int_ty (join_all (x ∷ ys)) t h
 
-comp-axis : (o : Option (Names Ty)) (f : Names Ty → Option Ty) (t : Ty) → and_then o (λ h. option_map (compound2 a_matrix int_ty) (f h)) ≡ Some t →
+comp-axis : (o : Option (Names Ty)) (f : Names Ty → Option Ty) (t : Ty) → and_then o
+    (λ h. option_map (compound2 a_matrix int_ty) (f h)) ≡ Some t →
     (e : Ty) × (t ≡ compound2 a_matrix int_ty e)
 comp-axis None f t h = (any_ty, cc)
 comp-axis (Some k) f t h = list-axis int_ty (f k) t h
@@ -179,8 +181,10 @@ step-type : (q : Step) (o : Option Ty) (s : Static) (ss : List Static) (us : Lis
 step-type q o s ss us t v p e = node-path o (q ∷ []) s ss us t p ∙ e
 
 -- Each step by a value, one behind the other.
-pub path-conds : (k : Names Origin) (x : Text) (m : Ex) (qs : List Step) (is : Exs) (t : Ty) (g : Names Ty) → HasTypes m g → is_empty_list m ≡ false →
-    type_of m g ≡ Some t → HaveTypes is g → (v : Ty) → path_ty t qs (statics is) (types_of is g) ≡ Some v → Conds (path_conditions k x m qs is) g
+pub path-conds : (k : Names Origin) (x : Text) (m : Ex) (qs : List Step) (is : Exs) (t : Ty) (g : Names Ty) → HasTypes m g →
+    is_empty_list m ≡ false →
+    type_of m g ≡ Some t → HaveTypes is g → (v : Ty) → path_ty t qs (statics is) (types_of is g) ≡ Some v → Conds
+    (path_conditions k x m qs is) g
 path-conds k x m [] is t g h n p hs v e = tt
 path-conds k x m (by_value ∷ qs) no_exs t g h n p hs v e = tt
 path-conds k x m (by_value ∷ qs) (more_exs i is) t g h n p hs v e =

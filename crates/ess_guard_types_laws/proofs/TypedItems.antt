@@ -22,7 +22,8 @@ from-item : (x : Text) (s : Ex) (g : Names Ty) → HasTypes s g → is_some (and
 from-item x s g h m = fold-cond Fun.Or (truth_ex true) (from (name_pat x) s no_gens) g refl (m, h, tt) (record { typed = tt; bool = refl })
 
 -- That a container has an item.
-has-item-cond : (x : Text) (s : Ex) (g : Names Ty) → HasTypes s g → is_some (and_then (type_of s g) member_ty) ≡ true → Cond (has_item x s) g
+has-item-cond : (x : Text) (s : Ex) (g : Names Ty) → HasTypes s g → is_some (and_then (type_of s g) member_ty) ≡ true → Cond
+    (has_item x s) g
 has-item-cond x (comp_ex e gs) g h m = fold-cond Fun.Or (truth_ex true) gs g refl h.0 (record { typed = tt; bool = refl })
 has-item-cond x (number_ex n) g h m = from-item x (number_ex n) g h m
 has-item-cond x (truth_ex b) g h m = from-item x (truth_ex b) g h m
@@ -68,7 +69,8 @@ record Takes (f a : Ty) : Type 0 where
   defined : type_of_word1 Fun.Defined f ≡ Some (compound1 a_set from_ty)
   agrees : Agree a from_ty
 
-first-of : (x : Option Ty) (y : Option Tys) → is_some (and_then (option_map (compound a_function) (and_then x (λ v. option_map (more_tys v) y))) value_ty)
+first-of : (x : Option Ty) (y : Option Tys) → is_some (and_then (option_map (compound a_function)
+    (and_then x (λ v. option_map (more_tys v) y))) value_ty)
     ≡ true → is_some x ≡ true
 first-of None y h = h
 first-of (Some v) y h = refl
@@ -113,12 +115,14 @@ record Holds (p a : Ty) : Type 0 where
   participants : type_of_word1 Fun.Participants p ≡ Some (compound1 a_set of_ty)
   agrees : Agree a of_ty
 
-part-of : (x : Option Ty) → is_some (and_then (option_map (compound a_partition) (and_then x (λ v. option_map (more_tys v) (Some no_tys)))) part_ty)
+part-of : (x : Option Ty) → is_some (and_then (option_map (compound a_partition)
+    (and_then x (λ v. option_map (more_tys v) (Some no_tys)))) part_ty)
     ≡ true → is_some x ≡ true
 part-of None h = h
 part-of (Some v) h = refl
 
-no-parts : (x : Option Ty) → is_some (and_then (option_map (compound a_partition) (and_then x (λ v. option_map (more_tys v) None))) part_ty) ≡ true →
+no-parts : (x : Option Ty) → is_some (and_then (option_map (compound a_partition)
+    (and_then x (λ v. option_map (more_tys v) None))) part_ty) ≡ true →
     true ≡ false
 no-parts None h = sym h
 no-parts (Some v) h = sym h

@@ -56,7 +56,8 @@ same-type o a b p q = let r : Some a ≡ Some b = sym p ∙ q in cc
 
 agree-cond : (p q : Ex) (t u : Ty) (g : Names Ty) → HasTypes p g → HasTypes q g → type_of p g ≡ Some t → type_of q g ≡ Some u → Agree t u →
     Cond (agree p q) g
-agree-cond (node_ex false tuple_literal (more_exs a (more_exs b no_exs))) (node_ex false tuple_literal (more_exs c (more_exs d no_exs))) t u g
+agree-cond (node_ex false tuple_literal (more_exs a (more_exs b no_exs)))
+    (node_ex false tuple_literal (more_exs c (more_exs d no_exs))) t u g
     h k p q w =
     let ta = its-type a g h.2.0 in
     let tb = its-type b g h.2.1.0 in
@@ -110,7 +111,8 @@ set-joined any_ty h = (refl, refl)
 set-joined (compound a_set (more_tys a no_tys)) h = (refl, refl)
 set-joined _ h = (cc, cc)
 
-members-conds : (x : Text) (es : Exs) (g : Names Ty) → HaveTypes es g → AgreesWith (compound1 a_set any_ty) es g → Conds (have_members x es) g
+members-conds : (x : Text) (es : Exs) (g : Names Ty) → HaveTypes es g → AgreesWith (compound1 a_set any_ty) es g → Conds
+    (have_members x es) g
 members-conds x no_exs g h a = tt
 members-conds x (more_exs e es) g h a =
     let b = a.0 in both-conds (some_item x e) (have_members x es) g

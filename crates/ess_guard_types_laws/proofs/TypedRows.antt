@@ -30,15 +30,18 @@ both-are o a b g h f i =
     (record { typed = h.0; ty = t.0; has = t.1; num = n.0 }, record { typed = h.1.0; ty = u.0; has = u.1; num = n.1 })
 
 -- An operand that has a least item.
-extreme-min : (o : Option Ty) → is_some (and_then (all_some (o ∷ [])) (type_of_op (word Fun.Min))) ≡ true → is_some (and_then o member_ty) ≡ true
+extreme-min : (o : Option Ty) → is_some (and_then (all_some (o ∷ [])) (type_of_op (word Fun.Min))) ≡ true → is_some
+    (and_then o member_ty) ≡ true
 extreme-min None h = h
 extreme-min (Some t) h = extreme-members t h
 
-extreme-max : (o : Option Ty) → is_some (and_then (all_some (o ∷ [])) (type_of_op (word Fun.Max))) ≡ true → is_some (and_then o member_ty) ≡ true
+extreme-max : (o : Option Ty) → is_some (and_then (all_some (o ∷ [])) (type_of_op (word Fun.Max))) ≡ true → is_some
+    (and_then o member_ty) ≡ true
 extreme-max None h = h
 extreme-max (Some t) h = extreme-members t h
 
-two-there : (op : Op) (x y : Option Ty) (a b : Ty) → x ≡ Some a → y ≡ Some b → is_some (and_then (all_some (x ∷ y ∷ [])) (type_of_op op)) ≡ true →
+two-there : (op : Op) (x y : Option Ty) (a b : Ty) → x ≡ Some a → y ≡ Some b → is_some
+    (and_then (all_some (x ∷ y ∷ [])) (type_of_op op)) ≡ true →
     is_some (type_of_op op (a ∷ b ∷ [])) ≡ true
 two-there op x y a b p q i =
     sym (ap is_some (ap (λ z. and_then (all_some (z ∷ y ∷ [])) (type_of_op op)) p
@@ -52,7 +55,8 @@ record Joined (us : List (Option Ty)) (f : Ty → Option Ty) : Type 0 where
   joined : join_all ts ≡ Some ty
   fits : is_some (f ty) ≡ true
 
-joined-items : (us : List (Option Ty)) (f : Ty → Option Ty) → is_some (and_then (all_some us) (λ ts. and_then (join_all ts) f)) ≡ true → Joined us f
+joined-items : (us : List (Option Ty)) (f : Ty → Option Ty) → is_some (and_then (all_some us) (λ ts. and_then (join_all ts) f)) ≡ true →
+    Joined us f
 joined-items us f h = go (all_some us) refl h
   where
     in-all : (ts : List Ty) → all_some us ≡ Some ts → (j : Option Ty) → join_all ts ≡ j → is_some (and_then j f) ≡ true → Joined us f

@@ -77,7 +77,8 @@ module _ (natural : Bool) (x y : Text) where
 
 -- ---- the law
 
-summed-stays : (cs : List Ex) (e : Ex) (g : Names Ty) → Conds cs g → HasTypes e g → agrees (type_of e g) int_ty ≡ true → HasTypes (summed cs e) g
+summed-stays : (cs : List Ex) (e : Ex) (g : Names Ty) → Conds cs g → HasTypes e g → agrees (type_of e g) int_ty ≡ true → HasTypes
+    (summed cs e) g
 summed-stays [] e g p h a = h
 summed-stays (c ∷ cs) e g p h a =
     let t = its-type e g h in summed-types c cs e t.0 g p h t.1 (sym (ap (λ o. agrees o int_ty) t.1) ∙ a)

@@ -8,8 +8,8 @@ use Rattle.ess_semantics.specs.Typing.{type_of}
 use Rattle.ess_guard_laws.specs.Guard.{make_total, make_natural, make_total_term}
 use Rattle.ess_guard_types_laws.specs.HasTypes.{agrees, HasTypes}
 
--- Where each part of a tree has a type, each part of it has one under conditions, and the tree has its own. So it is with natural forms, and
--- with both answers for a term: that it has a value is a Boolean, and a number under its conditions is an int.
+-- Where each part of a tree has a type, each part of it has one under conditions, and the tree has its own. So it is with natural forms,
+-- and with both answers for a term: that it has a value is a Boolean.
 pub record GuardedKeepsTypes : Type 0 where
   pub total : (x y : Text) (g : Names Ty) (e : Ex) → HasTypes e g →
       HasTypes (make_total x y e) g × (type_of (make_total x y e) g ≡ type_of e g)

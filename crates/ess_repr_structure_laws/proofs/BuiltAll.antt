@@ -202,7 +202,8 @@ module _ (q : ℕ → Text) (P A : Ex → Type 0) (L M : Dom → Type 0) (I : �
         V.partial-has q P L built l ms es (dom_list ds) (first_name ns) is (shapes q size_terms r c (drop 1 ns)) c _ _ g.0
         (B.list-has P L ds g.1) a (shapes-have q P L built r c (drop 1 ns) g.2)
         (λ k. says.pair-keys l (repr ReprKind.FunctionNDPartial (more_reprs r no_reprs)) (bare_function_dom (tuple_dom ds) c)
-        (shape_names (own_shape ns true (dom_list ds) ∷ map (on_axes (dom_list ds)) (shapes q size_terms r c (drop 1 ns)))) is c k (tt, x, y) i y)
+        (shape_names (own_shape ns true (dom_list ds) ∷ map (on_axes (dom_list ds)) (shapes q size_terms r c (drop 1 ns)))) is c k
+        (tt, x, y) i y)
         (structure-by r c (drop 1 ns) (level_behind l (dom_list ds)) (row_index q l (dom_list ds) is) w.2
         (row-named l (dom_list ds) is i))
     structure-by (repr ReprKind.MSetOccurrence no_reprs) (mset_dom ms es d) ns l is w i =

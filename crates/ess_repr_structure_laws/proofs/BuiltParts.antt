@@ -124,7 +124,8 @@ module _ (q : ℕ → Text) (P : Ex → Type 0) (L : Dom → Type 0) {F : Type 0
   row-has l s is x a = built.comps (cell_ex s.truth s.name (row_index q l s.axes is)) (row_gens q l s.axes)
       (cell-has s.truth s.name l s.axes is a) (row-gens-have l s.axes x)
 
-  less-rows : (o : Op2) (l : ℕ) (s : Shape) (is js : Exs) → is_used (binary o) ≡ true → B.ListHas P s.axes → B.AllHave P is → B.AllHave P js →
+  less-rows : (o : Op2) (l : ℕ) (s : Shape) (is js : Exs) → is_used (binary o) ≡ true → B.ListHas P s.axes → B.AllHave P is →
+      B.AllHave P js →
       P (ex2 true o (row_ex q l s is) (row_ex q l s js))
   less-rows o l s is js u x a b = two-have q P L built true o (row_ex q l s is) (row_ex q l s js) u (row-has l s is x a)
       (row-has l s js x b)
@@ -135,7 +136,8 @@ module _ (q : ℕ → Text) (P : Ex → Type 0) (L : Dom → Type 0) {F : Type 0
       or-has q P L built (ex2 true Op2.LexLt (row_ex q l s is) (row_ex q l s js))
       (and_ex (ex2 true Op2.LexLe (row_ex q l s is) (row_ex q l s js)) (less_ex q l ss is js))
       (less-rows Op2.LexLt l s is js refl x.0 a b)
-      (and-has q P L built (ex2 true Op2.LexLe (row_ex q l s is) (row_ex q l s js)) (less_ex q l ss is js) (less-rows Op2.LexLe l s is js refl x.0 a b)
+      (and-has q P L built (ex2 true Op2.LexLe (row_ex q l s is) (row_ex q l s js)) (less_ex q l ss is js)
+      (less-rows Op2.LexLe l s is js refl x.0 a b)
       (less-has l ss is js x.1 a b))
 
   pub at-most-has : (l : ℕ) (ss : List Shape) (is js : Exs) → ShapesHave ss → B.AllHave P is → B.AllHave P js → P (at_most_ex q l ss is js)
@@ -184,7 +186,8 @@ module _ (q : ℕ → Text) (P : Ex → Type 0) (L : Dom → Type 0) {F : Type 0
   pub each-pair-has : (l : ℕ) (size e : Ex) → P size → P e → P (each_pair q l size e)
   each-pair-has l size e s h = each-has l (pairs_dom q size ∷ []) e (pairs-have size s, tt) h
 
-  zeros-behind : (l : ℕ) (ss : List Shape) (is : Exs) → ShapesHave ss → B.AllHave P is → P (zeros_ex q (suc l) ss (add_ex is (name_ex (q l))))
+  zeros-behind : (l : ℕ) (ss : List Shape) (is : Exs) → ShapesHave ss → B.AllHave P is → P
+      (zeros_ex q (suc l) ss (add_ex is (name_ex (q l))))
   zeros-behind l ss is x a = zeros-have (suc l) ss (add_ex is (name_ex (q l))) x (name-added l is a)
 
   -- That a slot's cells are below those of the next one.
@@ -201,14 +204,17 @@ module _ (q : ℕ → Text) (P : Ex → Type 0) (L : Dom → Type 0) {F : Type 0
   pub slots-rest-have : (l : ℕ) (size m : Ex) (ss : List Shape) (is : Exs) → P size → P m → ShapesHave ss → B.AllHave P is → P
       (slots_rest l size m ss is)
   slots-rest-have l size m ss is s h x a =
-      and-has q P L built _ _ (over-pairs-have l size (le_ex (next_ex q l) m) _ s (le-has q P L built (next_ex q l) m (next-has l) h) (rise-has l ss is x a))
+      and-has q P L built _ _ (over-pairs-have l size (le_ex (next_ex q l) m) _ s (le-has q P L built (next_ex q l) m (next-has l) h)
+      (rise-has l ss is x a))
       (over-slots-have l size (ex1 true Op1.Not (le_ex (name_ex (q l)) m)) _ s
       (not-has q P L built (le_ex (name_ex (q l)) m) (le-has q P L built (name_ex (q l)) m (built.names l) h)) (zeros-behind l ss is x a))
 
-  pub slots-have : (l : ℕ) (size m : Ex) (ss : List Shape) (is : Exs) (part : Ex) → P size → P m → ShapesHave ss → B.AllHave P is → P part → P
+  pub slots-have : (l : ℕ) (size m : Ex) (ss : List Shape) (is : Exs) (part : Ex) → P size → P m → ShapesHave ss → B.AllHave P is →
+      P part → P
       (slots_ex q l size m ss is part)
   slots-have l size m ss is part s h x a p =
-      and-has q P L built _ _ (over-slots-have l size (le_ex (name_ex (q l)) m) part s (le-has q P L built (name_ex (q l)) m (built.names l) h) p)
+      and-has q P L built _ _ (over-slots-have l size (le_ex (name_ex (q l)) m) part s
+      (le-has q P L built (name_ex (q l)) m (built.names l) h) p)
       (slots-rest-have l size m ss is s h x a)
 
   -- The same where it is said of each slot that it is in use.
@@ -245,22 +251,26 @@ module _ (q : ℕ → Text) (P : Ex → Type 0) (L : Dom → Type 0) {F : Type 0
   place-count-has l as' x = sum-has q P L built (number_ex (pos 1)) (row_gens q l as') built.one (row-gens-have l as' x)
 
   number-sum-has : (l : ℕ) (as' : List Dom) (n : Text) (is : Exs) → B.ListHas P as' → B.AllHave P is → P (number_sum_ex q l as' n is)
-  number-sum-has l as' n is x a = sum-has q P L built (cell_ex false n (row_index q l as' is)) (row_gens q l as') (cell-has false n l as' is a)
+  number-sum-has l as' n is x a = sum-has q P L built (cell_ex false n (row_index q l as' is)) (row_gens q l as')
+      (cell-has false n l as' is a)
       (row-gens-have l as' x)
 
   times-of-has : (l : ℕ) (k : Key) (e : Ex) (as' : List Dom) (n : Text) (is : Exs) → P e → B.ListHas P as' → B.AllHave P is → P
       (times_of_ex q l k e as' n is)
   times-of-has l Key.MinOccur e as' n is h x a =
       let c = cell-has false n l as' is a in
-      each-has l as' _ x (or-has q P L built _ _ (eq-has q P L built (number_ex (pos 0)) (cell_ex false n (row_index q l as' is)) built.zero c)
+      each-has l as' _ x (or-has q P L built _ _ (eq-has q P L built (number_ex (pos 0))
+      (cell_ex false n (row_index q l as' is)) built.zero c)
       (le-has q P L built e (cell_ex false n (row_index q l as' is)) h c))
   times-of-has l Key.MaxOccur e as' n is h x a =
       let c = cell-has false n l as' is a in
-      each-has l as' _ x (or-has q P L built _ _ (eq-has q P L built (number_ex (pos 0)) (cell_ex false n (row_index q l as' is)) built.zero c)
+      each-has l as' _ x (or-has q P L built _ _ (eq-has q P L built (number_ex (pos 0))
+      (cell_ex false n (row_index q l as' is)) built.zero c)
       (le-has q P L built (cell_ex false n (row_index q l as' is)) e c h))
   times-of-has l _ e as' n is h x a = built.truths true
 
-  times-have : (l : ℕ) (ms : List Mark) (es : Exs) (as' : List Dom) (n : Text) (is : Exs) → B.AllHave P es → B.ListHas P as' → B.AllHave P is → P
+  times-have : (l : ℕ) (ms : List Mark) (es : Exs) (as' : List Dom) (n : Text) (is : Exs) → B.AllHave P es → B.ListHas P as' →
+      B.AllHave P is → P
       (times_ex q l ms es as' n is)
   times-have l [] es as' n is g x a = built.truths true
   times-have l (flag k ∷ ms) es as' n is g x a = times-have l ms es as' n is g x a
@@ -269,7 +279,8 @@ module _ (q : ℕ → Text) (P : Ex → Type 0) (L : Dom → Type 0) {F : Type 0
       and-has q P L built (times_of_ex q l k e as' n is) (times_ex q l ms es as' n is) (times-of-has l k e as' n is g.0 x a)
       (times-have l ms es as' n is g.1 x a)
 
-  pub counts-have : (l : ℕ) (ms : List Mark) (es : Exs) (as' : List Dom) (n : Text) (is : Exs) → B.AllHave P es → B.ListHas P as' → B.AllHave P is → P
+  pub counts-have : (l : ℕ) (ms : List Mark) (es : Exs) (as' : List Dom) (n : Text) (is : Exs) → B.AllHave P es → B.ListHas P as' →
+      B.AllHave P is → P
       (counts_ex q l ms es as' n is)
   counts-have l ms es as' n is g x a =
       and-has q P L built (size_ex ms es (number_sum_ex q l as' n is)) (times_ex q l ms es as' n is)

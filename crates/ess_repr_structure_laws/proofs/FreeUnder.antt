@@ -68,7 +68,8 @@ mutual
   none-free (matrix_ex es d) h = both-free (parts_of_all es) (parts_of_dom d) (none-free-all es) (none-free-dom d) h
   none-free (comp_ex e gs) h =
       and-both (are_free_under gs (parts_of e)) (list_all is_free_under (parts_of e ++ parts_of_gens gs))
-      (gens-free gs (parts_of e) (all-right reads_none (parts_of e) (parts_of_gens gs) h) (all-left reads_none (parts_of e) (parts_of_gens gs) h))
+      (gens-free gs (parts_of e) (all-right reads_none (parts_of e) (parts_of_gens gs) h)
+      (all-left reads_none (parts_of e) (parts_of_gens gs) h))
       (both-free (parts_of e) (parts_of_gens gs) (none-free e) (none-free-gens gs) h)
   none-free (cell_ex b n es) h = cc
   none-free (seen_ex r d ns es) h = cc
@@ -105,7 +106,8 @@ mutual
 -- Numbers of a domain that read no table.
 pub none-sizes : SizesOf ReadsNone
 none-sizes = sizes-by ReadsNone (λ n. refl) (λ b op es a. operands-pass reads_none es a)
-    (λ e a d h g. all-both reads_none (parts_of e) (parts_of_dom d ++ []) h (all-both reads_none (parts_of_dom d) [] (dom-passes reads_none d g) refl))
+    (λ e a d h g. all-both reads_none (parts_of e) (parts_of_dom d ++ []) h
+    (all-both reads_none (parts_of_dom d) [] (dom-passes reads_none d g) refl))
 
 -- ---- what is built without generators over items
 
@@ -114,12 +116,14 @@ free-node b op es a = operands-pass is_free_under es a
 
 free-sizes : SizesOf FreeUnder
 free-sizes = sizes-by FreeUnder (λ n. refl) free-node
-    (λ e a d h g. all-both is_free_under (parts_of e) (parts_of_dom d ++ []) h (all-both is_free_under (parts_of_dom d) [] (dom-passes is_free_under d g) refl))
+    (λ e a d h g. all-both is_free_under (parts_of e) (parts_of_dom d ++ []) h
+    (all-both is_free_under (parts_of_dom d) [] (dom-passes is_free_under d g) refl))
 
 module _ (q : ℕ → Text) where
   gens-pass : (gs : Gens) → B.GensHave q FreeUnder ⊥ gs → list_all is_free_under (parts_of_gens gs) ≡ true
   gens-pass no_gens h = refl
-  gens-pass (over (name_pat a) d gs) h = all-both is_free_under (parts_of_dom d) (parts_of_gens gs) (dom-passes is_free_under d h.1) (gens-pass gs h.2)
+  gens-pass (over (name_pat a) d gs) h = all-both is_free_under (parts_of_dom d) (parts_of_gens gs) (dom-passes is_free_under d h.1)
+      (gens-pass gs h.2)
   gens-pass (over (tuple_pat ps) d gs) h = absurd h
   gens-pass (from (name_pat a) e gs) h = absurd h.3
   gens-pass (from (tuple_pat ps) e gs) h = absurd h
@@ -141,7 +145,8 @@ module _ (q : ℕ → Text) where
     one = refl;
     names = λ l. refl;
     nodes = λ b op es u a. free-node b op es a;
-    comps = λ e gs h g. and-both (are_free_under gs (parts_of e)) (list_all is_free_under (parts_of e ++ parts_of_gens gs)) (none-under gs (parts_of e) g)
+    comps = λ e gs h g. and-both (are_free_under gs (parts_of e)) (list_all is_free_under (parts_of e ++ parts_of_gens gs))
+        (none-under gs (parts_of e) g)
         (all-both is_free_under (parts_of e) (parts_of_gens gs) h (gens-pass gs g));
     cells = λ b n es a u. operands-pass is_free_under es a;
     bounds = bound-has FreeUnder Any free-sizes;
@@ -224,14 +229,16 @@ module _ (q : ℕ → Text) where
 
     calm-comp : (e : Ex) (gs : Gens) → Calm l e → Gens' gs → Calm l (comp_ex e gs)
     calm-comp e gs c g = record {
-      free = and-both (are_free_under gs (parts_of e)) (list_all is_free_under (parts_of e ++ parts_of_gens gs)) (under-calm gs (parts_of e) c.quiet g)
+      free = and-both (are_free_under gs (parts_of e)) (list_all is_free_under (parts_of e ++ parts_of_gens gs))
+          (under-calm gs (parts_of e) c.quiet g)
           (all-both is_free_under (parts_of e) (parts_of_gens gs) c.free (gens-calm gs g));
       quiet = λ m h. all-both (index_is_free (q m ∷ [])) (parts_of e) (parts_of_gens gs) (c.quiet m h) (gens-quiet m h gs g);
     }
 
     calm-sizes : SizesOf (Calm l)
     calm-sizes = sizes-by (Calm l) (λ n. record { free = refl; quiet = λ m h. refl }) calm-node (λ e a d c g. record {
-      free = all-both is_free_under (parts_of e) (parts_of_dom d ++ []) c.free (all-both is_free_under (parts_of_dom d) [] (dom-free d g) refl);
+      free = all-both is_free_under (parts_of e) (parts_of_dom d ++ []) c.free
+          (all-both is_free_under (parts_of_dom d) [] (dom-free d g) refl);
       quiet = λ m h. all-both (index_is_free (q m ∷ [])) (parts_of e) (parts_of_dom d ++ []) (c.quiet m h)
           (all-both (index_is_free (q m ∷ [])) (parts_of_dom d) [] (dom-quiet m h d g) refl);
     })

@@ -52,8 +52,11 @@ EachFits s (more_exs e es) = (every typed e s ≡ true → LiteralsFit false (re
 
 all-fit : (s : Scope) (es : Exs) → EachFits s es → every_operand typed [] es s ≡ true → AllLiteralsFit false (resolve_exs es s.tys)
 all-fit s no_exs k a = tt
-all-fit s (more_exs e es) k a =
-    (k.0 (and-left (every typed e s) (every_operand typed [] es s) a), all-fit s es k.1 (and-right (every typed e s) (every_operand typed [] es s) a))
+all-fit s (more_exs e es) k a = (
+  k.0 (and-left (every typed e s) (every_operand typed [] es s) a),
+  all-fit s es k.1
+      (and-right (every typed e s) (every_operand typed [] es s) a),
+)
 
 -- The operands that are left of steps which lead somewhere are so.
 steps-fit : (s : Scope) (t : Option Ty) (qs : List Step) (es : Exs) → Leads s.tys t qs es → EachFits s es →
@@ -110,7 +113,8 @@ mutual
             (index (steps_from (type_of e s.tys) qs (statics es) (types_of es s.tys))) refl,
         (
           literals-fit e s false (and-left (every typed e s) (every_operand typed bs es s) o) (λ z. cc),
-          steps-fit s (type_of e s.tys) qs es (node-leads (type_of e s.tys) qs (static e) (statics es) (types_of es s.tys) i) (each-fits es s)
+          steps-fit s (type_of e s.tys) qs es (node-leads (type_of e s.tys) qs (static e) (statics es) (types_of es s.tys) i)
+              (each-fits es s)
               (and-right (every typed e s) (every_operand typed bs es s) o),
         ),
       )
@@ -189,10 +193,12 @@ mutual
         dom-fit d s (and-right (f && every_doms typed is s) (every_dom typed d s) h),
       )
   dom-fit (set_dom ms es d) s h =
-      layer-fit (dom_fits (set_dom ms es d) s) (every_operand typed [] es s) (every_dom typed d s) (AllLiteralsFit false (resolve_exs es s.tys))
+      layer-fit (dom_fits (set_dom ms es d) s) (every_operand typed [] es s) (every_dom typed d s)
+      (AllLiteralsFit false (resolve_exs es s.tys))
       (DomLiteralsFit (resolve_dom d s.tys)) (λ u. operands-fit es s false u (λ z. cc)) (λ u. dom-fit d s u) h
   dom-fit (mset_dom ms es d) s h =
-      layer-fit (dom_fits (mset_dom ms es d) s) (every_operand typed [] es s) (every_dom typed d s) (AllLiteralsFit false (resolve_exs es s.tys))
+      layer-fit (dom_fits (mset_dom ms es d) s) (every_operand typed [] es s) (every_dom typed d s)
+      (AllLiteralsFit false (resolve_exs es s.tys))
       (DomLiteralsFit (resolve_dom d s.tys)) (λ u. operands-fit es s false u (λ z. cc)) (λ u. dom-fit d s u) h
   dom-fit (function_dom ms es d c) s h =
       let f = dom_fits (function_dom ms es d c) s in
@@ -207,13 +213,17 @@ mutual
         doms-fit ds s (and-right (f && every_operand typed [] es s) (every_doms typed ds s) h),
       )
   dom-fit (partition_dom ms es d) s h =
-      layer-fit (dom_fits (partition_dom ms es d) s) (every_operand typed [] es s) (every_dom typed d s) (AllLiteralsFit false (resolve_exs es s.tys))
+      layer-fit (dom_fits (partition_dom ms es d) s) (every_operand typed [] es s) (every_dom typed d s)
+      (AllLiteralsFit false (resolve_exs es s.tys))
       (DomLiteralsFit (resolve_dom d s.tys)) (λ u. operands-fit es s false u (λ z. cc)) (λ u. dom-fit d s u) h
 
   doms-fit : (ds : Doms) (s : Scope) → every_doms typed ds s ≡ true → DomsLiteralsFit (resolve_doms ds s.tys)
   doms-fit no_doms s h = tt
-  doms-fit (more_doms d ds) s h =
-      (dom-fit d s (and-left (every_dom typed d s) (every_doms typed ds s) h), doms-fit ds s (and-right (every_dom typed d s) (every_doms typed ds s) h))
+  doms-fit (more_doms d ds) s h = (
+    dom-fit d s (and-left (every_dom typed d s) (every_doms typed ds s) h),
+    doms-fit ds s
+        (and-right (every_dom typed d s) (every_doms typed ds s) h),
+  )
 
 -- ---- statements
 

@@ -130,7 +130,8 @@ node-operands op us d h = go (all_some us) refl h
     go None q h = cc
     go (Some ts) q h = subst AllFolded (there-list us ts q) (fold-operands op ts d h)
 
-pub folded-operands : (op : Op) (ss : List Static) (us : List (Option Ty)) → drops_items op ≡ true → is_some (type_of_node op ss us) ≡ true →
+pub folded-operands : (op : Op) (ss : List Static) (us : List (Option Ty)) → drops_items op ≡ true → is_some
+    (type_of_node op ss us) ≡ true →
     AllFolded us
 folded-operands (index qs) ss us d h = cc
 folded-operands op ss us d h = node-operands op us d h
@@ -235,7 +236,8 @@ stands inside op o l h f = subst (λ b. may_stand inside b op ≡ true) (sym (ty
         at true q = refl
         at false q = sym (unfolded op o q h (f refl))
 
-image-drops : (us : List (Option Ty)) → (is_literal (resolved_op application us) ≡ false) × (drops_items (resolved_op application us) ≡ false)
+image-drops : (us : List (Option Ty)) → (is_literal (resolved_op application us) ≡ false) ×
+    (drops_items (resolved_op application us) ≡ false)
 image-drops (Some (compound a_function (more_tys a (more_tys b no_tys))) ∷ u ∷ []) = (refl, refl)
 image-drops _ = (refl, refl)
 

@@ -89,10 +89,16 @@ module _ (f : Ex → Bool) where
     passing-dom (name_dom a) h = tt
     passing-dom (tuple_dom ds) h = passing-doms ds h
     passing-dom (record_dom fs ds) h = passing-doms ds h
-    passing-dom (matrix_dom is d) h =
-        (passing-doms is (all-left f (parts_of_doms is) (parts_of_dom d) h), passing-dom d (all-right f (parts_of_doms is) (parts_of_dom d) h))
-    passing-dom (set_dom ms es d) h =
-        (passing-operands es (all-left f (parts_of_all es) (parts_of_dom d) h), passing-dom d (all-right f (parts_of_all es) (parts_of_dom d) h))
+    passing-dom (matrix_dom is d) h = (
+      passing-doms is (all-left f (parts_of_doms is) (parts_of_dom d) h),
+      passing-dom d
+          (all-right f (parts_of_doms is) (parts_of_dom d) h),
+    )
+    passing-dom (set_dom ms es d) h = (
+      passing-operands es (all-left f (parts_of_all es) (parts_of_dom d) h),
+      passing-dom d
+          (all-right f (parts_of_all es) (parts_of_dom d) h),
+    )
     passing-dom (mset_dom ms es d) h = (
       tt,
       passing-operands es (all-left f (parts_of_all es) (parts_of_dom d) h),
@@ -108,13 +114,19 @@ module _ (f : Ex → Bool) where
       passing-operands es (all-left f (parts_of_all es) (parts_of_doms ds) h),
       passing-doms ds (all-right f (parts_of_all es) (parts_of_doms ds) h),
     )
-    passing-dom (partition_dom ms es d) h =
-        (passing-operands es (all-left f (parts_of_all es) (parts_of_dom d) h), passing-dom d (all-right f (parts_of_all es) (parts_of_dom d) h))
+    passing-dom (partition_dom ms es d) h = (
+      passing-operands es (all-left f (parts_of_all es) (parts_of_dom d) h),
+      passing-dom d
+          (all-right f (parts_of_all es) (parts_of_dom d) h),
+    )
 
     passing-doms : (ds : Doms) → list_all f (parts_of_doms ds) ≡ true → B.AllGood Passes Any ds
     passing-doms no_doms h = tt
-    passing-doms (more_doms d ds) h =
-        (passing-dom d (all-left f (parts_of_dom d) (parts_of_doms ds) h), passing-doms ds (all-right f (parts_of_dom d) (parts_of_doms ds) h))
+    passing-doms (more_doms d ds) h = (
+      passing-dom d (all-left f (parts_of_dom d) (parts_of_doms ds) h),
+      passing-doms ds
+          (all-right f (parts_of_dom d) (parts_of_doms ds) h),
+    )
 
   -- One more index.
   pub index-added : (is : Exs) (e : Ex) → list_all f (parts_of_all is) ≡ true → Passes e → list_all f (parts_of_all (add_ex is e)) ≡ true
@@ -133,6 +145,10 @@ sizes-by P numbers nodes lists = record {
   one = numbers (pos 1);
   two = numbers (pos 2);
   nodes = λ b op es u a. nodes b op es a;
-  most = λ a h. nodes false (word Fun.Max) _ (nodes false matrix_literal (more_exs zero_ex (more_exs a no_exs)) (numbers (pos 0), (h, tt)), tt);
+  most = λ a h. nodes false (word Fun.Max) _ (
+    nodes false matrix_literal (more_exs zero_ex (more_exs a no_exs))
+        (numbers (pos 0), (h, tt)),
+    tt,
+  );
   listed = λ d h. nodes false (word Fun.Sum) _ (lists (number_ex (pos 1)) unused_name d (numbers (pos 1)) h, tt);
 }

@@ -1,6 +1,6 @@
--- When tables are full for a tree whose siblings share names. `IsFull` asks of all names that generators bind over expressions, wherever they do,
--- that none stands in any index list of the tree. So it is false for a structure whose slots have the name q in one part, where q runs
--- over the items of a view in another. Here a name is asked for only under the generator that binds it.
+-- When tables are full for a tree whose siblings share names. `IsFull` asks of all names that generators bind over expressions, wherever
+-- they do, that none stands in any index list of the tree. So it is false for a structure whose slots have the name q in one part, where q
+-- runs over the items of a view in another. Here a name is asked for only under the generator that binds it.
 use Rattle.std.specs.Prelude.{Bool, true, ◌&&◌, List, ◌++◌, IsTrue}
 use Rattle.std.specs.List.{list_all}
 use Rattle.ess_semantics.specs.Trees.{Ex, comp_ex, Gens, no_gens, over, from, cond}
