@@ -57,3 +57,6 @@ pub named_all : (ns rest : List TableName) (done ts : List Table) (all : List Na
 named_all ns rest done ts all e s =
     sym (append-nil (map pure_named_table all)) ∙ ap (λ l. map pure_named_table all ++ l) (sym (unnamed rest)) ∙ sym (s.so_far [])
     ∙ ap (λ l. name_tables (map pure_table_name ns) (map pure_table l)) (append-nil done ∙ e)
+
+-- The pass over the tables.
+pub ruleset naming = (named_none, named_more, named_past, named_all)

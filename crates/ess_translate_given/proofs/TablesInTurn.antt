@@ -140,3 +140,6 @@ turn_all a ps os i ts h s = record {
       ∙ ap (option_map (λ d. map pure_named_table ts ++ d)) (at_drop_all (λ l. tables_by_plans givens_side env a (map pure_plan l)) ps i h)
       ∙ ap Some (append-nil (map pure_named_table ts)));
 }
+
+-- The pass over the plans.
+pub ruleset turns = (turn_none, turn_more, turn_stop, turn_short, turn_all)
