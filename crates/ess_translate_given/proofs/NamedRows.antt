@@ -1,9 +1,6 @@
 -- Tables under their names, one after the other.
-use Rattle.std.proofs.Common.{◌≡◌, refl, sym, ap, ◌∙◌, ℕ, List, [], ◌∷◌, ◌++◌, map, append_assoc, append-nil}
+use Rattle.std.proofs.Common.{◌≡◌, refl, sym, ap, ◌∙◌, List, [], ◌∷◌, ◌++◌, map, append_assoc, append-nil}
 use Rattle.std.proofs.lemmas.List.{map-append}
-use Rattle.ess_semantics.specs.Lists.{zip}
-use Rattle.ess_semantics.specs.Values.{Text}
-use Rattle.ess_semantics.specs.Names.{Names, keys}
 use Rattle.ess_semantics.specs.Tables as pure
 use Rattle.ess_semantics.specs.Plans.{name_tables}
 use Rattle.ess_core.specs.declared.tables.Table.{Table}
