@@ -1,6 +1,6 @@
 -- Typed trees with right marks and told types are judged.
 use Rattle.std.proofs.Common.{◌≡◌, refl, sym, ap, ◌∙◌, subst, Bool, true, false, ◌&&◌, ◌||◌, not, List, [], ◌∷◌, Option, Some, None, option_map}
-use Rattle.std.specs.Prelude.{IsTrue, is_some}
+use Rattle.std.specs.Prelude.{is_some}
 use Rattle.std.specs.List.{list_all}
 use Rattle.ess_semantics.specs.Lists.{and_then, all_some}
 use Rattle.ess_semantics.specs.Names.{Names}
@@ -13,8 +13,8 @@ use Rattle.ess_semantics.specs.Typing.{Static, statics, type_of_node, type_of, t
 use Rattle.ess_semantics.specs.Kinds.{is_bounded}
 use Rattle.ess_semantics.specs.ExpressionJudgements.{pattern_fits}
 use Rattle.ess_semantics.specs.NamesAt.{names_behind}
-use Rattle.ess_semantics.proofs.Tests.{and-left, and-right, and-both, or-yes}
-use Rattle.ess_rules_laws.specs.Progress.{is_parted, is_told, are_told, is_plain_source, has_members}
+use Rattle.ess_semantics.proofs.Tests.{and-left, and-right, and-both}
+use Rattle.ess_rules_laws.specs.Progress.{is_told, are_told, is_plain_source, has_members}
 use Rattle.ess_refine_laws.specs.ScalarItems.{is_scalar}
 use Rattle.ess_refine_laws.specs.MarksStay.{MarkFits, HasMarks, HaveMarks, GensHaveMarks, DomHasMarks}
 use Rattle.ess_refine_laws.specs.Progress.{is_known, is_picked, is_judged, are_judged, gens_judged, dom_judged}

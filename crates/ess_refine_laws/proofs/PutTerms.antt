@@ -1,15 +1,13 @@
 -- With a term for a bound name a tree stays in scope, also behind generators that stand before it.
 use Rattle.std.proofs.Common.{◌≡◌, refl, ap, ◌∙◌, Bool, true, false, ◌||◌, not, if◌then◌else◌}
-use Rattle.std.specs.Prelude.{IsTrue}
 use Rattle.ess_semantics.specs.Values.{Text}
 use Rattle.ess_semantics.specs.Order.{same_text}
-use Rattle.ess_semantics.specs.Trees.{Pat, Pats, name_pat, tuple_pat, no_pats, more_pats, Ex, Exs, number_ex, truth_ex, name_ex, node_ex, matrix_ex, comp_ex, cell_ex, seen_ex, no_exs, more_exs, Gens, no_gens, over, from, cond, Dom, Doms, bool_dom, int_dom, name_dom, tuple_dom, record_dom, matrix_dom, set_dom, mset_dom, function_dom, relation_dom, partition_dom, no_doms, more_doms}
-use Rattle.ess_semantics.specs.Scoped.{is_bound, is_bound_by_some, BindsNew, AllBindNew, with_names, IsPlainIndex, Scoped, ScopedExs, ScopedGens, ScopedDom, ScopedDoms}
-use Rattle.ess_semantics.specs.Substitution.{substitute, substitute_exs, substitute_gens, substitute_dom, substitute_doms, for_name, Binds, BindsAll, NamesAre, NamesAreExs, NamesAreGens, NamesAreDom, NamesAreDoms}
-use Rattle.ess_semantics.proofs.Tests.{or-yes}
+use Rattle.ess_semantics.specs.Trees.{name_pat, Ex, Exs, number_ex, truth_ex, name_ex, node_ex, matrix_ex, comp_ex, cell_ex, seen_ex, no_exs, more_exs, Gens, no_gens, over, from, cond, Dom, Doms, bool_dom, int_dom, name_dom, tuple_dom, record_dom, matrix_dom, set_dom, mset_dom, function_dom, relation_dom, partition_dom, no_doms, more_doms}
+use Rattle.ess_semantics.specs.Scoped.{with_names, IsPlainIndex, Scoped, ScopedExs, ScopedGens, ScopedDom, ScopedDoms}
+use Rattle.ess_semantics.specs.Substitution.{substitute, substitute_exs, substitute_gens, substitute_dom, substitute_doms, for_name, NamesAre, NamesAreExs, NamesAreGens, NamesAreDom, NamesAreDoms}
 use Rattle.ess_rules_laws.specs.SpliceRules.{append_gens}
 use Rattle.ess_rules_laws.proofs.Agreement.{same_text-equal}
-use Rattle.ess_refine_laws.proofs.WiderScopes.{Fewer, Among, Wider, fewer-with, new-wider, wider, bound}
+use Rattle.ess_refine_laws.proofs.WiderScopes.{Fewer, new-wider, wider, bound}
 use Rattle.ess_refine_laws.proofs.PutScopes.{no, twice, either-left, either-right, one-of, Grown, grown-both, grown-one, Puts, puts-both, puts-one, names-dom}
 
 module _ (z u : Text → Bool) (y : Text) (w : Ex) (zy : z y ≡ false) where

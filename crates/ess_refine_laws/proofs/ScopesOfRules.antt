@@ -1,5 +1,5 @@
 -- Each rule keeps the scope.
-use Rattle.std.proofs.Common.{◌≡◌, subst, Bool, true, false, Option}
+use Rattle.std.proofs.Common.{subst, Bool, false, Option}
 use Rattle.ess_semantics.specs.Values.{Text}
 use Rattle.ess_semantics.specs.Names.{Names}
 use Rattle.ess_semantics.specs.Trees.{matrix_literal, mset_literal, name_pat, tuple_pat, Ex, node_ex, comp_ex, ex2, fun1, from, over, tuple_dom, record_dom}
