@@ -12,7 +12,8 @@ use Rattle.ess_refine_laws.proofs.PutScopes.{no, twice, either-left, either-righ
 
 module _ (z u : Text → Bool) (y : Text) (w : Ex) (zy : z y ≡ false) where
   -- An index list of a view has no such name.
-  index-put : (o p : Text → Bool) → Fewer o p → o y ≡ false → (es : Exs) → IsPlainIndex o es → IsPlainIndex p (substitute_exs (for_name y w) es)
+  index-put : (o p : Text → Bool) → Fewer o p → o y ≡ false → (es : Exs) → IsPlainIndex o es →
+      IsPlainIndex p (substitute_exs (for_name y w) es)
   index-put o p f d no_exs h = tt
   index-put o p f d (more_exs (number_ex n) es) h = index-put o p f d es h
   index-put o p f d (more_exs (name_ex a) es) h = go (same_text y a) refl (index-put o p f d es h.1)
@@ -53,7 +54,8 @@ module _ (z u : Text → Bool) (y : Text) (w : Ex) (zy : z y ≡ false) where
       put-gens (over q d gs) e s t o p k b f h = (
         new-wider s t (λ a. not (u a)) k.among q (twice u q b.0) h.0,
         put-dom d s t o p k b.1 h.1,
-        put-gens gs e (with_names s q) (with_names t q) (with_names o q) (with_names p q) (puts-both u y t0 p0 s t o p q b.0 h.0 k) b.2 f h.2,
+        put-gens gs e (with_names s q) (with_names t q) (with_names o q) (with_names p q)
+            (puts-both u y t0 p0 s t o p q b.0 h.0 k) b.2 f h.2,
       )
       put-gens (from q x gs) e s t o p k b f h = (
         new-wider s t (λ a. not (u a)) k.among q (twice u q b.0) h.0,

@@ -175,7 +175,11 @@ module _ (z : Text → Bool) (s : Scope) where
   sizes-scoped : (l : List Alternative) → AllScoped l → ScopedExs z s.all s.over_domains (each_size l)
   sizes-scoped [] h = tt
   sizes-scoped (a ∷ l) h = (
-    (gens-map z a.gens (λ v i. Scoped z v i a.item) (λ v i. Scoped z v i (ex1 false Op1.Bar a.item)) (λ v i k. (k, tt)) s.all s.over_domains h.0, tt),
+    (
+      gens-map z a.gens (λ v i. Scoped z v i a.item) (λ v i. Scoped z v i (ex1 false Op1.Bar a.item)) (λ v i k.
+          (k, tt)) s.all s.over_domains h.0,
+      tt,
+    ),
     sizes-scoped l h.1,
   )
 
@@ -186,7 +190,8 @@ module _ (z : Text → Bool) (s : Scope) where
   has-scoped : (a : Alternative) → S (laid_out a) → S (has_items a)
   has-scoped a h = (gens-map z a.gens (λ v i. Scoped z v i a.item) (λ v i. Unit {0}) (λ v i k. tt) s.all s.over_domains h, tt)
 
-  each-extreme-scoped : (f : Fun) (n : Ex) (l : List Alternative) → S n → AllScoped l → ScopedExs z s.all s.over_domains (each_extreme f n l)
+  each-extreme-scoped : (f : Fun) (n : Ex) (l : List Alternative) → S n → AllScoped l →
+      ScopedExs z s.all s.over_domains (each_extreme f n l)
   each-extreme-scoped f n [] h k = tt
   each-extreme-scoped f n (a ∷ l) h k = (
     (((has-scoped a k.0, (k.0, tt)), tt), (((((has-scoped a k.0, tt), tt), (h, tt))), tt)),

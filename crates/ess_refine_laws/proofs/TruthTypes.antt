@@ -257,7 +257,8 @@ word2-yes : (f : Fun) (t u : Ty) → is_truth_op (word f) ≡ true → Yes (type
 word2-yes Fun.And t u k = λ v q. cc
 word2-yes Fun.Or t u k = λ v q. cc
 word2-yes Fun.AllDiff t u k = λ v q. cc
-word2-yes Fun.Together t u k = then-yes (join t (compound1 a_set any_ty)) (λ v. and_then (member_ty v) (λ a. fit u (compound1 a_partition a) bool_ty))
+word2-yes Fun.Together t u k = then-yes (join t (compound1 a_set any_ty)) (λ v. and_then (member_ty v) (λ a. fit u
+    (compound1 a_partition a) bool_ty))
     (λ v. then-yes (member_ty v) (λ a. fit u (compound1 a_partition a) bool_ty) (λ a. mapped-yes (join u (compound1 a_partition a))))
 word2-yes _ t u k = cc
 

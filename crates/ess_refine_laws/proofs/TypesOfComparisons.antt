@@ -4,10 +4,9 @@ use Rattle.ess_semantics.specs.declared.words.Op2.{Op2}
 use Rattle.ess_semantics.specs.declared.words.Fun.{Fun}
 use Rattle.ess_semantics.specs.Lists.{and_then}
 use Rattle.ess_semantics.specs.Values.{Text, a_matrix, a_tuple}
-use Rattle.ess_semantics.specs.Order.{same_text}
 use Rattle.ess_semantics.specs.Names.{Names}
 use Rattle.ess_semantics.specs.Trees.{word, mset_literal, Pats, more_pats, no_pats, tuple_pat, Ex, Exs, node_ex, comp_ex, ex2, fun1, no_exs, more_exs, Gens, over, Doms, no_doms, more_doms, tuple_dom, binary, set_literal, number_ex}
-use Rattle.ess_semantics.specs.Types.{Ty, Tys, no_tys, more_tys, compound, compound2}
+use Rattle.ess_semantics.specs.Types.{Ty, compound, compound2}
 use Rattle.ess_semantics.specs.Typing.{type_of}
 use Rattle.ess_rules_laws.specs.FoldRules.{is_laid_open}
 use Rattle.ess_rules_laws.specs.SplitRules.{as_many, each_over, split}
@@ -21,108 +20,13 @@ use Rattle.std.proofs.Common.{sym}
 use Rattle.ess_semantics.specs.Lists.{all_some}
 use Rattle.ess_semantics.specs.Values.{a_set, a_mset, a_relation}
 use Rattle.ess_semantics.specs.Trees.{unary}
-use Rattle.ess_semantics.specs.Types.{any_ty, bool_ty, int_ty, named_ty, compound1, tys_of, join, joins, join_all, type_of_dom, bind_types}
+use Rattle.ess_semantics.specs.Types.{any_ty, bool_ty, int_ty, named_ty, compound1, tys_of, join, join_all, type_of_dom, bind_types}
 use Rattle.ess_semantics.specs.OperatorTypes.{member_ty, included, type_of_list}
 use Rattle.ess_semantics.specs.Typing.{a_number, step_ty, component_ty, types_of, types_under}
 use Rattle.ess_rules_laws.specs.ListRules.{members_list}
-use Rattle.ess_semantics.specs.Order.{same_kind}
-use Rattle.ess_semantics.specs.Lists.{when as given}
-use Rattle.ess_semantics.specs.Types.{is_open, types_of_doms, bind_all_types}
-use Rattle.ess_semantics.specs.Values.{Kind, node, nil}
-use Rattle.std.specs.Ordering.{ordering_then}
-use Rattle.std.specs.declared.cmp.Ordering.TheVariants.{Equal}
-use Rattle.ess_semantics.proofs.Orders.{order_exact, equal-of}
-use Rattle.ess_semantics.specs.Order.{order_kind}
-use Rattle.ess_rules_laws.proofs.Agreement.{same_text-equal}
+use Rattle.ess_semantics.specs.Types.{types_of_doms, bind_all_types}
+use Rattle.ess_refine_laws.proofs.TypeJoins.{join-swap}
 use Rattle.ess_refine_laws.proofs.TypesOfFolds.{one_type, two_type, list_of_type, Stays, TypeKept, when, members-typed}
-
--- ---- types that agree agree both ways
-
--- Kinds that count as equal are equal.
-kind-equal : (k l : Kind) → same_kind k l ≡ true → k ≡ l
-kind-equal k l e = let q : node k nil ≡ node l nil = order_exact (node k nil) (node l nil)
-    (ap (λ o. ordering_then o Equal) (equal-of (order_kind k l) e)) in cc
-
--- A test both ways.
-test-swap : {A : Type 0} (f : A → A → Bool) → ((a b : A) → f a b ≡ true → a ≡ b) → (a b : A) → f a b ≡ f b a
-test-swap f e a b = go (f a b) refl (f b a) refl
-  where
-    go : (x : Bool) → f a b ≡ x → (y : Bool) → f b a ≡ y → f a b ≡ f b a
-    go true p y q = let i : a ≡ b = e a b p in ap (λ z. f z b) i ∙ ap (λ z. f b z) (sym i)
-    go false p true q = let i : b ≡ a = e b a q in ap (λ z. f z b) (sym i) ∙ ap (λ z. f b z) i
-    go false p false q = p ∙ sym q
-
--- What both ways answer where a test tells that the two are one.
-same-answer : (b : Bool) (t u : Ty) → (b ≡ true → t ≡ u) → given b t ≡ given b u
-same-answer true t u h = ap Some (h refl)
-same-answer false t u h = refl
-
--- Compound types.
-abbrev parts_of_both : Kind → Tys → Tys → Option Tys
-parts_of_both k ts us = if is_open k ts then Some us else (if is_open k us then Some ts else joins ts us)
-
-parts-swap : (k : Kind) (ts us : Tys) → joins ts us ≡ joins us ts → parts_of_both k ts us ≡ parts_of_both k us ts
-parts-swap k no_tys no_tys h = refl
-parts-swap k no_tys (more_tys u us) h = go (is_open k no_tys)
-  where
-    go : (b : Bool) → (if b then Some (more_tys u us) else joins no_tys (more_tys u us))
-        ≡ (if b then Some (more_tys u us) else joins (more_tys u us) no_tys)
-    go true = refl
-    go false = refl
-parts-swap k (more_tys t ts) no_tys h = go (is_open k no_tys)
-  where
-    go : (b : Bool) → (if b then Some (more_tys t ts) else joins (more_tys t ts) no_tys)
-        ≡ (if b then Some (more_tys t ts) else joins no_tys (more_tys t ts))
-    go true = refl
-    go false = refl
-parts-swap k (more_tys t ts) (more_tys u us) h = h
-
-compounds-swap : (k l : Kind) (ts us : Tys) → joins ts us ≡ joins us ts → join (compound k ts) (compound l us) ≡ join (compound l us) (compound k ts)
-compounds-swap k l ts us h = go (same_kind k l) refl ∙ ap (λ b. if b then option_map (compound l) (parts_of_both l us ts) else None)
-    (test-swap same_kind kind-equal k l)
-  where
-    go : (b : Bool) → same_kind k l ≡ b → (if b then option_map (compound k) (parts_of_both k ts us) else None)
-        ≡ (if b then option_map (compound l) (parts_of_both l us ts) else None)
-    go true q = ap (option_map (compound k)) (parts-swap k ts us h) ∙ ap (λ m. option_map (compound m) (parts_of_both m us ts)) (kind-equal k l q)
-    go false q = refl
-
-mutual
-  pub join-swap : (t u : Ty) → join t u ≡ join u t
-  join-swap any_ty any_ty = refl
-  join-swap any_ty bool_ty = refl
-  join-swap any_ty int_ty = refl
-  join-swap any_ty (named_ty a) = refl
-  join-swap any_ty (compound k ts) = refl
-  join-swap bool_ty any_ty = refl
-  join-swap bool_ty bool_ty = refl
-  join-swap bool_ty int_ty = refl
-  join-swap bool_ty (named_ty a) = refl
-  join-swap bool_ty (compound k ts) = refl
-  join-swap int_ty any_ty = refl
-  join-swap int_ty bool_ty = refl
-  join-swap int_ty int_ty = refl
-  join-swap int_ty (named_ty a) = refl
-  join-swap int_ty (compound k ts) = refl
-  join-swap (named_ty a) any_ty = refl
-  join-swap (named_ty a) bool_ty = refl
-  join-swap (named_ty a) int_ty = refl
-  join-swap (named_ty a) (named_ty b) =
-      same-answer (same_text a b) (named_ty a) (named_ty b) (λ q. ap named_ty (same_text-equal a b q))
-      ∙ ap (λ c. given c (named_ty b)) (test-swap same_text same_text-equal a b)
-  join-swap (named_ty a) (compound k ts) = refl
-  join-swap (compound k ts) any_ty = refl
-  join-swap (compound k ts) bool_ty = refl
-  join-swap (compound k ts) int_ty = refl
-  join-swap (compound k ts) (named_ty a) = refl
-  join-swap (compound k ts) (compound l us) = compounds-swap k l ts us (joins-swap ts us)
-
-  joins-swap : (ts us : Tys) → joins ts us ≡ joins us ts
-  joins-swap no_tys no_tys = refl
-  joins-swap no_tys (more_tys u us) = refl
-  joins-swap (more_tys t ts) no_tys = refl
-  joins-swap (more_tys t ts) (more_tys u us) =
-      ap (λ o. and_then o (λ v. option_map (more_tys v) (joins ts us))) (join-swap t u)
-      ∙ ap (λ o. and_then (join u t) (λ v. option_map (more_tys v) o)) (joins-swap ts us)
 
 -- ---- comparisons
 
@@ -248,7 +152,8 @@ module _ (g : Names Ty) where
   pub list-of-term : (x : Text) (e : Ex) → TypeKept g e (list_term x e)
   list-of-term x (fun1 b f s) = go (is_of_list f) refl (is_laid_open s)
     where
-      go : (c : Bool) → is_of_list f ≡ c → (d : Bool) → TypeKept g (fun1 b f s) (if c && not d then Some (fun1 b f (members_list x s)) else None)
+      go : (c : Bool) → is_of_list f ≡ c → (d : Bool) →
+          TypeKept g (fun1 b f s) (if c && not d then Some (fun1 b f (members_list x s)) else None)
       go true k true = tt
       go true k false = λ t q. ap (λ o. one_type (word f) o) (members-typed g x s) ∙ listed-type f k (type_of s g) t q
       go false k d = tt
@@ -258,7 +163,8 @@ module _ (g : Names Ty) where
 
   -- The types of items as those of a list.
   picked-type : (f : Fun) → is_extreme f ≡ true → (o : Option (List Ty)) →
-      Stays (one_type (word f) (and_then o (λ ts. option_map (compound1 a_set) (join_all ts)))) (one_type (word f) (and_then o type_of_list))
+      Stays (one_type (word f) (and_then o (λ ts. option_map (compound1 a_set) (join_all ts)))) (one_type (word f)
+      (and_then o type_of_list))
   picked-type f k None t q = cc
   picked-type Fun.Min k (Some []) t q = q
   picked-type Fun.Max k (Some []) t q = q
@@ -277,7 +183,8 @@ module _ (g : Names Ty) where
   picked-type _ k (Some us) t q = cc
 
   picked-of-mset : (f : Fun) → is_extreme f ≡ true → (o : Option (List Ty)) →
-      Stays (one_type (word f) (and_then o (λ ts. option_map (compound1 a_mset) (join_all ts)))) (one_type (word f) (and_then o type_of_list))
+      Stays (one_type (word f) (and_then o (λ ts. option_map (compound1 a_mset) (join_all ts)))) (one_type (word f)
+      (and_then o type_of_list))
   picked-of-mset f k None t q = cc
   picked-of-mset Fun.Min k (Some []) t q = q
   picked-of-mset Fun.Max k (Some []) t q = q
@@ -303,7 +210,8 @@ module _ (g : Names Ty) where
   least-listed _ = tt
 
   pub nth-type : (es : Exs) (k : ℕ) (a : Ex) (t : Ty) (o : Option (List Ty)) → all_some (types_of es g) ≡ o → nth es k ≡ Some a →
-      and_then (and_then o (λ ts. Some (compound a_tuple (tys_of ts)))) (λ u. and_then (step_ty u (a_number k) None) (λ v. Some v)) ≡ Some t →
+      and_then (and_then o (λ ts. Some (compound a_tuple (tys_of ts)))) (λ u. and_then (step_ty u (a_number k) None)
+      (λ v. Some v)) ≡ Some t →
       type_of a g ≡ Some t
   nth-type es k a t None p n q = cc
   nth-type es k a t (Some ts) p n q = go es ts k p n (some-then (component_ty (tys_of ts) k) q)
@@ -312,7 +220,8 @@ module _ (g : Names Ty) where
       some-then None q = cc
       some-then (Some v) q = q
 
-      heads : (o : Option Ty) (p : Option (List Ty)) (u : Ty) (us : List Ty) → and_then o (λ x. option_map (λ xs. x ∷ xs) p) ≡ Some (u ∷ us) →
+      heads : (o : Option Ty) (p : Option (List Ty)) (u : Ty) (us : List Ty) →
+          and_then o (λ x. option_map (λ xs. x ∷ xs) p) ≡ Some (u ∷ us) →
           (o ≡ Some u) × (p ≡ Some us)
       heads None p u us e = cc
       heads (Some x) None u us e = cc
@@ -323,7 +232,8 @@ module _ (g : Names Ty) where
       empty (Some x) None e = cc
       empty (Some x) (Some xs) e = cc
 
-      go : (es : Exs) (ts : List Ty) (k : ℕ) → all_some (types_of es g) ≡ Some ts → nth es k ≡ Some a → component_ty (tys_of ts) k ≡ Some t →
+      go : (es : Exs) (ts : List Ty) (k : ℕ) → all_some (types_of es g) ≡ Some ts → nth es k ≡ Some a →
+          component_ty (tys_of ts) k ≡ Some t →
           type_of a g ≡ Some t
       go no_exs ts k p n c = cc
       go (more_exs e es) [] k p n c = absurd (empty (type_of e g) (all_some (types_of es g)) p)

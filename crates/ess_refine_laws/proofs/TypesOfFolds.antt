@@ -121,7 +121,8 @@ module _ (g : Names Ty) where
   bare _ k = tt
 
   -- Under a condition.
-  both-truths : (o p : Option Ty) → is_truth_like o ≡ true → Stays (one_type (word Fun.And) (list_of_type p)) (two_type (binary Op2.Implies) o p)
+  both-truths : (o p : Option Ty) → is_truth_like o ≡ true →
+      Stays (one_type (word Fun.And) (list_of_type p)) (two_type (binary Op2.Implies) o p)
   both-truths o None k t q = cc
   both-truths (Some any_ty) (Some any_ty) k t q = q
   both-truths (Some any_ty) (Some bool_ty) k t q = q
@@ -188,7 +189,8 @@ module _ (g : Names Ty) where
       go None = refl
       go (Some u) = ap list_of_type (look-itself x u g)
 
-  folded : (f : Fun) → is_fold f ≡ true → (o : Option Ty) → Stays (one_type (word f) o) (one_type (word f) (list_of_type (and_then o member_ty)))
+  folded : (f : Fun) → is_fold f ≡ true → (o : Option Ty) →
+      Stays (one_type (word f) o) (one_type (word f) (list_of_type (and_then o member_ty)))
   folded f k None t q = cc
   folded Fun.And k (Some any_ty) t q = q
   folded Fun.Or k (Some any_ty) t q = q

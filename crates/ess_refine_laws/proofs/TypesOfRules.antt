@@ -30,7 +30,8 @@ use Rattle.ess_refine_laws.proofs.TypesOfFolds.{one_type, two_type, list_of_type
 use Rattle.ess_refine_laws.specs.AllRules.{Rule, over_nothing, over_one, over_one_binding, over_a_term, over_a_made_set, over_a_condition, over_tuples, component_of_a_tuple, not_equal, turned, strictly, with_nothing, size, size_of_one_made_of_another, frequency_in_one_made_of_another, least_of_a_literal, list_of_a_term, results, choice, compares_compound, rewrite}
 use Rattle.ess_refine_laws.specs.TypesOfRules.{keeps_type, TypeTold, RulesKeepTypes}
 use Rattle.ess_refine_laws.proofs.TypesOfFolds.{nothing, one-item, bare, alone, loosely, term}
-use Rattle.ess_refine_laws.proofs.TypesOfComparisons.{join-swap, apart, turns, strict, splits, shorter, list-of-term, least-listed, nth-type}
+use Rattle.ess_refine_laws.proofs.TypeJoins.{join-swap}
+use Rattle.ess_refine_laws.proofs.TypesOfComparisons.{apart, turns, strict, splits, shorter, list-of-term, least-listed, nth-type}
 
 module _ (g : Names Ty) where
   -- ---- components
@@ -40,11 +41,13 @@ module _ (g : Names Ty) where
     where
       parts : (t : Ty) (o : Option (List Ty)) →
           type_of_node (index (to_component k ∷ [])) (other ∷ []) (and_then o (λ ts. Some (compound a_tuple (tys_of ts))) ∷ []) ≡ Some t →
-          and_then (and_then o (λ ts. Some (compound a_tuple (tys_of ts)))) (λ u. and_then (step_ty u (a_number k) None) (λ v. Some v)) ≡ Some t
+          and_then (and_then o (λ ts. Some (compound a_tuple (tys_of ts)))) (λ u. and_then (step_ty u (a_number k) None)
+          (λ v. Some v)) ≡ Some t
       parts t None q = cc
       parts t (Some ts) q = q
 
-      go : (r : Option Ex) → nth es k ≡ r → TypeKept g (node_ex b (index (to_component k ∷ [])) (more_exs (node_ex false tuple_literal es) no_exs)) r
+      go : (r : Option Ex) → nth es k ≡ r →
+          TypeKept g (node_ex b (index (to_component k ∷ [])) (more_exs (node_ex false tuple_literal es) no_exs)) r
       go None n = tt
       go (Some a) n = λ t q. nth-type g es k a t (all_some (types_of es g)) refl n (parts t (all_some (types_of es g)) q)
   component _ = tt
@@ -52,7 +55,8 @@ module _ (g : Names Ty) where
   -- ---- what is made of functions, matrices and containers
 
   result-type : (x : Text) (t u : Ty) →
-      one_type (word Fun.ToSet) (list_of_type (type_of (component_of u 2 (name_ex x)) ((x, compound2 a_tuple t u) ∷ g))) ≡ Some (compound1 a_set u)
+      one_type (word Fun.ToSet) (list_of_type (type_of (component_of u 2 (name_ex x)) ((x, compound2 a_tuple t u) ∷ g))) ≡ Some
+      (compound1 a_set u)
   result-type x t u =
       ap (λ o. one_type (word Fun.ToSet) (list_of_type (type_of_node (index (to_component 2 ∷ [])) (a_name x ∷ []) (o ∷ []))))
       (look-itself x (compound2 a_tuple t u) g)
