@@ -1,6 +1,6 @@
 -- Typed trees with right marks and told types are judged.
 use Rattle.std.proofs.Common.{◌≡◌, refl, sym, ap, ◌∙◌, subst, Bool, true, false, ◌&&◌, ◌||◌, not, List, [], ◌∷◌, Option, Some, None, option_map}
-use Rattle.std.specs.Prelude.{IsTrue, is_some}
+use Rattle.std.specs.Prelude.{is_some}
 use Rattle.std.specs.List.{list_all}
 use Rattle.ess_semantics.specs.Lists.{and_then, all_some}
 use Rattle.ess_semantics.specs.Names.{Names}
@@ -13,8 +13,8 @@ use Rattle.ess_semantics.specs.Typing.{Static, statics, type_of_node, type_of, t
 use Rattle.ess_semantics.specs.Kinds.{is_bounded}
 use Rattle.ess_semantics.specs.ExpressionJudgements.{pattern_fits}
 use Rattle.ess_semantics.specs.NamesAt.{names_behind}
-use Rattle.ess_semantics.proofs.Tests.{and-left, and-right, and-both, or-yes}
-use Rattle.ess_rules_laws.specs.Progress.{is_parted, is_told, are_told, is_plain_source, has_members}
+use Rattle.ess_semantics.proofs.Tests.{and-left, and-right, and-both}
+use Rattle.ess_rules_laws.specs.Progress.{is_told, are_told, is_plain_source, has_members}
 use Rattle.ess_refine_laws.specs.ScalarItems.{is_scalar}
 use Rattle.ess_refine_laws.specs.MarksStay.{MarkFits, HasMarks, HaveMarks, GensHaveMarks, DomHasMarks}
 use Rattle.ess_refine_laws.specs.Progress.{is_known, is_picked, is_judged, are_judged, gens_judged, dom_judged}
@@ -40,7 +40,8 @@ each-there : (f : Option Ty → Bool) → ((o : Option Ty) → f o ≡ true → 
     list_all is_some os ≡ true
 each-there f h [] k = refl
 each-there f h (o ∷ os) k =
-    and-both (is_some o) (list_all is_some os) (h o (and-left (f o) (list_all f os) k)) (each-there f h os (and-right (f o) (list_all f os) k))
+    and-both (is_some o) (list_all is_some os) (h o (and-left (f o) (list_all f os) k)) (each-there f h os (and-right (f o)
+    (list_all f os) k))
 
 -- A told condition is a truth value.
 condition-scalar : (o : Option Ty) (F : Option (Names Ty)) → is_told o ≡ true →
@@ -183,7 +184,8 @@ mutual
       (gens-are-judged gs g m.0 (under-there (types_under gs g) (λ h. option_map (compound2 a_matrix int_ty) (type_of e h)) t)
       (and-right (are_types_told e (names_behind gs g)) (gens_types_told gs g) h)))
   judged (cell_ex b n es) g m t k =
-      and-both (list_all is_scalar (types_of es g)) (are_judged es g) (and-left (list_all is_scalar (types_of es g)) (all_types_told es g) k)
+      and-both (list_all is_scalar (types_of es g)) (are_judged es g) (and-left (list_all is_scalar (types_of es g))
+      (all_types_told es g) k)
       (each-judged es g m
       (each-there is_scalar scalar-there (types_of es g) (and-left (list_all is_scalar (types_of es g)) (all_types_told es g) k))
       (and-right (list_all is_scalar (types_of es g)) (all_types_told es g) k))
@@ -193,7 +195,8 @@ mutual
       are_judged es g ≡ true
   each-judged no_exs g m t k = refl
   each-judged (more_exs e es) g m t k = and-both (is_judged e g) (are_judged es g)
-      (judged e g m.0 (and-left (is_some (type_of e g)) (list_all is_some (types_of es g)) t) (and-left (are_types_told e g) (all_types_told es g) k))
+      (judged e g m.0 (and-left (is_some (type_of e g)) (list_all is_some (types_of es g)) t) (and-left (are_types_told e g)
+      (all_types_told es g) k))
       (each-judged es g m.1 (and-right (is_some (type_of e g)) (list_all is_some (types_of es g)) t)
       (and-right (are_types_told e g) (all_types_told es g) k))
 

@@ -53,6 +53,7 @@ mod ScopesOfConditions
 mod ScopesOfGenerators
 mod ScopesOfSources
 mod ScopesOfRules
+mod TypeJoins
 mod TypesOfFolds
 mod TypesOfComparisons
 mod TypesOfRules

@@ -115,7 +115,8 @@ module _ (q : ℤ → Bool) (o : q (pos 0) ≡ true) (i : q (pos 1) ≡ true) wh
   put-each y e hs (a ∷ l) h k j = (
     (
       put-spells q (for_name y a.item) (for-name q y a.item h.0.0) e false k,
-      append-spells q a.gens (substitute_gens (for_name y a.item) hs) h.0.1 (put-gens q (for_name y a.item) (for-name q y a.item h.0.0) hs j),
+      append-spells q a.gens (substitute_gens (for_name y a.item) hs) h.0.1 (put-gens q (for_name y a.item)
+          (for-name q y a.item h.0.0) hs j),
     ),
     put-each y e hs l h.1 k j,
   )

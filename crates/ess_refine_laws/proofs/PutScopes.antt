@@ -1,15 +1,13 @@
 -- A term in the place of a name, behind generators of its own, stays in scope.
 use Rattle.std.proofs.Common.{◌≡◌, refl, sym, ap, ◌∙◌, Bool, true, false, ◌||◌, not, if◌then◌else◌}
-use Rattle.std.specs.Prelude.{IsTrue}
 use Rattle.ess_semantics.specs.Values.{Text}
 use Rattle.ess_semantics.specs.Order.{same_text}
 use Rattle.ess_semantics.specs.Trees.{Pat, Pats, name_pat, tuple_pat, no_pats, more_pats, Ex, Exs, number_ex, truth_ex, name_ex, node_ex, matrix_ex, comp_ex, cell_ex, seen_ex, no_exs, more_exs, Gens, no_gens, over, from, cond, Dom, Doms, bool_dom, int_dom, name_dom, tuple_dom, record_dom, matrix_dom, set_dom, mset_dom, function_dom, relation_dom, partition_dom, no_doms, more_doms}
-use Rattle.ess_semantics.specs.Scoped.{is_bound, is_bound_by_some, BindsNew, AllBindNew, with_names, IsPlainIndex, Scoped, ScopedExs, ScopedGens, ScopedDom, ScopedDoms}
+use Rattle.ess_semantics.specs.Scoped.{is_bound, is_bound_by_some, BindsNew, AllBindNew, with_names}
 use Rattle.ess_semantics.specs.Substitution.{substitute, substitute_exs, substitute_gens, substitute_dom, substitute_doms, for_name, Binds, BindsAll, NamesAre, NamesAreExs, NamesAreGens, NamesAreDom, NamesAreDoms}
 use Rattle.ess_semantics.proofs.Tests.{or-yes}
-use Rattle.ess_rules_laws.specs.SpliceRules.{append_gens}
 use Rattle.ess_rules_laws.proofs.Agreement.{same_text-equal}
-use Rattle.ess_refine_laws.proofs.WiderScopes.{Fewer, Among, Wider, fewer-with, new-wider, wider, bound}
+use Rattle.ess_refine_laws.proofs.WiderScopes.{Fewer, Among, Wider, fewer-with}
 
 -- ---- names that patterns bind
 
@@ -74,7 +72,8 @@ pub record Grown (u s t o p : Text → Bool) : Type 0 where
   pub plain : Fewer o p
   pub among : Among t s (λ a. not (u a))
 
-pub grown-both : (u s t o p : Text → Bool) (q : Pat) → Binds (λ a. not (u a)) q → Grown u s t o p → Grown u s (with_names t q) o (with_names p q)
+pub grown-both : (u s t o p : Text → Bool) (q : Pat) → Binds (λ a. not (u a)) q → Grown u s t o p →
+    Grown u s (with_names t q) o (with_names p q)
 grown-both u s t o p q b w = record {
   fewer = λ a h. either-left (t a) (is_bound q a) (w.fewer a h);
   plain = λ a h. either-left (p a) (is_bound q a) (w.plain a h);
@@ -117,12 +116,14 @@ module _ (u : Text → Bool) (y : Text) (t0 p0 : Text → Bool) where
   pub puts-both : (s t o p : Text → Bool) (q : Pat) → Binds u q → BindsNew s q → Puts u y t0 p0 s t o p →
       Puts u y t0 p0 (with_names s q) (with_names t q) (with_names o q) (with_names p q)
   puts-both s t o p q b n w = record {
-    kept = λ a d h. one-of (s a) (is_bound q a) h (λ k. either-left (t a) (is_bound q a) (w.kept a d k)) (either-right (t a) (is_bound q a));
+    kept = λ a d h. one-of (s a) (is_bound q a) h (λ k. either-left (t a) (is_bound q a) (w.kept a d k)) (either-right (t a)
+        (is_bound q a));
     plain = fewer-with o p q w.plain;
     apart = ap (λ b. b || is_bound q y) w.apart ∙ new-apart s y w.there q n;
     there = either-left (s y) (is_bound q y) w.there;
     among = λ a h. one-of (t a) (is_bound q a) h
-        (λ k. one-of (s a) (not (u a)) (w.among a k) (λ m. either-left (s a || is_bound q a) (not (u a)) (either-left (s a) (is_bound q a) m))
+        (λ k. one-of (s a) (not (u a)) (w.among a k) (λ m. either-left (s a || is_bound q a) (not (u a)) (either-left (s a)
+        (is_bound q a) m))
         (either-right (s a || is_bound q a) (not (u a))))
         (λ k. either-left (s a || is_bound q a) (not (u a)) (either-right (s a) (is_bound q a) k));
     wide = wide-both u t0 t p0 p q b w.wide;
@@ -131,12 +132,14 @@ module _ (u : Text → Bool) (y : Text) (t0 p0 : Text → Bool) where
   pub puts-one : (s t o p : Text → Bool) (q : Pat) → Binds u q → BindsNew s q → Puts u y t0 p0 s t o p →
       Puts u y t0 p0 (with_names s q) (with_names t q) o p
   puts-one s t o p q b n w = record {
-    kept = λ a d h. one-of (s a) (is_bound q a) h (λ k. either-left (t a) (is_bound q a) (w.kept a d k)) (either-right (t a) (is_bound q a));
+    kept = λ a d h. one-of (s a) (is_bound q a) h (λ k. either-left (t a) (is_bound q a) (w.kept a d k)) (either-right (t a)
+        (is_bound q a));
     plain = w.plain;
     apart = w.apart;
     there = either-left (s y) (is_bound q y) w.there;
     among = λ a h. one-of (t a) (is_bound q a) h
-        (λ k. one-of (s a) (not (u a)) (w.among a k) (λ m. either-left (s a || is_bound q a) (not (u a)) (either-left (s a) (is_bound q a) m))
+        (λ k. one-of (s a) (not (u a)) (w.among a k) (λ m. either-left (s a || is_bound q a) (not (u a)) (either-left (s a)
+        (is_bound q a) m))
         (either-right (s a || is_bound q a) (not (u a))))
         (λ k. either-left (s a || is_bound q a) (not (u a)) (either-right (s a) (is_bound q a) k));
     wide = wide-one u t0 t p0 p q b w.wide;

@@ -1,20 +1,19 @@
 -- With a term for a bound name a tree stays in scope, also behind generators that stand before it.
 use Rattle.std.proofs.Common.{◌≡◌, refl, ap, ◌∙◌, Bool, true, false, ◌||◌, not, if◌then◌else◌}
-use Rattle.std.specs.Prelude.{IsTrue}
 use Rattle.ess_semantics.specs.Values.{Text}
 use Rattle.ess_semantics.specs.Order.{same_text}
-use Rattle.ess_semantics.specs.Trees.{Pat, Pats, name_pat, tuple_pat, no_pats, more_pats, Ex, Exs, number_ex, truth_ex, name_ex, node_ex, matrix_ex, comp_ex, cell_ex, seen_ex, no_exs, more_exs, Gens, no_gens, over, from, cond, Dom, Doms, bool_dom, int_dom, name_dom, tuple_dom, record_dom, matrix_dom, set_dom, mset_dom, function_dom, relation_dom, partition_dom, no_doms, more_doms}
-use Rattle.ess_semantics.specs.Scoped.{is_bound, is_bound_by_some, BindsNew, AllBindNew, with_names, IsPlainIndex, Scoped, ScopedExs, ScopedGens, ScopedDom, ScopedDoms}
-use Rattle.ess_semantics.specs.Substitution.{substitute, substitute_exs, substitute_gens, substitute_dom, substitute_doms, for_name, Binds, BindsAll, NamesAre, NamesAreExs, NamesAreGens, NamesAreDom, NamesAreDoms}
-use Rattle.ess_semantics.proofs.Tests.{or-yes}
+use Rattle.ess_semantics.specs.Trees.{name_pat, Ex, Exs, number_ex, truth_ex, name_ex, node_ex, matrix_ex, comp_ex, cell_ex, seen_ex, no_exs, more_exs, Gens, no_gens, over, from, cond, Dom, Doms, bool_dom, int_dom, name_dom, tuple_dom, record_dom, matrix_dom, set_dom, mset_dom, function_dom, relation_dom, partition_dom, no_doms, more_doms}
+use Rattle.ess_semantics.specs.Scoped.{with_names, IsPlainIndex, Scoped, ScopedExs, ScopedGens, ScopedDom, ScopedDoms}
+use Rattle.ess_semantics.specs.Substitution.{substitute, substitute_exs, substitute_gens, substitute_dom, substitute_doms, for_name, NamesAre, NamesAreExs, NamesAreGens, NamesAreDom, NamesAreDoms}
 use Rattle.ess_rules_laws.specs.SpliceRules.{append_gens}
 use Rattle.ess_rules_laws.proofs.Agreement.{same_text-equal}
-use Rattle.ess_refine_laws.proofs.WiderScopes.{Fewer, Among, Wider, fewer-with, new-wider, wider, bound}
+use Rattle.ess_refine_laws.proofs.WiderScopes.{Fewer, new-wider, wider, bound}
 use Rattle.ess_refine_laws.proofs.PutScopes.{no, twice, either-left, either-right, one-of, Grown, grown-both, grown-one, Puts, puts-both, puts-one, names-dom}
 
 module _ (z u : Text → Bool) (y : Text) (w : Ex) (zy : z y ≡ false) where
   -- An index list of a view has no such name.
-  index-put : (o p : Text → Bool) → Fewer o p → o y ≡ false → (es : Exs) → IsPlainIndex o es → IsPlainIndex p (substitute_exs (for_name y w) es)
+  index-put : (o p : Text → Bool) → Fewer o p → o y ≡ false → (es : Exs) → IsPlainIndex o es →
+      IsPlainIndex p (substitute_exs (for_name y w) es)
   index-put o p f d no_exs h = tt
   index-put o p f d (more_exs (number_ex n) es) h = index-put o p f d es h
   index-put o p f d (more_exs (name_ex a) es) h = go (same_text y a) refl (index-put o p f d es h.1)
@@ -55,7 +54,8 @@ module _ (z u : Text → Bool) (y : Text) (w : Ex) (zy : z y ≡ false) where
       put-gens (over q d gs) e s t o p k b f h = (
         new-wider s t (λ a. not (u a)) k.among q (twice u q b.0) h.0,
         put-dom d s t o p k b.1 h.1,
-        put-gens gs e (with_names s q) (with_names t q) (with_names o q) (with_names p q) (puts-both u y t0 p0 s t o p q b.0 h.0 k) b.2 f h.2,
+        put-gens gs e (with_names s q) (with_names t q) (with_names o q) (with_names p q)
+            (puts-both u y t0 p0 s t o p q b.0 h.0 k) b.2 f h.2,
       )
       put-gens (from q x gs) e s t o p k b f h = (
         new-wider s t (λ a. not (u a)) k.among q (twice u q b.0) h.0,

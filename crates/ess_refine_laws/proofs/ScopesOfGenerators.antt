@@ -35,14 +35,16 @@ module _ (z : Text → Bool) where
     all-both s q (more_pats p ps) h k = (new-both s q p h.0 k.0, all-both s q ps h.1 k.1)
 
   -- One pattern after the other.
-  shift : (s : Text → Bool) (q : Pat) (ps : Pats) → Fewer (with_names s (tuple_pat (more_pats q ps))) (with_names (with_names s q) (tuple_pat ps))
+  shift : (s : Text → Bool) (q : Pat) (ps : Pats) →
+      Fewer (with_names s (tuple_pat (more_pats q ps))) (with_names (with_names s q) (tuple_pat ps))
   shift s q ps a h = go (s a) (is_bound q a) (is_bound_by_some ps a) h
     where
       go : (x y v : Bool) → x || (y || v) ≡ true → (x || y) || v ≡ true
       go true y v h = refl
       go false y v h = h
 
-  back : (s : Text → Bool) (q : Pat) (ps : Pats) → Fewer (with_names (with_names s q) (tuple_pat ps)) (with_names s (tuple_pat (more_pats q ps)))
+  back : (s : Text → Bool) (q : Pat) (ps : Pats) →
+      Fewer (with_names (with_names s q) (tuple_pat ps)) (with_names s (tuple_pat (more_pats q ps)))
   back s q ps a h = go (s a) (is_bound q a) (is_bound_by_some ps a) h
     where
       go : (x y v : Bool) → (x || y) || v ≡ true → x || (y || v) ≡ true
@@ -125,4 +127,5 @@ module _ (z : Text → Bool) where
         ScopedGens z (with_names t.all (name_pat x)) t.over_domains hs (λ u i. Scoped z u i e) →
         Scoped z t.all t.over_domains (comp_ex e (over (name_pat x) (record_dom fs ds) hs)) →
         A (name_over_record ys (comp_ex e (over (name_pat x) (record_dom fs ds) hs)))
-    record-name ys n e x fs ds hs k h = when z t.all t.over_domains (are_names ys ds && are_in_order fs ds) _ (h.0, over-names ys n ds h.1, k)
+    record-name ys n e x fs ds hs k h = when z t.all t.over_domains (are_names ys ds && are_in_order fs ds) _
+        (h.0, over-names ys n ds h.1, k)

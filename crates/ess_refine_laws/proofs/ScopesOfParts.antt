@@ -90,7 +90,8 @@ module _ (z : Text → Bool) where
     pub term : (x : Text) → IsTrue (not (s x)) → (e : Ex) → Scoped z s o e → InScope (fold_term x e)
     term x n (fun1 b f l) h = go (is_fold f) (is_laid_open l)
       where
-        go : (c d : Bool) → InScope (if c then (if d then None else Some (fun1 b f (comp_ex (name_ex x) (from (name_pat x) l no_gens)))) else None)
+        go : (c d : Bool) → InScope (if c then (if d then None else Some (fun1 b f (comp_ex (name_ex x) (from
+            (name_pat x) l no_gens)))) else None)
         go true true = tt
         go true false = ((n, h.0, bound x s), tt)
         go false d = tt

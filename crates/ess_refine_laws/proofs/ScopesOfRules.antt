@@ -1,5 +1,5 @@
 -- Each rule keeps the scope.
-use Rattle.std.proofs.Common.{◌≡◌, subst, Bool, true, false, Option}
+use Rattle.std.proofs.Common.{subst, Bool, false, Option}
 use Rattle.ess_semantics.specs.Values.{Text}
 use Rattle.ess_semantics.specs.Names.{Names}
 use Rattle.ess_semantics.specs.Trees.{matrix_literal, mset_literal, name_pat, tuple_pat, Ex, node_ex, comp_ex, ex2, fun1, from, over, tuple_dom, record_dom}
@@ -131,7 +131,8 @@ module _ (z : Text → Bool) (t : Supply) (g : Names Ty) (s : Scope) where
   each-scoped list_on_the_left e n k h = left-list z s.all s.over_domains t.one n.0.0 e h
   each-scoped list_on_the_right e n k h = right-list z s.all s.over_domains t.one n.0.0 e h
   each-scoped all_different e n k h =
-      unless z s.all s.over_domains (tells_scalars_apart g e) (different_term t.one e) (different z s.all s.over_domains t.one n.0.0 e n.0.1 h)
+      unless z s.all s.over_domains (tells_scalars_apart g e) (different_term t.one e)
+      (different z s.all s.over_domains t.one n.0.0 e n.0.1 h)
   each-scoped results e n k h = results-scoped z s.all s.over_domains t.one n.0.0 g e h
   each-scoped choice e n k h = chosen-shorter z s.all s.over_domains e h
   each-scoped condition e n k h = leaves z s.all s.over_domains e h

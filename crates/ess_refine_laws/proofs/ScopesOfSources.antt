@@ -1,60 +1,35 @@
 -- What rules make of generators over sources stays in scope.
 use Rattle.std.specs.Prelude.{IsTrue}
-use Rattle.std.proofs.Common.{◌≡◌, refl, ap, ◌∙◌, ℕ, zero, suc, Bool, true, false, ◌&&◌, ◌||◌, if◌then◌else◌, List, [], ◌∷◌, ℤ, pos, Option, Some, None, not, subst, map, option_map}
+use Rattle.std.proofs.Common.{◌≡◌, refl, ap, ◌∙◌, Bool, true, false, ◌||◌, if◌then◌else◌, List, [], ◌∷◌, Option, Some, None, not, map}
 use Rattle.ess_semantics.specs.declared.words.Op2.{Op2}
 use Rattle.ess_semantics.specs.declared.words.Fun.{Fun}
 use Rattle.ess_semantics.specs.Lists.{and_then, or_else}
-use Rattle.ess_semantics.specs.Values.{Text, a_record, a_function, a_matrix}
-use Rattle.ess_semantics.specs.Order.{same_text, same_texts}
+use Rattle.ess_semantics.specs.Values.{Text, a_function}
+use Rattle.ess_semantics.specs.Order.{same_text}
 use Rattle.ess_semantics.specs.Names.{Names}
-use Rattle.ess_semantics.specs.Trees.{to_component, to_field, word, index, tuple_literal, mset_literal, matrix_literal, record_literal, Pats, more_pats, no_pats, name_pat, tuple_pat, Ex, Exs, name_ex, node_ex, comp_ex, ex2, fun1, no_exs, more_exs, Gens, no_gens, over, from, cond, Doms, no_doms, more_doms, tuple_dom, record_dom, binary, set_literal, relation_literal, number_ex, truth_ex, ex1, Dom, function_literal, partition_literal, matrix_ex, int_dom}
-use Rattle.ess_semantics.specs.Types.{Ty, Tys, no_tys, more_tys, compound, compound2}
+use Rattle.ess_semantics.specs.Trees.{word, mset_literal, matrix_literal, name_pat, Ex, Exs, node_ex, comp_ex, ex2, fun1, no_exs, more_exs, Gens, no_gens, from, set_literal, relation_literal, ex1, function_literal, partition_literal, matrix_ex}
+use Rattle.ess_semantics.specs.Types.{Ty, compound2}
 use Rattle.ess_semantics.specs.Typing.{type_of}
 use Rattle.ess_semantics.specs.ExpressionJudgements.{forgets_order}
-use Rattle.ess_semantics.specs.Substitution.{substitute, substitute_gens, for_name}
-use Rattle.ess_semantics.specs.Constants.{drops_items}
-use Rattle.ess_rules_laws.specs.FoldRules.{is_fold, is_laid_open, fold_alone, fold_nothing, fold_one, fold_bare, fold_term}
-use Rattle.ess_rules_laws.specs.LooseRules.{fold_loosely}
-use Rattle.ess_rules_laws.specs.SourceRules.{is_marked, each_fold, fold_items}
-use Rattle.ess_rules_laws.specs.SpliceRules.{append_gens, splice}
-use Rattle.ess_rules_laws.specs.SplitRules.{as_many, each_over, split}
-use Rattle.ess_rules_laws.specs.TupleNames.{named_exs, name_over_tuple, are_names}
+use Rattle.ess_rules_laws.specs.SourceRules.{is_marked, each_fold}
 use Rattle.ess_rules_laws.specs.Listings.{Alternative, each_item, none_of, each_first, is_strict, listing}
 use Rattle.ess_rules_laws.specs.ListedSources.{put_listed, source_alone, each_put, source_parts}
-use Rattle.ess_rules_laws.specs.LiteralRules.{nth, component_listed, unequal_each, unequal_pairs, different_listed, extreme_listed}
-use Rattle.ess_rules_laws.specs.FieldLiterals.{field_term, field_listed}
-use Rattle.ess_rules_laws.specs.InclusionRules.{both_sets, both_msets, unequal, included_turned, included_strictly, both_functions, included_members, included_often, equal_members, equal_often, equal_pairs}
-use Rattle.ess_rules_laws.specs.ComponentRules.{components, equal_from, equal_where, equal_components, are_fields, equal_each, equal_where_fields, equal_fields, component_of}
-use Rattle.ess_refine_laws.specs.RecordNames.{are_in_order, name_over_record}
-use Rattle.ess_refine_laws.specs.AllRules.{only_one, Supply, offered, Rule, over_nothing, over_one, over_one_binding, over_a_term, over_a_literal, over_a_made_set, over_a_source, of_one_source, over_a_comprehension, over_tuples, over_a_tuple, over_a_record, over_a_condition, component_of_a_tuple, field_of_a_record, not_equal, turned, strictly, equal_tuples, equal_records, equal_sets, equal_multisets, equal_functions, equal_partitions, with_nothing, equal_matrices_at, included_sets, included_multisets, in_two, in_one_made_of_another, in_a_literal, in_what_a_function_has, in_its_pairs, in_a_term, size_of_one_made_of_another, size, frequency_in_one_made_of_another, frequency_in_a_literal, frequency, together, least_of_a_literal, different_items, list_of_a_term, list_on_the_left, list_on_the_right, all_different, choice, condition, condition_behind, least_under_a_condition, least_of_alternatives, source_listed, source_listed_once, extremes_listed, matrices_at, opposite_copied, compares_compound, tells_scalars_apart, rewrite}
+use Rattle.ess_rules_laws.specs.InclusionRules.{both_sets}
+use Rattle.ess_refine_laws.specs.AllRules.{only_one, Supply, offered}
 use Rattle.ess_semantics.specs.declared.words.Op1.{Op1}
-use Rattle.ess_rules_laws.specs.ContainerListings.{of_function, range_as_set, made_listing}
-use Rattle.ess_rules_laws.specs.PartitionRules.{both_partitions, equal_parts}
-use Rattle.ess_rules_laws.specs.MatrixRules.{is_matrix, lies_in, equal_each_at, both_matrices, equal_matrices, equal_to_nothing}
-use Rattle.ess_rules_laws.specs.MembershipRules.{equations, member_term, member_combined, member_changed, member_listed}
-use Rattle.ess_rules_laws.specs.FunctionMembershipRules.{an_argument, a_result, a_source, member_of_function, member_related}
-use Rattle.ess_rules_laws.specs.SizeRules.{is_counted, size_term, frequency_term, together_term}
-use Rattle.ess_rules_laws.specs.ShortSizeRules.{is_function, is_partition, size_made, frequency_made, ones_where, frequency_listed}
-use Rattle.ess_rules_laws.specs.ListRules.{is_of_list, is_lex, list_term, lex_left, lex_right, different_term}
-use Rattle.ess_rules_laws.specs.ChoiceRules.{choice_shorter}
-use Rattle.ess_semantics.specs.Refined.{is_refined, are_refined_gens}
-use Rattle.ess_refine_laws.specs.LeavingConditions.{Parted, at_last_condition, under_condition, condition_leaves, with_before}
-use Rattle.ess_refine_laws.specs.MovingConditions.{one_later, condition_later}
-use Rattle.ess_refine_laws.specs.ExtremeRules.{is_extreme, are_none, extreme_condition, either_number}
-use Rattle.ess_refine_laws.specs.Everywhere.{everywhere, everywhere_gens, divisor, base, exponent, raised, extreme, is_nonzero, is_positive, everywhere_list, everywhere_exs, everywhere_dom}
+use Rattle.ess_rules_laws.specs.ContainerListings.{of_function, made_listing}
+use Rattle.ess_rules_laws.specs.ShortSizeRules.{is_partition}
 use Rattle.ess_refine_laws.specs.ExtremeAlternatives.{put_alternative, each_extreme, each_size, past_all, extreme_alternatives}
-use Rattle.ess_semantics.specs.Occurrences.{has_cells}
-use Rattle.ess_semantics.specs.Trees.{Pat}
-use Rattle.ess_semantics.specs.Scoped.{BindsNew, with_names, Scoped, ScopedExs, ScopedGens}
-use Rattle.ess_semantics.specs.Substitution.{NamesAre, NamesAreExs, NamesAreGens}
-use Rattle.ess_rules_laws.specs.Listings.{each_item, none_of, each_first, those, is_strict, listing}
+use Rattle.ess_semantics.specs.Scoped.{with_names, Scoped, ScopedExs, ScopedGens}
+use Rattle.ess_semantics.specs.Substitution.{NamesAre}
+use Rattle.ess_rules_laws.specs.Listings.{each_item, none_of, each_first, is_strict, listing}
 use Rattle.ess_rules_laws.specs.ListedSources.{laid_out}
 use Rattle.ess_rules_laws.specs.ContainerListings.{made_listing}
 use Rattle.ess_rules_laws.proofs.Agreement.{same_text-equal, same_text-itself}
-use Rattle.ess_refine_laws.specs.ExtremeAlternatives.{has_items, extreme_parts}
+use Rattle.ess_refine_laws.specs.ExtremeAlternatives.{has_items}
 use Rattle.ess_refine_laws.specs.AllRules.{OfSome}
 use Rattle.ess_refine_laws.specs.ScopesStay.{Scope}
-use Rattle.ess_refine_laws.specs.ScopesOfRules.{BindsNone, IsNew, NewSupply, EachBindsNone, TermsApart}
+use Rattle.ess_refine_laws.specs.ScopesOfRules.{BindsNone, EachBindsNone, TermsApart}
 use Rattle.ess_refine_laws.proofs.WiderScopes.{bound, behind}
 use Rattle.ess_refine_laws.proofs.PutTerms.{put-listed-scoped}
 use Rattle.ess_refine_laws.proofs.ScopesOfParts.{gens-map, InScope, when}
@@ -199,9 +174,14 @@ module _ (z : Text → Bool) (s : Scope) where
 
   sizes-scoped : (l : List Alternative) → AllScoped l → ScopedExs z s.all s.over_domains (each_size l)
   sizes-scoped [] h = tt
-  sizes-scoped (a ∷ l) h =
-      ((gens-map z a.gens (λ v i. Scoped z v i a.item) (λ v i. Scoped z v i (ex1 false Op1.Bar a.item)) (λ v i k. (k, tt)) s.all s.over_domains h.0, tt),
-      sizes-scoped l h.1)
+  sizes-scoped (a ∷ l) h = (
+    (
+      gens-map z a.gens (λ v i. Scoped z v i a.item) (λ v i. Scoped z v i (ex1 false Op1.Bar a.item)) (λ v i k.
+          (k, tt)) s.all s.over_domains h.0,
+      tt,
+    ),
+    sizes-scoped l h.1,
+  )
 
   past-scoped : (f : Fun) (l : List Alternative) → AllScoped l → S (past_all f l)
   past-scoped Fun.Max l h = ((sizes-scoped l h, tt), tt)
@@ -210,7 +190,8 @@ module _ (z : Text → Bool) (s : Scope) where
   has-scoped : (a : Alternative) → S (laid_out a) → S (has_items a)
   has-scoped a h = (gens-map z a.gens (λ v i. Scoped z v i a.item) (λ v i. Unit {0}) (λ v i k. tt) s.all s.over_domains h, tt)
 
-  each-extreme-scoped : (f : Fun) (n : Ex) (l : List Alternative) → S n → AllScoped l → ScopedExs z s.all s.over_domains (each_extreme f n l)
+  each-extreme-scoped : (f : Fun) (n : Ex) (l : List Alternative) → S n → AllScoped l →
+      ScopedExs z s.all s.over_domains (each_extreme f n l)
   each-extreme-scoped f n [] h k = tt
   each-extreme-scoped f n (a ∷ l) h k = (
     (((has-scoped a k.0, (k.0, tt)), tt), (((((has-scoped a k.0, tt), tt), (h, tt))), tt)),

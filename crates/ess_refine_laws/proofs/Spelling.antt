@@ -49,7 +49,8 @@ module _ (q : ℤ → Bool) where
   inside true (seen_ex r d ns es) h = h
 
   -- What is no list literal is counted everywhere.
-  counts-outside : (b : Bool) (op : Op) (es : Exs) → is_list_literal (node_ex b op es) ≡ false → All q (counts_at op true b (operand_count es)) →
+  counts-outside : (b : Bool) (op : Op) (es : Exs) → is_list_literal (node_ex b op es) ≡ false →
+      All q (counts_at op true b (operand_count es)) →
       All q (counts_at op false b (operand_count es))
   counts-outside b tuple_literal es k h = h
   counts-outside b (record_literal fs) es k h = h
@@ -242,7 +243,8 @@ module _ (q : ℤ → Bool) where
     constants-of m (matrix_ex es d) h =
         all-both q (one_to (operand_count es) ++ operand_constants false es) (dom_constants d)
         (all-both q (one_to (operand_count es)) (operand_constants false es) h.0 (constants-each false es h.1)) (constants-dom d h.2)
-    constants-of m (comp_ex e gs) h = all-both q (tree_constants false e) (gens_constants gs) (constants-of false e h.0) (constants-gens gs h.1)
+    constants-of m (comp_ex e gs) h = all-both q (tree_constants false e) (gens_constants gs) (constants-of false e h.0)
+        (constants-gens gs h.1)
     constants-of m (cell_ex b n es) h = constants-each false es h
     constants-of m (seen_ex r d ns es) h =
         all-both q (dom_constants d) (operand_constants false es) (constants-dom d h.0) (constants-each false es h.1)
@@ -255,8 +257,10 @@ module _ (q : ℤ → Bool) where
     constants-gens : (gs : Gens) → SpellsGens q gs → All q (gens_constants gs)
     constants-gens no_gens h = refl
     constants-gens (over p d gs) h = all-both q (dom_constants d) (gens_constants gs) (constants-dom d h.0) (constants-gens gs h.1)
-    constants-gens (from p e gs) h = all-both q (tree_constants false e) (gens_constants gs) (constants-of false e h.0) (constants-gens gs h.1)
-    constants-gens (cond e gs) h = all-both q (tree_constants false e) (gens_constants gs) (constants-of false e h.0) (constants-gens gs h.1)
+    constants-gens (from p e gs) h = all-both q (tree_constants false e) (gens_constants gs) (constants-of false e h.0)
+        (constants-gens gs h.1)
+    constants-gens (cond e gs) h = all-both q (tree_constants false e) (gens_constants gs) (constants-of false e h.0)
+        (constants-gens gs h.1)
 
     constants-dom : (d : Dom) → SpellsDom q d → All q (dom_constants d)
     constants-dom bool_dom h = refl
@@ -271,7 +275,8 @@ module _ (q : ℤ → Bool) where
         all-both q (operand_constants false es) (dom_constants d) (constants-each false es h.0) (constants-dom d h.1)
     constants-dom (function_dom ms es d c) h =
         all-both q (operand_constants false es ++ dom_constants d) (dom_constants c)
-        (all-both q (operand_constants false es) (dom_constants d) (constants-each false es h.0) (constants-dom d h.1)) (constants-dom c h.2)
+        (all-both q (operand_constants false es) (dom_constants d) (constants-each false es h.0) (constants-dom d h.1))
+        (constants-dom c h.2)
     constants-dom (relation_dom ms es ds) h =
         all-both q (operand_constants false es) (doms_constants ds) (constants-each false es h.0) (constants-doms ds h.1)
     constants-dom (partition_dom ms es d) h =

@@ -130,7 +130,8 @@ module _ (q : ℤ → Bool) where
     divisor-spells : (b : Ex) → Spells q false b → Spells q false (divisor b)
     divisor-spells b h = go (is_nonzero b)
       where
-        go : (c : Bool) → Spells q false (if c then b else ex2 false Op2.Plus b (fun1 false Fun.ToInt (ex2 true Op2.Eq b (number_ex (pos 0)))))
+        go : (c : Bool) → Spells q false (if c then b else ex2 false Op2.Plus b (fun1 false Fun.ToInt (ex2 true Op2.Eq b (number_ex
+            (pos 0)))))
         go true = h
         go false = (refl, (h, ((refl, ((refl, (h, (o, tt))), tt)), tt)))
 

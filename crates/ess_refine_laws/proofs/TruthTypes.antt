@@ -1,14 +1,13 @@
 -- Which operators have truth values, by their types.
-use Rattle.std.proofs.Common.{◌≡◌, refl, Bool, true, false, List, [], ◌∷◌, map, Option, Some, None, option_map}
-use Rattle.std.specs.Prelude.{is_some}
+use Rattle.std.proofs.Common.{◌≡◌, refl, Bool, true, false, List, [], ◌∷◌, Option, Some, None, option_map}
 use Rattle.ess_semantics.specs.declared.words.Op1.{Op1}
 use Rattle.ess_semantics.specs.declared.words.Op2.{Op2}
 use Rattle.ess_semantics.specs.declared.words.Fun.{Fun}
 use Rattle.ess_semantics.specs.Lists.{and_then}
-use Rattle.ess_semantics.specs.Values.{a_tuple, a_matrix, a_set, a_mset, a_function, a_relation, a_partition, a_record, Kind}
+use Rattle.ess_semantics.specs.Values.{a_tuple, a_matrix, a_set, a_mset, a_function, a_relation, a_partition, a_record}
 use Rattle.ess_semantics.specs.Trees.{Op, unary, binary, word, index, application, tuple_literal, set_literal, mset_literal, function_literal, relation_literal, partition_literal, matrix_literal, record_literal, is_truth_op, Exs, node_ex}
-use Rattle.ess_semantics.specs.Types.{Ty, Tys, any_ty, bool_ty, int_ty, named_ty, compound, compound1, compound2, no_tys, more_tys, join, join_all, fit, is_bool}
-use Rattle.ess_semantics.specs.OperatorTypes.{sized, united, subtracted, compared, lex_compared, included, member_ty, asked_ty, list_ty, chosen_ty, extreme_ty, type_of_unary, type_of_binary, to_set_ty, to_mset_ty, type_of_word1, type_of_word2, value_ty, arguments_ty, part_ty, function_ty, relation_ty, partition_ty, type_of_list, type_of_op}
+use Rattle.ess_semantics.specs.Types.{Ty, any_ty, bool_ty, int_ty, named_ty, compound, compound1, compound2, join, join_all, fit, is_bool}
+use Rattle.ess_semantics.specs.OperatorTypes.{sized, united, subtracted, compared, lex_compared, included, member_ty, asked_ty, list_ty, chosen_ty, extreme_ty, type_of_binary, to_set_ty, to_mset_ty, type_of_word1, type_of_word2, arguments_ty, part_ty, function_ty, relation_ty, partition_ty, type_of_op}
 use Rattle.ess_refine_laws.specs.Progress.{is_picked}
 
 -- ---- results that aren't truth values
@@ -258,7 +257,8 @@ word2-yes : (f : Fun) (t u : Ty) → is_truth_op (word f) ≡ true → Yes (type
 word2-yes Fun.And t u k = λ v q. cc
 word2-yes Fun.Or t u k = λ v q. cc
 word2-yes Fun.AllDiff t u k = λ v q. cc
-word2-yes Fun.Together t u k = then-yes (join t (compound1 a_set any_ty)) (λ v. and_then (member_ty v) (λ a. fit u (compound1 a_partition a) bool_ty))
+word2-yes Fun.Together t u k = then-yes (join t (compound1 a_set any_ty)) (λ v. and_then (member_ty v) (λ a. fit u
+    (compound1 a_partition a) bool_ty))
     (λ v. then-yes (member_ty v) (λ a. fit u (compound1 a_partition a) bool_ty) (λ a. mapped-yes (join u (compound1 a_partition a))))
 word2-yes _ t u k = cc
 

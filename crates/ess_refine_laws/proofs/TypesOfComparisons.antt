@@ -1,160 +1,32 @@
 -- What rules make of comparisons, sizes and generators has the type that they rewrite.
-use Rattle.std.specs.Prelude.{IsTrue}
-use Rattle.std.proofs.Common.{◌≡◌, refl, ap, ◌∙◌, ℕ, zero, suc, Bool, true, false, ◌&&◌, ◌||◌, if◌then◌else◌, List, [], ◌∷◌, ℤ, pos, Option, Some, None, not, subst, map, option_map}
+use Rattle.std.proofs.Common.{◌≡◌, refl, ap, ◌∙◌, ℕ, zero, suc, Bool, true, false, ◌&&◌, ◌||◌, if◌then◌else◌, List, [], ◌∷◌, pos, Option, Some, None, not, option_map}
 use Rattle.ess_semantics.specs.declared.words.Op2.{Op2}
 use Rattle.ess_semantics.specs.declared.words.Fun.{Fun}
-use Rattle.ess_semantics.specs.Lists.{and_then, or_else}
-use Rattle.ess_semantics.specs.Values.{Text, a_record, a_function, a_matrix, a_tuple}
-use Rattle.ess_semantics.specs.Order.{same_text, same_texts}
+use Rattle.ess_semantics.specs.Lists.{and_then}
+use Rattle.ess_semantics.specs.Values.{Text, a_matrix, a_tuple}
 use Rattle.ess_semantics.specs.Names.{Names}
-use Rattle.ess_semantics.specs.Trees.{to_component, to_field, word, index, tuple_literal, mset_literal, matrix_literal, record_literal, Pats, more_pats, no_pats, name_pat, tuple_pat, Ex, Exs, name_ex, node_ex, comp_ex, ex2, fun1, no_exs, more_exs, Gens, no_gens, over, from, cond, Doms, no_doms, more_doms, tuple_dom, record_dom, binary, set_literal, relation_literal, number_ex, truth_ex, ex1, Dom, function_literal, partition_literal, matrix_ex, int_dom}
-use Rattle.ess_semantics.specs.Types.{Ty, Tys, no_tys, more_tys, compound, compound2}
+use Rattle.ess_semantics.specs.Trees.{word, mset_literal, Pats, more_pats, no_pats, tuple_pat, Ex, Exs, node_ex, comp_ex, ex2, fun1, no_exs, more_exs, Gens, over, Doms, no_doms, more_doms, tuple_dom, binary, set_literal, number_ex}
+use Rattle.ess_semantics.specs.Types.{Ty, compound, compound2}
 use Rattle.ess_semantics.specs.Typing.{type_of}
-use Rattle.ess_semantics.specs.ExpressionJudgements.{forgets_order}
-use Rattle.ess_semantics.specs.Substitution.{substitute, substitute_gens, for_name}
-use Rattle.ess_semantics.specs.Constants.{drops_items}
-use Rattle.ess_rules_laws.specs.FoldRules.{is_fold, is_laid_open, fold_alone, fold_nothing, fold_one, fold_bare, fold_term}
-use Rattle.ess_rules_laws.specs.LooseRules.{fold_loosely}
-use Rattle.ess_rules_laws.specs.SourceRules.{is_marked, each_fold, fold_items}
-use Rattle.ess_rules_laws.specs.SpliceRules.{append_gens, splice}
+use Rattle.ess_rules_laws.specs.FoldRules.{is_laid_open}
 use Rattle.ess_rules_laws.specs.SplitRules.{as_many, each_over, split}
-use Rattle.ess_rules_laws.specs.TupleNames.{named_exs, name_over_tuple, are_names}
-use Rattle.ess_rules_laws.specs.Listings.{Alternative, each_item, none_of, each_first, is_strict, listing}
-use Rattle.ess_rules_laws.specs.ListedSources.{put_listed, source_alone, each_put, source_parts}
-use Rattle.ess_rules_laws.specs.LiteralRules.{nth, component_listed, unequal_each, unequal_pairs, different_listed, extreme_listed}
-use Rattle.ess_rules_laws.specs.FieldLiterals.{field_term, field_listed}
-use Rattle.ess_rules_laws.specs.InclusionRules.{both_sets, both_msets, unequal, included_turned, included_strictly, both_functions, included_members, included_often, equal_members, equal_often, equal_pairs}
-use Rattle.ess_rules_laws.specs.ComponentRules.{components, equal_from, equal_where, equal_components, are_fields, equal_each, equal_where_fields, equal_fields, component_of}
-use Rattle.ess_refine_laws.specs.RecordNames.{are_in_order, name_over_record}
-use Rattle.ess_refine_laws.specs.AllRules.{only_one, Supply, offered, Rule, over_nothing, over_one, over_one_binding, over_a_term, over_a_literal, over_a_made_set, over_a_source, of_one_source, over_a_comprehension, over_tuples, over_a_tuple, over_a_record, over_a_condition, component_of_a_tuple, field_of_a_record, not_equal, turned, strictly, equal_tuples, equal_records, equal_sets, equal_multisets, equal_functions, equal_partitions, with_nothing, equal_matrices_at, included_sets, included_multisets, in_two, in_one_made_of_another, in_a_literal, in_what_a_function_has, in_its_pairs, in_a_term, size_of_one_made_of_another, size, frequency_in_one_made_of_another, frequency_in_a_literal, frequency, together, least_of_a_literal, different_items, list_of_a_term, list_on_the_left, list_on_the_right, all_different, choice, condition, condition_behind, least_under_a_condition, least_of_alternatives, source_listed, source_listed_once, extremes_listed, matrices_at, opposite_copied, compares_compound, tells_scalars_apart, rewrite}
+use Rattle.ess_rules_laws.specs.LiteralRules.{nth, extreme_listed}
+use Rattle.ess_rules_laws.specs.InclusionRules.{both_sets, both_msets, unequal, included_turned, included_strictly}
 use Rattle.ess_semantics.specs.declared.words.Op1.{Op1}
-use Rattle.ess_rules_laws.specs.ContainerListings.{of_function, range_as_set, made_listing}
-use Rattle.ess_rules_laws.specs.PartitionRules.{both_partitions, equal_parts}
-use Rattle.ess_rules_laws.specs.MatrixRules.{is_matrix, lies_in, equal_each_at, both_matrices, equal_matrices, equal_to_nothing}
-use Rattle.ess_rules_laws.specs.MembershipRules.{equations, member_term, member_combined, member_changed, member_listed}
-use Rattle.ess_rules_laws.specs.FunctionMembershipRules.{an_argument, a_result, a_source, member_of_function, member_related}
-use Rattle.ess_rules_laws.specs.SizeRules.{is_counted, size_term, frequency_term, together_term}
-use Rattle.ess_rules_laws.specs.ShortSizeRules.{is_function, is_partition, size_made, frequency_made, ones_where, frequency_listed}
-use Rattle.ess_rules_laws.specs.ListRules.{is_of_list, is_lex, list_term, lex_left, lex_right, different_term}
+use Rattle.ess_rules_laws.specs.ListRules.{is_of_list, list_term}
 use Rattle.ess_rules_laws.specs.ChoiceRules.{choice_shorter}
-use Rattle.ess_semantics.specs.Refined.{is_refined, are_refined_gens}
-use Rattle.ess_refine_laws.specs.LeavingConditions.{Parted, at_last_condition, under_condition, condition_leaves, with_before}
-use Rattle.ess_refine_laws.specs.MovingConditions.{one_later, condition_later}
-use Rattle.ess_refine_laws.specs.ExtremeRules.{is_extreme, are_none, extreme_condition, either_number}
-use Rattle.ess_refine_laws.specs.Everywhere.{everywhere, everywhere_gens, divisor, base, exponent, raised, extreme, is_nonzero, is_positive, everywhere_list, everywhere_exs, everywhere_dom}
-use Rattle.ess_refine_laws.specs.ExtremeAlternatives.{put_alternative, each_extreme, each_size, past_all, extreme_alternatives}
-use Rattle.ess_semantics.specs.Occurrences.{has_cells}
+use Rattle.ess_refine_laws.specs.ExtremeRules.{is_extreme}
 use Rattle.std.proofs.Common.{sym}
-use Rattle.std.specs.Prelude.{is_some}
 use Rattle.ess_semantics.specs.Lists.{all_some}
-use Rattle.ess_semantics.specs.Values.{a_set, a_mset, a_relation, a_partition}
-use Rattle.ess_semantics.specs.Names.{look}
-use Rattle.ess_semantics.specs.Trees.{Op, unary}
-use Rattle.ess_semantics.specs.Types.{any_ty, bool_ty, int_ty, named_ty, compound1, tys_of, join, joins, join_all, fit, type_of_dom, bind_types}
-use Rattle.ess_semantics.specs.OperatorTypes.{type_of_op, member_ty, asked_ty, list_ty, chosen_ty, extreme_ty, included, type_of_list}
+use Rattle.ess_semantics.specs.Values.{a_set, a_mset, a_relation}
+use Rattle.ess_semantics.specs.Trees.{unary}
+use Rattle.ess_semantics.specs.Types.{any_ty, bool_ty, int_ty, named_ty, compound1, tys_of, join, join_all, type_of_dom, bind_types}
+use Rattle.ess_semantics.specs.OperatorTypes.{member_ty, included, type_of_list}
 use Rattle.ess_semantics.specs.Typing.{a_number, step_ty, component_ty, types_of, types_under}
-use Rattle.ess_rules_laws.specs.Progress.{is_told}
 use Rattle.ess_rules_laws.specs.ListRules.{members_list}
-use Rattle.ess_rules_laws.proofs.Agreement.{look-itself}
-use Rattle.ess_refine_laws.specs.TypesStay.{KeepsType}
-use Rattle.ess_semantics.specs.Order.{same_kind}
-use Rattle.ess_semantics.specs.Lists.{when as given}
-use Rattle.ess_semantics.specs.Types.{is_open, types_of_doms, bind_all_types}
-use Rattle.ess_semantics.specs.Values.{Kind, node, nil}
-use Rattle.std.specs.Ordering.{ordering_then}
-use Rattle.std.specs.declared.cmp.Ordering.TheVariants.{Equal}
-use Rattle.ess_semantics.proofs.Orders.{order_exact, equal-of}
-use Rattle.ess_semantics.specs.Order.{order_kind}
-use Rattle.ess_rules_laws.proofs.Agreement.{same_text-equal, same_text-itself}
-use Rattle.ess_refine_laws.proofs.TypesOfFolds.{one_type, two_type, list_of_type, Stays, then-stays, one-stays, TypeKept, when, members-typed}
-
--- ---- types that agree agree both ways
-
--- Kinds that count as equal are equal.
-kind-equal : (k l : Kind) → same_kind k l ≡ true → k ≡ l
-kind-equal k l e = let q : node k nil ≡ node l nil = order_exact (node k nil) (node l nil)
-    (ap (λ o. ordering_then o Equal) (equal-of (order_kind k l) e)) in cc
-
--- A test both ways.
-test-swap : {A : Type 0} (f : A → A → Bool) → ((a b : A) → f a b ≡ true → a ≡ b) → (a b : A) → f a b ≡ f b a
-test-swap f e a b = go (f a b) refl (f b a) refl
-  where
-    go : (x : Bool) → f a b ≡ x → (y : Bool) → f b a ≡ y → f a b ≡ f b a
-    go true p y q = let i : a ≡ b = e a b p in ap (λ z. f z b) i ∙ ap (λ z. f b z) (sym i)
-    go false p true q = let i : b ≡ a = e b a q in ap (λ z. f z b) (sym i) ∙ ap (λ z. f b z) i
-    go false p false q = p ∙ sym q
-
--- What both ways answer where a test tells that the two are one.
-same-answer : (b : Bool) (t u : Ty) → (b ≡ true → t ≡ u) → given b t ≡ given b u
-same-answer true t u h = ap Some (h refl)
-same-answer false t u h = refl
-
--- Compound types.
-abbrev parts_of_both : Kind → Tys → Tys → Option Tys
-parts_of_both k ts us = if is_open k ts then Some us else (if is_open k us then Some ts else joins ts us)
-
-parts-swap : (k : Kind) (ts us : Tys) → joins ts us ≡ joins us ts → parts_of_both k ts us ≡ parts_of_both k us ts
-parts-swap k no_tys no_tys h = refl
-parts-swap k no_tys (more_tys u us) h = go (is_open k no_tys)
-  where
-    go : (b : Bool) → (if b then Some (more_tys u us) else joins no_tys (more_tys u us))
-        ≡ (if b then Some (more_tys u us) else joins (more_tys u us) no_tys)
-    go true = refl
-    go false = refl
-parts-swap k (more_tys t ts) no_tys h = go (is_open k no_tys)
-  where
-    go : (b : Bool) → (if b then Some (more_tys t ts) else joins (more_tys t ts) no_tys)
-        ≡ (if b then Some (more_tys t ts) else joins no_tys (more_tys t ts))
-    go true = refl
-    go false = refl
-parts-swap k (more_tys t ts) (more_tys u us) h = h
-
-compounds-swap : (k l : Kind) (ts us : Tys) → joins ts us ≡ joins us ts → join (compound k ts) (compound l us) ≡ join (compound l us) (compound k ts)
-compounds-swap k l ts us h = go (same_kind k l) refl ∙ ap (λ b. if b then option_map (compound l) (parts_of_both l us ts) else None)
-    (test-swap same_kind kind-equal k l)
-  where
-    go : (b : Bool) → same_kind k l ≡ b → (if b then option_map (compound k) (parts_of_both k ts us) else None)
-        ≡ (if b then option_map (compound l) (parts_of_both l us ts) else None)
-    go true q = ap (option_map (compound k)) (parts-swap k ts us h) ∙ ap (λ m. option_map (compound m) (parts_of_both m us ts)) (kind-equal k l q)
-    go false q = refl
-
-mutual
-  pub join-swap : (t u : Ty) → join t u ≡ join u t
-  join-swap any_ty any_ty = refl
-  join-swap any_ty bool_ty = refl
-  join-swap any_ty int_ty = refl
-  join-swap any_ty (named_ty a) = refl
-  join-swap any_ty (compound k ts) = refl
-  join-swap bool_ty any_ty = refl
-  join-swap bool_ty bool_ty = refl
-  join-swap bool_ty int_ty = refl
-  join-swap bool_ty (named_ty a) = refl
-  join-swap bool_ty (compound k ts) = refl
-  join-swap int_ty any_ty = refl
-  join-swap int_ty bool_ty = refl
-  join-swap int_ty int_ty = refl
-  join-swap int_ty (named_ty a) = refl
-  join-swap int_ty (compound k ts) = refl
-  join-swap (named_ty a) any_ty = refl
-  join-swap (named_ty a) bool_ty = refl
-  join-swap (named_ty a) int_ty = refl
-  join-swap (named_ty a) (named_ty b) =
-      same-answer (same_text a b) (named_ty a) (named_ty b) (λ q. ap named_ty (same_text-equal a b q))
-      ∙ ap (λ c. given c (named_ty b)) (test-swap same_text same_text-equal a b)
-  join-swap (named_ty a) (compound k ts) = refl
-  join-swap (compound k ts) any_ty = refl
-  join-swap (compound k ts) bool_ty = refl
-  join-swap (compound k ts) int_ty = refl
-  join-swap (compound k ts) (named_ty a) = refl
-  join-swap (compound k ts) (compound l us) = compounds-swap k l ts us (joins-swap ts us)
-
-  joins-swap : (ts us : Tys) → joins ts us ≡ joins us ts
-  joins-swap no_tys no_tys = refl
-  joins-swap no_tys (more_tys u us) = refl
-  joins-swap (more_tys t ts) no_tys = refl
-  joins-swap (more_tys t ts) (more_tys u us) =
-      ap (λ o. and_then o (λ v. option_map (more_tys v) (joins ts us))) (join-swap t u)
-      ∙ ap (λ o. and_then (join u t) (λ v. option_map (more_tys v) o)) (joins-swap ts us)
+use Rattle.ess_semantics.specs.Types.{types_of_doms, bind_all_types}
+use Rattle.ess_refine_laws.proofs.TypeJoins.{join-swap}
+use Rattle.ess_refine_laws.proofs.TypesOfFolds.{one_type, two_type, list_of_type, Stays, TypeKept, when, members-typed}
 
 -- ---- comparisons
 
@@ -280,7 +152,8 @@ module _ (g : Names Ty) where
   pub list-of-term : (x : Text) (e : Ex) → TypeKept g e (list_term x e)
   list-of-term x (fun1 b f s) = go (is_of_list f) refl (is_laid_open s)
     where
-      go : (c : Bool) → is_of_list f ≡ c → (d : Bool) → TypeKept g (fun1 b f s) (if c && not d then Some (fun1 b f (members_list x s)) else None)
+      go : (c : Bool) → is_of_list f ≡ c → (d : Bool) →
+          TypeKept g (fun1 b f s) (if c && not d then Some (fun1 b f (members_list x s)) else None)
       go true k true = tt
       go true k false = λ t q. ap (λ o. one_type (word f) o) (members-typed g x s) ∙ listed-type f k (type_of s g) t q
       go false k d = tt
@@ -290,7 +163,8 @@ module _ (g : Names Ty) where
 
   -- The types of items as those of a list.
   picked-type : (f : Fun) → is_extreme f ≡ true → (o : Option (List Ty)) →
-      Stays (one_type (word f) (and_then o (λ ts. option_map (compound1 a_set) (join_all ts)))) (one_type (word f) (and_then o type_of_list))
+      Stays (one_type (word f) (and_then o (λ ts. option_map (compound1 a_set) (join_all ts)))) (one_type (word f)
+      (and_then o type_of_list))
   picked-type f k None t q = cc
   picked-type Fun.Min k (Some []) t q = q
   picked-type Fun.Max k (Some []) t q = q
@@ -309,7 +183,8 @@ module _ (g : Names Ty) where
   picked-type _ k (Some us) t q = cc
 
   picked-of-mset : (f : Fun) → is_extreme f ≡ true → (o : Option (List Ty)) →
-      Stays (one_type (word f) (and_then o (λ ts. option_map (compound1 a_mset) (join_all ts)))) (one_type (word f) (and_then o type_of_list))
+      Stays (one_type (word f) (and_then o (λ ts. option_map (compound1 a_mset) (join_all ts)))) (one_type (word f)
+      (and_then o type_of_list))
   picked-of-mset f k None t q = cc
   picked-of-mset Fun.Min k (Some []) t q = q
   picked-of-mset Fun.Max k (Some []) t q = q
@@ -335,7 +210,8 @@ module _ (g : Names Ty) where
   least-listed _ = tt
 
   pub nth-type : (es : Exs) (k : ℕ) (a : Ex) (t : Ty) (o : Option (List Ty)) → all_some (types_of es g) ≡ o → nth es k ≡ Some a →
-      and_then (and_then o (λ ts. Some (compound a_tuple (tys_of ts)))) (λ u. and_then (step_ty u (a_number k) None) (λ v. Some v)) ≡ Some t →
+      and_then (and_then o (λ ts. Some (compound a_tuple (tys_of ts)))) (λ u. and_then (step_ty u (a_number k) None)
+      (λ v. Some v)) ≡ Some t →
       type_of a g ≡ Some t
   nth-type es k a t None p n q = cc
   nth-type es k a t (Some ts) p n q = go es ts k p n (some-then (component_ty (tys_of ts) k) q)
@@ -344,7 +220,8 @@ module _ (g : Names Ty) where
       some-then None q = cc
       some-then (Some v) q = q
 
-      heads : (o : Option Ty) (p : Option (List Ty)) (u : Ty) (us : List Ty) → and_then o (λ x. option_map (λ xs. x ∷ xs) p) ≡ Some (u ∷ us) →
+      heads : (o : Option Ty) (p : Option (List Ty)) (u : Ty) (us : List Ty) →
+          and_then o (λ x. option_map (λ xs. x ∷ xs) p) ≡ Some (u ∷ us) →
           (o ≡ Some u) × (p ≡ Some us)
       heads None p u us e = cc
       heads (Some x) None u us e = cc
@@ -355,7 +232,8 @@ module _ (g : Names Ty) where
       empty (Some x) None e = cc
       empty (Some x) (Some xs) e = cc
 
-      go : (es : Exs) (ts : List Ty) (k : ℕ) → all_some (types_of es g) ≡ Some ts → nth es k ≡ Some a → component_ty (tys_of ts) k ≡ Some t →
+      go : (es : Exs) (ts : List Ty) (k : ℕ) → all_some (types_of es g) ≡ Some ts → nth es k ≡ Some a →
+          component_ty (tys_of ts) k ≡ Some t →
           type_of a g ≡ Some t
       go no_exs ts k p n c = cc
       go (more_exs e es) [] k p n c = absurd (empty (type_of e g) (all_some (types_of es g)) p)

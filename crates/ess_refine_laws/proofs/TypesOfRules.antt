@@ -1,76 +1,37 @@
 -- Rules keep types.
-use Rattle.std.specs.Prelude.{IsTrue}
-use Rattle.std.proofs.Common.{◌≡◌, refl, ap, ◌∙◌, ℕ, zero, suc, Bool, true, false, ◌&&◌, ◌||◌, if◌then◌else◌, List, [], ◌∷◌, ℤ, pos, Option, Some, None, not, subst, map, option_map}
+use Rattle.std.proofs.Common.{◌≡◌, refl, ap, ◌∙◌, Bool, true, false, if◌then◌else◌, List, [], ◌∷◌, pos, Option, Some, None, subst, option_map}
 use Rattle.ess_semantics.specs.declared.words.Op2.{Op2}
 use Rattle.ess_semantics.specs.declared.words.Fun.{Fun}
-use Rattle.ess_semantics.specs.Lists.{and_then, or_else}
-use Rattle.ess_semantics.specs.Values.{Text, a_record, a_function, a_matrix, a_tuple}
-use Rattle.ess_semantics.specs.Order.{same_text, same_texts}
+use Rattle.ess_semantics.specs.Lists.{and_then}
+use Rattle.ess_semantics.specs.Values.{Text, a_function, a_matrix, a_tuple}
 use Rattle.ess_semantics.specs.Names.{Names}
-use Rattle.ess_semantics.specs.Trees.{to_component, to_field, word, index, tuple_literal, mset_literal, matrix_literal, record_literal, Pats, more_pats, no_pats, name_pat, tuple_pat, Ex, Exs, name_ex, node_ex, comp_ex, ex2, fun1, no_exs, more_exs, Gens, no_gens, over, from, cond, Doms, no_doms, more_doms, tuple_dom, record_dom, binary, set_literal, relation_literal, number_ex, truth_ex, ex1, Dom, function_literal, partition_literal, matrix_ex, int_dom}
-use Rattle.ess_semantics.specs.Types.{Ty, Tys, no_tys, more_tys, compound, compound2}
+use Rattle.ess_semantics.specs.Trees.{to_component, word, index, tuple_literal, matrix_literal, name_pat, Ex, name_ex, node_ex, comp_ex, ex2, fun1, no_exs, more_exs, no_gens, from, binary, number_ex, truth_ex, ex1}
+use Rattle.ess_semantics.specs.Types.{Ty, no_tys, more_tys, compound, compound2}
 use Rattle.ess_semantics.specs.Typing.{type_of}
-use Rattle.ess_semantics.specs.ExpressionJudgements.{forgets_order}
-use Rattle.ess_semantics.specs.Substitution.{substitute, substitute_gens, for_name}
-use Rattle.ess_semantics.specs.Constants.{drops_items}
-use Rattle.ess_rules_laws.specs.FoldRules.{is_fold, is_laid_open, fold_alone, fold_nothing, fold_one, fold_bare, fold_term}
-use Rattle.ess_rules_laws.specs.LooseRules.{fold_loosely}
-use Rattle.ess_rules_laws.specs.SourceRules.{is_marked, each_fold, fold_items}
-use Rattle.ess_rules_laws.specs.SpliceRules.{append_gens, splice}
-use Rattle.ess_rules_laws.specs.SplitRules.{as_many, each_over, split}
-use Rattle.ess_rules_laws.specs.TupleNames.{named_exs, name_over_tuple, are_names}
-use Rattle.ess_rules_laws.specs.Listings.{Alternative, each_item, none_of, each_first, is_strict, listing}
-use Rattle.ess_rules_laws.specs.ListedSources.{put_listed, source_alone, each_put, source_parts}
-use Rattle.ess_rules_laws.specs.LiteralRules.{nth, component_listed, unequal_each, unequal_pairs, different_listed, extreme_listed}
-use Rattle.ess_rules_laws.specs.FieldLiterals.{field_term, field_listed}
-use Rattle.ess_rules_laws.specs.InclusionRules.{both_sets, both_msets, unequal, included_turned, included_strictly, both_functions, included_members, included_often, equal_members, equal_often, equal_pairs}
-use Rattle.ess_rules_laws.specs.ComponentRules.{components, equal_from, equal_where, equal_components, are_fields, equal_each, equal_where_fields, equal_fields, component_of}
-use Rattle.ess_refine_laws.specs.RecordNames.{are_in_order, name_over_record}
-use Rattle.ess_refine_laws.specs.AllRules.{only_one, Supply, offered, Rule, over_nothing, over_one, over_one_binding, over_a_term, over_a_literal, over_a_made_set, over_a_source, of_one_source, over_a_comprehension, over_tuples, over_a_tuple, over_a_record, over_a_condition, component_of_a_tuple, field_of_a_record, not_equal, turned, strictly, equal_tuples, equal_records, equal_sets, equal_multisets, equal_functions, equal_partitions, with_nothing, equal_matrices_at, included_sets, included_multisets, in_two, in_one_made_of_another, in_a_literal, in_what_a_function_has, in_its_pairs, in_a_term, size_of_one_made_of_another, size, frequency_in_one_made_of_another, frequency_in_a_literal, frequency, together, least_of_a_literal, different_items, list_of_a_term, list_on_the_left, list_on_the_right, all_different, choice, condition, condition_behind, least_under_a_condition, least_of_alternatives, source_listed, source_listed_once, extremes_listed, matrices_at, opposite_copied, compares_compound, tells_scalars_apart, rewrite}
+use Rattle.ess_rules_laws.specs.LiteralRules.{nth, component_listed}
+use Rattle.ess_rules_laws.specs.InclusionRules.{both_sets, unequal}
+use Rattle.ess_rules_laws.specs.ComponentRules.{component_of}
+use Rattle.ess_refine_laws.specs.AllRules.{Supply, Rule, over_nothing, over_one, over_one_binding, over_a_term, over_a_made_set, over_tuples, over_a_condition, component_of_a_tuple, not_equal, turned, strictly, with_nothing, size_of_one_made_of_another, size, frequency_in_one_made_of_another, least_of_a_literal, list_of_a_term, choice, compares_compound, rewrite}
 use Rattle.ess_semantics.specs.declared.words.Op1.{Op1}
-use Rattle.ess_rules_laws.specs.ContainerListings.{of_function, range_as_set, made_listing}
-use Rattle.ess_rules_laws.specs.PartitionRules.{both_partitions, equal_parts}
-use Rattle.ess_rules_laws.specs.MatrixRules.{is_matrix, lies_in, equal_each_at, both_matrices, equal_matrices, equal_to_nothing}
-use Rattle.ess_rules_laws.specs.MembershipRules.{equations, member_term, member_combined, member_changed, member_listed}
-use Rattle.ess_rules_laws.specs.FunctionMembershipRules.{an_argument, a_result, a_source, member_of_function, member_related}
-use Rattle.ess_rules_laws.specs.SizeRules.{is_counted, size_term, frequency_term, together_term}
-use Rattle.ess_rules_laws.specs.ShortSizeRules.{is_function, is_partition, size_made, frequency_made, ones_where, frequency_listed}
-use Rattle.ess_rules_laws.specs.ListRules.{is_of_list, is_lex, list_term, lex_left, lex_right, different_term}
-use Rattle.ess_rules_laws.specs.ChoiceRules.{choice_shorter}
-use Rattle.ess_semantics.specs.Refined.{is_refined, are_refined_gens}
-use Rattle.ess_refine_laws.specs.LeavingConditions.{Parted, at_last_condition, under_condition, condition_leaves, with_before}
-use Rattle.ess_refine_laws.specs.MovingConditions.{one_later, condition_later}
-use Rattle.ess_refine_laws.specs.ExtremeRules.{is_extreme, are_none, extreme_condition, either_number}
-use Rattle.ess_refine_laws.specs.Everywhere.{everywhere, everywhere_gens, divisor, base, exponent, raised, extreme, is_nonzero, is_positive, everywhere_list, everywhere_exs, everywhere_dom}
-use Rattle.ess_refine_laws.specs.ExtremeAlternatives.{put_alternative, each_extreme, each_size, past_all, extreme_alternatives}
-use Rattle.ess_semantics.specs.Occurrences.{has_cells}
+use Rattle.ess_rules_laws.specs.ContainerListings.{of_function, range_as_set}
+use Rattle.ess_rules_laws.specs.MatrixRules.{is_matrix, equal_to_nothing}
+use Rattle.ess_rules_laws.specs.SizeRules.{is_counted, size_term}
+use Rattle.ess_rules_laws.specs.ShortSizeRules.{is_function, is_partition, size_made, frequency_made}
 use Rattle.std.proofs.Common.{sym}
 use Rattle.std.specs.Prelude.{is_some}
 use Rattle.ess_semantics.specs.Lists.{all_some}
 use Rattle.ess_semantics.specs.Values.{a_set, a_mset, a_relation, a_partition}
-use Rattle.ess_semantics.specs.Names.{look}
-use Rattle.ess_semantics.specs.Trees.{Op, unary}
-use Rattle.ess_semantics.specs.Types.{any_ty, bool_ty, int_ty, named_ty, compound1, tys_of, join, joins, join_all, fit, type_of_dom, bind_types}
-use Rattle.ess_semantics.specs.OperatorTypes.{type_of_op, member_ty, asked_ty, list_ty, chosen_ty, extreme_ty, included, type_of_list}
-use Rattle.ess_semantics.specs.Typing.{a_number, a_name, other, type_of_node, step_ty, component_ty, types_of, types_under}
-use Rattle.ess_rules_laws.specs.Progress.{is_told}
-use Rattle.ess_rules_laws.specs.ListRules.{members_list}
+use Rattle.ess_semantics.specs.Trees.{unary}
+use Rattle.ess_semantics.specs.Types.{any_ty, bool_ty, int_ty, named_ty, compound1, tys_of, join}
+use Rattle.ess_semantics.specs.OperatorTypes.{member_ty}
+use Rattle.ess_semantics.specs.Typing.{a_number, a_name, other, type_of_node, step_ty, types_of}
 use Rattle.ess_rules_laws.proofs.Agreement.{look-itself}
-use Rattle.ess_refine_laws.specs.TypesStay.{KeepsType}
-use Rattle.ess_semantics.specs.Order.{same_kind}
-use Rattle.ess_semantics.specs.Lists.{when as given}
-use Rattle.ess_semantics.specs.Types.{is_open, types_of_doms, bind_all_types}
-use Rattle.ess_semantics.specs.Values.{Kind, node, nil}
-use Rattle.std.specs.Ordering.{ordering_then}
-use Rattle.std.specs.declared.cmp.Ordering.TheVariants.{Equal}
-use Rattle.ess_semantics.proofs.Orders.{order_exact, equal-of}
-use Rattle.ess_semantics.specs.Order.{order_kind}
-use Rattle.ess_rules_laws.proofs.Agreement.{same_text-equal, same_text-itself}
-use Rattle.ess_refine_laws.proofs.TypesOfFolds.{one_type, two_type, list_of_type, Stays, then-stays, one-stays, TypeKept, when, members-typed}
+use Rattle.ess_refine_laws.proofs.TypesOfFolds.{one_type, two_type, list_of_type, Stays, TypeKept}
 use Rattle.ess_refine_laws.specs.AllRules.{Rule, over_nothing, over_one, over_one_binding, over_a_term, over_a_made_set, over_a_condition, over_tuples, component_of_a_tuple, not_equal, turned, strictly, with_nothing, size, size_of_one_made_of_another, frequency_in_one_made_of_another, least_of_a_literal, list_of_a_term, results, choice, compares_compound, rewrite}
 use Rattle.ess_refine_laws.specs.TypesOfRules.{keeps_type, TypeTold, RulesKeepTypes}
 use Rattle.ess_refine_laws.proofs.TypesOfFolds.{nothing, one-item, bare, alone, loosely, term}
-use Rattle.ess_refine_laws.proofs.TypesOfComparisons.{join-swap, apart, turns, strict, splits, shorter, list-of-term, least-listed, nth-type}
+use Rattle.ess_refine_laws.proofs.TypeJoins.{join-swap}
+use Rattle.ess_refine_laws.proofs.TypesOfComparisons.{apart, turns, strict, splits, shorter, list-of-term, least-listed, nth-type}
 
 module _ (g : Names Ty) where
   -- ---- components
@@ -80,11 +41,13 @@ module _ (g : Names Ty) where
     where
       parts : (t : Ty) (o : Option (List Ty)) →
           type_of_node (index (to_component k ∷ [])) (other ∷ []) (and_then o (λ ts. Some (compound a_tuple (tys_of ts))) ∷ []) ≡ Some t →
-          and_then (and_then o (λ ts. Some (compound a_tuple (tys_of ts)))) (λ u. and_then (step_ty u (a_number k) None) (λ v. Some v)) ≡ Some t
+          and_then (and_then o (λ ts. Some (compound a_tuple (tys_of ts)))) (λ u. and_then (step_ty u (a_number k) None)
+          (λ v. Some v)) ≡ Some t
       parts t None q = cc
       parts t (Some ts) q = q
 
-      go : (r : Option Ex) → nth es k ≡ r → TypeKept g (node_ex b (index (to_component k ∷ [])) (more_exs (node_ex false tuple_literal es) no_exs)) r
+      go : (r : Option Ex) → nth es k ≡ r →
+          TypeKept g (node_ex b (index (to_component k ∷ [])) (more_exs (node_ex false tuple_literal es) no_exs)) r
       go None n = tt
       go (Some a) n = λ t q. nth-type g es k a t (all_some (types_of es g)) refl n (parts t (all_some (types_of es g)) q)
   component _ = tt
@@ -92,7 +55,8 @@ module _ (g : Names Ty) where
   -- ---- what is made of functions, matrices and containers
 
   result-type : (x : Text) (t u : Ty) →
-      one_type (word Fun.ToSet) (list_of_type (type_of (component_of u 2 (name_ex x)) ((x, compound2 a_tuple t u) ∷ g))) ≡ Some (compound1 a_set u)
+      one_type (word Fun.ToSet) (list_of_type (type_of (component_of u 2 (name_ex x)) ((x, compound2 a_tuple t u) ∷ g))) ≡ Some
+      (compound1 a_set u)
   result-type x t u =
       ap (λ o. one_type (word Fun.ToSet) (list_of_type (type_of_node (index (to_component 2 ∷ [])) (a_name x ∷ []) (o ∷ []))))
       (look-itself x (compound2 a_tuple t u) g)

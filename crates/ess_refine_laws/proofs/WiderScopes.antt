@@ -76,7 +76,8 @@ pub record Wider (n s t o p : Text → Bool) : Type 0 where
   pub plain : Fewer o p
   pub among : Among t s n
 
-both-with : (n s t o p : Text → Bool) (q : Pat) → Wider n s t o p → Wider n (with_names s q) (with_names t q) (with_names o q) (with_names p q)
+both-with : (n s t o p : Text → Bool) (q : Pat) → Wider n s t o p →
+    Wider n (with_names s q) (with_names t q) (with_names o q) (with_names p q)
 both-with n s t o p q w = record {
   fewer = fewer-with s t q w.fewer;
   plain = fewer-with o p q w.plain;
@@ -88,7 +89,8 @@ one-with n s t o p q w = record { fewer = fewer-with s t q w.fewer; plain = w.pl
 
 module _ (z n : Text → Bool) where
   mutual
-    pub wider : (e : Ex) (s t o p : Text → Bool) → Wider n s t o p → NamesAre (λ a. true) (λ a. not (n a)) e → Scoped z s o e → Scoped z t p e
+    pub wider : (e : Ex) (s t o p : Text → Bool) → Wider n s t o p → NamesAre (λ a. true) (λ a. not (n a)) e → Scoped z s o e →
+        Scoped z t p e
     wider (number_ex k) s t o p w b h = tt
     wider (truth_ex k) s t o p w b h = tt
     wider (name_ex a) s t o p w b h = w.fewer a h

@@ -1,6 +1,6 @@
 -- Rules that keep types at the root. Not all do: `x in toSet(l)` of a list becomes `x in l`, which has no type until that is written
 -- as `or([y = x | y <- l])`; and `a <lex b` of matrices that aren't indexed by numbers has none while one of them is a list.
-use Rattle.std.specs.Prelude.{◌≡◌, Bool, true, false, Option, Some, IsTrue, is_some}
+use Rattle.std.specs.Prelude.{◌≡◌, Bool, true, false, Some, IsTrue, is_some}
 use Rattle.ess_semantics.specs.Lists.{and_then}
 use Rattle.ess_semantics.specs.Names.{Names}
 use Rattle.ess_semantics.specs.Trees.{matrix_literal, Ex, node_ex, comp_ex, ex1, fun1, no_exs, more_exs, no_gens}
