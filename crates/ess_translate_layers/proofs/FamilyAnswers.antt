@@ -61,16 +61,20 @@ module _ (k : ReprKind) (d : Domain) (f : Family) (is : f ≡ family_of d) where
   abbrev pub Parts : Value → Option (List Value)
   Parts v = option_map (λ l. inner_values l v) (layer k d)
 
-  pub parts_of_scalars : (v : Value) (o : Option (List Value)) → f ≡ variant.Scalars → o ≡ over_scalars d (Parts v) → is_compound k ≡ false → o ≡ Parts v
+  pub parts_of_scalars : (v : Value) (o : Option (List Value)) → f ≡ variant.Scalars → o ≡ over_scalars d (Parts v) →
+      is_compound k ≡ false → o ≡ Parts v
   parts_of_scalars v o h e n = e ∙ scalars-kept d (Parts v) (sym is ∙ h)
 
-  pub parts_of_collections : (v : Value) (o : Option (List Value)) → f ≡ variant.Collections → o ≡ over_collections d (Parts v) → is_compound k ≡ false → o ≡ Parts v
+  pub parts_of_collections : (v : Value) (o : Option (List Value)) → f ≡ variant.Collections → o ≡ over_collections d (Parts v) →
+      is_compound k ≡ false → o ≡ Parts v
   parts_of_collections v o h e n = e ∙ collections-kept d (Parts v) (sym is ∙ h)
 
-  pub parts_of_functions : (v : Value) (o : Option (List Value)) → f ≡ variant.Functions → o ≡ over_functions d (Parts v) → is_compound k ≡ false → o ≡ Parts v
+  pub parts_of_functions : (v : Value) (o : Option (List Value)) → f ≡ variant.Functions → o ≡ over_functions d (Parts v) →
+      is_compound k ≡ false → o ≡ Parts v
   parts_of_functions v o h e n = e ∙ functions-kept d (Parts v) (sym is ∙ h)
 
-  pub parts_of_relations : (v : Value) (o : Option (List Value)) → f ≡ variant.Relations → o ≡ over_relations d (Parts v) → is_compound k ≡ false → o ≡ Parts v
+  pub parts_of_relations : (v : Value) (o : Option (List Value)) → f ≡ variant.Relations → o ≡ over_relations d (Parts v) →
+      is_compound k ≡ false → o ≡ Parts v
   parts_of_relations v o h e n = e ∙ relations-kept d (Parts v) (sym is ∙ h)
 
   pub parts_of_compounds : (v : Value) → f ≡ variant.Compounds → is_compound k ≡ false → None ≡ Parts v
@@ -80,23 +84,31 @@ module _ (k : ReprKind) (d : Domain) (f : Family) (is : f ≡ family_of d) where
 
   -- What is asked of the layer's tables.
   abbrev pub Down : Value → List Axes → List Tables → Option Tables → Type 0
-  Down v ass tss o = (rs : Reprs) → is_compound k ≡ false → Covered (repr k rs) d → TablesReady k rs d v ass tss → o ≡ layer_tables (repr k rs) d v tss
+  Down v ass tss o = (rs : Reprs) → is_compound k ≡ false → Covered (repr k rs) d → TablesReady k rs d v ass tss →
+      o ≡ layer_tables (repr k rs) d v tss
 
   pub down_of_scalars : (v : Value) (ass : List Axes) (tss : List Tables) (o : Option Tables) → f ≡ variant.Scalars →
-      ((rs : Reprs) → Covered (repr k rs) d → TablesReady k rs d v ass tss → o ≡ over_scalars d (layer_tables (repr k rs) d v tss)) → Down v ass tss o
+      ((rs : Reprs) → Covered (repr k rs) d → TablesReady k rs d v ass tss → o ≡ over_scalars d (layer_tables (repr k rs) d v tss)) →
+      Down v ass tss o
   down_of_scalars v ass tss o h e rs n c t = e rs c t ∙ scalars-kept d (layer_tables (repr k rs) d v tss) (sym is ∙ h)
 
   pub down_of_collections : (v : Value) (ass : List Axes) (tss : List Tables) (o : Option Tables) → f ≡ variant.Collections →
-      ((rs : Reprs) → Covered (repr k rs) d → PartsFit k rs d v ass tss → o ≡ over_collections d (layer_tables (repr k rs) d v tss)) → Down v ass tss o
-  down_of_collections v ass tss o h e rs n c t = e rs c (parts-fit k rs d v ass tss t) ∙ collections-kept d (layer_tables (repr k rs) d v tss) (sym is ∙ h)
+      ((rs : Reprs) → Covered (repr k rs) d → PartsFit k rs d v ass tss → o ≡ over_collections d (layer_tables (repr k rs) d v tss)) →
+      Down v ass tss o
+  down_of_collections v ass tss o h e rs n c t = e rs c (parts-fit k rs d v ass tss t)
+      ∙ collections-kept d (layer_tables (repr k rs) d v tss) (sym is ∙ h)
 
   pub down_of_functions : (v : Value) (ass : List Axes) (tss : List Tables) (o : Option Tables) → f ≡ variant.Functions →
-      ((rs : Reprs) → Covered (repr k rs) d → ChildOver rs (children_of k d) ass tss → o ≡ over_functions d (layer_tables (repr k rs) d v tss)) → Down v ass tss o
-  down_of_functions v ass tss o h e rs n c t = e rs c (child-over k rs d v ass tss t) ∙ functions-kept d (layer_tables (repr k rs) d v tss) (sym is ∙ h)
+      ((rs : Reprs) → Covered (repr k rs) d → ChildOver rs (children_of k d) ass tss →
+      o ≡ over_functions d (layer_tables (repr k rs) d v tss)) → Down v ass tss o
+  down_of_functions v ass tss o h e rs n c t = e rs c (child-over k rs d v ass tss t)
+      ∙ functions-kept d (layer_tables (repr k rs) d v tss) (sym is ∙ h)
 
   pub down_of_relations : (v : Value) (ass : List Axes) (tss : List Tables) (o : Option Tables) → f ≡ variant.Relations →
-      ((bss : List Axes) (rs : Reprs) → Covered (repr k rs) d → PartsFit k rs d v bss tss → o ≡ over_relations d (layer_tables (repr k rs) d v tss)) → Down v ass tss o
-  down_of_relations v ass tss o h e rs n c t = e ass rs c (parts-fit k rs d v ass tss t) ∙ relations-kept d (layer_tables (repr k rs) d v tss) (sym is ∙ h)
+      ((bss : List Axes) (rs : Reprs) → Covered (repr k rs) d → PartsFit k rs d v bss tss →
+      o ≡ over_relations d (layer_tables (repr k rs) d v tss)) → Down v ass tss o
+  down_of_relations v ass tss o h e rs n c t = e ass rs c (parts-fit k rs d v ass tss t)
+      ∙ relations-kept d (layer_tables (repr k rs) d v tss) (sym is ∙ h)
 
   pub down_of_compounds : (v : Value) (ass : List Axes) (tss : List Tables) → f ≡ variant.Compounds → Down v ass tss None
   down_of_compounds v ass tss h rs n c t =
@@ -107,25 +119,31 @@ module _ (k : ReprKind) (d : Domain) (f : Family) (is : f ≡ family_of d) where
 
   -- What is asked of the layer's value.
   abbrev pub Up : Tables → List Value → Option Value → Type 0
-  Up ts vs o = (rs : Reprs) → is_compound k ≡ false → Covered (repr k rs) d → over_axes [] (axes_of (repr k rs) d) ts ≡ true → o ≡ layer_value k d ts vs
+  Up ts vs o = (rs : Reprs) → is_compound k ≡ false → Covered (repr k rs) d → over_axes [] (axes_of (repr k rs) d) ts ≡ true →
+      o ≡ layer_value k d ts vs
 
   pub up_of_scalars : (ts : Tables) (vs : List Value) (o : Option Value) → f ≡ variant.Scalars →
-      ((rs : Reprs) → Covered (repr k rs) d → over_axes [] (axes_of (repr k rs) d) ts ≡ true → o ≡ over_scalars d (layer_value k d ts vs)) → Up ts vs o
+      ((rs : Reprs) → Covered (repr k rs) d → over_axes [] (axes_of (repr k rs) d) ts ≡ true → o ≡ over_scalars d (layer_value k d ts vs)) →
+      Up ts vs o
   up_of_scalars ts vs o h e rs n c t = e rs c t ∙ scalars-kept d (layer_value k d ts vs) (sym is ∙ h)
 
   pub up_of_collections : (ts : Tables) (vs : List Value) (o : Option Value) → f ≡ variant.Collections →
-      ((rs : Reprs) → Covered (repr k rs) d → over_axes [] (axes_of (repr k rs) d) ts ≡ true → o ≡ over_collections d (layer_value k d ts vs)) → Up ts vs o
+      ((rs : Reprs) → Covered (repr k rs) d → over_axes [] (axes_of (repr k rs) d) ts ≡ true →
+      o ≡ over_collections d (layer_value k d ts vs)) → Up ts vs o
   up_of_collections ts vs o h e rs n c t = e rs c t ∙ collections-kept d (layer_value k d ts vs) (sym is ∙ h)
 
   pub up_of_functions : (ts : Tables) (vs : List Value) (o : Option Value) → f ≡ variant.Functions →
-      ((rs : Reprs) → Covered (repr k rs) d → over_axes [] (axes_of (repr k rs) d) ts ≡ true → o ≡ over_functions d (layer_value k d ts vs)) → Up ts vs o
+      ((rs : Reprs) → Covered (repr k rs) d → over_axes [] (axes_of (repr k rs) d) ts ≡ true →
+      o ≡ over_functions d (layer_value k d ts vs)) → Up ts vs o
   up_of_functions ts vs o h e rs n c t = e rs c t ∙ functions-kept d (layer_value k d ts vs) (sym is ∙ h)
 
   pub up_of_relations : (ts : Tables) (vs : List Value) (o : Option Value) → f ≡ variant.Relations →
-      ((rs : Reprs) → Covered (repr k rs) d → over_axes [] (axes_of (repr k rs) d) ts ≡ true → o ≡ over_relations d (layer_value k d ts vs)) → Up ts vs o
+      ((rs : Reprs) → Covered (repr k rs) d → over_axes [] (axes_of (repr k rs) d) ts ≡ true →
+      o ≡ over_relations d (layer_value k d ts vs)) → Up ts vs o
   up_of_relations ts vs o h e rs n c t = e rs c t ∙ relations-kept d (layer_value k d ts vs) (sym is ∙ h)
 
   pub up_of_compounds : (ts : Tables) (vs : List Value) → f ≡ variant.Compounds → Up ts vs None
   up_of_compounds ts vs h rs n c t =
-      sym (ap (λ o. and_then o (λ l. and_then (places_in_use l (own_part k (cells_of ts))) (λ js. l.built (own_part k (cells_of ts)) (values_for l.children vs))))
+      sym (ap (λ o. and_then o (λ l. and_then (places_in_use l (own_part k (cells_of ts)))
+      (λ js. l.built (own_part k (cells_of ts)) (values_for l.children vs))))
       (compounds-none k d (sym is ∙ h) n))

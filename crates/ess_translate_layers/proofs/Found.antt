@@ -25,7 +25,8 @@ ahead-more xs ys None = refl
 ahead-more xs ys (Some zs) = ap Some (sym (append_assoc xs ys zs))
 
 -- What each item has, one has.
-pub all-at : {A B : Type 0} (p : B → Bool) (f : A → B) (xs : List A) (i : ℕ) (e : A) → i < length xs → list_all p (map f xs) ≡ true → p (f (get_or xs i e)) ≡ true
+pub all-at : {A B : Type 0} (p : B → Bool) (f : A → B) (xs : List A) (i : ℕ) (e : A) → i < length xs → list_all p (map f xs) ≡ true →
+    p (f (get_or xs i e)) ≡ true
 all-at p f [] i e h a = absurd (omega (arith, h))
 all-at p f (x ∷ xs) zero e h a = and-left (p (f x)) (list_all p (map f xs)) a
 all-at p f (x ∷ xs) (suc i) e h a = all-at p f xs i e (omega (arith, h)) (and-right (p (f x)) (list_all p (map f xs)) a)

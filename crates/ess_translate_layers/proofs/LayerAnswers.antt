@@ -16,14 +16,16 @@ use Rattle.ess_repr_sets.specs.PartTables as sets
 
 -- ---- what is asked of the tables of parts
 
-only-fit : (r : Repr) (es : List Domain) (l : Layer) (v : Value) (ass : List Axes) (tss : List Tables) → OnlyOver r es (length (inner_values l v)) ass tss →
+only-fit : (r : Repr) (es : List Domain) (l : Layer) (v : Value) (ass : List Axes) (tss : List Tables) →
+    OnlyOver r es (length (inner_values l v)) ass tss →
     sets.ChildTables (more_reprs r no_reprs) es l v ass tss
 only-fit r [] l v ass tss t = tt
 only-fit r (e ∷ []) l v ass tss t = record { axes = t.axes; over = t.over; count = t.count }
 only-fit r (e ∷ f ∷ es) l v ass tss t = tt
 
 -- As sets, multisets, relations and partitions ask it.
-pub parts-fit : (k : ReprKind) (rs : Reprs) (d : Domain) (v : Value) (ass : List Axes) (tss : List Tables) → TablesReady k rs d v ass tss → sets.PartsFit k rs d v ass tss
+pub parts-fit : (k : ReprKind) (rs : Reprs) (d : Domain) (v : Value) (ass : List Axes) (tss : List Tables) → TablesReady k rs d v ass tss →
+    sets.PartsFit k rs d v ass tss
 parts-fit k no_reprs d v ass tss t = go (layer k d)
   where
     go : (o : Option Layer) → elim o as (λ o. Type 0) [ None ↦ Unit {0} | Some l ↦ sets.ChildTables no_reprs l.children l v ass tss ]
@@ -31,17 +33,20 @@ parts-fit k no_reprs d v ass tss t = go (layer k d)
     go (Some l) = tt
 parts-fit k (more_reprs r no_reprs) d v ass tss t = go (layer k d) t
   where
-    go : (o : Option Layer) → elim o as (λ o. Type 0) [ None ↦ Unit {0} | Some l ↦ OnlyOver r l.children (length (inner_values l v)) ass tss ] →
+    go : (o : Option Layer) →
+        elim o as (λ o. Type 0) [ None ↦ Unit {0} | Some l ↦ OnlyOver r l.children (length (inner_values l v)) ass tss ] →
         elim o as (λ o. Type 0) [ None ↦ Unit {0} | Some l ↦ sets.ChildTables (more_reprs r no_reprs) l.children l v ass tss ]
     go None t = tt
     go (Some l) t = only-fit r l.children l v ass tss t
 parts-fit k (more_reprs r (more_reprs q rs)) d v ass tss t = go (layer k d)
   where
-    go : (o : Option Layer) → elim o as (λ o. Type 0) [ None ↦ Unit {0} | Some l ↦ sets.ChildTables (more_reprs r (more_reprs q rs)) l.children l v ass tss ]
+    go : (o : Option Layer) →
+        elim o as (λ o. Type 0) [ None ↦ Unit {0} | Some l ↦ sets.ChildTables (more_reprs r (more_reprs q rs)) l.children l v ass tss ]
     go None = tt
     go (Some l) = tt
 
-only-over : (r : Repr) (es : List Domain) (n : ℕ) (ass : List Axes) (tss : List Tables) → OnlyOver r es n ass tss → functions.ChildOver (more_reprs r no_reprs) es ass tss
+only-over : (r : Repr) (es : List Domain) (n : ℕ) (ass : List Axes) (tss : List Tables) → OnlyOver r es n ass tss →
+    functions.ChildOver (more_reprs r no_reprs) es ass tss
 only-over r [] n ass tss t = tt
 only-over r (e ∷ []) n ass tss t = record { axes = t.axes; over = t.over }
 only-over r (e ∷ f ∷ es) n ass tss t = tt
@@ -52,7 +57,8 @@ pub child-over : (k : ReprKind) (rs : Reprs) (d : Domain) (v : Value) (ass : Lis
 child-over k no_reprs d v ass tss t = tt
 child-over k (more_reprs r no_reprs) d v ass tss t = go (layer k d) t
   where
-    go : (o : Option Layer) → elim o as (λ o. Type 0) [ None ↦ Unit {0} | Some l ↦ OnlyOver r l.children (length (inner_values l v)) ass tss ] →
+    go : (o : Option Layer) →
+        elim o as (λ o. Type 0) [ None ↦ Unit {0} | Some l ↦ OnlyOver r l.children (length (inner_values l v)) ass tss ] →
         functions.ChildOver (more_reprs r no_reprs) (elim o [ None ↦ [] | Some l ↦ l.children ]) ass tss
     go None t = tt
     go (Some l) t = only-over r l.children (length (inner_values l v)) ass tss t

@@ -30,7 +30,8 @@ pub(crate) fn tables_of_components(
 ) -> Result<Option<Row<Table>>, NoMemory>
     ensures { IfOk result (λ o. AllRoomy (reprs_of (map pure_repr reprs.now)) (map pure_closed domains.now) →
         members_each (map pure_closed domains.now) (map pure_val vals.now) ≡ true →
-        option_map (map pure_table) o ≡ tables_meant (reprs_of (map pure_repr reprs.now)) (map pure_closed domains.now) (map pure_val vals.now)) }
+        option_map (map pure_table) o ≡ tables_meant (reprs_of (map pure_repr reprs.now)) (map pure_closed domains.now)
+        (map pure_val vals.now)) }
 {
     let mut all = Row::new(alloc);
     for (index, repr) in reprs.iter().enumerate() {
@@ -62,7 +63,8 @@ pub(crate) fn values_of_components(
 ) -> Result<Option<Row<Val>>, NoMemory>
     ensures { IfOk result (λ o. AllCovered (reprs_of (map pure_repr reprs.now)) (map pure_closed domains.now) →
         over_axes [] (axes_below (reprs_of (map pure_repr reprs.now)) (map pure_closed domains.now) []) (pure_tables tables.now) ≡ true →
-        option_map (map pure_val) o ≡ values_meant (reprs_of (map pure_repr reprs.now)) (map pure_closed domains.now) (pure_tables tables.now)) }
+        option_map (map pure_val) o ≡ values_meant (reprs_of (map pure_repr reprs.now)) (map pure_closed domains.now)
+        (pure_tables tables.now)) }
 {
     let mut vals = Row::with_capacity(alloc, reprs.len())?;
     let mut rest = tables;

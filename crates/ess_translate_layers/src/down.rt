@@ -34,7 +34,8 @@ pub fn down_all(
     domain: &Closed,
     value: &Val,
 ) -> Result<Option<Row<Table>>, NoMemory>
-    ensures { IfOk result (λ o. Roomy (pure_repr repr.now) (pure_closed domain.now) → member (pure_closed domain.now) (pure_val value.now) ≡ true →
+    ensures { IfOk result (λ o. Roomy (pure_repr repr.now) (pure_closed domain.now) →
+        member (pure_closed domain.now) (pure_val value.now) ≡ true →
         option_map (map pure_table) o ≡ tables_of_value (pure_repr repr.now) (pure_closed domain.now) (pure_val value.now)) }
 {
     let parts = children(alloc, repr.kind, domain)?;
@@ -69,8 +70,10 @@ fn of_layer(
     value: &Val,
 ) -> Result<Option<Row<Table>>, NoMemory>
     ensures { IfOk result (λ o. has_components kind ≡ false → map pure_closed parts.now ≡ children_of kind (pure_closed domain.now) →
-        Roomy (tree kind (reprs_of (map pure_repr reprs.now))) (pure_closed domain.now) → member (pure_closed domain.now) (pure_val value.now) ≡ true →
-        option_map (map pure_table) o ≡ tables_of_value (tree kind (reprs_of (map pure_repr reprs.now))) (pure_closed domain.now) (pure_val value.now)) }
+        Roomy (tree kind (reprs_of (map pure_repr reprs.now))) (pure_closed domain.now) →
+        member (pure_closed domain.now) (pure_val value.now) ≡ true →
+        option_map (map pure_table) o ≡ tables_of_value (tree kind (reprs_of (map pure_repr reprs.now))) (pure_closed domain.now)
+        (pure_val value.now)) }
 {
     if reprs.len() != 1 {
         return Ok(layer_down(alloc, kind, domain, &[], value, no_tables(alloc))?);
@@ -93,8 +96,10 @@ fn of_child(
     value: &Val,
 ) -> Result<Option<Row<Table>>, NoMemory>
     ensures { IfOk result (λ o. has_components kind ≡ false → children_of kind (pure_closed domain.now) ≡ pure_closed part.now ∷ [] →
-        Roomy (tree kind (more_reprs (pure_repr child.now) no_reprs)) (pure_closed domain.now) → member (pure_closed domain.now) (pure_val value.now) ≡ true →
-        option_map (map pure_table) o ≡ tables_of_value (tree kind (more_reprs (pure_repr child.now) no_reprs)) (pure_closed domain.now) (pure_val value.now)) }
+        Roomy (tree kind (more_reprs (pure_repr child.now) no_reprs)) (pure_closed domain.now) →
+        member (pure_closed domain.now) (pure_val value.now) ≡ true →
+        option_map (map pure_table) o ≡ tables_of_value (tree kind (more_reprs (pure_repr child.now) no_reprs)) (pure_closed domain.now)
+        (pure_val value.now)) }
 {
     match layer_parts(alloc, kind, domain, value)? {
         Some(vals) => match tables_of_each(alloc, child, part, vals.as_slice())? {
@@ -117,7 +122,8 @@ fn tables_of_each(
     domain: &Closed,
     vals: &[Val],
 ) -> Result<Option<Row<Row<Table>>>, NoMemory>
-    ensures { IfOk result (λ o. Roomy (pure_repr repr.now) (pure_closed domain.now) → list_all (member (pure_closed domain.now)) (map pure_val vals.now) ≡ true →
+    ensures { IfOk result (λ o. Roomy (pure_repr repr.now) (pure_closed domain.now) →
+        list_all (member (pure_closed domain.now)) (map pure_val vals.now) ≡ true →
         option_map (map pure_tables) o ≡ each_of (map pure_val vals.now) (tables_of_value (pure_repr repr.now) (pure_closed domain.now))) }
 {
     let mut each = Row::with_capacity(alloc, vals.len())?;

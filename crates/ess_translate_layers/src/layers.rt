@@ -27,7 +27,8 @@ pub(crate) fn layer_parts(
     domain: &Closed,
     value: &Val,
 ) -> Result<Option<Row<Val>>, NoMemory>
-    ensures { IfOk result (λ o. is_compound kind ≡ false → option_map (map pure_val) o ≡ option_map (λ l. inner_values l (pure_val value.now)) (layer kind (pure_closed domain.now))) }
+    ensures { IfOk result (λ o. is_compound kind ≡ false → option_map (map pure_val) o ≡ option_map
+        (λ l. inner_values l (pure_val value.now)) (layer kind (pure_closed domain.now))) }
 {
     match domain_family(domain) {
         Family::Scalars => Ok(ess_repr_scalars::parts(alloc, kind, domain, value)?),

@@ -26,7 +26,8 @@ pub(crate) fn inner(
     domain: &Closed,
     tables: &[Table],
 ) -> Result<Option<Row<Row<Table>>>, NoMemory>
-    ensures { IfOk result (λ o. (r : Tree) → is_compound kind ≡ false → Covered (tree kind (more_reprs r no_reprs)) (pure_closed domain.now) →
+    ensures { IfOk result (λ o. (r : Tree) → is_compound kind ≡ false → Covered (tree kind (more_reprs r no_reprs))
+        (pure_closed domain.now) →
         over_axes [] (axes_of (tree kind (more_reprs r no_reprs)) (pure_closed domain.now)) (pure_tables tables.now) ≡ true →
         option_map (map pure_tables) o ≡ inner_tables kind (pure_closed domain.now) (pure_tables tables.now)) }
 {

@@ -70,10 +70,12 @@ fn of_components(
     parts: &[Closed],
     tables: &[Table],
 ) -> Result<Option<Val>, NoMemory>
-    ensures { IfOk result (λ o. (kind : ReprKind) → has_components kind ≡ true → map pure_closed parts.now ≡ children_of kind (pure_closed domain.now) →
+    ensures { IfOk result (λ o. (kind : ReprKind) → has_components kind ≡ true →
+        map pure_closed parts.now ≡ children_of kind (pure_closed domain.now) →
         Covered (tree kind (reprs_of (map pure_repr reprs.now))) (pure_closed domain.now) →
         over_axes [] (axes_of (tree kind (reprs_of (map pure_repr reprs.now))) (pure_closed domain.now)) (pure_tables tables.now) ≡ true →
-        option_map pure_val o ≡ value_of_tables (tree kind (reprs_of (map pure_repr reprs.now))) (pure_closed domain.now) (pure_tables tables.now) []) }
+        option_map pure_val o ≡ value_of_tables (tree kind (reprs_of (map pure_repr reprs.now))) (pure_closed domain.now)
+        (pure_tables tables.now) []) }
 {
     match values_of_components(alloc, reprs, parts, tables)? {
         Some(vals) => Ok(compound(alloc, domain, vals)?),
@@ -95,7 +97,8 @@ fn of_layer(
     ensures { IfOk result (λ o. has_components kind ≡ false → map pure_closed parts.now ≡ children_of kind (pure_closed domain.now) →
         Covered (tree kind (reprs_of (map pure_repr reprs.now))) (pure_closed domain.now) →
         over_axes [] (axes_of (tree kind (reprs_of (map pure_repr reprs.now))) (pure_closed domain.now)) (pure_tables tables.now) ≡ true →
-        option_map pure_val o ≡ value_of_tables (tree kind (reprs_of (map pure_repr reprs.now))) (pure_closed domain.now) (pure_tables tables.now) []) }
+        option_map pure_val o ≡ value_of_tables (tree kind (reprs_of (map pure_repr reprs.now))) (pure_closed domain.now)
+        (pure_tables tables.now) []) }
 {
     if reprs.len() != 1 {
         return Ok(layer_up(alloc, kind, domain, tables, no_values(alloc))?);
@@ -119,8 +122,10 @@ fn of_child(
 ) -> Result<Option<Val>, NoMemory>
     ensures { IfOk result (λ o. has_components kind ≡ false → children_of kind (pure_closed domain.now) ≡ pure_closed part.now ∷ [] →
         Covered (tree kind (more_reprs (pure_repr child.now) no_reprs)) (pure_closed domain.now) →
-        over_axes [] (axes_of (tree kind (more_reprs (pure_repr child.now) no_reprs)) (pure_closed domain.now)) (pure_tables tables.now) ≡ true →
-        option_map pure_val o ≡ value_of_tables (tree kind (more_reprs (pure_repr child.now) no_reprs)) (pure_closed domain.now) (pure_tables tables.now) []) }
+        over_axes [] (axes_of (tree kind (more_reprs (pure_repr child.now) no_reprs)) (pure_closed domain.now))
+        (pure_tables tables.now) ≡ true →
+        option_map pure_val o ≡ value_of_tables (tree kind (more_reprs (pure_repr child.now) no_reprs)) (pure_closed domain.now)
+        (pure_tables tables.now) []) }
 {
     match inner(alloc, kind, domain, tables)? {
         Some(slots) => match values_of_each(alloc, child, part, slots.as_slice())? {
@@ -142,7 +147,8 @@ fn values_of_each(
 ) -> Result<Option<Row<Val>>, NoMemory>
     ensures { IfOk result (λ o. Covered (pure_repr repr.now) (pure_closed domain.now) →
         list_all (over_axes [] (axes_of (pure_repr repr.now) (pure_closed domain.now))) (map pure_tables slots.now) ≡ true →
-        option_map (map pure_val) o ≡ each_of (map pure_tables slots.now) (λ ts. value_of_tables (pure_repr repr.now) (pure_closed domain.now) ts [])) }
+        option_map (map pure_val) o ≡ each_of (map pure_tables slots.now) (λ ts. value_of_tables (pure_repr repr.now)
+        (pure_closed domain.now) ts [])) }
 {
     let mut vals = Row::with_capacity(alloc, slots.len())?;
     for slot in slots {

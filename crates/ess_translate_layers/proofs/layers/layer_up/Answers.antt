@@ -10,5 +10,6 @@ pub returns-in_ok-up-in-Collections : goal.returns-in_ok-up-in-Collections
 returns-in_ok-up-in-Collections c =
     let is = c.in-Collections.is in
     let q : c.domain_family.result ≡ variant.Collections = cc in
-    up_of_collections c.args.kind (pure_closed c.args.domain.now) c.domain_family.result c.domain_family.ensures (pure_tables c.args.tables.now)
+    up_of_collections c.args.kind (pure_closed c.args.domain.now) c.domain_family.result c.domain_family.ensures
+    (pure_tables c.args.tables.now)
     (map pure_val c.args.vals) (option_map pure_val c.in_ok-up-in-Collections.field-0) q c.in_ok-up-in-Collections.ensures
