@@ -1,0 +1,39 @@
+-- Tables that satisfy the model of a whole file are over the declared axes of the header, with items in the declared domains.
+use Rattle.std.proofs.Common.{◌≡◌, refl, sym, ap, ◌∙◌, true, List, [], ◌∷◌, map, length, ℕ, suc}
+use Rattle.ess_semantics.specs.Values.{Text}
+use Rattle.ess_semantics.specs.Names.{Names, keys}
+use Rattle.ess_semantics.specs.Lists.{zip}
+use Rattle.ess_semantics.specs.Tables.{Table, Tables}
+use Rattle.ess_semantics.specs.Declarations.{Declaration}
+use Rattle.ess_semantics.specs.DeclaredTables.{TableDecl, decl_name, DeclaredAs}
+use Rattle.ess_semantics.specs.ModelTrees.{Header, Model, all_decls}
+use Rattle.ess_semantics.specs.ModelMeaning.{model_domain}
+use Rattle.ess_semantics.specs.Assignments.{Assignment}
+use Rattle.ess_semantics.specs.Plans.{finds_side, declared_under}
+use Rattle.ess_semantics.specs.Satisfaction.{Sat, tables_fit}
+use Rattle.conjure_laws.specs.Premises.{tables_are}
+use Rattle.conjure_laws.proofs.NamedTables.{fit-are, are-long}
+use Rattle.ess_translate_members_laws.specs.DeclaresMembers.{DeclaresMembers}
+
+-- The items of a list beside as many names.
+zipped : (ns : List Text) (ts : Tables) → length ns ≡ length ts → map (λ c. c.1) (zip ns ts) ≡ ts
+zipped [] [] e = refl
+zipped [] (t ∷ ts) e = cc
+zipped (n ∷ ns) [] e = cc
+zipped (n ∷ ns) (t ∷ ts) e = ap (λ l. t ∷ l) (zipped ns ts cc)
+
+-- Declarations and what is declared are as many.
+declared_long : (f : _) (fs : List TableDecl) (ds : List Declaration) → DeclaredAs f fs ds → length (keys (map decl_name fs)) ≡ length ds
+declared_long f [] [] h = refl
+declared_long f [] (d ∷ ds) h = absurd h
+declared_long f (t ∷ fs) [] h = absurd h
+declared_long f (t ∷ fs) (d ∷ ds) h = ap suc (declared_long f fs ds h.2)
+
+-- Tables that fit are as declared.
+pub fitting_tables_are : (H : Header) (E : Model) (p : Assignment) (q c : Names Table) → DeclaresMembers H E p q → Sat E q c →
+    tables_are (declared_under finds_side H.statements H.reprs p) (map (λ t. t.1) c) ≡ true
+fitting_tables_are H E p q c D s =
+    let ds = declared_under finds_side H.statements H.reprs p in
+    let r = fit-are (all_decls E) q E.finds ds c D.finds s.declared in
+    let l = declared_long (model_domain (all_decls E) q) E.finds ds D.finds ∙ are-long ds r.0 r.2 in
+    ap (tables_are ds) (ap (map (λ t. t.1)) r.1 ∙ zipped (keys (map decl_name E.finds)) r.0 l) ∙ r.2
