@@ -1,5 +1,5 @@
 -- What is answered on the text of a model: the model with its header, or why it is refused.
-use Rattle.std.specs.Prelude.{◌≡◌, ◌×◌, ◌⊎◌}
+use Rattle.std.specs.Prelude.{◌≡◌, ◌⊎◌}
 use Rattle.ess_semantics.specs.Values.{Text}
 use Rattle.ess_semantics.specs.ModelTrees.{Header, Model}
 use Rattle.ess_grammar.specs.ModelTexts.{IsModel}

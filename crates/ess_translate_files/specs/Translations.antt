@@ -1,5 +1,5 @@
 -- What is answered on all texts of a translation: a text is looked at where those before it aren't refused.
-use Rattle.std.specs.Prelude.{◌≡◌, ◌×◌, ◌⊎◌, List}
+use Rattle.std.specs.Prelude.{◌≡◌, ◌⊎◌, List}
 use Rattle.ess_semantics.specs.Values.{Text}
 use Rattle.ess_semantics.specs.Names.{Names}
 use Rattle.ess_semantics.specs.Trees.{Stm}

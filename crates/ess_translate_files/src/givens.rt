@@ -1,5 +1,5 @@
 //! What a parameter gives for a model's file.
-ghost use Rattle.std.specs.Prelude.{◌≡◌, ◌×◌, List, map, option_map, IfOk, IfErr};
+ghost use Rattle.std.specs.Prelude.{◌≡◌, List, map, option_map, IfOk, IfErr};
 ghost use Rattle.ess_semantics.specs.Trees.{Stm as PureStm};
 ghost use Rattle.ess_semantics.specs.Assignments as pure;
 ghost use Rattle.ess_semantics.specs.Assignments.{nothing_given, env_of};

@@ -1,5 +1,5 @@
 //! The file of a model: its header with the plans, and the model behind it.
-ghost use Rattle.std.specs.Prelude.{◌≡◌, ◌×◌, true, Err, IfOk, IfErr};
+ghost use Rattle.std.specs.Prelude.{◌≡◌, true, Err, IfOk, IfErr};
 ghost use Rattle.ess_grammar.specs.ModelTexts.{IsModel};
 ghost use Rattle.ess_grammar.specs.Models.{is_readable_model};
 ghost use Rattle.eprime_tree.specs.Views.{pure_model};

@@ -1,5 +1,5 @@
 //! The solution for which cells of a model stand.
-ghost use Rattle.std.specs.Prelude.{◌≡◌, ◌×◌, List, None, Some, map, option_map, IfOk, IfErr, OnOk};
+ghost use Rattle.std.specs.Prelude.{◌≡◌, List, None, Some, map, option_map, IfOk, IfErr, OnOk};
 ghost use Rattle.std.specs.Option.{option_copied};
 ghost use Rattle.ess_semantics.specs.Values.{Text as PureText};
 ghost use Rattle.ess_semantics.specs.Plans.{values_stood_for};
