@@ -1,4 +1,6 @@
--- Refusals, the lines of a solution, and tables that satisfy a model
+-- Models, refusals, the lines of a solution, cells, and tables that satisfy a model
+pub mod Models
 pub mod Refused
 pub mod SolutionLines
+pub mod Cells
 pub mod Solved

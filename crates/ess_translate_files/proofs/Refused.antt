@@ -1,17 +1,25 @@
 -- Refusals of the parts are refusals of a translation.
-use Rattle.std.proofs.Common.{◌≡◌, refl, sym, ap, ◌∙◌, subst, Bool, true, false, ◌||◌, List, map, inl, inr}
+use Rattle.std.proofs.Common.{◌≡◌, refl, sym, ap, ◌∙◌, subst, ℕ, Bool, true, false, ◌||◌, List, Option, Some, None, option_map, inl, inr}
+use Rattle.std.specs.Prelude.{Err}
+use Rattle.std.specs.declared.result.Result.{Result}
 use Rattle.std.specs.List.{list_any}
 use Rattle.ess_semantics.specs.Values.{Text}
 use Rattle.ess_semantics.specs.Trees.{Stm}
+use Rattle.ess_semantics.specs.Lists.{or_default}
+use Rattle.ess_semantics.specs.Names.{Names}
+use Rattle.ess_semantics.specs.Tables.{Table}
 use Rattle.ess_semantics.specs.Meaning.{Env}
 use Rattle.ess_semantics.specs.Assignments.{Assignment, nothing_given, env_of}
 use Rattle.ess_semantics.specs.ModelTrees.{Header, Model}
-use Rattle.ess_semantics.specs.Plans.{Options, Plan, plans}
+use Rattle.ess_semantics.specs.Plans.{Options, Plan, plans, given_tables}
+use Rattle.ess_semantics.specs.LargeModels.{declares_large}
 use Rattle.ess_semantics.specs.LargeSpecifications.{parameter_is_large, plan_is_large, tables_are_large}
 use Rattle.ess_semantics.proofs.Tests.{or-yes}
-use Rattle.ess_translate.specs.declared.refusal.Which.{Which}
+use Rattle.ess_domains_cells.specs.Kept.{kept}
+use Rattle.ess_eval.specs.declared.calls.EvalNo.{EvalNo}
 use Rattle.ess_translate.specs.declared.refusal.TransNo.{TransNo}
 use Rattle.ess_translate.specs.Answers.{IsParameter, IsNoParameter}
+use Rattle.ess_translate_files.specs.Refusals.{eval_no}
 use Rattle.ess_translate_files.specs.GivenFiles.{IsLargeFor, HasNoTables, IsNotGiven}
 
 left-so : (a b : Bool) → a ≡ true → a || b ≡ true
@@ -56,3 +64,39 @@ no_tables H E text F p (TransNo.Unsatisfied v) i h = absurd h
 no_tables H E text F p (TransNo.NotRepresented x) i h = absurd h
 no_tables H E text F p TransNo.Big i h = (F, i.spells, subst (IsLargeFor H E) i.stands h)
 no_tables H E text F p TransNo.NoMemory i h = tt
+
+-- Why the env of a parameter isn't there.
+pub env_refused : {A : Type 0} (H : Header) (E : Model) (p : Assignment) (r : Result A EvalNo) (why : EvalNo) → r ≡ Err why →
+    (r ≡ Err EvalNo.Big → parameter_is_large H.statements p ≡ true) → HasNoTables H E p (eval_no why)
+env_refused H E p r EvalNo.Big e f = inl (parameter_large H.statements H.reprs p (f e))
+env_refused H E p r EvalNo.NoMemory e f = tt
+env_refused H E p r EvalNo.Undefined e f = tt
+env_refused H E p r (EvalNo.TooManyCells n) e f = tt
+
+-- Why the domains of plans aren't there.
+pub domains_refused : {A : Type 0} (H : Header) (E : Model) (env : Env) (Ps : List Plan) (r : Result A EvalNo) (why : EvalNo) → r ≡ Err why →
+    (r ≡ Err EvalNo.Big → list_any (plan_is_large env) Ps ≡ true) → Ps ≡ plans H.statements H.reprs → (p : Assignment) →
+    env ≡ env_of H.statements p nothing_given → HasNoTables H E p (eval_no why)
+domains_refused H E env Ps r EvalNo.Big e f g p h = inl (plan_large H.statements H.reprs p env Ps h g (f e))
+domains_refused H E env Ps r EvalNo.NoMemory e f g p h = tt
+domains_refused H E env Ps r EvalNo.Undefined e f g p h = tt
+domains_refused H E env Ps r (EvalNo.TooManyCells n) e f g p h = tt
+
+-- A name with too many cells, whose number is kept.
+pub too_many_kept : (m : Option (Text × ℕ)) (x : Text) (k : ℕ) → Some (x, k) ≡ option_map (λ y. (y.0, kept y.1)) m →
+    (n : ℕ) × (m ≡ Some (x, n)) × (k ≡ kept n)
+too_many_kept None x k e = cc
+too_many_kept (Some (y, n)) x k e =
+    let a : x ≡ y = ap (λ o. (or_default o (x, k)).0) e in
+    let b : k ≡ kept n = ap (λ o. (or_default o (x, k)).1) e in
+    (n, ap (λ z. Some (z, n)) (sym a), b)
+
+-- No name has too many.
+pub none_too_many : (m : Option (Text × ℕ)) → None ≡ option_map (λ y. (y.0, kept y.1)) m → m ≡ None
+none_too_many None e = refl
+none_too_many (Some y) e = cc
+
+-- A number outside 64 bits in a domain that the model declares over given tables.
+pub members_large : (H : Header) (E : Model) (p : Assignment) (q : Names Table) → given_tables H.statements H.reprs p ≡ Some q →
+    declares_large E q ≡ true → HasNoTables H E p TransNo.Big
+members_large H E p q e f = inr (q, e, f)

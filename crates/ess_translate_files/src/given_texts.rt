@@ -16,7 +16,7 @@ pub fn given_text(alloc: Global, file: &ModelFile, given: &Given) -> Result<Vec<
     ensures ok { IfOk result (λ b. b.items ≡ cells_text (file_model file.now).givens (pure_cells given.now.tables)) }
     ensures refused { IfErr result (λ why. why ≡ TransNo.NoMemory) }
 {
-    match print_cells(alloc, &given.tables, &file.model.givens) {
+    match print_cells(alloc, &given.tables, &file.model.get().givens) {
         Ok(text) => Ok(text),
         Err(_) => Err(TransNo::NoMemory),
     }

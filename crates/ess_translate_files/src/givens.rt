@@ -34,6 +34,7 @@ pub struct Given {
 /// Reads a file of a parameter for a model's file: it fits the header's specification, no given or find has too many cells, and the
 /// model declares the axes and cell domains of its tables. The errors are those of `parameter_of`, `TooManyCells` of the first given
 /// or find that has more than 2^24 cells, `HeaderBad` where the model declares other members, `Big` and `NoMemory`.
+#[tactic(auto, using(crate::proofs::Refused::no_tables))]
 pub fn given_in(alloc: Global, file: &ModelFile, param: &[u8]) -> Result<Given, TransNo>
     requires { IsWhole file.now }
     ensures ok { IfOk result (λ g. (F : List PureStm)
@@ -54,6 +55,7 @@ pub fn given_in(alloc: Global, file: &ModelFile, param: &[u8]) -> Result<Given, 
 }
 
 /// The values that a file of a parameter gives.
+#[tactic(auto, using(crate::proofs::Refused::no_parameter))]
 fn values_in(alloc: Global, file: &ModelFile, param: &[u8]) -> Result<Assignment, TransNo>
     requires { IsWhole file.now }
     ensures ok { IfOk result (λ p. (F : List PureStm) × IsParameter (file_header file.now).statements param.now F (pure_assignment p)) }
@@ -63,6 +65,7 @@ fn values_in(alloc: Global, file: &ModelFile, param: &[u8]) -> Result<Assignment
 }
 
 /// The env of a parameter.
+#[tactic(auto, using(crate::proofs::Refused::env_refused))]
 fn env_for(alloc: Global, file: &ModelFile, param: &Assignment) -> Result<Env, TransNo>
     requires { IsWhole file.now }
     ensures ok { IfOk result (λ e. pure_env e ≡ env_of (file_header file.now).statements (pure_assignment param.now) nothing_given) }
@@ -75,6 +78,7 @@ fn env_for(alloc: Global, file: &ModelFile, param: &Assignment) -> Result<Env, T
 }
 
 /// The domains of the plans under the env of a parameter.
+#[tactic(auto, using(crate::proofs::Refused::domains_refused))]
 fn domains_under(
     alloc: Global,
     file: &ModelFile,

@@ -47,7 +47,7 @@ pub(crate) fn cells_no(why: CellsNo) -> TransNo
     ensures { result ≡ cells_no why }
 {
     match why {
-        CellsNo::Read(why) => TransNo::Read(Which::Solution, why),
+        CellsNo::Read(why) => read_no(Which::Solution, why),
         CellsNo::Missing(name) => TransNo::Unsatisfied(PVerdict::Missing(name)),
         CellsNo::Extra(name) => TransNo::Unsatisfied(PVerdict::Extra(name)),
         CellsNo::OutOfDomain(name) => TransNo::Unsatisfied(PVerdict::OutOfDomain(name)),

@@ -29,6 +29,7 @@ use std::alloc::Global;
 /// the text is read as the tables that the model declares, then they are asked to satisfy the model, then each find's value by all
 /// of its representations is asked. The errors are `Read` of `Solution`, `Unsatisfied` with what fails first, `NotRepresented` of the
 /// first find that has no value, `Big` and `NoMemory`.
+#[tactic(auto, using(crate::proofs::Cells::solved, crate::proofs::Cells::values_refused))]
 pub fn solution_in(
     alloc: Global,
     file: &ModelFile,
@@ -53,6 +54,7 @@ pub fn solution_in(
 }
 
 /// The tables of what is to be found that a text of cells stands for.
+#[tactic(auto, using(crate::proofs::Cells::cells_are, crate::proofs::Cells::cells_refused))]
 fn cells_in(
     alloc: Global,
     file: &ModelFile,
@@ -66,8 +68,8 @@ fn cells_in(
     match read_cells(
         alloc,
         cells,
-        &file.model.finds,
-        &file.model.givens,
+        &file.model.get().finds,
+        &file.model.get().givens,
         &given.tables,
     ) {
         Ok(cells) => Ok(cells),
@@ -77,6 +79,7 @@ fn cells_in(
 
 /// Refuses tables that don't satisfy the model. Those that a text of cells stands for are over the declarations, whose domains have a
 /// meaning under given tables: so only a constraint can be false.
+#[tactic(auto, using(crate::proofs::Cells::false_refused, crate::proofs::Cells::large_refused))]
 fn pass_model(
     alloc: Global,
     file: &ModelFile,
@@ -88,16 +91,20 @@ fn pass_model(
         → AreCells (file_model file.now) (pure_cells given.now.tables) text (pure_cells found.now)
         → IsNotSolved (file_header file.now) (file_model file.now) (pure_assignment given.now.param) (pure_cells given.now.tables) text why) }
 {
-    match satisfies(alloc, &file.model, &given.tables, found) {
+    match satisfies(alloc, file.model.get(), &given.tables, found) {
         Ok(PVerdict::Yes) => Ok(()),
         Ok(PVerdict::False(number)) => Err(TransNo::Unsatisfied(PVerdict::False(number))),
-        Ok(_) => Err(TransNo::NoMemory),
+        Ok(other) => {
+            drop(other);
+            Err(TransNo::NoMemory)
+        }
         Err(EvalNo::Big) => Err(TransNo::Big),
         Err(_) => Err(TransNo::NoMemory),
     }
 }
 
 /// The values of the finds for which tables stand.
+#[tactic(auto, using(crate::proofs::Solved::fitting_tables_are))]
 fn values_in(
     alloc: Global,
     file: &ModelFile,

@@ -43,6 +43,7 @@ pub(crate) fn tables_under(
 }
 
 /// Refuses too many cells.
+#[tactic(auto, using(crate::proofs::Refused::too_many_kept, crate::proofs::Refused::none_too_many))]
 fn pass_counts(
     alloc: Global,
     file: &ModelFile,
@@ -83,6 +84,7 @@ fn canonical_tables(
 }
 
 /// Refuses a model that declares other members than those of the header's tables.
+#[tactic(auto, using(crate::proofs::Refused::members_large))]
 fn pass_members(
     alloc: Global,
     file: &ModelFile,
@@ -97,7 +99,7 @@ fn pass_members(
         → given_tables (file_header file.now).statements (file_header file.now).reprs (pure_assignment param.now) ≡ Some (pure_cells tables.now)
         → HasNoTables (file_header file.now) (file_model file.now) (pure_assignment param.now) why) }
 {
-    match declares_members(alloc, file.plans.as_slice(), closed, &file.model, tables.list.as_slice()) {
+    match declares_members(alloc, file.plans.as_slice(), closed, file.model.get(), tables.list.as_slice()) {
         Ok(true) => Ok(()),
         Ok(false) => Err(TransNo::HeaderBad),
         Err(Stop::Big) => Err(TransNo::Big),
