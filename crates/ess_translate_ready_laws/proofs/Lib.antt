@@ -1,0 +1,7 @@
+pub mod OrderOfTypes
+pub mod RelationParts
+pub mod JudgedFlags
+pub mod TypedByTypes
+pub mod ReadStatements
+pub mod ReadyHeaders
+mod ExamplesReady
