@@ -106,5 +106,5 @@ solved H E p q c text bytes os types a s e f g h = record {
   cells = a;
   satisfy = s;
   stand = sym e ∙ all_are_there os f;
-  bytes = h ∙ ap (λ ts. codes "language Essence 1.3\n" ++ value_lines (item_name ts) (there_of os)) g;
+  written = h ∙ ap (λ ts. codes "language Essence 1.3\n" ++ value_lines (item_name ts) (there_of os)) g;
 }

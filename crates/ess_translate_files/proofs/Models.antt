@@ -14,6 +14,8 @@ use Rattle.ess_translate_header_laws.specs.Headers.{HasHeader}
 use Rattle.ess_translate_header.specs.declared.headers.Header.{Header}
 use Rattle.ess_translate_header.specs.Views.{pure_header}
 use Rattle.ess_translate_plans.specs.Views.{IsReadHeader}
+use Rattle.ess_translate_given_laws.specs.Ready.{Ready}
+use Rattle.ess_translate_ready_laws.proofs.ReadyHeaders.{headers-are-ready}
 use Rattle.ess_translate_tables_laws.specs.HeaderTables.{DeclaresTables}
 use Rattle.ess_translate.specs.declared.refusal.Which.{Which}
 use Rattle.ess_translate.specs.declared.refusal.TransNo.{TransNo}
@@ -29,6 +31,10 @@ pub readable-answer : (r : Result PModel ReadNo) → IsReadable (λ m. IsTrue (i
     IfOk r (λ m. is_readable_model (pure_model m) ≡ true)
 readable-answer (Ok m) h = h
 readable-answer (Err why) h = tt
+
+-- The header with which a text begins is ready for parameters.
+pub header_ready : (text : Text) (h : Header) → HasHeader text (pure_header h) → Ready (pure_header h).statements
+header_ready text h H = headers-are-ready text (pure_header h) H
 
 -- The file of a header and a model behind it.
 pub file_read : (text : Text) (h : Header) (m : PModel) (f : ModelFile) → HasHeader text (pure_header h) → Spells IsModel text (pure_model m) →

@@ -15,6 +15,8 @@ use Rattle.ess_semantics.specs.Plans.{Options, Plan, plans, given_tables}
 use Rattle.ess_semantics.specs.LargeModels.{declares_large}
 use Rattle.ess_semantics.specs.LargeSpecifications.{parameter_is_large, plan_is_large, tables_are_large}
 use Rattle.ess_semantics.proofs.Tests.{or-yes}
+use Rattle.ess_semantics.specs.Parameters.{Param, param_verdict}
+use Rattle.ess_semantics.proofs.Verdicts.{param_verdict-Param}
 use Rattle.ess_domains_cells.specs.Kept.{kept}
 use Rattle.ess_eval.specs.declared.calls.EvalNo.{EvalNo}
 use Rattle.ess_translate.specs.declared.refusal.TransNo.{TransNo}
@@ -100,3 +102,7 @@ none_too_many (Some y) e = cc
 pub members_large : (H : Header) (E : Model) (p : Assignment) (q : Names Table) → given_tables H.statements H.reprs p ≡ Some q →
     declares_large E q ≡ true → HasNoTables H E p TransNo.Big
 members_large H E p q e f = inr (q, e, f)
+
+-- What fits is a parameter.
+pub is_param : (S : List Stm) (text : Text) (F : List Stm) (p : Assignment) → IsParameter S text F p → Param S p
+is_param S text F p h = param_verdict-Param S p h.fits

@@ -9,10 +9,11 @@ use Rattle.ess_semantics.specs.DeclaredTables.{TableDecl, decl_name, DeclaredAs}
 use Rattle.ess_semantics.specs.ModelTrees.{Header, Model, all_decls}
 use Rattle.ess_semantics.specs.ModelMeaning.{model_domain}
 use Rattle.ess_semantics.specs.Assignments.{Assignment}
-use Rattle.ess_semantics.specs.Plans.{finds_side, declared_under}
+use Rattle.ess_semantics.specs.Plans.{finds_side, declared_under, table_list}
 use Rattle.ess_semantics.specs.Satisfaction.{Sat, tables_fit}
 use Rattle.conjure_laws.specs.Premises.{tables_are}
 use Rattle.conjure_laws.proofs.NamedTables.{fit-are, are-long}
+use Rattle.ess_translate_tables_laws.specs.HeaderTables.{DeclaresTables}
 use Rattle.ess_translate_members_laws.specs.DeclaresMembers.{DeclaresMembers}
 
 -- The items of a list beside as many names.
@@ -28,6 +29,22 @@ declared_long f [] [] h = refl
 declared_long f [] (d ∷ ds) h = absurd h
 declared_long f (t ∷ fs) [] h = absurd h
 declared_long f (t ∷ fs) (d ∷ ds) h = ap suc (declared_long f fs ds h.2)
+
+-- The names of a list beside them.
+zipped_keys : (ns : List Text) (ts : Tables) → length ns ≡ length ts → keys (zip ns ts) ≡ ns
+zipped_keys [] [] e = refl
+zipped_keys [] (t ∷ ts) e = cc
+zipped_keys (n ∷ ns) [] e = cc
+zipped_keys (n ∷ ns) (t ∷ ts) e = ap (λ l. n ∷ l) (zipped_keys ns ts cc)
+
+-- Tables that fit stand under the names of the header's tables.
+pub fitting_tables_named : (H : Header) (E : Model) (p : Assignment) (q c : Names Table) → DeclaresTables H E → DeclaresMembers H E p q →
+    Sat E q c → keys c ≡ keys (table_list finds_side H.statements H.reprs)
+fitting_tables_named H E p q c T D s =
+    let ds = declared_under finds_side H.statements H.reprs p in
+    let r = fit-are (all_decls E) q E.finds ds c D.finds s.declared in
+    let l = declared_long (model_domain (all_decls E) q) E.finds ds D.finds ∙ are-long ds r.0 r.2 in
+    ap keys r.1 ∙ zipped_keys (keys (map decl_name E.finds)) r.0 l ∙ ap keys T.finds
 
 -- Tables that fit are as declared.
 pub fitting_tables_are : (H : Header) (E : Model) (p : Assignment) (q c : Names Table) → DeclaresMembers H E p q → Sat E q c →

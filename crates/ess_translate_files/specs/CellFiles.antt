@@ -72,7 +72,7 @@ pub record IsSolved (H : Header) (E : Model) (p : Assignment) (q : Names Table) 
   pub cells : AreCells E q text c
   pub satisfy : Sat E q c
   pub stand : values_stood_for H.statements H.reprs p c ≡ all_there vs
-  pub bytes : bytes ≡ solution_text H.statements p vs
+  pub written : bytes ≡ solution_text H.statements p vs
 
 -- The cells in the text fail first at this.
 abbrev pub FailsAt : Model → Names Table → Names Ex → PVerdict → Type 0

@@ -13,6 +13,7 @@ use Rattle.ess_eval_domains.specs.ClosedViews.{pure_closed}
 use Rattle.ess_domains.specs.Assignments.{pure_assignment}
 use Rattle.eprime_tree.specs.Views.{pure_model}
 use Rattle.ess_translate_tables_laws.specs.HeaderTables.{DeclaresTables}
+use Rattle.ess_translate_given_laws.specs.Ready.{Ready}
 use Rattle.ess_translate_members_laws.specs.PlanDomains.{plan_closed}
 use Rattle.ess_translate_header.specs.Views.{pure_header}
 use Rattle.ess_translate_plans.specs.Views.{pure_plan, IsReadHeader}
@@ -28,9 +29,10 @@ file_header m = pure_header m.header
 abbrev pub file_model : ModelFile → pure.Model
 file_model m = pure_model m.model
 
--- The header is as it was read, the plans are its plans, and the model is one that some text has and declares their tables.
+-- The header is as it was read, and its statements are ready for parameters, the plans are its plans, and the model is one that some text has and declares their tables.
 pub record IsWhole (m : ModelFile) : Type 0 where
   pub header : IsReadHeader m.header
+  pub ready : Ready (file_header m).statements
   pub plans : map pure_plan m.plans ≡ plans (file_header m).statements (file_header m).reprs
   pub tables : DeclaresTables (file_header m) (file_model m)
   pub readable : is_readable_model (file_model m) ≡ true

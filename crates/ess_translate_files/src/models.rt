@@ -3,6 +3,7 @@ ghost use Rattle.std.specs.Prelude.{◌≡◌, true, Err, IfOk, IfErr};
 ghost use Rattle.ess_grammar.specs.ModelTexts.{IsModel};
 ghost use Rattle.ess_grammar.specs.Models.{is_readable_model};
 ghost use Rattle.eprime_tree.specs.Views.{pure_model};
+ghost use Rattle.ess_translate_given_laws.specs.Ready.{Ready};
 ghost use Rattle.ess_translate_header_laws.specs.Headers.{HasHeader};
 ghost use Rattle.ess_translate_header.specs.Views.{pure_header};
 ghost use Rattle.ess_translate_plans.specs.Views.{IsReadHeader};
@@ -46,7 +47,7 @@ pub fn model_file(alloc: Global, text: &[u8]) -> Result<ModelFile, TransNo>
 }
 
 /// The file of the model behind this header of its text.
-#[tactic(auto, using(crate::proofs::Models::file_read, crate::proofs::Models::model_refused, crate::proofs::Models::other_tables))]
+#[tactic(auto, using(crate::proofs::Models::file_read, crate::proofs::Models::model_refused, crate::proofs::Models::other_tables, crate::proofs::Models::header_ready))]
 fn behind_header(alloc: Global, text: &[u8], header: Header) -> Result<ModelFile, TransNo>
     requires begins { HasHeader text.now (pure_header header) }
     requires read { IsReadHeader header }
@@ -86,6 +87,7 @@ fn with_plans(
     model: Boxed<PModel>,
 ) -> Result<ModelFile, TransNo>
     requires read { IsReadHeader header }
+    requires ready { Ready (pure_header header).statements }
     requires readable { is_readable_model (pure_model model) ≡ true }
     ensures header { IfOk result (λ m. m.header ≡ header) }
     ensures model { IfOk result (λ m. m.model ≡ model) }

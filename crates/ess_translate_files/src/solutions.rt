@@ -104,7 +104,7 @@ fn pass_model(
 }
 
 /// The values of the finds for which tables stand.
-#[tactic(auto, using(crate::proofs::Solved::fitting_tables_are))]
+#[tactic(auto, using(crate::proofs::Solved::fitting_tables_are, crate::proofs::Solved::fitting_tables_named, crate::proofs::Refused::is_param))]
 fn values_in(
     alloc: Global,
     file: &ModelFile,
