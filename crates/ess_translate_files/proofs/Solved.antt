@@ -11,10 +11,16 @@ use Rattle.ess_semantics.specs.ModelMeaning.{model_domain}
 use Rattle.ess_semantics.specs.Assignments.{Assignment}
 use Rattle.ess_semantics.specs.Plans.{finds_side, declared_under, table_list}
 use Rattle.ess_semantics.specs.Satisfaction.{Sat, tables_fit}
+use Rattle.ess_semantics.specs.Parameters.{Param}
+use Rattle.ess_domains.specs.Assignments.{pure_assignment}
 use Rattle.conjure_laws.specs.Premises.{tables_are}
 use Rattle.conjure_laws.proofs.NamedTables.{fit-are, are-long}
 use Rattle.ess_translate_tables_laws.specs.HeaderTables.{DeclaresTables}
 use Rattle.ess_translate_members_laws.specs.DeclaresMembers.{DeclaresMembers}
+use Rattle.ess_translate_files.specs.declared.models.ModelFile.{ModelFile}
+use Rattle.ess_translate_files.specs.declared.givens.Given.{Given}
+use Rattle.ess_translate_files.specs.Wholes.{file_header, IsGivenFor}
+use Rattle.ess_translate_files.proofs.Refused.{is_param}
 
 -- The items of a list beside as many names.
 zipped : (ns : List Text) (ts : Tables) → length ns ≡ length ts → map (λ c. c.1) (zip ns ts) ≡ ts
@@ -54,3 +60,7 @@ fitting_tables_are H E p q c D s =
     let r = fit-are (all_decls E) q E.finds ds c D.finds s.declared in
     let l = declared_long (model_domain (all_decls E) q) E.finds ds D.finds ∙ are-long ds r.0 r.2 in
     ap (tables_are ds) (ap (map (λ t. t.1)) r.1 ∙ zipped (keys (map decl_name E.finds)) r.0 l) ∙ r.2
+
+-- What is given is a parameter of the header.
+pub given_param : (m : ModelFile) (g : Given) → IsGivenFor m g → Param (file_header m).statements (pure_assignment g.param)
+given_param m g h = is_param (file_header m).statements h.text h.file (pure_assignment g.param) h.given.parameter

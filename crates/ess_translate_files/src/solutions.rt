@@ -104,7 +104,7 @@ fn pass_model(
 }
 
 /// The values of the finds for which tables stand.
-#[tactic(auto, using(crate::proofs::Solved::fitting_tables_are, crate::proofs::Solved::fitting_tables_named, crate::proofs::Refused::is_param))]
+#[tactic(auto, using(crate::proofs::Solved::fitting_tables_are, crate::proofs::Solved::fitting_tables_named, crate::proofs::Solved::given_param))]
 fn values_in(
     alloc: Global,
     file: &ModelFile,
@@ -113,7 +113,8 @@ fn values_in(
 ) -> Result<Row<StoodFor>, TransNo>
     requires whole { IsWhole file.now }
     requires given { IsGivenFor file.now given.now }
-    ensures ok { Sat (file_model file.now) (pure_cells given.now.tables) (pure_cells found.now) → IfOk result (λ vs. map pure_stood vs
+    requires satisfied { Sat (file_model file.now) (pure_cells given.now.tables) (pure_cells found.now) }
+    ensures ok { IfOk result (λ vs. map pure_stood vs
         ≡ values_stood_for (file_header file.now).statements (file_header file.now).reprs (pure_assignment given.now.param) (pure_cells found.now)) }
     ensures stops { IfErr result (λ why. why ≡ TransNo.NoMemory) }
 {

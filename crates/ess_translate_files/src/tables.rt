@@ -72,7 +72,7 @@ fn canonical_tables(
     requires whole { IsWhole file.now }
     requires closed { AreClosed file.now closed.now (pure_assignment param.now) }
     requires fits { Param (file_header file.now).statements (pure_assignment param.now) }
-    ensures ok { too_many (file_header file.now) (pure_assignment param.now) ≡ None → IfOk result (λ q.
+    ensures ok { IfOk result (λ q.
         given_tables (file_header file.now).statements (file_header file.now).reprs (pure_assignment param.now) ≡ Some (pure_cells q)) }
     ensures stops { IfErr result (λ why. why ≡ TransNo.NoMemory) }
 {
