@@ -1,5 +1,5 @@
 -- Models, refusals, the lines of a solution, cells, and tables that satisfy a model
-pub mod Models
+pub mod ReadModels
 pub mod Refused
 pub mod SolutionLines
 pub mod Cells

@@ -47,7 +47,7 @@ pub fn model_file(alloc: Global, text: &[u8]) -> Result<ModelFile, TransNo>
 }
 
 /// The file of the model behind this header of its text.
-#[tactic(auto, using(crate::proofs::Models::file_read, crate::proofs::Models::model_refused, crate::proofs::Models::other_tables, crate::proofs::Models::header_ready))]
+#[tactic(auto, using(crate::proofs::ReadModels::file_read, crate::proofs::ReadModels::model_refused, crate::proofs::ReadModels::other_tables, crate::proofs::ReadModels::header_ready))]
 fn behind_header(alloc: Global, text: &[u8], header: Header) -> Result<ModelFile, TransNo>
     requires begins { HasHeader text.now (pure_header header) }
     requires read { IsReadHeader header }
