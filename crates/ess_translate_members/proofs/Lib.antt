@@ -1,0 +1,2 @@
+pub mod PlansInOrder
+pub mod DeclaredSides

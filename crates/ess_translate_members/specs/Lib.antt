@@ -1,0 +1,2 @@
+-- Both sides of a model
+pub mod Sides
