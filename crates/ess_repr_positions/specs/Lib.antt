@@ -1,0 +1,4 @@
+-- Parts with positions
+pub mod Placed
+-- Parts with types
+pub mod Typed

@@ -1,0 +1,4 @@
+-- Plans of one name, one behind the other
+pub mod NamesInRuns
+-- Worked examples
+mod ExamplesRuns

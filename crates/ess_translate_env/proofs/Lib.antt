@@ -1,0 +1,4 @@
+-- The env behind statements
+pub mod WholeEnvs
+-- Domains of plans
+pub mod PlanRows

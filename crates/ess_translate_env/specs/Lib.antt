@@ -1,0 +1,2 @@
+-- What stands behind statements of the code
+pub mod Behind
