@@ -1,0 +1,2 @@
+-- Families of domains
+pub mod Families
