@@ -37,9 +37,10 @@ pub fn cells(alloc: Global, repr: &Repr, dom: &Dom, env: &Env) -> Result<u64, Ev
     }
 }
 
-/// How many cells the tables have, where these aren't too many.
+/// How many cells the tables of a representation of a domain have, counted as `cells` counts them. `TooManyCells` exactly where there
+/// are more than 2^24, with the number, which is kept at 2^100; there is no other error.
 #[tactic(auto, using(crate::proofs::CellCounts::few_cells, crate::proofs::CellCounts::many_cells, crate::proofs::CellCounts::many_above))]
-fn counted_cells(repr: &Repr, domain: &Closed) -> Result<u64, EvalNo>
+pub fn counted_cells(repr: &Repr, domain: &Closed) -> Result<u64, EvalNo>
     ensures ok { IfOk result (λ n. cell_count (pure_repr repr.now) (pure_closed domain.now) ≡ n) }
     ensures few { IfOk result (λ n. n ≤ 16777216) }
     ensures too_many { IfErr result (λ no. no ≡ TooManyCells (kept_of (cell_count (pure_repr repr.now) (pure_closed domain.now)))) }

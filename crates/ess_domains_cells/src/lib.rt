@@ -16,4 +16,4 @@ mod representations;
 mod sets;
 mod shapes;
 
-pub use calls::cells;
+pub use calls::{cells, counted_cells};
