@@ -58,7 +58,8 @@ under-in : (as' : Axes) (ds : List Declaration) → cells_in (under as' ds) ≡ 
 under-in as' [] = refl
 under-in as' (d ∷ ds) = ap (λ l. cell_form d.cell ∷ l) (under-in as' ds)
 
-children-in : (out : Bool) (rs : Reprs) (ds : List Domain) (as' : Axes) → cells_in (declarations_of_children out rs ds as') ≡ cells_of_children out rs ds
+children-in : (out : Bool) (rs : Reprs) (ds : List Domain) (as' : Axes) →
+    cells_in (declarations_of_children out rs ds as') ≡ cells_of_children out rs ds
 children-in out no_reprs ds as' = refl
 children-in out (more_reprs r rs) [] as' = refl
 children-in out (more_reprs r rs) (d ∷ ds) as' =
@@ -76,14 +77,20 @@ pub cells_of-layer : (out : Bool) (k : ReprKind) (rs : Reprs) (d : Domain) →
 cells_of-layer out k rs d = go (layer k d) (kind-uses k d)
   where
     go : (o : Option Layer) → Uses k o →
-        cells_in (elim o [ None ↦ [] | Some l ↦ map (declared_own out) l.own ++ declarations_of_children (out || leaves_out l.in_use) rs l.children l.axes ])
+        cells_in (elim o [
+          | None ↦ []
+          | Some l ↦ map (declared_own out) l.own ++ declarations_of_children
+              (out || leaves_out l.in_use) rs l.children l.axes
+        ])
         ≡ elim o [ None ↦ [] | Some l ↦ map (λ t. cell_form (declared_own out t).cell) l.own ]
         ++ cells_of_children (out || frees k) rs (elim o [ None ↦ [] | Some l ↦ l.children ])
     go None u = none-below (out || frees k) rs
     go (Some l) u =
-        map-append (λ t. cell_form t.cell) (map (declared_own out) l.own) (declarations_of_children (out || leaves_out l.in_use) rs l.children l.axes)
+        map-append (λ t. cell_form t.cell) (map (declared_own out) l.own) (declarations_of_children
+        (out || leaves_out l.in_use) rs l.children l.axes)
         ∙ ap (λ x. x ++ cells_in (declarations_of_children (out || leaves_out l.in_use) rs l.children l.axes)) (own-in out l.own)
-        ∙ ap (λ x. map (λ t. cell_form (declared_own out t).cell) l.own ++ x) (children-in (out || leaves_out l.in_use) rs l.children l.axes)
+        ∙ ap (λ x. map (λ t. cell_form (declared_own out t).cell) l.own ++ x) (children-in
+        (out || leaves_out l.in_use) rs l.children l.axes)
         ∙ ap (λ b. map (λ t. cell_form (declared_own out t).cell) l.own ++ cells_of_children (out || b) rs l.children) u
 
 plain-tables : (ds : List Declaration) → tables_of (map (λ t. t.axes) ds) (cells_in ds) ≡ map plain ds

@@ -14,7 +14,11 @@ use Rattle.ess_translate_members_laws.proofs.PlainLayers.{Same, layers-same, pla
 -- The tables of one layer, given those of its children.
 abbrev layer_declared : Bool → Reprs → Option Layer → List Declaration
 layer_declared out rs o =
-    elim o [ None ↦ [] | Some l ↦ map (declared_own out) l.own ++ declarations_of_children (out || leaves_out l.in_use) rs l.children l.axes ]
+    elim o [
+      | None ↦ []
+      | Some l ↦ map (declared_own out) l.own ++ declarations_of_children
+          (out || leaves_out l.in_use) rs l.children l.axes
+    ]
 
 own-plain : (out : Bool) (ts : List OwnTable) → map plain (map (declared_own out) ts) ≡ plain_own out ts
 own-plain out [] = refl
@@ -32,7 +36,8 @@ under-plain as' (d ∷ ds) = ap (λ l. record { axes = as' ++ d.axes; cell = (pl
 
 layer-same : (out : Bool) (rs : Reprs) (o q : Option Layer) → Same o q →
     ((l : Layer) (b : Bool) (as' : Axes) →
-    map plain (declarations_of_children b rs (map domain_with_positions l.children) as') ≡ map plain (declarations_of_children b rs l.children as')) →
+    map plain (declarations_of_children b rs (map domain_with_positions l.children) as') ≡ map plain
+    (declarations_of_children b rs l.children as')) →
     map plain (layer_declared out rs q) ≡ map plain (layer_declared out rs o)
 layer-same out rs None None s ih = refl
 layer-same out rs None (Some m) s ih = absurd s
@@ -42,11 +47,13 @@ layer-same out rs (Some l) (Some m) s ih =
     ∙ ap (λ t. t ++ map plain (declarations_of_children (out || leaves_out m.in_use) rs m.children m.axes)) (s.0 out)
     ∙ ap (λ b. plain_own out l.own ++ map plain (declarations_of_children (out || b) rs m.children m.axes)) s.3
     ∙ ap (λ es. plain_own out l.own ++ map plain (declarations_of_children (out || leaves_out l.in_use) rs es m.axes)) s.1
-    ∙ ap (λ a. plain_own out l.own ++ map plain (declarations_of_children (out || leaves_out l.in_use) rs (map domain_with_positions l.children) a)) s.2
+    ∙ ap (λ a. plain_own out l.own ++ map plain (declarations_of_children (out || leaves_out l.in_use) rs
+    (map domain_with_positions l.children) a)) s.2
     ∙ ap (λ t. plain_own out l.own ++ t) (ih l (out || leaves_out l.in_use) l.axes)
     ∙ sym (layer-plain out rs l)
 
-child-plain : (out : Bool) (as' : Axes) (xs ys : List Declaration) (us vs : List Declaration) → map plain xs ≡ map plain ys → map plain us ≡ map plain vs →
+child-plain : (out : Bool) (as' : Axes) (xs ys : List Declaration) (us vs : List Declaration) → map plain xs ≡ map plain ys →
+    map plain us ≡ map plain vs →
     map plain (under as' xs ++ us) ≡ map plain (under as' ys ++ vs)
 child-plain out as' xs ys us vs p q =
     map-append plain (under as' xs) us ∙ ap (λ t. t ++ map plain us) (under-plain as' xs ∙ ap (under as') p ∙ sym (under-plain as' ys))

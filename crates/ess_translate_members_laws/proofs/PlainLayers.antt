@@ -46,7 +46,8 @@ parts-child ks d = ap (λ b. sets (sizes b) (sets inner (domain_with_positions d
 relation-child : (ks : List Attribute) (d c : Domain) →
     child_relation ks (domain_with_positions d) (domain_with_positions c) ≡ domain_with_positions (child_relation ks d c)
 relation-child ks d c =
-    ap (λ b. relations (sizes b (has Key.Total ks)) (more_domains (domain_with_positions d) (more_domains (domain_with_positions c) no_domains))) (bound-with d)
+    ap (λ b. relations (sizes b (has Key.Total ks)) (more_domains (domain_with_positions d) (more_domains
+    (domain_with_positions c) no_domains))) (bound-with d)
   where
     sizes : ℕ → Bool → List Attribute
     sizes b total =
@@ -86,20 +87,72 @@ dummy-same ks booleans = ((λ out. refl), refl, refl, refl)
 dummy-same ks (integers ss) = ((λ out. refl), refl, refl, refl)
 dummy-same ks (named t n) = (
   as-declared (ap (λ k. widened_table (one_to k ∷ [])
-      (integers (record { low = Some (pos 1); high = Some (pos n) } ∷ record { low = Some (pos n +ℤ pos 1); high = Some (pos n +ℤ pos 1) } ∷ [])) ∷ [])
+      (integers (record { low = Some (pos 1); high = Some (pos n) } ∷ record {
+        low = Some (pos n +ℤ pos 1);
+        high = Some
+            (pos n +ℤ pos 1);
+      } ∷ [])) ∷ [])
       (set-slots ks (named t n))),
   refl,
   refl,
   refl,
 )
-dummy-same ks (tuples ds) = (slots-same (domain_with_positions (tuples ds)) (tuples ds) _ _ (set-slots ks (tuples ds)) refl refl refl, refl, refl, refl)
-dummy-same ks (records fs ds) = (slots-same (domain_with_positions (records fs ds)) (records fs ds) _ _ (set-slots ks (records fs ds)) refl refl refl, refl, refl, refl)
-dummy-same ks (matrices is d) = (slots-same (domain_with_positions (matrices is d)) (matrices is d) _ _ (set-slots ks (matrices is d)) refl refl refl, refl, refl, refl)
-dummy-same ks (sets ls d) = (slots-same (domain_with_positions (sets ls d)) (sets ls d) _ _ (set-slots ks (sets ls d)) refl refl refl, refl, refl, refl)
-dummy-same ks (msets ls d) = (slots-same (domain_with_positions (msets ls d)) (msets ls d) _ _ (set-slots ks (msets ls d)) refl refl refl, refl, refl, refl)
-dummy-same ks (functions ls d c) = (slots-same (domain_with_positions (functions ls d c)) (functions ls d c) _ _ (set-slots ks (functions ls d c)) refl refl refl, refl, refl, refl)
-dummy-same ks (relations ls ds) = (slots-same (domain_with_positions (relations ls ds)) (relations ls ds) _ _ (set-slots ks (relations ls ds)) refl refl refl, refl, refl, refl)
-dummy-same ks (partitions ls d) = (slots-same (domain_with_positions (partitions ls d)) (partitions ls d) _ _ (set-slots ks (partitions ls d)) refl refl refl, refl, refl, refl)
+dummy-same ks (tuples ds) = (
+  slots-same (domain_with_positions (tuples ds)) (tuples ds) _ _ (set-slots ks
+      (tuples ds)) refl refl refl,
+  refl,
+  refl,
+  refl,
+)
+dummy-same ks (records fs ds) = (
+  slots-same (domain_with_positions (records fs ds)) (records fs ds) _ _ (set-slots ks
+      (records fs ds)) refl refl refl,
+  refl,
+  refl,
+  refl,
+)
+dummy-same ks (matrices is d) = (
+  slots-same (domain_with_positions (matrices is d)) (matrices is d) _ _ (set-slots ks
+      (matrices is d)) refl refl refl,
+  refl,
+  refl,
+  refl,
+)
+dummy-same ks (sets ls d) = (
+  slots-same (domain_with_positions (sets ls d)) (sets ls d) _ _ (set-slots ks
+      (sets ls d)) refl refl refl,
+  refl,
+  refl,
+  refl,
+)
+dummy-same ks (msets ls d) = (
+  slots-same (domain_with_positions (msets ls d)) (msets ls d) _ _ (set-slots ks
+      (msets ls d)) refl refl refl,
+  refl,
+  refl,
+  refl,
+)
+dummy-same ks (functions ls d c) = (
+  slots-same (domain_with_positions (functions ls d c)) (functions ls d c) _ _ (set-slots ks
+      (functions ls d c)) refl refl refl,
+  refl,
+  refl,
+  refl,
+)
+dummy-same ks (relations ls ds) = (
+  slots-same (domain_with_positions (relations ls ds)) (relations ls ds) _ _ (set-slots ks
+      (relations ls ds)) refl refl refl,
+  refl,
+  refl,
+  refl,
+)
+dummy-same ks (partitions ls d) = (
+  slots-same (domain_with_positions (partitions ls d)) (partitions ls d) _ _ (set-slots ks
+      (partitions ls d)) refl refl refl,
+  refl,
+  refl,
+  refl,
+)
 
 -- Each kind over each domain.
 pub layers-same : (k : ReprKind) (d : Domain) → Same (layer k d) (layer k (domain_with_positions d))
@@ -120,8 +173,13 @@ layers-same ReprKind.MSetOccurrence (msets ks d) =
     (as-declared (ap (λ a. fixed_table (a ∷ []) (up_to (occurrences ks)) ∷ []) (codes-with d)), refl, refl, refl)
 layers-same ReprKind.MSetExplicitWithRepetition (msets ks d) =
     (as-declared (ap (λ n. fixed_table [] (up_to n) ∷ []) (mset-slots ks d)), refl, slots-axis (mset-slots ks d), refl)
-layers-same ReprKind.MSetExplicitWithFlags (msets ks d) =
-    (as-declared (ap (λ n. fixed_table (one_to n ∷ []) (up_to (occurrences ks)) ∷ []) (mset-slots ks d)), refl, slots-axis (mset-slots ks d), refl)
+layers-same ReprKind.MSetExplicitWithFlags (msets ks d) = (
+  as-declared (ap (λ n. fixed_table (one_to n ∷ []) (up_to (occurrences ks)) ∷ []) (mset-slots ks d)),
+  refl,
+  slots-axis
+      (mset-slots ks d),
+  refl,
+)
 layers-same ReprKind.Function1D (functions ks d c) = ((λ out. refl), refl, ap (λ a. a ∷ []) (codes-with d), refl)
 layers-same ReprKind.Function1DPartial (functions ks d c) =
     (as-declared (ap (λ a. fixed_table (a ∷ []) booleans ∷ []) (codes-with d)), refl, ap (λ a. a ∷ []) (codes-with d), refl)
@@ -129,10 +187,17 @@ layers-same ReprKind.FunctionND (functions ks (tuples ds) c) = ((λ out. refl), 
 layers-same ReprKind.FunctionNDPartial (functions ks (tuples ds) c) =
     (as-declared (ap (λ a. fixed_table a booleans ∷ []) (axes-with ds)), refl, axes-with ds, refl)
 layers-same ReprKind.FunctionAsRelation (functions ks d c) = ((λ out. refl), ap (λ x. x ∷ []) (relation-child ks d c), refl, refl)
-layers-same ReprKind.RelationAsMatrix (relations ks ds) = (as-declared (ap (λ a. fixed_table a booleans ∷ []) (axes-with ds)), refl, refl, refl)
+layers-same ReprKind.RelationAsMatrix (relations ks ds) = (
+  as-declared (ap (λ a. fixed_table a booleans ∷ [])
+      (axes-with ds)),
+  refl,
+  refl,
+  refl,
+)
 layers-same ReprKind.RelationAsSet (relations ks ds) = ((λ out. refl), refl, refl, refl)
 layers-same ReprKind.PartitionOccurrence (partitions ks d) = (
-  as-declared (ap (λ n. fixed_table [] (up_to n) ∷ widened_table (codes_of (domain_with_positions d) ∷ []) (between (pos 1) (pos n)) ∷ []) (bound-with d)
+  as-declared (ap (λ n. fixed_table [] (up_to n) ∷ widened_table (codes_of (domain_with_positions d) ∷ []) (between (pos 1)
+      (pos n)) ∷ []) (bound-with d)
       ∙ ap (λ a. fixed_table [] (up_to (bound d)) ∷ widened_table (a ∷ []) (between (pos 1) (pos (bound d))) ∷ [])
       (codes-with d)),
   refl,

@@ -45,10 +45,12 @@ abbrev Next : Option ℤ → Span → List Span → Type 0
 Next hi s rs = (b : ℤ) × (c : ℤ) × (hi ≡ Some b) × (s.low ≡ Some c) × ((b +ℤ pos 2) ≤ℤ c) × (runs_rise (s ∷ rs) ≡ true)
 
 next-run : (r s : Span) (rs : List Span) → runs_rise (r ∷ s ∷ rs) ≡ true → Next r.high s rs
-next-run r s rs h = go r.high s.low refl refl (and-left (is_some_and r.high (λ b. is_none_or r.low (λ a. int_le a b) && is_some_and s.low (λ c. int_le (b +ℤ pos 2) c))) (runs_rise (s ∷ rs)) h)
+next-run r s rs h = go r.high s.low refl refl (and-left (is_some_and r.high (λ b. is_none_or r.low
+    (λ a. int_le a b) && is_some_and s.low (λ c. int_le (b +ℤ pos 2) c))) (runs_rise (s ∷ rs)) h)
   where
     rest : runs_rise (s ∷ rs) ≡ true
-    rest = and-right (is_some_and r.high (λ b. is_none_or r.low (λ a. int_le a b) && is_some_and s.low (λ c. int_le (b +ℤ pos 2) c))) (runs_rise (s ∷ rs)) h
+    rest = and-right (is_some_and r.high (λ b. is_none_or r.low (λ a. int_le a b) && is_some_and s.low (λ c. int_le (b +ℤ pos 2) c)))
+        (runs_rise (s ∷ rs)) h
 
     go : (hi lo : Option ℤ) → r.high ≡ hi → s.low ≡ lo →
         is_some_and hi (λ b. is_none_or r.low (λ a. int_le a b) && is_some_and lo (λ c. int_le (b +ℤ pos 2) c)) ≡ true → Next r.high s rs
@@ -64,9 +66,11 @@ next-run r s rs h = go r.high s.low refl refl (and-left (is_some_and r.high (λ 
 first-run : (r : Span) (rs : List Span) → runs_rise (r ∷ rs) ≡ true → is_run r ≡ true
 first-run r [] h = h
 first-run r (s ∷ rs) h =
-    go r.low r.high (and-left (is_some_and r.high (λ b. is_none_or r.low (λ a. int_le a b) && is_some_and s.low (λ c. int_le (b +ℤ pos 2) c))) (runs_rise (s ∷ rs)) h)
+    go r.low r.high (and-left (is_some_and r.high (λ b. is_none_or r.low (λ a. int_le a b) && is_some_and s.low (λ c. int_le
+    (b +ℤ pos 2) c))) (runs_rise (s ∷ rs)) h)
   where
-    go : (lo hi : Option ℤ) → is_some_and hi (λ b. is_none_or lo (λ a. int_le a b) && is_some_and s.low (λ c. int_le (b +ℤ pos 2) c)) ≡ true →
+    go : (lo hi : Option ℤ) → is_some_and hi (λ b. is_none_or lo (λ a. int_le a b) && is_some_and s.low (λ c. int_le
+        (b +ℤ pos 2) c)) ≡ true →
         is_none_or lo (λ a. is_none_or hi (λ b. int_le a b)) ≡ true
     go lo None k = cc
     go None (Some b) k = refl
@@ -87,7 +91,8 @@ behind-high r (s ∷ rs) n h k =
         let x = v.2 in let m = run-bounds s c v.0 (first-run s rs u) e v.1 in omega (arith, ints)
 
 -- All members lie at the low end of the first run or above.
-above-low : (r : Span) (rs : List Span) (a n : ℤ) → runs_rise (r ∷ rs) ≡ true → r.low ≡ Some a → list_any (in_span n) (r ∷ rs) ≡ true → a ≤ℤ n
+above-low : (r : Span) (rs : List Span) (a n : ℤ) → runs_rise (r ∷ rs) ≡ true → r.low ≡ Some a → list_any (in_span n) (r ∷ rs) ≡ true →
+    a ≤ℤ n
 above-low r rs a n h e k = go (in_span n r) refl
   where
     go : (q : Bool) → in_span n r ≡ q → a ≤ℤ n
@@ -165,7 +170,8 @@ low-below r s rs ss h k f = go r.low s.low refl refl
             within s c (Some c) (Some d) q e (le-test c c (omega (arith, ints))) (le-test c d (run-bounds s c d (first-run s ss k) q e))
 
 -- The number above the high end of a run isn't a member of rising runs that begin with it.
-gap : (r : Span) (rs : List Span) (b : ℤ) → runs_rise (r ∷ rs) ≡ true → r.high ≡ Some b → list_any (in_span (b +ℤ pos 1)) (r ∷ rs) ≡ true → ⊥
+gap : (r : Span) (rs : List Span) (b : ℤ) → runs_rise (r ∷ rs) ≡ true → r.high ≡ Some b →
+    list_any (in_span (b +ℤ pos 1)) (r ∷ rs) ≡ true → ⊥
 gap r rs b h e k = go (in_span (b +ℤ pos 1) r) refl
   where
     go : (q : Bool) → in_span (b +ℤ pos 1) r ≡ q → ⊥
@@ -234,12 +240,14 @@ empty-only s ss h f = let w = member-of s (first-run s ss h) in no (sym (some-me
     no e = cc
 
 -- Rising runs with the same members are one list.
-one-list-of-runs : (rs ss : List Span) → runs_rise rs ≡ true → runs_rise ss ≡ true → ((n : ℤ) → list_any (in_span n) rs ≡ list_any (in_span n) ss) → rs ≡ ss
+one-list-of-runs : (rs ss : List Span) → runs_rise rs ≡ true → runs_rise ss ≡ true → ((n : ℤ) →
+    list_any (in_span n) rs ≡ list_any (in_span n) ss) → rs ≡ ss
 one-list-of-runs [] [] h k f = refl
 one-list-of-runs [] (s ∷ ss) h k f = absurd (empty-only s ss k (λ n. sym (f n)))
 one-list-of-runs (r ∷ rs) [] h k f = absurd (empty-only r rs h f)
 one-list-of-runs (r ∷ rs) (s ∷ ss) h k f =
-    ap (λ x. x ∷ rs) first ∙ ap (λ l. s ∷ l) (one-list-of-runs rs ss (rest-rises r rs h) (rest-rises s ss k) (λ n. rest n (in_span n r) refl))
+    ap (λ x. x ∷ rs) first ∙ ap (λ l. s ∷ l) (one-list-of-runs rs ss (rest-rises r rs h) (rest-rises s ss k) (λ n. rest n
+    (in_span n r) refl))
   where
     low : r.low ≡ s.low
     low = below-both r.low s.low (low-below r s rs ss h k (λ n e. f n ∙ e)) (low-below s r ss rs k h (λ n e. sym (f n) ∙ e))

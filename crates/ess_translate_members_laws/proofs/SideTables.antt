@@ -57,13 +57,15 @@ members-form : (o : Option Domain) (e : Domain) → SameMembers o e → SameMemb
 members-form None e h = absurd h
 members-form (Some d) e h = λ n. h n ∙ sym (form-cells e n)
 
-pub declared-plain : (g : Dom → Option Domain) (ts : List TableDecl) (ds : List Declaration) → DeclaredAs g ts (map plain ds) → DeclaredAs g ts ds
+pub declared-plain : (g : Dom → Option Domain) (ts : List TableDecl) (ds : List Declaration) → DeclaredAs g ts (map plain ds) →
+    DeclaredAs g ts ds
 declared-plain g [] [] h = tt
 declared-plain g [] (d ∷ ds) h = absurd h
 declared-plain g (t ∷ ts) [] h = absurd h
 declared-plain g (t ∷ ts) (d ∷ ds) h = (h.0, members-plain (g t.cell) d.cell h.1, declared-plain g ts ds h.2)
 
-pub declared-form : (g : Dom → Option Domain) (ts : List TableDecl) (ds : List Declaration) → DeclaredAs g ts ds → DeclaredAs g ts (map plain ds)
+pub declared-form : (g : Dom → Option Domain) (ts : List TableDecl) (ds : List Declaration) → DeclaredAs g ts ds →
+    DeclaredAs g ts (map plain ds)
 declared-form g [] [] h = tt
 declared-form g [] (d ∷ ds) h = absurd h
 declared-form g (t ∷ ts) [] h = absurd h
@@ -73,7 +75,8 @@ declared-form g (t ∷ ts) (d ∷ ds) h = (h.0, members-form (g t.cell) d.cell h
 
 -- One plan, with positions and without.
 plan-plain : (r : Repr) (o : Option Domain) →
-    map plain (list_or_none (option_map (declarations r) (option_map domain_with_positions o))) ≡ map plain (list_or_none (option_map (declarations r) o))
+    map plain (list_or_none (option_map (declarations r) (option_map domain_with_positions o))) ≡ map plain (list_or_none (option_map
+    (declarations r) o))
 plan-plain r None = refl
 plan-plain r (Some e) = tables_kept r e
 
@@ -94,7 +97,8 @@ first-plan f env p ps = go (same_side (side_of p) f) (filter (λ q. same_side (s
     go false qs = refl
 
 all-plans : (f : Side) (env : Env) (ps : List Plan) →
-    map plain (append_all (map (declared_by_plan env) (filter (λ q. same_side (side_of q) f) ps))) ≡ tables_of_side f ps (map (plan_closed env) ps)
+    map plain (append_all (map (declared_by_plan env) (filter (λ q. same_side (side_of q) f) ps))) ≡ tables_of_side f ps (map
+    (plan_closed env) ps)
 all-plans f env [] = refl
 all-plans f env (p ∷ ps) =
     first-plan f env p ps

@@ -32,5 +32,7 @@ pub record RunsAreOne : Type 0 where
 pub record SidesByPlans : Type 0 where
   pub tables : (f : Side) (S : List Stm) (o : Options) (p : Assignment) →
       map plain (declared_under f S o p) ≡ tables_of_side f (plans S o) (map (plan_closed (env_of S p nothing_given)) (plans S o))
-  pub declared : (g : Dom → Option Domain) (ts : List TableDecl) (ds : List Declaration) → DeclaredAs g ts (map plain ds) → DeclaredAs g ts ds
-  pub numbers : (g : Dom → Option Domain) (ts : List TableDecl) (ds : List Declaration) → DeclaredAs g ts ds → DeclaredAs g ts (map plain ds)
+  pub declared : (g : Dom → Option Domain) (ts : List TableDecl) (ds : List Declaration) → DeclaredAs g ts (map plain ds) →
+      DeclaredAs g ts ds
+  pub numbers : (g : Dom → Option Domain) (ts : List TableDecl) (ds : List Declaration) → DeclaredAs g ts ds →
+      DeclaredAs g ts (map plain ds)
