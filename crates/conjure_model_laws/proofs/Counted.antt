@@ -93,7 +93,7 @@ mutual
   gens-plain (from p e gs) r k w = let q = told_pat p r (told e r k).1 in (ex-plain e r k w.0, gens-plain gs q.1 q.2 w.1)
   gens-plain (cond e gs) r k w = (ex-plain e r k w.0, gens-plain gs r (told e r k).1 w.1)
 
-  dom-plain : (d : Dom) (r : Names Text) (k : ℕ) → PlainDom d → PlainDom (told_dom d r k).0
+  pub dom-plain : (d : Dom) (r : Names Text) (k : ℕ) → PlainDom d → PlainDom (told_dom d r k).0
   dom-plain bool_dom r k w = tt
   dom-plain (int_dom rs es) r k w = all-plain es r k w
   dom-plain (name_dom a) r k w = tt

@@ -33,7 +33,7 @@ abbrev there : Env
 there = record { positions = true; types = []; vals = []; cells = [] }
 
 abbrev sh : Shows
-sh = record { first = (x, n 2) ∷ []; last = (x, n 2) ∷ []; sizes = (t, n 2) ∷ [] }
+sh = record { first = (x, n 2) ∷ []; last = (x, n 2) ∷ []; sizes = (t, n 2) ∷ []; doms = []; next = 0 }
 
 has_value : (b : Bool) (w : Ex) → (if b then Some (n 2) else None) ≡ Some w → (h : Names Value) →
     (meaning w (with_values there h) ≡ (if b then Some (number (pos 2)) else None)) × Meets w (with_values there h)

@@ -14,6 +14,10 @@ pub mod ShownLaws
 mod ExamplesShown
 mod ToldNames
 pub mod WrittenLaws
+pub mod WrittenDomains
+pub mod ViewValues
+mod Directions
 pub mod Built
 pub mod Examples
 pub mod ExamplesBuilt
+mod ExamplesDomains

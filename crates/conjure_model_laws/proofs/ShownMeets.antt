@@ -81,7 +81,7 @@ module _ (sh : Shows) (n : Text → Bool) (env there : Env) (S : StandsFor sh n 
     )
     gens-met (cond u gs) e h w k = (meets-shown u h w.0, λ t. gens-met gs e h w.1 k)
 
-    dom-met : (d : Dom) (h : Vals) → PlainDom d → MeetsDom (shown_dom sh d) (N h)
+    pub dom-met : (d : Dom) (h : Vals) → PlainDom d → MeetsDom (shown_dom sh d) (N h)
     dom-met bool_dom h w = tt
     dom-met (int_dom rs es) h w = all-met false es h w
     dom-met (name_dom t) h w = S.types_met t h

@@ -29,7 +29,7 @@ reserved-differ i j l m = go (same_text (reserved j) (reserved i)) refl
         absurd (omega (arith, l, z))
 
 -- At first each name stands for itself.
-start : (k : ℕ) (u : Text → Bool) → ((j : ℕ) → k ≤ j → u (reserved j) ≡ false) → (g : Vals) → Renames reserved (2 ^ 64) u [] k g g
+pub start : (k : ℕ) (u : Text → Bool) → ((j : ℕ) → k ≤ j → u (reserved j) ≡ false) → (g : Vals) → Renames reserved (2 ^ 64) u [] k g g
 start k u f g c t = (refl, λ j l m. go j l (same_text (reserved j) c) refl)
   where
     go : (j : ℕ) → k ≤ j → (b : Bool) → same_text (reserved j) c ≡ b → same_text (reserved j) c ≡ false

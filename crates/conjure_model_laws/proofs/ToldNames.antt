@@ -79,7 +79,7 @@ module _ (n b : Text → Bool) (used : (k : ℕ) → IsTrue (n (reserved k))) (b
     gens-names (cond e gs) u r k w o f =
         let j = gens-names gs u r (told e r k).1 w.1 o.1 f in ((ex-names e u r k w.0 o.0 f, j.0), j.1)
 
-    dom-names : (d : Dom) (u : Text → Bool) (r : Names Text) (k : ℕ) → PlainDom d → FreeNamesAreDom u d → InUse u r →
+    pub dom-names : (d : Dom) (u : Text → Bool) (r : Names Text) (k : ℕ) → PlainDom d → FreeNamesAreDom u d → InUse u r →
         NamesAreDom n b (told_dom d r k).0
     dom-names bool_dom u r k w o f = tt
     dom-names (int_dom rs es) u r k w o f = all-names es u r k w o f

@@ -22,14 +22,15 @@ use Rattle.ess_repr_declare_laws.specs.DeclaredTrees.{decl, trees_below}
 use Rattle.ess_guard_laws.specs.Guard.{has_value, make_total, make_natural}
 use Rattle.conjure_laws.specs.SideBySide.{Along}
 use Rattle.conjure_model_laws.specs.ToldApart.{reserved, told_apart}
-use Rattle.conjure_model_laws.specs.Shown.{Shows, shown, shown_dom, view_by, shows_of}
+use Rattle.conjure_model_laws.specs.Shown.{Shows, shown, view_by, domain_shown, shows_of}
 use Rattle.conjure_model_laws.specs.Printed.{printed}
 
 -- ---- the trees that are made of a specification
 
--- A constraint or an objective over tables, with its bound names told apart. Two reserved names are kept for conditions.
+-- A constraint or an objective over tables, with its bound names told apart from one another and from those in declared domains. Two
+-- reserved names are kept for conditions.
 abbrev pub tree_of : Shows → Ex → Ex
-tree_of sh e = shown sh (told_apart 2 e)
+tree_of sh e = shown sh (told_apart sh.next e)
 
 -- A constraint, whose undefined terms are done away with.
 abbrev pub constraint_tree : Shows → Ex → Ex
@@ -46,12 +47,13 @@ objective_tree sh e = make_total (reserved 0) (reserved 1) (tree_of sh e)
 -- That the tables of a plan are canonical.
 abbrev pub structure_tree : Shows → Plan → Ex
 structure_tree sh (size_plan t n) = truth_ex true
-structure_tree sh (value_plan f x r d ns) = structure reserved size_terms r (shown_dom sh d) (keys ns) 2 no_exs
+structure_tree sh (value_plan f x r d ns) =
+    structure reserved size_terms r (domain_shown sh (value_plan f x r d ns)) (keys ns) sh.next no_exs
 
 -- That the first view of a find and each further one stand for one value.
 abbrev pub channel_trees : Shows → List Plan → List Ex
 channel_trees sh [] = []
-channel_trees sh (P ∷ Qs) = map (λ Q. ex2 true Op2.Eq (view_by sh P) (view_by sh Q)) Qs
+channel_trees sh (P ∷ Qs) = map (λ Q. ex2 true Op2.Eq (view_by (domain_shown sh P) P) (view_by (domain_shown sh Q) Q)) Qs
 
 -- Those of all finds.
 abbrev pub all_channel_trees : List Stm → Options → List Ex
@@ -65,7 +67,7 @@ with_whole_names _ _ = []
 -- The declared tables of a plan, before their bounds are refined. The number of values of a given type is at least 1.
 abbrev pub declared_of : Shows → Plan → List TableDecl
 declared_of sh (size_plan t n) = decl n [] (int_dom (low_end ∷ []) (more_exs (number_ex (pos 1)) no_exs)) ∷ []
-declared_of sh (value_plan f x r d ns) = with_whole_names (keys ns) (trees_below false r (shown_dom sh d))
+declared_of sh (value_plan f x r d ns) = with_whole_names (keys ns) (trees_below false r (domain_shown sh (value_plan f x r d ns)))
 
 -- Those of all finds, or of all givens.
 abbrev pub all_declared_of : Side → List Stm → Options → List TableDecl

@@ -1,5 +1,7 @@
 -- What stands in the place of names over tables: views of givens and finds, positions of the values of enumerated types, and ranges
--- of positions for named types. The right operand of `in` takes the last view of a name, all else the first. A scalar is a cell.
+-- of positions for named types. The right operand of `in` takes the last view of a name, all else the first. A scalar is a cell. What a
+-- declared domain or size binds is told apart first, each with reserved names of its own: a later given or find may have the name of a
+-- bound one, and views may stand in one another's domains.
 use Rattle.std.specs.Prelude.{ℕ, suc, false, List, [], ◌∷◌, ◌++◌, map, length, filter, pos, Some, None}
 use Rattle.ess_semantics.specs.declared.words.Op2.{Op2}
 use Rattle.ess_semantics.specs.declared.words.ReprKind.{ReprKind}
@@ -12,16 +14,20 @@ use Rattle.ess_semantics.specs.Prepared.{prepared}
 use Rattle.ess_semantics.specs.Plans.{Options, Plan, size_plan, value_plan, plans, is_plan_for}
 use Rattle.ess_repr_laws.specs.StructureParts.{upto}
 use Rattle.conjure_laws.specs.ModelsOfSets.{size_name}
+use Rattle.conjure_model_laws.specs.ToldApart.{told, told_dom}
 
--- The first view of each given and find, and the last one, each with the positions of values; and the number of values of each type.
+-- The first view of each given and find, and the last one, each with the positions of values; the number of values of each type; the
+-- domain of each given and find over tables; and the number of the next reserved name.
 pub record Shows : Type 0 where
   pub first : Names Ex
   pub last : Names Ex
   pub sizes : Names Ex
+  pub doms : Names Dom
+  pub next : ℕ
 
--- Nothing is declared.
+-- Nothing is declared. Two reserved names are kept for conditions.
 abbrev pub shows_nothing : Shows
-shows_nothing = record { first = []; last = []; sizes = [] }
+shows_nothing = record { first = []; last = []; sizes = []; doms = []; next = 2 }
 
 -- What stands for a name, else the name.
 abbrev pub in_place : Names Ex → Text → Ex
@@ -81,11 +87,16 @@ module _ (sh : Shows) where
 
 -- ---- views
 
--- The view by a plan, whose domain mentions only what is declared before.
-abbrev pub view_by : Shows → Plan → Ex
-view_by sh (size_plan t n) = cell_ex false n no_exs
-view_by sh (value_plan f x (repr ReprKind.Atom rs) d (n ∷ ns)) = cell_ex (is_bool_dom d) n.0 no_exs
-view_by sh (value_plan f x r d ns) = seen_ex r (shown_dom sh d) (keys ns) no_exs
+-- The view by a plan whose domain over tables is this one. It mentions only what is declared before.
+abbrev pub view_by : Dom → Plan → Ex
+view_by c (size_plan t n) = cell_ex false n no_exs
+view_by c (value_plan f x (repr ReprKind.Atom rs) d (n ∷ ns)) = cell_ex (is_bool_dom d) n.0 no_exs
+view_by c (value_plan f x r d ns) = seen_ex r c (keys ns) no_exs
+
+-- The domain of a plan over tables.
+abbrev pub domain_shown : Shows → Plan → Dom
+domain_shown sh (size_plan t n) = bool_dom
+domain_shown sh (value_plan f x r d ns) = or_default (look sh.doms x) d
 
 -- The last of a list that isn't empty.
 abbrev pub last_of : Ex → List Ex → Ex
@@ -97,6 +108,17 @@ abbrev pub with_views : Text → List Ex → Shows → Shows
 with_views x [] sh = sh
 with_views x (v ∷ vs) sh = record sh { first = (x, v) ∷ sh.first; last = (x, last_of v vs) ∷ sh.last }
 
+-- A given or find with its domain, whose bound names are told apart, and with its views.
+abbrev pub with_declared : List Plan → Text → Dom → Shows → Shows
+with_declared Ps x d sh =
+    let q : Dom × ℕ = told_dom d [] sh.next in
+    let c : Dom = shown_dom sh q.0 in
+    with_views x (map (view_by c) (filter (is_plan_for x) Ps)) (record sh { doms = (x, c) ∷ sh.doms; next = q.1 })
+
+-- An unnamed type with its size, whose bound names are told apart.
+abbrev pub with_size : Text → Ex → Shows → Shows
+with_size t e sh = let q : Ex × ℕ = told e [] sh.next in record sh { sizes = (t, shown sh q.0) ∷ sh.sizes; next = q.1 }
+
 -- The positions of values, from k on.
 abbrev pub positions_from : ℕ → List Text → Names Ex
 positions_from k [] = []
@@ -104,15 +126,15 @@ positions_from k (n ∷ ns) = (n, number_ex (pos k)) ∷ positions_from (suc k) 
 
 -- What stands in the place of names behind a statement.
 abbrev pub shows_behind : List Plan → Stm → Shows → Shows
-shows_behind Ps (given x d) sh = with_views x (map (view_by sh) (filter (is_plan_for x) Ps)) sh
-shows_behind Ps (find x d) sh = with_views x (map (view_by sh) (filter (is_plan_for x) Ps)) sh
+shows_behind Ps (given x d) sh = with_declared Ps x d sh
+shows_behind Ps (find x d) sh = with_declared Ps x d sh
 shows_behind Ps (given_enum t) sh = record sh { sizes = (t, cell_ex false (size_name Ps t) no_exs) ∷ sh.sizes }
 shows_behind Ps (let_enum t ns) sh = record sh {
   first = positions_from 1 ns ++ sh.first;
   last = positions_from 1 ns ++ sh.last;
   sizes = (t, number_ex (pos (length ns))) ∷ sh.sizes;
 }
-shows_behind Ps (let_unnamed t e) sh = record sh { sizes = (t, shown sh e) ∷ sh.sizes }
+shows_behind Ps (let_unnamed t e) sh = with_size t e sh
 shows_behind Ps s sh = sh
 
 -- Behind several statements.

@@ -2,12 +2,12 @@
 use Rattle.std.specs.Prelude.{◌≡◌, Bool, not, Some, None, IsTrue, ℕ, ◌≤◌, ◌^◌, false, []}
 use Rattle.ess_semantics.specs.Values.{Text, Value}
 use Rattle.ess_semantics.specs.Names.{Names, look, keys, is_among}
-use Rattle.ess_semantics.specs.Trees.{Ex, name_dom}
+use Rattle.ess_semantics.specs.Trees.{Ex, Dom, name_dom}
 use Rattle.ess_semantics.specs.Meaning.{Env, meaning, domain_of}
 use Rattle.ess_semantics.specs.Meets.{Meets, MeetsDom}
-use Rattle.ess_semantics.specs.FreeNames.{FreeNamesAre}
-use Rattle.conjure_laws.specs.PlainTrees.{Plain}
-use Rattle.conjure_model_laws.specs.ToldApart.{reserved, told}
+use Rattle.ess_semantics.specs.FreeNames.{FreeNamesAre, FreeNamesAreDom}
+use Rattle.conjure_laws.specs.PlainTrees.{Plain, PlainDom}
+use Rattle.conjure_model_laws.specs.ToldApart.{reserved, told, told_dom}
 use Rattle.conjure_model_laws.specs.Shown.{Shows, range_of_type}
 
 -- The env with other values of names.
@@ -43,3 +43,14 @@ pub record IsReady (sh : Shows) (n : Text → Bool) (env there : Env) (k : ℕ) 
   pub reserved_unshown : (j : ℕ) → IsTrue (is_unshown sh (reserved j))
   pub unreserved : (j : ℕ) → k ≤ j → u (reserved j) ≡ false
   pub few : (told e [] k).1 ≤ 2 ^ 64
+
+-- A declared domain may be told apart and shown so.
+pub record DomIsReady (sh : Shows) (n : Text → Bool) (env there : Env) (k : ℕ) (u : Text → Bool) (d : Dom) : Type 0 where
+  pub stands : StandsFor sh n env there
+  pub plain : PlainDom d
+  pub free : FreeNamesAreDom u d
+  pub in_use : (a : Text) → IsTrue (u a) → IsTrue (n a)
+  pub reserved_in_use : (j : ℕ) → IsTrue (n (reserved j))
+  pub reserved_unshown : (j : ℕ) → IsTrue (is_unshown sh (reserved j))
+  pub unreserved : (j : ℕ) → k ≤ j → u (reserved j) ≡ false
+  pub few : (told_dom d [] k).1 ≤ 2 ^ 64

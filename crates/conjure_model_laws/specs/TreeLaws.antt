@@ -1,21 +1,31 @@
 -- Laws of the trees on the way from a constraint to its rule, each stated at a function that does nothing.
-use Rattle.std.specs.Prelude.{◌≡◌, ℕ, suc, ◌+◌, ◌<◌, ◌≤◌, ◌^◌, Bool, true, false, List, [], length}
-use Rattle.ess_semantics.specs.Values.{Text}
+use Rattle.std.specs.Prelude.{◌≡◌, ℕ, suc, ◌+◌, ◌<◌, ◌≤◌, ◌^◌, Bool, true, false, List, [], ◌++◌, length, Some}
+use Rattle.ess_semantics.specs.Values.{Text, Value}
 use Rattle.ess_semantics.specs.Order.{same_text}
 use Rattle.ess_semantics.specs.Names.{Names, is_among}
-use Rattle.ess_semantics.specs.Trees.{Ex, Dom}
+use Rattle.ess_semantics.specs.Trees.{Repr, Ex, Dom, Stm}
 use Rattle.ess_semantics.specs.Types.{Ty}
+use Rattle.ess_semantics.specs.Tables.{Table}
+use Rattle.ess_semantics.specs.TableNames.{Named}
+use Rattle.ess_semantics.specs.Positions.{with_positions}
+use Rattle.ess_semantics.specs.Assignments.{Assignment, value_of}
+use Rattle.ess_semantics.specs.Plans.{Options, Side, givens_side, finds_side, value_plan, plans, plan_domain}
+use Rattle.ess_semantics.specs.ModelTrees.{Model}
 use Rattle.ess_semantics.specs.Substitution.{NamesAre, NamesAreDom}
 use Rattle.ess_semantics.specs.Meaning.{Env, meaning, domain_of}
 use Rattle.ess_semantics.specs.FreeNames.{FreeNamesAre}
 use Rattle.ess_semantics.specs.Kept.{Kept}
-use Rattle.ess_semantics.specs.Meets.{Meets}
+use Rattle.ess_semantics.specs.Meets.{Meets, MeetsDom}
 use Rattle.ess_semantics.specs.Typed.{Typed}
 use Rattle.ess_semantics.specs.Refined.{is_refined}
 use Rattle.conjure_laws.specs.PlainTrees.{Plain, PlainDom}
-use Rattle.conjure_model_laws.specs.ToldApart.{reserved, is_unreserved, told, told_apart}
-use Rattle.conjure_model_laws.specs.Shown.{Shows, shown, shown_dom}
-use Rattle.conjure_model_laws.specs.StandsFor.{StandsFor, is_unshown, IsReady}
+use Rattle.conjure_laws.specs.Members.{In}
+use Rattle.conjure_laws.specs.Premises.{Instance, here}
+use Rattle.conjure_laws.specs.ModelPremises.{Base, Canonical}
+use Rattle.conjure_laws.specs.Views.{tables_with}
+use Rattle.conjure_model_laws.specs.ToldApart.{reserved, is_unreserved, told, told_dom, told_apart}
+use Rattle.conjure_model_laws.specs.Shown.{Shows, shown, shown_dom, view_by}
+use Rattle.conjure_model_laws.specs.StandsFor.{StandsFor, is_unshown, IsReady, DomIsReady}
 use Rattle.conjure_model_laws.specs.Printed.{printed_name, printed, binders}
 
 -- A tree of a specification with its bound names told apart means what it meant, in every env, and is kept. It may use names, which it
@@ -68,3 +78,28 @@ pub record WrittenTreesStand : Type 0 where
       (taken : List Text) (g : Names Ty) (last : Ex) → Kept g (shown sh (told_apart k e)) last → is_refined last ≡ true →
       FreeNamesAre (λ a. false) last → binders last + length taken < 2 ^ 64 → Typed g there →
       meaning (printed taken last []) there ≡ meaning e env
+
+-- A declared domain, told apart and shown, is over tables what it is over values, and its structures are met.
+pub record WrittenDomainsStand : Type 0 where
+  pub domains : (sh : Shows) (n : Text → Bool) (env there : Env) (k : ℕ) (u : Text → Bool) (d : Dom) → DomIsReady sh n env there k u d →
+      domain_of (shown_dom sh (told_dom d [] k).0) there ≡ domain_of d env
+  pub meets : (sh : Shows) (n : Text → Bool) (env there : Env) (k : ℕ) (u : Text → Bool) (d : Dom) → DomIsReady sh n env there k u d →
+      MeetsDom (shown_dom sh (told_dom d [] k).0) there
+
+-- Where the value of a given or find stands.
+abbrev pub side_of_values : Side → Assignment → Assignment → Assignment
+side_of_values givens_side p a = p
+side_of_values finds_side p a = a
+
+-- Over the given tables of a parameter and the canonical tables of members, the view of a given or find by each of its plans has its value
+-- with positions, whatever values names have there, and its structures are met. Its domain over tables is to be that of the plan. So it
+-- is of a scalar, whose view is a cell.
+abbrev pub ViewsHaveValues : Type 0
+ViewsHaveValues =
+    (S : List Stm) (o : Options) (M : Model) → Base S o M → (p a : Assignment) (q c : Names Table) → Instance S o p q →
+    Canonical S o p a c →
+    (f : Side) (x : Text) (r : Repr) (d : Dom) (ns : List Named) → In (value_plan f x r d ns) (plans S o) → (b : Dom) (h : Names Value) →
+    domain_of b (tables_with S p (q ++ c) h) ≡ plan_domain d (here S p) → MeetsDom b (tables_with S p (q ++ c) h) →
+    (v : Value) × (value_of (side_of_values f p a) x ≡ Some v) ×
+    ((meaning (view_by b (value_plan f x r d ns)) (tables_with S p (q ++ c) h) ≡ Some (with_positions v)) ×
+    Meets (view_by b (value_plan f x r d ns)) (tables_with S p (q ++ c) h))

@@ -1,6 +1,7 @@
 //! Laws of the trees on the way from a constraint to its rule, each the contract of a function that does nothing.
 
-ghost use Rattle.conjure_model_laws.specs.TreeLaws.{NamesPrinted, NamesToldApart, ShownStands, WrittenTreesStand};
+ghost use Rattle.conjure_model_laws.specs.TreeLaws.{NamesPrinted, NamesToldApart, ShownStands, ViewsHaveValues};
+ghost use Rattle.conjure_model_laws.specs.TreeLaws.{WrittenDomainsStand, WrittenTreesStand};
 
 /// A tree of a specification means with its bound names told apart what it meant, in every env, and is kept, where the names that it
 /// doesn't bind aren't reserved ones, as none of a specification is.
@@ -24,4 +25,14 @@ pub fn printed_means_the_same()
 /// rules lead to from there.
 pub fn written_trees_stand()
     ensures { WrittenTreesStand }
+{}
+
+/// A declared domain, told apart and shown, is over tables what it is over values.
+pub fn written_domains_stand()
+    ensures { WrittenDomainsStand }
+{}
+
+/// The view of a given or find by each of its plans has over tables its value, and its structures are met.
+pub fn views_have_values()
+    ensures { ViewsHaveValues }
 {}

@@ -2,13 +2,17 @@
 -- doesn't, and no more does one that uses a name which a parameter could give.
 use Rattle.std.specs.Prelude.{◌≡◌, refl, true, List, [], ◌∷◌, Some, None, codes}
 use Rattle.ess_semantics.specs.declared.words.Op2.{Op2}
-use Rattle.ess_semantics.specs.Values.{truth, item}
-use Rattle.ess_semantics.specs.Trees.{name_dom, bool_dom, Stm, given, given_enum, let_ex, find, such_that}
+use Rattle.ess_semantics.specs.Values.{a_set, of_list, truth, item, node}
+use Rattle.ess_semantics.specs.Names.{look}
+use Rattle.ess_semantics.specs.Trees.{name_dom, bool_dom, Stm, given, given_enum, let_ex, let_enum, find, such_that}
 use Rattle.ess_semantics.specs.Meaning.{meaning, empty_env}
 use Rattle.ess_semantics.specs.Assignments.{Assignment, env_of}
+use Rattle.ess_semantics.specs.Parameters.{Param}
 use Rattle.ess_semantics.specs.Judgements.{unknown_name, fault}
-use Rattle.ess_semantics.proofs.Shorthands.{N, n, bi, range, set}
+use Rattle.ess_semantics.proofs.Shorthands.{N, n, bi, range, set, v}
 use Rattle.conjure_laws.specs.Premises.{Settled}
+use Rattle.conjure_settled_laws.specs.EndValues.{AreItems, valued_in, HasEndValues}
+use Rattle.conjure_settled_laws.proofs.EndValues.{typed-has-end-values}
 use Rattle.conjure_settled_laws.proofs.SettledStatements.{typed-is-settled}
 
 -- given E new type enum / given k : int(1..3) / letting two be k + k / find s : set of int(1..two) / find e : E / such that k in s
@@ -52,3 +56,45 @@ b_is_true = record { types = []; vals = (codes "b", Some (truth true)) ∷ [] }
 
 hidden_behind : meaning (N (codes "b")) (env_of type_last names_again b_is_true) ≡ Some (item (codes "E") 1)
 hidden_behind = refl
+
+-- letting E be new type enum {a, b} / letting k be 2, and a solution with s = {2} and e = b
+abbrev some_values : Assignment
+some_values = record { types = (codes "E", codes "a" ∷ codes "b" ∷ []) ∷ []; vals = (codes "k", Some (v 2)) ∷ [] }
+
+abbrev some_finds : Assignment
+some_finds = record {
+  types = [];
+  vals = (codes "s", Some (node a_set (of_list (v 2 ∷ [])))) ∷ (codes "e", Some (item (codes "E") 2)) ∷ [];
+}
+
+some_param : Param typed_spec some_values
+some_param = record {
+  all_givens = refl;
+  nothing_else = refl;
+  have_meaning = refl;
+  not_below_0 = refl;
+  are_members = refl;
+  needs_hold = refl;
+}
+
+-- Behind all statements the given and the finds have their values, the letting has none.
+its_end_values : HasEndValues typed_spec some_values some_finds
+its_end_values = typed-has-end-values typed_spec some_values some_finds refl some_param
+
+k_behind : look (env_of typed_spec some_values some_finds).vals (codes "k") ≡ Some (v 2)
+k_behind = refl
+
+e_behind : look (env_of typed_spec some_values some_finds).vals (codes "e") ≡ Some (item (codes "E") 2)
+e_behind = refl
+
+two_behind : look (env_of typed_spec some_values some_finds).vals (codes "two") ≡ None
+two_behind = refl
+
+-- The names that get values, and the values of a type of the specification.
+valued_names : valued_in (given (codes "k") bool_dom ∷ let_enum (codes "T") (codes "x" ∷ codes "y" ∷ []) ∷ find (codes "b") bool_dom ∷ []) ≡
+    codes "k" ∷ codes "x" ∷ codes "y" ∷ codes "b" ∷ []
+valued_names = refl
+
+items_behind : AreItems (env_of (let_enum (codes "T") (codes "x" ∷ codes "y" ∷ []) ∷ []) some_values some_finds) (codes "T") 1
+    (codes "x" ∷ codes "y" ∷ [])
+items_behind = (refl, (refl, tt))

@@ -9,7 +9,7 @@ use Rattle.ess_semantics.specs.NameTokens.{are_name_tokens}
 use Rattle.ess_semantics.specs.Trees.{Stm, given, given_enum, let_ex, let_dom, let_enum, let_unnamed, needs, find, such_that, minimise, maximise}
 use Rattle.ess_semantics.specs.Assignments.{Assignment, nothing_given, placed, unnamed_sizes, unnamed_names}
 use Rattle.ess_semantics.specs.Parameters.{Param, all_declared, given_of, given_enum_of, first_extra_type, first_extra_value, givens, given_enums, is_extra_type, is_accepted, are_new, taken_value_names}
-use Rattle.ess_semantics.proofs.Tests.{and-right, or-right-no, not-true, or-yes}
+use Rattle.ess_semantics.proofs.Tests.{and-left, and-right, or-right-no, not-true, or-yes}
 use Rattle.ess_semantics.proofs.Texts.{same_text-equal}
 use Rattle.conjure_laws.specs.Members.{In}
 use Rattle.conjure_laws.proofs.Lists.{in-left, in-right, in-either}
@@ -44,29 +44,31 @@ new-apart D taken ns w h a i =
     (not-true (list_any (is_among taken) ns) (and-right (are_name_tokens ns && all_distinct ns) (not (list_any (is_among taken) ns)) h))
     (w a i)
 
-fresh-type : (gs es : List Text) (us : Names ℕ) (D : List Text) (ts : Names (List Text)) (done taken : List Text) →
-    first_extra_type gs es us ts done taken ≡ None → Within D taken → (t : Text) → is_among gs t ≡ true → is_among es t ≡ true →
-    Apart D (list_or_none (look ts t))
-fresh-type gs es us D [] done taken e w t g s = λ a i. refl
-fresh-type gs es us D (u ∷ ts) done taken e w t g s =
-    go (is_extra_type gs es us done taken u.0 u.1) refl e (λ e. fresh-type gs es us D ts (u.0 ∷ done) (u.1 ++ taken) e more t g s)
-  where
-    more : Within D (u.1 ++ taken)
-    more x i = among-append u.1 taken x ∙ ap (λ b. is_among u.1 x || b) (w x i) ∙ or-yes (is_among u.1 x)
+-- What holds of names that are new, and of none, holds of the names of the values of a given type.
+module _ (D : List Text) (Q : List Text → Type 0) (none : Q [])
+    (new : (taken ns : List Text) → Within D taken → are_new ns taken ≡ true → Q ns) where
+  fresh-type : (gs es : List Text) (us : Names ℕ) (ts : Names (List Text)) (done taken : List Text) →
+      first_extra_type gs es us ts done taken ≡ None → Within D taken → (t : Text) → is_among gs t ≡ true → is_among es t ≡ true →
+      Q (list_or_none (look ts t))
+  fresh-type gs es us [] done taken e w t g s = none
+  fresh-type gs es us (u ∷ ts) done taken e w t g s =
+      go (is_extra_type gs es us done taken u.0 u.1) refl e (λ e. fresh-type gs es us ts (u.0 ∷ done) (u.1 ++ taken) e more t g s)
+    where
+      more : Within D (u.1 ++ taken)
+      more x i = among-append u.1 taken x ∙ ap (λ b. is_among u.1 x || b) (w x i) ∙ or-yes (is_among u.1 x)
 
-    go : (b : Bool) → is_extra_type gs es us done taken u.0 u.1 ≡ b →
-        (if b then Some u.0 else first_extra_type gs es us ts (u.0 ∷ done) (u.1 ++ taken)) ≡ None →
-        (first_extra_type gs es us ts (u.0 ∷ done) (u.1 ++ taken) ≡ None → Apart D (list_or_none (look ts t))) →
-        Apart D (list_or_none (look (u ∷ ts) t))
-    go true q e k = cc
-    go false q e k = at (same_text u.0 t) refl
-      where
-        at : (b : Bool) → same_text u.0 t ≡ b → Apart D (list_or_none (if b then Some u.1 else look ts t))
-        at true r =
-            let n : u.0 ≡ t = same_text-equal u.0 t r in
-            new-apart D taken u.1 w
-            (names-are-new gs es us done taken u.0 u.1 q (ap (is_among gs) n ∙ g) (ap (is_among es) n ∙ s))
-        at false r = k e
+      go : (b : Bool) → is_extra_type gs es us done taken u.0 u.1 ≡ b →
+          (if b then Some u.0 else first_extra_type gs es us ts (u.0 ∷ done) (u.1 ++ taken)) ≡ None →
+          (first_extra_type gs es us ts (u.0 ∷ done) (u.1 ++ taken) ≡ None → Q (list_or_none (look ts t))) →
+          Q (list_or_none (look (u ∷ ts) t))
+      go true q e k = cc
+      go false q e k = at (same_text u.0 t) refl
+        where
+          at : (b : Bool) → same_text u.0 t ≡ b → Q (list_or_none (if b then Some u.1 else look ts t))
+          at true r =
+              let n : u.0 ≡ t = same_text-equal u.0 t r in
+              new taken u.1 w (names-are-new gs es us done taken u.0 u.1 q (ap (is_among gs) n ∙ g) (ap (is_among es) n ∙ s))
+          at false r = k e
 
 no-else : (o q : Option Text) → not (is_some (or_else o q)) ≡ true → o ≡ None
 no-else None q e = refl
@@ -94,16 +96,32 @@ given-too (s ∷ S) t i = go (in-either t (given_enum_of s) (given_enums S) i) (
     go (inl j) k = in-left t (given_of s) (givens S) (one-too s t j)
     go (inr j) k = in-right t (given_of s) (givens S) (k j)
 
--- In a parameter no value of a given enumerated type has a declared name.
-pub given-names-new : (S : List Stm) (p : Assignment) → Param S p → (t : Text) → In t (given_enums S) →
-    Apart (all_declared S) (list_or_none (look p.types t))
-given-names-new S p P t i =
+-- So in a parameter.
+of-given-names : (S : List Stm) (p : Assignment) → Param S p → (Q : List Text → Type 0) → Q [] →
+    ((taken ns : List Text) → Within (all_declared S) taken → are_new ns taken ≡ true → Q ns) → (t : Text) → In t (given_enums S) →
+    Q (list_or_none (look p.types t))
+of-given-names S p P Q none new t i =
     let us : Names ℕ = unnamed_sizes (placed S p nothing_given) in
     let D : List Text = all_declared S in
     let taken : List Text = taken_value_names S us in
     let e = no-else (first_extra_type (givens S) (given_enums S) us p.types [] taken) (first_extra_value (givens S) p.vals (keys p.types))
     P.nothing_else in
-    fresh-type (givens S) (given_enums S) us D p.types [] taken e
+    fresh-type D Q none new (givens S) (given_enums S) us p.types [] taken e
     (λ x j. among-append D (append_all (map (λ u. unnamed_names u.0 1 u.1) us)) x
     ∙ ap (λ b. b || is_among (append_all (map (λ u. unnamed_names u.0 1 u.1) us)) x) j)
     t (in-among (givens S) t (given-too S t i)) (in-among (given_enums S) t i)
+
+-- In a parameter no value of a given enumerated type has a declared name.
+pub given-names-new : (S : List Stm) (p : Assignment) → Param S p → (t : Text) → In t (given_enums S) →
+    Apart (all_declared S) (list_or_none (look p.types t))
+given-names-new S p P t i =
+    of-given-names S p P (Apart (all_declared S)) (λ a j. refl) (λ taken ns w h. new-apart (all_declared S) taken ns w h) t i
+
+-- And their names can be spelled.
+pub given-names-spelled : (S : List Stm) (p : Assignment) → Param S p → (t : Text) → In t (given_enums S) →
+    are_name_tokens (list_or_none (look p.types t)) ≡ true
+given-names-spelled S p P t i =
+    of-given-names S p P (λ ns. are_name_tokens ns ≡ true) refl
+    (λ taken ns w h. and-left (are_name_tokens ns) (all_distinct ns)
+    (and-left (are_name_tokens ns && all_distinct ns) (not (list_any (is_among taken) ns)) h))
+    t i

@@ -64,12 +64,13 @@ value-past x (Some v) g a e = sym (ap (λ b. if b then Some v else look g a) e)
 type-past : (t : TypeEntry) (ts : List TypeEntry) (a : Text) → same_text t.name a ≡ false → type_entry ts a ≡ type_entry (t ∷ ts) a
 type-past t ts a e = sym (ap (λ b. elim b [ true ↦ Some t | false ↦ type_entry ts a ]) e)
 
-item-keys : (t : Text) (k : ℕ) (ns : List Text) → keys (enum_items t k ns) ≡ ns
+pub item-keys : (t : Text) (k : ℕ) (ns : List Text) → keys (enum_items t k ns) ≡ ns
 item-keys t k [] = refl
 item-keys t k (n ∷ ns) = ap (λ l. n ∷ l) (item-keys t (suc k) ns)
 
 -- Nor do values of other names.
-items-past : (t : Text) (ns : List Text) (g : Names Value) (a : Text) → is_among ns a ≡ false → look g a ≡ look (enum_items t 1 ns ++ g) a
+pub items-past : (t : Text) (ns : List Text) (g : Names Value) (a : Text) → is_among ns a ≡ false →
+    look g a ≡ look (enum_items t 1 ns ++ g) a
 items-past t ns g a e = sym (look-right (enum_items t 1 ns) g a (ap (λ l. is_among l a) (item-keys t 1 ns) ∙ e))
 
 same-env : (ns : List Text) (env : Env) → Agrees ns env env
@@ -80,7 +81,7 @@ not-it : (b : Bool) → b || false ≡ false → b ≡ false
 not-it true h = cc
 not-it false h = refl
 
-one-agrees : (w : Stm) (s : Scope) (p a : Assignment) (env : Env) →
+pub one-agrees : (w : Stm) (s : Scope) (p a : Assignment) (env : Env) →
     Agrees (added p w) env (env_after (resolve_stm (put_in_scope w s) s.tys) p a env)
 one-agrees (given x d) s p a env =
     record { positions = refl; cells = refl; vals = λ y h. value-past x _ env.vals y (not-it (same_text x y) h); types = λ y h. refl }

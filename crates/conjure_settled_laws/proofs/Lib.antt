@@ -8,4 +8,6 @@ pub mod FixedParts
 pub mod StaysLater
 pub mod JudgedStatements
 pub mod SettledStatements
+pub mod EndValues
+pub mod NamesInUse
 mod ExamplesSettled

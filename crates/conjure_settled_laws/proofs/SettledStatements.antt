@@ -32,32 +32,32 @@ use Rattle.conjure_settled_laws.proofs.JudgedStatements.{type_parts, has-type, l
 neither : (xs ys : List Text) (a : Text) → is_among xs a ≡ false → is_among ys a ≡ false → is_among (xs ++ ys) a ≡ false
 neither xs ys a e f = among-append xs ys a ∙ ap (λ b. b || is_among ys a) e ∙ f
 
-either : (b c d : Bool) → (b ≡ true → d ≡ true) → (c ≡ true → d ≡ true) → b || c ≡ true → d ≡ true
+pub either : (b c d : Bool) → (b ≡ true → d ≡ true) → (c ≡ true → d ≡ true) → b || c ≡ true → d ≡ true
 either true c d f g h = f refl
 either false c d f g h = g h
 
 -- No name in scope is declared by a statement as it was written.
-none-declared : (w : Stm) (s : Scope) → names_are_new w s ≡ true → list_any (is_among (names_in_scope s)) (declares w) ≡ false
+pub none-declared : (w : Stm) (s : Scope) → names_are_new w s ≡ true → list_any (is_among (names_in_scope s)) (declares w) ≡ false
 none-declared w s h =
     let a = and-left _ _ (and-left _ _ (and-left _ _ h)) in
     not-true (list_any (is_among (names_in_scope s)) (declares w))
     (and-right (all_distinct (declares w)) (not (list_any (is_among (names_in_scope s)) (declares w))) a)
 
 -- The statements from a place on, prepared.
-abbrev from_place : List Stm → Scope → List Stm
+abbrev pub from_place : List Stm → Scope → List Stm
 from_place ws s = resolve_all (put_all ws s.lets s.tys) s.tys
 
 module _ (S : List Stm) (p : Assignment) (P : Param S p) where
-  abbrev D : List Text
+  abbrev pub D : List Text
   D = all_declared S
 
   -- A place in the specification: what its later statements declare, and what is in scope, the specification declares.
-  record At (ws : List Stm) (s : Scope) : Type 0 where
-    ahead : (a : Text) → is_among (all_declared ws) a ≡ true → is_among D a ≡ true
-    enums : (t : Text) → In t (given_enums ws) → In t (given_enums S)
-    inside : (a : Text) → is_among (names_in_scope s) a ≡ true → is_among D a ≡ true
+  pub record At (ws : List Stm) (s : Scope) : Type 0 where
+    pub ahead : (a : Text) → is_among (all_declared ws) a ≡ true → is_among D a ≡ true
+    pub enums : (t : Text) → In t (given_enums ws) → In t (given_enums S)
+    pub inside : (a : Text) → is_among (names_in_scope s) a ≡ true → is_among D a ≡ true
 
-  next : (w : Stm) (ws : List Stm) (s : Scope) → At (w ∷ ws) s → At ws (scope_after (put_in_scope w s) s)
+  pub next : (w : Stm) (ws : List Stm) (s : Scope) → At (w ∷ ws) s → At ws (scope_after (put_in_scope w s) s)
   next w ws s h = record {
     ahead = λ a i. h.ahead a (among-append (declares w) (all_declared ws) a ∙ ap (λ b. is_among (declares w) a || b) i
         ∙ or-yes (is_among (declares w) a));
@@ -67,21 +67,23 @@ module _ (S : List Stm) (p : Assignment) (P : Param S p) where
         (h.inside a) (sym (scope-grows w s a) ∙ i);
   }
 
-  given-outside : (w : Stm) (ws : List Stm) (s : Scope) → At (w ∷ ws) s → AreOutside (given_values p w) s
-  given-outside (given_enum t) ws s h a i = given-names-new S p P t (h.enums t (inl refl)) a (h.inside a i)
-  given-outside (given x d) ws s h a i = refl
-  given-outside (let_ex x e) ws s h a i = refl
-  given-outside (let_dom x d) ws s h a i = refl
-  given-outside (let_enum t ns) ws s h a i = refl
-  given-outside (let_unnamed t e) ws s h a i = refl
-  given-outside (needs e) ws s h a i = refl
-  given-outside (find x d) ws s h a i = refl
-  given-outside (such_that e) ws s h a i = refl
-  given-outside (minimise e) ws s h a i = refl
-  given-outside (maximise e) ws s h a i = refl
+  -- A value of a given type has no declared name.
+  pub given-apart : (w : Stm) (ws : List Stm) (s : Scope) → At (w ∷ ws) s → (a : Text) → is_among D a ≡ true →
+      is_among (given_values p w) a ≡ false
+  given-apart (given_enum t) ws s h a i = given-names-new S p P t (h.enums t (inl refl)) a i
+  given-apart (given x d) ws s h a i = refl
+  given-apart (let_ex x e) ws s h a i = refl
+  given-apart (let_dom x d) ws s h a i = refl
+  given-apart (let_enum t ns) ws s h a i = refl
+  given-apart (let_unnamed t e) ws s h a i = refl
+  given-apart (needs e) ws s h a i = refl
+  given-apart (find x d) ws s h a i = refl
+  given-apart (such_that e) ws s h a i = refl
+  given-apart (minimise e) ws s h a i = refl
+  given-apart (maximise e) ws s h a i = refl
 
   -- The statements from a place on add no name that is in scope there.
-  outside : (k : ℕ) (ws : List Stm) (s : Scope) → first_fault k ws s ≡ None → At ws s → AreOutside (all_added p ws) s
+  pub outside : (k : ℕ) (ws : List Stm) (s : Scope) → first_fault k ws s ≡ None → At ws s → AreOutside (all_added p ws) s
   outside k [] s e h a i = refl
   outside k (w ∷ ws) s e h a i =
       let t : Stm = put_in_scope w s in
@@ -89,12 +91,12 @@ module _ (S : List Stm) (p : Assignment) (P : Param S p) where
       let j = judged w t s n.0 in
       neither (added p w) (all_added p ws) a
       (neither (declares w) (given_values p w) a (none-shared (names_in_scope s) (declares w) a (none-declared w s j.new) i)
-      (given-outside w ws s h a i))
+      (given-apart w ws s h a (h.inside a i)))
       (outside (suc k) ws (scope_after t s) n.1 (next w ws s h) a
       (scope-grows w s a ∙ ap (λ b. is_among (declares w) a || b) i ∙ or-yes (is_among (declares w) a)))
 
   module _ (a : Assignment) where
-    expression-settled : (e : Ex) (w : Stm) (ws : List Stm) (s : Scope) (env : Env) → every type_parts e s && true ≡ true →
+    pub expression-settled : (e : Ex) (w : Stm) (ws : List Stm) (s : Scope) (env : Env) → every type_parts e s && true ≡ true →
         every known_parts e s && true ≡ true → AreOutside (all_added p (w ∷ ws)) s →
         env_behind (from_place (w ∷ ws) s) p a env ≡ env_of S p a → meaning (resolve e s.tys) env ≡ meaning (resolve e s.tys) (env_of S p a)
     expression-settled e w ws s env t k n b =
@@ -148,7 +150,7 @@ module _ (S : List Stm) (p : Assignment) (P : Param S p) where
         )
 
   -- The start of the specification.
-  start : At S empty_scope
+  pub start : At S empty_scope
   start = record { ahead = λ a i. i; enums = λ t i. i; inside = λ a i. cc }
 
 is-clean : (S : List Stm) → fault S ≡ None → is_well_typed S ≡ true

@@ -4,4 +4,6 @@ pub mod JudgedFlags
 pub mod TypedByTypes
 pub mod ReadStatements
 pub mod ReadyHeaders
+pub mod KnownPlans
+pub mod FittingCells
 mod ExamplesReady

@@ -1,2 +1,4 @@
+-- What is known of plans
+pub mod PlanFacts
 -- Laws
 pub mod Laws
