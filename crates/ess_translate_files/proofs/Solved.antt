@@ -9,17 +9,22 @@ use Rattle.ess_semantics.specs.DeclaredTables.{TableDecl, decl_name, DeclaredAs}
 use Rattle.ess_semantics.specs.ModelTrees.{Header, Model, all_decls}
 use Rattle.ess_semantics.specs.ModelMeaning.{model_domain}
 use Rattle.ess_semantics.specs.Assignments.{Assignment}
-use Rattle.ess_semantics.specs.Plans.{finds_side, declared_under, table_list}
+use Rattle.ess_semantics.specs.Plans.{finds_side, declared_under, table_list, plans_for}
 use Rattle.ess_semantics.specs.Satisfaction.{Sat, tables_fit}
 use Rattle.ess_semantics.specs.Parameters.{Param}
+use Rattle.ess_semantics.specs.Contexts.{Each}
+use Rattle.ess_core.specs.declared.tables.Cells.{Cells}
+use Rattle.ess_core.specs.TableViews.{pure_named_table, pure_cells}
 use Rattle.ess_domains.specs.Assignments.{pure_assignment}
-use Rattle.conjure_laws.specs.Premises.{tables_are}
+use Rattle.conjure_laws.specs.Premises.{here, tables_are}
 use Rattle.conjure_laws.proofs.NamedTables.{fit-are, are-long}
 use Rattle.ess_translate_tables_laws.specs.HeaderTables.{DeclaresTables}
 use Rattle.ess_translate_members_laws.specs.DeclaresMembers.{DeclaresMembers}
+use Rattle.ess_translate_values_laws.specs.ReadyPlans.{IsReady}
+use Rattle.ess_translate_values_laws.proofs.ReadyFinds.{finds_ready}
 use Rattle.ess_translate_files.specs.declared.models.ModelFile.{ModelFile}
 use Rattle.ess_translate_files.specs.declared.givens.Given.{Given}
-use Rattle.ess_translate_files.specs.Wholes.{file_header, IsGivenFor}
+use Rattle.ess_translate_files.specs.Wholes.{file_header, file_model, IsWhole, IsGivenFor}
 use Rattle.ess_translate_files.proofs.Refused.{is_param}
 
 -- The items of a list beside as many names.
@@ -64,3 +69,16 @@ fitting_tables_are H E p q c D s =
 -- What is given is a parameter of the header.
 pub given_param : (m : ModelFile) (g : Given) → IsGivenFor m g → Param (file_header m).statements (pure_assignment g.param)
 given_param m g h = is_param (file_header m).statements h.text h.file (pure_assignment g.param) h.given.parameter
+
+-- The plans of the finds are ready at tables that satisfy the model.
+pub finds_of_file_ready : (m : ModelFile) (g : Given) (c : Cells) → IsWhole m → IsGivenFor m g →
+    Sat (file_model m) (pure_cells g.tables) (pure_cells c) →
+    Each (plans_for finds_side (file_header m).statements (file_header m).reprs)
+    (IsReady (here (file_header m).statements (pure_assignment g.param)) (map pure_named_table c.list))
+finds_of_file_ready m g c w h s =
+    let H = file_header m in
+    let E = file_model m in
+    let p = pure_assignment g.param in
+    finds_ready H p (pure_cells c) w.header.ours w.ready (given_param m g h)
+    (fitting_tables_named H E p (pure_cells g.tables) (pure_cells c) w.tables h.given.has.members s)
+    (fitting_tables_are H E p (pure_cells g.tables) (pure_cells c) h.given.has.members s)

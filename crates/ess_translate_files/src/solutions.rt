@@ -8,7 +8,7 @@ ghost use Rattle.ess_semantics.specs.Solutions.{finds};
 ghost use Rattle.ess_core.specs.StatementViews.{pure_stm};
 ghost use Rattle.ess_core.specs.TableViews.{pure_cells};
 ghost use Rattle.ess_domains.specs.Assignments.{pure_assignment};
-ghost use Rattle.ess_translate_values.specs.Views.{pure_stood};
+ghost use Rattle.ess_translate_values.specs.StoodValues.{pure_stood};
 ghost use Rattle.ess_translate_files.specs.CellFiles.{AreCells, IsSolved, IsNotSolved, first_without, IsWithout};
 ghost use Rattle.ess_translate_files.specs.Refusals.{cells_no};
 ghost use Rattle.ess_translate_files.specs.Wholes.{file_header, file_model, IsWhole, IsGivenFor};
@@ -104,7 +104,7 @@ fn pass_model(
 }
 
 /// The values of the finds for which tables stand.
-#[tactic(auto, using(crate::proofs::Solved::fitting_tables_are, crate::proofs::Solved::fitting_tables_named, crate::proofs::Solved::given_param))]
+#[tactic(auto, using(crate::proofs::Solved::finds_of_file_ready))]
 fn values_in(
     alloc: Global,
     file: &ModelFile,

@@ -1,5 +1,5 @@
 use Rattle.std.proofs.Common.{◌≡◌, map, drop}
-use Rattle.ess_translate_values.specs.Views.{pure_stood}
+use Rattle.ess_translate_values.specs.StoodValues.{pure_stood}
 use Rattle.ess_translate_files.specs.CellFiles.{first_without}
 use Rattle.ess_translate_files.proofs.solutions.without_value.Given as goal
 
