@@ -21,6 +21,7 @@ use Rattle.ess_domains_cells.specs.Kept.{kept}
 use Rattle.ess_eval.specs.declared.calls.EvalNo.{EvalNo}
 use Rattle.ess_translate.specs.declared.refusal.TransNo.{TransNo}
 use Rattle.ess_translate.specs.Answers.{IsParameter, IsNoParameter}
+use Rattle.ess_translate_given.specs.KeptCounts.{kept_beside}
 use Rattle.ess_translate_files.specs.Refusals.{eval_no}
 use Rattle.ess_translate_files.specs.GivenFiles.{IsLargeFor, HasNoTables, IsNotGiven}
 
@@ -85,7 +86,7 @@ domains_refused H E env Ps r EvalNo.Undefined e f g p h = tt
 domains_refused H E env Ps r (EvalNo.TooManyCells n) e f g p h = tt
 
 -- A name with too many cells, whose number is kept.
-pub too_many_kept : (m : Option (Text × ℕ)) (x : Text) (k : ℕ) → Some (x, k) ≡ option_map (λ y. (y.0, kept y.1)) m →
+pub too_many_kept : (m : Option (Text × ℕ)) (x : Text) (k : ℕ) → Some (x, k) ≡ option_map kept_beside m →
     (n : ℕ) × (m ≡ Some (x, n)) × (k ≡ kept n)
 too_many_kept None x k e = cc
 too_many_kept (Some (y, n)) x k e =
@@ -94,7 +95,7 @@ too_many_kept (Some (y, n)) x k e =
     (n, ap (λ z. Some (z, n)) (sym a), b)
 
 -- No name has too many.
-pub none_too_many : (m : Option (Text × ℕ)) → None ≡ option_map (λ y. (y.0, kept y.1)) m → m ≡ None
+pub none_too_many : (m : Option (Text × ℕ)) → None ≡ option_map kept_beside m → m ≡ None
 none_too_many None e = refl
 none_too_many (Some y) e = cc
 
