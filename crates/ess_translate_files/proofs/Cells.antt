@@ -75,7 +75,7 @@ cells_refused H m p q text CellsNo.NoMemory e f u l = tt
 -- Cells under which a constraint is false.
 pub false_refused : (H : Header) (E : Model) (p : Assignment) (q c : Names Table) (text : Text) (n : ℕ) → AreCells E q text c →
     IsVerdict (PVerdict.False n) (model_verdict E q c) → IsNotSolved H E p q text (TransNo.Unsatisfied (PVerdict.False n))
-false_refused H E p q c text n a v = (a.literals, a.spells, c, a.are, v)
+false_refused H E p q c text n a v = (a.literals, a.spells, (c, a.are, v))
 
 -- Cells under which a number lies outside 64 bits.
 pub large_refused : (H : Header) (E : Model) (p : Assignment) (q c : Names Table) (text : Text) → AreCells E q text c →

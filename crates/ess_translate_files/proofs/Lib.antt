@@ -1,4 +1,5 @@
 -- Models, refusals, the lines of a solution, cells, and tables that satisfy a model
+pub mod Transported
 pub mod ReadModels
 pub mod Refused
 pub mod SolutionLines

@@ -45,6 +45,13 @@ file_read text h m f H s a b w = record {
   tables = w.tables;
 }
 
+-- The file that is answered, where one is.
+pub file_in : (text : Text) (h : Header) (m : PModel) (r : Result ModelFile TransNo) → HasHeader text (pure_header h) →
+    Spells IsModel text (pure_model m) → IfOk r (λ f. f.header ≡ h) → IfOk r (λ f. f.model ≡ m) → IfOk r IsWhole →
+    IfOk r (λ f. IsModelFile text (file_header f) (file_model f))
+file_in text h m (Ok f) H s a b w = file_read text h m f H s a b w
+file_in text h m (Err why) H s a b w = tt
+
 -- A text whose model is refused behind its header.
 pub model_refused : (text : Text) (h : Header) (why : ReadNo) → HasHeader text (pure_header h) → IsReadAs {T = PModel} IsModel pure_model text (Err why) →
     IsNoModelFile text (read_no Which.Model why)

@@ -5,7 +5,6 @@ use Rattle.std.specs.declared.result.Result.{Result}
 use Rattle.std.specs.List.{list_any}
 use Rattle.ess_semantics.specs.Values.{Text}
 use Rattle.ess_semantics.specs.Trees.{Stm}
-use Rattle.ess_semantics.specs.Lists.{or_default}
 use Rattle.ess_semantics.specs.Names.{Names}
 use Rattle.ess_semantics.specs.Tables.{Table}
 use Rattle.ess_semantics.specs.Meaning.{Env}
@@ -68,6 +67,17 @@ no_tables H E text F p (TransNo.NotRepresented x) i h = absurd h
 no_tables H E text F p TransNo.Big i h = (F, i.spells, subst (IsLargeFor H E) i.stands h)
 no_tables H E text F p TransNo.NoMemory i h = tt
 
+-- The same of a parameter that some lettings give.
+pub no_tables_of : (H : Header) (E : Model) (text : Text) (p : Assignment) (why : TransNo) →
+    ((F : List Stm) × IsParameter H.statements text F p) → HasNoTables H E p why → IsNotGiven H E text why
+no_tables_of H E text p why i h = no_tables H E text i.0 p why i.1 h
+
+-- The same where the domains of plans aren't there.
+pub no_domains_of : (H : Header) (E : Model) (text : Text) (p : Assignment) (env : Env) (why : TransNo) →
+    ((F : List Stm) × IsParameter H.statements text F p) → env ≡ env_of H.statements p nothing_given →
+    ((a : Assignment) → env ≡ env_of H.statements a nothing_given → HasNoTables H E a why) → IsNotGiven H E text why
+no_domains_of H E text p env why i e h = no_tables H E text i.0 p why i.1 (h p e)
+
 -- Why the env of a parameter isn't there.
 pub env_refused : {A : Type 0} (H : Header) (E : Model) (p : Assignment) (r : Result A EvalNo) (why : EvalNo) → r ≡ Err why →
     (r ≡ Err EvalNo.Big → parameter_is_large H.statements p ≡ true) → HasNoTables H E p (eval_no why)
@@ -85,17 +95,20 @@ domains_refused H E env Ps r EvalNo.NoMemory e f g p h = tt
 domains_refused H E env Ps r EvalNo.Undefined e f g p h = tt
 domains_refused H E env Ps r (EvalNo.TooManyCells n) e f g p h = tt
 
+named_again : (y x : Text) (n : ℕ) → y ≡ x → ◌≡◌ {A = Option (Text × ℕ)} (Some (y, n)) (Some (x, n))
+named_again y x n refl = refl
+
 -- A name with too many cells, whose number is kept.
-pub too_many_kept : (m : Option (Text × ℕ)) (x : Text) (k : ℕ) → Some (x, k) ≡ option_map kept_beside m →
-    (n : ℕ) × (m ≡ Some (x, n)) × (k ≡ kept n)
+pub too_many_kept : (m : Option (Text × ℕ)) (x : Text) (k : ℕ) → ◌≡◌ {A = Option (Text × ℕ)} (Some (x, k)) (option_map kept_beside m) →
+    (n : ℕ) × (◌≡◌ {A = Option (Text × ℕ)} m (Some (x, n))) × (k ≡ kept n)
 too_many_kept None x k e = cc
 too_many_kept (Some (y, n)) x k e =
-    let a : x ≡ y = ap (λ o. (or_default o (x, k)).0) e in
-    let b : k ≡ kept n = ap (λ o. (or_default o (x, k)).1) e in
-    (n, ap (λ z. Some (z, n)) (sym a), b)
+    let a : x ≡ y = cc in
+    let b : k ≡ kept n = cc in
+    (n, named_again y x n (sym a), b)
 
 -- No name has too many.
-pub none_too_many : (m : Option (Text × ℕ)) → None ≡ option_map kept_beside m → m ≡ None
+pub none_too_many : (m : Option (Text × ℕ)) → ◌≡◌ {A = Option (Text × ℕ)} None (option_map kept_beside m) → m ≡ None
 none_too_many None e = refl
 none_too_many (Some y) e = cc
 

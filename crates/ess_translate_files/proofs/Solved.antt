@@ -1,5 +1,5 @@
 -- Tables that satisfy the model of a whole file are over the declared axes of the header, with items in the declared domains.
-use Rattle.std.proofs.Common.{◌≡◌, refl, sym, ap, ◌∙◌, true, List, [], ◌∷◌, map, length, ℕ, suc}
+use Rattle.std.proofs.Common.{◌≡◌, refl, sym, ap, ◌∙◌, true, List, [], ◌∷◌, map, length, ℕ, suc, option_map}
 use Rattle.ess_semantics.specs.Values.{Text}
 use Rattle.ess_semantics.specs.Names.{Names, keys}
 use Rattle.ess_semantics.specs.Lists.{zip}
@@ -8,20 +8,25 @@ use Rattle.ess_semantics.specs.Declarations.{Declaration}
 use Rattle.ess_semantics.specs.DeclaredTables.{TableDecl, decl_name, DeclaredAs}
 use Rattle.ess_semantics.specs.ModelTrees.{Header, Model, all_decls}
 use Rattle.ess_semantics.specs.ModelMeaning.{model_domain}
-use Rattle.ess_semantics.specs.Assignments.{Assignment}
-use Rattle.ess_semantics.specs.Plans.{finds_side, declared_under, table_list, plans_for}
+use Rattle.ess_semantics.specs.Trees.{Stm}
+use Rattle.ess_semantics.specs.Assignments.{Assignment, nothing_given, env_of}
+use Rattle.ess_semantics.specs.Plans.{finds_side, declared_under, table_list, plans, plans_for}
 use Rattle.ess_semantics.specs.Satisfaction.{Sat, tables_fit}
 use Rattle.ess_semantics.specs.Parameters.{Param}
 use Rattle.ess_semantics.specs.Contexts.{Each}
 use Rattle.ess_core.specs.declared.tables.Cells.{Cells}
-use Rattle.ess_core.specs.TableViews.{pure_named_table, pure_cells}
+use Rattle.ess_core.specs.TableViews.{pure_named_table, pure_cells, pure_env}
+use Rattle.ess_eval_domains.specs.ClosedViews.{pure_closed}
 use Rattle.ess_domains.specs.Assignments.{pure_assignment}
 use Rattle.conjure_laws.specs.Premises.{here, tables_are}
 use Rattle.conjure_laws.proofs.NamedTables.{fit-are, are-long}
 use Rattle.ess_translate_tables_laws.specs.HeaderTables.{DeclaresTables}
+use Rattle.ess_translate_members_laws.specs.PlanDomains.{plan_closed}
 use Rattle.ess_translate_members_laws.specs.DeclaresMembers.{DeclaresMembers}
 use Rattle.ess_translate_values_laws.specs.ReadyPlans.{IsReady}
 use Rattle.ess_translate_values_laws.proofs.ReadyFinds.{finds_ready}
+use Rattle.ess_translate.specs.Answers.{IsParameter}
+use Rattle.ess_translate_files.specs.GivenFiles.{HasTables}
 use Rattle.ess_translate_files.specs.declared.models.ModelFile.{ModelFile}
 use Rattle.ess_translate_files.specs.declared.givens.Given.{Given}
 use Rattle.ess_translate_files.specs.Wholes.{file_header, file_model, IsWhole, IsGivenFor}
@@ -82,3 +87,17 @@ finds_of_file_ready m g c w h s =
     finds_ready H p (pure_cells c) w.header.ours w.ready (given_param m g h)
     (fitting_tables_named H E p (pure_cells g.tables) (pure_cells c) w.tables h.given.has.members s)
     (fitting_tables_are H E p (pure_cells g.tables) (pure_cells c) h.given.has.members s)
+
+-- What is given for a file whose parameter is read.
+pub given_whole : (m : ModelFile) (text : Text) (g : Given) →
+    ((F : List Stm) × IsParameter (file_header m).statements text F (pure_assignment g.param)) →
+    pure_env g.env ≡ env_of (file_header m).statements (pure_assignment g.param) nothing_given →
+    map (option_map pure_closed) g.closed ≡ map (plan_closed (pure_env g.env)) (plans (file_header m).statements (file_header m).reprs) →
+    HasTables (file_header m) (file_model m) (pure_assignment g.param) (pure_cells g.tables) → IsGivenFor m g
+given_whole m text g i e d t = record {
+  text = text;
+  file = i.0;
+  given = record { parameter = i.1; has = t };
+  env = e;
+  closed = d ∙ ap (λ v. map (plan_closed v) (plans (file_header m).statements (file_header m).reprs)) e;
+}
