@@ -5,3 +5,4 @@ pub mod Refused
 pub mod SolutionLines
 pub mod Cells
 pub mod Solved
+pub mod Joined
