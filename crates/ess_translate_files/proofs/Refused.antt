@@ -1,5 +1,5 @@
 -- Refusals of the parts are refusals of a translation.
-use Rattle.std.proofs.Common.{◌≡◌, refl, sym, ap, ◌∙◌, subst, ℕ, Bool, true, false, ◌||◌, List, Option, Some, None, option_map, inl, inr}
+use Rattle.std.proofs.Common.{◌≡◌, refl, sym, ap, ◌∙◌, subst, ℕ, Bool, true, false, ◌||◌, List, [], Option, Some, None, option_map, inl, inr}
 use Rattle.std.specs.Prelude.{Err}
 use Rattle.std.specs.declared.result.Result.{Result}
 use Rattle.std.specs.List.{list_any}
@@ -95,6 +95,15 @@ domains_refused H E env Ps r EvalNo.NoMemory e f g p h = tt
 domains_refused H E env Ps r EvalNo.Undefined e f g p h = tt
 domains_refused H E env Ps r (EvalNo.TooManyCells n) e f g p h = tt
 
+-- The name and the number, where they are told.
+abbrev told_name : Option (Text × ℕ) → Text
+told_name None = []
+told_name (Some x) = x.0
+
+abbrev told_number : Option (Text × ℕ) → ℕ
+told_number None = 0
+told_number (Some x) = x.1
+
 named_again : (y x : Text) (n : ℕ) → y ≡ x → ◌≡◌ {A = Option (Text × ℕ)} (Some (y, n)) (Some (x, n))
 named_again y x n refl = refl
 
@@ -103,8 +112,8 @@ pub too_many_kept : (m : Option (Text × ℕ)) (x : Text) (k : ℕ) → ◌≡�
     (n : ℕ) × (◌≡◌ {A = Option (Text × ℕ)} m (Some (x, n))) × (k ≡ kept n)
 too_many_kept None x k e = cc
 too_many_kept (Some (y, n)) x k e =
-    let a : x ≡ y = cc in
-    let b : k ≡ kept n = cc in
+    let a : x ≡ y = ap told_name e in
+    let b : k ≡ kept n = ap told_number e in
     (n, named_again y x n (sym a), b)
 
 -- No name has too many.
