@@ -10,7 +10,7 @@ use Rattle.ess_semantics.specs.Contexts.{Each}
 use Rattle.ess_semantics.specs.Constants.{operand_count, drops_items, tree_constants, operand_constants, gens_constants, dom_constants}
 use Rattle.ess_guard_laws.specs.Origins.{Origin, is_number, is_sure}
 use Rattle.ess_guard_laws.specs.IndexDomains.{index_dom}
-use Rattle.ess_guard_laws.specs.Conditions.{unless, nil_ex, as_number, is_not_zero, is_above_zero, power_conditions, has_items, has_item, some_item, is_argument, agree, agree_all, function_conditions, have_members, are_disjoint, is_single_set, partition_conditions, has_size, matrix_conditions, in_dom, at_step, index_conditions, path_conditions, own}
+use Rattle.ess_guard_laws.specs.Conditions.{unless, nil_ex, as_number, is_not_zero, is_above_zero, power_conditions, has_items, has_item, some_item, is_argument, agree, agree_all, function_conditions, have_members, are_disjoint, is_single_set, partition_conditions, has_size, matrix_conditions, members_of, in_dom, at_step, index_conditions, path_conditions, own}
 use Rattle.ess_guard_laws.proofs.ConstantRows as R
 use Rattle.ess_guard_laws.proofs.ConstantRows.{each-append, each-left, each-right}
 
@@ -149,8 +149,8 @@ module _ (P : ℤ → Type 0) (p0 : P (pos 0)) (p1 : P (pos 1)) where
       two false (ex2 true Op2.Le (as_number [] a) i) (ex2 true Op2.Le i (as_number [] b))
       (two false (as_number [] a) i (number-in [] a (first false a (more_exs b no_exs) l)) m)
       (two false i (as_number [] b) m (number-in [] b (first false b no_exs (rest false a (more_exs b no_exs) l))))
-  in-dom-in x i d m l = two false i (comp_ex (name_ex x) (over (name_pat x) d no_gens)) m
-      (comp false (name_ex x) (over (name_pat x) d no_gens) tt (each-append (dom_constants d) [] P l tt))
+  in-dom-in x i d m l = two false i (members_of x d) m (one false (comp_ex (name_ex x) (over (name_pat x) d no_gens))
+      (comp false (name_ex x) (over (name_pat x) d no_gens) tt (each-append (dom_constants d) [] P l tt)))
 
   one-index-in : (k : Names Origin) (x : Text) (d : Option Dom) (m i : Ex) → R.OptDom P p0 p1 d → Tree false m → Tree false i →
       InEach (index_conditions k x d m i)

@@ -19,6 +19,7 @@ use Rattle.ess_semantics.specs.Meaning.{Env, meaning, meanings, items_under, dom
 use Rattle.ess_semantics.specs.Constants.{operand_count}
 use Rattle.ess_semantics.proofs.Orders.{to_list-of_list, same-itself, same-equal, same_int-equal, same_int-itself}
 use Rattle.ess_semantics.proofs.Sorting.{all-holds}
+use Rattle.ess_guard_laws.proofs.SetMembers.{set-member}
 use Rattle.ess_semantics.proofs.MemberLists.{integers-listed}
 use Rattle.ess_semantics.proofs.Tests.{and-left, and-right, and-both}
 use Rattle.ess_rules_laws.proofs.Agreement.{look-itself}
@@ -103,7 +104,8 @@ member-holds x i (int_dom (both_ends ∷ []) (more_exs a (more_exs b no_exs))) e
     go (Some v) (Some u) f g r =
         let l = listed-number (number_in v) (number_in u) w is r h in
         range-holds x i a b env v u l.0 f g (p ∙ ap Some l.1) l.2 l.3
-member-holds x i d env w is p e h = listed-member x i d env w is p e h
+member-holds x i d env w is p e h =
+    set-member i (comp_ex (name_ex x) (over (name_pat x) d no_gens)) env ∙ listed-member x i d env w is p e h
 
 -- ---- lists
 

@@ -1,6 +1,7 @@
 pub mod Holding
 pub mod NumberForms
 pub mod NumberRows
+pub mod SetMembers
 pub mod ItemRows
 pub mod CountRows
 pub mod LiteralRows

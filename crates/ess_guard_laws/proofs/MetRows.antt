@@ -13,7 +13,7 @@ use Rattle.ess_semantics.specs.Constants.{operand_count}
 use Rattle.ess_rules_laws.proofs.Bindings.{each-of-map, each-in-map}
 use Rattle.ess_guard_laws.specs.Origins.{Origin, is_number, is_sure}
 use Rattle.ess_guard_laws.specs.IndexDomains.{item_dom, dom_behind, dom_followed, first_index, are_plain_bounds, plain_axis, index_dom}
-use Rattle.ess_guard_laws.specs.Conditions.{conds, chained, all_of, every, given_that, unless, nil_ex, as_number, is_not_zero, is_above_zero, power_conditions, has_items, has_item, some_item, is_argument, agree, agree_all, function_conditions, have_members, are_disjoint, is_single_set, partition_conditions, has_size, matrix_conditions, in_dom, at_step, index_conditions, path_conditions, own}
+use Rattle.ess_guard_laws.specs.Conditions.{conds, chained, all_of, every, given_that, unless, nil_ex, as_number, is_not_zero, is_above_zero, power_conditions, has_items, has_item, some_item, is_argument, agree, agree_all, function_conditions, have_members, are_disjoint, is_single_set, partition_conditions, has_size, matrix_conditions, members_of, in_dom, at_step, index_conditions, path_conditions, own}
 
 -- ---- conditions
 
@@ -176,7 +176,8 @@ matrix-met x es d env m = met-unless (has_size d (operand_count es)) _ env
 in-dom-met : (x : Text) (i : Ex) (d : Dom) (env : Env) → Meets i env → MeetsDom d env → Meets (in_dom x i d) env
 in-dom-met x i (int_dom (both_ends ∷ []) (more_exs a (more_exs b no_exs))) env m l =
     two-met true (binary Op2.And) (ex2 true Op2.Le (as_number [] a) i) (ex2 true Op2.Le i (as_number [] b)) env (two-met true (binary Op2.Le) (as_number [] a) i env (number-met [] a env l.0) m) (two-met true (binary Op2.Le) i (as_number [] b) env m (number-met [] b env l.1.0))
-in-dom-met x i d env m l = two-met true (binary Op2.Member) i (comp_ex (name_ex x) (over (name_pat x) d no_gens)) env m (over-any-met x (name_ex x) d env l (λ h. tt))
+in-dom-met x i d env m l = two-met true (binary Op2.Member) i (members_of x d) env m
+    (one-met false (word Fun.ToSet) (comp_ex (name_ex x) (over (name_pat x) d no_gens)) env (over-any-met x (name_ex x) d env l (λ h. tt)))
 
 -- What is met of a domain that may be there.
 abbrev DomMet : Option Dom → Env → Type 0

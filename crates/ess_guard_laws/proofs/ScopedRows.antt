@@ -246,7 +246,7 @@ module _ (z : Text → Bool) where
     in-dom-scoped : (i : Ex) (d : Dom) → Scoped z s o i → ScopedDom z s o d → Scoped z s o (in_dom x i d)
     in-dom-scoped i (int_dom (both_ends ∷ []) (more_exs a (more_exs b no_exs))) m l =
         ((number-scoped [] a l.0, (m, tt)), ((m, (number-scoped [] b l.1.0, tt)), tt))
-    in-dom-scoped i d m l = (m, ((new-first, l, bound-in s x), tt))
+    in-dom-scoped i d m l = (m, (((new-first, l, bound-in s x), tt), tt))
 
     one-index-scoped : (k : Names Origin) (d : Option Dom) (m i : Ex) → DomScoped s o d → Scoped z s o m → Scoped z s o i →
         EachScoped s o (index_conditions k x d m i)

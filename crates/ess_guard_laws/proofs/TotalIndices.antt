@@ -5,11 +5,12 @@ use Rattle.std.specs.Ordering.{is_lt}
 use Rattle.std.specs.Cmp.{int_cmp_is}
 use Rattle.std.specs.declared.cmp.Ordering.TheVariants.{Less}
 use Rattle.ess_semantics.specs.declared.words.Op2.{Op2}
+use Rattle.ess_semantics.specs.declared.words.Fun.{Fun}
 use Rattle.ess_semantics.specs.Lists.{and_then, list_or_none}
 use Rattle.ess_semantics.specs.Values.{Text, Value, number, truth, item, node, of_list}
 use Rattle.ess_semantics.specs.Order.{same, below}
 use Rattle.ess_semantics.specs.Collections.{holds}
-use Rattle.ess_semantics.specs.Trees.{binary, both_ends, name_pat, Ex, name_ex, comp_ex, no_exs, more_exs, no_gens, over, Dom, int_dom, ex2}
+use Rattle.ess_semantics.specs.Trees.{word, binary, both_ends, name_pat, Ex, name_ex, comp_ex, no_exs, more_exs, no_gens, over, Dom, int_dom, ex2}
 use Rattle.ess_semantics.specs.Operators.{as_truth, number_in, item_at, at_index, value_of_node, false_where_undefined, list_value, numbers_from}
 use Rattle.ess_semantics.specs.Domains.{integers, members, member_list, between}
 use Rattle.ess_semantics.specs.Meaning.{Env, with_pat, meaning, domain_of, members_in, collect}
@@ -18,10 +19,11 @@ use Rattle.ess_semantics.proofs.Orders.{to_list-of_list, same-itself}
 use Rattle.ess_semantics.proofs.Tests.{and-left, and-right}
 use Rattle.ess_rules_laws.proofs.Agreement.{look-itself}
 use Rattle.ess_guard_laws.specs.Origins.{is_number}
-use Rattle.ess_guard_laws.specs.Conditions.{nil_ex, as_number, in_dom}
+use Rattle.ess_guard_laws.specs.Conditions.{nil_ex, as_number, members_of, in_dom}
 use Rattle.ess_guard_laws.proofs.NumberForms.{no-names, read-number}
 use Rattle.ess_guard_laws.proofs.MetRows.{each-of-always}
 use Rattle.ess_guard_laws.proofs.Behind.{safe-total}
+use Rattle.ess_guard_laws.proofs.SetMembers.{set-member}
 use Rattle.ess_guard_laws.proofs.TotalRows.{number-total}
 use Rattle.ess_guard_laws.proofs.KnownNames.{range-listed, listed-in}
 
@@ -32,8 +34,14 @@ pub in-dom-total : (x : Text) (i : Ex) (d : Dom) (env : Env) → Total i env →
 in-dom-total x i (int_dom (both_ends ∷ []) (more_exs a (more_exs b no_exs))) env t u =
     safe-total true (binary Op2.And) (more_exs (ex2 true Op2.Le (as_number [] a) i) (more_exs (ex2 true Op2.Le i (as_number [] b)) no_exs)) env refl
     (safe-total true (binary Op2.Le) (more_exs (as_number [] a) (more_exs i no_exs)) env refl (number-total [] a env u.0, (t, tt)), (safe-total true (binary Op2.Le) (more_exs i (more_exs (as_number [] b) no_exs)) env refl (t, (number-total [] b env u.1.0, tt)), tt))
-in-dom-total x i d env t u = safe-total true (binary Op2.Member) (more_exs i (more_exs (comp_ex (name_ex x) (over (name_pat x) d no_gens)) no_exs)) env refl
-    (t, ((u, each-of-always (members_in (domain_of d env)) (λ v. Unit {0}) (λ v. tt)), tt))
+in-dom-total x i d env t u = safe-total true (binary Op2.Member) (more_exs i (more_exs (members_of x d) no_exs)) env refl (
+  t,
+  (
+    safe-total false (word Fun.ToSet) (more_exs (comp_ex (name_ex x) (over (name_pat x) d no_gens)) no_exs) env refl
+        ((u, each-of-always (members_in (domain_of d env)) (λ v. Unit {0}) (λ v. tt)), tt),
+    tt,
+  ),
+)
 
 le-is : (a b : ℤ) → int_le a b ≡ true → a ≤ℤ b
 le-is a b e = grind (arith, ints)
@@ -115,7 +123,8 @@ member-tells x i d env w p h = go (members_in (domain_of d env)) refl
 -- Where `i in D` holds, i is a listed member of D.
 pub in-dom-tells : (x : Text) (i : Ex) (d : Dom) (env : Env) (w : Value) → meaning i env ≡ Some w → as_truth (meaning (in_dom x i d) env) ≡ true → Listed d env w
 in-dom-tells x i (int_dom (both_ends ∷ []) (more_exs a (more_exs b no_exs))) env w p h = range-tells i a b env w p h
-in-dom-tells x i d env w p h = member-tells x i d env w p h
+in-dom-tells x i d env w p h = member-tells x i d env w p
+    (sym (set-member i (comp_ex (name_ex x) (over (name_pat x) d no_gens)) env) ∙ h)
 
 -- ---- items
 

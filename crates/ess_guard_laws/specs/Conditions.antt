@@ -166,11 +166,15 @@ matrix_conditions x es d =
 
 -- ---- indices
 
--- `i in D`: `a <= i /\ i <= b` for one range, else that i is one of the list of the members.
+-- The set of a domain's members: `toSet([x | x : D])`. Membership in a list has no type.
+abbrev pub members_of : Text → Dom → Ex
+members_of x d = fun1 false Fun.ToSet (comp_ex (name_ex x) (over (name_pat x) d no_gens))
+
+-- `i in D`: `a <= i /\ i <= b` for one range, else that i is in the set of the members.
 abbrev pub in_dom : Text → Ex → Dom → Ex
 in_dom x i (int_dom (both_ends ∷ []) (more_exs a (more_exs b no_exs))) =
     ex2 true Op2.And (ex2 true Op2.Le (as_number [] a) i) (ex2 true Op2.Le i (as_number [] b))
-in_dom x i d = ex2 true Op2.Member i (comp_ex (name_ex x) (over (name_pat x) d no_gens))
+in_dom x i d = ex2 true Op2.Member i (members_of x d)
 
 -- A matrix at an index, and a step of a path.
 abbrev pub at_step : Step → Ex → Exs → Ex

@@ -34,3 +34,30 @@ pub mod MovingConditions
 pub mod ExamplesExtremes
 pub mod ExamplesAlternatives
 pub mod ExamplesLists
+mod CountedOnce
+mod ItemsOnceOver
+mod ItemsOnce
+mod ExamplesItemsOnce
+mod Spelling
+mod SpellingParts
+mod SpellingRules
+mod SpellingContainers
+mod NumbersAreSpared
+mod ExamplesSpelling
+mod WiderScopes
+mod PutScopes
+mod PutTerms
+mod ScopesOfParts
+mod ScopesOfContainers
+mod ScopesOfConditions
+mod ScopesOfGenerators
+mod ScopesOfSources
+mod ScopesOfRules
+mod TypeJoins
+mod TypesOfFolds
+mod TypesOfComparisons
+mod TypesOfRules
+mod ExamplesTypesOfRules
+mod TruthTypes
+mod JudgedTrees
+mod ExamplesJudgedTrees

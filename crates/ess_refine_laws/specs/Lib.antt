@@ -14,3 +14,8 @@ pub mod IndexedLists
 pub mod ExtremeAlternatives
 pub mod Copies
 pub mod MovingConditions
+pub mod ItemsOnce
+pub mod Spelling
+pub mod ScopesOfRules
+pub mod TypesOfRules
+pub mod JudgedTrees

@@ -15,6 +15,11 @@ ghost use Rattle.ess_refine_laws.specs.ExtremeAlternatives.{AlternativesServe};
 ghost use Rattle.ess_refine_laws.specs.IndexedLists.{ListsAreIndices};
 ghost use Rattle.ess_refine_laws.specs.SparingRules.{RulesSpare};
 ghost use Rattle.ess_refine_laws.specs.RecordNames.{NamesOverRecordsKeep};
+ghost use Rattle.ess_refine_laws.specs.ItemsOnce.{ItemsOnceOffer};
+ghost use Rattle.ess_refine_laws.specs.Spelling.{NumbersAreSpared};
+ghost use Rattle.ess_refine_laws.specs.ScopesOfRules.{RulesKeepScopes};
+ghost use Rattle.ess_refine_laws.specs.TypesOfRules.{RulesKeepTypes};
+ghost use Rattle.ess_refine_laws.specs.JudgedTrees.{TypedTreesAreJudged};
 
 /// A refined number becomes one that is there wherever the names and cells in it are, and that is the same where the old one
 /// has a value.
@@ -94,4 +99,30 @@ pub fn rules_spare()
 /// A name over a record of domains may run over the records of new names over the components.
 pub fn names_over_records_keep()
     ensures { NamesOverRecordsKeep }
+{}
+
+/// The set of the items of a comprehension offers each item once, generator by generator over domains of atoms.
+pub fn items_are_offered_once()
+    ensures { ItemsOnceOffer }
+{}
+
+/// Every rule spells no new numbers but 0 and 1, where sets and multisets are counted wherever they stand, and so do any number of
+/// rules at parts.
+pub fn numbers_are_spared()
+    ensures { NumbersAreSpared }
+{}
+
+/// Each rule keeps what is in scope, where the names that it takes are new, and terms that it puts for names are apart.
+pub fn rules_keep_scopes()
+    ensures { RulesKeepScopes }
+{}
+
+/// Rules on folds, tuples, comparisons, lists and sizes keep types.
+pub fn rules_keep_types()
+    ensures { RulesKeepTypes }
+{}
+
+/// A typed tree with right marks and told types is judged, as progress counts on it, and one of a scalar makes progress.
+pub fn typed_trees_are_judged()
+    ensures { TypedTreesAreJudged }
 {}

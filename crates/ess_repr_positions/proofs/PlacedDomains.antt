@@ -133,3 +133,17 @@ fields_more = made-more pure_field_closed placed_field_closed
 pub fields_all : (fs : List FieldClosed) (i : ℕ) (xs : List FieldClosed) → length fs ≤ i →
     map pure_field_closed xs ≡ map placed_field_closed (take i fs) → map pure_field_closed xs ≡ map placed_field_closed fs
 fields_all = made-all pure_field_closed placed_field_closed
+
+-- Each variant.
+pub ruleset kinds = (
+  int_placed,
+  named_placed,
+  tuple_placed,
+  rec_placed,
+  matrix_placed,
+  set_placed,
+  mset_placed,
+  function_placed,
+  relation_placed,
+  partition_placed,
+)

@@ -120,3 +120,18 @@ pairs_more = made-more pure_pair placed_pair
 pub pairs_all : (ps : List Pair) (i : ℕ) (xs : List Pair) → length ps ≤ i → map pure_pair xs ≡ map placed_pair (take i ps) →
     map pure_pair xs ≡ map placed_pair ps
 pairs_all = made-all pure_pair placed_pair
+
+-- Each variant.
+pub ruleset kinds = (
+  num_placed,
+  truth_placed,
+  item_placed,
+  tuple_placed,
+  rec_placed,
+  matrix_placed,
+  set_placed,
+  mset_placed,
+  function_placed,
+  relation_placed,
+  partition_placed,
+)

@@ -255,3 +255,17 @@ no_index o p h = ap (λ q. matrix_of q p) h
 
 pub no_element : (o p : Option (List Value)) (ys : List Val) → Some (map pure_val ys) ≡ o → None ≡ p → None ≡ matrix_of o p
 no_element o p ys h k = ap (matrix_of (Some (map pure_val ys))) k ∙ ap (λ q. matrix_of q p) h
+
+-- ---- the passes over items
+
+pub ruleset nested_turns = (nested_none, nested_more, nested_stop, nested_all)
+
+pub ruleset each_turns = (each_none, each_more, each_stop, each_unlike, each_all)
+
+pub ruleset field_turns = (fields_none, fields_more, fields_stop, fields_unlike, fields_all)
+
+pub ruleset pair_turns = (pairs_none, pairs_more, pairs_stop, pairs_all)
+
+pub ruleset tuple_turns = (tuples_none, tuples_more, tuples_stop, tuples_all)
+
+pub ruleset part_turns = (parts_none, parts_more, parts_stop, parts_all)

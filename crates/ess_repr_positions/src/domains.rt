@@ -13,7 +13,7 @@ use std::alloc::Global;
 /// The domain with positions in place of named types: a type of n values becomes `int(1..n)`. `NoMemory` where there is no room for it,
 /// or a type's size lies above the numbers of 64 bits.
 #[cycle(domains)]
-#[tactic(auto, using(crate::proofs::PlacedDomains::int_placed, crate::proofs::PlacedDomains::named_placed, crate::proofs::PlacedDomains::tuple_placed, crate::proofs::PlacedDomains::rec_placed, crate::proofs::PlacedDomains::matrix_placed, crate::proofs::PlacedDomains::set_placed, crate::proofs::PlacedDomains::mset_placed, crate::proofs::PlacedDomains::function_placed, crate::proofs::PlacedDomains::relation_placed, crate::proofs::PlacedDomains::partition_placed))]
+#[tactic(auto, using(crate::proofs::PlacedDomains::kinds))]
 pub fn domain_with_positions(alloc: Global, domain: &Closed) -> Result<Closed, NoMemory>
     ensures { IfOk result (λ d. pure_closed d ≡ positions_put (pure_closed domain.now)) }
 {

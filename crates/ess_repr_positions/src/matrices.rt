@@ -57,7 +57,7 @@ fn matrix(
 
 /// Each of several matrices over these axes, or of several values where there is no axis.
 #[cycle(typing)]
-#[tactic(auto, using(crate::proofs::TypedLoops::nested_none, crate::proofs::TypedLoops::nested_more, crate::proofs::TypedLoops::nested_stop, crate::proofs::TypedLoops::nested_all))]
+#[tactic(auto, using(crate::proofs::TypedLoops::nested_turns))]
 pub(crate) fn each_nested(
     alloc: Global,
     axes: &[Closed],

@@ -12,7 +12,7 @@ use std::alloc::Global;
 
 /// The components of a tuple.
 #[cycle(typing)]
-#[tactic(auto, using(crate::proofs::TypedLoops::each_none, crate::proofs::TypedLoops::each_more, crate::proofs::TypedLoops::each_stop, crate::proofs::TypedLoops::each_unlike, crate::proofs::TypedLoops::each_all, crate::proofs::Weights::lighter_part))]
+#[tactic(auto, using(crate::proofs::TypedLoops::each_turns, crate::proofs::Weights::lighter_part))]
 pub(crate) fn each(
     alloc: Global,
     parts: &[Closed],
@@ -35,7 +35,7 @@ pub(crate) fn each(
 
 /// The fields of a record.
 #[cycle(typing)]
-#[tactic(auto, using(crate::proofs::TypedLoops::fields_none, crate::proofs::TypedLoops::fields_more, crate::proofs::TypedLoops::fields_stop, crate::proofs::TypedLoops::fields_unlike, crate::proofs::TypedLoops::fields_all, crate::proofs::Weights::lighter_field))]
+#[tactic(auto, using(crate::proofs::TypedLoops::field_turns, crate::proofs::Weights::lighter_field))]
 pub(crate) fn each_field(
     alloc: Global,
     fields: &[FieldClosed],
@@ -75,7 +75,7 @@ fn one_field(
 
 /// The pairs of a function.
 #[cycle(typing)]
-#[tactic(auto, using(crate::proofs::TypedLoops::pairs_none, crate::proofs::TypedLoops::pairs_more, crate::proofs::TypedLoops::pairs_stop, crate::proofs::TypedLoops::pairs_all))]
+#[tactic(auto, using(crate::proofs::TypedLoops::pair_turns))]
 pub(crate) fn each_pair(
     alloc: Global,
     from: &Closed,
@@ -125,7 +125,7 @@ fn one_pair(
 
 /// The tuples of a relation.
 #[cycle(typing)]
-#[tactic(auto, using(crate::proofs::TypedLoops::tuples_none, crate::proofs::TypedLoops::tuples_more, crate::proofs::TypedLoops::tuples_stop, crate::proofs::TypedLoops::tuples_all))]
+#[tactic(auto, using(crate::proofs::TypedLoops::tuple_turns))]
 pub(crate) fn each_tuple(
     alloc: Global,
     parts: &[Closed],
@@ -160,7 +160,7 @@ fn one_tuple(alloc: Global, parts: &[Closed], tuple: &Val) -> Result<Option<Val>
 
 /// The parts of a partition.
 #[cycle(typing)]
-#[tactic(auto, using(crate::proofs::TypedLoops::parts_none, crate::proofs::TypedLoops::parts_more, crate::proofs::TypedLoops::parts_stop, crate::proofs::TypedLoops::parts_all))]
+#[tactic(auto, using(crate::proofs::TypedLoops::part_turns))]
 pub(crate) fn each_part(
     alloc: Global,
     member: &Closed,

@@ -11,7 +11,7 @@ use std::alloc::Global;
 /// The value with positions in place of the values of named types. `NoMemory` where there is no room for it, or a position lies above
 /// the numbers of 64 bits.
 #[cycle(placing)]
-#[tactic(auto, using(crate::proofs::PlacedValues::num_placed, crate::proofs::PlacedValues::truth_placed, crate::proofs::PlacedValues::item_placed, crate::proofs::PlacedValues::tuple_placed, crate::proofs::PlacedValues::rec_placed, crate::proofs::PlacedValues::matrix_placed, crate::proofs::PlacedValues::set_placed, crate::proofs::PlacedValues::mset_placed, crate::proofs::PlacedValues::function_placed, crate::proofs::PlacedValues::relation_placed, crate::proofs::PlacedValues::partition_placed))]
+#[tactic(auto, using(crate::proofs::PlacedValues::kinds))]
 pub fn with_positions(alloc: Global, val: &Val) -> Result<Val, NoMemory>
     ensures { IfOk result (λ v. pure_val v ≡ positions_put (pure_val val.now)) }
 {

@@ -1,28 +1,31 @@
 -- Structures are built of what has a property: by induction over the representation.
 use Rattle.std.proofs.Common.{refl, ℕ, suc, Bool, true, false, List, [], ◌∷◌, map, take, drop, pos, if◌then◌else◌}
 use Rattle.ess_semantics.specs.declared.words.Op2.{Op2}
+use Rattle.ess_semantics.specs.declared.words.Key.{Key}
 use Rattle.ess_semantics.specs.declared.words.ReprKind.{ReprKind}
 use Rattle.ess_semantics.specs.Values.{Text}
 use Rattle.ess_semantics.specs.Meaning.{is_bool_dom}
 use Rattle.ess_semantics.specs.Kinds.{dom_list}
 use Rattle.ess_semantics.specs.Representations.{width}
-use Rattle.ess_semantics.specs.Trees.{Ends, one_value, both_ends, low_end, high_end, Repr, Reprs, repr, no_reprs, more_reprs, Ex, Exs, number_ex, name_ex, cell_ex, seen_ex, no_exs, more_exs, Dom, Doms, int_dom, name_dom, tuple_dom, record_dom, matrix_dom, set_dom, mset_dom, function_dom, relation_dom, partition_dom, more_doms, ex2}
+use Rattle.ess_semantics.specs.Trees.{Mark, Ends, one_value, both_ends, low_end, high_end, Repr, Reprs, repr, no_reprs, more_reprs, Ex, Exs, number_ex, name_ex, cell_ex, seen_ex, no_exs, more_exs, Dom, Doms, int_dom, name_dom, tuple_dom, record_dom, matrix_dom, set_dom, mset_dom, function_dom, relation_dom, partition_dom, more_doms, ex2}
 use Rattle.ess_repr_laws.specs.StructureParts.{Shape, add_ex, or_ex, le_ex, upto, row_index, level_behind, on_axes, own_shape, first_name, tuple_set_dom}
-use Rattle.ess_repr_laws.specs.ViewParts.{view_ex, pair_relation_dom, part_set_dom, shape_names}
+use Rattle.ess_repr_laws.specs.ViewParts.{view_ex, pair_relation_dom, part_set_dom, shape_names, pair_key_ex, pairs_ex, parts_ex}
 use Rattle.ess_repr_laws.specs.RelationParts.{bare_relation_dom, relation_key_ex}
 use Rattle.ess_repr_laws.specs.FunctionParts.{bare_function_dom}
-use Rattle.ess_repr_laws.specs.MultisetParts.{bare_mset_dom}
+use Rattle.ess_repr_laws.specs.MultisetParts.{bare_mset_dom, occurs_ex}
 use Rattle.ess_repr_laws.specs.PartitionParts.{bare_partition_dom}
 use Rattle.ess_repr_laws.specs.Structure.{shapes, structure, structure_of_each}
 use Rattle.ess_repr_declare_laws.specs.SizeTerms.{is_missing, slots_ex, dummy_ex, in_ranges_ex, inside_ex, listed_ex, size_terms}
 use Rattle.ess_repr_structure_laws.proofs.BuiltStructures as B
-use Rattle.ess_repr_structure_laws.proofs.BuiltStructures.{BuiltOf, two-have}
+use Rattle.ess_repr_structure_laws.proofs.BuiltStructures.{SizedBy, BuiltOf, two-have}
 use Rattle.ess_repr_structure_laws.proofs.BuiltShapes as S
 use Rattle.ess_repr_structure_laws.proofs.BuiltParts as C
 use Rattle.ess_repr_structure_laws.proofs.BuiltSets as D
+use Rattle.ess_repr_structure_laws.proofs.BuiltItems as W
+use Rattle.ess_repr_structure_laws.proofs.BuiltItems.{part_attributes_ex}
 use Rattle.ess_repr_structure_laws.proofs.BuiltViews as V
 
-module _ (q : ℕ → Text) (P : Ex → Type 0) (L : Dom → Type 0) (built : BuiltOf q P L) where
+module _ (q : ℕ → Text) (P : Ex → Type 0) (L : Dom → Type 0) {F : Type 0} (built : BuiltOf q P L F (Unit {0})) where
   abbrev AllHave : Exs → Type 0
   AllHave = B.AllHave P
 
@@ -87,126 +90,210 @@ module _ (q : ℕ → Text) (P : Ex → Type 0) (L : Dom → Type 0) (built : Bu
   pub shapes-have : (r : Repr) (d : Dom) (ns : List Text) → Good d → ShapesHave (shapes q size_terms r d ns)
   shapes-have = S.shapes-have q P L (B.sized q P L built)
 
-module _ (q : ℕ → Text) (P : Ex → Type 0) (L : Dom → Type 0) (built : BuiltOf q P L)
-    (views : (r : Repr) (d : Dom) (ns : List Text) (es : Exs) → B.DomHas P d → B.AllHave P es → P (seen_ex r d ns es)) where
+-- What structures say of the items of a view is built of what has a property P, where the numbers of its domain have A, and I holds of its
+-- index list: at each level, which says from where on names are free.
+module _ (q : ℕ → Text) (P A : Ex → Type 0) (L M : Dom → Type 0) (I : ℕ → Exs → Type 0) where
+  pub record SaysOf : Type 0 where
+    pub have : (l : ℕ) (is : Exs) → I l is → B.AllHave P is
+    pub named : (l : ℕ) (is : Exs) → I l is → I (suc l) (add_ex is (name_ex (q l)))
+    pub more : (d : Dom) → B.Good A M d → B.Good P L d
+    pub sizes : SizedBy A M
+    pub pair-keys : (l : ℕ) (r : Repr) (d : Dom) (ns : List Text) (is : Exs) (c : Dom) (k : Key) → B.DomHas A d → I l is → B.DomHas A c →
+        P (pair_key_ex q l c (seen_ex r d ns is) k)
+    pub relation-keys : (l : ℕ) (r : Repr) (d : Dom) (ns : List Text) (is : Exs) (ds : Doms) (k : Key) → B.DomHas A d → I l is →
+        B.DomsHave A ds → P (relation_key_ex q l ds (seen_ex r d ns is) k)
+    pub pairs : (l : ℕ) (r : Repr) (d : Dom) (ns : List Text) (is : Exs) (ms : List Mark) (es : Exs) (a c : Dom) → B.DomHas A d → I l is →
+        B.AllHave A es → B.DomHas A c → P (pairs_ex q l ms es a c (seen_ex r d ns is))
+    pub parts : (l : ℕ) (r : Repr) (d : Dom) (ns : List Text) (is : Exs) (ms : List Mark) (a : Dom) → B.DomHas A d → I l is →
+        B.DomHas A a → P (parts_ex q l ms a (seen_ex r d ns is))
+    pub occurs : (l : ℕ) (r : Repr) (d : Dom) (ns : List Text) (is : Exs) (ms : List Mark) (es : Exs) → B.DomHas A d → I l is →
+        B.AllHave A es → P (occurs_ex q l (seen_ex r d ns is) ms es)
+    pub numbered : (l : ℕ) (r : Repr) (d : Dom) (ns : List Text) (is : Exs) (n : Text) (ks : List Mark) (ms : Exs) → B.DomHas A d → I l is →
+        B.AllHave A ms → P (part_attributes_ex q l ks ms (cell_ex false n is) (seen_ex r d ns is))
+
+module _ (q : ℕ → Text) (P A : Ex → Type 0) (L M : Dom → Type 0) (I : ℕ → Exs → Type 0) {F : Type 0} (built : BuiltOf q P L F (Unit {0}))
+    (says : SaysOf q P A L M I) where
   -- ---- structures
 
-  view-has : (r : Repr) (d : Dom) (ss : List Shape) (is : Exs) → B.DomHas P d → B.AllHave P is → P (view_ex r d ss is)
-  view-has r d ss is g a = views r d (shape_names ss) is g a
-
-  named : (l : ℕ) (is : Exs) → B.AllHave P is → B.AllHave P (add_ex is (name_ex (q l)))
-  named = C.name-added q P L built
+  -- Behind the names of axes.
+  row-named : (l : ℕ) (as' : List Dom) (is : Exs) → I l is → I (level_behind l as') (row_index q l as' is)
+  row-named l [] is i = i
+  row-named l (d ∷ as') is i = row-named (suc l) as' (add_ex is (name_ex (q l))) (says.named l is i)
 
   mutual
     -- The constraint that the cells of a view of a good domain are canonical has the property.
-    pub structure-has : (r : Repr) (d : Dom) (ns : List Text) (l : ℕ) (is : Exs) → B.Good P L d → B.AllHave P is → P
+    pub structure-by : (r : Repr) (d : Dom) (ns : List Text) (l : ℕ) (is : Exs) → B.Good A M d → I l is → P
         (structure q size_terms r d ns l is)
-    structure-has (repr ReprKind.Atom no_reprs) d ns l is g a = inside-has q P L built d _ g
-        (built.cells (is_bool_dom d) (first_name ns) is a)
-    structure-has (repr ReprKind.Tuple rs) (tuple_dom ds) ns l is g a = all-structures-have rs ds ns l is g a
-    structure-has (repr ReprKind.Rec rs) (record_dom fs ds) ns l is g a = all-structures-have rs ds ns l is g a
-    structure-has (repr ReprKind.Matrix (more_reprs r no_reprs)) (matrix_dom is d) ns l js g a =
+    structure-by (repr ReprKind.Atom no_reprs) d ns l is w i =
+        let g : B.Good P L d = says.more d w in
+        let a : B.AllHave P is = says.have l is i in
+        inside-has q P L built d _ g
+        (C.cell-in q P L built (is_bool_dom d) (first_name ns) is a)
+    structure-by (repr ReprKind.Tuple rs) (tuple_dom ds) ns l is w i = all-structures-by rs ds ns l is w i
+    structure-by (repr ReprKind.Rec rs) (record_dom fs ds) ns l is w i = all-structures-by rs ds ns l is w i
+    structure-by (repr ReprKind.Matrix (more_reprs r no_reprs)) (matrix_dom is d) ns l js w i =
+        let g : B.Good P L (matrix_dom is d) = says.more (matrix_dom is d) w in
+        let a : B.AllHave P js = says.have l js i in
         C.each-has q P L built l (dom_list is) _ (B.list-has P L is g.0)
-        (structure-has r d ns (level_behind l (dom_list is)) (row_index q l (dom_list is) js) g.1
-        (C.row-index-has q P L built l (dom_list is) js a))
-    structure-has (repr ReprKind.Occurrence no_reprs) (set_dom ms es d) ns l is g a =
+        (structure-by r d ns (level_behind l (dom_list is)) (row_index q l (dom_list is) js) w.1
+        (row-named l (dom_list is) js i))
+    structure-by (repr ReprKind.Occurrence no_reprs) (set_dom ms es d) ns l is w i =
+        let g : B.Good P L (set_dom ms es d) = says.more (set_dom ms es d) w in
+        let a : B.AllHave P is = says.have l is i in
         D.occurrence-has q P L built l ms es d (first_name ns) is g.0 (B.good-has P L d g.1) a
-    structure-has (repr ReprKind.Explicit (more_reprs r no_reprs)) (set_dom ms es d) ns l is g a =
+    structure-by (repr ReprKind.Explicit (more_reprs r no_reprs)) (set_dom ms es d) ns l is w i =
+        let g : B.Good P L (set_dom ms es d) = says.more (set_dom ms es d) w in
+        let a : B.AllHave P is = says.have l is i in
         D.explicit-has q P L built l ms es _ _ is _ g.0 (B.set-slots-have q P L built ms es d g) (shapes-have q P L built r d ns g.1) a
-        (structure-has r d ns (suc l) (add_ex is (name_ex (q l))) g.1 (named l is a))
-    structure-has (repr ReprKind.ExplicitVarSizeWithMarker (more_reprs r no_reprs)) (set_dom ms es d) ns l is g a =
+        (structure-by r d ns (suc l) (add_ex is (name_ex (q l))) w.1 (says.named l is i))
+    structure-by (repr ReprKind.ExplicitVarSizeWithMarker (more_reprs r no_reprs)) (set_dom ms es d) ns l is w i =
+        let g : B.Good P L (set_dom ms es d) = says.more (set_dom ms es d) w in
+        let a : B.AllHave P is = says.have l is i in
         D.marker-has q P L built l ms es _ (first_name ns) _ is _ g.0 (B.set-slots-have q P L built ms es d g)
         (shapes-have q P L built r d (drop 1 ns) g.1) a
-        (structure-has r d (drop 1 ns) (suc l) (add_ex is (name_ex (q l))) g.1 (named l is a))
-    structure-has (repr ReprKind.ExplicitVarSizeWithFlags (more_reprs r no_reprs)) (set_dom ms es d) ns l is g a =
+        (structure-by r d (drop 1 ns) (suc l) (add_ex is (name_ex (q l))) w.1 (says.named l is i))
+    structure-by (repr ReprKind.ExplicitVarSizeWithFlags (more_reprs r no_reprs)) (set_dom ms es d) ns l is w i =
+        let g : B.Good P L (set_dom ms es d) = says.more (set_dom ms es d) w in
+        let a : B.AllHave P is = says.have l is i in
         D.flags-have q P L built l ms es _ (first_name ns) _ is _ g.0 (B.set-slots-have q P L built ms es d g)
         (shapes-have q P L built r d (drop 1 ns) g.1) a
-        (structure-has r d (drop 1 ns) (suc l) (add_ex is (name_ex (q l))) g.1 (named l is a))
-    structure-has (repr ReprKind.Function1D (more_reprs r no_reprs)) (function_dom ms es d c) ns l is g a =
-        let y : B.DomHas P c = B.good-has P L c g.2 in
-        V.total-has q P L built l ms es (d ∷ []) (shapes q size_terms r c ns) is r c _ _ g.0 (one-domain q P L built d g.1) a y
-        (view-has (repr ReprKind.Function1D (more_reprs r no_reprs)) (bare_function_dom d c)
-        (map (on_axes (d ∷ [])) (shapes q size_terms r c ns)) is (tt, B.good-has P L d g.1, y) a)
-        (structure-has r c ns (suc l) (add_ex is (name_ex (q l))) g.2 (named l is a))
-    structure-has (repr ReprKind.FunctionND (more_reprs r no_reprs)) (function_dom ms es (tuple_dom ds) c) ns l is g a =
-        let y : B.DomHas P c = B.good-has P L c g.2 in
-        V.total-has q P L built l ms es (dom_list ds) (shapes q size_terms r c ns) is r c _ _ g.0 (B.list-has P L ds g.1) a y
-        (view-has (repr ReprKind.FunctionND (more_reprs r no_reprs)) (bare_function_dom (tuple_dom ds) c)
-        (map (on_axes (dom_list ds)) (shapes q size_terms r c ns)) is (tt, B.all-good-have P L ds g.1, y) a)
-        (structure-has r c ns (level_behind l (dom_list ds)) (row_index q l (dom_list ds) is) g.2
-        (C.row-index-has q P L built l (dom_list ds) is a))
-    structure-has (repr ReprKind.RelationAsMatrix no_reprs) (relation_dom ms es ds) ns l is g a =
-        V.relation-has q P L built l ms es ds (dom_list ds) (first_name ns) is _ g.0 (B.list-has P L ds g.1) a (B.all-good-have P L ds g.1)
-        (view-has (repr ReprKind.RelationAsMatrix no_reprs) (bare_relation_dom ds) (own_shape ns true (dom_list ds) ∷ []) is
-        (tt, B.all-good-have P L ds g.1) a)
-    structure-has (repr ReprKind.Function1DPartial (more_reprs r no_reprs)) (function_dom ms es d c) ns l is g a =
-        let y : B.DomHas P c = B.good-has P L c g.2 in
+        (structure-by r d (drop 1 ns) (suc l) (add_ex is (name_ex (q l))) w.1 (says.named l is i))
+    structure-by (repr ReprKind.Function1D (more_reprs r no_reprs)) (function_dom ms es d c) ns l is w i =
+        let g : B.Good P L (function_dom ms es d c) = says.more (function_dom ms es d c) w in
+        let a : B.AllHave P is = says.have l is i in
+        let x : B.DomHas A d = B.good-has A M d w.1 in
+        let y : B.DomHas A c = B.good-has A M c w.2 in
+        V.total-has q P L built l ms es (d ∷ []) (shapes q size_terms r c ns) is r c _ _ g.0 (one-domain q P L built d g.1) a
+        (λ k. says.pair-keys l (repr ReprKind.Function1D (more_reprs r no_reprs)) (bare_function_dom d c)
+        (shape_names (map (on_axes (d ∷ [])) (shapes q size_terms r c ns))) is c k (tt, x, y) i y)
+        (structure-by r c ns (suc l) (add_ex is (name_ex (q l))) w.2 (says.named l is i))
+    structure-by (repr ReprKind.FunctionND (more_reprs r no_reprs)) (function_dom ms es (tuple_dom ds) c) ns l is w i =
+        let g : B.Good P L (function_dom ms es (tuple_dom ds) c) = says.more (function_dom ms es (tuple_dom ds) c) w in
+        let a : B.AllHave P is = says.have l is i in
+        let x : B.DomHas A (tuple_dom ds) = B.all-good-have A M ds w.1 in
+        let y : B.DomHas A c = B.good-has A M c w.2 in
+        V.total-has q P L built l ms es (dom_list ds) (shapes q size_terms r c ns) is r c _ _ g.0 (B.list-has P L ds g.1) a
+        (λ k. says.pair-keys l (repr ReprKind.FunctionND (more_reprs r no_reprs)) (bare_function_dom (tuple_dom ds) c)
+        (shape_names (map (on_axes (dom_list ds)) (shapes q size_terms r c ns))) is c k (tt, x, y) i y)
+        (structure-by r c ns (level_behind l (dom_list ds)) (row_index q l (dom_list ds) is) w.2
+        (row-named l (dom_list ds) is i))
+    structure-by (repr ReprKind.RelationAsMatrix no_reprs) (relation_dom ms es ds) ns l is w i =
+        let g : B.Good P L (relation_dom ms es ds) = says.more (relation_dom ms es ds) w in
+        let a : B.AllHave P is = says.have l is i in
+        let x : B.DomsHave A ds = B.all-good-have A M ds w.1 in
+        V.relation-has q P L built l ms es ds (dom_list ds) (first_name ns) is _ g.0 (B.list-has P L ds g.1) a
+        (λ k. says.relation-keys l (repr ReprKind.RelationAsMatrix no_reprs) (bare_relation_dom ds)
+        (shape_names (own_shape ns true (dom_list ds) ∷ [])) is ds k (tt, x) i x)
+    structure-by (repr ReprKind.Function1DPartial (more_reprs r no_reprs)) (function_dom ms es d c) ns l is w i =
+        let g : B.Good P L (function_dom ms es d c) = says.more (function_dom ms es d c) w in
+        let a : B.AllHave P is = says.have l is i in
+        let x : B.DomHas A d = B.good-has A M d w.1 in
+        let y : B.DomHas A c = B.good-has A M c w.2 in
         V.partial-has q P L built l ms es (d ∷ []) (first_name ns) is (shapes q size_terms r c (drop 1 ns)) c _ _ g.0
-        (one-domain q P L built d g.1) a (shapes-have q P L built r c (drop 1 ns) g.2) y
-        (view-has (repr ReprKind.Function1DPartial (more_reprs r no_reprs)) (bare_function_dom d c)
-        (own_shape ns true (d ∷ []) ∷ map (on_axes (d ∷ [])) (shapes q size_terms r c (drop 1 ns))) is (tt, B.good-has P L d g.1, y) a)
-        (structure-has r c (drop 1 ns) (suc l) (add_ex is (name_ex (q l))) g.2 (named l is a))
-    structure-has (repr ReprKind.FunctionNDPartial (more_reprs r no_reprs)) (function_dom ms es (tuple_dom ds) c) ns l is g a =
-        let y : B.DomHas P c = B.good-has P L c g.2 in
+        (one-domain q P L built d g.1) a (shapes-have q P L built r c (drop 1 ns) g.2)
+        (λ k. says.pair-keys l (repr ReprKind.Function1DPartial (more_reprs r no_reprs)) (bare_function_dom d c)
+        (shape_names (own_shape ns true (d ∷ []) ∷ map (on_axes (d ∷ [])) (shapes q size_terms r c (drop 1 ns)))) is c k (tt, x, y) i y)
+        (structure-by r c (drop 1 ns) (suc l) (add_ex is (name_ex (q l))) w.2 (says.named l is i))
+    structure-by (repr ReprKind.FunctionNDPartial (more_reprs r no_reprs)) (function_dom ms es (tuple_dom ds) c) ns l is w i =
+        let g : B.Good P L (function_dom ms es (tuple_dom ds) c) = says.more (function_dom ms es (tuple_dom ds) c) w in
+        let a : B.AllHave P is = says.have l is i in
+        let x : B.DomHas A (tuple_dom ds) = B.all-good-have A M ds w.1 in
+        let y : B.DomHas A c = B.good-has A M c w.2 in
         V.partial-has q P L built l ms es (dom_list ds) (first_name ns) is (shapes q size_terms r c (drop 1 ns)) c _ _ g.0
-        (B.list-has P L ds g.1) a (shapes-have q P L built r c (drop 1 ns) g.2) y
-        (view-has (repr ReprKind.FunctionNDPartial (more_reprs r no_reprs)) (bare_function_dom (tuple_dom ds) c)
-        (own_shape ns true (dom_list ds) ∷ map (on_axes (dom_list ds)) (shapes q size_terms r c (drop 1 ns))) is
-        (tt, B.all-good-have P L ds g.1, y) a)
-        (structure-has r c (drop 1 ns) (level_behind l (dom_list ds)) (row_index q l (dom_list ds) is) g.2
-        (C.row-index-has q P L built l (dom_list ds) is a))
-    structure-has (repr ReprKind.MSetOccurrence no_reprs) (mset_dom ms es d) ns l is g a =
+        (B.list-has P L ds g.1) a (shapes-have q P L built r c (drop 1 ns) g.2)
+        (λ k. says.pair-keys l (repr ReprKind.FunctionNDPartial (more_reprs r no_reprs)) (bare_function_dom (tuple_dom ds) c)
+        (shape_names (own_shape ns true (dom_list ds) ∷ map (on_axes (dom_list ds)) (shapes q size_terms r c (drop 1 ns)))) is c k
+        (tt, x, y) i y)
+        (structure-by r c (drop 1 ns) (level_behind l (dom_list ds)) (row_index q l (dom_list ds) is) w.2
+        (row-named l (dom_list ds) is i))
+    structure-by (repr ReprKind.MSetOccurrence no_reprs) (mset_dom ms es d) ns l is w i =
+        let g : B.Good P L (mset_dom ms es d) = says.more (mset_dom ms es d) w in
+        let a : B.AllHave P is = says.have l is i in
         C.counts-have q P L built l ms es (d ∷ []) (first_name ns) is g.1 (one-domain q P L built d g.2) a
-    structure-has (repr ReprKind.MSetExplicitWithFlags (more_reprs r no_reprs)) (mset_dom ms es d) ns l is g a =
+    structure-by (repr ReprKind.MSetExplicitWithFlags (more_reprs r no_reprs)) (mset_dom ms es d) ns l is w i =
+        let g : B.Good P L (mset_dom ms es d) = says.more (mset_dom ms es d) w in
+        let a : B.AllHave P is = says.have l is i in
         D.counted-has q P L built l ms es _ (first_name ns) _ is _ g.1 (B.mset-slots-have q P L built ms es d g)
         (shapes-have q P L built r d (drop 1 ns) g.2) a
-        (structure-has r d (drop 1 ns) (suc l) (add_ex is (name_ex (q l))) g.2 (named l is a))
-    structure-has (repr ReprKind.MSetExplicitWithRepetition (more_reprs r no_reprs)) (mset_dom ms es d) ns l is g a =
+        (structure-by r d (drop 1 ns) (suc l) (add_ex is (name_ex (q l))) w.2 (says.named l is i))
+    structure-by (repr ReprKind.MSetExplicitWithRepetition (more_reprs r no_reprs)) (mset_dom ms es d) ns l is w i =
+        let g : B.Good P L (mset_dom ms es d) = says.more (mset_dom ms es d) w in
+        let a : B.AllHave P is = says.have l is i in
         let s : P (slots_ex (mset_dom ms es d)) = B.mset-slots-have q P L built ms es d g in
-        let c : P (cell_ex false (first_name ns) is) = built.cells false (first_name ns) is a in
+        let c : P (cell_ex false (first_name ns) is) = C.cell-in q P L built false (first_name ns) is a in
         C.and-has q P L built _ _
         (D.repetition-use-has q P L built l _ (first_name ns) _ is _ s (shapes-have q P L built r d (drop 1 ns) g.2) a
-        (structure-has r d (drop 1 ns) (suc l) (add_ex is (name_ex (q l))) g.2 (named l is a)))
+        (structure-by r d (drop 1 ns) (suc l) (add_ex is (name_ex (q l))) w.2 (says.named l is i)))
         (C.and-has q P L built _ _ (C.size-has q P L built ms es (cell_ex false (first_name ns) is) g.1 c)
-        (V.occurs-have q P L built l _ ms es
-        (view-has (repr ReprKind.MSetExplicitWithRepetition (more_reprs r no_reprs)) (bare_mset_dom (slots_ex (mset_dom ms es d)) d)
-        (own_shape ns false [] ∷ map (on_axes (upto (slots_ex (mset_dom ms es d)) ∷ [])) (shapes q size_terms r d (drop 1 ns))) is
-        ((s, tt), B.good-has P L d g.2) a) g.1))
-    structure-has (repr ReprKind.ExplicitVarSizeWithDummy no_reprs) (set_dom ms es d) ns l is g a =
+        (says.occurs l (repr ReprKind.MSetExplicitWithRepetition (more_reprs r no_reprs)) (bare_mset_dom (slots_ex (mset_dom ms es d)) d)
+        (shape_names (own_shape ns false [] ∷ map (on_axes (upto (slots_ex (mset_dom ms es d)) ∷ []))
+        (shapes q size_terms r d (drop 1 ns)))) is ms es ((B.mset-slots A M says.sizes ms es d w, tt), B.good-has A M d w.2) i w.1))
+    structure-by (repr ReprKind.ExplicitVarSizeWithDummy no_reprs) (set_dom ms es d) ns l is w i =
+        let g : B.Good P L (set_dom ms es d) = says.more (set_dom ms es d) w in
+        let a : B.AllHave P is = says.have l is i in
         D.dummy-has q P L built l ms es _ _ (inside_ex d) (first_name ns) is g.0 (B.set-slots-have q P L built ms es d g)
         (dummy-has q P L built d g.1) (λ x p. inside-has q P L built d x g.1 p) a
-    structure-has (repr ReprKind.RelationAsSet (more_reprs r no_reprs)) (relation_dom ms es ds) ns l is g a =
-        let h : B.Good P L (tuple_set_dom ms es ds) = B.tuple-set-good q P L built ms es ds g in
-        let v : P (view_ex r (tuple_set_dom ms es ds) (shapes q size_terms r (tuple_set_dom ms es ds) ns) is) = view-has r
-        (tuple_set_dom ms es ds) (shapes q size_terms r (tuple_set_dom ms es ds) ns) is (B.good-has P L (tuple_set_dom ms es ds) h) a in
-        C.and-has q P L built _ _ (structure-has r (tuple_set_dom ms es ds) ns l is h a)
+    structure-by (repr ReprKind.RelationAsSet (more_reprs r no_reprs)) (relation_dom ms es ds) ns l is w i =
+        let g : B.Good P L (relation_dom ms es ds) = says.more (relation_dom ms es ds) w in
+        let a : B.AllHave P is = says.have l is i in
+        let h : B.Good A M (tuple_set_dom ms es ds) = B.tuples-good A M says.sizes ms es ds w in
+        C.and-has q P L built _ _ (structure-by r (tuple_set_dom ms es ds) ns l is h i)
         (C.keys-have q P L built (relation_key_ex q l ds
         (view_ex r (tuple_set_dom ms es ds) (shapes q size_terms r (tuple_set_dom ms es ds) ns) is)) ms
-        (λ k. V.relation-key-has q P L built l ds _ k (B.all-good-have P L ds g.1) v))
-    structure-has (repr ReprKind.FunctionAsRelation (more_reprs r no_reprs)) (function_dom ms es d c) ns l is g a =
-        let h : B.Good P L (pair_relation_dom size_terms ms es d c) = B.pair-relation-good q P L built ms es d c g in
-        C.and-has q P L built _ _ (structure-has r (pair_relation_dom size_terms ms es d c) ns l is h a)
-        (V.pairs-have q P L built l ms es d c _ g.0 (B.good-has P L c g.2)
-        (view-has r (pair_relation_dom size_terms ms es d c) (shapes q size_terms r (pair_relation_dom size_terms ms es d c) ns) is
-        (B.good-has P L (pair_relation_dom size_terms ms es d c) h) a))
-    structure-has (repr ReprKind.PartitionAsSet (more_reprs r no_reprs)) (partition_dom ms es d) ns l is g a =
-        let h : B.Good P L (part_set_dom size_terms ms es d) = B.part-set-good q P L built ms es d g in
-        C.and-has q P L built _ _ (structure-has r (part_set_dom size_terms ms es d) ns l is h a)
-        (V.parts-have q P L built l ms d _ (B.good-has P L d g.1)
-        (view-has r (part_set_dom size_terms ms es d) (shapes q size_terms r (part_set_dom size_terms ms es d) ns) is
-        (B.good-has P L (part_set_dom size_terms ms es d) h) a))
-    structure-has (repr ReprKind.PartitionOccurrence no_reprs) (partition_dom ms es d) ns l is g a =
-        let x : B.DomHas P d = B.good-has P L d g.1 in
-        V.numbered-has q P L built l ms es d (cell_ex false (first_name ns) is) (first_name (drop 1 ns)) is _ g.0 x
-        (built.cells false (first_name ns) is a) a
-        (view-has (repr ReprKind.PartitionOccurrence no_reprs) (bare_partition_dom d)
-        (own_shape ns false [] ∷ own_shape (drop 1 ns) false (d ∷ []) ∷ []) is (tt, x) a)
-    structure-has _ d ns l is g a = built.truths false
+        (λ k. says.relation-keys l r (tuple_set_dom ms es ds) (shape_names (shapes q size_terms r (tuple_set_dom ms es ds) ns)) is ds k
+        (B.good-has A M (tuple_set_dom ms es ds) h) i (B.all-good-have A M ds w.1)))
+    structure-by (repr ReprKind.FunctionAsRelation (more_reprs r no_reprs)) (function_dom ms es d c) ns l is w i =
+        let g : B.Good P L (function_dom ms es d c) = says.more (function_dom ms es d c) w in
+        let a : B.AllHave P is = says.have l is i in
+        let h : B.Good A M (pair_relation_dom size_terms ms es d c) = B.pairs-good A M says.sizes ms es d c w in
+        C.and-has q P L built _ _ (structure-by r (pair_relation_dom size_terms ms es d c) ns l is h i)
+        (says.pairs l r (pair_relation_dom size_terms ms es d c)
+        (shape_names (shapes q size_terms r (pair_relation_dom size_terms ms es d c) ns)) is ms es d c
+        (B.good-has A M (pair_relation_dom size_terms ms es d c) h) i w.0 (B.good-has A M c w.2))
+    structure-by (repr ReprKind.PartitionAsSet (more_reprs r no_reprs)) (partition_dom ms es d) ns l is w i =
+        let g : B.Good P L (partition_dom ms es d) = says.more (partition_dom ms es d) w in
+        let a : B.AllHave P is = says.have l is i in
+        let h : B.Good A M (part_set_dom size_terms ms es d) = B.parts-good A M says.sizes ms es d w in
+        C.and-has q P L built _ _ (structure-by r (part_set_dom size_terms ms es d) ns l is h i)
+        (says.parts l r (part_set_dom size_terms ms es d) (shape_names (shapes q size_terms r (part_set_dom size_terms ms es d) ns)) is ms d
+        (B.good-has A M (part_set_dom size_terms ms es d) h) i (B.good-has A M d w.1))
+    structure-by (repr ReprKind.PartitionOccurrence no_reprs) (partition_dom ms es d) ns l is w i =
+        let g : B.Good P L (partition_dom ms es d) = says.more (partition_dom ms es d) w in
+        let a : B.AllHave P is = says.have l is i in
+        V.numbered-has q P L built l ms es d (cell_ex false (first_name ns) is) (first_name (drop 1 ns)) is _ (B.good-has P L d g.1)
+        (C.cell-in q P L built false (first_name ns) is a) a
+        (says.numbered l (repr ReprKind.PartitionOccurrence no_reprs) (bare_partition_dom d)
+        (shape_names (own_shape ns false [] ∷ own_shape (drop 1 ns) false (d ∷ []) ∷ [])) is (first_name ns) ms es
+        (tt, B.good-has A M d w.1) i w.0)
+    structure-by _ d ns l is w i = built.truths false
 
     -- The same of components.
-    pub all-structures-have : (rs : Reprs) (ds : Doms) (ns : List Text) (l : ℕ) (is : Exs) → B.AllGood P L ds → B.AllHave P is → P
+    pub all-structures-by : (rs : Reprs) (ds : Doms) (ns : List Text) (l : ℕ) (is : Exs) → B.AllGood A M ds → I l is → P
         (structure_of_each q size_terms rs ds ns l is)
-    all-structures-have (more_reprs r rs) (more_doms d ds) ns l is g a =
-        C.and-has q P L built _ _ (structure-has r d (take (width r) ns) l is g.0 a)
-        (all-structures-have rs ds (drop (width r) ns) l is g.1 a)
-    all-structures-have _ _ ns l is g a = built.truths true
+    all-structures-by (more_reprs r rs) (more_doms d ds) ns l is w i =
+        C.and-has q P L built _ _ (structure-by r d (take (width r) ns) l is w.0 i)
+        (all-structures-by rs ds (drop (width r) ns) l is w.1 i)
+    all-structures-by _ _ ns l is w i = built.truths true
+
+module _ (q : ℕ → Text) (P : Ex → Type 0) (L : Dom → Type 0) (built : BuiltOf q P L (Unit {0}) (Unit {0}))
+    (views : (r : Repr) (d : Dom) (ns : List Text) (es : Exs) → B.DomHas P d → B.AllHave P es → P (seen_ex r d ns es)) where
+  -- What is said of items has it, where views have.
+  says-all : SaysOf q P P L L (λ l is. B.AllHave P is)
+  says-all = record {
+    have = λ l is a. a;
+    named = λ l is a. C.name-added q P L built l is a;
+    more = λ d g. g;
+    sizes = B.sized q P L built;
+    pair-keys = λ l r d ns is c k g a h. W.pair-key-has q P L built l c _ k h (views r d ns is g a);
+    relation-keys = λ l r d ns is ds k g a h. W.relation-key-has q P L built l ds _ k h (views r d ns is g a);
+    pairs = λ l r d ns is ms es b c g a h x. W.pairs-have q P L built l ms es b c _ h x (views r d ns is g a);
+    parts = λ l r d ns is ms b g a h. W.parts-have q P L built l ms b _ h (views r d ns is g a);
+    occurs = λ l r d ns is ms es g a h. W.occurs-have q P L built l _ ms es (views r d ns is g a) h;
+    numbered = λ l r d ns is n ks ms g a h. W.part-attributes-have q P L built l ks ms (cell_ex false n is) _ h
+        (C.cell-in q P L built false n is a) (views r d ns is g a);
+  }
+
+  -- The constraint that the cells of a view of a good domain are canonical has it.
+  pub structure-has : (r : Repr) (d : Dom) (ns : List Text) (l : ℕ) (is : Exs) → B.Good P L d → B.AllHave P is → P
+      (structure q size_terms r d ns l is)
+  structure-has = structure-by q P P L L (λ l is. B.AllHave P is) built says-all

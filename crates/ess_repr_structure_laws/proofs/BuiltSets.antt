@@ -8,7 +8,7 @@ use Rattle.ess_repr_structure_laws.proofs.BuiltStructures as B
 use Rattle.ess_repr_structure_laws.proofs.BuiltStructures.{is_used, BuiltOf, one-has, two-have, word-has, lists-have}
 use Rattle.ess_repr_structure_laws.proofs.BuiltParts as C
 
-module _ (q : ℕ → Text) (P : Ex → Type 0) (L : Dom → Type 0) (built : BuiltOf q P L) where
+module _ (q : ℕ → Text) (P : Ex → Type 0) (L : Dom → Type 0) {F : Type 0} (built : BuiltOf q P L F (Unit {0})) where
   abbrev AllHave : Exs → Type 0
   AllHave = B.AllHave P
 
@@ -27,7 +27,7 @@ module _ (q : ℕ → Text) (P : Ex → Type 0) (L : Dom → Type 0) (built : Bu
       → ShapesHave ss → AllHave is → P part →
       P (marker_ex q l ms es size n ss is part)
   marker-has l ms es size n ss is part g s x a p =
-      let c : P (cell_ex false n is) = built.cells false n is a in
+      let c : P (cell_ex false n is) = C.cell-in q P L built false n is a in
       C.and-has q P L built (size_ex ms es (cell_ex false n is)) (slots_ex q l size (cell_ex false n is) ss is part)
       (C.size-has q P L built ms es (cell_ex false n is) g c)
       (C.slots-have q P L built l size (cell_ex false n is) ss is part s c x a p)
@@ -42,9 +42,9 @@ module _ (q : ℕ → Text) (P : Ex → Type 0) (L : Dom → Type 0) (built : Bu
       → ShapesHave ss → AllHave is → P part →
       P (flags_ex q l ms es size n ss is part)
   flags-have l ms es size n ss is part g s x a p =
-      let here : P (cell_ex true n (add_ex is (name_ex (q l)))) = built.cells true n (add_ex is (name_ex (q l)))
+      let here : P (cell_ex true n (add_ex is (name_ex (q l)))) = C.cell-in q P L built true n (add_ex is (name_ex (q l)))
       (C.name-added q P L built l is a) in
-      let next : P (cell_ex true n (add_ex is (next_ex q l))) = built.cells true n (add_ex is (next_ex q l))
+      let next : P (cell_ex true n (add_ex is (next_ex q l))) = C.cell-in q P L built true n (add_ex is (next_ex q l))
       (C.next-added q P L built l is a) in
       C.and-has q P L built _ _ (C.and-has q P L built _ _
       (C.first-has q P L built l size (cell_ex true n (add_ex is (name_ex (q l)))) (cell_ex true n (add_ex is (next_ex q l))) s here
@@ -60,10 +60,10 @@ module _ (q : ℕ → Text) (P : Ex → Type 0) (L : Dom → Type 0) (built : Bu
   counted-has l ms es size n ss is part g s x a p =
       let here : P (le_ex (number_ex (pos 1)) (cell_ex false n (add_ex is (name_ex (q l))))) = C.le-has q P L built (number_ex (pos 1))
       (cell_ex false n (add_ex is (name_ex (q l)))) built.one
-      (built.cells false n (add_ex is (name_ex (q l))) (C.name-added q P L built l is a)) in
+      (C.cell-in q P L built false n (add_ex is (name_ex (q l))) (C.name-added q P L built l is a)) in
       let next : P (le_ex (number_ex (pos 1)) (cell_ex false n (add_ex is (next_ex q l)))) = C.le-has q P L built (number_ex (pos 1))
       (cell_ex false n (add_ex is (next_ex q l))) built.one
-      (built.cells false n (add_ex is (next_ex q l)) (C.next-added q P L built l is a)) in
+      (C.cell-in q P L built false n (add_ex is (next_ex q l)) (C.next-added q P L built l is a)) in
       C.and-has q P L built _ _ (C.and-has q P L built _ _ (C.first-has q P L built l size _ _ s here next)
       (C.use-has q P L built l size _ _ _ ss is part s here next (C.rise-has q P L built l ss is x a) x a p))
       (C.counts-have q P L built l ms es (upto size ∷ []) n is g (C.upto-has q P L built size s, tt) a)
@@ -72,9 +72,9 @@ module _ (q : ℕ → Text) (P : Ex → Type 0) (L : Dom → Type 0) (built : Bu
       dummy → ((x : Ex) → P x → P (atom x)) → AllHave is →
       P (dummy_ex q l ms es size dummy atom n is)
   dummy-has l ms es size dummy atom n is g s m f a =
-      let here : P (cell_ex false n (add_ex is (name_ex (q l)))) = built.cells false n (add_ex is (name_ex (q l)))
+      let here : P (cell_ex false n (add_ex is (name_ex (q l)))) = C.cell-in q P L built false n (add_ex is (name_ex (q l)))
       (C.name-added q P L built l is a) in
-      let next : P (cell_ex false n (add_ex is (next_ex q l))) = built.cells false n (add_ex is (next_ex q l))
+      let next : P (cell_ex false n (add_ex is (next_ex q l))) = C.cell-in q P L built false n (add_ex is (next_ex q l))
       (C.next-added q P L built l is a) in
       C.and-has q P L built _ _ (C.and-has q P L built _ _
       (C.each-has q P L built l (upto size ∷ []) _ (C.upto-has q P L built size s, tt)
@@ -91,7 +91,7 @@ module _ (q : ℕ → Text) (P : Ex → Type 0) (L : Dom → Type 0) (built : Bu
       P (use_ex q l size (le_ex (name_ex (q l)) (cell_ex false n is)) (le_ex (next_ex q l) (cell_ex false n is))
       (at_most_ex q (suc l) ss (add_ex is (name_ex (q l))) (add_ex is (next_ex q l))) ss is part)
   repetition-use-has l size n ss is part s x a p =
-      let c : P (cell_ex false n is) = built.cells false n is a in
+      let c : P (cell_ex false n is) = C.cell-in q P L built false n is a in
       C.use-has q P L built l size _ _ _ ss is part s (C.le-has q P L built (name_ex (q l)) (cell_ex false n is) (built.names l) c)
       (C.le-has q P L built (next_ex q l) (cell_ex false n is) (C.next-has q P L built l) c)
       (C.at-most-has q P L built (suc l) ss (add_ex is (name_ex (q l))) (add_ex is (next_ex q l)) x (C.name-added q P L built l is a)

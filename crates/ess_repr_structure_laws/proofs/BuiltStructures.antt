@@ -134,13 +134,34 @@ module _ (P : Ex → Type 0) (L : Dom → Type 0) where
   list-has no_doms g = tt
   list-has (more_doms d ds) g = (good-has d g.0, list-has ds g.1)
 
-module _ (q : ℕ → Text) (P : Ex → Type 0) where
-  -- Generators over domains and items, and conditions, that have it, where the names are those of q.
+-- So good domains are good for Q.
+module _ (P Q : Ex → Type 0) (L : Dom → Type 0) (f : (e : Ex) → P e → Q e) where
+  mutual
+    pub good-more : (d : Dom) → Good P L d → Good Q L d
+    good-more bool_dom g = tt
+    good-more (int_dom rs es) g = (g.0, have-more P Q f es g.1)
+    good-more (name_dom a) g = g
+    good-more (tuple_dom ds) g = all-good-more ds g
+    good-more (record_dom fs ds) g = all-good-more ds g
+    good-more (matrix_dom is d) g = (all-good-more is g.0, good-more d g.1)
+    good-more (set_dom ms es d) g = (have-more P Q f es g.0, good-more d g.1)
+    good-more (mset_dom ms es d) g = (g.0, have-more P Q f es g.1, good-more d g.2)
+    good-more (function_dom ms es d c) g = (have-more P Q f es g.0, good-more d g.1, good-more c g.2)
+    good-more (relation_dom ms es ds) g = (have-more P Q f es g.0, all-good-more ds g.1)
+    good-more (partition_dom ms es d) g = (have-more P Q f es g.0, good-more d g.1)
+
+    pub all-good-more : (ds : Doms) → AllGood P L ds → AllGood Q L ds
+    all-good-more no_doms g = tt
+    all-good-more (more_doms d ds) g = (good-more d g.0, all-good-more ds g.1)
+
+module _ (q : ℕ → Text) (P : Ex → Type 0) (F : Type 0) where
+  -- Generators over domains and items, and conditions, that have it, where the names are those of q. F says whether there may be ones over
+  -- items.
   abbrev pub GensHave : Gens → Type 0
   GensHave no_gens = Unit {0}
   GensHave (over (name_pat a) d gs) = ((l : ℕ) × (a ≡ q l)) × DomHas P d × GensHave gs
   GensHave (over (tuple_pat ps) d gs) = ⊥
-  GensHave (from (name_pat a) e gs) = ((l : ℕ) × (a ≡ q l)) × P e × GensHave gs
+  GensHave (from (name_pat a) e gs) = ((l : ℕ) × (a ≡ q l)) × P e × GensHave gs × F
   GensHave (from (tuple_pat ps) e gs) = ⊥
   GensHave (cond e gs) = P e × GensHave gs
 
@@ -206,53 +227,53 @@ module _ (P : Ex → Type 0) (L : Dom → Type 0) where
           part-good ms es d g,
         )
 
-module _ (q : ℕ → Text) (P : Ex → Type 0) (L : Dom → Type 0) where
-  -- What structures are built of has the property.
+module _ (q : ℕ → Text) (P : Ex → Type 0) (L : Dom → Type 0) (F H : Type 0) where
+  -- What structures are built of has the property, with generators over items where F says so, and cells where H does.
   pub record BuiltOf : Type 0 where
     pub truths : (b : Bool) → P (truth_ex b)
     pub zero : P (number_ex (pos 0))
     pub one : P (number_ex (pos 1))
     pub names : (l : ℕ) → P (name_ex (q l))
     pub nodes : (b : Bool) (op : Op) (es : Exs) → is_used op ≡ true → AllHave P es → P (node_ex b op es)
-    pub comps : (e : Ex) (gs : Gens) → P e → GensHave q P gs → P (comp_ex e gs)
-    pub cells : (b : Bool) (n : Text) (es : Exs) → AllHave P es → P (cell_ex b n es)
+    pub comps : (e : Ex) (gs : Gens) → P e → GensHave q P F gs → P (comp_ex e gs)
+    pub cells : (b : Bool) (n : Text) (es : Exs) → AllHave P es → H → P (cell_ex b n es)
     pub bounds : (d : Dom) → Good P L d → P (bound_ex d)
     pub listed : (a : Text) → Good P L (name_dom a) → P (listed_ex (name_dom a))
 
-  module _ (B : BuiltOf) where
-    -- An operator on one and on two operands.
-    pub one-has : (b : Bool) (o : Op1) (a : Ex) → is_used (unary o) ≡ true → P a → P (ex1 b o a)
-    one-has b o a u h = B.nodes b (unary o) (more_exs a no_exs) u (h, tt)
+module _ (q : ℕ → Text) (P : Ex → Type 0) (L : Dom → Type 0) {F H : Type 0} (B : BuiltOf q P L F H) where
+  -- An operator on one and on two operands.
+  pub one-has : (b : Bool) (o : Op1) (a : Ex) → is_used (unary o) ≡ true → P a → P (ex1 b o a)
+  one-has b o a u h = B.nodes b (unary o) (more_exs a no_exs) u (h, tt)
 
-    pub two-have : (b : Bool) (o : Op2) (x y : Ex) → is_used (binary o) ≡ true → P x → P y → P (ex2 b o x y)
-    two-have b o x y u g h = B.nodes b (binary o) (more_exs x (more_exs y no_exs)) u (g, (h, tt))
+  pub two-have : (b : Bool) (o : Op2) (x y : Ex) → is_used (binary o) ≡ true → P x → P y → P (ex2 b o x y)
+  two-have b o x y u g h = B.nodes b (binary o) (more_exs x (more_exs y no_exs)) u (g, (h, tt))
 
-    pub word-has : (b : Bool) (f : Fun) (a : Ex) → is_used (word f) ≡ true → P a → P (fun1 b f a)
-    word-has b f a u h = B.nodes b (word f) (more_exs a no_exs) u (h, tt)
+  pub word-has : (b : Bool) (f : Fun) (a : Ex) → is_used (word f) ≡ true → P a → P (fun1 b f a)
+  word-has b f a u h = B.nodes b (word f) (more_exs a no_exs) u (h, tt)
 
-    pub sized : SizedBy P L
-    sized = record {
-      zero = B.zero;
-      one = B.one;
-      products = λ a b g h. two-have false Op2.Times a b refl g h;
-      bounds = B.bounds;
-    }
+  pub sized : SizedBy P L
+  sized = record {
+    zero = B.zero;
+    one = B.one;
+    products = λ a b g h. two-have false Op2.Times a b refl g h;
+    bounds = B.bounds;
+  }
 
-    -- The slots of a set or multiset.
-    pub set-slots-have : (ms : List Mark) (es : Exs) (d : Dom) → Good P L (set_dom ms es d) → P (slots_ex (set_dom ms es d))
-    set-slots-have = set-slots P L sized
+  -- The slots of a set or multiset.
+  pub set-slots-have : (ms : List Mark) (es : Exs) (d : Dom) → Good P L (set_dom ms es d) → P (slots_ex (set_dom ms es d))
+  set-slots-have = set-slots P L sized
 
-    pub mset-slots-have : (ms : List Mark) (es : Exs) (d : Dom) → Good P L (mset_dom ms es d) → P (slots_ex (mset_dom ms es d))
-    mset-slots-have = mset-slots P L sized
+  pub mset-slots-have : (ms : List Mark) (es : Exs) (d : Dom) → Good P L (mset_dom ms es d) → P (slots_ex (mset_dom ms es d))
+  mset-slots-have = mset-slots P L sized
 
-    -- The domains of children are good.
-    pub tuple-set-good : (ms : List Mark) (es : Exs) (ds : Doms) → Good P L (relation_dom ms es ds) → Good P L (tuple_set_dom ms es ds)
-    tuple-set-good = tuples-good P L sized
+  -- The domains of children are good.
+  pub tuple-set-good : (ms : List Mark) (es : Exs) (ds : Doms) → Good P L (relation_dom ms es ds) → Good P L (tuple_set_dom ms es ds)
+  tuple-set-good = tuples-good P L sized
 
-    pub pair-relation-good : (ms : List Mark) (es : Exs) (d c : Dom) → Good P L (function_dom ms es d c) → Good P L
-        (pair_relation_dom size_terms ms es d c)
-    pair-relation-good = pairs-good P L sized
+  pub pair-relation-good : (ms : List Mark) (es : Exs) (d c : Dom) → Good P L (function_dom ms es d c) → Good P L
+      (pair_relation_dom size_terms ms es d c)
+  pair-relation-good = pairs-good P L sized
 
-    pub part-set-good : (ms : List Mark) (es : Exs) (d : Dom) → Good P L (partition_dom ms es d) → Good P L
-        (part_set_dom size_terms ms es d)
-    part-set-good = parts-good P L sized
+  pub part-set-good : (ms : List Mark) (es : Exs) (d : Dom) → Good P L (partition_dom ms es d) → Good P L
+      (part_set_dom size_terms ms es d)
+  part-set-good = parts-good P L sized

@@ -87,7 +87,7 @@ module _ (q : ℕ → Text) (P : ℤ → Type 0) (p0 : P (pos 0)) (p1 : P (pos 1
     doms-in no_doms h = tt
     doms-in (more_doms d ds) h = each-append (dom_constants d) (doms_constants ds) P (dom-in d h.0) (doms-in ds h.1)
 
-  gens-in : (gs : Gens) → B.GensHave q K gs → Each (gens_constants gs) P
+  gens-in : (gs : Gens) → B.GensHave q K (Unit {0}) gs → Each (gens_constants gs) P
   gens-in no_gens h = tt
   gens-in (over (name_pat a) d gs) h = each-append (dom_constants d) (gens_constants gs) P (dom-in d h.1) (gens-in gs h.2)
   gens-in (over (tuple_pat ps) d gs) h = absurd h
@@ -132,7 +132,7 @@ module _ (q : ℕ → Text) (P : ℤ → Type 0) (p0 : P (pos 0)) (p1 : P (pos 1
   }
 
   -- What structures are built of spells such numbers.
-  built-in : BuiltOf q K Any
+  built-in : BuiltOf q K Any (Unit {0}) (Unit {0})
   built-in = record {
     truths = λ b i. tt;
     zero = zero-in;
@@ -140,7 +140,7 @@ module _ (q : ℕ → Text) (P : ℤ → Type 0) (p0 : P (pos 0)) (p1 : P (pos 1
     names = λ l i. tt;
     nodes = λ b op es u a. node-in b op es (and-right (is_safe op) (counts_nothing op) u) a;
     comps = λ e gs h g. comp-in e gs h (gens-in gs g);
-    cells = λ b n es a i. operands-in es a false;
+    cells = λ b n es a h i. operands-in es a false;
     bounds = bound-has K Any sizes-in;
     listed = λ a g. listed-in (name_dom a) tt;
   }

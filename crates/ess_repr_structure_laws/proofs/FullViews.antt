@@ -13,7 +13,6 @@ use Rattle.ess_semantics.specs.Representations.{width}
 use Rattle.ess_semantics.specs.Declarations.{declarations, axes_of}
 use Rattle.ess_semantics.specs.Tidy.{over_axes}
 use Rattle.ess_semantics.specs.Meaning.{Env}
-use Rattle.ess_semantics.specs.Full.{Full}
 use Rattle.ess_repr_laws.specs.CanonicalTables.{TablesFit}
 use Rattle.ess_repr_laws.specs.Structure.{structure}
 use Rattle.ess_repr_laws.specs.StructureMeaning.{Bound, M, FoundBy}
@@ -25,8 +24,10 @@ use Rattle.ess_repr_laws.proofs.StructureOf.{StructureOf}
 use Rattle.ess_repr_laws.proofs.StructureOfTables.{tables-exact}
 use Rattle.ess_repr_laws.proofs.TablesWithin.{tables-within}
 use Rattle.ess_repr_declare_laws.specs.SizeTerms.{size_terms}
+use Rattle.ess_repr_structure_laws.specs.FreeIndices.{IsFullUnder}
 use Rattle.ess_repr_structure_laws.specs.Laws.{TablesAreFull, ReadsNoTable}
 use Rattle.ess_repr_structure_laws.specs.TotalNumbers.{total_dom}
+use Rattle.ess_repr_structure_laws.proofs.FreeStructures.{structure-free}
 use Rattle.ess_repr_structure_laws.proofs.FullAll.{full-all}
 use Rattle.ess_repr_structure_laws.proofs.FullKinds.{FullOf}
 use Rattle.ess_repr_structure_laws.proofs.FullNumbers.{dom-free}
@@ -40,7 +41,7 @@ module _ (env0 : Env) (q : ℕ → Text) (q-apart : (m l : ℕ) → l < m → sa
   -- Tables that fit are full for the structure of a view of which enough is known.
   known-full : (r : Repr) (d : Dom) (e : Domain) → Known env0 q q-apart r d e → ReadsNoTable d → (ns : List Text) (ts : Tables) (l : ℕ)
       (bs : Bound env0 q q-apart) → length ns ≡ width r → FoundBy env0 q q-apart ns ts → over_axes [] (axes_of r e) ts ≡ true →
-      TablesFit (declarations r e) ts → (g : Names Ty) → Full (structure q size_terms r d ns l no_exs) g (M env0 q q-apart bs)
+      TablesFit (declarations r e) ts → (g : Names Ty) → IsFullUnder (structure q size_terms r d ns l no_exs) g (M env0 q q-apart bs)
   known-full r d e k n ns ts l bs w f o t g =
       let h = ready env0 q q-apart r d e k in
       let s : StructureOf env0 q q-apart size_terms r d e = structures env0 q q-apart size_terms r d e h in
@@ -50,7 +51,7 @@ module _ (env0 : Env) (q : ℕ → Text) (q-apart : (m l : ℕ) → l < m → sa
       let th = s.there false ns ts [] p (subst (Fit (declarations r e)) (sym (behind-none (cells_of ts)))
       (c, tables-exact (declarations r e) ts o t)) in
       let x : FullIn (structure q size_terms r d ns l no_exs) (M env0 q q-apart bs) =
-      m.full ns ts l no_exs [] bs p th (λ cs a. refl) tt in x.full g
+      m.full ns ts l no_exs [] bs p th (λ cs a. refl) tt in (structure-free q q-apart r d ns l n, x.full g)
 
 -- So they are.
 pub views-full : TablesAreFull

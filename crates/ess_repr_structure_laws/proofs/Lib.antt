@@ -19,12 +19,15 @@ pub mod OrderlyJudged
 pub mod JudgedViews
 pub mod SoundTogether
 pub mod JudgedNumbers
+pub mod LiteralMarks
+pub mod JudgedLiterals
 -- What structures are built of
 pub mod PickedNumbers
 pub mod BuiltStructures
 pub mod BuiltShapes
 pub mod BuiltParts
 pub mod BuiltSets
+pub mod BuiltItems
 pub mod BuiltViews
 pub mod BuiltSizes
 pub mod BuiltAll
@@ -60,6 +63,9 @@ pub mod FullTuples
 pub mod FullLayers
 pub mod FullAll
 pub mod FullNumbers
+pub mod PassingParts
+pub mod FreeUnder
+pub mod FreeStructures
 pub mod FullViews
 -- Worked examples
 pub mod ExamplesStructures

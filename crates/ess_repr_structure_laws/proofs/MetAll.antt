@@ -53,7 +53,7 @@ module _ (env0 : Env) (q : ℕ → Text) (q-apart : (m l : ℕ) → l < m → sa
   abbrev G : Ex → Type 0
   G = M'.G env0 q q-apart
 
-  bt : BuiltOf q G Any
+  bt : BuiltOf q G Any (Unit {0}) (Unit {0})
   bt = K.built env0 q q-apart
 
   abbrev Is : Repr → Dom → Domain → Type 0

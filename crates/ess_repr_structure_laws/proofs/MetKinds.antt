@@ -30,6 +30,7 @@ use Rattle.ess_repr_declare_laws.specs.SizeTerms.{size_terms}
 use Rattle.ess_repr_structure_laws.proofs.BuiltStructures as B
 use Rattle.ess_repr_structure_laws.proofs.BuiltStructures.{BuiltOf}
 use Rattle.ess_repr_structure_laws.proofs.BuiltParts as C
+use Rattle.ess_repr_structure_laws.proofs.BuiltItems as J
 use Rattle.ess_repr_structure_laws.proofs.BuiltViews as V
 use Rattle.ess_repr_structure_laws.proofs.MetParts as P
 use Rattle.ess_repr_structure_laws.proofs.MetParts.{Any, MetIn, and-met, implies-met}
@@ -50,19 +51,19 @@ module _ (env0 : Env) (q : ℕ → Text) (q-apart : (m l : ℕ) → l < m → sa
   H = M'.H env0 q q-apart
 
   -- What structures are built of, but for views.
-  pub built : BuiltOf q G Any
+  pub built : BuiltOf q G Any (Unit {0}) (Unit {0})
   built = P.built-met env0 q q-apart (M'.Always env0 q q-apart) (λ k. k) (λ bs k v r. tt)
 
   -- The same of what stands under the names of index lists.
-  built-later : (l : ℕ) (bs : Names) → BuiltOf (λ k. q (name_from l k)) (H l bs) Any
+  built-later : (l : ℕ) (bs : Names) → BuiltOf (λ k. q (name_from l k)) (H l bs) Any (Unit {0}) (Unit {0})
   built-later l bs = P.built-met env0 q q-apart (Later env0 q q-apart l bs) (name_from l) (later-more env0 q q-apart l bs)
 
   -- Names and 1.
   pub name-met : (l : ℕ) → G (name_ex (q l))
-  name-met l = let k : BuiltOf q G Any = built in k.names l
+  name-met l = let k : BuiltOf q G Any (Unit {0}) (Unit {0}) = built in k.names l
 
   pub one-met : G (number_ex (pos 1))
-  one-met = let k : BuiltOf q G Any = built in k.one
+  one-met = let k : BuiltOf q G Any (Unit {0}) (Unit {0}) = built in k.one
 
   dom-later : (l : ℕ) (bs : Names) (d : Dom) → B.DomHas G d → B.DomHas (H l bs) d
   dom-later l bs d h = B.dom-more G (H l bs) (M'.always-later env0 q q-apart l bs) d h
@@ -163,8 +164,8 @@ module _ (env0 : Env) (q : ℕ → Text) (q-apart : (m l : ℕ) → l < m → sa
   value-key-met l bs as' ss is r c e Key.Injective x a y h =
       if-met (is_one_cell r) (differ_ex q l as' ss is) (components_differ_ex q l c 2 e) (H l bs)
       (M'.always-later env0 q q-apart l bs (differ_ex q l as' ss is) (V.differ-cells-have q G Any built l as' ss is x a))
-      (V.differ-has (λ k. q (name_from l k)) (H l bs) Any (built-later l bs) 0 c 2 e h)
-  value-key-met l bs as' ss is r c e k x a y h = V.pair-key-has (λ k. q (name_from l k)) (H l bs) Any (built-later l bs) 0 c e k
+      (J.differ-has (λ k. q (name_from l k)) (H l bs) Any (built-later l bs) 0 c 2 e h)
+  value-key-met l bs as' ss is r c e k x a y h = J.pair-key-has (λ k. q (name_from l k)) (H l bs) Any (built-later l bs) 0 c e k
       (dom-later l bs c y) h
 
   flag-key-met : (l : ℕ) (bs : Names) (as' : List Dom) (n : Text) (is : Exs) (c : Dom) (e : Ex) (k : Key) → B.ListHas G as' → B.AllHave G is
@@ -173,7 +174,7 @@ module _ (env0 : Env) (q : ℕ → Text) (q-apart : (m l : ℕ) → l < m → sa
   flag-key-met l bs as' n is c e Key.Total x a y h =
       M'.always-later env0 q q-apart l bs (each_ex q l as' (cell_ex true n (row_index q l as' is)))
       (C.each-has q G Any built l as' (cell_ex true n (row_index q l as' is)) x (C.cell-has q G Any built true n l as' is a))
-  flag-key-met l bs as' n is c e k x a y h = V.pair-key-has (λ k. q (name_from l k)) (H l bs) Any (built-later l bs) 0 c e k
+  flag-key-met l bs as' n is c e k x a y h = J.pair-key-has (λ k. q (name_from l k)) (H l bs) Any (built-later l bs) 0 c e k
       (dom-later l bs c y) h
 
   -- A function with a value for each argument: the view meets its structures where each value does.
@@ -201,7 +202,7 @@ module _ (env0 : Env) (q : ℕ → Text) (q-apart : (m l : ℕ) → l < m → sa
       (keys_ex (relation_key_ex q l ds e) ms) (N bs)
   keys-later l ms ds e bs y h =
       keys-met l bs (relation_key_ex q l ds e) ms
-      (λ k. V.relation-key-has (λ k. q (name_from l k)) (H l bs) Any (built-later l bs) 0 ds e k
+      (λ k. J.relation-key-has (λ k. q (name_from l k)) (H l bs) Any (built-later l bs) 0 ds e k
       (B.doms-more G (H l bs) (M'.always-later env0 q q-apart l bs) ds y) h)
 
   -- At each place of a function with flags: its value where the flag is true, and cells out of use elsewhere.
@@ -232,17 +233,17 @@ module _ (env0 : Env) (q : ℕ → Text) (q-apart : (m l : ℕ) → l < m → sa
   pub pairs-met : (l : ℕ) (ms : List Mark) (es : Exs) (d c : Dom) (e : Ex) (bs : Names) → B.AllHave G es → B.DomHas G c → H l bs e → MetIn
       (pairs_ex q l ms es d c e) (N bs)
   pairs-met l ms es d c e bs g y h =
-      here-later env0 q q-apart (V.pairs-have (λ k. q (name_from l k)) (H l bs) Any (built-later l bs) 0 ms es d c e
+      here-later env0 q q-apart (J.pairs-have (λ k. q (name_from l k)) (H l bs) Any (built-later l bs) 0 ms es d c e
       (B.have-more G (H l bs) (M'.always-later env0 q q-apart l bs) es g) (dom-later l bs c y) h)
 
   pub parts-met : (l : ℕ) (ms : List Mark) (d : Dom) (e : Ex) (bs : Names) → B.DomHas G d → H l bs e → MetIn (parts_ex q l ms d e) (N bs)
   parts-met l ms d e bs y h = here-later env0 q q-apart
-      (V.parts-have (λ k. q (name_from l k)) (H l bs) Any (built-later l bs) 0 ms d e (dom-later l bs d y) h)
+      (J.parts-have (λ k. q (name_from l k)) (H l bs) Any (built-later l bs) 0 ms d e (dom-later l bs d y) h)
 
   pub occurs-met : (l : ℕ) (e : Ex) (ms : List Mark) (ns : Exs) (bs : Names) → B.AllHave G ns → H l bs e → MetIn (occurs_ex q l e ms ns)
       (N bs)
   occurs-met l e ms ns bs g h = here-later env0 q q-apart
-      (V.occurs-have (λ k. q (name_from l k)) (H l bs) Any (built-later l bs) 0 e ms ns h
+      (J.occurs-have (λ k. q (name_from l k)) (H l bs) Any (built-later l bs) 0 e ms ns h
       (B.have-more G (H l bs) (M'.always-later env0 q q-apart l bs) ns g))
 
   -- A partition by the numbers of parts.
@@ -252,6 +253,6 @@ module _ (env0 : Env) (q : ℕ → Text) (q-apart : (m l : ℕ) → l < m → sa
       (N bs)
   numbered-met l ks ms d n w is e bs g x h a f =
       and-met _ _ (N bs) (here env0 q q-apart (V.numbers-have q G Any built l d n w is x h a) bs)
-      (λ t. here-later env0 q q-apart (V.part-attributes-have (λ k. q (name_from l k)) (H l bs) Any (built-later l bs) 0 ks ms n e
+      (λ t. here-later env0 q q-apart (J.part-attributes-have (λ k. q (name_from l k)) (H l bs) Any (built-later l bs) 0 ks ms n e
       (B.have-more G (H l bs) (M'.always-later env0 q q-apart l bs) ms g)
       (M'.always-later env0 q q-apart l bs n h) (f t)))

@@ -97,7 +97,7 @@ abbrev pub name_from : ℕ → ℕ → ℕ
 name_from l zero = l
 name_from l (suc k) = suc (name_from l k)
 
-from-low : (l k : ℕ) → l ≤ name_from l k
+pub from-low : (l k : ℕ) → l ≤ name_from l k
 from-low l zero = le_refl l
 from-low l (suc k) = let h = from-low l k in omega (arith, h)
 

@@ -78,7 +78,7 @@ module _ (env0 : Env) (q : ℕ → Text) (q-apart : (m l : ℕ) → l < m → sa
     doms-met no_doms h bs r = tt
     doms-met (more_doms d ds) h bs r = (dom-met d h.0 bs r, doms-met ds h.1 bs r)
 
-  gens-met : (gs : Gens) (e : Ex) → W e → B.GensHave own_name W gs → (bs : Names) → R bs → MeetsGens gs (N bs) (λ here. Meets e here)
+  gens-met : (gs : Gens) (e : Ex) → W e → B.GensHave own_name W (Unit {0}) gs → (bs : Names) → R bs → MeetsGens gs (N bs) (λ here. Meets e here)
   gens-met no_gens e t h bs r = t.at bs r
   gens-met (over (name_pat a) d gs) e t h bs r =
       subst (λ n. MeetsGens (over (name_pat n) d gs) (N bs) (λ here. Meets e here)) (sym h.0.1) (
@@ -113,7 +113,7 @@ module _ (env0 : Env) (q : ℕ → Text) (q-apart : (m l : ℕ) → l < m → sa
   }
 
   -- What structures are built of is so.
-  pub built-met : BuiltOf own_name W Any
+  pub built-met : BuiltOf own_name W Any (Unit {0}) (Unit {0})
   built-met = record {
     truths = λ b. record { at = λ bs r. tt };
     zero = record { at = λ bs r. tt };
@@ -121,7 +121,7 @@ module _ (env0 : Env) (q : ℕ → Text) (q-apart : (m l : ℕ) → l < m → sa
     names = λ l. record { at = λ bs r. tt };
     nodes = λ b op es u a. record { at = λ bs r. operands-met (guards op) es a bs r };
     comps = λ e gs t h. record { at = λ bs r. gens-met gs e t h bs r };
-    cells = λ b n es a. record { at = λ bs r. operands-met false es a bs r };
+    cells = λ b n es a h. record { at = λ bs r. operands-met false es a bs r };
     bounds = λ d g. bound-has W Any sizes-met d g;
     listed = λ a g. let s : SizesOf W = sizes-met in s.listed (name_dom a) tt;
   }

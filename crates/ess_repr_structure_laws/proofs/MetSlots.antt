@@ -50,12 +50,12 @@ module _ (env0 : Env) (q : ℕ → Text) (q-apart : (m l : ℕ) → l < m → sa
   abbrev G : Ex → Type 0
   G = M'.G env0 q q-apart
 
-  bt : BuiltOf q G Any
+  bt : BuiltOf q G Any (Unit {0}) (Unit {0})
   bt = K.built env0 q q-apart
 
   -- A cell.
   pub cell-met : (b : Bool) (n : Text) (is : Exs) → B.AllHave G is → G (cell_ex b n is)
-  cell-met b n is a = let k : BuiltOf q G Any = bt in k.cells b n is a
+  cell-met b n is a = let k : BuiltOf q G Any (Unit {0}) (Unit {0}) = bt in k.cells b n is a tt
 
   -- Of tables over axes those behind the first are.
   pub over-rest : (i : List ℤ) (a : Axes) (ass : List Axes) (t : Table) (ts : Tables) → over_axes i (a ∷ ass) (t ∷ ts) ≡ true → over_axes i

@@ -14,6 +14,11 @@ module _ (P : Ex → Type 0) where
   AllHave no_exs = Unit {0}
   AllHave (more_exs e es) = P e × AllHave es
 
+  -- One of two expressions.
+  pub if-has : (b : Bool) (x y : Ex) → P x → P y → P (if b then x else y)
+  if-has true x y g h = g
+  if-has false x y g h = h
+
   pub if-have : (b : Bool) (x y : List Mark × Exs) → AllHave x.1 → AllHave y.1 → AllHave ((if b then x else y).1)
   if-have true x y a b = a
   if-have false x y a b = b

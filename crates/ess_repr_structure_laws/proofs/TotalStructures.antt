@@ -71,7 +71,7 @@ module _ (env0 : Env) (q : ℕ → Text) (q-apart : (m l : ℕ) → l < m → sa
     doms-total no_doms h bs = tt
     doms-total (more_doms d ds) h bs = (dom-total d h.0 bs, doms-total ds h.1 bs)
 
-  under-total : (gs : Gens) (e : Ex) → T e → B.GensHave q T gs → (bs : Names) → TotalUnder gs (N bs) (λ here. Total e here)
+  under-total : (gs : Gens) (e : Ex) → T e → B.GensHave q T (Unit {0}) gs → (bs : Names) → TotalUnder gs (N bs) (λ here. Total e here)
   under-total no_gens e t h bs = t bs
   under-total (over (name_pat a) d gs) e t h bs =
       subst (λ n. TotalUnder (over (name_pat n) d gs) (N bs) (λ here. Total e here)) (sym h.0.1)
@@ -142,7 +142,7 @@ module _ (env0 : Env) (q : ℕ → Text) (q-apart : (m l : ℕ) → l < m → sa
         }) g.1
 
   -- What structures are built of is total.
-  built-total : BuiltOf q T Sized
+  built-total : BuiltOf q T Sized (Unit {0}) (Unit {0})
   built-total = record {
     truths = λ b bs. tt;
     zero = λ bs. tt;
@@ -150,7 +150,7 @@ module _ (env0 : Env) (q : ℕ → Text) (q-apart : (m l : ℕ) → l < m → sa
     names = λ l bs. tt;
     nodes = λ b op es u a bs. safe-total b op es (N bs) (and-left (is_safe op) (counts_nothing op) u) (all-total es a bs);
     comps = λ e gs t h bs. under-total gs e t h bs;
-    cells = λ b n es a bs. all-total es a bs;
+    cells = λ b n es a h bs. all-total es a bs;
     bounds = λ d g bs. let b : BoundIs (bound_ex d) bs = bound-is d g bs in b.total;
     listed = λ a g bs. listed-total (N bs) (name_dom a) tt;
   }

@@ -3,7 +3,7 @@ use Rattle.std.specs.Prelude.{◌≡◌, ℕ, ◌<◌, Bool, true, false, List, 
 use Rattle.std.specs.List.{list_any}
 use Rattle.ess_semantics.specs.Values.{Text, truth}
 use Rattle.ess_semantics.specs.Order.{same_text}
-use Rattle.ess_semantics.specs.Trees.{Repr, no_exs, Dom, Stm}
+use Rattle.ess_semantics.specs.Trees.{Repr, Ex, no_exs, Dom, Stm}
 use Rattle.ess_semantics.specs.Domains.{Domain}
 use Rattle.ess_semantics.specs.Membership.{no_negative_attribute}
 use Rattle.ess_semantics.specs.Tables.{Tables}
@@ -16,26 +16,26 @@ use Rattle.ess_semantics.specs.Tidy.{over_axes}
 use Rattle.ess_semantics.specs.Meaning.{Env, meaning, domain_of}
 use Rattle.ess_semantics.specs.Totality.{Total, TotalDom}
 use Rattle.ess_semantics.specs.Meets.{Meets, MeetsDom}
-use Rattle.ess_semantics.specs.Full.{Full}
 use Rattle.ess_semantics.specs.Names.{Names}
 use Rattle.ess_semantics.specs.Types.{Ty}
 use Rattle.ess_semantics.specs.Constants.{constants_of_tree, among_constants, dom_constants}
 use Rattle.ess_semantics.specs.FreeNames.{FreeNamesAreDom}
 use Rattle.ess_semantics.specs.Scopes.{Scope, asking, every_dom}
 use Rattle.ess_semantics.specs.Occurrences.{parts_of_dom, is_cell_or_view}
-use Rattle.ess_semantics.specs.Resolving.{resolve_dom}
+use Rattle.ess_semantics.specs.Resolving.{resolve, resolve_dom}
 use Rattle.ess_semantics.specs.Typed.{Typed}
 use Rattle.ess_types_laws.specs.SoundParts.{relation_has_parts}
 use Rattle.ess_semantics.specs.DomainJudgements.{needs_known_slots}
-use Rattle.ess_semantics.specs.Judgements.{ill_typed, not_enumerable, domain_in, meets}
+use Rattle.ess_semantics.specs.Judgements.{ill_typed, not_enumerable, expression_of, domain_in, meets}
 use Rattle.ess_guard_laws.specs.Covered.{CoveredDom}
-use Rattle.ess_guard_laws.specs.LiteralsFit.{DomLiteralsFit}
+use Rattle.ess_guard_laws.specs.LiteralsFit.{LiteralsFit, DomLiteralsFit}
 use Rattle.ess_repr_laws.specs.CanonicalTables.{TablesFit}
 use Rattle.ess_repr_laws.specs.Structure.{structure}
 use Rattle.ess_repr_laws.specs.StructureMeaning.{Bound, M, FoundBy}
 use Rattle.ess_repr_laws.specs.StructureReady.{Ready}
 use Rattle.ess_repr_declare_laws.specs.SizeTerms.{size_terms}
 use Rattle.ess_repr_structure_laws.specs.DomainNumbers.{NumbersIn}
+use Rattle.ess_repr_structure_laws.specs.FreeIndices.{IsFullUnder}
 use Rattle.ess_repr_structure_laws.specs.OrderlyDomains.{Orderly}
 use Rattle.ess_repr_structure_laws.specs.TotalNumbers.{total_dom}
 
@@ -123,17 +123,19 @@ abbrev pub ReadsNoTable : Dom → Type 0
 ReadsNoTable d = list_any is_cell_or_view (parts_of_dom d) ≡ false
 
 -- Tables that are found by their names, on the declared axes with items in the declared domains, are full for the structure: whatever types
--- names have, each of its cells and views finds what it reads, wherever it stands, also under conditions that may fail. The numbers of the
--- domain read no table. So it is with the numbers under their conditions, where these read none.
+-- names have, each of its cells and views finds what it reads, wherever it stands, also under conditions that may fail; and no name over
+-- items stands in an index list under it. The numbers of the domain read no table. So it is with the numbers under their conditions, where
+-- these read none.
 pub record TablesAreFull : Type 0 where
   pub own : (env0 : Env) (q : ℕ → Text) (apart : (m l : ℕ) → l < m → same_text (q m) (q l) ≡ false) (r : Repr) (d : Dom) (e : Domain) →
       JudgedView env0 q r d e → ReadsNoTable d → (ns : List Text) (ts : Tables) (l : ℕ) (bs : Bound env0 q apart) →
       length ns ≡ width r → FoundBy env0 q apart ns ts → over_axes [] (axes_of r e) ts ≡ true → TablesFit (declarations r e) ts →
-      (g : Names Ty) → Full (structure q size_terms r d ns l no_exs) g (M env0 q apart bs)
+      (g : Names Ty) → IsFullUnder (structure q size_terms r d ns l no_exs) g (M env0 q apart bs)
   pub guarded : (x y : Text) (env0 : Env) (q : ℕ → Text) (apart : (m l : ℕ) → l < m → same_text (q m) (q l) ≡ false) (r : Repr) (d : Dom)
       (e : Domain) → JudgedView env0 q r d e → ReadsNoTable (total_dom x y d) → (ns : List Text) (ts : Tables) (l : ℕ)
       (bs : Bound env0 q apart) → length ns ≡ width r → FoundBy env0 q apart ns ts → over_axes [] (axes_of r e) ts ≡ true →
-      TablesFit (declarations r e) ts → (g : Names Ty) → Full (structure q size_terms r (total_dom x y d) ns l no_exs) g (M env0 q apart bs)
+      TablesFit (declarations r e) ts → (g : Names Ty) →
+      IsFullUnder (structure q size_terms r (total_dom x y d) ns l no_exs) g (M env0 q apart bs)
 
 -- The bounds and attribute values of a domain that is judged to be well typed, resolved, are whole numbers, under an env that gives names
 -- values of their types: where the domain mentions no table, and the tuples of relation literals in it have parts, as in each text.
@@ -142,3 +144,11 @@ JudgedNumbersAreNumbers =
     (w t : Stm) (s : Scope) (d : Dom) (env : Env) → domain_in t ≡ Some d → meets ill_typed w t s ≡ true →
     every_dom (record asking { of_ex = relation_has_parts }) d s ≡ true → ReadsNoTable d → Typed s.tys env →
     NumbersIn (resolve_dom d s.tys) env
+
+-- Literals stand where types allow them in the expression of a judged statement and in its domain, once they are resolved: none is a
+-- Boolean, and in a fold or beside a lexicographic sign stand lists, sets and multisets alone.
+pub record JudgedLiteralsFit : Type 0 where
+  pub expressions : (w t : Stm) (s : Scope) (e : Ex) → expression_of t ≡ Some e → meets ill_typed w t s ≡ true →
+      LiteralsFit false (resolve e s.tys)
+  pub domains : (w t : Stm) (s : Scope) (d : Dom) → domain_in t ≡ Some d → meets ill_typed w t s ≡ true →
+      DomLiteralsFit (resolve_dom d s.tys)

@@ -3,5 +3,7 @@ pub mod DomainNumbers
 pub mod OrderlyDomains
 -- Numbers under their conditions
 pub mod TotalNumbers
+-- Names in index lists
+pub mod FreeIndices
 -- What is proved
 pub mod Laws

@@ -1,6 +1,6 @@
 //! Laws of structures of judged domains, each the contract of a function that does nothing.
 
-ghost use Rattle.ess_repr_structure_laws.specs.Laws.{JudgedDomainsAreOrderly, JudgedViewsAreReady, JudgedStructuresMeanCanonical, StructuresAreTotal, StructuresSpellConstants, TablesMeetStructures, TablesAreFull, JudgedNumbersAreNumbers};
+ghost use Rattle.ess_repr_structure_laws.specs.Laws.{JudgedDomainsAreOrderly, JudgedViewsAreReady, JudgedStructuresMeanCanonical, StructuresAreTotal, StructuresSpellConstants, TablesMeetStructures, TablesAreFull, JudgedNumbersAreNumbers, JudgedLiteralsFit};
 
 /// A domain that meets the judgements is one that the other laws speak of.
 pub fn judged_domains_are_orderly()
@@ -33,8 +33,8 @@ pub fn tables_meet_structures()
     ensures { TablesMeetStructures }
 {}
 
-/// Tables on the declared axes with items in the declared domains are full for the structure constraint, where its view's domain reads no
-/// table.
+/// Tables on the declared axes with items in the declared domains are full for the structure constraint, and no name over items stands in an
+/// index list under it, where its view's domain reads no table.
 pub fn tables_are_full()
     ensures { TablesAreFull }
 {}
@@ -42,4 +42,9 @@ pub fn tables_are_full()
 /// The bounds and attribute values of a judged domain are whole numbers.
 pub fn judged_numbers_are_numbers()
     ensures { JudgedNumbersAreNumbers }
+{}
+
+/// Literals of a judged statement stand where types allow them, once it is resolved.
+pub fn judged_literals_fit()
+    ensures { JudgedLiteralsFit }
 {}

@@ -33,14 +33,17 @@ cells_made b out x d own all kids ds es p q f g h e =
     ∙ ap (λ l. cells own ++ cells_of_children b (trees (out-Repr x).children) (map pure_closed l)) g
     ∙ ap (λ c. cells own ++ cells_of_children c (trees (out-Repr x).children) (map pure_closed ds)) h
     ∙ ap (λ l. l ++ cells_of_children (out || frees (out-Repr x).kind) (trees (out-Repr x).children) (map pure_closed ds)) p
-    ∙ ap (λ l. own_cells out (out-Repr x).kind (pure_closed d) ++ cells_of_children (out || frees (out-Repr x).kind) (trees (out-Repr x).children) l) q
+    ∙ ap (λ l. own_cells out (out-Repr x).kind (pure_closed d) ++ cells_of_children (out || frees (out-Repr x).kind) (trees
+    (out-Repr x).children) l) q
     ∙ sym (cells_of-layer out (out-Repr x).kind (trees (out-Repr x).children) (pure_closed d))
     ∙ ap (λ t. cells_of out t (pure_closed d)) (sym (pure_repr_is x))
 
 -- ---- the children in turn
 
-pub children_more : (out : Bool) (rs : List Repr) (ds : List Closed) (i : ℕ) (x e : Repr) (d b : Closed) (own own' all all' : List cell.Closed) (whole : List Domain) →
-    i < length rs → i < length ds → x ≡ get_or rs i e → d ≡ get_or ds i b → cells own ≡ cells_of out (pure_repr x) (pure_closed d) → own' ≡ own →
+pub children_more : (out : Bool) (rs : List Repr) (ds : List Closed) (i : ℕ) (x e : Repr) (d b : Closed)
+    (own own' all all' : List cell.Closed) (whole : List Domain) →
+    i < length rs → i < length ds → x ≡ get_or rs i e → d ≡ get_or ds i b → cells own ≡ cells_of out (pure_repr x) (pure_closed d) →
+    own' ≡ own →
     all' ≡ all ++ own' → cells all ++ cells_of_children out (trees (drop i rs)) (map pure_closed (drop i ds)) ≡ whole →
     cells all' ++ cells_of_children out (trees (drop (i + 1) rs)) (map pure_closed (drop (i + 1) ds)) ≡ whole
 children_more out rs ds i x e d b own own' all all' whole h k is js en o g p =
@@ -58,7 +61,8 @@ none-below : (out : Bool) (rs : pure.Reprs) → cells_of_children out rs [] ≡ 
 none-below out no_reprs = refl
 none-below out (more_reprs r rs) = refl
 
-pub children_short : (out : Bool) (rs : List Repr) (ds : List Closed) (i : ℕ) (all : List cell.Closed) (whole : List Domain) → length ds ≤ i →
+pub children_short : (out : Bool) (rs : List Repr) (ds : List Closed) (i : ℕ) (all : List cell.Closed) (whole : List Domain) →
+    length ds ≤ i →
     cells all ++ cells_of_children out (trees (drop i rs)) (map pure_closed (drop i ds)) ≡ whole → cells all ≡ whole
 children_short out rs ds i all whole h p =
     sym (append-nil (cells all)) ∙ ap (λ l. cells all ++ l) (sym (none-below out (trees (drop i rs))))
@@ -67,4 +71,7 @@ children_short out rs ds i all whole h p =
 pub children_all : (out : Bool) (rs : List Repr) (ds : List Closed) (i : ℕ) (all : List cell.Closed) (whole : List Domain) → length rs ≤ i →
     cells all ++ cells_of_children out (trees (drop i rs)) (map pure_closed (drop i ds)) ≡ whole → cells all ≡ whole
 children_all out rs ds i all whole h p =
-    sym (append-nil (cells all)) ∙ ap (λ t. cells all ++ cells_of_children out t (map pure_closed (drop i ds))) (sym (at_drop_all trees rs i h)) ∙ p
+    sym (append-nil (cells all)) ∙ ap (λ t. cells all ++ cells_of_children out t (map pure_closed (drop i ds))) (sym
+    (at_drop_all trees rs i h)) ∙ p
+
+pub ruleset children_in_turn = (children_more, children_short, children_all)

@@ -1,7 +1,6 @@
 -- Two lists of runs compared one by one, and what their equality says of cells.
 use Rattle.std.proofs.Common.{◌≡◌, ◌≢◌, refl, sym, ap, ◌∙◌, ℕ, suc, ◌+◌, ◌<◌, ◌≤◌, ℤ, Bool, true, false, ◌&&◌, List, [], ◌∷◌, map, length, get_or, drop, Option, Some, None, arith}
 use Rattle.std.proofs.lemmas.List.{at_drop_more, drop_all}
-use Rattle.ess_semantics.specs.Order.{same_int}
 use Rattle.ess_semantics.specs.Domains.{Span, Domain}
 use Rattle.ess_semantics.specs.Tables.{is_cell}
 use Rattle.ess_semantics.specs.Satisfaction.{AreRuns}
@@ -41,7 +40,8 @@ spans-equal (r ∷ rs) (s ∷ ss) e =
 spans-themselves : (rs : List Span) → same_spans rs rs ≡ true
 spans-themselves [] = refl
 spans-themselves (r ∷ rs) =
-    and-both (same_span r r) (same_spans rs rs) (and-both (same_end r.low r.low) (same_end r.high r.high) (end-itself r.low) (end-itself r.high))
+    and-both (same_span r r) (same_spans rs rs) (and-both (same_end r.low r.low) (same_end r.high r.high) (end-itself r.low)
+    (end-itself r.high))
     (spans-themselves rs)
 
 -- ---- what runs say of cells
@@ -88,17 +88,20 @@ next-same rs ss i r s l g m h =
     ∙ at_drop_more (λ us. same_all (r ∷ drop (i + 1) rs) us) ss i s m
     ∙ ap (λ u. same_all (r ∷ drop (i + 1) rs) (u ∷ drop (i + 1) ss)) (sym h)
 
-pub runs_not : (rs ss : List Run) (i : ℕ) (r s : Run) → SameBehind rs ss i → i < length rs → r ≡ get_or rs i r → i < length ss → s ≡ get_or ss i s →
+pub runs_not : (rs ss : List Run) (i : ℕ) (r s : Run) → SameBehind rs ss i → i < length rs → r ≡ get_or rs i r → i < length ss →
+    s ≡ get_or ss i s →
     same_span (pure_run r) (pure_run s) ≡ false → false ≡ same_spans (map pure_run rs) (map pure_run ss)
 runs_not rs ss i r s k l g m h e =
     sym (k ∙ next-same rs ss i r s l g m h ∙ ap (λ b. b && same_spans (map pure_run (drop (i + 1) rs)) (map pure_run (drop (i + 1) ss))) e)
 
-pub runs_more : (rs ss : List Run) (i : ℕ) (r s : Run) → SameBehind rs ss i → i < length rs → r ≡ get_or rs i r → i < length ss → s ≡ get_or ss i s →
+pub runs_more : (rs ss : List Run) (i : ℕ) (r s : Run) → SameBehind rs ss i → i < length rs → r ≡ get_or rs i r → i < length ss →
+    s ≡ get_or ss i s →
     same_span (pure_run r) (pure_run s) ≡ true → SameBehind rs ss (i + 1)
 runs_more rs ss i r s k l g m h e =
     k ∙ next-same rs ss i r s l g m h ∙ ap (λ b. b && same_spans (map pure_run (drop (i + 1) rs)) (map pure_run (drop (i + 1) ss))) e
 
-pub runs_all : (rs ss : List Run) (i : ℕ) → SameBehind rs ss i → length rs ≤ i → length rs ≡ length ss → true ≡ same_spans (map pure_run rs) (map pure_run ss)
+pub runs_all : (rs ss : List Run) (i : ℕ) → SameBehind rs ss i → length rs ≤ i → length rs ≡ length ss →
+    true ≡ same_spans (map pure_run rs) (map pure_run ss)
 runs_all rs ss i k l e =
     sym (k ∙ ap (λ us. same_all us (drop i ss)) (drop_all i rs l) ∙ ap (λ us. same_all [] us) (drop_all i ss (omega (arith, l, e))))
 

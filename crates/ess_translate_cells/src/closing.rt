@@ -38,9 +38,11 @@ pub fn closed_tables(
     requires known { IsKnown under.now.known }
     ensures ok { IfOk result (λ rs. AreClosedTables under.now decls.now rs) }
     ensures undefined { result ≡ Err Undefined
-        → InModels under.now (λ E q s. (add : Scope → TableDecl → Scope) → list_all (domain_has_meaning E q) (pure_decls add s decls.now) ≡ false) }
+        → InModels under.now (λ E q s. (add : Scope → TableDecl → Scope) →
+        list_all (domain_has_meaning E q) (pure_decls add s decls.now) ≡ false) }
     ensures big { result ≡ Err Big
-        → InModels under.now (λ E q s. (add : Scope → TableDecl → Scope) → list_any (decl_is_large (all_decls E) q) (pure_decls add s decls.now) ≡ true) }
+        → InModels under.now (λ E q s. (add : Scope → TableDecl → Scope) →
+        list_any (decl_is_large (all_decls E) q) (pure_decls add s decls.now) ≡ true) }
 {
     let mut closed = Row::new(alloc);
     for decl in decls {

@@ -17,7 +17,7 @@ use std::alloc::Global;
 
 /// The cells of each of the tables that the layer of a kind over a domain has of its own, where they can be out of use or not; none
 /// where the kind is none for the domain. `NoMemory` where there is no room for them, or a number is too large.
-#[tactic(auto, using(crate::proofs::OwnForms::no_cells_of_tuple, crate::proofs::OwnForms::no_cells_of_record, crate::proofs::OwnForms::no_cells_of_matrix))]
+#[tactic(auto, using(crate::proofs::OwnForms::no_cells))]
 pub(crate) fn own_cells(
     alloc: Global,
     out: bool,
@@ -147,7 +147,8 @@ fn of_function(
     from: &Closed,
     to: &Closed,
 ) -> Result<Row<CellDomain>, NoMemory>
-    ensures { IfOk result (λ r. map pure_cells r ≡ own_meant out kind (functions (pure_attributes own.now) (pure_closed from.now) (pure_closed to.now))) }
+    ensures { IfOk result (λ r. map pure_cells r ≡ own_meant out kind
+        (functions (pure_attributes own.now) (pure_closed from.now) (pure_closed to.now))) }
 {
     match kind {
         ReprKind::Function1DPartial => truths(alloc),
@@ -221,7 +222,7 @@ fn both(alloc: Global, first: CellDomain, second: CellDomain) -> Result<Row<Cell
 // ---- the dummy
 
 /// The cells of slots that hold members of a domain or its dummy. `NoMemory` where the dummy is too large.
-#[tactic(auto, using(crate::proofs::OwnForms::dummy_of_bool, crate::proofs::OwnForms::dummy_of_int, crate::proofs::OwnForms::dummy_of_named, crate::proofs::OwnForms::no_dummy))]
+#[tactic(auto, using(crate::proofs::OwnForms::dummy_forms, crate::proofs::OwnForms::no_dummy))]
 fn with_dummy(alloc: Global, out: bool, member: &Closed) -> Result<CellDomain, NoMemory>
     ensures { IfOk result (λ c. pure_cells c ≡ dummy_cells out (pure_closed member.now)) }
 {
@@ -236,7 +237,8 @@ fn with_dummy(alloc: Global, out: bool, member: &Closed) -> Result<CellDomain, N
 /// Ranges as runs, with the number above them where there is one range that has a high end.
 #[tactic(auto, using(crate::proofs::OwnForms::dummy_there, crate::proofs::OwnForms::dummy_nowhere))]
 fn runs_and_dummy(alloc: Global, spans: &[Span]) -> Result<Row<Run>, NoMemory>
-    ensures { IfOk result (λ r. integers (map pure_run r) ≡ with_number (dummy_of (integers (map pure_span spans.now))) (integers (map pure_span spans.now))) }
+    ensures { IfOk result (λ r. integers (map pure_run r)
+        ≡ with_number (dummy_of (integers (map pure_span spans.now))) (integers (map pure_span spans.now))) }
 {
     let mut runs = runs_in(alloc, spans)?;
     if let Some(high) = only_high(spans) {

@@ -36,7 +36,8 @@ fn run_of(span: Span) -> Run
 /// The numbers of ranges, with 0 as one more where they are widened.
 #[tactic(auto, using(crate::proofs::Widened::wide_some, crate::proofs::Widened::wide_none, crate::proofs::Widened::not_wide))]
 pub(crate) fn widened(alloc: Global, out: bool, runs: Row<Run>) -> Result<CellDomain, NoMemory>
-    ensures { IfOk result (λ c. pure_cells c ≡ (if out then widened_domain (integers (map pure_run runs)) else integers (map pure_run runs))) }
+    ensures { IfOk result (λ c. pure_cells c ≡ (if out then widened_domain (integers (map pure_run runs))
+        else integers (map pure_run runs))) }
 {
     if !out {
         return Ok(CellDomain::Numbers(runs));
@@ -89,7 +90,8 @@ pub(crate) fn up_to(alloc: Global, count: u64) -> Result<CellDomain, NoMemory>
 
 /// From 1 to a number, with 0 as one more where they are widened. `NoMemory` where the number is too large.
 pub(crate) fn one_to(alloc: Global, out: bool, count: u64) -> Result<CellDomain, NoMemory>
-    ensures { IfOk result (λ c. pure_cells c ≡ (if out then widened_domain (between (pos 1) (pos count)) else between (pos 1) (pos count))) }
+    ensures { IfOk result (λ c. pure_cells c ≡ (if out then widened_domain (between (pos 1) (pos count))
+        else between (pos 1) (pos count))) }
 {
     match i64::try_from(count) {
         Ok(count) => from_to(alloc, out, 1, count),

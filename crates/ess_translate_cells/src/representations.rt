@@ -48,7 +48,7 @@ fn frees(kind: ReprKind) -> bool
 
 /// The cells of own tables, then those of the children's tables.
 #[cycle(cells)]
-#[tactic(auto, using(crate::proofs::AllCells::children_more, crate::proofs::AllCells::children_short, crate::proofs::AllCells::children_all))]
+#[tactic(auto, using(crate::proofs::AllCells::children_in_turn))]
 fn with_children(
     alloc: Global,
     own: Row<CellDomain>,

@@ -83,7 +83,7 @@ fn behind_all<'a>(
 }
 
 /// The declared tables behind one over these axes with these cells.
-#[tactic(auto, using(crate::proofs::TablesInOrder::one_behind, crate::proofs::TablesInOrder::one_other, crate::proofs::TablesInOrder::none_first))]
+#[tactic(auto, using(crate::proofs::TablesInOrder::first_table))]
 fn behind_one<'a>(
     alloc: Global,
     axes: &[Row<i64>],

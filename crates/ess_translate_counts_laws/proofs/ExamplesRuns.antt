@@ -1,9 +1,8 @@
 -- Worked examples of numbers of cells, run by run.
-use Rattle.std.proofs.Common.{◌≡◌, refl, ℕ, List, [], ◌∷◌, Option, Some, None}
-use Rattle.ess_semantics.specs.Values.{Text}
-use Rattle.ess_semantics.specs.Trees.{Repr, repr, no_reprs, bool_dom}
+use Rattle.std.proofs.Common.{◌≡◌, refl, ℕ, [], ◌∷◌, Some, None}
+use Rattle.ess_semantics.specs.Trees.{repr, no_reprs, bool_dom}
 use Rattle.ess_semantics.specs.declared.words.ReprKind.{ReprKind}
-use Rattle.ess_semantics.specs.Plans.{Plan, givens_side, size_plan, value_plan}
+use Rattle.ess_semantics.specs.Plans.{Plan, givens_side, value_plan}
 use Rattle.ess_translate_counts_laws.specs.Runs.{run_count, first_run_above}
 
 -- A plan of a given that is named by one byte.

@@ -1,5 +1,5 @@
 -- The plans of one name stand one behind the other, so the cells of a name are those of a run.
-use Rattle.std.proofs.Common.{◌≡◌, refl, sym, ap, ◌∙◌, subst, ℕ, zero, suc, ◌+◌, ◌≤◌, Bool, true, false, ◌||◌, not, ◌&&◌, if◌then◌else◌, List, [], ◌∷◌, ◌++◌, map, filter, Option, Some, None, nat_le, append_assoc, arith}
+use Rattle.std.proofs.Common.{◌≡◌, refl, sym, ap, ◌∙◌, ℕ, ◌+◌, Bool, true, false, ◌||◌, not, ◌&&◌, if◌then◌else◌, List, [], ◌∷◌, ◌++◌, map, filter, Option, Some, nat_le, arith}
 use Rattle.std.specs.Prelude.{codes}
 use Rattle.std.proofs.lemmas.Bool.Decides.{nat_tests}
 use Rattle.ess_semantics.specs.Lists.{append_all}
@@ -7,11 +7,11 @@ use Rattle.ess_semantics.specs.Values.{Text}
 use Rattle.ess_semantics.specs.Order.{same_text}
 use Rattle.ess_semantics.specs.Names.{Names, keys, is_among, all_distinct, without}
 use Rattle.ess_semantics.specs.Trees.{Repr, Dom, Stm, given, given_enum, let_ex, let_dom, let_enum, let_unnamed, needs, find, such_that, minimise, maximise}
-use Rattle.ess_semantics.specs.TableNames.{Named, table_names, named_tables, free_name}
+use Rattle.ess_semantics.specs.TableNames.{table_names, named_tables, free_name}
 use Rattle.ess_semantics.specs.Contexts.{Each}
 use Rattle.ess_semantics.specs.Meaning.{Env}
 use Rattle.ess_semantics.specs.Prepared.{prepared}
-use Rattle.ess_semantics.specs.Assignments.{Assignment, nothing_given, env_of}
+use Rattle.ess_semantics.specs.Assignments.{nothing_given, env_of}
 use Rattle.ess_semantics.specs.Parameters.{all_declared}
 use Rattle.ess_semantics.specs.Plans.{Options, chosen_reprs, domain_of_stm, kept_names, Side, givens_side, finds_side, Plan, size_plan, value_plan, names_of_plans, plans_of_name, plans_of_stm, plans_from, plans, cells_of_plan, cells_of_plans, is_plan_for, cells_of_name}
 use Rattle.ess_semantics.proofs.Texts.{same_text-itself, same_text-either}

@@ -5,7 +5,7 @@ use Rattle.std.proofs.lemmas.List.{map-append, take_more, take_all}
 use Rattle.ess_semantics.specs.Trees as pure
 use Rattle.ess_semantics.specs.Trees.{Repr}
 use Rattle.ess_semantics.specs.Domains.{Domain}
-use Rattle.ess_semantics.specs.Meaning.{Env, domain_of}
+use Rattle.ess_semantics.specs.Meaning.{Env}
 use Rattle.ess_semantics.specs.Large.{is_large_dom}
 use Rattle.ess_semantics.specs.LargeSpecifications.{plan_is_large}
 use Rattle.ess_semantics.specs.Large.{is_large_with}

@@ -179,3 +179,10 @@ above_short i ps ns x h w =
 
 pub above_all : (i : ℕ) (ps : List Plan) (ns : List ℕ) (x : Option (Text × ℕ)) → length ps ≤ i → above_left ps ns i ≡ x → None ≡ x
 above_all i ps ns x h w = sym (at_drop_all (λ l. first_kept_above (map pure_plan l) (drop i ns)) ps i h) ∙ w
+
+-- The passes over the plans: their numbers, a run, and the first run above the limit.
+pub ruleset counting = (counts_more, counts_short, counts_all)
+
+pub ruleset running = (run_more, run_other, run_short, run_all)
+
+pub ruleset finding = (above_here, above_more, above_short, above_all)

@@ -1,9 +1,6 @@
 -- Tables under their names, one after the other.
-use Rattle.std.proofs.Common.{◌≡◌, refl, sym, ap, ◌∙◌, ℕ, List, [], ◌∷◌, ◌++◌, map, append_assoc, append-nil}
+use Rattle.std.proofs.Common.{◌≡◌, refl, sym, ap, ◌∙◌, List, [], ◌∷◌, ◌++◌, map, append_assoc, append-nil}
 use Rattle.std.proofs.lemmas.List.{map-append}
-use Rattle.ess_semantics.specs.Lists.{zip}
-use Rattle.ess_semantics.specs.Values.{Text}
-use Rattle.ess_semantics.specs.Names.{Names, keys}
 use Rattle.ess_semantics.specs.Tables as pure
 use Rattle.ess_semantics.specs.Plans.{name_tables}
 use Rattle.ess_core.specs.declared.tables.Table.{Table}
@@ -57,3 +54,6 @@ pub named_all : (ns rest : List TableName) (done ts : List Table) (all : List Na
 named_all ns rest done ts all e s =
     sym (append-nil (map pure_named_table all)) ∙ ap (λ l. map pure_named_table all ++ l) (sym (unnamed rest)) ∙ sym (s.so_far [])
     ∙ ap (λ l. name_tables (map pure_table_name ns) (map pure_table l)) (append-nil done ∙ e)
+
+-- The pass over the tables.
+pub ruleset naming = (named_none, named_more, named_past, named_all)

@@ -1,5 +1,5 @@
 -- The tables of one plan.
-use Rattle.std.proofs.Common.{◌≡◌, refl, sym, ap, ◌∙◌, true, ℕ, List, [], ◌∷◌, ◌++◌, map, length, pos, Option, Some, None, option_map, subst, append-nil}
+use Rattle.std.proofs.Common.{◌≡◌, refl, sym, ap, ◌∙◌, true, List, [], ◌∷◌, ◌++◌, map, length, pos, Option, Some, None, option_map, subst, append-nil}
 use Rattle.ess_semantics.specs.Lists.{and_then}
 use Rattle.ess_semantics.specs.Values.{Text, Value}
 use Rattle.ess_semantics.specs.Names.{Names, look}
@@ -13,18 +13,17 @@ use Rattle.ess_semantics.specs.Positions.{with_positions, domain_with_positions}
 use Rattle.ess_semantics.specs.Meaning.{Env, domain_of}
 use Rattle.ess_semantics.specs.Assignments.{Assignment, value_of}
 use Rattle.ess_semantics.specs.Plans as pure
-use Rattle.ess_semantics.specs.Plans.{givens_side, finds_side, size_plan, value_plan, name_tables, canonical_by_plan}
+use Rattle.ess_semantics.specs.Plans.{givens_side, size_plan, value_plan, name_tables}
 use Rattle.ess_core.specs.declared.tables.NamedTable.{NamedTable}
 use Rattle.ess_core.specs.TableViews.{pure_named_table}
 use Rattle.ess_core.specs.TreeViews.{pure_repr, pure_dom}
 use Rattle.ess_repr_laws.specs.Rooms.{Roomy}
-use Rattle.ess_translate_members_laws.specs.PlanDomains.{plan_closed}
 use Rattle.ess_translate_given_laws.specs.ByPlans.{tables_on, tables_by_plans}
 use Rattle.ess_translate_plans.specs.declared.plans.Side.{Side}
 use Rattle.ess_translate_plans.specs.declared.plans.ValuePlan.{ValuePlan}
 use Rattle.ess_translate_plans.specs.Views.{pure_side, pure_table_name, pure_value_plan}
-use Rattle.ess_translate_given.specs.ReadyPlans.{HasRoom, PlanReady, PlansReady}
-use Rattle.ess_translate_given.specs.TablesBehind.{AreTables, IsTable}
+use Rattle.ess_translate_given.specs.ReadyPlans.{HasRoom, PlansReady}
+use Rattle.ess_translate_given.specs.TablesBehind.{IsTable}
 
 -- The tables of a plan that stands alone.
 alone : {A : Type 0} (o p : Option (List A)) → o ≡ p → o ≡ and_then p (λ c. option_map (λ d. c ++ d) (Some []))

@@ -1,14 +1,11 @@
 -- The plans of a header of this tool are ready for a parameter: each given's value is a member of its domain.
-use Rattle.std.proofs.Common.{◌≡◌, refl, sym, ap, ◌∙◌, subst, true, List, [], ◌∷◌, map, Option, Some, option_map}
-use Rattle.ess_semantics.specs.Lists.{is_some_and}
-use Rattle.ess_semantics.specs.Values.{Text, Value}
-use Rattle.ess_semantics.specs.Names.{Names}
+use Rattle.std.proofs.Common.{◌≡◌, sym, ap, ◌∙◌, subst, true, List, map, Option, Some, option_map}
+use Rattle.ess_semantics.specs.Values.{Text}
 use Rattle.ess_semantics.specs.Trees.{Repr, Dom, Stm, given}
 use Rattle.ess_semantics.specs.Domains.{Domain}
 use Rattle.ess_semantics.specs.Membership.{member}
 use Rattle.ess_semantics.specs.TableNames.{Named}
 use Rattle.ess_semantics.specs.Meaning.{Env, domain_of}
-use Rattle.ess_semantics.specs.Positions.{with_positions, domain_with_positions}
 use Rattle.ess_semantics.specs.ModelTrees.{Header}
 use Rattle.ess_semantics.specs.Prepared.{prepared}
 use Rattle.ess_semantics.specs.Contexts.{Each}
@@ -31,7 +28,7 @@ use Rattle.ess_translate_given_laws.specs.Ready.{Ready}
 use Rattle.ess_translate_given_laws.specs.ByPlans.{tables_by_plans}
 use Rattle.ess_translate_given_laws.proofs.ChosenReprs.{header-plans-fit}
 use Rattle.ess_translate_given_laws.proofs.ByPlans.{plans-add-one-by-one}
-use Rattle.ess_translate_given.specs.ReadyPlans.{HasRoom, PlanReady, PlansReady}
+use Rattle.ess_translate_given.specs.ReadyPlans.{PlanReady}
 use Rattle.ess_translate_given.specs.TablesBehind.{AreTables}
 
 -- what is there is one

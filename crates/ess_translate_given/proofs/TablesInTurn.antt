@@ -2,11 +2,8 @@
 use Rattle.std.proofs.Common.{◌≡◌, refl, sym, ap, ◌∙◌, subst, ℕ, zero, suc, ◌+◌, ◌<◌, ◌≤◌, List, [], ◌∷◌, ◌++◌, map, drop, length, get_or, Option, Some, None, option_map, arith, append_assoc, append-nil}
 use Rattle.std.proofs.lemmas.List.{at_drop_more, at_drop_all, map-append}
 use Rattle.ess_semantics.specs.Lists.{and_then}
-use Rattle.ess_semantics.specs.Values.{Text}
 use Rattle.ess_semantics.specs.Names.{Names}
 use Rattle.ess_semantics.specs.Tables as pure_tables
-use Rattle.ess_semantics.specs.Domains.{Domain}
-use Rattle.ess_semantics.specs.Contexts.{Each}
 use Rattle.ess_semantics.specs.Meaning.{Env}
 use Rattle.ess_semantics.specs.Assignments.{Assignment}
 use Rattle.ess_semantics.specs.Plans as pure
@@ -140,3 +137,6 @@ turn_all a ps os i ts h s = record {
       ∙ ap (option_map (λ d. map pure_named_table ts ++ d)) (at_drop_all (λ l. tables_by_plans givens_side env a (map pure_plan l)) ps i h)
       ∙ ap Some (append-nil (map pure_named_table ts)));
 }
+
+-- The pass over the plans.
+pub ruleset turns = (turn_none, turn_more, turn_stop, turn_short, turn_all)

@@ -1,5 +1,5 @@
 -- Numbers of cells that are kept at a limit, in the order of the plans.
-use Rattle.std.specs.Prelude.{◌≡◌, ℕ, ◌+◌, if◌then◌else◌, List, [], ◌∷◌, map, Option, Some, None, nat_le, option_map}
+use Rattle.std.specs.Prelude.{ℕ, ◌+◌, if◌then◌else◌, List, [], ◌∷◌, Option, Some, None, nat_le, option_map}
 use Rattle.ess_semantics.specs.Lists.{or_default}
 use Rattle.ess_semantics.specs.Values.{Text}
 use Rattle.ess_semantics.specs.Domains.{Domain}

@@ -1,14 +1,14 @@
 -- What a plan of a given needs for its tables: its value is a member of its domain, for which its representation has room.
 use Rattle.std.specs.Prelude.{◌≡◌, true, List, map, Some, Option}
-use Rattle.ess_semantics.specs.Values.{Text, Value}
-use Rattle.ess_semantics.specs.Trees.{Repr, Dom}
+use Rattle.ess_semantics.specs.Values.{Value}
+use Rattle.ess_semantics.specs.Trees.{Repr}
 use Rattle.ess_semantics.specs.Domains.{Domain}
 use Rattle.ess_semantics.specs.Membership.{member}
 use Rattle.ess_semantics.specs.Positions.{with_positions, domain_with_positions}
 use Rattle.ess_semantics.specs.Meaning.{Env, domain_of}
 use Rattle.ess_semantics.specs.Contexts.{Each}
 use Rattle.ess_semantics.specs.Assignments.{Assignment, value_of}
-use Rattle.ess_semantics.specs.Plans.{Side, givens_side, finds_side, Plan, size_plan, value_plan}
+use Rattle.ess_semantics.specs.Plans.{givens_side, finds_side, Plan, size_plan, value_plan}
 use Rattle.ess_repr_laws.specs.Rooms.{Roomy}
 use Rattle.ess_translate_members_laws.specs.PlanDomains.{plan_closed}
 

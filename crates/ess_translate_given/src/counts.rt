@@ -12,7 +12,8 @@ ghost use Rattle.ess_translate_header_laws.specs.Headers.{IsOurs};
 ghost use Rattle.ess_translate_members_laws.specs.PlanDomains.{plan_closed};
 ghost use Rattle.ess_translate_given_laws.specs.Counts.{too_many};
 ghost use Rattle.ess_translate_plans.specs.Views.{pure_plan};
-ghost use Rattle.ess_translate_given.specs.KeptCounts.{count_at, counts_of, run_from, first_kept_above, total_above, named_total, kept_beside};
+ghost use Rattle.ess_translate_given.specs.KeptCounts.{count_at, counts_of, run_from, kept_beside};
+ghost use Rattle.ess_translate_given.specs.KeptCounts.{first_kept_above, total_above, named_total};
 
 use ess_core::{Boxed, NoMemory, Repr, Row, Text};
 use ess_domains::EvalNo;
@@ -46,7 +47,7 @@ pub fn first_too_many(
 }
 
 /// The number of cells of each plan, kept.
-#[tactic(auto, using(crate::proofs::KeptLoops::counts_more, crate::proofs::KeptLoops::counts_short, crate::proofs::KeptLoops::counts_all))]
+#[tactic(auto, using(crate::proofs::KeptLoops::counting))]
 fn counts_in(
     alloc: Global,
     plans: &[Plan],
@@ -90,7 +91,7 @@ fn cells_in(repr: &Repr, domain: &Closed) -> u128
 }
 
 /// The first plan whose name has too many cells from there on.
-#[tactic(auto, using(crate::proofs::KeptLoops::above_here, crate::proofs::KeptLoops::above_more, crate::proofs::KeptLoops::above_short, crate::proofs::KeptLoops::above_all))]
+#[tactic(auto, using(crate::proofs::KeptLoops::finding))]
 fn first_above(
     alloc: Global,
     plans: &[Plan],
@@ -139,7 +140,7 @@ fn found(alloc: Global, plan: &Plan, total: u128) -> Result<Option<(Text, u128)>
 }
 
 /// A number with those of the plans of a name with which the list begins, kept.
-#[tactic(auto, using(crate::proofs::KeptLoops::run_more, crate::proofs::KeptLoops::run_other, crate::proofs::KeptLoops::run_short, crate::proofs::KeptLoops::run_all))]
+#[tactic(auto, using(crate::proofs::KeptLoops::running))]
 fn run(name: &Text, first: u128, plans: &[Plan], counts: &[u128]) -> u128
     ensures { result ≡ run_from name.now first (map pure_plan plans.now) counts.now }
 {

@@ -147,7 +147,7 @@ fn at_domain(
 }
 
 /// Tables under their names, as far as both go.
-#[tactic(auto, using(crate::proofs::NamedRows::named_none, crate::proofs::NamedRows::named_more, crate::proofs::NamedRows::named_past, crate::proofs::NamedRows::named_all))]
+#[tactic(auto, using(crate::proofs::NamedRows::naming))]
 fn with_names(
     alloc: Global,
     names: &[TableName],

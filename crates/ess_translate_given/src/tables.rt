@@ -39,7 +39,7 @@ pub fn given_tables(
 }
 
 /// The tables of plans, one behind the other.
-#[tactic(auto, using(crate::proofs::TablesInTurn::turn_none, crate::proofs::TablesInTurn::turn_more, crate::proofs::TablesInTurn::turn_stop, crate::proofs::TablesInTurn::turn_short, crate::proofs::TablesInTurn::turn_all))]
+#[tactic(auto, using(crate::proofs::TablesInTurn::turns))]
 fn all_tables(
     alloc: Global,
     plans: &[Plan],

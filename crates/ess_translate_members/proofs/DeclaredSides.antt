@@ -1,5 +1,5 @@
 -- What the declared tables of a model say of its declarations, side by side.
-use Rattle.std.proofs.Common.{◌≡◌, refl, sym, ap, ◌∙◌, subst, ℤ, Bool, true, false, ◌&&◌, ◌||◌, List, [], ◌∷◌, ◌++◌, map, Option, Some, None, option_map, is_some, Result, Ok, Err}
+use Rattle.std.proofs.Common.{◌≡◌, refl, sym, ap, ◌∙◌, subst, ℤ, Bool, true, false, ◌||◌, List, [], ◌∷◌, ◌++◌, map, Option, Some, None, option_map, is_some, Result, Ok, Err}
 use Rattle.std.specs.Result.{IsErrAnd}
 use Rattle.std.specs.List.{list_all, list_any}
 use Rattle.std.proofs.lemmas.List.Folds.{list_any-append}
@@ -7,7 +7,7 @@ use Rattle.ess_semantics.specs.Lists.{and_then, each_of, is_some_and}
 use Rattle.ess_semantics.specs.Order.{same_ints}
 use Rattle.ess_semantics.specs.Names.{Names}
 use Rattle.ess_semantics.specs.Trees.{Dom}
-use Rattle.ess_semantics.specs.Domains.{Domain, members}
+use Rattle.ess_semantics.specs.Domains.{Domain}
 use Rattle.ess_semantics.specs.Tables as pure
 use Rattle.ess_semantics.specs.Tables.{is_cell, code}
 use Rattle.ess_semantics.specs.Declarations.{Declaration}
@@ -41,7 +41,7 @@ use Rattle.ess_translate_members_laws.specs.PlanDomains.{plan_closed, tables_of_
 use Rattle.ess_translate_members_laws.specs.DeclaresMembers.{DeclaresMembers}
 use Rattle.ess_translate_members_laws.proofs.SideTables.{side-tables, declared-plain, declared-form}
 use Rattle.ess_translate_cells.specs.declared.closing.ClosedTable.{ClosedTable}
-use Rattle.ess_translate_cells.specs.ClosedTables.{IsClosedTable, AreClosedTables, Decides, SameTable, AreTables}
+use Rattle.ess_translate_cells.specs.ClosedTables.{AreClosedTables, Decides, AreTables}
 use Rattle.ess_translate_members.specs.Sides.{SidesDeclared}
 
 -- ---- one declaration
@@ -56,7 +56,8 @@ abbrev Parts : Option (List ℤ) → Option (List (List ℤ)) → List (List ℤ
 Parts o r [] = ⊥
 Parts o r (a ∷ as') = (o ≡ Some a) × (r ≡ Some as')
 
-each-parts : (o : Option (List ℤ)) (r : Option (List (List ℤ))) (bs : List (List ℤ)) → and_then o (λ y. option_map (λ ys. y ∷ ys) r) ≡ Some bs → Parts o r bs
+each-parts : (o : Option (List ℤ)) (r : Option (List (List ℤ))) (bs : List (List ℤ)) →
+    and_then o (λ y. option_map (λ ys. y ∷ ys) r) ≡ Some bs → Parts o r bs
 each-parts None r bs e = cc
 each-parts (Some a) None bs e = cc
 each-parts (Some a) (Some as') [] e = cc
@@ -104,10 +105,12 @@ module _ (u : Under) (E : Model) (q : Names pure.Table) (h : IsUnder u (map shap
       let w = each-parts (axis_members (here (pure_dom s d))) (each_of (map (pure_dom s) ds) (λ a. axis_members (here a))) (a ∷ as') e in
       and-both (has_axis r a) (are_over rs as') (is-axis r a (sym (axis-here s d r p.0) ∙ w.0)) (axes-over s ds rs as' p.1 w.1)
 
-  cells-here : (s : Scope) (d : PDom) (r : Closed) (e : Domain) → Denotes u d r → SameMembers (Some (pure_cells r)) e → SameMembers (here (pure_dom s d)) e
+  cells-here : (s : Scope) (d : PDom) (r : Closed) (e : Domain) → Denotes u d r → SameMembers (Some (pure_cells r)) e →
+      SameMembers (here (pure_dom s d)) e
   cells-here s d r e p m = subst (λ o. SameMembers o e) (sym (p E q s h)) m
 
-  here-cells : (s : Scope) (d : PDom) (r : Closed) (e : Domain) → Denotes u d r → SameMembers (here (pure_dom s d)) e → SameMembers (Some (pure_cells r)) e
+  here-cells : (s : Scope) (d : PDom) (r : Closed) (e : Domain) → Denotes u d r → SameMembers (here (pure_dom s d)) e →
+      SameMembers (Some (pure_cells r)) e
   here-cells s d r e p m = subst (λ o. SameMembers o e) (p E q s h) m
 
   -- ---- all of them
@@ -155,7 +158,8 @@ cell-meant : (o : Option Domain) (e : Domain) → SameMembers o e → is_some o 
 cell-meant None e m = absurd m
 cell-meant (Some d) e m = refl
 
-all-meant : (E : Model) (q : Names pure.Table) (ts : List TableDecl) (xs : List Declaration) → DeclaredAs (model_domain (all_decls E) q) ts xs →
+all-meant : (E : Model) (q : Names pure.Table) (ts : List TableDecl) (xs : List Declaration) →
+    DeclaredAs (model_domain (all_decls E) q) ts xs →
     list_all (domain_has_meaning E q) ts ≡ true
 all-meant E q [] [] h = refl
 all-meant E q [] (x ∷ xs) h = absurd h
@@ -180,7 +184,8 @@ no-false x = cc
 
 -- Declared tables decide what declarations have.
 pub side_decided : (u : Under) (ds : List PDecl) (rs : List ClosedTable) (xs : List Declaration) (b : Bool) → AreClosedTables u ds rs →
-    Decides b (AreTables rs xs) → InModels u (λ E q s. (add : Scope → TableDecl → Scope) → Decides b (DeclaredAs (model_domain (all_decls E) q) (pure_decls add s ds) xs))
+    Decides b (AreTables rs xs) → InModels u (λ E q s. (add : Scope → TableDecl → Scope) →
+    Decides b (DeclaredAs (model_domain (all_decls E) q) (pure_decls add s ds) xs))
 side_decided u ds rs xs b p d E q s h add = record {
   yes = λ z. tables-declared u E q h add s ds rs xs p (d.yes z);
   no = λ z t. d.no z (declared-tables u E q h add s ds rs xs p t);
@@ -189,7 +194,8 @@ side_decided u ds rs xs b p d E q s h add = record {
 -- Without a meaning nothing is declared.
 pub side_undefined : (u : Under) (ds : List PDecl) (xs : List Declaration) →
     InModels u (λ E q s. (add : Scope → TableDecl → Scope) → list_all (domain_has_meaning E q) (pure_decls add s ds) ≡ false) →
-    InModels u (λ E q s. (add : Scope → TableDecl → Scope) → Decides false (DeclaredAs (model_domain (all_decls E) q) (pure_decls add s ds) xs))
+    InModels u (λ E q s. (add : Scope → TableDecl → Scope) →
+    Decides false (DeclaredAs (model_domain (all_decls E) q) (pure_decls add s ds) xs))
 side_undefined u ds xs p E q s h add = record {
   yes = λ z. absurd (no-false z);
   no = λ z t. no-false (sym (p E q s h add) ∙ all-meant E q (pure_decls add s ds) xs t);
@@ -198,7 +204,8 @@ side_undefined u ds xs p E q s h add = record {
 -- ---- both sides
 
 -- The givens decide where they aren't declared, else the finds.
-pub givens_fail : (u : Under) (m : PModel) (q : Names pure.Table) (ps : List pure_plans.Plan) (os : List (Option Domain)) (b : Bool) → b ≡ false →
+pub givens_fail : (u : Under) (m : PModel) (q : Names pure.Table) (ps : List pure_plans.Plan) (os : List (Option Domain)) (b : Bool) →
+    b ≡ false →
     InModels u (λ E q s. (add : Scope → TableDecl → Scope) →
     Decides b (DeclaredAs (model_domain (all_decls E) q) (pure_decls add s m.givens) (tables_of_side givens_side ps os))) →
     IsUnder u (map shape_of (all_decls (pure_model m))) q → Decides false (SidesDeclared (pure_model m) q ps os)
@@ -207,7 +214,8 @@ givens_fail u m q ps os b e g h = record {
   no = λ z t. (g (pure_model m) q empty_scope h with_given).no e t.givens;
 }
 
-pub finds_decide : (u : Under) (m : PModel) (q : Names pure.Table) (ps : List pure_plans.Plan) (os : List (Option Domain)) (a b : Bool) → a ≡ true →
+pub finds_decide : (u : Under) (m : PModel) (q : Names pure.Table) (ps : List pure_plans.Plan) (os : List (Option Domain)) (a b : Bool) →
+    a ≡ true →
     InModels u (λ E q s. (add : Scope → TableDecl → Scope) →
     Decides a (DeclaredAs (model_domain (all_decls E) q) (pure_decls add s m.givens) (tables_of_side givens_side ps os))) →
     InModels u (λ E q s. (add : Scope → TableDecl → Scope) →
@@ -241,19 +249,25 @@ pub finds_large : (u : Under) (m : PModel) (q : Names pure.Table) →
     IsUnder u (map shape_of (all_decls (pure_model m))) q → declares_large (pure_model m) q ≡ true
 finds_large u m q f h =
     list_any-append (decl_is_large (all_decls (pure_model m)) q) (pure_model m).givens (pure_model m).finds
-    ∙ or-right (list_any (decl_is_large (all_decls (pure_model m)) q) (pure_model m).givens) _ (f (pure_model m) q (scope_of_givens m) h with_find)
+    ∙ or-right (list_any (decl_is_large (all_decls (pure_model m)) q) (pure_model m).givens) _ (f (pure_model m) q
+    (scope_of_givens m) h with_find)
 
 -- ---- a header
 
 -- Over the domains of its plans, a header's sides are declared where its members are.
-side-under : (H : Header) (E : Model) (p : Assignment) (q : Names pure.Table) (f : pure_plans.Side) (ps : List pure_plans.Plan) (os : List (Option Domain)) →
-    ps ≡ pure_plans.plans H.statements H.reprs → os ≡ map (plan_closed (env_of H.statements p nothing_given)) (pure_plans.plans H.statements H.reprs) →
+side-under : (H : Header) (E : Model) (p : Assignment) (q : Names pure.Table) (f : pure_plans.Side) (ps : List pure_plans.Plan)
+    (os : List (Option Domain)) →
+    ps ≡ pure_plans.plans H.statements H.reprs →
+    os ≡ map (plan_closed (env_of H.statements p nothing_given)) (pure_plans.plans H.statements H.reprs) →
     map plain (declared_under f H.statements H.reprs p) ≡ tables_of_side f ps os
 side-under H E p q f ps os a b =
-    side-tables f H.statements H.reprs p ∙ ap (λ l. tables_of_side f (pure_plans.plans H.statements H.reprs) l) (sym b) ∙ ap (λ l. tables_of_side f l os) (sym a)
+    side-tables f H.statements H.reprs p ∙ ap (λ l. tables_of_side f (pure_plans.plans H.statements H.reprs) l) (sym b)
+    ∙ ap (λ l. tables_of_side f l os) (sym a)
 
-pub by_sides : (H : Header) (E : Model) (p : Assignment) (q : Names pure.Table) (ps : List pure_plans.Plan) (os : List (Option Domain)) (b : Bool) →
-    ps ≡ pure_plans.plans H.statements H.reprs → os ≡ map (plan_closed (env_of H.statements p nothing_given)) (pure_plans.plans H.statements H.reprs) →
+pub by_sides : (H : Header) (E : Model) (p : Assignment) (q : Names pure.Table) (ps : List pure_plans.Plan) (os : List (Option Domain))
+    (b : Bool) →
+    ps ≡ pure_plans.plans H.statements H.reprs →
+    os ≡ map (plan_closed (env_of H.statements p nothing_given)) (pure_plans.plans H.statements H.reprs) →
     Decides b (SidesDeclared E q ps os) → Decides b (DeclaresMembers H E p q)
 by_sides H E p q ps os b a o d = record { yes = λ z. members (d.yes z); no = λ z m. d.no z (sides m) }
   where
@@ -274,6 +288,7 @@ by_sides H E p q ps os b a o d = record { yes = λ z. members (d.yes z); no = λ
     }
 
 -- The declarations of a model with given tables alone.
-pub with_given_alone : (u : Under) (m : PModel) (q : List NamedTable) → IsUnder u (map decl_shape (m.givens ++ m.finds)) (map pure_named_table (q ++ [])) →
+pub with_given_alone : (u : Under) (m : PModel) (q : List NamedTable) →
+    IsUnder u (map decl_shape (m.givens ++ m.finds)) (map pure_named_table (q ++ [])) →
     IsUnder u (map shape_of (all_decls (pure_model m))) (map pure_named_table q)
 with_given_alone u m q h = under-given u m q h

@@ -81,7 +81,8 @@ fn behind_value<'a>(
     closed: &Option<Boxed<Closed>>,
     rest: &'a [ClosedTable],
 ) -> Result<Option<&'a [ClosedTable]>, NoMemory>
-    ensures { IfOk result (λ o. Behind (map plain (list_or_none (option_map (declarations (pure_repr tree.now)) (option_map pure_closed closed.now)))) rest.now o) }
+    ensures { IfOk result (λ o. Behind (map plain
+        (list_or_none (option_map (declarations (pure_repr tree.now)) (option_map pure_closed closed.now)))) rest.now o) }
 {
     match closed {
         Some(domain) => {

@@ -40,7 +40,8 @@ size-not-found : tables_on finds_side (size_plan (codes "t") (codes "t_Size")) N
 size-not-found = refl
 
 finds-alone : tables_of_side finds_side
-    (value_plan givens_side (codes "g") atom bool_dom [] ∷ value_plan finds_side (codes "x") atom bool_dom [] ∷ []) (Some booleans ∷ Some booleans ∷ [])
+    (value_plan givens_side (codes "g") atom bool_dom [] ∷ value_plan finds_side (codes "x") atom bool_dom [] ∷ [])
+    (Some booleans ∷ Some booleans ∷ [])
     ≡ record { axes = []; cell = booleans } ∷ []
 finds-alone = refl
 

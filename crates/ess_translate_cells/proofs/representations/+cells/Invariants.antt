@@ -8,5 +8,6 @@ use Rattle.ess_translate_cells.proofs.representations.+cells.Given as goal
 
 abbrev pub invariant-with_children-loop-index : goal.invariant-with_children-loop-index
 invariant-with_children-loop-index l =
-    map pure_cells l.all ++ cells_of_children l.out (reprs_of (map pure_repr (drop l.index l.reprs))) (map pure_closed (drop l.index l.parts))
+    map pure_cells l.all ++ cells_of_children l.out (reprs_of (map pure_repr (drop l.index l.reprs))) (map pure_closed
+    (drop l.index l.parts))
     ≡ map pure_cells l.fn.own ++ cells_of_children l.out (reprs_of (map pure_repr l.reprs)) (map pure_closed l.parts)

@@ -1,4 +1,4 @@
-use Rattle.std.proofs.Common.{◌≡◌, ◌∙◌, map, option_map}
+use Rattle.std.proofs.Common.{◌∙◌, map, option_map}
 use Rattle.std.proofs.lemmas.Result.{IfOk-weaker}
 use Rattle.ess_eval_domains.specs.ClosedViews.{pure_closed}
 use Rattle.ess_translate_plans.specs.Views.{pure_plan}

@@ -21,7 +21,8 @@ pub returns-in_err-found-clause-big : goal.returns-in_err-found-clause-big
 returns-in_err-found-clause-big c h q u =
     finds_large c.args.under.now c.args.model.now q
     (λ E q s v add. rw c.as_slice-2.ensures at (c.in_err-found.ensures.big
-    (ap (λ no. Err no) (same_error c.from_residual-in_err-found.result c.in_err-found.field-0.0 Big c.from_residual-in_err-found.ensures.1 h)) E q s v add)) u
+    (ap (λ no. Err no) (same_error c.from_residual-in_err-found.result c.in_err-found.field-0.0 Big
+    c.from_residual-in_err-found.ensures.1 h)) E q s v add)) u
 
 pub returns-clause-ok : goal.returns-clause-ok
 returns-clause-ok c q u =

@@ -11,4 +11,5 @@ returns-in-Ok-clause-ok c H p a o =
     by_sides H (pure_model c.args.model.now) p (map pure_named_table c.args.given.now) (map pure_plan c.args.plans.now)
     (map (option_map pure_closed) c.args.closed.now) c.in-Ok.declared a o
     (c.in-Ok.ensures.ok (map pure_named_table c.args.given.now)
-    (with_given_alone c.in_ok-under.under c.args.model.now c.args.given.now (rw (c.as_slice.ensures, c.as_slice-2.ensures) at c.in_ok-under.ensures)))
+    (with_given_alone c.in_ok-under.under c.args.model.now c.args.given.now (rw
+    (c.as_slice.ensures, c.as_slice-2.ensures) at c.in_ok-under.ensures)))

@@ -1,0 +1,7 @@
+use Rattle.std.proofs.Common.{◌≡◌, map, take}
+use Rattle.ess_semantics.specs.Names.{keys}
+use Rattle.ess_core.specs.TreeViews.{pure_field_ex}
+use Rattle.ess_core_nodes.proofs.converting_literals.field_names.Given as goal
+
+abbrev pub invariant-loop-field : goal.invariant-loop-field
+invariant-loop-field l = l.names ≡ keys (map pure_field_ex (take l.field-index l.fields))

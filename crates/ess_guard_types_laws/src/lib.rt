@@ -1,0 +1,4 @@
+//! Terms under conditions keep their types.
+#![tactic(auto)]
+
+pub mod laws;

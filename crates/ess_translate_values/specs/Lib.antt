@@ -1,0 +1,2 @@
+-- Finds with their values
+pub mod StoodValues
