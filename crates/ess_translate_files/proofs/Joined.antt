@@ -16,7 +16,7 @@ use Rattle.ess_translate_files.specs.CellFiles.{IsSolved, IsNotSolved}
 use Rattle.ess_translate_files.specs.Translations.{AreGiven, IsParameterText, IsSolutionText, IsNoSolutionText}
 
 -- A model and a parameter that are read.
-pub both_given : (model param : Text) (H : Header) (E : Model) (p : Assignment) (q : Names Table) → IsModelFile model H E →
+abbrev pub both_given : (model param : Text) (H : Header) (E : Model) (p : Assignment) (q : Names Table) → IsModelFile model H E →
     ((F : List Stm) × IsGiven H E param F p q) → AreGiven model param
 both_given model param H E p q m i = record { H = H; E = E; F = i.0; p = p; q = q; file = m; given = i.1 }
 

@@ -67,17 +67,6 @@ no_tables H E text F p (TransNo.NotRepresented x) i h = absurd h
 no_tables H E text F p TransNo.Big i h = (F, i.spells, subst (IsLargeFor H E) i.stands h)
 no_tables H E text F p TransNo.NoMemory i h = tt
 
--- The same of a parameter that some lettings give.
-pub no_tables_of : (H : Header) (E : Model) (text : Text) (p : Assignment) (why : TransNo) →
-    ((F : List Stm) × IsParameter H.statements text F p) → HasNoTables H E p why → IsNotGiven H E text why
-no_tables_of H E text p why i h = no_tables H E text i.0 p why i.1 h
-
--- The same where the domains of plans aren't there.
-pub no_domains_of : (H : Header) (E : Model) (text : Text) (p : Assignment) (env : Env) (why : TransNo) →
-    ((F : List Stm) × IsParameter H.statements text F p) → env ≡ env_of H.statements p nothing_given →
-    ((a : Assignment) → env ≡ env_of H.statements a nothing_given → HasNoTables H E a why) → IsNotGiven H E text why
-no_domains_of H E text p env why i e h = no_tables H E text i.0 p why i.1 (h p e)
-
 -- Why the env of a parameter isn't there.
 pub env_refused : {A : Type 0} (H : Header) (E : Model) (p : Assignment) (r : Result A EvalNo) (why : EvalNo) → r ≡ Err why →
     (r ≡ Err EvalNo.Big → parameter_is_large H.statements p ≡ true) → HasNoTables H E p (eval_no why)
@@ -104,8 +93,12 @@ abbrev told_number : Option (Text × ℕ) → ℕ
 told_number None = 0
 told_number (Some x) = x.1
 
+-- The name with the number.
+abbrev told : ℕ → Text → Option (Text × ℕ)
+told n x = Some (x, n)
+
 named_again : (y x : Text) (n : ℕ) → y ≡ x → ◌≡◌ {A = Option (Text × ℕ)} (Some (y, n)) (Some (x, n))
-named_again y x n refl = refl
+named_again y x n e = ap (told n) e
 
 -- A name with too many cells, whose number is kept.
 pub too_many_kept : (m : Option (Text × ℕ)) (x : Text) (k : ℕ) → ◌≡◌ {A = Option (Text × ℕ)} (Some (x, k)) (option_map kept_beside m) →

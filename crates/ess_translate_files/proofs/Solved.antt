@@ -1,5 +1,7 @@
 -- Tables that satisfy the model of a whole file are over the declared axes of the header, with items in the declared domains.
-use Rattle.std.proofs.Common.{◌≡◌, refl, sym, ap, ◌∙◌, true, List, [], ◌∷◌, map, length, ℕ, suc, option_map}
+use Rattle.std.proofs.Common.{◌≡◌, refl, sym, ap, ◌∙◌, true, List, [], ◌∷◌, map, length, ℕ, suc, subst}
+use Rattle.std.specs.Prelude.{Ok, Err, IfOk, IfErr}
+use Rattle.std.specs.declared.result.Result.{Result}
 use Rattle.ess_semantics.specs.Values.{Text}
 use Rattle.ess_semantics.specs.Names.{Names, keys}
 use Rattle.ess_semantics.specs.Lists.{zip}
@@ -9,28 +11,28 @@ use Rattle.ess_semantics.specs.DeclaredTables.{TableDecl, decl_name, DeclaredAs}
 use Rattle.ess_semantics.specs.ModelTrees.{Header, Model, all_decls}
 use Rattle.ess_semantics.specs.ModelMeaning.{model_domain}
 use Rattle.ess_semantics.specs.Trees.{Stm}
-use Rattle.ess_semantics.specs.Assignments.{Assignment, nothing_given, env_of}
-use Rattle.ess_semantics.specs.Plans.{finds_side, declared_under, table_list, plans, plans_for}
+use Rattle.ess_semantics.specs.Assignments as pure
+use Rattle.ess_semantics.specs.Plans.{finds_side, declared_under, table_list, plans_for}
 use Rattle.ess_semantics.specs.Satisfaction.{Sat, tables_fit}
 use Rattle.ess_semantics.specs.Parameters.{Param}
 use Rattle.ess_semantics.specs.Contexts.{Each}
 use Rattle.ess_core.specs.declared.tables.Cells.{Cells}
-use Rattle.ess_core.specs.TableViews.{pure_named_table, pure_cells, pure_env}
-use Rattle.ess_eval_domains.specs.ClosedViews.{pure_closed}
+use Rattle.ess_core.specs.TableViews.{pure_named_table, pure_cells}
 use Rattle.ess_domains.specs.Assignments.{pure_assignment}
 use Rattle.conjure_laws.specs.Premises.{here, tables_are}
 use Rattle.conjure_laws.proofs.NamedTables.{fit-are, are-long}
 use Rattle.ess_translate_tables_laws.specs.HeaderTables.{DeclaresTables}
-use Rattle.ess_translate_members_laws.specs.PlanDomains.{plan_closed}
 use Rattle.ess_translate_members_laws.specs.DeclaresMembers.{DeclaresMembers}
 use Rattle.ess_translate_values_laws.specs.ReadyPlans.{IsReady}
 use Rattle.ess_translate_values_laws.proofs.ReadyFinds.{finds_ready}
+use Rattle.ess_domains.specs.declared.assignments.Assignment.{Assignment}
+use Rattle.ess_translate.specs.declared.refusal.TransNo.{TransNo}
 use Rattle.ess_translate.specs.Answers.{IsParameter}
-use Rattle.ess_translate_files.specs.GivenFiles.{HasTables}
+use Rattle.ess_translate_files.specs.GivenFiles.{HasNoTables, IsGiven, IsNotGiven}
 use Rattle.ess_translate_files.specs.declared.models.ModelFile.{ModelFile}
 use Rattle.ess_translate_files.specs.declared.givens.Given.{Given}
-use Rattle.ess_translate_files.specs.Wholes.{file_header, file_model, IsWhole, IsGivenFor}
-use Rattle.ess_translate_files.proofs.Refused.{is_param}
+use Rattle.ess_translate_files.specs.Wholes.{file_header, file_model, IsWhole, HoldsTables, IsGivenFor}
+use Rattle.ess_translate_files.proofs.Refused.{is_param, no_tables}
 
 -- The items of a list beside as many names.
 zipped : (ns : List Text) (ts : Tables) → length ns ≡ length ts → map (λ c. c.1) (zip ns ts) ≡ ts
@@ -54,7 +56,7 @@ zipped_keys (n ∷ ns) [] e = cc
 zipped_keys (n ∷ ns) (t ∷ ts) e = ap (λ l. n ∷ l) (zipped_keys ns ts cc)
 
 -- Tables that fit stand under the names of the header's tables.
-pub fitting_tables_named : (H : Header) (E : Model) (p : Assignment) (q c : Names Table) → DeclaresTables H E → DeclaresMembers H E p q →
+pub fitting_tables_named : (H : Header) (E : Model) (p : pure.Assignment) (q c : Names Table) → DeclaresTables H E → DeclaresMembers H E p q →
     Sat E q c → keys c ≡ keys (table_list finds_side H.statements H.reprs)
 fitting_tables_named H E p q c T D s =
     let ds = declared_under finds_side H.statements H.reprs p in
@@ -63,7 +65,7 @@ fitting_tables_named H E p q c T D s =
     ap keys r.1 ∙ zipped_keys (keys (map decl_name E.finds)) r.0 l ∙ ap keys T.finds
 
 -- Tables that fit are as declared.
-pub fitting_tables_are : (H : Header) (E : Model) (p : Assignment) (q c : Names Table) → DeclaresMembers H E p q → Sat E q c →
+pub fitting_tables_are : (H : Header) (E : Model) (p : pure.Assignment) (q c : Names Table) → DeclaresMembers H E p q → Sat E q c →
     tables_are (declared_under finds_side H.statements H.reprs p) (map (λ t. t.1) c) ≡ true
 fitting_tables_are H E p q c D s =
     let ds = declared_under finds_side H.statements H.reprs p in
@@ -88,16 +90,34 @@ finds_of_file_ready m g c w h s =
     (fitting_tables_named H E p (pure_cells g.tables) (pure_cells c) w.tables h.given.has.members s)
     (fitting_tables_are H E p (pure_cells g.tables) (pure_cells c) h.given.has.members s)
 
--- What is given for a file whose parameter is read.
-pub given_whole : (m : ModelFile) (text : Text) (g : Given) →
-    ((F : List Stm) × IsParameter (file_header m).statements text F (pure_assignment g.param)) →
-    pure_env g.env ≡ env_of (file_header m).statements (pure_assignment g.param) nothing_given →
-    map (option_map pure_closed) g.closed ≡ map (plan_closed (pure_env g.env)) (plans (file_header m).statements (file_header m).reprs) →
-    HasTables (file_header m) (file_model m) (pure_assignment g.param) (pure_cells g.tables) → IsGivenFor m g
-given_whole m text g i e d t = record {
+-- What is given where a parameter is read, or why it isn't.
+pub given_read : (m : ModelFile) (text : Text) (p : Assignment) (r : Result Given TransNo) →
+    ((F : List Stm) × IsParameter (file_header m).statements text F (pure_assignment p)) → IfOk r (λ g. g.param ≡ p) →
+    IfOk r (HoldsTables m) →
+    IfOk r (λ g. (F : List Stm) × IsGiven (file_header m) (file_model m) text F (pure_assignment g.param) (pure_cells g.tables))
+given_read m text p (Ok g) i e h =
+    (i.0, record {
+      parameter = subst (λ a. IsParameter (file_header m).statements text i.0 (pure_assignment a)) (sym e) i.1;
+      has = h.has;
+    })
+given_read m text p (Err why) i e h = tt
+
+pub given_held : (m : ModelFile) (text : Text) (p : Assignment) (r : Result Given TransNo) →
+    ((F : List Stm) × IsParameter (file_header m).statements text F (pure_assignment p)) → IfOk r (λ g. g.param ≡ p) →
+    IfOk r (HoldsTables m) → IfOk r (IsGivenFor m)
+given_held m text p (Ok g) i e h = record {
   text = text;
   file = i.0;
-  given = record { parameter = i.1; has = t };
-  env = e;
-  closed = d ∙ ap (λ v. map (plan_closed v) (plans (file_header m).statements (file_header m).reprs)) e;
+  given = record {
+    parameter = subst (λ a. IsParameter (file_header m).statements text i.0 (pure_assignment a)) (sym e) i.1;
+    has = h.has;
+  };
+  env = h.env;
+  closed = h.closed;
 }
+given_held m text p (Err why) i e h = tt
+
+pub given_refused : {A : Type 0} (H : Header) (E : Model) (text : Text) (p : pure.Assignment) (r : Result A TransNo) →
+    ((F : List Stm) × IsParameter H.statements text F p) → IfErr r (HasNoTables H E p) → IfErr r (IsNotGiven H E text)
+given_refused H E text p (Ok g) i h = tt
+given_refused H E text p (Err why) i h = no_tables H E text i.0 p why i.1 h

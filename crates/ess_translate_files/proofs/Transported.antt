@@ -1,7 +1,10 @@
 -- What is said at a borrowed model is said of the model itself.
-use Rattle.std.proofs.Common.{◌≡◌, refl, sym, ap, ◌∙◌, subst, List, map}
+use Rattle.std.proofs.Common.{◌≡◌, refl, sym, ap, ◌∙◌, subst, true, List, map}
 use Rattle.std.specs.declared.result.Result.{Result}
 use Rattle.ess_semantics.specs.Values.{Text}
+use Rattle.ess_semantics.specs.Names.{Names}
+use Rattle.ess_semantics.specs.Tables.{Table}
+use Rattle.ess_semantics.specs.LargeModels.{model_is_large}
 use Rattle.ess_semantics.specs.Assignments.{Assignment}
 use Rattle.ess_semantics.specs.DeclaredTables.{TableDecl}
 use Rattle.ess_semantics.specs.ModelTrees.{Header}
@@ -49,3 +52,8 @@ members_there H p m k t l a b h =
 -- The tables of a header that a model declares.
 pub tables_here : (H : Header) (m k : PModel) → k ≡ m → DeclaresTables H (pure_model k) → DeclaresTables H (pure_model m)
 tables_here H m k e h = subst (λ n. DeclaresTables H (pure_model n)) e h
+
+-- A number outside 64 bits over the tables of a model.
+pub large_here : (m k : PModel) (q c : Names Table) → k ≡ m → model_is_large (pure_model k) q c ≡ true →
+    model_is_large (pure_model m) q c ≡ true
+large_here m k q c e h = subst (λ n. model_is_large (pure_model n) q c ≡ true) e h

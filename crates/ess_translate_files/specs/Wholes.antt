@@ -17,7 +17,7 @@ use Rattle.ess_translate_given_laws.specs.Ready.{Ready}
 use Rattle.ess_translate_members_laws.specs.PlanDomains.{plan_closed}
 use Rattle.ess_translate_header.specs.Views.{pure_header}
 use Rattle.ess_translate_plans.specs.Views.{pure_plan, IsReadHeader}
-use Rattle.ess_translate_files.specs.GivenFiles.{IsGiven}
+use Rattle.ess_translate_files.specs.GivenFiles.{HasTables, IsGiven}
 use Rattle.ess_translate_files.specs.declared.models.ModelFile.{ModelFile}
 use Rattle.ess_translate_files.specs.declared.givens.Given.{Given}
 
@@ -41,6 +41,12 @@ pub record IsWhole (m : ModelFile) : Type 0 where
 abbrev pub AreClosed : ModelFile → List (Option Closed) → Assignment → Type 0
 AreClosed m c p =
     map (option_map pure_closed) c ≡ map (plan_closed (env_of (file_header m).statements p nothing_given)) (plans (file_header m).statements (file_header m).reprs)
+
+-- The env and the closed domains of the plans are those of the parameter, and it has these tables.
+pub record HoldsTables (m : ModelFile) (g : Given) : Type 0 where
+  pub env : pure_env g.env ≡ env_of (file_header m).statements (pure_assignment g.param) nothing_given
+  pub closed : AreClosed m g.closed (pure_assignment g.param)
+  pub has : HasTables (file_header m) (file_model m) (pure_assignment g.param) (pure_cells g.tables)
 
 -- Some text gives the parameter and the tables, and the env and the closed domains of the plans are those of the parameter.
 pub record IsGivenFor (m : ModelFile) (g : Given) : Type 0 where

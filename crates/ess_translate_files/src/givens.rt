@@ -3,6 +3,7 @@ ghost use Rattle.std.specs.Prelude.{◌≡◌, List, map, option_map, IfOk, IfEr
 ghost use Rattle.ess_semantics.specs.Trees.{Stm as PureStm};
 ghost use Rattle.ess_semantics.specs.Assignments as pure;
 ghost use Rattle.ess_semantics.specs.Assignments.{nothing_given, env_of};
+ghost use Rattle.ess_semantics.specs.Parameters.{Param};
 ghost use Rattle.ess_semantics.specs.Plans.{plans};
 ghost use Rattle.ess_core.specs.TableViews.{pure_env, pure_cells};
 ghost use Rattle.ess_eval_domains.specs.ClosedViews.{pure_closed};
@@ -10,7 +11,7 @@ ghost use Rattle.ess_domains.specs.Assignments.{pure_assignment};
 ghost use Rattle.ess_translate.specs.Answers.{IsParameter, IsNoParameter};
 ghost use Rattle.ess_translate_members_laws.specs.PlanDomains.{plan_closed};
 ghost use Rattle.ess_translate_files.specs.GivenFiles.{IsGiven, IsNotGiven, HasNoTables};
-ghost use Rattle.ess_translate_files.specs.Wholes.{file_header, file_model, IsWhole, IsGivenFor};
+ghost use Rattle.ess_translate_files.specs.Wholes.{file_header, file_model, IsWhole, HoldsTables, IsGivenFor};
 
 use crate::models::ModelFile;
 use crate::refusals::eval_no;
@@ -34,7 +35,6 @@ pub struct Given {
 /// Reads a file of a parameter for a model's file: it fits the header's specification, no given or find has too many cells, and the
 /// model declares the axes and cell domains of its tables. The errors are those of `parameter_of`, `TooManyCells` of the first given
 /// or find that has more than 2^24 cells, `HeaderBad` where the model declares other members, `Big` and `NoMemory`.
-#[tactic(auto, using(crate::proofs::Refused::no_tables_of, crate::proofs::Refused::no_domains_of, crate::proofs::Refused::is_param, crate::proofs::Solved::given_whole))]
 pub fn given_in(alloc: Global, file: &ModelFile, param: &[u8]) -> Result<Given, TransNo>
     requires { IsWhole file.now }
     ensures ok { IfOk result (λ g. (F : List PureStm)
@@ -42,9 +42,25 @@ pub fn given_in(alloc: Global, file: &ModelFile, param: &[u8]) -> Result<Given, 
     ensures whole { IfOk result (IsGivenFor file.now) }
     ensures refused { IfErr result (IsNotGiven (file_header file.now) (file_model file.now) param.now) }
 {
-    let param = values_in(alloc, file, param)?;
+    match values_in(alloc, file, param) {
+        Ok(param) => given_by(alloc, file, param),
+        Err(why) => Err(why),
+    }
+}
+
+/// What a parameter gives that fits the header's specification.
+fn given_by(alloc: Global, file: &ModelFile, param: Assignment) -> Result<Given, TransNo>
+    requires whole { IsWhole file.now }
+    requires fits { Param (file_header file.now).statements (pure_assignment param) }
+    ensures param { IfOk result (λ g. g.param ≡ param) }
+    ensures holds { IfOk result (HoldsTables file.now) }
+    ensures refused { IfErr result (HasNoTables (file_header file.now) (file_model file.now) (pure_assignment param)) }
+{
     let env = env_for(alloc, file, &param)?;
-    let closed = domains_under(alloc, file, &env)?;
+    let closed = match domains_under(alloc, file, &env) {
+        Ok(closed) => closed,
+        Err(why) => return Err(why),
+    };
     let tables = tables_under(alloc, file, closed.as_slice(), &param)?;
     Ok(Given {
         param,

@@ -14,7 +14,7 @@ returns-in-Ok-true-clause-ok c =
     let p = pure_assignment c.args.param.now in
     let d = c.in-Ok-true.ensures.ok H p (ap (map pure_plan) c.as_slice.ensures ∙ w.plans) c.requires.closed in
     members_here H p c.args.file.now.model c.get.result.now c.args.tables.now c.as_slice-2.result.now c.get.ensures c.as_slice-2.ensures
-    (d.yes c.in-Ok-true.field-0-is)
+    (d.yes c.in-Ok-true.field-0-test)
 
 -- src/tables.rt
 pub returns-in-Ok-false-clause-refused : goal.returns-in-Ok-false-clause-refused
@@ -23,5 +23,5 @@ returns-in-Ok-false-clause-refused c = λ few there.
     let H = file_header c.args.file.now in
     let p = pure_assignment c.args.param.now in
     let d = c.in-Ok-false.ensures.ok H p (ap (map pure_plan) c.as_slice.ensures ∙ w.plans) c.requires.closed in
-    (pure_cells c.args.tables.now, few, there, λ m. d.no c.in-Ok-false.field-0-is
+    (pure_cells c.args.tables.now, few, there, λ m. d.no c.in-Ok-false.field-0-test
     (members_there H p c.args.file.now.model c.get.result.now c.args.tables.now c.as_slice-2.result.now c.get.ensures c.as_slice-2.ensures m))
