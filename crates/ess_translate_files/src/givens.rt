@@ -35,6 +35,7 @@ pub struct Given {
 /// Reads a file of a parameter for a model's file: it fits the header's specification, no given or find has too many cells, and the
 /// model declares the axes and cell domains of its tables. The errors are those of `parameter_of`, `TooManyCells` of the first given
 /// or find that has more than 2^24 cells, `HeaderBad` where the model declares other members, `Big` and `NoMemory`.
+#[tactic(auto, using(crate::proofs::Refused::is_param))]
 pub fn given_in(alloc: Global, file: &ModelFile, param: &[u8]) -> Result<Given, TransNo>
     requires { IsWhole file.now }
     ensures ok { IfOk result (λ g. (F : List PureStm)
