@@ -1,7 +1,9 @@
 ghost use Rattle.std.specs.Prelude.{◌≡◌};
 ghost use Rattle.ess_translate.specs.Refusals.{read_no, typing_no, walk_no, stop_no};
+ghost use Rattle.ess_translate.specs.declared.refusal.TransNo.{TransNo};
 
-use ess_core::NoMemory;
+use eprime_verdicts::PVerdict;
+use ess_core::{NoMemory, Text};
 use ess_domains::{EvalNo, ParamVerdict};
 use ess_parse::ReadNo;
 use ess_types::TypeNo;
@@ -15,7 +17,7 @@ pub enum Which {
     Essence,
     /// That of a parameter.
     Param,
-    /// That of a solution.
+    /// That of a solution, or of its cells.
     Solution,
 }
 
@@ -23,16 +25,32 @@ pub enum Which {
 /// this order, but for `NoMemory`, which may come at any point.
 #[derive(Debug, Drop)]
 pub enum TransNo {
+    /// The text of a model doesn't begin with a header of this tool, or the model declares other tables than its header has.
+    HeaderBad,
     /// The text of this file isn't read. The reason is never want of memory.
     Read(Which, ReadNo),
     /// The specification is ill typed. The reason is never want of memory.
     Typing(TypeNo),
     /// The parameter doesn't fit the specification.
     InvalidParameter(ParamVerdict),
+    /// The tables of this given or find have more than 2^24 cells under the parameter. Their number is kept at 2^100.
+    TooManyCells(Text, u128),
+    /// The cells don't satisfy the model: what they fail first, which is never that they do.
+    Unsatisfied(PVerdict),
+    /// The cells of this find stand for no value by all of its representations.
+    NotRepresented(Text),
     /// A number lies below -(2^63 - 1) or above 2^63 - 1.
     Big,
     /// There was no room in memory.
     NoMemory,
+}
+
+impl From<NoMemory> for TransNo {
+    ghost from_gives = { λ _ no. no ≡ TransNo.NoMemory };
+
+    fn from(_: NoMemory) -> TransNo {
+        TransNo::NoMemory
+    }
 }
 
 /// The refusal of the text of a file.
