@@ -10,6 +10,9 @@ pub mod EndingLaws
 pub mod TaskLaws
 pub mod JudgingLaws
 pub mod DecidedLaws
+pub mod TranslatingLaws
+pub mod TranslationTexts
+pub mod TranslationLaws
 pub mod RunLaws
 pub mod StandingLaws
 pub mod HoldingLaws
