@@ -6,6 +6,7 @@ pub mod WritingLaws
 pub mod ReadingLaws
 pub mod NamingLaws
 pub mod PieceLaws
+pub mod CountLaws
 pub mod EndingLaws
 pub mod TaskLaws
 pub mod JudgingLaws

@@ -38,7 +38,6 @@ fn written<F: Files, O: Sink>(
 
 /// Translates a parameter, or cells, by the files of these names, and writes the translation to its place; or says what stands against
 /// it.
-#[tactic(auto, using(crate::proofs::TranslatingLaws::ends_written, crate::proofs::TranslatingLaws::ends_stopped_source))]
 pub(crate) fn translated<F: Files, O: Sink, E: Sink>(
     alloc: Global,
     sources: Sources,
