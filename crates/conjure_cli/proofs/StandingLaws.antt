@@ -1,6 +1,6 @@
 -- Where the work is done the model that is left stands for the specification.
 use Rattle.std.proofs.Common.{◌≡◌, sym, ◌∙◌, ℕ, List, arith, Bool, Option, Some, None}
-use Rattle.std.specs.Prelude.{IfSome, IsSomeAnd, ◌+◌}
+use Rattle.std.specs.Prelude.{IsSomeAnd, ◌+◌}
 use Rattle.ess_io.specs.Trees.{Tree, start_of_file, with_file}
 use Rattle.conjure_cli_laws.specs.Laws.{StandsForText}
 use Rattle.conjure_cli_laws.specs.ModelText.{IsModelOf}

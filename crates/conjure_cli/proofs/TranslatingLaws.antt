@@ -1,11 +1,11 @@
 -- Laws of runs that translate a parameter or cells.
-use Rattle.std.proofs.Common.{◌≡◌, refl, sym, ap, ◌∙◌, subst, ℕ, inl, inr, ◌⊎◌, List, [], arith, true, Option, Some, None}
+use Rattle.std.proofs.Common.{◌≡◌, refl, sym, ap, ◌∙◌, subst, ℕ, inl, inr, ◌⊎◌, List, arith, true, Option, Some, None}
 use Rattle.ess_semantics.specs.Names.{Names}
 use Rattle.ess_semantics.specs.Tables.{Table}
 use Rattle.ess_semantics.specs.Assignments.{Assignment}
 use Rattle.ess_semantics.specs.ModelTrees.{Header, Model}
 use Rattle.ess_io.specs.Counts.{Rose}
-use Rattle.ess_io.specs.Trees.{Tree, with_file, LeavesPrefix, KeepsOthers}
+use Rattle.ess_io.specs.Trees.{with_file, LeavesPrefix, KeepsOthers}
 use Rattle.ess_io.proofs.Written.{LeavesPrefix-KeepsOthers}
 use Rattle.ess_io.specs.declared.files.FileNo.{FileNo}
 use Rattle.ess_translate.specs.declared.refusal.Which.{Which}

@@ -10,7 +10,6 @@ use Rattle.ess_semantics.specs.Plans.{given_tables}
 use Rattle.ess_io.specs.Counts.{Rose}
 use Rattle.ess_io.specs.Trees.{Tree, start_of_file}
 use Rattle.ess_grammar.specs.ModelTexts.{IsModel}
-use Rattle.eprime_cells_laws.specs.TableReading.{tables}
 use Rattle.ess_translate_header_laws.specs.Headers.{HasHeader}
 use Rattle.ess_translate.specs.declared.refusal.Which.{Which}
 use Rattle.ess_translate.specs.Texts.{Spells}
