@@ -18,7 +18,8 @@ use Rattle.conjure_cli.specs.Ending.{status_of, LeavesErr, IsRefusal}
 use Rattle.conjure_cli.specs.Refusals.{unwritten}
 use Rattle.conjure_cli.specs.Tasks.{translate}
 use Rattle.conjure_cli.specs.Judging.{refused, JudgeErr, StopsAt, StopTold}
-use Rattle.conjure_cli.specs.Translating.{told_source, ModelRead, GivenRead, IsTranslation, TranslatesFor, Translates, BytesStop, StopsFor, SourceCause, SomeTranslation, TranslateCause, TranslateFiles, Written}
+use Rattle.conjure_cli.specs.Translating.{told_source, ModelRead, GivenRead, IsTranslation, TranslatesFor, Translates, BytesStop, StopsFor}
+use Rattle.conjure_cli.specs.Translating.{SourceCause, SomeTranslation, TranslateCause, TranslateFiles, Written}
 use Rattle.conjure_cli.specs.Runs.{outcome_status, Ends}
 use Rattle.conjure_cli.specs.declared.ending.Ending.{Ending}
 use Rattle.conjure_cli.specs.declared.outcome.Outcome.{Outcome}

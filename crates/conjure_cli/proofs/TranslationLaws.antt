@@ -20,7 +20,8 @@ use Rattle.conjure_cli.specs.Seen.{FilesSeen, SinkSeen, limit, WasRead}
 use Rattle.conjure_cli.specs.Ending.{NoFault}
 use Rattle.conjure_cli.specs.Judging.{StopsLater}
 use Rattle.conjure_cli.specs.Translating.{ModelRead, GivenRead, SolvedRead, Translates, CellsStop, SourceCause, TranslateCause}
-use Rattle.conjure_cli.specs.TranslationDecided.{AreGoodSources, AreGoodCells, IsSolvable, AreCellsDecided, IsGivenDecided, IsSolvedDecided, TranslationDecides}
+use Rattle.conjure_cli.specs.TranslationDecided.{AreGoodSources, AreGoodCells, IsSolvable, AreCellsDecided}
+use Rattle.conjure_cli.specs.TranslationDecided.{IsGivenDecided, IsSolvedDecided, TranslationDecides}
 use Rattle.conjure_cli.specs.Runs.{outcome_status}
 use Rattle.conjure_cli.specs.declared.ending.Ending.{Ending}
 use Rattle.conjure_cli.specs.declared.outcome.Outcome.{Outcome}

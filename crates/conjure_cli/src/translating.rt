@@ -10,7 +10,8 @@ ghost use Rattle.ess_io.specs.Counts.{raised};
 ghost use Rattle.conjure_cli.specs.Seen.{IsLater, files_at};
 ghost use Rattle.conjure_cli.specs.Tasks.{ReadsUpTo};
 ghost use Rattle.conjure_cli.specs.Judging.{StopsAt};
-ghost use Rattle.conjure_cli.specs.Translating.{ModelRead, GivenRead, SolvedRead, IsTranslation, TranslatesFor, Translates, BytesStop, StopsFor, SourceCause, told_source};
+ghost use Rattle.conjure_cli.specs.Translating.{ModelRead, GivenRead, SolvedRead, IsTranslation, TranslatesFor, Translates};
+ghost use Rattle.conjure_cli.specs.Translating.{BytesStop, StopsFor, SourceCause, told_source};
 
 use crate::judging::{Stop, refused, whole};
 use crate::outcome::Outcome;

@@ -1,4 +1,5 @@
-use Rattle.conjure_cli.proofs.RunLaws.{ends_with, usage_is_two, later_is_three, missing_by, decides_by, refused_keeps, keeps_all_else, says_translation}
+use Rattle.conjure_cli.proofs.RunLaws.{ends_with, usage_is_two, later_is_three, missing_by}
+use Rattle.conjure_cli.proofs.RunLaws.{decides_by, refused_keeps, keeps_all_else, says_translation}
 use Rattle.conjure_cli.proofs.StandingLaws.{model_stands}
 use Rattle.conjure_cli.proofs.HoldingLaws.{says_whether_solution}
 use Rattle.conjure_cli.proofs.program.run.Goals as goal

@@ -10,8 +10,10 @@ returns-in-Ok-clause-ended g c =
     ends_written c.written-ending.result c.args.sources.model.now c.args.sources.param.now
     (option_map (λ name. name.now) c.args.sources.cells) c.args.place.now c.deref.result.now
     (files_at (g.F.Files.tree c.args.files.now) (g.F.Files.faults c.args.files.now) (g.F.Files.misses c.args.files.now))
-    (files_at (g.F.Files.tree c.translation_of.new.files) (g.F.Files.faults c.translation_of.new.files) (g.F.Files.misses c.translation_of.new.files))
-    (files_at (g.F.Files.tree c.written-ending.new.files) (g.F.Files.faults c.written-ending.new.files) (g.F.Files.misses c.written-ending.new.files))
+    (files_at (g.F.Files.tree c.translation_of.new.files) (g.F.Files.faults c.translation_of.new.files)
+    (g.F.Files.misses c.translation_of.new.files))
+    (files_at (g.F.Files.tree c.written-ending.new.files) (g.F.Files.faults c.written-ending.new.files)
+    (g.F.Files.misses c.written-ending.new.files))
     (sink_at (g.O.Sink.bytes c.args.out.now) (g.O.Sink.faults c.args.out.now))
     (sink_at (g.O.Sink.bytes c.written-ending.new.out) (g.O.Sink.faults c.written-ending.new.out))
     (sink_at (g.E.Sink.bytes c.args.err.now) (g.E.Sink.faults c.args.err.now))
@@ -25,7 +27,8 @@ returns-in-Err-clause-ended g c =
     ends_stopped_source c.in-Err.stop.outcome c.tell_stop.result c.in-Err.stop.at c.args.sources.model.now c.args.sources.param.now
     (option_map (λ name. name.now) c.args.sources.cells) c.args.place.now
     (files_at (g.F.Files.tree c.args.files.now) (g.F.Files.faults c.args.files.now) (g.F.Files.misses c.args.files.now))
-    (files_at (g.F.Files.tree c.translation_of.new.files) (g.F.Files.faults c.translation_of.new.files) (g.F.Files.misses c.translation_of.new.files))
+    (files_at (g.F.Files.tree c.translation_of.new.files) (g.F.Files.faults c.translation_of.new.files)
+    (g.F.Files.misses c.translation_of.new.files))
     (sink_at (g.O.Sink.bytes c.args.out.now) (g.O.Sink.faults c.args.out.now))
     (sink_at (g.E.Sink.bytes c.args.err.now) (g.E.Sink.faults c.args.err.now))
     (sink_at (g.E.Sink.bytes c.tell_stop.new.err) (g.E.Sink.faults c.tell_stop.new.err))
