@@ -34,7 +34,7 @@ use Rattle.conjure_cli.proofs.EndingLaws.{rose_later}
 -- ---- the same texts
 
 -- two readings of one file of a told tree are one
-one_text : (tree : Tree) (file held text : List ℕ) → start_of_file tree file (limit + 1) ≡ Some held → WasRead (Some tree) file text
+pub one_text : (tree : Tree) (file held text : List ℕ) → start_of_file tree file (limit + 1) ≡ Some held → WasRead (Some tree) file text
     → text ≡ held
 one_text tree file held text is was = some_one text held (sym was ∙ is)
   where
@@ -67,7 +67,7 @@ no_file_stops Ending.Unwritable tree file held before after told is short quiet 
 no_file_stops Ending.OutputFailed tree file held before after told is short quiet room h = h
 
 -- nor does its text, where nothing is said against it
-no_stop : (outcome : Outcome) (tree : Tree) (file held : List ℕ) (before after : FilesSeen) (P : List ℕ → TransNo → Type 0)
+pub no_stop : (outcome : Outcome) (tree : Tree) (file held : List ℕ) (before after : FilesSeen) (P : List ℕ → TransNo → Type 0)
     → before.tree ≡ Some tree
     → start_of_file tree file (limit + 1) ≡ Some held → length held ≤ limit → (Rose before.faults after.faults → ⊥)
     → (outcome ≡ Outcome.Plain Ending.NoMemory → ⊥) → ((why : TransNo) → IsTold why → P held why → ⊥)
@@ -92,6 +92,10 @@ good_essence text S (TransNo.Typing why) good told h =
     let none : fault h.0 ≡ None = ap fault (good.spells.only h.0 h.1.reads) ∙ good.typed in
     let c : None ≡ Some why = sym (ap (option_map refusal) none) ∙ h.2 in cc
 good_essence text S (TransNo.InvalidParameter v) good told h = h
+good_essence text S TransNo.HeaderBad good told h = h
+good_essence text S (TransNo.TooManyCells x k) good told h = h
+good_essence text S (TransNo.Unsatisfied v) good told h = h
+good_essence text S (TransNo.NotRepresented x) good told h = h
 good_essence text S TransNo.Big good told h = h
 good_essence text S TransNo.NoMemory good told h = told
 
@@ -107,6 +111,10 @@ good_param text S F (TransNo.Read Which.Model why) spells fits small told h = h
 good_param text S F (TransNo.Typing why) spells fits small told h = h
 good_param text S F (TransNo.InvalidParameter v) spells fits small told h =
     h.2.unfit (ap (λ G. param_verdict S (parameter_in S G)) (spells.only h.0 h.1.reads) ∙ fits)
+good_param text S F TransNo.HeaderBad spells fits small told h = h
+good_param text S F (TransNo.TooManyCells x k) spells fits small told h = h
+good_param text S F (TransNo.Unsatisfied v) spells fits small told h = h
+good_param text S F (TransNo.NotRepresented x) spells fits small told h = h
 good_param text S F TransNo.Big spells fits small told h =
     true_false h.2 (ap (λ G. parameter_is_large S (parameter_in S G)) (spells.only h.0 h.1.reads) ∙ small)
 good_param text S F TransNo.NoMemory spells fits small told h = told
@@ -119,6 +127,10 @@ good_solution text S G p (TransNo.Read Which.Param why) spells small told h = h
 good_solution text S G p (TransNo.Read Which.Model why) spells small told h = h
 good_solution text S G p (TransNo.Typing why) spells small told h = h
 good_solution text S G p (TransNo.InvalidParameter v) spells small told h = h
+good_solution text S G p TransNo.HeaderBad spells small told h = h
+good_solution text S G p (TransNo.TooManyCells x k) spells small told h = h
+good_solution text S G p (TransNo.Unsatisfied v) spells small told h = h
+good_solution text S G p (TransNo.NotRepresented x) spells small told h = h
 good_solution text S G p TransNo.Big spells small told h =
     true_false h.2 (ap (λ H. solution_is_large S p (solution_in S p H)) (spells.only h.0 h.1.reads) ∙ small)
 good_solution text S G p TransNo.NoMemory spells small told h = told

@@ -144,10 +144,10 @@ leaves_others file place before after P keeps left = told before.tree (λ _. ref
         given None left = absurd left
         given (Some text) left = keeps left.0 left.2
 
-kept : (place : List ℕ) (before after : FilesSeen) → after.tree ≡ before.tree → KeepsOthers before.tree after.tree place
+pub kept : (place : List ℕ) (before after : FilesSeen) → after.tree ≡ before.tree → KeepsOthers before.tree after.tree place
 kept place before after same = subst (λ t. KeepsOthers before.tree t place) (sym same) (same-KeepsOthers before.tree place)
 
-put_there : (place : List ℕ) (before after : FilesSeen) (model : List ℕ) → after.tree ≡ with_file before.tree place model → KeepsOthers before.tree after.tree place
+pub put_there : (place : List ℕ) (before after : FilesSeen) (model : List ℕ) → after.tree ≡ with_file before.tree place model → KeepsOthers before.tree after.tree place
 put_there place before after model wrote = subst (λ t. KeepsOthers before.tree t place) (sym wrote) (with_file-KeepsOthers before.tree place model)
 
 pub others_kept : (ending : Ending) (file place : List ℕ) (before after : FilesSeen) → LeavesFiles ending file place before after → KeepsOthers before.tree after.tree place

@@ -12,16 +12,17 @@ use Rattle.ess_domains.specs.Verdicts.{pure_verdict, cut}
 use Rattle.ess_translate_laws.specs.FileAssignments.{solution_in}
 use Rattle.ess_translate.specs.declared.refusal.Which.{Which}
 use Rattle.ess_translate.specs.declared.refusal.TransNo.{TransNo}
+use Rattle.ess_translate.specs.Answers.{IsNoEssence, IsNoParameter, IsNotJudged}
 use Rattle.conjure_cli.specs.Seen.{FilesSeen, SinkSeen}
 use Rattle.conjure_cli.specs.Ending.{status_of}
-use Rattle.conjure_cli.specs.Tasks.{Task, refine, judge, later}
+use Rattle.conjure_cli.specs.Tasks.{Task, refine, judge, translate, later}
 use Rattle.conjure_cli.specs.Reasons.{read_status, refusal_status, verdict_status}
-use Rattle.conjure_cli.specs.Judging.{JudgeCause, VerdictFound}
+use Rattle.conjure_cli.specs.Judging.{JudgeCause, StopCause, VerdictFound}
 use Rattle.conjure_cli.specs.Runs.{outcome_status, Ends}
 use Rattle.conjure_cli.specs.Holding.{FilesSay, SaysWhetherSolution}
 use Rattle.conjure_cli.specs.declared.ending.Ending.{Ending}
 use Rattle.conjure_cli.specs.declared.outcome.Outcome.{Outcome}
-use Rattle.conjure_cli.proofs.JudgingLaws.{stops_nowhere}
+use Rattle.conjure_cli.proofs.JudgingLaws.{stops_nowhere, refusal_not_zero}
 
 -- ---- verdicts
 
@@ -80,20 +81,55 @@ files_say v Holds before e p s follows found =
 
 -- ---- refusals
 
-read_not_done : (why : ReadNo) → (read_status why ≡ 0 → ⊥) × (read_status why ≡ 1 → ⊥)
-read_not_done (ReadNo.BadByte p) = (λ is. omega (arith, is), λ is. omega (arith, is))
-read_not_done (ReadNo.WideNumber p) = (λ is. omega (arith, is), λ is. omega (arith, is))
-read_not_done (ReadNo.Unsupported p) = (λ is. omega (arith, is), λ is. omega (arith, is))
-read_not_done (ReadNo.TooDeep p) = (λ is. omega (arith, is), λ is. omega (arith, is))
-read_not_done (ReadNo.Syntax p) = (λ is. omega (arith, is), λ is. omega (arith, is))
-read_not_done ReadNo.NoMemory = (λ is. omega (arith, is), λ is. omega (arith, is))
+read_not_one : (why : ReadNo) → read_status why ≡ 1 → ⊥
+read_not_one (ReadNo.BadByte p) is = omega (arith, is)
+read_not_one (ReadNo.WideNumber p) is = omega (arith, is)
+read_not_one (ReadNo.Unsupported p) is = omega (arith, is)
+read_not_one (ReadNo.TooDeep p) is = omega (arith, is)
+read_not_one (ReadNo.Syntax p) is = omega (arith, is)
+read_not_one ReadNo.NoMemory is = omega (arith, is)
 
-refusal_not_done : (why : TransNo) → (refusal_status why ≡ 0 → ⊥) × (refusal_status why ≡ 1 → ⊥)
-refusal_not_done (TransNo.Read which why) = read_not_done why
-refusal_not_done (TransNo.Typing why) = (λ is. omega (arith, is), λ is. omega (arith, is))
-refusal_not_done (TransNo.InvalidParameter why) = (λ is. omega (arith, is), λ is. omega (arith, is))
-refusal_not_done TransNo.Big = (λ is. omega (arith, is), λ is. omega (arith, is))
-refusal_not_done TransNo.NoMemory = (λ is. omega (arith, is), λ is. omega (arith, is))
+-- a text of a specification, a parameter or a solution isn't refused with status 1
+essence_not_one : (text : List ℕ) (why : TransNo) → IsNoEssence text why → refusal_status why ≡ 1 → ⊥
+essence_not_one text (TransNo.Read which why) h is = read_not_one why is
+essence_not_one text (TransNo.Typing why) h is = omega (arith, is)
+essence_not_one text (TransNo.InvalidParameter why) h is = omega (arith, is)
+essence_not_one text TransNo.HeaderBad h is = omega (arith, is)
+essence_not_one text (TransNo.TooManyCells x k) h is = omega (arith, is)
+essence_not_one text (TransNo.Unsatisfied v) h is = h
+essence_not_one text (TransNo.NotRepresented x) h is = h
+essence_not_one text TransNo.Big h is = omega (arith, is)
+essence_not_one text TransNo.NoMemory h is = omega (arith, is)
+
+param_not_one : (S : List Stm) (text : List ℕ) (why : TransNo) → IsNoParameter S text why → refusal_status why ≡ 1 → ⊥
+param_not_one S text (TransNo.Read which why) h is = read_not_one why is
+param_not_one S text (TransNo.Typing why) h is = omega (arith, is)
+param_not_one S text (TransNo.InvalidParameter why) h is = omega (arith, is)
+param_not_one S text TransNo.HeaderBad h is = omega (arith, is)
+param_not_one S text (TransNo.TooManyCells x k) h is = omega (arith, is)
+param_not_one S text (TransNo.Unsatisfied v) h is = h
+param_not_one S text (TransNo.NotRepresented x) h is = h
+param_not_one S text TransNo.Big h is = omega (arith, is)
+param_not_one S text TransNo.NoMemory h is = omega (arith, is)
+
+judged_not_one : (S : List Stm) (p : Assignment) (text : List ℕ) (why : TransNo) → IsNotJudged S p text why → refusal_status why ≡ 1 → ⊥
+judged_not_one S p text (TransNo.Read which why) h is = read_not_one why is
+judged_not_one S p text (TransNo.Typing why) h is = omega (arith, is)
+judged_not_one S p text (TransNo.InvalidParameter why) h is = omega (arith, is)
+judged_not_one S p text TransNo.HeaderBad h is = omega (arith, is)
+judged_not_one S p text (TransNo.TooManyCells x k) h is = omega (arith, is)
+judged_not_one S p text (TransNo.Unsatisfied v) h is = h
+judged_not_one S p text (TransNo.NotRepresented x) h is = h
+judged_not_one S p text TransNo.Big h is = omega (arith, is)
+judged_not_one S p text TransNo.NoMemory h is = omega (arith, is)
+
+-- a refusal by which judging stops hasn't status 1
+refused_not_one : (at : Which) (why : TransNo) (e p s : List ℕ) (before after : FilesSeen)
+    → StopCause at (Outcome.Refused why) e p s before after → refusal_status why ≡ 1 → ⊥
+refused_not_one Which.Essence why e p s before after h = essence_not_one h.2.0 why h.2.3
+refused_not_one Which.Param why e p s before after h = param_not_one h.0 h.2.2.0 why h.2.2.3
+refused_not_one Which.Solution why e p s before after h = judged_not_one h.0 h.1 h.4.2.0 why h.4.2.3
+refused_not_one Which.Model why e p s before after h = λ is. h
 
 -- an ending of status 0 is that of work done
 zero_is_done : (ending : Ending) → status_of ending ≡ 0 → ending ≡ Ending.Done
@@ -128,7 +164,7 @@ judged_says (Outcome.Judged v) at e p s before after o o' cause = (
   λ is. files_say v (λ S q a. Sol S q a → ⊥) before e p s (λ S q a told. one_is_none v S q a is told) cause,
 )
 judged_says (Outcome.Refused why) at e p s before after o o' cause =
-    (λ is. absurd ((refusal_not_done why).0 is), λ is. absurd ((refusal_not_done why).1 is))
+    (λ is. absurd (refusal_not_zero why is), λ is. absurd (refused_not_one at why e p s before after cause is))
 judged_says (Outcome.Plain ending) at e p s before after o o' cause = (
   λ is. absurd (stops_nowhere (Outcome.Plain Ending.Done) at e p s before after (λ file b a P n. n)
       (subst (λ x. JudgeCause (Outcome.Plain x) at e p s before after o o') (zero_is_done ending is) cause)),
@@ -140,6 +176,7 @@ pub says_whether_solution : (outcome : Outcome) (status : ℕ) (task : Option Ta
     → Ends outcome status task takes before after o o' e e' → SaysWhetherSolution status task before
 says_whether_solution outcome status None takes before after o o' e e' ends = tt
 says_whether_solution outcome status (Some (later name)) takes before after o o' e e' ends = tt
+says_whether_solution outcome status (Some (translate m p c place)) takes before after o o' e1 e2 ends = tt
 says_whether_solution outcome status (Some (refine file place)) takes before after o o' e e' ends = tt
 says_whether_solution outcome status (Some (judge e p s)) takes before after o o' e1 e2 ends =
     subst (λ n. SaysWhetherSolution n (Some (judge e p s)) before) (sym ends.status_is)

@@ -23,6 +23,10 @@ use Rattle.conjure_cli.proofs.EndingLaws.{two_is_usage}
 pub refused_stops : (why : TransNo) (file text : List ℕ) (before after : FilesSeen) (P : List ℕ → TransNo → Type 0)
     → Took before.tree file text → P text why
     → StopsAt (refused why) file before after P
+refused_stops TransNo.HeaderBad file text before after P took h = (text, took, tt, h)
+refused_stops (TransNo.TooManyCells x k) file text before after P took h = (text, took, tt, h)
+refused_stops (TransNo.Unsatisfied v) file text before after P took h = (text, took, tt, h)
+refused_stops (TransNo.NotRepresented x) file text before after P took h = (text, took, tt, h)
 refused_stops (TransNo.Read which e) file text before after P took h = (text, took, tt, h)
 refused_stops (TransNo.Typing e) file text before after P took h = (text, took, tt, h)
 refused_stops (TransNo.InvalidParameter e) file text before after P took h = (text, took, tt, h)
@@ -176,12 +180,37 @@ read_not_two (ReadNo.TooDeep p) is = omega (arith, is)
 read_not_two (ReadNo.Syntax p) is = omega (arith, is)
 read_not_two ReadNo.NoMemory is = omega (arith, is)
 
-refusal_not_two : (why : TransNo) → refusal_status why ≡ 2 → ⊥
+-- no refusal has status 2
+pub refusal_not_two : (why : TransNo) → refusal_status why ≡ 2 → ⊥
+refusal_not_two TransNo.HeaderBad is = omega (arith, is)
+refusal_not_two (TransNo.TooManyCells x k) is = omega (arith, is)
+refusal_not_two (TransNo.Unsatisfied v) is = omega (arith, is)
+refusal_not_two (TransNo.NotRepresented x) is = omega (arith, is)
 refusal_not_two (TransNo.Read which why) is = read_not_two why is
 refusal_not_two (TransNo.Typing why) is = omega (arith, is)
 refusal_not_two (TransNo.InvalidParameter why) is = omega (arith, is)
 refusal_not_two TransNo.Big is = omega (arith, is)
 refusal_not_two TransNo.NoMemory is = omega (arith, is)
+
+read_not_zero : (why : ReadNo) → read_status why ≡ 0 → ⊥
+read_not_zero (ReadNo.BadByte p) is = omega (arith, is)
+read_not_zero (ReadNo.WideNumber p) is = omega (arith, is)
+read_not_zero (ReadNo.Unsupported p) is = omega (arith, is)
+read_not_zero (ReadNo.TooDeep p) is = omega (arith, is)
+read_not_zero (ReadNo.Syntax p) is = omega (arith, is)
+read_not_zero ReadNo.NoMemory is = omega (arith, is)
+
+-- no refusal has status 0
+pub refusal_not_zero : (why : TransNo) → refusal_status why ≡ 0 → ⊥
+refusal_not_zero TransNo.HeaderBad is = omega (arith, is)
+refusal_not_zero (TransNo.TooManyCells x k) is = omega (arith, is)
+refusal_not_zero (TransNo.Unsatisfied v) is = omega (arith, is)
+refusal_not_zero (TransNo.NotRepresented x) is = omega (arith, is)
+refusal_not_zero (TransNo.Read which why) is = read_not_zero why is
+refusal_not_zero (TransNo.Typing why) is = omega (arith, is)
+refusal_not_zero (TransNo.InvalidParameter why) is = omega (arith, is)
+refusal_not_zero TransNo.Big is = omega (arith, is)
+refusal_not_zero TransNo.NoMemory is = omega (arith, is)
 
 -- a run that judges a solution never says that the words don't fit
 pub never_two : (outcome : Outcome) (at : Which) (e p s : List ℕ) (before after : FilesSeen) (o o' : SinkSeen)

@@ -6,10 +6,14 @@ pub mod WritingLaws
 pub mod ReadingLaws
 pub mod NamingLaws
 pub mod PieceLaws
+pub mod CountLaws
 pub mod EndingLaws
 pub mod TaskLaws
 pub mod JudgingLaws
 pub mod DecidedLaws
+pub mod TranslatingLaws
+pub mod TranslationTexts
+pub mod TranslationLaws
 pub mod RunLaws
 pub mod StandingLaws
 pub mod HoldingLaws

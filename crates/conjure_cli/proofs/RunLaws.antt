@@ -3,7 +3,7 @@ use Rattle.std.proofs.Common.{◌≡◌, refl, sym, ap, ◌∙◌, subst, ℕ, i
 use Rattle.ess_translate.specs.declared.refusal.Which.{Which}
 use Rattle.conjure_cli.specs.Seen.{FilesSeen, SinkSeen}
 use Rattle.conjure_cli.specs.Ending.{status_of, model_file, CauseOf, LeavesFiles, LeavesErr, Ran, IsRefusal}
-use Rattle.conjure_cli.specs.Tasks.{Task, refine, judge, later, asked, file_named, takes_memory}
+use Rattle.conjure_cli.specs.Tasks.{Task, refine, judge, translate, later, asked, file_named, takes_memory}
 use Rattle.conjure_cli.specs.Runs.{outcome_status, IfPlain, RefineCause, Ends, KeepsAllElse, UsageIsTwo, LaterIsThree, MissingBy, DecidesBy}
 use Rattle.conjure_cli.specs.declared.ending.Ending.{Ending}
 use Rattle.conjure_cli.specs.declared.ending.Ending.TheVariants.{Usage, NotYet, NoMemory}
@@ -12,6 +12,9 @@ use Rattle.conjure_cli.proofs.EndingLaws.{two_is_usage, six_decides, others_kept
 use Rattle.conjure_cli.proofs.TaskLaws.{named_is_asked}
 use Rattle.conjure_cli.proofs.JudgingLaws.{never_two}
 use Rattle.conjure_cli.proofs.DecidedLaws.{files_decide}
+use Rattle.conjure_cli.proofs.TranslatingLaws.{translate_not_two, translate_refused, translate_keeps, translate_is_done}
+use Rattle.conjure_cli.proofs.TranslationLaws.{translation_decides}
+use Rattle.conjure_cli.specs.Translating.{SaysTranslation}
 
 -- ---- how a run ends
 
@@ -44,6 +47,8 @@ ends_memory (Some (later name)) before out err err' left =
     record { at = Which.Essence; status_is = refl; cause = inr refl; files = refl; out = refl; err = left }
 ends_memory (Some (judge e p s)) before out err err' left =
     record { at = Which.Essence; status_is = refl; cause = tt; files = refl; out = refl; err = left }
+ends_memory (Some (translate m p c place)) before out err err' left =
+    record { at = Which.Essence; status_is = refl; cause = tt; files = inl refl; out = refl; err = left }
 ends_memory (Some (refine file place)) before out err err' left =
     record { at = Which.Essence; status_is = refl; cause = inr refl; files = inl refl; out = refl; err = left }
 
@@ -85,6 +90,10 @@ usage_is_two outcome status (Some (judge e p s)) takes before after o o' e1 e2 e
   λ two. absurd (never_two outcome ends.at e p s before after o o' ends.cause (sym ends.status_is ∙ two)),
   λ none. let h : Some (judge e p s) ≡ None = none in cc,
 )
+usage_is_two outcome status (Some (translate m p c place)) takes before after o o' e1 e2 ends = (
+  λ two. absurd (translate_not_two outcome ends.at m p c before after o o' ends.cause (sym ends.status_is ∙ two)),
+  λ none. let h : Some (translate m p c place) ≡ None = none in cc,
+)
 usage_is_two outcome status (Some (refine file place)) takes before after o o' e e' ends =
     let q = of_plain outcome (RefineCause takes file before after o o') ends.cause in
     let is : status ≡ status_of q.0 = ends.status_is ∙ ap outcome_status q.1 in (
@@ -104,6 +113,7 @@ pub later_is_three : (outcome : Outcome) (status : ℕ) (task : Option Task) (ta
 later_is_three outcome status None takes before after o o' e e' ends = tt
 later_is_three outcome status (Some (refine file place)) takes before after o o' e e' ends = tt
 later_is_three outcome status (Some (judge e p s)) takes before after o o' e1 e2 ends = tt
+later_is_three outcome status (Some (translate m p c place)) takes before after o o' e1 e2 ends = tt
 later_is_three outcome status (Some (later name)) takes before after o o' e e' ends =
     let q = of_plain outcome (λ ending. (ending ≡ NotYet) ⊎ (ending ≡ NoMemory)) ends.cause in
     let is : status ≡ status_of q.0 = ends.status_is ∙ ap outcome_status q.1 in
@@ -114,6 +124,7 @@ pub missing_by : (outcome : Outcome) (status : ℕ) (task : Option Task) (takes 
 missing_by outcome status None takes before after o o' e e' ends = tt
 missing_by outcome status (Some (later name)) takes before after o o' e e' ends = tt
 missing_by outcome status (Some (judge e p s)) takes before after o o' e1 e2 ends = tt
+missing_by outcome status (Some (translate m p c place)) takes before after o o' e1 e2 ends = tt
 missing_by outcome status (Some (refine file place)) false before after o o' e e' ends =
     let q = of_plain outcome (RefineCause false file before after o o') ends.cause in
     missing_is_four q.0 status file before after o o' (ends.status_is ∙ ap outcome_status q.1) q.2
@@ -131,6 +142,8 @@ decides_by outcome status None takes before after o o' e e' ends = tt
 decides_by outcome status (Some (later name)) takes before after o o' e e' ends = tt
 decides_by outcome status (Some (judge e p s)) takes before after o o' e1 e2 ends =
     files_decide outcome status ends.at e p s before after o o' ends.status_is ends.cause
+decides_by outcome status (Some (translate m p c place)) takes before after o o' e1 e2 ends =
+    translation_decides outcome status ends.at m p c before after o o' ends.status_is ends.cause
 decides_by outcome status (Some (refine file place)) false before after o o' e e' ends =
     let q = of_plain outcome (RefineCause false file before after o o') ends.cause in
     text_decides q.0 status file before after o o' (ends.status_is ∙ ap outcome_status q.1) q.2
@@ -147,6 +160,8 @@ pub keeps_all_else : (outcome : Outcome) (status : ℕ) (task : Option Task) (ta
 keeps_all_else outcome status None takes before after o o' e e' ends = ends.files
 keeps_all_else outcome status (Some (later name)) takes before after o o' e e' ends = ends.files
 keeps_all_else outcome status (Some (judge e p s)) takes before after o o' e1 e2 ends = ends.files
+keeps_all_else outcome status (Some (translate m p c place)) takes before after o o' e1 e2 ends =
+    translate_keeps outcome m p c place before after ends.files
 keeps_all_else outcome status (Some (refine file place)) takes before after o o' e e' ends =
     let q = of_plain outcome (λ ending. LeavesFiles ending file place before after) ends.files in
     others_kept q.0 file place before after q.2
@@ -156,9 +171,21 @@ pub refused_keeps : (outcome : Outcome) (status : ℕ) (task : Option Task) (tak
 refused_keeps outcome status None takes before after o o' e e' ends refusal = ends.files
 refused_keeps outcome status (Some (later name)) takes before after o o' e e' ends refusal = ends.files
 refused_keeps outcome status (Some (judge e p s)) takes before after o o' e1 e2 ends refusal = ends.files
+refused_keeps outcome status (Some (translate m p c place)) takes before after o o' e1 e2 ends refusal =
+    translate_refused outcome status m p c place before after ends.status_is refusal ends.files
 refused_keeps outcome status (Some (refine file place)) takes before after o o' e e' ends refusal =
     let q = of_plain outcome (λ ending. LeavesFiles ending file place before after) ends.files in
     refusal_keeps q.0 status file place before after (ends.status_is ∙ ap outcome_status q.1) refusal q.2
+
+-- where something is translated, status 0 says that it is done
+pub says_translation : (outcome : Outcome) (status : ℕ) (task : Option Task) (takes : Bool) (before after : FilesSeen) (o o' e e' : SinkSeen)
+    → Ends outcome status task takes before after o o' e e' → SaysTranslation status task before after
+says_translation outcome status None takes before after o o' e e' ends = tt
+says_translation outcome status (Some (later name)) takes before after o o' e e' ends = tt
+says_translation outcome status (Some (judge e p s)) takes before after o o' e1 e2 ends = tt
+says_translation outcome status (Some (refine file place)) takes before after o o' e e' ends = tt
+says_translation outcome status (Some (translate m p c place)) takes before after o o' e1 e2 ends = λ zero.
+    translate_is_done outcome ends.at m p c place before after o o' ends.cause ends.files (sym ends.status_is ∙ zero)
 
 -- the same ending with its status
 pub ends_with : (outcome : Outcome) (status : ℕ) (task : Option Task) (takes : Bool) (before after : FilesSeen) (o o' e e' : SinkSeen)

@@ -1,13 +1,13 @@
 -- Where the work is done the model that is left stands for the specification.
 use Rattle.std.proofs.Common.{◌≡◌, sym, ◌∙◌, ℕ, List, arith, Bool, Option, Some, None}
-use Rattle.std.specs.Prelude.{IfSome, IsSomeAnd, ◌+◌}
+use Rattle.std.specs.Prelude.{IsSomeAnd, ◌+◌}
 use Rattle.ess_io.specs.Trees.{Tree, start_of_file, with_file}
 use Rattle.conjure_cli_laws.specs.Laws.{StandsForText}
 use Rattle.conjure_cli_laws.specs.ModelText.{IsModelOf}
 use Rattle.conjure_cli_laws.proofs.WrittenModels.{written-stands}
 use Rattle.conjure_cli.specs.Seen.{FilesSeen, SinkSeen, ReadGives, limit}
 use Rattle.conjure_cli.specs.Ending.{status_of, LeavesFiles}
-use Rattle.conjure_cli.specs.Tasks.{Task, refine, judge, later}
+use Rattle.conjure_cli.specs.Tasks.{Task, refine, judge, translate, later}
 use Rattle.conjure_cli.specs.Runs.{Ends}
 use Rattle.conjure_cli.specs.Standing.{ModelStands}
 use Rattle.conjure_cli.specs.declared.ending.Ending.{Ending}
@@ -45,6 +45,7 @@ pub model_stands : (outcome : Outcome) (status : ℕ) (task : Option Task) (take
 model_stands outcome status None takes before after o o' e e' ends is = tt
 model_stands outcome status (Some (later name)) takes before after o o' e e' ends is = tt
 model_stands outcome status (Some (judge e p s)) takes before after o o' e1 e2 ends is = tt
+model_stands outcome status (Some (translate m p c place)) takes before after o o' e1 e2 ends is = tt
 model_stands (Outcome.Plain ending) status (Some (refine file place)) takes before after o o' e e' ends is =
     done_stands ending file place before after (sym ends.status_is ∙ is) ends.files
 model_stands (Outcome.Judged v) status (Some (refine file place)) takes before after o o' e e' ends is = absurd ends.files

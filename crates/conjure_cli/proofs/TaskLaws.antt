@@ -1,12 +1,12 @@
 -- Laws of tasks: what the words ask for, and how often files are read for it.
-use Rattle.std.proofs.Common.{◌≡◌, refl, sym, ap, ◌∙◌, subst, ℕ, ◌≤◌, inl, inr, List, [], ◌∷◌, ◌++◌, arith, Bool, true, false, not, if◌then◌else◌, ◌&&◌, Option, Some, None, option_map}
+use Rattle.std.proofs.Common.{◌≡◌, refl, sym, ap, ◌∙◌, subst, ℕ, zero, suc, ◌≤◌, inl, inr, List, [], ◌∷◌, ◌++◌, arith, Bool, true, false, not, if◌then◌else◌, ◌&&◌, Option, Some, None, option_map}
 use Rattle.std.specs.Prelude.{codes, option_and_then, bytes_eq, nat_eq, is_none}
 use Rattle.ess_io.specs.Counts.{raised}
 use Rattle.conjure_cli_words.specs.Items.{plain, item, operand, look_of, items_of_word, items_from}
 use Rattle.conjure_cli_words.specs.Forms.{fitting, read_as}
 use Rattle.conjure_cli_words.specs.Commands.{modelling_form, modelling_of}
 use Rattle.conjure_cli.specs.Ending.{model_file}
-use Rattle.conjure_cli.specs.Tasks.{begins_with_dash, file_named, takes_memory, Task, refine, judge, later, task_of, asked, reads_more, ReadsAfter}
+use Rattle.conjure_cli.specs.Tasks.{begins_with_dash, file_named, takes_memory, Task, refine, judge, translate, later, task_of, asked, reads_more, ReadsUpTo, ReadsAfter}
 
 -- ---- what the words ask for
 
@@ -70,6 +70,7 @@ pub reads_memory : (task : Option Task) (before : ℕ) → ReadsAfter task true 
 reads_memory None before = refl
 reads_memory (Some (later name)) before = refl
 reads_memory (Some (judge e p s)) before = (0, omega arith, refl)
+reads_memory (Some (translate m p c place)) before = (0, omega arith, refl)
 reads_memory (Some (refine file place)) before = inr (refl, refl)
 
 -- the reads of the words `modelling FILE`
@@ -88,3 +89,14 @@ reads_two before one two is more = (2, omega arith, more ∙ ap raised is)
 pub reads_three : (before one two three : ℕ) → one ≡ raised before → two ≡ raised one → three ≡ raised two
     → (k : ℕ) × (k ≤ 3) × (three ≡ reads_more k before)
 reads_three before one two three is more last = (3, omega arith, last ∙ ap raised (more ∙ ap raised is))
+
+-- the reads of the files that are translated
+pub one_read : (n before one : ℕ) → one ≡ raised before → ReadsUpTo (suc n) before one
+one_read n before one is = (1, omega arith, is)
+
+pub more_reads : (n before one two : ℕ) → one ≡ raised before → ReadsUpTo n one two → ReadsUpTo (suc n) before two
+more_reads n before one two is h = (suc h.0, omega (arith, h.1), h.2 ∙ ap (reads_more h.0) is ∙ behind h.0)
+  where
+    behind : (k : ℕ) → reads_more k (raised before) ≡ raised (reads_more k before)
+    behind zero = refl
+    behind (suc k) = ap raised (behind k)

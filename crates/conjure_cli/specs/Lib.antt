@@ -8,6 +8,8 @@ pub mod Tasks
 pub mod Reasons
 pub mod Judging
 pub mod Decided
+pub mod Translating
+pub mod TranslationDecided
 pub mod Runs
 pub mod Standing
 pub mod Holding

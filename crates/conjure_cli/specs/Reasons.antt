@@ -8,6 +8,7 @@ use Rattle.ess_domains.specs.declared.verdicts.ParamVerdict.{ParamVerdict}
 use Rattle.ess_domains.specs.declared.verdicts.ParamVerdict.TheVariants as param
 use Rattle.ess_domains.specs.declared.verdicts.Verdict.{Verdict}
 use Rattle.ess_domains.specs.declared.verdicts.Verdict.TheVariants as sol
+use Rattle.eprime_verdicts.specs.declared.satisfying.PVerdict.{PVerdict}
 use Rattle.ess_translate.specs.declared.refusal.TransNo.{TransNo}
 
 -- `:LINE:COL: TEXT`
@@ -47,11 +48,23 @@ param_reason (param.BelowZero n) = at_statement n (codes "a size is below 0")
 param_reason (param.NotMember n) = at_statement n (codes "the value is not in its domain")
 param_reason (param.Needs n) = at_statement n (codes "the condition is false")
 
+-- what is said of cells that don't satisfy a model, behind the file's name
+abbrev pub model_reason : PVerdict → List ℕ
+model_reason PVerdict.Yes = []
+model_reason (PVerdict.Missing x) = codes ": missing " ++ x
+model_reason (PVerdict.Extra x) = codes ": extra " ++ x
+model_reason (PVerdict.OutOfDomain x) = codes ": " ++ x ++ codes " is outside its domain"
+model_reason (PVerdict.False n) = codes ": constraint " ++ decimal n ++ codes " is false"
+
 -- What is said of a refusal of the texts; the file is the one that is looked at.
 abbrev pub refusal_told : List ℕ → TransNo → List ℕ
+refusal_told file TransNo.HeaderBad = file ++ codes ": no header of this tool"
 refusal_told file (TransNo.Read which why) = file ++ read_reason why
 refusal_told file (TransNo.Typing why) = file ++ type_reason why
 refusal_told file (TransNo.InvalidParameter why) = file ++ param_reason why
+refusal_told file (TransNo.TooManyCells x k) = x ++ codes ": " ++ decimal k ++ codes " cells, the limit is 16777216"
+refusal_told file (TransNo.Unsatisfied v) = file ++ model_reason v
+refusal_told file (TransNo.NotRepresented x) = file ++ codes ": " ++ x ++ codes " stands for no value"
 refusal_told file TransNo.Big = codes "a number is outside 64 bits"
 refusal_told file TransNo.NoMemory = codes "out of memory"
 
@@ -66,9 +79,13 @@ read_status _ = 3
 
 -- The status of a refusal.
 abbrev pub refusal_status : TransNo → ℕ
+refusal_status TransNo.HeaderBad = 3
 refusal_status (TransNo.Read which why) = read_status why
 refusal_status (TransNo.Typing why) = 3
 refusal_status (TransNo.InvalidParameter why) = 3
+refusal_status (TransNo.TooManyCells x k) = 5
+refusal_status (TransNo.Unsatisfied v) = 1
+refusal_status (TransNo.NotRepresented x) = 1
 refusal_status TransNo.Big = 5
 refusal_status TransNo.NoMemory = 6
 

@@ -5,9 +5,11 @@ use Rattle.ess_translate.specs.declared.refusal.Which.{Which}
 use Rattle.conjure_cli.specs.Seen.{FilesSeen, SinkSeen}
 use Rattle.conjure_cli.specs.Ending.{status_of, CauseOf, LeavesFiles, LeavesOut, LeavesErr, MissingIsFour, TextDecides}
 use Rattle.conjure_cli.specs.Reasons.{refusal_status, verdict_status}
-use Rattle.conjure_cli.specs.Tasks.{Task, refine, judge, later, name_told, place_told}
+use Rattle.conjure_cli.specs.Tasks.{Task, refine, judge, translate, later, name_told, place_told}
 use Rattle.conjure_cli.specs.Judging.{file_of, JudgeCause, JudgeOut, JudgeErr}
 use Rattle.conjure_cli.specs.Decided.{FilesDecide}
+use Rattle.conjure_cli.specs.Translating.{told_source, TranslateCause, TranslateFiles, TranslateOut, TranslateErr}
+use Rattle.conjure_cli.specs.TranslationDecided.{TranslationDecides}
 use Rattle.conjure_cli.specs.declared.ending.Ending.{Ending}
 use Rattle.conjure_cli.specs.declared.outcome.Outcome.{Outcome}
 
@@ -38,25 +40,31 @@ HasCause outcome at (Some (refine file place)) takes before after out_before out
     IfPlain outcome (RefineCause takes file before after out_before out_after)
 HasCause outcome at (Some (judge e p s)) takes before after out_before out_after =
     JudgeCause outcome at e p s before after out_before out_after
+HasCause outcome at (Some (translate m p c place)) takes before after out_before out_after =
+    TranslateCause outcome at m p c before after out_before out_after
 
--- What a run leaves of the files: one that refines nothing touches none.
+-- What a run leaves of the files: one that refines and translates nothing touches none.
 abbrev pub LeavesBy : Outcome → Option Task → FilesSeen → FilesSeen → Type 0
 LeavesBy outcome (Some (refine file place)) before after = IfPlain outcome (λ ending. LeavesFiles ending file place before after)
+LeavesBy outcome (Some (translate m p c place)) before after = TranslateFiles outcome m p c place before after
 LeavesBy outcome _ before after = after.tree ≡ before.tree
 
--- no file is touched but the model's
+-- no file is touched but that of the model or of the translation
 abbrev pub KeepsAllElse : Option Task → FilesSeen → FilesSeen → Type 0
 KeepsAllElse (Some (refine file place)) before after = KeepsOthers before.tree after.tree place
+KeepsAllElse (Some (translate m p c place)) before after = KeepsOthers before.tree after.tree place
 KeepsAllElse _ before after = after.tree ≡ before.tree
 
 -- What a run leaves on `out`.
 abbrev pub LeavesOutBy : Outcome → Option Task → FilesSeen → SinkSeen → SinkSeen → Type 0
 LeavesOutBy outcome (Some (judge e p s)) seen before after = JudgeOut outcome seen.tree e p s before after
+LeavesOutBy outcome (Some (translate m p c place)) seen before after = TranslateOut outcome place before after
 LeavesOutBy outcome task seen before after = IfPlain outcome (λ ending. LeavesOut ending (place_told task) before after)
 
 -- What a run leaves on `err`.
 abbrev pub LeavesErrBy : Outcome → Which → Option Task → SinkSeen → SinkSeen → Type 0
 LeavesErrBy outcome at (Some (judge e p s)) before after = JudgeErr outcome (file_of at e p s) before after
+LeavesErrBy outcome at (Some (translate m p c place)) before after = TranslateErr outcome (told_source outcome at m p c) place before after
 LeavesErrBy outcome at task before after = IfPlain outcome (λ ending. LeavesErr ending (name_told task) (place_told task) before after)
 
 -- A run of this task, whose words take memory or don't, ends so: with this status, by this cause, and it leaves this.
@@ -91,4 +99,6 @@ MissingBy status _ takes before after = Unit
 abbrev pub DecidesBy : ℕ → Option Task → FilesSeen → FilesSeen → SinkSeen → SinkSeen → Type 0
 DecidesBy status (Some (refine file place)) before after out_before out_after = TextDecides status file before after out_before out_after
 DecidesBy status (Some (judge e p s)) before after out_before out_after = FilesDecide status e p s before after out_before out_after
+DecidesBy status (Some (translate m p c place)) before after out_before out_after =
+    TranslationDecides status m p c before after out_before out_after
 DecidesBy status _ before after out_before out_after = Unit

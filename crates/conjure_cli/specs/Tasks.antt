@@ -23,10 +23,12 @@ abbrev pub takes_memory : List (List ℕ) → Bool
 takes_memory words = is_none (file_named words)
 
 -- What a run is to do: to refine a file and write its model to a place; to judge a solution, by the files of a
--- specification, a parameter and the solution; or what isn't supported yet, with the name that is told.
+-- specification, a parameter and the solution; to translate for the model of a file the parameter of another one, or under it the
+-- cells of a third one, and write the translation to a place; or what isn't supported yet, with the name that is told.
 pub data Task : Type 0 where
   refine : List ℕ → List ℕ → Task
   judge : List ℕ → List ℕ → List ℕ → Task
+  translate : List ℕ → List ℕ → Option (List ℕ) → List ℕ → Task
   later : List ℕ → Task
 
 -- the task of `modelling`, by its list of representations
@@ -37,8 +39,8 @@ modelling_task folder file (Some list) = later file
 -- the task of a command; what isn't supported yet tells the first file that it would read, or its name
 abbrev pub task_of : Command → Task
 task_of (Modelling folder file options) = modelling_task folder file options.use_repr
-task_of (Parameter model from to) = later model
-task_of (Solution model param from to) = later model
+task_of (Parameter model from to) = translate model from None to
+task_of (Solution model param from to) = translate model param (Some from) to
 task_of (Validate essence param solution) = judge essence param solution
 task_of (Selftest number) = later (codes "selftest")
 
@@ -51,12 +53,17 @@ abbrev pub reads_more : ℕ → ℕ → ℕ
 reads_more zero before = before
 reads_more (suc k) before = raised (reads_more k before)
 
--- How many reads were made in all: the file that is to be refined is read once, the files to be judged at most once each,
+-- at most n reads were made
+abbrev pub ReadsUpTo : ℕ → ℕ → ℕ → Type 0
+ReadsUpTo n before after = (k : ℕ) × (k ≤ n) × (after ≡ reads_more k before)
+
+-- How many reads were made in all: the file that is to be refined is read once, the files to be judged or translated at most once each,
 -- and nothing else is read. Where the words take memory, want of it may come before the read.
 abbrev pub ReadsAfter : Option Task → Bool → ℕ → ℕ → ℕ → Type 0
 ReadsAfter None takes status before after = after ≡ before
 ReadsAfter (Some (later name)) takes status before after = after ≡ before
-ReadsAfter (Some (judge essence param solution)) takes status before after = (k : ℕ) × (k ≤ 3) × (after ≡ reads_more k before)
+ReadsAfter (Some (judge essence param solution)) takes status before after = ReadsUpTo 3 before after
+ReadsAfter (Some (translate model param cells place)) takes status before after = ReadsUpTo 3 before after
 ReadsAfter (Some (refine file place)) false status before after = after ≡ raised before
 ReadsAfter (Some (refine file place)) true status before after = (after ≡ raised before) ⊎ ((after ≡ before) × (status ≡ 6))
 
@@ -65,9 +72,11 @@ abbrev pub name_told : Option Task → List ℕ
 name_told None = []
 name_told (Some (refine file place)) = file
 name_told (Some (judge essence param solution)) = essence
+name_told (Some (translate model param cells place)) = model
 name_told (Some (later name)) = name
 
--- the place of the model
+-- the place of what is written
 abbrev pub place_told : Option Task → List ℕ
 place_told (Some (refine file place)) = place
+place_told (Some (translate model param cells place)) = place
 place_told _ = []

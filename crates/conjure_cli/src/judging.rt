@@ -11,7 +11,7 @@ ghost use Rattle.conjure_cli.specs.Judging.{FileStops, StopsAt, StopCause, Essen
 
 use crate::ending::Ending;
 use crate::outcome::Outcome;
-use crate::program::unread;
+use crate::refining::unread;
 use ess_domains::{Assignment, Verdict};
 use ess_io::Files;
 use ess_translate::{TransNo, Which, parameter_of, specification, verdict_of};
@@ -51,7 +51,7 @@ impl<'a> Names<'a> {
 }
 
 /// Reads a whole file.
-fn whole<F: Files>(alloc: Global, name: &str, files: &mut F) -> Result<Vec<u8>, Ending>
+pub(crate) fn whole<F: Files>(alloc: Global, name: &str, files: &mut F) -> Result<Vec<u8>, Ending>
     ensures ok { IfOk result (λ text. Took (F.tree files.old) name.now text.items) }
     ensures stops { IfErr result (λ ending. FileStops ending name.now
         (files_at (F.tree files.old) (F.faults files.old) (F.misses files.old))
@@ -74,7 +74,7 @@ fn whole<F: Files>(alloc: Global, name: &str, files: &mut F) -> Result<Vec<u8>, 
 }
 
 /// The outcome of a refusal.
-fn refused(why: TransNo) -> Outcome
+pub(crate) fn refused(why: TransNo) -> Outcome
     ensures { result ≡ refused why }
 {
     match why {

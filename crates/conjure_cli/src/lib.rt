@@ -10,10 +10,13 @@ mod outcome;
 mod program;
 mod reader;
 mod reasons;
+mod refining;
 mod telling;
+mod translating;
 mod validating;
 mod words;
 mod writer;
+mod writing;
 
 pub use ending::Ending;
 pub use model::{ModelNo, model_of};

@@ -47,9 +47,13 @@ fn refusal_status(why: &TransNo) -> u8
     ensures { result ≡ refusal_status why.now }
 {
     match why {
+        TransNo::HeaderBad => 3,
         TransNo::Read(_, why) => read_status(*why),
         TransNo::Typing(_) => 3,
         TransNo::InvalidParameter(_) => 3,
+        TransNo::TooManyCells(_, _) => 5,
+        TransNo::Unsatisfied(_) => 1,
+        TransNo::NotRepresented(_) => 1,
         TransNo::Big => 5,
         TransNo::NoMemory => 6,
     }

@@ -1,30 +1,27 @@
 // The program: from the words to the status.
-ghost use Rattle.std.specs.Prelude.{◌≡◌, [], map, None, Some, true, IfOk, string_bytes, option_map};
-ghost use Rattle.ess_io.specs.Counts.{raised};
+ghost use Rattle.std.specs.Prelude.{◌≡◌, [], map, None, Some, true, string_bytes, option_map};
 ghost use Rattle.conjure_cli.specs.Seen.{files_at, sink_at};
-ghost use Rattle.conjure_cli.specs.Tasks.{begins_with_dash, file_named, takes_memory, refine, later, task_of, asked, ReadsAfter};
-ghost use Rattle.conjure_cli.specs.Ending.{model_in, status_of, Ran, IsRefusal, LeavesErr};
+ghost use Rattle.conjure_cli.specs.Tasks.{begins_with_dash, file_named, takes_memory, later, task_of, asked, ReadsAfter};
+ghost use Rattle.conjure_cli.specs.Ending.{status_of, IsRefusal, LeavesErr};
 ghost use Rattle.conjure_cli.specs.Runs.{outcome_status, Ends, KeepsAllElse, UsageIsTwo, LaterIsThree, MissingBy, DecidesBy};
 ghost use Rattle.conjure_cli.specs.Standing.{ModelStands};
 ghost use Rattle.conjure_cli.specs.Holding.{SaysWhetherSolution};
-ghost use Rattle.conjure_cli.specs.Refusals.{unread, unrefined, unwritten};
+ghost use Rattle.conjure_cli.specs.Translating.{SaysTranslation};
 
-use crate::ending::{Ending, MODEL_FILE, put_wrote, report};
+use crate::ending::{Ending, MODEL_FILE, report};
 use crate::judging::Names;
-use crate::model::{ModelNo, model_of};
 use crate::outcome::Outcome;
+use crate::refining::{modelling, refine_into};
+use crate::translating::Sources;
 use crate::validating::judged;
+use crate::writing::translated;
 use conjure_cli_words::{Command, WordsNo, words_of};
-use ess_io::{FileNo, Files, Sink};
-use ess_rows::NoMemory;
+use ess_io::{Files, Sink};
 use std::alloc::Global;
 
-/// The most bytes that a file may have.
-const LIMIT: u64 = 16777216;
-
-/// What the program ends with: 0 where the work is done or the solution is valid, 1 where it isn't valid, 2 where the words
-/// don't fit, 3 where an input is refused or isn't supported
-/// yet, 4 where a file is missing, a read or a write failed, 5 where a limit is met, and 6 for want of memory.
+/// What the program ends with: 0 where the work is done or the solution is valid, 1 where it isn't valid or the cells stand for no
+/// solution, 2 where the words don't fit, 3 where an input is refused or isn't supported yet, 4 where a file is missing, a read or a
+/// write failed, 5 where a limit is met, and 6 for want of memory.
 #[derive(Clone, Copy, Debug, PartialEq, Eq)]
 pub struct Status(pub u8);
 
@@ -43,110 +40,6 @@ fn file_named(words: &[String]) -> Option<&str>
             Some(file.as_str())
         }
         _ => None,
-    }
-}
-
-/// The ending where a read failed.
-pub(crate) fn unread(no: FileNo) -> Ending
-    ensures { result ≡ unread no }
-{
-    match no {
-        FileNo::Missing => Ending::Missing,
-        FileNo::Failed => Ending::Unreadable,
-        FileNo::NoMemory => Ending::NoMemory,
-    }
-}
-
-/// The ending where a text has no model.
-fn unrefined(no: ModelNo) -> Ending
-    ensures { result ≡ unrefined no }
-{
-    match no {
-        ModelNo::NotYet => Ending::NotYet,
-        ModelNo::NoMemory => Ending::NoMemory,
-    }
-}
-
-/// The ending where a write failed.
-fn unwritten(no: FileNo) -> Ending
-    ensures { result ≡ unwritten no }
-{
-    match no {
-        FileNo::NoMemory => Ending::NoMemory,
-        _ => Ending::Unwritable,
-    }
-}
-
-/// Reads the file, refines it, writes its model to the place and says where the model is.
-fn modelling<F: Files, O: Sink>(
-    alloc: Global,
-    file: &str,
-    place: &str,
-    files: &mut F,
-    out: &mut O,
-) -> Ending
-    ensures ran { Ran result file.now place.now
-        (files_at (F.tree files.old) (F.faults files.old) (F.misses files.old))
-        (files_at (F.tree files.new) (F.faults files.new) (F.misses files.new))
-        (sink_at (O.bytes out.old) (O.faults out.old)) (sink_at (O.bytes out.new) (O.faults out.new)) }
-    ensures reads { F.reads files.new ≡ raised (F.reads files.old) }
-{
-    let text = match files.read(alloc, file, LIMIT) {
-        Ok(text) => text,
-        Err(no) => return unread(no),
-    };
-    if text.len() as u64 > LIMIT {
-        return Ending::TooLong;
-    }
-    let model = match model_of(alloc, &text) {
-        Ok(model) => model,
-        Err(no) => return unrefined(no),
-    };
-    if let Err(no) = files.write(alloc, place, &model) {
-        return unwritten(no);
-    }
-    match put_wrote(out, place) {
-        Ok(()) => Ending::Done,
-        Err(_) => Ending::OutputFailed,
-    }
-}
-
-/// The file of a model in its folder.
-fn model_in(alloc: Global, folder: &str) -> Result<String, NoMemory>
-    ensures { IfOk result (λ place. string_bytes place ≡ model_in folder.now) }
-{
-    let mut place = String::from_str(alloc, folder)?;
-    place.push_str("/model000001.eprime")?;
-    Ok(place)
-}
-
-/// Refines the file into the folder, and says on `err` what stands against it.
-fn refine_into<F: Files, O: Sink, E: Sink>(
-    alloc: Global,
-    folder: &str,
-    file: &str,
-    files: &mut F,
-    out: &mut O,
-    err: &mut E,
-) -> Outcome
-    ensures ended { Ends result (outcome_status result) (Some (refine file.now (model_in folder.now))) true
-        (files_at (F.tree files.old) (F.faults files.old) (F.misses files.old))
-        (files_at (F.tree files.new) (F.faults files.new) (F.misses files.new))
-        (sink_at (O.bytes out.old) (O.faults out.old)) (sink_at (O.bytes out.new) (O.faults out.new))
-        (sink_at (E.bytes err.old) (E.faults err.old)) (sink_at (E.bytes err.new) (E.faults err.new)) }
-    ensures reads { ReadsAfter (Some (refine file.now (model_in folder.now))) true (outcome_status result) (F.reads files.old)
-        (F.reads files.new) }
-{
-    match model_in(alloc, folder) {
-        Ok(place) => {
-            let ending = modelling(alloc, file, place.as_str(), files, out);
-            report(err, file, place.as_str(), ending);
-            Outcome::Plain(ending)
-        }
-        Err(NoMemory) => {
-            report(err, "", "", Ending::NoMemory);
-            Outcome::Plain(Ending::NoMemory)
-        }
     }
 }
 
@@ -180,8 +73,22 @@ fn command_done<F: Files, O: Sink, E: Sink>(
             None => refine_into(alloc, folder.as_str(), file.as_str(), files, out, err),
             Some(_) => not_yet(err, file.as_str()),
         },
-        Command::Parameter(model, _, _) => not_yet(err, model.as_str()),
-        Command::Solution(model, _, _, _) => not_yet(err, model.as_str()),
+        Command::Parameter(model, from, to) => {
+            let sources = Sources {
+                model: model.as_str(),
+                param: from.as_str(),
+                cells: None,
+            };
+            translated(alloc, sources, to.as_str(), files, out, err)
+        }
+        Command::Solution(model, param, from, to) => {
+            let sources = Sources {
+                model: model.as_str(),
+                param: param.as_str(),
+                cells: Some(from.as_str()),
+            };
+            translated(alloc, sources, to.as_str(), files, out, err)
+        }
         Command::Validate(essence, param, solution) => {
             let names = Names {
                 essence: essence.as_str(),
@@ -250,8 +157,11 @@ fn done<F: Files, O: Sink, E: Sink>(
 ///
 /// The words are those of `conjure_cli_words::words_of`. With `modelling [-o DIR] FILE` the model of FILE is written to
 /// `DIR/model000001.eprime`, and a line on `out` says so; DIR is `conjure-output` where it isn't given. With
-/// `validate-solution --essence E --param P --solution S` a line on `out` says `valid`, or `not valid` and why. The other
-/// commands and `--use-repr` aren't supported yet. Where something stands against it, a line on `err` says what.
+/// `validate-solution --essence E --param P --solution S` a line on `out` says `valid`, or `not valid` and why. With
+/// `translate-parameter --eprime M --essence-param P --eprime-param Q` the given tables of the model M under the parameter P are
+/// written to Q, and with `translate-solution --eprime M --essence-param P --eprime-solution C --essence-solution S` the solution for
+/// which the cells C stand is written to S; a line on `out` says so. `selftest` and `--use-repr` aren't supported yet. Where something
+/// stands against it, a line on `err` says what.
 pub fn run<F: Files, O: Sink, E: Sink>(
     alloc: Global,
     words: &[String],
@@ -275,6 +185,11 @@ pub fn run<F: Files, O: Sink, E: Sink>(
     // Where a solution is judged, status 0 says that it is one, and status 1 that it is none.
     ensures judged { SaysWhetherSolution result.0 (asked (map string_bytes words.now))
         (files_at (F.tree files.old) (F.faults files.old) (F.misses files.old)) }
+
+    // Where something is translated, status 0 says that its place holds the translation.
+    ensures translated { SaysTranslation result.0 (asked (map string_bytes words.now))
+        (files_at (F.tree files.old) (F.faults files.old) (F.misses files.old))
+        (files_at (F.tree files.new) (F.faults files.new) (F.misses files.new)) }
 
     // Status 2 comes exactly where the words don't fit, but for want of memory.
     ensures usage { UsageIsTwo result.0 (asked (map string_bytes words.now)) }

@@ -1,7 +1,8 @@
 // The texts of verdicts and of refusals.
 ghost use Rattle.std.specs.Prelude.{◌≡◌, ◌++◌, IfOk, OnOk, [], codes, decimal};
-ghost use Rattle.conjure_cli.specs.Reasons.{at_place, at_statement, read_reason, type_reason, param_reason, refusal_told, refusal_line, verdict_reason, verdict_told, verdict_line};
+ghost use Rattle.conjure_cli.specs.Reasons.{at_place, at_statement, read_reason, type_reason, param_reason, model_reason, refusal_told, refusal_line, verdict_reason, verdict_told, verdict_line};
 
+use eprime_verdicts::PVerdict;
 use ess_core::{NoMemory, Place, Text};
 use ess_domains::{ParamVerdict, Verdict};
 use ess_parse::ReadNo;
@@ -74,6 +75,7 @@ fn push_refusal(line: &mut Text, file: &str, why: &TransNo) -> Result<(), NoMemo
     ensures { OnOk result (line.new ≡ line.old ++ refusal_told file.now why.now) }
 {
     match why {
+        TransNo::HeaderBad => push_two(line, file, ": no header of this tool"),
         TransNo::Read(_, why) => {
             line.push_str(file)?;
             push_read(line, *why)
@@ -85,6 +87,15 @@ fn push_refusal(line: &mut Text, file: &str, why: &TransNo) -> Result<(), NoMemo
         TransNo::InvalidParameter(why) => {
             line.push_str(file)?;
             push_param(line, why)
+        }
+        TransNo::TooManyCells(name, count) => push_count(line, name.as_str(), *count),
+        TransNo::Unsatisfied(why) => {
+            line.push_str(file)?;
+            push_model(line, why)
+        }
+        TransNo::NotRepresented(name) => {
+            line.push_str(file)?;
+            push_named(line, name.as_str(), " stands for no value")
         }
         TransNo::Big => line.push_str("a number is outside 64 bits"),
         TransNo::NoMemory => line.push_str("out of memory"),
@@ -155,4 +166,52 @@ fn push_param(line: &mut Text, why: &ParamVerdict) -> Result<(), NoMemory>
         ParamVerdict::NotMember(n) => push_statement(line, *n, "the value is not in its domain"),
         ParamVerdict::Needs(n) => push_statement(line, *n, "the condition is false"),
     }
+}
+
+/// Writes what is said of cells that don't satisfy a model.
+fn push_model(line: &mut Text, why: &PVerdict) -> Result<(), NoMemory>
+    ensures { OnOk result (line.new ≡ line.old ++ model_reason why.now) }
+{
+    match why {
+        PVerdict::Yes => Ok(()),
+        PVerdict::Missing(name) => push_two(line, ": missing ", name.as_str()),
+        PVerdict::Extra(name) => push_two(line, ": extra ", name.as_str()),
+        PVerdict::OutOfDomain(name) => push_named(line, name.as_str(), " is outside its domain"),
+        PVerdict::False(number) => {
+            line.push_str(": constraint ")?;
+            line.push_u64(u64::from(*number))?;
+            line.push_str(" is false")
+        }
+    }
+}
+
+/// Writes a name, with what is said of it.
+fn push_named(line: &mut Text, name: &str, text: &str) -> Result<(), NoMemory>
+    ensures { OnOk result (line.new ≡ line.old ++ (codes ": " ++ name.now ++ text.now)) }
+{
+    line.push_str(": ")?;
+    line.push_str(name)?;
+    line.push_str(text)
+}
+
+/// Writes how many cells a given or find has.
+fn push_count(line: &mut Text, name: &str, count: u128) -> Result<(), NoMemory>
+    ensures { OnOk result (line.new
+        ≡ line.old ++ (name.now ++ codes ": " ++ decimal count ++ codes " cells, the limit is 16777216")) }
+{
+    line.push_str(name)?;
+    line.push_str(": ")?;
+    push_u128(line, count)?;
+    line.push_str(" cells, the limit is 16777216")
+}
+
+/// Writes a number in decimal.
+fn push_u128(line: &mut Text, number: u128) -> Result<(), NoMemory>
+    ensures { OnOk result (line.new ≡ line.old ++ decimal number) }
+{
+    if number < 10 {
+        return line.push_u64(number as u64);
+    }
+    push_u128(line, number / 10)?;
+    line.push_u64((number % 10) as u64)
 }

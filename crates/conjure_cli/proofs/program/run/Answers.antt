@@ -1,4 +1,5 @@
-use Rattle.conjure_cli.proofs.RunLaws.{ends_with, usage_is_two, later_is_three, missing_by, decides_by, refused_keeps, keeps_all_else}
+use Rattle.conjure_cli.proofs.RunLaws.{ends_with, usage_is_two, later_is_three, missing_by}
+use Rattle.conjure_cli.proofs.RunLaws.{decides_by, refused_keeps, keeps_all_else, says_translation}
 use Rattle.conjure_cli.proofs.StandingLaws.{model_stands}
 use Rattle.conjure_cli.proofs.HoldingLaws.{says_whether_solution}
 use Rattle.conjure_cli.proofs.program.run.Goals as goal
@@ -29,3 +30,6 @@ returns-clause-stands g c = model_stands _ _ _ _ _ _ _ _ _ _ (ends_with _ _ _ _ 
 
 pub returns-clause-judged : goal.returns-clause-judged
 returns-clause-judged g c = says_whether_solution _ _ _ _ _ _ _ _ _ _ (ends_with _ _ _ _ _ _ _ _ _ _ c.done.ensures.ended c.status.ensures)
+
+pub returns-clause-translated : goal.returns-clause-translated
+returns-clause-translated g c = says_translation _ _ _ _ _ _ _ _ _ _ (ends_with _ _ _ _ _ _ _ _ _ _ c.done.ensures.ended c.status.ensures)

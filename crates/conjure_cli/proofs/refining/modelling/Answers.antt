@@ -2,7 +2,7 @@ use Rattle.std.proofs.Common.{ap, subst, Err, arith, ◌≤◌, ◌≡◌, lengt
 use Rattle.conjure_cli_laws.specs.ModelText.{IsModelOf}
 use Rattle.conjure_cli.specs.Seen.{files_at, limit}
 use Rattle.conjure_cli.proofs.EndingLaws.{ran_long, ran_unrefined, ran_unwritten, ran_done, ran_untold}
-use Rattle.conjure_cli.proofs.program.modelling.Goals as goal
+use Rattle.conjure_cli.proofs.refining.modelling.Goals as goal
 
 pub returns-then-len-gt-LIMIT-clause-ran : goal.returns-then-len-gt-LIMIT-clause-ran
 returns-then-len-gt-LIMIT-clause-ran g c =
