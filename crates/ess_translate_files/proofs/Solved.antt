@@ -56,7 +56,8 @@ zipped_keys (n ∷ ns) [] e = cc
 zipped_keys (n ∷ ns) (t ∷ ts) e = ap (λ l. n ∷ l) (zipped_keys ns ts cc)
 
 -- Tables that fit stand under the names of the header's tables.
-pub fitting_tables_named : (H : Header) (E : Model) (p : pure.Assignment) (q c : Names Table) → DeclaresTables H E → DeclaresMembers H E p q →
+pub fitting_tables_named : (H : Header) (E : Model) (p : pure.Assignment) (q c : Names Table) → DeclaresTables H E →
+    DeclaresMembers H E p q →
     Sat E q c → keys c ≡ keys (table_list finds_side H.statements H.reprs)
 fitting_tables_named H E p q c T D s =
     let ds = declared_under finds_side H.statements H.reprs p in
@@ -95,11 +96,13 @@ pub given_read : (m : ModelFile) (text : Text) (p : Assignment) (r : Result Give
     ((F : List Stm) × IsParameter (file_header m).statements text F (pure_assignment p)) → IfOk r (λ g. g.param ≡ p) →
     IfOk r (HoldsTables m) →
     IfOk r (λ g. (F : List Stm) × IsGiven (file_header m) (file_model m) text F (pure_assignment g.param) (pure_cells g.tables))
-given_read m text p (Ok g) i e h =
-    (i.0, record {
-      parameter = subst (λ a. IsParameter (file_header m).statements text i.0 (pure_assignment a)) (sym e) i.1;
-      has = h.has;
-    })
+given_read m text p (Ok g) i e h = (
+  i.0,
+  record {
+    parameter = subst (λ a. IsParameter (file_header m).statements text i.0 (pure_assignment a)) (sym e) i.1;
+    has = h.has;
+  },
+)
 given_read m text p (Err why) i e h = tt
 
 pub given_held : (m : ModelFile) (text : Text) (p : Assignment) (r : Result Given TransNo) →
