@@ -6,3 +6,5 @@ pub mod SolutionLines
 pub mod Cells
 pub mod Solved
 pub mod Joined
+-- Worked examples
+pub mod ExamplesSolutions
