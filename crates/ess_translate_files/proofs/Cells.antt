@@ -83,8 +83,9 @@ pub large_refused : (H : Header) (E : Model) (p : Assignment) (q c : Names Table
 large_refused H E p q c text a e = inr (inr (c, a, e))
 
 -- A find without a value.
-pub values_refused : (H : Header) (E : Model) (p : Assignment) (q c : Names Table) (text : Text) (os : Names (Option Value)) (why : TransNo) →
-    AreCells E q text c → Sat E q c → os ≡ values_stood_for H.statements H.reprs p c → IsWithout os why → IsNotSolved H E p q text why
+pub values_refused : (H : Header) (E : Model) (p : Assignment) (q c : Names Table) (text : Text) (os : Names (Option Value))
+    (why : TransNo) → AreCells E q text c → Sat E q c → os ≡ values_stood_for H.statements H.reprs p c → IsWithout os why →
+    IsNotSolved H E p q text why
 values_refused H E p q c text os TransNo.HeaderBad a s e h = absurd h
 values_refused H E p q c text os (TransNo.Read file why) a s e h = absurd h
 values_refused H E p q c text os (TransNo.Typing why) a s e h = absurd h
@@ -98,7 +99,8 @@ values_refused H E p q c text os TransNo.NoMemory a s e h = tt
 -- The text of the values of all finds is that of the solution.
 pub solved : (H : Header) (E : Model) (p : Assignment) (q c : Names Table) (text bytes : Text) (os : Names (Option Value))
     (types : List TypeEntry) → AreCells E q text c → Sat E q c → os ≡ values_stood_for H.statements H.reprs p c → first_without os ≡ None →
-    types ≡ (env_of H.statements p nothing_given).types → bytes ≡ codes "language Essence 1.3\n" ++ value_lines (item_name types) (there_of os) →
+    types ≡ (env_of H.statements p nothing_given).types →
+    bytes ≡ codes "language Essence 1.3\n" ++ value_lines (item_name types) (there_of os) →
     IsSolved H E p q text bytes
 solved H E p q c text bytes os types a s e f g h = record {
   c = c;

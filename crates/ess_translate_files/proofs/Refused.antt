@@ -1,5 +1,6 @@
 -- Refusals of the parts are refusals of a translation.
-use Rattle.std.proofs.Common.{◌≡◌, refl, sym, ap, ◌∙◌, subst, ℕ, Bool, true, false, ◌||◌, List, [], Option, Some, None, option_map, inl, inr}
+use Rattle.std.proofs.Common.{◌≡◌, refl, sym, ap, ◌∙◌, subst, ℕ, Bool, true, false, ◌||◌, List, [], Option, Some, None, option_map, inl}
+use Rattle.std.proofs.Common.{inr}
 use Rattle.std.specs.Prelude.{Err}
 use Rattle.std.specs.declared.result.Result.{Result}
 use Rattle.std.specs.List.{list_any}
@@ -76,8 +77,9 @@ env_refused H E p r EvalNo.Undefined e f = tt
 env_refused H E p r (EvalNo.TooManyCells n) e f = tt
 
 -- Why the domains of plans aren't there.
-pub domains_refused : {A : Type 0} (H : Header) (E : Model) (env : Env) (Ps : List Plan) (r : Result A EvalNo) (why : EvalNo) → r ≡ Err why →
-    (r ≡ Err EvalNo.Big → list_any (plan_is_large env) Ps ≡ true) → Ps ≡ plans H.statements H.reprs → (p : Assignment) →
+pub domains_refused : {A : Type 0} (H : Header) (E : Model) (env : Env) (Ps : List Plan) (r : Result A EvalNo)
+    (why : EvalNo) → r ≡ Err why → (r ≡ Err EvalNo.Big → list_any (plan_is_large env) Ps ≡ true) →
+    Ps ≡ plans H.statements H.reprs → (p : Assignment) →
     env ≡ env_of H.statements p nothing_given → HasNoTables H E p (eval_no why)
 domains_refused H E env Ps r EvalNo.Big e f g p h = inl (plan_large H.statements H.reprs p env Ps h g (f e))
 domains_refused H E env Ps r EvalNo.NoMemory e f g p h = tt

@@ -19,6 +19,10 @@ use Rattle.ess_semantics.specs.Contexts.{Each}
 use Rattle.ess_core.specs.declared.tables.Cells.{Cells}
 use Rattle.ess_core.specs.TableViews.{pure_named_table, pure_cells}
 use Rattle.ess_domains.specs.Assignments.{pure_assignment}
+use Rattle.eprime_cells_laws.specs.CellsText.{cells_text}
+use Rattle.eprime_cells_laws.specs.Laws.{ReadsAsTables}
+use Rattle.ess_translate_given_laws.specs.Printable.{are_in_64_bits}
+use Rattle.ess_translate_given_laws.proofs.Printed.{given-tables-printed}
 use Rattle.conjure_laws.specs.Premises.{here, tables_are}
 use Rattle.conjure_laws.proofs.NamedTables.{fit-are, are-long}
 use Rattle.ess_translate_tables_laws.specs.HeaderTables.{DeclaresTables}
@@ -56,7 +60,8 @@ zipped_keys (n ∷ ns) [] e = cc
 zipped_keys (n ∷ ns) (t ∷ ts) e = ap (λ l. n ∷ l) (zipped_keys ns ts cc)
 
 -- Tables that fit stand under the names of the header's tables.
-pub fitting_tables_named : (H : Header) (E : Model) (p : pure.Assignment) (q c : Names Table) → DeclaresTables H E → DeclaresMembers H E p q →
+pub fitting_tables_named : (H : Header) (E : Model) (p : pure.Assignment) (q c : Names Table) → DeclaresTables H E →
+    DeclaresMembers H E p q →
     Sat E q c → keys c ≡ keys (table_list finds_side H.statements H.reprs)
 fitting_tables_named H E p q c T D s =
     let ds = declared_under finds_side H.statements H.reprs p in
@@ -95,11 +100,13 @@ pub given_read : (m : ModelFile) (text : Text) (p : Assignment) (r : Result Give
     ((F : List Stm) × IsParameter (file_header m).statements text F (pure_assignment p)) → IfOk r (λ g. g.param ≡ p) →
     IfOk r (HoldsTables m) →
     IfOk r (λ g. (F : List Stm) × IsGiven (file_header m) (file_model m) text F (pure_assignment g.param) (pure_cells g.tables))
-given_read m text p (Ok g) i e h =
-    (i.0, record {
-      parameter = subst (λ a. IsParameter (file_header m).statements text i.0 (pure_assignment a)) (sym e) i.1;
-      has = h.has;
-    })
+given_read m text p (Ok g) i e h = (
+  i.0,
+  record {
+    parameter = subst (λ a. IsParameter (file_header m).statements text i.0 (pure_assignment a)) (sym e) i.1;
+    has = h.has;
+  },
+)
 given_read m text p (Err why) i e h = tt
 
 pub given_held : (m : ModelFile) (text : Text) (p : Assignment) (r : Result Given TransNo) →
@@ -121,3 +128,14 @@ pub given_refused : {A : Type 0} (H : Header) (E : Model) (text : Text) (p : pur
     ((F : List Stm) × IsParameter H.statements text F p) → IfErr r (HasNoTables H E p) → IfErr r (IsNotGiven H E text)
 given_refused H E text p (Ok g) i h = tt
 given_refused H E text p (Err why) i h = no_tables H E text i.0 p why i.1 h
+
+-- The text of given tables is read as them.
+pub given_reads : (m : ModelFile) (g : Given) (bytes : Text) → IsWhole m → IsGivenFor m g →
+    bytes ≡ cells_text (file_model m).givens (pure_cells g.tables) → are_in_64_bits (pure_cells g.tables) ≡ true →
+    ReadsAsTables bytes (all_decls (file_model m)) (pure_cells g.tables) (file_model m).givens (pure_cells g.tables)
+given_reads m g bytes w h e k =
+    let E = file_model m in
+    let q = pure_cells g.tables in
+    let fit = given-tables-printed.fit (file_header m) E (pure_assignment g.param) q w.header.ours w.ready (given_param m g h) w.tables
+    h.given.has.tables h.given.has.members.givens in
+    subst (λ b. ReadsAsTables b (all_decls E) q E.givens q) (sym e) (given-tables-printed.read E (all_decls E) q q w.readable fit k)

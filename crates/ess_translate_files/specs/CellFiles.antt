@@ -79,7 +79,8 @@ abbrev pub FailsAt : Model → Names Table → Names Ex → PVerdict → Type 0
 FailsAt E q cs (PVerdict.Missing x) = cells_answer E.givens q E.finds cs ≡ missing_letting x
 FailsAt E q cs (PVerdict.Extra x) = cells_answer E.givens q E.finds cs ≡ extra_letting x
 FailsAt E q cs (PVerdict.OutOfDomain x) = cells_answer E.givens q E.finds cs ≡ outside_domain x
-FailsAt E q cs (PVerdict.False n) = (c : Names Table) × (cells_answer E.givens q E.finds cs ≡ tables c) × IsVerdict (PVerdict.False n) (model_verdict E q c)
+FailsAt E q cs (PVerdict.False n) =
+    (c : Names Table) × (cells_answer E.givens q E.finds cs ≡ tables c) × IsVerdict (PVerdict.False n) (model_verdict E q c)
 FailsAt E q cs PVerdict.Yes = ⊥
 
 -- Some number lies outside 64 bits: in a declared domain over the given tables, also where finds count as not declared, as while the

@@ -29,7 +29,8 @@ file_header m = pure_header m.header
 abbrev pub file_model : ModelFile → pure.Model
 file_model m = pure_model m.model
 
--- The header is as it was read, and its statements are ready for parameters, the plans are its plans, and the model is one that some text has and declares their tables.
+-- The header is as it was read, and its statements are ready for parameters, the plans are its plans, and the model is one that some text
+-- has and declares their tables.
 pub record IsWhole (m : ModelFile) : Type 0 where
   pub header : IsReadHeader m.header
   pub ready : Ready (file_header m).statements
@@ -40,7 +41,8 @@ pub record IsWhole (m : ModelFile) : Type 0 where
 -- These are the domains of the plans under the parameter p.
 abbrev pub AreClosed : ModelFile → List (Option Closed) → Assignment → Type 0
 AreClosed m c p =
-    map (option_map pure_closed) c ≡ map (plan_closed (env_of (file_header m).statements p nothing_given)) (plans (file_header m).statements (file_header m).reprs)
+    map (option_map pure_closed) c ≡
+    map (plan_closed (env_of (file_header m).statements p nothing_given)) (plans (file_header m).statements (file_header m).reprs)
 
 -- The env and the closed domains of the plans are those of the parameter, and it has these tables.
 pub record HoldsTables (m : ModelFile) (g : Given) : Type 0 where

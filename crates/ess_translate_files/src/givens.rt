@@ -104,7 +104,8 @@ fn domains_under(
     requires { IsWhole file.now }
     ensures ok { IfOk result (λ c. map (option_map pure_closed) c
         ≡ map (plan_closed (pure_env env.now)) (plans (file_header file.now).statements (file_header file.now).reprs)) }
-    ensures refused { IfErr result (λ why. (p : pure.Assignment) → pure_env env.now ≡ env_of (file_header file.now).statements p nothing_given
+    ensures refused { IfErr result (λ why. (p : pure.Assignment) →
+        pure_env env.now ≡ env_of (file_header file.now).statements p nothing_given
         → HasNoTables (file_header file.now) (file_model file.now) p why) }
 {
     match closed_plans(alloc, file.plans.as_slice(), env) {

@@ -8,8 +8,8 @@ mod given_texts;
 mod givens;
 mod models;
 mod refusals;
-mod solutions;
 mod solution_texts;
+mod solutions;
 mod tables;
 mod translations;
 

@@ -47,7 +47,7 @@ pub fn model_file(alloc: Global, text: &[u8]) -> Result<ModelFile, TransNo>
 }
 
 /// The file of the model behind this header of its text.
-#[tactic(auto, using(crate::proofs::ReadModels::file_read, crate::proofs::ReadModels::model_refused, crate::proofs::ReadModels::other_tables, crate::proofs::ReadModels::header_ready))]
+#[tactic(auto, using(crate::proofs::Files::model_refused, crate::proofs::Files::other_tables, crate::proofs::Files::header_ready))]
 fn behind_header(alloc: Global, text: &[u8], header: Header) -> Result<ModelFile, TransNo>
     requires begins { HasHeader text.now (pure_header header) }
     requires read { IsReadHeader header }
@@ -81,11 +81,7 @@ fn model_in(alloc: Global, text: &[u8]) -> Result<Boxed<PModel>, ReadNo>
 }
 
 /// The file of this header and model, where the model declares the header's tables.
-fn with_plans(
-    alloc: Global,
-    header: Header,
-    model: Boxed<PModel>,
-) -> Result<ModelFile, TransNo>
+fn with_plans(alloc: Global, header: Header, model: Boxed<PModel>) -> Result<ModelFile, TransNo>
     requires read { IsReadHeader header }
     requires ready { Ready (pure_header header).statements }
     requires readable { is_readable_model (pure_model model) ≡ true }

@@ -28,13 +28,9 @@ pub(crate) fn solution_text(
 }
 
 /// Appends the lettings of the values that are there.
-fn push_values(
-    alloc: Global,
-    out: &mut Text,
-    vals: &[StoodFor],
-    env: &Env,
-) -> Result<(), NoMemory>
-    ensures { OnOk result (out.new ≡ out.old ++ value_lines (item_name (pure_type_entries env.now.types)) (there_of (map pure_stood vals.now))) }
+fn push_values(alloc: Global, out: &mut Text, vals: &[StoodFor], env: &Env) -> Result<(), NoMemory>
+    ensures { OnOk result (out.new ≡ out.old
+        ++ value_lines (item_name (pure_type_entries env.now.types)) (there_of (map pure_stood vals.now))) }
 {
     for found in vals {
         if let Some(val) = &found.value {

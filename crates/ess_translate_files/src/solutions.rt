@@ -55,12 +55,7 @@ pub fn solution_in(
 
 /// The tables of what is to be found that a text of cells stands for.
 #[tactic(auto, using(crate::proofs::Cells::cells_are, crate::proofs::Cells::cells_refused))]
-fn cells_in(
-    alloc: Global,
-    file: &ModelFile,
-    given: &Given,
-    cells: &[u8],
-) -> Result<Cells, TransNo>
+fn cells_in(alloc: Global, file: &ModelFile, given: &Given, cells: &[u8]) -> Result<Cells, TransNo>
     ensures ok { IfOk result (λ c. AreCells (file_model file.now) (pure_cells given.now.tables) cells.now (pure_cells c)) }
     ensures refused { IfErr result (IsNotSolved (file_header file.now) (file_model file.now) (pure_assignment given.now.param)
         (pure_cells given.now.tables) cells.now) }
@@ -80,16 +75,12 @@ fn cells_in(
 /// Refuses tables that don't satisfy the model. Those that a text of cells stands for are over the declarations, whose domains have a
 /// meaning under given tables: so only a constraint can be false.
 #[tactic(auto, using(crate::proofs::Cells::false_refused, crate::proofs::Cells::large_refused))]
-fn pass_model(
-    alloc: Global,
-    file: &ModelFile,
-    given: &Given,
-    found: &Cells,
-) -> Result<(), TransNo>
+fn pass_model(alloc: Global, file: &ModelFile, given: &Given, found: &Cells) -> Result<(), TransNo>
     ensures ok { OnOk result (Sat (file_model file.now) (pure_cells given.now.tables) (pure_cells found.now)) }
     ensures refused { IfErr result (λ why. (text : PureText)
         → AreCells (file_model file.now) (pure_cells given.now.tables) text (pure_cells found.now)
-        → IsNotSolved (file_header file.now) (file_model file.now) (pure_assignment given.now.param) (pure_cells given.now.tables) text why) }
+        → IsNotSolved (file_header file.now) (file_model file.now) (pure_assignment given.now.param)
+        (pure_cells given.now.tables) text why) }
 {
     match satisfies(alloc, file.model.get(), &given.tables, found) {
         Ok(PVerdict::Yes) => Ok(()),
@@ -115,7 +106,8 @@ fn values_in(
     requires given { IsGivenFor file.now given.now }
     requires satisfied { Sat (file_model file.now) (pure_cells given.now.tables) (pure_cells found.now) }
     ensures ok { IfOk result (λ vs. map pure_stood vs
-        ≡ values_stood_for (file_header file.now).statements (file_header file.now).reprs (pure_assignment given.now.param) (pure_cells found.now)) }
+        ≡ values_stood_for (file_header file.now).statements (file_header file.now).reprs (pure_assignment given.now.param)
+        (pure_cells found.now)) }
     ensures stops { IfErr result (λ why. why ≡ TransNo.NoMemory) }
 {
     let names = find_names(alloc, file.header.spec.spec.stms.as_slice())?;

@@ -13,13 +13,13 @@ ghost use Rattle.ess_translate_files.specs.GivenFiles.{HasTables, HasNoTables};
 ghost use Rattle.ess_translate_files.specs.Wholes.{file_header, file_model, IsWhole, AreClosed};
 
 use crate::models::ModelFile;
+use eprime_eval_scalars::Stop;
 use ess_core::{Boxed, Cells};
 use ess_domains::Assignment;
 use ess_eval_domains::Closed;
 use ess_translate::TransNo;
 use ess_translate_given::{first_too_many, given_tables};
 use ess_translate_members::declares_members;
-use eprime_eval_scalars::Stop;
 use std::alloc::Global;
 
 /// The given tables of a parameter, where no given or find has too many cells and the model declares their members. `closed` are the
@@ -94,12 +94,20 @@ fn pass_members(
 ) -> Result<(), TransNo>
     requires whole { IsWhole file.now }
     requires closed { AreClosed file.now closed.now (pure_assignment param.now) }
-    ensures ok { OnOk result (DeclaresMembers (file_header file.now) (file_model file.now) (pure_assignment param.now) (pure_cells tables.now)) }
+    ensures ok { OnOk result (DeclaresMembers (file_header file.now) (file_model file.now) (pure_assignment param.now)
+        (pure_cells tables.now)) }
     ensures refused { IfErr result (λ why. too_many (file_header file.now) (pure_assignment param.now) ≡ None
-        → given_tables (file_header file.now).statements (file_header file.now).reprs (pure_assignment param.now) ≡ Some (pure_cells tables.now)
+        → given_tables (file_header file.now).statements (file_header file.now).reprs (pure_assignment param.now)
+        ≡ Some (pure_cells tables.now)
         → HasNoTables (file_header file.now) (file_model file.now) (pure_assignment param.now) why) }
 {
-    match declares_members(alloc, file.plans.as_slice(), closed, file.model.get(), tables.list.as_slice()) {
+    match declares_members(
+        alloc,
+        file.plans.as_slice(),
+        closed,
+        file.model.get(),
+        tables.list.as_slice(),
+    ) {
         Ok(true) => Ok(()),
         Ok(false) => Err(TransNo::HeaderBad),
         Err(Stop::Big) => Err(TransNo::Big),

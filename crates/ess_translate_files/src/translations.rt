@@ -29,12 +29,7 @@ pub fn parameter(alloc: Global, model: &[u8], param: &[u8]) -> Result<Vec<u8>, T
 /// The text of a solution, from the texts of a model with its header, of a parameter and of cells (the Conjure manual, on translating
 /// solutions). The files are looked at in this order, each only where those before it aren't refused; the errors are those of
 /// `model_file`, `given_in` and `solution_in`.
-pub fn solution(
-    alloc: Global,
-    model: &[u8],
-    param: &[u8],
-    cells: &[u8],
-) -> Result<Vec<u8>, TransNo>
+pub fn solution(alloc: Global, model: &[u8], param: &[u8], cells: &[u8]) -> Result<Vec<u8>, TransNo>
     ensures ok { IfOk result (λ b. IsSolutionText model.now param.now cells.now b.items) }
     ensures refused { IfErr result (IsNoSolutionText model.now param.now cells.now) }
 {

@@ -1,4 +1,4 @@
-use Rattle.ess_translate_files.proofs.ReadModels.{file_in}
+use Rattle.ess_translate_files.proofs.Files.{file_in}
 use Rattle.ess_translate_files.proofs.models.behind_header.Goals as goal
 
 -- src/models.rt

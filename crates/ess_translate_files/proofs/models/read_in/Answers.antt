@@ -1,7 +1,7 @@
 use Rattle.ess_grammar.specs.ModelTexts.{IsModel}
 use Rattle.eprime_tree.specs.Views.{pure_model}
 use Rattle.ess_translate.proofs.Spelled.{read_as}
-use Rattle.ess_translate_files.proofs.ReadModels.{readable-answer}
+use Rattle.ess_translate_files.proofs.Files.{readable-answer}
 use Rattle.ess_translate_files.proofs.models.read_in.Goals as goal
 
 -- src/models.rt

@@ -20,7 +20,8 @@ returns-in-Ok-clause-ok c =
     let o = (file_header c.args.file.now).reprs in
     let p = pure_assignment c.args.given.now.param in
     let names = c.as_slice-4.ensures ∙ c.in_ok-names.ensures ∙ ap (λ s. finds (map pure_stm s)) c.as_slice.ensures in
-    let ready = finds_of_file_ready c.args.file.now c.args.given.now c.args.found.now c.requires.whole c.requires.given c.requires.satisfied in
+    let ready = finds_of_file_ready c.args.file.now c.args.given.now c.args.found.now c.requires.whole c.requires.given
+    c.requires.satisfied in
     c.in-Ok.ensures S o p (ap (map pure_plan) c.as_slice-2.ensures ∙ c.requires.whole.plans)
     (ap (map (option_map pure_closed)) c.as_slice-3.ensures ∙ c.requires.given.closed) names
     (subst (λ l. Each (plans_for finds_side S o) (IsReady (here S p) (map pure_named_table l))) (sym c.as_slice-5.ensures) ready)

@@ -22,6 +22,11 @@ returns-in-Ok-false-clause-refused c = λ few there.
     let w = c.requires.whole in
     let H = file_header c.args.file.now in
     let p = pure_assignment c.args.param.now in
-    let d = c.in-Ok-false.ensures.ok H p (ap (map pure_plan) c.as_slice.ensures ∙ w.plans) c.requires.closed in
-    (pure_cells c.args.tables.now, few, there, λ m. d.no c.in-Ok-false.field-0-test
-    (members_there H p c.args.file.now.model c.get.result.now c.args.tables.now c.as_slice-2.result.now c.get.ensures c.as_slice-2.ensures m))
+    let d = c.in-Ok-false.ensures.ok H p (ap (map pure_plan) c.as_slice.ensures ∙ w.plans) c.requires.closed in (
+      pure_cells c.args.tables.now,
+      few,
+      there,
+      λ m. d.no c.in-Ok-false.field-0-test
+          (members_there H p c.args.file.now.model c.get.result.now c.args.tables.now c.as_slice-2.result.now c.get.ensures
+          c.as_slice-2.ensures m),
+    )

@@ -9,8 +9,9 @@ pub returns-in-Ok-given_in-clause-ok : goal.returns-in-Ok-given_in-clause-ok
 returns-in-Ok-given_in-clause-ok c =
     let m = c.in-Ok.file in
     let g = c.in-Ok-given_in.given in
-    solution_joined (λ b. b.items) c.args.model.now c.args.param.now c.args.cells.now (file_header m) (file_model m) (pure_assignment g.param)
-    (pure_cells g.tables) c.solution_in.result c.in-Ok.ensures.ok c.in-Ok-given_in.ensures.ok c.solution_in.ensures.ok
+    solution_joined (λ b. b.items) c.args.model.now c.args.param.now c.args.cells.now (file_header m) (file_model m)
+    (pure_assignment g.param) (pure_cells g.tables) c.solution_in.result c.in-Ok.ensures.ok c.in-Ok-given_in.ensures.ok
+    c.solution_in.ensures.ok
 
 -- src/translations.rt
 pub returns-in-Ok-given_in-clause-refused : goal.returns-in-Ok-given_in-clause-refused

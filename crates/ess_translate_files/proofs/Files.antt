@@ -37,8 +37,8 @@ pub header_ready : (text : Text) (h : Header) → HasHeader text (pure_header h)
 header_ready text h H = headers-are-ready text (pure_header h) H
 
 -- The file of a header and a model behind it.
-pub file_read : (text : Text) (h : Header) (m : PModel) (f : ModelFile) → HasHeader text (pure_header h) → Spells IsModel text (pure_model m) →
-    f.header ≡ h → f.model ≡ m → IsWhole f → IsModelFile text (file_header f) (file_model f)
+pub file_read : (text : Text) (h : Header) (m : PModel) (f : ModelFile) → HasHeader text (pure_header h) →
+    Spells IsModel text (pure_model m) → f.header ≡ h → f.model ≡ m → IsWhole f → IsModelFile text (file_header f) (file_model f)
 file_read text h m f H s a b w = record {
   header = subst (λ g. HasHeader text (pure_header g)) (sym a) H;
   spells = subst (λ g. Spells IsModel text (pure_model g)) (sym b) s;
@@ -53,7 +53,8 @@ file_in text h m (Ok f) H s a b w = file_read text h m f H s a b w
 file_in text h m (Err why) H s a b w = tt
 
 -- A text whose model is refused behind its header.
-pub model_refused : (text : Text) (h : Header) (why : ReadNo) → HasHeader text (pure_header h) → IsReadAs {T = PModel} IsModel pure_model text (Err why) →
+pub model_refused : (text : Text) (h : Header) (why : ReadNo) → HasHeader text (pure_header h) →
+    IsReadAs {T = PModel} IsModel pure_model text (Err why) →
     IsNoModelFile text (read_no Which.Model why)
 model_refused text h ReadNo.NoMemory H r = tt
 model_refused text h (ReadNo.BadByte p) H r = (pure_header h, H, r)
@@ -63,7 +64,8 @@ model_refused text h (ReadNo.TooDeep p) H r = (pure_header h, H, r)
 model_refused text h (ReadNo.Syntax p) H r = (pure_header h, H, r)
 
 -- A text whose model declares other tables than its header's.
-pub other_tables : (text : Text) (h : Header) (m : PModel) (why : TransNo) → HasHeader text (pure_header h) → Spells IsModel text (pure_model m) →
+pub other_tables : (text : Text) (h : Header) (m : PModel) (why : TransNo) → HasHeader text (pure_header h) →
+    Spells IsModel text (pure_model m) →
     is_bad_or_memory why ≡ true → (why ≡ TransNo.HeaderBad → DeclaresTables (pure_header h) (pure_model m) → ⊥) → IsNoModelFile text why
 other_tables text h m TransNo.HeaderBad H s e f = inr (pure_header h, pure_model m, H, s, f refl)
 other_tables text h m TransNo.NoMemory H s e f = tt
