@@ -69,8 +69,8 @@ pub(crate) fn seen_of(alloc: Global, view: &View) -> Result<Boxed<Node>, NoMemor
     Boxed::new(alloc, Node::Seen(seen))
 }
 
-/// Copies of texts.
-pub(crate) fn copy_texts(alloc: Global, texts: &[Text]) -> Result<Row<Text>, NoMemory>
+/// Copies of texts, which equal these. `NoMemory` where there is no room for them.
+pub fn copy_texts(alloc: Global, texts: &[Text]) -> Result<Row<Text>, NoMemory>
     ensures { IfOk result (λ ts. ts ≡ texts.now) }
 {
     let mut copies = Row::with_capacity(alloc, texts.len())?;

@@ -155,7 +155,7 @@ impl Seen {
     }
 }
 
-/// Copies of several nodes.
+/// Copies of several nodes, which equal these. `NoMemory` where there is no room for them.
 #[cycle(copy_node)]
 pub fn copy_nodes(alloc: Global, nodes: &[Node]) -> Result<Row<Node>, NoMemory>
     ensures { IfOk result (λ ns. ns ≡ nodes.now) }
@@ -168,7 +168,7 @@ pub fn copy_nodes(alloc: Global, nodes: &[Node]) -> Result<Row<Node>, NoMemory>
     Ok(copies)
 }
 
-/// Copies of generators and conditions.
+/// Copies of generators and conditions, which equal these. `NoMemory` where there is no room for them.
 #[cycle(copy_node)]
 pub fn copy_gens(alloc: Global, gens: &[Gen]) -> Result<Row<Gen>, NoMemory>
     ensures { IfOk result (λ gs. gs ≡ gens.now) }
@@ -181,7 +181,7 @@ pub fn copy_gens(alloc: Global, gens: &[Gen]) -> Result<Row<Gen>, NoMemory>
     Ok(copies)
 }
 
-/// Copies of several domains.
+/// Copies of several domains, which equal these. `NoMemory` where there is no room for them.
 #[cycle(copy_node)]
 pub fn copy_doms(alloc: Global, doms: &[NodeDom]) -> Result<Row<NodeDom>, NoMemory>
     ensures { IfOk result (λ ds. ds ≡ doms.now) }

@@ -12,5 +12,7 @@ pub mod words;
 
 pub use converting::node_of;
 pub use converting_domains::dom_of;
+pub use converting_generators::copy_texts;
+pub use copies::{copy_doms, copy_gens, copy_nodes};
 pub use nodes::{Gen, Node, NodeDom, Seen};
 pub use words::{Ends, Mark, Op, Step};
