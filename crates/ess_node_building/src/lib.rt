@@ -8,6 +8,6 @@ mod rows;
 
 pub use generators::{condition, from, over};
 pub use nodes::{
-    binary, comprehension, component, literal, name, number, pair, truth, unary, word,
+    binary, component, comprehension, literal, name, number, pair, truth, unary, word,
 };
 pub use rows::{joined, only, two};

@@ -32,7 +32,12 @@ pub fn name(alloc: Global, name: &Text) -> Result<Boxed<Node>, NoMemory>
 }
 
 /// An operator on one operand, Boolean where the mark says so.
-pub fn unary(alloc: Global, mark: bool, op: Op1, operand: Boxed<Node>) -> Result<Boxed<Node>, NoMemory>
+pub fn unary(
+    alloc: Global,
+    mark: bool,
+    op: Op1,
+    operand: Boxed<Node>,
+) -> Result<Boxed<Node>, NoMemory>
     ensures { IfOk result (λ n. pure_node n ≡ ex1 mark op (pure_node operand)) }
 {
     let operands = only(alloc, operand)?;
@@ -54,7 +59,12 @@ pub fn binary(
 }
 
 /// A function word on one operand, Boolean where the mark says so.
-pub fn word(alloc: Global, mark: bool, fun: Fun, operand: Boxed<Node>) -> Result<Boxed<Node>, NoMemory>
+pub fn word(
+    alloc: Global,
+    mark: bool,
+    fun: Fun,
+    operand: Boxed<Node>,
+) -> Result<Boxed<Node>, NoMemory>
     ensures { IfOk result (λ n. pure_node n ≡ fun1 mark fun (pure_node operand)) }
 {
     let operands = only(alloc, operand)?;
@@ -70,20 +80,21 @@ pub fn literal(alloc: Global, op: Op, operands: Row<Node>) -> Result<Boxed<Node>
 
 /// A tuple of two.
 pub fn pair(alloc: Global, first: Boxed<Node>, second: Boxed<Node>) -> Result<Boxed<Node>, NoMemory>
-    ensures {
-        IfOk result (λ n. pure_node n ≡
-            node_ex false tuple_literal (more_exs (pure_node first) (more_exs (pure_node second) no_exs)))
-    }
+    ensures { IfOk result (λ n. pure_node n ≡
+        node_ex false tuple_literal (more_exs (pure_node first) (more_exs (pure_node second) no_exs))) }
 {
     let operands = two(alloc, first, second)?;
     Boxed::new(alloc, Node::Op(false, Op::Tuple, operands))
 }
 
 /// A component of a tuple, from 1, Boolean where the mark says so.
-pub fn component(alloc: Global, mark: bool, at: u64, tuple: Boxed<Node>) -> Result<Boxed<Node>, NoMemory>
-    ensures {
-        IfOk result (λ n. pure_node n ≡ node_ex mark (index (to_component at ∷ [])) (more_exs (pure_node tuple) no_exs))
-    }
+pub fn component(
+    alloc: Global,
+    mark: bool,
+    at: u64,
+    tuple: Boxed<Node>,
+) -> Result<Boxed<Node>, NoMemory>
+    ensures { IfOk result (λ n. pure_node n ≡ node_ex mark (index (to_component at ∷ [])) (more_exs (pure_node tuple) no_exs)) }
 {
     let operands = only(alloc, tuple)?;
     let mut steps = Row::new(alloc);
@@ -92,7 +103,11 @@ pub fn component(alloc: Global, mark: bool, at: u64, tuple: Boxed<Node>) -> Resu
 }
 
 /// A comprehension with these generators and conditions.
-pub fn comprehension(alloc: Global, body: Boxed<Node>, gens: Row<Gen>) -> Result<Boxed<Node>, NoMemory>
+pub fn comprehension(
+    alloc: Global,
+    body: Boxed<Node>,
+    gens: Row<Gen>,
+) -> Result<Boxed<Node>, NoMemory>
     ensures { IfOk result (λ n. pure_node n ≡ comp_ex (pure_node body) (pure_gens gens)) }
 {
     Boxed::new(alloc, Node::Comp(body, gens))
