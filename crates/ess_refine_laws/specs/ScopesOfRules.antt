@@ -29,6 +29,7 @@ AreNew s (y ∷ ys) = IsTrue (not (s.all y)) × AreNew s ys
 -- The names that rules take are new.
 abbrev pub NewSupply : Supply → Scope → Ex → Type 0
 NewSupply t s e = IsNew s t.one e × IsNew s t.other e × (same_text t.one t.other ≡ false) × AreNew s t.parts
+    × IsNew s t.third e × (same_text t.one t.third ≡ false) × (same_text t.other t.third ≡ false)
 
 -- What a pattern binds no pattern and no domain behind it binds.
 abbrev pub PartsApart : Pats → Doms → Type 0
