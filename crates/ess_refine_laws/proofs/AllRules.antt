@@ -38,7 +38,7 @@ use Rattle.ess_rules_laws.proofs.ShortSizeRules.{size_made-keeps, frequency_made
 use Rattle.ess_rules_laws.proofs.ListRules.{lists-keep}
 use Rattle.ess_rules_laws.proofs.ContainerListings.{made-listings}
 use Rattle.ess_rules_laws.proofs.ChoiceRules.{choices-keep}
-use Rattle.ess_refine_laws.specs.AllRules.{Rule, over_nothing, over_one, over_one_binding, over_a_term, over_a_literal, over_a_made_set, over_a_source, of_one_source, over_a_comprehension, over_tuples, over_a_tuple, over_a_record, over_a_condition, component_of_a_tuple, field_of_a_record, not_equal, turned, strictly, equal_tuples, equal_records, equal_sets, equal_multisets, equal_functions, equal_partitions, with_nothing, equal_matrices_at, included_sets, included_multisets, in_two, in_one_made_of_another, in_a_literal, in_what_a_function_has, in_its_pairs, in_a_term, size_of_one_made_of_another, size, frequency_in_one_made_of_another, frequency_in_a_literal, frequency, together, least_of_a_literal, different_items, list_of_a_term, list_on_the_left, list_on_the_right, all_different, results, choice, condition, condition_behind, least_under_a_condition, least_of_alternatives, Supply, offered, source_listed, only_one, source_listed_once, extremes_listed, matrices_at, opposite_copied, compares_compound, tells_scalars_apart, rewrite, OfSome, ListedApart, SourceListed, CountsOn, all_rules, first_rewrite, FiringFit, AllRulesKeep}
+use Rattle.ess_refine_laws.specs.AllRules.{Rule, over_nothing, over_one, over_one_binding, over_a_term, over_a_literal, over_a_made_set, over_a_source, of_one_source, over_a_comprehension, over_tuples, over_a_tuple, over_a_record, over_a_condition, component_of_a_tuple, field_of_a_record, not_equal, turned, strictly, equal_tuples, equal_records, equal_sets, equal_multisets, equal_functions, equal_partitions, with_nothing, equal_matrices_at, included_sets, included_multisets, in_two, in_one_made_of_another, in_a_literal, in_what_a_function_has, in_its_pairs, in_a_term, size_of_one_made_of_another, size, frequency_in_one_made_of_another, frequency_in_a_literal, frequency, together, least_of_a_literal, different_items, list_of_a_term, lists_on_both_sides, all_different, results, choice, condition, condition_behind, least_under_a_condition, least_of_alternatives, Supply, offered, source_listed, only_one, source_listed_once, extremes_listed, matrices_at, opposite_copied, compares_compound, tells_scalars_apart, rewrite, OfSome, ListedApart, SourceListed, CountsOn, all_rules, first_rewrite, FiringFit, AllRulesKeep}
 use Rattle.ess_refine_laws.specs.ExtremeAlternatives.{put_alternative, extreme_alternatives}
 use Rattle.ess_refine_laws.proofs.RecordNames.{names-over-records}
 use Rattle.ess_refine_laws.proofs.LeavingConditions.{conditions-leave}
@@ -147,7 +147,7 @@ each-keeps s g equal_matrices_at e f q env t c = matrices-at-keep s g e f q env 
 each-keeps s g included_sets e f q env t c = included_members-keeps g s.one e f q c.0 c.1 env t c.2
 each-keeps s g included_multisets e f q env t c = included_often-keeps s.one e f q c.0 env c.1
 each-keeps s g in_two e f q env t c = member_combined-keeps e f q env c
-each-keeps s g in_one_made_of_another e f q env t c = member_changed-keeps e f q env
+each-keeps s g in_one_made_of_another e f q env t c = member_changed-keeps g s.one e f q c env
 each-keeps s g in_a_literal e f q env t c = member_listed-keeps e f q env c
 each-keeps s g in_what_a_function_has e f q env t c = member_of_function-keeps g s.one e f q c.0 c.1 env t
 each-keeps s g in_its_pairs e f q env t c = member_related-keeps s.one e f q c env
@@ -162,8 +162,7 @@ each-keeps s g least_of_a_literal e f q env t c = extreme_listed-keeps e f q env
 each-keeps s g different_items e f q env t c =
     different_listed-keeps e f (unless-test (tells_scalars_apart g e) (different_listed e) f q) env c
 each-keeps s g list_of_a_term e f q env t c = lists-keep.of_a_term s.one e f q c env
-each-keeps s g list_on_the_left e f q env t c = lists-keep.on_the_left s.one e f q c env
-each-keeps s g list_on_the_right e f q env t c = lists-keep.on_the_right s.one e f q c env
+each-keeps s g lists_on_both_sides e f q env t c = lists-keep.on_both_sides s.one e f q c env
 each-keeps s g all_different e f q env t c =
     lists-keep.all_different s.one e f (unless-test (tells_scalars_apart g e) (different_term s.one e) f q) c env
 each-keeps s g results e f q env t c = made-listings.results g s.one e f q c.0 c.1 env t

@@ -159,6 +159,23 @@ collect-filtered f (v ∷ vs) G h =
     go true e = ap (option_map (λ ys. v ∷ ys)) e
     go false e = ap (option_map (λ ys. ys)) e
 
+-- What is collected at the values that pass a test.
+pub collect-where : (f : Value → Bool) (vs : List Value) (G F : Value → Option (List Value)) →
+    ((t : Value) → G t ≡ where_true (Some (truth (f t))) (λ k. F t)) → collect vs G ≡ collect (filter f vs) F
+collect-where f [] G F h = refl
+collect-where f (v ∷ vs) G F h =
+    ap (λ o. and_then o (λ xs. option_map (λ ys. xs ++ ys) (collect vs G))) (h v) ∙ go (f v) (collect-where f vs G F h)
+  where
+    same-option : (o : Option (List Value)) → option_map (λ ys. ys) o ≡ o
+    same-option None = refl
+    same-option (Some ys) = refl
+
+    go : (b : Bool) → collect vs G ≡ collect (filter f vs) F →
+        and_then (where_true (Some (truth b)) (λ k. F v)) (λ xs. option_map (λ ys. xs ++ ys) (collect vs G))
+        ≡ collect (if b then v ∷ filter f vs else filter f vs) F
+    go true e = ap (λ c. and_then (F v) (λ xs. option_map (λ ys. xs ++ ys) c)) e
+    go false e = ap (option_map (λ ys. ys)) e ∙ same-option (collect (filter f vs) F)
+
 -- What each value has, each that passes a test has.
 pub each-filtered : (f : Value → Bool) (vs : List Value) (P : Value → Type 0) → Each vs P → Each (filter f vs) P
 each-filtered f [] P e = tt

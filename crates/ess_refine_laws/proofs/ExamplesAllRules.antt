@@ -1,5 +1,5 @@
 -- Worked examples of all rules together, and of what progress counts on.
-use Rattle.std.specs.Prelude.{◌≡◌, refl, true, false, [], ◌∷◌, codes, Some, None}
+use Rattle.std.specs.Prelude.{◌≡◌, refl, true, false, [], ◌∷◌, codes, Some, None, is_some}
 use Rattle.ess_semantics.specs.declared.words.Op2.{Op2}
 use Rattle.ess_semantics.specs.declared.words.Fun.{Fun}
 use Rattle.ess_semantics.specs.Values.{Text, a_set, a_matrix}
@@ -24,7 +24,7 @@ abbrev j : Text
 j = codes "j"
 
 abbrev supply : Supply
-supply = record { one = codes "x"; other = codes "y"; parts = codes "u" ∷ codes "v" ∷ []; index_domain = λ e. upto 2; copy = λ e. e }
+supply = record { one = codes "x"; other = codes "y"; third = codes "z"; parts = codes "u" ∷ codes "v" ∷ []; index_domain = λ e. upto 2; copy = λ e. e }
 
 -- Sets s and t, and a list m of sets.
 abbrev types : Names Ty
@@ -62,6 +62,11 @@ members_of_a_union : rule_at supply types (fn Fun.Or (comp_ex (bi Op2.Eq (N j) (
     (N t)) no_gens))) ≡
     rewrite supply types over_a_source (fn Fun.Or (comp_ex (bi Op2.Eq (N j) (n 1)) (from (name_pat j) (bi Op2.Union (N s) (N t)) no_gens)))
 members_of_a_union = refl
+
+-- A sum over the set of the items of `[j / 2 | j : int(1..4)]` takes each item once.
+sum_of_a_set : is_some (rule_at supply types (fn Fun.Sum (comp_ex (N m) (from (name_pat m)
+    (fn Fun.ToSet (comp_ex (bi Op2.Div (N j) (n 2)) (over (name_pat j) (upto 4) no_gens))) no_gens)))) ≡ true
+sum_of_a_set = refl
 
 -- Scalars stay as they are: `1 != 2`, `allDiff([1, 2])`, `1 + 2`.
 scalars_stay : (rule_at supply types (bi Op2.Ne (n 1) (n 2)) ≡ None)

@@ -62,7 +62,7 @@ abbrev types : Names Ty
 types = (s, compound1 a_set int_ty) ∷ (t, compound1 a_set int_ty) ∷ []
 
 abbrev supply : Supply
-supply = record { one = x; other = j; parts = []; index_domain = λ e. upto 1; copy = λ e. e }
+supply = record { one = x; other = j; third = codes "q"; parts = []; index_domain = λ e. upto 1; copy = λ e. e }
 
 fires : rule_at supply types (fn Fun.Min over_both) ≡ Some (one_each Fun.Min)
 fires = refl

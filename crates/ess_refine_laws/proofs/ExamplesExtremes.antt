@@ -89,7 +89,7 @@ same_products = (refl, refl)
 
 -- With a copy of what it takes the greatest of, both fire among all rules.
 abbrev supply : Supply
-supply = record { one = x; other = q; parts = []; index_domain = λ e. upto 3; copy = λ e. most }
+supply = record { one = x; other = q; third = codes "w"; parts = []; index_domain = λ e. upto 3; copy = λ e. most }
 
 among_all_rules : (rule_at supply [] products ≡ Some condition_last) × (rule_at supply [] least ≡ Some all_of_them)
 among_all_rules = (refl, refl)

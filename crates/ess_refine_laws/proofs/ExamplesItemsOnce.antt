@@ -1,11 +1,13 @@
 -- Worked examples of sets whose items are offered once.
-use Rattle.std.specs.Prelude.{◌≡◌, refl, false, pos, [], ◌∷◌, codes, Some, None}
+use Rattle.std.specs.Prelude.{◌≡◌, refl, true, false, pos, [], ◌∷◌, codes, Some, None}
+use Rattle.ess_semantics.specs.declared.words.Op1.{Op1}
 use Rattle.ess_semantics.specs.declared.words.Op2.{Op2}
 use Rattle.ess_semantics.specs.Lists.{and_then}
 use Rattle.ess_semantics.specs.Values.{Text, number}
-use Rattle.ess_semantics.specs.Trees.{set_literal, name_pat, Ex, node_ex, no_gens, over, from, cond}
+use Rattle.ess_semantics.specs.Trees.{set_literal, name_pat, Ex, node_ex, comp_ex, ex1, no_gens, over, from, cond}
 use Rattle.ess_semantics.specs.Meaning.{empty_env}
 use Rattle.ess_semantics.proofs.Shorthands.{N, n, es2, bi, upto, set}
+use Rattle.ess_rules_laws.specs.InclusionRules.{every}
 use Rattle.ess_rules_laws.specs.Listings.{all_listed}
 use Rattle.ess_refine_laws.specs.ItemsOnce.{set_of_items, items_once}
 
@@ -27,6 +29,15 @@ w = codes "w"
 -- `toSet([j / 2 | j : int(1..4)])`: 0, 1, 1, 2.
 abbrev halves : Ex
 halves = set_of_items (bi Op2.Div (N j) (n 2)) (over (name_pat j) (upto 4) no_gens)
+
+-- A new name runs over the domain, and the old one over the values before it.
+halves_offer : items_once y z w halves ≡ Some (record {
+  gens = over (name_pat w) (upto 4) (from (name_pat y) (set_of_items (bi Op2.Div (N w) (n 2)) no_gens) (cond (every z
+      (comp_ex (bi Op2.Div (N j) (n 2)) (over (name_pat j) (upto 4) (cond (bi Op2.Lt (N j) (N w)) no_gens)))
+      (ex1 true Op1.Not (bi Op2.Eq (N z) (N y)))) no_gens));
+  item = N y;
+} ∷ [])
+halves_offer = refl
 
 -- 1 is new at 2, and not at 3.
 each_once : and_then (items_once y z w halves) (λ l. all_listed l empty_env) ≡ Some (number (pos 0) ∷ number (pos 1) ∷ number (pos 2) ∷ [])

@@ -1,4 +1,4 @@
--- Worked examples of rules at which types stay, and of two at which they don't.
+-- Worked examples of rules at which types stay, and of one at which one isn't told.
 use Rattle.std.specs.Prelude.{◌≡◌, refl, false, [], ◌∷◌, codes, Some, None}
 use Rattle.ess_semantics.specs.declared.words.Op1.{Op1}
 use Rattle.ess_semantics.specs.declared.words.Op2.{Op2}
@@ -11,7 +11,7 @@ use Rattle.ess_semantics.specs.Typing.{type_of}
 use Rattle.ess_semantics.proofs.Shorthands.{N, n, es2, bi, fn}
 use Rattle.ess_rules_laws.specs.FoldRules.{fold_one}
 use Rattle.ess_rules_laws.specs.MembershipRules.{member_changed}
-use Rattle.ess_rules_laws.specs.ListRules.{lex_left}
+use Rattle.ess_rules_laws.specs.ListRules.{lex_both}
 use Rattle.ess_rules_laws.specs.SizeRules.{size_term}
 
 abbrev a : Text
@@ -44,20 +44,23 @@ one_untold : (type_of (fn Fun.And (node_ex false matrix_literal (more_exs (N a) 
     × (type_of (N a) ((a, any_ty) ∷ []) ≡ Some any_ty)
 one_untold = (refl, refl, refl)
 
--- `1 in toSet([1, 2])` has a type, and `1 in [1, 2]` has none.
+-- `1 in toSet([1, 2])` has a type, `1 in [1, 2]` has none, and `or([x = 1 | x <- [1, 2]])` has that of the first.
 abbrev list : Ex
 list = node_ex false matrix_literal (es2 (n 1) (n 2))
 
 in_a_list : (type_of (bi Op2.Member (n 1) (fn Fun.ToSet list)) types ≡ Some bool_ty)
-    × (member_changed (bi Op2.Member (n 1) (fn Fun.ToSet list)) ≡ Some (bi Op2.Member (n 1) list))
     × (type_of (bi Op2.Member (n 1) list) types ≡ None)
-in_a_list = (refl, refl, refl)
+    × (member_changed types x (bi Op2.Member (n 1) (fn Fun.ToSet list)) ≡ Some (fn Fun.Or (comp (bi Op2.Eq (N x) (n 1)) x list)))
+    × (type_of (fn Fun.Or (comp (bi Op2.Eq (N x) (n 1)) x list)) types ≡ Some bool_ty)
+in_a_list = (refl, refl, refl, refl)
 
--- `a <lex b` by truth values has a type, and `[x | x <- a] <lex b` has none: a list is indexed by numbers.
-abbrev members : Ex
-members = comp (N x) x (N a)
+-- `a <lex b` by truth values has a type, `[x | x <- a] <lex b` has none, since a list is indexed by numbers, and
+-- `[x | x <- a] <lex [x | x <- b]` has that of the first.
+abbrev members : Text → Ex
+members m = comp (N x) x (N m)
 
 lex_by_truth : (type_of (bi Op2.LexLt (N a) (N b)) types ≡ Some bool_ty)
-    × (lex_left x (bi Op2.LexLt (N a) (N b)) ≡ Some (bi Op2.LexLt members (N b)))
-    × (type_of (bi Op2.LexLt members (N b)) types ≡ None)
-lex_by_truth = (refl, refl, refl)
+    × (type_of (bi Op2.LexLt (members a) (N b)) types ≡ None)
+    × (lex_both x (bi Op2.LexLt (N a) (N b)) ≡ Some (bi Op2.LexLt (members a) (members b)))
+    × (type_of (bi Op2.LexLt (members a) (members b)) types ≡ Some bool_ty)
+lex_by_truth = (refl, refl, refl, refl)

@@ -82,8 +82,8 @@ over-offers y z w x d e gs env o t m a = go (members_in (domain_of d env)) refl 
         (items_over y z w x d e gs ∷ []) env
     go None q h ms = cc
     go (Some vs) q h ms = record {
-      lists = over-lists y z w x d e gs env o.0 o.1 o.2 o.3 o.4 o.5 vs q h.0 (atom-rises d env vs a q);
-      met = (over-met y z w x d e gs env o.0 o.1 o.2 o.3 o.4 o.5 vs q m.0 ms, tt);
+      lists = over-lists y z w x d e gs env o.0 o.1 o.2 o.3 o.4 o.5 o.6 o.7 vs q h.0 (atom-rises d env vs a q);
+      met = (over-met y z w x d e gs env o.0 o.1 o.2 o.3 o.4 o.5 o.6 o.7 vs q m.0 ms, tt);
     }
 
 once-answer : (y z w : Text) (e : Ex) → OnceApart y z w e → (env : Env) → is_some (meaning e env) ≡ true → Meets e env →

@@ -51,6 +51,7 @@ mod ScopesOfParts
 mod ScopesOfContainers
 mod ScopesOfConditions
 mod ScopesOfGenerators
+mod ScopesOfItems
 mod ScopesOfSources
 mod ScopesOfRules
 mod TypeJoins

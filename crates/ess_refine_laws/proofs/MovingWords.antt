@@ -50,7 +50,7 @@ module _ (sup : Supply) (g : Names Ty) where
       where
         go : (u : Bool) → has_scalar_items l g ≡ u → Progress sup g (node_ex true (word Fun.AllDiff) One)
         go true j = word-on-list Fun.AllDiff refl refl (λ o. and-both (has_scalar_items l g) true j refl) s k
-        go false j = goes_on (here sup (by_a_rule (fires-by sup g (fun1 true Fun.AllDiff l) all_different 45 refl
+        go false j = goes_on (here sup (by_a_rule (fires-by sup g (fun1 true Fun.AllDiff l) all_different 44 refl
             (ap (λ c. if c then None else different_term sup.one (fun1 true Fun.AllDiff l)) j))))
 
     never-word : (f : Fun) → ((t : Ty) → is_scalar (type_of_word1 f t) ≡ false) →

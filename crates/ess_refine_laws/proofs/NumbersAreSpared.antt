@@ -22,13 +22,13 @@ use Rattle.ess_refine_laws.specs.AllRules.{Supply, offered}
 use Rattle.ess_refine_laws.specs.Spelling.{Spells, SpellsEach, SpellsGens}
 use Rattle.ess_refine_laws.proofs.Spelling.{put-spells, put-gens, for-name, append-spells}
 use Rattle.ess_refine_laws.proofs.SpellingParts.{SpellsAll, SpellsSome, SpellsParted, parted-spells, everywhere-spells, gens-everywhere, dom-everywhere}
-use Rattle.ess_refine_laws.specs.AllRules.{Rule, over_nothing, over_one, over_one_binding, over_a_term, over_a_literal, over_a_made_set, over_a_source, of_one_source, over_a_comprehension, over_tuples, over_a_tuple, over_a_record, over_a_condition, component_of_a_tuple, field_of_a_record, not_equal, turned, strictly, equal_tuples, equal_records, equal_sets, equal_multisets, equal_functions, equal_partitions, with_nothing, equal_matrices_at, included_sets, included_multisets, in_two, in_one_made_of_another, in_a_literal, in_what_a_function_has, in_its_pairs, in_a_term, size_of_one_made_of_another, size, frequency_in_one_made_of_another, frequency_in_a_literal, frequency, together, least_of_a_literal, different_items, list_of_a_term, list_on_the_left, list_on_the_right, all_different, results, choice, condition, condition_behind, least_under_a_condition, least_of_alternatives, source_listed, source_listed_once, extremes_listed, matrices_at, opposite_copied, compares_compound, tells_scalars_apart, rewrite}
+use Rattle.ess_refine_laws.specs.AllRules.{Rule, over_nothing, over_one, over_one_binding, over_a_term, over_a_literal, over_a_made_set, over_a_source, of_one_source, over_a_comprehension, over_tuples, over_a_tuple, over_a_record, over_a_condition, component_of_a_tuple, field_of_a_record, not_equal, turned, strictly, equal_tuples, equal_records, equal_sets, equal_multisets, equal_functions, equal_partitions, with_nothing, equal_matrices_at, included_sets, included_multisets, in_two, in_one_made_of_another, in_a_literal, in_what_a_function_has, in_its_pairs, in_a_term, size_of_one_made_of_another, size, frequency_in_one_made_of_another, frequency_in_a_literal, frequency, together, least_of_a_literal, different_items, list_of_a_term, lists_on_both_sides, all_different, results, choice, condition, condition_behind, least_under_a_condition, least_of_alternatives, source_listed, source_listed_once, extremes_listed, matrices_at, opposite_copied, compares_compound, tells_scalars_apart, rewrite}
 use Rattle.ess_refine_laws.specs.ExtremeRules.{either_number}
 use Rattle.ess_refine_laws.specs.Spelling.{SpareSupply, NumbersAreSpared}
 use Rattle.ess_refine_laws.proofs.Spelling.{part-spells, rewritten-spells, rewritten-kept-so, constants-of}
 use Rattle.ess_refine_laws.proofs.SpellingParts.{offered-spells}
 use Rattle.ess_refine_laws.proofs.SpellingRules.{Answers, when, under, nothing, one-item, bare, alone, term, loosely, literal-items, in-parts, in-one-part, spliced, splits, tuple-name, record-name, component, field, apart, turns, strict, tuples, records}
-use Rattle.ess_refine_laws.proofs.SpellingContainers.{members, often, same_members, same_often, same_pairs, same_parts, no-items, matrices, combined, changed, in-literal, of-function, related, member, size-made, sized, frequency-made, frequency-listed, counted, one-part, least-listed, different-listed, list-of-term, left-list, right-list, different, results as results-spell, chosen-shorter}
+use Rattle.ess_refine_laws.proofs.SpellingContainers.{members, often, same_members, same_often, same_pairs, same_parts, no-items, matrices, combined, changed, in-literal, of-function, related, member, size-made, sized, frequency-made, frequency-listed, counted, one-part, least-listed, different-listed, list-of-term, both-lists, different, results as results-spell, chosen-shorter}
 
 module _ (q : ℤ → Bool) (o : q (pos 0) ≡ true) (i : q (pos 1) ≡ true) where
   abbrev A : Bool → Option Ex → Type 0
@@ -219,7 +219,7 @@ module _ (q : ℤ → Bool) (o : q (pos 0) ≡ true) (i : q (pos 1) ≡ true) wh
   each-spells s g included_sets m e k h = members q o i g s.one m e h
   each-spells s g included_multisets m e k h = often q o i s.one m e h
   each-spells s g in_two m e k h = combined q o i m e h
-  each-spells s g in_one_made_of_another m e k h = changed q o i m e h
+  each-spells s g in_one_made_of_another m e k h = changed q o i g s.one m e h
   each-spells s g in_a_literal m e k h = in-literal q o i m e h
   each-spells s g in_what_a_function_has m e k h = of-function q o i g s.one m e h
   each-spells s g in_its_pairs m e k h = related q o i s.one m e h
@@ -233,8 +233,7 @@ module _ (q : ℤ → Bool) (o : q (pos 0) ≡ true) (i : q (pos 1) ≡ true) wh
   each-spells s g least_of_a_literal m e k h = least-listed q o i m e h
   each-spells s g different_items m e k h = unless (tells_scalars_apart g e) m (different_listed e) (different-listed q o i m e h)
   each-spells s g list_of_a_term m e k h = list-of-term q o i s.one m e h
-  each-spells s g list_on_the_left m e k h = left-list q o i s.one m e h
-  each-spells s g list_on_the_right m e k h = right-list q o i s.one m e h
+  each-spells s g lists_on_both_sides m e k h = both-lists q o i s.one m e h
   each-spells s g all_different m e k h = unless (tells_scalars_apart g e) m (different_term s.one e) (all-differ s g m e k h)
   each-spells s g results m e k h = results-spell q o i g s.one m e h
   each-spells s g choice m e k h = chosen-shorter q o i m e h

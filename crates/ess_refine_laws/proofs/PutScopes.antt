@@ -90,10 +90,11 @@ grown-one u s t o p q b w = record {
 -- ---- a term for a name
 
 -- The tree stands at names s and, of these, o over domains; with a term for y it goes to t and p. The term is in scope at t0 and p0.
-pub record Puts (u : Text → Bool) (y : Text) (t0 p0 s t o p : Text → Bool) : Type 0 where
+-- Where y may be an index of a view, n says of p that the term may be one.
+pub record Puts (n : (Text → Bool) → Type 0) (u : Text → Bool) (y : Text) (t0 p0 s t o p : Text → Bool) : Type 0 where
   pub kept : (a : Text) → same_text y a ≡ false → s a ≡ true → t a ≡ true
-  pub plain : Fewer o p
-  pub apart : o y ≡ false
+  pub plain : (a : Text) → same_text y a ≡ false → o a ≡ true → p a ≡ true
+  pub indexed : o y ≡ true → n p
   pub there : s y ≡ true
   pub among : Among t s (λ a. not (u a))
   pub wide : Wider u t0 t p0 p
@@ -112,14 +113,16 @@ wide-one u t0 t p0 p q b w = record {
   among = λ a h. one-of (t a) (is_bound q a) h (w.among a) (λ k. either-right (t0 a) (u a) (pat-among u q b a k));
 }
 
-module _ (u : Text → Bool) (y : Text) (t0 p0 : Text → Bool) where
-  pub puts-both : (s t o p : Text → Bool) (q : Pat) → Binds u q → BindsNew s q → Puts u y t0 p0 s t o p →
-      Puts u y t0 p0 (with_names s q) (with_names t q) (with_names o q) (with_names p q)
+module _ (m : (Text → Bool) → Type 0) (grow : (p : Text → Bool) (q : Pat) → m p → m (with_names p q)) (u : Text → Bool) (y : Text)
+    (t0 p0 : Text → Bool) where
+  pub puts-both : (s t o p : Text → Bool) (q : Pat) → Binds u q → BindsNew s q → Puts m u y t0 p0 s t o p →
+      Puts m u y t0 p0 (with_names s q) (with_names t q) (with_names o q) (with_names p q)
   puts-both s t o p q b n w = record {
     kept = λ a d h. one-of (s a) (is_bound q a) h (λ k. either-left (t a) (is_bound q a) (w.kept a d k)) (either-right (t a)
         (is_bound q a));
-    plain = fewer-with o p q w.plain;
-    apart = ap (λ b. b || is_bound q y) w.apart ∙ new-apart s y w.there q n;
+    plain = λ a d h. one-of (o a) (is_bound q a) h (λ k. either-left (p a) (is_bound q a) (w.plain a d k)) (either-right (p a)
+        (is_bound q a));
+    indexed = λ h. one-of (o y) (is_bound q y) h (λ k. grow p q (w.indexed k)) (λ k. no (sym (new-apart s y w.there q n) ∙ k));
     there = either-left (s y) (is_bound q y) w.there;
     among = λ a h. one-of (t a) (is_bound q a) h
         (λ k. one-of (s a) (not (u a)) (w.among a k) (λ m. either-left (s a || is_bound q a) (not (u a)) (either-left (s a)
@@ -129,13 +132,13 @@ module _ (u : Text → Bool) (y : Text) (t0 p0 : Text → Bool) where
     wide = wide-both u t0 t p0 p q b w.wide;
   }
 
-  pub puts-one : (s t o p : Text → Bool) (q : Pat) → Binds u q → BindsNew s q → Puts u y t0 p0 s t o p →
-      Puts u y t0 p0 (with_names s q) (with_names t q) o p
+  pub puts-one : (s t o p : Text → Bool) (q : Pat) → Binds u q → BindsNew s q → Puts m u y t0 p0 s t o p →
+      Puts m u y t0 p0 (with_names s q) (with_names t q) o p
   puts-one s t o p q b n w = record {
     kept = λ a d h. one-of (s a) (is_bound q a) h (λ k. either-left (t a) (is_bound q a) (w.kept a d k)) (either-right (t a)
         (is_bound q a));
     plain = w.plain;
-    apart = w.apart;
+    indexed = w.indexed;
     there = either-left (s y) (is_bound q y) w.there;
     among = λ a h. one-of (t a) (is_bound q a) h
         (λ k. one-of (s a) (not (u a)) (w.among a k) (λ m. either-left (s a || is_bound q a) (not (u a)) (either-left (s a)

@@ -10,8 +10,8 @@ use Rattle.ess_semantics.specs.Types.{Ty, no_tys, more_tys, compound}
 use Rattle.ess_semantics.specs.Typing.{type_of}
 use Rattle.ess_rules_laws.specs.InclusionRules.{unequal}
 use Rattle.ess_rules_laws.specs.MatrixRules.{both_matrices, lies_in, equal_each_at, equal_items}
-use Rattle.ess_rules_laws.specs.Progress.{is_abstract, Fires, by_unequal, by_turned, by_strictly, by_often, by_member, by_size, by_frequency, by_together, by_fold, by_list, by_left, by_right, by_components, by_fields, by_sets, by_msets, by_functions, by_partitions, by_matrices}
-use Rattle.ess_refine_laws.specs.AllRules.{Rule, over_a_term, not_equal, turned, strictly, equal_tuples, equal_records, equal_sets, equal_multisets, equal_functions, equal_partitions, equal_matrices_at, included_multisets, in_a_term, size, frequency, together, list_of_a_term, list_on_the_left, list_on_the_right, Supply, matrices_at, rewrite, all_rules, first_rewrite, rule_at}
+use Rattle.ess_rules_laws.specs.Progress.{is_abstract, Fires, by_unequal, by_turned, by_strictly, by_often, by_member, by_size, by_frequency, by_together, by_fold, by_list, by_lists, by_components, by_fields, by_sets, by_msets, by_functions, by_partitions, by_matrices}
+use Rattle.ess_refine_laws.specs.AllRules.{Rule, over_a_term, not_equal, turned, strictly, equal_tuples, equal_records, equal_sets, equal_multisets, equal_functions, equal_partitions, equal_matrices_at, included_multisets, in_a_term, size, frequency, together, list_of_a_term, lists_on_both_sides, Supply, matrices_at, rewrite, all_rules, first_rewrite, rule_at}
 
 first-there : (s : Supply) (g : Names Ty) (e f : Ex) (r : Rule) (rs : List Rule) (n : ℕ) → item_number rs n ≡ Some r →
     rewrite s g r e ≡ Some f → is_some (first_rewrite s g rs e) ≡ true
@@ -60,8 +60,7 @@ fires-at s g e h (by_frequency q) = fires-by s g e frequency 38 refl q
 fires-at s g e h (by_together q) = fires-by s g e together 39 refl q
 fires-at s g e h (by_fold q) = fires-by s g e over_a_term 12 refl q
 fires-at s g e h (by_list q) = fires-by s g e list_of_a_term 42 refl q
-fires-at s g e h (by_left q) = fires-by s g e list_on_the_left 43 refl q
-fires-at s g e h (by_right q) = fires-by s g e list_on_the_right 44 refl q
+fires-at s g e h (by_lists q) = fires-by s g e lists_on_both_sides 43 refl q
 fires-at s g e h (by_components q) = fires-by s g e equal_tuples 18 refl q
 fires-at s g e h (by_fields q) = fires-by s g e equal_records 19 refl q
 fires-at s g e h (by_sets q) = fires-by s g e equal_sets 20 refl q

@@ -27,7 +27,7 @@ module _ (q : ℤ → Bool) (o : q (pos 0) ≡ true) (i : q (pos 1) ≡ true) wh
   each-spares s g equal_sets k m e h = same_members q o i g s.one m e h
   each-spares s g equal_functions k m e h = same_pairs q o i g s.one m e h
   each-spares s g in_two k m e h = combined q o i m e h
-  each-spares s g in_one_made_of_another k m e h = changed q o i m e h
+  each-spares s g in_one_made_of_another k m e h = changed q o i g s.one m e h
   each-spares s g in_a_term k m e h = member q o i s.one m e h
   each-spares s g size k m e h = sized q o i g s.one m e h
   each-spares s g frequency k m e h = counted q o i s.one m e h

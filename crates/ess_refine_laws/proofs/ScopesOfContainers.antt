@@ -16,11 +16,11 @@ use Rattle.ess_semantics.specs.declared.words.Op1.{Op1}
 use Rattle.ess_rules_laws.specs.ContainerListings.{of_function, range_as_set}
 use Rattle.ess_rules_laws.specs.PartitionRules.{both_partitions, equal_parts}
 use Rattle.ess_rules_laws.specs.MatrixRules.{is_matrix, lies_in, equal_each_at, both_matrices, equal_matrices, equal_to_nothing}
-use Rattle.ess_rules_laws.specs.MembershipRules.{member_term, member_combined, member_changed}
+use Rattle.ess_rules_laws.specs.MembershipRules.{member_term, member_combined, is_asked, member_of, member_changed}
 use Rattle.ess_rules_laws.specs.FunctionMembershipRules.{an_argument, a_result, a_source, member_of_function, member_related}
 use Rattle.ess_rules_laws.specs.SizeRules.{is_counted, size_term, frequency_term, together_term}
 use Rattle.ess_rules_laws.specs.ShortSizeRules.{is_function, is_partition, size_made, frequency_made}
-use Rattle.ess_rules_laws.specs.ListRules.{is_of_list, is_lex, list_term, lex_left, lex_right, different_term}
+use Rattle.ess_rules_laws.specs.ListRules.{members_list, is_of_list, is_lex, list_term, as_members, lex_both, different_term}
 use Rattle.ess_semantics.specs.Scoped.{with_names, Scoped, ScopedDom}
 use Rattle.ess_semantics.specs.Substitution.{NamesAreDom}
 use Rattle.ess_refine_laws.specs.ScopesOfRules.{BindsNone}
@@ -41,12 +41,6 @@ module _ (z s o : Text → Bool) where
   combined (ex2 true Op2.Member x (ex2 false Op2.Intersect a b)) h = ((h.0, (h.1.0.0, tt)), ((h.0, (h.1.0.1.0, tt)), tt))
   combined (ex2 true Op2.Member x (ex2 false Op2.Minus a b)) h = ((h.0, (h.1.0.0, tt)), (((h.0, (h.1.0.1.0, tt)), tt), tt))
   combined _ h = tt
-
-  pub changed : (e : Ex) → Scoped z s o e → A (member_changed e)
-  changed (ex2 true Op2.Member x (fun1 false Fun.ToSet m)) h = (h.0, (h.1.0.0, tt))
-  changed (ex2 true Op2.Member x (fun1 false Fun.ToMSet m)) h = (h.0, (h.1.0.0, tt))
-  changed (ex2 true Op2.Member x (fun1 false Fun.Parts m)) h = (h.0, (h.1.0.0, tt))
-  changed _ h = tt
 
   pub frequency-made : (g : Names Ty) (x : Text) (e : Ex) → Scoped z s o e → A (frequency_made g x e)
   frequency-made g x (node_ex false (word Fun.Freq) (more_exs (fun1 false Fun.ToMSet m) (more_exs a no_exs))) h =
@@ -132,6 +126,21 @@ module _ (z s o : Text → Bool) where
     member (ex2 true Op2.Member a m) k h = ((n, h.1.0, (bound x s, (later a k.0 h.0, tt))), tt)
     member _ k h = tt
 
+    -- In m, where `x in m` is in scope.
+    member-of : (g : Names Ty) (a m : Ex) → BindsNone (same_text x) (ex2 true Op2.Member a m) → Scoped z s o (ex2 true Op2.Member a m) →
+        A (member_of g x a m)
+    member-of g a m k h = go (is_asked (type_of m g))
+      where
+        go : (c : Bool) → A (if c then Some (ex2 true Op2.Member a m) else member_term x (ex2 true Op2.Member a m))
+        go true = h
+        go false = member (ex2 true Op2.Member a m) k h
+
+    pub changed : (g : Names Ty) (e : Ex) → BindsNone (same_text x) e → Scoped z s o e → A (member_changed g x e)
+    changed g (ex2 true Op2.Member a (fun1 false Fun.ToSet m)) k h = member-of g a m (k.0, (k.1.0.0, tt)) (h.0, (h.1.0.0, tt))
+    changed g (ex2 true Op2.Member a (fun1 false Fun.ToMSet m)) k h = member-of g a m (k.0, (k.1.0.0, tt)) (h.0, (h.1.0.0, tt))
+    changed g (ex2 true Op2.Member a (fun1 false Fun.Parts m)) k h = member-of g a m (k.0, (k.1.0.0, tt)) (h.0, (h.1.0.0, tt))
+    changed g _ k h = tt
+
     pub size-made : (g : Names Ty) (e : Ex) → Scoped z s o e → A (size_made g x e)
     size-made g (ex1 false Op1.Bar (fun1 false Fun.Defined f)) h = so (is_function (type_of f g)) _ (h.0.0, tt)
     size-made g (ex1 false Op1.Bar (fun1 false Fun.ToRelation f)) h = so (is_function (type_of f g)) _ (h.0.0, tt)
@@ -158,13 +167,17 @@ module _ (z s o : Text → Bool) where
     list-of-term (fun1 b f m) h = so (is_of_list f && not (is_laid_open m)) _ ((n, h.0, bound x s), tt)
     list-of-term _ h = tt
 
-    pub left-list : (e : Ex) → Scoped z s o e → A (lex_left x e)
-    left-list (ex2 true p a b) h = so (is_lex p && not (is_laid_open a)) _ ((n, h.0, bound x s), (h.1.0, tt))
-    left-list _ h = tt
+    as-scoped : (a : Ex) → Scoped z s o a → Scoped z s o (as_members x a)
+    as-scoped a h = go (is_laid_open a)
+      where
+        go : (c : Bool) → Scoped z s o (if c then a else members_list x a)
+        go true = h
+        go false = (n, h, bound x s)
 
-    pub right-list : (e : Ex) → Scoped z s o e → A (lex_right x e)
-    right-list (ex2 true p a b) h = so (is_lex p && not (is_laid_open b)) _ (h.0, ((n, h.1.0, bound x s), tt))
-    right-list _ h = tt
+    pub both-lists : (e : Ex) → Scoped z s o e → A (lex_both x e)
+    both-lists (ex2 true p a b) h = so (is_lex p && (not (is_laid_open a) || not (is_laid_open b))) _
+        (as-scoped a h.0, (as-scoped b h.1.0, tt))
+    both-lists _ h = tt
 
     pub different : (e : Ex) → BindsNone (same_text x) e → Scoped z s o e → A (different_term x e)
     different (fun1 true Fun.AllDiff l) k h = ((n, h.0, (((later l k.0 h.0, tt), (bound x s, tt)), (tt, tt))), tt)

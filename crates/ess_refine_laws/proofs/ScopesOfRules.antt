@@ -8,11 +8,11 @@ use Rattle.ess_semantics.specs.Scoped.{Scoped}
 use Rattle.ess_rules_laws.specs.InclusionRules.{unequal}
 use Rattle.ess_rules_laws.specs.LiteralRules.{different_listed}
 use Rattle.ess_rules_laws.specs.ListRules.{different_term}
-use Rattle.ess_refine_laws.specs.AllRules.{Rule, over_nothing, over_one, over_one_binding, over_a_term, over_a_made_set, over_tuples, over_a_tuple, over_a_record, over_a_condition, component_of_a_tuple, field_of_a_record, not_equal, turned, strictly, equal_tuples, equal_records, equal_sets, equal_multisets, equal_functions, equal_partitions, with_nothing, equal_matrices_at, included_sets, included_multisets, in_two, in_one_made_of_another, in_a_literal, in_what_a_function_has, in_its_pairs, in_a_term, size_of_one_made_of_another, size, frequency_in_one_made_of_another, frequency_in_a_literal, frequency, together, least_of_a_literal, different_items, list_of_a_term, list_on_the_left, list_on_the_right, all_different, results, choice, condition, condition_behind, least_under_a_condition, Supply, matrices_at, opposite_copied, compares_compound, tells_scalars_apart, rewrite}
+use Rattle.ess_refine_laws.specs.AllRules.{Rule, over_nothing, over_one, over_one_binding, over_a_term, over_a_made_set, over_tuples, over_a_tuple, over_a_record, over_a_condition, component_of_a_tuple, field_of_a_record, not_equal, turned, strictly, equal_tuples, equal_records, equal_sets, equal_multisets, equal_functions, equal_partitions, with_nothing, equal_matrices_at, included_sets, included_multisets, in_two, in_one_made_of_another, in_a_literal, in_what_a_function_has, in_its_pairs, in_a_term, size_of_one_made_of_another, size, frequency_in_one_made_of_another, frequency_in_a_literal, frequency, together, least_of_a_literal, different_items, list_of_a_term, lists_on_both_sides, all_different, results, choice, condition, condition_behind, least_under_a_condition, Supply, matrices_at, opposite_copied, compares_compound, tells_scalars_apart, rewrite}
 use Rattle.ess_refine_laws.specs.ScopesStay.{Scope}
 use Rattle.ess_refine_laws.specs.ScopesOfRules.{NewSupply, ScopeFits, RulesKeepScopes}
 use Rattle.ess_refine_laws.proofs.ScopesOfParts.{InScope, when, under, unless, nothing, one-item, bare, alone, term, loosely, component, field, apart, turns, strict, tuples, records, in-literal, frequency-listed, least-listed, different-listed, chosen-shorter}
-use Rattle.ess_refine_laws.proofs.ScopesOfContainers.{combined, changed, frequency-made, members, often, same_members, same_often, same_pairs, same_parts, no-items, of-function, related, member, size-made, sized, counted, one-part, list-of-term, left-list, right-list, different, results as results-scoped, matrices}
+use Rattle.ess_refine_laws.proofs.ScopesOfContainers.{combined, changed, frequency-made, members, often, same_members, same_often, same_pairs, same_parts, no-items, of-function, related, member, size-made, sized, counted, one-part, list-of-term, both-lists, different, results as results-scoped, matrices}
 use Rattle.ess_refine_laws.proofs.ScopesOfConditions.{leaves, later, opposed}
 use Rattle.ess_refine_laws.proofs.ScopesOfGenerators.{splits, tuple-name, record-name}
 use Rattle.ess_refine_laws.proofs.ScopesOfSources.{offered-scoped, one-put, each-item-scoped, in-parts, in-one-part, in-extremes}
@@ -71,18 +71,18 @@ module _ (z : Text → Bool) (t : Supply) (g : Names Ty) (s : Scope) where
   literal-put _ k h = tt
 
   sources-put : (e : Ex) → NewSupply t s e → ScopeFits z t g s over_a_source e → S e → A (source_listed t g e)
-  sources-put (fun1 m f (comp_ex e (from (name_pat y) w hs))) n k h = in-parts z s y e w hs h.0.2 m f (offered t g w) k
-      (offered-scoped z s t g w n.0.0 n.1.0 n.2 n.0.1.0.1.1 h.0.1)
+  sources-put (fun1 m f (comp_ex e (from (name_pat y) w hs))) n k h = in-parts z s y e w hs h.0.2 m f (offered t g w) k.0
+      (offered-scoped z s t g w (fun1 m f (comp_ex e (from (name_pat y) w hs))) n n.0.1.0.1.1 n.4.1.0.1.1 k.1 h.0.1)
   sources-put _ n k h = tt
 
   source-put : (e : Ex) → NewSupply t s e → ScopeFits z t g s of_one_source e → S e → A (source_listed_once t g e)
-  source-put (fun1 m f (comp_ex e (from (name_pat y) w hs))) n k h = in-one-part z s y e w hs h.0.2 m f (offered t g w) k
-      (offered-scoped z s t g w n.0.0 n.1.0 n.2 n.0.1.0.1.1 h.0.1)
+  source-put (fun1 m f (comp_ex e (from (name_pat y) w hs))) n k h = in-one-part z s y e w hs h.0.2 m f (offered t g w) k.0
+      (offered-scoped z s t g w (fun1 m f (comp_ex e (from (name_pat y) w hs))) n n.0.1.0.1.1 n.4.1.0.1.1 k.1 h.0.1)
   source-put _ n k h = tt
 
   extremes-put : (e : Ex) → NewSupply t s e → ScopeFits z t g s least_of_alternatives e → S e → A (extremes_listed t g e)
-  extremes-put (fun1 false f (comp_ex e (from (name_pat y) w hs))) n k h = in-extremes z s y e w hs h.0.2 f (offered t g w) k
-      (offered-scoped z s t g w n.0.0 n.1.0 n.2 n.0.1.0.1.1 h.0.1)
+  extremes-put (fun1 false f (comp_ex e (from (name_pat y) w hs))) n k h = in-extremes z s y e w hs h.0.2 f (offered t g w) k.0
+      (offered-scoped z s t g w (fun1 false f (comp_ex e (from (name_pat y) w hs))) n n.0.1.0.1.1 n.4.1.0.1.1 k.1 h.0.1)
   extremes-put _ n k h = tt
 
   -- ---- each rule
@@ -113,7 +113,7 @@ module _ (z : Text → Bool) (t : Supply) (g : Names Ty) (s : Scope) where
   each-scoped included_sets e n k h = members z s.all s.over_domains t.one n.0.0 g e n.0.1 h
   each-scoped included_multisets e n k h = often z s.all s.over_domains t.one n.0.0 e n.0.1 h
   each-scoped in_two e n k h = combined z s.all s.over_domains e h
-  each-scoped in_one_made_of_another e n k h = changed z s.all s.over_domains e h
+  each-scoped in_one_made_of_another e n k h = changed z s.all s.over_domains t.one n.0.0 g e n.0.1 h
   each-scoped in_a_literal e n k h = in-literal z s.all s.over_domains e h
   each-scoped in_what_a_function_has e n k h = of-function z s.all s.over_domains t.one n.0.0 g e n.0.1 h
   each-scoped in_its_pairs e n k h = related z s.all s.over_domains t.one n.0.0 e n.0.1 h
@@ -128,8 +128,7 @@ module _ (z : Text → Bool) (t : Supply) (g : Names Ty) (s : Scope) where
   each-scoped different_items e n k h =
       unless z s.all s.over_domains (tells_scalars_apart g e) (different_listed e) (different-listed z s.all s.over_domains e h)
   each-scoped list_of_a_term e n k h = list-of-term z s.all s.over_domains t.one n.0.0 e h
-  each-scoped list_on_the_left e n k h = left-list z s.all s.over_domains t.one n.0.0 e h
-  each-scoped list_on_the_right e n k h = right-list z s.all s.over_domains t.one n.0.0 e h
+  each-scoped lists_on_both_sides e n k h = both-lists z s.all s.over_domains t.one n.0.0 e h
   each-scoped all_different e n k h =
       unless z s.all s.over_domains (tells_scalars_apart g e) (different_term t.one e)
       (different z s.all s.over_domains t.one n.0.0 e n.0.1 h)

@@ -7,7 +7,7 @@ use Rattle.ess_semantics.specs.Lists.{and_then, or_else}
 use Rattle.ess_semantics.specs.Values.{Text, a_function}
 use Rattle.ess_semantics.specs.Order.{same_text}
 use Rattle.ess_semantics.specs.Names.{Names}
-use Rattle.ess_semantics.specs.Trees.{word, mset_literal, matrix_literal, name_pat, Ex, Exs, node_ex, comp_ex, ex2, fun1, no_exs, more_exs, Gens, no_gens, from, set_literal, relation_literal, ex1, function_literal, partition_literal, matrix_ex}
+use Rattle.ess_semantics.specs.Trees.{word, mset_literal, matrix_literal, name_pat, Ex, Exs, node_ex, comp_ex, ex2, fun1, no_exs, more_exs, Gens, no_gens, over, from, cond, set_literal, relation_literal, ex1, function_literal, partition_literal, matrix_ex}
 use Rattle.ess_semantics.specs.Types.{Ty, compound2}
 use Rattle.ess_semantics.specs.Typing.{type_of}
 use Rattle.ess_semantics.specs.ExpressionJudgements.{forgets_order}
@@ -29,9 +29,11 @@ use Rattle.ess_rules_laws.proofs.Agreement.{same_text-equal, same_text-itself}
 use Rattle.ess_refine_laws.specs.ExtremeAlternatives.{has_items}
 use Rattle.ess_refine_laws.specs.AllRules.{OfSome}
 use Rattle.ess_refine_laws.specs.ScopesStay.{Scope}
-use Rattle.ess_refine_laws.specs.ScopesOfRules.{BindsNone, EachBindsNone, TermsApart}
+use Rattle.ess_refine_laws.specs.ItemsOnce.{is_atom_dom, items_once}
+use Rattle.ess_refine_laws.specs.ScopesOfRules.{BindsNone, NewSupply, EachBindsNone, TermsApart, SetApart}
 use Rattle.ess_refine_laws.proofs.WiderScopes.{bound, behind}
 use Rattle.ess_refine_laws.proofs.PutTerms.{put-listed-scoped}
+use Rattle.ess_refine_laws.proofs.ScopesOfItems.{over-scoped}
 use Rattle.ess_refine_laws.proofs.ScopesOfParts.{gens-map, InScope, when}
 
 module _ (z : Text → Bool) (s : Scope) where
@@ -124,10 +126,25 @@ module _ (z : Text → Bool) (s : Scope) where
     made-scoped g y m d (matrix_ex es c) k h = items-scoped es h.0
     made-scoped g y m d _ k h = tt
 
-  pub offered-scoped : (t : Supply) (g : Names Ty) (k : Ex) → IsTrue (not (s.all t.one)) → IsTrue (not (s.all t.other)) →
-      same_text t.one t.other ≡ false → BindsNone (same_text t.one) k → S k → SomeScoped (offered t g k)
-  offered-scoped t g k n m d b h = either (listing g t.one k) (made_listing g t.one t.other k) (listing-scoped t.one n g k b h)
-      (made-scoped t.one n g t.other m d k b h)
+  -- Sets of items, each item once.
+  once-scoped : (y q w : Text) → IsTrue (not (s.all y)) → IsTrue (not (s.all q)) → IsTrue (not (s.all w)) → same_text y q ≡ false →
+      same_text y w ≡ false → same_text q w ≡ false → (k : Ex) → BindsNone (same_text y) k → BindsNone (same_text w) k → SetApart z k →
+      S k → SomeScoped (items_once y q w k)
+  once-scoped y q w ny nq nw yq yw qw (fun1 false Fun.ToSet (comp_ex e no_gens)) by bw zx h = (h.0, tt)
+  once-scoped y q w ny nq nw yq yw qw (fun1 false Fun.ToSet (comp_ex e (cond c gs))) by bw zx h =
+      ((h.0.0, (ny, (h.0.1, tt), bound y s.all)), tt)
+  once-scoped y q w ny nq nw yq yw qw (fun1 false Fun.ToSet (comp_ex e (over (name_pat x) d gs))) by bw zx h =
+      when-list (is_atom_dom d) _
+      (over-scoped z s.all s.over_domains y q w x ny nq nw yq yw qw zx d e gs by.0 bw.0 h.0, tt)
+  once-scoped y q w ny nq nw yq yw qw _ by bw zx h = tt
+
+  -- What a term offers, where the names that it takes are new.
+  pub offered-scoped : (t : Supply) (g : Names Ty) (k e : Ex) → NewSupply t s e → BindsNone (same_text t.one) k →
+      BindsNone (same_text t.third) k → SetApart z k → S k → SomeScoped (offered t g k)
+  offered-scoped t g k e n b c a h = either (listing g t.one k) (or_else (made_listing g t.one t.other k) (items_once t.one t.other t.third k))
+      (listing-scoped t.one n.0.0 g k b h)
+      (either (made_listing g t.one t.other k) (items_once t.one t.other t.third k) (made-scoped t.one n.0.0 g t.other n.1.0 n.2 k b h)
+      (once-scoped t.one t.other t.third n.0.0 n.1.0 n.4.0 n.2 n.5 n.6 k b c a h))
     where
       either : (o p : Option (List Alternative)) → SomeScoped o → SomeScoped p → SomeScoped (or_else o p)
       either None p h k = k

@@ -13,7 +13,7 @@ use Rattle.ess_semantics.proofs.Tests.{and-both}
 use Rattle.ess_rules_laws.specs.FoldRules.{fold_nothing, fold_bare, fold_alone}
 use Rattle.ess_rules_laws.specs.LooseRules.{fold_loosely}
 use Rattle.ess_rules_laws.specs.InclusionRules.{both_sets, both_msets, both_functions, every, unequal, included_turned, included_strictly, included_members, included_often, equal_members, equal_pairs}
-use Rattle.ess_rules_laws.specs.MembershipRules.{member_term, member_combined, member_changed}
+use Rattle.ess_rules_laws.specs.MembershipRules.{member_term, member_combined, is_asked, member_of, member_changed}
 use Rattle.ess_rules_laws.specs.SizeRules.{is_counted, size_term, frequency_term, together_term}
 use Rattle.ess_refine_laws.proofs.ConstantsStay.{All, all-left, all-right, all-both}
 
@@ -231,18 +231,6 @@ module _ (q : ℤ → Bool) (o : q (pos 0) ≡ true) (i : q (pos 1) ≡ true) wh
       (of-one false true (unary Op1.Not) (ex2 true Op2.Member x b) refl (of-two false true (binary Op2.Member) x b refl k.0 l.1))
   combined m _ h = tt
 
-  pub changed : (m : Bool) (e : Ex) → A m e → Answers m (member_changed e)
-  changed m (ex2 true Op2.Member x (fun1 false Fun.ToSet s)) h =
-      let k = two-of m true (binary Op2.Member) x (fun1 false Fun.ToSet s) h in
-      of-two m true (binary Op2.Member) x s (uncounted m) k.0 (one-of false false (word Fun.ToSet) s k.1)
-  changed m (ex2 true Op2.Member x (fun1 false Fun.ToMSet s)) h =
-      let k = two-of m true (binary Op2.Member) x (fun1 false Fun.ToMSet s) h in
-      of-two m true (binary Op2.Member) x s (uncounted m) k.0 (one-of false false (word Fun.ToMSet) s k.1)
-  changed m (ex2 true Op2.Member x (fun1 false Fun.Parts s)) h =
-      let k = two-of m true (binary Op2.Member) x (fun1 false Fun.Parts s) h in
-      of-two m true (binary Op2.Member) x s (uncounted m) k.0 (one-of false false (word Fun.Parts) s k.1)
-  changed m _ h = tt
-
   pub member : (x : Text) (m : Bool) (e : Ex) → A m e → Answers m (member_term x e)
   member x m (ex2 true Op2.Member a s) h =
       let k = two-of m true (binary Op2.Member) a s h in
@@ -250,6 +238,26 @@ module _ (q : ℤ → Bool) (o : q (pos 0) ≡ true) (i : q (pos 1) ≡ true) wh
       (of-comp true (ex2 true Op2.Eq (name_ex x) a) (from (name_pat x) s no_gens)
       (of-two false true (binary Op2.Eq) (name_ex x) a refl refl k.0) (one-source (name_pat x) s no_gens k.1 refl))
   member x m _ h = tt
+
+  -- In s, where both terms spell no more.
+  member-of : (g : Names Ty) (x : Text) (m : Bool) (a s : Ex) → A false a → A false s → Answers m (member_of g x a s)
+  member-of g x m a s k l = go (is_asked (type_of s g))
+    where
+      go : (c : Bool) → Answers m (if c then Some (ex2 true Op2.Member a s) else member_term x (ex2 true Op2.Member a s))
+      go true = of-two m true (binary Op2.Member) a s (uncounted m) k l
+      go false = member x m (ex2 true Op2.Member a s) (of-two m true (binary Op2.Member) a s (uncounted m) k l)
+
+  pub changed : (g : Names Ty) (x : Text) (m : Bool) (e : Ex) → A m e → Answers m (member_changed g x e)
+  changed g x m (ex2 true Op2.Member a (fun1 false Fun.ToSet s)) h =
+      let k = two-of m true (binary Op2.Member) a (fun1 false Fun.ToSet s) h in
+      member-of g x m a s k.0 (one-of false false (word Fun.ToSet) s k.1)
+  changed g x m (ex2 true Op2.Member a (fun1 false Fun.ToMSet s)) h =
+      let k = two-of m true (binary Op2.Member) a (fun1 false Fun.ToMSet s) h in
+      member-of g x m a s k.0 (one-of false false (word Fun.ToMSet) s k.1)
+  changed g x m (ex2 true Op2.Member a (fun1 false Fun.Parts s)) h =
+      let k = two-of m true (binary Op2.Member) a (fun1 false Fun.Parts s) h in
+      member-of g x m a s k.0 (one-of false false (word Fun.Parts) s k.1)
+  changed g x m _ h = tt
 
   one-number : A false (number_ex (pos 1))
   one-number = and-both (q (pos 1)) true i refl

@@ -1,5 +1,5 @@
 -- Rules of containers, lists and conditions spell no new numbers but 0 and 1.
-use Rattle.std.proofs.Common.{◌≡◌, refl, zero, suc, Bool, true, false, ◌&&◌, not, if◌then◌else◌, ℤ, pos, Option, Some, None}
+use Rattle.std.proofs.Common.{◌≡◌, refl, ap, zero, suc, Bool, true, false, ◌&&◌, ◌||◌, not, if◌then◌else◌, ℤ, pos, Option, Some, None}
 use Rattle.ess_semantics.specs.declared.words.Op1.{Op1}
 use Rattle.ess_semantics.specs.declared.words.Op2.{Op2}
 use Rattle.ess_semantics.specs.declared.words.Fun.{Fun}
@@ -16,11 +16,11 @@ use Rattle.ess_rules_laws.specs.InclusionRules.{both_sets, both_msets, both_func
 use Rattle.ess_rules_laws.specs.ComponentRules.{component_of}
 use Rattle.ess_rules_laws.specs.PartitionRules.{both_partitions, equal_parts}
 use Rattle.ess_rules_laws.specs.MatrixRules.{is_matrix, lies_in, equal_each_at, both_matrices, equal_matrices, equal_to_nothing}
-use Rattle.ess_rules_laws.specs.MembershipRules.{equations, member_term, member_combined, member_changed, member_listed}
+use Rattle.ess_rules_laws.specs.MembershipRules.{equations, member_term, member_combined, is_asked, member_of, member_changed, member_listed}
 use Rattle.ess_rules_laws.specs.FunctionMembershipRules.{an_argument, a_result, a_source, member_of_function, member_related}
 use Rattle.ess_rules_laws.specs.SizeRules.{is_counted, size_term, frequency_term, together_term}
 use Rattle.ess_rules_laws.specs.ShortSizeRules.{is_function, is_partition, size_made, frequency_made, ones_where, frequency_listed}
-use Rattle.ess_rules_laws.specs.ListRules.{is_of_list, is_lex, list_term, lex_left, lex_right, different_term}
+use Rattle.ess_rules_laws.specs.ListRules.{members_list, is_of_list, is_lex, list_term, as_members, lex_both, different_term}
 use Rattle.ess_rules_laws.specs.ChoiceRules.{choice_shorter}
 use Rattle.ess_refine_laws.specs.Spelling.{Spells, SpellsEach, SpellsDom, is_list_literal}
 use Rattle.ess_refine_laws.proofs.Spelling.{outside}
@@ -121,12 +121,6 @@ module _ (q : ℤ → Bool) (o : q (pos 0) ≡ true) (i : q (pos 1) ≡ true) wh
       (refl, ((refl, (h.1.0, (h.1.1.0.1.0, tt))), ((refl, ((refl, (h.1.0, (h.1.1.0.1.1.0, tt))), tt)), tt)))
   combined m _ h = tt
 
-  pub changed : (m : Bool) (e : Ex) → Spells q m e → A m (member_changed e)
-  changed m (ex2 true Op2.Member x (fun1 false Fun.ToSet s)) h = (refl, (h.1.0, (h.1.1.0.1.0, tt)))
-  changed m (ex2 true Op2.Member x (fun1 false Fun.ToMSet s)) h = (refl, (h.1.0, (h.1.1.0.1.0, tt)))
-  changed m (ex2 true Op2.Member x (fun1 false Fun.Parts s)) h = (refl, (h.1.0, (h.1.1.0.1.0, tt)))
-  changed m _ h = tt
-
   equations-spell : (x : Ex) (es : Exs) → Spells q false x → SpellsEach q false es → SpellsEach q false (equations x es)
   equations-spell x no_exs h k = tt
   equations-spell x (more_exs a es) h k = ((refl, (h, (k.0, tt))), equations-spell x es h k.1)
@@ -165,6 +159,20 @@ module _ (q : ℤ → Bool) (o : q (pos 0) ≡ true) (i : q (pos 1) ≡ true) wh
   pub member : (x : Text) (m : Bool) (e : Ex) → Spells q m e → A m (member_term x e)
   member x m (ex2 true Op2.Member a s) h = (refl, (((refl, (tt, (h.1.0, tt))), (h.1.1.0, tt)), tt))
   member x m _ h = tt
+
+  -- In s, where `a in s` spells no more.
+  member-of : (g : Names Ty) (x : Text) (m : Bool) (a s : Ex) → Spells q m (ex2 true Op2.Member a s) → A m (member_of g x a s)
+  member-of g x m a s h = go (is_asked (type_of s g))
+    where
+      go : (c : Bool) → A m (if c then Some (ex2 true Op2.Member a s) else member_term x (ex2 true Op2.Member a s))
+      go true = h
+      go false = member x m (ex2 true Op2.Member a s) h
+
+  pub changed : (g : Names Ty) (x : Text) (m : Bool) (e : Ex) → Spells q m e → A m (member_changed g x e)
+  changed g x m (ex2 true Op2.Member a (fun1 false Fun.ToSet s)) h = member-of g x m a s (refl, (h.1.0, (h.1.1.0.1.0, tt)))
+  changed g x m (ex2 true Op2.Member a (fun1 false Fun.ToMSet s)) h = member-of g x m a s (refl, (h.1.0, (h.1.1.0.1.0, tt)))
+  changed g x m (ex2 true Op2.Member a (fun1 false Fun.Parts s)) h = member-of g x m a s (refl, (h.1.0, (h.1.1.0.1.0, tt)))
+  changed g x m _ h = tt
 
   -- ---- sizes
 
@@ -246,15 +254,17 @@ module _ (q : ℤ → Bool) (o : q (pos 0) ≡ true) (i : q (pos 1) ≡ true) wh
       (λ k. (refl, ((tt, (source (drops_items (word f)) s (open-list s (is_of_list f) true k) h.1.0, tt)), tt)))
   list-of-term x m _ h = tt
 
-  pub left-list : (x : Text) (m : Bool) (e : Ex) → Spells q m e → A m (lex_left x e)
-  left-list x m (ex2 true p a b) h = so-then (is_lex p && not (is_laid_open a)) m _
-      (λ k. (refl, ((tt, (source (drops_items (binary p)) a (open-list a (is_lex p) true k) h.1.0, tt)), (h.1.1.0, tt))))
-  left-list x m _ h = tt
+  as-spells : (b : Bool) (x : Text) (s : Ex) → Spells q b s → Spells q b (as_members x s)
+  as-spells b x s h = go (is_laid_open s) refl
+    where
+      go : (c : Bool) → is_laid_open s ≡ c → Spells q b (if c then s else members_list x s)
+      go true k = h
+      go false k = (tt, (source b s (open-list s true true (ap not k)) h, tt))
 
-  pub right-list : (x : Text) (m : Bool) (e : Ex) → Spells q m e → A m (lex_right x e)
-  right-list x m (ex2 true p a b) h = so-then (is_lex p && not (is_laid_open b)) m _
-      (λ k. (refl, (h.1.0, ((tt, (source (drops_items (binary p)) b (open-list b (is_lex p) true k) h.1.1.0, tt)), tt))))
-  right-list x m _ h = tt
+  pub both-lists : (x : Text) (m : Bool) (e : Ex) → Spells q m e → A m (lex_both x e)
+  both-lists x m (ex2 true p a b) h = so (is_lex p && (not (is_laid_open a) || not (is_laid_open b))) m _
+      (refl, (as-spells (drops_items (binary p)) x a h.1.0, (as-spells (drops_items (binary p)) x b h.1.1.0, tt)))
+  both-lists x m _ h = tt
 
   pub different : (x : Text) (m b : Bool) (f : Fun) (l : Ex) → is_list_literal l ≡ false → Spells q m (fun1 b f l) →
       A m (different_term x (fun1 b f l))

@@ -7,7 +7,7 @@ use Rattle.ess_semantics.specs.declared.words.Fun.{Fun}
 use Rattle.ess_semantics.specs.Lists.{or_else}
 use Rattle.ess_semantics.specs.Values.{Text, a_function}
 use Rattle.ess_semantics.specs.Names.{Names}
-use Rattle.ess_semantics.specs.Trees.{word, function_literal, partition_literal, set_literal, mset_literal, relation_literal, matrix_literal, Ex, Exs, number_ex, node_ex, matrix_ex, comp_ex, ex1, ex2, fun1, no_exs, more_exs, Gens, no_gens, over, from, cond, Dom, int_dom}
+use Rattle.ess_semantics.specs.Trees.{word, function_literal, partition_literal, set_literal, mset_literal, relation_literal, matrix_literal, name_pat, Ex, Exs, number_ex, name_ex, node_ex, matrix_ex, comp_ex, ex1, ex2, fun1, no_exs, more_exs, Gens, no_gens, over, from, cond, Dom, int_dom}
 use Rattle.ess_semantics.specs.Types.{Ty, compound2}
 use Rattle.ess_semantics.specs.Typing.{type_of}
 use Rattle.ess_semantics.specs.Constants.{drops_items}
@@ -19,6 +19,9 @@ use Rattle.ess_refine_laws.specs.AllRules.{Supply, offered}
 use Rattle.ess_refine_laws.specs.LeavingConditions.{Parted, with_before, at_last_condition}
 use Rattle.ess_refine_laws.specs.Everywhere.{divisor, base, exponent, raised, extreme, is_nonzero, is_positive, everywhere, everywhere_list, everywhere_exs, everywhere_gens, everywhere_dom}
 use Rattle.ess_semantics.specs.Occurrences.{has_cells}
+use Rattle.ess_semantics.specs.Substitution.{for_name}
+use Rattle.ess_refine_laws.specs.ItemsOnce.{is_atom_dom, items_once}
+use Rattle.ess_refine_laws.proofs.Spelling.{put-spells, put-gens, for-name}
 use Rattle.ess_refine_laws.specs.Spelling.{Spells, SpellsEach, SpellsGens, SpellsDom}
 
 module _ (q : ℤ → Bool) where
@@ -87,10 +90,44 @@ module _ (q : ℤ → Bool) where
   made-spells g x y (matrix_ex es d) h = items-spell es h.1
   made-spells g x y _ h = tt
 
+  once-spells : (y z w : Text) (t : Ex) → Spells q false t → SpellsSome (items_once y z w t)
+  once-spells y z w (fun1 false Fun.ToSet (comp_ex e no_gens)) h = ((h.1.0.0, tt), tt)
+  once-spells y z w (fun1 false Fun.ToSet (comp_ex e (cond c gs))) h =
+      ((tt, (h.1.0.1.0, ((refl, ((h.1.0.0, h.1.0.1.1), tt)), tt))), tt)
+  once-spells y z w (fun1 false Fun.ToSet (comp_ex e (over (name_pat x) d gs))) h =
+      let named = for-name q x (name_ex w) tt in
+      when-list (is_atom_dom d) _ (
+        (
+          tt,
+          (
+            h.1.0.1.0,
+            (
+              (refl, ((put-spells q (for_name x (name_ex w)) named e false h.1.0.0, put-gens q (for_name x (name_ex w)) named gs h.1.0.1.1), tt)),
+              (
+                (
+                  refl,
+                  (
+                    (
+                      (refl, ((refl, (tt, (tt, tt))), tt)),
+                      ((h.1.0.0, (h.1.0.1.0, ((refl, (tt, (tt, tt))), h.1.0.1.1))), tt),
+                    ),
+                    tt,
+                  ),
+                ),
+                tt,
+              ),
+            ),
+          ),
+        ),
+        tt,
+      )
+  once-spells y z w _ h = tt
+
   -- What a term offers.
   pub offered-spells : (s : Supply) (g : Names Ty) (t : Ex) → Spells q false t → SpellsSome (offered s g t)
-  offered-spells s g t h = either (listing g s.one t) (made_listing g s.one s.other t) (listing-spells g s.one t h)
-      (made-spells g s.one s.other t h)
+  offered-spells s g t h = either (listing g s.one t) (or_else (made_listing g s.one s.other t) (items_once s.one s.other s.third t))
+      (listing-spells g s.one t h) (either (made_listing g s.one s.other t) (items_once s.one s.other s.third t)
+      (made-spells g s.one s.other t h) (once-spells s.one s.other s.third t h))
     where
       either : (o p : Option (List Alternative)) → SpellsSome o → SpellsSome p → SpellsSome (or_else o p)
       either None p h k = k

@@ -34,7 +34,7 @@ use Rattle.ess_rules_laws.specs.MembershipRules.{member_term, member_combined, m
 use Rattle.ess_rules_laws.specs.FunctionMembershipRules.{member_of_function, member_related}
 use Rattle.ess_rules_laws.specs.SizeRules.{size_term, frequency_term, together_term}
 use Rattle.ess_rules_laws.specs.ShortSizeRules.{SoundWithin, size_made, frequency_made, frequency_listed}
-use Rattle.ess_rules_laws.specs.ListRules.{list_term, lex_left, lex_right, different_term}
+use Rattle.ess_rules_laws.specs.ListRules.{list_term, lex_both, different_term}
 use Rattle.ess_rules_laws.specs.ChoiceRules.{choice_shorter, ChoicesFit}
 use Rattle.ess_rules_laws.specs.Progress.{is_parted}
 use Rattle.ess_refine_laws.specs.ScalarItems.{has_scalar_items}
@@ -43,6 +43,7 @@ use Rattle.ess_refine_laws.specs.LeavingConditions.{at_last_condition, condition
 use Rattle.ess_refine_laws.specs.ExtremeRules.{extreme_condition}
 use Rattle.ess_refine_laws.specs.Copies.{opposite_of, CopyFits}
 use Rattle.ess_refine_laws.specs.ExtremeAlternatives.{put_alternative, extreme_alternatives}
+use Rattle.ess_refine_laws.specs.ItemsOnce.{items_once}
 use Rattle.ess_refine_laws.specs.MovingConditions.{condition_later, LaterFits}
 
 -- The rules, by what they rewrite.
@@ -62,7 +63,7 @@ pub data Rule : Type 0 where
   -- Sizes and frequencies.
   size_of_one_made_of_another size frequency_in_one_made_of_another frequency_in_a_literal frequency together : Rule
   -- Lists, and sets of results.
-  least_of_a_literal different_items list_of_a_term list_on_the_left list_on_the_right all_different results : Rule
+  least_of_a_literal different_items list_of_a_term lists_on_both_sides all_different results : Rule
   -- Numbers that conditions choose, and conditions that read cells.
   choice condition : Rule
   -- The least and the greatest under a condition that reads cells: it moves behind the generators, and then into the numbers.
@@ -70,18 +71,19 @@ pub data Rule : Type 0 where
   -- The least and the greatest over several alternatives of the first source.
   least_of_alternatives : Rule
 
--- What the rules take: names that stand nowhere in the tree, two and one for each component of a domain, the index domain of
+-- What the rules take: names that stand nowhere in the tree, three and one for each component of a domain, the index domain of
 -- each matrix, and another way to write each tree, with bound names of its own.
 pub record Supply : Type 0 where
   pub one : Text
   pub other : Text
+  pub third : Text
   pub parts : List Text
   pub index_domain : Ex → Dom
   pub copy : Ex → Ex
 
 -- What the term offers as a listing.
 abbrev pub offered : Supply → Names Ty → Ex → Option (List Alternative)
-offered s g t = or_else (listing g s.one t) (made_listing g s.one s.other t)
+offered s g t = or_else (listing g s.one t) (or_else (made_listing g s.one s.other t) (items_once s.one s.other s.third t))
 
 -- A fold over the alternatives of the first source.
 abbrev pub source_listed : Supply → Names Ty → Ex → Option Ex
@@ -162,7 +164,7 @@ rewrite s g equal_matrices_at e = matrices_at s g e
 rewrite s g included_sets e = included_members g s.one e
 rewrite s g included_multisets e = included_often s.one e
 rewrite s g in_two e = member_combined e
-rewrite s g in_one_made_of_another e = member_changed e
+rewrite s g in_one_made_of_another e = member_changed g s.one e
 rewrite s g in_a_literal e = member_listed e
 rewrite s g in_what_a_function_has e = member_of_function g s.one e
 rewrite s g in_its_pairs e = member_related s.one e
@@ -176,8 +178,7 @@ rewrite s g together e = together_term s.one e
 rewrite s g least_of_a_literal e = extreme_listed e
 rewrite s g different_items e = if tells_scalars_apart g e then None else different_listed e
 rewrite s g list_of_a_term e = list_term s.one e
-rewrite s g list_on_the_left e = lex_left s.one e
-rewrite s g list_on_the_right e = lex_right s.one e
+rewrite s g lists_on_both_sides e = lex_both s.one e
 rewrite s g all_different e = if tells_scalars_apart g e then None else different_term s.one e
 rewrite s g results e = range_as_set g s.one e
 rewrite s g choice e = choice_shorter e
@@ -248,7 +249,7 @@ CountsOn s g equal_matrices_at e env = Unused s.one e × SoundOperands g e × Op
 CountsOn s g included_sets e env = Unused s.one e × SoundOperands g e × OperandsThere e env
 CountsOn s g included_multisets e env = Unused s.one e × OperandsThere e env
 CountsOn s g in_two e env = CombinedThere e env
-CountsOn s g in_one_made_of_another e env = Unit {0}
+CountsOn s g in_one_made_of_another e env = Unused s.one e
 CountsOn s g in_a_literal e env = ItemsThere e env
 CountsOn s g in_what_a_function_has e env = Unused s.one e × SoundWithin g e
 CountsOn s g in_its_pairs e env = Unused s.one e
@@ -262,8 +263,7 @@ CountsOn s g together e env = Unused s.one e
 CountsOn s g least_of_a_literal e env = Unit {0}
 CountsOn s g different_items e env = ListThere e env
 CountsOn s g list_of_a_term e env = Unused s.one e
-CountsOn s g list_on_the_left e env = Unused s.one e
-CountsOn s g list_on_the_right e env = Unused s.one e
+CountsOn s g lists_on_both_sides e env = Unused s.one e
 CountsOn s g all_different e env = Unused s.one e
 CountsOn s g results e env = Unused s.one e × SoundOperands g e
 CountsOn s g choice e env = ChoicesFit e env
@@ -285,7 +285,7 @@ all_rules =
     ∷ with_nothing ∷ equal_matrices_at ∷ included_sets ∷ included_multisets
     ∷ in_two ∷ in_one_made_of_another ∷ in_a_literal ∷ in_what_a_function_has ∷ in_its_pairs ∷ in_a_term
     ∷ size_of_one_made_of_another ∷ size ∷ frequency_in_one_made_of_another ∷ frequency_in_a_literal ∷ frequency ∷ together
-    ∷ least_of_a_literal ∷ different_items ∷ list_of_a_term ∷ list_on_the_left ∷ list_on_the_right ∷ all_different ∷ results
+    ∷ least_of_a_literal ∷ different_items ∷ list_of_a_term ∷ lists_on_both_sides ∷ all_different ∷ results
     ∷ choice ∷ condition ∷ condition_behind ∷ least_under_a_condition ∷ least_of_alternatives ∷ []
 
 -- What the first of the rules that fires makes of the root.

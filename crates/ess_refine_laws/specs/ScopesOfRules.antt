@@ -1,5 +1,6 @@
 -- Rules that keep scopes, and what they count on: that the names which they take are new, and that bound names are apart.
 use Rattle.std.specs.Prelude.{◌≡◌, Bool, true, false, not, List, [], ◌∷◌, Option, Some, None, IsTrue}
+use Rattle.ess_semantics.specs.declared.words.Fun.{Fun}
 use Rattle.ess_semantics.specs.Values.{Text}
 use Rattle.ess_semantics.specs.Order.{same_text}
 use Rattle.ess_semantics.specs.Names.{Names}
@@ -29,6 +30,7 @@ AreNew s (y ∷ ys) = IsTrue (not (s.all y)) × AreNew s ys
 -- The names that rules take are new.
 abbrev pub NewSupply : Supply → Scope → Ex → Type 0
 NewSupply t s e = IsNew s t.one e × IsNew s t.other e × (same_text t.one t.other ≡ false) × AreNew s t.parts
+    × IsNew s t.third e × (same_text t.one t.third ≡ false) × (same_text t.other t.third ≡ false)
 
 -- What a pattern binds no pattern and no domain behind it binds.
 abbrev pub PartsApart : Pats → Doms → Type 0
@@ -61,6 +63,15 @@ abbrev pub TermsApart : (Text → Bool) → Scope → Text → Ex → Gens → L
 TermsApart z s y e hs l =
     (z y ≡ false) × (s.over_domains y ≡ false) × (u : Text → Bool) × NamesAre (λ a. true) u (comp_ex e hs) × EachBindsNone u l
 
+-- The name that the first generator of a set of items binds over a domain is none that domains of declarations use.
+abbrev pub SetApart : (Text → Bool) → Ex → Type 0
+SetApart z (fun1 false Fun.ToSet (comp_ex e (over (name_pat x) d gs))) = z x ≡ false
+SetApart z e = Unit {0}
+
+-- What is asked where the source k is listed.
+abbrev pub ListedFits : (Text → Bool) → Supply → Names Ty → Scope → Text → Ex → Ex → Gens → Type 0
+ListedFits z t g s y k e hs = OfSome (offered t g k) (TermsApart z s y e hs) × SetApart z k
+
 -- What single rules count on: patterns and the domains that they take are apart; a name over a tuple or record of domains is no index of
 -- a view; index domains are in scope and don't bind new names; so a copy; and terms for names are apart.
 abbrev pub ScopeFits : (Text → Bool) → Supply → Names Ty → Scope → Rule → Ex → Type 0
@@ -79,9 +90,9 @@ ScopeFits z t g s least_under_a_condition (fun1 m f (comp_ex e gs)) =
 ScopeFits z t g s over_a_comprehension (comp_ex e (from (name_pat y) (comp_ex h ks) hs)) =
     TermsApart z s y e hs (record { gens = ks; item = h } ∷ [])
 ScopeFits z t g s over_a_literal (fun1 m f (comp_ex e (from (name_pat y) (node_ex b op es) hs))) = TermsApart z s y e hs (each_item es)
-ScopeFits z t g s over_a_source (fun1 m f (comp_ex e (from (name_pat y) k hs))) = OfSome (offered t g k) (TermsApart z s y e hs)
-ScopeFits z t g s of_one_source (fun1 m f (comp_ex e (from (name_pat y) k hs))) = OfSome (offered t g k) (TermsApart z s y e hs)
-ScopeFits z t g s least_of_alternatives (fun1 m f (comp_ex e (from (name_pat y) k hs))) = OfSome (offered t g k) (TermsApart z s y e hs)
+ScopeFits z t g s over_a_source (fun1 m f (comp_ex e (from (name_pat y) k hs))) = ListedFits z t g s y k e hs
+ScopeFits z t g s of_one_source (fun1 m f (comp_ex e (from (name_pat y) k hs))) = ListedFits z t g s y k e hs
+ScopeFits z t g s least_of_alternatives (fun1 m f (comp_ex e (from (name_pat y) k hs))) = ListedFits z t g s y k e hs
 ScopeFits z t g s r e = Unit {0}
 
 -- Each rule keeps the scope where it fires.

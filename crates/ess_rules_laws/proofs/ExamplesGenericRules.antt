@@ -16,7 +16,7 @@ use Rattle.ess_rules_laws.specs.PartitionRules.{lie_together, equal_parts}
 use Rattle.ess_rules_laws.specs.MatrixRules.{every_over, lies_in, item_of, equal_items, equal_matrices, equal_to_nothing}
 use Rattle.ess_rules_laws.specs.ConditionRules.{fold_at_once, fold_within, fold_condition}
 use Rattle.ess_rules_laws.specs.ContainerListings.{arguments_listed, members_of_parts, made_listing, range_as_set}
-use Rattle.ess_rules_laws.specs.ListRules.{members_list, list_term, lex_left, different_term}
+use Rattle.ess_rules_laws.specs.ListRules.{members_list, list_term, lex_both, different_term}
 use Rattle.ess_rules_laws.specs.Progress.{is_abstract, is_left}
 
 abbrev p : Text
@@ -161,8 +161,15 @@ least_of_a_term = refl
 least_of_a_list : list_term x (fn Fun.Min (list2 (n 1) (n 2))) ≡ None
 least_of_a_list = refl
 
-lex_of_terms : lex_left x (bi Op2.LexLt (N m) (N m)) ≡ Some (bi Op2.LexLt (members_list x (N m)) (N m))
+lex_of_terms : lex_both x (bi Op2.LexLt (N m) (N m)) ≡ Some (bi Op2.LexLt (members_list x (N m)) (members_list x (N m)))
 lex_of_terms = refl
+
+-- a list stays, and the matrix beside it becomes one
+lex_of_a_list : lex_both x (bi Op2.LexLe (list2 (n 1) (n 2)) (N m)) ≡ Some (bi Op2.LexLe (list2 (n 1) (n 2)) (members_list x (N m)))
+lex_of_a_list = refl
+
+lex_of_lists : lex_both x (bi Op2.LexLe (list2 (n 1) (n 2)) (list2 (n 2) (n 1))) ≡ None
+lex_of_lists = refl
 
 different : different_term x (fn Fun.AllDiff (N m)) ≡ Some (every x (N m) (bi Op2.Eq (frequency (fn Fun.ToMSet (N m)) (N x)) (n 1)))
 different = refl

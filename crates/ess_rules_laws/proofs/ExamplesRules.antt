@@ -72,8 +72,13 @@ in_union = refl
 in_rest : member_combined (bi Op2.Member (n 1) (bi Op2.Minus (N a) (N b))) ≡ Some (bi Op2.And (bi Op2.Member (n 1) (N a)) (ex1 true Op1.Not (bi Op2.Member (n 1) (N b))))
 in_rest = refl
 
-in_made : member_changed (bi Op2.Member (n 1) (fn Fun.ToSet (N c))) ≡ Some (bi Op2.Member (n 1) (N c))
+in_made : member_changed g y (bi Op2.Member (n 1) (fn Fun.ToSet (N c))) ≡ Some (bi Op2.Member (n 1) (N c))
 in_made = refl
+
+-- a list has no `in`
+in_made_of_a_list : member_changed g y (bi Op2.Member (n 1) (fn Fun.ToSet (node_ex false matrix_literal (es2 (n 1) (n 2)))))
+    ≡ Some (fn Fun.Or (comp_ex (bi Op2.Eq (N y) (n 1)) (from (name_pat y) (node_ex false matrix_literal (es2 (n 1) (n 2))) no_gens)))
+in_made_of_a_list = refl
 
 in_two : member_listed (bi Op2.Member (N x) (set2 (n 1) (n 2))) ≡ Some (fn Fun.Or (node_ex false matrix_literal (es2 (bi Op2.Eq (N x) (n 1)) (bi Op2.Eq (N x) (n 2)))))
 in_two = refl

@@ -19,7 +19,7 @@ use Rattle.ess_semantics.proofs.Multisets.{count-sorted}
 use Rattle.ess_rules_laws.specs.Rules.{Unused}
 use Rattle.ess_rules_laws.specs.FoldRules.{is_laid_open}
 use Rattle.ess_rules_laws.specs.InclusionRules.{every, frequency}
-use Rattle.ess_rules_laws.specs.ListRules.{members_list, is_of_list, list_term, is_lex, lex_left, lex_right, different_term, ListRulesKeep}
+use Rattle.ess_rules_laws.specs.ListRules.{members_list, is_of_list, list_term, is_lex, as_members, lex_both, different_term, ListRulesKeep}
 use Rattle.ess_rules_laws.proofs.RuleAnswers.{AnswerKeeps, fires, when-so, behind, meaning-behind, meets-behind, name-behind, each-in-any, collect-itself, all-over, all-nowhere}
 use Rattle.ess_rules_laws.proofs.Connectives.{binary-means}
 use Rattle.ess_rules_laws.proofs.ContainerValues.{count-absent, count-present}
@@ -140,25 +140,41 @@ both-met o a b env l m = let k = subst (λ z. MeetsAll z (more_exs a (more_exs b
 met-both : (o : Op2) (a b : Ex) (env : Env) → is_lex o ≡ true → Meets a env → Meets b env → Meets (ex2 true o a b) env
 met-both o a b env l m n = subst (λ z. MeetsAll z (more_exs a (more_exs b no_exs)) env) (sym (lex-open o l)) (m, (n, tt))
 
-left-answer : (x : Text) (e : Ex) (env : Env) → AnswerKeeps (lex_left x e) e env
-left-answer x (ex2 true o a b) env = when-so (is_lex o && not (is_laid_open a)) (ex2 true o (members_list x a) b) (ex2 true o a b) env
-    (λ q m. let l = and-left _ _ q in let k = both-met o a b env l m in (
-      ap (false_where_undefined true)
-          ((sign-lists o l (meaning a env) (meaning b env)).0
-          ∙ ap (λ z. value_of_node (binary o) (z ∷ meaning b env ∷ [])) (sym (list-means x a env))),
-      met-both o (members_list x a) b env l (list-met x a env k.0) k.1,
-    ))
-left-answer x _ env = tt
+-- Of a term as a list, whether it is laid open already or not, a sign reads the same items.
+as-left : (o : Op2) → is_lex o ≡ true → (x : Text) (a : Ex) (env : Env) (q : Option Value) →
+    value_of_node (binary o) (meaning a env ∷ q ∷ []) ≡ value_of_node (binary o) (meaning (as_members x a) env ∷ q ∷ [])
+as-left o l x a env q = go (is_laid_open a)
+  where
+    go : (c : Bool) → value_of_node (binary o) (meaning a env ∷ q ∷ [])
+        ≡ value_of_node (binary o) (meaning (if c then a else members_list x a) env ∷ q ∷ [])
+    go true = refl
+    go false = (sign-lists o l (meaning a env) q).0 ∙ ap (λ z. value_of_node (binary o) (z ∷ q ∷ [])) (sym (list-means x a env))
 
-right-answer : (x : Text) (e : Ex) (env : Env) → AnswerKeeps (lex_right x e) e env
-right-answer x (ex2 true o a b) env = when-so (is_lex o && not (is_laid_open b)) (ex2 true o a (members_list x b)) (ex2 true o a b) env
+as-right : (o : Op2) → is_lex o ≡ true → (x : Text) (b : Ex) (env : Env) (p : Option Value) →
+    value_of_node (binary o) (p ∷ meaning b env ∷ []) ≡ value_of_node (binary o) (p ∷ meaning (as_members x b) env ∷ [])
+as-right o l x b env p = go (is_laid_open b)
+  where
+    go : (c : Bool) → value_of_node (binary o) (p ∷ meaning b env ∷ [])
+        ≡ value_of_node (binary o) (p ∷ meaning (if c then b else members_list x b) env ∷ [])
+    go true = refl
+    go false = (sign-lists o l p (meaning b env)).1 ∙ ap (λ z. value_of_node (binary o) (p ∷ z ∷ [])) (sym (list-means x b env))
+
+as-met : (x : Text) (s : Ex) (env : Env) → Meets s env → Meets (as_members x s) env
+as-met x s env m = go (is_laid_open s)
+  where
+    go : (c : Bool) → Meets (if c then s else members_list x s) env
+    go true = m
+    go false = list-met x s env m
+
+sides-answer : (x : Text) (e : Ex) (env : Env) → AnswerKeeps (lex_both x e) e env
+sides-answer x (ex2 true o a b) env =
+    when-so (is_lex o && (not (is_laid_open a) || not (is_laid_open b))) (ex2 true o (as_members x a) (as_members x b)) (ex2 true o a b) env
     (λ q m. let l = and-left _ _ q in let k = both-met o a b env l m in (
       ap (false_where_undefined true)
-          ((sign-lists o l (meaning a env) (meaning b env)).1
-          ∙ ap (λ z. value_of_node (binary o) (meaning a env ∷ z ∷ [])) (sym (list-means x b env))),
-      met-both o a (members_list x b) env l k.0 (list-met x b env k.1),
+          (as-left o l x a env (meaning b env) ∙ as-right o l x b env (meaning (as_members x a) env)),
+      met-both o (as_members x a) (as_members x b) env l (as-met x a env k.0) (as-met x b env k.1),
     ))
-right-answer x _ env = tt
+sides-answer x _ env = tt
 
 -- ---- allDiff
 
@@ -235,7 +251,6 @@ different-answer x _ o env = tt
 pub lists-keep : ListRulesKeep
 lists-keep = record {
   of_a_term = λ x e f q o env. fires (list_term x e) e f env (term-answer x e env) q;
-  on_the_left = λ x e f q o env. fires (lex_left x e) e f env (left-answer x e env) q;
-  on_the_right = λ x e f q o env. fires (lex_right x e) e f env (right-answer x e env) q;
+  on_both_sides = λ x e f q o env. fires (lex_both x e) e f env (sides-answer x e env) q;
   all_different = λ x e f q o env. fires (different_term x e) e f env (different-answer x e o env) q;
 }

@@ -9,6 +9,9 @@ use Rattle.ess_semantics.specs.Values.{Text, Value, truth, node, Kind, a_set, a_
 use Rattle.ess_semantics.specs.Order.{same}
 use Rattle.ess_semantics.specs.Collections.{holds, sorted, sorted_once, set_of, mset_of, relation_of}
 use Rattle.ess_semantics.specs.Trees.{binary, word, set_literal, mset_literal, relation_literal, matrix_literal, Ex, Exs, node_ex, ex2, fun1, no_exs, more_exs}
+use Rattle.ess_semantics.specs.Names.{Names}
+use Rattle.ess_semantics.specs.Types.{Ty}
+use Rattle.ess_semantics.specs.Typing.{type_of}
 use Rattle.ess_semantics.specs.Operators.{as_truth, value_of_node, value_of_binary, value_of_op, false_where_undefined, list_value, any_true}
 use Rattle.ess_semantics.specs.Meaning.{Env, meaning, meanings}
 use Rattle.ess_semantics.specs.Meets.{Meets, MeetsAll}
@@ -16,8 +19,8 @@ use Rattle.ess_semantics.proofs.Orders.{to_list-of_list, same-equal}
 use Rattle.ess_semantics.proofs.Sorting.{holds-sorted_once}
 use Rattle.ess_semantics.proofs.Overlaps.{holds-append}
 use Rattle.ess_semantics.proofs.Multisets.{count-sorted, same-members}
-use Rattle.ess_rules_laws.specs.Rules.{RuleKeeps, RuleKeepsWhere, RuleKeepsNew, Unused}
-use Rattle.ess_rules_laws.specs.MembershipRules.{member_term, member_combined, member_changed, member_listed, equations, IsContainer, CombinedThere, ItemsThere}
+use Rattle.ess_rules_laws.specs.Rules.{RuleKeepsWhere, RuleKeepsNew, Unused}
+use Rattle.ess_rules_laws.specs.MembershipRules.{member_term, member_combined, is_asked, member_of, member_changed, member_listed, equations, IsContainer, CombinedThere, ItemsThere}
 use Rattle.ess_rules_laws.proofs.RuleAnswers.{AnswerKeeps, fires, meets-behind, each-in-any}
 use Rattle.ess_rules_laws.proofs.Horizontal.{in-is-or, any-holds, any-never}
 use Rattle.ess_rules_laws.proofs.Unordered.{same-turned}
@@ -131,15 +134,28 @@ in-mset None (Some s) = refl
 in-mset (Some v) (Some s) =
     ap (λ t. Some (truth t)) (ap (λ l. holds l v) (to_list-of_list (sorted (items_of s))) ∙ same-members (sorted (items_of s)) (items_of s) (count-sorted (items_of s)) v)
 
-changed-answer : (e : Ex) (env : Env) → AnswerKeeps (member_changed e) e env
-changed-answer (ex2 true Op2.Member x (fun1 false Fun.ToSet m)) env = λ h. (in-set (meaning x env) (meaning m env), (h.0, (h.1.0.0, tt)))
-changed-answer (ex2 true Op2.Member x (fun1 false Fun.ToMSet m)) env = λ h. (in-mset (meaning x env) (meaning m env), (h.0, (h.1.0.0, tt)))
-changed-answer (ex2 true Op2.Member x (fun1 false Fun.Parts m)) env = λ h. (in-parts (meaning x env) (meaning m env), (h.0, (h.1.0.0, tt)))
-changed-answer _ env = tt
+-- In m, where `in` means at s what it means at m.
+of-answer : (g : Names Ty) (y : Text) (x m s : Ex) (env : Env) → In2 (meaning x env) (meaning s env) ≡ In2 (meaning x env) (meaning m env) →
+    (Meets s env → Meets m env) → Unused y (ex2 true Op2.Member x m) → AnswerKeeps (member_of g y x m) (ex2 true Op2.Member x s) env
+of-answer g y x m s env q k o = go (is_asked (type_of m g)) (term-answer y (ex2 true Op2.Member x m) env o)
+  where
+    go : (c : Bool) → AnswerKeeps (member_term y (ex2 true Op2.Member x m)) (ex2 true Op2.Member x m) env →
+        AnswerKeeps (if c then Some (ex2 true Op2.Member x m) else member_term y (ex2 true Op2.Member x m)) (ex2 true Op2.Member x s) env
+    go true a = λ h. (q, (h.0, (k h.1.0, tt)))
+    go false a = λ h. let r = a (h.0, (k h.1.0, tt)) in (q ∙ r.0, r.1)
+
+changed-answer : (g : Names Ty) (y : Text) (e : Ex) (env : Env) → Unused y e → AnswerKeeps (member_changed g y e) e env
+changed-answer g y (ex2 true Op2.Member x (fun1 false Fun.ToSet m)) env o =
+    of-answer g y x m (fun1 false Fun.ToSet m) env (in-set (meaning x env) (meaning m env)) (λ h. h.0) (o.0, (o.1.0.0, tt))
+changed-answer g y (ex2 true Op2.Member x (fun1 false Fun.ToMSet m)) env o =
+    of-answer g y x m (fun1 false Fun.ToMSet m) env (in-mset (meaning x env) (meaning m env)) (λ h. h.0) (o.0, (o.1.0.0, tt))
+changed-answer g y (ex2 true Op2.Member x (fun1 false Fun.Parts m)) env o =
+    of-answer g y x m (fun1 false Fun.Parts m) env (in-parts (meaning x env) (meaning m env)) (λ h. h.0) (o.0, (o.1.0.0, tt))
+changed-answer g y _ env o = tt
 
 -- `in` a set, multiset or set of parts that is made of another container.
-pub member_changed-keeps : RuleKeeps member_changed
-member_changed-keeps e f q env = fires (member_changed e) e f env (changed-answer e env) q
+pub member_changed-keeps : (g : Names Ty) → RuleKeepsNew (member_changed g)
+member_changed-keeps g y e f q o env = fires (member_changed g y e) e f env (changed-answer g y e env o) q
 
 -- ---- in a literal
 

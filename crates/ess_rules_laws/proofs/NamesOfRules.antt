@@ -9,15 +9,16 @@ use Rattle.ess_semantics.specs.Order.{same_text}
 use Rattle.ess_semantics.specs.Names.{Names}
 use Rattle.ess_semantics.specs.Trees.{word, set_literal, mset_literal, relation_literal, matrix_literal, Pat, name_pat, Ex, Exs, number_ex, truth_ex, name_ex, node_ex, matrix_ex, comp_ex, cell_ex, seen_ex, ex1, ex2, fun1, no_exs, more_exs, Gens, no_gens, over, from, cond, Dom, Doms, bool_dom, int_dom, name_dom, tuple_dom, record_dom, matrix_dom, set_dom, mset_dom, function_dom, relation_dom, partition_dom, no_doms, more_doms}
 use Rattle.ess_semantics.specs.Types.{Ty}
+use Rattle.ess_semantics.specs.Typing.{type_of}
 use Rattle.ess_semantics.specs.Scoped.{is_bound, with_names}
 use Rattle.ess_semantics.specs.FreeNames.{with_bound_names, FreeNamesAre, FreeNamesAreExs, FreeNamesAreGens, FreeNamesAreDom, FreeNamesAreDoms}
 use Rattle.ess_semantics.proofs.Tests.{or-yes}
 use Rattle.ess_rules_laws.specs.FoldRules.{is_fold, is_laid_open, fold_alone, fold_nothing, fold_one, fold_bare, fold_term}
-use Rattle.ess_rules_laws.specs.MembershipRules.{equations, member_term, member_combined, member_changed, member_listed}
+use Rattle.ess_rules_laws.specs.MembershipRules.{equations, member_term, member_combined, is_asked, member_of, member_changed, member_listed}
 use Rattle.ess_rules_laws.specs.InclusionRules.{unequal, included_turned, included_strictly, included_members, included_often, equal_members, equal_often, equal_pairs}
 use Rattle.ess_rules_laws.specs.SizeRules.{size_term, frequency_term, together_term}
 use Rattle.ess_rules_laws.specs.PartitionRules.{equal_parts}
-use Rattle.ess_rules_laws.specs.ListRules.{list_term, lex_left, lex_right, different_term}
+use Rattle.ess_rules_laws.specs.ListRules.{members_list, list_term, as_members, lex_both, different_term}
 use Rattle.ess_rules_laws.specs.LooseRules.{fold_loosely}
 use Rattle.ess_rules_laws.specs.NamesStay.{AddsNoNames}
 use Rattle.ess_rules_laws.specs.NamesOfRules.{RulesAddNoNames}
@@ -158,11 +159,20 @@ in-two (ex2 true Op2.Member x (ex2 false Op2.Intersect a b)) = λ u h. ((h.0, (h
 in-two (ex2 true Op2.Member x (ex2 false Op2.Minus a b)) = λ u h. ((h.0, (h.1.0.0, tt)), (((h.0, (h.1.0.1.0, tt)), tt), tt))
 in-two _ = tt
 
-changed : (e : Ex) → Adds (member_changed e) e
-changed (ex2 true Op2.Member x (fun1 false Fun.ToSet m)) = λ u h. (h.0, (h.1.0.0, tt))
-changed (ex2 true Op2.Member x (fun1 false Fun.ToMSet m)) = λ u h. (h.0, (h.1.0.0, tt))
-changed (ex2 true Op2.Member x (fun1 false Fun.Parts m)) = λ u h. (h.0, (h.1.0.0, tt))
-changed _ = tt
+-- In m, where m uses no other names than s.
+of-one-in : (g : Names Ty) (y : Text) (x m s : Ex) → AddsNoNames (ex2 true Op2.Member x s) (ex2 true Op2.Member x m) →
+    Adds (member_of g y x m) (ex2 true Op2.Member x s)
+of-one-in g y x m s k = go (is_asked (type_of m g))
+  where
+    go : (c : Bool) → Adds (if c then Some (ex2 true Op2.Member x m) else member_term y (ex2 true Op2.Member x m)) (ex2 true Op2.Member x s)
+    go true = k
+    go false = λ u h. member y (ex2 true Op2.Member x m) u (k u h)
+
+changed : (g : Names Ty) (y : Text) (e : Ex) → Adds (member_changed g y e) e
+changed g y (ex2 true Op2.Member x (fun1 false Fun.ToSet m)) = of-one-in g y x m (fun1 false Fun.ToSet m) (λ u h. (h.0, (h.1.0.0, tt)))
+changed g y (ex2 true Op2.Member x (fun1 false Fun.ToMSet m)) = of-one-in g y x m (fun1 false Fun.ToMSet m) (λ u h. (h.0, (h.1.0.0, tt)))
+changed g y (ex2 true Op2.Member x (fun1 false Fun.Parts m)) = of-one-in g y x m (fun1 false Fun.Parts m) (λ u h. (h.0, (h.1.0.0, tt)))
+changed g y _ = tt
 
 in-literal : (e : Ex) → Adds (member_listed e) e
 in-literal (ex2 true Op2.Member x (node_ex false set_literal es)) = λ u h. (equations-free x es u h.0 h.1.0, tt)
@@ -239,13 +249,16 @@ list-of : (x : Text) (e : Ex) → Adds (list_term x e) e
 list-of x (fun1 b f s) = adds-so _ _ (fun1 b f s) (λ u h. (((h.0, tt), bound x u), tt))
 list-of x _ = tt
 
-left : (x : Text) (e : Ex) → Adds (lex_left x e) e
-left x (ex2 true o a b) = adds-so _ _ (ex2 true o a b) (λ u h. (((h.0, tt), bound x u), (h.1.0, tt)))
-left x _ = tt
+as-free : (x : Text) (s : Ex) → AddsNoNames s (as_members x s)
+as-free x s = go (is_laid_open s)
+  where
+    go : (c : Bool) → AddsNoNames s (if c then s else members_list x s)
+    go true = λ u h. h
+    go false = λ u h. ((h, tt), bound x u)
 
-right : (x : Text) (e : Ex) → Adds (lex_right x e) e
-right x (ex2 true o a b) = adds-so _ _ (ex2 true o a b) (λ u h. (h.0, (((h.1.0, tt), bound x u), tt)))
-right x _ = tt
+both-sides : (x : Text) (e : Ex) → Adds (lex_both x e) e
+both-sides x (ex2 true o a b) = adds-so _ _ (ex2 true o a b) (λ u h. (as-free x a u h.0, (as-free x b u h.1.0, tt)))
+both-sides x _ = tt
 
 different : (x : Text) (e : Ex) → Adds (different_term x e) e
 different x (fun1 true Fun.AllDiff l) = λ u h. (((h.0, tt), (((behind x u l h.0, tt), (bound x u, tt)), (tt, tt))), tt)
@@ -262,7 +275,7 @@ rules-add-none = record {
   loose_folds = λ e f q. adds _ e f (loosely e) q;
   in_a_term = λ x e f q. adds _ e f (member x e) q;
   in_two = λ e f q. adds _ e f (in-two e) q;
-  in_one_made_of_another = λ e f q. adds _ e f (changed e) q;
+  in_one_made_of_another = λ g x e f q. adds _ e f (changed g x e) q;
   in_a_literal = λ e f q. adds _ e f (in-literal e) q;
   not_equal = λ e f q. adds _ e f (not-equal e) q;
   turned = λ e f q. adds _ e f (turned e) q;
@@ -277,7 +290,6 @@ rules-add-none = record {
   frequency = λ x e f q. adds _ e f (frequency-of x e) q;
   together = λ x e f q. adds _ e f (together-of x e) q;
   lists_of_a_term = λ x e f q. adds _ e f (list-of x e) q;
-  lists_on_the_left = λ x e f q. adds _ e f (left x e) q;
-  lists_on_the_right = λ x e f q. adds _ e f (right x e) q;
+  lists_on_both_sides = λ x e f q. adds _ e f (both-sides x e) q;
   all_different = λ x e f q. adds _ e f (different x e) q;
 }

@@ -20,7 +20,7 @@ use Rattle.ess_rules_laws.specs.ComponentRules.{has_text, are_fields, equal_wher
 use Rattle.ess_rules_laws.specs.SizeRules.{is_counted}
 use Rattle.ess_rules_laws.specs.MatrixRules.{both_matrices, equal_each_at}
 use Rattle.ess_rules_laws.specs.ListRules.{is_of_list, is_lex}
-use Rattle.ess_rules_laws.specs.Progress.{Fires, by_unequal, by_turned, by_strictly, by_often, by_member, by_size, by_frequency, by_together, by_fold, by_list, by_left, by_right, by_components, by_fields, by_sets, by_msets, by_functions, by_partitions, by_matrices, is_parted, looks_into, OperatorsHaveRules}
+use Rattle.ess_rules_laws.specs.Progress.{Fires, by_unequal, by_turned, by_strictly, by_often, by_member, by_size, by_frequency, by_together, by_fold, by_list, by_lists, by_components, by_fields, by_sets, by_msets, by_functions, by_partitions, by_matrices, is_parted, looks_into, OperatorsHaveRules}
 
 no : {A : Type 0} → false ≡ true → A
 no h = cc
@@ -143,11 +143,7 @@ module _ (g : Names Ty) (x : Text) (d : Dom) (a b : Ex) where
 
   -- A sign that compares lists.
   lists : (o : Op2) → is_lex o && (not (is_laid_open a) || not (is_laid_open b)) ≡ true → Fires g x d (ex2 true o a b)
-  lists o h = go (not (is_laid_open a)) refl (and-left (is_lex o) _ h) (and-right (is_lex o) _ h)
-    where
-      go : (s : Bool) → not (is_laid_open a) ≡ s → is_lex o ≡ true → s || not (is_laid_open b) ≡ true → Fires g x d (ex2 true o a b)
-      go true q l t = by_left (so (is_lex o && not (is_laid_open a)) _ (and-both (is_lex o) (not (is_laid_open a)) l q))
-      go false q l t = by_right (so (is_lex o && not (is_laid_open b)) _ (and-both (is_lex o) (not (is_laid_open b)) l t))
+  lists o h = by_lists (so (is_lex o && (not (is_laid_open a) || not (is_laid_open b))) _ h)
 
   two : (o : Op2) → looks_into g o a b ≡ true → is_some (type_of (ex2 true o a b) g) ≡ true → Fires g x d (ex2 true o a b)
   two Op2.Eq h t = equation (type_of a g) (type_of b g) refl refl (and-left (is_parted (type_of a g)) _ h)

@@ -1,5 +1,5 @@
 -- Rules of `min`, `max` and `allDiff` and of the signs that compare lists, on terms that aren't laid open as lists.
-use Rattle.std.specs.Prelude.{Bool, true, false, ◌&&◌, not, pos, Option, Some, None, if◌then◌else◌}
+use Rattle.std.specs.Prelude.{Bool, true, false, ◌&&◌, ◌||◌, not, pos, Option, Some, None, if◌then◌else◌}
 use Rattle.ess_semantics.specs.declared.words.Op2.{Op2}
 use Rattle.ess_semantics.specs.declared.words.Fun.{Fun}
 use Rattle.ess_semantics.specs.Values.{Text}
@@ -32,15 +32,16 @@ is_lex Op2.LexGt = true
 is_lex Op2.LexGe = true
 is_lex o = false
 
--- `a <lex b` is `[x | x <- a] <lex b`, so it is with the other signs.
-abbrev pub lex_left : Text → Ex → Option Ex
-lex_left x (ex2 true o a b) = if is_lex o && not (is_laid_open a) then Some (ex2 true o (members_list x a) b) else None
-lex_left x e = None
+-- A term as a list: itself where it is laid open, else the list of its members.
+abbrev pub as_members : Text → Ex → Ex
+as_members x s = if is_laid_open s then s else members_list x s
 
--- The same on the right.
-abbrev pub lex_right : Text → Ex → Option Ex
-lex_right x (ex2 true o a b) = if is_lex o && not (is_laid_open b) then Some (ex2 true o a (members_list x b)) else None
-lex_right x e = None
+-- `a <lex b` is `[x | x <- a] <lex [x | x <- b]`, where one of them isn't laid open; so it is with the other signs. Both become lists at
+-- once: matrices over one index domain have one type, and so have their lists, but not a matrix over truth values and a list.
+abbrev pub lex_both : Text → Ex → Option Ex
+lex_both x (ex2 true o a b) =
+    if is_lex o && (not (is_laid_open a) || not (is_laid_open b)) then Some (ex2 true o (as_members x a) (as_members x b)) else None
+lex_both x e = None
 
 -- `allDiff(l)` is `and([freq(toMSet(l), x) = 1 | x <- l])`: each item is there once.
 abbrev pub different_term : Text → Ex → Option Ex
@@ -51,6 +52,5 @@ different_term x e = None
 -- So they keep what they rewrite.
 pub record ListRulesKeep : Type 0 where
   pub of_a_term : RuleKeepsNew list_term
-  pub on_the_left : RuleKeepsNew lex_left
-  pub on_the_right : RuleKeepsNew lex_right
+  pub on_both_sides : RuleKeepsNew lex_both
   pub all_different : RuleKeepsNew different_term

@@ -1,11 +1,14 @@
 -- Rules of `in`.
-use Rattle.std.specs.Prelude.{true, false, Option, Some, None, IsTrue, is_some}
+use Rattle.std.specs.Prelude.{Bool, true, false, Option, Some, None, if◌then◌else◌, IsTrue, is_some}
 use Rattle.std.specs.List.{list_all}
 use Rattle.ess_semantics.specs.declared.words.Op1.{Op1}
 use Rattle.ess_semantics.specs.declared.words.Op2.{Op2}
 use Rattle.ess_semantics.specs.declared.words.Fun.{Fun}
-use Rattle.ess_semantics.specs.Values.{Text, a_set, a_relation, Value, node}
+use Rattle.ess_semantics.specs.Values.{Text, a_set, a_mset, a_relation, Value, node}
+use Rattle.ess_semantics.specs.Names.{Names}
 use Rattle.ess_semantics.specs.Trees.{set_literal, mset_literal, relation_literal, matrix_literal, name_pat, Ex, Exs, name_ex, node_ex, comp_ex, ex1, ex2, fun1, no_exs, more_exs, no_gens, from}
+use Rattle.ess_semantics.specs.Types.{Ty, compound}
+use Rattle.ess_semantics.specs.Typing.{type_of}
 use Rattle.ess_semantics.specs.Meaning.{Env, meaning, meanings}
 
 -- `x in s` is `or([y = x | y <- s])`.
@@ -21,12 +24,24 @@ member_combined (ex2 true Op2.Member x (ex2 false Op2.Intersect a b)) = Some (ex
 member_combined (ex2 true Op2.Member x (ex2 false Op2.Minus a b)) = Some (ex2 true Op2.And (ex2 true Op2.Member x a) (ex1 true Op1.Not (ex2 true Op2.Member x b)))
 member_combined e = None
 
--- A set made of a multiset, list or relation has the same members, and so has a multiset made of a set.
-abbrev pub member_changed : Ex → Option Ex
-member_changed (ex2 true Op2.Member x (fun1 false Fun.ToSet m)) = Some (ex2 true Op2.Member x m)
-member_changed (ex2 true Op2.Member x (fun1 false Fun.ToMSet s)) = Some (ex2 true Op2.Member x s)
-member_changed (ex2 true Op2.Member x (fun1 false Fun.Parts p)) = Some (ex2 true Op2.Member x p)
-member_changed e = None
+-- Whether the type is of containers of which `in` asks: it asks of no function, no partition and no matrix.
+abbrev pub is_asked : Option Ty → Bool
+is_asked (Some (compound a_set ts)) = true
+is_asked (Some (compound a_mset ts)) = true
+is_asked (Some (compound a_relation ts)) = true
+is_asked t = false
+
+-- That x is a member of m: `x in m` where `in` asks of m, else `or([y = x | y <- m])`.
+abbrev pub member_of : Names Ty → Text → Ex → Ex → Option Ex
+member_of g y x m = if is_asked (type_of m g) then Some (ex2 true Op2.Member x m) else member_term y (ex2 true Op2.Member x m)
+
+-- A set made of a multiset, list, function or relation has the same members, so has a multiset made of a set or a list, and so have
+-- the parts of a partition.
+abbrev pub member_changed : Names Ty → Text → Ex → Option Ex
+member_changed g y (ex2 true Op2.Member x (fun1 false Fun.ToSet m)) = member_of g y x m
+member_changed g y (ex2 true Op2.Member x (fun1 false Fun.ToMSet s)) = member_of g y x s
+member_changed g y (ex2 true Op2.Member x (fun1 false Fun.Parts p)) = member_of g y x p
+member_changed g y e = None
 
 -- That x is one of these.
 abbrev pub equations : Ex → Exs → Exs

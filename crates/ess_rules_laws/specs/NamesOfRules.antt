@@ -9,7 +9,7 @@ use Rattle.ess_rules_laws.specs.MembershipRules.{member_term, member_combined, m
 use Rattle.ess_rules_laws.specs.InclusionRules.{unequal, included_turned, included_strictly, included_members, included_often, equal_members, equal_often, equal_pairs}
 use Rattle.ess_rules_laws.specs.SizeRules.{size_term, frequency_term, together_term}
 use Rattle.ess_rules_laws.specs.PartitionRules.{equal_parts}
-use Rattle.ess_rules_laws.specs.ListRules.{list_term, lex_left, lex_right, different_term}
+use Rattle.ess_rules_laws.specs.ListRules.{list_term, lex_both, different_term}
 use Rattle.ess_rules_laws.specs.LooseRules.{fold_loosely}
 use Rattle.ess_rules_laws.specs.NamesStay.{AddsNoNames}
 
@@ -35,7 +35,7 @@ pub record RulesAddNoNames : Type 0 where
   pub loose_folds : RuleAddsNone fold_loosely
   pub in_a_term : RuleAddsNoneNew member_term
   pub in_two : RuleAddsNone member_combined
-  pub in_one_made_of_another : RuleAddsNone member_changed
+  pub in_one_made_of_another : RuleAddsNoneTyped member_changed
   pub in_a_literal : RuleAddsNone member_listed
   pub not_equal : RuleAddsNone unequal
   pub turned : RuleAddsNone included_turned
@@ -50,6 +50,5 @@ pub record RulesAddNoNames : Type 0 where
   pub frequency : RuleAddsNoneNew frequency_term
   pub together : RuleAddsNoneNew together_term
   pub lists_of_a_term : RuleAddsNoneNew list_term
-  pub lists_on_the_left : RuleAddsNoneNew lex_left
-  pub lists_on_the_right : RuleAddsNoneNew lex_right
+  pub lists_on_both_sides : RuleAddsNoneNew lex_both
   pub all_different : RuleAddsNoneNew different_term

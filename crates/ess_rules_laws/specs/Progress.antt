@@ -17,7 +17,7 @@ use Rattle.ess_rules_laws.specs.ComponentRules.{are_fields, equal_components, eq
 use Rattle.ess_rules_laws.specs.SizeRules.{size_term, frequency_term, together_term}
 use Rattle.ess_rules_laws.specs.PartitionRules.{equal_parts}
 use Rattle.ess_rules_laws.specs.MatrixRules.{equal_items}
-use Rattle.ess_rules_laws.specs.ListRules.{is_of_list, list_term, is_lex, lex_left, lex_right}
+use Rattle.ess_rules_laws.specs.ListRules.{is_of_list, list_term, is_lex, lex_both}
 use Rattle.ess_rules_laws.specs.Listings.{Alternative, is_strict, listing}
 use Rattle.ess_rules_laws.specs.ContainerListings.{made_listing, range_as_set}
 
@@ -36,8 +36,7 @@ module _ (g : Names Ty) (x : Text) (d : Dom) where
     by_together : {e f : Ex} → together_term x e ≡ Some f → Fires e
     by_fold : {e f : Ex} → fold_term x e ≡ Some f → Fires e
     by_list : {e f : Ex} → list_term x e ≡ Some f → Fires e
-    by_left : {e f : Ex} → lex_left x e ≡ Some f → Fires e
-    by_right : {e f : Ex} → lex_right x e ≡ Some f → Fires e
+    by_lists : {e f : Ex} → lex_both x e ≡ Some f → Fires e
     by_components : {e f : Ex} → equal_components g x e ≡ Some f → Fires e
     by_fields : {e f : Ex} → equal_fields g x e ≡ Some f → Fires e
     by_sets : {e f : Ex} → equal_members g x e ≡ Some f → Fires e

@@ -32,7 +32,7 @@ pub record FoldRulesKeep : Type 0 where
 pub record MembershipRulesKeep : Type 0 where
   pub in_a_term : RuleKeepsNew member_term
   pub in_two : RuleKeepsWhere CombinedThere member_combined
-  pub in_one_made_of_another : RuleKeeps member_changed
+  pub in_one_made_of_another : (g : Names Ty) → RuleKeepsNew (member_changed g)
   pub in_a_literal : RuleKeepsWhere ItemsThere member_listed
   pub in_what_a_function_has : RuleKeepsWithin member_of_function
   pub in_its_pairs : RuleKeepsNew member_related
