@@ -1,0 +1,2 @@
+pub mod ExamplesForms
+pub mod FormLemmas

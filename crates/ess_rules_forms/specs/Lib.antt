@@ -1,0 +1,2 @@
+-- Forms of roots
+pub mod Forms
