@@ -15,8 +15,8 @@ use Rattle.ess_rules_laws.specs.SlotListings.{slots_dom}
 -- The table w as a function from the members of d to the numbers up to n.
 abbrev pub numbering : Ex → Dom → Text → Exs → Ex
 numbering n d w js =
-    seen_ex (repr ReprKind.Function1D (more_reprs (repr ReprKind.Atom no_reprs) no_reprs)) (function_dom (flag Key.Total ∷ []) no_exs d (slots_dom n))
-    (w ∷ []) js
+    seen_ex (repr ReprKind.Function1D (more_reprs (repr ReprKind.Atom no_reprs) no_reprs))
+    (function_dom (flag Key.Total ∷ []) no_exs d (slots_dom n)) (w ∷ []) js
 
 -- The members with the number x.
 abbrev pub part_numbered : Ex → Dom → Text → Exs → Text → Ex
