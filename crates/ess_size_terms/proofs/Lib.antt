@@ -1,0 +1,4 @@
+mod RangeSteps
+mod SizeSteps
+mod Products
+mod Examples

@@ -1,0 +1,2 @@
+-- The forms of ranges that sizes ask for
+pub mod RangeForms
