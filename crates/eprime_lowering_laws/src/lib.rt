@@ -1,0 +1,4 @@
+//! Which refined trees are expressions of models.
+#![tactic(auto)]
+
+pub mod laws;
