@@ -1,2 +1,0 @@
-pub mod TypedNames
-pub mod StepsTaken
