@@ -3,20 +3,19 @@ ghost use Rattle.std.specs.Prelude.{◌≡◌, Some, if◌then◌else◌, map, o
 ghost use Rattle.ess_semantics.specs.Lists.{and_then, all_some};
 ghost use Rattle.ess_semantics.specs.Values.{a_matrix};
 ghost use Rattle.ess_semantics.specs.Names.{look};
-ghost use Rattle.ess_semantics.specs.Trees.{index};
 ghost use Rattle.ess_semantics.specs.Types.{bool_ty, int_ty, compound2, join_all as join_of_all, type_of_dom as members_of};
-ghost use Rattle.ess_semantics.specs.Typing.{type_of, types_of, types_under, type_of_node, statics, number_cell_ty};
+ghost use Rattle.ess_semantics.specs.Typing.{type_of, types_of, type_of_node, statics, number_cell_ty};
 ghost use Rattle.ess_core.specs.TypeViews.{pure_ty};
-ghost use Rattle.ess_core_nodes.specs.NodeViews.{pure_node, pure_nodes, pure_dom, pure_gens, pure_op, pure_step};
+ghost use Rattle.ess_core_nodes.specs.NodeViews.{pure_node, pure_nodes, pure_dom, pure_op};
 ghost use Rattle.ess_node_types.specs.TypedNames.{pure_names};
 
 use crate::domains::type_of_dom;
 use crate::generators::types_under;
-use crate::indices::type_behind;
+use crate::indices::type_of_index;
 use crate::names::NameTypes;
 use crate::operators::type_of_op;
 use ess_core::Ty;
-use ess_core_nodes::{Gen, Node, NodeDom, Op, Step};
+use ess_core_nodes::{Node, NodeDom, Op};
 use ess_rows::{Boxed, NoMemory, Row, Text};
 use ess_types_operators::{join_all, number_cell_type, type_of_comprehension};
 use std::alloc::Global;
@@ -24,12 +23,8 @@ use std::alloc::Global;
 /// The type of an expression under the types of names, where its parts' types fit. `NoMemory` where there is no room for it, and
 /// where a record's domain hasn't as many names as domains.
 #[cycle(type_of)]
-#[tactic(auto, using(ess_core_nodes::proofs::NodeEquations::pure_seen_is))]
-pub fn type_of(
-    alloc: Global,
-    node: &Node,
-    names: &NameTypes,
-) -> Result<Option<Boxed<Ty>>, NoMemory>
+#[tactic(auto, using(ess_core_nodes::proofs::NodeEquations::pure_seen_is, crate::proofs::OperatorNodes::comp_none, crate::proofs::OperatorNodes::comp_some))]
+pub fn type_of(alloc: Global, node: &Node, names: &NameTypes) -> Result<Option<Boxed<Ty>>, NoMemory>
     ensures { IfOk result (λ o. option_map pure_ty o ≡ type_of (pure_node node.now) (pure_names names.now)) }
 {
     match node {
@@ -41,7 +36,10 @@ pub fn type_of(
             let tys = types_of(alloc, items.as_slice(), names)?;
             type_of_matrix(alloc, tys, axis.get())
         }
-        Node::Comp(body, gens) => type_of_comp(alloc, body.get(), gens.as_slice(), names),
+        Node::Comp(body, gens) => match types_under(alloc, gens.as_slice(), names)? {
+            Some(under) => type_of_items(alloc, type_of(alloc, body.get(), &under)?),
+            None => Ok(None),
+        },
         Node::Cell(is_bool, name, _) => type_of_cell(alloc, *is_bool, name, names),
         Node::Seen(seen) => Ok(Some(type_of_dom(alloc, seen.get().dom.get())?)),
     }
@@ -49,7 +47,7 @@ pub fn type_of(
 
 /// The types of expressions, where each has one. `NoMemory` where there is no room for them.
 #[cycle(type_of)]
-#[tactic(auto, using(crate::proofs::Operands::nodes_more, crate::proofs::Operands::nodes_none, crate::proofs::Operands::nodes_end))]
+#[tactic(auto, using(crate::proofs::Operands::nodes_more, crate::proofs::Operands::nodes_none, crate::proofs::Operands::nodes_end, crate::proofs::Operands::ahead_nothing))]
 pub fn types_of(
     alloc: Global,
     nodes: &[Node],
@@ -65,6 +63,23 @@ pub fn types_of(
         }
     }
     Ok(Some(tys))
+}
+
+/// The types of expressions, there or not, one by one.
+#[cycle(type_of)]
+#[tactic(auto, using(crate::proofs::Operands::each_more, crate::proofs::Operands::each_end))]
+fn each_type(
+    alloc: Global,
+    nodes: &[Node],
+    names: &NameTypes,
+) -> Result<Row<Option<Boxed<Ty>>>, NoMemory>
+    ensures { IfOk result (λ r. map (option_map pure_ty) r ≡ types_of (pure_nodes nodes.now) (pure_names names.now)) }
+{
+    let mut tys = Row::new(alloc);
+    for node in nodes {
+        tys.push(type_of(alloc, node, names)?)?;
+    }
+    Ok(tys)
 }
 
 /// The type of a name.
@@ -83,47 +98,24 @@ fn type_of_name(
 
 /// The type of an operator's node.
 #[cycle(type_of)]
-#[tactic(auto, using(crate::proofs::OperatorNodes::typed_otherwise))]
 fn type_of_node(
     alloc: Global,
     op: &Op,
     operands: &[Node],
     names: &NameTypes,
 ) -> Result<Option<Boxed<Ty>>, NoMemory>
-    ensures {
-        IfOk result (λ o. option_map pure_ty o ≡
-            type_of_node (pure_op op.now) (statics (pure_nodes operands.now)) (types_of (pure_nodes operands.now) (pure_names names.now)))
-    }
+    ensures { IfOk result (λ o. option_map pure_ty o ≡
+        type_of_node (pure_op op.now) (statics (pure_nodes operands.now)) (types_of (pure_nodes operands.now) (pure_names names.now))) }
 {
     match op {
-        Op::Index(steps) => type_of_index(alloc, steps.as_slice(), operands, names),
+        Op::Index(steps) => {
+            let tys = each_type(alloc, operands, names)?;
+            type_of_index(alloc, steps.as_slice(), operands, tys.as_slice())
+        }
         _ => match types_of(alloc, operands, names)? {
             Some(tys) => type_of_op(alloc, op, tys),
             None => Ok(None),
         },
-    }
-}
-
-/// The type of an index: the first operand is what is indexed, the others are the values of steps.
-#[cycle(type_of)]
-#[tactic(auto, using(crate::proofs::OperatorNodes::index_none, crate::proofs::OperatorNodes::index_some))]
-fn type_of_index(
-    alloc: Global,
-    steps: &[Step],
-    operands: &[Node],
-    names: &NameTypes,
-) -> Result<Option<Boxed<Ty>>, NoMemory>
-    ensures {
-        IfOk result (λ o. option_map pure_ty o ≡ type_of_node (index (map pure_step steps.now)) (statics (pure_nodes operands.now))
-            (types_of (pure_nodes operands.now) (pure_names names.now)))
-    }
-{
-    match operands.split_first() {
-        Some((place, values)) => match type_of(alloc, place, names)? {
-            Some(ty) => type_behind(alloc, steps, ty, values, names),
-            None => Ok(None),
-        },
-        None => Ok(None),
     }
 }
 
@@ -133,10 +125,8 @@ fn type_of_matrix(
     tys: Option<Row<Ty>>,
     axis: &NodeDom,
 ) -> Result<Option<Boxed<Ty>>, NoMemory>
-    ensures {
-        IfOk result (λ o. option_map pure_ty o ≡
-            and_then (option_map (map pure_ty) tys) (λ ts. option_map (compound2 a_matrix (members_of (pure_dom axis.now))) (join_of_all ts)))
-    }
+    ensures { IfOk result (λ o. option_map pure_ty o ≡
+        and_then (option_map (map pure_ty) tys) (λ ts. option_map (compound2 a_matrix (members_of (pure_dom axis.now))) (join_of_all ts))) }
 {
     match tys {
         Some(tys) => matrix_of(alloc, axis, join_all(alloc, tys.as_slice())?),
@@ -150,37 +140,12 @@ fn matrix_of(
     axis: &NodeDom,
     item: Option<Boxed<Ty>>,
 ) -> Result<Option<Boxed<Ty>>, NoMemory>
-    ensures {
-        IfOk result (λ o. option_map pure_ty o ≡ option_map (compound2 a_matrix (members_of (pure_dom axis.now))) (option_map pure_ty item))
-    }
+    ensures { IfOk result (λ o. option_map pure_ty o ≡ option_map (compound2 a_matrix (members_of (pure_dom axis.now))) (option_map pure_ty item)) }
 {
     match item {
         Some(item) => {
             let index = type_of_dom(alloc, axis)?;
             Ok(Some(Boxed::new(alloc, Ty::Matrix(index, item))?))
-        }
-        None => Ok(None),
-    }
-}
-
-/// The type of a comprehension.
-#[cycle(type_of)]
-#[tactic(auto, using(crate::proofs::OperatorNodes::comp_none, crate::proofs::OperatorNodes::comp_some))]
-fn type_of_comp(
-    alloc: Global,
-    body: &Node,
-    gens: &[Gen],
-    names: &NameTypes,
-) -> Result<Option<Boxed<Ty>>, NoMemory>
-    ensures {
-        IfOk result (λ o. option_map pure_ty o ≡ and_then (types_under (pure_gens gens.now) (pure_names names.now))
-            (λ h. option_map (compound2 a_matrix int_ty) (type_of (pure_node body.now) h)))
-    }
-{
-    match types_under(alloc, gens, names)? {
-        Some(under) => {
-            let item = type_of(alloc, body, &under)?;
-            type_of_items(alloc, item)
         }
         None => Ok(None),
     }
@@ -203,10 +168,8 @@ fn type_of_cell(
     name: &Text,
     names: &NameTypes,
 ) -> Result<Option<Boxed<Ty>>, NoMemory>
-    ensures {
-        IfOk result (λ o. option_map pure_ty o ≡
-            Some (if is_bool then bool_ty else number_cell_ty (look (pure_names names.now) name.now)))
-    }
+    ensures { IfOk result (λ o. option_map pure_ty o ≡
+        Some (if is_bool then bool_ty else number_cell_ty (look (pure_names names.now) name.now))) }
 {
     if is_bool {
         Ok(Some(Boxed::new(alloc, Ty::Bool)?))

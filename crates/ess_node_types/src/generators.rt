@@ -21,7 +21,7 @@ use std::alloc::Global;
 
 /// The types of names under generators, where the generators' own types fit. `NoMemory` where there is no room for them.
 #[cycle(type_of)]
-#[tactic(auto, using(crate::proofs::Generators::gens_more, crate::proofs::Generators::gens_none, crate::proofs::Generators::gens_end))]
+#[tactic(auto, using(crate::proofs::GeneratorTypes::gens_more, crate::proofs::GeneratorTypes::gens_none, crate::proofs::GeneratorTypes::gens_end))]
 pub fn types_under(
     alloc: Global,
     gens: &[Gen],
@@ -70,7 +70,7 @@ fn enter_domain(
 
 /// Binds the names of a generator over the members of a value, where it may have some.
 #[cycle(type_of)]
-#[tactic(auto, using(crate::proofs::Generators::source_none, crate::proofs::Generators::source_some))]
+#[tactic(auto, using(crate::proofs::GeneratorTypes::source_none, crate::proofs::GeneratorTypes::source_some))]
 fn enter_source(
     alloc: Global,
     source: &Node,
@@ -101,7 +101,7 @@ fn member_of(alloc: Global, ty: Option<Boxed<Ty>>) -> Result<Option<Boxed<Ty>>, 
 
 /// Whether a condition is a truth value.
 #[cycle(type_of)]
-#[tactic(auto, using(crate::proofs::Generators::condition_none, crate::proofs::Generators::condition_some))]
+#[tactic(auto, using(crate::proofs::GeneratorTypes::condition_none, crate::proofs::GeneratorTypes::condition_some))]
 fn is_condition(alloc: Global, condition: &Node, names: &NameTypes) -> Result<bool, NoMemory>
     ensures { IfOk result (λ r. types_under (cond (pure_node condition.now) no_gens) (pure_names names.now) ≡ when r (pure_names names.now)) }
 {
@@ -124,12 +124,8 @@ pub fn source_type(alloc: Global, source: &Node, names: &NameTypes) -> Result<Bo
 }
 
 /// The types of names behind generators, whether these fit or not. `NoMemory` where there is no room for them.
-#[tactic(auto, using(crate::proofs::Generators::behind_more, crate::proofs::Generators::behind_end))]
-pub fn names_behind(
-    alloc: Global,
-    gens: &[Gen],
-    names: &NameTypes,
-) -> Result<NameTypes, NoMemory>
+#[tactic(auto, using(crate::proofs::GeneratorTypes::behind_more, crate::proofs::GeneratorTypes::behind_end))]
+pub fn names_behind(alloc: Global, gens: &[Gen], names: &NameTypes) -> Result<NameTypes, NoMemory>
     ensures { IfOk result (λ n. pure_names n ≡ names_behind (pure_gens gens.now) (pure_names names.now)) }
 {
     let mut behind = names.copy(alloc)?;

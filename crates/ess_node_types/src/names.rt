@@ -7,6 +7,7 @@ ghost use Rattle.ess_semantics.specs.Names.{look};
 ghost use Rattle.ess_semantics.specs.Types.{bind_types as bind};
 ghost use Rattle.ess_core.specs.TreeViews.{pure_pat};
 ghost use Rattle.ess_core.specs.TypeViews.{pure_ty};
+ghost use Rattle.ess_types_operators.specs.Parts.{newest_first};
 ghost use Rattle.ess_node_types.specs.TypedNames.{pure_names};
 
 use ess_core::{FieldTy, Pat, Ty};
@@ -64,14 +65,21 @@ impl NameTypes {
     }
 
     /// The type of a name, if it is among these.
-    #[tactic(auto, using(crate::proofs::NewestNames::type_there, crate::proofs::NewestNames::type_none))]
     pub fn look(&self, name: &Text) -> Option<&Ty>
         ensures { option_map pure_ty (option_copied result) ≡ look (pure_names self.now) name.now }
     {
-        match newest(self.names.as_slice(), name) {
-            Some(named) => Some(&named.ty),
-            None => None,
-        }
+        type_in(self.names.as_slice(), name)
+    }
+}
+
+/// The type of the last of the names that is this one.
+#[tactic(auto, using(crate::proofs::NewestNames::type_there, crate::proofs::NewestNames::type_none))]
+fn type_in<'a>(names: &'a [FieldTy], name: &Text) -> Option<&'a Ty>
+    ensures { option_map pure_ty (option_copied result) ≡ look (newest_first names.now) name.now }
+{
+    match newest(names, name) {
+        Some(named) => Some(&named.ty),
+        None => None,
     }
 }
 

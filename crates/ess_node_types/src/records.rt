@@ -27,7 +27,11 @@ pub(crate) fn record_type(alloc: Global, names: &[Text], tys: &[Ty]) -> Result<B
 }
 
 /// The type of a record literal whose fields have these names and types. `NoMemory` where there is no room for it.
-pub(crate) fn type_of_record(alloc: Global, names: &[Text], tys: &[Ty]) -> Result<Boxed<Ty>, NoMemory>
+pub(crate) fn type_of_record(
+    alloc: Global,
+    names: &[Text],
+    tys: &[Ty],
+) -> Result<Boxed<Ty>, NoMemory>
     ensures { IfOk result (λ t. pure_ty t ≡ record_ty (by_name (zip names.now (map pure_ty tys.now)))) }
 {
     let named = named_types(alloc, names, tys)?;
