@@ -1,0 +1,2 @@
+pub mod TypedNames
+pub mod StepsTaken

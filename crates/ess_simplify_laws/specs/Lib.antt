@@ -1,0 +1,4 @@
+pub mod Simplifying
+pub mod SimplerRoots
+pub mod Laws
+pub mod TruthsThere
