@@ -1,0 +1,4 @@
+-- Rows one by one
+pub mod Rows
+-- Worked examples
+pub mod ExamplesItems
