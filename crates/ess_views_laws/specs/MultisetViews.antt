@@ -40,7 +40,7 @@ abbrev pub counted_members : Text → Text → Ex → Ex → Ex → Option Alter
 counted_members x y n o (seen_ex (repr ReprKind.MSetExplicitWithFlags (more_reprs r no_reprs)) (mset_dom ms es d) (t ∷ ns) js) =
     Some (record {
       gens = over (name_pat x) (slots_dom n) (over (name_pat y) (slots_dom o)
-      (cond (ex2 true Op2.Le (name_ex y) (number_at t js x)) no_gens));
+          (cond (ex2 true Op2.Le (name_ex y) (number_at t js x)) no_gens));
       item = seen_ex r d ns (put_last js (name_ex x));
     })
 counted_members x y n o e = None
