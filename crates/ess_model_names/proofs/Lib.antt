@@ -1,0 +1,12 @@
+-- Names bound around a place
+pub mod ScopeLaws
+-- Trees made one by one
+pub mod Before
+pub mod Loops
+pub mod ToldLoops
+pub mod ToldItems
+pub mod PrintedItems
+pub mod PrintedNames
+pub mod ShownParts
+pub mod SameShown
+pub mod Tables
