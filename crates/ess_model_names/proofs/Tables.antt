@@ -83,8 +83,8 @@ module _ {A V W : Type 0} (f : V → W) where
           → lookup (λ x. bytes_eq a (string_bytes x)) (insert_entry string_eq es k t)
           ≡ (if bytes_eq a (string_bytes k) then Some t else lookup (λ x. bytes_eq a (string_bytes x)) es)
           → lookup (λ x. bytes_eq a (string_bytes x)) (if b then (e.0, t) ∷ es else e ∷ insert_entry string_eq es k t)
-          ≡ (if bytes_eq a (string_bytes k) then Some t
-      else cond (bytes_eq a (string_bytes e.0)) (Some e.1) (lookup (λ x. bytes_eq a (string_bytes x)) es))
+          ≡ cond (bytes_eq a (string_bytes k)) (Some t)
+          (cond (bytes_eq a (string_bytes e.0)) (Some e.1) (lookup (λ x. bytes_eq a (string_bytes x)) es))
       go true h ih = there k t a e es (bytes_eq a (string_bytes e.0)) refl h
       go false h ih =
           ap (λ o. cond (bytes_eq a (string_bytes e.0)) (Some e.1) o) ih
