@@ -1,0 +1,6 @@
+-- Items of literals
+mod ItemLists
+-- Numbers that conditions choose
+mod ChoiceForms
+-- Worked examples
+mod ExamplesBefore

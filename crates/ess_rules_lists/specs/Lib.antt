@@ -1,0 +1,2 @@
+-- Operands behind others
+pub mod Before
