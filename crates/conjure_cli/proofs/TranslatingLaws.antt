@@ -12,7 +12,7 @@ use Rattle.ess_translate.specs.declared.refusal.Which.{Which}
 use Rattle.ess_translate.specs.declared.refusal.TransNo.{TransNo}
 use Rattle.ess_translate_files.specs.ModelFiles.{IsNoModelFile}
 use Rattle.ess_translate_files.specs.GivenFiles.{IsNotGiven}
-use Rattle.ess_translate_files.specs.CellFiles.{IsNotSolved}
+use Rattle.ess_translate_solutions.specs.CellFiles.{IsNotSolved}
 use Rattle.conjure_cli.specs.Seen.{FilesSeen, SinkSeen, IsLater}
 use Rattle.conjure_cli.specs.Ending.{status_of, LeavesErr, IsRefusal}
 use Rattle.conjure_cli.specs.Refusals.{unwritten}

@@ -15,7 +15,7 @@ use Rattle.ess_translate.specs.declared.refusal.Which.{Which}
 use Rattle.ess_translate.specs.Texts.{Spells}
 use Rattle.ess_translate_files.specs.ModelFiles.{IsNoModelFile}
 use Rattle.ess_translate_files.specs.GivenFiles.{IsGiven, IsNotGiven}
-use Rattle.ess_translate_files.specs.CellFiles.{IsSolved, IsNotSolved}
+use Rattle.ess_translate_solutions.specs.CellFiles.{IsSolved, IsNotSolved}
 use Rattle.conjure_cli.specs.Seen.{FilesSeen, SinkSeen, limit, WasRead}
 use Rattle.conjure_cli.specs.Ending.{NoFault}
 use Rattle.conjure_cli.specs.Judging.{StopsLater}

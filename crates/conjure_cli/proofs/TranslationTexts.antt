@@ -34,7 +34,7 @@ use Rattle.ess_translate_files.specs.ModelFiles.{IsModelFile, IsNoModelFile}
 use Rattle.ess_translate_given_laws.specs.Counts.{too_many}
 use Rattle.ess_translate_members_laws.specs.DeclaresMembers.{DeclaresMembers}
 use Rattle.ess_translate_files.specs.GivenFiles.{IsGiven, IsNotGiven, IsLargeFor}
-use Rattle.ess_translate_files.specs.CellFiles.{AreCells, IsSolved, IsNotSolved, FailsAt, all_there, first_without}
+use Rattle.ess_translate_solutions.specs.CellFiles.{AreCells, IsSolved, IsNotSolved, FailsAt, all_there, first_without}
 use Rattle.ess_translate.proofs.Spelled.{spelled-unrefused}
 use Rattle.conjure_cli.specs.Judging.{IsTold}
 use Rattle.conjure_cli.specs.Reasons.{refusal_status}

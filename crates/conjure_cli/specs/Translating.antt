@@ -14,7 +14,7 @@ use Rattle.ess_translate.specs.declared.refusal.Which.{Which}
 use Rattle.ess_translate.specs.declared.refusal.TransNo.{TransNo}
 use Rattle.ess_translate_files.specs.ModelFiles.{IsModelFile, IsNoModelFile}
 use Rattle.ess_translate_files.specs.GivenFiles.{IsGiven, IsNotGiven}
-use Rattle.ess_translate_files.specs.CellFiles.{IsSolved, IsNotSolved}
+use Rattle.ess_translate_solutions.specs.CellFiles.{IsSolved, IsNotSolved}
 use Rattle.conjure_cli.specs.Seen.{FilesSeen, SinkSeen, Took, LeavesLine}
 use Rattle.conjure_cli.specs.Ending.{out_line, LeavesErr}
 use Rattle.conjure_cli.specs.Reasons.{refusal_line}

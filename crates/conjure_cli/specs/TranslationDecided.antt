@@ -10,7 +10,7 @@ use Rattle.ess_grammar.specs.CellTexts.{IsCells}
 use Rattle.ess_translate.specs.Texts.{Spells}
 use Rattle.ess_translate_files.specs.ModelFiles.{IsModelFile}
 use Rattle.ess_translate_files.specs.GivenFiles.{IsGiven, IsLargeFor}
-use Rattle.ess_translate_files.specs.CellFiles.{IsSolved, IsLargeOver}
+use Rattle.ess_translate_solutions.specs.CellFiles.{IsSolved, IsLargeOver}
 use Rattle.conjure_cli.specs.Seen.{FilesSeen, SinkSeen, limit}
 use Rattle.conjure_cli.specs.Ending.{NoFault}
 

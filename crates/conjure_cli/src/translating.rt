@@ -4,7 +4,7 @@ ghost use Rattle.ess_core.specs.TableViews.{pure_cells};
 ghost use Rattle.ess_domains.specs.Assignments.{pure_assignment};
 ghost use Rattle.ess_translate_files.specs.ModelFiles.{IsNoModelFile};
 ghost use Rattle.ess_translate_files.specs.GivenFiles.{IsNotGiven};
-ghost use Rattle.ess_translate_files.specs.CellFiles.{IsNotSolved};
+ghost use Rattle.ess_translate_solutions.specs.CellFiles.{IsNotSolved};
 ghost use Rattle.ess_translate_files.specs.Wholes.{file_header, file_model, IsWhole, IsGivenFor};
 ghost use Rattle.ess_io.specs.Counts.{raised};
 ghost use Rattle.conjure_cli.specs.Seen.{IsLater, files_at};
@@ -16,9 +16,8 @@ ghost use Rattle.conjure_cli.specs.Translating.{BytesStop, StopsFor, SourceCause
 use crate::judging::{Stop, refused, whole};
 use crate::outcome::Outcome;
 use ess_io::Files;
-use ess_translate_files::{
-    Given, ModelFile, TransNo, Which, given_in, given_text, model_file, solution_in,
-};
+use ess_translate_files::{Given, ModelFile, TransNo, Which, given_in, given_text, model_file};
+use ess_translate_solutions::solution_in;
 use std::alloc::Global;
 
 /// The names of the files of a model, of a parameter, and of cells where those are translated.

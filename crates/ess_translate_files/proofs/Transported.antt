@@ -1,10 +1,8 @@
 -- What is said at a borrowed model is said of the model itself.
 use Rattle.std.proofs.Common.{◌≡◌, refl, sym, ap, ◌∙◌, subst, true, List, map}
-use Rattle.std.specs.declared.result.Result.{Result}
 use Rattle.ess_semantics.specs.Values.{Text}
 use Rattle.ess_semantics.specs.Names.{Names}
 use Rattle.ess_semantics.specs.Tables.{Table}
-use Rattle.ess_semantics.specs.LargeModels.{model_is_large}
 use Rattle.ess_semantics.specs.Assignments.{Assignment}
 use Rattle.ess_semantics.specs.DeclaredTables.{TableDecl}
 use Rattle.ess_semantics.specs.ModelTrees.{Header}
@@ -15,8 +13,6 @@ use Rattle.ess_core.specs.TableViews.{pure_named_table, pure_cells}
 use Rattle.eprime_cells_laws.specs.CellsText.{cells_text}
 use Rattle.eprime_tree.specs.declared.models.PModel.{PModel}
 use Rattle.eprime_tree.specs.Views.{pure_decls, pure_model}
-use Rattle.eprime_read_cells.specs.declared.cells.CellsNo.{CellsNo}
-use Rattle.eprime_read_cells.specs.CellAnswers.{IsFitted}
 use Rattle.ess_translate_tables_laws.specs.HeaderTables.{DeclaresTables}
 use Rattle.ess_translate_members_laws.specs.DeclaresMembers.{DeclaresMembers}
 
@@ -26,15 +22,6 @@ pub given_written : (m k : PModel) (q : Cells) (bytes : Text) → k ≡ m →
     bytes ≡ cells_text (pure_model m).givens (pure_cells q)
 given_written m k q bytes e f =
     subst (λ n. bytes ≡ cells_text (pure_model n).givens (pure_cells q)) e (f with_given empty_scope)
-
--- What a text of cells is for the finds of one model beside the givens of another.
-abbrev FittedAt : PModel → PModel → Cells → Text → Result Cells CellsNo → Type 0
-FittedAt k l q text r = IsFitted l.givens q k.finds text r
-
--- Both are one.
-pub fitted_here : (m k l : PModel) (q : Cells) (text : Text) (r : Result Cells CellsNo) → k ≡ m → l ≡ m → FittedAt k l q text r →
-    FittedAt m m q text r
-fitted_here m k l q text r a b f = subst (λ n. FittedAt m n q text r) b (subst (λ n. FittedAt n l q text r) a f)
 
 -- The members of a header's tables that a model declares over tables.
 pub members_here : (H : Header) (p : Assignment) (m k : PModel) (t : Cells) (l : List NamedTable) → k ≡ m → l ≡ t.list →
@@ -52,8 +39,3 @@ members_there H p m k t l a b h =
 -- The tables of a header that a model declares.
 pub tables_here : (H : Header) (m k : PModel) → k ≡ m → DeclaresTables H (pure_model k) → DeclaresTables H (pure_model m)
 tables_here H m k e h = subst (λ n. DeclaresTables H (pure_model n)) e h
-
--- A number outside 64 bits over the tables of a model.
-pub large_here : (m k : PModel) (q c : Names Table) → k ≡ m → model_is_large (pure_model k) q c ≡ true →
-    model_is_large (pure_model m) q c ≡ true
-large_here m k q c e h = subst (λ n. model_is_large (pure_model n) q c ≡ true) e h

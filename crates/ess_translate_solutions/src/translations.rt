@@ -1,12 +1,10 @@
 //! Both translations from texts alone.
 ghost use Rattle.std.specs.Prelude.{IfOk, IfErr};
-ghost use Rattle.ess_translate_files.specs.Translations.{IsParameterText, AreNotGiven, IsSolutionText, IsNoSolutionText};
+ghost use Rattle.ess_translate_solutions.specs.Translations.{IsParameterText, AreNotGiven, IsSolutionText, IsNoSolutionText};
 
-use crate::given_texts::given_text;
-use crate::givens::given_in;
-use crate::models::model_file;
 use crate::solutions::solution_in;
 use ess_translate::TransNo;
+use ess_translate_files::{given_in, given_text, model_file};
 use std::alloc::Global;
 
 /// The text of the tables of a parameter, from the texts of a model with its header and of a parameter of the header's specification
@@ -21,8 +19,16 @@ pub fn parameter(alloc: Global, model: &[u8], param: &[u8]) -> Result<Vec<u8>, T
         Err(why) => return Err(why),
     };
     match given_in(alloc, &file, param) {
-        Ok(given) => given_text(alloc, &file, &given),
-        Err(why) => Err(why),
+        Ok(given) => {
+            let text = given_text(alloc, &file, &given);
+            drop(given);
+            drop(file);
+            text
+        }
+        Err(why) => {
+            drop(file);
+            Err(why)
+        }
     }
 }
 
@@ -38,7 +44,15 @@ pub fn solution(alloc: Global, model: &[u8], param: &[u8], cells: &[u8]) -> Resu
         Err(why) => return Err(why),
     };
     match given_in(alloc, &file, param) {
-        Ok(given) => solution_in(alloc, &file, &given, cells),
-        Err(why) => Err(why),
+        Ok(given) => {
+            let text = solution_in(alloc, &file, &given, cells);
+            drop(given);
+            drop(file);
+            text
+        }
+        Err(why) => {
+            drop(file);
+            Err(why)
+        }
     }
 }

@@ -4,7 +4,7 @@ ghost use Rattle.ess_core.specs.ValueViews.{pure_val};
 ghost use Rattle.ess_core.specs.TableViews.{pure_type_entries};
 ghost use Rattle.ess_values_laws.specs.ItemNames.{item_name};
 ghost use Rattle.ess_translate_values.specs.StoodValues.{pure_stood};
-ghost use Rattle.ess_translate_files.specs.CellFiles.{value_line, there_of, value_lines};
+ghost use Rattle.ess_translate_solutions.specs.CellFiles.{value_line, there_of, value_lines};
 
 use ess_core::{Env, NoMemory, Text, Val};
 use ess_translate_values::StoodFor;

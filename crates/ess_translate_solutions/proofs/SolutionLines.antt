@@ -2,7 +2,7 @@
 use Rattle.std.proofs.Common.{◌≡◌, refl, sym, ap, ◌∙◌, List, [], ◌∷◌, Option, Some, None}
 use Rattle.ess_semantics.specs.Values.{Value}
 use Rattle.ess_semantics.specs.Names.{Names}
-use Rattle.ess_translate_files.specs.CellFiles.{all_there, there_of, first_without}
+use Rattle.ess_translate_solutions.specs.CellFiles.{all_there, there_of, first_without}
 
 -- Where none is missing all are there.
 pub all_are_there : (vs : Names (Option Value)) → first_without vs ≡ None → vs ≡ all_there (there_of vs)

@@ -3,7 +3,7 @@ use Rattle.std.specs.Prelude.{◌≡◌, refl, true, List, [], ◌∷◌, pos, n
 use Rattle.std.specs.Fmt.{digits}
 use Rattle.ess_semantics.specs.Values.{number, truth}
 use Rattle.ess_semantics.specs.Assignments.{nothing_given}
-use Rattle.ess_translate_files.specs.CellFiles.{solution_text, all_there, there_of, first_without}
+use Rattle.ess_translate_solutions.specs.CellFiles.{solution_text, all_there, there_of, first_without}
 
 -- No find at all: the language line alone.
 no_finds : solution_text [] nothing_given [] ≡ codes "language Essence 1.3\n"

@@ -9,19 +9,18 @@ ghost use Rattle.ess_core.specs.StatementViews.{pure_stm};
 ghost use Rattle.ess_core.specs.TableViews.{pure_cells};
 ghost use Rattle.ess_domains.specs.Assignments.{pure_assignment};
 ghost use Rattle.ess_translate_values.specs.StoodValues.{pure_stood};
-ghost use Rattle.ess_translate_files.specs.CellFiles.{AreCells, IsSolved, IsNotSolved, first_without, IsWithout};
-ghost use Rattle.ess_translate_files.specs.Refusals.{cells_no};
+ghost use Rattle.ess_translate_solutions.specs.CellFiles.{AreCells, IsSolved, IsNotSolved, first_without, IsWithout};
+ghost use Rattle.ess_translate_solutions.specs.Refusals.{cells_no};
 ghost use Rattle.ess_translate_files.specs.Wholes.{file_header, file_model, IsWhole, IsGivenFor};
 ghost use Rattle.ess_translate.specs.declared.refusal.TransNo.{TransNo};
 
-use crate::givens::Given;
-use crate::models::ModelFile;
 use crate::refusals::cells_no;
 use crate::solution_texts::solution_text;
 use eprime_read_cells::read_cells;
 use eprime_verdicts::{EvalNo, PVerdict, satisfies};
 use ess_core::{Cells, NoMemory, Row, Stm, Text};
 use ess_translate::TransNo;
+use ess_translate_files::{Given, ModelFile};
 use ess_translate_values::{StoodFor, values_by};
 use std::alloc::Global;
 
@@ -95,7 +94,7 @@ fn pass_model(alloc: Global, file: &ModelFile, given: &Given, found: &Cells) -> 
 }
 
 /// The values of the finds for which tables stand.
-#[tactic(auto, using(crate::proofs::Solved::finds_of_file_ready))]
+#[tactic(auto, using(ess_translate_files::proofs::Solved::finds_of_file_ready))]
 fn values_in(
     alloc: Global,
     file: &ModelFile,

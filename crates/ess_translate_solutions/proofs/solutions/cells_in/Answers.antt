@@ -2,11 +2,11 @@ use Rattle.std.proofs.Common.{sym, subst}
 use Rattle.std.specs.Prelude.{Ok, Err}
 use Rattle.ess_core.specs.TableViews.{pure_cells}
 use Rattle.ess_domains.specs.Assignments.{pure_assignment}
-use Rattle.ess_translate_files.specs.CellFiles.{IsNotSolved}
+use Rattle.ess_translate_solutions.specs.CellFiles.{IsNotSolved}
 use Rattle.ess_translate_files.specs.Wholes.{file_header, file_model}
-use Rattle.ess_translate_files.proofs.Cells.{cells_are, cells_refused}
-use Rattle.ess_translate_files.proofs.Transported.{fitted_here}
-use Rattle.ess_translate_files.proofs.solutions.cells_in.Goals as goal
+use Rattle.ess_translate_solutions.proofs.Cells.{cells_are, cells_refused}
+use Rattle.ess_translate_solutions.proofs.Transported.{fitted_here}
+use Rattle.ess_translate_solutions.proofs.solutions.cells_in.Goals as goal
 
 -- src/solutions.rt
 pub returns-in-Ok-clause-ok : goal.returns-in-Ok-clause-ok

@@ -33,9 +33,9 @@ use Rattle.ess_translate.specs.declared.refusal.Which.{Which}
 use Rattle.ess_translate.specs.declared.refusal.TransNo.{TransNo}
 use Rattle.ess_translate.specs.Texts.{Spells}
 use Rattle.ess_translate.proofs.Spelled.{unrefused-limits}
-use Rattle.ess_translate_files.specs.Refusals.{cells_no}
-use Rattle.ess_translate_files.specs.CellFiles.{AreCells, IsSolved, IsNotSolved, IsWithout, first_without, there_of, value_lines}
-use Rattle.ess_translate_files.proofs.SolutionLines.{all_are_there}
+use Rattle.ess_translate_solutions.specs.Refusals.{cells_no}
+use Rattle.ess_translate_solutions.specs.CellFiles.{AreCells, IsSolved, IsNotSolved, IsWithout, first_without, there_of, value_lines}
+use Rattle.ess_translate_solutions.proofs.SolutionLines.{all_are_there}
 
 -- A text that the rules of cells derive, and that isn't refused before, spells what they derive.
 spelled : (text : Text) (cs : Names Ex) → refused_first text ≡ None → Reads text (IsCells cs) → Spells IsCells text cs

@@ -11,7 +11,7 @@ use Rattle.ess_translate_plans.specs.Views.{pure_plan}
 use Rattle.ess_translate_values_laws.specs.ReadyPlans.{IsReady}
 use Rattle.ess_translate_files.specs.Wholes.{file_header}
 use Rattle.ess_translate_files.proofs.Solved.{finds_of_file_ready}
-use Rattle.ess_translate_files.proofs.solutions.values_in.Goals as goal
+use Rattle.ess_translate_solutions.proofs.solutions.values_in.Goals as goal
 
 -- src/solutions.rt
 pub returns-in-Ok-clause-ok : goal.returns-in-Ok-clause-ok

@@ -1,8 +1,8 @@
 use Rattle.std.proofs.Common.{ap, inr}
 use Rattle.std.specs.Prelude.{Err}
 use Rattle.ess_core.specs.TableViews.{pure_cells}
-use Rattle.ess_translate_files.proofs.Transported.{large_here}
-use Rattle.ess_translate_files.proofs.solutions.pass_model.Goals as goal
+use Rattle.ess_translate_solutions.proofs.Transported.{large_here}
+use Rattle.ess_translate_solutions.proofs.solutions.pass_model.Goals as goal
 
 -- src/solutions.rt
 pub returns-in-Err-Big-clause-refused : goal.returns-in-Err-Big-clause-refused

@@ -10,7 +10,7 @@ use Rattle.eprime_cells_laws.specs.CellsText.{cells_text}
 use Rattle.ess_translate.specs.declared.refusal.TransNo.{TransNo}
 use Rattle.ess_translate_files.specs.ModelFiles.{IsModelFile, IsNoModelFile}
 use Rattle.ess_translate_files.specs.GivenFiles.{IsGiven, IsNotGiven}
-use Rattle.ess_translate_files.specs.CellFiles.{IsSolved, IsNotSolved}
+use Rattle.ess_translate_solutions.specs.CellFiles.{IsSolved, IsNotSolved}
 
 -- The two texts are a model with its header and a parameter for it, whose tables are these.
 pub record AreGiven (model param : Text) : Type 0 where
