@@ -1,0 +1,9 @@
+mod TypeNames
+mod TypeParts
+mod TypesThatAgree
+mod TypesOfMembers
+mod TypesOfEqualities
+mod TypesOfLists
+mod TypesOfComparedLists
+mod TypesOfContainers
+mod Examples
