@@ -6,4 +6,5 @@ mod TypesOfEqualities
 mod TypesOfLists
 mod TypesOfComparedLists
 mod TypesOfContainers
+mod MarksOfTyped
 mod Examples

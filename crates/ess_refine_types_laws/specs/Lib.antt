@@ -1,2 +1,3 @@
 pub mod TypeNames
 pub mod TypesOfContainers
+pub mod MarksOfTyped

@@ -1,6 +1,7 @@
 //! Laws of the types of rules, each the contract of a function that does nothing.
 
 ghost use Rattle.ess_refine_types_laws.specs.TypesOfContainers.{ContainerRulesKeepTypes};
+ghost use Rattle.ess_refine_types_laws.specs.MarksOfTyped.{TypedTreesHaveMarks};
 ghost use Rattle.ess_refine_types_laws.specs.TypeNames.{TypesNeedTheirNames};
 
 /// A type depends on the names that a tree uses and on the tables of its cells alone.
@@ -11,4 +12,9 @@ pub fn types_need_their_names()
 /// Rules of membership, inclusion, equality, frequencies and lists keep types, where the name that they bind is new.
 pub fn rules_keep_types()
     ensures { ContainerRulesKeepTypes }
+{}
+
+/// A resolved tree whose parts have types has the right marks.
+pub fn typed_trees_have_marks()
+    ensures { TypedTreesHaveMarks }
 {}
