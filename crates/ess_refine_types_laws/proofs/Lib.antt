@@ -7,4 +7,5 @@ mod TypesOfLists
 mod TypesOfComparedLists
 mod TypesOfContainers
 mod MarksOfTyped
+mod MarksOfJudged
 mod Examples

@@ -1,3 +1,4 @@
 pub mod TypeNames
 pub mod TypesOfContainers
 pub mod MarksOfTyped
+pub mod MarksOfJudged
