@@ -1,7 +1,7 @@
 -- Conditions with types
 mod TypedConditions
 mod TypedNumbers
-mod JoinedTypes
+pub mod JoinedTypes
 mod TypedItems
 mod TypedLiterals
 mod TypedIndices

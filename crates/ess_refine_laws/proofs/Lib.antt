@@ -39,6 +39,7 @@ mod ItemsOnceOver
 mod ItemsOnce
 mod ExamplesItemsOnce
 mod Spelling
+mod SpellingEnds
 mod SpellingParts
 mod SpellingRules
 mod SpellingContainers

@@ -16,6 +16,7 @@ pub mod Copies
 pub mod MovingConditions
 pub mod ItemsOnce
 pub mod Spelling
+pub mod SpellingEnds
 pub mod ScopesOfRules
 pub mod TypesOfRules
 pub mod JudgedTrees

@@ -1,5 +1,5 @@
--- Rules that keep types at the root. Not all do: `x in toSet(l)` of a list becomes `x in l`, which has no type until that is written
--- as `or([y = x | y <- l])`; and `a <lex b` of matrices that aren't indexed by numbers has none while one of them is a list.
+-- Rules of folds, generators, literals and sizes that keep types at the root. Those of membership, inclusion, equality and of lists bind
+-- names; what they keep is said where types are shown not to depend on a new name.
 use Rattle.std.specs.Prelude.{◌≡◌, Bool, true, false, Some, IsTrue, is_some}
 use Rattle.ess_semantics.specs.Lists.{and_then}
 use Rattle.ess_semantics.specs.Names.{Names}

@@ -17,6 +17,7 @@ ghost use Rattle.ess_refine_laws.specs.SparingRules.{RulesSpare};
 ghost use Rattle.ess_refine_laws.specs.RecordNames.{NamesOverRecordsKeep};
 ghost use Rattle.ess_refine_laws.specs.ItemsOnce.{ItemsOnceOffer};
 ghost use Rattle.ess_refine_laws.specs.Spelling.{NumbersAreSpared};
+ghost use Rattle.ess_refine_laws.specs.SpellingEnds.{SpellingBeginsAndEnds};
 ghost use Rattle.ess_refine_laws.specs.ScopesOfRules.{RulesKeepScopes};
 ghost use Rattle.ess_refine_laws.specs.TypesOfRules.{RulesKeepTypes};
 ghost use Rattle.ess_refine_laws.specs.JudgedTrees.{TypedTreesAreJudged};
@@ -110,6 +111,12 @@ pub fn items_are_offered_once()
 /// rules at parts.
 pub fn numbers_are_spared()
     ensures { NumbersAreSpared }
+{}
+
+/// A tree may spell its constants, as a specification counts them, and spells what it may, as a model counts it: so the last tree of a
+/// chain of rules that spell no more spells constants of the first one, 0 and 1.
+pub fn spelling_begins_and_ends()
+    ensures { SpellingBeginsAndEnds }
 {}
 
 /// Each rule keeps what is in scope, where the names that it takes are new, and terms that it puts for names are apart.

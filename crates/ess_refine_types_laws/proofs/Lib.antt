@@ -1,0 +1,11 @@
+mod TypeNames
+mod TypeParts
+mod TypesThatAgree
+mod TypesOfMembers
+mod TypesOfEqualities
+mod TypesOfLists
+mod TypesOfComparedLists
+mod TypesOfContainers
+mod MarksOfTyped
+mod MarksOfJudged
+mod Examples

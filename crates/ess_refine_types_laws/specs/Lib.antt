@@ -1,0 +1,4 @@
+pub mod TypeNames
+pub mod TypesOfContainers
+pub mod MarksOfTyped
+pub mod MarksOfJudged

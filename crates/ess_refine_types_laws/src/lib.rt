@@ -1,0 +1,4 @@
+//! Rules of containers keep types.
+#![tactic(auto)]
+
+pub mod laws;
