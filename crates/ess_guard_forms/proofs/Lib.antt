@@ -1,0 +1,12 @@
+-- What the row of names has for a name
+pub mod Lookups
+-- Bounds, ranges, index domains, cells
+pub mod SumForms
+pub mod RangeForms
+pub mod AxesFollowed
+pub mod CellIndices
+-- Numbers of operands, and what is left of a tree
+pub mod OperandCounts
+pub mod Weights
+-- Worked examples
+mod Examples
