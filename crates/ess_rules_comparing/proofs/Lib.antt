@@ -1,0 +1,4 @@
+pub mod ExamplesRuleParts
+pub mod FieldLemmas
+pub mod MatrixLemmas
+pub mod PairRules

@@ -1,0 +1,4 @@
+-- Fields of types
+pub mod FieldViews
+-- What rules of matrices build
+pub mod RuleParts
