@@ -100,7 +100,8 @@ at-root : (g : Names Ty) (a b : Ex) → simpler_root a ≡ Some b → Leads g a 
 at-root g a b r = rewritten_at hole tt r as_it_was
 
 -- Inside of a frame: a tree with an open part of the frame is one with the part in it.
-inside : (F : In → In) (W : Ex → Ex) → ((c : In) (x : Ex) → fill (F c) x ≡ W (fill c x)) → (g h : Names Ty) (a e : Ex) → Leads h a e → Leads g (W a) (W e)
+inside : (F : In → In) (W : Ex → Ex) → ((c : In) (x : Ex) → fill (F c) x ≡ W (fill c x)) → (g h : Names Ty) (a e : Ex) → Leads h a e
+    → Leads g (W a) (W e)
 inside F W eq g h a e as_it_was = as_it_was
 inside F W eq g h old e (rewritten_at {a = a} {b = b} c s r t) =
     subst (λ x. Leads g x (W e)) (eq c a)
@@ -188,7 +189,8 @@ mutual
   leads g (number_ex n) = as_it_was
   leads g (truth_ex v) = as_it_was
   leads g (name_ex a) = as_it_was
-  leads g (node_ex b op es) = chain g _ _ _ (exs-lead g es (node_ex b op) (in_operand b op) (λ c x. refl)) (node-leads g b op (all_simplified es))
+  leads g (node_ex b op es) =
+      chain g _ _ _ (exs-lead g es (node_ex b op) (in_operand b op) (λ c x. refl)) (node-leads g b op (all_simplified es))
   leads g (matrix_ex es d) = chain g _ _ _ (exs-lead g es (λ l. matrix_ex l d) (λ c. in_item c d) (λ c x. refl))
       (dom-leads g d (matrix_ex (all_simplified es)) (in_index_domain (all_simplified es)) (λ c x. refl))
   leads g (comp_ex e gs) = chain g _ _ _ (inside (λ c. in_body c gs) (λ x. comp_ex x gs) (λ c x. refl) g g e (simplified e) (leads g e))
@@ -197,25 +199,31 @@ mutual
   leads g (seen_ex r d ns es) = chain g _ _ _ (dom-leads g d (λ x. seen_ex r x ns es) (λ c. in_view_domain r c ns es) (λ c x. refl))
       (exs-lead g es (seen_ex r (dom_simplified d) ns) (in_view_index r (dom_simplified d) ns) (λ c x. refl))
 
-  exs-lead : (g : Names Ty) (es : Exs) (H : Exs → Ex) (K : Ins → In) → ((c : Ins) (x : Ex) → fill (K c) x ≡ H (fill_exs c x)) → Leads g (H es) (H (all_simplified es))
+  exs-lead : (g : Names Ty) (es : Exs) (H : Exs → Ex) (K : Ins → In) → ((c : Ins) (x : Ex) → fill (K c) x ≡ H (fill_exs c x))
+      → Leads g (H es) (H (all_simplified es))
   exs-lead g no_exs H K eq = as_it_was
   exs-lead g (more_exs e es) H K eq = chain g _ _ _
       (inside (λ c. K (in_first c es)) (λ x. H (more_exs x es)) (λ c x. eq (in_first c es) x) g g e (simplified e) (leads g e))
       (exs-lead g es (λ l. H (more_exs (simplified e) l)) (λ c. K (in_later (simplified e) c)) (λ c x. eq (in_later (simplified e) c) x))
 
-  gens-lead : (g : Names Ty) (gs : Gens) (H : Gens → Ex) (K : InGens → In) → ((c : InGens) (x : Ex) → fill (K c) x ≡ H (fill_gens c x)) → Leads g (H gs) (H (gens_simplified gs))
+  gens-lead : (g : Names Ty) (gs : Gens) (H : Gens → Ex) (K : InGens → In) → ((c : InGens) (x : Ex) → fill (K c) x ≡ H (fill_gens c x))
+      → Leads g (H gs) (H (gens_simplified gs))
   gens-lead g no_gens H K eq = as_it_was
   gens-lead g (over p d gs) H K eq = chain g _ _ _
       (dom-leads g d (λ x. H (over p x gs)) (λ c. K (in_generator_domain p c gs)) (λ c x. eq (in_generator_domain p c gs) x))
-      (gens-lead g gs (λ x. H (over p (dom_simplified d) x)) (λ c. K (behind_over p (dom_simplified d) c)) (λ c x. eq (behind_over p (dom_simplified d) c) x))
+      (gens-lead g gs (λ x. H (over p (dom_simplified d) x)) (λ c. K (behind_over p (dom_simplified d) c))
+      (λ c x. eq (behind_over p (dom_simplified d) c) x))
   gens-lead g (from p e gs) H K eq = chain g _ _ _
       (inside (λ c. K (in_source p c gs)) (λ x. H (from p x gs)) (λ c x. eq (in_source p c gs) x) g g e (simplified e) (leads g e))
-      (gens-lead g gs (λ x. H (from p (simplified e) x)) (λ c. K (behind_from p (simplified e) c)) (λ c x. eq (behind_from p (simplified e) c) x))
+      (gens-lead g gs (λ x. H (from p (simplified e) x)) (λ c. K (behind_from p (simplified e) c))
+      (λ c x. eq (behind_from p (simplified e) c) x))
   gens-lead g (cond e gs) H K eq = chain g _ _ _
       (inside (λ c. K (in_condition c gs)) (λ x. H (cond x gs)) (λ c x. eq (in_condition c gs) x) g g e (simplified e) (leads g e))
-      (gens-lead g gs (λ x. H (cond (simplified e) x)) (λ c. K (behind_condition (simplified e) c)) (λ c x. eq (behind_condition (simplified e) c) x))
+      (gens-lead g gs (λ x. H (cond (simplified e) x)) (λ c. K (behind_condition (simplified e) c))
+      (λ c x. eq (behind_condition (simplified e) c) x))
 
-  dom-leads : (g : Names Ty) (d : Dom) (H : Dom → Ex) (K : InDom → In) → ((c : InDom) (x : Ex) → fill (K c) x ≡ H (fill_dom c x)) → Leads g (H d) (H (dom_simplified d))
+  dom-leads : (g : Names Ty) (d : Dom) (H : Dom → Ex) (K : InDom → In) → ((c : InDom) (x : Ex) → fill (K c) x ≡ H (fill_dom c x))
+      → Leads g (H d) (H (dom_simplified d))
   dom-leads g bool_dom H K eq = as_it_was
   dom-leads g (int_dom rs es) H K eq = exs-lead g es (λ l. H (int_dom rs l)) (λ c. K (in_bound rs c)) (λ c x. eq (in_bound rs c) x)
   dom-leads g (name_dom a) H K eq = as_it_was
@@ -223,28 +231,37 @@ mutual
   dom-leads g (record_dom fs ds) H K eq = doms-lead g ds (λ l. H (record_dom fs l)) (λ c. K (in_field fs c)) (λ c x. eq (in_field fs c) x)
   dom-leads g (matrix_dom is d) H K eq = chain g _ _ _
       (doms-lead g is (λ l. H (matrix_dom l d)) (λ c. K (in_index c d)) (λ c x. eq (in_index c d) x))
-      (dom-leads g d (λ l. H (matrix_dom (doms_simplified is) l)) (λ c. K (in_element (doms_simplified is) c)) (λ c x. eq (in_element (doms_simplified is) c) x))
+      (dom-leads g d (λ l. H (matrix_dom (doms_simplified is) l)) (λ c. K (in_element (doms_simplified is) c))
+      (λ c x. eq (in_element (doms_simplified is) c) x))
   dom-leads g (set_dom ms es d) H K eq = chain g _ _ _
       (exs-lead g es (λ l. H (set_dom ms l d)) (λ c. K (in_set_number ms c d)) (λ c x. eq (in_set_number ms c d) x))
-      (dom-leads g d (λ l. H (set_dom ms (all_simplified es) l)) (λ c. K (in_set_member ms (all_simplified es) c)) (λ c x. eq (in_set_member ms (all_simplified es) c) x))
+      (dom-leads g d (λ l. H (set_dom ms (all_simplified es) l)) (λ c. K (in_set_member ms (all_simplified es) c))
+      (λ c x. eq (in_set_member ms (all_simplified es) c) x))
   dom-leads g (mset_dom ms es d) H K eq = chain g _ _ _
       (exs-lead g es (λ l. H (mset_dom ms l d)) (λ c. K (in_mset_number ms c d)) (λ c x. eq (in_mset_number ms c d) x))
-      (dom-leads g d (λ l. H (mset_dom ms (all_simplified es) l)) (λ c. K (in_mset_member ms (all_simplified es) c)) (λ c x. eq (in_mset_member ms (all_simplified es) c) x))
+      (dom-leads g d (λ l. H (mset_dom ms (all_simplified es) l)) (λ c. K (in_mset_member ms (all_simplified es) c))
+      (λ c x. eq (in_mset_member ms (all_simplified es) c) x))
   dom-leads g (function_dom ms es d r) H K eq = chain g _ _ _
       (exs-lead g es (λ l. H (function_dom ms l d r)) (λ c. K (in_function_number ms c d r)) (λ c x. eq (in_function_number ms c d r) x))
       (chain g _ _ _
-      (dom-leads g d (λ l. H (function_dom ms (all_simplified es) l r)) (λ c. K (in_argument ms (all_simplified es) c r)) (λ c x. eq (in_argument ms (all_simplified es) c r) x))
-      (dom-leads g r (λ l. H (function_dom ms (all_simplified es) (dom_simplified d) l)) (λ c. K (in_result ms (all_simplified es) (dom_simplified d) c))
+      (dom-leads g d (λ l. H (function_dom ms (all_simplified es) l r)) (λ c. K (in_argument ms (all_simplified es) c r))
+      (λ c x. eq (in_argument ms (all_simplified es) c r) x))
+      (dom-leads g r (λ l. H (function_dom ms (all_simplified es) (dom_simplified d) l))
+      (λ c. K (in_result ms (all_simplified es) (dom_simplified d) c))
       (λ c x. eq (in_result ms (all_simplified es) (dom_simplified d) c) x)))
   dom-leads g (relation_dom ms es ds) H K eq = chain g _ _ _
       (exs-lead g es (λ l. H (relation_dom ms l ds)) (λ c. K (in_relation_number ms c ds)) (λ c x. eq (in_relation_number ms c ds) x))
-      (doms-lead g ds (λ l. H (relation_dom ms (all_simplified es) l)) (λ c. K (in_relation_component ms (all_simplified es) c)) (λ c x. eq (in_relation_component ms (all_simplified es) c) x))
+      (doms-lead g ds (λ l. H (relation_dom ms (all_simplified es) l)) (λ c. K (in_relation_component ms (all_simplified es) c))
+      (λ c x. eq (in_relation_component ms (all_simplified es) c) x))
   dom-leads g (partition_dom ms es d) H K eq = chain g _ _ _
       (exs-lead g es (λ l. H (partition_dom ms l d)) (λ c. K (in_partition_number ms c d)) (λ c x. eq (in_partition_number ms c d) x))
-      (dom-leads g d (λ l. H (partition_dom ms (all_simplified es) l)) (λ c. K (in_partition_member ms (all_simplified es) c)) (λ c x. eq (in_partition_member ms (all_simplified es) c) x))
+      (dom-leads g d (λ l. H (partition_dom ms (all_simplified es) l)) (λ c. K (in_partition_member ms (all_simplified es) c))
+      (λ c x. eq (in_partition_member ms (all_simplified es) c) x))
 
-  doms-lead : (g : Names Ty) (ds : Doms) (H : Doms → Ex) (K : InDoms → In) → ((c : InDoms) (x : Ex) → fill (K c) x ≡ H (fill_doms c x)) → Leads g (H ds) (H (doms_simplified ds))
+  doms-lead : (g : Names Ty) (ds : Doms) (H : Doms → Ex) (K : InDoms → In) → ((c : InDoms) (x : Ex) → fill (K c) x ≡ H (fill_doms c x))
+      → Leads g (H ds) (H (doms_simplified ds))
   doms-lead g no_doms H K eq = as_it_was
   doms-lead g (more_doms d ds) H K eq = chain g _ _ _
       (dom-leads g d (λ l. H (more_doms l ds)) (λ c. K (in_first_domain c ds)) (λ c x. eq (in_first_domain c ds) x))
-      (doms-lead g ds (λ l. H (more_doms (dom_simplified d) l)) (λ c. K (in_later_domain (dom_simplified d) c)) (λ c x. eq (in_later_domain (dom_simplified d) c) x))
+      (doms-lead g ds (λ l. H (more_doms (dom_simplified d) l)) (λ c. K (in_later_domain (dom_simplified d) c))
+      (λ c x. eq (in_later_domain (dom_simplified d) c) x))

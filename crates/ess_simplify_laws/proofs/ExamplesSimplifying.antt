@@ -36,7 +36,8 @@ equivalence : (simplified (bi Op2.Iff (truth_ex true) a) ≡ a) × (simplified (
 equivalence = (refl, refl, refl, refl)
 
 -- `!` of `true`, of `!`, and of any other Boolean
-denials : (simplified (un Op1.Not (truth_ex true)) ≡ truth_ex false) × (simplified (un Op1.Not (un Op1.Not a)) ≡ a) × (simplified (un Op1.Not a) ≡ un Op1.Not a)
+denials : (simplified (un Op1.Not (truth_ex true)) ≡ truth_ex false) × (simplified (un Op1.Not (un Op1.Not a)) ≡ a) ×
+    (simplified (un Op1.Not a) ≡ un Op1.Not a)
 denials = (refl, refl, refl)
 
 -- `!a -> false` is `a`: what is left under a `!` is looked at again
@@ -49,13 +50,16 @@ parts = refl
 
 -- `true = true` may stay, and so may `true` as a condition
 elsewhere : (simplified (bi Op2.Eq (truth_ex true) (truth_ex true)) ≡ bi Op2.Eq (truth_ex true) (truth_ex true))
-    × (simplified (comp_ex (bi Op2.And (truth_ex true) a) (cond (bi Op2.Or (truth_ex true) b) no_gens)) ≡ comp_ex a (cond (truth_ex true) no_gens))
+    × (simplified (comp_ex (bi Op2.And (truth_ex true) a) (cond (bi Op2.Or (truth_ex true) b) no_gens))
+    ≡ comp_ex a (cond (truth_ex true) no_gens))
 elsewhere = (refl, refl)
 
 -- a connective on a wrong number of operands, which no text has, is false
-wrong : (simplified (node_ex true (unary Op1.Not) no_exs) ≡ truth_ex false) × (simplified (node_ex true (binary Op2.And) (more_exs a no_exs)) ≡ truth_ex false)
+wrong : (simplified (node_ex true (unary Op1.Not) no_exs) ≡ truth_ex false) ×
+    (simplified (node_ex true (binary Op2.And) (more_exs a no_exs)) ≡ truth_ex false)
 wrong = (refl, refl)
 
 -- at the root nothing happens to what is simple there
-roots : (simpler_root (bi Op2.And a b) ≡ None) × (simpler_root (un Op1.Not a) ≡ None) × (simpler_root (bi Op2.Implies a (truth_ex false)) ≡ Some (un Op1.Not a))
+roots : (simpler_root (bi Op2.And a b) ≡ None) × (simpler_root (un Op1.Not a) ≡ None) ×
+    (simpler_root (bi Op2.Implies a (truth_ex false)) ≡ Some (un Op1.Not a))
 roots = (refl, refl, refl)

@@ -44,7 +44,8 @@ only : (a : Ex) → Simple (parts_of a ++ []) → Simple (parts_of a)
 only a h = front (parts_of a) [] h
 
 -- `!` of what is neither a truth value nor a negation.
-denied-stays : (b : Bool) (a : Ex) → is_truth_value a ≡ false → is_negation a ≡ false → Simple (parts_of a) → Simple (parts_of (ex1 b Op1.Not a))
+denied-stays : (b : Bool) (a : Ex) → is_truth_value a ≡ false → is_negation a ≡ false → Simple (parts_of a)
+    → Simple (parts_of (ex1 b Op1.Not a))
 denied-stays b a p q h =
     both ((not (is_truth_value a) && true) && (not (is_negation a) && true)) (list_all is_simple_node (parts_of a ++ []))
     (ap (λ x. (not x && true) && (not (is_negation a) && true)) p ∙ ap (λ x. true && (not x && true)) q)
@@ -133,7 +134,8 @@ two-stay b o x y h = binary-stays b o (more_exs x (more_exs y no_exs)) (is_some 
 
 left-simple : (b : Bool) (o : Op2) (x y : Ex) (c : Outcome) → (is_some (connective (binary o)) ≡ true → Untold c (said x) (said y))
     → Simple (parts_of_all (more_exs x (more_exs y no_exs))) → Simple (parts_of (left b o x y c))
-left-simple b o x y Outcome.Stays u h = both (is_simple_node (ex2 b o x y)) (list_all is_simple_node (parts_of x ++ (parts_of y ++ []))) (two-stay b o x y u) h
+left-simple b o x y Outcome.Stays u h =
+    both (is_simple_node (ex2 b o x y)) (list_all is_simple_node (parts_of x ++ (parts_of y ++ []))) (two-stay b o x y u) h
 left-simple b o x y Outcome.First u h = front (parts_of x) (parts_of y ++ []) h
 left-simple b o x y Outcome.Second u h = only y (back (parts_of x) (parts_of y ++ []) h)
 left-simple b o x y Outcome.FirstDenied u h = denied-simple b x (front (parts_of x) (parts_of y ++ []) h)
@@ -178,10 +180,13 @@ mutual
   simplified-simple (truth_ex v) = refl
   simplified-simple (name_ex a) = refl
   simplified-simple (node_ex b op es) = node-simple b op (all_simplified es) (all-simple es)
-  simplified-simple (matrix_ex es d) = joined (parts_of_all (all_simplified es)) (parts_of_dom (dom_simplified d)) (all-simple es) (dom-simple d)
-  simplified-simple (comp_ex e gs) = joined (parts_of (simplified e)) (parts_of_gens (gens_simplified gs)) (simplified-simple e) (gens-simple gs)
+  simplified-simple (matrix_ex es d) =
+      joined (parts_of_all (all_simplified es)) (parts_of_dom (dom_simplified d)) (all-simple es) (dom-simple d)
+  simplified-simple (comp_ex e gs) =
+      joined (parts_of (simplified e)) (parts_of_gens (gens_simplified gs)) (simplified-simple e) (gens-simple gs)
   simplified-simple (cell_ex b n es) = all-simple es
-  simplified-simple (seen_ex r d ns es) = joined (parts_of_dom (dom_simplified d)) (parts_of_all (all_simplified es)) (dom-simple d) (all-simple es)
+  simplified-simple (seen_ex r d ns es) =
+      joined (parts_of_dom (dom_simplified d)) (parts_of_all (all_simplified es)) (dom-simple d) (all-simple es)
 
   all-simple : (es : Exs) → Simple (parts_of_all (all_simplified es))
   all-simple no_exs = refl
@@ -199,14 +204,19 @@ mutual
   dom-simple (name_dom a) = refl
   dom-simple (tuple_dom ds) = doms-simple ds
   dom-simple (record_dom fs ds) = doms-simple ds
-  dom-simple (matrix_dom is d) = joined (parts_of_doms (doms_simplified is)) (parts_of_dom (dom_simplified d)) (doms-simple is) (dom-simple d)
+  dom-simple (matrix_dom is d) =
+      joined (parts_of_doms (doms_simplified is)) (parts_of_dom (dom_simplified d)) (doms-simple is) (dom-simple d)
   dom-simple (set_dom ms es d) = joined (parts_of_all (all_simplified es)) (parts_of_dom (dom_simplified d)) (all-simple es) (dom-simple d)
   dom-simple (mset_dom ms es d) = joined (parts_of_all (all_simplified es)) (parts_of_dom (dom_simplified d)) (all-simple es) (dom-simple d)
-  dom-simple (function_dom ms es d c) = joined (parts_of_all (all_simplified es) ++ parts_of_dom (dom_simplified d)) (parts_of_dom (dom_simplified c))
+  dom-simple (function_dom ms es d c) =
+      joined (parts_of_all (all_simplified es) ++ parts_of_dom (dom_simplified d)) (parts_of_dom (dom_simplified c))
       (joined (parts_of_all (all_simplified es)) (parts_of_dom (dom_simplified d)) (all-simple es) (dom-simple d)) (dom-simple c)
-  dom-simple (relation_dom ms es ds) = joined (parts_of_all (all_simplified es)) (parts_of_doms (doms_simplified ds)) (all-simple es) (doms-simple ds)
-  dom-simple (partition_dom ms es d) = joined (parts_of_all (all_simplified es)) (parts_of_dom (dom_simplified d)) (all-simple es) (dom-simple d)
+  dom-simple (relation_dom ms es ds) =
+      joined (parts_of_all (all_simplified es)) (parts_of_doms (doms_simplified ds)) (all-simple es) (doms-simple ds)
+  dom-simple (partition_dom ms es d) =
+      joined (parts_of_all (all_simplified es)) (parts_of_dom (dom_simplified d)) (all-simple es) (dom-simple d)
 
   doms-simple : (ds : Doms) → Simple (parts_of_doms (doms_simplified ds))
   doms-simple no_doms = refl
-  doms-simple (more_doms d ds) = joined (parts_of_dom (dom_simplified d)) (parts_of_doms (doms_simplified ds)) (dom-simple d) (doms-simple ds)
+  doms-simple (more_doms d ds) =
+      joined (parts_of_dom (dom_simplified d)) (parts_of_doms (doms_simplified ds)) (dom-simple d) (doms-simple ds)

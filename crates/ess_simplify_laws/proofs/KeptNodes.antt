@@ -45,7 +45,8 @@ back (x ∷ xs) ys zs h = back xs ys zs h.1
 -- Two lists side by side.
 beside : (xs xs' ys ys' : List Ex) → From xs xs' → From ys ys' → From (xs ++ ys) (xs' ++ ys')
 beside xs xs' ys ys' p q =
-    joined xs ys (xs' ++ ys') (all-from xs xs' (xs' ++ ys') (λ x. has-front xs' ys' x) p) (all-from ys ys' (xs' ++ ys') (λ x. has-back xs' ys' x) q)
+    joined xs ys (xs' ++ ys') (all-from xs xs' (xs' ++ ys') (λ x. has-front xs' ys' x) p)
+    (all-from ys ys' (xs' ++ ys') (λ x. has-back xs' ys' x) q)
 
 -- A node whose parts come from those of another one, and which is that node but for its parts.
 under : (x y : Ex) (xs ys : List Ex) → bare y ≡ bare x → From xs ys → From (x ∷ xs) (y ∷ ys)
@@ -109,7 +110,8 @@ module _ (b : Bool) (zs : List Ex) where
   binary-from o (more_exs x (more_exs y no_exs)) s h = left-from o x y (outcome o (said x) (said y)) s h
   binary-from o no_exs s h = other-from o no_exs (is_some (connective (binary o))) s h
   binary-from o (more_exs x no_exs) s h = other-from o (more_exs x no_exs) (is_some (connective (binary o))) s h
-  binary-from o (more_exs x (more_exs y (more_exs z xs))) s h = other-from o (more_exs x (more_exs y (more_exs z xs))) (is_some (connective (binary o))) s h
+  binary-from o (more_exs x (more_exs y (more_exs z xs))) s h =
+      other-from o (more_exs x (more_exs y (more_exs z xs))) (is_some (connective (binary o))) s h
 
   unary-from : (o : Op1) (es : Exs) → Stands (unary o) → From (parts_of_all es) zs → From (parts_of (simpler_unary b o es)) zs
   unary-from Op1.Not no_exs s h = ((λ e. cc), tt)
@@ -142,7 +144,8 @@ mutual
   bare-dom (name_dom a) = refl
   bare-dom (tuple_dom ds) = ap tuple_dom (bare-doms ds)
   bare-dom (record_dom fs ds) = ap (record_dom fs) (bare-doms ds)
-  bare-dom (matrix_dom is d) = ap (λ x. matrix_dom x (bare_dom d)) (bare-doms is) ∙ ap (matrix_dom (bare_doms (doms_simplified is))) (bare-dom d)
+  bare-dom (matrix_dom is d) =
+      ap (λ x. matrix_dom x (bare_dom d)) (bare-doms is) ∙ ap (matrix_dom (bare_doms (doms_simplified is))) (bare-dom d)
   bare-dom (set_dom ms es d) = ap (set_dom ms no_exs) (bare-dom d)
   bare-dom (mset_dom ms es d) = ap (mset_dom ms no_exs) (bare-dom d)
   bare-dom (function_dom ms es d c) =
@@ -152,7 +155,8 @@ mutual
 
   bare-doms : (ds : Doms) → bare_doms ds ≡ bare_doms (doms_simplified ds)
   bare-doms no_doms = refl
-  bare-doms (more_doms d ds) = ap (λ x. more_doms x (bare_doms ds)) (bare-dom d) ∙ ap (more_doms (bare_dom (dom_simplified d))) (bare-doms ds)
+  bare-doms (more_doms d ds) =
+      ap (λ x. more_doms x (bare_doms ds)) (bare-dom d) ∙ ap (more_doms (bare_dom (dom_simplified d))) (bare-doms ds)
 
 bare-gens : (gs : Gens) → bare_gens gs ≡ bare_gens (gens_simplified gs)
 bare-gens no_gens = refl
@@ -170,31 +174,43 @@ mutual
   simplified-from (name_ex a) = ((λ h. at_first refl), tt)
   simplified-from (node_ex b op es) =
       node-from b (parts_of (node_ex b op es)) op (all_simplified es) (λ xs. at_first refl)
-      (all-from (parts_of_all (all_simplified es)) (parts_of_all es) (parts_of (node_ex b op es)) (λ z k. at_later k) (all-operands-from es))
+      (all-from (parts_of_all (all_simplified es)) (parts_of_all es) (parts_of (node_ex b op es)) (λ z k. at_later k)
+      (all-operands-from es))
   simplified-from (matrix_ex es d) = under (matrix_ex (all_simplified es) (dom_simplified d)) (matrix_ex es d)
       (parts_of_all (all_simplified es) ++ parts_of_dom (dom_simplified d)) (parts_of_all es ++ parts_of_dom d)
       (ap (matrix_ex no_exs) (bare-dom d))
-      (beside (parts_of_all (all_simplified es)) (parts_of_all es) (parts_of_dom (dom_simplified d)) (parts_of_dom d) (all-operands-from es) (dom-from d))
+      (beside (parts_of_all (all_simplified es)) (parts_of_all es) (parts_of_dom (dom_simplified d)) (parts_of_dom d)
+      (all-operands-from es) (dom-from d))
   simplified-from (comp_ex e gs) = under (comp_ex (simplified e) (gens_simplified gs)) (comp_ex e gs)
       (parts_of (simplified e) ++ parts_of_gens (gens_simplified gs)) (parts_of e ++ parts_of_gens gs)
       (ap (comp_ex (truth_ex true)) (bare-gens gs))
-      (beside (parts_of (simplified e)) (parts_of e) (parts_of_gens (gens_simplified gs)) (parts_of_gens gs) (simplified-from e) (gens-from gs))
+      (beside (parts_of (simplified e)) (parts_of e) (parts_of_gens (gens_simplified gs)) (parts_of_gens gs) (simplified-from e)
+      (gens-from gs))
   simplified-from (cell_ex b n es) = under (cell_ex b n (all_simplified es)) (cell_ex b n es)
       (parts_of_all (all_simplified es)) (parts_of_all es) refl (all-operands-from es)
   simplified-from (seen_ex r d ns es) = under (seen_ex r (dom_simplified d) ns (all_simplified es)) (seen_ex r d ns es)
       (parts_of_dom (dom_simplified d) ++ parts_of_all (all_simplified es)) (parts_of_dom d ++ parts_of_all es)
       (ap (λ x. seen_ex r x ns no_exs) (bare-dom d))
-      (beside (parts_of_dom (dom_simplified d)) (parts_of_dom d) (parts_of_all (all_simplified es)) (parts_of_all es) (dom-from d) (all-operands-from es))
+      (beside (parts_of_dom (dom_simplified d)) (parts_of_dom d) (parts_of_all (all_simplified es)) (parts_of_all es) (dom-from d)
+      (all-operands-from es))
 
   all-operands-from : (es : Exs) → From (parts_of_all (all_simplified es)) (parts_of_all es)
   all-operands-from no_exs = tt
-  all-operands-from (more_exs e es) = beside (parts_of (simplified e)) (parts_of e) (parts_of_all (all_simplified es)) (parts_of_all es) (simplified-from e) (all-operands-from es)
+  all-operands-from (more_exs e es) =
+      beside (parts_of (simplified e)) (parts_of e) (parts_of_all (all_simplified es)) (parts_of_all es) (simplified-from e)
+      (all-operands-from es)
 
   gens-from : (gs : Gens) → From (parts_of_gens (gens_simplified gs)) (parts_of_gens gs)
   gens-from no_gens = tt
-  gens-from (over p d gs) = beside (parts_of_dom (dom_simplified d)) (parts_of_dom d) (parts_of_gens (gens_simplified gs)) (parts_of_gens gs) (dom-from d) (gens-from gs)
-  gens-from (from p e gs) = beside (parts_of (simplified e)) (parts_of e) (parts_of_gens (gens_simplified gs)) (parts_of_gens gs) (simplified-from e) (gens-from gs)
-  gens-from (cond e gs) = beside (parts_of (simplified e)) (parts_of e) (parts_of_gens (gens_simplified gs)) (parts_of_gens gs) (simplified-from e) (gens-from gs)
+  gens-from (over p d gs) =
+      beside (parts_of_dom (dom_simplified d)) (parts_of_dom d) (parts_of_gens (gens_simplified gs)) (parts_of_gens gs) (dom-from d)
+      (gens-from gs)
+  gens-from (from p e gs) =
+      beside (parts_of (simplified e)) (parts_of e) (parts_of_gens (gens_simplified gs)) (parts_of_gens gs) (simplified-from e)
+      (gens-from gs)
+  gens-from (cond e gs) =
+      beside (parts_of (simplified e)) (parts_of e) (parts_of_gens (gens_simplified gs)) (parts_of_gens gs) (simplified-from e)
+      (gens-from gs)
 
   dom-from : (d : Dom) → From (parts_of_dom (dom_simplified d)) (parts_of_dom d)
   dom-from bool_dom = tt
@@ -202,16 +218,30 @@ mutual
   dom-from (name_dom a) = tt
   dom-from (tuple_dom ds) = doms-from ds
   dom-from (record_dom fs ds) = doms-from ds
-  dom-from (matrix_dom is d) = beside (parts_of_doms (doms_simplified is)) (parts_of_doms is) (parts_of_dom (dom_simplified d)) (parts_of_dom d) (doms-from is) (dom-from d)
-  dom-from (set_dom ms es d) = beside (parts_of_all (all_simplified es)) (parts_of_all es) (parts_of_dom (dom_simplified d)) (parts_of_dom d) (all-operands-from es) (dom-from d)
-  dom-from (mset_dom ms es d) = beside (parts_of_all (all_simplified es)) (parts_of_all es) (parts_of_dom (dom_simplified d)) (parts_of_dom d) (all-operands-from es) (dom-from d)
-  dom-from (function_dom ms es d c) = beside (parts_of_all (all_simplified es) ++ parts_of_dom (dom_simplified d)) (parts_of_all es ++ parts_of_dom d)
+  dom-from (matrix_dom is d) =
+      beside (parts_of_doms (doms_simplified is)) (parts_of_doms is) (parts_of_dom (dom_simplified d)) (parts_of_dom d) (doms-from is)
+      (dom-from d)
+  dom-from (set_dom ms es d) =
+      beside (parts_of_all (all_simplified es)) (parts_of_all es) (parts_of_dom (dom_simplified d)) (parts_of_dom d)
+      (all-operands-from es) (dom-from d)
+  dom-from (mset_dom ms es d) =
+      beside (parts_of_all (all_simplified es)) (parts_of_all es) (parts_of_dom (dom_simplified d)) (parts_of_dom d)
+      (all-operands-from es) (dom-from d)
+  dom-from (function_dom ms es d c) =
+      beside (parts_of_all (all_simplified es) ++ parts_of_dom (dom_simplified d)) (parts_of_all es ++ parts_of_dom d)
       (parts_of_dom (dom_simplified c)) (parts_of_dom c)
-      (beside (parts_of_all (all_simplified es)) (parts_of_all es) (parts_of_dom (dom_simplified d)) (parts_of_dom d) (all-operands-from es) (dom-from d))
+      (beside (parts_of_all (all_simplified es)) (parts_of_all es) (parts_of_dom (dom_simplified d)) (parts_of_dom d)
+      (all-operands-from es) (dom-from d))
       (dom-from c)
-  dom-from (relation_dom ms es ds) = beside (parts_of_all (all_simplified es)) (parts_of_all es) (parts_of_doms (doms_simplified ds)) (parts_of_doms ds) (all-operands-from es) (doms-from ds)
-  dom-from (partition_dom ms es d) = beside (parts_of_all (all_simplified es)) (parts_of_all es) (parts_of_dom (dom_simplified d)) (parts_of_dom d) (all-operands-from es) (dom-from d)
+  dom-from (relation_dom ms es ds) =
+      beside (parts_of_all (all_simplified es)) (parts_of_all es) (parts_of_doms (doms_simplified ds)) (parts_of_doms ds)
+      (all-operands-from es) (doms-from ds)
+  dom-from (partition_dom ms es d) =
+      beside (parts_of_all (all_simplified es)) (parts_of_all es) (parts_of_dom (dom_simplified d)) (parts_of_dom d)
+      (all-operands-from es) (dom-from d)
 
   doms-from : (ds : Doms) → From (parts_of_doms (doms_simplified ds)) (parts_of_doms ds)
   doms-from no_doms = tt
-  doms-from (more_doms d ds) = beside (parts_of_dom (dom_simplified d)) (parts_of_dom d) (parts_of_doms (doms_simplified ds)) (parts_of_doms ds) (dom-from d) (doms-from ds)
+  doms-from (more_doms d ds) =
+      beside (parts_of_dom (dom_simplified d)) (parts_of_dom d) (parts_of_doms (doms_simplified ds)) (parts_of_doms ds) (dom-from d)
+      (doms-from ds)

@@ -4,4 +4,5 @@ pub mod KeptNodes
 pub mod Chains
 pub mod RootMeanings
 mod ExamplesSimplifying
+pub mod WholeNodes
 pub mod WholeTrees

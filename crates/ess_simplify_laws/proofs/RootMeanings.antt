@@ -131,7 +131,8 @@ reached Op2.Iff None None m T h k = tt
 reached _ p q m T h k = tt
 
 -- Only a connective does without anything.
-moves : (o : Op2) (p q : Option Bool) (b : Bool) (x y f : Ex) → written b x y (outcome o p q) ≡ Some f → is_some (connective (binary o)) ≡ true
+moves : (o : Op2) (p q : Option Bool) (b : Bool) (x y f : Ex) → written b x y (outcome o p q) ≡ Some f → is_some (connective (binary o))
+    ≡ true
 moves Op2.And p q b x y f h = refl
 moves Op2.Or p q b x y f h = refl
 moves Op2.Implies p q b x y f h = refl
@@ -167,7 +168,8 @@ module _ (b : Bool) (o : Op2) (x y : Ex) (env : Env) where
 
   two-kept : (c : Outcome) (f : Ex) → written b x y c ≡ Some f → Says c Node (meaning x env) (meaning y env)
       → ((T : Type 0) → Guarded (guards (binary o)) (meaning x env) T → NeedsSecond c T)
-      → IsTruth (meaning x env) → Guarded (guards (binary o)) (meaning x env) (IsTruth (meaning y env) × Unit {0}) → Keeps (ex2 b o x y) f env
+      → IsTruth (meaning x env) → Guarded (guards (binary o)) (meaning x env) (IsTruth (meaning y env) × Unit {0})
+      → Keeps (ex2 b o x y) f env
   two-kept Outcome.Stays f h s r t u = cc
   two-kept Outcome.First f h s r t u =
       as-written (ex2 b o x y) x f env h (λ m. (told-by (as_truth (meaning x env)) s ∙ again (meaning x env) t, m.0))
@@ -184,22 +186,32 @@ module _ (b : Bool) (o : Op2) (x y : Ex) (env : Env) where
   two-kept (Outcome.Says v) f h s r t u = as-written (ex2 b o x y) (truth_ex v) f env h (truth-kept (ex2 b o x y) v env (told-by v s))
 
 -- A connective on a wrong number of operands is false.
-other-false : (b : Bool) (o : Op2) (es : Exs) (env : Env) (f : Ex) → ((g : Bool → Bool → Bool) → on_two g (map as_truth (meanings es env)) ≡ false)
+other-false : (b : Bool) (o : Op2) (es : Exs) (env : Env) (f : Ex)
+    → ((g : Bool → Bool → Bool) → on_two g (map as_truth (meanings es env)) ≡ false)
     → (if is_some (connective (binary o)) then Some (truth_ex false) else None) ≡ Some f → Keeps (node_ex b (binary o) es) f env
 other-false b Op2.And es env f h e =
-    as-written (node_ex b (binary Op2.And) es) (truth_ex false) f env e (truth-kept (node_ex b (binary Op2.And) es) false env (ap (λ v. false_where_undefined b (Some (truth v))) (h ◌&&◌) ∙ settled b false))
+    as-written (node_ex b (binary Op2.And) es) (truth_ex false) f env e
+    (truth-kept (node_ex b (binary Op2.And) es) false env
+    (ap (λ v. false_where_undefined b (Some (truth v))) (h ◌&&◌) ∙ settled b false))
 other-false b Op2.Or es env f h e =
-    as-written (node_ex b (binary Op2.Or) es) (truth_ex false) f env e (truth-kept (node_ex b (binary Op2.Or) es) false env (ap (λ v. false_where_undefined b (Some (truth v))) (h ◌||◌) ∙ settled b false))
+    as-written (node_ex b (binary Op2.Or) es) (truth_ex false) f env e
+    (truth-kept (node_ex b (binary Op2.Or) es) false env
+    (ap (λ v. false_where_undefined b (Some (truth v))) (h ◌||◌) ∙ settled b false))
 other-false b Op2.Implies es env f h e =
-    as-written (node_ex b (binary Op2.Implies) es) (truth_ex false) f env e (truth-kept (node_ex b (binary Op2.Implies) es) false env (ap (λ v. false_where_undefined b (Some (truth v))) (h implies) ∙ settled b false))
+    as-written (node_ex b (binary Op2.Implies) es) (truth_ex false) f env e
+    (truth-kept (node_ex b (binary Op2.Implies) es) false env
+    (ap (λ v. false_where_undefined b (Some (truth v))) (h implies) ∙ settled b false))
 other-false b Op2.Iff es env f h e =
-    as-written (node_ex b (binary Op2.Iff) es) (truth_ex false) f env e (truth-kept (node_ex b (binary Op2.Iff) es) false env (ap (λ v. false_where_undefined b (Some (truth v))) (h iff) ∙ settled b false))
+    as-written (node_ex b (binary Op2.Iff) es) (truth_ex false) f env e
+    (truth-kept (node_ex b (binary Op2.Iff) es) false env
+    (ap (λ v. false_where_undefined b (Some (truth v))) (h iff) ∙ settled b false))
 other-false b _ es env f h e = cc
 
 -- `!` of what needs none.
 denial-kept : (b : Bool) (a f : Ex) (env : Env) → undenied a ≡ Some f → HasTruthUnder a env → Keeps (ex1 b Op1.Not a) f env
 denial-kept b (truth_ex v) f env h t =
-    as-written (ex1 b Op1.Not (truth_ex v)) (truth_ex (not v)) f env h (truth-kept (ex1 b Op1.Not (truth_ex v)) (not v) env (settled b (not v)))
+    as-written (ex1 b Op1.Not (truth_ex v)) (truth_ex (not v)) f env h
+    (truth-kept (ex1 b Op1.Not (truth_ex v)) (not v) env (settled b (not v)))
 denial-kept b (node_ex c (unary Op1.Not) no_exs) f env h t = cc
 denial-kept b (node_ex c (unary Op1.Not) (more_exs a no_exs)) f env h t =
     as-written (ex1 b Op1.Not (ex1 c Op1.Not a)) a f env h (λ m. (means, m.0.0))
@@ -211,7 +223,8 @@ denial-kept b (node_ex c (unary Op1.Not) (more_exs a no_exs)) f env h t =
 denial-kept b (node_ex c (unary Op1.Not) (more_exs a (more_exs x xs))) f env h t = cc
 denial-kept b _ f env h t = cc
 
-wrong-denial : (b : Bool) (es : Exs) (env : Env) (f : Ex) → value_of_node (unary Op1.Not) (meanings es env) ≡ Some (truth false) → Some (truth_ex false) ≡ Some f
+wrong-denial : (b : Bool) (es : Exs) (env : Env) (f : Ex) → value_of_node (unary Op1.Not) (meanings es env) ≡ Some (truth false)
+    → Some (truth_ex false) ≡ Some f
     → Keeps (node_ex b (unary Op1.Not) es) f env
 wrong-denial b es env f h e =
     as-written (node_ex b (unary Op1.Not) es) (truth_ex false) f env e
@@ -226,7 +239,8 @@ binary-kept b o (more_exs x (more_exs y no_exs)) f h env t =
     (λ T. reached o (said x) (said y) (meaning x env) T (said-agrees x env)) u.0 u.1
 binary-kept b o no_exs f h env t = other-false b o no_exs env f (λ g. refl) h
 binary-kept b o (more_exs x no_exs) f h env t = other-false b o (more_exs x no_exs) env f (λ g. refl) h
-binary-kept b o (more_exs x (more_exs y (more_exs z zs))) f h env t = other-false b o (more_exs x (more_exs y (more_exs z zs))) env f (λ g. refl) h
+binary-kept b o (more_exs x (more_exs y (more_exs z zs))) f h env t =
+    other-false b o (more_exs x (more_exs y (more_exs z zs))) env f (λ g. refl) h
 
 unary-kept : (b : Bool) (o : Op1) (es : Exs) (f : Ex) → simpler_root (node_ex b (unary o) es) ≡ Some f → (env : Env)
     → HasTruthOperands (node_ex b (unary o) es) env → Keeps (node_ex b (unary o) es) f env

@@ -53,7 +53,8 @@ pub denied-fewer : (b : Bool) (e : Ex) (r : Ex) → Fewer (parts_of (denied b e)
 denied-fewer b (truth_ex v) r = omega arith
 denied-fewer b (node_ex c (unary Op1.Not) no_exs) r = omega arith
 denied-fewer b (node_ex c (unary Op1.Not) (more_exs a no_exs)) r =
-    skip r (parts_of a) (ex1 c Op1.Not a ∷ parts_of a ++ []) (skip (ex1 c Op1.Not a) (parts_of a) (parts_of a ++ []) (front (parts_of a) []))
+    skip r (parts_of a) (ex1 c Op1.Not a ∷ parts_of a ++ [])
+    (skip (ex1 c Op1.Not a) (parts_of a) (parts_of a ++ []) (front (parts_of a) []))
 denied-fewer b (node_ex c (unary Op1.Not) (more_exs a (more_exs x xs))) r =
     one (truth_ex true) r (parts_of (node_ex c (unary Op1.Not) (more_exs a (more_exs x xs))))
 denied-fewer b (number_ex n) r = denied-stays b (number_ex n) r
@@ -82,15 +83,20 @@ under-first x y r = one-more r r (parts_of x) (parts_of x ++ (parts_of y ++ []))
 
 under-second : (x y : Ex) (r : Ex) → Fewer (r ∷ parts_of y) (r ∷ parts_of_all (more_exs x (more_exs y no_exs)))
 under-second x y r = one-more r r (parts_of y) (parts_of x ++ (parts_of y ++ []))
-    (then-fewer (parts_of y) (parts_of y ++ []) (parts_of x ++ (parts_of y ++ [])) (front (parts_of y) []) (back (parts_of x) (parts_of y ++ [])))
+    (then-fewer (parts_of y) (parts_of y ++ []) (parts_of x ++ (parts_of y ++ [])) (front (parts_of y) [])
+    (back (parts_of x) (parts_of y ++ [])))
 
 left-fewer : (b : Bool) (o : Op2) (x y : Ex) (c : Outcome) (r : Ex)
     → Fewer (parts_of (left b o x y c)) (r ∷ parts_of_all (more_exs x (more_exs y no_exs)))
-left-fewer b o x y Outcome.Stays r = one-more (ex2 b o x y) r (parts_of x ++ (parts_of y ++ [])) (parts_of x ++ (parts_of y ++ [])) (itself (parts_of x ++ (parts_of y ++ [])))
+left-fewer b o x y Outcome.Stays r =
+    one-more (ex2 b o x y) r (parts_of x ++ (parts_of y ++ [])) (parts_of x ++ (parts_of y ++ []))
+    (itself (parts_of x ++ (parts_of y ++ [])))
 left-fewer b o x y Outcome.First r =
-    then-fewer (parts_of x) (r ∷ parts_of x) (r ∷ parts_of x ++ (parts_of y ++ [])) (skip r (parts_of x) (parts_of x) (itself (parts_of x))) (under-first x y r)
+    then-fewer (parts_of x) (r ∷ parts_of x) (r ∷ parts_of x ++ (parts_of y ++ []))
+    (skip r (parts_of x) (parts_of x) (itself (parts_of x))) (under-first x y r)
 left-fewer b o x y Outcome.Second r =
-    then-fewer (parts_of y) (r ∷ parts_of y) (r ∷ parts_of x ++ (parts_of y ++ [])) (skip r (parts_of y) (parts_of y) (itself (parts_of y))) (under-second x y r)
+    then-fewer (parts_of y) (r ∷ parts_of y) (r ∷ parts_of x ++ (parts_of y ++ []))
+    (skip r (parts_of y) (parts_of y) (itself (parts_of y))) (under-second x y r)
 left-fewer b o x y Outcome.FirstDenied r =
     then-fewer (parts_of (denied b x)) (r ∷ parts_of x) (r ∷ parts_of x ++ (parts_of y ++ [])) (denied-fewer b x r) (under-first x y r)
 left-fewer b o x y Outcome.SecondDenied r =
@@ -106,7 +112,8 @@ binary-fewer : (b : Bool) (o : Op2) (es : Exs) (r : Ex) → Fewer (parts_of (sim
 binary-fewer b o (more_exs x (more_exs y no_exs)) r = left-fewer b o x y (outcome o (said x) (said y)) r
 binary-fewer b o no_exs r = other-fewer b o no_exs (is_some (connective (binary o))) r
 binary-fewer b o (more_exs x no_exs) r = other-fewer b o (more_exs x no_exs) (is_some (connective (binary o))) r
-binary-fewer b o (more_exs x (more_exs y (more_exs z zs))) r = other-fewer b o (more_exs x (more_exs y (more_exs z zs))) (is_some (connective (binary o))) r
+binary-fewer b o (more_exs x (more_exs y (more_exs z zs))) r =
+    other-fewer b o (more_exs x (more_exs y (more_exs z zs))) (is_some (connective (binary o))) r
 
 unary-fewer : (b : Bool) (o : Op1) (es : Exs) (r : Ex) → Fewer (parts_of (simpler_unary b o es)) (r ∷ parts_of_all es)
 unary-fewer b Op1.Not no_exs r = one (truth_ex false) r []
@@ -140,29 +147,42 @@ mutual
   simplified-fewer (truth_ex v) = omega arith
   simplified-fewer (name_ex a) = omega arith
   simplified-fewer (node_ex b op es) =
-      then-fewer (parts_of (simpler_node b op (all_simplified es))) (node_ex b op es ∷ parts_of_all (all_simplified es)) (node_ex b op es ∷ parts_of_all es)
+      then-fewer (parts_of (simpler_node b op (all_simplified es))) (node_ex b op es ∷ parts_of_all (all_simplified es))
+      (node_ex b op es ∷ parts_of_all es)
       (node-fewer b op (all_simplified es) (node_ex b op es))
       (one-more (node_ex b op es) (node_ex b op es) (parts_of_all (all_simplified es)) (parts_of_all es) (all-fewer es))
   simplified-fewer (matrix_ex es d) = one-more (matrix_ex (all_simplified es) (dom_simplified d)) (matrix_ex es d)
       (parts_of_all (all_simplified es) ++ parts_of_dom (dom_simplified d)) (parts_of_all es ++ parts_of_dom d)
-      (side_by_side (parts_of_all (all_simplified es)) (parts_of_all es) (parts_of_dom (dom_simplified d)) (parts_of_dom d) (all-fewer es) (dom-fewer d))
+      (side_by_side (parts_of_all (all_simplified es)) (parts_of_all es) (parts_of_dom (dom_simplified d)) (parts_of_dom d)
+      (all-fewer es) (dom-fewer d))
   simplified-fewer (comp_ex e gs) = one-more (comp_ex (simplified e) (gens_simplified gs)) (comp_ex e gs)
       (parts_of (simplified e) ++ parts_of_gens (gens_simplified gs)) (parts_of e ++ parts_of_gens gs)
-      (side_by_side (parts_of (simplified e)) (parts_of e) (parts_of_gens (gens_simplified gs)) (parts_of_gens gs) (simplified-fewer e) (gens-fewer gs))
-  simplified-fewer (cell_ex b n es) = one-more (cell_ex b n (all_simplified es)) (cell_ex b n es) (parts_of_all (all_simplified es)) (parts_of_all es) (all-fewer es)
+      (side_by_side (parts_of (simplified e)) (parts_of e) (parts_of_gens (gens_simplified gs)) (parts_of_gens gs) (simplified-fewer e)
+      (gens-fewer gs))
+  simplified-fewer (cell_ex b n es) =
+      one-more (cell_ex b n (all_simplified es)) (cell_ex b n es) (parts_of_all (all_simplified es)) (parts_of_all es) (all-fewer es)
   simplified-fewer (seen_ex r d ns es) = one-more (seen_ex r (dom_simplified d) ns (all_simplified es)) (seen_ex r d ns es)
       (parts_of_dom (dom_simplified d) ++ parts_of_all (all_simplified es)) (parts_of_dom d ++ parts_of_all es)
-      (side_by_side (parts_of_dom (dom_simplified d)) (parts_of_dom d) (parts_of_all (all_simplified es)) (parts_of_all es) (dom-fewer d) (all-fewer es))
+      (side_by_side (parts_of_dom (dom_simplified d)) (parts_of_dom d) (parts_of_all (all_simplified es)) (parts_of_all es)
+      (dom-fewer d) (all-fewer es))
 
   all-fewer : (es : Exs) → Fewer (parts_of_all (all_simplified es)) (parts_of_all es)
   all-fewer no_exs = omega arith
-  all-fewer (more_exs e es) = side_by_side (parts_of (simplified e)) (parts_of e) (parts_of_all (all_simplified es)) (parts_of_all es) (simplified-fewer e) (all-fewer es)
+  all-fewer (more_exs e es) =
+      side_by_side (parts_of (simplified e)) (parts_of e) (parts_of_all (all_simplified es)) (parts_of_all es) (simplified-fewer e)
+      (all-fewer es)
 
   gens-fewer : (gs : Gens) → Fewer (parts_of_gens (gens_simplified gs)) (parts_of_gens gs)
   gens-fewer no_gens = omega arith
-  gens-fewer (over p d gs) = side_by_side (parts_of_dom (dom_simplified d)) (parts_of_dom d) (parts_of_gens (gens_simplified gs)) (parts_of_gens gs) (dom-fewer d) (gens-fewer gs)
-  gens-fewer (from p e gs) = side_by_side (parts_of (simplified e)) (parts_of e) (parts_of_gens (gens_simplified gs)) (parts_of_gens gs) (simplified-fewer e) (gens-fewer gs)
-  gens-fewer (cond e gs) = side_by_side (parts_of (simplified e)) (parts_of e) (parts_of_gens (gens_simplified gs)) (parts_of_gens gs) (simplified-fewer e) (gens-fewer gs)
+  gens-fewer (over p d gs) =
+      side_by_side (parts_of_dom (dom_simplified d)) (parts_of_dom d) (parts_of_gens (gens_simplified gs)) (parts_of_gens gs)
+      (dom-fewer d) (gens-fewer gs)
+  gens-fewer (from p e gs) =
+      side_by_side (parts_of (simplified e)) (parts_of e) (parts_of_gens (gens_simplified gs)) (parts_of_gens gs) (simplified-fewer e)
+      (gens-fewer gs)
+  gens-fewer (cond e gs) =
+      side_by_side (parts_of (simplified e)) (parts_of e) (parts_of_gens (gens_simplified gs)) (parts_of_gens gs) (simplified-fewer e)
+      (gens-fewer gs)
 
   dom-fewer : (d : Dom) → Fewer (parts_of_dom (dom_simplified d)) (parts_of_dom d)
   dom-fewer bool_dom = omega arith
@@ -170,19 +190,33 @@ mutual
   dom-fewer (name_dom a) = omega arith
   dom-fewer (tuple_dom ds) = doms-fewer ds
   dom-fewer (record_dom fs ds) = doms-fewer ds
-  dom-fewer (matrix_dom is d) = side_by_side (parts_of_doms (doms_simplified is)) (parts_of_doms is) (parts_of_dom (dom_simplified d)) (parts_of_dom d) (doms-fewer is) (dom-fewer d)
-  dom-fewer (set_dom ms es d) = side_by_side (parts_of_all (all_simplified es)) (parts_of_all es) (parts_of_dom (dom_simplified d)) (parts_of_dom d) (all-fewer es) (dom-fewer d)
-  dom-fewer (mset_dom ms es d) = side_by_side (parts_of_all (all_simplified es)) (parts_of_all es) (parts_of_dom (dom_simplified d)) (parts_of_dom d) (all-fewer es) (dom-fewer d)
-  dom-fewer (function_dom ms es d c) = side_by_side (parts_of_all (all_simplified es) ++ parts_of_dom (dom_simplified d)) (parts_of_all es ++ parts_of_dom d)
+  dom-fewer (matrix_dom is d) =
+      side_by_side (parts_of_doms (doms_simplified is)) (parts_of_doms is) (parts_of_dom (dom_simplified d)) (parts_of_dom d)
+      (doms-fewer is) (dom-fewer d)
+  dom-fewer (set_dom ms es d) =
+      side_by_side (parts_of_all (all_simplified es)) (parts_of_all es) (parts_of_dom (dom_simplified d)) (parts_of_dom d)
+      (all-fewer es) (dom-fewer d)
+  dom-fewer (mset_dom ms es d) =
+      side_by_side (parts_of_all (all_simplified es)) (parts_of_all es) (parts_of_dom (dom_simplified d)) (parts_of_dom d)
+      (all-fewer es) (dom-fewer d)
+  dom-fewer (function_dom ms es d c) =
+      side_by_side (parts_of_all (all_simplified es) ++ parts_of_dom (dom_simplified d)) (parts_of_all es ++ parts_of_dom d)
       (parts_of_dom (dom_simplified c)) (parts_of_dom c)
-      (side_by_side (parts_of_all (all_simplified es)) (parts_of_all es) (parts_of_dom (dom_simplified d)) (parts_of_dom d) (all-fewer es) (dom-fewer d))
+      (side_by_side (parts_of_all (all_simplified es)) (parts_of_all es) (parts_of_dom (dom_simplified d)) (parts_of_dom d)
+      (all-fewer es) (dom-fewer d))
       (dom-fewer c)
-  dom-fewer (relation_dom ms es ds) = side_by_side (parts_of_all (all_simplified es)) (parts_of_all es) (parts_of_doms (doms_simplified ds)) (parts_of_doms ds) (all-fewer es) (doms-fewer ds)
-  dom-fewer (partition_dom ms es d) = side_by_side (parts_of_all (all_simplified es)) (parts_of_all es) (parts_of_dom (dom_simplified d)) (parts_of_dom d) (all-fewer es) (dom-fewer d)
+  dom-fewer (relation_dom ms es ds) =
+      side_by_side (parts_of_all (all_simplified es)) (parts_of_all es) (parts_of_doms (doms_simplified ds)) (parts_of_doms ds)
+      (all-fewer es) (doms-fewer ds)
+  dom-fewer (partition_dom ms es d) =
+      side_by_side (parts_of_all (all_simplified es)) (parts_of_all es) (parts_of_dom (dom_simplified d)) (parts_of_dom d)
+      (all-fewer es) (dom-fewer d)
 
   doms-fewer : (ds : Doms) → Fewer (parts_of_doms (doms_simplified ds)) (parts_of_doms ds)
   doms-fewer no_doms = omega arith
-  doms-fewer (more_doms d ds) = side_by_side (parts_of_dom (dom_simplified d)) (parts_of_dom d) (parts_of_doms (doms_simplified ds)) (parts_of_doms ds) (dom-fewer d) (doms-fewer ds)
+  doms-fewer (more_doms d ds) =
+      side_by_side (parts_of_dom (dom_simplified d)) (parts_of_dom d) (parts_of_doms (doms_simplified ds)) (parts_of_doms ds)
+      (dom-fewer d) (doms-fewer ds)
 
 -- The test says so.
 pub no-larger : (e : Ex) → IsTrue (nat_le (length (parts_of (simplified e))) (length (parts_of e)))

@@ -1,167 +1,22 @@
 -- The simplified tree means the same, and is met where the tree is, where the operands of connectives have truth values.
-use Rattle.std.proofs.Common.{◌≡◌, refl, sym, ap, ◌∙◌, subst, Bool, true, false, not, ◌&&◌, ◌||◌, if◌then◌else◌, ℕ, suc, List, [], ◌∷◌, length, map, Option, Some, None, option_map}
-use Rattle.std.specs.Prelude.{is_some}
-use Rattle.ess_semantics.specs.declared.words.Op1.{Op1}
+use Rattle.std.proofs.Common.{◌≡◌, refl, sym, ap, ◌∙◌, subst, Bool, true, false, ◌&&◌, suc, List, [], ◌∷◌, length, map, Option, Some, option_map}
 use Rattle.ess_semantics.specs.declared.words.Op2.{Op2}
 use Rattle.ess_semantics.specs.Lists.{and_then, all_some}
 use Rattle.ess_semantics.specs.Values.{Value, truth, items_of}
 use Rattle.ess_semantics.specs.Names.{look}
-use Rattle.ess_semantics.specs.Trees.{Op, unary, binary, word, index, application, tuple_literal, set_literal, mset_literal, function_literal, relation_literal, partition_literal, matrix_literal, record_literal, Ex, Exs, number_ex, truth_ex, name_ex, node_ex, matrix_ex, comp_ex, cell_ex, seen_ex, no_exs, more_exs, Gens, no_gens, over, from, cond, Dom, Doms, bool_dom, int_dom, name_dom, tuple_dom, record_dom, matrix_dom, set_dom, mset_dom, function_dom, relation_dom, partition_dom, no_doms, more_doms, ex1, ex2}
-use Rattle.ess_semantics.specs.Operators.{as_truth, implies, iff, on_two, connective, value_of_node, false_where_undefined, list_value}
+use Rattle.ess_semantics.specs.Trees.{Op, binary, Ex, Exs, number_ex, truth_ex, name_ex, node_ex, matrix_ex, comp_ex, cell_ex, seen_ex, no_exs, more_exs, Gens, no_gens, over, from, cond, Dom, Doms, bool_dom, int_dom, name_dom, tuple_dom, record_dom, matrix_dom, set_dom, mset_dom, function_dom, relation_dom, partition_dom, no_doms, more_doms}
+use Rattle.ess_semantics.specs.Operators.{as_truth, implies, on_two, value_of_node, false_where_undefined, list_value}
 use Rattle.ess_semantics.specs.Domains.{integers, tuples, records, matrices, sets, msets, functions, relations, partitions, more_domains}
 use Rattle.ess_semantics.specs.Meaning.{Env, with_pat, collect, where_true, meaning, meanings, items_under, domain_of, domains_of, members_in, spans_of, attributes_of, matrix_value, seen_in, cell_in, indices, tables_in, is_bool_dom}
-use Rattle.ess_semantics.specs.Contexts.{guards, Guarded, EachOf, EachIn}
+use Rattle.ess_semantics.specs.Contexts.{guards, EachOf, EachIn}
 use Rattle.ess_semantics.specs.Meets.{Meets, MeetsAll, MeetsGens, MeetsDom, MeetsDoms, tidy_in}
 use Rattle.ess_rules_laws.specs.Rules.{IsTruth}
 use Rattle.ess_rules_laws.proofs.Bindings.{collect-each-of, collect-each-in, where-true-same, each-of-map, each-in-map, each-of-join, each-in-join}
-use Rattle.ess_simplify_laws.specs.declared.words.Outcome.{Outcome}
-use Rattle.ess_simplify_laws.specs.Simplifying.{said, denied, outcome, left, simpler_unary, simpler_binary, simpler_node, simplified, all_simplified, gens_simplified, dom_simplified, doms_simplified}
+use Rattle.ess_simplify_laws.specs.Simplifying.{simplified, all_simplified, gens_simplified, dom_simplified, doms_simplified}
 use Rattle.ess_simplify_laws.specs.SimplerRoots.{AreTruths}
 use Rattle.ess_simplify_laws.specs.TruthsThere.{HasTruths, HaveTruths, GensHaveTruths, DomHasTruths, DomsHaveTruths, SimplifyingKeeps}
-use Rattle.ess_simplify_laws.proofs.RootMeanings.{settled, again, twice, told, Says, says, NeedsSecond, reached, said-agrees}
-
--- ---- one node
-
--- The second tree means what the first one does, is met, and its connectives have truth values.
-abbrev pub Follows : Ex → Ex → Env → Type 0
-Follows e f env = (meaning e env ≡ meaning f env) × Meets f env × HasTruths f env
-
-itself : (e : Ex) (env : Env) → Meets e env → HasTruths e env → Follows e e env
-itself e env m h = (refl, m, h)
-
--- What an operand in front is, is met.
-denial-follows : (b : Bool) (a : Ex) (env : Env) → IsTruth (meaning a env) → Meets a env → HasTruths a env → Follows (ex1 b Op1.Not a) (ex1 b Op1.Not a) env
-denial-follows b a env t m h = itself (ex1 b Op1.Not a) env (m, tt) ((λ e. (t, tt)), (h, tt))
-
-denied-follows : (b : Bool) (a : Ex) (env : Env) → IsTruth (meaning a env) → Meets a env → HasTruths a env → Follows (ex1 b Op1.Not a) (denied b a) env
-denied-follows b (truth_ex v) env t m h = (settled b (not v), tt, tt)
-denied-follows b (node_ex c (unary Op1.Not) no_exs) env t m h =
-    (ap (λ o. false_where_undefined b (Some (truth (not (as_truth o))))) (settled c false) ∙ settled b true, tt, tt)
-denied-follows b (node_ex c (unary Op1.Not) (more_exs a no_exs)) env t m h = (
-  ap (λ o. false_where_undefined b (Some (truth (not (as_truth o))))) (settled c (not (as_truth (meaning a env))))
-      ∙ settled b (not (not (as_truth (meaning a env)))) ∙ told _ _ (twice (as_truth (meaning a env))) ∙ again (meaning a env) (h.0 refl).0,
-  m.0,
-  h.1.0,
-)
-denied-follows b (node_ex c (unary Op1.Not) (more_exs a (more_exs x xs))) env t m h =
-    (ap (λ o. false_where_undefined b (Some (truth (not (as_truth o))))) (settled c false) ∙ settled b true, tt, tt)
-denied-follows b (number_ex n) env t m h = denial-follows b (number_ex n) env t m h
-denied-follows b (name_ex n) env t m h = denial-follows b (name_ex n) env t m h
-denied-follows b (node_ex c (unary Op1.Minus) es) env t m h = denial-follows b (node_ex c (unary Op1.Minus) es) env t m h
-denied-follows b (node_ex c (unary Op1.Bar) es) env t m h = denial-follows b (node_ex c (unary Op1.Bar) es) env t m h
-denied-follows b (node_ex c (binary o) es) env t m h = denial-follows b (node_ex c (binary o) es) env t m h
-denied-follows b (node_ex c (word f) es) env t m h = denial-follows b (node_ex c (word f) es) env t m h
-denied-follows b (node_ex c (index qs) es) env t m h = denial-follows b (node_ex c (index qs) es) env t m h
-denied-follows b (node_ex c application es) env t m h = denial-follows b (node_ex c application es) env t m h
-denied-follows b (node_ex c tuple_literal es) env t m h = denial-follows b (node_ex c tuple_literal es) env t m h
-denied-follows b (node_ex c set_literal es) env t m h = denial-follows b (node_ex c set_literal es) env t m h
-denied-follows b (node_ex c mset_literal es) env t m h = denial-follows b (node_ex c mset_literal es) env t m h
-denied-follows b (node_ex c function_literal es) env t m h = denial-follows b (node_ex c function_literal es) env t m h
-denied-follows b (node_ex c relation_literal es) env t m h = denial-follows b (node_ex c relation_literal es) env t m h
-denied-follows b (node_ex c partition_literal es) env t m h = denial-follows b (node_ex c partition_literal es) env t m h
-denied-follows b (node_ex c matrix_literal es) env t m h = denial-follows b (node_ex c matrix_literal es) env t m h
-denied-follows b (node_ex c (record_literal fs) es) env t m h = denial-follows b (node_ex c (record_literal fs) es) env t m h
-denied-follows b (matrix_ex es d) env t m h = denial-follows b (matrix_ex es d) env t m h
-denied-follows b (comp_ex e gs) env t m h = denial-follows b (comp_ex e gs) env t m h
-denied-follows b (cell_ex c n es) env t m h = denial-follows b (cell_ex c n es) env t m h
-denied-follows b (seen_ex r d ns es) env t m h = denial-follows b (seen_ex r d ns es) env t m h
-
--- Where an operator on two operands moves it is a connective.
-abbrev Moves : Outcome → Op2 → Type 0
-Moves Outcome.Stays o = Unit {0}
-Moves _ o = is_some (connective (binary o)) ≡ true
-
-moves : (o : Op2) (p q : Option Bool) → Moves (outcome o p q) o
-moves Op2.And (Some true) q = refl
-moves Op2.And (Some false) q = refl
-moves Op2.And None (Some true) = refl
-moves Op2.And None (Some false) = refl
-moves Op2.And None None = tt
-moves Op2.Or (Some true) q = refl
-moves Op2.Or (Some false) q = refl
-moves Op2.Or None (Some true) = refl
-moves Op2.Or None (Some false) = refl
-moves Op2.Or None None = tt
-moves Op2.Implies (Some true) q = refl
-moves Op2.Implies (Some false) q = refl
-moves Op2.Implies None (Some true) = refl
-moves Op2.Implies None (Some false) = refl
-moves Op2.Implies None None = tt
-moves Op2.Iff (Some true) q = refl
-moves Op2.Iff (Some false) q = refl
-moves Op2.Iff None (Some true) = refl
-moves Op2.Iff None (Some false) = refl
-moves Op2.Iff None None = tt
-moves _ p q = tt
-
-module _ (b : Bool) (o : Op2) (x y : Ex) (env : Env) (t : is_some (connective (binary o)) ≡ true → AreTruths (guards (binary o)) (more_exs x (more_exs y no_exs)) env)
-    (h : HaveTruths (guards (binary o)) (more_exs x (more_exs y no_exs)) env) (m : MeetsAll (guards (binary o)) (more_exs x (more_exs y no_exs)) env) where
-  abbrev Node : Option Value
-  Node = value_of_node (binary o) (meaning x env ∷ meaning y env ∷ [])
-
-  told-by : (v : Bool) → Node ≡ Some (truth v) → meaning (ex2 b o x y) env ≡ Some (truth v)
-  told-by v e = ap (false_where_undefined b) e ∙ settled b v
-
-  denied-by : (z : Ex) → Node ≡ Some (truth (not (as_truth (meaning z env)))) → meaning (ex2 b o x y) env ≡ meaning (ex1 b Op1.Not z) env
-  denied-by z e = told-by (not (as_truth (meaning z env))) e ∙ sym (settled b (not (as_truth (meaning z env))))
-
-  left-follows : (c : Outcome) → Says c Node (meaning x env) (meaning y env) → Moves c o
-      → ((T : Type 0) → Guarded (guards (binary o)) (meaning x env) T → NeedsSecond c T) → Follows (ex2 b o x y) (left b o x y c) env
-  left-follows Outcome.Stays s k r = itself (ex2 b o x y) env m (t, h)
-  left-follows Outcome.First s k r = (told-by (as_truth (meaning x env)) s ∙ again (meaning x env) (t k).0, m.0, h.0)
-  left-follows Outcome.Second s k r =
-      let u = r (IsTruth (meaning y env) × Unit {0}) (t k).1 in
-      let n = r (Meets y env × Unit {0}) m.1 in
-      let j = r (HasTruths y env × Unit {0}) h.1 in
-      (told-by (as_truth (meaning y env)) s ∙ again (meaning y env) u.0, n.0, j.0)
-  left-follows Outcome.FirstDenied s k r =
-      let f = denied-follows b x env (t k).0 m.0 h.0 in (denied-by x s ∙ f.0, f.1, f.2)
-  left-follows Outcome.SecondDenied s k r =
-      let u = r (IsTruth (meaning y env) × Unit {0}) (t k).1 in
-      let n = r (Meets y env × Unit {0}) m.1 in
-      let j = r (HasTruths y env × Unit {0}) h.1 in
-      let f = denied-follows b y env u.0 n.0 j.0 in (denied-by y s ∙ f.0, f.1, f.2)
-  left-follows (Outcome.Says v) s k r = (told-by v s, tt, tt)
-
-  two-follow : Follows (ex2 b o x y) (left b o x y (outcome o (said x) (said y))) env
-  two-follow = left-follows (outcome o (said x) (said y))
-      (says o (said x) (said y) (meaning x env) (meaning y env) (said-agrees x env) (said-agrees y env)) (moves o (said x) (said y))
-      (λ T. reached o (said x) (said y) (meaning x env) T (said-agrees x env))
-
--- On another number of operands.
-other-follows : (b : Bool) (o : Op2) (es : Exs) (env : Env) → ((g : Bool → Bool → Bool) → on_two g (map as_truth (meanings es env)) ≡ false)
-    → Follows (node_ex b (binary o) es) (node_ex b (binary o) es) env
-    → Follows (node_ex b (binary o) es) (if is_some (connective (binary o)) then truth_ex false else node_ex b (binary o) es) env
-other-follows b Op2.And es env h f = (ap (λ v. false_where_undefined b (Some (truth v))) (h ◌&&◌) ∙ settled b false, tt, tt)
-other-follows b Op2.Or es env h f = (ap (λ v. false_where_undefined b (Some (truth v))) (h ◌||◌) ∙ settled b false, tt, tt)
-other-follows b Op2.Implies es env h f = (ap (λ v. false_where_undefined b (Some (truth v))) (h implies) ∙ settled b false, tt, tt)
-other-follows b Op2.Iff es env h f = (ap (λ v. false_where_undefined b (Some (truth v))) (h iff) ∙ settled b false, tt, tt)
-other-follows b _ es env h f = f
-
-node-follows : (b : Bool) (op : Op) (es : Exs) (env : Env) → HasTruths (node_ex b op es) env → MeetsAll (guards op) es env
-    → Follows (node_ex b op es) (simpler_node b op es) env
-node-follows b (unary Op1.Not) no_exs env h m = (settled b false, tt, tt)
-node-follows b (unary Op1.Not) (more_exs a no_exs) env h m = denied-follows b a env (h.0 refl).0 m.0 h.1.0
-node-follows b (unary Op1.Not) (more_exs a (more_exs x xs)) env h m = (settled b false, tt, tt)
-node-follows b (unary Op1.Minus) es env h m = itself (node_ex b (unary Op1.Minus) es) env m h
-node-follows b (unary Op1.Bar) es env h m = itself (node_ex b (unary Op1.Bar) es) env m h
-node-follows b (binary o) (more_exs x (more_exs y no_exs)) env h m = two-follow b o x y env h.0 h.1 m
-node-follows b (binary o) no_exs env h m = other-follows b o no_exs env (λ g. refl) (itself (node_ex b (binary o) no_exs) env m h)
-node-follows b (binary o) (more_exs x no_exs) env h m =
-    other-follows b o (more_exs x no_exs) env (λ g. refl) (itself (node_ex b (binary o) (more_exs x no_exs)) env m h)
-node-follows b (binary o) (more_exs x (more_exs y (more_exs z zs))) env h m =
-    other-follows b o (more_exs x (more_exs y (more_exs z zs))) env (λ g. refl) (itself (node_ex b (binary o) (more_exs x (more_exs y (more_exs z zs)))) env m h)
-node-follows b (word f) es env h m = itself (node_ex b (word f) es) env m h
-node-follows b (index qs) es env h m = itself (node_ex b (index qs) es) env m h
-node-follows b application es env h m = itself (node_ex b application es) env m h
-node-follows b tuple_literal es env h m = itself (node_ex b tuple_literal es) env m h
-node-follows b set_literal es env h m = itself (node_ex b set_literal es) env m h
-node-follows b mset_literal es env h m = itself (node_ex b mset_literal es) env m h
-node-follows b function_literal es env h m = itself (node_ex b function_literal es) env m h
-node-follows b relation_literal es env h m = itself (node_ex b relation_literal es) env m h
-node-follows b partition_literal es env h m = itself (node_ex b partition_literal es) env m h
-node-follows b matrix_literal es env h m = itself (node_ex b matrix_literal es) env m h
-node-follows b (record_literal fs) es env h m = itself (node_ex b (record_literal fs) es) env m h
+use Rattle.ess_simplify_laws.proofs.RootMeanings.{told}
+use Rattle.ess_simplify_laws.proofs.WholeNodes.{Follows, node-follows}
 
 -- ---- operands behind a guard
 
@@ -172,7 +27,8 @@ Same true [] [] = Unit {0}
 Same true (o ∷ os) (p ∷ ps) = (o ≡ p) × (length os ≡ length ps) × (as_truth o ≡ true → os ≡ ps)
 Same true os ps = ⊥
 
-and-idle : (os ps : List (Option Value)) → length os ≡ length ps → on_two ◌&&◌ (false ∷ map as_truth os) ≡ on_two ◌&&◌ (false ∷ map as_truth ps)
+and-idle : (os ps : List (Option Value)) → length os ≡ length ps → on_two ◌&&◌ (false ∷ map as_truth os)
+    ≡ on_two ◌&&◌ (false ∷ map as_truth ps)
 and-idle [] [] h = refl
 and-idle [] (p ∷ ps) h = cc
 and-idle (o ∷ os) [] h = cc
@@ -181,7 +37,8 @@ and-idle (o ∷ []) (p ∷ q ∷ ps) h = cc
 and-idle (o ∷ n ∷ os) (p ∷ []) h = cc
 and-idle (o ∷ n ∷ os) (p ∷ q ∷ ps) h = refl
 
-implies-idle : (os ps : List (Option Value)) → length os ≡ length ps → on_two implies (false ∷ map as_truth os) ≡ on_two implies (false ∷ map as_truth ps)
+implies-idle : (os ps : List (Option Value)) → length os ≡ length ps → on_two implies (false ∷ map as_truth os)
+    ≡ on_two implies (false ∷ map as_truth ps)
 implies-idle [] [] h = refl
 implies-idle [] (p ∷ ps) h = cc
 implies-idle (o ∷ os) [] h = cc
@@ -190,16 +47,20 @@ implies-idle (o ∷ []) (p ∷ q ∷ ps) h = cc
 implies-idle (o ∷ n ∷ os) (p ∷ []) h = cc
 implies-idle (o ∷ n ∷ os) (p ∷ q ∷ ps) h = refl
 
-guarded : (f : Bool → Bool → Bool) → ((os ps : List (Option Value)) → length os ≡ length ps → on_two f (false ∷ map as_truth os) ≡ on_two f (false ∷ map as_truth ps))
-    → (os ps : List (Option Value)) → Same true os ps → Some (truth (on_two f (map as_truth os))) ≡ Some (truth (on_two f (map as_truth ps)))
+guarded : (f : Bool → Bool → Bool)
+    → ((os ps : List (Option Value)) → length os ≡ length ps → on_two f (false ∷ map as_truth os) ≡ on_two f (false ∷ map as_truth ps))
+    → (os ps : List (Option Value)) → Same true os ps → Some (truth (on_two f (map as_truth os)))
+    ≡ Some (truth (on_two f (map as_truth ps)))
 guarded f idle [] [] h = refl
 guarded f idle [] (p ∷ ps) h = elim h [ ]
 guarded f idle (o ∷ os) [] h = elim h [ ]
 guarded f idle (o ∷ os) (p ∷ ps) h = go (as_truth o) refl
   where
     go : (v : Bool) → as_truth o ≡ v → Some (truth (on_two f (map as_truth (o ∷ os)))) ≡ Some (truth (on_two f (map as_truth (p ∷ ps))))
-    go true e = ap (λ x. Some (truth (on_two f (map as_truth (x ∷ os))))) h.0 ∙ ap (λ l. Some (truth (on_two f (map as_truth (p ∷ l))))) (h.2 e)
-    go false e = told _ _ (ap (λ x. on_two f (x ∷ map as_truth os)) e ∙ idle os ps h.1 ∙ ap (λ x. on_two f (x ∷ map as_truth ps)) (sym e ∙ ap as_truth h.0))
+    go true e = ap (λ x. Some (truth (on_two f (map as_truth (x ∷ os))))) h.0
+        ∙ ap (λ l. Some (truth (on_two f (map as_truth (p ∷ l))))) (h.2 e)
+    go false e = told _ _
+        (ap (λ x. on_two f (x ∷ map as_truth os)) e ∙ idle os ps h.1 ∙ ap (λ x. on_two f (x ∷ map as_truth ps)) (sym e ∙ ap as_truth h.0))
 
 value-same : (op : Op) (os ps : List (Option Value)) → Same (guards op) os ps → value_of_node op os ≡ value_of_node op ps
 value-same (binary Op2.And) os ps h = guarded ◌&&◌ and-idle os ps h
@@ -233,10 +94,12 @@ AllFollow g es env =
 
 -- What a domain keeps.
 abbrev DomFollows : Dom → Env → Type 0
-DomFollows d env = (domain_of d env ≡ domain_of (dom_simplified d) env) × MeetsDom (dom_simplified d) env × DomHasTruths (dom_simplified d) env
+DomFollows d env = (domain_of d env ≡ domain_of (dom_simplified d) env) × MeetsDom (dom_simplified d) env × DomHasTruths
+    (dom_simplified d) env
 
 abbrev DomsFollow : Doms → Env → Type 0
-DomsFollow ds env = (domains_of ds env ≡ domains_of (doms_simplified ds) env) × MeetsDoms (doms_simplified ds) env × DomsHaveTruths (doms_simplified ds) env
+DomsFollow ds env = (domains_of ds env ≡ domains_of (doms_simplified ds) env) × MeetsDoms (doms_simplified ds) env × DomsHaveTruths
+    (doms_simplified ds) env
 
 -- What generators keep, with the body e at their bindings.
 abbrev GensFollow : Gens → Env → Ex → Type 0
@@ -273,8 +136,10 @@ mutual
       let s = dom-follows d env h.0 m.1 in
       let u = all-follow false es env h.1 m.2 in (
         ap (λ q. false_where_undefined q (seen_in r (domain_of d env) (tables_in env.cells ns) (indices (meanings es env)))) (bool-same d)
-            ∙ ap (λ x. false_where_undefined (is_bool_dom (dom_simplified d)) (seen_in r x (tables_in env.cells ns) (indices (meanings es env)))) s.0
-            ∙ ap (λ x. false_where_undefined (is_bool_dom (dom_simplified d)) (seen_in r (domain_of (dom_simplified d) env) (tables_in env.cells ns) (indices x))) u.0,
+            ∙ ap (λ x. false_where_undefined (is_bool_dom (dom_simplified d))
+            (seen_in r x (tables_in env.cells ns) (indices (meanings es env)))) s.0
+            ∙ ap (λ x. false_where_undefined (is_bool_dom (dom_simplified d))
+            (seen_in r (domain_of (dom_simplified d) env) (tables_in env.cells ns) (indices x))) u.0,
         (
           ap (λ x. tidy_in r (domain_of (dom_simplified d) env) (tables_in env.cells ns) (indices x)) (sym u.0)
               ∙ ap (λ x. tidy_in r x (tables_in env.cells ns) (indices (meanings es env))) (sym s.0) ∙ m.0,
@@ -310,17 +175,20 @@ mutual
       let r = dom-follows d env h.0 m.0 in
       let each = each-of-join (members_in (domain_of d env)) _ _ (λ v. GensFollow gs (with_pat p v env) x)
       (λ v t q. gens-follow gs (with_pat p v env) x body t q) h.1 m.1 in (
-        collect-each-of (members_in (domain_of d env)) _ _ (each-of-map (members_in (domain_of d env)) (λ v. GensFollow gs (with_pat p v env) x) _ (λ v s. s.0) each)
+        collect-each-of (members_in (domain_of d env)) _ _
+            (each-of-map (members_in (domain_of d env)) (λ v. GensFollow gs (with_pat p v env) x) _ (λ v s. s.0) each)
             ∙ ap (λ y. and_then (members_in y) (λ vs. collect vs (λ v. items_under (gens_simplified gs) (with_pat p v env)
             (λ here. option_map (λ v. v ∷ []) (meaning (simplified x) here))))) r.0,
         (
           r.1,
-          subst (λ y. EachOf (members_in y) (λ v. MeetsGens (gens_simplified gs) (with_pat p v env) (λ here. Meets (simplified x) here))) r.0
+          subst (λ y. EachOf (members_in y)
+              (λ v. MeetsGens (gens_simplified gs) (with_pat p v env) (λ here. Meets (simplified x) here))) r.0
               (each-of-map (members_in (domain_of d env)) (λ v. GensFollow gs (with_pat p v env) x) _ (λ v s. s.1) each),
         ),
         (
           r.2,
-          subst (λ y. EachOf (members_in y) (λ v. GensHaveTruths (gens_simplified gs) (with_pat p v env) (λ here. HasTruths (simplified x) here))) r.0
+          subst (λ y. EachOf (members_in y)
+              (λ v. GensHaveTruths (gens_simplified gs) (with_pat p v env) (λ here. HasTruths (simplified x) here))) r.0
               (each-of-map (members_in (domain_of d env)) (λ v. GensFollow gs (with_pat p v env) x) _ (λ v s. s.2) each),
         ),
       )
@@ -345,7 +213,8 @@ mutual
   gens-follow (cond e gs) env x body h m =
       let r = follows e env h.0 m.0 in (
         where-true-same (meaning e env) _ _ (λ t. (gens-follow gs env x body (h.1 t) (m.1 t)).0)
-            ∙ ap (λ y. where_true y (λ u. items_under (gens_simplified gs) env (λ here. option_map (λ v. v ∷ []) (meaning (simplified x) here)))) r.0,
+            ∙ ap (λ y. where_true y
+            (λ u. items_under (gens_simplified gs) env (λ here. option_map (λ v. v ∷ []) (meaning (simplified x) here)))) r.0,
         (r.1, (λ t. let u = ap as_truth r.0 ∙ t in (gens-follow gs env x body (h.1 u) (m.1 u)).1)),
         (r.2, (λ t. let u = ap as_truth r.0 ∙ t in (gens-follow gs env x body (h.1 u) (m.1 u)).2)),
       )
@@ -386,8 +255,10 @@ mutual
       let s = dom-follows d env h.1 m.1 in
       let u = dom-follows c env h.2 m.2 in (
         ap (λ y. and_then (attributes_of ms y) (λ ks. and_then (domain_of d env) (λ x. option_map (functions ks x) (domain_of c env)))) r.0
-            ∙ ap (λ y. and_then (attributes_of ms (meanings (all_simplified es) env)) (λ ks. and_then y (λ x. option_map (functions ks x) (domain_of c env)))) s.0
-            ∙ ap (λ y. and_then (attributes_of ms (meanings (all_simplified es) env)) (λ ks. and_then (domain_of (dom_simplified d) env) (λ x. option_map (functions ks x) y))) u.0,
+            ∙ ap (λ y. and_then (attributes_of ms (meanings (all_simplified es) env))
+            (λ ks. and_then y (λ x. option_map (functions ks x) (domain_of c env)))) s.0
+            ∙ ap (λ y. and_then (attributes_of ms (meanings (all_simplified es) env))
+            (λ ks. and_then (domain_of (dom_simplified d) env) (λ x. option_map (functions ks x) y))) u.0,
         (r.1, s.1, u.1),
         (r.2, s.2, u.2),
       )
