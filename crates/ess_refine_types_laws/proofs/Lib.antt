@@ -7,5 +7,7 @@ mod TypesOfLists
 mod TypesOfComparedLists
 mod TypesOfContainers
 mod MarksOfTyped
+mod MarksBehind
+mod MarksOfContainers
 mod MarksOfJudged
 mod Examples

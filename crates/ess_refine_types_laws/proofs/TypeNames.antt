@@ -19,14 +19,14 @@ then-same (Some t) F G k l h = h t
 
 module _ (u : Text → Bool) where
   -- Both give the names of u the same types.
-  abbrev Same : Names Ty → Names Ty → Type 0
+  abbrev pub Same : Names Ty → Names Ty → Type 0
   Same g h = (a : Text) → IsTrue (u a) → look g a ≡ look h a
 
   same-bound : (a : Text) (t : Ty) (g h : Names Ty) → Same g h → Same ((a, t) ∷ g) ((a, t) ∷ h)
   same-bound a t g h s c q = ap (λ o. if same_text a c then Some t else o) (s c q)
 
   mutual
-    same-pattern : (p : Pat) (t : Ty) (g h : Names Ty) → Same g h → Same (bind_types p t g) (bind_types p t h)
+    pub same-pattern : (p : Pat) (t : Ty) (g h : Names Ty) → Same g h → Same (bind_types p t g) (bind_types p t h)
     same-pattern (name_pat a) t g h s = same-bound a t g h s
     same-pattern (tuple_pat ps) t g h s = same-patterns ps (parts_of_ty t) g h s
 

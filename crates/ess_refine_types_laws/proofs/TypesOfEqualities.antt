@@ -31,16 +31,16 @@ included-truth (Some _) t q = (cc, cc)
 
 module _ (g : Names Ty) (x : Text) where
   -- Two operands that agree and have members.
-  record Two (a b : Ex) : Type 0 where
-    ta : Ty
-    tb : Ty
-    m : Ty
-    n : Ty
-    left : type_of a g ≡ Some ta
-    right : type_of b g ≡ Some tb
-    agree : Agree ta tb
-    of_left : member_ty ta ≡ Some m
-    of_right : member_ty tb ≡ Some n
+  pub record Two (a b : Ex) : Type 0 where
+    pub ta : Ty
+    pub tb : Ty
+    pub m : Ty
+    pub n : Ty
+    pub left : type_of a g ≡ Some ta
+    pub right : type_of b g ≡ Some tb
+    pub agree : Agree ta tb
+    pub of_left : member_ty ta ≡ Some m
+    pub of_right : member_ty tb ≡ Some n
 
   members-there : (o : Option Ty) (t : Ty) → o ≡ Some t → is_some (and_then o member_ty) ≡ true → (m : Ty) × (member_ty t ≡ Some m)
   members-there o t p h = there-is (member_ty t) (subst (λ z. is_some (and_then z member_ty) ≡ true) p h)
@@ -61,26 +61,26 @@ module _ (g : Names Ty) (x : Text) where
       }
 
   -- The operands of an inclusion and of an equation.
-  of-inclusion : (a b : Ex) (t : Ty) → BothHaveMembers g (ex2 true Op2.SubsetEq a b) → type_of (ex2 true Op2.SubsetEq a b) g ≡ Some t →
+  pub of-inclusion : (a b : Ex) (t : Ty) → BothHaveMembers g (ex2 true Op2.SubsetEq a b) → type_of (ex2 true Op2.SubsetEq a b) g ≡ Some t →
       Two a b × (t ≡ bool_ty)
   of-inclusion a b t k q =
       let r = two-is (type_of a g) (type_of b g) (type_of_op (binary Op2.SubsetEq)) t q in
       let i = included-truth (join r.0 r.1) t r.4 in (two-of a b r.0 r.1 r.2 r.3 i.0 k.0 k.1, i.1)
 
-  of-equation : (a b : Ex) (t : Ty) → BothHaveMembers g (ex2 true Op2.Eq a b) → type_of (ex2 true Op2.Eq a b) g ≡ Some t →
+  pub of-equation : (a b : Ex) (t : Ty) → BothHaveMembers g (ex2 true Op2.Eq a b) → type_of (ex2 true Op2.Eq a b) g ≡ Some t →
       Two a b × (t ≡ bool_ty)
   of-equation a b t k q =
       let r = two-is (type_of a g) (type_of b g) (type_of_op (binary Op2.Eq)) t q in
       let i = given-is (join r.0 r.1) bool_ty t r.4 in (two-of a b r.0 r.1 r.2 r.3 i.0 k.0 k.1, i.1)
 
-  source-members : (a : Ex) (t m : Ty) → type_of a g ≡ Some t → member_ty t ≡ Some m → and_then (type_of a g) member_ty ≡ Some m
+  pub source-members : (a : Ex) (t m : Ty) → type_of a g ≡ Some t → member_ty t ≡ Some m → and_then (type_of a g) member_ty ≡ Some m
   source-members a t m p q = ap (λ o. and_then o member_ty) p ∙ q
 
-  both-and : (a b : Ex) → type_of a g ≡ Some bool_ty → type_of b g ≡ Some bool_ty → type_of (ex2 true Op2.And a b) g ≡ Some bool_ty
+  pub both-and : (a b : Ex) → type_of a g ≡ Some bool_ty → type_of b g ≡ Some bool_ty → type_of (ex2 true Op2.And a b) g ≡ Some bool_ty
   both-and a b p q = two-to (type_of a g) (type_of b g) (type_of_op (binary Op2.And)) bool_ty bool_ty bool_ty p q refl
 
   -- `and([x in b | x <- a])`.
-  each-in : (a b : Ex) (ta tb m n : Ty) → type_of a g ≡ Some ta → type_of b g ≡ Some tb → member_ty ta ≡ Some m → asked_ty tb ≡ Some n →
+  pub each-in : (a b : Ex) (ta tb m n : Ty) → type_of a g ≡ Some ta → type_of b g ≡ Some tb → member_ty ta ≡ Some m → asked_ty tb ≡ Some n →
       Agree m n → IsUntyped x b →
       type_of (every x a (ex2 true Op2.Member (name_ex x) b)) g ≡ Some bool_ty
   each-in a b ta tb m n p q i j h u = every-over g x a (ex2 true Op2.Member (name_ex x) b) m (source-members a ta m p i)

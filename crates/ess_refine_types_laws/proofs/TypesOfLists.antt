@@ -111,7 +111,7 @@ asked-both _ _ x w i j e f q m k h = (any_ty, any_ty, cc, cc, cc, cc)
 
 module _ (g : Names Ty) where
   -- A membership of two that are combined by a word that unites them.
-  combined-types : (c : Op2) → ((a b w m : Ty) → type_of_op (binary c) (a ∷ b ∷ []) ≡ Some w → asked_ty w ≡ Some m →
+  pub combined-types : (c : Op2) → ((a b w m : Ty) → type_of_op (binary c) (a ∷ b ∷ []) ≡ Some w → asked_ty w ≡ Some m →
       and_then (join a b) united ≡ Some w) → (x a b : Ex) → IsTrue (is_some (and_then (type_of a g) member_ty)) →
       IsTrue (is_some (and_then (type_of b g) member_ty)) → (t : Ty) → type_of (ex2 true Op2.Member x (ex2 false c a b)) g ≡ Some t →
       (t ≡ bool_ty) × (type_of (ex2 true Op2.Member x a) g ≡ Some bool_ty) × (type_of (ex2 true Op2.Member x b) g ≡ Some bool_ty)
@@ -130,7 +130,7 @@ module _ (g : Names Ty) where
       )
 
   -- What `-` unites.
-  of-minus : (o : Option Ty) (w m : Ty) → and_then o subtracted ≡ Some w → asked_ty w ≡ Some m → and_then o united ≡ Some w
+  pub of-minus : (o : Option Ty) (w m : Ty) → and_then o subtracted ≡ Some w → asked_ty w ≡ Some m → and_then o united ≡ Some w
   of-minus None w m q k = q
   of-minus (Some int_ty) w m q k = cc
   of-minus (Some any_ty) w m q k = q

@@ -20,7 +20,7 @@ use Rattle.ess_refine_types_laws.proofs.TypeParts.{one-is, two-is, one-to, two-t
 -- ---- containers made of others
 
 -- Of a container s made of m `in` asks as of the members of m.
-abbrev Made : Ty → Ty → Type 0
+abbrev pub Made : Ty → Ty → Type 0
 Made m s = (e : Ty) × (member_ty m ≡ Some e) × ((a t : Ty) → and_then (asked_ty s) (λ n. fit a n bool_ty) ≡ Some t → Agree a e × (t ≡ bool_ty))
 
 agrees-with-any : (a : Ty) → Agree a any_ty
@@ -43,7 +43,7 @@ of-often (Some e) s q = (e, refl, λ a t h. go a t (let i : compound1 a_mset e �
     go : (a t : Ty) → fit a e bool_ty ≡ Some t → Agree a e × (t ≡ bool_ty)
     go a t h = given-is (join a e) bool_ty t h
 
-made-set : (m s : Ty) → to_set_ty m ≡ Some s → Made m s
+pub made-set : (m s : Ty) → to_set_ty m ≡ Some s → Made m s
 made-set any_ty s q = of-members (Some any_ty) s q
 made-set (compound a_mset ts) s q = of-members (member_ty (compound a_mset ts)) s q
 made-set (compound a_function ts) s q = of-members (member_ty (compound a_function ts)) s q
@@ -51,19 +51,19 @@ made-set (compound a_relation ts) s q = of-members (member_ty (compound a_relati
 made-set (compound a_matrix ts) s q = of-members (member_ty (compound a_matrix ts)) s q
 made-set _ s q = (any_ty, cc, cc)
 
-made-mset : (m s : Ty) → to_mset_ty m ≡ Some s → Made m s
+pub made-mset : (m s : Ty) → to_mset_ty m ≡ Some s → Made m s
 made-mset any_ty s q = of-often (Some any_ty) s q
 made-mset (compound1 a_set a) s q = of-often (Some a) s q
 made-mset (compound2 a_matrix i a) s q = of-often (Some a) s q
 made-mset _ s q = (any_ty, cc, cc)
 
-made-parts : (m s : Ty) → type_of_word1 Fun.Parts m ≡ Some s → Made m s
+pub made-parts : (m s : Ty) → type_of_word1 Fun.Parts m ≡ Some s → Made m s
 made-parts (compound1 a_partition a) s q = of-members (Some (compound1 a_set a)) s q
 made-parts any_ty s q =
     let r = of-members (Some (compound1 a_set any_ty)) s q in (any_ty, refl, λ a t h. (agrees-with-any a, (r.2 a t h).1))
 made-parts _ s q = (any_ty, cc, cc)
 
-made-relation : (m s : Ty) → type_of_word1 Fun.ToRelation m ≡ Some s → Made m s
+pub made-relation : (m s : Ty) → type_of_word1 Fun.ToRelation m ≡ Some s → Made m s
 made-relation (compound2 a_function a b) s q = (
   compound2 a_tuple a b,
   refl,
@@ -82,13 +82,13 @@ made-relation any_ty s q = (
 made-relation _ s q = (any_ty, cc, cc)
 
 -- Where `in` asks of a container it asks of its members.
-asks-members : (m e : Ty) → is_asked (Some m) ≡ true → member_ty m ≡ Some e → asked_ty m ≡ Some e
+pub asks-members : (m e : Ty) → is_asked (Some m) ≡ true → member_ty m ≡ Some e → asked_ty m ≡ Some e
 asks-members (compound a_set ts) e h q = q
 asks-members (compound a_mset ts) e h q = q
 asks-members (compound a_relation ts) e h q = q
 asks-members _ e h q = no (let i : false ≡ true = cc in i)
 
-member-of-type : (o : Option Ty) (m e : Ty) → o ≡ Some m → member_ty m ≡ Some e → and_then o member_ty ≡ Some e
+pub member-of-type : (o : Option Ty) (m e : Ty) → o ≡ Some m → member_ty m ≡ Some e → and_then o member_ty ≡ Some e
 member-of-type o m e p q = ap (λ z. and_then z member_ty) p ∙ q
 
 module _ (g : Names Ty) (y : Text) where
@@ -113,7 +113,7 @@ module _ (g : Names Ty) (y : Text) where
           let r = k t q in (r.7, some-member g y m a r.2 r.0 (member-of-type (type_of m g) r.1 r.2 r.4 r.5) r.3 u r.6))
 
   -- The types of a membership in what a word makes of m.
-  made-typed : (f : Fun) → ((m s : Ty) → type_of_word1 f m ≡ Some s → Made m s) → (a m : Ex) (t : Ty) →
+  pub made-typed : (f : Fun) → ((m s : Ty) → type_of_word1 f m ≡ Some s → Made m s) → (a m : Ex) (t : Ty) →
       type_of (ex2 true Op2.Member a (fun1 false f m)) g ≡ Some t →
       (ta : Ty) × (tm : Ty) × (e : Ty) × (type_of a g ≡ Some ta) × (type_of m g ≡ Some tm) × (member_ty tm ≡ Some e) × Agree ta e × (t ≡ bool_ty)
   made-typed f k a m t q =

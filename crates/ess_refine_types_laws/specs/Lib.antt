@@ -2,3 +2,4 @@ pub mod TypeNames
 pub mod TypesOfContainers
 pub mod MarksOfTyped
 pub mod MarksOfJudged
+pub mod MarksOfContainers

@@ -2,6 +2,7 @@
 
 ghost use Rattle.ess_refine_types_laws.specs.TypesOfContainers.{ContainerRulesKeepTypes};
 ghost use Rattle.ess_refine_types_laws.specs.MarksOfJudged.{JudgedTreesHaveMarks};
+ghost use Rattle.ess_refine_types_laws.specs.MarksOfContainers.{ContainerRulesKeepMarks};
 ghost use Rattle.ess_refine_types_laws.specs.MarksOfTyped.{TypedTreesHaveMarks};
 ghost use Rattle.ess_refine_types_laws.specs.TypeNames.{TypesNeedTheirNames};
 
@@ -23,4 +24,9 @@ pub fn typed_trees_have_marks()
 /// A judged expression has, resolved, a type and the right mark at each node, and members at each source.
 pub fn judged_trees_have_marks()
     ensures { JudgedTreesHaveMarks }
+{}
+
+/// Rules of membership, inclusion and equality keep marks, where the name that they bind is new; and a new name changes no marks.
+pub fn rules_keep_marks()
+    ensures { ContainerRulesKeepMarks }
 {}
