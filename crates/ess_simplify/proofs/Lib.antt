@@ -1,0 +1,3 @@
+pub mod NodeForms
+pub mod RootRows
+pub mod Turned
