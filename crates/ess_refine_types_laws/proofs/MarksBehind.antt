@@ -1,5 +1,5 @@
 -- A new name changes no marks.
-use Rattle.std.proofs.Common.{◌≡◌, refl, sym, ap, ◌∙◌, subst, Bool, true, false, not, if◌then◌else◌, ◌∷◌, Option, Some}
+use Rattle.std.proofs.Common.{◌≡◌, refl, ap, subst, Bool, true, false, not, if◌then◌else◌, ◌∷◌, Option, Some}
 use Rattle.std.specs.Prelude.{IsTrue, is_some}
 use Rattle.ess_semantics.specs.Lists.{and_then}
 use Rattle.ess_semantics.specs.Values.{Text}

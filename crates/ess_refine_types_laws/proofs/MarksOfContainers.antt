@@ -1,6 +1,6 @@
 -- Rules of membership, inclusion and equality keep marks.
-use Rattle.std.proofs.Common.{◌≡◌, refl, sym, ap, ◌∙◌, subst, Bool, true, false, not, ◌||◌, if◌then◌else◌, List, [], ◌∷◌, Option, Some, None}
-use Rattle.std.specs.Prelude.{IsTrue, is_some}
+use Rattle.std.proofs.Common.{◌≡◌, refl, sym, ap, ◌∙◌, subst, Bool, true, false, not, if◌then◌else◌, [], ◌∷◌, Option, Some, None}
+use Rattle.std.specs.Prelude.{is_some}
 use Rattle.ess_semantics.specs.declared.words.Op1.{Op1}
 use Rattle.ess_semantics.specs.declared.words.Op2.{Op2}
 use Rattle.ess_semantics.specs.declared.words.Fun.{Fun}
@@ -9,9 +9,9 @@ use Rattle.ess_semantics.specs.Values.{Text}
 use Rattle.ess_semantics.specs.Order.{same_text}
 use Rattle.ess_semantics.specs.Names.{Names}
 use Rattle.ess_semantics.specs.Trees.{Op, binary, unary, word, is_truth_op, name_pat, Ex, name_ex, node_ex, comp_ex, ex1, ex2, fun1, no_exs, more_exs, no_gens, from}
-use Rattle.ess_semantics.specs.Types.{Ty, any_ty, bool_ty, or_any, is_bool, join, fit}
+use Rattle.ess_semantics.specs.Types.{Ty, bool_ty, or_any, join, fit}
 use Rattle.ess_semantics.specs.OperatorTypes.{type_of_op, member_ty, asked_ty}
-use Rattle.ess_semantics.specs.Typing.{type_of, source_ty}
+use Rattle.ess_semantics.specs.Typing.{type_of}
 use Rattle.ess_semantics.proofs.Tests.{or-yes}
 use Rattle.ess_rules_laws.specs.InclusionRules.{every, both_sets, included_members, equal_members}
 use Rattle.ess_rules_laws.specs.MembershipRules.{is_asked, member_of, member_term, member_changed, member_combined}
@@ -24,7 +24,7 @@ use Rattle.ess_refine_types_laws.specs.MarksOfContainers.{IsNewTo, keeps_marks, 
 use Rattle.ess_refine_types_laws.proofs.TypeParts.{one-to, two-is, two-to, given-to, some-over, every-over, new-name, term-behind, asked-is}
 use Rattle.ess_refine_types_laws.proofs.TypesOfMembers.{Made, made-set, made-mset, made-parts, made-relation, made-typed, asks-members, member-of-type}
 use Rattle.ess_refine_types_laws.proofs.TypesThatAgree.{sets-ask}
-use Rattle.ess_refine_types_laws.proofs.TypesOfEqualities.{Two, of-inclusion, of-equation, source-members, both-and, each-in}
+use Rattle.ess_refine_types_laws.proofs.TypesOfEqualities.{of-inclusion, of-equation, source-members, both-and, each-in}
 use Rattle.ess_refine_types_laws.proofs.TypesOfLists.{combined-types, of-minus}
 use Rattle.ess_refine_types_laws.proofs.MarksBehind.{fewer, marks-behind}
 

@@ -1,12 +1,10 @@
 -- Resolved trees whose parts have types have the right marks.
-use Rattle.std.proofs.Common.{◌≡◌, refl, sym, ap, ◌∙◌, subst, Bool, true, false, ◌||◌, List, [], ◌∷◌, Option, Some, None}
-use Rattle.std.specs.Prelude.{is_some}
-use Rattle.ess_semantics.specs.Lists.{and_then}
+use Rattle.std.proofs.Common.{◌≡◌, refl, sym, ap, ◌∙◌, Bool, true, false, ◌||◌, List, [], ◌∷◌, Option, Some, None}
 use Rattle.ess_semantics.specs.Names.{Names}
 use Rattle.ess_semantics.specs.Trees.{Step, by_value, to_component, to_field, Op, index, is_truth_op, Ex, Exs, number_ex, truth_ex, name_ex, node_ex, matrix_ex, comp_ex, cell_ex, seen_ex, no_exs, more_exs, Gens, no_gens, over, from, cond, Dom, Doms, bool_dom, int_dom, name_dom, tuple_dom, record_dom, matrix_dom, set_dom, mset_dom, function_dom, relation_dom, partition_dom, no_doms, more_doms}
-use Rattle.ess_semantics.specs.Types.{Ty, bool_ty, any_ty, is_bool, type_of_dom, bind_types}
+use Rattle.ess_semantics.specs.Types.{Ty, is_bool, type_of_dom, bind_types}
 use Rattle.ess_semantics.specs.Typing.{statics, type_of, types_of, source_ty}
-use Rattle.ess_semantics.specs.Resolving.{resolved_steps, kept_indices, kept_operands, resolve, resolve_exs, resolve_dom, resolve_doms, IsResolved}
+use Rattle.ess_semantics.specs.Resolving.{resolved_steps, kept_indices, kept_operands, resolve, resolve_exs, resolve_dom, resolve_doms}
 use Rattle.ess_semantics.specs.NamesAt.{names_behind}
 use Rattle.ess_types_laws.proofs.ResolvedTypes.{gens_resolved, comp-resolved}
 use Rattle.ess_guard_types_laws.specs.HasTypes.{fits_mark, HasTypes, HaveTypes, GensHaveTypes, AreNumbers, DomHasTypes, DomsHaveTypes}
