@@ -1,0 +1,3 @@
+pub mod RefinedNodes
+pub mod RefinedGenerators
+pub mod SimpleNodes
