@@ -6,6 +6,7 @@ mod TypesOfEqualities
 mod TypesOfLists
 mod TypesOfComparedLists
 mod TypesOfContainers
+mod TypesOfListed
 mod MarksOfTyped
 mod MarksBehind
 mod MarksOfContainers

@@ -3,3 +3,4 @@ pub mod TypesOfContainers
 pub mod MarksOfTyped
 pub mod MarksOfJudged
 pub mod MarksOfContainers
+pub mod TypesOfListed

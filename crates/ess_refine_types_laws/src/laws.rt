@@ -4,6 +4,7 @@ ghost use Rattle.ess_refine_types_laws.specs.TypesOfContainers.{ContainerRulesKe
 ghost use Rattle.ess_refine_types_laws.specs.MarksOfJudged.{JudgedTreesHaveMarks};
 ghost use Rattle.ess_refine_types_laws.specs.MarksOfContainers.{ContainerRulesKeepMarks};
 ghost use Rattle.ess_refine_types_laws.specs.MarksOfTyped.{TypedTreesHaveMarks};
+ghost use Rattle.ess_refine_types_laws.specs.TypesOfListed.{LiteralRulesKeepTypes};
 ghost use Rattle.ess_refine_types_laws.specs.TypeNames.{TypesNeedTheirNames};
 
 /// A type depends on the names that a tree uses and on the tables of its cells alone.
@@ -29,4 +30,9 @@ pub fn judged_trees_have_marks()
 /// Rules of membership, inclusion and equality keep marks, where the name that they bind is new; and a new name changes no marks.
 pub fn rules_keep_marks()
     ensures { ContainerRulesKeepMarks }
+{}
+
+/// Rules of `in`, `freq` and `allDiff` on literals keep types.
+pub fn literal_rules_keep_types()
+    ensures { LiteralRulesKeepTypes }
 {}
