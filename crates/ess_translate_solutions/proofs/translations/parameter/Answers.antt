@@ -10,4 +10,4 @@ returns-in-Ok-given_in-clause-ok c =
     let m = c.in-Ok.file in
     let g = c.in-Ok-given_in.given in
     parameter_joined (λ b. b.items) c.args.model.now c.args.param.now (file_header m) (file_model m) (pure_assignment g.param)
-    (pure_cells g.tables) c.given_text.result c.in-Ok.ensures.ok c.in-Ok-given_in.ensures.ok c.given_text.ensures.ok
+    (pure_cells g.tables) c.given_text-text.result c.in-Ok.ensures.ok c.in-Ok-given_in.ensures.ok c.given_text-text.ensures.ok

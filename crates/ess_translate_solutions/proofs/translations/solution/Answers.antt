@@ -10,8 +10,8 @@ returns-in-Ok-given_in-clause-ok c =
     let m = c.in-Ok.file in
     let g = c.in-Ok-given_in.given in
     solution_joined (λ b. b.items) c.args.model.now c.args.param.now c.args.cells.now (file_header m) (file_model m)
-    (pure_assignment g.param) (pure_cells g.tables) c.solution_in.result c.in-Ok.ensures.ok c.in-Ok-given_in.ensures.ok
-    c.solution_in.ensures.ok
+    (pure_assignment g.param) (pure_cells g.tables) c.solution_in-text.result c.in-Ok.ensures.ok c.in-Ok-given_in.ensures.ok
+    c.solution_in-text.ensures.ok
 
 -- src/translations.rt
 pub returns-in-Ok-given_in-clause-refused : goal.returns-in-Ok-given_in-clause-refused
@@ -19,4 +19,4 @@ returns-in-Ok-given_in-clause-refused c =
     let m = c.in-Ok.file in
     let g = c.in-Ok-given_in.given in
     solution_refused c.args.model.now c.args.param.now c.args.cells.now (file_header m) (file_model m) (pure_assignment g.param)
-    (pure_cells g.tables) c.solution_in.result c.in-Ok.ensures.ok c.in-Ok-given_in.ensures.ok c.solution_in.ensures.refused
+    (pure_cells g.tables) c.solution_in-text.result c.in-Ok.ensures.ok c.in-Ok-given_in.ensures.ok c.solution_in-text.ensures.refused
