@@ -1,8 +1,8 @@
 //! Both translations from texts alone.
 ghost use Rattle.std.specs.Prelude.{IfOk, IfErr};
-ghost use Rattle.ess_translate_solutions.specs.Translations.{IsParameterText, AreNotGiven, IsSolutionText, IsNoSolutionText};
+ghost use Rattle.ess_translate_texts.specs.Translations.{IsParameterText, AreNotGiven, IsSolutionText, IsNoSolutionText};
 
-use crate::solutions::solution_in;
+use ess_translate_solutions::solution_in;
 use ess_translate::TransNo;
 use ess_translate_files::{given_in, given_text, model_file};
 use std::alloc::Global;
