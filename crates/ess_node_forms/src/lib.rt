@@ -6,5 +6,5 @@ mod refined;
 mod simple;
 
 pub use operators::{is_list_op, is_scalar_op, is_truth_op};
-pub use refined::{is_list, is_refined};
+pub use refined::{are_refined_gens, is_list, is_refined};
 pub use simple::is_simple_node;

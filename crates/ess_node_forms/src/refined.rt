@@ -103,7 +103,7 @@ pub fn is_list(op: &Op) -> bool
 /// Whether generators and conditions are refined.
 #[cycle(is_refined)]
 #[tactic(auto, using(crate::proofs::RefinedGenerators::gens_more, crate::proofs::RefinedGenerators::gens_not, crate::proofs::RefinedGenerators::gens_end))]
-fn are_refined_gens(gens: &[Gen]) -> bool
+pub fn are_refined_gens(gens: &[Gen]) -> bool
     ensures { result ≡ are_refined_gens (pure_gens gens.now) }
 {
     for item in gens {
