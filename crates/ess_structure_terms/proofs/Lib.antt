@@ -1,0 +1,2 @@
+mod IndexLists
+mod Examples

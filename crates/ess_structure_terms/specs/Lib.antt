@@ -1,0 +1,4 @@
+-- Generators over axes one by one
+pub mod RowItems
+-- Tables of views
+pub mod ShapeViews
