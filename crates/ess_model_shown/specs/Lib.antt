@@ -1,0 +1,4 @@
+-- Trees over tables
+pub mod ShownParts
+-- What is kept for names
+pub mod Tables
