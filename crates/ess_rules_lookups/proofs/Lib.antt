@@ -1,0 +1,2 @@
+-- Operands by their places
+mod Places

@@ -1,0 +1,4 @@
+-- Items of literals
+mod ItemRows
+-- Scalars among nodes
+mod ScalarNodes
