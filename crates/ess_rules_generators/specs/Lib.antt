@@ -1,0 +1,3 @@
+-- What the rules make of the parts of a comprehension
+pub mod GeneratorParts
+pub mod RecordParts
