@@ -1,0 +1,4 @@
+-- Printed names
+pub mod PrintedNames
+-- Generators and conditions one by one
+pub mod PrintedItems
