@@ -1,0 +1,2 @@
+-- Conditions by parts of trees
+pub mod ConditionForms
