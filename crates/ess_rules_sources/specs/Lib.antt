@@ -1,0 +1,3 @@
+-- What terms offer, in the code
+pub mod PureAlternatives
+pub mod OnceParts
