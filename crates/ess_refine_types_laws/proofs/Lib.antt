@@ -1,14 +1,14 @@
-mod TypeNames
-mod TypeParts
-mod TypesThatAgree
-mod TypesOfMembers
-mod TypesOfEqualities
-mod TypesOfLists
-mod TypesOfComparedLists
-mod TypesOfContainers
-mod TypesOfListed
-mod MarksOfTyped
-mod MarksBehind
-mod MarksOfContainers
-mod MarksOfJudged
-mod Examples
+pub mod TypeNames
+pub mod TypeParts
+pub mod TypesThatAgree
+pub mod TypesOfMembers
+pub mod TypesOfEqualities
+pub mod TypesOfLists
+pub mod TypesOfComparedLists
+pub mod TypesOfContainers
+pub mod TypesOfListed
+pub mod MarksOfTyped
+pub mod MarksBehind
+pub mod MarksOfContainers
+pub mod MarksOfJudged
+pub mod Examples

@@ -28,11 +28,11 @@ module _ (u : Text → Bool) where
     fewer (cell_ex b n es) h = h.0
     fewer (seen_ex r d ns es) h = tt
 
-    all-fewer : (es : Exs) → AllUseNames u es → AllTypeNamesAre u es
+    pub all-fewer : (es : Exs) → AllUseNames u es → AllTypeNamesAre u es
     all-fewer no_exs h = tt
     all-fewer (more_exs e es) h = (fewer e h.0, all-fewer es h.1)
 
-    gens-fewer : (gs : Gens) → GensUseNames u gs → GensTypeNamesAre u gs
+    pub gens-fewer : (gs : Gens) → GensUseNames u gs → GensTypeNamesAre u gs
     gens-fewer no_gens h = tt
     gens-fewer (over p d gs) h = gens-fewer gs h.1
     gens-fewer (from p e gs) h = (fewer e h.0, gens-fewer gs h.1)

@@ -52,7 +52,7 @@ module _ (u : Text → Bool) where
     type-same (cell_ex b n es) g h q s = ap (λ o. Some (if b then bool_ty else number_cell_ty o)) (s n q)
     type-same (seen_ex r d ns es) g h q s = refl
 
-    types-same : (es : Exs) (g h : Names Ty) → AllTypeNamesAre u es → Same g h → types_of es g ≡ types_of es h
+    pub types-same : (es : Exs) (g h : Names Ty) → AllTypeNamesAre u es → Same g h → types_of es g ≡ types_of es h
     types-same no_exs g h q s = refl
     types-same (more_exs e es) g h q s =
         ap (λ o. o ∷ types_of es g) (type-same e g h q.0 s) ∙ ap (λ l. type_of e h ∷ l) (types-same es g h q.1 s)

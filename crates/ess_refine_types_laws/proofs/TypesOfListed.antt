@@ -24,28 +24,28 @@ use Rattle.ess_refine_types_laws.proofs.TypesThatAgree.{of-one}
 -- ---- types of items
 
 -- The types of the first item and of the others.
-heads : (o : Option Ty) (p : Option (List Ty)) (ts : List Ty) → and_then o (λ x. option_map (λ xs. x ∷ xs) p) ≡ Some ts →
+pub heads : (o : Option Ty) (p : Option (List Ty)) (ts : List Ty) → and_then o (λ x. option_map (λ xs. x ∷ xs) p) ≡ Some ts →
     (t : Ty) × (us : List Ty) × (o ≡ Some t) × (p ≡ Some us) × (t ∷ us ≡ ts)
 heads None p ts e = (any_ty, [], cc, cc, cc)
 heads (Some t) None ts e = (any_ty, [], cc, cc, cc)
 heads (Some t) (Some us) ts e = (t, us, refl, refl, cc)
 
 -- What all items join to.
-all-is : (o : Option (List Ty)) (F : List Ty → Option Ty) (s : Ty) → and_then o F ≡ Some s → (ts : List Ty) × (o ≡ Some ts) × (F ts ≡ Some s)
+pub all-is : (o : Option (List Ty)) (F : List Ty → Option Ty) (s : Ty) → and_then o F ≡ Some s → (ts : List Ty) × (o ≡ Some ts) × (F ts ≡ Some s)
 all-is None F s e = ([], cc, cc)
 all-is (Some ts) F s e = (ts, refl, e)
 
-map-is : (f : Ty → Ty) (o : Option Ty) (s : Ty) → option_map f o ≡ Some s → (j : Ty) × (o ≡ Some j) × (f j ≡ s)
+pub map-is : (f : Ty → Ty) (o : Option Ty) (s : Ty) → option_map f o ≡ Some s → (j : Ty) × (o ≡ Some j) × (f j ≡ s)
 map-is f None s e = (any_ty, cc, cc)
 map-is f (Some j) s e = (j, refl, cc)
 
-then-is : (o : Option Ty) (f : Ty → Option Ty) (s : Ty) → and_then o f ≡ Some s → (j : Ty) × (o ≡ Some j) × (f j ≡ Some s)
+pub then-is : (o : Option Ty) (f : Ty → Option Ty) (s : Ty) → and_then o f ≡ Some s → (j : Ty) × (o ≡ Some j) × (f j ≡ Some s)
 then-is None f s e = (any_ty, cc, cc)
 then-is (Some j) f s e = (j, refl, e)
 
 module _ (g : Names Ty) where
   -- Each of these has the type k.
-  abbrev AllOf : Ty → Exs → Type 0
+  abbrev pub AllOf : Ty → Exs → Type 0
   AllOf k no_exs = Unit {0}
   AllOf k (more_exs e es) = (type_of e g ≡ Some k) × AllOf k es
 
@@ -76,19 +76,19 @@ module _ (g : Names Ty) where
         ∙ ap (option_map (λ xs. k ∷ xs)) r.1)
         ∙ ap (option_map (compound2 a_matrix int_ty)) (ap (λ o. and_then o (join k)) r.2 ∙ join-next es)
 
-  some-true : (es : Exs) → AllOf bool_ty es → type_of (fun1 true Fun.Or (node_ex false matrix_literal es)) g ≡ Some bool_ty
+  pub some-true : (es : Exs) → AllOf bool_ty es → type_of (fun1 true Fun.Or (node_ex false matrix_literal es)) g ≡ Some bool_ty
   some-true no_exs h = refl
   some-true (more_exs e es) h =
       one-to (type_of (node_ex false matrix_literal (more_exs e es)) g) (type_of_op (word Fun.Or)) (compound2 a_matrix int_ty bool_ty) bool_ty
       (list-type bool_ty refl refl e es h) refl
 
-  all-true : (es : Exs) → AllOf bool_ty es → type_of (fun1 true Fun.And (node_ex false matrix_literal es)) g ≡ Some bool_ty
+  pub all-true : (es : Exs) → AllOf bool_ty es → type_of (fun1 true Fun.And (node_ex false matrix_literal es)) g ≡ Some bool_ty
   all-true no_exs h = refl
   all-true (more_exs e es) h =
       one-to (type_of (node_ex false matrix_literal (more_exs e es)) g) (type_of_op (word Fun.And)) (compound2 a_matrix int_ty bool_ty) bool_ty
       (list-type bool_ty refl refl e es h) refl
 
-  sum-type : (es : Exs) → AllOf int_ty es → type_of (fun1 false Fun.Sum (node_ex false matrix_literal es)) g ≡ Some int_ty
+  pub sum-type : (es : Exs) → AllOf int_ty es → type_of (fun1 false Fun.Sum (node_ex false matrix_literal es)) g ≡ Some int_ty
   sum-type no_exs h = refl
   sum-type (more_exs e es) h =
       one-to (type_of (node_ex false matrix_literal (more_exs e es)) g) (type_of_op (word Fun.Sum)) (compound2 a_matrix int_ty int_ty) int_ty

@@ -1,0 +1,14 @@
+pub mod PutTypes
+pub mod PutListed
+pub mod TypesOfSources
+pub mod TypesOfLeast
+pub mod TypesOfTerms
+pub mod TypesOfComponents
+pub mod TypesOfNames
+pub mod TypesOfMatrices
+pub mod NumbersEverywhere
+pub mod EverywhereTyped
+pub mod BehindConditions
+pub mod TypesOfConditions
+pub mod TypesOfOthers
+pub mod Examples

@@ -1,0 +1,3 @@
+pub mod PutTypes
+pub mod TypesOfSources
+pub mod TypesOfOthers

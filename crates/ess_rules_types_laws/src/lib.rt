@@ -1,0 +1,4 @@
+//! Each rule keeps types and marks where terms stand for names.
+#![tactic(auto)]
+
+pub mod laws;
