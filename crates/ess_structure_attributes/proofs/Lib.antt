@@ -1,0 +1,3 @@
+mod OneCells
+mod ExactSizes
+mod Examples
