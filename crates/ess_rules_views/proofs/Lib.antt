@@ -1,0 +1,6 @@
+pub mod ExamplesPicked
+pub mod ExamplesViewForms
+pub mod KeyLemmas
+pub mod PartLemmas
+pub mod PickedParts
+pub mod ViewParts
