@@ -1,0 +1,2 @@
+-- What statements enter, one part after the other
+pub mod Entered
