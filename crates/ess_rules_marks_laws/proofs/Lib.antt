@@ -1,0 +1,5 @@
+pub mod DecidedOps
+pub mod Grows
+pub mod MarksOfFolds
+pub mod MarksOfMembers
+pub mod MarksOfRules
