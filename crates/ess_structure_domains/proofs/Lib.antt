@@ -1,0 +1,3 @@
+mod SizedRows
+mod Listed
+mod Examples
