@@ -1,0 +1,73 @@
+//! The items of literals as alternatives.
+ghost use Rattle.std.specs.Prelude.{◌≡◌, [], IfOk, map, reverse};
+ghost use Rattle.ess_core_nodes.specs.NodeViews.{pure_node, pure_nodes, pure_gens};
+ghost use Rattle.ess_rules_laws.specs.Listings.{each_item, each_first, none_of};
+ghost use Rattle.ess_rules_sources.specs.PureAlternatives.{pure_alternative};
+ghost use Rattle.ess_rules_listings.specs.ListedTerms.{item_alone, is_not};
+
+use ess_core::{Op1, Op2};
+use ess_core_nodes::{Gen, Node};
+use ess_node_building::{binary, condition, unary};
+use ess_rows::{Boxed, NoMemory, Row};
+use ess_rules_sources::Alternative;
+use std::alloc::Global;
+
+/// Each item by itself.
+#[tactic(auto, using(crate::proofs::ItemRows::items_alone))]
+pub(crate) fn each_item(alloc: Global, items: &[Node]) -> Result<Row<Alternative>, NoMemory>
+    ensures { IfOk result (λ l. map pure_alternative l ≡ each_item (pure_nodes items.now)) }
+{
+    Ok(items_alone(alloc, items)?)
+}
+
+/// The same one by one.
+fn items_alone(alloc: Global, items: &[Node]) -> Result<Row<Alternative>, NoMemory>
+    ensures { IfOk result (λ l. map pure_alternative l ≡ map item_alone (map pure_node items.now)) }
+{
+    let mut all = Row::with_capacity(alloc, items.len())?;
+    for item in items {
+        let item = item.copy(alloc)?;
+        all.push(Alternative {
+            gens: Row::new(alloc),
+            item,
+        })?;
+    }
+    Ok(all)
+}
+
+/// Each item where it is none of those before it.
+#[tactic(auto, using(crate::proofs::ItemRows::first_behind))]
+pub(crate) fn each_first(alloc: Global, items: &[Node]) -> Result<Row<Alternative>, NoMemory>
+    ensures { IfOk result (λ l. map pure_alternative l ≡ each_first [] (pure_nodes items.now)) }
+{
+    let mut all = Row::with_capacity(alloc, items.len())?;
+    for (place, item) in items.iter().enumerate() {
+        let gens = none_of(alloc, &items[..place], item)?;
+        let item = item.copy(alloc)?;
+        all.push(Alternative { gens, item })?;
+    }
+    Ok(all)
+}
+
+/// That an item is none of those before it, the newest first.
+#[tactic(auto, using(crate::proofs::ItemRows::none_more))]
+fn none_of(alloc: Global, before: &[Node], item: &Node) -> Result<Row<Gen>, NoMemory>
+    ensures { IfOk result (λ gs. pure_gens gs ≡ none_of (reverse (map pure_node before.now)) (pure_node item.now)) }
+{
+    let mut gens = Row::with_capacity(alloc, before.len())?;
+    for other in before {
+        let different = is_not(alloc, other, item)?;
+        gens.insert(0, condition(different))?;
+    }
+    Ok(gens)
+}
+
+/// That an item isn't another.
+fn is_not(alloc: Global, other: &Node, item: &Node) -> Result<Boxed<Node>, NoMemory>
+    ensures { IfOk result (λ n. pure_node n ≡ is_not (pure_node other.now) (pure_node item.now)) }
+{
+    let other = other.copy(alloc)?;
+    let item = item.copy(alloc)?;
+    let same = binary(alloc, true, Op2::Eq, other, item)?;
+    unary(alloc, true, Op1::Not, same)
+}
