@@ -1,0 +1,2 @@
+-- Generators taken apart at a condition
+pub mod PartedViews
