@@ -39,7 +39,7 @@ module _ (u : Text → Bool) where
     gens-fewer (cond e gs) h = (fewer e h.0, gens-fewer gs h.1)
 
   mutual
-    marks-same : (e : Ex) (g h : Names Ty) → UsesNames u e → Same u g h → HasMarks e g → HasMarks e h
+    pub marks-same : (e : Ex) (g h : Names Ty) → UsesNames u e → Same u g h → HasMarks e g → HasMarks e h
     marks-same (number_ex n) g h q s m = tt
     marks-same (truth_ex b) g h q s m = tt
     marks-same (name_ex a) g h q s m = tt
@@ -71,7 +71,7 @@ module _ (u : Text → Bool) where
         )
     gens-same (cond e gs) g h q s m = let r = gens-same gs g h q.1 s m.1 in ((marks-same e g h q.0 s m.0, r.0), r.1)
 
-    dom-same : (d : Dom) (g h : Names Ty) → DomUsesNames u d → Same u g h → DomHasMarks d g → DomHasMarks d h
+    pub dom-same : (d : Dom) (g h : Names Ty) → DomUsesNames u d → Same u g h → DomHasMarks d g → DomHasMarks d h
     dom-same bool_dom g h q s m = tt
     dom-same (int_dom rs es) g h q s m = all-same es g h q s m
     dom-same (name_dom a) g h q s m = tt
@@ -85,7 +85,7 @@ module _ (u : Text → Bool) where
     dom-same (relation_dom ms es ds) g h q s m = (all-same es g h q.0 s m.0, doms-same ds g h q.1 s m.1)
     dom-same (partition_dom ms es d) g h q s m = (all-same es g h q.0 s m.0, dom-same d g h q.1 s m.1)
 
-    doms-same : (ds : Doms) (g h : Names Ty) → DomsUseNames u ds → Same u g h → DomsHaveMarks ds g → DomsHaveMarks ds h
+    pub doms-same : (ds : Doms) (g h : Names Ty) → DomsUseNames u ds → Same u g h → DomsHaveMarks ds g → DomsHaveMarks ds h
     doms-same no_doms g h q s m = tt
     doms-same (more_doms d ds) g h q s m = (dom-same d g h q.0 s m.0, doms-same ds g h q.1 s m.1)
 

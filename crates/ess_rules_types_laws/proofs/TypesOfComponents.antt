@@ -59,16 +59,16 @@ some-same v w e = cc
 
 -- ---- components
 
-shifted : (us : Tys) (k : ℕ) (t : Ty) (ts : Tys) → ((j : ℕ) → component_ty us (suc (j + k)) ≡ component_ty (more_tys t ts) (suc j)) →
+pub shifted : (us : Tys) (k : ℕ) (t : Ty) (ts : Tys) → ((j : ℕ) → component_ty us (suc (j + k)) ≡ component_ty (more_tys t ts) (suc j)) →
     (j : ℕ) →
     component_ty us (suc (j + suc k)) ≡ component_ty ts (suc j)
 shifted us k t ts h j = ap (λ n. component_ty us (suc n)) (let e : j + suc k ≡ suc j + k = omega arith in e) ∙ h (suc j)
 
-here : (us : Tys) (k : ℕ) (t : Ty) (ts : Tys) → ((j : ℕ) → component_ty us (suc (j + k)) ≡ component_ty (more_tys t ts) (suc j)) →
+pub here : (us : Tys) (k : ℕ) (t : Ty) (ts : Tys) → ((j : ℕ) → component_ty us (suc (j + k)) ≡ component_ty (more_tys t ts) (suc j)) →
     component_ty us (suc k) ≡ Some t
 here us k t ts h = ap (λ n. component_ty us (suc n)) (let e : k ≡ 0 + k = omega arith in e) ∙ h 0
 
-start : (us : Tys) (j : ℕ) → component_ty us (suc (j + 0)) ≡ component_ty us (suc j)
+pub start : (us : Tys) (j : ℕ) → component_ty us (suc (j + 0)) ≡ component_ty us (suc j)
 start us j = ap (λ n. component_ty us (suc n)) (let e : j + 0 ≡ j = omega arith in e)
 
 module _ (g : Names Ty) where
@@ -124,7 +124,7 @@ module _ (g : Names Ty) where
 
   -- ---- fields
 
-  behind-first : (gs : List Text) (ws : Tys) (f : Text) (fs : List Text) (t : Ty) (ts : Tys) → not (has_text fs f) ≡ true →
+  pub behind-first : (gs : List Text) (ws : Tys) (f : Text) (fs : List Text) (t : Ty) (ts : Tys) → not (has_text fs f) ≡ true →
       ((a : Text) → has_text (f ∷ fs) a ≡ true → field_ty gs ws a ≡ field_ty (f ∷ fs) (more_tys t ts) a) → (a : Text) →
       has_text fs a ≡ true →
       field_ty gs ws a ≡ field_ty fs ts a
@@ -134,7 +134,7 @@ module _ (g : Names Ty) where
       go true r = let e : has_text fs f ≡ true = ap (has_text fs) (same_text-equal f a r) ∙ q in cc
       go false r = refl
 
-  first-field : (gs : List Text) (ws : Tys) (f : Text) (fs : List Text) (t : Ty) (ts : Tys) →
+  pub first-field : (gs : List Text) (ws : Tys) (f : Text) (fs : List Text) (t : Ty) (ts : Tys) →
       ((a : Text) → has_text (f ∷ fs) a ≡ true → field_ty gs ws a ≡ field_ty (f ∷ fs) (more_tys t ts) a) → field_ty gs ws f ≡ Some t
   first-field gs ws f fs t ts h =
       h f (ap (λ b. b || has_text fs f) (same_text-itself f)) ∙ ap (λ b. if b then Some t else field_ty fs ts f) (same_text-itself f)

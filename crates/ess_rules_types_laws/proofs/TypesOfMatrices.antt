@@ -44,7 +44,8 @@ module _ (g : Names Ty) where
       bool_ty (ap (option_map (compound2 a_matrix int_ty)) q) refl
 
   -- The item at an index of a matrix.
-  item-type : (i t v : Ty) (m : Ex) (x : Text) → type_of m g ≡ Some (compound2 a_matrix i t) → type_of (name_ex x) g ≡ Some v → Agree i v →
+  pub item-type : (i t v : Ty) (m : Ex) (x : Text) → type_of m g ≡ Some (compound2 a_matrix i t) → type_of (name_ex x) g ≡ Some v →
+      Agree i v →
       type_of (item_of t m (name_ex x)) g ≡ Some t
   item-type i t v m x p q h =
       ap (λ o. type_of_node (index (by_value ∷ [])) (static m ∷ a_name x ∷ []) (o ∷ type_of (name_ex x) g ∷ [])) p

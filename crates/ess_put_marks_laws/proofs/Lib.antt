@@ -1,0 +1,6 @@
+pub mod MarksPut
+pub mod MarksOfListed
+pub mod MarksOfTerms
+pub mod MarksOfNames
+pub mod MarksOfComponents
+pub mod MarksOfOthers

@@ -1,0 +1,2 @@
+pub mod MarksOfTerms
+pub mod MarksOfOthers
