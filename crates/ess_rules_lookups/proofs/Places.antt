@@ -1,5 +1,6 @@
 -- One of the operands, from 1, and another one in its place.
-use Rattle.std.proofs.Common.{◌≡◌, refl, ap, ◌∙◌, arith, ℕ, zero, suc, ◌+◌, ◌-◌, ◌<◌, ◌≤◌, List, [], ◌∷◌, ◌++◌, length, take, drop, get_or, Some, None}
+use Rattle.std.proofs.Common.{◌≡◌, refl, ap, ◌∙◌, arith, ℕ, zero, suc, ◌+◌, ◌-◌, ◌<◌, ◌≤◌, List, [], ◌∷◌, ◌++◌, length, take, drop}
+use Rattle.std.proofs.Common.{get_or, Some, None}
 use Rattle.std.proofs.lemmas.List.{take_rest}
 use Rattle.ess_semantics.specs.Trees.{Ex, Exs, no_exs, more_exs}
 use Rattle.ess_core_nodes.specs.declared.nodes.Node.{Node}

@@ -51,7 +51,8 @@ fn looked_up_at(
     argument: &Node,
 ) -> Result<Option<Boxed<Node>>, NoMemory>
     ensures { IfOk result (λ o. option_map pure_node o
-        ≡ found_at (type_under (pure_node function.now) (pure_names types.now)) bound.now (pure_node function.now) (pure_node argument.now)) }
+        ≡ found_at (type_under (pure_node function.now) (pure_names types.now)) bound.now (pure_node function.now)
+        (pure_node argument.now)) }
 {
     let ty = type_of(alloc, function, types)?;
     pairs_at(alloc, &ty, bound, function, argument)

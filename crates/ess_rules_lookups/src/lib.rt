@@ -10,4 +10,4 @@ mod selecting;
 pub use functions::{function_lookup, unmarked};
 pub use operands::{nth, put_nth};
 pub use picked::picking;
-pub use selecting::{is_plain, lookup_through, select, select_whole};
+pub use selecting::{is_plain, lookup_through, select, select_whole, takes, with_item};

@@ -45,8 +45,8 @@ fn is_plain_between(op: Op2) -> bool
     }
 }
 
-/// Whether an operator has nothing where the operand at a place has nothing, and there is one.
-fn takes(op: &Op, operands: &[Node], at: u64) -> bool
+/// Whether an operator has nothing where its operand at a place, from 1, has nothing, and there is one.
+pub fn takes(op: &Op, operands: &[Node], at: u64) -> bool
     ensures { result ≡ plain (pure_op op.now) && is_some (nth_of (pure_nodes operands.now) at) }
 {
     is_plain(op) && has_nth(operands, at)
@@ -104,8 +104,8 @@ pub fn lookup_through(
     }
 }
 
-/// `N[x]`
-fn with_item(
+/// The tree of an operator with a name in the place of the operand at a place, from 1. `NoMemory` where there is no room for it.
+pub fn with_item(
     alloc: Global,
     bound: &Text,
     at: u64,

@@ -1,0 +1,9 @@
+use Rattle.std.proofs.Common.{◌≡◌, map, take}
+use Rattle.ess_core_nodes.specs.NodeViews.{pure_node}
+use Rattle.ess_rules_sources.specs.PureAlternatives.{pure_alternative}
+use Rattle.ess_rules_alternatives.specs.Cases.{put_through}
+use Rattle.ess_rules_alternatives.proofs.through.all_put.Given as goal
+
+abbrev pub invariant-loop-one : goal.invariant-loop-one
+invariant-loop-one l =
+    map pure_alternative l.all ≡ map (put_through l.bound (pure_node l.body)) (map pure_alternative (take l.one-index l.offered))

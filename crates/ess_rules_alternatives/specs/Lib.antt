@@ -1,0 +1,2 @@
+-- Alternatives one by one
+pub mod Cases
