@@ -4,3 +4,5 @@ pub mod MarksOfTerms
 pub mod MarksOfNames
 pub mod MarksOfComponents
 pub mod MarksOfOthers
+pub mod EverywhereMarked
+pub mod MarksOfConditions

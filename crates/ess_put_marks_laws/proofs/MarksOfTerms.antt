@@ -22,7 +22,7 @@ use Rattle.ess_rules_marks_laws.proofs.Grows.{Grows, as_it_is, a_node, a_comp, E
 use Rattle.ess_put_marks_laws.specs.MarksOfTerms.{EachMarked, OfferedMarked, SourceRulesKeepMarks}
 use Rattle.ess_put_marks_laws.proofs.MarksOfListed.{listed-marks}
 
-fold-fit : (m : Bool) (f : Fun) → is_marked m f ≡ true → is_fit m (word f) ≡ true
+pub fold-fit : (m : Bool) (f : Fun) → is_marked m f ≡ true → is_fit m (word f) ≡ true
 fold-fit true Fun.And i = refl
 fold-fit true Fun.Or i = refl
 fold-fit false Fun.Sum i = refl
@@ -30,7 +30,7 @@ fold-fit false Fun.Product i = refl
 fold-fit true _ i = cc
 fold-fit false _ i = cc
 
-extreme-fit : (f : Fun) → is_extreme f ≡ true → is_fit false (word f) ≡ true
+pub extreme-fit : (f : Fun) → is_extreme f ≡ true → is_fit false (word f) ≡ true
 extreme-fit Fun.Min i = refl
 extreme-fit Fun.Max i = refl
 extreme-fit _ i = cc

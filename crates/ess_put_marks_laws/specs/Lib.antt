@@ -1,2 +1,3 @@
 pub mod MarksOfTerms
 pub mod MarksOfOthers
+pub mod MarksOfConditions

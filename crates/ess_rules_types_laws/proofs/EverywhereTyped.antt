@@ -228,7 +228,7 @@ mutual
       let r = listed-is (types_under gs g) (type_of e) h in
       let k : names_behind gs g ≡ r.0 = behind-types gs g r.0 r.1 in
       listed-to (types_under (everywhere_gens gs) g) (type_of (everywhere e)) r.0 (gens-everywhere gs g ∙ r.1)
-      (number-everywhere e r.0 (subst (SizesNumbers e) k s.1) r.2)
+      (number-everywhere e r.0 (subst (SizesNumbers e) k s) r.2)
   list-everywhere (node_ex false matrix_literal es) g s h =
       literal-to g (everywhere_exs es) list_ty (λ i t n. n) (items-everywhere es g s.1 (literal-is g es list_ty (λ i t n. n) h))
   list-everywhere _ g s h = h
@@ -247,7 +247,7 @@ mutual
       (least-of f i (types_under gs g) (type_of e) (ap is_numeric (sym (alone f (type_of (comp_ex e gs) g))) ∙ h)) in
       let k : names_behind gs g ≡ r.0 = behind-types gs g r.0 r.1 in
       guarded-least f i (everywhere e) (everywhere_gens gs) g r.0 (gens-everywhere gs g ∙ r.1)
-      (number-everywhere e r.0 (subst (SizesNumbers e) k s.1) r.2)
+      (number-everywhere e r.0 (subst (SizesNumbers e) k s) r.2)
   least-everywhere f i (node_ex false matrix_literal no_exs) g s h = refl
   least-everywhere f i (node_ex false matrix_literal (more_exs e es)) g s h =
       ap is_numeric (alone f (type_of (node_ex false matrix_literal (everywhere_exs (more_exs e es))) g))

@@ -4,9 +4,9 @@ use Rattle.ess_semantics.specs.declared.words.Op1.{Op1}
 use Rattle.ess_semantics.specs.Values.{Text, a_matrix}
 use Rattle.ess_semantics.specs.Order.{same_text}
 use Rattle.ess_semantics.specs.Names.{Names}
-use Rattle.ess_semantics.specs.Trees.{Op, unary, Ex, Exs, node_ex, comp_ex, ex2, fun1, no_exs, more_exs, Gens, no_gens, over, from, cond, Dom}
-use Rattle.ess_semantics.specs.Types.{Ty, any_ty, int_ty, compound2, join, type_of_dom, bind_types}
-use Rattle.ess_semantics.specs.Typing.{type_of, types_of, source_ty}
+use Rattle.ess_semantics.specs.Trees.{Op, unary, Ex, Exs, node_ex, comp_ex, ex2, fun1, no_exs, more_exs, Gens, over, Dom}
+use Rattle.ess_semantics.specs.Types.{Ty, any_ty, int_ty, compound2, join, type_of_dom}
+use Rattle.ess_semantics.specs.Typing.{type_of, types_of}
 use Rattle.ess_semantics.specs.NamesAt.{names_behind}
 use Rattle.ess_semantics.specs.Substitution.{Binds}
 use Rattle.ess_refine_laws.specs.TypesStay.{KeepsType}
@@ -44,20 +44,13 @@ abbrev mutual
   -- Each `|x|` of the number is of a number, as in refined trees.
   pub SizesNumbers : Ex → Names Ty → Type 0
   SizesNumbers (node_ex b op es) g = (sizes_number op (types_of es g) ≡ true) × AllSizeNumbers es g
-  SizesNumbers (comp_ex e gs) g = GensSizeNumbers gs g × SizesNumbers e (names_behind gs g)
+  SizesNumbers (comp_ex e gs) g = SizesNumbers e (names_behind gs g)
   SizesNumbers e g = Unit {0}
 
   -- The same of operands.
   pub AllSizeNumbers : Exs → Names Ty → Type 0
   AllSizeNumbers no_exs g = Unit {0}
   AllSizeNumbers (more_exs e es) g = SizesNumbers e g × AllSizeNumbers es g
-
-  -- The same of generators: of what their types depend on.
-  pub GensSizeNumbers : Gens → Names Ty → Type 0
-  GensSizeNumbers no_gens g = Unit {0}
-  GensSizeNumbers (over p d gs) g = GensSizeNumbers gs (bind_types p (type_of_dom d) g)
-  GensSizeNumbers (from p e gs) g = GensSizeNumbers gs (bind_types p (source_ty e g) g)
-  GensSizeNumbers (cond e gs) g = GensSizeNumbers gs g
 
 -- ---- what rules count on
 

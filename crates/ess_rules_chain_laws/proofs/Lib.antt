@@ -1,0 +1,2 @@
+pub mod RulesAtNodes
+pub mod MarkedChains
