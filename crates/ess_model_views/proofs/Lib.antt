@@ -6,3 +6,5 @@ pub mod ViewLaws
 pub mod ScalarLaws
 -- Behind givens and finds
 pub mod StatementLaws
+-- Worked examples
+pub mod Examples
