@@ -1,0 +1,4 @@
+-- Names one by one
+mod NameRows
+-- What listings are of views by their parts
+mod PairListings

@@ -1,0 +1,2 @@
+-- What a run over arguments in the code stands for
+pub mod CodeRuns
