@@ -56,7 +56,7 @@ module _ (g : Names Ty) where
 
   module _ (x : Text) where
     -- A marked tree behind the new name.
-    later : (s e : Ex) → IsNewTo x e → HasMarks e g → Grows ((x, source_ty s g) ∷ g) e
+    pub later : (s e : Ex) → IsNewTo x e → HasMarks e g → Grows ((x, source_ty s g) ∷ g) e
     later s e n h = as_it_is (marks-behind x (source_ty s g) e g n h)
 
     -- The body at each member.
@@ -186,11 +186,11 @@ module _ (g : Names Ty) where
         reached ((x, source_ty f g) ∷ g) v k (name_ex x)
         (c ((x, source_ty f g) ∷ g) (look-itself x (source_ty f g) g ∙ ap (λ o. Some (or_any (and_then o member_ty))) p)) tt
 
-    first-grows : (f : Ex) (t u : Ty) → type_of f g ≡ Some (compound2 a_function t u) →
+    pub first-grows : (f : Ex) (t u : Ty) → type_of f g ≡ Some (compound2 a_function t u) →
         Grows ((x, source_ty f g) ∷ g) (component_of t 1 (name_ex x))
     first-grows f t u p = component-grows f t u t 1 p (λ h q. component-type h t 1 (name_ex x) _ q refl)
 
-    second-grows : (f : Ex) (t u : Ty) → type_of f g ≡ Some (compound2 a_function t u) →
+    pub second-grows : (f : Ex) (t u : Ty) → type_of f g ≡ Some (compound2 a_function t u) →
         Grows ((x, source_ty f g) ∷ g) (component_of u 2 (name_ex x))
     second-grows f t u p = component-grows f t u u 2 p (λ h q. component-type h u 2 (name_ex x) _ q refl)
 
