@@ -1,0 +1,4 @@
+-- Tables side by side
+pub mod SideBySide
+-- Components
+pub mod ComponentViews

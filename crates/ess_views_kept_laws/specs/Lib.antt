@@ -1,0 +1,2 @@
+-- Components of tuples and records
+pub mod ComponentsKept
