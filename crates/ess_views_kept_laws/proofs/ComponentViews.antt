@@ -157,9 +157,14 @@ as-many (more_reprs r rs) (more_domains e es) ts i vss c q =
 -- ---- the node
 
 -- What a rule answers that fits the mark of its place is kept.
-abbrev MarkedAnswer : Option Ex → Ex → Env → Type 0
+abbrev pub MarkedAnswer : Option Ex → Ex → Env → Type 0
 MarkedAnswer None e env = Unit {0}
 MarkedAnswer (Some f) e env = FitsMark e f → Keeps e f env
+
+-- So it is where the rule fires.
+pub marked-fires : (o : Option Ex) (e f : Ex) (env : Env) → MarkedAnswer o e env → o ≡ Some f → FitsMark e f → Keeps e f env
+marked-fires None e f env h q fit = cc
+marked-fires (Some g) e f env h q fit = subst (λ z. FitsMark e z → Keeps e z env) (let z : g ≡ f = cc in z) h fit
 
 -- A step into a view has the value that is found.
 record Reached (w : Ex) (qs : List Step) (o : Option Ex) (env : Env) : Type 0 where
@@ -225,14 +230,16 @@ module _ (rs : Reprs) (ds : Doms) (ns : List Text) (js : Exs) (env : Env) (cover
       (λ vss. node (a_record fs) (of_list (first_of_each vss))) v.0 v.1 in record {
         value = node (a_record fs) (of_list (first_of_each m.0));
         part = field_at fs (of_list (first_of_each m.0)) a;
-        is_value = ap (λ z. seen_in (repr ReprKind.Rec rs) (option_map (records fs) z) (tables_in env.cells ns) (indices (meanings js env))) dq
+        is_value = ap (λ z. seen_in (repr ReprKind.Rec rs) (option_map (records fs) z) (tables_in env.cells ns)
+            (indices (meanings js env))) dq
             ∙ ap (λ z. seen_in (repr ReprKind.Rec rs) (Some (records fs es)) z (indices (meanings js env))) tq
             ∙ ap (seen_in (repr ReprKind.Rec rs) (Some (records fs es)) (Some ts)) iq ∙ v.1 ∙ ap Some (sym m.2);
         reaches = refl;
         found = found-field a fs rs ds ns js (first_of_each m.0) env (as-many rs es ts i m.0 c m.1)
             (each-view js env i (record_layer fs es) iq mj rs ds es ns ts m.0 dq c tq (and-left _ _ h) m.1
             (and-right (is_some_and (value_of_tables (repr ReprKind.Rec rs) (records fs es) ts i) (member (records fs es)))
-            (is_orderly (repr ReprKind.Rec rs) (records fs es) (cells_at ts i)) z) (and-right (same_texts fs fs) _ (ap (member (records fs es)) m.2 ∙ v.2)) md);
+            (is_orderly (repr ReprKind.Rec rs) (records fs es) (cells_at ts i)) z)
+            (and-right (same_texts fs fs) _ (ap (member (records fs es)) m.2 ∙ v.2)) md);
       }
   record-reached a fs (Some es) (Some ts) None dq tq iq h md mj = no h
   record-reached a fs (Some es) None i dq tq iq h md mj = no h
@@ -251,8 +258,4 @@ component-answer _ env c = tt
 
 -- Components and fields.
 pub components-keep : ComponentViewsKeep
-components-keep e f q fit env c = go (component_view e) q (component-answer e env c)
-  where
-    go : (o : Option Ex) → o ≡ Some f → MarkedAnswer o e env → Keeps e f env
-    go None q h = cc
-    go (Some g) q h = subst (λ z. FitsMark e z → Keeps e z env) (let z : g ≡ f = cc in z) h fit
+components-keep e f q fit env c = marked-fires (component_view e) e f env (component-answer e env c) q fit

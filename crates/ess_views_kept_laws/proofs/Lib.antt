@@ -2,3 +2,6 @@
 pub mod SideBySide
 -- Components
 pub mod ComponentViews
+-- Items of matrices
+pub mod MatrixRuns
+pub mod MatrixViews

@@ -67,7 +67,8 @@ domains-split (Some x) None d ds q = cc
 domains-split (Some x) (Some xs) d ds q = (ap Some (let e : x ≡ d = cc in e), ap Some (let e : xs ≡ ds = cc in e))
 
 -- It isn't empty.
-pub domains-some : {A : Type 0} (o : Option Domain) (p : Option Domains) → and_then o (λ x. option_map (more_domains x) p) ≡ Some no_domains → A
+pub domains-some : {A : Type 0} (o : Option Domain) (p : Option Domains) →
+    and_then o (λ x. option_map (more_domains x) p) ≡ Some no_domains → A
 domains-some None p q = cc
 domains-some (Some x) None q = cc
 domains-some (Some x) (Some xs) q = cc
