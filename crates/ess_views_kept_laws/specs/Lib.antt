@@ -1,0 +1,4 @@
+-- Components of tuples and records
+pub mod ComponentsKept
+-- Items of matrices
+pub mod ItemsKept
