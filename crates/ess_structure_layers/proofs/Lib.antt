@@ -1,0 +1,5 @@
+pub mod LayerForms
+pub mod ChildForms
+mod Listed
+mod SameParts
+mod Examples
