@@ -1,3 +1,4 @@
+pub mod ExamplesLookups
 pub mod ExamplesPicked
 pub mod ExamplesViewForms
 pub mod KeyLemmas
