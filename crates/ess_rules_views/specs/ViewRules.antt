@@ -5,7 +5,7 @@ use Rattle.ess_semantics.specs.Values.{Text}
 use Rattle.ess_semantics.specs.Trees.{Ex, Exs, cell_ex, Dom, tuple_dom}
 use Rattle.ess_semantics.specs.Lists.{and_then}
 use Rattle.ess_semantics.specs.Meaning.{is_bool_dom}
-use Rattle.ess_rules_laws.specs.FunctionViews.{flag_at}
+use Rattle.ess_rules_laws.specs.FunctionViews.{by_name, flag_at, total_result, flagged_result}
 use Rattle.ess_rules_laws.specs.FunctionKeys.{fitting_result, result_behind_flag}
 use Rattle.ess_rules_views.specs.ViewForms.{OneTable, Arguments, Slots, total_keys, partial_keys, member_keys}
 
@@ -72,3 +72,13 @@ slots_where k n = None
 -- The number of slots.
 abbrev pub slots_of : Ex → Slots → Option Ex
 slots_of n v = slots_where v.kind n
+
+-- The result at a, where the kind is that of a total function from atoms: x over the first domain, where x is a, the result at x.
+abbrev pub result_where : ReprKind → Text → Ex → Arguments → Option Ex
+result_where ReprKind.Function1D x a v = Some (total_result (by_name x) v.child v.first v.last v.cells v.at a)
+result_where k x a v = None
+
+-- The same of a function from atoms with flags, where the flag at x is true: the first table holds the flags.
+abbrev pub flagged_where : ReprKind → List Text → Text → Ex → Arguments → Option Ex
+flagged_where ReprKind.Function1DPartial (m ∷ ns) x a v = Some (flagged_result (by_name x) v.child v.first v.last m ns v.at a)
+flagged_where k ns x a v = None
