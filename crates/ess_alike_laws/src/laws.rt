@@ -1,0 +1,8 @@
+//! Laws of types of listings, each the contract of a function that does nothing.
+
+ghost use Rattle.ess_alike_laws.specs.AlikeListings.{ListingsAreAlike};
+
+/// What a term whose parts are of one type offers as a listing has items of the type of its members.
+pub fn listings_are_alike()
+    ensures { ListingsAreAlike }
+{}
