@@ -25,7 +25,7 @@ use Rattle.ess_alike_laws.specs.AlikeListings.{AllOfType, PartsAlike, ListingsAr
 
 -- ---- types
 
-member-is : (o : Option Ty) (m : Ty) → and_then o member_ty ≡ Some m → (t : Ty) × (o ≡ Some t) × (member_ty t ≡ Some m)
+pub member-is : (o : Option Ty) (m : Ty) → and_then o member_ty ≡ Some m → (t : Ty) × (o ≡ Some t) × (member_ty t ≡ Some m)
 member-is None m q = (any_ty, cc, cc)
 member-is (Some t) m q = (t, refl, q)
 
@@ -57,31 +57,31 @@ of-parts _ m k q = cc
 
 module _ (g : Names Ty) (m : Ty) where
   -- Each alternative has items of this type.
-  abbrev AllHave : List Alternative → Type 0
+  abbrev pub AllHave : List Alternative → Type 0
   AllHave [] = Unit {0}
   AllHave (a ∷ l) = (and_then (type_of (laid_out a) g) member_ty ≡ Some m) × AllHave l
 
-  alike : (t : Ex) (l : List Alternative) → and_then (type_of t g) member_ty ≡ Some m → AllHave l → EachAlike g t l
+  pub alike : (t : Ex) (l : List Alternative) → and_then (type_of t g) member_ty ≡ Some m → AllHave l → EachAlike g t l
   alike t [] q h = tt
   alike t (a ∷ l) q h = (h.0 ∙ sym q, alike t l q h.1)
 
   -- ---- literals
 
   -- Under conditions that have types.
-  item-under : (a : Ex) (gs : Gens) → types_under gs g ≡ Some g → type_of a g ≡ Some m →
+  pub item-under : (a : Ex) (gs : Gens) → types_under gs g ≡ Some g → type_of a g ≡ Some m →
       and_then (type_of (comp_ex a gs) g) member_ty ≡ Some m
   item-under a gs u q = ap (λ o. and_then (and_then o (λ h. option_map (compound2 a_matrix int_ty) (type_of a h))) member_ty) u
       ∙ ap (λ o. and_then (option_map (compound2 a_matrix int_ty) o) member_ty) q
 
-  each-item : (es : Exs) → AllOfType g m es → AllHave (each_item es)
+  pub each-item : (es : Exs) → AllOfType g m es → AllHave (each_item es)
   each-item no_exs h = tt
   each-item (more_exs a es) h = (item-under a no_gens refl h.0, each-item es h.1)
 
-  truth-under : (k : Names Ty) (c : Ex) (gs : Gens) → type_of c k ≡ Some bool_ty → types_under gs k ≡ Some k →
+  pub truth-under : (k : Names Ty) (c : Ex) (gs : Gens) → type_of c k ≡ Some bool_ty → types_under gs k ≡ Some k →
       types_under (cond c gs) k ≡ Some k
   truth-under k c gs q u = ap (λ o. and_then o (λ t. and_then (join t bool_ty) (λ v. types_under gs k))) q ∙ u
 
-  abbrev AllOfThem : List Ex → Type 0
+  abbrev pub AllOfThem : List Ex → Type 0
   AllOfThem [] = Unit {0}
   AllOfThem (b ∷ bs) = (type_of b g ≡ Some m) × AllOfThem bs
 
@@ -93,14 +93,14 @@ module _ (g : Names Ty) (m : Ty) where
   none-under (b ∷ bs) a h q = truth-under g (ex1 true Op1.Not (ex2 true Op2.Eq b a)) (none_of bs a)
       (not-type g (ex2 true Op2.Eq b a) (equation-type g b a m m h.0 q (itself m))) (none-under bs a h.1 q)
 
-  each-first : (bs : List Ex) (es : Exs) → AllOfThem bs → AllOfType g m es → AllHave (each_first bs es)
+  pub each-first : (bs : List Ex) (es : Exs) → AllOfThem bs → AllOfType g m es → AllHave (each_first bs es)
   each-first bs no_exs h k = tt
   each-first bs (more_exs a es) h k = (item-under a (none_of bs a) (none-under bs a h k.0) k.0, each-first (a ∷ bs) es (k.0, h) k.1)
 
   module _ (x : Text) where
     -- ---- containers
 
-    those-have : (s : Ex) (gs : Gens) → and_then (type_of s g) member_ty ≡ Some m → types_under gs ((x, m) ∷ g) ≡ Some ((x, m) ∷ g) →
+    pub those-have : (s : Ex) (gs : Gens) → and_then (type_of s g) member_ty ≡ Some m → types_under gs ((x, m) ∷ g) ≡ Some ((x, m) ∷ g) →
         and_then (type_of (laid_out (those x s gs)) g) member_ty ≡ Some m
     those-have s gs p u =
         ap (λ o. and_then (and_then (and_then o (λ t. types_under gs ((x, t) ∷ g))) (λ h. option_map (compound2 a_matrix int_ty)
@@ -127,7 +127,7 @@ module _ (g : Names Ty) (m : Ty) where
     out-under a n p k = truth-under ((x, m) ∷ g) (ex1 true Op1.Not (ex2 true Op2.Member (name_ex x) a)) no_gens
         (not-type ((x, m) ∷ g) (ex2 true Op2.Member (name_ex x) a) (member-type a n p k)) refl
 
-    when-have : (c : Bool) (l : List Alternative) → (c ≡ true → AllHave l) → OfSome (if c then Some l else None) AllHave
+    pub when-have : (c : Bool) (l : List Alternative) → (c ≡ true → AllHave l) → OfSome (if c then Some l else None) AllHave
     when-have true l h = h refl
     when-have false l h = tt
 
@@ -165,7 +165,7 @@ module _ (g : Names Ty) (m : Ty) where
         (those-have s no_gens (of-parts (type_of s g) m c q) refl, tt))
     listing-has _ n q h = tt
 
-  of-answer : (o : Option (List Alternative)) (l : List Alternative) → o ≡ Some l → OfSome o AllHave → AllHave l
+  pub of-answer : (o : Option (List Alternative)) (l : List Alternative) → o ≡ Some l → OfSome o AllHave → AllHave l
   of-answer o l q h = subst (λ z. OfSome z AllHave) q h
 
 -- Listings are alike.

@@ -1,1 +1,2 @@
 pub mod AlikeListings
+pub mod AlikeMade
