@@ -1,0 +1,2 @@
+pub mod AlikeListings
+pub mod AlikeMade

@@ -1,0 +1,4 @@
+//! Which listings have items of the type of what they list.
+#![tactic(auto)]
+
+pub mod laws;
