@@ -1,0 +1,4 @@
+-- Trees whose forms are told
+pub mod FormsTold
+-- What is proved
+pub mod Laws
