@@ -4,4 +4,9 @@ pub mod SideBySide
 pub mod ComponentViews
 -- Items of matrices
 pub mod MatrixRuns
+pub mod MatrixPlaces
 pub mod MatrixViews
+-- Values kept as another value
+pub mod SameMembers
+pub mod ChildViews
+pub mod AskedChildren

@@ -1,5 +1,5 @@
 -- An item of a view of a matrix is the view at its index.
-use Rattle.std.proofs.Common.{◌≡◌, refl, sym, ap, ◌∙◌, subst, suc, ◌*◌, ◌≤◌, Bool, true, false, ◌&&◌, List, [], ◌∷◌, ◌++◌, map, take, length, ℤ, Option, Some, None, option_map, arith, length-append, suc-mul, zero-mul}
+use Rattle.std.proofs.Common.{◌≡◌, refl, sym, ap, ◌∙◌, ◌≤◌, Bool, true, false, ◌&&◌, List, [], ◌∷◌, ◌++◌, map, take, length, ℤ, Option, Some, None, option_map, arith}
 use Rattle.std.proofs.Math.Path.{fun_ext}
 use Rattle.std.specs.Prelude.{IsTrue}
 use Rattle.std.specs.List.{list_all}
@@ -12,11 +12,11 @@ use Rattle.ess_semantics.specs.Domains.{Domain, Domains, matrices, no_domains, m
 use Rattle.ess_semantics.specs.Membership.{nested_matrix, member}
 use Rattle.ess_semantics.specs.Operators.{item_at, value_of_node, false_where_undefined}
 use Rattle.ess_semantics.specs.Tables.{Tables, code}
-use Rattle.ess_semantics.specs.Cells.{Axes, Cells, behind, cells_at}
+use Rattle.ess_semantics.specs.Cells.{Cells, behind, cells_at}
 use Rattle.ess_semantics.specs.Layers.{codes_of, only_child}
 use Rattle.ess_semantics.specs.ScalarLayers.{nested_of, in_lists_of, count_of_places}
 use Rattle.ess_semantics.specs.Representations.{width, value_of_cells, value_of_tables}
-use Rattle.ess_semantics.specs.Declarations.{Declaration, under, declarations_below, axes_of}
+use Rattle.ess_semantics.specs.Declarations.{under, declarations_below, axes_of}
 use Rattle.ess_semantics.specs.Tidy.{over_axes, is_orderly, tidy}
 use Rattle.ess_semantics.specs.Meaning.{Env, meaning, meanings, domain_of, domains_of, members_in, indices, tables_in, seen_in}
 use Rattle.ess_semantics.specs.Meets.{Meets, MeetsAll, MeetsDom, MeetsDoms, tidy_in}
@@ -25,72 +25,19 @@ use Rattle.ess_semantics.proofs.Orders.{to_list-of_list}
 use Rattle.ess_repr_laws.proofs.Behind.{behind-take}
 use Rattle.ess_repr_laws.proofs.StructureTuples.{under-none}
 use Rattle.ess_rules_laws.specs.SetListings.{put_last}
-use Rattle.ess_rules_laws.specs.FunctionViews.{append_exs}
 use Rattle.ess_rules_laws.specs.FunctionKeys.{IsMember}
 use Rattle.ess_rules_laws.proofs.SlotSets.{In, orderly_in}
-use Rattle.ess_rules_laws.proofs.Results.{meanings-append, indices-append, append-met, place-value, place-tidy}
-use Rattle.ess_rules_laws.proofs.TablesOfViews.{axes_in, axes-long, tables-short, over-long, over-behind, cells-append}
+use Rattle.ess_rules_laws.proofs.Results.{place-value, place-tidy}
+use Rattle.ess_rules_laws.proofs.TablesOfViews.{axes_in, axes-long, tables-short, over-long, cells-append}
 use Rattle.ess_views_laws.specs.MatrixViews.{behind_index, item_view}
 use Rattle.ess_views_kept_laws.specs.ItemsKept.{IndexHeld, ItemViewsKeep}
 use Rattle.ess_views_kept_laws.proofs.SideBySide.{domains-some}
 use Rattle.ess_views_kept_laws.proofs.ComponentViews.{IsView, view-of, MarkedAnswer, marked-fires}
+use Rattle.ess_views_kept_laws.proofs.MatrixPlaces.{put-indices, put-met, places-count, append-none, over-rest}
 use Rattle.ess_views_kept_laws.proofs.MatrixRuns.{ItemStands, item-stands}
 
 no : {A : Type 0} → false ≡ true → A
 no h = cc
-
--- ---- index lists with one more index
-
-put-appends : (js : Exs) (a : Ex) → put_last js a ≡ append_exs js (more_exs a no_exs)
-put-appends no_exs a = refl
-put-appends (more_exs e es) a = ap (more_exs e) (put-appends es a)
-
-module _ (js : Exs) (a : Ex) (env : Env) where
-  -- The number of the last index stands behind the others.
-  pub put-indices : (i : List ℤ) (w : Value) → indices (meanings js env) ≡ Some i → meaning a env ≡ Some w →
-      indices (meanings (put_last js a) env) ≡ Some (i ++ (code w ∷ []))
-  put-indices i w p q = ap (λ z. indices (meanings z env)) (put-appends js a) ∙ ap indices (meanings-append js (more_exs a no_exs) env)
-      ∙ indices-append (meanings js env) (meaning a env ∷ []) i (code w ∷ []) p (ap (λ o. indices (o ∷ [])) q)
-
-  -- Structures of the index list with it.
-  pub put-met : MeetsAll false js env → Meets a env → MeetsAll false (put_last js a) env
-  put-met m n = subst (λ z. MeetsAll false z env) (sym (put-appends js a)) (append-met js (more_exs a no_exs) env m (n, tt))
-
--- ---- places
-
-map-long : {A B : Type 0} (f : A → B) (xs : List A) → length (map f xs) ≡ length xs
-map-long f [] = refl
-map-long f (x ∷ xs) = ap suc (map-long f xs)
-
-heads-long : (ks : List ℤ) (ls : List (List ℤ)) → length (add_heads ks ls) ≡ length ks * length ls
-heads-long [] ls = sym (zero-mul (length ls))
-heads-long (k ∷ ks) ls = let a = length-append (map (λ l. k ∷ l) ls) (add_heads ks ls) in
-    let b = map-long (λ l. k ∷ l) ls in
-    let d = heads-long ks ls in
-    let e = suc-mul (length ks) (length ls) in omega (arith, a, b, d, e)
-
--- There are as many places as items.
-places-count : (ds : Domains) → length (lists_of (map codes_of (domain_list ds))) ≡ count_of_places ds
-places-count no_domains = refl
-places-count (more_domains d ds) = heads-long (codes_of d) (lists_of (map codes_of (domain_list ds)))
-    ∙ ap (λ n. n * length (lists_of (map codes_of (domain_list ds)))) (map-long code (member_list d))
-    ∙ ap (λ n. length (member_list d) * n) (places-count ds)
-
--- ---- axes
-
-under-both : (a : List ℤ) (as' : Axes) (ds : List Declaration) → under (a ∷ as') ds ≡ under (a ∷ []) (under as' ds)
-under-both a as' [] = refl
-under-both a as' (d ∷ ds) = ap (λ l. record { axes = a ∷ (as' ++ d.axes); cell = d.cell } ∷ l) (under-both a as' ds)
-
-append-none : {A : Type 0} (xs : List A) → xs ++ [] ≡ xs
-append-none [] = refl
-append-none (x ∷ xs) = ap (λ l. x ∷ l) (append-none xs)
-
--- Behind an index tables are over the axes behind the first.
-over-rest : (i : List ℤ) (k : ℤ) (a : List ℤ) (as' : Axes) (ds : List Declaration) (ts : Tables) →
-    over_axes i (axes_in (under (a ∷ as') ds ++ [])) ts ≡ true → over_axes (i ++ (k ∷ [])) (axes_in (under as' ds)) ts ≡ true
-over-rest i k a as' ds ts h = over-behind i k a (under as' ds) ts
-    (ap (λ l. over_axes i (axes_in (l ++ [])) ts) (sym (under-both a as' ds)) ∙ h)
 
 -- ---- the view behind an index
 

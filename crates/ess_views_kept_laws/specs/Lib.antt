@@ -2,3 +2,5 @@
 pub mod ComponentsKept
 -- Items of matrices
 pub mod ItemsKept
+-- Values kept as another value
+pub mod ChildrenKept

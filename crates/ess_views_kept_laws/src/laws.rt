@@ -2,6 +2,7 @@
 
 ghost use Rattle.ess_views_kept_laws.specs.ComponentsKept.{ComponentViewsKeep};
 ghost use Rattle.ess_views_kept_laws.specs.ItemsKept.{ItemViewsKeep};
+ghost use Rattle.ess_views_kept_laws.specs.ChildrenKept.{ChildrenServe};
 
 /// A component of a view of a tuple, and a field of a view of a record, means what the view of the child does, and tables that
 /// meet the structure of the one meet that of the other: where each child's kinds are ones for its domain, and the node is
@@ -15,4 +16,12 @@ pub fn component_views_keep()
 /// value only where the items' domain is bool.
 pub fn item_views_keep()
     ensures { ItemViewsKeep }
+{}
+
+/// A view that is kept as another value has the members of the child's view, in their order: a relation those of a set, a function
+/// those of a relation, a partition those of a set. So it offers them, and `in` and sizes may ask the child; tables that meet its
+/// structure meet that of the child's view. So it is where the domain of the child's view is the one that the layer says, and holds
+/// what the child stands for.
+pub fn children_serve()
+    ensures { ChildrenServe }
 {}
