@@ -1,0 +1,2 @@
+-- The forms of trees that the rules ask for
+pub mod Asked
