@@ -1,0 +1,2 @@
+-- Terms at one index
+pub mod Indexed
