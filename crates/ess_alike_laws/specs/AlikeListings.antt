@@ -16,7 +16,8 @@ abbrev pub AllOfType : Names Ty → Ty → Exs → Type 0
 AllOfType g m no_exs = Unit {0}
 AllOfType g m (more_exs e es) = (type_of e g ≡ Some m) × AllOfType g m es
 
--- The parts of the term are of one type: the items of a literal, and the members of the operands of a union, an intersection or a difference.
+-- The parts of the term are of one type: the items of a literal, and the members of the operands of a union, an intersection or a
+-- difference.
 -- `{}` and `{1}` are of two types, so `{{}, {1}}` isn't meant.
 abbrev pub PartsAlike : Names Ty → Ty → Ex → Type 0
 PartsAlike g m (ex2 false o a b) = (and_then (type_of a g) member_ty ≡ Some m) × (and_then (type_of b g) member_ty ≡ Some m)

@@ -31,8 +31,8 @@ pub record MarksAsked (s : Supply) (g : Names Ty) (r : Rule) (e : Ex) : Type 0 w
   pub of_parts : has_parts r ≡ true → PartsMarked s g r e
   pub of_conditions : is_of_conditions r ≡ true → ConditionsMarked s g r e
 
--- The second tree comes from the first one by rules, each at some part that has a type, where it keeps the part and its type and has what it
--- asks so as to keep marks.
+-- The second tree comes from the first one by rules, each at some part that has a type, where it keeps the part and its type and has
+-- what it asks so as to keep marks.
 pub data MarkedRewriting : Names Ty → Ex → Ex → Type 0 where
   as_marked : {g : Names Ty} {e : Ex} → MarkedRewriting g e e
   marked_at : {g : Names Ty} {a b e : Ex} (s : Supply) (r : Rule) (c : In) (t : Ty) → rewrite s (names_at c g) r a ≡ Some b →
