@@ -98,7 +98,8 @@ power-full k a b g fa fb = full-if (is_above_zero b) _ g (
   full-unless (is_not_zero a) _ g (tt, (compared-full Op2.Ne k b g fb, (compared-full Op2.Ne k a g fa, tt))),
 )
 
-from-item : (x : Text) (s : Ex) (g : Names Ty) → Full s g → Full (fun1 true Fun.Or (comp_ex (truth_ex true) (from (name_pat x) s no_gens))) g
+from-item : (x : Text) (s : Ex) (g : Names Ty) → Full s g →
+    Full (fun1 true Fun.Or (comp_ex (truth_ex true) (from (name_pat x) s no_gens))) g
 from-item x s g f = (tt, (((f, tt), tt), tt))
 
 has-item-full : (x : Text) (s : Ex) (g : Names Ty) → Full s g → Full (has_item x s) g

@@ -52,8 +52,10 @@ mutual
 
   bounds-full : (es : Exs) (g : Names Ty) → are_plain_bounds es ≡ true → AllFull es g
   bounds-full no_exs g t = tt
-  bounds-full (more_exs e es) g t =
-      (bound-full e g (and-left (is_plain_bound e) (are_plain_bounds es) t), bounds-full es g (and-right (is_plain_bound e) (are_plain_bounds es) t))
+  bounds-full (more_exs e es) g t = (
+    bound-full e g (and-left (is_plain_bound e) (are_plain_bounds es) t),
+    bounds-full es g (and-right (is_plain_bound e) (are_plain_bounds es) t),
+  )
 
 plain-full : (o : Option Dom) (d : Dom) (g : Names Ty) → plain_axis o ≡ Some d → DomFull d g
 plain-full (Some bool_dom) d g e = subst (λ z. DomFull z g) (some-dom bool_dom d e) tt
@@ -86,15 +88,16 @@ step-full : (k : Names Origin) (x : Text) (m i : Ex) (g : Names Ty) (o : Option 
 step-full k x m i g None e t a f = cc
 step-full k x m i g (Some d) e t a f = full-unless (is_sure k i d) (in_dom x i d) g (in-dom-full x i d g f (a d e))
 
-path-full : (k : Names Origin) (x : Text) (m : Ex) (qs : List Step) (is : Exs) (g : Names Ty) → path_has_axes m qs is ≡ true → AxisFull m g →
-    AllFull is g → FullConds (path_conditions k x m qs is) g
+path-full : (k : Names Origin) (x : Text) (m : Ex) (qs : List Step) (is : Exs) (g : Names Ty) → path_has_axes m qs is ≡ true →
+    AxisFull m g → AllFull is g → FullConds (path_conditions k x m qs is) g
 path-full k x m [] is g t a f = tt
 path-full k x m (by_value ∷ qs) no_exs g t a f = tt
 path-full k x m (by_value ∷ qs) (more_exs i is) g t a f =
     full-append (index_conditions k x (index_dom m) m i) (path_conditions k x (at_step by_value m (more_exs i no_exs)) qs is) g
     (step-full k x m i g (index_dom m) refl (and-left (has_axis m) (path_has_axes (at_step by_value m (more_exs i no_exs)) qs is) t) a f.0)
     (path-full k x (at_step by_value m (more_exs i no_exs)) qs is g
-    (and-right (has_axis m) (path_has_axes (at_step by_value m (more_exs i no_exs)) qs is) t) (picked-full by_value m (more_exs i no_exs) g) f.1)
+    (and-right (has_axis m) (path_has_axes (at_step by_value m (more_exs i no_exs)) qs is) t)
+    (picked-full by_value m (more_exs i no_exs) g) f.1)
 path-full k x m (to_component c ∷ qs) is g t a f =
     path-full k x (at_step (to_component c) m no_exs) qs is g t (picked-full (to_component c) m no_exs g) f
 path-full k x m (to_field b ∷ qs) is g t a f =

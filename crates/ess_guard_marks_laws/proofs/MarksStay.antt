@@ -129,7 +129,8 @@ module _ (natural : Bool) (x y : Text) (law : P.TypesLaw natural x y) where
         )
     both (comp_ex e gs) k g l h f v =
         let a : BothGens k gs g = both-gens gs k g l h.0 f.0 v.1 in
-        let b : Both (known_behind gs k) e (names_behind gs g) = both e (known_behind gs k) (names_behind gs g) (behind gs k g l h.0) h.1 f.1 v.0 in (
+        let b : Both (known_behind gs k) e (names_behind gs g) =
+        both e (known_behind gs k) (names_behind gs g) (behind gs k g l h.0) h.1 f.1 v.0 in (
           (a.0, subst (λ z. Full (G (known_behind gs k) e) z) (sym a.1) b.0),
           λ w. a.2 (C (known_behind gs k) false e) (b.1 false),
         )
@@ -148,7 +149,8 @@ module _ (natural : Bool) (x y : Text) (law : P.TypesLaw natural x y) where
         ((a.0, b.0), λ w. full-append (C k w e) (Cs k w es) g (a.1 w) (b.1 w))
 
     -- The same of numbers.
-    both-numbers : (es : Exs) (k : Names Origin) (g : Names Ty) → Place k g → AreNumbers es g → AllFull es g → CoveredAll es → BothAll k es g
+    both-numbers : (es : Exs) (k : Names Origin) (g : Names Ty) → Place k g → AreNumbers es g → AllFull es g → CoveredAll es →
+        BothAll k es g
     both-numbers no_exs k g l h f v = (tt, λ w. tt)
     both-numbers (more_exs e es) k g l h f v =
         let a : Both k e g = both e k g l h.1 f.0 v.0 in
@@ -156,7 +158,8 @@ module _ (natural : Bool) (x y : Text) (law : P.TypesLaw natural x y) where
         ((a.0, b.0), λ w. full-append (C k w e) (Cs k w es) g (a.1 w) (b.1 w))
 
     -- The same of generators.
-    both-gens : (gs : Gens) (k : Names Origin) (g : Names Ty) → Place k g → GensHaveTypes gs g → GensFull gs g → CoveredGens gs → BothGens k gs g
+    both-gens : (gs : Gens) (k : Names Origin) (g : Names Ty) → Place k g → GensHaveTypes gs g → GensFull gs g → CoveredGens gs →
+        BothGens k gs g
     both-gens no_gens k g l h f v = (tt, refl, λ ds c. c)
     both-gens (over p d gs) k g l h f v =
         let a : BothDom k d g = both-dom d k g l h.0 f.0 v.0 in
@@ -211,7 +214,8 @@ module _ (natural : Bool) (x y : Text) (law : P.TypesLaw natural x y) where
     both-dom (partition_dom ms es d) k g l h f v = numbered k es d g (both-numbers es k g l h.0 f.0 v.0) (both-dom d k g l h.1 f.1 v.1)
 
     -- The same of several domains.
-    both-doms : (ds : Doms) (k : Names Origin) (g : Names Ty) → Place k g → DomsHaveTypes ds g → DomsFull ds g → CoveredDoms ds → BothDoms k ds g
+    both-doms : (ds : Doms) (k : Names Origin) (g : Names Ty) → Place k g → DomsHaveTypes ds g → DomsFull ds g → CoveredDoms ds →
+        BothDoms k ds g
     both-doms no_doms k g l h f v = (tt, tt)
     both-doms (more_doms d ds) k g l h f v =
         let a : BothDom k d g = both-dom d k g l h.0 f.0 v.0 in
