@@ -125,14 +125,17 @@ two-operands o e no_exs g h = tt
 two-operands o e (more_exs a no_exs) g h = let r : false ≡ true = sym (not-one o (type_of a g)) ∙ h in cc
 two-operands o e (more_exs a (more_exs b no_exs)) g h = let r = connected o e (type_of a g) (type_of b g) h in (r.0, (r.1, tt))
 two-operands o e (more_exs a (more_exs b (more_exs c es))) g h =
-    let r : false ≡ true = sym (too-many (binary o) (λ t u v ts. refl) (type_of a g) (type_of b g) (type_of c g) (all_some (types_of es g))) ∙ h in cc
+    let r : false ≡ true = sym (too-many (binary o) (λ t u v ts. refl) (type_of a g) (type_of b g) (type_of c g)
+    (all_some (types_of es g))) ∙ h in cc
 
-one-operand : (es : Exs) (g : Names Ty) → is_some (and_then (all_some (types_of es g)) (type_of_op (unary Op1.Not))) ≡ true → TruthTypes es g
+one-operand : (es : Exs) (g : Names Ty) → is_some (and_then (all_some (types_of es g)) (type_of_op (unary Op1.Not))) ≡ true →
+    TruthTypes es g
 one-operand no_exs g h = tt
 one-operand (more_exs a no_exs) g h = (negated (type_of a g) h, tt)
 one-operand (more_exs a (more_exs b no_exs)) g h = let r : false ≡ true = sym (not-two (type_of a g) (type_of b g)) ∙ h in cc
 one-operand (more_exs a (more_exs b (more_exs c es))) g h =
-    let r : false ≡ true = sym (too-many (unary Op1.Not) (λ t u v ts. refl) (type_of a g) (type_of b g) (type_of c g) (all_some (types_of es g))) ∙ h in cc
+    let r : false ≡ true = sym (too-many (unary Op1.Not) (λ t u v ts. refl) (type_of a g) (type_of b g) (type_of c g)
+    (all_some (types_of es g))) ∙ h in cc
 
 -- The operands of a connective that has a type.
 pub operands-truth : (op : Op) (es : Exs) (g : Names Ty) → connects op ≡ true →
@@ -205,7 +208,8 @@ fits-some true (Some t) h = refl
 fits-some false o h = h
 
 -- What has such a type and asks for nothing is told to be a truth value.
-pub truth-told : (e : Ex) (g : Names Ty) → HasTypes e g → is_truth_ty (type_of e g) ≡ true → asks_nothing e ≡ true → is_told_truth e g ≡ true
+pub truth-told : (e : Ex) (g : Names Ty) → HasTypes e g → is_truth_ty (type_of e g) ≡ true → asks_nothing e ≡ true →
+    is_told_truth e g ≡ true
 truth-told (number_ex n) g h t a = cc
 truth-told (truth_ex b) g h t a = refl
 truth-told (name_ex x) g h t a = refl

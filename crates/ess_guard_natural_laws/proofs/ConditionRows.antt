@@ -146,8 +146,12 @@ matrix-total x es fs d env q t = behind-asked (matrix_conditions x es d) env _ (
 -- `i in D` is total.
 pub in-dom-total : (x : Text) (i : Ex) (d : Dom) (env : Env) → T i env → DomTotalButNatural d env → T (in_dom x i d) env
 in-dom-total x i (int_dom (both_ends ∷ []) (more_exs a (more_exs b no_exs))) env t u =
-    safe-total true (binary Op2.And) (more_exs (ex2 true Op2.Le (as_number [] a) i) (more_exs (ex2 true Op2.Le i (as_number [] b)) no_exs)) env refl
-    (safe-total true (binary Op2.Le) (more_exs (as_number [] a) (more_exs i no_exs)) env refl (number-total [] a env u.0, (t, tt)), (safe-total true (binary Op2.Le) (more_exs i (more_exs (as_number [] b) no_exs)) env refl (t, (number-total [] b env u.1.0, tt)), tt))
+    let low = safe-total true (binary Op2.Le) (more_exs (as_number [] a) (more_exs i no_exs)) env refl
+    (number-total [] a env u.0, (t, tt)) in
+    let high = safe-total true (binary Op2.Le) (more_exs i (more_exs (as_number [] b) no_exs)) env refl
+    (t, (number-total [] b env u.1.0, tt)) in
+    safe-total true (binary Op2.And)
+    (more_exs (ex2 true Op2.Le (as_number [] a) i) (more_exs (ex2 true Op2.Le i (as_number [] b)) no_exs)) env refl (low, (high, tt))
 in-dom-total x i d env t u = safe-total true (binary Op2.Member) (more_exs i (more_exs (members_of x d) no_exs)) env refl (
   t,
   (

@@ -44,8 +44,8 @@ mutual
   all-placed w (more_exs e es) env t = (placed w e env t.0, all-placed w es env t.1)
 
 -- A node that has a value where its operands have values.
-pub node-total : (w b : Bool) (op : Op) (es : Exs) (env : Env) → HasValue (value_of_node op (meanings es env)) (meanings es env) → TA es env →
-    TotalButNatural w (node_ex b op es) env
+pub node-total : (w b : Bool) (op : Op) (es : Exs) (env : Env) → HasValue (value_of_node op (meanings es env)) (meanings es env) →
+    TA es env → TotalButNatural w (node_ex b op es) env
 node-total w b op es env h t = (unless-there (may_lack w b op es) _ h, all-placed (opens_places w b op es) es env t)
 
 -- A node of an operator that asks for nothing.

@@ -8,7 +8,8 @@ use Rattle.ess_guard_natural_laws.proofs.Totals.{total, asked-none}
 
 pub returns : goal.returns
 returns c = record {
-  boolean = λ x y e env v t. asked-none x y env.positions env.types env.cells e [] false env (TotalButNatural false (make_natural x y e) env) t
+  boolean = λ x y e env v t. asked-none x y env.positions env.types env.cells e [] false env
+      (TotalButNatural false (make_natural x y e) env) t
       (total x y env.positions env.types env.cells e [] false env.vals (known-none env.positions env.types env.cells env.vals) v);
   term = λ x y w e env v t. behind-hold (conditions true x y [] w e) env (TotalButNatural w (make_natural x y e) env)
       (total x y env.positions env.types env.cells e [] w env.vals (known-none env.positions env.types env.cells env.vals) v) t;

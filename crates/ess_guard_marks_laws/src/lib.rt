@@ -1,0 +1,4 @@
+//! Terms under conditions keep their marks.
+#![tactic(auto)]
+
+pub mod laws;
