@@ -187,7 +187,7 @@ relation-parts None p d q = cc
 relation-parts (Some ks) None d q = cc
 relation-parts (Some ks) (Some ds) d q = (ks, ds, sym (let z : relations ks ds ≡ d = cc in z))
 
-partition-parts : (a : Option (List Attribute)) (p : Option Domain) (d : Domain) →
+pub partition-parts : (a : Option (List Attribute)) (p : Option Domain) (d : Domain) →
     and_then a (λ ks. option_map (partitions ks) p) ≡ Some d → (ks : List Attribute) × (x : Domain) × (d ≡ partitions ks x)
 partition-parts None p d q = cc
 partition-parts (Some ks) None d q = cc

@@ -4,3 +4,7 @@ pub mod ComponentsKept
 pub mod ItemsKept
 -- Values kept as another value
 pub mod ChildrenKept
+-- Multisets
+pub mod MultisetsKept
+-- Partitions by the number of each member's part
+pub mod PartitionsKept

@@ -3,6 +3,8 @@
 ghost use Rattle.ess_views_kept_laws.specs.ComponentsKept.{ComponentViewsKeep};
 ghost use Rattle.ess_views_kept_laws.specs.ItemsKept.{ItemViewsKeep};
 ghost use Rattle.ess_views_kept_laws.specs.ChildrenKept.{ChildrenServe};
+ghost use Rattle.ess_views_kept_laws.specs.MultisetsKept.{MultisetsServe};
+ghost use Rattle.ess_views_kept_laws.specs.PartitionsKept.{NumberOfPartsKeeps};
 
 /// A component of a view of a tuple, and a field of a view of a record, means what the view of the child does, and tables that
 /// meet the structure of the one meet that of the other: where each child's kinds are ones for its domain, and the node is
@@ -24,4 +26,16 @@ pub fn item_views_keep()
 /// what the child stands for.
 pub fn children_serve()
     ensures { ChildrenServe }
+{}
+
+/// Of a view of a multiset that has a number for each member of the inner domain, where these can be listed, the size is the sum of
+/// the numbers, a frequency the sum of those at the members that are the term, if that has a value, and a term is a member where the
+/// number at one that is the term is above 0. The size of a view in slots up to a marker is the marker.
+pub fn multisets_serve()
+    ensures { MultisetsServe }
+{}
+
+/// The number of parts of a view of a partition that is kept by the number of each member's part is the cell that says it.
+pub fn number_of_parts_keeps()
+    ensures { NumberOfPartsKeeps }
 {}
