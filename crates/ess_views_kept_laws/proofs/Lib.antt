@@ -17,3 +17,4 @@ pub mod MultisetSizes
 pub mod MultisetViews
 -- Partitions by the number of each member's part
 pub mod PartitionViews
+pub mod ParticipantViews

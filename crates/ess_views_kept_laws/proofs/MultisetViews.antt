@@ -137,7 +137,8 @@ module _ (x : Text) (ms : List Mark) (es : Exs) (dd : Dom) (m : Text) (js : Exs)
         c : (collect s.us NumIf ≡ Some (spread (number_if w) s.us s.ns)) × AsMany s.us s.ns
         c = collect-spread N NumIf (number_if w)
             (λ v n p. ap (λ o. where_true o (λ u. Num v)) (is-means w q v)
-            ∙ ap (λ o. where_true (Some (truth (same v w))) (λ u. option_map (λ w. w ∷ []) o)) (number-means ms es dd m js env x new s v n p)
+            ∙ ap (λ o. where_true (Some (truth (same v w))) (λ u. option_map (λ w. w ∷ []) o))
+            (number-means ms es dd m js env x new s v n p)
             ∙ where-if (same v w) (number (pos n))) s.us s.ns s.numbers
 
     frequency-met : Meets a env → Meets Freq env
@@ -190,7 +191,8 @@ module _ (x : Text) (ms : List Mark) (es : Exs) (dd : Dom) (m : Text) (js : Exs)
 size-answer : (x : Text) (n e : Ex) (env : Env) → Unused x e → SizeOfCounted e env → AnswerKeeps (multiset_size x n e) e env
 size-answer x n (ex1 false Op1.Bar (seen_ex (repr ReprKind.MSetOccurrence no_reprs) (mset_dom ms es d) (t ∷ []) js)) env o c =
     λ h. (occurrence-size x ms es d t js env o.0.1 h.0 c, size-met x ms es d t js env o.0.1 h.0 c)
-size-answer x n (ex1 false Op1.Bar (seen_ex (repr ReprKind.MSetExplicitWithRepetition (more_reprs r no_reprs)) (mset_dom ms es d) (m ∷ ns) js))
+size-answer x n (ex1 false Op1.Bar
+    (seen_ex (repr ReprKind.MSetExplicitWithRepetition (more_reprs r no_reprs)) (mset_dom ms es d) (m ∷ ns) js))
     env o c =
     λ h. (marker-size r ms es d m ns js env h.0, h.0.2)
 size-answer x n (ex1 false Op1.Bar (seen_ex (repr ReprKind.MSetExplicitWithFlags (more_reprs r no_reprs)) (mset_dom ms es d) (t ∷ ns) js))
@@ -207,7 +209,8 @@ frequency-answer : (x : Text) (n e : Ex) (env : Env) → Unused x e → Operands
     AnswerKeeps (multiset_frequency x n e) e env
 frequency-answer x n (node_ex false (word Fun.Freq)
     (more_exs (seen_ex (repr ReprKind.MSetOccurrence no_reprs) (mset_dom ms es d) (t ∷ []) js) (more_exs a no_exs))) env o p c =
-    λ h. let w = there (meaning a env) (and-left (is_some (meaning a env)) true (and-right (is_some (meaning (View ms es d t js env) env)) _ p))
+    λ h. let w = there (meaning a env)
+    (and-left (is_some (meaning a env)) true (and-right (is_some (meaning (View ms es d t js env) env)) _ p))
     in (
       occurrence-frequency x ms es d t js env o.0.1 h.0 c a o.1.0 w.0 w.1,
       frequency-met x ms es d t js env o.0.1 h.0 c a o.1.0 h.1.0,

@@ -204,7 +204,8 @@ module _ (ms : List Mark) (es : Exs) (dd : Dom) (m : Text) (js : Exs) (env : Env
       go p ks x q dq None e s w r = no (sym (ap is_some e) ∙ s)
       go p ks x q dq (Some us) e s w r =
           let f : value_of_tables R (msets ks x) (p.t ∷ []) p.i ≡
-          option_map (λ ns. node a_mset (of_list (each_repeated ns us))) (each_of us (λ v. and_then (cell_at p.t (p.i ++ (code v ∷ []))) not_below_0)) =
+          option_map (λ ns. node a_mset (of_list (each_repeated ns us)))
+          (each_of us (λ v. and_then (cell_at p.t (p.i ++ (code v ∷ []))) not_below_0)) =
           ap (λ l. option_map (λ ns. node a_mset (of_list (each_repeated ns l)))
           (each_of l (λ v. and_then (cell_at p.t (p.i ++ (code v ∷ []))) not_below_0))) (ap list_or_none e) in
           at p us (ap members_in dq ∙ e) w (each_of us (λ v. and_then (cell_at p.t (p.i ++ (code v ∷ []))) not_below_0)) refl (q ∙ f)

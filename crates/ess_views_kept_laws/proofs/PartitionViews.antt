@@ -86,8 +86,13 @@ module _ (ms : List Mark) (es : Exs) (dd : Dom) (m w : Text) (js : Exs) (env : E
   -- The two tables.
   two-tables : (ts : Tables) → tables_in env.cells (m ∷ w ∷ []) ≡ Some ts →
       (t : Table) × (u : Table) × (look env.cells m ≡ Some t) × (ts ≡ t ∷ u ∷ [])
-  two-tables ts q = let s = tables-split m (w ∷ []) env ts q in let r = tables-split w [] env s.1 s.3 in
-      (s.0, r.0, s.2, s.4 ∙ ap (λ l. s.0 ∷ l) (r.4 ∙ ap (λ l. r.0 ∷ l) (let e : [] ≡ r.1 = let z : Some [] ≡ Some r.1 = r.3 in cc in sym e)))
+  two-tables ts q = let s = tables-split m (w ∷ []) env ts q in let r = tables-split w [] env s.1 s.3 in (
+    s.0,
+    r.0,
+    s.2,
+    s.4 ∙ ap (λ l. s.0 ∷ l) (r.4 ∙ ap (λ l. r.0 ∷ l)
+        (let e : [] ≡ r.1 = let z : Some [] ≡ Some r.1 = r.3 in cc in sym e)),
+  )
 
   parts-counted : Meets View env →
       meaning (ex1 false Op1.Bar (fun1 false Fun.Parts View)) env ≡ meaning (cell_ex false m js) env

@@ -4,7 +4,7 @@ ghost use Rattle.ess_views_kept_laws.specs.ComponentsKept.{ComponentViewsKeep};
 ghost use Rattle.ess_views_kept_laws.specs.ItemsKept.{ItemViewsKeep};
 ghost use Rattle.ess_views_kept_laws.specs.ChildrenKept.{ChildrenServe};
 ghost use Rattle.ess_views_kept_laws.specs.MultisetsKept.{MultisetsServe};
-ghost use Rattle.ess_views_kept_laws.specs.PartitionsKept.{NumberOfPartsKeeps};
+ghost use Rattle.ess_views_kept_laws.specs.PartitionsKept.{PartitionsServe};
 
 /// A component of a view of a tuple, and a field of a view of a record, means what the view of the child does, and tables that
 /// meet the structure of the one meet that of the other: where each child's kinds are ones for its domain, and the node is
@@ -35,7 +35,8 @@ pub fn multisets_serve()
     ensures { MultisetsServe }
 {}
 
-/// The number of parts of a view of a partition that is kept by the number of each member's part is the cell that says it.
-pub fn number_of_parts_keeps()
-    ensures { NumberOfPartsKeeps }
+/// The number of parts of a view of a partition that is kept by the number of each member's part is the cell that says it, and a term
+/// takes part in it where a member of the inner domain is the term.
+pub fn partitions_serve()
+    ensures { PartitionsServe }
 {}
