@@ -18,3 +18,4 @@ pub mod MultisetViews
 -- Partitions by the number of each member's part
 pub mod PartitionViews
 pub mod ParticipantViews
+pub mod MultisetListing

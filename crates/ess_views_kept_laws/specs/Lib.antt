@@ -8,3 +8,5 @@ pub mod ChildrenKept
 pub mod MultisetsKept
 -- Partitions by the number of each member's part
 pub mod PartitionsKept
+-- Listings of multisets
+pub mod MultisetsListed

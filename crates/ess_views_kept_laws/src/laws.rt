@@ -4,6 +4,7 @@ ghost use Rattle.ess_views_kept_laws.specs.ComponentsKept.{ComponentViewsKeep};
 ghost use Rattle.ess_views_kept_laws.specs.ItemsKept.{ItemViewsKeep};
 ghost use Rattle.ess_views_kept_laws.specs.ChildrenKept.{ChildrenServe};
 ghost use Rattle.ess_views_kept_laws.specs.MultisetsKept.{MultisetsServe};
+ghost use Rattle.ess_views_kept_laws.specs.MultisetsListed.{NumberedMembersAreListed};
 ghost use Rattle.ess_views_kept_laws.specs.PartitionsKept.{PartitionsServe};
 
 /// A component of a view of a tuple, and a field of a view of a record, means what the view of the child does, and tables that
@@ -39,4 +40,11 @@ pub fn multisets_serve()
 /// takes part in it where a member of the inner domain is the term.
 pub fn partitions_serve()
     ensures { PartitionsServe }
+{}
+
+/// A view of a multiset that has a number for each member of the inner domain, where these can be listed, offers its members in
+/// their order, each as often as it is there: under an expression that says a number which none is there more often than. Tables
+/// that meet its structure meet that of the listing.
+pub fn numbered_members_are_listed()
+    ensures { NumberedMembersAreListed }
 {}
