@@ -187,11 +187,12 @@ relation-parts None p d q = cc
 relation-parts (Some ks) None d q = cc
 relation-parts (Some ks) (Some ds) d q = (ks, ds, sym (let z : relations ks ds ≡ d = cc in z))
 
-partition-parts : (a : Option (List Attribute)) (p : Option Domain) (d : Domain) →
-    and_then a (λ ks. option_map (partitions ks) p) ≡ Some d → (ks : List Attribute) × (x : Domain) × (d ≡ partitions ks x)
+pub partition-parts : (a : Option (List Attribute)) (p : Option Domain) (d : Domain) →
+    and_then a (λ ks. option_map (partitions ks) p) ≡ Some d →
+    (ks : List Attribute) × (x : Domain) × (d ≡ partitions ks x) × (p ≡ Some x)
 partition-parts None p d q = cc
 partition-parts (Some ks) None d q = cc
-partition-parts (Some ks) (Some x) d q = (ks, x, sym (let z : partitions ks x ≡ d = cc in z))
+partition-parts (Some ks) (Some x) d q = (ks, x, sym (let z : partitions ks x ≡ d = cc in z), refl)
 
 function-parts : (a : Option (List Attribute)) (o p : Option Domain) (d : Domain) →
     and_then a (λ ks. and_then o (λ x. option_map (functions ks x) p)) ≡ Some d →

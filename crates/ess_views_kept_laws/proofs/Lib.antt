@@ -10,3 +10,12 @@ pub mod MatrixViews
 pub mod SameMembers
 pub mod ChildViews
 pub mod AskedChildren
+-- Multisets
+pub mod NumberedMembers
+pub mod OpenedViews
+pub mod MultisetSizes
+pub mod MultisetViews
+-- Partitions by the number of each member's part
+pub mod PartitionViews
+pub mod ParticipantViews
+pub mod MultisetListing

@@ -223,10 +223,11 @@ module _ (r : Repr) (di : Dom) (is : Doms) (d : Dom) (ns : List Text) (js : Exs)
         go : (is : Doms) (ds : Domains) → domains_of is env ≡ Some ds → {p : Option Value} →
             (s : ItemStands (nested_of ds) (In r e (cells_at ts i)) (orderly_in r e (cells_at ts i)) (nested_matrix ds (member e))
             (lists_of (map codes_of (domain_list ds))) h.value p) →
-            over_axes (i ++ (code h.value ∷ [])) (axes_in (under (map codes_of (domain_list ds)) (declarations_below false r e))) ts ≡ true →
-            MeetsDoms is env → IsView (behind_index r is d ns (put_last js a)) s.item env
+            over_axes (i ++ (code h.value ∷ [])) (axes_in (under (map codes_of (domain_list ds)) (declarations_below false r e))) ts ≡
+            true → MeetsDoms is env → IsView (behind_index r is d ns (put_last js a)) s.item env
         go no_doms no_domains q s o mi = item-view r e ts i (code h.value) s.item s.values
-            (ap (λ l. over_axes (i ++ (code h.value ∷ [])) (axes_in l) ts) (sym (under-none (declarations_below false r e))) ∙ o) s.are_values
+            (ap (λ l. over_axes (i ++ (code h.value ∷ [])) (axes_in l) ts) (sym (under-none (declarations_below false r e))) ∙ o)
+            s.are_values
             s.made (and-left _ _ s.orderly) s.typed d ns (put_last js a) env dom-is tables-are
             (put-indices js a env i h.value index-is h.is_value) md (put-met js a env mj ma)
         go (more_doms x xs) (more_domains y ys) q s o mi = rest-view r e ts i (code h.value) (more_domains y ys) s.item s.values o

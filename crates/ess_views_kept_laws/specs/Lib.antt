@@ -4,3 +4,9 @@ pub mod ComponentsKept
 pub mod ItemsKept
 -- Values kept as another value
 pub mod ChildrenKept
+-- Multisets
+pub mod MultisetsKept
+-- Partitions by the number of each member's part
+pub mod PartitionsKept
+-- Listings of multisets
+pub mod MultisetsListed

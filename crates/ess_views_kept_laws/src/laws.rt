@@ -3,6 +3,9 @@
 ghost use Rattle.ess_views_kept_laws.specs.ComponentsKept.{ComponentViewsKeep};
 ghost use Rattle.ess_views_kept_laws.specs.ItemsKept.{ItemViewsKeep};
 ghost use Rattle.ess_views_kept_laws.specs.ChildrenKept.{ChildrenServe};
+ghost use Rattle.ess_views_kept_laws.specs.MultisetsKept.{MultisetsServe};
+ghost use Rattle.ess_views_kept_laws.specs.MultisetsListed.{NumberedMembersAreListed};
+ghost use Rattle.ess_views_kept_laws.specs.PartitionsKept.{PartitionsServe};
 
 /// A component of a view of a tuple, and a field of a view of a record, means what the view of the child does, and tables that
 /// meet the structure of the one meet that of the other: where each child's kinds are ones for its domain, and the node is
@@ -24,4 +27,24 @@ pub fn item_views_keep()
 /// what the child stands for.
 pub fn children_serve()
     ensures { ChildrenServe }
+{}
+
+/// Of a view of a multiset that has a number for each member of the inner domain, where these can be listed, the size is the sum of
+/// the numbers, a frequency the sum of those at the members that are the term, if that has a value, and a term is a member where the
+/// number at one that is the term is above 0. The size of a view in slots up to a marker is the marker.
+pub fn multisets_serve()
+    ensures { MultisetsServe }
+{}
+
+/// The number of parts of a view of a partition that is kept by the number of each member's part is the cell that says it, and a term
+/// takes part in it where a member of the inner domain is the term.
+pub fn partitions_serve()
+    ensures { PartitionsServe }
+{}
+
+/// A view of a multiset that has a number for each member of the inner domain, where these can be listed, offers its members in
+/// their order, each as often as it is there: under an expression that says a number which none is there more often than. Tables
+/// that meet its structure meet that of the listing.
+pub fn numbered_members_are_listed()
+    ensures { NumberedMembersAreListed }
 {}
