@@ -1,4 +1,0 @@
--- Sizes by plans
-pub mod Sizes
--- Scalars by plans
-pub mod Scalars

@@ -1,0 +1,44 @@
+//! Rules of sizes, frequencies and `together`.
+ghost use Rattle.std.specs.Prelude.{◌≡◌, IfOk, option_map};
+ghost use Rattle.ess_core_nodes.specs.NodeViews.{pure_node};
+ghost use Rattle.ess_node_types.specs.TypedNames.{pure_names};
+ghost use Rattle.ess_rules.specs.Supplies.{taken_supply, IsRewritten};
+
+use crate::supplies::Taken;
+use ess_core_nodes::Node;
+use ess_node_types::NameTypes;
+use ess_rows::{Boxed, NoMemory};
+use ess_rules_sizes::{
+    frequency_listed, frequency_made, frequency_term, size_made, size_term, together_term,
+};
+use std::alloc::Global;
+
+/// What the first of these rules that fires makes of the root. `NoMemory` where there is no room for it.
+pub(crate) fn sizes(
+    alloc: Global,
+    names: &NameTypes,
+    taken: &Taken<'_>,
+    node: &Node,
+) -> Result<Option<Boxed<Node>>, NoMemory>
+    ensures { IfOk result (λ o. IsRewritten (taken_supply taken.now) (pure_names names.now) (pure_node node.now) (option_map pure_node o)) }
+{
+    if let Some(new) = size_made(alloc, names, taken.one, node)? {
+        return Ok(Some(new));
+    }
+    if let Some(new) = size_term(alloc, names, taken.one, node)? {
+        return Ok(Some(new));
+    }
+    if let Some(new) = frequency_made(alloc, names, taken.one, node)? {
+        return Ok(Some(new));
+    }
+    if let Some(new) = frequency_listed(alloc, node)? {
+        return Ok(Some(new));
+    }
+    if let Some(new) = frequency_term(alloc, taken.one, node)? {
+        return Ok(Some(new));
+    }
+    if let Some(new) = together_term(alloc, taken.one, node)? {
+        return Ok(Some(new));
+    }
+    Ok(None)
+}

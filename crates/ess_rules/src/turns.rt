@@ -1,0 +1,121 @@
+//! The rules at the root of a tree, in the order in which they are tried.
+ghost use Rattle.std.specs.Prelude.{◌≡◌, ◌+◌, ◌≤◌, IfOk, OnOk, option_map};
+ghost use Rattle.ess_core_nodes.specs.NodeViews.{pure_node};
+ghost use Rattle.ess_node_types.specs.TypedNames.{pure_names};
+ghost use Rattle.ess_rules.specs.Ruled.{IsTurn};
+ghost use Rattle.ess_rules.specs.Supplies.{taken_supply, IsRewritten, IsRewrittenBehind};
+
+use crate::comparing::comparing;
+use crate::conditions::conditions;
+use crate::equality::equality;
+use crate::folds::folds;
+use crate::generators::generators;
+use crate::lists::lists;
+use crate::membership::membership;
+use crate::reserving::{component_count, counted, reserved_name, reserved_names};
+use crate::sizes::sizes;
+use crate::supplies::Taken;
+use ess_core_nodes::Node;
+use ess_model_names::told_apart_from;
+use ess_node_types::NameTypes;
+use ess_rows::{Boxed, NoMemory};
+use ess_rules_conditions::{at_last_condition, extreme_condition, opposite_of};
+use ess_rules_folds::forms::comp_in;
+use ess_rules_forms::plain_word;
+use std::alloc::Global;
+
+/// What the first rule that fires makes of the root of a tree, where names have these types, or nothing where none fires. Rules take
+/// reserved names from `next` on, and where one fires the number of the name behind them is left there. `NoMemory` where there is no
+/// room for it, or the reserved names can't be counted.
+pub fn rule_at(
+    alloc: Global,
+    node: &Node,
+    names: &NameTypes,
+    next: &mut u64,
+) -> Result<Option<Boxed<Node>>, NoMemory>
+    ensures { IfOk result (λ o. IsTurn next.old (pure_names names.now) (pure_node node.now) (option_map pure_node o) next.new) }
+{
+    let first = *next;
+    let count = component_count(node);
+    let from = counted(first, 3)?;
+    let behind = counted(from, count)?;
+    let one = reserved_name(alloc, first)?;
+    let other = reserved_name(alloc, counted(first, 1)?)?;
+    let third = reserved_name(alloc, counted(first, 2)?)?;
+    let parts = reserved_names(alloc, from, count)?;
+    let taken = Taken {
+        one: &one,
+        other: &other,
+        third: &third,
+        parts: parts.as_slice(),
+        next: behind,
+    };
+    if let Some(new) = simple_rules(alloc, names, &taken, node)? {
+        *next = behind;
+        return Ok(Some(new));
+    }
+    let mut end = behind;
+    if let Some(new) = least_under_a_condition(alloc, &taken, &mut end, node)? {
+        *next = end;
+        return Ok(Some(new));
+    }
+    Ok(None)
+}
+
+/// The rules that take no copy.
+fn simple_rules(
+    alloc: Global,
+    names: &NameTypes,
+    taken: &Taken<'_>,
+    node: &Node,
+) -> Result<Option<Boxed<Node>>, NoMemory>
+    ensures { IfOk result (λ o. IsRewritten (taken_supply taken.now) (pure_names names.now) (pure_node node.now) (option_map pure_node o)) }
+{
+    if let Some(new) = folds(alloc, names, taken, node)? {
+        return Ok(Some(new));
+    }
+    if let Some(new) = generators(alloc, names, taken, node)? {
+        return Ok(Some(new));
+    }
+    if let Some(new) = comparing(alloc, names, taken, node)? {
+        return Ok(Some(new));
+    }
+    if let Some(new) = equality(alloc, names, taken, node)? {
+        return Ok(Some(new));
+    }
+    if let Some(new) = membership(alloc, names, taken, node)? {
+        return Ok(Some(new));
+    }
+    if let Some(new) = sizes(alloc, names, taken, node)? {
+        return Ok(Some(new));
+    }
+    if let Some(new) = lists(alloc, names, taken, node)? {
+        return Ok(Some(new));
+    }
+    conditions(alloc, names, taken, node)
+}
+
+/// The least or the greatest under a condition that reads cells. The copy of its opposite takes reserved names from `end` on, and the
+/// number of the name behind them is left there.
+fn least_under_a_condition(
+    alloc: Global,
+    taken: &Taken<'_>,
+    end: &mut u64,
+    node: &Node,
+) -> Result<Option<Boxed<Node>>, NoMemory>
+    requires { end.now ≡ taken.now.next }
+    ensures { IfOk result (λ o. IsRewrittenBehind (taken_supply taken.now) (pure_node node.now) (option_map pure_node o) end.old end.new) }
+{
+    let Some((word, operand)) = plain_word(node) else {
+        return Ok(None);
+    };
+    let Some((body, gens)) = comp_in(operand) else {
+        return Ok(None);
+    };
+    let Some(parts) = at_last_condition(gens) else {
+        return Ok(None);
+    };
+    let opposite = opposite_of(alloc, word, body, &parts)?;
+    let copy = told_apart_from(alloc, opposite.get(), end)?;
+    extreme_condition(alloc, copy.get(), node)
+}
