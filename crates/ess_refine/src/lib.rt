@@ -1,0 +1,9 @@
+//! Trees refined: rules at the root and at the parts, until none fires.
+#![tactic(auto)]
+
+mod passing;
+mod passing_domains;
+mod passing_generators;
+mod refining;
+
+pub use refining::{Refinement, refine};
