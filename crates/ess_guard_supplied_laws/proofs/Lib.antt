@@ -1,0 +1,4 @@
+-- Whole trees
+mod SuppliedTrees
+-- Worked examples
+mod Examples

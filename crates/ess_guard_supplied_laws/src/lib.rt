@@ -1,0 +1,4 @@
+//! Where the conditions of a judged term say whether it has a value.
+#![tactic(auto)]
+
+pub mod laws;
