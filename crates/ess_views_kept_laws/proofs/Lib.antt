@@ -19,3 +19,5 @@ pub mod MultisetViews
 pub mod PartitionViews
 pub mod ParticipantViews
 pub mod MultisetListing
+pub mod UsedMembers
+pub mod RepetitionListing

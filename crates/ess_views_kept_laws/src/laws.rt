@@ -4,7 +4,7 @@ ghost use Rattle.ess_views_kept_laws.specs.ComponentsKept.{ComponentViewsKeep};
 ghost use Rattle.ess_views_kept_laws.specs.ItemsKept.{ItemViewsKeep};
 ghost use Rattle.ess_views_kept_laws.specs.ChildrenKept.{ChildrenServe};
 ghost use Rattle.ess_views_kept_laws.specs.MultisetsKept.{MultisetsServe};
-ghost use Rattle.ess_views_kept_laws.specs.MultisetsListed.{NumberedMembersAreListed};
+ghost use Rattle.ess_views_kept_laws.specs.MultisetsListed.{NumberedMembersAreListed, SlottedMembersAreListed};
 ghost use Rattle.ess_views_kept_laws.specs.PartitionsKept.{PartitionsServe};
 
 /// A component of a view of a tuple, and a field of a view of a record, means what the view of the child does, and tables that
@@ -47,4 +47,10 @@ pub fn partitions_serve()
 /// that meet its structure meet that of the listing.
 pub fn numbered_members_are_listed()
     ensures { NumberedMembersAreListed }
+{}
+
+/// A view of a multiset in slots up to a marker offers the views in these, under an expression that says how many slots there are:
+/// they list the members of the multiset, and tables that meet its structure meet theirs.
+pub fn slotted_members_are_listed()
+    ensures { SlottedMembersAreListed }
 {}
