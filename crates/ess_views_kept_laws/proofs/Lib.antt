@@ -21,3 +21,6 @@ pub mod ParticipantViews
 pub mod MultisetListing
 pub mod UsedMembers
 pub mod RepetitionListing
+pub mod MembersOnce
+-- Worked examples
+mod ExamplesKept
