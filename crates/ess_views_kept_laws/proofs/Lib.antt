@@ -1,5 +1,6 @@
--- Tables side by side
+-- Views whose structure is met
 pub mod SideBySide
+pub mod OpenedViews
 -- Components
 pub mod ComponentViews
 -- Items of matrices
@@ -12,12 +13,14 @@ pub mod ChildViews
 pub mod AskedChildren
 -- Multisets
 pub mod NumberedMembers
-pub mod OpenedViews
 pub mod MultisetSizes
 pub mod MultisetViews
+pub mod MultisetListing
+pub mod MembersOnce
+pub mod UsedMembers
+pub mod RepetitionListing
 -- Partitions by the number of each member's part
 pub mod PartitionViews
 pub mod ParticipantViews
-pub mod MultisetListing
-pub mod UsedMembers
-pub mod RepetitionListing
+-- Worked examples
+mod ExamplesKept

@@ -117,7 +117,8 @@ sum-count w (u ∷ us) [] a = absurd a
 above-0 : (n : ℕ) → below (number (pos 0)) (number (pos (suc n))) ≡ true
 above-0 n = ap is_lt (sym (int_cmp_is (pos 0) (pos (suc n)) Less (let e : pos 0 <ℤ pos (suc n) = omega (arith, ints) in e)))
 
-holds-replicate : (n : ℕ) (u w : Value) (b : Bool) → same u w ≡ b → holds (replicate n u) w ≡ (if b then below (number (pos 0))
+-- A value is there so often, where the number is above 0.
+pub holds-replicate : (n : ℕ) (u w : Value) (b : Bool) → same u w ≡ b → holds (replicate n u) w ≡ (if b then below (number (pos 0))
     (number (pos n)) else false)
 holds-replicate zero u w true s = refl
 holds-replicate zero u w false s = refl

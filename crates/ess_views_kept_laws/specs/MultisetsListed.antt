@@ -1,17 +1,18 @@
 -- What views of multisets offer: the members of the inner domain, each as often as its number says, or the views in slots up to a marker.
 use Rattle.std.specs.Prelude.{List, ◌≡◌, not, ℕ, Some, IsTrue, nat_le, pos}
-use Rattle.ess_semantics.specs.Values.{Text, Value, number, items_of}
+use Rattle.ess_semantics.specs.Lists.{is_some_and}
+use Rattle.ess_semantics.specs.Values.{Text, Value, number, items_of, itself}
 use Rattle.ess_semantics.specs.Order.{same_text}
-use Rattle.ess_semantics.specs.Collections.{count}
-use Rattle.ess_semantics.specs.Trees.{Ex, seen_ex, mset_dom}
+use Rattle.ess_semantics.specs.Collections.{count, no_twice}
+use Rattle.ess_semantics.specs.Trees.{Ex, node_ex, seen_ex, no_exs, more_exs, mset_dom}
 use Rattle.ess_semantics.specs.Domains.{Attribute, Domain, msets}
 use Rattle.ess_semantics.specs.Sizes.{slots_of_mset}
-use Rattle.ess_semantics.specs.Meaning.{Env, meaning, domain_of}
+use Rattle.ess_semantics.specs.Meaning.{Env, meaning, domain_of, members_in}
 use Rattle.ess_semantics.specs.Meets.{Meets}
 use Rattle.ess_rules_laws.specs.Rules.{Unused}
 use Rattle.ess_rules_laws.specs.SetListings.{InOrderWhereMet}
 use Rattle.ess_rules_laws.specs.SlotListings.{OffersWhereMet}
-use Rattle.ess_views_laws.specs.MultisetViews.{occurrence_members, repetition_members}
+use Rattle.ess_views_laws.specs.MultisetViews.{occurrence_members, repetition_members, members_once}
 use Rattle.ess_views_kept_laws.specs.MultisetsKept.{NumbersMembers}
 
 -- The expression says a number that no member of the multiset is there more often than, and the tables meet its structures.
@@ -42,3 +43,19 @@ pub record MultisetSlotsAre (n e : Ex) (env : Env) : Type 0 where
 abbrev pub SlottedMembersAreListed : Type 0
 SlottedMembersAreListed = (x : Text) (n e : Ex) (env : Env) → Unused x e → Meets e env → MultisetSlotsAre n e env →
     OffersWhereMet (repetition_members x n e) e env
+
+-- The view has a number for each member of the inner domain, and these can be listed and differ.
+abbrev pub NumbersDifferent : Ex → Env → Type 0
+NumbersDifferent (seen_ex r (mset_dom ms es d) ns js) env =
+    NumbersMembers (seen_ex r (mset_dom ms es d) ns js) env × IsTrue (is_some_and (members_in (domain_of d env)) (no_twice itself))
+NumbersDifferent e env = ⊥
+
+-- So it is of the view whose set is taken.
+abbrev pub OfNumbersDifferent : Ex → Env → Type 0
+OfNumbersDifferent (node_ex b op (more_exs v no_exs)) env = NumbersDifferent v env
+OfNumbersDifferent e env = ⊥
+
+-- The set of such a multiset offers the members whose number is above 0.
+abbrev pub MembersOnceAreListed : Type 0
+MembersOnceAreListed = (x : Text) (n e : Ex) (env : Env) → Unused x e → Meets e env → OfNumbersDifferent e env →
+    OffersWhereMet (members_once x n e) e env

@@ -4,7 +4,7 @@ ghost use Rattle.ess_views_kept_laws.specs.ComponentsKept.{ComponentViewsKeep};
 ghost use Rattle.ess_views_kept_laws.specs.ItemsKept.{ItemViewsKeep};
 ghost use Rattle.ess_views_kept_laws.specs.ChildrenKept.{ChildrenServe};
 ghost use Rattle.ess_views_kept_laws.specs.MultisetsKept.{MultisetsServe};
-ghost use Rattle.ess_views_kept_laws.specs.MultisetsListed.{NumberedMembersAreListed, SlottedMembersAreListed};
+ghost use Rattle.ess_views_kept_laws.specs.MultisetsListed.{NumberedMembersAreListed, SlottedMembersAreListed, MembersOnceAreListed};
 ghost use Rattle.ess_views_kept_laws.specs.PartitionsKept.{PartitionsServe};
 
 /// A component of a view of a tuple, and a field of a view of a record, means what the view of the child does, and tables that
@@ -53,4 +53,10 @@ pub fn numbered_members_are_listed()
 /// they list the members of the multiset, and tables that meet its structure meet theirs.
 pub fn slotted_members_are_listed()
     ensures { SlottedMembersAreListed }
+{}
+
+/// The set of a multiset whose view has a number for each member of the inner domain, where these can be listed and differ, offers
+/// the members whose number is above 0; tables that meet the structure of the view meet that of the listing.
+pub fn members_once_are_listed()
+    ensures { MembersOnceAreListed }
 {}
