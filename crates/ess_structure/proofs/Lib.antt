@@ -1,0 +1,4 @@
+mod WidthSums
+mod LayerSteps
+mod ComponentSteps
+mod Examples

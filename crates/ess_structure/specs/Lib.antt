@@ -1,0 +1,2 @@
+-- Constraints one behind the other
+pub mod Together
