@@ -27,7 +27,7 @@ fn indices(alloc: Global, at: &[Node], keys: &[Node]) -> Result<Row<Node>, NoMem
 
 /// The view of the result at these indices.
 #[tactic(auto, using(ess_core_nodes::proofs::NodeEquations::pure_seen_is))]
-fn result_at(
+pub(crate) fn result_at(
     alloc: Global,
     child: &Repr,
     dom: &NodeDom,
