@@ -12,7 +12,7 @@ mod slots;
 
 pub use alternatives::Alternative;
 pub use multisets::{counted_members, members_once, occurrence_members, repetition_members};
-pub use partitions::partition_parts;
-pub use parts::{Leaf, Nested, Pair, leaf_parts, nested_parts, pair_parts};
+pub use partitions::{numbering, partition_parts};
+pub use parts::{Leaf, Nested, Pair, leaf_kind, leaf_parts, nested_parts, pair_parts};
 pub use sets::{dummy_listing, occurrence_listing};
 pub use slots::{explicit_listing, flags_listing, marker_listing};

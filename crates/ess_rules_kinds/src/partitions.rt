@@ -82,9 +82,10 @@ fn part_numbered(
     literal(alloc, Op::Word(Fun::PreImage), operands)
 }
 
-/// The table as a function from the members to the numbers.
+/// The second table of such a partition as a function from the members to the numbers of their parts; the tree says how many members
+/// there are. `NoMemory` where there is no room for it.
 #[tactic(auto, using(ess_core_nodes::proofs::NodeEquations::pure_seen_is))]
-fn numbering(
+pub fn numbering(
     alloc: Global,
     members: &Node,
     member: &NodeDom,

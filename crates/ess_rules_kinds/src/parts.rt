@@ -52,9 +52,9 @@ pub struct Pair<'a> {
     pub at: &'a [Node],
 }
 
-/// The kind of a representation without children.
+/// The kind of a representation without children. Nothing of one with children.
 #[tactic(auto, using(ess_core::proofs::RepresentationEquations::pure_repr_is))]
-fn leaf_kind(repr: &Repr) -> Option<ReprKind>
+pub fn leaf_kind(repr: &Repr) -> Option<ReprKind>
     ensures { result ≡ leaf_kind (pure_repr repr.now) }
 {
     match repr.children.as_slice().split_first() {
