@@ -1,0 +1,4 @@
+-- What comes of writing
+pub mod Coming
+-- Worked examples
+pub mod ExamplesWritten

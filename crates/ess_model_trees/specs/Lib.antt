@@ -1,0 +1,2 @@
+-- What is written for a tree
+pub mod Written
