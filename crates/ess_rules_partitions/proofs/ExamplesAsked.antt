@@ -5,8 +5,8 @@ use Rattle.ess_semantics.specs.declared.words.Op2.{Op2}
 use Rattle.ess_semantics.specs.declared.words.Fun.{Fun}
 use Rattle.ess_semantics.specs.declared.words.ReprKind.{ReprKind}
 use Rattle.ess_semantics.specs.Values.{Text}
-use Rattle.ess_semantics.specs.Trees.{repr, no_reprs, more_reprs, set_literal, Ex, number_ex, name_ex, node_ex, cell_ex, seen_ex, no_exs, more_exs}
-use Rattle.ess_semantics.specs.Trees.{ex1, ex2, fun1, bool_dom, partition_dom}
+use Rattle.ess_semantics.specs.Trees.{repr, no_reprs, more_reprs, set_literal, Ex, number_ex, name_ex, node_ex, cell_ex, seen_ex}
+use Rattle.ess_semantics.specs.Trees.{no_exs, more_exs, ex1, ex2, fun1, bool_dom, partition_dom}
 use Rattle.ess_views_laws.specs.PartitionViews.{is_one_of}
 use Rattle.ess_rules_partitions.specs.Asked.{a_party, party_of, a_size, the_parts, the_participants, a_together, together_of, set_items}
 use Rattle.ess_rules_partitions.specs.NumberedViews.{NumberedParts, numbered, members_of, lie_together, in_one_part}
@@ -74,8 +74,8 @@ over_two_tables = refl
 over_one_table : numbered (seen_ex (repr ReprKind.PartitionOccurrence no_reprs) (partition_dom [] no_exs bool_dom) (m ∷ []) no_exs) ≡ None
 over_one_table = refl
 
-members_over_one_table : members_of (seen_ex (repr ReprKind.PartitionOccurrence no_reprs) (partition_dom [] no_exs bool_dom) (m ∷ []) no_exs)
-    ≡ Some bool_dom
+members_over_one_table :
+    members_of (seen_ex (repr ReprKind.PartitionOccurrence no_reprs) (partition_dom [] no_exs bool_dom) (m ∷ []) no_exs) ≡ Some bool_dom
 members_over_one_table = refl
 
 with_a_child : members_of (seen_ex (repr ReprKind.PartitionOccurrence (more_reprs (repr ReprKind.Atom no_reprs) no_reprs))

@@ -6,7 +6,8 @@ use Rattle.ess_semantics.specs.declared.words.Fun.{Fun}
 use Rattle.ess_semantics.specs.declared.words.ReprKind.{ReprKind}
 use Rattle.ess_semantics.specs.Lists.{and_then}
 use Rattle.ess_semantics.specs.Values.{Text}
-use Rattle.ess_semantics.specs.Trees.{repr, no_reprs, unary, binary, word, Ex, node_ex, ex1, ex2, fun1, seen_ex, no_exs, more_exs, partition_dom}
+use Rattle.ess_semantics.specs.Trees.{repr, no_reprs, unary, binary, word, Ex, node_ex, ex1, ex2, fun1, seen_ex}
+use Rattle.ess_semantics.specs.Trees.{no_exs, more_exs, partition_dom}
 use Rattle.ess_rules_forms.specs.Forms.{truth_pair, of_pair}
 use Rattle.ess_views_laws.specs.PartitionViews.{partition_party, number_of_parts, is_participant, is_one_of}
 use Rattle.ess_rules_partitions.specs.Asked.{a_party, party_of, a_size, the_parts, the_participants}

@@ -15,7 +15,8 @@ pub together_by_operands : (x y : Text) (n e : Ex)
 together_by_operands x y n (node_ex true (word Fun.Together) (more_exs s (more_exs v no_exs))) = refl
 together_by_operands x y n (node_ex true (word Fun.Together) (more_exs (node_ex false set_literal no_exs) no_exs)) = refl
 together_by_operands x y n (node_ex true (word Fun.Together) (more_exs (node_ex false set_literal (more_exs a no_exs)) no_exs)) = refl
-together_by_operands x y n (node_ex true (word Fun.Together) (more_exs (node_ex false set_literal (more_exs a (more_exs b bs))) no_exs)) = refl
+together_by_operands x y n (node_ex true (word Fun.Together)
+    (more_exs (node_ex false set_literal (more_exs a (more_exs b bs))) no_exs)) = refl
 together_by_operands x y n (node_ex true (word Fun.Together) (more_exs (node_ex false set_literal no_exs) (more_exs
     (seen_ex (repr ReprKind.PartitionOccurrence no_reprs) (partition_dom ms es d) (m ∷ w ∷ []) js) (more_exs u us)))) = refl
 together_by_operands x y n (node_ex true (word Fun.Together) (more_exs (node_ex false set_literal (more_exs a no_exs)) (more_exs

@@ -4,8 +4,8 @@ use Rattle.ess_semantics.specs.declared.words.Op2.{Op2}
 use Rattle.ess_semantics.specs.declared.words.Fun.{Fun}
 use Rattle.ess_semantics.specs.declared.words.ReprKind.{ReprKind}
 use Rattle.ess_semantics.specs.Values.{Text}
-use Rattle.ess_semantics.specs.Trees.{repr, no_reprs, word, name_pat, Ex, Exs, number_ex, name_ex, node_ex, comp_ex, cell_ex, seen_ex, no_exs, more_exs}
-use Rattle.ess_semantics.specs.Trees.{ex2, fun1, no_gens, over, from, cond, Dom, partition_dom}
+use Rattle.ess_semantics.specs.Trees.{repr, no_reprs, word, name_pat, Ex, Exs, number_ex, name_ex, node_ex, comp_ex, cell_ex, seen_ex}
+use Rattle.ess_semantics.specs.Trees.{no_exs, more_exs, ex2, fun1, no_gens, over, from, cond, Dom, partition_dom}
 use Rattle.ess_rules_laws.specs.SetListings.{put_last}
 use Rattle.ess_rules_laws.specs.SlotListings.{slots_dom}
 use Rattle.ess_views_laws.specs.PartitionViews.{numbering, is_one_of, have_number_of}
@@ -55,7 +55,8 @@ listed_together x (more_exs a bs) p = have_number_of p.numbers p.at a bs
 -- The members of s have the number of some part.
 abbrev pub in_one_part : Text → Text → Ex → Ex → NumberedParts → Ex
 in_one_part x y n s p = fun1 true Fun.Or (comp_ex
-    (fun1 true Fun.And (comp_ex (ex2 true Op2.Eq (cell_ex false p.numbers (put_last p.at (name_ex y))) (name_ex x)) (from (name_pat y) s no_gens)))
+    (fun1 true Fun.And (comp_ex
+    (ex2 true Op2.Eq (cell_ex false p.numbers (put_last p.at (name_ex y))) (name_ex x)) (from (name_pat y) s no_gens)))
     (over (name_pat x) (slots_dom n) (cond (ex2 true Op2.Le (name_ex x) (cell_ex false p.parts p.at)) no_gens)))
 
 -- The members of s lie together, by its items, where it is a literal.
