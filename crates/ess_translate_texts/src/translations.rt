@@ -2,9 +2,9 @@
 ghost use Rattle.std.specs.Prelude.{IfOk, IfErr};
 ghost use Rattle.ess_translate_texts.specs.Translations.{IsParameterText, AreNotGiven, IsSolutionText, IsNoSolutionText};
 
-use ess_translate_solutions::solution_in;
 use ess_translate::TransNo;
 use ess_translate_files::{given_in, given_text, model_file};
+use ess_translate_solutions::solution_in;
 use std::alloc::Global;
 
 /// The text of the tables of a parameter, from the texts of a model with its header and of a parameter of the header's specification
