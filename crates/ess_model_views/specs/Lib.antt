@@ -1,0 +1,4 @@
+-- Sizes by plans
+pub mod Sizes
+-- Scalars by plans
+pub mod Scalars
