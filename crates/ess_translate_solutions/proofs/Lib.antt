@@ -2,5 +2,6 @@
 pub mod Transported
 pub mod SolutionLines
 pub mod Cells
+pub mod Joined
 -- Worked examples
 pub mod ExamplesSolutions
