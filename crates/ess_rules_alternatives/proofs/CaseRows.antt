@@ -11,8 +11,8 @@ use Rattle.ess_core_nodes.specs.NodeViews.{pure_node, pure_nodes, pure_gen, pure
 use Rattle.ess_rules_laws.specs.Listings as listings
 use Rattle.ess_rules_laws.specs.Listings.{none_of}
 use Rattle.ess_rules_laws.specs.AlternativeLookups.{numbered_items, first_results}
-use Rattle.ess_rules_sources.specs.declared.alternatives.Alternative.{Alternative}
-use Rattle.ess_rules_sources.specs.PureAlternatives.{pure_alternative}
+use Rattle.ess_rules_forms.specs.declared.alternatives.Alternative.{Alternative}
+use Rattle.ess_rules_forms.specs.PureAlternatives.{pure_alternative}
 use Rattle.ess_rules_alternatives.specs.Cases.{numbered, tuple_pair, case_of, differs, results_behind}
 
 -- ---- lists

@@ -3,7 +3,7 @@ ghost use Rattle.std.specs.Prelude.{◌≡◌, true, map, option_map, IfOk};
 ghost use Rattle.ess_semantics.specs.Trees.{ex2, no_gens};
 ghost use Rattle.ess_core.specs.TreeViews.{cond_item};
 ghost use Rattle.ess_core_nodes.specs.NodeViews.{pure_node, pure_nodes, pure_gen, pure_gens};
-ghost use Rattle.ess_rules_sources.specs.PureAlternatives.{pure_alternative};
+ghost use Rattle.ess_rules_forms.specs.PureAlternatives.{pure_alternative};
 ghost use Rattle.ess_rules_alternatives.specs.Cases.{tuple_pair as pair_of, differs as unequal, case_of as where_equal, results_behind};
 
 use ess_core::{Op1, Op2};
@@ -11,7 +11,7 @@ use ess_core_nodes::{Gen, Node, Op, copy_gens};
 use ess_node_building::{binary, condition, unary};
 use ess_node_operands::{Operands, by_number};
 use ess_rows::{NoMemory, Row};
-use ess_rules_sources::Alternative;
+use ess_rules_forms::Alternative;
 use std::alloc::Global;
 
 /// Each result where the term is its argument and none of those before it.

@@ -3,14 +3,14 @@ ghost use Rattle.std.specs.Prelude.{◌≡◌, [], map, option_map, IfOk};
 ghost use Rattle.ess_core_nodes.specs.NodeViews.{pure_node, pure_nodes};
 ghost use Rattle.ess_rules_laws.specs.AlternativeLookups.{function_literal_lookup as looked_up, pairs_by_cases as by_cases};
 ghost use Rattle.ess_rules_laws.specs.AlternativeLookups.{first_results as firsts};
-ghost use Rattle.ess_rules_sources.specs.PureAlternatives.{pure_alternative};
+ghost use Rattle.ess_rules_forms.specs.PureAlternatives.{pure_alternative};
 
 use crate::cases::results;
 use ess_core::Fun;
 use ess_core_nodes::{Node, Op};
 use ess_node_operands::{Operands, by_number};
 use ess_rows::{NoMemory, Row};
-use ess_rules_sources::Alternative;
+use ess_rules_forms::Alternative;
 use std::alloc::Global;
 
 /// `function(a1 --> b1, ..)(x)`, and `image` of it, is looked up by each result where x is its argument and none of those before it.

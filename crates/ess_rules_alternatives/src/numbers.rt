@@ -3,7 +3,7 @@ ghost use Rattle.std.specs.Prelude.{◌≡◌, Bool, false, [], ◌∷◌, ◌+�
 ghost use Rattle.ess_semantics.specs.Trees.{by_value, index, node_ex};
 ghost use Rattle.ess_core_nodes.specs.NodeViews.{pure_node, pure_nodes};
 ghost use Rattle.ess_rules_laws.specs.AlternativeLookups.{list_lookup as listed, numbered_items as by_number_of};
-ghost use Rattle.ess_rules_sources.specs.PureAlternatives.{pure_alternative};
+ghost use Rattle.ess_rules_forms.specs.PureAlternatives.{pure_alternative};
 ghost use Rattle.ess_rules_alternatives.specs.Cases.{numbered as where_numbered};
 
 use ess_core::Op2;
@@ -11,7 +11,7 @@ use ess_core_nodes::{Node, Op, Step};
 use ess_node_building::{binary, condition, number};
 use ess_node_operands::{Operands, by_number};
 use ess_rows::{NoMemory, Row};
-use ess_rules_sources::Alternative;
+use ess_rules_forms::Alternative;
 use std::alloc::Global;
 
 /// `[e1, .., en][i]` is looked up by each item where i is its number, from 1. `NoMemory` where there is no room for it, or a number is

@@ -3,15 +3,15 @@ ghost use Rattle.std.specs.Prelude.{◌≡◌, map, IfOk};
 ghost use Rattle.ess_core_nodes.specs.NodeViews.{pure_node};
 ghost use Rattle.ess_rules_laws.specs.ListedSources.{laid_out as comprehended};
 ghost use Rattle.ess_rules_laws.specs.AlternativeLookups.{fold_word as word_of, picking_each as picks_each};
-ghost use Rattle.ess_rules_sources.specs.PureAlternatives.{pure_alternative};
+ghost use Rattle.ess_rules_forms.specs.PureAlternatives.{pure_alternative};
 ghost use Rattle.ess_rules_alternatives.specs.Cases.{picked_from as picks_from};
 
 use ess_core::Fun;
 use ess_core_nodes::{Node, Op, copy_gens};
 use ess_node_building::{comprehension, literal, word};
 use ess_rows::{Boxed, NoMemory, Row, Text};
+use ess_rules_forms::Alternative;
 use ess_rules_lookups::picking;
-use ess_rules_sources::Alternative;
 use std::alloc::Global;
 
 /// What picks the one item of the alternatives, which gets a name: of truth values `or([or([e | x <- [a | ks]]), ..])`, of numbers the

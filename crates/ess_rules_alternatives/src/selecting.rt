@@ -2,14 +2,14 @@
 ghost use Rattle.std.specs.Prelude.{◌≡◌, map, option_map, IfOk};
 ghost use Rattle.ess_core_nodes.specs.NodeViews.{pure_node};
 ghost use Rattle.ess_rules_laws.specs.AlternativeLookups.{select_each as selected, select_whole_each as whole_selected};
-ghost use Rattle.ess_rules_sources.specs.PureAlternatives.{pure_alternative};
+ghost use Rattle.ess_rules_forms.specs.PureAlternatives.{pure_alternative};
 
 use crate::picked::picking_each;
 use ess_core_nodes::Node;
 use ess_node_building::name;
 use ess_rows::{Boxed, NoMemory, Text};
+use ess_rules_forms::Alternative;
 use ess_rules_lookups::{takes, with_item};
-use ess_rules_sources::Alternative;
 use std::alloc::Global;
 
 /// `N[t]` over the alternatives of t, which is the operand of N at a place; x is a new name. `NoMemory` where there is no room for it.

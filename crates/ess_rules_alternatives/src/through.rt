@@ -3,15 +3,15 @@ ghost use Rattle.std.specs.Prelude.{◌≡◌, map, option_map, IfOk};
 ghost use Rattle.ess_core_nodes.specs.NodeViews.{pure_node};
 ghost use Rattle.ess_rules_laws.specs.AlternativeLookups.{as_alternative as alternative_of, lookup_through_each as looked_through};
 ghost use Rattle.ess_rules_laws.specs.AlternativeLookups.{each_through as all_through, members_of_each as all_members};
-ghost use Rattle.ess_rules_sources.specs.PureAlternatives.{pure_alternative};
+ghost use Rattle.ess_rules_forms.specs.PureAlternatives.{pure_alternative};
 ghost use Rattle.ess_rules_alternatives.specs.Cases.{put_through as through_one, members_of as members_in};
 
 use crate::picked::laid_out;
 use ess_core_nodes::Node;
 use ess_node_building::{from, name};
 use ess_rows::{NoMemory, Row, Text};
+use ess_rules_forms::Alternative;
 use ess_rules_lookups::{takes, with_item};
-use ess_rules_sources::Alternative;
 use std::alloc::Global;
 
 /// A lookup as the one alternative; x is a new name. `NoMemory` where there is no room for it.

@@ -4,7 +4,7 @@ ghost use Rattle.ess_semantics.specs.Trees.{no_gens, seen_ex};
 ghost use Rattle.ess_core.specs.TreeViews.{pure_repr};
 ghost use Rattle.ess_core_nodes.specs.NodeViews.{pure_node, pure_nodes, pure_dom};
 ghost use Rattle.ess_rules_laws.specs.Listings.{those};
-ghost use Rattle.ess_rules_sources.specs.PureAlternatives.{pure_alternative};
+ghost use Rattle.ess_rules_forms.specs.PureAlternatives.{pure_alternative};
 ghost use Rattle.ess_views_laws.specs.ChildViews.{kept_as, child_listing};
 ghost use Rattle.ess_rules_kinds.specs.ViewParts.{nested_view};
 ghost use Rattle.ess_rules_kinds.specs.CodeParts.{pure_nested};
@@ -14,8 +14,8 @@ use ess_core::{Repr, ReprKind};
 use ess_core_nodes::{Node, NodeDom, Seen, copy_nodes, copy_texts};
 use ess_node_building::{from, name};
 use ess_rows::{Boxed, NoMemory, Row, Text};
+use ess_rules_forms::Alternative;
 use ess_rules_kinds::{Nested, nested_parts};
-use ess_rules_sources::Alternative;
 use ess_structure_domains::{pair_relation, part_sets, tuple_set};
 use std::alloc::Global;
 

@@ -1,10 +1,12 @@
 //! What rules share: the forms of roots that they rewrite, and the trees that they build.
 #![tactic(auto)]
 
+mod alternatives;
 mod building;
 mod forms;
 mod types;
 
+pub use alternatives::Alternative;
 pub use building::{
     both, compared, every, every_over, frequency, is_in, lie_together, negated, some, some_over,
 };

@@ -1,16 +1,10 @@
--- What the parts of views in the code, and what views offer, stand for.
+-- What the parts of views in the code stand for.
 use Rattle.ess_core.specs.TreeViews.{pure_repr}
-use Rattle.ess_core_nodes.specs.NodeViews.{pure_node, pure_nodes, pure_gens, pure_dom}
-use Rattle.ess_rules_laws.specs.Listings as listings
+use Rattle.ess_core_nodes.specs.NodeViews.{pure_nodes, pure_dom}
 use Rattle.ess_rules_kinds.specs.ViewParts.{LeafParts, NestedParts, PairParts}
-use Rattle.ess_rules_kinds.specs.declared.alternatives.Alternative.{Alternative}
 use Rattle.ess_rules_kinds.specs.declared.parts.Leaf.{Leaf}
 use Rattle.ess_rules_kinds.specs.declared.parts.Nested.{Nested}
 use Rattle.ess_rules_kinds.specs.declared.parts.Pair.{Pair}
-
--- An alternative.
-abbrev pub pure_alternative : Alternative → listings.Alternative
-pure_alternative a = record { gens = pure_gens a.gens; item = pure_node a.item }
 
 -- The parts of a view over one table.
 abbrev pub pure_leaf : Leaf → LeafParts

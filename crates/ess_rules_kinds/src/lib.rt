@@ -2,7 +2,6 @@
 //! call answers nothing for a tree that is no view of its kind.
 #![tactic(auto)]
 
-pub mod alternatives;
 mod multisets;
 mod partitions;
 pub mod parts;
@@ -10,7 +9,6 @@ pub mod pieces;
 mod sets;
 mod slots;
 
-pub use alternatives::Alternative;
 pub use multisets::{counted_members, members_once, occurrence_members, repetition_members};
 pub use partitions::{numbering, partition_parts};
 pub use parts::{Leaf, Nested, Pair, leaf_kind, leaf_parts, nested_parts, pair_parts};

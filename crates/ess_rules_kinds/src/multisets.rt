@@ -4,16 +4,16 @@ ghost use Rattle.ess_semantics.specs.Trees.{fun1};
 ghost use Rattle.ess_core_nodes.specs.NodeViews.{pure_node};
 ghost use Rattle.ess_views_laws.specs.MultisetViews.{occurrence_members, repetition_members, counted_members, members_once};
 ghost use Rattle.ess_rules_kinds.specs.ViewParts.{leaf_view, nested_view};
-ghost use Rattle.ess_rules_kinds.specs.CodeParts.{pure_alternative, pure_leaf, pure_nested};
+ghost use Rattle.ess_rules_forms.specs.PureAlternatives.{pure_alternative};
+ghost use Rattle.ess_rules_kinds.specs.CodeParts.{pure_leaf, pure_nested};
 
-use crate::alternatives::Alternative;
 use crate::parts::{Leaf, Nested, leaf_parts, nested_parts};
 use crate::pieces::{counted, gens_counted, gens_where, is_there, slot_view, slots_dom, up_to};
 use ess_core::{Fun, ReprKind};
 use ess_core_nodes::{Node, NodeDom};
 use ess_node_building::name;
 use ess_rows::{NoMemory, Text};
-use ess_rules_forms::plain_word;
+use ess_rules_forms::{Alternative, plain_word};
 use std::alloc::Global;
 
 // ---- how often each member is there

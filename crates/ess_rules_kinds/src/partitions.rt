@@ -6,15 +6,16 @@ ghost use Rattle.ess_core_nodes.specs.NodeViews.{pure_node, pure_nodes, pure_dom
 ghost use Rattle.ess_rules_laws.specs.SlotListings.{slots_dom};
 ghost use Rattle.ess_views_laws.specs.PartitionViews.{numbering, part_numbered, partition_parts};
 ghost use Rattle.ess_rules_kinds.specs.ViewParts.{pair_view};
-ghost use Rattle.ess_rules_kinds.specs.CodeParts.{pure_alternative, pure_pair};
+ghost use Rattle.ess_rules_forms.specs.PureAlternatives.{pure_alternative};
+ghost use Rattle.ess_rules_kinds.specs.CodeParts.{pure_pair};
 
-use crate::alternatives::Alternative;
 use crate::parts::{Pair, pair_parts};
 use crate::pieces::{gens_where, slots_dom, up_to};
 use ess_core::{Fun, Key, Repr, ReprKind};
 use ess_core_nodes::{Mark, Node, NodeDom, Op, Seen, copy_nodes};
 use ess_node_building::{literal, name, two};
 use ess_rows::{Boxed, NoMemory, Row, Text};
+use ess_rules_forms::Alternative;
 use std::alloc::Global;
 
 /// The parts of a partition that is kept by the number of each member's part: the name over the numbers of parts, and the members with

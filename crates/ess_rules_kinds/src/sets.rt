@@ -4,15 +4,16 @@ ghost use Rattle.ess_core_nodes.specs.NodeViews.{pure_node};
 ghost use Rattle.ess_rules_laws.specs.SetListings.{occurrence_listing};
 ghost use Rattle.ess_rules_laws.specs.DummyListings.{dummy_listing};
 ghost use Rattle.ess_rules_kinds.specs.ViewParts.{leaf_view};
-ghost use Rattle.ess_rules_kinds.specs.CodeParts.{pure_alternative, pure_leaf};
+ghost use Rattle.ess_rules_forms.specs.PureAlternatives.{pure_alternative};
+ghost use Rattle.ess_rules_kinds.specs.CodeParts.{pure_leaf};
 
-use crate::alternatives::Alternative;
 use crate::parts::{Leaf, leaf_parts};
 use crate::pieces::{atom_slot, gens_where, slot_cell, slots_dom};
 use ess_core::{Op2, ReprKind};
 use ess_core_nodes::{Node, NodeDom};
 use ess_node_building::{binary, name};
 use ess_rows::{NoMemory, Text};
+use ess_rules_forms::Alternative;
 use std::alloc::Global;
 
 // ---- the members that occur

@@ -3,14 +3,15 @@ ghost use Rattle.std.specs.Prelude.{◌≡◌, option_map, IfOk};
 ghost use Rattle.ess_core_nodes.specs.NodeViews.{pure_node};
 ghost use Rattle.ess_rules_laws.specs.SlotListings.{explicit_listing, marker_listing, flags_listing};
 ghost use Rattle.ess_rules_kinds.specs.ViewParts.{nested_view};
-ghost use Rattle.ess_rules_kinds.specs.CodeParts.{pure_alternative, pure_nested};
+ghost use Rattle.ess_rules_forms.specs.PureAlternatives.{pure_alternative};
+ghost use Rattle.ess_rules_kinds.specs.CodeParts.{pure_nested};
 
-use crate::alternatives::Alternative;
 use crate::parts::{Nested, nested_parts};
 use crate::pieces::{gens_over, gens_where, slot_cell, slot_view, slots_dom, up_to};
 use ess_core::ReprKind;
 use ess_core_nodes::{Node, NodeDom};
 use ess_rows::{NoMemory, Text};
+use ess_rules_forms::Alternative;
 use std::alloc::Global;
 
 // ---- slots all in use

@@ -8,8 +8,9 @@ use Rattle.ess_core_nodes.specs.declared.nodes.Gen.{Gen}
 use Rattle.ess_core_nodes.specs.NodeViews.{pure_node, pure_gen, pure_gens}
 use Rattle.ess_rules_laws.specs.Listings as listings
 use Rattle.ess_rules_laws.specs.Listings.{each_item, each_first, none_of}
-use Rattle.ess_rules_sources.specs.declared.alternatives.Alternative.{Alternative}
-use Rattle.ess_rules_sources.specs.PureAlternatives.{alternative_of, pure_alternative}
+use Rattle.ess_rules_forms.specs.declared.alternatives.Alternative.{Alternative}
+use Rattle.ess_rules_forms.specs.PureAlternatives.{pure_alternative}
+use Rattle.ess_rules_sources.specs.PureAlternatives.{alternative_of}
 use Rattle.ess_rules_listings.specs.ListedTerms.{item_alone, is_not}
 
 -- Each item by itself.

@@ -4,14 +4,14 @@ ghost use Rattle.ess_semantics.specs.Trees as pure;
 ghost use Rattle.ess_semantics.specs.Trees.{cond, no_gens, name_ex, ex1, ex2};
 ghost use Rattle.ess_core_nodes.specs.NodeViews.{pure_node, pure_gens};
 ghost use Rattle.ess_rules_laws.specs.Listings.{those};
-ghost use Rattle.ess_rules_sources.specs.PureAlternatives.{pure_alternative};
+ghost use Rattle.ess_rules_forms.specs.PureAlternatives.{pure_alternative};
 ghost use Rattle.ess_rules_listings.specs.Marks.{component_by, arguments_by, members_in_parts};
 
 use ess_core::{Op1, Op2};
 use ess_core_nodes::{Gen, Node};
 use ess_node_building::{binary, component, condition, from, name, unary};
 use ess_rows::{Boxed, NoMemory, Row, Text};
-use ess_rules_sources::Alternative;
+use ess_rules_forms::Alternative;
 use std::alloc::Global;
 
 /// The members of a term, each of which is called x, under conditions.

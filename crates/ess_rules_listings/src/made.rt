@@ -4,7 +4,7 @@ ghost use Rattle.ess_semantics.specs.Trees.{word, node_ex};
 ghost use Rattle.ess_core_nodes.specs.NodeViews.{pure_node, pure_nodes, pure_op};
 ghost use Rattle.ess_node_types.specs.TypedNames.{pure_names};
 ghost use Rattle.ess_rules_laws.specs.ContainerListings.{made_listing};
-ghost use Rattle.ess_rules_sources.specs.PureAlternatives.{pure_alternative};
+ghost use Rattle.ess_rules_forms.specs.PureAlternatives.{pure_alternative};
 ghost use Rattle.ess_rules_listings.specs.Marks.{pair_offered};
 
 use crate::made_words::{made_word, pre_image};
@@ -13,8 +13,7 @@ use ess_core::Fun;
 use ess_core_nodes::{Node, Op};
 use ess_node_types::NameTypes;
 use ess_rows::{NoMemory, Row, Text};
-use ess_rules_forms::{only_in, pair_in};
-use ess_rules_sources::Alternative;
+use ess_rules_forms::{Alternative, only_in, pair_in};
 use std::alloc::Global;
 
 /// The alternatives of a term; its members and the parts of a partition are called by the names. `NoMemory` where there is no room for

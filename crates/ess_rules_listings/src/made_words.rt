@@ -5,7 +5,7 @@ ghost use Rattle.ess_semantics.specs.Typing.{type_of};
 ghost use Rattle.ess_core_nodes.specs.NodeViews.{pure_node};
 ghost use Rattle.ess_node_types.specs.TypedNames.{pure_names};
 ghost use Rattle.ess_rules_laws.specs.ContainerListings.{made_listing};
-ghost use Rattle.ess_rules_sources.specs.PureAlternatives.{pure_alternative};
+ghost use Rattle.ess_rules_forms.specs.PureAlternatives.{pure_alternative};
 ghost use Rattle.ess_rules_listings.specs.Marks.{marks_of, has_result, pairs_offered, arguments_offered, sources_offered};
 
 use crate::building::{arguments_by, component_by, members_in_parts, only, under, whole};
@@ -17,7 +17,7 @@ use ess_node_building::binary;
 use ess_node_types::NameTypes;
 use ess_rows::{Boxed, NoMemory, Row, Text};
 use ess_rules_folds::forms::written_items;
-use ess_rules_sources::Alternative;
+use ess_rules_forms::Alternative;
 use std::alloc::Global;
 
 /// The alternatives of a word of a term.

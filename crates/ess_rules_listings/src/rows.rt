@@ -2,14 +2,14 @@
 ghost use Rattle.std.specs.Prelude.{◌≡◌, [], IfOk, map, reverse};
 ghost use Rattle.ess_core_nodes.specs.NodeViews.{pure_node, pure_nodes, pure_gens};
 ghost use Rattle.ess_rules_laws.specs.Listings.{each_item, each_first, none_of};
-ghost use Rattle.ess_rules_sources.specs.PureAlternatives.{pure_alternative};
+ghost use Rattle.ess_rules_forms.specs.PureAlternatives.{pure_alternative};
 ghost use Rattle.ess_rules_listings.specs.ListedTerms.{item_alone, is_not};
 
 use ess_core::{Op1, Op2};
 use ess_core_nodes::{Gen, Node};
 use ess_node_building::{binary, condition, unary};
 use ess_rows::{Boxed, NoMemory, Row};
-use ess_rules_sources::Alternative;
+use ess_rules_forms::Alternative;
 use std::alloc::Global;
 
 /// Each item by itself.

@@ -6,7 +6,7 @@ ghost use Rattle.ess_core_nodes.specs.NodeViews.{pure_node, pure_gens};
 ghost use Rattle.ess_node_types.specs.TypedNames.{pure_names};
 ghost use Rattle.ess_refine_laws.specs.ExtremeAlternatives.{put_alternative};
 ghost use Rattle.ess_rules_folds.specs.Forms.{pure_fold};
-ghost use Rattle.ess_rules_sources.specs.PureAlternatives.{pure_alternative};
+ghost use Rattle.ess_rules_forms.specs.PureAlternatives.{pure_alternative};
 ghost use Rattle.ess_refine_laws.specs.AllRules.{only_one, source_listed, source_listed_once, extremes_listed};
 ghost use Rattle.ess_rules_listings.specs.Offered.{offered_by, extremes_of, supply_of};
 

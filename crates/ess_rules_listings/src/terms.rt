@@ -4,7 +4,7 @@ ghost use Rattle.ess_semantics.specs.Trees.{node_ex, fun1, ex2};
 ghost use Rattle.ess_core_nodes.specs.NodeViews.{pure_node, pure_nodes, pure_gens, pure_op};
 ghost use Rattle.ess_node_types.specs.TypedNames.{pure_names};
 ghost use Rattle.ess_rules_laws.specs.Listings.{listing};
-ghost use Rattle.ess_rules_sources.specs.PureAlternatives.{pure_alternative};
+ghost use Rattle.ess_rules_forms.specs.PureAlternatives.{pure_alternative};
 ghost use Rattle.ess_rules_listings.specs.ListedTerms.{comprehended, united, common, difference};
 
 use crate::building::{is_in, is_not_in, only, those, under, whole};
@@ -14,8 +14,7 @@ use ess_core::{Fun, Op2};
 use ess_core_nodes::{Gen, Node, Op, copy_gens};
 use ess_node_types::NameTypes;
 use ess_rows::{NoMemory, Row, Text};
-use ess_rules_forms::{only_in, pair_in};
-use ess_rules_sources::Alternative;
+use ess_rules_forms::{Alternative, only_in, pair_in};
 use std::alloc::Global;
 
 /// The alternatives of a term; its members are called by the name. `NoMemory` where there is no room for them.

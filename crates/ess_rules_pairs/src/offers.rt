@@ -3,7 +3,7 @@ ghost use Rattle.std.specs.Prelude.{◌≡◌, ◌∷◌, [], IfOk, map};
 ghost use Rattle.ess_core.specs.TreeViews.{pure_repr, over_item, cond_item, pure_pat};
 ghost use Rattle.ess_core_nodes.specs.NodeViews.{pure_node, pure_nodes, pure_gen, pure_dom};
 ghost use Rattle.ess_rules_laws.specs.FunctionViews.{append_exs, result_at, flag_at, total_pairs, flagged_pairs};
-ghost use Rattle.ess_rules_kinds.specs.CodeParts.{pure_alternative};
+ghost use Rattle.ess_rules_forms.specs.PureAlternatives.{pure_alternative};
 ghost use Rattle.ess_rules_pairs.specs.CodeRuns.{pure_run};
 
 use crate::runs::Run;
@@ -11,7 +11,7 @@ use ess_core::{Pat, Repr};
 use ess_core_nodes::{Gen, Node, NodeDom, Seen, copy_nodes, copy_texts};
 use ess_node_building::{condition, pair};
 use ess_rows::{Boxed, NoMemory, Row, Text};
-use ess_rules_kinds::Alternative;
+use ess_rules_forms::Alternative;
 use std::alloc::Global;
 
 /// An index list with further indices behind.

@@ -4,7 +4,8 @@ ghost use Rattle.ess_semantics.specs.Trees.{tuple_dom};
 ghost use Rattle.ess_core_nodes.specs.NodeViews.{pure_node, pure_dom, pure_doms};
 ghost use Rattle.ess_rules_laws.specs.OccurrenceViews.{relation_matrix_listing};
 ghost use Rattle.ess_rules_kinds.specs.ViewParts.{leaf_view};
-ghost use Rattle.ess_rules_kinds.specs.CodeParts.{pure_alternative, pure_leaf};
+ghost use Rattle.ess_rules_forms.specs.PureAlternatives.{pure_alternative};
+ghost use Rattle.ess_rules_kinds.specs.CodeParts.{pure_leaf};
 
 use crate::names::names_fit;
 use crate::offers::{flag_at, run_where};
@@ -12,7 +13,8 @@ use crate::runs::by_names;
 use ess_core::ReprKind;
 use ess_core_nodes::{Node, NodeDom, copy_doms};
 use ess_rows::{Boxed, NoMemory, Text};
-use ess_rules_kinds::{Alternative, Leaf, leaf_parts};
+use ess_rules_forms::Alternative;
+use ess_rules_kinds::{Leaf, leaf_parts};
 use std::alloc::Global;
 
 /// The tuples of a relation: the names over the components, where the cell there is true, and the tuple of them. Nothing for another

@@ -4,14 +4,16 @@ ghost use Rattle.ess_core_nodes.specs.NodeViews.{pure_node};
 ghost use Rattle.ess_rules_laws.specs.Function1DViews.{function_1d_listing};
 ghost use Rattle.ess_rules_laws.specs.Function1DPartialViews.{function_1d_partial_listing};
 ghost use Rattle.ess_rules_kinds.specs.ViewParts.{nested_view};
-ghost use Rattle.ess_rules_kinds.specs.CodeParts.{pure_alternative, pure_nested};
+ghost use Rattle.ess_rules_forms.specs.PureAlternatives.{pure_alternative};
+ghost use Rattle.ess_rules_kinds.specs.CodeParts.{pure_nested};
 
 use crate::offers::{flagged_pairs, total_pairs};
 use crate::runs::by_name;
 use ess_core::ReprKind;
 use ess_core_nodes::{Node, NodeDom};
 use ess_rows::{NoMemory, Text};
-use ess_rules_kinds::{Alternative, Nested, nested_parts};
+use ess_rules_forms::Alternative;
+use ess_rules_kinds::{Nested, nested_parts};
 use std::alloc::Global;
 
 /// The pairs of a total function from an atom: the name over the first domain, with the result at it. Nothing for another tree;

@@ -4,7 +4,8 @@ ghost use Rattle.ess_core_nodes.specs.NodeViews.{pure_node};
 ghost use Rattle.ess_rules_laws.specs.FunctionNDViews.{function_nd_listing};
 ghost use Rattle.ess_rules_laws.specs.FunctionNDPartialViews.{function_nd_partial_listing};
 ghost use Rattle.ess_rules_kinds.specs.ViewParts.{nested_view};
-ghost use Rattle.ess_rules_kinds.specs.CodeParts.{pure_alternative, pure_nested};
+ghost use Rattle.ess_rules_forms.specs.PureAlternatives.{pure_alternative};
+ghost use Rattle.ess_rules_kinds.specs.CodeParts.{pure_nested};
 
 use crate::names::names_fit;
 use crate::offers::{flagged_pairs, total_pairs};
@@ -12,7 +13,8 @@ use crate::runs::by_names;
 use ess_core::ReprKind;
 use ess_core_nodes::{Node, NodeDom};
 use ess_rows::{NoMemory, Text};
-use ess_rules_kinds::{Alternative, Nested, nested_parts};
+use ess_rules_forms::Alternative;
+use ess_rules_kinds::{Nested, nested_parts};
 use std::alloc::Global;
 
 /// The pairs of a total function from tuples of atoms: the names over the first domain, with the result there. Nothing for another

@@ -1,24 +1,18 @@
--- What a term offers, in the code: generators with an item. And what rules make of it by the parts of the root.
+-- What rules make of what a term offers, by the parts of the root.
 use Rattle.std.specs.Prelude.{Bool, false, if◌then◌else◌, List, Option, Some, None}
 use Rattle.ess_semantics.specs.declared.words.Op1.{Op1}
 use Rattle.ess_semantics.specs.declared.words.Fun.{Fun}
 use Rattle.ess_semantics.specs.Values.{Text}
 use Rattle.ess_semantics.specs.Trees.{word, Ex, comp_ex, ex1, fun1, Gens}
 use Rattle.ess_semantics.specs.ExpressionJudgements.{forgets_order}
-use Rattle.ess_core_nodes.specs.NodeViews.{pure_node, pure_gens}
 use Rattle.ess_rules_laws.specs.Listings as listings
 use Rattle.ess_rules_laws.specs.SourceRules.{is_marked, list_of}
 use Rattle.ess_rules_laws.specs.ListedSources.{put_listed, each_put}
 use Rattle.ess_rules_folds.specs.Forms.{FoldParts, are_none}
-use Rattle.ess_rules_sources.specs.declared.alternatives.Alternative.{Alternative}
 
 -- An alternative of these generators with this item.
 abbrev pub alternative_of : Gens → Ex → listings.Alternative
 alternative_of gs e = record { gens = gs; item = e }
-
--- What an alternative of the code stands for.
-abbrev pub pure_alternative : Alternative → listings.Alternative
-pure_alternative a = record { gens = pure_gens a.gens; item = pure_node a.item }
 
 -- The fold over one alternative.
 abbrev pub put_fold : Bool → Fun → Text → Ex → Gens → listings.Alternative → Ex

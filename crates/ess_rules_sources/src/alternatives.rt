@@ -3,24 +3,16 @@ ghost use Rattle.std.specs.Prelude.{◌≡◌, IfOk};
 ghost use Rattle.ess_core_nodes.specs.NodeViews.{pure_node, pure_gens};
 ghost use Rattle.ess_rules_laws.specs.ListedSources.{put_listed, laid_out};
 ghost use Rattle.ess_refine_laws.specs.ExtremeAlternatives.{put_alternative};
-ghost use Rattle.ess_rules_sources.specs.PureAlternatives.{pure_alternative};
+ghost use Rattle.ess_rules_forms.specs.PureAlternatives.{pure_alternative};
 
 use ess_core_nodes::{Gen, Node, copy_gens};
 use ess_node_building::comprehension;
 use ess_rows::{Boxed, NoMemory, Row};
 use ess_rules_folds::forms::Fold;
+use ess_rules_forms::Alternative;
 use ess_rules_generators::{before, put_in};
 use ess_substitution::{substitute, substitute_gens};
 use std::alloc::Global;
-
-/// Generators, and the item at each of their bindings.
-#[derive(Drop)]
-pub struct Alternative {
-    /// The generators and conditions.
-    pub gens: Row<Gen>,
-    /// The item.
-    pub item: Boxed<Node>,
-}
 
 /// The comprehension of the fold with an alternative of its source: the item stands in the place of the name.
 pub(crate) fn put_listed(

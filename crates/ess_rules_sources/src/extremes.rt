@@ -7,13 +7,15 @@ ghost use Rattle.ess_rules_laws.specs.ListedSources.{laid_out};
 ghost use Rattle.ess_refine_laws.specs.Everywhere.{extreme, chosen};
 ghost use Rattle.ess_refine_laws.specs.ExtremeRules.{is_extreme as picks_extreme};
 ghost use Rattle.ess_refine_laws.specs.ExtremeAlternatives.{has_items, extreme_or, past_all, each_size, extreme_alternatives};
-ghost use Rattle.ess_rules_sources.specs.PureAlternatives.{pure_alternative, item_size};
+ghost use Rattle.ess_rules_forms.specs.PureAlternatives.{pure_alternative};
+ghost use Rattle.ess_rules_sources.specs.PureAlternatives.{item_size};
 
-use crate::alternatives::{Alternative, laid_out};
+use crate::alternatives::laid_out;
 use ess_core::{Fun, Op1, Op2};
 use ess_core_nodes::{Node, Op, copy_gens};
 use ess_node_building::{binary, comprehension, condition, literal, truth, unary, word};
 use ess_rows::{Boxed, NoMemory, Row};
+use ess_rules_forms::Alternative;
 use std::alloc::Global;
 
 /// The least or the greatest of the items of these alternatives. `NoMemory` where there is no room for it.

@@ -7,7 +7,7 @@ mod extremes;
 pub mod once;
 mod splitting;
 
-pub use alternatives::{Alternative, put_alternative};
+pub use alternatives::put_alternative;
 pub use extremes::extreme_alternatives;
 pub use once::{OnceNames, items_once};
 pub use splitting::{source_alone, source_parts};

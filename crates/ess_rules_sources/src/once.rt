@@ -3,15 +3,16 @@ ghost use Rattle.std.specs.Prelude.{◌≡◌, [], ◌∷◌, IfOk, option_map, 
 ghost use Rattle.ess_core.specs.TreeViews.{pure_pat};
 ghost use Rattle.ess_core_nodes.specs.NodeViews.{pure_node, pure_nodes, pure_gens, pure_dom};
 ghost use Rattle.ess_refine_laws.specs.ItemsOnce.{is_atom_dom as is_atom, set_of_items, set_at, items_before, is_new, items_where, items_over, items_once};
-ghost use Rattle.ess_rules_sources.specs.PureAlternatives.{pure_alternative, alternative_of};
+ghost use Rattle.ess_rules_forms.specs.PureAlternatives.{pure_alternative};
+ghost use Rattle.ess_rules_sources.specs.PureAlternatives.{alternative_of};
 ghost use Rattle.ess_rules_sources.specs.OnceParts.{set_comp, once_by, once_over};
 
-use crate::alternatives::Alternative;
 use ess_core::{Fun, Op1, Op2, Pat};
 use ess_core_nodes::{Gen, Node, NodeDom, copy_gens};
 use ess_node_building::{binary, comprehension, condition, from, name, over, unary, word};
 use ess_rows::{Boxed, NoMemory, Row, Text};
 use ess_rules_folds::forms::{are_none, first_comp, name_in, word_in};
+use ess_rules_forms::Alternative;
 use ess_substitution::{substitute, substitute_gens};
 use std::alloc::Global;
 

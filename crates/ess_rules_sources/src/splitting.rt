@@ -4,15 +4,17 @@ ghost use Rattle.ess_semantics.specs.ExpressionJudgements.{forgets_order as orde
 ghost use Rattle.ess_core_nodes.specs.NodeViews.{pure_node, pure_gens, pure_op};
 ghost use Rattle.ess_rules_laws.specs.ListedSources.{source_alone, source_parts};
 ghost use Rattle.ess_rules_folds.specs.Forms.{pure_fold};
-ghost use Rattle.ess_rules_sources.specs.PureAlternatives.{pure_alternative, put_fold, alone_put, parts_put};
+ghost use Rattle.ess_rules_forms.specs.PureAlternatives.{pure_alternative};
+ghost use Rattle.ess_rules_sources.specs.PureAlternatives.{put_fold, alone_put, parts_put};
 
-use crate::alternatives::{Alternative, put_listed};
+use crate::alternatives::put_listed;
 use ess_core::Fun;
 use ess_core_nodes::{Node, Op};
 use ess_node_building::{literal, word};
 use ess_rows::{Boxed, NoMemory, Row};
 use ess_rules_folds::forms::{Fold, are_none, fold_over};
 use ess_rules_folds::is_marked;
+use ess_rules_forms::Alternative;
 use std::alloc::Global;
 
 /// A word that forgets order over the only alternative of its source. `NoMemory` where there is no room for it.

@@ -2,6 +2,5 @@
 pub mod Transported
 pub mod SolutionLines
 pub mod Cells
-pub mod Joined
 -- Worked examples
 pub mod ExamplesSolutions

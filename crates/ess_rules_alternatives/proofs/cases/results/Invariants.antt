@@ -1,7 +1,7 @@
 use Rattle.std.proofs.Common.{◌≡◌, ◌++◌, map, length, option_map}
 use Rattle.ess_semantics.specs.Trees.{no_gens}
 use Rattle.ess_core_nodes.specs.NodeViews.{pure_node, pure_nodes, pure_gens}
-use Rattle.ess_rules_sources.specs.PureAlternatives.{pure_alternative}
+use Rattle.ess_rules_forms.specs.PureAlternatives.{pure_alternative}
 use Rattle.ess_rules_alternatives.specs.Cases.{results_behind}
 use Rattle.ess_rules_alternatives.proofs.cases.results.Given as goal
 

@@ -1,5 +1,5 @@
 use Rattle.std.proofs.Common.{◌≡◌, map, take}
-use Rattle.ess_rules_sources.specs.PureAlternatives.{pure_alternative}
+use Rattle.ess_rules_forms.specs.PureAlternatives.{pure_alternative}
 use Rattle.ess_rules_alternatives.specs.Cases.{members_of}
 use Rattle.ess_rules_alternatives.proofs.through.all_opened.Given as goal
 

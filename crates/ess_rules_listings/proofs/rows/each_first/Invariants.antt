@@ -2,7 +2,7 @@ use Rattle.std.proofs.Common.{◌≡◌, [], ◌++◌, map, reverse, take, drop}
 use Rattle.ess_core.specs.TreeViews.{exs_of}
 use Rattle.ess_core_nodes.specs.NodeViews.{pure_node}
 use Rattle.ess_rules_laws.specs.Listings.{each_first}
-use Rattle.ess_rules_sources.specs.PureAlternatives.{pure_alternative}
+use Rattle.ess_rules_forms.specs.PureAlternatives.{pure_alternative}
 use Rattle.ess_rules_listings.proofs.rows.each_first.Given as goal
 
 abbrev pub invariant-loop-place : goal.invariant-loop-place

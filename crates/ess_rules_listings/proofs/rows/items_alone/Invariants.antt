@@ -1,6 +1,6 @@
 use Rattle.std.proofs.Common.{◌≡◌, map, take}
 use Rattle.ess_core_nodes.specs.NodeViews.{pure_node}
-use Rattle.ess_rules_sources.specs.PureAlternatives.{pure_alternative}
+use Rattle.ess_rules_forms.specs.PureAlternatives.{pure_alternative}
 use Rattle.ess_rules_listings.specs.ListedTerms.{item_alone}
 use Rattle.ess_rules_listings.proofs.rows.items_alone.Given as goal
 

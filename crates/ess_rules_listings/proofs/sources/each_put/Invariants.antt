@@ -1,7 +1,7 @@
 use Rattle.std.proofs.Common.{◌≡◌, map, take}
 use Rattle.ess_core_nodes.specs.NodeViews.{pure_node, pure_gens}
 use Rattle.ess_refine_laws.specs.ExtremeAlternatives.{put_alternative}
-use Rattle.ess_rules_sources.specs.PureAlternatives.{pure_alternative}
+use Rattle.ess_rules_forms.specs.PureAlternatives.{pure_alternative}
 use Rattle.ess_rules_listings.proofs.sources.each_put.Given as goal
 
 abbrev pub invariant-loop-one : goal.invariant-loop-one

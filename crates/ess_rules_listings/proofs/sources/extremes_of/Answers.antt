@@ -1,6 +1,6 @@
 use Rattle.std.proofs.Common.{sym, ap, ◌∙◌, map, option_map, Some}
 use Rattle.ess_rules_folds.specs.Forms.{pure_fold}
-use Rattle.ess_rules_sources.specs.PureAlternatives.{pure_alternative}
+use Rattle.ess_rules_forms.specs.PureAlternatives.{pure_alternative}
 use Rattle.ess_rules_listings.proofs.Supplies.{extremes_put}
 use Rattle.ess_rules_listings.proofs.sources.extremes_of.Goals as goal
 

@@ -1,6 +1,7 @@
 use Rattle.std.proofs.Common.{◌≡◌, map, take}
 use Rattle.ess_core_nodes.specs.NodeViews.{pure_node, pure_gens}
-use Rattle.ess_rules_sources.specs.PureAlternatives.{pure_alternative, put_fold}
+use Rattle.ess_rules_forms.specs.PureAlternatives.{pure_alternative}
+use Rattle.ess_rules_sources.specs.PureAlternatives.{put_fold}
 use Rattle.ess_rules_sources.proofs.splitting.each_put.Given as goal
 
 abbrev pub invariant-loop-one : goal.invariant-loop-one

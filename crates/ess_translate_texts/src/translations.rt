@@ -1,10 +1,10 @@
 //! Both translations from texts alone.
 ghost use Rattle.std.specs.Prelude.{IfOk, IfErr};
-ghost use Rattle.ess_translate_solutions.specs.Translations.{IsParameterText, AreNotGiven, IsSolutionText, IsNoSolutionText};
+ghost use Rattle.ess_translate_texts.specs.Translations.{IsParameterText, AreNotGiven, IsSolutionText, IsNoSolutionText};
 
-use crate::solutions::solution_in;
 use ess_translate::TransNo;
 use ess_translate_files::{given_in, given_text, model_file};
+use ess_translate_solutions::solution_in;
 use std::alloc::Global;
 
 /// The text of the tables of a parameter, from the texts of a model with its header and of a parameter of the header's specification

@@ -13,7 +13,7 @@ use Rattle.ess_translate.specs.declared.refusal.TransNo.{TransNo}
 use Rattle.ess_translate_files.specs.ModelFiles.{IsModelFile}
 use Rattle.ess_translate_files.specs.GivenFiles.{IsGiven}
 use Rattle.ess_translate_solutions.specs.CellFiles.{IsSolved, IsNotSolved}
-use Rattle.ess_translate_solutions.specs.Translations.{AreGiven, IsParameterText, IsSolutionText, IsNoSolutionText}
+use Rattle.ess_translate_texts.specs.Translations.{AreGiven, IsParameterText, IsSolutionText, IsNoSolutionText}
 
 -- A model and a parameter that are read.
 abbrev pub both_given : (model param : Text) (H : Header) (E : Model) (p : Assignment) (q : Names Table) → IsModelFile model H E →

@@ -1,8 +1,8 @@
 use Rattle.ess_core.specs.TableViews.{pure_cells}
 use Rattle.ess_domains.specs.Assignments.{pure_assignment}
 use Rattle.ess_translate_files.specs.Wholes.{file_header, file_model}
-use Rattle.ess_translate_solutions.proofs.Joined.{solution_joined, solution_refused}
-use Rattle.ess_translate_solutions.proofs.translations.solution.Goals as goal
+use Rattle.ess_translate_texts.proofs.Joined.{solution_joined, solution_refused}
+use Rattle.ess_translate_texts.proofs.translations.solution.Goals as goal
 
 -- src/translations.rt
 pub returns-in-Ok-given_in-clause-ok : goal.returns-in-Ok-given_in-clause-ok

@@ -1,0 +1,2 @@
+-- The steps of a translation, one after the other
+pub mod Joined

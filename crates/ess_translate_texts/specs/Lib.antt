@@ -1,0 +1,2 @@
+-- What is answered on all texts of a translation
+pub mod Translations
