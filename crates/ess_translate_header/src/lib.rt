@@ -8,4 +8,5 @@ mod writing;
 
 pub use ess_parse::NamedReprs;
 pub use headers::{HeadNo, Header, read_header};
+pub use represented::are_reprs_of;
 pub use writing::write_header;

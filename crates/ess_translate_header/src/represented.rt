@@ -18,7 +18,7 @@ use ess_repr::fits;
 use std::cmp::Ordering;
 
 /// Whether the representations are of exactly the givens and finds with a domain, in order, and fit their domains.
-pub(crate) fn are_reprs_of(stms: &[Stm], reprs: &[NamedReprs]) -> bool
+pub fn are_reprs_of(stms: &[Stm], reprs: &[NamedReprs]) -> bool
     ensures { result ≡ represent (map pure_stm stms.now) (map pure_named_reprs reprs.now) }
 {
     let mut rest = reprs;

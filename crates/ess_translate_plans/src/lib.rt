@@ -10,4 +10,5 @@ mod taken;
 
 pub use declaring::declares;
 pub use plans::{Plan, Side, TableName, ValuePlan};
-pub use requests::plans_of;
+pub use requests::{all_plans, plans_of};
+pub use taken::declared_names;

@@ -39,9 +39,10 @@ pub fn plans_of(alloc: Global, header: &Header) -> Result<Row<Plan>, NoMemory>
     )
 }
 
-/// The plans of statements, with these representations of their names.
+/// The plans of prepared statements, with these representations of their givens and finds with a domain, in order, beside the names
+/// that are declared. `NoMemory` where there is no room for them.
 #[tactic(auto, using(crate::proofs::Added::plans_none))]
-fn all_plans(
+pub fn all_plans(
     alloc: Global,
     stms: &[Stm],
     reprs: &[NamedReprs],

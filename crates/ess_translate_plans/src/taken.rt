@@ -107,9 +107,9 @@ pub(crate) fn first_names(alloc: Global) -> Result<NameSet, NoMemory>
     Ok(names)
 }
 
-/// The names that statements declare.
+/// The names that statements declare. `NoMemory` where there is no room for them.
 #[tactic(auto, using(crate::proofs::Turns::declared_none, crate::proofs::Turns::declared_more, crate::proofs::Turns::declared_all))]
-pub(crate) fn declared_names(alloc: Global, stms: &[Stm]) -> Result<NameSet, NoMemory>
+pub fn declared_names(alloc: Global, stms: &[Stm]) -> Result<NameSet, NoMemory>
     ensures { IfOk result (λ ns. SameNames ns (all_declared (map pure_stm stms.now))) }
 {
     let mut names = NameSet::new(alloc);
