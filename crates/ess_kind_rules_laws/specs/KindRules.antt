@@ -1,14 +1,11 @@
 -- All rules that read the kind of a view, in one place: what each makes of the root of a tree, in the order in which they are tried.
-use Rattle.std.specs.Prelude.{Bool, true, false, ◌&&◌, not, if◌then◌else◌, ℕ, suc, List, [], ◌∷◌, Option, Some, None}
+use Rattle.std.specs.Prelude.{Bool, false, ◌&&◌, not, if◌then◌else◌, ℕ, suc, List, [], ◌∷◌, Option, Some, None}
 use Rattle.ess_semantics.specs.declared.words.Op1.{Op1}
-use Rattle.ess_semantics.specs.declared.words.Fun.{Fun}
-use Rattle.ess_semantics.specs.declared.words.ReprKind.{ReprKind}
 use Rattle.ess_semantics.specs.Lists.{and_then, or_else}
 use Rattle.ess_semantics.specs.Names.{Names}
-use Rattle.ess_semantics.specs.Trees.{index, application, by_value, word, repr, name_pat, Ex, Exs, node_ex, comp_ex, seen_ex, no_exs, more_exs, from, function_dom, ex1, fun1}
+use Rattle.ess_semantics.specs.Trees.{name_pat, Ex, Exs, node_ex, comp_ex, no_exs, more_exs, from, ex1, fun1}
 use Rattle.ess_semantics.specs.Types.{Ty}
 use Rattle.ess_semantics.specs.Typing.{type_of}
-use Rattle.ess_repr_declare_laws.specs.SizeTerms.{bound_ex}
 use Rattle.ess_rules_laws.specs.Listings.{Alternative}
 use Rattle.ess_rules_laws.specs.ListedSources.{source_alone, source_parts}
 use Rattle.ess_rules_laws.specs.AtomViews.{atom_cell}
@@ -24,8 +21,8 @@ use Rattle.ess_views_laws.specs.ChildViews.{asked_of_child}
 use Rattle.ess_views_laws.specs.MultisetViews.{multiset_size, multiset_frequency, multiset_member}
 use Rattle.ess_views_laws.specs.PartitionViews.{partition_party, number_of_parts, is_participant, are_together}
 use Rattle.ess_refine_laws.specs.AllRules.{Supply}
-use Rattle.ess_kind_rules_laws.specs.ViewListings.{view_listing, dom_seen, slots_seen, partitioned}
-use Rattle.ess_kind_rules_laws.specs.TermLookups.{looked_up}
+use Rattle.ess_kind_rules_laws.specs.ViewListings.{view_listing, slots_of_operand, partitioned_second, members_of_first}
+use Rattle.ess_kind_rules_laws.specs.TermLookups.{picks, looked_up}
 
 -- The rules, by what they rewrite.
 pub data KindRule : Type 0 where
@@ -56,34 +53,11 @@ asks_truth (node_ex b op es) = b
 asks_truth e = false
 
 -- Of a total function the number of members of its first domain.
-abbrev pub members_of_first : Ex → Option Ex
-members_of_first (seen_ex (repr ReprKind.Function1D rs) (function_dom ms es d c) ns js) = Some (bound_ex d)
-members_of_first (seen_ex (repr ReprKind.FunctionND rs) (function_dom ms es d c) ns js) = Some (bound_ex d)
-members_of_first e = None
-
 abbrev pub function_size : Ex → Option Ex
 function_size (ex1 false Op1.Bar v) = members_of_first v
 function_size e = None
 
--- Of the only operand of a size, how many slots it has.
-abbrev pub slots_of_operand : Ex → Ex
-slots_of_operand (node_ex b op (more_exs v es)) = slots_seen v
-slots_of_operand e = slots_seen e
-
--- The second operand.
-abbrev pub second_operand : Ex → Ex
-second_operand (node_ex b op (more_exs a (more_exs v es))) = v
-second_operand e = e
-
 -- ---- what is picked out of a term
-
--- Whether the expression picks a value out of a term: an item, a result, a part.
-abbrev pub picks : Ex → Bool
-picks (node_ex b (index (by_value ∷ [])) es) = true
-picks (node_ex b application es) = true
-picks (node_ex b (word Fun.Image) es) = true
-picks (node_ex b (word Fun.Party) es) = true
-picks e = false
 
 -- The number of the first operand that picks a compound value, with that operand.
 abbrev pub first_picked : Names Ty → ℕ → Exs → Option (ℕ × Ex)
@@ -94,13 +68,13 @@ first_picked g k (more_exs e es) = if picks e && is_parted (type_of e g) then So
 abbrev pub over_picked : Supply → Names Ty → Ex → Option Ex
 over_picked s g (node_ex b op es) =
     and_then (first_picked g 1 es)
-    (λ p. and_then (looked_up g s.third s.other s.parts p.1) (λ l. select_each s.one p.0 l (node_ex b op es)))
+    (λ p. and_then (looked_up g s.third (s.other ∷ s.parts) p.1) (λ l. select_each s.one p.0 l (node_ex b op es)))
 over_picked s g e = None
 
 -- A picked scalar by itself.
 abbrev pub picked_scalar : Supply → Names Ty → Ex → Option Ex
 picked_scalar s g e =
-    if picks e && not (is_parted (type_of e g)) then and_then (looked_up g s.third s.other s.parts e) (λ l. select_whole_each s.one l e)
+    if picks e && not (is_parted (type_of e g)) then and_then (looked_up g s.third (s.other ∷ s.parts) e) (λ l. select_whole_each s.one l e)
     else None
 
 -- ---- the rules
@@ -123,8 +97,8 @@ kind_rewrite s g size_of_a_multiset e = multiset_size s.one (slots_of_operand e)
 kind_rewrite s g size_of_a_function e = function_size e
 kind_rewrite s g size_of_the_parts e = number_of_parts e
 kind_rewrite s g frequency_by_cells e = multiset_frequency s.one (slots_of_operand e) e
-kind_rewrite s g lie_together e = are_together s.one s.other (partitioned (dom_seen (second_operand e))) e
-kind_rewrite s g party_by_number e = partition_party (partitioned (dom_seen (second_operand e))) e
+kind_rewrite s g lie_together e = are_together s.one s.other (partitioned_second e) e
+kind_rewrite s g party_by_number e = partition_party (partitioned_second e) e
 kind_rewrite s g truth_at_an_argument e = if asks_truth e then result_at_argument e else None
 kind_rewrite s g truth_behind_a_flag e = if asks_truth e then and_then (lookup_behind_flag e) (λ l. select_whole s.one l e) else None
 kind_rewrite s g of_what_is_picked e = over_picked s g e
