@@ -16,9 +16,9 @@ use ess_core_nodes::Node;
 use ess_node_types::NameTypes;
 use ess_rows::{Boxed, NoMemory, Row};
 use ess_rules_folds::forms::{Fold, are_none, fold_over};
+use ess_rules_forms::Alternative;
 use ess_rules_sources::{
-    Alternative, OnceNames, extreme_alternatives, items_once, put_alternative, source_alone,
-    source_parts,
+    OnceNames, extreme_alternatives, items_once, put_alternative, source_alone, source_parts,
 };
 use std::alloc::Global;
 
