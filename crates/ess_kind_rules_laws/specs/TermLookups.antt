@@ -54,12 +54,15 @@ abbrev pub count_below : Text → Dom → Ex → Ex
 count_below x d i =
     fun1 false Fun.Sum (comp_ex (number_ex (pos 1)) (over (name_pat x) d (cond (ex2 true Op2.Lt (name_ex x) i) no_gens)))
 
--- Each item where i is a member of the domain with as many below it as there are items before, from k on.
+-- An item where i is a member of the domain with k others below it.
+abbrev pub item_at_place : Text → Dom → Ex → ℕ → Ex → Alternative
+item_at_place x d i k e =
+    record { gens = cond (is_one_of x d i) (cond (ex2 true Op2.Eq (count_below x d i) (number_ex (pos k))) no_gens); item = e }
+
+-- Each item at its place, from k on.
 abbrev pub items_at_places : Text → Dom → Ex → ℕ → Exs → List Alternative
 items_at_places x d i k no_exs = []
-items_at_places x d i k (more_exs e es) =
-    record { gens = cond (is_one_of x d i) (cond (ex2 true Op2.Eq (count_below x d i) (number_ex (pos k))) no_gens); item = e }
-    ∷ items_at_places x d i (suc k) es
+items_at_places x d i k (more_exs e es) = item_at_place x d i k e ∷ items_at_places x d i (suc k) es
 
 -- `[e1, .., en; d][i]`, a literal over an index domain.
 abbrev pub domain_list_lookup : Text → Ex → Option (List Alternative)
@@ -85,12 +88,17 @@ abbrev pub names_of_argument : List Text → Ex → List Text
 names_of_argument zs (node_ex b op (more_exs f es)) = names_for zs (dom_seen f)
 names_of_argument zs e = []
 
+-- A view of a function at an argument, by its kind.
+abbrev pub function_view_lookup : Text → List Text → Ex → Option Ex
+function_view_lookup x zs e =
+    or_else (function_1d_lookup x e) (or_else (function_1d_partial_lookup x e)
+    (or_else (function_nd_lookup zs e) (function_nd_partial_lookup zs e)))
+
 -- A lookup of the form `[v | gs]`: of a view of a function, of an item of a view of a matrix, of a part, of any other function.
 abbrev pub one_lookup : Names Ty → Text → List Text → Ex → Option Ex
 one_lookup g x zs e =
-    or_else (function_1d_lookup x e) (or_else (function_1d_partial_lookup x e)
-    (or_else (function_nd_lookup (names_of_argument zs e) e) (or_else (function_nd_partial_lookup (names_of_argument zs e) e)
-    (or_else (view_item_lookup x e) (or_else (party_lookup x e) (function_lookup g x e))))))
+    or_else (function_view_lookup x (names_of_argument zs e) e) (or_else (view_item_lookup x e)
+    (or_else (party_lookup x e) (function_lookup g x e)))
 
 -- ---- by alternatives
 
