@@ -1,0 +1,4 @@
+pub mod NamesHave
+pub mod RulesKeepNames
+pub mod Steps
+pub mod SparedNames
