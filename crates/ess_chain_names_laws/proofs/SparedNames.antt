@@ -113,7 +113,7 @@ module _ (u : Text → Bool) where
   index-has (comp_ex e gs) h = (tt, (((tt, h.1), tt), tt))
   index-has e h = plain-has (first_index (dom_followed e)) (first-has (dom_followed e) (followed-has e h))
 
-  axis-has : (e : Ex) → NamesHave u e → DomNamesHave u (told_axis e)
+  pub axis-has : (e : Ex) → NamesHave u e → DomNamesHave u (told_axis e)
   axis-has e h = go (index_dom e) (index-has e h)
     where
       go : (o : Option Dom) → SomeHas o → DomNamesHave u (or_default o bool_dom)
@@ -211,7 +211,7 @@ spares-along n m g old e (one_more {s = t} {k = k} {a = a} {b = b} c l i u) s =
     spares-along k m g (fill c b) e u (spares-step t k (names_at c g) a b i c (spares-later n t old l s))
 
 -- A name that the tree spares is none that it has.
-differs : (u : Text → Bool) (x : Text) → u x ≡ false → (a : Text) → IsTrue (u a) → IsTrue (not (same_text x a))
+pub differs : (u : Text → Bool) (x : Text) → u x ≡ false → (a : Text) → IsTrue (u a) → IsTrue (not (same_text x a))
 differs u x f a t = go (same_text x a) refl
   where
     go : (b : Bool) → same_text x a ≡ b → IsTrue (not b)

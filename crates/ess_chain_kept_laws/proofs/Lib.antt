@@ -1,0 +1,2 @@
+pub mod KeptChains
+mod ExamplesKept

@@ -1,0 +1,2 @@
+pub mod CountsBeside
+pub mod KeptChains

@@ -1,0 +1,4 @@
+//! Chains of rules that keep meanings.
+#![tactic(auto)]
+
+pub mod laws;
