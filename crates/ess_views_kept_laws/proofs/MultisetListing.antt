@@ -43,10 +43,11 @@ no h = cc
 -- ---- as often as a number says
 
 -- Whether a number is at most q.
-abbrev up_to_number : ℕ → ℤ → Bool
+abbrev pub up_to_number : ℕ → ℤ → Bool
 up_to_number q k = not (below (number (pos q)) (number k))
 
-above : (q a : ℕ) → q < a → up_to_number q (pos a) ≡ false
+-- Not above it.
+pub above : (q a : ℕ) → q < a → up_to_number q (pos a) ≡ false
 above q a h = ap (λ o. not (is_lt o)) (sym (int_cmp_is (pos q) (pos a) Less (let e : pos q <ℤ pos a = omega (arith, ints) in e)))
 
 at-most : (q a : ℕ) → a ≤ q → up_to_number q (pos a) ≡ true
@@ -65,7 +66,7 @@ module _ (q : ℕ) (v : Value) (T : Value → Option (List Value))
       ∙ ap (option_map (λ ys. ys)) (none-left (suc a) n (omega arith))
 
   -- The numbers of a run up to q are b.
-  run-repeats : (a n b : ℕ) → a + b ≡ q + 1 → b ≤ n → collect (map number (run_from a n)) T ≡ Some (replicate b v)
+  pub run-repeats : (a n b : ℕ) → a + b ≡ q + 1 → b ≤ n → collect (map number (run_from a n)) T ≡ Some (replicate b v)
   run-repeats a zero zero h l = refl
   run-repeats a zero (suc b) h l = absurd (omega arith)
   run-repeats a (suc n) zero h l = none-left a (suc n) (omega arith)
@@ -131,7 +132,8 @@ each-of-any : (o : Option (List Value)) (P : Value → Type 0) → ((v : Value) 
 each-of-any None P f = tt
 each-of-any (Some vs) P f = each-any vs P f
 
-put-unused : (y x : Text) (js : Exs) → NamesAreExs (λ a. not (same_text y a)) (λ a. true) js → not (same_text y x) ≡ true →
+-- A name stays unused in an index list with one more index.
+pub put-unused : (y x : Text) (js : Exs) → NamesAreExs (λ a. not (same_text y a)) (λ a. true) js → not (same_text y x) ≡ true →
     NamesAreExs (λ a. not (same_text y a)) (λ a. true) (put_last js (name_ex x))
 put-unused y x no_exs o h = (h, tt)
 put-unused y x (more_exs e es) o h = (o.0, put-unused y x es o.1 h)

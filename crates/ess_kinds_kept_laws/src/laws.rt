@@ -1,0 +1,34 @@
+//! Laws of the rules that read the kind of a view, each the contract of a function that does nothing.
+
+ghost use Rattle.ess_kinds_kept_laws.specs.MultisetAsks.{CountedMultisetsServe};
+ghost use Rattle.ess_kinds_kept_laws.specs.FunctionAsks.{FunctionSizesServe};
+ghost use Rattle.ess_kinds_kept_laws.specs.ViewAsks.{ViewsOffer};
+ghost use Rattle.ess_kinds_kept_laws.specs.LookupAsks.{TermsAreLookedUp};
+ghost use Rattle.ess_kinds_kept_laws.specs.KindAsks.{KindRulesKeep};
+
+/// Sizes and frequencies of views of multisets keep what they rewrite, whatever the kind, and the set of the members is offered. A view in
+/// slots with numbers offers the view in each slot as often as its number says.
+pub fn counted_multisets_serve()
+    ensures { CountedMultisetsServe }
+{}
+
+/// The size of a view of a total function is the bound of its first domain, where that says how many members the domain has.
+pub fn function_sizes_serve()
+    ensures { FunctionSizesServe }
+{}
+
+/// Each view offers what its kind has as a listing, where its tables meet its structure and it has what the kind asks.
+pub fn views_offer()
+    ensures { ViewsOffer }
+{}
+
+/// What is picked out of any term is looked up: of views of functions, of literals, of other functions, and of matrices whose form tells
+/// the index domain.
+pub fn terms_are_looked_up()
+    ensures { TermsAreLookedUp }
+{}
+
+/// Each rule that reads the kind of a view keeps what it rewrites where it has what it counts on, and so does the first one that fires.
+pub fn kind_rules_keep()
+    ensures { KindRulesKeep }
+{}
