@@ -28,7 +28,7 @@ use Rattle.ess_chain_names_laws.proofs.ToldNames.{ex-up, told-names}
 -- ---- reserved names before a number
 
 -- Whether it is a reserved name before the k-th.
-abbrev is_before : ℕ → Text → Bool
+abbrev pub is_before : ℕ → Text → Bool
 is_before zero a = false
 is_before (suc k) a = same_text a (reserved k) || is_before k a
 
@@ -40,7 +40,7 @@ or-left : (b c : Bool) → b ≡ true → b || c ≡ true
 or-left true c h = refl
 or-left false c h = cc
 
-both-false : (b c : Bool) → b ≡ false → c ≡ false → b || c ≡ false
+pub both-false : (b c : Bool) → b ≡ false → c ≡ false → b || c ≡ false
 both-false true c h k = cc
 both-false false c h k = k
 
@@ -63,7 +63,7 @@ before-has (suc k) i l = go (same_text (reserved i) (reserved k)) refl (λ b. be
     go true e f = refl
     go false e f = f (one-below k i l e)
 
-before-none : (k j : ℕ) → k ≤ j → j < 2 ^ 64 → is_before k (reserved j) ≡ false
+pub before-none : (k j : ℕ) → k ≤ j → j < 2 ^ 64 → is_before k (reserved j) ≡ false
 before-none zero j l m = refl
 before-none (suc k) j l m =
     both-false (same_text (reserved j) (reserved k)) (is_before k (reserved j)) (reserved-differ k j (omega (arith, l)) m)
@@ -123,21 +123,21 @@ module _ (u : Text → Bool) where
 -- ---- a step
 
 -- The names of a tree and the reserved ones before the m-th.
-abbrev up_to : (Text → Bool) → ℕ → Text → Bool
+abbrev pub up_to : (Text → Bool) → ℕ → Text → Bool
 up_to u m a = u a || is_before m a
 
 module _ (u : Text → Bool) (m : ℕ) where
-  wider : (a : Text) → IsTrue (u a) → IsTrue (up_to u m a)
+  pub wider : (a : Text) → IsTrue (u a) → IsTrue (up_to u m a)
   wider a h = or-left (u a) (is_before m a) h
 
-  given : (i : ℕ) → i < m → IsTrue (up_to u m (reserved i))
+  pub given : (i : ℕ) → i < m → IsTrue (up_to u m (reserved i))
   given i l = or-right (u (reserved i)) (is_before m (reserved i)) (before-has m i l)
 
-  names-given : (n k : ℕ) → n + k ≤ m → EachHas (up_to u m) (reserved_from n k)
+  pub names-given : (n k : ℕ) → n + k ≤ m → EachHas (up_to u m) (reserved_from n k)
   names-given n zero l = tt
   names-given n (suc k) l = (given n (omega (arith, l)), names-given (suc n) k (omega (arith, l)))
 
-  told-has : (e : Ex) (n : ℕ) → (told e [] n).1 ≤ m → NamesHave u e → NamesHave (up_to u m) (told_apart n e)
+  pub told-has : (e : Ex) (n : ℕ) → (told e [] n).1 ≤ m → NamesHave u e → NamesHave (up_to u m) (told_apart n e)
   told-has e n l h = told-names u (up_to u m) m wider given e [] n l h (λ c t. wider c t)
 
   copy-has : (j : ℕ) (e : Ex) → behind_copy j e ≤ m → (s : Supply) → (copies : (x : Ex) → (told x [] j).1 ≤ m → NamesHave u x →
@@ -165,7 +165,7 @@ module _ (u : Text → Bool) (m : ℕ) where
       copy-has (n + 3 + k) e l (supply_at n k) (λ x p q. told-has x (n + 3 + k) p q) h
   taken-has n k r e l h = tt
 
-  supply-has : (n k : ℕ) (r : Rule) (e : Ex) → n + 3 + k ≤ m → behind_names (n + 3 + k) r e ≤ m → NamesHave u e →
+  pub supply-has : (n k : ℕ) (r : Rule) (e : Ex) → n + 3 + k ≤ m → behind_names (n + 3 + k) r e ≤ m → NamesHave u e →
       SupplyHas (up_to u m) (supply_at n k) r e
   supply-has n k r e l b h = record {
     one = given n (omega (arith, l));
@@ -182,7 +182,7 @@ module _ (u : Text → Bool) (m : ℕ) where
   step-has n g a b (told_anew l) h = told-has a n l h
 
 -- A step takes no number back.
-step-up : (n m : ℕ) (g : Names Ty) (a b : Ex) → IsStep n g a b m → n ≤ m
+pub step-up : (n m : ℕ) (g : Names Ty) (a b : Ex) → IsStep n g a b m → n ≤ m
 step-up n m g a b (by_a_rule k r q l p) = omega (arith, l)
 step-up n m g a b (told_anew l) = up n (told a [] n).1 m (ex-up a [] n) l
   where

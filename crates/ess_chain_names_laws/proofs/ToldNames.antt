@@ -11,20 +11,20 @@ use Rattle.conjure_model_laws.specs.ToldApart.{reserved, renamed, told_pat, told
 use Rattle.ess_chain_names_laws.specs.NamesHave.{NamesHave, AllNamesHave, GensNamesHave, DomNamesHave, DomsNamesHave}
 use Rattle.ess_chain_names_laws.proofs.NamesHave.{dom-wider}
 
-on : (a b c : ℕ) → a ≤ b → b ≤ c → a ≤ c
+pub on : (a b c : ℕ) → a ≤ b → b ≤ c → a ≤ c
 on a b c p q = omega (arith, p, q)
 
-itself : (a : ℕ) → a ≤ a
+pub itself : (a : ℕ) → a ≤ a
 itself a = omega arith
 
 -- ---- numbers rise
 
 mutual
-  pat-up : (p : Pat) (r : Names Text) (k : ℕ) → k ≤ (told_pat p r k).2
+  pub pat-up : (p : Pat) (r : Names Text) (k : ℕ) → k ≤ (told_pat p r k).2
   pat-up (name_pat a) r k = omega arith
   pat-up (tuple_pat ps) r k = pats-up ps r k
 
-  pats-up : (ps : Pats) (r : Names Text) (k : ℕ) → k ≤ (told_pats ps r k).2
+  pub pats-up : (ps : Pats) (r : Names Text) (k : ℕ) → k ≤ (told_pats ps r k).2
   pats-up no_pats r k = itself k
   pats-up (more_pats p ps) r k = let q = told_pat p r k in on k q.2 (told_pats ps q.1 q.2).2 (pat-up p r k) (pats-up ps q.1 q.2)
 
@@ -40,11 +40,11 @@ mutual
   ex-up (cell_ex q c es) r k = all-up es r k
   ex-up (seen_ex s d ns es) r k = all-up es r k
 
-  all-up : (es : Exs) (r : Names Text) (k : ℕ) → k ≤ (told_all es r k).1
+  pub all-up : (es : Exs) (r : Names Text) (k : ℕ) → k ≤ (told_all es r k).1
   all-up no_exs r k = itself k
   all-up (more_exs e es) r k = let q = (told e r k).1 in on k q (told_all es r q).1 (ex-up e r k) (all-up es r q)
 
-  gens-up : (gs : Gens) (r : Names Text) (k : ℕ) → k ≤ (told_gens gs r k).2
+  pub gens-up : (gs : Gens) (r : Names Text) (k : ℕ) → k ≤ (told_gens gs r k).2
   gens-up no_gens r k = itself k
   gens-up (over p d gs) r k =
       let c = (told_dom d r k).1 in
@@ -56,7 +56,7 @@ mutual
       on k c (told_gens gs q.1 q.2).2 (ex-up e r k) (on c q.2 (told_gens gs q.1 q.2).2 (pat-up p r c) (gens-up gs q.1 q.2))
   gens-up (cond e gs) r k = let c = (told e r k).1 in on k c (told_gens gs r c).2 (ex-up e r k) (gens-up gs r c)
 
-  dom-up : (d : Dom) (r : Names Text) (k : ℕ) → k ≤ (told_dom d r k).1
+  pub dom-up : (d : Dom) (r : Names Text) (k : ℕ) → k ≤ (told_dom d r k).1
   dom-up bool_dom r k = itself k
   dom-up (int_dom rs es) r k = all-up es r k
   dom-up (name_dom a) r k = itself k
@@ -72,7 +72,7 @@ mutual
   dom-up (relation_dom ms es ds) r k = let q = (told_all es r k).1 in on k q (told_doms ds r q).1 (all-up es r k) (doms-up ds r q)
   dom-up (partition_dom ms es d) r k = let q = (told_all es r k).1 in on k q (told_dom d r q).1 (all-up es r k) (dom-up d r q)
 
-  doms-up : (ds : Doms) (r : Names Text) (k : ℕ) → k ≤ (told_doms ds r k).1
+  pub doms-up : (ds : Doms) (r : Names Text) (k : ℕ) → k ≤ (told_doms ds r k).1
   doms-up no_doms r k = itself k
   doms-up (more_doms d ds) r k = let q = (told_dom d r k).1 in on k q (told_doms ds r q).1 (dom-up d r k) (doms-up ds r q)
 

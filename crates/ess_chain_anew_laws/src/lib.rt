@@ -1,0 +1,4 @@
+//! Rules used where the first source is told apart anew.
+#![tactic(auto)]
+
+pub mod laws;

@@ -1,0 +1,4 @@
+//! Trees over tables whose bound names are told apart.
+#![tactic(auto)]
+
+pub mod laws;
