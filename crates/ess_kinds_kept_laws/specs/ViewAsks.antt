@@ -17,7 +17,7 @@ use Rattle.ess_rules_laws.specs.FunctionViews.{FirstThere, NamesUnused}
 use Rattle.ess_views_kept_laws.specs.ChildrenKept.{KnownChild}
 use Rattle.ess_views_kept_laws.specs.MultisetsKept.{NumbersMembers}
 use Rattle.ess_views_kept_laws.specs.MultisetsListed.{OftenEnough, MultisetSlotsAre}
-use Rattle.ess_kind_rules_laws.specs.ViewListings.{dom_seen, slots_seen, dummy_of_members, occurrences_of, view_listing}
+use Rattle.ess_kind_rules_laws.specs.ViewListings.{dom_seen, slots_seen, dummy_of_members, occurrences_of, names_for, view_listing}
 use Rattle.ess_kinds_kept_laws.specs.MultisetAsks.{OfOnce}
 
 -- The names x and y are new, and differ.
@@ -43,10 +43,10 @@ ListingAsks ReprKind.MSetExplicitWithFlags x y zs v env =
     × OftenEnough (occurrences_of (dom_seen v)) v env
 ListingAsks ReprKind.Function1D x y zs v env = Unused x v × FirstThere v env
 ListingAsks ReprKind.Function1DPartial x y zs v env = Unused x v × FirstThere v env
-ListingAsks ReprKind.FunctionND x y zs v env = NamesUnused zs v × FirstThere v env
-ListingAsks ReprKind.FunctionNDPartial x y zs v env = NamesUnused zs v × FirstThere v env
+ListingAsks ReprKind.FunctionND x y zs v env = NamesUnused (names_for zs (dom_seen v)) v × FirstThere v env
+ListingAsks ReprKind.FunctionNDPartial x y zs v env = NamesUnused (names_for zs (dom_seen v)) v × FirstThere v env
 ListingAsks ReprKind.FunctionAsRelation x y zs v env = KnownChild v env
-ListingAsks ReprKind.RelationAsMatrix x y zs v env = NamesUnused zs v × TuplesThere v env
+ListingAsks ReprKind.RelationAsMatrix x y zs v env = NamesUnused (names_for zs (dom_seen v)) v × TuplesThere v env
 ListingAsks ReprKind.RelationAsSet x y zs v env = KnownChild v env
 ListingAsks ReprKind.PartitionAsSet x y zs v env = KnownChild v env
 ListingAsks k x y zs v env = ⊥
