@@ -40,13 +40,15 @@ use Rattle.ess_views_kept_laws.proofs.MultisetViews.{multiset_member-keeps}
 use Rattle.ess_views_kept_laws.proofs.PartitionViews.{number_of_parts-keeps}
 use Rattle.ess_views_kept_laws.proofs.ParticipantViews.{is_participant-keeps}
 use Rattle.ess_refine_laws.specs.AllRules.{Supply, OfSome}
-use Rattle.ess_kind_rules_laws.specs.ViewListings.{slots_of_operand, view_listing}
+use Rattle.ess_kind_rules_laws.specs.ViewListings.{slots_of_operand, partitioned_second, view_listing}
 use Rattle.ess_kind_rules_laws.specs.TermLookups.{picks, looked_up}
 use Rattle.ess_kind_rules_laws.specs.KindRules.{KindRule, cell_of_an_atom, component_of_a_view, truth_in_a_matrix, asked_of_its_child, over_a_view, of_one_view, member_at_a_cell, member_of_a_multiset, argument_with_a_flag, member_of_a_part, size_at_the_marker, size_of_slots, size_of_a_multiset, size_of_a_function, size_of_the_parts, frequency_by_cells, lie_together, party_by_number, truth_at_an_argument, truth_behind_a_flag, of_what_is_picked, picked, view_listed, asks_truth, first_picked, over_picked, kind_rewrite, kind_rules, first_of_kinds}
 use Rattle.ess_kinds_kept_laws.specs.LookupAsks.{LookupAsks}
 use Rattle.ess_kinds_kept_laws.specs.KindAsks.{ViewApart, SourceAsks, RootFits, PickedAsks, KindAsks, KindsFit, KindRulesKeep}
 use Rattle.ess_kinds_kept_laws.proofs.CountedMultisets.{size-keeps, frequency-keeps}
 use Rattle.ess_kinds_kept_laws.proofs.FunctionSizes.{function_size-keeps}
+use Rattle.ess_kinds_kept_laws.proofs.PartyRules.{partition_party-keeps}
+use Rattle.ess_kinds_kept_laws.proofs.TogetherRule.{are_together-keeps}
 use Rattle.ess_kinds_kept_laws.proofs.ViewsOffer.{views-offer}
 use Rattle.ess_kinds_kept_laws.proofs.TermsLookedUp.{unmarked-itself, terms-looked-up}
 
@@ -197,8 +199,8 @@ each-keeps s g size_of_a_multiset e f q env t c = size-keeps s.one (slots_of_ope
 each-keeps s g size_of_a_function e f q env t c = function_size-keeps e f q env c
 each-keeps s g size_of_the_parts e f q env t c = number_of_parts-keeps e f q env
 each-keeps s g frequency_by_cells e f q env t c = frequency-keeps s.one (slots_of_operand e) e f q c.0 env c.1 c.2
-each-keeps s g lie_together e f q env t c = absurd c
-each-keeps s g party_by_number e f q env t c = absurd c
+each-keeps s g lie_together e f q env t c = are_together-keeps s.one s.other (partitioned_second e) e f q env c.0 c.1 c.2 c.3
+each-keeps s g party_by_number e f q env t c = partition_party-keeps (partitioned_second e) e f q env c
 each-keeps s g truth_at_an_argument e f q env t c =
     result_at_argument-keeps e f (under-test (asks_truth e) (result_at_argument e) f q).1 env c
 each-keeps s g truth_behind_a_flag e f q env t c = flag-keeps s e f q env c

@@ -29,6 +29,7 @@ use Rattle.ess_rules_laws.proofs.FunctionLiteralLookups.{function_literal-answer
 use Rattle.ess_rules_laws.proofs.LookedContainers.{looked-alternative, through_each-answer}
 use Rattle.ess_kind_rules_laws.specs.TermLookups.{picks, picked_within, view_item_lookup, domain_list_lookup, party_lookup, names_of_argument, function_view_lookup, one_lookup, looked_up_alone, looked_up}
 use Rattle.ess_kind_rules_laws.specs.KindRules.{asks_truth}
+use Rattle.ess_kinds_kept_laws.proofs.MatrixItems.{view_item-looked}
 use Rattle.ess_kinds_kept_laws.specs.LookupAsks.{OrAsks, FunctionAsks, OneAsks, AloneAsks, FitsWithin, LookupAsks, TermsAreLookedUp}
 
 no : {A : Type 0} → false ≡ true → A
@@ -72,7 +73,7 @@ module _ (g : Names Ty) (x : Text) (zs : List Text) (e : Ex) (env : Env) (t : Ty
   one-looked : (l : Ex) → one_lookup g x zs e ≡ Some l → OneAsks g x zs e env → R l
   one-looked l q c = or-asked (function_view_lookup x (names_of_argument zs e) e) _ _ _ R l q c
       (λ a p k. function-view-looked x (names_of_argument zs e) e env m a p k)
-      (λ q c. or-asked (view_item_lookup x e) _ _ _ R l q c (λ a p k. absurd k)
+      (λ q c. or-asked (view_item_lookup x e) _ _ _ R l q c (λ a p k. view_item-looked x e a p env k m)
       (λ q c. or-asked (party_lookup x e) _ _ _ R l q c (λ a p k. absurd k)
       (λ q c. let k = last-asked (function_lookup g x e) (λ l. Unused x e × SoundOperands g e × OperandsThere e env) (Unit {0}) l q c in
       function-looked g x e l q k.0 k.1 env t k.2 m)))
@@ -114,8 +115,10 @@ through-within y (node_ex b (index (s ∷ [])) (more_exs u es)) t l k env p q ne
         LookedBy (node_ex false (index (s ∷ [])) (more_exs u es)) k env
     go true p = let e : u ≡ t = cc in
         looks-by (lookup_through_each y 1 l (node_ex b (index (s ∷ [])) (more_exs u es))) (node_ex false (index (s ∷ [])) (more_exs u es)) k
-        env (through_each-answer y 1 l (node_ex b (index (s ∷ [])) (more_exs u es)) new env (subst (λ z. LookedBy z l env) (sym e) h,
-        subst (λ z. FitsWithin z (node_ex b (index (s ∷ [])) (more_exs u es)) env) (sym e) f) m) q
+        env (through_each-answer y 1 l (node_ex b (index (s ∷ [])) (more_exs u es)) new env (
+          subst (λ z. LookedBy z l env) (sym e) h,
+          subst (λ z. FitsWithin z (node_ex b (index (s ∷ [])) (more_exs u es)) env) (sym e) f,
+        ) m) q
     go false p = cc
 through-within y _ t l k env p q new f h m = cc
 

@@ -23,8 +23,10 @@ use Rattle.ess_views_kept_laws.specs.ItemsKept.{IndexHeld}
 use Rattle.ess_views_kept_laws.specs.ChildrenKept.{KnownChild, asked_view}
 use Rattle.ess_views_kept_laws.specs.MultisetsKept.{LastNumbers}
 use Rattle.ess_refine_laws.specs.AllRules.{Supply, OfSome}
-use Rattle.ess_kind_rules_laws.specs.ViewListings.{slots_of_operand, view_listing}
+use Rattle.ess_kind_rules_laws.specs.ViewListings.{slots_of_operand, partitioned_second, view_listing}
 use Rattle.ess_kind_rules_laws.specs.KindRules.{KindRule, cell_of_an_atom, component_of_a_view, truth_in_a_matrix, asked_of_its_child, over_a_view, of_one_view, member_at_a_cell, member_of_a_multiset, argument_with_a_flag, member_of_a_part, size_at_the_marker, size_of_slots, size_of_a_multiset, size_of_a_function, size_of_the_parts, frequency_by_cells, lie_together, party_by_number, truth_at_an_argument, truth_behind_a_flag, of_what_is_picked, picked, asks_truth, first_picked, kind_rewrite, kind_rules, first_of_kinds}
+use Rattle.ess_kinds_kept_laws.specs.NewNames.{TwoNew}
+use Rattle.ess_kinds_kept_laws.specs.PartitionAsks.{PartyAsks, TogetherAsks}
 use Rattle.ess_kinds_kept_laws.specs.MultisetAsks.{SizeAsks, FrequencyAsks}
 use Rattle.ess_kinds_kept_laws.specs.FunctionAsks.{FunctionSizeAsks}
 use Rattle.ess_kinds_kept_laws.specs.ViewAsks.{ViewAsks}
@@ -76,8 +78,9 @@ KindAsks s g size_of_a_multiset e env = Unused s.one e × SizeAsks (slots_of_ope
 KindAsks s g size_of_a_function e env = FunctionSizeAsks e env
 KindAsks s g size_of_the_parts e env = Unit {0}
 KindAsks s g frequency_by_cells e env = Unused s.one e × OperandsThere e env × FrequencyAsks (slots_of_operand e) e env
-KindAsks s g lie_together e env = ⊥
-KindAsks s g party_by_number e env = ⊥
+KindAsks s g lie_together e env = TwoNew s.one s.other e × Unused s.one (partitioned_second e) × OperandsThere e env
+    × TogetherAsks (partitioned_second e) e env
+KindAsks s g party_by_number e env = PartyAsks (partitioned_second e) e env
 KindAsks s g truth_at_an_argument e env = ArgumentHeld e env
 KindAsks s g truth_behind_a_flag e env = ArgumentTold e env
 KindAsks s g of_what_is_picked e env = Unused s.one e × PickedAsks s g e env × RootFits e env

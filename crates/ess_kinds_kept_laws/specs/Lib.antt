@@ -1,11 +1,13 @@
+-- New names
+pub mod NewNames
 -- Multisets, whatever their kind
 pub mod MultisetAsks
+-- Partitions by numbers
+pub mod PartitionAsks
 -- Listings of views
 pub mod ViewAsks
 -- Sizes of functions
 pub mod FunctionAsks
--- Partitions by numbers
-pub mod PartitionAsks
 -- Lookups
 pub mod LookupAsks
 -- All rules that read the kind of a view

@@ -38,7 +38,7 @@ FunctionAsks x zs e env =
 abbrev pub OneAsks : Names Ty → Text → List Text → Ex → Env → Type 0
 OneAsks g x zs e env =
     OrAsks (function_view_lookup x (names_of_argument zs e) e) (λ l. FunctionAsks x (names_of_argument zs e) e env)
-    (OrAsks (view_item_lookup x e) (λ l. ⊥)
+    (OrAsks (view_item_lookup x e) (λ l. Unused x e)
     (OrAsks (party_lookup x e) (λ l. ⊥)
     (OrAsks (function_lookup g x e) (λ l. Unused x e × SoundOperands g e × OperandsThere e env) (Unit {0}))))
 

@@ -1,6 +1,7 @@
 //! Laws of the rules that read the kind of a view, each the contract of a function that does nothing.
 
 ghost use Rattle.ess_kinds_kept_laws.specs.MultisetAsks.{CountedMultisetsServe};
+ghost use Rattle.ess_kinds_kept_laws.specs.PartitionAsks.{PartitionsByNumberServe};
 ghost use Rattle.ess_kinds_kept_laws.specs.FunctionAsks.{FunctionSizesServe};
 ghost use Rattle.ess_kinds_kept_laws.specs.ViewAsks.{ViewsOffer};
 ghost use Rattle.ess_kinds_kept_laws.specs.LookupAsks.{TermsAreLookedUp};
@@ -17,13 +18,20 @@ pub fn function_sizes_serve()
     ensures { FunctionSizesServe }
 {}
 
+/// Of a partition that is kept by the number of each member's part, the part with a term has the members with its number, members lie
+/// together where some number is that of all, and the parts are listed by their numbers: where the term's own number tells it from all
+/// members, and no more parts are there than the bound of the inner domain says.
+pub fn partitions_by_number_serve()
+    ensures { PartitionsByNumberServe }
+{}
+
 /// Each view offers what its kind has as a listing, where its tables meet its structure and it has what the kind asks.
 pub fn views_offer()
     ensures { ViewsOffer }
 {}
 
-/// What is picked out of any term is looked up: of views of functions, of literals, of other functions, and of matrices whose form tells
-/// the index domain.
+/// What is picked out of any term is looked up: of views of functions, of literals, of other functions, and of views of matrices,
+/// at any depth.
 pub fn terms_are_looked_up()
     ensures { TermsAreLookedUp }
 {}
