@@ -13,6 +13,8 @@ pub mod PartyRules
 pub mod TogetherNumbers
 pub mod TogetherTerms
 pub mod TogetherRule
+-- Parts as lookups
+pub mod PartyLookup
 -- Items of matrices
 pub mod MatrixItems
 -- Listings and lookups

@@ -30,6 +30,7 @@ use Rattle.ess_rules_laws.proofs.LookedContainers.{looked-alternative, through_e
 use Rattle.ess_kind_rules_laws.specs.TermLookups.{picks, picked_within, view_item_lookup, domain_list_lookup, party_lookup, names_of_argument, function_view_lookup, one_lookup, looked_up_alone, looked_up}
 use Rattle.ess_kind_rules_laws.specs.KindRules.{asks_truth}
 use Rattle.ess_kinds_kept_laws.proofs.MatrixItems.{view_item-looked}
+use Rattle.ess_kinds_kept_laws.proofs.PartyLookup.{party-looked}
 use Rattle.ess_kinds_kept_laws.specs.LookupAsks.{OrAsks, FunctionAsks, OneAsks, AloneAsks, FitsWithin, LookupAsks, TermsAreLookedUp}
 
 no : {A : Type 0} → false ≡ true → A
@@ -74,7 +75,7 @@ module _ (g : Names Ty) (x : Text) (zs : List Text) (e : Ex) (env : Env) (t : Ty
   one-looked l q c = or-asked (function_view_lookup x (names_of_argument zs e) e) _ _ _ R l q c
       (λ a p k. function-view-looked x (names_of_argument zs e) e env m a p k)
       (λ q c. or-asked (view_item_lookup x e) _ _ _ R l q c (λ a p k. view_item-looked x e a p env k m)
-      (λ q c. or-asked (party_lookup x e) _ _ _ R l q c (λ a p k. absurd k)
+      (λ q c. or-asked (party_lookup x e) _ _ _ R l q c (λ a p k. party-looked x e a p env k.0 k.1 m)
       (λ q c. let k = last-asked (function_lookup g x e) (λ l. Unused x e × SoundOperands g e × OperandsThere e env) (Unit {0}) l q c in
       function-looked g x e l q k.0 k.1 env t k.2 m)))
 

@@ -8,6 +8,8 @@ pub mod PartitionAsks
 pub mod ViewAsks
 -- Sizes of functions
 pub mod FunctionAsks
+-- Parts as lookups
+pub mod PartyAsks
 -- Lookups
 pub mod LookupAsks
 -- All rules that read the kind of a view

@@ -20,6 +20,7 @@ use Rattle.ess_rules_laws.specs.Lookups.{Looked}
 use Rattle.ess_rules_laws.specs.AlternativeLookups.{LookedBy, list_lookup, function_literal_lookup, FirstOperandThere}
 use Rattle.ess_kind_rules_laws.specs.TermLookups.{picked_within, view_item_lookup, domain_list_lookup, party_lookup, names_of_argument, function_view_lookup, one_lookup, looked_up_alone, looked_up}
 use Rattle.ess_kind_rules_laws.specs.KindRules.{asks_truth}
+use Rattle.ess_kinds_kept_laws.specs.PartyAsks.{LastParted}
 
 -- P of what is there, else Q.
 abbrev pub OrAsks : {A : Type 0} → Option A → (A → Type 0) → Type 0 → Type 0
@@ -34,12 +35,12 @@ FunctionAsks x zs e env =
     (OrAsks (function_nd_lookup zs e) (λ l. NamesUnused zs e × AppliedThere e env)
     (OrAsks (function_nd_partial_lookup zs e) (λ l. NamesUnused zs e × AppliedThere e env) (Unit {0}))))
 
--- Of one lookup: other functions are there.
+-- Of one lookup: other functions are there, and partitions are such.
 abbrev pub OneAsks : Names Ty → Text → List Text → Ex → Env → Type 0
 OneAsks g x zs e env =
     OrAsks (function_view_lookup x (names_of_argument zs e) e) (λ l. FunctionAsks x (names_of_argument zs e) e env)
     (OrAsks (view_item_lookup x e) (λ l. Unused x e)
-    (OrAsks (party_lookup x e) (λ l. ⊥)
+    (OrAsks (party_lookup x e) (λ l. Unused x e × LastParted e env)
     (OrAsks (function_lookup g x e) (λ l. Unused x e × SoundOperands g e × OperandsThere e env) (Unit {0}))))
 
 -- By alternatives: literals are there.
