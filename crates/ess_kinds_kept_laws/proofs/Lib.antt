@@ -22,3 +22,5 @@ pub mod ViewsOffer
 pub mod TermsLookedUp
 -- All rules that read the kind of a view
 pub mod KindRulesKeep
+-- Children of views whose tables are canonical
+pub mod CanonicalChildren

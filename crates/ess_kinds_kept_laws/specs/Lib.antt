@@ -14,3 +14,5 @@ pub mod PartyAsks
 pub mod LookupAsks
 -- All rules that read the kind of a view
 pub mod KindAsks
+-- Children of views whose tables are canonical
+pub mod CanonicalChildren

@@ -5,6 +5,7 @@ ghost use Rattle.ess_kinds_kept_laws.specs.PartitionAsks.{PartitionsByNumberServ
 ghost use Rattle.ess_kinds_kept_laws.specs.FunctionAsks.{FunctionSizesServe};
 ghost use Rattle.ess_kinds_kept_laws.specs.ViewAsks.{ViewsOffer};
 ghost use Rattle.ess_kinds_kept_laws.specs.LookupAsks.{TermsAreLookedUp};
+ghost use Rattle.ess_kinds_kept_laws.specs.CanonicalChildren.{CanonicalChildren};
 ghost use Rattle.ess_kinds_kept_laws.specs.KindAsks.{KindRulesKeep};
 
 /// Sizes and frequencies of views of multisets keep what they rewrite, whatever the kind, and the set of the members is offered. A view in
@@ -39,4 +40,10 @@ pub fn terms_are_looked_up()
 /// Each rule that reads the kind of a view keeps what it rewrites where it has what it counts on, and so does the first one that fires.
 pub fn kind_rules_keep()
     ensures { KindRulesKeep }
+{}
+
+/// Where the cells of a view are canonical, so are those of each child at each place in use, whatever the kind, and they are tidy where the
+/// child's kinds are ones for its domain. So what is asked of the view of a child as which a value is kept follows from canonical tables.
+pub fn canonical_children_serve()
+    ensures { CanonicalChildren }
 {}
