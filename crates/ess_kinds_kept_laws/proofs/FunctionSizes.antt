@@ -23,7 +23,8 @@ use Rattle.ess_rules_laws.proofs.TupleRuns.{tuple_index, axes_over, tuple-parts,
 use Rattle.ess_rules_laws.proofs.SlotSets.{In}
 use Rattle.ess_rules_laws.proofs.SureArguments.{firsts-of}
 use Rattle.ess_rules_laws.specs.FunctionKeys.{is_total_view}
-use Rattle.ess_kind_rules_laws.specs.KindRules.{members_of_first, function_size}
+use Rattle.ess_kind_rules_laws.specs.ViewListings.{members_of_first}
+use Rattle.ess_kind_rules_laws.specs.KindRules.{function_size}
 use Rattle.ess_kinds_kept_laws.specs.FunctionAsks.{FirstBound, FunctionSizeAsks, FunctionSizesServe}
 
 no : {A : Type 0} → false ≡ true → A

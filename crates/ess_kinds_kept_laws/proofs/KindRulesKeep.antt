@@ -40,15 +40,17 @@ use Rattle.ess_views_kept_laws.proofs.MultisetViews.{multiset_member-keeps}
 use Rattle.ess_views_kept_laws.proofs.PartitionViews.{number_of_parts-keeps}
 use Rattle.ess_views_kept_laws.proofs.ParticipantViews.{is_participant-keeps}
 use Rattle.ess_refine_laws.specs.AllRules.{Supply, OfSome}
-use Rattle.ess_kind_rules_laws.specs.ViewListings.{view_listing}
-use Rattle.ess_kind_rules_laws.specs.TermLookups.{looked_up}
-use Rattle.ess_kind_rules_laws.specs.KindRules.{KindRule, cell_of_an_atom, component_of_a_view, truth_in_a_matrix, asked_of_its_child, over_a_view, of_one_view, member_at_a_cell, member_of_a_multiset, argument_with_a_flag, member_of_a_part, size_at_the_marker, size_of_slots, size_of_a_multiset, size_of_a_function, size_of_the_parts, frequency_by_cells, lie_together, party_by_number, truth_at_an_argument, truth_behind_a_flag, of_what_is_picked, picked, view_listed, asks_truth, slots_of_operand, picks, first_picked, over_picked, kind_rewrite, kind_rules, first_of_kinds}
+use Rattle.ess_kind_rules_laws.specs.ViewListings.{slots_of_operand, partitioned_second, view_listing}
+use Rattle.ess_kind_rules_laws.specs.TermLookups.{picks, looked_up}
+use Rattle.ess_kind_rules_laws.specs.KindRules.{KindRule, cell_of_an_atom, component_of_a_view, truth_in_a_matrix, asked_of_its_child, over_a_view, of_one_view, member_at_a_cell, member_of_a_multiset, argument_with_a_flag, member_of_a_part, size_at_the_marker, size_of_slots, size_of_a_multiset, size_of_a_function, size_of_the_parts, frequency_by_cells, lie_together, party_by_number, truth_at_an_argument, truth_behind_a_flag, of_what_is_picked, picked, view_listed, asks_truth, first_picked, over_picked, kind_rewrite, kind_rules, first_of_kinds}
 use Rattle.ess_kinds_kept_laws.specs.LookupAsks.{LookupAsks}
 use Rattle.ess_kinds_kept_laws.specs.KindAsks.{ViewApart, SourceAsks, RootFits, PickedAsks, KindAsks, KindsFit, KindRulesKeep}
 use Rattle.ess_kinds_kept_laws.proofs.CountedMultisets.{size-keeps, frequency-keeps}
 use Rattle.ess_kinds_kept_laws.proofs.FunctionSizes.{function_size-keeps}
+use Rattle.ess_kinds_kept_laws.proofs.PartyRules.{partition_party-keeps}
+use Rattle.ess_kinds_kept_laws.proofs.TogetherRule.{are_together-keeps}
 use Rattle.ess_kinds_kept_laws.proofs.ViewsOffer.{views-offer}
-use Rattle.ess_kinds_kept_laws.proofs.TermsLookedUp.{terms-looked-up}
+use Rattle.ess_kinds_kept_laws.proofs.TermsLookedUp.{unmarked-itself, terms-looked-up}
 
 no : {A : Type 0} → false ≡ true → A
 no h = cc
@@ -103,11 +105,6 @@ flag-keeps s _ f q env c m = cc
 
 -- ---- what is picked
 
-unmarked-itself : (e : Ex) → not (asks_truth e) ≡ true → unmarked e ≡ e
-unmarked-itself (node_ex true op es) h = no h
-unmarked-itself (node_ex false op es) h = refl
-unmarked-itself _ h = refl
-
 abbrev number_or : Option (ℕ × Ex) → ℕ
 number_or None = zero
 number_or (Some p) = p.0
@@ -152,34 +149,34 @@ over-picked s g (node_ex b op es) f q env t u c r m = at (first_picked g 1 es) r
             no-answer w q = cc
 
     at : (o : Option (ℕ × Ex)) → first_picked g 1 es ≡ o →
-        and_then o (λ p. and_then (looked_up g s.third s.other s.parts p.1) (λ l. select_each s.one p.0 l (node_ex b op es))) ≡ Some f →
-        OfSome o (λ p. IsTrue (not (asks_truth p.1)) × LookupAsks g s.third s.other s.parts p.1 env) → At
+        and_then o (λ p. and_then (looked_up g s.third (s.other ∷ s.parts) p.1) (λ l. select_each s.one p.0 l (node_ex b op es))) ≡ Some f →
+        OfSome o (λ p. IsTrue (not (asks_truth p.1)) × LookupAsks g s.third (s.other ∷ s.parts) p.1 env) → At
     at None p q c = cc
     at (Some (k, a)) p q c = let n = picked-nth g 0 es k a p in
-        go (looked_up g s.third s.other s.parts a) refl q
+        go (looked_up g s.third (s.other ∷ s.parts) a) refl q
         (ap (nth es) (n.1 ∙ (let z : suc (0 + n.0) ≡ suc n.0 = omega arith in z)) ∙ n.2)
       where
-        go : (o : Option (List Alternative)) → looked_up g s.third s.other s.parts a ≡ o →
+        go : (o : Option (List Alternative)) → looked_up g s.third (s.other ∷ s.parts) a ≡ o →
             and_then o (λ l. select_each s.one k l (node_ex b op es)) ≡ Some f → nth es k ≡ Some a → At
         go None y q n = cc
         go (Some l) y q n = made k a l n q (λ h. subst (λ z. LookedBy z l env) (unmarked-itself a c.0)
-            (terms-looked-up.by_alternatives g s.third s.other s.parts a l y env t c.1 h))
+            (terms-looked-up.at_any_depth g s.third (s.other ∷ s.parts) a l y env t c.1 h))
 over-picked s g _ f q env t u c r m = cc
 
 scalar-keeps : (s : Supply) (g : Names Ty) (e f : Ex) →
-    and_then (looked_up g s.third s.other s.parts e) (λ l. select_whole_each s.one l e) ≡ Some f → (env : Env) → Typed g env →
-    LookupAsks g s.third s.other s.parts e env → RootFits e env → Keeps e f env
-scalar-keeps s g e f q env t c r m = go (looked_up g s.third s.other s.parts e) refl q
+    and_then (looked_up g s.third (s.other ∷ s.parts) e) (λ l. select_whole_each s.one l e) ≡ Some f → (env : Env) → Typed g env →
+    LookupAsks g s.third (s.other ∷ s.parts) e env → RootFits e env → Keeps e f env
+scalar-keeps s g e f q env t c r m = go (looked_up g s.third (s.other ∷ s.parts) e) refl q
   where
     whole : (e : Ex) (l : List Alternative) → select_whole_each s.one l e ≡ Some f → LookedBy (unmarked e) l env → RootFits e env →
         Keeps e f env
     whole (node_ex b op es) l q k r = select_whole_each-keeps s.one l (node_ex b op es) f q env (k, r)
     whole _ l q k r = cc
 
-    go : (o : Option (List Alternative)) → looked_up g s.third s.other s.parts e ≡ o →
+    go : (o : Option (List Alternative)) → looked_up g s.third (s.other ∷ s.parts) e ≡ o →
         and_then o (λ l. select_whole_each s.one l e) ≡ Some f → (meaning e env ≡ meaning f env) × Meets f env
     go None p q = cc
-    go (Some l) p q = whole e l q (terms-looked-up.by_alternatives g s.third s.other s.parts e l p env t c m) r m
+    go (Some l) p q = whole e l q (terms-looked-up.at_any_depth g s.third (s.other ∷ s.parts) e l p env t c m) r m
 
 -- ---- each rule
 
@@ -202,14 +199,14 @@ each-keeps s g size_of_a_multiset e f q env t c = size-keeps s.one (slots_of_ope
 each-keeps s g size_of_a_function e f q env t c = function_size-keeps e f q env c
 each-keeps s g size_of_the_parts e f q env t c = number_of_parts-keeps e f q env
 each-keeps s g frequency_by_cells e f q env t c = frequency-keeps s.one (slots_of_operand e) e f q c.0 env c.1 c.2
-each-keeps s g lie_together e f q env t c = absurd c
-each-keeps s g party_by_number e f q env t c = absurd c
+each-keeps s g lie_together e f q env t c = are_together-keeps s.one s.other (partitioned_second e) e f q env c.0 c.1 c.2 c.3
+each-keeps s g party_by_number e f q env t c = partition_party-keeps (partitioned_second e) e f q env c
 each-keeps s g truth_at_an_argument e f q env t c =
     result_at_argument-keeps e f (under-test (asks_truth e) (result_at_argument e) f q).1 env c
 each-keeps s g truth_behind_a_flag e f q env t c = flag-keeps s e f q env c
 each-keeps s g of_what_is_picked e f q env t c = over-picked s g e f q env t c.0 c.1 c.2
 each-keeps s g picked e f q env t c = scalar-keeps s g e f (under-test (picks e && not (is_parted (type_of e g)))
-    (and_then (looked_up g s.third s.other s.parts e) (λ l. select_whole_each s.one l e)) f q).1 env t c.0 c.1
+    (and_then (looked_up g s.third (s.other ∷ s.parts) e) (λ l. select_whole_each s.one l e)) f q).1 env t c.0 c.1
 
 -- The first that fires.
 first-keeps : (s : Supply) (g : Names Ty) (rs : List KindRule) (e f : Ex) → first_of_kinds s g rs e ≡ Some f → (env : Env) → Typed g env →

@@ -4,9 +4,23 @@ pub mod SlottedViews
 pub mod SlottedRules
 pub mod SlottedListings
 pub mod CountedMultisets
-pub mod ViewsOffer
+-- Sizes of functions
 pub mod FunctionSizes
-pub mod TermsLookedUp
-pub mod KindRulesKeep
+-- Partitions by numbers
 pub mod PartNumbering
 pub mod NumberingView
+pub mod PartyRules
+pub mod TogetherNumbers
+pub mod TogetherTerms
+pub mod TogetherRule
+-- Parts as lookups
+pub mod PartyLookup
+-- Items of matrices
+pub mod MatrixItems
+-- Listings and lookups
+pub mod ViewsOffer
+pub mod TermsLookedUp
+-- All rules that read the kind of a view
+pub mod KindRulesKeep
+-- Children of views whose tables are canonical
+pub mod CanonicalChildren

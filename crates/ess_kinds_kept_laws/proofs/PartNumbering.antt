@@ -73,7 +73,8 @@ once-there (x ∷ xs) d v h = go (same x v) refl h (once-there xs d.1 v)
     go true s h r = ap suc (none-there xs v (ap (holds xs) (sym (same-equal x v s)) ∙ d.0))
     go false s h r = r h
 
-all-same : (f g : Value → Bool) (xs ys : List Value) → ((v : Value) → holds ys v ≡ true → f v ≡ g v) →
+-- Tests that agree on a list hold of the same lists within it.
+pub all-same : (f g : Value → Bool) (xs ys : List Value) → ((v : Value) → holds ys v ≡ true → f v ≡ g v) →
     ((v : Value) → holds xs v ≡ true → holds ys v ≡ true) → list_all f xs ≡ list_all g xs
 all-same f g [] ys h s = refl
 all-same f g (x ∷ xs) ys h s = ap (λ b. b && list_all f xs) (h x (s x (ap (λ b. b || holds xs x) (same-itself x))))
@@ -100,7 +101,8 @@ any-sorted f xs = both-ways (list_any f (sorted_once xs)) (list_any f xs)
     (λ h. let t = found-value f (sorted_once xs) h in any-held f xs t.0 (sym (holds-sorted_once xs t.0) ∙ t.1) t.2)
     (λ h. let t = found-value f xs h in any-held f (sorted_once xs) t.0 (holds-sorted_once xs t.0 ∙ t.1) t.2)
 
-any-each : (f g : ℤ → Bool) (ks : List ℤ) → ((k : ℤ) → f k ≡ g k) → list_any f ks ≡ list_any g ks
+-- Tests that agree.
+pub any-each : (f g : ℤ → Bool) (ks : List ℤ) → ((k : ℤ) → f k ≡ g k) → list_any f ks ≡ list_any g ks
 any-each f g [] h = refl
 any-each f g (k ∷ ks) h = ap (λ b. b || list_any f ks) (h k) ∙ ap (λ b. g k || b) (any-each f g ks h)
 
@@ -140,6 +142,10 @@ module _ (xs : List Value) (w : Value → ℤ) (c : ℕ) where
         (n, refl, omega (arith, ints), omega (arith, ints))
     in-range (negsuc n) h =
         let a = le-is (pos 1) (negsuc n) (and-left (int_le (pos 1) (negsuc n)) (int_le (negsuc n) (pos c)) h) in absurd (omega (arith, ints))
+
+    -- The number of a member is that of a part.
+    pub number-of : (v : Value) → holds xs v ≡ true → (n : ℕ) × (w v ≡ pos n) × (1 ≤ n) × (n < 1 + c)
+    number-of v h = in-range (w v) (all-holds (λ x. is_part_number c (w x)) xs v (sym (all-map (is_part_number c) w xs) ∙ ranged) h)
 
     -- The part of a member is one of them.
     pub own-part : (v : Value) → holds xs v ≡ true → holds Parts (Part (w v)) ≡ true

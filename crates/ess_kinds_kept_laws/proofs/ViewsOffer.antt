@@ -26,8 +26,10 @@ use Rattle.ess_views_kept_laws.specs.ChildrenKept.{KnownChild}
 use Rattle.ess_views_kept_laws.proofs.AskedChildren.{child-listed}
 use Rattle.ess_views_kept_laws.proofs.MultisetListing.{occurrence_members-offered}
 use Rattle.ess_views_kept_laws.proofs.RepetitionListing.{repetition_members-offered}
-use Rattle.ess_kind_rules_laws.specs.ViewListings.{dom_seen, slots_seen, dummy_of_members, occurrences_of, kept_listing, listing_of, view_listing}
+use Rattle.ess_kind_rules_laws.specs.ViewListings.{dom_seen, slots_seen, dummy_of_members, occurrences_of, partitioned, names_for, matrix_listing, kept_listing, listing_of, view_listing}
 use Rattle.ess_kinds_kept_laws.specs.ViewAsks.{ListingAsks, ViewAsks, ViewsOffer}
+use Rattle.ess_kinds_kept_laws.proofs.MatrixItems.{matrix-listed}
+use Rattle.ess_kinds_kept_laws.proofs.PartyRules.{partition_parts-offered}
 use Rattle.ess_kinds_kept_laws.proofs.CountedMultisets.{once-offered, counted-offered}
 
 -- What is offered in order is offered.
@@ -59,15 +61,19 @@ module _ (x y : Text) (zs : List Text) (v : Ex) (env : Env) (m : Meets v env) wh
   by-kind ReprKind.Function1D h = in-order (listing_of ReprKind.Function1D x y zs v) v env (function_1d-listed x v env h.0 m h.1)
   by-kind ReprKind.Function1DPartial h =
       in-order (listing_of ReprKind.Function1DPartial x y zs v) v env (function_1d_partial-listed x v env h.0 m h.1)
-  by-kind ReprKind.FunctionND h = in-order (listing_of ReprKind.FunctionND x y zs v) v env (function_nd-listed zs v env h.0 m h.1)
+  by-kind ReprKind.FunctionND h = in-order (listing_of ReprKind.FunctionND x y zs v) v env (function_nd-listed (names_for zs (dom_seen v)) v env h.0 m h.1)
   by-kind ReprKind.FunctionNDPartial h =
-      in-order (listing_of ReprKind.FunctionNDPartial x y zs v) v env (function_nd_partial-listed zs v env h.0 m h.1)
+      in-order (listing_of ReprKind.FunctionNDPartial x y zs v) v env (function_nd_partial-listed (names_for zs (dom_seen v)) v env h.0 m h.1)
   by-kind ReprKind.FunctionAsRelation h = kept-offered x v env h m
   by-kind ReprKind.RelationAsMatrix h =
-      in-order (listing_of ReprKind.RelationAsMatrix x y zs v) v env (relation_matrix-listed zs v env h.0 m h.1)
+      in-order (listing_of ReprKind.RelationAsMatrix x y zs v) v env (relation_matrix-listed (names_for zs (dom_seen v)) v env h.0 m h.1)
   by-kind ReprKind.RelationAsSet h = kept-offered x v env h m
   by-kind ReprKind.PartitionAsSet h = kept-offered x v env h m
-  by-kind _ h = absurd h
+  by-kind ReprKind.Matrix h = in-order (matrix_listing x v) v env (matrix-listed x v env h m)
+  by-kind ReprKind.PartitionOccurrence h = partition_parts-offered x (partitioned (dom_seen v)) v env h.0 h.1 m h.2
+  by-kind ReprKind.Atom h = tt
+  by-kind ReprKind.Tuple h = tt
+  by-kind ReprKind.Rec h = tt
 
 view-offered : (x y : Text) (zs : List Text) (e : Ex) (env : Env) → ViewAsks x y zs e env → Meets e env →
     OffersWhereMet (view_listing x y zs e) e env

@@ -23,8 +23,10 @@ use Rattle.ess_views_kept_laws.specs.ItemsKept.{IndexHeld}
 use Rattle.ess_views_kept_laws.specs.ChildrenKept.{KnownChild, asked_view}
 use Rattle.ess_views_kept_laws.specs.MultisetsKept.{LastNumbers}
 use Rattle.ess_refine_laws.specs.AllRules.{Supply, OfSome}
-use Rattle.ess_kind_rules_laws.specs.ViewListings.{view_listing}
-use Rattle.ess_kind_rules_laws.specs.KindRules.{KindRule, cell_of_an_atom, component_of_a_view, truth_in_a_matrix, asked_of_its_child, over_a_view, of_one_view, member_at_a_cell, member_of_a_multiset, argument_with_a_flag, member_of_a_part, size_at_the_marker, size_of_slots, size_of_a_multiset, size_of_a_function, size_of_the_parts, frequency_by_cells, lie_together, party_by_number, truth_at_an_argument, truth_behind_a_flag, of_what_is_picked, picked, asks_truth, slots_of_operand, first_picked, kind_rewrite, kind_rules, first_of_kinds}
+use Rattle.ess_kind_rules_laws.specs.ViewListings.{slots_of_operand, partitioned_second, view_listing}
+use Rattle.ess_kind_rules_laws.specs.KindRules.{KindRule, cell_of_an_atom, component_of_a_view, truth_in_a_matrix, asked_of_its_child, over_a_view, of_one_view, member_at_a_cell, member_of_a_multiset, argument_with_a_flag, member_of_a_part, size_at_the_marker, size_of_slots, size_of_a_multiset, size_of_a_function, size_of_the_parts, frequency_by_cells, lie_together, party_by_number, truth_at_an_argument, truth_behind_a_flag, of_what_is_picked, picked, asks_truth, first_picked, kind_rewrite, kind_rules, first_of_kinds}
+use Rattle.ess_kinds_kept_laws.specs.NewNames.{TwoNew}
+use Rattle.ess_kinds_kept_laws.specs.PartitionAsks.{PartyAsks, TogetherAsks}
 use Rattle.ess_kinds_kept_laws.specs.MultisetAsks.{SizeAsks, FrequencyAsks}
 use Rattle.ess_kinds_kept_laws.specs.FunctionAsks.{FunctionSizeAsks}
 use Rattle.ess_kinds_kept_laws.specs.ViewAsks.{ViewAsks}
@@ -53,7 +55,7 @@ RootFits e env = Unit {0}
 -- The first operand that picks a compound value isn't read as Boolean, and has what its lookup asks.
 abbrev pub PickedAsks : Supply → Names Ty → Ex → Env → Type 0
 PickedAsks s g (node_ex b op es) env = OfSome (first_picked g 1 es)
-    (λ p. IsTrue (not (asks_truth p.1)) × LookupAsks g s.third s.other s.parts p.1 env)
+    (λ p. IsTrue (not (asks_truth p.1)) × LookupAsks g s.third (s.other ∷ s.parts) p.1 env)
 PickedAsks s g e env = Unit {0}
 
 -- ---- each rule
@@ -76,12 +78,13 @@ KindAsks s g size_of_a_multiset e env = Unused s.one e × SizeAsks (slots_of_ope
 KindAsks s g size_of_a_function e env = FunctionSizeAsks e env
 KindAsks s g size_of_the_parts e env = Unit {0}
 KindAsks s g frequency_by_cells e env = Unused s.one e × OperandsThere e env × FrequencyAsks (slots_of_operand e) e env
-KindAsks s g lie_together e env = ⊥
-KindAsks s g party_by_number e env = ⊥
+KindAsks s g lie_together e env = TwoNew s.one s.other e × Unused s.one (partitioned_second e) × OperandsThere e env
+    × TogetherAsks (partitioned_second e) e env
+KindAsks s g party_by_number e env = PartyAsks (partitioned_second e) e env
 KindAsks s g truth_at_an_argument e env = ArgumentHeld e env
 KindAsks s g truth_behind_a_flag e env = ArgumentTold e env
 KindAsks s g of_what_is_picked e env = Unused s.one e × PickedAsks s g e env × RootFits e env
-KindAsks s g picked e env = LookupAsks g s.third s.other s.parts e env × RootFits e env
+KindAsks s g picked e env = LookupAsks g s.third (s.other ∷ s.parts) e env × RootFits e env
 
 -- Each rule that fires has what it counts on.
 abbrev pub KindsFit : Supply → Names Ty → List KindRule → Ex → Env → Type 0

@@ -1,11 +1,16 @@
 -- What is asked of views of partitions that are kept by the number of each member's part.
 use Rattle.std.specs.Prelude.{◌≡◌, ℕ, List, length, nat_le, Some, IsTrue, pos}
-use Rattle.ess_semantics.specs.Values.{Value, number, items_of, itself}
+use Rattle.ess_semantics.specs.Values.{Text, Value, number, items_of, itself}
 use Rattle.ess_semantics.specs.Collections.{holds, no_twice}
 use Rattle.ess_semantics.specs.Trees.{Ex, node_ex, seen_ex, no_exs, more_exs, Dom, partition_dom}
 use Rattle.ess_semantics.specs.Tables.{code}
 use Rattle.ess_semantics.specs.Meaning.{Env, meaning, domain_of, members_in}
 use Rattle.ess_semantics.specs.Meets.{Meets}
+use Rattle.ess_rules_laws.specs.Rules.{Unused, OperandsThere}
+use Rattle.ess_rules_laws.specs.SlotListings.{OffersWhereMet}
+use Rattle.ess_views_laws.specs.PartitionViews.{partition_parts, partition_party, are_together}
+use Rattle.ess_kinds_kept_laws.specs.NewNames.{TwoNew}
+use Rattle.ess_semantics.specs.Kept.{Keeps}
 
 -- The expression says a number that the partition has no more parts than, and the tables meet its structures.
 pub record NumbersEnough (n v : Ex) (env : Env) : Type 0 where
@@ -41,3 +46,11 @@ PartyAsks n e env = Unit {0}
 abbrev pub TogetherAsks : Ex → Ex → Env → Type 0
 TogetherAsks n (node_ex b op (more_exs s (more_exs v no_exs))) env = NumbersEnough n v env × SetTold s v env
 TogetherAsks n e env = Unit {0}
+
+-- So they keep their meaning, and the parts are listed.
+pub record PartitionsByNumberServe : Type 0 where
+  pub parties : (n e f : Ex) → partition_party n e ≡ Some f → (env : Env) → PartyAsks n e env → Keeps e f env
+  pub together : (x y : Text) (n e f : Ex) → are_together x y n e ≡ Some f → (env : Env) → TwoNew x y e → Unused x n →
+      OperandsThere e env → TogetherAsks n e env → Keeps e f env
+  pub parts_are_listed : (x : Text) (n e : Ex) (env : Env) → Unused x e → Unused x n → Meets e env → NumbersEnough n e env →
+      OffersWhereMet (partition_parts x n e) e env

@@ -17,18 +17,15 @@ use Rattle.ess_rules_laws.specs.FunctionViews.{FirstThere, NamesUnused}
 use Rattle.ess_views_kept_laws.specs.ChildrenKept.{KnownChild}
 use Rattle.ess_views_kept_laws.specs.MultisetsKept.{NumbersMembers}
 use Rattle.ess_views_kept_laws.specs.MultisetsListed.{OftenEnough, MultisetSlotsAre}
-use Rattle.ess_kind_rules_laws.specs.ViewListings.{dom_seen, slots_seen, dummy_of_members, occurrences_of, view_listing}
+use Rattle.ess_kind_rules_laws.specs.ViewListings.{dom_seen, slots_seen, dummy_of_members, occurrences_of, partitioned, names_for, view_listing}
+use Rattle.ess_kinds_kept_laws.specs.NewNames.{TwoNew}
 use Rattle.ess_kinds_kept_laws.specs.MultisetAsks.{OfOnce}
-
--- The names x and y are new, and differ.
-pub record TwoNew (x y : Text) (v : Ex) : Type 0 where
-  pub first : Unused x v
-  pub second : Unused y v
-  pub differ : IsTrue (not (same_text y x))
+use Rattle.ess_kinds_kept_laws.specs.PartitionAsks.{NumbersEnough}
 
 -- What each kind asks. The sizes of the view's domain say how many slots there are, what the dummy is and how often a member may be
 -- there; members of inner domains can be listed; the child of a value that is kept as another one stands for a member of its domain.
 abbrev pub ListingAsks : ReprKind → Text → Text → List Text → Ex → Env → Type 0
+ListingAsks ReprKind.Matrix x y zs v env = Unused x v
 ListingAsks ReprKind.Occurrence x y zs v env = Unused x v × InnerThere v env
 ListingAsks ReprKind.Explicit x y zs v env = Unused x v × SlotsAre (slots_seen v) v env
 ListingAsks ReprKind.ExplicitVarSizeWithMarker x y zs v env = Unused x v × SlotsAre (slots_seen v) v env
@@ -43,13 +40,15 @@ ListingAsks ReprKind.MSetExplicitWithFlags x y zs v env =
     × OftenEnough (occurrences_of (dom_seen v)) v env
 ListingAsks ReprKind.Function1D x y zs v env = Unused x v × FirstThere v env
 ListingAsks ReprKind.Function1DPartial x y zs v env = Unused x v × FirstThere v env
-ListingAsks ReprKind.FunctionND x y zs v env = NamesUnused zs v × FirstThere v env
-ListingAsks ReprKind.FunctionNDPartial x y zs v env = NamesUnused zs v × FirstThere v env
+ListingAsks ReprKind.FunctionND x y zs v env = NamesUnused (names_for zs (dom_seen v)) v × FirstThere v env
+ListingAsks ReprKind.FunctionNDPartial x y zs v env = NamesUnused (names_for zs (dom_seen v)) v × FirstThere v env
 ListingAsks ReprKind.FunctionAsRelation x y zs v env = KnownChild v env
-ListingAsks ReprKind.RelationAsMatrix x y zs v env = NamesUnused zs v × TuplesThere v env
+ListingAsks ReprKind.RelationAsMatrix x y zs v env = NamesUnused (names_for zs (dom_seen v)) v × TuplesThere v env
 ListingAsks ReprKind.RelationAsSet x y zs v env = KnownChild v env
 ListingAsks ReprKind.PartitionAsSet x y zs v env = KnownChild v env
-ListingAsks k x y zs v env = ⊥
+ListingAsks ReprKind.PartitionOccurrence x y zs v env =
+    Unused x v × Unused x (partitioned (dom_seen v)) × NumbersEnough (partitioned (dom_seen v)) v env
+ListingAsks k x y zs v env = Unit {0}
 
 -- The same of a view, and of the set of a multiset's members.
 abbrev pub ViewAsks : Text → Text → List Text → Ex → Env → Type 0

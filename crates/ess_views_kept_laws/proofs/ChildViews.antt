@@ -181,7 +181,7 @@ abbrev KeptAnswer : Option Ex → Ex → Env → Type 0
 KeptAnswer None e env = Unit {0}
 KeptAnswer (Some c) e env = ChildKnown e c env → Meets e env → KeptChild e c env
 
-relation-parts : (a : Option (List Attribute)) (p : Option Domains) (d : Domain) →
+pub relation-parts : (a : Option (List Attribute)) (p : Option Domains) (d : Domain) →
     and_then a (λ ks. option_map (relations ks) p) ≡ Some d → (ks : List Attribute) × (ds : Domains) × (d ≡ relations ks ds)
 relation-parts None p d q = cc
 relation-parts (Some ks) None d q = cc
@@ -194,7 +194,7 @@ partition-parts None p d q = cc
 partition-parts (Some ks) None d q = cc
 partition-parts (Some ks) (Some x) d q = (ks, x, sym (let z : partitions ks x ≡ d = cc in z), refl)
 
-function-parts : (a : Option (List Attribute)) (o p : Option Domain) (d : Domain) →
+pub function-parts : (a : Option (List Attribute)) (o p : Option Domain) (d : Domain) →
     and_then a (λ ks. and_then o (λ x. option_map (functions ks x) p)) ≡ Some d →
     (ks : List Attribute) × (x : Domain) × (y : Domain) × (d ≡ functions ks x y)
 function-parts None o p d q = cc

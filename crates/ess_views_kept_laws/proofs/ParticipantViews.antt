@@ -28,7 +28,7 @@ use Rattle.ess_views_kept_laws.proofs.OpenedViews.{opened, opened-means, opened-
 use Rattle.ess_views_kept_laws.proofs.ChildViews.{partition-parts}
 
 -- Lists that are told equal are.
-list-equal : (xs ys : List Value) → same_list xs ys ≡ true → xs ≡ ys
+pub list-equal : (xs ys : List Value) → same_list xs ys ≡ true → xs ≡ ys
 list-equal xs ys h = sym (to_list-of_list xs)
     ∙ ap to_list (orders_exact (of_list xs) (of_list ys) (equal-of (orders (of_list xs) (of_list ys)) h)) ∙ to_list-of_list ys
 

@@ -35,7 +35,7 @@ no : {A : Type 0} → false ≡ true → A
 no h = cc
 
 -- What is collected behind a test of numbers is collected over those that pass it.
-collect-picked : (t : ℤ → Bool) (G H : Value → Option (List Value)) →
+pub collect-picked : (t : ℤ → Bool) (G H : Value → Option (List Value)) →
     ((k : ℤ) → G (number k) ≡ where_true (Some (truth (t k))) (λ u. H (number k))) → (ks : List ℤ) →
     collect (map number ks) G ≡ collect (map number (filter t ks)) H
 collect-picked t G H h [] = refl
@@ -51,7 +51,7 @@ collect-picked t G H h (k ∷ ks) = go (t k) (h k) (collect-picked t G H h ks)
         ∙ append-none (collect (map number ks) G) ∙ r
 
 -- What holds of the numbers that pass a test holds of each number behind the test.
-each-picked : (t : ℤ → Bool) (P Q : Value → Type 0) → ((k : ℤ) → (t k ≡ true → P (number k)) → Q (number k)) → (ks : List ℤ) →
+pub each-picked : (t : ℤ → Bool) (P Q : Value → Type 0) → ((k : ℤ) → (t k ≡ true → P (number k)) → Q (number k)) → (ks : List ℤ) →
     Each (map number (filter t ks)) P → Each (map number ks) Q
 each-picked t P Q f [] a = tt
 each-picked t P Q f (k ∷ ks) a = go (t k) refl a (λ z. each-picked t P Q f ks z)
