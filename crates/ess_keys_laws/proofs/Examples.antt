@@ -1,0 +1,91 @@
+-- Worked examples of plain keys.
+use Rattle.std.proofs.Common.{◌≡◌, refl, true, false, codes}
+use Rattle.ess_semantics.specs.declared.words.Op2.{Op2}
+use Rattle.ess_semantics.specs.declared.words.Fun.{Fun}
+use Rattle.ess_semantics.specs.Values.{Text}
+use Rattle.ess_semantics.specs.Trees.{matrix_literal, name_pat, Ex, truth_ex, node_ex, comp_ex, cell_ex, no_exs, more_exs, Gens, no_gens, over, cond, Dom, bool_dom, ex2, fun1}
+use Rattle.ess_semantics.proofs.Shorthands.{N, n, es1, upto, range}
+use Rattle.ess_keys_laws.specs.Keyed.{nothing_around, keyed}
+
+abbrev x : Ex
+x = N (codes "x")
+
+abbrev j : Ex
+j = N (codes "j")
+
+abbrev k : Ex
+k = N (codes "k")
+
+abbrev Over : Text → Dom → Gens → Gens
+Over a d gs = over (name_pat a) d gs
+
+-- f[e], a number, and s[e], a truth value
+abbrev f : Ex → Ex
+f e = cell_ex false (codes "f") (es1 e)
+
+abbrev s : Ex → Ex
+s e = cell_ex true (codes "s") (es1 e)
+
+abbrev equal : Ex → Ex → Ex
+equal a b = ex2 true Op2.Eq a b
+
+abbrev sum : Ex → Gens → Ex
+sum e gs = fun1 false Fun.Sum (comp_ex e gs)
+
+-- int(1..m), where m is a size that is given
+abbrev up_to_m : Dom
+up_to_m = range (n 1) (cell_ex false (codes "m") no_exs)
+
+-- ---- truth values as indices
+
+-- `s[true]` is `s[1]`, `s[b]` for a b over bool `s[toInt(b)]`, and `s[s[1]]` is `s[toInt(s[1])]`.
+literal_index : keyed nothing_around (s (truth_ex true)) ≡ s (n 1)
+literal_index = refl
+
+bound_index : keyed nothing_around (sum (f x) (Over (codes "x") bool_dom no_gens))
+    ≡ sum (f (fun1 false Fun.ToInt x)) (Over (codes "x") bool_dom no_gens)
+bound_index = refl
+
+cell_index : keyed nothing_around (s (s (n 1))) ≡ s (fun1 false Fun.ToInt (s (n 1)))
+cell_index = refl
+
+-- A number stays, and so does a name over numbers.
+number_index : keyed nothing_around (sum (f x) (Over (codes "x") up_to_m no_gens)) ≡ sum (f x) (Over (codes "x") up_to_m no_gens)
+number_index = refl
+
+-- ---- keys
+
+-- `allDiff([sum([f[j] | j : int(1..m), j = x]) | x : int(1..m)])` is `allDiff([f[x] | x : int(1..m)])`.
+looked_up : keyed nothing_around
+    (fun1 true Fun.AllDiff (comp_ex (sum (f j) (Over (codes "j") up_to_m (cond (equal j x) no_gens))) (Over (codes "x") up_to_m no_gens)))
+    ≡ fun1 true Fun.AllDiff (comp_ex (f x) (Over (codes "x") up_to_m no_gens))
+looked_up = refl
+
+-- The equation may stand the other way round, and conditions before it stay: `or([s[j] | j : int(1..3), s[j], 2 = j])` is `s[2] /\ s[2]`.
+turned : keyed nothing_around (fun1 true Fun.Or (comp_ex (s j) (Over (codes "j") (upto 3) (cond (s j) (cond (equal (n 2) j) no_gens)))))
+    ≡ ex2 true Op2.And (s (n 2)) (s (n 2))
+turned = refl
+
+-- Two keys of a pair, in one conjunction.
+pair : keyed nothing_around
+    (sum (sum (f j) (Over (codes "j") (upto 3) (Over (codes "k") (upto 4) (cond (ex2 true Op2.And (equal j x) (equal k (n 4))) no_gens))))
+    (Over (codes "x") (upto 2) no_gens))
+    ≡ sum (f x) (Over (codes "x") (upto 2) no_gens)
+pair = refl
+
+-- Of two names that are equal the later one goes, where the domain of the other lies in its own.
+later : keyed nothing_around (sum (f k) (Over (codes "j") (upto 3) (Over (codes "k") (upto 4) (cond (equal j k) no_gens))))
+    ≡ sum (f j) (Over (codes "j") (upto 3) no_gens)
+later = refl
+
+-- A key of another domain isn't sure.
+unsure : keyed nothing_around (sum (f j) (Over (codes "j") (upto 3) (cond (equal j (n 4)) no_gens)))
+    ≡ sum (f j) (Over (codes "j") (upto 3) (cond (equal j (n 4)) no_gens))
+unsure = refl
+
+-- A chain: `j : int(1..3), j = x, k : int(1..3), k = j` leaves f[x], here in a list that isn't folded.
+chain : keyed nothing_around
+    (sum (fun1 false Fun.Min (comp_ex (f k) (Over (codes "j") (upto 3) (cond (equal j x) (Over (codes "k") (upto 3) (cond (equal k j) no_gens))))))
+    (Over (codes "x") (upto 2) no_gens))
+    ≡ sum (fun1 false Fun.Min (node_ex false matrix_literal (more_exs (f x) no_exs))) (Over (codes "x") (upto 2) no_gens)
+chain = refl

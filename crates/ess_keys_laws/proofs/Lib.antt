@@ -1,0 +1,11 @@
+-- What forms tell
+pub mod Forms
+pub mod Folds
+-- Keys of generators
+pub mod OneKey
+pub mod AtKey
+pub mod Bound
+pub mod Keying
+pub mod Refined
+-- Worked examples
+mod Examples
