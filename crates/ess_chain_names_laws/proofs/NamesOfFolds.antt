@@ -83,7 +83,8 @@ module _ (u : Text → Bool) where
   pub term : (x : Text) → IsTrue (u x) → (e : Ex) → NamesHave u e → Answers (fold_term x e)
   term x n (fun1 b f l) h = go (is_fold f) (is_laid_open l)
     where
-      go : (c d : Bool) → Answers (if c then (if d then None else Some (fun1 b f (comp_ex (name_ex x) (from (name_pat x) l no_gens)))) else None)
+      go : (c d : Bool) → Answers (if c then (if d then None else Some (fun1 b f (comp_ex (name_ex x) (from (name_pat x) l no_gens))))
+          else None)
       go true true = tt
       go true false = ((n, (n, h.0, tt)), tt)
       go false d = tt

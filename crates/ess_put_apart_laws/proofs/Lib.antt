@@ -1,0 +1,3 @@
+pub mod ToldUses
+pub mod RenewedApart
+mod ExamplesApart

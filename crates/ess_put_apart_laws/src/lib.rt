@@ -1,0 +1,4 @@
+//! Sources told apart anew, and what stands behind them.
+#![tactic(auto)]
+
+pub mod laws;
