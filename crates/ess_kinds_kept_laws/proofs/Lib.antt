@@ -16,6 +16,8 @@ pub mod TogetherRule
 -- Parts as lookups
 pub mod PartyLookup
 -- Items of matrices
+pub mod PlacesBelow
+pub mod DomainItems
 pub mod MatrixItems
 -- Listings and lookups
 pub mod ViewsOffer
