@@ -126,8 +126,8 @@ place-found (u ∷ us) (v ∷ vs) w r n h k = go (same u w) refl h
         at_place (v ∷ vs) k (k + below_count (u ∷ us) w) ≡ found (if b then Some v else item_at (of_list us) (of_list vs) w)
     go true e h f = let q : u ≡ w = same-equal u w e in
         let c : below_count (u ∷ us) w ≡ 0 = ap (below_count (u ∷ us)) (sym q)
-            ∙ ap (λ b. if b then suc (below_count us u) else below_count us u) (never-below-itself u)
-            ∙ none-below u us r us (λ v h. h) in
+        ∙ ap (λ b. if b then suc (below_count us u) else below_count us u) (never-below-itself u)
+        ∙ none-below u us r us (λ v h. h) in
         let z : k + below_count (u ∷ us) w ≡ k = ap (λ m. k + m) c ∙ (let y : k + 0 ≡ k = omega arith in y) in
         ap (at_place (v ∷ vs) k) z ∙ ap (λ b. (if b then v ∷ [] else []) ++ at_place vs (suc k) k) (same-place k)
         ∙ ap (λ l. v ∷ l) (none-later vs (suc k) k (omega arith))

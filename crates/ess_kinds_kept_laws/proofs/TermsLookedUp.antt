@@ -38,7 +38,7 @@ no : {A : Type 0} → false ≡ true → A
 no h = cc
 
 -- The first of two that is there.
-or-asked : {A : Type 0} (o p : Option A) (P : A → Type 0) (Q : Type 0) (R : A → Type 0) (l : A) → or_else o p ≡ Some l → OrAsks o P Q →
+pub or-asked : {A : Type 0} (o p : Option A) (P : A → Type 0) (Q : Type 0) (R : A → Type 0) (l : A) → or_else o p ≡ Some l → OrAsks o P Q →
     ((a : A) → o ≡ Some a → P a → R a) → (p ≡ Some l → Q → R l) → R l
 or-asked None p P Q R l q c f h = h q c
 or-asked (Some a) p P Q R l q c f h = subst R (let e : a ≡ l = cc in e) (f a refl c)
