@@ -1,3 +1,5 @@
+-- Worked examples
+mod ExamplesKindAsks
 -- Multisets in slots with numbers
 pub mod SlottedNumbers
 pub mod SlottedViews
@@ -16,7 +18,11 @@ pub mod TogetherRule
 -- Parts as lookups
 pub mod PartyLookup
 -- Items of matrices
+pub mod PlacesBelow
+pub mod DomainItems
 pub mod MatrixItems
+-- Rules behind generators
+pub mod UnorderedTails
 -- Listings and lookups
 pub mod ViewsOffer
 pub mod TermsLookedUp

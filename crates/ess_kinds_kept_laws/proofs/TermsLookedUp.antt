@@ -30,6 +30,7 @@ use Rattle.ess_rules_laws.proofs.LookedContainers.{looked-alternative, through_e
 use Rattle.ess_kind_rules_laws.specs.TermLookups.{picks, picked_within, view_item_lookup, domain_list_lookup, party_lookup, names_of_argument, function_view_lookup, one_lookup, looked_up_alone, looked_up}
 use Rattle.ess_kind_rules_laws.specs.KindRules.{asks_truth}
 use Rattle.ess_kinds_kept_laws.proofs.MatrixItems.{view_item-looked}
+use Rattle.ess_kinds_kept_laws.proofs.DomainItems.{domain_list-looked}
 use Rattle.ess_kinds_kept_laws.proofs.PartyLookup.{party-looked}
 use Rattle.ess_kinds_kept_laws.specs.LookupAsks.{OrAsks, FunctionAsks, OneAsks, AloneAsks, FitsWithin, LookupAsks, TermsAreLookedUp}
 
@@ -37,7 +38,7 @@ no : {A : Type 0} → false ≡ true → A
 no h = cc
 
 -- The first of two that is there.
-or-asked : {A : Type 0} (o p : Option A) (P : A → Type 0) (Q : Type 0) (R : A → Type 0) (l : A) → or_else o p ≡ Some l → OrAsks o P Q →
+pub or-asked : {A : Type 0} (o p : Option A) (P : A → Type 0) (Q : Type 0) (R : A → Type 0) (l : A) → or_else o p ≡ Some l → OrAsks o P Q →
     ((a : A) → o ≡ Some a → P a → R a) → (p ≡ Some l → Q → R l) → R l
 or-asked None p P Q R l q c f h = h q c
 or-asked (Some a) p P Q R l q c f h = subst R (let e : a ≡ l = cc in e) (f a refl c)
@@ -92,7 +93,7 @@ module _ (g : Names Ty) (x : Text) (zs : List Text) (e : Ex) (env : Env) (t : Ty
       LookedBy (unmarked e) l env
   alone-looked y l q c = or-asked (list_lookup e) _ _ _ (λ l. LookedBy (unmarked e) l env) l q c
       (λ a p k. looks-by (list_lookup e) (unmarked e) a env (list-answer e env k m) p)
-      (λ q c. or-asked (domain_list_lookup x e) _ _ _ (λ l. LookedBy (unmarked e) l env) l q c (λ a p k. absurd k)
+      (λ q c. or-asked (domain_list_lookup x e) _ _ _ (λ l. LookedBy (unmarked e) l env) l q c (λ a p k. domain_list-looked x e a p env k.0 k.1 m)
       (λ q c. or-asked (function_literal_lookup e) _ _ _ (λ l. LookedBy (unmarked e) l env) l q c
       (λ a p k. looks-by (function_literal_lookup e) (unmarked e) a env (function_literal-answer e env k m) p)
       (λ q c. one-by y l q c)))

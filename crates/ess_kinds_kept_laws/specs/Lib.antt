@@ -12,6 +12,8 @@ pub mod FunctionAsks
 pub mod PartyAsks
 -- Lookups
 pub mod LookupAsks
+-- Rules behind generators
+pub mod UnorderedTails
 -- All rules that read the kind of a view
 pub mod KindAsks
 -- Children of views whose tables are canonical

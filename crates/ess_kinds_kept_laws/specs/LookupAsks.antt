@@ -47,7 +47,7 @@ OneAsks g x zs e env =
 abbrev pub AloneAsks : Names Ty → Text → List Text → Ex → Env → Type 0
 AloneAsks g x zs e env =
     OrAsks (list_lookup e) (λ l. FirstOperandThere e env)
-    (OrAsks (domain_list_lookup x e) (λ l. ⊥)
+    (OrAsks (domain_list_lookup x e) (λ l. Unused x e × FirstOperandThere e env)
     (OrAsks (function_literal_lookup e) (λ l. FirstOperandThere e env) (OneAsks g x zs e env)))
 
 -- Where the term within is there the root has a value that fits its place.

@@ -5,6 +5,7 @@ ghost use Rattle.ess_kinds_kept_laws.specs.PartitionAsks.{PartitionsByNumberServ
 ghost use Rattle.ess_kinds_kept_laws.specs.FunctionAsks.{FunctionSizesServe};
 ghost use Rattle.ess_kinds_kept_laws.specs.ViewAsks.{ViewsOffer};
 ghost use Rattle.ess_kinds_kept_laws.specs.LookupAsks.{TermsAreLookedUp};
+ghost use Rattle.ess_kinds_kept_laws.specs.UnorderedTails.{UnorderedTails};
 ghost use Rattle.ess_kinds_kept_laws.specs.CanonicalChildren.{CanonicalChildren};
 ghost use Rattle.ess_kinds_kept_laws.specs.KindAsks.{KindRulesKeep};
 
@@ -46,4 +47,10 @@ pub fn kind_rules_keep()
 /// child's kinds are ones for its domain. So what is asked of the view of a child as which a value is kept follows from canonical tables.
 pub fn canonical_children_serve()
     ensures { CanonicalChildren }
+{}
+
+/// What keeps the multiset of the items of a comprehension at each binding of generators keeps any word that forgets order over the
+/// comprehension with these generators before its own: so a rule for the first generator serves at a later one.
+pub fn tails_may_change_their_order()
+    ensures { UnorderedTails }
 {}
