@@ -1,1 +1,2 @@
 pub mod RenewedRules
+mod ExamplesRenewed
