@@ -1,1 +1,3 @@
 pub mod RenewedRules
+pub mod RenewedChains
+mod ExamplesRenewed

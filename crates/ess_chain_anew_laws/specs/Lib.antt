@@ -1,1 +1,2 @@
 pub mod RenewedRules
+pub mod RenewedChains
