@@ -1,11 +1,13 @@
 -- What comes of a generator whose name equals a key: what comes at the key.
-use Rattle.std.proofs.Common.{◌≡◌, refl, sym, ap, ◌∙◌, subst, Bool, true, false, ◌&&◌, not, if◌then◌else◌, List, [], ◌∷◌, ◌++◌, Option, Some, None, option_map}
+use Rattle.std.proofs.Common.{◌≡◌, refl, sym, ap, ◌∙◌, subst, Bool, true, false, ◌&&◌, not, if◌then◌else◌, List, [], ◌∷◌, ◌++◌, Option}
+use Rattle.std.proofs.Common.{Some, None, option_map}
 use Rattle.ess_semantics.specs.Lists.{and_then}
 use Rattle.ess_semantics.specs.Values.{Text, Value, itself}
 use Rattle.ess_semantics.specs.Order.{same_text}
 use Rattle.ess_semantics.specs.Names.{Names, look}
 use Rattle.ess_semantics.specs.Collections.{holds, rises}
-use Rattle.ess_semantics.specs.Trees.{name_pat, tuple_pat, Ex, number_ex, truth_ex, name_ex, node_ex, matrix_ex, comp_ex, cell_ex, seen_ex, Gens, no_gens, over, from, cond, Dom}
+use Rattle.ess_semantics.specs.Trees.{name_pat, tuple_pat, Ex, number_ex, truth_ex, name_ex, node_ex, matrix_ex, comp_ex, cell_ex}
+use Rattle.ess_semantics.specs.Trees.{seen_ex, Gens, no_gens, over, from, cond, Dom}
 use Rattle.ess_semantics.specs.Tables.{Table}
 use Rattle.ess_semantics.specs.Meaning.{Env, TypeEntry, meaning, items_under, collect, domain_of, members_in}
 use Rattle.ess_semantics.proofs.Tests.{and-left, and-right}
@@ -46,20 +48,28 @@ none-collect (Some []) b v vs e = absurd (never [] (sym (empty-collect (v ∷ vs
 none-collect (Some (x ∷ xs)) b v vs e = absurd b
 
 -- A key that isn't the name b.
-other-is : (b : Text) (o : Option Ex) (j : Text) (t : Ex) → (o ≡ Some t → is_key j t ≡ true) → other_than b o ≡ Some t → (o ≡ Some t) × (is_key b t ≡ true)
+other-is : (b : Text) (o : Option Ex) (j : Text) (t : Ex) → (o ≡ Some t → is_key j t ≡ true) → other_than b o ≡ Some t
+    → (o ≡ Some t) × (is_key b t ≡ true)
 other-is b None j t f e = cc
 other-is b (Some (number_ex n)) j t f e = (e, subst (λ z. is_key b z ≡ true) (ap (λ o. elim o [ None ↦ number_ex n | Some z ↦ z ]) e) refl)
 other-is b (Some (name_ex a)) j t f e = go (same_text b a) refl e
   where
-    go : (c : Bool) → same_text b a ≡ c → (if c then None else Some (name_ex a)) ≡ Some t → (Some (name_ex a) ≡ Some t) × (is_key b t ≡ true)
+    go : (c : Bool) → same_text b a ≡ c → (if c then None else Some (name_ex a)) ≡ Some t
+        → (Some (name_ex a) ≡ Some t) × (is_key b t ≡ true)
     go true q e = cc
     go false q e = (e, subst (λ z. is_key b z ≡ true) (ap (λ o. elim o [ None ↦ name_ex a | Some z ↦ z ]) e) (ap not q))
-other-is b (Some (truth_ex c)) j t f e = let r = f e in let q : is_key j (truth_ex c) ≡ true = subst (λ z. is_key j z ≡ true) (sym (ap (λ o. elim o [ None ↦ truth_ex c | Some z ↦ z ]) e)) r in cc
-other-is b (Some (node_ex c op es)) j t f e = let r = f e in let q : is_key j (node_ex c op es) ≡ true = subst (λ z. is_key j z ≡ true) (sym (ap (λ o. elim o [ None ↦ node_ex c op es | Some z ↦ z ]) e)) r in cc
-other-is b (Some (matrix_ex es d)) j t f e = let r = f e in let q : is_key j (matrix_ex es d) ≡ true = subst (λ z. is_key j z ≡ true) (sym (ap (λ o. elim o [ None ↦ matrix_ex es d | Some z ↦ z ]) e)) r in cc
-other-is b (Some (comp_ex x gs)) j t f e = let r = f e in let q : is_key j (comp_ex x gs) ≡ true = subst (λ z. is_key j z ≡ true) (sym (ap (λ o. elim o [ None ↦ comp_ex x gs | Some z ↦ z ]) e)) r in cc
-other-is b (Some (cell_ex c n es)) j t f e = let r = f e in let q : is_key j (cell_ex c n es) ≡ true = subst (λ z. is_key j z ≡ true) (sym (ap (λ o. elim o [ None ↦ cell_ex c n es | Some z ↦ z ]) e)) r in cc
-other-is b (Some (seen_ex s d ns es)) j t f e = let r = f e in let q : is_key j (seen_ex s d ns es) ≡ true = subst (λ z. is_key j z ≡ true) (sym (ap (λ o. elim o [ None ↦ seen_ex s d ns es | Some z ↦ z ]) e)) r in cc
+other-is b (Some (truth_ex c)) j t f e = let r = f e in let q : is_key j (truth_ex c) ≡ true =
+    subst (λ z. is_key j z ≡ true) (sym (ap (λ o. elim o [ None ↦ truth_ex c | Some z ↦ z ]) e)) r in cc
+other-is b (Some (node_ex c op es)) j t f e = let r = f e in let q : is_key j (node_ex c op es) ≡ true =
+    subst (λ z. is_key j z ≡ true) (sym (ap (λ o. elim o [ None ↦ node_ex c op es | Some z ↦ z ]) e)) r in cc
+other-is b (Some (matrix_ex es d)) j t f e = let r = f e in let q : is_key j (matrix_ex es d) ≡ true =
+    subst (λ z. is_key j z ≡ true) (sym (ap (λ o. elim o [ None ↦ matrix_ex es d | Some z ↦ z ]) e)) r in cc
+other-is b (Some (comp_ex x gs)) j t f e = let r = f e in let q : is_key j (comp_ex x gs) ≡ true =
+    subst (λ z. is_key j z ≡ true) (sym (ap (λ o. elim o [ None ↦ comp_ex x gs | Some z ↦ z ]) e)) r in cc
+other-is b (Some (cell_ex c n es)) j t f e = let r = f e in let q : is_key j (cell_ex c n es) ≡ true =
+    subst (λ z. is_key j z ≡ true) (sym (ap (λ o. elim o [ None ↦ cell_ex c n es | Some z ↦ z ]) e)) r in cc
+other-is b (Some (seen_ex s d ns es)) j t f e = let r = f e in let q : is_key j (seen_ex s d ns es) ≡ true =
+    subst (λ z. is_key j z ≡ true) (sym (ap (λ o. elim o [ None ↦ seen_ex s d ns es | Some z ↦ z ]) e)) r in cc
 
 -- What a generator before others is asked.
 chosen : (j b : Text) (d : Dom) (o : Option Ex) (t : Ex) → (c : Bool) → not (same_text b j) && is_fixed_dom d ≡ c
@@ -143,7 +153,8 @@ module _ (pl : Bool) (ts : List TypeEntry) (cs : Names Table) where
   of-none j (cond c gs) t g K e n = absurd (never [] n)
 
   -- What comes at all members is what comes at the key.
-  pub at-key : (j : Text) (gs : Gens) (t : Ex) (w : Value) (g : Vals) (K : Env → Option (List Value)) (vs : List Value) → key_of j gs ≡ Some t
+  pub at-key : (j : Text) (gs : Gens) (t : Ex) (w : Value) (g : Vals) (K : Env → Option (List Value)) (vs : List Value)
+      → key_of j gs ≡ Some t
       → meaning t (M g) ≡ Some w → rises itself vs ≡ true → holds vs w ≡ true
       → collect vs (λ v. items_under gs (M ((j, v) ∷ g)) K) ≡ items_under gs (M ((j, w) ∷ g)) K
   at-key j gs t w g K vs e m r h = go (blank gs) refl (is-blank gs)

@@ -1,11 +1,13 @@
 -- Names under what is known around a place: a tree with plain keys is read under values of names of its own.
-use Rattle.std.proofs.Common.{◌≡◌, refl, sym, ap, ◌∙◌, subst, Bool, true, false, ◌||◌, if◌then◌else◌, List, [], ◌∷◌, Option, Some, None, option_map}
+use Rattle.std.proofs.Common.{◌≡◌, refl, sym, ap, ◌∙◌, subst, Bool, true, false, ◌||◌, if◌then◌else◌, List, [], ◌∷◌, Option, Some, None}
+use Rattle.std.proofs.Common.{option_map}
 use Rattle.ess_semantics.specs.Lists.{or_default, list_or_none}
 use Rattle.ess_semantics.specs.Values.{Text, Value, number, itself}
 use Rattle.ess_semantics.specs.Order.{same_text}
 use Rattle.ess_semantics.specs.Names.{Names, look}
 use Rattle.ess_semantics.specs.Collections.{rises}
-use Rattle.ess_semantics.specs.Trees.{Ends, both_ends, name_pat, Ex, Exs, number_ex, truth_ex, name_ex, node_ex, matrix_ex, comp_ex, cell_ex, seen_ex, no_exs, more_exs, Dom, bool_dom, int_dom}
+use Rattle.ess_semantics.specs.Trees.{Ends, both_ends, name_pat, Ex, Exs, number_ex, truth_ex, name_ex, node_ex, matrix_ex, comp_ex}
+use Rattle.ess_semantics.specs.Trees.{cell_ex, seen_ex, no_exs, more_exs, Dom, bool_dom, int_dom}
 use Rattle.ess_semantics.specs.Scoped.{with_names}
 use Rattle.ess_semantics.specs.Domains.{Span, booleans, integers}
 use Rattle.ess_semantics.specs.Tables.{Table}
@@ -52,7 +54,8 @@ not-new s j a n h = go (same_text j a) refl
 
 -- ---- sure keys
 
-ints-rise : (rs : List Ends) (es : Exs) (env : Env) (is : List Value) → members_in (domain_of (int_dom rs es) env) ≡ Some is → rises itself is ≡ true
+ints-rise : (rs : List Ends) (es : Exs) (env : Env) (is : List Value) → members_in (domain_of (int_dom rs es) env) ≡ Some is
+    → rises itself is ≡ true
 ints-rise rs es env is e = go (spans_of rs (meanings es env)) e
   where
     go : (o : Option (List Span)) → members_in (option_map integers o) ≡ Some is → rises itself is ≡ true
@@ -62,7 +65,8 @@ ints-rise rs es env is e = go (spans_of rs (meanings es env)) e
 bools-rise : (is : List Value) → members_in (Some booleans) ≡ Some is → rises itself is ≡ true
 bools-rise is e = ap (λ o. rises itself (list_or_none o)) (sym e)
 
-within-rises : (d e : Dom) → lies_within d e ≡ true → (env : Env) (is : List Value) → members_in (domain_of e env) ≡ Some is → rises itself is ≡ true
+within-rises : (d e : Dom) → lies_within d e ≡ true → (env : Env) (is : List Value) → members_in (domain_of e env) ≡ Some is
+    → rises itself is ≡ true
 within-rises (int_dom (both_ends ∷ []) (more_exs (number_ex a) (more_exs (number_ex b) no_exs)))
     (int_dom (both_ends ∷ []) (more_exs (number_ex c) (more_exs (number_ex d) no_exs))) t env is e =
     ints-rise (both_ends ∷ []) (more_exs (number_ex c) (more_exs (number_ex d) no_exs)) env is e
@@ -70,13 +74,15 @@ within-rises bool_dom bool_dom t env is e = bools-rise is e
 within-rises (int_dom rs es) (int_dom ss fs) t env is e = ints-rise ss fs env is e
 within-rises d e t env is q = cc
 
-from-rises : (o : Option Origin) (d : Dom) → comes_from o d ≡ true → (env : Env) (is : List Value) → members_in (domain_of d env) ≡ Some is → rises itself is ≡ true
+from-rises : (o : Option Origin) (d : Dom) → comes_from o d ≡ true → (env : Env) (is : List Value)
+    → members_in (domain_of d env) ≡ Some is → rises itself is ≡ true
 from-rises (Some (runs_over c)) d t env is e = within-rises c d t env is e
 from-rises (Some anywhere) d t env is e = cc
 from-rises None d t env is e = cc
 
 -- The members of a domain in which a key is sure to lie rise.
-pub sure-rises : (k : Names Origin) (u : Ex) (d : Dom) → is_sure k u d ≡ true → (env : Env) (is : List Value) → members_in (domain_of d env) ≡ Some is
+pub sure-rises : (k : Names Origin) (u : Ex) (d : Dom) → is_sure k u d ≡ true → (env : Env) (is : List Value)
+    → members_in (domain_of d env) ≡ Some is
     → rises itself is ≡ true
 sure-rises k (number_ex n) (int_dom (both_ends ∷ []) (more_exs (number_ex a) (more_exs (number_ex b) no_exs))) t env is e =
     ints-rise (both_ends ∷ []) (more_exs (number_ex a) (more_exs (number_ex b) no_exs)) env is e
@@ -104,7 +110,8 @@ module _ (pl : Bool) (ts : List TypeEntry) (cs : Names Table) where
   }
 
   -- A key that is sure to lie in a domain is there, and in scope.
-  pub sure-there : (k : Names Origin) (u : Ex) (d : Dom) (h : Vals) → K.Known pl ts cs k h → is_sure k u d ≡ true → (w : Value) × (meaning u (M h) ≡ Some w)
+  pub sure-there : (k : Names Origin) (u : Ex) (d : Dom) (h : Vals) → K.Known pl ts cs k h → is_sure k u d ≡ true
+      → (w : Value) × (meaning u (M h) ≡ Some w)
   sure-there k (number_ex n) d h r t = (number n, refl)
   sure-there k (name_ex a) d h r t = go (look k a) refl t
     where
@@ -114,7 +121,8 @@ module _ (pl : Bool) (ts : List TypeEntry) (cs : Names Table) where
       go None q t = cc
   sure-there k u d h r t = cc
 
-  pub sure-scope : (s : Text → Bool) (c : Around) (g h : Vals) → Rel s c g h → (u : Ex) (d : Dom) → is_sure c.origins u d ≡ true → InScope s u
+  pub sure-scope : (s : Text → Bool) (c : Around) (g h : Vals) → Rel s c g h → (u : Ex) (d : Dom) → is_sure c.origins u d ≡ true
+      → InScope s u
   sure-scope s c g h r (number_ex n) d t = tt
   sure-scope s c g h r (name_ex a) d t = go (look c.origins a) refl t
     where
@@ -149,12 +157,17 @@ module _ (pl : Bool) (ts : List TypeEntry) (cs : Names Table) where
       value false a e = e
 
       inside : (b : Bool) (a : Text) (u : Ex) → same_text j a ≡ b → (if b then Some t else look c.keys a) ≡ Some u
-          → (look c.keys a ≡ Some u → (s a ≡ true) × InScope s u) → (with_names s (name_pat j) a ≡ true) × InScope (with_names s (name_pat j)) u
-      inside true a u q e f =
-          (or-second (s a) (same_text j a) q, subst (InScope (with_names s (name_pat j))) (ap (λ o. elim o [ None ↦ t | Some z ↦ z ]) e) (wider s j t i))
+          → (look c.keys a ≡ Some u → (s a ≡ true) × InScope s u)
+          → (with_names s (name_pat j) a ≡ true) × InScope (with_names s (name_pat j)) u
+      inside true a u q e f = (
+        or-second (s a) (same_text j a) q,
+        subst (InScope (with_names s (name_pat j))) (ap (λ o. elim o [ None ↦ t | Some z ↦ z ]) e)
+            (wider s j t i),
+      )
       inside false a u q e f = let p = f e in (or-first (s a) (same_text j a) p.0, wider s j u p.1)
 
-  plain-stays : (s : Text → Bool) (j : Text) (t : Ex) (v : Value) (h : Vals) → s j ≡ false → InScope s t → meaning t (M ((j, v) ∷ h)) ≡ meaning t (M h)
+  plain-stays : (s : Text → Bool) (j : Text) (t : Ex) (v : Value) (h : Vals) → s j ≡ false → InScope s t
+      → meaning t (M ((j, v) ∷ h)) ≡ meaning t (M h)
   plain-stays s j (number_ex n) v h n' i = refl
   plain-stays s j (name_ex a) v h n i = ap (λ b. if b then Some v else look h a) (not-new s j a n i)
   plain-stays s j (truth_ex b) v h n i = absurd i
@@ -186,7 +199,8 @@ module _ (pl : Bool) (ts : List TypeEntry) (cs : Names Table) where
           ∙ sym (ap (λ o. meaning (or_default o (name_ex a)) (M h)) q) ∙ e
           ∙ sym (ap (λ b. if b then Some v else look g a) (not-new s j a n p.0))
 
-      named : (b : Bool) (a : Text) (e : Dom) → same_text j a ≡ b → (if b then Some (runs_over d) else look c.origins a) ≡ Some (runs_over e)
+      named : (b : Bool) (a : Text) (e : Dom) → same_text j a ≡ b
+          → (if b then Some (runs_over d) else look c.origins a) ≡ Some (runs_over e)
           → with_names s (name_pat j) a ≡ true
       named true a e q p = or-second (s a) (same_text j a) q
       named false a e q p = or-first (s a) (same_text j a) (r.names_in a e p)

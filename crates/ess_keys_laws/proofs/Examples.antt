@@ -3,7 +3,8 @@ use Rattle.std.proofs.Common.{◌≡◌, refl, true, false, codes}
 use Rattle.ess_semantics.specs.declared.words.Op2.{Op2}
 use Rattle.ess_semantics.specs.declared.words.Fun.{Fun}
 use Rattle.ess_semantics.specs.Values.{Text}
-use Rattle.ess_semantics.specs.Trees.{matrix_literal, name_pat, Ex, truth_ex, node_ex, comp_ex, cell_ex, no_exs, more_exs, Gens, no_gens, over, cond, Dom, bool_dom, ex2, fun1}
+use Rattle.ess_semantics.specs.Trees.{matrix_literal, name_pat, Ex, truth_ex, node_ex, comp_ex, cell_ex, no_exs, more_exs, Gens, no_gens}
+use Rattle.ess_semantics.specs.Trees.{over, cond, Dom, bool_dom, ex2, fun1}
 use Rattle.ess_semantics.proofs.Shorthands.{N, n, es1, upto, range}
 use Rattle.ess_keys_laws.specs.Keyed.{nothing_around, keyed}
 
@@ -85,7 +86,8 @@ unsure = refl
 
 -- A chain: `j : int(1..3), j = x, k : int(1..3), k = j` leaves f[x], here in a list that isn't folded.
 chain : keyed nothing_around
-    (sum (fun1 false Fun.Min (comp_ex (f k) (Over (codes "j") (upto 3) (cond (equal j x) (Over (codes "k") (upto 3) (cond (equal k j) no_gens))))))
+    (sum (fun1 false Fun.Min (comp_ex (f k) (Over (codes "j") (upto 3) (cond (equal j x) (Over (codes "k") (upto 3) (cond
+    (equal k j) no_gens))))))
     (Over (codes "x") (upto 2) no_gens))
     ≡ sum (fun1 false Fun.Min (node_ex false matrix_literal (more_exs (f x) no_exs))) (Over (codes "x") (upto 2) no_gens)
 chain = refl

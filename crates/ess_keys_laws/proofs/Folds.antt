@@ -1,12 +1,14 @@
 -- Comprehensions and folds whose generators are gone mean what they meant.
-use Rattle.std.proofs.Common.{◌≡◌, refl, sym, ap, ◌∙◌, subst, Bool, true, false, ◌&&◌, not, List, [], ◌∷◌, ℤ, Option, Some, None, option_map, arith}
+use Rattle.std.proofs.Common.{◌≡◌, refl, sym, ap, ◌∙◌, subst, Bool, true, false, ◌&&◌, not, List, [], ◌∷◌, ℤ, Option, Some, None}
+use Rattle.std.proofs.Common.{option_map, arith}
 use Rattle.std.proofs.lemmas.Int.{ints}
 use Rattle.ess_semantics.specs.declared.words.Op2.{Op2}
 use Rattle.ess_semantics.specs.declared.words.Fun.{Fun}
 use Rattle.ess_semantics.specs.Lists.{or_default, when}
 use Rattle.ess_semantics.specs.Values.{Value, number, truth, item, node}
 use Rattle.ess_semantics.specs.Names.{Names}
-use Rattle.ess_semantics.specs.Trees.{Op, binary, word, matrix_literal, Ex, Exs, node_ex, comp_ex, no_exs, more_exs, Gens, no_gens, over, from, cond, fun1}
+use Rattle.ess_semantics.specs.Trees.{Op, binary, word, matrix_literal, Ex, Exs, node_ex, comp_ex, no_exs, more_exs, Gens, no_gens, over}
+use Rattle.ess_semantics.specs.Trees.{from, cond, fun1}
 use Rattle.ess_semantics.specs.Operators.{as_truth, list_value, number_in, value_of_node, value_of_word1, false_where_undefined}
 use Rattle.ess_semantics.specs.Tables.{Table}
 use Rattle.ess_semantics.specs.Meaning.{Env, TypeEntry, meaning, items_under, where_true}
@@ -78,7 +80,8 @@ and-under : (e : Ex) (gs : Gens) (env : Env) → are_conditions gs ≡ true
     → meaning (fun1 true Fun.And (comp_ex e gs)) env ≡ Some (truth (as_truth (meaning (connected Op2.Implies gs e) env)))
 and-under e no_gens env t = and-alone (meaning e env)
 and-under e (cond c gs) env t =
-    and-more (meaning c env) (meaning (connected Op2.Implies gs e) env) (items_under gs env (λ here. option_map (λ v. v ∷ []) (meaning e here)))
+    and-more (meaning c env) (meaning (connected Op2.Implies gs e) env) (items_under gs env (λ here. option_map (λ v. v ∷ [])
+    (meaning e here)))
     (and-under e gs env t)
 and-under e (over p d gs) env t = cc
 and-under e (from p s gs) env t = cc
@@ -101,13 +104,15 @@ connected-truth o e (over p d gs) env t = cc
 connected-truth o e (from p s gs) env t = cc
 
 and-folded : (e : Ex) (gs : Gens) (env : Env) (t : Bool) → not (is_bare gs) && are_conditions gs ≡ t
-    → meaning (or_default (when t (connected Op2.Implies gs e)) (fun1 true Fun.And (comp_ex e gs))) env ≡ meaning (fun1 true Fun.And (comp_ex e gs)) env
+    → meaning (or_default (when t (connected Op2.Implies gs e)) (fun1 true Fun.And (comp_ex e gs))) env
+    ≡ meaning (fun1 true Fun.And (comp_ex e gs)) env
 and-folded e gs env true q =
     connected-truth Op2.Implies e gs env q ∙ sym (and-under e gs env (and-right (not (is_bare gs)) (are_conditions gs) q))
 and-folded e gs env false q = refl
 
 or-folded : (e : Ex) (gs : Gens) (env : Env) (t : Bool) → not (is_bare gs) && are_conditions gs ≡ t
-    → meaning (or_default (when t (connected Op2.And gs e)) (fun1 true Fun.Or (comp_ex e gs))) env ≡ meaning (fun1 true Fun.Or (comp_ex e gs)) env
+    → meaning (or_default (when t (connected Op2.And gs e)) (fun1 true Fun.Or (comp_ex e gs))) env
+    ≡ meaning (fun1 true Fun.Or (comp_ex e gs)) env
 or-folded e gs env true q =
     connected-truth Op2.And e gs env q ∙ sym (or-under e gs env (and-right (not (is_bare gs)) (are_conditions gs) q))
 or-folded e gs env false q = refl
@@ -128,7 +133,8 @@ fold-number : (f : Fun) → ((n : ℤ) → value_of_word1 f (list_value (number 
     → ((v : Value) → o ≡ Some v → v ≡ number (number_in v)) → o ≡ value_of_node (word f) (value_of_node matrix_literal (o ∷ []) ∷ [])
 fold-number f one None h = refl
 fold-number f one (Some v) h =
-    subst (λ w. Some w ≡ value_of_node (word f) (value_of_node matrix_literal (Some w ∷ []) ∷ [])) (sym (h v refl)) (sym (one (number_in v)))
+    subst (λ w. Some w
+    ≡ value_of_node (word f) (value_of_node matrix_literal (Some w ∷ []) ∷ [])) (sym (h v refl)) (sym (one (number_in v)))
 
 module _ (pl : Bool) (ts : List TypeEntry) (cs : Names Table) where
   abbrev M : Vals → Env

@@ -1,5 +1,6 @@
 -- What the forms of terms tell of their values, under what is known of names.
-use Rattle.std.proofs.Common.{◌≡◌, refl, sym, ap, ◌∙◌, subst, Bool, true, false, ◌||◌, if◌then◌else◌, List, [], ◌∷◌, ◌++◌, map, Option, Some, None, option_map}
+use Rattle.std.proofs.Common.{◌≡◌, refl, sym, ap, ◌∙◌, subst, Bool, true, false, ◌||◌, if◌then◌else◌, List, [], ◌∷◌, ◌++◌, map, Option}
+use Rattle.std.proofs.Common.{Some, None, option_map}
 use Rattle.ess_semantics.specs.declared.words.Op2.{Op2}
 use Rattle.ess_semantics.specs.declared.words.Fun.{Fun}
 use Rattle.ess_semantics.specs.Lists.{and_then, all_some}
@@ -7,7 +8,8 @@ use Rattle.ess_semantics.specs.Values.{Text, Value, number, truth, item, node}
 use Rattle.ess_semantics.specs.Order.{same_text}
 use Rattle.ess_semantics.specs.Names.{Names, look}
 use Rattle.ess_semantics.specs.Collections.{holds}
-use Rattle.ess_semantics.specs.Trees.{binary, word, Ex, Exs, number_ex, truth_ex, name_ex, node_ex, matrix_ex, comp_ex, cell_ex, seen_ex, no_exs, more_exs, Gens, cond, bool_dom, ex2, fun1}
+use Rattle.ess_semantics.specs.Trees.{binary, word, Ex, Exs, number_ex, truth_ex, name_ex, node_ex, matrix_ex, comp_ex, cell_ex, seen_ex}
+use Rattle.ess_semantics.specs.Trees.{no_exs, more_exs, Gens, cond, bool_dom, ex2, fun1}
 use Rattle.ess_semantics.specs.Operators.{as_truth, value_of_node, false_where_undefined}
 use Rattle.ess_semantics.specs.Domains.{booleans}
 use Rattle.ess_semantics.specs.Tables.{Table, code}
@@ -22,16 +24,22 @@ use Rattle.ess_guard_laws.proofs.KnownNames as K
 use Rattle.ess_keys_laws.specs.KeyForms.{is_truth, as_index, as_indices, is_scalar, same_key, is_settled}
 use Rattle.ess_keys_laws.specs.Keyed.{conjuncts, conditions_before}
 
-bool-value : (is : List Value) (v : Value) → members_in (Some booleans) ≡ Some is → holds is v ≡ true → Some v ≡ Some (truth (as_truth (Some v)))
+bool-value : (is : List Value) (v : Value) → members_in (Some booleans) ≡ Some is → holds is v ≡ true
+    → Some v ≡ Some (truth (as_truth (Some v)))
 bool-value is (truth b) q h = refl
-bool-value is (number n) q h = let r : holds is (number n) ≡ false = ap (λ o. elim o [ None ↦ false | Some l ↦ holds l (number n) ]) (sym q) in cc
-bool-value is (item t k) q h = let r : holds is (item t k) ≡ false = ap (λ o. elim o [ None ↦ false | Some l ↦ holds l (item t k) ]) (sym q) in cc
-bool-value is (node k xs) q h = let r : holds is (node k xs) ≡ false = ap (λ o. elim o [ None ↦ false | Some l ↦ holds l (node k xs) ]) (sym q) in cc
+bool-value is (number n) q h = let r : holds is (number n) ≡ false =
+    ap (λ o. elim o [ None ↦ false | Some l ↦ holds l (number n) ]) (sym q) in cc
+bool-value is (item t k) q h = let r : holds is (item t k) ≡ false =
+    ap (λ o. elim o [ None ↦ false | Some l ↦ holds l (item t k) ]) (sym q) in cc
+bool-value is (node k xs) q h = let r : holds is (node k xs) ≡ false =
+    ap (λ o. elim o [ None ↦ false | Some l ↦ holds l (node k xs) ]) (sym q) in cc
 
 -- ---- indices
 
-codes-more : (o o' : Option Value) (p q : Option (List Value)) → option_map code o ≡ option_map code o' → option_map (map code) p ≡ option_map (map code) q
-    → option_map (map code) (and_then o (λ x. option_map (λ xs. x ∷ xs) p)) ≡ option_map (map code) (and_then o' (λ x. option_map (λ xs. x ∷ xs) q))
+codes-more : (o o' : Option Value) (p q : Option (List Value)) → option_map code o ≡ option_map code o'
+    → option_map (map code) p ≡ option_map (map code) q
+    → option_map (map code) (and_then o (λ x. option_map (λ xs. x ∷ xs) p))
+    ≡ option_map (map code) (and_then o' (λ x. option_map (λ xs. x ∷ xs) q))
 codes-more None None p q e h = refl
 codes-more None (Some y) p q e h = cc
 codes-more (Some x) None p q e h = cc
@@ -59,6 +67,11 @@ both-hold (Some (item t k)) p x = refl
 both-hold (Some (node k xs)) p x = refl
 both-hold None p x = refl
 
+-- Conditions before others before generators.
+pub before-append : (ds bs : List Ex) (gs : Gens) → conditions_before (ds ++ bs) gs ≡ conditions_before ds (conditions_before bs gs)
+before-append [] bs gs = refl
+before-append (d ∷ ds) bs gs = ap (cond d) (before-append ds bs gs)
+
 module _ (pl : Bool) (ts : List TypeEntry) (cs : Names Table) where
   abbrev M : Vals → Env
   M g = E pl ts cs g
@@ -67,7 +80,8 @@ module _ (pl : Bool) (ts : List TypeEntry) (cs : Names Table) where
   Known k g = K.Known pl ts cs k g
 
   -- A term that is a truth value by its form is there.
-  pub truth-there : (k : Names Origin) (e : Ex) (g : Vals) → Known k g → is_truth k e ≡ true → meaning e (M g) ≡ Some (truth (as_truth (meaning e (M g))))
+  pub truth-there : (k : Names Origin) (e : Ex) (g : Vals) → Known k g → is_truth k e ≡ true
+      → meaning e (M g) ≡ Some (truth (as_truth (meaning e (M g))))
   truth-there k (truth_ex b) g h t = refl
   truth-there k (node_ex true op es) g h t = refl
   truth-there k (cell_ex true n es) g h t = refl
@@ -92,7 +106,8 @@ module _ (pl : Bool) (ts : List TypeEntry) (cs : Names Table) where
       as-number true = refl
       as-number false = refl
 
-  index-means : (k : Names Origin) (e : Ex) (g : Vals) → Known k g → option_map code (meaning (as_index k e) (M g)) ≡ option_map code (meaning e (M g))
+  index-means : (k : Names Origin) (e : Ex) (g : Vals) → Known k g
+      → option_map code (meaning (as_index k e) (M g)) ≡ option_map code (meaning e (M g))
   index-means k (truth_ex true) g h = refl
   index-means k (truth_ex false) g h = refl
   index-means k (number_ex n) g h = index-chosen k (number_ex n) g h (is_truth k (number_ex n)) refl
@@ -104,10 +119,12 @@ module _ (pl : Bool) (ts : List TypeEntry) (cs : Names Table) where
   index-means k (seen_ex r d ns es) g h = refl
 
   -- Indices as numbers are the same indices.
-  pub indices-mean : (k : Names Origin) (es : Exs) (g : Vals) → Known k g → indices (meanings (as_indices k es) (M g)) ≡ indices (meanings es (M g))
+  pub indices-mean : (k : Names Origin) (es : Exs) (g : Vals) → Known k g
+      → indices (meanings (as_indices k es) (M g)) ≡ indices (meanings es (M g))
   indices-mean k no_exs g h = refl
   indices-mean k (more_exs e es) g h =
-      codes-more (meaning (as_index k e) (M g)) (meaning e (M g)) (all_some (meanings (as_indices k es) (M g))) (all_some (meanings es (M g)))
+      codes-more (meaning (as_index k e) (M g)) (meaning e (M g)) (all_some (meanings (as_indices k es) (M g))) (all_some (meanings es
+      (M g)))
       (index-means k e g h) (indices-mean k es g h)
 
   -- ---- conditions
@@ -135,19 +152,17 @@ module _ (pl : Bool) (ts : List TypeEntry) (cs : Names Table) where
       equal : (a b : Ex) → same_key k a b ≡ true → meaning (ex2 true Op2.Eq a b) (M g) ≡ Some (truth true)
       equal (number_ex n) (number_ex m) t = ap (λ b. Some (truth b)) t
       equal (name_ex a) (name_ex b) t =
-          name-equals k a b g h (and-left (same_text a b) (is_scalar k (name_ex a)) t) (and-right (same_text a b) (is_scalar k (name_ex a)) t)
+          name-equals k a b g h (and-left (same_text a b) (is_scalar k (name_ex a)) t) (and-right (same_text a b) (is_scalar k
+          (name_ex a)) t)
       equal a b t = cc
   settled-holds k c g h t = cc
 
   -- Conditions that hold by their form may be left out.
-  unless-means : (k : Names Origin) (c : Ex) (gs : Gens) (g : Vals) (K : Env → Option (List Value)) → Known k g → (b : Bool) → is_settled k c ≡ b
+  unless-means : (k : Names Origin) (c : Ex) (gs : Gens) (g : Vals) (K : Env → Option (List Value)) → Known k g → (b : Bool)
+      → is_settled k c ≡ b
       → items_under (conditions_before (unless b c) gs) (M g) K ≡ where_true (meaning c (M g)) (λ u. items_under gs (M g) K)
   unless-means k c gs g K h false q = refl
   unless-means k c gs g K h true q = ap (λ o. where_true o (λ u. items_under gs (M g) K)) (sym (settled-holds k c g h q))
-
-  before-append : (ds bs : List Ex) (gs : Gens) → conditions_before (ds ++ bs) gs ≡ conditions_before ds (conditions_before bs gs)
-  before-append [] bs gs = refl
-  before-append (d ∷ ds) bs gs = ap (cond d) (before-append ds bs gs)
 
   -- A condition and its conjuncts hold at once.
   pub conjuncts-mean : (k : Names Origin) (c : Ex) (gs : Gens) (g : Vals) (K : Env → Option (List Value)) → Known k g

@@ -1,15 +1,18 @@
 -- Refined trees with plain keys mean what they meant.
-use Rattle.std.proofs.Common.{◌≡◌, refl, sym, ap, ◌∙◌, subst, Bool, true, false, ◌&&◌, not, if◌then◌else◌, List, [], ◌∷◌, Option, Some, None, option_map}
+use Rattle.std.proofs.Common.{◌≡◌, refl, sym, ap, ◌∙◌, subst, Bool, true, false, ◌&&◌, not, if◌then◌else◌, List, [], ◌∷◌, Option, Some}
+use Rattle.std.proofs.Common.{None, option_map}
 use Rattle.std.specs.Prelude.{IsTrue}
 use Rattle.ess_semantics.specs.Lists.{and_then}
 use Rattle.ess_semantics.specs.Values.{Text, Value}
 use Rattle.ess_semantics.specs.Names.{Names, look}
-use Rattle.ess_semantics.specs.Trees.{name_pat, tuple_pat, Ex, Exs, number_ex, truth_ex, name_ex, node_ex, matrix_ex, comp_ex, cell_ex, seen_ex, no_exs, more_exs, Gens, no_gens, over, from, cond, Dom, bool_dom, int_dom, name_dom}
+use Rattle.ess_semantics.specs.Trees.{name_pat, tuple_pat, Ex, Exs, number_ex, truth_ex, name_ex, node_ex, matrix_ex, comp_ex, cell_ex}
+use Rattle.ess_semantics.specs.Trees.{seen_ex, no_exs, more_exs, Gens, no_gens, over, from, cond, Dom, bool_dom, int_dom, name_dom}
 use Rattle.ess_semantics.specs.Operators.{list_value, value_of_node, false_where_undefined}
 use Rattle.ess_semantics.specs.Domains.{integers}
 use Rattle.ess_semantics.specs.Scoped.{with_names, Scoped, ScopedExs, ScopedGens, ScopedDom}
 use Rattle.ess_semantics.specs.Tables.{Table}
-use Rattle.ess_semantics.specs.Meaning.{Env, TypeEntry, meaning, meanings, items_under, collect, domain_of, members_in, spans_of, cell_in, indices}
+use Rattle.ess_semantics.specs.Meaning.{Env, TypeEntry, meaning, meanings, items_under, collect, domain_of, members_in, spans_of, cell_in}
+use Rattle.ess_semantics.specs.Meaning.{indices}
 use Rattle.ess_semantics.proofs.Tests.{and-left, and-right}
 use Rattle.ess_rules_laws.proofs.Simulation.{Vals, E, where-same}
 use Rattle.ess_rules_laws.proofs.Bindings.{collect-each-of}
@@ -17,7 +20,8 @@ use Rattle.ess_guard_laws.specs.Origins.{is_sure}
 use Rattle.ess_guard_laws.proofs.KnownNames as K
 use Rattle.ess_guard_laws.proofs.Behind.{each-member}
 use Rattle.ess_keys_laws.specs.KeyForms.{key_of}
-use Rattle.ess_keys_laws.specs.Keyed.{Around, key_now, if_sure, sure_key, entered, generator_before, keyed, keyed_all, keyed_gens, keyed_behind, keyed_dom}
+use Rattle.ess_keys_laws.specs.Keyed.{Around, key_now, if_sure, sure_key, entered, generator_before, keyed, keyed_all, keyed_gens}
+use Rattle.ess_keys_laws.specs.Keyed.{keyed_behind, keyed_dom}
 use Rattle.ess_keys_laws.proofs.Forms.{indices-mean, conjuncts-mean}
 use Rattle.ess_keys_laws.proofs.Folds.{laid-means, folded-means}
 use Rattle.ess_keys_laws.proofs.AtKey.{of-key, at-key}
@@ -62,7 +66,8 @@ module _ (pl : Bool) (ts : List TypeEntry) (cs : Names Table) where
   -- ---- one generator
 
   -- Over a domain, whose name has no key: at each member alike.
-  over-none : (j : Text) (d d' : Dom) (gs hs : Gens) (g h : Vals) (k k' : Env → Option (List Value)) → domain_of d' (M h) ≡ domain_of d (M g)
+  over-none : (j : Text) (d d' : Dom) (gs hs : Gens) (g h : Vals) (k k' : Env → Option (List Value))
+      → domain_of d' (M h) ≡ domain_of d (M g)
       → ((v : Value) → K.Lies pl ts cs d' v → items_under hs (M ((j, v) ∷ h)) k' ≡ items_under gs (M ((j, v) ∷ g)) k)
       → items_under (over (name_pat j) d' hs) (M h) k' ≡ items_under (over (name_pat j) d gs) (M g) k
   over-none j d d' gs hs g h k k' p ih =
@@ -91,11 +96,13 @@ module _ (pl : Bool) (ts : List TypeEntry) (cs : Names Table) where
     -- What is asked of generators.
     abbrev Alike : Gens → Type 0
     Alike gs = (s o : Text → Bool) (c : Around) (g h : Vals) (x : Ex) (k k' : Env → Option (List Value))
-        → ScopedGens z s o gs (λ s o. Scoped z s o x) → Rel pl ts cs s c g h → Behind (keyed_behind c gs) x k k' → items_under (keyed_gens c gs) (M h) k' ≡ items_under gs (M g) k
+        → ScopedGens z s o gs (λ s o. Scoped z s o x) → Rel pl ts cs s c g h → Behind (keyed_behind c gs) x k k'
+        → items_under (keyed_gens c gs) (M h) k' ≡ items_under gs (M g) k
 
     over-alike : (j : Text) (d d' : Dom) (gs : Gens) → Alike gs → (s o : Text → Bool) (c : Around) (g h : Vals)
         (i : Ex) (k k' : Env → Option (List Value)) → s j ≡ false
-        → ScopedGens z (with_names s (name_pat j)) o gs (λ s o. Scoped z s o i) → Rel pl ts cs s c g h → domain_of d' (M h) ≡ domain_of d (M g)
+        → ScopedGens z (with_names s (name_pat j)) o gs (λ s o. Scoped z s o i) → Rel pl ts cs s c g h
+        → domain_of d' (M h) ≡ domain_of d (M g)
         → (q key : Option Ex) → key_of j gs ≡ q → if_sure c d' q ≡ key
         → Behind (keyed_behind (entered c (name_pat j) d' key) gs) i k k'
         → items_under (generator_before (name_pat j) d' key (keyed_gens (entered c (name_pat j) d' key) gs)) (M h) k'
@@ -103,13 +110,15 @@ module _ (pl : Bool) (ts : List TypeEntry) (cs : Names Table) where
     over-alike j d d' gs ih s o c g h i k k' n sc r p q key e f b = go key q e f b
       where
         none : Behind (keyed_behind (entered c (name_pat j) d' None) gs) i k k'
-            → items_under (over (name_pat j) d' (keyed_gens (entered c (name_pat j) d' None) gs)) (M h) k' ≡ items_under (over (name_pat j) d gs) (M g) k
+            → items_under (over (name_pat j) d' (keyed_gens (entered c (name_pat j) d' None) gs)) (M h) k'
+            ≡ items_under (over (name_pat j) d gs) (M g) k
         none b =
             over-none j d d' gs (keyed_gens (entered c (name_pat j) d' None) gs) g h k k' p
             (λ v l. ih (with_names s (name_pat j)) o (entered c (name_pat j) d' None) ((j, v) ∷ g) ((j, v) ∷ h) i k k' sc
             (rel-over pl ts cs s c g h j d' v r n l) b)
 
-        some : (t x : Ex) (y : Bool) → key_of j gs ≡ Some t → is_sure c.origins (key_now c.keys t) d' ≡ y → (if y then Some (key_now c.keys t) else None) ≡ Some x
+        some : (t x : Ex) (y : Bool) → key_of j gs ≡ Some t → is_sure c.origins (key_now c.keys t) d' ≡ y
+            → (if y then Some (key_now c.keys t) else None) ≡ Some x
             → Behind (keyed_behind (entered c (name_pat j) d' (Some x)) gs) i k k'
             → items_under (keyed_gens (entered c (name_pat j) d' (Some x)) gs) (M h) k' ≡ items_under (over (name_pat j) d gs) (M g) k
         some t x false e y a b = cc
@@ -143,7 +152,8 @@ module _ (pl : Bool) (ts : List TypeEntry) (cs : Names Table) where
       keyed-means (comp_ex e gs) s o c g h t sc r =
           laid-means (keyed (keyed_behind c gs) e) (keyed_gens c gs) (M h)
           ∙ ap (option_map list_value) (gens-mean gs (and-right (is_keyable e) (are_keyable_gens gs) t) s o c g h e
-          (λ here. option_map (λ v. v ∷ []) (meaning e here)) (λ here. option_map (λ v. v ∷ []) (meaning (keyed (keyed_behind c gs) e) here)) sc r
+          (λ here. option_map (λ v. v ∷ []) (meaning e here)) (λ here. option_map (λ v. v ∷ []) (meaning (keyed
+          (keyed_behind c gs) e) here)) sc r
           (λ s o g h sc r. ap (option_map (λ v. v ∷ []))
           (keyed-means e s o (keyed_behind c gs) g h (and-left (is_keyable e) (are_keyable_gens gs) t) sc r)))
       keyed-means (cell_ex b n es) s o c g h t sc r =
@@ -152,7 +162,8 @@ module _ (pl : Bool) (ts : List TypeEntry) (cs : Names Table) where
       keyed-means (matrix_ex es d) s o c g h t sc r = cc
       keyed-means (seen_ex q d ns es) s o c g h t sc r = cc
 
-      all-mean : (es : Exs) (s o : Text → Bool) (c : Around) (g h : Vals) → are_keyable es ≡ true → ScopedExs z s o es → Rel pl ts cs s c g h
+      all-mean : (es : Exs) (s o : Text → Bool) (c : Around) (g h : Vals) → are_keyable es ≡ true → ScopedExs z s o es
+          → Rel pl ts cs s c g h
           → meanings (keyed_all c es) (M h) ≡ meanings es (M g)
       all-mean no_exs s o c g h t sc r = refl
       all-mean (more_exs e es) s o c g h t sc r =
@@ -162,7 +173,8 @@ module _ (pl : Bool) (ts : List TypeEntry) (cs : Names Table) where
       gens-mean : (gs : Gens) → are_keyable_gens gs ≡ true → Alike gs
       gens-mean no_gens t s o c g h x k k' sc r b = b s o g h sc r
       gens-mean (over (name_pat j) d gs) t s o c g h x k k' sc r b =
-          over-alike j d (keyed_dom c d) gs (gens-mean gs (and-right (is_keyable_dom d) (are_keyable_gens gs) t)) s (with_names o (name_pat j)) c g h x k k'
+          over-alike j d (keyed_dom c d) gs (gens-mean gs (and-right (is_keyable_dom d) (are_keyable_gens gs) t)) s (with_names o
+          (name_pat j)) c g h x k k'
           (is-new (s j) sc.0) sc.2 r (dom-means d s o c g h (and-left (is_keyable_dom d) (are_keyable_gens gs) t) sc.1 r)
           (key_of j gs) (sure_key c (name_pat j) (keyed_dom c d) gs) refl refl b
       gens-mean (over (tuple_pat ps) d gs) t s o c g h x k k' sc r b = cc
@@ -173,7 +185,8 @@ module _ (pl : Bool) (ts : List TypeEntry) (cs : Names Table) where
           (keyed-means e s o c g h (and-left (is_keyable e) (are_keyable_gens gs) t) sc.0 r)
           (gens-mean gs (and-right (is_keyable e) (are_keyable_gens gs) t) s o c g h x k k' sc.1 r b)
 
-      dom-means : (d : Dom) (s o : Text → Bool) (c : Around) (g h : Vals) → is_keyable_dom d ≡ true → ScopedDom z s o d → Rel pl ts cs s c g h
+      dom-means : (d : Dom) (s o : Text → Bool) (c : Around) (g h : Vals) → is_keyable_dom d ≡ true → ScopedDom z s o d
+          → Rel pl ts cs s c g h
           → domain_of (keyed_dom c d) (M h) ≡ domain_of d (M g)
       dom-means bool_dom s o c g h t sc r = refl
       dom-means (int_dom rs es) s o c g h t sc r = ap (λ os. option_map integers (spans_of rs os)) (all-mean es s o c g h t sc r)

@@ -7,5 +7,6 @@ pub mod AtKey
 pub mod Bound
 pub mod Keying
 pub mod Refined
+pub mod StaysRefined
 -- Worked examples
 mod Examples

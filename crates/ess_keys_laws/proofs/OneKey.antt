@@ -1,5 +1,6 @@
 -- A generator whose name equals a key: at other members nothing comes, so what comes at the key is all.
-use Rattle.std.proofs.Common.{◌≡◌, refl, sym, ap, ◌∙◌, subst, Bool, true, false, ◌&&◌, ◌||◌, not, if◌then◌else◌, List, [], ◌∷◌, ◌++◌, Option, Some, None, option_map, ◌⊎◌, inl, inr}
+use Rattle.std.proofs.Common.{◌≡◌, refl, sym, ap, ◌∙◌, subst, Bool, true, false, ◌&&◌, ◌||◌, not, if◌then◌else◌, List, [], ◌∷◌, ◌++◌}
+use Rattle.std.proofs.Common.{Option, Some, None, option_map, ◌⊎◌, inl, inr}
 use Rattle.std.specs.declared.cmp.Ordering.TheVariants.{Less}
 use Rattle.ess_semantics.specs.declared.words.Op2.{Op2}
 use Rattle.ess_semantics.specs.Lists.{and_then, or_else}
@@ -7,7 +8,8 @@ use Rattle.ess_semantics.specs.Values.{Text, Value, number, truth, item, node, i
 use Rattle.ess_semantics.specs.Order.{same, same_text, order}
 use Rattle.ess_semantics.specs.Names.{Names, look}
 use Rattle.ess_semantics.specs.Collections.{holds, rises}
-use Rattle.ess_semantics.specs.Trees.{binary, Ex, Exs, number_ex, name_ex, node_ex, cell_ex, no_exs, more_exs, Gens, no_gens, over, from, cond, Dom, bool_dom, int_dom, name_dom, ex2}
+use Rattle.ess_semantics.specs.Trees.{binary, Ex, Exs, number_ex, name_ex, node_ex, cell_ex, no_exs, more_exs, Gens, no_gens, over, from}
+use Rattle.ess_semantics.specs.Trees.{cond, Dom, bool_dom, int_dom, name_dom, ex2}
 use Rattle.ess_semantics.specs.Operators.{as_truth, value_of_node, false_where_undefined}
 use Rattle.ess_semantics.specs.Domains.{integers}
 use Rattle.ess_semantics.specs.Tables.{Table}
@@ -50,7 +52,8 @@ module _ (F : Value → Option (List Value)) (w : Value) (h : (v : Value) → sa
     where
       absent : (b : Bool) → holds vs w ≡ b → v ≡ w → holds vs w ≡ false
       absent false e p = e
-      absent true e p = absurd (not-itself order_total w (subst (λ z. order z w ≡ Less) p (below-has order_total v w vs r.0 (holds-has vs w e))))
+      absent true e p =
+          absurd (not-itself order_total w (subst (λ z. order z w ≡ Less) p (below-has order_total v w vs r.0 (holds-has vs w e))))
 
       go : (holds vs w ≡ true → collect vs F ≡ F w) → (b : Bool) → same v w ≡ b → b || holds vs w ≡ true → collect (v ∷ vs) F ≡ F w
       go ih true e t =
@@ -65,7 +68,8 @@ module _ (F : Value → Option (List Value)) (w : Value) (h : (v : Value) → sa
   once vs r q = once-there vs (sorted-of vs r) q
 
 -- Where nothing is there at any value of some, nothing is there.
-pub none-at-all : (F : Value → Option (List Value)) (w : Value) (vs : List Value) → ((v : Value) → F v ≡ None) → holds vs w ≡ true → collect vs F ≡ None
+pub none-at-all : (F : Value → Option (List Value)) (w : Value) (vs : List Value) → ((v : Value) → F v ≡ None) → holds vs w ≡ true
+    → collect vs F ≡ None
 none-at-all F w [] h q = cc
 none-at-all F w (v ∷ vs) h q = ap (λ x. and_then x (λ xs. option_map (λ ys. xs ++ ys) (collect vs F))) (h v)
 
@@ -78,12 +82,14 @@ is_key j (name_ex a) = not (same_text j a)
 is_key j e = false
 
 plain-is : (j : Text) (b t : Ex) → plain_key j b ≡ Some t → (b ≡ t) × (is_key j t ≡ true)
-plain-is j (number_ex n) t e = subst (λ z. (number_ex n ≡ z) × (is_key j z ≡ true)) (ap (λ o. elim o [ None ↦ number_ex n | Some z ↦ z ]) e) (refl, refl)
+plain-is j (number_ex n) t e =
+    subst (λ z. (number_ex n ≡ z) × (is_key j z ≡ true)) (ap (λ o. elim o [ None ↦ number_ex n | Some z ↦ z ]) e) (refl, refl)
 plain-is j (name_ex a) t e = go (same_text j a) refl e
   where
     go : (b : Bool) → same_text j a ≡ b → (if b then None else Some (name_ex a)) ≡ Some t → (name_ex a ≡ t) × (is_key j t ≡ true)
     go true q e = cc
-    go false q e = subst (λ z. (name_ex a ≡ z) × (is_key j z ≡ true)) (ap (λ o. elim o [ None ↦ name_ex a | Some z ↦ z ]) e) (refl, ap not q)
+    go false q e =
+        subst (λ z. (name_ex a ≡ z) × (is_key j z ≡ true)) (ap (λ o. elim o [ None ↦ name_ex a | Some z ↦ z ]) e) (refl, ap not q)
 plain-is j b t e = cc
 
 same-turned : (v w : Value) → same v w ≡ false → same w v ≡ false
@@ -96,10 +102,12 @@ same-turned v w q = go (same w v) refl
 -- ---- conditions
 
 -- A condition fails where the truth value of the first operand of an `and` is false, or that of the second.
-first-fails : (o p : Option Value) → as_truth o ≡ false → as_truth (false_where_undefined true (value_of_node (binary Op2.And) (o ∷ p ∷ []))) ≡ false
+first-fails : (o p : Option Value) → as_truth o ≡ false
+    → as_truth (false_where_undefined true (value_of_node (binary Op2.And) (o ∷ p ∷ []))) ≡ false
 first-fails o p e = ap (λ b. b && as_truth p) e
 
-second-fails : (o p : Option Value) → as_truth p ≡ false → as_truth (false_where_undefined true (value_of_node (binary Op2.And) (o ∷ p ∷ []))) ≡ false
+second-fails : (o p : Option Value) → as_truth p ≡ false
+    → as_truth (false_where_undefined true (value_of_node (binary Op2.And) (o ∷ p ∷ []))) ≡ false
 second-fails o p e = go (as_truth o) (as_truth p) e
   where
     go : (a b : Bool) → b ≡ false → a && b ≡ false
@@ -174,10 +182,12 @@ module _ (pl : Bool) (ts : List TypeEntry) (cs : Names Table) where
     pub keyed : meaning t (M g) ≡ Some w
     pub differ : same v w ≡ false
 
-  beside-is : (j : Text) (a b t : Ex) → key_beside j a b ≡ Some t → (g : Vals) → (meaning a (M g) ≡ look g j) × (b ≡ t) × (is_key j t ≡ true)
+  beside-is : (j : Text) (a b t : Ex) → key_beside j a b ≡ Some t → (g : Vals)
+      → (meaning a (M g) ≡ look g j) × (b ≡ t) × (is_key j t ≡ true)
   beside-is j (name_ex a) b t e g = go (same_text j a) refl e
     where
-      go : (c : Bool) → same_text j a ≡ c → (if c then plain_key j b else None) ≡ Some t → (look g a ≡ look g j) × (b ≡ t) × (is_key j t ≡ true)
+      go : (c : Bool) → same_text j a ≡ c → (if c then plain_key j b else None) ≡ Some t
+          → (look g a ≡ look g j) × (b ≡ t) × (is_key j t ≡ true)
       go true q e = let r = plain-is j b t e in (ap (look g) (sym (same_text-equal j a q)), r.0, r.1)
       go false q e = cc
   beside-is j a b t e g = cc
@@ -214,14 +224,16 @@ module _ (pl : Bool) (ts : List TypeEntry) (cs : Names Table) where
       go (inr p) = let r = beside-is j b a t p [] in r.2
   in-key j (ex2 true Op2.And a b) t e = go (either (key_in j a) (key_in j b) t e) (in-key j a t) (in-key j b t)
     where
-      go : (key_in j a ≡ Some t) ⊎ (key_in j b ≡ Some t) → (key_in j a ≡ Some t → is_key j t ≡ true) → (key_in j b ≡ Some t → is_key j t ≡ true)
+      go : (key_in j a ≡ Some t) ⊎ (key_in j b ≡ Some t) → (key_in j a ≡ Some t → is_key j t ≡ true)
+          → (key_in j b ≡ Some t → is_key j t ≡ true)
           → is_key j t ≡ true
       go (inl p) x y = x p
       go (inr p) x y = y p
   in-key j c t e = cc
 
   -- Nothing comes of conditions of which one says so.
-  pub under-fails : (j : Text) (gs : Gens) (t : Ex) (v w : Value) (g : Vals) (K : Env → Option (List Value)) → key_under j gs ≡ Some t → Differ j t v w g
+  pub under-fails : (j : Text) (gs : Gens) (t : Ex) (v w : Value) (g : Vals) (K : Env → Option (List Value)) → key_under j gs ≡ Some t
+      → Differ j t v w g
       → items_under gs (M g) K ≡ Some []
   under-fails j (cond c gs) t v w g K e f = go (either (key_in j c) (key_under j gs) t e) (λ p. under-fails j gs t v w g K p f)
     where

@@ -1,9 +1,11 @@
 -- Keys are made plain in all parts of a refined tree.
 use Rattle.std.proofs.Common.{◌≡◌, refl, Bool, true, false, ◌&&◌, ◌||◌, ◌⊎◌, inl, inr}
-use Rattle.ess_semantics.specs.Trees.{matrix_literal, is_truth_op, name_pat, Ex, Exs, number_ex, truth_ex, name_ex, node_ex, matrix_ex, comp_ex, cell_ex, seen_ex, no_exs, more_exs, Gens, no_gens, over, cond, bool_dom, int_dom, name_dom}
+use Rattle.ess_semantics.specs.Trees.{matrix_literal, is_truth_op, name_pat, Ex, Exs, number_ex, truth_ex, name_ex, node_ex, matrix_ex}
+use Rattle.ess_semantics.specs.Trees.{comp_ex, cell_ex, seen_ex, no_exs, more_exs, Gens, no_gens, over, cond, bool_dom, int_dom, name_dom}
 use Rattle.ess_semantics.specs.Operators.{iff}
 use Rattle.ess_semantics.specs.Kinds.{is_bounded}
-use Rattle.ess_semantics.specs.Refined.{is_scalar_op, is_list_op, is_refined, are_refined, is_refined_list, are_refined_lists, are_refined_gens}
+use Rattle.ess_semantics.specs.Refined.{is_scalar_op, is_list_op, is_refined, are_refined, is_refined_list, are_refined_lists}
+use Rattle.ess_semantics.specs.Refined.{are_refined_gens}
 use Rattle.ess_semantics.proofs.Tests.{and-left, and-right, and-both}
 use Rattle.ess_keys_laws.proofs.Keying.{is_keyable, are_keyable, are_keyable_gens}
 

@@ -7,7 +7,8 @@ use Rattle.ess_semantics.specs.Lists.{or_else}
 use Rattle.ess_semantics.specs.Values.{Text}
 use Rattle.ess_semantics.specs.Order.{same_int, same_text}
 use Rattle.ess_semantics.specs.Names.{Names}
-use Rattle.ess_semantics.specs.Trees.{Op, binary, name_pat, Ex, Exs, number_ex, truth_ex, name_ex, node_ex, cell_ex, no_exs, more_exs, Gens, over, cond, Dom, bool_dom, int_dom, name_dom, ex2, fun1}
+use Rattle.ess_semantics.specs.Trees.{Op, binary, name_pat, Ex, Exs, number_ex, truth_ex, name_ex, node_ex, cell_ex, no_exs, more_exs}
+use Rattle.ess_semantics.specs.Trees.{Gens, over, cond, Dom, bool_dom, int_dom, name_dom, ex2, fun1}
 use Rattle.ess_guard_laws.specs.Origins.{Origin, is_number, is_sure}
 
 -- ---- truth values as indices

@@ -7,7 +7,9 @@ use Rattle.ess_semantics.specs.declared.words.Fun.{Fun}
 use Rattle.ess_semantics.specs.Lists.{and_then, or_default, when}
 use Rattle.ess_semantics.specs.Values.{Text}
 use Rattle.ess_semantics.specs.Names.{Names, look}
-use Rattle.ess_semantics.specs.Trees.{Op, word, matrix_literal, Pat, name_pat, tuple_pat, Ex, Exs, number_ex, truth_ex, name_ex, node_ex, matrix_ex, comp_ex, cell_ex, seen_ex, no_exs, more_exs, Gens, no_gens, over, from, cond, Dom, int_dom, ex2}
+use Rattle.ess_semantics.specs.Trees.{Op, word, matrix_literal, Pat, name_pat, tuple_pat, Ex, Exs, number_ex, truth_ex, name_ex, node_ex}
+use Rattle.ess_semantics.specs.Trees.{matrix_ex, comp_ex, cell_ex, seen_ex, no_exs, more_exs, Gens, no_gens, over, from, cond, Dom}
+use Rattle.ess_semantics.specs.Trees.{int_dom, ex2}
 use Rattle.ess_guard_laws.specs.Origins.{Origin, with_any, with_over, is_number, is_sure}
 use Rattle.ess_guard_laws.specs.Conditions.{unless}
 use Rattle.ess_keys_laws.specs.KeyForms.{is_truth, as_indices, key_of, is_settled}

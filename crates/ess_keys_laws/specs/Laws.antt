@@ -1,4 +1,4 @@
--- The law of plain keys.
+-- The laws of plain keys.
 use Rattle.std.specs.Prelude.{◌≡◌, Bool, true}
 use Rattle.ess_semantics.specs.Values.{Text}
 use Rattle.ess_semantics.specs.Trees.{Ex}
@@ -11,3 +11,7 @@ use Rattle.ess_keys_laws.specs.Keyed.{nothing_around, keyed}
 abbrev pub PlainKeysKeep : Type 0
 PlainKeysKeep = (e : Ex) → is_refined e ≡ true → (z s o : Text → Bool) → Scoped z s o e → (env : Env) →
     meaning (keyed nothing_around e) env ≡ meaning e env
+
+-- A refined tree stays refined.
+abbrev pub PlainKeysStayRefined : Type 0
+PlainKeysStayRefined = (e : Ex) → is_refined e ≡ true → is_refined (keyed nothing_around e) ≡ true
