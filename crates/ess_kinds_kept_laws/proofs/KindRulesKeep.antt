@@ -56,12 +56,12 @@ no : {A : Type 0} → false ≡ true → A
 no h = cc
 
 -- A rule under a test.
-under-test : (b : Bool) (o : Option Ex) (f : Ex) → (if b then o else None) ≡ Some f → (b ≡ true) × (o ≡ Some f)
+pub under-test : (b : Bool) (o : Option Ex) (f : Ex) → (if b then o else None) ≡ Some f → (b ≡ true) × (o ≡ Some f)
 under-test true o f q = (refl, q)
 under-test false o f q = cc
 
 -- What is made of what is there.
-of-there : {A : Type 0} (o : Option A) (F : A → Option Ex) (f : Ex) (P : A → Type 0) (Q : Type 0) → and_then o F ≡ Some f → OfSome o P →
+pub of-there : {A : Type 0} (o : Option A) (F : A → Option Ex) (f : Ex) (P : A → Type 0) (Q : Type 0) → and_then o F ≡ Some f → OfSome o P →
     ((a : A) → o ≡ Some a → F a ≡ Some f → P a → Q) → Q
 of-there None F f P Q q c h = cc
 of-there (Some a) F f P Q q c h = h a refl q c

@@ -1,0 +1,8 @@
+-- Sources, relations applied
+pub mod OpenedFolds
+pub mod OpenedSources
+-- Words that see no index domain, or no repeats
+pub mod PlainLists
+pub mod LooseTails
+-- All these rules
+pub mod OpenRulesKeep
