@@ -4,5 +4,7 @@ pub mod OpenedSources
 -- Words that see no index domain, or no repeats
 pub mod PlainLists
 pub mod LooseTails
+-- Several alternatives
+pub mod OpenedAlternatives
 -- All these rules
 pub mod OpenRulesKeep

@@ -201,7 +201,7 @@ module _ (p : Pat) (t : Ex) (hs : Gens) (e : Ex) where
       go (Some w) n = held-each (items_of w) Q (λ v h. each-of-held (to_list (of_list (sorted_once (items_of w)))) Q n v
           (shared (items_of w) v ∙ h))
 
-at-all : (gs : Gens) (env : Env) (P : Env → Type 0) → ((here : Env) → P here) → AtEach gs env P
+pub at-all : (gs : Gens) (env : Env) (P : Env → Type 0) → ((here : Env) → P here) → AtEach gs env P
 at-all no_gens env P f = f env
 at-all (over p d gs) env P f = go (members_in (domain_of d env)) (λ v. at-all gs (with_pat p v env) P f)
   where

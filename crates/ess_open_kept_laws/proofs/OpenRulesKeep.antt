@@ -42,6 +42,7 @@ use Rattle.ess_open_rules_laws.specs.OpenRules.{OpenRule, step_by_step, applied_
 use Rattle.ess_open_kept_laws.specs.OpenAsks.{PickedApart, SourcePicked, PickAsks, OpenAsks, OpensFit, RulingAsks, OpenRulesKeep}
 use Rattle.ess_open_kept_laws.proofs.OpenedFolds.{nested-keeps, set_of_term-keeps, related-keeps}
 use Rattle.ess_open_kept_laws.proofs.OpenedSources.{over_one-keeps, kept_behind-keeps}
+use Rattle.ess_open_kept_laws.proofs.OpenedAlternatives.{set-keeps, least-keeps}
 use Rattle.ess_open_kept_laws.proofs.PlainLists.{listed_plainly-keeps}
 use Rattle.ess_open_kept_laws.proofs.LooseTails.{seen_loosely-keeps}
 
@@ -169,8 +170,8 @@ each-keeps s g without_repeats e f q env t c = seen_loosely-keeps e f q env
 each-keeps s g without_its_indices e f q env t c = listed_plainly-keeps e f q env c
 each-keeps s g over_one_source e f q env t c = over_one-keeps s g e f q env c
 each-keeps s g over_what_is_picked e f q env t c = parts-keep s g e f q env t c.0 c.1
-each-keeps s g least_over_several e f q env t c = absurd c
-each-keeps s g set_over_several e f q env t c = absurd c
+each-keeps s g least_over_several e f q env t c = least-keeps s g e f q env c
+each-keeps s g set_over_several e f q env t c = set-keeps s g e f q env c.0 c.1
 each-keeps s g different_by_counts e f q env t c = counted-keeps s g e f q c env
 each-keeps s g in_order_of_its_source e f q env t c = kept_behind-keeps s g e f q env c
 each-keeps s g fold_of_folds e f q env t c = nested-keeps e f q env c

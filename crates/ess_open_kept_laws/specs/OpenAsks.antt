@@ -18,7 +18,7 @@ use Rattle.ess_kinds_kept_laws.specs.LookupAsks.{LookupAsks}
 use Rattle.ess_kinds_kept_laws.specs.KindAsks.{RootFits, KindAsks}
 use Rattle.ess_open_rules_laws.specs.OpenSources.{picked_members}
 use Rattle.ess_open_rules_laws.specs.OpenRules.{OpenRule, step_by_step, applied_relation, of_a_pick, a_pick_alone, without_repeats, without_its_indices, over_one_source, over_what_is_picked, least_over_several, set_over_several, different_by_counts, in_order_of_its_source, fold_of_folds, set_of_a_term, KindRuling, of_kind, of_opening, compares_values, first_picked, open_rewrite, kind_ruled, first_opening}
-use Rattle.ess_open_kept_laws.specs.OpenedAsks.{OpenedAsks, KeptBehindAsks}
+use Rattle.ess_open_kept_laws.specs.OpenedAsks.{OpenedAsks, LeastAsks, KeptBehindAsks}
 
 -- ---- folds
 
@@ -43,8 +43,7 @@ PickAsks s g e env = Unit {0}
 
 -- ---- each rule
 
--- What the rule counts on at a root, beside that names have values of their types. Of the least and the set over several alternatives
--- nothing is said.
+-- What the rule counts on at a root, beside that names have values of their types.
 abbrev pub OpenAsks : Supply → Names Ty → OpenRule → Ex → Env → Type 0
 OpenAsks s g step_by_step e env = Unit {0}
 OpenAsks s g applied_relation e env = SoundOperands g e
@@ -54,8 +53,8 @@ OpenAsks s g without_repeats e env = Unit {0}
 OpenAsks s g without_its_indices e env = OperandsThere e env
 OpenAsks s g over_one_source e env = OpenedAsks s g e env
 OpenAsks s g over_what_is_picked e env = SourcePicked s g e env × OperandsThere e env
-OpenAsks s g least_over_several e env = ⊥
-OpenAsks s g set_over_several e env = ⊥
+OpenAsks s g least_over_several e env = LeastAsks s g e env
+OpenAsks s g set_over_several e env = OpenedAsks s g e env × OperandsThere e env
 OpenAsks s g different_by_counts e env = Unused s.one e
 OpenAsks s g in_order_of_its_source e env = KeptBehindAsks s g e env
 OpenAsks s g fold_of_folds e env = OperandsThere e env

@@ -5,9 +5,10 @@ use Rattle.ess_semantics.specs.Names.{Names}
 use Rattle.ess_semantics.specs.Trees.{name_pat, Ex, comp_ex, fun1, Gens, from}
 use Rattle.ess_semantics.specs.Types.{Ty}
 use Rattle.ess_semantics.specs.NamesAt.{names_behind}
-use Rattle.ess_semantics.specs.Contexts.{AtEach}
+use Rattle.ess_semantics.specs.Contexts.{EachOf, AtEach}
 use Rattle.ess_semantics.specs.Meaning.{Env, meaning}
-use Rattle.ess_rules_laws.specs.Listings.{Alternative}
+use Rattle.ess_rules_laws.specs.Rules.{OperandsThere, IsNumber}
+use Rattle.ess_rules_laws.specs.Listings.{Alternative, all_listed}
 use Rattle.ess_rules_laws.specs.ListedSources.{Offers, SourceApart, SourceInOrder, EachApart}
 use Rattle.ess_rules_laws.specs.SpliceRules.{splice, SourceThere, NamesApart}
 use Rattle.ess_rules_laws.specs.SplitRules.{split, DomainThere, DomainApart}
@@ -15,7 +16,7 @@ use Rattle.ess_rules_laws.specs.TupleNames.{name_over_tuple}
 use Rattle.ess_refine_laws.specs.RecordNames.{name_over_record}
 use Rattle.ess_refine_laws.specs.AllRules.{Supply, OfSome}
 use Rattle.ess_open_rules_laws.specs.OpenGenerators.{Opened, at_first_open}
-use Rattle.ess_open_rules_laws.specs.OpenSources.{all_offered, in_order_told, pattern_opened}
+use Rattle.ess_open_rules_laws.specs.OpenSources.{all_offered, comp_offered, in_order_told, pattern_opened}
 use Rattle.ess_kinds_kept_laws.specs.LookupAsks.{OrAsks}
 
 -- Names are told apart, and at each binding of the plain generators the source is there and offers the alternatives.
@@ -33,6 +34,15 @@ abbrev pub OpenedAsks : Supply → Names Ty → Ex → Env → Type 0
 OpenedAsks s g (fun1 m f (comp_ex e gs)) env =
     OfSome (at_first_open gs) (λ t. SourceBehind s (names_behind t.before g) t.before e t.after env)
 OpenedAsks s g e env = Unit {0}
+
+-- Of the least or the greatest of a comprehension: also it and its operand are there, and items are numbers.
+abbrev pub NumbersOffered : Supply → Names Ty → Ex → Env → Type 0
+NumbersOffered s g (fun1 m f (comp_ex e gs)) env =
+    OfSome (comp_offered s g e gs) (λ l. EachOf (all_listed l env) (λ v. IsNumber (Some v)))
+NumbersOffered s g e env = Unit {0}
+
+abbrev pub LeastAsks : Supply → Names Ty → Ex → Env → Type 0
+LeastAsks s g e env = IsTrue (is_some (meaning e env)) × OperandsThere e env × OpenedAsks s g e env × NumbersOffered s g e env
 
 -- Of a source whose items stay in order: a matrix, or what is picked.
 abbrev pub ToldInOrder : Supply → Names Ty → Ex → Env → Type 0
