@@ -4,7 +4,6 @@ use Rattle.std.proofs.lemmas.List.{at_drop_more, at_drop_all, append-nil}
 use Rattle.ess_semantics.specs.Choice.{reprs_of}
 use Rattle.ess_semantics.specs.Lists.{zip}
 use Rattle.ess_semantics.specs.Values.{Text}
-use Rattle.ess_semantics.specs.Trees as pure
 use Rattle.ess_semantics.specs.Trees.{Reprs, no_reprs, more_reprs, Dom}
 use Rattle.ess_semantics.specs.DeclaredTables.{TableDecl}
 use Rattle.ess_core.specs.declared.representations.Repr.{Repr}

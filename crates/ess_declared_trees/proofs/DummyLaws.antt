@@ -6,7 +6,8 @@ use Rattle.ess_size_terms.specs.RangeForms.{is_span}
 use Rattle.ess_declared_trees.specs.Dummies.{is_pair, dummy_beside}
 
 -- Those in one range with both bounds.
-pub dummy_there : (rs : List Ends) (es : Exs) → (is_span rs && is_pair es) ≡ true → dummy_beside es (int_dom rs es) ≡ with_dummy (int_dom rs es)
+pub dummy_there : (rs : List Ends) (es : Exs) → (is_span rs && is_pair es) ≡ true
+    → dummy_beside es (int_dom rs es) ≡ with_dummy (int_dom rs es)
 dummy_there (both_ends ∷ []) (more_exs a (more_exs b no_exs)) h = refl
 dummy_there (both_ends ∷ []) (more_exs a (more_exs b (more_exs c es))) h = cc
 dummy_there (both_ends ∷ []) (more_exs a no_exs) h = cc

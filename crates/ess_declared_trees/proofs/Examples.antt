@@ -1,5 +1,5 @@
 -- Worked examples of children by their names and of dummies.
-use Rattle.std.proofs.Common.{◌≡◌, refl, true, false, [], ◌∷◌, pos, codes}
+use Rattle.std.proofs.Common.{◌≡◌, refl, false, [], ◌∷◌, pos, codes}
 use Rattle.std.specs.Fmt.{digits}
 use Rattle.ess_semantics.specs.Trees.{both_ends, one_value, repr, no_reprs, more_reprs, number_ex, no_exs, more_exs, bool_dom, int_dom}
 use Rattle.ess_semantics.specs.declared.words.ReprKind.{ReprKind}
@@ -9,7 +9,8 @@ use Rattle.ess_declared_trees.specs.Dummies.{is_pair, dummy_beside}
 use Rattle.ess_declared_trees.specs.Endings.{numbered, trees_from}
 
 -- Numbers from 1 to 3 have the dummy 4.
-a_dummy : dummy_beside (more_exs (number_ex (pos 1)) (more_exs (number_ex (pos 3)) no_exs)) (from_to (number_ex (pos 1)) (number_ex (pos 3)))
+a_dummy : dummy_beside (more_exs (number_ex (pos 1)) (more_exs (number_ex (pos 3)) no_exs))
+    (from_to (number_ex (pos 1)) (number_ex (pos 3)))
     ≡ int_dom (both_ends ∷ one_value ∷ []) (more_exs (number_ex (pos 1)) (more_exs (number_ex (pos 3)) (more_exs
     (next_ex (number_ex (pos 3))) no_exs)))
 a_dummy = refl

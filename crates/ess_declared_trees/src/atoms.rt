@@ -169,7 +169,8 @@ fn dummy_behind(alloc: Global, dom: &NodeDom, bounds: &[Node]) -> Result<Boxed<N
 
 /// The numbers of the values of a type, and its dummy.
 fn type_and_dummy(alloc: Global, dom: &NodeDom) -> Result<Boxed<NodeDom>, NoMemory>
-    ensures { IfOk result (λ d. pure_dom d ≡ dummy_beside (more_exs one_ex (more_exs (listed_ex (pure_dom dom.now)) no_exs)) (pure_dom dom.now)) }
+    ensures { IfOk result (λ d. pure_dom d ≡ dummy_beside (more_exs one_ex (more_exs (listed_ex (pure_dom dom.now)) no_exs))
+        (pure_dom dom.now)) }
 {
     let one = number(alloc, 1)?;
     let members = listed(alloc, dom)?;
