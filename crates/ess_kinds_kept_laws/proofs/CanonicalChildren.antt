@@ -1,6 +1,5 @@
 -- Children of views whose tables are canonical.
-use Rattle.std.proofs.Common.{◌≡◌, refl, sym, ap, ◌∙◌, subst, ℕ, zero, suc, Bool, true, false, ◌&&◌, ◌||◌, not, List, [], ◌∷◌, ◌++◌, map, take, drop, length, ℤ, Option, Some, None, option_map, nat_eq}
-use Rattle.std.specs.Prelude.{IsTrue}
+use Rattle.std.proofs.Common.{◌≡◌, refl, sym, ap, ◌∙◌, subst, ℕ, zero, suc, Bool, true, false, ◌||◌, not, List, [], ◌∷◌, take, drop, ℤ, Option, Some, None, option_map}
 use Rattle.std.specs.List.{list_all}
 use Rattle.ess_semantics.specs.declared.words.ReprKind.{ReprKind}
 use Rattle.ess_semantics.specs.Lists.{and_then, is_some_and}
@@ -13,21 +12,20 @@ use Rattle.ess_semantics.specs.Sizes.{child_set, child_relation, child_parts}
 use Rattle.ess_semantics.specs.Tables.{Tables}
 use Rattle.ess_semantics.specs.Cells.{Cells, behind, cells_at}
 use Rattle.ess_semantics.specs.Layers.{Layer}
-use Rattle.ess_semantics.specs.Representations.{layer, width, own_part, child_part, places, is_used, value_of_cells, value_of_tables}
-use Rattle.ess_semantics.specs.CanonicalTest.{canonical, children_are_canonical, child_is_canonical, slots_rise}
+use Rattle.ess_semantics.specs.Representations.{layer, width, own_part, child_part, places, is_used, value_of_cells}
+use Rattle.ess_semantics.specs.CanonicalTest.{canonical, children_are_canonical, child_is_canonical}
 use Rattle.ess_semantics.specs.Declarations.{axes_of}
 use Rattle.ess_semantics.specs.Tidy.{tidy_cells, is_orderly}
 use Rattle.ess_semantics.specs.Meaning.{Env, meaning, meanings, attributes_of, domain_of, domains_of, indices, tables_in, is_bool_dom, seen_in}
-use Rattle.ess_semantics.specs.Meets.{MeetsDom}
 use Rattle.ess_semantics.proofs.Tests.{and-left, and-right, and-both, some-and}
 use Rattle.ess_repr_declare_laws.specs.SizeTerms.{size_terms}
-use Rattle.ess_repr_laws.specs.Rooms.{Covered, AllCovered}
+use Rattle.ess_repr_laws.specs.Rooms.{AllCovered}
 use Rattle.ess_repr_laws.specs.StructureParts.{tuple_set_dom}
 use Rattle.ess_repr_laws.specs.ViewParts.{pair_relation_dom, part_set_dom}
 use Rattle.ess_repr_laws.proofs.CanonicalParts.{asked_of, parts-of}
 use Rattle.ess_repr_laws.proofs.CanonicalForms.{right}
 use Rattle.ess_views_laws.specs.ChildViews.{kept_as}
-use Rattle.ess_views_kept_laws.specs.ChildrenKept.{ChildDenoted, HasMember, ChildKnown}
+use Rattle.ess_views_kept_laws.specs.ChildrenKept.{ChildDenoted, ChildKnown}
 use Rattle.ess_views_kept_laws.proofs.ChildViews.{relation-parts, function-parts, partition-parts}
 use Rattle.ess_kinds_kept_laws.specs.CanonicalChildren.{AtChildren, canonical_in, IsCanonical, IsCovered, CanonicalChildren}
 

@@ -1,41 +1,34 @@
 -- The item of a literal over an index domain at an index: that at the place whose number is how many members are below the index.
-use Rattle.std.proofs.Common.{◌≡◌, refl, sym, ap, ◌∙◌, subst, ℕ, zero, suc, ◌+◌, ◌<◌, Bool, true, false, ◌&&◌, ◌||◌, not, if◌then◌else◌, List, [], ◌∷◌, ◌++◌, length, pos, ◌+ℤ◌, ℤ, Option, Some, None, option_map, nat_eq, arith}
-use Rattle.std.proofs.lemmas.Int.{ints}
+use Rattle.std.proofs.Common.{◌≡◌, refl, sym, ap, ◌∙◌, subst, ℕ, suc, ◌+◌, Bool, true, false, ◌||◌, if◌then◌else◌, List, [], ◌∷◌, ◌++◌, length, pos, Option, Some, None, option_map, nat_eq, arith}
 use Rattle.std.proofs.lemmas.Bool.{eqb-true}
-use Rattle.std.proofs.lemmas.Cmp.{tied_itself}
-use Rattle.std.specs.Prelude.{IsTrue, is_some}
+use Rattle.std.specs.Prelude.{is_some}
 use Rattle.std.specs.List.{list_any}
-use Rattle.std.specs.Ordering.{is_lt}
-use Rattle.std.specs.declared.cmp.Ordering.TheVariants.{Less}
 use Rattle.ess_semantics.specs.declared.words.Op2.{Op2}
 use Rattle.ess_semantics.specs.declared.words.Fun.{Fun}
 use Rattle.ess_semantics.specs.Lists.{and_then, all_some, when, list_or_none}
-use Rattle.ess_semantics.specs.Values.{Text, Value, number, truth, of_list, to_list, matrix, itself}
-use Rattle.ess_semantics.specs.Order.{order, same, same_int, below}
+use Rattle.ess_semantics.specs.Values.{Text, Value, number, truth, of_list, matrix, itself}
+use Rattle.ess_semantics.specs.Order.{same, same_int}
 use Rattle.ess_semantics.specs.Collections.{holds, rises}
-use Rattle.ess_semantics.specs.Trees.{binary, word, index, by_value, name_pat, Ex, Exs, number_ex, name_ex, node_ex, matrix_ex, comp_ex, no_exs, more_exs, ex2, fun1, no_gens, over, cond, Dom}
-use Rattle.ess_semantics.specs.Domains.{Domain, members, member_list}
+use Rattle.ess_semantics.specs.Trees.{binary, word, index, by_value, name_pat, Ex, Exs, number_ex, name_ex, node_ex, matrix_ex, no_exs, more_exs, ex2, no_gens, over, Dom}
+use Rattle.ess_semantics.specs.Domains.{Domain, members}
 use Rattle.ess_semantics.specs.Operators.{value_of_node, false_where_undefined, sum_of, list_value, item_at}
-use Rattle.ess_semantics.specs.Atoms.{Listed}
 use Rattle.ess_semantics.specs.Meaning.{Env, meaning, meanings, domain_of, members_in, collect, where_true, matrix_value}
 use Rattle.ess_semantics.specs.Contexts.{EachOf}
 use Rattle.ess_semantics.specs.Meets.{Meets, MeetsAll, MeetsDom}
-use Rattle.ess_semantics.proofs.Tests.{and-left, and-right, or-yes, or-left-no, or-right-no}
-use Rattle.ess_semantics.proofs.Orders.{order_total, to_list-of_list, same-equal, same-itself, same_int-equal}
-use Rattle.ess_semantics.proofs.Sorting.{below-less, less-below}
+use Rattle.ess_semantics.proofs.Tests.{or-left-no, or-right-no}
+use Rattle.ess_semantics.proofs.Orders.{to_list-of_list}
 use Rattle.ess_repr_laws.proofs.AllMembersListed.{domain-listed}
 use Rattle.ess_rules_laws.specs.Rules.{Unused}
-use Rattle.ess_rules_laws.specs.Listings.{Alternative, items_listed, all_listed}
+use Rattle.ess_rules_laws.specs.Listings.{Alternative, all_listed}
 use Rattle.ess_rules_laws.specs.ListedSources.{AllMet}
 use Rattle.ess_rules_laws.specs.FunctionLookups.{unmarked}
 use Rattle.ess_rules_laws.specs.Lookups.{found}
 use Rattle.ess_rules_laws.specs.AlternativeLookups.{LookedBy, FirstOperandThere}
 use Rattle.ess_rules_laws.proofs.Connectives.{binary-means, any-means, bits, collect-bits, any-bits}
-use Rattle.ess_rules_laws.proofs.LiteralLookups.{looks-by}
 use Rattle.ess_rules_laws.proofs.Lookups.{single}
 use Rattle.ess_rules_laws.proofs.RuleAnswers.{behind, each-any, meaning-behind, meets-behind, name-behind}
 use Rattle.ess_views_laws.specs.PartitionViews.{is_one_of}
-use Rattle.ess_kind_rules_laws.specs.TermLookups.{count_below, item_at_place, items_at_places, domain_list_lookup}
+use Rattle.ess_kind_rules_laws.specs.TermLookups.{count_below, items_at_places, domain_list_lookup}
 use Rattle.ess_kinds_kept_laws.proofs.PlacesBelow.{below_count, ones, ones-sum, collect-ones, at_place, place-found}
 
 no : {A : Type 0} → false ≡ true → A

@@ -1,19 +1,17 @@
 -- Worked examples: what rules of kinds count on, numbers of parts, places below, and children of canonical cells.
-use Rattle.std.specs.Prelude.{◌≡◌, refl, if◌then◌else◌, true, false, ℤ, List, [], ◌∷◌, Option, Some, None, pos, codes}
+use Rattle.std.specs.Prelude.{◌≡◌, refl, if◌then◌else◌, true, false, ℤ, [], ◌∷◌, Some, None, pos, codes}
 use Rattle.ess_semantics.specs.declared.words.Op1.{Op1}
 use Rattle.ess_semantics.specs.declared.words.ReprKind.{ReprKind}
 use Rattle.ess_semantics.specs.Values.{Value, number, truth}
 use Rattle.ess_semantics.specs.Order.{same}
-use Rattle.ess_semantics.specs.Trees.{both_ends, index, by_value, repr, no_reprs, more_reprs, Ex, number_ex, name_ex, node_ex, seen_ex, no_exs, more_exs, Dom, bool_dom, int_dom, set_dom, mset_dom, partition_dom, ex1, fun1}
-use Rattle.ess_semantics.specs.Domains.{booleans}
-use Rattle.ess_semantics.specs.Meaning.{Env, empty_env}
+use Rattle.ess_semantics.specs.Trees.{both_ends, repr, no_reprs, more_reprs, Ex, number_ex, name_ex, seen_ex, no_exs, more_exs, Dom, bool_dom, int_dom, mset_dom, ex1}
+use Rattle.ess_semantics.specs.Meaning.{empty_env}
 use Rattle.ess_refine_laws.specs.AllRules.{Supply}
-use Rattle.ess_kind_rules_laws.specs.KindRules.{size_at_the_marker, size_of_the_parts, cell_of_an_atom}
+use Rattle.ess_kind_rules_laws.specs.KindRules.{size_at_the_marker, cell_of_an_atom}
 use Rattle.ess_kinds_kept_laws.specs.MultisetAsks.{CountAsks}
-use Rattle.ess_kinds_kept_laws.specs.PartitionAsks.{TermTold}
 use Rattle.ess_kinds_kept_laws.specs.ViewAsks.{ViewAsks}
 use Rattle.ess_kinds_kept_laws.specs.LookupAsks.{OrAsks, LookupAsks}
-use Rattle.ess_kinds_kept_laws.specs.CanonicalChildren.{AtChildren, canonical_in}
+use Rattle.ess_kinds_kept_laws.specs.CanonicalChildren.{canonical_in}
 use Rattle.ess_kinds_kept_laws.specs.KindAsks.{KindAsks}
 use Rattle.ess_kinds_kept_laws.proofs.SlottedNumbers.{positive, spread_slots}
 use Rattle.ess_kinds_kept_laws.proofs.PartNumbering.{Parts}

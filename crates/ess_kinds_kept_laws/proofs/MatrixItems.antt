@@ -1,38 +1,32 @@
 -- A view of a matrix offers its items, in order, and its item at an index is looked up.
-use Rattle.std.proofs.Common.{◌≡◌, refl, sym, ap, ◌∙◌, subst, ℕ, zero, suc, Bool, true, false, ◌&&◌, ◌||◌, not, if◌then◌else◌, List, [], ◌∷◌, ◌++◌, length, Option, Some, None, option_map, nat_eq, arith}
+use Rattle.std.proofs.Common.{◌≡◌, refl, sym, ap, ◌∙◌, subst, zero, suc, Bool, true, false, ◌||◌, if◌then◌else◌, List, [], ◌∷◌, ◌++◌, length, Option, Some, None, option_map, nat_eq, arith}
 use Rattle.std.proofs.lemmas.Bool.{eqb-true}
-use Rattle.std.specs.Prelude.{IsTrue, is_some}
-use Rattle.std.specs.List.{list_all}
 use Rattle.ess_semantics.specs.declared.words.Op2.{Op2}
 use Rattle.ess_semantics.specs.declared.words.ReprKind.{ReprKind}
 use Rattle.ess_semantics.specs.Lists.{and_then, is_some_and, list_or_none}
-use Rattle.ess_semantics.specs.Values.{a_tuple, a_matrix, a_set, a_mset, a_function, a_relation, a_partition, a_record, Text, Value, Values, number, truth, item, node, nil, cons, to_list, of_list, matrix, items_of, itself}
-use Rattle.ess_semantics.specs.Order.{same, same_text}
+use Rattle.ess_semantics.specs.Values.{Text, Value, Values, truth, nil, cons, to_list, matrix, items_of, itself}
+use Rattle.ess_semantics.specs.Order.{same}
 use Rattle.ess_semantics.specs.Collections.{holds, rises}
-use Rattle.ess_semantics.specs.Trees.{binary, index, by_value, Repr, repr, no_reprs, more_reprs, name_pat, Ex, Exs, number_ex, truth_ex, name_ex, node_ex, matrix_ex, comp_ex, cell_ex, seen_ex, ex2, no_exs, more_exs, no_gens, over, cond, Dom, Doms, no_doms, more_doms, matrix_dom}
-use Rattle.ess_semantics.specs.Domains.{Domain, Domains, more_domains, matrices, members, member_list}
+use Rattle.ess_semantics.specs.Trees.{binary, index, by_value, Repr, repr, no_reprs, more_reprs, name_pat, Ex, Exs, name_ex, node_ex, comp_ex, seen_ex, ex2, no_exs, more_exs, no_gens, over, cond, Dom, Doms, more_doms, matrix_dom}
+use Rattle.ess_semantics.specs.Domains.{Domain, Domains, more_domains, matrices, members}
 use Rattle.ess_semantics.specs.Membership.{member, nested_matrix, same_list}
 use Rattle.ess_semantics.specs.Operators.{value_of_node, false_where_undefined, list_value, item_at}
-use Rattle.ess_semantics.specs.Atoms.{Listed}
 use Rattle.ess_semantics.specs.Meaning.{Env, meaning, domain_of, domains_of, members_in, collect, where_true}
 use Rattle.ess_semantics.specs.Contexts.{EachOf}
 use Rattle.ess_semantics.specs.Meets.{Meets, MeetsDom}
-use Rattle.ess_semantics.specs.Substitution.{NamesAreDom}
 use Rattle.ess_semantics.proofs.Tests.{and-left, and-right, some-and, or-left-no, or-right-no, or-yes}
-use Rattle.ess_semantics.proofs.Orders.{of_list-to_list, to_list-of_list, same-equal, same-itself}
+use Rattle.ess_semantics.proofs.Orders.{to_list-of_list, same-equal, same-itself}
 use Rattle.ess_semantics.proofs.Sorting.{Distinct, sorted-of}
 use Rattle.ess_semantics.proofs.Repeats.{sorted-distinct}
 use Rattle.ess_repr_laws.proofs.AllMembersListed.{domain-listed}
 use Rattle.ess_rules_laws.specs.Rules.{Unused}
-use Rattle.ess_rules_laws.specs.Listings.{Alternative, items_listed}
+use Rattle.ess_rules_laws.specs.Listings.{Alternative}
 use Rattle.ess_rules_laws.specs.ListedSources.{OffersInOrder}
 use Rattle.ess_rules_laws.specs.SetListings.{InOrderWhereMet, put_last}
-use Rattle.ess_rules_laws.specs.FunctionKeys.{IsMember}
 use Rattle.ess_rules_laws.specs.FunctionLookups.{unmarked}
 use Rattle.ess_rules_laws.specs.Lookups.{found, Looked}
 use Rattle.ess_rules_laws.proofs.Simulation.{but}
 use Rattle.ess_rules_laws.proofs.Agreement.{agree-but, domain-agree}
-use Rattle.ess_rules_laws.proofs.MeetsSimulation.{meets-agree-dom}
 use Rattle.ess_rules_laws.proofs.Connectives.{binary-means}
 use Rattle.ess_rules_laws.proofs.FunctionLookups.{AnswerLooks, looks}
 use Rattle.ess_rules_laws.proofs.Listing.{append-none}

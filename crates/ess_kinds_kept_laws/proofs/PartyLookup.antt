@@ -1,11 +1,11 @@
 -- The part with a term is looked up over the parts, whatever term gives the partition.
-use Rattle.std.proofs.Common.{◌≡◌, refl, sym, ap, ◌∙◌, Bool, true, false, ◌||◌, not, if◌then◌else◌, List, [], ◌∷◌, ◌++◌, map, Option, Some, None, option_map}
+use Rattle.std.proofs.Common.{◌≡◌, refl, sym, ap, ◌∙◌, Bool, true, false, ◌||◌, if◌then◌else◌, List, [], ◌∷◌, ◌++◌, map, Option, Some, None, option_map}
 use Rattle.ess_semantics.specs.declared.words.Op2.{Op2}
 use Rattle.ess_semantics.specs.declared.words.Fun.{Fun}
 use Rattle.ess_semantics.specs.Lists.{and_then, append_all}
-use Rattle.ess_semantics.specs.Values.{Text, Value, truth, items_of, itself}
+use Rattle.ess_semantics.specs.Values.{Text, Value, truth, items_of}
 use Rattle.ess_semantics.specs.Order.{same}
-use Rattle.ess_semantics.specs.Collections.{holds, rises, sorted_once, has_overlap}
+use Rattle.ess_semantics.specs.Collections.{holds, sorted_once}
 use Rattle.ess_semantics.specs.Trees.{binary, word, name_pat, Ex, name_ex, node_ex, comp_ex, no_exs, more_exs, ex2, fun1, no_gens, from, cond}
 use Rattle.ess_semantics.specs.Operators.{value_of_node, false_where_undefined, list_value, part_with}
 use Rattle.ess_semantics.specs.Meaning.{Env, meaning, collect, where_true}

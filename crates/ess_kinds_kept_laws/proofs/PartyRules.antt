@@ -1,25 +1,22 @@
 -- Of a partition by numbers: the part with a term, and what its parts are listed by.
-use Rattle.std.proofs.Common.{◌≡◌, refl, sym, ap, ◌∙◌, subst, ℕ, zero, suc, ◌+◌, ◌≤◌, ◌<◌, Bool, true, false, ◌&&◌, not, if◌then◌else◌, List, [], ◌∷◌, ◌++◌, map, filter, drop, length, ℤ, pos, ◌<ℤ◌, Option, Some, None, option_map, arith, eq-or-lt_of_le, ◌⊎◌, inl, inr}
+use Rattle.std.proofs.Common.{◌≡◌, refl, sym, ap, ◌∙◌, ℕ, zero, suc, ◌+◌, ◌≤◌, ◌<◌, Bool, true, false, ◌&&◌, not, if◌then◌else◌, List, [], ◌∷◌, ◌++◌, map, filter, drop, length, ℤ, pos, ◌<ℤ◌, Option, Some, None, option_map, arith, eq-or-lt_of_le, ◌⊎◌, inl, inr}
 use Rattle.std.proofs.lemmas.Int.{ints}
 use Rattle.std.specs.Ordering.{is_lt}
 use Rattle.std.specs.Cmp.{int_cmp_is}
 use Rattle.std.specs.declared.cmp.Ordering.TheVariants.{Less, Equal, Greater}
-use Rattle.std.specs.Prelude.{IsTrue}
 use Rattle.ess_semantics.specs.declared.words.Op2.{Op2}
 use Rattle.ess_semantics.specs.declared.words.Fun.{Fun}
 use Rattle.ess_semantics.specs.declared.words.ReprKind.{ReprKind}
 use Rattle.ess_semantics.specs.Lists.{and_then, all_some}
-use Rattle.ess_semantics.specs.Values.{a_partition, Text, Value, number, truth, node, from_of, to_of, of_list, items_of}
-use Rattle.ess_semantics.specs.Order.{same, same_text, below}
-use Rattle.ess_semantics.specs.Collections.{holds, count, set_of, sorted_once}
+use Rattle.ess_semantics.specs.Values.{Text, Value, number, truth, from_of, to_of, items_of}
+use Rattle.ess_semantics.specs.Order.{same, below}
+use Rattle.ess_semantics.specs.Collections.{holds, set_of, sorted_once}
 use Rattle.ess_semantics.specs.Numbers.{run_from, one_to}
 use Rattle.ess_semantics.specs.Trees.{word, Mark, repr, no_reprs, name_pat, Ex, Exs, name_ex, node_ex, cell_ex, seen_ex, ex2, no_exs, more_exs, no_gens, over, cond, Dom, partition_dom}
-use Rattle.ess_semantics.specs.Operators.{value_of_node, as_truth, part_with}
+use Rattle.ess_semantics.specs.Operators.{value_of_node, part_with}
 use Rattle.ess_semantics.specs.Tables.{code, cell_at, is_filled, same_axes}
 use Rattle.ess_semantics.specs.Layers.{codes_of}
 use Rattle.ess_semantics.specs.FunctionLayers.{with_arguments, function_with}
-use Rattle.ess_semantics.specs.PartitionLayers.{members_numbered}
-use Rattle.ess_semantics.specs.Domains.{lists_of}
 use Rattle.ess_semantics.specs.Meaning.{Env, meaning, meanings, domain_of, members_in, indices, cell_in, cell_value, collect, where_true}
 use Rattle.ess_semantics.specs.Contexts.{EachOf}
 use Rattle.ess_semantics.specs.Meets.{Meets}
@@ -44,7 +41,7 @@ use Rattle.ess_views_kept_laws.proofs.MatrixPlaces.{put-indices, put-met}
 use Rattle.ess_views_kept_laws.proofs.UsedMembers.{collect-picked}
 use Rattle.ess_kinds_kept_laws.specs.PartitionAsks.{NumbersEnough, Tells, TermTold, PartyAsks}
 use Rattle.ess_kinds_kept_laws.proofs.PartNumbering.{Part, Parts, arguments-numbered, party-held, party-none}
-use Rattle.ess_kinds_kept_laws.proofs.NumberingView.{number_or_0, PartsView, PartsSeen, parts-seen, W, few-parts, numbering-view, number-there}
+use Rattle.ess_kinds_kept_laws.proofs.NumberingView.{number_or_0, PartsView, PartsSeen, parts-seen, few-parts, numbering-view, number-there}
 
 no : {A : Type 0} → false ≡ true → A
 no h = cc

@@ -1,21 +1,16 @@
 -- Items at places, each where as many members are below the index as its place says.
-use Rattle.std.proofs.Common.{◌≡◌, refl, sym, ap, ◌∙◌, subst, ℕ, zero, suc, ◌+◌, ◌<◌, Bool, true, false, ◌&&◌, ◌||◌, not, if◌then◌else◌, List, [], ◌∷◌, ◌++◌, length, pos, ◌+ℤ◌, ℤ, Option, Some, None, option_map, nat_eq, arith}
+use Rattle.std.proofs.Common.{◌≡◌, refl, sym, ap, ◌∙◌, ℕ, zero, suc, ◌+◌, ◌<◌, Bool, true, false, ◌||◌, if◌then◌else◌, List, [], ◌∷◌, ◌++◌, length, pos, ◌+ℤ◌, Option, Some, option_map, arith}
 use Rattle.std.proofs.lemmas.Int.{ints}
-use Rattle.std.proofs.lemmas.Bool.{eqb-true}
 use Rattle.std.proofs.lemmas.Cmp.{tied_itself}
-use Rattle.std.specs.Prelude.{IsTrue, is_some}
-use Rattle.std.specs.List.{list_any}
 use Rattle.std.specs.Ordering.{is_lt}
-use Rattle.std.specs.declared.cmp.Ordering.TheVariants.{Less}
-use Rattle.ess_semantics.specs.Lists.{and_then, all_some, when, list_or_none}
-use Rattle.ess_semantics.specs.Values.{Text, Value, number, truth, of_list, to_list, matrix, itself}
-use Rattle.ess_semantics.specs.Order.{order, same, same_int, below}
+use Rattle.ess_semantics.specs.Lists.{and_then}
+use Rattle.ess_semantics.specs.Values.{Value, number, truth, of_list, itself}
+use Rattle.ess_semantics.specs.Order.{same, same_int, below}
 use Rattle.ess_semantics.specs.Collections.{holds, rises}
-use Rattle.ess_semantics.specs.Domains.{Domain, members, member_list}
-use Rattle.ess_semantics.specs.Operators.{value_of_node, false_where_undefined, sum_of, list_value, item_at}
-use Rattle.ess_semantics.specs.Meaning.{Env, meaning, meanings, domain_of, members_in, collect, where_true, matrix_value}
-use Rattle.ess_semantics.proofs.Tests.{and-left, and-right, or-yes, or-left-no, or-right-no}
-use Rattle.ess_semantics.proofs.Orders.{order_total, to_list-of_list, same-equal, same-itself, same_int-equal}
+use Rattle.ess_semantics.specs.Operators.{sum_of, item_at}
+use Rattle.ess_semantics.specs.Meaning.{collect, where_true}
+use Rattle.ess_semantics.proofs.Tests.{and-left, and-right, or-yes}
+use Rattle.ess_semantics.proofs.Orders.{order_total, same-equal, same-itself, same_int-equal}
 use Rattle.ess_semantics.proofs.Sorting.{below-less, less-below}
 use Rattle.ess_rules_laws.specs.Lookups.{found}
 

@@ -1,29 +1,20 @@
 -- Of a partition by numbers: the members of a set lie together where some number is that of all.
-use Rattle.std.proofs.Common.{◌≡◌, refl, sym, ap, ◌∙◌, subst, ℕ, zero, suc, ◌≤◌, ◌<◌, Bool, true, false, ◌&&◌, ◌||◌, not, if◌then◌else◌, List, [], ◌∷◌, ◌++◌, map, filter, ℤ, pos, ◌<ℤ◌, Option, Some, None, option_map, nat_le, arith}
-use Rattle.std.proofs.lemmas.Int.{ints}
-use Rattle.std.specs.Ordering.{is_lt}
-use Rattle.std.specs.Cmp.{int_cmp_is}
-use Rattle.std.specs.declared.cmp.Ordering.TheVariants.{Less}
-use Rattle.std.specs.Prelude.{IsTrue, is_some}
+use Rattle.std.proofs.Common.{◌≡◌, refl, sym, ap, ◌∙◌, Bool, true, false, ◌&&◌, ◌||◌, not, List, [], ◌∷◌, ◌++◌, map, ℤ, Option, Some, None, option_map}
 use Rattle.std.specs.List.{list_all, list_any}
 use Rattle.ess_semantics.specs.declared.words.Op2.{Op2}
 use Rattle.ess_semantics.specs.declared.words.Fun.{Fun}
-use Rattle.ess_semantics.specs.declared.words.ReprKind.{ReprKind}
-use Rattle.ess_semantics.specs.Lists.{and_then, append_all, all_some}
-use Rattle.ess_semantics.specs.Values.{Text, Value, number, truth, items_of, of_list, itself}
-use Rattle.ess_semantics.specs.Order.{same, same_int, same_text, below}
-use Rattle.ess_semantics.specs.Collections.{holds, count, set_of, sorted_once, no_twice}
-use Rattle.ess_semantics.specs.Numbers.{run_from, one_to}
-use Rattle.ess_semantics.specs.Trees.{binary, word, set_literal, Mark, repr, no_reprs, name_pat, Ex, Exs, number_ex, truth_ex, name_ex, node_ex, comp_ex, cell_ex, seen_ex, ex2, fun1, no_exs, more_exs, no_gens, over, from, cond, Dom, partition_dom}
-use Rattle.ess_semantics.specs.Operators.{value_of_node, false_where_undefined, as_truth, any_true, within}
+use Rattle.ess_semantics.specs.Lists.{and_then}
+use Rattle.ess_semantics.specs.Values.{Text, Value, number, truth, items_of}
+use Rattle.ess_semantics.specs.Order.{same_int, same_text}
+use Rattle.ess_semantics.specs.Collections.{holds, sorted_once}
+use Rattle.ess_semantics.specs.Numbers.{one_to}
+use Rattle.ess_semantics.specs.Trees.{binary, word, Mark, name_pat, Ex, Exs, name_ex, node_ex, comp_ex, cell_ex, ex2, fun1, no_exs, more_exs, no_gens, over, from, cond, Dom}
+use Rattle.ess_semantics.specs.Operators.{value_of_node, false_where_undefined, any_true, within}
 use Rattle.ess_semantics.specs.Tables.{code, cell_at}
 use Rattle.ess_semantics.specs.Meaning.{Env, meaning, meanings, domain_of, members_in, indices, collect, where_true, cell_in, cell_value}
-use Rattle.ess_semantics.specs.Contexts.{EachOf}
-use Rattle.ess_semantics.specs.Meets.{Meets, MeetsAll}
-use Rattle.ess_semantics.specs.Kept.{Keeps}
-use Rattle.ess_semantics.proofs.Tests.{and-left, and-right, and-both, both-ways, or-yes}
-use Rattle.ess_semantics.proofs.Orders.{to_list-of_list, same-itself, same_int-equal, same_int-itself}
-use Rattle.ess_rules_laws.specs.Rules.{Unused, OperandsThere}
+use Rattle.ess_semantics.specs.Meets.{Meets}
+use Rattle.ess_semantics.proofs.Orders.{to_list-of_list}
+use Rattle.ess_rules_laws.specs.Rules.{Unused}
 use Rattle.ess_rules_laws.specs.SetListings.{put_last}
 use Rattle.ess_rules_laws.specs.SlotListings.{slots_dom}
 use Rattle.ess_rules_laws.proofs.Connectives.{any-means}
@@ -31,15 +22,12 @@ use Rattle.ess_rules_laws.proofs.Simulation.{but}
 use Rattle.ess_rules_laws.proofs.Agreement.{agree-but, meanings-agree}
 use Rattle.ess_rules_laws.proofs.ExplicitListing.{last-met}
 use Rattle.ess_rules_laws.proofs.OccurrenceListing.{put-meanings, last-index}
-use Rattle.ess_rules_laws.proofs.RuleAnswers.{AnswerKeeps, fires, behind, each-any, each-in-any, all-over, meaning-behind, meets-behind, name-behind, both-there}
-use Rattle.ess_views_laws.specs.PartitionViews.{are_together}
-use Rattle.ess_views_kept_laws.proofs.MatrixPlaces.{put-met}
-use Rattle.ess_views_kept_laws.proofs.MultisetListing.{put-unused}
+use Rattle.ess_rules_laws.proofs.RuleAnswers.{behind, each-in-any, all-over, meaning-behind, meets-behind, name-behind}
 use Rattle.ess_views_kept_laws.proofs.UsedMembers.{collect-picked}
-use Rattle.ess_kinds_kept_laws.specs.PartitionAsks.{NumbersEnough, Tells, MembersTold, SetTold, TogetherAsks}
-use Rattle.ess_kinds_kept_laws.proofs.PartNumbering.{Part, Parts, together-numbered, all-same}
-use Rattle.ess_kinds_kept_laws.proofs.NumberingView.{number_or_0, PartsView, PartsSeen, parts-seen, number-there}
-use Rattle.ess_kinds_kept_laws.proofs.PartyRules.{Number, NumberOf, cell-means, cell-nowhere, cell-held, no-cell, cell-missing, UpTo, up-to-says, up-to-met, numbers-listed, numbers-picked, up_to_number, each-of-any, collect-values}
+use Rattle.ess_kinds_kept_laws.specs.PartitionAsks.{NumbersEnough, MembersTold}
+use Rattle.ess_kinds_kept_laws.proofs.PartNumbering.{Parts, together-numbered, all-same}
+use Rattle.ess_kinds_kept_laws.proofs.NumberingView.{number_or_0, PartsView, PartsSeen, number-there}
+use Rattle.ess_kinds_kept_laws.proofs.PartyRules.{no-cell, UpTo, up-to-says, up-to-met, numbers-listed, numbers-picked, up_to_number, each-of-any, collect-values}
 
 no : {A : Type 0} → false ≡ true → A
 no h = cc

@@ -1,15 +1,14 @@
 -- `together(s, v)` of a partition by numbers keeps its meaning, whatever s is.
-use Rattle.std.proofs.Common.{◌≡◌, refl, sym, ap, ◌∙◌, true, false, not, List, [], ◌∷◌, Option, Some, None, option_map}
-use Rattle.std.specs.Prelude.{IsTrue, is_some}
+use Rattle.std.proofs.Common.{◌≡◌, refl, ap, ◌∙◌, true, false, List, [], ◌∷◌, Option, Some, None, option_map}
+use Rattle.std.specs.Prelude.{is_some}
 use Rattle.ess_semantics.specs.declared.words.Op2.{Op2}
 use Rattle.ess_semantics.specs.declared.words.Fun.{Fun}
 use Rattle.ess_semantics.specs.declared.words.ReprKind.{ReprKind}
-use Rattle.ess_semantics.specs.Lists.{and_then, all_some}
-use Rattle.ess_semantics.specs.Values.{Text, Value, items_of}
-use Rattle.ess_semantics.specs.Order.{same_text}
+use Rattle.ess_semantics.specs.Lists.{and_then}
+use Rattle.ess_semantics.specs.Values.{Text, Value}
 use Rattle.ess_semantics.specs.Collections.{holds, set_of, sorted_once}
 use Rattle.ess_semantics.specs.Trees.{word, set_literal, Mark, repr, no_reprs, name_pat, Ex, Exs, name_ex, node_ex, comp_ex, cell_ex, seen_ex, ex2, fun1, no_gens, over, from, cond, no_exs, more_exs, Dom, partition_dom}
-use Rattle.ess_semantics.specs.Meaning.{Env, meaning, meanings, domain_of, members_in}
+use Rattle.ess_semantics.specs.Meaning.{Env, meaning, domain_of, members_in}
 use Rattle.ess_semantics.specs.Meets.{Meets}
 use Rattle.ess_semantics.specs.Kept.{Keeps}
 use Rattle.ess_semantics.proofs.Tests.{and-left}
@@ -21,7 +20,7 @@ use Rattle.ess_rules_laws.specs.SlotListings.{slots_dom}
 use Rattle.ess_rules_laws.proofs.RuleAnswers.{AnswerKeeps, fires, meets-behind}
 use Rattle.ess_views_laws.specs.PartitionViews.{have_number_of, are_together}
 use Rattle.ess_kinds_kept_laws.specs.NewNames.{TwoNew}
-use Rattle.ess_kinds_kept_laws.specs.PartitionAsks.{NumbersEnough, Tells, MembersTold, TogetherAsks, PartitionsByNumberServe}
+use Rattle.ess_kinds_kept_laws.specs.PartitionAsks.{NumbersEnough, MembersTold, TogetherAsks, PartitionsByNumberServe}
 use Rattle.ess_kinds_kept_laws.proofs.NumberingView.{PartsView, parts-seen}
 use Rattle.ess_kinds_kept_laws.proofs.PartyRules.{each-of-any, partition_party-keeps, partition_parts-offered}
 use Rattle.ess_kinds_kept_laws.proofs.TogetherNumbers.{numbered-means, numbered-met}

@@ -1,37 +1,35 @@
 -- Of a partition by numbers: terms of a literal lie together where they have one number.
-use Rattle.std.proofs.Common.{◌≡◌, refl, sym, ap, ◌∙◌, subst, ℕ, zero, suc, ◌+◌, ◌≤◌, ◌<◌, Bool, true, false, ◌&&◌, ◌||◌, not, if◌then◌else◌, List, [], ◌∷◌, ◌++◌, ℤ, pos, ◌<ℤ◌, Option, Some, None, option_map, arith, eq-or-lt_of_le, ◌⊎◌, inl, inr}
+use Rattle.std.proofs.Common.{◌≡◌, refl, sym, ap, ◌∙◌, subst, ℕ, zero, suc, ◌+◌, ◌≤◌, ◌<◌, Bool, true, false, ◌&&◌, ◌||◌, if◌then◌else◌, List, [], ◌∷◌, ℤ, pos, ◌<ℤ◌, Option, Some, None, option_map, arith, eq-or-lt_of_le, ◌⊎◌, inl, inr}
 use Rattle.std.proofs.lemmas.Int.{ints}
 use Rattle.std.specs.Ordering.{is_lt}
 use Rattle.std.specs.Cmp.{int_cmp_is}
 use Rattle.std.specs.declared.cmp.Ordering.TheVariants.{Less}
-use Rattle.std.specs.Prelude.{IsTrue, is_some}
+use Rattle.std.specs.Prelude.{is_some}
 use Rattle.std.specs.List.{list_all, list_any}
 use Rattle.ess_semantics.specs.declared.words.Op2.{Op2}
 use Rattle.ess_semantics.specs.declared.words.Fun.{Fun}
-use Rattle.ess_semantics.specs.declared.words.ReprKind.{ReprKind}
 use Rattle.ess_semantics.specs.Lists.{and_then, all_some}
 use Rattle.ess_semantics.specs.Values.{Text, Value, number, truth, items_of}
-use Rattle.ess_semantics.specs.Order.{same, same_int, same_text, below}
+use Rattle.ess_semantics.specs.Order.{same, same_int, below}
 use Rattle.ess_semantics.specs.Collections.{holds, set_of, sorted_once}
 use Rattle.ess_semantics.specs.Numbers.{run_from, one_to}
-use Rattle.ess_semantics.specs.Trees.{binary, word, set_literal, Mark, repr, no_reprs, name_pat, Ex, Exs, number_ex, name_ex, node_ex, cell_ex, seen_ex, ex2, no_exs, more_exs, no_gens, over, Dom, partition_dom}
+use Rattle.ess_semantics.specs.Trees.{binary, word, set_literal, Mark, name_pat, Ex, Exs, number_ex, name_ex, node_ex, cell_ex, ex2, no_exs, more_exs, no_gens, over, Dom}
 use Rattle.ess_semantics.specs.Operators.{value_of_node, false_where_undefined}
-use Rattle.ess_semantics.specs.Meaning.{Env, meaning, meanings, domain_of, members_in, collect}
+use Rattle.ess_semantics.specs.Meaning.{Env, meaning, meanings, members_in, collect}
 use Rattle.ess_semantics.specs.Meets.{Meets, MeetsAll}
-use Rattle.ess_semantics.specs.Kept.{Keeps}
 use Rattle.ess_semantics.proofs.Tests.{and-left, and-right, and-both, both-ways, or-yes}
 use Rattle.ess_semantics.proofs.Orders.{to_list-of_list, same_int-equal, same_int-itself, same-itself}
-use Rattle.ess_semantics.proofs.Sorting.{all-sorted_once, holds-sorted_once}
-use Rattle.ess_rules_laws.specs.Rules.{Unused, OperandsThere}
+use Rattle.ess_semantics.proofs.Sorting.{all-sorted_once}
+use Rattle.ess_rules_laws.specs.Rules.{Unused}
 use Rattle.ess_rules_laws.proofs.Connectives.{and-means, binary-means, any-means, bits, collect-bits, any-bits}
-use Rattle.ess_rules_laws.proofs.RuleAnswers.{AnswerKeeps, fires, behind, each-any, meaning-behind, meets-behind, name-behind, both-there}
-use Rattle.ess_views_laws.specs.PartitionViews.{is_one_of, have_number_of, are_together}
+use Rattle.ess_rules_laws.proofs.RuleAnswers.{behind, each-any, meaning-behind, name-behind}
+use Rattle.ess_views_laws.specs.PartitionViews.{is_one_of, have_number_of}
 use Rattle.ess_views_kept_laws.proofs.MatrixPlaces.{put-met}
-use Rattle.ess_kinds_kept_laws.specs.PartitionAsks.{NumbersEnough, Tells, MembersTold, TogetherAsks}
+use Rattle.ess_kinds_kept_laws.specs.PartitionAsks.{NumbersEnough, Tells, MembersTold}
 use Rattle.ess_kinds_kept_laws.proofs.PartNumbering.{number-of, any-each}
-use Rattle.ess_kinds_kept_laws.proofs.NumberingView.{PartsView, PartsSeen, parts-seen}
-use Rattle.ess_kinds_kept_laws.proofs.PartyRules.{NumberOf, cell-held, cell-missing, marker-means, each-of-any}
-use Rattle.ess_kinds_kept_laws.proofs.TogetherNumbers.{N, Has, together-means, numbered-means, numbered-met}
+use Rattle.ess_kinds_kept_laws.proofs.NumberingView.{PartsView, PartsSeen}
+use Rattle.ess_kinds_kept_laws.proofs.PartyRules.{NumberOf, cell-held, cell-missing, marker-means}
+use Rattle.ess_kinds_kept_laws.proofs.TogetherNumbers.{N, Has, together-means}
 
 no : {A : Type 0} → false ≡ true → A
 no h = cc

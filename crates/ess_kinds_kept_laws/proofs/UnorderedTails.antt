@@ -1,11 +1,11 @@
 -- Rules that change the order of items behind generators, under words that forget it.
-use Rattle.std.proofs.Common.{◌≡◌, refl, sym, ap, ◌∙◌, subst, Bool, true, false, List, [], ◌∷◌, Option, Some, None, option_map}
+use Rattle.std.proofs.Common.{◌≡◌, sym, ap, ◌∙◌, subst, Bool, true, List, [], ◌∷◌, Option, Some, None, option_map}
 use Rattle.ess_semantics.specs.declared.words.Fun.{Fun}
 use Rattle.ess_semantics.specs.Values.{Value, to_list, of_list, items_of}
 use Rattle.ess_semantics.specs.Collections.{count, sorted}
 use Rattle.ess_semantics.specs.Trees.{word, Ex, comp_ex, fun1, Gens, no_gens, over, from, cond}
 use Rattle.ess_semantics.specs.ExpressionJudgements.{forgets_order}
-use Rattle.ess_semantics.specs.Operators.{value_of_node, false_where_undefined, list_value}
+use Rattle.ess_semantics.specs.Operators.{value_of_node, list_value}
 use Rattle.ess_semantics.specs.Contexts.{AtEach}
 use Rattle.ess_semantics.specs.Meaning.{Env, meaning, domain_of, members_in, items_under, with_pat}
 use Rattle.ess_semantics.specs.Meets.{Meets, MeetsGens}

@@ -1,9 +1,9 @@
 -- Of a view whose tables are canonical: the cells of each child at each place in use are, and the view of the child as which a value is
 -- kept stands for a member of its domain.
-use Rattle.std.specs.Prelude.{◌≡◌, Bool, true, false, not, ◌||◌, ℤ, List, [], ◌∷◌, take, drop, Option, Some, None, IsTrue}
+use Rattle.std.specs.Prelude.{◌≡◌, Bool, true, false, not, ◌||◌, ℤ, List, ◌∷◌, take, drop, Option, Some, IsTrue}
 use Rattle.std.specs.List.{list_all}
 use Rattle.ess_semantics.specs.declared.words.ReprKind.{ReprKind}
-use Rattle.ess_semantics.specs.Trees.{Repr, Reprs, repr, no_reprs, more_reprs, Ex, seen_ex}
+use Rattle.ess_semantics.specs.Trees.{Repr, Reprs, repr, more_reprs, Ex, seen_ex}
 use Rattle.ess_semantics.specs.Domains.{Domain}
 use Rattle.ess_semantics.specs.Tables.{Tables}
 use Rattle.ess_semantics.specs.Cells.{Cells, behind, cells_at}

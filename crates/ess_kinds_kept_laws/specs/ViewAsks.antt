@@ -1,8 +1,7 @@
 -- What the listing of a view counts on, kind by kind, and that the view then offers it.
-use Rattle.std.specs.Prelude.{◌≡◌, not, List, [], ◌∷◌, Some, IsTrue}
+use Rattle.std.specs.Prelude.{◌≡◌, List, [], ◌∷◌, Some}
 use Rattle.ess_semantics.specs.declared.words.ReprKind.{ReprKind}
 use Rattle.ess_semantics.specs.Values.{Text}
-use Rattle.ess_semantics.specs.Order.{same_text}
 use Rattle.ess_semantics.specs.Trees.{repr, Ex, seen_ex, fun1}
 use Rattle.ess_semantics.specs.Meaning.{Env}
 use Rattle.ess_semantics.specs.Meets.{Meets}

@@ -1,13 +1,13 @@
 -- Words that see no repeats run over what a set is made of, behind plain generators too.
 use Rattle.std.proofs.Common.{◌≡◌, refl, sym, ap, ◌∙◌, subst, Bool, true, false, ◌&&◌, ◌||◌, if◌then◌else◌, List, [], ◌∷◌, ◌++◌, Option, Some, None, option_map}
-use Rattle.std.specs.Prelude.{IsTrue, is_some}
+use Rattle.std.specs.Prelude.{is_some}
 use Rattle.std.specs.List.{list_all, list_any}
 use Rattle.ess_semantics.specs.declared.words.Fun.{Fun}
 use Rattle.ess_semantics.specs.Lists.{and_then}
 use Rattle.ess_semantics.specs.Values.{Value, number, truth, item, node, to_list, of_list, items_of}
 use Rattle.ess_semantics.specs.Order.{same}
 use Rattle.ess_semantics.specs.Collections.{holds, sorted_once}
-use Rattle.ess_semantics.specs.Trees.{word, Ex, Exs, comp_ex, fun1, Gens, no_gens, over, from, cond, Pat, Dom}
+use Rattle.ess_semantics.specs.Trees.{word, Ex, comp_ex, fun1, Gens, no_gens, over, from, cond, Pat}
 use Rattle.ess_semantics.specs.Operators.{value_of_node, false_where_undefined, list_value, truth_in, as_truth, least, greatest}
 use Rattle.ess_semantics.specs.Contexts.{Each, EachOf, EachIn, AtEach}
 use Rattle.ess_semantics.specs.Meaning.{Env, meaning, domain_of, members_in, items_under, with_pat, collect, where_true}
@@ -16,14 +16,14 @@ use Rattle.ess_semantics.specs.Kept.{Keeps}
 use Rattle.ess_semantics.proofs.Tests.{both-ways, or-yes}
 use Rattle.ess_semantics.proofs.Orders.{to_list-of_list, same-equal, same-itself}
 use Rattle.ess_semantics.proofs.Overlaps.{holds-append}
-use Rattle.ess_semantics.proofs.Sorting.{one-set, holds-sorted_once, all-holds, holds-all, all-sorted_once}
+use Rattle.ess_semantics.proofs.Sorting.{one-set, holds-sorted_once, all-holds, holds-all}
 use Rattle.ess_repr_laws.proofs.NumberedParts.{any-held, found-value}
 use Rattle.ess_rules_laws.specs.SpliceRules.{append_gens}
 use Rattle.ess_rules_laws.proofs.Bindings.{each-of-map, each-in-map}
 use Rattle.ess_rules_laws.proofs.LeastGreatest.{least-once, greatest-once}
 use Rattle.ess_rules_laws.proofs.RuleAnswers.{each-any, each-in-any}
 use Rattle.ess_rules_laws.proofs.Splices.{items-append}
-use Rattle.ess_rules_laws.proofs.Steps.{meets-gens-join, at-each-met}
+use Rattle.ess_rules_laws.proofs.Steps.{meets-gens-join}
 use Rattle.ess_open_rules_laws.specs.OpenGenerators.{Opened, at_first_open}
 use Rattle.ess_open_rules_laws.specs.OpenSources.{forgets_repeats, loose_source, seen_loosely}
 use Rattle.ess_open_kept_laws.proofs.OpenedFolds.{opened-are}
@@ -166,8 +166,10 @@ each-of-held (x ∷ xs) Q e v h = go (same x v) refl (λ k. each-of-held xs Q e.
 
 held-each : (xs : List Value) (Q : Value → Type 0) → ((v : Value) → holds xs v ≡ true → Q v) → Each xs Q
 held-each [] Q f = tt
-held-each (x ∷ xs) Q f = (f x (ap (λ b. b || holds xs x) (same-itself x)),
-    held-each xs Q (λ v h. f v (ap (λ b. same x v || b) h ∙ or-yes (same x v))))
+held-each (x ∷ xs) Q f = (
+  f x (ap (λ b. b || holds xs x) (same-itself x)),
+  held-each xs Q (λ v h. f v (ap (λ b. same x v || b) h ∙ or-yes (same x v))),
+)
 
 -- ---- a generator over a set made of a term
 

@@ -1,11 +1,11 @@
 -- A comprehension offers the alternatives of its first source that isn't plain; and so the least, the greatest and the set of its items are
 -- kept over several alternatives.
-use Rattle.std.proofs.Common.{◌≡◌, refl, sym, ap, ◌∙◌, subst, ℕ, ◌+◌, Bool, true, false, ◌&&◌, ◌||◌, if◌then◌else◌, List, [], ◌∷◌, ◌++◌, map, Option, Some, None, option_map, arith}
+use Rattle.std.proofs.Common.{◌≡◌, refl, sym, ap, ◌∙◌, subst, ◌+◌, true, false, ◌||◌, List, [], ◌∷◌, ◌++◌, map, Option, Some, None, option_map, arith}
 use Rattle.std.specs.Prelude.{IsTrue, is_some}
 use Rattle.ess_semantics.specs.declared.words.Op2.{Op2}
 use Rattle.ess_semantics.specs.declared.words.Fun.{Fun}
 use Rattle.ess_semantics.specs.Lists.{and_then, list_or_none}
-use Rattle.ess_semantics.specs.Values.{a_set, Text, Value, number, truth, item, node, of_list, to_list, items_of}
+use Rattle.ess_semantics.specs.Values.{a_set, Value, number, truth, item, node, of_list, to_list, items_of}
 use Rattle.ess_semantics.specs.Collections.{count, holds, sorted_once, set_of}
 use Rattle.ess_semantics.specs.Names.{Names}
 use Rattle.ess_semantics.specs.Trees.{binary, word, name_pat, tuple_pat, Ex, comp_ex, fun1, Gens, no_gens, over, from, cond}
@@ -229,8 +229,8 @@ module _ (before : Gens) (env : Env) (P : Alternative → Alternative) where
         let u = list-there (items_under (append_gens before hs) env I) i in
         let q = sym (items-append env.positions env.types env.cells before hs env.vals I) ∙ u.1 in
         let a = items-alike-behind before env (λ here. items_under hs here I) (λ here. all_listed (map P l) here)
-            (at-each-map before env (λ here. Offers (comp_ex e hs) (map P l) here) _
-            (λ here o. offered-alike (items_under hs here I) (all_listed (map P l) here) o.lists) w) in
+        (at-each-map before env (λ here. Offers (comp_ex e hs) (map P l) here) _
+        (λ here o. offered-alike (items_under hs here I) (all_listed (map P l) here) o.lists) w) in
         let v = alike-there (items_under before env (λ here. items_under hs here I)) (All l) u.0 q a in
         let c = alike-there (All l) (all_listed (Behind l) env) v.0 v.1 (behind-listed l (ap is_some v.1)) in record {
           lists = subst (λ z. SameLists z (all_listed (Behind l) env))

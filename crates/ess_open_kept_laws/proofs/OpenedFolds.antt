@@ -1,13 +1,13 @@
 -- Rules at the first generator that isn't plain, of relations applied, and of sets made of terms keep what they rewrite.
 use Rattle.std.proofs.Common.{◌≡◌, refl, sym, ap, ◌∙◌, subst, Bool, true, false, if◌then◌else◌, List, [], ◌∷◌, Option, Some, None, option_map}
-use Rattle.std.specs.Prelude.{IsTrue, is_some}
+use Rattle.std.specs.Prelude.{is_some}
 use Rattle.ess_semantics.specs.declared.words.Op2.{Op2}
 use Rattle.ess_semantics.specs.declared.words.Fun.{Fun}
 use Rattle.ess_semantics.specs.Lists.{and_then, all_some}
-use Rattle.ess_semantics.specs.Values.{a_relation, a_tuple, a_matrix, a_set, a_mset, a_function, a_partition, a_record, Text, Value, number, truth, item, node, tuple, of_list, to_list, items_of}
-use Rattle.ess_semantics.specs.Collections.{holds, set_of}
+use Rattle.ess_semantics.specs.Values.{a_relation, Text, Value, truth, node, tuple, of_list, items_of}
+use Rattle.ess_semantics.specs.Collections.{set_of}
 use Rattle.ess_semantics.specs.Names.{Names}
-use Rattle.ess_semantics.specs.Trees.{binary, word, application, tuple_literal, Ex, Exs, name_ex, node_ex, comp_ex, no_exs, more_exs, ex2, fun1, Gens, no_gens, over, from, cond, Pat, Dom}
+use Rattle.ess_semantics.specs.Trees.{binary, word, application, tuple_literal, Ex, Exs, name_ex, node_ex, comp_ex, more_exs, ex2, fun1, Gens, no_gens, over, from, cond}
 use Rattle.ess_semantics.specs.Types.{Ty, Tys, compound}
 use Rattle.ess_semantics.specs.Typing.{type_of}
 use Rattle.ess_semantics.specs.TypeMembers.{is_of_type}
@@ -21,7 +21,7 @@ use Rattle.ess_semantics.proofs.Orders.{to_list-of_list}
 use Rattle.ess_rules_laws.specs.Rules.{Sound, SoundOperands, OperandsThere}
 use Rattle.ess_rules_laws.specs.SourceRules.{is_marked}
 use Rattle.ess_rules_laws.specs.SpliceRules.{append_gens}
-use Rattle.ess_rules_laws.specs.ConditionRules.{fold_at_once, fold_within}
+use Rattle.ess_rules_laws.specs.ConditionRules.{fold_within}
 use Rattle.ess_rules_laws.specs.ListRules.{members_list}
 use Rattle.ess_rules_laws.proofs.ConditionRules.{conditions-keep}
 use Rattle.ess_rules_laws.proofs.RuleAnswers.{AnswerKeeps, fires, behind, each-in-any, collect-itself}

@@ -1,9 +1,9 @@
 -- Rules of sources at the first generator that isn't plain keep what they rewrite: over one alternative under words that forget order, and
 -- in order in any comprehension.
-use Rattle.std.proofs.Common.{◌≡◌, refl, sym, ap, ◌∙◌, subst, Bool, true, false, if◌then◌else◌, List, [], ◌∷◌, map, Option, Some, None, option_map}
+use Rattle.std.proofs.Common.{◌≡◌, refl, sym, subst, Bool, true, false, if◌then◌else◌, List, [], ◌∷◌, map, Option, Some, None, option_map}
 use Rattle.std.specs.Prelude.{IsTrue, is_some}
 use Rattle.ess_semantics.specs.declared.words.Fun.{Fun}
-use Rattle.ess_semantics.specs.Lists.{and_then, or_else}
+use Rattle.ess_semantics.specs.Lists.{and_then}
 use Rattle.ess_semantics.specs.Values.{Text}
 use Rattle.ess_semantics.specs.Names.{Names}
 use Rattle.ess_semantics.specs.Trees.{word, name_pat, tuple_pat, Ex, comp_ex, fun1, Gens, no_gens, over, from, cond}
@@ -14,9 +14,9 @@ use Rattle.ess_semantics.specs.Contexts.{AtEach}
 use Rattle.ess_semantics.specs.Meaning.{Env, meaning}
 use Rattle.ess_semantics.specs.Kept.{Keeps}
 use Rattle.ess_rules_laws.specs.Listings.{Alternative}
-use Rattle.ess_rules_laws.specs.ListedSources.{Offers, laid_out, put_listed, SourceApart, SourceInOrder, EachApart, source_in_order}
-use Rattle.ess_rules_laws.specs.SpliceRules.{append_gens, splice, SourceThere, NamesApart}
-use Rattle.ess_rules_laws.specs.SplitRules.{split, DomainThere, DomainApart}
+use Rattle.ess_rules_laws.specs.ListedSources.{Offers, laid_out, put_listed, SourceApart, SourceInOrder, source_in_order}
+use Rattle.ess_rules_laws.specs.SpliceRules.{append_gens, splice}
+use Rattle.ess_rules_laws.specs.SplitRules.{split}
 use Rattle.ess_rules_laws.specs.TupleNames.{name_over_tuple}
 use Rattle.ess_rules_laws.proofs.Bindings.{at-each-map}
 use Rattle.ess_rules_laws.proofs.ListedSources.{listed_sources-keep}
@@ -28,9 +28,8 @@ use Rattle.ess_refine_laws.specs.RecordNames.{name_over_record}
 use Rattle.ess_refine_laws.specs.AllRules.{Supply, OfSome, only_one}
 use Rattle.ess_refine_laws.specs.ExtremeAlternatives.{put_alternative}
 use Rattle.ess_refine_laws.proofs.RecordNames.{names-over-records}
-use Rattle.ess_open_rules_laws.specs.OpenGenerators.{Opened, at_first_open, put_before, behind_plain}
+use Rattle.ess_open_rules_laws.specs.OpenGenerators.{Opened, at_first_open, put_before}
 use Rattle.ess_open_rules_laws.specs.OpenSources.{all_offered, behind_gens, put_opened, comp_offered, over_one_opened, in_order_told, opened_in_order, pattern_opened, kept_in_order, kept_behind}
-use Rattle.ess_kinds_kept_laws.specs.LookupAsks.{OrAsks}
 use Rattle.ess_open_kept_laws.specs.OpenedAsks.{OfferedBehind, SourceBehind, OpenedAsks, ToldInOrder, InOrderAsks, KeptBehindAsks}
 use Rattle.ess_open_kept_laws.proofs.OpenedFolds.{opened-are}
 use Rattle.ess_kinds_kept_laws.proofs.TermsLookedUp.{or-asked}

@@ -5,15 +5,14 @@ use Rattle.std.specs.List.{list_all}
 use Rattle.ess_semantics.specs.declared.words.Op2.{Op2}
 use Rattle.ess_semantics.specs.declared.words.Fun.{Fun}
 use Rattle.ess_semantics.specs.Lists.{and_then, all_some, when}
-use Rattle.ess_semantics.specs.Values.{Value, number, truth, tuple, matrix, of_list, to_list, items_of}
+use Rattle.ess_semantics.specs.Values.{Value, number, truth, tuple, matrix, of_list, items_of}
 use Rattle.ess_semantics.specs.Order.{below}
-use Rattle.ess_semantics.specs.Trees.{binary, word, matrix_literal, Ex, Exs, node_ex, matrix_ex, no_exs, more_exs, ex2, fun1, Dom}
-use Rattle.ess_semantics.specs.Operators.{value_of_node, value_of_word1, value_of_binary, false_where_undefined, as_list, list_value, sum_of, product_of, all_true, any_true, least, greatest, all_different}
+use Rattle.ess_semantics.specs.Trees.{binary, word, Ex, matrix_ex, ex2, fun1}
+use Rattle.ess_semantics.specs.Operators.{value_of_node, value_of_word1, false_where_undefined, as_list, list_value, sum_of, product_of, all_true, any_true, least, greatest, all_different}
 use Rattle.ess_semantics.specs.Meaning.{Env, meaning, meanings, domain_of, members_in, matrix_value}
 use Rattle.ess_semantics.specs.Meets.{Meets}
 use Rattle.ess_semantics.specs.Kept.{Keeps}
 use Rattle.ess_semantics.proofs.Tests.{and-left}
-use Rattle.ess_semantics.proofs.Orders.{to_list-of_list}
 use Rattle.ess_rules_laws.specs.Rules.{OperandsThere}
 use Rattle.ess_rules_laws.specs.FoldRules.{is_fold}
 use Rattle.ess_rules_laws.specs.SourceRules.{list_of}
@@ -107,14 +106,22 @@ sign-keeps o a b env h s = let r = both-there (meaning a env) (meaning b env) s 
     by-sign : (o : Op2) → is_lex o ≡ true → (x y : Value) → meaning a env ≡ Some x → meaning b env ≡ Some y → (x' y' : Value) →
         meaning (plain_list a) env ≡ Some x' → meaning (plain_list b) env ≡ Some y' → items_of x ≡ items_of x' → items_of y ≡ items_of y' →
         Keeps (ex2 true o a b) (ex2 true o (plain_list a) (plain_list b)) env
-    by-sign Op2.LexLt h x y p q x' y' p' q' e f = λ k. (same-sign Op2.LexLt refl a b (plain_list a) (plain_list b) env x y x' y' p q p' q' e f,
-        (plain-met a env k.0, (plain-met b env k.1.0, tt)))
-    by-sign Op2.LexLe h x y p q x' y' p' q' e f = λ k. (same-sign Op2.LexLe refl a b (plain_list a) (plain_list b) env x y x' y' p q p' q' e f,
-        (plain-met a env k.0, (plain-met b env k.1.0, tt)))
-    by-sign Op2.LexGt h x y p q x' y' p' q' e f = λ k. (same-sign Op2.LexGt refl a b (plain_list a) (plain_list b) env x y x' y' p q p' q' e f,
-        (plain-met a env k.0, (plain-met b env k.1.0, tt)))
-    by-sign Op2.LexGe h x y p q x' y' p' q' e f = λ k. (same-sign Op2.LexGe refl a b (plain_list a) (plain_list b) env x y x' y' p q p' q' e f,
-        (plain-met a env k.0, (plain-met b env k.1.0, tt)))
+    by-sign Op2.LexLt h x y p q x' y' p' q' e f = λ k. (
+      same-sign Op2.LexLt refl a b (plain_list a) (plain_list b) env x y x' y' p q p' q' e f,
+      (plain-met a env k.0, (plain-met b env k.1.0, tt)),
+    )
+    by-sign Op2.LexLe h x y p q x' y' p' q' e f = λ k. (
+      same-sign Op2.LexLe refl a b (plain_list a) (plain_list b) env x y x' y' p q p' q' e f,
+      (plain-met a env k.0, (plain-met b env k.1.0, tt)),
+    )
+    by-sign Op2.LexGt h x y p q x' y' p' q' e f = λ k. (
+      same-sign Op2.LexGt refl a b (plain_list a) (plain_list b) env x y x' y' p q p' q' e f,
+      (plain-met a env k.0, (plain-met b env k.1.0, tt)),
+    )
+    by-sign Op2.LexGe h x y p q x' y' p' q' e f = λ k. (
+      same-sign Op2.LexGe refl a b (plain_list a) (plain_list b) env x y x' y' p q p' q' e f,
+      (plain-met a env k.0, (plain-met b env k.1.0, tt)),
+    )
     by-sign _ h x y p q x' y' p' q' e f = no h
 
 listed-answer : (e : Ex) (env : Env) → OperandsThere e env → AnswerKeeps (listed_plainly e) e env

@@ -1,5 +1,5 @@
 -- What rules of sources at the first generator that isn't plain count on, at each binding of the plain ones before it.
-use Rattle.std.specs.Prelude.{Bool, List, [], ◌∷◌, Option, Some, None, IsTrue, is_some}
+use Rattle.std.specs.Prelude.{Bool, List, [], ◌∷◌, Some, IsTrue, is_some}
 use Rattle.ess_semantics.specs.Values.{Text}
 use Rattle.ess_semantics.specs.Names.{Names}
 use Rattle.ess_semantics.specs.Trees.{name_pat, Ex, comp_ex, fun1, Gens, from}
@@ -15,7 +15,7 @@ use Rattle.ess_rules_laws.specs.SplitRules.{split, DomainThere, DomainApart}
 use Rattle.ess_rules_laws.specs.TupleNames.{name_over_tuple}
 use Rattle.ess_refine_laws.specs.RecordNames.{name_over_record}
 use Rattle.ess_refine_laws.specs.AllRules.{Supply, OfSome}
-use Rattle.ess_open_rules_laws.specs.OpenGenerators.{Opened, at_first_open}
+use Rattle.ess_open_rules_laws.specs.OpenGenerators.{at_first_open}
 use Rattle.ess_open_rules_laws.specs.OpenSources.{all_offered, comp_offered, in_order_told, pattern_opened}
 use Rattle.ess_kinds_kept_laws.specs.LookupAsks.{OrAsks}
 
