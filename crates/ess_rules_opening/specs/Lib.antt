@@ -1,0 +1,2 @@
+-- What the code takes apart
+pub mod OpenedViews
