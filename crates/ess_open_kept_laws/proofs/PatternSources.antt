@@ -1,20 +1,20 @@
 -- A pattern over a source of tuples is a name over it, with a generator for each component behind.
-use Rattle.std.proofs.Common.{◌≡◌, refl, sym, ap, ◌∙◌, subst, ℕ, zero, suc, ◌+◌, Bool, true, false, ◌&&◌, ◌||◌, not, List, [], ◌∷◌, ◌++◌, Option, Some, None, option_map, arith}
-use Rattle.std.specs.Prelude.{IsTrue, is_some}
+use Rattle.std.proofs.Common.{◌≡◌, refl, sym, ap, ◌∙◌, subst, ℕ, suc, ◌+◌, Bool, true, false, ◌||◌, not, List, [], ◌∷◌, Option, Some, None, option_map, arith}
+use Rattle.std.specs.Prelude.{IsTrue}
 use Rattle.ess_semantics.specs.Lists.{and_then}
-use Rattle.ess_semantics.specs.Values.{Text, a_tuple, Value, Values, nil, cons, node, tuple, of_list, to_list, items_of}
+use Rattle.ess_semantics.specs.Values.{Text, a_tuple, Value, Values, nil, cons, tuple, to_list, items_of}
 use Rattle.ess_semantics.specs.Names.{Names, look}
-use Rattle.ess_semantics.specs.Trees.{name_pat, tuple_pat, Pat, Pats, no_pats, more_pats, Ex, name_ex, comp_ex, Gens, no_gens, over, from, cond}
+use Rattle.ess_semantics.specs.Trees.{name_pat, tuple_pat, Pat, Pats, no_pats, more_pats, Ex, name_ex, comp_ex, Gens, no_gens, from}
 use Rattle.ess_semantics.specs.Types.{Ty, Tys, no_tys, more_tys, compound}
 use Rattle.ess_semantics.specs.Typing.{source_ty}
 use Rattle.ess_semantics.specs.TypeMembers.{is_of, are_of, is_of_type}
 use Rattle.ess_semantics.specs.Tables.{Table}
 use Rattle.ess_semantics.specs.Operators.{component, list_value}
-use Rattle.ess_semantics.specs.Contexts.{Each, EachIn}
+use Rattle.ess_semantics.specs.Contexts.{EachIn}
 use Rattle.ess_semantics.specs.Meaning.{Env, TypeEntry, bind, bind_all, meaning, items_under, collect}
 use Rattle.ess_semantics.specs.Meets.{Meets, MeetsGens}
 use Rattle.ess_semantics.specs.Kept.{Keeps}
-use Rattle.ess_semantics.specs.Substitution.{NamesAre, NamesAreGens, Binds, BindsAll}
+use Rattle.ess_semantics.specs.Substitution.{NamesAre, Binds, BindsAll}
 use Rattle.ess_semantics.specs.Scoped.{is_bound_by_some}
 use Rattle.ess_semantics.proofs.Tests.{and-left, and-right}
 use Rattle.ess_semantics.proofs.Orders.{to_list-of_list}
@@ -112,9 +112,11 @@ module _ (z : Text) (e : Ex) (hs : Gens) (pl : Bool) (es : List TypeEntry) (cs :
         go : (x : Option Gens) → option_map (from p (One t (suc k))) x ≡ Some gs →
             ((ks : Gens) → x ≡ Some ks → Met ks (bind p w h)) → Met gs h
         go None q r = cc
-        go (Some ks) q r = subst (λ x. Met x h) (let y : from p (One t (suc k)) ks ≡ gs = cc in y)
-            ((tt, tt), subst (λ o. EachIn o (λ v. Met ks (bind p v h))) (sym (one-means t (suc k) w h l (first-of vs k w us c)
-            (and-left (is_of pl es t w) (are_of pl es ts (to_list us)) o))) (r ks refl, tt))
+        go (Some ks) q r = subst (λ x. Met x h) (let y : from p (One t (suc k)) ks ≡ gs = cc in y) (
+          (tt, tt),
+          subst (λ o. EachIn o (λ v. Met ks (bind p v h))) (sym (one-means t (suc k) w h l (first-of vs k w us c)
+              (and-left (is_of pl es t w) (are_of pl es ts (to_list us)) o))) (r ks refl, tt),
+        )
     bound-met (more_pats p ps) (more_tys t ts) k nil h gs q o c l b m = no o
     bound-met no_pats (more_tys t ts) k us h gs q o c l b m = cc
     bound-met (more_pats p ps) no_tys k us h gs q o c l b m = cc
@@ -158,12 +160,14 @@ pattern-keeps s g (comp_ex e (from (tuple_pat ps) t hs)) f q env c m = typed (so
         (meaning (comp_ex e (from (tuple_pat ps) t hs)) env ≡ meaning f env) × Meets f env
     opened ts None p q k = cc
     opened ts (Some gs) p q k = subst (λ z. (meaning (comp_ex e (from (tuple_pat ps) t hs)) env ≡ meaning z env) × Meets z env)
-        (let y : comp_ex e (from (name_pat s.one) t gs) ≡ f = cc in y)
-        (
+        (let y : comp_ex e (from (name_pat s.one) t gs) ≡ f = cc in y) (
           ap (option_map list_value) (collect-each-in (meaning t env) _ _ (each-in-map (meaning t env) _ _
               (λ v o. opened-at s.one e hs env.positions env.types env.cells ps ts gs p c.1 c.0 env.vals v o) k)),
-          (m.0, each-in-join (meaning t env) _ _ _
-              (λ v o n. met-at s.one e hs env.positions env.types env.cells ps ts gs p c.1 c.0 env.vals v o n) k m.1),
+          (
+            m.0,
+            each-in-join (meaning t env) _ _ _
+                (λ v o n. met-at s.one e hs env.positions env.types env.cells ps ts gs p c.1 c.0 env.vals v o n) k m.1,
+          ),
         )
 
     typed : (y : Ty) → and_then (tuple_parts y)
