@@ -1,5 +1,6 @@
 -- Sources, relations applied
 pub mod OpenedFolds
+pub mod PatternSources
 pub mod OpenedSources
 -- Words that see no index domain, or no repeats
 pub mod PlainLists

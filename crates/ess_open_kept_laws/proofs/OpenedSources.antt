@@ -32,6 +32,7 @@ use Rattle.ess_open_rules_laws.specs.OpenGenerators.{Opened, at_first_open, put_
 use Rattle.ess_open_rules_laws.specs.OpenSources.{all_offered, behind_gens, put_opened, comp_offered, over_one_opened, in_order_told, opened_in_order, pattern_opened, kept_in_order, kept_behind}
 use Rattle.ess_open_kept_laws.specs.OpenedAsks.{OfferedBehind, SourceBehind, OpenedAsks, ToldInOrder, InOrderAsks, KeptBehindAsks}
 use Rattle.ess_open_kept_laws.proofs.OpenedFolds.{opened-are}
+use Rattle.ess_open_kept_laws.proofs.PatternSources.{pattern-keeps}
 use Rattle.ess_kinds_kept_laws.proofs.TermsLookedUp.{or-asked}
 use Rattle.ess_kinds_kept_laws.proofs.UnorderedTails.{unordered-tails}
 
@@ -104,7 +105,7 @@ in-order-keeps s g e f q env c = or-asked (splice e) _ _ _ R f q c (λ a p k. sp
     (λ q c. or-asked (split e) _ _ _ R f q c (λ a p k. split-keeps k.0 e a p k.1 env k.2)
     (λ q c. or-asked (name_over_tuple s.parts e) _ _ _ R f q c (λ a p k. names-over-tuples s.parts e a p env)
     (λ q c. or-asked (name_over_record s.parts e) _ _ _ R f q c (λ a p k. names-over-records s.parts e a p env)
-    (λ q c. or-asked (pattern_opened g s.one e) _ _ _ R f q c (λ a p k. absurd k) (λ q c. told-keeps s g e f q env c)))))
+    (λ q c. or-asked (pattern_opened g s.one e) _ _ _ R f q c (λ a p k. pattern-keeps s g e a p env k) (λ q c. told-keeps s g e f q env c)))))
   where
     R : Ex → Type 0
     R f = Keeps e f env

@@ -1,13 +1,17 @@
 -- What rules of sources at the first generator that isn't plain count on, at each binding of the plain ones before it.
-use Rattle.std.specs.Prelude.{Bool, List, [], ◌∷◌, Some, IsTrue, is_some}
+use Rattle.std.specs.Prelude.{Bool, not, List, [], ◌∷◌, Some, IsTrue, is_some}
 use Rattle.ess_semantics.specs.Values.{Text}
 use Rattle.ess_semantics.specs.Names.{Names}
-use Rattle.ess_semantics.specs.Trees.{name_pat, Ex, comp_ex, fun1, Gens, from}
+use Rattle.ess_semantics.specs.Trees.{name_pat, tuple_pat, Ex, comp_ex, fun1, Gens, from}
 use Rattle.ess_semantics.specs.Types.{Ty}
+use Rattle.ess_semantics.specs.Order.{same_text}
+use Rattle.ess_semantics.specs.Typing.{source_ty}
+use Rattle.ess_semantics.specs.TypeMembers.{is_of_type}
+use Rattle.ess_semantics.specs.Substitution.{BindsAll}
 use Rattle.ess_semantics.specs.NamesAt.{names_behind}
-use Rattle.ess_semantics.specs.Contexts.{EachOf, AtEach}
+use Rattle.ess_semantics.specs.Contexts.{EachOf, EachIn, AtEach}
 use Rattle.ess_semantics.specs.Meaning.{Env, meaning}
-use Rattle.ess_rules_laws.specs.Rules.{OperandsThere, IsNumber}
+use Rattle.ess_rules_laws.specs.Rules.{Unused, OperandsThere, IsNumber}
 use Rattle.ess_rules_laws.specs.Listings.{Alternative, all_listed}
 use Rattle.ess_rules_laws.specs.ListedSources.{Offers, SourceApart, SourceInOrder, EachApart}
 use Rattle.ess_rules_laws.specs.SpliceRules.{splice, SourceThere, NamesApart}
@@ -51,14 +55,20 @@ ToldInOrder s g (comp_ex e (from p t hs)) env = OfSome (in_order_told s g t)
     × SourceInOrder a (comp_ex e (from p t hs)) env)
 ToldInOrder s g e env = Unit {0}
 
--- What the rules ask that keep the order, at the first generator. Of patterns over sources nothing is said.
+-- Of a pattern over a source: the new name stands neither behind it nor in it, and each value is of the type that is read off the source.
+abbrev pub PatternFits : Supply → Names Ty → Ex → Env → Type 0
+PatternFits s g (comp_ex e (from (tuple_pat ps) t hs)) env = Unused s.one (comp_ex e hs) × BindsAll (λ a. not (same_text s.one a)) ps
+    × EachIn (meaning t env) (λ v. IsTrue (is_of_type (source_ty t g) env v))
+PatternFits s g e env = Unit {0}
+
+-- What the rules ask that keep the order, at the first generator.
 abbrev pub InOrderAsks : Supply → Names Ty → Ex → Env → Type 0
 InOrderAsks s g e env =
     OrAsks (splice e) (λ f. (r : Text → Bool) × (u : Text → Bool) × NamesApart r u e × SourceThere e env)
     (OrAsks (split e) (λ f. (r : Text → Bool) × DomainApart r e × DomainThere e env)
     (OrAsks (name_over_tuple s.parts e) (λ f. Unit {0})
     (OrAsks (name_over_record s.parts e) (λ f. Unit {0})
-    (OrAsks (pattern_opened g s.one e) (λ f. ⊥) (ToldInOrder s g e env)))))
+    (OrAsks (pattern_opened g s.one e) (λ f. PatternFits s g e env) (ToldInOrder s g e env)))))
 
 -- At each binding of the plain generators.
 abbrev pub KeptBehindAsks : Supply → Names Ty → Ex → Env → Type 0
