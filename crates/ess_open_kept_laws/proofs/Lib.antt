@@ -6,6 +6,7 @@ pub mod OpenedSources
 pub mod PlainLists
 pub mod LooseTails
 -- Several alternatives
+pub mod ItemsAcross
 pub mod OpenedAlternatives
 -- All these rules
 pub mod OpenRulesKeep

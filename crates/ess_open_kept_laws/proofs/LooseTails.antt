@@ -214,7 +214,8 @@ at-all (from p e gs) env P f = each-in-any (meaning e env) _ (λ v. at-all gs (w
 at-all (cond e gs) env P f = λ t. at-all gs env P f
 
 loose-keeps : (m : Bool) (w : Fun) → forgets_repeats m w ≡ true → (e : Ex) (gs : Gens) (p : Pat) (t : Ex) (hs : Gens) (env : Env) →
-    Keeps (fun1 m w (comp_ex e (append_gens gs (from p (fun1 false Fun.ToSet t) hs)))) (fun1 m w (comp_ex e (append_gens gs (from p t hs)))) env
+    Keeps (fun1 m w (comp_ex e (append_gens gs (from p (fun1 false Fun.ToSet t) hs))))
+    (fun1 m w (comp_ex e (append_gens gs (from p t hs)))) env
 loose-keeps m w h e gs p t hs env k = (
   word-loose m w h (items_under (append_gens gs (from p (fun1 false Fun.ToSet t) hs)) env (K p t hs e))
       (items_under (append_gens gs (from p t hs)) env (K p t hs e))

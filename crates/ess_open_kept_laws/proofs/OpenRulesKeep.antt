@@ -104,7 +104,8 @@ picked-nth any g j (more_exs a es) k e q = go (picks a && (any || is_compound_ty
 
 over-picked : (s : Supply) (g : Names Ty) (e f : Ex) → over_a_pick s g e ≡ Some f → (env : Env) → Typed g env → Unused s.one e →
     PickAsks s g e env → RootFits e env → Keeps e f env
-over-picked s g (node_ex b op es) f q env t u c r m = at (first_picked (compares_values b op) g 1 es) refl (under-test (gives_scalar g (node_ex b op es))
+over-picked s g (node_ex b op es) f q env t u c r m = at (first_picked (compares_values b op) g 1 es) refl
+    (under-test (gives_scalar g (node_ex b op es))
     (and_then (first_picked (compares_values b op) g 1 es)
     (λ p. and_then (looked_up g s.third s.parts p.1) (λ l. select_each s.one p.0 l (node_ex b op es)))) f q).1 c
   where

@@ -1,11 +1,11 @@
 -- A comprehension offers the alternatives of its first source that isn't plain; and so the least, the greatest and the set of its items are
 -- kept over several alternatives.
-use Rattle.std.proofs.Common.{◌≡◌, refl, sym, ap, ◌∙◌, subst, ◌+◌, true, false, ◌||◌, List, [], ◌∷◌, ◌++◌, map, Option, Some, None, option_map, arith}
+use Rattle.std.proofs.Common.{◌≡◌, refl, sym, ap, ◌∙◌, subst, true, false, ◌||◌, List, [], ◌∷◌, ◌++◌, map, Option, Some, None, option_map}
 use Rattle.std.specs.Prelude.{IsTrue, is_some}
 use Rattle.ess_semantics.specs.declared.words.Op2.{Op2}
 use Rattle.ess_semantics.specs.declared.words.Fun.{Fun}
 use Rattle.ess_semantics.specs.Lists.{and_then, list_or_none}
-use Rattle.ess_semantics.specs.Values.{a_set, Value, number, truth, item, node, of_list, to_list, items_of}
+use Rattle.ess_semantics.specs.Values.{a_set, Value, node, of_list, to_list, items_of}
 use Rattle.ess_semantics.specs.Collections.{count, holds, sorted_once, set_of}
 use Rattle.ess_semantics.specs.Names.{Names}
 use Rattle.ess_semantics.specs.Trees.{binary, word, name_pat, tuple_pat, Ex, comp_ex, fun1, Gens, no_gens, over, from, cond}
@@ -13,13 +13,12 @@ use Rattle.ess_semantics.specs.Types.{Ty}
 use Rattle.ess_semantics.specs.NamesAt.{names_behind}
 use Rattle.ess_semantics.specs.Operators.{value_of_node, list_value}
 use Rattle.ess_semantics.specs.Contexts.{EachOf, AtEach}
-use Rattle.ess_semantics.specs.Meaning.{Env, meaning, domain_of, members_in, items_under, with_pat, collect, where_true}
+use Rattle.ess_semantics.specs.Meaning.{Env, meaning, domain_of, members_in, items_under, with_pat}
 use Rattle.ess_semantics.specs.Meets.{Meets, MeetsGens}
 use Rattle.ess_semantics.specs.Kept.{Keeps}
 use Rattle.ess_semantics.proofs.Tests.{and-left}
 use Rattle.ess_semantics.proofs.Orders.{to_list-of_list}
 use Rattle.ess_semantics.proofs.Overlaps.{holds-append}
-use Rattle.ess_semantics.proofs.Repeats.{count-append}
 use Rattle.ess_semantics.proofs.Sorting.{one-set, holds-sorted_once}
 use Rattle.ess_rules_laws.specs.Rules.{OperandsThere, IsNumber}
 use Rattle.ess_rules_laws.specs.Listings.{Alternative, items_listed, all_listed, SameLists}
@@ -27,10 +26,9 @@ use Rattle.ess_rules_laws.specs.ListedSources.{laid_out, AllMet, Offers}
 use Rattle.ess_rules_laws.specs.SpliceRules.{append_gens}
 use Rattle.ess_rules_laws.proofs.Bindings.{each-of-join, each-in-join, at-each-map}
 use Rattle.ess_rules_laws.proofs.Folds.{perm-counts}
-use Rattle.ess_rules_laws.proofs.Permutations.{Perm, same_list, chain, holds-perm, count-perm, perm-behind, Alike, alike-itself, alike-of, alike-chain, collect-alike, items-alike-behind}
-use Rattle.ess_rules_laws.proofs.RuleAnswers.{each-any}
+use Rattle.ess_rules_laws.proofs.Permutations.{chain, holds-perm, count-perm, Alike, alike-of, alike-chain, items-alike-behind}
 use Rattle.ess_rules_laws.proofs.SourceRules.{alike-there, both-lists, list-there}
-use Rattle.ess_rules_laws.proofs.Splices.{first-there, rest-there, items-append}
+use Rattle.ess_rules_laws.proofs.Splices.{rest-there, items-append}
 use Rattle.ess_rules_laws.proofs.Steps.{meets-gens-join, at-each-met}
 use Rattle.ess_refine_laws.specs.AllRules.{Supply, OfSome}
 use Rattle.ess_refine_laws.specs.ExtremeAlternatives.{put_alternative, extreme_alternatives}
@@ -45,124 +43,7 @@ use Rattle.ess_open_rules_laws.specs.OpenSources.{all_offered, behind_gens, put_
 use Rattle.ess_open_kept_laws.specs.OpenedAsks.{OfferedBehind, SourceBehind, OpenedAsks, LeastAsks}
 use Rattle.ess_open_kept_laws.proofs.LooseTails.{at-all}
 use Rattle.ess_open_kept_laws.proofs.OpenedFolds.{opened-are}
-
--- ---- lists one behind the other
-
-abbrev Joined : Option (List Value) → Option (List Value) → Option (List Value)
-Joined o c = and_then o (λ xs. option_map (λ ys. xs ++ ys) c)
-
-joined-alike : (o c d : Option (List Value)) → Alike c d → Alike (Joined o c) (Joined o d)
-joined-alike None c d p = tt
-joined-alike (Some a) None None p = tt
-joined-alike (Some a) (Some c) (Some d) p = perm-behind a p
-joined-alike (Some a) None (Some d) p = absurd p
-joined-alike (Some a) (Some c) None p = absurd p
-
-crossed : (a b c d : List Value) → Perm ((a ++ b) ++ (c ++ d)) ((a ++ c) ++ (b ++ d))
-crossed a b c d = perm-counts ((a ++ b) ++ (c ++ d)) ((a ++ c) ++ (b ++ d)) (λ v.
-    let e : count ((a ++ b) ++ (c ++ d)) v ≡ count (a ++ b) v + count (c ++ d) v = count-append (a ++ b) (c ++ d) v in
-    let e1 : count (a ++ b) v ≡ count a v + count b v = count-append a b v in
-    let e2 : count (c ++ d) v ≡ count c v + count d v = count-append c d v in
-    let f : count ((a ++ c) ++ (b ++ d)) v ≡ count (a ++ c) v + count (b ++ d) v = count-append (a ++ c) (b ++ d) v in
-    let f1 : count (a ++ c) v ≡ count a v + count c v = count-append a c v in
-    let f2 : count (b ++ d) v ≡ count b v + count d v = count-append b d v in
-    omega arith)
-
-joined-across : (a b c d : Option (List Value)) → Alike (Joined (Joined a b) (Joined c d)) (Joined (Joined a c) (Joined b d))
-joined-across None b c d = tt
-joined-across (Some a) None None d = tt
-joined-across (Some a) None (Some c) d = tt
-joined-across (Some a) (Some b) None d = tt
-joined-across (Some a) (Some b) (Some c) None = tt
-joined-across (Some a) (Some b) (Some c) (Some d) = crossed a b c d
-
-collect-across : (vs : List Value) (F G : Value → Option (List Value)) →
-    Alike (collect vs (λ v. Joined (F v) (G v))) (Joined (collect vs F) (collect vs G))
-collect-across [] F G = same_list
-collect-across (v ∷ vs) F G = alike-chain (Joined (Joined (F v) (G v)) (collect vs (λ v. Joined (F v) (G v))))
-    (Joined (Joined (F v) (G v)) (Joined (collect vs F) (collect vs G)))
-    (Joined (Joined (F v) (collect vs F)) (Joined (G v) (collect vs G)))
-    (joined-alike (Joined (F v) (G v)) (collect vs (λ v. Joined (F v) (G v))) (Joined (collect vs F) (collect vs G))
-    (collect-across vs F G)) (joined-across (F v) (G v) (collect vs F) (collect vs G))
-
-some-across : (vs : List Value) (H F G : Value → Option (List Value)) → ((v : Value) → Alike (H v) (Joined (F v) (G v))) →
-    Alike (collect vs H) (Joined (collect vs F) (collect vs G))
-some-across vs H F G h = alike-chain (collect vs H) (collect vs (λ v. Joined (F v) (G v))) (Joined (collect vs F) (collect vs G))
-    (collect-alike vs H (λ v. Joined (F v) (G v)) (each-any vs _ h)) (collect-across vs F G)
-
-over-across : (o : Option (List Value)) (H F G : Value → Option (List Value)) → ((v : Value) → Alike (H v) (Joined (F v) (G v))) →
-    Alike (and_then o (λ vs. collect vs H)) (Joined (and_then o (λ vs. collect vs F)) (and_then o (λ vs. collect vs G)))
-over-across None H F G h = tt
-over-across (Some vs) H F G h = some-across vs H F G h
-
-from-across : (o : Option Value) (H F G : Value → Option (List Value)) → ((v : Value) → Alike (H v) (Joined (F v) (G v))) →
-    Alike (and_then o (λ s. collect (items_of s) H))
-    (Joined (and_then o (λ s. collect (items_of s) F)) (and_then o (λ s. collect (items_of s) G)))
-from-across None H F G h = tt
-from-across (Some s) H F G h = some-across (items_of s) H F G h
-
-where-across : (o : Option Value) (x a b : Option (List Value)) → Alike x (Joined a b) →
-    Alike (where_true o (λ u. x)) (Joined (where_true o (λ u. a)) (where_true o (λ u. b)))
-where-across None x a b h = same_list
-where-across (Some (truth true)) x a b h = h
-where-across (Some (truth false)) x a b h = same_list
-where-across (Some (number n)) x a b h = same_list
-where-across (Some (item t k)) x a b h = same_list
-where-across (Some (node k vs)) x a b h = same_list
-
--- Two lists at each binding: all of the first, and all of the second.
-items-across : (gs : Gens) (env : Env) (A B : Env → Option (List Value)) →
-    Alike (items_under gs env (λ here. Joined (A here) (B here))) (Joined (items_under gs env A) (items_under gs env B))
-items-across no_gens env A B = alike-itself (Joined (A env) (B env))
-items-across (over p d gs) env A B = over-across (members_in (domain_of d env))
-    (λ v. items_under gs (with_pat p v env) (λ here. Joined (A here) (B here))) (λ v. items_under gs (with_pat p v env) A)
-    (λ v. items_under gs (with_pat p v env) B) (λ v. items-across gs (with_pat p v env) A B)
-items-across (from p e gs) env A B = from-across (meaning e env)
-    (λ v. items_under gs (with_pat p v env) (λ here. Joined (A here) (B here))) (λ v. items_under gs (with_pat p v env) A)
-    (λ v. items_under gs (with_pat p v env) B) (λ v. items-across gs (with_pat p v env) A B)
-items-across (cond c gs) env A B = where-across (meaning c env) (items_under gs env (λ here. Joined (A here) (B here)))
-    (items_under gs env A) (items_under gs env B) (items-across gs env A B)
-
--- ---- nothing at each binding
-
-collect-nothing : (vs : List Value) (F : Value → Option (List Value)) → ((v : Value) → is_some (F v) ≡ true → F v ≡ Some []) →
-    is_some (collect vs F) ≡ true → collect vs F ≡ Some []
-collect-nothing [] F h t = refl
-collect-nothing (v ∷ vs) F h t = ap (λ o. Joined o (collect vs F)) (h v (first-there (F v) (collect vs F) t))
-    ∙ ap (λ o. Joined (Some []) o) (collect-nothing vs F h (rest-there (F v) (collect vs F) t))
-
-nothing : (gs : Gens) (env : Env) → is_some (items_under gs env (λ here. Some [])) ≡ true → items_under gs env (λ here. Some []) ≡ Some []
-nothing no_gens env t = refl
-nothing (over p d gs) env t = go (members_in (domain_of d env)) (λ v h. nothing gs (with_pat p v env) h) t
-  where
-    F : Value → Option (List Value)
-    F v = items_under gs (with_pat p v env) (λ here. Some [])
-
-    go : (o : Option (List Value)) → ((v : Value) → is_some (F v) ≡ true → F v ≡ Some []) →
-        is_some (and_then o (λ vs. collect vs F)) ≡ true → and_then o (λ vs. collect vs F) ≡ Some []
-    go None h t = cc
-    go (Some vs) h t = collect-nothing vs F h t
-nothing (from p e gs) env t = go (meaning e env) (λ v h. nothing gs (with_pat p v env) h) t
-  where
-    F : Value → Option (List Value)
-    F v = items_under gs (with_pat p v env) (λ here. Some [])
-
-    go : (o : Option Value) → ((v : Value) → is_some (F v) ≡ true → F v ≡ Some []) →
-        is_some (and_then o (λ s. collect (items_of s) F)) ≡ true → and_then o (λ s. collect (items_of s) F) ≡ Some []
-    go None h t = cc
-    go (Some s) h t = collect-nothing (items_of s) F h t
-nothing (cond c gs) env t = go (meaning c env) (λ h. nothing gs env h) t
-  where
-    go : (o : Option Value) →
-        (is_some (items_under gs env (λ here. Some [])) ≡ true → items_under gs env (λ here. Some []) ≡ Some []) →
-        is_some (where_true o (λ u. items_under gs env (λ here. Some []))) ≡ true →
-        where_true o (λ u. items_under gs env (λ here. Some [])) ≡ Some []
-    go None h t = refl
-    go (Some (truth true)) h t = h t
-    go (Some (truth false)) h t = refl
-    go (Some (number n)) h t = refl
-    go (Some (item a k)) h t = refl
-    go (Some (node k vs)) h t = refl
+use Rattle.ess_open_kept_laws.proofs.ItemsAcross.{Joined, joined-alike, items-across, nothing}
 
 -- ---- alternatives behind generators
 
@@ -199,7 +80,8 @@ module _ (before : Gens) (env : Env) (P : Alternative → Alternative) where
   behind-listed [] t = alike-of (nothing before env t)
   behind-listed (a ∷ l) t =
       let c = items-across before env (λ here. items_listed (P a) here) (λ here. all_listed (map P l) here) in
-      alike-chain (All (a ∷ l)) (Joined (items_under before env (λ here. items_listed (P a) here)) (All l)) (all_listed (Behind (a ∷ l)) env) c
+      alike-chain (All (a ∷ l)) (Joined (items_under before env (λ here. items_listed (P a) here)) (All l))
+      (all_listed (Behind (a ∷ l)) env) c
       (subst (λ z. Alike (Joined (items_under before env (λ here. items_listed (P a) here)) (All l)) (Joined z (all_listed (Behind l) env)))
       (sym (behind-items (P a)))
       (joined-alike (items_under before env (λ here. items_listed (P a) here)) (All l) (all_listed (Behind l) env)

@@ -105,7 +105,8 @@ in-order-keeps s g e f q env c = or-asked (splice e) _ _ _ R f q c (λ a p k. sp
     (λ q c. or-asked (split e) _ _ _ R f q c (λ a p k. split-keeps k.0 e a p k.1 env k.2)
     (λ q c. or-asked (name_over_tuple s.parts e) _ _ _ R f q c (λ a p k. names-over-tuples s.parts e a p env)
     (λ q c. or-asked (name_over_record s.parts e) _ _ _ R f q c (λ a p k. names-over-records s.parts e a p env)
-    (λ q c. or-asked (pattern_opened g s.one e) _ _ _ R f q c (λ a p k. pattern-keeps s g e a p env k) (λ q c. told-keeps s g e f q env c)))))
+    (λ q c. or-asked (pattern_opened g s.one e) _ _ _ R f q c (λ a p k. pattern-keeps s g e a p env k)
+    (λ q c. told-keeps s g e f q env c)))))
   where
     R : Ex → Type 0
     R f = Keeps e f env

@@ -74,7 +74,8 @@ module _ (z : Text) (e : Ex) (hs : Gens) (pl : Bool) (es : List TypeEntry) (cs :
   module _ (vs : Values) where
     one-means : (t : Ty) (k : ℕ) (w : Value) (h : Vals) → look h z ≡ Some (tuple vs) → component vs k ≡ Some w → is_of pl es t w ≡ true →
         meaning (One t k) (M h) ≡ Some (list_value (w ∷ []))
-    one-means t k w h l c o = ap (λ o. option_map list_value (option_map (λ v. v ∷ []) o)) (component-means t k (name_ex z) (M h) vs w l c o)
+    one-means t k w h l c o = ap (λ o. option_map list_value (option_map (λ v. v ∷ []) o))
+        (component-means t k (name_ex z) (M h) vs w l c o)
 
     still : (p : Pat) (w : Value) (h : Vals) → look h z ≡ Some (tuple vs) → Binds (but z) p → look (bind p w h) z ≡ Some (tuple vs)
     still p w h l b = sym (bind-outside (but z) p w h b z (ap (λ x. not (not x)) (same_text-itself z))) ∙ l

@@ -25,7 +25,8 @@ no h = cc
 
 -- ---- words by their items
 
-word-items : (f : Fun) → is_fold f || is_of_list f ≡ true → (u v : Value) → items_of u ≡ items_of v → value_of_word1 f u ≡ value_of_word1 f v
+word-items : (f : Fun) → is_fold f || is_of_list f ≡ true → (u v : Value) → items_of u ≡ items_of v →
+    value_of_word1 f u ≡ value_of_word1 f v
 word-items Fun.Sum h u v e = ap (λ l. Some (number (sum_of l))) e
 word-items Fun.Product h u v e = ap (λ l. Some (number (product_of l))) e
 word-items Fun.And h u v e = ap (λ l. Some (truth (all_true l))) e

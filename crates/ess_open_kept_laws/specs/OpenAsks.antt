@@ -1,5 +1,5 @@
--- What each rule counts on at the first generator that isn't plain, of what is picked, of relations applied and of indices of several steps,
--- and that it then keeps what it rewrites.
+-- What each rule counts on at the first generator that isn't plain, of what is picked, of relations applied and of indices of several
+-- steps, and that it then keeps what it rewrites.
 use Rattle.std.specs.Prelude.{◌≡◌, Bool, not, List, Some, IsTrue, is_some}
 use Rattle.ess_semantics.specs.Values.{Text}
 use Rattle.ess_semantics.specs.Names.{Names}
