@@ -1,0 +1,2 @@
+-- Views of finds
+pub mod Finds
