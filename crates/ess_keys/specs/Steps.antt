@@ -1,0 +1,32 @@
+-- Generators with plain keys, one by one.
+use Rattle.std.specs.Prelude.{List, [], ◌∷◌, ◌++◌, map, Option, Some, None}
+use Rattle.ess_semantics.specs.Trees.{Ex, Pat, Dom}
+use Rattle.ess_core.specs.TreeViews.{Item, over_item, from_item, cond_item, gens_of}
+use Rattle.ess_keys_laws.specs.Keyed.{Around, sure_key, entered, entered_any, conjuncts, keyed, keyed_dom}
+
+-- A generator over d, where its name has no key.
+abbrev pub generator_left : Pat → Dom → Option Ex → List Item
+generator_left p d (Some t) = []
+generator_left p d None = over_item p d ∷ []
+
+-- What is left of a generator or condition before others.
+abbrev pub items_left : Around → Item → List Item → List Item
+items_left c (over_item p d) gs = generator_left p (keyed_dom c d) (sure_key c p (keyed_dom c d) (gens_of gs))
+items_left c (from_item p e) gs = from_item p (keyed c e) ∷ []
+items_left c (cond_item e) gs = map cond_item (conjuncts c.origins (keyed c e))
+
+-- What is known behind it.
+abbrev pub behind_item : Around → Item → List Item → Around
+behind_item c (over_item p d) gs = entered c p (keyed_dom c d) (sure_key c p (keyed_dom c d) (gens_of gs))
+behind_item c (from_item p e) gs = entered_any c p
+behind_item c (cond_item e) gs = c
+
+-- What is left of several.
+abbrev pub items_of : Around → List Item → List Item
+items_of c [] = []
+items_of c (g ∷ gs) = items_left c g gs ++ items_of (behind_item c g gs) gs
+
+-- What is known behind them.
+abbrev pub behind_items : Around → List Item → Around
+behind_items c [] = c
+behind_items c (g ∷ gs) = behind_items (behind_item c g gs) gs
