@@ -1,0 +1,6 @@
+-- Rules by the parts of a root
+mod WordForms
+mod CompForms
+-- Sets united from the back, and operands that pick
+mod SetRows
+mod PickedRows

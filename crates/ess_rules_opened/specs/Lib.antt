@@ -1,0 +1,6 @@
+-- What rules take, in code
+pub mod Supplies
+-- What the code takes apart
+pub mod OpenedViews
+-- Rules by the parts of a root
+pub mod WordParts
