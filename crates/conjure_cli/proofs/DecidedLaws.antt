@@ -80,10 +80,11 @@ no_stop (Outcome.Refused why) tree file held before after P told is short quiet 
     let one : h.2.0 ≡ held = one_text tree file held h.2.0 is (subst (λ t. WasRead t file h.2.0) (h.1.tree ∙ told) h.2.1.was) in
     never why h.2.2 (subst (λ t. P t why) one h.2.3)
 no_stop (Outcome.Judged v) tree file held before after P told is short quiet room never h = h.2
+no_stop (Outcome.BadItem k) tree file held before after P told is short quiet room never h = h.2
 
 -- ---- good texts are refused by none
 
-good_essence : (text : List ℕ) (S : List Stm) (why : TransNo) → IsEssence text S → IsTold why → IsNoEssence text why → ⊥
+pub good_essence : (text : List ℕ) (S : List Stm) (why : TransNo) → IsEssence text S → IsTold why → IsNoEssence text why → ⊥
 good_essence text S (TransNo.Read Which.Essence why) good told h = spelled-unrefused IsSpecification text S why good.spells h
 good_essence text S (TransNo.Read Which.Param why) good told h = h
 good_essence text S (TransNo.Read Which.Solution why) good told h = h
@@ -240,6 +241,8 @@ module _ (tree : Tree) (e p s essence param sol : List ℕ) (S F G : List Stm)
       absurd (good_stops (Outcome.Plain Ending.Unwritable) at before after told quiet.0 (λ e. cc) h)
   good_decides (Outcome.Refused why) status at before after o o' told quiet is h =
       absurd (good_stops (Outcome.Refused why) at before after told quiet.0 (λ e. cc) h)
+  good_decides (Outcome.BadItem k) status at before after o o' told quiet is h =
+      absurd (good_stops (Outcome.BadItem k) at before after told quiet.0 (λ e. cc) h)
 
 -- the three files decide
 pub files_decide : (outcome : Outcome) (status : ℕ) (at : Which) (e p s : List ℕ) (before after : FilesSeen) (o o' : SinkSeen)

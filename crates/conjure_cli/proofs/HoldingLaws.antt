@@ -15,7 +15,7 @@ use Rattle.ess_translate.specs.declared.refusal.TransNo.{TransNo}
 use Rattle.ess_translate.specs.Answers.{IsNoEssence, IsNoParameter, IsNotJudged}
 use Rattle.conjure_cli.specs.Seen.{FilesSeen, SinkSeen}
 use Rattle.conjure_cli.specs.Ending.{status_of}
-use Rattle.conjure_cli.specs.Tasks.{Task, refine, judge, translate, later}
+use Rattle.conjure_cli.specs.Tasks.{Task, refine, judge, translate, test}
 use Rattle.conjure_cli.specs.Reasons.{read_status, refusal_status, verdict_status}
 use Rattle.conjure_cli.specs.Judging.{JudgeCause, StopCause, VerdictFound}
 use Rattle.conjure_cli.specs.Runs.{outcome_status, Ends}
@@ -165,6 +165,8 @@ judged_says (Outcome.Judged v) at e p s before after o o' cause = (
 )
 judged_says (Outcome.Refused why) at e p s before after o o' cause =
     (λ is. absurd (refusal_not_zero why is), λ is. absurd (refused_not_one at why e p s before after cause is))
+judged_says (Outcome.BadItem k) at e p s before after o o' cause =
+    (λ is. absurd (omega (arith, is)), λ is. absurd (omega (arith, is)))
 judged_says (Outcome.Plain ending) at e p s before after o o' cause = (
   λ is. absurd (stops_nowhere (Outcome.Plain Ending.Done) at e p s before after (λ file b a P n. n)
       (subst (λ x. JudgeCause (Outcome.Plain x) at e p s before after o o') (zero_is_done ending is) cause)),
@@ -175,9 +177,9 @@ judged_says (Outcome.Plain ending) at e p s before after o o' cause = (
 pub says_whether_solution : (outcome : Outcome) (status : ℕ) (task : Option Task) (takes : Bool) (before after : FilesSeen) (o o' e e' : SinkSeen)
     → Ends outcome status task takes before after o o' e e' → SaysWhetherSolution status task before
 says_whether_solution outcome status None takes before after o o' e e' ends = tt
-says_whether_solution outcome status (Some (later name)) takes before after o o' e e' ends = tt
+says_whether_solution outcome status (Some (test n)) takes before after o o' e e' ends = tt
 says_whether_solution outcome status (Some (translate m p c place)) takes before after o o' e1 e2 ends = tt
-says_whether_solution outcome status (Some (refine file place)) takes before after o o' e e' ends = tt
+says_whether_solution outcome status (Some (refine file place list)) takes before after o o' e e' ends = tt
 says_whether_solution outcome status (Some (judge e p s)) takes before after o o' e1 e2 ends =
     subst (λ n. SaysWhetherSolution n (Some (judge e p s)) before) (sym ends.status_is)
     (judged_says outcome ends.at e p s before after o o' ends.cause)

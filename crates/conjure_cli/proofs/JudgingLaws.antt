@@ -87,6 +87,7 @@ stop_cause : (outcome : Outcome) (at : Which) (e p s : List ℕ) (before after :
     → JudgeCause outcome at e p s before after o o'
 stop_cause (Outcome.Judged v) at e p s before after o o' h = absurd
     (stops_nowhere (Outcome.Judged v) at e p s before after (λ file b a P n. n) h)
+stop_cause (Outcome.BadItem k) at e p s before after o o' h = h
 stop_cause (Outcome.Refused why) at e p s before after o o' h = h
 stop_cause (Outcome.Plain Ending.OutputFailed) at e p s before after o o' h =
     absurd (stops_nowhere (Outcome.Plain Ending.OutputFailed) at e p s before after (λ file b a P n. n) h)
@@ -105,6 +106,7 @@ stop_out : (outcome : Outcome) (at : Which) (e p s : List ℕ) (before after : F
     → JudgeOut outcome before.tree e p s o o
 stop_out (Outcome.Judged v) at e p s before after o h = absurd
     (stops_nowhere (Outcome.Judged v) at e p s before after (λ file b a P n. n) h)
+stop_out (Outcome.BadItem k) at e p s before after o h = refl
 stop_out (Outcome.Refused why) at e p s before after o h = refl
 stop_out (Outcome.Plain Ending.OutputFailed) at e p s before after o h =
     absurd (stops_nowhere (Outcome.Plain Ending.OutputFailed) at e p s before after (λ file b a P n. n) h)
@@ -159,6 +161,7 @@ ends_judged v (Outcome.Plain Ending.Unreadable) e p s before after o o' eb ea fo
 ends_judged v (Outcome.Plain Ending.TooLong) e p s before after o o' eb ea found same h = absurd h
 ends_judged v (Outcome.Plain Ending.NotYet) e p s before after o o' eb ea found same h = absurd h
 ends_judged v (Outcome.Plain Ending.Unwritable) e p s before after o o' eb ea found same h = absurd h
+ends_judged v (Outcome.BadItem k) e p s before after o o' eb ea found same h = absurd h
 ends_judged v (Outcome.Refused why) e p s before after o o' eb ea found same h = absurd h
 
 -- ---- the status
@@ -217,6 +220,7 @@ pub never_two : (outcome : Outcome) (at : Which) (e p s : List ℕ) (before afte
     → JudgeCause outcome at e p s before after o o'
     → outcome_status outcome ≡ 2 → ⊥
 never_two (Outcome.Judged v) at e p s before after o o' cause two = verdict_not_two v two
+never_two (Outcome.BadItem k) at e p s before after o o' cause two = omega (arith, two)
 never_two (Outcome.Refused why) at e p s before after o o' cause two = refusal_not_two why two
 never_two (Outcome.Plain ending) at e p s before after o o' cause two =
     stops_nowhere (Outcome.Plain Ending.Usage) at e p s before after (λ file b a P n. n)

@@ -1,4 +1,5 @@
 mod Examples
+mod ExamplesTasks
 pub mod NameLaws
 pub mod LineLaws
 pub mod Scans
@@ -14,6 +15,10 @@ pub mod DecidedLaws
 pub mod TranslatingLaws
 pub mod TranslationTexts
 pub mod TranslationLaws
+pub mod RefiningLaws
+pub mod TextLaws
+pub mod WholeLaws
+pub mod TestingLaws
 pub mod RunLaws
 pub mod StandingLaws
 pub mod HoldingLaws

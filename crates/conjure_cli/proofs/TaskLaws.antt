@@ -6,7 +6,7 @@ use Rattle.conjure_cli_words.specs.Items.{plain, item, operand, look_of, items_o
 use Rattle.conjure_cli_words.specs.Forms.{fitting, read_as}
 use Rattle.conjure_cli_words.specs.Commands.{modelling_form, modelling_of}
 use Rattle.conjure_cli.specs.Ending.{model_file}
-use Rattle.conjure_cli.specs.Tasks.{begins_with_dash, file_named, takes_memory, Task, refine, judge, translate, later, task_of, asked, reads_more, ReadsUpTo, ReadsAfter}
+use Rattle.conjure_cli.specs.Tasks.{begins_with_dash, file_named, takes_memory, Task, refine, judge, translate, test, task_of, asked, reads_more, ReadsUpTo, ReadsAfter}
 
 -- ---- what the words ask for
 
@@ -29,20 +29,21 @@ one_operand word look =
     (items_from (modelling_form.optional ++ modelling_form.required) []))) look
 
 -- the words `modelling FILE` ask for a model in the folder that isn't given
-pub named_is_asked : (words : List (List ℕ)) (file : List ℕ) → file_named words ≡ Some file → asked words ≡ Some (refine file model_file)
+pub named_is_asked : (words : List (List ℕ)) (file : List ℕ) → file_named words ≡ Some file
+    → asked words ≡ Some (refine file model_file None)
 named_is_asked [] file is = let h : None ≡ Some file = is in cc
 named_is_asked (command ∷ []) file is = let h : None ≡ Some file = is in cc
 named_is_asked (command ∷ name ∷ []) file is = cases (bytes_eq command (codes "modelling")) (begins_with_dash name) refl refl is
   where
     cases : (b c : Bool) → bytes_eq command (codes "modelling") ≡ b → begins_with_dash name ≡ c
         → (if b && not c then Some name else None) ≡ Some file
-        → asked (command ∷ name ∷ []) ≡ Some (refine file model_file)
+        → asked (command ∷ name ∷ []) ≡ Some (refine file model_file None)
     cases false c at dash is = let h : None ≡ Some file = is in cc
     cases true true at dash is = let h : None ≡ Some file = is in cc
     cases true false at dash is =
         ap (option_map task_of) (chosen (bytes_eq command (codes "modelling")) (option_map modelling_of (read_as modelling_form (name ∷ []))) _ at)
         ∙ ap (λ items. option_map task_of (option_map modelling_of items)) (one_operand name (looks_plain name dash))
-        ∙ ap (option_map (λ f. refine f model_file)) is
+        ∙ ap (option_map (λ f. refine f model_file None)) is
 named_is_asked (command ∷ name ∷ more ∷ words) file is = let h : None ≡ Some file = is in cc
 
 -- the words aren't `modelling FILE`
@@ -51,33 +52,34 @@ takes_else words is = ap is_none is
 
 -- ---- the reads
 
-pub reads_over : (task : Option Task) (takes : Bool) (file place : List ℕ) (status before after : ℕ) → task ≡ Some (refine file place)
+pub reads_over : (task : Option Task) (takes : Bool) (list : Option (List ℕ)) (file place : List ℕ) (status before after : ℕ)
+    → task ≡ Some (refine file place list)
     → after ≡ raised before → ReadsAfter task takes status before after
-reads_over task takes file place status before after is once = subst (λ t. ReadsAfter t takes status before after) (sym is) (cases takes)
+reads_over task takes list file place status before after is once = subst (λ t. ReadsAfter t takes status before after) (sym is)
+    (cases takes)
   where
-    cases : (takes : Bool) → ReadsAfter (Some (refine file place)) takes status before after
+    cases : (takes : Bool) → ReadsAfter (Some (refine file place list)) takes status before after
     cases false = once
     cases true = inl once
 
-pub reads_later : (task : Option Task) (name : List ℕ) (status before : ℕ) → task ≡ Some (later name)
-    → ReadsAfter task true status before before
-reads_later task name status before is = subst (λ t. ReadsAfter t true status before before) (sym is) refl
+pub reads_test : (task : Option Task) (n status before : ℕ) → task ≡ Some (test n) → ReadsAfter task true status before before
+reads_test task n status before is = subst (λ t. ReadsAfter t true status before before) (sym is) refl
 
 pub reads_usage : (task : Option Task) (status before : ℕ) → task ≡ None → ReadsAfter task true status before before
 reads_usage task status before is = subst (λ t. ReadsAfter t true status before before) (sym is) refl
 
 pub reads_memory : (task : Option Task) (before : ℕ) → ReadsAfter task true 6 before before
 reads_memory None before = refl
-reads_memory (Some (later name)) before = refl
+reads_memory (Some (test n)) before = refl
 reads_memory (Some (judge e p s)) before = (0, omega arith, refl)
 reads_memory (Some (translate m p c place)) before = (0, omega arith, refl)
-reads_memory (Some (refine file place)) before = inr (refl, refl)
+reads_memory (Some (refine file place list)) before = inr (refl, refl)
 
 -- the reads of the words `modelling FILE`
 pub reads_named : (words : List (List ℕ)) (file : List ℕ) (status before after : ℕ) → file_named words ≡ Some file → after ≡ raised before
     → ReadsAfter (asked words) (takes_memory words) status before after
 reads_named words file status before after is once =
-    reads_over (asked words) (takes_memory words) file model_file status before after (named_is_asked words file is) once
+    reads_over (asked words) (takes_memory words) None file model_file status before after (named_is_asked words file is) once
 
 -- the reads of the files that are judged
 pub reads_one : (before one : ℕ) → one ≡ raised before → (k : ℕ) × (k ≤ 3) × (one ≡ reads_more k before)

@@ -151,6 +151,7 @@ ends_stopped_source outcome told at m p c place before after o eb ea cause same 
         → JudgeErr outcome (told_source outcome at m p c) eb ea
         → Ends outcome (outcome_status outcome) (Some (translate m p c place)) true before after o o eb ea
     by (Outcome.Judged v) h e = never (Outcome.Judged v) (λ file b a P n. n) h
+    by (Outcome.BadItem k) h e = never (Outcome.BadItem k) (λ file b a P n. n) h
     by (Outcome.Refused why) h e = record { at = at; status_is = refl; cause = h; files = same; out = refl; err = e }
     by (Outcome.Plain Ending.Missing) h e = record { at = at; status_is = refl; cause = h; files = same; out = refl; err = e }
     by (Outcome.Plain Ending.Unreadable) h e = record { at = at; status_is = refl; cause = h; files = same; out = refl; err = e }
@@ -212,6 +213,7 @@ pub translate_not_two : (outcome : Outcome) (at : Which) (m p : List ℕ) (c : O
     → TranslateCause outcome at m p c before after o o' → outcome_status outcome ≡ 2 → ⊥
 translate_not_two (Outcome.Judged v) at m p c before after o o' cause two =
     source_nowhere (Outcome.Judged v) at m p c before after (λ file b a P n. n) cause
+translate_not_two (Outcome.BadItem k) at m p c before after o o' cause two = omega (arith, two)
 translate_not_two (Outcome.Refused why) at m p c before after o o' cause two = refusal_not_two why two
 translate_not_two (Outcome.Plain ending) at m p c before after o o' cause two =
     source_nowhere (Outcome.Plain Ending.Usage) at m p c before after (λ file b a P n. n)
@@ -237,6 +239,7 @@ refused_else n status which is refusal = elim which [
 pub translate_refused : (outcome : Outcome) (status : ℕ) (m p : List ℕ) (c : Option (List ℕ)) (place : List ℕ) (before after : FilesSeen)
     → status ≡ outcome_status outcome → IsRefusal status → TranslateFiles outcome m p c place before after → after.tree ≡ before.tree
 translate_refused (Outcome.Judged v) status m p c place before after is refusal h = h
+translate_refused (Outcome.BadItem k) status m p c place before after is refusal h = h
 translate_refused (Outcome.Refused why) status m p c place before after is refusal h = h
 translate_refused (Outcome.Plain Ending.Done) status m p c place before after is refusal h =
     absurd (refused_else 0 status (inl refl) is refusal)
@@ -256,6 +259,7 @@ translate_refused (Outcome.Plain Ending.NotYet) status m p c place before after 
 pub translate_keeps : (outcome : Outcome) (m p : List ℕ) (c : Option (List ℕ)) (place : List ℕ) (before after : FilesSeen)
     → TranslateFiles outcome m p c place before after → KeepsOthers before.tree after.tree place
 translate_keeps (Outcome.Judged v) m p c place before after h = kept place before after h
+translate_keeps (Outcome.BadItem k) m p c place before after h = kept place before after h
 translate_keeps (Outcome.Refused why) m p c place before after h = kept place before after h
 translate_keeps (Outcome.Plain Ending.Done) m p c place before after h = put_there place before after h.0 h.2
 translate_keeps (Outcome.Plain Ending.OutputFailed) m p c place before after h = put_there place before after h.0 h.2
@@ -274,6 +278,7 @@ pub translate_is_done : (outcome : Outcome) (at : Which) (m p : List ℕ) (c : O
     → outcome_status outcome ≡ 0 → SomeTranslation before.tree m p c (λ bytes. after.tree ≡ with_file before.tree place bytes)
 translate_is_done (Outcome.Judged v) at m p c place before after o o' cause files zero =
     absurd (source_nowhere (Outcome.Judged v) at m p c before after (λ file b a P n. n) cause)
+translate_is_done (Outcome.BadItem k) at m p c place before after o o' cause files zero = absurd (omega (arith, zero))
 translate_is_done (Outcome.Refused why) at m p c place before after o o' cause files zero = absurd (refusal_not_zero why zero)
 translate_is_done (Outcome.Plain Ending.Done) at m p c place before after o o' cause files zero = files
 translate_is_done (Outcome.Plain Ending.OutputFailed) at m p c place before after o o' cause files zero = absurd (omega (arith, zero))

@@ -98,6 +98,8 @@ module _ (tree : Tree) (m p model param : List ℕ) (H : Header) (E : Model) (F 
       absurd (good_sources (Outcome.Judged v) at None before after told quiet.0 (λ e. cc) h)
   given_decides (Outcome.Refused why) status at before after o o' told quiet is h =
       absurd (good_sources (Outcome.Refused why) at None before after told quiet.0 (λ e. cc) h)
+  given_decides (Outcome.BadItem k) status at before after o o' told quiet is h =
+      absurd (good_sources (Outcome.BadItem k) at None before after told quiet.0 (λ e. cc) h)
 
   -- the cells
   module _ (c cells : List ℕ) (cs : Names Ex) (is_c : start_of_file tree c (limit + 1) ≡ Some cells) (short_c : length cells ≤ limit)
@@ -107,6 +109,7 @@ module _ (tree : Tree) (m p model param : List ℕ) (H : Header) (E : Model) (F 
         → (outcome ≡ Outcome.Plain Ending.NoMemory → ⊥) → CellsStop outcome (Some c) before after H E a q
         → (outcome_status outcome ≡ 1) × (IsSolvable H E a q cells → ⊥)
     cells_stop (Outcome.Judged v) before after told quiet room h = absurd h.2
+    cells_stop (Outcome.BadItem k) before after told quiet room h = absurd h.2
     cells_stop (Outcome.Plain ending) before after told quiet room h =
         absurd (no_stop (Outcome.Plain ending) tree c cells before after (λ t w. ⊥) told is_c short_c quiet room (λ why t k. k) h)
     cells_stop (Outcome.Refused why) before after told quiet room h =
@@ -165,6 +168,9 @@ module _ (tree : Tree) (m p model param : List ℕ) (H : Header) (E : Model) (F 
     cells_decide (Outcome.Refused why) status at before after o o' told quiet is h =
         refused_by status (Outcome.Refused why) is (cells_stop (Outcome.Refused why) before after told quiet.0 (λ e. cc)
         (good_sources (Outcome.Refused why) at (Some c) before after told quiet.0 (λ e. cc) h))
+    cells_decide (Outcome.BadItem k) status at before after o o' told quiet is h =
+        refused_by status (Outcome.BadItem k) is (cells_stop (Outcome.BadItem k) before after told quiet.0 (λ e. cc)
+        (good_sources (Outcome.BadItem k) at (Some c) before after told quiet.0 (λ e. cc) h))
 
 -- ---- the files decide
 

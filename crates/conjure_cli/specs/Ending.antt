@@ -1,10 +1,13 @@
 -- How a run of the program ends: why, with which status, and what it leaves.
-use Rattle.std.specs.Prelude.{◌≡◌, ℕ, ◌+◌, ◌≤◌, ◌⊎◌, List, [], ◌∷◌, ◌++◌, codes, length, None, IfSome}
+use Rattle.std.specs.Prelude.{◌≡◌, ℕ, ◌+◌, ◌≤◌, ◌⊎◌, List, [], ◌∷◌, ◌++◌, codes, length, Option, None, IfSome}
 use Rattle.ess_io.specs.Counts.{Rose}
 use Rattle.ess_io.specs.Trees.{file_at, start_of_file, with_file, LeavesPrefix}
 use Rattle.ess_io.specs.Sinks.{grown, GrewByPrefix}
-use Rattle.conjure_cli_laws.specs.SmallGrammar.{IsInSmallGrammar}
-use Rattle.conjure_cli_laws.specs.ModelText.{IsModelOf}
+use Rattle.ess_semantics.specs.Trees.{Stm}
+use Rattle.ess_translate.specs.Answers.{IsEssence}
+use Rattle.conjure_modelling.specs.declared.refusal.ModelNo.{ModelNo}
+use Rattle.conjure_modelling.specs.Modelled.{TakesList}
+use Rattle.conjure_cli.specs.Whole.{IsSmallWay, IsModelFor, IsUnmodelledFor}
 use Rattle.conjure_cli.specs.Seen.{FilesSeen, SinkSeen, limit, ReadGives, IsAbsent, LeavesLine}
 use Rattle.conjure_cli.specs.declared.ending.Ending.{Ending}
 use Rattle.conjure_cli.specs.declared.ending.Ending.TheVariants.{Done, Usage, Missing, Unreadable, TooLong, NotYet, Unwritable, OutputFailed, NoMemory}
@@ -49,36 +52,42 @@ err_line file place ending = codes "conjure: " ++ told_of file place ending ++ 1
 abbrev pub out_line : List ℕ → List ℕ
 out_line place = codes "wrote " ++ place ++ 10 ∷ []
 
--- a text of the small grammar within the limit
-abbrev pub IsReadable : List ℕ → Type 0
-IsReadable text = (length text ≤ limit) × IsInSmallGrammar text
+-- a text within the limit for which a model is written, with a list of representations or without one
+abbrev pub IsReadable : Option (List ℕ) → List ℕ → Type 0
+IsReadable list text = (length text ≤ limit) × ((model : List ℕ) × IsModelFor list text model)
+
+-- a text within the limit for which none is written, for this reason
+abbrev pub IsUnreadable : Option (List ℕ) → ModelNo → List ℕ → Type 0
+IsUnreadable list why text = (length text ≤ limit) × IsUnmodelledFor list text why
 
 -- Why a run over a file ends so.
-abbrev pub CauseOf : Ending → List ℕ → FilesSeen → FilesSeen → SinkSeen → SinkSeen → Type 0
-CauseOf Done file before after out_before out_after = ReadGives before.tree file IsReadable
-CauseOf Usage file before after out_before out_after = ⊥
-CauseOf Missing file before after out_before out_after = Rose before.misses after.misses × IsAbsent before after file
-CauseOf Unreadable file before after out_before out_after = Rose before.faults after.faults
-CauseOf TooLong file before after out_before out_after = ReadGives before.tree file (λ text. length text ≡ limit + 1)
-CauseOf NotYet file before after out_before out_after =
-    ReadGives before.tree file (λ text. (length text ≤ limit) × (¬ IsInSmallGrammar text))
-CauseOf Unwritable file before after out_before out_after = Rose before.faults after.faults × ReadGives before.tree file IsReadable
-CauseOf OutputFailed file before after out_before out_after = Rose out_before.faults out_after.faults × ReadGives before.tree file IsReadable
-CauseOf NoMemory file before after out_before out_after =
+abbrev pub CauseOf : Ending → Option (List ℕ) → List ℕ → FilesSeen → FilesSeen → SinkSeen → SinkSeen → Type 0
+CauseOf Done list file before after out_before out_after = ReadGives before.tree file (IsReadable list)
+CauseOf Usage list file before after out_before out_after = ⊥
+CauseOf Missing list file before after out_before out_after = Rose before.misses after.misses × IsAbsent before after file
+CauseOf Unreadable list file before after out_before out_after = Rose before.faults after.faults
+CauseOf TooLong list file before after out_before out_after = ReadGives before.tree file (λ text. length text ≡ limit + 1)
+CauseOf NotYet list file before after out_before out_after = ReadGives before.tree file (IsUnreadable list ModelNo.NotYet)
+CauseOf Unwritable list file before after out_before out_after =
+    Rose before.faults after.faults × ReadGives before.tree file (IsReadable list)
+CauseOf OutputFailed list file before after out_before out_after =
+    Rose out_before.faults out_after.faults × ReadGives before.tree file (IsReadable list)
+CauseOf NoMemory list file before after out_before out_after =
     IfSome before.tree (λ tree. ¬ ((file_at tree file ≡ None) × (¬ Rose before.faults after.faults)))
 
 -- the model of what was read, and how the tree is left
-abbrev pub LeavesModel : List ℕ → FilesSeen → FilesSeen → (List ℕ → Type 0) → Type 0
-LeavesModel file before after P = ReadGives before.tree file (λ text. (model : List ℕ) × IsModelOf text model × P model)
+abbrev pub LeavesModel : Option (List ℕ) → List ℕ → FilesSeen → FilesSeen → (List ℕ → Type 0) → Type 0
+LeavesModel list file before after P = ReadGives before.tree file (λ text. (model : List ℕ) × IsModelFor list text model × P model)
 
 -- What a run leaves of the files. A refusal touches none.
-abbrev pub LeavesFiles : Ending → List ℕ → List ℕ → FilesSeen → FilesSeen → Type 0
-LeavesFiles Done file place before after = LeavesModel file before after (λ model. after.tree ≡ with_file before.tree place model)
-LeavesFiles OutputFailed file place before after = LeavesModel file before after (λ model. after.tree ≡ with_file before.tree place model)
-LeavesFiles Unwritable file place before after = LeavesModel file before after (LeavesPrefix before.tree after.tree place)
-LeavesFiles NoMemory file place before after =
-    (after.tree ≡ before.tree) ⊎ LeavesModel file before after (LeavesPrefix before.tree after.tree place)
-LeavesFiles ending file place before after = after.tree ≡ before.tree
+abbrev pub LeavesFiles : Ending → Option (List ℕ) → List ℕ → List ℕ → FilesSeen → FilesSeen → Type 0
+LeavesFiles Done list file place before after = LeavesModel list file before after (λ model. after.tree ≡ with_file before.tree place model)
+LeavesFiles OutputFailed list file place before after =
+    LeavesModel list file before after (λ model. after.tree ≡ with_file before.tree place model)
+LeavesFiles Unwritable list file place before after = LeavesModel list file before after (LeavesPrefix before.tree after.tree place)
+LeavesFiles NoMemory list file place before after =
+    (after.tree ≡ before.tree) ⊎ LeavesModel list file before after (LeavesPrefix before.tree after.tree place)
+LeavesFiles ending list file place before after = after.tree ≡ before.tree
 
 -- What a run leaves on `out`: its line, a prefix of it after a fault, or nothing new.
 abbrev pub LeavesOut : Ending → List ℕ → SinkSeen → SinkSeen → Type 0
@@ -90,12 +99,6 @@ LeavesOut ending place before after = after.bytes ≡ before.bytes
 abbrev pub LeavesErr : Ending → List ℕ → List ℕ → SinkSeen → SinkSeen → Type 0
 LeavesErr Done file place before after = after.bytes ≡ before.bytes
 LeavesErr ending file place before after = LeavesLine (err_line file place ending) before after
-
--- A run over a file comes to this ending, but for what is said on `err`.
-pub record Ran (ending : Ending) (file place : List ℕ) (before after : FilesSeen) (out_before out_after : SinkSeen) : Type 0 where
-  pub cause : CauseOf ending file before after out_before out_after
-  pub files : LeavesFiles ending file place before after
-  pub out : LeavesOut ending place out_before out_after
 
 -- ---- What follows, without the ending.
 
@@ -112,13 +115,20 @@ abbrev pub MissingIsFour : ℕ → List ℕ → FilesSeen → FilesSeen → Type
 MissingIsFour status file before after =
     IfSome before.tree (λ tree. file_at tree file ≡ None → (¬ Rose before.faults after.faults) → status ≡ 4)
 
--- Where a told tree has the file and no fault came: the status is 5 where more is read than the limit, 3 where the text
--- isn't one of the small grammar, and else 0. In place of each, 6 may come.
-pub record IsDecided (status : ℕ) (text : List ℕ) : Type 0 where
+-- Where a told tree has the file and no fault came: the status is 5 where more is read than the limit; 0 where the text is one of the
+-- small grammar and no list of representations is given; else 3 or 5 where it is no well typed specification; else 3 where the list
+-- isn't taken; else 0, or 3 where a part of the model can't be written yet. In place of each, 6 may come.
+pub record IsDecided (list : Option (List ℕ)) (status : ℕ) (text : List ℕ) : Type 0 where
   pub long : length text ≡ limit + 1 → (status ≡ 5) ⊎ (status ≡ 6)
-  pub not_yet : length text ≤ limit → (¬ IsInSmallGrammar text) → (status ≡ 3) ⊎ (status ≡ 6)
-  pub done : length text ≤ limit → IsInSmallGrammar text → (status ≡ 0) ⊎ (status ≡ 6)
+  pub small : length text ≤ limit → IsSmallWay list text → (status ≡ 0) ⊎ (status ≡ 6)
+  pub refused : length text ≤ limit → (¬ IsSmallWay list text) → (¬ ((S : List Stm) × IsEssence text S))
+      → (status ≡ 3) ⊎ (status ≡ 5) ⊎ (status ≡ 6)
+  pub unlisted : length text ≤ limit → (¬ IsSmallWay list text) → (S : List Stm) → IsEssence text S → (¬ TakesList S list)
+      → (status ≡ 3) ⊎ (status ≡ 6)
+  pub taken : length text ≤ limit → (¬ IsSmallWay list text) → (S : List Stm) → IsEssence text S
+      → (status ≡ 0) ⊎ (status ≡ 3) ⊎ (status ≡ 6)
 
-abbrev pub TextDecides : ℕ → List ℕ → FilesSeen → FilesSeen → SinkSeen → SinkSeen → Type 0
-TextDecides status file before after out_before out_after = IfSome before.tree (λ tree. IfSome (start_of_file tree file (limit + 1)) (λ text.
-    NoFault before after out_before out_after → IsDecided status text))
+abbrev pub TextDecides : ℕ → Option (List ℕ) → List ℕ → FilesSeen → FilesSeen → SinkSeen → SinkSeen → Type 0
+TextDecides status list file before after out_before out_after =
+    IfSome before.tree (λ tree. IfSome (start_of_file tree file (limit + 1)) (λ text.
+    NoFault before after out_before out_after → IsDecided list status text))

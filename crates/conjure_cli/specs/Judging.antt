@@ -46,6 +46,7 @@ abbrev pub StopsAt : Outcome → List ℕ → FilesSeen → FilesSeen → (List 
 StopsAt (Outcome.Plain ending) file before after P = FileStops ending file before after
 StopsAt (Outcome.Refused why) file before after P = (text : List ℕ) × Took before.tree file text × IsTold why × P text why
 StopsAt (Outcome.Judged v) file before after P = ⊥
+StopsAt (Outcome.BadItem k) file before after P = ⊥
 
 -- The same from a later moment, at which the file was read.
 abbrev pub StopsLater : Outcome → List ℕ → FilesSeen → FilesSeen → (List ℕ → TransNo → Type 0) → Type 0
@@ -97,6 +98,7 @@ abbrev pub JudgeErr : Outcome → List ℕ → SinkSeen → SinkSeen → Type 0
 JudgeErr (Outcome.Judged v) file before after = after.bytes ≡ before.bytes
 JudgeErr (Outcome.Refused why) file before after = LeavesLine (refusal_line file why) before after
 JudgeErr (Outcome.Plain ending) file before after = LeavesErr ending file [] before after
+JudgeErr (Outcome.BadItem k) file before after = after.bytes ≡ before.bytes
 
 -- ---- what is told
 

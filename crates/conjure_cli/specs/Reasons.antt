@@ -72,6 +72,10 @@ refusal_told file TransNo.NoMemory = codes "out of memory"
 abbrev pub refusal_line : List ℕ → TransNo → List ℕ
 refusal_line file why = codes "conjure: " ++ refusal_told file why ++ 10 ∷ []
 
+-- The line of a refused item of the list of representations.
+abbrev pub item_line : ℕ → List ℕ
+item_line k = codes "conjure: --use-repr: item " ++ decimal k ++ codes " is refused\n"
+
 -- the status of a text that isn't read
 abbrev pub read_status : ReadNo → ℕ
 read_status (ReadNo.TooDeep p) = 5

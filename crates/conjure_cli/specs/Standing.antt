@@ -1,14 +1,27 @@
 -- What the model at its place is worth: where the work is done, it stands for the specification that was read.
-use Rattle.std.specs.Prelude.{◌≡◌, ℕ, List, Option, Some}
+use Rattle.std.specs.Prelude.{◌≡◌, ℕ, ◌⊎◌, List, Option, Some}
 use Rattle.ess_io.specs.Trees.{with_file}
-use Rattle.conjure_cli_laws.specs.Laws.{StandsForText}
+use Rattle.conjure_standing_laws.specs.Standing.{StandsForListed, IsFlatText}
 use Rattle.conjure_cli.specs.Seen.{FilesSeen, ReadGives}
+use Rattle.conjure_cli.specs.Whole.{IsSmallWay, IsModelFor}
 use Rattle.conjure_cli.specs.Tasks.{Task, refine}
 
--- Where a file is refined and the tree is told, the place holds a text that is a model with its header by the rules: for the
--- specification that the file's text is by the rules it is a right model (`Models`), and each solution has exactly one
--- satisfying assignment (`IsExact`).
+-- The text is of a class of which it is proved that its model is right: a text of the small grammar without a list of representations; or,
+-- with or without a list, a specification whose givens and finds are truth values or numbers and whose conditions and constraints are flat
+-- and total (`is_flat_specification`), with the lines of its header within the limit of load.
+abbrev pub IsProvedClass : Option (List ℕ) → List ℕ → Type 0
+IsProvedClass list text = IsSmallWay list text ⊎ IsFlatText list text
+
+-- Where a file of these classes is refined and the tree is told, the place holds a text that is a model with its header by the rules: for the
+-- specification that the file's text is by the rules, with the representations that the list names and else the defaults, it is a right
+-- model (`Models`), and each solution has exactly one satisfying assignment (`IsExact`).
 abbrev pub ModelStands : Option Task → FilesSeen → FilesSeen → Type 0
-ModelStands (Some (refine file place)) before after =
-    ReadGives before.tree file (λ text. (model : List ℕ) × StandsForText text model × (after.tree ≡ with_file before.tree place model))
+ModelStands (Some (refine file place list)) before after = ReadGives before.tree file (λ text. IsProvedClass list text →
+    (model : List ℕ) × StandsForListed list text model × (after.tree ≡ with_file before.tree place model))
 ModelStands _ before after = Unit {0}
+
+-- Where any file is refined and the tree is told, the place holds the model of its text.
+abbrev pub ModelIsThere : Option Task → FilesSeen → FilesSeen → Type 0
+ModelIsThere (Some (refine file place list)) before after = ReadGives before.tree file (λ text.
+    (model : List ℕ) × IsModelFor list text model × (after.tree ≡ with_file before.tree place model))
+ModelIsThere _ before after = Unit {0}

@@ -22,27 +22,22 @@ file_named (command ∷ file ∷ more ∷ words) = None
 abbrev pub takes_memory : List (List ℕ) → Bool
 takes_memory words = is_none (file_named words)
 
--- What a run is to do: to refine a file and write its model to a place; to judge a solution, by the files of a
--- specification, a parameter and the solution; to translate for the model of a file the parameter of another one, or under it the
--- cells of a third one, and write the translation to a place; or what isn't supported yet, with the name that is told.
+-- What a run is to do: to refine a file and write its model to a place, with a list of representations or without one; to judge a
+-- solution, by the files of a specification, a parameter and the solution; to translate for the model of a file the parameter of another
+-- one, or under it the cells of a third one, and write the translation to a place; or to run the self-test with a number.
 pub data Task : Type 0 where
-  refine : List ℕ → List ℕ → Task
+  refine : List ℕ → List ℕ → Option (List ℕ) → Task
   judge : List ℕ → List ℕ → List ℕ → Task
   translate : List ℕ → List ℕ → Option (List ℕ) → List ℕ → Task
-  later : List ℕ → Task
+  test : ℕ → Task
 
--- the task of `modelling`, by its list of representations
-abbrev pub modelling_task : List ℕ → List ℕ → Option (List ℕ) → Task
-modelling_task folder file None = refine file (model_in folder)
-modelling_task folder file (Some list) = later file
-
--- the task of a command; what isn't supported yet tells the first file that it would read, or its name
+-- the task of a command
 abbrev pub task_of : Command → Task
-task_of (Modelling folder file options) = modelling_task folder file options.use_repr
+task_of (Modelling folder file options) = refine file (model_in folder) options.use_repr
 task_of (Parameter model from to) = translate model from None to
 task_of (Solution model param from to) = translate model param (Some from) to
 task_of (Validate essence param solution) = judge essence param solution
-task_of (Selftest number) = later (codes "selftest")
+task_of (Selftest number) = test number
 
 -- the task that the words ask for, where they fit
 abbrev pub asked : List (List ℕ) → Option Task
@@ -61,22 +56,22 @@ ReadsUpTo n before after = (k : ℕ) × (k ≤ n) × (after ≡ reads_more k bef
 -- and nothing else is read. Where the words take memory, want of it may come before the read.
 abbrev pub ReadsAfter : Option Task → Bool → ℕ → ℕ → ℕ → Type 0
 ReadsAfter None takes status before after = after ≡ before
-ReadsAfter (Some (later name)) takes status before after = after ≡ before
+ReadsAfter (Some (test n)) takes status before after = after ≡ before
 ReadsAfter (Some (judge essence param solution)) takes status before after = ReadsUpTo 3 before after
 ReadsAfter (Some (translate model param cells place)) takes status before after = ReadsUpTo 3 before after
-ReadsAfter (Some (refine file place)) false status before after = after ≡ raised before
-ReadsAfter (Some (refine file place)) true status before after = (after ≡ raised before) ⊎ ((after ≡ before) × (status ≡ 6))
+ReadsAfter (Some (refine file place list)) false status before after = after ≡ raised before
+ReadsAfter (Some (refine file place list)) true status before after = (after ≡ raised before) ⊎ ((after ≡ before) × (status ≡ 6))
 
--- the file or the name that is told
+-- the file that is told; the self-test has none
 abbrev pub name_told : Option Task → List ℕ
 name_told None = []
-name_told (Some (refine file place)) = file
+name_told (Some (refine file place list)) = file
 name_told (Some (judge essence param solution)) = essence
 name_told (Some (translate model param cells place)) = model
-name_told (Some (later name)) = name
+name_told (Some (test n)) = []
 
 -- the place of what is written
 abbrev pub place_told : Option Task → List ℕ
-place_told (Some (refine file place)) = place
+place_told (Some (refine file place list)) = place
 place_told (Some (translate model param cells place)) = place
 place_told _ = []

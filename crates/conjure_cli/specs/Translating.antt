@@ -145,6 +145,7 @@ abbrev pub TranslateErr : Outcome → List ℕ → List ℕ → SinkSeen → Sin
 TranslateErr (Outcome.Judged v) file place before after = ⊥
 TranslateErr (Outcome.Refused why) file place before after = LeavesLine (refusal_line file why) before after
 TranslateErr (Outcome.Plain ending) file place before after = LeavesErr ending file place before after
+TranslateErr (Outcome.BadItem k) file place before after = ⊥
 
 -- ---- what is written
 

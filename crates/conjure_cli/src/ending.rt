@@ -21,7 +21,7 @@ pub enum Ending {
     Unreadable,
     /// The file has more bytes than the limit.
     TooLong,
-    /// The text isn't one of the small grammar.
+    /// A part of the model can't be written yet.
     NotYet,
     /// The model cannot be written.
     Unwritable,

@@ -17,6 +17,8 @@ pub enum Outcome {
     Judged(Verdict),
     /// With the refusal of a text. Want of memory is a plain ending.
     Refused(TransNo),
+    /// With the refusal of an item of the list of representations, by its number.
+    BadItem(u64),
 }
 
 impl Outcome {
@@ -28,6 +30,7 @@ impl Outcome {
             Outcome::Plain(ending) => ending.status(),
             Outcome::Judged(verdict) => verdict_status(verdict),
             Outcome::Refused(why) => refusal_status(why),
+            Outcome::BadItem(_) => 3,
         }
     }
 }

@@ -1,21 +1,24 @@
 // The program: from the words to the status.
-ghost use Rattle.std.specs.Prelude.{◌≡◌, [], map, None, Some, true, string_bytes, option_map};
+ghost use Rattle.std.specs.Prelude.{◌≡◌, map, None, Some, true, string_bytes, option_map};
 ghost use Rattle.conjure_cli.specs.Seen.{files_at, sink_at};
-ghost use Rattle.conjure_cli.specs.Tasks.{begins_with_dash, file_named, takes_memory, later, task_of, asked, ReadsAfter};
-ghost use Rattle.conjure_cli.specs.Ending.{status_of, IsRefusal, LeavesErr};
-ghost use Rattle.conjure_cli.specs.Runs.{outcome_status, Ends, KeepsAllElse, UsageIsTwo, LaterIsThree, MissingBy, DecidesBy};
-ghost use Rattle.conjure_cli.specs.Standing.{ModelStands};
+ghost use Rattle.conjure_cli.specs.Tasks.{begins_with_dash, file_named, takes_memory, task_of, asked, ReadsAfter};
+ghost use Rattle.conjure_cli.specs.Ending.{IsRefusal};
+ghost use Rattle.conjure_cli.specs.Runs.{outcome_status, Ends, KeepsAllElse, UsageIsTwo, MissingBy, DecidesBy};
+ghost use Rattle.conjure_cli.specs.Standing.{ModelStands, ModelIsThere};
 ghost use Rattle.conjure_cli.specs.Holding.{SaysWhetherSolution};
+ghost use Rattle.conjure_cli.specs.Testing.{TestEnds, SaysTest};
 ghost use Rattle.conjure_cli.specs.Translating.{SaysTranslation};
 
 use crate::ending::{Ending, MODEL_FILE, report};
 use crate::judging::Names;
 use crate::outcome::Outcome;
 use crate::refining::{modelling, refine_into};
+use crate::telling::tell_refined;
+use crate::testing::tested;
 use crate::translating::Sources;
 use crate::validating::judged;
 use crate::writing::translated;
-use conjure_cli_words::{Command, WordsNo, words_of};
+use conjure_cli_words::{Command, Options, WordsNo, words_of};
 use ess_io::{Files, Sink};
 use std::alloc::Global;
 
@@ -43,14 +46,14 @@ fn file_named(words: &[String]) -> Option<&str>
     }
 }
 
-/// Says on `err` that this isn't supported yet.
-fn not_yet<E: Sink>(err: &mut E, name: &str) -> Outcome
-    ensures ending { result ≡ Outcome.Plain Ending.NotYet }
-    ensures told { LeavesErr Ending.NotYet name.now []
-        (sink_at (E.bytes err.old) (E.faults err.old)) (sink_at (E.bytes err.new) (E.faults err.new)) }
+/// The list of representations.
+fn list_of(options: &Options) -> Option<&str>
+    ensures { option_map (λ list. list.now) result ≡ options.now.use_repr }
 {
-    report(err, name, "", Ending::NotYet);
-    Outcome::Plain(Ending::NotYet)
+    match &options.use_repr {
+        Some(list) => Some(list.as_str()),
+        None => None,
+    }
 }
 
 /// Does what a command asks for.
@@ -69,10 +72,10 @@ fn command_done<F: Files, O: Sink, E: Sink>(
     ensures reads { ReadsAfter (Some (task_of command.now)) true (outcome_status result) (F.reads files.old) (F.reads files.new) }
 {
     match command {
-        Command::Modelling(folder, file, options) => match options.use_repr {
-            None => refine_into(alloc, folder.as_str(), file.as_str(), files, out, err),
-            Some(_) => not_yet(err, file.as_str()),
-        },
+        Command::Modelling(folder, file, options) => {
+            let list = list_of(options);
+            refine_into(alloc, folder.as_str(), file.as_str(), list, files, out, err)
+        }
         Command::Parameter(model, from, to) => {
             let sources = Sources {
                 model: model.as_str(),
@@ -97,7 +100,7 @@ fn command_done<F: Files, O: Sink, E: Sink>(
             };
             judged(alloc, names, files, out, err)
         }
-        Command::Selftest(_) => not_yet(err, "selftest"),
+        Command::Selftest(number) => tested(alloc, *number, out, err),
     }
 }
 
@@ -148,20 +151,21 @@ fn done<F: Files, O: Sink, E: Sink>(
     let Some(file) = file_named(words) else {
         return words_done(alloc, words, files, out, err);
     };
-    let ending = modelling(alloc, file, MODEL_FILE, files, out);
-    report(err, file, MODEL_FILE, ending);
-    Outcome::Plain(ending)
+    let outcome = modelling(alloc, file, MODEL_FILE, None, files, out);
+    tell_refined(alloc, outcome, file, MODEL_FILE, err)
 }
 
 /// Runs the program on the words after its name, and answers the status to end with.
 ///
-/// The words are those of `conjure_cli_words::words_of`. With `modelling [-o DIR] FILE` the model of FILE is written to
-/// `DIR/model000001.eprime`, and a line on `out` says so; DIR is `conjure-output` where it isn't given. With
+/// The words are those of `conjure_cli_words::words_of`. With `modelling [-o DIR] [--use-repr LIST] FILE` the model of FILE is written
+/// to `DIR/model000001.eprime`, and a line on `out` says so; DIR is `conjure-output` where it isn't given, and representations that
+/// LIST doesn't name are the defaults. With
 /// `validate-solution --essence E --param P --solution S` a line on `out` says `valid`, or `not valid` and why. With
 /// `translate-parameter --eprime M --essence-param P --eprime-param Q` the given tables of the model M under the parameter P are
 /// written to Q, and with `translate-solution --eprime M --essence-param P --eprime-solution C --essence-solution S` the solution for
-/// which the cells C stand is written to S; a line on `out` says so. `selftest` and `--use-repr` aren't supported yet. Where something
-/// stands against it, a line on `err` says what.
+/// which the cells C stand is written to S; a line on `out` says so. With `selftest N` a specification, a
+/// parameter and a solution are made from the number N, and a line on `out` tells what is counted while they are modelled, translated
+/// and validated: `statements A, cells B, constraints C, members D`. Where something stands against it, a line on `err` says what.
 pub fn run<F: Files, O: Sink, E: Sink>(
     alloc: Global,
     words: &[String],
@@ -177,8 +181,14 @@ pub fn run<F: Files, O: Sink, E: Sink>(
         (sink_at (O.bytes out.old) (O.faults out.old)) (sink_at (O.bytes out.new) (O.faults out.new))
         (sink_at (E.bytes err.old) (E.faults err.old)) (sink_at (E.bytes err.new) (E.faults err.new)) }
 
-    // Where a model is written, it is one of the specification that was read, and each solution has exactly one assignment.
+    // Where a model of a text of the small grammar without a list is written, or that of a specification of scalars with flat and total
+    // constraints, it is one of the specification that was read, and each solution has exactly one assignment.
     ensures stands { result.0 ≡ 0 → ModelStands (asked (map string_bytes words.now))
+        (files_at (F.tree files.old) (F.faults files.old) (F.misses files.old))
+        (files_at (F.tree files.new) (F.faults files.new) (F.misses files.new)) }
+
+    // Where any model is written, its place holds the model of the text that was read.
+    ensures built { result.0 ≡ 0 → ModelIsThere (asked (map string_bytes words.now))
         (files_at (F.tree files.old) (F.faults files.old) (F.misses files.old))
         (files_at (F.tree files.new) (F.faults files.new) (F.misses files.new)) }
 
@@ -194,8 +204,13 @@ pub fn run<F: Files, O: Sink, E: Sink>(
     // Status 2 comes exactly where the words don't fit, but for want of memory.
     ensures usage { UsageIsTwo result.0 (asked (map string_bytes words.now)) }
 
-    // What isn't supported yet gives status 3, but for want of memory.
-    ensures not_yet { LaterIsThree result.0 (asked (map string_bytes words.now)) }
+    // A self-test meets no limit: status 4 comes only for a fault of `out`, else 0, or 6 for want of memory.
+    ensures limitless { TestEnds result.0 (asked (map string_bytes words.now))
+        (sink_at (O.bytes out.old) (O.faults out.old)) (sink_at (O.bytes out.new) (O.faults out.new)) }
+
+    // Where a self-test is run, status 0 says that `out` has grown by a line of its counts.
+    ensures tested { SaysTest result.0 (asked (map string_bytes words.now))
+        (sink_at (O.bytes out.old) (O.faults out.old)) (sink_at (O.bytes out.new) (O.faults out.new)) }
 
     // A missing file gives status 4, and what is read of another file decides, where no fault comes.
     ensures missing { MissingBy result.0 (asked (map string_bytes words.now)) (takes_memory (map string_bytes words.now))

@@ -1,6 +1,7 @@
 // The texts of verdicts and of refusals.
 ghost use Rattle.std.specs.Prelude.{◌≡◌, ◌++◌, IfOk, OnOk, [], codes, decimal};
-ghost use Rattle.conjure_cli.specs.Reasons.{at_place, at_statement, read_reason, type_reason, param_reason, model_reason, refusal_told, refusal_line, verdict_reason, verdict_told, verdict_line};
+ghost use Rattle.conjure_cli.specs.Reasons.{at_place, at_statement, read_reason, type_reason, param_reason, model_reason, refusal_told};
+ghost use Rattle.conjure_cli.specs.Reasons.{refusal_line, item_line, verdict_reason, verdict_told, verdict_line};
 
 use eprime_verdicts::PVerdict;
 use ess_core::{NoMemory, Place, Text};
@@ -67,6 +68,17 @@ pub(crate) fn refusal_line(alloc: Global, file: &str, why: &TransNo) -> Result<T
     line.push_str("conjure: ")?;
     push_refusal(&mut line, file, why)?;
     line.push_str("\n")?;
+    Ok(line)
+}
+
+/// The line of a refused item of the list of representations.
+pub(crate) fn item_line(alloc: Global, number: u64) -> Result<Text, NoMemory>
+    ensures { IfOk result (λ line. line ≡ item_line number) }
+{
+    let mut line = Text::new(alloc);
+    line.push_str("conjure: --use-repr: item ")?;
+    line.push_u64(number)?;
+    line.push_str(" is refused\n")?;
     Ok(line)
 }
 

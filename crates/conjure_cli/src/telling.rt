@@ -3,10 +3,11 @@ ghost use Rattle.std.specs.Prelude.{◌≡◌, []};
 ghost use Rattle.conjure_cli.specs.Ending.{LeavesErr};
 ghost use Rattle.conjure_cli.specs.Seen.{sink_at};
 ghost use Rattle.conjure_cli.specs.Judging.{VerdictTold, StopTold};
+ghost use Rattle.conjure_cli.specs.Refining.{RefinedTold, ItemTold};
 
 use crate::ending::{Ending, report};
 use crate::outcome::Outcome;
-use crate::reasons::{refusal_line, verdict_line};
+use crate::reasons::{item_line, refusal_line, verdict_line};
 use ess_domains::Verdict;
 use ess_io::{Sink, put_all};
 use ess_rows::NoMemory;
@@ -38,7 +39,7 @@ pub(crate) fn tell_verdict<O: Sink, E: Sink>(
 }
 
 /// Says on `err` that memory ran out.
-fn tell_memory<E: Sink>(err: &mut E) -> Outcome
+pub(crate) fn tell_memory<E: Sink>(err: &mut E) -> Outcome
     ensures outcome { result ≡ Outcome.Plain Ending.NoMemory }
     ensures told { LeavesErr Ending.NoMemory [] []
         (sink_at (E.bytes err.old) (E.faults err.old)) (sink_at (E.bytes err.new) (E.faults err.new)) }
@@ -64,6 +65,43 @@ pub(crate) fn tell_stop<E: Sink>(
         }
         Outcome::Refused(why) => tell_refusal(alloc, why, file, err),
         Outcome::Judged(verdict) => Outcome::Judged(verdict),
+        Outcome::BadItem(number) => Outcome::BadItem(number),
+    }
+}
+
+/// Says on `err` how a run that refines a file into a place ends, where it isn't done.
+pub(crate) fn tell_refined<E: Sink>(
+    alloc: Global,
+    outcome: Outcome,
+    file: &str,
+    place: &str,
+    err: &mut E,
+) -> Outcome
+    ensures { RefinedTold outcome result file.now place.now
+        (sink_at (E.bytes err.old) (E.faults err.old)) (sink_at (E.bytes err.new) (E.faults err.new)) }
+{
+    match outcome {
+        Outcome::Plain(ending) => {
+            report(err, file, place, ending);
+            Outcome::Plain(ending)
+        }
+        Outcome::Refused(why) => tell_refusal(alloc, why, file, err),
+        Outcome::BadItem(number) => tell_item(alloc, number, err),
+        Outcome::Judged(verdict) => Outcome::Judged(verdict),
+    }
+}
+
+/// Says on `err` that an item of the list of representations is refused.
+fn tell_item<E: Sink>(alloc: Global, number: u64, err: &mut E) -> Outcome
+    ensures { ItemTold number result
+        (sink_at (E.bytes err.old) (E.faults err.old)) (sink_at (E.bytes err.new) (E.faults err.new)) }
+{
+    match item_line(alloc, number) {
+        Ok(line) => {
+            let _ = put_all(err, line.as_bytes());
+            Outcome::BadItem(number)
+        }
+        Err(NoMemory) => tell_memory(err),
     }
 }
 

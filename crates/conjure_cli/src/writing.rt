@@ -14,7 +14,7 @@ use ess_io::{Files, Sink};
 use std::alloc::Global;
 
 /// Writes bytes to their place, and says on `out` where they are.
-fn written<F: Files, O: Sink>(
+pub(crate) fn written<F: Files, O: Sink>(
     alloc: Global,
     place: &str,
     bytes: &[u8],

@@ -20,6 +20,6 @@ pub enum Command {
     Solution(Text, Text, Text, Text),
     /// `validate-solution`: the specification, its parameters and a solution.
     Validate(Text, Text, Text),
-    /// `selftest`: how many tests there are to be.
+    /// `selftest`: the number that the self-test is made from.
     Selftest(u64),
 }

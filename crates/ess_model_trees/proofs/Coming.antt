@@ -1,5 +1,5 @@
 -- What comes of writing, from what each pass does.
-use Rattle.std.proofs.Common.{◌≡◌, refl, sym, subst, ℕ, Bool, true, false, ◌&&◌, List, [], Option, None}
+use Rattle.std.proofs.Common.{◌≡◌, refl, sym, ap, ◌∙◌, subst, ℕ, Bool, true, false, ◌&&◌, List, [], Option, Some, None}
 use Rattle.std.specs.Prelude.{IfOk, Result}
 use Rattle.std.proofs.lemmas.Result.{IfOk-weaker}
 use Rattle.ess_semantics.specs.Lists.{when}
@@ -8,12 +8,33 @@ use Rattle.ess_semantics.specs.Trees.{Ex}
 use Rattle.ess_semantics.specs.Refined.{is_refined}
 use Rattle.ess_grammar.specs.Models.{Scope}
 use Rattle.ess_simplify_laws.specs.Simplifying.{simplified}
+use Rattle.ess_keys_laws.specs.Keyed.{nothing_around, keyed}
 use Rattle.eprime_lowering_laws.specs.Lowerable.{is_lowerable}
 use Rattle.eprime_lowering.specs.Lowered.{lowered}
 use Rattle.conjure_model_laws.specs.Printed.{printed}
 use Rattle.ess_rules.specs.Ruled.{IsRuled}
 use Rattle.ess_refine.specs.Chains.{Leads}
-use Rattle.ess_model_trees.specs.Written.{written_for, Comes, ComesFrom}
+use Rattle.ess_model_trees.specs.Written.{written_for, IsWrittenBy, Prints, PrintsFrom, Comes, ComesFrom}
+
+-- ---- printing
+
+module _ (taken : List Text) (n m : ℕ) (old : Ex) where
+  -- Nothing comes of a tree in which something abstract is left.
+  pub prints_nothing : (last : Ex) → Leads IsRuled n [] old last m → is_refined last ≡ false → Prints taken n old None m
+  prints_nothing last w h = (last, w, h)
+
+  -- Of a tree in which nothing abstract is left, what each pass makes.
+  pub prints_last : (last simple plain again new : Ex) → Leads IsRuled n [] old last m → is_refined last ≡ true
+      → simple ≡ simplified last → plain ≡ keyed nothing_around simple → again ≡ simplified plain → new ≡ printed taken again []
+      → Prints taken n old (Some new) m
+  prints_last last simple plain again new w h p k a q = record {
+    last = last;
+    leads = w;
+    refined = h;
+    writes = q ∙ ap (λ x. printed taken x []) (a ∙ ap simplified (k ∙ ap (keyed nothing_around) p));
+  }
+
+-- ---- writing
 
 module _ (s : Scope) (taken : List Text) (n m : ℕ) (old : Ex) where
   -- Nothing comes of a tree in which something abstract is left.
@@ -24,23 +45,23 @@ module _ (s : Scope) (taken : List Text) (n m : ℕ) (old : Ex) where
     fails = subst (λ b. (b && is_lowerable s (written_for taken last)) ≡ false) (sym h) refl;
   }
 
-  -- Of a tree in which nothing abstract is left, what is written for it, where it is an expression of a model.
-  pub comes_when : (last new : Ex) (b : Bool) → Leads IsRuled n [] old last m → is_refined last ≡ true → new ≡ written_for taken last
-      → b ≡ is_lowerable s new → Comes s taken n old (when b new) m
-  comes_when last new true w h q t = (record { last = last; leads = w; refined = h; writes = q }, sym t)
-  comes_when last new false w h q t = record {
-    last = last;
-    leads = w;
-    fails = subst (λ b. (b && is_lowerable s (written_for taken last)) ≡ false) (sym h)
-        (subst (λ x. is_lowerable s x ≡ false) q (sym t));
+  -- So where nothing is printed.
+  pub comes_nothing : Prints taken n old None m → Comes s taken n old None m
+  comes_nothing p = comes_stuck p.0 p.1 p.2
+
+  -- Of what is printed, that, where it is an expression of a model.
+  pub comes_when : (new : Ex) (b : Bool) → IsWrittenBy taken n old new m → b ≡ is_lowerable s new → Comes s taken n old (when b new) m
+  comes_when new true w t = (w, sym t)
+  comes_when new false w t = record {
+    last = w.last;
+    leads = w.leads;
+    fails = subst (λ b. (b && is_lowerable s (written_for taken w.last)) ≡ false) (sym w.refined)
+        (subst (λ x. is_lowerable s x ≡ false) w.writes (sym t));
   }
 
-  -- The same, pass by pass.
-  pub comes_lowered : (last simple new : Ex) (o : Option Ex) → Leads IsRuled n [] old last m → is_refined last ≡ true
-      → simple ≡ simplified last → new ≡ printed taken simple [] → o ≡ lowered s new → Comes s taken n old o m
-  comes_lowered last simple new o w h p q r =
-      subst (λ x. Comes s taken n old x m) (sym r)
-      (comes_when last new (is_lowerable s new) w h (subst (λ x. new ≡ printed taken x []) p q) refl)
+  -- The same from what is lowered.
+  pub comes_lowered : (new : Ex) (o : Option Ex) → Prints taken n old (Some new) m → o ≡ lowered s new → Comes s taken n old o m
+  comes_lowered new o p r = subst (λ x. Comes s taken n old x m) (sym r) (comes_when new (is_lowerable s new) p refl)
 
 -- What comes of writing the tree that another one is, from the number on that another one is.
 pub comes_from : {A E : Type 0} (r : Result A E) (view : A → Option Ex) (s : Scope) (taken : List Text) (k n m : ℕ) (tree old : Ex)
@@ -48,3 +69,10 @@ pub comes_from : {A E : Type 0} (r : Result A E) (view : A → Option Ex) (s : S
 comes_from r view s taken k n m tree old p q h =
     IfOk-weaker r (λ o. Comes s taken k tree (view o) m) (λ o. ComesFrom s taken n old (view o))
     (λ o w. (m, subst (λ x. Comes s taken n x (view o) m) q (subst (λ x. Comes s taken x tree (view o) m) p w))) h
+
+-- What comes of printing the tree that another one is, from the number on that another one is.
+pub prints_from : {A E : Type 0} (r : Result A E) (view : A → Option Ex) (taken : List Text) (k n m : ℕ) (tree old : Ex)
+    → k ≡ n → tree ≡ old → IfOk r (λ o. Prints taken k tree (view o) m) → IfOk r (λ o. PrintsFrom taken n old (view o))
+prints_from r view taken k n m tree old p q h =
+    IfOk-weaker r (λ o. Prints taken k tree (view o) m) (λ o. PrintsFrom taken n old (view o))
+    (λ o w. (m, subst (λ x. Prints taken n x (view o) m) q (subst (λ x. Prints taken x tree (view o) m) p w))) h

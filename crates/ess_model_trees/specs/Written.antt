@@ -5,6 +5,7 @@ use Rattle.ess_semantics.specs.Trees.{Ex}
 use Rattle.ess_semantics.specs.Refined.{is_refined}
 use Rattle.ess_grammar.specs.Models.{Scope}
 use Rattle.ess_simplify_laws.specs.Simplifying.{simplified}
+use Rattle.ess_keys_laws.specs.Keyed.{nothing_around, keyed}
 use Rattle.eprime_lowering_laws.specs.Lowerable.{is_lowerable}
 use Rattle.conjure_model_laws.specs.ToldApart.{told}
 use Rattle.conjure_model_laws.specs.Shown.{Shows}
@@ -12,10 +13,10 @@ use Rattle.conjure_model_laws.specs.Printed.{printed}
 use Rattle.ess_rules.specs.Ruled.{IsRuled}
 use Rattle.ess_refine.specs.Chains.{Leads}
 
--- What is written for a tree in which nothing abstract is left: it is simplified, and its bound names are printed, none as a name that
--- is taken.
+-- What is written for a tree in which nothing abstract is left: simplified, with plain keys, and simplified again; its bound names are
+-- printed, none as a name that is taken.
 abbrev pub written_for : List Text → Ex → Ex
-written_for taken e = printed taken (simplified e) []
+written_for taken e = printed taken (simplified (keyed nothing_around (simplified e))) []
 
 -- `new` is written for `old`: rules lead to a tree in which nothing abstract is left, with reserved names from the n-th on and none
 -- from the m-th on, and it is what is written for that one.
@@ -24,6 +25,15 @@ pub record IsWrittenBy (taken : List Text) (n : ℕ) (old new : Ex) (m : ℕ) : 
   pub leads : Leads IsRuled n [] old last m
   pub refined : is_refined last ≡ true
   pub writes : new ≡ written_for taken last
+
+-- What comes of printing: what is written for `old`, or nothing, where something abstract is left.
+abbrev pub Prints : List Text → ℕ → Ex → Option Ex → ℕ → Type 0
+Prints taken n old (Some new) m = IsWrittenBy taken n old new m
+Prints taken n old None m = (last : Ex) × Leads IsRuled n [] old last m × (is_refined last ≡ false)
+
+-- The same with reserved names from the n-th on, however many.
+abbrev pub PrintsFrom : List Text → ℕ → Ex → Option Ex → Type 0
+PrintsFrom taken n old new = (m : ℕ) × Prints taken n old new m
 
 -- Nothing is written for `old`: the tree to which rules lead has something abstract left, or what is written for it is no expression of
 -- a model where earlier lines declare s.

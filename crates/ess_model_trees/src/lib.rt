@@ -3,8 +3,10 @@
 #![tactic(auto)]
 
 mod over_tables;
+mod parts;
 mod wholes;
 mod writing;
 
+pub use parts::{tree_printed, tree_written};
 pub use wholes::{condition_written, constraint_written, objective_written};
 pub use writing::written;

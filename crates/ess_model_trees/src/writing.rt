@@ -3,12 +3,13 @@ ghost use Rattle.std.specs.Prelude.{◌≡◌, IfOk, option_map};
 ghost use Rattle.ess_core_nodes.specs.NodeViews.{pure_node};
 ghost use Rattle.eprime_tree.specs.Views.{pure_ex};
 ghost use Rattle.eprime_read_convert.specs.Lines.{scope_of};
-ghost use Rattle.ess_model_trees.specs.Written.{Comes};
+ghost use Rattle.ess_model_trees.specs.Written.{Comes, Prints};
 
 use eprime_lowering::lower;
 use eprime_read_convert::Lines;
 use eprime_tree::PEx;
 use ess_core_nodes::Node;
+use ess_keys::with_plain_keys;
 use ess_model_printed::{Taken, printed};
 use ess_refine::{Refinement, refine};
 use ess_rows::{Boxed, NoMemory};
@@ -16,11 +17,11 @@ use ess_simplify::simplify;
 use std::alloc::Global;
 
 /// The expression of a model that is written for a tree over tables, where these lines declare names: the tree is refined under no
-/// names and simplified, its bound names are printed, none as a name that is taken, and it becomes the tree of a model. `None` where
-/// something abstract is left when no rule fires any more, or no tree of a model stands for what is left. Reserved names are taken
-/// from `next` on, and the number of the one behind them is left there. `NoMemory` where there is no room for it, or the reserved
-/// names or the turns of refining can't be counted.
-#[tactic(auto, using(crate::proofs::Coming::comes_stuck, crate::proofs::Coming::comes_lowered))]
+/// names and simplified, gets plain keys, is simplified again, its bound names are printed, none as a name that is taken, and it becomes
+/// the tree of a model. `None` where something abstract is left when no rule fires any more, or no tree of a model stands for what is
+/// left. Reserved names are taken from `next` on, and the number of the one behind them is left there. `NoMemory` where there is no room
+/// for it, or the reserved names can't be counted.
+#[tactic(auto, using(crate::proofs::Coming::comes_nothing, crate::proofs::Coming::comes_lowered))]
 pub fn written(
     alloc: Global,
     node: Boxed<Node>,
@@ -31,13 +32,30 @@ pub fn written(
     ensures { IfOk result (λ o. Comes (scope_of lines.now) taken.now next.old (pure_node node)
         (option_map (pure_ex (scope_of lines.now)) o) next.new) }
 {
+    match printing(alloc, node, taken, next)? {
+        None => Ok(None),
+        Some(node) => lower(alloc, lines, node.get()),
+    }
+}
+
+/// The same without the last step: the tree with printed names. `None` where something abstract is left when no rule fires any more.
+#[tactic(auto, using(crate::proofs::Coming::prints_nothing, crate::proofs::Coming::prints_last))]
+pub(crate) fn printing(
+    alloc: Global,
+    node: Boxed<Node>,
+    taken: &Taken,
+    next: &mut u64,
+) -> Result<Option<Boxed<Node>>, NoMemory>
+    ensures { IfOk result (λ o. Prints taken.now next.old (pure_node node) (option_map pure_node o) next.new) }
+{
     let mut node = node;
     match refine(alloc, node.get_mut(), next)? {
         Refinement::Stuck => Ok(None),
         Refinement::Refined => {
             simplify(node.get_mut());
-            let node = printed(alloc, taken, node.get())?;
-            lower(alloc, lines, node.get())
+            let mut plain = with_plain_keys(alloc, node.get())?;
+            simplify(plain.get_mut());
+            Ok(Some(printed(alloc, taken, plain.get())?))
         }
     }
 }

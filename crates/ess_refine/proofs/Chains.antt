@@ -2,9 +2,9 @@
 use Rattle.std.proofs.Common.{◌≡◌, refl, sym, subst, ℕ, ◌≤◌, Bool, List, arith}
 use Rattle.ess_semantics.specs.Values.{Text}
 use Rattle.ess_semantics.specs.Names.{Names}
-use Rattle.ess_semantics.specs.Trees.{Op, Ends, Mark, Repr, Pat, Ex, Exs, node_ex, matrix_ex, comp_ex, cell_ex, more_exs, Gens, over, from, cond, Dom, Doms, int_dom, tuple_dom, record_dom, matrix_dom, set_dom, mset_dom, function_dom, relation_dom, partition_dom, more_doms}
+use Rattle.ess_semantics.specs.Trees.{Op, Ends, Ex, Exs, node_ex, matrix_ex, comp_ex, cell_ex, Gens, Dom, Doms, int_dom, tuple_dom, record_dom, matrix_dom}
 use Rattle.ess_semantics.specs.Types.{Ty}
-use Rattle.ess_semantics.specs.Contexts.{In, Ins, InGens, InDom, InDoms, in_operand, in_item, in_index_domain, in_body, in_generators, in_cell_index, in_bound, in_component, in_field, in_index, in_element, in_set_number, in_set_member, in_mset_number, in_mset_member, in_function_number, in_argument, in_result, in_relation_number, in_relation_component, in_partition_number, in_partition_member, fill, fill_exs, fill_gens, fill_dom, fill_doms}
+use Rattle.ess_semantics.specs.Contexts.{in_operand, in_item, in_index_domain, in_body, in_generators, in_cell_index, in_bound, in_component, in_field, in_index, in_element, fill, fill_exs, fill_gens, fill_dom, fill_doms}
 use Rattle.ess_semantics.specs.NamesAt.{names_behind, names_at, names_at_exs, names_at_gens, names_at_dom, names_at_doms}
 use Rattle.ess_refine.specs.Chains.{LeadsIn, as_it_was, led_at, Leads, AllLead, GensLead, DomLeads, DomsLead}
 

@@ -5,8 +5,8 @@ use Rattle.ess_semantics.specs.Values.{Text}
 use Rattle.ess_semantics.specs.Names.{Names}
 use Rattle.ess_semantics.specs.Trees.{Ex, Dom}
 use Rattle.ess_semantics.specs.Types.{Ty}
-use Rattle.ess_semantics.specs.Contexts.{hole, fill, fill_exs, fill_gens}
-use Rattle.ess_semantics.specs.NamesAt.{names_behind, names_at, names_at_exs, names_at_gens}
+use Rattle.ess_semantics.specs.Contexts.{hole, fill_exs, fill_gens}
+use Rattle.ess_semantics.specs.NamesAt.{names_behind, names_at_exs, names_at_gens}
 use Rattle.ess_core.specs.TreeViews.{Item}
 use Rattle.ess_core.specs.declared.expressions.Pat.{Pat}
 use Rattle.ess_core_nodes.specs.declared.words.Op.{Op}
@@ -19,7 +19,7 @@ use Rattle.ess_core_nodes.specs.declared.nodes.NodeDom.TheVariants as dom
 use Rattle.ess_core_nodes.specs.declared.nodes.NodeDom.{NodeDom}
 use Rattle.ess_core_nodes.specs.NodeViews.{pure_node, pure_nodes, pure_gen, pure_gens, pure_dom, pure_doms, pure_op, pure_ends}
 use Rattle.ess_rules.specs.Ruled.{IsRuled, IsTurn}
-use Rattle.ess_refine.specs.Chains.{LeadsIn, as_it_was, led_at, Leads, AllLead, GensLead, DomLeads, DomsLead, ItemLeads}
+use Rattle.ess_refine.specs.Chains.{as_it_was, led_at, Leads, AllLead, GensLead, DomLeads, DomsLead, ItemLeads}
 use Rattle.ess_core_nodes.proofs.NodeEquations.{pure_gen_over, pure_gen_from, pure_gen_if}
 use Rattle.ess_refine.proofs.NodeForms.{pure_operator, pure_matrix_on, pure_comprehension, pure_cell, pure_int, pure_tuple, pure_record, pure_matrix}
 use Rattle.ess_refine.proofs.Chains.{leads-lower, operands_lead, index_leads, matrix_leads, comprehension_leads, bounds_lead, components_lead, fields_lead, matrices_lead, passes_lead}

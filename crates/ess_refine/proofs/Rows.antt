@@ -1,7 +1,7 @@
 -- One item of a row after the other, led to in its place.
-use Rattle.std.proofs.Common.{◌≡◌, refl, sym, ap, ◌∙◌, subst, ℕ, zero, suc, ◌+◌, ◌<◌, ◌≤◌, List, [], ◌∷◌, ◌++◌, length, map, set, slice_get, take, Option, Some, None, arith}
+use Rattle.std.proofs.Common.{◌≡◌, refl, sym, ap, ◌∙◌, subst, ℕ, zero, suc, ◌+◌, List, [], ◌∷◌, ◌++◌, map, set, slice_get, take, Some, None, arith}
 use Rattle.ess_semantics.specs.Names.{Names}
-use Rattle.ess_semantics.specs.Trees.{Pat, Ex, more_exs, Gens, no_gens, over, from, cond, Dom, more_doms}
+use Rattle.ess_semantics.specs.Trees.{Ex, more_exs, over, from, cond, Dom, more_doms}
 use Rattle.ess_semantics.specs.Kinds.{doms_of}
 use Rattle.ess_semantics.specs.Types.{Ty, bind_types, type_of_dom}
 use Rattle.ess_semantics.specs.Typing.{source_ty}
@@ -12,7 +12,7 @@ use Rattle.ess_core_nodes.specs.declared.nodes.Node.{Node}
 use Rattle.ess_core_nodes.specs.declared.nodes.Gen.{Gen}
 use Rattle.ess_core_nodes.specs.declared.nodes.NodeDom.{NodeDom}
 use Rattle.ess_core_nodes.specs.NodeViews.{pure_node, pure_nodes, pure_gen, pure_gens, pure_dom, pure_doms}
-use Rattle.ess_refine.specs.Chains.{LeadsIn, as_it_was, led_at, Leads, AllLead, GensLead, DomLeads, DomsLead, ItemLeads}
+use Rattle.ess_refine.specs.Chains.{Leads, AllLead, GensLead, DomLeads, DomsLead, ItemLeads}
 use Rattle.ess_refine.proofs.Chains.{leads-inside, leads-then}
 
 got : {A : Type 0} (x y : A) → Some x ≡ Some y → x ≡ y

@@ -4,7 +4,7 @@ use Rattle.std.specs.Prelude.{◌≡◌, ℕ, ◌≤◌}
 use Rattle.ess_semantics.specs.Names.{Names}
 use Rattle.ess_semantics.specs.Trees.{Ex, Exs, Gens, Dom, Doms}
 use Rattle.ess_semantics.specs.Types.{Ty}
-use Rattle.ess_semantics.specs.Contexts.{In, Ins, InGens, InDom, InDoms, fill, fill_exs, fill_gens, fill_dom, fill_doms}
+use Rattle.ess_semantics.specs.Contexts.{fill, fill_exs, fill_gens, fill_dom, fill_doms}
 use Rattle.ess_semantics.specs.NamesAt.{names_at, names_at_exs, names_at_gens, names_at_dom, names_at_doms}
 use Rattle.ess_core.specs.TreeViews.{Item, over_item, from_item, cond_item}
 

@@ -1,4 +1,4 @@
-//! Trees refined: rules at the root and at the parts, until none fires.
+//! Trees refined: rules at the root and at the parts, until none fires, or refining is given up.
 #![tactic(auto)]
 
 mod passing;

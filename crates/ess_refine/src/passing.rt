@@ -1,8 +1,8 @@
 //! One pass over a tree: the rules at the root, and where none fires there at the parts.
-ghost use Rattle.std.specs.Prelude.{◌≡◌, IfOk, OnOk};
+ghost use Rattle.std.specs.Prelude.{IfOk, OnOk, option_map};
 ghost use Rattle.ess_core_nodes.specs.NodeViews.{pure_node, pure_nodes};
 ghost use Rattle.ess_node_types.specs.TypedNames.{pure_names};
-ghost use Rattle.ess_rules.specs.Ruled.{IsRuled};
+ghost use Rattle.ess_rules.specs.Ruled.{IsRuled, IsTurn};
 ghost use Rattle.ess_refine.specs.Chains.{Leads, AllLead};
 
 use crate::passing_domains::pass_boxed_dom;
@@ -21,11 +21,34 @@ pub(crate) struct Turns {
     pub(crate) next: u64,
     /// Whether a rule has fired.
     pub(crate) any: bool,
+    /// How many rules may still fire.
+    pub(crate) left: u64,
+}
+
+/// What the first rule that fires makes of the root of a tree, or nothing where none fires, or as many have fired as may. It is noted
+/// where one fires. `NoMemory` where there is no room for it, or the reserved names can't be counted.
+fn turn_at(
+    alloc: Global,
+    node: &Node,
+    names: &NameTypes,
+    turns: &mut Turns,
+) -> Result<Option<Boxed<Node>>, NoMemory>
+    ensures { IfOk result (λ o. IsTurn turns.old.next (pure_names names.now) (pure_node node.now) (option_map pure_node o) turns.new.next) }
+{
+    if turns.left == 0 {
+        return Ok(None);
+    }
+    let found = rule_at(alloc, node, names, &mut turns.next)?;
+    if found.is_some() {
+        turns.any = true;
+        turns.left = turns.left.saturating_sub(1);
+    }
+    Ok(found)
 }
 
 /// The tree rewritten by the rules, where names have these types: once at its root or, where no rule fires there, at its parts.
-/// Reserved names are counted on, and it is noted where a rule fires. `NoMemory` where there is no room for it, or the reserved names
-/// can't be counted.
+/// Reserved names and rules are counted on, and it is noted where a rule fires; once as many have fired as may, the tree stays. `NoMemory`
+/// where there is no room for it, or the reserved names can't be counted.
 #[cycle(pass)]
 pub(crate) fn pass(
     alloc: Global,
@@ -35,7 +58,7 @@ pub(crate) fn pass(
 ) -> Result<Node, NoMemory>
     ensures { IfOk result (λ n. Leads IsRuled turns.old.next (pure_names names.now) (pure_node node) (pure_node n) turns.new.next) }
 {
-    let found = match rule_at(alloc, &node, names, &mut turns.next) {
+    let found = match turn_at(alloc, &node, names, turns) {
         Ok(found) => found,
         Err(no) => {
             drop(node);
@@ -44,7 +67,6 @@ pub(crate) fn pass(
     };
     if let Some(new) = found {
         drop(node);
-        turns.any = true;
         return Ok(new.into_inner());
     }
     match node {

@@ -1,4 +1,4 @@
-//! Passes over a tree until no rule fires.
+//! Passes over a tree until no rule fires, or there were as many as may be.
 ghost use Rattle.std.specs.Prelude.{◌≡◌, [], IfOk, OnOk};
 ghost use Rattle.ess_core_nodes.specs.NodeViews.{pure_node};
 ghost use Rattle.ess_rules.specs.Ruled.{IsRuled};
@@ -13,18 +13,26 @@ use ess_rows::NoMemory;
 use std::alloc::Global;
 use std::mem;
 
+/// How many passes there are at most.
+const PASSES: u64 = 1_024;
+
+/// How many rules fire at most.
+const RULES: u64 = 200_000;
+
 /// What came of refining.
 #[derive(Clone, Copy, Debug, PartialEq, Eq)]
 pub enum Refinement {
     /// Nothing abstract is left.
     Refined,
-    /// No rule fires, and something abstract is left.
+    /// Something abstract is left, and no rule fires, or so many have fired that refining was given up.
     Stuck,
 }
 
-/// Refines a tree in place, under no names: rules are used at its root and at its parts until none fires. `Refined` where nothing
-/// abstract is left, else `Stuck`. Reserved names are taken from `next` on, and the number of the one behind them is left there.
-/// `NoMemory` where there is no room for it, or the reserved names or the passes can't be counted; the tree is then any.
+/// Refines a tree in place, under no names: rules are used at its root and at its parts until none fires. There are rules that could lead
+/// on for ever, so refining is given up after 1,024 passes, and no rule is asked any more once 200,000 have fired: the tree then is what
+/// the rules have led to. `Refined` where nothing abstract is left, else `Stuck`. Reserved names are taken from `next` on, and the number
+/// of the one behind them is left there. `NoMemory` where there is no room for it, or the reserved names can't be counted; the tree is
+/// then any.
 pub fn refine(alloc: Global, node: &mut Node, next: &mut u64) -> Result<Refinement, NoMemory>
     ensures led { OnOk result (Leads IsRuled next.old [] (pure_node node.old) (pure_node node.new) next.new) }
     ensures says { IfOk result (Says (pure_node node.new)) }
@@ -37,7 +45,7 @@ pub fn refine(alloc: Global, node: &mut Node, next: &mut u64) -> Result<Refineme
     }
 }
 
-/// Passes over a tree until no rule fires. `NoMemory` as above.
+/// Passes over a tree until no rule fires, or refining is given up. `NoMemory` as above.
 fn passed(alloc: Global, node: &mut Node, next: &mut u64) -> Result<(), NoMemory>
     ensures { OnOk result (Leads IsRuled next.old [] (pure_node node.old) (pure_node node.new) next.new) }
 {
@@ -45,8 +53,9 @@ fn passed(alloc: Global, node: &mut Node, next: &mut u64) -> Result<(), NoMemory
     let mut turns = Turns {
         next: *next,
         any: false,
+        left: RULES,
     };
-    for _turn in 0..u64::MAX {
+    for _turn in 0..PASSES {
         turns.any = false;
         let old = mem::replace(node, Node::Truth(false));
         let new = pass(alloc, old, &names, &mut turns)?;
@@ -56,5 +65,6 @@ fn passed(alloc: Global, node: &mut Node, next: &mut u64) -> Result<(), NoMemory
             return Ok(());
         }
     }
-    Err(NoMemory)
+    *next = turns.next;
+    Ok(())
 }

@@ -1,5 +1,5 @@
 -- Each rule that fires is one of all rules.
-use Rattle.std.proofs.Common.{◌≡◌, refl, sym, ap, ◌∙◌, List, Option, Some, None, if◌then◌else◌}
+use Rattle.std.proofs.Common.{◌≡◌, refl, sym, ap, ◌∙◌, Bool, true, false, List, Option, Some, None, if◌then◌else◌}
 use Rattle.std.specs.Prelude.{option_map}
 use Rattle.ess_semantics.specs.Values.{Text}
 use Rattle.ess_semantics.specs.Names.{Names}
@@ -8,11 +8,10 @@ use Rattle.ess_semantics.specs.Types.{Ty}
 use Rattle.ess_core_nodes.specs.declared.nodes.Node.{Node}
 use Rattle.ess_core_nodes.specs.NodeViews.{pure_node}
 use Rattle.ess_refine_laws.specs.AllRules as rules
-use Rattle.ess_refine_laws.specs.AllRules.{source_listed, source_listed_once, extremes_listed, matrices_at, compares_compound, tells_scalars_apart}
+use Rattle.ess_refine_laws.specs.AllRules.{source_listed, matrices_at, compares_compound, tells_scalars_apart}
 use Rattle.ess_rules_listings.specs.Offered.{supply_of}
 use Rattle.ess_refine_laws.specs.LeavingConditions.{condition_leaves}
 use Rattle.ess_refine_laws.specs.MovingConditions.{condition_later}
-use Rattle.ess_refine_laws.specs.RecordNames.{name_over_record}
 use Rattle.ess_rules_laws.specs.ChoiceRules.{choice_shorter}
 use Rattle.ess_rules_laws.specs.ComponentRules.{equal_components, equal_fields}
 use Rattle.ess_rules_laws.specs.ContainerListings.{range_as_set}
@@ -28,209 +27,203 @@ use Rattle.ess_rules_laws.specs.MembershipRules.{member_combined, member_changed
 use Rattle.ess_rules_laws.specs.PartitionRules.{equal_parts}
 use Rattle.ess_rules_laws.specs.ShortSizeRules.{size_made, frequency_made, frequency_listed}
 use Rattle.ess_rules_laws.specs.SizeRules.{size_term, frequency_term, together_term}
-use Rattle.ess_rules_laws.specs.SourceRules.{fold_items}
-use Rattle.ess_rules_laws.specs.SpliceRules.{splice}
-use Rattle.ess_rules_laws.specs.SplitRules.{split}
-use Rattle.ess_rules_laws.specs.TupleNames.{name_over_tuple}
-use Rattle.ess_rules.specs.Supplies.{IsRewritten}
+use Rattle.ess_gathered_laws.specs.GatheredConditions.{conditions_gathered}
+use Rattle.ess_rules.specs.Ruled.{plainly, gathering, both_told}
+use Rattle.ess_rules.specs.Supplies.{IsRewritten, IsSourced}
+
+-- Where there is something under a test, the test holds.
+is-chosen : (b : Bool) (o : Option Ex) (e : Ex) → (if b then o else None) ≡ Some e → b ≡ true
+is-chosen true o e h = refl
+is-chosen false o e h = cc
+
+chosen-is : (b : Bool) (o : Option Ex) (e : Ex) → (if b then o else None) ≡ Some e → o ≡ Some e
+chosen-is true o e h = h
+chosen-is false o e h = cc
 
 module _ (y z w : Text) (ys : List Text) (d : Ex → Dom) (c : Ex → Ex) (g : Names Ty) (a : Ex) (o : Option Node) (x : Node) where
   pub ruled_over_nothing : option_map pure_node o ≡ fold_nothing a → o ≡ Some x
       → IsRewritten (supply_of y z w ys d c) g a (Some (pure_node x))
-  ruled_over_nothing h e = (rules.over_nothing, sym h ∙ ap (option_map pure_node) e, λ j. refl)
+  ruled_over_nothing h e = (plainly rules.over_nothing, sym h ∙ ap (option_map pure_node) e, λ j. refl, tt, refl)
 
   pub ruled_over_one : option_map pure_node o ≡ fold_one a → o ≡ Some x
       → IsRewritten (supply_of y z w ys d c) g a (Some (pure_node x))
-  ruled_over_one h e = (rules.over_one, sym h ∙ ap (option_map pure_node) e, λ j. refl)
+  ruled_over_one h e = (plainly rules.over_one, sym h ∙ ap (option_map pure_node) e, λ j. refl, tt, refl)
 
   pub ruled_over_one_binding : option_map pure_node o ≡ fold_bare a → o ≡ Some x
       → IsRewritten (supply_of y z w ys d c) g a (Some (pure_node x))
-  ruled_over_one_binding h e = (rules.over_one_binding, sym h ∙ ap (option_map pure_node) e, λ j. refl)
+  ruled_over_one_binding h e = (plainly rules.over_one_binding, sym h ∙ ap (option_map pure_node) e, λ j. refl, tt, refl)
 
   pub ruled_over_a_condition : option_map pure_node o ≡ fold_alone a → o ≡ Some x
       → IsRewritten (supply_of y z w ys d c) g a (Some (pure_node x))
-  ruled_over_a_condition h e = (rules.over_a_condition, sym h ∙ ap (option_map pure_node) e, λ j. refl)
+  ruled_over_a_condition h e = (plainly rules.over_a_condition, sym h ∙ ap (option_map pure_node) e, λ j. refl, tt, refl)
 
   pub ruled_over_a_made_set : option_map pure_node o ≡ fold_loosely a → o ≡ Some x
       → IsRewritten (supply_of y z w ys d c) g a (Some (pure_node x))
-  ruled_over_a_made_set h e = (rules.over_a_made_set, sym h ∙ ap (option_map pure_node) e, λ j. refl)
-
-  pub ruled_over_tuples : option_map pure_node o ≡ split a → o ≡ Some x
-      → IsRewritten (supply_of y z w ys d c) g a (Some (pure_node x))
-  ruled_over_tuples h e = (rules.over_tuples, sym h ∙ ap (option_map pure_node) e, λ j. refl)
-
-  pub ruled_over_a_tuple : option_map pure_node o ≡ name_over_tuple ys a → o ≡ Some x
-      → IsRewritten (supply_of y z w ys d c) g a (Some (pure_node x))
-  ruled_over_a_tuple h e = (rules.over_a_tuple, sym h ∙ ap (option_map pure_node) e, λ j. refl)
-
-  pub ruled_over_a_record : option_map pure_node o ≡ name_over_record ys a → o ≡ Some x
-      → IsRewritten (supply_of y z w ys d c) g a (Some (pure_node x))
-  ruled_over_a_record h e = (rules.over_a_record, sym h ∙ ap (option_map pure_node) e, λ j. refl)
-
-  pub ruled_over_a_comprehension : option_map pure_node o ≡ splice a → o ≡ Some x
-      → IsRewritten (supply_of y z w ys d c) g a (Some (pure_node x))
-  ruled_over_a_comprehension h e = (rules.over_a_comprehension, sym h ∙ ap (option_map pure_node) e, λ j. refl)
-
-  pub ruled_over_a_literal : option_map pure_node o ≡ fold_items a → o ≡ Some x
-      → IsRewritten (supply_of y z w ys d c) g a (Some (pure_node x))
-  ruled_over_a_literal h e = (rules.over_a_literal, sym h ∙ ap (option_map pure_node) e, λ j. refl)
+  ruled_over_a_made_set h e = (plainly rules.over_a_made_set, sym h ∙ ap (option_map pure_node) e, λ j. refl, tt, refl)
 
   pub ruled_over_a_source : option_map pure_node o ≡ (source_listed (supply_of y z w ys d c) g a) → o ≡ Some x
-      → IsRewritten (supply_of y z w ys d c) g a (Some (pure_node x))
-  ruled_over_a_source h e = (rules.over_a_source, sym h ∙ ap (option_map pure_node) e, λ j. refl)
-
-  pub ruled_of_one_source : option_map pure_node o ≡ (source_listed_once (supply_of y z w ys d c) g a) → o ≡ Some x
-      → IsRewritten (supply_of y z w ys d c) g a (Some (pure_node x))
-  ruled_of_one_source h e = (rules.of_one_source, sym h ∙ ap (option_map pure_node) e, λ j. refl)
+      → IsSourced (supply_of y z w ys d c) g a (Some (pure_node x))
+  ruled_over_a_source h e = (plainly rules.over_a_source, sym h ∙ ap (option_map pure_node) e, λ j e. refl, λ e. tt, refl)
 
   pub ruled_over_a_term : option_map pure_node o ≡ fold_term y a → o ≡ Some x
       → IsRewritten (supply_of y z w ys d c) g a (Some (pure_node x))
-  ruled_over_a_term h e = (rules.over_a_term, sym h ∙ ap (option_map pure_node) e, λ j. refl)
+  ruled_over_a_term h e = (plainly rules.over_a_term, sym h ∙ ap (option_map pure_node) e, λ j. refl, tt, refl)
 
   pub ruled_not_equal : option_map pure_node o ≡ (if compares_compound g a then unequal a else None) → o ≡ Some x
       → IsRewritten (supply_of y z w ys d c) g a (Some (pure_node x))
-  ruled_not_equal h e = (rules.not_equal, sym h ∙ ap (option_map pure_node) e, λ j. refl)
+  ruled_not_equal h e = (plainly rules.not_equal, sym h ∙ ap (option_map pure_node) e, λ j. refl, tt, refl)
 
   pub ruled_turned : option_map pure_node o ≡ included_turned a → o ≡ Some x
       → IsRewritten (supply_of y z w ys d c) g a (Some (pure_node x))
-  ruled_turned h e = (rules.turned, sym h ∙ ap (option_map pure_node) e, λ j. refl)
+  ruled_turned h e = (plainly rules.turned, sym h ∙ ap (option_map pure_node) e, λ j. refl, tt, refl)
 
   pub ruled_strictly : option_map pure_node o ≡ included_strictly g y a → o ≡ Some x
       → IsRewritten (supply_of y z w ys d c) g a (Some (pure_node x))
-  ruled_strictly h e = (rules.strictly, sym h ∙ ap (option_map pure_node) e, λ j. refl)
+  ruled_strictly h e = (plainly rules.strictly, sym h ∙ ap (option_map pure_node) e, λ j. refl, tt, refl)
 
   pub ruled_equal_tuples : option_map pure_node o ≡ equal_components g y a → o ≡ Some x
       → IsRewritten (supply_of y z w ys d c) g a (Some (pure_node x))
-  ruled_equal_tuples h e = (rules.equal_tuples, sym h ∙ ap (option_map pure_node) e, λ j. refl)
+  ruled_equal_tuples h e = (plainly rules.equal_tuples, sym h ∙ ap (option_map pure_node) e, λ j. refl, tt, refl)
 
   pub ruled_equal_records : option_map pure_node o ≡ equal_fields g y a → o ≡ Some x
       → IsRewritten (supply_of y z w ys d c) g a (Some (pure_node x))
-  ruled_equal_records h e = (rules.equal_records, sym h ∙ ap (option_map pure_node) e, λ j. refl)
+  ruled_equal_records h e = (plainly rules.equal_records, sym h ∙ ap (option_map pure_node) e, λ j. refl, tt, refl)
 
   pub ruled_equal_sets : option_map pure_node o ≡ equal_members g y a → o ≡ Some x
       → IsRewritten (supply_of y z w ys d c) g a (Some (pure_node x))
-  ruled_equal_sets h e = (rules.equal_sets, sym h ∙ ap (option_map pure_node) e, λ j. refl)
+  ruled_equal_sets h e = (plainly rules.equal_sets, sym h ∙ ap (option_map pure_node) e, λ j. refl, tt, refl)
 
   pub ruled_equal_multisets : option_map pure_node o ≡ equal_often g y a → o ≡ Some x
       → IsRewritten (supply_of y z w ys d c) g a (Some (pure_node x))
-  ruled_equal_multisets h e = (rules.equal_multisets, sym h ∙ ap (option_map pure_node) e, λ j. refl)
+  ruled_equal_multisets h e = (plainly rules.equal_multisets, sym h ∙ ap (option_map pure_node) e, λ j. refl, tt, refl)
 
   pub ruled_equal_functions : option_map pure_node o ≡ equal_pairs g y a → o ≡ Some x
       → IsRewritten (supply_of y z w ys d c) g a (Some (pure_node x))
-  ruled_equal_functions h e = (rules.equal_functions, sym h ∙ ap (option_map pure_node) e, λ j. refl)
+  ruled_equal_functions h e = (plainly rules.equal_functions, sym h ∙ ap (option_map pure_node) e, λ j. refl, tt, refl)
 
   pub ruled_equal_partitions : option_map pure_node o ≡ equal_parts g y a → o ≡ Some x
       → IsRewritten (supply_of y z w ys d c) g a (Some (pure_node x))
-  ruled_equal_partitions h e = (rules.equal_partitions, sym h ∙ ap (option_map pure_node) e, λ j. refl)
+  ruled_equal_partitions h e = (plainly rules.equal_partitions, sym h ∙ ap (option_map pure_node) e, λ j. refl, tt, refl)
 
   pub ruled_with_nothing : option_map pure_node o ≡ equal_to_nothing g y a → o ≡ Some x
       → IsRewritten (supply_of y z w ys d c) g a (Some (pure_node x))
-  ruled_with_nothing h e = (rules.with_nothing, sym h ∙ ap (option_map pure_node) e, λ j. refl)
+  ruled_with_nothing h e = (plainly rules.with_nothing, sym h ∙ ap (option_map pure_node) e, λ j. refl, tt, refl)
 
-  pub ruled_equal_matrices_at : option_map pure_node o ≡ (matrices_at (supply_of y z w ys d c) g a) → o ≡ Some x
+  pub ruled_equal_matrices_at : option_map pure_node o
+      ≡ (if both_told a then matrices_at (supply_of y z w ys d c) g a else None) → o ≡ Some x
       → IsRewritten (supply_of y z w ys d c) g a (Some (pure_node x))
-  ruled_equal_matrices_at h e = (rules.equal_matrices_at, sym h ∙ ap (option_map pure_node) e, λ j. refl)
+  ruled_equal_matrices_at h e =
+      let u : (if both_told a then matrices_at (supply_of y z w ys d c) g a else None) ≡ Some (pure_node x) =
+      sym h ∙ ap (option_map pure_node) e in (
+        plainly rules.equal_matrices_at,
+        chosen-is (both_told a) (matrices_at (supply_of y z w ys d c) g a) (pure_node x) u,
+        λ j. refl,
+        is-chosen (both_told a) (matrices_at (supply_of y z w ys d c) g a) (pure_node x) u,
+        refl,
+      )
 
   pub ruled_included_sets : option_map pure_node o ≡ included_members g y a → o ≡ Some x
       → IsRewritten (supply_of y z w ys d c) g a (Some (pure_node x))
-  ruled_included_sets h e = (rules.included_sets, sym h ∙ ap (option_map pure_node) e, λ j. refl)
+  ruled_included_sets h e = (plainly rules.included_sets, sym h ∙ ap (option_map pure_node) e, λ j. refl, tt, refl)
 
   pub ruled_included_multisets : option_map pure_node o ≡ included_often y a → o ≡ Some x
       → IsRewritten (supply_of y z w ys d c) g a (Some (pure_node x))
-  ruled_included_multisets h e = (rules.included_multisets, sym h ∙ ap (option_map pure_node) e, λ j. refl)
+  ruled_included_multisets h e = (plainly rules.included_multisets, sym h ∙ ap (option_map pure_node) e, λ j. refl, tt, refl)
 
   pub ruled_component_of_a_tuple : option_map pure_node o ≡ component_listed a → o ≡ Some x
       → IsRewritten (supply_of y z w ys d c) g a (Some (pure_node x))
-  ruled_component_of_a_tuple h e = (rules.component_of_a_tuple, sym h ∙ ap (option_map pure_node) e, λ j. refl)
+  ruled_component_of_a_tuple h e = (plainly rules.component_of_a_tuple, sym h ∙ ap (option_map pure_node) e, λ j. refl, tt, refl)
 
   pub ruled_field_of_a_record : option_map pure_node o ≡ field_listed a → o ≡ Some x
       → IsRewritten (supply_of y z w ys d c) g a (Some (pure_node x))
-  ruled_field_of_a_record h e = (rules.field_of_a_record, sym h ∙ ap (option_map pure_node) e, λ j. refl)
+  ruled_field_of_a_record h e = (plainly rules.field_of_a_record, sym h ∙ ap (option_map pure_node) e, λ j. refl, tt, refl)
 
   pub ruled_in_two : option_map pure_node o ≡ member_combined a → o ≡ Some x
       → IsRewritten (supply_of y z w ys d c) g a (Some (pure_node x))
-  ruled_in_two h e = (rules.in_two, sym h ∙ ap (option_map pure_node) e, λ j. refl)
+  ruled_in_two h e = (plainly rules.in_two, sym h ∙ ap (option_map pure_node) e, λ j. refl, tt, refl)
 
   pub ruled_in_one_made_of_another : option_map pure_node o ≡ member_changed g y a → o ≡ Some x
       → IsRewritten (supply_of y z w ys d c) g a (Some (pure_node x))
-  ruled_in_one_made_of_another h e = (rules.in_one_made_of_another, sym h ∙ ap (option_map pure_node) e, λ j. refl)
+  ruled_in_one_made_of_another h e = (plainly rules.in_one_made_of_another, sym h ∙ ap (option_map pure_node) e, λ j. refl, tt, refl)
 
   pub ruled_in_a_literal : option_map pure_node o ≡ member_listed a → o ≡ Some x
       → IsRewritten (supply_of y z w ys d c) g a (Some (pure_node x))
-  ruled_in_a_literal h e = (rules.in_a_literal, sym h ∙ ap (option_map pure_node) e, λ j. refl)
+  ruled_in_a_literal h e = (plainly rules.in_a_literal, sym h ∙ ap (option_map pure_node) e, λ j. refl, tt, refl)
 
   pub ruled_in_what_a_function_has : option_map pure_node o ≡ member_of_function g y a → o ≡ Some x
       → IsRewritten (supply_of y z w ys d c) g a (Some (pure_node x))
-  ruled_in_what_a_function_has h e = (rules.in_what_a_function_has, sym h ∙ ap (option_map pure_node) e, λ j. refl)
+  ruled_in_what_a_function_has h e = (plainly rules.in_what_a_function_has, sym h ∙ ap (option_map pure_node) e, λ j. refl, tt, refl)
 
   pub ruled_in_its_pairs : option_map pure_node o ≡ member_related y a → o ≡ Some x
       → IsRewritten (supply_of y z w ys d c) g a (Some (pure_node x))
-  ruled_in_its_pairs h e = (rules.in_its_pairs, sym h ∙ ap (option_map pure_node) e, λ j. refl)
+  ruled_in_its_pairs h e = (plainly rules.in_its_pairs, sym h ∙ ap (option_map pure_node) e, λ j. refl, tt, refl)
 
   pub ruled_in_a_term : option_map pure_node o ≡ member_term y a → o ≡ Some x
       → IsRewritten (supply_of y z w ys d c) g a (Some (pure_node x))
-  ruled_in_a_term h e = (rules.in_a_term, sym h ∙ ap (option_map pure_node) e, λ j. refl)
+  ruled_in_a_term h e = (plainly rules.in_a_term, sym h ∙ ap (option_map pure_node) e, λ j. refl, tt, refl)
 
   pub ruled_size_of_one_made_of_another : option_map pure_node o ≡ size_made g y a → o ≡ Some x
       → IsRewritten (supply_of y z w ys d c) g a (Some (pure_node x))
-  ruled_size_of_one_made_of_another h e = (rules.size_of_one_made_of_another, sym h ∙ ap (option_map pure_node) e, λ j. refl)
+  ruled_size_of_one_made_of_another h e =
+      (plainly rules.size_of_one_made_of_another, sym h ∙ ap (option_map pure_node) e, λ j. refl, tt, refl)
 
   pub ruled_size : option_map pure_node o ≡ size_term g y a → o ≡ Some x
       → IsRewritten (supply_of y z w ys d c) g a (Some (pure_node x))
-  ruled_size h e = (rules.size, sym h ∙ ap (option_map pure_node) e, λ j. refl)
+  ruled_size h e = (plainly rules.size, sym h ∙ ap (option_map pure_node) e, λ j. refl, tt, refl)
 
   pub ruled_frequency_in_one_made_of_another : option_map pure_node o ≡ frequency_made g y a → o ≡ Some x
       → IsRewritten (supply_of y z w ys d c) g a (Some (pure_node x))
-  ruled_frequency_in_one_made_of_another h e = (rules.frequency_in_one_made_of_another, sym h ∙ ap (option_map pure_node) e, λ j. refl)
+  ruled_frequency_in_one_made_of_another h e =
+      (plainly rules.frequency_in_one_made_of_another, sym h ∙ ap (option_map pure_node) e, λ j. refl, tt, refl)
 
   pub ruled_frequency_in_a_literal : option_map pure_node o ≡ frequency_listed a → o ≡ Some x
       → IsRewritten (supply_of y z w ys d c) g a (Some (pure_node x))
-  ruled_frequency_in_a_literal h e = (rules.frequency_in_a_literal, sym h ∙ ap (option_map pure_node) e, λ j. refl)
+  ruled_frequency_in_a_literal h e = (plainly rules.frequency_in_a_literal, sym h ∙ ap (option_map pure_node) e, λ j. refl, tt, refl)
 
   pub ruled_frequency : option_map pure_node o ≡ frequency_term y a → o ≡ Some x
       → IsRewritten (supply_of y z w ys d c) g a (Some (pure_node x))
-  ruled_frequency h e = (rules.frequency, sym h ∙ ap (option_map pure_node) e, λ j. refl)
+  ruled_frequency h e = (plainly rules.frequency, sym h ∙ ap (option_map pure_node) e, λ j. refl, tt, refl)
 
   pub ruled_together : option_map pure_node o ≡ together_term y a → o ≡ Some x
       → IsRewritten (supply_of y z w ys d c) g a (Some (pure_node x))
-  ruled_together h e = (rules.together, sym h ∙ ap (option_map pure_node) e, λ j. refl)
+  ruled_together h e = (plainly rules.together, sym h ∙ ap (option_map pure_node) e, λ j. refl, tt, refl)
 
   pub ruled_least_of_a_literal : option_map pure_node o ≡ extreme_listed a → o ≡ Some x
       → IsRewritten (supply_of y z w ys d c) g a (Some (pure_node x))
-  ruled_least_of_a_literal h e = (rules.least_of_a_literal, sym h ∙ ap (option_map pure_node) e, λ j. refl)
+  ruled_least_of_a_literal h e = (plainly rules.least_of_a_literal, sym h ∙ ap (option_map pure_node) e, λ j. refl, tt, refl)
 
   pub ruled_different_items : option_map pure_node o ≡ (if tells_scalars_apart g a then None else different_listed a) → o ≡ Some x
       → IsRewritten (supply_of y z w ys d c) g a (Some (pure_node x))
-  ruled_different_items h e = (rules.different_items, sym h ∙ ap (option_map pure_node) e, λ j. refl)
+  ruled_different_items h e = (plainly rules.different_items, sym h ∙ ap (option_map pure_node) e, λ j. refl, tt, refl)
 
   pub ruled_list_of_a_term : option_map pure_node o ≡ list_term y a → o ≡ Some x
       → IsRewritten (supply_of y z w ys d c) g a (Some (pure_node x))
-  ruled_list_of_a_term h e = (rules.list_of_a_term, sym h ∙ ap (option_map pure_node) e, λ j. refl)
+  ruled_list_of_a_term h e = (plainly rules.list_of_a_term, sym h ∙ ap (option_map pure_node) e, λ j. refl, tt, refl)
 
   pub ruled_lists_on_both_sides : option_map pure_node o ≡ lex_both y a → o ≡ Some x
       → IsRewritten (supply_of y z w ys d c) g a (Some (pure_node x))
-  ruled_lists_on_both_sides h e = (rules.lists_on_both_sides, sym h ∙ ap (option_map pure_node) e, λ j. refl)
+  ruled_lists_on_both_sides h e = (plainly rules.lists_on_both_sides, sym h ∙ ap (option_map pure_node) e, λ j. refl, tt, refl)
 
   pub ruled_all_different : option_map pure_node o ≡ (if tells_scalars_apart g a then None else different_term y a) → o ≡ Some x
       → IsRewritten (supply_of y z w ys d c) g a (Some (pure_node x))
-  ruled_all_different h e = (rules.all_different, sym h ∙ ap (option_map pure_node) e, λ j. refl)
+  ruled_all_different h e = (plainly rules.all_different, sym h ∙ ap (option_map pure_node) e, λ j. refl, tt, refl)
 
   pub ruled_results : option_map pure_node o ≡ range_as_set g y a → o ≡ Some x
       → IsRewritten (supply_of y z w ys d c) g a (Some (pure_node x))
-  ruled_results h e = (rules.results, sym h ∙ ap (option_map pure_node) e, λ j. refl)
+  ruled_results h e = (plainly rules.results, sym h ∙ ap (option_map pure_node) e, λ j. refl, tt, refl)
 
   pub ruled_choice : option_map pure_node o ≡ choice_shorter a → o ≡ Some x
       → IsRewritten (supply_of y z w ys d c) g a (Some (pure_node x))
-  ruled_choice h e = (rules.choice, sym h ∙ ap (option_map pure_node) e, λ j. refl)
+  ruled_choice h e = (plainly rules.choice, sym h ∙ ap (option_map pure_node) e, λ j. refl, tt, refl)
 
   pub ruled_condition : option_map pure_node o ≡ condition_leaves a → o ≡ Some x
       → IsRewritten (supply_of y z w ys d c) g a (Some (pure_node x))
-  ruled_condition h e = (rules.condition, sym h ∙ ap (option_map pure_node) e, λ j. refl)
+  ruled_condition h e = (plainly rules.condition, sym h ∙ ap (option_map pure_node) e, λ j. refl, tt, refl)
 
   pub ruled_condition_behind : option_map pure_node o ≡ condition_later a → o ≡ Some x
       → IsRewritten (supply_of y z w ys d c) g a (Some (pure_node x))
-  ruled_condition_behind h e = (rules.condition_behind, sym h ∙ ap (option_map pure_node) e, λ j. refl)
+  ruled_condition_behind h e = (plainly rules.condition_behind, sym h ∙ ap (option_map pure_node) e, λ j. refl, tt, refl)
 
-  pub ruled_least_of_alternatives : option_map pure_node o ≡ (extremes_listed (supply_of y z w ys d c) g a) → o ≡ Some x
+  pub ruled_gathering : option_map pure_node o ≡ conditions_gathered a → o ≡ Some x
       → IsRewritten (supply_of y z w ys d c) g a (Some (pure_node x))
-  ruled_least_of_alternatives h e = (rules.least_of_alternatives, sym h ∙ ap (option_map pure_node) e, λ j. refl)
+  ruled_gathering h e = (gathering, sym h ∙ ap (option_map pure_node) e, λ j. refl, tt, refl)

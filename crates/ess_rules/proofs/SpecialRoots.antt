@@ -1,26 +1,51 @@
--- Equality of matrices, from the operands.
-use Rattle.std.proofs.Common.{◌≡◌, refl, sym, ap, ◌∙◌, true, false, Some, None}
+-- Equality of matrices, from the operands: only where the forms of both tell an index domain.
+use Rattle.std.proofs.Common.{◌≡◌, refl, sym, ap, ◌∙◌, Bool, true, false, ◌&&◌, if◌then◌else◌, List, Option, Some, None}
+use Rattle.std.specs.Prelude.{is_some}
 use Rattle.ess_semantics.specs.declared.words.Op2.{Op2}
+use Rattle.ess_semantics.specs.Lists.{or_default}
+use Rattle.ess_semantics.specs.Values.{Text}
 use Rattle.ess_semantics.specs.Names.{Names}
-use Rattle.ess_semantics.specs.Trees.{Ex, ex2, Dom}
+use Rattle.ess_semantics.specs.Trees.{Ex, ex2, Dom, bool_dom}
 use Rattle.ess_semantics.specs.Types.{Ty}
+use Rattle.ess_guard_laws.specs.IndexDomains.{index_dom}
 use Rattle.ess_rules_laws.specs.MatrixRules.{equal_matrices}
-use Rattle.ess_refine_laws.specs.AllRules.{Supply, matrices_at}
+use Rattle.ess_refine_laws.specs.AllRules.{matrices_at}
 use Rattle.ess_rules_forms.specs.Forms.{truth_pair}
+use Rattle.ess_rules_listings.specs.Offered.{supply_of}
+use Rattle.ess_rules_opened.specs.Supplies.{told_axis}
+use Rattle.ess_rules.specs.Ruled.{both_told}
 
--- Where the root is no such operator there is none.
-pub no_matrices : (s : Supply) (g : Names Ty) (e : Ex) → truth_pair e ≡ None → None ≡ matrices_at s g e
-no_matrices s g (ex2 true o a b) h = cc
-no_matrices s g (ex2 false o a b) h = refl
-no_matrices s g e h = refl
+-- What F makes of the domains that both tell.
+abbrev of_both : (Dom → Dom → Option Ex) → Option Dom → Option Dom → Option Ex
+of_both F o u = if is_some o && is_some u then F (or_default o bool_dom) (or_default u bool_dom) else None
 
--- Of the two operands.
-pub matrices_of_pair : (s : Supply) (g : Names Ty) (e : Ex) (o : Op2) (a b : Ex) (d c : Dom) → truth_pair e ≡ Some (o, (a, b))
-    → d ≡ s.index_domain a → c ≡ s.index_domain b → equal_matrices d c g s.one s.other e ≡ matrices_at s g e
-matrices_of_pair s g (ex2 true o a b) p x y d c h q r =
-    let e : a ≡ x = ap (λ u. elim u [ Some v ↦ v.1.0 | None ↦ a ]) h in
-    let f : b ≡ y = ap (λ u. elim u [ Some v ↦ v.1.1 | None ↦ b ]) h in
-    ap (λ u. equal_matrices u c g s.one s.other (ex2 true o a b)) (q ∙ ap s.index_domain (sym e))
-    ∙ ap (λ u. equal_matrices (s.index_domain a) u g s.one s.other (ex2 true o a b)) (r ∙ ap s.index_domain (sym f))
-matrices_of_pair s g (ex2 false o a b) p x y d c h q r = cc
-matrices_of_pair s g e p x y d c h q r = cc
+both-there : (F : Dom → Dom → Option Ex) (o u : Option Dom) (d c : Dom) → Some d ≡ o → Some c ≡ u → F d c ≡ of_both F o u
+both-there F (Some x) (Some y) d c h k =
+    ap (λ v. F (or_default v bool_dom) c) h ∙ ap (λ v. F x (or_default v bool_dom)) k
+both-there F None u d c h k = cc
+both-there F (Some x) None d c h k = cc
+
+never : (b : Bool) → ◌≡◌ {A = Option Ex} None (if b then None else None)
+never true = refl
+never false = refl
+
+module _ (y z w : Text) (ys : List Text) (f : Ex → Ex) (g : Names Ty) where
+  -- What is made of the root.
+  abbrev made : Ex → Option Ex
+  made e = if both_told e then matrices_at (supply_of y z w ys told_axis f) g e else None
+
+  -- Where the root is no such operator there is nothing.
+  pub no_matrices : (e : Ex) → truth_pair e ≡ None → None ≡ made e
+  no_matrices (ex2 true o a b) h = cc
+  no_matrices (ex2 false o a b) h = never (both_told (ex2 false o a b))
+  no_matrices e h = refl
+
+  -- Of the two operands.
+  pub matrices_of_pair : (e : Ex) (o : Op2) (a b : Ex) (d c : Dom) → truth_pair e ≡ Some (o, (a, b)) → Some d ≡ index_dom a
+      → Some c ≡ index_dom b → equal_matrices d c g y z e ≡ made e
+  matrices_of_pair (ex2 true o a b) p x u d c h q r =
+      both-there (λ v t. equal_matrices v t g y z (ex2 true o a b)) (index_dom a) (index_dom b) d c
+      (q ∙ ap (λ v. elim v [ Some r ↦ index_dom r.1.0 | None ↦ None ]) (sym h))
+      (r ∙ ap (λ v. elim v [ Some r ↦ index_dom r.1.1 | None ↦ None ]) (sym h))
+  matrices_of_pair (ex2 false o a b) p x u d c h q r = cc
+  matrices_of_pair e p x u d c h q r = cc

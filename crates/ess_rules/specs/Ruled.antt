@@ -1,24 +1,24 @@
--- The rules as the program uses them: with reserved names from a number on, and index domains as the form of a matrix tells them.
-use Rattle.std.specs.Prelude.{◌≡◌, false, ℕ, zero, suc, ◌+◌, ◌≤◌, List, [], ◌∷◌, Option, Some, None}
-use Rattle.ess_semantics.specs.Lists.{or_default}
+-- The rules as the program uses them: with reserved names from a number on, index domains as the form of a matrix tells them, and the
+-- source told apart whose term a rule puts in. Beside those of the two lists there is one that gathers conditions.
+use Rattle.std.specs.Prelude.{◌≡◌, ◌&&◌, Bool, true, false, if◌then◌else◌, ℕ, zero, suc, ◌+◌, ◌≤◌, List, [], ◌∷◌, Option, Some, None, is_some}
 use Rattle.ess_semantics.specs.Values.{Text}
 use Rattle.ess_semantics.specs.Names.{Names}
-use Rattle.ess_semantics.specs.Trees.{Ex, Dom, comp_ex, fun1, bool_dom}
+use Rattle.ess_semantics.specs.Trees.{name_pat, Ex, comp_ex, node_ex, word, no_exs, more_exs, fun1, ex2, Gens, no_gens, over, from, cond}
 use Rattle.ess_semantics.specs.Types.{Ty}
 use Rattle.ess_refine_laws.specs.LeavingConditions.{at_last_condition}
 use Rattle.ess_refine_laws.specs.Copies.{opposite_of}
-use Rattle.ess_refine_laws.specs.AllRules.{Rule, Supply, rewrite, least_under_a_condition}
+use Rattle.ess_refine_laws.specs.AllRules.{Rule, Supply, rewrite, over_a_comprehension, over_a_literal, over_a_source, of_one_source, least_of_alternatives, least_under_a_condition, equal_matrices_at}
 use Rattle.ess_guard_laws.specs.IndexDomains.{index_dom}
+use Rattle.ess_open_rules_laws.specs.OpenGenerators.{is_plain_over}
+use Rattle.ess_open_rules_laws.specs.OpenRules.{KindRuling, kind_ruled, puts_in}
+use Rattle.ess_gathered_laws.specs.GatheredConditions.{conditions_gathered}
 use Rattle.conjure_model_laws.specs.ToldApart.{reserved, told_apart, told}
+use Rattle.ess_rules_opened.specs.Supplies.{told_axis}
 
 -- As many reserved names, from the n-th on.
 abbrev pub reserved_from : ℕ → ℕ → List Text
 reserved_from n zero = []
 reserved_from n (suc k) = reserved n ∷ reserved_from (suc n) k
-
--- The index domain that the form of a matrix tells, or bool where it tells none.
-abbrev pub told_axis : Ex → Dom
-told_axis e = or_default (index_dom e) bool_dom
 
 -- What a rule takes at the n-th reserved name: three names, k for the components of a domain, and those behind them for a copy.
 abbrev pub supply_at : ℕ → ℕ → Supply
@@ -44,12 +44,81 @@ abbrev pub behind_names : ℕ → Rule → Ex → ℕ
 behind_names j least_under_a_condition e = behind_copy j e
 behind_names j r e = j
 
+-- ---- a source told apart
+
+-- The generators with the term of the first source told apart, with reserved names from the j-th on, where the first generator which
+-- isn't plain binds a name over it; and the number behind these.
+abbrev pub new_source : ℕ → Gens → Gens × ℕ
+new_source j no_gens = (no_gens, j)
+new_source j (over p d gs) =
+    if is_plain_over p d then (over p d (new_source j gs).0, (new_source j gs).1) else (over p d gs, j)
+new_source j (from (name_pat x) t gs) = (from (name_pat x) (told t [] j).0 gs, (told t [] j).1)
+new_source j (from p t gs) = (from p t gs, j)
+new_source j (cond c gs) = (cond c (new_source j gs).0, (new_source j gs).1)
+
+-- A word of a comprehension, or a comprehension, with its source told apart; and the number behind the names.
+abbrev pub with_new_source : ℕ → Ex → Ex × ℕ
+with_new_source j (node_ex m (word f) (more_exs (comp_ex e gs) no_exs)) =
+    (node_ex m (word f) (more_exs (comp_ex e (new_source j gs).0) no_exs), (new_source j gs).1)
+with_new_source j (comp_ex e gs) = (comp_ex e (new_source j gs).0, (new_source j gs).1)
+with_new_source j e = (e, j)
+
+-- ---- rules of both sorts
+
+-- A rule that reads no kind, one that does, or the one that gathers conditions.
+pub data Ruling : Type 0 where
+  plainly : Rule → Ruling
+  by_kind : KindRuling → Ruling
+  gathering : Ruling
+
+-- Whether the rule puts the term of a source, or what it is made of, in the place of a name.
+abbrev pub puts_source : Ruling → Bool
+puts_source (plainly over_a_comprehension) = true
+puts_source (plainly over_a_literal) = true
+puts_source (plainly over_a_source) = true
+puts_source (plainly of_one_source) = true
+puts_source (plainly least_of_alternatives) = true
+puts_source (plainly r) = false
+puts_source (by_kind r) = puts_in r
+puts_source gathering = false
+
+-- Whether the forms of both operands tell an index domain.
+abbrev pub both_told : Ex → Bool
+both_told (ex2 m o a b) = is_some (index_dom a) && is_some (index_dom b)
+both_told e = false
+
+-- The rule may be used at the root: matrices are compared by index domains only where their forms tell them.
+abbrev pub MayRule : Ruling → Ex → Type 0
+MayRule (plainly equal_matrices_at) a = both_told a ≡ true
+MayRule r a = Unit {0}
+
+-- What the rule makes of the root.
+abbrev pub ruled : Supply → Names Ty → Ruling → Ex → Option Ex
+ruled s g (plainly r) a = rewrite s g r a
+ruled s g (by_kind r) a = kind_ruled s g r a
+ruled s g gathering a = conditions_gathered a
+
+-- What the rule is used at, and the number behind the names that are taken for it.
+abbrev pub root_of : ℕ → Ruling → Ex → Ex
+root_of j r a = if puts_source r then (with_new_source j a).0 else a
+
+abbrev pub behind_root : ℕ → Ruling → Ex → ℕ
+behind_root j r a = if puts_source r then (with_new_source j a).1 else j
+
+-- The number behind the names that a rule takes from the j-th on.
+abbrev pub behind_ruling : ℕ → Ruling → Ex → ℕ
+behind_ruling j (plainly r) a = behind_names j r a
+behind_ruling j (by_kind r) a = j
+behind_ruling j gathering a = j
+
 -- One of the rules makes b of a, where names have the types g, with reserved names from the n-th on and none from the m-th on.
 pub record IsRuled (n : ℕ) (g : Names Ty) (a b : Ex) (m : ℕ) : Type 0 where
   pub count : ℕ
-  pub rule : Rule
-  pub fires : rewrite (supply_at n count) g rule a ≡ Some b
-  pub passes : behind_names (n + 3 + count) rule a ≤ m
+  pub rule : Ruling
+  pub may : MayRule rule a
+  pub fires : ruled (supply_at n count) g rule (root_of (n + 3 + count) rule a) ≡ Some b
+  pub passes : behind_ruling (n + 3 + count) rule a ≤ m
+  pub passes_root : behind_root (n + 3 + count) rule a ≤ m
 
 -- What the rules make of a, where one fires.
 abbrev pub IsTurn : ℕ → Names Ty → Ex → Option Ex → ℕ → Type 0

@@ -1,22 +1,30 @@
--- What rules take, as the code holds it, and what one of the rules makes of a root.
-use Rattle.std.specs.Prelude.{◌≡◌, ℕ, ◌≤◌, [], Option, Some, None}
+-- What one of the rules makes of a root, in the code.
+use Rattle.std.specs.Prelude.{◌≡◌, true, false, ℕ, ◌≤◌, [], Option, Some, None}
 use Rattle.ess_semantics.specs.Names.{Names}
 use Rattle.ess_semantics.specs.Trees.{Ex}
 use Rattle.ess_semantics.specs.Types.{Ty}
-use Rattle.ess_refine_laws.specs.AllRules.{Rule, Supply, rewrite, least_under_a_condition}
-use Rattle.conjure_model_laws.specs.ToldApart.{told_apart}
-use Rattle.ess_rules_listings.specs.Offered.{supply_of}
-use Rattle.ess_rules.specs.declared.supplies.Taken.{Taken}
-use Rattle.ess_rules.specs.Ruled.{told_axis, behind_names, behind_copy}
+use Rattle.ess_refine_laws.specs.AllRules.{Supply, rewrite, least_under_a_condition}
+use Rattle.ess_rules.specs.Ruled.{Ruling, puts_source, MayRule, ruled, with_new_source, behind_copy, behind_ruling}
 
--- The names that are taken, index domains as the form of a matrix tells them, and a copy with the names behind.
-abbrev pub taken_supply : Taken → Supply
-taken_supply t = supply_of t.one.now t.other.now t.third.now t.parts.now told_axis (told_apart t.next)
-
--- One of the rules that take no copy makes this of the root, where there is anything.
+-- One of the rules that take no copy and put no source in makes this of the root, where there is anything.
 abbrev pub IsRewritten : Supply → Names Ty → Ex → Option Ex → Type 0
 IsRewritten s g a None = Unit {0}
-IsRewritten s g a (Some b) = (r : Rule) × (rewrite s g r a ≡ Some b) × ((j : ℕ) → behind_names j r a ≡ j)
+IsRewritten s g a (Some b) =
+    (r : Ruling) × (ruled s g r a ≡ Some b) × ((j : ℕ) → behind_ruling j r a ≡ j) × (MayRule r a) × (puts_source r ≡ false)
+
+-- One of the rules that put a source in does.
+abbrev pub IsSourced : Supply → Names Ty → Ex → Option Ex → Type 0
+IsSourced s g a None = Unit {0}
+IsSourced s g a (Some b) =
+    (r : Ruling) × (ruled s g r a ≡ Some b) × ((j : ℕ) (e : Ex) → behind_ruling j r e ≡ j) × ((e : Ex) → MayRule r e)
+    × (puts_source r ≡ true)
+
+-- One of them does, where the source is told apart with names from the j-th on and none from the m-th on.
+abbrev pub IsSourcedBehind : Supply → Names Ty → Ex → Option Ex → ℕ → ℕ → Type 0
+IsSourcedBehind s g a None j m = Unit {0}
+IsSourcedBehind s g a (Some b) j m =
+    (r : Ruling) × (ruled s g r (with_new_source j a).0 ≡ Some b) × ((j : ℕ) (e : Ex) → behind_ruling j r e ≡ j) × ((e : Ex) → MayRule r e)
+    × (puts_source r ≡ true) × ((with_new_source j a).1 ≤ m)
 
 -- The rule that takes a copy makes this of the root, where there is anything, with names from the j-th on and none from the m-th on.
 abbrev pub IsRewrittenBehind : Supply → Ex → Option Ex → ℕ → ℕ → Type 0

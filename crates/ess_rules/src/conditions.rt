@@ -1,37 +1,42 @@
-//! Rules of chosen numbers, of conditions that read cells, and of the least and the greatest over alternatives.
+//! Rules of chosen numbers, and of conditions that read cells: several under `min` or `max` become one first.
 ghost use Rattle.std.specs.Prelude.{◌≡◌, IfOk, option_map};
 ghost use Rattle.ess_core_nodes.specs.NodeViews.{pure_node};
 ghost use Rattle.ess_node_types.specs.TypedNames.{pure_names};
-ghost use Rattle.ess_rules.specs.Supplies.{taken_supply, IsRewritten};
+ghost use Rattle.ess_rules_opened.specs.Supplies.{taken_supply};
+ghost use Rattle.ess_rules.specs.Supplies.{IsRewritten};
 
-use crate::special::least_of_alternatives;
-use crate::supplies::Taken;
+use crate::settled::{has_open_parts, is_open};
 use ess_core_nodes::Node;
 use ess_node_types::NameTypes;
 use ess_rows::{Boxed, NoMemory};
 use ess_rules_conditions::{condition_later, condition_leaves};
+use ess_rules_gathered::conditions_gathered;
 use ess_rules_lists::choice_shorter;
+use ess_rules_opened::Taken;
 use std::alloc::Global;
 
 /// What the first of these rules that fires makes of the root. `NoMemory` where there is no room for it.
 pub(crate) fn conditions(
     alloc: Global,
-    names: &NameTypes,
-    taken: &Taken<'_>,
+    _names: &NameTypes,
+    _taken: &Taken<'_>,
     node: &Node,
 ) -> Result<Option<Boxed<Node>>, NoMemory>
-    ensures { IfOk result (λ o. IsRewritten (taken_supply taken.now) (pure_names names.now) (pure_node node.now) (option_map pure_node o)) }
+    ensures { IfOk result (λ o. IsRewritten (taken_supply _taken.now) (pure_names _names.now) (pure_node node.now) (option_map pure_node o)) }
 {
     if let Some(new) = choice_shorter(alloc, node)? {
+        return Ok(Some(new));
+    }
+    if !is_open(node) || has_open_parts(node) {
+        return Ok(None);
+    }
+    if let Some(new) = conditions_gathered(alloc, node)? {
         return Ok(Some(new));
     }
     if let Some(new) = condition_leaves(alloc, node)? {
         return Ok(Some(new));
     }
     if let Some(new) = condition_later(alloc, node)? {
-        return Ok(Some(new));
-    }
-    if let Some(new) = least_of_alternatives(alloc, names, taken, node)? {
         return Ok(Some(new));
     }
     Ok(None)

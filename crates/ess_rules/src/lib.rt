@@ -1,4 +1,5 @@
-//! All rules of refinement that need no kind of representation, at a place of a tree, in the order in which they are tried.
+//! All rules of refinement at a place of a tree, in the order in which they are tried: those of kinds and of what is picked, those of
+//! sources, and those that need no kind.
 #![tactic(auto)]
 
 mod comparing;
@@ -9,10 +10,11 @@ mod generators;
 mod lists;
 mod membership;
 mod reserving;
+mod settled;
 mod sizes;
+mod source_rules;
+mod sourced;
 mod special;
-mod supplies;
 mod turns;
 
-pub use supplies::Taken;
 pub use turns::rule_at;

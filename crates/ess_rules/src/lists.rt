@@ -1,16 +1,17 @@
-//! Rules of lists, of sets of results, of chosen numbers, and of conditions that read cells.
+//! Rules of lists, and of sets of results.
 ghost use Rattle.std.specs.Prelude.{◌≡◌, IfOk, option_map};
 ghost use Rattle.ess_core_nodes.specs.NodeViews.{pure_node};
 ghost use Rattle.ess_node_types.specs.TypedNames.{pure_names};
-ghost use Rattle.ess_rules.specs.Supplies.{taken_supply, IsRewritten};
+ghost use Rattle.ess_rules_opened.specs.Supplies.{taken_supply};
+ghost use Rattle.ess_rules.specs.Supplies.{IsRewritten};
 
 use crate::special::{all_different, different_items};
-use crate::supplies::Taken;
 use ess_core_nodes::Node;
 use ess_node_types::NameTypes;
 use ess_rows::{Boxed, NoMemory};
 use ess_rules_listings::range_as_set;
 use ess_rules_lists::{extreme_listed, lex_both, list_term};
+use ess_rules_opened::Taken;
 use std::alloc::Global;
 
 /// What the first of these rules that fires makes of the root. `NoMemory` where there is no room for it.

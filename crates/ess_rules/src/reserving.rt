@@ -3,9 +3,10 @@ ghost use Rattle.std.specs.Prelude.{◌≡◌, ◌+◌, IfOk};
 ghost use Rattle.conjure_model_laws.specs.ToldApart.{reserved};
 ghost use Rattle.ess_rules.specs.Ruled.{reserved_from};
 
-use ess_core::Pat;
 use ess_core_nodes::{Gen, Node, NodeDom};
 use ess_rows::{NoMemory, Row, Text};
+use ess_rules_opening::at_first_open;
+use ess_rules_picked::picks;
 use std::alloc::Global;
 
 /// The reserved name with a number. `NoMemory` where there is no room for it.
@@ -41,22 +42,85 @@ pub(crate) fn counted(first: u64, by: u64) -> Result<u64, NoMemory>
     }
 }
 
-/// How many components the first generator's domain has, where a name runs over tuples or records.
+/// How many names a rule may take for components at a root: of the first generator that isn't plain exactly as many as its domain has, else
+/// as many as what is listed or picked may want.
 pub(crate) fn component_count(node: &Node) -> u64 {
     match node {
-        Node::Comp(_, gens) => match gens.first() {
-            Some(Gen::Over(Pat::Name(_), dom)) => count_of(dom.get()),
-            _ => 0,
-        },
+        Node::Comp(_, gens) => count_in(gens.as_slice()),
+        Node::Op(_, _, operands) => count_among(node, operands.as_slice()),
         _ => 0,
     }
 }
 
-/// How many components a domain of tuples or records has.
+/// That of a word of a comprehension, else the most that the root or one of its operands wants that picks.
+fn count_among(node: &Node, operands: &[Node]) -> u64 {
+    if let Some(Node::Comp(_, gens)) = operands.first() {
+        return count_in(gens.as_slice());
+    }
+    let mut most = if picks(node) { count_picked(node) } else { 0 };
+    for operand in operands {
+        if picks(operand) {
+            let count = count_picked(operand);
+            if count > most {
+                most = count;
+            }
+        }
+    }
+    most
+}
+
+/// That of generators.
+fn count_in(gens: &[Gen]) -> u64 {
+    let Some(opened) = at_first_open(gens) else {
+        return 0;
+    };
+    match opened.after.first() {
+        Some(Gen::Over(_, dom)) => count_of(dom.get()),
+        Some(Gen::From(_, source)) => count_for(source.get()),
+        _ => 0,
+    }
+}
+
+/// That of a source.
+fn count_for(source: &Node) -> u64 {
+    match source {
+        Node::Seen(seen) => count_of(seen.get().dom.get()),
+        _ => {
+            if picks(source) {
+                count_picked(source)
+            } else {
+                0
+            }
+        }
+    }
+}
+
+/// A name at each depth of what is picked, and one for each component of an argument.
+fn count_picked(node: &Node) -> u64 {
+    let mut at = node;
+    for depth in 1..256_u64 {
+        match at {
+            Node::Op(_, _, operands) => match operands.first() {
+                Some(first) => at = first,
+                None => return depth,
+            },
+            Node::Seen(seen) => return depth.saturating_add(count_of(seen.get().dom.get())),
+            _ => return depth,
+        }
+    }
+    256
+}
+
+/// How many components the members or the arguments of a domain have.
 fn count_of(dom: &NodeDom) -> u64 {
     match dom {
         NodeDom::Tuple(doms) => doms.len() as u64,
         NodeDom::Record(_, doms) => doms.len() as u64,
+        NodeDom::Relation(_, _, doms) => doms.len() as u64,
+        NodeDom::Function(_, _, from, _) => match from.get() {
+            NodeDom::Tuple(doms) => doms.len() as u64,
+            _ => 0,
+        },
         _ => 0,
     }
 }

@@ -3,7 +3,8 @@ ghost use Rattle.std.specs.Prelude.{◌≡◌, ◌+◌, ◌≤◌, IfOk, OnOk, o
 ghost use Rattle.ess_core_nodes.specs.NodeViews.{pure_node};
 ghost use Rattle.ess_node_types.specs.TypedNames.{pure_names};
 ghost use Rattle.ess_rules.specs.Ruled.{IsTurn};
-ghost use Rattle.ess_rules.specs.Supplies.{taken_supply, IsRewritten, IsRewrittenBehind};
+ghost use Rattle.ess_rules_opened.specs.Supplies.{taken_supply};
+ghost use Rattle.ess_rules.specs.Supplies.{IsRewritten, IsSourcedBehind, IsRewrittenBehind};
 
 use crate::comparing::comparing;
 use crate::conditions::conditions;
@@ -13,15 +14,19 @@ use crate::generators::generators;
 use crate::lists::lists;
 use crate::membership::membership;
 use crate::reserving::{component_count, counted, reserved_name, reserved_names};
+use crate::settled::{has_open_parts, is_open};
 use crate::sizes::sizes;
-use crate::supplies::Taken;
+use crate::source_rules::source_rules;
+use crate::sourced::with_new_source;
 use ess_core_nodes::Node;
+use ess_kind_rules as kinds;
 use ess_model_names::told_apart_from;
 use ess_node_types::NameTypes;
 use ess_rows::{Boxed, NoMemory};
 use ess_rules_conditions::{at_last_condition, extreme_condition, opposite_of};
 use ess_rules_folds::forms::comp_in;
 use ess_rules_forms::plain_word;
+use ess_rules_opened::Taken;
 use std::alloc::Global;
 
 /// What the first rule that fires makes of the root of a tree, where names have these types, or nothing where none fires. Rules take
@@ -50,7 +55,16 @@ pub fn rule_at(
         parts: parts.as_slice(),
         next: behind,
     };
-    if let Some(new) = simple_rules(alloc, names, &taken, node)? {
+    if let Some(new) = first_rules(alloc, names, &taken, node)? {
+        *next = behind;
+        return Ok(Some(new));
+    }
+    let mut end = behind;
+    if let Some(new) = of_a_source(alloc, names, &taken, &mut end, node)? {
+        *next = end;
+        return Ok(Some(new));
+    }
+    if let Some(new) = later_rules(alloc, names, &taken, node)? {
         *next = behind;
         return Ok(Some(new));
     }
@@ -62,8 +76,8 @@ pub fn rule_at(
     Ok(None)
 }
 
-/// The rules that take no copy.
-fn simple_rules(
+/// The rules of the forms of kinds, of what is picked, and the shortest of folds.
+fn first_rules(
     alloc: Global,
     names: &NameTypes,
     taken: &Taken<'_>,
@@ -71,7 +85,52 @@ fn simple_rules(
 ) -> Result<Option<Boxed<Node>>, NoMemory>
     ensures { IfOk result (λ o. IsRewritten (taken_supply taken.now) (pure_names names.now) (pure_node node.now) (option_map pure_node o)) }
 {
+    if let Some(new) = kinds::views(alloc, names, taken, node)? {
+        return Ok(Some(new));
+    }
+    if let Some(new) = kinds::tests(alloc, names, taken, node)? {
+        return Ok(Some(new));
+    }
+    if let Some(new) = kinds::sizes(alloc, names, taken, node)? {
+        return Ok(Some(new));
+    }
+    if let Some(new) = kinds::picks(alloc, names, taken, node)? {
+        return Ok(Some(new));
+    }
     if let Some(new) = folds(alloc, names, taken, node)? {
+        return Ok(Some(new));
+    }
+    Ok(None)
+}
+
+/// The rules that put the term of a source in, which is told apart before.
+fn of_a_source(
+    alloc: Global,
+    names: &NameTypes,
+    taken: &Taken<'_>,
+    end: &mut u64,
+    node: &Node,
+) -> Result<Option<Boxed<Node>>, NoMemory>
+    ensures { IfOk result (λ o. IsSourcedBehind (taken_supply taken.now) (pure_names names.now) (pure_node node.now)
+        (option_map pure_node o) end.old end.new) }
+{
+    let told = with_new_source(alloc, node, end)?;
+    match told {
+        Some(told) => source_rules(alloc, names, taken, told.get()),
+        None => source_rules(alloc, names, taken, node),
+    }
+}
+
+/// The rules that take no copy, behind those.
+fn later_rules(
+    alloc: Global,
+    names: &NameTypes,
+    taken: &Taken<'_>,
+    node: &Node,
+) -> Result<Option<Boxed<Node>>, NoMemory>
+    ensures { IfOk result (λ o. IsRewritten (taken_supply taken.now) (pure_names names.now) (pure_node node.now) (option_map pure_node o)) }
+{
+    if let Some(new) = kinds::lists(alloc, names, taken, node)? {
         return Ok(Some(new));
     }
     if let Some(new) = generators(alloc, names, taken, node)? {
@@ -92,7 +151,10 @@ fn simple_rules(
     if let Some(new) = lists(alloc, names, taken, node)? {
         return Ok(Some(new));
     }
-    conditions(alloc, names, taken, node)
+    if let Some(new) = conditions(alloc, names, taken, node)? {
+        return Ok(Some(new));
+    }
+    Ok(None)
 }
 
 /// The least or the greatest under a condition that reads cells. The copy of its opposite takes reserved names from `end` on, and the
@@ -115,6 +177,9 @@ fn least_under_a_condition(
     let Some(parts) = at_last_condition(gens) else {
         return Ok(None);
     };
+    if !is_open(node) || has_open_parts(node) {
+        return Ok(None);
+    }
     let opposite = opposite_of(alloc, word, body, &parts)?;
     let copy = told_apart_from(alloc, opposite.get(), end)?;
     extreme_condition(alloc, copy.get(), node)

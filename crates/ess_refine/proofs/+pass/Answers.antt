@@ -1,4 +1,4 @@
-use Rattle.std.proofs.Common.{rules, [], ◌∷◌, ◌≡◌, refl, sym, ap, ◌∙◌, subst, ℕ, ◌≤◌, map, get_or, arith}
+use Rattle.std.proofs.Common.{rules, [], ◌∷◌, refl, sym, ap, ◌∙◌, subst, get_or, arith}
 use Rattle.std.proofs.lemmas.List.{get_or-set_other}
 use Rattle.ess_core_nodes.specs.NodeViews.{pure_node, pure_nodes, pure_gen, pure_gens, pure_doms}
 use Rattle.ess_semantics.specs.NamesAt.{names_behind}
@@ -7,32 +7,32 @@ use Rattle.ess_node_types.specs.TypedNames.{pure_names}
 use Rattle.ess_rules.specs.Ruled.{IsRuled}
 use Rattle.ess_refine.specs.Chains.{as_it_was, AllLead, DomsLead, GensLead}
 use Rattle.ess_refine.proofs.Rows.{nodes_step, doms_step, gens_step, names_turn, names_end}
-use Rattle.ess_refine.proofs.NodeTurns.{turn_leads, none_turn, stays_turn, op_turn, cell_turn, matrix_turn, comp_turn, bounds_turn, tuple_turn, record_turn, axes_turn, dom_stays, over_turn, from_turn, if_turn}
+use Rattle.ess_refine.proofs.NodeTurns.{turn_leads, none_turn, stays_turn, op_turn, cell_turn, matrix_turn, comp_turn, bounds_turn, tuple_turn, record_turn, axes_turn, dom_stays}
 use Rattle.ess_refine.proofs.+pass.Goals as goal
 use Rattle.ess_refine.proofs.+pass.Goals.{passing::pass_all-in-Some+in_ok-new, passing::pass_all-in_default, passing_domains::pass_doms-in-Some+in_ok-new, passing_domains::pass_doms-in_default, passing_generators::pass_gens-in-Some+in_ok-spare+in_ok-new+in_ok-pass, passing_generators::pass_gens-in_default}
 
 pub passing::pass-returns-in-Some : goal.passing::pass-returns-in-Some
 passing::pass-returns-in-Some t c =
-    turn_leads c.args.turns.now.next c.rule_at.new.next (pure_names c.args.names.now) (pure_node c.args.node) c.in-Ok.found c.in-Some.new
+    turn_leads c.args.turns.now.next c.turn_at.new.turns.next (pure_names c.args.names.now) (pure_node c.args.node) c.in-Ok.found c.in-Some.new
     c.into_inner.result c.in-Ok.ensures c.in-Some.is c.into_inner.ensures
 
 pub passing::pass-returns-in_ok-pass_all-in-Op : goal.passing::pass-returns-in_ok-pass_all-in-Op
 passing::pass-returns-in_ok-pass_all-in-Op t c =
-    op_turn c.args.turns.now.next c.rule_at.new.next c.pass_all.new.turns.next (pure_names c.args.names.now) c.args.node c.in-Op.mark c.in-Op.op
+    op_turn c.args.turns.now.next c.turn_at.new.turns.next c.pass_all.new.turns.next (pure_names c.args.names.now) c.args.node c.in-Op.mark c.in-Op.op
     c.in-Op.operands c.pass_all.new.nodes
     (none_turn _ _ (pure_names c.args.names.now) (pure_node c.args.node) c.in-Ok.found c.in-Ok.ensures c.in_default.is)
     c.in-Op.is c.in_ok-pass_all-in-Op.ensures
 
 pub passing::pass-returns-in_ok-pass_boxed_dom-in-MatrixOn : goal.passing::pass-returns-in_ok-pass_boxed_dom-in-MatrixOn
 passing::pass-returns-in_ok-pass_boxed_dom-in-MatrixOn t c =
-    matrix_turn c.args.turns.now.next c.rule_at.new.next c.pass_all-in-MatrixOn.new.turns.next c.pass_boxed_dom.new.turns.next
+    matrix_turn c.args.turns.now.next c.turn_at.new.turns.next c.pass_all-in-MatrixOn.new.turns.next c.pass_boxed_dom.new.turns.next
     (pure_names c.args.names.now) c.args.node c.in-MatrixOn.items c.pass_all-in-MatrixOn.new.nodes c.in-MatrixOn.axis c.pass_boxed_dom.new.dom
     (none_turn _ _ (pure_names c.args.names.now) (pure_node c.args.node) c.in-Ok.found c.in-Ok.ensures c.in_default.is)
     c.in-MatrixOn.is c.in_ok-pass_all-in-MatrixOn.ensures c.in_ok-pass_boxed_dom-in-MatrixOn.ensures
 
 pub passing::pass-returns-in_ok-pass_boxed-in-Comp : goal.passing::pass-returns-in_ok-pass_boxed-in-Comp
 passing::pass-returns-in_ok-pass_boxed-in-Comp t c =
-    comp_turn c.args.turns.now.next c.rule_at.new.next c.pass_gens.new.turns.next c.pass_boxed.new.turns.next
+    comp_turn c.args.turns.now.next c.turn_at.new.turns.next c.pass_gens.new.turns.next c.pass_boxed.new.turns.next
     (pure_names c.args.names.now) (pure_names c.in_ok-behind-in-Comp.behind) c.args.node c.in-Comp.body c.pass_boxed.new.node c.in-Comp.gens
     c.pass_gens.new.gens c.as_slice.result.now
     (none_turn _ _ (pure_names c.args.names.now) (pure_node c.args.node) c.in-Ok.found c.in-Ok.ensures c.in_default.is)
@@ -40,7 +40,7 @@ passing::pass-returns-in_ok-pass_boxed-in-Comp t c =
 
 pub passing::pass-returns-in_ok-pass_all-in-Cell : goal.passing::pass-returns-in_ok-pass_all-in-Cell
 passing::pass-returns-in_ok-pass_all-in-Cell t c =
-    cell_turn c.args.turns.now.next c.rule_at.new.next c.pass_all-in-Cell.new.turns.next (pure_names c.args.names.now) c.args.node
+    cell_turn c.args.turns.now.next c.turn_at.new.turns.next c.pass_all-in-Cell.new.turns.next (pure_names c.args.names.now) c.args.node
     c.in-Cell.is_bool c.in-Cell.name c.in-Cell.at c.pass_all-in-Cell.new.nodes
     (none_turn _ _ (pure_names c.args.names.now) (pure_node c.args.node) c.in-Ok.found c.in-Ok.ensures c.in_default.is)
     c.in-Cell.is c.in_ok-pass_all-in-Cell.ensures
@@ -69,22 +69,22 @@ passing::pass_all-loop-i-preserved t c =
 
 pub passing::pass-returns-in-Number : goal.passing::pass-returns-in-Number
 passing::pass-returns-in-Number t c =
-    stays_turn c.args.turns.now.next c.rule_at.new.next (pure_names c.args.names.now) c.args.node _
+    stays_turn c.args.turns.now.next c.turn_at.new.turns.next (pure_names c.args.names.now) c.args.node _
     (none_turn _ _ (pure_names c.args.names.now) (pure_node c.args.node) c.in-Ok.found c.in-Ok.ensures c.in_default.is) (search rules)
 
 pub passing::pass-returns-in-Truth : goal.passing::pass-returns-in-Truth
 passing::pass-returns-in-Truth t c =
-    stays_turn c.args.turns.now.next c.rule_at.new.next (pure_names c.args.names.now) c.args.node _
+    stays_turn c.args.turns.now.next c.turn_at.new.turns.next (pure_names c.args.names.now) c.args.node _
     (none_turn _ _ (pure_names c.args.names.now) (pure_node c.args.node) c.in-Ok.found c.in-Ok.ensures c.in_default.is) (search rules)
 
 pub passing::pass-returns-in-Name : goal.passing::pass-returns-in-Name
 passing::pass-returns-in-Name t c =
-    stays_turn c.args.turns.now.next c.rule_at.new.next (pure_names c.args.names.now) c.args.node _
+    stays_turn c.args.turns.now.next c.turn_at.new.turns.next (pure_names c.args.names.now) c.args.node _
     (none_turn _ _ (pure_names c.args.names.now) (pure_node c.args.node) c.in-Ok.found c.in-Ok.ensures c.in_default.is) (search rules)
 
 pub passing::pass-returns-in-Seen : goal.passing::pass-returns-in-Seen
 passing::pass-returns-in-Seen t c =
-    stays_turn c.args.turns.now.next c.rule_at.new.next (pure_names c.args.names.now) c.args.node _
+    stays_turn c.args.turns.now.next c.turn_at.new.turns.next (pure_names c.args.names.now) c.args.node _
     (none_turn _ _ (pure_names c.args.names.now) (pure_node c.args.node) c.in-Ok.found c.in-Ok.ensures c.in_default.is) (search rules)
 
 pub passing_domains::pass_dom-returns-in_ok-pass_all-in-Int : goal.passing_domains::pass_dom-returns-in_ok-pass_all-in-Int

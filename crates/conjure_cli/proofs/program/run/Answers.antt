@@ -1,6 +1,6 @@
-use Rattle.conjure_cli.proofs.RunLaws.{ends_with, usage_is_two, later_is_three, missing_by}
+use Rattle.conjure_cli.proofs.RunLaws.{ends_with, usage_is_two, test_gives, says_test, missing_by}
 use Rattle.conjure_cli.proofs.RunLaws.{decides_by, refused_keeps, keeps_all_else, says_translation}
-use Rattle.conjure_cli.proofs.StandingLaws.{model_stands}
+use Rattle.conjure_cli.proofs.StandingLaws.{model_stands, model_is_there}
 use Rattle.conjure_cli.proofs.HoldingLaws.{says_whether_solution}
 use Rattle.conjure_cli.proofs.program.run.Goals as goal
 
@@ -10,8 +10,11 @@ returns-clause-ended g c = (c.done.result, ends_with _ _ _ _ _ _ _ _ _ _ c.done.
 pub returns-clause-usage : goal.returns-clause-usage
 returns-clause-usage g c = usage_is_two _ _ _ _ _ _ _ _ _ _ (ends_with _ _ _ _ _ _ _ _ _ _ c.done.ensures.ended c.status.ensures)
 
-pub returns-clause-not_yet : goal.returns-clause-not_yet
-returns-clause-not_yet g c = later_is_three _ _ _ _ _ _ _ _ _ _ (ends_with _ _ _ _ _ _ _ _ _ _ c.done.ensures.ended c.status.ensures)
+pub returns-clause-limitless : goal.returns-clause-limitless
+returns-clause-limitless g c = test_gives _ _ _ _ _ _ _ _ _ _ (ends_with _ _ _ _ _ _ _ _ _ _ c.done.ensures.ended c.status.ensures)
+
+pub returns-clause-tested : goal.returns-clause-tested
+returns-clause-tested g c = says_test _ _ _ _ _ _ _ _ _ _ (ends_with _ _ _ _ _ _ _ _ _ _ c.done.ensures.ended c.status.ensures)
 
 pub returns-clause-missing : goal.returns-clause-missing
 returns-clause-missing g c = missing_by _ _ _ _ _ _ _ _ _ _ (ends_with _ _ _ _ _ _ _ _ _ _ c.done.ensures.ended c.status.ensures)
@@ -27,6 +30,9 @@ returns-clause-others g c = keeps_all_else _ _ _ _ _ _ _ _ _ _ (ends_with _ _ _ 
 
 pub returns-clause-stands : goal.returns-clause-stands
 returns-clause-stands g c = model_stands _ _ _ _ _ _ _ _ _ _ (ends_with _ _ _ _ _ _ _ _ _ _ c.done.ensures.ended c.status.ensures)
+
+pub returns-clause-built : goal.returns-clause-built
+returns-clause-built g c = model_is_there _ _ _ _ _ _ _ _ _ _ (ends_with _ _ _ _ _ _ _ _ _ _ c.done.ensures.ended c.status.ensures)
 
 pub returns-clause-judged : goal.returns-clause-judged
 returns-clause-judged g c = says_whether_solution _ _ _ _ _ _ _ _ _ _ (ends_with _ _ _ _ _ _ _ _ _ _ c.done.ensures.ended c.status.ensures)

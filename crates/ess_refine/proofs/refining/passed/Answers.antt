@@ -1,4 +1,4 @@
-use Rattle.std.proofs.Common.{◌≡◌, arith}
+use Rattle.std.proofs.Common.{arith}
 use Rattle.ess_node_types.specs.TypedNames.{pure_names}
 use Rattle.ess_refine.specs.Chains.{as_it_was}
 use Rattle.ess_refine.proofs.NodeTurns.{pass_more}

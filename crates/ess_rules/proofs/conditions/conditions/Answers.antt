@@ -1,30 +1,30 @@
 use Rattle.ess_core_nodes.specs.NodeViews.{pure_node}
 use Rattle.ess_node_types.specs.TypedNames.{pure_names}
 use Rattle.conjure_model_laws.specs.ToldApart.{told_apart}
-use Rattle.ess_rules.specs.Ruled.{told_axis}
-use Rattle.ess_rules.proofs.RuledRoots.{ruled_choice, ruled_condition, ruled_condition_behind, ruled_least_of_alternatives}
+use Rattle.ess_rules_opened.specs.Supplies.{told_axis}
+use Rattle.ess_rules.proofs.RuledRoots.{ruled_choice, ruled_gathering, ruled_condition, ruled_condition_behind}
 use Rattle.ess_rules.proofs.conditions.conditions.Goals as goal
 
 pub returns-in-Some : goal.returns-in-Some
 returns-in-Some c =
-    ruled_choice c.args.taken.now.one.now c.args.taken.now.other.now c.args.taken.now.third.now c.args.taken.now.parts.now
-    told_axis (told_apart c.args.taken.now.next)
-    (pure_names c.args.names.now) (pure_node c.args.node.now) c.in_ok-new.field-0 c.in-Some.new c.in_ok-new.ensures c.in-Some.is
+    ruled_choice c.args._taken.now.one.now c.args._taken.now.other.now c.args._taken.now.third.now c.args._taken.now.parts.now
+    told_axis (told_apart c.args._taken.now.next)
+    (pure_names c.args._names.now) (pure_node c.args.node.now) c.in_ok-new.field-0 c.in-Some.new c.in_ok-new.ensures c.in-Some.is
 
 pub returns-in-Some-2 : goal.returns-in-Some-2
 returns-in-Some-2 c =
-    ruled_condition c.args.taken.now.one.now c.args.taken.now.other.now c.args.taken.now.third.now c.args.taken.now.parts.now
-    told_axis (told_apart c.args.taken.now.next)
-    (pure_names c.args.names.now) (pure_node c.args.node.now) c.in_ok-new-2.field-0 c.in-Some-2.new c.in_ok-new-2.ensures c.in-Some-2.is
+    ruled_gathering c.args._taken.now.one.now c.args._taken.now.other.now c.args._taken.now.third.now c.args._taken.now.parts.now
+    told_axis (told_apart c.args._taken.now.next)
+    (pure_names c.args._names.now) (pure_node c.args.node.now) c.in_ok-new-2.field-0 c.in-Some-2.new c.in_ok-new-2.ensures c.in-Some-2.is
 
 pub returns-in-Some-3 : goal.returns-in-Some-3
 returns-in-Some-3 c =
-    ruled_condition_behind c.args.taken.now.one.now c.args.taken.now.other.now c.args.taken.now.third.now c.args.taken.now.parts.now
-    told_axis (told_apart c.args.taken.now.next)
-    (pure_names c.args.names.now) (pure_node c.args.node.now) c.in_ok-new-3.field-0 c.in-Some-3.new c.in_ok-new-3.ensures c.in-Some-3.is
+    ruled_condition c.args._taken.now.one.now c.args._taken.now.other.now c.args._taken.now.third.now c.args._taken.now.parts.now
+    told_axis (told_apart c.args._taken.now.next)
+    (pure_names c.args._names.now) (pure_node c.args.node.now) c.in_ok-new-3.field-0 c.in-Some-3.new c.in_ok-new-3.ensures c.in-Some-3.is
 
 pub returns-in-Some-4 : goal.returns-in-Some-4
 returns-in-Some-4 c =
-    ruled_least_of_alternatives c.args.taken.now.one.now c.args.taken.now.other.now c.args.taken.now.third.now c.args.taken.now.parts.now
-    told_axis (told_apart c.args.taken.now.next)
-    (pure_names c.args.names.now) (pure_node c.args.node.now) c.in_ok-new-4.field-0 c.in-Some-4.new c.in_ok-new-4.ensures c.in-Some-4.is
+    ruled_condition_behind c.args._taken.now.one.now c.args._taken.now.other.now c.args._taken.now.third.now c.args._taken.now.parts.now
+    told_axis (told_apart c.args._taken.now.next)
+    (pure_names c.args._names.now) (pure_node c.args.node.now) c.in_ok-new-4.field-0 c.in-Some-4.new c.in_ok-new-4.ensures c.in-Some-4.is

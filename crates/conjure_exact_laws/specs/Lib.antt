@@ -1,0 +1,4 @@
+-- Tables of solutions
+pub mod OneTables
+-- Laws
+pub mod Laws

@@ -1,0 +1,136 @@
+-- What is built of a specification of the class, part by part: declared cells with their domains, and no structures and channels.
+use Rattle.std.proofs.Common.{◌≡◌, refl, sym, ap, ◌∙◌, subst, ℕ, Bool, true, false, List, [], ◌∷◌, ◌++◌, map, Option, Some, None}
+use Rattle.ess_semantics.specs.Lists.{append_all, or_default}
+use Rattle.ess_semantics.specs.Values.{Text}
+use Rattle.ess_semantics.specs.Names.{look}
+use Rattle.ess_semantics.specs.Trees.{Ex, Exs, truth_ex, no_exs, more_exs, Dom, bool_dom, int_dom}
+use Rattle.ess_semantics.specs.Contexts.{Each}
+use Rattle.ess_semantics.specs.DeclaredTables.{TableDecl}
+use Rattle.ess_semantics.specs.Meaning.{empty_env}
+use Rattle.ess_semantics.specs.Plans.{Side, Plan, value_plan}
+use Rattle.ess_grammar.specs.Models.{Scope}
+use Rattle.ess_simplify_laws.specs.Simplifying.{simplified}
+use Rattle.conjure_laws.specs.SideBySide.{Along}
+use Rattle.conjure_model_laws.specs.Shown.{Shows}
+use Rattle.conjure_model_laws.specs.IsBuiltFrom.{with_whole_names, declared_of}
+use Rattle.ess_repr_declare_laws.specs.DeclaredTrees.{trees_below}
+use Rattle.ess_flat_laws.specs.Flat.{Flat, none_marked, truth as truth_is}
+use Rattle.ess_flat_models_laws.specs.FlatSpecifications.{is_scalar_dom}
+use Rattle.ess_flat_models_laws.specs.FlatModels.{decl_of}
+use Rattle.ess_flat_models_laws.proofs.Reckoned.{Reckoned, AllReckoned, reckoned-flat, reckoned-simple, bounds-reckoned}
+use Rattle.ess_flat_models_laws.proofs.ScalarDomains.{Atom}
+use Rattle.ess_flat_models_laws.proofs.FlatPlans.{AtomPlan}
+use Rattle.ess_flat_models_laws.proofs.FlatSimplified.{simpler}
+use Rattle.ess_flat_models_laws.proofs.FlatNames.{no-yes}
+use Rattle.ess_flat_trees_laws.proofs.FlatTrees.{told-flat}
+use Rattle.ess_model_trees.specs.Written.{ComesFrom}
+use Rattle.ess_model_rules.specs.Answered.{AllCome, AllUsed, IsUsed}
+use Rattle.ess_model_rules.specs.RulesWritten.{TreeComes, unless_true}
+use Rattle.ess_declared_written.specs.DeclarationsWritten.{BoundComes, BoundsAreWritten, DomIsWritten, DeclIsWritten}
+use Rattle.ess_declared_written.specs.Coming.{DeclsAreWritten, none_written, one_written}
+use Rattle.conjure_flat_laws.proofs.FlatChains.{comes-flat}
+
+-- ---- trees without names and cells
+
+bare-simple : (e : Ex) (m : Bool) → Flat none_marked none_marked e m → Flat none_marked none_marked (simplified e) m
+bare-simple e m f = (simpler none_marked empty_env (λ n b h. absurd (no h)) f).flat
+  where
+    no : {b : Bool} → None ≡ Some b → ⊥
+    no h = cc
+
+-- ---- declarations
+
+bound-written : (s : Scope) (taken : List Text) (k : ℕ) (e f : Ex) → Reckoned e → BoundComes s taken k e (Some f) → f ≡ e
+bound-written s taken k e f w v =
+    let g = reckoned-flat none_marked none_marked w in
+    comes-flat none_marked bare-simple s taken k e f false g
+    (subst (λ q. ComesFrom s taken q.1 q.0 (Some f)) (told-flat none_marked g k) v)
+    ∙ ap simplified (reckoned-simple w) ∙ reckoned-simple w
+
+bounds-written : (s : Scope) (taken : List Text) (k : ℕ) (es fs : Exs) → AllReckoned es → BoundsAreWritten s taken k es fs → fs ≡ es
+bounds-written s taken k no_exs no_exs w v = refl
+bounds-written s taken k no_exs (more_exs f fs) w v = absurd v
+bounds-written s taken k (more_exs e es) no_exs w v = absurd v
+bounds-written s taken k (more_exs e es) (more_exs f fs) w v =
+    ap (λ z. more_exs z fs) (bound-written s taken k e f w.0 v.0) ∙ ap (more_exs e) (bounds-written s taken k es fs w.1 v.1)
+
+-- A scalar's domain is written as it is.
+dom-written : (s : Scope) (taken : List Text) (k : ℕ) (d e : Dom) → is_scalar_dom d ≡ true → DomIsWritten s taken k d e → e ≡ d
+dom-written s taken k bool_dom bool_dom h w = refl
+dom-written s taken k (int_dom rs es) (int_dom ss fs) h w =
+    ap (λ z. int_dom z fs) (sym w.0) ∙ ap (int_dom rs) (bounds-written s taken k es fs (bounds-reckoned rs es h) w.1)
+dom-written s taken k bool_dom e h w = absurd w
+dom-written s taken k (int_dom rs es) e h w = absurd w
+dom-written s taken k d e h w = absurd (no-yes h)
+
+no-axes : (s : Scope) (taken : List Text) (k : ℕ) (as' : List Dom) → Along [] as' (DomIsWritten s taken k) → as' ≡ []
+no-axes s taken k [] w = refl
+no-axes s taken k (a ∷ as') w = absurd w
+
+-- So is the declaration of a cell.
+decl-written : (s : Scope) (taken : List Text) (k : ℕ) (n : Text) (d : Dom) (u : TableDecl) → is_scalar_dom d ≡ true →
+    DeclIsWritten s taken k (record { name = n; axes = []; cell = d }) u → u ≡ record { name = n; axes = []; cell = d }
+decl-written s taken k n d u h w =
+    ap (λ z. record { name = z; axes = u.axes; cell = u.cell }) (sym w.0)
+    ∙ ap (λ z. record { name = n; axes = z; cell = u.cell }) (no-axes s taken k u.axes w.1)
+    ∙ ap (λ z. record { name = n; axes = []; cell = z }) (dom-written s taken k d u.cell h w.2)
+
+-- What is declared of a plan.
+pub declared-at : (sh : Shows) (f : Side) (x : Text) (d : Dom) (n : Text) → is_scalar_dom d ≡ true → look sh.doms x ≡ Some d →
+    declared_of sh (value_plan f x Atom d ((n, 0) ∷ [])) ≡ record { name = n; axes = []; cell = d } ∷ []
+declared-at sh f x bool_dom n h e =
+    ap (λ o. with_whole_names (n ∷ []) (trees_below false Atom (or_default o bool_dom))) e
+declared-at sh f x (int_dom rs es) n h e =
+    ap (λ o. with_whole_names (n ∷ []) (trees_below false Atom (or_default o (int_dom rs es)))) e
+declared-at sh f x d n h e = absurd (no-yes h)
+
+module _ (add : Scope → TableDecl → Scope) (taken : List Text) (k : ℕ) (sh : Shows) where
+  one-by-one : (s : Scope) (D : TableDecl) (ts : List TableDecl) (Qs : List Plan) (gs : List TableDecl) →
+      ((u : TableDecl) → DeclIsWritten s taken k D u → u ≡ D) →
+      ((s : Scope) (gs : List TableDecl) → DeclsAreWritten add taken k s ts gs → gs ≡ map decl_of Qs) →
+      DeclsAreWritten add taken k s (D ∷ ts) gs → gs ≡ D ∷ map decl_of Qs
+  one-by-one s D ts Qs gs f g (one_written {u = u} {us = us} w v) = ap (λ z. z ∷ us) (f u w) ∙ ap (λ l. D ∷ l) (g (add s u) us v)
+
+  none-by-none : (s : Scope) (gs : List TableDecl) → DeclsAreWritten add taken k s [] gs → gs ≡ []
+  none-by-none s gs none_written = refl
+
+  -- The declarations that are written for plans of scalars.
+  pub decls-written : (Qs : List Plan) → Each Qs AtomPlan → Each Qs (λ P. declared_of sh P ≡ decl_of P ∷ []) → (s : Scope)
+      (gs : List TableDecl) →
+      DeclsAreWritten add taken k s (append_all (map (declared_of sh) Qs)) gs → gs ≡ map decl_of Qs
+  decls-written [] h d s gs w = none-by-none s gs w
+  decls-written (P ∷ Qs) h d s gs w =
+      let a = h.0 in
+      let v = subst (λ l. DeclsAreWritten add taken k s (l ++ append_all (map (declared_of sh) Qs)) gs)
+      (d.0 ∙ ap (λ P. decl_of P ∷ []) a.is) w in
+      one-by-one s (record { name = a.n; axes = []; cell = a.d }) (append_all (map (declared_of sh) Qs)) Qs gs
+      (λ u z. decl-written s taken k a.n a.d u a.scalar z) (decls-written Qs h.1 d.1) v ∙ ap (λ P. decl_of P ∷ map decl_of Qs) (sym a.is)
+
+-- ---- rules
+
+module _ (s : Scope) (taken : List Text) (k : ℕ) where
+  -- Of `true` there comes no rule.
+  none-used : (c : Ex) (row : List Ex) → c ≡ truth_ex true → IsUsed (TreeComes s taken k) unless_true c row → row ≡ []
+  none-used c row e w =
+      let z : w.new ≡ truth_ex true = comes-flat none_marked bare-simple s taken k (truth_ex true) w.new true truth_is
+      (subst (λ c. TreeComes s taken k c (Some w.new)) e w.comes) in
+      w.is ∙ ap unless_true z
+
+  rows-none : (cs : List Ex) → Each cs (λ c. c ≡ truth_ex true) → (rows : List (List Ex)) →
+      Along cs rows (IsUsed (TreeComes s taken k) unless_true) → append_all rows ≡ []
+  rows-none [] h [] w = refl
+  rows-none (c ∷ cs) h (r ∷ rows) w = ap (λ l. l ++ append_all rows) (none-used c r h.0 w.0) ∙ rows-none cs h.1 rows w.1
+  rows-none [] h (r ∷ rows) w = absurd w
+  rows-none (c ∷ cs) h [] w = absurd w
+
+  -- Structures of scalars need no rules.
+  pub none-written : (cs es : List Ex) → Each cs (λ c. c ≡ truth_ex true) → AllUsed (TreeComes s taken k) unless_true cs es → es ≡ []
+  none-written cs es h w = w.all ∙ rows-none cs h w.rows w.each
+
+-- Nothing comes of nothing.
+pub none-come : (C : Ex → Option Ex → Type 0) (cs es : List Ex) → cs ≡ [] → AllCome C cs es → es ≡ []
+none-come C cs es e w = go es (subst (λ l. Along l es (λ c e. C c (Some e))) e w.each)
+  where
+    go : (es : List Ex) → Along [] es (λ c e. C c (Some e)) → es ≡ []
+    go [] w = refl
+    go (x ∷ es) w = absurd w

@@ -1,0 +1,4 @@
+-- What is written stands
+pub mod FlatTexts
+-- Worked example
+mod Examples

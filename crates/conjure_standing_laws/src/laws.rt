@@ -1,0 +1,8 @@
+//! The law of what is written for texts of specifications of scalars, the contract of a function that does nothing.
+
+ghost use Rattle.conjure_standing_laws.specs.Laws.{WrittenModelsOfScalarsStand};
+
+/// What is written for a text of a specification of scalars with flat and total constraints stands for it.
+pub fn written_models_of_scalars_stand()
+    ensures { WrittenModelsOfScalarsStand }
+{}

@@ -1,0 +1,2 @@
+-- What rules count on follows from values
+pub mod CountedValues

@@ -1,0 +1,4 @@
+//! What rules count on, from values.
+#![tactic(auto)]
+
+pub mod laws;

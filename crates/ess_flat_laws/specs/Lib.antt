@@ -1,0 +1,4 @@
+-- Flat total trees
+pub mod Flat
+-- Their laws
+pub mod Laws

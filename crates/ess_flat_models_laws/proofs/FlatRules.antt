@@ -1,0 +1,182 @@
+-- The rules of a model of the class say what its constraints say.
+use Rattle.std.proofs.Common.{◌≡◌, refl, sym, ap, ◌∙◌, subst, Bool, true, List, [], ◌∷◌, ◌++◌, map, Some, None, option_map}
+use Rattle.std.specs.List.{list_all}
+use Rattle.ess_semantics.specs.Values.{Text, Value}
+use Rattle.ess_semantics.specs.Names.{Names, look}
+use Rattle.ess_semantics.specs.Trees.{Ex, cell_ex, no_exs, Dom, Stm, given, let_ex, let_dom, needs, find, such_that, minimise, maximise}
+use Rattle.ess_semantics.specs.Domains.{Domain}
+use Rattle.ess_semantics.specs.Membership.{member}
+use Rattle.ess_semantics.specs.Tables.{Table, Tables}
+use Rattle.ess_semantics.specs.Meaning.{meaning, domain_of, is_bool_dom, is_true}
+use Rattle.ess_semantics.specs.Positions.{with_positions, domain_with_positions}
+use Rattle.ess_semantics.specs.Prepared.{prepared}
+use Rattle.ess_semantics.specs.Assignments.{Assignment, value_of, env_of}
+use Rattle.ess_semantics.specs.Parameters.{all_declared}
+use Rattle.ess_semantics.specs.Judgements.{fault}
+use Rattle.ess_semantics.specs.Plans.{Options, Side, givens_side, finds_side, Plan, value_plan, plans, plans_for, plan_domain}
+use Rattle.ess_semantics.specs.ModelTrees.{Model, all_decls}
+use Rattle.ess_semantics.specs.ModelMeaning.{env_of_tables, model_value}
+use Rattle.ess_semantics.specs.Models.{scalar_cell, cell_for, constraints_of}
+use Rattle.ess_semantics.proofs.Tests.{and-left, and-right}
+use Rattle.conjure_laws.specs.Members.{In}
+use Rattle.conjure_laws.specs.SideBySide.{Along}
+use Rattle.conjure_laws.specs.Premises.{Instance, here, is_on}
+use Rattle.conjure_laws.specs.ModelPremises.{Canonical, RuleMeans}
+use Rattle.conjure_laws.specs.Views.{tables_with}
+use Rattle.conjure_laws.proofs.Lists.{at-item, in-filtered}
+use Rattle.conjure_laws.proofs.Statements.{plan-is-found}
+use Rattle.conjure_laws.proofs.Givens.{given-found, given-from}
+use Rattle.conjure_laws.proofs.Matching.{Match, canonical-matched}
+use Rattle.conjure_laws.proofs.MatchedTables.{Found, matched-found}
+use Rattle.conjure_model_laws.proofs.ViewValues.{views-have-values}
+use Rattle.conjure_settled_laws.specs.EndValues.{IsInEnv}
+use Rattle.conjure_settled_laws.proofs.EndValues.{typed-has-end-values}
+use Rattle.ess_flat_laws.specs.Flat.{Flat, none_marked}
+use Rattle.ess_flat_models_laws.specs.FlatSpecifications.{is_scalar_dom, scalar_mark, is_flat_truth, is_flat_statement, are_flat_statements}
+use Rattle.ess_flat_models_laws.specs.FlatModels.{flat_rule, flat_model}
+use Rattle.ess_flat_models_laws.proofs.PreparedStatements.{truth-flat}
+use Rattle.ess_flat_models_laws.proofs.ScalarDomains.{Atom, closed, closed-is, closed-plain, closed-scalar, scalar-meets}
+use Rattle.ess_flat_models_laws.proofs.FlatPlans.{all-atoms}
+use Rattle.ess_flat_models_laws.proofs.FlatLayers.{base}
+use Rattle.ess_flat_models_laws.proofs.FlatValues.{Marked}
+use Rattle.ess_flat_models_laws.proofs.FlatSimplified.{simpler}
+use Rattle.ess_flat_models_laws.proofs.FlatCells.{cells-flat, cells-mean}
+use Rattle.ess_flat_models_laws.proofs.FlatKinds.{flat-kinded}
+use Rattle.ess_flat_models_laws.proofs.FlatNames.{marked-member, marked-plain, scalar-plan, no-yes}
+use Rattle.ess_flat_models_laws.proofs.FlatDeclared.{cells, placed-names, planned, cells-kinded}
+
+module _ (S : List Stm) (o : Options) (h : are_flat_statements S o ≡ true) where
+  abbrev Ps : List Plan
+  Ps = plans S o
+
+  abbrev Gs : List Plan
+  Gs = plans_for givens_side S o
+
+  abbrev Fs : List Plan
+  Fs = plans_for finds_side S o
+
+  abbrev E : Model
+  E = flat_model S o
+
+  module _ (t : fault S ≡ None) (p a : Assignment) (q c : Names Table) (I : Instance S o p q) (C : Canonical S o p a c) where
+    -- The value of a name, which its cell holds.
+    pub record PlanHas (x : Text) (d : Dom) (n : Text) : Type 0 where
+      pub v : Value
+      pub marked : Marked (is_bool_dom d) v
+      pub value : look (env_of S p a).vals x ≡ Some v
+      pub held : meaning (cell_ex (is_bool_dom d) n no_exs) (env_of_tables (q ++ c)) ≡ Some v
+
+    one-value : (v w : Value) → Some v ≡ Some w → v ≡ w
+    one-value v w e = cc
+
+    has : (f : Side) (x : Text) (d : Dom) (n : Text) → In (value_plan f x Atom d ((n, 0) ∷ [])) Ps → is_scalar_dom d ≡ true →
+        (b : Assignment) (ts : Tables) (m : Match S p b x Atom d ((n, 0) ∷ []) ts) →
+        (w : Value) → value_of b x ≡ Some w → meaning (cell_ex (is_bool_dom d) n no_exs) (env_of_tables (q ++ c)) ≡ Some
+        (with_positions w) →
+        look (env_of S p a).vals x ≡ value_of b x → PlanHas x d n
+    has f x d n i s b ts m w e k l =
+        let z : m.v ≡ w = one-value m.v w (sym m.value ∙ e) in
+        let y : m.e ≡ closed d = one m.e (closed d) (sym m.closed ∙ closed-is d (here S p) s) in
+        let r : Marked (is_bool_dom d) w =
+        marked-member (closed d) (is_bool_dom d) (closed-scalar d s) w
+        (ap (λ g. member g w) (sym y) ∙ ap (member m.e) (sym z) ∙ m.inside) in
+        record { v = w; marked = r; value = l ∙ e; held = k ∙ ap (λ u. Some u) (marked-plain r) }
+      where
+        one : (d e : Domain) → Some d ≡ Some e → d ≡ e
+        one d e q = cc
+
+    -- Each plan has.
+    pub plan-has : (f : Side) (x : Text) (d : Dom) (n : Text) → In (value_plan f x Atom d ((n, 0) ∷ [])) Ps → is_scalar_dom d ≡ true →
+        PlanHas x d n
+    plan-has f x d n i s = go f i
+      where
+        same-dom : domain_of d (tables_with S p (q ++ c) []) ≡ plan_domain d (here S p)
+        same-dom = closed-is d (tables_with S p (q ++ c) []) s
+            ∙ sym (ap (option_map domain_with_positions) (closed-is d (here S p) s) ∙ ap (λ e. Some e) (closed-plain d s))
+
+        go : (f : Side) → In (value_plan f x Atom d ((n, 0) ∷ [])) Ps → PlanHas x d n
+        go givens_side i =
+            let F = given-found S o (base S o h t).ground p q I x Atom d ((n, 0) ∷ []) i in
+            let V = views-have-values S o E (base S o h t) p a q c I C givens_side x Atom d ((n, 0) ∷ []) i d [] same-dom
+            (scalar-meets d (tables_with S p (q ++ c) []) s) in
+            has givens_side x d n i s p F.0 F.1 V.0 V.1 V.2.0
+            (at-item (IsInEnv S p a (env_of S p a)) (prepared S) (given x d) (typed-has-end-values S p a t I.param).declared
+            (given-from (prepared S) o (all_declared S) _ x Atom d ((n, 0) ∷ []) i))
+        go finds_side i =
+            let F = at-item (Found S o E (base S o h t) p q I a c) Fs (value_plan finds_side x Atom d ((n, 0) ∷ []))
+            (matched-found S o E (base S o h t) p q I a c (canonical-matched S o E (base S o h t) p q I a c C.members C.tables))
+            (in-filtered (is_on finds_side) (value_plan finds_side x Atom d ((n, 0) ∷ [])) Ps i refl) in
+            let V = views-have-values S o E (base S o h t) p a q c I C finds_side x Atom d ((n, 0) ∷ []) i d [] same-dom
+            (scalar-meets d (tables_with S p (q ++ c) []) s) in
+            has finds_side x d n i s a F.0 F.1 V.0 V.1 V.2.0
+            (at-item (IsInEnv S p a (env_of S p a)) (prepared S) (find x d) (typed-has-end-values S p a t I.param).declared
+            (plan-is-found S o x Atom d ((n, 0) ∷ []) i))
+
+    -- Declared cells have values of their marks.
+    pub cells-valued : (n : Text) (b : Bool) → cells S o h n ≡ Some b →
+        (v : Value) × Marked b v × (meaning (cell_ex b n no_exs) (env_of_tables (q ++ c)) ≡ Some v)
+    cells-valued n b e =
+        let r = planned S o h n b e in
+        let w = plan-has r.f r.x r.d n r.planned r.scalar in
+        subst (λ b. (v : Value) × Marked b v × (meaning (cell_ex b n no_exs) (env_of_tables (q ++ c)) ≡ Some v)) r.mark
+        (w.v, w.marked, w.held)
+
+    -- Cells in the place of names have their values.
+    pub names-valued : (x : Text) (m : Bool) → scalar_mark Ps x ≡ Some m →
+        meaning (cell_for x (scalar_cell Ps x)) (env_of_tables (q ++ c)) ≡ look (env_of S p a).vals x
+    names-valued x m e =
+        let r = scalar-plan Ps (all-atoms S o h) x m e in
+        let w = plan-has r.f x r.d r.n r.planned r.scalar in
+        ap (λ o. meaning (cell_for x o) (env_of_tables (q ++ c))) r.cell
+        ∙ ap (λ b. meaning (cell_ex b r.n no_exs) (env_of_tables (q ++ c))) (sym r.mark) ∙ w.held ∙ sym w.value
+
+    -- What is written of a flat tree has its value.
+    pub rule-value : (e : Ex) (m : Bool) → Flat (scalar_mark Ps) none_marked e m →
+        meaning (flat_rule Ps e) (env_of_tables (q ++ c)) ≡ meaning e (env_of S p a)
+    rule-value e m f =
+        let g = cells-flat Ps (cells S o h) (placed-names S o h) f in
+        let s = simpler (cells S o h) (env_of_tables (q ++ c)) cells-valued g in
+        let r = simpler (cells S o h) (env_of_tables (q ++ c)) cells-valued s.flat in
+        r.means ∙ s.means ∙ cells-mean Ps (env_of S p a) (env_of_tables (q ++ c)) names-valued f
+
+    -- It is as models have it.
+    pub rule-flat : (e : Ex) (m : Bool) → Flat (scalar_mark Ps) none_marked e m → Flat none_marked (cells S o h) (flat_rule Ps e) m
+    rule-flat e m f =
+        let g = cells-flat Ps (cells S o h) (placed-names S o h) f in
+        let s = simpler (cells S o h) (env_of_tables (q ++ c)) cells-valued g in
+        let r = simpler (cells S o h) (env_of_tables (q ++ c)) cells-valued s.flat in r.flat
+
+    -- So the model has its value.
+    pub written-value : (e : Ex) (m : Bool) → Flat (scalar_mark Ps) none_marked e m →
+        model_value (all_decls E) (q ++ c) (flat_rule Ps e) ≡ meaning e (env_of S p a)
+    written-value e m f =
+        ap (λ k. meaning k.0 (env_of_tables (q ++ c)))
+        (flat-kinded (cells S o h) (all_decls E) (cells-kinded S o h) (rule-flat e m f))
+        ∙ rule-value e m f
+
+  -- The rule of a constraint says what the constraint says.
+  pub rule-means : fault S ≡ None → (e : Ex) → Flat (scalar_mark Ps) none_marked e true → RuleMeans S o E e (flat_rule Ps e)
+  rule-means t e f p a q c I C = ap is_true (written-value t p a q c I C e true f)
+
+  pub rules-along : fault S ≡ None → (T : List Stm) → list_all (is_flat_statement Ps o) T ≡ true →
+      Along (constraints_of T) (map (flat_rule Ps) (constraints_of T)) (RuleMeans S o E)
+  rules-along t [] k = tt
+  rules-along t (given x d ∷ T) k =
+      rules-along t T (and-right (is_flat_statement Ps o (given x d)) (list_all (is_flat_statement Ps o) T) k)
+  rules-along t (find x d ∷ T) k =
+      rules-along t T (and-right (is_flat_statement Ps o (find x d)) (list_all (is_flat_statement Ps o) T) k)
+  rules-along t (needs e ∷ T) k =
+      rules-along t T (and-right (is_flat_statement Ps o (needs e)) (list_all (is_flat_statement Ps o) T) k)
+  rules-along t (let_ex y e ∷ T) k =
+      rules-along t T (and-right (is_flat_statement Ps o (let_ex y e)) (list_all (is_flat_statement Ps o) T) k)
+  rules-along t (let_dom y d ∷ T) k =
+      rules-along t T (and-right (is_flat_statement Ps o (let_dom y d)) (list_all (is_flat_statement Ps o) T) k)
+  rules-along t (minimise e ∷ T) k =
+      rules-along t T (and-right (is_flat_statement Ps o (minimise e)) (list_all (is_flat_statement Ps o) T) k)
+  rules-along t (maximise e ∷ T) k =
+      rules-along t T (and-right (is_flat_statement Ps o (maximise e)) (list_all (is_flat_statement Ps o) T) k)
+  rules-along t (such_that e ∷ T) k = (
+    rule-means t e (truth-flat Ps e (and-left (is_flat_truth Ps e) (list_all (is_flat_statement Ps o) T) k)),
+    rules-along t T (and-right (is_flat_truth Ps e) (list_all (is_flat_statement Ps o) T) k),
+  )
+  rules-along t (s ∷ T) k = absurd (no-yes k)

@@ -1,0 +1,12 @@
+-- Names with `_` behind
+pub mod LongerNames
+-- Trees of models
+pub mod SpelledTrees
+-- Statements with lettings put in
+pub mod PreparedTokens
+-- Declarations
+pub mod SpelledDeclarations
+-- The law
+pub mod ReadableModels
+-- Worked examples
+mod Examples

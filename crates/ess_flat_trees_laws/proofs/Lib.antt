@@ -1,0 +1,2 @@
+-- Flat trees on their way to a rule
+pub mod FlatTrees

@@ -1,0 +1,2 @@
+-- Conditions that read cells, gathered behind the generators
+pub mod GatheredConditions

@@ -1,0 +1,2 @@
+-- The names of generators and conditions
+pub mod GatheredNames

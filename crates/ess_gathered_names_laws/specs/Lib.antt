@@ -1,0 +1,2 @@
+-- The names of gathered conditions
+pub mod GatheredNames

@@ -1,0 +1,4 @@
+//! What is given in domains and conditions stays.
+#![tactic(auto)]
+
+pub mod laws;

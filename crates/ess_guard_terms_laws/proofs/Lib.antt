@@ -1,0 +1,4 @@
+-- What types say of values
+mod TermTypes
+-- Worked examples
+mod Examples

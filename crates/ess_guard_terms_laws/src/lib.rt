@@ -1,0 +1,4 @@
+//! What the conditions of judged terms say of their values.
+#![tactic(auto)]
+
+pub mod laws;

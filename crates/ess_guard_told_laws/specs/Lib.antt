@@ -1,0 +1,4 @@
+-- Truth values that are told
+pub mod TruthsTold
+-- What is proved
+pub mod Laws

@@ -1,0 +1,2 @@
+-- Each rule that fires is one of the rules of kinds
+mod KindRoots

@@ -1,0 +1,2 @@
+-- What a rule of kinds makes of a root
+pub mod Kinds

@@ -1,0 +1,3 @@
+-- Texts
+pub mod LettingTexts
+mod Examples

@@ -1,0 +1,4 @@
+-- Texts
+pub mod LettingTexts
+-- Laws
+pub mod Laws

@@ -1,0 +1,4 @@
+-- Which domains have literals
+pub mod ToldDomains
+-- Laws
+pub mod Laws

@@ -1,0 +1,4 @@
+-- Models of memberships
+pub mod MemberModels
+-- The laws
+pub mod Laws

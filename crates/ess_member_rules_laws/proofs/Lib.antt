@@ -1,0 +1,4 @@
+-- What is written
+pub mod Forms
+-- What it says over tables
+pub mod Means

@@ -1,0 +1,12 @@
+//! The rules of a model in order: the structures of the finds' tables, that further views of a find stand for what the first one
+//! does, that the objective has a value, and the constraints.
+#![tactic(auto)]
+
+mod constraints;
+mod objectives;
+mod structures;
+mod trees;
+
+pub use constraints::constraints_of;
+pub use objectives::{Objective, objective_of};
+pub use structures::{channels_of, structures_of};

@@ -1,0 +1,70 @@
+-- No rule of comprehensions whose items have an order fires at a flat tree over cells.
+use Rattle.std.proofs.Common.{◌≡◌, refl, ap, ◌∙◌, ℕ, Bool, true, false, ◌&&◌, if◌then◌else◌, List, [], ◌∷◌, Option, None}
+use Rattle.ess_semantics.specs.declared.words.Op1.{Op1}
+use Rattle.ess_semantics.specs.declared.words.Op2.{Op2}
+use Rattle.ess_semantics.specs.declared.words.Fun.{Fun}
+use Rattle.ess_semantics.specs.Lists.{and_then, or_else}
+use Rattle.ess_semantics.specs.Values.{Text}
+use Rattle.ess_semantics.specs.Names.{Names}
+use Rattle.ess_semantics.specs.Trees.{Ex, ex1, ex2, fun1}
+use Rattle.ess_semantics.specs.Types.{Ty}
+use Rattle.ess_semantics.specs.Typing.{type_of}
+use Rattle.ess_rules_laws.specs.AlternativeLookups.{select_each, select_whole_each}
+use Rattle.ess_refine_laws.specs.AllRules.{Supply}
+use Rattle.ess_open_rules_laws.specs.OpenRules.{gives_scalar, is_compound_ty}
+use Rattle.ess_flat_laws.specs.Flat.{Flat, number, truth, named, cell, one, two, chosen, none_marked}
+use Rattle.ess_ordered_laws.specs.NumberedItems.{ordered_lookup}
+use Rattle.ess_ordered_laws.specs.OrderedRules.{OrderedRule, an_item, of_an_item, source_by_indices, over_operand, at_operand, ordered_rewrite}
+use Rattle.ess_ordered_flat_laws.specs.FlatOrdered.{FlatTreesHaveNoOrder}
+
+module _ (cells : Text → Option Bool) (s : Supply) (g : Names Ty) where
+  abbrev F : Ex → Bool → Type 0
+  F = Flat none_marked cells
+
+  -- Nothing is looked up.
+  no-lookup : {e : Ex} {m : Bool} → F e m → (z : Text) (ys : List Text) → ordered_lookup z ys e ≡ None
+  no-lookup f z [] = refl
+  no-lookup number z (y ∷ ys) = refl
+  no-lookup truth z (y ∷ ys) = refl
+  no-lookup (named h) z (y ∷ ys) = refl
+  no-lookup (cell h) z (y ∷ ys) = refl
+  no-lookup (one o f) z (y ∷ ys) = refl
+  no-lookup (two o f h c) z (y ∷ ys) = refl
+  no-lookup (chosen f) z (y ∷ ys) = refl
+
+  no-alone : {e : Ex} {m : Bool} → F e m → ordered_rewrite s g an_item e ≡ None
+  no-alone {e} f = ap (λ o. and_then o (λ l. if gives_scalar g e then select_whole_each s.one l e else None)) (no-lookup f s.third s.parts)
+
+  no-operand : (k : ℕ) (e : Ex) {t : Ex} {m : Bool} → F t m → over_operand s g k e t ≡ None
+  no-operand k e {t} f = ap (λ o. and_then o
+      (λ l. if gives_scalar g e && is_compound_ty (type_of t g) then select_each s.one k l e else None)) (no-lookup f s.third s.parts)
+
+  neither : (o p : Option Ex) → o ≡ None → p ≡ None → or_else o p ≡ None
+  neither o p a b = ap (λ x. or_else x p) a ∙ b
+
+  no-operands : {e : Ex} {m : Bool} → F e m → ordered_rewrite s g of_an_item e ≡ None
+  no-operands number = refl
+  no-operands truth = refl
+  no-operands (named h) = refl
+  no-operands (cell h) = refl
+  no-operands {e} (one o f) = neither (at_operand s g 1 e) (at_operand s g 2 e) (no-operand 1 e f) refl
+  no-operands {e} (two o f h c) = neither (at_operand s g 1 e) (at_operand s g 2 e) (no-operand 1 e f) (no-operand 2 e h)
+  no-operands {e} (chosen f) = neither (at_operand s g 1 e) (at_operand s g 2 e) (no-operand 1 e f) refl
+
+  no-source : {e : Ex} {m : Bool} → F e m → ordered_rewrite s g source_by_indices e ≡ None
+  no-source number = refl
+  no-source truth = refl
+  no-source (named h) = refl
+  no-source (cell h) = refl
+  no-source (one o f) = refl
+  no-source (two o f h c) = refl
+  no-source (chosen f) = refl
+
+  -- None of the three.
+  pub no-order : (r : OrderedRule) {e : Ex} {m : Bool} → F e m → ordered_rewrite s g r e ≡ None
+  no-order an_item f = no-alone f
+  no-order of_an_item f = no-operands f
+  no-order source_by_indices f = no-source f
+
+pub flat-trees-have-no-order : FlatTreesHaveNoOrder
+flat-trees-have-no-order cells s g r e m f = no-order cells s g r f

@@ -1,0 +1,2 @@
+-- Flat trees
+pub mod FlatOrdered

@@ -1,0 +1,58 @@
+-- What is said of items of comprehensions by their numbers, and of sources by their indices.
+use Rattle.std.specs.Prelude.{◌≡◌, true, false, [], ◌∷◌, List, length, Option, Some}
+use Rattle.ess_semantics.specs.Values.{Text, Value, of_list, matrix, a_matrix}
+use Rattle.ess_semantics.specs.Order.{same_text}
+use Rattle.ess_semantics.specs.Names.{Names}
+use Rattle.ess_semantics.specs.Trees.{by_value, index, name_pat, Ex, node_ex, comp_ex, no_exs, more_exs, no_gens, over, from, Dom}
+use Rattle.ess_semantics.specs.Types.{Ty, compound2, is_bool}
+use Rattle.ess_semantics.specs.Typing.{type_of}
+use Rattle.ess_semantics.specs.Meaning.{Env, meaning, domain_of, members_in}
+use Rattle.ess_semantics.specs.Contexts.{Each}
+use Rattle.ess_semantics.specs.Meets.{Meets, MeetsDom}
+use Rattle.ess_semantics.specs.Kept.{Keeps}
+use Rattle.ess_guard_laws.specs.IndexDomains.{index_dom}
+use Rattle.ess_rules_laws.specs.Rules.{Unused, IsTruth}
+use Rattle.ess_rules_laws.specs.MatrixRules.{UnusedDom}
+use Rattle.ess_rules_laws.specs.Listings.{Alternative}
+use Rattle.ess_rules_laws.specs.FunctionLookups.{unmarked}
+use Rattle.ess_rules_laws.specs.AlternativeLookups.{LookedBy, FirstOperandThere}
+use Rattle.ess_ordered_laws.specs.NumberedItems.{numbered_lookup}
+use Rattle.ess_ordered_laws.specs.IndexedSources.{indexed_source}
+
+-- Names are told apart: the bound one stands neither in the number nor in its own domain, and the one for members that are counted is
+-- another one, which doesn't stand in the domain.
+abbrev pub NumberedApart : Text → Ex → Type 0
+NumberedApart z (node_ex b (index (by_value ∷ [])) (more_exs (comp_ex e (over (name_pat x) d no_gens)) (more_exs i no_exs))) =
+    Unused x i × UnusedDom x d × UnusedDom z d × (same_text z x ≡ false)
+NumberedApart z e = Unit {0}
+
+-- The alternatives look the item up, where the comprehension has a value.
+abbrev pub ItemsAreNumbered : Type 0
+ItemsAreNumbered = (z : Text) (t : Ex) (l : List Alternative) → numbered_lookup z t ≡ Some l → NumberedApart z t → (env : Env) →
+    FirstOperandThere t env → Meets t env → LookedBy (unmarked t) l env
+
+-- ---- sources by their indices
+
+-- The term is a matrix over the domain: its indices are the members, in order, and there is an item at each.
+pub record MatrixOver (t : Ex) (d : Dom) (env : Env) : Type 0 where
+  pub indices : List Value
+  pub items : List Value
+  pub value : meaning t env ≡ Some (matrix (of_list indices) (of_list items))
+  pub as_many : length indices ≡ length items
+  pub axis : members_in (domain_of d env) ≡ Some indices
+  pub met : MeetsDom d env
+
+-- Where the domain is told, and the type of the items: so it is, and items of the type of truth values are such.
+abbrev pub IndicesTold : Option Dom → Option Ty → Ex → Env → Type 0
+IndicesTold (Some d) (Some (compound2 a_matrix i u)) t env =
+    (m : MatrixOver t d env) × (is_bool (Some u) ≡ true → Each m.items (λ v. IsTruth (Some v)))
+IndicesTold o p t env = Unit {0}
+
+-- The new name doesn't stand in the first source, and its index domain is told rightly.
+abbrev pub SourceTold : Names Ty → Text → Ex → Env → Type 0
+SourceTold g x (comp_ex e (from (name_pat y) t hs)) env = Unused x t × IndicesTold (index_dom t) (type_of t g) t env
+SourceTold g x e env = Unit {0}
+
+-- So a source by its indices keeps the comprehension, in order.
+abbrev pub SourcesKeep : Type 0
+SourcesKeep = (g : Names Ty) (x : Text) (e f : Ex) → indexed_source g x e ≡ Some f → (env : Env) → SourceTold g x e env → Keeps e f env

@@ -1,0 +1,8 @@
+-- Items of comprehensions by their numbers
+pub mod NumberedItems
+-- Sources by their indices
+pub mod IndexedSources
+-- All these rules
+pub mod OrderedRules
+-- What is said of them
+pub mod Laws

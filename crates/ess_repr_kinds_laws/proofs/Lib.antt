@@ -1,0 +1,4 @@
+-- Views of truth values
+mod TruthChannels
+-- Worked examples
+mod Examples

@@ -1,0 +1,8 @@
+-- Types with positions
+mod PlacedTypes
+-- Forms stay
+mod ShownForms
+mod BareForms
+mod ToldForms
+-- Worked examples
+mod Examples

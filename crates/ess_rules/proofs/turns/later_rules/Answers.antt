@@ -1,0 +1,10 @@
+use Rattle.ess_core_nodes.specs.NodeViews.{pure_node}
+use Rattle.ess_node_types.specs.TypedNames.{pure_names}
+use Rattle.ess_rules_opened.specs.Supplies.{taken_supply}
+use Rattle.ess_rules.proofs.KindTurns.{of_kinds}
+use Rattle.ess_rules.proofs.turns.later_rules.Goals as goal
+
+pub returns-in-Some : goal.returns-in-Some
+returns-in-Some c =
+    of_kinds (taken_supply c.args.taken.now) (pure_names c.args.names.now) (pure_node c.args.node.now) c.in_ok-new.field-0
+    c.in-Some.new c.in_ok-new.ensures c.in-Some.is

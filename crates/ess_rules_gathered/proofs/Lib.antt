@@ -1,0 +1,4 @@
+-- Generators and their conditions, one by one
+pub mod ConditionRows
+-- Worked examples
+mod ExamplesConjunctions

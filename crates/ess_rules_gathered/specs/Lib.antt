@@ -1,0 +1,2 @@
+-- Conjunctions, with whether they are of several
+pub mod Conjunctions

@@ -1,0 +1,2 @@
+pub mod ValuedAgreement
+pub mod RulesKeepValues

@@ -1,0 +1,2 @@
+-- Rules that keep values at their root
+pub mod RulesKeepValues

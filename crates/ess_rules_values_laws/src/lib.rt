@@ -1,0 +1,4 @@
+//! Rules that keep values.
+#![tactic(auto)]
+
+pub mod laws;

@@ -1,0 +1,4 @@
+-- Names of values
+pub mod ValueNames
+-- Laws
+pub mod Laws

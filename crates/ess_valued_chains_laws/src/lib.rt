@@ -1,0 +1,4 @@
+//! Chains of rules from a tree with values on.
+#![tactic(auto)]
+
+pub mod laws;

@@ -1,0 +1,3 @@
+pub mod ValuedSteps
+pub mod ValuesAlong
+mod ExamplesValued

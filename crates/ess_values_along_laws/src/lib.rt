@@ -1,0 +1,4 @@
+//! Values along chains of rules.
+#![tactic(auto)]
+
+pub mod laws;

@@ -1,0 +1,2 @@
+-- Views have values of the types of their domains
+pub mod ViewTypes

@@ -1,0 +1,4 @@
+//! The types of views.
+#![tactic(auto)]
+
+pub mod laws;
