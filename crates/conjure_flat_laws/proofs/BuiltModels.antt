@@ -1,5 +1,5 @@
 -- Of a specification of the class one model alone is built, and it is a right one.
-use Rattle.std.proofs.Common.{◌≡◌, refl, sym, ap, ◌∙◌, subst, ℕ, Bool, true, false, if◌then◌else◌, List, [], ◌∷◌, ◌++◌, inl, inr, map, filter, pos, Option, Some, None, option_map}
+use Rattle.std.proofs.Common.{◌≡◌, refl, sym, ap, ◌∙◌, subst, ℕ, Bool, true, false, ◌&&◌, if◌then◌else◌, List, [], ◌∷◌, ◌++◌, inl, inr, map, filter, pos, Option, Some, None, option_map}
 use Rattle.std.specs.List.{list_all}
 use Rattle.ess_semantics.specs.Lists.{append_all, or_default}
 use Rattle.ess_semantics.specs.Values.{Text, Value, number, truth}
@@ -15,7 +15,7 @@ use Rattle.ess_semantics.specs.Prepared.{prepared}
 use Rattle.ess_semantics.specs.Parameters.{all_declared}
 use Rattle.ess_semantics.specs.Judgements.{fault}
 use Rattle.ess_semantics.specs.Solutions.{finds}
-use Rattle.ess_semantics.specs.Plans.{Options, Side, givens_side, finds_side, Plan, value_plan, plans, plans_for, domain_of_stm, is_plan_of}
+use Rattle.ess_semantics.specs.Plans.{Options, Side, givens_side, finds_side, Plan, value_plan, plans, plans_for, is_plan_of}
 use Rattle.ess_semantics.specs.ModelTrees.{Header, Goal, no_goal, least, greatest, Model, all_decls, goal_of, header_of}
 use Rattle.ess_semantics.specs.ModelMeaning.{declaration_of, env_of_tables}
 use Rattle.ess_semantics.specs.Models.{Models, IsExact, scalar_cell, cell_for, with_cells, constraints_of}
@@ -26,7 +26,7 @@ use Rattle.ess_guard_laws.specs.Guard.{has_value, make_total, make_natural}
 use Rattle.conjure_laws.specs.Members.{In}
 use Rattle.conjure_laws.specs.SideBySide.{Along}
 use Rattle.conjure_laws.specs.Premises.{is_on}
-use Rattle.conjure_laws.proofs.Lists.{at-item, all-items, in-right, in-filter}
+use Rattle.conjure_laws.proofs.Lists.{at-item, all-items, in-filter}
 use Rattle.conjure_laws.proofs.Statements.{plan-is-found}
 use Rattle.conjure_laws.proofs.Givens.{given-from}
 use Rattle.conjure_laws.proofs.JudgedDistinct.{kept-distinct}
@@ -35,7 +35,7 @@ use Rattle.conjure_model_laws.specs.ToldApart.{reserved}
 use Rattle.conjure_model_laws.specs.Shown.{Shows, in_place, shown, shows_nothing, shows_of}
 use Rattle.conjure_model_laws.specs.IsBuiltFrom.{tree_of, constraint_tree, condition_tree, objective_tree, channel_trees, declared_of, taken_names}
 use Rattle.ess_flat_laws.specs.Flat.{Flat, none_marked, truth as truth_is}
-use Rattle.ess_flat_models_laws.specs.FlatSpecifications.{scalar_mark, is_flat_truth, is_flat_statement, is_flat_specification, are_flat_statements, has_marks}
+use Rattle.ess_flat_models_laws.specs.FlatSpecifications.{are_bounded, scalar_mark, is_flat_truth, is_flat_statement, is_flat_specification, are_flat_statements, has_marks}
 use Rattle.ess_flat_models_laws.specs.FlatModels.{flat_rule, decl_of, flat_goal, goal_rules, flat_model}
 use Rattle.ess_flat_models_laws.proofs.PreparedStatements.{truth-flat}
 use Rattle.ess_flat_models_laws.proofs.ScalarDomains.{Atom}
@@ -44,18 +44,21 @@ use Rattle.ess_flat_models_laws.proofs.FlatValues.{Marked, a_truth, a_number}
 use Rattle.ess_flat_models_laws.proofs.FlatSimplified.{simpler}
 use Rattle.ess_flat_models_laws.proofs.FlatCells.{cells-flat}
 use Rattle.ess_flat_models_laws.proofs.FlatNames.{no-yes, scalar-plan}
-use Rattle.ess_flat_models_laws.proofs.FlatDeclared.{cells, placed-names}
+use Rattle.ess_flat_models_laws.proofs.FlatBounds.{plan-bounds}
+use Rattle.ess_flat_models_laws.proofs.FlatDeclared.{cells, placed-names, given-cells}
 use Rattle.ess_flat_models_laws.proofs.FlatGoals.{FlatGoal, flat-goal}
 use Rattle.ess_flat_models_laws.proofs.FlatHave.{flat-specifications}
 use Rattle.ess_flat_trees_laws.proofs.FlatTrees.{told-flat, shown-flat, guarded-flat, has-value-flat}
 use Rattle.ess_model_trees.specs.Written.{ComesFrom, next_behind}
 use Rattle.ess_model_rules.specs.RulesWritten.{ConstraintComes, BothCome, GoalComes}
 use Rattle.ess_model_finds.specs.Finds.{asked_of}
+use Rattle.ess_declared_written.specs.Coming.{DeclsAreWritten}
 use Rattle.ess_models.specs.Parts.{scope_of_tables}
 use Rattle.ess_models.specs.Built.{IsBuilt}
 use Rattle.conjure_flat_laws.specs.Laws.{BuiltModelsAreRight}
 use Rattle.conjure_flat_laws.proofs.FlatChains.{comes-flat}
-use Rattle.conjure_flat_laws.proofs.BuiltShows.{first-view, shows-first, shows-doms, kept_in}
+use Rattle.conjure_flat_laws.proofs.BuiltShows.{first-view, shows-first, kept_in}
+use Rattle.conjure_flat_laws.proofs.ShownDomains.{kept-of, in-keys, shows-doms}
 use Rattle.conjure_flat_laws.proofs.BuiltParts.{declared-at, decls-written, none-written, none-come}
 
 -- ---- tables that hold 0
@@ -73,19 +76,8 @@ zero-look (d ∷ ds) n = go (same_text d.name n) (zero-look ds n)
     go true e = refl
     go false e = e
 
--- ---- names that are kept
-
-kept-of : (T : List Stm) (s : Stm) (x : Text) (d : Dom) → In s T → domain_of_stm s ≡ (x, d) ∷ [] → In (x, d) (kept_in T)
-kept-of [] s x d i e = absurd i
-kept-of (t ∷ T) s x d (inl q) e = subst (λ l. In (x, d) (l ++ kept_in T)) (sym (ap domain_of_stm (sym q) ∙ e)) (inl refl)
-kept-of (t ∷ T) s x d (inr i) e = in-right (x, d) (domain_of_stm t) (kept_in T) (kept-of T s x d i e)
-
-in-keys : {A : Type 0} (x : Text) (d : A) (ks : Names A) → In (x, d) ks → In x (keys ks)
-in-keys x d [] i = absurd i
-in-keys x d (k ∷ ks) (inl e) = inl (ap (λ w. w.0) e)
-in-keys x d (k ∷ ks) (inr i) = inr (in-keys x d ks i)
-
-module _ (S : List Stm) (o : Options) (h : are_flat_statements S o ≡ true) (t : fault S ≡ None) where
+module _ (S : List Stm) (o : Options) (h : are_flat_statements S o ≡ true) (b : are_bounded (plans S o) [] (prepared S) ≡ true)
+    (t : fault S ≡ None) where
   abbrev Ps : List Plan
   Ps = plans S o
 
@@ -137,16 +129,26 @@ module _ (S : List Stm) (o : Options) (h : are_flat_statements S o ≡ true) (t 
   distinct = kept-distinct S (ap (λ f. elim f [ None ↦ true | Some g ↦ false ]) t)
 
   -- What is declared of a plan.
-  declared : (P : Plan) → AtomPlan P → In P Ps → declared_of sh P ≡ decl_of P ∷ []
+  declared : (P : Plan) → AtomPlan P → In P Ps → declared_of sh P ≡ decl_of Ps P ∷ []
   declared P w i =
-      subst (λ P. declared_of sh P ≡ decl_of P ∷ []) (sym w.is)
-      (declared-at sh w.f w.x w.d w.n w.scalar
-      (shows-doms Ps o (prepared S) shows_nothing w.x w.d h distinct
+      subst (λ P. declared_of sh P ≡ decl_of Ps P ∷ []) (sym w.is)
+      (declared-at Ps (cells S o h) (given-cells S o h) simple sh w.f w.x w.d w.n w.scalar
+      (shows-doms Ps o (all-atoms S o h) (prepared S) [] shows_nothing w.x w.d h b (record { seen = λ a i m. absurd (no-yes i) }) distinct
       (inr (planned-kept w.f w.x w.d w.n (subst (λ P. In P Ps) w.is i)))))
 
-  all-declared : (f : Side) → Each (plans_for f S o) (λ P. declared_of sh P ≡ decl_of P ∷ [])
-  all-declared f = all-items (λ P. declared_of sh P ≡ decl_of P ∷ []) (plans_for f S o)
+  all-declared : (f : Side) → Each (plans_for f S o) (λ P. declared_of sh P ≡ decl_of Ps P ∷ [])
+  all-declared f = all-items (λ P. declared_of sh P ≡ decl_of Ps P ∷ []) (plans_for f S o)
       (λ P i. let j = (in-filter (is_on f) P Ps i).0 in declared P (at-item AtomPlan Ps P (all-atoms S o h) j) j)
+
+  -- The declarations that are written for a side.
+  side-written : (f : Side) (add : Scope → TableDecl → Scope) (s : Scope) (gs : List TableDecl) →
+      DeclsAreWritten add (taken_names S o) sh.next s (append_all (map (declared_of sh) (plans_for f S o))) gs →
+      gs ≡ map (decl_of Ps) (plans_for f S o)
+  side-written f add s gs w =
+      decls-written Ps (cells S o h) (given-cells S o h) simple add (taken_names S o) sh.next sh (plans_for f S o)
+      (some-atoms S o h (is_on f))
+      (λ g x d n i. plan-bounds S o h g x d n (in-filter (is_on f) (value_plan g x Atom d ((n, 0) ∷ [])) Ps i).0)
+      (all-declared f) s gs w
 
   -- A flat tree over tables, with its bound names told apart.
   over-tables : (e : Ex) (m : Bool) → Flat (scalar_mark Ps) none_marked e m → tree_of sh e ≡ with_cells Ps e
@@ -248,10 +250,8 @@ module _ (S : List Stm) (o : Options) (h : are_flat_statements S o ≡ true) (t 
   one-model H E B =
       let sc : Scope = scope_of_tables E.givens E.finds in
       let R = B.rules in
-      let gs = decls-written _ (taken_names S o) sh.next sh (plans_for givens_side S o) (some-atoms S o h (is_on givens_side))
-      (all-declared givens_side) _ E.givens B.declared.givens in
-      let fs = decls-written _ (taken_names S o) sh.next sh (plans_for finds_side S o) (some-atoms S o h (is_on finds_side))
-      (all-declared finds_side) _ E.finds B.declared.finds in
+      let gs = side-written givens_side _ _ E.givens B.declared.givens in
+      let fs = side-written finds_side _ _ E.finds B.declared.finds in
       let st = none-written _ (taken_names S o) sh.next _ R.structures
       (nothing-asked (plans_for finds_side S o) (some-atoms S o h (is_on finds_side))) R.structures_written in
       let ch = none-come _ _ R.channels (no-channels (finds S) (λ x i. found-plan S o h x (typed-is-settled S t).distinct i))
@@ -268,17 +268,22 @@ module _ (S : List Stm) (o : Options) (h : are_flat_statements S o ≡ true) (t 
             ∙ ap (λ z. record { givens = E0.givens; finds = E0.finds; goal = E0.goal; rules = z }) ru,
       )
 
--- A right one.
+-- So it is of each specification of the class.
+one-is-built : (S : List Stm) (o : Options) (H : Header) (E : Model) → fault S ≡ None → is_flat_specification S o ≡ true →
+    IsBuilt S o H E → (H ≡ header_of S o) × (E ≡ flat_model S o)
+one-is-built S o H E t h B =
+    let a : Bool = are_flat_statements S o in
+    let b : Bool = are_bounded (plans S o) [] (prepared S) in
+    let c : Bool = list_all (has_marks (plans S o)) (constraints_of S) in
+    one-model S o (and-left a (b && c) h) (and-left b c (and-right a (b && c) h)) t H E B
+
+-- And it is a right one.
 right-model : (S : List Stm) (o : Options) (H : Header) (E : Model) → fault S ≡ None → is_flat_specification S o ≡ true →
     IsBuilt S o H E → Models S o H E × IsExact S o E
 right-model S o H E t h B =
-    let r = one-model S o (and-left (are_flat_statements S o) (list_all (has_marks (plans S o)) (constraints_of S)) h) t H E B in
+    let r = one-is-built S o H E t h B in
     subst (λ E. Models S o H E × IsExact S o E) (sym r.1)
     (subst (λ H. Models S o H (flat_model S o) × IsExact S o (flat_model S o)) (sym r.0) (flat-specifications S o t h))
 
--- So it is of each specification of the class.
 pub built-models-are-right : BuiltModelsAreRight
-built-models-are-right = record {
-  one = λ S o H E t h B. one-model S o (and-left (are_flat_statements S o) (list_all (has_marks (plans S o)) (constraints_of S)) h) t H E B;
-  right = right-model;
-}
+built-models-are-right = record { one = one-is-built; right = right-model }

@@ -10,9 +10,9 @@ use Rattle.ess_models.specs.Built.{IsBuilt}
 use Rattle.ess_flat_models_laws.specs.FlatSpecifications.{is_flat_specification}
 use Rattle.ess_flat_models_laws.specs.FlatModels.{flat_model}
 
--- Of a well typed specification of the class one model alone is built: that of single cells, whose objective and rules are those of the
--- specification with cells in the place of names, simplified, behind `true` for the objective. So each model that is built of such a
--- specification stands for it, and each solution has exactly one satisfying assignment. Nothing else is assumed.
+-- Of a well typed specification of the class one model alone is built: that of single cells, whose bounds, objective and rules are those of
+-- the specification with cells in the place of names, objective and rules simplified, behind `true` for the objective. So each model that
+-- is built of such a specification stands for it, and each solution has exactly one satisfying assignment. Nothing else is assumed.
 pub record BuiltModelsAreRight : Type 0 where
   pub one : (S : List Stm) (o : Options) (H : Header) (E : Model) → fault S ≡ None → is_flat_specification S o ≡ true → IsBuilt S o H E →
       (H ≡ header_of S o) × (E ≡ flat_model S o)

@@ -12,7 +12,7 @@ use Rattle.ess_semantics.specs.ModelTrees.{Model, goal_of, header_of}
 use Rattle.ess_semantics.specs.Models.{constraints_of}
 use Rattle.ess_translate_tables_laws.proofs.DistinctNames.{distinct-names}
 use Rattle.ess_translate_tables_laws.proofs.ChosenAgain.{Alike, all_of, all-alike, plans-alike}
-use Rattle.ess_flat_models_laws.specs.FlatSpecifications.{is_scalar_dom, is_atom_alone, is_flat_statement, has_marks, is_flat_specification}
+use Rattle.ess_flat_models_laws.specs.FlatSpecifications.{given_mark, is_scalar_dom, is_atom_alone, is_flat_statement, are_bounded, has_marks, is_flat_specification}
 use Rattle.ess_flat_models_laws.specs.FlatModels.{flat_rule, decl_of, flat_goal, goal_rules}
 use Rattle.ess_flat_headers_laws.specs.Laws.{ChosenAreOfTheClass}
 
@@ -26,10 +26,10 @@ alike-flat : (Ps : List Plan) (p o : Options) (T : List Stm) → Alike p o (appe
     list_all (is_flat_statement Ps p) T ≡ list_all (is_flat_statement Ps o) T
 alike-flat Ps p o [] a = refl
 alike-flat Ps p o (given x d ∷ T) a =
-    ap (λ rs. (is_scalar_dom d && is_atom_alone rs) && list_all (is_flat_statement Ps p) T) a.0
+    ap (λ rs. (is_scalar_dom (given_mark Ps) d && is_atom_alone rs) && list_all (is_flat_statement Ps p) T) a.0
     ∙ ap (λ b. is_flat_statement Ps o (given x d) && b) (alike-flat Ps p o T a.1)
 alike-flat Ps p o (find x d ∷ T) a =
-    ap (λ rs. (is_scalar_dom d && is_atom_alone rs) && list_all (is_flat_statement Ps p) T) a.0
+    ap (λ rs. (is_scalar_dom (given_mark Ps) d && is_atom_alone rs) && list_all (is_flat_statement Ps p) T) a.0
     ∙ ap (λ b. is_flat_statement Ps o (find x d) && b) (alike-flat Ps p o T a.1)
 alike-flat Ps p o (given_enum t ∷ T) a = ap (λ b. is_flat_statement Ps o (given_enum t) && b) (alike-flat Ps p o T a)
 alike-flat Ps p o (let_ex x e ∷ T) a = ap (λ b. is_flat_statement Ps o (let_ex x e) && b) (alike-flat Ps p o T a)
@@ -59,15 +59,15 @@ module _ (S : List Stm) (o : Options) (t : fault S ≡ None) where
 
   flat-again : is_flat_specification S o ≡ true → is_flat_specification S A ≡ true
   flat-again h =
-      let marks : List Plan → Bool = λ Ps. list_all (has_marks Ps) (constraints_of S) in
+      let marks : List Plan → Bool = λ Ps. are_bounded Ps [] (prepared S) && list_all (has_marks Ps) (constraints_of S) in
       ap (λ Ps. list_all (is_flat_statement Ps A) (prepared S) && marks Ps) same-plans
       ∙ ap (λ b. b && marks (plans S o)) (alike-flat (plans S o) A o (prepared S) themselves) ∙ h
 
 -- The model, by the plans.
 abbrev model-by : List Stm → List Plan → Model
 model-by S Ps = record {
-  givens = map decl_of (filter (λ p. same_side (side_of p) givens_side) Ps);
-  finds = map decl_of (filter (λ p. same_side (side_of p) finds_side) Ps);
+  givens = map (decl_of Ps) (filter (λ p. same_side (side_of p) givens_side) Ps);
+  finds = map (decl_of Ps) (filter (λ p. same_side (side_of p) finds_side) Ps);
   goal = flat_goal Ps (goal_of (prepared S));
   rules = goal_rules (goal_of (prepared S)) ++ map (flat_rule Ps) (constraints_of (prepared S));
 }

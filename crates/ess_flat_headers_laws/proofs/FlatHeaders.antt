@@ -1,5 +1,5 @@
 -- The lines of the header of a model of the class are read as that header, where each is within the limit of load.
-use Rattle.std.proofs.Common.{◌≡◌, refl, Bool, true, List, [], ◌∷◌, map, filter}
+use Rattle.std.proofs.Common.{◌≡◌, refl, Bool, true, ◌&&◌, List, [], ◌∷◌, map, filter}
 use Rattle.std.specs.List.{list_all}
 use Rattle.ess_semantics.specs.Lists.{append_all}
 use Rattle.ess_semantics.specs.Values.{Text}
@@ -14,7 +14,7 @@ use Rattle.ess_grammar.specs.Readable.{is_name_token, ReadableStms}
 use Rattle.ess_translate_header_laws.specs.WrittenLines.{is_named, ReadableHeader}
 use Rattle.ess_translate_header_laws.proofs.WrittenLines.{written_headers}
 use Rattle.ess_translate_tables_laws.proofs.ChosenAgain.{all_of}
-use Rattle.ess_flat_models_laws.specs.FlatSpecifications.{is_scalar_dom, is_atom_alone, is_flat_statement, are_flat_statements, has_marks, is_flat_specification}
+use Rattle.ess_flat_models_laws.specs.FlatSpecifications.{given_mark, is_scalar_dom, is_atom_alone, is_flat_statement, are_bounded, are_flat_statements, has_marks, is_flat_specification}
 use Rattle.ess_flat_models_laws.proofs.FlatNames.{no-yes}
 use Rattle.ess_flat_texts_laws.proofs.PreparedTokens.{IsNamed, prepared-named}
 use Rattle.ess_flat_headers_laws.specs.Laws.{FlatHeadersAreRead}
@@ -55,12 +55,12 @@ module _ (Ps : List Plan) (o : Options) where
   names-named [] h r = refl
   names-named (given x d ∷ T) h r =
       and-both (is_named x (chosen_reprs o x d)) (list_all has_name (all_of o (append_all (map domain_of_stm T))))
-      (named-atom x (chosen_reprs o x d) (and-right (is_scalar_dom d) (is_atom_alone (chosen_reprs o x d))
+      (named-atom x (chosen_reprs o x d) (and-right (is_scalar_dom (given_mark Ps) d) (is_atom_alone (chosen_reprs o x d))
       (and-left (flat (given x d)) (list_all flat T) h)) r.0)
       (names-named T (rest (given x d) T h) r.1)
   names-named (find x d ∷ T) h r =
       and-both (is_named x (chosen_reprs o x d)) (list_all has_name (all_of o (append_all (map domain_of_stm T))))
-      (named-atom x (chosen_reprs o x d) (and-right (is_scalar_dom d) (is_atom_alone (chosen_reprs o x d))
+      (named-atom x (chosen_reprs o x d) (and-right (is_scalar_dom (given_mark Ps) d) (is_atom_alone (chosen_reprs o x d))
       (and-left (flat (find x d)) (list_all flat T) h)) r.0)
       (names-named T (rest (find x d) T h) r.1)
   names-named (let_ex x e ∷ T) h r = names-named T (rest (let_ex x e) T h) r.1
@@ -74,7 +74,8 @@ module _ (Ps : List Plan) (o : Options) where
 -- Statements of the class are so with lettings put in.
 pub flat-statements : (S : List Stm) (o : Options) → is_flat_specification S o ≡ true →
     list_all (is_flat_statement (plans S o) o) (prepared S) ≡ true
-flat-statements S o h = and-left (are_flat_statements S o) (list_all (has_marks (plans S o)) (constraints_of S)) h
+flat-statements S o h =
+    and-left (are_flat_statements S o) (are_bounded (plans S o) [] (prepared S) && list_all (has_marks (plans S o)) (constraints_of S)) h
 
 -- The header can be read.
 pub flat-header : (S : List Stm) (o : Options) → ReadableStms S → is_flat_specification S o ≡ true → ReadableHeader (header_of S o)

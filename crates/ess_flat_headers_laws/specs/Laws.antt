@@ -1,7 +1,8 @@
 -- Laws of headers of models of scalars, each stated at a function that does nothing.
 use Rattle.std.specs.Prelude.{◌≡◌, Bool, true, false, ◌&&◌, List, None}
 use Rattle.std.specs.List.{list_all}
-use Rattle.ess_semantics.specs.Trees.{Ex, Exs, number_ex, truth_ex, name_ex, no_exs, more_exs, Dom, bool_dom, int_dom, name_dom, Stm, given, let_ex, let_dom, find, such_that, minimise, maximise}
+use Rattle.ess_semantics.specs.declared.words.Op1.{Op1}
+use Rattle.ess_semantics.specs.Trees.{Ex, Exs, number_ex, truth_ex, name_ex, no_exs, more_exs, Dom, bool_dom, int_dom, name_dom, Stm, given, let_ex, let_dom, find, such_that, minimise, maximise, ex1, ex2}
 use Rattle.ess_semantics.specs.Judgements.{fault}
 use Rattle.ess_semantics.specs.Plans.{Options, all_chosen}
 use Rattle.ess_semantics.specs.ModelTrees.{header_of}
@@ -18,11 +19,17 @@ FlatHeadersAreRead = (S : List Stm) (o : Options) → ReadableStms S → is_flat
     AreShallow (header_texts (header_of S o)) → IsHeader (header_of S o) (header_texts (header_of S o))
 
 -- Whether the expression is a number, a truth value or a name.
+abbrev pub is_operand : Ex → Bool
+is_operand (number_ex n) = true
+is_operand (truth_ex b) = true
+is_operand (name_ex a) = true
+is_operand e = false
+
+-- Whether it is one of these, or `-` before one, or an operator between two.
 abbrev pub is_short : Ex → Bool
-is_short (number_ex n) = true
-is_short (truth_ex b) = true
-is_short (name_ex a) = true
-is_short e = false
+is_short (ex1 b Op1.Minus x) = is_operand x
+is_short (ex2 b o x y) = is_operand x && is_operand y
+is_short e = is_operand e
 
 -- The same of several.
 abbrev pub are_short : Exs → Bool

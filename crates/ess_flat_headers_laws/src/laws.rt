@@ -7,7 +7,8 @@ pub fn flat_headers_are_read()
     ensures { FlatHeadersAreRead }
 {}
 
-/// Each line of the header is within the limit of load, where bounds and lettings are numbers, truth values and names, and no condition is there.
+/// Each line of the header is within the limit of load, where each bound and letting is a number, a truth value or a name, `-` before one,
+/// or an operator between two, and no condition is there.
 pub fn flat_headers_are_shallow()
     ensures { FlatHeadersAreShallow }
 {}

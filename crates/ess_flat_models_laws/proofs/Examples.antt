@@ -38,9 +38,26 @@ its-model : flat_model S [] ≡ record {
 }
 its-model = refl
 
--- A bound by a name is of no such specification.
-not-bounds : is_flat_specification (given n (upto (number_ex (pos 3))) ∷ find x (upto (name_ex n)) ∷ []) [] ≡ false
-not-bounds = refl
+-- ---- bounds with names
+
+-- `given n : int(1..3)  find x : int(1..n + 1)`: the given's cell stands in the bound.
+named-bounds : is_flat_specification
+    (given n (upto (number_ex (pos 3))) ∷ find x (upto (ex2 false Op2.Plus (name_ex n) (number_ex (pos 1)))) ∷ []) [] ≡ true
+named-bounds = refl
+
+cells-in-bounds : flat_model
+    (given n (upto (number_ex (pos 3))) ∷ find x (upto (ex2 false Op2.Plus (name_ex n) (number_ex (pos 1)))) ∷ []) []
+    ≡ record {
+      givens = record { name = n; axes = []; cell = upto (number_ex (pos 3)) } ∷ [];
+      finds = record { name = x; axes = []; cell = upto (ex2 false Op2.Plus (cell_ex false n no_exs) (number_ex (pos 1))) } ∷ [];
+      goal = no_goal;
+      rules = [];
+    }
+cells-in-bounds = refl
+
+-- A bound by a name that is declared later, or by a find, is of no such specification.
+not-later : is_flat_specification (find x (upto (name_ex n)) ∷ given n (upto (number_ex (pos 3))) ∷ []) [] ≡ false
+not-later = refl
 
 -- ---- lettings and an objective
 

@@ -26,7 +26,8 @@ use Rattle.ess_flat_laws.specs.Flat.{Flat, none_marked}
 use Rattle.ess_flat_models_laws.specs.FlatSpecifications.{scalar_mark, is_flat_number, is_flat_statement, are_flat_statements}
 use Rattle.ess_flat_models_laws.specs.FlatModels.{flat_rule, flat_goal, goal_rules, flat_model}
 use Rattle.ess_flat_models_laws.proofs.PreparedStatements.{number-flat}
-use Rattle.ess_flat_models_laws.proofs.FlatLayers.{base, structures-mean, channels-mean}
+use Rattle.ess_flat_models_laws.proofs.FlatBounds.{base}
+use Rattle.ess_flat_models_laws.proofs.FlatLayers.{structures-mean, channels-mean}
 use Rattle.ess_flat_models_laws.proofs.FlatValues.{Marked, a_number, flat-value}
 use Rattle.ess_flat_models_laws.proofs.FlatCells.{cells-flat, cells-mean}
 use Rattle.ess_flat_models_laws.proofs.FlatNames.{no-yes}

@@ -4,13 +4,13 @@ use Rattle.std.specs.List.{list_all}
 use Rattle.ess_semantics.specs.Lists.{append_all}
 use Rattle.ess_semantics.specs.Values.{Text, Value, number, truth}
 use Rattle.ess_semantics.specs.Order.{same_text}
-use Rattle.ess_semantics.specs.Names.{Names, look}
+use Rattle.ess_semantics.specs.Names.{Names, look, is_among}
 use Rattle.ess_semantics.specs.Trees.{Ex, cell_ex, no_exs, Dom, Stm, given, let_ex, let_dom, needs, find, such_that, minimise, maximise}
 use Rattle.ess_semantics.specs.Tables.{Table, one_cell}
 use Rattle.ess_semantics.specs.Contexts.{Each}
 use Rattle.ess_semantics.specs.DeclaredTables.{TableDecl}
 use Rattle.ess_semantics.specs.Operators.{false_where_undefined}
-use Rattle.ess_semantics.specs.Meaning.{Env, meaning, cell_in, is_bool_dom}
+use Rattle.ess_semantics.specs.Meaning.{Env, empty_env, meaning, cell_in, is_bool_dom}
 use Rattle.ess_semantics.specs.Prepared.{prepared}
 use Rattle.ess_semantics.specs.Assignments.{Assignment, nothing_given, placed}
 use Rattle.ess_semantics.specs.Parameters.{all_declared, declared_domain, declared_size, in_each}
@@ -28,16 +28,16 @@ use Rattle.ess_semantics.proofs.Tests.{and-left, and-right}
 use Rattle.ess_simplify_laws.specs.Simplifying.{simplified}
 use Rattle.conjure_laws.specs.Members.{In}
 use Rattle.conjure_laws.specs.SideBySide.{Along}
-use Rattle.conjure_laws.specs.Premises.{here, is_on}
+use Rattle.conjure_laws.specs.Premises.{Instance, here, is_on}
 use Rattle.conjure_laws.specs.ModelPremises.{spelled, Texts}
-use Rattle.conjure_laws.proofs.Lists.{at-item, all-items, in-filter, each-append, each-of-list}
+use Rattle.conjure_laws.proofs.Lists.{each-both, at-item, all-items, in-filter, each-append, each-of-list}
 use Rattle.conjure_laws.proofs.Statements.{plan-is-found}
 use Rattle.conjure_laws.proofs.Givens.{given-from}
 use Rattle.conjure_laws.proofs.PlacedStatements.{at-place}
 use Rattle.conjure_laws.proofs.Reduction.{models, exact}
 use Rattle.conjure_settled_laws.proofs.SettledStatements.{typed-is-settled}
 use Rattle.ess_flat_laws.specs.Flat.{Flat, none_marked}
-use Rattle.ess_flat_models_laws.specs.FlatSpecifications.{scalar_mark, is_flat_truth, is_flat_number, is_flat_statement, are_flat_statements, has_marks}
+use Rattle.ess_flat_models_laws.specs.FlatSpecifications.{given_mark, mark_among, are_bounded, scalar_mark, is_flat_truth, is_flat_number, is_flat_statement, are_flat_statements, has_marks}
 use Rattle.ess_flat_models_laws.specs.FlatModels.{flat_rule, decl_of, flat_goal, goal_rules, flat_model}
 use Rattle.ess_flat_models_laws.specs.Laws.{FlatSpecificationsHaveModels}
 use Rattle.ess_flat_models_laws.proofs.PreparedStatements.{truth-flat, number-flat, prepared-constraints, prepared-direction}
@@ -45,13 +45,16 @@ use Rattle.ess_flat_models_laws.proofs.SimpleTrees.{is_simple, is_simple_dom, Do
 use Rattle.ess_flat_models_laws.proofs.ScalarDomains.{Atom}
 use Rattle.ess_flat_models_laws.proofs.SmallDomains.{dom-small}
 use Rattle.ess_flat_models_laws.proofs.FlatPlans.{AtomPlan, all-atoms}
-use Rattle.ess_flat_models_laws.proofs.FlatLayers.{dom-stays}
+use Rattle.ess_flat_models_laws.proofs.GivenValues.{given-has}
+use Rattle.ess_flat_models_laws.proofs.GivenPlaces.{PlaceKnown, BoundsKnown, places-known}
+use Rattle.ess_flat_models_laws.proofs.Reckoned.{Held}
+use Rattle.ess_flat_models_laws.proofs.FlatBounds.{plan-bounds, dom-stays}
 use Rattle.ess_flat_models_laws.proofs.FlatValues.{Marked, a_truth, a_number, AllNumbers}
 use Rattle.ess_flat_models_laws.proofs.FlatSimplified.{simpler}
 use Rattle.ess_flat_models_laws.proofs.FlatCells.{numbers-stay, cells-flat, form-stays}
 use Rattle.ess_flat_models_laws.proofs.FlatNames.{no-yes}
 use Rattle.ess_flat_models_laws.proofs.FlatGoals.{layers, layers-rules}
-use Rattle.ess_flat_models_laws.proofs.FlatDeclared.{cells, placed-names}
+use Rattle.ess_flat_models_laws.proofs.FlatDeclared.{given-cells, cells, placed-names}
 use Rattle.ess_flat_models_laws.proofs.FlatTexts.{none-any, each-mapped, IsConst, numbers-spelled, dom-spelled, statements-spelled, flat-simple, scalar-simple}
 
 -- ---- tables that hold 0
@@ -179,6 +182,7 @@ module _ (S : List Stm) (o : Options) (h : are_flat_statements S o ≡ true) whe
     pub stands : In stm (prepared S)
     pub numbers : is_simple_dom d ≡ true → DomNumbers (IsConst S) d
     pub domain : declared_domain stm ≡ Some d
+    pub known : (p : Assignment) (env : Env) → PlaceKnown Ps o p stm env → BoundsKnown Ps o p d env
     pub size : declared_size stm ≡ None
 
   declarer : (f : Side) (x : Text) (d : Dom) (n : Text) → In (value_plan f x Atom d ((n, 0) ∷ [])) Ps → Declarer d
@@ -188,6 +192,7 @@ module _ (S : List Stm) (o : Options) (h : are_flat_statements S o ≡ true) whe
     numbers = at-item (NumbersAre (IsConst S)) (prepared S) (given x d) (statements-spelled S)
         (given-from (prepared S) o (all_declared S) _ x Atom d ((n, 0) ∷ []) i);
     domain = refl;
+    known = λ p env k. k;
     size = refl;
   }
   declarer finds_side x d n i = record {
@@ -196,50 +201,70 @@ module _ (S : List Stm) (o : Options) (h : are_flat_statements S o ≡ true) whe
     numbers = at-item (NumbersAre (IsConst S)) (prepared S) (find x d) (statements-spelled S)
         (plan-is-found S o x Atom d ((n, 0) ∷ []) i);
     domain = refl;
+    known = λ p env k. k;
     size = refl;
   }
 
   of-plan : (P : Plan) → In P Ps → (w : AtomPlan P) → Declarer w.d
   of-plan P i w = declarer w.f w.x w.d w.n (subst (λ P. In P Ps) w.is i)
 
-  decl-spelled : (P : Plan) → In P Ps → spelled S (parts_of_decl (decl_of P)) ≡ true
+  decl-spelled : (P : Plan) → In P Ps → spelled S (parts_of_decl (decl_of Ps P)) ≡ true
   decl-spelled P i =
       let w = at-item AtomPlan Ps P (all-atoms S o h) i in
       let r = of-plan P i w in
-      subst (λ P. spelled S (parts_of_decl (decl_of P)) ≡ true) (sym w.is)
-      (dom-spelled S w.d w.scalar (r.numbers (scalar-simple w.d w.scalar)))
+      let b = plan-bounds S o h w.f w.x w.d w.n (subst (λ P. In P Ps) w.is i) in
+      subst (λ P. spelled S (parts_of_decl (decl_of Ps P)) ≡ true) (sym w.is)
+      (dom-spelled S (given_mark Ps) Ps (cells S o h) (given-cells S o h) w.d b (r.numbers (scalar-simple (given_mark Ps) w.d b)))
 
-  decl-small : (p : Assignment) (q : Names Table) → numbers_are_small S o p ≡ true → (P : Plan) → In P Ps →
-      decl_is_large (all_decls E) q (decl_of P) ≡ false
-  decl-small p q m P i =
+  -- In their places bounds name givens whose cells hold what they are.
+  held-there : fault S ≡ None → (p : Assignment) (q : Names Table) → Instance S o p q → (d : Dom) (env : Env) →
+      (k : BoundsKnown Ps o p d env) → Held (mark_among k.names (given_mark Ps)) Ps env (env_of_tables q)
+  held-there t p q I d env k a e =
+      let r = among (is_among k.names a) (given_mark Ps a) refl e in
+      let g = given-has S o h t p q I a false r.1 in
+      g.held (env_of_tables q) (λ n t e. e) ∙ sym (k.known.known a g.v r.0 g.given)
+    where
+      among : (b : Bool) (m : Option Bool) → is_among k.names a ≡ b → (if b then m else None) ≡ Some false →
+          (is_among k.names a ≡ true) × (m ≡ Some false)
+      among true m q e = (q, e)
+      among false m q e = cc
+
+  decl-small : fault S ≡ None → are_bounded Ps [] (prepared S) ≡ true → (p : Assignment) (q : Names Table) → Instance S o p q →
+      numbers_are_small S o p ≡ true → (P : Plan) → In P Ps → decl_is_large (all_decls E) q (decl_of Ps P) ≡ false
+  decl-small t bs p q I m P i =
       let w = at-item AtomPlan Ps P (all-atoms S o h) i in
       let r = of-plan P i w in
+      let bo = plan-bounds S o h w.f w.x w.d w.n (subst (λ P. In P Ps) w.is i) in
       let a : Bool = list_all (λ l. numbers_of_statement_small l.stm l.env) (placed S p nothing_given) in
       let b : Bool = list_all in_64_bits (with_next (append_all (map (numbers_of_plan (here S p)) (plans S o)))) in
-      let z = at-place S p nothing_given (λ s env. numbers_of_statement_small s env ≡ true) r.stm
+      let z = at-place S p nothing_given (λ s env. (numbers_of_statement_small s env ≡ true) × PlaceKnown Ps o p s env) r.stm
       r.stands
+      (each-both (placed S p nothing_given) (λ l. numbers_of_statement_small l.stm l.env ≡ true) (λ l. PlaceKnown Ps o p l.stm l.env)
+      (λ l. (numbers_of_statement_small l.stm l.env ≡ true) × PlaceKnown Ps o p l.stm l.env) (λ l x y. (x, y))
       (each-of-list (placed S p nothing_given) (λ l. numbers_of_statement_small l.stm l.env)
-      (and-left a b (and-left (a && b) (types_are_small S p) m))) in
+      (and-left a b (and-left (a && b) (types_are_small S p) m)))
+      (places-known Ps o p (prepared S) 1 [] empty_env h bs (record { known = λ a v i e. absurd (no-yes i) }))) in
+      let k = r.known p z.0 z.1.1 in
       let y : list_all (λ e. part_stays_small e z.0) (parts_of_dom w.d) && true ≡ true =
       ap (λ u. in_each u (λ d. list_all (λ e. part_stays_small e z.0) (parts_of_dom d)) && true) (sym r.domain)
       ∙ ap (λ u. in_each (declared_domain r.stm) (λ d. list_all (λ e. part_stays_small e z.0) (parts_of_dom d))
-      && in_each u (λ e. list_all (λ f. part_stays_small f z.0) (parts_of e))) (sym r.size) ∙ z.1 in
-      subst (λ P. decl_is_large (all_decls E) q (decl_of P) ≡ false) (sym w.is)
-      (ap (λ d. is_large_dom d (env_of_tables q)) (dom-stays (all_decls E) w.d w.scalar)
-      ∙ dom-small w.d z.0 (env_of_tables q) w.scalar
+      && in_each u (λ e. list_all (λ f. part_stays_small f z.0) (parts_of e))) (sym r.size) ∙ z.1.0 in
+      subst (λ P. decl_is_large (all_decls E) q (decl_of Ps P) ≡ false) (sym w.is)
+      (ap (λ d. is_large_dom d (env_of_tables q)) (dom-stays S o h w.d bo)
+      ∙ dom-small (mark_among k.names (given_mark Ps)) Ps z.0 (env_of_tables q) (held-there t p q I w.d z.0 k) w.d k.bounded
       (and-left (list_all (λ e. part_stays_small e z.0) (parts_of_dom w.d)) true y))
 
   -- What is so of each plan's declaration is so of all.
-  each-decl : (F : TableDecl → Type 0) → ((P : Plan) → In P Ps → F (decl_of P)) → Each (all_decls E) F
-  each-decl F g = each-append F (map decl_of Gs) (map decl_of Fs)
-      (each-mapped decl_of F Gs (all-items (λ P. F (decl_of P)) Gs (λ P i. g P (in-filter (is_on givens_side) P Ps i).0)))
-      (each-mapped decl_of F Fs (all-items (λ P. F (decl_of P)) Fs (λ P i. g P (in-filter (is_on finds_side) P Ps i).0)))
+  each-decl : (F : TableDecl → Type 0) → ((P : Plan) → In P Ps → F (decl_of Ps P)) → Each (all_decls E) F
+  each-decl F g = each-append F (map (decl_of Ps) Gs) (map (decl_of Ps) Fs)
+      (each-mapped (decl_of Ps) F Gs (all-items (λ P. F (decl_of Ps P)) Gs (λ P i. g P (in-filter (is_on givens_side) P Ps i).0)))
+      (each-mapped (decl_of Ps) F Fs (all-items (λ P. F (decl_of Ps P)) Fs (λ P i. g P (in-filter (is_on finds_side) P Ps i).0)))
 
   -- ---- the text
 
-  texts : list_all (has_marks Ps) (constraints_of S) ≡ true →
+  texts : fault S ≡ None → are_bounded Ps [] (prepared S) ≡ true → list_all (has_marks Ps) (constraints_of S) ≡ true →
       Texts S o (header_of S o) E (map (flat_rule Ps) (constraints_of (prepared S)))
-  texts marks = record {
+  texts t bs marks = record {
     header = refl;
     direction = prepared-direction Ps S;
     decls = each-decl (λ d. spelled S (parts_of_decl d) ≡ true) decl-spelled;
@@ -249,15 +274,16 @@ module _ (S : List Stm) (o : Options) (h : are_flat_statements S o ≡ true) whe
         (rules-spelled (prepared S) (statements-spelled S) h);
     flat = forms-stay (constraints_of S) (constraints_of (prepared S)) (prepared-constraints S o h) marks;
     small = λ p q I u m. ap not (none-any (decl_is_large (all_decls E) q) (all_decls E)
-        (each-decl (λ d. decl_is_large (all_decls E) q d ≡ false) (decl-small p q m)));
+        (each-decl (λ d. decl_is_large (all_decls E) q d ≡ false) (decl-small t bs p q I m)));
   }
 
   -- The model stands for the specification, and each solution has exactly one satisfying assignment.
-  pub flat-have : list_all (has_marks Ps) (constraints_of S) ≡ true → fault S ≡ None → Models S o (header_of S o) E × IsExact S o E
-  flat-have marks t =
+  pub flat-have : are_bounded Ps [] (prepared S) ≡ true → list_all (has_marks Ps) (constraints_of S) ≡ true → fault S ≡ None →
+      Models S o (header_of S o) E × IsExact S o E
+  flat-have bs marks t =
       let d = (typed-is-settled S t).distinct in (
         models S o E (layers S o h t d) (header_of S o)
-            (subst (Texts S o (header_of S o) E) (sym (layers-rules S o h t d)) (texts marks)),
+            (subst (Texts S o (header_of S o) E) (sym (layers-rules S o h t d)) (texts t bs marks)),
         exact S o E (layers S o h t d),
       )
 
@@ -265,4 +291,6 @@ module _ (S : List Stm) (o : Options) (h : are_flat_statements S o ≡ true) whe
 pub flat-specifications : FlatSpecificationsHaveModels
 flat-specifications S o t h =
     let a : Bool = are_flat_statements S o in
-    let b : Bool = list_all (has_marks (plans S o)) (constraints_of S) in flat-have S o (and-left a b h) (and-right a b h) t
+    let b : Bool = are_bounded (plans S o) [] (prepared S) in
+    let c : Bool = list_all (has_marks (plans S o)) (constraints_of S) in
+    let r = and-right a (b && c) h in flat-have S o (and-left a (b && c) h) (and-left b c r) (and-right b c r) t

@@ -11,16 +11,16 @@ use Rattle.ess_semantics.specs.Contexts.{Each}
 use Rattle.ess_semantics.specs.DeclaredTables.{TableDecl}
 use Rattle.ess_semantics.specs.Meaning.{is_bool_dom}
 use Rattle.ess_semantics.specs.Positions.{with_positions}
-use Rattle.ess_semantics.specs.Plans.{Side, Plan, value_plan, names_of_plan, names_of_plans}
+use Rattle.ess_semantics.specs.Plans.{Side, givens_side, finds_side, Plan, value_plan, names_of_plan, names_of_plans}
 use Rattle.ess_semantics.specs.ModelMeaning.{declaration_of}
 use Rattle.ess_semantics.specs.Models.{scalar_cell}
 use Rattle.ess_semantics.proofs.Tests.{and-left, and-right}
 use Rattle.ess_rules_laws.proofs.Agreement.{same_text-equal, same_text-itself}
 use Rattle.conjure_laws.specs.Members.{In}
 use Rattle.conjure_laws.proofs.NamedTables.{in-among}
-use Rattle.ess_flat_models_laws.specs.FlatSpecifications.{is_scalar_dom, scalar_mark}
+use Rattle.ess_flat_models_laws.specs.FlatSpecifications.{given_mark, scalar_mark}
 use Rattle.ess_flat_models_laws.specs.FlatModels.{decl_of}
-use Rattle.ess_flat_models_laws.proofs.ScalarDomains.{Atom, Scalar, of_truths, of_numbers}
+use Rattle.ess_flat_models_laws.proofs.ScalarDomains.{Atom, is_shape, Scalar, of_truths, of_numbers}
 use Rattle.ess_flat_models_laws.proofs.FlatPlans.{AtomPlan}
 use Rattle.ess_flat_models_laws.proofs.FlatValues.{Marked, a_truth, a_number}
 
@@ -55,12 +55,12 @@ pub record ScalarPlan (Qs : List Plan) (a : Text) (m : Bool) : Type 0 where
   pub planned : In (value_plan f a Atom d ((n, 0) ∷ [])) Qs
   pub cell : scalar_cell Qs a ≡ Some (m, n)
   pub mark : is_bool_dom d ≡ m
-  pub scalar : is_scalar_dom d ≡ true
+  pub scalar : is_shape d ≡ true
 
 some-mark : (b m : Bool) → Some b ≡ Some m → b ≡ m
 some-mark b m q = cc
 
-scalar-here : (f : Side) (x : Text) (d : Dom) (n : Text) (Qs : List Plan) (a : Text) (m : Bool) → is_scalar_dom d ≡ true →
+scalar-here : (f : Side) (x : Text) (d : Dom) (n : Text) (Qs : List Plan) (a : Text) (m : Bool) → is_shape d ≡ true →
     (scalar_mark Qs a ≡ Some m → ScalarPlan Qs a m) → scalar_mark (value_plan f x Atom d ((n, 0) ∷ []) ∷ Qs) a ≡ Some m →
     ScalarPlan (value_plan f x Atom d ((n, 0) ∷ []) ∷ Qs) a m
 scalar-here f x bool_dom n Qs a m s g e = go (same_text x a) refl e
@@ -120,29 +120,94 @@ scalar-plan (P ∷ Qs) h a m e =
     subst (λ P. scalar_mark (P ∷ Qs) a ≡ Some m → ScalarPlan (P ∷ Qs) a m) (sym w.is)
     (scalar-here w.f w.x w.d w.n Qs a m w.scalar (scalar-plan Qs h.1 a m)) e
 
+-- ---- givens
+
+-- What a scalar's plan says of the cell of a name.
+pub scalar-step : (f : Side) (x : Text) (d : Dom) (n : Text) (Qs : List Plan) (a : Text) → is_shape d ≡ true →
+    scalar_cell (value_plan f x Atom d ((n, 0) ∷ []) ∷ Qs) a ≡ (if same_text x a then Some (is_bool_dom d, n) else scalar_cell Qs a)
+scalar-step f x bool_dom n Qs a h = refl
+scalar-step f x (int_dom rs es) n Qs a h = refl
+scalar-step f x d n Qs a h = absurd (no-yes h)
+
+-- The plan of a given.
+pub record GivenPlan (Qs : List Plan) (a : Text) (m : Bool) : Type 0 where
+  pub d : Dom
+  pub n : Text
+  pub planned : In (value_plan givens_side a Atom d ((n, 0) ∷ [])) Qs
+  pub cell : scalar_cell Qs a ≡ Some (m, n)
+  pub mark : is_bool_dom d ≡ m
+  pub scalar : is_shape d ≡ true
+
+given-here : (f : Side) (x : Text) (d : Dom) (n : Text) (Qs : List Plan) (a : Text) (m : Bool) → is_shape d ≡ true →
+    (given_mark Qs a ≡ Some m → GivenPlan Qs a m) → given_mark (value_plan f x Atom d ((n, 0) ∷ []) ∷ Qs) a ≡ Some m →
+    GivenPlan (value_plan f x Atom d ((n, 0) ∷ []) ∷ Qs) a m
+given-here f x d n Qs a m s g e = go f (same_text x a) refl e
+  where
+    none : None ≡ Some m → ⊥
+    none q = cc
+
+    behind : (f : Side) → same_text x a ≡ false → GivenPlan Qs a m → GivenPlan (value_plan f x Atom d ((n, 0) ∷ []) ∷ Qs) a m
+    behind f q r = record {
+      d = r.d;
+      n = r.n;
+      planned = inr r.planned;
+      cell = scalar-step f x d n Qs a s ∙ ap (λ c. if c then Some (is_bool_dom d, n) else scalar_cell Qs a) q ∙ r.cell;
+      mark = r.mark;
+      scalar = r.scalar;
+    }
+
+    go : (f : Side) (c : Bool) → same_text x a ≡ c → given_mark (value_plan f x Atom d ((n, 0) ∷ []) ∷ Qs) a ≡ Some m →
+        GivenPlan (value_plan f x Atom d ((n, 0) ∷ []) ∷ Qs) a m
+    go givens_side true q e =
+        let z = some-mark (is_bool_dom d) m (sym (ap (λ c. if c then Some (is_bool_dom d) else given_mark Qs a) q) ∙ e) in record {
+          d = d;
+          n = n;
+          planned = inl (ap (λ z. value_plan givens_side z Atom d ((n, 0) ∷ [])) (sym (same_text-equal x a q)));
+          cell = scalar-step givens_side x d n Qs a s ∙ ap (λ c. if c then Some (is_bool_dom d, n) else scalar_cell Qs a) q
+              ∙ ap (λ b. Some (b, n)) z;
+          mark = z;
+          scalar = s;
+        }
+    go givens_side false q e =
+        behind givens_side q (g (sym (ap (λ c. if c then Some (is_bool_dom d) else given_mark Qs a) q) ∙ e))
+    go finds_side true q e = absurd (none (sym (ap (λ c. if c then None else given_mark Qs a) q) ∙ e))
+    go finds_side false q e = behind finds_side q (g (sym (ap (λ c. if c then None else given_mark Qs a) q) ∙ e))
+
+-- Each name with the mark of a given has one.
+pub given-plan : (Qs : List Plan) → Each Qs AtomPlan → (a : Text) (m : Bool) → given_mark Qs a ≡ Some m → GivenPlan Qs a m
+given-plan [] h a m e = absurd (none e)
+  where
+    none : {m : Bool} → None ≡ Some m → ⊥
+    none q = cc
+given-plan (P ∷ Qs) h a m e =
+    let w = h.0 in
+    subst (λ P. given_mark (P ∷ Qs) a ≡ Some m → GivenPlan (P ∷ Qs) a m) (sym w.is)
+    (given-here w.f w.x w.d w.n Qs a m w.scalar (given-plan Qs h.1 a m)) e
+
 -- ---- declared cells
 
 -- A declared name is that of a plan.
-pub found-decl : (Qs : List Plan) (es : List TableDecl) (n : Text) (D : TableDecl) → declaration_of (map decl_of Qs ++ es) n ≡ Some D →
-    ((P : Plan) × In P Qs × (decl_of P ≡ D) × (D.name ≡ n)) ⊎ (declaration_of es n ≡ Some D)
-found-decl [] es n D e = inr e
-found-decl (P ∷ Qs) es n D e = go (same_text (decl_of P).name n) refl e (found-decl Qs es n D)
+pub found-decl : (Cs : List Plan) (Qs : List Plan) (es : List TableDecl) (n : Text) (D : TableDecl) →
+    declaration_of (map (decl_of Cs) Qs ++ es) n ≡ Some D →
+    ((P : Plan) × In P Qs × (decl_of Cs P ≡ D) × (D.name ≡ n)) ⊎ (declaration_of es n ≡ Some D)
+found-decl Cs [] es n D e = inr e
+found-decl Cs (P ∷ Qs) es n D e = go (same_text (decl_of Cs P).name n) refl e (found-decl Cs Qs es n D)
   where
     one : (a b : TableDecl) → Some a ≡ Some b → a ≡ b
     one a b q = cc
 
-    go : (c : Bool) → same_text (decl_of P).name n ≡ c → (if c then Some (decl_of P) else declaration_of
-        (map decl_of Qs ++ es) n) ≡ Some D →
-        (declaration_of (map decl_of Qs ++ es) n ≡ Some D →
-        ((Q : Plan) × In Q Qs × (decl_of Q ≡ D) × (D.name ≡ n)) ⊎ (declaration_of es n ≡ Some D)) →
-        ((Q : Plan) × In Q (P ∷ Qs) × (decl_of Q ≡ D) × (D.name ≡ n)) ⊎ (declaration_of es n ≡ Some D)
+    go : (c : Bool) → same_text (decl_of Cs P).name n ≡ c → (if c then Some (decl_of Cs P) else declaration_of
+        (map (decl_of Cs) Qs ++ es) n) ≡ Some D →
+        (declaration_of (map (decl_of Cs) Qs ++ es) n ≡ Some D →
+        ((Q : Plan) × In Q Qs × (decl_of Cs Q ≡ D) × (D.name ≡ n)) ⊎ (declaration_of es n ≡ Some D)) →
+        ((Q : Plan) × In Q (P ∷ Qs) × (decl_of Cs Q ≡ D) × (D.name ≡ n)) ⊎ (declaration_of es n ≡ Some D)
     go true q e f =
-        let z = one (decl_of P) D e in
-        inl (P, inl refl, z, ap (λ w. w.name) (sym z) ∙ same_text-equal (decl_of P).name n q)
+        let z = one (decl_of Cs P) D e in
+        inl (P, inl refl, z, ap (λ w. w.name) (sym z) ∙ same_text-equal (decl_of Cs P).name n q)
     go false q e f = later (f e)
       where
-        later : ((Q : Plan) × In Q Qs × (decl_of Q ≡ D) × (D.name ≡ n)) ⊎ (declaration_of es n ≡ Some D) →
-            ((Q : Plan) × In Q (P ∷ Qs) × (decl_of Q ≡ D) × (D.name ≡ n)) ⊎ (declaration_of es n ≡ Some D)
+        later : ((Q : Plan) × In Q Qs × (decl_of Cs Q ≡ D) × (D.name ≡ n)) ⊎ (declaration_of es n ≡ Some D) →
+            ((Q : Plan) × In Q (P ∷ Qs) × (decl_of Cs Q ≡ D) × (D.name ≡ n)) ⊎ (declaration_of es n ≡ Some D)
         later (inl r) = inl (r.0, inr r.1, r.2, r.3)
         later (inr r) = inr r
 
@@ -159,25 +224,25 @@ name-of f x d n (P ∷ Qs) (inr i) = behind (names_of_plan P) (name-of f x d n Q
     behind (m ∷ ns) i = inr (behind ns i)
 
 -- The declaration of a plan's name, where names differ.
-pub declared-in : (Qs : List Plan) → Each Qs AtomPlan → (es : List TableDecl) (f : Side) (x : Text) (d : Dom) (n : Text) →
+pub declared-in : (Cs : List Plan) (Qs : List Plan) → Each Qs AtomPlan → (es : List TableDecl) (f : Side) (x : Text) (d : Dom) (n : Text) →
     all_distinct (keys (names_of_plans Qs)) ≡ true → In (value_plan f x Atom d ((n, 0) ∷ [])) Qs →
-    declaration_of (map decl_of Qs ++ es) n ≡ Some (decl_of (value_plan f x Atom d ((n, 0) ∷ [])))
-declared-in [] h es f x d n t i = absurd i
-declared-in (P ∷ Qs) h es f x d n t (inl e) =
-    subst (λ P. (if same_text (decl_of P).name n then Some (decl_of P) else declaration_of (map decl_of Qs ++ es) n)
-    ≡ Some (decl_of (value_plan f x Atom d ((n, 0) ∷ [])))) e
-    (ap (λ c. if c then Some (decl_of (value_plan f x Atom d ((n, 0) ∷ []))) else declaration_of (map decl_of Qs ++ es) n)
+    declaration_of (map (decl_of Cs) Qs ++ es) n ≡ Some (decl_of Cs (value_plan f x Atom d ((n, 0) ∷ [])))
+declared-in Cs [] h es f x d n t i = absurd i
+declared-in Cs (P ∷ Qs) h es f x d n t (inl e) =
+    subst (λ P. (if same_text (decl_of Cs P).name n then Some (decl_of Cs P) else declaration_of (map (decl_of Cs) Qs ++ es) n)
+    ≡ Some (decl_of Cs (value_plan f x Atom d ((n, 0) ∷ [])))) e
+    (ap (λ c. if c then Some (decl_of Cs (value_plan f x Atom d ((n, 0) ∷ []))) else declaration_of (map (decl_of Cs) Qs ++ es) n)
     (same_text-itself n))
-declared-in (P ∷ Qs) h es f x d n t (inr i) =
+declared-in Cs (P ∷ Qs) h es f x d n t (inr i) =
     let w = h.0 in
     let t' : not (is_among (keys (names_of_plans Qs)) w.n) && all_distinct (keys (names_of_plans Qs)) ≡ true =
     subst (λ P. all_distinct (keys (names_of_plan P ++ names_of_plans Qs)) ≡ true) w.is t in
-    subst (λ P. (if same_text (decl_of P).name n then Some (decl_of P) else declaration_of (map decl_of Qs ++ es) n)
-    ≡ Some (decl_of (value_plan f x Atom d ((n, 0) ∷ [])))) (sym w.is)
-    (ap (λ c. if c then Some (decl_of (value_plan w.f w.x Atom w.d ((w.n, 0) ∷ []))) else declaration_of (map decl_of Qs ++ es) n)
+    subst (λ P. (if same_text (decl_of Cs P).name n then Some (decl_of Cs P) else declaration_of (map (decl_of Cs) Qs ++ es) n)
+    ≡ Some (decl_of Cs (value_plan f x Atom d ((n, 0) ∷ [])))) (sym w.is)
+    (ap (λ c. if c then Some (decl_of Cs (value_plan w.f w.x Atom w.d ((w.n, 0) ∷ []))) else declaration_of (map (decl_of Cs) Qs ++ es) n)
     (other w.n (and-left (not (is_among (keys (names_of_plans Qs)) w.n)) (all_distinct (keys (names_of_plans Qs))) t')
     (same_text w.n n) refl)
-    ∙ declared-in Qs h.1 es f x d n
+    ∙ declared-in Cs Qs h.1 es f x d n
     (and-right (not (is_among (keys (names_of_plans Qs)) w.n)) (all_distinct (keys (names_of_plans Qs))) t') i)
   where
     other : (k : Text) → not (is_among (keys (names_of_plans Qs)) k) ≡ true → (c : Bool) → same_text k n ≡ c → same_text k n ≡ false

@@ -1,5 +1,5 @@
 -- The plans of a specification of the class: atoms, one for each given and find.
-use Rattle.std.proofs.Common.{◌≡◌, refl, sym, ap, ◌∙◌, subst, Bool, true, false, ◌||◌, not, if◌then◌else◌, List, [], ◌∷◌, ◌++◌, ◌⊎◌, inl, inr, filter, map, codes, length, Some, None}
+use Rattle.std.proofs.Common.{◌≡◌, refl, sym, ap, ◌∙◌, subst, Bool, true, false, ◌||◌, not, if◌then◌else◌, List, [], ◌∷◌, ◌++◌, ◌⊎◌, inl, inr, filter, map, codes, None}
 use Rattle.std.specs.List.{list_all}
 use Rattle.ess_semantics.specs.declared.words.ReprKind.{ReprKind}
 use Rattle.ess_semantics.specs.Lists.{append_all, is_empty}
@@ -7,12 +7,9 @@ use Rattle.ess_semantics.specs.Values.{Text}
 use Rattle.ess_semantics.specs.Order.{same_text}
 use Rattle.ess_semantics.specs.Names.{keys, is_among, all_distinct, without}
 use Rattle.ess_semantics.specs.Trees.{Repr, repr, no_reprs, Dom, Stm, given, let_ex, let_dom, needs, find, such_that, minimise, maximise}
-use Rattle.ess_semantics.specs.Domains.{Domain}
 use Rattle.ess_semantics.specs.Contexts.{Each}
 use Rattle.ess_semantics.specs.TableNames.{free_name}
 use Rattle.ess_semantics.specs.Meaning.{is_bool_dom}
-use Rattle.ess_semantics.specs.Positions.{domain_with_positions}
-use Rattle.ess_semantics.specs.Declarations.{declarations}
 use Rattle.ess_semantics.specs.Prepared.{prepared}
 use Rattle.ess_semantics.specs.Parameters.{all_declared}
 use Rattle.ess_semantics.specs.Solutions.{finds}
@@ -21,12 +18,12 @@ use Rattle.ess_semantics.specs.Plans.{Options, Side, givens_side, finds_side, Pl
 use Rattle.ess_semantics.proofs.Tests.{and-left, and-right}
 use Rattle.ess_rules_laws.proofs.Agreement.{same_text-equal, same_text-itself}
 use Rattle.conjure_laws.specs.Members.{In}
-use Rattle.conjure_laws.specs.Premises.{here, PlanFits, Ground, RepresentationFits}
+use Rattle.conjure_laws.specs.Premises.{here, PlanFits, Ground}
 use Rattle.conjure_laws.proofs.Lists.{at-item, all-items, in-filter, each-map}
 use Rattle.conjure_laws.proofs.Statements.{finds-prepared}
 use Rattle.conjure_settled_laws.proofs.SettledStatements.{typed-is-settled}
-use Rattle.ess_flat_models_laws.specs.FlatSpecifications.{is_scalar_dom, is_atom_alone, is_flat_statement, are_flat_statements}
-use Rattle.ess_flat_models_laws.proofs.ScalarDomains.{Atom, closed, closed-is, closed-scalar, atom-fits, one-table}
+use Rattle.ess_flat_models_laws.specs.FlatSpecifications.{given_mark, is_scalar_dom, is_atom_alone, is_flat_statement, are_flat_statements}
+use Rattle.ess_flat_models_laws.proofs.ScalarDomains.{Atom, is_shape, shape-of, closed-scalar, atom-fits, one-table}
 
 -- A plan of a scalar.
 pub record AtomPlan (P : Plan) : Type 0 where
@@ -35,7 +32,7 @@ pub record AtomPlan (P : Plan) : Type 0 where
   pub d : Dom
   pub n : Text
   pub is : P ≡ value_plan f x Atom d ((n, 0) ∷ [])
-  pub scalar : is_scalar_dom d ≡ true
+  pub scalar : is_shape d ≡ true
 
 -- The name of the cell.
 abbrev pub cell_name : Text → List Text → Text
@@ -88,16 +85,16 @@ module _ (Ps : List Plan) (o : Options) where
   facts-from [] declared done h = tt
   facts-from (given x d ∷ T) declared done h =
       let i = head (given x d) T h in
-      let s = and-left (is_scalar_dom d) (is_atom_alone (chosen_reprs o x d)) i in
-      let a = and-right (is_scalar_dom d) (is_atom_alone (chosen_reprs o x d)) i in
+      let s = shape-of (given_mark Ps) d (and-left (is_scalar_dom (given_mark Ps) d) (is_atom_alone (chosen_reprs o x d)) i) in
+      let a = and-right (is_scalar_dom (given_mark Ps) d) (is_atom_alone (chosen_reprs o x d)) i in
       subst (λ l. Each l AtomPlan) (sym (plans-of-one givens_side x d T declared done a)) (
         record { f = givens_side; x = x; d = d; n = cell_name x (without x declared ++ done); is = refl; scalar = s },
         facts-from T declared (cell_name x (without x declared ++ done) ∷ done) (tail (given x d) T h),
       )
   facts-from (find x d ∷ T) declared done h =
       let i = head (find x d) T h in
-      let s = and-left (is_scalar_dom d) (is_atom_alone (chosen_reprs o x d)) i in
-      let a = and-right (is_scalar_dom d) (is_atom_alone (chosen_reprs o x d)) i in
+      let s = shape-of (given_mark Ps) d (and-left (is_scalar_dom (given_mark Ps) d) (is_atom_alone (chosen_reprs o x d)) i) in
+      let a = and-right (is_scalar_dom (given_mark Ps) d) (is_atom_alone (chosen_reprs o x d)) i in
       subst (λ l. Each l AtomPlan) (sym (plans-of-one finds_side x d T declared done a)) (
         record { f = finds_side; x = x; d = d; n = cell_name x (without x declared ++ done); is = refl; scalar = s },
         facts-from T declared (cell_name x (without x declared ++ done) ∷ done) (tail (find x d) T h),
@@ -116,11 +113,11 @@ module _ (Ps : List Plan) (o : Options) where
       filter (is_plan_of x) (plans_from T o declared done) ≡ []
   no-plan [] declared done x h n = refl
   no-plan (given y d ∷ T) declared done x h n =
-      let a = and-right (is_scalar_dom d) (is_atom_alone (chosen_reprs o y d)) (head (given y d) T h) in
+      let a = and-right (is_scalar_dom (given_mark Ps) d) (is_atom_alone (chosen_reprs o y d)) (head (given y d) T h) in
       ap (filter (is_plan_of x)) (plans-of-one givens_side y d T declared done a)
       ∙ no-plan T declared (cell_name y (without y declared ++ done) ∷ done) x (tail (given y d) T h) n
   no-plan (find y d ∷ T) declared done x h n =
-      let a = and-right (is_scalar_dom d) (is_atom_alone (chosen_reprs o y d)) (head (find y d) T h) in
+      let a = and-right (is_scalar_dom (given_mark Ps) d) (is_atom_alone (chosen_reprs o y d)) (head (find y d) T h) in
       ap (filter (is_plan_of x)) (plans-of-one finds_side y d T declared done a)
       ∙ go (same_text y x) (is_among (finds T) x) n
       (no-plan T declared (cell_name y (without y declared ++ done) ∷ done) x (tail (find y d) T h))
@@ -148,11 +145,11 @@ module _ (Ps : List Plan) (o : Options) where
       In x (finds T) → (P : Plan) × (filter (is_plan_of x) (plans_from T o declared done) ≡ P ∷ [])
   one-plan [] declared done x h n i = absurd i
   one-plan (given y d ∷ T) declared done x h n i =
-      let a = and-right (is_scalar_dom d) (is_atom_alone (chosen_reprs o y d)) (head (given y d) T h) in
+      let a = and-right (is_scalar_dom (given_mark Ps) d) (is_atom_alone (chosen_reprs o y d)) (head (given y d) T h) in
       let r = one-plan T declared (cell_name y (without y declared ++ done) ∷ done) x (tail (given y d) T h) n i in
       (r.0, ap (filter (is_plan_of x)) (plans-of-one givens_side y d T declared done a) ∙ r.1)
   one-plan (find y d ∷ T) declared done x h n i =
-      let a = and-right (is_scalar_dom d) (is_atom_alone (chosen_reprs o y d)) (head (find y d) T h) in
+      let a = and-right (is_scalar_dom (given_mark Ps) d) (is_atom_alone (chosen_reprs o y d)) (head (find y d) T h) in
       let r = go (same_text y x) refl i (and-left (not (is_among (finds T) y)) (all_distinct (finds T)) n)
       (no-plan T declared (cell_name y (without y declared ++ done) ∷ done) x (tail (find y d) T h))
       (one-plan T declared (cell_name y (without y declared ++ done) ∷ done) x (tail (find y d) T h)
@@ -195,11 +192,12 @@ module _ (Ps : List Plan) (o : Options) where
       Each (append_all (map domain_of_stm T)) (λ x. is_empty (chosen_reprs o x.0 x.1) ≡ false)
   chosen-from [] h = tt
   chosen-from (given x d ∷ T) h = (
-    not-empty (chosen_reprs o x d) (and-right (is_scalar_dom d) (is_atom_alone (chosen_reprs o x d)) (head (given x d) T h)),
+    not-empty (chosen_reprs o x d)
+        (and-right (is_scalar_dom (given_mark Ps) d) (is_atom_alone (chosen_reprs o x d)) (head (given x d) T h)),
     chosen-from T (tail (given x d) T h),
   )
   chosen-from (find x d ∷ T) h = (
-    not-empty (chosen_reprs o x d) (and-right (is_scalar_dom d) (is_atom_alone (chosen_reprs o x d)) (head (find x d) T h)),
+    not-empty (chosen_reprs o x d) (and-right (is_scalar_dom (given_mark Ps) d) (is_atom_alone (chosen_reprs o x d)) (head (find x d) T h)),
     chosen-from T (tail (find x d) T h),
   )
   chosen-from (needs e ∷ T) h = chosen-from T (tail (needs e) T h)
@@ -230,14 +228,9 @@ module _ (S : List Stm) (o : Options) (h : are_flat_statements S o ≡ true) whe
       (subst (λ l. all_distinct l ≡ true) (sym (finds-prepared S)) n) (subst (In x) (sym (finds-prepared S)) i)
 
   fits : (P : Plan) → AtomPlan P → PlanFits S P
-  fits P a = subst (PlanFits S) (sym a.is) (λ p e Q c. at e (sym (closed-is a.d (here S p) a.scalar) ∙ c))
-    where
-      at : (e : Domain) → Some (closed a.d) ≡ Some e → RepresentationFits Atom e ×
-          (1 ≡ length (declarations Atom (domain_with_positions e)))
-      at e q =
-          let z : closed a.d ≡ e = cc in
-          subst (λ e. RepresentationFits Atom e × (1 ≡ length (declarations Atom (domain_with_positions e)))) z
-          (atom-fits a.d a.scalar, sym (one-table (closed a.d) (is_bool_dom a.d) (closed-scalar a.d a.scalar)))
+  fits P a = subst (PlanFits S) (sym a.is) (λ p e Q c.
+      let z = closed-scalar a.d (here S p) e a.scalar c in
+      (atom-fits e (is_bool_dom a.d) z, sym (one-table e (is_bool_dom a.d) z)))
 
   -- What speaks of no model.
   pub ground : fault S ≡ None → Ground S o

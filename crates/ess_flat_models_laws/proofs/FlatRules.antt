@@ -1,5 +1,5 @@
 -- The rules of a model of the class say what its constraints say.
-use Rattle.std.proofs.Common.{◌≡◌, refl, sym, ap, ◌∙◌, subst, Bool, true, List, [], ◌∷◌, ◌++◌, map, Some, None, option_map}
+use Rattle.std.proofs.Common.{◌≡◌, refl, sym, ap, ◌∙◌, subst, Bool, true, List, [], ◌∷◌, ◌++◌, map, Option, Some, None, option_map}
 use Rattle.std.specs.List.{list_all}
 use Rattle.ess_semantics.specs.Values.{Text, Value}
 use Rattle.ess_semantics.specs.Names.{Names, look}
@@ -7,7 +7,7 @@ use Rattle.ess_semantics.specs.Trees.{Ex, cell_ex, no_exs, Dom, Stm, given, let_
 use Rattle.ess_semantics.specs.Domains.{Domain}
 use Rattle.ess_semantics.specs.Membership.{member}
 use Rattle.ess_semantics.specs.Tables.{Table, Tables}
-use Rattle.ess_semantics.specs.Meaning.{meaning, domain_of, is_bool_dom, is_true}
+use Rattle.ess_semantics.specs.Meaning.{Env, meaning, domain_of, is_bool_dom, is_true}
 use Rattle.ess_semantics.specs.Positions.{with_positions, domain_with_positions}
 use Rattle.ess_semantics.specs.Prepared.{prepared}
 use Rattle.ess_semantics.specs.Assignments.{Assignment, value_of, env_of}
@@ -26,18 +26,20 @@ use Rattle.conjure_laws.specs.Views.{tables_with}
 use Rattle.conjure_laws.proofs.Lists.{at-item, in-filtered}
 use Rattle.conjure_laws.proofs.Statements.{plan-is-found}
 use Rattle.conjure_laws.proofs.Givens.{given-found, given-from}
+use Rattle.conjure_laws.proofs.Lookups.{look-left}
 use Rattle.conjure_laws.proofs.Matching.{Match, canonical-matched}
 use Rattle.conjure_laws.proofs.MatchedTables.{Found, matched-found}
 use Rattle.conjure_model_laws.proofs.ViewValues.{views-have-values}
 use Rattle.conjure_settled_laws.specs.EndValues.{IsInEnv}
 use Rattle.conjure_settled_laws.proofs.EndValues.{typed-has-end-values}
 use Rattle.ess_flat_laws.specs.Flat.{Flat, none_marked}
-use Rattle.ess_flat_models_laws.specs.FlatSpecifications.{is_scalar_dom, scalar_mark, is_flat_truth, is_flat_statement, are_flat_statements}
-use Rattle.ess_flat_models_laws.specs.FlatModels.{flat_rule, flat_model}
+use Rattle.ess_flat_models_laws.specs.FlatSpecifications.{given_mark, is_scalar_dom, scalar_mark, is_flat_truth, is_flat_statement, are_flat_statements}
+use Rattle.ess_flat_models_laws.specs.FlatModels.{flat_rule, dom_with_cells, flat_model}
 use Rattle.ess_flat_models_laws.proofs.PreparedStatements.{truth-flat}
-use Rattle.ess_flat_models_laws.proofs.ScalarDomains.{Atom, closed, closed-is, closed-plain, closed-scalar, scalar-meets}
+use Rattle.ess_flat_models_laws.proofs.ScalarDomains.{Atom, is_shape, closed-plain, closed-scalar}
 use Rattle.ess_flat_models_laws.proofs.FlatPlans.{all-atoms}
-use Rattle.ess_flat_models_laws.proofs.FlatLayers.{base}
+use Rattle.ess_flat_models_laws.proofs.GivenValues.{held as given-held}
+use Rattle.ess_flat_models_laws.proofs.FlatBounds.{plan-bounds, dom-same, dom-meets, base}
 use Rattle.ess_flat_models_laws.proofs.FlatValues.{Marked}
 use Rattle.ess_flat_models_laws.proofs.FlatSimplified.{simpler}
 use Rattle.ess_flat_models_laws.proofs.FlatCells.{cells-flat, cells-mean}
@@ -69,36 +71,42 @@ module _ (S : List Stm) (o : Options) (h : are_flat_statements S o ≡ true) whe
     one-value : (v w : Value) → Some v ≡ Some w → v ≡ w
     one-value v w e = cc
 
-    has : (f : Side) (x : Text) (d : Dom) (n : Text) → In (value_plan f x Atom d ((n, 0) ∷ [])) Ps → is_scalar_dom d ≡ true →
+    has : (f : Side) (x : Text) (d : Dom) (n : Text) → In (value_plan f x Atom d ((n, 0) ∷ [])) Ps → is_shape d ≡ true →
         (b : Assignment) (ts : Tables) (m : Match S p b x Atom d ((n, 0) ∷ []) ts) →
         (w : Value) → value_of b x ≡ Some w → meaning (cell_ex (is_bool_dom d) n no_exs) (env_of_tables (q ++ c)) ≡ Some
         (with_positions w) →
         look (env_of S p a).vals x ≡ value_of b x → PlanHas x d n
     has f x d n i s b ts m w e k l =
         let z : m.v ≡ w = one-value m.v w (sym m.value ∙ e) in
-        let y : m.e ≡ closed d = one m.e (closed d) (sym m.closed ∙ closed-is d (here S p) s) in
         let r : Marked (is_bool_dom d) w =
-        marked-member (closed d) (is_bool_dom d) (closed-scalar d s) w
-        (ap (λ g. member g w) (sym y) ∙ ap (member m.e) (sym z) ∙ m.inside) in
+        marked-member m.e (is_bool_dom d) (closed-scalar d (here S p) m.e s m.closed) w (ap (member m.e) (sym z) ∙ m.inside) in
         record { v = w; marked = r; value = l ∙ e; held = k ∙ ap (λ u. Some u) (marked-plain r) }
-      where
-        one : (d e : Domain) → Some d ≡ Some e → d ≡ e
-        one d e q = cc
 
     -- Each plan has.
-    pub plan-has : (f : Side) (x : Text) (d : Dom) (n : Text) → In (value_plan f x Atom d ((n, 0) ∷ [])) Ps → is_scalar_dom d ≡ true →
+    pub plan-has : (f : Side) (x : Text) (d : Dom) (n : Text) → In (value_plan f x Atom d ((n, 0) ∷ [])) Ps → is_shape d ≡ true →
         PlanHas x d n
     plan-has f x d n i s = go f i
       where
-        same-dom : domain_of d (tables_with S p (q ++ c) []) ≡ plan_domain d (here S p)
-        same-dom = closed-is d (tables_with S p (q ++ c) []) s
-            ∙ sym (ap (option_map domain_with_positions) (closed-is d (here S p) s) ∙ ap (λ e. Some e) (closed-plain d s))
+        there : Env
+        there = tables_with S p (q ++ c) []
+
+        b : is_scalar_dom (given_mark Ps) d ≡ true
+        b = plan-bounds S o h f x d n i
+
+        plain : (r : Option Domain) → domain_of d (here S p) ≡ r → domain_of d (here S p) ≡ option_map domain_with_positions r
+        plain None e = e
+        plain (Some f) e = e ∙ ap (λ z. Some z) (sym (closed-plain (closed-scalar d (here S p) f s e)))
+
+        same-dom : domain_of (dom_with_cells Ps d) there ≡ plan_domain d (here S p)
+        same-dom = dom-same (given_mark Ps) Ps (here S p) there (given-held S o h t p q I there (λ n t e. look-left q c n t e)) d b
+            ∙ plain (domain_of d (here S p)) refl
 
         go : (f : Side) → In (value_plan f x Atom d ((n, 0) ∷ [])) Ps → PlanHas x d n
         go givens_side i =
             let F = given-found S o (base S o h t).ground p q I x Atom d ((n, 0) ∷ []) i in
-            let V = views-have-values S o E (base S o h t) p a q c I C givens_side x Atom d ((n, 0) ∷ []) i d [] same-dom
-            (scalar-meets d (tables_with S p (q ++ c) []) s) in
+            let V = views-have-values S o E (base S o h t) p a q c I C givens_side x Atom d ((n, 0) ∷ []) i (dom_with_cells Ps d) []
+            same-dom
+            (dom-meets (given_mark Ps) Ps d b there) in
             has givens_side x d n i s p F.0 F.1 V.0 V.1 V.2.0
             (at-item (IsInEnv S p a (env_of S p a)) (prepared S) (given x d) (typed-has-end-values S p a t I.param).declared
             (given-from (prepared S) o (all_declared S) _ x Atom d ((n, 0) ∷ []) i))
@@ -106,8 +114,8 @@ module _ (S : List Stm) (o : Options) (h : are_flat_statements S o ≡ true) whe
             let F = at-item (Found S o E (base S o h t) p q I a c) Fs (value_plan finds_side x Atom d ((n, 0) ∷ []))
             (matched-found S o E (base S o h t) p q I a c (canonical-matched S o E (base S o h t) p q I a c C.members C.tables))
             (in-filtered (is_on finds_side) (value_plan finds_side x Atom d ((n, 0) ∷ [])) Ps i refl) in
-            let V = views-have-values S o E (base S o h t) p a q c I C finds_side x Atom d ((n, 0) ∷ []) i d [] same-dom
-            (scalar-meets d (tables_with S p (q ++ c) []) s) in
+            let V = views-have-values S o E (base S o h t) p a q c I C finds_side x Atom d ((n, 0) ∷ []) i (dom_with_cells Ps d) [] same-dom
+            (dom-meets (given_mark Ps) Ps d b there) in
             has finds_side x d n i s a F.0 F.1 V.0 V.1 V.2.0
             (at-item (IsInEnv S p a (env_of S p a)) (prepared S) (find x d) (typed-has-end-values S p a t I.param).declared
             (plan-is-found S o x Atom d ((n, 0) ∷ []) i))

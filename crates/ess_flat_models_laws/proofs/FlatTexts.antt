@@ -6,6 +6,9 @@ use Rattle.ess_semantics.specs.Lists.{append_all}
 use Rattle.ess_semantics.specs.Values.{Text}
 use Rattle.ess_semantics.specs.Order.{same_int}
 use Rattle.ess_semantics.specs.Prepared.{prepared}
+use Rattle.ess_semantics.specs.Plans.{Plan}
+use Rattle.ess_semantics.specs.Models.{scalar_cell, with_cells, all_with_cells}
+use Rattle.ess_flat_models_laws.specs.FlatModels.{dom_with_cells}
 use Rattle.ess_semantics.specs.Trees.{Ex, Exs, no_exs, more_exs, Dom, bool_dom, int_dom, Stm}
 use Rattle.ess_semantics.specs.Contexts.{Each}
 use Rattle.ess_semantics.specs.Occurrences.{parts_of, parts_of_all, parts_of_dom}
@@ -18,7 +21,7 @@ use Rattle.conjure_laws.proofs.SetCells.{is-const}
 use Rattle.ess_flat_laws.specs.Flat.{Flat, number as number_is, truth as truth_is, named, cell, one, two, chosen, none_marked}
 use Rattle.ess_flat_models_laws.specs.FlatSpecifications.{is_scalar_dom}
 use Rattle.ess_flat_models_laws.proofs.FlatValues.{AllNumbers, NumbersOfAll}
-use Rattle.ess_flat_models_laws.proofs.Reckoned.{AllReckoned, reckoned-flat, bounds-reckoned}
+use Rattle.ess_flat_models_laws.proofs.Reckoned.{AllReckoned, reckoned-flat, cells-reckoned, reckoned-numbers, bounds-reckoned}
 use Rattle.ess_flat_models_laws.proofs.SimpleTrees.{maps-append, is_simple, are_simple, is_simple_dom, DomNumbers, NumbersAre}
 use Rattle.ess_flat_models_laws.proofs.PreparedNumbers.{prepared-numbers}
 use Rattle.ess_flat_models_laws.proofs.FlatNames.{no-yes}
@@ -61,16 +64,19 @@ module _ (S : List Stm) where
   numbers-spelled names marks (chosen {x = x} f) n = spelled-append (parts_of x) [] (numbers-spelled names marks f n.0) refl
 
   -- So do bounds.
-  bounds-spelled : (es : Exs) → AllReckoned es → NumbersOfAll IsConst es → spelled S (parts_of_all es) ≡ true
-  bounds-spelled no_exs w n = refl
-  bounds-spelled (more_exs e es) w n =
-      spelled-append (parts_of e) (parts_of_all es)
-      (numbers-spelled none_marked none_marked (reckoned-flat none_marked none_marked w.0) n.0) (bounds-spelled es w.1 n.1)
+  module _ (g : Text → Option Bool) (Ps : List Plan) (c : Text → Option Bool)
+      (q : (a : Text) → g a ≡ Some false → (n : Text) × (scalar_cell Ps a ≡ Some (false, n)) × (c n ≡ Some false)) where
+    bounds-spelled : (es : Exs) → AllReckoned g es → NumbersOfAll IsConst es → spelled S (parts_of_all (all_with_cells Ps es)) ≡ true
+    bounds-spelled no_exs w n = refl
+    bounds-spelled (more_exs e es) w n =
+        spelled-append (parts_of (with_cells Ps e)) (parts_of_all (all_with_cells Ps es))
+        (numbers-spelled none_marked c (reckoned-flat none_marked c (cells-reckoned g Ps c q w.0)) (reckoned-numbers g Ps IsConst w.0 n.0))
+        (bounds-spelled es w.1 n.1)
 
-  pub dom-spelled : (d : Dom) → is_scalar_dom d ≡ true → DomNumbers IsConst d → spelled S (parts_of_dom d) ≡ true
-  dom-spelled bool_dom h n = refl
-  dom-spelled (int_dom rs es) h n = bounds-spelled es (bounds-reckoned rs es h) n
-  dom-spelled d h n = absurd (no-yes h)
+    pub dom-spelled : (d : Dom) → is_scalar_dom g d ≡ true → DomNumbers IsConst d → spelled S (parts_of_dom (dom_with_cells Ps d)) ≡ true
+    dom-spelled bool_dom h n = refl
+    dom-spelled (int_dom rs es) h n = bounds-spelled es (bounds-reckoned g rs es h) n
+    dom-spelled d h n = absurd (no-yes h)
 
   in-consts : (R : List Stm) (s : Stm) (n : ℤ) → In s R → In n (constants_of_stm s) → In n (append_all (map constants_of_stm R))
   in-consts [] s n i j = absurd i
@@ -103,12 +109,12 @@ flat-simple names (one {x = x} w f) = and-both (is_simple x) true (flat-simple n
 flat-simple names (two {x = x} {y = y} w f h c) = both (is_simple x) (is_simple y) (flat-simple names f) (flat-simple names h)
 flat-simple names (chosen {x = x} f) = and-both (is_simple x) true (flat-simple names f) refl
 
-bounds-simple : (es : Exs) → AllReckoned es → are_simple es ≡ true
-bounds-simple no_exs w = refl
-bounds-simple (more_exs e es) w =
-    and-both (is_simple e) (are_simple es) (flat-simple none_marked (reckoned-flat none_marked none_marked w.0)) (bounds-simple es w.1)
+bounds-simple : (g : Text → Option Bool) (es : Exs) → AllReckoned g es → are_simple es ≡ true
+bounds-simple g no_exs w = refl
+bounds-simple g (more_exs e es) w =
+    and-both (is_simple e) (are_simple es) (flat-simple g (reckoned-flat g none_marked w.0)) (bounds-simple g es w.1)
 
-pub scalar-simple : (d : Dom) → is_scalar_dom d ≡ true → is_simple_dom d ≡ true
-scalar-simple bool_dom h = refl
-scalar-simple (int_dom rs es) h = bounds-simple es (bounds-reckoned rs es h)
-scalar-simple d h = absurd (no-yes h)
+pub scalar-simple : (g : Text → Option Bool) (d : Dom) → is_scalar_dom g d ≡ true → is_simple_dom d ≡ true
+scalar-simple g bool_dom h = refl
+scalar-simple g (int_dom rs es) h = bounds-simple g es (bounds-reckoned g rs es h)
+scalar-simple g d h = absurd (no-yes h)

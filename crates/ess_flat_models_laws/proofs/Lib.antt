@@ -19,6 +19,10 @@ pub mod FlatKinds
 pub mod FlatNames
 pub mod FlatDeclared
 -- Rules
+-- Values of givens, and domains over cells
+pub mod GivenValues
+pub mod GivenPlaces
+pub mod FlatBounds
 pub mod FlatRules
 pub mod FlatGoals
 -- Texts

@@ -1,22 +1,21 @@
--- Domains of scalars whose bounds numbers alone make: they are closed in each env, to the same domain, and tables that fit are canonical.
-use Rattle.std.proofs.Common.{◌≡◌, refl, sym, ap, ◌∙◌, suc, Bool, true, false, ◌&&◌, nat_eq, List, [], ◌∷◌, length, ℤ, Some, option_map, arith}
+-- Domains of scalars: to what they are closed, and that tables which fit are canonical.
+use Rattle.std.proofs.Common.{◌≡◌, refl, subst, suc, Bool, true, false, ◌&&◌, nat_eq, List, [], ◌∷◌, length, ℤ, Option, Some, None, option_map, arith}
 use Rattle.std.specs.List.{list_all}
 use Rattle.std.proofs.lemmas.Bool.{eqb-true}
 use Rattle.ess_semantics.specs.declared.words.ReprKind.{ReprKind}
-use Rattle.ess_semantics.specs.Lists.{is_some_and, or_default}
+use Rattle.ess_semantics.specs.Lists.{is_some_and}
+use Rattle.ess_semantics.specs.Values.{Text}
 use Rattle.ess_semantics.specs.Trees.{Repr, repr, no_reprs, Dom, bool_dom, int_dom}
 use Rattle.ess_semantics.specs.Domains.{Span, Domain, booleans, integers}
 use Rattle.ess_semantics.specs.Tables.{Table, Tables, is_filled, same_axes, cell_at, item_in, is_cell}
 use Rattle.ess_semantics.specs.Cells.{cells_of}
 use Rattle.ess_semantics.specs.Declarations.{declarations}
 use Rattle.ess_semantics.specs.CanonicalTest.{canonical}
-use Rattle.ess_semantics.specs.Meaning.{Env, empty_env, meanings, spans_of, domain_of, is_bool_dom}
+use Rattle.ess_semantics.specs.Meaning.{Env, meanings, spans_of, domain_of, is_bool_dom}
 use Rattle.ess_semantics.specs.Positions.{domain_with_positions}
-use Rattle.ess_semantics.specs.Meets.{MeetsDom}
 use Rattle.ess_semantics.proofs.Tests.{and-left, and-right}
 use Rattle.conjure_laws.specs.Premises.{table_is, tables_are, RepresentationFits}
 use Rattle.ess_flat_models_laws.specs.FlatSpecifications.{is_scalar_dom}
-use Rattle.ess_flat_models_laws.proofs.Reckoned.{ranges-are, bounds-reckoned, bounds-meet}
 
 -- The representation of a scalar.
 abbrev pub Atom : Repr
@@ -27,40 +26,41 @@ no e = cc
 
 -- ---- closed domains
 
--- The closed domain.
-abbrev pub closed : Dom → Domain
-closed (int_dom rs es) = integers (or_default (spans_of rs (meanings es empty_env)) [])
-closed d = booleans
+-- Whether it is the domain of truth values, or one of numbers.
+abbrev pub is_shape : Dom → Bool
+is_shape bool_dom = true
+is_shape (int_dom rs es) = true
+is_shape d = false
 
--- The domain is closed to it in each env.
-pub closed-is : (d : Dom) (env : Env) → is_scalar_dom d ≡ true → domain_of d env ≡ Some (closed d)
-closed-is bool_dom env h = refl
-closed-is (int_dom rs es) env h =
-    let r = ranges-are rs es h in
-    ap (option_map integers) (r.1 env) ∙ ap (λ o. Some (integers (or_default o []))) (sym (r.1 empty_env))
-closed-is d env h = cc
+pub shape-of : (g : Text → Option Bool) (d : Dom) → is_scalar_dom g d ≡ true → is_shape d ≡ true
+shape-of g bool_dom h = refl
+shape-of g (int_dom rs es) h = refl
+shape-of g d h = absurd (no h)
 
--- It has no position.
-pub closed-plain : (d : Dom) → is_scalar_dom d ≡ true → domain_with_positions (closed d) ≡ closed d
-closed-plain bool_dom h = refl
-closed-plain (int_dom rs es) h = refl
-closed-plain d h = cc
-
--- Its cells are those of the domain, and its form tells whether it is bool.
+-- Its form tells whether it is bool.
 pub data Scalar : Domain → Bool → Type 0 where
   of_truths : Scalar booleans true
   of_numbers : {ss : List Span} → Scalar (integers ss) false
 
-pub closed-scalar : (d : Dom) → is_scalar_dom d ≡ true → Scalar (closed d) (is_bool_dom d)
-closed-scalar bool_dom h = of_truths
-closed-scalar (int_dom rs es) h = of_numbers
-closed-scalar d h = absurd (no h)
+integers-are : (o : Option (List Span)) (e : Domain) → option_map integers o ≡ Some e → Scalar e false
+integers-are None e q = cc
+integers-are (Some ss) e q = let z : integers ss ≡ e = cc in subst (λ e. Scalar e false) z of_numbers
+
+-- What a scalar's domain is closed to.
+pub closed-scalar : (d : Dom) (env : Env) (e : Domain) → is_shape d ≡ true → domain_of d env ≡ Some e → Scalar e (is_bool_dom d)
+closed-scalar bool_dom env e h q = let z : booleans ≡ e = cc in subst (λ e. Scalar e true) z of_truths
+closed-scalar (int_dom rs es) env e h q = integers-are (spans_of rs (meanings es env)) e q
+closed-scalar d env e h q = absurd (no h)
+
+-- It has no position.
+pub closed-plain : {e : Domain} {b : Bool} → Scalar e b → domain_with_positions e ≡ e
+closed-plain of_truths = refl
+closed-plain of_numbers = refl
 
 -- A representation as an atom fits.
-pub atom-fits : (d : Dom) → is_scalar_dom d ≡ true → RepresentationFits Atom (closed d)
-atom-fits bool_dom h = record { typed = tt; roomy = tt }
-atom-fits (int_dom rs es) h = record { typed = tt; roomy = tt }
-atom-fits d h = absurd (no h)
+pub atom-fits : (e : Domain) (b : Bool) → Scalar e b → RepresentationFits Atom e
+atom-fits e b of_truths = record { typed = tt; roomy = tt }
+atom-fits e b of_numbers = record { typed = tt; roomy = tt }
 
 -- There is one table.
 pub one-table : (e : Domain) (b : Bool) → Scalar e b → length (declarations Atom (domain_with_positions e)) ≡ 1
@@ -107,11 +107,3 @@ atom-canonical e b (of_numbers {ss = ss}) (t ∷ []) h =
     (cell-fits (integers ss) t (and-left (table_is (record { axes = []; cell = integers ss }) t) true h))
 atom-canonical e b (of_numbers {ss = ss}) (t ∷ u ∷ ts) h =
     let z = and-right (table_is (record { axes = []; cell = integers ss }) t) false h in cc
-
--- ---- structures of domains
-
--- Bounds ask nothing of tables.
-pub scalar-meets : (d : Dom) (env : Env) → is_scalar_dom d ≡ true → MeetsDom d env
-scalar-meets bool_dom env h = tt
-scalar-meets (int_dom rs es) env h = bounds-meet es (bounds-reckoned rs es h) env
-scalar-meets d env h = absurd (no h)

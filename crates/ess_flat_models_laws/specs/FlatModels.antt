@@ -1,5 +1,5 @@
--- The model of a specification of scalars: each is a single cell with its domain, and each constraint and the objective stand with cells in
--- the place of names, simplified.
+-- The model of a specification of scalars: each is a single cell with its domain; bounds, constraints and the objective stand with cells in
+-- the place of names, constraints and the objective simplified.
 use Rattle.std.specs.Prelude.{true, List, [], ◌∷◌, ◌++◌, map}
 use Rattle.ess_semantics.specs.Values.{Text}
 use Rattle.ess_semantics.specs.Trees.{Ex, truth_ex, no_exs, Dom, int_dom, Stm}
@@ -8,7 +8,7 @@ use Rattle.ess_semantics.specs.DeclaredTables.{TableDecl}
 use Rattle.ess_semantics.specs.Prepared.{prepared}
 use Rattle.ess_semantics.specs.Plans.{Options, Plan, size_plan, value_plan, givens_side, finds_side, plans, plans_for}
 use Rattle.ess_semantics.specs.ModelTrees.{Model, Goal, no_goal, least, greatest, goal_of}
-use Rattle.ess_semantics.specs.Models.{constraints_of, with_cells}
+use Rattle.ess_semantics.specs.Models.{constraints_of, with_cells, all_with_cells}
 use Rattle.ess_simplify_laws.specs.Simplifying.{simplified}
 
 -- The rule of a constraint. Refined trees are simplified before keys are made plain, and behind it.
@@ -20,15 +20,15 @@ abbrev pub first_table : List Named → Text
 first_table [] = []
 first_table (n ∷ ns) = n.0
 
--- The domain of a plan. The class has no sizes of types.
-abbrev pub dom_of_plan : Plan → Dom
-dom_of_plan (size_plan t n) = int_dom [] no_exs
-dom_of_plan (value_plan f x r d ns) = d
+-- A domain with cells in the place of names.
+abbrev pub dom_with_cells : List Plan → Dom → Dom
+dom_with_cells Ps (int_dom rs es) = int_dom rs (all_with_cells Ps es)
+dom_with_cells Ps d = d
 
--- The declaration of a plan's cell.
-abbrev pub decl_of : Plan → TableDecl
-decl_of (size_plan t n) = record { name = n; axes = []; cell = dom_of_plan (size_plan t n) }
-decl_of (value_plan f x r d ns) = record { name = first_table ns; axes = []; cell = d }
+-- The declaration of a plan's cell. The class has no sizes of types.
+abbrev pub decl_of : List Plan → Plan → TableDecl
+decl_of Ps (size_plan t n) = record { name = n; axes = []; cell = int_dom [] no_exs }
+decl_of Ps (value_plan f x r d ns) = record { name = first_table ns; axes = []; cell = dom_with_cells Ps d }
 
 -- The objective of the model.
 abbrev pub flat_goal : List Plan → Goal → Goal
@@ -45,8 +45,8 @@ goal_rules (greatest e) = truth_ex true ∷ []
 -- The model. Lettings are put in.
 abbrev pub flat_model : List Stm → Options → Model
 flat_model S o = record {
-  givens = map decl_of (plans_for givens_side S o);
-  finds = map decl_of (plans_for finds_side S o);
+  givens = map (decl_of (plans S o)) (plans_for givens_side S o);
+  finds = map (decl_of (plans S o)) (plans_for finds_side S o);
   goal = flat_goal (plans S o) (goal_of (prepared S));
   rules = goal_rules (goal_of (prepared S)) ++ map (flat_rule (plans S o)) (constraints_of (prepared S));
 }

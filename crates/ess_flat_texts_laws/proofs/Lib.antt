@@ -6,6 +6,7 @@ pub mod SpelledTrees
 pub mod PreparedTokens
 -- Declarations
 pub mod SpelledDeclarations
+pub mod BoundedPlans
 -- The law
 pub mod ReadableModels
 -- Worked examples
