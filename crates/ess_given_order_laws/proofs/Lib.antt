@@ -1,0 +1,13 @@
+pub mod OrderedParts
+pub mod OrderOfListings
+pub mod OrderOfFolds
+pub mod OrderOfComparisons
+pub mod OrderOfContainers
+pub mod OrderOfLiterals
+pub mod OrderOfConditions
+pub mod OrderOfRules
+pub mod RulesInOrder
+pub mod ToldOrder
+pub mod OrderStays
+pub mod OrderEnds
+pub mod OrderInScope
