@@ -1,0 +1,6 @@
+-- The test
+pub mod TestedTrees
+-- Meaning, and trees over cells
+pub mod ShownTrees
+-- Worked examples
+mod Examples

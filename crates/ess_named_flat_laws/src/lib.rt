@@ -1,0 +1,4 @@
+//! Flat trees over scalars that may be values of named types, in models.
+#![tactic(auto)]
+
+pub mod laws;
