@@ -235,7 +235,7 @@ module _ (T : List Line) (t : is_well_typed (spec T) ≡ true) where
   no-goal-here (holds_lit l x ∷ U) = no-goal-here U
 
   -- What is built is a model of the specification.
-  built-model : (H : Header) (E : Model) → IsBuilt S' no_options H E → IsMemberModel T E
+  pub built-model : (H : Header) (E : Model) → IsBuilt S' no_options H E → IsMemberModel T E
   built-model H E B =
       let sc : Scope = scope_of_tables E.givens E.finds in
       let R = B.rules in

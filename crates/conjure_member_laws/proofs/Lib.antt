@@ -2,3 +2,5 @@
 pub mod MemberChains
 -- What is built
 pub mod BuiltSets
+-- Models that are built with options that choose alike
+pub mod BuiltAlike

@@ -26,7 +26,8 @@ pub record StandsForListed (list : Option Text) (text model : Text) : Type 0 whe
   pub exact : IsExact S o E
 
 -- With these options the specification is one of scalars with flat and total constraints, and each line of its model's header is within the
--- limit of load, by which it is read again. Lines of declarations always are; a condition is printed with more brackets than it may have.
+-- limit of load, by which it is read again. Lines with at most one operator a bound or letting always are; other expressions are printed
+-- with more brackets than they may have in the text.
 pub record IsFlatWith (S : List Stm) (o : Options) : Type 0 where
   pub flat : is_flat_specification S o ≡ true
   pub shallow : AreShallow (header_texts (header_of S o))

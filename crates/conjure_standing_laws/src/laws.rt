@@ -1,8 +1,13 @@
 //! The law of what is written for texts of specifications of scalars, the contract of a function that does nothing.
 
-ghost use Rattle.conjure_standing_laws.specs.Laws.{WrittenModelsOfScalarsStand};
+ghost use Rattle.conjure_standing_laws.specs.Laws.{WrittenModelsOfScalarsStand, WrittenModelsOfSetsStand};
 
 /// What is written for a text of a specification of scalars with flat and total constraints stands for it.
 pub fn written_models_of_scalars_stand()
     ensures { WrittenModelsOfScalarsStand }
+{}
+
+/// What is written for a text of a specification of sets of atoms with memberships stands for it.
+pub fn written_models_of_sets_stand()
+    ensures { WrittenModelsOfSetsStand }
 {}

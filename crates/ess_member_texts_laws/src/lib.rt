@@ -1,0 +1,4 @@
+//! Models of specifications of sets of atoms are spelled by texts.
+#![tactic(auto)]
+
+pub mod laws;
