@@ -1,0 +1,210 @@
+-- What is built of a specification of the class is a model of it, so a right one.
+use Rattle.std.proofs.Common.{◌≡◌, refl, sym, ap, ◌∙◌, subst, ℕ, Bool, true, false, ◌&&◌, ◌||◌, List, [], ◌∷◌, ◌++◌, ◌⊎◌, inl, inr, Option, Some, None}
+use Rattle.std.specs.List.{list_all}
+use Rattle.ess_semantics.specs.declared.words.Op2.{Op2}
+use Rattle.ess_semantics.specs.Lists.{is_some_and}
+use Rattle.ess_semantics.specs.Values.{Text}
+use Rattle.ess_semantics.specs.Names.{look}
+use Rattle.ess_semantics.specs.Trees.{Ex, truth_ex, name_ex, Dom, Stm, given, given_enum, let_ex, let_dom, let_enum, let_unnamed, needs, find, such_that, minimise, maximise, ex2}
+use Rattle.ess_semantics.specs.Contexts.{Each}
+use Rattle.ess_semantics.specs.DeclaredTables.{TableDecl}
+use Rattle.ess_semantics.specs.Prepared.{prepared}
+use Rattle.ess_semantics.specs.Judgements.{fault}
+use Rattle.ess_semantics.specs.Plans.{Options, givens_side, finds_side, Plan, kept_names, plans, plans_for}
+use Rattle.ess_semantics.specs.ModelTrees.{Header, Goal, no_goal, least, greatest, Model, goal_of}
+use Rattle.ess_semantics.specs.Models.{Models, IsExact, constraint_of, constraints_of, with_cells}
+use Rattle.ess_semantics.proofs.Tests.{and-left, and-right}
+use Rattle.ess_grammar.specs.Models.{Scope}
+use Rattle.conjure_laws.specs.SideBySide.{Along}
+use Rattle.conjure_laws.specs.Premises.{is_on}
+use Rattle.conjure_laws.specs.ModelsOfSets.{table_of}
+use Rattle.conjure_laws.proofs.Lists.{each-append, in-filter}
+use Rattle.conjure_model_laws.specs.Shown.{Shows, shows_of}
+use Rattle.conjure_model_laws.specs.IsBuiltFrom.{constraint_tree, condition_tree, objective_tree, taken_names}
+use Rattle.ess_flat_laws.specs.Flat.{Flat, none_marked, truth as truth_is}
+use Rattle.ess_flat_models_laws.specs.FlatSpecifications.{scalar_mark, is_flat_truth, has_marks}
+use Rattle.ess_flat_models_laws.specs.FlatModels.{flat_rule, flat_goal, goal_rules}
+use Rattle.ess_flat_models_laws.proofs.PreparedStatements.{truth-flat}
+use Rattle.ess_flat_models_laws.proofs.FlatGoals.{FlatGoal}
+use Rattle.ess_model_trees.specs.Written.{ComesFrom, next_behind}
+use Rattle.ess_model_rules.specs.RulesWritten.{ConstraintComes, BothCome, GoalComes}
+use Rattle.ess_models.specs.Parts.{scope_of_tables}
+use Rattle.ess_models.specs.Built.{IsBuilt}
+use Rattle.conjure_flat_laws.proofs.FlatChains.{comes-flat}
+use Rattle.conjure_flat_laws.proofs.BuiltParts.{none-written, none-come}
+use Rattle.conjure_member_laws.proofs.MemberChains.{comes-written}
+use Rattle.ess_mixed_models_laws.specs.MixedSpecifications.{kinds, places, members_of, is_of_kind, has_printed_name, is_membership, is_mixed_statement, are_mixed_statements, types_come_first, have_bounds, is_mixed_specification}
+use Rattle.ess_mixed_models_laws.specs.MixedModels.{mixed_decl, shown_value, axis_of, IsRuleOf, of_flat, of_membership, IsMixedModel}
+use Rattle.ess_mixed_models_laws.proofs.NamedKinds.{no-yes}
+use Rattle.ess_mixed_models_laws.proofs.MixedPlans.{either-test, some-facts}
+use Rattle.ess_mixed_models_laws.proofs.ScalarCells.{cells}
+use Rattle.ess_mixed_models_laws.proofs.MixedGoals.{flat-goal}
+use Rattle.ess_mixed_models_laws.proofs.MixedHave.{mixed-right}
+use Rattle.ess_mixed_models_laws.proofs.SetValues.{membership-fact}
+use Rattle.conjure_mixed_laws.specs.Laws.{BuiltMixedModelsAreRight}
+use Rattle.conjure_mixed_laws.proofs.MixedTrees.{axis-is, literal-is, simple, over-cells, tree-is, objective-is, condition-is, member-tree, all-declared, nothing-asked, no-channels}
+use Rattle.conjure_mixed_laws.proofs.MixedTables.{tables-written}
+
+module _ (S : List Stm) (o : Options) (h : are_mixed_statements S o ≡ true) (f : fault S ≡ None)
+    (ts : types_come_first [] (prepared S) ≡ true) (bs : have_bounds (plans S o) [] (prepared S) ≡ true) where
+  abbrev Ps : List Plan
+  Ps = plans S o
+
+  abbrev sh : Shows
+  sh = shows_of S o
+
+  abbrev taken : List Text
+  taken = taken_names S o
+
+  abbrev decl : Plan → TableDecl
+  decl P = mixed_decl (kinds S) Ps P
+
+  -- ---- rules
+
+  written-is : (s : Scope) (k : ℕ) (t e r : Ex) (m : Bool) → t ≡ with_cells Ps e → Flat (scalar_mark Ps) none_marked e m →
+      ComesFrom s taken k t (Some r) → r ≡ flat_rule Ps e
+  written-is s k t e r m q w v =
+      comes-flat (cells S o h) (simple S o h f ts bs) s taken k (with_cells Ps e) r m (over-cells S o h f ts bs e m w)
+      (subst (λ z. ComesFrom s taken k z (Some r)) q v)
+
+  true-is : (s : Scope) (k : ℕ) (t r : Ex) → t ≡ truth_ex true → ComesFrom s taken k t (Some r) → r ≡ truth_ex true
+  true-is s k t r q v =
+      comes-flat (cells S o h) (simple S o h f ts bs) s taken k (truth_ex true) r true truth_is
+      (subst (λ z. ComesFrom s taken k z (Some r)) q v)
+
+  -- The form of a membership.
+  member-form : (e : Ex) → is_membership S o e ≡ true → (v : Ex) × (x : Text) × (e ≡ ex2 true Op2.Member v (name_ex x))
+  member-form (ex2 true Op2.Member v (name_ex x)) t = (v, x, refl)
+  member-form e t = absurd (no-yes t)
+
+  some-members : (x : Text) (v : Ex) → is_membership S o (ex2 true Op2.Member v (name_ex x)) ≡ true →
+      (A : Dom) × (members_of (look (kept_names S) x) ≡ Some A)
+  some-members x v t = go (members_of (look (kept_names S) x))
+      (and-left (is_some_and (members_of (look (kept_names S) x)) (is_of_kind (places S) v)) (has_printed_name S o) t)
+    where
+      go : (r : Option Dom) → is_some_and r (is_of_kind (places S) v) ≡ true → (A : Dom) × (r ≡ Some A)
+      go None q = absurd (no-yes q)
+      go (Some A) q = (A, refl)
+
+  -- What comes of a membership is a rule of it.
+  member-rule : (s : Scope) (v : Ex) (x : Text) (r : Ex) → is_membership S o (ex2 true Op2.Member v (name_ex x)) ≡ true →
+      ConstraintComes s taken sh (ex2 true Op2.Member v (name_ex x)) (Some r) → IsRuleOf S o (ex2 true Op2.Member v (name_ex x)) r
+  member-rule s v x r t w =
+      let a = some-members x v t in
+      let k = membership-fact S o h f no_goal [] v x a.0 t a.1 in
+      of_membership t (record {
+        members = a.0;
+        found = a.1;
+        written = comes-written (table_of Ps x) (axis_of S o a.0) (shown_value (places S) v) (axis-is S o k.0.members) (literal-is
+            (places S) k.1)
+            s taken (next_behind sh (ex2 true Op2.Member v (name_ex x))) r
+            (subst (λ c. ComesFrom s taken (next_behind sh (ex2 true Op2.Member v (name_ex x))) c (Some r))
+            (member-tree S o h f ts bs v x a.0 k.0 k.1) w);
+      })
+
+  -- What comes of a constraint of the class is a rule of it.
+  rule-of : (s : Scope) (e r : Ex) → is_flat_truth Ps e || is_membership S o e ≡ true → ConstraintComes s taken sh e (Some r) →
+      IsRuleOf S o e r
+  rule-of s e r t w = go (either-test (is_flat_truth Ps e) (is_membership S o e) t)
+    where
+      go : (is_flat_truth Ps e ≡ true) ⊎ (is_membership S o e ≡ true) → IsRuleOf S o e r
+      go (inl t) =
+          let k = truth-flat Ps e t in
+          subst (IsRuleOf S o e) (sym (written-is s (next_behind sh e) (constraint_tree sh e) e r true (tree-is S o h f ts bs e k) k w))
+          (of_flat t)
+      go (inr t) =
+          let m = member-form e t in
+          subst (λ e. is_membership S o e ≡ true → ConstraintComes s taken sh e (Some r) → IsRuleOf S o e r) (sym m.2)
+          (λ t w. member-rule s m.0 m.1 r t w) t w
+
+  abbrev Asked : Ex → Type 0
+  Asked e = is_flat_truth Ps e || is_membership S o e ≡ true
+
+  stm-asked : (s : Stm) → is_mixed_statement S o s ≡ true → Each (constraint_of s) Asked
+  stm-asked (such_that e) k = (k, tt)
+  stm-asked (given x d) k = tt
+  stm-asked (find x d) k = tt
+  stm-asked (given_enum t) k = tt
+  stm-asked (let_enum t ns) k = tt
+  stm-asked (let_unnamed t e) k = tt
+  stm-asked (let_ex x e) k = tt
+  stm-asked (let_dom x d) k = tt
+  stm-asked (needs e) k = tt
+  stm-asked (minimise e) k = tt
+  stm-asked (maximise e) k = tt
+
+  all-asked : (T : List Stm) → list_all (is_mixed_statement S o) T ≡ true → Each (constraints_of T) Asked
+  all-asked [] k = tt
+  all-asked (s ∷ T) k = each-append Asked (constraint_of s) (constraints_of T)
+      (stm-asked s (and-left (is_mixed_statement S o s) (list_all (is_mixed_statement S o) T) k))
+      (all-asked T (and-right (is_mixed_statement S o s) (list_all (is_mixed_statement S o) T) k))
+
+  rules-are : (s : Scope) (es rs : List Ex) → Each es Asked → Along es rs (λ c e. ConstraintComes s taken sh c (Some e)) →
+      Along es rs (IsRuleOf S o)
+  rules-are s [] [] a w = tt
+  rules-are s (e ∷ es) (r ∷ rs) a w = (rule-of s e r a.0 w.0, rules-are s es rs a.1 w.1)
+  rules-are s [] (r ∷ rs) a w = absurd w
+  rules-are s (e ∷ es) [] a w = absurd w
+
+  both-are : (s : Scope) (e g r : Ex) → Flat (scalar_mark Ps) none_marked e false → BothCome s taken sh e g r →
+      (g ≡ flat_rule Ps e) × (r ∷ [] ≡ truth_ex true ∷ [])
+  both-are s e g r k w = (
+    written-is s (next_behind sh e) (objective_tree sh e) e g false (objective-is S o h f ts bs e k) k w.objective,
+    ap (λ z. z ∷ []) (true-is s (next_behind sh e) (condition_tree sh e) r (condition-is S o h f ts bs e k) w.condition),
+  )
+
+  -- What comes of the objective.
+  goal-is : (s : Scope) (g : Goal) → FlatGoal Ps g → (k : Goal) (rs : List Ex) → GoalComes s taken sh g k rs →
+      (k ≡ flat_goal Ps g) × (rs ≡ goal_rules g)
+  goal-is s no_goal i no_goal rs w = (refl, w)
+  goal-is s no_goal i (least e) rs w = absurd w
+  goal-is s no_goal i (greatest e) rs w = absurd w
+  goal-is s (least e) i (least g) (r ∷ []) w = let z = both-are s e g r i w in (ap least z.0, z.1)
+  goal-is s (least e) i (least g) [] w = absurd w
+  goal-is s (least e) i (least g) (r ∷ q ∷ rs) w = absurd w
+  goal-is s (least e) i no_goal rs w = absurd w
+  goal-is s (least e) i (greatest g) rs w = absurd w
+  goal-is s (greatest e) i (greatest g) (r ∷ []) w = let z = both-are s e g r i w in (ap greatest z.0, z.1)
+  goal-is s (greatest e) i (greatest g) [] w = absurd w
+  goal-is s (greatest e) i (greatest g) (r ∷ q ∷ rs) w = absurd w
+  goal-is s (greatest e) i no_goal rs w = absurd w
+  goal-is s (greatest e) i (least g) rs w = absurd w
+
+  -- What is built is a model of the specification.
+  pub built-model : (H : Header) (E : Model) → IsBuilt S o H E → IsMixedModel S o E
+  built-model H E B =
+      let sc : Scope = scope_of_tables E.givens E.finds in
+      let R = B.rules in
+      let gs = tables-written S o h f ts bs _ (plans_for givens_side S o) (some-facts S o h (is_on givens_side))
+      (λ P i. (in-filter (is_on givens_side) P Ps i).0) (all-declared S o h f ts bs givens_side) _ E.givens B.declared.givens in
+      let fs = tables-written S o h f ts bs _ (plans_for finds_side S o) (some-facts S o h (is_on finds_side))
+      (λ P i. (in-filter (is_on finds_side) P Ps i).0) (all-declared S o h f ts bs finds_side) _ E.finds B.declared.finds in
+      let st = none-written _ taken sh.next _ R.structures (nothing-asked S o h f ts bs) R.structures_written in
+      let ch = none-come _ _ R.channels (no-channels S o h f ts bs) R.channels_written in
+      let go = goal-is sc (goal_of (prepared S)) (flat-goal S o (prepared S) h) E.goal R.goals R.goal_written in
+      record {
+        constraints = R.constraints;
+        givens = gs;
+        finds = fs;
+        goal = go.0;
+        rules = R.all ∙ ap (λ l. l ++ R.channels ++ R.goals ++ R.constraints) st ∙ ap (λ l. l ++ R.goals ++ R.constraints) ch
+            ∙ ap (λ l. l ++ R.constraints) go.1;
+        written = rules-are sc (constraints_of (prepared S)) R.constraints (all-asked (prepared S) h) R.constraints_written.each;
+      }
+
+-- So it is of each specification of the class, and the model is a right one.
+pub built-mixed-right : BuiltMixedModelsAreRight
+built-mixed-right = record {
+  models = λ S o H E f h B. (B.header, model S o H E f h B);
+  right = λ S o H E f h B. subst (λ H. Models S o H E × IsExact S o E) (sym B.header) (mixed-right S o E f h (model S o H E f h B));
+}
+  where
+    model : (S : List Stm) (o : Options) (H : Header) (E : Model) → fault S ≡ None → is_mixed_specification S o ≡ true → IsBuilt S o H E →
+        IsMixedModel S o E
+    model S o H E f h B =
+        let a : Bool = are_mixed_statements S o in
+        let t : Bool = types_come_first [] (prepared S) in
+        let b : Bool = have_bounds (plans S o) [] (prepared S) in
+        let c : Bool = list_all (has_marks (plans S o)) (constraints_of S) in
+        let r = and-right a (t && (b && c)) h in
+        built-model S o (and-left a (t && (b && c)) h) f (and-left t (b && c) r) (and-left b c (and-right t (b && c) r)) H E B

@@ -1,0 +1,4 @@
+-- The headers
+pub mod MixedHeaders
+-- The options that were chosen
+pub mod ChosenMixed

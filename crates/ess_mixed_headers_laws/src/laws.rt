@@ -1,0 +1,13 @@
+//! The laws of headers and of chosen options, each the contract of a function that does nothing.
+
+ghost use Rattle.ess_mixed_headers_laws.specs.Laws.{ChosenOptionsKeepTheClass, MixedHeadersAreRead};
+
+/// The lines of the header of a specification of the class are read as that header, where each is within the limit of load.
+pub fn mixed_headers_are_read()
+    ensures { MixedHeadersAreRead }
+{}
+
+/// With the representations of all givens and finds as options a specification is of the class too, with the same plans and header.
+pub fn chosen_options_keep_the_class()
+    ensures { ChosenOptionsKeepTheClass }
+{}

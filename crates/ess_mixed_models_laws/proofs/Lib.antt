@@ -1,0 +1,37 @@
+-- Values of what is written for memberships
+pub mod MemberTests
+pub mod MemberKinds
+pub mod MemberValues
+-- Named types and members of sets
+pub mod NamedKinds
+-- Names
+pub mod DeclaredNames
+-- Plans
+pub mod MixedPlans
+pub mod FoundPlans
+-- Declared tables
+pub mod MixedCells
+pub mod ScalarCells
+pub mod MixedSizes
+-- Givens
+pub mod MixedGivens
+-- What the layers deliver but for rules
+pub mod MixedLayers
+-- Values
+pub mod ScalarValues
+pub mod SetFinds
+pub mod SetValues
+-- The objective
+pub mod MixedGoals
+-- Texts
+pub mod PreparedSets
+pub mod MixedConstants
+pub mod MixedSpelled
+pub mod MixedForms
+pub mod MixedPlaces
+pub mod MixedSmall
+-- The law
+pub mod MixedHave
+pub mod ClassesMixed
+-- Worked examples
+mod Examples

@@ -1,0 +1,179 @@
+-- Each model of a well typed specification of the class stands for it, and each solution has exactly one satisfying assignment.
+use Rattle.std.proofs.Common.{◌≡◌, refl, sym, ap, ◌∙◌, subst, Bool, true, ◌&&◌, not, List, [], ◌∷◌, ◌++◌, map, None}
+use Rattle.std.specs.List.{list_all}
+use Rattle.ess_semantics.specs.Lists.{append_all}
+use Rattle.ess_semantics.specs.Names.{all_distinct}
+use Rattle.ess_semantics.specs.Trees.{Ex, no_exs, set_dom, Stm}
+use Rattle.ess_semantics.specs.Contexts.{Each}
+use Rattle.ess_semantics.specs.DeclaredTables.{TableDecl}
+use Rattle.ess_semantics.specs.Prepared.{prepared}
+use Rattle.ess_semantics.specs.Solutions.{finds}
+use Rattle.ess_semantics.specs.Judgements.{fault}
+use Rattle.ess_semantics.specs.Plans.{Options, givens_side, finds_side, Plan, plans, plans_for, value_names}
+use Rattle.ess_semantics.specs.ModelTrees.{Model, Goal, header_of, goal_of}
+use Rattle.ess_semantics.specs.Occurrences.{parts_of}
+use Rattle.ess_semantics.specs.Constants.{parts_of_decl}
+use Rattle.ess_semantics.specs.Models.{Models, IsExact, constraints_of}
+use Rattle.ess_semantics.proofs.Tests.{and-left, and-right}
+use Rattle.conjure_laws.specs.Members.{In}
+use Rattle.conjure_laws.specs.SideBySide.{Along}
+use Rattle.conjure_laws.specs.Premises.{is_on}
+use Rattle.conjure_laws.specs.ModelPremises.{RuleMeans, Layers, spelled, Texts}
+use Rattle.conjure_laws.proofs.Lists.{at-item, all-items, in-filter, each-append, along-map}
+use Rattle.conjure_laws.proofs.Reduction.{models, exact}
+use Rattle.conjure_laws.proofs.SetChannels.{none, none_of}
+use Rattle.conjure_laws.proofs.SetPlans.{Occ}
+use Rattle.conjure_laws.proofs.Statements.{plan-is-found}
+use Rattle.conjure_settled_laws.proofs.SettledStatements.{typed-is-settled}
+use Rattle.ess_flat_models_laws.specs.FlatSpecifications.{given_mark, has_marks}
+use Rattle.ess_flat_models_laws.specs.FlatModels.{flat_goal, goal_rules}
+use Rattle.ess_flat_models_laws.proofs.FlatTexts.{each-mapped, dom-spelled, scalar-simple}
+use Rattle.ess_flat_models_laws.proofs.PreparedStatements.{truth-flat, prepared-direction}
+use Rattle.ess_flat_models_laws.proofs.ScalarDomains.{Atom}
+use Rattle.ess_mixed_models_laws.specs.MixedSpecifications.{kinds, are_mixed_statements, types_come_first, have_bounds}
+use Rattle.ess_mixed_models_laws.specs.MixedModels.{mixed_decl, IsRuleOf, of_flat, of_membership, IsMixedModel}
+use Rattle.ess_mixed_models_laws.specs.Laws.{MixedModelsAreRight}
+use Rattle.ess_mixed_models_laws.proofs.MixedPlans.{PlanFact, size_fact, atom_fact, set_fact, all-facts}
+use Rattle.ess_mixed_models_laws.proofs.MixedCells.{decls}
+use Rattle.ess_mixed_models_laws.proofs.ScalarCells.{cells, given-cells}
+use Rattle.ess_mixed_models_laws.proofs.MixedGivens.{plan-bounds}
+use Rattle.ess_mixed_models_laws.proofs.MixedConstants.{table-spelled, kept-numbers}
+use Rattle.ess_mixed_models_laws.proofs.MixedForms.{forms-stay}
+use Rattle.ess_mixed_models_laws.proofs.MixedGoals.{flat-goal as goal-is-flat, goals-mean}
+use Rattle.ess_mixed_models_laws.proofs.MixedLayers.{model_with, base, structures-mean, channels-mean}
+use Rattle.ess_mixed_models_laws.proofs.MixedSmall.{none-large}
+use Rattle.ess_mixed_models_laws.proofs.MixedSpelled.{rules-spelled, goal-spelled, goal-rules-spelled}
+use Rattle.ess_mixed_models_laws.proofs.ScalarValues.{flat-means}
+use Rattle.ess_mixed_models_laws.proofs.SetValues.{set-means}
+
+no-rules : {A : Type 0} (xs : List A) → append_all (map (λ x. none) xs) ≡ none
+no-rules [] = refl
+no-rules (x ∷ xs) = no-rules xs
+
+no-channels : {A : Type 0} (xs : List A) → append_all (map append_all (map (λ x. none_of) xs)) ≡ none
+no-channels [] = refl
+no-channels (x ∷ xs) = no-channels xs
+
+module _ (S : List Stm) (o : Options) (h : are_mixed_statements S o ≡ true) (f : fault S ≡ None) (cs : List Ex)
+    (written : Along (constraints_of (prepared S)) cs (IsRuleOf S o)) where
+  abbrev Ps : List Plan
+  Ps = plans S o
+
+  abbrev Gs : List Plan
+  Gs = plans_for givens_side S o
+
+  abbrev Fs : List Plan
+  Fs = plans_for finds_side S o
+
+  abbrev decl : Plan → TableDecl
+  decl P = mixed_decl (kinds S) Ps P
+
+  abbrev G : Goal
+  G = flat_goal Ps (goal_of (prepared S))
+
+  abbrev rs : List Ex
+  rs = goal_rules (goal_of (prepared S)) ++ cs
+
+  abbrev E : Model
+  E = model_with S o h G rs
+
+  rule-means : (e r : Ex) → IsRuleOf S o e r → RuleMeans S o E e r
+  rule-means e r (of_flat t) = flat-means S o h f G rs e (truth-flat Ps e t)
+  rule-means e r (of_membership {e = v} {x = x} t R) = set-means S o h f G rs v x r t R
+
+  -- The layers, without a premise but the judgements.
+  abbrev layers : all_distinct (finds S) ≡ true → Layers S o E
+  layers d = record {
+    base = base S o h f G rs;
+    rules = record {
+      structures = map (λ x. none) Fs;
+      channels = map (λ x. none_of) (value_names finds_side S);
+      goals = goal_rules (goal_of (prepared S));
+      rules = cs;
+      all = sym (ap (λ l. (l ++ append_all (map append_all (map (λ x. none_of) (value_names finds_side S)))
+          ++ goal_rules (goal_of (prepared S))) ++ cs) (no-rules Fs)
+          ∙ ap (λ l. (l ++ goal_rules (goal_of (prepared S))) ++ cs) (no-channels (value_names finds_side S)));
+      structures_mean = structures-mean S o h f G rs;
+      channels_mean = channels-mean S o h G rs d;
+      goals_mean = goals-mean S o h f rs;
+      rules_mean = along-map (constraints_of (prepared S)) cs (IsRuleOf S o) (RuleMeans S o E) rule-means written;
+    };
+  }
+
+  -- ---- the text
+
+  decl-spelled : (P : Plan) → In P Ps → PlanFact S o P → spelled S (parts_of_decl (decl P)) ≡ true
+  decl-spelled P i (size_fact t n e) = subst (λ P. spelled S (parts_of_decl (decl P)) ≡ true) (sym e) refl
+  decl-spelled P i (atom_fact w) =
+      let j = subst (λ P. In P Ps) w.is i in
+      let b = plan-bounds S o h w.f w.x w.d w.n j w.scalar in
+      subst (λ P. spelled S (parts_of_decl (decl P)) ≡ true) (sym w.is)
+      (dom-spelled S (given_mark Ps) Ps (cells S o h) (given-cells S o h) w.d b
+      (kept-numbers S o w.f w.x Atom w.d ((w.n, 0) ∷ []) j (scalar-simple (given_mark Ps) w.d b)))
+  decl-spelled P i (set_fact x A n e m) = subst (λ P. spelled S (parts_of_decl (decl P)) ≡ true) (sym e)
+      (table-spelled S o n x m (plan-is-found S o x Occ (set_dom [] no_exs A) ((n, 1) ∷ []) (subst (λ P. In P Ps) e i)))
+
+  at-plan : (P : Plan) → In P Ps → spelled S (parts_of_decl (decl P)) ≡ true
+  at-plan P i = decl-spelled P i (at-item (PlanFact S o) Ps P (all-facts S o h) i)
+
+  decls-spelled : Each (decls S o h) (λ d. spelled S (parts_of_decl d) ≡ true)
+  decls-spelled = each-append (λ d. spelled S (parts_of_decl d) ≡ true) (map decl Gs) (map decl Fs)
+      (each-mapped decl (λ d. spelled S (parts_of_decl d) ≡ true) Gs
+      (all-items (λ P. spelled S (parts_of_decl (decl P)) ≡ true) Gs (λ P i. at-plan P (in-filter (is_on givens_side) P Ps i).0)))
+      (each-mapped decl (λ d. spelled S (parts_of_decl d) ≡ true) Fs
+      (all-items (λ P. spelled S (parts_of_decl (decl P)) ≡ true) Fs (λ P i. at-plan P (in-filter (is_on finds_side) P Ps i).0)))
+
+  texts : have_bounds Ps [] (prepared S) ≡ true → list_all (has_marks Ps) (constraints_of S) ≡ true → Texts S o (header_of S o) E cs
+  texts bs marks = record {
+    header = refl;
+    direction = prepared-direction Ps S;
+    decls = decls-spelled;
+    goal = goal-spelled S o h f (goal-is-flat S o (prepared S) h);
+    spells = each-append (λ r. spelled S (parts_of r) ≡ true) (goal_rules (goal_of (prepared S))) cs
+        (goal-rules-spelled S (goal_of (prepared S))) (rules-spelled S o h f cs written);
+    flat = forms-stay S o h marks cs written;
+    small = λ p q I u m. ap not (none-large S o h f bs p q I m);
+  }
+
+  -- The model stands for the specification, and each solution has exactly one satisfying assignment.
+  pub have : have_bounds Ps [] (prepared S) ≡ true → list_all (has_marks Ps) (constraints_of S) ≡ true →
+      Models S o (header_of S o) E × IsExact S o E
+  have bs marks =
+      let d = (typed-is-settled S f).distinct in
+      (models S o E (layers d) (header_of S o) (texts bs marks), exact S o E (layers d))
+
+-- So does each model of the class.
+pub mixed-right : MixedModelsAreRight
+mixed-right S o E f h M =
+    let a : Bool = are_mixed_statements S o in
+    let t : Bool = types_come_first [] (prepared S) in
+    let b : Bool = have_bounds (plans S o) [] (prepared S) in
+    let c : Bool = list_all (has_marks (plans S o)) (constraints_of S) in
+    let k = and-left a (t && (b && c)) h in
+    let r = and-right t (b && c) (and-right a (t && (b && c)) h) in
+    subst (λ E. Models S o (header_of S o) E × IsExact S o E) (sym (same E M k))
+    (have S o k f M.constraints M.written (and-left b c r) (and-right b c r))
+  where
+    same : (E : Model) (M : IsMixedModel S o E) (k : are_mixed_statements S o ≡ true) →
+        E ≡ model_with S o k (flat_goal (plans S o) (goal_of (prepared S))) (goal_rules (goal_of (prepared S)) ++ M.constraints)
+    same E M k =
+        ap (λ z. record { givens = z; finds = E.finds; goal = E.goal; rules = E.rules }) M.givens
+        ∙ ap (λ z. record {
+          givens = map (mixed_decl (kinds S) (plans S o))
+              (plans_for givens_side S o);
+          finds = z;
+          goal = E.goal;
+          rules = E.rules;
+        }) M.finds
+        ∙ ap (λ z. record {
+          givens = map (mixed_decl (kinds S) (plans S o)) (plans_for givens_side S o);
+          finds = map (mixed_decl (kinds S) (plans S o)) (plans_for finds_side S o);
+          goal = z;
+          rules = E.rules;
+        }) M.goal
+        ∙ ap (λ z. record {
+          givens = map (mixed_decl (kinds S) (plans S o)) (plans_for givens_side S o);
+          finds = map (mixed_decl (kinds S) (plans S o)) (plans_for finds_side S o);
+          goal = flat_goal (plans S o) (goal_of (prepared S));
+          rules = z;
+        }) M.rules

@@ -1,0 +1,6 @@
+-- The class
+pub mod MixedSpecifications
+-- Its models
+pub mod MixedModels
+-- The laws
+pub mod Laws

@@ -1,0 +1,152 @@
+-- A class of specifications: scalars and sets side by side. Givens are scalars kept as atoms; finds are scalars kept as atoms, or sets of
+-- numbers, of truth values or of values of a named type, without attributes, kept as the members that occur. Each constraint is flat and
+-- total over the scalars, or says that a number, a truth value or a value of a type is in a set. Conditions on parameters and the objective
+-- are flat and total over the scalars. Named types and lettings are declared among them, in any order and number. Lettings are put in
+-- before it is asked what a statement is.
+use Rattle.std.specs.Prelude.{ℕ, Bool, true, false, ◌&&◌, ◌||◌, not, List, [], ◌∷◌, ◌++◌, length, pos, Option, Some, None, is_some}
+use Rattle.std.specs.List.{list_all}
+use Rattle.ess_semantics.specs.declared.words.ReprKind.{ReprKind}
+use Rattle.ess_semantics.specs.declared.words.Op2.{Op2}
+use Rattle.ess_semantics.specs.Lists.{is_some_and, is_empty}
+use Rattle.ess_semantics.specs.Values.{Text}
+use Rattle.ess_semantics.specs.Order.{same_text}
+use Rattle.ess_semantics.specs.Names.{Names, look}
+use Rattle.ess_semantics.specs.Trees.{Repr, repr, no_reprs, both_ends, Ex, number_ex, truth_ex, name_ex, no_exs, more_exs, Dom, bool_dom, int_dom, name_dom, set_dom, Stm, given, given_enum, let_ex, let_dom, let_enum, let_unnamed, needs, find, such_that, minimise, maximise, ex2}
+use Rattle.ess_semantics.specs.Prepared.{prepared}
+use Rattle.ess_semantics.specs.Plans.{Options, Plan, chosen_reprs, kept_names, plans}
+use Rattle.ess_semantics.specs.Models.{constraints_of}
+use Rattle.conjure_laws.specs.SetsOfAtoms.{TypeKind, fixed, sized, enum_values}
+use Rattle.conjure_model_laws.specs.Printed.{printed_name}
+use Rattle.conjure_model_laws.specs.IsBuiltFrom.{taken_names}
+use Rattle.ess_flat_models_laws.specs.FlatSpecifications.{given_mark, mark_among, is_scalar_dom, is_atom_alone, scalar_mark, is_flat_truth, is_flat_number, has_marks}
+
+-- ---- named types
+
+-- The size of an unnamed type, where it is written as a number.
+abbrev pub written_size : Ex → Option ℕ
+written_size (number_ex (pos n)) = Some n
+written_size e = None
+
+-- A type of this size.
+abbrev pub kinds_of_size : Text → Option ℕ → Names TypeKind
+kinds_of_size t None = []
+kinds_of_size t (Some n) = (t, fixed n) ∷ []
+
+-- The type that a statement declares: the number of its values is written, or it is that of a given type.
+abbrev pub kinds_by : Stm → Names TypeKind
+kinds_by (given_enum t) = (t, sized) ∷ []
+kinds_by (let_enum t ns) = (t, fixed (length ns)) ∷ []
+kinds_by (let_unnamed t e) = kinds_of_size t (written_size e)
+kinds_by s = []
+
+-- The values of an enumerated type that a statement declares, each with its type and its position.
+abbrev pub places_by : Stm → Names (Text × ℕ)
+places_by (let_enum t ns) = enum_values t 1 ns
+places_by s = []
+
+-- What all statements declare, behind what is known before them.
+abbrev pub known_after : {A : Type 0} → (Stm → Names A) → List Stm → Names A → Names A
+known_after f [] g = g
+known_after f (s ∷ T) g = known_after f T (f s ++ g)
+
+-- The types of a specification.
+abbrev pub kinds : List Stm → Names TypeKind
+kinds S = known_after kinds_by (prepared S) []
+
+-- The values of its enumerated types.
+abbrev pub places : List Stm → Names (Text × ℕ)
+places S = known_after places_by (prepared S) []
+
+-- ---- sets
+
+-- Whether members of sets may have the domain: truth values, numbers between two that are written, or values of a type.
+abbrev pub is_member_dom : Names TypeKind → Dom → Bool
+is_member_dom ks bool_dom = true
+is_member_dom ks (int_dom (both_ends ∷ []) (more_exs (number_ex a) (more_exs (number_ex b) no_exs))) = true
+is_member_dom ks (name_dom t) = is_some (look ks t)
+is_member_dom ks d = false
+
+-- Whether it is the domain of sets of such members, without attributes.
+abbrev pub is_set_dom : Names TypeKind → Dom → Bool
+is_set_dom ks (set_dom [] no_exs A) = is_member_dom ks A
+is_set_dom ks d = false
+
+-- Whether the only representation is that by which members occur.
+abbrev pub is_occurrence_alone : List Repr → Bool
+is_occurrence_alone (repr ReprKind.Occurrence no_reprs ∷ []) = true
+is_occurrence_alone rs = false
+
+-- The domain of the members of sets with this domain.
+abbrev pub members_of : Option Dom → Option Dom
+members_of (Some (set_dom [] no_exs A)) = Some A
+members_of o = None
+
+-- Whether it is a value that may be a member: a number, a truth value, or a value of the type by its name.
+abbrev pub is_of_kind : Names (Text × ℕ) → Ex → Dom → Bool
+is_of_kind vs (number_ex k) (int_dom rs es) = true
+is_of_kind vs (truth_ex b) bool_dom = true
+is_of_kind vs (name_ex n) (name_dom t) = is_some_and (look vs n) (λ v. same_text v.0 t)
+is_of_kind vs e d = false
+
+-- Whether a name is left for a bound one, as one is wherever fewer than 2^64 - 1 tables are declared.
+abbrev pub has_printed_name : List Stm → Options → Bool
+has_printed_name S o = not (is_empty (printed_name (taken_names S o) 0))
+
+-- Whether it says that such a value is in a set.
+abbrev pub is_membership : List Stm → Options → Ex → Bool
+is_membership S o (ex2 true Op2.Member e (name_ex x)) =
+    is_some_and (members_of (look (kept_names S) x)) (is_of_kind (places S) e) && has_printed_name S o
+is_membership S o e = false
+
+-- ---- the class
+
+-- Whether a given or find is a scalar kept as an atom.
+abbrev pub is_scalar_kept : List Stm → Options → Text → Dom → Bool
+is_scalar_kept S o x d = is_scalar_dom (given_mark (plans S o)) d && is_atom_alone (chosen_reprs o x d)
+
+-- Whether a find is a set kept as the members that occur.
+abbrev pub is_set_kept : List Stm → Options → Text → Dom → Bool
+is_set_kept S o x d = is_set_dom (kinds S) d && is_occurrence_alone (chosen_reprs o x d)
+
+-- Whether the statement, with lettings put in, is of the class. No letting has the name of a scalar.
+abbrev pub is_mixed_statement : List Stm → Options → Stm → Bool
+is_mixed_statement S o (given x d) = is_scalar_kept S o x d
+is_mixed_statement S o (find x d) = is_scalar_kept S o x d || is_set_kept S o x d
+is_mixed_statement S o (given_enum t) = true
+is_mixed_statement S o (let_enum t ns) = true
+is_mixed_statement S o (let_unnamed t e) = is_some (written_size e)
+is_mixed_statement S o (let_ex x e) = not (is_some (scalar_mark (plans S o) x))
+is_mixed_statement S o (let_dom x d) = true
+is_mixed_statement S o (needs e) = is_flat_truth (plans S o) e
+is_mixed_statement S o (such_that e) = is_flat_truth (plans S o) e || is_membership S o e
+is_mixed_statement S o (minimise e) = is_flat_number (plans S o) e
+is_mixed_statement S o (maximise e) = is_flat_number (plans S o) e
+
+-- Whether all statements are of the class, with lettings put in.
+abbrev pub are_mixed_statements : List Stm → Options → Bool
+are_mixed_statements S o = list_all (is_mixed_statement S o) (prepared S)
+
+-- Whether it is the domain of sets.
+abbrev pub is_of_sets : Dom → Bool
+is_of_sets (set_dom ms es d) = true
+is_of_sets d = false
+
+-- Whether members of sets are of types that are known or declared before.
+abbrev pub types_come_first : Names TypeKind → List Stm → Bool
+types_come_first ks [] = true
+types_come_first ks (find x d ∷ T) = (not (is_of_sets d) || is_set_dom ks d) && types_come_first ks T
+types_come_first ks (s ∷ T) = types_come_first (kinds_by s ++ ks) T
+
+-- Whether bounds of scalars have no names but those of these givens, and of those that are declared before.
+abbrev pub have_bounds : List Plan → List Text → List Stm → Bool
+have_bounds Ps xs [] = true
+have_bounds Ps xs (given x d ∷ T) = is_scalar_dom (mark_among xs (given_mark Ps)) d && have_bounds Ps (x ∷ xs) T
+have_bounds Ps xs (find x d ∷ T) = (is_of_sets d || is_scalar_dom (mark_among xs (given_mark Ps)) d) && have_bounds Ps xs T
+have_bounds Ps xs (s ∷ T) = have_bounds Ps xs T
+
+-- Whether the specification is of the class, with these options: so are its statements, types and givens come before sets and bounds, and
+-- a constraint that is flat as it was written is total and has its marks.
+abbrev pub is_mixed_specification : List Stm → Options → Bool
+is_mixed_specification S o =
+    are_mixed_statements S o && (types_come_first [] (prepared S)
+    && (have_bounds (plans S o) [] (prepared S) && list_all (has_marks (plans S o)) (constraints_of S)))
