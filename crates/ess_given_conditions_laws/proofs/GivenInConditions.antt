@@ -11,7 +11,7 @@ use Rattle.ess_chain_names_laws.proofs.ToldNames.{ex-up}
 use Rattle.ess_given_laws.specs.Given.{GivenIn}
 use Rattle.ess_given_laws.proofs.GivenEnds.{given-ends}
 use Rattle.ess_given_conditions_laws.specs.InScope.{is_given_in}
-use Rattle.ess_given_conditions_laws.specs.GrowingNames.{HasNoneFrom, Grows}
+use Rattle.ess_given_conditions_laws.specs.GrowingNames.{HasNoneFrom}
 use Rattle.ess_given_conditions_laws.specs.GivenChains.{IsGivenStep, SparesAll}
 use Rattle.ess_given_conditions_laws.specs.ConditionsEnd.{SettledIn}
 use Rattle.ess_given_conditions_laws.specs.GivenInConditions.{EndsGiven, GivenInConditions}

@@ -1,19 +1,16 @@
 -- Names that patterns bind, told apart: each new name is fixed where the list of marks says so.
-use Rattle.std.proofs.Common.{◌≡◌, refl, ap, ◌∙◌, ℕ, Bool, true, false, ◌&&◌, ◌||◌, not, if◌then◌else◌, List, [], ◌∷◌, ◌++◌, Some}
-use Rattle.std.specs.List.{list_all}
+use Rattle.std.proofs.Common.{◌≡◌, refl, ap, ◌∙◌, ℕ, Bool, true, false, not, if◌then◌else◌, ◌∷◌, Some}
 use Rattle.ess_semantics.specs.Lists.{or_default}
 use Rattle.ess_semantics.specs.Values.{Text}
 use Rattle.ess_semantics.specs.Order.{same_text}
 use Rattle.ess_semantics.specs.Names.{Names, look}
-use Rattle.ess_semantics.specs.Trees.{Pat, Pats, name_pat, tuple_pat, no_pats, more_pats, Ex, Exs, number_ex, truth_ex, name_ex, node_ex, matrix_ex, comp_ex, cell_ex, seen_ex, no_exs, more_exs, Gens, no_gens, over, from, cond, Dom, Doms, bool_dom, int_dom, name_dom, tuple_dom, record_dom, matrix_dom, set_dom, mset_dom, function_dom, relation_dom, partition_dom, no_doms, more_doms}
-use Rattle.ess_semantics.proofs.Tests.{and-left, and-right, and-both}
-use Rattle.conjure_model_laws.specs.ToldApart.{reserved, renamed, told_pat, told_pats, told, told_all, told_gens, told_dom, told_doms}
-use Rattle.ess_given_laws.specs.PartsHave.{AllHave, GensHave, TablesHave}
-use Rattle.ess_given_laws.specs.Given.{all_bound, all_bound_by, none_bound, none_bound_by, is_fixed, are_fixed, are_fixed_gens, is_fixed_dom, are_fixed_doms, given, GivenIn}
-use Rattle.ess_given_laws.proofs.FixedTrees.{both-so}
-use Rattle.ess_given_conditions_laws.specs.InScope.{bound_as, all_bound_as, is_fixed_in, are_fixed_in, are_gens_fixed_in, fixed_behind, is_dom_fixed_in, are_doms_fixed_in, is_given_in, are_given_in, are_gens_given_in}
+use Rattle.ess_semantics.specs.Trees.{Pat, Pats, name_pat, tuple_pat, no_pats, more_pats}
+use Rattle.ess_semantics.proofs.Tests.{and-both}
+use Rattle.conjure_model_laws.specs.ToldApart.{reserved, renamed, told_pat, told_pats, told}
+use Rattle.ess_given_laws.specs.Given.{all_bound, all_bound_by, none_bound, none_bound_by}
+use Rattle.ess_given_conditions_laws.specs.InScope.{bound_as, all_bound_as}
 use Rattle.ess_given_conditions_laws.proofs.Assigned.{Assigned, at-first, at-later}
-use Rattle.ess_given_conditions_laws.proofs.Marks.{mark_pat, mark_pats, marks, marks_all, marks_gens, marks_dom, marks_doms, pat-number, ex-number, all-number, gens-number, dom-number, doms-number}
+use Rattle.ess_given_conditions_laws.proofs.Marks.{mark_pat, mark_pats, marks, pat-number}
 
 -- v has what a name that is fixed has become.
 abbrev pub Follows : (Text → Bool) → (Text → Bool) → Names Text → Type 0

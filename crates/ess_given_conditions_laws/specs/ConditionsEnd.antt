@@ -1,5 +1,5 @@
 -- Conditions where rewriting ends: where none can leave, move or be counted, no condition of a word on a comprehension reads a table.
-use Rattle.std.specs.Prelude.{◌≡◌, Bool, true, ◌&&◌, Option, None}
+use Rattle.std.specs.Prelude.{◌≡◌, Bool, true, ◌&&◌, None}
 use Rattle.ess_semantics.specs.declared.words.Fun.{Fun}
 use Rattle.ess_semantics.specs.Names.{Names}
 use Rattle.ess_semantics.specs.Trees.{Op, word, Ex, Exs, number_ex, truth_ex, name_ex, node_ex, matrix_ex, comp_ex, cell_ex, seen_ex, no_exs, more_exs, Gens, no_gens, over, from, cond}

@@ -1,5 +1,5 @@
 -- Numbers of a judged domain are fixed at its place.
-use Rattle.std.proofs.Common.{◌≡◌, refl, sym, ap, ◌∙◌, Bool, true, false, ◌&&◌, not, [], is_some}
+use Rattle.std.proofs.Common.{◌≡◌, refl, sym, ap, ◌∙◌, Bool, true, ◌&&◌, not, [], is_some}
 use Rattle.std.specs.List.{list_all}
 use Rattle.ess_semantics.specs.Values.{Text}
 use Rattle.ess_semantics.specs.Names.{is_among}
@@ -9,7 +9,6 @@ use Rattle.ess_semantics.specs.Scopes.{Scope, Asked, asking, every, every_operan
 use Rattle.ess_semantics.specs.DomainJudgements.{dom_fits, dom_is_enumerable, is_finite, is_enumerable, listed_domains, all_fixed}
 use Rattle.ess_semantics.specs.ExpressionJudgements.{ex_fits, part_fits, pattern_fits}
 use Rattle.ess_semantics.specs.Resolving.{resolve, resolve_exs, resolve_dom, resolve_doms}
-use Rattle.ess_semantics.specs.FreeNames.{FreeNamesAre}
 use Rattle.ess_semantics.proofs.Tests.{and-left, and-right, and-both, not-true}
 use Rattle.ess_types_laws.proofs.FixedNames.{fixed-free}
 use Rattle.conjure_laws.specs.PlainTrees.{Plain, PlainAll, PlainDom, PlainDoms}

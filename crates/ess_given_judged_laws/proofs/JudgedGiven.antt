@@ -1,19 +1,19 @@
 -- Judged trees of a specification, resolved, have what is given at its place.
-use Rattle.std.proofs.Common.{◌≡◌, refl, sym, ap, subst, ◌∙◌, Bool, true, false, ◌&&◌, ◌||◌, not, List, [], ◌∷◌, ◌++◌, Option, Some, None, is_some}
+use Rattle.std.proofs.Common.{◌≡◌, refl, sym, ap, subst, ◌∙◌, Bool, true, false, ◌&&◌, ◌||◌, not, List, [], ◌∷◌, Option, Some, None, is_some}
 use Rattle.std.proofs.lemmas.List.Folds.{list_any-append}
 use Rattle.ess_semantics.specs.Lists.{and_then, is_some_and}
 use Rattle.ess_semantics.specs.Values.{Text}
 use Rattle.ess_semantics.specs.Order.{same_text}
 use Rattle.ess_semantics.specs.Names.{Names, is_among}
-use Rattle.ess_semantics.specs.Trees.{Step, by_value, to_component, to_field, index, Pat, Ex, Exs, number_ex, truth_ex, name_ex, node_ex, matrix_ex, comp_ex, cell_ex, seen_ex, no_exs, more_exs, Gens, no_gens, over, from, cond, Dom}
-use Rattle.ess_semantics.specs.Types.{Ty, pattern_names, type_of_dom, bind_types}
+use Rattle.ess_semantics.specs.Trees.{Step, by_value, to_component, to_field, index, Pat, Ex, Exs, number_ex, truth_ex, name_ex, node_ex, matrix_ex, comp_ex, cell_ex, seen_ex, no_exs, more_exs, Gens, no_gens, over, from, cond}
+use Rattle.ess_semantics.specs.Types.{Ty, pattern_names, type_of_dom}
 use Rattle.ess_semantics.specs.Typing.{a_number, a_name, static, statics, type_of, types_of, source_ty, type_behind, path_ty}
 use Rattle.ess_semantics.specs.Lettings.{is_record, field_steps}
 use Rattle.ess_semantics.specs.NamesAt.{names_behind}
-use Rattle.ess_semantics.specs.Scoped.{is_bound, with_names}
-use Rattle.ess_semantics.specs.Scopes.{Scope, Asked, nothing_asked, with_bound, names_but, every, every_operand, every_under, every_dom, is_fixed, mentions_finds}
+use Rattle.ess_semantics.specs.Scoped.{is_bound}
+use Rattle.ess_semantics.specs.Scopes.{Scope, Asked, nothing_asked, with_bound, every, every_operand, every_under, every_dom, is_fixed, mentions_finds}
 use Rattle.ess_semantics.specs.ExpressionJudgements.{ex_fits, orders_fit}
-use Rattle.ess_semantics.specs.Judgements.{name_is_known, domain_is_known, is_well_typed_at}
+use Rattle.ess_semantics.specs.Judgements.{name_is_known, domain_is_known}
 use Rattle.ess_semantics.specs.Resolving.{step_at, steps_from, kept_indices, resolve, resolve_exs, resolve_dom}
 use Rattle.ess_semantics.proofs.Tests.{and-left, and-right, and-both, or-left-no, or-right-no}
 use Rattle.ess_types_laws.proofs.ResolvedTypes.{gens_resolved, comp-resolved}

@@ -1,11 +1,10 @@
 -- What is given in a tree is given in the tree over tables.
 use Rattle.std.proofs.Common.{◌≡◌, refl, Bool, true, ◌&&◌, ◌||◌, false}
-use Rattle.std.specs.List.{list_all}
 use Rattle.ess_semantics.specs.declared.words.Op2.{Op2}
 use Rattle.ess_semantics.specs.Values.{Text}
 use Rattle.ess_semantics.specs.Trees.{binary, Ex, Exs, number_ex, truth_ex, name_ex, node_ex, matrix_ex, comp_ex, cell_ex, seen_ex, no_exs, more_exs, Gens, no_gens, over, from, cond, Dom, Doms, bool_dom, int_dom, name_dom, tuple_dom, record_dom, matrix_dom, set_dom, mset_dom, function_dom, relation_dom, partition_dom, no_doms, more_doms}
-use Rattle.ess_semantics.proofs.Tests.{and-left, and-right, and-both}
-use Rattle.conjure_model_laws.specs.Shown.{Shows, in_place, range_of_type, shown, shown_all, shown_gens, shown_dom, shown_doms}
+use Rattle.ess_semantics.proofs.Tests.{and-left, and-both}
+use Rattle.conjure_model_laws.specs.Shown.{Shows, in_place, shown, shown_all, shown_gens, shown_dom, shown_doms}
 use Rattle.ess_given_laws.specs.PartsHave.{AllHave, GensHave}
 use Rattle.ess_given_laws.specs.Given.{all_bound, none_bound, is_fixed, are_fixed, are_fixed_gens, is_fixed_dom, are_fixed_doms, given, GivenIn}
 use Rattle.ess_given_laws.proofs.FixedTrees.{both-so, then-so}

@@ -1,13 +1,11 @@
 -- Each cell in a condition is one of a given where rewriting ends.
-use Rattle.std.proofs.Common.{◌≡◌, refl, sym, ◌∙◌, ℕ, ◌≤◌, ◌^◌, Bool, true, false, ◌&&◌, ◌||◌, not, List, [], ◌∷◌, ◌++◌}
+use Rattle.std.proofs.Common.{◌≡◌, refl, sym, ◌∙◌, ℕ, ◌≤◌, ◌^◌, Bool, true, false, ◌&&◌, ◌||◌, not, List, [], ◌∷◌}
 use Rattle.std.specs.List.{list_all, list_any}
 use Rattle.std.proofs.lemmas.List.Folds.{list_all-append}
-use Rattle.ess_semantics.specs.declared.words.Fun.{Fun}
-use Rattle.ess_semantics.specs.declared.words.Op2.{Op2}
 use Rattle.ess_semantics.specs.Values.{Text}
 use Rattle.ess_semantics.specs.Names.{Names}
 use Rattle.ess_semantics.specs.Operators.{iff}
-use Rattle.ess_semantics.specs.Trees.{one_value, Op, word, binary, matrix_literal, is_truth_op, name_pat, Ex, Exs, number_ex, truth_ex, name_ex, node_ex, matrix_ex, comp_ex, cell_ex, seen_ex, fun1, no_exs, more_exs, Gens, no_gens, over, from, cond, Dom, bool_dom, int_dom, name_dom}
+use Rattle.ess_semantics.specs.Trees.{one_value, Op, word, binary, matrix_literal, is_truth_op, name_pat, Ex, Exs, number_ex, truth_ex, name_ex, node_ex, matrix_ex, comp_ex, cell_ex, seen_ex, no_exs, more_exs, Gens, no_gens, over, from, cond, bool_dom, int_dom, name_dom}
 use Rattle.ess_semantics.specs.Types.{Ty}
 use Rattle.ess_semantics.specs.Kinds.{is_bounded}
 use Rattle.ess_semantics.specs.ExpressionJudgements.{forgets_order}
@@ -20,9 +18,9 @@ use Rattle.ess_given_laws.specs.GivenEnds.{reads_given, conditions_read_none}
 use Rattle.ess_given_laws.proofs.GivenEnds.{given-ends}
 use Rattle.ess_given_conditions_laws.specs.GrowingNames.{HasNoneFrom}
 use Rattle.ess_given_conditions_laws.specs.GivenChains.{IsGivenStep, SparesAll}
-use Rattle.ess_given_conditions_laws.specs.ConditionsEnd.{IsSettled, SettledIn, AllSettled, GensSettled, own_read_none}
+use Rattle.ess_given_conditions_laws.specs.ConditionsEnd.{IsSettled, SettledIn, AllSettled, GensSettled}
 use Rattle.ess_given_conditions_laws.proofs.ConditionsEnd.{own-read, either-way}
-use Rattle.ess_given_order_laws.specs.InOrder.{in_order, gens_in_order, Ordered, AllOrdered, GensOrdered, InOrder}
+use Rattle.ess_given_order_laws.specs.InOrder.{in_order, gens_in_order, Ordered, AllOrdered, GensOrdered}
 use Rattle.ess_given_order_laws.specs.OrderEnds.{conditions_read_given, lists_read_given, own_read_given, given_conditions, all_given_conditions, gens_given_conditions, AllGiven, OrderEnds}
 use Rattle.ess_given_order_laws.proofs.OrderStays.{order-stays}
 

@@ -1,5 +1,5 @@
 -- From trees in order at their places to refined trees whose conditions read given tables.
-use Rattle.std.proofs.Common.{◌≡◌, refl, ℕ, ◌+◌, ◌≤◌, ◌^◌, Bool, true, false, ◌&&◌, List, [], ◌++◌, length, arith}
+use Rattle.std.proofs.Common.{◌≡◌, refl, ℕ, ◌+◌, ◌≤◌, ◌^◌, Bool, true, false, ◌&&◌, [], ◌++◌, length, arith}
 use Rattle.ess_semantics.specs.Values.{Text}
 use Rattle.ess_semantics.specs.Names.{Names}
 use Rattle.ess_semantics.specs.Trees.{Ex, Exs, number_ex, truth_ex, name_ex, node_ex, matrix_ex, comp_ex, cell_ex, seen_ex, no_exs, more_exs, Gens, no_gens, over, from, cond}
@@ -16,12 +16,12 @@ use Rattle.ess_given_conditions_laws.specs.GrowingNames.{HasNoneFrom, Grows}
 use Rattle.ess_given_conditions_laws.specs.GivenChains.{IsGivenStep, SparesAll}
 use Rattle.ess_given_conditions_laws.specs.ConditionsEnd.{SettledIn}
 use Rattle.ess_given_conditions_laws.proofs.Assigned.{assigned, Assigned, at-first, at-later, as-assigned, assigned-grows}
-use Rattle.ess_given_conditions_laws.proofs.Marks.{mark_pat, marks, marks_all, marks_gens, marks_dom, pat-number, ex-number, all-number, gens-number, dom-number}
+use Rattle.ess_given_conditions_laws.proofs.Marks.{mark_pat, marks, marks_all, marks_gens, marks_dom, pat-number, ex-number, gens-number, dom-number}
 use Rattle.ess_given_conditions_laws.proofs.ToldPatterns.{Follows, pat-follows}
 use Rattle.ess_given_conditions_laws.proofs.ToldGiven.{gens-follow, fixed-told, given-told}
 use Rattle.ess_given_conditions_laws.proofs.GivenSteps.{spares-told}
 use Rattle.ess_given_conditions_laws.proofs.GivenChains.{chain-up, grows-on}
-use Rattle.ess_given_order_laws.specs.InOrder.{in_order, gens_in_order, Ordered, AllOrdered, GensOrdered, InOrder}
+use Rattle.ess_given_order_laws.specs.InOrder.{in_order, gens_in_order, Ordered, AllOrdered, GensOrdered}
 use Rattle.ess_given_order_laws.specs.OrderEnds.{AllGiven}
 use Rattle.ess_given_order_laws.specs.OrderInScope.{is_in_order_in, are_gens_in_order_in, is_ordered_in, are_ordered_in, are_gens_ordered_in, OrderedApart, GivenStaysInConditions}
 use Rattle.ess_given_order_laws.proofs.OrderEnds.{order-ends}

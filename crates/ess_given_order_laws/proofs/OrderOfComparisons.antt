@@ -1,35 +1,17 @@
 -- Rules of components and comparisons keep comprehensions in order where order counts.
-use Rattle.std.proofs.Common.{◌≡◌, refl, sym, subst, ℕ, zero, suc, Bool, true, false, ◌&&◌, ◌||◌, not, if◌then◌else◌, List, [], ◌∷◌, Option, Some, None}
+use Rattle.std.proofs.Common.{◌≡◌, refl, ℕ, zero, suc, Bool, true, false, ◌&&◌, ◌||◌, if◌then◌else◌, List, [], ◌∷◌, Option, Some, None}
 use Rattle.ess_semantics.specs.declared.words.Op2.{Op2}
-use Rattle.ess_semantics.specs.declared.words.Fun.{Fun}
-use Rattle.ess_semantics.specs.Lists.{and_then}
 use Rattle.ess_semantics.specs.Values.{Text, a_record}
 use Rattle.ess_semantics.specs.Order.{same_text, same_texts}
 use Rattle.ess_semantics.specs.Names.{Names}
-use Rattle.ess_semantics.specs.Trees.{to_component, to_field, word, index, tuple_literal, mset_literal, matrix_literal, record_literal, Pats, more_pats, no_pats, name_pat, tuple_pat, Ex, Exs, name_ex, node_ex, comp_ex, ex2, fun1, no_exs, more_exs, Gens, no_gens, over, from, cond, Doms, no_doms, more_doms, tuple_dom, record_dom}
+use Rattle.ess_semantics.specs.Trees.{to_component, to_field, index, tuple_literal, record_literal, Ex, Exs, node_ex, ex2, no_exs, more_exs, from}
 use Rattle.ess_semantics.specs.Types.{Ty, Tys, no_tys, more_tys, compound}
 use Rattle.ess_semantics.specs.Typing.{type_of}
-use Rattle.ess_semantics.specs.ExpressionJudgements.{forgets_order}
-use Rattle.ess_semantics.specs.Substitution.{substitute, substitute_gens, for_name}
-use Rattle.ess_semantics.proofs.Tests.{and-left, and-right, and-both}
-use Rattle.ess_rules_laws.specs.FoldRules.{is_fold, is_laid_open, fold_alone, fold_nothing, fold_one, fold_bare, fold_term}
-use Rattle.ess_rules_laws.specs.LooseRules.{fold_loosely}
-use Rattle.ess_rules_laws.specs.SourceRules.{is_marked, list_of, each_fold, fold_items}
-use Rattle.ess_rules_laws.specs.SpliceRules.{append_gens, splice}
-use Rattle.ess_rules_laws.specs.SplitRules.{as_many, each_over, split}
-use Rattle.ess_rules_laws.specs.TupleNames.{named_exs, tuples_over, name_over_tuple, are_names}
-use Rattle.ess_rules_laws.specs.Listings.{Alternative}
-use Rattle.ess_rules_laws.specs.ListedSources.{put_listed, source_alone, each_put, source_parts}
 use Rattle.ess_rules_laws.specs.LiteralRules.{nth, component_listed}
 use Rattle.ess_rules_laws.specs.FieldLiterals.{field_term, field_listed}
 use Rattle.ess_rules_laws.specs.InclusionRules.{both_sets, both_msets, unequal, included_turned, included_strictly}
 use Rattle.ess_rules_laws.specs.ComponentRules.{components, equal_from, equal_where, equal_components, are_fields, equal_each, equal_where_fields, equal_fields}
-use Rattle.ess_refine_laws.specs.RecordNames.{are_in_order, records_over, name_over_record}
-use Rattle.ess_refine_laws.specs.AllRules.{only_one}
-use Rattle.ess_given_laws.specs.Given.{is_fixed, are_fixed, are_fixed_gens, GivenIn}
-use Rattle.ess_given_order_laws.specs.InOrder.{in_order, gens_in_order, Ordered, AllOrdered, GensOrdered, InOrder}
-use Rattle.ess_given_order_laws.proofs.OrderedParts.{PutsOrder, put-order, put-kept, put-gens-in, put-gens-order, append-in, append-order}
-use Rattle.ess_given_order_laws.proofs.OrderOfListings.{of-word, worded, AllAlternatives, SomeAlternatives}
+use Rattle.ess_given_order_laws.specs.InOrder.{Ordered, AllOrdered, InOrder}
 use Rattle.ess_given_order_laws.proofs.OrderOfFolds.{Answered, when}
 
 module _ (u : Text → Bool) where

@@ -1,29 +1,22 @@
 -- Conditions that leave keep comprehensions in order where order counts.
-use Rattle.std.proofs.Common.{◌≡◌, refl, sym, ap, ◌∙◌, Bool, true, false, ◌&&◌, ◌||◌, not, if◌then◌else◌, List, [], ◌∷◌, map, Option, Some, None, option_map}
-use Rattle.std.specs.List.{list_all}
+use Rattle.std.proofs.Common.{◌≡◌, refl, ap, Bool, true, false, ◌&&◌, if◌then◌else◌, ◌∷◌, map, Option, Some, None, option_map}
 use Rattle.ess_semantics.specs.declared.words.Fun.{Fun}
-use Rattle.ess_semantics.specs.Lists.{and_then}
 use Rattle.ess_semantics.specs.Values.{Text}
-use Rattle.ess_semantics.specs.Names.{Names}
-use Rattle.ess_semantics.specs.Trees.{word, name_pat, Ex, Exs, name_ex, node_ex, comp_ex, ex2, fun1, no_exs, more_exs, Gens, no_gens, over, from, cond}
+use Rattle.ess_semantics.specs.Trees.{word, Ex, comp_ex, fun1, Gens, no_gens, over, from, cond}
 use Rattle.ess_semantics.specs.Types.{Ty}
 use Rattle.ess_semantics.specs.ExpressionJudgements.{forgets_order}
-use Rattle.ess_semantics.specs.Substitution.{substitute_gens, for_name}
 use Rattle.ess_semantics.specs.Refined.{is_refined, are_refined_gens}
 use Rattle.ess_semantics.proofs.Tests.{and-left}
 use Rattle.ess_rules_laws.specs.SourceRules.{is_marked}
 use Rattle.ess_rules_laws.specs.SpliceRules.{append_gens}
-use Rattle.ess_rules_laws.specs.Listings.{Alternative}
-use Rattle.ess_rules_laws.specs.ListedSources.{laid_out}
 use Rattle.ess_refine_laws.specs.LeavingConditions.{Parted, at_last_condition, under_condition, condition_leaves}
 use Rattle.ess_refine_laws.specs.MovingConditions.{one_later, condition_later}
 use Rattle.ess_refine_laws.specs.ExtremeRules.{is_extreme, are_none, either_number, extreme_condition}
 use Rattle.ess_refine_laws.specs.Everywhere.{everywhere, everywhere_gens}
-use Rattle.ess_given_laws.specs.Given.{GivenIn}
-use Rattle.ess_given_order_laws.specs.InOrder.{in_order, Ordered, AllOrdered, GensOrdered, InOrder}
-use Rattle.ess_given_order_laws.proofs.OrderedParts.{PutsOrder, put-kept, put-gens-order, append-order}
-use Rattle.ess_given_order_laws.proofs.OrderOfListings.{of-word, worded, AllAlternatives, SomeAlternatives, PartedOrder, parted-order, every-kept, every-gens, extreme-kept}
-use Rattle.ess_given_order_laws.proofs.OrderOfFolds.{Answered, AnsweredFor, PutsAll, PutsSome, marked-forgets}
+use Rattle.ess_given_order_laws.specs.InOrder.{Ordered, GensOrdered, InOrder}
+use Rattle.ess_given_order_laws.proofs.OrderedParts.{append-order}
+use Rattle.ess_given_order_laws.proofs.OrderOfListings.{of-word, worded, PartedOrder, parted-order, every-kept, every-gens}
+use Rattle.ess_given_order_laws.proofs.OrderOfFolds.{Answered, marked-forgets}
 
 extreme-forgets : (f : Fun) → is_extreme f ≡ true → forgets_order (word f) ≡ true
 extreme-forgets Fun.Min q = refl

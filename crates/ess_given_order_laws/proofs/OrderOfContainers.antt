@@ -1,30 +1,28 @@
 -- Rules of containers and lists keep comprehensions in order where order counts.
-use Rattle.std.proofs.Common.{◌≡◌, refl, zero, suc, Bool, true, false, ◌&&◌, ◌||◌, not, if◌then◌else◌, pos, Option, Some, None, option_map}
+use Rattle.std.proofs.Common.{◌≡◌, refl, Bool, true, false, ◌&&◌, ◌||◌, not, if◌then◌else◌, Option, Some, None, option_map}
 use Rattle.ess_semantics.specs.declared.words.Op1.{Op1}
 use Rattle.ess_semantics.specs.declared.words.Op2.{Op2}
 use Rattle.ess_semantics.specs.declared.words.Fun.{Fun}
 use Rattle.ess_semantics.specs.Lists.{and_then}
 use Rattle.ess_semantics.specs.Values.{Text, a_function, a_matrix}
 use Rattle.ess_semantics.specs.Names.{Names}
-use Rattle.ess_semantics.specs.Trees.{word, set_literal, mset_literal, relation_literal, matrix_literal, name_pat, Ex, Exs, number_ex, truth_ex, name_ex, node_ex, matrix_ex, comp_ex, cell_ex, seen_ex, ex1, ex2, fun1, no_exs, more_exs, Gens, no_gens, over, from, Dom}
+use Rattle.ess_semantics.specs.Trees.{word, matrix_literal, name_pat, Ex, number_ex, truth_ex, name_ex, node_ex, matrix_ex, comp_ex, cell_ex, seen_ex, ex1, ex2, fun1, no_exs, more_exs, no_gens, from, Dom}
 use Rattle.ess_semantics.specs.Types.{Ty, compound2, int_ty}
 use Rattle.ess_semantics.specs.Typing.{type_of, types_under}
 use Rattle.ess_semantics.specs.ExpressionJudgements.{forgets_order}
 use Rattle.ess_semantics.proofs.Tests.{and-left, and-both}
 use Rattle.ess_rules_laws.specs.FoldRules.{is_laid_open}
 use Rattle.ess_rules_laws.specs.ContainerListings.{of_function, range_as_set}
-use Rattle.ess_rules_laws.specs.LiteralRules.{unequal_each, unequal_pairs, different_listed, extreme_listed}
 use Rattle.ess_rules_laws.specs.InclusionRules.{both_sets, both_msets, both_functions, included_members, included_often, equal_members, equal_often, equal_pairs}
 use Rattle.ess_rules_laws.specs.ComponentRules.{component_of}
 use Rattle.ess_rules_laws.specs.PartitionRules.{both_partitions, equal_parts}
 use Rattle.ess_rules_laws.specs.MatrixRules.{is_matrix, lies_in, equal_each_at, both_matrices, equal_matrices, equal_to_nothing}
-use Rattle.ess_rules_laws.specs.MembershipRules.{equations, member_term, member_combined, is_asked, member_of, member_changed, member_listed}
+use Rattle.ess_rules_laws.specs.MembershipRules.{member_term, is_asked, member_of, member_changed}
 use Rattle.ess_rules_laws.specs.FunctionMembershipRules.{an_argument, a_result, a_source, member_of_function, member_related}
 use Rattle.ess_rules_laws.specs.SizeRules.{is_counted, size_term, frequency_term, together_term}
-use Rattle.ess_rules_laws.specs.ShortSizeRules.{is_function, is_partition, size_made, frequency_made, ones_where, frequency_listed}
+use Rattle.ess_rules_laws.specs.ShortSizeRules.{is_function, is_partition, size_made, frequency_made}
 use Rattle.ess_rules_laws.specs.ListRules.{members_list, is_of_list, is_lex, list_term, as_members, lex_both, different_term}
-use Rattle.ess_rules_laws.specs.ChoiceRules.{choice_shorter}
-use Rattle.ess_given_order_laws.specs.InOrder.{in_order, Ordered, AllOrdered, InOrder}
+use Rattle.ess_given_order_laws.specs.InOrder.{in_order, Ordered, InOrder}
 use Rattle.ess_given_order_laws.proofs.OrderOfListings.{nm, of-word, worded}
 use Rattle.ess_given_order_laws.proofs.OrderOfFolds.{Answered, when}
 

@@ -1,12 +1,12 @@
 -- Listings, numbers that are there everywhere, and generators taken apart keep comprehensions in order where order counts.
-use Rattle.std.proofs.Common.{◌≡◌, refl, sym, subst, Bool, true, false, ◌&&◌, if◌then◌else◌, List, [], ◌∷◌, pos, Option, Some, None, option_map}
+use Rattle.std.proofs.Common.{◌≡◌, refl, sym, subst, Bool, true, false, if◌then◌else◌, List, [], ◌∷◌, pos, Option, Some, None, option_map}
 use Rattle.ess_semantics.specs.declared.words.Op1.{Op1}
 use Rattle.ess_semantics.specs.declared.words.Op2.{Op2}
 use Rattle.ess_semantics.specs.declared.words.Fun.{Fun}
 use Rattle.ess_semantics.specs.Lists.{or_else}
 use Rattle.ess_semantics.specs.Values.{Text, a_function}
 use Rattle.ess_semantics.specs.Names.{Names}
-use Rattle.ess_semantics.specs.Trees.{word, function_literal, partition_literal, set_literal, mset_literal, relation_literal, matrix_literal, name_pat, Ex, Exs, number_ex, name_ex, node_ex, matrix_ex, comp_ex, ex1, ex2, fun1, no_exs, more_exs, Gens, no_gens, over, from, cond, Dom}
+use Rattle.ess_semantics.specs.Trees.{word, function_literal, partition_literal, set_literal, mset_literal, relation_literal, matrix_literal, name_pat, Ex, Exs, number_ex, name_ex, node_ex, matrix_ex, comp_ex, ex1, ex2, fun1, no_exs, more_exs, Gens, no_gens, over, from, cond}
 use Rattle.ess_semantics.specs.Types.{Ty, compound2}
 use Rattle.ess_semantics.specs.Typing.{type_of}
 use Rattle.ess_semantics.specs.ExpressionJudgements.{forgets_order}
@@ -17,10 +17,10 @@ use Rattle.ess_rules_laws.specs.ShortSizeRules.{is_partition}
 use Rattle.ess_rules_laws.specs.ContainerListings.{of_function, made_listing}
 use Rattle.ess_refine_laws.specs.AllRules.{Supply, offered}
 use Rattle.ess_refine_laws.specs.LeavingConditions.{Parted, with_before, at_last_condition}
-use Rattle.ess_refine_laws.specs.Everywhere.{divisor, base, exponent, raised, extreme, is_nonzero, is_positive, everywhere, everywhere_list, everywhere_exs, everywhere_gens, everywhere_dom}
+use Rattle.ess_refine_laws.specs.Everywhere.{divisor, base, exponent, raised, extreme, is_nonzero, is_positive, everywhere, everywhere_list, everywhere_exs, everywhere_gens}
 use Rattle.ess_refine_laws.specs.ItemsOnce.{is_atom_dom, items_once}
-use Rattle.ess_given_order_laws.specs.InOrder.{in_order, gens_in_order, Ordered, AllOrdered, GensOrdered, InOrder}
-use Rattle.ess_given_order_laws.proofs.OrderedParts.{PutsOrder, put-order, put-kept, put-gens-order}
+use Rattle.ess_given_order_laws.specs.InOrder.{Ordered, AllOrdered, GensOrdered, InOrder}
+use Rattle.ess_given_order_laws.proofs.OrderedParts.{PutsOrder, put-kept, put-gens-order}
 
 module _ (u : Text → Bool) where
   -- A name.

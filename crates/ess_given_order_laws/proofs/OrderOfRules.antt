@@ -1,33 +1,25 @@
 -- Every rule keeps comprehensions in order where order counts.
-use Rattle.std.proofs.Common.{◌≡◌, refl, sym, ap, ◌∙◌, Bool, true, false, ◌&&◌, ◌||◌, not, if◌then◌else◌, List, [], ◌∷◌, map, Option, Some, None, option_map}
-use Rattle.std.specs.List.{list_all}
+use Rattle.std.proofs.Common.{◌≡◌, refl, ap, Bool, true, false, not, if◌then◌else◌, List, [], ◌∷◌, map, Option, Some, None}
 use Rattle.ess_semantics.specs.declared.words.Fun.{Fun}
 use Rattle.ess_semantics.specs.Lists.{and_then}
 use Rattle.ess_semantics.specs.Values.{Text}
 use Rattle.ess_semantics.specs.Names.{Names}
-use Rattle.ess_semantics.specs.Trees.{word, name_pat, Ex, Exs, name_ex, node_ex, comp_ex, ex2, fun1, no_exs, more_exs, Gens, no_gens, over, from, cond}
+use Rattle.ess_semantics.specs.Trees.{word, name_pat, Ex, comp_ex, ex2, fun1, Gens, over, from, cond}
 use Rattle.ess_semantics.specs.Types.{Ty}
 use Rattle.ess_semantics.specs.ExpressionJudgements.{forgets_order}
 use Rattle.ess_semantics.specs.Substitution.{substitute_gens, for_name}
-use Rattle.ess_semantics.specs.Refined.{is_refined, are_refined_gens}
-use Rattle.ess_semantics.proofs.Tests.{and-left}
-use Rattle.ess_rules_laws.specs.SourceRules.{is_marked}
-use Rattle.ess_rules_laws.specs.SpliceRules.{append_gens}
 use Rattle.ess_rules_laws.specs.Listings.{Alternative}
 use Rattle.ess_rules_laws.specs.ListedSources.{laid_out}
 use Rattle.ess_rules_laws.specs.LiteralRules.{different_listed}
 use Rattle.ess_rules_laws.specs.ListRules.{different_term}
-use Rattle.ess_refine_laws.specs.LeavingConditions.{Parted, at_last_condition, under_condition, condition_leaves}
-use Rattle.ess_refine_laws.specs.MovingConditions.{one_later, condition_later}
-use Rattle.ess_refine_laws.specs.ExtremeRules.{is_extreme, are_none, either_number, extreme_condition}
-use Rattle.ess_refine_laws.specs.Everywhere.{everywhere, everywhere_gens}
+use Rattle.ess_refine_laws.specs.ExtremeRules.{extreme_condition}
 use Rattle.ess_refine_laws.specs.ExtremeAlternatives.{put_alternative, each_extreme, each_size, past_all, extreme_alternatives}
 use Rattle.ess_refine_laws.specs.AllRules.{Rule, over_nothing, over_one, over_one_binding, over_a_term, over_a_literal, over_a_made_set, over_a_source, of_one_source, over_a_comprehension, over_tuples, over_a_tuple, over_a_record, over_a_condition, component_of_a_tuple, field_of_a_record, not_equal, turned, strictly, equal_tuples, equal_records, equal_sets, equal_multisets, equal_functions, equal_partitions, with_nothing, equal_matrices_at, included_sets, included_multisets, in_two, in_one_made_of_another, in_a_literal, in_what_a_function_has, in_its_pairs, in_a_term, size_of_one_made_of_another, size, frequency_in_one_made_of_another, frequency_in_a_literal, frequency, together, least_of_a_literal, different_items, list_of_a_term, lists_on_both_sides, all_different, results, choice, condition, condition_behind, least_under_a_condition, least_of_alternatives, Supply, offered, source_listed, source_listed_once, extremes_listed, matrices_at, opposite_copied, compares_compound, tells_scalars_apart, rewrite}
 use Rattle.ess_given_laws.specs.Given.{GivenIn}
 use Rattle.ess_given_order_laws.specs.OrderStays.{TakesOrder}
-use Rattle.ess_given_order_laws.specs.InOrder.{in_order, Ordered, AllOrdered, GensOrdered, InOrder}
-use Rattle.ess_given_order_laws.proofs.OrderedParts.{PutsOrder, put-kept, put-gens-order, append-order}
-use Rattle.ess_given_order_laws.proofs.OrderOfListings.{of-word, worded, AllAlternatives, SomeAlternatives, PartedOrder, parted-order, every-kept, every-gens, extreme-kept}
+use Rattle.ess_given_order_laws.specs.InOrder.{Ordered, AllOrdered, GensOrdered, InOrder}
+use Rattle.ess_given_order_laws.proofs.OrderedParts.{put-kept, put-gens-order, append-order}
+use Rattle.ess_given_order_laws.proofs.OrderOfListings.{of-word, AllAlternatives, SomeAlternatives, extreme-kept}
 use Rattle.ess_given_order_laws.proofs.OrderOfFolds.{Answered, AnsweredFor, PutsAll, PutsSome, under, nothing, one-item, bare, alone, term, loosely, literal-items, in-parts, in-one-part, spliced, splits, tuple-name, record-name}
 use Rattle.ess_given_order_laws.proofs.OrderOfComparisons.{component, field, apart, turns, strict, tuples, records}
 use Rattle.ess_given_order_laws.proofs.OrderOfContainers.{members, often, same_members, same_often, same_pairs, same_parts, no-items, matrices, changed, of-function, related, member, size-made, sized, frequency-made, counted, one-part, list-of-term, both-lists, different, results as results-kept}

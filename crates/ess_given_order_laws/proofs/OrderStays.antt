@@ -1,5 +1,5 @@
 -- Comprehensions where order counts stay in order along chains.
-use Rattle.std.proofs.Common.{◌≡◌, refl, sym, ◌∙◌, ℕ, suc, ◌+◌, ◌≤◌, ◌^◌, Bool, true, false, ◌&&◌, [], ◌++◌, length, Option, Some, None, arith}
+use Rattle.std.proofs.Common.{◌≡◌, refl, sym, ◌∙◌, ℕ, suc, ◌+◌, ◌≤◌, ◌^◌, Bool, true, false, [], ◌++◌, length, Option, Some, None, arith}
 use Rattle.ess_semantics.specs.declared.words.Fun.{Fun}
 use Rattle.ess_semantics.specs.Values.{Text}
 use Rattle.ess_semantics.specs.Names.{Names}
@@ -12,7 +12,7 @@ use Rattle.ess_refine_laws.specs.LeavingConditions.{Parted, at_last_condition}
 use Rattle.ess_refine_laws.specs.ExtremeRules.{opposite}
 use Rattle.ess_refine_laws.specs.Everywhere.{everywhere, everywhere_gens}
 use Rattle.ess_refine_laws.specs.Copies.{opposite_of}
-use Rattle.ess_refine_laws.specs.AllRules.{Rule, least_under_a_condition, opposite_copied, rewrite}
+use Rattle.ess_refine_laws.specs.AllRules.{Rule, least_under_a_condition, rewrite}
 use Rattle.conjure_model_laws.specs.ToldApart.{told, told_apart}
 use Rattle.ess_chain_names_laws.specs.Steps.{supply_at, behind_names, Chain, at_rest, one_more}
 use Rattle.ess_given_laws.specs.PartsHave.{AllHave, GensHave}
@@ -23,14 +23,14 @@ use Rattle.ess_given_laws.proofs.FixedNumbers.{every-dom}
 use Rattle.ess_given_laws.proofs.PartsOfListings.{PartedHas, parted-names, everywhere-names, gens-everywhere}
 use Rattle.ess_given_laws.proofs.GivenStays.{given-stays}
 use Rattle.ess_given_conditions_laws.specs.GrowingNames.{HasNoneFrom, Grows}
-use Rattle.ess_given_conditions_laws.specs.GivenChains.{CountsNothing, IsGivenStep, by_given_rule, by_new_names, SparesAll}
+use Rattle.ess_given_conditions_laws.specs.GivenChains.{IsGivenStep, by_given_rule, by_new_names, SparesAll}
 use Rattle.ess_given_conditions_laws.proofs.Assigned.{assigned, Assigned, at-later, as-assigned, assigned-grows}
 use Rattle.ess_given_conditions_laws.proofs.Marks.{marks, ex-number}
-use Rattle.ess_given_conditions_laws.proofs.MoreFixed.{fixed-among, given-among}
+use Rattle.ess_given_conditions_laws.proofs.MoreFixed.{given-among}
 use Rattle.ess_given_conditions_laws.proofs.FixedParts.{of-part}
-use Rattle.ess_given_conditions_laws.proofs.GivenSteps.{trues, marks-of, opposite-marks, copy-marks, taken-marks, copy-number, trues-number, trues-alone, fit, anew, new, by-rule, same-among, by-a-step}
+use Rattle.ess_given_conditions_laws.proofs.GivenSteps.{trues, marks-of, copy-marks, taken-marks, copy-number, trues-number, trues-alone, fit, anew, new, by-rule, same-among, by-a-step}
 use Rattle.ess_given_conditions_laws.proofs.GivenChains.{step-up, chain-up, none-later, spares-later, grows-on}
-use Rattle.ess_given_order_laws.specs.InOrder.{in_order, Ordered, GensOrdered, InOrder}
+use Rattle.ess_given_order_laws.specs.InOrder.{in_order, Ordered, InOrder}
 use Rattle.ess_given_order_laws.specs.OrderStays.{TakesOrder, StaysOrdered, OrderStays}
 use Rattle.ess_given_order_laws.proofs.OrderedParts.{part-order}
 use Rattle.ess_given_order_laws.proofs.OrderOfListings.{of-word, worded, PartedOrder, parted-order, every-kept, every-gens}

@@ -1,5 +1,5 @@
 -- Terms put in for names, more generators, and parts that are replaced: comprehensions where order counts stay in order.
-use Rattle.std.proofs.Common.{◌≡◌, refl, ap, ◌∙◌, Bool, true, false, ◌&&◌, if◌then◌else◌}
+use Rattle.std.proofs.Common.{◌≡◌, refl, ap, ◌∙◌, Bool, true, false, if◌then◌else◌}
 use Rattle.ess_semantics.specs.Values.{Text}
 use Rattle.ess_semantics.specs.Order.{same_text}
 use Rattle.ess_semantics.specs.Trees.{Ex, Exs, number_ex, truth_ex, name_ex, node_ex, matrix_ex, comp_ex, cell_ex, seen_ex, no_exs, more_exs, Gens, no_gens, over, from, cond}
@@ -7,7 +7,6 @@ use Rattle.ess_semantics.specs.ExpressionJudgements.{forgets_order}
 use Rattle.ess_semantics.specs.Substitution.{substitute, substitute_exs, substitute_gens, for_name}
 use Rattle.ess_semantics.specs.Contexts.{In, Ins, InGens, hole, in_operand, in_item, in_index_domain, in_body, in_generators, in_cell_index, in_view_domain, in_view_index, in_first, in_later, in_generator_domain, behind_over, in_source, behind_from, in_condition, behind_condition, fill, fill_exs, fill_gens}
 use Rattle.ess_semantics.proofs.Texts.{same_text-equal}
-use Rattle.ess_semantics.proofs.Tests.{and-left, and-right, and-both}
 use Rattle.ess_rules_laws.specs.SpliceRules.{append_gens}
 use Rattle.ess_given_laws.specs.Given.{is_fixed}
 use Rattle.ess_given_laws.proofs.FixedTrees.{both-so, then-so, first-so, put-fixed, part-fixed}

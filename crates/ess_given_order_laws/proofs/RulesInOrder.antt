@@ -1,12 +1,11 @@
 -- Each rule keeps comprehensions in order where order counts, where its names belong to what is fixed.
-use Rattle.std.proofs.Common.{◌≡◌, refl, ap, ◌∙◌, subst, Bool, true, false, ◌&&◌, ◌||◌, List, [], ◌∷◌, Option, Some, None}
+use Rattle.std.proofs.Common.{◌≡◌, refl, ◌∙◌, subst, Bool, true, false, ◌||◌, List, [], ◌∷◌, Option, Some, None}
 use Rattle.ess_semantics.specs.Values.{Text}
 use Rattle.ess_semantics.specs.Names.{Names}
 use Rattle.ess_semantics.specs.Trees.{word, name_pat, Ex, name_ex, comp_ex, fun1, from}
 use Rattle.ess_semantics.specs.Types.{Ty}
 use Rattle.ess_semantics.specs.ExpressionJudgements.{forgets_order}
 use Rattle.ess_semantics.specs.Substitution.{for_name}
-use Rattle.ess_semantics.proofs.Tests.{or-yes}
 use Rattle.ess_rules_laws.specs.Listings.{Alternative}
 use Rattle.ess_refine_laws.specs.AllRules.{Rule, over_a_source, of_one_source, least_of_alternatives, Supply, offered, rewrite}
 use Rattle.ess_given_laws.specs.PartsHave.{PartsHave}
@@ -18,7 +17,7 @@ use Rattle.ess_given_laws.proofs.PartsOfFolds.{HaveAll, HaveSome}
 use Rattle.ess_given_laws.proofs.PartsOfListings.{New, offered-has}
 use Rattle.ess_given_order_laws.specs.InOrder.{in_order, Ordered}
 use Rattle.ess_given_order_laws.specs.OrderStays.{TakesOrder}
-use Rattle.ess_given_order_laws.proofs.OrderedParts.{at-name, PutsOrder}
+use Rattle.ess_given_order_laws.proofs.OrderedParts.{at-name}
 use Rattle.ess_given_order_laws.proofs.OrderOfListings.{of-word, AllAlternatives, SomeAlternatives, offered-order}
 use Rattle.ess_given_order_laws.proofs.OrderOfFolds.{AnsweredFor, PutsAll, PutsSome, drawn}
 use Rattle.ess_given_order_laws.proofs.OrderOfRules.{OffersOrder, OffersOf, each-in-order}

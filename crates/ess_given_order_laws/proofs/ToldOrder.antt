@@ -1,5 +1,5 @@
 -- Told apart, comprehensions where order counts stay in order, and so they do where more names belong to what is fixed.
-use Rattle.std.proofs.Common.{◌≡◌, refl, ℕ, Bool, true, false, ◌&&◌, List, ◌++◌}
+use Rattle.std.proofs.Common.{◌≡◌, refl, ℕ, Bool, true, false, ◌&&◌, ◌++◌}
 use Rattle.std.specs.List.{list_all}
 use Rattle.ess_semantics.specs.Values.{Text}
 use Rattle.ess_semantics.specs.Names.{Names}
@@ -12,12 +12,12 @@ use Rattle.ess_given_laws.specs.Given.{all_bound, is_fixed, are_fixed, are_fixed
 use Rattle.ess_given_laws.proofs.FixedTrees.{both-so}
 use Rattle.ess_given_conditions_laws.specs.InScope.{bound_as, is_fixed_in, fixed_behind}
 use Rattle.ess_given_conditions_laws.proofs.Assigned.{Assigned, at-first, at-later}
-use Rattle.ess_given_conditions_laws.proofs.Marks.{mark_pat, marks, marks_all, marks_gens, marks_dom, pat-number, ex-number, all-number, gens-number, dom-number}
+use Rattle.ess_given_conditions_laws.proofs.Marks.{mark_pat, marks, marks_all, marks_gens, marks_dom, pat-number, ex-number, gens-number, dom-number}
 use Rattle.ess_given_conditions_laws.proofs.MoreFixed.{fixed-among}
 use Rattle.ess_given_conditions_laws.proofs.ToldPatterns.{Follows, pat-follows}
 use Rattle.ess_given_conditions_laws.proofs.ToldGiven.{gens-follow, fixed-told}
 use Rattle.ess_given_conditions_laws.proofs.ScopedGiven.{Within, within-bound, within-drawn, drawn-so, within-given, fixed-scoped}
-use Rattle.ess_given_order_laws.specs.InOrder.{in_order, gens_in_order, Ordered, AllOrdered, GensOrdered, InOrder}
+use Rattle.ess_given_order_laws.specs.InOrder.{in_order, gens_in_order, Ordered, AllOrdered, GensOrdered}
 
 -- u are the names that are fixed in the tree, v those of the tree that is told apart.
 module _ (u v : Text → Bool) (more : (a : Text) → u a ≡ true → v a ≡ true) where

@@ -52,7 +52,8 @@ module _ (S : List Stm) (p o : Options) (q : plans S p ≡ plans S o) where
   statement-again (find x d) a t =
       ap (λ Ps. (is_scalar_dom (given_mark Ps) d && is_atom_alone (chosen_reprs p x d))
       || (is_set_dom (kinds S) d && is_occurrence_alone (chosen_reprs p x d))) q
-      ∙ ap (λ rs. (is_scalar_dom (given_mark (plans S o)) d && is_atom_alone rs) || (is_set_dom (kinds S) d && is_occurrence_alone rs)) a.0 ∙ t
+      ∙ ap (λ rs. (is_scalar_dom (given_mark (plans S o)) d && is_atom_alone rs) || (is_set_dom (kinds S) d && is_occurrence_alone rs))
+      a.0 ∙ t
   statement-again (given_enum u) a t = refl
   statement-again (let_enum u ns) a t = refl
   statement-again (let_unnamed u e) a t = t
@@ -95,10 +96,15 @@ module _ (S : List Stm) (o : Options) (t : fault S ≡ None) where
       let c : Bool = have_bounds (plans S o) [] (prepared S) in
       let d : Bool = list_all (has_marks (plans S o)) (constraints_of S) in
       let r = and-right a (b && (c && d)) h in
-      ap (λ Ps. are_mixed_statements S A && (b && (have_bounds Ps [] (prepared S) && list_all (has_marks Ps) (constraints_of S)))) same-plans
+      ap (λ Ps. are_mixed_statements S A && (b && (have_bounds Ps [] (prepared S) && list_all (has_marks Ps) (constraints_of S))))
+      same-plans
       ∙ and-both (are_mixed_statements S A) (b && (c && d))
       (all-again S A o same-plans (prepared S) themselves (and-left a (b && (c && d)) h)) r
 
 -- So it is of each specification of the class.
 pub chosen-mixed : ChosenOptionsKeepTheClass
-chosen-mixed = record { mixed = λ S o t h. mixed-again S o t h; same_plans = λ S o t. same-plans S o t; same_header = λ S o t. same-header S o t }
+chosen-mixed = record {
+  mixed = λ S o t h. mixed-again S o t h;
+  same_plans = λ S o t. same-plans S o t;
+  same_header = λ S o t. same-header S o t;
+}

@@ -1,5 +1,5 @@
 -- With cells and positions in the place of names a flat tree over scalars means what it meant, or its position, and is flat over cells.
-use Rattle.std.proofs.Common.{◌≡◌, refl, sym, ap, ◌∙◌, subst, ℕ, Bool, true, false, not, [], ◌∷◌, ℤ, pos, Option, Some, ◌<◌, ◌<ℤ◌, arith}
+use Rattle.std.proofs.Common.{◌≡◌, refl, sym, ap, ◌∙◌, subst, ℕ, Bool, true, false, not, [], ◌∷◌, pos, Option, Some, ◌<◌, ◌<ℤ◌, arith}
 use Rattle.std.specs.Ordering.{int_cmp, nat_cmp, ordering_then, is_eq, is_lt, MatchOrdering}
 use Rattle.std.specs.declared.cmp.Ordering.{Ordering}
 use Rattle.std.specs.declared.cmp.Ordering.TheVariants.{Less, Equal, Greater}

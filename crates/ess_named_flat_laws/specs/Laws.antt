@@ -20,8 +20,8 @@ pub record ScalarsShown (names : Text → Option Sort) (cells : Text → Option 
   pub views : (a : Text) (m : Sort) → names a ≡ Some m → IsScalarView cells (in_place sh.first a) (mark_of m)
 
 -- The test says which trees are flat and total. Nothing is bound in one. It has a value of its sort, and with cells and positions in the
--- place of names it means the position of that, the value itself where it is of no named type. So shown it is flat over cells, where no rule
--- fires.
+-- place of names it means the position of that, the value itself where it is of no named type. So shown it is flat over cells, where no
+-- rule fires.
 pub record NamedFlatTreesStand : Type 0 where
   pub tested : (names : Text → Option Sort) (e : Ex) (m : Sort) → named_sort names e ≡ Some m → NamedFlat names e m
   pub unbound : (names : Text → Option Sort) (e : Ex) (m : Sort) → NamedFlat names e m → (k : ℕ) → told e [] k ≡ (e, k)

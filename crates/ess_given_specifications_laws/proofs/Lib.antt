@@ -1,0 +1,4 @@
+pub mod JudgedOrder
+pub mod ShownOrder
+pub mod SpecificationsStayGiven
+mod ExamplesOrder
