@@ -1,0 +1,2 @@
+-- Terms that pick nothing, and trees of a membership
+pub mod MembershipOrder

@@ -1,0 +1,2 @@
+-- Trees of a membership
+pub mod MembershipOrder

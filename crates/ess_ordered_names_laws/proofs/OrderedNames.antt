@@ -1,0 +1,162 @@
+-- The rules of comprehensions whose items have an order bring no names but those that they take.
+use Rattle.std.proofs.Common.{◌≡◌, subst, ℕ, ◌+◌, ◌≤◌, Bool, true, false, ◌&&◌, if◌then◌else◌, List, ◌∷◌, Option, Some, None, option_map, arith}
+use Rattle.std.specs.Prelude.{IsTrue}
+use Rattle.ess_semantics.specs.Lists.{and_then, or_else, or_default}
+use Rattle.ess_semantics.specs.Values.{Text, a_matrix}
+use Rattle.ess_semantics.specs.Names.{Names}
+use Rattle.ess_semantics.specs.Trees.{name_pat, Ex, node_ex, comp_ex, Gens, no_gens, over, from, cond, Dom, bool_dom}
+use Rattle.ess_semantics.specs.Types.{Ty, compound2}
+use Rattle.ess_semantics.specs.Typing.{type_of}
+use Rattle.ess_semantics.specs.NamesAt.{names_behind}
+use Rattle.ess_semantics.specs.Contexts.{In, fill}
+use Rattle.ess_guard_laws.specs.IndexDomains.{index_dom}
+use Rattle.ess_rules_laws.specs.Listings.{Alternative}
+use Rattle.ess_rules_laws.specs.LiteralRules.{nth}
+use Rattle.ess_rules_laws.specs.AlternativeLookups.{select_each, select_whole_each}
+use Rattle.ess_refine_laws.specs.IndexedLists.{of_matrix}
+use Rattle.ess_refine_laws.specs.AllRules.{Supply}
+use Rattle.ess_open_rules_laws.specs.OpenGenerators.{Opened, with_first, opened_here, is_plain_over, at_first_open, put_before}
+use Rattle.ess_open_rules_laws.specs.OpenRules.{gives_scalar, is_compound_ty}
+use Rattle.ess_ordered_laws.specs.NumberedItems.{ordered_lookup}
+use Rattle.ess_ordered_laws.specs.IndexedSources.{is_by_index, items_at, indexed_term, indexed_source, indexed_behind}
+use Rattle.ess_ordered_laws.specs.OrderedRules.{OrderedRule, an_item, of_an_item, source_by_indices, item_alone, over_operand, at_operand, ordered_rewrite}
+use Rattle.conjure_model_laws.specs.ToldApart.{reserved}
+use Rattle.ess_chain_names_laws.specs.NamesHave.{NamesHave, GensNamesHave, DomNamesHave}
+use Rattle.ess_chain_names_laws.specs.Steps.{told_axis, supply_at}
+use Rattle.ess_chain_names_laws.specs.SparedNames.{Spares}
+use Rattle.ess_chain_names_laws.proofs.NamesHave.{append-names, part-names, of-part, names-wider}
+use Rattle.ess_chain_names_laws.proofs.NamesOfFolds.{Answers, HaveSome, under}
+use Rattle.ess_chain_names_laws.proofs.SparedNames.{axis-has, up_to, wider, given, names-given, is_before, both-false, before-none}
+use Rattle.ess_ordered_names_laws.specs.OrderedNames.{TakenHave, OrderedRulesKeepNames}
+use Rattle.ess_ordered_names_laws.proofs.NamesOfLookups.{nth-names, whole-names, operand-names, ordered-names}
+
+module _ (u : Text → Bool) where
+  either : (o p : Option Ex) → Answers u o → Answers u p → Answers u (or_else o p)
+  either None p h k = k
+  either (Some e) p h k = h
+
+  -- ---- items
+
+  module _ (s : Supply) (g : Names Ty) (t : TakenHave u s) where
+    looked : (e : Ex) → NamesHave u e → HaveSome u (ordered_lookup s.third s.parts e)
+    looked e h = ordered-names u s.third s.parts e t.third t.parts h
+
+    alone-names : (e : Ex) → NamesHave u e → Answers u (item_alone s g e)
+    alone-names e h = go (ordered_lookup s.third s.parts e) (looked e h)
+      where
+        go : (o : Option (List Alternative)) → HaveSome u o →
+            Answers u (and_then o (λ l. if gives_scalar g e then select_whole_each s.one l e else None))
+        go None k = tt
+        go (Some l) k = under u (gives_scalar g e) (select_whole_each s.one l e) (whole-names u s.one l e t.one k)
+
+    over-names : (k : ℕ) (e a : Ex) → NamesHave u e → NamesHave u a → Answers u (over_operand s g k e a)
+    over-names k e a h i = go (ordered_lookup s.third s.parts a) (looked a i)
+      where
+        go : (o : Option (List Alternative)) → HaveSome u o → Answers u (and_then o
+            (λ l. if gives_scalar g e && is_compound_ty (type_of a g) then select_each s.one k l e else None))
+        go None j = tt
+        go (Some l) j = under u (gives_scalar g e && is_compound_ty (type_of a g)) (select_each s.one k l e)
+            (operand-names u s.one k l e t.one j h)
+
+    at-names : (k : ℕ) (e : Ex) → NamesHave u e → Answers u (at_operand s g k e)
+    at-names k (node_ex b op es) h = go (nth es k) (nth-names u es k h)
+      where
+        go : (o : Option Ex) → Answers u o → Answers u (and_then o (over_operand s g k (node_ex b op es)))
+        go None j = tt
+        go (Some a) j = over-names k (node_ex b op es) a h j
+    at-names k _ h = tt
+
+  -- ---- sources
+
+  -- Both parts of the generators have such names.
+  abbrev OpenedHas : Option Opened → Type 0
+  OpenedHas None = Unit {0}
+  OpenedHas (Some t) = GensNamesHave u t.before × GensNamesHave u t.after
+
+  opened-behind : (f : Gens → Gens) → ((gs : Gens) → GensNamesHave u gs → GensNamesHave u (f gs)) → (o : Option Opened) → OpenedHas o →
+      OpenedHas (option_map (with_first f) o)
+  opened-behind f k None h = tt
+  opened-behind f k (Some t) h = (k t.before h.0, h.1)
+
+  opened-names : (gs : Gens) → GensNamesHave u gs → OpenedHas (at_first_open gs)
+  opened-names no_gens h = tt
+  opened-names (over p d gs) h =
+      go (is_plain_over p d) (opened-behind (over p d) (λ hs k. (h.0, h.1, k)) (at_first_open gs) (opened-names gs h.2))
+    where
+      go : (b : Bool) → OpenedHas (option_map (with_first (over p d)) (at_first_open gs)) →
+          OpenedHas (if b then option_map (with_first (over p d)) (at_first_open gs) else Some (opened_here (over p d gs)))
+      go true k = k
+      go false k = (tt, h)
+  opened-names (from p e gs) h = (tt, h)
+  opened-names (cond c gs) h = opened-behind (cond c) (λ hs k. (h.0, k)) (at_first_open gs) (opened-names gs h.1)
+
+  module _ (x : Text) (n : IsTrue (u x)) where
+    items-names : (t : Ex) → NamesHave u t → (d : Dom) → DomNamesHave u d → (o : Option Ty) → Answers u (of_matrix o (items_at x d t))
+    items-names t h d k (Some (compound2 a_matrix i ty)) = ((h, (n, tt)), (n, k, tt))
+    items-names t h d k _ = tt
+
+    term-names : (g : Names Ty) (t : Ex) → NamesHave u t → Answers u (indexed_term g x t)
+    term-names g t h = under u (is_by_index t) _ (go (index_dom t) (axis-has u t h))
+      where
+        go : (o : Option Dom) → DomNamesHave u (or_default o bool_dom) →
+            Answers u (and_then o (λ d. of_matrix (type_of t g) (items_at x d t)))
+        go None k = tt
+        go (Some d) k = items-names t h d k (type_of t g)
+
+    source-names : (g : Names Ty) (e : Ex) → NamesHave u e → Answers u (indexed_source g x e)
+    source-names g (comp_ex e (from (name_pat y) t hs)) h = go (indexed_term g x t) (term-names g t h.1.1)
+      where
+        go : (o : Option Ex) → Answers u o → Answers u (option_map (λ l. comp_ex e (from (name_pat y) l hs)) o)
+        go None k = tt
+        go (Some l) k = (h.0, (h.1.0, k, h.1.2))
+    source-names g _ h = tt
+
+    before-names : (gs : Gens) → GensNamesHave u gs → (o : Option Ex) → Answers u o → Answers u (and_then o (put_before gs))
+    before-names gs h None k = tt
+    before-names gs h (Some (comp_ex e ks)) k = (k.0, append-names u gs ks h k.1)
+    before-names gs h (Some _) k = tt
+
+    behind-names : (g : Names Ty) (e : Ex) → NamesHave u e → Answers u (indexed_behind g x e)
+    behind-names g (comp_ex e gs) h = go (at_first_open gs) (opened-names gs h.1)
+      where
+        go : (o : Option Opened) → OpenedHas o → Answers u (and_then o
+            (λ t. and_then (indexed_source (names_behind t.before g) x (comp_ex e t.after)) (put_before t.before)))
+        go None k = tt
+        go (Some t) k = before-names t.before k.0 (indexed_source (names_behind t.before g) x (comp_ex e t.after))
+            (source-names (names_behind t.before g) (comp_ex e t.after) (h.0, k.1))
+    behind-names g _ h = tt
+
+  -- ---- each rule
+
+  each-names : (s : Supply) (g : Names Ty) → TakenHave u s → (r : OrderedRule) (e : Ex) → NamesHave u e → Answers u (ordered_rewrite s g r e)
+  each-names s g t an_item e h = alone-names s g t e h
+  each-names s g t of_an_item e h = either (at_operand s g 1 e) (at_operand s g 2 e) (at-names s g t 1 e h) (at-names s g t 2 e h)
+  each-names s g t source_by_indices e h = behind-names s.one t.one g e h
+
+  pub rule-names : (s : Supply) (g : Names Ty) (r : OrderedRule) (e f : Ex) → ordered_rewrite s g r e ≡ Some f → TakenHave u s →
+      NamesHave u e → NamesHave u f
+  rule-names s g r e f q t h = subst (Answers u) q (each-names s g t r e h)
+
+-- ---- spared names
+
+taken-given : (u : Text → Bool) (n k m : ℕ) → n + 3 + k ≤ m → TakenHave (up_to u m) (supply_at n k)
+taken-given u n k m l = record {
+  one = given u m n (omega (arith, l));
+  third = given u m (n + 2) (omega (arith, l));
+  parts = names-given u m (n + 3) k (omega (arith, l));
+}
+
+spares-behind : (n k m : ℕ) (g : Names Ty) (r : OrderedRule) (a b : Ex) → ordered_rewrite (supply_at n k) g r a ≡ Some b →
+    n + 3 + k ≤ m → (c : In) → Spares n (fill c a) → Spares m (fill c b)
+spares-behind n k m g r a b q l c s = record {
+  among = up_to s.among m;
+  has = part-names (up_to s.among m) a b (rule-names (up_to s.among m) (supply_at n k) g r a b q (taken-given s.among n k m l)) c
+      (names-wider s.among (up_to s.among m) (wider s.among m) (fill c a) s.has);
+  spared = λ j p w. both-false (s.among (reserved j)) (is_before m (reserved j)) (s.spared j (omega (arith, l, p)) w) (before-none m j p w);
+}
+
+pub ordered-rules-keep-names : OrderedRulesKeepNames
+ordered-rules-keep-names = record {
+  by_each_rule = λ u s g r e f q t. rule-names u s g r e f q t;
+  spared = spares-behind;
+}

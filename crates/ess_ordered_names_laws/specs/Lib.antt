@@ -1,0 +1,2 @@
+-- The names of what rules of ordered comprehensions make
+pub mod OrderedNames
