@@ -22,3 +22,4 @@ pub mod IndexLemmas
 pub mod NumberLiterals
 pub mod LongerLists
 pub mod RangeLemmas
+pub mod RangeLoops

@@ -152,7 +152,7 @@ fn numbers(alloc: Global, ranges: &[Range], count: usize) -> Result<Option<Index
 }
 
 /// The numbers of ranges one behind the other, where each range is one of literals and has no more than so many.
-#[tactic(auto, using(crate::proofs::RangeLemmas::numbers_step, crate::proofs::RangeLemmas::numbers_long, crate::proofs::RangeLemmas::numbers_bad, crate::proofs::RangeLemmas::numbers_end))]
+#[tactic(auto, using(crate::proofs::RangeLoops::numbers_step, crate::proofs::RangeLoops::numbers_long, crate::proofs::RangeLoops::numbers_bad, crate::proofs::RangeLoops::numbers_end))]
 fn all_numbers(alloc: Global, ranges: &[Range], count: usize) -> Result<Option<Row<Val>>, NoMemory>
     ensures { IfOk result (λ o. option_map (map pure_val) o ≡ numbers_of count (map pure_range ranges.now)) }
 {
