@@ -10,6 +10,7 @@ mod PlaceExamples
 mod LoadExamples
 pub mod RecordFields
 pub mod NameTokens
+pub mod FittingOperands
 pub mod ReadableTrees
 pub mod ReadableStatements
 pub mod ExamplesGrammar

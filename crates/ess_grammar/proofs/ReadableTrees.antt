@@ -2,16 +2,16 @@
 use Rattle.std.proofs.Common.{◌≡◌, refl, ℕ, Bool, true, false, ◌&&◌, List, [], ◌∷◌, pos, IsTrue}
 use Rattle.ess_semantics.specs.declared.words.Op2.{Op2}
 use Rattle.ess_semantics.specs.Values.{Text}
-use Rattle.ess_semantics.specs.Trees as Trees
-use Rattle.ess_semantics.specs.Trees.{Op, tuple_literal, function_literal, record_literal, Ends, one_value, both_ends, low_end, high_end, Mark, flag, valued, Ex, Exs, name_ex, no_exs, more_exs, Gens, Dom, no_doms, more_doms, Doms, Stm, given, find, plain_node}
+use Rattle.ess_semantics.specs.Trees.{Op, record_literal, Ends, Mark, Ex, Exs, no_exs, more_exs, Gens, Dom, more_doms, Doms}
 use Rattle.ess_semantics.specs.Lists.{zip}
 use Rattle.ess_semantics.specs.Kinds.{dom_list}
 use Rattle.ess_semantics.proofs.Tests.{and-left, and-right, and-both}
 use Rattle.ess_grammar.specs.Words.{Token, number, name, Symbol}
 use Rattle.ess_grammar.specs.Patterns.{Shape, atom_shape, is_pattern, binary_shape, as_pattern, as_patterns, all_over, all_from, Place, is_member, pattern_shape, member_shape, other_shape}
-use Rattle.ess_grammar.specs.Grammar.{steps_of, Opens, opens_tuple, opens_set, opens_mset, opens_relation, opens_partition, opens_matrix, opens_call, Atom, Expression, Expressions, Pairs, Fields, Items, Generator, Domain, Domains, FieldDomains, MaybeAttributes, Attributes, Ranges, number_atom, true_atom, false_atom, name_atom, bracketed_atom, pair_atom, list_atom, empty_atom, function_atom, empty_function_atom, record_atom, matrix_atom, comprehension_atom, bar_atom, index_atom, application_atom, atom_expression, minus_expression, not_expression, binary_expression, quantifier_expression, last_expression, next_expression, last_pair, next_pair, last_field, next_field, last_generator, next_generator, last_condition, next_condition, over_generator, from_generator, in_generator, bool_domain, int_domain, ranges_domain, name_domain, pair_domain, tuple_domain, record_domain, matrix_domain, set_domain, mset_domain, partition_domain, relation_domain, function_domain, plain_function_domain, last_domain, next_domain, last_field_domain, next_field_domain, no_attributes, some_attributes, last_attribute, next_attribute, flag_attribute, valued_attribute, last_range, next_range, value_range, both_range, low_range, high_range}
-use Rattle.ess_grammar.specs.Readable.{is_name_token, are_name_tokens, is_number_token, some_exs, some_doms, several_doms, several_pats, some_gens, fit_fields, fit_steps, fit_marks, fit_ranges, are_pairs, fit_operands, ReadablePat, ReadablePats, ReadableEx, ReadableExs, ReadableGens, ReadableDom, ReadableDoms}
+use Rattle.ess_grammar.specs.Grammar.{Opens, opens_tuple, opens_set, opens_mset, opens_relation, opens_partition, opens_matrix, opens_call, Atom, Expression, Expressions, Pairs, Fields, Items, Generator, Domain, Domains, FieldDomains, MaybeAttributes, Attributes, Ranges, number_atom, true_atom, false_atom, name_atom, bracketed_atom, pair_atom, list_atom, empty_atom, function_atom, empty_function_atom, record_atom, matrix_atom, comprehension_atom, bar_atom, index_atom, application_atom, atom_expression, minus_expression, not_expression, binary_expression, quantifier_expression, last_expression, next_expression, last_pair, next_pair, last_field, next_field, last_generator, next_generator, last_condition, next_condition, over_generator, from_generator, in_generator, bool_domain, int_domain, ranges_domain, name_domain, pair_domain, tuple_domain, record_domain, matrix_domain, set_domain, mset_domain, partition_domain, relation_domain, function_domain, plain_function_domain, last_domain, next_domain, last_field_domain, next_field_domain, no_attributes, some_attributes, last_attribute, next_attribute, flag_attribute, valued_attribute, last_range, next_range, value_range, both_range, low_range, high_range}
+use Rattle.ess_grammar.specs.Readable.{is_name_token, are_name_tokens, is_number_token, some_exs, some_doms, several_doms, several_pats, some_gens, fit_fields, fit_marks, fit_ranges, are_pairs, fit_operands, ReadablePat, ReadablePats, ReadableEx, ReadableExs, ReadableGens, ReadableDom, ReadableDoms}
 use Rattle.ess_grammar.proofs.RecordFields.{some_fields, ReadableFields, fields-readable}
+use Rattle.ess_grammar.proofs.FittingOperands.{none-fit, list-fit, index-fit, application-fit}
 
 -- ---- proper tokens
 
@@ -40,28 +40,6 @@ binary-no-pattern o pattern_shape a h = go (is_member o) h
     go true q = cc
     go false q = cc
 
-steps-fit : (es : Exs) → fit_steps (steps_of es) es ≡ true
-steps-fit no_exs = refl
-steps-fit (more_exs e es) = steps-fit es
-
--- a node of operands of which there is one or more
-some-fit : {o : Op} {c : Symbol} {b : Bool} {ts us : List Token} → Opens o c b ts us → (e : Ex) (es : Exs) →
-    fit_operands o (more_exs e es) ≡ true
-some-fit opens_tuple e es = refl
-some-fit opens_set e es = refl
-some-fit opens_mset e es = refl
-some-fit opens_relation e es = refl
-some-fit opens_partition e es = refl
-some-fit opens_matrix e es = refl
-some-fit opens_call e es = refl
-
-none-fit : {o : Op} {c : Symbol} {ts us : List Token} → Opens o c true ts us → fit_operands o no_exs ≡ true
-none-fit opens_set = refl
-none-fit opens_mset = refl
-none-fit opens_relation = refl
-none-fit opens_partition = refl
-none-fit opens_matrix = refl
-
 opens-proper : {o : Op} {c : Symbol} {b : Bool} {ts us : List Token} → Opens o c b ts us → Proper ts → Proper us
 opens-proper opens_tuple h = h.1.1
 opens-proper opens_set h = h.1
@@ -70,21 +48,6 @@ opens-proper opens_relation h = h.1.1
 opens-proper opens_partition h = h.1.1
 opens-proper opens_matrix h = h.1
 opens-proper opens_call h = h.1.1
-
-list-fit : {o : Op} {c : Symbol} {b k : Bool} {es : Exs} {ts us vs xs : List Token} → Opens o c b ts us → Expressions k es vs xs →
-    fit_operands o es ≡ true
-list-fit z (last_expression {e = e} d) = some-fit z e no_exs
-list-fit z (next_expression {e = e} {es = es} d ds) = some-fit z e es
-
-index-fit : {k : Bool} {es : Exs} {ts us : List Token} → Expressions k es ts us → (e : Ex) →
-    fit_operands (Trees.index (steps_of es)) (more_exs e es) ≡ true
-index-fit (last_expression {e = e} d) a = refl
-index-fit (next_expression {e = e} {es = es} d ds) a = steps-fit es
-
-application-fit : {k : Bool} {es : Exs} {ts us : List Token} → Expressions k es ts us → (e : Ex) →
-    fit_operands Trees.application (more_exs e es) ≡ true
-application-fit (last_expression d) a = refl
-application-fit (next_expression d ds) a = refl
 
 some-of : {k : Bool} {es : Exs} {ts us : List Token} → Expressions k es ts us → some_exs es ≡ true
 some-of (last_expression d) = refl

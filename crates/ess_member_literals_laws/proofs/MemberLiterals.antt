@@ -20,7 +20,8 @@ use Rattle.ess_grammar.specs.ValueTexts.{literal_of, number_literal}
 use Rattle.ess_types_laws.proofs.SoundParts.{some-then, some-map}
 use Rattle.ess_values_laws.specs.ItemNames.{item_name}
 use Rattle.ess_values_laws.specs.Laws.{HasItemNames}
-use Rattle.ess_values_laws.proofs.TypeOrder.{Within, within-itself, join-within, within-on}
+use Rattle.ess_values_laws.proofs.LeastJoins.{join-within}
+use Rattle.ess_values_laws.proofs.TypeOrder.{Within, within-itself, within-on}
 use Rattle.ess_values_laws.proofs.KeptValues.{printed}
 use Rattle.ess_values_laws.proofs.ReadBack.{named-spelled}
 use Rattle.ess_values_laws.proofs.NamesOfItems.{item-names}

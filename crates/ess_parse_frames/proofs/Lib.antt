@@ -1,4 +1,5 @@
 pub mod StackLaws
+pub mod TwiceReversed
 pub mod RowLaws
 pub mod FieldLaws
 pub mod PatternLaws

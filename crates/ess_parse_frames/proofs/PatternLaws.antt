@@ -9,7 +9,7 @@ use Rattle.ess_core.specs.declared.expressions.Ex.{Ex}
 use Rattle.ess_core.specs.declared.expressions.Pat.{Pat}
 use Rattle.ess_parse_frames.specs.Patterns.{pattern_ex, pattern_exs, view_pats, pats_in_order, back_pats}
 use Rattle.ess_parse_frames.specs.Rows.{back_exs}
-use Rattle.ess_parse_frames.proofs.RowLaws.{exs-push, exs-closed, map-push}
+use Rattle.ess_parse_frames.proofs.TwiceReversed.{exs-push, exs-closed, map-push}
 
 -- several patterns are one expression each
 pub pats_are_exs : (ps : List Pat) → pattern_exs (pats_of (map pure_pat ps)) ≡ exs_of (view_pats ps)

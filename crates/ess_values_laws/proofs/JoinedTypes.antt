@@ -4,7 +4,8 @@ use Rattle.ess_semantics.specs.Lists.{and_then}
 use Rattle.ess_semantics.specs.Types.{Ty, any_ty, bool_ty, int_ty, named_ty, compound, no_tys, more_tys, is_relation, join, join_all}
 use Rattle.ess_semantics.specs.Order.{same_kind}
 use Rattle.ess_values_laws.proofs.Options.{then-some}
-use Rattle.ess_values_laws.proofs.TypeOrder.{Within, within-on, join-says, join-within}
+use Rattle.ess_values_laws.proofs.LeastJoins.{join-within}
+use Rattle.ess_values_laws.proofs.TypeOrder.{Within, within-on, join-says}
 
 -- v says all that each type says
 abbrev pub EachWithin : List Ty → Ty → Type 0

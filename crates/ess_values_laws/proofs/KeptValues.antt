@@ -17,7 +17,8 @@ use Rattle.ess_grammar.specs.ValueTexts.{literal_of}
 use Rattle.ess_values_laws.specs.ItemNames.{item_name}
 use Rattle.ess_values_laws.specs.Laws.{HasItemNames}
 use Rattle.ess_values_laws.proofs.Options.{then-some, map-some, when-some, if-some}
-use Rattle.ess_values_laws.proofs.TypeOrder.{Within, within-on, join-says, join-within}
+use Rattle.ess_values_laws.proofs.LeastJoins.{join-within}
+use Rattle.ess_values_laws.proofs.TypeOrder.{Within, within-on, join-says}
 use Rattle.ess_values_laws.proofs.Printed.{Printed, PrintedEach}
 use Rattle.ess_values_laws.proofs.NamesOfItems.{item-names}
 use Rattle.ess_values_laws.proofs.SetLiterals.{set-literal-printed, mset-literal-printed, relation-literal-printed, function-literal-printed, partition-literal-printed}

@@ -1,6 +1,7 @@
 -- Lemmas on the definitions
 pub mod Options
 pub mod TypeOrder
+pub mod LeastJoins
 pub mod JoinedTypes
 pub mod Printed
 pub mod LiteralTypes
