@@ -5,4 +5,6 @@ pub mod Extremes
 pub mod ComparedLists
 pub mod Bounds
 pub mod Runs
+pub mod NumberPlaces
+pub mod ListParts
 pub mod GridPlaces

@@ -12,7 +12,7 @@ use Rattle.ess_semantics.specs.Satisfaction.{is_run, runs_rise, AreRuns}
 use Rattle.ess_semantics.proofs.Tests.{and-left, and-right, and-both}
 use Rattle.eprime_eval_scalars.specs.declared.running.Run.{Run}
 use Rattle.eprime_eval_scalars.specs.Runs.{pure_run, is_left, merged, insert_run, runs_with}
-use Rattle.eprime_eval_scalars.proofs.GridPlaces.{not-same}
+use Rattle.eprime_eval_scalars.proofs.NumberPlaces.{not-same}
 use Rattle.eprime_eval_scalars.proofs.Bounds.{le-true, le-false, in-merged, none-in, merged-run, left-merged, left-on}
 
 -- ---- what they hold

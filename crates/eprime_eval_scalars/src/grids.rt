@@ -56,7 +56,7 @@ fn axis_of(alloc: Global, numbers: &[i64]) -> Result<Axis, NoMemory>
 }
 
 /// Whether these are the numbers from the first on.
-#[tactic(auto, using(crate::proofs::GridPlaces::run_more, crate::proofs::GridPlaces::run_all))]
+#[tactic(auto, using(crate::proofs::NumberPlaces::run_more, crate::proofs::NumberPlaces::run_all))]
 fn is_run_from(first: i64, numbers: &[i64]) -> bool
     ensures { result ≡ true → numbers_from first (length numbers.now) ≡ numbers.now }
 {
@@ -146,7 +146,7 @@ fn further(at: usize, axis: &Axis, index: Scalar) -> Option<usize>
 }
 
 /// How many members an axis has.
-#[tactic(auto, using(crate::proofs::GridPlaces::run_length))]
+#[tactic(auto, using(crate::proofs::NumberPlaces::run_length))]
 fn length(axis: &Axis) -> usize
     ensures { result ≡ length (axis_numbers axis.now) }
 {
@@ -168,7 +168,7 @@ fn number_of(scalar: Scalar) -> i64
 }
 
 /// The place of a number on an axis, from 0.
-#[tactic(auto, using(crate::proofs::GridPlaces::run_places))]
+#[tactic(auto, using(crate::proofs::NumberPlaces::run_places))]
 fn place(axis: &Axis, number: i64) -> Option<usize>
     ensures { result ≡ place_of (axis_numbers axis.now) number }
 {
@@ -188,7 +188,7 @@ fn place(axis: &Axis, number: i64) -> Option<usize>
 }
 
 /// The place of a number in a list: the first where it stands.
-#[tactic(auto, using(crate::proofs::GridPlaces::places))]
+#[tactic(auto, using(crate::proofs::NumberPlaces::places))]
 fn place_in(numbers: &[i64], number: i64) -> Option<usize>
     ensures { result ≡ place_of numbers.now number }
 {

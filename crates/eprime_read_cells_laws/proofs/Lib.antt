@@ -1,4 +1,5 @@
 pub mod Complete
+pub mod LettingTexts
 pub mod Sound
 pub mod Stops
 mod ExamplesCells

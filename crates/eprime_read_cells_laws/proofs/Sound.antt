@@ -1,19 +1,16 @@
 -- The rules derive what the machine reads.
-use Rattle.std.proofs.Common.{◌≡◌, refl, sym, subst, ℕ, pos, true, false, List, [], ◌∷◌, ◌++◌, append_assoc, append-nil, Option, Some, None}
+use Rattle.std.proofs.Common.{◌≡◌, refl, sym, subst, ℕ, pos, true, false, List, [], ◌∷◌, ◌++◌, append_assoc, Option, Some, None}
 use Rattle.ess_semantics.specs.declared.words.Op2.{Op2}
 use Rattle.ess_semantics.specs.Values.{Text}
 use Rattle.ess_semantics.specs.Names.{Names}
 use Rattle.ess_semantics.specs.Trees.{Ends, one_value, both_ends, Ex, Exs, no_exs, more_exs, number_ex, truth_ex}
 use Rattle.ess_grammar.specs.Words.{Token, number, name, prime_word, word, operator, symbol, language_word, letting_word, be_word, int_word, true_word, false_word, open_round, close_round, open_square, close_square, comma, semicolon, dot, dots}
-use Rattle.ess_grammar.specs.CellTexts.{CellNumber, plain_number, minus_number, CellRange, number_range, numbers_range, CellRanges, last_cell_range, next_cell_range, CellValue, number_value, true_value, false_value, empty_value, list_value, indexed_value, CellValues, last_value, next_value, CellLettings, no_cells, more_cells, no_prime_line, prime_line, IsCells, cells}
+use Rattle.ess_grammar.specs.CellTexts.{CellNumber, plain_number, minus_number, CellRange, number_range, numbers_range, CellRanges, last_cell_range, next_cell_range, CellValue, number_value, true_value, false_value, empty_value, list_value, indexed_value, CellValues, last_value, next_value, IsCells}
 use Rattle.eprime_read_cells_laws.specs.CellMachine.{RangeStage, low_wanted, low_digits_wanted, low_read, high_wanted, high_digits_wanted, range_read, close_wanted, Stage, value_wanted, first_wanted, digits_wanted, item_read, int_wanted, open_wanted, in_ranges, Mode, nothing_read, prime_wanted, major_wanted, dot_wanted, minor_wanted, letting_wanted, name_wanted, be_wanted, in_value, CellsState, before_exs, listed, with_value, indexed_list, plain_list, minus_ex, step_behind_range, step_low_wanted, step_low_digits, step_low_read, with_range, step_high_wanted, step_high_digits, step_close, step_ranges, step_value_wanted, step_first_wanted, step_digits, step_item_read, step_int_wanted, step_open_wanted, step_value, step_letting_wanted, step_nothing_read, step_prime, step_line_number, step_dot, step_name, step_be, cells_step_at, cells_step, finish_at, from_cells, cells_run, cells_start, read_cell_tokens}
 use Rattle.eprime_read_cells_laws.proofs.Complete.{before-push, before-more}
+use Rattle.eprime_read_cells_laws.proofs.LettingTexts.{Texts, no-line, with-line, letting-read, whole-text}
 
 -- ---- what a state says of the tokens before it
-
--- The tokens t0 down to ts are a language line or none and the lettings cs.
-abbrev Texts : List Token → Names Ex → List Token → Type 0
-Texts t0 cs ts = (ds : Names Ex) → CellLettings ds ts → IsCells (cs ++ ds) t0
 
 -- A value of the name a, or of a list in it, is wanted behind the lettings cs.
 data Before (t0 : List Token) (cs : Names Ex) (a : Text) : List (List Ex) → List Token → Type 0 where
@@ -230,10 +227,6 @@ letting-keeps : {t0 : List Token} (t : Token) (cs : Names Ex) (ts : List Token) 
 letting-keeps (word letting_word) cs ts p = p
 letting-keeps _ cs ts p = tt
 
--- Without a language line.
-no-line : {t0 : List Token} (cs : Names Ex) (ts : List Token) → t0 ≡ ts → cs ≡ [] → Texts t0 cs ts
-no-line {t0 = t0} cs ts h i ds d = subst (λ bs. IsCells (bs ++ ds) t0) (sym i) (subst (λ us. IsCells ds us) (sym h) (cells no_prime_line d))
-
 nothing-keeps : {t0 : List Token} (t : Token) (cs : Names Ex) (ts : List Token) → t0 ≡ t ∷ ts → cs ≡ [] → Keeps t0 (step_nothing_read t cs) ts
 nothing-keeps (word language_word) cs ts h i = (h, i)
 nothing-keeps t cs ts h i = letting-keeps t cs ts (no-line cs (t ∷ ts) h i)
@@ -250,10 +243,6 @@ dot-keeps : {t0 : List Token} (t : Token) (cs : Names Ex) (ts : List Token) (m :
 dot-keeps (symbol dot) cs ts m h i = ((m, h), i)
 dot-keeps _ cs ts m h i = tt
 
--- With a language line.
-with-line : {t0 : List Token} (cs : Names Ex) (m n : ℕ) (ts : List Token) → t0 ≡ word language_word ∷ prime_word ∷ number m ∷ symbol dot ∷ number n ∷ ts → cs ≡ [] → Texts t0 cs ts
-with-line {t0 = t0} cs m n ts h i ds d = subst (λ bs. IsCells (bs ++ ds) t0) (sym i) (subst (λ us. IsCells ds us) (sym h) (cells (prime_line {m = m} {n = n} {ts = ts}) d))
-
 minor-keeps : {t0 : List Token} (t : Token) (cs : Names Ex) (ts : List Token) (m : ℕ) → t0 ≡ word language_word ∷ prime_word ∷ number m ∷ symbol dot ∷ t ∷ ts → cs ≡ [] →
     Keeps t0 (step_line_number letting_wanted t cs) ts
 minor-keeps (number n) cs ts m h i = with-line cs m n ts h i
@@ -262,10 +251,6 @@ minor-keeps _ cs ts m h i = tt
 name-keeps : {t0 : List Token} (t : Token) (cs : Names Ex) (ts : List Token) → Texts t0 cs (word letting_word ∷ t ∷ ts) → Keeps t0 (step_name t cs) ts
 name-keeps (name a) cs ts p = p
 name-keeps _ cs ts p = tt
-
--- A letting with its value.
-letting-read : {t0 : List Token} (cs : Names Ex) (a : Text) (ts : List Token) → Texts t0 cs (word letting_word ∷ name a ∷ word be_word ∷ ts) → (e : Ex) (us : List Token) → CellValue e ts us → Texts t0 (cs ++ (a, e) ∷ []) us
-letting-read {t0 = t0} cs a ts p e us d ds l = subst (λ bs. IsCells bs t0) (sym (append_assoc cs ((a, e) ∷ []) ds)) (p ((a, e) ∷ ds) (more_cells d l))
 
 be-keeps : {t0 : List Token} (t : Token) (cs : Names Ex) (a : Text) (ts : List Token) → Texts t0 cs (word letting_word ∷ name a ∷ t ∷ ts) → Keeps t0 (step_be t cs a) ts
 be-keeps (word be_word) cs a ts p = at_name (letting-read cs a ts p)
@@ -288,9 +273,6 @@ step-keeps t0 t cs (in_value a fs s) ts x = in-value-keeps t0 t cs a fs s ts x
 abbrev IsSound : List Token → Option (Names Ex) → Type 0
 IsSound t0 None = Unit {0}
 IsSound t0 (Some cs) = IsCells cs t0
-
-whole-text : {t0 : List Token} (cs : Names Ex) → Texts t0 cs [] → IsCells cs t0
-whole-text {t0 = t0} cs p = subst (λ bs. IsCells bs t0) (append-nil cs) (p [] no_cells)
 
 finish-sound : (t0 : List Token) (cs : Names Ex) (m : Mode) → Invariant t0 cs m [] → IsSound t0 (finish_at cs m)
 finish-sound t0 cs nothing_read x = whole-text cs (no-line cs [] x.0 x.1)

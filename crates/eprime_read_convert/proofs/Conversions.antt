@@ -33,7 +33,8 @@ use Rattle.eprime_tree.specs.declared.words.PFun.{PFun}
 use Rattle.eprime_tree.specs.Views as P
 use Rattle.eprime_tree.specs.Views.{pure_op1, pure_op2, pure_fun}
 use Rattle.eprime_read_convert.specs.Converted.{bounds, model_ex, model_list, model_item, model_items, model_dom, model_range, under, between, comprehension, access, items_ex, name_in, some_ranges, as_value, as_span, as_low, as_high, ReadableItem}
-use Rattle.eprime_read_convert.proofs.ModelNodes.{model-unary, model-lex, model-plain, model-to_int, model-fold, model-items, model-access, model-no_table, model-no_operand, model-several}
+use Rattle.eprime_read_convert.proofs.OnlyTables.{model-no_table}
+use Rattle.eprime_read_convert.proofs.ModelNodes.{model-unary, model-lex, model-plain, model-to_int, model-fold, model-items, model-access, model-no_operand, model-several}
 use Rattle.eprime_read_convert.proofs.ModelLists.{model-comp, model-int}
 use Rattle.eprime_read_convert.proofs.Readables.{ranges_fit, name_is}
 

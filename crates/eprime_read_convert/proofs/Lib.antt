@@ -2,6 +2,7 @@ pub mod Equations
 pub mod LineLaws
 pub mod NodeViews
 pub mod Sweeps
+pub mod OnlyTables
 pub mod ModelNodes
 pub mod ModelLists
 pub mod Readables

@@ -11,7 +11,8 @@ use Rattle.ess_grammar.specs.Statements.{Parts, IsSpecification, no_language_lin
 use Rattle.ess_grammar.specs.Models.{ReadModel, model_of}
 use Rattle.ess_grammar.specs.ModelTexts.{Declarations, no_declarations, more_declarations, Objective, no_objective, minimising, maximising, Constraints, last_constraint, next_constraint, SuchThat, no_constraints, constraints, HasModelParts, model_parts, IsModel}
 use Rattle.ess_parse_laws.proofs.CompleteStatements.{complete-specification}
-use Rattle.eprime_read_laws.proofs.OwnTokens.{all_plain, own-part, plain-tokens, expression-own, domain-own}
+use Rattle.eprime_read_laws.proofs.PlainTokens.{all_plain}
+use Rattle.eprime_read_laws.proofs.OwnTokens.{own-part, plain-tokens, expression-own, domain-own}
 use Rattle.eprime_read_laws.proofs.Growing.{with_givens, with_finds, grown, grown-is, Fresh, fresh-givens, fresh-finds, no-constraints, no-objective, IsReadable, drop-rules, drop-objective, drop-finds, drop-givens}
 use Rattle.eprime_read_laws.proofs.PartRuns.{Ended, part-run}
 use Rattle.eprime_read_laws.specs.ModelMachine.{Stage, empty_model, more_given, more_find, with_objective, with_constraints, readable, constraints_of, constraint_before, constrained, may_follow, first_part, model_run, model_finish, read_model}

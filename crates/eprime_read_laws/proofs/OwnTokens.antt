@@ -1,32 +1,17 @@
 -- The tokens of an expression, or a domain, by themselves: a derivation reads a first part of the tokens, and reads it in the
 -- same way before any others. No word that begins a statement stands in it. The block of mutual lemmas stays whole, since
 -- the rules call each other.
-use Rattle.std.proofs.Common.{◌≡◌, refl, sym, ap, ◌∙◌, subst, ℕ, Bool, true, false, ◌&&◌, ◌||◌, not, List, [], ◌∷◌, ◌++◌, Option, Some, None, IsTrue, IsFalse}
+use Rattle.std.proofs.Common.{◌≡◌, refl, sym, ap, ◌∙◌, subst, ℕ, Bool, true, false, ◌||◌, not, List, [], ◌∷◌, ◌++◌, IsTrue, IsFalse}
 use Rattle.ess_semantics.specs.declared.words.Op2.{Op2}
 use Rattle.ess_semantics.specs.declared.words.Fun.{Fun}
 use Rattle.ess_semantics.specs.Values.{Text}
 use Rattle.ess_semantics.specs.Trees.{Op, Ends, Mark, Ex, Exs, Gens, Dom, Doms, set_dom, mset_dom, partition_dom, relation_dom, function_dom, matrix_dom, more_doms, no_exs, plain_node, function_literal}
 use Rattle.ess_grammar.specs.Words.{Token, number, name, word, operator, function, symbol, tuple_word, mset_word, relation_word, partition_word, function_word, record_word, true_word, false_word, bool_word, int_word, matrix_word, indexed_word, by_word, set_word, of_word, from_word, Symbol, open_round, close_round, open_square, close_square, open_curly, close_curly, comma, semicolon, colon, dot, dots, bar, exclamation, drawn_from, maps_to}
-use Rattle.ess_grammar.specs.Patterns.{Shape, Place, starts_round}
+use Rattle.ess_grammar.specs.Patterns.{Shape, Place}
 use Rattle.ess_grammar.specs.Grammar.{starts_attributes, Quantifier, for_all_quantifier, exists_quantifier, sum_quantifier, Opens, opens_tuple, opens_set, opens_mset, opens_relation, opens_partition, opens_matrix, opens_call, Atom, Expression, Expressions, Pairs, Fields, Items, Generator, Domain, Domains, FieldDomains, MaybeAttributes, Attributes, Attribute, Ranges, Range, number_atom, true_atom, false_atom, name_atom, bracketed_atom, pair_atom, list_atom, empty_atom, function_atom, empty_function_atom, record_atom, matrix_atom, comprehension_atom, bar_atom, index_atom, application_atom, atom_expression, minus_expression, not_expression, binary_expression, quantifier_expression, last_expression, next_expression, last_pair, next_pair, last_field, next_field, last_generator, next_generator, last_condition, next_condition, over_generator, from_generator, in_generator, bool_domain, int_domain, ranges_domain, name_domain, pair_domain, tuple_domain, record_domain, matrix_domain, set_domain, mset_domain, partition_domain, relation_domain, function_domain, plain_function_domain, last_domain, next_domain, last_field_domain, next_field_domain, no_attributes, some_attributes, last_attribute, next_attribute, flag_attribute, valued_attribute, last_range, next_range, value_range, both_range, low_range, high_range}
-use Rattle.ess_parse_laws.specs.StatementEnds.{begins_statement}
+use Rattle.eprime_read_laws.proofs.PlainTokens.{is_plain, all_plain, first_token, starts-same, round-same, plain-before}
 
 -- ---- fronts
-
--- Whether the token is no word that begins a statement.
-abbrev pub is_plain : Token → Bool
-is_plain (word w) = not (begins_statement w)
-is_plain t = true
-
--- Whether all are such.
-abbrev pub all_plain : List Token → Bool
-all_plain [] = true
-all_plain (t ∷ ts) = is_plain t && all_plain ts
-
--- The first token.
-abbrev first_token : List Token → Option Token
-first_token [] = None
-first_token (t ∷ ts) = Some t
 
 -- What stands at the front of a list of tokens: put before others it joins them, and has no word that begins a statement.
 record Front (front : List Token → List Token) : Type 0 where
@@ -41,39 +26,6 @@ pub record Own (P : List Token → List Token → Type 0) (ts us : List Token) :
   is_front : Front front
   pub is : ts ≡ front us
   pub again : (vs : List Token) → P (front vs) vs
-
-from-some : {t u : Token} → Some t ≡ Some u → t ≡ u
-from-some h = cc
-
-second-alone : (t : Token) (us vs : List Token) → starts_attributes (symbol open_round ∷ t ∷ us) ≡ starts_attributes (symbol open_round ∷ t ∷ vs)
-second-alone (name a) us vs = refl
-second-alone _ us vs = refl
-
-same-second : {t u : Token} (us vs : List Token) → t ≡ u → starts_attributes (symbol open_round ∷ t ∷ us) ≡ starts_attributes (symbol open_round ∷ u ∷ vs)
-same-second {t = t} us vs h = subst (λ u. starts_attributes (symbol open_round ∷ t ∷ us) ≡ starts_attributes (symbol open_round ∷ u ∷ vs)) h (second-alone t us vs)
-
-round-alone : (t : Token) (us vs : List Token) → starts_round (t ∷ us) ≡ starts_round (t ∷ vs)
-round-alone (symbol open_round) us vs = refl
-round-alone _ us vs = refl
-
-same-round : {t u : Token} (us vs : List Token) → t ≡ u → starts_round (t ∷ us) ≡ starts_round (u ∷ vs)
-same-round {t = t} us vs h = subst (λ u. starts_round (t ∷ us) ≡ starts_round (u ∷ vs)) h (round-alone t us vs)
-
-starts-same : (t : Token) (us vs : List Token) → first_token us ≡ first_token vs → starts_attributes (t ∷ us) ≡ starts_attributes (t ∷ vs)
-starts-same (symbol open_round) [] [] h = refl
-starts-same (symbol open_round) [] (v ∷ vs) h = cc
-starts-same (symbol open_round) (u ∷ us) [] h = cc
-starts-same (symbol open_round) (u ∷ us) (v ∷ vs) h = same-second us vs (from-some h)
-starts-same _ us vs h = refl
-
-round-same : (us vs : List Token) → first_token us ≡ first_token vs → starts_round us ≡ starts_round vs
-round-same [] [] h = refl
-round-same [] (v ∷ vs) h = cc
-round-same (u ∷ us) [] h = cc
-round-same (u ∷ us) (v ∷ vs) h = same-round us vs (from-some h)
-
-plain-before : (t : Token) (us : List Token) → is_plain t ≡ true → all_plain (t ∷ us) ≡ all_plain us
-plain-before t us h = ap (λ b. b && all_plain us) h
 
 -- ---- fronts put together
 
@@ -323,8 +275,6 @@ mutual
   range-own (both_range d g) = both (closed (symbol dots) refl (expression-own d)) (expression-own g) (λ xs ys zs d g. both_range d g)
   range-own (low_range d) = same (closed (symbol dots) refl (expression-own d)) (λ xs vs d. low_range d)
   range-own (high_range d) = begun (symbol dots) refl (expression-own d) (λ xs vs d. high_range d)
-
--- ---- what follows
 
 -- ---- what follows
 

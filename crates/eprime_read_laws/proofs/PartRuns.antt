@@ -8,7 +8,7 @@ use Rattle.ess_parse_laws.specs.Modes.{Mode, State, Answer, specification_answer
 use Rattle.ess_parse_laws.specs.StatementEnds.{begins_statement, begin_statement}
 use Rattle.ess_parse_laws.specs.Machine.{step, finish, then_run, run, then_state_after, state_after}
 use Rattle.ess_parse_laws.proofs.Booleans.{and-left, and-right}
-use Rattle.eprime_read_laws.proofs.OwnTokens.{is_plain, all_plain}
+use Rattle.eprime_read_laws.proofs.PlainTokens.{is_plain, all_plain}
 use Rattle.eprime_read_laws.specs.ModelMachine.{Stage, in_part, with_part, part_ended, may_follow, in_state, begin_part, statement_word, part_step, model_step, then_model, model_run}
 
 -- ---- a run and the state behind it

@@ -12,7 +12,8 @@ use Rattle.ess_grammar.specs.ModelTexts.{Constraints, last_constraint, next_cons
 use Rattle.ess_parse_laws.specs.Modes.{Answer, expression_answer, domain_answer, specification_answer}
 use Rattle.ess_parse_laws.specs.Machine.{read_specification}
 use Rattle.ess_parse_laws.proofs.Sound.{IsSound, sound-specification}
-use Rattle.eprime_read_laws.proofs.OwnTokens.{all_plain, plain-tokens, expression-own}
+use Rattle.eprime_read_laws.proofs.PlainTokens.{all_plain}
+use Rattle.eprime_read_laws.proofs.OwnTokens.{plain-tokens, expression-own}
 use Rattle.eprime_read_laws.proofs.Growing.{IsReadable}
 use Rattle.eprime_read_laws.specs.ModelMachine.{more_given, more_find, with_objective, with_constraints, readable, constraints_of, constraint_before, constrained, part_ended}
 

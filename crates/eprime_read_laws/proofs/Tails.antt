@@ -1,5 +1,5 @@
 -- A run as a list of parts, each read by the machine of specifications, and the rules for models that derive such a list.
-use Rattle.std.proofs.Common.{◌≡◌, refl, sym, ap, ◌∙◌, subst, ℕ, nat_eq, eqb-true, Bool, true, false, ◌&&◌, not, List, [], ◌∷◌, ◌++◌, Option, Some, None, append-nil}
+use Rattle.std.proofs.Common.{◌≡◌, refl, sym, ap, ◌∙◌, subst, Bool, true, false, ◌&&◌, not, List, [], ◌∷◌, ◌++◌, Option, Some, None, append-nil}
 use Rattle.ess_semantics.specs.Values.{Text}
 use Rattle.ess_semantics.specs.Names.{Names}
 use Rattle.ess_semantics.specs.Trees.{Ex, Dom}
@@ -12,10 +12,12 @@ use Rattle.ess_parse_laws.specs.StatementEnds.{begins_statement, begin_statement
 use Rattle.ess_parse_laws.specs.StatementSteps.{step_nothing_read, step_statement_read}
 use Rattle.ess_parse_laws.specs.Machine.{step, finish, then_run, run, read_specification}
 use Rattle.ess_parse_laws.proofs.Booleans.{and-left}
-use Rattle.eprime_read_laws.proofs.OwnTokens.{is_plain, all_plain, before-others, expression-own, domain-own}
+use Rattle.eprime_read_laws.proofs.PlainTokens.{is_plain, all_plain}
+use Rattle.eprime_read_laws.proofs.OwnTokens.{before-others, expression-own, domain-own}
 use Rattle.eprime_read_laws.proofs.Growing.{with_givens, with_finds, grown-is, Fresh, no-constraints, no-objective, IsReadable}
 use Rattle.eprime_read_laws.proofs.Sound.{DeclaredPart, GivenPart, FindPart, LeastPart, GreatestPart, ConstraintsPart, given-part, find-part, least-part, greatest-part, constraints-part, is-readable}
-use Rattle.eprime_read_laws.specs.ModelMachine.{Stage, at_begin, behind_language, behind_prime, behind_first_number, behind_dot, in_part, empty_model, more_given, more_find, with_objective, with_constraints, part_ended, may_follow, in_state, begin_part, statement_word, part_step, first_part, then_model, model_run, read_model}
+use Rattle.eprime_read_laws.specs.ModelMachine.{Stage, in_part, empty_model, more_given, more_find, with_objective, with_constraints, part_ended, may_follow, in_state, begin_part, statement_word, part_step, first_part, then_model, model_run, read_model}
+use Rattle.eprime_read_laws.proofs.LanguageLine.{line-read}
 
 -- ---- a run as a list of parts
 
@@ -265,56 +267,6 @@ givens-tail (tail_part {w = _} own f p g e t) h r = cc
 as-given : {m n : Model} {ts : List Token} → Tail language_word m ts n → Tail given_word m ts n
 as-given tail_end = tail_end
 as-given (tail_part own f p g e t) = tail_part own f p g e t
-
--- ---- the language line
-
-number-is : (n k : ℕ) (s : Stage) (ts : List Token) (m : Model) (b : Bool) → nat_eq n k ≡ b → then_model (elim b as (λ b. Option Stage) [ true ↦ Some s | false ↦ None ]) (model_run ts) ≡ Some m → (n ≡ k) × (model_run ts s ≡ Some m)
-number-is n k s ts m true q h = (eqb-true n k q, h)
-number-is n k s ts m false q h = cc
-
--- The tokens go on with these, behind which the machine stands at the stage s.
-record LineRead (ts : List Token) (front : List Token) (s : Stage) (m : Model) : Type 0 where
-  us : List Token
-  is : ts ≡ front ++ us
-  run : model_run us s ≡ Some m
-
-line-from-dot : (ts : List Token) (m : Model) → model_run ts behind_dot ≡ Some m → LineRead ts (number 0 ∷ []) first_part m
-line-from-dot [] m h = cc
-line-from-dot (number n ∷ ts) m h = let r = number-is n 0 first_part ts m (nat_eq n 0) refl h in record { us = ts; is = ap (λ n. number n ∷ ts) r.0; run = r.1 }
-line-from-dot (name a ∷ ts) m h = cc
-line-from-dot (prime_word ∷ ts) m h = cc
-line-from-dot (word w ∷ ts) m h = cc
-line-from-dot (operator o ∷ ts) m h = cc
-line-from-dot (function f ∷ ts) m h = cc
-line-from-dot (symbol c ∷ ts) m h = cc
-
-line-from-number : (ts : List Token) (m : Model) → model_run ts behind_first_number ≡ Some m → LineRead ts (symbol dot ∷ number 0 ∷ []) first_part m
-line-from-number [] m h = cc
-line-from-number (symbol dot ∷ ts) m h = let r = line-from-dot ts m h in record { us = r.us; is = ap (λ ts. symbol dot ∷ ts) r.is; run = r.run }
-line-from-number (_ ∷ ts) m h = cc
-
-line-from-prime : (ts : List Token) (m : Model) → model_run ts behind_prime ≡ Some m → LineRead ts (number 1 ∷ symbol dot ∷ number 0 ∷ []) first_part m
-line-from-prime [] m h = cc
-line-from-prime (number n ∷ ts) m h =
-    let q = number-is n 1 behind_first_number ts m (nat_eq n 1) refl h in
-    let r = line-from-number ts m q.1 in
-    record { us = r.us; is = ap (λ n. number n ∷ ts) q.0 ∙ ap (λ ts. number 1 ∷ ts) r.is; run = r.run }
-line-from-prime (name a ∷ ts) m h = cc
-line-from-prime (prime_word ∷ ts) m h = cc
-line-from-prime (word w ∷ ts) m h = cc
-line-from-prime (operator o ∷ ts) m h = cc
-line-from-prime (function f ∷ ts) m h = cc
-line-from-prime (symbol c ∷ ts) m h = cc
-
-line-from-language : (ts : List Token) (m : Model) → model_run ts behind_language ≡ Some m → LineRead ts (prime_word ∷ number 1 ∷ symbol dot ∷ number 0 ∷ []) first_part m
-line-from-language [] m h = cc
-line-from-language (prime_word ∷ ts) m h = let r = line-from-prime ts m h in record { us = r.us; is = ap (λ ts. prime_word ∷ ts) r.is; run = r.run }
-line-from-language (_ ∷ ts) m h = cc
-
-line-read : (ts : List Token) (m : Model) → model_run ts at_begin ≡ Some m → LineRead ts (word language_word ∷ prime_word ∷ number 1 ∷ symbol dot ∷ number 0 ∷ []) first_part m
-line-read [] m h = cc
-line-read (word language_word ∷ ts) m h = let r = line-from-language ts m h in record { us = r.us; is = ap (λ ts. word language_word ∷ ts) r.is; run = r.run }
-line-read (_ ∷ ts) m h = cc
 
 -- ---- the whole
 

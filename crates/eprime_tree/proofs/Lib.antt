@@ -1,4 +1,5 @@
 pub mod Equations
+pub mod NamesAndCells
 pub mod ReadBack
 pub mod ReadableModels
 pub mod ModelsRead

@@ -1,26 +1,21 @@
 -- The tree as it is read of an expression of a model is one of the grammar, and has the expression's cells again.
-use Rattle.std.proofs.Common.{◌≡◌, refl, sym, ap, ◌∙◌, Bool, true, false, ◌&&◌, ◌||◌, not, List, [], ◌∷◌, ◌++◌, Option, Some, None}
+use Rattle.std.proofs.Common.{◌≡◌, refl, sym, ap, ◌∙◌, Bool, true, false, ◌&&◌, ◌||◌, not, List, [], ◌∷◌, ◌++◌}
 use Rattle.std.specs.Prelude.{if◌then◌else◌}
 use Rattle.std.specs.Option.{is_some}
 use Rattle.ess_semantics.specs.declared.words.Op2.{Op2}
 use Rattle.ess_semantics.specs.declared.words.Fun.{Fun}
 use Rattle.ess_semantics.specs.Values.{Text}
 use Rattle.ess_semantics.specs.Names.{look, is_among}
-use Rattle.ess_semantics.specs.Trees.{Step, Op, unary, binary, index, application, tuple_literal, set_literal, mset_literal, function_literal, relation_literal, partition_literal, matrix_literal, record_literal, Ends, one_value, both_ends, low_end, high_end, name_pat, tuple_pat, Ex, Exs, number_ex, truth_ex, name_ex, node_ex, matrix_ex, comp_ex, cell_ex, seen_ex, no_exs, more_exs, Gens, no_gens, over, from, cond, Dom, bool_dom, int_dom, name_dom, tuple_dom, record_dom, matrix_dom, set_dom, mset_dom, function_dom, relation_dom, partition_dom, is_truth_op}
+use Rattle.ess_semantics.specs.Trees.{Op, unary, binary, index, application, tuple_literal, set_literal, mset_literal, function_literal, relation_literal, partition_literal, matrix_literal, record_literal, Ends, one_value, both_ends, low_end, high_end, name_pat, tuple_pat, Ex, Exs, number_ex, truth_ex, name_ex, node_ex, matrix_ex, comp_ex, cell_ex, seen_ex, no_exs, more_exs, Gens, no_gens, over, from, cond, Dom, bool_dom, int_dom, name_dom, tuple_dom, record_dom, matrix_dom, set_dom, mset_dom, function_dom, relation_dom, partition_dom, is_truth_op}
 use Rattle.ess_semantics.specs.Kinds.{is_bounded}
 use Rattle.ess_semantics.proofs.Tests.{and-left, and-right, not-true}
 use Rattle.ess_grammar.specs.Grammar.{steps_of}
-use Rattle.ess_grammar.specs.Models.{Scope, is_truth_table, cell_or_name, named_cell, cell_or_node, with_cells, all_with_cells, gens_with_cells, dom_with_cells, names_of_gens, same_truth, may_stand, is_plain_cell, is_lex_operator, is_plain_operator, is_model_ex, is_model_node, is_model_list, are_model_exs, are_model_gens, is_model_dom}
+use Rattle.ess_grammar.specs.Models.{Scope, is_truth_table, cell_or_node, with_cells, all_with_cells, gens_with_cells, dom_with_cells, names_of_gens, same_truth, may_stand, is_plain_cell, is_lex_operator, is_plain_operator, is_model_ex, is_model_node, is_model_list, are_model_exs, are_model_gens, is_model_dom}
 use Rattle.ess_grammar.specs.Readable.{is_name_token, some_gens, fit_steps, fit_ranges, fit_operands, ReadableEx, ReadableExs, ReadableGens, ReadableDom}
 use Rattle.eprime_tree.specs.Written.{written, all_written, gens_written, dom_written}
+use Rattle.eprime_tree.proofs.NamesAndCells.{truth-same, name-stays, cell-back, access-back}
 
--- ---- truth values, steps and ranges
-
-truth-same : (a b : Bool) → same_truth a b ≡ true → a ≡ b
-truth-same true true h = refl
-truth-same true false h = cc
-truth-same false true h = cc
-truth-same false false h = refl
+-- ---- steps, ranges and generators
 
 steps-fit : (es : Exs) → fit_steps (steps_of es) es ≡ true
 steps-fit no_exs = refl
@@ -51,35 +46,6 @@ some-written no_gens h = cc
 some-written (over p d gs) h = refl
 some-written (from p e gs) h = refl
 some-written (cond e gs) h = refl
-
--- ---- names and cells
-
--- a name that a generator binds, or that no line declares, stays one
-name-stays : (s : Scope) (g : List Text) (a : Text) → is_among g a || not (is_some (look s.tables a)) ≡ true → named_cell s g a ≡ name_ex a
-name-stays s g a h = go (is_among g a) (look s.tables a) h
-  where
-    go : (i : Bool) (o : Option Bool) → i || not (is_some o) ≡ true → (if i then name_ex a else cell_or_name a o) ≡ name_ex a
-    go true o h = refl
-    go false None h = refl
-    go false (Some b) h = cc
-
--- a declared name that no generator binds is its cell
-cell-back : (s : Scope) (g : List Text) (a : Text) (b : Bool) → is_plain_cell g a b (look s.tables a) ≡ true → named_cell s g a ≡ cell_ex b a no_exs
-cell-back s g a b h = go (is_among g a) (look s.tables a) refl h
-  where
-    go : (i : Bool) (o : Option Bool) → is_among g a ≡ i → is_plain_cell g a b o ≡ true → (if i then name_ex a else cell_or_name a o) ≡ cell_ex b a no_exs
-    go i None e h = cc
-    go true (Some c) e h = let n = not-true (is_among g a) (and-right (same_truth b c) (not (is_among g a)) h) in cc
-    go false (Some c) e h = ap (λ t. cell_ex t a no_exs) (sym (truth-same b c (and-left (same_truth b c) (not (is_among g a)) h)))
-
--- an index of a name is an access to the table of that name
-access-back : (s : Scope) (g : List Text) (a : Text) (b : Bool) (ss : List Step) (es : Exs) → cell_or_node s b (index ss) (more_exs (named_cell s g a) es) ≡ cell_ex (is_truth_table s a) a es
-access-back s g a b ss es = go (is_among g a) (look s.tables a) refl
-  where
-    go : (i : Bool) (o : Option Bool) → look s.tables a ≡ o → cell_or_node s b (index ss) (more_exs (if i then name_ex a else cell_or_name a o) es) ≡ cell_ex (is_truth_table s a) a es
-    go true o e = refl
-    go false None e = refl
-    go false (Some c) e = ap (λ t. cell_ex t a es) (sym (ap (λ o. elim o [ Some b ↦ b | None ↦ false ]) e))
 
 -- ---- trees
 

@@ -8,7 +8,8 @@ use Rattle.ess_semantics.specs.Meaning.{Env}
 use Rattle.ess_rules_laws.specs.Rules.{SoundOperands, OperandsThere}
 use Rattle.ess_rules_laws.specs.ShortSizeRules.{SoundWithin}
 use Rattle.ess_rules_laws.specs.MatrixRules.{BothIndexed}
-use Rattle.ess_refine_laws.specs.AllRules.{Rule, over_nothing, over_a_term, over_a_made_set, over_a_tuple, over_a_record, over_a_condition, turned, strictly, equal_tuples, equal_records, equal_sets, equal_multisets, equal_functions, equal_partitions, with_nothing, equal_matrices_at, included_sets, included_multisets, in_one_made_of_another, in_what_a_function_has, in_its_pairs, in_a_term, size_of_one_made_of_another, size, frequency_in_one_made_of_another, frequency, together, least_of_a_literal, list_of_a_term, lists_on_both_sides, all_different, results, Supply, CountsOn}
+use Rattle.ess_refine_laws.specs.WhatRulesCountOn.{CountsOn}
+use Rattle.ess_refine_laws.specs.AllRules.{Rule, over_nothing, over_a_term, over_a_made_set, over_a_tuple, over_a_record, over_a_condition, turned, strictly, equal_tuples, equal_records, equal_sets, equal_multisets, equal_functions, equal_partitions, with_nothing, equal_matrices_at, included_sets, included_multisets, in_one_made_of_another, in_what_a_function_has, in_its_pairs, in_a_term, size_of_one_made_of_another, size, frequency_in_one_made_of_another, frequency, together, least_of_a_literal, list_of_a_term, lists_on_both_sides, all_different, results, Supply}
 
 -- Rules that count on new names alone, or on nothing.
 abbrev pub needs_names : Rule → Bool

@@ -1,11 +1,10 @@
 -- Worked examples: what typing asks of conditions and index domains, and what it doesn't. f and i are numbers that are found, m is a matrix
 -- that is found, n a number that is given.
-use Rattle.std.proofs.Common.{◌≡◌, refl, Bool, true, false, [], ◌∷◌, Option, Some, None, codes}
+use Rattle.std.proofs.Common.{◌≡◌, refl, Bool, true, false, [], ◌∷◌, None, codes}
 use Rattle.std.specs.Prelude.{is_some}
 use Rattle.ess_semantics.specs.declared.words.Op2.{Op2}
 use Rattle.ess_semantics.specs.declared.words.Fun.{Fun}
 use Rattle.ess_semantics.specs.declared.words.ReprKind.{ReprKind}
-use Rattle.ess_semantics.specs.Lists.{and_then}
 use Rattle.ess_semantics.specs.Values.{Text, a_matrix}
 use Rattle.ess_semantics.specs.Trees.{word, matrix_literal, name_pat, repr, no_reprs, more_reprs, Ex, node_ex, comp_ex, cell_ex, seen_ex, no_exs, more_exs, no_gens, over, from, cond, bool_dom, matrix_dom, no_doms, more_doms}
 use Rattle.ess_semantics.specs.Types.{int_ty, compound2}
@@ -18,7 +17,6 @@ use Rattle.ess_refine_laws.specs.AllRules.{Supply}
 use Rattle.ess_open_rules_laws.specs.OpenSources.{counted_apart, kept_behind}
 use Rattle.ess_chain_names_laws.specs.Steps.{told_axis}
 use Rattle.ess_given_laws.specs.Given.{is_fixed_dom, GivenIn}
-use Rattle.ess_given_laws.specs.GivenEnds.{conditions_read_none}
 use Rattle.ess_given_conditions_laws.specs.InScope.{is_given_in}
 use Rattle.ess_given_conditions_laws.specs.ConditionsEnd.{own_read_none}
 
@@ -110,9 +108,8 @@ twice = bi Op2.Plus
 twice-given : is_given_in none none twice ≡ true
 twice-given = refl
 
--- ---- a list over what is picked out of a literal at a found place is judged, and keeps the order; the rule for comprehensions in any
--- place
--- opens it, used twice, with a condition that reads what is found. So no list that lex signs compare may be opened over what is picked.
+-- ---- a list over what is picked out of a literal at a found place is judged. It keeps the order, so the rule for comprehensions in any
+-- place may not open it: a condition that reads what is found would come in.
 
 abbrev picked : Ex → Ex
 picked e = comp_ex (N y) (from (name_pat y) (at (list_of_one (node_ex false matrix_literal (es2 (n 1) (n 2)))) e) no_gens)
@@ -120,9 +117,5 @@ picked e = comp_ex (N y) (from (name_pat y) (at (list_of_one (node_ex false matr
 picked-may : is_well_typed_at true (bi Op2.LexLt (picked (N i)) (list_of_one (n 3))) scope ≡ true
 picked-may = refl
 
-abbrev reads_none : Option Ex → Bool
-reads_none (Some (comp_ex e gs)) = conditions_read_none gs
-reads_none o = true
-
-picked-reads : reads_none (and_then (kept_behind supply [] (picked (cell_ex false i no_exs))) (kept_behind supply [])) ≡ false
-picked-reads = refl
+picked-waits : kept_behind supply [] (picked (cell_ex false i no_exs)) ≡ None
+picked-waits = refl

@@ -10,6 +10,7 @@ pub mod CountedMultisets
 pub mod FunctionSizes
 -- Partitions by numbers
 pub mod PartNumbering
+pub mod MemberNumbers
 pub mod NumberingView
 pub mod PartyRules
 pub mod TogetherNumbers

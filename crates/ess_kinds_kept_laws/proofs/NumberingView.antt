@@ -1,14 +1,11 @@
 -- A view of a partition that is kept by the number of each member's part: its numbers, and the view of them as a function.
-use Rattle.std.proofs.Common.{◌≡◌, refl, sym, ap, ◌∙◌, subst, ℕ, ◌≤◌, Bool, true, false, ◌&&◌, ◌||◌, not, if◌then◌else◌, List, [], ◌∷◌, ◌++◌, map, length, ℤ, pos, negsuc, ◌≤ℤ◌, Option, Some, None, option_map, nat_le, arith}
-use Rattle.std.proofs.lemmas.Int.{ints}
+use Rattle.std.proofs.Common.{◌≡◌, refl, sym, ap, ◌∙◌, ℕ, ◌≤◌, Bool, true, false, ◌&&◌, not, if◌then◌else◌, List, [], ◌∷◌, ◌++◌, map, length, ℤ, pos, negsuc, Option, Some, None, option_map, nat_le}
 use Rattle.std.proofs.lemmas.Bool.{leb-true}
-use Rattle.std.specs.Prelude.{int_le}
 use Rattle.std.specs.List.{list_all}
 use Rattle.ess_semantics.specs.declared.words.Key.{Key}
 use Rattle.ess_semantics.specs.declared.words.ReprKind.{ReprKind}
 use Rattle.ess_semantics.specs.Lists.{and_then, each_of, is_some_and, when, list_or_none}
 use Rattle.ess_semantics.specs.Values.{a_partition, Text, Value, number, node, from_of, to_of, of_list, itself}
-use Rattle.ess_semantics.specs.Order.{same, below}
 use Rattle.ess_semantics.specs.Collections.{holds, sorted_once, rises, partition_of, has_empty_part, has_overlap}
 use Rattle.ess_semantics.specs.Names.{look}
 use Rattle.ess_semantics.specs.Trees.{both_ends, flag, Mark, Repr, repr, no_reprs, more_reprs, Ex, Exs, no_exs, seen_ex, Dom, partition_dom, function_dom}
@@ -24,13 +21,13 @@ use Rattle.ess_semantics.specs.Tidy.{tidy, over_axes, is_orderly}
 use Rattle.ess_semantics.specs.Meaning.{Env, meaning, meanings, attributes_of, domain_of, indices, spans_of}
 use Rattle.ess_semantics.specs.Meets.{Meets}
 use Rattle.ess_semantics.specs.Atoms.{Listed}
-use Rattle.ess_semantics.proofs.Tests.{and-left, and-right, and-both, some-and, not-true, or-yes}
-use Rattle.ess_semantics.proofs.Orders.{to_list-of_list, same-itself, same-equal}
+use Rattle.ess_semantics.proofs.Tests.{and-left, and-right, and-both, some-and, not-true}
+use Rattle.ess_semantics.proofs.Orders.{to_list-of_list}
 use Rattle.ess_semantics.proofs.Overlaps.{apart-distinct, no-overlap}
 use Rattle.ess_semantics.proofs.Sorting.{Distinct, sorted_once-length}
 use Rattle.ess_repr_laws.proofs.AllMembersListed.{domain-listed}
 use Rattle.ess_repr_laws.proofs.Parts.{partition-member}
-use Rattle.ess_repr_laws.proofs.PartNumbers.{le-is, parts-length}
+use Rattle.ess_repr_laws.proofs.PartNumbers.{parts-length}
 use Rattle.ess_rules_laws.specs.SlotListings.{slots_dom}
 use Rattle.ess_rules_laws.proofs.FunctionViewParts.{tables-split}
 use Rattle.ess_rules_laws.proofs.ArgumentRuns.{atom_index, atom-members-there}
@@ -40,106 +37,7 @@ use Rattle.ess_views_kept_laws.proofs.ChildViews.{partition-parts}
 use Rattle.ess_views_kept_laws.proofs.ComponentViews.{IsView, view-of}
 use Rattle.ess_kinds_kept_laws.specs.PartitionAsks.{NumbersEnough}
 use Rattle.ess_kinds_kept_laws.proofs.PartNumbering.{Part, Parts}
-
--- ---- numbers of members
-
--- A number that is there.
-abbrev pub number_or_0 : Option ℤ → ℤ
-number_or_0 None = pos 0
-number_or_0 (Some z) = z
-
--- Numbers that are all there are those of the members.
-numbers-are : (g : Value → Option ℤ) (xs : List Value) (ws : List ℤ) → each_of xs g ≡ Some ws → ws ≡ map (λ v. number_or_0 (g v)) xs
-numbers-are g [] ws q = sym (let e : [] ≡ ws = cc in e)
-numbers-are g (x ∷ xs) ws q = go (g x) (each_of xs g) refl q (λ us e. numbers-are g xs us e)
-  where
-    go : (o : Option ℤ) (p : Option (List ℤ)) → each_of xs g ≡ p → and_then o (λ y. option_map (λ ys. y ∷ ys) p) ≡ Some ws →
-        ((us : List ℤ) → each_of xs g ≡ Some us → us ≡ map (λ v. number_or_0 (g v)) xs) →
-        ws ≡ number_or_0 o ∷ map (λ v. number_or_0 (g v)) xs
-    go None p e q h = cc
-    go (Some z) None e q h = cc
-    go (Some z) (Some us) e q h = sym (let y : z ∷ us ≡ ws = cc in y) ∙ ap (λ l. z ∷ l) (h us e)
-
--- Of each member it is there.
-there-each : (g : Value → Option ℤ) (xs : List Value) (ws : List ℤ) → each_of xs g ≡ Some ws → (v : Value) → holds xs v ≡ true →
-    g v ≡ Some (number_or_0 (g v))
-there-each g [] ws q v h = no h
-  where
-    no : {A : Type 0} → false ≡ true → A
-    no h = cc
-there-each g (x ∷ xs) ws q v h = go (g x) refl (each_of xs g) refl q (same x v) refl h
-    (λ us e z. there-each g xs us e v z)
-  where
-    go : (o : Option ℤ) → g x ≡ o → (p : Option (List ℤ)) → each_of xs g ≡ p → and_then o (λ y. option_map (λ ys. y ∷ ys) p) ≡ Some ws →
-        (b : Bool) → same x v ≡ b → b || holds xs v ≡ true →
-        ((us : List ℤ) → each_of xs g ≡ Some us → holds xs v ≡ true → g v ≡ Some (number_or_0 (g v))) → g v ≡ Some (number_or_0 (g v))
-    go None a p e q b s h r = cc
-    go (Some z) a None e q b s h r = cc
-    go (Some z) a (Some us) e q true s h r =
-        let y : x ≡ v = same-equal x v s in
-        subst (λ u. g u ≡ Some (number_or_0 (g u))) y (a ∙ ap (λ o. Some (number_or_0 o)) (sym a))
-    go (Some z) a (Some us) e q false s h r = r us e h
-
--- ---- functions of numbers
-
-module _ (w : Value → ℤ) where
-  numbered-firsts : (xs : List Value) → map from_of (with_arguments xs (map number (map w xs))) ≡ xs
-  numbered-firsts [] = refl
-  numbered-firsts (x ∷ xs) = ap (λ l. x ∷ l) (numbered-firsts xs)
-
-  numbered-rise : (xs : List Value) → rises itself xs ≡ true → rises from_of (with_arguments xs (map number (map w xs))) ≡ true
-  numbered-rise [] h = refl
-  numbered-rise (x ∷ []) h = refl
-  numbered-rise (x ∷ y ∷ xs) h =
-      and-both (below x y) (rises from_of (with_arguments (y ∷ xs) (map number (map w (y ∷ xs))))) (and-left _ _ h)
-      (numbered-rise (y ∷ xs) (and-right _ _ h))
-
-  numbered-members : (f g : Value → Bool) (xs : List Value) → list_all f xs ≡ true → list_all (λ z. g (number z)) (map w xs) ≡ true →
-      list_all (λ p. is_pair p && f (from_of p) && g (to_of p)) (with_arguments xs (map number (map w xs))) ≡ true
-  numbered-members f g [] h k = refl
-  numbered-members f g (x ∷ xs) h k = and-both (f x && g (number (w x))) _ (and-both (f x) (g (number (w x))) (and-left _ _ h)
-      (and-left _ _ k)) (numbered-members f g xs (and-right _ _ h) (and-right _ _ k))
-
-all-themselves : (xs ys : List Value) → ((v : Value) → holds xs v ≡ true → holds ys v ≡ true) → list_all (λ x. holds ys x) xs ≡ true
-all-themselves [] ys h = refl
-all-themselves (x ∷ xs) ys h = and-both (holds ys x) (list_all (λ x. holds ys x) xs) (h x (ap (λ b. b || holds xs x) (same-itself x)))
-    (all-themselves xs ys (λ v z. h v (ap (λ b. same x v || b) z
-    ∙ or-yes (same x v))))
-
--- Numbers up to one that isn't above another.
-wider : (c m : ℕ) → c ≤ m → (zs : List ℤ) → list_all (is_part_number c) zs ≡ true →
-    list_all (λ z. (int_le (pos 1) z && int_le z (pos m)) || false) zs ≡ true
-wider c m h [] k = refl
-wider c m h (z ∷ zs) k = and-both ((int_le (pos 1) z && int_le z (pos m)) || false) _
-    (ap (λ b. b || false) (and-both (int_le (pos 1) z) (int_le z (pos m)) (and-left _ _ (and-left (is_part_number c z) _ k))
-    (le-wider z (le-is z (pos c) (and-right (int_le (pos 1) z) (int_le z (pos c)) (and-left (is_part_number c z) _ k))))))
-    (wider c m h zs (and-right (is_part_number c z) _ k))
-  where
-    le-wider : (z : ℤ) → z ≤ℤ pos c → int_le z (pos m) ≡ true
-    le-wider z l = grind (arith, ints)
-
-each-number : (g : Value → Option ℤ) (w : Value → ℤ) (xs : List Value) → each_of xs g ≡ Some (map w xs) →
-    each_of xs (λ v. and_then (g v) (λ z. Some (number z))) ≡ Some (map number (map w xs))
-each-number g w [] q = refl
-each-number g w (x ∷ xs) q = go (g x) (each_of xs g) refl q (each-number g w xs)
-  where
-    go : (o : Option ℤ) (p : Option (List ℤ)) → each_of xs g ≡ p → and_then o (λ y. option_map (λ ys. y ∷ ys) p) ≡ Some (w x ∷ map w xs) →
-        (each_of xs g ≡ Some (map w xs) → each_of xs (λ v. and_then (g v) (λ z. Some (number z))) ≡ Some (map number (map w xs))) →
-        and_then (and_then o (λ z. Some (number z)))
-        (λ y. option_map (λ ys. y ∷ ys) (each_of xs (λ v. and_then (g v) (λ z. Some (number z))))) ≡
-        Some (number (w x) ∷ map number (map w xs))
-    go None p e q h = cc
-    go (Some z) None e q h = cc
-    go (Some z) (Some us) e q h = let a : z ≡ w x = cc in let b : us ≡ map w xs = cc in
-        ap (option_map (λ ys. number z ∷ ys)) (h (e ∙ ap Some b)) ∙ ap (λ n. Some (number n ∷ map number (map w xs))) a
-
-each-over : {B : Type 0} (f : Value → List ℤ) (g : List ℤ → Option B) (xs : List Value) → each_of (map f xs) g ≡ each_of xs (λ v. g (f v))
-each-over f g [] = refl
-each-over f g (x ∷ xs) = ap (λ o. and_then (g (f x)) (λ y. option_map (λ ys. y ∷ ys) o)) (each-over f g xs)
-
-all-so : {A : Type 0} (xs : List A) → list_all (λ x. true) xs ≡ true
-all-so [] = refl
-all-so (x ∷ xs) = all-so xs
+use Rattle.ess_kinds_kept_laws.proofs.MemberNumbers.{number_or_0, numbers-are, there-each, numbered-firsts, numbered-rise, numbered-members, all-themselves, wider, each-number, each-over, all-so}
 
 -- ---- the view
 

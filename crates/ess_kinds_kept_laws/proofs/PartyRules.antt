@@ -41,7 +41,8 @@ use Rattle.ess_views_kept_laws.proofs.MatrixPlaces.{put-indices, put-met}
 use Rattle.ess_views_kept_laws.proofs.UsedMembers.{collect-picked}
 use Rattle.ess_kinds_kept_laws.specs.PartitionAsks.{NumbersEnough, Tells, TermTold, PartyAsks}
 use Rattle.ess_kinds_kept_laws.proofs.PartNumbering.{Part, Parts, arguments-numbered, party-held, party-none}
-use Rattle.ess_kinds_kept_laws.proofs.NumberingView.{number_or_0, PartsView, PartsSeen, parts-seen, few-parts, numbering-view, number-there}
+use Rattle.ess_kinds_kept_laws.proofs.MemberNumbers.{number_or_0}
+use Rattle.ess_kinds_kept_laws.proofs.NumberingView.{PartsView, PartsSeen, parts-seen, few-parts, numbering-view, number-there}
 
 no : {A : Type 0} → false ≡ true → A
 no h = cc

@@ -26,7 +26,8 @@ use Rattle.ess_rules_laws.proofs.RuleAnswers.{behind, each-in-any, all-over, mea
 use Rattle.ess_views_kept_laws.proofs.UsedMembers.{collect-picked}
 use Rattle.ess_kinds_kept_laws.specs.PartitionAsks.{NumbersEnough, MembersTold}
 use Rattle.ess_kinds_kept_laws.proofs.PartNumbering.{Parts, together-numbered, all-same}
-use Rattle.ess_kinds_kept_laws.proofs.NumberingView.{number_or_0, PartsView, PartsSeen, number-there}
+use Rattle.ess_kinds_kept_laws.proofs.MemberNumbers.{number_or_0}
+use Rattle.ess_kinds_kept_laws.proofs.NumberingView.{PartsView, PartsSeen, number-there}
 use Rattle.ess_kinds_kept_laws.proofs.PartyRules.{no-cell, UpTo, up-to-says, up-to-met, numbers-listed, numbers-picked, up_to_number, each-of-any, collect-values}
 
 no : {A : Type 0} → false ≡ true → A

@@ -1,5 +1,5 @@
 -- Generators taken apart at the first that isn't plain: rules of sources fire at the first generator, and serve so behind plain ones.
-use Rattle.std.specs.Prelude.{Bool, false, if◌then◌else◌, Option, Some, None, option_map}
+use Rattle.std.specs.Prelude.{Bool, true, false, if◌then◌else◌, Option, Some, None, option_map}
 use Rattle.ess_semantics.specs.declared.words.Fun.{Fun}
 use Rattle.ess_semantics.specs.Lists.{and_then}
 use Rattle.ess_semantics.specs.Trees.{Pat, name_pat, Ex, comp_ex, Gens, no_gens, over, from, cond, Dom, fun1}
@@ -58,3 +58,18 @@ abbrev pub behind_plain : (Gens → Ex → Option Ex) → Ex → Option Ex
 behind_plain r (comp_ex e gs) =
     and_then (at_first_open gs) (λ t. and_then (r t.before (comp_ex e t.after)) (put_before t.before))
 behind_plain r e = None
+
+-- ---- generators over domains alone
+
+-- Whether each generator runs over a domain; there may be conditions.
+abbrev pub are_over_domains : Gens → Bool
+are_over_domains no_gens = true
+are_over_domains (over p d gs) = are_over_domains gs
+are_over_domains (from p e gs) = false
+are_over_domains (cond c gs) = are_over_domains gs
+
+-- Whether the expression is no comprehension with a generator over a source. The index domain of such a one, `int(1..n)`, would count in n
+-- the items that its source brings, and n stands in a domain: it may not be asked for before the source is opened.
+abbrev pub has_no_source : Ex → Bool
+has_no_source (comp_ex e gs) = are_over_domains gs
+has_no_source e = true

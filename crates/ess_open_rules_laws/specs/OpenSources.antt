@@ -1,16 +1,17 @@
 -- Sources of words over comprehensions, at the first generator that isn't plain: what they offer by their forms, by their kinds, or by
 -- what they pick.
-use Rattle.std.specs.Prelude.{ℕ, suc, Bool, true, false, ◌&&◌, ◌||◌, if◌then◌else◌, List, [], ◌∷◌, map, Option, Some, None, option_map, is_some}
+use Rattle.std.specs.Prelude.{ℕ, suc, Bool, true, false, ◌&&◌, ◌||◌, not, if◌then◌else◌, List, [], ◌∷◌, map, Option, Some, None, option_map, is_some}
 use Rattle.ess_semantics.specs.declared.words.Op2.{Op2}
 use Rattle.ess_semantics.specs.declared.words.Fun.{Fun}
 use Rattle.ess_semantics.specs.Lists.{and_then, or_else}
 use Rattle.ess_semantics.specs.Values.{Text, a_tuple}
 use Rattle.ess_semantics.specs.Names.{Names}
-use Rattle.ess_semantics.specs.Trees.{word, set_literal, name_pat, Ex, node_ex, comp_ex, no_exs, Gens, from, ex2, fun1, Pats, tuple_pat, no_pats, more_pats, name_ex, no_gens, matrix_ex}
+use Rattle.ess_semantics.specs.Trees.{word, set_literal, name_pat, Ex, node_ex, comp_ex, no_exs, Gens, over, from, cond, ex2, fun1, Pats, tuple_pat, no_pats, more_pats, name_ex, no_gens, matrix_ex}
 use Rattle.ess_semantics.specs.Types.{Ty, Tys, no_tys, more_tys, compound}
 use Rattle.ess_semantics.specs.Typing.{source_ty}
 use Rattle.ess_semantics.specs.NamesAt.{names_behind}
 use Rattle.ess_semantics.specs.ExpressionJudgements.{forgets_order}
+use Rattle.ess_semantics.specs.Occurrences.{has_cells}
 use Rattle.ess_semantics.specs.Refined.{is_refined, are_refined_gens}
 use Rattle.ess_rules_laws.specs.ComponentRules.{component_of}
 use Rattle.ess_rules_laws.specs.FoldRules.{is_laid_open, is_fold}
@@ -154,9 +155,33 @@ listed_plainly e = None
 
 -- ---- comprehensions in any place: the order of items stays
 
+-- A condition that reads a table can't stay where order counts. So what is picked is taken in order only where no table says which items
+-- there are.
+abbrev mutual
+  -- Whether the expression is a comprehension over domains and such comprehensions, no condition of which reads a table.
+  pub is_decided : Ex → Bool
+  is_decided (comp_ex e gs) = are_decided gs
+  is_decided e = false
+
+  -- The same of its generators.
+  pub are_decided : Gens → Bool
+  are_decided no_gens = true
+  are_decided (over p d gs) = are_decided gs
+  are_decided (from p t gs) = is_decided t && are_decided gs
+  are_decided (cond c gs) = not (has_cells c) && are_decided gs
+
+-- Whether the first generator runs over such a comprehension.
+abbrev pub is_first_decided : Gens → Bool
+is_first_decided (from p t gs) = is_decided t
+is_first_decided gs = false
+
+-- The only alternative, where it begins so.
+abbrev pub decided_one : Option (List Alternative) → Option Alternative
+decided_one o = and_then (only_one o) (λ a. if is_first_decided a.gens then Some a else None)
+
 -- Over a view of a matrix, or what is picked.
 abbrev pub in_order_told : Supply → Names Ty → Ex → Option Alternative
-in_order_told s g t = or_else (matrix_listing s.one t) (only_one (picked_members s g t))
+in_order_told s g t = or_else (matrix_listing s.one t) (decided_one (picked_members s g t))
 
 abbrev pub opened_in_order : Supply → Names Ty → Ex → Option Ex
 opened_in_order s g (comp_ex e (from (name_pat y) t hs)) =

@@ -4,20 +4,17 @@ use Rattle.std.proofs.lemmas.Int.{ints}
 use Rattle.std.specs.Prelude.{is_some}
 use Rattle.ess_semantics.specs.declared.words.Op2.{Op2}
 use Rattle.ess_semantics.specs.declared.words.Fun.{Fun}
-use Rattle.ess_semantics.specs.Lists.{and_then, list_or_none}
-use Rattle.ess_semantics.specs.Values.{Text, Value, number, truth, of_list, itself}
+use Rattle.ess_semantics.specs.Lists.{and_then}
+use Rattle.ess_semantics.specs.Values.{Text, Value, number, truth, of_list}
 use Rattle.ess_semantics.specs.Order.{same, same_text}
 use Rattle.ess_semantics.specs.Names.{look}
 use Rattle.ess_semantics.specs.Numbers.{run_from}
-use Rattle.ess_semantics.specs.Collections.{rises}
 use Rattle.ess_semantics.specs.Trees.{binary, word, index, by_value, name_pat, Ex, number_ex, name_ex, node_ex, comp_ex, no_exs, more_exs, ex2, Gens, no_gens, over, cond, Dom}
-use Rattle.ess_semantics.specs.Domains.{Domain}
 use Rattle.ess_semantics.specs.Operators.{value_of_node, false_where_undefined, sum_of, list_value, item_at, numbers_from}
 use Rattle.ess_semantics.specs.Meaning.{Env, meaning, domain_of, members_in, collect, where_true}
 use Rattle.ess_semantics.specs.Contexts.{EachOf}
 use Rattle.ess_semantics.specs.Meets.{Meets, MeetsDom}
 use Rattle.ess_semantics.proofs.Orders.{to_list-of_list, same-equal}
-use Rattle.ess_repr_laws.proofs.AllMembersListed.{domain-listed}
 use Rattle.ess_rules_laws.specs.Rules.{Unused}
 use Rattle.ess_rules_laws.specs.MatrixRules.{UnusedDom}
 use Rattle.ess_rules_laws.specs.Listings.{Alternative, all_listed}
@@ -35,7 +32,7 @@ use Rattle.ess_kind_rules_laws.specs.TermLookups.{count_below}
 use Rattle.ess_kinds_kept_laws.proofs.PlacesBelow.{below_count, ones, ones-sum, collect-ones}
 use Rattle.ess_ordered_laws.specs.NumberedItems.{is_from_one, numbered_item, numbered_over, numbered_lookup}
 use Rattle.ess_ordered_laws.specs.Laws.{NumberedApart, ItemsAreNumbered}
-use Rattle.ess_ordered_laws.proofs.Places.{Numbered, ranked, from-one}
+use Rattle.ess_ordered_laws.proofs.Places.{members-rise, Numbered, ranked, from-one}
 
 no : {A : Type 0} → false ≡ true → A
 no h = cc
@@ -229,11 +226,6 @@ module _ (x z : Text) (d : Dom) (env : Env) (new-x : UnusedDom x d) (new-z : Unu
       each-of-any (Some vs) P f = each-any vs P f
 
 -- ---- the lookup
-
--- The members of a domain rise.
-members-rise : (o : Option Domain) (vs : List Value) → members_in o ≡ Some vs → rises itself vs ≡ true
-members-rise None vs q = cc
-members-rise (Some c) vs q = ap (rises itself) (sym (ap list_or_none q)) ∙ (domain-listed c).sorted
 
 -- Values and items of a comprehension that is there.
 there-is : (G : Value → Option (List Value)) (o : Option (List Value)) → is_some (option_map list_value (and_then o (λ vs. collect vs G))) ≡ true

@@ -4,17 +4,19 @@ use Rattle.std.proofs.lemmas.Bool.Decides.{Decides-int_eq}
 use Rattle.std.proofs.lemmas.Cmp.{tied_itself}
 use Rattle.std.proofs.lemmas.Int.{ints}
 use Rattle.std.specs.Ordering.{is_lt}
+use Rattle.ess_semantics.specs.Lists.{list_or_none}
 use Rattle.ess_semantics.specs.Values.{Value, number, itself}
 use Rattle.ess_semantics.specs.Order.{same, below}
 use Rattle.ess_semantics.specs.Collections.{holds, rises, sorted_once}
 use Rattle.ess_semantics.specs.Numbers.{natural, run_from}
 use Rattle.ess_semantics.specs.Trees.{both_ends, Ex, number_ex, more_exs, no_exs, Dom, int_dom}
-use Rattle.ess_semantics.specs.Domains.{integers, numbers_up}
+use Rattle.ess_semantics.specs.Domains.{Domain, integers, numbers_up}
 use Rattle.ess_semantics.specs.Operators.{number_in}
 use Rattle.ess_semantics.specs.Meaning.{Env, meaning, domain_of, members_in, spans_of}
 use Rattle.ess_semantics.proofs.Tests.{and-left, and-right, or-yes}
 use Rattle.ess_semantics.proofs.Orders.{order_total, same-equal, same-itself}
 use Rattle.ess_semantics.proofs.Sorting.{below-less, less-below}
+use Rattle.ess_repr_laws.proofs.AllMembersListed.{domain-listed}
 use Rattle.ess_rules_laws.specs.SlotListings.{slots_dom}
 use Rattle.ess_rules_laws.proofs.SlotNumbers.{slots-members}
 use Rattle.ess_kinds_kept_laws.proofs.PlacesBelow.{below_count}
@@ -24,6 +26,11 @@ no : {A : Type 0} → false ≡ true → A
 no h = cc
 
 -- ---- order
+
+-- The members of a domain rise.
+pub members-rise : (o : Option Domain) (vs : List Value) → members_in o ≡ Some vs → rises itself vs ≡ true
+members-rise None vs q = cc
+members-rise (Some c) vs q = ap (rises itself) (sym (ap list_or_none q)) ∙ (domain-listed c).sorted
 
 below-through : (a b c : Value) → below a b ≡ true → below b c ≡ true → below a c ≡ true
 below-through a b c p q = less-below a c (order_total.trans a b c (below-less a b p) (below-less b c q))

@@ -7,21 +7,20 @@ ghost use Rattle.ess_grammar.specs.Grammar.{sorted_record};
 ghost use Rattle.ess_grammar.specs.Words.{Text};
 ghost use Rattle.ess_grammar.specs.Kinds.{token};
 ghost use Rattle.ess_parse_laws.specs.Frames as machine;
-ghost use Rattle.ess_parse_laws.specs.Frames.{relation_domains_frame};
 ghost use Rattle.ess_parse_laws.specs.Modes.{at_state, domain_read};
 ghost use Rattle.ess_parse_laws.specs.Reversed.{reverse_doms, reverse_list};
 ghost use Rattle.ess_parse_laws.specs.Reducing.{reduce_domain};
-ghost use Rattle.ess_parse_laws.specs.AfterDomains.{domain_then, reduced_domain_then, domain_then_comma, domain_then_dot, domain_then_close_square, domain_then_close_curly, domain_then_maps_to, domain_then_times};
+ghost use Rattle.ess_parse_laws.specs.AfterDomains.{domain_then, reduced_domain_then, domain_then_comma, domain_then_dot, domain_then_close_square, domain_then_close_curly, domain_then_maps_to};
 ghost use Rattle.ess_core.specs.TreeViews.{pure_ex, pure_exs, pure_dom, pure_gens};
-ghost use Rattle.ess_parse_frames.specs.Rows.{back_dom_names, back_doms, back_field_doms, marks_of, numbers_of};
+ghost use Rattle.ess_parse_frames.specs.Rows.{back_dom_names, back_field_doms};
 ghost use Rattle.ess_parse_frames.specs.Views.{view_frame, view_frames, Steps};
 ghost use Rattle.ess_parse_domains.specs.Several.{goes_on};
 
-use crate::products::domain_then_close_round;
-use ess_core::{Attr, Dom, Ex, FieldDom, Gen, Stm};
+use crate::products::{domain_then_close_round, domain_then_times};
+use ess_core::{Dom, Ex, FieldDom, Gen, Stm};
 use ess_grammar::Kind;
 use ess_parse_frames::domain_parts::{
-    all_domains, items_behind_domain, let_attributes_go, let_domain_go, stop_behind_domain,
+    all_domains, items_behind_domain, let_domain_go, stop_behind_domain,
 };
 use ess_parse_frames::generators::all_over;
 use ess_parse_frames::records::sorted_record;
@@ -269,43 +268,5 @@ pub fn domain_then_maps_to(
             frames,
         ),
         other => stop_behind_domain(other, frames, domain),
-    }
-}
-
-/// A star stands between the domains of a relation. `NoMemory` where there is no room.
-pub fn domain_then_times(
-    frame: Frame,
-    frames: Row<Frame>,
-    domain: Boxed<Dom>,
-) -> Result<Option<State>, NoMemory>
-    ensures { IfOk result (Steps (domain_then_times (view_frame frame ∷ view_frames frames) (pure_dom domain))) }
-{
-    match frame {
-        Frame::RelationDomains(attributes, domains) => relation_then_times(
-            attributes, domains, frames, domain,
-        ),
-        other => stop_behind_domain(other, frames, domain),
-    }
-}
-
-/// Behind a domain of a relation and a star another one is wanted. `NoMemory` where there is no room.
-fn relation_then_times(
-    attributes: Row<Attr>,
-    domains: Row<Dom>,
-    frames: Row<Frame>,
-    domain: Boxed<Dom>,
-) -> Result<Option<State>, NoMemory>
-    ensures { IfOk result (Steps (domain_then_times (relation_domains_frame (marks_of attributes) (numbers_of attributes) (back_doms domains) ∷ view_frames frames) (pure_dom domain))) }
-{
-    match with_domain(domains, domain) {
-        Ok(domains) => inside(
-            Mode::DomainWanted,
-            Frame::RelationDomains(attributes, domains),
-            frames,
-        ),
-        Err(no) => {
-            let_attributes_go(attributes);
-            refuse(no, frames)
-        }
     }
 }

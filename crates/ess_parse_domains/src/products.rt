@@ -6,17 +6,20 @@ ghost use Rattle.ess_semantics.specs.Trees.{tuple_dom, relation_dom, no_doms, mo
 ghost use Rattle.ess_parse_laws.specs.Frames.{tuple_domains_frame, relation_domains_frame};
 ghost use Rattle.ess_parse_laws.specs.Modes.{at_state, domain_read};
 ghost use Rattle.ess_parse_laws.specs.Reversed.{reverse_doms};
-ghost use Rattle.ess_parse_laws.specs.AfterDomains.{domain_then_close_round};
+ghost use Rattle.ess_parse_laws.specs.AfterDomains.{domain_then_close_round, domain_then_times};
 ghost use Rattle.ess_core.specs.TreeViews.{pure_dom};
 ghost use Rattle.ess_parse_frames.specs.Rows.{back_doms, marks_of, numbers_of};
 ghost use Rattle.ess_parse_frames.specs.Views.{two_needed, view_frame, view_frames, Steps};
 ghost use Rattle.ess_parse_domains.specs.Several.{are_any};
 
 use ess_core::{Attr, Dom};
-use ess_parse_frames::domain_parts::{all_domains, relation_of, stop_behind_domain};
-use ess_parse_frames::stack::domain_read;
+use ess_parse_frames::domain_parts::{
+    all_domains, let_attributes_go, relation_of, stop_behind_domain,
+};
+use ess_parse_frames::rows::with_domain;
+use ess_parse_frames::stack::{domain_read, inside};
 use ess_parse_frames::stops::refuse;
-use ess_parse_frames::{AtLeast, Frame, State};
+use ess_parse_frames::{AtLeast, Frame, Mode, State};
 use ess_rows::{Boxed, NoMemory, Row};
 use std::alloc::Global;
 
@@ -121,5 +124,43 @@ fn end_relation(
         relation_read(alloc, attributes, domains, last, frames)
     } else {
         stop_behind_domain(Frame::RelationDomains(attributes, domains), frames, last)
+    }
+}
+
+/// A star stands between the domains of a relation. `NoMemory` where there is no room.
+pub fn domain_then_times(
+    frame: Frame,
+    frames: Row<Frame>,
+    domain: Boxed<Dom>,
+) -> Result<Option<State>, NoMemory>
+    ensures { IfOk result (Steps (domain_then_times (view_frame frame ∷ view_frames frames) (pure_dom domain))) }
+{
+    match frame {
+        Frame::RelationDomains(attributes, domains) => relation_then_times(
+            attributes, domains, frames, domain,
+        ),
+        other => stop_behind_domain(other, frames, domain),
+    }
+}
+
+/// Behind a domain of a relation and a star another one is wanted. `NoMemory` where there is no room.
+fn relation_then_times(
+    attributes: Row<Attr>,
+    domains: Row<Dom>,
+    frames: Row<Frame>,
+    domain: Boxed<Dom>,
+) -> Result<Option<State>, NoMemory>
+    ensures { IfOk result (Steps (domain_then_times (relation_domains_frame (marks_of attributes) (numbers_of attributes) (back_doms domains) ∷ view_frames frames) (pure_dom domain))) }
+{
+    match with_domain(domains, domain) {
+        Ok(domains) => inside(
+            Mode::DomainWanted,
+            Frame::RelationDomains(attributes, domains),
+            frames,
+        ),
+        Err(no) => {
+            let_attributes_go(attributes);
+            refuse(no, frames)
+        }
     }
 }

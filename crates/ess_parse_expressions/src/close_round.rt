@@ -7,7 +7,8 @@ ghost use Rattle.ess_parse_frames.specs.Patterns.{view_operand, is_pattern_opera
 ghost use Rattle.ess_parse_frames.specs.Views.{view_frame, view_frames, Steps};
 ghost use Rattle.ess_parse_frames.specs.declared.frames.Frame.TheVariants as F;
 
-use crate::listing::{close_call, end_application, end_literal, end_round};
+use crate::calls::close_call;
+use crate::listing::{end_application, end_literal, end_round};
 use ess_core::{Attr, Ex, Key, PairEx, Range};
 use ess_parse_frames::ends::{end_attributes, end_ranges};
 use ess_parse_frames::parts::{

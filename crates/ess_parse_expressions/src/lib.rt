@@ -8,6 +8,7 @@
 #![tactic(auto)]
 
 pub mod after_operand;
+mod calls;
 mod close_curly;
 mod close_round;
 mod close_square;

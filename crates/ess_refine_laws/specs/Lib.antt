@@ -3,6 +3,7 @@ pub mod LeavingConditions
 pub mod ScalarItems
 pub mod RecordNames
 pub mod AllRules
+pub mod WhatRulesCountOn
 pub mod Progress
 pub mod TypesStay
 pub mod MarksStay

@@ -2,7 +2,7 @@
 
 ghost use Rattle.ess_refine_laws.specs.Everywhere.{EverywhereServes};
 ghost use Rattle.ess_refine_laws.specs.LeavingConditions.{ConditionsLeave};
-ghost use Rattle.ess_refine_laws.specs.AllRules.{AllRulesKeep};
+ghost use Rattle.ess_refine_laws.specs.WhatRulesCountOn.{AllRulesKeep};
 ghost use Rattle.ess_refine_laws.specs.Progress.{TreesMakeProgress};
 ghost use Rattle.ess_refine_laws.specs.TypesStay.{WholesKeepTypes};
 ghost use Rattle.ess_refine_laws.specs.MarksStay.{WholesKeepMarks};

@@ -3,12 +3,13 @@ use Rattle.std.specs.Prelude.{IsTrue}
 use Rattle.std.proofs.Common.{◌≡◌, refl, sym, ap, ◌∙◌, true, ◌&&◌, List, [], ◌∷◌, pos, Some, option_map}
 use Rattle.ess_semantics.specs.declared.words.Key.{Key}
 use Rattle.ess_semantics.specs.declared.words.ReprKind.{ReprKind}
+use Rattle.ess_semantics.specs.Values.{Text}
 use Rattle.ess_semantics.specs.Lists.{and_then, each_of}
 use Rattle.ess_semantics.specs.Domains.{Attribute, Domain, Domains, booleans, integers, named, tuples, records, matrices, sets, msets, functions, relations, partitions, no_domains, more_domains, domain_list, attribute, has}
 use Rattle.ess_semantics.specs.Membership.{no_negative_attribute, each_layer_of_all}
 use Rattle.ess_semantics.specs.Sizes.{bound, size_attributes, pair_sizes, child_relation, child_set, child_parts}
 use Rattle.ess_semantics.specs.Kinds.{dom_list}
-use Rattle.ess_semantics.specs.Trees.{Mark, Exs, Dom, Doms, tuple_dom, function_dom, relation_dom, partition_dom, no_doms, more_doms}
+use Rattle.ess_semantics.specs.Trees.{Mark, Exs, Dom, Doms, name_dom, tuple_dom, function_dom, relation_dom, partition_dom, no_doms, more_doms}
 use Rattle.ess_semantics.specs.Layers.{Layer}
 use Rattle.ess_semantics.specs.Representations.{layer}
 use Rattle.ess_semantics.specs.Meaning.{Env, meanings, attributes_of, domain_of, domains_of}
@@ -43,6 +44,20 @@ several (more_doms d ds) env xs h =
     let m = mapped (more_domains c.0) (domains_of ds env) xs c.2 in
     ap (λ o. and_then o (λ y. option_map (λ ys. y ∷ ys) (each_of (dom_list ds) (λ c. domain_of c env)))) c.1
     ∙ ap (option_map (λ ys. c.0 ∷ ys)) (several ds env m.0 m.1) ∙ ap (λ x. Some (domain_list x)) m.2
+
+-- A named type has no children.
+pub atom-children : (a : Text) (env : Env) (e : Domain) (l : Layer) → domain_of (name_dom a) env ≡ Some e → layer ReprKind.Atom e ≡ Some l → each_of [] (λ c. domain_of c env) ≡ Some l.children
+atom-children a env booleans l h q = ap Some (same-children _ l q)
+atom-children a env (integers ss) l h q = ap Some (same-children _ l q)
+atom-children a env (named t n) l h q = ap Some (same-children _ l q)
+atom-children a env (tuples xs) l h q = cc
+atom-children a env (records fs xs) l h q = cc
+atom-children a env (matrices is x) l h q = cc
+atom-children a env (sets ks x) l h q = cc
+atom-children a env (msets ks x) l h q = cc
+atom-children a env (functions ks x y) l h q = cc
+atom-children a env (relations ks xs) l h q = cc
+atom-children a env (partitions ks x) l h q = cc
 
 pub nd-children : (ks : List Attribute) (x y : Domain) (l : Layer) → layer ReprKind.FunctionND (functions ks x y) ≡ Some l → y ∷ [] ≡ l.children
 nd-children ks booleans y l h = cc

@@ -1,35 +1,18 @@
 -- The children of a kind are the right ones: their attributes have the right names, and they denote the domains of the layer's children.
-use Rattle.std.proofs.Common.{◌≡◌, refl, ap, ◌∙◌, true, List, [], Some, option_map}
+use Rattle.std.proofs.Common.{◌≡◌, refl, ap, ◌∙◌, true, List, Some, option_map}
 use Rattle.ess_semantics.specs.declared.words.ReprKind.{ReprKind}
-use Rattle.ess_semantics.specs.Values.{Text}
-use Rattle.ess_semantics.specs.Lists.{each_of}
-use Rattle.ess_semantics.specs.Domains.{Domain, booleans, integers, named, tuples, records, matrices, sets, msets, functions, relations, partitions}
+use Rattle.ess_semantics.specs.Domains.{booleans, integers, tuples, records, matrices, sets, msets, functions, relations, partitions}
 use Rattle.ess_semantics.specs.Kinds.{child_forms}
 use Rattle.ess_semantics.specs.Trees.{Dom, bool_dom, int_dom, name_dom, tuple_dom, record_dom, matrix_dom, set_dom, mset_dom, function_dom, relation_dom, partition_dom}
-use Rattle.ess_semantics.specs.Layers.{Layer}
 use Rattle.ess_semantics.specs.Representations.{layer}
-use Rattle.ess_semantics.specs.Meaning.{Env, meanings, attributes_of, domain_of, domains_of}
+use Rattle.ess_semantics.specs.Meaning.{meanings, attributes_of, domain_of, domains_of}
 use Rattle.ess_semantics.specs.Children.{ChildrenAre}
 use Rattle.ess_repr_laws.specs.WellFormed.{Well}
 use Rattle.ess_repr_declare_laws.specs.ChildDomains.{child_doms}
 use Rattle.ess_repr_declare_laws.specs.Laws.{has_numbers}
 use Rattle.ess_repr_declare_laws.proofs.SizeNumbers.{mapped, chained}
 use Rattle.ess_repr_declare_laws.proofs.ChildNames.{formed}
-use Rattle.ess_repr_declare_laws.proofs.ChildDomainsDenoted.{same-children, at, only, several, nd-children, nd-partial-children, SetOf, set-of, FunctionOf, function-of, Denote, pairs-are-denoted, tuples-are-denoted, parts-are-denoted}
-
--- A named type has no children.
-atom-children : (a : Text) (env : Env) (e : Domain) (l : Layer) → domain_of (name_dom a) env ≡ Some e → layer ReprKind.Atom e ≡ Some l → each_of [] (λ c. domain_of c env) ≡ Some l.children
-atom-children a env booleans l h q = ap Some (same-children _ l q)
-atom-children a env (integers ss) l h q = ap Some (same-children _ l q)
-atom-children a env (named t n) l h q = ap Some (same-children _ l q)
-atom-children a env (tuples xs) l h q = cc
-atom-children a env (records fs xs) l h q = cc
-atom-children a env (matrices is x) l h q = cc
-atom-children a env (sets ks x) l h q = cc
-atom-children a env (msets ks x) l h q = cc
-atom-children a env (functions ks x y) l h q = cc
-atom-children a env (relations ks xs) l h q = cc
-atom-children a env (partitions ks x) l h q = cc
+use Rattle.ess_repr_declare_laws.proofs.ChildDomainsDenoted.{atom-children, at, only, several, nd-children, nd-partial-children, SetOf, set-of, FunctionOf, function-of, Denote, pairs-are-denoted, tuples-are-denoted, parts-are-denoted}
 
 denoted : (k : ReprKind) (d : Dom) (ds : List Dom) → Well d → has_numbers d ≡ true → child_forms k d ≡ Some ds → Denote k d
 denoted ReprKind.Atom bool_dom ds w n h env e l g q p = let z : booleans ≡ e = cc in ap Some (at ReprKind.Atom e booleans l _ z refl q)

@@ -1,11 +1,10 @@
 -- The tables and the values of components, found one after the other.
-use Rattle.std.proofs.Common.{◌≡◌, refl, sym, ap, ◌∙◌, subst, ℕ, suc, ◌+◌, ◌<◌, ◌≤◌, true, false, ◌&&◌, List, [], ◌∷◌, ◌++◌, map, length, take, drop, get_or, Option, Some, None, option_map}
-use Rattle.std.proofs.lemmas.List.{at_drop_more, at_drop_all, map_push, map-append}
+use Rattle.std.proofs.Common.{◌≡◌, refl, sym, ap, ◌∙◌, subst, ℕ, ◌+◌, ◌<◌, ◌≤◌, true, false, List, [], ◌∷◌, ◌++◌, map, length, take, drop, get_or, Option, Some, None, option_map}
+use Rattle.std.proofs.lemmas.List.{at_drop_all, map_push, map-append}
 use Rattle.ess_semantics.specs.Lists.{and_then}
 use Rattle.ess_semantics.specs.Values.{Value}
 use Rattle.ess_semantics.specs.Trees as pure
-use Rattle.ess_semantics.specs.Trees.{no_reprs, more_reprs}
-use Rattle.ess_semantics.specs.Choice.{reprs_of}
+use Rattle.ess_semantics.specs.Trees.{more_reprs}
 use Rattle.ess_semantics.specs.Domains.{Domain}
 use Rattle.ess_semantics.specs.Membership.{member}
 use Rattle.ess_semantics.specs.Tables.{Tables}
@@ -30,22 +29,7 @@ use Rattle.ess_repr_layers_laws.specs.Components.{tables_of_components, values_o
 use Rattle.ess_repr_layers_laws.proofs.LayerUp.{over-both}
 use Rattle.ess_repr_tables.specs.SlotViews.{pure_tables}
 use Rattle.ess_translate_layers.proofs.Found.{ahead, ahead-nothing, ahead-all, ahead-one, ahead-more, map-take, map-drop}
-
--- The representations of children.
-abbrev pub trees : List Repr → pure.Reprs
-trees rs = reprs_of (map pure_repr rs)
-
-trees-more : (rs : List Repr) (i : ℕ) (x e : Repr) → i < length rs → x ≡ get_or rs i e →
-    trees (drop i rs) ≡ more_reprs (pure_repr x) (trees (drop (i + 1) rs))
-trees-more rs i x e h is = at_drop_more trees rs i e h ∙ ap (λ q. more_reprs (pure_repr q) (trees (drop (i + 1) rs))) (sym is)
-
-parts-more : (ds : List Closed) (i : ℕ) (d b : Closed) → i < length ds → d ≡ get_or ds i b →
-    map pure_closed (drop i ds) ≡ pure_closed d ∷ map pure_closed (drop (i + 1) ds)
-parts-more ds i d b h is = at_drop_more (map pure_closed) ds i b h ∙ ap (λ q. pure_closed q ∷ map pure_closed (drop (i + 1) ds)) (sym is)
-
-vals-more : (vs : List Val) (i : ℕ) (v b : Val) → i < length vs → v ≡ get_or vs i b →
-    map pure_val (drop i vs) ≡ pure_val v ∷ map pure_val (drop (i + 1) vs)
-vals-more vs i v b h is = at_drop_more (map pure_val) vs i b h ∙ ap (λ q. pure_val q ∷ map pure_val (drop (i + 1) vs)) (sym is)
+use Rattle.ess_translate_layers.proofs.ComponentRows.{trees, trees-more, parts-more, vals-more}
 
 -- ---- tables
 

@@ -28,7 +28,8 @@ use Rattle.ess_repr_layers_laws.specs.LayerParts.{children_of}
 use Rattle.ess_repr_layers_laws.specs.LayerCalls.{TablesReady}
 use Rattle.ess_repr_layers_laws.specs.Components.{tables_of_components, members_each}
 use Rattle.ess_repr_tables.specs.SlotViews.{pure_tables}
-use Rattle.ess_translate_layers.proofs.ComponentLoops.{TablesOfFirst, tables_more, tables_stop, tables_short, tables_few, trees}
+use Rattle.ess_translate_layers.proofs.ComponentRows.{trees}
+use Rattle.ess_translate_layers.proofs.ComponentLoops.{TablesOfFirst, tables_more, tables_stop, tables_short, tables_few}
 use Rattle.ess_translate_layers.proofs.DownLoops.{TablesSoFar, each_stop}
 use Rattle.ess_translate_layers.proofs.DownSteps.{layer_made, child_made, child_no_tables}
 

@@ -33,7 +33,7 @@ use Rattle.ess_repr_layers_laws.specs.Components.{tables_of_components, members_
 use Rattle.ess_repr_layers_laws.proofs.Compounds.{compound-down}
 use Rattle.ess_repr_layers_laws.proofs.LayerSteps.{LayerDown, no-parts, no-tables, tables-made, alone-made-down}
 use Rattle.ess_repr_tables.specs.SlotViews.{pure_tables}
-use Rattle.ess_translate_layers.proofs.ComponentLoops.{trees}
+use Rattle.ess_translate_layers.proofs.ComponentRows.{trees}
 
 -- The tables of a member of a domain.
 abbrev asked : pure.Repr → Domain → Value → Option (List Table) → Type 0

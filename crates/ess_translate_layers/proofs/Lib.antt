@@ -8,6 +8,7 @@ mod Widths
 mod SlotSteps
 -- Tuples and records
 mod CompoundValues
+mod ComponentRows
 mod ComponentLoops
 -- Down
 mod DownLoops

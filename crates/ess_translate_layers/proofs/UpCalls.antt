@@ -22,7 +22,8 @@ use Rattle.ess_repr_laws.specs.Rooms.{Covered, AllCovered}
 use Rattle.ess_repr_layers_laws.specs.LayerParts.{children_of, axes_below}
 use Rattle.ess_repr_layers_laws.specs.Components.{values_of_components, compound_of, component_count}
 use Rattle.ess_repr_tables.specs.SlotViews.{pure_tables}
-use Rattle.ess_translate_layers.proofs.ComponentLoops.{ValuesOfFirst, values_more, trees}
+use Rattle.ess_translate_layers.proofs.ComponentRows.{trees}
+use Rattle.ess_translate_layers.proofs.ComponentLoops.{ValuesOfFirst, values_more}
 use Rattle.ess_translate_layers.proofs.UpLoops.{ValuesSoFar, stood, each_stop}
 use Rattle.ess_translate_layers.proofs.UpSteps.{compound_made, compound_none, child_made, child_no_values}
 

@@ -2,7 +2,7 @@ use Rattle.std.proofs.Common.{rules, ◌≡◌, ◌∙◌, ap, sym, refl, length
 use mir.Val.{to_z, of_z}
 use Rattle.std.proofs.lemmas.Int.{ints}
 use Rattle.eprime_eval_scalars.specs.Grids.{numbers_from}
-use Rattle.eprime_eval_scalars.proofs.GridPlaces.{run_next, run_all}
+use Rattle.eprime_eval_scalars.proofs.NumberPlaces.{run_next, run_all}
 use Rattle.eprime_eval_scalars.proofs.grids.is_run_from.Goals as goal
 
 pub loop-k-preserved : goal.loop-k-preserved

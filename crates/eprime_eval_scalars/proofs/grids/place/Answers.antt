@@ -4,7 +4,7 @@ use mir.Val.{to_z, of_z}
 use Rattle.std.specs.Prelude.{nat_abs}
 use Rattle.std.proofs.lemmas.Int.{ints}
 use Rattle.eprime_eval_scalars.specs.Grids.{axis_numbers, place_of}
-use Rattle.eprime_eval_scalars.proofs.GridPlaces.{place_below, place_beyond, place_within, size-is}
+use Rattle.eprime_eval_scalars.proofs.NumberPlaces.{place_below, place_beyond, place_within, size-is}
 use Rattle.eprime_eval_scalars.proofs.grids.place.Goals as goal
 
 pub returns-then-place-lt0 : goal.returns-then-place-lt0
