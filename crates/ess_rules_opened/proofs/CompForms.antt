@@ -10,12 +10,12 @@ use Rattle.ess_semantics.specs.Trees.{unary, name_pat, Ex, Exs, node_ex, comp_ex
 use Rattle.ess_rules_laws.specs.SpliceRules.{append_gens}
 use Rattle.ess_rules_laws.specs.Listings.{Alternative}
 use Rattle.ess_rules_laws.specs.ListedSources.{put_listed}
-use Rattle.ess_refine_laws.specs.AllRules.{Supply, only_one}
+use Rattle.ess_refine_laws.specs.AllRules.{Supply}
 use Rattle.ess_kind_rules_laws.specs.ViewListings.{matrix_listing, members_of_first}
 use Rattle.ess_kind_rules_laws.specs.KindRules.{function_size}
 use Rattle.ess_rules_forms.specs.Forms.{only_operand}
 use Rattle.ess_open_rules_laws.specs.OpenGenerators.{at_first_open, put_before}
-use Rattle.ess_open_rules_laws.specs.OpenSources.{picked_members, put_opened, opened_in_order, kept_in_order, kept_behind}
+use Rattle.ess_open_rules_laws.specs.OpenSources.{picked_members, put_opened, decided_one, opened_in_order, kept_in_order, kept_behind}
 use Rattle.ess_rules_folds.specs.Forms.{comp_parts, source_parts}
 use Rattle.ess_rules_opened.specs.OpenedViews.{put_at}
 
@@ -43,8 +43,8 @@ in-order-put y e t hs (Some a) p = refl
 
 pub in_order_by_parts : (s : Supply) (g : Names Ty) (e : Ex) → opened_in_order s g e
     ≡ and_then (comp_parts e) (λ c. and_then (source_parts c.1) (λ q. or_else (option_map (put_listed q.0 c.0 q.2) (matrix_listing s.one q.1))
-    (option_map (put_listed q.0 c.0 q.2) (only_one (picked_members s g q.1)))))
-in_order_by_parts s g (comp_ex e (from (name_pat y) t hs)) = in-order-put y e t hs (matrix_listing s.one t) (only_one (picked_members s g t))
+    (option_map (put_listed q.0 c.0 q.2) (decided_one (picked_members s g q.1)))))
+in_order_by_parts s g (comp_ex e (from (name_pat y) t hs)) = in-order-put y e t hs (matrix_listing s.one t) (decided_one (picked_members s g t))
 in_order_by_parts s g e = refl
 
 -- The size of a function, by the operand.

@@ -4,3 +4,5 @@ mod CompForms
 -- Sets united from the back, and operands that pick
 mod SetRows
 mod PickedRows
+-- Generators that no table decides
+mod DecidedForms

@@ -4,3 +4,5 @@ pub mod Supplies
 pub mod OpenedViews
 -- Rules by the parts of a root
 pub mod WordParts
+-- Generators that no table decides
+pub mod DecidedItems

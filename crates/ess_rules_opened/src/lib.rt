@@ -2,6 +2,8 @@
 //! that it computes; it answers nothing where the rule doesn't fire.
 #![tactic(auto)]
 
+mod decided;
+mod domains;
 mod offering;
 mod ordering;
 mod picking;
@@ -9,6 +11,7 @@ mod several;
 mod supplies;
 mod words;
 
+pub use domains::has_no_source;
 pub use ordering::kept_behind;
 pub use picking::{function_size, over_picked, picked_scalar, related};
 pub use several::{counted_apart, least_of_several, set_of_several, set_of_term};

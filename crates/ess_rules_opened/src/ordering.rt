@@ -8,9 +8,9 @@ ghost use Rattle.ess_open_rules_laws.specs.OpenGenerators.{put_before as put_fir
 ghost use Rattle.ess_open_rules_laws.specs.OpenSources.{opened_in_order as in_order, kept_in_order as in_order_kept, kept_behind as order_kept};
 ghost use Rattle.ess_rules_opened.specs.Supplies.{taken_supply};
 
+use crate::decided::decided_one;
 use crate::offering::picked_members;
 use crate::supplies::Taken;
-use crate::words::only_one;
 use ess_core_nodes::{Gen, Node, copy_gens};
 use ess_node_building::comprehension;
 use ess_node_types::{NameTypes, names_behind};
@@ -91,7 +91,7 @@ fn kept_in_order(
     opened_in_order(alloc, types, taken, node)
 }
 
-/// A comprehension over a view of a matrix, or over what is picked.
+/// A comprehension over a view of a matrix, or over what is picked where no table says which items there are.
 #[tactic(auto, using(crate::proofs::CompForms::in_order_by_parts))]
 fn opened_in_order(
     alloc: Global,
@@ -115,7 +115,7 @@ fn opened_in_order(
     let Some(found) = found else {
         return Ok(None);
     };
-    match only_one(found.as_slice()) {
+    match decided_one(found.as_slice()) {
         Some(one) => Ok(Some(put_listed(alloc, name, body, rest, one)?)),
         None => Ok(None),
     }

@@ -1,0 +1,4 @@
+pub mod CountingNames
+pub mod PartsGiven
+pub mod SameMarks
+pub mod KindSteps

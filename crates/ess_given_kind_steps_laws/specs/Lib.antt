@@ -1,0 +1,2 @@
+-- Steps by rules of kinds
+pub mod GivenKindSteps

@@ -1,0 +1,2 @@
+-- Rules of kinds keep what is given
+pub mod GivenKinds

@@ -1,0 +1,2 @@
+-- What stays by rules of openings
+pub mod OpenedStays

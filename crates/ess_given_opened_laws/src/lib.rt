@@ -1,0 +1,4 @@
+//! What is given in domains, and comprehensions in order where order counts, stay by the rules of openings.
+#![tactic(auto)]
+
+pub mod laws;

@@ -1,0 +1,2 @@
+-- What stays where conditions are gathered and where items have an order
+pub mod OrderedStays

@@ -1,0 +1,4 @@
+pub mod SizesHave
+pub mod SetListings
+pub mod ViewsBehind
+mod ExamplesBehind

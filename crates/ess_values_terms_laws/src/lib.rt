@@ -1,0 +1,4 @@
+//! Rules of comparisons, membership, sizes and lists that keep values.
+#![tactic(auto)]
+
+pub mod laws;
