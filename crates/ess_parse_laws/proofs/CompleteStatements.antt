@@ -8,7 +8,7 @@ use Rattle.ess_parse_laws.specs.Modes.{Answer, nothing_read, specification_answe
 use Rattle.ess_parse_laws.proofs.StatementRuns.{EndsPart, comma_follows, declarations-find, declarations-given, enum-run, find-ends, given-ends, letting-begins, letting-domain-ends, letting-ends, maximising-ends, minimising-ends, names-run, part-no-bracket, part-stops, part_done, reverse-append, reverse-twice, such-that-ends, text_ends, unnamed-ends, where-ends, word_follows}
 use Rattle.ess_parse_laws.specs.StatementSteps.{another_part}
 use Rattle.ess_parse_laws.specs.Frames.{declaration_frame, letting_domain_frame, letting_frame, objective_frame, such_that_frame, unnamed_frame, where_frame}
-use Rattle.ess_parse_laws.proofs.Complete.{domain-run, expression-run}
+use Rattle.ess_parse_laws.proofs.DerivedRuns.{domain-run, expression-run}
 use Rattle.ess_parse_laws.proofs.ExpressionEnds.{fits-else}
 use Rattle.ess_parse_laws.proofs.Booleans.{or-true, zero-le}
 use Rattle.ess_parse_laws.specs.Machine.{read_specification, run, then_run}

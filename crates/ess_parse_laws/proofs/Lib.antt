@@ -6,6 +6,7 @@ pub mod ItemRuns
 pub mod DomainRuns
 pub mod QuantifierRuns
 pub mod AttributeRuns
+pub mod DerivedRuns
 pub mod Complete
 pub mod StatementRuns
 pub mod CompleteStatements

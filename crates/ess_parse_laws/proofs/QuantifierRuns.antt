@@ -1,17 +1,19 @@
 -- Runs over the words of quantifiers, and the first pattern behind `sum`.
-use Rattle.std.proofs.Common.{◌&&◌, Bool, List, None, Some, [], ap, false, not, refl, true, ◌||◌, ℕ, ◌∙◌, ◌∷◌, ◌≡◌}
+use Rattle.std.proofs.Common.{◌&&◌, Bool, List, None, Option, Some, [], ap, false, not, refl, true, ◌||◌, ℕ, ◌∙◌, ◌∷◌, ◌≡◌}
 use Rattle.ess_semantics.specs.declared.words.Fun.{Fun}
 use Rattle.ess_semantics.specs.declared.words.Op2.{Op2}
 use Rattle.ess_semantics.specs.Trees.{Ex, Exs, Gens, Op, more_exs, name_ex, no_exs, no_gens, plain_node, tuple_literal}
 use Rattle.ess_semantics.specs.Values.{Text}
+use Rattle.ess_grammar.specs.Grammar.{quantified}
 use Rattle.ess_grammar.specs.Patterns.{Shape, are_several, atom_shape, begins_as_generator, binary_shape, in_quantifier, is_member, is_one_bound, is_pattern, may_be_condition, member_shape, other_shape, pattern_shape, starts_round}
 use Rattle.ess_grammar.specs.Words.{Token, close_round, open_round, operator, symbol}
-use Rattle.ess_parse_laws.specs.Frames.{Frame, binary_frame, generator_source_frame, items_frame, list_frame, node_list, quantifier_head, sum_head}
+use Rattle.ess_parse_laws.specs.Frames.{Frame, Head, binary_frame, body_frame, comprehension_head, generator_domain_frame, generator_source_frame, items_frame, list_frame, node_list, quantifier_head, sum_head}
 use Rattle.ess_parse_laws.proofs.ListRuns.{are_some, several-behind}
-use Rattle.ess_parse_laws.specs.Items.{begin_quantifier, may_quantify}
-use Rattle.ess_parse_laws.specs.Modes.{function_word_read, operand_read, operand_wanted}
+use Rattle.ess_parse_laws.specs.Items.{begin_quantifier, may_quantify, settled_head}
+use Rattle.ess_parse_laws.specs.Modes.{Answer, domain_wanted, function_word_read, operand_read, operand_wanted}
 use Rattle.ess_parse_laws.specs.Operands.{is_open_round, then_operand_wanted}
-use Rattle.ess_parse_laws.proofs.ExpressionEnds.{reading}
+use Rattle.ess_parse_laws.proofs.Booleans.{or-true}
+use Rattle.ess_parse_laws.proofs.ExpressionEnds.{Fits, Stops, body-stops, fits-else, reading, reduce-body}
 use Rattle.ess_parse_laws.specs.Reversed.{reverse_exs}
 use Rattle.ess_parse_laws.specs.Machine.{run, then_run}
 
@@ -30,6 +32,16 @@ sum-opens [] fs q h = refl
 sum-opens (t ∷ ts) fs q h =
     ap (λ b. then_run (elim b [ true ↦ Some (record { mode = operand_wanted; frames = list_frame (node_list (Op.word Fun.Sum)) close_round true no_exs ∷ fs }) | false ↦ then_operand_wanted t (begin_quantifier Fun.Sum fs) ]) (run ts)) (no-bracket-starts t ts q)
     ∙ ap (λ b. then_run (then_operand_wanted t (elim b [ true ↦ Some (record { mode = operand_wanted; frames = items_frame (quantifier_head Fun.Sum) [] no_gens no_exs ∷ fs }) | false ↦ None ])) (run ts)) h
+
+-- Behind the items of a quantifier its body is read.
+pub body-read : (f : Fun) (gs : Gens) (us vs : List Token) (fs : List Frame) (w : Bool) (s : Shape) (l : ℕ) (e : Ex) → Stops true 10 vs →
+    may_quantify fs ≡ true →
+    (Stops w l vs → Fits (body_frame f gs ∷ fs) s → (not w || may_quantify fs) ≡ true →
+    run us operand_wanted (body_frame f gs ∷ fs) ≡ reading vs (body_frame f gs ∷ fs) w s l e) →
+    run us operand_wanted (body_frame f gs ∷ fs) ≡ reading vs fs true other_shape 10 (quantified f gs e)
+body-read f gs us vs fs w s l e k m h =
+    h (body-stops vs w l k) (fits-else (body_frame f gs ∷ fs) (λ x. refl) s) (ap (λ b. not w || b) m ∙ or-true (not w))
+    ∙ reduce-body f gs vs fs w s l e k
 
 -- The bracket behind `sum` is closed and holds two patterns or more.
 pub first-pattern-closes : (vs : List Token) (fs : List Frame) (i : Bool) (acc : Exs) (w : Bool) (s : Shape) (l : ℕ) (e : Ex) →
@@ -84,3 +96,39 @@ pub in-first-source : (bs : List Text) (acc : Gens) (pend : Exs) (fs : List Fram
     run (operator Op2.Member ∷ us) (operand_read true e) (items_frame sum_head bs acc pend ∷ fs) ≡ run us operand_wanted (generator_source_frame (quantifier_head Fun.Sum) bs acc (reverse_exs pend (more_exs e no_exs)) ∷ fs)
 in-first-source bs acc pend fs e us h =
     ap (λ b. then_run (elim (not b) [ true ↦ Some (record { mode = operand_wanted; frames = generator_source_frame (quantifier_head Fun.Sum) bs acc (reverse_exs pend (more_exs e no_exs)) ∷ fs }) | false ↦ Some (record { mode = operand_wanted; frames = binary_frame Op2.Member e ∷ items_frame sum_head bs acc pend ∷ fs }) ]) (run us)) h
+
+-- The run in which a pattern is read: under the frame of items, or in a bracket directly behind `sum`.
+pub data Entry : List Token → Head → List Text → Gens → Exs → List Frame → Option Answer → Type 0 where
+  among_items : {ts : List Token} {hd : Head} {bs : List Text} {acc : Gens} {pend : Exs} {fs : List Frame} →
+      Entry ts hd bs acc pend fs (run ts operand_wanted (items_frame hd bs acc pend ∷ fs))
+  behind_sum : {ts : List Token} {fs : List Frame} → starts_round ts ≡ true → may_quantify fs ≡ true →
+      Entry ts sum_head [] no_gens no_exs fs (run ts (function_word_read Fun.Sum) fs)
+
+-- Behind `:` the head of the items is settled.
+pub settled-domain : (h hd : Head) → settled_head h ≡ hd → (bs : List Text) (acc : Gens) (fs : List Frame) (us : List Token) {xs ps : Exs} →
+    xs ≡ ps →
+    run us domain_wanted (generator_domain_frame (settled_head h) bs acc xs ∷ fs)
+    ≡ run us domain_wanted (generator_domain_frame hd bs acc ps ∷ fs)
+settled-domain h hd t bs acc fs us {xs = xs} p =
+    ap (λ k. run us domain_wanted (generator_domain_frame k bs acc xs ∷ fs)) t
+    ∙ ap (λ ps. run us domain_wanted (generator_domain_frame hd bs acc ps ∷ fs)) p
+
+-- So it is behind `<-`.
+pub settled-source : (h hd : Head) → settled_head h ≡ hd → (bs : List Text) (acc : Gens) (fs : List Frame) (us : List Token) {xs ps : Exs} →
+    xs ≡ ps →
+    run us operand_wanted (generator_source_frame (settled_head h) bs acc xs ∷ fs)
+    ≡ run us operand_wanted (generator_source_frame hd bs acc ps ∷ fs)
+settled-source h hd t bs acc fs us {xs = xs} p =
+    ap (λ k. run us operand_wanted (generator_source_frame k bs acc xs ∷ fs)) t
+    ∙ ap (λ ps. run us operand_wanted (generator_source_frame hd bs acc ps ∷ fs)) p
+
+-- `in` is a generator's sign behind patterns of a quantifier, the first ones of `sum` or others.
+pub in-settled : (f : Fun) (h : Head) → settled_head h ≡ quantifier_head f → (bs : List Text) (acc : Gens) (pend : Exs) (fs : List Frame)
+    (e : Ex) (us : List Token) (ps : Exs) → reverse_exs pend (more_exs e no_exs) ≡ ps → is_one_bound bs ps ≡ false →
+    run (operator Op2.Member ∷ us) (operand_read true e) (items_frame h bs acc pend ∷ fs)
+    ≡ run us operand_wanted (generator_source_frame (quantifier_head f) bs acc ps ∷ fs)
+in-settled f (quantifier_head g) t bs acc pend fs e us ps p i =
+    in-source g bs acc pend fs e us (ap (is_one_bound bs) p ∙ i) ∙ settled-source (quantifier_head g) (quantifier_head f) t bs acc fs us p
+in-settled f sum_head t bs acc pend fs e us ps p i =
+    in-first-source bs acc pend fs e us (ap (is_one_bound bs) p ∙ i) ∙ settled-source sum_head (quantifier_head f) t bs acc fs us p
+in-settled f (comprehension_head x) t bs acc pend fs e us ps p i = cc
