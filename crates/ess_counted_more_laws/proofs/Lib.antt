@@ -1,0 +1,2 @@
+pub mod TypedValues
+pub mod MoreCounted

@@ -1,0 +1,4 @@
+//! What more rules count on, from values.
+#![tactic(auto)]
+
+pub mod laws;

@@ -1,0 +1,5 @@
+pub mod SizesMet
+pub mod ToldAtoms
+pub mod JudgedSets
+pub mod JudgedItems
+pub mod SetsAsked

@@ -1,0 +1,4 @@
+pub mod NamedParts
+pub mod SplitValues
+pub mod BindingsKeepValues
+mod ExamplesConditions

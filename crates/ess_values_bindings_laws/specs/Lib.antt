@@ -1,0 +1,2 @@
+-- Rules over bindings that keep values
+pub mod BindingsKeepValues

@@ -1,0 +1,4 @@
+//! Rules over bindings that keep values.
+#![tactic(auto)]
+
+pub mod laws;

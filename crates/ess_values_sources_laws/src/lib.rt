@@ -1,0 +1,4 @@
+//! Rules over sources that keep values.
+#![tactic(auto)]
+
+pub mod laws;
