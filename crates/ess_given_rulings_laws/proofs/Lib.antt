@@ -1,8 +1,8 @@
 -- Rules of all sorts
-mod GivenRulings
+pub mod GivenRulings
 -- Reserved names by their roles
-mod Roles
-mod NamesServe
+pub mod Roles
+pub mod NamesServe
 -- Steps, and chains of them
-mod RulingSteps
-mod RulingChains
+pub mod RulingSteps
+pub mod RulingChains

@@ -1,16 +1,15 @@
 -- What views of sets of judged domains offer are views of judged domains.
-use Rattle.std.proofs.Common.{◌≡◌, refl, sym, ap, ◌∙◌, subst, ℕ, Bool, true, false, ◌&&◌, not, if◌then◌else◌, List, [], ◌∷◌, ℤ, Option, Some, None}
+use Rattle.std.proofs.Common.{◌≡◌, refl, sym, ap, ◌∙◌, Bool, true, false, ◌&&◌, if◌then◌else◌, List, [], ◌∷◌, Some, None}
 use Rattle.ess_semantics.specs.declared.words.Key.{Key}
 use Rattle.ess_semantics.specs.declared.words.ReprKind.{ReprKind}
-use Rattle.ess_semantics.specs.Values.{Text, Value, number}
-use Rattle.ess_semantics.specs.Order.{same_text}
+use Rattle.ess_semantics.specs.Values.{Text, Value}
 use Rattle.ess_semantics.specs.Kinds.{has_key, has_dummy, fits, all_fit}
 use Rattle.ess_semantics.specs.DomainJudgements.{is_finite, are_finite, needs_known_slots, all_need_known_slots}
-use Rattle.ess_semantics.specs.Domains.{Domain, sets}
+use Rattle.ess_semantics.specs.Domains.{sets}
 use Rattle.ess_semantics.specs.Membership.{no_negative_attribute}
-use Rattle.ess_semantics.specs.Trees.{both_ends, Mark, Repr, Reprs, repr, no_reprs, more_reprs, Ex, Exs, seen_ex, no_exs, more_exs, Dom, Doms, bool_dom, int_dom, name_dom, tuple_dom, record_dom, matrix_dom, set_dom, mset_dom, function_dom, relation_dom, partition_dom, no_doms, more_doms}
+use Rattle.ess_semantics.specs.Trees.{Mark, Repr, Reprs, repr, no_reprs, more_reprs, Exs, seen_ex, no_exs, more_exs, Dom, Doms, bool_dom, int_dom, name_dom, tuple_dom, record_dom, matrix_dom, set_dom, mset_dom, function_dom, relation_dom, partition_dom, no_doms, more_doms}
 use Rattle.ess_semantics.specs.Substitution.{NamesAreExs, NamesAreDom, NamesAreDoms}
-use Rattle.ess_semantics.specs.Meaning.{Env, as_int, meaning, domain_of}
+use Rattle.ess_semantics.specs.Meaning.{Env, as_int, domain_of}
 use Rattle.ess_semantics.proofs.Tests.{and-left, and-right}
 use Rattle.ess_repr_laws.specs.StructureMeaning.{AllNumbers}
 use Rattle.ess_repr_declare_laws.proofs.SizeNumbers.{not_below}
@@ -21,7 +20,6 @@ use Rattle.ess_rules_laws.specs.Listings.{Alternative}
 use Rattle.ess_rules_laws.proofs.Simulation.{any, but}
 use Rattle.ess_rules_laws.proofs.Agreement.{agree-but, domain-agree}
 use Rattle.ess_rules_laws.proofs.RuleAnswers.{meaning-behind}
-use Rattle.ess_refine_laws.specs.AllRules.{OfSome}
 use Rattle.ess_kind_rules_laws.specs.ViewListings.{listing_of}
 use Rattle.ess_kind_sizes_laws.proofs.SetListings.{OfEach, by-kind}
 use Rattle.ess_kind_sizes_laws.proofs.ViewsBehind.{some-of}

@@ -1,18 +1,18 @@
 -- What a view of a set of a judged domain has: its slots are a number, its kind is one of sets, and atoms can be listed.
-use Rattle.std.proofs.Common.{◌≡◌, refl, sym, ap, ◌∙◌, subst, ℕ, ◌<◌, Bool, true, false, ◌&&◌, if◌then◌else◌, List, [], ◌∷◌, ℤ, pos, Option, Some, None, option_map}
+use Rattle.std.proofs.Common.{◌≡◌, refl, sym, ap, ◌∙◌, subst, ℕ, ◌<◌, Bool, true, false, ◌&&◌, if◌then◌else◌, List, [], pos, Option, Some, None}
 use Rattle.std.specs.Prelude.{IsTrue, is_some}
 use Rattle.std.specs.List.{list_all}
 use Rattle.ess_semantics.specs.declared.words.ReprKind.{ReprKind}
-use Rattle.ess_semantics.specs.Values.{Text, Value, number}
+use Rattle.ess_semantics.specs.Values.{Text, number}
 use Rattle.ess_semantics.specs.Order.{same_text}
-use Rattle.ess_semantics.specs.Kinds.{is_atom, has_dummy, fits, all_fit}
+use Rattle.ess_semantics.specs.Kinds.{is_atom, all_fit}
 use Rattle.ess_semantics.specs.Atoms.{Listed}
 use Rattle.ess_semantics.specs.Domains.{Attribute, Domain, sets, members, member_list}
 use Rattle.ess_semantics.specs.SetLayers.{dummy_of}
 use Rattle.ess_semantics.specs.Membership.{member, no_negative_attribute}
 use Rattle.ess_semantics.specs.Sizes.{bound, greatest_size, slots_of_set}
-use Rattle.ess_semantics.specs.Trees.{Mark, Repr, Reprs, repr, no_reprs, more_reprs, Ex, Exs, seen_ex, Dom, set_dom}
-use Rattle.ess_semantics.specs.Meaning.{Env, meaning, meanings, attributes_of, domain_of, members_in}
+use Rattle.ess_semantics.specs.Trees.{Mark, Repr, repr, no_reprs, Exs, seen_ex, Dom, set_dom}
+use Rattle.ess_semantics.specs.Meaning.{Env, meaning, domain_of, members_in}
 use Rattle.ess_semantics.specs.Meets.{MeetsDom}
 use Rattle.ess_semantics.proofs.MemberLists.{atom-listed}
 use Rattle.ess_semantics.proofs.Tests.{and-left, and-right}
@@ -25,7 +25,7 @@ use Rattle.ess_repr_declare_laws.proofs.ChildDomainsDenoted.{SetOf, set-of}
 use Rattle.ess_repr_structure_laws.specs.Laws.{JudgedView}
 use Rattle.ess_repr_structure_laws.proofs.WholeNumbers.{set-slots-whole}
 use Rattle.ess_repr_structure_laws.proofs.JudgedViews.{judged-ready}
-use Rattle.ess_rules_laws.specs.SlotListings.{Counts, SlotsAre}
+use Rattle.ess_rules_laws.specs.SlotListings.{SlotsAre}
 use Rattle.ess_rules_laws.specs.SetListings.{InnerThere}
 use Rattle.ess_rules_laws.specs.DummyListings.{DummyIs}
 use Rattle.ess_kind_steps_laws.specs.JudgedItems.{JudgedSeen}

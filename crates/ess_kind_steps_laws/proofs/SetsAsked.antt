@@ -1,5 +1,5 @@
 -- Rules of views of sets have what they count on, and keep what they rewrite.
-use Rattle.std.proofs.Common.{◌≡◌, refl, sym, ap, ◌∙◌, subst, ℕ, Bool, true, false, ◌&&◌, ◌||◌, not, if◌then◌else◌, List, [], ◌∷◌, Option, Some, None, option_map}
+use Rattle.std.proofs.Common.{◌≡◌, refl, sym, ap, ◌∙◌, subst, Bool, true, false, ◌||◌, not, List, [], ◌∷◌, Option, Some, None, option_map}
 use Rattle.std.specs.Prelude.{IsTrue, is_some}
 use Rattle.std.specs.List.{list_all}
 use Rattle.ess_semantics.specs.declared.words.Op1.{Op1}
@@ -11,22 +11,19 @@ use Rattle.ess_semantics.specs.Values.{Text, a_set, Value}
 use Rattle.ess_semantics.specs.Collections.{holds}
 use Rattle.ess_semantics.specs.Order.{same, same_text}
 use Rattle.ess_semantics.specs.Names.{Names}
-use Rattle.ess_semantics.specs.Trees.{binary, word, name_pat, Mark, Repr, Reprs, repr, no_reprs, more_reprs, Ex, Exs, node_ex, comp_ex, seen_ex, ex1, ex2, fun1, no_exs, more_exs, Gens, from, Dom, name_dom, set_dom}
+use Rattle.ess_semantics.specs.Trees.{binary, word, name_pat, Mark, Repr, Reprs, repr, no_reprs, more_reprs, Ex, Exs, comp_ex, seen_ex, ex1, ex2, fun1, no_exs, more_exs, Gens, from, Dom, name_dom, set_dom}
 use Rattle.ess_semantics.specs.Types.{Ty, any_ty, bool_ty, compound1, join, type_of_dom}
 use Rattle.ess_semantics.specs.OperatorTypes.{type_of_op}
 use Rattle.ess_semantics.specs.Typing.{type_of}
 use Rattle.ess_semantics.specs.Typed.{Typed}
-use Rattle.ess_semantics.specs.TypeMembers.{is_of, is_of_type}
-use Rattle.ess_semantics.specs.Domains.{Domain, members, member_list}
+use Rattle.ess_semantics.specs.TypeMembers.{is_of}
+use Rattle.ess_semantics.specs.Domains.{member_list}
 use Rattle.ess_semantics.specs.Membership.{member}
 use Rattle.ess_semantics.specs.Tables.{code}
-use Rattle.ess_semantics.specs.Substitution.{NamesAreDom}
-use Rattle.ess_semantics.specs.Meaning.{Env, meaning, domain_of, members_in}
+use Rattle.ess_semantics.specs.Meaning.{Env, meaning, members_in}
 use Rattle.ess_semantics.specs.Meets.{Meets, MeetsDom}
 use Rattle.ess_semantics.proofs.Orders.{same-equal}
 use Rattle.ess_semantics.proofs.Tests.{and-left, and-right}
-use Rattle.ess_repr_declare_laws.specs.SizeTerms.{slots_ex, dummy_ex}
-use Rattle.ess_repr_structure_laws.specs.Laws.{JudgedView}
 use Rattle.ess_rules_laws.specs.Rules.{Unused, Sound, OperandsThere}
 use Rattle.ess_rules_laws.specs.Listings.{Alternative}
 use Rattle.ess_rules_laws.specs.ListedSources.{laid_out}
@@ -39,17 +36,17 @@ use Rattle.ess_refine_laws.specs.AllRules.{Supply, OfSome}
 use Rattle.ess_guard_natural_laws.specs.TotalButNatural.{opens_places}
 use Rattle.ess_values_along_laws.specs.Valued.{Valued}
 use Rattle.ess_values_along_laws.proofs.ValuesAlong.{values-along}
-use Rattle.ess_kind_rules_laws.specs.ViewListings.{view_listing, listing_of, slots_of_operand}
+use Rattle.ess_kind_rules_laws.specs.ViewListings.{listing_of, slots_of_operand}
 use Rattle.ess_kind_rules_laws.specs.KindRules.{KindRule, cell_of_an_atom, over_a_view, of_one_view, member_at_a_cell, size_at_the_marker, size_of_slots, kind_rewrite}
 use Rattle.ess_kinds_kept_laws.specs.ViewAsks.{ViewAsks}
 use Rattle.ess_kinds_kept_laws.specs.KindAsks.{ViewApart, SourceAsks, KindAsks}
 use Rattle.ess_kinds_kept_laws.proofs.KindRulesKeep.{kind-rules-keep}
 use Rattle.ess_kind_sizes_laws.specs.SetRules.{is_of_sets}
-use Rattle.ess_kind_sizes_laws.specs.ViewsBehind.{is_view_of_set, taken, put}
+use Rattle.ess_kind_sizes_laws.specs.ViewsBehind.{taken, put}
 use Rattle.ess_kind_sizes_laws.proofs.SetListings.{OfEach, by-kind}
 use Rattle.ess_kind_sizes_laws.proofs.ViewsBehind.{dummy-named, listings-of-sets-are-apart}
-use Rattle.ess_kind_steps_laws.specs.JudgedItems.{JudgedSeen, IsJudged}
-use Rattle.ess_kind_steps_laws.specs.SetsAtHand.{FoldAtHand, SetsAtHand, AtHand, SetRulesHaveWhatTheyAsk}
+use Rattle.ess_kind_steps_laws.specs.JudgedItems.{JudgedSeen}
+use Rattle.ess_kind_steps_laws.specs.SetsAtHand.{FoldAtHand, AtHand, SetRulesHaveWhatTheyAsk}
 use Rattle.ess_kind_steps_laws.proofs.ToldAtoms.{Agreed, atom-told}
 use Rattle.ess_kind_steps_laws.proofs.JudgedSets.{slots-are, AtomsThere, atoms-there, inner-there, dummy-is}
 
@@ -62,7 +59,8 @@ module _ (x z : Text) (zs : List Text) (ms : List Mark) (es : Exs) (d : Dom) (js
   -- The listing of a set of a judged domain has what it asks.
   abbrev Asked : ReprKind → Reprs → List Text → Alternative → Type 0
   Asked k rs ns a =
-      JudgedSeen (repr k rs) (set_dom ms es d) env → MeetsDom (set_dom ms es d) env → Unused x (seen_ex (repr k rs) (set_dom ms es d) ns js) →
+      JudgedSeen (repr k rs) (set_dom ms es d) env → MeetsDom (set_dom ms es d) env →
+      Unused x (seen_ex (repr k rs) (set_dom ms es d) ns js) →
       ViewAsks x z zs (seen_ex (repr k rs) (set_dom ms es d) ns js) env
 
   each-asked : OfEach x ms es d js Asked
@@ -130,7 +128,8 @@ there None h = cc
 there (Some a) h = (a, refl)
 
 -- The type of the term agrees with that of the members.
-agreed : (o : Option Ty) (d t : Ty) → and_then (all_some (o ∷ Some (compound1 a_set d) ∷ [])) (type_of_op (binary Op2.Member)) ≡ Some t →
+pub agreed : (o : Option Ty) (d t : Ty) →
+    and_then (all_some (o ∷ Some (compound1 a_set d) ∷ [])) (type_of_op (binary Op2.Member)) ≡ Some t →
     (u : Ty) × (o ≡ Some u) × Agreed u d
 agreed None d t q = (any_ty, cc, cc)
 agreed (Some u) d t q = (u, refl, go (join u d) q)
@@ -143,27 +142,31 @@ positive : (b : Bool) → IsTrue b → b ≡ true
 positive true h = refl
 positive false h = h
 
+-- A term with a value whose type agrees with that of the members of an atom is told by its number.
+pub told-by : (g : Names Ty) (a : Ex) (d : Dom) (env : Env) → AtomsThere d env → Sound g a → Typed g env → IsTrue env.positions →
+    IsTrue (is_some (meaning a env)) → (u : Ty) → type_of a g ≡ Some u → Agreed u (type_of_dom d) → IsTold (λ v. code v ∷ []) a d env
+told-by g a d env c o h p i u q j =
+    let v = there (meaning a env) i in
+    record {
+      value = v.0;
+      members = member_list c.inner;
+      is_value = v.1;
+      are_members = ap members_in c.part ∙ c.listed;
+      is_told = λ w k r. atom-told env.types d env c.inner c.is_atom_dom (positive env.positions p) c.part u j w v.0
+          (held-member (member c.inner) (member_list c.inner) w c.held k)
+          (subst (λ b. IsTrue (is_of b env.types u v.0)) (positive env.positions p) (o u q env h v.0 v.1)) (first-of r);
+    }
+  where
+    first-of : {A : Type 0} {x y : A} → x ∷ [] ≡ y ∷ [] → x ≡ y
+    first-of q = cc
+
 member-told : (g : Names Ty) (a : Ex) (ms : List Mark) (es : Exs) (d : Dom) (n : Text) (js : Exs) (env : Env) →
     JudgedSeen (repr ReprKind.Occurrence no_reprs) (set_dom ms es d) env → Sound g a → Typed g env → IsTrue env.positions →
     IsTrue (is_some (meaning a env)) → (t : Ty) →
     type_of (ex2 true Op2.Member a (seen_ex (repr ReprKind.Occurrence no_reprs) (set_dom ms es d) (n ∷ []) js)) g ≡ Some t →
     IsTold (λ v. code v ∷ []) a d env
 member-told g a ms es d n js env j o h p i t q =
-    let c : AtomsThere d env = atoms-there ms es d env j in
-    let v = there (meaning a env) i in
-    let u = agreed (type_of a g) (type_of_dom d) t q in
-    record {
-      value = v.0;
-      members = member_list c.inner;
-      is_value = v.1;
-      are_members = ap members_in c.part ∙ c.listed;
-      is_told = λ w k r. atom-told env.types d env c.inner c.is_atom_dom (positive env.positions p) c.part u.0 u.2 w v.0
-          (held-member (member c.inner) (member_list c.inner) w c.held k)
-          (subst (λ b. IsTrue (is_of b env.types u.0 v.0)) (positive env.positions p) (o u.0 u.1 env h v.0 v.1)) (first-of r);
-    }
-  where
-    first-of : {A : Type 0} {x y : A} → x ∷ [] ≡ y ∷ [] → x ≡ y
-    first-of q = cc
+    let u = agreed (type_of a g) (type_of_dom d) t q in told-by g a d env (atoms-there ms es d env j) o h p i u.0 u.1 u.2
 
 -- ---- the rules
 
@@ -210,7 +213,8 @@ word-opens false false f es = refl
 source-there : (w m : Bool) (f : Fun) (y : Text) (t e : Ex) (hs : Gens) (env : Env) →
     Valued w (fun1 m f (comp_ex e (from (name_pat y) t hs))) env → IsTrue (is_some (meaning t env))
 source-there w m f y t e hs env h =
-    values-along.source (opens_places w m (word f) (more_exs (comp_ex e (from (name_pat y) t hs)) no_exs)) e (from (name_pat y) t hs) env h.1.0
+    values-along.source (opens_places w m (word f) (more_exs (comp_ex e (from (name_pat y) t hs)) no_exs)) e (from (name_pat y) t hs) env
+    h.1.0
 
 operands-there : (w m : Bool) (f : Fun) (l : Ex) (env : Env) → Valued w (fun1 m f l) env → OperandsThere (fun1 m f l) env
 operands-there w m f l env h =

@@ -1,12 +1,12 @@
 -- Tables meet the structures of sizes of a domain where they meet those of the domain.
-use Rattle.std.proofs.Common.{Bool, true, false, List, [], ◌∷◌, Option, Some, None}
+use Rattle.std.proofs.Common.{false, List, [], ◌∷◌, Option, Some, None}
 use Rattle.ess_semantics.specs.Values.{Value}
 use Rattle.ess_semantics.specs.Trees.{Mark, Ex, Exs, no_exs, more_exs, Dom, Doms, bool_dom, int_dom, name_dom, tuple_dom, record_dom, matrix_dom, set_dom, mset_dom, function_dom, relation_dom, partition_dom, no_doms, more_doms}
 use Rattle.ess_semantics.specs.Contexts.{Each, EachOf}
 use Rattle.ess_semantics.specs.Meaning.{Env, domain_of, members_in}
 use Rattle.ess_semantics.specs.Meets.{Meets, MeetsAll, MeetsDom, MeetsDoms}
-use Rattle.ess_repr_declare_laws.specs.SizeTerms.{slots_ex, dummy_ex}
-use Rattle.ess_kind_sizes_laws.proofs.SizesHave.{SizeParts, AllHave, NumbersHave, AllNumbersHave, set-slots-have, dummy-has}
+use Rattle.ess_repr_declare_laws.specs.SizeTerms.{bound_ex, slots_ex, dummy_ex}
+use Rattle.ess_kind_sizes_laws.proofs.SizesHave.{SizeParts, AllHave, NumbersHave, AllNumbersHave, bound-has, set-slots-have, dummy-has}
 
 each-any : (vs : List Value) (P : Value → Type 0) → ((v : Value) → P v) → Each vs P
 each-any [] P h = tt
@@ -62,6 +62,10 @@ module _ (env : Env) where
   -- Those of the slots of a set.
   pub slots-met : (ms : List Mark) (es : Exs) (d : Dom) → MeetsDom (set_dom ms es d) env → Meets (slots_ex (set_dom ms es d)) env
   slots-met ms es d h = set-slots-have Met MetDom sizes-met ms es d (each-met es h.0) (numbers-met d h.1)
+
+  -- Those of the bound of a domain.
+  pub bound-met : (d : Dom) → MeetsDom d env → Meets (bound_ex d) env
+  bound-met d h = bound-has Met MetDom sizes-met d (numbers-met d h)
 
   -- And of a dummy.
   pub dummy-met : (d : Dom) → MeetsDom d env → Meets (dummy_ex d) env

@@ -1,14 +1,14 @@
 -- The number of a value tells it from the members of an atom of its type, where positions stand for the values of named types.
-use Rattle.std.proofs.Common.{◌≡◌, refl, sym, ap, ◌∙◌, subst, ℕ, zero, suc, Bool, true, false, List, [], ◌∷◌, ℤ, pos, negsuc, Option, Some, None, option_map}
+use Rattle.std.proofs.Common.{◌≡◌, refl, sym, ap, ◌∙◌, Bool, true, false, List, [], ◌∷◌, pos, negsuc, Option, Some, None}
 use Rattle.std.specs.Prelude.{IsTrue, is_some}
 use Rattle.ess_semantics.specs.Values.{Text, Value, number, truth, item, node}
 use Rattle.ess_semantics.specs.Kinds.{is_atom}
-use Rattle.ess_semantics.specs.Domains.{Span, Domain, booleans, integers, named, between}
+use Rattle.ess_semantics.specs.Domains.{Span, Domain, booleans, integers, between}
 use Rattle.ess_semantics.specs.Membership.{member}
-use Rattle.ess_semantics.specs.Tables.{code, truth_number}
-use Rattle.ess_semantics.specs.Trees.{Ends, Exs, Dom, bool_dom, int_dom, name_dom, tuple_dom, record_dom, matrix_dom, set_dom, mset_dom, function_dom, relation_dom, partition_dom}
+use Rattle.ess_semantics.specs.Tables.{code}
+use Rattle.ess_semantics.specs.Trees.{Dom, bool_dom, int_dom, name_dom, tuple_dom, record_dom, matrix_dom, set_dom, mset_dom, function_dom, relation_dom, partition_dom}
 use Rattle.ess_semantics.specs.Types.{Ty, any_ty, bool_ty, int_ty, named_ty, compound, join, type_of_dom}
-use Rattle.ess_semantics.specs.TypeMembers.{is_of_named, is_of, is_of_type}
+use Rattle.ess_semantics.specs.TypeMembers.{is_of_named, is_of}
 use Rattle.ess_semantics.specs.Meaning.{Env, TypeEntry, type_entry, named_domain, spans_of, meanings, domain_of}
 use Rattle.ess_repr_declare_laws.proofs.SizeNumbers.{mapped}
 

@@ -11,8 +11,8 @@ use Rattle.ess_rules_laws.specs.Listings.{Alternative}
 use Rattle.ess_kind_rules_laws.specs.ViewListings.{view_listing}
 use Rattle.ess_kind_sizes_laws.specs.ViewsBehind.{is_view_of_set}
 
--- The domain is judged, denotes one under the env, and the representation fits it; `names` are ones that it doesn't use. The judgements on a
--- specification deliver it for the views of its finds and givens.
+-- The domain is judged, denotes one under the env, and the representation fits it; `names` are ones that it doesn't use. The judgements on
+-- a specification deliver it for the views of its finds and givens, and these for what they offer.
 pub record JudgedSeen (r : Repr) (d : Dom) (env : Env) : Type 0 where
   pub names : ℕ → Text
   pub differ : (m l : ℕ) → l < m → same_text (names m) (names l) ≡ false

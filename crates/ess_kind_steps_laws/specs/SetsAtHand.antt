@@ -1,6 +1,6 @@
 -- What rules of views of sets count on follows from what refining has at hand: types and values of the tree, new names, structures met, and
 -- views of judged domains.
-use Rattle.std.specs.Prelude.{◌≡◌, Bool, true, false, Some, IsTrue}
+use Rattle.std.specs.Prelude.{◌≡◌, Bool, true, Some, IsTrue}
 use Rattle.ess_semantics.specs.Values.{Text}
 use Rattle.ess_semantics.specs.Names.{Names}
 use Rattle.ess_semantics.specs.Trees.{name_pat, Ex, comp_ex, ex1, ex2, fun1, Gens, from}
@@ -51,8 +51,8 @@ pub record AtHand (s : Supply) (g : Names Ty) (r : KindRule) (e : Ex) (env : Env
 
 -- ---- what is said
 
--- So each of these rules that fires has what it counts on, and keeps what it rewrites: where the structures are met and each part of the tree
--- has a value wherever its context holds, but for numbers in natural places. w says that the tree stands in one.
+-- So each of these rules that fires has what it counts on, and keeps what it rewrites: where the structures are met and each part of the
+-- tree has a value wherever its context holds, but for numbers in natural places. w says that the tree stands in one.
 pub record SetRulesHaveWhatTheyAsk : Type 0 where
   pub asked : (s : Supply) (g : Names Ty) (r : KindRule) (e f : Ex) → kind_rewrite s g r e ≡ Some f → is_of_sets r ≡ true → (env : Env) →
       AtHand s g r e env → (w : Bool) → Valued w e env → Meets e env → KindAsks s g r e env

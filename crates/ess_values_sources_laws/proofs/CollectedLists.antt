@@ -23,12 +23,14 @@ listed-there None xs h = absurd h
 listed-there (Some ws) xs h = (ws, refl, perm-counts xs ws h)
 
 -- Where lists are collected, each of them is there.
-pub each-some : (vs : List Value) (F : Value → Option (List Value)) → IsTrue (is_some (collect vs F)) → Each vs (λ v. IsTrue (is_some (F v)))
+pub each-some : (vs : List Value) (F : Value → Option (List Value)) → IsTrue (is_some (collect vs F)) →
+    Each vs (λ v. IsTrue (is_some (F v)))
 each-some [] F h = tt
 each-some (v ∷ vs) F h = (first-there (F v) (collect vs F) h, each-some vs F (rest-there (F v) (collect vs F) h))
 
 -- And where each is there, all are.
-pub some-each : (vs : List Value) (F : Value → Option (List Value)) → Each vs (λ v. IsTrue (is_some (F v))) → IsTrue (is_some (collect vs F))
+pub some-each : (vs : List Value) (F : Value → Option (List Value)) → Each vs (λ v. IsTrue (is_some (F v))) →
+    IsTrue (is_some (collect vs F))
 some-each [] F h = refl
 some-each (v ∷ vs) F h = go (F v) (collect vs F) h.0 (some-each vs F h.1)
   where

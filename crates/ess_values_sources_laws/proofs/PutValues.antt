@@ -64,8 +64,8 @@ module _ (y : Text) (e : Ex) (hs : Gens) (env : Env) where
         ∙ ap (λ o. and_then (option_map list_value o) (λ w. collect (items_of w) F)) q ∙ ap (λ l. collect l F) (to_list-of_list ws)
 
     -- A comprehension with an alternative has values.
-    pub put-valued : (w : Bool) (a : Alternative) → PutApart r s y e hs a → (ws : List Value) → items_listed a env ≡ Some ws → Each ws Good →
-        Under a env → Valued w (put_listed y e hs a) env
+    pub put-valued : (w : Bool) (a : Alternative) → PutApart r s y e hs a → (ws : List Value) → items_listed a env ≡ Some ws →
+        Each ws Good → Under a env → Valued w (put_listed y e hs a) env
     put-valued w a n ws q b u = (
       some-list (put_items a) (subst (λ z. IsTrue (is_some z)) (sym (put-items a n ws q)) (some-each ws F (left-of-both ws _ _ b))),
       spliced-valued env.positions env.types env.cells r s y a.item n.0 n.1 a.gens hs e env.vals n.2 n.3 n.4
@@ -80,8 +80,8 @@ module _ (y : Text) (e : Ex) (hs : Gens) (env : Env) where
     fold-valued false w _ l k h = cc
 
     -- The folds over the alternatives have values.
-    pub each-put-valued : (m : Bool) (f : Fun) → is_marked m f ≡ true → (l : List Alternative) → EachApart r s y e hs l → (ws : List Value) →
-        all_listed l env ≡ Some ws → Each ws Good → AllUnder l env → AllValued false false (each_put m f y e hs l) env
+    pub each-put-valued : (m : Bool) (f : Fun) → is_marked m f ≡ true → (l : List Alternative) → EachApart r s y e hs l →
+        (ws : List Value) → all_listed l env ≡ Some ws → Each ws Good → AllUnder l env → AllValued false false (each_put m f y e hs l) env
     each-put-valued m f k [] n ws p b u = tt
     each-put-valued m f k (a ∷ l) n ws p b u =
         let d = both-lists (items_listed a env) (all_listed l env) ws p in

@@ -147,7 +147,8 @@ module _ (env : Env) where
   least w s g (fun1 false f (comp_ex e (from (name_pat y) t hs))) n c k h =
       go (offered s g t) (offered-under env s g t n.0.1.1 c (inner y e hs env false w f (comp_ex e (from (name_pat y) t hs)) h).1.0) k
     where
-      go : (o : Option (List Alternative)) → OfferUnder o env → OfSome o (λ l. ListedApart l (fun1 false f (comp_ex e (from (name_pat y) t hs))) env
+      go : (o : Option (List Alternative)) → OfferUnder o env →
+          OfSome o (λ l. ListedApart l (fun1 false f (comp_ex e (from (name_pat y) t hs))) env
           × EachOf (all_listed (map (put_alternative y e hs) l) env) (λ v. IsNumber (Some v))) →
           A w (fun1 false f (comp_ex e (from (name_pat y) t hs)))
           (and_then o (λ l. extreme_alternatives (map (put_alternative y e hs) l) (fun1 false f (comp_ex e (from (name_pat y) t hs)))))
@@ -158,7 +159,8 @@ module _ (env : Env) where
           laid = all-put-valued y e hs env k.0.0 k.0.1 w f t l k.0.2 h k.0.3.1 u
 
           test : (b : Bool) → is_extreme f ≡ b → A w (fun1 false f (comp_ex e (from (name_pat y) t hs))) (if b
-              then Some (fun1 false f (list_of (each_extreme f (past_all f (map (put_alternative y e hs) l)) (map (put_alternative y e hs) l))))
+              then Some (fun1 false f (list_of (each_extreme f (past_all f (map (put_alternative y e hs) l))
+              (map (put_alternative y e hs) l))))
               else None)
           test true i = λ q. (
             subst (λ z. Unless (w && false) (IsTrue (is_some z))) q h.0,

@@ -165,5 +165,6 @@ module _ (pl : Bool) (ts : List TypeEntry) (cs : Names Table) where
       spliced-valued t a m = valued-through r h g (substitute_gens (for_name y h) hs) (substitute (for_name y h) e) Behind
           (λ i x v q b w. valued-sim-gens pl ts cs (for_name y h) (outside r) (outside s) PutValued put-named put-bound put-value hs e
           ((y, v) ∷ g) i gens (put-item v g i x q w)
-          (λ g' i' p z. valued-sim pl ts cs (for_name y h) (outside r) (outside s) PutValued put-named put-bound put-value e false g' i' body p z) b)
+          (λ g' i' p z. valued-sim pl ts cs (for_name y h) (outside r) (outside s) PutValued put-named put-bound put-value e false g' i'
+          body p z) b)
           ks g inner (λ a t. refl) t a m

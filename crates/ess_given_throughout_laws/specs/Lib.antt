@@ -1,0 +1,4 @@
+-- What is given, along chains of all rules
+pub mod GivenThroughout
+-- Index domains over domains
+pub mod CountedAxes

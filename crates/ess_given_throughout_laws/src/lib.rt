@@ -1,0 +1,4 @@
+//! What is given in conditions stays along chains of all rules, from judged trees of a specification to refined trees.
+#![tactic(auto)]
+
+pub mod laws;

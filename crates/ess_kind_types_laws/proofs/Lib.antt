@@ -1,0 +1,5 @@
+pub mod SizesTyped
+pub mod ListingsTyped
+pub mod SetsKeepTypes
+pub mod SetsKeepMarks
+mod ExamplesTyped

@@ -1,0 +1,2 @@
+-- What rules of views of sets ask so as to keep types and marks
+pub mod SetsTyped

@@ -1,0 +1,4 @@
+//! Types and marks of rules that read views of sets.
+#![tactic(auto)]
+
+pub mod laws;

@@ -1,0 +1,2 @@
+-- What views of sets become has values
+pub mod SetViewsKeepValues

@@ -1,0 +1,4 @@
+//! Views of sets that keep values.
+#![tactic(auto)]
+
+pub mod laws;
