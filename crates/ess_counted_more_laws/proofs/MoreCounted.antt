@@ -67,8 +67,8 @@ module _ (g : Names Ty) (env : Env) (typed : Typed g env) where
   nth-there (more_exs x es) (suc zero) a h q = subst (λ o. IsTrue (is_some (and_then o (λ z. meaning z env)))) q (there x env h.0)
   nth-there (more_exs x es) (suc (suc k)) a h q = nth-there es (suc k) a h.1 q
 
-  component : (w : Bool) (e : Ex) (s : Supply) (f : Ex) → rewrite s g component_of_a_tuple e ≡ Some f → ComponentTyped g e → Valued w e env →
-      ComponentFits e env
+  component : (w : Bool) (e : Ex) (s : Supply) (f : Ex) → rewrite s g component_of_a_tuple e ≡ Some f → ComponentTyped g e →
+      Valued w e env → ComponentFits e env
   component w (node_ex true (index (to_component k ∷ [])) (more_exs (node_ex false tuple_literal es) no_exs)) s f q t h =
       (all-there es env h.1.0.1, picked (nth es k) t (λ a r. nth-there es k a h.1.0.1 r))
   component w (node_ex false (index (to_component k ∷ [])) (more_exs (node_ex false tuple_literal es) no_exs)) s f q t h =
@@ -81,8 +81,8 @@ module _ (g : Names Ty) (env : Env) (typed : Typed g env) where
   field-there (f ∷ fs) no_exs b a h q = cc
   field-there (f ∷ fs) (more_exs x es) b a h q = go (same_text f b) q (λ r. field-there fs es b a h.1 r)
     where
-      go : (c : Bool) → (if c then Some x else field_term fs es b) ≡ Some a → (field_term fs es b ≡ Some a → IsTrue (is_some (meaning a env))) →
-          IsTrue (is_some (meaning a env))
+      go : (c : Bool) → (if c then Some x else field_term fs es b) ≡ Some a →
+          (field_term fs es b ≡ Some a → IsTrue (is_some (meaning a env))) → IsTrue (is_some (meaning a env))
       go true q k = subst (λ o. IsTrue (is_some (and_then o (λ z. meaning z env)))) q (there x env h.0)
       go false q k = k q
 

@@ -91,8 +91,8 @@ ChoicesTyped g e = Unit {0}
 
 -- ---- names
 
--- The first source is a container by its form, what it offers has bound names of its own, and what it is made of has values of its types. The
--- set of the items of a comprehension is left out.
+-- The first source is a container by its form, what it offers has bound names of its own, and what it is made of has values of its types.
+-- The set of the items of a comprehension is left out.
 abbrev pub OffersApart : Supply → Names Ty → Ex → Type 0
 OffersApart s g (fun1 m f (comp_ex e (from (name_pat y) t hs))) =
     OfSome (offered s g t) (λ l. (r : Text → Bool) × (u : Text → Bool) × SourceApart r u l (fun1 m f (comp_ex e (from (name_pat y) t hs))))

@@ -43,7 +43,8 @@ module _ (u : Text → Bool) (w : Wanted) (s : Sees w u) where
 
   -- The marker, and the number of slots.
   pub marker-size : (e : Ex) → PartsHave w e → A (size_by_marker e)
-  marker-size (ex1 false Op1.Bar (seen_ex (repr ReprKind.ExplicitVarSizeWithMarker (more_reprs r no_reprs)) (set_dom ms es d) (m ∷ ns) js)) h =
+  marker-size (ex1 false Op1.Bar (seen_ex (repr ReprKind.ExplicitVarSizeWithMarker (more_reprs r no_reprs)) (set_dom ms es d) (m ∷ ns)
+      js)) h =
       (h.0.0.0, h.0.2)
   marker-size _ h = tt
 

@@ -116,7 +116,8 @@ module _ (w : Wanted) where
       -- An item of a view of a matrix.
       pub of-item : (e : Ex) → PartsHave w e → A (view_item_lookup x e)
       of-item (node_ex b (index (by_value ∷ []))
-          (more_exs (seen_ex (repr ReprKind.Matrix (more_reprs r no_reprs)) (matrix_dom (more_doms i is) d) ns js) (more_exs a no_exs))) h = (
+          (more_exs (seen_ex (repr ReprKind.Matrix (more_reprs r no_reprs)) (matrix_dom (more_doms i is) d) ns js)
+          (more_exs a no_exs))) h = (
             behind-has u w s r i is d ns _ h.0.0 h.0.1 (last-has u w s js (name_ex x) h.0.2 o.0),
             (o.1, index-inner u w s i is d h.0.1, ((o.0, (h.1.0, tt)), tt)),
           )
@@ -180,8 +181,8 @@ module _ (w : Wanted) where
       result-nd _ a h k = tt
 
       result-nd-partial : (f a : Ex) → PartsHave w f → PartsHave w a → A (function_nd_partial_result xs f a)
-      result-nd-partial (seen_ex (repr ReprKind.FunctionNDPartial (more_reprs r no_reprs)) (function_dom ms es (tuple_dom ds) c) (t ∷ ns) js)
-          a h k =
+      result-nd-partial (seen_ex (repr ReprKind.FunctionNDPartial (more_reprs r no_reprs)) (function_dom ms es (tuple_dom ds) c) (t ∷ ns)
+          js) a h k =
           when w (names_fit xs ds) (flagged_result (by_names xs) r (tuple_dom ds) c t ns js a)
           (flagged-result (by_names xs) (names-run u w s xs o) r ms es (tuple_dom ds) c t ns js a h.0.0 h.0.1 h.1 h.2 k)
       result-nd-partial _ a h k = tt

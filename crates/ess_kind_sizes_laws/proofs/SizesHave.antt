@@ -63,15 +63,18 @@ module _ (P : Ex → Type 0) (L : Dom → Type 0) where
       go true r = h.0
       go false r = r
 
-  else-has : (o p : Option Ex) → MayHave o → MayHave p → MayHave (or_else o p)
+  -- One of two that are there.
+  pub else-has : (o p : Option Ex) → MayHave o → MayHave p → MayHave (or_else o p)
   else-has None p h k = k
   else-has (Some e) p h k = h
 
-  default-has : (o : Option Ex) (e : Ex) → MayHave o → P e → P (or_default o e)
+  -- What is there, else what stands for it.
+  pub default-has : (o : Option Ex) (e : Ex) → MayHave o → P e → P (or_default o e)
   default-has None e h k = k
   default-has (Some f) e h k = h
 
-  greatest-has : (ms : List Mark) (es : Exs) → AllHave es → MayHave (greatest_size_of ms es)
+  -- The greatest size that is given, if there is one.
+  pub greatest-has : (ms : List Mark) (es : Exs) → AllHave es → MayHave (greatest_size_of ms es)
   greatest-has ms es h =
       else-has (number_of Key.Size ms es) (number_of Key.MaxSize ms es) (number-has Key.Size ms es h) (number-has Key.MaxSize ms es h)
 

@@ -16,9 +16,9 @@ is_view_of_set (seen_ex r (set_dom ms es d) ns js) = true
 is_view_of_set e = false
 
 -- The view t stands as a source with the name y, and e and hs behind it: t uses names of s alone, which are in scope, and its domain binds
--- names of b alone; e and hs use names of v, and bind such ones that aren't in scope and aren't y. The names of b aren't of v, nor is the new
--- name x. Sizes bind a name that no text has. Told apart, trees of specifications over their views are so: their names are those of the
--- text and reserved ones below that of the new name.
+-- names of b alone; e and hs use names of v, and bind such ones that aren't in scope and aren't y. The names of b aren't of v, nor is the
+-- new name x. Sizes bind a name that no text has. Told apart, trees of specifications over their views are so: their names are those of
+-- the text and reserved ones below that of the new name.
 pub record ViewBehind (v s b : Text → Bool) (x y : Text) (t e : Ex) (hs : Gens) : Type 0 where
   pub source : NamesAre s b t
   pub gens : NamesAreGens v (λ a. v a && not (s a || same_text y a)) hs

@@ -1,6 +1,6 @@
 -- Worked examples: the types of what views of sets in slots with a dummy offer. Over ints all is well; over a named type no type of the
 -- table of the slots serves: as ints its cells lose the named type, of the named type they can't be compared with the dummy.
-use Rattle.std.proofs.Common.{◌≡◌, refl, Bool, true, false, [], ◌∷◌, Option, Some, None, codes}
+use Rattle.std.proofs.Common.{◌≡◌, refl, false, [], ◌∷◌, Some, None, codes}
 use Rattle.ess_semantics.specs.declared.words.ReprKind.{ReprKind}
 use Rattle.ess_semantics.specs.Values.{Text, a_matrix}
 use Rattle.ess_semantics.specs.Trees.{repr, no_reprs, Ex, name_ex, cell_ex, seen_ex, no_exs, more_exs, Dom, name_dom, set_dom}

@@ -2,4 +2,5 @@ pub mod SizesTyped
 pub mod ListingsTyped
 pub mod SetsKeepTypes
 pub mod SetsKeepMarks
+pub mod SetChainsTyped
 mod ExamplesTyped

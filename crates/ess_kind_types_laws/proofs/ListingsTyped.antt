@@ -1,6 +1,5 @@
 -- What views of sets offer has items of the type of the members, and marks.
-use Rattle.std.proofs.Common.{◌≡◌, refl, sym, ap, ◌∙◌, subst, Bool, true, false, ◌&&◌, ◌||◌, not, List, [], ◌∷◌, Option, Some, None, option_map}
-use Rattle.std.specs.Prelude.{IsTrue}
+use Rattle.std.proofs.Common.{◌≡◌, refl, ap, ◌∙◌, Bool, true, false, ◌||◌, not, List, [], ◌∷◌, Option, Some, None, option_map}
 use Rattle.std.specs.List.{list_all}
 use Rattle.ess_semantics.specs.declared.words.Op2.{Op2}
 use Rattle.ess_semantics.specs.declared.words.ReprKind.{ReprKind}
@@ -8,7 +7,7 @@ use Rattle.ess_semantics.specs.Lists.{and_then}
 use Rattle.ess_semantics.specs.Values.{Text, a_matrix}
 use Rattle.ess_semantics.specs.Order.{same_text}
 use Rattle.ess_semantics.specs.Names.{Names, look}
-use Rattle.ess_semantics.specs.Trees.{binary, Mark, Repr, Reprs, repr, no_reprs, more_reprs, name_pat, Ex, Exs, name_ex, comp_ex, cell_ex, seen_ex, ex2, fun1, no_exs, more_exs, Gens, from, Dom, Doms, bool_dom, int_dom, name_dom, tuple_dom, record_dom, matrix_dom, set_dom, mset_dom, function_dom, relation_dom, partition_dom, no_doms, more_doms}
+use Rattle.ess_semantics.specs.Trees.{binary, Mark, Repr, Reprs, repr, no_reprs, more_reprs, Ex, Exs, name_ex, comp_ex, cell_ex, seen_ex, ex2, no_exs, more_exs, Gens, Dom, Doms, bool_dom, int_dom, name_dom, tuple_dom, record_dom, matrix_dom, set_dom, mset_dom, function_dom, relation_dom, partition_dom, no_doms, more_doms}
 use Rattle.ess_semantics.specs.Types.{Ty, bool_ty, int_ty, compound2, join, type_of_dom}
 use Rattle.ess_semantics.specs.OperatorTypes.{type_of_op, member_ty}
 use Rattle.ess_semantics.specs.Typing.{number_cell_ty, type_of, source_ty}
@@ -32,7 +31,7 @@ use Rattle.ess_kind_rules_laws.specs.ViewListings.{view_listing, listing_of}
 use Rattle.ess_kind_sizes_laws.specs.ViewsBehind.{taken, put}
 use Rattle.ess_kind_sizes_laws.proofs.SetListings.{slots, place, of_occurrences, of_all, of_marked, of_flagged, of_dummies, OfEach, by-kind}
 use Rattle.ess_kind_sizes_laws.proofs.ViewsBehind.{listings-of-sets-are-apart}
-use Rattle.ess_kind_types_laws.specs.SetsTyped.{AllInts, IntsIn, AllIntsIn, OwnTyped, has_no_table, TablesApart, FoldTyped}
+use Rattle.ess_kind_types_laws.specs.SetsTyped.{AllInts, IntsIn, AllIntsIn, OwnTyped, has_no_table, FoldTyped}
 use Rattle.ess_kind_types_laws.proofs.SizesTyped.{mark-at, slots-marked, dummy-int, dummy-marked}
 
 -- ---- ints behind a new name
@@ -172,8 +171,7 @@ module _ (g : Names Ty) (w : Text → Bool) (x : Text) (ms : List Mark) (es : Ex
     tables = (q.0.1, place-tables q.1);
     alike = alike-under (type_of (ex2 true Op2.Le (name_ex x) (cell_ex false n js)) Ints) (up-to n ns s.new_table s.own);
     marks = λ m.
-        let b = behind (View ReprKind.ExplicitVarSizeWithMarker (more_reprs r no_reprs) (n ∷ ns)) int_ty s.new m in
-        (
+        let b = behind (View ReprKind.ExplicitVarSizeWithMarker (more_reprs r no_reprs) (n ∷ ns)) int_ty s.new m in (
           (
             slots-dom-marks s.ints m.0,
             (
@@ -205,8 +203,7 @@ module _ (g : Names Ty) (w : Text → Bool) (x : Text) (ms : List Mark) (es : Ex
     alike = alike-under (type_of (ex2 true Op2.Ne (cell_ex false t (place x ms es d js)) (dummy_ex d)) Ints)
         (no-dummy t [] s.new_table s.own u.0.1 i.1);
     marks = λ m.
-        let b = behind (View ReprKind.ExplicitVarSizeWithDummy no_reprs (t ∷ [])) int_ty u m in
-        (
+        let b = behind (View ReprKind.ExplicitVarSizeWithDummy no_reprs (t ∷ [])) int_ty u m in (
           (
             slots-dom-marks i m.0,
             (

@@ -1,5 +1,5 @@
 -- Rules of views of sets keep marks.
-use Rattle.std.proofs.Common.{◌≡◌, refl, sym, ap, ◌∙◌, subst, Bool, true, false, if◌then◌else◌, List, [], ◌∷◌, Option, Some, None}
+use Rattle.std.proofs.Common.{◌≡◌, refl, sym, ◌∙◌, subst, Bool, true, false, if◌then◌else◌, [], ◌∷◌, Option, Some, None}
 use Rattle.ess_semantics.specs.declared.words.Op1.{Op1}
 use Rattle.ess_semantics.specs.declared.words.Op2.{Op2}
 use Rattle.ess_semantics.specs.declared.words.Fun.{Fun}
@@ -7,9 +7,8 @@ use Rattle.ess_semantics.specs.declared.words.ReprKind.{ReprKind}
 use Rattle.ess_semantics.specs.Lists.{and_then}
 use Rattle.ess_semantics.specs.Values.{Text}
 use Rattle.ess_semantics.specs.Names.{Names}
-use Rattle.ess_semantics.specs.Trees.{Op, word, tuple_literal, matrix_literal, repr, no_reprs, more_reprs, name_pat, Ex, Exs, node_ex, comp_ex, seen_ex, ex1, ex2, fun1, no_exs, more_exs, Gens, from, set_dom, relation_dom}
-use Rattle.ess_semantics.specs.Types.{Ty, bool_ty, int_ty}
-use Rattle.ess_semantics.specs.OperatorTypes.{type_of_op}
+use Rattle.ess_semantics.specs.Trees.{word, tuple_literal, repr, no_reprs, more_reprs, name_pat, Ex, Exs, node_ex, comp_ex, seen_ex, ex1, ex2, fun1, no_exs, more_exs, Gens, from, set_dom, relation_dom}
+use Rattle.ess_semantics.specs.Types.{Ty}
 use Rattle.ess_semantics.specs.Typing.{type_of}
 use Rattle.ess_semantics.specs.ExpressionJudgements.{forgets_order}
 use Rattle.ess_rules_laws.specs.Listings.{Alternative}
@@ -29,9 +28,8 @@ use Rattle.ess_kind_sizes_laws.specs.SetRules.{is_of_sets}
 use Rattle.ess_kind_types_laws.specs.SetsTyped.{FoldTyped, SetsTyped, SetRulesKeepMarks}
 use Rattle.ess_kind_types_laws.proofs.SizesTyped.{slots-marked}
 use Rattle.ess_kind_types_laws.proofs.ListingsTyped.{listed-fits, listed-marked}
-use Rattle.ess_kind_types_laws.proofs.SetsKeepTypes.{one-put, root-is, set-rules-keep-types}
-use Rattle.ess_rules_types_laws.proofs.TypesOfSources.{folded, fold-gives, list-gives}
-use Rattle.ess_rules_marks_laws.proofs.Grows.{Grows, as_it_is, a_node, none_grow, more_grow, MarksGrow, grown}
+use Rattle.ess_kind_types_laws.proofs.SetsKeepTypes.{set-rules-keep-types}
+use Rattle.ess_rules_marks_laws.proofs.Grows.{as_it_is, a_node, none_grow, more_grow, grown}
 use Rattle.ess_put_marks_laws.proofs.MarksOfTerms.{fold-fit}
 
 no : {A : Type 0} → false ≡ true → A

@@ -1,5 +1,5 @@
 -- Rules of views of sets keep types.
-use Rattle.std.proofs.Common.{◌≡◌, refl, sym, ap, ◌∙◌, subst, Bool, true, false, if◌then◌else◌, List, [], ◌∷◌, Option, Some, None}
+use Rattle.std.proofs.Common.{◌≡◌, refl, sym, ap, ◌∙◌, subst, Bool, true, false, if◌then◌else◌, [], ◌∷◌, Option, Some, None}
 use Rattle.ess_semantics.specs.declared.words.Op1.{Op1}
 use Rattle.ess_semantics.specs.declared.words.Op2.{Op2}
 use Rattle.ess_semantics.specs.declared.words.Fun.{Fun}
@@ -7,10 +7,10 @@ use Rattle.ess_semantics.specs.declared.words.ReprKind.{ReprKind}
 use Rattle.ess_semantics.specs.Lists.{and_then}
 use Rattle.ess_semantics.specs.Values.{Text}
 use Rattle.ess_semantics.specs.Names.{Names}
-use Rattle.ess_semantics.specs.Trees.{binary, word, tuple_literal, repr, no_reprs, more_reprs, name_pat, Ex, Exs, node_ex, comp_ex, seen_ex, ex1, ex2, fun1, no_exs, more_exs, Gens, from, set_dom, relation_dom}
+use Rattle.ess_semantics.specs.Trees.{binary, word, tuple_literal, repr, no_reprs, more_reprs, name_pat, Ex, node_ex, comp_ex, seen_ex, ex1, ex2, fun1, no_exs, more_exs, Gens, from, set_dom, relation_dom}
 use Rattle.ess_semantics.specs.Types.{Ty, bool_ty}
 use Rattle.ess_semantics.specs.OperatorTypes.{type_of_op}
-use Rattle.ess_semantics.specs.Typing.{type_of, source_ty}
+use Rattle.ess_semantics.specs.Typing.{type_of}
 use Rattle.ess_semantics.specs.ExpressionJudgements.{forgets_order}
 use Rattle.ess_rules_laws.specs.Listings.{Alternative}
 use Rattle.ess_rules_laws.specs.SourceRules.{is_marked, list_of}
@@ -20,16 +20,14 @@ use Rattle.ess_rules_laws.specs.SetSizes.{size_by_marker, size_by_slots}
 use Rattle.ess_rules_laws.specs.OccurrenceViews.{cell_of_member, member_by_cell}
 use Rattle.ess_refine_laws.specs.TypesStay.{KeepsType}
 use Rattle.ess_refine_laws.specs.AllRules.{Supply, OfSome}
-use Rattle.ess_refine_types_laws.proofs.TypeParts.{one-is, one-to, two-is, asked-is, TypeKept, truth-for}
-use Rattle.ess_rules_types_laws.specs.PutTypes.{IsSteady}
+use Rattle.ess_refine_types_laws.proofs.TypeParts.{one-is, one-to, two-is, asked-is, TypeKept}
 use Rattle.ess_rules_types_laws.specs.TypesOfSources.{PutFits}
 use Rattle.ess_rules_types_laws.proofs.PutListed.{listed-type}
 use Rattle.ess_rules_types_laws.proofs.TypesOfSources.{folded, fold-gives, list-gives}
 use Rattle.ess_kind_rules_laws.specs.ViewListings.{view_listing, slots_of_operand}
 use Rattle.ess_kind_rules_laws.specs.KindRules.{KindRule, cell_of_an_atom, over_a_view, of_one_view, member_at_a_cell, size_at_the_marker, size_of_slots, view_listed, kind_rewrite}
 use Rattle.ess_kind_sizes_laws.specs.SetRules.{is_of_sets}
-use Rattle.ess_kind_sizes_laws.specs.ViewsBehind.{is_view_of_set}
-use Rattle.ess_kind_types_laws.specs.SetsTyped.{SeenInts, CellTyped, OwnTyped, FoldTyped, SetsTyped, SetRulesKeepTypes}
+use Rattle.ess_kind_types_laws.specs.SetsTyped.{CellTyped, FoldTyped, SetsTyped, SetRulesKeepTypes}
 use Rattle.ess_kind_types_laws.proofs.SizesTyped.{slots-int}
 use Rattle.ess_kind_types_laws.proofs.ListingsTyped.{listed-fits}
 

@@ -1,14 +1,14 @@
 -- Sizes of domains are ints, and have marks.
-use Rattle.std.proofs.Common.{◌≡◌, refl, sym, ap, ◌∙◌, subst, Bool, true, false, ◌||◌, List, [], ◌∷◌, Option, Some, None}
+use Rattle.std.proofs.Common.{◌≡◌, refl, sym, ap, subst, Bool, false, ◌||◌, List, [], ◌∷◌, Some}
 use Rattle.ess_semantics.specs.declared.words.Op2.{Op2}
 use Rattle.ess_semantics.specs.declared.words.Fun.{Fun}
 use Rattle.ess_semantics.specs.Values.{a_matrix}
 use Rattle.ess_semantics.specs.Names.{Names}
-use Rattle.ess_semantics.specs.Trees.{Op, binary, word, is_truth_op, matrix_literal, Mark, name_pat, Ex, Exs, node_ex, comp_ex, ex2, fun1, no_exs, more_exs, no_gens, over, Dom, Doms, bool_dom, int_dom, name_dom, tuple_dom, record_dom, matrix_dom, set_dom, mset_dom, function_dom, relation_dom, partition_dom, no_doms, more_doms}
+use Rattle.ess_semantics.specs.Trees.{Op, binary, word, is_truth_op, matrix_literal, Mark, Ex, Exs, node_ex, ex2, no_exs, more_exs, Dom, Doms, bool_dom, int_dom, name_dom, tuple_dom, record_dom, matrix_dom, set_dom, mset_dom, function_dom, relation_dom, partition_dom, no_doms, more_doms}
 use Rattle.ess_semantics.specs.Types.{Ty, int_ty, compound2, is_bool}
 use Rattle.ess_semantics.specs.OperatorTypes.{type_of_op}
 use Rattle.ess_semantics.specs.Typing.{type_of}
-use Rattle.ess_repr_declare_laws.specs.SizeTerms.{zero_ex, one_ex, plus_ex, minus_ex, times_ex, power_ex, at_least_0_ex, listed_ex, unused_name, slots_ex, dummy_ex}
+use Rattle.ess_repr_declare_laws.specs.SizeTerms.{zero_ex, at_least_0_ex, slots_ex, dummy_ex}
 use Rattle.ess_refine_laws.specs.MarksStay.{MarkFits, HasMarks, HaveMarks, DomHasMarks, DomsHaveMarks}
 use Rattle.ess_refine_types_laws.proofs.TypeParts.{one-to, two-to}
 use Rattle.ess_kind_sizes_laws.proofs.SizesHave.{SizeParts, AllHave, NumbersHave, AllNumbersHave, set-slots-have, dummy-has}

@@ -1,5 +1,6 @@
 //! Laws of types and marks of rules that read views of sets, each the contract of a function that does nothing.
 
+ghost use Rattle.ess_kind_types_laws.specs.SetChainsTyped.{SetChainsKeepTypes};
 ghost use Rattle.ess_kind_types_laws.specs.SetsTyped.{SetRulesKeepTypes, SetRulesKeepMarks};
 
 /// Rules of views of sets keep the type at their root, where tables have the types of what their cells hold, numbers in domains are ints,
@@ -11,4 +12,9 @@ pub fn set_rules_keep_types()
 /// And marks, where what they rewrite has a type.
 pub fn set_rules_keep_marks()
     ensures { SetRulesKeepMarks }
+{}
+
+/// So do chains of such rules, each at some part, with other rewriting between them that keeps both.
+pub fn set_chains_keep_types()
+    ensures { SetChainsKeepTypes }
 {}

@@ -113,7 +113,8 @@ module _ (rest : Gens) (e f : Ex)
   before (from p s gs) env t v =
       let r = in-kept p gs env (λ x. before gs (with_pat p x env)) (meaning s env) t v.1 in (r.0, (v.0, r.1))
   before (cond c gs) env t v =
-      let r = where-kept (meaning c env) (items_under (append_gens gs rest) env (k e)) (items_under gs env (k f)) _ _ t v.1 (before gs env) in
+      let r = where-kept (meaning c env) (items_under (append_gens gs rest) env (k e)) (items_under gs env (k f)) _ _ t v.1
+      (before gs env) in
       (r.0, (v.0, r.1))
 
 -- ---- each rule

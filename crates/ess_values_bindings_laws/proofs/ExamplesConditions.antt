@@ -1,6 +1,6 @@
 -- Worked examples: the cell b is false, and `1 / 0` has no value. A condition that leaves a fold of numbers takes the guard from a Boolean
--- in the number, and a part of that has no value then; under truth values the condition guards on. A condition that moves behind another one
--- under `min` takes the guard from that.
+-- in the number, and a part of that has no value then; under truth values the condition guards on. A condition that moves behind another
+-- one under `min` takes the guard from that.
 use Rattle.std.proofs.Common.{◌≡◌, refl, false, true, [], ◌∷◌, pos, Some, codes}
 use Rattle.std.specs.Prelude.{IsTrue}
 use Rattle.ess_semantics.specs.declared.words.Op2.{Op2}

@@ -91,8 +91,8 @@ module _ (env : Env) where
       (some-each vs (λ v. option_map (λ u. u ∷ []) (F v)) (each-any vs _ (λ v. item-there (F v) (k v))))
 
   -- The list of the tuples of new names.
-  pub tuples-valued : (ys : List Text) (ds : Doms) → DomValued (tuple_dom ds) env → IsTrue (is_some (members_in (domain_of (tuple_dom ds) env))) →
-      Valued false (tuples_over ys ds) env
+  pub tuples-valued : (ys : List Text) (ds : Doms) → DomValued (tuple_dom ds) env →
+      IsTrue (is_some (members_in (domain_of (tuple_dom ds) env))) → Valued false (tuples_over ys ds) env
   tuples-valued ys ds d h = (
     over-there (members_in (domain_of (tuple_dom ds) env))
         (λ v. meaning (node_ex false tuple_literal (named_exs ys)) (with_pat (tuple_pat (named_pats ys)) v env)) h
@@ -175,6 +175,7 @@ module _ (env : Env) where
       at None h = h
       at (Some ls) h = refl
 
-      go : (o : Option Domains) → IsTrue (is_some (members_in (option_map (records fs) o))) → IsTrue (is_some (members_in (option_map tuples o)))
+      go : (o : Option Domains) → IsTrue (is_some (members_in (option_map (records fs) o))) →
+          IsTrue (is_some (members_in (option_map tuples o)))
       go None h = h
       go (Some e) h = at (all_some (members_of_each e)) h

@@ -216,7 +216,8 @@ module _ (env : Env) where
   Answered w (Some f) = Valued w f env
 
   cell : (w : Bool) (v a : Ex) → Valued false a env → Valued false v env → Answered w (cell_of_member v a)
-  cell w (seen_ex (repr ReprKind.Occurrence no_reprs) (set_dom ms es d) (n ∷ []) js) a h k = put-flag js (more_exs a no_exs) n w env k.2 (h, tt)
+  cell w (seen_ex (repr ReprKind.Occurrence no_reprs) (set_dom ms es d) (n ∷ []) js) a h k =
+      put-flag js (more_exs a no_exs) n w env k.2 (h, tt)
   cell w (seen_ex (repr ReprKind.RelationAsMatrix no_reprs) (relation_dom ms es ds) (n ∷ []) js) (node_ex false tuple_literal as') h k =
       put-flag js as' n w env k.2 h.1
   cell w v a h k = tt

@@ -20,8 +20,8 @@ abbrev pub OfferedUnder : Option Alternative → Env → Type 0
 OfferedUnder None env = Unit {0}
 OfferedUnder (Some a) env = Under a env
 
--- The listing of a view of a set of each kind, where the view has values and offers it; n says how many slots there are, m what the dummy is.
--- `a in v` as the cell of a, a view of an atom as its cell, and `|v|` as the marker or the number of slots.
+-- The listing of a view of a set of each kind, where the view has values and offers it; n says how many slots there are, m what the dummy
+-- is. `a in v` as the cell of a, a view of an atom as its cell, and `|v|` as the marker or the number of slots.
 pub record SetViewsKeepValues : Type 0 where
   pub of_occurrences : (x : Text) (e : Ex) (env : Env) → Unused x e → Valued false e env → OfferedUnder (occurrence_listing x e) env
   pub of_slots_all_in_use : (x : Text) (n e : Ex) (env : Env) → Unused x e → Valued false n env → Valued false e env →

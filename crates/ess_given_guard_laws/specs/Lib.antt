@@ -1,0 +1,2 @@
+-- Trees with conditions
+pub mod GuardKeepsGiven

@@ -1,0 +1,4 @@
+//! What is given stays where terms get conditions.
+#![tactic(auto)]
+
+pub mod laws;

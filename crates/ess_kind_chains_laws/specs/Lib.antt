@@ -1,0 +1,2 @@
+-- Chains of rules of views of sets
+pub mod SetChains

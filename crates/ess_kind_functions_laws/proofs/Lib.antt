@@ -1,0 +1,2 @@
+pub mod JudgedFunctions
+pub mod FunctionsAsked

@@ -1,0 +1,2 @@
+-- What rules of views of functions have at hand
+pub mod FunctionsAtHand

@@ -1,0 +1,2 @@
+pub mod SizesValued
+pub mod SetsKeepValues

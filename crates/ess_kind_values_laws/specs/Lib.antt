@@ -1,0 +1,2 @@
+-- Rules of views of sets that keep values
+pub mod SetsKeepValues

@@ -1,0 +1,4 @@
+//! Values of trees under rules that read views of sets.
+#![tactic(auto)]
+
+pub mod laws;

@@ -1,0 +1,2 @@
+-- Equal matrices keep values
+pub mod MatricesKeepValues

@@ -1,0 +1,4 @@
+//! The rule of equal matrices keeps values.
+#![tactic(auto)]
+
+pub mod laws;
