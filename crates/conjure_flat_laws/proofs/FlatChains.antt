@@ -9,7 +9,7 @@ use Rattle.ess_semantics.specs.Types.{Ty}
 use Rattle.ess_semantics.specs.NamesAt.{names_at}
 use Rattle.ess_grammar.specs.Models.{Scope}
 use Rattle.ess_refine.specs.Chains.{as_it_was, led_at, Leads}
-use Rattle.ess_rules.specs.Ruled.{IsRuled, Ruling, plainly, by_kind, gathering, supply_at, puts_source, ruled, with_new_source, root_of}
+use Rattle.ess_rules.specs.Ruled.{IsRuled, Ruling, plainly, by_kind, gathering, in_order, supply_at, puts_source, ruled, with_new_source, root_of}
 use Rattle.ess_model_trees.specs.Written.{written_for, ComesFrom}
 use Rattle.ess_simplify_laws.specs.Simplifying.{simplified}
 use Rattle.conjure_model_laws.specs.Printed.{printed}
@@ -20,6 +20,7 @@ use Rattle.ess_flat_laws.proofs.KindRules as K
 use Rattle.ess_flat_laws.proofs.OpenRules as O
 use Rattle.ess_open_rules_laws.specs.OpenRules.{of_kind, of_opening}
 use Rattle.ess_gathered_laws.specs.GatheredConditions.{conditions_gathered}
+use Rattle.ess_ordered_flat_laws.proofs.FlatOrdered as R
 use Rattle.ess_flat_trees_laws.proofs.FlatTrees.{keyed-flat, printed-flat}
 
 no-tree : {e : Ex} → None ≡ Some e → ⊥
@@ -83,6 +84,7 @@ module _ (cells : Text → Option Bool) where
       by (by_kind (of_kind u)) = K.no-rule cells (supply_at n r.count) g f u
       by (by_kind (of_opening u)) = O.no-rule cells (supply_at n r.count) g f u
       by gathering = no-gathering f
+      by (in_order u) = R.no-order cells (supply_at n r.count) g u f
 
   -- So a chain of rules leads to the tree itself.
   leads-nowhere : (n : ℕ) (g : Names Ty) (old last : Ex) (k : ℕ) (m : Bool) → F old m → Leads IsRuled n g old last k → last ≡ old

@@ -1,15 +1,16 @@
 -- Worked examples of the definitions.
-use Rattle.std.specs.Prelude.{◌≡◌, refl, List, [], ◌∷◌, Some, None, codes}
+use Rattle.std.proofs.Common.{◌≡◌, refl, inr, List, [], ◌∷◌, Some, None, codes}
 use Rattle.ess_semantics.specs.Values.{Text}
 use Rattle.ess_semantics.specs.Trees.{Repr}
 use Rattle.ess_semantics.specs.Plans.{Options}
 use Rattle.ess_grammar.specs.Places.{end_place}
 use Rattle.ess_parse.specs.declared.refusal.ReadNo.{ReadNo}
+use Rattle.ess_translate_header.specs.declared.headers.HeadNo.{HeadNo}
 use Rattle.ess_translate.specs.declared.refusal.TransNo.{TransNo}
 use Rattle.conjure_options.specs.declared.options.OptionsNo.{OptionsNo}
 use Rattle.conjure_modelling.specs.declared.refusal.ModelNo.{ModelNo}
-use Rattle.conjure_modelling.specs.Refusals.{of_specification, of_options, of_reading}
-use Rattle.conjure_modelling.specs.Modelled.{AreOptionsOf, IsNoOptionOf, TakesList, IsNoModelText, IsNotRead}
+use Rattle.conjure_modelling.specs.Refusals.{of_specification, of_options, of_reading, of_header}
+use Rattle.conjure_modelling.specs.Modelled.{AreOptionsOf, IsNoOptionOf, TakesList, IsNoModelText, IsUnheaded, IsNotRead}
 
 -- the second item is refused
 second_item : of_options (OptionsNo.BadItem 2) ≡ ModelNo.BadRepresentation 2
@@ -48,9 +49,22 @@ no_model_yet = refl
 no_room_for_the_model : of_reading ReadNo.NoMemory ≡ ModelNo.NoMemory
 no_room_for_the_model = refl
 
+no_header_yet : of_header HeadNo.HeaderBad ≡ ModelNo.NotYet
+no_header_yet = refl
+
+no_room_for_the_header : of_header HeadNo.NoMemory ≡ ModelNo.NoMemory
+no_room_for_the_header = refl
+
 -- a text with a byte that begins no token is no model
 bad_byte : IsNoModelText (codes "?")
 bad_byte = (ReadNo.BadByte (record { line = 1; col = 1 }), record { reason = tt; first = refl; unread = tt; placed = tt })
+
+-- without a language line there is no header
+no_header : IsUnheaded []
+no_header H h = h.0.language
+
+not_written : IsNotRead [] ModelNo.NotYet
+not_written = inr no_header
 
 -- what is read again isn't a list
 not_told : IsNotRead [] (ModelNo.BadRepresentation 1) → ⊥

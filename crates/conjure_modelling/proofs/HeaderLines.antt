@@ -58,7 +58,8 @@ named-stm (such_that e) l g h = tt
 named-stm (minimise e) l g h = tt
 named-stm (maximise e) l g h = tt
 
-named-from : (ws : List Stm) (l : Lettings) (g : Names Ty) → ReadableStms ws → Each (kept_from ws l g) (λ x. is_name_token x.0 ≡ true)
+-- The givens and finds of statements that can be read have names that can be read.
+pub named-from : (ws : List Stm) (l : Lettings) (g : Names Ty) → ReadableStms ws → Each (kept_from ws l g) (λ x. is_name_token x.0 ≡ true)
 named-from [] l g h = tt
 named-from (w ∷ ws) l g h =
     let t : Stm = put_stm w l g in
@@ -109,3 +110,27 @@ head_lines S o r =
     (lines-append stms (reprs ++ codes "end-header" ∷ []) (stm-lines S r)
     (lines-append reprs (codes "end-header" ∷ []) (repr-lines o (kept_names S) (named-from S no_lettings [] r))
     (and-both (is_head_line (codes "end-header")) true (plain-line (codes "end-header") refl) refl)))
+
+-- The names in it can be read.
+pub header_named : (S : List Stm) (o : Options) → ReadableStms S → Each (header_of S o).reprs (λ c. is_name_token c.0 ≡ true)
+header_named S o r = chosen (kept_names S) (named-from S no_lettings [] r)
+  where
+    chosen : (ds : Names Dom) → Each ds (λ x. is_name_token x.0 ≡ true) →
+        Each {A = Text × List Repr} (map (λ x. (x.0, chosen_reprs o x.0 x.1)) ds) (λ c. is_name_token c.0 ≡ true)
+    chosen [] h = tt
+    chosen (x ∷ ds) h = (h.0, chosen ds h.1)
+
+-- And so can its statements, which are some of the specification's.
+pub header_readable : (S : List Stm) → ReadableStms S → ReadableStms (filter in_header S)
+header_readable [] r = tt
+header_readable (given x d ∷ S) r = (r.0, header_readable S r.1)
+header_readable (given_enum t ∷ S) r = (r.0, header_readable S r.1)
+header_readable (let_ex x e ∷ S) r = (r.0, header_readable S r.1)
+header_readable (let_dom x d ∷ S) r = (r.0, header_readable S r.1)
+header_readable (let_enum t ns ∷ S) r = (r.0, header_readable S r.1)
+header_readable (let_unnamed t e ∷ S) r = (r.0, header_readable S r.1)
+header_readable (needs e ∷ S) r = (r.0, header_readable S r.1)
+header_readable (find x d ∷ S) r = (r.0, header_readable S r.1)
+header_readable (such_that e ∷ S) r = header_readable S r.1
+header_readable (minimise e ∷ S) r = header_readable S r.1
+header_readable (maximise e ∷ S) r = header_readable S r.1

@@ -4,5 +4,7 @@ mod InlineParts
 mod Inline
 mod PlainBytes
 pub mod HeaderLines
+mod BareLines
+mod HeaderAgain
 pub mod ReadAgain
 pub mod WhatIsWritten

@@ -4,14 +4,15 @@ use Rattle.ess_semantics.specs.Values.{Text}
 use Rattle.ess_semantics.specs.Names.{Names}
 use Rattle.ess_semantics.specs.Trees.{Repr, Dom, Stm}
 use Rattle.ess_semantics.specs.Plans.{Options, kept_names, all_chosen}
-use Rattle.ess_semantics.specs.ModelTrees.{Model, header_of}
+use Rattle.ess_semantics.specs.ModelTrees.{Header, Model, header_of}
 use Rattle.ess_grammar.specs.Models.{is_readable_model}
 use Rattle.ess_grammar.specs.ModelTexts.{IsModel, header_lines}
+use Rattle.ess_grammar.specs.HeaderTexts.{IsHeader}
 use Rattle.ess_parse.specs.declared.refusal.ReadNo.{ReadNo}
 use Rattle.ess_translate.specs.declared.refusal.TransNo.{TransNo}
 use Rattle.ess_translate.specs.Texts.{Spells, IsRefusedFor}
 use Rattle.ess_translate.specs.Answers.{IsEssence, IsNoEssence}
-use Rattle.ess_translate_header_laws.specs.Headers.{are_reprs_of}
+use Rattle.ess_translate_header_laws.specs.Headers.{HasHeader, are_reprs_of}
 use Rattle.ess_translate_header_laws.specs.WrittenLines.{header_texts}
 use Rattle.ess_models.specs.declared.parts.Part.{Part}
 use Rattle.ess_models.specs.Built.{NoneIsBuilt}
@@ -42,21 +43,36 @@ pub record IsModelText (text : Text) : Type 0 where
 abbrev pub IsNoModelText : Text → Type 0
 IsNoModelText text = (why : ReadNo) × IsRefusedFor IsModel text why
 
+-- The text begins with a header of this tool.
+abbrev pub IsHeaded : Text → Type 0
+IsHeaded text = (H : Header) × HasHeader text H
+
+-- It begins with none.
+abbrev pub IsUnheaded : Text → Type 0
+IsUnheaded text = (H : Header) → HasHeader text H → ⊥
+
+-- The text isn't read again: it is no model by the rules of models, or begins with no header of this tool.
+abbrev pub IsNotReadAgain : Text → Type 0
+IsNotReadAgain text = IsNoModelText text ⊎ IsUnheaded text
+
 -- The text spells a model that is built from the specification S with these representations, and is a model by the rules of models: that
--- one, where some text is it. Under its language line stand the lines of the header of S with these representations, and no others.
+-- one, where some text is it. Under its language line stand the lines of the header of S with these representations, and no others. They
+-- are that header by the rules, and it is the one that is read of the text.
 pub record IsWritten (S : List Stm) (rs : Names (List Repr)) (text : Text) : Type 0 where
   pub spelled : IsTextOf S rs text
   pub read : IsModelText text
   pub same : IsTrue (is_readable_model spelled.model) → read.model ≡ spelled.model
   pub head : header_lines text ≡ header_texts (header_of S rs)
+  pub header : IsHeader (header_of S rs) (header_lines text)
+  pub begins : HasHeader text (header_of S rs)
 
--- The model can't be written: a part of it can't, or its text is no model by the rules of models.
+-- The model can't be written: a part of it can't, or its text isn't read again.
 abbrev pub IsLacking : List Stm → Names (List Repr) → Type 0
-IsLacking S rs = ((p : Part) × NoneIsBuilt S rs p) ⊎ ((text : Text) × IsTextOf S rs text × IsNoModelText text)
+IsLacking S rs = ((p : Part) × NoneIsBuilt S rs p) ⊎ ((text : Text) × IsTextOf S rs text × IsNotReadAgain text)
 
--- Why what would be written isn't read: it is no model, or for want of memory.
+-- Why what would be written isn't read: it is no model, or has no header, or for want of memory.
 abbrev pub IsNotRead : Text → ModelNo → Type 0
-IsNotRead text ModelNo.NotYet = IsNoModelText text
+IsNotRead text ModelNo.NotYet = IsNotReadAgain text
 IsNotRead text ModelNo.NoMemory = Unit {0}
 IsNotRead text _ = ⊥
 

@@ -1,6 +1,7 @@
 -- Refusals of parts as those of the whole.
 use Rattle.conjure_options.specs.declared.options.OptionsNo.{OptionsNo}
 use Rattle.ess_parse.specs.declared.refusal.ReadNo.{ReadNo}
+use Rattle.ess_translate_header.specs.declared.headers.HeadNo.{HeadNo}
 use Rattle.ess_translate.specs.declared.refusal.TransNo.{TransNo}
 use Rattle.conjure_modelling.specs.declared.refusal.ModelNo.{ModelNo}
 
@@ -18,3 +19,8 @@ of_options OptionsNo.NoMemory = ModelNo.NoMemory
 abbrev pub of_reading : ReadNo → ModelNo
 of_reading ReadNo.NoMemory = ModelNo.NoMemory
 of_reading why = ModelNo.NotYet
+
+-- That of its header.
+abbrev pub of_header : HeadNo → ModelNo
+of_header HeadNo.NoMemory = ModelNo.NoMemory
+of_header HeadNo.HeaderBad = ModelNo.NotYet

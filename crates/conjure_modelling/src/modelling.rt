@@ -49,7 +49,8 @@ fn model_for(alloc: Global, typed: &Typed, list: Option<&str>) -> Result<Vec<u8>
 ///
 /// `Specification` comes exactly where the text is no well typed specification, else `BadRepresentation` exactly where an item of the
 /// list isn't taken, else `NotYet` where a part of the model can't be written yet, or the text that would be written is no model by the
-/// rules of models: what is answered is one. `NoMemory` for want of memory.
+/// rules of models, or begins with no header of this tool: what is answered is a model, and its header is read of it again. `NoMemory`
+/// for want of memory.
 #[tactic(auto, using(crate::proofs::WhatIsWritten::readable, crate::proofs::WhatIsWritten::modelled, crate::proofs::WhatIsWritten::unmodelled, crate::proofs::WhatIsWritten::refused))]
 pub fn model_of(alloc: Global, text: &[u8], list: Option<&str>) -> Result<Vec<u8>, ModelNo>
     ensures ok { IfOk result (λ model. IsModelled text.now (option_map (λ l. l.now) list.entry) model.items) }

@@ -1,11 +1,12 @@
 -- Worked example: a text of two lines, without a list, is one of the class.
-use Rattle.std.proofs.Common.{sym, subst, None}
-use Rattle.ess_flat_headers_laws.proofs.ExampleText.{text, S, its-statements, its-class, its-header}
-use Rattle.conjure_standing_laws.specs.Standing.{IsFlatWith, IsFlatText}
+use Rattle.std.proofs.Common.{◌≡◌, sym, subst, true, None}
+use Rattle.ess_flat_headers_laws.proofs.ExampleText.{text, S, its-statements, its-class}
+use Rattle.ess_flat_models_laws.specs.FlatSpecifications.{is_flat_specification}
+use Rattle.conjure_standing_laws.specs.Standing.{IsFlatText}
 
 is-flat : IsFlatText None text
 is-flat = record {
   S = S;
   specification = its-statements;
-  flat = λ o h. subst (IsFlatWith S) (sym h) (record { flat = its-class; shallow = its-header });
+  flat = λ o h. subst (λ o. is_flat_specification S o ≡ true) (sym h) its-class;
 }

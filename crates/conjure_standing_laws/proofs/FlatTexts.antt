@@ -8,6 +8,8 @@ use Rattle.ess_grammar.specs.Readable.{ReadableStms}
 use Rattle.ess_grammar.specs.Models.{is_readable_model}
 use Rattle.ess_grammar.specs.Texts.{Reads}
 use Rattle.ess_grammar.specs.ModelTexts.{IsModel}
+use Rattle.ess_grammar.specs.HeaderTexts.{IsHeader}
+use Rattle.ess_flat_models_laws.specs.FlatSpecifications.{is_flat_specification}
 use Rattle.ess_grammar.proofs.ProperTokens.{specification-text-readable}
 use Rattle.ess_translate.specs.Answers.{IsEssence}
 use Rattle.ess_translate_header_laws.specs.WrittenLines.{header_texts}
@@ -15,13 +17,12 @@ use Rattle.ess_flat_models_laws.specs.FlatModels.{flat_model}
 use Rattle.ess_flat_models_laws.proofs.FlatHave.{flat-specifications}
 use Rattle.ess_flat_texts_laws.proofs.ReadableModels.{flat-models-are-readable}
 use Rattle.ess_flat_headers_laws.proofs.ChosenFlat.{chosen-are-of-the-class}
-use Rattle.ess_flat_headers_laws.proofs.FlatHeaders.{flat-headers-are-read}
 use Rattle.conjure_flat_laws.proofs.BuiltModels.{built-models-are-right}
 use Rattle.conjure_modelling.specs.Modelled.{AreOptionsOf, IsWritten, IsModelFor}
-use Rattle.conjure_standing_laws.specs.Standing.{StandsForListed, IsFlatWith, IsFlatText}
+use Rattle.conjure_standing_laws.specs.Standing.{StandsForListed}
 use Rattle.conjure_standing_laws.specs.Laws.{WrittenModelsOfScalarsStand}
 
-module _ (S : List Stm) (o : Options) (text : Text) (is : IsEssence text S) (f : IsFlatWith S o) (model : Text)
+module _ (S : List Stm) (o : Options) (text : Text) (is : IsEssence text S) (f : is_flat_specification S o ≡ true) (model : Text)
     (w : IsWritten S (all_chosen S o) model) where
   readable-stms : ReadableStms S
   readable-stms = specification-text-readable text S is.spells.reads is.spells.limits.0
@@ -31,16 +32,16 @@ module _ (S : List Stm) (o : Options) (text : Text) (is : IsEssence text S) (f :
   built-is =
       let b = built-models-are-right in
       let c = chosen-are-of-the-class in
-      (b.one S (all_chosen S o) (header_of S (all_chosen S o)) w.spelled.model is.typed (c.flat S o is.typed f.flat) w.spelled.built).1
+      (b.one S (all_chosen S o) (header_of S (all_chosen S o)) w.spelled.model is.typed (c.flat S o is.typed f) w.spelled.built).1
       ∙ c.model S o is.typed
 
   -- The text is read as it.
   read-is : w.read.model ≡ flat_model S o
-  read-is = w.same (subst (λ E. is_readable_model E ≡ true) (sym built-is) (flat-models-are-readable S o readable-stms f.flat)) ∙ built-is
+  read-is = w.same (subst (λ E. is_readable_model E ≡ true) (sym built-is) (flat-models-are-readable S o readable-stms f)) ∙ built-is
 
   -- So it stands.
   pub flat-stands : (list : Option Text) → AreOptionsOf (kept_names S) list o → StandsForListed list text model
-  flat-stands list listed = let c = chosen-are-of-the-class in let r = flat-specifications S o is.typed f.flat in record {
+  flat-stands list listed = let c = chosen-are-of-the-class in let r = flat-specifications S o is.typed f in record {
     S = S;
     o = o;
     H = header_of S o;
@@ -49,7 +50,8 @@ module _ (S : List Stm) (o : Options) (text : Text) (is : IsEssence text S) (f :
     options = listed;
     is_model = (
       header_texts (header_of S o),
-      flat-headers-are-read S o readable-stms f.flat f.shallow,
+      subst (λ H. IsHeader H (header_texts H)) (c.header S o is.typed)
+          (subst (IsHeader (header_of S (all_chosen S o))) w.head w.header),
       (
         w.head ∙ ap header_texts (c.header S o is.typed),
         subst (λ E. Reads model (IsModel E)) read-is w.read.spells.reads,
@@ -65,5 +67,6 @@ written-models-of-scalars-stand text list model is f =
     let S : List Stm = is.0 in
     let e : IsEssence text S = is.1 in
     let m : IsModelFor S list model = is.2 in
-    let flat = subst (λ T. (o : Options) → AreOptionsOf (kept_names T) list o → IsFlatWith T o) (e.spells.only f.S f.specification) f.flat in
+    let flat = subst (λ T. (o : Options) → AreOptionsOf (kept_names T) list o → is_flat_specification T o ≡ true)
+    (e.spells.only f.S f.specification) f.flat in
     flat-stands S m.o text e (flat m.o m.options) model m.written list m.options

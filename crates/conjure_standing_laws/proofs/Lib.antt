@@ -6,3 +6,7 @@ mod Examples
 pub mod MemberTexts
 -- Worked example
 mod MemberExample
+-- What is written for texts of scalars and sets stands
+pub mod MixedTexts
+-- Worked example
+mod MixedExample

@@ -5,7 +5,7 @@ use Rattle.ess_semantics.specs.Values.{Text}
 use Rattle.ess_semantics.specs.Trees.{Stm}
 use Rattle.ess_semantics.specs.Judgements.{is_well_typed}
 use Rattle.ess_semantics.specs.Plans.{Options, kept_names, all_chosen, plans}
-use Rattle.ess_semantics.specs.ModelTrees.{Header, Model, header_of}
+use Rattle.ess_semantics.specs.ModelTrees.{Model, header_of}
 use Rattle.ess_semantics.specs.Models.{Models, IsExact}
 use Rattle.ess_grammar.specs.Readable.{ReadableStms}
 use Rattle.ess_grammar.specs.Texts.{Reads}

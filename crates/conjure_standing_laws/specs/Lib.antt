@@ -2,5 +2,7 @@
 pub mod Standing
 -- Texts of specifications of sets of atoms
 pub mod MemberTexts
+-- Texts of specifications of scalars and sets
+pub mod MixedTexts
 -- The law
 pub mod Laws

@@ -3,11 +3,10 @@ use Rattle.std.specs.Prelude.{◌≡◌, true, List, Option}
 use Rattle.ess_semantics.specs.Values.{Text}
 use Rattle.ess_semantics.specs.Trees.{Stm}
 use Rattle.ess_semantics.specs.Plans.{Options, kept_names}
-use Rattle.ess_semantics.specs.ModelTrees.{Header, Model, header_of}
+use Rattle.ess_semantics.specs.ModelTrees.{Header, Model}
 use Rattle.ess_semantics.specs.Models.{Models, IsExact}
 use Rattle.ess_grammar.specs.Texts.{ReadsSpecification}
 use Rattle.ess_grammar.specs.HeaderTexts.{ReadsModelWithHeader}
-use Rattle.ess_translate_header_laws.specs.WrittenLines.{header_texts, AreShallow}
 use Rattle.ess_flat_models_laws.specs.FlatSpecifications.{is_flat_specification}
 use Rattle.conjure_modelling.specs.Modelled.{AreOptionsOf}
 
@@ -25,15 +24,8 @@ pub record StandsForListed (list : Option Text) (text model : Text) : Type 0 whe
   pub models : Models S o H E
   pub exact : IsExact S o E
 
--- With these options the specification is one of scalars with flat and total constraints, and each line of its model's header is within the
--- limit of load, by which it is read again. Lines with at most one operator a bound or letting always are; other expressions are printed
--- with more brackets than they may have in the text.
-pub record IsFlatWith (S : List Stm) (o : Options) : Type 0 where
-  pub flat : is_flat_specification S o ≡ true
-  pub shallow : AreShallow (header_texts (header_of S o))
-
--- The text is such a specification, with the options that the list names.
+-- The text is a specification of scalars with flat and total constraints, with the options that the list names.
 pub record IsFlatText (list : Option Text) (text : Text) : Type 0 where
   pub S : List Stm
   pub specification : ReadsSpecification text S
-  pub flat : (o : Options) → AreOptionsOf (kept_names S) list o → IsFlatWith S o
+  pub flat : (o : Options) → AreOptionsOf (kept_names S) list o → is_flat_specification S o ≡ true

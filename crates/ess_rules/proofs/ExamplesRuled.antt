@@ -25,7 +25,8 @@ use Rattle.ess_semantics.specs.Trees.{
 }
 use Rattle.ess_refine_laws.specs.AllRules.{over_a_source, over_a_term, least_under_a_condition}
 use Rattle.conjure_model_laws.specs.ToldApart.{reserved}
-use Rattle.ess_rules.specs.Ruled.{reserved_from, behind_names, new_source, with_new_source, plainly, gathering, root_of, behind_root, behind_ruling, both_told}
+use Rattle.ess_ordered_laws.specs.OrderedRules.{source_by_indices}
+use Rattle.ess_rules.specs.Ruled.{reserved_from, behind_names, new_source, with_new_source, plainly, gathering, in_order, root_of, behind_root, behind_ruling, both_told}
 
 abbrev x : Ex
 x = name_ex (codes "x")
@@ -97,6 +98,18 @@ told_by_both = refl
 told_by_one : both_told (ex2 true Op2.Eq (node_ex false matrix_literal (more_exs b no_exs)) x) ≡ false
 told_by_one = refl
 
+-- A comprehension over a domain tells it, one over a source doesn't before the source is opened.
+told_over_a_domain : both_told (ex2 true Op2.Eq source (node_ex false matrix_literal no_exs)) ≡ true
+told_over_a_domain = refl
+
+told_over_a_source :
+    both_told (ex2 true Op2.Eq (comp_ex x (from (name_pat (codes "x")) source no_gens)) (node_ex false matrix_literal no_exs)) ≡ false
+told_over_a_source = refl
+
 -- The rule that gathers conditions takes no names, and is used at the root itself.
 gathered_here : (root_of 7 gathering (fold_over source) ≡ fold_over source) × (behind_ruling 7 gathering (fold_over source) ≡ 7)
 gathered_here = (refl, refl)
+
+-- So it is with those of comprehensions whose items have an order: they put no source in.
+ordered_here : (root_of 7 (in_order source_by_indices) source ≡ source) × (behind_ruling 7 (in_order source_by_indices) source ≡ 7)
+ordered_here = (refl, refl)

@@ -1,6 +1,8 @@
 -- Each rule that fires is one of all rules
 pub mod RuledRoots
 pub mod KindTurns
+-- Rules of ordered comprehensions
+pub mod OrderedRoots
 pub mod SpecialRoots
 -- A root with its source told apart
 pub mod SourcedRoots

@@ -1,17 +1,19 @@
 -- The rules as the program uses them: with reserved names from a number on, index domains as the form of a matrix tells them, and the
--- source told apart whose term a rule puts in. Beside those of the two lists there is one that gathers conditions.
+-- source told apart whose term a rule puts in. Beside those of the two lists there is one that gathers conditions, and there are those of
+-- comprehensions whose items have an order.
 use Rattle.std.specs.Prelude.{◌≡◌, ◌&&◌, Bool, true, false, if◌then◌else◌, ℕ, zero, suc, ◌+◌, ◌≤◌, List, [], ◌∷◌, Option, Some, None, is_some}
 use Rattle.ess_semantics.specs.Values.{Text}
 use Rattle.ess_semantics.specs.Names.{Names}
-use Rattle.ess_semantics.specs.Trees.{name_pat, Ex, comp_ex, node_ex, word, no_exs, more_exs, fun1, ex2, Gens, no_gens, over, from, cond}
+use Rattle.ess_semantics.specs.Trees.{name_pat, Ex, comp_ex, node_ex, word, no_exs, more_exs, fun1, ex2, Gens, no_gens, over, from, cond, Dom}
 use Rattle.ess_semantics.specs.Types.{Ty}
 use Rattle.ess_refine_laws.specs.LeavingConditions.{at_last_condition}
 use Rattle.ess_refine_laws.specs.Copies.{opposite_of}
 use Rattle.ess_refine_laws.specs.AllRules.{Rule, Supply, rewrite, over_a_comprehension, over_a_literal, over_a_source, of_one_source, least_of_alternatives, least_under_a_condition, equal_matrices_at}
 use Rattle.ess_guard_laws.specs.IndexDomains.{index_dom}
-use Rattle.ess_open_rules_laws.specs.OpenGenerators.{is_plain_over}
+use Rattle.ess_open_rules_laws.specs.OpenGenerators.{is_plain_over, has_no_source}
 use Rattle.ess_open_rules_laws.specs.OpenRules.{KindRuling, kind_ruled, puts_in}
 use Rattle.ess_gathered_laws.specs.GatheredConditions.{conditions_gathered}
+use Rattle.ess_ordered_laws.specs.OrderedRules.{OrderedRule, ordered_rewrite}
 use Rattle.conjure_model_laws.specs.ToldApart.{reserved, told_apart, told}
 use Rattle.ess_rules_opened.specs.Supplies.{told_axis}
 
@@ -65,11 +67,12 @@ with_new_source j e = (e, j)
 
 -- ---- rules of both sorts
 
--- A rule that reads no kind, one that does, or the one that gathers conditions.
+-- A rule that reads no kind, one that does, the one that gathers conditions, or one of comprehensions whose items have an order.
 pub data Ruling : Type 0 where
   plainly : Rule → Ruling
   by_kind : KindRuling → Ruling
   gathering : Ruling
+  in_order : OrderedRule → Ruling
 
 -- Whether the rule puts the term of a source, or what it is made of, in the place of a name.
 abbrev pub puts_source : Ruling → Bool
@@ -81,10 +84,15 @@ puts_source (plainly least_of_alternatives) = true
 puts_source (plainly r) = false
 puts_source (by_kind r) = puts_in r
 puts_source gathering = false
+puts_source (in_order r) = false
 
--- Whether the forms of both operands tell an index domain.
+-- The index domain that the form of an expression tells, where it may be asked for: not before sources are opened.
+abbrev pub axis_asked : Ex → Option Dom
+axis_asked a = if has_no_source a then index_dom a else None
+
+-- Whether the forms of both operands tell an index domain that may be asked for.
 abbrev pub both_told : Ex → Bool
-both_told (ex2 m o a b) = is_some (index_dom a) && is_some (index_dom b)
+both_told (ex2 m o a b) = is_some (axis_asked a) && is_some (axis_asked b)
 both_told e = false
 
 -- The rule may be used at the root: matrices are compared by index domains only where their forms tell them.
@@ -97,6 +105,7 @@ abbrev pub ruled : Supply → Names Ty → Ruling → Ex → Option Ex
 ruled s g (plainly r) a = rewrite s g r a
 ruled s g (by_kind r) a = kind_ruled s g r a
 ruled s g gathering a = conditions_gathered a
+ruled s g (in_order r) a = ordered_rewrite s g r a
 
 -- What the rule is used at, and the number behind the names that are taken for it.
 abbrev pub root_of : ℕ → Ruling → Ex → Ex
@@ -110,6 +119,7 @@ abbrev pub behind_ruling : ℕ → Ruling → Ex → ℕ
 behind_ruling j (plainly r) a = behind_names j r a
 behind_ruling j (by_kind r) a = j
 behind_ruling j gathering a = j
+behind_ruling j (in_order r) a = j
 
 -- One of the rules makes b of a, where names have the types g, with reserved names from the n-th on and none from the m-th on.
 pub record IsRuled (n : ℕ) (g : Names Ty) (a b : Ex) (m : ℕ) : Type 0 where

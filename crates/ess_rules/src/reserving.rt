@@ -54,10 +54,14 @@ pub(crate) fn component_count(node: &Node) -> u64 {
 
 /// That of a word of a comprehension, else the most that the root or one of its operands wants that picks.
 fn count_among(node: &Node, operands: &[Node]) -> u64 {
-    if let Some(Node::Comp(_, gens)) = operands.first() {
-        return count_in(gens.as_slice());
-    }
-    let mut most = if picks(node) { count_picked(node) } else { 0 };
+    let mut most = if picks(node) {
+        count_picked(node)
+    } else {
+        if let Some(Node::Comp(_, gens)) = operands.first() {
+            return count_in(gens.as_slice());
+        }
+        0
+    };
     for operand in operands {
         if picks(operand) {
             let count = count_picked(operand);

@@ -1,6 +1,6 @@
 //! Rules that ask more than the root: guards, index domains of matrices, what sources offer.
 ghost use Rattle.std.specs.Prelude.{◌≡◌, IfOk, None, option_map, if◌then◌else◌};
-ghost use Rattle.ess_core_nodes.specs.NodeViews.{pure_node};
+ghost use Rattle.ess_core_nodes.specs.NodeViews.{pure_node, pure_dom};
 ghost use Rattle.ess_node_types.specs.TypedNames.{pure_names};
 ghost use Rattle.ess_rules_laws.specs.InclusionRules.{unequal as told_unequal};
 ghost use Rattle.ess_rules_laws.specs.LiteralRules.{different_listed as listed_apart};
@@ -8,9 +8,9 @@ ghost use Rattle.ess_rules_laws.specs.ListRules.{different_term as items_apart};
 ghost use Rattle.ess_refine_laws.specs.AllRules.{compares_compound as is_compound, tells_scalars_apart as are_scalars};
 ghost use Rattle.ess_refine_laws.specs.AllRules.{matrices_at, source_listed as in_source};
 ghost use Rattle.ess_rules_opened.specs.Supplies.{taken_supply};
-ghost use Rattle.ess_rules.specs.Ruled.{both_told};
+ghost use Rattle.ess_rules.specs.Ruled.{both_told, axis_asked as told_where_asked};
 
-use ess_core_nodes::Node;
+use ess_core_nodes::{Node, NodeDom};
 use ess_guard_forms::index_dom;
 use ess_node_types::NameTypes;
 use ess_rows::{Boxed, NoMemory};
@@ -18,7 +18,7 @@ use ess_rules_comparing::{compares_compound, equal_matrices, unequal};
 use ess_rules_forms::truth_pair;
 use ess_rules_listings::source_listed;
 use ess_rules_lists::{different_listed, different_term};
-use ess_rules_opened::Taken;
+use ess_rules_opened::{Taken, has_no_source};
 use ess_rules_sizes::tells_scalars_apart;
 use ess_rules_sources::OnceNames;
 use std::alloc::Global;
@@ -88,11 +88,11 @@ pub(crate) fn equal_matrices_at(
     match truth_pair(node) {
         None => Ok(None),
         Some((_, (a, b))) => {
-            let first = index_dom(alloc, a)?;
+            let first = axis_asked(alloc, a)?;
             let Some(first) = first else {
                 return Ok(None);
             };
-            let second = index_dom(alloc, b)?;
+            let second = axis_asked(alloc, b)?;
             let Some(second) = second else {
                 return Ok(None);
             };
@@ -106,6 +106,17 @@ pub(crate) fn equal_matrices_at(
                 node,
             )
         }
+    }
+}
+
+/// The index domain that the form of a term tells, where it may be asked for.
+fn axis_asked(alloc: Global, node: &Node) -> Result<Option<Boxed<NodeDom>>, NoMemory>
+    ensures { IfOk result (λ o. option_map pure_dom o ≡ told_where_asked (pure_node node.now)) }
+{
+    if has_no_source(node) {
+        index_dom(alloc, node)
+    } else {
+        Ok(None)
     }
 }
 

@@ -1,0 +1,27 @@
+-- Each rule of comprehensions whose items have an order that fires is one of all rules.
+use Rattle.std.proofs.Common.{◌≡◌, refl, sym, ap, ◌∙◌, Option, Some}
+use Rattle.std.specs.Prelude.{option_map}
+use Rattle.ess_semantics.specs.Names.{Names}
+use Rattle.ess_semantics.specs.Trees.{Ex}
+use Rattle.ess_semantics.specs.Types.{Ty}
+use Rattle.ess_core_nodes.specs.declared.nodes.Node.{Node}
+use Rattle.ess_core_nodes.specs.NodeViews.{pure_node}
+use Rattle.ess_refine_laws.specs.AllRules.{Supply}
+use Rattle.ess_ordered_laws.specs.IndexedSources.{indexed_behind}
+use Rattle.ess_ordered_laws.specs.OrderedRules.{OrderedRule, source_by_indices, ordered_rewrite}
+use Rattle.ess_rules_ordered.specs.Supplies.{supply_with}
+use Rattle.ess_rules_ordered.proofs.SuppliesAlike.{takes-three}
+use Rattle.ess_rules.specs.Ruled.{in_order}
+use Rattle.ess_rules.specs.Supplies.{IsRewritten}
+
+-- One that takes three parts of the supply.
+pub ruled_in_order : (s : Supply) (g : Names Ty) (r : OrderedRule) (a : Ex) (o : Option Node) (x : Node)
+    → option_map pure_node o ≡ ordered_rewrite (supply_with s.one s.third s.parts) g r a → o ≡ Some x
+    → IsRewritten s g a (Some (pure_node x))
+ruled_in_order s g r a o x h e =
+    (in_order r, sym (h ∙ takes-three s g r a) ∙ ap (option_map pure_node) e, λ j. refl, tt, refl)
+
+-- That of sources, which takes one.
+pub ruled_by_indices : (s : Supply) (g : Names Ty) (a : Ex) (o : Option Node) (x : Node)
+    → option_map pure_node o ≡ indexed_behind g s.one a → o ≡ Some x → IsRewritten s g a (Some (pure_node x))
+ruled_by_indices s g a o x h e = (in_order source_by_indices, sym h ∙ ap (option_map pure_node) e, λ j. refl, tt, refl)

@@ -1,0 +1,8 @@
+-- Items by number: by what is picked within, the generators and the domain
+pub mod NumberedForms
+-- Terms by their indices, and their comprehensions
+pub mod IndexedForms
+-- What counts of a supply
+pub mod SuppliesAlike
+-- Worked examples
+mod ExamplesOrdered

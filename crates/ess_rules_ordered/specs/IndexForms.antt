@@ -1,0 +1,17 @@
+-- Whether cells pick an item, by the operands; and the type of the items of a matrix.
+use Rattle.std.specs.Prelude.{Bool, false, ◌||◌, Option, Some, None}
+use Rattle.ess_semantics.specs.Occurrences.{has_cells}
+use Rattle.ess_semantics.specs.Values.{a_matrix}
+use Rattle.ess_semantics.specs.Trees.{Exs, no_exs, more_exs}
+use Rattle.ess_semantics.specs.Types.{Ty, compound2}
+use Rattle.ess_ordered_laws.specs.IndexedSources.{has_open_index}
+
+-- Whether cells pick an item of a matrix, by the matrix and the index.
+abbrev pub open_at : Exs → Bool
+open_at (more_exs m (more_exs i no_exs)) = has_cells i || has_open_index m
+open_at es = false
+
+-- The type of the items of a matrix.
+abbrev pub item_of_matrix : Option Ty → Option Ty
+item_of_matrix (Some (compound2 a_matrix i t)) = Some t
+item_of_matrix t = None

@@ -1,0 +1,6 @@
+-- Items of matrices, and indices that read cells
+pub mod IndexForms
+-- Names over a domain
+pub mod AloneForms
+-- What the rules take
+pub mod Supplies
