@@ -94,6 +94,7 @@ total-arguments r ms es d c env j =
     let h = subst (Roomy (repr ReprKind.Function1D (more_reprs r no_reprs))) (sym o.whole) (room ReprKind.Function1D r ms es d c env j) in
     (o.first, o.from, h.0)
 
+-- The arguments of a function with flags.
 pub flagged-arguments : (r : Repr) (ms : List Mark) (es : Exs) (d c : Dom) (env : Env) →
     (j : JudgedSeen (repr ReprKind.Function1DPartial (more_reprs r no_reprs)) (function_dom ms es d c) env) → AtomsThere d env
 flagged-arguments r ms es d c env j =

@@ -22,24 +22,29 @@ module _ (x : Text) (ms : List Mark) (es : Exs) (d : Dom) (js : Exs) where
   abbrev pub place : Exs
   place = put_last js (name_ex x)
 
+  -- The members that occur.
   abbrev pub of_occurrences : Text → Alternative
   of_occurrences n = record { gens = over (name_pat x) d (cond (cell_ex true n place) no_gens); item = name_ex x }
 
+  -- The view in each slot, all in use.
   abbrev pub of_all : Repr → List Text → Alternative
   of_all r ns = record { gens = over (name_pat x) (slots_dom slots) no_gens; item = seen_ex r d ns place }
 
+  -- In each slot up to the marker.
   abbrev pub of_marked : Repr → Text → List Text → Alternative
   of_marked r m ns = record {
     gens = over (name_pat x) (slots_dom slots) (cond (ex2 true Op2.Le (name_ex x) (cell_ex false m js)) no_gens);
     item = seen_ex r d ns place;
   }
 
+  -- In each slot whose flag is true.
   abbrev pub of_flagged : Repr → Text → List Text → Alternative
   of_flagged r m ns = record {
     gens = over (name_pat x) (slots_dom slots) (cond (cell_ex true m place) no_gens);
     item = seen_ex r d ns place;
   }
 
+  -- In each slot without the dummy.
   abbrev pub of_dummies : Text → Alternative
   of_dummies t = record {
     gens = over (name_pat x) (slots_dom slots) (cond (ex2 true Op2.Ne (cell_ex false t place) (dummy_ex d)) no_gens);

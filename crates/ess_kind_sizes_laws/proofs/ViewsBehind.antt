@@ -26,6 +26,7 @@ module _ (u b : Text → Bool) where
   abbrev pub Named : Ex → Type 0
   Named e = NamesAre u b e
 
+  -- Names of domains.
   abbrev pub NamedDom : Dom → Type 0
   NamedDom d = NamesAreDom u b d
 
@@ -96,15 +97,19 @@ module _ (v s b : Text → Bool) (x y : Text) where
   pub put-scope : (a : Text) → IsTrue (s a) → IsTrue (put s x y a)
   put-scope a h = or-left (s a || same_text y a) (same_text x a) (or-left (s a) (same_text y a) h)
 
+  -- The new name may be put.
   pub put-new : IsTrue (put s x y x)
   put-new = or-right (s x || same_text y x) (same_text x x) (same_text-itself x)
 
+  -- So may y.
   pub put-name : IsTrue (put s x y y)
   put-name = or-left (s y || same_text y y) (same_text x y) (or-right (s y) (same_text y y) (same_text-itself y))
 
+  -- The new name is taken.
   pub taken-new : IsTrue (taken b x x)
   taken-new = or-right (b x) (same_text x x) (same_text-itself x)
 
+  -- So is what the view's domain binds.
   pub taken-within : (a : Text) → IsTrue (b a) → IsTrue (taken b x a)
   taken-within a h = or-left (b a) (same_text x a) h
 
@@ -191,6 +196,7 @@ pub some-of : {A : Type 0} (o : Option A) (P : A → Type 0) (a : A) → OfSome 
 some-of (Some c) P a h q = subst (λ r. OfSome r P) q h
 some-of None P a h q = cc
 
+-- Bound names are apart.
 pub listings-of-sets-are-apart : ListingsOfSetsAreApart
 listings-of-sets-are-apart v s b x y z zs (seen_ex (repr k rs) (set_dom ms es d) ns js) e hs a q i h =
     some-of (listing_of k x z zs (seen_ex (repr k rs) (set_dom ms es d) ns js))

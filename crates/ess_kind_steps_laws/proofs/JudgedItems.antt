@@ -162,6 +162,7 @@ module _ (x : Text) (v : Value) (ms : List Mark) (es : Exs) (d : Dom) (env : Env
         (dummy-fits d (has_dummy d) refl w.fit) j;
   }
 
+-- Items are judged.
 pub items-of-sets-are-judged : ItemsOfSetsAreJudged
 items-of-sets-are-judged x y zs (seen_ex (repr k rs) (set_dom ms es d) ns js) a q i u env j v =
     some-of (listing_of k x y zs (seen_ex (repr k rs) (set_dom ms es d) ns js)) (Item x v ms es d env u.0.1 k rs ns) a

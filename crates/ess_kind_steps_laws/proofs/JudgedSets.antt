@@ -78,6 +78,7 @@ pub record SetDenoted (r : Repr) (ms : List Mark) (es : Exs) (d : Dom) (env : En
   pub part : domain_of d env ≡ Some inner
   pub ready : Ready env names differ size_terms r (set_dom ms es d) (sets keys inner)
 
+-- It is there where the view is judged.
 pub set-denoted : (r : Repr) (ms : List Mark) (es : Exs) (d : Dom) (env : Env) (j : JudgedSeen r (set_dom ms es d) env) →
     SetDenoted r ms es d env j.names j.differ
 set-denoted r ms es d env j =
@@ -99,6 +100,7 @@ pub record AtomsThere (d : Dom) (env : Env) : Type 0 where
   pub listed : members inner ≡ Some (member_list inner)
   pub held : list_all (member inner) (member_list inner) ≡ true
 
+-- So it is of a set of a judged domain.
 pub atoms-there : (ms : List Mark) (es : Exs) (d : Dom) (env : Env) → JudgedSeen (repr ReprKind.Occurrence no_reprs) (set_dom ms es d) env →
     AtomsThere d env
 atoms-there ms es d env j =

@@ -86,6 +86,7 @@ module _ (g : Names Ty) where
     root-is i v q =
         let r = one-is (type_of (comp_ex e (from (name_pat y) t hs)) g) (type_of_op (word f)) v q in fold-gives m f i r.0 v r.2
 
+    -- The fold with what is offered has its type.
     pub one-put : (a : Alternative) → PutFits g y t e hs a → KeepsType g Root (fun1 m f (put_listed y e hs a))
     one-put a h = fold-kept m f (comp_ex e (from (name_pat y) t hs)) (put_listed y e hs a) (listed-type g y t e hs a h)
 

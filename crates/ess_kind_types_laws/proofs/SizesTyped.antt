@@ -21,6 +21,7 @@ module _ (g : Names Ty) where
   abbrev pub Int : Ex → Type 0
   Int e = type_of e g ≡ Some int_ty
 
+  -- Nothing of domains.
   abbrev pub AnyDom : Dom → Type 0
   AnyDom d = Unit {0}
 
@@ -93,6 +94,7 @@ module _ (g : Names Ty) where
     pub int : Int e
     pub marks : HasMarks e g
 
+  -- A domain that has marks.
   abbrev pub MarkedDom : Dom → Type 0
   MarkedDom d = DomHasMarks d g
 
@@ -166,6 +168,7 @@ module _ (g : Names Ty) where
       let m : MarkedInt (slots_ex (set_dom ms es d)) =
       set-slots-have MarkedInt MarkedDom sizes-marked ms es d (each-marked es h.0 k.0) (numbers-marked d h.1 k.1) in m.marks
 
+  -- And so has a dummy.
   pub dummy-marked : (d : Dom) → IntsIn g d → DomHasMarks d g → HasMarks (dummy_ex d) g
   dummy-marked d h k =
       let m : MarkedInt (dummy_ex d) = dummy-has MarkedInt MarkedDom sizes-marked d (numbers-marked d h k) in m.marks

@@ -3,30 +3,29 @@
 use Rattle.std.specs.Prelude.{IsTrue, is_some}
 use Rattle.std.specs.declared.cmp.Ordering.{Ordering}
 use Rattle.std.specs.declared.cmp.Ordering.TheVariants.{Less, Equal, Greater}
-use Rattle.std.proofs.Common.{◌≡◌, refl, sym, ap, ◌∙◌, subst, Bool, true, false, ◌&&◌, if◌then◌else◌, List, [], ◌∷◌, ℤ, pos, Option, Some, None, option_map}
+use Rattle.std.proofs.Common.{◌≡◌, refl, ap, ◌∙◌, Bool, true, false, ◌&&◌, if◌then◌else◌, List, [], ◌∷◌, ℤ, pos, Option, Some, None, option_map}
 use Rattle.ess_semantics.specs.declared.words.Op2.{Op2}
 use Rattle.ess_semantics.specs.declared.words.Fun.{Fun}
 use Rattle.ess_semantics.specs.declared.words.Key.{Key}
 use Rattle.ess_semantics.specs.Lists.{and_then, or_else}
 use Rattle.ess_semantics.specs.Values.{Value, number, truth, item, node}
-use Rattle.ess_semantics.specs.Order.{below}
 use Rattle.ess_semantics.specs.Kinds.{is_bounded}
-use Rattle.ess_semantics.specs.Domains.{Span, Domain, Domains, integers, tuples, records, matrices, sets, msets, functions, relations, partitions, more_domains}
+use Rattle.ess_semantics.specs.Domains.{Domain, Domains, tuples, records, matrices, sets, msets, functions, relations, partitions, more_domains}
 use Rattle.ess_semantics.specs.Membership.{no_negative_attribute, each_layer_of_all}
 use Rattle.ess_semantics.specs.Operators.{false_where_undefined, value_of_node, list_value}
 use Rattle.ess_semantics.specs.Sizes.{bound}
-use Rattle.ess_semantics.specs.Trees.{binary, word, matrix_literal, Ends, one_value, both_ends, low_end, high_end, Mark, name_pat, Ex, Exs, no_exs, more_exs, no_gens, over, Dom, Doms, bool_dom, int_dom, name_dom, tuple_dom, record_dom, matrix_dom, set_dom, mset_dom, function_dom, relation_dom, partition_dom, no_doms, more_doms, ex2}
+use Rattle.ess_semantics.specs.Trees.{binary, word, matrix_literal, Ends, one_value, both_ends, Mark, name_pat, Ex, Exs, no_exs, more_exs, no_gens, over, Dom, Doms, bool_dom, int_dom, name_dom, tuple_dom, record_dom, matrix_dom, set_dom, mset_dom, function_dom, relation_dom, partition_dom, no_doms, more_doms}
 use Rattle.ess_semantics.specs.Contexts.{Each, EachOf}
-use Rattle.ess_semantics.specs.Meaning.{Env, as_int, meaning, meanings, items_under, spans_of, attributes_of, domain_of, domains_of, members_in}
+use Rattle.ess_semantics.specs.Meaning.{Env, as_int, meaning, meanings, items_under, attributes_of, domain_of, domains_of, members_in}
 use Rattle.ess_semantics.proofs.Tests.{and-left, and-right}
 use Rattle.ess_repr_declare_laws.specs.SizeTerms.{zero_ex, one_ex, two_ex, plus_ex, minus_ex, times_ex, power_ex, next_ex, at_least_0_ex, unused_name, listed_ex, is_numeral, numerals_order, span_ex, span_by, is_missing, bound_or_0, count_ex, number_of, greatest_size_of, occurrences_ex, bound_ex, product_ex, product_behind, slots_ex, dummy_ex}
 use Rattle.ess_repr_declare_laws.proofs.Readings.{Reads}
 use Rattle.ess_repr_declare_laws.proofs.SizeNumbers.{mapped, chained, not_below}
-use Rattle.ess_repr_declare_laws.proofs.IntSizes.{count-reads, name-reads}
+use Rattle.ess_repr_declare_laws.proofs.IntSizes.{name-reads}
 use Rattle.ess_repr_declare_laws.proofs.SizeMeaning.{Plain, AllPlain, bound-is}
 use Rattle.ess_values_along_laws.specs.Valued.{Valued, AllValued, DomValued, DomsValued}
 use Rattle.ess_values_along_laws.proofs.ValuesAlong.{values-along}
-use Rattle.ess_kind_sizes_laws.proofs.SizesHave.{AllHave, MayHave, number-has, else-has, default-has, greatest-has}
+use Rattle.ess_kind_sizes_laws.proofs.SizesHave.{AllHave, number-has, else-has, default-has, greatest-has}
 
 -- ---- values that are there
 
