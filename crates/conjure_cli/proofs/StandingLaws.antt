@@ -5,8 +5,8 @@ use Rattle.ess_io.specs.Trees.{Tree, file_at, with_file}
 use Rattle.conjure_cli_laws.specs.Laws.{StandsForText}
 use Rattle.conjure_laws.specs.ModelsOfSets.{no_options}
 use Rattle.conjure_standing_laws.specs.Standing.{StandsForListed}
-use Rattle.conjure_standing_laws.proofs.FlatTexts.{written-models-of-scalars-stand}
 use Rattle.conjure_standing_laws.proofs.MemberTexts.{written-models-of-sets-stand}
+use Rattle.conjure_standing_laws.proofs.MixedTexts.{written-mixed-models-stand}
 use Rattle.conjure_cli.specs.Whole.{IsModelFor}
 use Rattle.conjure_cli_laws.proofs.WrittenModels.{written-stands}
 use Rattle.conjure_cli.specs.Seen.{FilesSeen, SinkSeen, ReadGives, limit}
@@ -66,18 +66,20 @@ small_stands text model w = record {
   exact = w.exact;
 }
 
+-- The limit of a text is small.
+fewer : (n : ℕ) → n ≤ 16777217 → n < 2 ^ 63
+fewer n few = omega arith
+
 -- The model of a text of the classes stands for it.
 text_stands : (list : Option (List ℕ)) (text model : List ℕ) → length text ≤ limit + 1 → IsProvedClass list text
     → IsModelFor list text model → StandsForListed list text model
 text_stands list text model few class (inl small) =
     subst (λ l. StandsForListed l text model) (sym small.0) (small_stands text model (written-stands text model small.1))
 text_stands list text model few (inl small) (inr other) = absurd (other.0 small)
-text_stands list text model few (inr (inl flat)) (inr other) = written-models-of-scalars-stand text list model other.1 flat
+text_stands list text model few (inr (inl mixed)) (inr other) =
+    written-mixed-models-stand text list model (fewer (length text) few) other.1 mixed
 text_stands list text model few (inr (inr member)) (inr other) =
     written-models-of-sets-stand text list model (fewer (length text) few) other.1 member
-  where
-    fewer : (n : ℕ) → n ≤ 16777217 → n < 2 ^ 63
-    fewer n few = omega arith
 
 -- So the model that is there stands.
 there_stands : (list : Option (List ℕ)) (file place : List ℕ) (before after : FilesSeen)

@@ -1,19 +1,20 @@
 -- What the model at its place is worth: where the work is done, it stands for the specification that was read.
 use Rattle.std.specs.Prelude.{◌≡◌, ℕ, ◌⊎◌, List, Option, Some}
 use Rattle.ess_io.specs.Trees.{with_file}
-use Rattle.conjure_standing_laws.specs.Standing.{StandsForListed, IsFlatText}
+use Rattle.conjure_standing_laws.specs.Standing.{StandsForListed}
 use Rattle.conjure_standing_laws.specs.MemberTexts.{IsMemberText}
+use Rattle.conjure_standing_laws.specs.MixedTexts.{IsMixedText}
 use Rattle.conjure_cli.specs.Seen.{FilesSeen, ReadGives}
 use Rattle.conjure_cli.specs.Whole.{IsSmallWay, IsModelFor}
 use Rattle.conjure_cli.specs.Tasks.{Task, refine}
 
 -- The text is of a class of which it is proved that its model is right: a text of the small grammar without a list of representations; or,
--- with or without a list, a specification whose givens and finds are truth values or numbers and whose conditions and constraints are flat
--- and total (`is_flat_specification`), with the lines of its header within the limit of load; or, with or without a list, a specification
--- whose finds are sets of numbers of a range, of truth values or of values of a type, each kept by which members occur, and whose
--- constraints say that a value is in a find (`spec`).
+-- with or without a list, a specification of scalars and sets side by side (`is_mixed_specification`): its givens are truth values or
+-- numbers, its finds these, or sets of numbers of a range, of truth values or of values of a type, each kept by which members occur, and
+-- its conditions, constraints and objective are flat and total over the scalars, or say that a value is in a find; or, with or without a
+-- list, a specification of such sets and memberships alone (`spec`).
 abbrev pub IsProvedClass : Option (List ℕ) → List ℕ → Type 0
-IsProvedClass list text = IsSmallWay list text ⊎ (IsFlatText list text ⊎ IsMemberText list text)
+IsProvedClass list text = IsSmallWay list text ⊎ (IsMixedText list text ⊎ IsMemberText list text)
 
 -- Where a file of these classes is refined and the tree is told, the place holds a text that is a model with its header by the rules: for the
 -- specification that the file's text is by the rules, with the representations that the list names and else the defaults, it is a right

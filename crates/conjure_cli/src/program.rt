@@ -181,9 +181,9 @@ pub fn run<F: Files, O: Sink, E: Sink>(
         (sink_at (O.bytes out.old) (O.faults out.old)) (sink_at (O.bytes out.new) (O.faults out.new))
         (sink_at (E.bytes err.old) (E.faults err.old)) (sink_at (E.bytes err.new) (E.faults err.new)) }
 
-    // Where a model of a text of the small grammar without a list is written, or that of a specification of scalars with flat and total
-    // constraints, or of sets of atoms with memberships, it is one of the specification that was read, and each solution has exactly one
-    // assignment.
+    // Where a model of a text of the small grammar without a list is written, or that of a specification of scalars and sets of atoms,
+    // each constraint flat and total over the scalars or a membership, it is one of the specification that was read, and each solution
+    // has exactly one assignment.
     ensures stands { result.0 ≡ 0 → ModelStands (asked (map string_bytes words.now))
         (files_at (F.tree files.old) (F.faults files.old) (F.misses files.old))
         (files_at (F.tree files.new) (F.faults files.new) (F.misses files.new)) }
