@@ -1,4 +1,4 @@
-//! What is written for a text of a specification of scalars with flat and total constraints is a right model of it.
+//! What is written for a text of scalars and sets of atoms, with constraints that are flat and total or memberships, is right.
 #![tactic(auto)]
 
 pub mod laws;
