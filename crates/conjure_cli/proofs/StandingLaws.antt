@@ -1,5 +1,5 @@
 -- Where the work is done the model that is left stands for the specification.
-use Rattle.std.proofs.Common.{◌≡◌, refl, sym, ◌∙◌, subst, inl, inr, ℕ, zero, suc, ◌<◌, ◌≤◌, ◌^◌, List, [], ◌∷◌, length, take, arith, Bool, Option, Some, None, option_map}
+use Rattle.std.proofs.Common.{◌≡◌, refl, sym, ◌∙◌, subst, inl, inr, ℕ, List, take, arith, Bool, Option, Some, None, option_map}
 use Rattle.std.specs.Prelude.{IsSomeAnd, ◌+◌}
 use Rattle.ess_io.specs.Trees.{Tree, file_at, with_file}
 use Rattle.conjure_cli_laws.specs.Laws.{StandsForText}
@@ -19,25 +19,16 @@ use Rattle.conjure_cli.specs.declared.ending.Ending.{Ending}
 use Rattle.conjure_cli.specs.declared.ending.Ending.TheVariants.{Done, Usage, Missing, Unreadable, TooLong, NotYet, Unwritable, OutputFailed, NoMemory}
 use Rattle.conjure_cli.specs.declared.outcome.Outcome.{Outcome}
 
--- at most so many bytes are taken
-take_few : (count : ℕ) (bytes : List ℕ) → length (take count bytes) ≤ count
-take_few zero bytes = omega arith
-take_few (suc count) [] = omega arith
-take_few (suc count) (byte ∷ bytes) = further (length (take count bytes)) (take_few count bytes)
-  where
-    further : (n : ℕ) → n ≤ count → suc n ≤ suc count
-    further n few = omega arith
-
--- what holds of a text that is read holds still where it follows; at most one byte more than the limit is read
-read_follows : (tree : Option Tree) (file : List ℕ) (P Q : List ℕ → Type 0)
-    → ((text : List ℕ) → length text ≤ limit + 1 → P text → Q text) → ReadGives tree file P → ReadGives tree file Q
+-- what holds of a text that is read holds still where it follows
+read_follows : (tree : Option Tree) (file : List ℕ) (P Q : List ℕ → Type 0) → ((text : List ℕ) → P text → Q text)
+    → ReadGives tree file P → ReadGives tree file Q
 read_follows None file P Q follows given = tt
 read_follows (Some files) file P Q follows given = known (file_at files file) given
   where
     known : (whole : Option (List ℕ)) → IsSomeAnd (option_map (take (limit + 1)) whole) P
         → IsSomeAnd (option_map (take (limit + 1)) whole) Q
     known None given = absurd given
-    known (Some bytes) given = follows (take (limit + 1) bytes) (take_few (limit + 1) bytes) given
+    known (Some bytes) given = follows (take (limit + 1) bytes) given
 
 -- the ending of a run that is done leaves a model, which stands for a text of the small grammar
 done_is_there : (ending : Ending) (list : Option (List ℕ)) (file place : List ℕ) (before after : FilesSeen) → status_of ending ≡ 0
@@ -66,20 +57,14 @@ small_stands text model w = record {
   exact = w.exact;
 }
 
--- The limit of a text is small.
-fewer : (n : ℕ) → n ≤ 16777217 → n < 2 ^ 63
-fewer n few = omega arith
-
 -- The model of a text of the classes stands for it.
-text_stands : (list : Option (List ℕ)) (text model : List ℕ) → length text ≤ limit + 1 → IsProvedClass list text
-    → IsModelFor list text model → StandsForListed list text model
-text_stands list text model few class (inl small) =
+text_stands : (list : Option (List ℕ)) (text model : List ℕ) → IsProvedClass list text → IsModelFor list text model
+    → StandsForListed list text model
+text_stands list text model class (inl small) =
     subst (λ l. StandsForListed l text model) (sym small.0) (small_stands text model (written-stands text model small.1))
-text_stands list text model few (inl small) (inr other) = absurd (other.0 small)
-text_stands list text model few (inr (inl mixed)) (inr other) =
-    written-mixed-models-stand text list model (fewer (length text) few) other.1 mixed
-text_stands list text model few (inr (inr member)) (inr other) =
-    written-models-of-sets-stand text list model (fewer (length text) few) other.1 member
+text_stands list text model (inl small) (inr other) = absurd (other.0 small)
+text_stands list text model (inr (inl mixed)) (inr other) = written-mixed-models-stand text list model other.1 mixed
+text_stands list text model (inr (inr member)) (inr other) = written-models-of-sets-stand text list model other.1 member
 
 -- So the model that is there stands.
 there_stands : (list : Option (List ℕ)) (file place : List ℕ) (before after : FilesSeen)
@@ -88,7 +73,7 @@ there_stands : (list : Option (List ℕ)) (file place : List ℕ) (before after 
 there_stands list file place before after there =
     read_follows before.tree file (λ text. (model : List ℕ) × IsModelFor list text model × (after.tree ≡ with_file before.tree place model))
     (λ text. IsProvedClass list text → (model : List ℕ) × StandsForListed list text model × (after.tree ≡ with_file before.tree place model))
-    (λ text few g class. (g.0, text_stands list text g.0 few class g.1, g.2)) there
+    (λ text g class. (g.0, text_stands list text g.0 class g.1, g.2)) there
 
 -- So it is with each run that ends with status 0.
 pub model_is_there : (outcome : Outcome) (status : ℕ) (task : Option Task) (takes : Bool) (before after : FilesSeen) (o o' e e' : SinkSeen)

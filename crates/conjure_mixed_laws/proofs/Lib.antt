@@ -3,8 +3,15 @@ pub mod ShownPlans
 pub mod ShownStill
 pub mod ShownPlaces
 pub mod ShownNames
+pub mod ShownNext
+-- Plans of nested sets
+pub mod NestedFacts
 -- Trees and declarations
 pub mod MixedTrees
 -- What is built
 pub mod MixedTables
+pub mod NestedBuilt
+pub mod RangedBuilt
 pub mod BuiltMixed
+-- The law
+pub mod MixedLaws

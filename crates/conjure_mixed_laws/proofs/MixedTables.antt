@@ -1,5 +1,5 @@
 -- The tables that a specification of the class declares are written as they are.
-use Rattle.std.proofs.Common.{◌≡◌, refl, sym, ap, ◌∙◌, subst, ℕ, true, List, [], ◌∷◌, ◌++◌, inl, inr, map, pos, Some, None}
+use Rattle.std.proofs.Common.{◌≡◌, refl, sym, ap, ◌∙◌, subst, ℕ, Bool, true, false, List, [], ◌∷◌, ◌++◌, inl, inr, map, pos, Some, None}
 use Rattle.ess_semantics.specs.Lists.{append_all}
 use Rattle.ess_semantics.specs.Values.{Text}
 use Rattle.ess_semantics.specs.Trees.{both_ends, low_end, Ex, number_ex, no_exs, more_exs, Dom, bool_dom, int_dom, Stm}
@@ -7,11 +7,15 @@ use Rattle.ess_semantics.specs.Contexts.{Each}
 use Rattle.ess_semantics.specs.DeclaredTables.{TableDecl}
 use Rattle.ess_semantics.specs.Prepared.{prepared}
 use Rattle.ess_semantics.specs.Judgements.{fault}
-use Rattle.ess_semantics.specs.Plans.{Options, Side, Plan, value_plan, plans}
+use Rattle.ess_semantics.specs.Names.{keys}
+use Rattle.ess_semantics.specs.TableNames.{table_names, named_tables}
+use Rattle.ess_semantics.specs.Plans.{Options, Side, givens_side, finds_side, same_side, Plan, value_plan, side_of, plans, plans_for}
 use Rattle.ess_grammar.specs.Models.{Scope}
 use Rattle.ess_repr_declare_laws.specs.DeclaredTrees.{axis_dom}
 use Rattle.conjure_laws.specs.Members.{In}
+use Rattle.conjure_laws.specs.Premises.{is_on}
 use Rattle.conjure_laws.specs.SideBySide.{Along}
+use Rattle.conjure_laws.proofs.Lists.{all-items, in-filter}
 use Rattle.conjure_model_laws.specs.Shown.{Shows, shows_of}
 use Rattle.conjure_model_laws.specs.IsBuiltFrom.{declared_of, taken_names}
 use Rattle.ess_flat_models_laws.specs.FlatModels.{decl_of}
@@ -22,12 +26,14 @@ use Rattle.ess_declared_written.specs.DeclarationsWritten.{BoundComes, DomIsWrit
 use Rattle.ess_declared_written.specs.Coming.{DeclsAreWritten, none_written, one_written}
 use Rattle.conjure_flat_laws.proofs.BuiltParts.{decls-written}
 use Rattle.conjure_member_laws.proofs.MemberChains.{comes-bound}
-use Rattle.ess_mixed_models_laws.specs.MixedSpecifications.{kinds, are_mixed_statements, types_come_first, have_bounds}
-use Rattle.ess_mixed_models_laws.specs.MixedModels.{mixed_decl, axis_of}
-use Rattle.ess_mixed_models_laws.proofs.MixedPlans.{PlanFact, size_fact, atom_fact, set_fact}
+use Rattle.ess_mixed_models_laws.specs.MixedSpecifications.{kinds, is_nested_plan, are_mixed_statements, types_come_first, have_bounds}
+use Rattle.ess_mixed_models_laws.specs.MixedModels.{mixed_decl, nested_decls, mixed_decls, axis_of}
+use Rattle.ess_mixed_models_laws.proofs.MixedPlans.{PlanFact, size_fact, atom_fact, set_fact, nested_fact, some-facts, atom-single, set-single}
+use Rattle.ess_mixed_models_laws.proofs.MixedCells.{single-decls, nested-decls, given-single}
+use Rattle.conjure_nested_laws.proofs.NestedTables.{nested-tables-stay}
 use Rattle.ess_mixed_models_laws.proofs.ScalarCells.{cells, given-cells}
 use Rattle.ess_mixed_models_laws.proofs.MixedGivens.{plan-bounds}
-use Rattle.conjure_mixed_laws.proofs.MixedTrees.{axis-is, simple}
+use Rattle.conjure_mixed_laws.proofs.MixedTrees.{axis-is, simple, declared}
 
 -- ---- declarations
 
@@ -94,6 +100,9 @@ module _ (S : List Stm) (o : Options) (h : are_mixed_statements S o ≡ true) (f
   abbrev decl : Plan → TableDecl
   decl P = mixed_decl (kinds S) Ps P
 
+  abbrev decls_of : Plan → List TableDecl
+  decls_of P = mixed_decls (kinds S) Ps P
+
   module _ (add : Scope → TableDecl → Scope) where
     -- A cell is declared as it is.
     cell-written : (s : Scope) (P : Plan) → In P Ps → (w : AtomPlan P) → declared_of sh P ≡ decl P ∷ [] → (u : TableDecl) →
@@ -121,33 +130,91 @@ module _ (S : List Stm) (o : Options) (h : are_mixed_statements S o ≡ true) (f
         shape g x c n (inr e) = absurd e
 
     -- So is each table.
-    table-written : (s : Scope) (P : Plan) → In P Ps → PlanFact S o P → declared_of sh P ≡ decl P ∷ [] → (u : TableDecl) →
-        DeclIsWritten s taken sh.next (decl P) u → u ≡ decl P
-    table-written s P i (size_fact y n e) d u w = subst (λ P. DeclIsWritten s taken sh.next (decl P) u → u ≡ decl P) (sym e)
+    table-written : (s : Scope) (P : Plan) → In P Ps → PlanFact S o P → is_nested_plan (kinds S) P ≡ false → declared_of sh P ≡ decl P ∷ [] →
+        (u : TableDecl) → DeclIsWritten s taken sh.next (decl P) u → u ≡ decl P
+    table-written s P i (size_fact y n e) k d u w = subst (λ P. DeclIsWritten s taken sh.next (decl P) u → u ≡ decl P) (sym e)
         (λ w. ap (λ z. record { name = z; axes = u.axes; cell = u.cell }) (sym w.0)
         ∙ ap (λ z. record { name = n; axes = z; cell = u.cell }) (no-axes s taken sh.next u.axes w.1)
         ∙ ap (λ z. record { name = n; axes = []; cell = z }) (size-written s taken sh.next u.cell w.2)) w
-    table-written s P i (atom_fact a) d u w = cell-written s P i a d u w
-    table-written s P i (set_fact x A n e m) d u w = subst (λ P. DeclIsWritten s taken sh.next (decl P) u → u ≡ decl P) (sym e)
+    table-written s P i (atom_fact a) k d u w = cell-written s P i a d u w
+    table-written s P i (set_fact x A n e m a) k d u w = subst (λ P. DeclIsWritten s taken sh.next (decl P) u → u ≡ decl P) (sym e)
         (λ w. ap (λ z. record { name = z; axes = u.axes; cell = u.cell }) (sym w.0)
         ∙ ap (λ z. record { name = n; axes = z; cell = u.cell }) (one-axis s taken sh.next (axis_of S o A) u.axes (axis-is S o m) w.1)
         ∙ ap (λ z. record { name = n; axes = axis_dom (axis_of S o A) ∷ []; cell = z }) (truths-written s taken sh.next u.cell w.2)) w
+    table-written s P i (nested_fact x r d taken e n g y c) k v u w = let z : true ≡ false = sym y ∙ k in cc
 
-    one-by-one : (s : Scope) (D : TableDecl) (us : List TableDecl) (Qs : List Plan) (gs : List TableDecl) →
-        ((u : TableDecl) → DeclIsWritten s taken sh.next D u → u ≡ D) →
-        ((s : Scope) (gs : List TableDecl) → DeclsAreWritten add taken sh.next s us gs → gs ≡ map decl Qs) →
-        DeclsAreWritten add taken sh.next s (D ∷ us) gs → gs ≡ D ∷ map decl Qs
-    one-by-one s D us Qs gs p q (one_written {u = u} {us = vs} w v) = ap (λ z. z ∷ vs) (p u w) ∙ ap (λ l. D ∷ l) (q (add s u) vs v)
+    -- So are tables before others.
+    abbrev Behind : List TableDecl → List TableDecl → List TableDecl → Type 0
+    Behind ts us gs = (z : Scope) × (hs : List TableDecl) × (gs ≡ ts ++ hs) × DeclsAreWritten add taken sh.next z us hs
+
+    one-behind : (s : Scope) (D : TableDecl) (us gs : List TableDecl) → ((u : TableDecl) → DeclIsWritten s taken sh.next D u → u ≡ D) →
+        DeclsAreWritten add taken sh.next s (D ∷ us) gs → Behind (D ∷ []) us gs
+    one-behind s D us gs p (one_written {u = u} {us = vs} w v) = (add s u, vs, ap (λ z. z ∷ vs) (p u w), v)
 
     none-by-none : (s : Scope) (gs : List TableDecl) → DeclsAreWritten add taken sh.next s [] gs → gs ≡ []
     none-by-none s gs none_written = refl
 
+    -- The tables of each plan are written as they are.
+    plan-written : (s : Scope) (P : Plan) → In P Ps → PlanFact S o P → (us gs : List TableDecl) →
+        DeclsAreWritten add taken sh.next s (decls_of P ++ us) gs → Behind (decls_of P) us gs
+    plan-written s P i w us gs v = go (is_nested_plan (kinds S) P) refl
+      where
+        nested : (P : Plan) → PlanFact S o P → is_nested_plan (kinds S) P ≡ true →
+            DeclsAreWritten add taken sh.next s (nested_decls P ++ us) gs → Behind (nested_decls P) us gs
+        nested P (size_fact t n e) k = let z : false ≡ true = ap (is_nested_plan (kinds S)) (sym e) ∙ k in cc
+        nested P (atom_fact a) k =
+            let z : false ≡ true = sym (atom-single S o a.f a.x a.d a.n a.scalar) ∙ ap (is_nested_plan (kinds S)) (sym a.is) ∙ k in cc
+        nested P (set_fact x A n e m a) k =
+            let z : false ≡ true = sym (set-single S o x n m) ∙ ap (is_nested_plan (kinds S)) (sym e) ∙ k in cc
+        nested P (nested_fact x r d names e n g y c) k =
+            subst (λ P. DeclsAreWritten add taken sh.next s (nested_decls P ++ us) gs → Behind (nested_decls P) us gs) (sym e)
+            (nested-tables-stay add taken sh.next r d (keys (named_tables x (table_names r d) names)) n g us s gs)
+
+        go : (b : Bool) → is_nested_plan (kinds S) P ≡ b → Behind (decls_of P) us gs
+        go true k =
+            subst (λ l. DeclsAreWritten add taken sh.next s (l ++ us) gs → Behind l us gs) (sym (nested-decls S o P k)) (nested P w k) v
+        go false k =
+            subst (λ l. DeclsAreWritten add taken sh.next s (l ++ us) gs → Behind l us gs) (sym (single-decls S o P k))
+            (one-behind s (decl P) us gs (table-written s P i w k (declared S o h f ts bs P i w ∙ single-decls S o P k))) v
+
     -- The declarations that are written.
-    pub tables-written : (Qs : List Plan) → Each Qs (PlanFact S o) → ((P : Plan) → In P Qs → In P Ps) →
-        Each Qs (λ P. declared_of sh P ≡ decl P ∷ []) → (s : Scope) (gs : List TableDecl) →
-        DeclsAreWritten add taken sh.next s (append_all (map (declared_of sh) Qs)) gs → gs ≡ map decl Qs
-    tables-written [] w i d s gs v = none-by-none s gs v
-    tables-written (P ∷ Qs) w i d s gs v =
-        one-by-one s (decl P) (append_all (map (declared_of sh) Qs)) Qs gs (table-written s P (i P (inl refl)) w.0 d.0)
-        (tables-written Qs w.1 (λ Q j. i Q (inr j)) d.1)
-        (subst (λ l. DeclsAreWritten add taken sh.next s (l ++ append_all (map (declared_of sh) Qs)) gs) d.0 v)
+    pub tables-written : (Qs : List Plan) → Each Qs (PlanFact S o) → ((P : Plan) → In P Qs → In P Ps) → (s : Scope) (gs : List TableDecl) →
+        DeclsAreWritten add taken sh.next s (append_all (map (declared_of sh) Qs)) gs → gs ≡ append_all (map decls_of Qs)
+    tables-written [] w i s gs v = none-by-none s gs v
+    tables-written (P ∷ Qs) w i s gs v =
+        let r = plan-written s P (i P (inl refl)) w.0 (append_all (map (declared_of sh) Qs)) gs
+        (subst (λ l. DeclsAreWritten add taken sh.next s (l ++ append_all (map (declared_of sh) Qs)) gs)
+        (declared S o h f ts bs P (i P (inl refl)) w.0) v) in
+        r.2 ∙ ap (λ l. decls_of P ++ l) (tables-written Qs w.1 (λ Q j. i Q (inr j)) r.0 r.1 r.3)
+
+    side-is : (f : Side) → same_side f givens_side ≡ true → f ≡ givens_side
+    side-is givens_side e = refl
+    side-is finds_side e = cc
+
+    given-sides : Each (plans_for givens_side S o) (λ P. side_of P ≡ givens_side)
+    given-sides = all-items (λ P. side_of P ≡ givens_side) (plans_for givens_side S o)
+        (λ P i. side-is (side_of P) (in-filter (is_on givens_side) P Ps i).1)
+
+    singles : (Qs : List Plan) → Each Qs (PlanFact S o) → Each Qs (λ P. side_of P ≡ givens_side) →
+        append_all (map decls_of Qs) ≡ map decl Qs
+    singles [] w g = refl
+    singles (P ∷ Qs) w g =
+        ap (λ l. l ++ append_all (map decls_of Qs)) (single-decls S o P (given-single S o P w.0 g.0))
+        ∙ ap (λ l. decl P ∷ l) (singles Qs w.1 g.1)
+
+    -- Those of givens are single cells.
+    pub givens-written : (s : Scope) (gs : List TableDecl) →
+        DeclsAreWritten add taken sh.next s (append_all (map (declared_of sh) (plans_for givens_side S o))) gs →
+        gs ≡ map decl (plans_for givens_side S o)
+    givens-written s gs v =
+        tables-written (plans_for givens_side S o) (some-facts S o h (is_on givens_side))
+        (λ P i. (in-filter (is_on givens_side) P Ps i).0) s gs v
+        ∙ singles (plans_for givens_side S o) (some-facts S o h (is_on givens_side)) given-sides
+
+    -- Those of finds are those of their plans.
+    pub finds-written : (s : Scope) (gs : List TableDecl) →
+        DeclsAreWritten add taken sh.next s (append_all (map (declared_of sh) (plans_for finds_side S o))) gs →
+        gs ≡ append_all (map decls_of (plans_for finds_side S o))
+    finds-written s gs v =
+        tables-written (plans_for finds_side S o) (some-facts S o h (is_on finds_side))
+        (λ P i. (in-filter (is_on finds_side) P Ps i).0) s gs v

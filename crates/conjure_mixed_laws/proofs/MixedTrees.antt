@@ -4,14 +4,16 @@ use Rattle.std.proofs.Common.{◌≡◌, refl, sym, ap, ◌∙◌, subst, ℕ, B
 use Rattle.ess_semantics.specs.declared.words.Op2.{Op2}
 use Rattle.ess_semantics.specs.Lists.{append_all, or_default}
 use Rattle.ess_semantics.specs.Values.{Text}
-use Rattle.ess_semantics.specs.Names.{Names, look}
+use Rattle.ess_semantics.specs.Names.{Names, look, keys}
 use Rattle.ess_semantics.specs.Trees.{Ex, number_ex, truth_ex, name_ex, no_exs, Dom, set_dom, Stm, ex2}
 use Rattle.ess_semantics.specs.Contexts.{Each}
 use Rattle.ess_semantics.specs.ModelMeaning.{env_of_tables}
 use Rattle.ess_semantics.specs.Prepared.{prepared}
 use Rattle.ess_semantics.specs.Judgements.{fault}
 use Rattle.ess_semantics.specs.Solutions.{finds}
-use Rattle.ess_semantics.specs.Plans.{Options, Side, finds_side, Plan, value_plan, plans, plans_for, is_plan_of}
+use Rattle.ess_semantics.specs.DeclaredTables.{TableDecl}
+use Rattle.ess_semantics.specs.TableNames.{table_names, named_tables}
+use Rattle.ess_semantics.specs.Plans.{Options, finds_side, Plan, value_plan, chosen_reprs, plans, is_plan_of}
 use Rattle.ess_semantics.specs.Models.{with_cells}
 use Rattle.conjure_laws.specs.Members.{In}
 use Rattle.conjure_laws.specs.Premises.{is_on}
@@ -31,21 +33,24 @@ use Rattle.ess_guard_laws.specs.Guard.{has_value, make_total, make_natural}
 use Rattle.ess_simplify_laws.specs.Simplifying.{simplified}
 use Rattle.ess_flat_laws.specs.Flat.{Flat, none_marked}
 use Rattle.ess_flat_models_laws.specs.FlatSpecifications.{scalar_mark}
+use Rattle.ess_flat_models_laws.proofs.ScalarDomains.{Atom}
 use Rattle.ess_flat_models_laws.proofs.FlatCells.{cells-flat}
 use Rattle.ess_flat_models_laws.proofs.FlatSimplified.{simpler}
 use Rattle.ess_flat_trees_laws.proofs.FlatTrees.{told-flat, shown-flat, guarded-flat, has-value-flat}
 use Rattle.ess_member_trees_laws.specs.Memberships.{Literal, a_number, a_truth, at_number, at_cell, Axis, truths, numbers, asked}
 use Rattle.ess_model_finds.specs.Finds.{asked_of}
 use Rattle.conjure_flat_laws.proofs.BuiltParts.{declared-at}
-use Rattle.ess_mixed_models_laws.specs.MixedSpecifications.{kinds, places, are_mixed_statements, types_come_first, have_bounds}
-use Rattle.ess_mixed_models_laws.specs.MixedModels.{mixed_decl, shown_value, axis_of}
+use Rattle.ess_mixed_models_laws.specs.MixedSpecifications.{kinds, places, is_occurrence_alone, is_nested_plan, are_mixed_statements, types_come_first, have_bounds}
+use Rattle.ess_mixed_models_laws.specs.MixedModels.{mixed_decl, nested_decls, mixed_decls, shown_value, axis_of}
 use Rattle.ess_mixed_models_laws.proofs.NamedKinds.{MemberDom, of_numbers, of_truths, of_type}
-use Rattle.ess_mixed_models_laws.proofs.MixedPlans.{PlanFact, size_fact, atom_fact, set_fact, all-facts}
+use Rattle.ess_mixed_models_laws.proofs.MixedPlans.{PlanFact, size_fact, atom_fact, set_fact, nested_fact, atom-single, set-single}
 use Rattle.ess_mixed_models_laws.proofs.FoundPlans.{found-plan}
-use Rattle.ess_mixed_models_laws.proofs.MixedCells.{decls}
+use Rattle.ess_mixed_models_laws.proofs.MixedCells.{decls, single-decls, nested-decls}
 use Rattle.ess_mixed_models_laws.proofs.ScalarCells.{cells, placed-names, given-cells}
 use Rattle.ess_mixed_models_laws.proofs.MixedSpelled.{zero_tables, zero-valued}
 use Rattle.ess_mixed_models_laws.proofs.SetFinds.{MemberValue, a_number as number_value, a_truth as truth_value, a_value, SetFind, set-declared}
+use Rattle.conjure_nested_laws.proofs.ShownNested.{nested-domains-stay}
+use Rattle.conjure_mixed_laws.proofs.NestedFacts.{nested-find}
 use Rattle.conjure_mixed_laws.proofs.ShownNames.{names-shown, scalar-dom, set-shown, value-shown}
 
 -- ---- axes and values
@@ -73,9 +78,6 @@ module _ (S : List Stm) (o : Options) (h : are_mixed_statements S o ≡ true) (f
 
   abbrev sh : Shows
   sh = shows_of S o
-
-  abbrev Fs : List Plan
-  Fs = plans_for finds_side S o
 
   -- Simplifying leaves flat trees flat.
   pub simple : (e : Ex) (m : Bool) → Flat none_marked (cells S o h) e m → Flat none_marked (cells S o h) (simplified e) m
@@ -129,43 +131,46 @@ module _ (S : List Stm) (o : Options) (h : are_mixed_statements S o ≡ true) (f
   -- ---- declarations
 
   -- The domain of a planned set over tables.
-  planned-set : (x : Text) (A : Dom) (n : Text) → In (value_plan finds_side x Occ (set_dom [] no_exs A) ((n, 1) ∷ [])) Ps →
-      look sh.doms x ≡ Some (set_dom [] no_exs (axis_of S o A))
-  planned-set x A n i =
-      (set-shown S o h f ts bs x A (set-declared S o h x A (plan-is-found S o x Occ (set_dom [] no_exs A) ((n, 1) ∷ []) i))).1
+  planned-set : (x : Text) (A : Dom) (n : Text) → is_occurrence_alone (chosen_reprs o x (set_dom [] no_exs A)) ≡ true →
+      In (value_plan finds_side x Occ (set_dom [] no_exs A) ((n, 1) ∷ [])) Ps → look sh.doms x ≡ Some (set_dom [] no_exs (axis_of S o A))
+  planned-set x A n a i =
+      (set-shown S o h f ts bs x A (set-declared S o h x A (plan-is-found S o x Occ (set_dom [] no_exs A) ((n, 1) ∷ []) i) a)).1
 
-  declared : (P : Plan) → In P Ps → PlanFact S o P → declared_of sh P ≡ mixed_decl (kinds S) Ps P ∷ []
-  declared P i (size_fact t n e) = subst (λ P. declared_of sh P ≡ mixed_decl (kinds S) Ps P ∷ []) (sym e) refl
-  declared P i (atom_fact w) = subst (λ P. declared_of sh P ≡ mixed_decl (kinds S) Ps P ∷ []) (sym w.is)
-      (declared-at Ps (cells S o h) (given-cells S o h) simple sh w.f w.x w.d w.n w.scalar
-      (scalar-dom S o h f ts bs w.f w.x w.d w.n (subst (λ P. In P Ps) w.is i) w.scalar))
-  declared P i (set_fact x A n e m) = subst (λ P. declared_of sh P ≡ mixed_decl (kinds S) Ps P ∷ []) (sym e)
-      (ap (λ z. with_whole_names (n ∷ []) (trees_below false Occ (or_default z (set_dom [] no_exs A))))
-      (planned-set x A n (subst (λ P. In P Ps) e i)))
+  abbrev decls_of : Plan → List TableDecl
+  decls_of P = mixed_decls (kinds S) Ps P
+
+  single-declared : (P : Plan) → is_nested_plan (kinds S) P ≡ false → declared_of sh P ≡ mixed_decl (kinds S) Ps P ∷ [] →
+      declared_of sh P ≡ decls_of P
+  single-declared P k e = e ∙ sym (single-decls S o P k)
 
   -- What is declared of each plan.
-  pub all-declared : (g : Side) → Each (plans_for g S o) (λ P. declared_of sh P ≡ mixed_decl (kinds S) Ps P ∷ [])
-  all-declared g = all-items (λ P. declared_of sh P ≡ mixed_decl (kinds S) Ps P ∷ []) (plans_for g S o)
-      (λ P i. let j = (in-filter (is_on g) P Ps i).0 in declared P j (at-item (PlanFact S o) Ps P (all-facts S o h) j))
+  pub declared : (P : Plan) → In P Ps → PlanFact S o P → declared_of sh P ≡ decls_of P
+  declared P i (size_fact t n e) = subst (λ P. declared_of sh P ≡ decls_of P) (sym e) refl
+  declared P i (atom_fact w) = subst (λ P. declared_of sh P ≡ decls_of P) (sym w.is)
+      (single-declared (value_plan w.f w.x Atom w.d ((w.n, 0) ∷ [])) (atom-single S o w.f w.x w.d w.n w.scalar)
+      (declared-at Ps (cells S o h) (given-cells S o h) simple sh w.f w.x w.d w.n w.scalar
+      (scalar-dom S o h f ts bs w.f w.x w.d w.n (subst (λ P. In P Ps) w.is i) w.scalar)))
+  declared P i (set_fact x A n e m a) = subst (λ P. declared_of sh P ≡ decls_of P) (sym e)
+      (single-declared (value_plan finds_side x Occ (set_dom [] no_exs A) ((n, 1) ∷ [])) (set-single S o x n m)
+      (ap (λ z. with_whole_names (n ∷ []) (trees_below false Occ (or_default z (set_dom [] no_exs A))))
+      (planned-set x A n a (subst (λ P. In P Ps) e i))))
+  declared P i (nested_fact x r d taken e n g k c) =
+      subst (λ P. declared_of sh P ≡ nested_decls P) (sym e)
+      (ap (λ z. with_whole_names (keys (named_tables x (table_names r d) taken)) (trees_below false r z))
+      (nested-domains-stay S o x r d (named_tables x (table_names r d) taken) f
+      (nested-find S o h x r d taken (subst (λ P. In P Ps) e i) n g)))
+      ∙ sym (nested-decls S o P k)
 
   -- ---- structures and channels
 
-  asked-none : (P : Plan) → In P Ps → PlanFact S o P → asked_of sh P ≡ truth_ex true
-  asked-none P i (size_fact t n e) = subst (λ P. asked_of sh P ≡ truth_ex true) (sym e) refl
-  asked-none P i (atom_fact w) = subst (λ P. asked_of sh P ≡ truth_ex true) (sym w.is) refl
-  asked-none P i (set_fact x A n e m) = subst (λ P. asked_of sh P ≡ truth_ex true) (sym e)
+  -- Nothing is asked of the tables of scalars, and of sets by which members occur.
+  pub asked-none : (P : Plan) → In P Ps → PlanFact S o P → is_nested_plan (kinds S) P ≡ false → asked_of sh P ≡ truth_ex true
+  asked-none P i (size_fact t n e) k = subst (λ P. asked_of sh P ≡ truth_ex true) (sym e) refl
+  asked-none P i (atom_fact w) k = subst (λ P. asked_of sh P ≡ truth_ex true) (sym w.is) refl
+  asked-none P i (set_fact x A n e m a) k = subst (λ P. asked_of sh P ≡ truth_ex true) (sym e)
       (ap (λ z. structure reserved size_terms Occ (or_default z (set_dom [] no_exs A)) (n ∷ []) sh.next no_exs)
-      (planned-set x A n (subst (λ P. In P Ps) e i)))
-
-  all-none : (Qs : List Plan) → ((P : Plan) → In P Qs → asked_of sh P ≡ truth_ex true) →
-      Each (map (asked_of sh) Qs) (λ c. c ≡ truth_ex true)
-  all-none [] w = tt
-  all-none (P ∷ Qs) w = (w P (inl refl), all-none Qs (λ Q i. w Q (inr i)))
-
-  -- Nothing is asked of the tables of finds.
-  pub nothing-asked : Each (map (asked_of sh) Fs) (λ c. c ≡ truth_ex true)
-  nothing-asked = all-none Fs
-      (λ P i. let j = (in-filter (is_on finds_side) P Ps i).0 in asked-none P j (at-item (PlanFact S o) Ps P (all-facts S o h) j))
+      (planned-set x A n a (subst (λ P. In P Ps) e i)))
+  asked-none P i (nested_fact x r d taken e n g y c) k = let z : true ≡ false = sym y ∙ k in cc
 
   channels-from : (xs : List Text) → ((x : Text) → In x xs → (P : Plan) × (filter (is_plan_of x) Ps ≡ P ∷ [])) →
       append_all (map (λ x. channel_trees sh (filter (is_plan_of x) Ps)) xs) ≡ []

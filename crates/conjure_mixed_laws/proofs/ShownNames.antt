@@ -26,6 +26,7 @@ use Rattle.ess_flat_models_laws.specs.FlatSpecifications.{given_mark, mark_among
 use Rattle.ess_flat_models_laws.specs.FlatModels.{dom_with_cells}
 use Rattle.ess_flat_models_laws.proofs.ScalarDomains.{Atom, is_shape}
 use Rattle.conjure_flat_laws.proofs.BuiltShows.{told-scalar, shown-scalar, doms-behind}
+use Rattle.ess_nested_laws.specs.NestedDomains.{is_nested_dom}
 use Rattle.ess_mixed_models_laws.specs.MixedSpecifications.{places_by, kinds, places, is_of_sets, is_set_dom, are_mixed_statements, types_come_first, have_bounds}
 use Rattle.ess_mixed_models_laws.specs.MixedModels.{axis_of}
 use Rattle.ess_mixed_models_laws.proofs.NamedKinds.{no-yes, no-some, declared-one, MemberDom, of_numbers, of_truths, of_type}
@@ -183,6 +184,17 @@ module _ (S : List Stm) (o : Options) (h : are_mixed_statements S o ≡ true) (f
       go None w v = absurd (no-yes v)
       go (Some j) w v = same j (e t j w) (ranged j (g t j w))
 
+  or-no : (b : Bool) → b || false ≡ true → b ≡ true
+  or-no true h = refl
+  or-no false h = absurd (no-yes h)
+
+  -- The types of members are known.
+  types-known : {A : Dom} (m : MemberDom (kinds S) A) (ks : Names TypeKind) →
+      is_set_dom ks (set_dom [] no_exs A) || is_nested_dom (set_dom [] no_exs A) ≡ true → is_set_dom ks (set_dom [] no_exs A) ≡ true
+  types-known of_numbers ks h = refl
+  types-known of_truths ks h = refl
+  types-known (of_type {t = t} q) ks h = or-no (is_set_dom ks (set_dom [] no_exs (name_dom t))) h
+
   -- What is shown for a set, and its domain over tables.
   pub set-shown : (x : Text) (A : Dom) → SetFind S o h x A →
       (look sh.last x ≡ Some (view_of x A)) × (look sh.doms x ≡ Some (set_dom [] no_exs (axis_of S o A)))
@@ -192,7 +204,8 @@ module _ (S : List Stm) (o : Options) (h : are_mixed_statements S o ≡ true) (f
       let u : Shows = P.sh in
       let k = P.same x (inl refl) in
       let c = set-dom-at w.members P.ks P.sh
-      (and-left (is_set_dom P.ks (set_dom [] no_exs A)) (types_come_first P.ks P.later) P.place.types) P.place.sizes P.known in
+      (types-known w.members P.ks (and-left (is_set_dom P.ks (set_dom [] no_exs A) || is_nested_dom (set_dom [] no_exs A))
+      (types_come_first P.ks P.later) P.place.types)) P.place.sizes P.known in
       let vs = set-plans S o h f x A w in (
         k.last
             ∙ ap (λ Qs. look (with_views x (map (view_by (shown_dom u (told_dom d [] u.next).0)) Qs)

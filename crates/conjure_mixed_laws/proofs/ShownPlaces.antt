@@ -21,6 +21,7 @@ use Rattle.conjure_laws.proofs.SetNames.{look-cons}
 use Rattle.conjure_model_laws.specs.Shown.{Shows, shown_dom, view_by, with_views, with_declared, shows_behind, shows_from}
 use Rattle.conjure_model_laws.specs.ToldApart.{told_dom}
 use Rattle.ess_flat_models_laws.specs.FlatSpecifications.{given_mark, mark_among, is_scalar_dom, scalar_mark}
+use Rattle.ess_nested_laws.specs.NestedDomains.{is_nested_dom}
 use Rattle.ess_mixed_models_laws.specs.MixedSpecifications.{kinds_by, known_after, is_of_sets, is_set_dom, is_mixed_statement, types_come_first, have_bounds}
 use Rattle.ess_mixed_models_laws.proofs.NamedKinds.{no-yes}
 use Rattle.conjure_mixed_laws.proofs.ShownStill.{SameFor, declared-still, stm-still, off-here, off-later, all-still, known-still}
@@ -150,7 +151,7 @@ module _ (S : List Stm) (o : Options)
       off a false q i = off-later (given x d) T a (w.behind a (sym (ap (λ c. c || is_among xs a) q) ∙ i))
   next (find x d) T ks xs sh w = (
     xs,
-    plain-next (find x d) T ks xs sh w (and-right (not (is_of_sets d) || is_set_dom ks d) (types_come_first ks T) w.types)
+    plain-next (find x d) T ks xs sh w (and-right (not (is_of_sets d) || (is_set_dom ks d || is_nested_dom d)) (types_come_first ks T) w.types)
         (and-right (is_of_sets d || is_scalar_dom (mark_among xs (given_mark Ps)) d) (have_bounds Ps xs T) w.bounds),
   )
   next (given_enum t) T ks xs sh w = (

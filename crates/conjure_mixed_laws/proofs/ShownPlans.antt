@@ -2,8 +2,9 @@
 use Rattle.std.proofs.Common.{◌≡◌, refl, sym, ap, ◌∙◌, subst, Bool, true, false, if◌then◌else◌, List, [], ◌∷◌, inl, inr, filter, map, Some, None, option_map}
 use Rattle.ess_semantics.specs.Values.{Text}
 use Rattle.ess_semantics.specs.Order.{same_text}
-use Rattle.ess_semantics.specs.Trees.{Ex, no_exs, Dom, set_dom, Stm}
+use Rattle.ess_semantics.specs.Trees.{Repr, Ex, no_exs, Dom, set_dom, Stm}
 use Rattle.ess_semantics.specs.Contexts.{Each}
+use Rattle.ess_semantics.specs.TableNames.{Named, table_names, named_tables}
 use Rattle.ess_semantics.specs.Judgements.{fault}
 use Rattle.ess_semantics.specs.Plans.{Options, Side, givens_side, finds_side, Plan, value_plan, plans, is_plan_for, is_plan_of}
 use Rattle.ess_semantics.specs.Models.{scalar_cell, cell_for}
@@ -18,11 +19,12 @@ use Rattle.conjure_model_laws.specs.Shown.{view_by}
 use Rattle.ess_flat_models_laws.specs.FlatSpecifications.{scalar_mark}
 use Rattle.ess_flat_models_laws.proofs.ScalarDomains.{Atom, is_shape}
 use Rattle.conjure_flat_laws.proofs.BuiltShows.{first-view}
-use Rattle.ess_mixed_models_laws.specs.MixedSpecifications.{are_mixed_statements}
+use Rattle.ess_mixed_models_laws.specs.MixedSpecifications.{is_of_sets, are_mixed_statements}
+use Rattle.ess_nested_laws.proofs.NestedForms.{nested-form, kept-form}
 use Rattle.ess_mixed_models_laws.proofs.NamedKinds.{no-yes}
-use Rattle.ess_mixed_models_laws.proofs.MixedPlans.{PlanFact, size_fact, atom_fact, set_fact, all-facts}
+use Rattle.ess_mixed_models_laws.proofs.MixedPlans.{PlanFact, size_fact, atom_fact, set_fact, nested_fact, all-facts}
 use Rattle.ess_mixed_models_laws.proofs.FoundPlans.{found-plan}
-use Rattle.ess_mixed_models_laws.proofs.ScalarCells.{atoms, scalar-atoms, are-atoms, ScalarName, scalar-name}
+use Rattle.ess_mixed_models_laws.proofs.ScalarCells.{nested-sets, kept-apart, atoms, scalar-atoms, are-atoms, ScalarName, scalar-name}
 use Rattle.ess_mixed_models_laws.proofs.SetFinds.{SetFind, one-dom, set-planned}
 
 module _ (S : List Stm) (o : Options) (h : are_mixed_statements S o ≡ true) (f : fault S ≡ None) where
@@ -33,10 +35,11 @@ module _ (S : List Stm) (o : Options) (h : are_mixed_statements S o ≡ true) (f
 
   -- Where no set has the name, its plans are those among the atoms.
   plans-atoms : (Qs : List Plan) → Each Qs (PlanFact S o) → (a : Text) →
-      ((x : Text) (A : Dom) (n : Text) → In (value_plan finds_side x Occ (set_dom [] no_exs A) ((n, 1) ∷ [])) Qs → same_text x a ≡ false) →
-      filter (is_plan_for a) Qs ≡ filter (is_plan_for a) (atoms Qs)
+      ((x : Text) (r : Repr) (d : Dom) (ns : List Named) → is_of_sets d ≡ true → In (value_plan finds_side x r d ns) Qs →
+      same_text x a ≡ false) → filter (is_plan_for a) Qs ≡ filter (is_plan_for a) (atoms Qs)
   plans-atoms [] w a u = refl
-  plans-atoms (P ∷ Qs) w a u = one P w.0 (λ x A n e. u x A n (inl e)) (plans-atoms Qs w.1 a (λ x A n i. u x A n (inr i)))
+  plans-atoms (P ∷ Qs) w a u =
+      one P w.0 (λ x r d ns s e. u x r d ns s (inl e)) (plans-atoms Qs w.1 a (λ x r d ns s i. u x r d ns s (inr i)))
     where
       both : (b : Bool) (P : Plan) → filter (is_plan_for a) Qs ≡ filter (is_plan_for a) (atoms Qs) →
           (if b then P ∷ filter (is_plan_for a) Qs else filter (is_plan_for a) Qs)
@@ -45,27 +48,38 @@ module _ (S : List Stm) (o : Options) (h : are_mixed_statements S o ≡ true) (f
       both false P e = e
 
       one : (P : Plan) → PlanFact S o P →
-          ((x : Text) (A : Dom) (n : Text) → value_plan finds_side x Occ (set_dom [] no_exs A) ((n, 1) ∷ []) ≡ P → same_text x a ≡ false) →
+          ((x : Text) (r : Repr) (d : Dom) (ns : List Named) → is_of_sets d ≡ true → value_plan finds_side x r d ns ≡ P →
+          same_text x a ≡ false) →
           filter (is_plan_for a) Qs ≡ filter (is_plan_for a) (atoms Qs) →
           filter (is_plan_for a) (P ∷ Qs) ≡ filter (is_plan_for a) (atoms (P ∷ Qs))
       one P (size_fact t n e) v q = subst (λ P. filter (is_plan_for a) (P ∷ Qs) ≡ filter (is_plan_for a) (atoms (P ∷ Qs))) (sym e) q
       one P (atom_fact k) v q = subst (λ P. filter (is_plan_for a) (P ∷ Qs) ≡ filter (is_plan_for a) (atoms (P ∷ Qs))) (sym k.is)
           (both (same_text k.x a) (value_plan k.f k.x Atom k.d ((k.n, 0) ∷ [])) q)
-      one P (set_fact x A n e m) v q = subst (λ P. filter (is_plan_for a) (P ∷ Qs) ≡ filter (is_plan_for a) (atoms (P ∷ Qs))) (sym e)
+      one P (set_fact x A n e m w) v q = subst (λ P. filter (is_plan_for a) (P ∷ Qs) ≡ filter (is_plan_for a) (atoms (P ∷ Qs))) (sym e)
           (ap (λ b. if b then value_plan finds_side x Occ (set_dom [] no_exs A) ((n, 1) ∷ []) ∷ filter (is_plan_for a) Qs
-          else filter (is_plan_for a) Qs) (v x A n (sym e)) ∙ q)
+          else filter (is_plan_for a) Qs) (v x Occ (set_dom [] no_exs A) ((n, 1) ∷ []) refl (sym e)) ∙ q)
+      one P (nested_fact x r d taken e n g k c) v q =
+          let P' : Plan = value_plan finds_side x r d (named_tables x (table_names r d) taken) in
+          subst (λ P. filter (is_plan_for a) (P ∷ Qs) ≡ filter (is_plan_for a) (atoms (P ∷ Qs))) (sym e)
+          (ap (λ b. if b then P' ∷ filter (is_plan_for a) Qs else filter (is_plan_for a) Qs)
+          (v x r d (named_tables x (table_names r d) taken) (nested-sets (nested-form 250 d n)) (sym e)) ∙ q
+          ∙ ap (λ b. filter (is_plan_for a) (if b then P' ∷ atoms Qs else atoms Qs))
+          (sym (kept-apart finds_side x (named_tables x (table_names r d) taken) (kept-form 250 r d n g) (nested-form 250 d n))))
 
-  not-set : (a : Text) (m : Bool) → ScalarName S o h a m → (x : Text) (A : Dom) (n : Text) →
-      In (value_plan finds_side x Occ (set_dom [] no_exs A) ((n, 1) ∷ [])) Ps → same_text x a ≡ false
-  not-set a m r x A n i = go (same_text x a) refl
+  shape-apart : (d : Dom) → is_shape d ≡ true → is_of_sets d ≡ true → ⊥
+  shape-apart (set_dom ms es d) s h = no-yes s
+  shape-apart d s h = no-yes h
+
+  not-set : (a : Text) (m : Bool) → ScalarName S o h a m → (x : Text) (q : Repr) (d : Dom) (ns : List Named) → is_of_sets d ≡ true →
+      In (value_plan finds_side x q d ns) Ps → same_text x a ≡ false
+  not-set a m r x q d ns s i = go (same_text x a) refl
     where
       go : (b : Bool) → same_text x a ≡ b → same_text x a ≡ false
-      go false q = q
-      go true q =
-          let e : set_dom [] no_exs A ≡ r.d = one-dom S o h f finds_side r.f a Occ Atom (set_dom [] no_exs A) r.d ((n, 1) ∷ [])
-          ((r.n, 0) ∷ [])
-          (subst (λ z. In (value_plan finds_side z Occ (set_dom [] no_exs A) ((n, 1) ∷ [])) Ps) (same_text-equal x a q) i) r.planned in
-          let z : false ≡ true = ap is_shape e ∙ r.scalar in absurd (no-yes z)
+      go false z = z
+      go true z =
+          let e : d ≡ r.d = one-dom S o h f finds_side r.f a q Atom d r.d ns ((r.n, 0) ∷ [])
+          (subst (λ z. In (value_plan finds_side z q d ns) Ps) (same_text-equal x a z) i) r.planned in
+          absurd (shape-apart d (subst (λ z. is_shape z ≡ true) (sym e) r.scalar) s)
 
   -- The first view of a scalar is its cell.
   pub scalar-views : (a : Text) (m : Bool) → scalar_mark Ps a ≡ Some m → (c : Dom) →
@@ -104,7 +118,8 @@ module _ (S : List Stm) (o : Options) (h : are_mixed_statements S o ≡ true) (f
       one P (size_fact t n e) v = subst (λ P. is_plan_for x P ≡ is_plan_of x P) (sym e) refl
       one P (atom_fact k) v = subst (λ P. is_plan_for x P ≡ is_plan_of x P) (sym k.is)
           (at k.f k.x k.d k.n k.scalar (λ s d n e. v s d n (e ∙ sym k.is)) (same_text k.x x) refl)
-      one P (set_fact y A n e m) v = subst (λ P. is_plan_for x P ≡ is_plan_of x P) (sym e) refl
+      one P (set_fact y A n e m w) v = subst (λ P. is_plan_for x P ≡ is_plan_of x P) (sym e) refl
+      one P (nested_fact y r d taken e n g k c) v = subst (λ P. is_plan_for x P ≡ is_plan_of x P) (sym e) refl
 
   -- A set has one plan.
   pub set-plans : (x : Text) (A : Dom) → SetFind S o h x A →

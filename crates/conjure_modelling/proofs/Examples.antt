@@ -3,6 +3,7 @@ use Rattle.std.proofs.Common.{◌≡◌, refl, inr, List, [], ◌∷◌, Some, N
 use Rattle.ess_semantics.specs.Values.{Text}
 use Rattle.ess_semantics.specs.Trees.{Repr}
 use Rattle.ess_semantics.specs.Plans.{Options}
+use Rattle.ess_semantics.specs.ModelTrees.{Model}
 use Rattle.ess_grammar.specs.Places.{end_place}
 use Rattle.ess_parse.specs.declared.refusal.ReadNo.{ReadNo}
 use Rattle.ess_translate_header.specs.declared.headers.HeadNo.{HeadNo}
@@ -63,9 +64,9 @@ bad_byte = (ReadNo.BadByte (record { line = 1; col = 1 }), record { reason = tt;
 no_header : IsUnheaded []
 no_header H h = h.0.language
 
-not_written : IsNotRead [] ModelNo.NotYet
-not_written = inr no_header
+not_written : (E : Model) → IsNotRead E [] ModelNo.NotYet
+not_written E = inr (inr no_header)
 
 -- what is read again isn't a list
-not_told : IsNotRead [] (ModelNo.BadRepresentation 1) → ⊥
-not_told h = h
+not_told : (E : Model) → IsNotRead E [] (ModelNo.BadRepresentation 1) → ⊥
+not_told E h = h

@@ -1,11 +1,10 @@
 -- What is written for the text of a specification, with a list of representations or without one, and why nothing is.
-use Rattle.std.specs.Prelude.{◌≡◌, ◌⊎◌, false, List, [], Option, Some, None, IsTrue}
+use Rattle.std.specs.Prelude.{◌≡◌, ◌⊎◌, false, List, [], Option, Some, None}
 use Rattle.ess_semantics.specs.Values.{Text}
 use Rattle.ess_semantics.specs.Names.{Names}
 use Rattle.ess_semantics.specs.Trees.{Repr, Dom, Stm}
 use Rattle.ess_semantics.specs.Plans.{Options, kept_names, all_chosen}
 use Rattle.ess_semantics.specs.ModelTrees.{Header, Model, header_of}
-use Rattle.ess_grammar.specs.Models.{is_readable_model}
 use Rattle.ess_grammar.specs.ModelTexts.{IsModel, header_lines}
 use Rattle.ess_grammar.specs.HeaderTexts.{IsHeader}
 use Rattle.ess_parse.specs.declared.refusal.ReadNo.{ReadNo}
@@ -51,30 +50,47 @@ IsHeaded text = (H : Header) × HasHeader text H
 abbrev pub IsUnheaded : Text → Type 0
 IsUnheaded text = (H : Header) → HasHeader text H → ⊥
 
--- The text isn't read again: it is no model by the rules of models, or begins with no header of this tool.
-abbrev pub IsNotReadAgain : Text → Type 0
-IsNotReadAgain text = IsNoModelText text ⊎ IsUnheaded text
+-- The text is a model by the rules of models, but another one than E.
+pub record IsOtherModelText (E : Model) (text : Text) : Type 0 where
+  pub model : Model
+  pub spells : Spells IsModel text model
+  pub differs : model ≡ E → ⊥
 
--- The text spells a model that is built from the specification S with these representations, and is a model by the rules of models: that
--- one, where some text is it. Under its language line stand the lines of the header of S with these representations, and no others. They
--- are that header by the rules, and it is the one that is read of the text.
+-- The text is read again as E, and begins with a header of this tool.
+pub record IsReadAgain (E : Model) (text : Text) : Type 0 where
+  pub spells : Spells IsModel text E
+  pub headed : IsHeaded text
+
+-- The text isn't read again as E: it is no model by the rules of models, or another one, or begins with no header of this tool.
+abbrev pub IsNotReadAgain : Model → Text → Type 0
+IsNotReadAgain E text = IsNoModelText text ⊎ (IsOtherModelText E text ⊎ IsUnheaded text)
+
+-- The text spells a model that is built from the specification S with these representations, and is this model by the rules of models,
+-- and no other. Under its language line stand the lines of the header of S with these representations, and no others. They are that
+-- header by the rules, and it is the one that is read of the text.
 pub record IsWritten (S : List Stm) (rs : Names (List Repr)) (text : Text) : Type 0 where
   pub spelled : IsTextOf S rs text
   pub read : IsModelText text
-  pub same : IsTrue (is_readable_model spelled.model) → read.model ≡ spelled.model
+  pub same : read.model ≡ spelled.model
   pub head : header_lines text ≡ header_texts (header_of S rs)
   pub header : IsHeader (header_of S rs) (header_lines text)
   pub begins : HasHeader text (header_of S rs)
 
--- The model can't be written: a part of it can't, or its text isn't read again.
+-- The model can't be written: a part of it can't, or the text that it would have isn't read again as this model.
 abbrev pub IsLacking : List Stm → Names (List Repr) → Type 0
-IsLacking S rs = ((p : Part) × NoneIsBuilt S rs p) ⊎ ((text : Text) × IsTextOf S rs text × IsNotReadAgain text)
+IsLacking S rs = ((p : Part) × NoneIsBuilt S rs p) ⊎ ((text : Text) × (t : IsTextOf S rs text) × IsNotReadAgain t.model text)
 
--- Why what would be written isn't read: it is no model, or has no header, or for want of memory.
-abbrev pub IsNotRead : Text → ModelNo → Type 0
-IsNotRead text ModelNo.NotYet = IsNotReadAgain text
-IsNotRead text ModelNo.NoMemory = Unit {0}
-IsNotRead text _ = ⊥
+-- Why no header is read of a text: it has none, or for want of memory.
+abbrev pub HasNoHeader : Text → ModelNo → Type 0
+HasNoHeader text ModelNo.NotYet = IsUnheaded text
+HasNoHeader text ModelNo.NoMemory = Unit {0}
+HasNoHeader text _ = ⊥
+
+-- Why what would be written isn't read as E: it is no model, or another one, or has no header, or for want of memory.
+abbrev pub IsNotRead : Model → Text → ModelNo → Type 0
+IsNotRead E text ModelNo.NotYet = IsNotReadAgain E text
+IsNotRead E text ModelNo.NoMemory = Unit {0}
+IsNotRead E text _ = ⊥
 
 -- Why it isn't written: it can't be yet, the representations don't fit, or for want of memory.
 abbrev pub IsUnwritten : List Stm → Names (List Repr) → ModelNo → Type 0

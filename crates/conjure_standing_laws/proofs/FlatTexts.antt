@@ -1,21 +1,17 @@
 -- What is written for a text of a specification of scalars with flat and total constraints stands for it.
-use Rattle.std.proofs.Common.{◌≡◌, sym, ap, ◌∙◌, subst, true, List, Option}
+use Rattle.std.proofs.Common.{◌≡◌, ap, ◌∙◌, subst, true, List, Option}
 use Rattle.ess_semantics.specs.Values.{Text}
 use Rattle.ess_semantics.specs.Trees.{Stm}
 use Rattle.ess_semantics.specs.Plans.{Options, kept_names, all_chosen}
 use Rattle.ess_semantics.specs.ModelTrees.{header_of}
-use Rattle.ess_grammar.specs.Readable.{ReadableStms}
-use Rattle.ess_grammar.specs.Models.{is_readable_model}
 use Rattle.ess_grammar.specs.Texts.{Reads}
 use Rattle.ess_grammar.specs.ModelTexts.{IsModel}
 use Rattle.ess_grammar.specs.HeaderTexts.{IsHeader}
 use Rattle.ess_flat_models_laws.specs.FlatSpecifications.{is_flat_specification}
-use Rattle.ess_grammar.proofs.ProperTokens.{specification-text-readable}
 use Rattle.ess_translate.specs.Answers.{IsEssence}
 use Rattle.ess_translate_header_laws.specs.WrittenLines.{header_texts}
 use Rattle.ess_flat_models_laws.specs.FlatModels.{flat_model}
 use Rattle.ess_flat_models_laws.proofs.FlatHave.{flat-specifications}
-use Rattle.ess_flat_texts_laws.proofs.ReadableModels.{flat-models-are-readable}
 use Rattle.ess_flat_headers_laws.proofs.ChosenFlat.{chosen-are-of-the-class}
 use Rattle.conjure_flat_laws.proofs.BuiltModels.{built-models-are-right}
 use Rattle.conjure_modelling.specs.Modelled.{AreOptionsOf, IsWritten, IsModelFor}
@@ -24,9 +20,6 @@ use Rattle.conjure_standing_laws.specs.Laws.{WrittenModelsOfScalarsStand}
 
 module _ (S : List Stm) (o : Options) (text : Text) (is : IsEssence text S) (f : is_flat_specification S o ≡ true) (model : Text)
     (w : IsWritten S (all_chosen S o) model) where
-  readable-stms : ReadableStms S
-  readable-stms = specification-text-readable text S is.spells.reads is.spells.limits.0
-
   -- The model that is built is the one of the class.
   built-is : w.spelled.model ≡ flat_model S o
   built-is =
@@ -37,7 +30,7 @@ module _ (S : List Stm) (o : Options) (text : Text) (is : IsEssence text S) (f :
 
   -- The text is read as it.
   read-is : w.read.model ≡ flat_model S o
-  read-is = w.same (subst (λ E. is_readable_model E ≡ true) (sym built-is) (flat-models-are-readable S o readable-stms f)) ∙ built-is
+  read-is = w.same ∙ built-is
 
   -- So it stands.
   pub flat-stands : (list : Option Text) → AreOptionsOf (kept_names S) list o → StandsForListed list text model

@@ -8,5 +8,6 @@ pub mod MemberTexts
 mod MemberExample
 -- What is written for texts of scalars and sets stands
 pub mod MixedTexts
--- Worked example
+-- Worked examples
 mod MixedExample
+mod NestedExample

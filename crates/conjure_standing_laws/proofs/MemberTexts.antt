@@ -1,39 +1,30 @@
 -- What is written for a text of a specification of sets of atoms with memberships stands for it.
 use Rattle.std.proofs.Common.{◌≡◌, sym, ap, ◌∙◌, subst, true, false, List, Option, Some, None}
-use Rattle.std.specs.List.{list_all}
 use Rattle.ess_semantics.specs.Values.{Text}
 use Rattle.ess_semantics.specs.Trees.{Stm}
 use Rattle.ess_semantics.specs.Judgements.{is_well_typed}
 use Rattle.ess_semantics.specs.Plans.{Options, kept_names, all_chosen, plans}
 use Rattle.ess_semantics.specs.ModelTrees.{Model, header_of}
 use Rattle.ess_semantics.specs.Models.{Models, IsExact}
-use Rattle.ess_grammar.specs.Readable.{ReadableStms}
 use Rattle.ess_grammar.specs.Texts.{Reads}
 use Rattle.ess_grammar.specs.ModelTexts.{IsModel}
-use Rattle.ess_grammar.proofs.ProperTokens.{specification-text-readable}
+use Rattle.ess_grammar.specs.HeaderTexts.{IsHeader}
 use Rattle.ess_translate.specs.Answers.{IsEssence}
 use Rattle.ess_translate_header_laws.specs.WrittenLines.{header_texts}
-use Rattle.eprime_tree.specs.ModelText.{is_head_line}
-use Rattle.eprime_tree.proofs.HeadLines.{header-head}
-use Rattle.eprime_spelled_laws.proofs.SpelledTexts.{spelled-models-are-read}
 use Rattle.conjure_laws.specs.SetsOfAtoms.{Line, spec}
 use Rattle.conjure_laws.specs.ModelsOfSets.{no_options}
 use Rattle.conjure_alike_laws.proofs.AlikeModels.{alike-options-have-the-same-models}
-use Rattle.ess_member_texts_laws.specs.CountedTypes.{are_counted}
-use Rattle.ess_member_texts_laws.proofs.SpelledSets.{member-models-are-spelled}
-use Rattle.ess_member_texts_laws.proofs.CountedTexts.{texts-count-their-types}
 use Rattle.ess_member_headers_laws.specs.KeptSets.{are_kept_by_occurrence}
-use Rattle.ess_member_headers_laws.proofs.MemberHeaders.{member-headers-are-read}
 use Rattle.ess_member_headers_laws.proofs.KeptChosen.{kept-are-chosen}
 use Rattle.ess_models.specs.Built.{IsBuilt}
-use Rattle.conjure_member_laws.proofs.BuiltSets.{built-model, built-sets-right}
+use Rattle.conjure_member_laws.proofs.BuiltSets.{built-sets-right}
 use Rattle.conjure_modelling.specs.Modelled.{AreOptionsOf, IsWritten, IsModelFor}
 use Rattle.conjure_standing_laws.specs.Standing.{StandsForListed}
 use Rattle.conjure_standing_laws.specs.Laws.{WrittenModelsOfSetsStand}
 use Rattle.conjure_member_laws.proofs.BuiltAlike.{built-alike}
 
-module _ (T : List Line) (o : Options) (text : Text) (is : IsEssence text (spec T)) (c : are_counted T ≡ true)
-    (k : are_kept_by_occurrence (spec T) o ≡ true) (model : Text) (w : IsWritten (spec T) (all_chosen (spec T) o) model) where
+module _ (T : List Line) (o : Options) (text : Text) (is : IsEssence text (spec T)) (k : are_kept_by_occurrence (spec T) o ≡ true)
+    (model : Text) (w : IsWritten (spec T) (all_chosen (spec T) o) model) where
   abbrev S : List Stm
   S = spec T
 
@@ -42,9 +33,6 @@ module _ (T : List Line) (o : Options) (text : Text) (is : IsEssence text (spec 
 
   abbrev E : Model
   E = w.spelled.model
-
-  readable-stms : ReadableStms S
-  readable-stms = specification-text-readable text S is.spells.reads is.spells.limits.0
 
   typed : is_well_typed S ≡ true
   typed = ap (λ f. elim f [ None ↦ true | Some f ↦ false ]) is.typed
@@ -59,16 +47,6 @@ module _ (T : List Line) (o : Options) (text : Text) (is : IsEssence text (spec 
   built : IsBuilt S no_options (header_of S A) E
   built = built-alike S A no_options (header_of S A) E (kept-are-chosen.same_plans T A kept-again)
       (kept-are-chosen.same_header T A kept-again) w.spelled.built
-
-  -- The lines of the header are such as a text has: they are this one's.
-  heads : list_all is_head_line (header_texts (header_of S A)) ≡ true
-  heads = subst (λ ls. list_all is_head_line ls ≡ true) w.head (header-head model)
-
-  -- The text is read as the model that is built.
-  read-is : w.read.model ≡ E
-  read-is = spelled-models-are-read (header_texts (header_of S A)) E w.read.model heads
-      (member-models-are-spelled T E typed readable-stms c (built-model T typed (header_of S A) E built))
-      (subst (λ t. Reads t (IsModel w.read.model)) w.spelled.spells w.read.spells.reads)
 
   right : Models S no_options (header_of S o) E × IsExact S no_options E
   right = subst (λ H. Models S no_options H E × IsExact S no_options E) header-is
@@ -87,10 +65,10 @@ module _ (T : List Line) (o : Options) (text : Text) (is : IsEssence text (spec 
         options = listed;
         is_model = (
           header_texts (header_of S o),
-          member-headers-are-read T o readable-stms k,
+          subst (λ H. IsHeader H (header_texts H)) header-is (subst (IsHeader (header_of S A)) w.head w.header),
           (
             w.head ∙ ap header_texts header-is,
-            subst (λ F. Reads model (IsModel F)) read-is w.read.spells.reads,
+            subst (λ F. Reads model (IsModel F)) w.same w.read.spells.reads,
           ),
         );
         models = a.models S o no_options (header_of S o) E e (kept-are-chosen.same_header T o k) right.0;
@@ -99,10 +77,9 @@ module _ (T : List Line) (o : Options) (text : Text) (is : IsEssence text (spec 
 
 -- What is written for a text of the class stands for it.
 pub written-models-of-sets-stand : WrittenModelsOfSetsStand
-written-models-of-sets-stand text list model short is f =
+written-models-of-sets-stand text list model is f =
     let S : List Stm = is.0 in
     let e : IsEssence text S = is.1 in
     let q : S ≡ spec f.T = sym (e.spells.only (spec f.T) f.specification) in
     let m : IsModelFor (spec f.T) list model = subst (λ S. IsModelFor S list model) q is.2 in
-    member-stands f.T m.o text (subst (IsEssence text) q e) (texts-count-their-types text f.T f.specification short)
-    (f.kept m.o m.options) model m.written list m.options
+    member-stands f.T m.o text (subst (IsEssence text) q e) (f.kept m.o m.options) model m.written list m.options

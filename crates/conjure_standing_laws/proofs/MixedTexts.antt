@@ -1,44 +1,31 @@
 -- What is written for a text of a specification of scalars and sets stands for it.
-use Rattle.std.proofs.Common.{◌≡◌, sym, ap, ◌∙◌, subst, ◌<◌, ◌^◌, true, List, length, Option}
-use Rattle.std.specs.List.{list_all}
+use Rattle.std.proofs.Common.{◌≡◌, sym, ap, ◌∙◌, subst, true, List, Option}
 use Rattle.ess_semantics.specs.Values.{Text}
 use Rattle.ess_semantics.specs.Trees.{Stm}
 use Rattle.ess_semantics.specs.Plans.{Options, kept_names, all_chosen, plans}
 use Rattle.ess_semantics.specs.ModelTrees.{Model, header_of}
 use Rattle.ess_semantics.specs.Models.{Models, IsExact}
-use Rattle.ess_grammar.specs.Readable.{ReadableStms}
 use Rattle.ess_grammar.specs.Texts.{Reads}
 use Rattle.ess_grammar.specs.ModelTexts.{IsModel}
 use Rattle.ess_grammar.specs.HeaderTexts.{IsHeader}
-use Rattle.ess_grammar.proofs.ProperTokens.{specification-text-readable}
 use Rattle.ess_translate.specs.Answers.{IsEssence}
 use Rattle.ess_translate_header_laws.specs.WrittenLines.{header_texts}
-use Rattle.eprime_tree.specs.ModelText.{is_head_line}
-use Rattle.eprime_tree.proofs.HeadLines.{header-head}
-use Rattle.eprime_spelled_laws.proofs.SpelledTexts.{spelled-models-are-read}
 use Rattle.conjure_alike_laws.proofs.AlikeModels.{alike-options-have-the-same-models}
 use Rattle.ess_mixed_models_laws.specs.MixedSpecifications.{is_mixed_specification}
-use Rattle.ess_mixed_models_laws.specs.MixedModels.{IsMixedModel}
 use Rattle.ess_mixed_models_laws.proofs.ClassesMixed.{classes-mixed}
-use Rattle.ess_mixed_texts_laws.specs.CountedTypes.{has_counted_types}
-use Rattle.ess_mixed_texts_laws.proofs.MixedSpelled.{mixed-models-are-spelled}
-use Rattle.ess_mixed_texts_laws.proofs.StatementCounts.{texts-are-counted}
 use Rattle.ess_mixed_headers_laws.proofs.ChosenMixed.{chosen-mixed}
-use Rattle.conjure_mixed_laws.proofs.BuiltMixed.{built-mixed-right}
+use Rattle.conjure_mixed_laws.proofs.MixedLaws.{built-mixed}
 use Rattle.conjure_modelling.specs.Modelled.{AreOptionsOf, IsWritten, IsModelFor}
 use Rattle.conjure_standing_laws.specs.Standing.{StandsForListed}
 use Rattle.conjure_standing_laws.specs.Laws.{FlatTextsAreMixed, WrittenMixedModelsStand}
 
-module _ (S : List Stm) (o : Options) (text : Text) (is : IsEssence text S) (c : has_counted_types S ≡ true) (few : length S < 2 ^ 63)
-    (f : is_mixed_specification S o ≡ true) (model : Text) (w : IsWritten S (all_chosen S o) model) where
+module _ (S : List Stm) (o : Options) (text : Text) (is : IsEssence text S) (f : is_mixed_specification S o ≡ true) (model : Text)
+    (w : IsWritten S (all_chosen S o) model) where
   abbrev A : Options
   A = all_chosen S o
 
   abbrev E : Model
   E = w.spelled.model
-
-  readable-stms : ReadableStms S
-  readable-stms = specification-text-readable text S is.spells.reads is.spells.limits.0
 
   mixed-again : is_mixed_specification S A ≡ true
   mixed-again = chosen-mixed.mixed S o is.typed f
@@ -47,23 +34,9 @@ module _ (S : List Stm) (o : Options) (text : Text) (is : IsEssence text S) (c :
   header-is : header_of S A ≡ header_of S o
   header-is = chosen-mixed.same_header S o is.typed
 
-  -- The model that is built is one of the specification.
-  built-is : IsMixedModel S A E
-  built-is = (built-mixed-right.models S A (header_of S A) E is.typed mixed-again w.spelled.built).1
-
-  -- The lines of the header are such as a text has: they are this one's.
-  heads : list_all is_head_line (header_texts (header_of S A)) ≡ true
-  heads = subst (λ ls. list_all is_head_line ls ≡ true) w.head (header-head model)
-
-  -- The text is read as the model that is built.
-  read-is : w.read.model ≡ E
-  read-is = spelled-models-are-read (header_texts (header_of S A)) E w.read.model heads
-      (mixed-models-are-spelled S A E is.typed readable-stms c few mixed-again built-is)
-      (subst (λ t. Reads t (IsModel w.read.model)) w.spelled.spells w.read.spells.reads)
-
   right : Models S A (header_of S o) E × IsExact S A E
   right = subst (λ H. Models S A H E × IsExact S A E) header-is
-      (built-mixed-right.right S A (header_of S A) E is.typed mixed-again w.spelled.built)
+      (built-mixed.right S A (header_of S A) E is.typed mixed-again w.spelled.built)
 
   -- So it stands.
   pub mixed-stands : (list : Option Text) → AreOptionsOf (kept_names S) list o → StandsForListed list text model
@@ -81,7 +54,7 @@ module _ (S : List Stm) (o : Options) (text : Text) (is : IsEssence text S) (c :
           subst (λ H. IsHeader H (header_texts H)) header-is (subst (IsHeader (header_of S A)) w.head w.header),
           (
             w.head ∙ ap header_texts header-is,
-            subst (λ F. Reads model (IsModel F)) read-is w.read.spells.reads,
+            subst (λ F. Reads model (IsModel F)) w.same w.read.spells.reads,
           ),
         );
         models = a.models S o A (header_of S o) E e (sym header-is) right.0;
@@ -90,15 +63,13 @@ module _ (S : List Stm) (o : Options) (text : Text) (is : IsEssence text S) (c :
 
 -- What is written for a text of the class stands for it.
 pub written-mixed-models-stand : WrittenMixedModelsStand
-written-mixed-models-stand text list model short is f =
+written-mixed-models-stand text list model is f =
     let S : List Stm = is.0 in
     let e : IsEssence text S = is.1 in
     let m : IsModelFor S list model = is.2 in
     let mixed = subst (λ T. (o : Options) → AreOptionsOf (kept_names T) list o → is_mixed_specification T o ≡ true)
     (e.spells.only f.S f.specification) f.mixed in
-    let n = texts-are-counted in
-    mixed-stands S m.o text e (n.types text S e.spells.reads short) (n.statements text S e.spells.reads short) (mixed m.o m.options) model
-    m.written list m.options
+    mixed-stands S m.o text e (mixed m.o m.options) model m.written list m.options
 
 -- Texts of scalars are of the class.
 pub flat-texts-are-mixed : FlatTextsAreMixed

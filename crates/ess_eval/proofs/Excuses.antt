@@ -1,28 +1,28 @@
 -- Where a number in a part lies outside 64 bits, so does one of the whole.
-use Rattle.std.proofs.Common.{◌≡◌, Bool, true, false, ◌||◌, Option, Some, None, refl, ap, sym, ◌∙◌, List, [], ◌∷◌, map, option_map, ◌++◌}
+use Rattle.std.proofs.Common.{◌≡◌, Bool, true, false, ◌||◌, Option, None, refl, List, [], ◌∷◌, map, option_map}
 use Rattle.ess_semantics.specs.declared.words.Op1.{Op1}
 use Rattle.ess_semantics.specs.declared.words.Op2.{Op2}
 use Rattle.ess_semantics.specs.declared.words.Fun.{Fun}
 use Rattle.ess_semantics.specs.Values.{Value}
 use Rattle.ess_semantics.specs.Trees as pure
-use Rattle.ess_semantics.specs.Trees.{Op, node_ex, unary, binary, word, index, application, tuple_literal, set_literal, mset_literal, relation_literal, partition_literal, matrix_literal, function_literal, record_literal, more_exs, no_exs, matrix_ex, is_truth_op1, is_truth_op2, ex1, ex2}
+use Rattle.ess_semantics.specs.Trees.{Op, node_ex, unary, binary, word, index, application, tuple_literal, set_literal, mset_literal, relation_literal, partition_literal, matrix_literal, function_literal, record_literal, more_exs, no_exs, comp_ex, matrix_ex, is_truth_op1, is_truth_op2, ex1, ex2}
 use Rattle.ess_semantics.specs.Names.{keys}
-use Rattle.ess_semantics.specs.Operators.{value_of_node, false_where_undefined}
+use Rattle.ess_semantics.specs.Operators.{value_of_node, false_where_undefined, list_value}
 use Rattle.ess_semantics.specs.Meaning.{Env, meaning, meanings}
-use Rattle.ess_semantics.specs.Large.{is_large, any_large, is_large_dom, any_large_dom, is_big}
+use Rattle.ess_semantics.specs.Large.{is_large, any_large, is_large_dom, is_big}
 use Rattle.ess_core.specs.ValueViews.{pure_val}
-use Rattle.ess_core.specs.TreeViews.{pure_ex, pure_exs, pure_dom, pure_field_ex, pure_pair_ex, pure_step, exs_of, field_values, words_of, within, call_mark, pure_gens}
+use Rattle.ess_core.specs.TreeViews.{pure_ex, pure_exs, pure_field_ex, pure_pair_ex, exs_of, field_values, call_mark, pure_gen, pure_gens}
 use Rattle.ess_core.specs.declared.values.Val.{Val}
-use Rattle.ess_core.specs.declared.domains.Dom.{Dom}
+use Rattle.ess_core.specs.declared.expressions.Gen.{Gen}
+use Rattle.ess_eval.specs.Items.{items_at, large_items}
 use Rattle.ess_core.specs.declared.expressions.Ex.{Ex}
-use Rattle.ess_core.specs.declared.expressions.Step.{Step}
 use Rattle.ess_core.specs.declared.expressions.FieldEx.{FieldEx}
 use Rattle.ess_core.specs.declared.expressions.PairEx.{PairEx}
 use Rattle.ess_core.specs.declared.expressions.Gen.{Gen}
 use Rattle.ess_core.specs.declared.expressions.Ex.TheVariants as variant
 use Rattle.ess_core.specs.declared.domains.Dom.TheViews.{out-PairEx}
 use Rattle.ess_core.proofs.PartEquations.{pure_pair_ex_is}
-use Rattle.ess_core.proofs.ExpressionEquations.{pure_one, pure_two, pure_call, pure_tuple, pure_rec, pure_set, pure_mset, pure_function, pure_relation, pure_partition, pure_plain_matrix}
+use Rattle.ess_core.proofs.ExpressionEquations.{pure_one, pure_tuple, pure_rec, pure_set, pure_mset, pure_function, pure_relation, pure_partition, pure_plain_matrix}
 
 -- A disjunction holds where its right side does.
 pub or_right : (a b : Bool) → b ≡ true → (a || b) ≡ true
@@ -74,27 +74,64 @@ pub large_in_right : (o : Op2) (a b : pure.Ex) (env : Env) → is_large b env �
 large_in_right o a b env h =
     large_operand (is_truth_op2 o) (binary o) (more_exs a (more_exs b no_exs)) env (large_later a (more_exs b no_exs) env (large_first b no_exs env h))
 
-pub large_two : (o : Op2) (a b : pure.Ex) (env : Env) (x y : Option Val) → option_map pure_val x ≡ meaning a env
-    → option_map pure_val y ≡ meaning b env
-    → is_big (false_where_undefined (is_truth_op2 o) (value_of_node (binary o) (option_map pure_val x ∷ option_map pure_val y ∷ []))) ≡ true
+pub large_two : (o : Op2) (a b : pure.Ex) (env : Env) (x y : Option Value) → x ≡ meaning a env → y ≡ meaning b env
+    → is_big (false_where_undefined (is_truth_op2 o) (value_of_node (binary o) (x ∷ y ∷ []))) ≡ true
     → is_large (ex2 (is_truth_op2 o) o a b) env ≡ true
 large_two o a b env x y e f h =
     let k : is_big (false_where_undefined (is_truth_op2 o) (value_of_node (binary o) (meaning a env ∷ meaning b env ∷ []))) ≡ true = rw (← e, ← f) h in
     large_node (is_truth_op2 o) (binary o) (more_exs a (more_exs b no_exs)) env k
 
+-- ---- calls of function words
+
+pub large_word_in : (b : Bool) (f : Fun) (a : pure.Ex) (env : Env) → is_large a env ≡ true
+    → is_large (node_ex (call_mark b f) (word f) (more_exs a no_exs)) env ≡ true
+large_word_in b f a env h = large_operand (call_mark b f) (word f) (more_exs a no_exs) env (large_first a no_exs env h)
+
+pub large_word_one : (b : Bool) (f : Fun) (a : pure.Ex) (env : Env) (x : Option Value) → x ≡ meaning a env
+    → is_big (false_where_undefined (call_mark b f) (value_of_node (word f) (x ∷ []))) ≡ true
+    → is_large (node_ex (call_mark b f) (word f) (more_exs a no_exs)) env ≡ true
+large_word_one b f a env x e h =
+    let k : is_big (false_where_undefined (call_mark b f) (value_of_node (word f) (meaning a env ∷ []))) ≡ true = rw (← e) h in
+    large_node (call_mark b f) (word f) (more_exs a no_exs) env k
+
+-- On a comprehension: of its items, and of the value.
+pub large_word_items : (f : Fun) (e : pure.Ex) (gs : List Gen) (env : Env) → large_items e (map pure_gen gs) env ≡ true
+    → is_large (node_ex (call_mark false f) (word f) (more_exs (comp_ex e (pure_gens gs)) no_exs)) env ≡ true
+large_word_items f e gs env h = large_word_in false f (comp_ex e (pure_gens gs)) env h
+
+pub large_word : (f : Fun) (e : pure.Ex) (gs : List Gen) (env : Env)
+    → is_big (false_where_undefined (call_mark false f)
+    (value_of_node (word f) (option_map list_value (items_at e (map pure_gen gs) env) ∷ []))) ≡ true
+    → is_large (node_ex (call_mark false f) (word f) (more_exs (comp_ex e (pure_gens gs)) no_exs)) env ≡ true
+large_word f e gs env h = large_word_one false f (comp_ex e (pure_gens gs)) env (meaning (comp_ex e (pure_gens gs)) env) refl h
+
+pub large_word_left : (m : Bool) (f : Fun) (a b : pure.Ex) (env : Env) → is_large a env ≡ true
+    → is_large (node_ex (call_mark m f) (word f) (more_exs a (more_exs b no_exs))) env ≡ true
+large_word_left m f a b env h =
+    large_operand (call_mark m f) (word f) (more_exs a (more_exs b no_exs)) env (large_first a (more_exs b no_exs) env h)
+
+pub large_word_right : (m : Bool) (f : Fun) (a b : pure.Ex) (env : Env) → is_large b env ≡ true
+    → is_large (node_ex (call_mark m f) (word f) (more_exs a (more_exs b no_exs))) env ≡ true
+large_word_right m f a b env h =
+    large_operand (call_mark m f) (word f) (more_exs a (more_exs b no_exs)) env
+    (large_later a (more_exs b no_exs) env (large_first b no_exs env h))
+
+pub large_word_two : (m : Bool) (f : Fun) (a b : pure.Ex) (env : Env) (x y : Option Value) → x ≡ meaning a env → y ≡ meaning b env
+    → is_big (false_where_undefined (call_mark m f) (value_of_node (word f) (x ∷ y ∷ []))) ≡ true
+    → is_large (node_ex (call_mark m f) (word f) (more_exs a (more_exs b no_exs))) env ≡ true
+large_word_two m f a b env x y e g h =
+    let k : is_big (false_where_undefined (call_mark m f) (value_of_node (word f) (meaning a env ∷ meaning b env ∷ []))) ≡ true =
+    rw (← e, ← g) h in
+    large_node (call_mark m f) (word f) (more_exs a (more_exs b no_exs)) env k
+
+pub large_word_all : (b : Bool) (f : Fun) (es : pure.Exs) (env : Env) (xs : List (Option Value)) → xs ≡ meanings es env
+    → is_big (false_where_undefined (call_mark b f) (value_of_node (word f) xs)) ≡ true
+    → is_large (node_ex (call_mark b f) (word f) es) env ≡ true
+large_word_all b f es env xs e h =
+    let k : is_big (false_where_undefined (call_mark b f) (value_of_node (word f) (meanings es env))) ≡ true = rw (← e) h in
+    large_node (call_mark b f) (word f) es env k
+
 -- ---- many operands
-
-pub large_in_call : (b : Bool) (f : Fun) (es : List Ex) (env : Env) → any_large (pure_exs es) env ≡ true
-    → is_large (pure_ex (variant.Call b f es)) env ≡ true
-large_in_call b f es env h = rw (pure_call b f es) (large_operand (call_mark b f) (word f) (pure_exs es) env h)
-
-pub large_call : (b : Bool) (f : Fun) (es : List Ex) (env : Env) (xs : List (Option Val))
-    → map (option_map pure_val) xs ≡ meanings (pure_exs es) env
-    → is_big (false_where_undefined (call_mark b f) (value_of_node (word f) (map (option_map pure_val) xs))) ≡ true
-    → is_large (pure_ex (variant.Call b f es)) env ≡ true
-large_call b f es env xs e h =
-    let k : is_big (false_where_undefined (call_mark b f) (value_of_node (word f) (meanings (pure_exs es) env))) ≡ true = rw (← e) h in
-    rw (pure_call b f es) (large_node (call_mark b f) (word f) (pure_exs es) env k)
 
 -- An index, and an application: of what is looked into, of the other operands, of the value.
 pub large_in_head : (b : Bool) (op : Op) (e : pure.Ex) (es : pure.Exs) (env : Env) → is_large e env ≡ true
@@ -166,8 +203,6 @@ large_in_to p env h =
 pub ruleset large_in_parts = (
   large_in_one,
   large_one,
-  large_in_call,
-  large_call,
   large_in_tuple,
   large_in_set,
   large_in_mset,

@@ -1,26 +1,30 @@
 -- The items at a first generator or condition, and whether they are large.
-use Rattle.std.proofs.Common.{◌≡◌, ℕ, zero, suc, ◌+◌, ◌<◌, ◌++◌, add-one, arith, drop, length, get_or, Bool, true, false, ◌||◌, List, [], ◌∷◌, map, Option, Some, None, option_map, refl, ap, sym, ◌∙◌}
-use Rattle.ess_semantics.specs.Values.{Value, number, truth, item, node, items_of}
+use Rattle.std.proofs.Common.{◌≡◌, true, false, List, [], ◌∷◌, map, Option, Some, None, option_map, refl, ap, sym, ◌∙◌}
+use Rattle.std.specs.Prelude.{ℤ}
+use Rattle.ess_semantics.specs.Trees.{name_pat, int_dom}
+use Rattle.ess_semantics.specs.Values.{Text, Value, number, truth, item, node, items_of}
 use Rattle.ess_semantics.specs.Lists.{and_then}
 use Rattle.ess_semantics.specs.Meaning.{Env, meaning, domain_of, members_in, is_true, where_true, with_pat}
 use Rattle.ess_semantics.specs.Large.{is_large, is_large_dom, some_in}
-use Rattle.std.specs.List.{list_any}
 use Rattle.ess_semantics.specs.Trees as pure
 use Rattle.ess_core.specs.ValueViews.{pure_val}
 use Rattle.ess_core.specs.declared.values.Val.{Val}
-use Rattle.ess_core.specs.TreeViews.{Item, over_item, from_item, pure_ex, pure_dom, pure_pat, pure_gen}
+use Rattle.ess_core.specs.TreeViews.{Item, over_item, from_item, pure_ex, pure_dom, pure_pat, pure_gen, pure_range, exs_of, words_of, within}
 use Rattle.ess_core.specs.declared.expressions.Ex.{Ex}
 use Rattle.ess_core.specs.declared.domains.Dom.{Dom}
 use Rattle.ess_core.specs.declared.expressions.Pat.{Pat}
 use Rattle.ess_core.specs.declared.expressions.Gen.{Gen}
-use Rattle.ess_core.specs.declared.expressions.Gen.TheVariants.{Over, From, If}
-use Rattle.ess_core.proofs.PartEquations.{pure_gen_over, pure_gen_from, pure_gen_if}
-use Rattle.ess_eval.specs.Items.{Gathered, items_at, swept, source_items, large_items, large_swept}
+use Rattle.ess_core.specs.declared.expressions.Gen.TheVariants.{If}
+use Rattle.ess_core.specs.declared.expressions.Pat.TheVariants as pats
+use Rattle.ess_core.specs.declared.domains.Dom.TheVariants as doms
+use Rattle.ess_core.specs.declared.domains.Range.{Range}
+use Rattle.ess_core.proofs.DomainEquations.{pure_int}
+use Rattle.ess_core.proofs.PartEquations.{pure_gen_if, pure_pat_name}
+use Rattle.ess_eval.specs.Items.{items_at, swept, source_items, large_items, large_swept}
 use Rattle.ess_core.specs.declared.tables.Env as tables
 use Rattle.ess_core.specs.declared.tables.Binding.{Binding}
 use Rattle.ess_eval.specs.Environments.{env_at}
 use Rattle.ess_eval.proofs.Excuses.{or_left, or_right}
-use Rattle.ess_eval.proofs.Gathering.{put_behind}
 
 -- ---- over a domain
 
@@ -114,20 +118,6 @@ pub large_behind : (body : Ex) (e : Ex) (rest : List Gen) (env : Env) → large_
     → large_items (pure_ex body) (map pure_gen (If e ∷ rest)) env ≡ true
 large_behind body e rest env h = rw (pure_gen_if e) (or_right (is_large (pure_ex e) env) _ h)
 
--- ---- one value after the other
-
-large_next : (f : Value → Bool) (vs : List Val) (i : ℕ) (v : Val) → i < length vs → v ≡ get_or vs i v → f (pure_val v) ≡ true
-    → list_any f (map pure_val (drop i vs)) ≡ true
-large_next f [] i v l e h = absurd (omega arith)
-large_next f (w ∷ vs) zero v l e h = let k : f (pure_val w) ≡ true = rw (← e) h in or_left (f (pure_val w)) (list_any f (map pure_val vs)) k
-large_next f (w ∷ vs) (suc i) v l e h = large_next f vs i v (omega arith) e h
-
--- The value at an index is one of those from there on.
-pub large_at : (body : pure.Ex) (p : pure.Pat) (vs : List Val) (i : ℕ) (v : Val) (gs : List Item) (env : Env) → i < length vs
-    → v ≡ get_or vs i v
-    → large_items body gs (with_pat p (pure_val v) env) ≡ true → large_swept body p (map pure_val (drop i vs)) gs env ≡ true
-large_at body p vs i v gs env l e h = large_next (λ w. large_items body gs (with_pat p w env)) vs i v l e h
-
 -- ---- in the env below generators
 
 -- Over the members of a domain, as a call finds them.
@@ -150,29 +140,43 @@ large_from_there body p x gs e bs cs o ws vs m n w z h =
     let v = rw n at m in
     large_from_swept body p x gs (env_at e bs) (map pure_val vs) v k
 
-drop_at : (vs : List Val) (i : ℕ) (v : Val) → i < length vs → v ≡ get_or vs i v → drop i vs ≡ v ∷ drop (suc i) vs
-drop_at [] i v l e = absurd (omega arith)
-drop_at (w ∷ vs) zero v l e = ap (λ x. x ∷ vs) (sym e)
-drop_at (w ∷ vs) (suc i) v l e = drop_at vs i v (omega arith) e
+-- The items over the members of a domain, as a call finds them.
+pub over_there : (body : pure.Ex) (p : pure.Pat) (d : pure.Dom) (gs : List Item) (e : tables.Env) (bs cs : List Binding)
+    (o : Option (List Val)) (vs : List Val) → option_map (map pure_val) o ≡ members_in (domain_of d (env_at e bs)) → o ≡ Some vs → cs ≡ bs
+    → swept body p (map pure_val vs) gs (env_at e cs) ≡ items_at body (over_item p d ∷ gs) (env_at e bs)
+over_there body p d gs e bs cs o vs m n z =
+    let v = rw n at m in
+    ap (λ xs. swept body p (map pure_val vs) gs (env_at e xs)) z ∙ sym (items_over body p d gs (env_at e bs) (map pure_val vs) v)
 
--- The items at one value were put behind the others, and those at the rest are left.
-pub sweep_more : (body : pure.Ex) (p : pure.Pat) (vs : List Val) (i : ℕ) (v : Val) (gs : List Item) (e : tables.Env) (bs cs : List Binding)
-    (t : Bool) (old mid : List Value) (all : Option (List Value)) → i < length vs → v ≡ get_or vs i v → cs ≡ bs → t ≡ true
-    → Gathered t old mid (items_at body gs (with_pat p (pure_val v) (env_at e cs)))
-    → option_map (λ xs. old ++ xs) (swept body p (map pure_val (drop i vs)) gs (env_at e bs)) ≡ all
-    → option_map (λ xs. mid ++ xs) (swept body p (map pure_val (drop (i + 1) vs)) gs (env_at e bs)) ≡ all
-sweep_more body p vs i v gs e bs cs t old mid all l g z y h k =
-    let m = rw (y, z) at h in
-    let n = rw (drop_at vs i v l g) at k in
-    rw (add-one i) (put_behind old mid (items_at body gs (with_pat p (pure_val v) (env_at e bs))) (swept body p (map pure_val (drop (suc i) vs)) gs (env_at e bs)) m ∙ n)
+-- The same over whole numbers.
+pub numbers_there : (body : pure.Ex) (p : pure.Pat) (d : pure.Dom) (gs : List Item) (e : tables.Env) (bs cs : List Binding)
+    (o : Option (List ℤ)) (ms ns : List ℤ) → option_map (map number) o ≡ members_in (domain_of d (env_at e bs)) → o ≡ Some ns → ms ≡ ns
+    → cs ≡ bs
+    → swept body p (map number ms) gs (env_at e cs) ≡ items_at body (over_item p d ∷ gs) (env_at e bs)
+numbers_there body p d gs e bs cs o ms ns m n w z =
+    let v = rw n at m in
+    ap (λ xs. swept body p (map number xs) gs (env_at e cs)) w
+    ∙ ap (λ xs. swept body p (map number ns) gs (env_at e xs)) z
+    ∙ sym (items_over body p d gs (env_at e bs) (map number ns) v)
 
--- Where a later value is large, one from here on is.
-pub large_more : (body : pure.Ex) (p : pure.Pat) (vs : List Val) (i : ℕ) (v : Val) (gs : List Item) (env : Env) → i < length vs
-    → v ≡ get_or vs i v → large_swept body p (map pure_val (drop (i + 1) vs)) gs env ≡ true
-    → large_swept body p (map pure_val (drop i vs)) gs env ≡ true
-large_more body p vs i v gs env l g h =
-    let k = rw (add-one i) at h in
-    rw (drop_at vs i v l g) (or_right (large_items body gs (with_pat p (pure_val v) env)) _ k)
+pub numbers_large_there : (body : pure.Ex) (p : pure.Pat) (d : pure.Dom) (gs : List Item) (e : tables.Env) (bs cs : List Binding)
+    (o : Option (List ℤ)) (ms ns : List ℤ) → option_map (map number) o ≡ members_in (domain_of d (env_at e bs)) → o ≡ Some ns → ms ≡ ns
+    → cs ≡ bs
+    → large_swept body p (map number ms) gs (env_at e cs) ≡ true → large_items body (over_item p d ∷ gs) (env_at e bs) ≡ true
+numbers_large_there body p d gs e bs cs o ms ns m n w z h =
+    let k = rw (w, z) at h in
+    let v = rw n at m in
+    large_over_swept body p d gs (env_at e bs) (map number ns) v k
+
+-- A name over an int domain, as the tree has them.
+pub large_named_ints : (body : pure.Ex) (q : Pat) (x : Dom) (a : Text) (rs ss : List Range) (gs : List Item) (env : Env) → q ≡ pats.Name a
+    → x ≡ doms.Int rs → ss ≡ rs
+    → large_items body (over_item (name_pat a) (int_dom (words_of (map pure_range ss)) (exs_of (within (map pure_range ss)))) ∷ gs) env
+    ≡ true
+    → large_items body (over_item (pure_pat q) (pure_dom x) ∷ gs) env ≡ true
+large_named_ints body q x a rs ss gs env h k l m =
+    let n = rw l at m in
+    rw (h, k, pure_pat_name a, pure_int rs) n
 
 pub ruleset at_condition = (items_where, items_where_not, large_condition, large_behind)
 

@@ -4,7 +4,9 @@ pub mod Bindings
 pub mod Marks
 pub mod Weights
 pub mod Gathering
+pub mod Takings
 pub mod Generators
+pub mod Sweeps
 pub mod Excuses
 pub mod DomainExcuses
 pub mod Closings

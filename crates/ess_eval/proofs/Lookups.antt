@@ -1,9 +1,10 @@
 -- Names that are looked for in one list of bindings, then in another.
-use Rattle.std.proofs.Common.{◌≡◌, refl, ap, sym, ◌∙◌, Bool, true, false, List, [], ◌∷◌, ◌++◌, map, Option, Some, None, option_map, if◌then◌else◌, cond}
+use Rattle.std.proofs.Common.{◌≡◌, refl, ap, Bool, true, false, List, [], ◌∷◌, ◌++◌, length, map, Some, None, option_map, cond}
 use Rattle.std.specs.Prelude.{reverse}
 use Rattle.std.specs.List.{find}
 use Rattle.ess_semantics.specs.Values.{Text, Value}
 use Rattle.ess_semantics.specs.Order.{same_text}
+use Rattle.ess_semantics.proofs.Texts.{same_text-equal}
 use Rattle.ess_semantics.specs.Names.{Names, look}
 use Rattle.ess_semantics.specs.Lists.{or_else}
 use Rattle.ess_semantics.specs.Meaning.{type_entry}
@@ -55,3 +56,11 @@ entry_found (t ∷ ts) a = go (same_text t.name a) (entry_found ts a)
         → elim b [ true ↦ Some (pure_type_entry t) | false ↦ type_entry (map pure_type_entry ts) a ] ≡ option_map pure_type_entry (cond b (Some t) (find (λ e. same_text e.name a) ts))
     go true h = refl
     go false h = h
+
+-- Names of different lengths differ.
+pub other_lengths : (a b : Text) → (length a ≡ length b → ⊥) → false ≡ same_text a b
+other_lengths a b h = go (same_text a b) refl
+  where
+    go : (c : Bool) → same_text a b ≡ c → false ≡ c
+    go true e = absurd (h (ap length (same_text-equal a b e)))
+    go false e = refl

@@ -50,9 +50,26 @@ abbrev mutual
   weight_doms no_doms = 0
   weight_doms (more_doms d ds) = 2 + weight_dom d + weight_doms ds
 
+-- Of a literal, less than its weight and more than that of its parts.
+abbrev pub weight_inside : Ex → ℕ
+weight_inside (node_ex b op es) = 3 + steps_of op + weights es
+weight_inside (matrix_ex es d) = 3 + weights es + weight_dom d
+weight_inside e = 0
+
 -- The parts of a pair weigh less than the pair.
 pub lighter_from : (p : PairEx) → weight (pure_ex (out-PairEx p).from) < weight (pure_pair_ex p)
 lighter_from p = rw (pure_pair_ex_is p) (omega arith)
 
 pub lighter_to : (p : PairEx) → weight (pure_ex (out-PairEx p).to) < weight (pure_pair_ex p)
 lighter_to p = rw (pure_pair_ex_is p) (omega arith)
+
+-- What counts for a literal weighs less than the expression.
+pub lighter_inside : (e : Ex) → weight_inside e < weight e
+lighter_inside (number_ex n) = omega arith
+lighter_inside (truth_ex b) = omega arith
+lighter_inside (name_ex a) = omega arith
+lighter_inside (node_ex b op es) = omega arith
+lighter_inside (matrix_ex es d) = omega arith
+lighter_inside (comp_ex e gs) = omega arith
+lighter_inside (cell_ex b n es) = omega arith
+lighter_inside (seen_ex r d ns es) = omega arith

@@ -1,28 +1,28 @@
 ghost use Rattle.std.specs.Prelude.{◌≡◌, IfOk, OnOk, true, map, option_map};
-ghost use Rattle.ess_semantics.specs.Trees.{index, application, node_ex, matrix_ex, more_exs, ex2, is_truth_op2};
+ghost use Rattle.ess_semantics.specs.Trees.{index, application, node_ex, matrix_ex, more_exs, no_exs, word, ex2, is_truth_op2};
 ghost use Rattle.ess_semantics.specs.Meaning.{meaning, as_int};
 ghost use Rattle.ess_semantics.specs.Large.{is_large};
 ghost use Rattle.ess_core.specs.ValueViews.{pure_val};
-ghost use Rattle.ess_core.specs.TreeViews.{pure_ex, pure_exs, pure_dom, pure_step, exs_of, words_of, within};
+ghost use Rattle.ess_core.specs.TreeViews.{pure_ex, pure_exs, pure_dom, pure_step, exs_of, words_of, within, call_mark};
 ghost use Rattle.ess_eval_operators.specs.declared.OperateNo.TheVariants.{Big};
 ghost use Rattle.ess_eval.specs.Environments.{env_at};
 
 use crate::closing::domain_members;
-use crate::generating::comprehension;
-use crate::marking::{application_value, binary_value, index_value, unary_value, word_value};
-use crate::names::value_of_name;
-use crate::operands::{field_values_at, pairs_at, steps_at, values_at};
-use crate::reading::{matrix_of, number_of, view_value};
-use ess_core::{Binding, Dom, Env, Ex, Op2, Row, Step, Val};
-use ess_eval_operators::{
-    OperateNo, function_value, list_value, mset_value, partition_value, record_value,
-    relation_value, set_value, tuple_value,
+use crate::generating::{comprehension, word_over};
+use crate::literals::literal_at;
+use crate::marking::{
+    application_value, binary_value, index_value, unary_value, word_value, word_value1, word_value2,
 };
+use crate::names::value_of_name;
+use crate::operands::{operand, steps_at, unnamed_at, values_at};
+use crate::reading::{matrix_of, number_of, view_value};
+use ess_core::{Binding, Dom, Env, Ex, Fun, Op2, Row, Step, Val};
+use ess_eval_operators::OperateNo;
 use std::alloc::Global;
 
 /// What an expression means below generators that have bound names.
 #[cycle(value)]
-#[tactic(auto, using(crate::proofs::Excuses::large_in_parts))]
+#[tactic(auto, using(crate::proofs::Excuses::large_in_parts, crate::proofs::Weights::lighter_inside))]
 pub(crate) fn value_at(
     alloc: Global,
     ex: &Ex,
@@ -45,10 +45,7 @@ pub(crate) fn value_at(
         },
         Ex::One(op, a) => unary_value(alloc, *op, value_at(alloc, a.get(), env, bound)?),
         Ex::Two(op, a, b) => two_at(alloc, *op, a.get(), b.get(), env, bound),
-        Ex::Call(mark, fun, args) => {
-            let args = values_at(alloc, args.as_slice(), env, bound)?;
-            word_value(alloc, *mark, *fun, args)
-        }
+        Ex::Call(mark, fun, args) => call_at(alloc, *mark, *fun, args.as_slice(), env, bound),
         Ex::At(mark, of, steps) => indexed_at(alloc, *mark, of.get(), steps.as_slice(), env, bound),
         Ex::Apply(mark, of, args) => applied_at(
             alloc,
@@ -58,39 +55,6 @@ pub(crate) fn value_at(
             env,
             bound,
         ),
-        Ex::Tuple(parts) => Ok(tuple_value(
-            alloc,
-            values_at(alloc, parts.as_slice(), env, bound)?,
-        )?),
-        Ex::Rec(fields) => {
-            let vals = field_values_at(alloc, fields.as_slice(), env, bound)?;
-            Ok(record_value(alloc, fields.as_slice(), vals)?)
-        }
-        Ex::Set(members) => Ok(set_value(
-            alloc,
-            values_at(alloc, members.as_slice(), env, bound)?,
-        )?),
-        Ex::MSet(members) => Ok(mset_value(
-            alloc,
-            values_at(alloc, members.as_slice(), env, bound)?,
-        )?),
-        Ex::Function(pairs) => {
-            let mut vals = Row::new(alloc);
-            pairs_at(alloc, pairs.as_slice(), env, bound, &mut vals)?;
-            Ok(function_value(alloc, vals)?)
-        }
-        Ex::Relation(tuples) => Ok(relation_value(
-            alloc,
-            values_at(alloc, tuples.as_slice(), env, bound)?,
-        )?),
-        Ex::Partition(parts) => Ok(partition_value(
-            alloc,
-            values_at(alloc, parts.as_slice(), env, bound)?,
-        )?),
-        Ex::Matrix(items, None) => Ok(list_value(
-            alloc,
-            values_at(alloc, items.as_slice(), env, bound)?,
-        )?),
         Ex::Matrix(items, Some(axis)) => matrix_at(alloc, items.as_slice(), axis.get(), env, bound),
         Ex::Comp(item, gens) => comprehension(alloc, item.get(), gens.as_slice(), env, bound),
         Ex::Cell(mark, _, _) => {
@@ -101,6 +65,7 @@ pub(crate) fn value_at(
             }
         }
         Ex::Seen(view) => view_value(view.get(), env, bound.as_slice()),
+        _ => literal_at(alloc, ex, env, bound),
     }
 }
 
@@ -119,14 +84,114 @@ fn two_at(
     ensures kept { OnOk result (bound.new ≡ bound.old) }
     ensures big { result ≡ Err Big → is_large (ex2 (is_truth_op2 op) op (pure_ex a.now) (pure_ex b.now)) (env_at env.now bound.old) ≡ true }
 {
-    let a = value_at(alloc, a, env, bound)?;
-    match value_at(alloc, b, env, bound) {
-        Ok(b) => binary_value(alloc, op, a, b),
+    let x = unnamed_at(alloc, a, env, bound)?;
+    let y = match unnamed_at(alloc, b, env, bound) {
+        Ok(y) => y,
         Err(no) => {
-            drop(a);
-            Err(no)
+            drop(x);
+            return Err(no);
+        }
+    };
+    let found = binary_value(
+        alloc,
+        op,
+        operand(a, &x, env, bound.as_slice()),
+        operand(b, &y, env, bound.as_slice()),
+    );
+    drop(x);
+    drop(y);
+    found
+}
+
+/// A call of a function word.
+#[cycle(value)]
+#[tactic(auto, using(crate::proofs::Excuses::large_operand, crate::proofs::Excuses::large_word_all))]
+fn call_at(
+    alloc: Global,
+    mark: bool,
+    fun: Fun,
+    args: &[Ex],
+    env: &Env,
+    bound: &mut Row<Binding>,
+) -> Result<Option<Val>, OperateNo>
+    ensures ok { IfOk result (λ o. option_map pure_val o ≡ meaning (node_ex (call_mark mark fun) (word fun) (pure_exs args.now)) (env_at env.now bound.old)) }
+    ensures kept { OnOk result (bound.new ≡ bound.old) }
+    ensures big { result ≡ Err Big → is_large (node_ex (call_mark mark fun) (word fun) (pure_exs args.now)) (env_at env.now bound.old) ≡ true }
+{
+    if let Some((a, rest)) = args.split_first() {
+        match rest.split_first() {
+            None => return call_one(alloc, mark, fun, a, env, bound),
+            Some((b, others)) => {
+                if others.is_empty() {
+                    return call_two(alloc, mark, fun, a, b, env, bound);
+                }
+            }
         }
     }
+    let args = values_at(alloc, args, env, bound)?;
+    word_value(alloc, mark, fun, args)
+}
+
+/// A call of a function word on one operand.
+#[cycle(value)]
+#[tactic(auto, using(crate::proofs::Excuses::large_word_in, crate::proofs::Excuses::large_word_one))]
+fn call_one(
+    alloc: Global,
+    mark: bool,
+    fun: Fun,
+    a: &Ex,
+    env: &Env,
+    bound: &mut Row<Binding>,
+) -> Result<Option<Val>, OperateNo>
+    ensures ok { IfOk result (λ o. option_map pure_val o ≡ meaning (node_ex (call_mark mark fun) (word fun) (more_exs (pure_ex a.now) no_exs)) (env_at env.now bound.old)) }
+    ensures kept { OnOk result (bound.new ≡ bound.old) }
+    ensures big { result ≡ Err Big → is_large (node_ex (call_mark mark fun) (word fun) (more_exs (pure_ex a.now) no_exs)) (env_at env.now bound.old) ≡ true }
+{
+    if !mark {
+        if let Ex::Comp(item, gens) = a {
+            return word_over(alloc, fun, item.get(), gens.as_slice(), env, bound);
+        }
+    }
+    let x = unnamed_at(alloc, a, env, bound)?;
+    let found = word_value1(alloc, mark, fun, operand(a, &x, env, bound.as_slice()));
+    drop(x);
+    found
+}
+
+/// A call of a function word on two operands.
+#[cycle(value)]
+#[tactic(auto, using(crate::proofs::Excuses::large_word_left, crate::proofs::Excuses::large_word_right, crate::proofs::Excuses::large_word_two))]
+fn call_two(
+    alloc: Global,
+    mark: bool,
+    fun: Fun,
+    a: &Ex,
+    b: &Ex,
+    env: &Env,
+    bound: &mut Row<Binding>,
+) -> Result<Option<Val>, OperateNo>
+    ensures ok { IfOk result (λ o. option_map pure_val o ≡ meaning (node_ex (call_mark mark fun) (word fun) (more_exs (pure_ex a.now) (more_exs (pure_ex b.now) no_exs))) (env_at env.now bound.old)) }
+    ensures kept { OnOk result (bound.new ≡ bound.old) }
+    ensures big { result ≡ Err Big → is_large (node_ex (call_mark mark fun) (word fun) (more_exs (pure_ex a.now) (more_exs (pure_ex b.now) no_exs))) (env_at env.now bound.old) ≡ true }
+{
+    let x = unnamed_at(alloc, a, env, bound)?;
+    let y = match unnamed_at(alloc, b, env, bound) {
+        Ok(y) => y,
+        Err(no) => {
+            drop(x);
+            return Err(no);
+        }
+    };
+    let found = word_value2(
+        alloc,
+        mark,
+        fun,
+        operand(a, &x, env, bound.as_slice()),
+        operand(b, &y, env, bound.as_slice()),
+    );
+    drop(x);
+    drop(y);
+    found
 }
 
 /// An index. What a name holds is looked into where it lies.

@@ -5,12 +5,15 @@ mod building;
 mod calls;
 mod closing;
 mod evaluating;
+mod folding;
 mod generating;
+mod literals;
 mod marking;
 mod names;
 mod numbering;
 mod operands;
 mod patterns;
 mod reading;
+mod sweeping;
 
 pub use calls::{EvalNo, domain_of, truth, value};

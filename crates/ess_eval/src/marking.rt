@@ -65,16 +65,59 @@ pub(crate) fn unary_value(alloc: Global, op: Op1, a: Option<Val>) -> Result<Opti
 pub(crate) fn binary_value(
     alloc: Global,
     op: Op2,
-    a: Option<Val>,
-    b: Option<Val>,
+    a: Option<&Val>,
+    b: Option<&Val>,
 ) -> Result<Option<Val>, OperateNo>
-    ensures ok { IfOk result (λ o. option_map pure_val o ≡ false_where_undefined (is_true_op2 op) (value_of_node (binary op) (option_map pure_val a ∷ option_map pure_val b ∷ []))) }
-    ensures big { result ≡ Err Big → is_big (false_where_undefined (is_true_op2 op) (value_of_node (binary op) (option_map pure_val a ∷ option_map pure_val b ∷ []))) ≡ true }
+    ensures ok { IfOk result (λ o. option_map pure_val o ≡ false_where_undefined (is_true_op2 op) (value_of_node (binary op) (option_map pure_val (option_copied a.entry) ∷ option_map pure_val (option_copied b.entry) ∷ []))) }
+    ensures big { result ≡ Err Big → is_big (false_where_undefined (is_true_op2 op) (value_of_node (binary op) (option_map pure_val (option_copied a.entry) ∷ option_map pure_val (option_copied b.entry) ∷ []))) ≡ true }
 {
-    let found = value_of_binary(alloc, op, a.as_ref(), b.as_ref());
-    drop(a);
-    drop(b);
+    let found = value_of_binary(alloc, op, a, b);
     if !is_truth_op2(op) {
+        return found;
+    }
+    match found {
+        Ok(found) => Ok(Some(Val::Truth(truth_of(found)))),
+        Err(OperateNo::Big) => Ok(Some(Val::Truth(false))),
+        Err(OperateNo::NoMemory) => Err(OperateNo::NoMemory),
+    }
+}
+
+/// The value of a call of a function word on one operand.
+#[tactic(auto, using(crate::proofs::Marks::big_is_false))]
+pub(crate) fn word_value1(
+    alloc: Global,
+    mark: bool,
+    fun: Fun,
+    a: Option<&Val>,
+) -> Result<Option<Val>, OperateNo>
+    ensures ok { IfOk result (λ o. option_map pure_val o ≡ false_where_undefined (mark_of_call mark fun) (value_of_node (word fun) (option_map pure_val (option_copied a.entry) ∷ []))) }
+    ensures big { result ≡ Err Big → is_big (false_where_undefined (mark_of_call mark fun) (value_of_node (word fun) (option_map pure_val (option_copied a.entry) ∷ []))) ≡ true }
+{
+    let found = value_of_word1(alloc, fun, a);
+    if !call_mark(mark, fun) {
+        return found;
+    }
+    match found {
+        Ok(found) => Ok(Some(Val::Truth(truth_of(found)))),
+        Err(OperateNo::Big) => Ok(Some(Val::Truth(false))),
+        Err(OperateNo::NoMemory) => Err(OperateNo::NoMemory),
+    }
+}
+
+/// The value of a call of a function word on two operands.
+#[tactic(auto, using(crate::proofs::Marks::big_is_false))]
+pub(crate) fn word_value2(
+    alloc: Global,
+    mark: bool,
+    fun: Fun,
+    a: Option<&Val>,
+    b: Option<&Val>,
+) -> Result<Option<Val>, OperateNo>
+    ensures ok { IfOk result (λ o. option_map pure_val o ≡ false_where_undefined (mark_of_call mark fun) (value_of_node (word fun) (option_map pure_val (option_copied a.entry) ∷ option_map pure_val (option_copied b.entry) ∷ []))) }
+    ensures big { result ≡ Err Big → is_big (false_where_undefined (mark_of_call mark fun) (value_of_node (word fun) (option_map pure_val (option_copied a.entry) ∷ option_map pure_val (option_copied b.entry) ∷ []))) ≡ true }
+{
+    let found = value_of_word2(alloc, fun, a, b);
+    if !call_mark(mark, fun) {
         return found;
     }
     match found {

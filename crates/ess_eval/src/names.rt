@@ -54,8 +54,12 @@ fn newest_entry<'a>(entries: &'a [TypeEntry], name: &Text) -> Option<&'a TypeEnt
 }
 
 /// Whether two names are equal.
+#[tactic(auto, using(crate::proofs::Lookups::other_lengths))]
 fn same_name(a: &Text, b: &Text) -> bool
     ensures { result ≡ same_text a.now b.now }
 {
+    if a.len() != b.len() {
+        return false;
+    }
     a.cmp(b) == Ordering::Equal
 }

@@ -1,15 +1,51 @@
 ghost use Rattle.std.specs.Prelude.{◌≡◌, ◌++◌, IfOk, OnOk, true, map, option_map};
+ghost use Rattle.std.specs.Option.{option_copied};
 ghost use Rattle.ess_semantics.specs.Meaning.{meaning, meanings};
 ghost use Rattle.ess_semantics.specs.Large.{is_large, any_large};
 ghost use Rattle.ess_core.specs.ValueViews.{pure_val, pure_pair};
-ghost use Rattle.ess_core.specs.TreeViews.{pure_exs, pure_step, pure_field_ex, pure_pair_ex, exs_of, field_values, within};
+ghost use Rattle.ess_core.specs.TreeViews.{pure_ex, pure_exs, pure_step, pure_field_ex, pure_pair_ex, exs_of, field_values, within};
 ghost use Rattle.ess_eval_operators.specs.declared.OperateNo.TheVariants.{Big};
 ghost use Rattle.ess_eval.specs.Environments.{env_at};
+ghost use Rattle.ess_eval.specs.Operands.{operand_value};
 
 use crate::evaluating::value_at;
+use crate::names::value_of_name;
 use ess_core::{Binding, Env, Ex, FieldEx, Pair, PairEx, Row, Step, Val};
 use ess_eval_operators::{OperateNo, pair_value};
 use std::alloc::Global;
+
+/// The value of an operand, but nothing for a name: that is looked into where it lies.
+#[cycle(value)]
+pub(crate) fn unnamed_at(
+    alloc: Global,
+    ex: &Ex,
+    env: &Env,
+    bound: &mut Row<Binding>,
+) -> Result<Option<Val>, OperateNo>
+    ensures ok { IfOk result (λ o. operand_value (pure_ex ex.now) (env_at env.now bound.old) (option_map pure_val o) ≡ meaning (pure_ex ex.now) (env_at env.now bound.old)) }
+    ensures kept { OnOk result (bound.new ≡ bound.old) }
+    ensures big { result ≡ Err Big → is_large (pure_ex ex.now) (env_at env.now bound.old) ≡ true }
+{
+    match ex {
+        Ex::Name(_) => Ok(None),
+        _ => value_at(alloc, ex, env, bound),
+    }
+}
+
+/// The value of an operand, where the value that was found is that of an operand that is no name.
+pub(crate) fn operand<'a>(
+    ex: &Ex,
+    found: &'a Option<Val>,
+    env: &'a Env,
+    bound: &'a [Binding],
+) -> Option<&'a Val>
+    ensures { option_map pure_val (option_copied result) ≡ operand_value (pure_ex ex.now) (env_at env.now bound.now) (option_map pure_val found.now) }
+{
+    match ex {
+        Ex::Name(name) => value_of_name(name, env, bound),
+        _ => found.as_ref(),
+    }
+}
 
 /// The values of operands, each there or not.
 #[cycle(value)]

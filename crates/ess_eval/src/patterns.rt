@@ -1,12 +1,14 @@
-ghost use Rattle.std.specs.Prelude.{◌≡◌, ◌++◌, OnOk, map, take, length};
+ghost use Rattle.std.specs.Prelude.{◌≡◌, [], ◌∷◌, ◌++◌, OnOk, map, take, length};
 ghost use Rattle.ess_semantics.specs.Meaning.{bind as bound_by, bind_all as all_bound_by};
 ghost use Rattle.ess_core.specs.ValueViews.{pure_val};
 ghost use Rattle.ess_core.specs.TableViews.{pure_bindings};
 ghost use Rattle.ess_core.specs.TreeViews.{pure_pat, pats_of};
+ghost use Rattle.ess_eval.specs.Environments.{named, all_but_last, name_of_last};
 
-use ess_core::{Binding, NoMemory, Pat, Row, Val};
+use ess_core::{Binding, NoMemory, Pat, Row, Text, Val};
 use ess_eval_operators::items_of;
 use std::alloc::Global;
+use std::mem;
 
 /// Binds the names of a pattern to a value and its parts. `NoMemory` where there is no room for them.
 #[cycle(bind)]
@@ -59,4 +61,34 @@ fn bind_all(
         }
     }
     Ok(())
+}
+
+/// Binds a name to a value. The name is lent to the binding: no text stays in its place.
+pub(crate) fn bind_name(
+    alloc: Global,
+    name: &mut Text,
+    val: Val,
+    bound: &mut Row<Binding>,
+) -> Result<(), NoMemory>
+    ensures { OnOk result (bound.new ≡ bound.old ++ named name.old val ∷ []) }
+{
+    let own = mem::replace(name, Text::new(alloc));
+    bound.push(Binding { name: own, val })
+}
+
+/// Takes the newest binding away and gives its name back. `NoMemory` where there is none.
+#[tactic(auto, using(crate::proofs::Bindings::before_pushed, crate::proofs::Bindings::name_pushed))]
+pub(crate) fn unbind_name(name: &mut Text, bound: &mut Row<Binding>) -> Result<(), NoMemory>
+    ensures rest { OnOk result (bound.new ≡ all_but_last bound.old) }
+    ensures back { OnOk result (name.new ≡ name_of_last bound.old) }
+{
+    match bound.pop() {
+        Some(binding) => {
+            let Binding { name: own, val } = binding;
+            drop(val);
+            drop(mem::replace(name, own));
+            Ok(())
+        }
+        None => Err(NoMemory),
+    }
 }

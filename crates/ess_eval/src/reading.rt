@@ -1,4 +1,4 @@
-ghost use Rattle.std.specs.Prelude.{◌≡◌, IfOk, None, true, map, option_map};
+ghost use Rattle.std.specs.Prelude.{◌≡◌, IfOk, None, true, map, option_map, reverse};
 ghost use Rattle.ess_semantics.specs.Lists.{and_then, all_some};
 ghost use Rattle.ess_core.specs.TreeViews.{pure_dom, pure_view};
 ghost use Rattle.ess_semantics.specs.Large.{is_large};
@@ -59,6 +59,15 @@ pub(crate) fn items_in(alloc: Global, val: Val) -> Result<Row<Val>, NoMemory>
             items
         }
     }
+}
+
+/// The values, the last one first.
+pub(crate) fn reversed(vals: Row<Val>) -> Row<Val>
+    ensures { result ≡ reverse vals }
+{
+    let mut vals = vals.into_vec();
+    vals.reverse();
+    Row::from_vec(vals)
 }
 
 /// A matrix with the members of its index domain, where these and each item are there, and they are as many.

@@ -1,8 +1,9 @@
 -- The representations of all givens and finds, as options, choose themselves; so the specification stays of the class.
-use Rattle.std.proofs.Common.{◌≡◌, refl, ap, ◌∙◌, Bool, true, false, ◌&&◌, ◌||◌, not, List, [], ◌∷◌, ◌++◌, map, codes, None, is_some}
+use Rattle.std.proofs.Common.{◌≡◌, refl, sym, ap, ◌∙◌, subst, ◌^◌, nat_le, Bool, true, false, ◌&&◌, ◌||◌, not, List, [], ◌∷◌, ◌++◌, inl, inr, map, length, codes, Option, Some, None, is_some}
 use Rattle.std.specs.List.{list_all}
 use Rattle.ess_semantics.specs.declared.words.Op2.{Op2}
 use Rattle.ess_semantics.specs.Lists.{append_all, is_some_and, is_empty}
+use Rattle.ess_semantics.specs.Values.{Text}
 use Rattle.ess_semantics.specs.Names.{Names, look, keys}
 use Rattle.ess_semantics.specs.Trees.{Ex, name_ex, Dom, Stm, given, given_enum, let_ex, let_dom, let_enum, let_unnamed, needs, find, such_that, minimise, maximise, ex2}
 use Rattle.ess_semantics.specs.Judgements.{fault}
@@ -16,7 +17,10 @@ use Rattle.conjure_model_laws.specs.Printed.{printed_name}
 use Rattle.ess_translate_tables_laws.proofs.DistinctNames.{distinct-names}
 use Rattle.ess_translate_tables_laws.proofs.ChosenAgain.{Alike, all_of, all-alike, plans-alike}
 use Rattle.ess_flat_models_laws.specs.FlatSpecifications.{given_mark, is_scalar_dom, is_atom_alone, scalar_mark, is_flat_truth, is_flat_number, has_marks}
-use Rattle.ess_mixed_models_laws.specs.MixedSpecifications.{kinds, places, is_set_dom, is_occurrence_alone, members_of, is_of_kind, is_membership, is_mixed_statement, are_mixed_statements, types_come_first, have_bounds, is_mixed_specification}
+use Rattle.conjure_laws.specs.Members.{In}
+use Rattle.conjure_laws.proofs.Lookups.{look-in}
+use Rattle.ess_nested_laws.specs.NestedDomains.{is_nested_dom}
+use Rattle.ess_mixed_models_laws.specs.MixedSpecifications.{is_ranged_constraint, kinds, places, is_set_dom, is_occurrence_alone, members_of, is_of_kind, has_printed_name, is_kept_by_members, is_membership, is_one_fitting, has_few_tables, is_mixed_statement, are_mixed_statements, types_come_first, have_bounds, is_mixed_specification}
 use Rattle.ess_mixed_models_laws.proofs.NamedKinds.{no-yes}
 use Rattle.ess_mixed_headers_laws.specs.Laws.{ChosenOptionsKeepTheClass}
 
@@ -33,13 +37,33 @@ right-alike : (p o : Options) (xs ys : Names Dom) → Alike p o (xs ++ ys) → A
 right-alike p o [] ys a = a
 right-alike p o (x ∷ xs) ys a = right-alike p o xs ys a.1
 
+alike-at : (p o : Options) (xs : Names Dom) (x : Text) (d : Dom) → Alike p o xs → In (x, d) xs → chosen_reprs p x d ≡ chosen_reprs o x d
+alike-at p o [] x d a i = absurd i
+alike-at p o (y ∷ xs) x d a (inl e) = subst (λ z. chosen_reprs p z.0 z.1 ≡ chosen_reprs o z.0 z.1) (sym e) a.0
+alike-at p o (y ∷ xs) x d a (inr i) = alike-at p o xs x d a.1 i
+
 -- Options that choose alike, with the same plans, keep the class.
-module _ (S : List Stm) (p o : Options) (q : plans S p ≡ plans S o) where
+module _ (S : List Stm) (p o : Options) (q : plans S p ≡ plans S o) (kept : Alike p o (kept_names S)) where
+  kept-again : (x : Text) → is_kept_by_members S p x ≡ is_kept_by_members S o x
+  kept-again x = go (look (kept_names S) x) refl
+    where
+      go : (l : Option Dom) → look (kept_names S) x ≡ l →
+          is_some_and l (λ d. is_occurrence_alone (chosen_reprs p x d)) ≡ is_some_and l (λ d. is_occurrence_alone (chosen_reprs o x d))
+      go None e = refl
+      go (Some d) e = ap is_occurrence_alone (alike-at p o (kept_names S) x d kept (look-in (kept_names S) x d e))
+
   member-again : (e : Ex) → is_membership S o e ≡ true → is_membership S p e ≡ true
   member-again (ex2 true Op2.Member v (name_ex x)) t =
       ap (λ Ps. is_some_and (members_of (look (kept_names S) x)) (is_of_kind (places S) v)
-      && not (is_empty (printed_name (keys (names_of_plans Ps)) 0))) q ∙ t
+      && (not (is_empty (printed_name (keys (names_of_plans Ps)) 0)) && is_kept_by_members S p x)) q
+      ∙ ap (λ b. is_some_and (members_of (look (kept_names S) x)) (is_of_kind (places S) v) && (has_printed_name S o && b)) (kept-again x)
+      ∙ t
   member-again e t = absurd (no-yes t)
+
+  first-again : (b c d : Bool) → (b ≡ true → c ≡ true) → b || d ≡ true → c || d ≡ true
+  first-again true c d f t = ap (λ z. z || d) (f refl)
+  first-again false true d f t = refl
+  first-again false false d f t = t
 
   either-again : (b c d : Bool) → (c ≡ true → d ≡ true) → b || c ≡ true → b || d ≡ true
   either-again true c d f t = refl
@@ -51,9 +75,10 @@ module _ (S : List Stm) (p o : Options) (q : plans S p ≡ plans S o) where
       ∙ ap (λ rs. is_scalar_dom (given_mark (plans S o)) d && is_atom_alone rs) a.0 ∙ t
   statement-again (find x d) a t =
       ap (λ Ps. (is_scalar_dom (given_mark Ps) d && is_atom_alone (chosen_reprs p x d))
-      || (is_set_dom (kinds S) d && is_occurrence_alone (chosen_reprs p x d))) q
-      ∙ ap (λ rs. (is_scalar_dom (given_mark (plans S o)) d && is_atom_alone rs) || (is_set_dom (kinds S) d && is_occurrence_alone rs))
-      a.0 ∙ t
+      || ((is_set_dom (kinds S) d && is_occurrence_alone (chosen_reprs p x d))
+      || (is_nested_dom d && (is_one_fitting d (chosen_reprs p x d) && nat_le (length (keys (names_of_plans Ps))) (2 ^ 62))))) q
+      ∙ ap (λ rs. (is_scalar_dom (given_mark (plans S o)) d && is_atom_alone rs) || ((is_set_dom (kinds S) d && is_occurrence_alone rs)
+      || (is_nested_dom d && (is_one_fitting d rs && has_few_tables S o)))) a.0 ∙ t
   statement-again (given_enum u) a t = refl
   statement-again (let_enum u ns) a t = refl
   statement-again (let_unnamed u e) a t = t
@@ -61,8 +86,10 @@ module _ (S : List Stm) (p o : Options) (q : plans S p ≡ plans S o) where
   statement-again (let_dom x d) a t = refl
   statement-again (needs e) a t = ap (λ Ps. is_flat_truth Ps e) q ∙ t
   statement-again (such_that e) a t =
-      ap (λ Ps. is_flat_truth Ps e || is_membership S p e) q
-      ∙ either-again (is_flat_truth (plans S o) e) (is_membership S o e) (is_membership S p e) (member-again e) t
+      ap (λ Ps. is_flat_truth Ps e || (is_membership S p e || is_ranged_constraint Ps S e)) q
+      ∙ either-again (is_flat_truth (plans S o) e) (is_membership S o e || is_ranged_constraint (plans S o) S e)
+      (is_membership S p e || is_ranged_constraint (plans S o) S e)
+      (first-again (is_membership S o e) (is_membership S p e) (is_ranged_constraint (plans S o) S e) (member-again e)) t
   statement-again (minimise e) a t = ap (λ Ps. is_flat_number Ps e) q ∙ t
   statement-again (maximise e) a t = ap (λ Ps. is_flat_number Ps e) q ∙ t
 
@@ -99,7 +126,7 @@ module _ (S : List Stm) (o : Options) (t : fault S ≡ None) where
       ap (λ Ps. are_mixed_statements S A && (b && (have_bounds Ps [] (prepared S) && list_all (has_marks Ps) (constraints_of S))))
       same-plans
       ∙ and-both (are_mixed_statements S A) (b && (c && d))
-      (all-again S A o same-plans (prepared S) themselves (and-left a (b && (c && d)) h)) r
+      (all-again S A o same-plans themselves (prepared S) themselves (and-left a (b && (c && d)) h)) r
 
 -- So it is of each specification of the class.
 pub chosen-mixed : ChosenOptionsKeepTheClass

@@ -16,7 +16,8 @@ use Rattle.ess_translate_header_laws.proofs.WrittenLines.{written_headers}
 use Rattle.ess_translate_tables_laws.proofs.ChosenAgain.{all_of}
 use Rattle.ess_flat_models_laws.specs.FlatSpecifications.{given_mark, is_scalar_dom, is_atom_alone, has_marks}
 use Rattle.ess_flat_texts_laws.proofs.PreparedTokens.{IsNamed, prepared-named}
-use Rattle.ess_mixed_models_laws.specs.MixedSpecifications.{kinds, is_set_dom, is_occurrence_alone, is_scalar_kept, is_set_kept, is_mixed_statement, are_mixed_statements, types_come_first, have_bounds, is_mixed_specification}
+use Rattle.ess_nested_laws.specs.NestedDomains.{is_nested_dom}
+use Rattle.ess_mixed_models_laws.specs.MixedSpecifications.{kinds, is_set_dom, is_occurrence_alone, is_one_fitting, has_few_tables, is_nested_kept, is_scalar_kept, is_set_kept, is_mixed_statement, are_mixed_statements, types_come_first, have_bounds, is_mixed_specification}
 use Rattle.ess_mixed_headers_laws.specs.Laws.{MixedHeadersAreRead}
 
 -- The statements of a header are some of those of the specification.
@@ -43,6 +44,10 @@ named-set : (a : Text) (rs : List Repr) → is_occurrence_alone rs ≡ true → 
 named-set a [] h n = cc
 named-set a (r ∷ rs) h n = n
 
+named-fitting : (a : Text) (d : Dom) (rs : List Repr) → is_one_fitting d rs ≡ true → is_name_token a ≡ true → is_named a rs ≡ true
+named-fitting a d [] h n = cc
+named-fitting a d (r ∷ rs) h n = n
+
 -- Whether the name has a representation, and can be read.
 abbrev has_name : Text × List Repr → Bool
 has_name c = is_named c.0 c.1
@@ -62,10 +67,16 @@ module _ (S : List Stm) (o : Options) where
   set-named : (x : Text) (d : Dom) → is_set_kept S o x d ≡ true → is_name_token x ≡ true → is_named x (chosen_reprs o x d) ≡ true
   set-named x d h = named-set x (chosen_reprs o x d) (and-right (is_set_dom (kinds S) d) (is_occurrence_alone (chosen_reprs o x d)) h)
 
-  found-named : (x : Text) (d : Dom) (b c : Bool) → (b ≡ true → is_scalar_kept S o x d ≡ true) → (c ≡ true → is_set_kept S o x d ≡ true) →
-      b || c ≡ true → is_name_token x ≡ true → is_named x (chosen_reprs o x d) ≡ true
-  found-named x d true c f g h = scalar-named x d (f refl)
-  found-named x d false c f g h = set-named x d (g h)
+  nested-named : (x : Text) (d : Dom) → is_nested_kept S o x d ≡ true → is_name_token x ≡ true → is_named x (chosen_reprs o x d) ≡ true
+  nested-named x d h =
+      let u : Bool = is_one_fitting d (chosen_reprs o x d) in
+      named-fitting x d (chosen_reprs o x d) (and-left u (has_few_tables S o) (and-right (is_nested_dom d) (u && has_few_tables S o) h))
+
+  found-named : (x : Text) (d : Dom) (b c e : Bool) → (b ≡ true → is_scalar_kept S o x d ≡ true) → (c ≡ true → is_set_kept S o x d ≡ true) →
+      (e ≡ true → is_nested_kept S o x d ≡ true) → b || (c || e) ≡ true → is_name_token x ≡ true → is_named x (chosen_reprs o x d) ≡ true
+  found-named x d true c e f g k h = scalar-named x d (f refl)
+  found-named x d false true e f g k h = set-named x d (g refl)
+  found-named x d false false e f g k h = nested-named x d (k h)
 
   names-named : (T : List Stm) → list_all mixed T ≡ true → Each T IsNamed → list_all has_name (chosen T) ≡ true
   names-named [] h r = refl
@@ -75,7 +86,7 @@ module _ (S : List Stm) (o : Options) where
       (names-named T (and-right (mixed (given x d)) (list_all mixed T) h) r.1)
   names-named (find x d ∷ T) h r =
       and-both (is_named x (chosen_reprs o x d)) (list_all has_name (chosen T))
-      (found-named x d (is_scalar_kept S o x d) (is_set_kept S o x d) (λ h. h) (λ h. h)
+      (found-named x d (is_scalar_kept S o x d) (is_set_kept S o x d) (is_nested_kept S o x d) (λ h. h) (λ h. h) (λ h. h)
       (and-left (mixed (find x d)) (list_all mixed T) h) r.0)
       (names-named T (and-right (mixed (find x d)) (list_all mixed T) h) r.1)
   names-named (given_enum t ∷ T) h r = names-named T h r.1

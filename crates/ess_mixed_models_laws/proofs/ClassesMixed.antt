@@ -22,7 +22,8 @@ use Rattle.conjure_laws.proofs.SetsSettled.{facts}
 use Rattle.conjure_laws.proofs.WellTypedSets.{well-typed-fine}
 use Rattle.ess_flat_models_laws.specs.FlatSpecifications.{given_mark, mark_among, is_scalar_dom, is_atom_alone, is_flat_truth, is_flat_statement, are_flat_statements, are_bounded, has_marks, is_flat_specification}
 use Rattle.ess_member_shows_laws.proofs.ShownTables.{memberships-shown}
-use Rattle.ess_mixed_models_laws.specs.MixedSpecifications.{kinds_by, places_by, known_after, kinds, places, is_set_dom, members_of, is_of_kind, has_printed_name, is_membership, is_scalar_kept, is_set_kept, is_mixed_statement, are_mixed_statements, is_of_sets, types_come_first, have_bounds, is_mixed_specification}
+use Rattle.ess_nested_laws.specs.NestedDomains.{is_nested_dom}
+use Rattle.ess_mixed_models_laws.specs.MixedSpecifications.{is_ranged_constraint, kinds_by, places_by, known_after, kinds, places, is_set_dom, is_occurrence_alone, members_of, is_of_kind, has_printed_name, is_kept_by_members, is_membership, is_scalar_kept, is_set_kept, is_nested_kept, is_mixed_statement, are_mixed_statements, is_of_sets, types_come_first, have_bounds, is_mixed_specification}
 use Rattle.ess_mixed_models_laws.specs.Laws.{ClassesAreMixed}
 use Rattle.ess_mixed_models_laws.proofs.NamedKinds.{no-yes}
 use Rattle.ess_mixed_models_laws.proofs.SetFinds.{of-all, look-of}
@@ -38,11 +39,11 @@ or-right b c e = ap (λ z. b || z) e ∙ or-yes b
 
 flat-statement : (S : List Stm) (o : Options) (s : Stm) → is_flat_statement (plans S o) o s ≡ true → is_mixed_statement S o s ≡ true
 flat-statement S o (given x d) h = h
-flat-statement S o (find x d) h = or-left (is_scalar_kept S o x d) (is_set_kept S o x d) h
+flat-statement S o (find x d) h = or-left (is_scalar_kept S o x d) (is_set_kept S o x d || is_nested_kept S o x d) h
 flat-statement S o (let_ex x e) h = h
 flat-statement S o (let_dom x d) h = refl
 flat-statement S o (needs e) h = h
-flat-statement S o (such_that e) h = or-left (is_flat_truth (plans S o) e) (is_membership S o e) h
+flat-statement S o (such_that e) h = or-left (is_flat_truth (plans S o) e) (is_membership S o e || is_ranged_constraint (plans S o) S e) h
 flat-statement S o (minimise e) h = h
 flat-statement S o (maximise e) h = h
 flat-statement S o s h = absurd (no-yes h)
@@ -84,8 +85,8 @@ no-types S o [] ks h = refl
 no-types S o (find x d ∷ T) ks h =
     let a : Bool = is_flat_statement (plans S o) o (find x d) in
     let b : Bool = list_all (is_flat_statement (plans S o) o) T in
-    and-both (not (is_of_sets d) || is_set_dom ks d) (types_come_first ks T)
-    (or-left (not (is_of_sets d)) (is_set_dom ks d)
+    and-both (not (is_of_sets d) || (is_set_dom ks d || is_nested_dom d)) (types_come_first ks T)
+    (or-left (not (is_of_sets d)) (is_set_dom ks d || is_nested_dom d)
     (apart d (and-left (is_scalar_dom (given_mark (plans S o)) d) (is_atom_alone (chosen_reprs o x d)) (and-left a b h))))
     (no-types S o T ks (and-right a b h))
   where
@@ -157,6 +158,11 @@ module _ (T : List Line) (t : is_well_typed (spec T) ≡ true) where
       ap (λ ks. is_set_dom ks (sets_of (typed u)) && true) kinds-are
       ∙ ap (λ z. (elim z [ None ↦ false | Some k ↦ true ]) && true) f.1
 
+  kept-alone : (x : Text) (A : Atom) → is_occurrence_alone (chosen_reprs no_options x (sets_of A)) ≡ true
+  kept-alone x (range a b) = refl
+  kept-alone x boolean = refl
+  kept-alone x (typed u) = refl
+
   -- What the domain of a find is.
   pub found-domain : (x : Text) (A : Atom) → In (find x (sets_of A)) S' → look (kept_names S') x ≡ Some (sets_of A)
   found-domain x A i = look-of (kept_names S') x (sets_of A) (kept-distinct S' t)
@@ -183,8 +189,11 @@ module _ (T : List Line) (t : is_well_typed (spec T) ≡ true) where
   pub is-member : (l : Lit) (x : Text) (A : Atom) → In (find x (sets_of A)) S' → LitFact T ok l A →
       is_membership S' no_options (membership l x) ≡ true
   is-member l x A i g =
-      and-both (is_some_and (members_of (look (kept_names S') x)) (is_of_kind (places S') (lit_ex l))) (has_printed_name S' no_options)
-      (ap (λ z. is_some_and (members_of z) (is_of_kind (places S') (lit_ex l))) (found-domain x A i) ∙ value-kind l A g) name-left
+      and-both (is_some_and (members_of (look (kept_names S') x)) (is_of_kind (places S') (lit_ex l)))
+      (has_printed_name S' no_options && is_kept_by_members S' no_options x)
+      (ap (λ z. is_some_and (members_of z) (is_of_kind (places S') (lit_ex l))) (found-domain x A i) ∙ value-kind l A g)
+      (and-both (has_printed_name S' no_options) (is_kept_by_members S' no_options x) name-left
+      (ap (λ z. is_some_and z (λ d. is_occurrence_alone (chosen_reprs no_options x d))) (found-domain x A i) ∙ kept-alone x A))
 
   all-mixed : (U : List Line) → Facts T ok U → list_all (is_mixed_statement S' no_options) (spec U) ≡ true
   all-mixed [] f = refl
@@ -193,11 +202,15 @@ module _ (T : List Line) (t : is_well_typed (spec T) ≡ true) where
   all-mixed (unnamed u n ∷ U) f = all-mixed U f
   all-mixed (set_find x A ∷ U) f =
       and-both (is_mixed_statement S' no_options (find x (sets_of A))) (list_all (is_mixed_statement S' no_options) (spec U))
-      (or-right (is_scalar_kept S' no_options x (sets_of A)) (is_set_kept S' no_options x (sets_of A)) (set-kept x A f.0)) (all-mixed U f.1)
+      (or-right (is_scalar_kept S' no_options x (sets_of A))
+      (is_set_kept S' no_options x (sets_of A) || is_nested_kept S' no_options x (sets_of A))
+      (or-left (is_set_kept S' no_options x (sets_of A)) (is_nested_kept S' no_options x (sets_of A)) (set-kept x A f.0))) (all-mixed U f.1)
   all-mixed (holds_lit l x ∷ U) f =
       and-both (is_mixed_statement S' no_options (such_that (membership l x))) (list_all (is_mixed_statement S' no_options) (spec U))
-      (or-right (is_flat_truth (plans S' no_options) (membership l x)) (is_membership S' no_options (membership l x))
-      (is-member l x f.0.0 f.0.1 f.0.2)) (all-mixed U f.1)
+      (or-right (is_flat_truth (plans S' no_options) (membership l x))
+      (is_membership S' no_options (membership l x) || is_ranged_constraint (plans S' no_options) S' (membership l x))
+      (or-left (is_membership S' no_options (membership l x)) (is_ranged_constraint (plans S' no_options) S' (membership l x))
+      (is-member l x f.0.0 f.0.1 f.0.2))) (all-mixed U f.1)
 
   all-marked : (U : List Line) → list_all (has_marks (plans S' no_options)) (constraints_of (spec U)) ≡ true
   all-marked [] = refl
@@ -225,7 +238,7 @@ module _ (T : List Line) (t : is_well_typed (spec T) ≡ true) where
       (range a b)) U c f)
   types-first (set_find x boolean ∷ U) c f = types-first U (after (set_find x boolean) c) (fine-later (set_find x boolean) U c f)
   types-first (set_find x (typed u) ∷ U) c f =
-      and-both (is_some (look c.types u)) (types_come_first c.types (spec U)) f.1
+      and-both (is_some (look c.types u) || false) (types_come_first c.types (spec U)) (or-left (is_some (look c.types u)) false f.1)
       (types-first U (after (set_find x (typed u)) c) (fine-later (set_find x (typed u)) U c f))
 
   sets-mixed : is_mixed_specification S' no_options ≡ true

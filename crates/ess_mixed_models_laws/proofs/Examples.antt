@@ -1,15 +1,19 @@
 -- Worked examples: scalars, sets of numbers and sets of values of a type side by side, and their model.
-use Rattle.std.proofs.Common.{◌≡◌, refl, true, false, List, [], ◌∷◌, pos, codes}
+use Rattle.std.proofs.Common.{◌≡◌, refl, true, false, List, [], ◌∷◌, ℤ, pos, negsuc, codes}
 use Rattle.ess_semantics.specs.declared.words.Op2.{Op2}
+use Rattle.ess_semantics.specs.declared.words.Fun.{Fun}
+use Rattle.ess_semantics.specs.declared.words.Key.{Key}
+use Rattle.ess_semantics.specs.declared.words.ReprKind.{ReprKind}
+use Rattle.ess_semantics.specs.Lists.{append_all}
 use Rattle.ess_semantics.specs.Values.{Text}
-use Rattle.ess_semantics.specs.Trees.{both_ends, Ex, number_ex, truth_ex, name_ex, cell_ex, no_exs, more_exs, Dom, bool_dom, int_dom, name_dom, set_dom, Stm, given, let_ex, let_enum, find, such_that, minimise, ex2}
+use Rattle.ess_semantics.specs.Trees.{Repr, repr, no_reprs, more_reprs, both_ends, valued, name_pat, Ex, number_ex, truth_ex, name_ex, comp_ex, cell_ex, no_exs, more_exs, Gens, no_gens, over, cond, Dom, bool_dom, int_dom, name_dom, set_dom, Stm, given, let_ex, let_enum, find, such_that, minimise, ex2, fun1}
 use Rattle.ess_semantics.specs.Plans.{plans, finds_side, plans_for}
 use Rattle.ess_semantics.specs.ModelTrees.{Model, least}
 use Rattle.std.specs.Prelude.{map}
 use Rattle.ess_member_rules_laws.specs.WrittenForms.{by_number}
 use Rattle.ess_flat_models_laws.specs.FlatSpecifications.{is_flat_specification}
 use Rattle.ess_mixed_models_laws.specs.MixedSpecifications.{kinds, is_mixed_specification}
-use Rattle.ess_mixed_models_laws.specs.MixedModels.{mixed_decl, IsMixedModel, of_flat, of_membership}
+use Rattle.ess_mixed_models_laws.specs.MixedModels.{mixed_decl, mixed_decls, IsMixedModel, of_flat, of_membership}
 
 -- `int(1..k)`
 abbrev upto : Ex → Dom
@@ -18,6 +22,14 @@ upto k = int_dom (both_ends ∷ []) (more_exs (number_ex (pos 1)) (more_exs k no
 -- `k + 1`
 abbrev more_by_one : Ex → Ex
 more_by_one k = ex2 false Op2.Plus k (number_ex (pos 1))
+
+-- The numbers between two.
+abbrev range : ℤ → ℤ → Dom
+range a b = int_dom (both_ends ∷ []) (more_exs (number_ex a) (more_exs (number_ex b) no_exs))
+
+-- Slots with a marker.
+abbrev marked : Repr → Repr
+marked r = repr ReprKind.ExplicitVarSizeWithMarker (more_reprs r no_reprs)
 
 abbrev sets : Dom → Dom
 sets A = set_dom [] no_exs A
@@ -71,8 +83,12 @@ E = record {
       ∷ cell_ex true (codes "t_Occurrence") (more_exs (number_ex (pos 2)) no_exs) ∷ [];
 }
 
+no-yes : false ≡ true → ⊥
+no-yes e = cc
+
 is-model : IsMixedModel S [] E
 is-model = record {
+  structures = [] ∷ [] ∷ [] ∷ [];
   constraints = ex2 true Op2.Gt (cell_ex false x no_exs) (cell_ex false (codes "n") no_exs)
       ∷ cell_ex true (codes "s_Occurrence") (more_exs (number_ex (pos 3)) no_exs)
       ∷ cell_ex true (codes "t_Occurrence") (more_exs (number_ex (pos 2)) no_exs) ∷ [];
@@ -80,6 +96,13 @@ is-model = record {
   finds = refl;
   goal = refl;
   rules = refl;
+  structured = (
+    record { none = λ e. refl; means = λ e. absurd (no-yes e); spelled = tt },
+    (
+      record { none = λ e. refl; means = λ e. absurd (no-yes e); spelled = tt },
+      (record { none = λ e. refl; means = λ e. absurd (no-yes e); spelled = tt }, tt),
+    ),
+  );
   written = (
     of_flat refl,
     (
@@ -89,15 +112,48 @@ is-model = record {
   );
 }
 
--- A number in a set of values of a type is of no such specification, nor is a set in a set.
+-- A number in a set of values of a type is of no such specification.
 not-kinds : is_mixed_specification
     (let_enum (codes "C") (red ∷ []) ∷ find t (sets (name_dom (codes "C"))) ∷ such_that (ex2 true Op2.Member (number_ex (pos 1))
     (name_ex t)) ∷ [])
     [] ≡ false
 not-kinds = refl
 
-not-nested : is_mixed_specification (find t (sets (sets (upto (number_ex (pos 3))))) ∷ []) [] ≡ false
-not-nested = refl
+-- Sets of sets are, with sizes, and kept with a marker and a dummy, or as a set of numbers with flags.
+nested : is_mixed_specification
+    (find t (set_dom (valued Key.Size ∷ []) (more_exs (number_ex (pos 2)) no_exs) (sets (upto (number_ex (pos 3))))) ∷ [])
+    ((t, marked (repr ReprKind.ExplicitVarSizeWithDummy no_reprs) ∷ []) ∷ []) ≡ true
+nested = refl
+
+flagged : is_mixed_specification (find s (sets (upto (number_ex (pos 3)))) ∷ [])
+    ((s, repr ReprKind.ExplicitVarSizeWithFlags (more_reprs (repr ReprKind.Atom no_reprs) no_reprs) ∷ []) ∷ []) ≡ true
+flagged = refl
+
+-- What is declared of sets kept so.
+its-tables : append_all (map (mixed_decls (kinds (find s (sets bool_dom) ∷ []))
+    (plans (find s (sets bool_dom) ∷ []) ((s, marked (repr ReprKind.Atom no_reprs) ∷ []) ∷ [])))
+    (plans_for finds_side (find s (sets bool_dom) ∷ []) ((s, marked (repr ReprKind.Atom no_reprs) ∷ []) ∷ []))) ≡
+    record { name = codes "s_ExplicitVarSizeWithMarker_Marker"; axes = []; cell = range (pos 0) (pos 2) }
+    ∷ record { name = codes "s_ExplicitVarSizeWithMarker_Values"; axes = upto (number_ex (pos 2)) ∷ []; cell = bool_dom } ∷ []
+its-tables = refl
+
+-- No constraint speaks of one that isn't kept as the members that occur, and a find has one representation.
+not-spoken-of : is_mixed_specification
+    (find s (sets (upto (number_ex (pos 1)))) ∷ such_that (ex2 true Op2.Member (number_ex (pos 1)) (name_ex s)) ∷ [])
+    ((s, marked (repr ReprKind.Atom no_reprs) ∷ []) ∷ []) ≡ false
+not-spoken-of = refl
+
+not-twice : is_mixed_specification (find s (sets bool_dom) ∷ [])
+    ((s, repr ReprKind.Occurrence no_reprs ∷ marked (repr ReprKind.Atom no_reprs) ∷ []) ∷ []) ≡ false
+not-twice = refl
+
+-- No numbers below 0 are written as one number, and no attribute stands twice.
+not-below : is_mixed_specification (find t (sets (sets (range (negsuc 0) (pos 1)))) ∷ []) [] ≡ false
+not-below = refl
+
+not-repeated : is_mixed_specification (find t (set_dom (valued Key.Size ∷ valued Key.Size ∷ [])
+    (more_exs (number_ex (pos 2)) (more_exs (number_ex (pos 2)) no_exs)) bool_dom) ∷ []) [] ≡ false
+not-repeated = refl
 
 -- Neither is a scalar that is asked to be in a set: only values are.
 not-scalars : is_mixed_specification
@@ -112,3 +168,26 @@ not-before = refl
 
 not-bounds : is_mixed_specification (find x (upto (name_ex (codes "n"))) ∷ given (codes "n") (upto (number_ex (pos 4))) ∷ []) [] ≡ false
 not-bounds = refl
+
+-- ---- constraints over ranges
+
+-- `i : int(1..n)` in front of generators.
+abbrev up_to_n : Gens → Gens
+up_to_n gs = over (name_pat (codes "i")) (upto (name_ex (codes "n"))) gs
+
+-- `given n : int(1..4)  find x : int(1..9)  such that forAll i : int(1..n), i > 1 . x != i,  n + (sum i : int(1..n) . i + x) <= 30`
+ranged : is_mixed_specification
+    (given (codes "n") (upto (number_ex (pos 4))) ∷ find x (upto (number_ex (pos 9)))
+    ∷ such_that (fun1 true Fun.And (comp_ex (ex2 true Op2.Ne (name_ex x) (name_ex (codes "i")))
+    (up_to_n (cond (ex2 true Op2.Gt (name_ex (codes "i")) (number_ex (pos 1))) no_gens))))
+    ∷ such_that (ex2 true Op2.Le (ex2 false Op2.Plus (name_ex (codes "n"))
+    (fun1 false Fun.Sum (comp_ex (ex2 false Op2.Plus (name_ex (codes "i")) (name_ex x)) (up_to_n no_gens)))) (number_ex (pos 30))) ∷ [])
+    [] ≡ true
+ranged = refl
+
+-- No bound name is that of a scalar, and none of the class speaks of a set in a range.
+not-hidden : is_mixed_specification
+    (given (codes "n") (upto (number_ex (pos 4))) ∷ find (codes "i") (upto (number_ex (pos 9)))
+    ∷ such_that (fun1 true Fun.And (comp_ex (ex2 true Op2.Ne (name_ex (codes "n")) (name_ex (codes "i"))) (up_to_n no_gens))) ∷ [])
+    [] ≡ false
+not-hidden = refl

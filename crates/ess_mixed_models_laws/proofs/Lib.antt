@@ -7,6 +7,7 @@ pub mod NamedKinds
 -- Names
 pub mod DeclaredNames
 -- Plans
+pub mod NestedPlans
 pub mod MixedPlans
 pub mod FoundPlans
 -- Declared tables
@@ -26,9 +27,11 @@ pub mod MixedGoals
 -- Texts
 pub mod PreparedSets
 pub mod MixedConstants
+pub mod NestedSpelled
 pub mod MixedSpelled
 pub mod MixedForms
 pub mod MixedPlaces
+pub mod NestedSmall
 pub mod MixedSmall
 -- The law
 pub mod MixedHave

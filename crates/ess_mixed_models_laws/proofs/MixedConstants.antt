@@ -159,7 +159,7 @@ module _ (S : List Stm) where
     pub axis-spelled : (n x : Text) {A : Dom} (m : MemberDom (kinds S) A) → In (find x (set_dom [] no_exs A)) (prepared S) →
         spelled S (parts_of_decl (record { name = n; axes = axis_of S o A ∷ []; cell = bool_dom })) ≡ true
     axis-spelled n x (of_numbers {a = a} {b = b}) i =
-        let r = at-item (RangesAre (IsConst S)) (prepared S) _ ranges-spelled i refl in two-consts a b r.0 r.1.0
+        let r = at-item (RangesAre (IsConst S)) (prepared S) _ ranges-spelled i refl in two-consts a b r.1.0 r.1.1.0
     axis-spelled n x of_truths i = refl
     axis-spelled n x (of_type {t = t} {k = k} q) i =
         subst (λ z. spelled S (parts_of_decl (record { name = n; axes = axis_for Ps t z ∷ []; cell = bool_dom })) ≡ true) (sym q) (at k q)

@@ -12,6 +12,7 @@ use Rattle.ess_semantics.specs.Lettings.{Lettings, no_lettings, lettings_after, 
 use Rattle.ess_semantics.specs.Resolving.{resolve}
 use Rattle.ess_semantics.specs.Prepared.{resolve_stm, resolve_all, prepared}
 use Rattle.ess_semantics.specs.Plans.{Options, Plan, plans}
+use Rattle.ess_semantics.specs.ModelTrees.{Model}
 use Rattle.ess_semantics.specs.Models.{is_flat, with_cells, constraints_of}
 use Rattle.ess_semantics.proofs.Tests.{and-left, and-right}
 use Rattle.ess_semantics.proofs.Texts.{same_text-equal}
@@ -23,7 +24,7 @@ use Rattle.ess_flat_models_laws.specs.FlatModels.{flat_rule}
 use Rattle.ess_flat_models_laws.proofs.PreparedStatements.{truth-flat, NoLetting, put-flat, resolve-flat}
 use Rattle.ess_flat_models_laws.proofs.FlatCells.{form-stays}
 use Rattle.ess_mixed_models_laws.specs.MixedSpecifications.{is_mixed_statement, are_mixed_statements}
-use Rattle.ess_mixed_models_laws.specs.MixedModels.{IsRuleOf, of_flat, of_membership}
+use Rattle.ess_mixed_models_laws.specs.MixedModels.{IsRuleOf, of_flat, of_membership, of_ranged}
 use Rattle.ess_mixed_models_laws.proofs.NamedKinds.{no-yes}
 
 -- A membership isn't flat.
@@ -107,33 +108,37 @@ module _ (S : List Stm) (o : Options) where
     constraints-stay T l g q (rest (such_that e) T l g h),
   )
 
-  rule-form : (f r : Ex) → IsRuleOf S o f r → (e : Ex) → f ≡ e → is_flat_truth Ps e ≡ true → is_flat Ps e ≡ true → r ≡ with_cells Ps e
-  rule-form f r (of_flat t) e q v u =
-      let c = truth-flat Ps e v in ap (flat_rule Ps) q ∙ ap simplified (form-stays Ps c u) ∙ form-stays Ps c u
-  rule-form f r (of_membership {e = a} {x = x} t R) e q v u = absurd (no-member Ps a x (ap (is_flat_truth Ps) q ∙ v))
-
-  form-at : (e f r : Ex) → (is_flat_truth Ps e ≡ true → f ≡ e) → has_marks Ps e ≡ true → IsRuleOf S o f r →
+  rule-form : (M : Model) (f r : Ex) → IsRuleOf S o M f r → (e : Ex) → f ≡ e → is_flat_truth Ps e ≡ true →
       is_flat Ps e ≡ true → r ≡ with_cells Ps e
-  form-at e f r w k R u = let v = marked (is_flat Ps e) (is_flat_truth Ps e) k u in rule-form f r R e (w v) v u
+  rule-form M f r (of_flat t) e q v u =
+      let c = truth-flat Ps e v in ap (flat_rule Ps) q ∙ ap simplified (form-stays Ps c u) ∙ form-stays Ps c u
+  rule-form M f r (of_membership {e = a} {x = x} t R) e q v u = absurd (no-member Ps a x (ap (is_flat_truth Ps) q ∙ v))
+  rule-form M f r (of_ranged n t m s) e q v u = absurd (no-yes (sym n ∙ ap (is_flat_truth Ps) q ∙ v))
+
+  form-at : (M : Model) (e f r : Ex) → (is_flat_truth Ps e ≡ true → f ≡ e) → has_marks Ps e ≡ true → IsRuleOf S o M f r →
+      is_flat Ps e ≡ true → r ≡ with_cells Ps e
+  form-at M e f r w k R u = let v = marked (is_flat Ps e) (is_flat_truth Ps e) k u in rule-form M f r R e (w v) v u
     where
       marked : (b c : Bool) → not b || c ≡ true → b ≡ true → c ≡ true
       marked true c p q = p
       marked false c p q = absurd (no-yes q)
 
-  forms-along : (es fs rs : List Ex) → Along es fs (λ e f. is_flat_truth Ps e ≡ true → f ≡ e) → list_all (has_marks Ps) es ≡ true →
-      Along fs rs (IsRuleOf S o) → Along es rs (λ e r. is_flat Ps e ≡ true → r ≡ with_cells Ps e)
-  forms-along [] [] [] w k R = tt
-  forms-along (e ∷ es) (f ∷ fs) (r ∷ rs) w k R = (
-    form-at e f r w.0 (and-left (has_marks Ps e) (list_all (has_marks Ps) es) k) R.0,
-    forms-along es fs rs w.1 (and-right (has_marks Ps e) (list_all (has_marks Ps) es) k) R.1,
+  forms-along : (M : Model) (es fs rs : List Ex) → Along es fs (λ e f. is_flat_truth Ps e ≡ true → f ≡ e) →
+      list_all (has_marks Ps) es ≡ true →
+      Along fs rs (IsRuleOf S o M) → Along es rs (λ e r. is_flat Ps e ≡ true → r ≡ with_cells Ps e)
+  forms-along M [] [] [] w k R = tt
+  forms-along M (e ∷ es) (f ∷ fs) (r ∷ rs) w k R = (
+    form-at M e f r w.0 (and-left (has_marks Ps e) (list_all (has_marks Ps) es) k) R.0,
+    forms-along M es fs rs w.1 (and-right (has_marks Ps e) (list_all (has_marks Ps) es) k) R.1,
   )
-  forms-along [] (f ∷ fs) rs w k R = absurd w
-  forms-along (e ∷ es) [] rs w k R = absurd w
-  forms-along [] [] (r ∷ rs) w k R = absurd R
-  forms-along (e ∷ es) (f ∷ fs) [] w k R = absurd R
+  forms-along M [] (f ∷ fs) rs w k R = absurd w
+  forms-along M (e ∷ es) [] rs w k R = absurd w
+  forms-along M [] [] (r ∷ rs) w k R = absurd R
+  forms-along M (e ∷ es) (f ∷ fs) [] w k R = absurd R
 
   -- So each flat constraint keeps its form.
-  pub forms-stay : are_mixed_statements S o ≡ true → list_all (has_marks Ps) (constraints_of S) ≡ true → (rs : List Ex) →
-      Along (constraints_of (prepared S)) rs (IsRuleOf S o) → Along (constraints_of S) rs (λ e r. is_flat Ps e ≡ true → r ≡ with_cells Ps e)
-  forms-stay h k rs w =
-      forms-along (constraints_of S) (constraints_of (prepared S)) rs (constraints-stay S no_lettings [] (λ a m e. refl) h) k w
+  pub forms-stay : are_mixed_statements S o ≡ true → list_all (has_marks Ps) (constraints_of S) ≡ true → (M : Model) (rs : List Ex) →
+      Along (constraints_of (prepared S)) rs (IsRuleOf S o M) →
+      Along (constraints_of S) rs (λ e r. is_flat Ps e ≡ true → r ≡ with_cells Ps e)
+  forms-stay h k M rs w =
+      forms-along M (constraints_of S) (constraints_of (prepared S)) rs (constraints-stay S no_lettings [] (λ a m e. refl) h) k w

@@ -38,7 +38,7 @@ use Rattle.ess_flat_models_laws.proofs.GivenValues.{Extends}
 use Rattle.ess_flat_models_laws.proofs.FlatBounds.{dom-closed, dom-same}
 use Rattle.ess_mixed_models_laws.specs.MixedSpecifications.{is_mixed_statement, are_mixed_statements}
 use Rattle.ess_mixed_models_laws.proofs.NamedKinds.{no-yes}
-use Rattle.ess_mixed_models_laws.proofs.MixedPlans.{FindFact, scalar_find, set_find, find-fact, ground}
+use Rattle.ess_mixed_models_laws.proofs.MixedPlans.{FindFact, scalar_find, set_find, nested_find, find-fact, shape-single, ground}
 use Rattle.ess_mixed_models_laws.proofs.MixedCells.{decls}
 use Rattle.ess_mixed_models_laws.proofs.ScalarCells.{cells, cells-kinded, given-name, given-planned, given-cell, given-cells}
 
@@ -81,6 +81,7 @@ module _ (S : List Stm) (o : Options) (h : are_mixed_statements S o ≡ true) wh
       go : FindFact S o x d → is_scalar_dom (given_mark Ps) d ≡ true
       go (scalar_find t a) = t
       go (set_find A e m a) = let z : false ≡ true = ap is_shape (sym e) ∙ s in absurd (no-yes z)
+      go (nested_find r e n f k) = let z : false ≡ true = sym (shape-single S o d s) ∙ n in absurd (no-yes z)
 
   bounds-stay : (es : Exs) → AllReckoned (given_mark Ps) es → bounds_of (decls S o h) (all_with_cells Ps es) [] ≡ all_with_cells Ps es
   bounds-stay no_exs w = refl

@@ -89,7 +89,7 @@ module _ (S : List Stm) (o : Options) (h : are_mixed_statements S o ≡ true) wh
   -- Its cell is a number.
   pub size-kinded : (t : Text) → look (kinds S) t ≡ Some sized → kinded_cell (size_name Ps t) no_exs [] (declaration_of (decls S o h)
       (size_name Ps t)) ≡ (cell_ex false (size_name Ps t) no_exs, int_ty)
-  size-kinded t e = ap (kinded_cell (size_name Ps t) no_exs []) (declared S o h (size_plan t (size_name Ps t)) (size-of t e))
+  size-kinded t e = ap (kinded_cell (size_name Ps t) no_exs []) (declared S o h (size_plan t (size_name Ps t)) (size-of t e) refl)
 
   -- The tables hold the sizes of given types.
   abbrev pub HoldSizes : Assignment → Names Table → Type 0

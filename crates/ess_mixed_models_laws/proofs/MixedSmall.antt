@@ -1,13 +1,19 @@
 -- The declared domains of a model of the class are small where the numbers of the specification are.
-use Rattle.std.proofs.Common.{◌≡◌, refl, sym, ap, ◌∙◌, subst, Bool, true, false, ◌&&◌, ◌||◌, not, if◌then◌else◌, List, [], ◌∷◌, map, ℤ, pos, ◌+ℤ◌, Option, Some, None}
+use Rattle.std.proofs.Common.{◌≡◌, refl, sym, ap, ◌∙◌, subst, Bool, true, false, ◌&&◌, ◌||◌, not, if◌then◌else◌, List, [], ◌∷◌, inl, inr, map, ℤ, pos, ◌+ℤ◌, Option, Some, None}
 use Rattle.std.specs.List.{list_all, list_any}
 use Rattle.ess_semantics.specs.declared.words.Op2.{Op2}
 use Rattle.ess_semantics.specs.Lists.{append_all}
 use Rattle.ess_semantics.specs.Values.{Text}
 use Rattle.ess_semantics.specs.Order.{same_text}
-use Rattle.ess_semantics.specs.Names.{Names, look, is_among}
+use Rattle.ess_semantics.specs.Names.{Names, look, keys, is_among}
 use Rattle.ess_semantics.specs.Trees.{Repr, binary, plain_node, both_ends, number_ex, no_exs, more_exs, Dom, bool_dom, int_dom, set_dom, Stm, given, find}
-use Rattle.ess_semantics.specs.TableNames.{Named}
+use Rattle.ess_semantics.specs.TableNames.{Named, table_names, named_tables}
+use Rattle.ess_semantics.specs.Kinds.{fits}
+use Rattle.ess_nested_laws.specs.NestedDomains.{is_nested_dom}
+use Rattle.ess_nested_laws.proofs.NestedForms.{nested-form, kept-form}
+use Rattle.ess_nested_laws.proofs.NestedDenoted.{written_domain, nested-denoted}
+use Rattle.ess_nested_tables_laws.proofs.ReckonedTables.{Numeral, tables-numeral}
+use Rattle.ess_nested_tables_laws.proofs.SmallTables.{tables-small}
 use Rattle.ess_semantics.specs.Tables.{Table}
 use Rattle.ess_semantics.specs.Contexts.{Each}
 use Rattle.ess_semantics.specs.DeclaredTables.{TableDecl}
@@ -23,7 +29,8 @@ use Rattle.ess_semantics.specs.Parameters.{all_declared, declared_domain, declar
 use Rattle.ess_semantics.specs.Judgements.{fault}
 use Rattle.ess_semantics.specs.Plans.{Options, Side, givens_side, finds_side, Plan, value_plan, plans, plans_for}
 use Rattle.ess_semantics.proofs.Tests.{and-left, and-right}
-use Rattle.ess_repr_declare_laws.specs.DeclaredTrees.{axis_dom}
+use Rattle.ess_repr_declare_laws.specs.DeclaredTrees.{axis_dom, trees_below}
+use Rattle.conjure_model_laws.specs.IsBuiltFrom.{with_whole_names}
 use Rattle.conjure_laws.specs.Members.{In}
 use Rattle.conjure_laws.specs.Premises.{Instance, here, is_on}
 use Rattle.conjure_laws.specs.SetsOfAtoms.{TypeKind, fixed, sized, range_dom}
@@ -41,11 +48,14 @@ use Rattle.ess_flat_models_laws.proofs.FlatPlans.{AtomPlan}
 use Rattle.ess_flat_models_laws.proofs.FlatTexts.{each-mapped}
 use Rattle.ess_flat_models_laws.proofs.ScalarDomains.{Atom, is_shape}
 use Rattle.ess_flat_models_laws.proofs.SmallDomains.{dom-small}
-use Rattle.ess_mixed_models_laws.specs.MixedSpecifications.{kinds, are_mixed_statements, is_of_sets, have_bounds}
-use Rattle.ess_mixed_models_laws.specs.MixedModels.{mixed_decl, axis_of}
+use Rattle.ess_mixed_models_laws.specs.MixedSpecifications.{kinds, is_nested_plan, are_mixed_statements, is_of_sets, have_bounds}
+use Rattle.ess_mixed_models_laws.specs.MixedModels.{mixed_decl, nested_decls, mixed_decls, axis_of}
 use Rattle.ess_mixed_models_laws.proofs.NamedKinds.{MemberDom, of_numbers, of_truths, of_type, entry-of}
-use Rattle.ess_mixed_models_laws.proofs.MixedPlans.{PlanFact, size_fact, atom_fact, set_fact, all-facts}
-use Rattle.ess_mixed_models_laws.proofs.MixedCells.{decls}
+use Rattle.ess_mixed_models_laws.proofs.MixedPlans.{PlanFact, size_fact, atom_fact, set_fact, nested_fact, all-facts, set-single, atom-single}
+use Rattle.ess_mixed_models_laws.proofs.NestedPlans.{renamed-have}
+use Rattle.ess_mixed_models_laws.proofs.NestedSmall.{taken-small, each-small}
+use Rattle.ess_mixed_models_laws.proofs.MixedLayers.{givens-single}
+use Rattle.ess_mixed_models_laws.proofs.MixedCells.{single-decls, nested-decls, decls}
 use Rattle.ess_mixed_models_laws.proofs.MixedGivens.{plan-bounds, dom-stays, given-has}
 use Rattle.ess_mixed_models_laws.proofs.MixedPlaces.{PlaceKnown, places-known}
 use Rattle.ess_mixed_models_laws.proofs.MixedSizes.{size-kinded, sizes-held, axis-stays}
@@ -87,6 +97,9 @@ module _ (S : List Stm) (o : Options) (h : are_mixed_statements S o ≡ true) (f
 
   abbrev decl : Plan → TableDecl
   decl P = mixed_decl (kinds S) Ps P
+
+  abbrev decls_of : Plan → List TableDecl
+  decls_of P = mixed_decls (kinds S) Ps P
 
   abbrev statements_small : Bool
   statements_small = list_all (λ l. numbers_of_statement_small l.stm l.env) (placed S p nothing_given)
@@ -194,25 +207,65 @@ module _ (S : List Stm) (o : Options) (h : are_mixed_statements S o ≡ true) (f
       ap (λ z. dom_is_large (decls S o h) q (axis_dom (axis_for Ps t z))) e
       ∙ ap (dom_is_large (decls S o h) q) (axis-stays S o h t k) ∙ type-small t k e
 
-  plan-small : (P : Plan) → In P Ps → PlanFact S o P → decl_is_large (decls S o h) q (decl P) ≡ false
-  plan-small P i (size_fact t n e) = subst (λ P. decl_is_large (decls S o h) q (decl P) ≡ false) (sym e) refl
-  plan-small P i (atom_fact a) = atom-small P i a
-  plan-small P i (set_fact x A n e m) = subst (λ P. decl_is_large (decls S o h) q (decl P) ≡ false) (sym e)
+  single-small : (P : Plan) → is_nested_plan (kinds S) P ≡ false → decl_is_large (decls S o h) q (decl P) ≡ false →
+      Each (decls_of P) (λ d. decl_is_large (decls S o h) q d ≡ false)
+  single-small P k e = subst (λ l. Each l (λ d. decl_is_large (decls S o h) q d ≡ false)) (sym (single-decls S o P k)) (e, tt)
+
+  -- ---- nested sets
+
+  nested-small : (x : Text) (r : Repr) (d : Dom) (taken : List Text) → is_nested_dom d ≡ true → fits r d ≡ true →
+      In (value_plan finds_side x r d (named_tables x (table_names r d) taken)) Ps →
+      Each (with_whole_names (keys (named_tables x (table_names r d) taken)) (trees_below false r d))
+      (λ d. decl_is_large (decls S o h) q d ≡ false)
+  nested-small x r d taken n g i =
+      let ns : List Named = named_tables x (table_names r d) taken in
+      let m = nested-form 250 d n in
+      let w = kept-form 250 r d n g in
+      let z = kept-small finds_side x r d ns i in
+      let t = taken-small S o p small x r d ns (written_domain d) i (nested-denoted m (here S p)) in
+      each-small (decls S o h) q (with_whole_names (keys ns) (trees_below false r d))
+      (renamed-have Numeral (keys ns) (trees_below false r d) (tables-numeral false w))
+      (renamed-have (λ e. is_large e (env_of_tables q) ≡ false) (keys ns) (trees_below false r d)
+      (tables-small (env_of_tables q) false w z.0 z.1.0 t))
+
+  plan-small : (P : Plan) → In P Ps → PlanFact S o P → Each (decls_of P) (λ d. decl_is_large (decls S o h) q d ≡ false)
+  plan-small P i (size_fact t n e) =
+      single-small P (ap (is_nested_plan (kinds S)) e) (subst (λ P. decl_is_large (decls S o h) q (decl P) ≡ false) (sym e) refl)
+  plan-small P i (atom_fact a) =
+      single-small P (ap (is_nested_plan (kinds S)) a.is ∙ atom-single S o a.f a.x a.d a.n a.scalar) (atom-small P i a)
+  plan-small P i (set_fact x A n e m a) =
+      single-small P (ap (is_nested_plan (kinds S)) e ∙ set-single S o x n m)
+      (subst (λ P. decl_is_large (decls S o h) q (decl P) ≡ false) (sym e)
       (let z = kept-small finds_side x Occ (set_dom [] no_exs A) ((n, 1) ∷ []) (subst (λ P. In P Ps) e i) in
-      ap (λ b. (b || false) || false) (axis-small m (z.0, z.1.0)))
+      ap (λ b. (b || false) || false) (axis-small m (z.0, z.1.0))))
+  plan-small P i (nested_fact x r d taken e n g k c) =
+      subst (λ l. Each l (λ d. decl_is_large (decls S o h) q d ≡ false)) (sym (nested-decls S o P k))
+      (subst (λ P. Each (nested_decls P) (λ d. decl_is_large (decls S o h) q d ≡ false)) (sym e)
+      (nested-small x r d taken n g (subst (λ P. In P Ps) e i)))
 
   none-any : {A : Type 0} (g : A → Bool) (xs : List A) → Each xs (λ x. g x ≡ false) → list_any g xs ≡ false
   none-any g [] w = refl
   none-any g (x ∷ xs) w = ap (λ b. b || list_any g xs) w.0 ∙ none-any g xs w.1
 
-  at-plan : (P : Plan) → In P Ps → decl_is_large (decls S o h) q (decl P) ≡ false
+  at-plan : (P : Plan) → In P Ps → Each (decls_of P) (λ d. decl_is_large (decls S o h) q d ≡ false)
   at-plan P i = plan-small P i (at-item (PlanFact S o) Ps P (all-facts S o h) i)
+
+  one-small : (P : Plan) → is_nested_plan (kinds S) P ≡ false → Each (decls_of P) (λ d. decl_is_large (decls S o h) q d ≡ false) →
+      decl_is_large (decls S o h) q (decl P) ≡ false
+  one-small P k w = (subst (λ l. Each l (λ d. decl_is_large (decls S o h) q d ≡ false)) (single-decls S o P k) w).0
+
+  finds-small : (Qs : List Plan) → ((P : Plan) → In P Qs → In P Ps) →
+      Each (append_all (map decls_of Qs)) (λ d. decl_is_large (decls S o h) q d ≡ false)
+  finds-small [] f = tt
+  finds-small (P ∷ Qs) f =
+      each-append (λ d. decl_is_large (decls S o h) q d ≡ false) (decls_of P) (append_all (map decls_of Qs))
+      (at-plan P (f P (inl refl))) (finds-small Qs (λ P j. f P (inr j)))
 
   -- No declaration is large.
   pub none-large : list_any (decl_is_large (decls S o h) q) (decls S o h) ≡ false
   none-large = none-any (decl_is_large (decls S o h) q) (decls S o h)
-      (each-append (λ d. decl_is_large (decls S o h) q d ≡ false) (map decl Gs) (map decl Fs)
+      (each-append (λ d. decl_is_large (decls S o h) q d ≡ false) (map decl Gs) (append_all (map decls_of Fs))
       (each-mapped decl (λ d. decl_is_large (decls S o h) q d ≡ false) Gs
-      (all-items (λ P. decl_is_large (decls S o h) q (decl P) ≡ false) Gs (λ P i. at-plan P (in-filter (is_on givens_side) P Ps i).0)))
-      (each-mapped decl (λ d. decl_is_large (decls S o h) q d ≡ false) Fs
-      (all-items (λ P. decl_is_large (decls S o h) q (decl P) ≡ false) Fs (λ P i. at-plan P (in-filter (is_on finds_side) P Ps i).0))))
+      (all-items (λ P. decl_is_large (decls S o h) q (decl P) ≡ false) Gs
+      (λ P i. one-small P (givens-single S o h f P i) (at-plan P (in-filter (is_on givens_side) P Ps i).0))))
+      (finds-small Fs (λ P i. (in-filter (is_on finds_side) P Ps i).0)))

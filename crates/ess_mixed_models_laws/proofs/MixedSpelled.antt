@@ -13,7 +13,7 @@ use Rattle.ess_semantics.specs.Meaning.{Env, meaning, cell_in}
 use Rattle.ess_semantics.specs.Prepared.{prepared}
 use Rattle.ess_semantics.specs.Judgements.{fault}
 use Rattle.ess_semantics.specs.Plans.{Options, Plan, value_plan, plans}
-use Rattle.ess_semantics.specs.ModelTrees.{Goal, no_goal, least, greatest, goal_of}
+use Rattle.ess_semantics.specs.ModelTrees.{Model, Goal, no_goal, least, greatest, goal_of}
 use Rattle.ess_semantics.specs.ModelMeaning.{declaration_of, env_of_tables}
 use Rattle.ess_semantics.specs.Occurrences.{parts_of}
 use Rattle.ess_semantics.specs.Constants.{constants_of, parts_of_decl, parts_of_goal}
@@ -39,9 +39,10 @@ use Rattle.ess_flat_models_laws.proofs.FlatGoals.{FlatGoal}
 use Rattle.ess_flat_models_laws.proofs.FlatTexts.{IsConst, numbers-spelled, statements-spelled, flat-simple}
 use Rattle.ess_member_rules_laws.specs.WrittenForms.{Written, by_number, by_condition, by_conjunction}
 use Rattle.ess_mixed_models_laws.specs.MixedSpecifications.{kinds, places, are_mixed_statements}
-use Rattle.ess_mixed_models_laws.specs.MixedModels.{axis_of, shown_value, IsRuleOf, of_flat, of_membership}
+use Rattle.ess_mixed_models_laws.specs.MixedModels.{axis_of, shown_value, IsRuleOf, of_flat, of_membership, of_ranged}
 use Rattle.ess_mixed_models_laws.proofs.MemberValues.{literal_code}
 use Rattle.ess_mixed_models_laws.proofs.NamedKinds.{MemberDom, of_numbers, of_truths, of_type}
+use Rattle.ess_mixed_models_laws.proofs.MixedPlans.{atom-single}
 use Rattle.ess_mixed_models_laws.proofs.MixedCells.{decls, declared}
 use Rattle.ess_mixed_models_laws.proofs.ScalarCells.{cells, placed-names, planned}
 use Rattle.ess_mixed_models_laws.proofs.MixedConstants.{value-const, axis-spelled}
@@ -158,7 +159,8 @@ module _ (S : List Stm) (o : Options) where
     zero-valued n b e =
         let r = planned S o h n b e in
         at b (zero-look (decls S o h) n
-        ∙ ap (option_map (λ d. one_cell (pos 0))) (declared S o h (value_plan r.f r.x Atom r.d ((n, 0) ∷ [])) r.planned))
+        ∙ ap (option_map (λ d. one_cell (pos 0))) (declared S o h (value_plan r.f r.x Atom r.d ((n, 0) ∷ [])) r.planned
+        (atom-single S o r.f r.x r.d n r.scalar)))
       where
         at : (b : Bool) → look (zero_tables (decls S o h)) n ≡ Some (one_cell (pos 0)) →
             (v : Value) × Marked b v × (meaning (cell_ex b n no_exs) env0 ≡ Some v)
@@ -174,24 +176,26 @@ module _ (S : List Stm) (o : Options) where
         numbers-spelled S none_marked (cells S o h) r.flat
         (r.numbers (IsConst S) (s.numbers (IsConst S) (numbers-stay Ps (IsConst S) w (n (flat-simple (scalar_mark Ps) w)))))
 
-    rule-spelled : (e r : Ex) → SpellsConstants e → IsRuleOf S o e r → spelled S (parts_of r) ≡ true
-    rule-spelled e r n (of_flat t) = flat-spelled e true (truth-flat Ps e t) n
-    rule-spelled e r n (of_membership {e = v} {x = x} t R) =
+    rule-spelled : (M : Model) (e r : Ex) → SpellsConstants e → IsRuleOf S o M e r → spelled S (parts_of r) ≡ true
+    rule-spelled M e r n (of_flat t) = flat-spelled e true (truth-flat Ps e t) n
+    rule-spelled M e r n (of_ranged k t m s) = s
+    rule-spelled M e r n (of_membership {e = v} {x = x} t R) =
         let k = membership-fact S o h f no_goal [] v x R.members t R.found in
         member-spelled (table_of Ps x) (printed_name (taken_names S o) 0) k.0.members k.1 r
         (axis-spelled S o (table_of Ps x) x k.0.members k.0.declared)
         (and-both (isc (literal_code (shown_value (places S) v))) true (value-const S v x R.members k.1 n) refl) R.written
 
-    rules-along : (es rs : List Ex) → Each es SpellsConstants → Along es rs (IsRuleOf S o) → Each rs (λ r. spelled S (parts_of r) ≡ true)
-    rules-along [] [] n w = tt
-    rules-along (e ∷ es) (r ∷ rs) n w = (rule-spelled e r n.0 w.0, rules-along es rs n.1 w.1)
-    rules-along [] (r ∷ rs) n w = absurd w
-    rules-along (e ∷ es) [] n w = absurd w
+    rules-along : (M : Model) (es rs : List Ex) → Each es SpellsConstants → Along es rs (IsRuleOf S o M) →
+        Each rs (λ r. spelled S (parts_of r) ≡ true)
+    rules-along M [] [] n w = tt
+    rules-along M (e ∷ es) (r ∷ rs) n w = (rule-spelled M e r n.0 w.0, rules-along M es rs n.1 w.1)
+    rules-along M [] (r ∷ rs) n w = absurd w
+    rules-along M (e ∷ es) [] n w = absurd w
 
     -- The rules of constraints spell constants.
-    pub rules-spelled : (rs : List Ex) → Along (constraints_of (prepared S)) rs (IsRuleOf S o) →
+    pub rules-spelled : (M : Model) (rs : List Ex) → Along (constraints_of (prepared S)) rs (IsRuleOf S o M) →
         Each rs (λ r. spelled S (parts_of r) ≡ true)
-    rules-spelled rs w = rules-along (constraints_of (prepared S)) rs (constraints-constants (prepared S) (statements-spelled S)) w
+    rules-spelled M rs w = rules-along M (constraints_of (prepared S)) rs (constraints-constants (prepared S) (statements-spelled S)) w
 
     goal-at : (g : Goal) → FlatGoal Ps g → GoalConstants g → spelled S (parts_of_goal (flat_goal Ps g)) ≡ true
     goal-at no_goal w n = refl

@@ -1,6 +1,6 @@
 -- The numbers of domains of sets and of sizes of types that have lettings put in are those of the statements as they were written: a
 -- letting's numbers stand in the letting.
-use Rattle.std.proofs.Common.{◌≡◌, refl, sym, ap, ◌∙◌, subst, Bool, true, false, if◌then◌else◌, List, [], ◌∷◌, ◌++◌, inl, inr, map, ℤ, Option, Some, None}
+use Rattle.std.proofs.Common.{◌≡◌, refl, sym, ap, ◌∙◌, subst, Bool, true, false, ◌&&◌, if◌then◌else◌, List, [], ◌∷◌, inl, inr, map, ℤ, Option, Some, None}
 use Rattle.ess_semantics.specs.Lists.{append_all}
 use Rattle.ess_semantics.specs.Values.{Text}
 use Rattle.ess_semantics.specs.Order.{same_text}
@@ -12,23 +12,23 @@ use Rattle.ess_semantics.specs.Contexts.{Each}
 use Rattle.ess_semantics.specs.Occurrences.{parts_of, parts_of_all, parts_of_dom}
 use Rattle.ess_semantics.specs.Constants.{operand_count, counts_of_op, constants_of_part, constants_of_stm}
 use Rattle.ess_semantics.specs.Lettings.{Lettings, no_lettings, lettings_after, put_name, put_dom_name, put_operands, put_ex, put_exs, put_gens, put_dom, put_stm, put_all, types_after}
-use Rattle.ess_semantics.specs.Resolving.{resolve, resolve_dom}
+use Rattle.ess_semantics.specs.Resolving.{resolve, resolve_exs, resolve_dom}
 use Rattle.ess_semantics.specs.Prepared.{resolve_stm, resolve_all, prepared}
-use Rattle.ess_semantics.proofs.Tests.{and-left, and-right}
+use Rattle.ess_semantics.proofs.Tests.{and-left, and-right, and-both}
 use Rattle.conjure_laws.specs.Members.{In}
 use Rattle.conjure_laws.proofs.Lists.{in-left, in-right}
 use Rattle.ess_flat_models_laws.proofs.FlatValues.{AllNumbers, NumbersOfAll}
 use Rattle.ess_flat_models_laws.proofs.SimpleTrees.{no, maps-append, is_simple_op, is_simple, are_simple, is_simple_dom, DomNumbers, simple-before, all-before, numbers-resolved, all-resolved}
 
--- Whether it is a domain of scalars, or of sets of them without attributes.
+-- Whether it is a domain of scalars, or of sets of any nesting over them with attributes that are arithmetic.
 abbrev pub is_ranged : Dom → Bool
-is_ranged (set_dom [] no_exs d) = is_simple_dom d
+is_ranged (set_dom ms es d) = are_simple es && is_ranged d
 is_ranged d = is_simple_dom d
 
 module _ (Q : ℤ → Type 0) where
   -- The numbers of such a domain.
   abbrev pub RangeNumbers : Dom → Type 0
-  RangeNumbers (set_dom [] no_exs d) = DomNumbers Q d
+  RangeNumbers (set_dom ms es d) = NumbersOfAll Q es × RangeNumbers d
   RangeNumbers d = DomNumbers Q d
 
   -- Those of the domain of a find, and of the size of a type.
@@ -36,17 +36,6 @@ module _ (Q : ℤ → Type 0) where
   RangesAre (find x d) = is_ranged d ≡ true → RangeNumbers d
   RangesAre (let_unnamed t e) = is_simple e ≡ true → AllNumbers Q e
   RangesAre s = Unit {0}
-
-  -- A domain of scalars is such a one.
-  simple-ranged : (d : Dom) → is_simple_dom d ≡ true → is_ranged d ≡ true
-  simple-ranged bool_dom h = refl
-  simple-ranged (int_dom rs es) h = h
-  simple-ranged d h = absurd (no h)
-
-  simple-numbers : (d : Dom) → is_simple_dom d ≡ true → RangeNumbers d → DomNumbers Q d
-  simple-numbers bool_dom h n = tt
-  simple-numbers (int_dom rs es) h n = n
-  simple-numbers d h n = absurd (no h)
 
   -- ---- lettings
 
@@ -119,55 +108,38 @@ module _ (Q : ℤ → Type 0) where
           (in-right k (append_all (map constants_of_part (parts_of e))) (append_all (map constants_of_part (parts_of_all es))) i))),
     )
 
-  scalar-put : (d : Dom) (l : Lettings) (g : Names Ty) → LetNumbers l → is_simple_dom (put_dom d l g) ≡ true → Constants (parts_of_dom d) →
-      DomNumbers Q (put_dom d l g)
-  scalar-put bool_dom l g w h c = tt
-  scalar-put (int_dom rs es) l g w h c = all-put es l g w h c
-  scalar-put (name_dom a) l g w h c =
-      let d : Dom = put_dom_name (look l.doms a) a in
-      simple-numbers d h (dom-name-put a (look l.doms a) (w.doms a) (simple-ranged d h))
-  scalar-put d l g w h c = absurd (no h)
-
-  set-put : (fs es : Exs) (d : Dom) (l : Lettings) (g : Names Ty) → LetNumbers l → is_ranged (set_dom [] fs (put_dom d l g)) ≡ true →
-      Constants (parts_of_all es ++ parts_of_dom d) → RangeNumbers (set_dom [] fs (put_dom d l g))
-  set-put no_exs es d l g w h c = scalar-put d l g w h (λ k i. c k (subst (In k)
-      (sym (maps-append constants_of_part (parts_of_all es) (parts_of_dom d)))
-      (in-right k (append_all (map constants_of_part (parts_of_all es))) (append_all (map constants_of_part (parts_of_dom d))) i)))
-  set-put (more_exs f fs) es d l g w h c = absurd (no h)
-
   dom-put : (d : Dom) (l : Lettings) (g : Names Ty) → LetNumbers l → is_ranged (put_dom d l g) ≡ true → Constants (parts_of_dom d) →
       RangeNumbers (put_dom d l g)
   dom-put bool_dom l g w h c = tt
   dom-put (int_dom rs es) l g w h c = all-put es l g w h c
   dom-put (name_dom a) l g w h c = dom-name-put a (look l.doms a) (w.doms a) h
-  dom-put (set_dom [] es d) l g w h c = set-put (put_exs es l g) es d l g w h c
-  dom-put (set_dom (m ∷ ms) es d) l g w h c = absurd (no h)
+  dom-put (set_dom ms es d) l g w h c =
+      let a : Bool = are_simple (put_exs es l g) in
+      let b : Bool = is_ranged (put_dom d l g) in
+      let e = maps-append constants_of_part (parts_of_all es) (parts_of_dom d) in (
+        all-put es l g w (and-left a b h) (λ k i. c k (subst (In k) (sym e)
+            (in-left k (append_all (map constants_of_part (parts_of_all es))) (append_all (map constants_of_part (parts_of_dom d))) i))),
+        dom-put d l g w (and-right a b h) (λ k i. c k (subst (In k) (sym e)
+            (in-right k (append_all (map constants_of_part (parts_of_all es))) (append_all (map constants_of_part (parts_of_dom d))) i))),
+      )
   dom-put d l g w h c = absurd (no h)
-
-  scalar-before : (d : Dom) (g : Names Ty) → is_simple_dom (resolve_dom d g) ≡ true → is_simple_dom d ≡ true
-  scalar-before bool_dom g h = refl
-  scalar-before (int_dom rs es) g h = all-before Q es g h
-  scalar-before d g h = absurd (no h)
-
-  scalar-resolved : (d : Dom) (g : Names Ty) → is_simple_dom (resolve_dom d g) ≡ true → DomNumbers Q d → DomNumbers Q (resolve_dom d g)
-  scalar-resolved bool_dom g h m = tt
-  scalar-resolved (int_dom rs es) g h m = all-resolved Q es g h m
-  scalar-resolved d g h m = absurd (no h)
 
   dom-before : (d : Dom) (g : Names Ty) → is_ranged (resolve_dom d g) ≡ true → is_ranged d ≡ true
   dom-before bool_dom g h = refl
   dom-before (int_dom rs es) g h = all-before Q es g h
-  dom-before (set_dom [] no_exs d) g h = scalar-before d g h
-  dom-before (set_dom [] (more_exs e es) d) g h = absurd (no h)
-  dom-before (set_dom (m ∷ ms) es d) g h = absurd (no h)
+  dom-before (set_dom ms es d) g h =
+      let a : Bool = are_simple (resolve_exs es g) in
+      let b : Bool = is_ranged (resolve_dom d g) in
+      and-both (are_simple es) (is_ranged d) (all-before Q es g (and-left a b h)) (dom-before d g (and-right a b h))
   dom-before d g h = absurd (no h)
 
   dom-resolved : (d : Dom) (g : Names Ty) → is_ranged (resolve_dom d g) ≡ true → RangeNumbers d → RangeNumbers (resolve_dom d g)
   dom-resolved bool_dom g h m = tt
   dom-resolved (int_dom rs es) g h m = all-resolved Q es g h m
-  dom-resolved (set_dom [] no_exs d) g h m = scalar-resolved d g h m
-  dom-resolved (set_dom [] (more_exs e es) d) g h m = absurd (no h)
-  dom-resolved (set_dom (m ∷ ms) es d) g h n = absurd (no h)
+  dom-resolved (set_dom ms es d) g h m =
+      let a : Bool = are_simple (resolve_exs es g) in
+      let b : Bool = is_ranged (resolve_dom d g) in
+      (all-resolved Q es g (and-left a b h) m.0, dom-resolved d g (and-right a b h) m.1)
   dom-resolved d g h m = absurd (no h)
 
   -- ---- statements

@@ -4,7 +4,7 @@ use Rattle.ess_semantics.specs.declared.words.ReprKind.{ReprKind}
 use Rattle.ess_semantics.specs.Values.{Text}
 use Rattle.ess_semantics.specs.Order.{same_text}
 use Rattle.ess_semantics.specs.Names.{keys, all_distinct}
-use Rattle.ess_semantics.specs.Trees.{repr, cell_ex, no_exs, Dom, bool_dom, int_dom, Stm}
+use Rattle.ess_semantics.specs.Trees.{Repr, repr, cell_ex, no_exs, Dom, bool_dom, int_dom, Stm}
 use Rattle.ess_semantics.specs.Contexts.{Each}
 use Rattle.ess_semantics.specs.DeclaredTables.{TableDecl}
 use Rattle.ess_semantics.specs.Meaning.{is_bool_dom}
@@ -20,9 +20,11 @@ use Rattle.ess_flat_models_laws.proofs.ScalarDomains.{Atom, is_shape}
 use Rattle.ess_flat_models_laws.proofs.FlatPlans.{AtomPlan}
 use Rattle.ess_flat_models_laws.proofs.FlatNames.{scalar-plan, GivenPlan, given-plan, found-decl, declared-in as atom-declared}
 use Rattle.ess_flat_models_laws.proofs.FlatDeclared.{bool-stays}
-use Rattle.ess_mixed_models_laws.specs.MixedSpecifications.{are_mixed_statements}
+use Rattle.ess_mixed_models_laws.specs.MixedSpecifications.{are_mixed_statements, is_of_sets}
+use Rattle.ess_semantics.specs.TableNames.{Named, table_names, named_tables}
+use Rattle.ess_nested_laws.proofs.NestedForms.{written_truths, written_numbers, NestedSet, of_atoms, of_sets, nested-form, KeptAs, as_atom, by_occurrence, with_a_dummy, in_slots, with_a_marker, with_flags, kept-form}
 use Rattle.ess_mixed_models_laws.proofs.NamedKinds.{no-yes, no-some}
-use Rattle.ess_mixed_models_laws.proofs.MixedPlans.{PlanFact, size_fact, atom_fact, set_fact, all-facts}
+use Rattle.ess_mixed_models_laws.proofs.MixedPlans.{PlanFact, size_fact, atom_fact, set_fact, nested_fact, all-facts, atom-single}
 use Rattle.ess_mixed_models_laws.proofs.MixedCells.{none-behind, decls, declared}
 
 -- ---- atoms among plans
@@ -40,11 +42,31 @@ atoms Ps = filter is_atom_plan Ps
 abbrev pub cells_of_atoms : List Plan → Text → Option Bool
 cells_of_atoms Ps n = option_map (λ d. is_bool_dom d.cell) (declaration_of (map (decl_of Ps) (atoms Ps)) n)
 
+-- A domain of nested sets is one of sets.
+pub nested-sets : {d : Dom} → NestedSet d → is_of_sets d ≡ true
+nested-sets (of_atoms s a) = refl
+nested-sets (of_sets s n) = refl
+
+-- A plan of nested sets is none of an atom.
+pub kept-apart : (f : Side) (x : Text) {r : Repr} {d : Dom} (ns : List Named) → KeptAs r d → NestedSet d →
+    is_atom_plan (value_plan f x r d ns) ≡ false
+kept-apart f x ns (as_atom written_truths) n = absurd (no-yes (nested-sets n))
+kept-apart f x ns (as_atom written_numbers) n = absurd (no-yes (nested-sets n))
+kept-apart f x ns (by_occurrence s a) n = refl
+kept-apart f x ns (with_a_dummy s) n = refl
+kept-apart f x ns (in_slots s k w) n = refl
+kept-apart f x ns (with_a_marker s w) n = refl
+kept-apart f x ns (with_flags s w) n = refl
+
 module _ (S : List Stm) (o : Options) where
   atom-is : (P : Plan) → PlanFact S o P → is_atom_plan P ≡ true → AtomPlan P
   atom-is P (size_fact t n e) h = let z : false ≡ true = ap is_atom_plan (sym e) ∙ h in absurd (no-yes z)
   atom-is P (atom_fact a) h = a
-  atom-is P (set_fact x A n e m) h = let z : false ≡ true = ap is_atom_plan (sym e) ∙ h in absurd (no-yes z)
+  atom-is P (set_fact x A n e m a) h = let z : false ≡ true = ap is_atom_plan (sym e) ∙ h in absurd (no-yes z)
+  atom-is P (nested_fact x r d taken e n g k c) h =
+      let z : false ≡ true =
+      sym (kept-apart finds_side x (named_tables x (table_names r d) taken) (kept-form 250 r d n g) (nested-form 250 d n))
+      ∙ ap is_atom_plan (sym e) ∙ h in absurd (no-yes z)
 
   -- Scalars are those of the atoms.
   pub scalar-atoms : (Qs : List Plan) → Each Qs (PlanFact S o) → (a : Text) → scalar_cell Qs a ≡ scalar_cell (atoms Qs) a
@@ -57,12 +79,25 @@ module _ (S : List Stm) (o : Options) where
       cell f x (int_dom rs es) n s e = ap (λ c. if same_text x a then Some (false, n) else c) e
       cell f x d n s e = absurd (no-yes s)
 
+      other : (f : Side) (x : Text) {r : Repr} {d : Dom} (ns : List Named) → KeptAs r d → NestedSet d →
+          scalar_cell Qs a ≡ scalar_cell (atoms Qs) a →
+          scalar_cell (value_plan f x r d ns ∷ Qs) a ≡ scalar_cell (atoms (value_plan f x r d ns ∷ Qs)) a
+      other f x ns (as_atom written_truths) n q = absurd (no-yes (nested-sets n))
+      other f x ns (as_atom written_numbers) n q = absurd (no-yes (nested-sets n))
+      other f x ns (by_occurrence s a) n q = q
+      other f x ns (with_a_dummy s) n q = q
+      other f x ns (in_slots s k w) n q = q
+      other f x ns (with_a_marker s w) n q = q
+      other f x ns (with_flags s w) n q = q
+
       one : (P : Plan) → PlanFact S o P → scalar_cell Qs a ≡ scalar_cell (atoms Qs) a →
           scalar_cell (P ∷ Qs) a ≡ scalar_cell (atoms (P ∷ Qs)) a
       one P (size_fact t n e) q = subst (λ P. scalar_cell (P ∷ Qs) a ≡ scalar_cell (atoms (P ∷ Qs)) a) (sym e) q
       one P (atom_fact w) q = subst (λ P. scalar_cell (P ∷ Qs) a
           ≡ scalar_cell (atoms (P ∷ Qs)) a) (sym w.is) (cell w.f w.x w.d w.n w.scalar q)
-      one P (set_fact x A n e m) q = subst (λ P. scalar_cell (P ∷ Qs) a ≡ scalar_cell (atoms (P ∷ Qs)) a) (sym e) q
+      one P (set_fact x A n e m w) q = subst (λ P. scalar_cell (P ∷ Qs) a ≡ scalar_cell (atoms (P ∷ Qs)) a) (sym e) q
+      one P (nested_fact x r d taken e n g k c) q = subst (λ P. scalar_cell (P ∷ Qs) a ≡ scalar_cell (atoms (P ∷ Qs)) a) (sym e)
+          (other finds_side x (named_tables x (table_names r d) taken) (kept-form 250 r d n g) (nested-form 250 d n) q)
 
   -- So are givens.
   pub given-atoms : (Qs : List Plan) → Each Qs (PlanFact S o) → (a : Text) (m : Bool) → given_mark Qs a ≡ Some m →
@@ -98,8 +133,14 @@ module _ (S : List Stm) (o : Options) where
       one P (size_fact t n e) q g = subst (λ P. given_mark (P ∷ Qs) a ≡ Some m → given_mark (atoms (P ∷ Qs)) a ≡ Some m) (sym e) g q
       one P (atom_fact w) q g = subst (λ P. given_mark (P ∷ Qs) a ≡ Some m → given_mark (atoms (P ∷ Qs)) a ≡ Some m) (sym w.is)
           (at w.f w.x w.d w.n g) q
-      one P (set_fact x A n e k) q g = subst (λ P. given_mark (P ∷ Qs) a ≡ Some m → given_mark (atoms (P ∷ Qs)) a ≡ Some m) (sym e)
+      one P (set_fact x A n e k w) q g = subst (λ P. given_mark (P ∷ Qs) a ≡ Some m → given_mark (atoms (P ∷ Qs)) a ≡ Some m) (sym e)
           (λ q. past x q g) q
+      one P (nested_fact x r d taken e n i k c) q g =
+          let P' : Plan = value_plan finds_side x r d (named_tables x (table_names r d) taken) in
+          subst (λ P. given_mark (P ∷ Qs) a ≡ Some m → given_mark (atoms (P ∷ Qs)) a ≡ Some m) (sym e)
+          (λ q. ap (λ b. given_mark (if b then P' ∷ atoms Qs else atoms Qs) a)
+          (kept-apart finds_side x (named_tables x (table_names r d) taken) (kept-form 250 r d n i) (nested-form 250 d n))
+          ∙ past x q g) q
 
   module _ (h : are_mixed_statements S o ≡ true) where
     abbrev Ps : List Plan
@@ -195,7 +236,8 @@ module _ (S : List Stm) (o : Options) where
         kinded_cell n no_exs [] (declaration_of (decls S o h) n) ≡ (cell_ex b n no_exs, cell_kind b)
     cells-kinded n b e =
         let r = planned n b e in
-        ap (kinded_cell n no_exs []) (declared S o h (value_plan r.f r.x Atom r.d ((n, 0) ∷ [])) r.planned)
+        ap (kinded_cell n no_exs [])
+        (declared S o h (value_plan r.f r.x Atom r.d ((n, 0) ∷ [])) r.planned (atom-single S o r.f r.x r.d n r.scalar))
         ∙ ap (λ z. (cell_ex z n no_exs, cell_kind z)) (bool-stays Ps r.d ∙ r.mark)
 
     -- The plan of a given that is a number or a truth value.

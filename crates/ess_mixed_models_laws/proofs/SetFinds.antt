@@ -1,11 +1,12 @@
 -- The sets of a specification of the class: the find, its domain, and its plan, of each name that is asked about.
-use Rattle.std.proofs.Common.{◌≡◌, refl, sym, ap, ◌∙◌, subst, ℕ, Bool, true, false, not, if◌then◌else◌, List, [], ◌∷◌, ◌++◌, ◌⊎◌, inl, inr, map, codes, Option, Some, None}
+use Rattle.std.proofs.Common.{◌≡◌, refl, sym, ap, ◌∙◌, subst, ℕ, Bool, true, false, ◌&&◌, not, if◌then◌else◌, List, [], ◌∷◌, ◌++◌, ◌⊎◌, inl, inr, map, codes, Option, Some, None}
 use Rattle.ess_semantics.specs.Lists.{append_all, is_some_and}
 use Rattle.ess_semantics.specs.Values.{Text}
 use Rattle.ess_semantics.specs.Order.{same_text}
 use Rattle.ess_semantics.specs.Names.{Names, look, keys, is_among, all_distinct, without}
 use Rattle.ess_semantics.specs.Trees.{Repr, no_exs, Ex, number_ex, truth_ex, name_ex, Dom, bool_dom, name_dom, set_dom, Stm, given, find}
-use Rattle.ess_semantics.specs.TableNames.{Named}
+use Rattle.ess_semantics.specs.TableNames.{Named, table_names, named_tables}
+use Rattle.ess_semantics.specs.Kinds.{fits}
 use Rattle.ess_semantics.specs.Prepared.{prepared}
 use Rattle.ess_semantics.specs.Parameters.{all_declared}
 use Rattle.ess_semantics.specs.Judgements.{fault}
@@ -24,9 +25,11 @@ use Rattle.conjure_laws.proofs.SetPlans.{Occ}
 use Rattle.conjure_laws.proofs.Statements.{plan-is-found}
 use Rattle.ess_flat_models_laws.specs.FlatSpecifications.{given_mark, is_scalar_dom, is_atom_alone}
 use Rattle.ess_flat_models_laws.proofs.ScalarDomains.{is_shape}
-use Rattle.ess_mixed_models_laws.specs.MixedSpecifications.{kinds, members_of, is_of_kind, is_occurrence_alone, is_mixed_statement, are_mixed_statements}
+use Rattle.ess_nested_laws.specs.NestedDomains.{is_nested_dom}
+use Rattle.ess_mixed_models_laws.specs.MixedSpecifications.{kinds, is_member_dom, is_set_dom, members_of, is_of_kind, is_occurrence_alone, is_kept_by_members, is_nested_plan, is_mixed_statement, are_mixed_statements}
 use Rattle.ess_mixed_models_laws.proofs.NamedKinds.{no-yes, no-some, MemberDom, of_numbers, of_truths, of_type}
-use Rattle.ess_mixed_models_laws.proofs.MixedPlans.{PlanFact, size_fact, atom_fact, set_fact, FindFact, scalar_find, set_find, find-fact, one-set, set_table, all-facts}
+use Rattle.ess_mixed_models_laws.proofs.NestedPlans.{nested-apart}
+use Rattle.ess_mixed_models_laws.proofs.MixedPlans.{PlanFact, size_fact, atom_fact, set_fact, nested_fact, FindFact, scalar_find, set_find, nested_find, find-fact, one-set, set_table, all-facts}
 
 -- ---- values that may be members
 
@@ -131,42 +134,46 @@ module _ (S : List Stm) (o : Options) (h : are_mixed_statements S o ≡ true) wh
   statement-test s i = at-item (λ s. is_mixed_statement S o s
       ≡ true) (prepared S) s (each-of-list (prepared S) (is_mixed_statement S o) h) i
 
-  set-of-fact : (x : Text) (A : Dom) (d : Dom) → d ≡ set_dom [] no_exs A → FindFact S o x d → In (find x d) (prepared S) → SetFind x A
-  set-of-fact x A d e (scalar_find s a) i = let z : false ≡ true = ap (is_scalar_dom (given_mark Ps)) (sym e) ∙ s in absurd (no-yes z)
-  set-of-fact x A d e (set_find B q m a) i =
-      let w : B ≡ A = same (sym q ∙ e) in record {
-        declared = subst (λ d. In (find x d) (prepared S)) e i;
-        members = subst (MemberDom (kinds S)) w m;
-        alone = subst (λ d. is_occurrence_alone (chosen_reprs o x d) ≡ true) e a;
-      }
+  members-of-fact : (x : Text) (A : Dom) → FindFact S o x (set_dom [] no_exs A) →
+      is_occurrence_alone (chosen_reprs o x (set_dom [] no_exs A)) ≡ true → MemberDom (kinds S) A
+  members-of-fact x A (scalar_find s a) c = absurd (no-yes s)
+  members-of-fact x A (set_find B q m a) c = subst (MemberDom (kinds S)) (same (sym q)) m
     where
       same : {B A : Dom} → set_dom [] no_exs B ≡ set_dom [] no_exs A → B ≡ A
       same e = cc
+  members-of-fact x A (nested_find r e n f k) c = absurd (nested-apart (kinds S) A r n f k (ap is_occurrence_alone (sym e) ∙ c))
 
-  -- A find whose domain is that of sets is one.
-  pub set-declared : (x : Text) (A : Dom) → In (find x (set_dom [] no_exs A)) (prepared S) → SetFind x A
-  set-declared x A i = set-of-fact x A (set_dom [] no_exs A) refl
-      (find-fact S o x (set_dom [] no_exs A) (statement-test (find x (set_dom [] no_exs A)) i)) i
+  -- A find whose domain is that of sets, and which is kept as the members that occur, is one.
+  pub set-declared : (x : Text) (A : Dom) → In (find x (set_dom [] no_exs A)) (prepared S) →
+      is_occurrence_alone (chosen_reprs o x (set_dom [] no_exs A)) ≡ true → SetFind x A
+  set-declared x A i c = record {
+    declared = i;
+    members = members-of-fact x A (find-fact S o x (set_dom [] no_exs A) (statement-test (find x (set_dom [] no_exs A)) i)) c;
+    alone = c;
+  }
 
   -- So is a name with such a domain.
-  pub set-of : (x : Text) (A : Dom) → members_of (look (kept_names S) x) ≡ Some A → SetFind x A
-  set-of x A e =
-      let i = look-in (kept_names S) x (set_dom [] no_exs A) (members-form (look (kept_names S) x) A e) in
-      let r = in-all domain_of_stm (prepared S) (x, set_dom [] no_exs A) i in go r.0 r.1 r.2
+  pub set-of : (x : Text) (A : Dom) → members_of (look (kept_names S) x) ≡ Some A → is_kept_by_members S o x ≡ true → SetFind x A
+  set-of x A e b =
+      let l = members-form (look (kept_names S) x) A e in
+      let i = look-in (kept_names S) x (set_dom [] no_exs A) l in
+      let r = in-all domain_of_stm (prepared S) (x, set_dom [] no_exs A) i in
+      go (ap (λ z. is_some_and z (λ d. is_occurrence_alone (chosen_reprs o x d))) (sym l) ∙ b) r.0 r.1 r.2
     where
-      go : (s : Stm) → In s (prepared S) → In (x, set_dom [] no_exs A) (domain_of_stm s) → SetFind x A
-      go (find y d) j (inl q) =
+      go : is_occurrence_alone (chosen_reprs o x (set_dom [] no_exs A)) ≡ true → (s : Stm) → In s (prepared S) →
+          In (x, set_dom [] no_exs A) (domain_of_stm s) → SetFind x A
+      go c (find y d) j (inl q) =
           let z : y ≡ x = ap (λ w. w.0) (sym q) in
           let w : d ≡ set_dom [] no_exs A = ap (λ w. w.1) (sym q) in
-          set-declared x A (subst (λ d. In (find x d) (prepared S)) w (subst (λ y. In (find y d) (prepared S)) z j))
-      go (given y d) j (inl q) =
+          set-declared x A (subst (λ d. In (find x d) (prepared S)) w (subst (λ y. In (find y d) (prepared S)) z j)) c
+      go c (given y d) j (inl q) =
           let w : d ≡ set_dom [] no_exs A = ap (λ w. w.1) (sym q) in
           let z : false ≡ true = ap (is_scalar_dom (given_mark Ps)) (sym w)
           ∙ and-left (is_scalar_dom (given_mark Ps) d) (is_atom_alone (chosen_reprs o y d)) (statement-test (given y d) j) in absurd
           (no-yes z)
-      go (find y d) j (inr q) = absurd q
-      go (given y d) j (inr q) = absurd q
-      go s j q = absurd q
+      go c (find y d) j (inr q) = absurd q
+      go c (given y d) j (inr q) = absurd q
+      go c s j q = absurd q
 
   -- ---- its plan
 
@@ -232,6 +239,29 @@ module _ (S : List Stm) (o : Options) (h : are_mixed_statements S o ≡ true) wh
             table_of Ps x ≡ first_name ms → PlanFact S o (value_plan g x s e ms) →
             In (value_plan finds_side x Occ (set_dom [] no_exs A) ((table_of Ps x, 1) ∷ [])) Ps
         at g s e ms q i t (size_fact u n z) = cc
+        at g s e ms q i t (nested_fact y r d taken z n k l c') =
+            let a : y ≡ x = sym (name-is z) in
+            let b : d ≡ set_dom [] no_exs A = sym (dom-is z) ∙ q in
+            let l' : is_nested_plan (kinds S) (value_plan finds_side y r d (named_tables y (table_names r d) taken)) ≡ true =
+            ap (is_nested_plan (kinds S)) (sym z) ∙ l in
+            absurd (nested-apart (kinds S) A r (subst (λ d. is_nested_dom d ≡ true) b n) (subst (λ d. fits r d ≡ true) b k)
+            (turned (is_member_dom (kinds S) A && is_occurrence_alone (r ∷ []))
+            (and-right (is_nested_dom (set_dom [] no_exs A)) (not (is_member_dom (kinds S) A && is_occurrence_alone (r ∷ [])))
+            (subst (λ d. is_nested_dom d && not (is_set_dom (kinds S) d && is_occurrence_alone (r ∷ [])) ≡ true) b l')))
+            (ap is_occurrence_alone (sym (subst (λ d. chosen_reprs o x d ≡ r ∷ []) b
+            (subst (λ y. chosen_reprs o y d ≡ r ∷ []) a c'))) ∙ w.alone))
+          where
+            name-is : {h f : Side} {y u : Text} {r v : Repr} {d c : Dom} {ns ls : List Named} →
+                value_plan h y r d ns ≡ value_plan f u v c ls → y ≡ u
+            name-is e = cc
+
+            dom-is : {h f : Side} {y u : Text} {r v : Repr} {d c : Dom} {ns ls : List Named} →
+                value_plan h y r d ns ≡ value_plan f u v c ls → d ≡ c
+            dom-is e = cc
+
+            turned : (b : Bool) → not b ≡ true → b ≡ false
+            turned false e = refl
+            turned true e = absurd (no-yes e)
         at g s e ms q i t (atom_fact a) =
             let y : e ≡ a.d = dom-of a.is in
             let z : false ≡ true = ap is_shape (sym q ∙ y) ∙ a.scalar in absurd (no-yes z)
@@ -239,7 +269,7 @@ module _ (S : List Stm) (o : Options) (h : are_mixed_statements S o ≡ true) wh
             dom-of : {h f : Side} {y u : Text} {r v : Repr} {d c : Dom} {ns ls : List Named} →
                 value_plan h y r d ns ≡ value_plan f u v c ls → d ≡ c
             dom-of e = cc
-        at g s e ms q i t (set_fact y B n z m) =
+        at g s e ms q i t (set_fact y B n z m c') =
             let a : g ≡ finds_side = side-is z in
             let b : s ≡ Occ = repr-is z in
             let c : ms ≡ (n, 1) ∷ [] = names-are z in

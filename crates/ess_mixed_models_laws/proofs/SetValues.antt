@@ -1,5 +1,5 @@
 -- The rule of a membership says whether the value is in the set.
-use Rattle.std.proofs.Common.{◌≡◌, refl, sym, ap, ◌∙◌, subst, ℕ, true, false, not, List, [], ◌∷◌, ◌++◌, pos, Some, None, option_map}
+use Rattle.std.proofs.Common.{◌≡◌, refl, sym, ap, ◌∙◌, subst, ℕ, Bool, true, false, not, List, [], ◌∷◌, ◌++◌, pos, Some, None, option_map, ◌&&◌}
 use Rattle.std.specs.List.{list_all}
 use Rattle.ess_semantics.specs.declared.words.Op2.{Op2}
 use Rattle.ess_semantics.specs.Lists.{or_default, is_empty, is_some_and}
@@ -44,11 +44,11 @@ use Rattle.conjure_laws.proofs.SetScopes.{look-past, count_of}
 use Rattle.conjure_settled_laws.specs.EndValues.{IsInEnv}
 use Rattle.conjure_settled_laws.proofs.EndValues.{typed-has-end-values}
 use Rattle.ess_member_rules_laws.specs.WrittenForms.{Written, IsNumber, Alike, as_numbers, as_truths, IsTable}
-use Rattle.ess_mixed_models_laws.specs.MixedSpecifications.{kinds, places, members_of, is_of_kind, has_printed_name, is_membership, are_mixed_statements}
+use Rattle.ess_mixed_models_laws.specs.MixedSpecifications.{kinds, places, members_of, is_of_kind, has_printed_name, is_membership, are_mixed_statements, is_kept_by_members}
 use Rattle.ess_mixed_models_laws.specs.MixedModels.{mixed_decl, shown_value, axis_of, IsMembershipRule}
 use Rattle.ess_mixed_models_laws.proofs.MemberValues.{literal_code, value}
 use Rattle.ess_mixed_models_laws.proofs.NamedKinds.{no-yes, MemberDom, of_numbers, of_truths, of_type, closed_members, placed_members, atom-of, atom-with, sets-closed, place-of}
-use Rattle.ess_mixed_models_laws.proofs.MixedPlans.{ground}
+use Rattle.ess_mixed_models_laws.proofs.MixedPlans.{set-single, ground}
 use Rattle.ess_mixed_models_laws.proofs.MixedCells.{decls, declared, not-given, found-name}
 use Rattle.ess_mixed_models_laws.proofs.MixedSizes.{sizes-held, sizes-behind, axis-listed}
 use Rattle.ess_mixed_models_laws.proofs.MixedLayers.{model_with}
@@ -180,14 +180,14 @@ module _ (S : List Stm) (o : Options) where
         let i = set-planned S o h f x A w in
         let F = plan-found S o h f g rs p a q c I C x Occ (set_dom [] no_exs A) ((n, 1) ∷ []) i in
         let tb = set-table p a I.param x m n F.0 F.1 in
-        let fn = found-name S o h P (in-filtered (is_on finds_side) P Ps i refl) in
+        let fn = found-name S o h P (in-filtered (is_on finds_side) P Ps i refl) (set-single S o x n m) in
         let there : look (q ++ c) n ≡ Some tb.t = look-past q c n
         (ap (λ l. is_among l n) (given-keys S o (ground S o h f) p q I) ∙ not-given S o h n fn)
         ∙ only-table (look c n) F.0 tb.t tb.is F.2 in
         let held = sizes-behind S o h p q c (sizes-held S o h f p q I) in
         let T : IsTable (decls S o h) (q ++ c) n (axis_of S o A) (shown_value vs e) tb.t (member_list (placed_members p m)) = record {
           line = mixed_decl (kinds S) Ps P;
-          declared = declared S o h P i;
+          declared = declared S o h P i (set-single S o x n m);
           one_axis = refl;
           truths = refl;
           found = there;
@@ -212,11 +212,12 @@ module _ (S : List Stm) (o : Options) where
     pub membership-fact : (e : Ex) (x : Text) (A : Dom) → is_membership S o (ex2 true Op2.Member e (name_ex x)) ≡ true →
         members_of (look (kept_names S) x) ≡ Some A → SetFind S o h x A × MemberValue vs e A × (has_printed_name S o ≡ true)
     membership-fact e x A w q =
-        let k : is_some_and (members_of (look (kept_names S) x)) (is_of_kind vs e) ≡ true =
-        and-left (is_some_and (members_of (look (kept_names S) x)) (is_of_kind vs e)) (has_printed_name S o) w in
-        let b = and-right (is_some_and (members_of (look (kept_names S) x)) (is_of_kind vs e)) (has_printed_name S o) w in
-        let s = set-of S o h x A q in
-        (s, member-value vs e s.members (ap (λ z. is_some_and z (is_of_kind vs e)) (sym q) ∙ k), b)
+        let a : Bool = is_some_and (members_of (look (kept_names S) x)) (is_of_kind vs e) in
+        let y : Bool = has_printed_name S o in
+        let z : Bool = is_kept_by_members S o x in
+        let b = and-right a (y && z) w in
+        let s = set-of S o h x A q (and-right y z b) in
+        (s, member-value vs e s.members (ap (λ z. is_some_and z (is_of_kind vs e)) (sym q) ∙ and-left a (y && z) w), and-left y z b)
 
     -- So does each rule of one.
     pub set-means : (e : Ex) (x : Text) (r : Ex) → is_membership S o (ex2 true Op2.Member e (name_ex x)) ≡ true →

@@ -1,22 +1,30 @@
--- A class of specifications: scalars and sets side by side. Givens are scalars kept as atoms; finds are scalars kept as atoms, or sets of
--- numbers, of truth values or of values of a named type, without attributes, kept as the members that occur. Each constraint is flat and
--- total over the scalars, or says that a number, a truth value or a value of a type is in a set. Conditions on parameters and the objective
--- are flat and total over the scalars. Named types and lettings are declared among them, in any order and number. Lettings are put in
--- before it is asked what a statement is.
-use Rattle.std.specs.Prelude.{ℕ, Bool, true, false, ◌&&◌, ◌||◌, not, List, [], ◌∷◌, ◌++◌, length, pos, Option, Some, None, is_some}
-use Rattle.std.specs.List.{list_all}
+-- A class of specifications: scalars and sets side by side. Givens are scalars kept as atoms; finds are scalars kept as atoms; sets of
+-- numbers, of truth values or of values of a named type, without attributes, kept as the members that occur; or sets of any nesting over
+-- numbers and truth values, with sizes, kept in any one representation, of which no constraint speaks. Each constraint is flat and
+-- total over the scalars, or one over ranges and scalars, or says that a number, a truth value or a value of a type is in a set. Conditions
+-- on parameters and the objective are flat and total over the scalars. Named types and lettings are declared among them, in any order and
+-- number. Lettings are put in before it is asked what a statement is.
+use Rattle.std.specs.Prelude.{ℕ, ◌+◌, ◌^◌, nat_le, Bool, true, false, ◌&&◌, ◌||◌, not, List, [], ◌∷◌, ◌++◌, length, pos, Option, Some, None, is_some}
+use Rattle.std.specs.List.{list_all, list_any}
 use Rattle.ess_semantics.specs.declared.words.ReprKind.{ReprKind}
 use Rattle.ess_semantics.specs.declared.words.Op2.{Op2}
 use Rattle.ess_semantics.specs.Lists.{is_some_and, is_empty}
 use Rattle.ess_semantics.specs.Values.{Text}
-use Rattle.ess_semantics.specs.Order.{same_text}
-use Rattle.ess_semantics.specs.Names.{Names, look}
+use Rattle.ess_semantics.specs.Order.{same_text, same_int}
+use Rattle.ess_semantics.specs.Names.{Names, look, keys}
+use Rattle.ess_semantics.specs.Kinds.{fits}
 use Rattle.ess_semantics.specs.Trees.{Repr, repr, no_reprs, both_ends, Ex, number_ex, truth_ex, name_ex, no_exs, more_exs, Dom, bool_dom, int_dom, name_dom, set_dom, Stm, given, given_enum, let_ex, let_dom, let_enum, let_unnamed, needs, find, such_that, minimise, maximise, ex2}
 use Rattle.ess_semantics.specs.Prepared.{prepared}
-use Rattle.ess_semantics.specs.Plans.{Options, Plan, chosen_reprs, kept_names, plans}
+use Rattle.ess_semantics.specs.Plans.{Options, Plan, size_plan, value_plan, chosen_reprs, kept_names, plans, names_of_plans}
+use Rattle.ess_semantics.specs.Constants.{constants_of}
 use Rattle.ess_semantics.specs.Models.{constraints_of}
+use Rattle.ess_refine_laws.specs.SpellingEnds.{numbers_of_tree}
+use Rattle.ess_ranged_laws.specs.Ranged.{is_ranged_truth}
+use Rattle.ess_nested_laws.specs.NestedDomains.{is_nested_dom}
 use Rattle.conjure_laws.specs.SetsOfAtoms.{TypeKind, fixed, sized, enum_values}
-use Rattle.conjure_model_laws.specs.Printed.{printed_name}
+use Rattle.conjure_model_laws.specs.ToldApart.{is_unreserved}
+use Rattle.conjure_model_laws.specs.Shown.{shows_nothing, shows_from}
+use Rattle.conjure_model_laws.specs.Printed.{printed_name, binders}
 use Rattle.conjure_model_laws.specs.IsBuiltFrom.{taken_names}
 use Rattle.ess_flat_models_laws.specs.FlatSpecifications.{given_mark, mark_among, is_scalar_dom, is_atom_alone, scalar_mark, is_flat_truth, is_flat_number, has_marks}
 
@@ -92,13 +100,54 @@ is_of_kind vs e d = false
 abbrev pub has_printed_name : List Stm → Options → Bool
 has_printed_name S o = not (is_empty (printed_name (taken_names S o) 0))
 
--- Whether it says that such a value is in a set.
+-- Whether a name is that of a set kept as the members that occur.
+abbrev pub is_kept_by_members : List Stm → Options → Text → Bool
+is_kept_by_members S o x = is_some_and (look (kept_names S) x) (λ d. is_occurrence_alone (chosen_reprs o x d))
+
+-- Whether it says that such a value is in such a set.
 abbrev pub is_membership : List Stm → Options → Ex → Bool
 is_membership S o (ex2 true Op2.Member e (name_ex x)) =
-    is_some_and (members_of (look (kept_names S) x)) (is_of_kind (places S) e) && has_printed_name S o
+    is_some_and (members_of (look (kept_names S) x)) (is_of_kind (places S) e) && (has_printed_name S o && is_kept_by_members S o x)
 is_membership S o e = false
 
+-- ---- sets of any nesting
+
+-- Whether the only representation is one for the domain.
+abbrev pub is_one_fitting : Dom → List Repr → Bool
+is_one_fitting d (r ∷ []) = fits r d
+is_one_fitting d rs = false
+
+-- Whether no more than 2^62 tables are declared, as in any text that a machine holds: so names are left for bound ones.
+abbrev pub has_few_tables : List Stm → Options → Bool
+has_few_tables S o = nat_le (length (taken_names S o)) (2 ^ 62)
+
+-- Whether the plan is one of such sets, but for those of which is kept which atoms occur and which have no attributes.
+abbrev pub is_nested_plan : Names TypeKind → Plan → Bool
+is_nested_plan ks (size_plan t n) = false
+is_nested_plan ks (value_plan f x r d ns) = is_nested_dom d && not (is_set_dom ks d && is_occurrence_alone (r ∷ []))
+
+-- ---- constraints over ranges
+
+-- Whether nothing is shown for a reserved name, as no text has one.
+abbrev pub spares_reserved : List Plan → List Stm → Bool
+spares_reserved Ps S = list_all is_unreserved (keys (shows_from Ps (prepared S) shows_nothing).first)
+
+-- Whether there are names for all that is bound and declared, as in any text that a machine holds.
+abbrev pub has_names_left : List Plan → List Stm → Ex → Bool
+has_names_left Ps S e =
+    nat_le ((shows_from Ps (prepared S) shows_nothing).next + binders e) (2 ^ 62) && nat_le (length (keys (names_of_plans Ps))) (2 ^ 62)
+
+-- Whether the constraint is a truth value over ranges and scalars, that spells constants of the specification.
+abbrev pub is_ranged_constraint : List Plan → List Stm → Ex → Bool
+is_ranged_constraint Ps S e =
+    is_ranged_truth (scalar_mark Ps) e && (spares_reserved Ps S
+    && (has_names_left Ps S e && list_all (λ n. list_any (same_int n) (constants_of S)) (numbers_of_tree e)))
+
 -- ---- the class
+
+-- Whether a find is such a set, kept in one representation.
+abbrev pub is_nested_kept : List Stm → Options → Text → Dom → Bool
+is_nested_kept S o x d = is_nested_dom d && (is_one_fitting d (chosen_reprs o x d) && has_few_tables S o)
 
 -- Whether a given or find is a scalar kept as an atom.
 abbrev pub is_scalar_kept : List Stm → Options → Text → Dom → Bool
@@ -111,14 +160,14 @@ is_set_kept S o x d = is_set_dom (kinds S) d && is_occurrence_alone (chosen_repr
 -- Whether the statement, with lettings put in, is of the class. No letting has the name of a scalar.
 abbrev pub is_mixed_statement : List Stm → Options → Stm → Bool
 is_mixed_statement S o (given x d) = is_scalar_kept S o x d
-is_mixed_statement S o (find x d) = is_scalar_kept S o x d || is_set_kept S o x d
+is_mixed_statement S o (find x d) = is_scalar_kept S o x d || (is_set_kept S o x d || is_nested_kept S o x d)
 is_mixed_statement S o (given_enum t) = true
 is_mixed_statement S o (let_enum t ns) = true
 is_mixed_statement S o (let_unnamed t e) = is_some (written_size e)
 is_mixed_statement S o (let_ex x e) = not (is_some (scalar_mark (plans S o) x))
 is_mixed_statement S o (let_dom x d) = true
 is_mixed_statement S o (needs e) = is_flat_truth (plans S o) e
-is_mixed_statement S o (such_that e) = is_flat_truth (plans S o) e || is_membership S o e
+is_mixed_statement S o (such_that e) = is_flat_truth (plans S o) e || (is_membership S o e || is_ranged_constraint (plans S o) S e)
 is_mixed_statement S o (minimise e) = is_flat_number (plans S o) e
 is_mixed_statement S o (maximise e) = is_flat_number (plans S o) e
 
@@ -134,7 +183,7 @@ is_of_sets d = false
 -- Whether members of sets are of types that are known or declared before.
 abbrev pub types_come_first : Names TypeKind → List Stm → Bool
 types_come_first ks [] = true
-types_come_first ks (find x d ∷ T) = (not (is_of_sets d) || is_set_dom ks d) && types_come_first ks T
+types_come_first ks (find x d ∷ T) = (not (is_of_sets d) || (is_set_dom ks d || is_nested_dom d)) && types_come_first ks T
 types_come_first ks (s ∷ T) = types_come_first (kinds_by s ++ ks) T
 
 -- Whether bounds of scalars have no names but those of these givens, and of those that are declared before.

@@ -1,5 +1,5 @@
-use Rattle.conjure_mixed_laws.proofs.BuiltMixed.{built-mixed-right}
+use Rattle.conjure_mixed_laws.proofs.MixedLaws.{built-mixed}
 use Rattle.conjure_mixed_laws.proofs.laws.built_mixed_models_are_right.Goals as goal
 
 pub returns : goal.returns
-returns c = built-mixed-right
+returns c = built-mixed

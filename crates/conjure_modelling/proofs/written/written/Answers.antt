@@ -1,18 +1,27 @@
-use Rattle.std.proofs.Common.{subst, map}
+use Rattle.std.proofs.Common.{sym, subst, map}
 use Rattle.ess_core.specs.StatementViews.{pure_spec}
 use Rattle.ess_parse.specs.NamedReprViews.{pure_named_reprs}
-use Rattle.ess_models.specs.Modelled.{IsSpelled}
-use Rattle.conjure_modelling.specs.Modelled.{IsModelText, IsHeaded}
+use Rattle.ess_models.specs.Modelled.{IsModelOf, IsModelled}
 use Rattle.conjure_modelling.proofs.WhatIsWritten.{checked}
-use Rattle.conjure_modelling.proofs.ReadAgain.{is_written}
+use Rattle.conjure_modelling.proofs.ReadAgain.{built_lines, all_written}
 use Rattle.conjure_modelling.proofs.written.written.Goals as goal
 
 -- src/written.rt
-pub returns-in-Ok-clause-ok : goal.returns-in-Ok-clause-ok
-returns-in-Ok-clause-ok c =
+pub printed-text-requires : goal.printed-text-requires
+printed-text-requires c =
+    let S = pure_spec c.args.typed.now.spec in
+    let rs = map pure_named_reprs c.args.reprs.now in record {
+      head = built_lines S rs c.get.result.now c.requires.readable
+          (subst (IsModelOf S rs) (sym c.get.ensures)
+          (subst (IsModelled S rs) c.in-Model.is (c.in_ok-model.ensures (checked c.args.typed.now c.requires.typed))));
+    }
+
+-- src/written.rt
+pub returns-in-Model-clause-ok : goal.returns-in-Model-clause-ok
+returns-in-Model-clause-ok c =
     let S = pure_spec c.args.typed.now.spec in
     let rs = map pure_named_reprs c.args.reprs.now in
-    is_written S rs c.in-Text.text.items c.requires.readable
-    (subst (IsSpelled S rs) c.in-Text.is (c.in_ok-text.ensures (checked c.args.typed.now c.requires.typed)))
-    (subst IsModelText c.as_slice.ensures.value c.in-Ok.ensures.ok)
-    (subst IsHeaded c.as_slice.ensures.value c.in-Ok.ensures.headed)
+    all_written (λ text. text.items) S rs c.get.result.now c.printed-text.result c.requires.readable
+    (subst (IsModelOf S rs) (sym c.get.ensures)
+    (subst (IsModelled S rs) c.in-Model.is (c.in_ok-model.ensures (checked c.args.typed.now c.requires.typed))))
+    c.printed-text.ensures.text c.printed-text.ensures.read

@@ -1,0 +1,2 @@
+-- The law of chains in bare trees
+pub mod Laws

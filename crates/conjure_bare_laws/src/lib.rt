@@ -1,0 +1,4 @@
+//! Along chains of rules bare trees stay bare, mean the same and keep their values.
+#![tactic(auto)]
+
+pub mod laws;

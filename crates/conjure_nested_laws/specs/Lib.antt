@@ -1,0 +1,4 @@
+-- Finds that are sets of any nesting
+pub mod NestedFinds
+-- The laws
+pub mod Laws

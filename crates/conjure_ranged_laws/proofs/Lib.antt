@@ -1,0 +1,3 @@
+-- The rules of constraints over ranges
+pub mod RangedRules
+pub mod RangedLaws

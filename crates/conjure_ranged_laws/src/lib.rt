@@ -1,0 +1,4 @@
+//! Rules that are written for constraints over ranges.
+#![tactic(auto)]
+
+pub mod laws;

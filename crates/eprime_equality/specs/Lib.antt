@@ -1,0 +1,2 @@
+-- What it is that two models are one
+pub mod SameModels

@@ -1,0 +1,92 @@
+-- No rule of comprehensions whose items have an order fires at a bare tree, or at a list of bare items.
+use Rattle.std.proofs.Common.{◌≡◌, refl, ap, ◌∙◌, ℕ, Bool, ◌&&◌, if◌then◌else◌, List, [], ◌∷◌, Option, None}
+use Rattle.ess_semantics.specs.Lists.{and_then, or_else}
+use Rattle.ess_semantics.specs.Values.{Text}
+use Rattle.ess_semantics.specs.Names.{Names}
+use Rattle.ess_semantics.specs.NamesAt.{names_behind}
+use Rattle.ess_semantics.specs.Trees.{Ex, comp_ex, Gens}
+use Rattle.ess_semantics.specs.Types.{Ty}
+use Rattle.ess_semantics.specs.Typing.{type_of}
+use Rattle.ess_rules_laws.specs.AlternativeLookups.{select_each, select_whole_each}
+use Rattle.ess_refine_laws.specs.AllRules.{Supply}
+use Rattle.ess_open_rules_laws.specs.OpenGenerators.{put_before}
+use Rattle.ess_open_rules_laws.specs.OpenRules.{gives_scalar, is_compound_ty}
+use Rattle.ess_ordered_laws.specs.NumberedItems.{ordered_lookup}
+use Rattle.ess_ordered_laws.specs.IndexedSources.{indexed_source}
+use Rattle.ess_ordered_laws.specs.OrderedRules.{OrderedRule, an_item, of_an_item, source_by_indices, over_operand, at_operand, ordered_rewrite}
+use Rattle.ess_bare_laws.specs.Bare.{Bare, number, truth, named, cell, one, two, power, chosen, folded, added, ordered, Row, row, Ranging}
+use Rattle.ess_bare_laws.proofs.Picks.{none-open}
+
+module _ (cells : Text → Option (Bool × ℕ)) (s : Supply) (g : Names Ty) (r : Names Bool) where
+  abbrev F : Ex → Bool → Type 0
+  F = Bare cells r
+
+  -- Nothing is looked up.
+  no-lookup : {e : Ex} {m : Bool} → F e m → (z : Text) (ys : List Text) → ordered_lookup z ys e ≡ None
+  no-lookup f z [] = refl
+  no-lookup number z (y ∷ ys) = refl
+  no-lookup truth z (y ∷ ys) = refl
+  no-lookup (named h) z (y ∷ ys) = refl
+  no-lookup (cell h i) z (y ∷ ys) = refl
+  no-lookup (one o f) z (y ∷ ys) = refl
+  no-lookup (two o f h c) z (y ∷ ys) = refl
+  no-lookup (power f h) z (y ∷ ys) = refl
+  no-lookup (chosen f) z (y ∷ ys) = refl
+  no-lookup (folded w k f) z (y ∷ ys) = refl
+  no-lookup (added k f) z (y ∷ ys) = refl
+  no-lookup (ordered w f h) z (y ∷ ys) = refl
+
+  list-lookup : (e : Ex) (gs : Gens) (z : Text) (ys : List Text) → ordered_lookup z ys (comp_ex e gs) ≡ None
+  list-lookup e gs z [] = refl
+  list-lookup e gs z (y ∷ ys) = refl
+
+  row-lookup : {e : Ex} {m : Bool} → Row cells r e m → (z : Text) (ys : List Text) → ordered_lookup z ys e ≡ None
+  row-lookup (row {e = e} {gs = gs} k f) z ys = list-lookup e gs z ys
+
+  alone : (e : Ex) → ordered_lookup s.third s.parts e ≡ None → ordered_rewrite s g an_item e ≡ None
+  alone e q = ap (λ o. and_then o (λ l. if gives_scalar g e then select_whole_each s.one l e else None)) q
+
+  operand : (k : ℕ) (e t : Ex) → ordered_lookup s.third s.parts t ≡ None → over_operand s g k e t ≡ None
+  operand k e t q = ap (λ o. and_then o
+      (λ l. if gives_scalar g e && is_compound_ty (type_of t g) then select_each s.one k l e else None)) q
+
+  neither : (o p : Option Ex) → o ≡ None → p ≡ None → or_else o p ≡ None
+  neither o p a b = ap (λ x. or_else x p) a ∙ b
+
+  no-operands : {e : Ex} {m : Bool} → F e m → ordered_rewrite s g of_an_item e ≡ None
+  no-operands number = refl
+  no-operands truth = refl
+  no-operands (named h) = refl
+  no-operands (cell h i) = refl
+  no-operands {e} (one {x = x} o f) = neither (at_operand s g 1 e) (at_operand s g 2 e)
+      (operand 1 e x (no-lookup f s.third s.parts)) refl
+  no-operands {e} (two {x = x} {y = y} o f h c) = neither (at_operand s g 1 e) (at_operand s g 2 e)
+      (operand 1 e x (no-lookup f s.third s.parts)) (operand 2 e y (no-lookup h s.third s.parts))
+  no-operands {e} (power {x = x} {y = y} f h) = neither (at_operand s g 1 e) (at_operand s g 2 e)
+      (operand 1 e x (no-lookup f s.third s.parts)) (operand 2 e y (no-lookup h s.third s.parts))
+  no-operands {e} (chosen {x = x} f) = neither (at_operand s g 1 e) (at_operand s g 2 e)
+      (operand 1 e x (no-lookup f s.third s.parts)) refl
+  no-operands {e} (folded {e = x} {gs = gs} w k f) = neither (at_operand s g 1 e) (at_operand s g 2 e)
+      (operand 1 e (comp_ex x gs) (list-lookup x gs s.third s.parts)) refl
+  no-operands {e} (added {e = x} {gs = gs} k f) = neither (at_operand s g 1 e) (at_operand s g 2 e)
+      (operand 1 e (comp_ex x gs) (list-lookup x gs s.third s.parts)) refl
+  no-operands {e} (ordered {x = x} {y = y} w f h) = neither (at_operand s g 1 e) (at_operand s g 2 e)
+      (operand 1 e x (row-lookup f s.third s.parts)) (operand 2 e y (row-lookup h s.third s.parts))
+
+  no-source : {e : Ex} {m : Bool} → F e m → ordered_rewrite s g source_by_indices e ≡ None
+  no-source number = refl
+  no-source f = refl
+
+  -- None of the three at a bare tree.
+  pub no-order : (u : OrderedRule) {e : Ex} {m : Bool} → F e m → ordered_rewrite s g u e ≡ None
+  no-order an_item {e = e} f = alone e (no-lookup f s.third s.parts)
+  no-order of_an_item f = no-operands f
+  no-order source_by_indices f = no-source f
+
+  -- None at a list.
+  pub no-order-list : (u : OrderedRule) {t : Names Bool} {gs : Gens} (e : Ex) → Ranging cells r gs t →
+      ordered_rewrite s g u (comp_ex e gs) ≡ None
+  no-order-list an_item {gs = gs} e k = alone (comp_ex e gs) (list-lookup e gs s.third s.parts)
+  no-order-list of_an_item e k = refl
+  no-order-list source_by_indices e k = ap (λ o. and_then o
+      (λ t. and_then (indexed_source (names_behind t.before g) s.one (comp_ex e t.after)) (put_before t.before))) (none-open cells k)

@@ -1,0 +1,88 @@
+-- Worked examples: what is written for small bare trees.
+use Rattle.std.proofs.Common.{◌≡◌, refl, ℕ, Bool, true, false, if◌then◌else◌, List, [], ◌∷◌, ◌++◌, pos, codes, decimal, Option, Some, None, arith}
+use Rattle.ess_semantics.specs.declared.words.Op2.{Op2}
+use Rattle.ess_semantics.specs.declared.words.Fun.{Fun}
+use Rattle.ess_semantics.specs.Values.{Text}
+use Rattle.ess_semantics.specs.Order.{same_text}
+use Rattle.ess_semantics.specs.Names.{Names}
+use Rattle.ess_semantics.specs.Trees.{both_ends, matrix_literal, name_pat, Ex, number_ex, name_ex, node_ex, comp_ex, cell_ex, no_exs, more_exs, Gens, no_gens, over, cond, Dom, bool_dom, int_dom, ex2, fun1}
+use Rattle.ess_semantics.specs.Tables.{Table}
+use Rattle.ess_semantics.specs.DeclaredTables.{TableDecl}
+use Rattle.ess_semantics.specs.Meaning.{meaning}
+use Rattle.ess_semantics.specs.ModelMeaning.{env_of_tables, model_value}
+use Rattle.ess_flat_laws.specs.Flat.{equal}
+use Rattle.ess_bare_laws.specs.Bare.{Bare, before, some_holds, number, named, cell, two, folded, ordered, no_index, one_index, row, at_end, through, where_holds, no_axis, truths, numbers, no_bound, one_bound}
+use Rattle.ess_bare_written_laws.specs.Laws.{as_written, AreDeclared, IsReady}
+use Rattle.ess_bare_written_laws.proofs.Written.{bare-trees-are-written}
+
+-- A table x of truth values over one axis, and a number n.
+abbrev cells : Text → Option (Bool × ℕ)
+cells a = if same_text a (codes "x") then Some (true, 1) else (if same_text a (codes "n") then Some (false, 0) else None)
+
+abbrev x_at : Ex → Ex
+x_at e = cell_ex true (codes "x") (more_exs e no_exs)
+
+abbrev n_ex : Ex
+n_ex = cell_ex false (codes "n") no_exs
+
+abbrev i : Text
+i = codes "i"
+
+abbrev q1 : Text
+q1 = codes "q" ++ decimal 1
+
+abbrev or_over : Ex → Gens → Ex
+or_over e gs = fun1 true Fun.Or (comp_ex e gs)
+
+-- `or([x[i] | i : bool])` is written as `or([x[toInt(q1)] | q1 : bool])`.
+abbrev of_truths : Ex
+of_truths = or_over (x_at (name_ex i)) (over (name_pat i) bool_dom no_gens)
+
+bare-truths : Bare cells [] of_truths true
+bare-truths = folded some_holds (through truths at_end) (cell refl (one_index (named refl) no_index))
+
+written-truths : as_written [] of_truths ≡ or_over (x_at (fun1 false Fun.ToInt (name_ex q1))) (over (name_pat q1) bool_dom no_gens)
+written-truths = refl
+
+-- `or([x[i] | i : int(0..1), i = 1])` as `x[1]`.
+abbrev zero_one : Dom
+zero_one = int_dom (both_ends ∷ []) (more_exs (number_ex (pos 0)) (more_exs (number_ex (pos 1)) no_exs))
+
+abbrev of_key : Ex
+of_key = or_over (x_at (name_ex i)) (over (name_pat i) zero_one (cond (ex2 true Op2.Eq (name_ex i) (number_ex (pos 1))) no_gens))
+
+bare-key : Bare cells [] of_key true
+bare-key = folded some_holds (through (numbers refl (one_bound number (one_bound number no_bound)))
+    (where_holds (two equal (named refl) number refl) at_end))
+    (cell refl (one_index (named refl) no_index))
+
+written-key : as_written [] of_key ≡ x_at (number_ex (pos 1))
+written-key = refl
+
+-- `[n | ] <lex [n | ]` as `[n] <lex [n]`, which is no bare tree.
+abbrev one_item : Ex
+one_item = node_ex false matrix_literal (more_exs n_ex no_exs)
+
+bare-rows : Bare cells [] (ex2 true Op2.LexLt (comp_ex n_ex no_gens) (comp_ex n_ex no_gens)) true
+bare-rows = ordered before (row no_axis (cell refl no_index)) (row no_axis (cell refl no_index))
+
+written-rows : as_written [] (ex2 true Op2.LexLt (comp_ex n_ex no_gens) (comp_ex n_ex no_gens)) ≡ ex2 true Op2.LexLt one_item one_item
+written-rows = refl
+
+-- The first tree is ready, and says over declared tables what it means.
+abbrev none : Text → Bool
+none a = false
+
+ready : IsReady cells [] of_truths true
+ready = record {
+  bare = bare-truths;
+  unbound = none;
+  around = none;
+  ranging = none;
+  scoped = ((refl, tt, (refl, tt)), tt);
+  few = omega arith;
+}
+
+says : (ds : List TableDecl) → AreDeclared ds cells → (tc : Names Table) →
+    model_value ds tc (as_written [] of_truths) ≡ meaning of_truths (env_of_tables tc)
+says ds d tc = bare-trees-are-written.value cells [] of_truths true ready ds d tc (env_of_tables tc) refl

@@ -1,0 +1,117 @@
+-- What becomes of folds, lists and conditions with plain keys is lean.
+use Rattle.std.proofs.Common.{◌≡◌, refl, sym, subst, ℕ, Bool, true, false, ℤ, Option, None}
+use Rattle.ess_semantics.specs.declared.words.Op2.{Op2}
+use Rattle.ess_semantics.specs.declared.words.Fun.{Fun}
+use Rattle.ess_semantics.specs.Lists.{or_default, when}
+use Rattle.ess_semantics.specs.Values.{Text}
+use Rattle.ess_semantics.specs.Names.{Names}
+use Rattle.ess_semantics.specs.Trees.{Ex, Gens, cond, ex2, fun1}
+use Rattle.ess_guard_laws.specs.Origins.{Origin, is_number}
+use Rattle.ess_guard_laws.specs.Conditions.{unless}
+use Rattle.ess_keys_laws.specs.KeyForms.{is_truth, is_settled}
+use Rattle.ess_keys_laws.specs.Keyed.{laid, are_conditions, connected, fold_of, conjuncts, conditions_before}
+use Rattle.ess_keys_laws.proofs.Forms.{before-append}
+use Rattle.ess_flat_laws.specs.Flat.{denied, TwoOp, both, either, implied, agreeing, equal, unequal, below, at_most, above, at_least}
+use Rattle.ess_bare_laws.specs.Bare.{before, not_behind}
+use Rattle.ess_bare_written_laws.proofs.Lean.{FoldWord, of_all, of_some, of_sum, Lean, a_number, a_truth, a_name, a_cell, by_one, by_two, by_power, by_truth, by_fold, by_order, Row, listed, alone, Ranging, behind_all, over_truths, over_numbers, under}
+use Rattle.ess_bare_written_laws.proofs.Origins.{Origins, truth-told, number-told}
+
+module _ (cells : Text → Option (Bool × ℕ)) (ok : ℤ → Bool) (fine : Text → Bool) where
+  abbrev T : Names Bool → Ex → Bool → Type 0
+  T = Lean cells ok fine true
+
+  abbrev G : Names Bool → Gens → Names Bool → Type 0
+  G = Ranging cells ok fine true
+
+  -- ---- folds
+
+  -- A lean tree is no list.
+  pub no-fold : (k : Names Origin) {u : Names Bool} {e : Ex} {m : Bool} → T u e m → (b : Bool) (f : Fun) → fold_of k b f e ≡ None
+  no-fold k (a_number q) b f = refl
+  no-fold k a_truth b f = refl
+  no-fold k (a_name q) b f = refl
+  no-fold k (a_cell q l) b f = refl
+  no-fold k (by_one {b = true} w x) b f = refl
+  no-fold k (by_one {b = false} w x) b f = refl
+  no-fold k (by_two {b = true} w x y) b f = refl
+  no-fold k (by_two {b = false} w x y) b f = refl
+  no-fold k (by_power x y) b f = refl
+  no-fold k (by_truth x) b f = refl
+  no-fold k (by_fold {b = true} w s x) b f = refl
+  no-fold k (by_fold {b = false} w s x) b f = refl
+  no-fold k (by_order w x y) b f = refl
+
+  kept-item : {u : Names Bool} {e : Ex} {m : Bool} → T u e m → (n : Ex) (b : Bool) → b ≡ true → T u (or_default (when b e) n) m
+  kept-item f n true q = f
+  kept-item f n false q = cc
+
+  -- A truth value under conditions.
+  connected-lean : {u t : Names Bool} {o : Op2} {e : Ex} {gs : Gens} → TwoOp true o true true → G u gs t → T t e true →
+      are_conditions gs ≡ true → T u (connected o gs e) true
+  connected-lean w behind_all f q = f
+  connected-lean w (over_truths c s) f q = cc
+  connected-lean w (over_numbers c b l s) f q = cc
+  connected-lean w (under k s) f q = by_two w k (connected-lean w s f q)
+
+  conditions-fold : {u t : Names Bool} {o : Op2} {p : Fun} {c e : Ex} {gs : Gens} → FoldWord true p → TwoOp true o true true →
+      T u c true → G u gs t → T t e true → (b : Bool) → are_conditions gs ≡ b →
+      T u (or_default (when b (ex2 true o c (connected o gs e))) (fun1 true p (laid e (cond c gs)))) true
+  conditions-fold v w k s f true q = by_two w k (connected-lean w s f q)
+  conditions-fold v w k s f false q = by_fold v (under k s) f
+
+  -- What is left of a fold.
+  pub fold-lean : {u t : Names Bool} {k : Names Origin} {b : Bool} {p : Fun} {e : Ex} {gs : Gens} → Origins u k → FoldWord b p → G u gs t →
+      T t e b → T u (or_default (fold_of k b p (laid e gs)) (fun1 b p (laid e gs))) b
+  fold-lean {k = k} {e = e} o of_all behind_all f = kept-item f _ (is_truth k e) (truth-told cells ok fine o f)
+  fold-lean {k = k} {e = e} o of_some behind_all f = kept-item f _ (is_truth k e) (truth-told cells ok fine o f)
+  fold-lean {k = k} {e = e} o of_sum behind_all f = kept-item f _ (is_number k e) (number-told cells ok fine o f)
+  fold-lean o of_all (over_truths c s) f = by_fold of_all (over_truths c s) f
+  fold-lean o of_some (over_truths c s) f = by_fold of_some (over_truths c s) f
+  fold-lean o of_sum (over_truths c s) f = by_fold of_sum (over_truths c s) f
+  fold-lean o of_all (over_numbers c b l s) f = by_fold of_all (over_numbers c b l s) f
+  fold-lean o of_some (over_numbers c b l s) f = by_fold of_some (over_numbers c b l s) f
+  fold-lean o of_sum (over_numbers c b l s) f = by_fold of_sum (over_numbers c b l s) f
+  fold-lean o of_all (under {gs = gs} c s) f = conditions-fold of_all implied c s f (are_conditions gs) refl
+  fold-lean o of_some (under {gs = gs} c s) f = conditions-fold of_some both c s f (are_conditions gs) refl
+  fold-lean o of_sum (under c s) f = by_fold of_sum (under c s) f
+
+  -- A list beside a lex sign.
+  pub row-lean : {u t : Names Bool} {m : Bool} {e : Ex} {gs : Gens} → G u gs t → T t e m → Row cells ok fine true u (laid e gs) m
+  row-lean behind_all f = alone f
+  row-lean (over_truths c s) f = listed (over_truths c s) f
+  row-lean (over_numbers c b l s) f = listed (over_numbers c b l s) f
+  row-lean (under c s) f = listed (under c s) f
+
+  -- ---- conditions
+
+  unless-lean : {u t : Names Bool} {c : Ex} {gs : Gens} → (k : Names Origin) → T u c true → G u gs t →
+      G u (conditions_before (unless (is_settled k c) c) gs) t
+  unless-lean {u = u} {t = t} {c = c} {gs = gs} k f s = go (is_settled k c)
+    where
+      go : (b : Bool) → G u (conditions_before (unless b c) gs) t
+      go true = s
+      go false = under f s
+
+  -- A condition as its conjuncts.
+  pub conditions-lean : {u t : Names Bool} {c : Ex} {gs : Gens} → (k : Names Origin) → T u c true → G u gs t →
+      G u (conditions_before (conjuncts k c) gs) t
+  conditions-lean {u = u} {t = t} {gs = gs} k (by_two {x = x} {y = y} both f h) s =
+      subst (λ hs. G u hs t) (sym (before-append (conjuncts k x) (conjuncts k y) gs))
+      (conditions-lean k f (conditions-lean k h s))
+  conditions-lean k a_truth s = unless-lean k a_truth s
+  conditions-lean k (a_name q) s = unless-lean k (a_name q) s
+  conditions-lean k (a_cell q l) s = unless-lean k (a_cell q l) s
+  conditions-lean k (by_one denied f) s = unless-lean k (by_one denied f) s
+  conditions-lean k (by_two either f h) s = unless-lean k (by_two either f h) s
+  conditions-lean k (by_two implied f h) s = unless-lean k (by_two implied f h) s
+  conditions-lean k (by_two agreeing f h) s = unless-lean k (by_two agreeing f h) s
+  conditions-lean k (by_two equal f h) s = unless-lean k (by_two equal f h) s
+  conditions-lean k (by_two unequal f h) s = unless-lean k (by_two unequal f h) s
+  conditions-lean k (by_two below f h) s = unless-lean k (by_two below f h) s
+  conditions-lean k (by_two at_most f h) s = unless-lean k (by_two at_most f h) s
+  conditions-lean k (by_two above f h) s = unless-lean k (by_two above f h) s
+  conditions-lean k (by_two at_least f h) s = unless-lean k (by_two at_least f h) s
+  conditions-lean k (by_fold of_all x f) s = unless-lean k (by_fold of_all x f) s
+  conditions-lean k (by_fold of_some x f) s = unless-lean k (by_fold of_some x f) s
+  conditions-lean k (by_order before f h) s = unless-lean k (by_order before f h) s
+  conditions-lean k (by_order not_behind f h) s = unless-lean k (by_order not_behind f h) s

@@ -1,0 +1,23 @@
+-- Lean trees
+pub mod Lean
+pub mod FromBare
+pub mod Forms
+-- Simplified
+pub mod Truths
+pub mod Simplifying
+pub mod Scopes
+-- With plain keys
+pub mod Origins
+pub mod Keys
+pub mod KeyedNodes
+pub mod Keying
+pub mod FewBinders
+-- Printed
+pub mod PrintedNames
+pub mod Printing
+-- As models have them
+pub mod KindedTrees
+-- What is written
+pub mod Written
+-- Worked examples
+mod ExamplesWritten

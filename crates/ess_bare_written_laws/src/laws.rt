@@ -1,0 +1,9 @@
+//! Laws of what is written for bare trees, each the contract of a function that does nothing.
+
+ghost use Rattle.ess_bare_written_laws.specs.Laws.{BareTreesAreWritten};
+
+/// What is written for a bare tree in which no bound name hides another one means what the tree means, and is a model's own where the
+/// tables are declared.
+pub fn bare_trees_are_written()
+    ensures { BareTreesAreWritten }
+{}

@@ -1,0 +1,2 @@
+-- Domains of nested sets
+pub mod NestedDomains

@@ -1,0 +1,4 @@
+-- Trees over ranges
+pub mod Ranged
+-- Their law
+pub mod Laws

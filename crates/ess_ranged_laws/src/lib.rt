@@ -1,0 +1,4 @@
+//! Constraints over ranges: which these are, and what becomes of one over tables.
+#![tactic(auto)]
+
+pub mod laws;
