@@ -1,6 +1,6 @@
 -- What is known of the text that would be written when it is read again.
 use Rattle.std.proofs.Common.{◌≡◌, refl, sym, ap, ◌∙◌, subst, inl, inr, false, true≢false, Bool, List}
-use Rattle.std.specs.Prelude.{Ok, Err, IfOk, IsTrue}
+use Rattle.std.specs.Prelude.{Ok, Err, IfOk, IfErr, IsTrue}
 use Rattle.std.specs.declared.result.Result.{Result}
 use Rattle.std.specs.List.{list_all}
 use Rattle.ess_semantics.specs.Values.{Text}
@@ -130,3 +130,9 @@ is_unwritten S rs m ModelNo.NotYet built none =
 is_unwritten S rs m ModelNo.NoMemory built none = tt
 is_unwritten S rs m (ModelNo.Specification w) built none = absurd none
 is_unwritten S rs m (ModelNo.BadRepresentation k) built none = absurd none
+
+-- Nor is what is answered in its place.
+pub all_unwritten : {T : Type 0} (S : List Stm) (rs : Names (List Repr)) (m : PModel) (r : Result T ModelNo) → IsModelOf S rs m
+    → IfErr r (IsNotRead (pure_model m) (model_text m.head (pure_model m))) → IfErr r (IsUnwritten S rs)
+all_unwritten S rs m (Ok t) built none = tt
+all_unwritten S rs m (Err why) built none = is_unwritten S rs m why built none

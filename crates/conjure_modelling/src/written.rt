@@ -85,7 +85,7 @@ fn printed(alloc: Global, model: &PModel) -> Result<Vec<u8>, ModelNo>
 
 /// The text of the model of a specification with these representations. `NotYet` where a part of it can't be written, or what would be
 /// written is no model by the rules of models, or another one than the one that was built, or its header isn't read again.
-#[tactic(auto, using(crate::proofs::WhatIsWritten::checked, crate::proofs::WhatIsWritten::lacks, crate::proofs::WhatIsWritten::misfit, crate::proofs::ReadAgain::is_unwritten))]
+#[tactic(auto, using(crate::proofs::WhatIsWritten::checked, crate::proofs::WhatIsWritten::lacks, crate::proofs::WhatIsWritten::misfit))]
 pub(crate) fn written(
     alloc: Global,
     typed: &Typed,
