@@ -12,3 +12,5 @@ pub mod DomainExcuses
 pub mod Closings
 pub mod Words
 pub mod Views
+pub mod Flags
+pub mod Applied

@@ -25,7 +25,7 @@ look_found (b ∷ bs) a = go (same_text b.name a) (look_found bs a)
     go false h = h
 
 -- The first list of two comes first.
-look_append : (g h : Names Value) (a : Text) → look (g ++ h) a ≡ or_else (look g a) (look h a)
+pub look_append : (g h : Names Value) (a : Text) → look (g ++ h) a ≡ or_else (look g a) (look h a)
 look_append [] h a = refl
 look_append (b ∷ g) h a = go (same_text b.0 a) (look_append g h a)
   where
@@ -45,6 +45,11 @@ pub look_second : (bs cs : List Binding) (a : Text) (b : Binding) → None ≡ f
     → Some b ≡ find (λ b. same_text b.name a) (reverse cs)
     → look (pure_bindings bs ++ pure_bindings cs) a ≡ Some (pure_val b.val)
 look_second bs cs a b h k = rw (look_both bs cs a, ← h, ← k) refl
+
+-- A name that the first list doesn't have is looked for in the second.
+pub look_env : (bs cs : List Binding) (a : Text) (v : Value) → None ≡ find (λ b. same_text b.name a) (reverse bs)
+    → look (pure_bindings cs) a ≡ Some v → look (pure_bindings bs ++ pure_bindings cs) a ≡ Some v
+look_env bs cs a v h k = rw (look_append (pure_bindings bs) (pure_bindings cs) a, look_found (reverse bs) a, ← h) k
 
 -- A list of entries is looked through for the name.
 pub entry_found : (ts : List TypeEntry) (a : Text)

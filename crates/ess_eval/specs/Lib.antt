@@ -5,3 +5,4 @@ pub mod Folds
 pub mod Operands
 pub mod ClosedDomains
 pub mod Stops
+pub mod Flags

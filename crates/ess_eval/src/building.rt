@@ -7,7 +7,8 @@ ghost use Rattle.ess_core.specs.TableViews.{pure_type_entries};
 ghost use Rattle.ess_eval_domains.specs.ClosedViews.{pure_closed, pure_closeds, pure_field_closed, pure_attributes, pure_span, record_domain};
 
 use crate::names::entry_of;
-use ess_core::{Boxed, Env, NoMemory, Row, Text};
+use crate::risen::Risen;
+use ess_core::{Boxed, NoMemory, Row, Text};
 use ess_eval_domains::{Attribute, Closed, FieldClosed, Span};
 use std::alloc::Global;
 
@@ -28,7 +29,7 @@ pub(crate) fn integers_of(
 pub(crate) fn named_of(
     alloc: Global,
     name: &Text,
-    env: &Env,
+    env: &Risen,
 ) -> Result<Option<Boxed<Closed>>, NoMemory>
     ensures { IfOk result (λ o. option_map pure_closed o ≡ named_domain false name.now (type_entry (pure_type_entries env.now.types) name.now)) }
 {

@@ -11,6 +11,7 @@ ghost use Rattle.ess_eval.specs.declared.calls.EvalNo.TheVariants.{Big};
 use crate::closing::closed_at;
 use crate::evaluating::value_at;
 use crate::reading::truth_of;
+use crate::risen::{read_for, unread};
 use ess_core::{Boxed, Dom, Env, Ex, Row, Val};
 use ess_eval_domains::Closed;
 use ess_eval_operators::OperateNo;
@@ -36,8 +37,12 @@ pub fn value(alloc: Global, ex: &Ex, env: &Env) -> Result<Option<Val>, EvalNo>
     ensures big { result ≡ Err Big → is_large (pure_ex ex.now) (pure_env env.now) ≡ true }
     ensures stops { IfErr result (λ no. is_big_or_memory no ≡ true) }
 {
+    let env = match read_for(alloc, ex, env) {
+        Ok(env) => env,
+        Err(_) => return Err(EvalNo::NoMemory),
+    };
     let mut bound = Row::new(alloc);
-    match value_at(alloc, ex, env, &mut bound) {
+    match value_at(alloc, ex, &env, &mut bound) {
         Ok(found) => Ok(found),
         Err(OperateNo::Big) => Err(EvalNo::Big),
         Err(OperateNo::NoMemory) => Err(EvalNo::NoMemory),
@@ -50,8 +55,12 @@ pub fn truth(alloc: Global, ex: &Ex, env: &Env) -> Result<bool, EvalNo>
     ensures big { result ≡ Err Big → is_large (pure_ex ex.now) (pure_env env.now) ≡ true }
     ensures stops { IfErr result (λ no. is_big_or_memory no ≡ true) }
 {
+    let env = match read_for(alloc, ex, env) {
+        Ok(env) => env,
+        Err(_) => return Err(EvalNo::NoMemory),
+    };
     let mut bound = Row::new(alloc);
-    match value_at(alloc, ex, env, &mut bound) {
+    match value_at(alloc, ex, &env, &mut bound) {
         Ok(found) => Ok(truth_of(found)),
         Err(OperateNo::Big) => Err(EvalNo::Big),
         Err(OperateNo::NoMemory) => Err(EvalNo::NoMemory),
@@ -65,8 +74,9 @@ pub fn domain_of(alloc: Global, dom: &Dom, env: &Env) -> Result<Option<Boxed<Clo
     ensures big { result ≡ Err Big → is_large_dom (pure_dom dom.now) (pure_env env.now) ≡ true }
     ensures stops { IfErr result (λ no. is_big_or_memory no ≡ true) }
 {
+    let env = unread(alloc, env);
     let mut bound = Row::new(alloc);
-    match closed_at(alloc, dom, env, &mut bound) {
+    match closed_at(alloc, dom, &env, &mut bound) {
         Ok(domain) => Ok(domain),
         Err(OperateNo::Big) => Err(EvalNo::Big),
         Err(OperateNo::NoMemory) => Err(EvalNo::NoMemory),

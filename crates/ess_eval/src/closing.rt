@@ -17,7 +17,8 @@ use crate::building::{
     relations_of, sets_of, tuples_of,
 };
 use crate::numbering::{attributes_at, spans_at};
-use ess_core::{Attr, Binding, Boxed, Dom, Env, FieldDom, Row, Val};
+use crate::risen::Risen;
+use ess_core::{Attr, Binding, Boxed, Dom, FieldDom, Row, Val};
 use ess_eval_domains::{Closed, FieldClosed, members};
 use ess_eval_operators::OperateNo;
 use std::alloc::Global;
@@ -27,7 +28,7 @@ use std::alloc::Global;
 pub(crate) fn domain_members(
     alloc: Global,
     dom: &Dom,
-    env: &Env,
+    env: &Risen,
     bound: &mut Row<Binding>,
 ) -> Result<Option<Row<Val>>, OperateNo>
     ensures ok { IfOk result (λ o. option_map (map pure_val) o ≡ members_in (domain_meant (pure_dom dom.now) (env_at env.now bound.old))) }
@@ -46,7 +47,7 @@ pub(crate) fn domain_members(
 pub(crate) fn closed_at(
     alloc: Global,
     dom: &Dom,
-    env: &Env,
+    env: &Risen,
     bound: &mut Row<Binding>,
 ) -> Result<Option<Boxed<Closed>>, OperateNo>
     ensures ok { IfOk result (λ o. option_map pure_closed o ≡ domain_meant (pure_dom dom.now) (env_at env.now bound.old)) }
@@ -112,7 +113,7 @@ fn functions_at(
     attrs: &[Attr],
     from: &Dom,
     to: &Dom,
-    env: &Env,
+    env: &Risen,
     bound: &mut Row<Binding>,
 ) -> Result<Option<Boxed<Closed>>, OperateNo>
     ensures ok { IfOk result (λ o. option_map pure_closed o ≡ domain_meant (function_dom (words_of (map pure_attr attrs.now)) (exs_of (within (map pure_attr attrs.now))) (pure_dom from.now) (pure_dom to.now)) (env_at env.now bound.old)) }
@@ -131,7 +132,7 @@ fn functions_at(
 fn closeds_at(
     alloc: Global,
     doms: &[Dom],
-    env: &Env,
+    env: &Risen,
     bound: &mut Row<Binding>,
 ) -> Result<Option<Row<Closed>>, OperateNo>
     ensures ok { IfOk result (λ o. option_map pure_closeds o ≡ domains_meant (pure_doms doms.now) (env_at env.now bound.old)) }
@@ -152,7 +153,7 @@ fn closeds_at(
 fn add_closeds(
     alloc: Global,
     doms: &[Dom],
-    env: &Env,
+    env: &Risen,
     bound: &mut Row<Binding>,
     parts: &mut Row<Closed>,
 ) -> Result<bool, OperateNo>
@@ -178,7 +179,7 @@ fn add_closeds(
 fn fields_at(
     alloc: Global,
     fields: &[FieldDom],
-    env: &Env,
+    env: &Risen,
     bound: &mut Row<Binding>,
 ) -> Result<Option<Row<FieldClosed>>, OperateNo>
     ensures ok { IfOk result (λ o. option_map (λ fs. record_domain (map pure_field_closed fs)) o ≡ domain_meant (record_dom (keys (map pure_field_dom fields.now)) (doms_of (field_values (map pure_field_dom fields.now)))) (env_at env.now bound.old)) }
@@ -199,7 +200,7 @@ fn fields_at(
 fn add_fields(
     alloc: Global,
     fields: &[FieldDom],
-    env: &Env,
+    env: &Risen,
     bound: &mut Row<Binding>,
     parts: &mut Row<FieldClosed>,
 ) -> Result<bool, OperateNo>

@@ -9,14 +9,16 @@ ghost use Rattle.ess_eval.specs.Environments.{env_at};
 
 use crate::closing::domain_members;
 use crate::generating::{comprehension, word_over};
+use crate::halving::{named_application, two_value};
 use crate::literals::literal_at;
 use crate::marking::{
-    application_value, binary_value, index_value, unary_value, word_value, word_value1, word_value2,
+    application_value, index_value, unary_value, word_value, word_value1, word_value2,
 };
 use crate::names::value_of_name;
 use crate::operands::{operand, steps_at, unnamed_at, values_at};
 use crate::reading::{matrix_of, number_of, view_value};
-use ess_core::{Binding, Dom, Env, Ex, Fun, Op2, Row, Step, Val};
+use crate::risen::Risen;
+use ess_core::{Binding, Dom, Ex, Fun, Op2, Row, Step, Val};
 use ess_eval_operators::OperateNo;
 use std::alloc::Global;
 
@@ -26,7 +28,7 @@ use std::alloc::Global;
 pub(crate) fn value_at(
     alloc: Global,
     ex: &Ex,
-    env: &Env,
+    env: &Risen,
     bound: &mut Row<Binding>,
 ) -> Result<Option<Val>, OperateNo>
     ensures ok { IfOk result (λ o. option_map pure_val o ≡ meaning (pure_ex ex.now) (env_at env.now bound.old)) }
@@ -36,7 +38,7 @@ pub(crate) fn value_at(
     match ex {
         Ex::Num(number) => Ok(Some(Val::Num(*number))),
         Ex::Truth(truth) => Ok(Some(Val::Truth(*truth))),
-        Ex::Name(name) => match value_of_name(name, env, bound.as_slice()) {
+        Ex::Name(name) => match value_of_name(name, &*env, bound.as_slice()) {
             Some(val) => match val.copy(alloc) {
                 Ok(copy) => Ok(Some(copy)),
                 Err(_) => Err(OperateNo::NoMemory),
@@ -77,7 +79,7 @@ fn two_at(
     op: Op2,
     a: &Ex,
     b: &Ex,
-    env: &Env,
+    env: &Risen,
     bound: &mut Row<Binding>,
 ) -> Result<Option<Val>, OperateNo>
     ensures ok { IfOk result (λ o. option_map pure_val o ≡ meaning (ex2 (is_truth_op2 op) op (pure_ex a.now) (pure_ex b.now)) (env_at env.now bound.old)) }
@@ -92,12 +94,7 @@ fn two_at(
             return Err(no);
         }
     };
-    let found = binary_value(
-        alloc,
-        op,
-        operand(a, &x, env, bound.as_slice()),
-        operand(b, &y, env, bound.as_slice()),
-    );
+    let found = two_value(alloc, op, a, &x, b, &y, env, bound.as_slice());
     drop(x);
     drop(y);
     found
@@ -111,7 +108,7 @@ fn call_at(
     mark: bool,
     fun: Fun,
     args: &[Ex],
-    env: &Env,
+    env: &Risen,
     bound: &mut Row<Binding>,
 ) -> Result<Option<Val>, OperateNo>
     ensures ok { IfOk result (λ o. option_map pure_val o ≡ meaning (node_ex (call_mark mark fun) (word fun) (pure_exs args.now)) (env_at env.now bound.old)) }
@@ -140,7 +137,7 @@ fn call_one(
     mark: bool,
     fun: Fun,
     a: &Ex,
-    env: &Env,
+    env: &Risen,
     bound: &mut Row<Binding>,
 ) -> Result<Option<Val>, OperateNo>
     ensures ok { IfOk result (λ o. option_map pure_val o ≡ meaning (node_ex (call_mark mark fun) (word fun) (more_exs (pure_ex a.now) no_exs)) (env_at env.now bound.old)) }
@@ -153,7 +150,7 @@ fn call_one(
         }
     }
     let x = unnamed_at(alloc, a, env, bound)?;
-    let found = word_value1(alloc, mark, fun, operand(a, &x, env, bound.as_slice()));
+    let found = word_value1(alloc, mark, fun, operand(a, &x, &*env, bound.as_slice()));
     drop(x);
     found
 }
@@ -167,7 +164,7 @@ fn call_two(
     fun: Fun,
     a: &Ex,
     b: &Ex,
-    env: &Env,
+    env: &Risen,
     bound: &mut Row<Binding>,
 ) -> Result<Option<Val>, OperateNo>
     ensures ok { IfOk result (λ o. option_map pure_val o ≡ meaning (node_ex (call_mark mark fun) (word fun) (more_exs (pure_ex a.now) (more_exs (pure_ex b.now) no_exs))) (env_at env.now bound.old)) }
@@ -186,8 +183,8 @@ fn call_two(
         alloc,
         mark,
         fun,
-        operand(a, &x, env, bound.as_slice()),
-        operand(b, &y, env, bound.as_slice()),
+        operand(a, &x, &*env, bound.as_slice()),
+        operand(b, &y, &*env, bound.as_slice()),
     );
     drop(x);
     drop(y);
@@ -202,7 +199,7 @@ fn indexed_at(
     mark: bool,
     of: &Ex,
     steps: &[Step],
-    env: &Env,
+    env: &Risen,
     bound: &mut Row<Binding>,
 ) -> Result<Option<Val>, OperateNo>
     ensures ok { IfOk result (λ o. option_map pure_val o ≡ meaning (node_ex mark (index (words_of (map pure_step steps.now))) (more_exs (pure_ex of.now) (exs_of (within (map pure_step steps.now))))) (env_at env.now bound.old)) }
@@ -215,7 +212,7 @@ fn indexed_at(
         return index_value(
             alloc,
             mark,
-            value_of_name(name, env, bound.as_slice()),
+            value_of_name(name, &*env, bound.as_slice()),
             steps,
             at.as_slice(),
         );
@@ -234,7 +231,7 @@ fn applied_at(
     mark: bool,
     of: &Ex,
     args: &[Ex],
-    env: &Env,
+    env: &Risen,
     bound: &mut Row<Binding>,
 ) -> Result<Option<Val>, OperateNo>
     ensures ok { IfOk result (λ o. option_map pure_val o ≡ meaning (node_ex mark application (more_exs (pure_ex of.now) (pure_exs args.now))) (env_at env.now bound.old)) }
@@ -243,12 +240,7 @@ fn applied_at(
 {
     let args = values_at(alloc, args, env, bound)?;
     if let Ex::Name(name) = of {
-        return application_value(
-            alloc,
-            mark,
-            value_of_name(name, env, bound.as_slice()),
-            args.as_slice(),
-        );
+        return named_application(alloc, mark, name, args, env, bound.as_slice());
     }
     let of = value_at(alloc, of, env, bound)?;
     let found = application_value(alloc, mark, of.as_ref(), args.as_slice());
@@ -263,7 +255,7 @@ fn matrix_at(
     alloc: Global,
     items: &[Ex],
     axis: &Dom,
-    env: &Env,
+    env: &Risen,
     bound: &mut Row<Binding>,
 ) -> Result<Option<Val>, OperateNo>
     ensures ok { IfOk result (λ o. option_map pure_val o ≡ meaning (matrix_ex (pure_exs items.now) (pure_dom axis.now)) (env_at env.now bound.old)) }
@@ -280,7 +272,7 @@ fn matrix_at(
 pub(crate) fn number_at(
     alloc: Global,
     ex: &Ex,
-    env: &Env,
+    env: &Risen,
     bound: &mut Row<Binding>,
 ) -> Result<Option<i64>, OperateNo>
     ensures ok { IfOk result (λ n. n ≡ as_int (meaning (pure_ex ex.now) (env_at env.now bound.old))) }

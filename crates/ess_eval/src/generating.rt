@@ -15,8 +15,9 @@ use crate::evaluating::value_at;
 use crate::folding::{Fold, begun, list_kept, take, word_kept};
 use crate::numbering::spans_at;
 use crate::reading::{items_in, truth_of};
+use crate::risen::Risen;
 use crate::sweeping::{sweep, sweep_numbers};
-use ess_core::{Binding, Dom, Env, Ex, Fun, Gen, Pat, Range, Row, Text, Val};
+use ess_core::{Binding, Dom, Ex, Fun, Gen, Pat, Range, Row, Text, Val};
 use ess_eval_domains::number_members;
 use ess_eval_operators::OperateNo;
 use std::alloc::Global;
@@ -28,7 +29,7 @@ pub(crate) fn comprehension(
     alloc: Global,
     item: &Ex,
     gens: &[Gen],
-    env: &Env,
+    env: &Risen,
     bound: &mut Row<Binding>,
 ) -> Result<Option<Val>, OperateNo>
     ensures ok { IfOk result (λ o. option_map pure_val o ≡ meaning (comp_ex (pure_ex item.now) (pure_gens gens.now)) (env_at env.now bound.old)) }
@@ -48,7 +49,7 @@ pub(crate) fn word_over(
     fun: Fun,
     item: &Ex,
     gens: &[Gen],
-    env: &Env,
+    env: &Risen,
     bound: &mut Row<Binding>,
 ) -> Result<Option<Val>, OperateNo>
     ensures ok { IfOk result (λ o. option_map pure_val o ≡ meaning (node_ex (call_mark false fun) (word fun) (more_exs (comp_ex (pure_ex item.now) (pure_gens gens.now)) no_exs)) (env_at env.now bound.old)) }
@@ -67,7 +68,7 @@ pub(crate) fn runs(
     alloc: Global,
     item: &Ex,
     gens: &[Gen],
-    env: &Env,
+    env: &Risen,
     bound: &mut Row<Binding>,
     fold: &mut Fold,
 ) -> Result<bool, OperateNo>
@@ -105,7 +106,7 @@ fn runs_from(
     pat: &Pat,
     source: &Ex,
     rest: &[Gen],
-    env: &Env,
+    env: &Risen,
     bound: &mut Row<Binding>,
     fold: &mut Fold,
 ) -> Result<bool, OperateNo>
@@ -128,7 +129,7 @@ fn runs_over(
     pat: &Pat,
     dom: &Dom,
     rest: &[Gen],
-    env: &Env,
+    env: &Risen,
     bound: &mut Row<Binding>,
     fold: &mut Fold,
 ) -> Result<bool, OperateNo>
@@ -156,7 +157,7 @@ fn runs_numbers(
     name: &Text,
     ranges: &[Range],
     rest: &[Gen],
-    env: &Env,
+    env: &Risen,
     bound: &mut Row<Binding>,
     fold: &mut Fold,
 ) -> Result<bool, OperateNo>
@@ -184,7 +185,7 @@ fn runs_numbers(
 fn numbers_at(
     alloc: Global,
     ranges: &[Range],
-    env: &Env,
+    env: &Risen,
     bound: &mut Row<Binding>,
 ) -> Result<Option<Row<i64>>, OperateNo>
     ensures ok { IfOk result (λ o. option_map (map number) o ≡ members_in (domain_meant (int_dom (words_of (map pure_range ranges.now)) (exs_of (within (map pure_range ranges.now)))) (env_at env.now bound.old))) }
@@ -202,7 +203,7 @@ fn numbers_at(
 fn source_values(
     alloc: Global,
     source: &Ex,
-    env: &Env,
+    env: &Risen,
     bound: &mut Row<Binding>,
 ) -> Result<Option<Row<Val>>, OperateNo>
     ensures ok { IfOk result (λ o. option_map (map pure_val) o ≡ source_items (meaning (pure_ex source.now) (env_at env.now bound.old))) }

@@ -7,6 +7,7 @@ mod closing;
 mod evaluating;
 mod folding;
 mod generating;
+mod halving;
 mod literals;
 mod marking;
 mod names;
@@ -14,6 +15,7 @@ mod numbering;
 mod operands;
 mod patterns;
 mod reading;
+mod risen;
 mod sweeping;
 
 pub use calls::{EvalNo, domain_of, truth, value};

@@ -7,7 +7,8 @@ ghost use Rattle.ess_eval_operators.specs.declared.OperateNo.TheVariants.{Big};
 ghost use Rattle.ess_eval.specs.Environments.{env_at};
 
 use crate::operands::{field_values_at, pairs_at, values_at};
-use ess_core::{Binding, Env, Ex, Row, Val};
+use crate::risen::Risen;
+use ess_core::{Binding, Ex, Row, Val};
 use ess_eval_operators::{
     OperateNo, function_value, list_value, mset_value, partition_value, record_value,
     relation_value, set_value, tuple_value,
@@ -21,7 +22,7 @@ use std::alloc::Global;
 pub(crate) fn literal_at(
     alloc: Global,
     ex: &Ex,
-    env: &Env,
+    env: &Risen,
     bound: &mut Row<Binding>,
 ) -> Result<Option<Val>, OperateNo>
     ensures ok { IfOk result (λ o. option_map pure_val o ≡ meaning (pure_ex ex.now) (env_at env.now bound.old)) }

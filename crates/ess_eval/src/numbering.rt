@@ -8,7 +8,8 @@ ghost use Rattle.ess_eval.specs.Environments.{env_at};
 ghost use Rattle.ess_eval.specs.Items.{Gathered};
 
 use crate::evaluating::number_at;
-use ess_core::{Attr, Binding, Env, Range, Row};
+use crate::risen::Risen;
+use ess_core::{Attr, Binding, Range, Row};
 use ess_eval_domains::{Attribute, Span};
 use ess_eval_operators::OperateNo;
 use std::alloc::Global;
@@ -19,7 +20,7 @@ use std::alloc::Global;
 pub(crate) fn spans_at(
     alloc: Global,
     ranges: &[Range],
-    env: &Env,
+    env: &Risen,
     bound: &mut Row<Binding>,
 ) -> Result<Option<Row<Span>>, OperateNo>
     ensures ok { IfOk result (λ o. option_map (map pure_span) o ≡ spans_meant (words_of (map pure_range ranges.now)) (meanings (exs_of (within (map pure_range ranges.now))) (env_at env.now bound.old))) }
@@ -40,7 +41,7 @@ pub(crate) fn spans_at(
 fn add_spans(
     alloc: Global,
     ranges: &[Range],
-    env: &Env,
+    env: &Risen,
     bound: &mut Row<Binding>,
     spans: &mut Row<Span>,
 ) -> Result<bool, OperateNo>
@@ -104,7 +105,7 @@ fn add_spans(
 pub(crate) fn attributes_at(
     alloc: Global,
     attrs: &[Attr],
-    env: &Env,
+    env: &Risen,
     bound: &mut Row<Binding>,
 ) -> Result<Option<Row<Attribute>>, OperateNo>
     ensures ok { IfOk result (λ o. option_map pure_attributes o ≡ attributes_meant (words_of (map pure_attr attrs.now)) (meanings (exs_of (within (map pure_attr attrs.now))) (env_at env.now bound.old))) }
@@ -125,7 +126,7 @@ pub(crate) fn attributes_at(
 fn add_attributes(
     alloc: Global,
     attrs: &[Attr],
-    env: &Env,
+    env: &Risen,
     bound: &mut Row<Binding>,
     own: &mut Row<Attribute>,
 ) -> Result<bool, OperateNo>

@@ -10,7 +10,8 @@ ghost use Rattle.ess_eval.specs.Operands.{operand_value};
 
 use crate::evaluating::value_at;
 use crate::names::value_of_name;
-use ess_core::{Binding, Env, Ex, FieldEx, Pair, PairEx, Row, Step, Val};
+use crate::risen::Risen;
+use ess_core::{Binding, Ex, FieldEx, Pair, PairEx, Row, Step, Val};
 use ess_eval_operators::{OperateNo, pair_value};
 use std::alloc::Global;
 
@@ -19,7 +20,7 @@ use std::alloc::Global;
 pub(crate) fn unnamed_at(
     alloc: Global,
     ex: &Ex,
-    env: &Env,
+    env: &Risen,
     bound: &mut Row<Binding>,
 ) -> Result<Option<Val>, OperateNo>
     ensures ok { IfOk result (λ o. operand_value (pure_ex ex.now) (env_at env.now bound.old) (option_map pure_val o) ≡ meaning (pure_ex ex.now) (env_at env.now bound.old)) }
@@ -36,7 +37,7 @@ pub(crate) fn unnamed_at(
 pub(crate) fn operand<'a>(
     ex: &Ex,
     found: &'a Option<Val>,
-    env: &'a Env,
+    env: &'a Risen,
     bound: &'a [Binding],
 ) -> Option<&'a Val>
     ensures { option_map pure_val (option_copied result) ≡ operand_value (pure_ex ex.now) (env_at env.now bound.now) (option_map pure_val found.now) }
@@ -52,7 +53,7 @@ pub(crate) fn operand<'a>(
 pub(crate) fn values_at(
     alloc: Global,
     exs: &[Ex],
-    env: &Env,
+    env: &Risen,
     bound: &mut Row<Binding>,
 ) -> Result<Row<Option<Val>>, OperateNo>
     ensures ok { IfOk result (λ r. map (option_map pure_val) r ≡ meanings (pure_exs exs.now) (env_at env.now bound.old)) }
@@ -70,7 +71,7 @@ pub(crate) fn values_at(
 fn add_values(
     alloc: Global,
     exs: &[Ex],
-    env: &Env,
+    env: &Risen,
     bound: &mut Row<Binding>,
     vals: &mut Row<Option<Val>>,
 ) -> Result<(), OperateNo>
@@ -92,7 +93,7 @@ fn add_values(
 pub(crate) fn field_values_at(
     alloc: Global,
     fields: &[FieldEx],
-    env: &Env,
+    env: &Risen,
     bound: &mut Row<Binding>,
 ) -> Result<Row<Option<Val>>, OperateNo>
     ensures ok { IfOk result (λ r. map (option_map pure_val) r ≡ meanings (exs_of (field_values (map pure_field_ex fields.now))) (env_at env.now bound.old)) }
@@ -110,7 +111,7 @@ pub(crate) fn field_values_at(
 fn add_field_values(
     alloc: Global,
     fields: &[FieldEx],
-    env: &Env,
+    env: &Risen,
     bound: &mut Row<Binding>,
     vals: &mut Row<Option<Val>>,
 ) -> Result<(), OperateNo>
@@ -133,7 +134,7 @@ fn add_field_values(
 pub(crate) fn pairs_at(
     alloc: Global,
     pairs: &[PairEx],
-    env: &Env,
+    env: &Risen,
     bound: &mut Row<Binding>,
     vals: &mut Row<Option<Pair>>,
 ) -> Result<(), OperateNo>
@@ -156,7 +157,7 @@ pub(crate) fn pairs_at(
 fn pair_at(
     alloc: Global,
     pair: &PairEx,
-    env: &Env,
+    env: &Risen,
     bound: &mut Row<Binding>,
 ) -> Result<Option<Pair>, OperateNo>
     ensures ok { IfOk result (λ o. option_map pure_pair o ≡ meaning (pure_pair_ex pair.now) (env_at env.now bound.old)) }
@@ -179,7 +180,7 @@ fn pair_at(
 pub(crate) fn steps_at(
     alloc: Global,
     steps: &[Step],
-    env: &Env,
+    env: &Risen,
     bound: &mut Row<Binding>,
     vals: &mut Row<Option<Val>>,
 ) -> Result<(), OperateNo>

@@ -9,7 +9,8 @@ ghost use Rattle.ess_semantics.specs.Meaning.{as_int, is_bool_dom, meaning, is_t
 ghost use Rattle.ess_semantics.specs.Operators.{as_truth, false_where_undefined};
 ghost use Rattle.ess_core.specs.ValueViews.{pure_val};
 
-use ess_core::{Binding, Dom, Env, NoMemory, Row, Val, View};
+use crate::risen::Risen;
+use ess_core::{Binding, Dom, NoMemory, Row, Val, View};
 use ess_eval_operators::{OperateNo, items_of, list_value};
 use std::alloc::Global;
 
@@ -106,7 +107,7 @@ fn fitted(index: Option<Row<Val>>, items: Row<Val>) -> Option<Val>
 #[tactic(auto, using(crate::proofs::Views::without_tables))]
 pub(crate) fn view_value(
     view: &View,
-    _env: &Env,
+    _env: &Risen,
     _bound: &[Binding],
 ) -> Result<Option<Val>, OperateNo>
     ensures ok { IfOk result (λ o. option_map pure_val o ≡ meaning (pure_view view.now) (env_at _env.now _bound.now)) }

@@ -13,7 +13,8 @@ use crate::folding::Fold;
 use crate::generating::runs;
 use crate::patterns::{bind, bind_name, unbind_name};
 use crate::reading::reversed;
-use ess_core::{Binding, Env, Ex, Gen, Pat, Row, Text, Val};
+use crate::risen::Risen;
+use ess_core::{Binding, Ex, Gen, Pat, Row, Text, Val};
 use ess_eval_operators::OperateNo;
 use std::alloc::Global;
 
@@ -25,7 +26,7 @@ pub(crate) fn sweep(
     pat: &Pat,
     vals: Row<Val>,
     rest: &[Gen],
-    env: &Env,
+    env: &Risen,
     bound: &mut Row<Binding>,
     fold: &mut Fold,
 ) -> Result<bool, OperateNo>
@@ -48,7 +49,7 @@ fn sweep_name(
     name: &Text,
     vals: Row<Val>,
     rest: &[Gen],
-    env: &Env,
+    env: &Risen,
     bound: &mut Row<Binding>,
     fold: &mut Fold,
 ) -> Result<bool, OperateNo>
@@ -75,7 +76,7 @@ pub(crate) fn sweep_numbers(
     name: &Text,
     numbers: &[i64],
     rest: &[Gen],
-    env: &Env,
+    env: &Risen,
     bound: &mut Row<Binding>,
     fold: &mut Fold,
 ) -> Result<bool, OperateNo>
@@ -110,7 +111,7 @@ fn turn(
     name: &mut Text,
     val: Val,
     rest: &[Gen],
-    env: &Env,
+    env: &Risen,
     bound: &mut Row<Binding>,
     fold: &mut Fold,
 ) -> Result<bool, OperateNo>
@@ -134,7 +135,7 @@ fn sweep_parts(
     pat: &Pat,
     vals: &[Val],
     rest: &[Gen],
-    env: &Env,
+    env: &Risen,
     bound: &mut Row<Binding>,
     fold: &mut Fold,
 ) -> Result<bool, OperateNo>
@@ -159,7 +160,7 @@ fn point(
     pat: &Pat,
     val: &Val,
     rest: &[Gen],
-    env: &Env,
+    env: &Risen,
     bound: &mut Row<Binding>,
     fold: &mut Fold,
 ) -> Result<bool, OperateNo>

@@ -11,4 +11,5 @@ pub returns-in-Some-newest : goal.returns-in-Some-newest
 returns-in-Some-newest c =
     let e : None ≡ find {X = Binding} (λ b. same_text b.name c.args.name.now) (reverse c.args.bound.now) = sym (ap option_copied c.in-None.is) ∙ c.newest.ensures in
     let f : Some c.in-Some-newest.binding.now ≡ find {X = Binding} (λ b. same_text b.name c.args.name.now) (reverse c.as_slice.result.now) = sym (ap option_copied c.in-Some-newest.is) ∙ c.newest-in-None.ensures in
-    sym (look_second c.args.bound.now c.args.env.now.vals c.args.name.now c.in-Some-newest.binding.now e (rw c.as_slice.ensures at f))
+    let g : c.as_slice.result.now ≡ c.args.env.now.vals = c.as_slice.ensures ∙ ap (λ e. e.vals) c.env.ensures in
+    sym (look_second c.args.bound.now c.args.env.now.vals c.args.name.now c.in-Some-newest.binding.now e (rw g at f))
