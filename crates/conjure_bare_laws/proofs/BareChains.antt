@@ -70,13 +70,13 @@ module _ (cells : Text → Option (Bool × ℕ)) where
   bare-root (named h) j = refl
   bare-root (cell h i) j = refl
   bare-root (one o f) j = refl
-  bare-root (two o f h c) j = refl
+  bare-root (two o f h) j = refl
   bare-root (power f h) j = refl
   bare-root (chosen truth) j = refl
   bare-root (chosen (named h)) j = refl
   bare-root (chosen (cell h i)) j = refl
   bare-root (chosen (one o f)) j = refl
-  bare-root (chosen (two o f h c)) j = refl
+  bare-root (chosen (two o f h)) j = refl
   bare-root (chosen (folded w k f)) j = refl
   bare-root (chosen (ordered w f h)) j = refl
   bare-root (folded {f = f} {e = e} w k h) j = ap (λ z. fun1 true f (comp_ex e z)) (no-source k j)
@@ -90,7 +90,7 @@ module _ (cells : Text → Option (Bool × ℕ)) where
   no-view (named h) = refl
   no-view (cell h i) = refl
   no-view (one o f) = refl
-  no-view (two o f h c) = refl
+  no-view (two o f h) = refl
   no-view (power f h) = refl
   no-view (chosen f) = refl
   no-view (folded w k f) = refl
@@ -139,7 +139,7 @@ module _ (cells : Text → Option (Bool × ℕ)) where
     binds = less (binders c) (binders b) (binders a) y.binds x.binds;
   }
 
-  -- What one of the three rules makes of a part, around which the names t are bound.
+  -- What one of the four rules makes of a part, around which the names t are bound.
   one-fired : (c : In) (t : Names Bool) (a b : Ex) (m k : Bool) → is_outside_views c ≡ true → names_at c [] ≡ marked_types t →
       StaysAt Typed c [] → Bare cells t a k → ((f : Ex) → Bare cells t f k → Bare cells [] (fill c f) m) → Fires a b k →
       StaysBare cells (fill c a) (fill c b) m

@@ -1,11 +1,13 @@
 -- A part that binds no more names leaves the number of those of the whole; and a rule that fires at a bare tree binds no more.
-use Rattle.std.proofs.Common.{◌≡◌, ap, ◌∙◌, subst, ℕ, suc, ◌+◌, ◌≤◌, le_refl, Bool, true, false, ◌&&◌, if◌then◌else◌, Option, Some, None, arith}
+use Rattle.std.proofs.Common.{◌≡◌, ap, ◌∙◌, subst, ℕ, zero, suc, ◌+◌, ◌≤◌, le_refl, Bool, true, false, ◌&&◌, if◌then◌else◌, pos, Option, Some, None, arith}
+use Rattle.ess_semantics.specs.declared.words.Op2.{Op2}
 use Rattle.ess_semantics.specs.declared.words.Fun.{Fun}
 use Rattle.ess_semantics.specs.Values.{Text}
 use Rattle.ess_semantics.specs.Names.{Names}
 use Rattle.ess_semantics.specs.Refined.{is_refined, are_refined_gens}
-use Rattle.ess_semantics.specs.Trees.{Ex, comp_ex, fun1, Gens, no_gens, over, from, cond}
+use Rattle.ess_semantics.specs.Trees.{Ex, number_ex, comp_ex, ex2, fun1, Gens, no_gens, over, from, cond}
 use Rattle.ess_semantics.specs.Contexts.{In, hole, in_operand, in_item, in_index_domain, in_body, in_generators, in_cell_index, in_view_domain, in_view_index, Ins, in_first, in_later, InGens, in_generator_domain, behind_over, in_source, behind_from, in_condition, behind_condition, InDom, in_bound, in_component, in_field, in_index, in_element, in_set_number, in_set_member, in_mset_number, in_mset_member, in_function_number, in_argument, in_result, in_relation_number, in_relation_component, in_partition_number, in_partition_member, fill, fill_exs, fill_gens, fill_dom}
+use Rattle.ess_rules_laws.specs.ChoiceRules.{choice_shorter}
 use Rattle.ess_rules_laws.specs.FoldRules.{fold_alone, fold_bare}
 use Rattle.ess_rules_laws.specs.SourceRules.{is_marked}
 use Rattle.ess_rules_laws.specs.SpliceRules.{append_gens}
@@ -14,7 +16,7 @@ use Rattle.ess_refine_laws.proofs.LeavingConditions.{MakesUp, made-up}
 use Rattle.conjure_model_laws.specs.Printed.{binders, binders_of_all, binders_of_gens, binders_of_dom}
 use Rattle.ess_flat_laws.specs.Flat.{denied, both}
 use Rattle.ess_bare_laws.specs.Bare.{before, Bare, truth, named, cell, one, two, folded, ordered}
-use Rattle.ess_bare_laws.specs.Fires.{Fires, without_generators, over_one_condition, as_a_condition_leaves}
+use Rattle.ess_bare_laws.specs.Fires.{Fires, without_generators, over_one_condition, as_a_condition_leaves, as_one_choice}
 
 -- ---- numbers
 
@@ -124,6 +126,9 @@ without (fun1 false Fun.Sum (comp_ex e no_gens)) = item-less (binders e)
 without (fun1 false Fun.Product (comp_ex e no_gens)) = item-less (binders e)
 without _ = tt
 
+item-less-behind : (x : ℕ) → x ≤ x + 0
+item-less-behind x = omega arith
+
 two-less : (x y : ℕ) → x + (y + 0) ≤ ((x + 0) + y) + 0
 two-less x y = omega arith
 
@@ -131,6 +136,14 @@ alone : (e : Ex) → AtMost (binders e) (fold_alone e)
 alone (fun1 true Fun.And (comp_ex e (cond c no_gens))) = two-less (binders c) (binders e)
 alone (fun1 true Fun.Or (comp_ex e (cond c no_gens))) = two-less (binders c) (binders e)
 alone _ = tt
+
+choice-less : (x y : ℕ) → (x + (y + 0)) + 0 ≤ (x + 0) + ((y + 0) + 0)
+choice-less x y = omega arith
+
+shorter : (e : Ex) → AtMost (binders e) (choice_shorter e)
+shorter (ex2 false Op2.Times (fun1 false Fun.ToInt c) (fun1 false Fun.ToInt d)) = choice-less (binders c) (binders d)
+shorter (ex2 false Op2.Times (fun1 false Fun.ToInt c) (number_ex (pos (suc zero)))) = item-less-behind (binders c + 0)
+shorter _ = tt
 
 either-way : (k : ℕ) (b : Bool) (f : Ex) → binders f ≤ k → AtMost k (if b then Some f else None)
 either-way k true f h = h
@@ -163,7 +176,7 @@ leaves truth = tt
 leaves (named p) = tt
 leaves (cell p i) = tt
 leaves (one denied f) = tt
-leaves (two both f k c) = tt
+leaves (two both f k) = tt
 leaves (folded {f = w} {e = e} {gs = gs} v k f) = leaves-fold w e gs (at_last_condition gs) (made-up gs)
 leaves (ordered before f k) = tt
 leaves f = tt
@@ -174,3 +187,4 @@ pub fired-binds : (cells : Text → Option (Bool × ℕ)) (r : Names Bool) (e f 
 fired-binds cells r e f m b (without_generators q) = subst (λ x. AtMost (binders e) x) q (without e)
 fired-binds cells r e f m b (over_one_condition q) = subst (λ x. AtMost (binders e) x) q (alone e)
 fired-binds cells r e f m b (as_a_condition_leaves q) = subst (λ x. AtMost (binders e) x) q (leaves b)
+fired-binds cells r e f m b (as_one_choice q) = subst (λ x. AtMost (binders e) x) q (shorter e)

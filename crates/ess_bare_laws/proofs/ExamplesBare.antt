@@ -9,7 +9,7 @@ use Rattle.ess_semantics.specs.Trees.{both_ends, name_pat, Ex, number_ex, name_e
 use Rattle.ess_rules_laws.specs.FoldRules.{fold_alone, fold_bare}
 use Rattle.ess_rules_laws.specs.ChoiceRules.{choice_shorter}
 use Rattle.ess_refine_laws.specs.LeavingConditions.{condition_leaves}
-use Rattle.ess_flat_laws.specs.Flat.{denied, at_most}
+use Rattle.ess_flat_laws.specs.Flat.{denied, at_most, product}
 use Rattle.ess_bare_laws.specs.Bare.{all_hold, Bare, number, named, cell, one, two, chosen, folded, added, at_end, through, no_axis, along, numbers, no_index, one_index, no_bound, one_bound}
 
 abbrev x_name : Text
@@ -36,7 +36,7 @@ bare_fold = folded all_hold (through (numbers refl (one_bound number (one_bound 
 bare_count : Bare tables [] (ex2 true Op2.Le (fun1 false Fun.Sum (comp_ex (fun1 false Fun.ToInt t_at_x)
     (over (name_pat x_name) one_to_two no_gens))) (number_ex (pos 1))) true
 bare_count = two at_most
-    (added (along (numbers refl (one_bound number (one_bound number no_bound))) no_axis) (chosen bare_cell)) number refl
+    (added (along (numbers refl (one_bound number (one_bound number no_bound))) no_axis) (chosen bare_cell)) number
 
 -- A condition leaves a fold of truth values: `and([!t[x] | x : int(1..2), t[x]])` becomes `and([t[x] -> and([!t[x] | ]) | x : int(1..2)])`.
 leaving : condition_leaves (fun1 true Fun.And (comp_ex (ex1 true Op1.Not t_at_x)
@@ -52,10 +52,21 @@ item_alone = refl
 condition_alone : fold_alone (fun1 true Fun.And (comp_ex t_at_x (cond t_at_x no_gens))) ≡ Some (ex2 true Op2.Implies t_at_x t_at_x)
 condition_alone = refl
 
--- Why products aren't bare: `sum([toInt(t[x])]) * 1` would become `toInt(t[x]) * 1`, of which another rule makes `toInt(t[x])`.
+-- `sum([toInt(t[x])]) * 1` becomes `toInt(t[x]) * 1`, of which another rule makes `toInt(t[x])`; both are bare where x is bound.
 factor_alone : fold_bare (fun1 false Fun.Sum (comp_ex (fun1 false Fun.ToInt t_at_x) no_gens)) ≡ Some (fun1 false Fun.ToInt t_at_x)
 factor_alone = refl
 
 product_shorter : choice_shorter (ex2 false Op2.Times (fun1 false Fun.ToInt t_at_x) (number_ex (pos 1))) ≡
     Some (fun1 false Fun.ToInt t_at_x)
 product_shorter = refl
+
+bare_product : Bare tables ((x_name, false) ∷ []) (ex2 false Op2.Times (fun1 false Fun.ToInt t_at_x) (number_ex (pos 1))) false
+bare_product = two product (chosen bare_cell) number
+
+-- `toInt(t[x]) * toInt(t[1])` becomes `toInt(t[x] /\ t[1])`.
+abbrev t_at_one : Ex
+t_at_one = cell_ex true (codes "t") (more_exs (number_ex (pos 1)) no_exs)
+
+choices_joined : choice_shorter (ex2 false Op2.Times (fun1 false Fun.ToInt t_at_x) (fun1 false Fun.ToInt t_at_one)) ≡
+    Some (fun1 false Fun.ToInt (ex2 true Op2.And t_at_x t_at_one))
+choices_joined = refl

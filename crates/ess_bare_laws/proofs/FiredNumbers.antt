@@ -1,6 +1,7 @@
 -- What a rule makes of a bare tree spells no other numbers; and a part that spells no others leaves those of the whole.
-use Rattle.std.proofs.Common.{◌≡◌, refl, subst, ℕ, Bool, true, false, ◌&&◌, if◌then◌else◌, List, [], ◌∷◌, ◌++◌, map, ℤ, Option, Some, None}
+use Rattle.std.proofs.Common.{◌≡◌, refl, subst, ℕ, zero, suc, Bool, true, false, ◌&&◌, if◌then◌else◌, List, [], ◌∷◌, ◌++◌, map, ℤ, pos, Option, Some, None}
 use Rattle.std.specs.List.{list_all}
+use Rattle.ess_semantics.specs.declared.words.Op2.{Op2}
 use Rattle.ess_semantics.specs.declared.words.Fun.{Fun}
 use Rattle.ess_semantics.specs.Lists.{append_all}
 use Rattle.ess_semantics.specs.Values.{Text}
@@ -8,8 +9,9 @@ use Rattle.ess_semantics.specs.Names.{Names}
 use Rattle.ess_semantics.specs.Refined.{is_refined, are_refined_gens}
 use Rattle.ess_semantics.specs.Occurrences.{parts_of, parts_of_all, parts_of_gens, parts_of_dom, parts_of_doms}
 use Rattle.ess_semantics.specs.Constants.{numbers_of_part}
-use Rattle.ess_semantics.specs.Trees.{Ex, comp_ex, fun1, Gens, no_gens, over, from, cond}
+use Rattle.ess_semantics.specs.Trees.{Ex, number_ex, comp_ex, ex2, fun1, Gens, no_gens, over, from, cond}
 use Rattle.ess_semantics.specs.Contexts.{In, hole, in_operand, in_item, in_index_domain, in_body, in_generators, in_cell_index, in_view_domain, in_view_index, Ins, in_first, in_later, InGens, in_generator_domain, behind_over, in_source, behind_from, in_condition, behind_condition, InDom, in_bound, in_component, in_field, in_index, in_element, in_set_number, in_set_member, in_mset_number, in_mset_member, in_function_number, in_argument, in_result, in_relation_number, in_relation_component, in_partition_number, in_partition_member, InDoms, in_first_domain, in_later_domain, fill, fill_exs, fill_gens, fill_dom, fill_doms}
+use Rattle.ess_rules_laws.specs.ChoiceRules.{choice_shorter}
 use Rattle.ess_rules_laws.specs.FoldRules.{fold_alone, fold_bare}
 use Rattle.ess_rules_laws.specs.SourceRules.{is_marked}
 use Rattle.ess_rules_laws.specs.SpliceRules.{append_gens}
@@ -19,7 +21,7 @@ use Rattle.ess_refine_laws.proofs.LeavingConditions.{MakesUp, made-up}
 use Rattle.ess_refine_laws.proofs.ConstantsStay.{All, all-left, all-right, all-both}
 use Rattle.ess_flat_laws.specs.Flat.{denied, both}
 use Rattle.ess_bare_laws.specs.Bare.{before, Bare, truth, named, cell, one, two, folded, ordered}
-use Rattle.ess_bare_laws.specs.Fires.{Fires, without_generators, over_one_condition, as_a_condition_leaves}
+use Rattle.ess_bare_laws.specs.Fires.{Fires, without_generators, over_one_condition, as_a_condition_leaves, as_one_choice}
 
 module _ (q : ℤ → Bool) where
   -- q has the numbers of these parts.
@@ -167,6 +169,16 @@ module _ (q : ℤ → Bool) where
       let k = item-and-gens true Fun.Or e (cond c no_gens) h in two-of c e (left (parts_of c) [] k.1) k.0
   alone _ h = tt
 
+  shorter : (e : Ex) → S (parts_of e) → Spelled (choice_shorter e)
+  shorter (ex2 false Op2.Times (fun1 false Fun.ToInt c) (fun1 false Fun.ToInt d)) h =
+      let x = parts_of (fun1 false Fun.ToInt d) in
+      let i = left (parts_of c) [] (left (parts_of c ++ []) (x ++ []) h) in
+      let j = left (parts_of d) [] (left x [] (right (parts_of c ++ []) (x ++ []) h)) in
+      join (parts_of c ++ (parts_of d ++ [])) [] (two-of c d i j) refl
+  shorter (ex2 false Op2.Times (fun1 false Fun.ToInt c) (number_ex (pos (suc zero)))) h =
+      left (parts_of c ++ []) (number_ex (pos (suc zero)) ∷ []) h
+  shorter _ h = tt
+
   either-way : (b : Bool) (f : Ex) → S (parts_of f) → Spelled (if b then Some f else None)
   either-way true f h = h
   either-way false f h = tt
@@ -200,7 +212,7 @@ module _ (q : ℤ → Bool) where
   leaves (named p) h = tt
   leaves (cell p i) h = tt
   leaves (one denied f) h = tt
-  leaves (two both f k c) h = tt
+  leaves (two both f k) h = tt
   leaves (folded {f = w} {e = e} {gs = gs} v k f) h =
       let s = item-and-gens true w e gs h in leaves-fold w e gs s.0 s.1 (at_last_condition gs) (made-up gs)
   leaves (ordered before f k) h = tt
@@ -212,6 +224,7 @@ pub fired-spells : (cells : Text → Option (Bool × ℕ)) (r : Names Bool) (e f
 fired-spells cells r e f m b (without_generators p) q h = subst (λ x. Spelled q x) p (without q e h)
 fired-spells cells r e f m b (over_one_condition p) q h = subst (λ x. Spelled q x) p (alone q e h)
 fired-spells cells r e f m b (as_a_condition_leaves p) q h = subst (λ x. Spelled q x) p (leaves q b h)
+fired-spells cells r e f m b (as_one_choice p) q h = subst (λ x. Spelled q x) p (shorter q e h)
 
 -- A part that spells no others leaves those of the whole.
 pub part-spells : (q : ℤ → Bool) (c : In) (a b : Ex) → (list_all q (numbers_of_tree a) ≡ true → list_all q (numbers_of_tree b) ≡ true) →

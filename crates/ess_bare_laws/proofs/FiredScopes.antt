@@ -1,11 +1,13 @@
 -- What a rule makes of a bare tree keeps scopes.
-use Rattle.std.proofs.Common.{subst, ℕ, Bool, true, false, ◌&&◌, if◌then◌else◌, Option, Some, None}
+use Rattle.std.proofs.Common.{subst, ℕ, zero, suc, Bool, true, false, ◌&&◌, if◌then◌else◌, pos, Option, Some, None}
+use Rattle.ess_semantics.specs.declared.words.Op2.{Op2}
 use Rattle.ess_semantics.specs.declared.words.Fun.{Fun}
 use Rattle.ess_semantics.specs.Values.{Text}
 use Rattle.ess_semantics.specs.Names.{Names}
 use Rattle.ess_semantics.specs.Refined.{is_refined, are_refined_gens}
 use Rattle.ess_semantics.specs.Scoped.{with_names, Scoped, ScopedGens}
-use Rattle.ess_semantics.specs.Trees.{Ex, comp_ex, fun1, Gens, no_gens, over, from, cond}
+use Rattle.ess_semantics.specs.Trees.{Ex, number_ex, comp_ex, ex2, fun1, Gens, no_gens, over, from, cond}
+use Rattle.ess_rules_laws.specs.ChoiceRules.{choice_shorter}
 use Rattle.ess_rules_laws.specs.FoldRules.{fold_alone, fold_bare}
 use Rattle.ess_rules_laws.specs.SourceRules.{is_marked}
 use Rattle.ess_rules_laws.specs.SpliceRules.{append_gens}
@@ -13,7 +15,7 @@ use Rattle.ess_refine_laws.specs.LeavingConditions.{Parted, at_last_condition, u
 use Rattle.ess_refine_laws.proofs.LeavingConditions.{MakesUp, made-up}
 use Rattle.ess_flat_laws.specs.Flat.{denied, both}
 use Rattle.ess_bare_laws.specs.Bare.{before, Bare, truth, named, cell, one, two, folded, ordered}
-use Rattle.ess_bare_laws.specs.Fires.{Fires, without_generators, over_one_condition, as_a_condition_leaves}
+use Rattle.ess_bare_laws.specs.Fires.{Fires, without_generators, over_one_condition, as_a_condition_leaves, as_one_choice}
 
 module _ (z : Text → Bool) where
   -- What is in scope behind generators.
@@ -50,6 +52,11 @@ module _ (z : Text → Bool) where
     alone (fun1 true Fun.Or (comp_ex e (cond c no_gens))) h = (h.0.0, (h.0.1, tt))
     alone _ h = tt
 
+    shorter : (e : Ex) → Scoped z s o e → InScope (choice_shorter e)
+    shorter (ex2 false Op2.Times (fun1 false Fun.ToInt c) (fun1 false Fun.ToInt d)) h = ((h.0.0, (h.1.0.0, tt)), tt)
+    shorter (ex2 false Op2.Times (fun1 false Fun.ToInt c) (number_ex (pos (suc zero)))) h = h.0
+    shorter _ h = tt
+
     either-way : (b : Bool) (f : Ex) → Scoped z s o f → InScope (if b then Some f else None)
     either-way true f h = h
     either-way false f h = tt
@@ -83,7 +90,7 @@ module _ (z : Text → Bool) where
     leaves (named q) h = tt
     leaves (cell q i) h = tt
     leaves (one denied f) h = tt
-    leaves (two both f k c) h = tt
+    leaves (two both f k) h = tt
     leaves (folded {f = w} {e = e} {gs = gs} v k f) h = leaves-fold w e gs h.0 (at_last_condition gs) (made-up gs)
     leaves (ordered before f k) h = tt
     leaves f h = tt
@@ -94,3 +101,4 @@ pub fired-scoped : (cells : Text → Option (Bool × ℕ)) (r : Names Bool) (e f
 fired-scoped cells r e f m b (without_generators q) z s o h = subst (λ x. InScope z s o x) q (without z s o e h)
 fired-scoped cells r e f m b (over_one_condition q) z s o h = subst (λ x. InScope z s o x) q (alone z s o e h)
 fired-scoped cells r e f m b (as_a_condition_leaves q) z s o h = subst (λ x. InScope z s o x) q (leaves z s o b h)
+fired-scoped cells r e f m b (as_one_choice q) z s o h = subst (λ x. InScope z s o x) q (shorter z s o e h)

@@ -11,7 +11,7 @@ module _ (cells : Text → Option (Bool × ℕ)) (r : Names Bool) where
   -- The rule doesn't fire at it.
   pub no-gathering : {e : Ex} {m : Bool} → Bare cells r e m → conditions_gathered e ≡ None
   no-gathering (one denied f) = refl
-  no-gathering (two both f h c) = refl
+  no-gathering (two both f h) = refl
   no-gathering (chosen truth) = refl
   no-gathering (folded all_hold k f) = refl
   no-gathering (ordered before f h) = refl

@@ -29,7 +29,7 @@ module _ (cells : Text → Option (Bool × ℕ)) (s : Supply) (g : Names Ty) (r 
   no-lookup (named h) z (y ∷ ys) = refl
   no-lookup (cell h i) z (y ∷ ys) = refl
   no-lookup (one o f) z (y ∷ ys) = refl
-  no-lookup (two o f h c) z (y ∷ ys) = refl
+  no-lookup (two o f h) z (y ∷ ys) = refl
   no-lookup (power f h) z (y ∷ ys) = refl
   no-lookup (chosen f) z (y ∷ ys) = refl
   no-lookup (folded w k f) z (y ∷ ys) = refl
@@ -60,7 +60,7 @@ module _ (cells : Text → Option (Bool × ℕ)) (s : Supply) (g : Names Ty) (r 
   no-operands (cell h i) = refl
   no-operands {e} (one {x = x} o f) = neither (at_operand s g 1 e) (at_operand s g 2 e)
       (operand 1 e x (no-lookup f s.third s.parts)) refl
-  no-operands {e} (two {x = x} {y = y} o f h c) = neither (at_operand s g 1 e) (at_operand s g 2 e)
+  no-operands {e} (two {x = x} {y = y} o f h) = neither (at_operand s g 1 e) (at_operand s g 2 e)
       (operand 1 e x (no-lookup f s.third s.parts)) (operand 2 e y (no-lookup h s.third s.parts))
   no-operands {e} (power {x = x} {y = y} f h) = neither (at_operand s g 1 e) (at_operand s g 2 e)
       (operand 1 e x (no-lookup f s.third s.parts)) (operand 2 e y (no-lookup h s.third s.parts))

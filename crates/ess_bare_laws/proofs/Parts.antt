@@ -35,7 +35,7 @@ module _ (cells : Text → Option (Bool × ℕ)) where
   may-fill r (scalar_slot m) e (named h) = tt
   may-fill r (scalar_slot m) e (cell h i) = tt
   may-fill r (scalar_slot m) e (one w f) = tt
-  may-fill r (scalar_slot m) e (two w f h c) = tt
+  may-fill r (scalar_slot m) e (two w f h) = tt
   may-fill r (scalar_slot m) e (power f h) = tt
   may-fill r (scalar_slot m) e (chosen f) = tt
   may-fill r (scalar_slot m) e (folded w g f) = tt

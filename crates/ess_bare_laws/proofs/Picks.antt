@@ -60,7 +60,7 @@ module _ (cells : Text → Option (Bool × ℕ)) where
   bare-picks (named h) = refl
   bare-picks (cell h i) = refl
   bare-picks (one o f) = refl
-  bare-picks (two o f h c) = refl
+  bare-picks (two o f h) = refl
   bare-picks (power f h) = refl
   bare-picks (chosen f) = refl
   bare-picks (folded all_hold g f) = refl
@@ -83,7 +83,7 @@ module _ (cells : Text → Option (Bool × ℕ)) where
   node-picks (named h) = tt
   node-picks (cell h i) = tt
   node-picks (one o f) = (bare-picks f, tt)
-  node-picks (two o f h c) = (bare-picks f, (bare-picks h, tt))
+  node-picks (two o f h) = (bare-picks f, (bare-picks h, tt))
   node-picks (power f h) = (bare-picks f, (bare-picks h, tt))
   node-picks (chosen f) = (bare-picks f, tt)
   node-picks (folded w g f) = (refl, tt)

@@ -106,19 +106,19 @@ module _ (cells : Text → Option (Bool × ℕ)) (r : Names Bool) (env : Env) (t
   bare-mark (one denied f) = tt
   bare-mark (one {x = x} negative f) = negated (meaning x env)
   bare-mark (one {x = x} absolute f) = sized (meaning x env)
-  bare-mark (two both f h c) = tt
-  bare-mark (two either f h c) = tt
-  bare-mark (two implied f h c) = tt
-  bare-mark (two agreeing f h c) = tt
-  bare-mark (two equal f h c) = tt
-  bare-mark (two unequal f h c) = tt
-  bare-mark (two below f h c) = tt
-  bare-mark (two at_most f h c) = tt
-  bare-mark (two above f h c) = tt
-  bare-mark (two at_least f h c) = tt
-  bare-mark (two {x = x} {y = y} sum f h c) = added-up (meaning x env) (meaning y env)
-  bare-mark (two {x = x} {y = y} difference f h c) = taken-off (meaning x env) (meaning y env) (bare-mark f)
-  bare-mark (two {x = x} {y = y} product f h c) = multiplied (meaning x env) (meaning y env)
+  bare-mark (two both f h) = tt
+  bare-mark (two either f h) = tt
+  bare-mark (two implied f h) = tt
+  bare-mark (two agreeing f h) = tt
+  bare-mark (two equal f h) = tt
+  bare-mark (two unequal f h) = tt
+  bare-mark (two below f h) = tt
+  bare-mark (two at_most f h) = tt
+  bare-mark (two above f h) = tt
+  bare-mark (two at_least f h) = tt
+  bare-mark (two {x = x} {y = y} sum f h) = added-up (meaning x env) (meaning y env)
+  bare-mark (two {x = x} {y = y} difference f h) = taken-off (meaning x env) (meaning y env) (bare-mark f)
+  bare-mark (two {x = x} {y = y} product f h) = multiplied (meaning x env) (meaning y env)
   bare-mark (power {x = x} {y = y} f h) = raised (meaning x env) (meaning y env)
   bare-mark (chosen {x = x} f) = chosen-number (meaning x env)
   bare-mark (folded all_hold g f) = tt

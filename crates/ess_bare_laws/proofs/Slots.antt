@@ -73,10 +73,10 @@ module _ (cells : Text → Option (Bool × ℕ)) where
     (f, tt),
     one-slot r (scalar_slot k) (λ fs. Bare cells r (node_ex b (unary o) fs) b) (λ x h. one w h),
   )
-  node-slots {r} (two {b = b} {m = i} {k = k} {o = o} w f h c) = (
+  node-slots {r} (two {b = b} {m = i} {k = k} {o = o} w f h) = (
     scalar_slot i ∷ scalar_slot k ∷ [],
     (f, (h, tt)),
-    two-slots r (scalar_slot i) (scalar_slot k) (λ fs. Bare cells r (node_ex b (binary o) fs) b) (λ x y p q. two w p q c),
+    two-slots r (scalar_slot i) (scalar_slot k) (λ fs. Bare cells r (node_ex b (binary o) fs) b) (λ x y p q. two w p q),
   )
   node-slots {r} (power f h) = (
     scalar_slot false ∷ scalar_slot false ∷ [],

@@ -181,7 +181,7 @@ bare-type cells r e m truth = refl
 bare-type cells r e m (named {a = a} h) = ap is_compound_ty (look-marked r a m h) ∙ mark-plain m
 bare-type cells r e m (cell {b = b} {n = n} h i) = cell-plain b (look (marked_types r) n)
 bare-type cells r e m (one {m = k} {x = x} o f) = one-plain o (type_of x (marked_types r)) (bare-type cells r x k f)
-bare-type cells r e m (two {m = i} {k = k} {x = x} {y = y} o f h c) = two-plain o (type_of x (marked_types r)) (type_of y (marked_types r))
+bare-type cells r e m (two {m = i} {k = k} {x = x} {y = y} o f h) = two-plain o (type_of x (marked_types r)) (type_of y (marked_types r))
     (bare-type cells r x i f) (bare-type cells r y k h)
 bare-type cells r e m (power {x = x} {y = y} f h) = power-plain (type_of x (marked_types r)) (type_of y (marked_types r))
 bare-type cells r e m (chosen {x = x} f) = chosen-plain (type_of x (marked_types r))

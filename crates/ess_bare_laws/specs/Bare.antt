@@ -16,12 +16,6 @@ pub data LexSign : Op2 → Type 0 where
   before : LexSign Op2.LexLt
   not_behind : LexSign Op2.LexLe
 
--- Whether the operator multiplies. Bare trees have no products: a product of a number that a condition chooses has a shorter form, and a
--- rule may make a factor such a number, as where a sum is left without generators.
-abbrev pub multiplies : Op2 → Bool
-multiplies Op2.Times = true
-multiplies o = false
-
 -- `and` or `or`.
 pub data TruthWord : Fun → Type 0 where
   all_hold : TruthWord Fun.And
@@ -37,8 +31,7 @@ module _ (cells : Text → Option (Bool × ℕ)) where
       named : {r : Names Bool} {a : Text} {m : Bool} → look r a ≡ Some m → Bare r (name_ex a) m
       cell : {r : Names Bool} {b : Bool} {n : Text} {k : ℕ} {es : Exs} → cells n ≡ Some (b, k) → Indices r es k → Bare r (cell_ex b n es) b
       one : {r : Names Bool} {b m : Bool} {o : Op1} {x : Ex} → OneOp b o m → Bare r x m → Bare r (ex1 b o x) b
-      two : {r : Names Bool} {b m k : Bool} {o : Op2} {x y : Ex} → TwoOp b o m k → Bare r x m → Bare r y k → multiplies o ≡ false →
-          Bare r (ex2 b o x y) b
+      two : {r : Names Bool} {b m k : Bool} {o : Op2} {x y : Ex} → TwoOp b o m k → Bare r x m → Bare r y k → Bare r (ex2 b o x y) b
       power : {r : Names Bool} {x y : Ex} → Bare r x false → Bare r y false → Bare r (ex2 false Op2.Pow x y) false
       chosen : {r : Names Bool} {x : Ex} → Bare r x true → Bare r (fun1 false Fun.ToInt x) false
       folded : {r t : Names Bool} {f : Fun} {e : Ex} {gs : Gens} → TruthWord f → Ranging r gs t → Bare t e true →

@@ -29,7 +29,7 @@ abbrev pub PartsOfBareTrees : Type 0
 PartsOfBareTrees = (cells : Text → Option (Bool × ℕ)) (r : Names Bool) (c : In) (e : Ex) (m : Bool) → Bare cells r (fill c e) m →
     StandsIn cells c r e m
 
--- At the root of a bare tree only three rules fire, whatever they take: of those that read no kind. None fires that reads the kind of a
+-- At the root of a bare tree only four rules fire, whatever they take: of those that read no kind. None fires that reads the kind of a
 -- view, opens a source, gathers conditions or asks for an order. At a list of bare items none fires at all.
 pub record FewRulesFire : Type 0 where
   pub plainly : (cells : Text → Option (Bool × ℕ)) (s : Supply) (r : Names Bool) (u : Rule) (e f : Ex) (m : Bool) → Bare cells r e m →

@@ -1,5 +1,7 @@
 -- Bare trees
 pub mod Bare
+-- What rules end in, and what is written for it
+pub mod Lean
 -- Their parts
 pub mod BareParts
 -- The rules that fire in them

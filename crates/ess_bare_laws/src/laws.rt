@@ -7,7 +7,7 @@ pub fn parts_of_bare_trees()
     ensures { PartsOfBareTrees }
 {}
 
-/// Of all rules only three fire at the root of a bare tree.
+/// Of all rules only four fire at the root of a bare tree.
 pub fn few_rules_fire()
     ensures { FewRulesFire }
 {}

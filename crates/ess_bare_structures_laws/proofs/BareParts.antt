@@ -98,40 +98,40 @@ module _ (cells : Text → Option (Bool × ℕ)) where
   -- ---- connectives and comparisons
 
   pub and-fine : {r : Names Bool} {a b : Ex} → Fine r a true → Fine r b true → Fine r (and_ex a b) true
-  and-fine g h = record { bare = two both g.bare h.bare refl; scoped = (g.scoped, (h.scoped, tt)); ranged = (g.ranged, (h.ranged, tt)) }
+  and-fine g h = record { bare = two both g.bare h.bare; scoped = (g.scoped, (h.scoped, tt)); ranged = (g.ranged, (h.ranged, tt)) }
 
   pub or-fine : {r : Names Bool} {a b : Ex} → Fine r a true → Fine r b true → Fine r (or_ex a b) true
-  or-fine g h = record { bare = two either g.bare h.bare refl; scoped = (g.scoped, (h.scoped, tt)); ranged = (g.ranged, (h.ranged, tt)) }
+  or-fine g h = record { bare = two either g.bare h.bare; scoped = (g.scoped, (h.scoped, tt)); ranged = (g.ranged, (h.ranged, tt)) }
 
   pub implies-fine : {r : Names Bool} {a b : Ex} → Fine r a true → Fine r b true → Fine r (implies_ex a b) true
   implies-fine g h = record {
-    bare = two implied g.bare h.bare refl;
+    bare = two implied g.bare h.bare;
     scoped = (g.scoped, (h.scoped, tt));
     ranged = (g.ranged, (h.ranged, tt));
   }
 
   pub le-fine : {r : Names Bool} {a b : Ex} → Fine r a false → Fine r b false → Fine r (le_ex a b) true
-  le-fine g h = record { bare = two at_most g.bare h.bare refl; scoped = (g.scoped, (h.scoped, tt)); ranged = (g.ranged, (h.ranged, tt)) }
+  le-fine g h = record { bare = two at_most g.bare h.bare; scoped = (g.scoped, (h.scoped, tt)); ranged = (g.ranged, (h.ranged, tt)) }
 
   pub below-fine : {r : Names Bool} {a b : Ex} → Fine r a false → Fine r b false → Fine r (ex2 true Op2.Lt a b) true
-  below-fine g h = record { bare = two below g.bare h.bare refl; scoped = (g.scoped, (h.scoped, tt)); ranged = (g.ranged, (h.ranged, tt)) }
+  below-fine g h = record { bare = two below g.bare h.bare; scoped = (g.scoped, (h.scoped, tt)); ranged = (g.ranged, (h.ranged, tt)) }
 
   pub eq-fine : {r : Names Bool} {a b : Ex} → Fine r a false → Fine r b false → Fine r (ex2 true Op2.Eq a b) true
-  eq-fine g h = record { bare = two equal g.bare h.bare refl; scoped = (g.scoped, (h.scoped, tt)); ranged = (g.ranged, (h.ranged, tt)) }
+  eq-fine g h = record { bare = two equal g.bare h.bare; scoped = (g.scoped, (h.scoped, tt)); ranged = (g.ranged, (h.ranged, tt)) }
 
   pub not-fine : {r : Names Bool} {a : Ex} → Fine r a true → Fine r (ex1 true Op1.Not a) true
   not-fine g = record { bare = one denied g.bare; scoped = (g.scoped, tt); ranged = (g.ranged, tt) }
 
   pub plus-fine : {r : Names Bool} {a b : Ex} → Fine r a false → Fine r b false → Fine r (ex2 false Op2.Plus a b) false
   plus-fine g h = record {
-    bare = two sum_sign g.bare h.bare refl;
+    bare = two sum_sign g.bare h.bare;
     scoped = (g.scoped, (h.scoped, tt));
     ranged = (g.ranged, (h.ranged, tt));
   }
 
   pub minus-fine : {r : Names Bool} {a b : Ex} → Fine r a false → Fine r b false → Fine r (ex2 false Op2.Minus a b) false
   minus-fine g h = record {
-    bare = two difference g.bare h.bare refl;
+    bare = two difference g.bare h.bare;
     scoped = (g.scoped, (h.scoped, tt));
     ranged = (g.ranged, (h.ranged, tt));
   }

@@ -73,9 +73,9 @@ module _ (cells : Text → Option (Bool × ℕ)) (lim : ℕ)
     told-bare (named {a = a} {m = m} h) t u k l x = named ((x.marks a m h).0)
     told-bare (cell h i) t u k l x = cell h (told-indices i t u k l x)
     told-bare (one {x = e} s h) t u k l x = one s (told-bare h t u k l x)
-    told-bare (two {x = e} {y = f} s g h c) t u k l x =
+    told-bare (two {x = e} {y = f} s g h) t u k l x =
         let q = (told e u k).1 in
-        two s (told-bare g t u k (on q (told f u q).1 lim (ex-up f u q) l) x) (told-bare h t u q l (later _ t u k q (ex-up e u k) x)) c
+        two s (told-bare g t u k (on q (told f u q).1 lim (ex-up f u q) l) x) (told-bare h t u q l (later _ t u k q (ex-up e u k) x))
     told-bare (power {x = e} {y = f} g h) t u k l x =
         let q = (told e u k).1 in
         power (told-bare g t u k (on q (told f u q).1 lim (ex-up f u q) l) x) (told-bare h t u q l (later _ t u k q (ex-up e u k) x))

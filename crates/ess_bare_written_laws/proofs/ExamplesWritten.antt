@@ -12,6 +12,7 @@ use Rattle.ess_semantics.specs.Meaning.{meaning}
 use Rattle.ess_semantics.specs.ModelMeaning.{env_of_tables, model_value}
 use Rattle.ess_flat_laws.specs.Flat.{equal}
 use Rattle.ess_bare_laws.specs.Bare.{Bare, before, some_holds, number, named, cell, two, folded, ordered, no_index, one_index, row, at_end, through, where_holds, no_axis, truths, numbers, no_bound, one_bound}
+use Rattle.ess_bare_laws.specs.Lean.{of_some, of_sum, as_scalar, as_number, Ended, a_number, a_name, a_cell, by_fold, by_item, no_terms, more_terms, behind_all, over_truths, over_numbers, under}
 use Rattle.ess_bare_written_laws.specs.Laws.{as_written, AreDeclared, IsReady}
 use Rattle.ess_bare_written_laws.proofs.Written.{bare-trees-are-written}
 
@@ -53,7 +54,7 @@ of_key = or_over (x_at (name_ex i)) (over (name_pat i) zero_one (cond (ex2 true 
 
 bare-key : Bare cells [] of_key true
 bare-key = folded some_holds (through (numbers refl (one_bound number (one_bound number no_bound)))
-    (where_holds (two equal (named refl) number refl) at_end))
+    (where_holds (two equal (named refl) number) at_end))
     (cell refl (one_index (named refl) no_index))
 
 written-key : as_written [] of_key ≡ x_at (number_ex (pos 1))
@@ -86,3 +87,26 @@ ready = record {
 says : (ds : List TableDecl) → AreDeclared ds cells → (tc : Names Table) →
     model_value ds tc (as_written [] of_truths) ≡ meaning of_truths (env_of_tables tc)
 says ds d tc = bare-trees-are-written.value cells [] of_truths true ready ds d tc (env_of_tables tc) refl
+
+-- ---- what rules end in
+
+-- `sum([1 | i : int(0..1), x[i]])` keeps its condition, and `or([or([x[i] | i : bool])])` is its item.
+abbrev counted : Text → Ex
+counted a = fun1 false Fun.Sum (comp_ex (number_ex (pos 1)) (over (name_pat a) zero_one (cond (x_at (name_ex a)) no_gens)))
+
+ended-count : Ended cells [] (counted i) false
+ended-count = by_fold of_sum
+    (over_numbers refl refl (more_terms as_number (a_number refl) (more_terms as_number (a_number refl) no_terms))
+    (under (a_cell refl (more_terms as_scalar (a_name refl) no_terms)) behind_all)) (a_number refl)
+
+written-count : as_written [] (counted i) ≡ counted q1
+written-count = refl
+
+abbrev of_one : Ex
+of_one = fun1 true Fun.Or (node_ex false matrix_literal (more_exs of_truths no_exs))
+
+ended-one : Ended cells [] of_one true
+ended-one = by_item of_some (by_fold of_some (over_truths refl behind_all) (a_cell refl (more_terms as_scalar (a_name refl) no_terms)))
+
+written-one : as_written [] of_one ≡ as_written [] of_truths
+written-one = refl

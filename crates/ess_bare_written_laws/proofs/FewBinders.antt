@@ -13,7 +13,7 @@ use Rattle.ess_keys_laws.specs.KeyForms.{key_of, is_truth, as_index, as_indices,
 use Rattle.ess_keys_laws.specs.Keyed.{Around, key_for, key_now, if_sure, sure_key, entered, laid, is_bare, are_conditions, connected, connective_of, is_folded, fold_of, folded, conjuncts, conditions_before, generator_before, keyed, keyed_all, keyed_gens, keyed_behind}
 use Rattle.ess_keys_laws.proofs.Forms.{before-append}
 use Rattle.conjure_model_laws.specs.Printed.{binders, binders_of_all, binders_of_gens, binders_of_dom}
-use Rattle.ess_bare_written_laws.proofs.Lean.{Lean, a_number, a_truth, a_name, a_cell, by_one, by_two, by_power, by_truth, by_fold, by_order, Terms, no_terms, more_terms, Row, listed, alone, Ranging, behind_all, over_truths, over_numbers, under}
+use Rattle.ess_bare_laws.specs.Lean.{Lean, a_number, a_truth, a_name, a_cell, by_one, by_two, by_power, by_truth, by_fold, by_item, by_order, Terms, no_terms, more_terms, Row, listed, alone, Ranging, behind_all, over_truths, over_numbers, under}
 
 -- ---- folds
 
@@ -151,6 +151,10 @@ module _ (cells : Text → Option (Bool × ℕ)) (ok : ℤ → Bool) (fine : Tex
         let u = laid-few (keyed (keyed_behind c gs) e) (keyed_gens c gs) in
         let v = fold-few c.origins b f (laid (keyed (keyed_behind c gs) e) (keyed_gens c gs)) in
         omega (arith, p, q, u, v)
+    keyed-few (by_item {b = b} {f = f} {e = e} w x) c h =
+        let p = keyed-few x c h in
+        let q = fold-few c.origins b f (node_ex false matrix_literal (more_exs (keyed c e) no_exs)) in
+        omega (arith, p, q)
     keyed-few (by_order {x = x} {y = y} w f g) c h = let p = row-few f c h in let q = row-few g c h in omega (arith, p, q)
 
     terms-few : {w : Bool} {r : Names Bool} {es : Exs} {k : ℕ} → Terms cells ok fine plain w r es k → (c : Around) → Unbinding c.keys →

@@ -10,7 +10,7 @@ use Rattle.ess_semantics.specs.Occurrences.{parts_of, parts_of_all, parts_of_gen
 use Rattle.ess_semantics.specs.Constants.{numbers_of_part}
 use Rattle.ess_semantics.proofs.Tests.{and-left, and-right, and-both}
 use Rattle.ess_bare_laws.specs.Bare.{all_hold, some_holds, Bare, number, truth, named, cell, one, two, power, chosen, folded, added, ordered, Indices, no_index, one_index, Row as BareRow, row, Ranging as BareRanging, at_end, through, where_holds, Axes, no_axis, along, truths, numbers, Bounds, no_bound, one_bound}
-use Rattle.ess_bare_written_laws.proofs.Lean.{of_all, of_some, of_sum, as_scalar, as_number, Lean, a_number, a_truth, a_name, a_cell, by_one, by_two, by_power, by_truth, by_fold, by_order, Terms, no_terms, more_terms, Row, listed, alone, Ranging, behind_all, over_truths, over_numbers, under}
+use Rattle.ess_bare_laws.specs.Lean.{of_all, of_some, of_sum, as_scalar, as_number, Lean, a_number, a_truth, a_name, a_cell, by_one, by_two, by_power, by_truth, by_fold, by_item, by_order, Terms, no_terms, more_terms, Row, listed, alone, Ranging, behind_all, over_truths, over_numbers, under}
 
 module _ (ok : ℤ → Bool) where
   -- The numbers in these parts have the property.
@@ -32,11 +32,11 @@ module _ (ok : ℤ → Bool) where
       ∙ ap (λ b. b && list_all ok (append_all (map numbers_of_part rs)))
       (sym (list_all-append ok (numbers_of_part p) (append_all (map numbers_of_part ps))))
 
-  left : (ps rs : List Ex) → Of (ps ++ rs) → Of ps
+  pub left : (ps rs : List Ex) → Of (ps ++ rs) → Of ps
   left ps rs h = and-left (list_all ok (append_all (map numbers_of_part ps))) (list_all ok (append_all (map numbers_of_part rs)))
       (sym (split ps rs) ∙ h)
 
-  right : (ps rs : List Ex) → Of (ps ++ rs) → Of rs
+  pub right : (ps rs : List Ex) → Of (ps ++ rs) → Of rs
   right ps rs h = and-right (list_all ok (append_all (map numbers_of_part ps))) (list_all ok (append_all (map numbers_of_part rs)))
       (sym (split ps rs) ∙ h)
 
@@ -57,7 +57,7 @@ module _ (ok : ℤ → Bool) where
         from-bare (named q) h = a_name q
         from-bare (cell q is) h = a_cell q (from-indices is h)
         from-bare (one {x = x} w f) h = by_one w (from-bare f (left (parts_of x) [] h))
-        from-bare (two {x = x} {y = y} w f k c) h =
+        from-bare (two {x = x} {y = y} w f k) h =
             by_two w (from-bare f (left (parts_of x) (parts_of y ++ []) h))
             (from-bare k (left (parts_of y) [] (right (parts_of x) (parts_of y ++ []) h)))
         from-bare (power {x = x} {y = y} f k) h =
@@ -131,6 +131,7 @@ module _ (ok : ℤ → Bool) where
         lean-spells (by_truth {x = x} f) = both (parts_of x) [] (lean-spells f) refl
         lean-spells (by_fold {e = e} {gs = gs} w s f) =
             both (parts_of e ++ parts_of_gens gs) [] (both (parts_of e) (parts_of_gens gs) (lean-spells f) (ranging-spells s)) refl
+        lean-spells (by_item {e = e} w f) = both (parts_of e ++ []) [] (both (parts_of e) [] (lean-spells f) refl) refl
         lean-spells (by_order {x = x} {y = y} w f k) =
             both (parts_of x) (parts_of y ++ []) (row-spells f) (both (parts_of y) [] (row-spells k) refl)
 

@@ -13,7 +13,7 @@ use Rattle.ess_keys_laws.specs.Keyed.{laid, are_conditions, connected, fold_of, 
 use Rattle.ess_keys_laws.proofs.Forms.{before-append}
 use Rattle.ess_flat_laws.specs.Flat.{denied, TwoOp, both, either, implied, agreeing, equal, unequal, below, at_most, above, at_least}
 use Rattle.ess_bare_laws.specs.Bare.{before, not_behind}
-use Rattle.ess_bare_written_laws.proofs.Lean.{FoldWord, of_all, of_some, of_sum, Lean, a_number, a_truth, a_name, a_cell, by_one, by_two, by_power, by_truth, by_fold, by_order, Row, listed, alone, Ranging, behind_all, over_truths, over_numbers, under}
+use Rattle.ess_bare_laws.specs.Lean.{FoldWord, of_all, of_some, of_sum, Lean, a_number, a_truth, a_name, a_cell, by_one, by_two, by_power, by_truth, by_fold, by_item, by_order, Row, listed, alone, Ranging, behind_all, over_truths, over_numbers, under}
 use Rattle.ess_bare_written_laws.proofs.Origins.{Origins, truth-told, number-told}
 
 module _ (cells : Text → Option (Bool × ℕ)) (ok : ℤ → Bool) (fine : Text → Bool) where
@@ -39,6 +39,8 @@ module _ (cells : Text → Option (Bool × ℕ)) (ok : ℤ → Bool) (fine : Tex
   no-fold k (by_truth x) b f = refl
   no-fold k (by_fold {b = true} w s x) b f = refl
   no-fold k (by_fold {b = false} w s x) b f = refl
+  no-fold k (by_item {b = true} w x) b f = refl
+  no-fold k (by_item {b = false} w x) b f = refl
   no-fold k (by_order w x y) b f = refl
 
   kept-item : {u : Names Bool} {e : Ex} {m : Bool} → T u e m → (n : Ex) (b : Bool) → b ≡ true → T u (or_default (when b e) n) m
@@ -113,5 +115,7 @@ module _ (cells : Text → Option (Bool × ℕ)) (ok : ℤ → Bool) (fine : Tex
   conditions-lean k (by_two at_least f h) s = unless-lean k (by_two at_least f h) s
   conditions-lean k (by_fold of_all x f) s = unless-lean k (by_fold of_all x f) s
   conditions-lean k (by_fold of_some x f) s = unless-lean k (by_fold of_some x f) s
+  conditions-lean k (by_item of_all f) s = unless-lean k (by_item of_all f) s
+  conditions-lean k (by_item of_some f) s = unless-lean k (by_item of_some f) s
   conditions-lean k (by_order before f h) s = unless-lean k (by_order before f h) s
   conditions-lean k (by_order not_behind f h) s = unless-lean k (by_order not_behind f h) s

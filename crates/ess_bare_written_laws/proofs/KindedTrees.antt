@@ -20,7 +20,7 @@ use Rattle.ess_semantics.proofs.Texts.{same_text-equal}
 use Rattle.ess_flat_laws.specs.Flat.{OneOp, denied, negative, absolute, TwoOp, both, either, implied, agreeing, equal, unequal, below, at_most, above, at_least, sum, difference, product}
 use Rattle.ess_bare_laws.specs.Bare.{LexSign, before, not_behind}
 use Rattle.ess_bare_written_laws.specs.Laws.{AreDeclared}
-use Rattle.ess_bare_written_laws.proofs.Lean.{FoldWord, of_all, of_some, of_sum, as_number, Lean, a_number, a_truth, a_name, a_cell, by_one, by_two, by_power, by_truth, by_fold, by_order, Terms, no_terms, more_terms, Row, listed, alone, Ranging, behind_all, over_truths, over_numbers, under}
+use Rattle.ess_bare_laws.specs.Lean.{FoldWord, of_all, of_some, of_sum, as_number, Lean, a_number, a_truth, a_name, a_cell, by_one, by_two, by_power, by_truth, by_fold, by_item, by_order, Terms, no_terms, more_terms, Row, listed, alone, Ranging, behind_all, over_truths, over_numbers, under}
 
 -- ---- nodes
 
@@ -92,6 +92,13 @@ alone-kinded : (m : Bool) (e : Ex) → is_nothing e ≡ false →
 alone-kinded true e q = one-there (node_ex false matrix_literal (more_exs e no_exs), list_kind true) any_ty e q
 alone-kinded false e q = one-there (node_ex false matrix_literal (more_exs e no_exs), list_kind false) any_ty e q
 
+item-kinded : {b : Bool} {f : Fun} → FoldWord b f → (e : Ex) →
+    on_one (word f) (node_ex false matrix_literal (more_exs e no_exs), list_kind b) ≡
+    (fun1 b f (node_ex false matrix_literal (more_exs e no_exs)), cell_kind b)
+item-kinded of_all e = refl
+item-kinded of_some e = refl
+item-kinded of_sum e = refl
+
 -- ---- indices
 
 -- The kinds of so many numbers.
@@ -154,6 +161,7 @@ module _ (cells : Text → Option (Bool × ℕ)) (ok : ℤ → Bool) (ds : List 
   something (by_power f k) g h = refl
   something (by_truth f) g h = refl
   something (by_fold w s f) g h = refl
+  something (by_item w f) g h = refl
   something (by_order w f k) g h = refl
 
   something-row : {v : Names Bool} {e : Ex} {m : Bool} → Row cells ok is_something true v e m → is_nothing e ≡ false
@@ -192,6 +200,8 @@ module _ (cells : Text → Option (Bool × ℕ)) (ok : ℤ → Bool) (ds : List 
         ∙ one-there (fun1 false Fun.ToInt x, int_ty) int_ty x (something f g h)
     kinded-lean (by_fold {f = p} {e = e} {gs = gs} w s f) g h =
         ap (on_one (word p)) (kinded-list s g h e _ (λ g' h'. kinded-lean f g' h')) ∙ fold-kinded w e gs
+    kinded-lean (by_item {b = b} {f = p} {e = e} w f) g h =
+        ap (on_one (word p)) (ap (on_one matrix_literal) (kinded-lean f g h) ∙ alone-kinded b e (something f g h)) ∙ item-kinded w e
     kinded-lean (by_order {m = i} {o = o} {x = x} {y = y} w f k) g h =
         ap (λ c. on_two (binary o) c (kinded ds y g)) (kinded-row f g h)
         ∙ ap (on_two (binary o) (x, list_kind i)) (kinded-row k g h) ∙ order-kinded w i x y (something-row f) (something-row k)

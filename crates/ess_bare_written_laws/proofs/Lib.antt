@@ -1,6 +1,6 @@
 -- Lean trees
-pub mod Lean
 pub mod FromBare
+pub mod FromEnded
 pub mod Forms
 -- Simplified
 pub mod Truths

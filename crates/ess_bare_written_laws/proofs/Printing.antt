@@ -8,7 +8,7 @@ use Rattle.ess_semantics.specs.Trees.{Ex, Exs, Gens}
 use Rattle.ess_semantics.proofs.Texts.{same_text-itself}
 use Rattle.conjure_model_laws.specs.ToldApart.{renamed}
 use Rattle.conjure_model_laws.specs.Printed.{printed_name, with_printed, printed_behind, printed, printed_all, printed_gens, binders, binders_of_all, binders_of_gens}
-use Rattle.ess_bare_written_laws.proofs.Lean.{Lean, a_number, a_truth, a_name, a_cell, by_one, by_two, by_power, by_truth, by_fold, by_order, Terms, no_terms, more_terms, Row, listed, alone, Ranging, behind_all, over_truths, over_numbers, under}
+use Rattle.ess_bare_laws.specs.Lean.{Lean, a_number, a_truth, a_name, a_cell, by_one, by_two, by_power, by_truth, by_fold, by_item, by_order, Terms, no_terms, more_terms, Row, listed, alone, Ranging, behind_all, over_truths, over_numbers, under}
 
 module _ (taken : List Text) (lim : ℕ)
     (differ : (i j : ℕ) → i < j → j < lim → same_text (printed_name taken j) (printed_name taken i) ≡ false) where
@@ -98,6 +98,8 @@ module _ (taken : List Text) (lim : ℕ)
           let k = only-of (length p) (binders_of_gens gs + binders e) l in
           let b = printed-ranging ts p v s (first-of (length p) (binders_of_gens gs) (binders e) k) in
           by_fold w b.gens (printed-lean f (printed_behind taken gs p) b.left b.beside (omega (arith, b.few, k)))
+      printed-lean (by_item {e = e} w f) p v s l =
+          by_item w (printed-lean f p v s (only-of (length p) (binders e) (only-of (length p) (binders e + 0) l)))
       printed-lean (by_order {x = x} {y = y} w f h) p v s l =
           by_order w (printed-row f p v s (first-of (length p) (binders x) (binders y + 0) l))
           (printed-row h p v s (only-of (length p) (binders y) (second-of (length p) (binders x) (binders y + 0) l)))

@@ -11,7 +11,7 @@ use Rattle.ess_simplify_laws.specs.Simplifying.{said, denied as undenied, outcom
 use Rattle.conjure_model_laws.specs.Printed.{binders, binders_of_all, binders_of_gens}
 use Rattle.ess_flat_laws.specs.Flat.{denied, negative, absolute, TwoOp, both, either, implied, agreeing, equal, unequal, below, at_most, above, at_least, sum, difference, product}
 use Rattle.ess_bare_laws.specs.Bare.{before, not_behind}
-use Rattle.ess_bare_written_laws.proofs.Lean.{Lean, a_number, a_truth, a_name, a_cell, by_one, by_two, by_power, by_truth, by_fold, by_order, Terms, no_terms, more_terms, Row, listed, alone, Ranging, behind_all, over_truths, over_numbers, under}
+use Rattle.ess_bare_laws.specs.Lean.{Lean, a_number, a_truth, a_name, a_cell, by_one, by_two, by_power, by_truth, by_fold, by_item, by_order, Terms, no_terms, more_terms, Row, listed, alone, Ranging, behind_all, over_truths, over_numbers, under}
 use Rattle.ess_bare_written_laws.proofs.Simplifying.{simplified-lean}
 
 two-fewer : (a b c d : ℕ) → a ≤ c → b ≤ d → a + (b + 0) ≤ c + (d + 0)
@@ -64,6 +64,7 @@ module _ (z : Text → Bool) where
     denied-smaller (by_one {x = x} denied f) = record { scoped = λ s o h. h.0.0; few = omega arith }
     denied-smaller (by_two w f k) = same _
     denied-smaller (by_fold w l f) = same _
+    denied-smaller (by_item w f) = same _
     denied-smaller (by_order w f k) = same _
 
     left-smaller : {r : Names Bool} {x y : Ex} → L r x true → L r y true → (p : Op2) (c : Outcome) →
@@ -130,6 +131,8 @@ module _ (z : Text → Bool) where
             scoped = λ s o h. (g.scoped e (simplified e) d.scoped s o h.0, tt);
             few = let p = g.few in let q = d.few in omega (arith, p, q);
           }
+      simplified-smaller (by_item {e = e} w f) = let d = simplified-smaller f in
+          record { scoped = λ s o h. ((d.scoped s o h.0.0, tt), tt); few = let q = d.few in omega (arith, q) }
       simplified-smaller (by_order before f g) = of-two true Op2.LexLt (row-smaller f) (row-smaller g)
       simplified-smaller (by_order not_behind f g) = of-two true Op2.LexLe (row-smaller f) (row-smaller g)
 

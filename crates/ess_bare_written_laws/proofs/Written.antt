@@ -21,9 +21,10 @@ use Rattle.ess_keys_laws.proofs.Keying.{keyed-means}
 use Rattle.conjure_model_laws.specs.Printed.{printed_name, binders}
 use Rattle.conjure_model_laws.proofs.PrintedLaws.{names-printed}
 use Rattle.ess_bare_laws.specs.Bare.{Bare}
-use Rattle.ess_bare_written_laws.specs.Laws.{as_written, AreDeclared, IsReady, BareTreesAreWritten}
-use Rattle.ess_bare_written_laws.proofs.Lean.{Lean}
+use Rattle.ess_bare_laws.specs.Lean.{Lean, Ended}
+use Rattle.ess_bare_written_laws.specs.Laws.{as_written, AreDeclared, IsReady, IsEndedTree, BareTreesAreWritten, EndedTreesAreWritten}
 use Rattle.ess_bare_written_laws.proofs.FromBare.{Of, from-bare, lean-spells, any-spell}
+use Rattle.ess_bare_written_laws.proofs.FromEnded.{from-ended}
 use Rattle.ess_bare_written_laws.proofs.Truths.{lean-truth, lean-truths, lean-meets}
 use Rattle.ess_bare_written_laws.proofs.Simplifying.{simplified-lean}
 use Rattle.ess_bare_written_laws.proofs.Scopes.{simplified-smaller}
@@ -47,10 +48,6 @@ something-fine false q = refl
 
 -- ---- without what is asked of names
 
-module _ (cells : Text → Option (Bool × ℕ)) (r : Names Bool) (e : Ex) (m : Bool) (b : Bare cells r e m) where
-  abbrev pub lean : Lean cells any anyone false r e m
-  lean = from-bare any cells anyone (λ a. refl) b (any-spell (parts_of e))
-
 module _ (cells : Text → Option (Bool × ℕ)) (ok : ℤ → Bool) (plain : Bool) {e : Ex} {m : Bool} (L : Lean cells ok anyone plain [] e m) where
   lean-closed : FreeNamesAre (λ a. false) e
   lean-closed = lean-free cells ok anyone plain L (λ a. false) (λ a m q. cc)
@@ -67,13 +64,12 @@ module _ (cells : Text → Option (Bool × ℕ)) (ok : ℤ → Bool) (plain : Bo
       (lean-truths cells ok anyone plain env.positions env.types env.cells L env.vals (λ a q. cc))
       (lean-meets cells ok anyone plain env.positions env.types env.cells L env.vals)).0
 
-bare-truths : (cells : Text → Option (Bool × ℕ)) (e : Ex) → Bare cells [] e true → (env : Env) → IsTruth (meaning e env)
-bare-truths cells e b env =
-    lean-truth cells any anyone false env.positions env.types env.cells (lean cells [] e true b) env.vals (λ a q. cc)
+ended-truths : (cells : Text → Option (Bool × ℕ)) (e : Ex) → Ended cells [] e true → (env : Env) → IsTruth (meaning e env)
+ended-truths cells e b env = lean-truth cells any anyone false env.positions env.types env.cells b env.vals (λ a q. cc)
 
 -- ---- what is written
 
-module _ (cells : Text → Option (Bool × ℕ)) (taken : List Text) (e : Ex) (m : Bool) (R : IsReady cells taken e m) where
+module _ (cells : Text → Option (Bool × ℕ)) (taken : List Text) (e : Ex) (m : Bool) (R : IsEndedTree cells taken e m) where
   -- The steps.
   abbrev e1 : Ex
   e1 = simplified e
@@ -86,7 +82,7 @@ module _ (cells : Text → Option (Bool × ℕ)) (taken : List Text) (e : Ex) (m
 
   module _ (ok : ℤ → Bool) (zero_ok : ok (pos 0) ≡ true) (one_ok : ok (pos 1) ≡ true) (h : Of ok (parts_of e)) where
     L0 : Lean cells ok anyone false [] e m
-    L0 = from-bare ok cells anyone (λ a. refl) R.bare h
+    L0 = from-ended cells ok R.ended h
 
     L1 : Lean cells ok anyone false [] e1 m
     L1 = simplified-lean cells ok anyone false L0
@@ -144,15 +140,43 @@ module _ (cells : Text → Option (Bool × ℕ)) (taken : List Text) (e : Ex) (m
     pub value : (tc : Names Table) (env : Env) → env.cells ≡ tc → model_value ds tc (as_written taken e) ≡ meaning e env
     value tc env q =
         ap (λ x. meaning x (env_of_tables tc)) stands ∙ means (env_of_tables tc)
-        ∙ lean-tables cells any false (lean cells [] e m R.bare) (env_of_tables tc) env (sym q)
+        ∙ lean-tables cells any false R.ended (env_of_tables tc) env (sym q)
 
--- What is promised.
-pub bare-trees-are-written : BareTreesAreWritten
-bare-trees-are-written = record {
-  truths = bare-truths;
-  tables = λ cells e m b. lean-tables cells any false (lean cells [] e m b);
+-- What is promised of trees that rules end in.
+pub ended-trees-are-written : EndedTreesAreWritten
+ended-trees-are-written = record {
+  truths = ended-truths;
+  tables = λ cells e m b. lean-tables cells any false b;
   means = means;
   stands = stands;
   value = value;
   spells = λ cells taken e m R q z o h. written-spells cells taken e m R q z o h;
+}
+
+-- ---- bare trees
+
+-- Rules end in bare trees.
+pub bare-ended : (cells : Text → Option (Bool × ℕ)) (r : Names Bool) (e : Ex) (m : Bool) → Bare cells r e m → Ended cells r e m
+bare-ended cells r e m b = from-bare any cells anyone (λ a. refl) b (any-spell (parts_of e))
+
+ready-ended : (cells : Text → Option (Bool × ℕ)) (taken : List Text) (e : Ex) (m : Bool) → IsReady cells taken e m →
+    IsEndedTree cells taken e m
+ready-ended cells taken e m R = record {
+  ended = bare-ended cells [] e m R.bare;
+  unbound = R.unbound;
+  around = R.around;
+  ranging = R.ranging;
+  scoped = R.scoped;
+  few = R.few;
+}
+
+-- What is promised of bare trees.
+pub bare-trees-are-written : BareTreesAreWritten
+bare-trees-are-written = record {
+  truths = λ cells e b. ended-truths cells e (bare-ended cells [] e true b);
+  tables = λ cells e m b. lean-tables cells any false (bare-ended cells [] e m b);
+  means = λ cells taken e m R. means cells taken e m (ready-ended cells taken e m R);
+  stands = λ cells taken e m R. stands cells taken e m (ready-ended cells taken e m R);
+  value = λ cells taken e m R. value cells taken e m (ready-ended cells taken e m R);
+  spells = λ cells taken e m R q z o h. written-spells cells taken e m (ready-ended cells taken e m R) q z o h;
 }

@@ -43,12 +43,20 @@ over_truths_too : is_ranged_truth names
     (fun1 true Fun.And (comp_ex (ex2 true Op2.Eq i (name_ex (codes "b"))) (over (name_pat (codes "i")) bool_dom no_gens))) ≡ true
 over_truths_too = refl
 
--- A sum isn't of the class with a condition, nor a product, nor a name that hides another one, nor a range without an end.
+-- `(sum i : int(1..n) . i * x) <= 7`, and `toInt(b) * toInt(b) = 1`
+products : is_ranged_truth names
+    (ex2 true Op2.Le (fun1 false Fun.Sum (comp_ex (ex2 false Op2.Times i x) (up_to_n no_gens))) (number_ex (pos 7))) ≡ true
+products = refl
+
+abbrev chosen_b : Ex
+chosen_b = fun1 false Fun.ToInt (name_ex (codes "b"))
+
+product_of_choices : is_ranged_truth names (ex2 true Op2.Eq (ex2 false Op2.Times chosen_b chosen_b) (number_ex (pos 1))) ≡ true
+product_of_choices = refl
+
+-- A sum isn't of the class with a condition, nor a name that hides another one, nor a range without an end.
 no_sum_where : ranged_mark names [] (fun1 false Fun.Sum (comp_ex i (up_to_n (cond (ex2 true Op2.Lt x i) no_gens)))) ≡ None
 no_sum_where = refl
-
-no_product : ranged_mark names [] (ex2 false Op2.Times x x) ≡ None
-no_product = refl
 
 no_hiding : ranged_mark names [] (fun1 true Fun.And (comp_ex (ex2 true Op2.Ne x i) (up_to_n (up_to_n no_gens)))) ≡ None
 no_hiding = refl

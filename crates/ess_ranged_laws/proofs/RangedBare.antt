@@ -32,7 +32,7 @@ module _ (cells : Text → Option Bool) where
     ranged-bare (named {r = r} {a = a} {m = m} h) = B.named (looked r a m h)
     ranged-bare (cell h) = B.cell (ap (option_map (λ b. (b, 0))) h) B.no_index
     ranged-bare (one s f) = B.one s (ranged-bare f)
-    ranged-bare (two s f g c) = B.two s (ranged-bare f) (ranged-bare g) c
+    ranged-bare (two s f g) = B.two s (ranged-bare f) (ranged-bare g)
     ranged-bare (chosen f) = B.chosen (ranged-bare f)
     ranged-bare (folded w g f) = B.folded w (ranged-ranging g) (ranged-bare f)
     ranged-bare (added g f) = B.added (ranged-axes g refl) (ranged-bare f)
@@ -79,7 +79,7 @@ module _ (cells : Text → Option Bool) where
     ranged-scoped (named {r = r} {a = a} {m = m} h) z s o n = bound-is r s a m n h
     ranged-scoped (cell h) z s o n = tt
     ranged-scoped (one w f) z s o n = (ranged-scoped f z s o n, tt)
-    ranged-scoped (two w f g c) z s o n = (ranged-scoped f z s o n, (ranged-scoped g z s o n, tt))
+    ranged-scoped (two w f g) z s o n = (ranged-scoped f z s o n, (ranged-scoped g z s o n, tt))
     ranged-scoped (chosen f) z s o n = (ranged-scoped f z s o n, tt)
     ranged-scoped (folded {e = e} w g f) z s o n =
         (binding-scoped g e z s o n (λ t p k. ranged-scoped f z t p k), tt)

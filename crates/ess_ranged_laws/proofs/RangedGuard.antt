@@ -66,27 +66,27 @@ module _ (names cells : Text → Option Bool) (p q : Text) where
     no-conditions (one {x = x} negative f) k false = none-one (conditions true p q k false x) (no-conditions f k false)
     no-conditions (one {x = x} absolute f) k true = none-one (conditions true p q k true x) (no-conditions f k true)
     no-conditions (one {x = x} absolute f) k false = none-one (conditions true p q k false x) (no-conditions f k false)
-    no-conditions (two both f h c) k w = refl
-    no-conditions (two either f h c) k w = refl
-    no-conditions (two implied f h c) k w = refl
-    no-conditions (two agreeing f h c) k w = refl
-    no-conditions (two equal f h c) k w = refl
-    no-conditions (two unequal f h c) k w = refl
-    no-conditions (two below f h c) k w = refl
-    no-conditions (two at_most f h c) k w = refl
-    no-conditions (two above f h c) k w = refl
-    no-conditions (two at_least f h c) k w = refl
-    no-conditions (two {x = x} {y = y} sum f h c) k true =
+    no-conditions (two both f h) k w = refl
+    no-conditions (two either f h) k w = refl
+    no-conditions (two implied f h) k w = refl
+    no-conditions (two agreeing f h) k w = refl
+    no-conditions (two equal f h) k w = refl
+    no-conditions (two unequal f h) k w = refl
+    no-conditions (two below f h) k w = refl
+    no-conditions (two at_most f h) k w = refl
+    no-conditions (two above f h) k w = refl
+    no-conditions (two at_least f h) k w = refl
+    no-conditions (two {x = x} {y = y} sum f h) k true =
         none-both (conditions true p q k true x) (conditions true p q k true y) (no-conditions f k true) (no-conditions h k true)
-    no-conditions (two {x = x} {y = y} sum f h c) k false =
+    no-conditions (two {x = x} {y = y} sum f h) k false =
         none-both (conditions true p q k false x) (conditions true p q k false y) (no-conditions f k false) (no-conditions h k false)
-    no-conditions (two {x = x} {y = y} difference f h c) k true =
+    no-conditions (two {x = x} {y = y} difference f h) k true =
         none-both (conditions true p q k true x) (conditions true p q k true y) (no-conditions f k true) (no-conditions h k true)
-    no-conditions (two {x = x} {y = y} difference f h c) k false =
+    no-conditions (two {x = x} {y = y} difference f h) k false =
         none-both (conditions true p q k false x) (conditions true p q k false y) (no-conditions f k false) (no-conditions h k false)
-    no-conditions (two {x = x} {y = y} product f h c) k true =
+    no-conditions (two {x = x} {y = y} product f h) k true =
         none-both (conditions true p q k true x) (conditions true p q k true y) (no-conditions f k true) (no-conditions h k true)
-    no-conditions (two {x = x} {y = y} product f h c) k false =
+    no-conditions (two {x = x} {y = y} product f h) k false =
         none-both (conditions true p q k false x) (conditions true p q k false y) (no-conditions f k false) (no-conditions h k false)
     no-conditions (chosen {x = x} f) k true = none-one (conditions true p q k false x) (no-conditions f k false)
     no-conditions (chosen {x = x} f) k false = none-one (conditions true p q k false x) (no-conditions f k false)
@@ -122,31 +122,31 @@ module _ (names cells : Text → Option Bool) (p q : Text) where
     guarded-ranged (one denied f) k = ap (ex1 true Op1.Not) (guarded-ranged f k)
     guarded-ranged (one negative f) k = ap (ex1 false Op1.Minus) (guarded-ranged f k)
     guarded-ranged (one absolute f) k = ap (ex1 false Op1.Bar) (guarded-ranged f k)
-    guarded-ranged (two {x = x} {y = y} both f h c) k = both-kept true Op2.And x y _ _ (guarded-ranged f k) (guarded-ranged h k)
-    guarded-ranged (two {x = x} {y = y} either f h c) k = both-kept true Op2.Or x y _ _ (guarded-ranged f k) (guarded-ranged h k)
-    guarded-ranged (two {x = x} {y = y} implied f h c) k = both-kept true Op2.Implies x y _ _ (guarded-ranged f k) (guarded-ranged h k)
-    guarded-ranged (two {x = x} {y = y} agreeing f h c) k = both-kept true Op2.Iff x y _ _ (guarded-ranged f k) (guarded-ranged h k)
-    guarded-ranged (two {x = x} {y = y} equal f h c) k =
+    guarded-ranged (two {x = x} {y = y} both f h) k = both-kept true Op2.And x y _ _ (guarded-ranged f k) (guarded-ranged h k)
+    guarded-ranged (two {x = x} {y = y} either f h) k = both-kept true Op2.Or x y _ _ (guarded-ranged f k) (guarded-ranged h k)
+    guarded-ranged (two {x = x} {y = y} implied f h) k = both-kept true Op2.Implies x y _ _ (guarded-ranged f k) (guarded-ranged h k)
+    guarded-ranged (two {x = x} {y = y} agreeing f h) k = both-kept true Op2.Iff x y _ _ (guarded-ranged f k) (guarded-ranged h k)
+    guarded-ranged (two {x = x} {y = y} equal f h) k =
         compare-kept Op2.Eq x y (guarded true p q k x) (guarded true p q k y) (conditions true p q k true x) (conditions true p q k true y)
         (no-conditions f k true) (no-conditions h k true) (guarded-ranged f k) (guarded-ranged h k)
-    guarded-ranged (two {x = x} {y = y} unequal f h c) k =
+    guarded-ranged (two {x = x} {y = y} unequal f h) k =
         compare-kept Op2.Ne x y (guarded true p q k x) (guarded true p q k y) (conditions true p q k true x) (conditions true p q k true y)
         (no-conditions f k true) (no-conditions h k true) (guarded-ranged f k) (guarded-ranged h k)
-    guarded-ranged (two {x = x} {y = y} below f h c) k =
+    guarded-ranged (two {x = x} {y = y} below f h) k =
         compare-kept Op2.Lt x y (guarded true p q k x) (guarded true p q k y) (conditions true p q k true x) (conditions true p q k true y)
         (no-conditions f k true) (no-conditions h k true) (guarded-ranged f k) (guarded-ranged h k)
-    guarded-ranged (two {x = x} {y = y} at_most f h c) k =
+    guarded-ranged (two {x = x} {y = y} at_most f h) k =
         compare-kept Op2.Le x y (guarded true p q k x) (guarded true p q k y) (conditions true p q k true x) (conditions true p q k true y)
         (no-conditions f k true) (no-conditions h k true) (guarded-ranged f k) (guarded-ranged h k)
-    guarded-ranged (two {x = x} {y = y} above f h c) k =
+    guarded-ranged (two {x = x} {y = y} above f h) k =
         compare-kept Op2.Gt x y (guarded true p q k x) (guarded true p q k y) (conditions true p q k true x) (conditions true p q k true y)
         (no-conditions f k true) (no-conditions h k true) (guarded-ranged f k) (guarded-ranged h k)
-    guarded-ranged (two {x = x} {y = y} at_least f h c) k =
+    guarded-ranged (two {x = x} {y = y} at_least f h) k =
         compare-kept Op2.Ge x y (guarded true p q k x) (guarded true p q k y) (conditions true p q k true x) (conditions true p q k true y)
         (no-conditions f k true) (no-conditions h k true) (guarded-ranged f k) (guarded-ranged h k)
-    guarded-ranged (two {x = x} {y = y} sum f h c) k = both-kept false Op2.Plus x y _ _ (guarded-ranged f k) (guarded-ranged h k)
-    guarded-ranged (two {x = x} {y = y} difference f h c) k = both-kept false Op2.Minus x y _ _ (guarded-ranged f k) (guarded-ranged h k)
-    guarded-ranged (two {x = x} {y = y} product f h c) k = both-kept false Op2.Times x y _ _ (guarded-ranged f k) (guarded-ranged h k)
+    guarded-ranged (two {x = x} {y = y} sum f h) k = both-kept false Op2.Plus x y _ _ (guarded-ranged f k) (guarded-ranged h k)
+    guarded-ranged (two {x = x} {y = y} difference f h) k = both-kept false Op2.Minus x y _ _ (guarded-ranged f k) (guarded-ranged h k)
+    guarded-ranged (two {x = x} {y = y} product f h) k = both-kept false Op2.Times x y _ _ (guarded-ranged f k) (guarded-ranged h k)
     guarded-ranged (chosen f) k = ap (fun1 false Fun.ToInt) (guarded-ranged f k)
     guarded-ranged (folded {e = e} {gs = gs} all_hold g f) k =
         fold-kept Fun.And e (guarded true p q (known_behind gs k) e) gs (guarded_gens true p q k gs)

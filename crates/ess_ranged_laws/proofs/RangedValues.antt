@@ -247,7 +247,7 @@ module _ (cells : Text → Option Bool) (pl : Bool) (ts : List TypeEntry) (cs : 
           is = q;
           valued = one-valued b (unary o) x g (ap is_some q) a.valued;
         }
-    ranged-answer (two {b = b} {o = o} {x = x} {y = y} s f h c) g p =
+    ranged-answer (two {b = b} {o = o} {x = x} {y = y} s f h) g p =
         let a = ranged-answer f g p in
         let r = ranged-answer h g p in
         let u = two-value s a.marked r.marked in

@@ -9,8 +9,8 @@ use Rattle.ess_semantics.specs.Values.{Text}
 use Rattle.ess_semantics.specs.Names.{Names}
 use Rattle.ess_semantics.specs.Trees.{both_ends, name_pat, Ex, number_ex, truth_ex, name_ex, comp_ex, no_exs, more_exs, Gens, no_gens, over, cond, bool_dom, int_dom, ex1, ex2, fun1}
 use Rattle.ess_semantics.proofs.Tests.{and-left, and-right}
-use Rattle.ess_flat_laws.specs.Flat.{OneOp, denied, negative, absolute, TwoOp, both, either, implied, agreeing, equal, unequal, below, at_most, above, at_least, sum, difference, as_marked, one_mark, two_mark}
-use Rattle.ess_bare_laws.specs.Bare.{all_hold, some_holds, multiplies}
+use Rattle.ess_flat_laws.specs.Flat.{OneOp, denied, negative, absolute, TwoOp, both, either, implied, agreeing, equal, unequal, below, at_most, above, at_least, sum, difference, product, as_marked, one_mark, two_mark}
+use Rattle.ess_bare_laws.specs.Bare.{all_hold, some_holds}
 use Rattle.ess_ranged_laws.specs.Ranged.{mark_at, Ranged, number, truth, named, one, two, chosen, folded, added, Binding, at_end, over_truths, over_numbers, where_holds, takes_conditions, fold_mark, word_mark, is_mark, no_mark, is_new, ranged_mark, bound_behind}
 
 some-is : (a b : Bool) → Some a ≡ Some b → a ≡ b
@@ -42,26 +42,27 @@ one-op o i k q = cc
 as-two : {o : Op2} {i j m k : Bool} → m ≡ k → TwoOp m o i j → TwoOp k o i j
 as-two {o} {i} {j} {m} {k} q w = subst (λ z. TwoOp z o i j) q w
 
-two-op : (i j : Bool) (o : Op2) (k : Bool) → multiplies o ≡ false → two_mark o i j ≡ Some k → TwoOp k o i j
-two-op true true Op2.And k c q = as-two (some-is true k q) both
-two-op true true Op2.Or k c q = as-two (some-is true k q) either
-two-op true true Op2.Implies k c q = as-two (some-is true k q) implied
-two-op true true Op2.Iff k c q = as-two (some-is true k q) agreeing
-two-op true true Op2.Eq k c q = as-two (some-is true k q) equal
-two-op true true Op2.Ne k c q = as-two (some-is true k q) unequal
-two-op true true Op2.Lt k c q = as-two (some-is true k q) below
-two-op true true Op2.Le k c q = as-two (some-is true k q) at_most
-two-op true true Op2.Gt k c q = as-two (some-is true k q) above
-two-op true true Op2.Ge k c q = as-two (some-is true k q) at_least
-two-op false false Op2.Eq k c q = as-two (some-is true k q) equal
-two-op false false Op2.Ne k c q = as-two (some-is true k q) unequal
-two-op false false Op2.Lt k c q = as-two (some-is true k q) below
-two-op false false Op2.Le k c q = as-two (some-is true k q) at_most
-two-op false false Op2.Gt k c q = as-two (some-is true k q) above
-two-op false false Op2.Ge k c q = as-two (some-is true k q) at_least
-two-op false false Op2.Plus k c q = as-two (some-is false k q) sum
-two-op false false Op2.Minus k c q = as-two (some-is false k q) difference
-two-op i j o k c q = cc
+two-op : (i j : Bool) (o : Op2) (k : Bool) → two_mark o i j ≡ Some k → TwoOp k o i j
+two-op true true Op2.And k q = as-two (some-is true k q) both
+two-op true true Op2.Or k q = as-two (some-is true k q) either
+two-op true true Op2.Implies k q = as-two (some-is true k q) implied
+two-op true true Op2.Iff k q = as-two (some-is true k q) agreeing
+two-op true true Op2.Eq k q = as-two (some-is true k q) equal
+two-op true true Op2.Ne k q = as-two (some-is true k q) unequal
+two-op true true Op2.Lt k q = as-two (some-is true k q) below
+two-op true true Op2.Le k q = as-two (some-is true k q) at_most
+two-op true true Op2.Gt k q = as-two (some-is true k q) above
+two-op true true Op2.Ge k q = as-two (some-is true k q) at_least
+two-op false false Op2.Eq k q = as-two (some-is true k q) equal
+two-op false false Op2.Ne k q = as-two (some-is true k q) unequal
+two-op false false Op2.Lt k q = as-two (some-is true k q) below
+two-op false false Op2.Le k q = as-two (some-is true k q) at_most
+two-op false false Op2.Gt k q = as-two (some-is true k q) above
+two-op false false Op2.Ge k q = as-two (some-is true k q) at_least
+two-op false false Op2.Plus k q = as-two (some-is false k q) sum
+two-op false false Op2.Minus k q = as-two (some-is false k q) difference
+two-op false false Op2.Times k q = as-two (some-is false k q) product
+two-op i j o k q = cc
 
 -- A mark that is asked for.
 mark-is : (b : Bool) (o : Option Bool) → is_mark b o ≡ true → o ≡ Some b
@@ -77,10 +78,6 @@ decided : {A : Type 0} (b : Bool) (o : Option A) (m : A) → (if b then o else N
 decided true o m q = (refl, q)
 decided false o m q = cc
 
-undecided : {A : Type 0} (b : Bool) (o : Option A) (m : A) → (if b then None else o) ≡ Some m → (b ≡ false) × (o ≡ Some m)
-undecided true o m q = cc
-undecided false o m q = (refl, q)
-
 new-is : (o : Option Bool) → not (is_some o) ≡ true → o ≡ None
 new-is None q = refl
 new-is (Some m) q = cc
@@ -95,11 +92,11 @@ module _ (names : Text → Option Bool) where
       let e = marks-are b k m q in
       subst (λ z. R r (ex1 b o x) z) e.1 (one (subst (λ z. OneOp z o i) (sym e.0) (one-op o i k p)) f)
 
-  as-both : (r : Names Bool) (b k m i j : Bool) (o : Op2) (x y : Ex) → R r x i → R r y j → multiplies o ≡ false →
-      two_mark o i j ≡ Some k → as_marked b k ≡ Some m → R r (ex2 b o x y) m
-  as-both r b k m i j o x y f h c p q =
+  as-both : (r : Names Bool) (b k m i j : Bool) (o : Op2) (x y : Ex) → R r x i → R r y j → two_mark o i j ≡ Some k →
+      as_marked b k ≡ Some m → R r (ex2 b o x y) m
+  as-both r b k m i j o x y f h p q =
       let e = marks-are b k m q in
-      subst (λ z. R r (ex2 b o x y) z) e.1 (two (as-two (sym e.0) (two-op i j o k c p)) f h c)
+      subst (λ z. R r (ex2 b o x y) z) e.1 (two (as-two (sym e.0) (two-op i j o k p)) f h)
 
   as-chosen : (f : Fun) (r : Names Bool) (b k m i : Bool) (x : Ex) → R r x i → word_mark f i ≡ Some k → as_marked b k ≡ Some m →
       R r (fun1 b f x) m
@@ -147,11 +144,10 @@ module _ (names : Text → Option Bool) where
         let v = behind (ranged_mark names r x) (one_mark o) w.value w.there in
         as-one r b w.value m v.value o x (tested r x v.value v.there) v.gives w.gives
     tested r (ex2 b o x y) m q =
-        let c = undecided (multiplies o) _ m q in
-        let w = behind (and_then (ranged_mark names r x) (λ i. and_then (ranged_mark names r y) (two_mark o i))) (as_marked b) m c.1 in
+        let w = behind (and_then (ranged_mark names r x) (λ i. and_then (ranged_mark names r y) (two_mark o i))) (as_marked b) m q in
         let v = behind (ranged_mark names r x) (λ i. and_then (ranged_mark names r y) (two_mark o i)) w.value w.there in
         let u = behind (ranged_mark names r y) (two_mark o v.value) w.value v.gives in
-        as-both r b w.value m v.value u.value o x y (tested r x v.value v.there) (tested r y u.value u.there) c.0 u.gives w.gives
+        as-both r b w.value m v.value u.value o x y (tested r x v.value v.there) (tested r y u.value u.there) u.gives w.gives
     tested r (fun1 b f (comp_ex e gs)) m q =
         let w = behind (and_then (and_then (bound_behind names (takes_conditions f) r gs) (λ t. ranged_mark names t e)) (fold_mark f))
         (as_marked b) m q in

@@ -34,7 +34,7 @@ module _ (names : Text → Option Bool) where
     told-next (named h) u k = none-on k
     told-next (cell h) u k = cc
     told-next (one {x = e} s f) u k = one-on (binders e) k (told e u k).1 (told-next f u k)
-    told-next (two {x = e} {y = y} s f g c) u k =
+    told-next (two {x = e} {y = y} s f g) u k =
         both-on (binders e) (binders y) k (told e u k).1 (told y u (told e u k).1).1 (told-next f u k) (told-next g u (told e u k).1)
     told-next (chosen {x = e} f) u k = one-on (binders e) k (told e u k).1 (told-next f u k)
     told-next (folded {e = e} {gs = gs} w g f) u k =

@@ -97,7 +97,7 @@ module _ (sh : Shows) (names cells : Text → Option Bool) (w : ShowsCells sh na
     told-means (cell q) t u k g h l x = cc
     told-means (one {b = b} {o = o} s f) t u k g h l x =
         ap (λ p. false_where_undefined b (value_of_node (unary o) (p ∷ []))) (told-means f t u k g h l x)
-    told-means (two {b = b} {o = o} {x = e} {y = f} s d i c) t u k g h l x =
+    told-means (two {b = b} {o = o} {x = e} {y = f} s d i) t u k g h l x =
         let q = (told e u k).1 in
         ap (λ z. meaning z (T h)) (shown-two sh (told e u k).0 (told f u q).0 s)
         ∙ ap (λ p. false_where_undefined b (value_of_node (binary o) (p ∷ meaning (over_tables f u q) (T h) ∷ [])))

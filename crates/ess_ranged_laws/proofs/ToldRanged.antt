@@ -152,12 +152,12 @@ module _ (sh : Shows) (names cells : Text → Option Bool) (w : ShowsCells sh na
           ranged = one s p.ranged;
           alike = alone-alike _ _ k _ (parts_of e) (parts_of (made e u k)) p.alike;
         }
-    told-ranged (two {b = b} {o = o} {x = e} {y = f} s g h c) t u k l x =
+    told-ranged (two {b = b} {o = o} {x = e} {y = f} s g h) t u k l x =
         let q = (told e u k).1 in
         let p = told-ranged g t u k (on q (told f u q).1 lim (ex-up f u q) l) x in
         let z = told-ranged h t u q l (later sh names cells w lim differ _ t u k q (ex-up e u k) x) in
         let is = shown-two sh (told e u k).0 (told f u q).0 s in record {
-          ranged = subst (λ v. C t v b) (sym is) (two s p.ranged z.ranged c);
+          ranged = subst (λ v. C t v b) (sym is) (two s p.ranged z.ranged);
           alike = subst (λ v. Alike (binders (ex2 b o e f)) (binders v) k (told f u q).1 (numbers_in (parts_of (ex2 b o e f)))
               (numbers_in (parts_of v))) (sym is)
               (two-alike _ _ _ _ k q (told f u q).1 (parts_of e) (parts_of f ++ []) (parts_of (made e u k)) (parts_of (made f u q) ++ [])

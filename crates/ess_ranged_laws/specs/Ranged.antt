@@ -1,6 +1,6 @@
 -- Trees over ranges: numbers, truth values and names of scalars, arithmetic, comparisons and connectives, and `and`, `or` and `sum` of what
 -- generators over truth values and over ranges of numbers go through. So are `forAll i : int(1..n) . x != i` and
--- `(sum i : int(1..3), i != j . i * k) < y` in trees, but for what is left out here: products, quotients, powers, conditions under a `sum`,
+-- `(sum i : int(1..3) . i * k) < y` in trees, but for what is left out here: quotients, powers, conditions under a `sum`,
 -- ranges of other ends, and names that hide others. Each such tree has a value where its names and cells have values. A mark says of a
 -- scalar whether it is a truth value.
 use Rattle.std.specs.Prelude.{◌≡◌, Bool, true, false, ◌&&◌, not, if◌then◌else◌, [], ◌∷◌, ℤ, Option, Some, None, is_some}
@@ -13,7 +13,7 @@ use Rattle.ess_semantics.specs.Order.{same_text}
 use Rattle.ess_semantics.specs.Names.{Names}
 use Rattle.ess_semantics.specs.Trees.{both_ends, name_pat, Ex, number_ex, truth_ex, name_ex, comp_ex, cell_ex, no_exs, more_exs, Gens, no_gens, over, cond, bool_dom, int_dom, ex1, ex2, fun1}
 use Rattle.ess_flat_laws.specs.Flat.{OneOp, TwoOp, as_marked, one_mark, two_mark, chosen_mark}
-use Rattle.ess_bare_laws.specs.Bare.{TruthWord, multiplies}
+use Rattle.ess_bare_laws.specs.Bare.{TruthWord}
 
 -- ---- trees
 
@@ -32,8 +32,7 @@ module _ (names cells : Text → Option Bool) where
       named : {r : Names Bool} {a : Text} {m : Bool} → mark_at r a ≡ Some m → Ranged r (name_ex a) m
       cell : {r : Names Bool} {b : Bool} {n : Text} → cells n ≡ Some b → Ranged r (cell_ex b n no_exs) b
       one : {r : Names Bool} {b m : Bool} {o : Op1} {x : Ex} → OneOp b o m → Ranged r x m → Ranged r (ex1 b o x) b
-      two : {r : Names Bool} {b m k : Bool} {o : Op2} {x y : Ex} → TwoOp b o m k → Ranged r x m → Ranged r y k →
-          multiplies o ≡ false → Ranged r (ex2 b o x y) b
+      two : {r : Names Bool} {b m k : Bool} {o : Op2} {x y : Ex} → TwoOp b o m k → Ranged r x m → Ranged r y k → Ranged r (ex2 b o x y) b
       chosen : {r : Names Bool} {x : Ex} → Ranged r x true → Ranged r (fun1 false Fun.ToInt x) false
       folded : {r t : Names Bool} {f : Fun} {e : Ex} {gs : Gens} → TruthWord f → Binding true r gs t → Ranged t e true →
           Ranged r (fun1 true f (comp_ex e gs)) true
@@ -92,9 +91,7 @@ module _ (names : Text → Option Bool) where
     ranged_mark r (truth_ex b) = Some true
     ranged_mark r (name_ex a) = mark_at names no_mark r a
     ranged_mark r (ex1 b o x) = and_then (and_then (ranged_mark r x) (one_mark o)) (as_marked b)
-    ranged_mark r (ex2 b o x y) =
-        if multiplies o then None else
-        and_then (and_then (ranged_mark r x) (λ m. and_then (ranged_mark r y) (two_mark o m))) (as_marked b)
+    ranged_mark r (ex2 b o x y) = and_then (and_then (ranged_mark r x) (λ m. and_then (ranged_mark r y) (two_mark o m))) (as_marked b)
     ranged_mark r (fun1 b f (comp_ex e gs)) =
         and_then (and_then (and_then (bound_behind (takes_conditions f) r gs) (λ t. ranged_mark t e)) (fold_mark f)) (as_marked b)
     ranged_mark r (fun1 b f x) = and_then (and_then (ranged_mark r x) (word_mark f)) (as_marked b)

@@ -1,6 +1,7 @@
--- Lean trees: bare trees whose numbers and bound names have properties, whose lists may be of one item, and whose indices may be asked to
--- be numbers. What is written for a bare tree is one, on each of the steps that lead to it.
-use Rattle.std.proofs.Common.{◌≡◌, ℕ, zero, suc, Bool, true, false, List, ◌∷◌, ℤ, Option, Some}
+-- Lean trees: those that rules end in, and those that are written for them on each step. They are as bare trees are, but that sums may have
+-- conditions, that a fold may be over a list of one item, that numbers and bound names have properties, and that indices may be asked to be
+-- numbers.
+use Rattle.std.specs.Prelude.{◌≡◌, ℕ, zero, suc, Bool, true, false, List, ◌∷◌, ℤ, Option, Some}
 use Rattle.ess_semantics.specs.declared.words.Op1.{Op1}
 use Rattle.ess_semantics.specs.declared.words.Op2.{Op2}
 use Rattle.ess_semantics.specs.declared.words.Fun.{Fun}
@@ -37,6 +38,8 @@ module _ (cells : Text → Option (Bool × ℕ)) (ok : ℤ → Bool) (fine : Tex
       by_truth : {r : Names Bool} {x : Ex} → Lean r x true → Lean r (fun1 false Fun.ToInt x) false
       by_fold : {r t : Names Bool} {b : Bool} {f : Fun} {e : Ex} {gs : Gens} → FoldWord b f → Ranging r gs t → Lean t e b →
           Lean r (fun1 b f (comp_ex e gs)) b
+      by_item : {r : Names Bool} {b : Bool} {f : Fun} {e : Ex} → FoldWord b f → Lean r e b →
+          Lean r (fun1 b f (node_ex false matrix_literal (more_exs e no_exs))) b
       by_order : {r : Names Bool} {m : Bool} {o : Op2} {x y : Ex} → LexSign o → Row r x m → Row r y m → Lean r (ex2 true o x y) true
 
     -- So many terms: numbers, where that is asked.
@@ -58,3 +61,7 @@ module _ (cells : Text → Option (Bool × ℕ)) (ok : ℤ → Bool) (fine : Tex
       over_numbers : {r t : Names Bool} {a : Text} {rs : List Ends} {es : Exs} {k : ℕ} {gs : Gens} → fine a ≡ true → is_bounded rs ≡ true →
           Terms true r es k → Ranging ((a, false) ∷ r) gs t → Ranging r (over (name_pat a) (int_dom rs es) gs) t
       under : {r t : Names Bool} {c : Ex} {gs : Gens} → Lean r c true → Ranging r gs t → Ranging r (cond c gs) t
+
+-- What rules end in: nothing is asked of numbers, of bound names and of indices.
+abbrev pub Ended : (Text → Option (Bool × ℕ)) → Names Bool → Ex → Bool → Type 0
+Ended cells = Lean cells (λ k. true) (λ a. true) false
