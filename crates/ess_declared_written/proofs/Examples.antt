@@ -1,5 +1,5 @@
 -- Worked examples: what is written for domains and declared tables, and for which nothing is.
-use Rattle.std.proofs.Common.{◌≡◌, refl, sym, subst, true, false, ◌&&◌, inl, inr, [], ◌∷◌, Some, None, codes}
+use Rattle.std.proofs.Common.{◌≡◌, refl, sym, subst, ◌<◌, ◌^◌, true, false, ◌&&◌, inl, inr, [], ◌∷◌, Some, None, codes, arith}
 use Rattle.std.proofs.Math.Nat.{le_refl}
 use Rattle.std.specs.Fmt.{digits}
 use Rattle.ess_semantics.specs.declared.words.Op2.{Op2}
@@ -24,17 +24,18 @@ use Rattle.ess_declared_written.specs.Coming.{DeclsAreWritten, none_written, one
 
 -- ---- bounds that no rule changes, behind the two names that are kept for conditions
 
--- What is printed where nothing abstract is left.
-as_printed : (e new : Ex) → is_refined (told_apart 2 e) ≡ true → new ≡ written_for [] (told_apart 2 e) → BoundPrints [] 2 e (Some new)
-as_printed e new h w = (
+-- What is printed where nothing abstract is left, and the reserved names are few.
+as_printed : (e new : Ex) → (told e [] 2).1 < 2 ^ 64 → is_refined (told_apart 2 e) ≡ true → new ≡ written_for [] (told_apart 2 e)
+    → BoundPrints [] 2 e (Some new)
+as_printed e new f h w = (
   (told e [] 2).1,
-  record { last = told_apart 2 e; leads = as_it_was (le_refl (told e [] 2).1); refined = h; writes = w },
+  record { last = told_apart 2 e; leads = as_it_was (le_refl (told e [] 2).1); few = f; refined = h; writes = w },
 )
 
 -- What is written where that is an expression of a model.
-as_written : (s : Scope) (e new : Ex) → is_refined (told_apart 2 e) ≡ true → new ≡ written_for [] (told_apart 2 e)
-    → is_lowerable s new ≡ true → BoundComes s [] 2 e (Some new)
-as_written s e new h w l = ((as_printed e new h w).0, ((as_printed e new h w).1, l))
+as_written : (s : Scope) (e new : Ex) → (told e [] 2).1 < 2 ^ 64 → is_refined (told_apart 2 e) ≡ true
+    → new ≡ written_for [] (told_apart 2 e) → is_lowerable s new ≡ true → BoundComes s [] 2 e (Some new)
+as_written s e new f h w l = ((as_printed e new f h w).0, ((as_printed e new f h w).1, l))
 
 -- Else nothing is.
 not_written : (s : Scope) (e : Ex) → (is_refined (told_apart 2 e) && is_lowerable s (written_for [] (told_apart 2 e))) ≡ false
@@ -53,7 +54,10 @@ abstract = fn Fun.ToInt (bi Op2.Member (N (codes "x")) (N (codes "s")))
 -- 1 and sum([x | x : int(1..3)]) are printed as 1 and sum([q1 | q1 : int(1..3)])
 bounds_print : BoundsPrint [] 2 (more_exs (n 1) (es1 (total (codes "x")))) (Some (more_exs (n 1) (es1 (total (codes "q1")))))
 unfolding digits
-bounds_print = (as_printed (n 1) (n 1) refl refl, (as_printed (total (codes "x")) (total (codes "q1")) refl refl, tt))
+bounds_print = (
+  as_printed (n 1) (n 1) (omega arith) refl refl,
+  (as_printed (total (codes "x")) (total (codes "q1")) (omega arith) refl refl, tt),
+)
 
 -- nothing is, where `x in s` is left of one
 bounds_stick : BoundsPrint [] 2 (more_exs (n 1) (es1 abstract)) None
@@ -71,8 +75,8 @@ unfolding digits
 ranges_stay = (
   refl,
   (
-    as_written empty_scope (n 1) (n 1) refl refl refl,
-    (as_written empty_scope (total (codes "x")) (total (codes "q1")) refl refl refl, tt),
+    as_written empty_scope (n 1) (n 1) (omega arith) refl refl refl,
+    (as_written empty_scope (total (codes "x")) (total (codes "q1")) (omega arith) refl refl refl, tt),
   ),
 )
 
@@ -110,7 +114,7 @@ p_written : DeclComes empty_scope [] 2 p (Some p)
 p_written = (refl, tt, tt)
 
 numbers : (s : Scope) → DomIsWritten s [] 2 (upto 3) (upto 3)
-numbers s = (refl, (as_written s (n 1) (n 1) refl refl refl, (as_written s (n 3) (n 3) refl refl refl, tt)))
+numbers s = (refl, (as_written s (n 1) (n 1) (omega arith) refl refl refl, (as_written s (n 3) (n 3) (omega arith) refl refl refl, tt)))
 
 -- so is m behind it
 m_written : DeclComes (with_given empty_scope p) [] 2 m (Some m)
@@ -120,8 +124,8 @@ m_written = (
   (
     refl,
     (
-      as_written (with_given empty_scope p) (n 0) (n 0) refl refl refl,
-      (as_written (with_given empty_scope p) p_as_number p_as_number refl refl refl, tt),
+      as_written (with_given empty_scope p) (n 0) (n 0) (omega arith) refl refl refl,
+      (as_written (with_given empty_scope p) p_as_number p_as_number (omega arith) refl refl refl, tt),
     ),
   ),
 )

@@ -1,5 +1,5 @@
 -- What comes of writing, from what each pass does.
-use Rattle.std.proofs.Common.{◌≡◌, refl, sym, ap, ◌∙◌, subst, ℕ, Bool, true, false, ◌&&◌, List, [], Option, Some, None}
+use Rattle.std.proofs.Common.{◌≡◌, refl, sym, ap, ◌∙◌, subst, ℕ, ◌<◌, ◌^◌, Bool, true, false, ◌&&◌, List, [], Option, Some, None}
 use Rattle.std.specs.Prelude.{IfOk, Result}
 use Rattle.std.proofs.lemmas.Result.{IfOk-weaker}
 use Rattle.ess_semantics.specs.Lists.{when}
@@ -24,12 +24,13 @@ module _ (taken : List Text) (n m : ℕ) (old : Ex) where
   prints_nothing last w h = (last, w, h)
 
   -- Of a tree in which nothing abstract is left, what each pass makes.
-  pub prints_last : (last simple plain again new : Ex) → Leads IsRuled n [] old last m → is_refined last ≡ true
+  pub prints_last : (last simple plain again new : Ex) → Leads IsRuled n [] old last m → m < 2 ^ 64 → is_refined last ≡ true
       → simple ≡ simplified last → plain ≡ keyed nothing_around simple → again ≡ simplified plain → new ≡ printed taken again []
       → Prints taken n old (Some new) m
-  prints_last last simple plain again new w h p k a q = record {
+  prints_last last simple plain again new w f h p k a q = record {
     last = last;
     leads = w;
+    few = f;
     refined = h;
     writes = q ∙ ap (λ x. printed taken x []) (a ∙ ap simplified (k ∙ ap (keyed nothing_around) p));
   }

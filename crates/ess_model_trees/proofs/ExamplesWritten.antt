@@ -26,7 +26,13 @@ behind_it = refl
 -- no rule is needed: `true` and a conjunction are simplified away, and the bound name is printed as the first that isn't taken
 is_written : IsWrittenBy one_taken 3 (bi Op2.And (truth_ex true) (six (reserved 2))) (six (codes "q2")) 3
 unfolding digits
-is_written = record { last = bi Op2.And (truth_ex true) (six (reserved 2)); leads = as_it_was (omega arith); refined = refl; writes = refl }
+is_written = record {
+  last = bi Op2.And (truth_ex true) (six (reserved 2));
+  leads = as_it_was (omega arith);
+  few = omega arith;
+  refined = refl;
+  writes = refl;
+}
 
 -- so it is printed, however many reserved names there are
 prints : PrintsFrom one_taken 3 (bi Op2.And (truth_ex true) (six (reserved 2))) (Some (six (codes "q2")))

@@ -1,5 +1,5 @@
 -- What is written for a tree over tables. The rules that lead to it count the reserved names.
-use Rattle.std.specs.Prelude.{◌≡◌, ℕ, true, false, ◌&&◌, List, [], Option, Some, None}
+use Rattle.std.specs.Prelude.{◌≡◌, ℕ, ◌<◌, ◌^◌, true, false, ◌&&◌, List, [], Option, Some, None}
 use Rattle.ess_semantics.specs.Values.{Text}
 use Rattle.ess_semantics.specs.Trees.{Ex}
 use Rattle.ess_semantics.specs.Refined.{is_refined}
@@ -19,10 +19,11 @@ abbrev pub written_for : List Text → Ex → Ex
 written_for taken e = printed taken (simplified (keyed nothing_around (simplified e))) []
 
 -- `new` is written for `old`: rules lead to a tree in which nothing abstract is left, with reserved names from the n-th on and none
--- from the m-th on, and it is what is written for that one.
+-- from the m-th on, and it is what is written for that one. Reserved names are counted by a machine's numbers of 64 bits.
 pub record IsWrittenBy (taken : List Text) (n : ℕ) (old new : Ex) (m : ℕ) : Type 0 where
   pub last : Ex
   pub leads : Leads IsRuled n [] old last m
+  pub few : m < 2 ^ 64
   pub refined : is_refined last ≡ true
   pub writes : new ≡ written_for taken last
 

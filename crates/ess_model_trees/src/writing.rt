@@ -49,7 +49,10 @@ pub(crate) fn printing(
     ensures { IfOk result (λ o. Prints taken.now next.old (pure_node node) (option_map pure_node o) next.new) }
 {
     let mut node = node;
-    match refine(alloc, node.get_mut(), next)? {
+    let refinement = refine(alloc, node.get_mut(), next)?;
+    // read, so that the clause knows its range
+    let _behind = *next;
+    match refinement {
         Refinement::Stuck => Ok(None),
         Refinement::Refined => {
             simplify(node.get_mut());
