@@ -1,0 +1,2 @@
+-- The law of chains
+pub mod Laws

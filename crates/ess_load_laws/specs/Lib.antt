@@ -1,0 +1,4 @@
+-- The number of names
+pub mod Load
+-- Its law
+pub mod Laws

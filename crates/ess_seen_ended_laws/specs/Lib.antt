@@ -1,0 +1,2 @@
+-- The law of refined trees over views
+pub mod Laws

@@ -1,0 +1,219 @@
+-- The free names of a tree over views are bound around it, and where it is scoped the names that it binds are new.
+use Rattle.std.proofs.Common.{◌≡◌, refl, ap, ℕ, Bool, true, false, ◌||◌, not, if◌then◌else◌, ◌∷◌, pos, Option, Some}
+use Rattle.std.specs.Prelude.{IsTrue, is_some}
+use Rattle.ess_semantics.specs.Values.{Text}
+use Rattle.ess_semantics.specs.Order.{same_text}
+use Rattle.ess_semantics.specs.Names.{Names, look}
+use Rattle.ess_semantics.specs.Trees.{name_pat, Ex, Exs, number_ex, Gens, Dom}
+use Rattle.ess_semantics.specs.Substitution.{NamesAre, NamesAreExs, NamesAreGens, NamesAreDom}
+use Rattle.ess_semantics.specs.Scoped.{with_names, Scoped, ScopedExs, ScopedGens, ScopedDom}
+use Rattle.ess_semantics.specs.FreeNames.{with_bound_names, FreeNamesAre, FreeNamesAreExs, FreeNamesAreGens, FreeNamesAreDom}
+use Rattle.ess_semantics.proofs.Tests.{or-yes}
+use Rattle.ess_seen_laws.specs.Seen.{Kind, Bound, over_a_range, from_a_set, Places, no_place, at_a_number, at_a_name, SetTerm, view, drawn, Seen, number, truth, named, cell, atom, one, two, power, chosen, folded, added, counted, one_truth, one_number, size, within, Indices, no_index, one_index, Going, at_end, through, among, where_holds, Axes, no_axis, along, Counting, members_of, in_use, Range, truths, numbers, Bounds, no_bound, one_bound}
+use Rattle.ess_seen_laws.specs.Putting.{BindsNone}
+use Rattle.ess_seen_laws.proofs.Written.{keeps-written, written-free, written-named}
+
+-- ---- free names
+
+-- The bound names have the property.
+abbrev pub Covers : (Text → Bool) → Names Bound → Type 0
+Covers u r = (a : Text) (b : Bound) → look r a ≡ Some b → u a ≡ true
+
+one-more : (u : Text → Bool) (r : Names Bound) (a : Text) (b : Bound) → Covers u r → Covers (with_names u (name_pat a)) ((a, b) ∷ r)
+one-more u r a b c x k h = go (same_text a x) h
+  where
+    go : (v : Bool) → (if v then Some b else look r x) ≡ Some k → u x || v ≡ true
+    go true q = or-yes (u x)
+    go false q = ap (λ z. z || false) (c x k q)
+
+module _ (cells : Text → Option (Bool × ℕ)) where
+  places-free : {r : Names Bound} {es : Exs} {k : ℕ} (u : Text → Bool) → Covers u r → Places cells r es k → FreeNamesAreExs u es
+  places-free u c no_place = tt
+  places-free u c (at_a_number p) = (tt, places-free u c p)
+  places-free u c (at_a_name {a = a} {m = m} q p) = (c a (over_a_range m) q, places-free u c p)
+
+  set-free : {r : Names Bound} {e : Ex} {k : Kind} (u : Text → Bool) → Covers u r → SetTerm cells r e k → FreeNamesAre u e
+  set-free u c (view n f k p) = (written-free u (keeps-written k), places-free u c p)
+  set-free u c (drawn {a = a} q) = c a _ q
+
+  mutual
+    names-free : {r : Names Bound} {e : Ex} {m : Bool} (u : Text → Bool) → Covers u r → Seen cells r e m → FreeNamesAre u e
+    names-free u c number = tt
+    names-free u c truth = tt
+    names-free u c (named {a = a} {b = b} q k) = c a b q
+    names-free u c (cell h i) = indices-free u c i
+    names-free u c (atom k p) = (written-free u (keeps-written k), places-free u c p)
+    names-free u c (one w f) = (names-free u c f, tt)
+    names-free u c (two w f h) = (names-free u c f, (names-free u c h, tt))
+    names-free u c (power f h) = (names-free u c f, (names-free u c h, tt))
+    names-free u c (chosen f) = (names-free u c f, tt)
+    names-free u c (folded w g f) = let k = gens-free u c g in ((k.0, names-free _ k.1 f), tt)
+    names-free u c (added g f) = let k = axes-free u c g in ((k.0, names-free _ k.1 f), tt)
+    names-free u c (counted k) = ((counting-free u c k, tt), tt)
+    names-free u c (one_truth w f) = ((names-free u c f, tt), tt)
+    names-free u c (one_number f) = ((names-free u c f, tt), tt)
+    names-free u c (size s) = (set-free u c s, tt)
+    names-free u c (within f s) = (names-free u c f, (set-free u c s, tt))
+
+    indices-free : {r : Names Bound} {es : Exs} {k : ℕ} (u : Text → Bool) → Covers u r → Indices cells r es k → FreeNamesAreExs u es
+    indices-free u c no_index = tt
+    indices-free u c (one_index f i) = (names-free u c f, indices-free u c i)
+
+    bounds-free : {r : Names Bound} {es : Exs} (u : Text → Bool) → Covers u r → Bounds cells r es → FreeNamesAreExs u es
+    bounds-free u c no_bound = tt
+    bounds-free u c (one_bound f i) = (names-free u c f, bounds-free u c i)
+
+    range-free : {r : Names Bound} {d : Dom} {m : Bool} (u : Text → Bool) → Covers u r → Range cells r d m → FreeNamesAreDom u d
+    range-free u c truths = tt
+    range-free u c (numbers b bs) = bounds-free u c bs
+
+    gens-free : {r t : Names Bound} {gs : Gens} (u : Text → Bool) → Covers u r → Going cells r gs t →
+        FreeNamesAreGens u gs × Covers (with_bound_names u gs) t
+    gens-free u c at_end = (tt, c)
+    gens-free {r} u c (through {m = m} {a = a} n g) =
+        let k = gens-free (with_names u (name_pat a)) (one-more u r a (over_a_range m) c) g in ((range-free u c n, k.0), k.1)
+    gens-free {r} u c (among {k = j} {a = a} s g) =
+        let k = gens-free (with_names u (name_pat a)) (one-more u r a (from_a_set j) c) g in ((set-free u c s, k.0), k.1)
+    gens-free u c (where_holds f g) = let k = gens-free u c g in ((names-free u c f, k.0), k.1)
+
+    axes-free : {r t : Names Bound} {gs : Gens} (u : Text → Bool) → Covers u r → Axes cells r gs t →
+        FreeNamesAreGens u gs × Covers (with_bound_names u gs) t
+    axes-free u c no_axis = (tt, c)
+    axes-free {r} u c (along {m = m} {a = a} n g) =
+        let k = axes-free (with_names u (name_pat a)) (one-more u r a (over_a_range m) c) g in ((range-free u c n, k.0), k.1)
+
+    counting-free : {r : Names Bound} {gs : Gens} (u : Text → Bool) → Covers u r → Counting cells r gs → FreeNamesAreGens u gs
+    counting-free u c (members_of s) = (set-free u c s, tt)
+    counting-free {r} u c (in_use {m = m} {a = a} n f) =
+        (range-free u c n, (names-free (with_names u (name_pat a)) (one-more u r a (over_a_range m) c) f, tt))
+
+  -- The free names of such a tree are bound around it.
+  pub seen-closed : (r : Names Bound) (e : Ex) (m : Bool) → Seen cells r e m → FreeNamesAre (λ a. is_some (look r a)) e
+  seen-closed r e m f = names-free (λ a. is_some (look r a)) (λ a k q. ap is_some q) f
+
+-- ---- bound names
+
+-- What is in q is in s.
+abbrev Inside : (Text → Bool) → (Text → Bool) → Type 0
+Inside q s = (a : Text) → q a ≡ true → s a ≡ true
+
+inside-more : (q s : Text → Bool) (a : Text) → Inside q s → Inside q (with_names s (name_pat a))
+inside-more q s a i x h = ap (λ z. z || same_text a x) (i x h)
+
+new-for : (q s : Text → Bool) (a : Text) → Inside q s → IsTrue (not (s a)) → IsTrue (not (q a))
+new-for q s a i n = go (q a) (i a)
+  where
+    go : (v : Bool) → (v ≡ true → s a ≡ true) → IsTrue (not v)
+    go false f = refl
+    go true f = clash (s a) (f refl) n
+      where
+        clash : (b : Bool) → b ≡ true → IsTrue (not b) → IsTrue false
+        clash true p m = m
+        clash false p m = cc
+
+module _ (cells : Text → Option (Bool × ℕ)) (z q : Text → Bool) where
+  -- Behind generators x has a scope with q.
+  record Behind (x : Ex) (gs : Gens) : Type 0 where
+    bind : NamesAreGens (λ a. true) (λ a. not (q a)) gs
+    scope : Text → Bool
+    ranging : Text → Bool
+    inside : Inside q scope
+    said : Scoped z scope ranging x
+
+  places-bind : {r : Names Bound} {es : Exs} {k : ℕ} → Places cells r es k → NamesAreExs (λ a. true) (λ a. not (q a)) es
+  places-bind no_place = tt
+  places-bind (at_a_number p) = (tt, places-bind p)
+  places-bind (at_a_name h p) = (refl, places-bind p)
+
+  set-binds : {r : Names Bound} {e : Ex} {k : Kind} → SetTerm cells r e k → NamesAre (λ a. true) (λ a. not (q a)) e
+  set-binds (view n f k p) = (written-named (λ a. true) (λ a. not (q a)) (keeps-written k), places-bind p)
+  set-binds (drawn h) = refl
+
+  mutual
+    binds-new : {r : Names Bound} {e : Ex} {m : Bool} (s o : Text → Bool) → Inside q s → Seen cells r e m → Scoped z s o e →
+        NamesAre (λ a. true) (λ a. not (q a)) e
+    binds-new s o i number h = tt
+    binds-new s o i truth h = tt
+    binds-new s o i (named p k) h = refl
+    binds-new s o i (cell p j) h = indices-bind s o i j h
+    binds-new s o i (atom k p) h = (written-named (λ a. true) (λ a. not (q a)) (keeps-written k), places-bind p)
+    binds-new s o i (one w f) h = (binds-new s o i f h.0, tt)
+    binds-new s o i (two w f g) h = (binds-new s o i f h.0, (binds-new s o i g h.1.0, tt))
+    binds-new s o i (power f g) h = (binds-new s o i f h.0, (binds-new s o i g h.1.0, tt))
+    binds-new s o i (chosen f) h = (binds-new s o i f h.0, tt)
+    binds-new s o i (folded {e = x} w g f) h =
+        let k = going-binds x s o i g h.0 in ((binds-new k.scope k.ranging k.inside f k.said, k.bind), tt)
+    binds-new s o i (added {e = x} g f) h =
+        let k = axes-bind x s o i g h.0 in ((binds-new k.scope k.ranging k.inside f k.said, k.bind), tt)
+    binds-new s o i (counted c) h = ((tt, counting-binds (number_ex (pos 1)) s o i c h.0), tt)
+    binds-new s o i (one_truth w f) h = ((binds-new s o i f h.0.0, tt), tt)
+    binds-new s o i (one_number f) h = ((binds-new s o i f h.0.0, tt), tt)
+    binds-new s o i (size v) h = (set-binds v, tt)
+    binds-new s o i (within f v) h = (binds-new s o i f h.0, (set-binds v, tt))
+
+    indices-bind : {r : Names Bound} {es : Exs} {k : ℕ} (s o : Text → Bool) → Inside q s → Indices cells r es k → ScopedExs z s o es →
+        NamesAreExs (λ a. true) (λ a. not (q a)) es
+    indices-bind s o i no_index h = tt
+    indices-bind s o i (one_index f j) h = (binds-new s o i f h.0, indices-bind s o i j h.1)
+
+    bounds-bind : {r : Names Bound} {es : Exs} (s o : Text → Bool) → Inside q s → Bounds cells r es → ScopedExs z s o es →
+        NamesAreExs (λ a. true) (λ a. not (q a)) es
+    bounds-bind s o i no_bound h = tt
+    bounds-bind s o i (one_bound f j) h = (binds-new s o i f h.0, bounds-bind s o i j h.1)
+
+    range-binds : {r : Names Bound} {d : Dom} {m : Bool} (s o : Text → Bool) → Inside q s → Range cells r d m → ScopedDom z s o d →
+        NamesAreDom (λ a. true) (λ a. not (q a)) d
+    range-binds s o i truths h = tt
+    range-binds s o i (numbers b bs) h = bounds-bind s o i bs h
+
+    going-binds : {r t : Names Bound} {gs : Gens} (x : Ex) (s o : Text → Bool) → Inside q s →
+        Going cells r gs t → ScopedGens z s o gs (λ b p. Scoped z b p x) → Behind x gs
+    going-binds x s o i at_end h = record { bind = tt; scope = s; ranging = o; inside = i; said = h }
+    going-binds x s o i (through {a = a} n g) h =
+        let k = going-binds x (with_names s (name_pat a)) (with_names o (name_pat a)) (inside-more q s a i) g h.2 in
+        record {
+          bind = (new-for q s a i h.0, range-binds s o i n h.1, k.bind);
+          scope = k.scope;
+          ranging = k.ranging;
+          inside = k.inside;
+          said = k.said;
+        }
+    going-binds x s o i (among {a = a} v g) h =
+        let k = going-binds x (with_names s (name_pat a)) o (inside-more q s a i) g h.2 in
+        record {
+          bind = (new-for q s a i h.0, set-binds v, k.bind);
+          scope = k.scope;
+          ranging = k.ranging;
+          inside = k.inside;
+          said = k.said;
+        }
+    going-binds x s o i (where_holds f g) h =
+        let k = going-binds x s o i g h.1 in
+        record { bind = (binds-new s o i f h.0, k.bind); scope = k.scope; ranging = k.ranging; inside = k.inside; said = k.said }
+
+    axes-bind : {r t : Names Bound} {gs : Gens} (x : Ex) (s o : Text → Bool) → Inside q s →
+        Axes cells r gs t → ScopedGens z s o gs (λ b p. Scoped z b p x) → Behind x gs
+    axes-bind x s o i no_axis h = record { bind = tt; scope = s; ranging = o; inside = i; said = h }
+    axes-bind x s o i (along {a = a} n g) h =
+        let k = axes-bind x (with_names s (name_pat a)) (with_names o (name_pat a)) (inside-more q s a i) g h.2 in
+        record {
+          bind = (new-for q s a i h.0, range-binds s o i n h.1, k.bind);
+          scope = k.scope;
+          ranging = k.ranging;
+          inside = k.inside;
+          said = k.said;
+        }
+
+    counting-binds : {r : Names Bound} {gs : Gens} (x : Ex) (s o : Text → Bool) → Inside q s →
+        Counting cells r gs → ScopedGens z s o gs (λ b p. Scoped z b p x) → NamesAreGens (λ a. true) (λ a. not (q a)) gs
+    counting-binds x s o i (members_of {a = a} v) h = (new-for q s a i h.0, set-binds v, tt)
+    counting-binds x s o i (in_use {a = a} n f) h = (
+      new-for q s a i h.0,
+      range-binds s o i n h.1,
+      (binds-new (with_names s (name_pat a)) (with_names o (name_pat a)) (inside-more q s a i) f h.2.0, tt),
+    )
+
+-- The names that such a tree binds are none of those in its scope.
+pub seen-binds-new : (cells : Text → Option (Bool × ℕ)) (r : Names Bound) (e : Ex) (m : Bool) → Seen cells r e m → (z s o : Text → Bool) →
+    Scoped z s o e → BindsNone s e
+seen-binds-new cells r e m f z s o h = binds-new cells z s s o (λ a g. g) f h

@@ -1,0 +1,204 @@
+-- Types of trees over views: of scalars those of their marks, of sets those of their kinds.
+use Rattle.std.proofs.Common.{◌≡◌, refl, ap, ◌∙◌, ℕ, Bool, true, false, if◌then◌else◌, List, [], ◌∷◌, pos, Option, Some, option_map}
+use Rattle.ess_semantics.specs.declared.words.Op1.{Op1}
+use Rattle.ess_semantics.specs.declared.words.Op2.{Op2}
+use Rattle.ess_semantics.specs.declared.words.Fun.{Fun}
+use Rattle.ess_semantics.specs.Lists.{and_then, all_some}
+use Rattle.ess_semantics.specs.Values.{Text, a_set, a_matrix}
+use Rattle.ess_semantics.specs.Names.{Names, look}
+use Rattle.ess_semantics.specs.Trees.{unary, binary, word, matrix_literal, Ex, number_ex, comp_ex, Gens, no_gens, cond, Dom, no_exs, more_exs}
+use Rattle.ess_semantics.specs.Types.{Ty, bool_ty, int_ty, compound1, compound2, join, type_of_dom, or_any}
+use Rattle.ess_semantics.specs.OperatorTypes.{type_of_op, member_ty}
+use Rattle.ess_semantics.specs.Typing.{type_of, types_under, number_cell_ty, source_ty}
+use Rattle.ess_semantics.specs.NamesAt.{names_behind}
+use Rattle.ess_rules_laws.specs.SourceRules.{list_of}
+use Rattle.ess_flat_laws.specs.Flat.{OneOp, denied, negative, absolute, TwoOp, both, either, implied, agreeing, equal, unequal, below, at_most, above, at_least, sum, difference, product}
+use Rattle.ess_bare_laws.specs.Bare.{TruthWord, all_hold, some_holds}
+use Rattle.ess_seen_laws.specs.Seen.{Kind, scalars, sets_of, kind_ty, Bound, from_a_set, bound_types, as_an_atom, SetTerm, view, drawn, Seen, number, truth, named, cell, atom, one, two, power, chosen, folded, added, counted, one_truth, one_number, size, within, Going, at_end, through, among, where_holds, Axes, no_axis, along, Counting, members_of, in_use, Range, truths, numbers}
+use Rattle.ess_seen_laws.specs.SeenParts.{Items, truths_listed, numbers_listed, ones_listed, item_listed}
+use Rattle.ess_seen_laws.proofs.Lookups.{look-bound, number-cell}
+use Rattle.ess_seen_laws.proofs.Written.{keeps-written, written-type, atom-type}
+
+-- The type of a scalar.
+abbrev pub mark : Bool → Ty
+mark m = kind_ty (scalars m)
+
+-- ---- operators
+
+one-type : {b m : Bool} {o : Op1} → OneOp b o m → and_then (all_some (Some (mark m) ∷ [])) (type_of_op (unary o)) ≡ Some (mark b)
+one-type denied = refl
+one-type negative = refl
+one-type absolute = refl
+
+two-type : {b m k : Bool} {o : Op2} → TwoOp b o m k →
+    and_then (all_some (Some (mark m) ∷ Some (mark k) ∷ [])) (type_of_op (binary o)) ≡ Some (mark b)
+two-type both = refl
+two-type either = refl
+two-type implied = refl
+two-type agreeing = refl
+two-type (equal {m = true}) = refl
+two-type (equal {m = false}) = refl
+two-type (unequal {m = true}) = refl
+two-type (unequal {m = false}) = refl
+two-type (below {m = true}) = refl
+two-type (below {m = false}) = refl
+two-type (at_most {m = true}) = refl
+two-type (at_most {m = false}) = refl
+two-type (above {m = true}) = refl
+two-type (above {m = false}) = refl
+two-type (at_least {m = true}) = refl
+two-type (at_least {m = false}) = refl
+two-type sum = refl
+two-type difference = refl
+two-type product = refl
+
+member-type : (m : Bool) →
+    and_then (all_some (Some (mark m) ∷ Some (compound1 a_set (mark m)) ∷ [])) (type_of_op (binary Op2.Member)) ≡ Some bool_ty
+member-type true = refl
+member-type false = refl
+
+fold-type : {f : Fun} → TruthWord f →
+    and_then (all_some (Some (compound2 a_matrix int_ty bool_ty) ∷ [])) (type_of_op (word f)) ≡ Some bool_ty
+fold-type all_hold = refl
+fold-type some_holds = refl
+
+item-type : (m : Bool) → and_then (all_some (Some (mark m) ∷ [])) (type_of_op matrix_literal) ≡ Some (compound2 a_matrix int_ty (mark m))
+item-type true = refl
+item-type false = refl
+
+-- One operand, and two, of these types.
+at-one : (f : List Ty → Option Ty) (t : Option Ty) (u : Ty) → t ≡ Some u →
+    and_then (all_some (t ∷ [])) f ≡ and_then (all_some (Some u ∷ [])) f
+at-one f t u q = ap (λ o. and_then (all_some (o ∷ [])) f) q
+
+at-two : (f : List Ty → Option Ty) (t : Option Ty) (u : Ty) (v : Option Ty) (w : Ty) → t ≡ Some u → v ≡ Some w →
+    and_then (all_some (t ∷ v ∷ [])) f ≡ and_then (all_some (Some u ∷ Some w ∷ [])) f
+at-two f t u v w q p =
+    ap (λ o. and_then (all_some (o ∷ v ∷ [])) f) q ∙ ap (λ o. and_then (all_some (Some u ∷ o ∷ [])) f) p
+
+cell-type : (b : Bool) (t : Ty) → t ≡ int_ty → (if b then bool_ty else t) ≡ mark b
+cell-type true t q = refl
+cell-type false t q = q
+
+-- A comprehension, by what its generators bind.
+list-type : (o : Option (Names Ty)) (h : Names Ty) (e : Ex) (t : Ty) → o ≡ Some h → type_of e h ≡ Some t →
+    and_then o (λ g. option_map (compound2 a_matrix int_ty) (type_of e g)) ≡ Some (compound2 a_matrix int_ty t)
+list-type o h e t q p =
+    ap (λ v. and_then v (λ g. option_map (compound2 a_matrix int_ty) (type_of e g))) q ∙ ap (option_map (compound2 a_matrix int_ty)) p
+
+-- A source, by the type of the set.
+under-type : (o : Option Ty) (k : Kind) (f : Ty → Option (Names Ty)) → o ≡ Some (compound1 a_set (kind_ty k)) →
+    and_then (and_then o member_ty) f ≡ f (kind_ty k)
+under-type o k f q = ap (λ v. and_then (and_then v member_ty) f) q
+
+source-type : (o : Option Ty) (k : Kind) → o ≡ Some (compound1 a_set (kind_ty k)) → or_any (and_then o member_ty) ≡ kind_ty k
+source-type o k q = ap (λ v. or_any (and_then v member_ty)) q
+
+-- A condition, by its type.
+where-type : (o : Option Ty) (n : Option (Names Ty)) → o ≡ Some bool_ty →
+    and_then o (λ t. and_then (join t bool_ty) (λ u. n)) ≡ n
+where-type o n q = ap (λ v. and_then v (λ t. and_then (join t bool_ty) (λ u. n))) q
+
+-- The type of what a domain of a generator binds.
+pub range-type : {cells : Text → Option (Bool × ℕ)} (r : Names Bound) (d : Dom) (m : Bool) → Range cells r d m → type_of_dom d ≡ mark m
+range-type r d m truths = refl
+range-type r d m (numbers b es) = refl
+
+module _ (cells : Text → Option (Bool × ℕ)) where
+  -- The type of a set is that of sets of its kind.
+  pub set-type : {r : Names Bound} {e : Ex} {k : Kind} → SetTerm cells r e k →
+      type_of e (bound_types r) ≡ Some (compound1 a_set (kind_ty k))
+  set-type (view {d = d} n f k p) = ap Some (written-type (keeps-written k))
+  set-type {r} (drawn {a = a} {k = k} q) = look-bound r a (from_a_set (sets_of k)) q
+
+  mutual
+    -- The type of a scalar is that of its mark.
+    pub seen-type : {r : Names Bound} {e : Ex} {m : Bool} → Seen cells r e m → type_of e (bound_types r) ≡ Some (mark m)
+    seen-type number = refl
+    seen-type truth = refl
+    seen-type {r} (named {a = a} {b = b} q k) = look-bound r a b q ∙ ap (λ j. Some (kind_ty j)) k
+    seen-type {r} (cell {b = b} {n = n} q i) = ap Some (cell-type b (number_cell_ty (look (bound_types r) n)) (number-cell r n))
+    seen-type (atom {d = d} (as_an_atom h q) p) = ap Some (atom-type d h)
+    seen-type {r} (one {m = k} {o = o} {x = x} w f) =
+        at-one (type_of_op (unary o)) (type_of x (bound_types r)) (mark k) (seen-type f) ∙ one-type w
+    seen-type {r} (two {m = i} {k = k} {o = o} {x = x} {y = y} w f g) =
+        at-two (type_of_op (binary o)) (type_of x (bound_types r)) (mark i) (type_of y (bound_types r)) (mark k) (seen-type f) (seen-type g)
+        ∙ two-type w
+    seen-type {r} (power {x = x} {y = y} f g) =
+        at-two (type_of_op (binary Op2.Pow)) (type_of x (bound_types r)) int_ty (type_of y (bound_types r)) int_ty
+        (seen-type f) (seen-type g)
+    seen-type {r} (chosen {x = x} f) = at-one (type_of_op (word Fun.ToInt)) (type_of x (bound_types r)) bool_ty (seen-type f)
+    seen-type {r} (folded {t = t} {f = w} {e = e} {gs = gs} v g f) =
+        at-one (type_of_op (word w)) (type_of (comp_ex e gs) (bound_types r)) (compound2 a_matrix int_ty bool_ty)
+        (list-type (types_under gs (bound_types r)) (bound_types t) e bool_ty (going-under g) (seen-type f)) ∙ fold-type v
+    seen-type {r} (added {t = t} {e = e} {gs = gs} g f) =
+        at-one (type_of_op (word Fun.Sum)) (type_of (comp_ex e gs) (bound_types r)) (compound2 a_matrix int_ty int_ty)
+        (list-type (types_under gs (bound_types r)) (bound_types t) e int_ty (axes-under g) (seen-type f))
+    seen-type {r} (counted {gs = gs} c) =
+        at-one (type_of_op (word Fun.Sum)) (type_of (comp_ex (number_ex (pos 1)) gs) (bound_types r)) (compound2 a_matrix int_ty int_ty)
+        (counting-type c)
+    seen-type {r} (one_truth {f = w} {e = e} v f) =
+        at-one (type_of_op (word w)) (type_of (list_of (more_exs e no_exs)) (bound_types r)) (compound2 a_matrix int_ty bool_ty)
+        (at-one (type_of_op matrix_literal) (type_of e (bound_types r)) bool_ty (seen-type f)) ∙ fold-type v
+    seen-type {r} (one_number {e = e} f) =
+        at-one (type_of_op (word Fun.Sum)) (type_of (list_of (more_exs e no_exs)) (bound_types r)) (compound2 a_matrix int_ty int_ty)
+        (at-one (type_of_op matrix_literal) (type_of e (bound_types r)) int_ty (seen-type f))
+    seen-type {r} (size {k = k} {s = s} v) =
+        at-one (type_of_op (unary Op1.Bar)) (type_of s (bound_types r)) (compound1 a_set (kind_ty k)) (set-type v)
+    seen-type {r} (within {m = m} {a = a} {s = s} f v) =
+        at-two (type_of_op (binary Op2.Member)) (type_of a (bound_types r)) (mark m) (type_of s (bound_types r)) (compound1 a_set (mark m))
+        (seen-type f) (set-type v) ∙ member-type m
+
+    -- Generators bind names of these types.
+    pub going-under : {r t : Names Bound} {gs : Gens} → Going cells r gs t → types_under gs (bound_types r) ≡ Some (bound_types t)
+    going-under at_end = refl
+    going-under {r} (through {m = m} {a = a} {d = d} {gs = gs} n g) =
+        ap (λ t. types_under gs ((a, t) ∷ bound_types r)) (range-type r d m n) ∙ going-under g
+    going-under {r} (among {k = k} {a = a} {s = s} {gs = gs} v g) =
+        under-type (type_of s (bound_types r)) k (λ t. types_under gs ((a, t) ∷ bound_types r)) (set-type v) ∙ going-under g
+    going-under {r} (where_holds {c = c} {gs = gs} f g) =
+        where-type (type_of c (bound_types r)) (types_under gs (bound_types r)) (seen-type f) ∙ going-under g
+
+    axes-under : {r t : Names Bound} {gs : Gens} → Axes cells r gs t → types_under gs (bound_types r) ≡ Some (bound_types t)
+    axes-under no_axis = refl
+    axes-under {r} (along {m = m} {a = a} {d = d} {gs = gs} n g) =
+        ap (λ t. types_under gs ((a, t) ∷ bound_types r)) (range-type r d m n) ∙ axes-under g
+
+    counting-type : {r : Names Bound} {gs : Gens} → Counting cells r gs →
+        and_then (types_under gs (bound_types r)) (λ h. Some (compound2 a_matrix int_ty int_ty)) ≡ Some (compound2 a_matrix int_ty int_ty)
+    counting-type {r} (members_of {k = k} {a = a} {s = s} v) =
+        ap (λ o. and_then o (λ h. Some (compound2 a_matrix int_ty int_ty)))
+        (under-type (type_of s (bound_types r)) k (λ t. Some ((a, t) ∷ bound_types r)) (set-type v))
+    counting-type {r} (in_use {m = m} {a = a} {d = d} {c = c} n f) =
+        ap (λ o. and_then o (λ h. Some (compound2 a_matrix int_ty int_ty)))
+        (ap (λ t. types_under (cond c no_gens) ((a, t) ∷ bound_types r)) (range-type r d m n)
+        ∙ where-type (type_of c ((a, mark m) ∷ bound_types r)) (Some ((a, mark m) ∷ bound_types r)) (seen-type f))
+
+  -- The type of a list is that of lists of its items.
+  pub items-type : {r : Names Bound} {e : Ex} {m : Bool} → Items cells r e m →
+      type_of e (bound_types r) ≡ Some (compound2 a_matrix int_ty (mark m))
+  items-type {r} (truths_listed {t = t} {e = e} {gs = gs} g f) =
+      list-type (types_under gs (bound_types r)) (bound_types t) e bool_ty (going-under g) (seen-type f)
+  items-type {r} (numbers_listed {t = t} {e = e} {gs = gs} g f) =
+      list-type (types_under gs (bound_types r)) (bound_types t) e int_ty (axes-under g) (seen-type f)
+  items-type (ones_listed c) = counting-type c
+  items-type {r} (item_listed {m = m} {e = e} f) =
+      at-one (type_of_op matrix_literal) (type_of e (bound_types r)) (mark m) (seen-type f) ∙ item-type m
+
+  -- So are the types of names behind generators.
+  pub going-behind : {r t : Names Bound} {gs : Gens} → Going cells r gs t → names_behind gs (bound_types r) ≡ bound_types t
+  going-behind at_end = refl
+  going-behind {r} (through {m = m} {a = a} {d = d} {gs = gs} n g) =
+      ap (λ t. names_behind gs ((a, t) ∷ bound_types r)) (range-type r d m n) ∙ going-behind g
+  going-behind {r} (among {k = k} {a = a} {s = s} {gs = gs} v g) =
+      ap (λ t. names_behind gs ((a, t) ∷ bound_types r)) (source-type (type_of s (bound_types r)) k (set-type v)) ∙ going-behind g
+  going-behind (where_holds f g) = going-behind g
+
+  -- Axes are generators.
+  pub axes-going : {r t : Names Bound} {gs : Gens} → Axes cells r gs t → Going cells r gs t
+  axes-going no_axis = at_end
+  axes-going (along n g) = through n (axes-going g)
+
+  -- What a source gives to a name is of the kind of its members.
+  pub source-said : {r : Names Bound} {e : Ex} {k : Kind} → SetTerm cells r e k → source_ty e (bound_types r) ≡ kind_ty k
+  source-said {r} {e} {k} s = source-type (type_of e (bound_types r)) k (set-type s)

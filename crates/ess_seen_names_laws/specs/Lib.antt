@@ -1,0 +1,4 @@
+-- What rules make
+pub mod Shapes
+-- Their laws
+pub mod Laws

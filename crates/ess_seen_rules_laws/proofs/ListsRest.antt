@@ -1,0 +1,122 @@
+-- No rule fires at a list: of what is folded or counted, or of one item.
+use Rattle.std.proofs.Common.{◌≡◌, refl, ap, ℕ, Bool, false, Option, Some, None}
+use Rattle.ess_semantics.specs.Lists.{and_then}
+use Rattle.ess_semantics.specs.Values.{Text}
+use Rattle.ess_semantics.specs.Names.{Names}
+use Rattle.ess_semantics.specs.NamesAt.{names_behind}
+use Rattle.std.specs.Prelude.{pos}
+use Rattle.ess_semantics.specs.Trees.{matrix_literal, Ex, number_ex, comp_ex, no_exs, more_exs, Gens}
+use Rattle.ess_semantics.specs.Types.{Ty}
+use Rattle.ess_rules_laws.specs.SourceRules.{list_of}
+use Rattle.ess_refine_laws.specs.AllRules.{Supply, Rule, rewrite, over_nothing}
+use Rattle.ess_kind_rules_laws.specs.TermLookups.{picks}
+use Rattle.ess_kind_rules_laws.specs.KindRules.{KindRule, kind_rewrite, cell_of_an_atom, of_what_is_picked}
+use Rattle.ess_open_rules_laws.specs.OpenGenerators.{Opened, at_first_open, put_before}
+use Rattle.ess_open_rules_laws.specs.OpenSources.{kept_behind, kept_in_order}
+use Rattle.ess_open_rules_laws.specs.OpenRules.{KindRuling, of_kind, of_opening, kind_ruled, OpenRule, open_rewrite, step_by_step, of_a_pick, in_order_of_its_source}
+use Rattle.ess_bare_laws.proofs.Picks.{no-kind, no-open}
+use Rattle.ess_seen_laws.specs.Seen.{Bound, Seen, view, drawn, Going, at_end, through, among, where_holds, Axes, no_axis, along, truths, numbers, Counting, members_of, in_use}
+use Rattle.ess_seen_laws.specs.SeenParts.{Items, truths_listed, numbers_listed, ones_listed, item_listed}
+use Rattle.ess_seen_rules_laws.specs.Laws.{NoneFires}
+use Rattle.ess_seen_rules_laws.proofs.Allowed.{Allowed, allowed-not}
+use Rattle.ess_seen_rules_laws.proofs.Picks.{seen-picks}
+use Rattle.ess_seen_rules_laws.proofs.Sources.{OpensAtSet, opens-at-set, not-kept}
+use Rattle.ess_seen_rules_laws.proofs.OrderRules.{no-order-list, no-order-item}
+
+-- ---- generators
+
+module _ (cells : Text → Option (Bool × ℕ)) where
+  -- Axes are generators of folds.
+  pub axes-go : {r t : Names Bound} {gs : Gens} → Axes cells r gs t → Going cells r gs t
+  axes-go no_axis = at_end
+  axes-go (along n k) = through n (axes-go k)
+
+  -- So is what is counted.
+  pub counting-goes : {r : Names Bound} {gs : Gens} → Counting cells r gs → (t : Names Bound) × Going cells r gs t
+  counting-goes {r} (members_of {k = k} {a = a} h) = (_, among h at_end)
+  counting-goes {r} (in_use {m = m} {a = a} n f) = (_, through n (where_holds f at_end))
+
+  module _ (s : Supply) (g : Names Ty) (r : Names Bound) where
+    plain-list : {t : Names Bound} {gs : Gens} (e : Ex) → Going cells r gs t → (u : Rule) → Allowed false (rewrite s g u (comp_ex e gs))
+    plain-list e at_end over_nothing = tt
+    plain-list e (through truths k) over_nothing = tt
+    plain-list e (through (numbers b es) k) over_nothing = tt
+    plain-list e (among (view a b c d) k) over_nothing = tt
+    plain-list e (among (drawn h) k) over_nothing = tt
+    plain-list e (where_holds f k) over_nothing = tt
+    plain-list e k u = tt
+
+    kind-list : {t : Names Bound} {gs : Gens} (e : Ex) → Going cells r gs t → (u : KindRule) →
+        Allowed false (kind_rewrite s g u (comp_ex e gs))
+    kind-list e k cell_of_an_atom = tt
+    kind-list e k u = tt
+
+    -- But of what is opened in order, which is looked at by itself.
+    abbrev NotInOrder : OpenRule → Option Ex → Type 0
+    NotInOrder in_order_of_its_source o = Unit {0}
+    NotInOrder u o = Allowed false o
+
+    open-list : {t : Names Bound} {gs : Gens} (e : Ex) → Going cells r gs t → (u : OpenRule) →
+        NotInOrder u (open_rewrite s g u (comp_ex e gs))
+    open-list e k step_by_step = tt
+    open-list e k u = tt
+
+    in-order : (e : Ex) (gs : Gens) → OpensAtSet (at_first_open gs) → kept_behind s g (comp_ex e gs) ≡ None
+    in-order e gs h = go (at_first_open gs) h
+      where
+        go : (o : Option Opened) → OpensAtSet o →
+            and_then o (λ t. and_then (kept_in_order s (names_behind t.before g) (comp_ex e t.after)) (put_before t.before)) ≡ None
+        go None h = refl
+        go (Some t) h = ap (λ o. and_then o (put_before t.before)) (not-kept s (names_behind t.before g) e t.after h)
+
+    opens-list : {t : Names Bound} {gs : Gens} (e : Ex) → Going cells r gs t → (u : OpenRule) → open_rewrite s g u (comp_ex e gs) ≡ None
+    opens-list {gs = gs} e k in_order_of_its_source = in-order e gs (opens-at-set cells k)
+    opens-list e k u = allowed-not _ (open-list e k u)
+
+    kinds-list : {t : Names Bound} {gs : Gens} (e : Ex) → Going cells r gs t → (u : KindRuling) → kind_ruled s g u (comp_ex e gs) ≡ None
+    kinds-list e k (of_kind u) = allowed-not _ (kind-list e k u)
+    kinds-list e k (of_opening u) = opens-list e k u
+
+  -- None fires at a comprehension.
+  comps-rest : {r t : Names Bound} {gs : Gens} (e : Ex) → Going cells r gs t → NoneFires (comp_ex e gs)
+  comps-rest {r} {gs = gs} e k = record {
+    plainly = λ s g u. allowed-not _ (plain-list s g r e k u);
+    by_kind = λ s g u. kinds-list s g r e k u;
+    gathering = refl;
+    in_order = λ s g u. no-order-list s g e gs (opens-at-set cells k) u;
+  }
+
+-- ---- one item
+
+module _ (s : Supply) (g : Names Ty) (e : Ex) (p : picks e ≡ false) where
+  plain-item : (u : Rule) → Allowed false (rewrite s g u (list_of (more_exs e no_exs)))
+  plain-item over_nothing = tt
+  plain-item u = tt
+
+  kind-item : (u : KindRule) → kind_rewrite s g u (list_of (more_exs e no_exs)) ≡ None
+  kind-item of_what_is_picked = no-kind s g false matrix_literal (more_exs e no_exs) (p, tt)
+  kind-item u = refl
+
+  open-item : (u : OpenRule) → open_rewrite s g u (list_of (more_exs e no_exs)) ≡ None
+  open-item of_a_pick = no-open s g false matrix_literal (more_exs e no_exs) (p, tt)
+  open-item u = refl
+
+  kinds-item : (u : KindRuling) → kind_ruled s g u (list_of (more_exs e no_exs)) ≡ None
+  kinds-item (of_kind u) = kind-item u
+  kinds-item (of_opening u) = open-item u
+
+module _ (cells : Text → Option (Bool × ℕ)) (r : Names Bound) where
+  item-rests : {e : Ex} {m : Bool} → Seen cells r e m → NoneFires (list_of (more_exs e no_exs))
+  item-rests {e} f = record {
+    plainly = λ s g u. allowed-not _ (plain-item s g e (seen-picks cells r f) u);
+    by_kind = λ s g u. kinds-item s g e (seen-picks cells r f) u;
+    gathering = refl;
+    in_order = λ s g u. no-order-item s g cells r f u;
+  }
+
+  -- None fires at a list.
+  pub lists-rest : (e : Ex) (m : Bool) → Items cells r e m → NoneFires e
+  lists-rest e m (truths_listed {e = x} k f) = comps-rest cells x k
+  lists-rest e m (numbers_listed {e = x} k f) = comps-rest cells x (axes-go cells k)
+  lists-rest e m (ones_listed k) = comps-rest cells (number_ex (pos 1)) (counting-goes cells k).1
+  lists-rest e m (item_listed f) = item-rests f

@@ -1,0 +1,150 @@
+-- Of the rules of sources at the first generator that isn't plain, of what is picked, of relations applied and of several steps only those
+-- that are told fire at the root of a tree over views.
+use Rattle.std.proofs.Common.{◌≡◌, refl, ap, ℕ, Bool, true, false, Option, Some, None, option_map}
+use Rattle.ess_semantics.specs.declared.words.Fun.{Fun}
+use Rattle.ess_semantics.specs.Lists.{and_then}
+use Rattle.ess_semantics.specs.Values.{Text}
+use Rattle.ess_semantics.specs.Names.{Names}
+use Rattle.ess_semantics.specs.Trees.{Ex, comp_ex, fun1, Gens}
+use Rattle.ess_semantics.specs.Types.{Ty}
+use Rattle.ess_rules_laws.specs.SpliceRules.{append_gens}
+use Rattle.ess_refine_laws.specs.AllRules.{Supply}
+use Rattle.ess_open_rules_laws.specs.OpenGenerators.{Opened, at_first_open}
+use Rattle.ess_open_rules_laws.specs.OpenSources.{forgets_repeats, loose_source, seen_loosely}
+use Rattle.ess_open_rules_laws.specs.OpenRules.{OpenRule, open_rewrite, step_by_step, of_a_pick, without_repeats}
+use Rattle.ess_flat_laws.specs.Flat.{denied, negative, absolute, both, either, implied, agreeing, equal, unequal, below, at_most, above, at_least, sum, difference, product}
+use Rattle.ess_bare_laws.specs.Bare.{TruthWord, all_hold, some_holds}
+use Rattle.ess_bare_laws.proofs.Picks.{either-way}
+use Rattle.ess_seen_laws.specs.Seen.{Bound, view, drawn, Seen, number, truth, named, cell, atom, one, two, power, chosen, folded, added, counted, one_truth, one_number, size, within, Going, at_end, through, among, where_holds, no_axis, along, Counting, members_of, in_use}
+use Rattle.ess_seen_rules_laws.specs.MayFire.{may_fire_at_sources}
+use Rattle.ess_seen_rules_laws.proofs.Allowed.{Allowed, allowed-none}
+use Rattle.ess_seen_rules_laws.proofs.Picks.{operands-pick, picks-no-open}
+use Rattle.ess_seen_rules_laws.proofs.Sources.{OpensAtSet, opens-at-set, not-loose}
+
+-- An answer that may be, but of the rules that are looked at by themselves.
+abbrev Told : OpenRule → Option Ex → Type 0
+Told of_a_pick o = Unit {0}
+Told without_repeats o = Unit {0}
+Told u o = Allowed (may_fire_at_sources u) o
+
+-- At words of comprehensions whose first source is a set.
+loosely : (m : Bool) (f : Fun) (e : Ex) (gs : Gens) → OpensAtSet (at_first_open gs) → seen_loosely (fun1 m f (comp_ex e gs)) ≡ None
+loosely m f e gs h = either-way (forgets_repeats m f) _ (go (at_first_open gs) h)
+  where
+    go : (o : Option Opened) → OpensAtSet o →
+        and_then o (λ t. option_map (λ hs. fun1 m f (comp_ex e (append_gens t.before hs))) (loose_source t.after)) ≡ None
+    go None h = refl
+    go (Some t) h = ap (option_map (λ hs. fun1 m f (comp_ex e (append_gens t.before hs)))) (not-loose t.after h)
+
+module _ (cells : Text → Option (Bool × ℕ)) (s : Supply) (g : Names Ty) (r : Names Bound) where
+  abbrev F : Ex → Bool → Type 0
+  F = Seen cells r
+
+  abbrev A : Ex → OpenRule → Type 0
+  A e u = Told u (open_rewrite s g u e)
+
+  -- At `toInt`.
+  at-chosen : {x : Ex} {m : Bool} → F x m → (u : OpenRule) → A (fun1 false Fun.ToInt x) u
+  at-chosen number step_by_step = tt
+  at-chosen truth step_by_step = tt
+  at-chosen (named h k) step_by_step = tt
+  at-chosen (cell h i) step_by_step = tt
+  at-chosen (atom h p) step_by_step = tt
+  at-chosen (one o f) step_by_step = tt
+  at-chosen (two o f h) step_by_step = tt
+  at-chosen (power f h) step_by_step = tt
+  at-chosen (chosen f) step_by_step = tt
+  at-chosen (folded w k f) step_by_step = tt
+  at-chosen (added k f) step_by_step = tt
+  at-chosen (counted k) step_by_step = tt
+  at-chosen (one_truth w f) step_by_step = tt
+  at-chosen (one_number f) step_by_step = tt
+  at-chosen (size h) step_by_step = tt
+  at-chosen (within f h) step_by_step = tt
+  at-chosen f u = tt
+
+  -- At a fold of truth values, and at a count.
+  at-truths : {t : Names Bound} {w : Fun} {gs : Gens} (e : Ex) → TruthWord w → Going cells r gs t → (u : OpenRule) →
+      A (fun1 true w (comp_ex e gs)) u
+  at-truths e all_hold at_end step_by_step = tt
+  at-truths e all_hold (through n k) step_by_step = tt
+  at-truths e all_hold (among (view a b c d) k) step_by_step = tt
+  at-truths e all_hold (among (drawn h) k) step_by_step = tt
+  at-truths e all_hold (where_holds f k) step_by_step = tt
+  at-truths e some_holds at_end step_by_step = tt
+  at-truths e some_holds (through n k) step_by_step = tt
+  at-truths e some_holds (among (view a b c d) k) step_by_step = tt
+  at-truths e some_holds (among (drawn h) k) step_by_step = tt
+  at-truths e some_holds (where_holds f k) step_by_step = tt
+  at-truths e w k u = tt
+
+  at-counted : {gs : Gens} (e : Ex) → Counting cells r gs → (u : OpenRule) → A (fun1 false Fun.Sum (comp_ex e gs)) u
+  at-counted e (members_of (view a b c d)) step_by_step = tt
+  at-counted e (members_of (drawn h)) step_by_step = tt
+  at-counted e (in_use n f) step_by_step = tt
+  at-counted e k u = tt
+
+  at-root : {e : Ex} {m : Bool} → F e m → (u : OpenRule) → A e u
+  at-root number step_by_step = tt
+  at-root truth step_by_step = tt
+  at-root (named h k) step_by_step = tt
+  at-root (cell h i) step_by_step = tt
+  at-root (atom h p) step_by_step = tt
+  at-root (one denied f) step_by_step = tt
+  at-root (one negative f) step_by_step = tt
+  at-root (one absolute f) step_by_step = tt
+  at-root (two both f h) step_by_step = tt
+  at-root (two either f h) step_by_step = tt
+  at-root (two implied f h) step_by_step = tt
+  at-root (two agreeing f h) step_by_step = tt
+  at-root (two equal f h) step_by_step = tt
+  at-root (two unequal f h) step_by_step = tt
+  at-root (two below f h) step_by_step = tt
+  at-root (two at_most f h) step_by_step = tt
+  at-root (two above f h) step_by_step = tt
+  at-root (two at_least f h) step_by_step = tt
+  at-root (two sum f h) step_by_step = tt
+  at-root (two difference f h) step_by_step = tt
+  at-root (two product f h) step_by_step = tt
+  at-root (power f h) step_by_step = tt
+  at-root (chosen f) u = at-chosen f u
+  at-root (folded {e = e} w k f) u = at-truths e w k u
+  at-root (added no_axis f) step_by_step = tt
+  at-root (added (along n k) f) step_by_step = tt
+  at-root (counted k) u = at-counted _ k u
+  at-root (one_truth all_hold f) step_by_step = tt
+  at-root (one_truth some_holds f) step_by_step = tt
+  at-root (one_number f) step_by_step = tt
+  at-root (size h) step_by_step = tt
+  at-root (within f h) step_by_step = tt
+  at-root f u = tt
+
+  -- No source is made of another container.
+  chosen-loose : {x : Ex} {m : Bool} → F x m → seen_loosely (fun1 false Fun.ToInt x) ≡ None
+  chosen-loose number = refl
+  chosen-loose truth = refl
+  chosen-loose (named h k) = refl
+  chosen-loose (cell h i) = refl
+  chosen-loose (atom h p) = refl
+  chosen-loose (one o f) = refl
+  chosen-loose (two o f h) = refl
+  chosen-loose (power f h) = refl
+  chosen-loose (chosen f) = refl
+  chosen-loose (folded w k f) = refl
+  chosen-loose (added k f) = refl
+  chosen-loose (counted k) = refl
+  chosen-loose (one_truth w f) = refl
+  chosen-loose (one_number f) = refl
+  chosen-loose (size h) = refl
+  chosen-loose (within f h) = refl
+
+  no-loose : {e : Ex} {m : Bool} → F e m → seen_loosely e ≡ None
+  no-loose (chosen f) = chosen-loose f
+  no-loose (folded {f = f} {e = e} {gs = gs} w k h) = loosely true f e gs (opens-at-set cells k)
+  no-loose f = refl
+
+  -- What each answers.
+  pub open-allowed : {e : Ex} {m : Bool} → F e m → (u : OpenRule) → Allowed (may_fire_at_sources u) (open_rewrite s g u e)
+  open-allowed {e} f of_a_pick = allowed-none false _ (picks-no-open s g e (operands-pick cells r f))
+  open-allowed f without_repeats = allowed-none false _ (no-loose f)
+  open-allowed f u = at-root f u

@@ -1,0 +1,146 @@
+-- No rule of comprehensions whose items have an order fires at a tree over views, at a set or at a list.
+use Rattle.std.proofs.Common.{◌≡◌, refl, ap, ◌∙◌, ℕ, Bool, true, false, ◌&&◌, if◌then◌else◌, List, [], ◌∷◌, Option, Some, None}
+use Rattle.ess_semantics.specs.Lists.{and_then, or_else}
+use Rattle.ess_semantics.specs.Values.{Text}
+use Rattle.ess_semantics.specs.Names.{Names}
+use Rattle.ess_semantics.specs.NamesAt.{names_behind}
+use Rattle.ess_semantics.specs.declared.words.Op1.{Op1}
+use Rattle.ess_semantics.specs.declared.words.Op2.{Op2}
+use Rattle.ess_semantics.specs.declared.words.Fun.{Fun}
+use Rattle.std.specs.Prelude.{pos}
+use Rattle.ess_semantics.specs.Trees.{Op, unary, binary, word, matrix_literal, Ex, Exs, number_ex, node_ex, comp_ex, no_exs, more_exs, Gens}
+use Rattle.ess_semantics.specs.Types.{Ty}
+use Rattle.ess_semantics.specs.Typing.{type_of}
+use Rattle.ess_rules_laws.specs.SourceRules.{list_of}
+use Rattle.ess_rules_laws.specs.AlternativeLookups.{select_each, select_whole_each}
+use Rattle.ess_refine_laws.specs.AllRules.{Supply}
+use Rattle.ess_open_rules_laws.specs.OpenGenerators.{Opened, at_first_open, put_before}
+use Rattle.ess_open_rules_laws.specs.OpenRules.{gives_scalar, is_compound_ty}
+use Rattle.ess_ordered_laws.specs.NumberedItems.{ordered_lookup}
+use Rattle.ess_ordered_laws.specs.IndexedSources.{indexed_source}
+use Rattle.ess_ordered_laws.specs.OrderedRules.{OrderedRule, an_item, of_an_item, source_by_indices, over_operand, at_operand, ordered_rewrite}
+use Rattle.ess_seen_laws.specs.Seen.{Kind, Bound, SetTerm, view, drawn, Seen, number, truth, named, cell, atom, one, two, power, chosen, folded, added, counted, one_truth, one_number, size, within}
+use Rattle.ess_seen_rules_laws.proofs.Sources.{OpensAtSet, not-indexed}
+
+-- Nothing is looked up.
+abbrev NoLookup : Ex → Type 0
+NoLookup e = (z : Text) (ys : List Text) → ordered_lookup z ys e ≡ None
+
+list-lookup : (e : Ex) (gs : Gens) → NoLookup (comp_ex e gs)
+list-lookup e gs z [] = refl
+list-lookup e gs z (y ∷ ys) = refl
+
+item-lookup : (es : Exs) → NoLookup (list_of es)
+item-lookup es z [] = refl
+item-lookup es z (y ∷ ys) = refl
+
+neither : (o p : Option Ex) → o ≡ None → p ≡ None → or_else o p ≡ None
+neither o p a b = ap (λ x. or_else x p) a ∙ b
+
+module _ (cells : Text → Option (Bool × ℕ)) (r : Names Bound) where
+  seen-lookup : {e : Ex} {m : Bool} → Seen cells r e m → NoLookup e
+  seen-lookup f z [] = refl
+  seen-lookup number z (y ∷ ys) = refl
+  seen-lookup truth z (y ∷ ys) = refl
+  seen-lookup (named h k) z (y ∷ ys) = refl
+  seen-lookup (cell h i) z (y ∷ ys) = refl
+  seen-lookup (atom h p) z (y ∷ ys) = refl
+  seen-lookup (one o f) z (y ∷ ys) = refl
+  seen-lookup (two o f h) z (y ∷ ys) = refl
+  seen-lookup (power f h) z (y ∷ ys) = refl
+  seen-lookup (chosen f) z (y ∷ ys) = refl
+  seen-lookup (folded w k f) z (y ∷ ys) = refl
+  seen-lookup (added k f) z (y ∷ ys) = refl
+  seen-lookup (counted k) z (y ∷ ys) = refl
+  seen-lookup (one_truth w f) z (y ∷ ys) = refl
+  seen-lookup (one_number f) z (y ∷ ys) = refl
+  seen-lookup (size h) z (y ∷ ys) = refl
+  seen-lookup (within f h) z (y ∷ ys) = refl
+
+  set-lookup : {e : Ex} {k : Kind} → SetTerm cells r e k → NoLookup e
+  set-lookup (view a b c d) z [] = refl
+  set-lookup (view a b c d) z (y ∷ ys) = refl
+  set-lookup (drawn h) z [] = refl
+  set-lookup (drawn h) z (y ∷ ys) = refl
+
+module _ (s : Supply) (g : Names Ty) where
+  -- No scalar is picked by itself.
+  alone : (e : Ex) → NoLookup e → ordered_rewrite s g an_item e ≡ None
+  alone e q = ap (λ o. and_then o (λ l. if gives_scalar g e then select_whole_each s.one l e else None)) (q s.third s.parts)
+
+  operand : (k : ℕ) (e t : Ex) → NoLookup t → over_operand s g k e t ≡ None
+  operand k e t q = ap (λ o. and_then o
+      (λ l. if gives_scalar g e && is_compound_ty (type_of t g) then select_each s.one k l e else None)) (q s.third s.parts)
+
+  -- Nor is one out of one operand, or of two.
+  of-one : (b : Bool) (op : Op) (x : Ex) → NoLookup x → ordered_rewrite s g of_an_item (node_ex b op (more_exs x no_exs)) ≡ None
+  of-one b op x q = neither (at_operand s g 1 (node_ex b op (more_exs x no_exs))) (at_operand s g 2 (node_ex b op (more_exs x no_exs)))
+      (operand 1 (node_ex b op (more_exs x no_exs)) x q) refl
+
+  of-two : (b : Bool) (op : Op) (x y : Ex) → NoLookup x → NoLookup y →
+      ordered_rewrite s g of_an_item (node_ex b op (more_exs x (more_exs y no_exs))) ≡ None
+  of-two b op x y q p =
+      let e = node_ex b op (more_exs x (more_exs y no_exs)) in
+      neither (at_operand s g 1 e) (at_operand s g 2 e) (operand 1 e x q) (operand 2 e y p)
+
+  -- Sources have no indices.
+  by-indices : (e : Ex) (gs : Gens) → OpensAtSet (at_first_open gs) → ordered_rewrite s g source_by_indices (comp_ex e gs) ≡ None
+  by-indices e gs h = go (at_first_open gs) h
+    where
+      go : (o : Option Opened) → OpensAtSet o → and_then o
+          (λ t. and_then (indexed_source (names_behind t.before g) s.one (comp_ex e t.after)) (put_before t.before)) ≡ None
+      go None h = refl
+      go (Some t) h = ap (λ o. and_then o (put_before t.before)) (not-indexed s (names_behind t.before g) e t.after h)
+
+  -- At a list.
+  pub no-order-list : (e : Ex) (gs : Gens) → OpensAtSet (at_first_open gs) → (u : OrderedRule) → ordered_rewrite s g u (comp_ex e gs) ≡ None
+  no-order-list e gs h an_item = alone (comp_ex e gs) (list-lookup e gs)
+  no-order-list e gs h of_an_item = refl
+  no-order-list e gs h source_by_indices = by-indices e gs h
+
+  module _ (cells : Text → Option (Bool × ℕ)) (r : Names Bound) where
+    no-operands : {e : Ex} {m : Bool} → Seen cells r e m → ordered_rewrite s g of_an_item e ≡ None
+    no-operands number = refl
+    no-operands truth = refl
+    no-operands (named h k) = refl
+    no-operands (cell h i) = refl
+    no-operands (atom h p) = refl
+    no-operands (one {b = b} {o = o} {x = x} w f) = of-one b (unary o) x (seen-lookup cells r f)
+    no-operands (two {b = b} {o = o} {x = x} {y = y} w f h) = of-two b (binary o) x y (seen-lookup cells r f) (seen-lookup cells r h)
+    no-operands (power {x = x} {y = y} f h) = of-two false (binary Op2.Pow) x y (seen-lookup cells r f) (seen-lookup cells r h)
+    no-operands (chosen {x = x} f) = of-one false (word Fun.ToInt) x (seen-lookup cells r f)
+    no-operands (folded {f = w} {e = x} {gs = gs} v k f) = of-one true (word w) (comp_ex x gs) (list-lookup x gs)
+    no-operands (added {e = x} {gs = gs} k f) = of-one false (word Fun.Sum) (comp_ex x gs) (list-lookup x gs)
+    no-operands (counted {gs = gs} k) =
+        of-one false (word Fun.Sum) (comp_ex (number_ex (pos 1)) gs) (list-lookup (number_ex (pos 1)) gs)
+    no-operands (one_truth {f = w} {e = x} v f) =
+        of-one true (word w) (list_of (more_exs x no_exs)) (item-lookup (more_exs x no_exs))
+    no-operands (one_number {e = x} f) =
+        of-one false (word Fun.Sum) (list_of (more_exs x no_exs)) (item-lookup (more_exs x no_exs))
+    no-operands (size {s = x} h) = of-one false (unary Op1.Bar) x (set-lookup cells r h)
+    no-operands (within {a = x} {s = y} f h) = of-two true (binary Op2.Member) x y (seen-lookup cells r f) (set-lookup cells r h)
+
+    no-source : {e : Ex} {m : Bool} → Seen cells r e m → ordered_rewrite s g source_by_indices e ≡ None
+    no-source number = refl
+    no-source f = refl
+
+    -- At a tree over views.
+    pub no-order : {e : Ex} {m : Bool} → Seen cells r e m → (u : OrderedRule) → ordered_rewrite s g u e ≡ None
+    no-order {e} f an_item = alone e (seen-lookup cells r f)
+    no-order f of_an_item = no-operands f
+    no-order f source_by_indices = no-source f
+
+    -- At a set.
+    pub no-order-set : {e : Ex} {k : Kind} → SetTerm cells r e k → (u : OrderedRule) → ordered_rewrite s g u e ≡ None
+    no-order-set {e} h an_item = alone e (set-lookup cells r h)
+    no-order-set (view a b c d) of_an_item = refl
+    no-order-set (view a b c d) source_by_indices = refl
+    no-order-set (drawn h) of_an_item = refl
+    no-order-set (drawn h) source_by_indices = refl
+
+    -- At a list of one item.
+    pub no-order-item : {e : Ex} {m : Bool} → Seen cells r e m → (u : OrderedRule) →
+        ordered_rewrite s g u (list_of (more_exs e no_exs)) ≡ None
+    no-order-item {e} f an_item = alone (list_of (more_exs e no_exs)) (item-lookup (more_exs e no_exs))
+    no-order-item {e} f of_an_item = of-one false matrix_literal e (seen-lookup cells r f)
+    no-order-item f source_by_indices = refl

@@ -1,0 +1,74 @@
+-- A tree over views picks no value out of a term, nor does a set or a list, so that no operand is looked up.
+use Rattle.std.proofs.Common.{◌≡◌, refl, ℕ, Bool, false, Option, None}
+use Rattle.ess_semantics.specs.Values.{Text}
+use Rattle.ess_semantics.specs.Names.{Names}
+use Rattle.ess_semantics.specs.Trees.{Ex, node_ex}
+use Rattle.ess_semantics.specs.Types.{Ty}
+use Rattle.ess_refine_laws.specs.AllRules.{Supply}
+use Rattle.ess_kind_rules_laws.specs.TermLookups.{picks}
+use Rattle.ess_kind_rules_laws.specs.KindRules.{over_picked}
+use Rattle.ess_open_rules_laws.specs.OpenRules.{over_a_pick}
+use Rattle.ess_bare_laws.specs.Bare.{all_hold, some_holds}
+use Rattle.ess_bare_laws.proofs.Picks.{PickNothing, no-kind, no-open}
+use Rattle.ess_seen_laws.specs.Seen.{Kind, Bound, Seen, SetTerm, number, truth, named, cell, atom, one, two, power, chosen, folded, added, counted, one_truth, one_number, size, within, view, drawn}
+
+-- What stands in a node picks nothing.
+abbrev pub NodePicksNothing : Ex → Type 0
+NodePicksNothing (node_ex b op es) = PickNothing es
+NodePicksNothing e = Unit {0}
+
+module _ (cells : Text → Option (Bool × ℕ)) (r : Names Bound) where
+  -- A tree over views picks nothing.
+  pub seen-picks : {e : Ex} {m : Bool} → Seen cells r e m → picks e ≡ false
+  seen-picks number = refl
+  seen-picks truth = refl
+  seen-picks (named h k) = refl
+  seen-picks (cell h i) = refl
+  seen-picks (atom h p) = refl
+  seen-picks (one o f) = refl
+  seen-picks (two o f h) = refl
+  seen-picks (power f h) = refl
+  seen-picks (chosen f) = refl
+  seen-picks (folded all_hold g f) = refl
+  seen-picks (folded some_holds g f) = refl
+  seen-picks (added g f) = refl
+  seen-picks (counted g) = refl
+  seen-picks (one_truth all_hold f) = refl
+  seen-picks (one_truth some_holds f) = refl
+  seen-picks (one_number f) = refl
+  seen-picks (size h) = refl
+  seen-picks (within f h) = refl
+
+  -- Nor does a set.
+  pub set-picks : {e : Ex} {k : Kind} → SetTerm cells r e k → picks e ≡ false
+  set-picks (view a b c d) = refl
+  set-picks (drawn h) = refl
+
+  -- So operands of a node of one pick nothing.
+  pub operands-pick : {e : Ex} {m : Bool} → Seen cells r e m → NodePicksNothing e
+  operands-pick number = tt
+  operands-pick truth = tt
+  operands-pick (named h k) = tt
+  operands-pick (cell h i) = tt
+  operands-pick (atom h p) = tt
+  operands-pick (one o f) = (seen-picks f, tt)
+  operands-pick (two o f h) = (seen-picks f, (seen-picks h, tt))
+  operands-pick (power f h) = (seen-picks f, (seen-picks h, tt))
+  operands-pick (chosen f) = (seen-picks f, tt)
+  operands-pick (folded w g f) = (refl, tt)
+  operands-pick (added g f) = (refl, tt)
+  operands-pick (counted g) = (refl, tt)
+  operands-pick (one_truth w f) = (refl, tt)
+  operands-pick (one_number f) = (refl, tt)
+  operands-pick (size h) = (set-picks h, tt)
+  operands-pick (within f h) = (seen-picks f, (set-picks h, tt))
+
+-- Where operands pick nothing the rule of what is picked doesn't fire that reads kinds.
+pub picks-no-kind : (s : Supply) (g : Names Ty) (e : Ex) → NodePicksNothing e → over_picked s g e ≡ None
+picks-no-kind s g (node_ex b op es) p = no-kind s g b op es p
+picks-no-kind s g e p = refl
+
+-- So it is of those at the first generator that isn't plain.
+pub picks-no-open : (s : Supply) (g : Names Ty) (e : Ex) → NodePicksNothing e → over_a_pick s g e ≡ None
+picks-no-open s g (node_ex b op es) p = no-open s g b op es p
+picks-no-open s g e p = refl

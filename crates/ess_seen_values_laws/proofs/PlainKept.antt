@@ -1,0 +1,46 @@
+-- Each rule that reads no kind and fires at a tree over views keeps it.
+use Rattle.std.proofs.Common.{◌≡◌, refl, ℕ, Bool, true, Option, Some}
+use Rattle.ess_semantics.specs.Values.{Text}
+use Rattle.ess_semantics.specs.Names.{Names}
+use Rattle.ess_semantics.specs.Trees.{Ex}
+use Rattle.ess_semantics.specs.Meaning.{Env}
+use Rattle.ess_rules_laws.specs.Rules.{Unused}
+use Rattle.ess_rules_laws.proofs.FoldRules.{alone-keeps, one-keeps, bare-keeps}
+use Rattle.ess_rules_laws.proofs.ChoiceRules.{choices-keep}
+use Rattle.ess_refine_laws.specs.AllRules.{Supply, Rule, over_one, over_one_binding, over_a_condition, in_a_term, size as size_rule, choice, condition, rewrite}
+use Rattle.ess_refine_laws.proofs.AllRules.{all-keep}
+use Rattle.ess_values_along_laws.specs.Valued.{Valued}
+use Rattle.ess_rules_values_laws.proofs.RulesKeepValues.{rules-keep-values}
+use Rattle.ess_values_terms_laws.proofs.TermsKeepValues.{terms-keep-values}
+use Rattle.ess_seen_laws.specs.Seen.{Bound, bound_types, Seen, one}
+use Rattle.ess_seen_values_laws.specs.Fires.{is_kept_plainly}
+use Rattle.ess_seen_values_laws.specs.Laws.{IsMet, StaysAlike}
+use Rattle.ess_seen_values_laws.proofs.PlainRules.{one-fits, bare-fits, choices-fit, sized}
+use Rattle.ess_seen_values_laws.proofs.ConditionRules.{condition-keeps}
+
+module _ (cells : Text → Option (Bool × ℕ)) where
+  -- Each of these rules keeps such a tree.
+  pub plain-keeps : (s : Supply) (r : Names Bound) (u : Rule) (e f : Ex) {m : Bool} → Seen cells r e m → Unused s.one e →
+      is_kept_plainly u ≡ true → rewrite s (bound_types r) u e ≡ Some f → (env : Env) → IsMet r e env → (w : Bool) → Valued w e env →
+      StaysAlike w e f env
+  plain-keeps s r over_one e f h n k q env i w v =
+      let c = one-keeps e f q env (one-fits cells env i.typed e f w q h i.met v) i.met in
+      record { means = c.0; met = c.1; valued = rules-keep-values s (bound_types r) over_one e f q refl n tt env c.0 w v }
+  plain-keeps s r over_one_binding e f h n k q env i w v =
+      let c = bare-keeps e f q env (bare-fits cells env i.typed e f w q h i.met v) i.met in
+      record { means = c.0; met = c.1; valued = rules-keep-values s (bound_types r) over_one_binding e f q refl n tt env c.0 w v }
+  plain-keeps s r over_a_condition e f h n k q env i w v =
+      let c = alone-keeps e f q env i.met in
+      record { means = c.0; met = c.1; valued = rules-keep-values s (bound_types r) over_a_condition e f q refl n tt env c.0 w v }
+  plain-keeps s r in_a_term e f h n k q env i w v =
+      let c = all-keep.each s (bound_types r) in_a_term e f q env i.typed n i.met in
+      record { means = c.0; met = c.1; valued = rules-keep-values s (bound_types r) in_a_term e f q refl n tt env c.0 w v }
+  plain-keeps s r size_rule e f h n k q env i w v =
+      let c = sized cells env i.typed s e f w h i.met v q in
+      let d = c.0 in
+      record { means = d.0; met = d.1; valued = terms-keep-values s (bound_types r) size_rule e f q refl n c.1 env d.0 w v }
+  plain-keeps s r choice e f h n k q env i w v =
+      let c = choices-keep e f q env (choices-fit cells env i.typed e f w q h i.met v) i.met in
+      record { means = c.0; met = c.1; valued = rules-keep-values s (bound_types r) choice e f q refl n tt env c.0 w v }
+  plain-keeps s r condition e f h n k q env i w v = condition-keeps cells s e f h env i w v q
+  plain-keeps s r _ e f h n k q env i w v = cc
