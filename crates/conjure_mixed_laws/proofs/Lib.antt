@@ -4,6 +4,7 @@ pub mod ShownStill
 pub mod ShownPlaces
 pub mod ShownNames
 pub mod ShownNext
+pub mod ShownSets
 -- Plans of nested sets
 pub mod NestedFacts
 -- Trees and declarations
@@ -12,6 +13,8 @@ pub mod MixedTrees
 pub mod MixedTables
 pub mod NestedBuilt
 pub mod RangedBuilt
+pub mod SetViews
+pub mod SetwiseBuilt
 pub mod BuiltMixed
 -- The law
 pub mod MixedLaws

@@ -6,7 +6,6 @@ use Rattle.ess_semantics.specs.Lists.{append_all, or_default}
 use Rattle.ess_semantics.specs.Values.{Text}
 use Rattle.ess_semantics.specs.Names.{Names, look, keys}
 use Rattle.ess_semantics.specs.Trees.{Ex, number_ex, truth_ex, name_ex, no_exs, Dom, set_dom, Stm, ex2}
-use Rattle.ess_semantics.specs.Contexts.{Each}
 use Rattle.ess_semantics.specs.ModelMeaning.{env_of_tables}
 use Rattle.ess_semantics.specs.Prepared.{prepared}
 use Rattle.ess_semantics.specs.Judgements.{fault}
@@ -16,10 +15,8 @@ use Rattle.ess_semantics.specs.TableNames.{table_names, named_tables}
 use Rattle.ess_semantics.specs.Plans.{Options, finds_side, Plan, value_plan, chosen_reprs, plans, is_plan_of}
 use Rattle.ess_semantics.specs.Models.{with_cells}
 use Rattle.conjure_laws.specs.Members.{In}
-use Rattle.conjure_laws.specs.Premises.{is_on}
 use Rattle.conjure_laws.specs.SetsOfAtoms.{TypeKind, fixed, sized}
 use Rattle.conjure_laws.specs.ModelsOfSets.{table_of, axis_for}
-use Rattle.conjure_laws.proofs.Lists.{at-item, all-items, in-filter}
 use Rattle.conjure_laws.proofs.SetPlans.{Occ}
 use Rattle.conjure_laws.proofs.Statements.{plan-is-found}
 use Rattle.conjure_settled_laws.proofs.SettledStatements.{typed-is-settled}

@@ -1,11 +1,9 @@
 -- The rules of the plans of finds that are built: of one of nested sets they say that its tables are canonical, of others there are none.
-use Rattle.std.proofs.Common.{◌≡◌, refl, sym, ap, ◌∙◌, subst, ℕ, ◌≤◌, ◌^◌, Bool, true, false, List, [], ◌∷◌, inl, inr, map, Some, None, arith}
+use Rattle.std.proofs.Common.{◌≡◌, refl, sym, ap, ◌∙◌, subst, ℕ, ◌≤◌, ◌^◌, true, false, List, [], ◌∷◌, inl, inr, map, Some, None, arith}
 use Rattle.ess_semantics.specs.Lists.{append_all}
 use Rattle.ess_semantics.specs.Values.{Text}
 use Rattle.ess_semantics.specs.Trees.{Repr, Ex, truth_ex, Dom, Stm}
 use Rattle.ess_semantics.specs.Kinds.{fits}
-use Rattle.ess_semantics.specs.Contexts.{Each}
-use Rattle.ess_semantics.specs.Occurrences.{parts_of}
 use Rattle.ess_semantics.specs.TableNames.{table_names, named_tables}
 use Rattle.ess_semantics.specs.Prepared.{prepared}
 use Rattle.ess_semantics.specs.Judgements.{fault}
@@ -14,7 +12,6 @@ use Rattle.ess_semantics.specs.ModelTrees.{Model}
 use Rattle.ess_grammar.specs.Models.{Scope}
 use Rattle.conjure_laws.specs.Members.{In}
 use Rattle.conjure_laws.specs.Premises.{is_on}
-use Rattle.conjure_laws.specs.ModelPremises.{spelled}
 use Rattle.conjure_laws.specs.SideBySide.{Along}
 use Rattle.conjure_laws.proofs.Lists.{at-item, in-filter}
 use Rattle.conjure_model_laws.specs.Shown.{Shows, shows_of}

@@ -1,6 +1,6 @@
 -- The plan of a find of the class that is a set of any nesting: its tables are named and declared, its numbers are constants of the
 -- specification, and names are left.
-use Rattle.std.proofs.Common.{◌≡◌, refl, sym, ap, ◌∙◌, subst, suc, ◌≤◌, ◌^◌, Bool, true, false, ◌&&◌, ◌||◌, not, List, [], ◌∷◌, ◌++◌, ◌⊎◌, inl, inr, map, length, ℤ, pos, Some, None}
+use Rattle.std.proofs.Common.{◌≡◌, refl, sym, ap, ◌∙◌, subst, suc, ◌≤◌, ◌^◌, Bool, true, false, ◌&&◌, ◌||◌, not, List, [], ◌∷◌, ◌++◌, ◌⊎◌, inl, inr, map, length, ℤ, pos, Some}
 use Rattle.std.proofs.lemmas.Bool.{leb-true}
 use Rattle.std.specs.List.{list_all, list_any}
 use Rattle.ess_semantics.specs.Lists.{append_all}
@@ -9,13 +9,11 @@ use Rattle.ess_semantics.specs.Order.{same_int}
 use Rattle.ess_semantics.specs.Names.{keys}
 use Rattle.ess_semantics.specs.Trees.{Repr, Mark, Exs, Dom, Stm, find}
 use Rattle.ess_semantics.specs.Kinds.{fits}
-use Rattle.ess_semantics.specs.Contexts.{Each}
 use Rattle.ess_semantics.specs.Constants.{constants_of, operand_constants, dom_constants}
-use Rattle.ess_semantics.specs.DeclaredTables.{TableDecl, decl_name}
-use Rattle.ess_semantics.specs.Representations.{width}
+use Rattle.ess_semantics.specs.DeclaredTables.{decl_name}
 use Rattle.ess_semantics.specs.TableNames.{Named, table_names, named_tables}
 use Rattle.ess_semantics.specs.Prepared.{prepared}
-use Rattle.ess_semantics.specs.Plans.{Options, givens_side, finds_side, Plan, value_plan, chosen_reprs, plans, plans_for, table_list}
+use Rattle.ess_semantics.specs.Plans.{Options, givens_side, finds_side, Plan, value_plan, chosen_reprs, plans, plans_for}
 use Rattle.ess_semantics.specs.ModelTrees.{Model, all_decls}
 use Rattle.ess_semantics.specs.ModelMeaning.{declaration_of}
 use Rattle.ess_semantics.proofs.Tests.{and-left, and-right, and-both}
@@ -32,7 +30,7 @@ use Rattle.ess_flat_models_laws.proofs.FlatValues.{NumbersOfAll}
 use Rattle.ess_flat_models_laws.proofs.FlatTexts.{IsConst}
 use Rattle.ess_flat_models_laws.proofs.ScalarDomains.{shape-of}
 use Rattle.ess_mixed_models_laws.specs.MixedSpecifications.{kinds, is_set_dom, is_occurrence_alone, is_one_fitting, has_few_tables, is_nested_plan, is_scalar_kept, is_set_kept, is_nested_kept, is_mixed_statement, are_mixed_statements}
-use Rattle.ess_mixed_models_laws.specs.MixedModels.{mixed_decl, nested_decls, mixed_decls}
+use Rattle.ess_mixed_models_laws.specs.MixedModels.{mixed_decl, mixed_decls}
 use Rattle.ess_mixed_models_laws.proofs.NamedKinds.{no-yes}
 use Rattle.ess_mixed_models_laws.proofs.PreparedSets.{RangeNumbers, RangesAre}
 use Rattle.ess_mixed_models_laws.proofs.MixedConstants.{ranges-spelled}

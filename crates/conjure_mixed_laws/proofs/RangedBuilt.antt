@@ -1,6 +1,6 @@
 -- The rule that is built of a constraint over ranges says what the constraint says: the scalars of the class are declared single cells,
 -- which hold their values.
-use Rattle.std.proofs.Common.{◌≡◌, refl, sym, ap, ◌∙◌, subst, ℕ, ◌+◌, ◌^◌, Bool, true, false, ◌&&◌, if◌then◌else◌, List, [], ◌∷◌, ◌++◌, map, length, nat_le, Option, Some, None}
+use Rattle.std.proofs.Common.{◌≡◌, refl, sym, ap, ◌∙◌, subst, ℕ, ◌+◌, ◌^◌, Bool, true, false, ◌&&◌, ◌||◌, if◌then◌else◌, List, [], ◌∷◌, ◌++◌, map, length, nat_le, Option, Some, None}
 use Rattle.std.proofs.lemmas.Bool.{leb-true}
 use Rattle.std.specs.List.{list_all, list_any}
 use Rattle.ess_semantics.specs.Lists.{append_all}
@@ -37,8 +37,8 @@ use Rattle.ess_flat_models_laws.proofs.FlatValues.{Marked, a_truth as truth_mark
 use Rattle.ess_flat_models_laws.proofs.FlatDeclared.{bool-stays}
 use Rattle.ess_flat_models_laws.proofs.ScalarDomains.{Atom}
 use Rattle.ess_model_rules.specs.RulesWritten.{ConstraintComes}
-use Rattle.ess_mixed_models_laws.specs.MixedSpecifications.{kinds, are_mixed_statements, types_come_first, have_bounds, spares_reserved, has_names_left, is_ranged_constraint}
-use Rattle.ess_mixed_models_laws.specs.MixedModels.{mixed_decl, mixed_decls, IsRuleOf, of_ranged}
+use Rattle.ess_mixed_models_laws.specs.MixedSpecifications.{kinds, are_mixed_statements, types_come_first, have_bounds, spares_reserved, has_names_left, is_ranged_constraint, is_setwise_constraint}
+use Rattle.ess_mixed_models_laws.specs.MixedModels.{mixed_decl, mixed_decls, IsRuleOf, of_told}
 use Rattle.ess_mixed_models_laws.proofs.NamedKinds.{no-yes}
 use Rattle.ess_mixed_models_laws.proofs.MixedPlans.{atom-single}
 use Rattle.ess_mixed_models_laws.proofs.MixedCells.{decls, declared}
@@ -47,8 +47,12 @@ use Rattle.ess_mixed_models_laws.proofs.ScalarValues.{cells-valued, names-valued
 use Rattle.conjure_ranged_laws.specs.Laws.{HaveCells, RangedRulesStand}
 use Rattle.conjure_mixed_laws.proofs.ShownNames.{names-shown}
 
+or-left : (b c : Bool) → b ≡ true → b || c ≡ true
+or-left true c q = refl
+or-left false c q = absurd (no-yes q)
+
 -- A reserved name is none of names that aren't.
-none-reserved : {A : Type 0} (vs : Names A) → list_all is_unreserved (keys vs) ≡ true → (j : ℕ) → look vs (reserved j) ≡ None
+pub none-reserved : {A : Type 0} (vs : Names A) → list_all is_unreserved (keys vs) ≡ true → (j : ℕ) → look vs (reserved j) ≡ None
 none-reserved [] h j = refl
 none-reserved (b ∷ vs) h j =
     go (same_text b.0 (reserved j)) refl (none-reserved vs (and-right (is_unreserved b.0) (list_all is_unreserved (keys vs)) h) j)
@@ -77,7 +81,7 @@ as-mark : {b : Bool} {v : Value} → Marked b v → HasMark b v
 as-mark truth_marked = a_truth
 as-mark number_marked = a_number
 
-module _ (stand : RangedRulesStand) (S : List Stm) (o : Options) (h : are_mixed_statements S o ≡ true) (f : fault S ≡ None)
+module _ (S : List Stm) (o : Options) (h : are_mixed_statements S o ≡ true) (f : fault S ≡ None)
     (ts : types_come_first [] (prepared S) ≡ true) (bs : have_bounds (plans S o) [] (prepared S) ≡ true) where
   abbrev Ps : List Plan
   Ps = plans S o
@@ -93,27 +97,31 @@ module _ (stand : RangedRulesStand) (S : List Stm) (o : Options) (h : are_mixed_
   }
 
   module _ (p a : Assignment) (q c : Names Table) (I : Instance S o p q) (C : Canonical S o p a c) where
-    names-held : HoldsNames sh (scalar_mark Ps) (env_of S p a) (over_tables S p (q ++ c))
+    -- Cells hold the values of names.
+    pub names-held : HoldsNames sh (scalar_mark Ps) (env_of S p a) (over_tables S p (q ++ c))
     names-held = record {
       holds = λ x m e. let r = placed-names S o h x m e in
           ap (λ z. meaning z (over_tables S p (q ++ c))) (names-shown S o h f ts bs x m e ∙ ap (cell_for x) r.1)
           ∙ sym (ap (λ z. meaning (cell_for x z) (env_of_tables (q ++ c))) r.1) ∙ names-valued S o h f no_goal [] p a q c I C x m e;
     }
 
-    marks-held : HoldsMarks (cells S o h) (over_tables S p (q ++ c))
+    -- They hold values of their marks.
+    pub marks-held : HoldsMarks (cells S o h) (over_tables S p (q ++ c))
     marks-held = record {
       holds = λ n b e. let r = cells-valued S o h f no_goal [] p a q c I C n b e in (r.0, as-mark r.1, r.2);
     }
 
   module _ (E : Model) (g : E.givens ≡ map (mixed_decl (kinds S) Ps) (plans_for givens_side S o))
       (e : E.finds ≡ append_all (map (mixed_decls (kinds S) Ps) (plans_for finds_side S o))) where
-    all-same : all_decls E ≡ decls S o h
+    -- The declarations of the model are those of the plans.
+    pub all-same : all_decls E ≡ decls S o h
     all-same = ap (λ l. l ++ E.finds) g ∙ ap (λ l. map (mixed_decl (kinds S) Ps) (plans_for givens_side S o) ++ l) e
 
     cell-of : (n : Text) (b : Bool) (k : ℕ) → single (cells S o h) n ≡ Some (b, k) → (cells S o h n ≡ Some b) × (k ≡ 0)
     cell-of n b k q = found-cell (cells S o h n) n b k q
 
-    cell-declared : (n : Text) (b : Bool) → cells S o h n ≡ Some b → IsDeclared (all_decls E) n b 0
+    -- Each cell of a scalar is declared.
+    pub cell-declared : (n : Text) (b : Bool) → cells S o h n ≡ Some b → IsDeclared (all_decls E) n b 0
     cell-declared n b q =
         let r = planned S o h n b q in record {
           line = _;
@@ -131,9 +139,9 @@ module _ (stand : RangedRulesStand) (S : List Stm) (o : Options) (h : are_mixed_
     have-cells u = record { shown = cells-shown u; declared = are-declared; names = names-held; marks = marks-held }
 
     -- What comes of a constraint over ranges is a rule of it.
-    pub ranged-rule : (s : Scope) (x r : Ex) → is_flat_truth Ps x ≡ false → is_ranged_constraint Ps S x ≡ true →
+    pub ranged-rule : RangedRulesStand → (s : Scope) (x r : Ex) → is_flat_truth Ps x ≡ false → is_ranged_constraint Ps S x ≡ true →
         ConstraintComes s (taken_names S o) sh x (Some r) → IsRuleOf S o E x r
-    ranged-rule s x r n t w =
+    ranged-rule stand s x r n t w =
         let u : Bool = is_ranged_truth (scalar_mark Ps) x in
         let v : Bool = spares_reserved Ps S in
         let l : Bool = has_names_left Ps S x in
@@ -146,4 +154,4 @@ module _ (stand : RangedRulesStand) (S : List Stm) (o : Options) (h : are_mixed_
         let z = stand S o E (cells S o h) (have-cells (and-left v (l && k) b1)) x (and-left u (v && (l && k)) t)
         (leb-true (sh.next + binders x) (2 ^ 62) (and-left c1 c2 b3)) (taken_names S o)
         (leb-true (length (taken_names S o)) (2 ^ 62) (and-right c1 c2 b3)) s r w in
-        of_ranged n t z.0 (z.1 (and-right l k b2))
+        of_told n (or-left (is_ranged_constraint Ps S x) (is_setwise_constraint Ps S x) t) z.0 (z.1 (and-right l k b2))

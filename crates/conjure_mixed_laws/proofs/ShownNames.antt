@@ -36,7 +36,8 @@ use Rattle.ess_mixed_models_laws.proofs.SetFinds.{SetFind}
 use Rattle.conjure_mixed_laws.proofs.ShownPlans.{scalar-views, set-plans}
 use Rattle.conjure_mixed_laws.proofs.ShownPlaces.{Place, size_of, PlaceOf, place-of}
 
-at-itself : {A : Type 0} (t : Text) (v : A) (g : Names A) → look ((t, v) ∷ g) t ≡ Some v
+-- What was put in last is found.
+pub at-itself : {A : Type 0} (t : Text) (v : A) (g : Names A) → look ((t, v) ∷ g) t ≡ Some v
 at-itself t v g = ap (λ b. if b then Some v else look g t) (same_text-itself t)
 
 -- The position of a value stands for its name.
@@ -70,7 +71,8 @@ module _ (S : List Stm) (o : Options) (h : are_mixed_statements S o ≡ true) (f
   abbrev sh : Shows
   sh = shows_of S o
 
-  marked : (a : Text) → given_mark Ps a ≡ Some false → scalar_mark Ps a ≡ Some false
+  -- Givens that are numbers are scalars.
+  pub marked : (a : Text) → given_mark Ps a ≡ Some false → scalar_mark Ps a ≡ Some false
   marked a m = ap (option_map (λ c. c.0)) (given-cells S o h a m).1
 
   start : Place S o (scalar-views S o h f) marked [] [] (prepared S) shows_nothing
@@ -85,8 +87,9 @@ module _ (S : List Stm) (o : Options) (h : are_mixed_statements S o ≡ true) (f
     behind = λ a i. absurd (no-yes i);
   }
 
-  at : (s : Stm) → In s (prepared S) → PlaceOf S o (scalar-views S o h f) marked s (kinds S) sh
-  at s i = place-of S o (scalar-views S o h f) marked (prepared S) [] [] shows_nothing start s i
+  -- The place of each statement.
+  pub stm-place : (s : Stm) → In s (prepared S) → PlaceOf S o (scalar-views S o h f) marked s (kinds S) sh
+  stm-place s i = place-of S o (scalar-views S o h f) marked (prepared S) [] [] shows_nothing start s i
 
   -- ---- scalars
 
@@ -115,12 +118,12 @@ module _ (S : List Stm) (o : Options) (h : are_mixed_statements S o ≡ true) (f
   pub scalar-dom : (s : Side) (x : Text) (d : Dom) (n : Text) → In (value_plan s x Atom d ((n, 0) ∷ [])) Ps → is_shape d ≡ true →
       look sh.doms x ≡ Some (dom_with_cells Ps d)
   scalar-dom givens_side x d n i k =
-      let P = at (given x d) (given-from (prepared S) o (all_declared S) _ x Atom d ((n, 0) ∷ []) i) in
+      let P = stm-place (given x d) (given-from (prepared S) o (all_declared S) _ x Atom d ((n, 0) ∷ []) i) in
       (P.same x (inl refl)).doms
       ∙ dom-at x d P.xs P.sh
       (and-left (is_scalar_dom (mark_among P.xs (given_mark Ps)) d) (have_bounds Ps (x ∷ P.xs) P.later) P.place.bounds) P.place.seen
   scalar-dom finds_side x d n i k =
-      let P = at (find x d) (plan-is-found S o x Atom d ((n, 0) ∷ []) i) in
+      let P = stm-place (find x d) (plan-is-found S o x Atom d ((n, 0) ∷ []) i) in
       (P.same x (inl refl)).doms
       ∙ dom-at x d P.xs P.sh
       (past (is_of_sets d) (is_scalar_dom (mark_among P.xs (given_mark Ps)) d) (shape-apart d k)
@@ -145,10 +148,10 @@ module _ (S : List Stm) (o : Options) (h : are_mixed_statements S o ≡ true) (f
       go : (s : Side) (d : Dom) (n : Text) → In (value_plan s a Atom d ((n, 0) ∷ [])) Ps →
           look sh.first a ≡ Some (cell_for a (scalar_cell Ps a))
       go givens_side d n i =
-          let P = at (given a d) (given-from (prepared S) o (all_declared S) _ a Atom d ((n, 0) ∷ []) i) in
+          let P = stm-place (given a d) (given-from (prepared S) o (all_declared S) _ a Atom d ((n, 0) ∷ []) i) in
           (P.same a (inl refl)).first ∙ view-at a m d P.sh e
       go finds_side d n i =
-          let P = at (find a d) (plan-is-found S o a Atom d ((n, 0) ∷ []) i) in (P.same a (inl refl)).first ∙ view-at a m d P.sh e
+          let P = stm-place (find a d) (plan-is-found S o a Atom d ((n, 0) ∷ []) i) in (P.same a (inl refl)).first ∙ view-at a m d P.sh e
 
   -- ---- sets
 
@@ -200,7 +203,7 @@ module _ (S : List Stm) (o : Options) (h : are_mixed_statements S o ≡ true) (f
       (look sh.last x ≡ Some (view_of x A)) × (look sh.doms x ≡ Some (set_dom [] no_exs (axis_of S o A)))
   set-shown x A w =
       let d : Dom = set_dom [] no_exs A in
-      let P = at (find x (set_dom [] no_exs A)) w.declared in
+      let P = stm-place (find x (set_dom [] no_exs A)) w.declared in
       let u : Shows = P.sh in
       let k = P.same x (inl refl) in
       let c = set-dom-at w.members P.ks P.sh
@@ -223,7 +226,7 @@ module _ (S : List Stm) (o : Options) (h : are_mixed_statements S o ≡ true) (f
   value-by : (s : Stm) (n : Text) (v : Text × ℕ) → In s (prepared S) → look (places_by s) n ≡ Some v →
       look sh.first n ≡ Some (number_ex (pos v.1))
   value-by (let_enum t ns) n v i e =
-      let P = at (let_enum t ns) i in
+      let P = stm-place (let_enum t ns) i in
       let u : Shows = P.sh in
       let r = position-at t 1 ns u.first n v e in (P.same n (inr r.1)).first ∙ r.0
   value-by s n v i e = absurd (no-some e)

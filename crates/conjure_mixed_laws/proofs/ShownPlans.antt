@@ -94,7 +94,8 @@ module _ (S : List Stm) (o : Options) (h : are_mixed_statements S o ≡ true) (f
 
   -- ---- sets
 
-  same-tests : (x : Text) (Qs : List Plan) → Each Qs (PlanFact S o) →
+  -- Where no atom has the name, plans for it are plans of it.
+  pub same-tests : (x : Text) (Qs : List Plan) → Each Qs (PlanFact S o) →
       ((s : Side) (d : Dom) (n : Text) → In (value_plan s x Atom d ((n, 0) ∷ [])) Qs → is_shape d ≡ true → ⊥) →
       filter (is_plan_for x) Qs ≡ filter (is_plan_of x) Qs
   same-tests x [] w u = refl

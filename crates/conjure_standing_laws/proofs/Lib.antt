@@ -11,3 +11,4 @@ pub mod MixedTexts
 -- Worked examples
 mod MixedExample
 mod NestedExample
+mod SetwiseExample

@@ -1,12 +1,13 @@
 -- Worked examples: scalars, sets of numbers and sets of values of a type side by side, and their model.
 use Rattle.std.proofs.Common.{◌≡◌, refl, true, false, List, [], ◌∷◌, ℤ, pos, negsuc, codes}
+use Rattle.ess_semantics.specs.declared.words.Op1.{Op1}
 use Rattle.ess_semantics.specs.declared.words.Op2.{Op2}
 use Rattle.ess_semantics.specs.declared.words.Fun.{Fun}
 use Rattle.ess_semantics.specs.declared.words.Key.{Key}
 use Rattle.ess_semantics.specs.declared.words.ReprKind.{ReprKind}
 use Rattle.ess_semantics.specs.Lists.{append_all}
 use Rattle.ess_semantics.specs.Values.{Text}
-use Rattle.ess_semantics.specs.Trees.{Repr, repr, no_reprs, more_reprs, both_ends, valued, name_pat, Ex, number_ex, truth_ex, name_ex, comp_ex, cell_ex, no_exs, more_exs, Gens, no_gens, over, cond, Dom, bool_dom, int_dom, name_dom, set_dom, Stm, given, let_ex, let_enum, find, such_that, minimise, ex2, fun1}
+use Rattle.ess_semantics.specs.Trees.{Repr, repr, no_reprs, more_reprs, both_ends, valued, name_pat, Ex, number_ex, truth_ex, name_ex, comp_ex, cell_ex, no_exs, more_exs, Gens, no_gens, over, from, cond, Dom, bool_dom, int_dom, name_dom, set_dom, Stm, given, let_ex, let_enum, find, such_that, minimise, ex1, ex2, fun1}
 use Rattle.ess_semantics.specs.Plans.{plans, finds_side, plans_for}
 use Rattle.ess_semantics.specs.ModelTrees.{Model, least}
 use Rattle.std.specs.Prelude.{map}
@@ -137,12 +138,7 @@ its-tables : append_all (map (mixed_decls (kinds (find s (sets bool_dom) ∷ [])
     ∷ record { name = codes "s_ExplicitVarSizeWithMarker_Values"; axes = upto (number_ex (pos 2)) ∷ []; cell = bool_dom } ∷ []
 its-tables = refl
 
--- No constraint speaks of one that isn't kept as the members that occur, and a find has one representation.
-not-spoken-of : is_mixed_specification
-    (find s (sets (upto (number_ex (pos 1)))) ∷ such_that (ex2 true Op2.Member (number_ex (pos 1)) (name_ex s)) ∷ [])
-    ((s, marked (repr ReprKind.Atom no_reprs) ∷ []) ∷ []) ≡ false
-not-spoken-of = refl
-
+-- A find has one representation.
 not-twice : is_mixed_specification (find s (sets bool_dom) ∷ [])
     ((s, repr ReprKind.Occurrence no_reprs ∷ marked (repr ReprKind.Atom no_reprs) ∷ []) ∷ []) ≡ false
 not-twice = refl
@@ -154,13 +150,6 @@ not-below = refl
 not-repeated : is_mixed_specification (find t (set_dom (valued Key.Size ∷ valued Key.Size ∷ [])
     (more_exs (number_ex (pos 2)) (more_exs (number_ex (pos 2)) no_exs)) bool_dom) ∷ []) [] ≡ false
 not-repeated = refl
-
--- Neither is a scalar that is asked to be in a set: only values are.
-not-scalars : is_mixed_specification
-    (find x (upto (number_ex (pos 5))) ∷ find s (sets (upto (number_ex (pos 9)))) ∷ such_that (ex2 true Op2.Member (name_ex x)
-    (name_ex s)) ∷ [])
-    [] ≡ false
-not-scalars = refl
 
 -- Types come before sets of their values, and givens before bounds.
 not-before : is_mixed_specification (find t (sets (name_dom (codes "C"))) ∷ let_enum (codes "C") (red ∷ []) ∷ []) [] ≡ false
@@ -185,9 +174,56 @@ ranged : is_mixed_specification
     [] ≡ true
 ranged = refl
 
--- No bound name is that of a scalar, and none of the class speaks of a set in a range.
+-- No bound name is that of a scalar.
 not-hidden : is_mixed_specification
     (given (codes "n") (upto (number_ex (pos 4))) ∷ find (codes "i") (upto (number_ex (pos 9)))
     ∷ such_that (fun1 true Fun.And (comp_ex (ex2 true Op2.Ne (name_ex (codes "n")) (name_ex (codes "i"))) (up_to_n no_gens))) ∷ [])
     [] ≡ false
 not-hidden = refl
+
+-- ---- constraints that speak of nested sets
+
+abbrev y : Text
+y = codes "y"
+
+-- `find s : set (maxSize 3) of set of int(1..4)  find t : set of int(1..5)  such that ..`
+abbrev with_sets : Ex → List Stm
+with_sets e =
+    find s (set_dom (valued Key.MaxSize ∷ []) (more_exs (number_ex (pos 3)) no_exs) (sets (upto (number_ex (pos 4)))))
+    ∷ find t (sets (upto (number_ex (pos 5)))) ∷ such_that e ∷ []
+
+-- `forAll y in s . |y| >= 2`
+large-members : is_mixed_specification (with_sets (fun1 true Fun.And (comp_ex (ex2 true Op2.Ge (ex1 false Op1.Bar (name_ex y))
+    (number_ex (pos 2))) (from (name_pat y) (name_ex s) no_gens)))) [] ≡ true
+large-members = refl
+
+-- `3 in t`, and where t is kept in slots with a marker.
+a-member : is_mixed_specification (with_sets (ex2 true Op2.Member (number_ex (pos 3)) (name_ex t))) [] ≡ true
+a-member = refl
+
+a-marked-member : is_mixed_specification (with_sets (ex2 true Op2.Member (number_ex (pos 3)) (name_ex t)))
+    ((t, marked (repr ReprKind.Atom no_reprs) ∷ []) ∷ []) ≡ true
+a-marked-member = refl
+
+-- `exists y in s . x in y`, of a number x; and `exists y in s, |y| < |t| . 3 in y /\ |s| > 1`
+scalar-member : is_mixed_specification
+    (find x (upto (number_ex (pos 4))) ∷ with_sets (fun1 true Fun.Or (comp_ex (ex2 true Op2.Member (name_ex x) (name_ex y))
+    (from (name_pat y) (name_ex s) no_gens)))) [] ≡ true
+scalar-member = refl
+
+of-sizes : is_mixed_specification (with_sets (fun1 true Fun.Or (comp_ex (ex2 true Op2.And
+    (ex2 true Op2.Member (number_ex (pos 3)) (name_ex y)) (ex2 true Op2.Gt (ex1 false Op1.Bar (name_ex s)) (number_ex (pos 1))))
+    (from (name_pat y) (name_ex s) (cond (ex2 true Op2.Lt (ex1 false Op1.Bar (name_ex y)) (ex1 false Op1.Bar (name_ex t))) no_gens)))))
+    [] ≡ true
+of-sizes = refl
+
+-- No number is asked to be in a set of sets, no set is compared, and no bound name is that of a set.
+not-among-sets : is_mixed_specification (with_sets (ex2 true Op2.Member (number_ex (pos 3)) (name_ex s))) [] ≡ false
+not-among-sets = refl
+
+not-compared : is_mixed_specification (with_sets (ex2 true Op2.Eq (name_ex s) (name_ex s))) [] ≡ false
+not-compared = refl
+
+not-hiding : is_mixed_specification (with_sets (fun1 true Fun.And (comp_ex (ex2 true Op2.Ge (ex1 false Op1.Bar (name_ex t))
+    (number_ex (pos 2))) (from (name_pat t) (name_ex s) no_gens)))) [] ≡ false
+not-hiding = refl

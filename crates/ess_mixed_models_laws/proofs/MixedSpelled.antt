@@ -39,7 +39,7 @@ use Rattle.ess_flat_models_laws.proofs.FlatGoals.{FlatGoal}
 use Rattle.ess_flat_models_laws.proofs.FlatTexts.{IsConst, numbers-spelled, statements-spelled, flat-simple}
 use Rattle.ess_member_rules_laws.specs.WrittenForms.{Written, by_number, by_condition, by_conjunction}
 use Rattle.ess_mixed_models_laws.specs.MixedSpecifications.{kinds, places, are_mixed_statements}
-use Rattle.ess_mixed_models_laws.specs.MixedModels.{axis_of, shown_value, IsRuleOf, of_flat, of_membership, of_ranged}
+use Rattle.ess_mixed_models_laws.specs.MixedModels.{axis_of, shown_value, IsRuleOf, of_flat, of_membership, of_told}
 use Rattle.ess_mixed_models_laws.proofs.MemberValues.{literal_code}
 use Rattle.ess_mixed_models_laws.proofs.NamedKinds.{MemberDom, of_numbers, of_truths, of_type}
 use Rattle.ess_mixed_models_laws.proofs.MixedPlans.{atom-single}
@@ -178,7 +178,7 @@ module _ (S : List Stm) (o : Options) where
 
     rule-spelled : (M : Model) (e r : Ex) → SpellsConstants e → IsRuleOf S o M e r → spelled S (parts_of r) ≡ true
     rule-spelled M e r n (of_flat t) = flat-spelled e true (truth-flat Ps e t) n
-    rule-spelled M e r n (of_ranged k t m s) = s
+    rule-spelled M e r n (of_told k t m s) = s
     rule-spelled M e r n (of_membership {e = v} {x = x} t R) =
         let k = membership-fact S o h f no_goal [] v x R.members t R.found in
         member-spelled (table_of Ps x) (printed_name (taken_names S o) 0) k.0.members k.1 r

@@ -1,10 +1,10 @@
 -- A class of specifications: scalars and sets side by side. Givens are scalars kept as atoms; finds are scalars kept as atoms; sets of
 -- numbers, of truth values or of values of a named type, without attributes, kept as the members that occur; or sets of any nesting over
--- numbers and truth values, with sizes, kept in any one representation, of which no constraint speaks. Each constraint is flat and
--- total over the scalars, or one over ranges and scalars, or says that a number, a truth value or a value of a type is in a set. Conditions
--- on parameters and the objective are flat and total over the scalars. Named types and lettings are declared among them, in any order and
--- number. Lettings are put in before it is asked what a statement is.
-use Rattle.std.specs.Prelude.{ℕ, ◌+◌, ◌^◌, nat_le, Bool, true, false, ◌&&◌, ◌||◌, not, List, [], ◌∷◌, ◌++◌, length, pos, Option, Some, None, is_some}
+-- numbers and truth values, with sizes, kept in any one representation. Each constraint is flat and total over the scalars, or one over
+-- ranges, scalars, and sizes and members of sets of any nesting, or says that a number, a truth value or a value of a type is in a set.
+-- Conditions on parameters and the objective are flat and total over the scalars. Named types and lettings are declared among them, in any
+-- order and number. Lettings are put in before it is asked what a statement is.
+use Rattle.std.specs.Prelude.{ℕ, ◌+◌, ◌^◌, nat_le, Bool, true, false, ◌&&◌, ◌||◌, not, if◌then◌else◌, List, [], ◌∷◌, ◌++◌, length, pos, Option, Some, None, is_some}
 use Rattle.std.specs.List.{list_all, list_any}
 use Rattle.ess_semantics.specs.declared.words.ReprKind.{ReprKind}
 use Rattle.ess_semantics.specs.declared.words.Op2.{Op2}
@@ -20,6 +20,9 @@ use Rattle.ess_semantics.specs.Constants.{constants_of}
 use Rattle.ess_semantics.specs.Models.{constraints_of}
 use Rattle.ess_refine_laws.specs.SpellingEnds.{numbers_of_tree}
 use Rattle.ess_ranged_laws.specs.Ranged.{is_ranged_truth}
+use Rattle.ess_seen_laws.specs.Seen.{Kind, kind_of}
+use Rattle.ess_load_laws.specs.Load.{load}
+use Rattle.ess_setwise_laws.specs.Setwise.{is_setwise_truth}
 use Rattle.ess_nested_laws.specs.NestedDomains.{is_nested_dom}
 use Rattle.conjure_laws.specs.SetsOfAtoms.{TypeKind, fixed, sized, enum_values}
 use Rattle.conjure_model_laws.specs.ToldApart.{is_unreserved}
@@ -143,6 +146,34 @@ is_ranged_constraint Ps S e =
     is_ranged_truth (scalar_mark Ps) e && (spares_reserved Ps S
     && (has_names_left Ps S e && list_all (λ n. list_any (same_int n) (constants_of S)) (numbers_of_tree e)))
 
+-- ---- constraints that speak of nested sets
+
+-- The kind of the members of sets with this domain, where these are sets of any nesting over numbers and truth values.
+abbrev pub kind_of_members : Dom → Option Kind
+kind_of_members (set_dom ms es d) = if is_nested_dom (set_dom ms es d) then Some (kind_of d) else None
+kind_of_members d = None
+
+-- The same of the find of this name.
+abbrev pub nested_kind : List Plan → Text → Option Kind
+nested_kind [] a = None
+nested_kind (value_plan f x r d ns ∷ Ps) a = if same_text x a then kind_of_members d else nested_kind Ps a
+nested_kind (P ∷ Ps) a = nested_kind Ps a
+
+-- Whether names are left for all that is bound, that rules come to bind, and that is declared, as in any text that a machine holds.
+abbrev pub has_names_for_rules : List Plan → List Stm → Ex → Bool
+has_names_for_rules Ps S e =
+    nat_le ((shows_from Ps (prepared S) shows_nothing).next + load e) (2 ^ 62) && nat_le (length (keys (names_of_plans Ps))) (2 ^ 62)
+
+-- Whether the constraint is a truth value over ranges, scalars and sets of any nesting, that spells constants of the specification.
+abbrev pub is_setwise_constraint : List Plan → List Stm → Ex → Bool
+is_setwise_constraint Ps S e =
+    is_setwise_truth (scalar_mark Ps) (nested_kind Ps) e && (spares_reserved Ps S
+    && (has_names_for_rules Ps S e && list_all (λ n. list_any (same_int n) (constants_of S)) (numbers_of_tree e)))
+
+-- Whether the constraint is of one of these sorts.
+abbrev pub is_told_constraint : List Plan → List Stm → Ex → Bool
+is_told_constraint Ps S e = is_ranged_constraint Ps S e || is_setwise_constraint Ps S e
+
 -- ---- the class
 
 -- Whether a find is such a set, kept in one representation.
@@ -167,7 +198,7 @@ is_mixed_statement S o (let_unnamed t e) = is_some (written_size e)
 is_mixed_statement S o (let_ex x e) = not (is_some (scalar_mark (plans S o) x))
 is_mixed_statement S o (let_dom x d) = true
 is_mixed_statement S o (needs e) = is_flat_truth (plans S o) e
-is_mixed_statement S o (such_that e) = is_flat_truth (plans S o) e || (is_membership S o e || is_ranged_constraint (plans S o) S e)
+is_mixed_statement S o (such_that e) = is_flat_truth (plans S o) e || (is_membership S o e || is_told_constraint (plans S o) S e)
 is_mixed_statement S o (minimise e) = is_flat_number (plans S o) e
 is_mixed_statement S o (maximise e) = is_flat_number (plans S o) e
 

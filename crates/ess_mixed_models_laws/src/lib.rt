@@ -1,4 +1,4 @@
-//! Specifications of scalars and sets side by side, each constraint flat over the scalars or a membership: their models are right.
+//! Specifications of scalars and sets side by side, with constraints over the scalars, ranges and members of sets: their models are right.
 #![tactic(auto)]
 
 pub mod laws;

@@ -1,0 +1,122 @@
+-- The rule that comes of a constraint that speaks of nested sets: over tables the constraint is a tree over views that means the same;
+-- rules lead to one that means it too, which is over tables alone where nothing abstract is left of it; and what is written for that one
+-- says it over the tables of the model.
+use Rattle.std.proofs.Common.{◌≡◌, refl, sym, ap, ◌∙◌, subst, ℕ, suc, ◌+◌, ◌≤◌, ◌<◌, ◌^◌, Bool, true, false, List, [], ◌++◌, length, ℤ, Option, Some, None, arith}
+use Rattle.std.specs.List.{list_all, list_any}
+use Rattle.ess_semantics.specs.Order.{same_int}
+use Rattle.ess_semantics.specs.Values.{Text}
+use Rattle.ess_semantics.specs.Trees.{Ex, Stm}
+use Rattle.ess_semantics.specs.Refined.{is_refined}
+use Rattle.ess_semantics.specs.Constants.{constants_of}
+use Rattle.ess_semantics.specs.Occurrences.{parts_of}
+use Rattle.ess_semantics.specs.Meaning.{Env, is_true}
+use Rattle.ess_semantics.specs.Assignments.{env_of}
+use Rattle.ess_semantics.specs.Plans.{Options, plans}
+use Rattle.ess_semantics.specs.ModelTrees.{Model, all_decls}
+use Rattle.ess_grammar.specs.Models.{Scope}
+use Rattle.conjure_laws.specs.ModelPremises.{RuleMeans, spelled}
+use Rattle.conjure_laws.specs.Views.{over_tables}
+use Rattle.conjure_model_laws.specs.Shown.{Shows, shows_of}
+use Rattle.conjure_model_laws.specs.IsBuiltFrom.{constraint_tree}
+use Rattle.conjure_model_laws.specs.Printed.{binders}
+use Rattle.ess_refine_laws.specs.SpellingEnds.{numbers_of_tree}
+use Rattle.ess_flat_models_laws.specs.FlatSpecifications.{scalar_mark}
+use Rattle.ess_bare_written_laws.specs.Laws.{IsEndedTree, EndedTreesAreWritten}
+use Rattle.ess_ranged_laws.specs.Ranged.{is_mark}
+use Rattle.ess_ranged_laws.specs.Laws.{none}
+use Rattle.ess_seen_laws.specs.Seen.{Kind}
+use Rattle.ess_load_laws.specs.Load.{load}
+use Rattle.ess_load_laws.specs.Laws.{LoadsAreCounted}
+use Rattle.ess_setwise_laws.specs.Setwise.{setwise_mark, is_setwise_truth}
+use Rattle.ess_setwise_laws.specs.Laws.{IsSeenOverTables, SetwiseTreesAreSeen}
+use Rattle.ess_rules.specs.Ruled.{IsRuled}
+use Rattle.ess_refine.specs.Chains.{Leads}
+use Rattle.ess_model_trees.specs.Written.{written_for, next_behind}
+use Rattle.ess_model_rules.specs.RulesWritten.{ConstraintComes}
+use Rattle.conjure_seen_laws.specs.Laws.{IsSeenWhole, StaysSeen, SeenTreesStaySeen}
+use Rattle.conjure_setwise_laws.specs.Laws.{HaveSets, SetwiseRulesStand}
+
+mark-is : (o : Option Bool) → is_mark true o ≡ true → o ≡ Some true
+mark-is (Some true) q = refl
+mark-is (Some false) q = cc
+mark-is None q = cc
+
+few-names : (a b c l n t : ℕ) → a ≤ b → b ≤ c → c ≡ l → n + l ≤ 2 ^ 62 → t ≤ 2 ^ 62 → suc (a + t) < 2 ^ 64
+few-names a b c l n t p q r u v = omega (arith, p, q, r, u, v)
+
+enough : (n b c : ℕ) → b ≤ c → n + c ≤ 2 ^ 62 → n + b ≤ 2 ^ 64
+enough n b c p q = omega (arith, p, q)
+
+weaker : (k : ℕ) → k < 2 ^ 64 → k ≤ 2 ^ 64
+weaker k p = omega (arith, p)
+
+module _ (stay : SeenTreesStaySeen) (written : EndedTreesAreWritten) (seen : SetwiseTreesAreSeen) (count : LoadsAreCounted)
+    (S : List Stm) (o : Options) (E : Model) (sets : Text → Option Kind) (cells : Text → Option (Bool × ℕ)) (H : HaveSets S o E sets cells)
+    (e : Ex) (t : is_setwise_truth (scalar_mark (plans S o)) sets e ≡ true) (low : (shows_of S o).next + load e ≤ 2 ^ 62)
+    (taken : List Text) (few : length taken ≤ 2 ^ 62) where
+  abbrev sh : Shows
+  sh = shows_of S o
+
+  abbrev old : Ex
+  old = constraint_tree sh e
+
+  asked : IsSeenOverTables sh (scalar_mark (plans S o)) sets cells e true
+  asked = seen sh (scalar_mark (plans S o)) sets cells H.shown e true (mark-is (setwise_mark (scalar_mark (plans S o)) sets e) t)
+      (enough sh.next (binders e) (load e) (count.binders_are_less e) low)
+
+  whole : IsSeenWhole cells (next_behind sh e) old true
+  whole = record {
+    seen = asked.seen;
+    named = record {
+      scoped = asked.scoped;
+      spares = record { among = asked.among; names = asked.names; spared = asked.spared };
+    };
+  }
+
+  module _ (j : ℕ) (last : Ex) (leads : Leads IsRuled (next_behind sh e) [] old last j) (top : j < 2 ^ 64)
+      (refined : is_refined last ≡ true) where
+    stays : StaysSeen cells j old last true
+    stays = stay cells (next_behind sh e) j old last true whole leads (weaker j top)
+
+    ready : IsEndedTree cells taken last true
+    ready = record {
+      ended = stays.ended refined;
+      unbound = none;
+      around = none;
+      ranging = none;
+      scoped = stays.whole.named.scoped;
+      few = few-names (binders last) (load last) (load old) (load e) sh.next (length taken) (count.binders_are_less last) stays.load
+          asked.loads low few;
+    }
+
+    -- The rule says what the constraint says.
+    means : RuleMeans S o E e (written_for taken last)
+    means p a q c I C =
+        let env : Env = over_tables S p (q ++ c) in
+        let met = H.met p a q c I C in
+        ap is_true (written.value cells taken last true ready (all_decls E) H.declared (q ++ c) env refl
+        ∙ sym (stays.kept env refl (asked.meets env met) (asked.valued env (H.scalars p a q c I C) met)).0
+        ∙ asked.means (env_of S p a) env (H.names p a q c I C) (H.values p a q c I C))
+
+    abbrev isc : ℤ → Bool
+    isc z = list_any (same_int z) (constants_of S)
+
+    spells : list_all isc (numbers_of_tree e) ≡ true → spelled S (parts_of (written_for taken last)) ≡ true
+    spells h =
+        written.spells cells taken last true ready isc refl refl
+        (stays.spells isc refl refl refl (asked.spells isc H.spells h))
+
+  -- What comes of the constraint.
+  pub rules : (s : Scope) (r : Ex) → ConstraintComes s taken sh e (Some r) →
+      RuleMeans S o E e r
+      × (list_all (λ n. list_any (same_int n) (constants_of S)) (numbers_of_tree e) ≡ true → spelled S (parts_of r) ≡ true)
+  rules s r c =
+      let z = c.1.0 in (
+        subst (λ r. RuleMeans S o E e r) (sym z.writes) (means c.0 z.last z.leads z.few z.refined),
+        λ h. subst (λ r. spelled S (parts_of r) ≡ true) (sym z.writes) (spells c.0 z.last z.leads z.few z.refined h),
+      )
+
+-- From the laws of trees over views.
+pub setwise-rules-by : SeenTreesStaySeen → EndedTreesAreWritten → SetwiseTreesAreSeen → LoadsAreCounted → SetwiseRulesStand
+setwise-rules-by stay written seen count S o E sets cells H e t low taken few s r c =
+    rules stay written seen count S o E sets cells H e t low taken few s r c

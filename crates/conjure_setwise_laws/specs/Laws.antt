@@ -1,0 +1,53 @@
+-- The law of rules that are written for constraints that speak of nested sets, stated at a function that does nothing.
+use Rattle.std.specs.Prelude.{◌≡◌, ℕ, ◌+◌, ◌≤◌, ◌^◌, Bool, true, List, ◌++◌, length, Option, Some}
+use Rattle.std.specs.List.{list_all, list_any}
+use Rattle.ess_semantics.specs.Order.{same_int}
+use Rattle.ess_semantics.specs.Values.{Text}
+use Rattle.ess_semantics.specs.Names.{Names}
+use Rattle.ess_semantics.specs.Trees.{Ex, Stm}
+use Rattle.ess_semantics.specs.Tables.{Table}
+use Rattle.ess_semantics.specs.Constants.{constants_of}
+use Rattle.ess_semantics.specs.Occurrences.{parts_of}
+use Rattle.ess_semantics.specs.Assignments.{Assignment, env_of}
+use Rattle.ess_semantics.specs.Plans.{Options, plans}
+use Rattle.ess_semantics.specs.ModelTrees.{Model, all_decls}
+use Rattle.ess_grammar.specs.Models.{Scope}
+use Rattle.conjure_laws.specs.Premises.{Instance}
+use Rattle.conjure_laws.specs.ModelPremises.{Canonical, RuleMeans, spelled}
+use Rattle.conjure_laws.specs.Views.{over_tables}
+use Rattle.conjure_model_laws.specs.Shown.{shows_of}
+use Rattle.ess_refine_laws.specs.SpellingEnds.{numbers_of_tree}
+use Rattle.ess_flat_models_laws.specs.FlatSpecifications.{scalar_mark}
+use Rattle.ess_bare_written_laws.specs.Laws.{AreDeclared}
+use Rattle.ess_ranged_laws.specs.Laws.{HoldsNames}
+use Rattle.ess_seen_laws.specs.Seen.{Kind}
+use Rattle.ess_load_laws.specs.Load.{load}
+use Rattle.ess_setwise_laws.specs.Setwise.{is_setwise_truth}
+use Rattle.ess_setwise_laws.specs.Laws.{ShowsSets, HoldsSets, HoldsScalars, MeetsSets, SpellsSets}
+use Rattle.ess_model_rules.specs.RulesWritten.{ConstraintComes}
+
+-- The scalars of the specification are single cells, and its sets with these kinds of members are views, over tables that the model
+-- declares. Views spell constants of the specification alone. Over the tables of an instance cells hold the values of scalars, and views
+-- those of sets; and the structures of views are met.
+pub record HaveSets (S : List Stm) (o : Options) (E : Model) (sets : Text → Option Kind) (cells : Text → Option (Bool × ℕ)) : Type 0 where
+  pub shown : ShowsSets (shows_of S o) (scalar_mark (plans S o)) sets cells
+  pub declared : AreDeclared (all_decls E) cells
+  pub spells : SpellsSets (shows_of S o) sets (λ n. list_any (same_int n) (constants_of S))
+  pub names : (p a : Assignment) (q c : Names Table) → Instance S o p q → Canonical S o p a c →
+      HoldsNames (shows_of S o) (scalar_mark (plans S o)) (env_of S p a) (over_tables S p (q ++ c))
+  pub values : (p a : Assignment) (q c : Names Table) → Instance S o p q → Canonical S o p a c →
+      HoldsSets (shows_of S o) sets (env_of S p a) (over_tables S p (q ++ c))
+  pub scalars : (p a : Assignment) (q c : Names Table) → Instance S o p q → Canonical S o p a c →
+      HoldsScalars (shows_of S o) (scalar_mark (plans S o)) (over_tables S p (q ++ c))
+  pub met : (p a : Assignment) (q c : Names Table) → Instance S o p q → Canonical S o p a c →
+      MeetsSets (shows_of S o) sets (over_tables S p (q ++ c))
+
+-- The rule that comes of a constraint that speaks of nested sets says what the constraint says. It spells constants of the specification
+-- alone, where the constraint does. Names are left for those that are bound and that rules come to bind, as in all that a machine holds.
+abbrev pub SetwiseRulesStand : Type 0
+SetwiseRulesStand = (S : List Stm) (o : Options) (E : Model) (sets : Text → Option Kind) (cells : Text → Option (Bool × ℕ)) →
+    HaveSets S o E sets cells → (e : Ex) → is_setwise_truth (scalar_mark (plans S o)) sets e ≡ true →
+    (shows_of S o).next + load e ≤ 2 ^ 62 → (taken : List Text) → length taken ≤ 2 ^ 62 → (s : Scope) (r : Ex) →
+    ConstraintComes s taken (shows_of S o) e (Some r) →
+    RuleMeans S o E e r
+    × (list_all (λ n. list_any (same_int n) (constants_of S)) (numbers_of_tree e) ≡ true → spelled S (parts_of r) ≡ true)

@@ -1,0 +1,10 @@
+-- The plans of nested finds by name
+pub mod NestedNames
+-- Tables that keep nested sets
+pub mod KeptTables
+-- Members and domains of nested sets
+pub mod PlainMembers
+-- Values of views
+pub mod ViewValues
+-- Numbers of views
+pub mod ViewNumbers

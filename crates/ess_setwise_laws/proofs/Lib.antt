@@ -1,0 +1,21 @@
+-- Trees of the class, and what is tested
+pub mod SetwiseTrees
+pub mod Tested
+-- Over tables
+pub mod ShownForms
+pub mod NameKinds
+pub mod Counted
+pub mod ToldSetwise
+pub mod ToldCounted
+pub mod ToldMeans
+-- Total, over views, in scope, of values
+pub mod SetwiseGuard
+pub mod SetwiseSeen
+pub mod SetwiseMet
+pub mod ItemValues
+pub mod SetwiseValues
+-- What is promised
+pub mod SetwiseLaws
+-- Worked examples
+pub mod Examples
+pub mod ExamplesShown

@@ -1,0 +1,219 @@
+-- A constraint of the class needs no conditions over tables to be total, so it is left as it is.
+use Rattle.std.proofs.Common.{◌≡◌, refl, ap, ◌∙◌, ℕ, Bool, true, false, List, [], ◌∷◌, ◌++◌, Option}
+use Rattle.ess_semantics.specs.declared.words.Op1.{Op1}
+use Rattle.ess_semantics.specs.declared.words.Op2.{Op2}
+use Rattle.ess_semantics.specs.declared.words.Fun.{Fun}
+use Rattle.ess_semantics.specs.Values.{Text}
+use Rattle.ess_semantics.specs.Names.{Names}
+use Rattle.ess_semantics.specs.Trees.{both_ends, name_pat, Ex, no_exs, more_exs, comp_ex, Gens, no_gens, over, from, cond, bool_dom, int_dom, ex1, ex2, fun1}
+use Rattle.ess_guard_laws.specs.Origins.{Origin, with_any, with_over, known_behind}
+use Rattle.ess_guard_laws.specs.Conditions.{chained, every, given_that}
+use Rattle.ess_guard_laws.specs.Guard.{guarded, guarded_gens, conditions, conditions_gens}
+use Rattle.ess_flat_laws.specs.Flat.{OneOp, TwoOp, denied, negative, absolute, both, either, implied, agreeing, equal, unequal, below, at_most, above, at_least, sum, difference, product}
+use Rattle.ess_bare_laws.specs.Bare.{TruthWord, all_hold, some_holds}
+use Rattle.ess_seen_laws.specs.Seen.{Kind, Bound}
+use Rattle.ess_setwise_laws.proofs.SetwiseTrees.{Stands, named, as_shown, Setwise, number, truth, scalar, one, two, chosen, folded, added, size, within, Binding, at_end, over_truths, over_numbers, among, where_holds, Form, a_cell, a_view}
+
+-- Two operands whose nodes have conditions of their own, and none.
+none-both : (as' bs : List Ex) → as' ≡ [] → bs ≡ [] → (as' ++ (bs ++ [])) ++ [] ≡ []
+none-both as' bs a b = ap (λ l. (l ++ (bs ++ [])) ++ []) a ∙ ap (λ l. ([] ++ (l ++ [])) ++ []) b
+
+none-one : (as' : List Ex) → as' ≡ [] → (as' ++ []) ++ [] ≡ []
+none-one as' a = ap (λ l. (l ++ []) ++ []) a
+
+none-range : (as' bs cs : List Ex) (g : Gens) → as' ≡ [] → bs ≡ [] → cs ≡ [] → (as' ++ (bs ++ [])) ++ every g cs ≡ []
+none-range as' bs cs g a b c =
+    ap (λ l. (as' ++ (bs ++ [])) ++ every g l) c ∙ none-both as' bs a b
+
+none-source : (as' cs : List Ex) (g : Gens) → as' ≡ [] → cs ≡ [] → as' ++ every g cs ≡ []
+none-source as' cs g a c = ap (λ l. as' ++ every g l) c ∙ ap (λ l. l ++ []) a
+
+-- A Boolean of two terms without conditions.
+two-kept : (o : Op2) (x y z u : Ex) (as' bs : List Ex) → as' ≡ [] → bs ≡ [] → z ≡ x → u ≡ y →
+    chained ((as' ++ (bs ++ [])) ++ []) (ex2 true o z u) ≡ ex2 true o x y
+two-kept o x y z u as' bs a b q r =
+    ap (λ l. chained l (ex2 true o z u)) (none-both as' bs a b) ∙ ap (λ v. ex2 true o v u) q ∙ ap (ex2 true o x) r
+
+-- A word on a list without conditions.
+fold-kept : (f : Fun) (e e' : Ex) (gs gs' : Gens) (as' : List Ex) → as' ≡ [] → e' ≡ e → gs' ≡ gs →
+    chained ((as' ++ []) ++ []) (fun1 true f (comp_ex e' gs')) ≡ fun1 true f (comp_ex e gs)
+fold-kept f e e' gs gs' as' a q r =
+    ap (λ l. chained l (fun1 true f (comp_ex e' gs'))) (none-one as' a) ∙ ap (λ z. fun1 true f (comp_ex z gs')) q
+    ∙ ap (λ z. fun1 true f (comp_ex e z)) r
+
+both-kept : (b : Bool) (o : Op2) (x y x' y' : Ex) → x' ≡ x → y' ≡ y → ex2 b o x' y' ≡ ex2 b o x y
+both-kept b o x y x' y' q r = ap (λ z. ex2 b o z y') q ∙ ap (ex2 b o x) r
+
+range-kept : (a : Text) (x y x' y' : Ex) (gs gs' : Gens) → x' ≡ x → y' ≡ y → gs' ≡ gs →
+    over (name_pat a) (int_dom (both_ends ∷ []) (more_exs x' (more_exs y' no_exs))) gs'
+    ≡ over (name_pat a) (int_dom (both_ends ∷ []) (more_exs x (more_exs y no_exs))) gs
+range-kept a x y x' y' gs gs' q r w =
+    ap (λ z. over (name_pat a) (int_dom (both_ends ∷ []) (more_exs z (more_exs y' no_exs))) gs') q
+    ∙ ap (λ z. over (name_pat a) (int_dom (both_ends ∷ []) (more_exs x (more_exs z no_exs))) gs') r
+    ∙ ap (over (name_pat a) (int_dom (both_ends ∷ []) (more_exs x (more_exs y no_exs)))) w
+
+source-kept : (a : Text) (s s' : Ex) (gs gs' : Gens) → s' ≡ s → gs' ≡ gs → from (name_pat a) s' gs' ≡ from (name_pat a) s gs
+source-kept a s s' gs gs' q r = ap (λ z. from (name_pat a) z gs') q ∙ ap (from (name_pat a) s) r
+
+module _ (names : Text → Option Kind) (Shown : Ex → Kind → Type 0) (cells : Text → Option (Bool × ℕ))
+    (form : (e : Ex) (k : Kind) → Shown e k → Form cells e k) (p q : Text) where
+  abbrev C : Names Bound → Ex → Bool → Type 0
+  C = Setwise names Shown
+
+  abbrev conds : Names Origin → Bool → Ex → List Ex
+  conds = conditions true p q
+
+  abbrev kept : Names Origin → Ex → Ex
+  kept = guarded true p q
+
+  -- A cell or a view has a value under no condition, and stays.
+  form-none : {e : Ex} {i : Kind} → Form cells e i → (k : Names Origin) (w : Bool) → conds k w e ≡ []
+  form-none (a_cell {m = true} h) k w = refl
+  form-none (a_cell {m = false} h) k w = refl
+  form-none (a_view n f h) k w = refl
+
+  form-kept : {e : Ex} {i : Kind} → Form cells e i → (k : Names Origin) → kept k e ≡ e
+  form-kept (a_cell {m = true} h) k = refl
+  form-kept (a_cell {m = false} h) k = refl
+  form-kept (a_view n f h) k = refl
+
+  at-none : {r : Names Bound} {e : Ex} {i : Kind} → Stands names Shown r e i → (k : Names Origin) (w : Bool) → conds k w e ≡ []
+  at-none (named h) k w = refl
+  at-none (as_shown {e = e} {k = i} h) k w = form-none (form e i h) k w
+
+  at-kept : {r : Names Bound} {e : Ex} {i : Kind} → Stands names Shown r e i → (k : Names Origin) → kept k e ≡ e
+  at-kept (named h) k = refl
+  at-kept (as_shown {e = e} {k = i} h) k = form-kept (form e i h) k
+
+  -- An operator on terms without conditions.
+  one-none : {b m : Bool} {o : Op1} (x : Ex) → OneOp b o m → ((k : Names Origin) (w : Bool) → conds k w x ≡ []) → (k : Names Origin)
+      (w : Bool) → conds k w (ex1 b o x) ≡ []
+  one-none x denied f k w = refl
+  one-none x negative f k true = none-one (conds k true x) (f k true)
+  one-none x negative f k false = none-one (conds k false x) (f k false)
+  one-none x absolute f k true = none-one (conds k true x) (f k true)
+  one-none x absolute f k false = none-one (conds k false x) (f k false)
+
+  two-none : {b m i : Bool} {o : Op2} (x y : Ex) → TwoOp b o m i → ((k : Names Origin) (w : Bool) → conds k w x ≡ []) →
+      ((k : Names Origin) (w : Bool) → conds k w y ≡ []) → (k : Names Origin) (w : Bool) → conds k w (ex2 b o x y) ≡ []
+  two-none x y both f h k w = refl
+  two-none x y either f h k w = refl
+  two-none x y implied f h k w = refl
+  two-none x y agreeing f h k w = refl
+  two-none x y equal f h k w = refl
+  two-none x y unequal f h k w = refl
+  two-none x y below f h k w = refl
+  two-none x y at_most f h k w = refl
+  two-none x y above f h k w = refl
+  two-none x y at_least f h k w = refl
+  two-none x y sum f h k true = none-both (conds k true x) (conds k true y) (f k true) (h k true)
+  two-none x y sum f h k false = none-both (conds k false x) (conds k false y) (f k false) (h k false)
+  two-none x y difference f h k true = none-both (conds k true x) (conds k true y) (f k true) (h k true)
+  two-none x y difference f h k false = none-both (conds k false x) (conds k false y) (f k false) (h k false)
+  two-none x y product f h k true = none-both (conds k true x) (conds k true y) (f k true) (h k true)
+  two-none x y product f h k false = none-both (conds k false x) (conds k false y) (f k false) (h k false)
+
+  mutual
+    -- A constraint has a value under no condition.
+    pub no-conditions : {r : Names Bound} {e : Ex} {m : Bool} → C r e m → (k : Names Origin) (w : Bool) → conds k w e ≡ []
+    no-conditions number k w = refl
+    no-conditions truth k w = refl
+    no-conditions (scalar h) k w = at-none h k w
+    no-conditions (one {x = x} s f) k w = one-none x s (no-conditions f) k w
+    no-conditions (two {x = x} {y = y} s f h) k w = two-none x y s (no-conditions f) (no-conditions h) k w
+    no-conditions (chosen {x = x} f) k true = none-one (conds k false x) (no-conditions f k false)
+    no-conditions (chosen {x = x} f) k false = none-one (conds k false x) (no-conditions f k false)
+    no-conditions (folded w g f) k v = refl
+    no-conditions (added {e = e} {gs = gs} g f) k true =
+        none-one (conds k false (comp_ex e gs))
+        (none-gens g (conds (known_behind gs k) false e) (no-conditions f (known_behind gs k) false) k)
+    no-conditions (added {e = e} {gs = gs} g f) k false =
+        none-one (conds k false (comp_ex e gs))
+        (none-gens g (conds (known_behind gs k) false e) (no-conditions f (known_behind gs k) false) k)
+    no-conditions (size {s = s} h) k true = none-one (conds k true s) (at-none h k true)
+    no-conditions (size {s = s} h) k false = none-one (conds k false s) (at-none h k false)
+    no-conditions (within f h) k w = refl
+
+    -- Generators neither, where what stands behind them needs none.
+    none-gens : {c : Bool} {r t : Names Bound} {gs : Gens} → Binding names Shown c r gs t → (cs : List Ex) → cs ≡ [] → (k : Names Origin) →
+        conditions_gens true p q k gs cs ≡ []
+    none-gens at_end cs h k = h
+    none-gens (over_truths {a = a} {gs = gs} w g) cs h k =
+        ap (every (over (name_pat a) bool_dom no_gens)) (none-gens g cs h (with_over (name_pat a) bool_dom k))
+    none-gens (over_numbers {a = a} {x = x} {y = y} {gs = gs} w f v g) cs h k =
+        none-range (conds k false x) (conds k false y)
+        (conditions_gens true p q (with_over (name_pat a) (int_dom (both_ends ∷ []) (more_exs x (more_exs y no_exs))) k) gs cs)
+        _ (no-conditions f k false) (no-conditions v k false)
+        (none-gens g cs h (with_over (name_pat a) (int_dom (both_ends ∷ []) (more_exs x (more_exs y no_exs))) k))
+    none-gens (among {a = a} {s = s} {gs = gs} w f g) cs h k =
+        none-source (conds k false s) (conditions_gens true p q (with_any (name_pat a) k) gs cs) _ (at-none f k false)
+        (none-gens g cs h (with_any (name_pat a) k))
+    none-gens (where_holds {e = e} f g) cs h k = ap (given_that (guarded true p q k e)) (none-gens g cs h k)
+
+  two-guarded : {b m i : Bool} {o : Op2} (x y : Ex) → TwoOp b o m i → ((k : Names Origin) (w : Bool) → conds k w x ≡ []) →
+      ((k : Names Origin) (w : Bool) → conds k w y ≡ []) → (k : Names Origin) → kept k x ≡ x → kept k y ≡ y →
+      kept k (ex2 b o x y) ≡ ex2 b o x y
+  two-guarded x y both f h k c d = both-kept true Op2.And x y _ _ c d
+  two-guarded x y either f h k c d = both-kept true Op2.Or x y _ _ c d
+  two-guarded x y implied f h k c d = both-kept true Op2.Implies x y _ _ c d
+  two-guarded x y agreeing f h k c d = both-kept true Op2.Iff x y _ _ c d
+  two-guarded x y equal f h k c d =
+      two-kept Op2.Eq x y (kept k x) (kept k y) (conds k true x) (conds k true y) (f k true) (h k true) c d
+  two-guarded x y unequal f h k c d =
+      two-kept Op2.Ne x y (kept k x) (kept k y) (conds k true x) (conds k true y) (f k true) (h k true) c d
+  two-guarded x y below f h k c d =
+      two-kept Op2.Lt x y (kept k x) (kept k y) (conds k true x) (conds k true y) (f k true) (h k true) c d
+  two-guarded x y at_most f h k c d =
+      two-kept Op2.Le x y (kept k x) (kept k y) (conds k true x) (conds k true y) (f k true) (h k true) c d
+  two-guarded x y above f h k c d =
+      two-kept Op2.Gt x y (kept k x) (kept k y) (conds k true x) (conds k true y) (f k true) (h k true) c d
+  two-guarded x y at_least f h k c d =
+      two-kept Op2.Ge x y (kept k x) (kept k y) (conds k true x) (conds k true y) (f k true) (h k true) c d
+  two-guarded x y sum f h k c d = both-kept false Op2.Plus x y _ _ c d
+  two-guarded x y difference f h k c d = both-kept false Op2.Minus x y _ _ c d
+  two-guarded x y product f h k c d = both-kept false Op2.Times x y _ _ c d
+
+  one-guarded : {b m : Bool} {o : Op1} (x : Ex) → OneOp b o m → (k : Names Origin) → kept k x ≡ x → kept k (ex1 b o x) ≡ ex1 b o x
+  one-guarded x denied k c = ap (ex1 true Op1.Not) c
+  one-guarded x negative k c = ap (ex1 false Op1.Minus) c
+  one-guarded x absolute k c = ap (ex1 false Op1.Bar) c
+
+  fold-guarded : {f : Fun} (e : Ex) (gs : Gens) → TruthWord f → (k : Names Origin) → conds k false (comp_ex e gs) ≡ [] →
+      kept (known_behind gs k) e ≡ e → guarded_gens true p q k gs ≡ gs → kept k (fun1 true f (comp_ex e gs)) ≡ fun1 true f (comp_ex e gs)
+  fold-guarded e gs all_hold k n c d =
+      fold-kept Fun.And e (kept (known_behind gs k) e) gs (guarded_gens true p q k gs) (conds k false (comp_ex e gs)) n c d
+  fold-guarded e gs some_holds k n c d =
+      fold-kept Fun.Or e (kept (known_behind gs k) e) gs (guarded_gens true p q k gs) (conds k false (comp_ex e gs)) n c d
+
+  mutual
+    -- So it stays as it is.
+    pub guarded-setwise : {r : Names Bound} {e : Ex} {m : Bool} → C r e m → (k : Names Origin) → guarded true p q k e ≡ e
+    guarded-setwise number k = refl
+    guarded-setwise truth k = refl
+    guarded-setwise (scalar h) k = at-kept h k
+    guarded-setwise (one {x = x} s f) k = one-guarded x s k (guarded-setwise f k)
+    guarded-setwise (two {x = x} {y = y} s f h) k =
+        two-guarded x y s (no-conditions f) (no-conditions h) k (guarded-setwise f k) (guarded-setwise h k)
+    guarded-setwise (chosen f) k = ap (fun1 false Fun.ToInt) (guarded-setwise f k)
+    guarded-setwise (folded {e = e} {gs = gs} w g f) k =
+        fold-guarded e gs w k (none-gens g (conds (known_behind gs k) false e) (no-conditions f (known_behind gs k) false) k)
+        (guarded-setwise f (known_behind gs k)) (guarded-binding g k)
+    guarded-setwise (added {e = e} {gs = gs} g f) k =
+        ap (λ z. fun1 false Fun.Sum (comp_ex z (guarded_gens true p q k gs))) (guarded-setwise f (known_behind gs k))
+        ∙ ap (λ z. fun1 false Fun.Sum (comp_ex e z)) (guarded-binding g k)
+    guarded-setwise (size h) k = ap (ex1 false Op1.Bar) (at-kept h k)
+    guarded-setwise (within {x = x} {s = s} f h) k =
+        two-kept Op2.Member x s (kept k x) (kept k s) (conds k false x) (conds k false s) (no-conditions f k false) (at-none h k false)
+        (guarded-setwise f k) (at-kept h k)
+
+    guarded-binding : {c : Bool} {r t : Names Bound} {gs : Gens} → Binding names Shown c r gs t → (k : Names Origin) →
+        guarded_gens true p q k gs ≡ gs
+    guarded-binding at_end k = refl
+    guarded-binding (over_truths {a = a} w g) k = ap (over (name_pat a) bool_dom) (guarded-binding g (with_over (name_pat a) bool_dom k))
+    guarded-binding (over_numbers {a = a} {x = x} {y = y} {gs = gs} w f h g) k =
+        range-kept a x y (kept k x) (kept k y) gs _ (guarded-setwise f k) (guarded-setwise h k)
+        (guarded-binding g (with_over (name_pat a) (int_dom (both_ends ∷ []) (more_exs x (more_exs y no_exs))) k))
+    guarded-binding (among {a = a} {s = s} {gs = gs} w h g) k =
+        source-kept a s (kept k s) gs _ (at-kept h k) (guarded-binding g (with_any (name_pat a) k))
+    guarded-binding (where_holds {e = e} {gs = gs} f g) k =
+        ap (λ z. cond z (guarded_gens true p q k gs)) (guarded-setwise f k) ∙ ap (cond e) (guarded-binding g k)
