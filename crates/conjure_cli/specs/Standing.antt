@@ -11,10 +11,10 @@ use Rattle.conjure_cli.specs.Tasks.{Task, refine}
 -- The text is of a class of which it is proved that its model is right: a text of the small grammar without a list of representations; or,
 -- with or without a list, a specification of scalars and sets side by side (`is_mixed_specification`): its givens are truth values or
 -- numbers, its finds these, or sets of numbers of a range, of truth values or of values of a type, each kept by which members occur, or
--- sets of any nesting over numbers and truth values, with sizes, each kept in one representation, of which no constraint speaks; its
--- conditions and objective are flat and total over the scalars; and so are its constraints, or these are truth values over scalars and
--- ranges, or say that a value is in a find that is kept by which members occur; or, with or without a list, a specification of such sets
--- and memberships alone (`spec`).
+-- sets of any nesting over numbers and truth values, with sizes, each kept in one representation; its conditions and objective are flat
+-- and total over the scalars; and so are its constraints, or these are truth values over scalars, ranges, and sizes and members of sets of
+-- any nesting, or say that a value is in a find that is kept by which members occur; or, with or without a list, a specification of such
+-- sets and memberships alone (`spec`).
 abbrev pub IsProvedClass : Option (List ℕ) → List ℕ → Type 0
 IsProvedClass list text = IsSmallWay list text ⊎ (IsMixedText list text ⊎ IsMemberText list text)
 
