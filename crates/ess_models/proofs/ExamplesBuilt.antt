@@ -42,7 +42,7 @@ built = record {
       each = (
         record {
           new = truth_ex true;
-          comes = (2, (record { last = truth_ex true; leads = as_it_was (omega arith); refined = refl; writes = refl }, refl));
+          comes = (2, (record { last = truth_ex true; leads = as_it_was (omega arith); few = omega arith; refined = refl; writes = refl }, refl));
           is = refl;
         },
         tt,
@@ -52,7 +52,7 @@ built = record {
     channels_written = record { each = tt };
     goal_written = refl;
     constraints_written = record {
-      each = ((2, (record { last = cell; leads = as_it_was (omega arith); refined = refl; writes = refl }, refl)), tt);
+      each = ((2, (record { last = cell; leads = as_it_was (omega arith); few = omega arith; refined = refl; writes = refl }, refl)), tt);
     };
   };
 }
