@@ -26,16 +26,16 @@ use Rattle.conjure_laws.specs.ModelPremises.{Canonical}
 use Rattle.conjure_laws.specs.Views.{over_tables}
 use Rattle.conjure_model_laws.specs.ToldApart.{is_unreserved}
 use Rattle.conjure_model_laws.specs.Shown.{Shows, in_place, shows_nothing, shows_of}
+use Rattle.conjure_model_laws.specs.Printed.{binders}
 use Rattle.conjure_model_laws.specs.IsBuiltFrom.{taken_names}
 use Rattle.ess_nested_laws.proofs.NestedForms.{nested-form, kept-form}
 use Rattle.ess_flat_models_laws.specs.FlatSpecifications.{scalar_mark, is_flat_truth}
 use Rattle.ess_bare_written_laws.specs.Laws.{IsDeclared}
 use Rattle.ess_seen_laws.specs.Seen.{Kind}
-use Rattle.ess_load_laws.specs.Load.{load}
 use Rattle.ess_setwise_laws.specs.Setwise.{is_setwise_truth}
 use Rattle.ess_setwise_laws.specs.Laws.{ShowsSets, HoldsSets, HoldsScalars, MeetsSets, SpellsSets}
 use Rattle.ess_model_rules.specs.RulesWritten.{ConstraintComes}
-use Rattle.ess_mixed_models_laws.specs.MixedSpecifications.{kinds, nested_kind, are_mixed_statements, types_come_first, have_bounds, spares_reserved, has_names_for_rules, is_ranged_constraint, is_setwise_constraint}
+use Rattle.ess_mixed_models_laws.specs.MixedSpecifications.{kinds, nested_kind, are_mixed_statements, types_come_first, have_bounds, spares_reserved, has_names_left, is_ranged_constraint, is_setwise_constraint}
 use Rattle.ess_mixed_models_laws.specs.MixedModels.{mixed_decl, mixed_decls, IsRuleOf, of_told}
 use Rattle.ess_mixed_models_laws.proofs.ScalarCells.{placed-names}
 use Rattle.ess_mixed_views_laws.proofs.NestedNames.{NestedAmong, nested-name}
@@ -158,14 +158,14 @@ module _ (S : List Stm) (o : Options) (h : are_mixed_statements S o ≡ true) (f
     setwise-rule stand s x r n t w =
         let u : Bool = is_setwise_truth (scalar_mark Ps) (nested_kind Ps) x in
         let v : Bool = spares_reserved Ps S in
-        let l : Bool = has_names_for_rules Ps S x in
+        let l : Bool = has_names_left Ps S x in
         let k : Bool = list_all (λ n. list_any (same_int n) (constants_of S)) (numbers_of_tree x) in
         let b1 = and-right u (v && (l && k)) t in
         let b2 = and-right v (l && k) b1 in
         let b3 = and-left l k b2 in
-        let c1 : Bool = nat_le (sh.next + load x) (2 ^ 62) in
+        let c1 : Bool = nat_le (sh.next + binders x) (2 ^ 62) in
         let c2 : Bool = nat_le (length (taken_names S o)) (2 ^ 62) in
         let z = stand S o E (nested_kind Ps) cells (have-sets (and-left v (l && k) b1)) x (and-left u (v && (l && k)) t)
-        (leb-true (sh.next + load x) (2 ^ 62) (and-left c1 c2 b3)) (taken_names S o)
+        (leb-true (sh.next + binders x) (2 ^ 62) (and-left c1 c2 b3)) (taken_names S o)
         (leb-true (length (taken_names S o)) (2 ^ 62) (and-right c1 c2 b3)) s r w in
         of_told n (or-right (is_ranged_constraint Ps S x) (is_setwise_constraint Ps S x) t) z.0 (z.1 (and-right l k b2))

@@ -4,8 +4,8 @@ use Rattle.ess_semantics.specs.declared.words.Fun.{Fun}
 use Rattle.ess_semantics.specs.Values.{Text}
 use Rattle.ess_semantics.specs.Names.{Names}
 use Rattle.ess_semantics.specs.Trees.{name_pat, number_ex, Ex, comp_ex, fun1, Gens, no_gens, over, from, cond}
-use Rattle.ess_seen_laws.specs.Seen.{Kind, Bound, SetTerm, view, drawn, Seen, number, truth, named, cell, atom, one, two, power, chosen, folded, added, counted, one_truth, one_number, size, within, Going, at_end, through, among, where_holds, Axes, no_axis, along, Counting, members_of, in_use, truths, numbers}
-use Rattle.ess_seen_laws.specs.SeenParts.{IsIndex, numeral, axis, Items, truths_listed, numbers_listed, ones_listed, item_listed}
+use Rattle.ess_seen_laws.specs.Seen.{Kind, Bound, SetTerm, view, drawn, combined, Seen, number, truth, named, cell, atom, one, two, power, chosen, folded, added, counted, of_items, size, within, set_within, compared, Going, at_end, through, among, where_holds, Axes, no_axis, along, Counting, members_of, in_use, truths, numbers}
+use Rattle.ess_seen_laws.specs.SeenParts.{IsIndex, numeral, axis, Items, truths_listed, numbers_listed, ones_listed, items_listed}
 use Rattle.ess_seen_laws.specs.Laws.{SetsStayAsTheyAre}
 use Rattle.ess_rules.specs.Ruled.{new_source, with_new_source}
 
@@ -34,7 +34,7 @@ module _ (cells : Text → Option (Bool × ℕ)) (same : SetsStayAsTheyAre) wher
   axes-stay (along {a = a} {d = d} (numbers b es) g) j = ap (over (name_pat a) d) (axes-stay g j)
 
   counting-stays : {r : Names Bound} {gs : Gens} → Counting cells r gs → Stay gs
-  counting-stays (members_of {a = a} s) j = source-stays a no_gens s j
+  counting-stays (members_of {a = a} s u) j = source-stays a no_gens s j
   counting-stays (in_use truths f) j = refl
   counting-stays (in_use (numbers b es) f) j = refl
 
@@ -51,10 +51,11 @@ module _ (cells : Text → Option (Bool × ℕ)) (same : SetsStayAsTheyAre) wher
   chosen-stays (folded w g f) j = refl
   chosen-stays (added g f) j = refl
   chosen-stays (counted g) j = refl
-  chosen-stays (one_truth w f) j = refl
-  chosen-stays (one_number f) j = refl
-  chosen-stays (size s) j = refl
+  chosen-stays (of_items w f) j = refl
+  chosen-stays (size s u) j = refl
   chosen-stays (within f s) j = refl
+  chosen-stays (set_within s t) j = refl
+  chosen-stays (compared o s t) j = refl
 
   -- So it is at scalars, at sets, at lists and at indices.
   pub scalar-stays : {r : Names Bound} {e : Ex} {m : Bool} → Seen cells r e m → StaysItself e
@@ -70,20 +71,22 @@ module _ (cells : Text → Option (Bool × ℕ)) (same : SetsStayAsTheyAre) wher
   scalar-stays (folded {f = w} {e = e} v g f) j = ap (λ z. fun1 true w (comp_ex e z)) (going-stays g j)
   scalar-stays (added {e = e} g f) j = ap (λ z. fun1 false Fun.Sum (comp_ex e z)) (axes-stay g j)
   scalar-stays (counted g) j = ap (λ z. fun1 false Fun.Sum (comp_ex (number_ex (pos 1)) z)) (counting-stays g j)
-  scalar-stays (one_truth w f) j = refl
-  scalar-stays (one_number f) j = refl
-  scalar-stays (size s) j = refl
+  scalar-stays (of_items w f) j = refl
+  scalar-stays (size s u) j = refl
   scalar-stays (within f s) j = refl
+  scalar-stays (set_within s t) j = refl
+  scalar-stays (compared o s t) j = refl
 
   pub set-stays : {r : Names Bound} {e : Ex} {k : Kind} → SetTerm cells r e k → StaysItself e
   set-stays (view n q h i) j = refl
   set-stays (drawn h) j = refl
+  set-stays (combined o s t) j = refl
 
   pub list-stays : {r : Names Bound} {e : Ex} {m : Bool} → Items cells r e m → StaysItself e
   list-stays (truths_listed {e = e} g f) j = ap (comp_ex e) (going-stays g j)
   list-stays (numbers_listed {e = e} g f) j = ap (comp_ex e) (axes-stay g j)
   list-stays (ones_listed g) j = ap (comp_ex (number_ex (pos 1))) (counting-stays g j)
-  list-stays (item_listed f) j = refl
+  list-stays (items_listed f) j = refl
 
 pub index-stays : {r : Names Bound} {e : Ex} → IsIndex r e → StaysItself e
 index-stays numeral j = refl

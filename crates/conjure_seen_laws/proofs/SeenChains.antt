@@ -1,5 +1,5 @@
 -- Rules lead from trees over views of sets to such trees that mean the same, one rule at a part after the other.
-use Rattle.std.proofs.Common.{◌≡◌, refl, sym, ap, ◌∙◌, subst, ℕ, suc, ◌≤◌, ◌<◌, ◌^◌, le_refl, Bool, true, false, not, [], Option, Some, None, arith}
+use Rattle.std.proofs.Common.{◌≡◌, refl, sym, ap, ◌∙◌, subst, ◌⊎◌, inl, inr, ℕ, suc, ◌≤◌, ◌<◌, ◌^◌, le_refl, Bool, true, false, not, [], Option, Some, None, arith}
 use Rattle.std.specs.Prelude.{IsTrue, is_some}
 use Rattle.ess_semantics.specs.Values.{Text}
 use Rattle.ess_semantics.specs.Names.{Names, look}
@@ -14,26 +14,30 @@ use Rattle.ess_semantics.specs.Contexts.{In, fill, Where}
 use Rattle.ess_semantics.specs.NamesAt.{names_at}
 use Rattle.ess_rules_laws.proofs.Places.{where-join, where-map}
 use Rattle.ess_rules_laws.proofs.KeptUnder.{step-here}
+use Rattle.ess_refine_laws.specs.AllRules.{Rule, rewrite}
 use Rattle.ess_refine_laws.specs.ScopesStay.{Scope, scope_at, is_outside_views}
 use Rattle.ess_values_along_laws.specs.Valued.{Valued, is_matrix_view}
 use Rattle.ess_values_along_laws.specs.ValuesAlong.{natural_at, KeepsValues}
 use Rattle.ess_values_along_laws.proofs.ValuesAlong.{values-along}
 use Rattle.ess_valued_chains_laws.proofs.Parts.{valued-part, met-part}
 use Rattle.conjure_model_laws.specs.ToldApart.{reserved}
-use Rattle.ess_load_laws.specs.Load.{load}
-use Rattle.ess_seen_laws.specs.Seen.{Bound, bound_types, Seen, number, truth, named, cell, atom, one, two, power, chosen, folded, added, counted, one_truth, one_number, size, within}
+use Rattle.ess_depth_laws.specs.Below.{is_below, HasNamesBelow}
+use Rattle.ess_depth_laws.specs.Laws.{DepthsAreBounded}
+use Rattle.ess_seen_laws.specs.Seen.{Bound, bound_types, Seen, number, truth, named, cell, atom, one, two, power, chosen, folded, added, counted, of_items, size, within, set_within, compared}
 use Rattle.ess_seen_laws.specs.SeenParts.{AllBound, Part, scalar_part, set_part, list_part, index_part}
 use Rattle.ess_seen_laws.specs.Laws.{PartsOfSeenTrees, SetsStayAsTheyAre}
+use Rattle.ess_seen_laws.specs.MayFire.{may_fire, CountsMembers}
+use Rattle.ess_seen_laws.specs.Apart.{Apart}
 use Rattle.ess_seen_ended_laws.specs.Laws.{SeenTreesEnd}
-use Rattle.ess_seen_rules_laws.specs.Apart.{Apart}
-use Rattle.ess_seen_rules_laws.specs.Laws.{FewRulesFire, StaysSeen as RulesLeaveSeen}
-use Rattle.ess_seen_values_laws.specs.Laws.{ToldApart, IsMet, StaysAlike, SeenRulesKeep, PartsOfSeenTrees as PartsAreTyped}
-use Rattle.ess_seen_names_laws.specs.Laws.{none, SparesNames, KeepsNames, SeenRulesKeepNames, NamesAtParts}
-use Rattle.ess_rules.specs.Ruled.{IsRuled, Ruling, plainly, by_kind, gathering, in_order, supply_at, ruled}
+use Rattle.ess_seen_rules_laws.specs.Laws.{FewRulesFire}
+use Rattle.ess_seen_stays_laws.specs.Laws.{StaysSeen as RulesLeaveSeen}
+use Rattle.ess_seen_values_laws.specs.Laws.{IsMet, StaysAlike, SeenRulesKeep, PartsOfSeenTrees as PartsAreTyped}
+use Rattle.ess_seen_names_laws.specs.Laws.{none, KeepsNames, SeenRulesKeepNames, NamesAtParts}
+use Rattle.ess_rules.specs.Ruled.{IsRuled, Ruling, plainly, by_kind, gathering, in_order, MayRule, supply_at, ruled}
 use Rattle.ess_refine.specs.Chains.{as_it_was, led_at, Leads}
 use Rattle.conjure_seen_laws.specs.Laws.{IsSeenWhole, StaysSeen, SeenTreesStaySeen}
 use Rattle.conjure_seen_laws.proofs.Roots.{scalar-stays, set-stays, list-stays, index-stays}
-use Rattle.conjure_seen_laws.proofs.Rulings.{kept-plainly, kept-by-kind, none-ruled, at-itself}
+use Rattle.conjure_seen_laws.proofs.Rulings.{counts-none, none-ruled, at-itself}
 use Rattle.conjure_seen_laws.proofs.BoundNames.{bound-type, absurd-both, isnt-bound}
 use Rattle.conjure_seen_laws.proofs.Counters.{rule-up, chain-up}
 use Rattle.conjure_seen_laws.proofs.Covered.{known-at}
@@ -68,10 +72,11 @@ module _ (cells : Text → Option (Bool × ℕ)) where
   no-view (folded w k f) = refl
   no-view (added k f) = refl
   no-view (counted k) = refl
-  no-view (one_truth w f) = refl
-  no-view (one_number f) = refl
-  no-view (size s) = refl
+  no-view (of_items w f) = refl
+  no-view (size s u) = refl
   no-view (within f s) = refl
+  no-view (set_within s t) = refl
+  no-view (compared o s t) = refl
 
 -- What is known of rules in such trees.
 pub record Known : Type 0 where
@@ -84,15 +89,15 @@ pub record Known : Type 0 where
   pub typed : PartsAreTyped
   pub names : SeenRulesKeepNames
   pub places : NamesAtParts
+  pub depths : DepthsAreBounded
 
 module _ (K : Known) (cells : Text → Option (Bool × ℕ)) where
   -- ---- nothing, and one chain behind another one
 
   itself : (n k : ℕ) (e : Ex) (m : Bool) → n ≤ k → IsSeenWhole cells n e m → StaysSeen cells k e e m
   itself n k e m l w = record {
-    whole = record { seen = w.seen; named = record { scoped = w.named.scoped; spares = K.places.later n k e l w.named.spares } };
+    whole = record { seen = w.seen; named = record { scoped = w.named.scoped; names = K.places.later n k e l w.named.names } };
     kept = λ env p t v. (refl, t, v);
-    load = le_refl (load e);
     spells = λ q z o d h. h;
     ended = K.ends cells e m w.seen;
   }
@@ -101,7 +106,6 @@ module _ (K : Known) (cells : Text → Option (Bool × ℕ)) where
   chained j k a b c m x y = record {
     whole = y.whole;
     kept = λ env p t v. let k = x.kept env p t v in let l = y.kept env p k.1 k.2 in (k.0 ∙ l.0, l.1, l.2);
-    load = less (load c) (load b) (load a) y.load x.load;
     spells = λ q z o d h. y.spells q z o d (x.spells q z o d h);
     ended = y.ended;
   }
@@ -117,11 +121,11 @@ module _ (K : Known) (cells : Text → Option (Bool × ℕ)) where
       (up : suc s ≤ j) (high : j ≤ 2 ^ 64) (outside : is_outside_views c ≡ true) (types : names_at c [] ≡ bound_types t)
       (known : (u v : Text → Bool) → NamesAre u v (fill c a) → AllBound v [] → AllBound v t) (h : Seen cells t a k)
       (again : (f : Ex) → Seen cells t f k → Seen cells [] (fill c f) m) where
-    spares : SparesNames s (fill c a)
-    spares = K.places.later n s (fill c a) low W.named.spares
+    below-s : HasNamesBelow s (fill c a)
+    below-s = K.places.later n s (fill c a) low W.named.names
 
-    there : SparesNames s a
-    there = K.places.of_a_part s c a spares
+    there : HasNamesBelow s a
+    there = K.places.of_a_part s c a below-s
 
     covers : (x : Text) (y : Bound) → look t x ≡ Some y → (scope_at c outermost).all x ≡ true
     covers x y q = known-at c [] outermost outside (λ z w. cc) x
@@ -129,9 +133,8 @@ module _ (K : Known) (cells : Text → Option (Bool × ℕ)) where
 
     new : look t (reserved s) ≡ None
     new = isnt-bound (look t (reserved s)) (λ q.
-        let p : IsTrue (spares.among (reserved s)) = known spares.among spares.among spares.names (λ z w. cc) (reserved s) q in
-        let r : spares.among (reserved s) ≡ false = spares.spared s (le_refl s) (below s j up high) in
-        absurd-both (spares.among (reserved s)) p r)
+        let p : IsTrue (is_below s (reserved s)) = known (is_below s) (is_below s) below-s (λ z w. cc) (reserved s) q in
+        absurd-both (is_below s (reserved s)) p (K.depths.spared s s (le_refl s) (below s j up high)))
 
     unbound : NamesAre (λ x. true) (λ x. not (same_text (reserved s) x)) a
     unbound = K.places.unbound s s a there (le_refl s) (below s j up high)
@@ -144,17 +147,7 @@ module _ (K : Known) (cells : Text → Option (Bool × ℕ)) where
       scoped = K.typed.scoped none c outermost a outside W.named.scoped;
       covers = covers;
       new = new;
-      unbound = unbound;
-    }
-
-    told : ToldApart (reserved s) t a
-    told = record {
-      declared = none;
-      scope = (scope_at c outermost).all;
-      ranging = (scope_at c outermost).over_domains;
-      scoped = K.typed.scoped none c outermost a outside W.named.scoped;
-      covers = covers;
-      new = K.places.unused s s a there (le_refl s) (below s j up high);
+      unused = K.places.unused s s a there (le_refl s) (below s j up high);
       unbound = unbound;
     }
 
@@ -164,21 +157,29 @@ module _ (K : Known) (cells : Text → Option (Bool × ℕ)) where
       keeps : KeepsNames (reserved s) a b
       alike : (env : Env) → IsMet t a env → (w : Bool) → Valued w a env → StaysAlike w a b env
 
-    made : (i : ℕ) (u : Ruling) → ruled (supply_at s i) (bound_types t) u a ≡ Some b → Made
-    made i (plainly u) q =
-        let f = K.few.plainly cells (supply_at s i) t u a b k h q in record {
-          seen = K.leave.plainly cells (supply_at s i) t u a b k h apart q;
-          keeps = K.names.kept (reserved s) a b (K.names.plainly cells (supply_at s i) t u a b k h f q);
-          alike = K.keep.plainly cells (supply_at s i) t u a b k h told (kept-plainly u f) q;
-        }
-    made i (by_kind u) q =
+    made-plainly : (i : ℕ) (u : Rule) → may_fire u ≡ true → rewrite (supply_at s i) (bound_types t) u a ≡ Some b → Made
+    made-plainly i u f q = record {
+      seen = K.leave.plainly cells (supply_at s i) t u a b k h apart f q;
+      keeps = K.names.kept (reserved s) a b (K.names.plainly cells (supply_at s i) t u a b k h f q);
+      alike = K.keep.plainly cells (supply_at s i) t u a b k h apart f q;
+    }
+
+    -- The rule may be used there.
+    may-fire : (u : Rule) → MayRule (bound_types t) (plainly u) a → (may_fire u ≡ true) ⊎ CountsMembers (bound_types t) u a →
+        may_fire u ≡ true
+    may-fire u p (inl f) = f
+    may-fire u p (inr c) = absurd (counts-none (bound_types t) u a c p)
+
+    made : (i : ℕ) (u : Ruling) → MayRule (bound_types t) u a → ruled (supply_at s i) (bound_types t) u a ≡ Some b → Made
+    made i (plainly u) p q = made-plainly i u (may-fire u p (K.few.plainly cells (supply_at s i) t u a b k h q)) q
+    made i (by_kind u) p q =
         let f = K.few.by_kind cells (supply_at s i) t u a b k h q in record {
-          seen = K.leave.by_kind cells (supply_at s i) t u a b k h apart q;
+          seen = K.leave.by_kind cells (supply_at s i) t u a b k h apart f q;
           keeps = K.names.kept (reserved s) a b (K.names.by_kind cells (supply_at s i) t u a b k h f q);
-          alike = K.keep.by_kind cells (supply_at s i) t u a b k h told (kept-by-kind u f) q;
+          alike = K.keep.by_kind cells (supply_at s i) t u a b k h apart f q;
         }
-    made i gathering q = absurd (no-tree (sym (K.few.gathering cells t a k h) ∙ q))
-    made i (in_order u) q = absurd (no-tree (sym (K.few.in_order cells (supply_at s i) t u a k h) ∙ q))
+    made i gathering p q = absurd (no-tree (sym (K.few.gathering cells t a k h) ∙ q))
+    made i (in_order u) p q = absurd (no-tree (sym (K.few.in_order cells (supply_at s i) t u a k h) ∙ q))
 
     module _ (M : Made) where
       -- Wherever the context of the part holds.
@@ -215,10 +216,9 @@ module _ (K : Known) (cells : Text → Option (Bool × ℕ)) where
         whole = record {
           seen = again b M.seen;
           named = K.places.one_rule s j c a b outside M.keeps (first-below s j up) high
-              (record { scoped = W.named.scoped; spares = spares });
+              (record { scoped = W.named.scoped; names = below-s });
         };
         kept = whole-kept;
-        load = K.places.counts c (reserved s) a b M.keeps;
         spells = K.places.spells c (reserved s) a b M.keeps;
         ended = K.ends cells (fill c b) m (again b M.seen);
       }
@@ -230,7 +230,7 @@ module _ (K : Known) (cells : Text → Option (Bool × ℕ)) where
       Part cells (λ f. Seen cells [] (fill c f) m) o t a → IsRuled s (names_at c []) a b j → StaysSeen cells j (fill c a) (fill c b) m
   by-part n s j c t a b m W low up high types known o q (scalar_part k h again) i =
       one-made n s j c t a b m k W low up high q types known h again
-      (made n s j c t a b m k W low up high q types known h again i.count i.rule
+      (made n s j c t a b m k W low up high q types known h again i.count i.rule (subst (λ g. MayRule g i.rule a) types i.may)
       (subst (λ g. ruled (supply_at s i.count) g i.rule a ≡ Some b) types
       (at-itself s (names_at c []) a b j i (scalar-stays cells K.same h))))
   by-part n s j c t a b m W low up high types known o q (set_part k h) i =
@@ -261,8 +261,8 @@ module _ (K : Known) (cells : Text → Option (Bool × ℕ)) where
 
 -- What is proved of chains in such trees, by the laws of rules in them.
 pub seen-by : PartsOfSeenTrees → SetsStayAsTheyAre → SeenTreesEnd → FewRulesFire → RulesLeaveSeen → SeenRulesKeep → PartsAreTyped →
-    SeenRulesKeepNames → NamesAtParts → SeenTreesStaySeen
-seen-by parts same ends few leave keep typed names places cells n k old last m W w high =
+    SeenRulesKeepNames → NamesAtParts → DepthsAreBounded → SeenTreesStaySeen
+seen-by parts same ends few leave keep typed names places depths cells n k old last m W w high =
     stay-seen (record {
       parts = parts;
       same = same;
@@ -273,4 +273,5 @@ seen-by parts same ends few leave keep typed names places cells n k old last m W
       typed = typed;
       names = names;
       places = places;
+      depths = depths;
     }) cells n k old last m W w high

@@ -1,13 +1,10 @@
 -- The rules of constraints that speak of nested sets stand, by the laws of trees over views.
 use Rattle.ess_bare_written_laws.proofs.Written.{ended-trees-are-written}
-use Rattle.ess_load_laws.proofs.Loads.{binders-less, part-loads}
 use Rattle.ess_setwise_laws.proofs.SetwiseLaws.{setwise-trees-are-seen}
-use Rattle.conjure_seen_laws.proofs.SeenLaws.{seen-trees-stay-seen}
+use Rattle.conjure_seen_laws.proofs.SeenLaws.{depths-are-bounded, seen-trees-stay-seen}
 use Rattle.conjure_setwise_laws.specs.Laws.{SetwiseRulesStand}
 use Rattle.conjure_setwise_laws.proofs.SetwiseRules.{setwise-rules-by}
 
 -- The rule of a constraint that speaks of nested sets says what the constraint says.
 pub setwise-rules-stand : SetwiseRulesStand
-setwise-rules-stand =
-    setwise-rules-by seen-trees-stay-seen ended-trees-are-written setwise-trees-are-seen
-    (record { binders_are_less = binders-less; at_a_part = part-loads })
+setwise-rules-stand = setwise-rules-by seen-trees-stay-seen ended-trees-are-written setwise-trees-are-seen depths-are-bounded

@@ -1,6 +1,6 @@
 -- The rule that comes of a constraint that speaks of nested sets: over tables the constraint is a tree over views that means the same;
--- rules lead to one that means it too, which is over tables alone where nothing abstract is left of it; and what is written for that one
--- says it over the tables of the model.
+-- rules lead to one that means it too, which is over tables alone where nothing abstract is left of it, and nests no deeper than names are
+-- taken; and what is written for that one says it over the tables of the model.
 use Rattle.std.proofs.Common.{◌≡◌, refl, sym, ap, ◌∙◌, subst, ℕ, suc, ◌+◌, ◌≤◌, ◌<◌, ◌^◌, Bool, true, false, List, [], ◌++◌, length, ℤ, Option, Some, None, arith}
 use Rattle.std.specs.List.{list_all, list_any}
 use Rattle.ess_semantics.specs.Order.{same_int}
@@ -25,8 +25,7 @@ use Rattle.ess_bare_written_laws.specs.Laws.{IsEndedTree, EndedTreesAreWritten}
 use Rattle.ess_ranged_laws.specs.Ranged.{is_mark}
 use Rattle.ess_ranged_laws.specs.Laws.{none}
 use Rattle.ess_seen_laws.specs.Seen.{Kind}
-use Rattle.ess_load_laws.specs.Load.{load}
-use Rattle.ess_load_laws.specs.Laws.{LoadsAreCounted}
+use Rattle.ess_depth_laws.specs.Laws.{DepthsAreBounded}
 use Rattle.ess_setwise_laws.specs.Setwise.{setwise_mark, is_setwise_truth}
 use Rattle.ess_setwise_laws.specs.Laws.{IsSeenOverTables, SetwiseTreesAreSeen}
 use Rattle.ess_rules.specs.Ruled.{IsRuled}
@@ -41,18 +40,18 @@ mark-is (Some true) q = refl
 mark-is (Some false) q = cc
 mark-is None q = cc
 
-few-names : (a b c l n t : ℕ) → a ≤ b → b ≤ c → c ≡ l → n + l ≤ 2 ^ 62 → t ≤ 2 ^ 62 → suc (a + t) < 2 ^ 64
-few-names a b c l n t p q r u v = omega (arith, p, q, r, u, v)
+few-names : (j t : ℕ) → j < 2 ^ 62 → t ≤ 2 ^ 62 → suc (j + t) < 2 ^ 64
+few-names j t p q = omega (arith, p, q)
 
-enough : (n b c : ℕ) → b ≤ c → n + c ≤ 2 ^ 62 → n + b ≤ 2 ^ 64
-enough n b c p q = omega (arith, p, q)
+enough : (n b : ℕ) → n + b ≤ 2 ^ 62 → n + b ≤ 2 ^ 64
+enough n b p = omega (arith, p)
 
-weaker : (k : ℕ) → k < 2 ^ 64 → k ≤ 2 ^ 64
+weaker : (k : ℕ) → k < 2 ^ 62 → k ≤ 2 ^ 64
 weaker k p = omega (arith, p)
 
-module _ (stay : SeenTreesStaySeen) (written : EndedTreesAreWritten) (seen : SetwiseTreesAreSeen) (count : LoadsAreCounted)
+module _ (stay : SeenTreesStaySeen) (written : EndedTreesAreWritten) (seen : SetwiseTreesAreSeen) (depths : DepthsAreBounded)
     (S : List Stm) (o : Options) (E : Model) (sets : Text → Option Kind) (cells : Text → Option (Bool × ℕ)) (H : HaveSets S o E sets cells)
-    (e : Ex) (t : is_setwise_truth (scalar_mark (plans S o)) sets e ≡ true) (low : (shows_of S o).next + load e ≤ 2 ^ 62)
+    (e : Ex) (t : is_setwise_truth (scalar_mark (plans S o)) sets e ≡ true) (low : (shows_of S o).next + binders e ≤ 2 ^ 62)
     (taken : List Text) (few : length taken ≤ 2 ^ 62) where
   abbrev sh : Shows
   sh = shows_of S o
@@ -62,18 +61,15 @@ module _ (stay : SeenTreesStaySeen) (written : EndedTreesAreWritten) (seen : Set
 
   asked : IsSeenOverTables sh (scalar_mark (plans S o)) sets cells e true
   asked = seen sh (scalar_mark (plans S o)) sets cells H.shown e true (mark-is (setwise_mark (scalar_mark (plans S o)) sets e) t)
-      (enough sh.next (binders e) (load e) (count.binders_are_less e) low)
+      (enough sh.next (binders e) low)
 
   whole : IsSeenWhole cells (next_behind sh e) old true
   whole = record {
     seen = asked.seen;
-    named = record {
-      scoped = asked.scoped;
-      spares = record { among = asked.among; names = asked.names; spared = asked.spared };
-    };
+    named = record { scoped = asked.scoped; names = asked.names };
   }
 
-  module _ (j : ℕ) (last : Ex) (leads : Leads IsRuled (next_behind sh e) [] old last j) (top : j < 2 ^ 64)
+  module _ (j : ℕ) (last : Ex) (leads : Leads IsRuled (next_behind sh e) [] old last j) (top : j < 2 ^ 62)
       (refined : is_refined last ≡ true) where
     stays : StaysSeen cells j old last true
     stays = stay cells (next_behind sh e) j old last true whole leads (weaker j top)
@@ -85,8 +81,9 @@ module _ (stay : SeenTreesStaySeen) (written : EndedTreesAreWritten) (seen : Set
       around = none;
       ranging = none;
       scoped = stays.whole.named.scoped;
-      few = few-names (binders last) (load last) (load old) (load e) sh.next (length taken) (count.binders_are_less last) stays.load
-          asked.loads low few;
+      depth = j;
+      nests = depths.by_reserved j none none none last stays.whole.named.scoped stays.whole.named.names;
+      few = few-names j (length taken) top few;
     }
 
     -- The rule says what the constraint says.
@@ -117,6 +114,6 @@ module _ (stay : SeenTreesStaySeen) (written : EndedTreesAreWritten) (seen : Set
       )
 
 -- From the laws of trees over views.
-pub setwise-rules-by : SeenTreesStaySeen → EndedTreesAreWritten → SetwiseTreesAreSeen → LoadsAreCounted → SetwiseRulesStand
-setwise-rules-by stay written seen count S o E sets cells H e t low taken few s r c =
-    rules stay written seen count S o E sets cells H e t low taken few s r c
+pub setwise-rules-by : SeenTreesStaySeen → EndedTreesAreWritten → SetwiseTreesAreSeen → DepthsAreBounded → SetwiseRulesStand
+setwise-rules-by stay written seen depths S o E sets cells H e t low taken few s r c =
+    rules stay written seen depths S o E sets cells H e t low taken few s r c

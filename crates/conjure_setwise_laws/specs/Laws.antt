@@ -16,12 +16,12 @@ use Rattle.conjure_laws.specs.Premises.{Instance}
 use Rattle.conjure_laws.specs.ModelPremises.{Canonical, RuleMeans, spelled}
 use Rattle.conjure_laws.specs.Views.{over_tables}
 use Rattle.conjure_model_laws.specs.Shown.{shows_of}
+use Rattle.conjure_model_laws.specs.Printed.{binders}
 use Rattle.ess_refine_laws.specs.SpellingEnds.{numbers_of_tree}
 use Rattle.ess_flat_models_laws.specs.FlatSpecifications.{scalar_mark}
 use Rattle.ess_bare_written_laws.specs.Laws.{AreDeclared}
 use Rattle.ess_ranged_laws.specs.Laws.{HoldsNames}
 use Rattle.ess_seen_laws.specs.Seen.{Kind}
-use Rattle.ess_load_laws.specs.Load.{load}
 use Rattle.ess_setwise_laws.specs.Setwise.{is_setwise_truth}
 use Rattle.ess_setwise_laws.specs.Laws.{ShowsSets, HoldsSets, HoldsScalars, MeetsSets, SpellsSets}
 use Rattle.ess_model_rules.specs.RulesWritten.{ConstraintComes}
@@ -43,11 +43,11 @@ pub record HaveSets (S : List Stm) (o : Options) (E : Model) (sets : Text → Op
       MeetsSets (shows_of S o) sets (over_tables S p (q ++ c))
 
 -- The rule that comes of a constraint that speaks of nested sets says what the constraint says. It spells constants of the specification
--- alone, where the constraint does. Names are left for those that are bound and that rules come to bind, as in all that a machine holds.
+-- alone, where the constraint does. Names are left for bound ones, as in all that a machine holds.
 abbrev pub SetwiseRulesStand : Type 0
 SetwiseRulesStand = (S : List Stm) (o : Options) (E : Model) (sets : Text → Option Kind) (cells : Text → Option (Bool × ℕ)) →
     HaveSets S o E sets cells → (e : Ex) → is_setwise_truth (scalar_mark (plans S o)) sets e ≡ true →
-    (shows_of S o).next + load e ≤ 2 ^ 62 → (taken : List Text) → length taken ≤ 2 ^ 62 → (s : Scope) (r : Ex) →
+    (shows_of S o).next + binders e ≤ 2 ^ 62 → (taken : List Text) → length taken ≤ 2 ^ 62 → (s : Scope) (r : Ex) →
     ConstraintComes s taken (shows_of S o) e (Some r) →
     RuleMeans S o E e r
     × (list_all (λ n. list_any (same_int n) (constants_of S)) (numbers_of_tree e) ≡ true → spelled S (parts_of r) ≡ true)

@@ -1,5 +1,5 @@
 -- Lean trees: those that rules end in, and those that are written for them on each step. They are as bare trees are, but that sums may have
--- conditions, that a fold may be over a list of one item, that numbers and bound names have properties, and that indices may be asked to be
+-- conditions, that a fold may be over a list of items, that numbers and bound names have properties, and that indices may be asked to be
 -- numbers.
 use Rattle.std.specs.Prelude.{◌≡◌, ℕ, zero, suc, Bool, true, false, List, ◌∷◌, ℤ, Option, Some}
 use Rattle.ess_semantics.specs.declared.words.Op1.{Op1}
@@ -38,9 +38,14 @@ module _ (cells : Text → Option (Bool × ℕ)) (ok : ℤ → Bool) (fine : Tex
       by_truth : {r : Names Bool} {x : Ex} → Lean r x true → Lean r (fun1 false Fun.ToInt x) false
       by_fold : {r t : Names Bool} {b : Bool} {f : Fun} {e : Ex} {gs : Gens} → FoldWord b f → Ranging r gs t → Lean t e b →
           Lean r (fun1 b f (comp_ex e gs)) b
-      by_item : {r : Names Bool} {b : Bool} {f : Fun} {e : Ex} → FoldWord b f → Lean r e b →
-          Lean r (fun1 b f (node_ex false matrix_literal (more_exs e no_exs))) b
+      by_items : {r : Names Bool} {b : Bool} {f : Fun} {es : Exs} → FoldWord b f → Leans r es b →
+          Lean r (fun1 b f (node_ex false matrix_literal es)) b
       by_order : {r : Names Bool} {m : Bool} {o : Op2} {x y : Ex} → LexSign o → Row r x m → Row r y m → Lean r (ex2 true o x y) true
+
+    -- One item or several, each with this mark.
+    pub data Leans : Names Bool → Exs → Bool → Type 0 where
+      last_lean : {r : Names Bool} {m : Bool} {e : Ex} → Lean r e m → Leans r (more_exs e no_exs) m
+      more_leans : {r : Names Bool} {m : Bool} {e : Ex} {es : Exs} → Lean r e m → Leans r es m → Leans r (more_exs e es) m
 
     -- So many terms: numbers, where that is asked.
     pub data Terms : Bool → Names Bool → Exs → ℕ → Type 0 where

@@ -9,12 +9,15 @@ use Rattle.ess_semantics.specs.Trees.{both_ends, matrix_literal, name_pat, Ex, n
 use Rattle.ess_semantics.specs.Tables.{Table}
 use Rattle.ess_semantics.specs.DeclaredTables.{TableDecl}
 use Rattle.ess_semantics.specs.Meaning.{meaning}
+use Rattle.ess_semantics.specs.Scoped.{Scoped}
 use Rattle.ess_semantics.specs.ModelMeaning.{env_of_tables, model_value}
+use Rattle.conjure_model_laws.specs.Printed.{binders}
+use Rattle.ess_depth_laws.specs.Depth.{NestsWithin}
 use Rattle.ess_flat_laws.specs.Flat.{equal}
 use Rattle.ess_bare_laws.specs.Bare.{Bare, before, some_holds, number, named, cell, two, folded, ordered, no_index, one_index, row, at_end, through, where_holds, no_axis, truths, numbers, no_bound, one_bound}
-use Rattle.ess_bare_laws.specs.Lean.{of_some, of_sum, as_scalar, as_number, Ended, a_number, a_name, a_cell, by_fold, by_item, no_terms, more_terms, behind_all, over_truths, over_numbers, under}
-use Rattle.ess_bare_written_laws.specs.Laws.{as_written, AreDeclared, IsReady}
-use Rattle.ess_bare_written_laws.proofs.Written.{bare-trees-are-written}
+use Rattle.ess_bare_laws.specs.Lean.{of_some, of_sum, as_scalar, as_number, Ended, a_number, a_name, a_cell, by_fold, by_items, last_lean, more_leans, no_terms, more_terms, behind_all, over_truths, over_numbers, under}
+use Rattle.ess_bare_written_laws.specs.Laws.{as_written, AreDeclared, IsReady, IsEndedTree}
+use Rattle.ess_bare_written_laws.proofs.Written.{bare-trees-are-written, ended-trees-are-written}
 
 -- A table x of truth values over one axis, and a number n.
 abbrev cells : Text → Option (Bool × ℕ)
@@ -74,13 +77,16 @@ written-rows = refl
 abbrev none : Text → Bool
 none a = false
 
+scoped-truths : Scoped none none none of_truths
+scoped-truths = ((refl, tt, (refl, tt)), tt)
+
 ready : IsReady cells [] of_truths true
 ready = record {
   bare = bare-truths;
   unbound = none;
   around = none;
   ranging = none;
-  scoped = ((refl, tt, (refl, tt)), tt);
+  scoped = scoped-truths;
   few = omega arith;
 }
 
@@ -106,7 +112,48 @@ abbrev of_one : Ex
 of_one = fun1 true Fun.Or (node_ex false matrix_literal (more_exs of_truths no_exs))
 
 ended-one : Ended cells [] of_one true
-ended-one = by_item of_some (by_fold of_some (over_truths refl behind_all) (a_cell refl (more_terms as_scalar (a_name refl) no_terms)))
+ended-one = by_items of_some (last_lean (by_fold of_some (over_truths refl behind_all)
+    (a_cell refl (more_terms as_scalar (a_name refl) no_terms))))
 
 written-one : as_written [] of_one ≡ as_written [] of_truths
 written-one = refl
+
+-- `or([or([x[i] | i : bool]), or([x[i] | i : bool])])` stays a list, as the two parts of a union are folded. Both bind one printed name.
+abbrev of_both : Ex
+of_both = fun1 true Fun.Or (node_ex false matrix_literal (more_exs of_truths (more_exs of_truths no_exs)))
+
+ended-truths-there : Ended cells [] of_truths true
+ended-truths-there = by_fold of_some (over_truths refl behind_all) (a_cell refl (more_terms as_scalar (a_name refl) no_terms))
+
+ended-both : Ended cells [] of_both true
+ended-both = by_items of_some (more_leans ended-truths-there (last_lean ended-truths-there))
+
+written-both : as_written [] of_both ≡
+    fun1 true Fun.Or (node_ex false matrix_literal (more_exs (as_written [] of_truths) (more_exs (as_written [] of_truths) no_exs)))
+written-both = refl
+
+-- One name is bound around a place in it, and two are bound in it.
+nests-truths : NestsWithin 1 of_truths
+nests-truths = ((tt, (tt, tt)), tt)
+
+nests-both : NestsWithin 1 of_both
+nests-both = ((nests-truths, (nests-truths, tt)), tt)
+
+binders-both : binders of_both ≡ 2
+binders-both = refl
+
+ready-both : IsEndedTree cells [] of_both true
+ready-both = record {
+  ended = ended-both;
+  unbound = none;
+  around = none;
+  ranging = none;
+  scoped = ((scoped-truths, (scoped-truths, tt)), tt);
+  depth = 1;
+  nests = nests-both;
+  few = omega arith;
+}
+
+says-both : (ds : List TableDecl) → AreDeclared ds cells → (tc : Names Table) →
+    model_value ds tc (as_written [] of_both) ≡ meaning of_both (env_of_tables tc)
+says-both ds d tc = ended-trees-are-written.value cells [] of_both true ready-both ds d tc (env_of_tables tc) refl

@@ -20,7 +20,7 @@ use Rattle.ess_semantics.proofs.Tests.{and-both}
 use Rattle.ess_rules_laws.proofs.Simulation.{Vals, E, collect-same, and_then-same, where-same}
 use Rattle.ess_flat_laws.specs.Flat.{denied, negative, absolute, both, either, implied, agreeing, equal, unequal, below, at_most, above, at_least, sum, difference, product}
 use Rattle.ess_bare_laws.specs.Bare.{before, not_behind}
-use Rattle.ess_bare_laws.specs.Lean.{of_all, of_some, of_sum, Lean, a_number, a_truth, a_name, a_cell, by_one, by_two, by_power, by_truth, by_fold, by_item, by_order, Terms, no_terms, more_terms, Row, listed, alone, Ranging, behind_all, over_truths, over_numbers, under}
+use Rattle.ess_bare_laws.specs.Lean.{of_all, of_some, of_sum, Lean, a_number, a_truth, a_name, a_cell, by_one, by_two, by_power, by_truth, by_fold, by_items, by_order, Leans, last_lean, more_leans, Terms, no_terms, more_terms, Row, listed, alone, Ranging, behind_all, over_truths, over_numbers, under}
 
 -- ---- tests
 
@@ -33,9 +33,9 @@ two-scalars true true e f = refl
 two-scalars true false e f = cc
 two-scalars false b e f = cc
 
-one-item : (a : Bool) → a ≡ true → (a && true) && true ≡ true
-one-item true e = refl
-one-item false e = cc
+one-list : (a : Bool) → a ≡ true → a && true ≡ true
+one-list true e = refl
+one-list false e = cc
 
 two-lists : (a b : Bool) → a ≡ true → b ≡ true → a && (b && true) ≡ true
 two-lists true true e f = refl
@@ -81,12 +81,16 @@ module _ (cells : Text → Option (Bool × ℕ)) (ok : ℤ → Bool) (fine : Tex
     lean-refined (by_fold {e = e} {gs = gs} of_sum s f) =
         and-both (is_refined e && are_refined_gens gs) true
         (and-both (is_refined e) (are_refined_gens gs) (lean-refined f) (ranging-refined s)) refl
-    lean-refined (by_item {e = e} of_all f) = one-item (is_refined e) (lean-refined f)
-    lean-refined (by_item {e = e} of_some f) = one-item (is_refined e) (lean-refined f)
-    lean-refined (by_item {e = e} of_sum f) = one-item (is_refined e) (lean-refined f)
+    lean-refined (by_items {es = es} of_all l) = one-list (are_refined es) (leans-refined l)
+    lean-refined (by_items {es = es} of_some l) = one-list (are_refined es) (leans-refined l)
+    lean-refined (by_items {es = es} of_sum l) = one-list (are_refined es) (leans-refined l)
     lean-refined (by_order {x = x} {y = y} before f h) = two-lists (is_refined_list x) (is_refined_list y) (row-refined f) (row-refined h)
     lean-refined (by_order {x = x} {y = y} not_behind f h) =
         two-lists (is_refined_list x) (is_refined_list y) (row-refined f) (row-refined h)
+
+    leans-refined : {r : Names Bool} {es : Exs} {m : Bool} → Leans cells ok fine plain r es m → are_refined es ≡ true
+    leans-refined (last_lean {e = e} f) = and-both (is_refined e) true (lean-refined f) refl
+    leans-refined (more_leans {e = e} {es = es} f l) = and-both (is_refined e) (are_refined es) (lean-refined f) (leans-refined l)
 
     terms-refined : {w : Bool} {r : Names Bool} {es : Exs} {k : ℕ} → Terms cells ok fine plain w r es k → are_refined es ≡ true
     terms-refined no_terms = refl
@@ -131,8 +135,13 @@ module _ (cells : Text → Option (Bool × ℕ)) (ok : ℤ → Bool) (fine : Tex
     lean-free (by_truth f) u h = (lean-free f u h, tt)
     lean-free (by_fold {gs = gs} w s f) u h =
         let b = ranging-free s u h in ((b.0, lean-free f (with_bound_names u gs) b.1), tt)
-    lean-free (by_item w f) u h = ((lean-free f u h, tt), tt)
+    lean-free (by_items w l) u h = (leans-free l u h, tt)
     lean-free (by_order w f k) u h = (row-free f u h, (row-free k u h, tt))
+
+    leans-free : {r : Names Bool} {es : Exs} {m : Bool} → Leans cells ok fine plain r es m → (u : Text → Bool) → Covers r u →
+        FreeNamesAreExs u es
+    leans-free (last_lean f) u h = (lean-free f u h, tt)
+    leans-free (more_leans f l) u h = (lean-free f u h, leans-free l u h)
 
     terms-free : {w : Bool} {r : Names Bool} {es : Exs} {k : ℕ} → Terms cells ok fine plain w r es k → (u : Text → Bool) → Covers r u →
         FreeNamesAreExs u es
@@ -193,11 +202,17 @@ module _ (cells : Text → Option (Bool × ℕ)) (ok : ℤ → Bool) (fine : Tex
           ap (λ x. false_where_undefined b (value_of_node (word p) (option_map list_value x ∷ [])))
           (ranging-same l g h (λ here. option_map (λ v. v ∷ []) (meaning e here)) s
           (λ g' h' s'. ap (option_map (λ v. v ∷ [])) (lean-same f g' h' s')))
-      lean-same (by_item {b = b} {f = p} w f) g h s =
-          ap (λ x. false_where_undefined b (value_of_node (word p) (value_of_node matrix_literal (x ∷ []) ∷ []))) (lean-same f g h s)
+      lean-same (by_items {b = b} {f = p} w l) g h s =
+          ap (λ x. false_where_undefined b (value_of_node (word p) (value_of_node matrix_literal x ∷ []))) (leans-same l g h s)
       lean-same (by_order {o = o} {x = x} {y = y} w f k) g h s =
           ap (λ z. false_where_undefined true (value_of_node (binary o) (z ∷ meaning y (M g) ∷ []))) (row-same f g h s)
           ∙ ap (λ z. false_where_undefined true (value_of_node (binary o) (meaning x (N h) ∷ z ∷ []))) (row-same k g h s)
+
+      leans-same : {r : Names Bool} {es : Exs} {m : Bool} → Leans cells ok fine plain r es m → (g h : Vals) → Agree r g h →
+          meanings es (M g) ≡ meanings es (N h)
+      leans-same (last_lean f) g h s = ap (λ x. x ∷ []) (lean-same f g h s)
+      leans-same (more_leans {e = e} {es = es} f l) g h s =
+          ap (λ x. x ∷ meanings es (M g)) (lean-same f g h s) ∙ ap (λ x. meaning e (N h) ∷ x) (leans-same l g h s)
 
       terms-same : {w : Bool} {r : Names Bool} {es : Exs} {k : ℕ} → Terms cells ok fine plain w r es k → (g h : Vals) → Agree r g h →
           meanings es (M g) ≡ meanings es (N h)

@@ -1,19 +1,19 @@
 -- What becomes of folds, lists and conditions with plain keys is lean.
-use Rattle.std.proofs.Common.{◌≡◌, refl, sym, subst, ℕ, Bool, true, false, ℤ, Option, None}
+use Rattle.std.proofs.Common.{◌≡◌, refl, sym, subst, ℕ, nat_le, Bool, true, false, if◌then◌else◌, ℤ, Option, None}
 use Rattle.ess_semantics.specs.declared.words.Op2.{Op2}
 use Rattle.ess_semantics.specs.declared.words.Fun.{Fun}
 use Rattle.ess_semantics.specs.Lists.{or_default, when}
 use Rattle.ess_semantics.specs.Values.{Text}
 use Rattle.ess_semantics.specs.Names.{Names}
-use Rattle.ess_semantics.specs.Trees.{Ex, Gens, cond, ex2, fun1}
+use Rattle.ess_semantics.specs.Trees.{matrix_literal, Ex, Exs, node_ex, Gens, cond, fun1}
 use Rattle.ess_guard_laws.specs.Origins.{Origin, is_number}
 use Rattle.ess_guard_laws.specs.Conditions.{unless}
 use Rattle.ess_keys_laws.specs.KeyForms.{is_truth, is_settled}
-use Rattle.ess_keys_laws.specs.Keyed.{laid, are_conditions, connected, fold_of, conjuncts, conditions_before}
+use Rattle.ess_keys_laws.specs.Keyed.{laid, are_conditions, connected, all_of, how_many, joined, fold_of, conjuncts, conditions_before}
 use Rattle.ess_keys_laws.proofs.Forms.{before-append}
 use Rattle.ess_flat_laws.specs.Flat.{denied, TwoOp, both, either, implied, agreeing, equal, unequal, below, at_most, above, at_least}
 use Rattle.ess_bare_laws.specs.Bare.{before, not_behind}
-use Rattle.ess_bare_laws.specs.Lean.{FoldWord, of_all, of_some, of_sum, Lean, a_number, a_truth, a_name, a_cell, by_one, by_two, by_power, by_truth, by_fold, by_item, by_order, Row, listed, alone, Ranging, behind_all, over_truths, over_numbers, under}
+use Rattle.ess_bare_laws.specs.Lean.{FoldWord, of_all, of_some, of_sum, Lean, a_number, a_truth, a_name, a_cell, by_one, by_two, by_power, by_truth, by_fold, by_items, by_order, Leans, last_lean, more_leans, Row, listed, alone, Ranging, behind_all, over_truths, over_numbers, under}
 use Rattle.ess_bare_written_laws.proofs.Origins.{Origins, truth-told, number-told}
 
 module _ (cells : Text → Option (Bool × ℕ)) (ok : ℤ → Bool) (fine : Text → Bool) where
@@ -39,8 +39,8 @@ module _ (cells : Text → Option (Bool × ℕ)) (ok : ℤ → Bool) (fine : Tex
   no-fold k (by_truth x) b f = refl
   no-fold k (by_fold {b = true} w s x) b f = refl
   no-fold k (by_fold {b = false} w s x) b f = refl
-  no-fold k (by_item {b = true} w x) b f = refl
-  no-fold k (by_item {b = false} w x) b f = refl
+  no-fold k (by_items {b = true} w x) b f = refl
+  no-fold k (by_items {b = false} w x) b f = refl
   no-fold k (by_order w x y) b f = refl
 
   kept-item : {u : Names Bool} {e : Ex} {m : Bool} → T u e m → (n : Ex) (b : Bool) → b ≡ true → T u (or_default (when b e) n) m
@@ -55,11 +55,29 @@ module _ (cells : Text → Option (Bool × ℕ)) (ok : ℤ → Bool) (fine : Tex
   connected-lean w (over_numbers c b l s) f q = cc
   connected-lean w (under k s) f q = by_two w k (connected-lean w s f q)
 
-  conditions-fold : {u t : Names Bool} {o : Op2} {p : Fun} {c e : Ex} {gs : Gens} → FoldWord true p → TwoOp true o true true →
-      T u c true → G u gs t → T t e true → (b : Bool) → are_conditions gs ≡ b →
-      T u (or_default (when b (ex2 true o c (connected o gs e))) (fun1 true p (laid e (cond c gs)))) true
-  conditions-fold v w k s f true q = by_two w k (connected-lean w s f q)
-  conditions-fold v w k s f false q = by_fold v (under k s) f
+  -- The same as a list.
+  all-lean : {u t : Names Bool} {e : Ex} {gs : Gens} → G u gs t → T t e true → are_conditions gs ≡ true →
+      Leans cells ok fine true u (all_of gs e) true
+  all-lean behind_all f q = last_lean f
+  all-lean (over_truths c s) f q = cc
+  all-lean (over_numbers c b l s) f q = cc
+  all-lean (under k s) f q = more_leans k (all-lean s f q)
+
+  -- As a list where there are many.
+  joined-lean : {u t : Names Bool} {e : Ex} {gs : Gens} (b : Bool) → G u gs t → T t e true → are_conditions gs ≡ true →
+      T u (if b then fun1 true Fun.And (node_ex false matrix_literal (all_of gs e)) else connected Op2.And gs e) true
+  joined-lean true s f q = by_items of_all (all-lean s f q)
+  joined-lean false s f q = connected-lean both s f q
+
+  implied-fold : {u t : Names Bool} {c e : Ex} {gs : Gens} → T u c true → G u gs t → T t e true → (b : Bool) → are_conditions gs ≡ b →
+      T u (or_default (when b (connected Op2.Implies (cond c gs) e)) (fun1 true Fun.And (laid e (cond c gs)))) true
+  implied-fold k s f true q = connected-lean implied (under k s) f q
+  implied-fold k s f false q = by_fold of_all (under k s) f
+
+  joined-fold : {u t : Names Bool} {c e : Ex} {gs : Gens} → T u c true → G u gs t → T t e true → (b : Bool) → are_conditions gs ≡ b →
+      T u (or_default (when b (joined Op2.And (cond c gs) e)) (fun1 true Fun.Or (laid e (cond c gs)))) true
+  joined-fold {c = c} {gs = gs} k s f true q = joined-lean (nat_le 16 (how_many (cond c gs))) (under k s) f q
+  joined-fold k s f false q = by_fold of_some (under k s) f
 
   -- What is left of a fold.
   pub fold-lean : {u t : Names Bool} {k : Names Origin} {b : Bool} {p : Fun} {e : Ex} {gs : Gens} → Origins u k → FoldWord b p → G u gs t →
@@ -73,9 +91,17 @@ module _ (cells : Text → Option (Bool × ℕ)) (ok : ℤ → Bool) (fine : Tex
   fold-lean o of_all (over_numbers c b l s) f = by_fold of_all (over_numbers c b l s) f
   fold-lean o of_some (over_numbers c b l s) f = by_fold of_some (over_numbers c b l s) f
   fold-lean o of_sum (over_numbers c b l s) f = by_fold of_sum (over_numbers c b l s) f
-  fold-lean o of_all (under {gs = gs} c s) f = conditions-fold of_all implied c s f (are_conditions gs) refl
-  fold-lean o of_some (under {gs = gs} c s) f = conditions-fold of_some both c s f (are_conditions gs) refl
+  fold-lean o of_all (under {gs = gs} c s) f = implied-fold c s f (are_conditions gs) refl
+  fold-lean o of_some (under {gs = gs} c s) f = joined-fold c s f (are_conditions gs) refl
   fold-lean o of_sum (under c s) f = by_fold of_sum (under c s) f
+
+  -- What is left of a fold of items.
+  pub items-lean : {u : Names Bool} {k : Names Origin} {b : Bool} {p : Fun} {es : Exs} → Origins u k → FoldWord b p →
+      Leans cells ok fine true u es b →
+      T u (or_default (fold_of k b p (node_ex false matrix_literal es)) (fun1 b p (node_ex false matrix_literal es))) b
+  items-lean o w (last_lean f) = fold-lean o w behind_all f
+  items-lean o w (more_leans f (last_lean g)) = by_items w (more_leans f (last_lean g))
+  items-lean o w (more_leans f (more_leans g l)) = by_items w (more_leans f (more_leans g l))
 
   -- A list beside a lex sign.
   pub row-lean : {u t : Names Bool} {m : Bool} {e : Ex} {gs : Gens} → G u gs t → T t e m → Row cells ok fine true u (laid e gs) m
@@ -115,7 +141,7 @@ module _ (cells : Text → Option (Bool × ℕ)) (ok : ℤ → Bool) (fine : Tex
   conditions-lean k (by_two at_least f h) s = unless-lean k (by_two at_least f h) s
   conditions-lean k (by_fold of_all x f) s = unless-lean k (by_fold of_all x f) s
   conditions-lean k (by_fold of_some x f) s = unless-lean k (by_fold of_some x f) s
-  conditions-lean k (by_item of_all f) s = unless-lean k (by_item of_all f) s
-  conditions-lean k (by_item of_some f) s = unless-lean k (by_item of_some f) s
+  conditions-lean k (by_items of_all l) s = unless-lean k (by_items of_all l) s
+  conditions-lean k (by_items of_some l) s = unless-lean k (by_items of_some l) s
   conditions-lean k (by_order before f h) s = unless-lean k (by_order before f h) s
   conditions-lean k (by_order not_behind f h) s = unless-lean k (by_order not_behind f h) s

@@ -1,26 +1,28 @@
 -- Lean trees over declared tables, whose indices are numbers and whose bound names are something, are as models have them, and their kinds
 -- are those of their marks.
-use Rattle.std.proofs.Common.{◌≡◌, refl, ap, ◌∙◌, subst, ℕ, zero, suc, Bool, true, false, ◌&&◌, ◌||◌, not, if◌then◌else◌, List, [], ◌∷◌, map, length, ℤ, nat_eq, Option, Some, arith}
+use Rattle.std.proofs.Common.{◌≡◌, refl, ap, ◌∙◌, subst, ℕ, zero, suc, Bool, true, false, ◌&&◌, ◌||◌, not, if◌then◌else◌, List, [], ◌∷◌, map, length, ℤ, nat_eq, Option, Some, option_map, arith}
 use Rattle.std.specs.List.{list_all}
 use Rattle.std.proofs.lemmas.Bool.Decides.{nat_tests}
 use Rattle.ess_semantics.specs.declared.words.Op1.{Op1}
 use Rattle.ess_semantics.specs.declared.words.Op2.{Op2}
 use Rattle.ess_semantics.specs.declared.words.Fun.{Fun}
+use Rattle.ess_semantics.specs.Lists.{and_then, all_some}
 use Rattle.ess_semantics.specs.Values.{Text, a_matrix}
 use Rattle.ess_semantics.specs.Order.{same_text}
 use Rattle.ess_semantics.specs.Names.{Names, look}
 use Rattle.ess_semantics.specs.Trees.{Op, unary, binary, word, matrix_literal, name_pat, Ex, Exs, name_ex, node_ex, comp_ex, cell_ex, no_exs, more_exs, Gens, no_gens, over, cond, bool_dom, int_dom, ex1, ex2, fun1}
-use Rattle.ess_semantics.specs.Types.{Ty, any_ty, bool_ty, int_ty, compound2}
+use Rattle.ess_semantics.specs.Types.{Ty, any_ty, bool_ty, int_ty, compound2, join, join_all}
+use Rattle.ess_semantics.specs.OperatorTypes.{type_of_list, type_of_op}
 use Rattle.ess_semantics.specs.Typing.{statics, type_of_node}
 use Rattle.ess_semantics.specs.DeclaredTables.{TableDecl}
 use Rattle.ess_semantics.specs.Meaning.{is_bool_dom}
-use Rattle.ess_semantics.specs.ModelMeaning.{Kinded, broken, is_nothing, is_int_kind, kinded_node, cell_kind, kinded_cell, kinded_name, as_bound, with_gen, declaration_of, kinded, kinded_all, kinded_under, bounds_of}
+use Rattle.ess_semantics.specs.ModelMeaning.{Kinded, broken, is_nothing, some_nothing, is_int_kind, kinded_node, cell_kind, kinded_cell, kinded_name, as_bound, with_gen, declaration_of, kinded, kinded_all, kinded_under, bounds_of}
 use Rattle.ess_semantics.proofs.Tests.{not-true, and-both}
 use Rattle.ess_semantics.proofs.Texts.{same_text-equal}
 use Rattle.ess_flat_laws.specs.Flat.{OneOp, denied, negative, absolute, TwoOp, both, either, implied, agreeing, equal, unequal, below, at_most, above, at_least, sum, difference, product}
 use Rattle.ess_bare_laws.specs.Bare.{LexSign, before, not_behind}
 use Rattle.ess_bare_written_laws.specs.Laws.{AreDeclared}
-use Rattle.ess_bare_laws.specs.Lean.{FoldWord, of_all, of_some, of_sum, as_number, Lean, a_number, a_truth, a_name, a_cell, by_one, by_two, by_power, by_truth, by_fold, by_item, by_order, Terms, no_terms, more_terms, Row, listed, alone, Ranging, behind_all, over_truths, over_numbers, under}
+use Rattle.ess_bare_laws.specs.Lean.{FoldWord, of_all, of_some, of_sum, as_number, Lean, a_number, a_truth, a_name, a_cell, by_one, by_two, by_power, by_truth, by_fold, by_items, by_order, Leans, last_lean, more_leans, Terms, no_terms, more_terms, Row, listed, alone, Ranging, behind_all, over_truths, over_numbers, under}
 
 -- ---- nodes
 
@@ -92,12 +94,31 @@ alone-kinded : (m : Bool) (e : Ex) → is_nothing e ≡ false →
 alone-kinded true e q = one-there (node_ex false matrix_literal (more_exs e no_exs), list_kind true) any_ty e q
 alone-kinded false e q = one-there (node_ex false matrix_literal (more_exs e no_exs), list_kind false) any_ty e q
 
-item-kinded : {b : Bool} {f : Fun} → FoldWord b f → (e : Ex) →
-    on_one (word f) (node_ex false matrix_literal (more_exs e no_exs), list_kind b) ≡
-    (fun1 b f (node_ex false matrix_literal (more_exs e no_exs)), cell_kind b)
-item-kinded of_all e = refl
-item-kinded of_some e = refl
-item-kinded of_sum e = refl
+items-kinded : {b : Bool} {f : Fun} → FoldWord b f → (es : Exs) →
+    on_one (word f) (node_ex false matrix_literal es, list_kind b) ≡ (fun1 b f (node_ex false matrix_literal es), cell_kind b)
+items-kinded of_all es = refl
+items-kinded of_some es = refl
+items-kinded of_sum es = refl
+
+-- The kinds of items.
+abbrev kinds_of : Exs → Bool → List Ty
+kinds_of no_exs m = []
+kinds_of (more_exs e es) m = cell_kind m ∷ kinds_of es m
+
+all-there : (ts : List Ty) → all_some (map (λ t. Some t) ts) ≡ Some ts
+all-there [] = refl
+all-there (t ∷ ts) = ap (option_map (λ us. t ∷ us)) (all-there ts)
+
+-- A list of items whose kinds are those of the mark.
+list-kinded : (es : Exs) (m : Bool) (ks : Exs × List Ty) → ks ≡ (es, kinds_of es m) →
+    type_of_list (kinds_of es m) ≡ Some (list_kind m) → some_nothing es ≡ false →
+    kinded_node matrix_literal ks.0 ks.1 (type_of_node matrix_literal (statics ks.0) (map (λ t. Some t) ks.1)) ≡
+    (node_ex false matrix_literal es, list_kind m)
+list-kinded es m ks q j s =
+    ap (λ ks. kinded_node matrix_literal ks.0 ks.1 (type_of_node matrix_literal (statics ks.0) (map (λ t. Some t) ks.1))) q
+    ∙ ap (λ o. kinded_node matrix_literal es (kinds_of es m) (and_then o (type_of_op matrix_literal))) (all-there (kinds_of es m))
+    ∙ ap (kinded_node matrix_literal es (kinds_of es m)) j
+    ∙ ap (λ b. if b then broken any_ty else (node_ex false matrix_literal es, list_kind m)) s
 
 -- ---- indices
 
@@ -161,12 +182,30 @@ module _ (cells : Text → Option (Bool × ℕ)) (ok : ℤ → Bool) (ds : List 
   something (by_power f k) g h = refl
   something (by_truth f) g h = refl
   something (by_fold w s f) g h = refl
-  something (by_item w f) g h = refl
+  something (by_items w l) g h = refl
   something (by_order w f k) g h = refl
 
   something-row : {v : Names Bool} {e : Ex} {m : Bool} → Row cells ok is_something true v e m → is_nothing e ≡ false
   something-row (listed s f) = refl
   something-row (alone f) = refl
+
+  -- So of items: their kinds agree, and each is something.
+  joined : {v : Names Bool} {es : Exs} {m : Bool} → Leans cells ok is_something true v es m →
+      join_all (kinds_of es m) ≡ Some (cell_kind m)
+  joined (last_lean {m = true} f) = refl
+  joined (last_lean {m = false} f) = refl
+  joined (more_leans {m = true} f l) = ap (λ o. and_then o (join bool_ty)) (joined l)
+  joined (more_leans {m = false} f l) = ap (λ o. and_then o (join int_ty)) (joined l)
+
+  list-typed : {v : Names Bool} {es : Exs} {m : Bool} → Leans cells ok is_something true v es m →
+      type_of_list (kinds_of es m) ≡ Some (list_kind m)
+  list-typed (last_lean f) = ap (option_map (compound2 a_matrix int_ty)) (joined (last_lean f))
+  list-typed (more_leans f l) = ap (option_map (compound2 a_matrix int_ty)) (joined (more_leans f l))
+
+  somethings : {v : Names Bool} {es : Exs} {m : Bool} → Leans cells ok is_something true v es m → (g : Names Ty) → TypesOf v g →
+      some_nothing es ≡ false
+  somethings (last_lean f) g h = ap (λ b. b || false) (something f g h)
+  somethings (more_leans {es = es} f l) g h = ap (λ b. b || some_nothing es) (something f g h) ∙ somethings l g h
 
   cell-kinded : (n : Text) (es : Exs) (b : Bool) (k : ℕ) → cells n ≡ Some (b, k) →
       kinded_cell n es (ints k) (declaration_of ds n) ≡ (cell_ex b n es, cell_kind b)
@@ -200,11 +239,19 @@ module _ (cells : Text → Option (Bool × ℕ)) (ok : ℤ → Bool) (ds : List 
         ∙ one-there (fun1 false Fun.ToInt x, int_ty) int_ty x (something f g h)
     kinded-lean (by_fold {f = p} {e = e} {gs = gs} w s f) g h =
         ap (on_one (word p)) (kinded-list s g h e _ (λ g' h'. kinded-lean f g' h')) ∙ fold-kinded w e gs
-    kinded-lean (by_item {b = b} {f = p} {e = e} w f) g h =
-        ap (on_one (word p)) (ap (on_one matrix_literal) (kinded-lean f g h) ∙ alone-kinded b e (something f g h)) ∙ item-kinded w e
+    kinded-lean (by_items {b = b} {f = p} {es = es} w l) g h =
+        ap (on_one (word p)) (list-kinded es b (kinded_all ds es g) (kinded-leans l g h) (list-typed l) (somethings l g h))
+        ∙ items-kinded w es
     kinded-lean (by_order {m = i} {o = o} {x = x} {y = y} w f k) g h =
         ap (λ c. on_two (binary o) c (kinded ds y g)) (kinded-row f g h)
         ∙ ap (on_two (binary o) (x, list_kind i)) (kinded-row k g h) ∙ order-kinded w i x y (something-row f) (something-row k)
+
+    kinded-leans : {v : Names Bool} {es : Exs} {m : Bool} → Leans cells ok is_something true v es m → (g : Names Ty) → TypesOf v g →
+        kinded_all ds es g ≡ (es, kinds_of es m)
+    kinded-leans (last_lean f) g h = ap (λ c. (more_exs c.0 no_exs, c.1 ∷ [])) (kinded-lean f g h)
+    kinded-leans (more_leans {m = m} {e = e} {es = es} f l) g h =
+        ap (λ c. (more_exs c.0 (kinded_all ds es g).0, c.1 ∷ (kinded_all ds es g).1)) (kinded-lean f g h)
+        ∙ ap (λ ks. (more_exs e ks.0, cell_kind m ∷ ks.1)) (kinded-leans l g h)
 
     kinded-terms : {v : Names Bool} {es : Exs} {k : ℕ} → Terms cells ok is_something true true v es k → (g : Names Ty) → TypesOf v g →
         kinded_all ds es g ≡ (es, ints k)

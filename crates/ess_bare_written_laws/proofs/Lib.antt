@@ -11,10 +11,11 @@ pub mod Origins
 pub mod Keys
 pub mod KeyedNodes
 pub mod Keying
-pub mod FewBinders
+pub mod KeyedDepths
 -- Printed
 pub mod PrintedNames
 pub mod Printing
+pub mod PrintedByDepth
 -- As models have them
 pub mod KindedTrees
 -- What is written

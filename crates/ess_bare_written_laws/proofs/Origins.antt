@@ -8,7 +8,7 @@ use Rattle.ess_semantics.specs.Trees.{Ends, both_ends, Ex, Exs, number_ex, name_
 use Rattle.ess_guard_laws.specs.Origins.{Origin, runs_over, runs_over_numbers, is_number, lies_within, comes_from}
 use Rattle.ess_keys_laws.specs.KeyForms.{is_truth, as_index, as_indices}
 use Rattle.ess_flat_laws.specs.Flat.{negative, absolute, sum, difference, product}
-use Rattle.ess_bare_laws.specs.Lean.{of_sum, as_number, Lean, a_number, a_truth, a_name, a_cell, by_one, by_two, by_power, by_truth, by_fold, by_item, by_order, Terms, no_terms, more_terms}
+use Rattle.ess_bare_laws.specs.Lean.{of_sum, as_number, Lean, a_number, a_truth, a_name, a_cell, by_one, by_two, by_power, by_truth, by_fold, by_items, by_order, Terms, no_terms, more_terms}
 
 -- The mark of what runs over a domain.
 pub data MarkOf : Dom → Bool → Type 0 where
@@ -96,7 +96,7 @@ module _ (cells : Text → Option (Bool × ℕ)) (ok : ℤ → Bool) (fine : Tex
     truth-told (by_one w f) = refl
     truth-told (by_two w f h) = refl
     truth-told (by_fold w x f) = refl
-    truth-told (by_item w f) = refl
+    truth-told (by_items w l) = refl
     truth-told (by_order w f h) = refl
 
     pub no-truth-told : {e : Ex} → T u e false → is_truth k e ≡ false
@@ -111,7 +111,7 @@ module _ (cells : Text → Option (Bool × ℕ)) (ok : ℤ → Bool) (fine : Tex
     no-truth-told (by_power f h) = refl
     no-truth-told (by_truth f) = refl
     no-truth-told (by_fold w x f) = refl
-    no-truth-told (by_item w f) = refl
+    no-truth-told (by_items w l) = refl
 
     pub number-told : {e : Ex} → T u e false → is_number k e ≡ true
     number-told (a_number q) = refl
@@ -128,7 +128,7 @@ module _ (cells : Text → Option (Bool × ℕ)) (ok : ℤ → Bool) (fine : Tex
     number-told (by_power f h) = refl
     number-told (by_truth f) = refl
     number-told (by_fold of_sum x f) = refl
-    number-told (by_item of_sum f) = refl
+    number-told (by_items of_sum l) = refl
 
     -- ---- indices
 
@@ -158,8 +158,8 @@ module _ (cells : Text → Option (Bool × ℕ)) (ok : ℤ → Bool) (fine : Tex
       index-lean (by_truth f) = by_truth f
       index-lean (by_fold {b = true} w x f) = by_truth (by_fold w x f)
       index-lean (by_fold {b = false} w x f) = by_fold w x f
-      index-lean (by_item {b = true} w f) = by_truth (by_item w f)
-      index-lean (by_item {b = false} w f) = by_item w f
+      index-lean (by_items {b = true} w l) = by_truth (by_items w l)
+      index-lean (by_items {b = false} w l) = by_items w l
       index-lean (by_order w f h) = by_truth (by_order w f h)
 
       pub indices-lean : {w : Bool} {es : Exs} {n : ℕ} → Terms cells ok fine true w u es n →

@@ -1,5 +1,5 @@
 -- A lean tree with printed names is lean: names of the same marks stand for its names, and each is something.
-use Rattle.std.proofs.Common.{◌≡◌, refl, ap, ◌∙◌, ℕ, suc, ◌+◌, ◌≤◌, ◌<◌, Bool, true, false, if◌then◌else◌, List, [], ◌∷◌, length, ℤ, Option, Some, arith}
+use Rattle.std.proofs.Common.{◌≡◌, refl, ap, ◌∙◌, ℕ, zero, suc, ◌+◌, ◌≤◌, ◌<◌, Bool, true, false, if◌then◌else◌, List, [], ◌∷◌, length, ℤ, Option, Some, arith}
 use Rattle.ess_semantics.specs.Lists.{or_default}
 use Rattle.ess_semantics.specs.Values.{Text}
 use Rattle.ess_semantics.specs.Order.{same_text}
@@ -7,8 +7,10 @@ use Rattle.ess_semantics.specs.Names.{Names, look}
 use Rattle.ess_semantics.specs.Trees.{Ex, Exs, Gens}
 use Rattle.ess_semantics.proofs.Texts.{same_text-itself}
 use Rattle.conjure_model_laws.specs.ToldApart.{renamed}
-use Rattle.conjure_model_laws.specs.Printed.{printed_name, with_printed, printed_behind, printed, printed_all, printed_gens, binders, binders_of_all, binders_of_gens}
-use Rattle.ess_bare_laws.specs.Lean.{Lean, a_number, a_truth, a_name, a_cell, by_one, by_two, by_power, by_truth, by_fold, by_item, by_order, Terms, no_terms, more_terms, Row, listed, alone, Ranging, behind_all, over_truths, over_numbers, under}
+use Rattle.conjure_model_laws.specs.Printed.{printed_name, with_printed, printed_behind, printed, printed_all, printed_gens}
+use Rattle.ess_depth_laws.specs.Depth.{NestsWithin, AllNestWithin, NestBehind}
+use Rattle.ess_bare_written_laws.proofs.Scopes.{Item}
+use Rattle.ess_bare_laws.specs.Lean.{Lean, a_number, a_truth, a_name, a_cell, by_one, by_two, by_power, by_truth, by_fold, by_items, by_order, Leans, last_lean, more_leans, Terms, no_terms, more_terms, Row, listed, alone, Ranging, behind_all, over_truths, over_numbers, under}
 
 module _ (taken : List Text) (lim : ℕ)
     (differ : (i j : ℕ) → i < j → j < lim → same_text (printed_name taken j) (printed_name taken i) ≡ false) where
@@ -54,100 +56,93 @@ module _ (taken : List Text) (lim : ℕ)
                 (differ w.number (length p) w.below (omega (arith, l, z))) ∙ w.there;
           }
 
-  first-of : (n a b : ℕ) → n + (a + b) ≤ lim → n + a ≤ lim
-  first-of n a b l = omega (arith, l)
-
-  second-of : (n a b : ℕ) → n + (a + b) ≤ lim → n + b ≤ lim
-  second-of n a b l = omega (arith, l)
-
-  only-of : (n a : ℕ) → n + (a + 0) ≤ lim → n + a ≤ lim
-  only-of n a l = omega (arith, l)
-
-  within : (n a : ℕ) → n + a ≤ lim → n ≤ lim
-  within n a l = omega (arith, l)
-
   module _ (cells : Text → Option (Bool × ℕ)) (ok : ℤ → Bool) (old fine : Text → Bool) (plain : Bool)
       (printed_fine : (i : ℕ) → i < lim → fine (printed_name taken i) ≡ true) where
     abbrev L : Names Bool → Ex → Bool → Type 0
     L = Lean cells ok old plain
 
-    -- What stands behind generators.
-    record Behind (t : Names Bool) (v : Names Bool) (gs : Gens) (p : Names Text) : Type 0 where
+    -- What stands behind generators, and how many names may be bound there.
+    record Behind (t : Names Bool) (v : Names Bool) (gs : Gens) (p : Names Text) (e : Ex) : Type 0 where
       left : Names Bool
       gens : Ranging cells ok fine plain v (printed_gens taken gs p) left
       beside : Beside t (printed_behind taken gs p) left
-      few : length (printed_behind taken gs p) ≤ length p + binders_of_gens gs
+      depth : ℕ
+      nests : NestsWithin depth e
+      few : length (printed_behind taken gs p) + depth ≤ lim
 
     mutual
-      pub printed-lean : {r : Names Bool} {e : Ex} {m : Bool} → L r e m → (p : Names Text) (v : Names Bool) → Beside r p v →
-          length p + binders e ≤ lim → Lean cells ok fine plain v (printed taken e p) m
-      printed-lean (a_number q) p v s l = a_number q
-      printed-lean a_truth p v s l = a_truth
-      printed-lean (a_name {a = a} {m = m} q) p v s l =
-          let w = is-printed s (within (length p) 0 l) a m q in a_name (ap (look v) w.is ∙ w.there)
-      printed-lean (a_cell q ts) p v s l = a_cell q (printed-terms ts p v s l)
-      printed-lean (by_one {x = x} w f) p v s l = by_one w (printed-lean f p v s (only-of (length p) (binders x) l))
-      printed-lean (by_two {x = x} {y = y} w f h) p v s l =
-          by_two w (printed-lean f p v s (first-of (length p) (binders x) (binders y + 0) l))
-          (printed-lean h p v s (only-of (length p) (binders y) (second-of (length p) (binders x) (binders y + 0) l)))
-      printed-lean (by_power {x = x} {y = y} f h) p v s l =
-          by_power (printed-lean f p v s (first-of (length p) (binders x) (binders y + 0) l))
-          (printed-lean h p v s (only-of (length p) (binders y) (second-of (length p) (binders x) (binders y + 0) l)))
-      printed-lean (by_truth {x = x} f) p v s l = by_truth (printed-lean f p v s (only-of (length p) (binders x) l))
-      printed-lean (by_fold {e = e} {gs = gs} w ts f) p v s l =
-          let k = only-of (length p) (binders_of_gens gs + binders e) l in
-          let b = printed-ranging ts p v s (first-of (length p) (binders_of_gens gs) (binders e) k) in
-          by_fold w b.gens (printed-lean f (printed_behind taken gs p) b.left b.beside (omega (arith, b.few, k)))
-      printed-lean (by_item {e = e} w f) p v s l =
-          by_item w (printed-lean f p v s (only-of (length p) (binders e) (only-of (length p) (binders e + 0) l)))
-      printed-lean (by_order {x = x} {y = y} w f h) p v s l =
-          by_order w (printed-row f p v s (first-of (length p) (binders x) (binders y + 0) l))
-          (printed-row h p v s (only-of (length p) (binders y) (second-of (length p) (binders x) (binders y + 0) l)))
+      -- Where so many names are printed so far, and so many may be bound in the tree.
+      pub printed-lean : {r : Names Bool} {e : Ex} {m : Bool} → L r e m → (p : Names Text) (v : Names Bool) → Beside r p v → (n : ℕ) →
+          NestsWithin n e → length p + n ≤ lim → Lean cells ok fine plain v (printed taken e p) m
+      printed-lean (a_number q) p v s n h l = a_number q
+      printed-lean a_truth p v s n h l = a_truth
+      printed-lean (a_name {a = a} {m = m} q) p v s n h l =
+          let w = is-printed s (omega (arith, l)) a m q in a_name (ap (look v) w.is ∙ w.there)
+      printed-lean (a_cell q ts) p v s n h l = a_cell q (printed-terms ts p v s n h l)
+      printed-lean (by_one w f) p v s n h l = by_one w (printed-lean f p v s n h.0 l)
+      printed-lean (by_two w f g) p v s n h l = by_two w (printed-lean f p v s n h.0 l) (printed-lean g p v s n h.1.0 l)
+      printed-lean (by_power f g) p v s n h l = by_power (printed-lean f p v s n h.0 l) (printed-lean g p v s n h.1.0 l)
+      printed-lean (by_truth f) p v s n h l = by_truth (printed-lean f p v s n h.0 l)
+      printed-lean (by_fold {e = e} {gs = gs} w ts f) p v s n h l =
+          let b = printed-ranging ts p v s n e h.0 l in
+          by_fold w b.gens (printed-lean f (printed_behind taken gs p) b.left b.beside b.depth b.nests b.few)
+      printed-lean (by_items w ts) p v s n h l = by_items w (printed-leans ts p v s n h.0 l)
+      printed-lean (by_order w f g) p v s n h l = by_order w (printed-row f p v s n h.0 l) (printed-row g p v s n h.1.0 l)
 
-      printed-terms : {w : Bool} {r : Names Bool} {es : Exs} {k : ℕ} → Terms cells ok old plain w r es k →
-          (p : Names Text) (v : Names Bool) →
-          Beside r p v → length p + binders_of_all es ≤ lim → Terms cells ok fine plain w v (printed_all taken es p) k
-      printed-terms no_terms p v s l = no_terms
-      printed-terms (more_terms {e = e} {es = es} w f ts) p v s l =
-          more_terms w (printed-lean f p v s (first-of (length p) (binders e) (binders_of_all es) l))
-          (printed-terms ts p v s (second-of (length p) (binders e) (binders_of_all es) l))
+      printed-leans : {r : Names Bool} {es : Exs} {m : Bool} → Leans cells ok old plain r es m → (p : Names Text) (v : Names Bool) →
+          Beside r p v → (n : ℕ) → AllNestWithin n es → length p + n ≤ lim → Leans cells ok fine plain v (printed_all taken es p) m
+      printed-leans (last_lean f) p v s n h l = last_lean (printed-lean f p v s n h.0 l)
+      printed-leans (more_leans f ts) p v s n h l = more_leans (printed-lean f p v s n h.0 l) (printed-leans ts p v s n h.1 l)
+
+      printed-terms : {w : Bool} {r : Names Bool} {es : Exs} {k : ℕ} → Terms cells ok old plain w r es k → (p : Names Text)
+          (v : Names Bool) → Beside r p v → (n : ℕ) → AllNestWithin n es → length p + n ≤ lim →
+          Terms cells ok fine plain w v (printed_all taken es p) k
+      printed-terms no_terms p v s n h l = no_terms
+      printed-terms (more_terms w f ts) p v s n h l = more_terms w (printed-lean f p v s n h.0 l) (printed-terms ts p v s n h.1 l)
 
       printed-row : {r : Names Bool} {e : Ex} {m : Bool} → Row cells ok old plain r e m → (p : Names Text) (v : Names Bool) → Beside r p v →
-          length p + binders e ≤ lim → Row cells ok fine plain v (printed taken e p) m
-      printed-row (listed {e = e} {gs = gs} ts f) p v s l =
-          let b = printed-ranging ts p v s (first-of (length p) (binders_of_gens gs) (binders e) l) in
-          listed b.gens (printed-lean f (printed_behind taken gs p) b.left b.beside (omega (arith, b.few, l)))
-      printed-row (alone {e = e} f) p v s l = alone (printed-lean f p v s (only-of (length p) (binders e) l))
+          (n : ℕ) → NestsWithin n e → length p + n ≤ lim → Row cells ok fine plain v (printed taken e p) m
+      printed-row (listed {e = e} {gs = gs} ts f) p v s n h l =
+          let b = printed-ranging ts p v s n e h l in
+          listed b.gens (printed-lean f (printed_behind taken gs p) b.left b.beside b.depth b.nests b.few)
+      printed-row (alone f) p v s n h l = alone (printed-lean f p v s n h.0 l)
 
       printed-ranging : {r t : Names Bool} {gs : Gens} → Ranging cells ok old plain r gs t → (p : Names Text) (v : Names Bool) →
-          Beside r p v →
-          length p + binders_of_gens gs ≤ lim → Behind t v gs p
-      printed-ranging behind_all p v s l = record { left = v; gens = behind_all; beside = s; few = omega arith }
-      printed-ranging (over_truths {a = a} {gs = gs} c ts) p v s l =
+          Beside r p v → (n : ℕ) (e : Ex) → NestBehind n gs (Item e) → length p + n ≤ lim → Behind t v gs p e
+      printed-ranging behind_all p v s n e h l = record { left = v; gens = behind_all; beside = s; depth = n; nests = h; few = l }
+      printed-ranging (over_truths c ts) p v s zero e h l = absurd h
+      printed-ranging (over_truths {a = a} c ts) p v s (suc n) e h l =
           let z : length (with_printed taken a p) ≡ suc (length p) = refl in
-          let b = printed-ranging ts (with_printed taken a p) ((printed_name taken (length p), true) ∷ v) (more_beside s)
+          let b = printed-ranging ts (with_printed taken a p) ((printed_name taken (length p), true) ∷ v) (more_beside s) n e h.1
           (omega (arith, l, z)) in
           record {
             left = b.left;
             gens = over_truths (printed_fine (length p) (omega (arith, l))) b.gens;
             beside = b.beside;
-            few = let h = b.few in omega (arith, h, z);
+            depth = b.depth;
+            nests = b.nests;
+            few = b.few;
           }
-      printed-ranging (over_numbers {a = a} {es = es} {gs = gs} c q ns ts) p v s l =
+      printed-ranging (over_numbers c q ns ts) p v s zero e h l = absurd h
+      printed-ranging (over_numbers {a = a} c q ns ts) p v s (suc n) e h l =
           let z : length (with_printed taken a p) ≡ suc (length p) = refl in
-          let b = printed-ranging ts (with_printed taken a p) ((printed_name taken (length p), false) ∷ v) (more_beside s)
+          let b = printed-ranging ts (with_printed taken a p) ((printed_name taken (length p), false) ∷ v) (more_beside s) n e h.1
           (omega (arith, l, z)) in
           record {
             left = b.left;
-            gens = over_numbers (printed_fine (length p) (omega (arith, l))) q (printed-terms ns p v s (omega (arith, l))) b.gens;
+            gens = over_numbers (printed_fine (length p) (omega (arith, l))) q (printed-terms ns p v s (suc n) h.0 l) b.gens;
             beside = b.beside;
-            few = let h = b.few in omega (arith, h, z);
+            depth = b.depth;
+            nests = b.nests;
+            few = b.few;
           }
-      printed-ranging (under {c = c} {gs = gs} f ts) p v s l =
-          let b = printed-ranging ts p v s (second-of (length p) (binders c) (binders_of_gens gs) l) in
+      printed-ranging (under f ts) p v s n e h l =
+          let b = printed-ranging ts p v s n e h.1 l in
           record {
             left = b.left;
-            gens = under (printed-lean f p v s (first-of (length p) (binders c) (binders_of_gens gs) l)) b.gens;
+            gens = under (printed-lean f p v s n h.0 l) b.gens;
             beside = b.beside;
-            few = let h = b.few in omega (arith, h);
+            depth = b.depth;
+            nests = b.nests;
+            few = b.few;
           }

@@ -8,7 +8,7 @@ use Rattle.ess_simplify_laws.specs.declared.words.Outcome.{Outcome}
 use Rattle.ess_simplify_laws.specs.Simplifying.{said, denied as undenied, outcome, left, simplified, all_simplified, gens_simplified}
 use Rattle.ess_flat_laws.specs.Flat.{denied, negative, absolute, TwoOp, both, either, implied, agreeing, equal, unequal, below, at_most, above, at_least, sum, difference, product}
 use Rattle.ess_bare_laws.specs.Bare.{before, not_behind}
-use Rattle.ess_bare_laws.specs.Lean.{Lean, a_number, a_truth, a_name, a_cell, by_one, by_two, by_power, by_truth, by_fold, by_item, by_order, Terms, no_terms, more_terms, Row, listed, alone, Ranging, behind_all, over_truths, over_numbers, under}
+use Rattle.ess_bare_laws.specs.Lean.{Lean, a_number, a_truth, a_name, a_cell, by_one, by_two, by_power, by_truth, by_fold, by_items, by_order, Leans, last_lean, more_leans, Terms, no_terms, more_terms, Row, listed, alone, Ranging, behind_all, over_truths, over_numbers, under}
 
 module _ (cells : Text → Option (Bool × ℕ)) (ok : ℤ → Bool) (fine : Text → Bool) (plain : Bool) where
   abbrev L : Names Bool → Ex → Bool → Type 0
@@ -22,7 +22,7 @@ module _ (cells : Text → Option (Bool × ℕ)) (ok : ℤ → Bool) (fine : Tex
   denied-lean (by_one denied f) = f
   denied-lean (by_two w f k) = by_one denied (by_two w f k)
   denied-lean (by_fold w s f) = by_one denied (by_fold w s f)
-  denied-lean (by_item w f) = by_one denied (by_item w f)
+  denied-lean (by_items w l) = by_one denied (by_items w l)
   denied-lean (by_order w f k) = by_one denied (by_order w f k)
 
   -- What is left of a connective.
@@ -64,9 +64,14 @@ module _ (cells : Text → Option (Bool × ℕ)) (ok : ℤ → Bool) (fine : Tex
     simplified-lean (by_power f k) = by_power (simplified-lean f) (simplified-lean k)
     simplified-lean (by_truth f) = by_truth (simplified-lean f)
     simplified-lean (by_fold w s f) = by_fold w (simplified-ranging s) (simplified-lean f)
-    simplified-lean (by_item w f) = by_item w (simplified-lean f)
+    simplified-lean (by_items w l) = by_items w (simplified-leans l)
     simplified-lean (by_order before f k) = by_order before (simplified-row f) (simplified-row k)
     simplified-lean (by_order not_behind f k) = by_order not_behind (simplified-row f) (simplified-row k)
+
+    simplified-leans : {r : Names Bool} {es : Exs} {m : Bool} → Leans cells ok fine plain r es m →
+        Leans cells ok fine plain r (all_simplified es) m
+    simplified-leans (last_lean f) = last_lean (simplified-lean f)
+    simplified-leans (more_leans f l) = more_leans (simplified-lean f) (simplified-leans l)
 
     simplified-terms : {w : Bool} {r : Names Bool} {es : Exs} {k : ℕ} → Terms cells ok fine plain w r es k →
         Terms cells ok fine plain w r (all_simplified es) k

@@ -1,5 +1,5 @@
 -- What is written for a bare tree: it means what the tree means, is as models have it, and spells no more.
-use Rattle.std.proofs.Common.{◌≡◌, refl, sym, ap, ◌∙◌, ℕ, ◌≤◌, ◌<◌, Bool, true, false, not, List, [], ℤ, pos, Option, arith}
+use Rattle.std.proofs.Common.{◌≡◌, refl, sym, ap, ◌∙◌, ℕ, ◌<◌, Bool, true, false, not, List, [], ℤ, pos, Option, le_refl, arith}
 use Rattle.ess_semantics.specs.Values.{Text}
 use Rattle.ess_semantics.specs.Order.{same_text}
 use Rattle.ess_semantics.specs.Names.{Names}
@@ -19,6 +19,8 @@ use Rattle.ess_keys_laws.proofs.Refined.{refined-keyable}
 use Rattle.ess_keys_laws.proofs.Bound.{rel-nothing}
 use Rattle.ess_keys_laws.proofs.Keying.{keyed-means}
 use Rattle.conjure_model_laws.specs.Printed.{printed_name, binders}
+use Rattle.ess_depth_laws.specs.Depth.{NestsWithin}
+use Rattle.ess_depth_laws.proofs.Depths.{within-binders}
 use Rattle.conjure_model_laws.proofs.PrintedLaws.{names-printed}
 use Rattle.ess_bare_laws.specs.Bare.{Bare}
 use Rattle.ess_bare_laws.specs.Lean.{Lean, Ended}
@@ -29,9 +31,10 @@ use Rattle.ess_bare_written_laws.proofs.Truths.{lean-truth, lean-truths, lean-me
 use Rattle.ess_bare_written_laws.proofs.Simplifying.{simplified-lean}
 use Rattle.ess_bare_written_laws.proofs.Scopes.{simplified-smaller}
 use Rattle.ess_bare_written_laws.proofs.Keying.{keyed-lean, known-nothing}
-use Rattle.ess_bare_written_laws.proofs.FewBinders.{keyed-few}
+use Rattle.ess_bare_written_laws.proofs.KeyedDepths.{keyed-nests}
 use Rattle.ess_bare_written_laws.proofs.PrintedNames.{printed-something}
 use Rattle.ess_bare_written_laws.proofs.Printing.{nothing_beside, printed-lean}
+use Rattle.ess_bare_written_laws.proofs.PrintedByDepth.{no_values, printed-same}
 use Rattle.ess_bare_written_laws.proofs.Forms.{lean-refined, lean-free, lean-same}
 use Rattle.ess_bare_written_laws.proofs.KindedTrees.{is_something, no_types, kinded-lean}
 
@@ -95,30 +98,28 @@ module _ (cells : Text → Option (Bool × ℕ)) (taken : List Text) (e : Ex) (m
     L3 : Lean cells ok anyone true [] e3 m
     L3 = simplified-lean cells ok anyone true L2
 
-    few3 : binders e3 ≤ binders e
-    few3 =
-        let p = (simplified-smaller R.unbound cells ok anyone false L0).few in
-        let q = keyed-few cells ok anyone false L1 nothing_around (λ a t x. cc) in
-        let r = (simplified-smaller R.unbound cells ok anyone true L2).few in
-        omega (arith, p, q, r)
+    nests3 : NestsWithin R.depth e3
+    nests3 =
+        (simplified-smaller R.unbound cells ok anyone true L2).nests R.depth
+        (keyed-nests cells ok anyone false L1 nothing_around (λ a t x. cc) R.depth R.depth (le_refl R.depth)
+        ((simplified-smaller R.unbound cells ok anyone false L0).nests R.depth R.nests))
 
-    differ : (i j : ℕ) → i < j → j < binders e → same_text (printed_name taken j) (printed_name taken i) ≡ false
+    differ : (i j : ℕ) → i < j → j < R.depth → same_text (printed_name taken j) (printed_name taken i) ≡ false
     differ i j l n = let f = R.few in names-printed.differ taken i j l (omega (arith, n, f))
 
-    printed_fine : (i : ℕ) → i < binders e → is_something (printed_name taken i) ≡ true
+    printed_fine : (i : ℕ) → i < R.depth → is_something (printed_name taken i) ≡ true
     printed_fine i l = let f = R.few in
         something-fine (is_nothing (name_ex (printed_name taken i))) (printed-something taken i (omega (arith, l, f)))
 
     L4 : Lean cells ok is_something true [] (as_written taken e) m
-    L4 = printed-lean taken (binders e) differ cells ok anyone is_something true printed_fine L3 [] [] nothing_beside
-        (let f = few3 in omega (arith, f))
+    L4 = printed-lean taken R.depth differ cells ok anyone is_something true printed_fine L3 [] [] nothing_beside R.depth nests3
+        (omega arith)
 
     -- It means what the tree means.
     written-means : (env : Env) → meaning (as_written taken e) env ≡ meaning e env
     written-means env =
-        let f = few3 in
-        let g = R.few in
-        names-printed.of_closed taken e3 (lean-refined cells ok anyone true L3) (lean-closed cells ok true L3) (omega (arith, f, g)) env
+        printed-same taken R.depth differ cells ok anyone true env.positions env.types env.cells L3 [] env.vals env.vals no_values R.depth
+        nests3 (omega arith)
         ∙ sym (lean-simplified cells ok true L2 env)
         ∙ keyed-means env.positions env.types env.cells R.unbound e1 R.around R.ranging nothing_around env.vals env.vals
         (refined-keyable e1 (lean-refined cells ok anyone false L1))
@@ -167,6 +168,8 @@ ready-ended cells taken e m R = record {
   around = R.around;
   ranging = R.ranging;
   scoped = R.scoped;
+  depth = binders e;
+  nests = within-binders e;
   few = R.few;
 }
 

@@ -16,6 +16,7 @@ use Rattle.ess_rules_laws.specs.Rules.{IsTruth}
 use Rattle.ess_simplify_laws.specs.Simplifying.{simplified}
 use Rattle.ess_keys_laws.specs.Keyed.{nothing_around, keyed}
 use Rattle.conjure_model_laws.specs.Printed.{printed, binders}
+use Rattle.ess_depth_laws.specs.Depth.{NestsWithin}
 use Rattle.ess_bare_laws.specs.Bare.{Bare}
 use Rattle.ess_bare_laws.specs.Lean.{Ended}
 
@@ -48,14 +49,17 @@ pub record IsReady (cells : Text → Option (Bool × ℕ)) (taken : List Text) (
   pub scoped : Scoped unbound around ranging e
   pub few : suc (binders e + length taken) < 2 ^ 64
 
--- The same of a tree that rules end in.
+-- A tree that rules end in, without free names, in which no bound name hides another one, and no more names are bound around a place
+-- than there are numbers of names.
 pub record IsEndedTree (cells : Text → Option (Bool × ℕ)) (taken : List Text) (e : Ex) (m : Bool) : Type 0 where
   pub ended : Ended cells [] e m
   pub unbound : Text → Bool
   pub around : Text → Bool
   pub ranging : Text → Bool
   pub scoped : Scoped unbound around ranging e
-  pub few : suc (binders e + length taken) < 2 ^ 64
+  pub depth : ℕ
+  pub nests : NestsWithin depth e
+  pub few : suc (depth + length taken) < 2 ^ 64
 
 -- A bare tree without free names means the same wherever the tables are the same, and is a truth value where its mark says so. What is
 -- written for it means what it means. Where the tables are declared what is written is as models have it, with operands of the kinds that

@@ -8,7 +8,7 @@ pub fn bare_trees_are_written()
     ensures { BareTreesAreWritten }
 {}
 
-/// So it is with each tree that rules end in: sums may have conditions there, and folds may be over one item.
+/// So it is with each tree that rules end in: sums may have conditions there, and folds may be over lists of items.
 pub fn ended_trees_are_written()
     ensures { EndedTreesAreWritten }
 {}

@@ -25,7 +25,7 @@ use Rattle.ess_declared_written.specs.Coming.{DeclsAreWritten, none_written, one
 -- ---- bounds that no rule changes, behind the two names that are kept for conditions
 
 -- What is printed where nothing abstract is left, and the reserved names are few.
-as_printed : (e new : Ex) → (told e [] 2).1 < 2 ^ 64 → is_refined (told_apart 2 e) ≡ true → new ≡ written_for [] (told_apart 2 e)
+as_printed : (e new : Ex) → (told e [] 2).1 < 2 ^ 62 → is_refined (told_apart 2 e) ≡ true → new ≡ written_for [] (told_apart 2 e)
     → BoundPrints [] 2 e (Some new)
 as_printed e new f h w = (
   (told e [] 2).1,
@@ -33,7 +33,7 @@ as_printed e new f h w = (
 )
 
 -- What is written where that is an expression of a model.
-as_written : (s : Scope) (e new : Ex) → (told e [] 2).1 < 2 ^ 64 → is_refined (told_apart 2 e) ≡ true
+as_written : (s : Scope) (e new : Ex) → (told e [] 2).1 < 2 ^ 62 → is_refined (told_apart 2 e) ≡ true
     → new ≡ written_for [] (told_apart 2 e) → is_lowerable s new ≡ true → BoundComes s [] 2 e (Some new)
 as_written s e new f h w l = ((as_printed e new f h w).0, ((as_printed e new f h w).1, l))
 

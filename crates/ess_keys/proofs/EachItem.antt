@@ -12,7 +12,7 @@ use Rattle.ess_core_nodes.specs.declared.nodes.Gen.{Gen}
 use Rattle.ess_core_nodes.specs.declared.nodes.Gen.TheOpen.{Node-F}
 use Rattle.ess_core_nodes.specs.declared.nodes.Node.TheVariants as node
 use Rattle.ess_core_nodes.specs.declared.nodes.Gen.TheFolds.{fold-roll-Node}
-use Rattle.ess_keys_laws.specs.Keyed.{Around, sure_key, entered, entered_any, conjuncts, conditions_before, generator_before, laid, keyed, keyed_gens, keyed_behind, keyed_dom}
+use Rattle.ess_keys_laws.specs.Keyed.{Around, sure_key, entered_any, conjuncts, conditions_before, generator_before, laid, keyed, keyed_gens, keyed_behind, keyed_dom}
 use Rattle.ess_keys.specs.Steps.{generator_left, items_left, behind_item, items_of, behind_items}
 
 conditions-before : (cs : List Ex) (gs : List Item) → gens_of (map cond_item cs ++ gs) ≡ conditions_before cs (gens_of gs)

@@ -5,3 +5,5 @@ pub mod Pairs
 -- Generators one by one, rows of trees
 pub mod EachItem
 pub mod Rows
+-- Conditions in a row
+pub mod Conditions

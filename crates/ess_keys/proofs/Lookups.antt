@@ -1,12 +1,12 @@
 -- What stands for a name, from the row of names with keys.
-use Rattle.std.proofs.Common.{◌≡◌, refl, sym, ap, ◌∙◌, Bool, true, false, cond, if◌then◌else◌, List, [], ◌∷◌, ◌++◌, map, reverse, Option, Some, None, option_map}
+use Rattle.std.proofs.Common.{◌≡◌, refl, sym, ap, ◌∙◌, Bool, true, false, cond, if◌then◌else◌, List, [], ◌∷◌, ◌++◌, map, reverse, Some, None, option_map}
 use Rattle.std.proofs.lemmas.List.{map-append, reverse-append}
 use Rattle.std.specs.List.{find}
 use Rattle.ess_semantics.specs.Lists.{or_default}
 use Rattle.ess_semantics.specs.Values.{Text}
 use Rattle.ess_semantics.specs.Names.{look}
 use Rattle.ess_semantics.specs.Order.{same_text}
-use Rattle.ess_semantics.specs.Trees.{Ex, name_ex}
+use Rattle.ess_semantics.specs.Trees.{name_ex}
 use Rattle.ess_core_nodes.specs.NodeViews.{pure_node}
 use Rattle.ess_keys_laws.specs.Keyed.{key_for}
 use Rattle.ess_keys.specs.declared.around.Key.{Key}

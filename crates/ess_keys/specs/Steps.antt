@@ -1,6 +1,6 @@
--- Generators with plain keys, one by one.
+-- Generators with plain keys, one by one, and trees in a row before others.
 use Rattle.std.specs.Prelude.{List, [], ◌∷◌, ◌++◌, map, Option, Some, None}
-use Rattle.ess_semantics.specs.Trees.{Ex, Pat, Dom}
+use Rattle.ess_semantics.specs.Trees.{Ex, Exs, more_exs, Pat, Dom}
 use Rattle.ess_core.specs.TreeViews.{Item, over_item, from_item, cond_item, gens_of}
 use Rattle.ess_keys_laws.specs.Keyed.{Around, sure_key, entered, entered_any, conjuncts, keyed, keyed_dom}
 
@@ -30,3 +30,8 @@ items_of c (g ∷ gs) = items_left c g gs ++ items_of (behind_item c g gs) gs
 abbrev pub behind_items : Around → List Item → Around
 behind_items c [] = c
 behind_items c (g ∷ gs) = behind_items (behind_item c g gs) gs
+
+-- Trees before others.
+abbrev pub trees_before : List Ex → Exs → Exs
+trees_before [] es = es
+trees_before (x ∷ xs) es = more_exs x (trees_before xs es)

@@ -1,17 +1,18 @@
 //! Comprehensions and folds whose generators are gone.
-ghost use Rattle.std.specs.Prelude.{◌≡◌, IfOk, option_map};
+ghost use Rattle.std.specs.Prelude.{◌≡◌, ◌++◌, ◌∷◌, [], IfOk, OnOk, map, nat_le, option_map};
 ghost use Rattle.std.specs.Option.{option_copied};
 ghost use Rattle.ess_semantics.specs.Lists.{and_then, when};
 ghost use Rattle.ess_core_nodes.specs.NodeViews.{pure_node, pure_nodes, pure_gens, pure_op};
 ghost use Rattle.ess_guard_forms.specs.KnownNames.{pure_known};
-ghost use Rattle.ess_keys_laws.specs.Keyed.{laid, one_operand, is_bare, are_conditions, connected, connective_of, condition_fold};
-ghost use Rattle.ess_keys_laws.specs.Keyed.{is_folded, fold_of, fold_left, folded};
+ghost use Rattle.ess_keys_laws.specs.Keyed.{laid, one_operand, is_bare, are_conditions, connected, all_of, how_many, joined};
+ghost use Rattle.ess_keys_laws.specs.Keyed.{connective_of, condition_fold, is_folded, fold_of, fold_left, folded};
+ghost use Rattle.ess_keys.specs.Steps.{trees_before};
 
 use crate::forms::is_truth;
 use ess_core::{Fun, Op2};
 use ess_core_nodes::{Gen, Node, Op};
 use ess_guard_forms::{KnownName, is_number};
-use ess_node_building::{binary, comprehension, literal, only};
+use ess_node_building::{binary, comprehension, literal, only, word};
 use ess_node_remaking::operator;
 use ess_rows::{Boxed, NoMemory, Row};
 use std::alloc::Global;
@@ -87,6 +88,66 @@ fn connected(alloc: Global, op: Op2, gens: &[Gen], body: &Node) -> Result<Boxed<
     }
 }
 
+/// A copy of a tree comes behind others.
+fn push_copy(alloc: Global, node: &Node, items: &mut Row<Node>) -> Result<(), NoMemory>
+    ensures { OnOk result (map pure_node items.new ≡ map pure_node items.old ++ pure_node node.now ∷ []) }
+{
+    let copy = node.copy(alloc)?;
+    items.push(copy.into_inner())
+}
+
+/// Conditions, and the Boolean under them, come behind other trees.
+#[tactic(auto, using(crate::proofs::Conditions::one_more, crate::proofs::Conditions::the_last, ess_core_nodes::proofs::NodeEquations::pure_gen_over, ess_core_nodes::proofs::NodeEquations::pure_gen_from, ess_core_nodes::proofs::NodeEquations::pure_gen_if))]
+fn put_all(alloc: Global, gens: &[Gen], body: &Node, items: &mut Row<Node>) -> Result<(), NoMemory>
+    ensures { OnOk result (pure_nodes items.new
+        ≡ trees_before (map pure_node items.old) (all_of (pure_gens gens.now) (pure_node body.now))) }
+{
+    match gens.split_first() {
+        None => push_copy(alloc, body, items),
+        Some((Gen::Over(_, _), _)) => push_copy(alloc, body, items),
+        Some((Gen::From(_, _), _)) => push_copy(alloc, body, items),
+        Some((Gen::If(condition), rest)) => {
+            push_copy(alloc, condition.get(), items)?;
+            put_all(alloc, rest, body, items)
+        }
+    }
+}
+
+/// Conditions, and the Boolean under them.
+fn all_of(alloc: Global, gens: &[Gen], body: &Node) -> Result<Row<Node>, NoMemory>
+    ensures { IfOk result (λ ns. pure_nodes ns ≡ all_of (pure_gens gens.now) (pure_node body.now)) }
+{
+    let mut items = Row::new(alloc);
+    put_all(alloc, gens, body, &mut items)?;
+    Ok(items)
+}
+
+/// Whether there are so many conditions that a chain of them would be deep.
+#[tactic(auto, using(crate::proofs::Conditions::as_many))]
+fn are_many(gens: &[Gen]) -> bool
+    ensures { result ≡ nat_le 16 (how_many (pure_gens gens.now)) }
+{
+    16 <= gens.len()
+}
+
+/// A Boolean that holds with its conditions: a list of all under `and`, where these are many.
+fn joined(alloc: Global, op: Op2, gens: &[Gen], body: &Node) -> Result<Boxed<Node>, NoMemory>
+    ensures { IfOk result (λ n. pure_node n ≡ joined op (pure_gens gens.now) (pure_node body.now)) }
+{
+    match op {
+        Op2::And => {
+            if are_many(gens) {
+                let items = all_of(alloc, gens, body)?;
+                let list = literal(alloc, Op::Matrix, items)?;
+                word(alloc, true, Fun::And, list)
+            } else {
+                connected(alloc, op, gens, body)
+            }
+        }
+        _ => connected(alloc, op, gens, body),
+    }
+}
+
 /// What a condition is to the body of a fold.
 fn connective_of(mark: bool, fun: Fun) -> Option<Op2>
     ensures { result ≡ connective_of mark fun }
@@ -112,7 +173,7 @@ fn condition_fold(
         None => Ok(None),
         Some(op) => {
             if !is_bare(gens) && are_conditions(gens) {
-                Ok(Some(connected(alloc, op, gens, body)?))
+                Ok(Some(joined(alloc, op, gens, body)?))
             } else {
                 Ok(None)
             }

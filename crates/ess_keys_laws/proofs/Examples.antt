@@ -1,10 +1,10 @@
 -- Worked examples of plain keys.
-use Rattle.std.proofs.Common.{◌≡◌, refl, true, false, codes}
+use Rattle.std.proofs.Common.{◌≡◌, refl, ℕ, zero, suc, true, false, codes}
 use Rattle.ess_semantics.specs.declared.words.Op2.{Op2}
 use Rattle.ess_semantics.specs.declared.words.Fun.{Fun}
 use Rattle.ess_semantics.specs.Values.{Text}
-use Rattle.ess_semantics.specs.Trees.{matrix_literal, name_pat, Ex, truth_ex, node_ex, comp_ex, cell_ex, no_exs, more_exs, Gens, no_gens}
-use Rattle.ess_semantics.specs.Trees.{over, cond, Dom, bool_dom, ex2, fun1}
+use Rattle.ess_semantics.specs.Trees.{matrix_literal, name_pat, Ex, Exs, truth_ex, node_ex, comp_ex, cell_ex, no_exs, more_exs, Gens}
+use Rattle.ess_semantics.specs.Trees.{no_gens, over, cond, Dom, bool_dom, ex2, fun1}
 use Rattle.ess_semantics.proofs.Shorthands.{N, n, es1, upto, range}
 use Rattle.ess_keys_laws.specs.Keyed.{nothing_around, keyed}
 
@@ -91,3 +91,41 @@ chain : keyed nothing_around
     (Over (codes "x") (upto 2) no_gens))
     ≡ sum (fun1 false Fun.Min (node_ex false matrix_literal (more_exs (f x) no_exs))) (Over (codes "x") (upto 2) no_gens)
 chain = refl
+
+-- ---- many conditions
+
+-- The conditions `s[i]`, .., `s[1]`.
+abbrev conditions : ℕ → Gens
+conditions zero = no_gens
+conditions (suc i) = cond (s (n (suc i))) (conditions i)
+
+-- The chain `s[i] /\ (.. (s[1] /\ s[0]))`.
+abbrev chain_of : ℕ → Ex
+chain_of zero = s (n 0)
+chain_of (suc i) = ex2 true Op2.And (s (n (suc i))) (chain_of i)
+
+-- The items `s[i]`, .., `s[0]`.
+abbrev items_of : ℕ → Exs
+items_of zero = es1 (s (n 0))
+items_of (suc i) = more_exs (s (n (suc i))) (items_of i)
+
+-- `or([s[0] | s[15], .., s[1]])` is a chain: fifteen conditions are few.
+fifteen : keyed nothing_around (fun1 true Fun.Or (comp_ex (s (n 0)) (conditions 15))) ≡ chain_of 15
+fifteen = refl
+
+-- `or([s[0] | s[16], .., s[1]])` is `and([s[16], .., s[1], s[0]])`: sixteen are many.
+sixteen : keyed nothing_around (fun1 true Fun.Or (comp_ex (s (n 0)) (conditions 16)))
+    ≡ fun1 true Fun.And (node_ex false matrix_literal (items_of 16))
+sixteen = refl
+
+-- Conditions that hold by their form don't count: `or([s[0] | true, s[15], .., s[1]])`.
+without_settled : keyed nothing_around (fun1 true Fun.Or (comp_ex (s (n 0)) (cond (truth_ex true) (conditions 15)))) ≡ chain_of 15
+without_settled = refl
+
+-- Under `and` many conditions stay a chain of `->`, here `s[16] -> .. `.
+abbrev implied_by : ℕ → Ex
+implied_by zero = s (n 0)
+implied_by (suc i) = ex2 true Op2.Implies (s (n (suc i))) (implied_by i)
+
+sixteen_under_and : keyed nothing_around (fun1 true Fun.And (comp_ex (s (n 0)) (conditions 16))) ≡ implied_by 16
+sixteen_under_and = refl

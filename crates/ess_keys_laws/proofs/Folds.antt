@@ -1,23 +1,25 @@
 -- Comprehensions and folds whose generators are gone mean what they meant.
-use Rattle.std.proofs.Common.{◌≡◌, refl, sym, ap, ◌∙◌, subst, Bool, true, false, ◌&&◌, not, List, [], ◌∷◌, ℤ, Option, Some, None}
-use Rattle.std.proofs.Common.{option_map, arith}
+use Rattle.std.proofs.Common.{◌≡◌, refl, sym, ap, ◌∙◌, subst, Bool, true, false, ◌&&◌, not, if◌then◌else◌, List, [], ◌∷◌, ℤ, Option, Some}
+use Rattle.std.proofs.Common.{None}
+use Rattle.std.proofs.Common.{option_map, nat_le, arith}
 use Rattle.std.proofs.lemmas.Int.{ints}
 use Rattle.ess_semantics.specs.declared.words.Op2.{Op2}
 use Rattle.ess_semantics.specs.declared.words.Fun.{Fun}
-use Rattle.ess_semantics.specs.Lists.{or_default, when}
+use Rattle.ess_semantics.specs.Lists.{and_then, or_default, when, all_some}
 use Rattle.ess_semantics.specs.Values.{Value, number, truth, item, node}
 use Rattle.ess_semantics.specs.Names.{Names}
 use Rattle.ess_semantics.specs.Trees.{Op, binary, word, matrix_literal, Ex, Exs, node_ex, comp_ex, no_exs, more_exs, Gens, no_gens, over}
 use Rattle.ess_semantics.specs.Trees.{from, cond, fun1}
-use Rattle.ess_semantics.specs.Operators.{as_truth, list_value, number_in, value_of_node, value_of_word1, false_where_undefined}
+use Rattle.ess_semantics.specs.Operators.{as_truth, list_value, number_in, value_of_op, value_of_node, value_of_word1}
+use Rattle.ess_semantics.specs.Operators.{false_where_undefined}
 use Rattle.ess_semantics.specs.Tables.{Table}
-use Rattle.ess_semantics.specs.Meaning.{Env, TypeEntry, meaning, items_under, where_true}
+use Rattle.ess_semantics.specs.Meaning.{Env, TypeEntry, meaning, meanings, items_under, where_true}
 use Rattle.ess_semantics.proofs.Tests.{and-right}
 use Rattle.ess_rules_laws.proofs.Simulation.{Vals, E}
 use Rattle.ess_guard_laws.specs.Origins.{Origin}
 use Rattle.ess_guard_laws.proofs.NumberForms.{number-form}
 use Rattle.ess_guard_laws.proofs.KnownNames as K
-use Rattle.ess_keys_laws.specs.Keyed.{laid, is_bare, are_conditions, connected, is_folded, fold_of, folded}
+use Rattle.ess_keys_laws.specs.Keyed.{laid, is_bare, are_conditions, connected, all_of, how_many, joined, is_folded, fold_of, folded}
 use Rattle.ess_keys_laws.proofs.Forms.{truth-there}
 
 -- ---- lists
@@ -95,6 +97,44 @@ or-under e (cond c gs) env t =
 or-under e (over p d gs) env t = cc
 or-under e (from p s gs) env t = cc
 
+-- Conditions with what stands under them, as a list under `and`.
+abbrev All : List (Option Value) → Option Value
+All os = false_where_undefined true (value_of_node (word Fun.And) (value_of_node matrix_literal os ∷ []))
+
+all-alone : (o : Option Value) → All (o ∷ []) ≡ Some (truth (as_truth o))
+all-alone o = ap (λ x. false_where_undefined true (value_of_node (word Fun.And) (x ∷ []))) (single o) ∙ and-alone o
+
+-- The same of their values, where all are there.
+abbrev AllOf : Option (List Value) → Option Value
+AllOf x = false_where_undefined true (value_of_node (word Fun.And) (and_then x (value_of_op matrix_literal) ∷ []))
+
+all-more : (o r : Option Value) (os : List (Option Value)) → All os ≡ Some (truth (as_truth r))
+    → All (o ∷ os) ≡ Some (truth (as_truth (Under Op2.And o r)))
+all-more o r os h = go o (all_some os) h
+  where
+    go : (o : Option Value) (x : Option (List Value)) → AllOf x ≡ Some (truth (as_truth r))
+        → AllOf (and_then o (λ v. option_map (λ vs. v ∷ vs) x)) ≡ Some (truth (as_truth (Under Op2.And o r)))
+    go None x h = refl
+    go (Some (truth true)) None h = h
+    go (Some (truth true)) (Some vs) h = h
+    go (Some (truth false)) None h = refl
+    go (Some (truth false)) (Some vs) h = refl
+    go (Some (number n)) None h = refl
+    go (Some (number n)) (Some vs) h = refl
+    go (Some (item t k)) None h = refl
+    go (Some (item t k)) (Some vs) h = refl
+    go (Some (node k xs)) None h = refl
+    go (Some (node k xs)) (Some vs) h = refl
+
+all-under : (e : Ex) (gs : Gens) (env : Env) → are_conditions gs ≡ true
+    → meaning (fun1 true Fun.And (node_ex false matrix_literal (all_of gs e))) env
+    ≡ Some (truth (as_truth (meaning (connected Op2.And gs e) env)))
+all-under e no_gens env t = all-alone (meaning e env)
+all-under e (cond c gs) env t =
+    all-more (meaning c env) (meaning (connected Op2.And gs e) env) (meanings (all_of gs e) env) (all-under e gs env t)
+all-under e (over p d gs) env t = cc
+all-under e (from p s gs) env t = cc
+
 -- What stands under conditions is a truth value.
 connected-truth : (o : Op2) (e : Ex) (gs : Gens) (env : Env) → not (is_bare gs) && are_conditions gs ≡ true
     → meaning (connected o gs e) env ≡ Some (truth (as_truth (meaning (connected o gs e) env)))
@@ -110,11 +150,18 @@ and-folded e gs env true q =
     connected-truth Op2.Implies e gs env q ∙ sym (and-under e gs env (and-right (not (is_bare gs)) (are_conditions gs) q))
 and-folded e gs env false q = refl
 
+-- The same where many of them are a list.
+joined-truth : (e : Ex) (gs : Gens) (env : Env) (b : Bool) → not (is_bare gs) && are_conditions gs ≡ true
+    → meaning (if b then fun1 true Fun.And (node_ex false matrix_literal (all_of gs e)) else connected Op2.And gs e) env
+    ≡ Some (truth (as_truth (meaning (connected Op2.And gs e) env)))
+joined-truth e gs env true q = all-under e gs env (and-right (not (is_bare gs)) (are_conditions gs) q)
+joined-truth e gs env false q = connected-truth Op2.And e gs env q
+
 or-folded : (e : Ex) (gs : Gens) (env : Env) (t : Bool) → not (is_bare gs) && are_conditions gs ≡ t
-    → meaning (or_default (when t (connected Op2.And gs e)) (fun1 true Fun.Or (comp_ex e gs))) env
+    → meaning (or_default (when t (joined Op2.And gs e)) (fun1 true Fun.Or (comp_ex e gs))) env
     ≡ meaning (fun1 true Fun.Or (comp_ex e gs)) env
 or-folded e gs env true q =
-    connected-truth Op2.And e gs env q ∙ sym (or-under e gs env (and-right (not (is_bare gs)) (are_conditions gs) q))
+    joined-truth e gs env (nat_le 16 (how_many gs)) q ∙ sym (or-under e gs env (and-right (not (is_bare gs)) (are_conditions gs) q))
 or-folded e gs env false q = refl
 
 -- ---- items

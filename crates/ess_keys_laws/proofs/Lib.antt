@@ -7,6 +7,7 @@ pub mod AtKey
 pub mod Bound
 pub mod Keying
 pub mod Refined
+pub mod FoldsRefined
 pub mod StaysRefined
 -- Worked examples
 mod Examples

@@ -1,13 +1,13 @@
 -- Refined trees stay so with plain keys.
-use Rattle.std.proofs.Common.{◌≡◌, refl, ap, ◌∙◌, subst, Bool, true, false, ◌&&◌, ◌||◌, not, if◌then◌else◌, []}
+use Rattle.std.proofs.Common.{◌≡◌, refl, ap, ◌∙◌, subst, Bool, true, false, ◌&&◌, ◌||◌, if◌then◌else◌, []}
 use Rattle.std.proofs.Common.{Option, Some, None, ◌⊎◌, inl, inr}
 use Rattle.ess_semantics.specs.declared.words.Op2.{Op2}
 use Rattle.ess_semantics.specs.declared.words.Fun.{Fun}
-use Rattle.ess_semantics.specs.Lists.{or_default, when}
+use Rattle.ess_semantics.specs.Lists.{or_default}
 use Rattle.ess_semantics.specs.Values.{Text}
 use Rattle.ess_semantics.specs.Order.{same_text}
 use Rattle.ess_semantics.specs.Names.{Names, look}
-use Rattle.ess_semantics.specs.Trees.{Op, binary, word, matrix_literal, is_truth_op, Pat, name_pat, tuple_pat}
+use Rattle.ess_semantics.specs.Trees.{word, matrix_literal, is_truth_op, Pat, name_pat, tuple_pat}
 use Rattle.ess_semantics.specs.Trees.{Ex, Exs, number_ex, truth_ex, name_ex, node_ex, matrix_ex, comp_ex, cell_ex, seen_ex, no_exs}
 use Rattle.ess_semantics.specs.Trees.{more_exs, Gens, no_gens, over, from, cond, Dom, bool_dom, int_dom, name_dom, ex2, fun1}
 use Rattle.ess_semantics.specs.Operators.{iff}
@@ -18,38 +18,10 @@ use Rattle.ess_semantics.proofs.Tests.{and-left, and-right, and-both}
 use Rattle.ess_guard_laws.specs.Origins.{Origin, is_sure}
 use Rattle.ess_guard_laws.specs.Conditions.{unless}
 use Rattle.ess_keys_laws.specs.KeyForms.{is_truth, as_index, as_indices, is_settled, key_of}
-use Rattle.ess_keys_laws.specs.Keyed.{Around, key_for, key_now, if_sure, sure_key, entered, entered_any, laid, is_bare}
-use Rattle.ess_keys_laws.specs.Keyed.{are_conditions, connected, is_folded, fold_of, folded, conjuncts, conditions_before}
+use Rattle.ess_keys_laws.specs.Keyed.{Around, key_for, key_now, if_sure, sure_key, entered, entered_any, conjuncts, conditions_before}
 use Rattle.ess_keys_laws.specs.Keyed.{generator_before, keyed, keyed_all, keyed_gens, keyed_behind, keyed_dom}
 use Rattle.ess_keys_laws.proofs.Forms.{before-append}
-
--- ---- nodes
-
-as-scalar : (a b c : Bool) → a && b ≡ true → (a && b) || c ≡ true
-as-scalar true true c e = refl
-as-scalar true false c e = cc
-as-scalar false b c e = cc
-
-as-list : (a c d : Bool) → c && d ≡ true → a || (c && d) ≡ true
-as-list true c d e = refl
-as-list false c d e = e
-
--- Either way for a node to be refined.
-scalar-node : (b : Bool) (op : Op) (es : Exs) → iff b (is_truth_op op) ≡ true → is_scalar_op op ≡ true → are_refined es ≡ true
-    → is_refined (node_ex b op es) ≡ true
-scalar-node b op es i s t =
-    and-both (iff b (is_truth_op op)) _ i
-    (as-scalar (is_scalar_op op) (are_refined es) (is_list_op op && are_refined_lists es) (and-both (is_scalar_op op) (are_refined es) s t))
-
-list-node : (b : Bool) (op : Op) (es : Exs) → iff b (is_truth_op op) ≡ true → is_list_op op ≡ true → are_refined_lists es ≡ true
-    → is_refined (node_ex b op es) ≡ true
-list-node b op es i s t =
-    and-both (iff b (is_truth_op op)) _ i
-    (as-list (is_scalar_op op && are_refined es) (is_list_op op) (are_refined_lists es) (and-both (is_list_op op)
-    (are_refined_lists es) s t))
-
-two-refined : (a b : Ex) → is_refined a ≡ true → is_refined b ≡ true → are_refined (more_exs a (more_exs b no_exs)) ≡ true
-two-refined a b p q = and-both (is_refined a) (is_refined b && true) p (and-both (is_refined b) true q refl)
+use Rattle.ess_keys_laws.proofs.FoldsRefined.{scalar-node, laid-refined, folded-list, folded-scalar}
 
 -- ---- indices
 
@@ -73,68 +45,6 @@ indices-refined k no_exs t = refl
 indices-refined k (more_exs e es) t =
     and-both (is_refined (as_index k e)) (are_refined (as_indices k es)) (index-refined k e (and-left (is_refined e) (are_refined es) t))
     (indices-refined k es (and-right (is_refined e) (are_refined es) t))
-
--- ---- folds
-
-laid-refined : (e : Ex) (gs : Gens) → is_refined e ≡ true → are_refined_gens gs ≡ true → is_refined_list (laid e gs) ≡ true
-laid-refined e no_gens p q = and-both (is_refined e) true p refl
-laid-refined e (over a d gs) p q = and-both (is_refined e) (are_refined_gens (over a d gs)) p q
-laid-refined e (from a s gs) p q = and-both (is_refined e) (are_refined_gens (from a s gs)) p q
-laid-refined e (cond c gs) p q = and-both (is_refined e) (are_refined_gens (cond c gs)) p q
-
-implied-refined : (e : Ex) (gs : Gens) → is_refined e ≡ true → are_refined_gens gs ≡ true → is_refined (connected Op2.Implies gs e) ≡ true
-implied-refined e no_gens p q = p
-implied-refined e (over a d gs) p q = p
-implied-refined e (from a s gs) p q = p
-implied-refined e (cond c gs) p q =
-    scalar-node true (binary Op2.Implies) (more_exs c (more_exs (connected Op2.Implies gs e) no_exs)) refl refl
-    (two-refined c (connected Op2.Implies gs e) (and-left (is_refined c) (are_refined_gens gs) q)
-    (implied-refined e gs p (and-right (is_refined c) (are_refined_gens gs) q)))
-
-joined-refined : (e : Ex) (gs : Gens) → is_refined e ≡ true → are_refined_gens gs ≡ true → is_refined (connected Op2.And gs e) ≡ true
-joined-refined e no_gens p q = p
-joined-refined e (over a d gs) p q = p
-joined-refined e (from a s gs) p q = p
-joined-refined e (cond c gs) p q =
-    scalar-node true (binary Op2.And) (more_exs c (more_exs (connected Op2.And gs e) no_exs)) refl refl
-    (two-refined c (connected Op2.And gs e) (and-left (is_refined c) (are_refined_gens gs) q)
-    (joined-refined e gs p (and-right (is_refined c) (are_refined_gens gs) q)))
-
-chosen-refined : (t : Bool) (r n : Ex) → is_refined r ≡ true → is_refined n ≡ true → is_refined (or_default (when t r) n) ≡ true
-chosen-refined true r n p q = p
-chosen-refined false r n p q = q
-
-fold-refined : (k : Names Origin) (b : Bool) (f : Fun) (l : Ex) → is_refined_list l ≡ true → is_refined (fun1 b f l) ≡ true
-    → is_refined (or_default (fold_of k b f l) (fun1 b f l)) ≡ true
-fold-refined k true Fun.And (comp_ex e gs) t n =
-    chosen-refined (not (is_bare gs) && are_conditions gs) (connected Op2.Implies gs e) (fun1 true Fun.And (comp_ex e gs))
-    (implied-refined e gs (and-left (is_refined e) (are_refined_gens gs) t) (and-right (is_refined e) (are_refined_gens gs) t)) n
-fold-refined k true Fun.Or (comp_ex e gs) t n =
-    chosen-refined (not (is_bare gs) && are_conditions gs) (connected Op2.And gs e) (fun1 true Fun.Or (comp_ex e gs))
-    (joined-refined e gs (and-left (is_refined e) (are_refined_gens gs) t) (and-right (is_refined e) (are_refined_gens gs) t)) n
-fold-refined k b f (node_ex false matrix_literal (more_exs e no_exs)) t n =
-    chosen-refined (is_folded k b f e) e (fun1 b f (node_ex false matrix_literal (more_exs e no_exs))) (and-left (is_refined e) true t) n
-fold-refined k b f l t n = n
-
-folded-list : (k : Names Origin) (b : Bool) (op : Op) (es : Exs) → iff b (is_truth_op op) ≡ true → is_list_op op ≡ true
-    → are_refined_lists es ≡ true
-    → is_refined (folded k b op es) ≡ true
-folded-list k b (word f) (more_exs l no_exs) i s t =
-    fold-refined k b f l (and-left (is_refined_list l) true t) (list-node b (word f) (more_exs l no_exs) i s t)
-folded-list k b op es i s t = list-node b op es i s t
-
-fold-scalar : (k : Names Origin) (b : Bool) (f : Fun) (l : Ex) → is_refined l ≡ true → is_refined (fun1 b f l) ≡ true
-    → is_refined (or_default (fold_of k b f l) (fun1 b f l)) ≡ true
-fold-scalar k b f (comp_ex e gs) t n = cc
-fold-scalar k b f (node_ex false matrix_literal (more_exs e no_exs)) t n = cc
-fold-scalar k b f l t n = n
-
-folded-scalar : (k : Names Origin) (b : Bool) (op : Op) (es : Exs) → iff b (is_truth_op op) ≡ true → is_scalar_op op ≡ true
-    → are_refined es ≡ true
-    → is_refined (folded k b op es) ≡ true
-folded-scalar k b (word f) (more_exs l no_exs) i s t =
-    fold-scalar k b f l (and-left (is_refined l) true t) (scalar-node b (word f) (more_exs l no_exs) i s t)
-folded-scalar k b op es i s t = scalar-node b op es i s t
 
 -- ---- conditions
 

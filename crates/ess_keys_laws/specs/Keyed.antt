@@ -1,7 +1,7 @@
 -- Refined trees with plain keys. Truth values at which cells are taken become numbers. And a rule looks a value up by `[e | .., j : D, ..,
 -- j = t, ..]`: where the form tells that t lies in D, it is `[e | .., ..]` with t in the place of j. A fold whose generators are all gone
 -- is its item, under its conditions. What no refined tree has stays as it is.
-use Rattle.std.specs.Prelude.{Bool, true, false, ◌&&◌, not, if◌then◌else◌, List, [], ◌∷◌, ◌++◌, Option, Some, None}
+use Rattle.std.specs.Prelude.{ℕ, suc, nat_le, Bool, true, false, ◌&&◌, not, if◌then◌else◌, List, [], ◌∷◌, ◌++◌, Option, Some, None}
 use Rattle.ess_semantics.specs.declared.words.Op2.{Op2}
 use Rattle.ess_semantics.specs.declared.words.Fun.{Fun}
 use Rattle.ess_semantics.specs.Lists.{and_then, or_default, when}
@@ -9,7 +9,7 @@ use Rattle.ess_semantics.specs.Values.{Text}
 use Rattle.ess_semantics.specs.Names.{Names, look}
 use Rattle.ess_semantics.specs.Trees.{Op, word, matrix_literal, Pat, name_pat, tuple_pat, Ex, Exs, number_ex, truth_ex, name_ex, node_ex}
 use Rattle.ess_semantics.specs.Trees.{matrix_ex, comp_ex, cell_ex, seen_ex, no_exs, more_exs, Gens, no_gens, over, from, cond, Dom}
-use Rattle.ess_semantics.specs.Trees.{int_dom, ex2}
+use Rattle.ess_semantics.specs.Trees.{int_dom, ex2, fun1}
 use Rattle.ess_guard_laws.specs.Origins.{Origin, with_any, with_over, is_number, is_sure}
 use Rattle.ess_guard_laws.specs.Conditions.{unless}
 use Rattle.ess_keys_laws.specs.KeyForms.{is_truth, as_indices, key_of, is_settled}
@@ -90,6 +90,25 @@ abbrev pub connected : Op2 → Gens → Ex → Ex
 connected o (cond c gs) e = ex2 true o c (connected o gs e)
 connected o gs e = e
 
+-- Conditions, and the Boolean under them, as a list.
+abbrev pub all_of : Gens → Ex → Exs
+all_of (cond c gs) e = more_exs c (all_of gs e)
+all_of gs e = more_exs e no_exs
+
+-- The number of generators and conditions.
+abbrev pub how_many : Gens → ℕ
+how_many no_gens = 0
+how_many (over p d gs) = suc (how_many gs)
+how_many (from p e gs) = suc (how_many gs)
+how_many (cond c gs) = suc (how_many gs)
+
+-- A Boolean that holds with its conditions is a list of all under `and`, where these are many: a chain of `/\` is nested as deep as it is
+-- long, and no text may be nested deeper than a bound.
+abbrev pub joined : Op2 → Gens → Ex → Ex
+joined Op2.And gs e =
+    if nat_le 16 (how_many gs) then fun1 true Fun.And (node_ex false matrix_literal (all_of gs e)) else connected Op2.And gs e
+joined o gs e = connected o gs e
+
 -- What a condition is to the body: `c -> e` is `and([e | c])`, and `c /\ e` is `or([e | c])`.
 abbrev pub connective_of : Bool → Fun → Option Op2
 connective_of true Fun.And = Some Op2.Implies
@@ -98,7 +117,7 @@ connective_of b f = None
 
 -- What is left of a fold over a comprehension that has conditions alone.
 abbrev pub condition_fold : Bool → Fun → Ex → Gens → Option Ex
-condition_fold b f e gs = and_then (connective_of b f) (λ o. when (not (is_bare gs) && are_conditions gs) (connected o gs e))
+condition_fold b f e gs = and_then (connective_of b f) (λ o. when (not (is_bare gs) && are_conditions gs) (joined o gs e))
 
 -- Whether the fold of one item is the item: it is of the kind that is folded.
 abbrev pub is_folded : Names Origin → Bool → Fun → Ex → Bool

@@ -217,12 +217,33 @@ of-sizes : is_mixed_specification (with_sets (fun1 true Fun.Or (comp_ex (ex2 tru
     [] ≡ true
 of-sizes = refl
 
--- No number is asked to be in a set of sets, no set is compared, and no bound name is that of a set.
+-- `forAll y in s . y subsetEq t`; `exists y in s . y union t = t`; `t in s`; and `forAll y in s - s . |y| < 3`
+included-members : is_mixed_specification (with_sets (fun1 true Fun.And (comp_ex (ex2 true Op2.SubsetEq (name_ex y) (name_ex t))
+    (from (name_pat y) (name_ex s) no_gens)))) [] ≡ true
+included-members = refl
+
+a-union : is_mixed_specification (with_sets (fun1 true Fun.Or (comp_ex (ex2 true Op2.Eq (ex2 false Op2.Union (name_ex y) (name_ex t))
+    (name_ex t)) (from (name_pat y) (name_ex s) no_gens)))) [] ≡ true
+a-union = refl
+
+a-set-within : is_mixed_specification (with_sets (ex2 true Op2.Member (name_ex t) (name_ex s))) [] ≡ true
+a-set-within = refl
+
+among-a-difference : is_mixed_specification (with_sets (fun1 true Fun.And (comp_ex (ex2 true Op2.Lt (ex1 false Op1.Bar (name_ex y))
+    (number_ex (pos 3))) (from (name_pat y) (ex2 false Op2.Minus (name_ex s) (name_ex s)) no_gens)))) [] ≡ true
+among-a-difference = refl
+
+-- No number is asked to be in a set of sets, sets of members of different kinds aren't compared, the size of a set that is made of two
+-- isn't asked, and no bound name is that of a set.
 not-among-sets : is_mixed_specification (with_sets (ex2 true Op2.Member (number_ex (pos 3)) (name_ex s))) [] ≡ false
 not-among-sets = refl
 
-not-compared : is_mixed_specification (with_sets (ex2 true Op2.Eq (name_ex s) (name_ex s))) [] ≡ false
+not-compared : is_mixed_specification (with_sets (ex2 true Op2.Eq (name_ex s) (name_ex t))) [] ≡ false
 not-compared = refl
+
+not-counted : is_mixed_specification (with_sets (ex2 true Op2.Gt (ex1 false Op1.Bar (ex2 false Op2.Union (name_ex t) (name_ex t)))
+    (number_ex (pos 2)))) [] ≡ false
+not-counted = refl
 
 not-hiding : is_mixed_specification (with_sets (fun1 true Fun.And (comp_ex (ex2 true Op2.Ge (ex1 false Op1.Bar (name_ex t))
     (number_ex (pos 2))) (from (name_pat t) (name_ex s) no_gens)))) [] ≡ false

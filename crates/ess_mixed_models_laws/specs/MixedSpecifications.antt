@@ -1,7 +1,8 @@
 -- A class of specifications: scalars and sets side by side. Givens are scalars kept as atoms; finds are scalars kept as atoms; sets of
 -- numbers, of truth values or of values of a named type, without attributes, kept as the members that occur; or sets of any nesting over
 -- numbers and truth values, with sizes, kept in any one representation. Each constraint is flat and total over the scalars, or one over
--- ranges, scalars, and sizes and members of sets of any nesting, or says that a number, a truth value or a value of a type is in a set.
+-- ranges, scalars, and sets of any nesting, with their sizes and members, operators on them and comparisons of them, or says that a number,
+-- a truth value or a value of a type is in a set.
 -- Conditions on parameters and the objective are flat and total over the scalars. Named types and lettings are declared among them, in any
 -- order and number. Lettings are put in before it is asked what a statement is.
 use Rattle.std.specs.Prelude.{ℕ, ◌+◌, ◌^◌, nat_le, Bool, true, false, ◌&&◌, ◌||◌, not, if◌then◌else◌, List, [], ◌∷◌, ◌++◌, length, pos, Option, Some, None, is_some}
@@ -21,7 +22,6 @@ use Rattle.ess_semantics.specs.Models.{constraints_of}
 use Rattle.ess_refine_laws.specs.SpellingEnds.{numbers_of_tree}
 use Rattle.ess_ranged_laws.specs.Ranged.{is_ranged_truth}
 use Rattle.ess_seen_laws.specs.Seen.{Kind, kind_of}
-use Rattle.ess_load_laws.specs.Load.{load}
 use Rattle.ess_setwise_laws.specs.Setwise.{is_setwise_truth}
 use Rattle.ess_nested_laws.specs.NestedDomains.{is_nested_dom}
 use Rattle.conjure_laws.specs.SetsOfAtoms.{TypeKind, fixed, sized, enum_values}
@@ -159,16 +159,11 @@ nested_kind [] a = None
 nested_kind (value_plan f x r d ns ∷ Ps) a = if same_text x a then kind_of_members d else nested_kind Ps a
 nested_kind (P ∷ Ps) a = nested_kind Ps a
 
--- Whether names are left for all that is bound, that rules come to bind, and that is declared, as in any text that a machine holds.
-abbrev pub has_names_for_rules : List Plan → List Stm → Ex → Bool
-has_names_for_rules Ps S e =
-    nat_le ((shows_from Ps (prepared S) shows_nothing).next + load e) (2 ^ 62) && nat_le (length (keys (names_of_plans Ps))) (2 ^ 62)
-
 -- Whether the constraint is a truth value over ranges, scalars and sets of any nesting, that spells constants of the specification.
 abbrev pub is_setwise_constraint : List Plan → List Stm → Ex → Bool
 is_setwise_constraint Ps S e =
     is_setwise_truth (scalar_mark Ps) (nested_kind Ps) e && (spares_reserved Ps S
-    && (has_names_for_rules Ps S e && list_all (λ n. list_any (same_int n) (constants_of S)) (numbers_of_tree e)))
+    && (has_names_left Ps S e && list_all (λ n. list_any (same_int n) (constants_of S)) (numbers_of_tree e)))
 
 -- Whether the constraint is of one of these sorts.
 abbrev pub is_told_constraint : List Plan → List Stm → Ex → Bool

@@ -24,7 +24,7 @@ module _ (taken : List Text) (n m : ℕ) (old : Ex) where
   prints_nothing last w h = (last, w, h)
 
   -- Of a tree in which nothing abstract is left, what each pass makes.
-  pub prints_last : (last simple plain again new : Ex) → Leads IsRuled n [] old last m → m < 2 ^ 64 → is_refined last ≡ true
+  pub prints_last : (last simple plain again new : Ex) → Leads IsRuled n [] old last m → m < 2 ^ 62 → is_refined last ≡ true
       → simple ≡ simplified last → plain ≡ keyed nothing_around simple → again ≡ simplified plain → new ≡ printed taken again []
       → Prints taken n old (Some new) m
   prints_last last simple plain again new w f h p k a q = record {

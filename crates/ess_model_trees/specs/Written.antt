@@ -19,11 +19,11 @@ abbrev pub written_for : List Text → Ex → Ex
 written_for taken e = printed taken (simplified (keyed nothing_around (simplified e))) []
 
 -- `new` is written for `old`: rules lead to a tree in which nothing abstract is left, with reserved names from the n-th on and none
--- from the m-th on, and it is what is written for that one. Reserved names are counted by a machine's numbers of 64 bits.
+-- from the m-th on, and it is what is written for that one. Fewer than 2^62 reserved names are taken.
 pub record IsWrittenBy (taken : List Text) (n : ℕ) (old new : Ex) (m : ℕ) : Type 0 where
   pub last : Ex
   pub leads : Leads IsRuled n [] old last m
-  pub few : m < 2 ^ 64
+  pub few : m < 2 ^ 62
   pub refined : is_refined last ≡ true
   pub writes : new ≡ written_for taken last
 

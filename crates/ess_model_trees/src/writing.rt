@@ -16,6 +16,9 @@ use ess_rows::{Boxed, NoMemory};
 use ess_simplify::simplify;
 use std::alloc::Global;
 
+/// So many reserved names are never taken: 2^62. No machine has room for what they are bound in.
+const MOST_NAMES: u64 = 4_611_686_018_427_387_904;
+
 /// The expression of a model that is written for a tree over tables, where these lines declare names: the tree is refined under no
 /// names and simplified, gets plain keys, is simplified again, its bound names are printed, none as a name that is taken, and it becomes
 /// the tree of a model. `None` where something abstract is left when no rule fires any more, or no tree of a model stands for what is
@@ -50,8 +53,9 @@ pub(crate) fn printing(
 {
     let mut node = node;
     let refinement = refine(alloc, node.get_mut(), next)?;
-    // read, so that the clause knows its range
-    let _behind = *next;
+    if *next >= MOST_NAMES {
+        return Err(NoMemory);
+    }
     match refinement {
         Refinement::Stuck => Ok(None),
         Refinement::Refined => {

@@ -1,10 +1,12 @@
 -- Each rule that fires is one of all rules.
 use Rattle.std.proofs.Common.{◌≡◌, refl, sym, ap, ◌∙◌, Bool, true, false, List, Option, Some, None, if◌then◌else◌}
 use Rattle.std.specs.Prelude.{option_map}
+use Rattle.ess_semantics.specs.declared.words.Op2.{Op2}
 use Rattle.ess_semantics.specs.Values.{Text}
 use Rattle.ess_semantics.specs.Names.{Names}
-use Rattle.ess_semantics.specs.Trees.{Ex, Dom}
+use Rattle.ess_semantics.specs.Trees.{Ex, name_ex, ex2, Dom}
 use Rattle.ess_semantics.specs.Types.{Ty}
+use Rattle.ess_semantics.specs.Typing.{type_of}
 use Rattle.ess_core_nodes.specs.declared.nodes.Node.{Node}
 use Rattle.ess_core_nodes.specs.NodeViews.{pure_node}
 use Rattle.ess_refine_laws.specs.AllRules as rules
@@ -18,7 +20,7 @@ use Rattle.ess_rules_laws.specs.ContainerListings.{range_as_set}
 use Rattle.ess_rules_laws.specs.FieldLiterals.{field_listed}
 use Rattle.ess_rules_laws.specs.FoldRules.{fold_nothing, fold_one, fold_bare, fold_alone, fold_term}
 use Rattle.ess_rules_laws.specs.FunctionMembershipRules.{member_of_function, member_related}
-use Rattle.ess_rules_laws.specs.InclusionRules.{included_turned, included_strictly, equal_members, equal_often, equal_pairs, included_members, included_often, unequal}
+use Rattle.ess_rules_laws.specs.InclusionRules.{every, both_sets, included_turned, included_strictly, equal_members, equal_often, equal_pairs, included_members, included_often, unequal}
 use Rattle.ess_rules_laws.specs.ListRules.{list_term, lex_both, different_term}
 use Rattle.ess_rules_laws.specs.LiteralRules.{component_listed, extreme_listed, different_listed}
 use Rattle.ess_rules_laws.specs.LooseRules.{fold_loosely}
@@ -28,7 +30,7 @@ use Rattle.ess_rules_laws.specs.PartitionRules.{equal_parts}
 use Rattle.ess_rules_laws.specs.ShortSizeRules.{size_made, frequency_made, frequency_listed}
 use Rattle.ess_rules_laws.specs.SizeRules.{size_term, frequency_term, together_term}
 use Rattle.ess_gathered_laws.specs.GatheredConditions.{conditions_gathered}
-use Rattle.ess_rules.specs.Ruled.{plainly, gathering, both_told}
+use Rattle.ess_rules.specs.Ruled.{plainly, gathering, both_told, compares_sets}
 use Rattle.ess_rules.specs.Supplies.{IsRewritten, IsSourced}
 
 -- Where there is something under a test, the test holds.
@@ -39,6 +41,15 @@ is-chosen false o e h = cc
 chosen-is : (b : Bool) (o : Option Ex) (e : Ex) → (if b then o else None) ≡ Some e → o ≡ Some e
 chosen-is true o e h = h
 chosen-is false o e h = cc
+
+-- Where the rule of members doesn't fire that of how often they are there doesn't compare sets.
+no-sets : (g : Names Ty) (y : Text) (a b : Ex) → included_members g y a ≡ None → included_often y a ≡ Some b → compares_sets g a ≡ false
+no-sets g y (ex2 true Op2.SubsetEq a c) b h k = unless-chosen (every y a (ex2 true Op2.Member (name_ex y) c)) (both_sets (type_of a g) (type_of c g)) h
+  where
+    unless-chosen : (e : Ex) (t : Bool) → (if t then Some e else None) ≡ None → t ≡ false
+    unless-chosen e true q = cc
+    unless-chosen e false q = refl
+no-sets g y a b h k = cc
 
 module _ (y z w : Text) (ys : List Text) (d : Ex → Dom) (c : Ex → Ex) (g : Names Ty) (a : Ex) (o : Option Node) (x : Node) where
   pub ruled_over_nothing : option_map pure_node o ≡ fold_nothing a → o ≡ Some x
@@ -126,9 +137,11 @@ module _ (y z w : Text) (ys : List Text) (d : Ex → Dom) (c : Ex → Ex) (g : N
       → IsRewritten (supply_of y z w ys d c) g a (Some (pure_node x))
   ruled_included_sets h e = (plainly rules.included_sets, sym h ∙ ap (option_map pure_node) e, λ j. refl, tt, refl)
 
-  pub ruled_included_multisets : option_map pure_node o ≡ included_often y a → o ≡ Some x
-      → IsRewritten (supply_of y z w ys d c) g a (Some (pure_node x))
-  ruled_included_multisets h e = (plainly rules.included_multisets, sym h ∙ ap (option_map pure_node) e, λ j. refl, tt, refl)
+  pub ruled_included_multisets : (p : Option Node) → option_map pure_node p ≡ included_members g y a → p ≡ None
+      → option_map pure_node o ≡ included_often y a → o ≡ Some x → IsRewritten (supply_of y z w ys d c) g a (Some (pure_node x))
+  ruled_included_multisets p k q h e =
+      let f : included_often y a ≡ Some (pure_node x) = sym h ∙ ap (option_map pure_node) e in
+      (plainly rules.included_multisets, f, λ j. refl, no-sets g y a (pure_node x) (sym k ∙ ap (option_map pure_node) q) f, refl)
 
   pub ruled_component_of_a_tuple : option_map pure_node o ≡ component_listed a → o ≡ Some x
       → IsRewritten (supply_of y z w ys d c) g a (Some (pure_node x))

@@ -6,9 +6,11 @@ use Rattle.ess_semantics.specs.Values.{Text}
 use Rattle.ess_semantics.specs.Names.{Names}
 use Rattle.ess_semantics.specs.Trees.{name_pat, Ex, comp_ex, node_ex, word, no_exs, more_exs, fun1, ex2, Gens, no_gens, over, from, cond, Dom}
 use Rattle.ess_semantics.specs.Types.{Ty}
+use Rattle.ess_semantics.specs.Typing.{type_of}
+use Rattle.ess_rules_laws.specs.InclusionRules.{both_sets}
 use Rattle.ess_refine_laws.specs.LeavingConditions.{at_last_condition}
 use Rattle.ess_refine_laws.specs.Copies.{opposite_of}
-use Rattle.ess_refine_laws.specs.AllRules.{Rule, Supply, rewrite, over_a_comprehension, over_a_literal, over_a_source, of_one_source, least_of_alternatives, least_under_a_condition, equal_matrices_at}
+use Rattle.ess_refine_laws.specs.AllRules.{Rule, Supply, rewrite, over_a_comprehension, over_a_literal, over_a_source, of_one_source, least_of_alternatives, least_under_a_condition, equal_matrices_at, included_multisets}
 use Rattle.ess_guard_laws.specs.IndexDomains.{index_dom}
 use Rattle.ess_open_rules_laws.specs.OpenGenerators.{is_plain_over, has_no_source}
 use Rattle.ess_open_rules_laws.specs.OpenRules.{KindRuling, kind_ruled, puts_in}
@@ -95,10 +97,17 @@ abbrev pub both_told : Ex → Bool
 both_told (ex2 m o a b) = is_some (axis_asked a) && is_some (axis_asked b)
 both_told e = false
 
--- The rule may be used at the root: matrices are compared by index domains only where their forms tell them.
-abbrev pub MayRule : Ruling → Ex → Type 0
-MayRule (plainly equal_matrices_at) a = both_told a ≡ true
-MayRule r a = Unit {0}
+-- Whether the root stands between two sets, or two relations.
+abbrev pub compares_sets : Names Ty → Ex → Bool
+compares_sets g (ex2 m o a b) = both_sets (type_of a g) (type_of b g)
+compares_sets g e = false
+
+-- The rule may be used at the root: matrices are compared by index domains only where their forms tell them, and how often members are there
+-- isn't counted of sets.
+abbrev pub MayRule : Names Ty → Ruling → Ex → Type 0
+MayRule g (plainly equal_matrices_at) a = both_told a ≡ true
+MayRule g (plainly included_multisets) a = compares_sets g a ≡ false
+MayRule g r a = Unit {0}
 
 -- What the rule makes of the root.
 abbrev pub ruled : Supply → Names Ty → Ruling → Ex → Option Ex
@@ -125,7 +134,7 @@ behind_ruling j (in_order r) a = j
 pub record IsRuled (n : ℕ) (g : Names Ty) (a b : Ex) (m : ℕ) : Type 0 where
   pub count : ℕ
   pub rule : Ruling
-  pub may : MayRule rule a
+  pub may : MayRule g rule a
   pub fires : ruled (supply_at n count) g rule (root_of (n + 3 + count) rule a) ≡ Some b
   pub passes : behind_ruling (n + 3 + count) rule a ≤ m
   pub passes_root : behind_root (n + 3 + count) rule a ≤ m

@@ -10,20 +10,20 @@ use Rattle.ess_rules.specs.Ruled.{Ruling, puts_source, MayRule, ruled, with_new_
 abbrev pub IsRewritten : Supply → Names Ty → Ex → Option Ex → Type 0
 IsRewritten s g a None = Unit {0}
 IsRewritten s g a (Some b) =
-    (r : Ruling) × (ruled s g r a ≡ Some b) × ((j : ℕ) → behind_ruling j r a ≡ j) × (MayRule r a) × (puts_source r ≡ false)
+    (r : Ruling) × (ruled s g r a ≡ Some b) × ((j : ℕ) → behind_ruling j r a ≡ j) × (MayRule g r a) × (puts_source r ≡ false)
 
 -- One of the rules that put a source in does.
 abbrev pub IsSourced : Supply → Names Ty → Ex → Option Ex → Type 0
 IsSourced s g a None = Unit {0}
 IsSourced s g a (Some b) =
-    (r : Ruling) × (ruled s g r a ≡ Some b) × ((j : ℕ) (e : Ex) → behind_ruling j r e ≡ j) × ((e : Ex) → MayRule r e)
+    (r : Ruling) × (ruled s g r a ≡ Some b) × ((j : ℕ) (e : Ex) → behind_ruling j r e ≡ j) × ((e : Ex) → MayRule g r e)
     × (puts_source r ≡ true)
 
 -- One of them does, where the source is told apart with names from the j-th on and none from the m-th on.
 abbrev pub IsSourcedBehind : Supply → Names Ty → Ex → Option Ex → ℕ → ℕ → Type 0
 IsSourcedBehind s g a None j m = Unit {0}
 IsSourcedBehind s g a (Some b) j m =
-    (r : Ruling) × (ruled s g r (with_new_source j a).0 ≡ Some b) × ((j : ℕ) (e : Ex) → behind_ruling j r e ≡ j) × ((e : Ex) → MayRule r e)
+    (r : Ruling) × (ruled s g r (with_new_source j a).0 ≡ Some b) × ((j : ℕ) (e : Ex) → behind_ruling j r e ≡ j) × ((e : Ex) → MayRule g r e)
     × (puts_source r ≡ true) × ((with_new_source j a).1 ≤ m)
 
 -- The rule that takes a copy makes this of the root, where there is anything, with names from the j-th on and none from the m-th on.

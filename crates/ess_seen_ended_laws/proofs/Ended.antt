@@ -10,8 +10,8 @@ use Rattle.ess_semantics.specs.Refined.{is_refined, are_refined, are_refined_gen
 use Rattle.ess_bare_laws.specs.Bare.{TruthWord, all_hold, some_holds}
 use Rattle.ess_bare_laws.specs.Lean as lean
 use Rattle.ess_bare_laws.specs.Lean.{FoldWord, of_all, of_some, of_sum, as_scalar, as_number, Ended}
-use Rattle.ess_seen_laws.specs.Seen.{Kind, scalars, sets_of, Bound, over_a_range, from_a_set, bound_kind, SetTerm, view, drawn, Seen, number, truth, named, cell, atom, one, two, power, chosen, folded, added, counted, one_truth, one_number, size, within, Indices, no_index, one_index, Going, at_end, through, among, where_holds, Axes, no_axis, along, Counting, members_of, in_use, truths, numbers, Bounds, no_bound, one_bound}
-use Rattle.ess_seen_ended_laws.proofs.Tests.{both-of, one-refined, sized-refined, chosen-refined, two-refined, power-refined, fold-refined, sum-refined, item-refined, item-of-sum}
+use Rattle.ess_seen_laws.specs.Seen.{Kind, scalars, sets_of, Bound, over_a_range, from_a_set, bound_kind, SetTerm, view, drawn, combined, Seen, number, truth, named, cell, atom, one, two, power, chosen, folded, added, counted, of_items, size, within, set_within, compared, Listed, last_item, item_before, Indices, no_index, one_index, Going, at_end, through, among, where_holds, Axes, no_axis, along, Counting, members_of, in_use, truths, numbers, Bounds, no_bound, one_bound}
+use Rattle.ess_seen_ended_laws.proofs.Tests.{both-of, one-refined, sized-refined, chosen-refined, two-refined, power-refined, fold-refined, sum-refined, items-refined, combined-refined, compared-refined}
 
 -- Names that are bound over ranges alone.
 abbrev ranges : Names Bool → Names Bound
@@ -53,8 +53,12 @@ module _ (cells : Text → Option (Bool × ℕ)) where
   no-set-term : (q : Names Bool) (r : Names Bound) (e : Ex) (k : Kind) → r ≡ ranges q → SetTerm cells r e k → is_refined e ≡ true → ⊥
   no-set-term q r e k s (view n f h p) i = no-lie i
   no-set-term q r e k s (drawn {a = a} h) i = no-set (look q a) (sets_of k) (at-name q r a (from_a_set (sets_of k)) s h)
+  no-set-term q r e k s (combined {s = x} {t = y} c v w) i = no-set-term q r x k s v (combined-refined x y c i)
 
-  -- Terms and generators of such ends.
+  -- Items, terms and generators of such ends.
+  abbrev EndItems : Names Bool → Exs → Bool → Type 0
+  EndItems = lean.Leans cells (λ k. true) (λ a. true) false
+
   abbrev EndTerms : Bool → Names Bool → Exs → ℕ → Type 0
   EndTerms = lean.Terms cells (λ k. true) (λ a. true) false
 
@@ -91,10 +95,17 @@ module _ (cells : Text → Option (Bool × ℕ)) where
         let v = sum-refined x gs h in
         let k = along-axes q r t gs s g v.1 in lean.by_fold of_sum k.ranging (ends k.behind t x false k.same f v.0)
     ends q r e m s (counted {gs = gs} c) h = counting q r gs s c (sum-refined (number_ex (pos 1)) gs h).1
-    ends q r e m s (one_truth {e = x} w f) h = lean.by_item (folds-truths w) (ends q r x true s f (item-refined x w h))
-    ends q r e m s (one_number {e = x} f) h = lean.by_item of_sum (ends q r x false s f (item-of-sum x h))
-    ends q r e m s (size {k = k} {s = x} v) h = absurd (no-set-term q r x k s v (sized-refined x h))
+    ends q r e m s (of_items {es = es} w l) h = lean.by_items w (items q r es m s l (items-refined es w h))
+    ends q r e m s (size {k = k} {s = x} v u) h = absurd (no-set-term q r x k s v (sized-refined x h))
     ends q r e m s (within f v) h = absurd (no-lie h)
+    ends q r e m s (set_within v w) h = absurd (no-lie h)
+    ends q r e m s (compared {k = k} {s = x} {t = y} c v w) h = absurd (no-set-term q r x k s v (compared-refined x y c h))
+
+    items : (q : Names Bool) (r : Names Bound) (es : Exs) (m : Bool) → r ≡ ranges q → Listed cells r es m → are_refined es ≡ true →
+        EndItems q es m
+    items q r es m s (last_item {e = e} f) h = lean.last_lean (ends q r e m s f (both-of (is_refined e) true h).0)
+    items q r es m s (item_before {e = e} {es = fs} f l) h =
+        let v = both-of (is_refined e) (are_refined fs) h in lean.more_leans (ends q r e m s f v.0) (items q r fs m s l v.1)
 
     indices : (q : Names Bool) (r : Names Bound) (es : Exs) (k : ℕ) → r ≡ ranges q → Indices cells r es k → are_refined es ≡ true →
         EndTerms false q es k
@@ -140,7 +151,7 @@ module _ (cells : Text → Option (Bool × ℕ)) where
 
     counting : (q : Names Bool) (r : Names Bound) (gs : Gens) → r ≡ ranges q → Counting cells r gs → are_refined_gens gs ≡ true →
         Ended cells q (fun1 false Fun.Sum (comp_ex (number_ex (pos 1)) gs)) false
-    counting q r gs s (members_of v) h = absurd (no-lie h)
+    counting q r gs s (members_of v u) h = absurd (no-lie h)
     counting q r gs s (in_use {a = a} {c = c} truths f) h =
         let v = both-of (is_refined c) true h in
         let k = ends ((a, true) ∷ q) ((a, over_a_range true) ∷ r) c true (more q r a true s) f v.0 in

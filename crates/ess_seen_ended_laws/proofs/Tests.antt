@@ -3,10 +3,12 @@ use Rattle.std.proofs.Common.{◌≡◌, refl, Bool, true, false, ◌&&◌, ◌|
 use Rattle.ess_semantics.specs.declared.words.Op1.{Op1}
 use Rattle.ess_semantics.specs.declared.words.Op2.{Op2}
 use Rattle.ess_semantics.specs.declared.words.Fun.{Fun}
-use Rattle.ess_semantics.specs.Trees.{matrix_literal, Ex, node_ex, comp_ex, no_exs, more_exs, Gens, ex1, ex2, fun1}
-use Rattle.ess_semantics.specs.Refined.{is_refined, are_refined_gens}
+use Rattle.ess_semantics.specs.Trees.{matrix_literal, Ex, Exs, node_ex, comp_ex, Gens, ex1, ex2, fun1}
+use Rattle.ess_semantics.specs.Refined.{is_refined, are_refined, are_refined_gens}
 use Rattle.ess_flat_laws.specs.Flat.{OneOp, denied, negative, absolute, TwoOp, both, either, implied, agreeing, equal, unequal, below, at_most, above, at_least, sum, difference, product}
 use Rattle.ess_bare_laws.specs.Bare.{TruthWord, all_hold, some_holds}
+use Rattle.ess_bare_laws.specs.Lean.{FoldWord, of_all, of_some, of_sum}
+use Rattle.ess_seen_laws.specs.Seen.{Combines, united, shared, lessened, Compares, alike, apart, included, properly_included, including, properly_including}
 
 one-of : (a : Bool) → (a && true) || false ≡ true → a ≡ true
 one-of true h = refl
@@ -70,11 +72,23 @@ pub sum-refined : (e : Ex) (gs : Gens) → is_refined (fun1 false Fun.Sum (comp_
     (is_refined e ≡ true) × (are_refined_gens gs ≡ true)
 sum-refined e gs h = list-of (is_refined e) (are_refined_gens gs) h
 
--- The one item of a literal under a word.
-pub item-refined : {f : Fun} (e : Ex) → TruthWord f → is_refined (fun1 true f (node_ex false matrix_literal (more_exs e no_exs))) ≡ true →
-    is_refined e ≡ true
-item-refined e all_hold h = (list-of (is_refined e) true h).0
-item-refined e some_holds h = (list-of (is_refined e) true h).0
+-- The items of a literal under a word.
+pub items-refined : {m : Bool} {f : Fun} (es : Exs) → FoldWord m f → is_refined (fun1 m f (node_ex false matrix_literal es)) ≡ true →
+    are_refined es ≡ true
+items-refined es of_all h = (both-of (are_refined es) true h).0
+items-refined es of_some h = (both-of (are_refined es) true h).0
+items-refined es of_sum h = (both-of (are_refined es) true h).0
 
-pub item-of-sum : (e : Ex) → is_refined (fun1 false Fun.Sum (node_ex false matrix_literal (more_exs e no_exs))) ≡ true → is_refined e ≡ true
-item-of-sum e h = (list-of (is_refined e) true h).0
+-- The sets of a refined operator on sets, or of a comparison: only a difference, `=` and `!=` are refined where their operands are.
+pub combined-refined : {o : Op2} (s t : Ex) → Combines o → is_refined (ex2 false o s t) ≡ true → is_refined s ≡ true
+combined-refined s t united h = cc
+combined-refined s t shared h = cc
+combined-refined s t lessened h = (two-of (is_refined s) (is_refined t) h).0
+
+pub compared-refined : {o : Op2} (s t : Ex) → Compares o → is_refined (ex2 true o s t) ≡ true → is_refined s ≡ true
+compared-refined s t alike h = (two-of (is_refined s) (is_refined t) h).0
+compared-refined s t apart h = (two-of (is_refined s) (is_refined t) h).0
+compared-refined s t included h = cc
+compared-refined s t properly_included h = cc
+compared-refined s t including h = cc
+compared-refined s t properly_including h = cc

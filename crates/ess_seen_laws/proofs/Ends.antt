@@ -9,7 +9,7 @@ use Rattle.ess_semantics.specs.Substitution.{NamesAre, NamesAreExs, NamesAreGens
 use Rattle.ess_semantics.specs.Scoped.{with_names, Scoped, ScopedExs, ScopedGens, ScopedDom}
 use Rattle.ess_semantics.specs.FreeNames.{with_bound_names, FreeNamesAre, FreeNamesAreExs, FreeNamesAreGens, FreeNamesAreDom}
 use Rattle.ess_semantics.proofs.Tests.{or-yes}
-use Rattle.ess_seen_laws.specs.Seen.{Kind, Bound, over_a_range, from_a_set, Places, no_place, at_a_number, at_a_name, SetTerm, view, drawn, Seen, number, truth, named, cell, atom, one, two, power, chosen, folded, added, counted, one_truth, one_number, size, within, Indices, no_index, one_index, Going, at_end, through, among, where_holds, Axes, no_axis, along, Counting, members_of, in_use, Range, truths, numbers, Bounds, no_bound, one_bound}
+use Rattle.ess_seen_laws.specs.Seen.{Kind, Bound, over_a_range, from_a_set, Places, no_place, at_a_number, at_a_name, SetTerm, view, drawn, combined, Seen, number, truth, named, cell, atom, one, two, power, chosen, folded, added, counted, of_items, size, within, set_within, compared, Listed, last_item, item_before, Indices, no_index, one_index, Going, at_end, through, among, where_holds, Axes, no_axis, along, Counting, members_of, in_use, Range, truths, numbers, Bounds, no_bound, one_bound}
 use Rattle.ess_seen_laws.specs.Putting.{BindsNone}
 use Rattle.ess_seen_laws.proofs.Written.{keeps-written, written-free, written-named}
 
@@ -35,6 +35,7 @@ module _ (cells : Text → Option (Bool × ℕ)) where
   set-free : {r : Names Bound} {e : Ex} {k : Kind} (u : Text → Bool) → Covers u r → SetTerm cells r e k → FreeNamesAre u e
   set-free u c (view n f k p) = (written-free u (keeps-written k), places-free u c p)
   set-free u c (drawn {a = a} q) = c a _ q
+  set-free u c (combined o s t) = (set-free u c s, (set-free u c t, tt))
 
   mutual
     names-free : {r : Names Bound} {e : Ex} {m : Bool} (u : Text → Bool) → Covers u r → Seen cells r e m → FreeNamesAre u e
@@ -50,10 +51,15 @@ module _ (cells : Text → Option (Bool × ℕ)) where
     names-free u c (folded w g f) = let k = gens-free u c g in ((k.0, names-free _ k.1 f), tt)
     names-free u c (added g f) = let k = axes-free u c g in ((k.0, names-free _ k.1 f), tt)
     names-free u c (counted k) = ((counting-free u c k, tt), tt)
-    names-free u c (one_truth w f) = ((names-free u c f, tt), tt)
-    names-free u c (one_number f) = ((names-free u c f, tt), tt)
-    names-free u c (size s) = (set-free u c s, tt)
+    names-free u c (of_items w l) = (listed-free u c l, tt)
+    names-free u c (size s n) = (set-free u c s, tt)
     names-free u c (within f s) = (names-free u c f, (set-free u c s, tt))
+    names-free u c (set_within s t) = (set-free u c s, (set-free u c t, tt))
+    names-free u c (compared o s t) = (set-free u c s, (set-free u c t, tt))
+
+    listed-free : {r : Names Bound} {es : Exs} {m : Bool} (u : Text → Bool) → Covers u r → Listed cells r es m → FreeNamesAreExs u es
+    listed-free u c (last_item f) = (names-free u c f, tt)
+    listed-free u c (item_before f l) = (names-free u c f, listed-free u c l)
 
     indices-free : {r : Names Bound} {es : Exs} {k : ℕ} (u : Text → Bool) → Covers u r → Indices cells r es k → FreeNamesAreExs u es
     indices-free u c no_index = tt
@@ -83,7 +89,7 @@ module _ (cells : Text → Option (Bool × ℕ)) where
         let k = axes-free (with_names u (name_pat a)) (one-more u r a (over_a_range m) c) g in ((range-free u c n, k.0), k.1)
 
     counting-free : {r : Names Bound} {gs : Gens} (u : Text → Bool) → Covers u r → Counting cells r gs → FreeNamesAreGens u gs
-    counting-free u c (members_of s) = (set-free u c s, tt)
+    counting-free u c (members_of s n) = (set-free u c s, tt)
     counting-free {r} u c (in_use {m = m} {a = a} n f) =
         (range-free u c n, (names-free (with_names u (name_pat a)) (one-more u r a (over_a_range m) c) f, tt))
 
@@ -128,6 +134,7 @@ module _ (cells : Text → Option (Bool × ℕ)) (z q : Text → Bool) where
   set-binds : {r : Names Bound} {e : Ex} {k : Kind} → SetTerm cells r e k → NamesAre (λ a. true) (λ a. not (q a)) e
   set-binds (view n f k p) = (written-named (λ a. true) (λ a. not (q a)) (keeps-written k), places-bind p)
   set-binds (drawn h) = refl
+  set-binds (combined o u v) = (set-binds u, (set-binds v, tt))
 
   mutual
     binds-new : {r : Names Bound} {e : Ex} {m : Bool} (s o : Text → Bool) → Inside q s → Seen cells r e m → Scoped z s o e →
@@ -146,10 +153,16 @@ module _ (cells : Text → Option (Bool × ℕ)) (z q : Text → Bool) where
     binds-new s o i (added {e = x} g f) h =
         let k = axes-bind x s o i g h.0 in ((binds-new k.scope k.ranging k.inside f k.said, k.bind), tt)
     binds-new s o i (counted c) h = ((tt, counting-binds (number_ex (pos 1)) s o i c h.0), tt)
-    binds-new s o i (one_truth w f) h = ((binds-new s o i f h.0.0, tt), tt)
-    binds-new s o i (one_number f) h = ((binds-new s o i f h.0.0, tt), tt)
-    binds-new s o i (size v) h = (set-binds v, tt)
+    binds-new s o i (of_items w l) h = (listed-binds s o i l h.0, tt)
+    binds-new s o i (size v n) h = (set-binds v, tt)
     binds-new s o i (within f v) h = (binds-new s o i f h.0, (set-binds v, tt))
+    binds-new s o i (set_within u v) h = (set-binds u, (set-binds v, tt))
+    binds-new s o i (compared w u v) h = (set-binds u, (set-binds v, tt))
+
+    listed-binds : {r : Names Bound} {es : Exs} {m : Bool} (s o : Text → Bool) → Inside q s → Listed cells r es m → ScopedExs z s o es →
+        NamesAreExs (λ a. true) (λ a. not (q a)) es
+    listed-binds s o i (last_item f) h = (binds-new s o i f h.0, tt)
+    listed-binds s o i (item_before f l) h = (binds-new s o i f h.0, listed-binds s o i l h.1)
 
     indices-bind : {r : Names Bound} {es : Exs} {k : ℕ} (s o : Text → Bool) → Inside q s → Indices cells r es k → ScopedExs z s o es →
         NamesAreExs (λ a. true) (λ a. not (q a)) es
@@ -206,7 +219,7 @@ module _ (cells : Text → Option (Bool × ℕ)) (z q : Text → Bool) where
 
     counting-binds : {r : Names Bound} {gs : Gens} (x : Ex) (s o : Text → Bool) → Inside q s →
         Counting cells r gs → ScopedGens z s o gs (λ b p. Scoped z b p x) → NamesAreGens (λ a. true) (λ a. not (q a)) gs
-    counting-binds x s o i (members_of {a = a} v) h = (new-for q s a i h.0, set-binds v, tt)
+    counting-binds x s o i (members_of {a = a} v n) h = (new-for q s a i h.0, set-binds v, tt)
     counting-binds x s o i (in_use {a = a} n f) h = (
       new-for q s a i h.0,
       range-binds s o i n h.1,

@@ -1,6 +1,6 @@
 -- Trees over views by examples. A set of sets of numbers is kept with flags and by occurrence: the table f of its flags has one axis, and
--- the table o two.
-use Rattle.std.proofs.Common.{◌≡◌, refl, ℕ, Bool, true, false, if◌then◌else◌, [], ◌∷◌, pos, Option, Some, None, codes}
+-- the table o two. Another one is kept so in the tables g and p.
+use Rattle.std.proofs.Common.{◌≡◌, refl, ℕ, Bool, true, false, ◌||◌, if◌then◌else◌, [], ◌∷◌, pos, Option, Some, None, codes}
 use Rattle.ess_semantics.specs.declared.words.Op1.{Op1}
 use Rattle.ess_semantics.specs.declared.words.Op2.{Op2}
 use Rattle.ess_semantics.specs.declared.words.Fun.{Fun}
@@ -8,15 +8,19 @@ use Rattle.ess_semantics.specs.declared.words.Key.{Key}
 use Rattle.ess_semantics.specs.declared.words.ReprKind.{ReprKind}
 use Rattle.ess_semantics.specs.Values.{Text, a_set}
 use Rattle.ess_semantics.specs.Order.{same_text}
+use Rattle.ess_semantics.specs.Names.{Names}
 use Rattle.ess_semantics.specs.Trees.{both_ends, valued, Repr, repr, no_reprs, more_reprs, name_pat, Ex, number_ex, name_ex, comp_ex, cell_ex, seen_ex, no_exs, more_exs, no_gens, over, from, cond, Dom, int_dom, set_dom, ex1, ex2, fun1}
 use Rattle.ess_semantics.specs.Types.{int_ty, compound1}
 use Rattle.ess_semantics.specs.Substitution.{substitute, for_name}
+use Rattle.ess_rules_laws.specs.InclusionRules.{equal_members}
+use Rattle.ess_rules_laws.specs.Listings.{listing}
 use Rattle.ess_rules_laws.specs.SourceRules.{list_of}
 use Rattle.ess_rules_laws.specs.ListedSources.{source_parts}
 use Rattle.ess_kind_rules_laws.specs.ViewListings.{view_listing}
-use Rattle.ess_flat_laws.specs.Flat.{at_least}
+use Rattle.ess_flat_laws.specs.Flat.{denied, both, at_least}
 use Rattle.ess_bare_laws.specs.Bare.{all_hold}
-use Rattle.ess_seen_laws.specs.Seen.{scalars, sets_of, kind_of, kind_ty, from_a_set, over_a_range, by_occurrence, with_flags, no_place, at_a_name, SetTerm, view, drawn, Seen, number, two, folded, one_truth, size, within, cell, one_index, named, no_index, at_end, through, among, where_holds, numbers, no_bound, one_bound}
+use Rattle.ess_bare_laws.specs.Lean.{of_all}
+use Rattle.ess_seen_laws.specs.Seen.{scalars, sets_of, kind_of, kind_ty, Bound, from_a_set, over_a_range, united, alike, is_combined, by_occurrence, with_flags, no_place, at_a_name, SetTerm, view, drawn, combined, Seen, number, one, two, folded, of_items, size, within, set_within, compared, last_item, item_before, cell, one_index, named, no_index, at_end, through, among, where_holds, numbers, no_bound, one_bound}
 
 abbrev x_name : Text
 x_name = codes "x"
@@ -24,8 +28,14 @@ x_name = codes "x"
 abbrev i_name : Text
 i_name = codes "i"
 
+abbrev flags : Text → Bool
+flags a = same_text (codes "f") a || same_text (codes "g") a
+
+abbrev occurrences : Text → Bool
+occurrences a = same_text (codes "o") a || same_text (codes "p") a
+
 abbrev tables : Text → Option (Bool × ℕ)
-tables a = if same_text (codes "f") a then Some (true, 1) else (if same_text (codes "o") a then Some (true, 2) else None)
+tables a = if flags a then Some (true, 1) else (if occurrences a then Some (true, 2) else None)
 
 -- `set of int(1..4)`, and `set (maxSize 3)` of such.
 abbrev inner_dom : Dom
@@ -51,8 +61,8 @@ kind_of_members = refl
 type_of_kind : kind_ty (sets_of (scalars false)) ≡ compound1 a_set int_ty
 type_of_kind = refl
 
--- Both are sets; the second one where i is bound over a range.
-seen_view : SetTerm tables [] s_view (sets_of (scalars false))
+-- Both are sets: the first one under any names, the second one where i is bound over a range.
+seen_view : {r : Names Bound} → SetTerm tables r s_view (sets_of (scalars false))
 seen_view = view refl refl (with_flags refl refl (by_occurrence refl refl refl)) no_place
 
 seen_slot : SetTerm tables ((i_name, over_a_range false) ∷ []) s_slot (scalars false)
@@ -64,7 +74,7 @@ each_has_two = fun1 true Fun.And (comp_ex (ex2 true Op2.Ge (ex1 false Op1.Bar (n
     (from (name_pat x_name) s_view no_gens))
 
 seen_fold : Seen tables [] each_has_two true
-seen_fold = folded all_hold (among seen_view at_end) (two at_least (size (drawn refl)) number)
+seen_fold = folded all_hold (among seen_view at_end) (two at_least (size (drawn refl) refl) number)
 
 -- What a rule makes of it by the slots: a fold of one item, `and([and([|s[i]| >= 2 | i : int(1..3), f[i]])])`.
 abbrev in_slots_now : Ex
@@ -78,10 +88,10 @@ opened = refl
 
 -- It is such a tree too.
 seen_opened : Seen tables [] in_slots_now true
-seen_opened = one_truth all_hold (folded all_hold
+seen_opened = of_items of_all (last_item (folded all_hold
     (through (numbers refl (one_bound number (one_bound number no_bound)))
     (where_holds (cell refl (one_index (named refl refl) no_index)) at_end))
-    (two at_least (size seen_slot) number))
+    (two at_least (size seen_slot refl) number)))
 
 -- The member in the place of the name.
 slot_put : substitute (for_name x_name s_slot) (ex1 false Op1.Bar (name_ex x_name)) ≡ ex1 false Op1.Bar s_slot
@@ -91,3 +101,69 @@ slot_put = refl
 three_in_x : Seen tables ((x_name, from_a_set (sets_of (scalars false))) ∷ [])
     (ex2 true Op2.Member (number_ex (pos 3)) (name_ex x_name)) true
 three_in_x = within number (drawn refl)
+
+-- ---- two sets
+
+-- The other view, t.
+abbrev t_view : Ex
+t_view = seen_ex kept_so outer_dom (codes "g" ∷ codes "p" ∷ []) no_exs
+
+seen_other : {r : Names Bound} → SetTerm tables r t_view (sets_of (scalars false))
+seen_other = view refl refl (with_flags refl refl (by_occurrence refl refl refl)) no_place
+
+-- `s union t` is a set that is made of two: its size isn't asked for.
+abbrev of_both : Ex
+of_both = ex2 false Op2.Union s_view t_view
+
+seen_union : SetTerm tables [] of_both (sets_of (scalars false))
+seen_union = combined united seen_view seen_other
+
+made_of_two : is_combined of_both ≡ true
+made_of_two = refl
+
+-- `forAll x in s union t . |x| >= 2`.
+abbrev each_of_both : Ex
+each_of_both = fun1 true Fun.And (comp_ex (ex2 true Op2.Ge (ex1 false Op1.Bar (name_ex x_name)) (number_ex (pos 2)))
+    (from (name_pat x_name) of_both no_gens))
+
+seen_both : Seen tables [] each_of_both true
+seen_both = folded all_hold (among seen_union at_end) (two at_least (size (drawn refl) refl) number)
+
+-- What a rule makes of it by the parts of the union: `and([and([|i| >= 2 | i <- s]), and([|i| >= 2 | i <- t, !(i in s)])])`.
+abbrev i_has_two : Ex
+i_has_two = ex2 true Op2.Ge (ex1 false Op1.Bar (name_ex i_name)) (number_ex (pos 2))
+
+abbrev in_parts_now : Ex
+in_parts_now = fun1 true Fun.And (list_of (
+    more_exs (fun1 true Fun.And (comp_ex i_has_two (from (name_pat i_name) s_view no_gens)))
+    (more_exs (fun1 true Fun.And (comp_ex i_has_two (from (name_pat i_name) t_view
+    (cond (ex1 true Op1.Not (ex2 true Op2.Member (name_ex i_name) s_view)) no_gens)))) no_exs)
+    ))
+
+parted : elim (listing [] i_name of_both) [ None ↦ None | Some l ↦ source_parts l each_of_both ] ≡ Some in_parts_now
+parted = refl
+
+-- It is such a tree too.
+seen_parted : Seen tables [] in_parts_now true
+seen_parted = of_items of_all (item_before
+    (folded all_hold (among seen_view at_end) (two at_least (size (drawn refl) refl) number))
+    (last_item (folded all_hold (among seen_other (where_holds (one denied (set_within (drawn refl) seen_view)) at_end))
+    (two at_least (size (drawn refl) refl) number))))
+
+-- `s = t`, and what a rule makes of it: `and([x in t | x <- s]) /\ and([x in s | x <- t])`.
+abbrev same_sets : Ex
+same_sets = ex2 true Op2.Eq s_view t_view
+
+seen_same : Seen tables [] same_sets true
+seen_same = compared alike seen_view seen_other
+
+abbrev each_in : Ex → Ex → Ex
+each_in a b = fun1 true Fun.And (comp_ex (ex2 true Op2.Member (name_ex x_name) b) (from (name_pat x_name) a no_gens))
+
+by_members : equal_members [] x_name same_sets ≡ Some (ex2 true Op2.And (each_in s_view t_view) (each_in t_view s_view))
+by_members = refl
+
+seen_by_members : Seen tables [] (ex2 true Op2.And (each_in s_view t_view) (each_in t_view s_view)) true
+seen_by_members = two both
+    (folded all_hold (among seen_view at_end) (set_within (drawn refl) seen_other))
+    (folded all_hold (among seen_other at_end) (set_within (drawn refl) seen_view))

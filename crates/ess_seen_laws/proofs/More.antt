@@ -4,7 +4,7 @@ use Rattle.ess_semantics.specs.Values.{Text}
 use Rattle.ess_semantics.specs.Names.{Names}
 use Rattle.ess_semantics.specs.Trees.{Ex, Exs, Gens, Dom}
 use Rattle.ess_rules_laws.specs.SpliceRules.{append_gens}
-use Rattle.ess_seen_laws.specs.Seen.{Kind, Bound, over_a_range, from_a_set, Places, no_place, at_a_number, at_a_name, SetTerm, view, drawn, Seen, number, truth, named, cell, atom, one, two, power, chosen, folded, added, counted, one_truth, one_number, size, within, Indices, no_index, one_index, Going, at_end, through, among, where_holds, Axes, no_axis, along, Counting, members_of, in_use, Range, truths, numbers, Bounds, no_bound, one_bound}
+use Rattle.ess_seen_laws.specs.Seen.{Kind, Bound, over_a_range, from_a_set, Places, no_place, at_a_number, at_a_name, SetTerm, view, drawn, combined, Seen, number, truth, named, cell, atom, one, two, power, chosen, folded, added, counted, of_items, size, within, set_within, compared, Listed, last_item, item_before, Indices, no_index, one_index, Going, at_end, through, among, where_holds, Axes, no_axis, along, Counting, members_of, in_use, Range, truths, numbers, Bounds, no_bound, one_bound}
 use Rattle.ess_seen_laws.specs.Putting.{Within, GensWithin}
 use Rattle.ess_seen_laws.proofs.Lookups.{within-more}
 
@@ -25,6 +25,7 @@ module _ (cells : Text → Option (Bool × ℕ)) where
   pub set-more : {r t : Names Bound} {e : Ex} {k : Kind} → Within r t → SetTerm cells r e k → SetTerm cells t e k
   set-more w (view n f k p) = view n f k (places-more w p)
   set-more w (drawn {a = a} q) = drawn (w a _ q)
+  set-more w (combined c u v) = combined c (set-more w u) (set-more w v)
 
   mutual
     -- Trees among more names.
@@ -41,10 +42,16 @@ module _ (cells : Text → Option (Bool × ℕ)) where
     seen-more w (folded o g f) = let k = going-more w g in folded o k.going (seen-more k.within f)
     seen-more w (added g f) = let k = axes-more w g in added k.axes (seen-more k.within_behind f)
     seen-more w (counted c) = counted (counting-more w c)
-    seen-more w (one_truth o f) = one_truth o (seen-more w f)
-    seen-more w (one_number f) = one_number (seen-more w f)
-    seen-more w (size s) = size (set-more w s)
+    seen-more w (of_items o l) = of_items o (listed-more w l)
+    seen-more w (size s n) = size (set-more w s) n
     seen-more w (within f s) = within (seen-more w f) (set-more w s)
+    seen-more w (set_within u v) = set_within (set-more w u) (set-more w v)
+    seen-more w (compared c u v) = compared c (set-more w u) (set-more w v)
+
+    -- Items among more names.
+    pub listed-more : {r t : Names Bound} {es : Exs} {m : Bool} → Within r t → Listed cells r es m → Listed cells t es m
+    listed-more w (last_item f) = last_item (seen-more w f)
+    listed-more w (item_before f l) = item_before (seen-more w f) (listed-more w l)
 
     indices-more : {r t : Names Bound} {es : Exs} {k : ℕ} → Within r t → Indices cells r es k → Indices cells t es k
     indices-more w no_index = no_index
@@ -70,7 +77,7 @@ module _ (cells : Text → Option (Bool × ℕ)) where
         record { behind = k.behind; axes = along (range-more w n) k.axes; within_behind = k.within_behind }
 
     counting-more : {r t : Names Bound} {gs : Gens} → Within r t → Counting cells r gs → Counting cells t gs
-    counting-more w (members_of s) = members_of (set-more w s)
+    counting-more w (members_of s n) = members_of (set-more w s) n
     counting-more {r} {t} w (in_use {m = m} {a = a} n f) =
         in_use (range-more w n) (seen-more (within-more r t a (over_a_range m) w) f)
 

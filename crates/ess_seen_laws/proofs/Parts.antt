@@ -15,7 +15,7 @@ use Rattle.ess_refine_laws.specs.ScopesStay.{is_outside_views, are_outside_views
 use Rattle.ess_seen_laws.specs.Seen.{Kind, kind_ty, Bound, over_a_range, from_a_set, bound_types, Seen, cell, Going, at_end, through, among, where_holds, Axes, along, Counting, members_of, Range, numbers}
 use Rattle.ess_seen_laws.specs.SeenParts.{AllBound, IsIndex, numeral, Items, truths_listed, numbers_listed, Part, scalar_part, set_part, list_part, index_part, Stands, StandsIn}
 use Rattle.ess_seen_laws.proofs.Types.{mark, range-type, source-said, going-behind, axes-going}
-use Rattle.ess_seen_laws.proofs.Slots.{Slot, scalar_slot, list_slot, set_slot, index_slot, Fills, AllFill, node-slots, list-slots, index-slots, bound-slots, atom-parts, set-parts}
+use Rattle.ess_seen_laws.proofs.Slots.{Slot, scalar_slot, list_slot, set_slot, whole_slot, index_slot, Fills, AllFill, node-slots, set-slots, list-slots, index-slots, bound-slots, atom-parts, set-parts}
 use Rattle.ess_seen_laws.proofs.Forms.{may-fill, may-go-along, may-be, Used, counted-form, use-again, BodyForm, truths_body, numbers_body, ones_body, body-of, ones-again, counting-going, none-behind}
 use Rattle.ess_seen_laws.proofs.ViewParts.{places-are-indices, index-stands, indices-stand, written-stands}
 
@@ -134,28 +134,34 @@ module _ (cells : Text → Option (Bool × ℕ)) where
     part hole (scalar_slot m) r e f = record { around = r; types = refl; known = λ u b n h. h; part = scalar_part m f (λ x h. h) }
     part hole (list_slot m) r e f = record { around = r; types = refl; known = λ u b n h. h; part = list_part m f }
     part hole (set_slot k) r e f = record { around = r; types = refl; known = λ u b n h. h; part = set_part k f }
+    part hole (whole_slot k) r e f = record { around = r; types = refl; known = λ u b n h. h; part = set_part k f.0 }
     part hole index_slot r e f = record { around = r; types = refl; known = λ u b n h. h; part = index_part f }
     part (in_operand b op c) (scalar_slot m) r e f =
         let v = node-slots cells f in carried (λ u a n. n) (λ x h. v.2 (fill_exs c x) h) (part-exs c v.0 r e v.1)
     part (in_operand b op c) (list_slot m) r e f =
         let v = list-slots cells f in carried (λ u a n. n) (λ x h. v.2 (fill_exs c x) h) (part-exs c v.0 r e v.1)
-    part (in_operand b op c) (set_slot k) r e f = absurd (may-fill cells r (set_slot k) (node_ex b op (fill_exs c e)) f)
+    part (in_operand b op c) (set_slot k) r e f =
+        let v = set-slots cells f in carried (λ u a n. n) (λ x h. v.2 (fill_exs c x) h) (part-exs c v.0 r e v.1)
+    part (in_operand b op c) (whole_slot k) r e f = absurd (may-fill cells r (whole_slot k) (node_ex b op (fill_exs c e)) f)
     part (in_operand b op c) index_slot r e f = absurd (may-fill cells r index_slot (node_ex b op (fill_exs c e)) f)
     part (in_item c d) k r e f = absurd (may-fill cells r k (matrix_ex (fill_exs c e) d) f)
     part (in_index_domain es c) k r e f = absurd (may-fill cells r k (matrix_ex es (fill_dom c e)) f)
     part (in_body c gs) (scalar_slot m) r e f = absurd (may-fill cells r (scalar_slot m) (comp_ex (fill c e) gs) f)
     part (in_body c gs) (list_slot m) r e f = body-stands c gs m r e (λ k t b. part c (scalar_slot k) t e b) (body-of cells f)
     part (in_body c gs) (set_slot k) r e f = absurd (may-fill cells r (set_slot k) (comp_ex (fill c e) gs) f)
+    part (in_body c gs) (whole_slot k) r e f = absurd (may-fill cells r (whole_slot k) (comp_ex (fill c e) gs) f)
     part (in_body c gs) index_slot r e f = absurd (may-fill cells r index_slot (comp_ex (fill c e) gs) f)
     part (in_generators x c) (scalar_slot m) r e f = absurd (may-fill cells r (scalar_slot m) (comp_ex x (fill_gens c e)) f)
     part (in_generators x c) (list_slot m) r e f =
         generators-stand x c m r e (λ t g. part-going c r t e g) (λ t g. part-axes c r t e g) (λ k. part-counting c r e k) (body-of cells f)
     part (in_generators x c) (set_slot k) r e f = absurd (may-fill cells r (set_slot k) (comp_ex x (fill_gens c e)) f)
+    part (in_generators x c) (whole_slot k) r e f = absurd (may-fill cells r (whole_slot k) (comp_ex x (fill_gens c e)) f)
     part (in_generators x c) index_slot r e f = absurd (may-fill cells r index_slot (comp_ex x (fill_gens c e)) f)
     part (in_cell_index b n c) (scalar_slot m) r e (cell q i) =
         let v = index-slots cells i in carried (λ u a h. h) (λ x h. cell q (v.2 (fill_exs c x) h)) (part-exs c v.0 r e v.1)
     part (in_cell_index b n c) (list_slot m) r e f = absurd (may-fill cells r (list_slot m) (cell_ex b n (fill_exs c e)) f)
     part (in_cell_index b n c) (set_slot k) r e f = absurd (may-fill cells r (set_slot k) (cell_ex b n (fill_exs c e)) f)
+    part (in_cell_index b n c) (whole_slot k) r e f = absurd (may-fill cells r (whole_slot k) (cell_ex b n (fill_exs c e)) f)
     part (in_cell_index b n c) index_slot r e f = absurd (may-fill cells r index_slot (cell_ex b n (fill_exs c e)) f)
     part (in_view_domain s c ns es) (scalar_slot m) r e f =
         carried (λ u a n. n.0) (λ x h. h)
@@ -163,6 +169,9 @@ module _ (cells : Text → Option (Bool × ℕ)) where
     part (in_view_domain s c ns es) (list_slot m) r e f = absurd (may-fill cells r (list_slot m) (seen_ex s (fill_dom c e) ns es) f)
     part (in_view_domain s c ns es) (set_slot k) r e f =
         carried (λ u a n. n.0) (λ x h. h) (written-stands cells _ (is_outside_views (in_view_domain s c ns es)) c r e (set-parts cells f).0)
+    part (in_view_domain s c ns es) (whole_slot k) r e f =
+        carried (λ u a n. n.0) (λ x h. h)
+        (written-stands cells _ (is_outside_views (in_view_domain s c ns es)) c r e (set-parts cells f.0).0)
     part (in_view_domain s c ns es) index_slot r e f = absurd (may-fill cells r index_slot (seen_ex s (fill_dom c e) ns es) f)
     part (in_view_index s d ns c) (scalar_slot m) r e f =
         carried (λ u a n. n.1) (λ x h. h)
@@ -171,6 +180,9 @@ module _ (cells : Text → Option (Bool × ℕ)) where
     part (in_view_index s d ns c) (set_slot k) r e f =
         carried (λ u a n. n.1) (λ x h. h)
         (indices-stand cells _ (is_outside_views (in_view_index s d ns c)) c r e (places-are-indices (set-parts cells f).2))
+    part (in_view_index s d ns c) (whole_slot k) r e f =
+        carried (λ u a n. n.1) (λ x h. h)
+        (indices-stand cells _ (is_outside_views (in_view_index s d ns c)) c r e (places-are-indices (set-parts cells f.0).2))
     part (in_view_index s d ns c) index_slot r e f = absurd (may-fill cells r index_slot (seen_ex s d ns (fill_exs c e)) f)
 
     part-exs : (c : Ins) (ks : List Slot) (r : Names Bound) (e : Ex) → AllFill cells r ks (fill_exs c e) →
@@ -219,8 +231,8 @@ module _ (cells : Text → Option (Bool × ℕ)) where
         behind-domain c d (range-type r d v.0 v.1) (λ x h. use-again cells v.1 (fill_gens c x) h)
         (part-used c ((a, over_a_range v.0) ∷ r) e v.2)
     part-counting (behind_over (tuple_pat ps) d c) r e k = absurd (counted-form cells k)
-    part-counting (in_source p c gs) r e (members_of {k = j} s) =
-        carried (λ u b h. h.1) (λ x h. members_of h) (part c (set_slot j) r e s)
+    part-counting (in_source p c gs) r e (members_of {k = j} s n) =
+        carried (λ u b h. h.1) (λ x h. members_of h.0 h.1) (part c (whole_slot j) r e (s, n))
     part-counting (behind_from p x (in_generator_domain q c gs)) r e k = absurd (none-behind cells k)
     part-counting (behind_from p x (behind_over q d c)) r e k = absurd (none-behind cells k)
     part-counting (behind_from p x (in_source q c gs)) r e k = absurd (none-behind cells k)

@@ -9,7 +9,7 @@ use Rattle.ess_semantics.specs.Trees.{repr, no_reprs, Ex, Exs, name_ex, seen_ex,
 use Rattle.ess_semantics.specs.Meaning.{is_bool_dom}
 use Rattle.ess_semantics.specs.Substitution.{substitute, substitute_exs, substitute_gens, substitute_dom, for_name, NamesAre, NamesAreExs, NamesAreGens, NamesAreDom}
 use Rattle.ess_semantics.proofs.Texts.{same_text-equal, same_text-itself}
-use Rattle.ess_seen_laws.specs.Seen.{Kind, scalars, sets_of, kind_of, Bound, over_a_range, from_a_set, bound_kind, Places, no_place, at_a_number, at_a_name, SetTerm, view, drawn, Seen, number, truth, named, cell, atom, one, two, power, chosen, folded, added, counted, one_truth, one_number, size, within, Indices, no_index, one_index, Going, at_end, through, among, where_holds, Axes, no_axis, along, Counting, members_of, in_use, Range, truths, numbers, Bounds, no_bound, one_bound}
+use Rattle.ess_seen_laws.specs.Seen.{Kind, scalars, sets_of, kind_of, Bound, over_a_range, from_a_set, bound_kind, is_combined, Places, no_place, at_a_number, at_a_name, SetTerm, view, drawn, combined, Seen, number, truth, named, cell, atom, one, two, power, chosen, folded, added, counted, of_items, size, within, set_within, compared, Listed, last_item, item_before, Indices, no_index, one_index, Going, at_end, through, among, where_holds, Axes, no_axis, along, Counting, members_of, in_use, Range, truths, numbers, Bounds, no_bound, one_bound}
 use Rattle.ess_seen_laws.specs.SeenParts.{AllBound}
 use Rattle.ess_seen_laws.specs.Putting.{Within, BindsNone, BindNone, IsItem, Puts, GensPut, ListPut}
 use Rattle.ess_seen_laws.proofs.Written.{keeps-written, written-fixed}
@@ -89,19 +89,24 @@ module _ (cells : Text → Option (Bool × ℕ)) (s : Text → Bool) (y : Text) 
           (as-scalar p.kind (sym (kind-said b p.kind (sym q ∙ (sym (f refl) ∙ p.bound))) ∙ k) p.item)
       go false f g = named (g refl) k
 
+  -- A set that isn't made of two.
+  abbrev pub WholeSet : Names Bound → Ex → Kind → Type 0
+  WholeSet r e k = SetTerm cells r e k × (is_combined e ≡ false)
+
   set-name-put : {r t : Names Bound} {k : Kind} (a : Text) → Puts cells s y h r t → look r a ≡ Some (from_a_set (sets_of k)) →
-      SetTerm cells t (for_name y h a) k
+      WholeSet t (for_name y h a) k
   set-name-put {r} {t} {k} a p q =
       go (same_text y a) (λ g. ap (look r) (same_text-equal y a g)) (λ g. p.others a (from_a_set (sets_of k)) g q)
     where
-      as-set : (j : Kind) → j ≡ sets_of k → IsItem cells p.base h j → SetTerm cells p.base h k
+      as-set : (j : Kind) → j ≡ sets_of k → IsItem cells p.base h j → WholeSet p.base h k
       as-set j e i = subst (λ w. IsItem cells p.base h w) e i
 
       go : (v : Bool) → (v ≡ true → look r y ≡ look r a) → (v ≡ false → look t a ≡ Some (from_a_set (sets_of k))) →
-          SetTerm cells t (if v then h else name_ex a) k
-      go true f g = set-more cells p.within
-          (as-set p.kind (sym (set-said (sets_of k) p.kind (sym q ∙ (sym (f refl) ∙ p.bound)))) p.item)
-      go false f g = drawn (g refl)
+          WholeSet t (if v then h else name_ex a) k
+      go true f g =
+          let i = as-set p.kind (sym (set-said (sets_of k) p.kind (sym q ∙ (sym (f refl) ∙ p.bound)))) p.item in
+          (set-more cells p.within i.0, i.1)
+      go false f g = (drawn (g refl), refl)
 
   places-put : {r t : Names Bound} {es : Exs} {k : ℕ} → Puts cells s y h r t → Places cells r es k →
       Places cells t (substitute_exs (for_name y h) es) k
@@ -116,12 +121,21 @@ module _ (cells : Text → Option (Bool × ℕ)) (s : Text → Bool) (y : Text) 
       go true f g j = absurd (no-range m p.kind (sym q ∙ (sym (f refl) ∙ p.bound)))
       go false f g j = at_a_name (g refl) j
 
-  set-put : {r t : Names Bound} {e : Ex} {k : Kind} → Puts cells s y h r t → SetTerm cells r e k →
+  -- The same of a set.
+  pub set-put : {r t : Names Bound} {e : Ex} {k : Kind} → Puts cells s y h r t → SetTerm cells r e k →
       SetTerm cells t (substitute (for_name y h) e) k
   set-put {t = t} p (view {p = w} {ms = ms} {es = es} {js = js} {d = d} {ns = ns} n f k i) =
       subst (λ c. SetTerm cells t (seen_ex w c ns (substitute_exs (for_name y h) js)) (kind_of d))
       (sym (written-fixed (for_name y h) (keeps-written k))) (view n f k (places-put p i))
-  set-put p (drawn {a = a} q) = set-name-put a p q
+  set-put p (drawn {a = a} q) = (set-name-put a p q).0
+  set-put p (combined c u v) = combined c (set-put p u) (set-put p v)
+
+  -- A set that isn't made of two stays so.
+  pub whole-put : {r t : Names Bound} {e : Ex} {k : Kind} → Puts cells s y h r t → SetTerm cells r e k → is_combined e ≡ false →
+      is_combined (substitute (for_name y h) e) ≡ false
+  whole-put p (view w f k i) n = refl
+  whole-put p (drawn {a = a} q) n = (set-name-put a p q).1
+  whole-put p (combined c u v) n = cc
 
   -- ---- trees
 
@@ -148,10 +162,16 @@ module _ (cells : Text → Option (Bool × ℕ)) (s : Text → Bool) (y : Text) 
     seen-put p n (folded o g f) = let k = going-put p n.0.1 g in folded o k.going (seen-put k.puts n.0.0 f)
     seen-put p n (added g f) = let k = axes-put p n.0.1 g in added k.axes (seen-put k.puts_behind n.0.0 f)
     seen-put p n (counted c) = counted (counting-put p n.0.1 c)
-    seen-put p n (one_truth o f) = one_truth o (seen-put p n.0.0 f)
-    seen-put p n (one_number f) = one_number (seen-put p n.0.0 f)
-    seen-put p n (size v) = size (set-put p v)
+    seen-put p n (of_items o l) = of_items o (listed-put p n.0 l)
+    seen-put p n (size v w) = size (set-put p v) (whole-put p v w)
     seen-put p n (within f v) = within (seen-put p n.0 f) (set-put p v)
+    seen-put p n (set_within u v) = set_within (set-put p u) (set-put p v)
+    seen-put p n (compared c u v) = compared c (set-put p u) (set-put p v)
+
+    listed-put : {r t : Names Bound} {es : Exs} {m : Bool} → Puts cells s y h r t → NamesAreExs any (outside s) es → Listed cells r es m →
+        Listed cells t (substitute_exs (for_name y h) es) m
+    listed-put p n (last_item f) = last_item (seen-put p n.0 f)
+    listed-put p n (item_before f l) = item_before (seen-put p n.0 f) (listed-put p n.1 l)
 
     indices-put : {r t : Names Bound} {es : Exs} {k : ℕ} → Puts cells s y h r t → NamesAreExs any (outside s) es → Indices cells r es k →
         Indices cells t (substitute_exs (for_name y h) es) k
@@ -179,7 +199,7 @@ module _ (cells : Text → Option (Bool × ℕ)) (s : Text → Bool) (y : Text) 
 
     counting-put : {r t : Names Bound} {gs : Gens} → Puts cells s y h r t → NamesAreGens any (outside s) gs → Counting cells r gs →
         Counting cells t (substitute_gens (for_name y h) gs)
-    counting-put p n (members_of v) = members_of (set-put p v)
+    counting-put p n (members_of v w) = members_of (set-put p v) (whole-put p v w)
     counting-put p n (in_use {m = m} {a = a} d f) =
         in_use (range-put p n.1 d) (seen-put (puts-more a (over_a_range m) n.0 p) n.2.0 f)
 

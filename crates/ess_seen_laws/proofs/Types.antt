@@ -6,16 +6,17 @@ use Rattle.ess_semantics.specs.declared.words.Fun.{Fun}
 use Rattle.ess_semantics.specs.Lists.{and_then, all_some}
 use Rattle.ess_semantics.specs.Values.{Text, a_set, a_matrix}
 use Rattle.ess_semantics.specs.Names.{Names, look}
-use Rattle.ess_semantics.specs.Trees.{unary, binary, word, matrix_literal, Ex, number_ex, comp_ex, Gens, no_gens, cond, Dom, no_exs, more_exs}
-use Rattle.ess_semantics.specs.Types.{Ty, bool_ty, int_ty, compound1, compound2, join, type_of_dom, or_any}
-use Rattle.ess_semantics.specs.OperatorTypes.{type_of_op, member_ty}
-use Rattle.ess_semantics.specs.Typing.{type_of, types_under, number_cell_ty, source_ty}
+use Rattle.ess_semantics.specs.Trees.{unary, binary, word, matrix_literal, Ex, Exs, number_ex, comp_ex, Gens, no_gens, cond, Dom}
+use Rattle.ess_semantics.specs.Types.{Ty, any_ty, bool_ty, int_ty, compound, no_tys, more_tys, compound1, compound2, join, join_all, type_of_dom, or_any}
+use Rattle.ess_semantics.specs.OperatorTypes.{type_of_op, member_ty, subtracted, united as united_ty, included as included_ty}
+use Rattle.ess_semantics.specs.Typing.{type_of, types_of, types_under, number_cell_ty, source_ty}
 use Rattle.ess_semantics.specs.NamesAt.{names_behind}
 use Rattle.ess_rules_laws.specs.SourceRules.{list_of}
 use Rattle.ess_flat_laws.specs.Flat.{OneOp, denied, negative, absolute, TwoOp, both, either, implied, agreeing, equal, unequal, below, at_most, above, at_least, sum, difference, product}
 use Rattle.ess_bare_laws.specs.Bare.{TruthWord, all_hold, some_holds}
-use Rattle.ess_seen_laws.specs.Seen.{Kind, scalars, sets_of, kind_ty, Bound, from_a_set, bound_types, as_an_atom, SetTerm, view, drawn, Seen, number, truth, named, cell, atom, one, two, power, chosen, folded, added, counted, one_truth, one_number, size, within, Going, at_end, through, among, where_holds, Axes, no_axis, along, Counting, members_of, in_use, Range, truths, numbers}
-use Rattle.ess_seen_laws.specs.SeenParts.{Items, truths_listed, numbers_listed, ones_listed, item_listed}
+use Rattle.ess_bare_laws.specs.Lean.{FoldWord, of_all, of_some, of_sum}
+use Rattle.ess_seen_laws.specs.Seen.{Kind, scalars, sets_of, kind_ty, Bound, from_a_set, bound_types, Combines, united, shared, lessened, Compares, alike, apart, included, properly_included, including, properly_including, as_an_atom, SetTerm, view, drawn, combined, Seen, number, truth, named, cell, atom, one, two, power, chosen, folded, added, counted, of_items, size, within, set_within, compared, Listed, last_item, item_before, Going, at_end, through, among, where_holds, Axes, no_axis, along, Counting, members_of, in_use, Range, truths, numbers}
+use Rattle.ess_seen_laws.specs.SeenParts.{Items, truths_listed, numbers_listed, ones_listed, items_listed}
 use Rattle.ess_seen_laws.proofs.Lookups.{look-bound, number-cell}
 use Rattle.ess_seen_laws.proofs.Written.{keeps-written, written-type, atom-type}
 
@@ -52,19 +53,75 @@ two-type sum = refl
 two-type difference = refl
 two-type product = refl
 
-member-type : (m : Bool) →
-    and_then (all_some (Some (mark m) ∷ Some (compound1 a_set (mark m)) ∷ [])) (type_of_op (binary Op2.Member)) ≡ Some bool_ty
-member-type true = refl
-member-type false = refl
-
-fold-type : {f : Fun} → TruthWord f →
+truth-type : {f : Fun} → TruthWord f →
     and_then (all_some (Some (compound2 a_matrix int_ty bool_ty) ∷ [])) (type_of_op (word f)) ≡ Some bool_ty
-fold-type all_hold = refl
-fold-type some_holds = refl
+truth-type all_hold = refl
+truth-type some_holds = refl
 
-item-type : (m : Bool) → and_then (all_some (Some (mark m) ∷ [])) (type_of_op matrix_literal) ≡ Some (compound2 a_matrix int_ty (mark m))
-item-type true = refl
-item-type false = refl
+fold-type : {m : Bool} {f : Fun} → FoldWord m f →
+    and_then (all_some (Some (compound2 a_matrix int_ty (mark m)) ∷ [])) (type_of_op (word f)) ≡ Some (mark m)
+fold-type of_all = refl
+fold-type of_some = refl
+fold-type of_sum = refl
+
+-- ---- operators on sets
+
+-- The type of a kind agrees with itself.
+pub kind-join : (k : Kind) → join (kind_ty k) (kind_ty k) ≡ Some (kind_ty k)
+kind-join (scalars true) = refl
+kind-join (scalars false) = refl
+kind-join (sets_of k) = ap (λ o. option_map (compound a_set) (and_then o (λ v. option_map (more_tys v) (Some no_tys)))) (kind-join k)
+
+-- `in`, of members of a kind.
+member-type : (k : Kind) →
+    and_then (all_some (Some (kind_ty k) ∷ Some (compound1 a_set (kind_ty k)) ∷ [])) (type_of_op (binary Op2.Member)) ≡ Some bool_ty
+member-type k = ap (option_map (λ v. bool_ty)) (kind-join k)
+
+-- What makes a set of two.
+combined-type : {o : Op2} → Combines o → (k : Kind) →
+    and_then (all_some (Some (compound1 a_set (kind_ty k)) ∷ Some (compound1 a_set (kind_ty k)) ∷ [])) (type_of_op (binary o)) ≡
+    Some (compound1 a_set (kind_ty k))
+combined-type united k = ap (λ o. and_then o united_ty) (kind-join (sets_of k))
+combined-type shared k = ap (λ o. and_then o united_ty) (kind-join (sets_of k))
+combined-type lessened k = ap (λ o. and_then o subtracted) (kind-join (sets_of k))
+
+-- What compares two sets.
+compared-type : {o : Op2} → Compares o → (k : Kind) →
+    and_then (all_some (Some (compound1 a_set (kind_ty k)) ∷ Some (compound1 a_set (kind_ty k)) ∷ [])) (type_of_op (binary o)) ≡
+    Some bool_ty
+compared-type alike k = ap (option_map (λ v. bool_ty)) (kind-join (sets_of k))
+compared-type apart k = ap (option_map (λ v. bool_ty)) (kind-join (sets_of k))
+compared-type included k = ap (λ o. and_then o included_ty) (kind-join (sets_of k))
+compared-type properly_included k = ap (λ o. and_then o included_ty) (kind-join (sets_of k))
+compared-type including k = ap (λ o. and_then o included_ty) (kind-join (sets_of k))
+compared-type properly_including k = ap (λ o. and_then o included_ty) (kind-join (sets_of k))
+
+-- ---- lists of items
+
+-- These are types of one item or several, each that of the mark.
+abbrev pub ItemTypes : List (Option Ty) → Bool → Type 0
+ItemTypes os m = (ts : List Ty) × (all_some os ≡ Some (mark m ∷ ts)) × (join_all (mark m ∷ ts) ≡ Some (mark m))
+
+any-join : (m : Bool) → join (mark m) any_ty ≡ Some (mark m)
+any-join true = refl
+any-join false = refl
+
+last-types : (o : Option Ty) (m : Bool) → o ≡ Some (mark m) → ItemTypes (o ∷ []) m
+last-types o m q = ([], ap (λ v. all_some (v ∷ [])) q, any-join m)
+
+before-types : (o : Option Ty) (os : List (Option Ty)) (m : Bool) → o ≡ Some (mark m) → ItemTypes os m → ItemTypes (o ∷ os) m
+before-types o os m q t = (
+  mark m ∷ t.0,
+  ap (λ v. all_some (v ∷ os)) q ∙ ap (option_map (λ ts. mark m ∷ ts)) t.1,
+  ap (λ v. and_then v (join (mark m))) t.2 ∙ kind-join (scalars m),
+)
+
+-- The type of their list.
+listed-ty : (os : List (Option Ty)) (m : Bool) → ItemTypes os m →
+    and_then (all_some os) (type_of_op matrix_literal) ≡ Some (compound2 a_matrix int_ty (mark m))
+listed-ty os m t = ap (λ o. and_then o (type_of_op matrix_literal)) t.1 ∙ ap (option_map (compound2 a_matrix int_ty)) t.2
+
+-- ---- operands
 
 -- One operand, and two, of these types.
 at-one : (f : List Ty → Option Ty) (t : Option Ty) (u : Ty) → t ≡ Some u →
@@ -110,6 +167,9 @@ module _ (cells : Text → Option (Bool × ℕ)) where
       type_of e (bound_types r) ≡ Some (compound1 a_set (kind_ty k))
   set-type (view {d = d} n f k p) = ap Some (written-type (keeps-written k))
   set-type {r} (drawn {a = a} {k = k} q) = look-bound r a (from_a_set (sets_of k)) q
+  set-type {r} (combined {o = o} {s = s} {t = t} {k = k} c u v) =
+      at-two (type_of_op (binary o)) (type_of s (bound_types r)) (compound1 a_set (kind_ty k)) (type_of t (bound_types r))
+      (compound1 a_set (kind_ty k)) (set-type u) (set-type v) ∙ combined-type c k
 
   mutual
     -- The type of a scalar is that of its mark.
@@ -130,24 +190,33 @@ module _ (cells : Text → Option (Bool × ℕ)) where
     seen-type {r} (chosen {x = x} f) = at-one (type_of_op (word Fun.ToInt)) (type_of x (bound_types r)) bool_ty (seen-type f)
     seen-type {r} (folded {t = t} {f = w} {e = e} {gs = gs} v g f) =
         at-one (type_of_op (word w)) (type_of (comp_ex e gs) (bound_types r)) (compound2 a_matrix int_ty bool_ty)
-        (list-type (types_under gs (bound_types r)) (bound_types t) e bool_ty (going-under g) (seen-type f)) ∙ fold-type v
+        (list-type (types_under gs (bound_types r)) (bound_types t) e bool_ty (going-under g) (seen-type f)) ∙ truth-type v
     seen-type {r} (added {t = t} {e = e} {gs = gs} g f) =
         at-one (type_of_op (word Fun.Sum)) (type_of (comp_ex e gs) (bound_types r)) (compound2 a_matrix int_ty int_ty)
         (list-type (types_under gs (bound_types r)) (bound_types t) e int_ty (axes-under g) (seen-type f))
     seen-type {r} (counted {gs = gs} c) =
         at-one (type_of_op (word Fun.Sum)) (type_of (comp_ex (number_ex (pos 1)) gs) (bound_types r)) (compound2 a_matrix int_ty int_ty)
         (counting-type c)
-    seen-type {r} (one_truth {f = w} {e = e} v f) =
-        at-one (type_of_op (word w)) (type_of (list_of (more_exs e no_exs)) (bound_types r)) (compound2 a_matrix int_ty bool_ty)
-        (at-one (type_of_op matrix_literal) (type_of e (bound_types r)) bool_ty (seen-type f)) ∙ fold-type v
-    seen-type {r} (one_number {e = e} f) =
-        at-one (type_of_op (word Fun.Sum)) (type_of (list_of (more_exs e no_exs)) (bound_types r)) (compound2 a_matrix int_ty int_ty)
-        (at-one (type_of_op matrix_literal) (type_of e (bound_types r)) int_ty (seen-type f))
-    seen-type {r} (size {k = k} {s = s} v) =
+    seen-type {r} (of_items {m = m} {f = w} {es = es} v l) =
+        at-one (type_of_op (word w)) (type_of (list_of es) (bound_types r)) (compound2 a_matrix int_ty (mark m))
+        (listed-ty (types_of es (bound_types r)) m (listed-types l)) ∙ fold-type v
+    seen-type {r} (size {k = k} {s = s} v n) =
         at-one (type_of_op (unary Op1.Bar)) (type_of s (bound_types r)) (compound1 a_set (kind_ty k)) (set-type v)
     seen-type {r} (within {m = m} {a = a} {s = s} f v) =
         at-two (type_of_op (binary Op2.Member)) (type_of a (bound_types r)) (mark m) (type_of s (bound_types r)) (compound1 a_set (mark m))
-        (seen-type f) (set-type v) ∙ member-type m
+        (seen-type f) (set-type v) ∙ member-type (scalars m)
+    seen-type {r} (set_within {k = k} {a = a} {s = s} u v) =
+        at-two (type_of_op (binary Op2.Member)) (type_of a (bound_types r)) (kind_ty (sets_of k)) (type_of s (bound_types r))
+        (compound1 a_set (kind_ty (sets_of k))) (set-type u) (set-type v) ∙ member-type (sets_of k)
+    seen-type {r} (compared {o = o} {k = k} {s = s} {t = t} c u v) =
+        at-two (type_of_op (binary o)) (type_of s (bound_types r)) (compound1 a_set (kind_ty k)) (type_of t (bound_types r))
+        (compound1 a_set (kind_ty k)) (set-type u) (set-type v) ∙ compared-type c k
+
+    -- The types of items.
+    pub listed-types : {r : Names Bound} {es : Exs} {m : Bool} → Listed cells r es m → ItemTypes (types_of es (bound_types r)) m
+    listed-types {r} (last_item {m = m} {e = e} f) = last-types (type_of e (bound_types r)) m (seen-type f)
+    listed-types {r} (item_before {m = m} {e = e} {es = es} f l) =
+        before-types (type_of e (bound_types r)) (types_of es (bound_types r)) m (seen-type f) (listed-types l)
 
     -- Generators bind names of these types.
     pub going-under : {r t : Names Bound} {gs : Gens} → Going cells r gs t → types_under gs (bound_types r) ≡ Some (bound_types t)
@@ -166,7 +235,7 @@ module _ (cells : Text → Option (Bool × ℕ)) where
 
     counting-type : {r : Names Bound} {gs : Gens} → Counting cells r gs →
         and_then (types_under gs (bound_types r)) (λ h. Some (compound2 a_matrix int_ty int_ty)) ≡ Some (compound2 a_matrix int_ty int_ty)
-    counting-type {r} (members_of {k = k} {a = a} {s = s} v) =
+    counting-type {r} (members_of {k = k} {a = a} {s = s} v n) =
         ap (λ o. and_then o (λ h. Some (compound2 a_matrix int_ty int_ty)))
         (under-type (type_of s (bound_types r)) k (λ t. Some ((a, t) ∷ bound_types r)) (set-type v))
     counting-type {r} (in_use {m = m} {a = a} {d = d} {c = c} n f) =
@@ -182,8 +251,7 @@ module _ (cells : Text → Option (Bool × ℕ)) where
   items-type {r} (numbers_listed {t = t} {e = e} {gs = gs} g f) =
       list-type (types_under gs (bound_types r)) (bound_types t) e int_ty (axes-under g) (seen-type f)
   items-type (ones_listed c) = counting-type c
-  items-type {r} (item_listed {m = m} {e = e} f) =
-      at-one (type_of_op matrix_literal) (type_of e (bound_types r)) (mark m) (seen-type f) ∙ item-type m
+  items-type {r} (items_listed {m = m} {es = es} l) = listed-ty (types_of es (bound_types r)) m (listed-types l)
 
   -- So are the types of names behind generators.
   pub going-behind : {r t : Names Bound} {gs : Gens} → Going cells r gs t → names_behind gs (bound_types r) ≡ bound_types t

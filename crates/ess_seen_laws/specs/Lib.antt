@@ -6,3 +6,7 @@ pub mod SeenParts
 pub mod Putting
 -- Their laws
 pub mod Laws
+-- The rules that may fire
+pub mod MayFire
+-- Names told apart
+pub mod Apart

@@ -1,7 +1,8 @@
 -- Trees over views of sets of any nesting, as constraints that speak of such finds are over tables, and as rules leave them on the way:
 -- numbers, truth values, bound names and cells, arithmetic, comparisons and connectives; `and`, `or` of what generators over ranges, over
--- truth values and over members of sets go through; `sum` over ranges; sizes of sets and memberships of scalars; and folds of one item, as
--- the parts of a source leave them. Where rules end no view, no source and no set is left.
+-- truth values and over members of sets go through; `sum` over ranges; unions, intersections and differences of sets; comparisons and
+-- inclusions of sets; sizes of sets that are no such terms; memberships of scalars and of sets; and folds of lists, as the parts of a
+-- source leave them. Where rules end no view, no source and no set is left.
 use Rattle.std.specs.Prelude.{◌≡◌, ℕ, zero, suc, Bool, true, false, List, [], ◌∷◌, ℤ, pos, Option, Some}
 use Rattle.ess_semantics.specs.declared.words.Op1.{Op1}
 use Rattle.ess_semantics.specs.declared.words.Op2.{Op2}
@@ -17,6 +18,7 @@ use Rattle.ess_rules_laws.specs.SourceRules.{list_of}
 use Rattle.ess_flat_laws.specs.Flat.{OneOp, TwoOp}
 use Rattle.ess_nested_laws.specs.NestedDomains.{are_written_sizes, is_written_atom, is_nested_dom}
 use Rattle.ess_bare_laws.specs.Bare.{TruthWord}
+use Rattle.ess_bare_laws.specs.Lean.{FoldWord}
 
 -- ---- kinds of members
 
@@ -53,6 +55,28 @@ abbrev pub bound_types : Names Bound → Names Ty
 bound_types [] = []
 bound_types (b ∷ r) = (b.0, kind_ty (bound_kind b.1)) ∷ bound_types r
 
+-- ---- operators on sets
+
+-- What makes a set of two.
+pub data Combines : Op2 → Type 0 where
+  united : Combines Op2.Union
+  shared : Combines Op2.Intersect
+  lessened : Combines Op2.Minus
+
+-- What compares two sets.
+pub data Compares : Op2 → Type 0 where
+  alike : Compares Op2.Eq
+  apart : Compares Op2.Ne
+  included : Compares Op2.SubsetEq
+  properly_included : Compares Op2.Subset
+  including : Compares Op2.SupsetEq
+  properly_including : Compares Op2.Supset
+
+-- Whether the tree is an operator on two operands: of sets, whether it is made of two.
+abbrev pub is_combined : Ex → Bool
+is_combined (ex2 m o s t) = true
+is_combined e = false
+
 -- ---- trees
 
 -- The tables: whether one holds truth values, and how many axes it has.
@@ -82,12 +106,14 @@ module _ (cells : Text → Option (Bool × ℕ)) where
     at_a_name : {r : Names Bound} {a : Text} {m : Bool} {es : Exs} {k : ℕ} → look r a ≡ Some (over_a_range m) → Places r es k →
         Places r (more_exs (name_ex a) es) (suc k)
 
-  -- A set, whose members are of this kind: a view of one, or a name that is bound over members which are sets.
+  -- A set, whose members are of this kind: a view of one, a name that is bound over members which are sets, or one made of two.
   pub data SetTerm : Names Bound → Ex → Kind → Type 0 where
     view : {r : Names Bound} {p : Repr} {ms : List Mark} {es js : Exs} {d : Dom} {ns : List Text} {k : ℕ} →
         is_nested_dom (set_dom ms es d) ≡ true → fits p (set_dom ms es d) ≡ true → Keeps k p (set_dom ms es d) ns → Places r js k →
         SetTerm r (seen_ex p (set_dom ms es d) ns js) (kind_of d)
     drawn : {r : Names Bound} {a : Text} {k : Kind} → look r a ≡ Some (from_a_set (sets_of k)) → SetTerm r (name_ex a) k
+    combined : {r : Names Bound} {o : Op2} {s t : Ex} {k : Kind} → Combines o → SetTerm r s k → SetTerm r t k →
+        SetTerm r (ex2 false o s t) k
 
   mutual
     -- The tree is one over views where these names are bound, and has this mark.
@@ -106,11 +132,18 @@ module _ (cells : Text → Option (Bool × ℕ)) where
           Seen r (fun1 true f (comp_ex e gs)) true
       added : {r t : Names Bound} {e : Ex} {gs : Gens} → Axes r gs t → Seen t e false → Seen r (fun1 false Fun.Sum (comp_ex e gs)) false
       counted : {r : Names Bound} {gs : Gens} → Counting r gs → Seen r (fun1 false Fun.Sum (comp_ex (number_ex (pos 1)) gs)) false
-      one_truth : {r : Names Bound} {f : Fun} {e : Ex} → TruthWord f → Seen r e true →
-          Seen r (fun1 true f (list_of (more_exs e no_exs))) true
-      one_number : {r : Names Bound} {e : Ex} → Seen r e false → Seen r (fun1 false Fun.Sum (list_of (more_exs e no_exs))) false
-      size : {r : Names Bound} {k : Kind} {s : Ex} → SetTerm r s k → Seen r (ex1 false Op1.Bar s) false
+      of_items : {r : Names Bound} {m : Bool} {f : Fun} {es : Exs} → FoldWord m f → Listed r es m → Seen r (fun1 m f (list_of es)) m
+      size : {r : Names Bound} {k : Kind} {s : Ex} → SetTerm r s k → is_combined s ≡ false → Seen r (ex1 false Op1.Bar s) false
       within : {r : Names Bound} {m : Bool} {a s : Ex} → Seen r a m → SetTerm r s (scalars m) → Seen r (ex2 true Op2.Member a s) true
+      set_within : {r : Names Bound} {k : Kind} {a s : Ex} → SetTerm r a k → SetTerm r s (sets_of k) →
+          Seen r (ex2 true Op2.Member a s) true
+      compared : {r : Names Bound} {o : Op2} {k : Kind} {s t : Ex} → Compares o → SetTerm r s k → SetTerm r t k →
+          Seen r (ex2 true o s t) true
+
+    -- One item or several, each with this mark.
+    pub data Listed : Names Bound → Exs → Bool → Type 0 where
+      last_item : {r : Names Bound} {m : Bool} {e : Ex} → Seen r e m → Listed r (more_exs e no_exs) m
+      item_before : {r : Names Bound} {m : Bool} {e : Ex} {es : Exs} → Seen r e m → Listed r es m → Listed r (more_exs e es) m
 
     -- So many indices of a cell.
     pub data Indices : Names Bound → Exs → ℕ → Type 0 where
@@ -132,9 +165,10 @@ module _ (cells : Text → Option (Bool × ℕ)) where
       along : {r t : Names Bound} {m : Bool} {a : Text} {d : Dom} {gs : Gens} → Range r d m → Axes ((a, over_a_range m) ∷ r) gs t →
           Axes r (over (name_pat a) d gs) t
 
-    -- What is counted: the members of a set, or the places in use in a range.
+    -- What is counted: the members of a set that isn't made of two, or the places in use in a range.
     pub data Counting : Names Bound → Gens → Type 0 where
-      members_of : {r : Names Bound} {k : Kind} {a : Text} {s : Ex} → SetTerm r s k → Counting r (from (name_pat a) s no_gens)
+      members_of : {r : Names Bound} {k : Kind} {a : Text} {s : Ex} → SetTerm r s k → is_combined s ≡ false →
+          Counting r (from (name_pat a) s no_gens)
       in_use : {r : Names Bound} {m : Bool} {a : Text} {d : Dom} {c : Ex} → Range r d m → Seen ((a, over_a_range m) ∷ r) c true →
           Counting r (over (name_pat a) d (cond c no_gens))
 

@@ -3,14 +3,14 @@
 use Rattle.std.specs.Prelude.{◌≡◌, ℕ, Bool, true, false, ℤ, pos, Option, Some, IsTrue, is_some}
 use Rattle.ess_semantics.specs.Values.{Text}
 use Rattle.ess_semantics.specs.Names.{Names, look}
-use Rattle.ess_semantics.specs.Trees.{Ex, number_ex, name_ex, comp_ex, no_exs, more_exs, Gens}
+use Rattle.ess_semantics.specs.Trees.{Ex, Exs, number_ex, name_ex, comp_ex, Gens}
 use Rattle.ess_semantics.specs.Types.{Ty}
 use Rattle.ess_semantics.specs.Substitution.{NamesAre}
 use Rattle.ess_semantics.specs.Contexts.{In, fill}
 use Rattle.ess_semantics.specs.NamesAt.{names_at}
 use Rattle.ess_rules_laws.specs.SourceRules.{list_of}
 use Rattle.ess_refine_laws.specs.ScopesStay.{is_outside_views}
-use Rattle.ess_seen_laws.specs.Seen.{Kind, Bound, over_a_range, bound_types, SetTerm, Seen, Going, Axes, Counting}
+use Rattle.ess_seen_laws.specs.Seen.{Kind, Bound, over_a_range, bound_types, SetTerm, Seen, Listed, Going, Axes, Counting}
 
 -- Each name that is bound has the property.
 abbrev pub AllBound : (Text → Bool) → Names Bound → Type 0
@@ -22,12 +22,12 @@ pub data IsIndex : Names Bound → Ex → Type 0 where
   axis : {r : Names Bound} {a : Text} {m : Bool} → look r a ≡ Some (over_a_range m) → IsIndex r (name_ex a)
 
 module _ (cells : Text → Option (Bool × ℕ)) where
-  -- A list of scalars of this mark: under `and` or `or`, under `sum`, what is counted, or of one item.
+  -- A list of scalars of this mark: under `and` or `or`, under `sum`, what is counted, or of items.
   pub data Items : Names Bound → Ex → Bool → Type 0 where
     truths_listed : {r t : Names Bound} {e : Ex} {gs : Gens} → Going cells r gs t → Seen cells t e true → Items r (comp_ex e gs) true
     numbers_listed : {r t : Names Bound} {e : Ex} {gs : Gens} → Axes cells r gs t → Seen cells t e false → Items r (comp_ex e gs) false
     ones_listed : {r : Names Bound} {gs : Gens} → Counting cells r gs → Items r (comp_ex (number_ex (pos 1)) gs) false
-    item_listed : {r : Names Bound} {m : Bool} {e : Ex} → Seen cells r e m → Items r (list_of (more_exs e no_exs)) m
+    items_listed : {r : Names Bound} {m : Bool} {es : Exs} → Listed cells r es m → Items r (list_of es) m
 
   -- A part around which the names t are bound, and whether it stands in no view: such a tree outside of views, in the place of which the
   -- whole has the property P with any such tree of the same mark; a set outside of views; a list outside of views; or an index, in a

@@ -8,8 +8,7 @@ use Rattle.ess_semantics.specs.Trees.{both_ends, repr, no_reprs, more_reprs, nam
 use Rattle.ess_refine_laws.specs.AllRules.{Supply}
 use Rattle.ess_kind_rules_laws.specs.KindRules.{of_one_view, size_at_the_marker, kind_rewrite}
 use Rattle.ess_refine_laws.specs.SpellingEnds.{numbers_of_tree}
-use Rattle.ess_load_laws.specs.Load.{load}
-use Rattle.ess_seen_names_laws.specs.Shapes.{no_numeral, of_numbers, no_step, up_to_the_marker, Shape, marker_of, alone}
+use Rattle.ess_seen_names_laws.specs.Shapes.{no_numeral, of_numbers, no_step, up_to_the_marker, by_a_view, Shape, marker_of, alone}
 
 -- Sets of numbers from 1 to 9, in the tables "m" and "c".
 abbrev members : Dom
@@ -33,9 +32,6 @@ size_is_the_marker = refl
 marker_shape : Shape (codes "x") size_of_view (cell_ex false (codes "m") no_exs)
 marker_shape = marker_of no_step
 
-one_name_for_a_size : load size_of_view ≡ 1
-one_name_for_a_size = refl
-
 -- `and([a > 5 | a <- v])` becomes `and([c[x] > 5 | x : int(1..9), x <= m])`, where c[x] is the view in the slot.
 abbrev fold : Ex
 fold = fun1 true Fun.And (comp_ex (ex2 true Op2.Gt (name_ex (codes "a")) (number_ex (pos 5))) (from (name_pat (codes "a")) view no_gens))
@@ -52,12 +48,9 @@ fold_over_view : kind_rewrite taken [] of_one_view fold ≡ Some laid_open
 fold_over_view = refl
 
 fold_shape : Shape (codes "x") fold laid_open
-fold_shape = alone (codes "a") no_gens (up_to_the_marker no_numeral of_numbers no_step)
+fold_shape = alone (codes "a") no_gens (by_a_view (up_to_the_marker no_numeral of_numbers no_step))
 
--- Each binds one name, and no number is spelled that wasn't but 1.
-one_name_each : load fold ≡ load laid_open
-one_name_each = refl
-
+-- No number is spelled that wasn't but 1.
 numbers_before : numbers_of_tree fold ≡ pos 5 ∷ pos 1 ∷ pos 9 ∷ []
 numbers_before = refl
 

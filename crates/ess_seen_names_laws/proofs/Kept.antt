@@ -1,4 +1,4 @@
--- What rules make keeps names, numbers, scopes and counts.
+-- What rules make keeps names, numbers and scopes.
 use Rattle.std.proofs.Common.{refl}
 use Rattle.ess_semantics.specs.Values.{Text}
 use Rattle.ess_semantics.specs.Trees.{Ex}
@@ -6,7 +6,6 @@ use Rattle.ess_seen_names_laws.specs.Shapes.{Shape}
 use Rattle.ess_seen_names_laws.specs.Laws.{KeepsNames, SeenRulesKeepNames}
 use Rattle.ess_seen_names_laws.proofs.SaidOfTrees.{names-have, has-names, numbers-have, has-numbers}
 use Rattle.ess_seen_names_laws.proofs.ShapesHave.{shape-has}
-use Rattle.ess_seen_names_laws.proofs.ShapesCount.{shape-counts}
 use Rattle.ess_seen_names_laws.proofs.ShapesScoped.{shape-scoped}
 use Rattle.ess_seen_names_laws.proofs.ShapesMade.{shapes-plainly, shapes-by-kind}
 
@@ -14,7 +13,6 @@ pub shape-kept : (x : Text) (e f : Ex) → Shape x e f → KeepsNames x e f
 shape-kept x e f h = record {
   scoped = shape-scoped x h;
   spells = λ q q0 q1 q2 k. has-numbers q _ f (shape-has q _ q0 q1 q2 x refl h (numbers-have q e k));
-  counts = shape-counts h;
   names = λ u ux k. has-names _ u f (shape-has _ u refl refl refl x ux h (names-have u e k));
 }
 

@@ -9,8 +9,9 @@ use Rattle.ess_semantics.specs.Scoped.{is_bound, is_bound_by_some, BindsNew, All
 use Rattle.ess_semantics.specs.Substitution.{substitute, substitute_exs, substitute_gens, substitute_dom, substitute_doms, Binds, BindsAll, NamesAre, NamesAreExs, NamesAreGens, NamesAreDom, NamesAreDoms}
 use Rattle.ess_semantics.proofs.Tests.{or-yes}
 use Rattle.ess_rules_laws.proofs.Agreement.{same_text-equal, same_text-itself}
-use Rattle.ess_rules_laws.proofs.Simulation.{dom-itself}
+use Rattle.ess_rules_laws.proofs.Simulation.{dom-itself, substitute-itself}
 use Rattle.ess_rules_laws.proofs.UsedNames.{dom-agree}
+use Rattle.ess_refine_laws.specs.ScopesStay.{Scope}
 use Rattle.ess_seen_names_laws.specs.Laws.{none}
 
 -- ---- tests
@@ -190,3 +191,14 @@ module _ (f : Text → Ex) (x : Text) (grows : (a : Text) (t p u o : Text → Bo
         ScopedDoms none s o ds → ScopedDoms none t p (substitute_doms f ds)
     moved-doms no_doms s t o p w b h = tt
     moved-doms (more_doms d ds) s t o p w b h = (moved-dom d s t o p w b.0 h.0, moved-doms ds s t o p w b.1 h.1)
+
+-- A tree that doesn't bind x is in scope behind x.
+pub behind : (x : Text) (s : Scope) (e : Ex) → NamesAre (λ a. true) (λ a. not (same_text x a)) e → Scoped none s.all s.over_domains e →
+    Scoped none (with_names s.all (name_pat x)) s.over_domains e
+behind x s e b h = subst (Scoped none (with_names s.all (name_pat x)) s.over_domains) (substitute-itself e)
+    (moved name_ex x (λ a t p u o f g k. f a k) e s.all (with_names s.all (name_pat x)) s.over_domains s.over_domains (record {
+      used = λ a k. left-true (s.all a) (same_text x a) k;
+      plain = λ a k. (k, refl);
+      new = λ a k. k;
+      same = λ a k. refl;
+    }) b h)

@@ -15,10 +15,9 @@ use Rattle.ess_refine_laws.specs.ScopesOfRules.{IsNew}
 use Rattle.ess_refine_laws.specs.SpellingEnds.{numbers_of_tree}
 use Rattle.ess_open_rules_laws.specs.OpenRules.{KindRuling, kind_ruled}
 use Rattle.conjure_model_laws.specs.ToldApart.{reserved}
-use Rattle.ess_load_laws.specs.Load.{load}
-use Rattle.ess_chain_names_laws.specs.SparedNames.{Spares}
+use Rattle.ess_depth_laws.specs.Below.{HasNamesBelow}
 use Rattle.ess_seen_laws.specs.Seen.{Bound, bound_types, Seen}
-use Rattle.ess_seen_rules_laws.specs.MayFire.{may_fire, may_fire_by_kind}
+use Rattle.ess_seen_laws.specs.MayFire.{may_fire, may_fire_by_kind}
 use Rattle.ess_seen_names_laws.specs.Shapes.{Shape}
 
 -- No name. Domains of views of nested sets use none.
@@ -29,19 +28,12 @@ none a = false
 abbrev pub Within : Scope → Type 0
 Within s = (a : Text) → s.over_domains a ≡ true → s.all a ≡ true
 
--- The tree neither uses nor binds a reserved name from the n-th on, below the 2 ^ 64-th.
-pub record SparesNames (n : ℕ) (e : Ex) : Type 0 where
-  pub among : Text → Bool
-  pub names : NamesAre among among e
-  pub spared : (j : ℕ) → n ≤ j → j < 2 ^ 64 → among (reserved j) ≡ false
-
 -- What the first tree has the second one has: it is in scope where the name x is new; it spells no numbers but those of the first, 0, 1
--- and 2; it may come to bind no more names; and it has no names but those of the first and x.
+-- and 2; and it has no names but those of the first and x.
 pub record KeepsNames (x : Text) (e f : Ex) : Type 0 where
   pub scoped : (c : Scope) → IsNew c x e → Within c → Scoped none c.all c.over_domains e → Scoped none c.all c.over_domains f
   pub spells : (q : ℤ → Bool) → q (pos 0) ≡ true → q (pos 1) ≡ true → q (pos 2) ≡ true → list_all q (numbers_of_tree e) ≡ true →
       list_all q (numbers_of_tree f) ≡ true
-  pub counts : load f ≤ load e
   pub names : (u : Text → Bool) → IsTrue (u x) → NamesAre u u e → NamesAre u u f
 
 -- So each rule that fires at the root of a tree over views makes one of these forms, which keep that.
@@ -52,24 +44,22 @@ pub record SeenRulesKeepNames : Type 0 where
       Seen cells r e m → may_fire_by_kind u ≡ true → kind_ruled s (bound_types r) u e ≡ Some f → Shape s.one e f
   pub kept : (x : Text) (e f : Ex) → Shape x e f → KeepsNames x e f
 
--- The whole is in scope, with no name around it, and spares the reserved names from the n-th on.
+-- The whole is in scope, with no name around it, and has no names but the reserved ones below the n-th.
 pub record IsNamed (n : ℕ) (e : Ex) : Type 0 where
   pub scoped : Scoped none none none e
-  pub spares : SparesNames n e
+  pub names : HasNamesBelow n e
 
--- A rule at a part keeps it, behind the names that it takes: the whole spells no numbers but those that it spelled, 0, 1 and 2, and may
--- come to bind no more names. Each name that a tree spares it neither uses nor binds, so that it is new at each part.
+-- A rule at a part keeps it, behind the names that it takes: the whole spells no numbers but those that it spelled, 0, 1 and 2. Each
+-- reserved name from the n-th on the tree neither uses nor binds, so that it is new at each part.
 pub record NamesAtParts : Type 0 where
   pub one_rule : (n m : ℕ) (c : In) (a b : Ex) → is_outside_views c ≡ true → KeepsNames (reserved n) a b → n < m → m ≤ 2 ^ 64 →
       IsNamed n (fill c a) → IsNamed m (fill c b)
-  pub counts : (c : In) (x : Text) (a b : Ex) → KeepsNames x a b → load (fill c b) ≤ load (fill c a)
   pub spells : (c : In) (x : Text) (a b : Ex) → KeepsNames x a b → (q : ℤ → Bool) → q (pos 0) ≡ true → q (pos 1) ≡ true →
       q (pos 2) ≡ true → list_all q (numbers_of_tree (fill c a)) ≡ true → list_all q (numbers_of_tree (fill c b)) ≡ true
-  pub from_spares : (n : ℕ) (e : Ex) → Spares n e → SparesNames n e
-  pub later : (n m : ℕ) (e : Ex) → n ≤ m → SparesNames n e → SparesNames m e
-  pub of_a_part : (n : ℕ) (c : In) (a : Ex) → SparesNames n (fill c a) → SparesNames n a
-  pub unused : (n j : ℕ) (e : Ex) → SparesNames n e → n ≤ j → j < 2 ^ 64 → Unused (reserved j) e
-  pub unbound : (n j : ℕ) (e : Ex) → SparesNames n e → n ≤ j → j < 2 ^ 64 →
+  pub later : (n m : ℕ) (e : Ex) → n ≤ m → HasNamesBelow n e → HasNamesBelow m e
+  pub of_a_part : (n : ℕ) (c : In) (a : Ex) → HasNamesBelow n (fill c a) → HasNamesBelow n a
+  pub unused : (n j : ℕ) (e : Ex) → HasNamesBelow n e → n ≤ j → j < 2 ^ 64 → Unused (reserved j) e
+  pub unbound : (n j : ℕ) (e : Ex) → HasNamesBelow n e → n ≤ j → j < 2 ^ 64 →
       NamesAre (λ a. true) (λ a. not (same_text (reserved j) a)) e
   pub new : (c : In) (s : Scope) (x : Text) (a : Ex) → is_outside_views c ≡ true → IsNew s x (fill c a) → IsNew (scope_at c s) x a
   pub within : (c : In) (s : Scope) → Within s → Within (scope_at c s)

@@ -1,5 +1,6 @@
--- What rules make of trees over views of nested sets, rule by rule, with a new name x: cells of atoms, folds over what a view offers, short
--- forms of `in` and of `|..|`, folds over one item or none, and conditions that leave.
+-- What rules make of trees over views of nested sets, rule by rule, with a new name x: cells of atoms, folds over what a view or a set made
+-- of two offers, signs between sets by their members, short forms of `in` and of `|..|`, folds over one item or none, and conditions that
+-- leave.
 use Rattle.std.specs.Prelude.{Bool, true, false, List, [], ◌∷◌, ℤ, pos}
 use Rattle.ess_semantics.specs.declared.words.Op1.{Op1}
 use Rattle.ess_semantics.specs.declared.words.Op2.{Op2}
@@ -15,8 +16,9 @@ use Rattle.ess_rules_laws.specs.SpliceRules.{append_gens}
 use Rattle.ess_rules_laws.specs.SetListings.{put_last}
 use Rattle.ess_rules_laws.specs.SlotListings.{slots_dom}
 use Rattle.ess_rules_laws.specs.FunctionViews.{flag_at}
-use Rattle.ess_rules_laws.specs.Listings.{Alternative}
-use Rattle.ess_rules_laws.specs.ListedSources.{put_listed}
+use Rattle.ess_rules_laws.specs.InclusionRules.{every}
+use Rattle.ess_rules_laws.specs.Listings.{Alternative, those}
+use Rattle.ess_rules_laws.specs.ListedSources.{put_listed, each_put}
 use Rattle.ess_refine_laws.specs.LeavingConditions.{under_condition}
 use Rattle.ess_bare_laws.specs.Bare.{TruthWord}
 
@@ -69,6 +71,28 @@ pub data Laid (x : Text) : Ex → Alternative → Type 0 where
         item = seen_ex r d ns (put_last js (name_ex x));
       })
 
+-- ---- sets made of two, and what a source offers
+
+-- What a union, an intersection and a difference offer, with the name x: the members of the first, and those of the second that aren't in
+-- the first; those of the first that are in the second, and those that aren't.
+pub data Drawn (x : Text) : Ex → Alternative → Type 0 where
+  of_the_first : {a b : Ex} → Drawn x (ex2 false Op2.Union a b) (those x a no_gens)
+  else_of_the_second : {a b : Ex} → Drawn x (ex2 false Op2.Union a b)
+      (those x b (cond (ex1 true Op1.Not (ex2 true Op2.Member (name_ex x) a)) no_gens))
+  of_both : {a b : Ex} → Drawn x (ex2 false Op2.Intersect a b) (those x a (cond (ex2 true Op2.Member (name_ex x) b) no_gens))
+  of_the_first_alone : {a b : Ex} → Drawn x (ex2 false Op2.Minus a b)
+      (those x a (cond (ex1 true Op1.Not (ex2 true Op2.Member (name_ex x) b)) no_gens))
+
+-- What a source offers.
+pub data Offered (x : Text) (t : Ex) (a : Alternative) : Type 0 where
+  by_a_view : Laid x t a → Offered x t a
+  by_two : Drawn x t a → Offered x t a
+
+-- Each of these.
+abbrev pub AllOffered : Text → Ex → List Alternative → Type 0
+AllOffered x t [] = Unit {0}
+AllOffered x t (a ∷ l) = Offered x t a × AllOffered x t l
+
 -- ---- rules
 
 -- One of the rules makes the second tree of the first.
@@ -82,6 +106,21 @@ pub data Shape (x : Text) : Ex → Ex → Type 0 where
   size : {s : Ex} → Shape x (ex1 false Op1.Bar s) (fun1 false Fun.Sum (comp_ex (number_ex (pos 1)) (from (name_pat x) s no_gens)))
   member : {a s : Ex} → Shape x (ex2 true Op2.Member a s)
       (fun1 true Fun.Or (comp_ex (ex2 true Op2.Eq (name_ex x) a) (from (name_pat x) s no_gens)))
+  -- Signs between sets, and membership of a set made of two.
+  different : {a b : Ex} → Shape x (ex2 true Op2.Ne a b) (ex1 true Op1.Not (ex2 true Op2.Eq a b))
+  turned_round : {a b : Ex} → Shape x (ex2 true Op2.SupsetEq a b) (ex2 true Op2.SubsetEq b a)
+  turned_strictly : {a b : Ex} → Shape x (ex2 true Op2.Supset a b) (ex2 true Op2.Subset b a)
+  strictly_included : {a b : Ex} → Shape x (ex2 true Op2.Subset a b)
+      (ex2 true Op2.And (ex2 true Op2.SubsetEq a b) (ex1 true Op1.Not (ex2 true Op2.SubsetEq b a)))
+  equal : {a b : Ex} → Shape x (ex2 true Op2.Eq a b)
+      (ex2 true Op2.And (every x a (ex2 true Op2.Member (name_ex x) b)) (every x b (ex2 true Op2.Member (name_ex x) a)))
+  included : {a b : Ex} → Shape x (ex2 true Op2.SubsetEq a b) (every x a (ex2 true Op2.Member (name_ex x) b))
+  in_a_union : {i a b : Ex} → Shape x (ex2 true Op2.Member i (ex2 false Op2.Union a b))
+      (ex2 true Op2.Or (ex2 true Op2.Member i a) (ex2 true Op2.Member i b))
+  in_both : {i a b : Ex} → Shape x (ex2 true Op2.Member i (ex2 false Op2.Intersect a b))
+      (ex2 true Op2.And (ex2 true Op2.Member i a) (ex2 true Op2.Member i b))
+  in_the_first_alone : {i a b : Ex} → Shape x (ex2 true Op2.Member i (ex2 false Op2.Minus a b))
+      (ex2 true Op2.And (ex2 true Op2.Member i a) (ex1 true Op1.Not (ex2 true Op2.Member i b)))
   -- Products of numbers that conditions choose.
   chosen_twice : {c d : Ex} → Shape x (ex2 false Op2.Times (fun1 false Fun.ToInt c) (fun1 false Fun.ToInt d))
       (fun1 false Fun.ToInt (ex2 true Op2.And c d))
@@ -106,12 +145,12 @@ pub data Shape (x : Text) : Ex → Ex → Type 0 where
   slots_of : {ms : List Mark} {es js : Exs} {d : Dom} {r : Repr} {ns : List Text} → Numerals es → Written d →
       Shape x (ex1 false Op1.Bar (seen_ex (repr ReprKind.Explicit (more_reprs r no_reprs)) (set_dom ms es d) ns js))
       (slots_ex (set_dom ms es d))
-  -- A fold over what a view offers, alone or as a list of one fold, and behind plain generators.
-  in_a_list : {m : Bool} {w : Fun} {i t : Ex} {a : Alternative} (y : Text) (hs : Gens) → Laid x t a →
-      Shape x (fun1 m w (comp_ex i (from (name_pat y) t hs))) (fun1 m w (list_of (more_exs (fun1 m w (put_listed y i hs a)) no_exs)))
-  alone : {m : Bool} {w : Fun} {i t : Ex} {a : Alternative} (y : Text) (hs : Gens) → Laid x t a →
+  -- A fold over what a source offers: as a list of folds; over one alternative, alone and behind plain generators.
+  in_a_list : {m : Bool} {w : Fun} {i t : Ex} (y : Text) (hs : Gens) (l : List Alternative) → AllOffered x t l →
+      Shape x (fun1 m w (comp_ex i (from (name_pat y) t hs))) (fun1 m w (list_of (each_put m w y i hs l)))
+  alone : {m : Bool} {w : Fun} {i t : Ex} {a : Alternative} (y : Text) (hs : Gens) → Offered x t a →
       Shape x (fun1 m w (comp_ex i (from (name_pat y) t hs))) (fun1 m w (put_listed y i hs a))
-  opened : {m : Bool} {w : Fun} {i t : Ex} {a : Alternative} (before : Gens) (y : Text) (hs : Gens) → Laid x t a →
+  opened : {m : Bool} {w : Fun} {i t : Ex} {a : Alternative} (before : Gens) (y : Text) (hs : Gens) → Offered x t a →
       Shape x (fun1 m w (comp_ex i (append_gens before (from (name_pat y) t hs))))
       (fun1 m w (comp_ex (substitute (for_name y a.item) i)
       (append_gens before (append_gens a.gens (substitute_gens (for_name y a.item) hs)))))

@@ -1,5 +1,5 @@
--- Worked examples: which rules may fire, and what they make of `|s|` and of `forAll y in s . y > 0`, where s is kept by which members
--- occur.
+-- Worked examples: which rules may fire, and what they make of `|s|`, of `forAll y in s . y > 0`, of the same over `s union s`, and of
+-- `s subsetEq s`, where s is kept by which members occur.
 use Rattle.std.proofs.Common.{◌≡◌, refl, true, false, [], ◌∷◌, pos, Some, None}
 use Rattle.std.specs.Prelude.{codes}
 use Rattle.ess_semantics.specs.declared.words.Op1.{Op1}
@@ -8,14 +8,20 @@ use Rattle.ess_semantics.specs.declared.words.Fun.{Fun}
 use Rattle.ess_semantics.specs.declared.words.ReprKind.{ReprKind}
 use Rattle.ess_semantics.specs.Trees.{repr, no_reprs, both_ends, name_pat, Ex, number_ex, name_ex, comp_ex, cell_ex, seen_ex, no_exs, more_exs, Gens, no_gens, over, from, cond, Dom, bool_dom, int_dom, set_dom, ex1, ex2, fun1}
 use Rattle.ess_rules_laws.specs.SourceRules.{list_of}
-use Rattle.ess_refine_laws.specs.AllRules.{Supply, rewrite, over_one, over_a_literal, size, in_a_term}
+use Rattle.ess_refine_laws.specs.AllRules.{Supply, rewrite, over_one, over_a_literal, over_a_source, included_sets, included_multisets, in_two, choice, size, in_a_term}
 use Rattle.ess_kind_rules_laws.specs.KindRules.{over_a_view, member_of_a_multiset}
 use Rattle.ess_open_rules_laws.specs.OpenRules.{of_kind, of_opening, over_one_source, set_of_a_term, kind_ruled}
-use Rattle.ess_seen_rules_laws.specs.MayFire.{may_fire, may_fire_by_kind}
+use Rattle.ess_seen_laws.specs.MayFire.{may_fire, may_fire_by_kind, CountsMembers}
 
 -- Which may fire.
 one-item : may_fire over_one ≡ true
 one-item = refl
+
+a-union : may_fire over_a_source ≡ true
+a-union = refl
+
+no-count : may_fire included_multisets ≡ false
+no-count = refl
 
 no-literal : may_fire over_a_literal ≡ false
 no-literal = refl
@@ -78,3 +84,43 @@ left = refl
 -- It isn't in a term.
 no-member : rewrite supply [] in_a_term each ≡ None
 no-member = refl
+
+-- ---- sets made of two, and inclusions
+
+abbrev x : Ex
+x = name_ex (codes "x")
+
+abbrev both : Ex
+both = ex2 false Op2.Union s s
+
+abbrev each_of_both : Ex
+each_of_both = fun1 true Fun.And (comp_ex (above (name_ex (codes "y"))) (from (name_pat (codes "y")) both no_gens))
+
+abbrev over_members : Gens → Ex
+over_members gs = fun1 true Fun.And (comp_ex (above x) (from (name_pat (codes "x")) s gs))
+
+-- Over a union there are two folds, and the rule of one alternative doesn't fire.
+two-folds : rewrite supply [] over_a_source each_of_both ≡ Some (fun1 true Fun.And (list_of
+    (more_exs (over_members no_gens)
+    (more_exs (over_members (cond (ex1 true Op1.Not (ex2 true Op2.Member x s)) no_gens)) no_exs))))
+two-folds = refl
+
+not-alone : kind_ruled supply [] (of_opening over_one_source) each_of_both ≡ None
+not-alone = refl
+
+-- At the union itself none of these fires.
+at-rest : rewrite supply [] choice both ≡ None
+at-rest = refl
+
+-- `|s|` in the union asks both of its parts.
+in-both : rewrite supply [] in_two (ex2 true Op2.Member (ex1 false Op1.Bar s) both) ≡
+    Some (ex2 true Op2.Or (ex2 true Op2.Member (ex1 false Op1.Bar s) s) (ex2 true Op2.Member (ex1 false Op1.Bar s) s))
+in-both = refl
+
+-- An inclusion is laid out by members. The rule that counts them fires at it too, behind that one.
+by-members : rewrite supply [] included_sets (ex2 true Op2.SubsetEq s s) ≡
+    Some (fun1 true Fun.And (comp_ex (ex2 true Op2.Member x s) (from (name_pat (codes "x")) s no_gens)))
+by-members = refl
+
+counts-too : CountsMembers [] included_multisets (ex2 true Op2.SubsetEq s s)
+counts-too = record { counts = refl; first = s; second = s; root = refl; sets = refl }

@@ -10,9 +10,10 @@ use Rattle.ess_open_rules_laws.specs.OpenRules.{KindRuling, of_kind, of_opening,
 use Rattle.ess_kind_rules_laws.specs.KindRules.{kind_rewrite}
 use Rattle.ess_flat_laws.specs.Flat.{denied, both}
 use Rattle.ess_bare_laws.specs.Bare.{all_hold}
-use Rattle.ess_seen_laws.specs.Seen.{Bound, bound_types, Seen, number, truth, named, cell, atom, one, two, power, chosen, folded, added, counted, one_truth, one_number, size, within}
+use Rattle.ess_bare_laws.specs.Lean.{of_all}
+use Rattle.ess_seen_laws.specs.Seen.{Bound, bound_types, Seen, number, truth, named, cell, atom, one, two, power, chosen, folded, added, counted, of_items, size, within, set_within, compared}
 use Rattle.ess_seen_laws.specs.Laws.{SeenTreesHaveTypes}
-use Rattle.ess_seen_rules_laws.specs.MayFire.{may_fire_by_kind, may_fire_at_views, may_fire_at_sources}
+use Rattle.ess_seen_laws.specs.MayFire.{may_fire_by_kind, may_fire_at_views, may_fire_at_sources}
 use Rattle.ess_seen_rules_laws.specs.Laws.{FewRulesFire}
 use Rattle.ess_seen_rules_laws.proofs.Allowed.{allowed-so}
 use Rattle.ess_seen_rules_laws.proofs.PlainRules.{fires}
@@ -43,17 +44,18 @@ module _ (cells : Text → Option (Bool × ℕ)) where
   chosen-gathers (folded w k f) = refl
   chosen-gathers (added k f) = refl
   chosen-gathers (counted k) = refl
-  chosen-gathers (one_truth w f) = refl
-  chosen-gathers (one_number f) = refl
-  chosen-gathers (size h) = refl
+  chosen-gathers (of_items w l) = refl
+  chosen-gathers (size h q) = refl
   chosen-gathers (within f h) = refl
+  chosen-gathers (set_within h k) = refl
+  chosen-gathers (compared o h k) = refl
 
   no-gathering : {r : Names Bound} {e : Ex} {m : Bool} → Seen cells r e m → conditions_gathered e ≡ None
   no-gathering (one denied f) = refl
   no-gathering (two both f h) = refl
   no-gathering (chosen f) = chosen-gathers f
   no-gathering (folded all_hold k f) = refl
-  no-gathering (one_truth all_hold f) = refl
+  no-gathering (of_items of_all l) = refl
   no-gathering f = refl
 
 -- The law.

@@ -11,8 +11,9 @@ use Rattle.ess_refine_laws.specs.AllRules.{Supply}
 use Rattle.ess_kind_rules_laws.specs.KindRules.{KindRule, kind_rewrite, cell_of_an_atom, of_what_is_picked}
 use Rattle.ess_flat_laws.specs.Flat.{denied, negative, absolute, both, either, implied, agreeing, equal, unequal, below, at_most, above, at_least, sum, difference, product}
 use Rattle.ess_bare_laws.specs.Bare.{all_hold, some_holds}
-use Rattle.ess_seen_laws.specs.Seen.{Kind, Bound, as_an_atom, by_occurrence, with_a_dummy, in_slots, with_a_marker, with_flags, SetTerm, view, drawn, Seen, number, truth, named, cell, atom, one, two, power, chosen, folded, added, counted, one_truth, one_number, size, within}
-use Rattle.ess_seen_rules_laws.specs.MayFire.{may_fire_at_views}
+use Rattle.ess_bare_laws.specs.Lean.{of_all, of_some, of_sum}
+use Rattle.ess_seen_laws.specs.Seen.{Kind, Bound, alike, apart, included, properly_included, including, properly_including, as_an_atom, by_occurrence, with_a_dummy, in_slots, with_a_marker, with_flags, SetTerm, view, drawn, combined, Seen, number, truth, named, cell, atom, one, two, power, chosen, folded, added, counted, of_items, size, within, set_within, compared}
+use Rattle.ess_seen_laws.specs.MayFire.{may_fire_at_views}
 use Rattle.ess_seen_rules_laws.proofs.Allowed.{Allowed, allowed-none}
 use Rattle.ess_seen_rules_laws.proofs.Picks.{operands-pick, picks-no-kind}
 
@@ -57,11 +58,13 @@ module _ (cells : Text → Option (Bool × ℕ)) (s : Supply) (g : Names Ty) (r 
   at-absolute (folded some_holds k f) cell_of_an_atom = tt
   at-absolute (added k f) cell_of_an_atom = tt
   at-absolute (counted k) cell_of_an_atom = tt
-  at-absolute (one_truth all_hold f) cell_of_an_atom = tt
-  at-absolute (one_truth some_holds f) cell_of_an_atom = tt
-  at-absolute (one_number f) cell_of_an_atom = tt
-  at-absolute (size h) cell_of_an_atom = tt
+  at-absolute (of_items of_all l) cell_of_an_atom = tt
+  at-absolute (of_items of_some l) cell_of_an_atom = tt
+  at-absolute (of_items of_sum l) cell_of_an_atom = tt
+  at-absolute (size h q) cell_of_an_atom = tt
   at-absolute (within f h) cell_of_an_atom = tt
+  at-absolute (set_within h k) cell_of_an_atom = tt
+  at-absolute (compared o h k) cell_of_an_atom = tt
   at-absolute f u = tt
 
   -- At `toInt`.
@@ -93,11 +96,13 @@ module _ (cells : Text → Option (Bool × ℕ)) (s : Supply) (g : Names Ty) (r 
   at-chosen (folded some_holds k f) cell_of_an_atom = tt
   at-chosen (added k f) cell_of_an_atom = tt
   at-chosen (counted k) cell_of_an_atom = tt
-  at-chosen (one_truth all_hold f) cell_of_an_atom = tt
-  at-chosen (one_truth some_holds f) cell_of_an_atom = tt
-  at-chosen (one_number f) cell_of_an_atom = tt
-  at-chosen (size h) cell_of_an_atom = tt
+  at-chosen (of_items of_all l) cell_of_an_atom = tt
+  at-chosen (of_items of_some l) cell_of_an_atom = tt
+  at-chosen (of_items of_sum l) cell_of_an_atom = tt
+  at-chosen (size h q) cell_of_an_atom = tt
   at-chosen (within f h) cell_of_an_atom = tt
+  at-chosen (set_within h k) cell_of_an_atom = tt
+  at-chosen (compared o h k) cell_of_an_atom = tt
   at-chosen f u = tt
 
   -- At a size of a set, and at a membership.
@@ -109,6 +114,7 @@ module _ (cells : Text → Option (Bool × ℕ)) (s : Supply) (g : Names Ty) (r 
   at-size (view a b (with_a_marker w c k) d) cell_of_an_atom = tt
   at-size (view a b (with_flags w c k) d) cell_of_an_atom = tt
   at-size (drawn h) cell_of_an_atom = tt
+  at-size (combined o h k) cell_of_an_atom = tt
   at-size h u = tt
 
   at-within : {e : Ex} {k : Kind} (x : Ex) → SetTerm cells r e k → (u : KindRule) → A (ex2 true Op2.Member x e) u
@@ -119,6 +125,7 @@ module _ (cells : Text → Option (Bool × ℕ)) (s : Supply) (g : Names Ty) (r 
   at-within x (view a b (with_a_marker w c k) d) cell_of_an_atom = tt
   at-within x (view a b (with_flags w c k) d) cell_of_an_atom = tt
   at-within x (drawn h) cell_of_an_atom = tt
+  at-within x (combined o h k) cell_of_an_atom = tt
   at-within x h u = tt
 
   at-root : {e : Ex} {m : Bool} → F e m → (u : KindRule) → A e u
@@ -149,11 +156,18 @@ module _ (cells : Text → Option (Bool × ℕ)) (s : Supply) (g : Names Ty) (r 
   at-root (folded some_holds k f) cell_of_an_atom = tt
   at-root (added k f) cell_of_an_atom = tt
   at-root (counted k) cell_of_an_atom = tt
-  at-root (one_truth all_hold f) cell_of_an_atom = tt
-  at-root (one_truth some_holds f) cell_of_an_atom = tt
-  at-root (one_number f) cell_of_an_atom = tt
-  at-root (size h) u = at-size h u
+  at-root (of_items of_all l) cell_of_an_atom = tt
+  at-root (of_items of_some l) cell_of_an_atom = tt
+  at-root (of_items of_sum l) cell_of_an_atom = tt
+  at-root (size h q) u = at-size h u
   at-root (within {a = a} f h) u = at-within a h u
+  at-root (set_within {a = a} h k) u = at-within a k u
+  at-root (compared alike h k) cell_of_an_atom = tt
+  at-root (compared apart h k) cell_of_an_atom = tt
+  at-root (compared included h k) cell_of_an_atom = tt
+  at-root (compared properly_included h k) cell_of_an_atom = tt
+  at-root (compared including h k) cell_of_an_atom = tt
+  at-root (compared properly_including h k) cell_of_an_atom = tt
   at-root f u = tt
 
   -- What each answers.

@@ -1,6 +1,7 @@
 -- Answers that rules may give
 pub mod Allowed
--- What operands pick, and sources
+-- Types of sets, what operands pick, and sources
+pub mod SetTypes
 pub mod Picks
 pub mod Sources
 -- Rules at the roots of trees over views
@@ -13,17 +14,7 @@ pub mod SetsRest
 pub mod ListsRest
 -- All of it
 pub mod Few
--- What rules make
-pub mod Terms
-pub mod NamesBoth
-pub mod Offered
-pub mod Opened
-pub mod MadePlainly
-pub mod MadeChoices
-pub mod MadeAtViews
-pub mod MadeAtSources
-pub mod Stays
--- What is known of such trees
+-- What is known of their types
 pub mod Known
 -- Worked examples
 mod ExamplesFiring

@@ -1,41 +1,32 @@
--- No rule fires at a list: of what is folded or counted, or of one item.
+-- No rule fires at a list: of what is folded or counted, or of items.
 use Rattle.std.proofs.Common.{◌≡◌, refl, ap, ℕ, Bool, false, Option, Some, None}
 use Rattle.ess_semantics.specs.Lists.{and_then}
 use Rattle.ess_semantics.specs.Values.{Text}
 use Rattle.ess_semantics.specs.Names.{Names}
 use Rattle.ess_semantics.specs.NamesAt.{names_behind}
 use Rattle.std.specs.Prelude.{pos}
-use Rattle.ess_semantics.specs.Trees.{matrix_literal, Ex, number_ex, comp_ex, no_exs, more_exs, Gens}
+use Rattle.ess_semantics.specs.Trees.{matrix_literal, Ex, Exs, number_ex, comp_ex, Gens}
 use Rattle.ess_semantics.specs.Types.{Ty}
 use Rattle.ess_rules_laws.specs.SourceRules.{list_of}
 use Rattle.ess_refine_laws.specs.AllRules.{Supply, Rule, rewrite, over_nothing}
-use Rattle.ess_kind_rules_laws.specs.TermLookups.{picks}
 use Rattle.ess_kind_rules_laws.specs.KindRules.{KindRule, kind_rewrite, cell_of_an_atom, of_what_is_picked}
 use Rattle.ess_open_rules_laws.specs.OpenGenerators.{Opened, at_first_open, put_before}
 use Rattle.ess_open_rules_laws.specs.OpenSources.{kept_behind, kept_in_order}
 use Rattle.ess_open_rules_laws.specs.OpenRules.{KindRuling, of_kind, of_opening, kind_ruled, OpenRule, open_rewrite, step_by_step, of_a_pick, in_order_of_its_source}
-use Rattle.ess_bare_laws.proofs.Picks.{no-kind, no-open}
-use Rattle.ess_seen_laws.specs.Seen.{Bound, Seen, view, drawn, Going, at_end, through, among, where_holds, Axes, no_axis, along, truths, numbers, Counting, members_of, in_use}
-use Rattle.ess_seen_laws.specs.SeenParts.{Items, truths_listed, numbers_listed, ones_listed, item_listed}
+use Rattle.ess_bare_laws.proofs.Picks.{PickNothing, no-kind, no-open}
+use Rattle.ess_seen_laws.specs.Seen.{Bound, Listed, view, drawn, combined, Going, at_end, through, among, where_holds, truths, numbers}
+use Rattle.ess_seen_laws.specs.SeenParts.{Items, truths_listed, numbers_listed, ones_listed, items_listed}
+use Rattle.ess_seen_laws.proofs.Types.{axes-going}
+use Rattle.ess_seen_laws.proofs.Forms.{counting-going}
 use Rattle.ess_seen_rules_laws.specs.Laws.{NoneFires}
 use Rattle.ess_seen_rules_laws.proofs.Allowed.{Allowed, allowed-not}
-use Rattle.ess_seen_rules_laws.proofs.Picks.{seen-picks}
+use Rattle.ess_seen_rules_laws.proofs.Picks.{items-pick}
 use Rattle.ess_seen_rules_laws.proofs.Sources.{OpensAtSet, opens-at-set, not-kept}
-use Rattle.ess_seen_rules_laws.proofs.OrderRules.{no-order-list, no-order-item}
+use Rattle.ess_seen_rules_laws.proofs.OrderRules.{no-order-list, no-order-items}
 
 -- ---- generators
 
 module _ (cells : Text → Option (Bool × ℕ)) where
-  -- Axes are generators of folds.
-  pub axes-go : {r t : Names Bound} {gs : Gens} → Axes cells r gs t → Going cells r gs t
-  axes-go no_axis = at_end
-  axes-go (along n k) = through n (axes-go k)
-
-  -- So is what is counted.
-  pub counting-goes : {r : Names Bound} {gs : Gens} → Counting cells r gs → (t : Names Bound) × Going cells r gs t
-  counting-goes {r} (members_of {k = k} {a = a} h) = (_, among h at_end)
-  counting-goes {r} (in_use {m = m} {a = a} n f) = (_, through n (where_holds f at_end))
-
   module _ (s : Supply) (g : Names Ty) (r : Names Bound) where
     plain-list : {t : Names Bound} {gs : Gens} (e : Ex) → Going cells r gs t → (u : Rule) → Allowed false (rewrite s g u (comp_ex e gs))
     plain-list e at_end over_nothing = tt
@@ -43,6 +34,7 @@ module _ (cells : Text → Option (Bool × ℕ)) where
     plain-list e (through (numbers b es) k) over_nothing = tt
     plain-list e (among (view a b c d) k) over_nothing = tt
     plain-list e (among (drawn h) k) over_nothing = tt
+    plain-list e (among (combined o h l) k) over_nothing = tt
     plain-list e (where_holds f k) over_nothing = tt
     plain-list e k u = tt
 
@@ -86,37 +78,37 @@ module _ (cells : Text → Option (Bool × ℕ)) where
     in_order = λ s g u. no-order-list s g e gs (opens-at-set cells k) u;
   }
 
--- ---- one item
+-- ---- items
 
-module _ (s : Supply) (g : Names Ty) (e : Ex) (p : picks e ≡ false) where
-  plain-item : (u : Rule) → Allowed false (rewrite s g u (list_of (more_exs e no_exs)))
-  plain-item over_nothing = tt
-  plain-item u = tt
+module _ (s : Supply) (g : Names Ty) (es : Exs) (p : PickNothing es) where
+  plain-items : (u : Rule) → Allowed false (rewrite s g u (list_of es))
+  plain-items over_nothing = tt
+  plain-items u = tt
 
-  kind-item : (u : KindRule) → kind_rewrite s g u (list_of (more_exs e no_exs)) ≡ None
-  kind-item of_what_is_picked = no-kind s g false matrix_literal (more_exs e no_exs) (p, tt)
-  kind-item u = refl
+  kind-items : (u : KindRule) → kind_rewrite s g u (list_of es) ≡ None
+  kind-items of_what_is_picked = no-kind s g false matrix_literal es p
+  kind-items u = refl
 
-  open-item : (u : OpenRule) → open_rewrite s g u (list_of (more_exs e no_exs)) ≡ None
-  open-item of_a_pick = no-open s g false matrix_literal (more_exs e no_exs) (p, tt)
-  open-item u = refl
+  open-items : (u : OpenRule) → open_rewrite s g u (list_of es) ≡ None
+  open-items of_a_pick = no-open s g false matrix_literal es p
+  open-items u = refl
 
-  kinds-item : (u : KindRuling) → kind_ruled s g u (list_of (more_exs e no_exs)) ≡ None
-  kinds-item (of_kind u) = kind-item u
-  kinds-item (of_opening u) = open-item u
+  kinds-items : (u : KindRuling) → kind_ruled s g u (list_of es) ≡ None
+  kinds-items (of_kind u) = kind-items u
+  kinds-items (of_opening u) = open-items u
 
 module _ (cells : Text → Option (Bool × ℕ)) (r : Names Bound) where
-  item-rests : {e : Ex} {m : Bool} → Seen cells r e m → NoneFires (list_of (more_exs e no_exs))
-  item-rests {e} f = record {
-    plainly = λ s g u. allowed-not _ (plain-item s g e (seen-picks cells r f) u);
-    by_kind = λ s g u. kinds-item s g e (seen-picks cells r f) u;
+  items-rest : {es : Exs} {m : Bool} → Listed cells r es m → NoneFires (list_of es)
+  items-rest {es} l = record {
+    plainly = λ s g u. allowed-not _ (plain-items s g es (items-pick cells r l) u);
+    by_kind = λ s g u. kinds-items s g es (items-pick cells r l) u;
     gathering = refl;
-    in_order = λ s g u. no-order-item s g cells r f u;
+    in_order = λ s g u. no-order-items s g cells r l u;
   }
 
   -- None fires at a list.
   pub lists-rest : (e : Ex) (m : Bool) → Items cells r e m → NoneFires e
   lists-rest e m (truths_listed {e = x} k f) = comps-rest cells x k
-  lists-rest e m (numbers_listed {e = x} k f) = comps-rest cells x (axes-go cells k)
-  lists-rest e m (ones_listed k) = comps-rest cells (number_ex (pos 1)) (counting-goes cells k).1
-  lists-rest e m (item_listed f) = item-rests f
+  lists-rest e m (numbers_listed {e = x} k f) = comps-rest cells x (axes-going cells k)
+  lists-rest e m (ones_listed k) = comps-rest cells (number_ex (pos 1)) (counting-going cells k).1
+  lists-rest e m (items_listed l) = items-rest l

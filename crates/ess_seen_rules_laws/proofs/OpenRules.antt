@@ -14,9 +14,10 @@ use Rattle.ess_open_rules_laws.specs.OpenSources.{forgets_repeats, loose_source,
 use Rattle.ess_open_rules_laws.specs.OpenRules.{OpenRule, open_rewrite, step_by_step, of_a_pick, without_repeats}
 use Rattle.ess_flat_laws.specs.Flat.{denied, negative, absolute, both, either, implied, agreeing, equal, unequal, below, at_most, above, at_least, sum, difference, product}
 use Rattle.ess_bare_laws.specs.Bare.{TruthWord, all_hold, some_holds}
+use Rattle.ess_bare_laws.specs.Lean.{of_all, of_some, of_sum}
 use Rattle.ess_bare_laws.proofs.Picks.{either-way}
-use Rattle.ess_seen_laws.specs.Seen.{Bound, view, drawn, Seen, number, truth, named, cell, atom, one, two, power, chosen, folded, added, counted, one_truth, one_number, size, within, Going, at_end, through, among, where_holds, no_axis, along, Counting, members_of, in_use}
-use Rattle.ess_seen_rules_laws.specs.MayFire.{may_fire_at_sources}
+use Rattle.ess_seen_laws.specs.Seen.{Bound, alike, apart, included, properly_included, including, properly_including, view, drawn, combined, Seen, number, truth, named, cell, atom, one, two, power, chosen, folded, added, counted, of_items, size, within, set_within, compared, Going, at_end, through, among, where_holds, no_axis, along, Counting, members_of, in_use}
+use Rattle.ess_seen_laws.specs.MayFire.{may_fire_at_sources}
 use Rattle.ess_seen_rules_laws.proofs.Allowed.{Allowed, allowed-none}
 use Rattle.ess_seen_rules_laws.proofs.Picks.{operands-pick, picks-no-open}
 use Rattle.ess_seen_rules_laws.proofs.Sources.{OpensAtSet, opens-at-set, not-loose}
@@ -57,10 +58,11 @@ module _ (cells : Text → Option (Bool × ℕ)) (s : Supply) (g : Names Ty) (r 
   at-chosen (folded w k f) step_by_step = tt
   at-chosen (added k f) step_by_step = tt
   at-chosen (counted k) step_by_step = tt
-  at-chosen (one_truth w f) step_by_step = tt
-  at-chosen (one_number f) step_by_step = tt
-  at-chosen (size h) step_by_step = tt
+  at-chosen (of_items w l) step_by_step = tt
+  at-chosen (size h q) step_by_step = tt
   at-chosen (within f h) step_by_step = tt
+  at-chosen (set_within h k) step_by_step = tt
+  at-chosen (compared o h k) step_by_step = tt
   at-chosen f u = tt
 
   -- At a fold of truth values, and at a count.
@@ -70,17 +72,20 @@ module _ (cells : Text → Option (Bool × ℕ)) (s : Supply) (g : Names Ty) (r 
   at-truths e all_hold (through n k) step_by_step = tt
   at-truths e all_hold (among (view a b c d) k) step_by_step = tt
   at-truths e all_hold (among (drawn h) k) step_by_step = tt
+  at-truths e all_hold (among (combined o h l) k) step_by_step = tt
   at-truths e all_hold (where_holds f k) step_by_step = tt
   at-truths e some_holds at_end step_by_step = tt
   at-truths e some_holds (through n k) step_by_step = tt
   at-truths e some_holds (among (view a b c d) k) step_by_step = tt
   at-truths e some_holds (among (drawn h) k) step_by_step = tt
+  at-truths e some_holds (among (combined o h l) k) step_by_step = tt
   at-truths e some_holds (where_holds f k) step_by_step = tt
   at-truths e w k u = tt
 
   at-counted : {gs : Gens} (e : Ex) → Counting cells r gs → (u : OpenRule) → A (fun1 false Fun.Sum (comp_ex e gs)) u
-  at-counted e (members_of (view a b c d)) step_by_step = tt
-  at-counted e (members_of (drawn h)) step_by_step = tt
+  at-counted e (members_of (view a b c d) q) step_by_step = tt
+  at-counted e (members_of (drawn h) q) step_by_step = tt
+  at-counted e (members_of (combined o h k) q) step_by_step = tt
   at-counted e (in_use n f) step_by_step = tt
   at-counted e k u = tt
 
@@ -112,11 +117,18 @@ module _ (cells : Text → Option (Bool × ℕ)) (s : Supply) (g : Names Ty) (r 
   at-root (added no_axis f) step_by_step = tt
   at-root (added (along n k) f) step_by_step = tt
   at-root (counted k) u = at-counted _ k u
-  at-root (one_truth all_hold f) step_by_step = tt
-  at-root (one_truth some_holds f) step_by_step = tt
-  at-root (one_number f) step_by_step = tt
-  at-root (size h) step_by_step = tt
+  at-root (of_items of_all l) step_by_step = tt
+  at-root (of_items of_some l) step_by_step = tt
+  at-root (of_items of_sum l) step_by_step = tt
+  at-root (size h q) step_by_step = tt
   at-root (within f h) step_by_step = tt
+  at-root (set_within h k) step_by_step = tt
+  at-root (compared alike h k) step_by_step = tt
+  at-root (compared apart h k) step_by_step = tt
+  at-root (compared included h k) step_by_step = tt
+  at-root (compared properly_included h k) step_by_step = tt
+  at-root (compared including h k) step_by_step = tt
+  at-root (compared properly_including h k) step_by_step = tt
   at-root f u = tt
 
   -- No source is made of another container.
@@ -133,10 +145,11 @@ module _ (cells : Text → Option (Bool × ℕ)) (s : Supply) (g : Names Ty) (r 
   chosen-loose (folded w k f) = refl
   chosen-loose (added k f) = refl
   chosen-loose (counted k) = refl
-  chosen-loose (one_truth w f) = refl
-  chosen-loose (one_number f) = refl
-  chosen-loose (size h) = refl
+  chosen-loose (of_items w l) = refl
+  chosen-loose (size h q) = refl
   chosen-loose (within f h) = refl
+  chosen-loose (set_within h k) = refl
+  chosen-loose (compared o h k) = refl
 
   no-loose : {e : Ex} {m : Bool} → F e m → seen_loosely e ≡ None
   no-loose (chosen f) = chosen-loose f

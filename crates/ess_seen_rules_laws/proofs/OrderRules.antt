@@ -19,7 +19,7 @@ use Rattle.ess_open_rules_laws.specs.OpenRules.{gives_scalar, is_compound_ty}
 use Rattle.ess_ordered_laws.specs.NumberedItems.{ordered_lookup}
 use Rattle.ess_ordered_laws.specs.IndexedSources.{indexed_source}
 use Rattle.ess_ordered_laws.specs.OrderedRules.{OrderedRule, an_item, of_an_item, source_by_indices, over_operand, at_operand, ordered_rewrite}
-use Rattle.ess_seen_laws.specs.Seen.{Kind, Bound, SetTerm, view, drawn, Seen, number, truth, named, cell, atom, one, two, power, chosen, folded, added, counted, one_truth, one_number, size, within}
+use Rattle.ess_seen_laws.specs.Seen.{Kind, Bound, SetTerm, view, drawn, combined, Seen, Listed, last_item, item_before, number, truth, named, cell, atom, one, two, power, chosen, folded, added, counted, of_items, size, within, set_within, compared}
 use Rattle.ess_seen_rules_laws.proofs.Sources.{OpensAtSet, not-indexed}
 
 -- Nothing is looked up.
@@ -52,16 +52,19 @@ module _ (cells : Text → Option (Bool × ℕ)) (r : Names Bound) where
   seen-lookup (folded w k f) z (y ∷ ys) = refl
   seen-lookup (added k f) z (y ∷ ys) = refl
   seen-lookup (counted k) z (y ∷ ys) = refl
-  seen-lookup (one_truth w f) z (y ∷ ys) = refl
-  seen-lookup (one_number f) z (y ∷ ys) = refl
-  seen-lookup (size h) z (y ∷ ys) = refl
+  seen-lookup (of_items w l) z (y ∷ ys) = refl
+  seen-lookup (size h q) z (y ∷ ys) = refl
   seen-lookup (within f h) z (y ∷ ys) = refl
+  seen-lookup (set_within h k) z (y ∷ ys) = refl
+  seen-lookup (compared o h k) z (y ∷ ys) = refl
 
   set-lookup : {e : Ex} {k : Kind} → SetTerm cells r e k → NoLookup e
   set-lookup (view a b c d) z [] = refl
   set-lookup (view a b c d) z (y ∷ ys) = refl
   set-lookup (drawn h) z [] = refl
   set-lookup (drawn h) z (y ∷ ys) = refl
+  set-lookup (combined o h k) z [] = refl
+  set-lookup (combined o h k) z (y ∷ ys) = refl
 
 module _ (s : Supply) (g : Names Ty) where
   -- No scalar is picked by itself.
@@ -72,16 +75,20 @@ module _ (s : Supply) (g : Names Ty) where
   operand k e t q = ap (λ o. and_then o
       (λ l. if gives_scalar g e && is_compound_ty (type_of t g) then select_each s.one k l e else None)) (q s.third s.parts)
 
-  -- Nor is one out of one operand, or of two.
+  -- Nor is one out of one operand, or of the first two.
   of-one : (b : Bool) (op : Op) (x : Ex) → NoLookup x → ordered_rewrite s g of_an_item (node_ex b op (more_exs x no_exs)) ≡ None
   of-one b op x q = neither (at_operand s g 1 (node_ex b op (more_exs x no_exs))) (at_operand s g 2 (node_ex b op (more_exs x no_exs)))
       (operand 1 (node_ex b op (more_exs x no_exs)) x q) refl
 
+  of-more : (b : Bool) (op : Op) (x y : Ex) (es : Exs) → NoLookup x → NoLookup y →
+      ordered_rewrite s g of_an_item (node_ex b op (more_exs x (more_exs y es))) ≡ None
+  of-more b op x y es q p =
+      let e = node_ex b op (more_exs x (more_exs y es)) in
+      neither (at_operand s g 1 e) (at_operand s g 2 e) (operand 1 e x q) (operand 2 e y p)
+
   of-two : (b : Bool) (op : Op) (x y : Ex) → NoLookup x → NoLookup y →
       ordered_rewrite s g of_an_item (node_ex b op (more_exs x (more_exs y no_exs))) ≡ None
-  of-two b op x y q p =
-      let e = node_ex b op (more_exs x (more_exs y no_exs)) in
-      neither (at_operand s g 1 e) (at_operand s g 2 e) (operand 1 e x q) (operand 2 e y p)
+  of-two b op x y q p = of-more b op x y no_exs q p
 
   -- Sources have no indices.
   by-indices : (e : Ex) (gs : Gens) → OpensAtSet (at_first_open gs) → ordered_rewrite s g source_by_indices (comp_ex e gs) ≡ None
@@ -113,12 +120,11 @@ module _ (s : Supply) (g : Names Ty) where
     no-operands (added {e = x} {gs = gs} k f) = of-one false (word Fun.Sum) (comp_ex x gs) (list-lookup x gs)
     no-operands (counted {gs = gs} k) =
         of-one false (word Fun.Sum) (comp_ex (number_ex (pos 1)) gs) (list-lookup (number_ex (pos 1)) gs)
-    no-operands (one_truth {f = w} {e = x} v f) =
-        of-one true (word w) (list_of (more_exs x no_exs)) (item-lookup (more_exs x no_exs))
-    no-operands (one_number {e = x} f) =
-        of-one false (word Fun.Sum) (list_of (more_exs x no_exs)) (item-lookup (more_exs x no_exs))
-    no-operands (size {s = x} h) = of-one false (unary Op1.Bar) x (set-lookup cells r h)
+    no-operands (of_items {m = m} {f = w} {es = es} v l) = of-one m (word w) (list_of es) (item-lookup es)
+    no-operands (size {s = x} h q) = of-one false (unary Op1.Bar) x (set-lookup cells r h)
     no-operands (within {a = x} {s = y} f h) = of-two true (binary Op2.Member) x y (seen-lookup cells r f) (set-lookup cells r h)
+    no-operands (set_within {a = x} {s = y} h k) = of-two true (binary Op2.Member) x y (set-lookup cells r h) (set-lookup cells r k)
+    no-operands (compared {o = o} {s = x} {t = y} w h k) = of-two true (binary o) x y (set-lookup cells r h) (set-lookup cells r k)
 
     no-source : {e : Ex} {m : Bool} → Seen cells r e m → ordered_rewrite s g source_by_indices e ≡ None
     no-source number = refl
@@ -137,10 +143,19 @@ module _ (s : Supply) (g : Names Ty) where
     no-order-set (view a b c d) source_by_indices = refl
     no-order-set (drawn h) of_an_item = refl
     no-order-set (drawn h) source_by_indices = refl
+    no-order-set (combined {o = o} {s = x} {t = y} w h k) of_an_item =
+        of-two false (binary o) x y (set-lookup cells r h) (set-lookup cells r k)
+    no-order-set (combined w h k) source_by_indices = refl
 
-    -- At a list of one item.
-    pub no-order-item : {e : Ex} {m : Bool} → Seen cells r e m → (u : OrderedRule) →
-        ordered_rewrite s g u (list_of (more_exs e no_exs)) ≡ None
-    no-order-item {e} f an_item = alone (list_of (more_exs e no_exs)) (item-lookup (more_exs e no_exs))
-    no-order-item {e} f of_an_item = of-one false matrix_literal e (seen-lookup cells r f)
-    no-order-item f source_by_indices = refl
+    -- At a list of items.
+    no-order-first : {es : Exs} {m : Bool} → Listed cells r es m → ordered_rewrite s g of_an_item (list_of es) ≡ None
+    no-order-first (last_item {e = x} f) = of-one false matrix_literal x (seen-lookup cells r f)
+    no-order-first (item_before {e = x} f (last_item {e = y} h)) =
+        of-two false matrix_literal x y (seen-lookup cells r f) (seen-lookup cells r h)
+    no-order-first (item_before {e = x} f (item_before {e = y} {es = es} h l)) =
+        of-more false matrix_literal x y es (seen-lookup cells r f) (seen-lookup cells r h)
+
+    pub no-order-items : {es : Exs} {m : Bool} → Listed cells r es m → (u : OrderedRule) → ordered_rewrite s g u (list_of es) ≡ None
+    no-order-items {es} l an_item = alone (list_of es) (item-lookup es)
+    no-order-items l of_an_item = no-order-first l
+    no-order-items l source_by_indices = refl

@@ -2,15 +2,16 @@
 use Rattle.std.proofs.Common.{◌≡◌, refl, ℕ, Bool, false, Option, None}
 use Rattle.ess_semantics.specs.Values.{Text}
 use Rattle.ess_semantics.specs.Names.{Names}
-use Rattle.ess_semantics.specs.Trees.{Ex, node_ex}
+use Rattle.ess_semantics.specs.Trees.{Ex, Exs, node_ex}
 use Rattle.ess_semantics.specs.Types.{Ty}
 use Rattle.ess_refine_laws.specs.AllRules.{Supply}
 use Rattle.ess_kind_rules_laws.specs.TermLookups.{picks}
 use Rattle.ess_kind_rules_laws.specs.KindRules.{over_picked}
 use Rattle.ess_open_rules_laws.specs.OpenRules.{over_a_pick}
 use Rattle.ess_bare_laws.specs.Bare.{all_hold, some_holds}
+use Rattle.ess_bare_laws.specs.Lean.{of_all, of_some, of_sum}
 use Rattle.ess_bare_laws.proofs.Picks.{PickNothing, no-kind, no-open}
-use Rattle.ess_seen_laws.specs.Seen.{Kind, Bound, Seen, SetTerm, number, truth, named, cell, atom, one, two, power, chosen, folded, added, counted, one_truth, one_number, size, within, view, drawn}
+use Rattle.ess_seen_laws.specs.Seen.{Kind, Bound, Seen, SetTerm, Listed, last_item, item_before, number, truth, named, cell, atom, one, two, power, chosen, folded, added, counted, of_items, size, within, set_within, compared, view, drawn, combined}
 
 -- What stands in a node picks nothing.
 abbrev pub NodePicksNothing : Ex → Type 0
@@ -33,16 +34,24 @@ module _ (cells : Text → Option (Bool × ℕ)) (r : Names Bound) where
   seen-picks (folded some_holds g f) = refl
   seen-picks (added g f) = refl
   seen-picks (counted g) = refl
-  seen-picks (one_truth all_hold f) = refl
-  seen-picks (one_truth some_holds f) = refl
-  seen-picks (one_number f) = refl
-  seen-picks (size h) = refl
+  seen-picks (of_items of_all l) = refl
+  seen-picks (of_items of_some l) = refl
+  seen-picks (of_items of_sum l) = refl
+  seen-picks (size h q) = refl
   seen-picks (within f h) = refl
+  seen-picks (set_within h k) = refl
+  seen-picks (compared o h k) = refl
 
   -- Nor does a set.
   pub set-picks : {e : Ex} {k : Kind} → SetTerm cells r e k → picks e ≡ false
   set-picks (view a b c d) = refl
   set-picks (drawn h) = refl
+  set-picks (combined o h k) = refl
+
+  -- Nor does an item of a list.
+  pub items-pick : {es : Exs} {m : Bool} → Listed cells r es m → PickNothing es
+  items-pick (last_item f) = (seen-picks f, tt)
+  items-pick (item_before f l) = (seen-picks f, items-pick l)
 
   -- So operands of a node of one pick nothing.
   pub operands-pick : {e : Ex} {m : Bool} → Seen cells r e m → NodePicksNothing e
@@ -58,10 +67,17 @@ module _ (cells : Text → Option (Bool × ℕ)) (r : Names Bound) where
   operands-pick (folded w g f) = (refl, tt)
   operands-pick (added g f) = (refl, tt)
   operands-pick (counted g) = (refl, tt)
-  operands-pick (one_truth w f) = (refl, tt)
-  operands-pick (one_number f) = (refl, tt)
-  operands-pick (size h) = (set-picks h, tt)
+  operands-pick (of_items w l) = (refl, tt)
+  operands-pick (size h q) = (set-picks h, tt)
   operands-pick (within f h) = (seen-picks f, (set-picks h, tt))
+  operands-pick (set_within h k) = (set-picks h, (set-picks k, tt))
+  operands-pick (compared o h k) = (set-picks h, (set-picks k, tt))
+
+  -- So do those of a set that is made of two.
+  pub set-operands-pick : {e : Ex} {k : Kind} → SetTerm cells r e k → NodePicksNothing e
+  set-operands-pick (view a b c d) = tt
+  set-operands-pick (drawn h) = tt
+  set-operands-pick (combined o h k) = (set-picks h, (set-picks k, tt))
 
 -- Where operands pick nothing the rule of what is picked doesn't fire that reads kinds.
 pub picks-no-kind : (s : Supply) (g : Names Ty) (e : Ex) → NodePicksNothing e → over_picked s g e ≡ None

@@ -1,40 +1,39 @@
--- Of the rules that read no kind only those that are told fire at the root of a tree over views.
-use Rattle.std.proofs.Common.{◌≡◌, refl, ap, ◌∙◌, ℕ, Bool, true, false, ◌&&◌, if◌then◌else◌, Option, Some, None, option_map}
+-- Of the rules that read no kind only those that are told, and the one that counts members, fire at the root of a tree over views.
+use Rattle.std.proofs.Common.{◌≡◌, refl, ap, ◌∙◌, ◌⊎◌, ℕ, Bool, true, false, ◌&&◌, if◌then◌else◌, Option, Some, None, option_map}
 use Rattle.ess_semantics.specs.declared.words.Op1.{Op1}
 use Rattle.ess_semantics.specs.declared.words.Op2.{Op2}
 use Rattle.ess_semantics.specs.declared.words.Fun.{Fun}
-use Rattle.ess_semantics.specs.Values.{Text}
+use Rattle.ess_semantics.specs.Values.{Text, a_set}
 use Rattle.ess_semantics.specs.Names.{Names}
 use Rattle.ess_semantics.specs.Refined.{is_refined, are_refined_gens}
-use Rattle.ess_semantics.specs.Trees.{name_pat, Ex, number_ex, comp_ex, ex1, ex2, fun1, Gens, over, cond, no_gens}
+use Rattle.ess_semantics.specs.Trees.{name_pat, Ex, Exs, number_ex, comp_ex, ex1, ex2, fun1, Gens, over, cond, no_gens}
 use Rattle.std.specs.Prelude.{pos}
-use Rattle.ess_semantics.specs.Types.{Ty}
+use Rattle.ess_semantics.specs.Types.{Ty, compound1}
 use Rattle.ess_semantics.specs.Typing.{type_of}
 use Rattle.ess_rules_laws.specs.SpliceRules.{append_gens}
+use Rattle.ess_rules_laws.specs.SourceRules.{list_of}
 use Rattle.ess_rules_laws.specs.ComponentRules.{components, equal_where}
 use Rattle.ess_rules_laws.specs.ShortSizeRules.{size_made}
-use Rattle.ess_rules_laws.specs.Progress.{is_parted}
 use Rattle.ess_refine_laws.specs.Everywhere.{everywhere, everywhere_gens}
 use Rattle.ess_refine_laws.specs.ExtremeRules.{is_extreme, are_none, either_number, extreme_condition}
 use Rattle.ess_refine_laws.specs.LeavingConditions.{Parted, at_last_condition}
 use Rattle.ess_refine_laws.specs.MovingConditions.{one_later, condition_later}
-use Rattle.ess_refine_laws.specs.AllRules.{Rule, Supply, rewrite, opposite_copied, over_nothing, not_equal, equal_tuples, equal_records, equal_sets, equal_multisets, equal_functions, equal_partitions, with_nothing, equal_matrices_at, size_of_one_made_of_another, condition_behind, least_under_a_condition}
+use Rattle.ess_refine_laws.specs.AllRules.{Rule, Supply, rewrite, opposite_copied, over_nothing, equal_tuples, equal_records, equal_multisets, equal_functions, equal_partitions, with_nothing, equal_matrices_at, included_multisets, size_of_one_made_of_another, condition_behind, least_under_a_condition}
 use Rattle.ess_open_rules_laws.specs.OpenRules.{is_compound_ty}
 use Rattle.ess_flat_laws.specs.Flat.{denied, negative, absolute, both, either, implied, agreeing, equal, unequal, below, at_most, above, at_least, sum, difference, product}
-use Rattle.ess_flat_laws.proofs.Asked.{unasked, no-sets, no-msets, no-functions, no-partitions, no-components, no-fields, no-matrices, no-parts, no-nothing}
+use Rattle.ess_flat_laws.proofs.Asked.{unasked, no-msets, no-functions, no-partitions, no-components, no-fields, no-matrices, no-nothing}
 use Rattle.ess_bare_laws.specs.Bare.{TruthWord, all_hold, some_holds}
-use Rattle.ess_seen_laws.specs.Seen.{scalars, kind_ty, Bound, bound_types, Seen, number, truth, named, cell, atom, one, two, power, chosen, folded, added, counted, one_truth, one_number, size, within, SetTerm, view, drawn, Going, at_end, through, among, where_holds, Axes, no_axis, along, Counting, members_of, in_use, Kind}
+use Rattle.ess_bare_laws.specs.Lean.{FoldWord, of_all, of_some, of_sum}
+use Rattle.ess_seen_laws.specs.Seen.{scalars, kind_ty, Bound, bound_types, Compares, alike, apart, included, properly_included, including, properly_including, Seen, Listed, last_item, item_before, number, truth, named, cell, atom, one, two, power, chosen, folded, added, counted, of_items, size, within, set_within, compared, SetTerm, view, drawn, combined, Going, at_end, through, among, where_holds, Axes, no_axis, along, Counting, members_of, in_use, Kind}
 use Rattle.ess_seen_laws.specs.Laws.{SeenTreesHaveTypes}
-use Rattle.ess_seen_rules_laws.specs.MayFire.{may_fire}
-use Rattle.ess_seen_rules_laws.proofs.Allowed.{Allowed, allowed-none, allowed-so}
+use Rattle.ess_seen_laws.specs.MayFire.{may_fire, CountsMembers}
+use Rattle.ess_seen_rules_laws.proofs.Allowed.{Allowed, allowed-none, Answer, answer-so}
+use Rattle.ess_seen_rules_laws.proofs.SetTypes.{not-combined, no-set-components, no-set-fields, no-set-msets, no-set-functions, no-set-partitions, no-set-nothing, no-set-matrices, are-sets}
 
 -- Scalars aren't of compound values.
 mark-plain : (m : Bool) → is_compound_ty (Some (kind_ty (scalars m))) ≡ false
 mark-plain true = refl
 mark-plain false = refl
-
-and-no : (a b : Bool) → a ≡ false → a && b ≡ false
-and-no a b p = ap (λ c. c && b) p
 
 -- Conditions move under `min` and `max` alone.
 sum-stays : (e : Ex) (gs : Gens) → Allowed false (condition_later (fun1 false Fun.Sum (comp_ex e gs)))
@@ -68,7 +67,7 @@ module _ (types : SeenTreesHaveTypes) (cells : Text → Option (Bool × ℕ)) (s
   g = bound_types r
 
   abbrev A : Ex → Rule → Type 0
-  A e u = Allowed (may_fire u) (rewrite s g u e)
+  A e u = Answer g u e (rewrite s g u e)
 
   none : (o : Option Ex) → o ≡ None → Allowed false o
   none o q = allowed-none false o q
@@ -102,11 +101,13 @@ module _ (types : SeenTreesHaveTypes) (cells : Text → Option (Bool × ℕ)) (s
   no-size (folded some_holds k f) = refl
   no-size (added k f) = refl
   no-size (counted k) = refl
-  no-size (one_truth all_hold f) = refl
-  no-size (one_truth some_holds f) = refl
-  no-size (one_number f) = refl
-  no-size (size h) = refl
+  no-size (of_items of_all l) = refl
+  no-size (of_items of_some l) = refl
+  no-size (of_items of_sum l) = refl
+  no-size (size h q) = refl
   no-size (within f h) = refl
+  no-size (set_within h k) = refl
+  no-size (compared o h k) = refl
 
   -- At `toInt`.
   at-chosen : {x : Ex} {m : Bool} → F x m → (u : Rule) → A (fun1 false Fun.ToInt x) u
@@ -122,10 +123,11 @@ module _ (types : SeenTreesHaveTypes) (cells : Text → Option (Bool × ℕ)) (s
   at-chosen (folded w k f) over_nothing = tt
   at-chosen (added k f) over_nothing = tt
   at-chosen (counted k) over_nothing = tt
-  at-chosen (one_truth w f) over_nothing = tt
-  at-chosen (one_number f) over_nothing = tt
-  at-chosen (size h) over_nothing = tt
+  at-chosen (of_items w l) over_nothing = tt
+  at-chosen (size h q) over_nothing = tt
   at-chosen (within f h) over_nothing = tt
+  at-chosen (set_within h k) over_nothing = tt
+  at-chosen (compared o h k) over_nothing = tt
   at-chosen f u = tt
 
   -- At a fold of truth values.
@@ -135,13 +137,25 @@ module _ (types : SeenTreesHaveTypes) (cells : Text → Option (Bool × ℕ)) (s
   at-truths e all_hold (through n k) over_nothing = tt
   at-truths e all_hold (among (view a b c d) k) over_nothing = tt
   at-truths e all_hold (among (drawn h) k) over_nothing = tt
+  at-truths e all_hold (among (combined o h l) k) over_nothing = tt
   at-truths e all_hold (where_holds f k) over_nothing = tt
   at-truths e some_holds at_end over_nothing = tt
   at-truths e some_holds (through n k) over_nothing = tt
   at-truths e some_holds (among (view a b c d) k) over_nothing = tt
   at-truths e some_holds (among (drawn h) k) over_nothing = tt
+  at-truths e some_holds (among (combined o h l) k) over_nothing = tt
   at-truths e some_holds (where_holds f k) over_nothing = tt
   at-truths e w k u = tt
+
+  -- Over one item, or over several.
+  at-items : {m : Bool} {w : Fun} {es : Exs} → FoldWord m w → Listed cells r es m → (u : Rule) → A (fun1 m w (list_of es)) u
+  at-items of_all (last_item f) over_nothing = tt
+  at-items of_all (item_before f l) over_nothing = tt
+  at-items of_some (last_item f) over_nothing = tt
+  at-items of_some (item_before f l) over_nothing = tt
+  at-items of_sum (last_item f) over_nothing = tt
+  at-items of_sum (item_before f l) over_nothing = tt
+  at-items w l u = tt
 
   -- At a sum.
   at-numbers : {t : Names Bound} {gs : Gens} (e : Ex) → Axes cells r gs t → (u : Rule) → A (fun1 false Fun.Sum (comp_ex e gs)) u
@@ -153,8 +167,9 @@ module _ (types : SeenTreesHaveTypes) (cells : Text → Option (Bool × ℕ)) (s
   at-numbers e k u = tt
 
   at-counted : {gs : Gens} → Counting cells r gs → (u : Rule) → A (fun1 false Fun.Sum (comp_ex (number_ex (pos 1)) gs)) u
-  at-counted (members_of (view a b c d)) over_nothing = tt
-  at-counted (members_of (drawn h)) over_nothing = tt
+  at-counted (members_of (view a b c d) q) over_nothing = tt
+  at-counted (members_of (drawn h) q) over_nothing = tt
+  at-counted (members_of (combined o h k) q) u = absurd (not-combined q)
   at-counted (in_use n f) over_nothing = tt
   at-counted (in_use {a = a} {d = d} {c = c} n f) condition_behind =
       sum-stays (number_ex (pos 1)) (over (name_pat a) d (cond c no_gens))
@@ -167,12 +182,50 @@ module _ (types : SeenTreesHaveTypes) (cells : Text → Option (Bool × ℕ)) (s
   at-size : {e : Ex} {k : Kind} → SetTerm cells r e k → (u : Rule) → A (ex1 false Op1.Bar e) u
   at-size (view a b c d) over_nothing = tt
   at-size (drawn h) over_nothing = tt
+  at-size (combined o h k) over_nothing = tt
   at-size h u = tt
 
   at-within : {e : Ex} {k : Kind} (x : Ex) → SetTerm cells r e k → (u : Rule) → A (ex2 true Op2.Member x e) u
   at-within x (view a b c d) over_nothing = tt
   at-within x (drawn h) over_nothing = tt
+  at-within x (combined o h k) over_nothing = tt
   at-within x h u = tt
+
+  -- At signs between sets.
+  set-ty : {e : Ex} {k : Kind} → SetTerm cells r e k → type_of e g ≡ Some (compound1 a_set (kind_ty k))
+  set-ty {e} {k} h = types.of_sets cells r e k h
+
+  at-equal : {a b : Ex} {k l : Kind} → SetTerm cells r a k → SetTerm cells r b l → (u : Rule) → A (ex2 true Op2.Eq a b) u
+  at-equal h k over_nothing = tt
+  at-equal {a} {b} h k equal_tuples = none _ (no-set-components (type_of a g) (type_of b g) a b (set-ty h))
+  at-equal {a} {b} h k equal_records = none _ (no-set-fields (type_of a g) (type_of b g) a b (set-ty h))
+  at-equal {a} {b} h k equal_multisets = none _ (unasked _ (no-set-msets (type_of a g) (type_of b g) (set-ty h)))
+  at-equal {a} {b} h k equal_functions = none _ (unasked _ (no-set-functions (type_of a g) (type_of b g) (set-ty h)))
+  at-equal {a} {b} h k equal_partitions = none _ (unasked _ (no-set-partitions (type_of a g) (type_of b g) (set-ty h)))
+  at-equal {a} {b} h k with_nothing = none _ (no-set-nothing g s.one a b (set-ty h) (set-ty k))
+  at-equal {a} {b} h k equal_matrices_at = none _ (no-set-matrices (type_of a g) (type_of b g) _ (set-ty h))
+  at-equal h k u = tt
+
+  at-inclusion : {a b : Ex} {k l : Kind} → SetTerm cells r a k → SetTerm cells r b l → (u : Rule) → A (ex2 true Op2.SubsetEq a b) u
+  at-inclusion h k over_nothing = tt
+  at-inclusion {a} {b} h k included_multisets = record {
+    counts = refl;
+    first = a;
+    second = b;
+    root = refl;
+    sets = are-sets (type_of a g) (type_of b g) (set-ty h) (set-ty k);
+  }
+  at-inclusion h k u = tt
+
+  at-compared : {o : Op2} {a b : Ex} {k l : Kind} → Compares o → SetTerm cells r a k → SetTerm cells r b l → (u : Rule) →
+      A (ex2 true o a b) u
+  at-compared alike h k u = at-equal h k u
+  at-compared included h k u = at-inclusion h k u
+  at-compared apart h k over_nothing = tt
+  at-compared properly_included h k over_nothing = tt
+  at-compared including h k over_nothing = tt
+  at-compared properly_including h k over_nothing = tt
+  at-compared w h k u = tt
 
   -- No operand is of compound values.
   plain : {e : Ex} {m : Bool} → F e m → is_compound_ty (type_of e g) ≡ false
@@ -197,15 +250,12 @@ module _ (types : SeenTreesHaveTypes) (cells : Text → Option (Bool × ℕ)) (s
   few (two {x = x} {y = y} equal f h) equal_tuples = none _
       (ap (λ o. equal_where o (components (type_of y g)) x y) (no-components (type_of x g) (plain f)))
   few (two {x = x} {y = y} equal f h) equal_records = none _ (no-fields (type_of x g) (type_of y g) x y (plain f))
-  few (two {x = x} {y = y} equal f h) equal_sets = none _ (unasked _ (no-sets (type_of x g) (type_of y g) (plain f)))
   few (two {x = x} {y = y} equal f h) equal_multisets = none _ (unasked _ (no-msets (type_of x g) (type_of y g) (plain f)))
   few (two {x = x} {y = y} equal f h) equal_functions = none _ (unasked _ (no-functions (type_of x g) (type_of y g) (plain f)))
   few (two {x = x} {y = y} equal f h) equal_partitions = none _ (unasked _ (no-partitions (type_of x g) (type_of y g) (plain f)))
   few (two {x = x} {y = y} equal f h) with_nothing = none _ (no-nothing g s.one x y (plain f) (plain h))
   few (two {x = x} {y = y} equal f h) equal_matrices_at = none _ (no-matrices (type_of x g) (type_of y g) _ (plain f))
   few (two unequal f h) over_nothing = tt
-  few (two {x = x} {y = y} unequal f h) not_equal = none _
-      (unasked _ (and-no (is_parted (type_of x g)) (is_parted (type_of y g)) (no-parts (type_of x g) (plain f))))
   few (two below f h) over_nothing = tt
   few (two at_most f h) over_nothing = tt
   few (two above f h) over_nothing = tt
@@ -218,13 +268,13 @@ module _ (types : SeenTreesHaveTypes) (cells : Text → Option (Bool × ℕ)) (s
   few (folded {e = e} w k f) u = at-truths e w k u
   few (added {e = e} k f) u = at-numbers e k u
   few (counted k) u = at-counted k u
-  few (one_truth all_hold f) over_nothing = tt
-  few (one_truth some_holds f) over_nothing = tt
-  few (one_number f) over_nothing = tt
-  few (size h) u = at-size h u
+  few (of_items w l) u = at-items w l u
+  few (size h q) u = at-size h u
   few (within {a = a} f h) u = at-within a h u
+  few (set_within {a = a} h k) u = at-within a k u
+  few (compared w h k) u = at-compared w h k u
   few f u = tt
 
-  -- So a rule that fires is one that may.
-  pub fires : (u : Rule) (e f : Ex) (m : Bool) → F e m → rewrite s g u e ≡ Some f → may_fire u ≡ true
-  fires u e f m h q = allowed-so (may_fire u) (rewrite s g u e) f (few h u) q
+  -- So a rule that fires is one that may, or counts members of sets.
+  pub fires : (u : Rule) (e f : Ex) (m : Bool) → F e m → rewrite s g u e ≡ Some f → (may_fire u ≡ true) ⊎ CountsMembers g u e
+  fires u e f m h q = answer-so g u e f (rewrite s g u e) (few h u) q

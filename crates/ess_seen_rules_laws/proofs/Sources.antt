@@ -1,10 +1,10 @@
 -- The first source of generators of a tree over views is a set: it isn't made of another container, no matrix, and nothing is picked.
-use Rattle.std.proofs.Common.{◌≡◌, refl, ap, ℕ, Bool, List, Option, Some, None, option_map}
+use Rattle.std.proofs.Common.{◌≡◌, refl, ap, ℕ, Bool, false, List, Option, Some, None, option_map}
 use Rattle.ess_semantics.specs.declared.words.ReprKind.{ReprKind}
 use Rattle.ess_semantics.specs.Lists.{and_then, or_else}
 use Rattle.ess_semantics.specs.Values.{Text}
 use Rattle.ess_semantics.specs.Names.{Names}
-use Rattle.ess_semantics.specs.Trees.{Mark, Repr, repr, no_reprs, more_reprs, name_pat, Ex, Exs, name_ex, comp_ex, seen_ex, Gens, over, from, cond, Dom, set_dom}
+use Rattle.ess_semantics.specs.Trees.{Mark, Repr, repr, no_reprs, more_reprs, name_pat, Ex, Exs, name_ex, comp_ex, seen_ex, Gens, over, from, cond, Dom, set_dom, ex2}
 use Rattle.ess_semantics.specs.Types.{Ty}
 use Rattle.ess_rules_laws.specs.ListedSources.{source_in_order}
 use Rattle.ess_refine_laws.specs.AllRules.{Supply}
@@ -12,12 +12,13 @@ use Rattle.ess_kind_rules_laws.specs.ViewListings.{matrix_listing}
 use Rattle.ess_open_rules_laws.specs.OpenGenerators.{Opened, with_first, at_first_open}
 use Rattle.ess_open_rules_laws.specs.OpenSources.{loose_source, kept_in_order}
 use Rattle.ess_ordered_laws.specs.IndexedSources.{indexed_source}
-use Rattle.ess_seen_laws.specs.Seen.{Kind, Bound, SetTerm, view, drawn, Going, at_end, through, among, where_holds, Axes, no_axis, along, truths, numbers}
+use Rattle.ess_seen_laws.specs.Seen.{Kind, Bound, SetTerm, view, drawn, combined, Going, at_end, through, among, where_holds, truths, numbers}
 
--- A name, or a view over a domain of sets.
+-- A name, a view over a domain of sets, or what is made of two terms.
 abbrev pub IsSetForm : Ex → Type 0
 IsSetForm (name_ex a) = Unit {0}
 IsSetForm (seen_ex p (set_dom ms es d) ns js) = Unit {0}
+IsSetForm (ex2 false o a b) = Unit {0}
 IsSetForm e = ⊥
 
 -- The first generator binds a name over such a source.
@@ -39,6 +40,7 @@ module _ (cells : Text → Option (Bool × ℕ)) where
   pub set-form : {r : Names Bound} {e : Ex} {k : Kind} → SetTerm cells r e k → IsSetForm e
   set-form (view a b c d) = tt
   set-form (drawn h) = tt
+  set-form (combined o h k) = tt
 
   -- So generators of a tree over views are opened at a set.
   pub opens-at-set : {r t : Names Bound} {gs : Gens} → Going cells r gs t → OpensAtSet (at_first_open gs)
@@ -48,12 +50,6 @@ module _ (cells : Text → Option (Bool × ℕ)) where
       opens-behind (over (name_pat a) d) (at_first_open gs) (opens-at-set k)
   opens-at-set (among h k) = set-form h
   opens-at-set (where_holds {c = c} {gs = gs} f k) = opens-behind (cond c) (at_first_open gs) (opens-at-set k)
-
-  -- Axes aren't opened.
-  pub axes-unopened : {r t : Names Bound} {gs : Gens} → Axes cells r gs t → at_first_open gs ≡ None
-  axes-unopened no_axis = refl
-  axes-unopened (along {a = a} {d = d} truths k) = ap (option_map (with_first (over (name_pat a) d))) (axes-unopened k)
-  axes-unopened (along {a = a} {d = d} (numbers b es) k) = ap (option_map (with_first (over (name_pat a) d))) (axes-unopened k)
 
 -- ---- what such a source doesn't offer
 
@@ -69,6 +65,7 @@ no-matrix-listing x p ms es d ns js = refl
 pub not-loose : (gs : Gens) → IsSource gs → loose_source gs ≡ None
 not-loose (from (name_pat y) (name_ex a) hs) h = refl
 not-loose (from (name_pat y) (seen_ex p d ns js) hs) h = refl
+not-loose (from (name_pat y) (ex2 false o a b) hs) h = refl
 not-loose (from (name_pat y) t hs) h = absurd h
 not-loose gs h = absurd h
 
@@ -79,6 +76,7 @@ module _ (s : Supply) (g : Names Ty) (e : Ex) where
   not-kept (from (name_pat y) (seen_ex p (set_dom ms es d) ns js) hs) h =
       ap (λ o. and_then (or_else o None) (λ a. source_in_order a (comp_ex e (from (name_pat y) (seen_ex p (set_dom ms es d) ns js) hs))))
       (no-matrix-listing s.one p ms es d ns js)
+  not-kept (from (name_pat y) (ex2 false o a b) hs) h = refl
   not-kept (from (name_pat y) t hs) h = absurd h
   not-kept gs h = absurd h
 
@@ -86,5 +84,6 @@ module _ (s : Supply) (g : Names Ty) (e : Ex) where
   pub not-indexed : (gs : Gens) → IsSource gs → indexed_source g s.one (comp_ex e gs) ≡ None
   not-indexed (from (name_pat y) (name_ex a) hs) h = refl
   not-indexed (from (name_pat y) (seen_ex p d ns js) hs) h = refl
+  not-indexed (from (name_pat y) (ex2 false o a b) hs) h = refl
   not-indexed (from (name_pat y) t hs) h = absurd h
   not-indexed gs h = absurd h

@@ -1,5 +1,5 @@
--- The laws of rules in trees over views of sets, each stated at a function that does nothing.
-use Rattle.std.specs.Prelude.{◌≡◌, ℕ, Bool, true, Option, Some, None}
+-- The law of rules that fire in trees over views of sets, stated at a function that does nothing.
+use Rattle.std.specs.Prelude.{◌≡◌, ◌⊎◌, ℕ, Bool, true, Option, Some, None}
 use Rattle.ess_semantics.specs.Values.{Text}
 use Rattle.ess_semantics.specs.Names.{Names}
 use Rattle.ess_semantics.specs.Trees.{Ex}
@@ -10,8 +10,7 @@ use Rattle.ess_open_rules_laws.specs.OpenRules.{KindRuling, kind_ruled}
 use Rattle.ess_ordered_laws.specs.OrderedRules.{OrderedRule, ordered_rewrite}
 use Rattle.ess_seen_laws.specs.Seen.{Kind, Bound, bound_types, Seen, SetTerm}
 use Rattle.ess_seen_laws.specs.SeenParts.{Items, IsIndex}
-use Rattle.ess_seen_rules_laws.specs.MayFire.{may_fire, may_fire_by_kind}
-use Rattle.ess_seen_rules_laws.specs.Apart.{Apart}
+use Rattle.ess_seen_laws.specs.MayFire.{may_fire, may_fire_by_kind, CountsMembers}
 
 -- No rule fires at the root, whatever it takes and whatever the types of names are.
 pub record NoneFires (e : Ex) : Type 0 where
@@ -20,11 +19,11 @@ pub record NoneFires (e : Ex) : Type 0 where
   pub gathering : conditions_gathered e ≡ None
   pub in_order : (s : Supply) (g : Names Ty) (u : OrderedRule) → ordered_rewrite s g u e ≡ None
 
--- At the root of a tree over views only the rules fire that are told, whatever they take: none gathers conditions or asks for an order.
--- None at all fires at a set, at a list, or at an index of a view.
+-- At the root of a tree over views only the rules fire that are told, whatever they take, and the one that counts members of sets, which
+-- isn't used there: none gathers conditions or asks for an order. None at all fires at a set, at a list, or at an index of a view.
 pub record FewRulesFire : Type 0 where
   pub plainly : (cells : Text → Option (Bool × ℕ)) (s : Supply) (r : Names Bound) (u : Rule) (e f : Ex) (m : Bool) → Seen cells r e m →
-      rewrite s (bound_types r) u e ≡ Some f → may_fire u ≡ true
+      rewrite s (bound_types r) u e ≡ Some f → (may_fire u ≡ true) ⊎ CountsMembers (bound_types r) u e
   pub by_kind : (cells : Text → Option (Bool × ℕ)) (s : Supply) (r : Names Bound) (u : KindRuling) (e f : Ex) (m : Bool) →
       Seen cells r e m → kind_ruled s (bound_types r) u e ≡ Some f → may_fire_by_kind u ≡ true
   pub gathering : (cells : Text → Option (Bool × ℕ)) (r : Names Bound) (e : Ex) (m : Bool) → Seen cells r e m →
@@ -34,10 +33,3 @@ pub record FewRulesFire : Type 0 where
   pub at_a_set : (cells : Text → Option (Bool × ℕ)) (r : Names Bound) (e : Ex) (k : Kind) → SetTerm cells r e k → NoneFires e
   pub at_a_list : (cells : Text → Option (Bool × ℕ)) (r : Names Bound) (e : Ex) (m : Bool) → Items cells r e m → NoneFires e
   pub at_an_index : (r : Names Bound) (e : Ex) → IsIndex r e → NoneFires e
-
--- What a rule makes of a tree over views is one with the same mark, where names are told apart and the rule takes a new one.
-pub record StaysSeen : Type 0 where
-  pub plainly : (cells : Text → Option (Bool × ℕ)) (s : Supply) (r : Names Bound) (u : Rule) (e f : Ex) (m : Bool) → Seen cells r e m →
-      Apart s.one r e → rewrite s (bound_types r) u e ≡ Some f → Seen cells r f m
-  pub by_kind : (cells : Text → Option (Bool × ℕ)) (s : Supply) (r : Names Bound) (u : KindRuling) (e f : Ex) (m : Bool) →
-      Seen cells r e m → Apart s.one r e → kind_ruled s (bound_types r) u e ≡ Some f → Seen cells r f m

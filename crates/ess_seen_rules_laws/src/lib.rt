@@ -1,4 +1,4 @@
-//! Rules of rewriting in trees over views of sets: which fire, and that each leaves such a tree.
+//! Rules of rewriting in trees over views of sets: only a few fire.
 #![tactic(auto)]
 
 pub mod laws;

@@ -23,7 +23,7 @@ use Rattle.ess_values_terms_laws.proofs.ValuedForms.{there, node-valued, word-va
 use Rattle.ess_values_sources_laws.proofs.CollectedLists.{some-list, list-some}
 use Rattle.ess_values_sources_laws.proofs.PutValues.{fold-valued, inner}
 use Rattle.ess_values_bindings_laws.proofs.BindingsKeepValues.{bindings-keep-values}
-use Rattle.ess_seen_laws.specs.Seen.{Bound, over_a_range, bound_types, Seen, number, truth, chosen, folded, added, counted, Axes, no_axis, along, members_of, in_use, Range}
+use Rattle.ess_seen_laws.specs.Seen.{Bound, over_a_range, bound_types, Seen, chosen, folded, added, counted, Axes, no_axis, along, members_of, in_use, Range}
 use Rattle.ess_seen_values_laws.specs.Laws.{IsMet, StaysAlike}
 use Rattle.ess_seen_values_laws.proofs.Tails.{Tail, tails-valued}
 use Rattle.ess_seen_values_laws.proofs.Contexts.{at-bindings}
@@ -160,7 +160,7 @@ module _ (cells : Text → Option (Bool × ℕ)) where
       }
   condition-keeps s (fun1 k x (comp_ex e gs)) f (added g h) env i w v q =
       none-fires (condition_leaves (fun1 false Fun.Sum (comp_ex e gs))) (no-leaving false Fun.Sum e gs (axes-uncut g)) q
-  condition-keeps s (fun1 k x (comp_ex e gs)) f (counted (members_of t)) env i w v q = cc
+  condition-keeps s (fun1 k x (comp_ex e gs)) f (counted (members_of t n)) env i w v q = cc
   condition-keeps s (fun1 k x (comp_ex e gs)) f (counted (in_use {a = a} {d = d} {c = c} g h)) env i w v q =
       count-leaves a d c g h env w i v f q
   condition-keeps s (fun1 k x (comp_ex e gs)) f (chosen g) env i w v q = elim g [ ]

@@ -1,15 +1,13 @@
 -- Generators of trees over views bind names of the types that their bounds tell, where tables meet the structures.
-use Rattle.std.proofs.Common.{◌≡◌, refl, sym, ap, subst, ℕ, Bool, true, false, if◌then◌else◌, List, [], ◌∷◌, Option, Some, None}
+use Rattle.std.proofs.Common.{◌≡◌, refl, sym, subst, ℕ, Bool, true, false, if◌then◌else◌, List, [], ◌∷◌, Option, Some, None}
 use Rattle.std.specs.Prelude.{IsTrue, is_some}
 use Rattle.std.specs.List.{list_all}
-use Rattle.ess_semantics.specs.Lists.{and_then}
 use Rattle.ess_semantics.specs.Values.{Text, Value, to_list, itself}
 use Rattle.ess_semantics.specs.Order.{same_text}
 use Rattle.ess_semantics.specs.Collections.{rises}
 use Rattle.ess_semantics.specs.Names.{Names, look}
-use Rattle.ess_semantics.specs.Trees.{Mark, Pat, name_pat, Ex, Exs, number_ex, truth_ex, name_ex, node_ex, matrix_ex, comp_ex, cell_ex, seen_ex, no_exs, more_exs, Gens, no_gens, over, from, cond, Dom, bool_dom, int_dom, set_dom}
-use Rattle.ess_semantics.specs.Types.{Ty, type_of_dom, bind_types, or_any}
-use Rattle.ess_semantics.specs.OperatorTypes.{member_ty}
+use Rattle.ess_semantics.specs.Trees.{Pat, name_pat, Ex, Exs, number_ex, truth_ex, name_ex, node_ex, matrix_ex, comp_ex, cell_ex, seen_ex, no_exs, more_exs, Gens, no_gens, over, from, cond, Dom, bool_dom, int_dom}
+use Rattle.ess_semantics.specs.Types.{Ty, type_of_dom, bind_types}
 use Rattle.ess_semantics.specs.Typing.{source_ty}
 use Rattle.ess_semantics.specs.Typed.{Typed}
 use Rattle.ess_semantics.specs.TypeMembers.{is_of, is_of_type}
@@ -19,9 +17,9 @@ use Rattle.ess_semantics.specs.Meets.{Meets}
 use Rattle.ess_semantics.specs.Contexts.{Each, EachIn}
 use Rattle.ess_semantics.proofs.Tests.{and-left, and-right}
 use Rattle.ess_types_laws.proofs.SoundEnvs.{over-typed}
-use Rattle.ess_nested_laws.proofs.NestedForms.{NestedSet, of_atoms, of_sets, nested-form}
-use Rattle.ess_seen_laws.specs.Seen.{Kind, sets_of, kind_of, kind_ty, Bound, from_a_set, bound_types, SetTerm, view, drawn, Seen, number, truth, named, cell, atom, one, two, power, chosen, folded, added, counted, one_truth, one_number, size, within, Indices, no_index, one_index, Going, at_end, through, among, where_holds, Axes, no_axis, along, members_of, in_use, truths, numbers, Bounds, no_bound, one_bound}
-use Rattle.ess_seen_values_laws.proofs.Marks.{atom-kind, nested-kind, look-bound, IsSet, set-value}
+use Rattle.ess_seen_laws.specs.Seen.{Kind, kind_ty, Bound, bound_types, SetTerm, view, drawn, combined, Seen, number, truth, named, cell, atom, one, two, power, chosen, folded, added, counted, of_items, size, within, set_within, compared, Listed, last_item, item_before, Indices, no_index, one_index, Going, at_end, through, among, where_holds, Axes, no_axis, along, members_of, in_use, truths, numbers, Bounds, no_bound, one_bound}
+use Rattle.ess_seen_laws.proofs.Types.{source-said}
+use Rattle.ess_seen_values_laws.proofs.Marks.{IsSet, set-value}
 
 -- ---- one more name
 
@@ -39,10 +37,6 @@ typed-more g env a t v f h b u w q r = go (same_text a b) q r
 
 -- ---- members of sets
 
-inner-kind : {d : Dom} (ms : List Mark) (es : Exs) → NestedSet (set_dom ms es d) → kind_ty (kind_of d) ≡ type_of_dom d
-inner-kind ms es (of_atoms s a) = atom-kind a
-inner-kind ms es (of_sets s n) = nested-kind n
-
 each-member : (xs : List Value) (P : Value → Bool) (Q : Value → Type 0) → ((v : Value) → P v ≡ true → Q v) → list_all P xs ≡ true →
     Each xs Q
 each-member [] P Q f h = tt
@@ -51,10 +45,6 @@ each-member (x ∷ xs) P Q f h =
 
 module _ (cells : Text → Option (Bool × ℕ)) where
   -- What is drawn from a set has the type of its kind.
-  pub source-kind : {r : Names Bound} {e : Ex} {k : Kind} → SetTerm cells r e k → source_ty e (bound_types r) ≡ kind_ty k
-  source-kind (view {ms = ms} {es = es} {d = d} n f q p) = sym (inner-kind ms es (nested-form 250 (set_dom ms es d) n))
-  source-kind {r = r} (drawn {a = a} {k = k} q) = ap (λ o. or_any (and_then o member_ty)) (look-bound r a (from_a_set (sets_of k)) q)
-
   pub drawn-typed : {r : Names Bound} {e : Ex} {k : Kind} → SetTerm cells r e k → (a : Text) (env : Env) → Typed (bound_types r) env →
       Meets e env → EachIn (meaning e env) (λ v. Typed ((a, kind_ty k) ∷ bound_types r) (with_pat (name_pat a) v env))
   drawn-typed {r} {e} {k} f a env t m = go (meaning e env) refl
@@ -114,15 +104,16 @@ module _ (cells : Text → Option (Bool × ℕ)) where
   set-drawn : {r : Names Bound} {e : Ex} {k : Kind} → SetTerm cells r e k → Drawn (bound_types r) e
   set-drawn (view n f q p) = tt
   set-drawn (drawn q) = tt
+  set-drawn (combined c s t) = (set-drawn s, (set-drawn t, tt))
 
   among-drawn : {r : Names Bound} {e : Ex} {k : Kind} (a : Text) (gs : Gens) (K : Names Ty → Type 0) → SetTerm cells r e k →
       DrawnGens ((a, kind_ty k) ∷ bound_types r) gs K → DrawnGens (bound_types r) (from (name_pat a) e gs) K
   among-drawn {r} {e} {k} a gs K t h = (
     subst (λ z. (env : Env) → Typed (bound_types r) env → Meets e env →
-        EachIn (meaning e env) (λ v. Typed ((a, z) ∷ bound_types r) (with_pat (name_pat a) v env))) (sym (source-kind cells t))
+        EachIn (meaning e env) (λ v. Typed ((a, z) ∷ bound_types r) (with_pat (name_pat a) v env))) (sym (source-said cells t))
         (λ env. drawn-typed cells t a env),
     set-drawn t,
-    subst (λ z. DrawnGens ((a, z) ∷ bound_types r) gs K) (sym (source-kind cells t)) h,
+    subst (λ z. DrawnGens ((a, z) ∷ bound_types r) gs K) (sym (source-said cells t)) h,
   )
 
   mutual
@@ -139,15 +130,20 @@ module _ (cells : Text → Option (Bool × ℕ)) where
     seen-drawn (chosen g) = (seen-drawn g, tt)
     seen-drawn (folded {e = e} v g f) = (going-drawn g e (seen-drawn f), tt)
     seen-drawn (added {e = e} g f) = (axes-drawn g e (seen-drawn f), tt)
-    seen-drawn (counted (members_of {a = a} t)) = (among-drawn a no_gens (λ h. Unit {0}) t tt, tt)
+    seen-drawn (counted (members_of {a = a} t q)) = (among-drawn a no_gens (λ h. Unit {0}) t tt, tt)
     seen-drawn {r = r} (counted (in_use {a = a} truths c)) =
         ((over-typed (bound_types r) (name_pat a) bool_dom refl, tt, (seen-drawn c, tt)), tt)
     seen-drawn {r = r} (counted (in_use {a = a} {d = d} (numbers q b) c)) =
         ((over-typed (bound_types r) (name_pat a) d refl, bounds-drawn b, (seen-drawn c, tt)), tt)
-    seen-drawn (one_truth v f) = ((seen-drawn f, tt), tt)
-    seen-drawn (one_number f) = ((seen-drawn f, tt), tt)
-    seen-drawn (size t) = (set-drawn t, tt)
+    seen-drawn (of_items v l) = (listed-drawn l, tt)
+    seen-drawn (size t q) = (set-drawn t, tt)
     seen-drawn (within f t) = (seen-drawn f, (set-drawn t, tt))
+    seen-drawn (set_within s t) = (set-drawn s, (set-drawn t, tt))
+    seen-drawn (compared c s t) = (set-drawn s, (set-drawn t, tt))
+
+    listed-drawn : {r : Names Bound} {es : Exs} {m : Bool} → Listed cells r es m → DrawnExs (bound_types r) es
+    listed-drawn (last_item f) = (seen-drawn f, tt)
+    listed-drawn (item_before f l) = (seen-drawn f, listed-drawn l)
 
     indices-drawn : {r : Names Bound} {es : Exs} {k : ℕ} → Indices cells r es k → DrawnExs (bound_types r) es
     indices-drawn no_index = tt

@@ -6,7 +6,7 @@ use Rattle.ess_semantics.specs.declared.words.Op1.{Op1}
 use Rattle.ess_semantics.specs.declared.words.Fun.{Fun}
 use Rattle.ess_semantics.specs.declared.words.ReprKind.{ReprKind}
 use Rattle.ess_semantics.specs.Lists.{and_then}
-use Rattle.ess_semantics.specs.Values.{Text, item}
+use Rattle.ess_semantics.specs.Values.{Text}
 use Rattle.ess_semantics.specs.Order.{same_text}
 use Rattle.ess_semantics.specs.Names.{Names}
 use Rattle.ess_semantics.specs.Trees.{name_pat, Mark, Repr, Reprs, repr, no_reprs, more_reprs, Ex, Exs, comp_ex, seen_ex, ex1, fun1, no_exs, more_exs, Gens, from, Dom, name_dom, set_dom}
@@ -39,7 +39,9 @@ use Rattle.ess_seen_values_laws.specs.Laws.{IsMet, StaysAlike}
 use Rattle.ess_seen_values_laws.proofs.Names.{put}
 use Rattle.ess_seen_values_laws.proofs.SetViews.{judged, inner-denoted}
 use Rattle.ess_seen_values_laws.proofs.SetSources.{set-asked, set-listed, set-under}
-use Rattle.ess_seen_values_laws.proofs.SourceRules.{of-some, ListApart, source-apart}
+use Rattle.ess_seen_values_laws.proofs.ListsApart.{ListApart}
+use Rattle.ess_seen_values_laws.proofs.SourceOffers.{source-apart}
+use Rattle.ess_seen_values_laws.proofs.SourceRules.{of-some}
 
 -- ---- words of comprehensions
 
@@ -62,7 +64,7 @@ module _ (cells : Text → Option (Bool × ℕ)) where
   list-root (folded all_hold g h) = record { behind = _; mark = true; going = g; seen = h; marked = refl }
   list-root (folded some_holds g h) = record { behind = _; mark = true; going = g; seen = h; marked = refl }
   list-root (added g h) = record { behind = _; mark = false; going = axes-going g; seen = h; marked = refl }
-  list-root (counted (members_of t)) = record { behind = _; mark = false; going = among t at_end; seen = number; marked = refl }
+  list-root (counted (members_of t n)) = record { behind = _; mark = false; going = among t at_end; seen = number; marked = refl }
   list-root (counted (in_use g c)) =
       record { behind = _; mark = false; going = through g (where_holds c at_end); seen = number; marked = refl }
   list-root (chosen g) = elim g [ ]
@@ -131,7 +133,7 @@ module _ (cells : Text → Option (Bool × ℕ)) where
         record { means = k.0; met = k.1; valued = alone-valued f k.0 (view_listing s.one s.other s.parts t) refl q }
 
   -- The first generator of such a fold is one over a set.
-  first-set : {r b : Names Bound} {y : Text} {t : Ex} {hs : Gens} → Going cells r (from (name_pat y) t hs) b →
+  pub first-set : {r b : Names Bound} {y : Text} {t : Ex} {hs : Gens} → Going cells r (from (name_pat y) t hs) b →
       (k : Kind) × SetTerm cells r t k × Going cells ((y, from_a_set k) ∷ r) hs b
   first-set (among {k = k} t g) = (k, t, g)
 
@@ -179,7 +181,7 @@ module _ (cells : Text → Option (Bool × ℕ)) where
   sized-set : {r : Names Bound} {k : Bool} {p : Reprs} {d : Dom} {ns : List Text} {js : Exs} →
       Seen cells r (ex1 false Op1.Bar (seen_ex (repr ReprKind.Explicit p) d ns js)) k →
       (j : Kind) × SetTerm cells r (seen_ex (repr ReprKind.Explicit p) d ns js) j
-  sized-set (size {k = j} t) = (j, t)
+  sized-set (size {k = j} t n) = (j, t)
   sized-set (one w g) = absurd (no-scalar g)
 
   module _ (env : Env) (p : Repr) (ms : List Mark) (es : Exs) (d : Dom) (ns : List Text) (js : Exs) where

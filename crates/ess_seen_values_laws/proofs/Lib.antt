@@ -1,3 +1,5 @@
+-- Values of sets
+pub mod SetValues
 -- Marks and sets
 pub mod Marks
 -- Views of sets
@@ -8,6 +10,8 @@ pub mod Tails
 pub mod SizeNames
 -- Names that are bound
 pub mod Names
+-- Names of comprehensions
+pub mod ListsApart
 -- Types of names that generators bind
 pub mod DrawnNames
 -- Contexts of parts
@@ -16,21 +20,29 @@ pub mod Contexts
 pub mod OpenedGens
 -- Sets as sources
 pub mod SetSources
+-- Sets that are made of two as sources
+pub mod CombinedSources
+-- What sources offer
+pub mod SourceOffers
 -- Rules of sources
 pub mod SourceRules
 -- Rules of views
 pub mod KindRules
+-- Each rule of sources
+pub mod SourcesKept
 -- Memberships
 pub mod MemberRules
 -- Rules that read no kind
 pub mod PlainRules
+-- Signs between sets
+pub mod SetSigns
 -- Conditions
 pub mod ConditionRules
--- Each of them
+-- Each rule that reads no kind
 pub mod PlainKept
 -- Scopes of parts
 pub mod ScopesAt
 -- All of it
 pub mod SeenRulesKeep
 -- Worked examples
-mod ExamplesFires
+mod ExamplesSigns

@@ -5,12 +5,12 @@ use Rattle.ess_semantics.specs.declared.words.Op1.{Op1}
 use Rattle.ess_semantics.specs.declared.words.Op2.{Op2}
 use Rattle.ess_semantics.specs.declared.words.Fun.{Fun}
 use Rattle.ess_semantics.specs.declared.words.ReprKind.{ReprKind}
-use Rattle.ess_semantics.specs.Values.{Text, a_set, Value, number as number_value, truth as truth_value, item, node, Values}
+use Rattle.ess_semantics.specs.Values.{Text, a_set, Value, number as number_value, truth as truth_value, item, node}
 use Rattle.ess_semantics.specs.Order.{same_text}
 use Rattle.ess_semantics.specs.Names.{Names, look}
 use Rattle.ess_semantics.specs.Numbers.{power_of}
 use Rattle.ess_semantics.specs.Operators.{value_of_node, number_in}
-use Rattle.ess_semantics.specs.Trees.{unary, binary, word, repr, no_reprs, Mark, Ex, Exs, number_ex, comp_ex, seen_ex, no_exs, more_exs, Dom, set_dom}
+use Rattle.ess_semantics.specs.Trees.{unary, binary, word, repr, no_reprs, Mark, Ex, Exs, number_ex, comp_ex, seen_ex, Dom, set_dom}
 use Rattle.ess_semantics.specs.Types.{compound1, type_of_dom}
 use Rattle.ess_semantics.specs.Tables.{Table, cell_at}
 use Rattle.ess_semantics.specs.Typed.{Typed}
@@ -26,8 +26,11 @@ use Rattle.ess_nested_laws.specs.NestedDomains.{is_nested_dom, is_written_atom}
 use Rattle.ess_nested_laws.proofs.NestedForms.{atom-form, WrittenAtom, written_truths, written_numbers, NestedSet, of_atoms, of_sets, nested-form}
 use Rattle.ess_flat_laws.specs.Flat.{denied, negative, absolute, both, either, implied, agreeing, equal, unequal, below, at_most, above, at_least, sum, difference, product}
 use Rattle.ess_bare_laws.specs.Bare.{all_hold, some_holds}
+use Rattle.ess_bare_laws.specs.Lean.{of_all, of_some, of_sum}
 use Rattle.ess_bare_laws.proofs.Scalars.{HasMark}
-use Rattle.ess_seen_laws.specs.Seen.{Kind, scalars, sets_of, kind_of, kind_ty, Bound, bound_kind, bound_types, as_an_atom, SetTerm, view, drawn, Seen, number, truth, named, cell, atom, one, two, power, chosen, folded, added, counted, one_truth, one_number, size, within}
+use Rattle.ess_seen_laws.specs.Seen.{Kind, scalars, sets_of, kind_of, kind_ty, Bound, bound_kind, bound_types, as_an_atom, united, shared, lessened, SetTerm, view, drawn, combined, Seen, number, truth, named, cell, atom, one, two, power, chosen, folded, added, counted, of_items, size, within, set_within, compared}
+pub use Rattle.ess_seen_values_laws.proofs.SetValues.{IsSet}
+use Rattle.ess_seen_values_laws.proofs.SetValues.{a-set, there, at-union, at-intersection, at-difference}
 
 -- ---- marks of values
 
@@ -132,27 +135,10 @@ look-bound (c ∷ r) a b h = go (same_text c.0 a) h (look-bound r a b)
     go true q f = let e : c.1 ≡ b = cc in ap (λ z. Some (kind_ty (bound_kind z))) e
     go false q f = f q
 
--- ---- sets
-
--- The value of a set term: a set, of the type of its kind.
-pub record IsSet (k : Kind) (o : Option Value) (env : Env) : Type 0 where
-  pub members : Values
-  pub is_value : o ≡ Some (node a_set members)
-  pub typed : IsTrue (is_of_type (kind_ty (sets_of k)) env (node a_set members))
-
-a-set : (k : Kind) (env : Env) (o : Option Value) (v : Value) → o ≡ Some v → IsTrue (is_of_type (kind_ty (sets_of k)) env v) → IsSet k o env
-a-set k env o (node a_set vs) q h = record { members = vs; is_value = q; typed = h }
-a-set k env o (number_value n) q h = cc
-a-set k env o (truth_value n) q h = cc
-a-set k env o (item a n) q h = cc
-a-set k env o (node j vs) q h = cc
-
-there : (o : Option Value) → IsTrue (is_some o) → (v : Value) × (o ≡ Some v)
-there None h = cc
-there (Some v) h = (v, refl)
-
 module _ (cells : Text → Option (Bool × ℕ)) (r : Names Bound) (env : Env) (typed : Typed (bound_types r) env) where
-  -- So it is where it has a value.
+  -- ---- sets
+
+  -- The value of a set term is a set, of the type of its kind, where there is one.
   pub set-value : {e : Ex} {k : Kind} → SetTerm cells r e k → Meets e env → IsTrue (is_some (meaning e env)) → IsSet k (meaning e env) env
   set-value {k = k} (view {p = p} {ms = ms} {es = es} {js = js} {d = d} {ns = ns} n f q w) m h =
       let v : ViewHasValue p (set_dom ms es d) ns js env =
@@ -162,6 +148,12 @@ module _ (cells : Text → Option (Bool × ℕ)) (r : Names Bound) (env : Env) (
   set-value (drawn {a = a} {k = k} q) m h =
       let v = there (look env.vals a) h in
       a-set k env (look env.vals a) v.0 v.1 (typed a (kind_ty (sets_of k)) v.0 (look-bound r a _ q) v.1)
+  set-value (combined {s = s} {t = t} {k = k} united f g) m h =
+      at-union k env (meaning s env) (meaning t env) (λ i. set-value f m.0 i) (λ i. set-value g m.1.0 i) h
+  set-value (combined {s = s} {t = t} {k = k} shared f g) m h =
+      at-intersection k env (meaning s env) (meaning t env) (λ i. set-value f m.0 i) (λ i. set-value g m.1.0 i) h
+  set-value (combined {s = s} {t = t} {k = k} lessened f g) m h =
+      at-difference k env (meaning s env) (meaning t env) (λ i. set-value f m.0 i) (λ i. set-value g m.1.0 i) h
 
   -- ---- scalars
 
@@ -213,11 +205,13 @@ module _ (cells : Text → Option (Bool × ℕ)) (r : Names Bound) (env : Env) (
   seen-mark (folded some_holds g f) n = tt
   seen-mark (added {e = x} {gs = gs} g f) n = summed (meaning (comp_ex x gs) env)
   seen-mark (counted {gs = gs} g) n = summed (meaning (comp_ex (number_ex (pos 1)) gs) env)
-  seen-mark (one_truth all_hold f) n = tt
-  seen-mark (one_truth some_holds f) n = tt
-  seen-mark (one_number {e = x} f) n = summed (meaning (list_of (more_exs x no_exs)) env)
-  seen-mark (size {s = s} f) n = sized (meaning s env)
+  seen-mark (of_items of_all l) n = tt
+  seen-mark (of_items of_some l) n = tt
+  seen-mark (of_items {es = es} of_sum l) n = summed (meaning (list_of es) env)
+  seen-mark (size {s = s} f c) n = sized (meaning s env)
   seen-mark (within f g) n = tt
+  seen-mark (set_within f g) n = tt
+  seen-mark (compared o f g) n = tt
 
 -- What has a mark and is there is a truth value, or a number.
 pub truth-said : (o : Option Value) → HasMark true o → IsTrue (is_some o) → IsTruth o

@@ -26,14 +26,12 @@ use Rattle.ess_rules_laws.specs.OccurrenceViews.{member_by_cell}
 use Rattle.ess_refine_laws.specs.AllRules.{Supply}
 use Rattle.ess_values_along_laws.specs.Valued.{Valued}
 use Rattle.ess_values_along_laws.proofs.ValuesAlong.{values-along}
-use Rattle.ess_values_terms_laws.proofs.ValuedForms.{there}
-use Rattle.ess_values_sources_laws.proofs.PutValues.{inner}
 use Rattle.ess_values_views_laws.proofs.SetViewsKeepValues.{set-views-keep-values}
 use Rattle.ess_kind_rules_laws.specs.KindRules.{member_at_a_cell, kind_rewrite}
 use Rattle.ess_kinds_kept_laws.proofs.KindRulesKeep.{kind-rules-keep}
 use Rattle.ess_kind_steps_laws.proofs.JudgedSets.{AtomsThere, atoms-there}
 use Rattle.ess_kind_steps_laws.proofs.ToldAtoms.{Agreed, atom-told}
-use Rattle.ess_seen_laws.specs.Seen.{Kind, scalars, kind_of, Bound, bound_types, as_an_atom, by_occurrence, with_a_dummy, in_slots, with_a_marker, with_flags, SetTerm, view, drawn, Seen, one, two, within}
+use Rattle.ess_seen_laws.specs.Seen.{Kind, scalars, sets_of, kind_of, Bound, bound_types, as_an_atom, by_occurrence, with_a_dummy, in_slots, with_a_marker, with_flags, SetTerm, view, drawn, combined, Seen, two, within, set_within, compared}
 use Rattle.ess_seen_values_laws.specs.Laws.{IsMet, StaysAlike}
 use Rattle.ess_seen_values_laws.proofs.Marks.{seen-mark}
 use Rattle.ess_seen_values_laws.proofs.SetViews.{judged}
@@ -41,17 +39,21 @@ use Rattle.ess_seen_values_laws.proofs.SetViews.{judged}
 module _ (cells : Text → Option (Bool × ℕ)) where
   -- ---- membership
 
-  -- A scalar in a set of scalars.
-  record Member (r : Names Bound) (a v : Ex) : Type 0 where
-    mark : Bool
-    kind : Kind
-    scalar : Seen cells r a mark
-    set : SetTerm cells r v kind
-    agree : kind ≡ scalars mark
+  -- A scalar in a set of scalars, or a set in a set of sets.
+  data Asked (r : Names Bound) (a v : Ex) : Type 0 where
+    of_scalar : {m : Bool} → Seen cells r a m → SetTerm cells r v (scalars m) → Asked r a v
+    of_set : {k : Kind} → SetTerm cells r v (sets_of k) → Asked r a v
 
-  member-of : {r : Names Bound} {a v : Ex} {k : Bool} → Seen cells r (ex2 true Op2.Member a v) k → Member r a v
-  member-of (within {m = m} g t) = record { mark = m; kind = scalars m; scalar = g; set = t; agree = refl }
-  member-of (two w g h) = elim w [ ]
+  asked-of : {r : Names Bound} {a v : Ex} {k : Bool} → Seen cells r (ex2 true Op2.Member a v) k → Asked r a v
+  asked-of (within g t) = of_scalar g t
+  asked-of (set_within g t) = of_set t
+  asked-of (two w g h) = elim w [ ]
+  asked-of (compared c g h) = elim c [ ]
+
+  -- Atoms are no sets.
+  atom-no-set : {A : Type 0} {d : Dom} {k : Kind} → WrittenAtom d → kind_of d ≡ sets_of k → A
+  atom-no-set written_truths q = cc
+  atom-no-set written_numbers q = cc
 
   -- A value that is held is one of the list.
   held-member : (P : Value → Bool) (us : List Value) (v : Value) → list_all P us ≡ true → holds us v ≡ true → P v ≡ true
@@ -126,9 +128,25 @@ module _ (cells : Text → Option (Bool × ℕ)) where
   at-cell s a v f g (view y fit (with_a_marker c p l) w) e env i z h q = cc
   at-cell s a v f g (view y fit (with_flags c p l) w) e env i z h q = cc
   at-cell s a v f g (drawn p) e env i z h q = cc
+  at-cell s a v f g (combined c k l) e env i z h q = cc
+
+  -- There is none of a set of sets.
+  at-no-cell : {A : Type 0} {r : Names Bound} (a v f : Ex) {j k : Kind} → SetTerm cells r v j → j ≡ sets_of k →
+      member_by_cell (ex2 true Op2.Member a v) ≡ Some f → A
+  at-no-cell a v f (view {d = d} y fit (by_occurrence c u p) w) e q = atom-no-set (atom-form d u) e
+  at-no-cell a v f (view y fit (as_an_atom c p) w) e q = absurd (no-yes c)
+  at-no-cell a v f (view y fit (with_a_dummy c u b p) w) e q = cc
+  at-no-cell a v f (view y fit (in_slots c p) w) e q = cc
+  at-no-cell a v f (view y fit (with_a_marker c p l) w) e q = cc
+  at-no-cell a v f (view y fit (with_flags c p l) w) e q = cc
+  at-no-cell a v f (drawn p) e q = cc
+  at-no-cell a v f (combined c k l) e q = cc
 
   pub members-by-cells : (s : Supply) {r : Names Bound} (e f : Ex) {k : Bool} → Seen cells r e k → (env : Env) → IsMet r e env →
       (z : Bool) → Valued z e env → kind_rewrite s (bound_types r) member_at_a_cell e ≡ Some f → StaysAlike z e f env
-  members-by-cells s {r = r} (ex2 true Op2.Member a v) f h env i z w q =
-      let o : Member r a v = member-of h in at-cell s a v f o.scalar o.set o.agree env i z w q
+  members-by-cells s {r = r} (ex2 true Op2.Member a v) f h env i z w q = go (asked-of h)
+    where
+      go : Asked r a v → StaysAlike z (ex2 true Op2.Member a v) f env
+      go (of_scalar g t) = at-cell s a v f g t refl env i z w q
+      go (of_set t) = at-no-cell a v f t refl q
   members-by-cells s _ f h env i z v q = cc

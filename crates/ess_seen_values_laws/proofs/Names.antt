@@ -17,7 +17,7 @@ use Rattle.ess_rules_laws.specs.SpliceRules.{NamesApart}
 use Rattle.ess_kind_rules_laws.specs.ViewListings.{view_listing}
 use Rattle.ess_kind_sizes_laws.proofs.SetListings.{of_occurrences, of_all, of_marked, of_flagged, of_dummies}
 use Rattle.ess_kind_sizes_laws.proofs.ViewsBehind.{last-named}
-use Rattle.ess_seen_laws.specs.Seen.{Bound, over_a_range, Kind, Keeps, as_an_atom, by_occurrence, with_a_dummy, in_slots, with_a_marker, with_flags, Places, no_place, at_a_number, at_a_name, SetTerm, view, drawn, Seen, number, truth, named, cell, atom, one, two, power, chosen, folded, added, counted, one_truth, one_number, size, within, Indices, no_index, one_index, Going, at_end, through, among, where_holds, Axes, no_axis, along, members_of, in_use, Range, truths, numbers, Bounds, no_bound, one_bound}
+use Rattle.ess_seen_laws.specs.Seen.{Bound, over_a_range, Kind, Keeps, as_an_atom, by_occurrence, with_a_dummy, in_slots, with_a_marker, with_flags, Places, no_place, at_a_number, at_a_name, SetTerm, view, drawn, combined, Seen, number, truth, named, cell, atom, one, two, power, chosen, folded, added, counted, of_items, size, within, set_within, compared, Listed, last_item, item_before, Indices, no_index, one_index, Going, at_end, through, among, where_holds, Axes, no_axis, along, members_of, in_use, Range, truths, numbers, Bounds, no_bound, one_bound}
 use Rattle.ess_seen_values_laws.proofs.SetViews.{dummy-named}
 use Rattle.ess_seen_values_laws.proofs.SizeNames.{atom-named, nested-named, inner-named, slots-named}
 
@@ -99,6 +99,7 @@ module _ (cells : Text → Option (Bool × ℕ)) (z : Text → Bool) (x : Text) 
   set-apart (view {ms = ms} {es = es} {d = d} n f q p) u =
       (nested-named Other Free (nested-form 250 (set_dom ms es d) n), places-any Other Free p u.1)
   set-apart (drawn q) u = u
+  set-apart (combined c f g) u = (set-apart f u.0, (set-apart g u.1.0, tt))
 
   mutual
     -- Names that the tree binds are none of S.
@@ -121,15 +122,21 @@ module _ (cells : Text → Option (Bool × ℕ)) (z : Text → Bool) (x : Text) 
       axes-apart g e s o h.0 w u.0.1 b.0.1 (λ p q i n. seen-apart f p q i n u.0.0 b.0.0),
       tt,
     )
-    seen-apart (counted (members_of {a = a} t)) s o h w u b =
+    seen-apart (counted (members_of {a = a} t c)) s o h w u b =
         ((tt, (new-binder s w a h.0.0 b.0.1.0, set-apart t u.0.1.1, tt)), tt)
     seen-apart (counted (in_use {a = a} g c)) s o h w u b =
         let i = seen-apart c (with_names s (name_pat a)) (with_names o (name_pat a)) h.0.2.0 (wider s a w) u.0.1.2.0 b.0.1.2.0 in
         ((tt, (new-binder s w a h.0.0 b.0.1.0, range-apart g s o h.0.1 w u.0.1.1 b.0.1.1, (i, tt))), tt)
-    seen-apart (one_truth v f) s o h w u b = ((seen-apart f s o h.0.0 w u.0.0 b.0.0, tt), tt)
-    seen-apart (one_number f) s o h w u b = ((seen-apart f s o h.0.0 w u.0.0 b.0.0, tt), tt)
-    seen-apart (size t) s o h w u b = (set-apart t u.0, tt)
+    seen-apart (of_items v l) s o h w u b = (items-apart l s o h.0 w u.0 b.0, tt)
+    seen-apart (size t c) s o h w u b = (set-apart t u.0, tt)
     seen-apart (within f t) s o h w u b = (seen-apart f s o h.0 w u.0 b.0, (set-apart t u.1.0, tt))
+    seen-apart (set_within f t) s o h w u b = (set-apart f u.0, (set-apart t u.1.0, tt))
+    seen-apart (compared c f t) s o h w u b = (set-apart f u.0, (set-apart t u.1.0, tt))
+
+    items-apart : {r : Names Bound} {es : Exs} {m : Bool} → Listed cells r es m → (s o : Text → Bool) → ScopedExs z s o es → Within s →
+        NamesAreExs Other Every es → NamesAreExs Every Other es → NamesAreExs Other Free es
+    items-apart (last_item f) s o h w u b = (seen-apart f s o h.0 w u.0 b.0, tt)
+    items-apart (item_before f i) s o h w u b = (seen-apart f s o h.0 w u.0 b.0, items-apart i s o h.1 w u.1 b.1)
 
     indices-apart : {r : Names Bound} {es : Exs} {k : ℕ} → Indices cells r es k → (s o : Text → Bool) → ScopedExs z s o es → Within s →
         NamesAreExs Other Every es → NamesAreExs Every Other es → NamesAreExs Other Free es

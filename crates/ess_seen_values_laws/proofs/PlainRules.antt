@@ -12,7 +12,9 @@ use Rattle.ess_semantics.specs.Typing.{type_of}
 use Rattle.ess_semantics.specs.Typed.{Typed}
 use Rattle.ess_semantics.specs.Meaning.{Env, meaning}
 use Rattle.ess_semantics.specs.Meets.{Meets}
+use Rattle.ess_semantics.proofs.Tests.{and-both}
 use Rattle.ess_flat_laws.specs.Flat.{absolute}
+use Rattle.ess_bare_laws.specs.Lean.{of_all, of_some, of_sum}
 use Rattle.ess_rules_laws.specs.Rules.{IsTruth, IsNumber}
 use Rattle.ess_rules_laws.specs.FoldRules.{fold_one, fold_bare, ItemFits, BareFits}
 use Rattle.ess_rules_laws.specs.ChoiceRules.{choice_shorter, ChoicesFit}
@@ -23,10 +25,10 @@ use Rattle.ess_refine_laws.specs.AllRules.{Supply, size as size_rule}
 use Rattle.ess_values_along_laws.specs.Valued.{Valued}
 use Rattle.ess_values_along_laws.specs.ValuesAlong.{may_lack_there}
 use Rattle.ess_values_along_laws.proofs.ValuesAlong.{values-along}
-use Rattle.ess_values_terms_laws.specs.TermsKeepValues.{ComparesTerms}
-use Rattle.ess_values_terms_laws.proofs.ValuedForms.{and-no, there}
+use Rattle.ess_values_terms_laws.specs.TermsKeepValues.{is_compound, ComparesTerms}
+use Rattle.ess_values_terms_laws.proofs.ValuedForms.{and-no, by-compound, there}
 use Rattle.ess_values_sources_laws.proofs.PutValues.{inner}
-use Rattle.ess_seen_laws.specs.Seen.{Kind, Bound, bound_types, SetTerm, view, drawn, Seen, number, truth, named, cell, atom, one, two, power, chosen, folded, added, counted, one_truth, one_number, size, within, at_end, no_axis}
+use Rattle.ess_seen_laws.specs.Seen.{Kind, Bound, bound_types, united, shared, lessened, SetTerm, view, drawn, combined, Seen, number, truth, named, cell, atom, one, two, power, chosen, folded, added, counted, of_items, size, within, set_within, compared, last_item, item_before, at_end, no_axis}
 use Rattle.ess_seen_laws.proofs.Types.{seen-type}
 use Rattle.ess_seen_values_laws.proofs.Marks.{IsSet, set-value, seen-mark, truth-said, number-said}
 
@@ -50,10 +52,30 @@ module _ (cells : Text → Option (Bool × ℕ)) where
   lacks-none (folded v g f) q = refl
   lacks-none (added g f) q = cc
   lacks-none (counted c) q = cc
-  lacks-none (one_truth v f) q = refl
-  lacks-none (one_number f) q = cc
-  lacks-none (size t) q = cc
+  lacks-none (of_items of_all l) q = refl
+  lacks-none (of_items of_some l) q = refl
+  lacks-none (of_items of_sum l) q = cc
+  lacks-none (size t c) q = cc
   lacks-none (within f t) q = refl
+  lacks-none (set_within f t) q = refl
+  lacks-none (compared c f t) q = refl
+
+  -- By its form a set term needs its value in a natural place too.
+  pub set-compound : {r : Names Bound} {e : Ex} {k : Kind} → SetTerm cells r e k → is_compound e ≡ true
+  set-compound (view n f q p) = refl
+  set-compound (drawn q) = refl
+  set-compound (combined united s t) = refl
+  set-compound (combined shared s t) = refl
+  set-compound (combined {s = a} {t = b} lessened s t) = and-both (is_compound a) (is_compound b) (set-compound s) (set-compound t)
+
+  -- So it has values in none.
+  pub set-valued : {r : Names Bound} {e : Ex} {k : Kind} (env : Env) (w : Bool) → SetTerm cells r e k → Valued w e env → Valued false e env
+  set-valued {e = e} env w t v = by-compound e env w (set-compound t) v
+
+  -- And it is there.
+  pub set-there : {r : Names Bound} {e : Ex} {k : Kind} (env : Env) (w : Bool) → SetTerm cells r e k → Valued w e env →
+      IsTrue (is_some (meaning e env))
+  set-there {e = e} env w t v = there e env (set-valued env w t v)
 
   module _ {r : Names Bound} (env : Env) (ty : Typed (bound_types r) env) where
     -- So it is one.
@@ -64,24 +86,19 @@ module _ (cells : Text → Option (Bool × ℕ)) where
     number-there : {e : Ex} → Seen cells r e false → Meets e env → Valued false e env → IsNumber (meaning e env)
     number-there {e} f m v = number-said (meaning e env) (seen-mark cells r env ty f m) (there e env v)
 
-    -- A set is there.
-    set-there : {e : Ex} {k : Kind} (w : Bool) → SetTerm cells r e k → Valued w e env → IsTrue (is_some (meaning e env))
-    set-there {e} w t v = values-along.value w e env (go t) v
-      where
-        go : {e : Ex} {k : Kind} → SetTerm cells r e k → w && may_lack_there e ≡ false
-        go (view n f q p) = and-no w
-        go (drawn q) = and-no w
-
     -- ---- what rules count on
 
     pub one-fits : (e f : Ex) {m : Bool} (w : Bool) → fold_one e ≡ Some f → Seen cells r e m → Meets e env → Valued w e env → ItemFits e env
-    one-fits (fun1 true Fun.And (node_ex false matrix_literal (more_exs a no_exs))) f w q (one_truth x g) n v =
+    one-fits (fun1 true Fun.And (node_ex false matrix_literal (more_exs a no_exs))) f w q (of_items x (last_item g)) n v =
         truth-there _ g n.0.0 v.1.0.1.0
-    one-fits (fun1 true Fun.Or (node_ex false matrix_literal (more_exs a no_exs))) f w q (one_truth x g) n v =
+    one-fits (fun1 true Fun.Or (node_ex false matrix_literal (more_exs a no_exs))) f w q (of_items x (last_item g)) n v =
         truth-there _ g n.0.0 v.1.0.1.0
-    one-fits (fun1 false Fun.Sum (node_ex false matrix_literal (more_exs a no_exs))) f w q (one_number g) n v =
+    one-fits (fun1 false Fun.Sum (node_ex false matrix_literal (more_exs a no_exs))) f w q (of_items x (last_item g)) n v =
         let i = inner [] a no_gens env false w Fun.Sum (node_ex false matrix_literal (more_exs a no_exs)) v in number-there g n.0.0 i.1.0
-    one-fits (fun1 false Fun.Product (node_ex false matrix_literal (more_exs a no_exs))) f w q g n v = elim g [ ]
+    one-fits (fun1 true Fun.And (node_ex false matrix_literal (more_exs a no_exs))) f w q (of_items x (item_before g l)) n v = elim l [ ]
+    one-fits (fun1 true Fun.Or (node_ex false matrix_literal (more_exs a no_exs))) f w q (of_items x (item_before g l)) n v = elim l [ ]
+    one-fits (fun1 false Fun.Sum (node_ex false matrix_literal (more_exs a no_exs))) f w q (of_items x (item_before g l)) n v = elim l [ ]
+    one-fits (fun1 false Fun.Product (node_ex false matrix_literal (more_exs a no_exs))) f w q (of_items x l) n v = elim x [ ]
     one-fits _ f w q g n v = cc
 
     pub bare-fits : (e f : Ex) {m : Bool} (w : Bool) → fold_bare e ≡ Some f → Seen cells r e m → Meets e env → Valued w e env →
@@ -98,8 +115,13 @@ module _ (cells : Text → Option (Bool × ℕ)) where
         ChoicesFit e env
     choices-fit (ex2 false Op2.Times (fun1 false Fun.ToInt c) (fun1 false Fun.ToInt d)) f w q (two x (chosen g) (chosen h)) n v =
         (truth-there _ g n.0.0 v.1.0.1.0, truth-there _ h n.1.0.0 v.1.1.0.1.0)
+    choices-fit (ex2 false Op2.Times (fun1 false Fun.ToInt c) (fun1 false Fun.ToInt d)) f w q (two x (chosen g) (of_items z l)) n v =
+        elim z [ ]
+    choices-fit (ex2 false Op2.Times (fun1 false Fun.ToInt c) (fun1 false Fun.ToInt d)) f w q (two x (of_items z l) h) n v = elim z [ ]
     choices-fit (ex2 false Op2.Times (fun1 false Fun.ToInt c) (number_ex (pos (suc zero)))) f w q (two x (chosen g) h) n v =
         truth-there _ g n.0.0 v.1.0.1.0
+    choices-fit (ex2 false Op2.Times (fun1 false Fun.ToInt c) (number_ex (pos (suc zero)))) f w q (two x (of_items z l) h) n v =
+        elim z [ ]
     choices-fit _ f w q g n v = cc
 
     -- ---- sizes and membership
@@ -114,7 +136,7 @@ module _ (cells : Text → Option (Bool × ℕ)) where
         sum = fun1 false Fun.Sum (comp_ex (number_ex (pos 1)) (from (name_pat s.one) a no_gens))
 
         set : IsSet k (meaning a env) env
-        set = set-value cells r env ty t m (set-there w t v)
+        set = set-value cells r env ty t m (set-there env w t v)
 
         go : (c : Bool) → (if c then Some (fun1 false Fun.Sum (comp_ex (number_ex (pos 1)) (from (name_pat s.one) a no_gens))) else None)
             ≡ Some f → (meaning (ex1 false Op1.Bar a) env ≡ meaning f env) × Meets f env
@@ -127,11 +149,8 @@ module _ (cells : Text → Option (Bool × ℕ)) where
 
     pub sized : (s : Supply) (e f : Ex) {m : Bool} (w : Bool) → Seen cells r e m → Meets e env → Valued w e env →
         size_term (bound_types r) s.one e ≡ Some f → ((meaning e env ≡ meaning f env) × Meets f env) × ComparesTerms size_rule e
-    sized s (ex1 false Op1.Bar a) f w (size t) m v q = (size-keeps s (bound_types r) a f _ t m.0 v.1.0 q, compound t)
-      where
-        compound : {a : Ex} {k : Kind} → SetTerm cells r a k → ComparesTerms size_rule (ex1 false Op1.Bar a)
-        compound (view n f p x) = refl
-        compound (drawn p) = refl
+    sized s (ex1 false Op1.Bar a) f w (size t c) m v q =
+        (size-keeps s (bound_types r) a f _ t m.0 v.1.0 q, and-both (is_compound a) true (set-compound t) refl)
     sized s (ex1 false Op1.Bar a) f w (one absolute h) m v q = no-size
         (subst (λ o. (if is_counted o then Some (fun1 false Fun.Sum (comp_ex (number_ex (pos 1)) (from (name_pat s.one) a no_gens)))
         else None) ≡ Some f) (seen-type cells h) q)

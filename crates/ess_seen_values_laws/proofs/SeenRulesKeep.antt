@@ -8,58 +8,27 @@ use Rattle.ess_semantics.specs.Trees.{Ex, comp_ex, fun1, Gens}
 use Rattle.ess_semantics.specs.Meaning.{Env}
 use Rattle.ess_refine_laws.specs.AllRules.{Supply}
 use Rattle.ess_kind_rules_laws.specs.KindRules.{cell_of_an_atom, over_a_view, of_one_view, member_at_a_cell, size_at_the_marker, size_of_slots}
-use Rattle.ess_open_rules_laws.specs.OpenSources.{over_one_opened}
-use Rattle.ess_open_rules_laws.specs.OpenGenerators.{nested}
 use Rattle.ess_open_rules_laws.specs.OpenRules.{over_one_source, fold_of_folds, KindRuling, of_kind, of_opening, kind_ruled}
 use Rattle.ess_values_along_laws.specs.Valued.{Valued}
 use Rattle.ess_seen_laws.specs.Seen.{Bound, bound_types, Seen}
-use Rattle.ess_seen_values_laws.specs.Fires.{is_kept_by_kind}
-use Rattle.ess_seen_values_laws.specs.Laws.{ToldApart, IsMet, StaysAlike, SeenRulesKeep, PartsOfSeenTrees}
+use Rattle.ess_seen_laws.specs.MayFire.{may_fire_by_kind}
+use Rattle.ess_seen_laws.specs.Apart.{Apart}
+use Rattle.ess_seen_values_laws.specs.Laws.{IsMet, StaysAlike, SeenRulesKeep, PartsOfSeenTrees}
 use Rattle.ess_seen_values_laws.proofs.DrawnNames.{seen-drawn}
 use Rattle.ess_seen_values_laws.proofs.Contexts.{where-typed, wherever}
 use Rattle.ess_seen_values_laws.proofs.ScopesAt.{scoped-at}
-use Rattle.ess_seen_values_laws.proofs.SourceRules.{ListApart, over-one, fold-of-folds}
-use Rattle.ess_seen_values_laws.proofs.KindRules.{list-root, fold-by-parts, fold-by-itself, atoms-by-cells, sizes-by-markers, sizes-of-slots}
+use Rattle.ess_seen_values_laws.proofs.ListsApart.{ListApart, word-apart}
+use Rattle.ess_seen_values_laws.proofs.KindRules.{fold-by-parts, fold-by-itself, atoms-by-cells, sizes-by-markers, sizes-of-slots}
+use Rattle.ess_seen_values_laws.proofs.SourcesKept.{opened-kept, folded-kept}
 use Rattle.ess_seen_values_laws.proofs.MemberRules.{members-by-cells}
 use Rattle.ess_seen_values_laws.proofs.PlainKept.{plain-keeps}
 
--- The names of a fold of a comprehension.
-list-apart : (x : Text) (r : Names Bound) (m : Bool) (f : Fun) (e : Ex) (gs : Gens) → ToldApart x r (fun1 m f (comp_ex e gs)) →
-    ListApart x r e gs
-list-apart x r m f e gs a =
-    let s = a.scoped in
-    let n = a.new in
-    let b = a.unbound in
-    record {
-      declared = a.declared;
-      scope = record { all = a.scope; over_domains = a.ranging };
-      scoped = s.0;
-      covers = a.covers;
-      body_used = n.0.0;
-      body_bound = b.0.0;
-      gens_used = n.0.1;
-      gens_bound = b.0.1;
-    }
-
 module _ (cells : Text → Option (Bool × ℕ)) (s : Supply) (r : Names Bound) where
-  opened-source : (e f : Ex) {m : Bool} → Seen cells r e m → ToldApart s.one r e → over_one_opened s (bound_types r) e ≡ Some f →
-      (env : Env) → IsMet r e env → (w : Bool) → Valued w e env → StaysAlike w e f env
-  opened-source (fun1 m k (comp_ex e gs)) f h a q env i w v =
-      let o = list-root cells h in
-      over-one cells s m k o.marked o.seen env w f (bound_types r) gs o.going (list-apart s.one r m k e gs a) i.met v q
-  opened-source _ f h a q env i w v = cc
-
-  folded-twice : (e f : Ex) {m : Bool} → Seen cells r e m → nested e ≡ Some f → (env : Env) → IsMet r e env → (w : Bool) →
-      Valued w e env → StaysAlike w e f env
-  folded-twice (fun1 m k (comp_ex e gs)) f h q env i w v =
-      let o = list-root cells h in fold-of-folds cells m k o.marked e env w f gs i.met v q
-  folded-twice _ f h q env i w v = cc
-
-  apart-list : (e : Ex) → ToldApart s.one r e → (m : Bool) (k : Fun) (x : Ex) (gs : Gens) → e ≡ fun1 m k (comp_ex x gs) →
+  apart-list : (e : Ex) → Apart s.one r e → (m : Bool) (k : Fun) (x : Ex) (gs : Gens) → e ≡ fun1 m k (comp_ex x gs) →
       ListApart s.one r x gs
-  apart-list e a m k x gs q = list-apart s.one r m k x gs (subst (ToldApart s.one r) q a)
+  apart-list e a m k x gs q = word-apart s.one r m k x gs (subst (Apart s.one r) q a)
 
-  kind-keeps : (u : KindRuling) (e f : Ex) {m : Bool} → Seen cells r e m → ToldApart s.one r e → is_kept_by_kind u ≡ true →
+  kind-keeps : (u : KindRuling) (e f : Ex) {m : Bool} → Seen cells r e m → Apart s.one r e → may_fire_by_kind u ≡ true →
       kind_ruled s (bound_types r) u e ≡ Some f → (env : Env) → IsMet r e env → (w : Bool) → Valued w e env → StaysAlike w e f env
   kind-keeps (of_kind cell_of_an_atom) e f h a k q env i w v = atoms-by-cells cells s r e f q env i w v
   kind-keeps (of_kind over_a_view) e f h a k q env i w v = fold-by-parts cells s e f h (apart-list e a) env i w v q
@@ -67,15 +36,15 @@ module _ (cells : Text → Option (Bool × ℕ)) (s : Supply) (r : Names Bound) 
   kind-keeps (of_kind member_at_a_cell) e f h a k q env i w v = members-by-cells cells s e f h env i w v q
   kind-keeps (of_kind size_at_the_marker) e f h a k q env i w v = sizes-by-markers cells s r e f q env i w v
   kind-keeps (of_kind size_of_slots) e f h a k q env i w v = sizes-of-slots cells s e f h env i w v q
-  kind-keeps (of_opening over_one_source) e f h a k q env i w v = opened-source e f h a q env i w v
-  kind-keeps (of_opening fold_of_folds) e f h a k q env i w v = folded-twice e f h q env i w v
+  kind-keeps (of_opening over_one_source) e f h a k q env i w v = opened-kept cells s r e f h a q env i w v
+  kind-keeps (of_opening fold_of_folds) e f h a k q env i w v = folded-kept cells s r e f h q env i w v
   kind-keeps (of_kind _) e f h a k q env i w v = cc
   kind-keeps (of_opening _) e f h a k q env i w v = cc
 
 -- What is proved of rules.
 pub seen-rules-keep : SeenRulesKeep
 seen-rules-keep = record {
-  plainly = λ cells s r u e f m h a k q env i w v. plain-keeps cells s r u e f h a.new k q env i w v;
+  plainly = λ cells s r u e f m h a k q env i w v. plain-keeps cells s r u e f h a k q env i w v;
   by_kind = λ cells s r u e f m h a k q env i w v. kind-keeps cells s r u e f h a k q env i w v;
 }
 

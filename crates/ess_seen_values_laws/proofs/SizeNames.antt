@@ -10,7 +10,6 @@ use Rattle.ess_semantics.specs.Trees.{Mark, Ex, Exs, number_ex, Dom, set_dom}
 use Rattle.ess_semantics.specs.Substitution.{NamesAre, NamesAreExs, NamesAreDom}
 use Rattle.ess_nested_laws.proofs.NestedForms.{Sizes, no_sizes, one_size, WrittenAtom, written_truths, written_numbers, NestedSet, of_atoms, of_sets}
 use Rattle.ess_repr_declare_laws.specs.SizeTerms.{one_ex, next_ex, plus_ex, minus_ex, is_numeral, numerals_order, span_ex, span_by, number_of, greatest_size_of, bound_ex, slots_ex}
-use Rattle.ess_seen_laws.specs.Seen.{number}
 
 -- ---- domains of nested sets, and their sizes, have no names
 

@@ -1,29 +1,27 @@
 -- Rules of sources keep trees over views: over one source, at the first generator that isn't plain, and a fold of folds.
-use Rattle.std.proofs.Common.{◌≡◌, refl, sym, subst, ℕ, Bool, true, false, not, if◌then◌else◌, List, [], ◌∷◌, map, Option, Some, None, option_map}
+use Rattle.std.proofs.Common.{◌≡◌, refl, subst, ℕ, Bool, true, false, if◌then◌else◌, List, [], ◌∷◌, map, Option, Some, None, option_map}
 use Rattle.std.specs.Prelude.{IsTrue, is_some}
 use Rattle.ess_semantics.specs.declared.words.Fun.{Fun}
 use Rattle.ess_semantics.specs.Lists.{and_then}
 use Rattle.ess_semantics.specs.Values.{Text}
 use Rattle.ess_semantics.specs.Order.{same_text}
 use Rattle.ess_semantics.specs.Names.{Names}
-use Rattle.ess_semantics.specs.Trees.{word, name_pat, Ex, comp_ex, fun1, no_exs, more_exs, Gens, no_gens, over, from, cond}
+use Rattle.ess_semantics.specs.Trees.{word, name_pat, Ex, comp_ex, fun1, no_exs, more_exs, Gens, no_gens, from}
 use Rattle.ess_semantics.specs.Types.{Ty}
 use Rattle.ess_semantics.specs.NamesAt.{names_behind}
 use Rattle.ess_semantics.specs.ExpressionJudgements.{forgets_order}
-use Rattle.ess_semantics.specs.Substitution.{substitute, substitute_gens, for_name, NamesAre, NamesAreGens}
-use Rattle.ess_semantics.specs.Scoped.{Scoped, ScopedGens}
+use Rattle.ess_semantics.specs.Substitution.{substitute, substitute_gens, for_name}
+use Rattle.ess_semantics.specs.Typed.{Typed}
 use Rattle.ess_semantics.specs.Meaning.{Env, meaning, items_under}
 use Rattle.ess_semantics.specs.Meets.{Meets, MeetsGens}
 use Rattle.ess_semantics.specs.Contexts.{AtEach}
-use Rattle.ess_rules_laws.specs.Rules.{Unused}
 use Rattle.ess_rules_laws.specs.SourceRules.{is_marked}
-use Rattle.ess_rules_laws.specs.SpliceRules.{append_gens, NamesApart}
+use Rattle.ess_rules_laws.specs.SpliceRules.{append_gens}
 use Rattle.ess_rules_laws.specs.Listings.{Alternative}
 use Rattle.ess_rules_laws.specs.ListedSources.{Offers, laid_out, put_listed}
 use Rattle.ess_rules_laws.proofs.Bindings.{at-each-map}
 use Rattle.ess_rules_laws.proofs.Places.{at-each-join}
 use Rattle.ess_refine_laws.specs.AllRules.{Supply, OfSome, only_one}
-use Rattle.ess_refine_laws.specs.ScopesStay.{Scope, scope_behind}
 use Rattle.ess_refine_laws.specs.ExtremeAlternatives.{put_alternative}
 use Rattle.ess_refine_laws.specs.ExtremeRules.{are_none}
 use Rattle.ess_values_along_laws.specs.Valued.{Valued}
@@ -31,94 +29,39 @@ use Rattle.ess_values_terms_laws.proofs.ValuedForms.{there, all-there}
 use Rattle.ess_values_sources_laws.proofs.CollectedLists.{some-list, list-some}
 use Rattle.ess_values_sources_laws.proofs.ListedValues.{listed-sources-keep-values}
 use Rattle.ess_values_sources_laws.proofs.PutValues.{fold-valued, inner}
-use Rattle.ess_kind_rules_laws.specs.ViewListings.{view_listing}
 use Rattle.ess_open_rules_laws.specs.OpenGenerators.{Opened, at_first_open, folds_nested, nested}
 use Rattle.ess_open_rules_laws.specs.OpenSources.{all_offered, behind_gens, put_opened, comp_offered, over_one_opened}
 use Rattle.ess_open_kept_laws.specs.OpenedAsks.{OfferedBehind, SourceBehind, OpenedAsks}
 use Rattle.ess_open_kept_laws.proofs.OpenedFolds.{opened-are, nested-keeps}
 use Rattle.ess_open_kept_laws.proofs.OpenedSources.{over_one-keeps}
-use Rattle.ess_seen_laws.specs.Seen.{Kind, Bound, from_a_set, SetTerm, Seen, Going, at_end, through, among, where_holds}
+use Rattle.ess_seen_laws.specs.Seen.{Kind, Bound, from_a_set, bound_types, SetTerm, Seen, Going, at_end, through, among, where_holds}
 use Rattle.ess_seen_values_laws.specs.Laws.{StaysAlike}
-use Rattle.ess_seen_values_laws.proofs.Tails.{append-none, met-behind, under-behind, scoped-behind, Tail, tails-valued}
-use Rattle.ess_seen_values_laws.proofs.Names.{Covers, put}
-use Rattle.ess_seen_values_laws.proofs.OpenedGens.{opened}
+use Rattle.ess_seen_values_laws.proofs.Tails.{append-none, met-behind, under-behind, Tail, tails-valued}
+use Rattle.ess_seen_values_laws.proofs.Names.{put}
+use Rattle.ess_seen_values_laws.proofs.OpenedGens.{Holds, opened}
 use Rattle.ess_seen_values_laws.proofs.Contexts.{at-bindings}
-use Rattle.ess_seen_values_laws.proofs.SetSources.{set-offers, set-listed, set-under, set-apart}
+use Rattle.ess_seen_values_laws.proofs.ListsApart.{ListApart, list-behind}
+use Rattle.ess_seen_values_laws.proofs.SourceOffers.{Fits, all-fits}
 
 -- ---- of options
 
--- P of what is there.
 -- What is so of what is there.
 pub of-some : {A : Type 0} (o : Option A) (P : A → Type 0) → ((a : A) → o ≡ Some a → P a) → OfSome o P
 of-some None P f = tt
 of-some (Some a) P f = f a refl
 
-of-one : (o : Option Alternative) (P : List Alternative → Type 0) → ((a : Alternative) → o ≡ Some a → P (a ∷ [])) →
-    OfSome (option_map (λ a. a ∷ []) o) P
-of-one None P f = tt
-of-one (Some a) P f = f a refl
-
--- ---- names of generators in two parts
-
-used-behind : (u b : Text → Bool) (gs hs : Gens) → NamesAreGens u b (append_gens gs hs) → NamesAreGens u b hs
-used-behind u b no_gens hs h = h
-used-behind u b (over p d gs) hs h = used-behind u b gs hs h.2
-used-behind u b (from p e gs) hs h = used-behind u b gs hs h.2
-used-behind u b (cond c gs) hs h = used-behind u b gs hs h.1
-
--- ---- what a rule has at hand
-
--- Names of a comprehension are told apart, where the names r are bound around it.
-pub record ListApart (x : Text) (r : Names Bound) (e : Ex) (gs : Gens) : Type 0 where
-  pub declared : Text → Bool
-  pub scope : Scope
-  pub scoped : ScopedGens declared scope.all scope.over_domains gs (λ p q. Scoped declared p q e)
-  pub covers : Covers r scope.all
-  pub body_used : NamesAre (λ a. not (same_text x a)) (λ a. true) e
-  pub body_bound : NamesAre (λ a. true) (λ a. not (same_text x a)) e
-  pub gens_used : NamesAreGens (λ a. not (same_text x a)) (λ a. true) gs
-  pub gens_bound : NamesAreGens (λ a. true) (λ a. not (same_text x a)) gs
-
--- So they are behind the first generators.
-pub list-behind : (x : Text) (r t : Names Bound) (e : Ex) (gs hs : Gens) (l : ListApart x r e (append_gens gs hs)) →
-    Covers t (scope_behind gs l.scope).all → ListApart x t e hs
-list-behind x r t e gs hs l c = record {
-  declared = l.declared;
-  scope = scope_behind gs l.scope;
-  scoped = scoped-behind l.declared gs hs l.scope (λ p q. Scoped l.declared p q e) l.scoped;
-  covers = c;
-  body_used = l.body_used;
-  body_bound = l.body_bound;
-  gens_used = used-behind (λ a. not (same_text x a)) (λ a. true) gs hs l.gens_used;
-  gens_bound = used-behind (λ a. true) (λ a. not (same_text x a)) gs hs l.gens_bound;
-}
+-- ---- values behind the plain generators
 
 module _ (cells : Text → Option (Bool × ℕ)) where
-  -- The alternative of the first source has names of its own.
-  pub source-apart : {r t : Names Bound} {u e : Ex} {k : Kind} {m : Bool} (x z y : Text) (zs : List Text) (hs : Gens) →
-      SetTerm cells r u k → Going cells ((y, from_a_set k) ∷ r) hs t → Seen cells t e m →
-      (l : ListApart x r e (from (name_pat y) u hs)) → (a : Alternative) → view_listing x z zs u ≡ Some a →
-      NamesApart (same_text x) (put l.scope.all x y) (comp_ex e (from (name_pat y) (laid_out a) hs))
-  source-apart x z y zs hs w g h l a q =
-      let ug = l.gens_used in
-      let bg = l.gens_bound in
-      set-apart cells l.declared l.scope.all l.scope.over_domains x z y zs hs w g h l.covers l.scoped l.body_used l.body_bound ug.2 bg.2 a q
-
-  -- ---- values behind the plain generators
-
   -- What the source offers has values in its place.
-  pub put-tail : {r t : Names Bound} {u e : Ex} {k : Kind} {m : Bool} (x z y : Text) (zs : List Text) (hs : Gens) →
-      SetTerm cells r u k → Going cells ((y, from_a_set k) ∷ r) hs t → Seen cells t e m →
-      (l : ListApart x r e (from (name_pat y) u hs)) → (a : Alternative) → view_listing x z zs u ≡ Some a → (env : Env) → Meets u env →
+  put-tail : {r : Names Bound} (x : Text) (scope : Text → Bool) (y : Text) (u e : Ex) (hs : Gens) (a : Alternative) →
+      Fits x r scope y u e hs (a ∷ []) → (env : Env) → Typed (bound_types r) env → Meets u env →
       Valued false (comp_ex e (from (name_pat y) u hs)) env → Valued false (put_listed y e hs a) env
-  put-tail {u = u} {e = e} x z y zs hs w g h l a q env m v =
-      let ug = l.gens_used in
-      let used : Unused x u = ug.1 in
+  put-tail x scope y u e hs a f env ty m v =
       let vu : Valued false u env = v.1.0 in
-      let o = set-listed cells x z zs env w used m a q in
-      let p = listed-sources-keep-values.in_parts (same_text x) (put l.scope.all x y) (a ∷ [])
-      (fun1 true Fun.And (comp_ex e (from (name_pat y) u hs))) _ refl (source-apart x z y zs hs w g h l a q, tt) env
-      (there u env vu, o) (set-under cells x z zs env w used m vu a q, tt) false (tt, (v, tt)) in
+      let p = listed-sources-keep-values.in_parts (same_text x) (put scope x y) (a ∷ [])
+      (fun1 true Fun.And (comp_ex e (from (name_pat y) u hs))) _ refl f.apart env (there u env vu, f.offers env ty m vu)
+      (f.under env ty m vu) false (tt, (v, tt)) in
       p.1.0.1.0.1.0
 
   -- ---- one source
@@ -127,56 +70,61 @@ module _ (cells : Text → Option (Bool × ℕ)) where
   module _ (s : Supply) (m : Bool) (f : Fun) (marked : is_marked m f ≡ true) {b : Names Bound} {e : Ex} {n : Bool}
       (seen : Seen cells b e n) (env : Env) (w : Bool) (F : Ex) where
     -- The first generator that isn't plain is one over a set.
-    at-source : (g : Names Ty) (before : Gens) {around : Names Bound} (y : Text) (u : Ex) (k : Kind) (hs : Gens) →
-        SetTerm cells around u k → Going cells ((y, from_a_set k) ∷ around) hs b →
-        ListApart s.one around e (from (name_pat y) u hs) →
-        AtEach before env (λ here. MeetsGens (from (name_pat y) u hs) here (Meets e)) →
-        Valued false (comp_ex e (append_gens before (from (name_pat y) u hs))) env →
-        option_map (λ a. fun1 m f (laid_out a)) (only_one (put_opened e before (from (name_pat y) u hs) (all_offered s g))) ≡ Some F →
-        SourceBehind s g before e (from (name_pat y) u hs) env × Valued w F env
-    at-source g before y u k hs t go l met v q = (
-      subst (λ o. OfSome o (λ l. OfferedBehind before y e u hs l env)) (sym (set-offers cells t s g))
-          (of-one (view_listing s.one s.other s.parts u) (λ l. OfferedBehind before y e u hs l env) (λ a p. (
-            same_text s.one,
-            put l.scope.all s.one y,
-            (source-apart s.one s.other y s.parts hs t go seen l a p, tt),
-            at-each-join before env _ _ (λ here. IsTrue (is_some (meaning u here)) × Offers u (a ∷ []) here)
-                (λ here i j. (there u here j.0, set-listed cells s.one s.other s.parts here t used i.0 a p)) met
-                (under-behind before (from (name_pat y) u hs) env (λ z. Valued false e z) v.1),
-          ))),
-      valued (view_listing s.one s.other s.parts u) refl (subst (λ o. option_map (λ a. fun1 m f (laid_out a))
-          (only_one (option_map (map (λ a. behind_gens before (put_alternative y e hs a))) o)) ≡ Some F) (set-offers cells t s g) q),
-    )
-      where
-        used : Unused s.one u
-        used = let ug = l.gens_used in ug.1
+    module _ (g : Names Ty) (before : Gens) {around : Names Bound} (y : Text) (u : Ex) (k : Kind) (hs : Gens)
+        (t : SetTerm cells around u k) (go : Going cells ((y, from_a_set k) ∷ around) hs b)
+        (l : ListApart s.one around e (from (name_pat y) u hs))
+        (met : AtEach before env (λ here. Typed (bound_types around) here × MeetsGens (from (name_pat y) u hs) here (Meets e)))
+        (v : Valued false (comp_ex e (append_gens before (from (name_pat y) u hs))) env) where
+      fits : (o : List Alternative) → all_offered s g u ≡ Some o → Fits s.one around l.scope.all y u e hs o
+      fits o q = all-fits cells s g t go seen l o q
 
-        valued : (o : Option Alternative) → view_listing s.one s.other s.parts u ≡ o →
-            option_map (λ a. fun1 m f (laid_out a)) (only_one (option_map (map (λ a. behind_gens before (put_alternative y e hs a)))
-            (option_map (λ a. a ∷ []) o))) ≡ Some F → Valued w F env
-        valued None p q = cc
-        valued (Some a) p q = subst (λ z. Valued w z env)
-            (let z : fun1 m f (laid_out (behind_gens before (put_alternative y e hs a))) ≡ F = cc in z)
-            (fold-valued y e hs env (same_text s.one) (put l.scope.all s.one y) m w f
+      asked : SourceBehind s g before e (from (name_pat y) u hs) env
+      asked = of-some (all_offered s g u) (λ o. OfferedBehind before y e u hs o env) (λ o q. (
+        same_text s.one,
+        put l.scope.all s.one y,
+        (fits o q).apart,
+        at-each-join before env _ _ (λ here. IsTrue (is_some (meaning u here)) × Offers u o here)
+            (λ here i j. (there u here j.0, (fits o q).offers here i.0 i.1.0 j.0)) met
+            (under-behind before (from (name_pat y) u hs) env (λ z. Valued false e z) v.1),
+      ))
+
+      -- With the only alternative in its place.
+      module _ (a : Alternative) (fit : Fits s.one around l.scope.all y u e hs (a ∷ [])) where
+        abbrev put_item : Ex
+        put_item = substitute (for_name y a.item) e
+
+        abbrev put_gens : Gens
+        put_gens = append_gens a.gens (substitute_gens (for_name y a.item) hs)
+
+        tail : Tail e put_item (from (name_pat y) u hs) put_gens put_item (append_gens before put_gens) env
+        tail = tails-valued e put_item (from (name_pat y) u hs) put_gens before env
+            (at-each-map before env (λ here. Typed (bound_types around) here × MeetsGens (from (name_pat y) u hs) here (Meets e)) _
+            (λ here i z.
+            let p = put-tail s.one l.scope.all y u e hs a fit here i.0 i.1.0 (some-list _ z.0, z.1) in (list-some _ p.0, p.1)) met)
+            (list-some _ v.0, v.1)
+
+        put-valued : Valued w (fun1 m f (laid_out (behind_gens before (put_alternative y e hs a)))) env
+        put-valued = fold-valued y e hs env (same_text s.one) (put l.scope.all s.one y) m w f
             (laid_out (behind_gens before (put_alternative y e hs a))) marked (
-              some-list (items_under (append_gens before put-gens) env (λ here. option_map (λ v. v ∷ []) (meaning put-item here))) tail.0,
+              some-list (items_under (append_gens before put_gens) env (λ here. option_map (λ v. v ∷ []) (meaning put_item here))) tail.0,
               tail.1,
-            ))
-          where
-            put-item : Ex
-            put-item = substitute (for_name y a.item) e
+            )
 
-            put-gens : Gens
-            put-gens = append_gens a.gens (substitute_gens (for_name y a.item) hs)
+      valued : (o : Option (List Alternative)) → all_offered s g u ≡ o → option_map (λ a. fun1 m f (laid_out a))
+          (only_one (option_map (map (λ a. behind_gens before (put_alternative y e hs a))) o)) ≡ Some F → Valued w F env
+      valued None p q = cc
+      valued (Some []) p q = cc
+      valued (Some (a ∷ [])) p q = subst (λ z. Valued w z env)
+          (let z : fun1 m f (laid_out (behind_gens before (put_alternative y e hs a))) ≡ F = cc in z) (put-valued a (fits (a ∷ []) p))
+      valued (Some (a ∷ c ∷ o)) p q = cc
 
-            tail : Tail e put-item (from (name_pat y) u hs) put-gens put-item (append_gens before put-gens) env
-            tail = tails-valued e put-item (from (name_pat y) u hs) put-gens before env
-                (at-each-map before env (λ here. MeetsGens (from (name_pat y) u hs) here (Meets e)) _ (λ here i z.
-                let p = put-tail s.one s.other y s.parts hs t go seen l a p here i.0 (some-list _ z.0, z.1) in (list-some _ p.0, p.1)) met)
-                (list-some _ v.0, v.1)
+      at-source : option_map (λ a. fun1 m f (laid_out a)) (only_one (put_opened e before (from (name_pat y) u hs) (all_offered s g)))
+          ≡ Some F → SourceBehind s g before e (from (name_pat y) u hs) env × Valued w F env
+      at-source q = (asked, valued (all_offered s g u) refl q)
 
     at-first : (g : Names Ty) (before after : Gens) {around : Names Bound} → Going cells around after b →
-        ListApart s.one around e after → AtEach before env (λ here. MeetsGens after here (Meets e)) →
+        ListApart s.one around e after →
+        AtEach before env (λ here. Typed (bound_types around) here × MeetsGens after here (Meets e)) →
         Valued false (comp_ex e (append_gens before after)) env →
         option_map (λ a. fun1 m f (laid_out a)) (only_one (put_opened e before after (all_offered s g))) ≡ Some F →
         SourceBehind s g before e after env × Valued w F env
@@ -186,7 +134,7 @@ module _ (cells : Text → Option (Bool × ℕ)) where
     at-first g before after (among {k = k} {a = y} {s = u} {gs = hs} t go) l met v q =
         at-source g before y u k hs t go l met v q
 
-    module _ {r : Names Bound} (g : Names Ty) (gs : Gens) (going : Going cells r gs b) (l : ListApart s.one r e gs)
+    module _ {r : Names Bound} (g : Names Ty) (gs : Gens) (going : Going cells r gs b) (l : ListApart s.one r e gs) (holds : Holds r env)
         (met : Meets (fun1 m f (comp_ex e gs)) env) (v : Valued w (fun1 m f (comp_ex e gs)) env) where
       listed : Valued false (comp_ex e gs) env
       listed = inner [] e gs env m w f (comp_ex e gs) v
@@ -202,7 +150,9 @@ module _ (cells : Text → Option (Bool × ℕ)) where
           let i = met in
           at-first (names_behind t.before g) t.before t.after o.going
           (list-behind s.one r o.around e t.before t.after c (o.covers c.scope c.covers))
-          (met-behind t.before t.after env (Meets e) (subst (λ z. MeetsGens z env (Meets e)) j i.0))
+          (at-each-join t.before env (Holds o.around) (λ here. MeetsGens t.after here (Meets e))
+          (λ here. Typed (bound_types o.around) here × MeetsGens t.after here (Meets e)) (λ here h n. (h.0, n)) (o.holds env holds)
+          (met-behind t.before t.after env (Meets e) (subst (λ z. MeetsGens z env (Meets e)) j i.0)))
           (subst (λ z. Valued false (comp_ex e z) env) j listed) q
 
       -- Over one source.

@@ -1,37 +1,23 @@
 -- The laws of values of trees over views of sets, each stated at a function that does nothing.
-use Rattle.std.specs.Prelude.{◌≡◌, ℕ, Bool, true, not, Option, Some, IsTrue}
+use Rattle.std.specs.Prelude.{◌≡◌, ℕ, Bool, true, Option, Some, IsTrue}
 use Rattle.ess_semantics.specs.Values.{Text}
-use Rattle.ess_semantics.specs.Order.{same_text}
-use Rattle.ess_semantics.specs.Names.{Names, look}
+use Rattle.ess_semantics.specs.Names.{Names}
 use Rattle.ess_semantics.specs.Trees.{Ex}
 use Rattle.ess_semantics.specs.Typed.{Typed}
 use Rattle.ess_semantics.specs.Meaning.{Env, meaning}
 use Rattle.ess_semantics.specs.Meets.{Meets}
 use Rattle.ess_semantics.specs.Scoped.{Scoped}
-use Rattle.ess_semantics.specs.Substitution.{NamesAre}
 use Rattle.ess_semantics.specs.Contexts.{In, fill, Where}
 use Rattle.ess_semantics.specs.NamesAt.{names_at}
-use Rattle.ess_rules_laws.specs.Rules.{Unused}
 use Rattle.ess_refine_laws.specs.ScopesStay.{Scope, scope_at, is_outside_views}
 use Rattle.ess_refine_laws.specs.AllRules.{Supply, Rule, rewrite}
 use Rattle.ess_open_rules_laws.specs.OpenRules.{KindRuling, kind_ruled}
 use Rattle.ess_values_along_laws.specs.Valued.{Valued}
 use Rattle.ess_seen_laws.specs.Seen.{Bound, bound_types, Seen}
-use Rattle.ess_seen_values_laws.specs.Fires.{is_kept_plainly, is_kept_by_kind}
+use Rattle.ess_seen_laws.specs.MayFire.{may_fire, may_fire_by_kind}
+use Rattle.ess_seen_laws.specs.Apart.{Apart}
 
 -- ---- rules
-
--- Names are told apart at a tree around which the names r are bound: it is in scope, z are the names that domains of declarations may use,
--- s those in scope, o those of them that are bound over domains; s has the names that are bound around; and the tree neither uses nor binds
--- the new name x.
-pub record ToldApart (x : Text) (r : Names Bound) (e : Ex) : Type 0 where
-  pub declared : Text → Bool
-  pub scope : Text → Bool
-  pub ranging : Text → Bool
-  pub scoped : Scoped declared scope ranging e
-  pub covers : (a : Text) (b : Bound) → look r a ≡ Some b → scope a ≡ true
-  pub new : Unused x e
-  pub unbound : NamesAre (λ a. true) (λ a. not (same_text x a)) e
 
 -- Names have values of their types, positions stand for the values of named types, as in models, and tables meet the structures.
 pub record IsMet (r : Names Bound) (e : Ex) (env : Env) : Type 0 where
@@ -49,10 +35,10 @@ pub record StaysAlike (w : Bool) (old new : Ex) (env : Env) : Type 0 where
 -- So each of the rules that fire at such a tree keeps it.
 pub record SeenRulesKeep : Type 0 where
   pub plainly : (cells : Text → Option (Bool × ℕ)) (s : Supply) (r : Names Bound) (u : Rule) (e f : Ex) (m : Bool) → Seen cells r e m →
-      ToldApart s.one r e → is_kept_plainly u ≡ true → rewrite s (bound_types r) u e ≡ Some f → (env : Env) → IsMet r e env → (w : Bool) →
+      Apart s.one r e → may_fire u ≡ true → rewrite s (bound_types r) u e ≡ Some f → (env : Env) → IsMet r e env → (w : Bool) →
       Valued w e env → StaysAlike w e f env
   pub by_kind : (cells : Text → Option (Bool × ℕ)) (s : Supply) (r : Names Bound) (u : KindRuling) (e f : Ex) (m : Bool) →
-      Seen cells r e m → ToldApart s.one r e → is_kept_by_kind u ≡ true → kind_ruled s (bound_types r) u e ≡ Some f → (env : Env) →
+      Seen cells r e m → Apart s.one r e → may_fire_by_kind u ≡ true → kind_ruled s (bound_types r) u e ≡ Some f → (env : Env) →
       IsMet r e env → (w : Bool) → Valued w e env → StaysAlike w e f env
 
 -- ---- parts

@@ -5,24 +5,34 @@ use Rattle.ess_semantics.specs.declared.words.Op2.{Op2}
 use Rattle.ess_semantics.specs.declared.words.Fun.{Fun}
 use Rattle.ess_semantics.specs.Values.{Text}
 use Rattle.ess_semantics.specs.Order.{same_text}
+use Rattle.ess_semantics.specs.Names.{is_among}
 use Rattle.ess_semantics.specs.Trees.{both_ends, name_pat, Ex, number_ex, name_ex, no_exs, more_exs, comp_ex, no_gens, over, from, cond, int_dom, ex1, ex2, fun1}
 use Rattle.ess_seen_laws.specs.Seen.{Kind, scalars, sets_of}
 use Rattle.ess_setwise_laws.specs.Setwise.{setwise_mark, is_setwise_truth}
 
--- The number n and the truth value b; a set s of sets of numbers, and a set t of numbers.
+-- The number n and the truth value b; sets r and s of sets of numbers, and sets t, u and v of numbers.
 abbrev marks : Text → Option Bool
 marks a = if same_text a (codes "n") then Some false else (if same_text a (codes "b") then Some true else None)
 
 abbrev sets : Text → Option Kind
 sets a =
-    if same_text a (codes "s") then Some (sets_of (scalars false)) else
-    (if same_text a (codes "t") then Some (scalars false) else None)
+    if is_among (codes "r" ∷ codes "s" ∷ []) a then Some (sets_of (scalars false)) else
+    (if is_among (codes "t" ∷ codes "u" ∷ codes "v" ∷ []) a then Some (scalars false) else None)
+
+abbrev r : Ex
+r = name_ex (codes "r")
 
 abbrev s : Ex
 s = name_ex (codes "s")
 
 abbrev t : Ex
 t = name_ex (codes "t")
+
+abbrev u : Ex
+u = name_ex (codes "u")
+
+abbrev v : Ex
+v = name_ex (codes "v")
 
 abbrev n : Ex
 n = name_ex (codes "n")
@@ -38,6 +48,12 @@ size e = ex1 false Op1.Bar e
 
 abbrev is_in : Ex → Ex → Ex
 is_in e f = ex2 true Op2.Member e f
+
+abbrev union : Ex → Ex → Ex
+union e f = ex2 false Op2.Union e f
+
+abbrev lessened : Ex → Ex → Ex
+lessened e f = ex2 false Op2.Minus e f
 
 -- `forAll x in s . |x| >= 2`
 for_all : is_setwise_truth marks sets
@@ -76,22 +92,66 @@ sum_of : is_setwise_truth marks sets
     (number_ex (pos 7))) ≡ true
 sum_of = refl
 
--- A truth value isn't asked for in a set of numbers, nor a set in a set, nor are sets compared.
+-- `t union u = v`
+of_two : is_setwise_truth marks sets (ex2 true Op2.Eq (union t u) v) ≡ true
+of_two = refl
+
+-- `t in s`, and `t intersect u in r union s`
+set_in_set : is_setwise_truth marks sets (is_in t s) ≡ true
+set_in_set = refl
+
+of_two_in_two : is_setwise_truth marks sets (is_in (ex2 false Op2.Intersect t u) (union r s)) ≡ true
+of_two_in_two = refl
+
+-- `forAll x in r - s . x subsetEq t`
+for_all_of_two : is_setwise_truth marks sets
+    (fun1 true Fun.And (comp_ex (ex2 true Op2.SubsetEq x t) (from (name_pat (codes "x")) (lessened r s) no_gens))) ≡ true
+for_all_of_two = refl
+
+-- `exists i in t - u . i in v union t /\ i < n`
+members_of_two : is_setwise_truth marks sets
+    (fun1 true Fun.Or
+    (comp_ex (ex2 true Op2.And (is_in i (union v t)) (ex2 true Op2.Lt i n)) (from (name_pat (codes "i")) (lessened t u) no_gens))) ≡ true
+members_of_two = refl
+
+-- `r != s \/ |t| - |u| = 2`: a difference of numbers is none of sets.
+two_differences : is_setwise_truth marks sets
+    (ex2 true Op2.Or (ex2 true Op2.Ne r s) (ex2 true Op2.Eq (ex2 false Op2.Minus (size t) (size u)) (number_ex (pos 2)))) ≡ true
+two_differences = refl
+
+-- The size of a set that is made of two isn't asked, but that of a difference of numbers is: `|t union u|`, and `| |t| - n |`.
+no_size_of_two : setwise_mark marks sets (size (union t u)) ≡ None
+no_size_of_two = refl
+
+size_of_numbers : setwise_mark marks sets (size (ex2 false Op2.Minus (size t) n)) ≡ Some false
+size_of_numbers = refl
+
+-- A truth value isn't asked for in a set of numbers, nor a set in one; sets of other members aren't compared, nor put together, and `<` is
+-- no sign between sets.
 no_truth_in_numbers : setwise_mark marks sets (is_in (name_ex (codes "b")) t) ≡ None
 no_truth_in_numbers = refl
 
-no_set_in_set : setwise_mark marks sets (is_in t s) ≡ None
-no_set_in_set = refl
+no_set_in_numbers : setwise_mark marks sets (is_in u t) ≡ None
+no_set_in_numbers = refl
 
-no_equal_sets : setwise_mark marks sets (ex2 true Op2.Eq t t) ≡ None
-no_equal_sets = refl
+no_other_sets : setwise_mark marks sets (ex2 true Op2.Eq s t) ≡ None
+no_other_sets = refl
 
--- Members aren't summed yet; and a name that is a set is no constraint.
+no_other_union : setwise_mark marks sets (is_in t (union s t)) ≡ None
+no_other_union = refl
+
+no_order : setwise_mark marks sets (ex2 true Op2.Lt t u) ≡ None
+no_order = refl
+
+-- Members aren't summed; and a set is no constraint.
 no_sum_of_members : setwise_mark marks sets (fun1 false Fun.Sum (comp_ex i (from (name_pat (codes "i")) t no_gens))) ≡ None
 no_sum_of_members = refl
 
 no_set_alone : setwise_mark marks sets t ≡ None
 no_set_alone = refl
+
+no_union_alone : setwise_mark marks sets (union t u) ≡ None
+no_union_alone = refl
 
 -- No name hides another one.
 no_hiding : setwise_mark marks sets

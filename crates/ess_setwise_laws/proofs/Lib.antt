@@ -1,10 +1,12 @@
 -- Trees of the class, and what is tested
 pub mod SetwiseTrees
+pub mod OperatorKinds
 pub mod Tested
 -- Over tables
 pub mod ShownForms
 pub mod NameKinds
-pub mod Counted
+pub mod Spellings
+pub mod ToldSets
 pub mod ToldSetwise
 pub mod ToldCounted
 pub mod ToldMeans
@@ -13,6 +15,7 @@ pub mod SetwiseGuard
 pub mod SetwiseSeen
 pub mod SetwiseMet
 pub mod ItemValues
+pub mod OperatorValues
 pub mod SetwiseValues
 -- What is promised
 pub mod SetwiseLaws

@@ -1,5 +1,5 @@
 -- Kinds of names in constraints that speak of sets, as names become reserved ones, cells and views.
-use Rattle.std.proofs.Common.{◌≡◌, refl, sym, ap, ◌∙◌, subst, ℕ, suc, ◌≤◌, ◌<◌, Bool, true, false, if◌then◌else◌, [], ◌∷◌, Option, Some, None, arith}
+use Rattle.std.proofs.Common.{◌≡◌, refl, sym, ap, ◌∙◌, subst, ℕ, zero, suc, ◌≤◌, ◌<◌, Bool, true, false, ◌||◌, if◌then◌else◌, [], ◌∷◌, Option, Some, None, arith}
 use Rattle.std.specs.Prelude.{IsTrue}
 use Rattle.ess_semantics.specs.Lists.{or_default}
 use Rattle.ess_semantics.specs.Values.{Text}
@@ -10,10 +10,34 @@ use Rattle.ess_semantics.proofs.Texts.{same_text-equal, same_text-itself}
 use Rattle.conjure_model_laws.specs.ToldApart.{reserved, renamed}
 use Rattle.conjure_model_laws.specs.Shown.{Shows, in_place}
 use Rattle.ess_chain_names_laws.proofs.ToldNames.{on}
-use Rattle.ess_chain_names_laws.proofs.SparedNames.{is_before, given}
+use Rattle.ess_depth_laws.specs.Below.{is_below}
 use Rattle.ess_seen_laws.specs.Seen.{Kind, sets_of, Bound, bound_kind}
 use Rattle.ess_setwise_laws.specs.Setwise.{kind_at}
 use Rattle.ess_setwise_laws.proofs.SetwiseTrees.{Stands, named, as_shown, no_kind, in_first, in_last, ShownFor, ShowsAll}
+
+-- ---- reserved names
+
+-- What isn't the k-th name is below it, where it is one below the next.
+one-below : (k i : ℕ) → i < suc k → same_text (reserved k) (reserved i) ≡ false → i < k
+one-below k i l e = below k i l (λ q. no (sym (same_text-itself (reserved k)) ∙ ap (λ n. same_text (reserved k) (reserved n)) (sym q) ∙ e))
+  where
+    no : true ≡ false → ⊥
+    no r = cc
+
+    below : (k i : ℕ) → i < suc k → (i ≡ k → ⊥) → i < k
+    below k i l n = omega (arith, l, n)
+
+-- A reserved name is below each later one.
+pub below-has : (k i : ℕ) → i < k → IsTrue (is_below k (reserved i))
+below-has zero i l = absurd (omega (arith, l))
+below-has (suc k) i l = go (same_text (reserved k) (reserved i)) refl (λ b. below-has k i b)
+  where
+    go : (b : Bool) → same_text (reserved k) (reserved i) ≡ b → (i < k → IsTrue (is_below k (reserved i))) →
+        IsTrue (b || is_below k (reserved i))
+    go true e f = refl
+    go false e f = f (one-below k i l e)
+
+-- ---- bound names
 
 -- The kind of a bound name.
 abbrev pub bound_at : Names Bound → Text → Option Kind
@@ -55,7 +79,7 @@ module _ (sh : Shows) (names : Text → Option Kind) (cells : Text → Option (B
     pub firsts : (a : Text) (i : Kind) → kind_at names r a ≡ Some i → IsAt t (in_place sh.first (renamed u a)) i
     pub lasts : (a : Text) (i : Kind) → kind_at names r a ≡ Some (sets_of i) → IsAt t (in_place sh.last (renamed u a)) (sets_of i)
     pub spared : (j : ℕ) → k ≤ j → j < lim → bound_at t (reserved j) ≡ None
-    pub used : (b : Text) (i : Kind) → bound_at t b ≡ Some i → IsTrue (is_before lim b)
+    pub used : (b : Text) (i : Kind) → bound_at t b ≡ Some i → IsTrue (is_below lim b)
 
   -- The same before a later number.
   pub later : (r t : Names Bound) (u : Names Text) (k i : ℕ) → k ≤ i → Kept r t u k → Kept r t u i
@@ -88,12 +112,12 @@ module _ (sh : Shows) (names : Text → Option Kind) (cells : Text → Option (B
       go false q = at-more t (in_place vs (renamed u b)) i x (reserved k) n (f q)
 
   -- The names in use are reserved ones before the last.
-  use-more : (x : Bound) (t : Names Bound) (k : ℕ) → k < lim → ((b : Text) (i : Kind) → bound_at t b ≡ Some i → IsTrue (is_before lim b)) →
-      (b : Text) (i : Kind) → bound_at ((reserved k, x) ∷ t) b ≡ Some i → IsTrue (is_before lim b)
+  use-more : (x : Bound) (t : Names Bound) (k : ℕ) → k < lim → ((b : Text) (i : Kind) → bound_at t b ≡ Some i → IsTrue (is_below lim b)) →
+      (b : Text) (i : Kind) → bound_at ((reserved k, x) ∷ t) b ≡ Some i → IsTrue (is_below lim b)
   use-more x t k l f b i h = go (same_text (reserved k) b) refl h
     where
-      go : (c : Bool) → same_text (reserved k) b ≡ c → (if c then Some (bound_kind x) else bound_at t b) ≡ Some i → IsTrue (is_before lim b)
-      go true q h = subst (λ a. IsTrue (is_before lim a)) (same_text-equal (reserved k) b q) (given (λ a. false) lim k l)
+      go : (c : Bool) → same_text (reserved k) b ≡ c → (if c then Some (bound_kind x) else bound_at t b) ≡ Some i → IsTrue (is_below lim b)
+      go true q h = subst (λ a. IsTrue (is_below lim a)) (same_text-equal (reserved k) b q) (below-has lim k l)
       go false q h = f b i h
 
   -- One more name is bound.

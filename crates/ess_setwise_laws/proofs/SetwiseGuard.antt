@@ -11,8 +11,8 @@ use Rattle.ess_guard_laws.specs.Conditions.{chained, every, given_that}
 use Rattle.ess_guard_laws.specs.Guard.{guarded, guarded_gens, conditions, conditions_gens}
 use Rattle.ess_flat_laws.specs.Flat.{OneOp, TwoOp, denied, negative, absolute, both, either, implied, agreeing, equal, unequal, below, at_most, above, at_least, sum, difference, product}
 use Rattle.ess_bare_laws.specs.Bare.{TruthWord, all_hold, some_holds}
-use Rattle.ess_seen_laws.specs.Seen.{Kind, Bound}
-use Rattle.ess_setwise_laws.proofs.SetwiseTrees.{Stands, named, as_shown, Setwise, number, truth, scalar, one, two, chosen, folded, added, size, within, Binding, at_end, over_truths, over_numbers, among, where_holds, Form, a_cell, a_view}
+use Rattle.ess_seen_laws.specs.Seen.{Kind, Bound, Combines, united, shared, lessened, Compares, alike, apart, included, properly_included, including, properly_including}
+use Rattle.ess_setwise_laws.proofs.SetwiseTrees.{Stands, named, as_shown, SetTree, stands, combined, Setwise, number, truth, scalar, one, two, chosen, folded, added, size, within, set_within, compared, Binding, at_end, over_truths, over_numbers, among, where_holds, Form, a_cell, a_view}
 
 -- Two operands whose nodes have conditions of their own, and none.
 none-both : (as' bs : List Ex) → as' ≡ [] → bs ≡ [] → (as' ++ (bs ++ [])) ++ [] ≡ []
@@ -85,6 +85,25 @@ module _ (names : Text → Option Kind) (Shown : Ex → Kind → Type 0) (cells 
   at-kept (named h) k = refl
   at-kept (as_shown {e = e} {k = i} h) k = form-kept (form e i h) k
 
+  -- A set made of two has a value under no condition.
+  combined-none : {o : Op2} (x y : Ex) → Combines o → ((k : Names Origin) (w : Bool) → conds k w x ≡ []) →
+      ((k : Names Origin) (w : Bool) → conds k w y ≡ []) → (k : Names Origin) (w : Bool) → conds k w (ex2 false o x y) ≡ []
+  combined-none x y united f h k true = none-both (conds k false x) (conds k false y) (f k false) (h k false)
+  combined-none x y united f h k false = none-both (conds k false x) (conds k false y) (f k false) (h k false)
+  combined-none x y shared f h k true = none-both (conds k false x) (conds k false y) (f k false) (h k false)
+  combined-none x y shared f h k false = none-both (conds k false x) (conds k false y) (f k false) (h k false)
+  combined-none x y lessened f h k true = none-both (conds k true x) (conds k true y) (f k true) (h k true)
+  combined-none x y lessened f h k false = none-both (conds k false x) (conds k false y) (f k false) (h k false)
+
+  set-none : {r : Names Bound} {e : Ex} {i : Kind} → SetTree names Shown r e i → (k : Names Origin) (w : Bool) → conds k w e ≡ []
+  set-none (stands h) k w = at-none h k w
+  set-none (combined {s = x} {t = y} c f h) k w = combined-none x y c (set-none f) (set-none h) k w
+
+  -- So it stays as it is.
+  set-kept : {r : Names Bound} {e : Ex} {i : Kind} → SetTree names Shown r e i → (k : Names Origin) → kept k e ≡ e
+  set-kept (stands h) k = at-kept h k
+  set-kept (combined {o = o} {s = x} {t = y} c f h) k = both-kept false o x y (kept k x) (kept k y) (set-kept f k) (set-kept h k)
+
   -- An operator on terms without conditions.
   one-none : {b m : Bool} {o : Op1} (x : Ex) → OneOp b o m → ((k : Names Origin) (w : Bool) → conds k w x ≡ []) → (k : Names Origin)
       (w : Bool) → conds k w (ex1 b o x) ≡ []
@@ -133,6 +152,8 @@ module _ (names : Text → Option Kind) (Shown : Ex → Kind → Type 0) (cells 
     no-conditions (size {s = s} h) k true = none-one (conds k true s) (at-none h k true)
     no-conditions (size {s = s} h) k false = none-one (conds k false s) (at-none h k false)
     no-conditions (within f h) k w = refl
+    no-conditions (set_within f h) k w = refl
+    no-conditions (compared c f h) k w = refl
 
     -- Generators neither, where what stands behind them needs none.
     none-gens : {c : Bool} {r t : Names Bound} {gs : Gens} → Binding names Shown c r gs t → (cs : List Ex) → cs ≡ [] → (k : Names Origin) →
@@ -146,7 +167,7 @@ module _ (names : Text → Option Kind) (Shown : Ex → Kind → Type 0) (cells 
         _ (no-conditions f k false) (no-conditions v k false)
         (none-gens g cs h (with_over (name_pat a) (int_dom (both_ends ∷ []) (more_exs x (more_exs y no_exs))) k))
     none-gens (among {a = a} {s = s} {gs = gs} w f g) cs h k =
-        none-source (conds k false s) (conditions_gens true p q (with_any (name_pat a) k) gs cs) _ (at-none f k false)
+        none-source (conds k false s) (conditions_gens true p q (with_any (name_pat a) k) gs cs) _ (set-none f k false)
         (none-gens g cs h (with_any (name_pat a) k))
     none-gens (where_holds {e = e} f g) cs h k = ap (given_that (guarded true p q k e)) (none-gens g cs h k)
 
@@ -178,6 +199,29 @@ module _ (names : Text → Option Kind) (Shown : Ex → Kind → Type 0) (cells 
   one-guarded x negative k c = ap (ex1 false Op1.Minus) c
   one-guarded x absolute k c = ap (ex1 false Op1.Bar) c
 
+  -- A comparison of sets stays.
+  compared-guarded : {o : Op2} (x y : Ex) → Compares o → ((k : Names Origin) (w : Bool) → conds k w x ≡ []) →
+      ((k : Names Origin) (w : Bool) → conds k w y ≡ []) → (k : Names Origin) → kept k x ≡ x → kept k y ≡ y →
+      kept k (ex2 true o x y) ≡ ex2 true o x y
+  compared-guarded x y alike f h k c d =
+      two-kept Op2.Eq x y (kept k x) (kept k y) (conds k true x) (conds k true y) (f k true) (h k true) c d
+  compared-guarded x y apart f h k c d =
+      two-kept Op2.Ne x y (kept k x) (kept k y) (conds k true x) (conds k true y) (f k true) (h k true) c d
+  compared-guarded x y included f h k c d =
+      two-kept Op2.SubsetEq x y (kept k x) (kept k y) (conds k false x) (conds k false y) (f k false) (h k false) c d
+  compared-guarded x y properly_included f h k c d =
+      two-kept Op2.Subset x y (kept k x) (kept k y) (conds k false x) (conds k false y) (f k false) (h k false) c d
+  compared-guarded x y including f h k c d =
+      two-kept Op2.SupsetEq x y (kept k x) (kept k y) (conds k false x) (conds k false y) (f k false) (h k false) c d
+  compared-guarded x y properly_including f h k c d =
+      two-kept Op2.Supset x y (kept k x) (kept k y) (conds k false x) (conds k false y) (f k false) (h k false) c d
+
+  -- A membership in a set does.
+  in-guarded : (x y : Ex) → ((k : Names Origin) (w : Bool) → conds k w x ≡ []) → ((k : Names Origin) (w : Bool) → conds k w y ≡ []) →
+      (k : Names Origin) → kept k x ≡ x → kept k y ≡ y → kept k (ex2 true Op2.Member x y) ≡ ex2 true Op2.Member x y
+  in-guarded x y f h k c d =
+      two-kept Op2.Member x y (kept k x) (kept k y) (conds k false x) (conds k false y) (f k false) (h k false) c d
+
   fold-guarded : {f : Fun} (e : Ex) (gs : Gens) → TruthWord f → (k : Names Origin) → conds k false (comp_ex e gs) ≡ [] →
       kept (known_behind gs k) e ≡ e → guarded_gens true p q k gs ≡ gs → kept k (fun1 true f (comp_ex e gs)) ≡ fun1 true f (comp_ex e gs)
   fold-guarded e gs all_hold k n c d =
@@ -203,8 +247,10 @@ module _ (names : Text → Option Kind) (Shown : Ex → Kind → Type 0) (cells 
         ∙ ap (λ z. fun1 false Fun.Sum (comp_ex e z)) (guarded-binding g k)
     guarded-setwise (size h) k = ap (ex1 false Op1.Bar) (at-kept h k)
     guarded-setwise (within {x = x} {s = s} f h) k =
-        two-kept Op2.Member x s (kept k x) (kept k s) (conds k false x) (conds k false s) (no-conditions f k false) (at-none h k false)
-        (guarded-setwise f k) (at-kept h k)
+        in-guarded x s (no-conditions f) (set-none h) k (guarded-setwise f k) (set-kept h k)
+    guarded-setwise (set_within {a = x} {s = s} f h) k = in-guarded x s (set-none f) (set-none h) k (set-kept f k) (set-kept h k)
+    guarded-setwise (compared {s = x} {t = y} c f h) k =
+        compared-guarded x y c (set-none f) (set-none h) k (set-kept f k) (set-kept h k)
 
     guarded-binding : {c : Bool} {r t : Names Bound} {gs : Gens} → Binding names Shown c r gs t → (k : Names Origin) →
         guarded_gens true p q k gs ≡ gs
@@ -214,6 +260,6 @@ module _ (names : Text → Option Kind) (Shown : Ex → Kind → Type 0) (cells 
         range-kept a x y (kept k x) (kept k y) gs _ (guarded-setwise f k) (guarded-setwise h k)
         (guarded-binding g (with_over (name_pat a) (int_dom (both_ends ∷ []) (more_exs x (more_exs y no_exs))) k))
     guarded-binding (among {a = a} {s = s} {gs = gs} w h g) k =
-        source-kept a s (kept k s) gs _ (at-kept h k) (guarded-binding g (with_any (name_pat a) k))
+        source-kept a s (kept k s) gs _ (set-kept h k) (guarded-binding g (with_any (name_pat a) k))
     guarded-binding (where_holds {e = e} {gs = gs} f g) k =
         ap (λ z. cond z (guarded_gens true p q k gs)) (guarded-setwise f k) ∙ ap (cond e) (guarded-binding g k)

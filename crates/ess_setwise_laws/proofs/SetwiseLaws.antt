@@ -7,7 +7,6 @@ use Rattle.ess_semantics.specs.Order.{same_text}
 use Rattle.ess_semantics.specs.Names.{look}
 use Rattle.ess_semantics.specs.Trees.{Ex, name_ex, seen_ex, no_exs, set_dom}
 use Rattle.ess_semantics.specs.Scoped.{Scoped}
-use Rattle.ess_semantics.specs.Substitution.{NamesAre}
 use Rattle.ess_semantics.specs.Meaning.{Env, meaning}
 use Rattle.ess_semantics.specs.Meets.{Meets}
 use Rattle.ess_refine_laws.specs.SpellingEnds.{numbers_of_tree}
@@ -18,8 +17,7 @@ use Rattle.conjure_model_laws.specs.Shown.{Shows, in_place}
 use Rattle.conjure_model_laws.specs.IsBuiltFrom.{tree_of, constraint_tree}
 use Rattle.conjure_model_laws.specs.Printed.{binders}
 use Rattle.conjure_model_laws.proofs.ToldLaws.{reserved-differ}
-use Rattle.ess_chain_names_laws.proofs.SparedNames.{is_before, before-none}
-use Rattle.ess_load_laws.specs.Load.{load}
+use Rattle.ess_depth_laws.specs.Below.{HasNamesBelow}
 use Rattle.ess_ranged_laws.specs.Laws.{HasMark, HoldsNames, none}
 use Rattle.ess_seen_laws.specs.Seen.{Kind, scalars, sets_of, Seen}
 use Rattle.ess_setwise_laws.specs.Setwise.{marked_or_set, free_kind, setwise_mark}
@@ -28,7 +26,8 @@ use Rattle.ess_setwise_laws.proofs.SetwiseTrees.{Setwise, NoneShown, no_kind, Fo
 use Rattle.ess_setwise_laws.proofs.Tested.{tested-mark}
 use Rattle.ess_setwise_laws.proofs.ShownForms.{HasKind, cell-met, cell-spelled, form-still, form-met, view-value}
 use Rattle.ess_setwise_laws.proofs.NameKinds.{Kept, kept-none}
-use Rattle.ess_setwise_laws.proofs.ToldSetwise.{Made, SpellsShown, told-setwise}
+use Rattle.ess_setwise_laws.proofs.ToldSets.{SpellsShown}
+use Rattle.ess_setwise_laws.proofs.ToldSetwise.{Made, told-setwise}
 use Rattle.ess_setwise_laws.proofs.ToldCounted.{told-next}
 use Rattle.ess_setwise_laws.proofs.ToldMeans.{told-means}
 use Rattle.ess_setwise_laws.proofs.SetwiseGuard.{guarded-setwise}
@@ -139,7 +138,7 @@ module _ (sh : Shows) (marks : Text → Option Bool) (sets : Text → Option Kin
     start : Kept sh names cells all-shown lim differ [] [] [] sh.next
     start = kept-none sh names cells all-shown lim differ sh.next
 
-    made : Made sh names cells all-shown lim differ [] e m [] sh.next
+    made : Made sh names cells all-shown lim differ [] e T m
     made = told-setwise sh names cells all-shown lim differ over [] [] sh.next (omega arith) start
 
     form-of : (e : Ex) (k : Kind) → Shown e k → Form cells e k
@@ -159,7 +158,7 @@ module _ (sh : Shows) (marks : Text → Option Bool) (sets : Text → Option Kin
         firsts a (scalars b) q = v.holds a b (scalar-marked (marks a) (sets a) b q)
         firsts a (sets_of k) q = s.first a k (set-kind (marks a) (sets a) k q)
 
-    shown-spelled : (q : ℤ → Bool) → SpellsSets sh sets q → SpellsShown sh names cells all-shown lim differ q
+    shown-spelled : (q : ℤ → Bool) → SpellsSets sh sets q → SpellsShown sh names cells q
     shown-spelled q s e (scalars b) h = cell-spelled cells h.form q
     shown-spelled q s e (sets_of k) h =
         set-place (λ z. list_all q (numbers_of_tree z) ≡ true) (λ a k p. s.first a k p) (λ a k p. s.last a k p) e k h
@@ -174,12 +173,7 @@ module _ (sh : Shows) (marks : Text → Option Bool) (sets : Text → Option Kin
       seen = subst (λ z. Seen cells [] z m) (sym is-tree) (setwise-seen Shown cells form-of made.tree);
       scoped = subst (λ z. Scoped none none none z) (sym is-tree)
           (setwise-scoped Shown cells form-of made.tree none none none (λ a. refl));
-      binds = ap binders is-tree ∙ made.alike.binds;
-      next = made.alike.next;
-      loads = ap load is-tree ∙ made.alike.loads;
-      among = is_before lim;
-      names = subst (λ z. NamesAre (is_before lim) (is_before lim) z) (sym is-tree) made.uses;
-      spared = λ j l z. before-none lim j l z;
+      names = subst (λ z. HasNamesBelow lim z) (sym is-tree) made.uses;
       spells = λ q s p. ap (λ z. list_all q (numbers_of_tree z)) is-tree ∙ made.alike.spells q (shown-spelled q s) p;
       means = λ env there v s. ap (λ z. meaning z there) is-tree ∙ names-mean env there v s;
       meets = λ env v. subst (λ z. Meets z env) (sym is-tree)

@@ -9,7 +9,7 @@ use Rattle.ess_semantics.specs.Meets.{Meets, MeetsGens}
 use Rattle.ess_semantics.specs.Contexts.{Each, EachOf, EachIn, Guarded, guards}
 use Rattle.ess_rules_laws.proofs.Simulation.{Vals, E}
 use Rattle.ess_seen_laws.specs.Seen.{Kind, Bound}
-use Rattle.ess_setwise_laws.proofs.SetwiseTrees.{Stands, named, as_shown, Setwise, number, truth, scalar, one, two, chosen, folded, added, size, within, Binding, at_end, over_truths, over_numbers, among, where_holds, no_kind}
+use Rattle.ess_setwise_laws.proofs.SetwiseTrees.{Stands, named, as_shown, SetTree, stands, combined, Setwise, number, truth, scalar, one, two, chosen, folded, added, size, within, set_within, compared, Binding, at_end, over_truths, over_numbers, among, where_holds, no_kind}
 
 -- What holds of each value holds of those of a list.
 each-any : (vs : List Value) (P : Value → Type 0) → ((v : Value) → P v) → Each vs P
@@ -45,6 +45,10 @@ module _ (Shown : Ex → Kind → Type 0) (pl : Bool) (ts : List TypeEntry) (cs 
       Meets (node_ex b op (more_exs x (more_exs y no_exs))) (M g)
   two-met b op x y g p q = (p, guarded-any (guards op) (meaning x (M g)) _ (q, tt))
 
+  set-met : {t : Names Bound} {e : Ex} {k : Kind} → SetTree no_kind Shown t e k → (g : Vals) → Meets e (M g)
+  set-met (stands h) g = at-met h g
+  set-met (combined {o = o} {s = x} {t = y} c f h) g = two-met false (binary o) x y g (set-met f g) (set-met h g)
+
   mutual
     -- Each part meets its structures wherever its context holds.
     pub setwise-met : {t : Names Bound} {e : Ex} {m : Bool} → C t e m → (g : Vals) → Meets e (M g)
@@ -57,7 +61,9 @@ module _ (Shown : Ex → Kind → Type 0) (pl : Bool) (ts : List TypeEntry) (cs 
     setwise-met (folded {e = e} w d f) g = (binding-met d e (λ h. setwise-met f h) g, tt)
     setwise-met (added {e = e} d f) g = (binding-met d e (λ h. setwise-met f h) g, tt)
     setwise-met (size h) g = (at-met h g, tt)
-    setwise-met (within f h) g = (setwise-met f g, (at-met h g, tt))
+    setwise-met (within f h) g = (setwise-met f g, (set-met h g, tt))
+    setwise-met (set_within f h) g = (set-met f g, (set-met h g, tt))
+    setwise-met (compared {o = o} {s = x} {t = y} c f h) g = two-met true (binary o) x y g (set-met f g) (set-met h g)
 
     binding-met : {c : Bool} {t s : Names Bound} {gs : Gens} → Binding no_kind Shown c t gs s → (e : Ex) →
         ((g : Vals) → Meets e (M g)) → (g : Vals) → MeetsGens gs (M g) (λ here. Meets e here)
@@ -73,7 +79,7 @@ module _ (Shown : Ex → Kind → Type 0) (pl : Bool) (ts : List TypeEntry) (cs 
           (λ v. MeetsGens gs (M ((a, v) ∷ g)) (λ here. Meets e here)) (λ v. binding-met d e f ((a, v) ∷ g)),
     )
     binding-met (among {a = a} {s = s} {gs = gs} n h d) e f g = (
-      at-met h g,
+      set-met h g,
       each-in-any (meaning s (M g)) (λ v. MeetsGens gs (M ((a, v) ∷ g)) (λ here. Meets e here))
           (λ v. binding-met d e f ((a, v) ∷ g)),
     )

@@ -7,8 +7,8 @@ use Rattle.ess_semantics.specs.Names.{Names, look}
 use Rattle.ess_semantics.specs.Trees.{name_pat, Ex, Gens}
 use Rattle.ess_semantics.specs.Scoped.{with_names, Scoped, ScopedGens}
 use Rattle.ess_seen_laws.specs.Seen as S
-use Rattle.ess_seen_laws.specs.Seen.{Kind, scalars, sets_of, Bound, over_a_range, from_a_set, bound_kind}
-use Rattle.ess_setwise_laws.proofs.SetwiseTrees.{Stands, named, as_shown, Setwise, number, truth, scalar, one, two, chosen, folded, added, size, within, Binding, at_end, over_truths, over_numbers, among, where_holds, no_kind, Form, a_cell, a_view}
+use Rattle.ess_seen_laws.specs.Seen.{Kind, scalars, sets_of, Bound, over_a_range, from_a_set, bound_kind, is_combined}
+use Rattle.ess_setwise_laws.proofs.SetwiseTrees.{Stands, named, as_shown, SetTree, stands, combined, Setwise, number, truth, scalar, one, two, chosen, folded, added, size, within, set_within, compared, Binding, at_end, over_truths, over_numbers, among, where_holds, no_kind, Form, a_cell, a_view}
 use Rattle.ess_setwise_laws.proofs.ShownForms.{form-scoped}
 use Rattle.ess_setwise_laws.proofs.NameKinds.{bound_at}
 
@@ -52,10 +52,24 @@ module _ (Shown : Ex → Kind → Type 0) (cells : Text → Option (Bool × ℕ)
   scalar-seen {r} {e} {m} (named {a = a} h) = let z = looked r a (scalars m) h in S.named z.found z.kind
   scalar-seen {r} {e} {m} (as_shown h) = form-scalar (form e (scalars m) h)
 
-  set-seen : {r : Names Bound} {e : Ex} {k : Kind} → Stands no_kind Shown r e (sets_of k) → S.SetTerm cells r e k
-  set-seen {r} {e} {k} (named {a = a} h) =
+  place-seen : {r : Names Bound} {e : Ex} {k : Kind} → Stands no_kind Shown r e (sets_of k) → S.SetTerm cells r e k
+  place-seen {r} {e} {k} (named {a = a} h) =
       let z = looked r a (sets_of k) h in S.drawn (z.found ∙ ap Some (from-a-set z.bound k z.kind))
-  set-seen {r} {e} {k} (as_shown h) = form-set (form e (sets_of k) h)
+  place-seen {r} {e} {k} (as_shown h) = form-set (form e (sets_of k) h)
+
+  -- What stands for a name isn't made of two.
+  form-alone : {e : Ex} {k : Kind} → Form cells e k → is_combined e ≡ false
+  form-alone (a_cell q) = refl
+  form-alone (a_view n f k) = refl
+
+  place-alone : {r : Names Bound} {e : Ex} {k : Kind} → Stands no_kind Shown r e k → is_combined e ≡ false
+  place-alone (named h) = refl
+  place-alone (as_shown {e = e} {k = k} h) = form-alone (form e k h)
+
+  -- A set is one over views.
+  set-seen : {r : Names Bound} {e : Ex} {k : Kind} → SetTree no_kind Shown r e k → S.SetTerm cells r e k
+  set-seen (stands h) = place-seen h
+  set-seen (combined c f h) = S.combined c (set-seen f) (set-seen h)
 
   mutual
     -- It is a tree over views.
@@ -68,8 +82,10 @@ module _ (Shown : Ex → Kind → Type 0) (cells : Text → Option (Bool × ℕ)
     setwise-seen (chosen f) = S.chosen (setwise-seen f)
     setwise-seen (folded w g f) = S.folded w (setwise-going g) (setwise-seen f)
     setwise-seen (added g f) = S.added (setwise-axes g refl) (setwise-seen f)
-    setwise-seen (size h) = S.size (set-seen h)
+    setwise-seen (size h) = S.size (place-seen h) (place-alone h)
     setwise-seen (within f h) = S.within (setwise-seen f) (set-seen h)
+    setwise-seen (set_within f h) = S.set_within (set-seen f) (set-seen h)
+    setwise-seen (compared c f h) = S.compared c (set-seen f) (set-seen h)
 
     setwise-going : {c : Bool} {r t : Names Bound} {gs : Gens} → Binding no_kind Shown c r gs t → S.Going cells r gs t
     setwise-going at_end = S.at_end
@@ -110,6 +126,10 @@ module _ (Shown : Ex → Kind → Type 0) (cells : Text → Option (Bool × ℕ)
   at-scoped (named {a = a} h) z s o n = n a ∙ ap is_some h
   at-scoped (as_shown {e = e} {k = k} h) z s o n = form-scoped cells z s o (form e k h)
 
+  set-scoped : {r : Names Bound} {e : Ex} {k : Kind} → SetTree no_kind Shown r e k → (z s o : Text → Bool) → Names_are r s → Scoped z s o e
+  set-scoped (stands h) z s o n = at-scoped h z s o n
+  set-scoped (combined c f h) z s o n = (set-scoped f z s o n, (set-scoped h z s o n, tt))
+
   mutual
     -- It is in scope.
     pub setwise-scoped : {r : Names Bound} {e : Ex} {m : Bool} → C r e m → (z s o : Text → Bool) → Names_are r s → Scoped z s o e
@@ -122,7 +142,9 @@ module _ (Shown : Ex → Kind → Type 0) (cells : Text → Option (Bool × ℕ)
     setwise-scoped (folded {e = e} w g f) z s o n = (binding-scoped g e z s o n (λ t p k. setwise-scoped f z t p k), tt)
     setwise-scoped (added {e = e} g f) z s o n = (binding-scoped g e z s o n (λ t p k. setwise-scoped f z t p k), tt)
     setwise-scoped (size h) z s o n = (at-scoped h z s o n, tt)
-    setwise-scoped (within f h) z s o n = (setwise-scoped f z s o n, (at-scoped h z s o n, tt))
+    setwise-scoped (within f h) z s o n = (setwise-scoped f z s o n, (set-scoped h z s o n, tt))
+    setwise-scoped (set_within f h) z s o n = (set-scoped f z s o n, (set-scoped h z s o n, tt))
+    setwise-scoped (compared c f h) z s o n = (set-scoped f z s o n, (set-scoped h z s o n, tt))
 
     binding-scoped : {c : Bool} {r t : Names Bound} {gs : Gens} → Binding no_kind Shown c r gs t → (e : Ex) → (z s o : Text → Bool) →
         Names_are r s → ((s' o' : Text → Bool) → Names_are t s' → Scoped z s' o' e) → ScopedGens z s o gs (λ s' o'. Scoped z s' o' e)
@@ -139,7 +161,7 @@ module _ (Shown : Ex → Kind → Type 0) (cells : Text → Option (Bool × ℕ)
     )
     binding-scoped (among {r = r} {k = i} {a = a} w h g) e z s o n k = (
       new-is r s a n w,
-      at-scoped h z s o n,
+      set-scoped h z s o n,
       binding-scoped g e z (with_names s (name_pat a)) o (more-are r s a (from_a_set i) n) k,
     )
     binding-scoped (where_holds h g) e z s o n k = (setwise-scoped h z s o n, binding-scoped g e z s o n k)

@@ -1,5 +1,5 @@
--- Constraints that speak of sets as trees, before and behind the telling apart of names: a scalar or a set is a name, or what is shown for
--- one.
+-- Constraints that speak of sets as trees, before and behind the telling apart of names: a scalar is a name, or what is shown for one; so
+-- is a set, where it isn't made of two.
 use Rattle.std.proofs.Common.{◌≡◌, Bool, true, false, List, [], ◌∷◌, ℕ, ℤ, Option, Some, None}
 use Rattle.ess_semantics.specs.declared.words.Op1.{Op1}
 use Rattle.ess_semantics.specs.declared.words.Op2.{Op2}
@@ -13,7 +13,7 @@ use Rattle.ess_bare_laws.specs.Bare.{TruthWord}
 use Rattle.ess_nested_laws.specs.NestedDomains.{is_nested_dom}
 use Rattle.conjure_model_laws.specs.ToldApart.{reserved}
 use Rattle.conjure_model_laws.specs.Shown.{Shows, in_place}
-use Rattle.ess_seen_laws.specs.Seen.{Kind, scalars, sets_of, kind_of, Bound, over_a_range, from_a_set, Keeps}
+use Rattle.ess_seen_laws.specs.Seen.{Kind, scalars, sets_of, kind_of, Bound, over_a_range, from_a_set, Combines, Compares, Keeps}
 use Rattle.ess_setwise_laws.specs.Setwise.{kind_at}
 
 -- ---- trees
@@ -24,6 +24,11 @@ module _ (names : Text → Option Kind) (Shown : Ex → Kind → Type 0) where
   pub data Stands (r : Names Bound) : Ex → Kind → Type 0 where
     named : {a : Text} {k : Kind} → kind_at names r a ≡ Some k → Stands r (name_ex a) k
     as_shown : {e : Ex} {k : Kind} → Shown e k → Stands r e k
+
+  -- A set with members of this kind: a name, or what is shown for one, or made of two.
+  pub data SetTree (r : Names Bound) : Ex → Kind → Type 0 where
+    stands : {e : Ex} {k : Kind} → Stands r e (sets_of k) → SetTree r e k
+    combined : {o : Op2} {s t : Ex} {k : Kind} → Combines o → SetTree r s k → SetTree r t k → SetTree r (ex2 false o s t) k
 
   mutual
     -- The tree is a constraint of the class, or a part of one, where these names are bound, and has this mark.
@@ -40,8 +45,11 @@ module _ (names : Text → Option Kind) (Shown : Ex → Kind → Type 0) where
       added : {r t : Names Bound} {e : Ex} {gs : Gens} → Binding false r gs t → Setwise t e false →
           Setwise r (fun1 false Fun.Sum (comp_ex e gs)) false
       size : {r : Names Bound} {k : Kind} {s : Ex} → Stands r s (sets_of k) → Setwise r (ex1 false Op1.Bar s) false
-      within : {r : Names Bound} {m : Bool} {x s : Ex} → Setwise r x m → Stands r s (sets_of (scalars m)) →
-          Setwise r (ex2 true Op2.Member x s) true
+      within : {r : Names Bound} {m : Bool} {x s : Ex} → Setwise r x m → SetTree r s (scalars m) → Setwise r (ex2 true Op2.Member x s) true
+      set_within : {r : Names Bound} {k : Kind} {a s : Ex} → SetTree r a k → SetTree r s (sets_of k) →
+          Setwise r (ex2 true Op2.Member a s) true
+      compared : {r : Names Bound} {o : Op2} {k : Kind} {s t : Ex} → Compares o → SetTree r s k → SetTree r t k →
+          Setwise r (ex2 true o s t) true
 
     -- Generators over truth values and ranges, with conditions and members of sets where c says so; the names behind them. None hides
     -- another one.
@@ -52,7 +60,7 @@ module _ (names : Text → Option Kind) (Shown : Ex → Kind → Type 0) where
       over_numbers : {c : Bool} {r t : Names Bound} {a : Text} {x y : Ex} {gs : Gens} → kind_at names r a ≡ None → Setwise r x false →
           Setwise r y false → Binding c ((a, over_a_range false) ∷ r) gs t →
           Binding c r (over (name_pat a) (int_dom (both_ends ∷ []) (more_exs x (more_exs y no_exs))) gs) t
-      among : {r t : Names Bound} {k : Kind} {a : Text} {s : Ex} {gs : Gens} → kind_at names r a ≡ None → Stands r s (sets_of k) →
+      among : {r t : Names Bound} {k : Kind} {a : Text} {s : Ex} {gs : Gens} → kind_at names r a ≡ None → SetTree r s k →
           Binding true ((a, from_a_set k) ∷ r) gs t → Binding true r (from (name_pat a) s gs) t
       where_holds : {r t : Names Bound} {e : Ex} {gs : Gens} → Setwise r e true → Binding true r gs t → Binding true r (cond e gs) t
 

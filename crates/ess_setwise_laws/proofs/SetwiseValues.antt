@@ -19,52 +19,16 @@ use Rattle.ess_guard_natural_laws.specs.TotalButNatural.{opens_places}
 use Rattle.ess_values_along_laws.specs.Valued.{lacks, Valued}
 use Rattle.ess_types_laws.proofs.SoundEnvs.{members-typed}
 use Rattle.ess_rules_laws.proofs.Simulation.{Vals, E}
-use Rattle.ess_flat_laws.specs.Flat.{OneOp, denied, negative, absolute, TwoOp, both, either, implied, agreeing, equal, unequal, below, at_most, above, at_least, sum, difference, product}
+use Rattle.ess_flat_laws.specs.Flat.{OneOp, TwoOp}
 use Rattle.ess_bare_laws.specs.Bare.{TruthWord}
 use Rattle.ess_ranged_laws.specs.Laws.{HasMark, a_truth, a_number}
-use Rattle.ess_seen_laws.specs.Seen.{Kind, scalars, sets_of, Bound, over_a_range, from_a_set, bound_kind}
-use Rattle.ess_setwise_laws.proofs.SetwiseTrees.{Stands, named, as_shown, Setwise, number as number_is, truth as truth_is, scalar, one, two, chosen, folded, added, size, within, Binding, at_end, over_truths, over_numbers, among, where_holds, no_kind, Form}
-use Rattle.ess_setwise_laws.proofs.ShownForms.{IsSetOf, HasKind, number-typed, unless-any, form-still, form-valued}
+use Rattle.ess_seen_laws.specs.Seen.{Kind, scalars, sets_of, Bound, over_a_range, from_a_set, bound_kind, Combines}
+use Rattle.ess_setwise_laws.proofs.SetwiseTrees.{Stands, named, as_shown, SetTree, stands, combined, Setwise, number as number_is, truth as truth_is, scalar, one, two, chosen, folded, added, size, within, set_within, compared, Binding, at_end, over_truths, over_numbers, among, where_holds, no_kind, Form}
+use Rattle.ess_setwise_laws.proofs.ShownForms.{HasKind, number-typed, unless-any, form-still, form-valued}
 use Rattle.ess_setwise_laws.proofs.NameKinds.{bound_at}
+use Rattle.ess_setwise_laws.proofs.OperatorValues.{one-value, two-value, chosen-value, size-value, combined-value}
 use Rattle.ess_setwise_laws.proofs.SetwiseMet.{guarded-any}
 use Rattle.ess_setwise_laws.proofs.ItemValues.{Items, over-items, among-items, cond-items}
-
--- ---- operators
-
-one-value : {b m : Bool} {o : Op1} {v : Value} → OneOp b o m → HasMark m v →
-    (u : Value) × HasMark b u × (false_where_undefined b (value_of_node (unary o) (Some v ∷ [])) ≡ Some u)
-one-value denied a_truth = (_, a_truth, refl)
-one-value negative a_number = (_, a_number, refl)
-one-value absolute a_number = (_, a_number, refl)
-
-two-value : {b m k : Bool} {o : Op2} {v w : Value} → TwoOp b o m k → HasMark m v → HasMark k w →
-    (u : Value) × HasMark b u × (false_where_undefined b (value_of_node (binary o) (Some v ∷ Some w ∷ [])) ≡ Some u)
-two-value both a_truth a_truth = (_, a_truth, refl)
-two-value either a_truth a_truth = (_, a_truth, refl)
-two-value implied a_truth a_truth = (_, a_truth, refl)
-two-value agreeing a_truth a_truth = (_, a_truth, refl)
-two-value equal p q = (_, a_truth, refl)
-two-value unequal p q = (_, a_truth, refl)
-two-value below p q = (_, a_truth, refl)
-two-value at_most p q = (_, a_truth, refl)
-two-value above p q = (_, a_truth, refl)
-two-value at_least p q = (_, a_truth, refl)
-two-value sum a_number a_number = (_, a_number, refl)
-two-value difference a_number a_number = (_, a_number, refl)
-two-value product a_number a_number = (_, a_number, refl)
-
-chosen-value : {v : Value} → HasMark true v →
-    (u : Value) × HasMark false u × (false_where_undefined false (value_of_node (word Fun.ToInt) (Some v ∷ [])) ≡ Some u)
-chosen-value a_truth = (_, a_number, refl)
-
--- A set has a size.
-size-value : (P : Value → Type 0) (v : Value) → IsSetOf P v →
-    (u : Value) × HasMark false u × (false_where_undefined false (value_of_node (unary Op1.Bar) (Some v ∷ [])) ≡ Some u)
-size-value P v x = (
-  _,
-  a_number,
-  ap (λ z. false_where_undefined false (value_of_node (unary Op1.Bar) (Some z ∷ []))) x.is,
-)
 
 is-there : {A : Type 0} (o : Option A) (v : A) → o ≡ Some v → IsTrue (is_some o)
 is-there o v q = ap is_some q
@@ -195,13 +159,27 @@ module _ (Shown : Ex → Kind → Type 0) (cells : Text → Option (Bool × ℕ)
         valued = one-valued false (unary Op1.Bar) s g (ap is_some q) a.valued;
       }
 
-  within-answer : (m k : Kind) (x s : Ex) (g : Vals) → Answer x m g → Answer s k g →
-      Answer (node_ex true (binary Op2.Member) (more_exs x (more_exs s no_exs))) (scalars true) g
-  within-answer m k x s g a r = record {
-    value = truth (as_truth (value_of_node (binary Op2.Member) (meaning x (M g) ∷ meaning s (M g) ∷ [])));
+  combined-answer : {o : Op2} (k : Kind) (x y : Ex) (g : Vals) → Combines o → Answer x (sets_of k) g → Answer y (sets_of k) g →
+      Answer (node_ex false (binary o) (more_exs x (more_exs y no_exs))) (sets_of k) g
+  combined-answer {o} k x y g c a r =
+      let u = combined-value (HasKind k) a.value r.value c a.kind r.kind in
+      let q : meaning (node_ex false (binary o) (more_exs x (more_exs y no_exs))) (M g) ≡ Some u.0 =
+      ap (λ z. false_where_undefined false (value_of_node (binary o) (z ∷ meaning y (M g) ∷ []))) a.is
+      ∙ ap (λ z. false_where_undefined false (value_of_node (binary o) (Some a.value ∷ z ∷ []))) r.is ∙ u.2 in record {
+        value = u.0;
+        kind = u.1;
+        is = q;
+        valued = two-valued false (binary o) x y g (ap is_some q) a.valued r.valued;
+      }
+
+  -- A Boolean of two operands always has one.
+  truth-answer : (o : Op2) (i k : Kind) (x y : Ex) (g : Vals) → Answer x i g → Answer y k g →
+      Answer (node_ex true (binary o) (more_exs x (more_exs y no_exs))) (scalars true) g
+  truth-answer o i k x y g a r = record {
+    value = truth (as_truth (value_of_node (binary o) (meaning x (M g) ∷ meaning y (M g) ∷ [])));
     kind = a_truth;
     is = refl;
-    valued = two-valued true (binary Op2.Member) x s g refl a.valued r.valued;
+    valued = two-valued true (binary o) x y g refl a.valued r.valued;
   }
 
   -- ---- lists
@@ -258,6 +236,11 @@ module _ (Shown : Ex → Kind → Type 0) (cells : Text → Option (Bool × ℕ)
       among-items pl ts cs a s gs e g x.value (to_list x.kind.members) x.is (ap items_of x.kind.is) (x.valued false)
       (each-more (to_list x.kind.members) (HasKind i) (λ v. AllItems gs e ((a, v) ∷ g)) k x.kind.each)
 
+  -- Each set has one.
+  set-answer : {t : Names Bound} {e : Ex} {k : Kind} → SetTree no_kind Shown t e k → (g : Vals) → Present t g → Answer e (sets_of k) g
+  set-answer (stands h) g p = at-answer h g p
+  set-answer {k = k} (combined {s = x} {t = y} c f h) g p = combined-answer k x y g c (set-answer f g p) (set-answer h g p)
+
   mutual
     -- Each constraint of the class has one.
     pub setwise-answer : {t : Names Bound} {e : Ex} {m : Bool} → C t e m → (g : Vals) → Present t g → Answer e (scalars m) g
@@ -273,7 +256,11 @@ module _ (Shown : Ex → Kind → Type 0) (cells : Text → Option (Bool × ℕ)
         sum-answer e gs g (binding-items d e g p (λ h y. let a = setwise-answer f h y in (a.value, a.is, a.valued false)))
     setwise-answer (size {k = k} {s = s} h) g p = size-answer k s g (at-answer h g p)
     setwise-answer (within {m = m} {x = x} {s = s} f h) g p =
-        within-answer (scalars m) (sets_of (scalars m)) x s g (setwise-answer f g p) (at-answer h g p)
+        truth-answer Op2.Member (scalars m) (sets_of (scalars m)) x s g (setwise-answer f g p) (set-answer h g p)
+    setwise-answer (set_within {k = k} {a = x} {s = s} f h) g p =
+        truth-answer Op2.Member (sets_of k) (sets_of (sets_of k)) x s g (set-answer f g p) (set-answer h g p)
+    setwise-answer (compared {o = o} {k = k} {s = x} {t = y} c f h) g p =
+        truth-answer o (sets_of k) (sets_of k) x y g (set-answer f g p) (set-answer h g p)
 
     binding-items : {c : Bool} {t s : Names Bound} {gs : Gens} → Binding no_kind Shown c t gs s → (e : Ex) (g : Vals) → Present t g →
         ((h : Vals) → Present s h → (v : Value) × (meaning e (M h) ≡ Some v) × Valued false e (M h)) → AllItems gs e g
@@ -288,7 +275,7 @@ module _ (Shown : Ex → Kind → Type 0) (cells : Text → Option (Bool × ℕ)
         range-items a x y gs e g (setwise-answer f g p) (setwise-answer h g p)
         (λ v q. binding-items d e ((a, v) ∷ g) (present-more _ a (over_a_range false) v g q p) k)
     binding-items (among {k = i} {a = a} {s = s} {gs = gs} n h d) e g p k =
-        set-items a i s gs e g (at-answer h g p)
+        set-items a i s gs e g (set-answer h g p)
         (λ v q. binding-items d e ((a, v) ∷ g) (present-more _ a (from_a_set i) v g q p) k)
     binding-items (where_holds {e = c} {gs = gs} f d) e g p k =
         let a = setwise-answer f g p in

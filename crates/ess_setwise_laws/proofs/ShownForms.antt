@@ -1,4 +1,4 @@
--- Single cells and views of nested sets: what they mean, bind, use and spell is the same wherever they stand.
+-- Single cells and views of nested sets: what they mean, use and spell is the same wherever they stand.
 use Rattle.std.proofs.Common.{◌≡◌, refl, sym, ap, ◌∙◌, subst, ℕ, Bool, true, false, ◌||◌, List, [], ◌∷◌, ℤ, Option, Some}
 use Rattle.std.specs.Prelude.{IsTrue, is_some}
 use Rattle.std.specs.List.{list_all}
@@ -22,8 +22,6 @@ use Rattle.ess_rules_laws.proofs.Simulation.{Vals, E}
 use Rattle.ess_values_along_laws.specs.Valued.{Valued, AllValued, DomValued}
 use Rattle.ess_guard_laws.specs.Supplied.{Unless}
 use Rattle.ess_refine_laws.specs.SpellingEnds.{numbers_of_tree}
-use Rattle.conjure_model_laws.specs.Printed.{binders}
-use Rattle.ess_load_laws.specs.Load.{load}
 use Rattle.ess_nested_laws.proofs.NestedForms.{Sizes, no_sizes, one_size, WrittenAtom, written_truths, written_numbers, NestedSet, of_atoms, of_sets, nested-form}
 use Rattle.ess_nested_laws.proofs.NestedDenoted.{nested-denoted}
 use Rattle.ess_ranged_laws.specs.Laws.{HasMark, a_truth, a_number}
@@ -146,15 +144,6 @@ module _ (cells : Text → Option (Bool × ℕ)) where
   form-scoped z s o (a_cell q) = tt
   form-scoped z s o (a_view {ms = ms} {es = es} {d = d} n f k) =
       (nested-names z (λ a. true) (nested-form 250 (set_dom ms es d) n), tt)
-
-  -- It binds no name, and will bind none.
-  pub form-binders : {e : Ex} {k : Kind} → Form cells e k → binders e ≡ 0
-  form-binders (a_cell q) = refl
-  form-binders (a_view n f k) = refl
-
-  pub form-load : {e : Ex} {k : Kind} → Form cells e k → load e ≡ 0
-  form-load (a_cell q) = refl
-  form-load (a_view n f k) = refl
 
   -- It means the same whatever names are around.
   pub form-still : {e : Ex} {k : Kind} (pl : Bool) (ts : List TypeEntry) (cs : Names Table) (g h : Vals) → Form cells e k →

@@ -1,5 +1,5 @@
 -- What the test says is of the class is so.
-use Rattle.std.proofs.Common.{◌≡◌, refl, sym, ap, ◌∙◌, subst, Bool, true, false, ◌&&◌, not, if◌then◌else◌, [], ◌∷◌, Option, Some, None, option_map}
+use Rattle.std.proofs.Common.{◌≡◌, refl, sym, ap, ◌∙◌, subst, Bool, true, false, ◌&&◌, not, [], ◌∷◌, Option, Some, None, option_map}
 use Rattle.std.specs.Prelude.{is_some}
 use Rattle.ess_semantics.specs.declared.words.Op1.{Op1}
 use Rattle.ess_semantics.specs.declared.words.Op2.{Op2}
@@ -9,101 +9,13 @@ use Rattle.ess_semantics.specs.Values.{Text}
 use Rattle.ess_semantics.specs.Names.{Names}
 use Rattle.ess_semantics.specs.Trees.{both_ends, name_pat, Ex, number_ex, truth_ex, name_ex, comp_ex, no_exs, more_exs, Gens, no_gens, over, from, cond, bool_dom, int_dom, ex1, ex2, fun1}
 use Rattle.ess_semantics.proofs.Tests.{and-left, and-right}
-use Rattle.ess_flat_laws.specs.Flat.{OneOp, denied, negative, absolute, TwoOp, both, either, implied, agreeing, equal, unequal, below, at_most, above, at_least, sum, difference, product, as_marked, one_mark, two_mark}
+use Rattle.ess_flat_laws.specs.Flat.{as_marked, two_mark}
 use Rattle.ess_bare_laws.specs.Bare.{all_hold, some_holds}
 use Rattle.ess_ranged_laws.specs.Ranged.{takes_conditions, is_mark}
-use Rattle.ess_seen_laws.specs.Seen.{Kind, scalars, sets_of, Bound, over_a_range, from_a_set}
+use Rattle.ess_seen_laws.specs.Seen.{Kind, scalars, sets_of, Bound, over_a_range, from_a_set, is_combined}
 use Rattle.ess_setwise_laws.specs.Setwise.{mark_of_kind, members_kind, one_kind, two_kind, fold_kind, word_kind, kind_at, is_new, setwise_kind, bound_behind}
-use Rattle.ess_setwise_laws.proofs.SetwiseTrees.{Stands, named, Setwise, number, truth, scalar, one, two, chosen, folded, added, size, within, Binding, at_end, over_truths, over_numbers, among, where_holds, NoneShown}
-
--- ---- answers
-
--- An answer behind another one: both are there.
-pub record Behind {A B : Type 0} (o : Option A) (f : A → Option B) (m : B) : Type 0 where
-  pub value : A
-  pub there : o ≡ Some value
-  pub gives : f value ≡ Some m
-
-behind : {A B : Type 0} (o : Option A) (f : A → Option B) (m : B) → and_then o f ≡ Some m → Behind o f m
-behind None f m q = cc
-behind (Some v) f m q = record { value = v; there = refl; gives = q }
-
--- The kind of a marked answer.
-pub record Marked (o : Option Bool) (i : Kind) : Type 0 where
-  pub mark : Bool
-  pub there : o ≡ Some mark
-  pub is : scalars mark ≡ i
-
-marked : (o : Option Bool) (i : Kind) → option_map scalars o ≡ Some i → Marked o i
-marked None i q = cc
-marked (Some m) i q = record { mark = m; there = refl; is = cc }
-
--- The marks are one.
-marks-are : (b k m : Bool) → as_marked b k ≡ Some m → (b ≡ m) × (k ≡ m)
-marks-are true true true q = (refl, refl)
-marks-are false false false q = (refl, refl)
-marks-are true true false q = cc
-marks-are false false true q = cc
-marks-are true false m q = cc
-marks-are false true m q = cc
-
--- ---- operators
-
-one-scalar : (o : Op1) (m : Bool) → one_kind o (scalars m) ≡ one_mark o m
-one-scalar Op1.Not m = refl
-one-scalar Op1.Minus m = refl
-one-scalar Op1.Bar m = refl
-
-one-op : (o : Op1) (i k : Bool) → one_mark o i ≡ Some k → OneOp k o i
-one-op Op1.Not true true q = denied
-one-op Op1.Minus false false q = negative
-one-op Op1.Bar false false q = absolute
-one-op o i k q = cc
-
-two-scalars : (o : Op2) (i j : Bool) → two_kind o (scalars i) (scalars j) ≡ two_mark o i j
-two-scalars Op2.Member true true = refl
-two-scalars Op2.Member true false = refl
-two-scalars Op2.Member false true = refl
-two-scalars Op2.Member false false = refl
-two-scalars o true true = refl
-two-scalars o true false = refl
-two-scalars o false true = refl
-two-scalars o false false = refl
-
-two-op : (i j : Bool) (o : Op2) (k : Bool) → two_mark o i j ≡ Some k → TwoOp k o i j
-two-op true true Op2.And true q = both
-two-op true true Op2.Or true q = either
-two-op true true Op2.Implies true q = implied
-two-op true true Op2.Iff true q = agreeing
-two-op true true Op2.Eq true q = equal
-two-op true true Op2.Ne true q = unequal
-two-op true true Op2.Lt true q = below
-two-op true true Op2.Le true q = at_most
-two-op true true Op2.Gt true q = above
-two-op true true Op2.Ge true q = at_least
-two-op false false Op2.Eq true q = equal
-two-op false false Op2.Ne true q = unequal
-two-op false false Op2.Lt true q = below
-two-op false false Op2.Le true q = at_most
-two-op false false Op2.Gt true q = above
-two-op false false Op2.Ge true q = at_least
-two-op false false Op2.Plus false q = sum
-two-op false false Op2.Minus false q = difference
-two-op false false Op2.Times false q = product
-two-op i j o k q = cc
-
--- A scalar and a set: a membership.
-pub data Membership (m : Bool) : Op2 → Kind → Bool → Type 0 where
-  a_member : Membership m Op2.Member (scalars m) true
-
-member-op : (o : Op2) (m : Bool) (j : Kind) (k : Bool) → two_kind o (scalars m) (sets_of j) ≡ Some k → Membership m o j k
-member-op Op2.Member true (scalars true) true q = a_member
-member-op Op2.Member false (scalars false) true q = a_member
-member-op o m j k q = cc
-
-no-set-first : (o : Op2) (i j : Kind) (k : Bool) → two_kind o (sets_of i) j ≡ Some k → ⊥
-no-set-first Op2.Member i j k q = cc
-no-set-first o i j k q = cc
+use Rattle.ess_setwise_laws.proofs.SetwiseTrees.{named, as_shown, SetTree, stands, combined, Setwise, number, truth, scalar, one, two, chosen, folded, added, size, within, set_within, compared, Binding, at_end, over_truths, over_numbers, among, where_holds, NoneShown}
+use Rattle.ess_setwise_laws.proofs.OperatorKinds.{behind, marked, marks-are, decided, one-scalar, one-op, two-scalars, two-op, SetOp, a_member, a_comparison, a_combination, set-op, no-set-first}
 
 -- ---- tests
 
@@ -123,11 +35,6 @@ members-are None k q = cc
 members-are (Some (scalars m)) k q = cc
 members-are (Some (sets_of i)) k q = ap (option_map sets_of) q
 
--- Where a test decides, it holds.
-decided : {A : Type 0} (b : Bool) (o : Option A) (m : A) → (if b then o else None) ≡ Some m → (b ≡ true) × (o ≡ Some m)
-decided true o m q = (refl, q)
-decided false o m q = cc
-
 new-is : (o : Option Kind) → not (is_some o) ≡ true → o ≡ None
 new-is None q = refl
 new-is (Some m) q = cc
@@ -141,31 +48,64 @@ module _ (names : Text → Option Kind) where
   -- A scalar of the class, or a set.
   pub data IsOf (r : Names Bound) (e : Ex) : Kind → Type 0 where
     a_scalar : {m : Bool} → R r e m → IsOf r e (scalars m)
-    a_set : {k : Kind} → Stands names NoneShown r e (sets_of k) → IsOf r e (sets_of k)
+    a_set : {k : Kind} → SetTree names NoneShown r e k → IsOf r e (sets_of k)
 
   as-scalar : (r : Names Bound) (e : Ex) (m : Bool) → IsOf r e (scalars m) → R r e m
   as-scalar r e m (a_scalar h) = h
 
+  as-set : (r : Names Bound) (e : Ex) (k : Kind) → IsOf r e (sets_of k) → SetTree names NoneShown r e k
+  as-set r e k (a_set h) = h
+
   name-is : (r : Names Bound) (a : Text) (i : Kind) → kind_at names r a ≡ Some i → IsOf r (name_ex a) i
   name-is r a (scalars m) q = a_scalar (scalar (named q))
-  name-is r a (sets_of k) q = a_set (named q)
+  name-is r a (sets_of k) q = a_set (stands (named q))
 
-  one-made : (r : Names Bound) (o : Op1) (x : Ex) (i : Kind) (k : Bool) → IsOf r x i → one_kind o i ≡ Some k → R r (ex1 k o x) k
-  one-made r o x (scalars m) k (a_scalar h) q = one (one-op o m k (sym (one-scalar o m) ∙ q)) h
-  one-made r Op1.Bar x (sets_of j) false (a_set h) q = size h
-  one-made r Op1.Bar x (sets_of j) true (a_set h) q = cc
-  one-made r Op1.Not x (sets_of j) k (a_set h) q = cc
-  one-made r Op1.Minus x (sets_of j) k (a_set h) q = cc
+  -- With the mark of the node.
+  as-marked-one : (r : Names Bound) (e : Bool → Ex) (b k m : Bool) (i : Kind) → R r (e k) k → as_marked b k ≡ Some m → scalars m ≡ i →
+      IsOf r (e b) i
+  as-marked-one r e b k m i h q p =
+      let z = marks-are b k m q in
+      subst (IsOf r (e b)) p (a_scalar (subst (λ c. R r (e c) m) (sym z.0) (subst (λ c. R r (e c) c) z.1 h)))
 
-  member-made : (r : Names Bound) (m : Bool) (o : Op2) (x y : Ex) (j : Kind) (k : Bool) → R r x m →
-      Stands names NoneShown r y (sets_of j) → Membership m o j k → R r (ex2 k o x y) k
-  member-made r m o x y j k h s a_member = within h s
+  -- The size of a set that isn't made of two.
+  size-made : (r : Names Bound) (o : Op1) (x : Ex) (j : Kind) (k : Bool) → SetTree names NoneShown r x j →
+      one_kind (is_combined x) o (sets_of j) ≡ Some k → R r (ex1 k o x) k
+  size-made r Op1.Bar x j false (stands (named h)) q = size (named h)
+  size-made r Op1.Bar x j true (stands (named h)) q = cc
+  size-made r Op1.Not x j k (stands (named h)) q = cc
+  size-made r Op1.Minus x j k (stands (named h)) q = cc
+  size-made r o x j k (stands (as_shown h)) q = absurd h
+  size-made r Op1.Bar x j k (combined c h l) q = cc
+  size-made r Op1.Not x j k (combined c h l) q = cc
+  size-made r Op1.Minus x j k (combined c h l) q = cc
 
-  two-made : (r : Names Bound) (o : Op2) (x y : Ex) (i j : Kind) (k : Bool) → IsOf r x i → IsOf r y j → two_kind o i j ≡ Some k →
-      R r (ex2 k o x y) k
-  two-made r o x y (scalars m) (scalars n) k (a_scalar h) (a_scalar l) q = two (two-op m n o k (sym (two-scalars o m n) ∙ q)) h l
-  two-made r o x y (scalars m) (sets_of j) k (a_scalar h) (a_set l) q = member-made r m o x y j k h l (member-op o m j k q)
-  two-made r o x y (sets_of i) j k (a_set h) l q = absurd (no-set-first o i j k q)
+  one-made : (r : Names Bound) (o : Op1) (x : Ex) (i : Kind) (k : Bool) → IsOf r x i → one_kind (is_combined x) o i ≡ Some k →
+      R r (ex1 k o x) k
+  one-made r o x (scalars m) k (a_scalar h) q = one (one-op o m k (sym (one-scalar (is_combined x) o m) ∙ q)) h
+  one-made r o x (sets_of j) k (a_set h) q = size-made r o x j k h q
+
+  -- An operator on two scalars.
+  scalars-made : (r : Names Bound) (b : Bool) (o : Op2) (x y : Ex) (m n : Bool) (i : Kind) → R r x m → R r y n →
+      option_map scalars (and_then (two_mark o m n) (as_marked b)) ≡ Some i → IsOf r (ex2 b o x y) i
+  scalars-made r b o x y m n i h l q =
+      let p = marked (and_then (two_mark o m n) (as_marked b)) i q in
+      let w = behind (two_mark o m n) (as_marked b) p.mark p.there in
+      as-marked-one r (λ c. ex2 c o x y) b w.value p.mark i (two (two-op m n o w.value w.there) h l) w.gives p.is
+
+  -- An operator whose right operand is a set.
+  set-made : (r : Names Bound) (b : Bool) (o : Op2) (x y : Ex) (i j k : Kind) → IsOf r x i → SetTree names NoneShown r y j →
+      SetOp b o i j k → IsOf r (ex2 b o x y) k
+  set-made r b o x y (scalars m) j k (a_scalar h) l a_member = a_scalar (within h l)
+  set-made r b o x y (sets_of i) j k (a_set h) l a_member = a_scalar (set_within h l)
+  set-made r b o x y (sets_of i) j k (a_set h) l (a_comparison c) = a_scalar (compared c h l)
+  set-made r b o x y (sets_of i) j k (a_set h) l (a_combination c) = a_set (combined c h l)
+
+  two-made : (r : Names Bound) (b : Bool) (o : Op2) (x y : Ex) (i j k : Kind) → IsOf r x i → IsOf r y j → two_kind b o i j ≡ Some k →
+      IsOf r (ex2 b o x y) k
+  two-made r b o x y (scalars m) (scalars n) k (a_scalar h) (a_scalar l) q =
+      scalars-made r b o x y m n k h l (sym (two-scalars b o m n) ∙ q)
+  two-made r b o x y i (sets_of j) k h (a_set l) q = set-made r b o x y i j k h l (set-op b o i j k q)
+  two-made r b o x y (sets_of i) (scalars m) k (a_set h) l q = absurd (no-set-first b o i m k q)
 
   word-made : (r : Names Bound) (f : Fun) (x : Ex) (i : Kind) (k : Bool) → IsOf r x i → word_kind f i ≡ Some k → R r (fun1 k f x) k
   word-made r Fun.ToInt x (scalars true) false (a_scalar h) q = chosen h
@@ -180,13 +120,6 @@ module _ (names : Text → Option Kind) where
   fold-made r t f e gs (scalars m) k g (a_scalar h) q = cc
   fold-made r t f e gs (sets_of j) k g (a_set h) q = cc
 
-  -- With the mark of the node.
-  as-marked-one : (r : Names Bound) (e : Bool → Ex) (b k m : Bool) (i : Kind) → R r (e k) k → as_marked b k ≡ Some m → scalars m ≡ i →
-      IsOf r (e b) i
-  as-marked-one r e b k m i h q p =
-      let z = marks-are b k m q in
-      subst (IsOf r (e b)) p (a_scalar (subst (λ c. R r (e c) m) (sym z.0) (subst (λ c. R r (e c) c) z.1 h)))
-
   mutual
     -- A tree with a kind is one of the class, or a set.
     pub tested : (r : Names Bound) (e : Ex) (i : Kind) → setwise_kind names r e ≡ Some i → IsOf r e i
@@ -194,20 +127,16 @@ module _ (names : Text → Option Kind) where
     tested r (truth_ex b) i q = let z : scalars true ≡ i = cc in subst (IsOf r (truth_ex b)) z (a_scalar truth)
     tested r (name_ex a) i q = name-is r a i q
     tested r (ex1 b o x) i q =
-        let p = marked (and_then (and_then (setwise_kind names r x) (one_kind o)) (as_marked b)) i q in
-        let w = behind (and_then (setwise_kind names r x) (one_kind o)) (as_marked b) p.mark p.there in
-        let v = behind (setwise_kind names r x) (one_kind o) w.value w.there in
-        as-marked-one r (λ c. ex1 c o x) b w.value p.mark i (one-made r o x v.value w.value (tested r x v.value v.there) v.gives)
+        let c : Bool = is_combined x in
+        let p = marked (and_then (and_then (setwise_kind names r x) (one_kind c o)) (as_marked b)) i q in
+        let w = behind (and_then (setwise_kind names r x) (one_kind c o)) (as_marked b) p.mark p.there in
+        let v = behind (setwise_kind names r x) (one_kind c o) w.value w.there in
+        as-marked-one r (λ d. ex1 d o x) b w.value p.mark i (one-made r o x v.value w.value (tested r x v.value v.there) v.gives)
         w.gives p.is
     tested r (ex2 b o x y) i q =
-        let p = marked (and_then (and_then (setwise_kind names r x) (λ i. and_then (setwise_kind names r y) (two_kind o i)))
-        (as_marked b)) i q in
-        let w = behind (and_then (setwise_kind names r x) (λ i. and_then (setwise_kind names r y) (two_kind o i))) (as_marked b)
-        p.mark p.there in
-        let v = behind (setwise_kind names r x) (λ i. and_then (setwise_kind names r y) (two_kind o i)) w.value w.there in
-        let u = behind (setwise_kind names r y) (two_kind o v.value) w.value v.gives in
-        as-marked-one r (λ c. ex2 c o x y) b w.value p.mark i
-        (two-made r o x y v.value u.value w.value (tested r x v.value v.there) (tested r y u.value u.there) u.gives) w.gives p.is
+        let v = behind (setwise_kind names r x) (λ j. and_then (setwise_kind names r y) (two_kind b o j)) i q in
+        let u = behind (setwise_kind names r y) (two_kind b o v.value) i v.gives in
+        two-made r b o x y v.value u.value i (tested r x v.value v.there) (tested r y u.value u.there) u.gives
     tested r (fun1 b f (comp_ex e gs)) i q =
         let p = marked (and_then (and_then (and_then (bound_behind names (takes_conditions f) r gs) (λ t. setwise_kind names t e))
         (fold_kind f)) (as_marked b)) i q in
@@ -242,11 +171,12 @@ module _ (names : Text → Option Kind) where
         (as-scalar r x false (tested r x (scalars false) (mark-is false (setwise_kind names r x) (and-left i j z))))
         (as-scalar r y false (tested r y (scalars false) (mark-is false (setwise_kind names r y) (and-right i j z))))
         (bound-tested c ((a, over_a_range false) ∷ r) gs t w.1)
-    bound-tested true r (from (name_pat a) (name_ex s) gs) t q =
+    bound-tested true r (from (name_pat a) s gs) t q =
         let w = decided (is_new names r a)
-        (and_then (members_kind (kind_at names r s)) (λ k. bound_behind names true ((a, from_a_set k) ∷ r) gs)) t q in
-        let v = behind (members_kind (kind_at names r s)) (λ k. bound_behind names true ((a, from_a_set k) ∷ r) gs) t w.1 in
-        among (new-is (kind_at names r a) w.0) (named (members-are (kind_at names r s) v.value v.there))
+        (and_then (members_kind (setwise_kind names r s)) (λ k. bound_behind names true ((a, from_a_set k) ∷ r) gs)) t q in
+        let v = behind (members_kind (setwise_kind names r s)) (λ k. bound_behind names true ((a, from_a_set k) ∷ r) gs) t w.1 in
+        among (new-is (kind_at names r a) w.0)
+        (as-set r s v.value (tested r s (sets_of v.value) (members-are (setwise_kind names r s) v.value v.there)))
         (bound-tested true ((a, from_a_set v.value) ∷ r) gs t v.gives)
     bound-tested true r (cond e gs) t q =
         let w = decided (is_mark true (mark_of_kind (setwise_kind names r e))) (bound_behind names true r gs) t q in

@@ -7,7 +7,7 @@ use Rattle.ess_semantics.specs.Lists.{or_default}
 use Rattle.ess_semantics.specs.Values.{Text, Value, items_of}
 use Rattle.ess_semantics.specs.Order.{same_text}
 use Rattle.ess_semantics.specs.Names.{Names, look}
-use Rattle.ess_semantics.specs.Trees.{unary, binary, word, both_ends, Ex, name_ex, Gens, bool_dom}
+use Rattle.ess_semantics.specs.Trees.{unary, binary, word, both_ends, Ex, name_ex, Gens, bool_dom, ex2}
 use Rattle.ess_semantics.specs.Operators.{value_of_node, false_where_undefined, list_value}
 use Rattle.ess_semantics.specs.Domains.{integers}
 use Rattle.ess_semantics.specs.Tables.{Table}
@@ -20,10 +20,10 @@ use Rattle.ess_chain_names_laws.proofs.ToldNames.{on, ex-up, gens-up}
 use Rattle.ess_ranged_laws.proofs.ToldRanged.{shown-two}
 use Rattle.ess_seen_laws.specs.Seen.{Kind, scalars, sets_of, Bound, over_a_range, from_a_set, bound_kind}
 use Rattle.ess_setwise_laws.specs.Setwise.{kind_at}
-use Rattle.ess_setwise_laws.proofs.SetwiseTrees.{named, as_shown, Setwise, number, truth, scalar, one, two, chosen, folded, added, size, within, Binding, at_end, over_truths, over_numbers, among, where_holds, NoneShown, ShowsAll}
+use Rattle.ess_setwise_laws.proofs.SetwiseTrees.{named, as_shown, SetTree, stands, combined, Setwise, number, truth, scalar, one, two, chosen, folded, added, size, within, set_within, compared, Binding, at_end, over_truths, over_numbers, among, where_holds, NoneShown, ShowsAll}
 use Rattle.ess_setwise_laws.proofs.ShownForms.{form-still}
 use Rattle.ess_setwise_laws.proofs.NameKinds.{bound_at, apart, IsAt, Kept, later, bound}
-use Rattle.ess_setwise_laws.proofs.ToldSetwise.{made, made_gens}
+use Rattle.ess_setwise_laws.proofs.ToldSets.{made, made_gens, made_right, shown-combined, shown-compared, shown-in}
 
 module _ (sh : Shows) (names : Text → Option Kind) (cells : Text → Option (Bool × ℕ)) (w : ShowsAll sh names cells) (lim : ℕ)
     (differ : (i j : ℕ) → i < j → j < lim → same_text (reserved j) (reserved i) ≡ false)
@@ -88,10 +88,6 @@ module _ (sh : Shows) (names : Text → Option Kind) (cells : Text → Option (B
         lasts = λ b i q. related-place sh.last w.spares_last a x v r t u k g h n b (sets_of i) (y.kept.lasts b i) (y.lasts b i) q;
       }
 
-  -- The tree over tables.
-  abbrev over_tables : Ex → Names Text → ℕ → Ex
-  over_tables e u k = made sh names cells w lim differ e u k
-
   range-same : (x y x' y' : Option Value) → x' ≡ x → y' ≡ y →
       members_in (option_map integers (spans_of (both_ends ∷ []) (x' ∷ y' ∷ [])))
       ≡ members_in (option_map integers (spans_of (both_ends ∷ []) (x ∷ y ∷ [])))
@@ -99,51 +95,88 @@ module _ (sh : Shows) (names : Text → Option Kind) (cells : Text → Option (B
       ap (λ z. members_in (option_map integers (spans_of (both_ends ∷ []) (z ∷ y' ∷ [])))) p
       ∙ ap (λ z. members_in (option_map integers (spans_of (both_ends ∷ []) (x ∷ z ∷ [])))) q
 
+  two-same : (b : Bool) (o : Op2) (x y x' y' : Option Value) → x' ≡ x → y' ≡ y →
+      false_where_undefined b (value_of_node (binary o) (x' ∷ y' ∷ []))
+      ≡ false_where_undefined b (value_of_node (binary o) (x ∷ y ∷ []))
+  two-same b o x y x' y' p q =
+      ap (λ z. false_where_undefined b (value_of_node (binary o) (z ∷ y' ∷ []))) p
+      ∙ ap (λ z. false_where_undefined b (value_of_node (binary o) (x ∷ z ∷ []))) q
+
+  -- A set so made means the same.
+  set-means : {r : Names Bound} {e : Ex} {i : Kind} → SetTree names NoneShown r e i → (t : Names Bound) (u : Names Text) (k : ℕ)
+      (g h : Vals) → Related r t u k g h → meaning (made sh e u k) (T h) ≡ meaning e (M g)
+  set-means {i = i} (stands (named {a = a} q)) t u k g h x = x.firsts a (sets_of i) q
+  set-means (stands (as_shown q)) t u k g h x = absurd q
+  set-means {r} (combined {o = o} {s = e} {t = f} c d i) t u k g h x =
+      let q = (told e u k).1 in
+      ap (λ z. meaning z (T h)) (shown-combined sh (told e u k).0 (told f u q).0 c)
+      ∙ two-same false o (meaning e (M g)) (meaning f (M g)) (meaning (made sh e u k) (T h)) (meaning (made sh f u q) (T h))
+      (set-means d t u k g h x) (set-means i t u q g h (on-later r t u k q g h (ex-up e u k) x))
+
+  -- So it does behind `in`.
+  right-means : {r : Names Bound} {e : Ex} {i : Kind} → SetTree names NoneShown r e i → (t : Names Bound) (u : Names Text) (k : ℕ)
+      (g h : Vals) → Related r t u k g h → meaning (made_right sh e u k) (T h) ≡ meaning e (M g)
+  right-means {i = i} (stands (named {a = a} q)) t u k g h x = x.lasts a i q
+  right-means (stands (as_shown q)) t u k g h x = absurd q
+  right-means (combined c d i) t u k g h x = set-means (combined c d i) t u k g h x
+
+  -- A membership.
+  in-means : {r : Names Bound} {s : Ex} {i : Kind} → SetTree names NoneShown r s i → (e : Ex) (t : Names Bound) (u : Names Text) (k : ℕ)
+      (g h : Vals) → Related r t u k g h → meaning (made sh e u k) (T h) ≡ meaning e (M g) →
+      meaning (made sh (ex2 true Op2.Member e s) u k) (T h) ≡ meaning (ex2 true Op2.Member e s) (M g)
+  in-means {r} {s} d e t u k g h x p =
+      let q = (told e u k).1 in
+      ap (λ z. meaning z (T h)) (shown-in sh names d e u k)
+      ∙ two-same true Op2.Member (meaning e (M g)) (meaning s (M g)) (meaning (made sh e u k) (T h)) (meaning (made_right sh s u q) (T h))
+      p (right-means d t u q g h (on-later r t u k q g h (ex-up e u k) x))
+
   mutual
     -- A constraint so made means the same.
     pub told-means : {r : Names Bound} {e : Ex} {m : Bool} → R r e m → (t : Names Bound) (u : Names Text) (k : ℕ) (g h : Vals) →
-        (told e u k).1 ≤ lim → Related r t u k g h → meaning (over_tables e u k) (T h) ≡ meaning e (M g)
+        (told e u k).1 ≤ lim → Related r t u k g h → meaning (made sh e u k) (T h) ≡ meaning e (M g)
     told-means number t u k g h l x = refl
     told-means truth t u k g h l x = refl
     told-means (scalar {m = m} (named {a = a} q)) t u k g h l x = x.firsts a (scalars m) q
     told-means (scalar (as_shown q)) t u k g h l x = absurd q
     told-means (one {b = b} {o = o} s f) t u k g h l x =
         ap (λ p. false_where_undefined b (value_of_node (unary o) (p ∷ []))) (told-means f t u k g h l x)
-    told-means (two {b = b} {o = o} {x = e} {y = f} s d i) t u k g h l x =
+    told-means {r} (two {b = b} {o = o} {x = e} {y = f} s d i) t u k g h l x =
         let q = (told e u k).1 in
         ap (λ z. meaning z (T h)) (shown-two sh (told e u k).0 (told f u q).0 s)
-        ∙ ap (λ p. false_where_undefined b (value_of_node (binary o) (p ∷ meaning (over_tables f u q) (T h) ∷ [])))
+        ∙ two-same b o (meaning e (M g)) (meaning f (M g)) (meaning (made sh e u k) (T h)) (meaning (made sh f u q) (T h))
         (told-means d t u k g h (on q (told f u q).1 lim (ex-up f u q) l) x)
-        ∙ ap (λ p. false_where_undefined b (value_of_node (binary o) (meaning e (M g) ∷ p ∷ [])))
-        (told-means i t u q g h l (on-later _ t u k q g h (ex-up e u k) x))
+        (told-means i t u q g h l (on-later r t u k q g h (ex-up e u k) x))
     told-means (chosen f) t u k g h l x =
         ap (λ p. false_where_undefined false (value_of_node (word Fun.ToInt) (p ∷ []))) (told-means f t u k g h l x)
     told-means (folded {f = f} {e = e} {gs = gs} v d i) t u k g h l x =
         let q = told_gens gs u k in
         ap (λ p. false_where_undefined true (value_of_node (word f) (option_map list_value p ∷ [])))
         (binding-means d t u k g h (on q.2 (told e q.1 q.2).1 lim (ex-up e q.1 q.2) l) x
-        (λ here. option_map (λ z. z ∷ []) (meaning (over_tables e q.1 q.2) here)) (λ here. option_map (λ z. z ∷ []) (meaning e here))
+        (λ here. option_map (λ z. z ∷ []) (meaning (made sh e q.1 q.2) here)) (λ here. option_map (λ z. z ∷ []) (meaning e here))
         (λ n g' h' y. ap (option_map (λ z. z ∷ [])) (told-means i n q.1 q.2 g' h' l y)))
     told-means (added {e = e} {gs = gs} d i) t u k g h l x =
         let q = told_gens gs u k in
         ap (λ p. false_where_undefined false (value_of_node (word Fun.Sum) (option_map list_value p ∷ [])))
         (binding-means d t u k g h (on q.2 (told e q.1 q.2).1 lim (ex-up e q.1 q.2) l) x
-        (λ here. option_map (λ z. z ∷ []) (meaning (over_tables e q.1 q.2) here)) (λ here. option_map (λ z. z ∷ []) (meaning e here))
+        (λ here. option_map (λ z. z ∷ []) (meaning (made sh e q.1 q.2) here)) (λ here. option_map (λ z. z ∷ []) (meaning e here))
         (λ n g' h' y. ap (option_map (λ z. z ∷ [])) (told-means i n q.1 q.2 g' h' l y)))
     told-means (size {k = i} (named {a = a} q)) t u k g h l x =
         ap (λ p. false_where_undefined false (value_of_node (unary Op1.Bar) (p ∷ []))) (x.firsts a (sets_of i) q)
     told-means (size (as_shown q)) t u k g h l x = absurd q
-    told-means (within {m = m} {x = e} f (named {a = a} q)) t u k g h l x =
-        ap (λ p. false_where_undefined true
-        (value_of_node (binary Op2.Member) (p ∷ meaning (in_place sh.last (renamed u a)) (T h) ∷ []))) (told-means f t u k g h l x)
-        ∙ ap (λ p. false_where_undefined true (value_of_node (binary Op2.Member) (meaning e (M g) ∷ p ∷ [])))
-        (x.lasts a (scalars m) q)
-    told-means (within f (as_shown q)) t u k g h l x = absurd q
+    told-means (within {x = e} {s = s} f d) t u k g h l x =
+        let q = (told e u k).1 in
+        in-means d e t u k g h x (told-means f t u k g h (on q (told s u q).1 lim (ex-up s u q) l) x)
+    told-means (set_within {a = e} f d) t u k g h l x = in-means d e t u k g h x (set-means f t u k g h x)
+    told-means {r} (compared {o = o} {s = e} {t = f} c d i) t u k g h l x =
+        let q = (told e u k).1 in
+        ap (λ z. meaning z (T h)) (shown-compared sh (told e u k).0 (told f u q).0 c)
+        ∙ two-same true o (meaning e (M g)) (meaning f (M g)) (meaning (made sh e u k) (T h)) (meaning (made sh f u q) (T h))
+        (set-means d t u k g h x) (set-means i t u q g h (on-later r t u k q g h (ex-up e u k) x))
 
     binding-means : {c : Bool} {r s : Names Bound} {gs : Gens} → Binding names NoneShown c r gs s → (t : Names Bound) (u : Names Text)
         (k : ℕ) (g h : Vals) → (told_gens gs u k).2 ≤ lim → Related r t u k g h → (F' F : Env → Option (List Value)) →
         ((n : Names Bound) (g' h' : Vals) → Related s n (told_gens gs u k).1 (told_gens gs u k).2 g' h' → F' (T h') ≡ F (M g')) →
-        items_under (made_gens sh names cells w lim differ gs u k) (T h) F' ≡ items_under gs (M g) F
+        items_under (made_gens sh gs u k) (T h) F' ≡ items_under gs (M g) F
     binding-means at_end t u k g h l x F' F f = f t g h x
     binding-means (over_truths {r = r} {a = a} {gs = gs} n d) t u k g h l x F' F f =
         let v = told_gens gs ((a, reserved k) ∷ u) (suc k) in
@@ -159,20 +192,21 @@ module _ (sh : Shows) (names : Text → Option Kind) (cells : Text → Option (B
         let xj = on-later r t u k j g h (ex-up e u k) x in
         let xc = on-later r t u j c g h (ex-up y u j) xj in
         and_then-same _ _ _ _
-        (range-same (meaning e (M g)) (meaning y (M g)) (meaning (over_tables e u k) (T h)) (meaning (over_tables y u j) (T h))
+        (range-same (meaning e (M g)) (meaning y (M g)) (meaning (made sh e u k) (T h)) (meaning (made sh y u j) (T h))
         (told-means b t u k g h (on j c lim (ex-up y u j) (omega (arith, p))) x) (told-means i t u j g h (omega (arith, p)) xj))
         (λ vs. collect-same vs _ _ (λ z. binding-means d ((reserved c, over_a_range false) ∷ t) ((a, reserved c) ∷ u) (suc c) ((a, z) ∷ g)
         ((reserved c, z) ∷ h) l (bound-related a (over_a_range false) z r t u c g h (omega (arith, p)) xc) F' F f))
-    binding-means (among {r = r} {k = i} {a = a} {gs = gs} n (named {a = s} q) d) t u k g h l x F' F f =
-        let v = told_gens gs ((a, reserved k) ∷ u) (suc k) in
-        let p : suc k ≤ lim = on (suc k) v.2 lim (gens-up gs ((a, reserved k) ∷ u) (suc k)) l in
-        and_then-same (meaning (in_place sh.first (renamed u s)) (T h)) (look g s) _ _ (x.firsts s (sets_of i) q)
-        (λ b. collect-same (items_of b) _ _ (λ z. binding-means d ((reserved k, from_a_set i) ∷ t) ((a, reserved k) ∷ u) (suc k)
-        ((a, z) ∷ g) ((reserved k, z) ∷ h) l (bound-related a (from_a_set i) z r t u k g h (omega (arith, p)) x) F' F f))
-    binding-means (among n (as_shown q) d) t u k g h l x F' F f = absurd q
+    binding-means (among {r = r} {k = i} {a = a} {s = s} {gs = gs} n b d) t u k g h l x F' F f =
+        let c = (told s u k).1 in
+        let v = told_gens gs ((a, reserved c) ∷ u) (suc c) in
+        let p : suc c ≤ lim = on (suc c) v.2 lim (gens-up gs ((a, reserved c) ∷ u) (suc c)) l in
+        let xc = on-later r t u k c g h (ex-up s u k) x in
+        and_then-same (meaning (made sh s u k) (T h)) (meaning s (M g)) _ _ (set-means b t u k g h x)
+        (λ y. collect-same (items_of y) _ _ (λ z. binding-means d ((reserved c, from_a_set i) ∷ t) ((a, reserved c) ∷ u) (suc c)
+        ((a, z) ∷ g) ((reserved c, z) ∷ h) l (bound-related a (from_a_set i) z r t u c g h (omega (arith, p)) xc) F' F f))
     binding-means (where_holds {r = r} {e = e} {gs = gs} i d) t u k g h l x F' F f =
         let q = (told e u k).1 in
         let v = told_gens gs u q in
-        where-same (meaning (over_tables e u k) (T h)) (meaning e (M g)) _ _
+        where-same (meaning (made sh e u k) (T h)) (meaning e (M g)) _ _
         (told-means i t u k g h (on q v.2 lim (gens-up gs u q) l) x)
         (binding-means d t u q g h l (on-later r t u k q g h (ex-up e u k) x) F' F f)

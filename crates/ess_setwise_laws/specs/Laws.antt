@@ -1,5 +1,5 @@
 -- The law of constraints that speak of nested sets, stated at a function that does nothing.
-use Rattle.std.specs.Prelude.{◌≡◌, ℕ, ◌+◌, ◌≤◌, ◌<◌, ◌^◌, Bool, true, false, List, [], ℤ, Option, Some, None}
+use Rattle.std.specs.Prelude.{◌≡◌, ℕ, ◌+◌, ◌≤◌, ◌^◌, Bool, true, false, List, [], ℤ, Option, Some, None}
 use Rattle.std.specs.List.{list_all}
 use Rattle.ess_semantics.specs.Values.{Text, Value}
 use Rattle.ess_semantics.specs.Names.{look}
@@ -8,7 +8,6 @@ use Rattle.ess_semantics.specs.Trees.{Mark, Repr, Ex, Exs, cell_ex, seen_ex, no_
 use Rattle.ess_semantics.specs.Meaning.{Env, meaning}
 use Rattle.ess_semantics.specs.Meets.{Meets}
 use Rattle.ess_semantics.specs.Scoped.{Scoped}
-use Rattle.ess_semantics.specs.Substitution.{NamesAre}
 use Rattle.ess_refine_laws.specs.SpellingEnds.{numbers_of_tree}
 use Rattle.ess_values_along_laws.specs.Valued.{Valued}
 use Rattle.ess_nested_laws.specs.NestedDomains.{is_nested_dom}
@@ -16,7 +15,7 @@ use Rattle.conjure_model_laws.specs.ToldApart.{reserved, told}
 use Rattle.conjure_model_laws.specs.Shown.{Shows, in_place}
 use Rattle.conjure_model_laws.specs.IsBuiltFrom.{constraint_tree}
 use Rattle.conjure_model_laws.specs.Printed.{binders}
-use Rattle.ess_load_laws.specs.Load.{load}
+use Rattle.ess_depth_laws.specs.Below.{HasNamesBelow}
 use Rattle.ess_ranged_laws.specs.Laws.{HasMark, HoldsNames, none}
 use Rattle.ess_seen_laws.specs.Seen.{Kind, kind_of, Keeps, Seen}
 use Rattle.ess_setwise_laws.specs.Setwise.{setwise_mark}
@@ -66,20 +65,15 @@ pub record SpellsSets (sh : Shows) (sets : Text → Option Kind) (q : ℤ → Bo
 
 -- ---- the tree over tables
 
--- Over tables the constraint e, with this mark, is a tree over views without free names, in which no bound name hides another one. It binds
--- as many names as e, each a reserved one, and none from the next one on; and rules may make it bind as many as e. It spells the numbers of
--- e and those of domains of views. It means what e means where cells and views have the values of names. Where tables meet the structures
--- of views it meets its structures; and where cells have values of their marks too, each part of it has a value.
+-- Over tables the constraint e, with this mark, is a tree over views without free names, in which no bound name hides another one. Its
+-- names are reserved ones below the next one. It spells the numbers of e and those of domains of views. It means what e means where cells
+-- and views have the values of names. Where tables meet the structures of views it meets its structures; and where cells have values of
+-- their marks too, each part of it has a value.
 pub record IsSeenOverTables (sh : Shows) (marks : Text → Option Bool) (sets : Text → Option Kind) (cells : Text → Option (Bool × ℕ))
     (e : Ex) (m : Bool) : Type 0 where
   pub seen : Seen cells [] (constraint_tree sh e) m
   pub scoped : Scoped none none none (constraint_tree sh e)
-  pub binds : binders (constraint_tree sh e) ≡ binders e
-  pub next : (told e [] sh.next).1 ≡ sh.next + binders e
-  pub loads : load (constraint_tree sh e) ≡ load e
-  pub among : Text → Bool
-  pub names : NamesAre among among (constraint_tree sh e)
-  pub spared : (j : ℕ) → (told e [] sh.next).1 ≤ j → j < 2 ^ 64 → among (reserved j) ≡ false
+  pub names : HasNamesBelow (told e [] sh.next).1 (constraint_tree sh e)
   pub spells : (q : ℤ → Bool) → SpellsSets sh sets q → list_all q (numbers_of_tree e) ≡ true →
       list_all q (numbers_of_tree (constraint_tree sh e)) ≡ true
   pub means : (env there : Env) → HoldsNames sh marks env there → HoldsSets sh sets env there →

@@ -1,8 +1,9 @@
 -- Constraints that speak of nested sets: numbers, truth values and names of scalars, arithmetic, comparisons and connectives, `toInt`;
 -- `and` and `or` of what generators over truth values, over ranges of numbers and over members of sets go through, with conditions; `sum`
--- over truth values and ranges; sizes of sets, and memberships of scalars. A set is a name: a free one, or one that is bound over members
--- which are sets. So are `forAll x in s . |x| >= 2` and `exists x in t . 3 in x /\ i < |t|` in trees. Left out are quotients, powers,
--- conditions under a `sum`, sums over members, set operators, comparisons of sets, ranges of other ends, and names that hide others.
+-- over truth values and ranges; memberships of scalars and of sets, and comparisons and inclusions of sets; sizes of sets. A set is a name,
+-- a free one or one that is bound over members which are sets, or made of two by `union`, `intersect` and `-`. So are
+-- `forAll x in s . |x| >= 2`, `a union b = c` and `exists x in t . 3 in x - y /\ i < |t|` in trees. Left out are quotients, powers,
+-- conditions under a `sum`, sums over members, sizes of sets that are made of two, ranges of other ends, and names that hide others.
 use Rattle.std.specs.Prelude.{Bool, true, false, ◌&&◌, not, if◌then◌else◌, [], ◌∷◌, Option, Some, None, is_some, option_map}
 use Rattle.ess_semantics.specs.declared.words.Op1.{Op1}
 use Rattle.ess_semantics.specs.declared.words.Op2.{Op2}
@@ -14,7 +15,7 @@ use Rattle.ess_semantics.specs.Names.{Names}
 use Rattle.ess_semantics.specs.Trees.{both_ends, name_pat, Ex, number_ex, truth_ex, name_ex, comp_ex, no_exs, more_exs, Gens, no_gens, over, from, cond, bool_dom, int_dom, ex1, ex2, fun1}
 use Rattle.ess_flat_laws.specs.Flat.{as_marked, one_mark, two_mark}
 use Rattle.ess_ranged_laws.specs.Ranged.{takes_conditions, fold_mark, word_mark, is_mark}
-use Rattle.ess_seen_laws.specs.Seen.{Kind, scalars, sets_of, Bound, over_a_range, from_a_set, bound_kind}
+use Rattle.ess_seen_laws.specs.Seen.{Kind, scalars, sets_of, Bound, over_a_range, from_a_set, bound_kind, is_combined}
 
 -- ---- kinds
 
@@ -37,18 +38,43 @@ abbrev pub members_kind : Option Kind → Option Kind
 members_kind (Some (sets_of k)) = Some k
 members_kind o = None
 
--- The mark of an operator on an operand of this kind.
-abbrev pub one_kind : Op1 → Kind → Option Bool
-one_kind Op1.Bar (sets_of k) = Some false
-one_kind o (scalars m) = one_mark o m
-one_kind o k = None
+-- Whether two kinds are the same.
+abbrev pub same_kind : Kind → Kind → Bool
+same_kind (scalars true) (scalars true) = true
+same_kind (scalars false) (scalars false) = true
+same_kind (sets_of i) (sets_of k) = same_kind i k
+same_kind i k = false
 
--- The mark of an operator on two operands of these kinds.
-abbrev pub two_kind : Op2 → Kind → Kind → Option Bool
-two_kind Op2.Member (scalars true) (sets_of (scalars true)) = Some true
-two_kind Op2.Member (scalars false) (sets_of (scalars false)) = Some true
-two_kind o (scalars m) (scalars k) = two_mark o m k
-two_kind o i j = None
+-- Whether the operator makes a set of two.
+abbrev pub combines : Op2 → Bool
+combines Op2.Union = true
+combines Op2.Intersect = true
+combines Op2.Minus = true
+combines o = false
+
+-- Whether it compares two sets.
+abbrev pub compares_sets : Op2 → Bool
+compares_sets Op2.Eq = true
+compares_sets Op2.Ne = true
+compares_sets Op2.SubsetEq = true
+compares_sets Op2.Subset = true
+compares_sets Op2.SupsetEq = true
+compares_sets Op2.Supset = true
+compares_sets o = false
+
+-- The mark of an operator on an operand of this kind; c says whether the operand is made of two. Of such a set the size isn't asked.
+abbrev pub one_kind : Bool → Op1 → Kind → Option Bool
+one_kind false Op1.Bar (sets_of k) = Some false
+one_kind c o (scalars m) = one_mark o m
+one_kind c o k = None
+
+-- The kind of a tree with this mark, of an operator on two operands of these kinds.
+abbrev pub two_kind : Bool → Op2 → Kind → Kind → Option Kind
+two_kind b o (scalars m) (scalars k) = option_map scalars (and_then (two_mark o m k) (as_marked b))
+two_kind true Op2.Member i (sets_of k) = if same_kind i k then Some (scalars true) else None
+two_kind true o (sets_of i) (sets_of k) = if compares_sets o && same_kind i k then Some (scalars true) else None
+two_kind false o (sets_of i) (sets_of k) = if combines o && same_kind i k then Some (sets_of i) else None
+two_kind b o i k = None
 
 -- The mark of a word on a list of items of this kind.
 abbrev pub fold_kind : Fun → Kind → Option Bool
@@ -74,15 +100,14 @@ module _ (names : Text → Option Kind) where
   is_new r a = not (is_some (kind_at r a))
 
   abbrev mutual
-    -- The kind of the tree, where it is a constraint of the class, a part of one, or the name of a set.
+    -- The kind of the tree, where it is a constraint of the class, a part of one, or a set.
     pub setwise_kind : Names Bound → Ex → Option Kind
     setwise_kind r (number_ex k) = Some (scalars false)
     setwise_kind r (truth_ex b) = Some (scalars true)
     setwise_kind r (name_ex a) = kind_at r a
-    setwise_kind r (ex1 b o x) = option_map scalars (and_then (and_then (setwise_kind r x) (one_kind o)) (as_marked b))
-    setwise_kind r (ex2 b o x y) =
-        option_map scalars
-        (and_then (and_then (setwise_kind r x) (λ i. and_then (setwise_kind r y) (two_kind o i))) (as_marked b))
+    setwise_kind r (ex1 b o x) =
+        option_map scalars (and_then (and_then (setwise_kind r x) (one_kind (is_combined x) o)) (as_marked b))
+    setwise_kind r (ex2 b o x y) = and_then (setwise_kind r x) (λ i. and_then (setwise_kind r y) (two_kind b o i))
     setwise_kind r (fun1 b f (comp_ex e gs)) =
         option_map scalars
         (and_then (and_then (and_then (bound_behind (takes_conditions f) r gs) (λ t. setwise_kind t e)) (fold_kind f)) (as_marked b))
@@ -97,8 +122,8 @@ module _ (names : Text → Option Kind) where
         if is_new r a && (is_mark false (mark_of_kind (setwise_kind r x)) && is_mark false (mark_of_kind (setwise_kind r y))) then
         bound_behind c ((a, over_a_range false) ∷ r) gs else
         None
-    bound_behind true r (from (name_pat a) (name_ex s) gs) =
-        if is_new r a then and_then (members_kind (kind_at r s)) (λ k. bound_behind true ((a, from_a_set k) ∷ r) gs) else None
+    bound_behind true r (from (name_pat a) s gs) =
+        if is_new r a then and_then (members_kind (setwise_kind r s)) (λ k. bound_behind true ((a, from_a_set k) ∷ r) gs) else None
     bound_behind true r (cond e gs) = if is_mark true (mark_of_kind (setwise_kind r e)) then bound_behind true r gs else None
     bound_behind c r gs = None
 

@@ -33,4 +33,5 @@ pub returns-in-Some-5 : goal.returns-in-Some-5
 returns-in-Some-5 c =
     ruled_included_multisets c.args.taken.now.one.now c.args.taken.now.other.now c.args.taken.now.third.now c.args.taken.now.parts.now
     told_axis (told_apart c.args.taken.now.next)
-    (pure_names c.args.names.now) (pure_node c.args.node.now) c.in_ok-new-5.field-0 c.in-Some-5.new c.in_ok-new-5.ensures c.in-Some-5.is
+    (pure_names c.args.names.now) (pure_node c.args.node.now) c.in_ok-new-5.field-0 c.in-Some-5.new
+    c.in_ok-new-4.field-0 c.in_ok-new-4.ensures c.in_default-4.is c.in_ok-new-5.ensures c.in-Some-5.is

@@ -1,0 +1,4 @@
+//! How deep names are bound in trees.
+#![tactic(auto)]
+
+pub mod laws;

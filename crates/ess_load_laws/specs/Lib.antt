@@ -1,4 +1,0 @@
--- The number of names
-pub mod Load
--- Its law
-pub mod Laws

@@ -1,4 +1,0 @@
-//! How many names a tree may come to bind while rules rewrite it.
-#![tactic(auto)]
-
-pub mod laws;

@@ -1,6 +1,0 @@
-use Rattle.ess_seen_rules_laws.proofs.Known.{types, more, puts, names}
-use Rattle.ess_seen_rules_laws.proofs.Stays.{stays-seen}
-use Rattle.ess_seen_rules_laws.proofs.laws.stays_seen.Goals as goal
-
-pub returns : goal.returns
-returns c = stays-seen types more puts names
