@@ -13,6 +13,8 @@ pub mod MixedTrees
 pub mod MixedTables
 pub mod NestedBuilt
 pub mod RangedBuilt
+-- Tables that have a number at each slot
+pub mod FilledTables
 pub mod SetViews
 pub mod SetwiseBuilt
 pub mod BuiltMixed

@@ -1,16 +1,18 @@
 -- The rule that is built of a constraint that speaks of nested sets says what the constraint says: what is shown for the names of such sets
 -- is kept by declared tables, over which it has their values.
-use Rattle.std.proofs.Common.{◌≡◌, refl, sym, ap, ◌∙◌, subst, ℕ, ◌+◌, ◌^◌, Bool, true, false, ◌&&◌, ◌||◌, List, [], ◌++◌, map, length, nat_le, ℤ, Option, Some, None, option_map}
+use Rattle.std.proofs.Common.{◌≡◌, refl, sym, ap, ◌∙◌, subst, ℕ, ◌+◌, ◌^◌, Bool, true, false, ◌&&◌, ◌||◌, List, [], ◌∷◌, ◌++◌, map, length, nat_le, ℤ, Option, Some, None, option_map, arith}
 use Rattle.std.proofs.lemmas.Bool.{leb-true}
 use Rattle.std.specs.List.{list_all, list_any}
 use Rattle.ess_semantics.specs.Lists.{append_all}
 use Rattle.ess_semantics.specs.Values.{Text}
 use Rattle.ess_semantics.specs.Order.{same_int}
 use Rattle.ess_semantics.specs.Names.{Names, keys}
-use Rattle.ess_semantics.specs.Trees.{Ex, Stm}
+use Rattle.ess_semantics.specs.Trees.{Ex, Dom, Stm}
+use Rattle.ess_semantics.specs.DeclaredTables.{TableDecl}
+use Rattle.ess_semantics.specs.ModelMeaning.{declaration_of}
 use Rattle.ess_semantics.specs.Constants.{constants_of}
 use Rattle.ess_semantics.specs.Tables.{Table}
-use Rattle.ess_semantics.specs.Meaning.{meaning}
+use Rattle.ess_semantics.specs.Meaning.{meaning, is_bool_dom}
 use Rattle.ess_semantics.specs.Meets.{Meets}
 use Rattle.ess_semantics.specs.Prepared.{prepared}
 use Rattle.ess_semantics.specs.Assignments.{Assignment, env_of}
@@ -24,29 +26,62 @@ use Rattle.ess_refine_laws.specs.SpellingEnds.{numbers_of_tree}
 use Rattle.conjure_laws.specs.Premises.{Instance}
 use Rattle.conjure_laws.specs.ModelPremises.{Canonical}
 use Rattle.conjure_laws.specs.Views.{over_tables}
+use Rattle.conjure_laws.proofs.Lists.{map-length}
 use Rattle.conjure_model_laws.specs.ToldApart.{is_unreserved}
 use Rattle.conjure_model_laws.specs.Shown.{Shows, in_place, shows_nothing, shows_of}
 use Rattle.conjure_model_laws.specs.Printed.{binders}
 use Rattle.conjure_model_laws.specs.IsBuiltFrom.{taken_names}
 use Rattle.ess_nested_laws.proofs.NestedForms.{nested-form, kept-form}
 use Rattle.ess_flat_models_laws.specs.FlatSpecifications.{scalar_mark, is_flat_truth}
-use Rattle.ess_bare_written_laws.specs.Laws.{IsDeclared}
-use Rattle.ess_seen_laws.specs.Seen.{Kind}
+use Rattle.ess_bare_written_laws.specs.Laws.{IsDeclared, AreDeclared}
+use Rattle.ess_seen_laws.specs.Seen.{Kind, counted_axes}
+use Rattle.ess_seen_laws.specs.Filled.{AreFilled}
 use Rattle.ess_setwise_laws.specs.Setwise.{is_setwise_truth}
 use Rattle.ess_setwise_laws.specs.Laws.{ShowsSets, HoldsSets, HoldsScalars, MeetsSets, SpellsSets}
 use Rattle.ess_model_rules.specs.RulesWritten.{ConstraintComes}
 use Rattle.ess_mixed_models_laws.specs.MixedSpecifications.{kinds, nested_kind, are_mixed_statements, types_come_first, have_bounds, spares_reserved, has_names_left, is_ranged_constraint, is_setwise_constraint}
 use Rattle.ess_mixed_models_laws.specs.MixedModels.{mixed_decl, mixed_decls, IsRuleOf, of_told}
 use Rattle.ess_mixed_models_laws.proofs.ScalarCells.{placed-names}
+use Rattle.ess_mixed_views_laws.proofs.AxisSizes.{axis_size}
 use Rattle.ess_mixed_views_laws.proofs.NestedNames.{NestedAmong, nested-name}
 use Rattle.ess_mixed_views_laws.proofs.ViewValues.{view-is, StandsForName, view-stands}
 use Rattle.ess_mixed_views_laws.proofs.ViewNumbers.{view-spelled}
-use Rattle.conjure_nested_laws.proofs.FoundNested.{mark_of, declared_cells, cells-declared}
 use Rattle.conjure_setwise_laws.specs.Laws.{HaveSets, SetwiseRulesStand}
 use Rattle.conjure_mixed_laws.proofs.ShownNames.{names-shown}
 use Rattle.conjure_mixed_laws.proofs.ShownSets.{shown-alike}
-use Rattle.conjure_mixed_laws.proofs.RangedBuilt.{none-reserved, names-held, marks-held, cell-declared}
+use Rattle.conjure_mixed_laws.proofs.RangedBuilt.{none-reserved, names-held, marks-held, all-same, cell-declared}
+use Rattle.conjure_mixed_laws.proofs.FilledTables.{size_of, sized_cells, tables-filled}
 use Rattle.conjure_mixed_laws.proofs.SetViews.{view, first-view, last-view, is-set-view}
+
+no-axes : (as' : List Dom) → length as' ≡ 0 → map axis_size as' ≡ []
+no-axes [] e = refl
+no-axes (a ∷ as') e = absurd (omega (arith, e))
+
+-- The number of axes in place of their sizes.
+abbrev counted : Bool × List ℕ → Bool × ℕ
+counted z = (z.0, length z.1)
+
+-- Tables with declared sizes have the declared numbers of axes.
+sizes-declared : (ds : List TableDecl) → AreDeclared ds (counted_axes (sized_cells ds))
+sizes-declared ds n b k e = go (declaration_of ds n) refl e
+  where
+    none : {x : Bool × ℕ} → None ≡ Some x → ⊥
+    none h = cc
+
+    same : (x y : Bool × ℕ) → Some x ≡ Some y → x ≡ y
+    same x y h = cc
+
+    go : (o : Option TableDecl) → declaration_of ds n ≡ o → option_map counted (option_map size_of o) ≡ Some (b, k) →
+        IsDeclared ds n b k
+    go None q e = absurd (none e)
+    go (Some t) q e =
+        let z = same (is_bool_dom t.cell, length (map axis_size t.axes)) (b, k) e in
+        record {
+          line = t;
+          found = q;
+          mark = ap (λ m. m.0) z;
+          axes = sym (map-length axis_size t.axes) ∙ ap (λ m. m.1) z;
+        }
 
 or-right : (b c : Bool) → c ≡ true → b || c ≡ true
 or-right true c q = refl
@@ -62,8 +97,8 @@ module _ (S : List Stm) (o : Options) (h : are_mixed_statements S o ≡ true) (f
 
   module _ (E : Model) (g : E.givens ≡ map (mixed_decl (kinds S) Ps) (plans_for givens_side S o))
       (e : E.finds ≡ append_all (map (mixed_decls (kinds S) Ps) (plans_for finds_side S o))) where
-    abbrev cells : Text → Option (Bool × ℕ)
-    cells = declared_cells (all_decls E)
+    abbrev cells : Text → Option (Bool × List ℕ)
+    cells = sized_cells (all_decls E)
 
     named : (a : Text) (k : Kind) → nested_kind Ps a ≡ Some k → NestedAmong S o Ps a k
     named a k q = nested-name S o h a k q
@@ -78,9 +113,10 @@ module _ (S : List Stm) (o : Options) (h : are_mixed_statements S o ≡ true) (f
     -- ---- what is shown
 
     -- A declared cell has its mark and no axes.
-    cell-marked : (n : Text) (b : Bool) → IsDeclared (all_decls E) n b 0 → cells n ≡ Some (b, 0)
+    cell-marked : (n : Text) (b : Bool) → IsDeclared (all_decls E) n b 0 → cells n ≡ Some (b, [])
     cell-marked n b w =
-        ap (option_map mark_of) w.found ∙ ap (λ z. Some (z, length w.line.axes)) w.mark ∙ ap (λ z. Some (b, z)) w.axes
+        ap (option_map size_of) w.found ∙ ap (λ z. Some (z, map axis_size w.line.axes)) w.mark
+        ∙ ap (λ z. Some (b, z)) (no-axes w.line.axes w.axes)
 
     sets-shown : list_all is_unreserved (keys sh.first) ≡ true → ShowsSets sh (scalar_mark Ps) (nested_kind Ps) cells
     sets-shown u = record {
@@ -144,11 +180,13 @@ module _ (S : List Stm) (o : Options) (h : are_mixed_statements S o ≡ true) (f
     have-sets : list_all is_unreserved (keys sh.first) ≡ true → HaveSets S o E (nested_kind Ps) cells
     have-sets u = record {
       shown = sets-shown u;
-      declared = cells-declared (all_decls E);
+      declared = sizes-declared (all_decls E);
       spells = sets-spelled;
       names = names-held S o h f ts bs;
       values = sets-held;
       scalars = scalars-held;
+      filled = λ p a q c I C. subst (λ ds. AreFilled (sized_cells ds) (over_tables S p (q ++ c)))
+          (sym (all-same S o h f ts bs E g e)) (tables-filled S o h f p a q c I C);
       met = sets-met;
     }
 

@@ -1,5 +1,5 @@
 -- Rules lead from trees over views of sets to such trees that mean the same, one rule at a part after the other.
-use Rattle.std.proofs.Common.{◌≡◌, refl, sym, ap, ◌∙◌, subst, ◌⊎◌, inl, inr, ℕ, suc, ◌≤◌, ◌<◌, ◌^◌, le_refl, Bool, true, false, not, [], Option, Some, None, arith}
+use Rattle.std.proofs.Common.{◌≡◌, refl, sym, ap, ◌∙◌, subst, ◌⊎◌, inl, inr, ℕ, suc, ◌≤◌, ◌<◌, ◌^◌, le_refl, Bool, true, false, not, [], Option, Some, None, List, arith}
 use Rattle.std.specs.Prelude.{IsTrue, is_some}
 use Rattle.ess_semantics.specs.Values.{Text}
 use Rattle.ess_semantics.specs.Names.{Names, look}
@@ -12,22 +12,25 @@ use Rattle.ess_semantics.specs.Substitution.{NamesAre}
 use Rattle.ess_semantics.specs.Kept.{Keeps}
 use Rattle.ess_semantics.specs.Contexts.{In, fill, Where}
 use Rattle.ess_semantics.specs.NamesAt.{names_at}
+use Rattle.ess_rules_laws.proofs.Kept.{where-stays}
 use Rattle.ess_rules_laws.proofs.Places.{where-join, where-map}
 use Rattle.ess_rules_laws.proofs.KeptUnder.{step-here}
 use Rattle.ess_refine_laws.specs.AllRules.{Rule, rewrite}
 use Rattle.ess_refine_laws.specs.ScopesStay.{Scope, scope_at, is_outside_views}
-use Rattle.ess_values_along_laws.specs.Valued.{Valued, is_matrix_view}
+use Rattle.ess_values_along_laws.specs.Valued.{Valued}
 use Rattle.ess_values_along_laws.specs.ValuesAlong.{natural_at, KeepsValues}
 use Rattle.ess_values_along_laws.proofs.ValuesAlong.{values-along}
 use Rattle.ess_valued_chains_laws.proofs.Parts.{valued-part, met-part}
 use Rattle.conjure_model_laws.specs.ToldApart.{reserved}
 use Rattle.ess_depth_laws.specs.Below.{is_below, HasNamesBelow}
 use Rattle.ess_depth_laws.specs.Laws.{DepthsAreBounded}
-use Rattle.ess_seen_laws.specs.Seen.{Bound, bound_types, Seen, number, truth, named, cell, atom, one, two, power, chosen, folded, added, counted, of_items, size, within, set_within, compared}
-use Rattle.ess_seen_laws.specs.SeenParts.{AllBound, Part, scalar_part, set_part, list_part, index_part}
+use Rattle.ess_seen_laws.specs.Seen.{Bound, bound_types, Seen}
+use Rattle.ess_seen_laws.specs.SeenParts.{AllBound, Part, scalar_part, set_part, list_part, still_part}
+use Rattle.ess_seen_laws.specs.Filled.{InSlots, AreFilled}
 use Rattle.ess_seen_laws.specs.Laws.{PartsOfSeenTrees, SetsStayAsTheyAre}
 use Rattle.ess_seen_laws.specs.MayFire.{may_fire, CountsMembers}
 use Rattle.ess_seen_laws.specs.Apart.{Apart}
+use Rattle.ess_seen_everywhere_laws.specs.Laws.{IsFilled}
 use Rattle.ess_seen_ended_laws.specs.Laws.{SeenTreesEnd}
 use Rattle.ess_seen_rules_laws.specs.Laws.{FewRulesFire}
 use Rattle.ess_seen_stays_laws.specs.Laws.{StaysSeen as RulesLeaveSeen}
@@ -36,17 +39,26 @@ use Rattle.ess_seen_names_laws.specs.Laws.{none, KeepsNames, SeenRulesKeepNames,
 use Rattle.ess_rules.specs.Ruled.{IsRuled, Ruling, plainly, by_kind, gathering, in_order, MayRule, supply_at, ruled}
 use Rattle.ess_refine.specs.Chains.{as_it_was, led_at, Leads}
 use Rattle.conjure_seen_laws.specs.Laws.{IsSeenWhole, StaysSeen, SeenTreesStaySeen}
-use Rattle.conjure_seen_laws.proofs.Roots.{scalar-stays, set-stays, list-stays, index-stays}
+use Rattle.conjure_seen_laws.proofs.Roots.{scalar-stays, set-stays, list-stays, still-stays}
 use Rattle.conjure_seen_laws.proofs.Rulings.{counts-none, none-ruled, at-itself}
 use Rattle.conjure_seen_laws.proofs.BoundNames.{bound-type, absurd-both, isnt-bound}
 use Rattle.conjure_seen_laws.proofs.Counters.{rule-up, chain-up}
 use Rattle.conjure_seen_laws.proofs.Covered.{known-at}
+use Rattle.conjure_seen_laws.proofs.NoMatrices.{no-view}
 
 no-tree : {e : Ex} → None ≡ Some e → ⊥
 no-tree q = cc
 
 no-typed : (env : Env) → Typed [] env
 no-typed env a t v p q = cc
+
+no-slots : (env : Env) → InSlots [] env
+no-slots env a b q = cc
+
+-- What reads no name but tables is so wherever the context of a part holds.
+filled-there : (cells : Text → Option (Bool × List ℕ)) (c : In) (env : Env) → AreFilled cells env → Where c env (AreFilled cells)
+filled-there cells c env f = where-stays (AreFilled cells)
+    (λ x v here k n ks q is s. let w = k n ks q is s in record { table = w.table; found = w.found; cell = w.cell; there = w.there }) c env f
 
 less : (a b c : ℕ) → a ≤ b → b ≤ c → a ≤ c
 less a b c p q = omega (arith, p, q)
@@ -56,27 +68,6 @@ below s j p q = omega (arith, p, q)
 
 first-below : (s j : ℕ) → suc s ≤ j → s < j
 first-below s j p = omega (arith, p)
-
-module _ (cells : Text → Option (Bool × ℕ)) where
-  -- A scalar is no view of a matrix.
-  no-view : {r : Names Bound} {e : Ex} {m : Bool} → Seen cells r e m → is_matrix_view e ≡ false
-  no-view number = refl
-  no-view truth = refl
-  no-view (named h k) = refl
-  no-view (cell h i) = refl
-  no-view (atom h i) = refl
-  no-view (one o f) = refl
-  no-view (two o f h) = refl
-  no-view (power f h) = refl
-  no-view (chosen f) = refl
-  no-view (folded w k f) = refl
-  no-view (added k f) = refl
-  no-view (counted k) = refl
-  no-view (of_items w f) = refl
-  no-view (size s u) = refl
-  no-view (within f s) = refl
-  no-view (set_within s t) = refl
-  no-view (compared o s t) = refl
 
 -- What is known of rules in such trees.
 pub record Known : Type 0 where
@@ -91,13 +82,13 @@ pub record Known : Type 0 where
   pub places : NamesAtParts
   pub depths : DepthsAreBounded
 
-module _ (K : Known) (cells : Text → Option (Bool × ℕ)) where
+module _ (K : Known) (cells : Text → Option (Bool × List ℕ)) where
   -- ---- nothing, and one chain behind another one
 
   itself : (n k : ℕ) (e : Ex) (m : Bool) → n ≤ k → IsSeenWhole cells n e m → StaysSeen cells k e e m
   itself n k e m l w = record {
     whole = record { seen = w.seen; named = record { scoped = w.named.scoped; names = K.places.later n k e l w.named.names } };
-    kept = λ env p t v. (refl, t, v);
+    kept = λ env p a t v. (refl, t, v);
     spells = λ q z o d h. h;
     ended = K.ends cells e m w.seen;
   }
@@ -105,7 +96,7 @@ module _ (K : Known) (cells : Text → Option (Bool × ℕ)) where
   chained : (j k : ℕ) (a b c : Ex) (m : Bool) → StaysSeen cells j a b m → StaysSeen cells k b c m → StaysSeen cells k a c m
   chained j k a b c m x y = record {
     whole = y.whole;
-    kept = λ env p t v. let k = x.kept env p t v in let l = y.kept env p k.1 k.2 in (k.0 ∙ l.0, l.1, l.2);
+    kept = λ env p a t v. let k = x.kept env p a t v in let l = y.kept env p a k.1 k.2 in (k.0 ∙ l.0, l.1, l.2);
     spells = λ q z o d h. y.spells q z o d (x.spells q z o d h);
     ended = y.ended;
   }
@@ -119,7 +110,8 @@ module _ (K : Known) (cells : Text → Option (Bool × ℕ)) where
   -- A part c of a whole, around which the names t are bound, and the names that a rule takes there.
   module _ (n s j : ℕ) (c : In) (t : Names Bound) (a b : Ex) (m k : Bool) (W : IsSeenWhole cells n (fill c a) m) (low : n ≤ s)
       (up : suc s ≤ j) (high : j ≤ 2 ^ 64) (outside : is_outside_views c ≡ true) (types : names_at c [] ≡ bound_types t)
-      (known : (u v : Text → Bool) → NamesAre u v (fill c a) → AllBound v [] → AllBound v t) (h : Seen cells t a k)
+      (known : (u v : Text → Bool) → NamesAre u v (fill c a) → AllBound v [] → AllBound v t)
+      (slots : (env : Env) → InSlots [] env → Where c env (InSlots t)) (h : Seen cells t a k)
       (again : (f : Ex) → Seen cells t f k → Seen cells [] (fill c f) m) where
     below-s : HasNamesBelow s (fill c a)
     below-s = K.places.later n s (fill c a) low W.named.names
@@ -155,7 +147,7 @@ module _ (K : Known) (cells : Text → Option (Bool × ℕ)) where
     record Made : Type 0 where
       seen : Seen cells t b k
       keeps : KeepsNames (reserved s) a b
-      alike : (env : Env) → IsMet t a env → (w : Bool) → Valued w a env → StaysAlike w a b env
+      alike : (env : Env) → IsMet cells t a env → (w : Bool) → Valued w a env → StaysAlike w a b env
 
     made-plainly : (i : ℕ) (u : Rule) → may_fire u ≡ true → rewrite (supply_at s i) (bound_types t) u a ≡ Some b → Made
     made-plainly i u f q = record {
@@ -183,21 +175,34 @@ module _ (K : Known) (cells : Text → Option (Bool × ℕ)) where
 
     module _ (M : Made) where
       -- Wherever the context of the part holds.
-      module _ (env : Env) (positions : IsTrue env.positions) (met : Meets (fill c a) env) (valued : Valued false (fill c a) env) where
+      module _ (env : Env) (positions : IsTrue env.positions) (filled : AreFilled cells env) (met : Meets (fill c a) env)
+          (valued : Valued false (fill c a) env) where
         abbrev w : Bool
         w = natural_at a c false
 
-        met-there : Where c env (IsMet t a)
-        met-there = where-join (λ e. Typed (bound_types t) e × IsTrue e.positions) (Meets a) (IsMet t a)
-            (λ e p q. record { typed = p.0; positions = p.1; met = q }) c env
-            (where-join (Typed (bound_types t)) (λ e. IsTrue e.positions) (λ e. Typed (bound_types t) e × IsTrue e.positions)
-            (λ e p q. (p, q)) c env
-            (subst (λ g. Where c env (Typed g)) types (K.typed.typed cells [] c a m W.seen outside env
-            (record { typed = no-typed env; positions = positions; met = met })))
-            (K.typed.positions c env positions)) (met-part a c env met)
+        typed-there : Where c env (Typed (bound_types t))
+        typed-there = subst (λ g. Where c env (Typed g)) types (K.typed.typed cells [] c a m W.seen outside env
+            (record {
+              holds = record { typed = no-typed env; slots = no-slots env; filled = filled };
+              positions = positions;
+              met = met;
+            }))
+
+        holds-there : Where c env (IsFilled cells t)
+        holds-there = where-join (λ e. Typed (bound_types t) e × InSlots t e) (AreFilled cells) (IsFilled cells t)
+            (λ e p q. record { typed = p.0; slots = p.1; filled = q }) c env
+            (where-join (Typed (bound_types t)) (InSlots t) (λ e. Typed (bound_types t) e × InSlots t e) (λ e p q. (p, q)) c env
+            typed-there (slots env (no-slots env)))
+            (filled-there cells c env filled)
+
+        met-there : Where c env (IsMet cells t a)
+        met-there = where-join (λ e. IsFilled cells t e × IsTrue e.positions) (Meets a) (IsMet cells t a)
+            (λ e p q. record { holds = p.0; positions = p.1; met = q }) c env
+            (where-join (IsFilled cells t) (λ e. IsTrue e.positions) (λ e. IsFilled cells t e × IsTrue e.positions)
+            (λ e p q. (p, q)) c env holds-there (K.typed.positions c env positions)) (met-part a c env met)
 
         alike-there : Where c env (StaysAlike w a b)
-        alike-there = where-join (IsMet t a) (Valued w a) (StaysAlike w a b) (λ e p q. M.alike e p w q) c env met-there
+        alike-there = where-join (IsMet cells t a) (Valued w a) (StaysAlike w a b) (λ e p q. M.alike e p w q) c env met-there
             (valued-part a c false env outside valued)
 
         values : KeepsValues false (fill c a) (fill c b) env
@@ -226,28 +231,30 @@ module _ (K : Known) (cells : Text → Option (Bool × ℕ)) where
   -- Whatever the part is.
   by-part : (n s j : ℕ) (c : In) (t : Names Bound) (a b : Ex) (m : Bool) → IsSeenWhole cells n (fill c a) m → n ≤ s → suc s ≤ j →
       j ≤ 2 ^ 64 → names_at c [] ≡ bound_types t →
-      ((u v : Text → Bool) → NamesAre u v (fill c a) → AllBound v [] → AllBound v t) → (o : Bool) → is_outside_views c ≡ o →
+      ((u v : Text → Bool) → NamesAre u v (fill c a) → AllBound v [] → AllBound v t) →
+      ((env : Env) → InSlots [] env → Where c env (InSlots t)) → (o : Bool) → is_outside_views c ≡ o →
       Part cells (λ f. Seen cells [] (fill c f) m) o t a → IsRuled s (names_at c []) a b j → StaysSeen cells j (fill c a) (fill c b) m
-  by-part n s j c t a b m W low up high types known o q (scalar_part k h again) i =
-      one-made n s j c t a b m k W low up high q types known h again
-      (made n s j c t a b m k W low up high q types known h again i.count i.rule (subst (λ g. MayRule g i.rule a) types i.may)
+  by-part n s j c t a b m W low up high types known slots o q (scalar_part k h again) i =
+      one-made n s j c t a b m k W low up high q types known slots h again
+      (made n s j c t a b m k W low up high q types known slots h again i.count i.rule (subst (λ g. MayRule g i.rule a) types i.may)
       (subst (λ g. ruled (supply_at s i.count) g i.rule a ≡ Some b) types
       (at-itself s (names_at c []) a b j i (scalar-stays cells K.same h))))
-  by-part n s j c t a b m W low up high types known o q (set_part k h) i =
+  by-part n s j c t a b m W low up high types known slots o q (set_part k h) i =
       absurd (no-tree (sym (none-ruled a (K.few.at_a_set cells t a k h) (supply_at s i.count) (names_at c []) i.rule)
       ∙ at-itself s (names_at c []) a b j i (set-stays cells K.same h)))
-  by-part n s j c t a b m W low up high types known o q (list_part k h) i =
+  by-part n s j c t a b m W low up high types known slots o q (list_part k h) i =
       absurd (no-tree (sym (none-ruled a (K.few.at_a_list cells t a k h) (supply_at s i.count) (names_at c []) i.rule)
       ∙ at-itself s (names_at c []) a b j i (list-stays cells K.same h)))
-  by-part n s j c t a b m W low up high types known o q (index_part h) i =
-      absurd (no-tree (sym (none-ruled a (K.few.at_an_index t a h) (supply_at s i.count) (names_at c []) i.rule)
-      ∙ at-itself s (names_at c []) a b j i (index-stays h)))
+  by-part n s j c t a b m W low up high types known slots o q (still_part h) i =
+      absurd (no-tree (sym (none-ruled a (K.few.at_a_still_part t a h) (supply_at s i.count) (names_at c []) i.rule)
+      ∙ at-itself s (names_at c []) a b j i (still-stays h)))
 
   one-turn : (n s j : ℕ) (c : In) (a b : Ex) (m : Bool) → IsSeenWhole cells n (fill c a) m → n ≤ s → j ≤ 2 ^ 64 →
       IsRuled s (names_at c []) a b j → StaysSeen cells j (fill c a) (fill c b) m
   one-turn n s j c a b m W low high i =
       let q = K.parts cells [] c a m W.seen in
-      by-part n s j c q.around a b m W low (rule-up s j (names_at c []) a b i) high q.types q.known (is_outside_views c) refl q.part i
+      by-part n s j c q.around a b m W low (rule-up s j (names_at c []) a b i) high q.types q.known q.slots (is_outside_views c) refl
+      q.part i
 
   -- ---- a chain
 

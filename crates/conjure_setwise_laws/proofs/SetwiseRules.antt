@@ -24,7 +24,7 @@ use Rattle.ess_flat_models_laws.specs.FlatSpecifications.{scalar_mark}
 use Rattle.ess_bare_written_laws.specs.Laws.{IsEndedTree, EndedTreesAreWritten}
 use Rattle.ess_ranged_laws.specs.Ranged.{is_mark}
 use Rattle.ess_ranged_laws.specs.Laws.{none}
-use Rattle.ess_seen_laws.specs.Seen.{Kind}
+use Rattle.ess_seen_laws.specs.Seen.{Kind, counted_axes}
 use Rattle.ess_depth_laws.specs.Laws.{DepthsAreBounded}
 use Rattle.ess_setwise_laws.specs.Setwise.{setwise_mark, is_setwise_truth}
 use Rattle.ess_setwise_laws.specs.Laws.{IsSeenOverTables, SetwiseTreesAreSeen}
@@ -50,7 +50,8 @@ weaker : (k : ℕ) → k < 2 ^ 62 → k ≤ 2 ^ 64
 weaker k p = omega (arith, p)
 
 module _ (stay : SeenTreesStaySeen) (written : EndedTreesAreWritten) (seen : SetwiseTreesAreSeen) (depths : DepthsAreBounded)
-    (S : List Stm) (o : Options) (E : Model) (sets : Text → Option Kind) (cells : Text → Option (Bool × ℕ)) (H : HaveSets S o E sets cells)
+    (S : List Stm) (o : Options) (E : Model) (sets : Text → Option Kind) (cells : Text → Option (Bool × List ℕ))
+    (H : HaveSets S o E sets cells)
     (e : Ex) (t : is_setwise_truth (scalar_mark (plans S o)) sets e ≡ true) (low : (shows_of S o).next + binders e ≤ 2 ^ 62)
     (taken : List Text) (few : length taken ≤ 2 ^ 62) where
   abbrev sh : Shows
@@ -74,7 +75,7 @@ module _ (stay : SeenTreesStaySeen) (written : EndedTreesAreWritten) (seen : Set
     stays : StaysSeen cells j old last true
     stays = stay cells (next_behind sh e) j old last true whole leads (weaker j top)
 
-    ready : IsEndedTree cells taken last true
+    ready : IsEndedTree (counted_axes cells) taken last true
     ready = record {
       ended = stays.ended refined;
       unbound = none;
@@ -91,8 +92,8 @@ module _ (stay : SeenTreesStaySeen) (written : EndedTreesAreWritten) (seen : Set
     means p a q c I C =
         let env : Env = over_tables S p (q ++ c) in
         let met = H.met p a q c I C in
-        ap is_true (written.value cells taken last true ready (all_decls E) H.declared (q ++ c) env refl
-        ∙ sym (stays.kept env refl (asked.meets env met) (asked.valued env (H.scalars p a q c I C) met)).0
+        ap is_true (written.value (counted_axes cells) taken last true ready (all_decls E) H.declared (q ++ c) env refl
+        ∙ sym (stays.kept env refl (H.filled p a q c I C) (asked.meets env met) (asked.valued env (H.scalars p a q c I C) met)).0
         ∙ asked.means (env_of S p a) env (H.names p a q c I C) (H.values p a q c I C))
 
     abbrev isc : ℤ → Bool
@@ -100,7 +101,7 @@ module _ (stay : SeenTreesStaySeen) (written : EndedTreesAreWritten) (seen : Set
 
     spells : list_all isc (numbers_of_tree e) ≡ true → spelled S (parts_of (written_for taken last)) ≡ true
     spells h =
-        written.spells cells taken last true ready isc refl refl
+        written.spells (counted_axes cells) taken last true ready isc refl refl
         (stays.spells isc refl refl refl (asked.spells isc H.spells h))
 
   -- What comes of the constraint.

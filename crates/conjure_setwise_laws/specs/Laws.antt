@@ -21,17 +21,19 @@ use Rattle.ess_refine_laws.specs.SpellingEnds.{numbers_of_tree}
 use Rattle.ess_flat_models_laws.specs.FlatSpecifications.{scalar_mark}
 use Rattle.ess_bare_written_laws.specs.Laws.{AreDeclared}
 use Rattle.ess_ranged_laws.specs.Laws.{HoldsNames}
-use Rattle.ess_seen_laws.specs.Seen.{Kind}
+use Rattle.ess_seen_laws.specs.Seen.{Kind, counted_axes}
+use Rattle.ess_seen_laws.specs.Filled.{AreFilled}
 use Rattle.ess_setwise_laws.specs.Setwise.{is_setwise_truth}
 use Rattle.ess_setwise_laws.specs.Laws.{ShowsSets, HoldsSets, HoldsScalars, MeetsSets, SpellsSets}
 use Rattle.ess_model_rules.specs.RulesWritten.{ConstraintComes}
 
 -- The scalars of the specification are single cells, and its sets with these kinds of members are views, over tables that the model
 -- declares. Views spell constants of the specification alone. Over the tables of an instance cells hold the values of scalars, and views
--- those of sets; and the structures of views are met.
-pub record HaveSets (S : List Stm) (o : Options) (E : Model) (sets : Text → Option Kind) (cells : Text → Option (Bool × ℕ)) : Type 0 where
+-- those of sets; tables of numbers have one at each slot; and the structures of views are met.
+pub record HaveSets (S : List Stm) (o : Options) (E : Model) (sets : Text → Option Kind)
+    (cells : Text → Option (Bool × List ℕ)) : Type 0 where
   pub shown : ShowsSets (shows_of S o) (scalar_mark (plans S o)) sets cells
-  pub declared : AreDeclared (all_decls E) cells
+  pub declared : AreDeclared (all_decls E) (counted_axes cells)
   pub spells : SpellsSets (shows_of S o) sets (λ n. list_any (same_int n) (constants_of S))
   pub names : (p a : Assignment) (q c : Names Table) → Instance S o p q → Canonical S o p a c →
       HoldsNames (shows_of S o) (scalar_mark (plans S o)) (env_of S p a) (over_tables S p (q ++ c))
@@ -39,13 +41,15 @@ pub record HaveSets (S : List Stm) (o : Options) (E : Model) (sets : Text → Op
       HoldsSets (shows_of S o) sets (env_of S p a) (over_tables S p (q ++ c))
   pub scalars : (p a : Assignment) (q c : Names Table) → Instance S o p q → Canonical S o p a c →
       HoldsScalars (shows_of S o) (scalar_mark (plans S o)) (over_tables S p (q ++ c))
+  pub filled : (p a : Assignment) (q c : Names Table) → Instance S o p q → Canonical S o p a c →
+      AreFilled cells (over_tables S p (q ++ c))
   pub met : (p a : Assignment) (q c : Names Table) → Instance S o p q → Canonical S o p a c →
       MeetsSets (shows_of S o) sets (over_tables S p (q ++ c))
 
 -- The rule that comes of a constraint that speaks of nested sets says what the constraint says. It spells constants of the specification
 -- alone, where the constraint does. Names are left for bound ones, as in all that a machine holds.
 abbrev pub SetwiseRulesStand : Type 0
-SetwiseRulesStand = (S : List Stm) (o : Options) (E : Model) (sets : Text → Option Kind) (cells : Text → Option (Bool × ℕ)) →
+SetwiseRulesStand = (S : List Stm) (o : Options) (E : Model) (sets : Text → Option Kind) (cells : Text → Option (Bool × List ℕ)) →
     HaveSets S o E sets cells → (e : Ex) → is_setwise_truth (scalar_mark (plans S o)) sets e ≡ true →
     (shows_of S o).next + binders e ≤ 2 ^ 62 → (taken : List Text) → length taken ≤ 2 ^ 62 → (s : Scope) (r : Ex) →
     ConstraintComes s taken (shows_of S o) e (Some r) →

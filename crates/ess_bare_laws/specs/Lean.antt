@@ -1,6 +1,6 @@
 -- Lean trees: those that rules end in, and those that are written for them on each step. They are as bare trees are, but that sums may have
--- conditions, that a fold may be over a list of items, that numbers and bound names have properties, and that indices may be asked to be
--- numbers.
+-- conditions, that a fold may be over a list of items and `max` over one of two, that numbers and bound names have properties, and that
+-- indices may be asked to be numbers.
 use Rattle.std.specs.Prelude.{◌≡◌, ℕ, zero, suc, Bool, true, false, List, ◌∷◌, ℤ, Option, Some}
 use Rattle.ess_semantics.specs.declared.words.Op1.{Op1}
 use Rattle.ess_semantics.specs.declared.words.Op2.{Op2}
@@ -40,6 +40,8 @@ module _ (cells : Text → Option (Bool × ℕ)) (ok : ℤ → Bool) (fine : Tex
           Lean r (fun1 b f (comp_ex e gs)) b
       by_items : {r : Names Bool} {b : Bool} {f : Fun} {es : Exs} → FoldWord b f → Leans r es b →
           Lean r (fun1 b f (node_ex false matrix_literal es)) b
+      by_greatest : {r : Names Bool} {x y : Ex} → Lean r x false → Lean r y false →
+          Lean r (fun1 false Fun.Max (node_ex false matrix_literal (more_exs x (more_exs y no_exs)))) false
       by_order : {r : Names Bool} {m : Bool} {o : Op2} {x y : Ex} → LexSign o → Row r x m → Row r y m → Lean r (ex2 true o x y) true
 
     -- One item or several, each with this mark.

@@ -15,7 +15,7 @@ use Rattle.conjure_model_laws.specs.Printed.{binders}
 use Rattle.ess_depth_laws.specs.Depth.{NestsWithin}
 use Rattle.ess_flat_laws.specs.Flat.{equal}
 use Rattle.ess_bare_laws.specs.Bare.{Bare, before, some_holds, number, named, cell, two, folded, ordered, no_index, one_index, row, at_end, through, where_holds, no_axis, truths, numbers, no_bound, one_bound}
-use Rattle.ess_bare_laws.specs.Lean.{of_some, of_sum, as_scalar, as_number, Ended, a_number, a_name, a_cell, by_fold, by_items, last_lean, more_leans, no_terms, more_terms, behind_all, over_truths, over_numbers, under}
+use Rattle.ess_bare_laws.specs.Lean.{of_some, of_sum, as_scalar, as_number, Ended, a_number, a_name, a_cell, by_power, by_fold, by_items, by_greatest, last_lean, more_leans, no_terms, more_terms, behind_all, over_truths, over_numbers, under}
 use Rattle.ess_bare_written_laws.specs.Laws.{as_written, AreDeclared, IsReady, IsEndedTree}
 use Rattle.ess_bare_written_laws.proofs.Written.{bare-trees-are-written, ended-trees-are-written}
 
@@ -131,6 +131,25 @@ ended-both = by_items of_some (more_leans ended-truths-there (last_lean ended-tr
 written-both : as_written [] of_both ≡
     fun1 true Fun.Or (node_ex false matrix_literal (more_exs (as_written [] of_truths) (more_exs (as_written [] of_truths) no_exs)))
 written-both = refl
+
+-- `sum([1 | i : int(1..max([2 ** 3, 0]))])`, where a size bounds a range, is written as it is.
+abbrev greatest_of : Ex → Ex → Ex
+greatest_of x y = fun1 false Fun.Max (node_ex false matrix_literal (more_exs x (more_exs y no_exs)))
+
+abbrev size_ex : Ex
+size_ex = greatest_of (ex2 false Op2.Pow (number_ex (pos 2)) (number_ex (pos 3))) (number_ex (pos 0))
+
+abbrev to_size : Text → Ex
+to_size a = fun1 false Fun.Sum (comp_ex (number_ex (pos 1))
+    (over (name_pat a) (int_dom (both_ends ∷ []) (more_exs (number_ex (pos 1)) (more_exs size_ex no_exs))) no_gens))
+
+ended-size : Ended cells [] (to_size i) false
+ended-size = by_fold of_sum
+    (over_numbers refl refl (more_terms as_number (a_number refl)
+    (more_terms as_number (by_greatest (by_power (a_number refl) (a_number refl)) (a_number refl)) no_terms)) behind_all) (a_number refl)
+
+written-size : as_written [] (to_size i) ≡ to_size q1
+written-size = refl
 
 -- One name is bound around a place in it, and two are bound in it.
 nests-truths : NestsWithin 1 of_truths

@@ -20,7 +20,7 @@ use Rattle.ess_semantics.proofs.Tests.{and-both}
 use Rattle.ess_rules_laws.proofs.Simulation.{Vals, E, collect-same, and_then-same, where-same}
 use Rattle.ess_flat_laws.specs.Flat.{denied, negative, absolute, both, either, implied, agreeing, equal, unequal, below, at_most, above, at_least, sum, difference, product}
 use Rattle.ess_bare_laws.specs.Bare.{before, not_behind}
-use Rattle.ess_bare_laws.specs.Lean.{of_all, of_some, of_sum, Lean, a_number, a_truth, a_name, a_cell, by_one, by_two, by_power, by_truth, by_fold, by_items, by_order, Leans, last_lean, more_leans, Terms, no_terms, more_terms, Row, listed, alone, Ranging, behind_all, over_truths, over_numbers, under}
+use Rattle.ess_bare_laws.specs.Lean.{of_all, of_some, of_sum, Lean, a_number, a_truth, a_name, a_cell, by_one, by_two, by_power, by_truth, by_fold, by_items, by_greatest, by_order, Leans, last_lean, more_leans, Terms, no_terms, more_terms, Row, listed, alone, Ranging, behind_all, over_truths, over_numbers, under}
 
 -- ---- tests
 
@@ -84,6 +84,8 @@ module _ (cells : Text → Option (Bool × ℕ)) (ok : ℤ → Bool) (fine : Tex
     lean-refined (by_items {es = es} of_all l) = one-list (are_refined es) (leans-refined l)
     lean-refined (by_items {es = es} of_some l) = one-list (are_refined es) (leans-refined l)
     lean-refined (by_items {es = es} of_sum l) = one-list (are_refined es) (leans-refined l)
+    lean-refined (by_greatest {x = x} {y = y} f h) =
+        one-list (is_refined x && (is_refined y && true)) (two-lists (is_refined x) (is_refined y) (lean-refined f) (lean-refined h))
     lean-refined (by_order {x = x} {y = y} before f h) = two-lists (is_refined_list x) (is_refined_list y) (row-refined f) (row-refined h)
     lean-refined (by_order {x = x} {y = y} not_behind f h) =
         two-lists (is_refined_list x) (is_refined_list y) (row-refined f) (row-refined h)
@@ -136,6 +138,7 @@ module _ (cells : Text → Option (Bool × ℕ)) (ok : ℤ → Bool) (fine : Tex
     lean-free (by_fold {gs = gs} w s f) u h =
         let b = ranging-free s u h in ((b.0, lean-free f (with_bound_names u gs) b.1), tt)
     lean-free (by_items w l) u h = (leans-free l u h, tt)
+    lean-free (by_greatest f k) u h = ((lean-free f u h, (lean-free k u h, tt)), tt)
     lean-free (by_order w f k) u h = (row-free f u h, (row-free k u h, tt))
 
     leans-free : {r : Names Bool} {es : Exs} {m : Bool} → Leans cells ok fine plain r es m → (u : Text → Bool) → Covers r u →
@@ -204,6 +207,9 @@ module _ (cells : Text → Option (Bool × ℕ)) (ok : ℤ → Bool) (fine : Tex
           (λ g' h' s'. ap (option_map (λ v. v ∷ [])) (lean-same f g' h' s')))
       lean-same (by_items {b = b} {f = p} w l) g h s =
           ap (λ x. false_where_undefined b (value_of_node (word p) (value_of_node matrix_literal x ∷ []))) (leans-same l g h s)
+      lean-same (by_greatest {x = x} {y = y} f k) g h s =
+          ap (λ z. value_of_node (word Fun.Max) (value_of_node matrix_literal (z ∷ meaning y (M g) ∷ []) ∷ [])) (lean-same f g h s)
+          ∙ ap (λ z. value_of_node (word Fun.Max) (value_of_node matrix_literal (meaning x (N h) ∷ z ∷ []) ∷ [])) (lean-same k g h s)
       lean-same (by_order {o = o} {x = x} {y = y} w f k) g h s =
           ap (λ z. false_where_undefined true (value_of_node (binary o) (z ∷ meaning y (M g) ∷ []))) (row-same f g h s)
           ∙ ap (λ z. false_where_undefined true (value_of_node (binary o) (meaning x (N h) ∷ z ∷ []))) (row-same k g h s)

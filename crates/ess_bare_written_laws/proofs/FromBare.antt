@@ -10,7 +10,7 @@ use Rattle.ess_semantics.specs.Occurrences.{parts_of, parts_of_all, parts_of_gen
 use Rattle.ess_semantics.specs.Constants.{numbers_of_part}
 use Rattle.ess_semantics.proofs.Tests.{and-left, and-right, and-both}
 use Rattle.ess_bare_laws.specs.Bare.{all_hold, some_holds, Bare, number, truth, named, cell, one, two, power, chosen, folded, added, ordered, Indices, no_index, one_index, Row as BareRow, row, Ranging as BareRanging, at_end, through, where_holds, Axes, no_axis, along, truths, numbers, Bounds, no_bound, one_bound}
-use Rattle.ess_bare_laws.specs.Lean.{of_all, of_some, of_sum, as_scalar, as_number, Lean, a_number, a_truth, a_name, a_cell, by_one, by_two, by_power, by_truth, by_fold, by_items, by_order, Leans, last_lean, more_leans, Terms, no_terms, more_terms, Row, listed, alone, Ranging, behind_all, over_truths, over_numbers, under}
+use Rattle.ess_bare_laws.specs.Lean.{of_all, of_some, of_sum, as_scalar, as_number, Lean, a_number, a_truth, a_name, a_cell, by_one, by_two, by_power, by_truth, by_fold, by_items, by_greatest, by_order, Leans, last_lean, more_leans, Terms, no_terms, more_terms, Row, listed, alone, Ranging, behind_all, over_truths, over_numbers, under}
 
 module _ (ok : ℤ → Bool) where
   -- The numbers in these parts have the property.
@@ -132,6 +132,9 @@ module _ (ok : ℤ → Bool) where
         lean-spells (by_fold {e = e} {gs = gs} w s f) =
             both (parts_of e ++ parts_of_gens gs) [] (both (parts_of e) (parts_of_gens gs) (lean-spells f) (ranging-spells s)) refl
         lean-spells (by_items {es = es} w l) = both (parts_of_all es) [] (leans-spell l) refl
+        lean-spells (by_greatest {x = x} {y = y} f k) =
+            both (parts_of x ++ (parts_of y ++ [])) []
+            (both (parts_of x) (parts_of y ++ []) (lean-spells f) (both (parts_of y) [] (lean-spells k) refl)) refl
         lean-spells (by_order {x = x} {y = y} w f k) =
             both (parts_of x) (parts_of y ++ []) (row-spells f) (both (parts_of y) [] (row-spells k) refl)
 

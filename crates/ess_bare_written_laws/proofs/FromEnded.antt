@@ -5,7 +5,7 @@ use Rattle.ess_semantics.specs.Names.{Names}
 use Rattle.ess_semantics.specs.Trees.{Ex, Exs, Gens}
 use Rattle.ess_semantics.specs.Occurrences.{parts_of, parts_of_all, parts_of_gens}
 use Rattle.ess_semantics.proofs.Tests.{and-left}
-use Rattle.ess_bare_laws.specs.Lean.{Lean, Ended, a_number, a_truth, a_name, a_cell, by_one, by_two, by_power, by_truth, by_fold, by_items, by_order, Leans, last_lean, more_leans, Terms, no_terms, more_terms, Row, listed, alone, Ranging, behind_all, over_truths, over_numbers, under}
+use Rattle.ess_bare_laws.specs.Lean.{Lean, Ended, a_number, a_truth, a_name, a_cell, by_one, by_two, by_power, by_truth, by_fold, by_items, by_greatest, by_order, Leans, last_lean, more_leans, Terms, no_terms, more_terms, Row, listed, alone, Ranging, behind_all, over_truths, over_numbers, under}
 use Rattle.ess_bare_written_laws.proofs.FromBare.{Of, left, right}
 
 -- Any number, and any name.
@@ -38,6 +38,10 @@ module _ (cells : Text → Option (Bool × ℕ)) (ok : ℤ → Bool) where
         let p = left ok (parts_of e ++ parts_of_gens gs) [] h in
         by_fold w (ranging-ended s (right ok (parts_of e) (parts_of_gens gs) p)) (from-ended f (left ok (parts_of e) (parts_of_gens gs) p))
     from-ended (by_items {es = es} w l) h = by_items w (leans-ended l (left ok (parts_of_all es) [] h))
+    from-ended (by_greatest {x = x} {y = y} f k) h =
+        let p = left ok (parts_of x ++ (parts_of y ++ [])) [] h in
+        by_greatest (from-ended f (left ok (parts_of x) (parts_of y ++ []) p))
+        (from-ended k (left ok (parts_of y) [] (right ok (parts_of x) (parts_of y ++ []) p)))
     from-ended (by_order {x = x} {y = y} w f k) h =
         by_order w (row-ended f (left ok (parts_of x) (parts_of y ++ []) h))
         (row-ended k (left ok (parts_of y) [] (right ok (parts_of x) (parts_of y ++ []) h)))

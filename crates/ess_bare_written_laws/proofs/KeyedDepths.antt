@@ -18,7 +18,7 @@ use Rattle.ess_keys_laws.specs.Keyed.{generator_before, keyed, keyed_all, keyed_
 use Rattle.ess_keys_laws.proofs.Forms.{before-append}
 use Rattle.ess_depth_laws.specs.Depth.{NestsWithin, AllNestWithin, NestBehind, DomNestsWithin}
 use Rattle.ess_bare_written_laws.proofs.Scopes.{Item}
-use Rattle.ess_bare_laws.specs.Lean.{Lean, a_number, a_truth, a_name, a_cell, by_one, by_two, by_power, by_truth, by_fold, by_items, by_order, Leans, last_lean, more_leans, Terms, no_terms, more_terms, Row, listed, alone, Ranging, behind_all, over_truths, over_numbers, under}
+use Rattle.ess_bare_laws.specs.Lean.{Lean, a_number, a_truth, a_name, a_cell, by_one, by_two, by_power, by_truth, by_fold, by_items, by_greatest, by_order, Leans, last_lean, more_leans, Terms, no_terms, more_terms, Row, listed, alone, Ranging, behind_all, over_truths, over_numbers, under}
 
 -- ---- folds
 
@@ -180,6 +180,7 @@ module _ (cells : Text → Option (Bool × ℕ)) (ok : ℤ → Bool) (fine : Tex
         (list-nests gs c i e (keyed (keyed_behind c gs) e) (λ n m l s. keyed-nests x (keyed_behind c gs) i.keys n m l s) n m l s.0)
     keyed-nests (by_items {b = b} {f = f} {es = es} w t) c h n m l s =
         fold-nests m c.origins b f (node_ex false matrix_literal (keyed_all c es)) (leans-nest t c h n m l s.0)
+    keyed-nests (by_greatest f g) c h n m l s = ((keyed-nests f c h n m l s.0.0, (keyed-nests g c h n m l s.0.1.0, tt)), tt)
     keyed-nests (by_order w f g) c h n m l s = (row-nests f c h n m l s.0, (row-nests g c h n m l s.1.0, tt))
 
     leans-nest : {r : Names Bool} {es : Exs} {i : Bool} → Leans cells ok fine plain r es i → (c : Around) → Unbinding c.keys →

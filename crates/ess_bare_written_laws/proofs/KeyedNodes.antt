@@ -5,7 +5,7 @@ use Rattle.ess_semantics.specs.declared.words.Fun.{Fun}
 use Rattle.ess_semantics.specs.Lists.{or_default, when}
 use Rattle.ess_semantics.specs.Values.{Text}
 use Rattle.ess_semantics.specs.Names.{Names}
-use Rattle.ess_semantics.specs.Trees.{matrix_literal, Ex, Exs, node_ex, Gens, cond, fun1}
+use Rattle.ess_semantics.specs.Trees.{matrix_literal, Ex, Exs, node_ex, no_exs, more_exs, Gens, cond, fun1}
 use Rattle.ess_guard_laws.specs.Origins.{Origin, is_number}
 use Rattle.ess_guard_laws.specs.Conditions.{unless}
 use Rattle.ess_keys_laws.specs.KeyForms.{is_truth, is_settled}
@@ -13,8 +13,8 @@ use Rattle.ess_keys_laws.specs.Keyed.{laid, are_conditions, connected, all_of, h
 use Rattle.ess_keys_laws.proofs.Forms.{before-append}
 use Rattle.ess_flat_laws.specs.Flat.{denied, TwoOp, both, either, implied, agreeing, equal, unequal, below, at_most, above, at_least}
 use Rattle.ess_bare_laws.specs.Bare.{before, not_behind}
-use Rattle.ess_bare_laws.specs.Lean.{FoldWord, of_all, of_some, of_sum, Lean, a_number, a_truth, a_name, a_cell, by_one, by_two, by_power, by_truth, by_fold, by_items, by_order, Leans, last_lean, more_leans, Row, listed, alone, Ranging, behind_all, over_truths, over_numbers, under}
-use Rattle.ess_bare_written_laws.proofs.Origins.{Origins, truth-told, number-told}
+use Rattle.ess_bare_laws.specs.Lean.{FoldWord, of_all, of_some, of_sum, Lean, a_number, a_truth, a_name, a_cell, by_one, by_two, by_power, by_truth, by_fold, by_items, by_greatest, by_order, Leans, last_lean, more_leans, Row, listed, alone, Ranging, behind_all, over_truths, over_numbers, under}
+use Rattle.ess_bare_written_laws.proofs.Origins.{Origins, truth-told}
 
 module _ (cells : Text → Option (Bool × ℕ)) (ok : ℤ → Bool) (fine : Text → Bool) where
   abbrev T : Names Bool → Ex → Bool → Type 0
@@ -41,11 +41,18 @@ module _ (cells : Text → Option (Bool × ℕ)) (ok : ℤ → Bool) (fine : Tex
   no-fold k (by_fold {b = false} w s x) b f = refl
   no-fold k (by_items {b = true} w x) b f = refl
   no-fold k (by_items {b = false} w x) b f = refl
+  no-fold k (by_greatest x y) b f = refl
   no-fold k (by_order w x y) b f = refl
 
   kept-item : {u : Names Bool} {e : Ex} {m : Bool} → T u e m → (n : Ex) (b : Bool) → b ≡ true → T u (or_default (when b e) n) m
   kept-item f n true q = f
   kept-item f n false q = cc
+
+  -- A number that is added alone is left, where its form tells that it is a number.
+  added-item : {u : Names Bool} {e : Ex} → T u e false → (b : Bool) →
+      T u (or_default (when b e) (fun1 false Fun.Sum (node_ex false matrix_literal (more_exs e no_exs)))) false
+  added-item f true = f
+  added-item f false = by_items of_sum (last_lean f)
 
   -- A truth value under conditions.
   connected-lean : {u t : Names Bool} {o : Op2} {e : Ex} {gs : Gens} → TwoOp true o true true → G u gs t → T t e true →
@@ -84,7 +91,7 @@ module _ (cells : Text → Option (Bool × ℕ)) (ok : ℤ → Bool) (fine : Tex
       T t e b → T u (or_default (fold_of k b p (laid e gs)) (fun1 b p (laid e gs))) b
   fold-lean {k = k} {e = e} o of_all behind_all f = kept-item f _ (is_truth k e) (truth-told cells ok fine o f)
   fold-lean {k = k} {e = e} o of_some behind_all f = kept-item f _ (is_truth k e) (truth-told cells ok fine o f)
-  fold-lean {k = k} {e = e} o of_sum behind_all f = kept-item f _ (is_number k e) (number-told cells ok fine o f)
+  fold-lean {k = k} {e = e} o of_sum behind_all f = added-item f (is_number k e)
   fold-lean o of_all (over_truths c s) f = by_fold of_all (over_truths c s) f
   fold-lean o of_some (over_truths c s) f = by_fold of_some (over_truths c s) f
   fold-lean o of_sum (over_truths c s) f = by_fold of_sum (over_truths c s) f

@@ -11,7 +11,7 @@ use Rattle.ess_guard_laws.specs.Origins.{is_sure}
 use Rattle.ess_keys_laws.specs.KeyForms.{key_of}
 use Rattle.ess_keys_laws.specs.Keyed.{Around, nothing_around, key_now, if_sure, entered, generator_before, keyed, keyed_all, keyed_gens, keyed_behind}
 use Rattle.ess_bare_laws.specs.Bare.{before, not_behind}
-use Rattle.ess_bare_laws.specs.Lean.{Lean, a_number, a_truth, a_name, a_cell, by_one, by_two, by_power, by_truth, by_fold, by_items, by_order, Leans, last_lean, more_leans, Terms, no_terms, more_terms, Row, listed, alone, Ranging, behind_all, over_truths, over_numbers, under}
+use Rattle.ess_bare_laws.specs.Lean.{Lean, a_number, a_truth, a_name, a_cell, by_one, by_two, by_power, by_truth, by_fold, by_items, by_greatest, by_order, Leans, last_lean, more_leans, Terms, no_terms, more_terms, Row, listed, alone, Ranging, behind_all, over_truths, over_numbers, under}
 use Rattle.ess_bare_written_laws.proofs.Origins.{MarkOf, of_truths, of_numbers, no_origins, indices-lean}
 use Rattle.ess_bare_written_laws.proofs.Keys.{OkKey, Key, key_number, key_name, key-of-ok, sure-key, Known, known-over, known-key, now-ok}
 use Rattle.ess_bare_written_laws.proofs.KeyedNodes.{no-fold, fold-lean, items-lean, row-lean, conditions-lean}
@@ -106,6 +106,7 @@ module _ (cells : Text → Option (Bool × ℕ)) (ok : ℤ → Bool) (fine : Tex
           let b = keyed-ranging l e s o c u K sc.0 in
           fold-lean cells ok fine K.origins w b.gens (keyed-lean f b.scope b.ranging _ b.left b.known b.scoped)
       keyed-lean (by_items w l) s o c u K sc = items-lean cells ok fine K.origins w (keyed-leans l s o c u K sc.0)
+      keyed-lean (by_greatest f h) s o c u K sc = by_greatest (keyed-lean f s o c u K sc.0.0) (keyed-lean h s o c u K sc.0.1.0)
       keyed-lean (by_order before f h) s o c u K sc = by_order before (keyed-row f s o c u K sc.0) (keyed-row h s o c u K sc.1.0)
       keyed-lean (by_order not_behind f h) s o c u K sc = by_order not_behind (keyed-row f s o c u K sc.0) (keyed-row h s o c u K sc.1.0)
 

@@ -12,7 +12,7 @@ use Rattle.ess_keys_laws.specs.KeyForms.{plain_key, key_beside, key_in, key_unde
 use Rattle.ess_keys_laws.specs.Keyed.{Around, key_for, key_now, entered}
 use Rattle.ess_flat_laws.specs.Flat.{denied, both, either, implied, agreeing, equal, unequal, below, at_most, above, at_least}
 use Rattle.ess_bare_laws.specs.Bare.{before, not_behind}
-use Rattle.ess_bare_laws.specs.Lean.{of_all, of_some, Lean, a_number, a_truth, a_name, a_cell, by_one, by_two, by_power, by_truth, by_fold, by_items, by_order, Ranging, behind_all, over_truths, over_numbers, under}
+use Rattle.ess_bare_laws.specs.Lean.{of_all, of_some, Lean, a_number, a_truth, a_name, a_cell, by_one, by_two, by_power, by_truth, by_fold, by_items, by_greatest, by_order, Ranging, behind_all, over_truths, over_numbers, under}
 use Rattle.ess_bare_written_laws.proofs.Origins.{MarkOf, of_truths, of_numbers, Origins, more_origins, mark-of, within-mark}
 
 module _ (ok : ℤ → Bool) where
@@ -50,6 +50,7 @@ module _ (ok : ℤ → Bool) where
     plain-ok (by_truth f) j t q = cc
     plain-ok (by_fold w s f) j t q = cc
     plain-ok (by_items w f) j t q = cc
+    plain-ok (by_greatest f h) j t q = cc
     plain-ok (by_order w f h) j t q = cc
 
     beside-ok : {r : Names Bool} {m : Bool} (e x : Ex) → L r x m → (j : Text) (t : Ex) → key_beside j e x ≡ Some t → OkKey t

@@ -1,124 +1,25 @@
 -- Lean trees over declared tables, whose indices are numbers and whose bound names are something, are as models have them, and their kinds
 -- are those of their marks.
-use Rattle.std.proofs.Common.{◌≡◌, refl, ap, ◌∙◌, subst, ℕ, zero, suc, Bool, true, false, ◌&&◌, ◌||◌, not, if◌then◌else◌, List, [], ◌∷◌, map, length, ℤ, nat_eq, Option, Some, option_map, arith}
+use Rattle.std.proofs.Common.{◌≡◌, refl, ap, ◌∙◌, subst, ℕ, zero, suc, Bool, true, false, ◌&&◌, ◌||◌, not, if◌then◌else◌, List, [], ◌∷◌, length, ℤ, nat_eq, Option, Some, option_map, arith}
 use Rattle.std.specs.List.{list_all}
 use Rattle.std.proofs.lemmas.Bool.Decides.{nat_tests}
-use Rattle.ess_semantics.specs.declared.words.Op1.{Op1}
 use Rattle.ess_semantics.specs.declared.words.Op2.{Op2}
 use Rattle.ess_semantics.specs.declared.words.Fun.{Fun}
-use Rattle.ess_semantics.specs.Lists.{and_then, all_some}
+use Rattle.ess_semantics.specs.Lists.{and_then}
 use Rattle.ess_semantics.specs.Values.{Text, a_matrix}
 use Rattle.ess_semantics.specs.Order.{same_text}
 use Rattle.ess_semantics.specs.Names.{Names, look}
-use Rattle.ess_semantics.specs.Trees.{Op, unary, binary, word, matrix_literal, name_pat, Ex, Exs, name_ex, node_ex, comp_ex, cell_ex, no_exs, more_exs, Gens, no_gens, over, cond, bool_dom, int_dom, ex1, ex2, fun1}
-use Rattle.ess_semantics.specs.Types.{Ty, any_ty, bool_ty, int_ty, compound2, join, join_all}
-use Rattle.ess_semantics.specs.OperatorTypes.{type_of_list, type_of_op}
-use Rattle.ess_semantics.specs.Typing.{statics, type_of_node}
+use Rattle.ess_semantics.specs.Trees.{unary, binary, word, matrix_literal, name_pat, Ex, Exs, name_ex, comp_ex, cell_ex, no_exs, more_exs, Gens, no_gens, over, cond, bool_dom, int_dom, ex2, fun1}
+use Rattle.ess_semantics.specs.Types.{Ty, bool_ty, int_ty, compound2, join, join_all}
+use Rattle.ess_semantics.specs.OperatorTypes.{type_of_list}
 use Rattle.ess_semantics.specs.DeclaredTables.{TableDecl}
 use Rattle.ess_semantics.specs.Meaning.{is_bool_dom}
-use Rattle.ess_semantics.specs.ModelMeaning.{Kinded, broken, is_nothing, some_nothing, is_int_kind, kinded_node, cell_kind, kinded_cell, kinded_name, as_bound, with_gen, declaration_of, kinded, kinded_all, kinded_under, bounds_of}
+use Rattle.ess_semantics.specs.ModelMeaning.{broken, is_nothing, some_nothing, is_int_kind, cell_kind, kinded_cell, kinded_name, as_bound, with_gen, declaration_of, kinded, kinded_all, kinded_under, bounds_of}
 use Rattle.ess_semantics.proofs.Tests.{not-true, and-both}
 use Rattle.ess_semantics.proofs.Texts.{same_text-equal}
-use Rattle.ess_flat_laws.specs.Flat.{OneOp, denied, negative, absolute, TwoOp, both, either, implied, agreeing, equal, unequal, below, at_most, above, at_least, sum, difference, product}
-use Rattle.ess_bare_laws.specs.Bare.{LexSign, before, not_behind}
 use Rattle.ess_bare_written_laws.specs.Laws.{AreDeclared}
-use Rattle.ess_bare_laws.specs.Lean.{FoldWord, of_all, of_some, of_sum, as_number, Lean, a_number, a_truth, a_name, a_cell, by_one, by_two, by_power, by_truth, by_fold, by_items, by_order, Leans, last_lean, more_leans, Terms, no_terms, more_terms, Row, listed, alone, Ranging, behind_all, over_truths, over_numbers, under}
-
--- ---- nodes
-
--- A node on one operand, and on two, with their kinds.
-abbrev on_one : Op → Kinded → Kinded
-on_one op k = kinded_node op (more_exs k.0 no_exs) (k.1 ∷ [])
-    (type_of_node op (statics (more_exs k.0 no_exs)) (map (λ t. Some t) (k.1 ∷ [])))
-
-abbrev on_two : Op → Kinded → Kinded → Kinded
-on_two op k l = kinded_node op (more_exs k.0 (more_exs l.0 no_exs)) (k.1 ∷ l.1 ∷ [])
-    (type_of_node op (statics (more_exs k.0 (more_exs l.0 no_exs))) (map (λ t. Some t) (k.1 ∷ l.1 ∷ [])))
-
--- The kind of a list.
-abbrev list_kind : Bool → Ty
-list_kind m = compound2 a_matrix int_ty (cell_kind m)
-
--- One operand is something, or both are.
-one-there : (k : Kinded) (t : Ty) (x : Ex) → is_nothing x ≡ false → (if is_nothing x || false then broken t else k) ≡ k
-one-there k t x p = ap (λ c. if c || false then broken t else k) p
-
-both-there : (k : Kinded) (t : Ty) (x y : Ex) → is_nothing x ≡ false → is_nothing y ≡ false →
-    (if is_nothing x || (is_nothing y || false) then broken t else k) ≡ k
-both-there k t x y p q = ap (λ c. if c || (is_nothing y || false) then broken t else k) p ∙ ap (λ c. if c || false then broken t else k) q
-
-one-kinded : {b m : Bool} {o : Op1} → OneOp b o m → (x : Ex) → is_nothing x ≡ false →
-    on_one (unary o) (x, cell_kind m) ≡ (ex1 b o x, cell_kind b)
-one-kinded denied x q = one-there (ex1 true Op1.Not x, bool_ty) bool_ty x q
-one-kinded negative x q = one-there (ex1 false Op1.Minus x, int_ty) int_ty x q
-one-kinded absolute x q = one-there (ex1 false Op1.Bar x, int_ty) int_ty x q
-
-two-kinded : {b m k : Bool} {o : Op2} → TwoOp b o m k → (x y : Ex) → is_nothing x ≡ false → is_nothing y ≡ false →
-    on_two (binary o) (x, cell_kind m) (y, cell_kind k) ≡ (ex2 b o x y, cell_kind b)
-two-kinded both x y p q = both-there (ex2 true Op2.And x y, bool_ty) bool_ty x y p q
-two-kinded either x y p q = both-there (ex2 true Op2.Or x y, bool_ty) bool_ty x y p q
-two-kinded implied x y p q = both-there (ex2 true Op2.Implies x y, bool_ty) bool_ty x y p q
-two-kinded agreeing x y p q = both-there (ex2 true Op2.Iff x y, bool_ty) bool_ty x y p q
-two-kinded (equal {m = true}) x y p q = both-there (ex2 true Op2.Eq x y, bool_ty) bool_ty x y p q
-two-kinded (equal {m = false}) x y p q = both-there (ex2 true Op2.Eq x y, bool_ty) bool_ty x y p q
-two-kinded (unequal {m = true}) x y p q = both-there (ex2 true Op2.Ne x y, bool_ty) bool_ty x y p q
-two-kinded (unequal {m = false}) x y p q = both-there (ex2 true Op2.Ne x y, bool_ty) bool_ty x y p q
-two-kinded (below {m = true}) x y p q = both-there (ex2 true Op2.Lt x y, bool_ty) bool_ty x y p q
-two-kinded (below {m = false}) x y p q = both-there (ex2 true Op2.Lt x y, bool_ty) bool_ty x y p q
-two-kinded (at_most {m = true}) x y p q = both-there (ex2 true Op2.Le x y, bool_ty) bool_ty x y p q
-two-kinded (at_most {m = false}) x y p q = both-there (ex2 true Op2.Le x y, bool_ty) bool_ty x y p q
-two-kinded (above {m = true}) x y p q = both-there (ex2 true Op2.Gt x y, bool_ty) bool_ty x y p q
-two-kinded (above {m = false}) x y p q = both-there (ex2 true Op2.Gt x y, bool_ty) bool_ty x y p q
-two-kinded (at_least {m = true}) x y p q = both-there (ex2 true Op2.Ge x y, bool_ty) bool_ty x y p q
-two-kinded (at_least {m = false}) x y p q = both-there (ex2 true Op2.Ge x y, bool_ty) bool_ty x y p q
-two-kinded sum x y p q = both-there (ex2 false Op2.Plus x y, int_ty) int_ty x y p q
-two-kinded difference x y p q = both-there (ex2 false Op2.Minus x y, int_ty) int_ty x y p q
-two-kinded product x y p q = both-there (ex2 false Op2.Times x y, int_ty) int_ty x y p q
-
-order-kinded : {o : Op2} → LexSign o → (m : Bool) (x y : Ex) → is_nothing x ≡ false → is_nothing y ≡ false →
-    on_two (binary o) (x, list_kind m) (y, list_kind m) ≡ (ex2 true o x y, bool_ty)
-order-kinded before true x y p q = both-there (ex2 true Op2.LexLt x y, bool_ty) bool_ty x y p q
-order-kinded before false x y p q = both-there (ex2 true Op2.LexLt x y, bool_ty) bool_ty x y p q
-order-kinded not_behind true x y p q = both-there (ex2 true Op2.LexLe x y, bool_ty) bool_ty x y p q
-order-kinded not_behind false x y p q = both-there (ex2 true Op2.LexLe x y, bool_ty) bool_ty x y p q
-
-fold-kinded : {b : Bool} {f : Fun} → FoldWord b f → (e : Ex) (gs : Gens) →
-    on_one (word f) (comp_ex e gs, list_kind b) ≡ (fun1 b f (comp_ex e gs), cell_kind b)
-fold-kinded of_all e gs = refl
-fold-kinded of_some e gs = refl
-fold-kinded of_sum e gs = refl
-
--- A list of one item.
-alone-kinded : (m : Bool) (e : Ex) → is_nothing e ≡ false →
-    on_one matrix_literal (e, cell_kind m) ≡ (node_ex false matrix_literal (more_exs e no_exs), list_kind m)
-alone-kinded true e q = one-there (node_ex false matrix_literal (more_exs e no_exs), list_kind true) any_ty e q
-alone-kinded false e q = one-there (node_ex false matrix_literal (more_exs e no_exs), list_kind false) any_ty e q
-
-items-kinded : {b : Bool} {f : Fun} → FoldWord b f → (es : Exs) →
-    on_one (word f) (node_ex false matrix_literal es, list_kind b) ≡ (fun1 b f (node_ex false matrix_literal es), cell_kind b)
-items-kinded of_all es = refl
-items-kinded of_some es = refl
-items-kinded of_sum es = refl
-
--- The kinds of items.
-abbrev kinds_of : Exs → Bool → List Ty
-kinds_of no_exs m = []
-kinds_of (more_exs e es) m = cell_kind m ∷ kinds_of es m
-
-all-there : (ts : List Ty) → all_some (map (λ t. Some t) ts) ≡ Some ts
-all-there [] = refl
-all-there (t ∷ ts) = ap (option_map (λ us. t ∷ us)) (all-there ts)
-
--- A list of items whose kinds are those of the mark.
-list-kinded : (es : Exs) (m : Bool) (ks : Exs × List Ty) → ks ≡ (es, kinds_of es m) →
-    type_of_list (kinds_of es m) ≡ Some (list_kind m) → some_nothing es ≡ false →
-    kinded_node matrix_literal ks.0 ks.1 (type_of_node matrix_literal (statics ks.0) (map (λ t. Some t) ks.1)) ≡
-    (node_ex false matrix_literal es, list_kind m)
-list-kinded es m ks q j s =
-    ap (λ ks. kinded_node matrix_literal ks.0 ks.1 (type_of_node matrix_literal (statics ks.0) (map (λ t. Some t) ks.1))) q
-    ∙ ap (λ o. kinded_node matrix_literal es (kinds_of es m) (and_then o (type_of_op matrix_literal))) (all-there (kinds_of es m))
-    ∙ ap (kinded_node matrix_literal es (kinds_of es m)) j
-    ∙ ap (λ b. if b then broken any_ty else (node_ex false matrix_literal es, list_kind m)) s
+use Rattle.ess_bare_written_laws.proofs.KindedNodes.{on_one, on_two, list_kind, both-there, one-there, one-kinded, two-kinded, order-kinded, fold-kinded, alone-kinded, items-kinded, kinds_of, list-kinded}
+use Rattle.ess_bare_laws.specs.Lean.{as_number, Lean, a_number, a_truth, a_name, a_cell, by_one, by_two, by_power, by_truth, by_fold, by_items, by_greatest, by_order, Leans, last_lean, more_leans, Terms, no_terms, more_terms, Row, listed, alone, Ranging, behind_all, over_truths, over_numbers, under}
 
 -- ---- indices
 
@@ -183,6 +84,7 @@ module _ (cells : Text → Option (Bool × ℕ)) (ok : ℤ → Bool) (ds : List 
   something (by_truth f) g h = refl
   something (by_fold w s f) g h = refl
   something (by_items w l) g h = refl
+  something (by_greatest f k) g h = refl
   something (by_order w f k) g h = refl
 
   something-row : {v : Names Bool} {e : Ex} {m : Bool} → Row cells ok is_something true v e m → is_nothing e ≡ false
@@ -242,6 +144,12 @@ module _ (cells : Text → Option (Bool × ℕ)) (ok : ℤ → Bool) (ds : List 
     kinded-lean (by_items {b = b} {f = p} {es = es} w l) g h =
         ap (on_one (word p)) (list-kinded es b (kinded_all ds es g) (kinded-leans l g h) (list-typed l) (somethings l g h))
         ∙ items-kinded w es
+    kinded-lean (by_greatest {x = x} {y = y} f k) g h =
+        ap (on_one (word Fun.Max))
+        (list-kinded (more_exs x (more_exs y no_exs)) false (kinded_all ds (more_exs x (more_exs y no_exs)) g)
+        (ap (λ c. (more_exs c.0 (kinded_all ds (more_exs y no_exs) g).0, c.1 ∷ (kinded_all ds (more_exs y no_exs) g).1)) (kinded-lean f g h)
+        ∙ ap (λ c. (more_exs x (more_exs c.0 no_exs), int_ty ∷ c.1 ∷ [])) (kinded-lean k g h))
+        (list-typed (more_leans f (last_lean k))) (somethings (more_leans f (last_lean k)) g h))
     kinded-lean (by_order {m = i} {o = o} {x = x} {y = y} w f k) g h =
         ap (λ c. on_two (binary o) c (kinded ds y g)) (kinded-row f g h)
         ∙ ap (on_two (binary o) (x, list_kind i)) (kinded-row k g h) ∙ order-kinded w i x y (something-row f) (something-row k)

@@ -17,6 +17,7 @@ pub mod PrintedNames
 pub mod Printing
 pub mod PrintedByDepth
 -- As models have them
+pub mod KindedNodes
 pub mod KindedTrees
 -- What is written
 pub mod Written

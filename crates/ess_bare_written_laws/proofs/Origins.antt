@@ -5,10 +5,9 @@ use Rattle.ess_semantics.specs.Values.{Text}
 use Rattle.ess_semantics.specs.Order.{same_text}
 use Rattle.ess_semantics.specs.Names.{Names, look}
 use Rattle.ess_semantics.specs.Trees.{Ends, both_ends, Ex, Exs, number_ex, name_ex, no_exs, more_exs, Dom, bool_dom, int_dom, fun1}
-use Rattle.ess_guard_laws.specs.Origins.{Origin, runs_over, runs_over_numbers, is_number, lies_within, comes_from}
+use Rattle.ess_guard_laws.specs.Origins.{Origin, runs_over, lies_within, comes_from}
 use Rattle.ess_keys_laws.specs.KeyForms.{is_truth, as_index, as_indices}
-use Rattle.ess_flat_laws.specs.Flat.{negative, absolute, sum, difference, product}
-use Rattle.ess_bare_laws.specs.Lean.{of_sum, as_number, Lean, a_number, a_truth, a_name, a_cell, by_one, by_two, by_power, by_truth, by_fold, by_items, by_order, Terms, no_terms, more_terms}
+use Rattle.ess_bare_laws.specs.Lean.{as_number, Lean, a_number, a_truth, a_name, a_cell, by_one, by_two, by_power, by_truth, by_fold, by_items, by_greatest, by_order, Terms, no_terms, more_terms}
 
 -- The mark of what runs over a domain.
 pub data MarkOf : Dom → Bool → Type 0 where
@@ -85,7 +84,7 @@ module _ (cells : Text → Option (Bool × ℕ)) (ok : ℤ → Bool) (fine : Tex
   T = Lean cells ok fine true
 
   module _ {u : Names Bool} {k : Names Origin} (s : Origins u k) where
-    -- The form of a lean tree tells whether it is a truth value, and whether it is a number.
+    -- The form of a lean tree tells whether it is a truth value.
     pub truth-told : {e : Ex} → T u e true → is_truth k e ≡ true
     truth-told a_truth = refl
     truth-told (a_name {a = a} q) = let p = origin-of s a true q in ap (λ o. comes_from o bool_dom) p.origin ∙ go p.mark
@@ -112,23 +111,7 @@ module _ (cells : Text → Option (Bool × ℕ)) (ok : ℤ → Bool) (fine : Tex
     no-truth-told (by_truth f) = refl
     no-truth-told (by_fold w x f) = refl
     no-truth-told (by_items w l) = refl
-
-    pub number-told : {e : Ex} → T u e false → is_number k e ≡ true
-    number-told (a_number q) = refl
-    number-told (a_name {a = a} q) = let p = origin-of s a false q in ap runs_over_numbers p.origin ∙ go p.mark
-      where
-        go : {d : Dom} → MarkOf d false → runs_over_numbers (Some (runs_over d)) ≡ true
-        go of_numbers = refl
-    number-told (a_cell q l) = refl
-    number-told (by_one negative f) = refl
-    number-told (by_one absolute f) = refl
-    number-told (by_two sum f h) = refl
-    number-told (by_two difference f h) = number-told f
-    number-told (by_two product f h) = refl
-    number-told (by_power f h) = refl
-    number-told (by_truth f) = refl
-    number-told (by_fold of_sum x f) = refl
-    number-told (by_items of_sum l) = refl
+    no-truth-told (by_greatest f h) = refl
 
     -- ---- indices
 
@@ -160,6 +143,7 @@ module _ (cells : Text → Option (Bool × ℕ)) (ok : ℤ → Bool) (fine : Tex
       index-lean (by_fold {b = false} w x f) = by_fold w x f
       index-lean (by_items {b = true} w l) = by_truth (by_items w l)
       index-lean (by_items {b = false} w l) = by_items w l
+      index-lean (by_greatest f h) = by_greatest f h
       index-lean (by_order w f h) = by_truth (by_order w f h)
 
       pub indices-lean : {w : Bool} {es : Exs} {n : ℕ} → Terms cells ok fine true w u es n →

@@ -17,7 +17,7 @@ use Rattle.ess_rules_laws.proofs.Simulation.{Vals, E, collect-same, and_then-sam
 use Rattle.conjure_model_laws.specs.ToldApart.{renamed}
 use Rattle.conjure_model_laws.specs.Printed.{printed_name, with_printed, printed_behind, printed, printed_all, printed_gens}
 use Rattle.ess_depth_laws.specs.Depth.{NestsWithin, AllNestWithin, NestBehind}
-use Rattle.ess_bare_laws.specs.Lean.{Lean, a_number, a_truth, a_name, a_cell, by_one, by_two, by_power, by_truth, by_fold, by_items, by_order, Leans, last_lean, more_leans, Terms, no_terms, more_terms, Row, listed, alone, Ranging, behind_all, over_truths, over_numbers, under}
+use Rattle.ess_bare_laws.specs.Lean.{Lean, a_number, a_truth, a_name, a_cell, by_one, by_two, by_power, by_truth, by_fold, by_items, by_greatest, by_order, Leans, last_lean, more_leans, Terms, no_terms, more_terms, Row, listed, alone, Ranging, behind_all, over_truths, over_numbers, under}
 use Rattle.ess_bare_written_laws.proofs.Scopes.{Item}
 
 module _ (taken : List Text) (lim : ℕ)
@@ -100,6 +100,11 @@ module _ (taken : List Text) (lim : ℕ)
       printed-same (by_items {b = b} {f = w} v t) p g h s n k l =
           ap (λ x. false_where_undefined b (value_of_node (word w) (value_of_node matrix_literal x ∷ [])))
           (leans-printed t p g h s n k.0 l)
+      printed-same (by_greatest {x = x} {y = y} f i) p g h s n k l =
+          ap (λ z. value_of_node (word Fun.Max) (value_of_node matrix_literal (z ∷ meaning (printed taken y p) (M h) ∷ []) ∷ []))
+          (printed-same f p g h s n k.0.0 l)
+          ∙ ap (λ z. value_of_node (word Fun.Max) (value_of_node matrix_literal (meaning x (M g) ∷ z ∷ []) ∷ []))
+          (printed-same i p g h s n k.0.1.0 l)
       printed-same (by_order {o = o} {x = x} {y = y} w f i) p g h s n k l =
           ap (λ z. false_where_undefined true (value_of_node (binary o) (z ∷ meaning (printed taken y p) (M h) ∷ [])))
           (row-printed f p g h s n k.0 l)

@@ -10,7 +10,7 @@ use Rattle.conjure_model_laws.specs.ToldApart.{renamed}
 use Rattle.conjure_model_laws.specs.Printed.{printed_name, with_printed, printed_behind, printed, printed_all, printed_gens}
 use Rattle.ess_depth_laws.specs.Depth.{NestsWithin, AllNestWithin, NestBehind}
 use Rattle.ess_bare_written_laws.proofs.Scopes.{Item}
-use Rattle.ess_bare_laws.specs.Lean.{Lean, a_number, a_truth, a_name, a_cell, by_one, by_two, by_power, by_truth, by_fold, by_items, by_order, Leans, last_lean, more_leans, Terms, no_terms, more_terms, Row, listed, alone, Ranging, behind_all, over_truths, over_numbers, under}
+use Rattle.ess_bare_laws.specs.Lean.{Lean, a_number, a_truth, a_name, a_cell, by_one, by_two, by_power, by_truth, by_fold, by_items, by_greatest, by_order, Leans, last_lean, more_leans, Terms, no_terms, more_terms, Row, listed, alone, Ranging, behind_all, over_truths, over_numbers, under}
 
 module _ (taken : List Text) (lim : ℕ)
     (differ : (i j : ℕ) → i < j → j < lim → same_text (printed_name taken j) (printed_name taken i) ≡ false) where
@@ -87,6 +87,7 @@ module _ (taken : List Text) (lim : ℕ)
           let b = printed-ranging ts p v s n e h.0 l in
           by_fold w b.gens (printed-lean f (printed_behind taken gs p) b.left b.beside b.depth b.nests b.few)
       printed-lean (by_items w ts) p v s n h l = by_items w (printed-leans ts p v s n h.0 l)
+      printed-lean (by_greatest f g) p v s n h l = by_greatest (printed-lean f p v s n h.0.0 l) (printed-lean g p v s n h.0.1.0 l)
       printed-lean (by_order w f g) p v s n h l = by_order w (printed-row f p v s n h.0 l) (printed-row g p v s n h.1.0 l)
 
       printed-leans : {r : Names Bool} {es : Exs} {m : Bool} → Leans cells ok old plain r es m → (p : Names Text) (v : Names Bool) →

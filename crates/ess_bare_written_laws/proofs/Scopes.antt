@@ -11,7 +11,7 @@ use Rattle.ess_simplify_laws.specs.Simplifying.{said, denied as undenied, outcom
 use Rattle.ess_depth_laws.specs.Depth.{NestsWithin, AllNestWithin, NestBehind, DomNestsWithin}
 use Rattle.ess_flat_laws.specs.Flat.{denied, negative, absolute, TwoOp, both, either, implied, agreeing, equal, unequal, below, at_most, above, at_least, sum, difference, product}
 use Rattle.ess_bare_laws.specs.Bare.{before, not_behind}
-use Rattle.ess_bare_laws.specs.Lean.{Lean, a_number, a_truth, a_name, a_cell, by_one, by_two, by_power, by_truth, by_fold, by_items, by_order, Leans, last_lean, more_leans, Terms, no_terms, more_terms, Row, listed, alone, Ranging, behind_all, over_truths, over_numbers, under}
+use Rattle.ess_bare_laws.specs.Lean.{Lean, a_number, a_truth, a_name, a_cell, by_one, by_two, by_power, by_truth, by_fold, by_items, by_greatest, by_order, Leans, last_lean, more_leans, Terms, no_terms, more_terms, Row, listed, alone, Ranging, behind_all, over_truths, over_numbers, under}
 use Rattle.ess_bare_written_laws.proofs.Simplifying.{simplified-lean}
 
 -- An expression behind generators, where so many names may be bound.
@@ -132,6 +132,12 @@ module _ (z : Text → Bool) where
           }
       simplified-smaller (by_items w l) = let t = leans-smaller l in
           record { scoped = λ s o h. (t.scoped s o h.0, tt); nests = λ n h. (t.nests n h.0, tt) }
+      simplified-smaller (by_greatest f g) =
+          let d = simplified-smaller f in
+          let e = simplified-smaller g in record {
+            scoped = λ s o h. ((d.scoped s o h.0.0, (e.scoped s o h.0.1.0, tt)), tt);
+            nests = λ n h. ((d.nests n h.0.0, (e.nests n h.0.1.0, tt)), tt);
+          }
       simplified-smaller (by_order before f g) = of-two true Op2.LexLt (row-smaller f) (row-smaller g)
       simplified-smaller (by_order not_behind f g) = of-two true Op2.LexLe (row-smaller f) (row-smaller g)
 

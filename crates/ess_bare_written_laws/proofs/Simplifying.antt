@@ -8,7 +8,7 @@ use Rattle.ess_simplify_laws.specs.declared.words.Outcome.{Outcome}
 use Rattle.ess_simplify_laws.specs.Simplifying.{said, denied as undenied, outcome, left, simplified, all_simplified, gens_simplified}
 use Rattle.ess_flat_laws.specs.Flat.{denied, negative, absolute, TwoOp, both, either, implied, agreeing, equal, unequal, below, at_most, above, at_least, sum, difference, product}
 use Rattle.ess_bare_laws.specs.Bare.{before, not_behind}
-use Rattle.ess_bare_laws.specs.Lean.{Lean, a_number, a_truth, a_name, a_cell, by_one, by_two, by_power, by_truth, by_fold, by_items, by_order, Leans, last_lean, more_leans, Terms, no_terms, more_terms, Row, listed, alone, Ranging, behind_all, over_truths, over_numbers, under}
+use Rattle.ess_bare_laws.specs.Lean.{Lean, a_number, a_truth, a_name, a_cell, by_one, by_two, by_power, by_truth, by_fold, by_items, by_greatest, by_order, Leans, last_lean, more_leans, Terms, no_terms, more_terms, Row, listed, alone, Ranging, behind_all, over_truths, over_numbers, under}
 
 module _ (cells : Text → Option (Bool × ℕ)) (ok : ℤ → Bool) (fine : Text → Bool) (plain : Bool) where
   abbrev L : Names Bool → Ex → Bool → Type 0
@@ -65,6 +65,7 @@ module _ (cells : Text → Option (Bool × ℕ)) (ok : ℤ → Bool) (fine : Tex
     simplified-lean (by_truth f) = by_truth (simplified-lean f)
     simplified-lean (by_fold w s f) = by_fold w (simplified-ranging s) (simplified-lean f)
     simplified-lean (by_items w l) = by_items w (simplified-leans l)
+    simplified-lean (by_greatest f k) = by_greatest (simplified-lean f) (simplified-lean k)
     simplified-lean (by_order before f k) = by_order before (simplified-row f) (simplified-row k)
     simplified-lean (by_order not_behind f k) = by_order not_behind (simplified-row f) (simplified-row k)
 

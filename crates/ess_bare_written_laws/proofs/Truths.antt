@@ -17,7 +17,7 @@ use Rattle.ess_simplify_laws.specs.SimplerRoots.{AreTruths}
 use Rattle.ess_simplify_laws.specs.TruthsThere.{HasTruths, HaveTruths, GensHaveTruths}
 use Rattle.ess_flat_laws.specs.Flat.{denied, negative, absolute, both, either, implied, agreeing, equal, unequal, below, at_most, above, at_least, sum, difference, product}
 use Rattle.ess_bare_laws.specs.Bare.{before, not_behind}
-use Rattle.ess_bare_laws.specs.Lean.{Lean, a_number, a_truth, a_name, a_cell, by_one, by_two, by_power, by_truth, by_fold, by_items, by_order, Leans, last_lean, more_leans, Terms, no_terms, more_terms, Row, listed, alone, Ranging, behind_all, over_truths, over_numbers, under}
+use Rattle.ess_bare_laws.specs.Lean.{Lean, a_number, a_truth, a_name, a_cell, by_one, by_two, by_power, by_truth, by_fold, by_items, by_greatest, by_order, Leans, last_lean, more_leans, Terms, no_terms, more_terms, Row, listed, alone, Ranging, behind_all, over_truths, over_numbers, under}
 
 -- What holds of each value holds of those that are there.
 each-value : (vs : List Value) (P : Value → Type 0) → ((v : Value) → P v) → Each vs P
@@ -105,6 +105,7 @@ module _ (cells : Text → Option (Bool × ℕ)) (ok : ℤ → Bool) (fine : Tex
     lean-truths (by_fold {e = e} w s f) g h =
         (λ q. cc, (ranging-truths s g h e (λ g' h'. lean-truths f g' h'), tt))
     lean-truths (by_items w l) g h = (λ q. cc, ((λ q. cc, leans-truths l g h), tt))
+    lean-truths (by_greatest f k) g h = (λ q. cc, ((λ q. cc, (lean-truths f g h, (lean-truths k g h, tt))), tt))
     lean-truths (by_order before f k) g h = (λ q. cc, (row-truths f g h, (row-truths k g h, tt)))
     lean-truths (by_order not_behind f k) g h = (λ q. cc, (row-truths f g h, (row-truths k g h, tt)))
 
@@ -154,6 +155,7 @@ module _ (cells : Text → Option (Bool × ℕ)) (ok : ℤ → Bool) (fine : Tex
     lean-meets (by_truth f) g = (lean-meets f g, tt)
     lean-meets (by_fold {e = e} w s f) g = (ranging-meets s g e (λ g'. lean-meets f g'), tt)
     lean-meets (by_items w l) g = (leans-meet l g, tt)
+    lean-meets (by_greatest f k) g = ((lean-meets f g, (lean-meets k g, tt)), tt)
     lean-meets (by_order {o = o} {x = x} {y = y} w f k) g =
         (row-meets f g, guarded (guards (binary o)) (meaning x (M g)) (Meets y (M g) × Unit {0}) (row-meets k g, tt))
 

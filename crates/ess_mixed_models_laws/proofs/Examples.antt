@@ -233,17 +233,22 @@ among-a-difference : is_mixed_specification (with_sets (fun1 true Fun.And (comp_
     (number_ex (pos 3))) (from (name_pat y) (ex2 false Op2.Minus (name_ex s) (name_ex s)) no_gens)))) [] ≡ true
 among-a-difference = refl
 
--- No number is asked to be in a set of sets, sets of members of different kinds aren't compared, the size of a set that is made of two
--- isn't asked, and no bound name is that of a set.
+-- `|t union t| > 2`; and `(sum y in s, |y| > 1 . |y|) > 2`
+a-size-of-two : is_mixed_specification (with_sets (ex2 true Op2.Gt (ex1 false Op1.Bar (ex2 false Op2.Union (name_ex t) (name_ex t)))
+    (number_ex (pos 2)))) [] ≡ true
+a-size-of-two = refl
+
+a-sum : is_mixed_specification (with_sets (ex2 true Op2.Gt (fun1 false Fun.Sum (comp_ex (ex1 false Op1.Bar (name_ex y))
+    (from (name_pat y) (name_ex s) (cond (ex2 true Op2.Gt (ex1 false Op1.Bar (name_ex y)) (number_ex (pos 1))) no_gens))))
+    (number_ex (pos 2)))) [] ≡ true
+a-sum = refl
+
+-- No number is asked to be in a set of sets, sets of members of different kinds aren't compared, and no bound name is that of a set.
 not-among-sets : is_mixed_specification (with_sets (ex2 true Op2.Member (number_ex (pos 3)) (name_ex s))) [] ≡ false
 not-among-sets = refl
 
 not-compared : is_mixed_specification (with_sets (ex2 true Op2.Eq (name_ex s) (name_ex t))) [] ≡ false
 not-compared = refl
-
-not-counted : is_mixed_specification (with_sets (ex2 true Op2.Gt (ex1 false Op1.Bar (ex2 false Op2.Union (name_ex t) (name_ex t)))
-    (number_ex (pos 2)))) [] ≡ false
-not-counted = refl
 
 not-hiding : is_mixed_specification (with_sets (fun1 true Fun.And (comp_ex (ex2 true Op2.Ge (ex1 false Op1.Bar (name_ex t))
     (number_ex (pos 2))) (from (name_pat t) (name_ex s) no_gens)))) [] ≡ false

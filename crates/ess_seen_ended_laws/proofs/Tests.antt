@@ -6,7 +6,6 @@ use Rattle.ess_semantics.specs.declared.words.Fun.{Fun}
 use Rattle.ess_semantics.specs.Trees.{matrix_literal, Ex, Exs, node_ex, comp_ex, Gens, ex1, ex2, fun1}
 use Rattle.ess_semantics.specs.Refined.{is_refined, are_refined, are_refined_gens}
 use Rattle.ess_flat_laws.specs.Flat.{OneOp, denied, negative, absolute, TwoOp, both, either, implied, agreeing, equal, unequal, below, at_most, above, at_least, sum, difference, product}
-use Rattle.ess_bare_laws.specs.Bare.{TruthWord, all_hold, some_holds}
 use Rattle.ess_bare_laws.specs.Lean.{FoldWord, of_all, of_some, of_sum}
 use Rattle.ess_seen_laws.specs.Seen.{Combines, united, shared, lessened, Compares, alike, apart, included, properly_included, including, properly_including}
 
@@ -56,21 +55,15 @@ two-refined x y sum h = two-of (is_refined x) (is_refined y) h
 two-refined x y difference h = two-of (is_refined x) (is_refined y) h
 two-refined x y product h = two-of (is_refined x) (is_refined y) h
 
-pub power-refined : (x y : Ex) → is_refined (ex2 false Op2.Pow x y) ≡ true → (is_refined x ≡ true) × (is_refined y ≡ true)
-power-refined x y h = two-of (is_refined x) (is_refined y) h
-
 -- The item and the generators of a list under a word.
 list-of : (a b : Bool) → (a && b) && true ≡ true → (a ≡ true) × (b ≡ true)
 list-of a b h = both-of a b (both-of (a && b) true h).0
 
-pub fold-refined : {f : Fun} (e : Ex) (gs : Gens) → TruthWord f → is_refined (fun1 true f (comp_ex e gs)) ≡ true →
+pub fold-refined : {m : Bool} {f : Fun} (e : Ex) (gs : Gens) → FoldWord m f → is_refined (fun1 m f (comp_ex e gs)) ≡ true →
     (is_refined e ≡ true) × (are_refined_gens gs ≡ true)
-fold-refined e gs all_hold h = list-of (is_refined e) (are_refined_gens gs) h
-fold-refined e gs some_holds h = list-of (is_refined e) (are_refined_gens gs) h
-
-pub sum-refined : (e : Ex) (gs : Gens) → is_refined (fun1 false Fun.Sum (comp_ex e gs)) ≡ true →
-    (is_refined e ≡ true) × (are_refined_gens gs ≡ true)
-sum-refined e gs h = list-of (is_refined e) (are_refined_gens gs) h
+fold-refined e gs of_all h = list-of (is_refined e) (are_refined_gens gs) h
+fold-refined e gs of_some h = list-of (is_refined e) (are_refined_gens gs) h
+fold-refined e gs of_sum h = list-of (is_refined e) (are_refined_gens gs) h
 
 -- The items of a literal under a word.
 pub items-refined : {m : Bool} {f : Fun} (es : Exs) → FoldWord m f → is_refined (fun1 m f (node_ex false matrix_literal es)) ≡ true →

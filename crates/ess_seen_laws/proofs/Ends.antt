@@ -1,17 +1,18 @@
 -- The free names of a tree over views are bound around it, and where it is scoped the names that it binds are new.
-use Rattle.std.proofs.Common.{◌≡◌, refl, ap, ℕ, Bool, true, false, ◌||◌, not, if◌then◌else◌, ◌∷◌, pos, Option, Some}
+use Rattle.std.proofs.Common.{◌≡◌, refl, ap, ℕ, Bool, true, false, ◌||◌, not, if◌then◌else◌, List, ◌∷◌, Option, Some}
 use Rattle.std.specs.Prelude.{IsTrue, is_some}
 use Rattle.ess_semantics.specs.Values.{Text}
 use Rattle.ess_semantics.specs.Order.{same_text}
 use Rattle.ess_semantics.specs.Names.{Names, look}
-use Rattle.ess_semantics.specs.Trees.{name_pat, Ex, Exs, number_ex, Gens, Dom}
+use Rattle.ess_semantics.specs.Trees.{name_pat, Ex, Exs, Gens, Dom}
 use Rattle.ess_semantics.specs.Substitution.{NamesAre, NamesAreExs, NamesAreGens, NamesAreDom}
 use Rattle.ess_semantics.specs.Scoped.{with_names, Scoped, ScopedExs, ScopedGens, ScopedDom}
 use Rattle.ess_semantics.specs.FreeNames.{with_bound_names, FreeNamesAre, FreeNamesAreExs, FreeNamesAreGens, FreeNamesAreDom}
 use Rattle.ess_semantics.proofs.Tests.{or-yes}
-use Rattle.ess_seen_laws.specs.Seen.{Kind, Bound, over_a_range, from_a_set, Places, no_place, at_a_number, at_a_name, SetTerm, view, drawn, combined, Seen, number, truth, named, cell, atom, one, two, power, chosen, folded, added, counted, of_items, size, within, set_within, compared, Listed, last_item, item_before, Indices, no_index, one_index, Going, at_end, through, among, where_holds, Axes, no_axis, along, Counting, members_of, in_use, Range, truths, numbers, Bounds, no_bound, one_bound}
+use Rattle.ess_seen_laws.specs.Seen.{Kind, Bound, over_a_range, over_slots, from_a_set, Places, no_place, at_slot, SetTerm, view, drawn, combined, Seen, number, truth, named, counted, figure, flag, atom, one, two, chosen, folded, of_items, size, within, set_within, compared, Listed, last_item, item_before, Indices, no_index, one_index, Going, at_end, through, through_slots, among, where_holds, Range, truths, numbers}
 use Rattle.ess_seen_laws.specs.Putting.{BindsNone}
 use Rattle.ess_seen_laws.proofs.Written.{keeps-written, written-free, written-named}
+use Rattle.ess_seen_laws.proofs.Counts.{counted-free, counted-named}
 
 -- ---- free names
 
@@ -26,11 +27,10 @@ one-more u r a b c x k h = go (same_text a x) h
     go true q = or-yes (u x)
     go false q = ap (λ z. z || false) (c x k q)
 
-module _ (cells : Text → Option (Bool × ℕ)) where
-  places-free : {r : Names Bound} {es : Exs} {k : ℕ} (u : Text → Bool) → Covers u r → Places cells r es k → FreeNamesAreExs u es
+module _ (cells : Text → Option (Bool × List ℕ)) where
+  places-free : {r : Names Bound} {es : Exs} {ks : List ℕ} (u : Text → Bool) → Covers u r → Places cells r es ks → FreeNamesAreExs u es
   places-free u c no_place = tt
-  places-free u c (at_a_number p) = (tt, places-free u c p)
-  places-free u c (at_a_name {a = a} {m = m} q p) = (c a (over_a_range m) q, places-free u c p)
+  places-free u c (at_slot {a = a} {k = k} q p) = (c a (over_slots k) q, places-free u c p)
 
   set-free : {r : Names Bound} {e : Ex} {k : Kind} (u : Text → Bool) → Covers u r → SetTerm cells r e k → FreeNamesAre u e
   set-free u c (view n f k p) = (written-free u (keeps-written k), places-free u c p)
@@ -42,17 +42,16 @@ module _ (cells : Text → Option (Bool × ℕ)) where
     names-free u c number = tt
     names-free u c truth = tt
     names-free u c (named {a = a} {b = b} q k) = c a b q
-    names-free u c (cell h i) = indices-free u c i
+    names-free u c (counted n) = counted-free u n
+    names-free u c (figure h p) = places-free u c p
+    names-free u c (flag h i) = indices-free u c i
     names-free u c (atom k p) = (written-free u (keeps-written k), places-free u c p)
     names-free u c (one w f) = (names-free u c f, tt)
     names-free u c (two w f h) = (names-free u c f, (names-free u c h, tt))
-    names-free u c (power f h) = (names-free u c f, (names-free u c h, tt))
     names-free u c (chosen f) = (names-free u c f, tt)
     names-free u c (folded w g f) = let k = gens-free u c g in ((k.0, names-free _ k.1 f), tt)
-    names-free u c (added g f) = let k = axes-free u c g in ((k.0, names-free _ k.1 f), tt)
-    names-free u c (counted k) = ((counting-free u c k, tt), tt)
     names-free u c (of_items w l) = (listed-free u c l, tt)
-    names-free u c (size s n) = (set-free u c s, tt)
+    names-free u c (size s) = (set-free u c s, tt)
     names-free u c (within f s) = (names-free u c f, (set-free u c s, tt))
     names-free u c (set_within s t) = (set-free u c s, (set-free u c t, tt))
     names-free u c (compared o s t) = (set-free u c s, (set-free u c t, tt))
@@ -65,33 +64,21 @@ module _ (cells : Text → Option (Bool × ℕ)) where
     indices-free u c no_index = tt
     indices-free u c (one_index f i) = (names-free u c f, indices-free u c i)
 
-    bounds-free : {r : Names Bound} {es : Exs} (u : Text → Bool) → Covers u r → Bounds cells r es → FreeNamesAreExs u es
-    bounds-free u c no_bound = tt
-    bounds-free u c (one_bound f i) = (names-free u c f, bounds-free u c i)
-
     range-free : {r : Names Bound} {d : Dom} {m : Bool} (u : Text → Bool) → Covers u r → Range cells r d m → FreeNamesAreDom u d
     range-free u c truths = tt
-    range-free u c (numbers b bs) = bounds-free u c bs
+    range-free u c (numbers f g) = (names-free u c f, (names-free u c g, tt))
 
     gens-free : {r t : Names Bound} {gs : Gens} (u : Text → Bool) → Covers u r → Going cells r gs t →
         FreeNamesAreGens u gs × Covers (with_bound_names u gs) t
     gens-free u c at_end = (tt, c)
     gens-free {r} u c (through {m = m} {a = a} n g) =
         let k = gens-free (with_names u (name_pat a)) (one-more u r a (over_a_range m) c) g in ((range-free u c n, k.0), k.1)
+    gens-free {r} u c (through_slots {k = j} {a = a} n g) =
+        let k = gens-free (with_names u (name_pat a)) (one-more u r a (over_slots j) c) g in
+        (((tt, (counted-free u n, tt)), k.0), k.1)
     gens-free {r} u c (among {k = j} {a = a} s g) =
         let k = gens-free (with_names u (name_pat a)) (one-more u r a (from_a_set j) c) g in ((set-free u c s, k.0), k.1)
     gens-free u c (where_holds f g) = let k = gens-free u c g in ((names-free u c f, k.0), k.1)
-
-    axes-free : {r t : Names Bound} {gs : Gens} (u : Text → Bool) → Covers u r → Axes cells r gs t →
-        FreeNamesAreGens u gs × Covers (with_bound_names u gs) t
-    axes-free u c no_axis = (tt, c)
-    axes-free {r} u c (along {m = m} {a = a} n g) =
-        let k = axes-free (with_names u (name_pat a)) (one-more u r a (over_a_range m) c) g in ((range-free u c n, k.0), k.1)
-
-    counting-free : {r : Names Bound} {gs : Gens} (u : Text → Bool) → Covers u r → Counting cells r gs → FreeNamesAreGens u gs
-    counting-free u c (members_of s n) = (set-free u c s, tt)
-    counting-free {r} u c (in_use {m = m} {a = a} n f) =
-        (range-free u c n, (names-free (with_names u (name_pat a)) (one-more u r a (over_a_range m) c) f, tt))
 
   -- The free names of such a tree are bound around it.
   pub seen-closed : (r : Names Bound) (e : Ex) (m : Bool) → Seen cells r e m → FreeNamesAre (λ a. is_some (look r a)) e
@@ -117,7 +104,7 @@ new-for q s a i n = go (q a) (i a)
         clash true p m = m
         clash false p m = cc
 
-module _ (cells : Text → Option (Bool × ℕ)) (z q : Text → Bool) where
+module _ (cells : Text → Option (Bool × List ℕ)) (z q : Text → Bool) where
   -- Behind generators x has a scope with q.
   record Behind (x : Ex) (gs : Gens) : Type 0 where
     bind : NamesAreGens (λ a. true) (λ a. not (q a)) gs
@@ -126,10 +113,9 @@ module _ (cells : Text → Option (Bool × ℕ)) (z q : Text → Bool) where
     inside : Inside q scope
     said : Scoped z scope ranging x
 
-  places-bind : {r : Names Bound} {es : Exs} {k : ℕ} → Places cells r es k → NamesAreExs (λ a. true) (λ a. not (q a)) es
+  places-bind : {r : Names Bound} {es : Exs} {ks : List ℕ} → Places cells r es ks → NamesAreExs (λ a. true) (λ a. not (q a)) es
   places-bind no_place = tt
-  places-bind (at_a_number p) = (tt, places-bind p)
-  places-bind (at_a_name h p) = (refl, places-bind p)
+  places-bind (at_slot h p) = (refl, places-bind p)
 
   set-binds : {r : Names Bound} {e : Ex} {k : Kind} → SetTerm cells r e k → NamesAre (λ a. true) (λ a. not (q a)) e
   set-binds (view n f k p) = (written-named (λ a. true) (λ a. not (q a)) (keeps-written k), places-bind p)
@@ -142,19 +128,17 @@ module _ (cells : Text → Option (Bool × ℕ)) (z q : Text → Bool) where
     binds-new s o i number h = tt
     binds-new s o i truth h = tt
     binds-new s o i (named p k) h = refl
-    binds-new s o i (cell p j) h = indices-bind s o i j h
+    binds-new s o i (counted c) h = counted-named (λ a. true) (λ a. not (q a)) c
+    binds-new s o i (figure k p) h = places-bind p
+    binds-new s o i (flag k j) h = indices-bind s o i j h
     binds-new s o i (atom k p) h = (written-named (λ a. true) (λ a. not (q a)) (keeps-written k), places-bind p)
     binds-new s o i (one w f) h = (binds-new s o i f h.0, tt)
     binds-new s o i (two w f g) h = (binds-new s o i f h.0, (binds-new s o i g h.1.0, tt))
-    binds-new s o i (power f g) h = (binds-new s o i f h.0, (binds-new s o i g h.1.0, tt))
     binds-new s o i (chosen f) h = (binds-new s o i f h.0, tt)
     binds-new s o i (folded {e = x} w g f) h =
         let k = going-binds x s o i g h.0 in ((binds-new k.scope k.ranging k.inside f k.said, k.bind), tt)
-    binds-new s o i (added {e = x} g f) h =
-        let k = axes-bind x s o i g h.0 in ((binds-new k.scope k.ranging k.inside f k.said, k.bind), tt)
-    binds-new s o i (counted c) h = ((tt, counting-binds (number_ex (pos 1)) s o i c h.0), tt)
     binds-new s o i (of_items w l) h = (listed-binds s o i l h.0, tt)
-    binds-new s o i (size v n) h = (set-binds v, tt)
+    binds-new s o i (size v) h = (set-binds v, tt)
     binds-new s o i (within f v) h = (binds-new s o i f h.0, (set-binds v, tt))
     binds-new s o i (set_within u v) h = (set-binds u, (set-binds v, tt))
     binds-new s o i (compared w u v) h = (set-binds u, (set-binds v, tt))
@@ -169,15 +153,10 @@ module _ (cells : Text → Option (Bool × ℕ)) (z q : Text → Bool) where
     indices-bind s o i no_index h = tt
     indices-bind s o i (one_index f j) h = (binds-new s o i f h.0, indices-bind s o i j h.1)
 
-    bounds-bind : {r : Names Bound} {es : Exs} (s o : Text → Bool) → Inside q s → Bounds cells r es → ScopedExs z s o es →
-        NamesAreExs (λ a. true) (λ a. not (q a)) es
-    bounds-bind s o i no_bound h = tt
-    bounds-bind s o i (one_bound f j) h = (binds-new s o i f h.0, bounds-bind s o i j h.1)
-
     range-binds : {r : Names Bound} {d : Dom} {m : Bool} (s o : Text → Bool) → Inside q s → Range cells r d m → ScopedDom z s o d →
         NamesAreDom (λ a. true) (λ a. not (q a)) d
     range-binds s o i truths h = tt
-    range-binds s o i (numbers b bs) h = bounds-bind s o i bs h
+    range-binds s o i (numbers f g) h = (binds-new s o i f h.0, (binds-new s o i g h.1.0, tt))
 
     going-binds : {r t : Names Bound} {gs : Gens} (x : Ex) (s o : Text → Bool) → Inside q s →
         Going cells r gs t → ScopedGens z s o gs (λ b p. Scoped z b p x) → Behind x gs
@@ -186,6 +165,15 @@ module _ (cells : Text → Option (Bool × ℕ)) (z q : Text → Bool) where
         let k = going-binds x (with_names s (name_pat a)) (with_names o (name_pat a)) (inside-more q s a i) g h.2 in
         record {
           bind = (new-for q s a i h.0, range-binds s o i n h.1, k.bind);
+          scope = k.scope;
+          ranging = k.ranging;
+          inside = k.inside;
+          said = k.said;
+        }
+    going-binds x s o i (through_slots {a = a} n g) h =
+        let k = going-binds x (with_names s (name_pat a)) (with_names o (name_pat a)) (inside-more q s a i) g h.2 in
+        record {
+          bind = (new-for q s a i h.0, (tt, (counted-named (λ a. true) (λ a. not (q a)) n, tt)), k.bind);
           scope = k.scope;
           ranging = k.ranging;
           inside = k.inside;
@@ -204,29 +192,7 @@ module _ (cells : Text → Option (Bool × ℕ)) (z q : Text → Bool) where
         let k = going-binds x s o i g h.1 in
         record { bind = (binds-new s o i f h.0, k.bind); scope = k.scope; ranging = k.ranging; inside = k.inside; said = k.said }
 
-    axes-bind : {r t : Names Bound} {gs : Gens} (x : Ex) (s o : Text → Bool) → Inside q s →
-        Axes cells r gs t → ScopedGens z s o gs (λ b p. Scoped z b p x) → Behind x gs
-    axes-bind x s o i no_axis h = record { bind = tt; scope = s; ranging = o; inside = i; said = h }
-    axes-bind x s o i (along {a = a} n g) h =
-        let k = axes-bind x (with_names s (name_pat a)) (with_names o (name_pat a)) (inside-more q s a i) g h.2 in
-        record {
-          bind = (new-for q s a i h.0, range-binds s o i n h.1, k.bind);
-          scope = k.scope;
-          ranging = k.ranging;
-          inside = k.inside;
-          said = k.said;
-        }
-
-    counting-binds : {r : Names Bound} {gs : Gens} (x : Ex) (s o : Text → Bool) → Inside q s →
-        Counting cells r gs → ScopedGens z s o gs (λ b p. Scoped z b p x) → NamesAreGens (λ a. true) (λ a. not (q a)) gs
-    counting-binds x s o i (members_of {a = a} v n) h = (new-for q s a i h.0, set-binds v, tt)
-    counting-binds x s o i (in_use {a = a} n f) h = (
-      new-for q s a i h.0,
-      range-binds s o i n h.1,
-      (binds-new (with_names s (name_pat a)) (with_names o (name_pat a)) (inside-more q s a i) f h.2.0, tt),
-    )
-
 -- The names that such a tree binds are none of those in its scope.
-pub seen-binds-new : (cells : Text → Option (Bool × ℕ)) (r : Names Bound) (e : Ex) (m : Bool) → Seen cells r e m → (z s o : Text → Bool) →
-    Scoped z s o e → BindsNone s e
+pub seen-binds-new : (cells : Text → Option (Bool × List ℕ)) (r : Names Bound) (e : Ex) (m : Bool) → Seen cells r e m →
+    (z s o : Text → Bool) → Scoped z s o e → BindsNone s e
 seen-binds-new cells r e m f z s o h = binds-new cells z s s o (λ a g. g) f h

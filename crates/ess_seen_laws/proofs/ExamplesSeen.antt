@@ -1,6 +1,6 @@
--- Trees over views by examples. A set of sets of numbers is kept with flags and by occurrence: the table f of its flags has one axis, and
--- the table o two. Another one is kept so in the tables g and p.
-use Rattle.std.proofs.Common.{◌≡◌, refl, ℕ, Bool, true, false, ◌||◌, if◌then◌else◌, [], ◌∷◌, pos, Option, Some, None, codes}
+-- Trees over views by examples. A set of sets of numbers is kept with flags and by occurrence in three slots: the table f of its flags has
+-- one axis, and the table o two. Another one is kept so in the tables g and p. Sums and sizes stand in a file of their own.
+use Rattle.std.proofs.Common.{◌≡◌, refl, ℕ, Bool, true, false, ◌||◌, if◌then◌else◌, List, [], ◌∷◌, pos, Option, Some, None, codes}
 use Rattle.ess_semantics.specs.declared.words.Op1.{Op1}
 use Rattle.ess_semantics.specs.declared.words.Op2.{Op2}
 use Rattle.ess_semantics.specs.declared.words.Fun.{Fun}
@@ -18,14 +18,13 @@ use Rattle.ess_rules_laws.specs.SourceRules.{list_of}
 use Rattle.ess_rules_laws.specs.ListedSources.{source_parts}
 use Rattle.ess_kind_rules_laws.specs.ViewListings.{view_listing}
 use Rattle.ess_flat_laws.specs.Flat.{denied, both, at_least}
-use Rattle.ess_bare_laws.specs.Bare.{all_hold}
 use Rattle.ess_bare_laws.specs.Lean.{of_all}
-use Rattle.ess_seen_laws.specs.Seen.{scalars, sets_of, kind_of, kind_ty, Bound, from_a_set, over_a_range, united, alike, is_combined, by_occurrence, with_flags, no_place, at_a_name, SetTerm, view, drawn, combined, Seen, number, one, two, folded, of_items, size, within, set_within, compared, last_item, item_before, cell, one_index, named, no_index, at_end, through, among, where_holds, numbers, no_bound, one_bound}
+use Rattle.ess_seen_laws.specs.Seen.{scalars, sets_of, kind_of, kind_ty, Bound, from_a_set, over_slots, united, alike, so_many, by_occurrence, with_flags, no_place, at_slot, SetTerm, view, drawn, combined, Seen, number, one, two, folded, of_items, size, within, set_within, compared, last_item, item_before, flag, one_index, named, no_index, at_end, through_slots, among, where_holds}
 
-abbrev x_name : Text
+abbrev pub x_name : Text
 x_name = codes "x"
 
-abbrev i_name : Text
+abbrev pub i_name : Text
 i_name = codes "i"
 
 abbrev flags : Text → Bool
@@ -34,24 +33,35 @@ flags a = same_text (codes "f") a || same_text (codes "g") a
 abbrev occurrences : Text → Bool
 occurrences a = same_text (codes "o") a || same_text (codes "p") a
 
-abbrev tables : Text → Option (Bool × ℕ)
-tables a = if flags a then Some (true, 1) else (if occurrences a then Some (true, 2) else None)
+-- The table m holds one number, and the table n one in each of three slots.
+abbrev markers : Text → Bool
+markers a = same_text (codes "m") a
+
+abbrev items : Text → Bool
+items a = same_text (codes "n") a
+
+-- Tables of numbers, and all of these.
+abbrev pub of_numbers : Text → Option (Bool × List ℕ)
+of_numbers a = if markers a then Some (false, []) else (if items a then Some (false, 3 ∷ []) else None)
+
+abbrev pub tables : Text → Option (Bool × List ℕ)
+tables a = if flags a then Some (true, 3 ∷ []) else (if occurrences a then Some (true, 3 ∷ 4 ∷ []) else of_numbers a)
 
 -- `set of int(1..4)`, and `set (maxSize 3)` of such.
-abbrev inner_dom : Dom
+abbrev pub inner_dom : Dom
 inner_dom = set_dom [] no_exs (int_dom (both_ends ∷ []) (more_exs (number_ex (pos 1)) (more_exs (number_ex (pos 4)) no_exs)))
 
-abbrev outer_dom : Dom
+abbrev pub outer_dom : Dom
 outer_dom = set_dom (valued Key.MaxSize ∷ []) (more_exs (number_ex (pos 3)) no_exs) inner_dom
 
 abbrev kept_so : Repr
 kept_so = repr ReprKind.ExplicitVarSizeWithFlags (more_reprs (repr ReprKind.Occurrence no_reprs) no_reprs)
 
 -- The view s, and its member in the slot i.
-abbrev s_view : Ex
+abbrev pub s_view : Ex
 s_view = seen_ex kept_so outer_dom (codes "f" ∷ codes "o" ∷ []) no_exs
 
-abbrev s_slot : Ex
+abbrev pub s_slot : Ex
 s_slot = seen_ex (repr ReprKind.Occurrence no_reprs) inner_dom (codes "o" ∷ []) (more_exs (name_ex i_name) no_exs)
 
 -- Its kind is that of its members, whose type is told by it.
@@ -61,12 +71,12 @@ kind_of_members = refl
 type_of_kind : kind_ty (sets_of (scalars false)) ≡ compound1 a_set int_ty
 type_of_kind = refl
 
--- Both are sets: the first one under any names, the second one where i is bound over a range.
-seen_view : {r : Names Bound} → SetTerm tables r s_view (sets_of (scalars false))
-seen_view = view refl refl (with_flags refl refl (by_occurrence refl refl refl)) no_place
+-- Both are sets: the first one under any names, the second one where i is bound over the slots.
+pub seen_view : {r : Names Bound} → SetTerm tables r s_view (sets_of (scalars false))
+seen_view = view refl refl (with_flags refl so_many refl (by_occurrence 4 refl refl refl)) no_place
 
-seen_slot : SetTerm tables ((i_name, over_a_range false) ∷ []) s_slot (scalars false)
-seen_slot = view refl refl (by_occurrence refl refl refl) (at_a_name refl no_place)
+pub seen_slot : SetTerm tables ((i_name, over_slots 3) ∷ []) s_slot (scalars false)
+seen_slot = view refl refl (by_occurrence 4 refl refl refl) (at_slot refl no_place)
 
 -- `forAll x in s . |x| >= 2`, that is `and([|x| >= 2 | x <- s])`.
 abbrev each_has_two : Ex
@@ -74,7 +84,7 @@ each_has_two = fun1 true Fun.And (comp_ex (ex2 true Op2.Ge (ex1 false Op1.Bar (n
     (from (name_pat x_name) s_view no_gens))
 
 seen_fold : Seen tables [] each_has_two true
-seen_fold = folded all_hold (among seen_view at_end) (two at_least (size (drawn refl) refl) number)
+seen_fold = folded of_all (among seen_view at_end) (two at_least (size (drawn refl)) number)
 
 -- What a rule makes of it by the slots: a fold of one item, `and([and([|s[i]| >= 2 | i : int(1..3), f[i]])])`.
 abbrev in_slots_now : Ex
@@ -88,10 +98,9 @@ opened = refl
 
 -- It is such a tree too.
 seen_opened : Seen tables [] in_slots_now true
-seen_opened = of_items of_all (last_item (folded all_hold
-    (through (numbers refl (one_bound number (one_bound number no_bound)))
-    (where_holds (cell refl (one_index (named refl refl) no_index)) at_end))
-    (two at_least (size seen_slot refl) number)))
+seen_opened = of_items of_all (last_item (folded of_all
+    (through_slots so_many (where_holds (flag refl (one_index (named refl refl) no_index)) at_end))
+    (two at_least (size seen_slot) number)))
 
 -- The member in the place of the name.
 slot_put : substitute (for_name x_name s_slot) (ex1 false Op1.Bar (name_ex x_name)) ≡ ex1 false Op1.Bar s_slot
@@ -109,17 +118,14 @@ abbrev t_view : Ex
 t_view = seen_ex kept_so outer_dom (codes "g" ∷ codes "p" ∷ []) no_exs
 
 seen_other : {r : Names Bound} → SetTerm tables r t_view (sets_of (scalars false))
-seen_other = view refl refl (with_flags refl refl (by_occurrence refl refl refl)) no_place
+seen_other = view refl refl (with_flags refl so_many refl (by_occurrence 4 refl refl refl)) no_place
 
--- `s union t` is a set that is made of two: its size isn't asked for.
-abbrev of_both : Ex
+-- `s union t` is a set that is made of two.
+abbrev pub of_both : Ex
 of_both = ex2 false Op2.Union s_view t_view
 
-seen_union : SetTerm tables [] of_both (sets_of (scalars false))
+pub seen_union : SetTerm tables [] of_both (sets_of (scalars false))
 seen_union = combined united seen_view seen_other
-
-made_of_two : is_combined of_both ≡ true
-made_of_two = refl
 
 -- `forAll x in s union t . |x| >= 2`.
 abbrev each_of_both : Ex
@@ -127,7 +133,7 @@ each_of_both = fun1 true Fun.And (comp_ex (ex2 true Op2.Ge (ex1 false Op1.Bar (n
     (from (name_pat x_name) of_both no_gens))
 
 seen_both : Seen tables [] each_of_both true
-seen_both = folded all_hold (among seen_union at_end) (two at_least (size (drawn refl) refl) number)
+seen_both = folded of_all (among seen_union at_end) (two at_least (size (drawn refl)) number)
 
 -- What a rule makes of it by the parts of the union: `and([and([|i| >= 2 | i <- s]), and([|i| >= 2 | i <- t, !(i in s)])])`.
 abbrev i_has_two : Ex
@@ -146,9 +152,9 @@ parted = refl
 -- It is such a tree too.
 seen_parted : Seen tables [] in_parts_now true
 seen_parted = of_items of_all (item_before
-    (folded all_hold (among seen_view at_end) (two at_least (size (drawn refl) refl) number))
-    (last_item (folded all_hold (among seen_other (where_holds (one denied (set_within (drawn refl) seen_view)) at_end))
-    (two at_least (size (drawn refl) refl) number))))
+    (folded of_all (among seen_view at_end) (two at_least (size (drawn refl)) number))
+    (last_item (folded of_all (among seen_other (where_holds (one denied (set_within (drawn refl) seen_view)) at_end))
+    (two at_least (size (drawn refl)) number))))
 
 -- `s = t`, and what a rule makes of it: `and([x in t | x <- s]) /\ and([x in s | x <- t])`.
 abbrev same_sets : Ex
@@ -165,5 +171,5 @@ by_members = refl
 
 seen_by_members : Seen tables [] (ex2 true Op2.And (each_in s_view t_view) (each_in t_view s_view)) true
 seen_by_members = two both
-    (folded all_hold (among seen_view at_end) (set_within (drawn refl) seen_other))
-    (folded all_hold (among seen_other at_end) (set_within (drawn refl) seen_view))
+    (folded of_all (among seen_view at_end) (set_within (drawn refl) seen_other))
+    (folded of_all (among seen_other at_end) (set_within (drawn refl) seen_view))

@@ -2,6 +2,8 @@
 pub mod Lookups
 -- Domains
 pub mod Written
+-- Numbers of slots
+pub mod Counts
 -- More names
 pub mod More
 -- Types
@@ -10,12 +12,16 @@ pub mod Types
 pub mod Told
 -- Members in the place of names
 pub mod Puts
--- Parts
-pub mod Slots
-pub mod Forms
-pub mod ViewParts
-pub mod Parts
 -- Free and bound names
 pub mod Ends
+-- Values of names
+pub mod Held
+-- Parts
+pub mod Carried
+pub mod ViewParts
+pub mod Slots
+pub mod Forms
+pub mod Parts
 -- Worked examples
-mod ExamplesSeen
+pub mod ExamplesSeen
+mod ExamplesSums

@@ -1,5 +1,5 @@
 -- A member in the place of a name that was bound over members of its kind leaves a tree over views.
-use Rattle.std.proofs.Common.{◌≡◌, refl, sym, ap, ◌∙◌, subst, ℕ, suc, Bool, true, false, not, if◌then◌else◌, [], ◌∷◌, Option, Some}
+use Rattle.std.proofs.Common.{◌≡◌, refl, sym, ap, ◌∙◌, subst, ℕ, Bool, true, false, not, if◌then◌else◌, List, [], ◌∷◌, Option, Some}
 use Rattle.std.specs.Prelude.{IsTrue, is_some}
 use Rattle.ess_semantics.specs.declared.words.ReprKind.{ReprKind}
 use Rattle.ess_semantics.specs.Values.{Text}
@@ -7,12 +7,13 @@ use Rattle.ess_semantics.specs.Order.{same_text}
 use Rattle.ess_semantics.specs.Names.{Names, look}
 use Rattle.ess_semantics.specs.Trees.{repr, no_reprs, Ex, Exs, name_ex, seen_ex, more_exs, Gens, Dom}
 use Rattle.ess_semantics.specs.Meaning.{is_bool_dom}
-use Rattle.ess_semantics.specs.Substitution.{substitute, substitute_exs, substitute_gens, substitute_dom, for_name, NamesAre, NamesAreExs, NamesAreGens, NamesAreDom}
+use Rattle.ess_semantics.specs.Substitution.{substitute, substitute_exs, substitute_dom, for_name, NamesAre, NamesAreExs, NamesAreGens, NamesAreDom}
 use Rattle.ess_semantics.proofs.Texts.{same_text-equal, same_text-itself}
-use Rattle.ess_seen_laws.specs.Seen.{Kind, scalars, sets_of, kind_of, Bound, over_a_range, from_a_set, bound_kind, is_combined, Places, no_place, at_a_number, at_a_name, SetTerm, view, drawn, combined, Seen, number, truth, named, cell, atom, one, two, power, chosen, folded, added, counted, of_items, size, within, set_within, compared, Listed, last_item, item_before, Indices, no_index, one_index, Going, at_end, through, among, where_holds, Axes, no_axis, along, Counting, members_of, in_use, Range, truths, numbers, Bounds, no_bound, one_bound}
+use Rattle.ess_seen_laws.specs.Seen.{Kind, scalars, sets_of, kind_of, Bound, over_a_range, over_slots, from_a_set, bound_kind, Places, no_place, at_slot, SetTerm, view, drawn, combined, Seen, number, truth, named, counted, figure, flag, atom, one, two, chosen, folded, of_items, size, within, set_within, compared, Listed, last_item, item_before, Indices, no_index, one_index, Going, at_end, through, through_slots, among, where_holds, Range, truths, numbers}
 use Rattle.ess_seen_laws.specs.SeenParts.{AllBound}
 use Rattle.ess_seen_laws.specs.Putting.{Within, BindsNone, BindNone, IsItem, Puts, GensPut, ListPut}
 use Rattle.ess_seen_laws.proofs.Written.{keeps-written, written-fixed}
+use Rattle.ess_seen_laws.proofs.Counts.{counted-put}
 use Rattle.ess_seen_laws.proofs.More.{set-more, seen-more, going-appended}
 
 -- ---- names
@@ -42,15 +43,16 @@ same-bound o b c p q = sym p ∙ q
 -- The kind of what is bound so.
 kind-said : (b : Bound) (k : Kind) → Some b ≡ Some (from_a_set k) → bound_kind b ≡ k
 kind-said (over_a_range m) k q = cc
+kind-said (over_slots n) k q = cc
 kind-said (from_a_set j) k q = cc
 
-no-range : (m : Bool) (k : Kind) → Some (over_a_range m) ≡ Some (from_a_set k) → ⊥
-no-range m k q = cc
+no-slots : (n : ℕ) (k : Kind) → Some (over_slots n) ≡ Some (from_a_set k) → ⊥
+no-slots n k q = cc
 
 set-said : (j k : Kind) → Some (from_a_set j) ≡ Some (from_a_set k) → j ≡ k
 set-said j k q = cc
 
-module _ (cells : Text → Option (Bool × ℕ)) (s : Text → Bool) (y : Text) (h : Ex) where
+module _ (cells : Text → Option (Bool × List ℕ)) (s : Text → Bool) (y : Text) (h : Ex) where
   -- Under a name that isn't in s the term may be put in too.
   puts-more : {r t : Names Bound} (x : Text) (b : Bound) → IsTrue (not (s x)) → Puts cells s y h r t →
       Puts cells s y h ((x, b) ∷ r) ((x, b) ∷ t)
@@ -89,37 +91,32 @@ module _ (cells : Text → Option (Bool × ℕ)) (s : Text → Bool) (y : Text) 
           (as-scalar p.kind (sym (kind-said b p.kind (sym q ∙ (sym (f refl) ∙ p.bound))) ∙ k) p.item)
       go false f g = named (g refl) k
 
-  -- A set that isn't made of two.
-  abbrev pub WholeSet : Names Bound → Ex → Kind → Type 0
-  WholeSet r e k = SetTerm cells r e k × (is_combined e ≡ false)
-
   set-name-put : {r t : Names Bound} {k : Kind} (a : Text) → Puts cells s y h r t → look r a ≡ Some (from_a_set (sets_of k)) →
-      WholeSet t (for_name y h a) k
+      SetTerm cells t (for_name y h a) k
   set-name-put {r} {t} {k} a p q =
       go (same_text y a) (λ g. ap (look r) (same_text-equal y a g)) (λ g. p.others a (from_a_set (sets_of k)) g q)
     where
-      as-set : (j : Kind) → j ≡ sets_of k → IsItem cells p.base h j → WholeSet p.base h k
+      as-set : (j : Kind) → j ≡ sets_of k → IsItem cells p.base h j → SetTerm cells p.base h k
       as-set j e i = subst (λ w. IsItem cells p.base h w) e i
 
       go : (v : Bool) → (v ≡ true → look r y ≡ look r a) → (v ≡ false → look t a ≡ Some (from_a_set (sets_of k))) →
-          WholeSet t (if v then h else name_ex a) k
+          SetTerm cells t (if v then h else name_ex a) k
       go true f g =
-          let i = as-set p.kind (sym (set-said (sets_of k) p.kind (sym q ∙ (sym (f refl) ∙ p.bound)))) p.item in
-          (set-more cells p.within i.0, i.1)
-      go false f g = (drawn (g refl), refl)
+          set-more cells p.within (as-set p.kind (sym (set-said (sets_of k) p.kind (sym q ∙ (sym (f refl) ∙ p.bound)))) p.item)
+      go false f g = drawn (g refl)
 
-  places-put : {r t : Names Bound} {es : Exs} {k : ℕ} → Puts cells s y h r t → Places cells r es k →
-      Places cells t (substitute_exs (for_name y h) es) k
+  -- The same of places.
+  pub places-put : {r t : Names Bound} {es : Exs} {ks : List ℕ} → Puts cells s y h r t → Places cells r es ks →
+      Places cells t (substitute_exs (for_name y h) es) ks
   places-put p no_place = no_place
-  places-put p (at_a_number i) = at_a_number (places-put p i)
-  places-put {r} {t} p (at_a_name {a = a} {m = m} {es = es} {k = k} q i) =
-      go (same_text y a) (λ g. ap (look r) (same_text-equal y a g)) (λ g. p.others a (over_a_range m) g q) (places-put p i)
+  places-put {r} {t} p (at_slot {a = a} {es = es} {k = k} {ks = ks} q i) =
+      go (same_text y a) (λ g. ap (look r) (same_text-equal y a g)) (λ g. p.others a (over_slots k) g q) (places-put p i)
     where
-      go : (v : Bool) → (v ≡ true → look r y ≡ look r a) → (v ≡ false → look t a ≡ Some (over_a_range m)) →
-          Places cells t (substitute_exs (for_name y h) es) k →
-          Places cells t (more_exs (if v then h else name_ex a) (substitute_exs (for_name y h) es)) (suc k)
-      go true f g j = absurd (no-range m p.kind (sym q ∙ (sym (f refl) ∙ p.bound)))
-      go false f g j = at_a_name (g refl) j
+      go : (v : Bool) → (v ≡ true → look r y ≡ look r a) → (v ≡ false → look t a ≡ Some (over_slots k)) →
+          Places cells t (substitute_exs (for_name y h) es) ks →
+          Places cells t (more_exs (if v then h else name_ex a) (substitute_exs (for_name y h) es)) (k ∷ ks)
+      go true f g j = absurd (no-slots k p.kind (sym q ∙ (sym (f refl) ∙ p.bound)))
+      go false f g j = at_slot (g refl) j
 
   -- The same of a set.
   pub set-put : {r t : Names Bound} {e : Ex} {k : Kind} → Puts cells s y h r t → SetTerm cells r e k →
@@ -127,23 +124,10 @@ module _ (cells : Text → Option (Bool × ℕ)) (s : Text → Bool) (y : Text) 
   set-put {t = t} p (view {p = w} {ms = ms} {es = es} {js = js} {d = d} {ns = ns} n f k i) =
       subst (λ c. SetTerm cells t (seen_ex w c ns (substitute_exs (for_name y h) js)) (kind_of d))
       (sym (written-fixed (for_name y h) (keeps-written k))) (view n f k (places-put p i))
-  set-put p (drawn {a = a} q) = (set-name-put a p q).0
+  set-put p (drawn {a = a} q) = set-name-put a p q
   set-put p (combined c u v) = combined c (set-put p u) (set-put p v)
 
-  -- A set that isn't made of two stays so.
-  pub whole-put : {r t : Names Bound} {e : Ex} {k : Kind} → Puts cells s y h r t → SetTerm cells r e k → is_combined e ≡ false →
-      is_combined (substitute (for_name y h) e) ≡ false
-  whole-put p (view w f k i) n = refl
-  whole-put p (drawn {a = a} q) n = (set-name-put a p q).1
-  whole-put p (combined c u v) n = cc
-
   -- ---- trees
-
-  -- The same axes, and what may be put behind them.
-  record AxesPut (u : Names Bound) (t : Names Bound) (gs : Gens) : Type 0 where
-    axes_behind : Names Bound
-    axes : Axes cells t (substitute_gens (for_name y h) gs) axes_behind
-    puts_behind : Puts cells s y h u axes_behind
 
   mutual
     pub seen-put : {r t : Names Bound} {e : Ex} {m : Bool} → Puts cells s y h r t → NamesAre any (outside s) e → Seen cells r e m →
@@ -151,19 +135,18 @@ module _ (cells : Text → Option (Bool × ℕ)) (s : Text → Bool) (y : Text) 
     seen-put p n number = number
     seen-put p n truth = truth
     seen-put p n (named {a = a} q k) = name-put a p q k
-    seen-put p n (cell q i) = cell q (indices-put p n i)
+    seen-put p n (counted c) = counted (counted-put (for_name y h) c)
+    seen-put p n (figure q i) = figure q (places-put p i)
+    seen-put p n (flag q i) = flag q (indices-put p n i)
     seen-put {t = t} p n (atom {d = d} {n = l} {js = js} k i) =
         subst (λ c. Seen cells t (seen_ex (repr ReprKind.Atom no_reprs) c (l ∷ []) (substitute_exs (for_name y h) js)) (is_bool_dom d))
         (sym (written-fixed (for_name y h) (keeps-written k))) (atom k (places-put p i))
     seen-put p n (one o f) = one o (seen-put p n.0 f)
     seen-put p n (two o f g) = two o (seen-put p n.0 f) (seen-put p n.1.0 g)
-    seen-put p n (power f g) = power (seen-put p n.0 f) (seen-put p n.1.0 g)
     seen-put p n (chosen f) = chosen (seen-put p n.0 f)
     seen-put p n (folded o g f) = let k = going-put p n.0.1 g in folded o k.going (seen-put k.puts n.0.0 f)
-    seen-put p n (added g f) = let k = axes-put p n.0.1 g in added k.axes (seen-put k.puts_behind n.0.0 f)
-    seen-put p n (counted c) = counted (counting-put p n.0.1 c)
     seen-put p n (of_items o l) = of_items o (listed-put p n.0 l)
-    seen-put p n (size v w) = size (set-put p v) (whole-put p v w)
+    seen-put p n (size v) = size (set-put p v)
     seen-put p n (within f v) = within (seen-put p n.0 f) (set-put p v)
     seen-put p n (set_within u v) = set_within (set-put p u) (set-put p v)
     seen-put p n (compared c u v) = compared c (set-put p u) (set-put p v)
@@ -184,34 +167,19 @@ module _ (cells : Text → Option (Bool × ℕ)) (s : Text → Bool) (y : Text) 
     going-put p n (through {m = m} {a = a} d g) =
         let k = going-put (puts-more a (over_a_range m) n.0 p) n.2 g in
         record { behind = k.behind; going = through (range-put p n.1 d) k.going; puts = k.puts }
+    going-put p n (through_slots {k = j} {a = a} c g) =
+        let k = going-put (puts-more a (over_slots j) n.0 p) n.2 g in
+        record { behind = k.behind; going = through_slots (counted-put (for_name y h) c) k.going; puts = k.puts }
     going-put p n (among {k = j} {a = a} v g) =
         let k = going-put (puts-more a (from_a_set j) n.0 p) n.2 g in
         record { behind = k.behind; going = among (set-put p v) k.going; puts = k.puts }
     going-put p n (where_holds f g) =
         let k = going-put p n.1 g in record { behind = k.behind; going = where_holds (seen-put p n.0 f) k.going; puts = k.puts }
 
-    axes-put : {r t u : Names Bound} {gs : Gens} → Puts cells s y h r t → NamesAreGens any (outside s) gs → Axes cells r gs u →
-        AxesPut u t gs
-    axes-put {t = t} p n no_axis = record { axes_behind = t; axes = no_axis; puts_behind = p }
-    axes-put p n (along {m = m} {a = a} d g) =
-        let k = axes-put (puts-more a (over_a_range m) n.0 p) n.2 g in
-        record { axes_behind = k.axes_behind; axes = along (range-put p n.1 d) k.axes; puts_behind = k.puts_behind }
-
-    counting-put : {r t : Names Bound} {gs : Gens} → Puts cells s y h r t → NamesAreGens any (outside s) gs → Counting cells r gs →
-        Counting cells t (substitute_gens (for_name y h) gs)
-    counting-put p n (members_of v w) = members_of (set-put p v) (whole-put p v w)
-    counting-put p n (in_use {m = m} {a = a} d f) =
-        in_use (range-put p n.1 d) (seen-put (puts-more a (over_a_range m) n.0 p) n.2.0 f)
-
     range-put : {r t : Names Bound} {d : Dom} {m : Bool} → Puts cells s y h r t → NamesAreDom any (outside s) d → Range cells r d m →
         Range cells t (substitute_dom (for_name y h) d) m
     range-put p n truths = truths
-    range-put p n (numbers b bs) = numbers b (bounds-put p n bs)
-
-    bounds-put : {r t : Names Bound} {es : Exs} → Puts cells s y h r t → NamesAreExs any (outside s) es → Bounds cells r es →
-        Bounds cells t (substitute_exs (for_name y h) es)
-    bounds-put p n no_bound = no_bound
-    bounds-put p n (one_bound f bs) = one_bound (seen-put p n.0 f) (bounds-put p n.1 bs)
+    range-put p n (numbers f g) = numbers (seen-put p n.0 f) (seen-put p n.1.0 g)
 
 -- ---- an alternative in the place of a source
 
@@ -219,8 +187,8 @@ head-look : (r : Names Bound) (y : Text) (b : Bound) → look ((y, b) ∷ r) y �
 head-look r y b = ap (λ v. if v then Some b else look r y) (same_text-itself y)
 
 -- The item of an alternative serves the name that ran over the source.
-alternative-puts : (cells : Text → Option (Bool × ℕ)) (s : Text → Bool) (r t : Names Bound) (y : Text) (k : Kind) (h : Ex) → Within r t →
-    IsItem cells t h k → AllBound s t → IsTrue (s y) → Puts cells s y h ((y, from_a_set k) ∷ r) t
+alternative-puts : (cells : Text → Option (Bool × List ℕ)) (s : Text → Bool) (r t : Names Bound) (y : Text) (k : Kind) (h : Ex) →
+    Within r t → IsItem cells t h k → AllBound s t → IsTrue (s y) → Puts cells s y h ((y, from_a_set k) ∷ r) t
 alternative-puts cells s r t y k h w i c q = record {
   kind = k;
   bound = head-look r y (from_a_set k);
@@ -233,7 +201,7 @@ alternative-puts cells s r t y k h w i c q = record {
 }
 
 -- So it may stand in the place of the source.
-pub list-put : (cells : Text → Option (Bool × ℕ)) (s : Text → Bool) (r t u : Names Bound) (y : Text) (k : Kind) (ks hs : Gens)
+pub list-put : (cells : Text → Option (Bool × List ℕ)) (s : Text → Bool) (r t u : Names Bound) (y : Text) (k : Kind) (ks hs : Gens)
     (h e : Ex) (m : Bool) → Going cells r ks t → Within r t → IsItem cells t h k → AllBound s t → IsTrue (s y) → BindNone s hs →
     BindsNone s e → Going cells ((y, from_a_set k) ∷ r) hs u → Seen cells u e m → ListPut cells r y h ks hs e m
 list-put cells s r t u y k ks hs h e m g w i c q n b j f =

@@ -1,31 +1,29 @@
--- What operands of a node over views are: each fills a slot of the node, and any others that fill these slots may stand in their place.
-use Rattle.std.proofs.Common.{◌≡◌, refl, ℕ, suc, Bool, true, false, List, [], ◌∷◌, Option}
+-- What operands of a node over views are: each fills a slot of the node, and any others that fill these slots may stand in their place; or
+-- no rule fires at any of them.
+use Rattle.std.proofs.Common.{ℕ, suc, Bool, true, false, List, [], ◌∷◌, Option}
 use Rattle.ess_semantics.specs.declared.words.Op1.{Op1}
 use Rattle.ess_semantics.specs.declared.words.Op2.{Op2}
 use Rattle.ess_semantics.specs.declared.words.Fun.{Fun}
 use Rattle.ess_semantics.specs.Values.{Text}
 use Rattle.ess_semantics.specs.Names.{Names}
-use Rattle.ess_semantics.specs.Trees.{unary, binary, word, Ex, Exs, node_ex, seen_ex, no_exs, more_exs}
-use Rattle.ess_bare_laws.specs.Bare.{TruthWord, all_hold, some_holds}
-use Rattle.ess_bare_laws.specs.Lean.{FoldWord, of_all, of_some, of_sum}
-use Rattle.ess_seen_laws.specs.Seen.{Kind, scalars, sets_of, Bound, is_combined, Places, SetTerm, view, drawn, combined, Seen, number, truth, named, cell, atom, one, two, power, chosen, folded, added, counted, of_items, size, within, set_within, compared, Listed, last_item, item_before, Indices, no_index, one_index, Bounds, no_bound, one_bound}
-use Rattle.ess_seen_laws.specs.SeenParts.{IsIndex, Items, truths_listed, numbers_listed, ones_listed, items_listed}
+use Rattle.ess_semantics.specs.Trees.{both_ends, unary, binary, word, Ex, Exs, node_ex, seen_ex, no_exs, more_exs, Dom, bool_dom, int_dom}
+use Rattle.ess_bare_laws.specs.Lean.{FoldWord}
+use Rattle.ess_seen_laws.specs.Seen.{Kind, scalars, sets_of, Bound, Counted, so_many, from_to, from_0, subsets, none_below, SetTerm, view, drawn, combined, Seen, number, truth, named, counted, figure, flag, atom, one, two, chosen, folded, of_items, size, within, set_within, compared, Listed, last_item, item_before, Indices, no_index, one_index, Range, truths, numbers}
+use Rattle.ess_seen_laws.specs.SeenParts.{Items, gone_through, items_listed}
 use Rattle.ess_seen_laws.proofs.Written.{Written, keeps-written}
+use Rattle.ess_seen_laws.proofs.ViewParts.{AreStill, places-are-still, counted-parts}
 
--- A scalar with a mark, a list of scalars with a mark, a set of members of a kind, the same where the set isn't made of two, or an index.
+-- A scalar with a mark, a list of scalars with a mark, or a set of members of a kind.
 pub data Slot : Type 0 where
   scalar_slot list_slot : Bool → Slot
-  set_slot whole_slot : Kind → Slot
-  index_slot : Slot
+  set_slot : Kind → Slot
 
-module _ (cells : Text → Option (Bool × ℕ)) where
+module _ (cells : Text → Option (Bool × List ℕ)) where
   -- The expression fills the slot.
   abbrev pub Fills : Names Bound → Slot → Ex → Type 0
   Fills r (scalar_slot m) e = Seen cells r e m
   Fills r (list_slot m) e = Items cells r e m
   Fills r (set_slot k) e = SetTerm cells r e k
-  Fills r (whole_slot k) e = SetTerm cells r e k × (is_combined e ≡ false)
-  Fills r index_slot e = IsIndex r e
 
   -- Each of these fills its slot.
   abbrev pub AllFill : Names Bound → List Slot → Exs → Type 0
@@ -36,6 +34,11 @@ module _ (cells : Text → Option (Bool × ℕ)) where
   -- The expressions fill slots, and others that fill them have the property P too.
   abbrev pub Slotted : Names Bound → Exs → (Exs → Type 0) → Type 0
   Slotted r es P = (ks : List Slot) × AllFill r ks es × ((fs : Exs) → AllFill r ks fs → P fs)
+
+  -- Or no rule fires at any of them.
+  pub data Operands (r : Names Bound) (es : Exs) (P : Exs → Type 0) : Type 0 where
+    slotted : Slotted r es P → Operands r es P
+    all_still : AreStill r es → Operands r es P
 
   -- ---- one operand, and two
 
@@ -56,7 +59,7 @@ module _ (cells : Text → Option (Bool × ℕ)) where
 
   -- What is said of the operands of a scalar node, of a set that is made of two, and of a list of items.
   abbrev pub NodeSlots : Names Bound → Ex → Bool → Type 0
-  NodeSlots r (node_ex b op es) m = Slotted r es (λ fs. Seen cells r (node_ex b op fs) m)
+  NodeSlots r (node_ex b op es) m = Operands r es (λ fs. Seen cells r (node_ex b op fs) m)
   NodeSlots r e m = Unit {0}
 
   abbrev pub SetSlots : Names Bound → Ex → Kind → Type 0
@@ -68,95 +71,71 @@ module _ (cells : Text → Option (Bool × ℕ)) where
   ListSlots r e m = Unit {0}
 
   -- A word of a list.
-  fold-again : {r : Names Bound} {f : Fun} → TruthWord f → (x : Ex) (m : Bool) → m ≡ true → Items cells r x m →
-      Seen cells r (node_ex true (word f) (more_exs x no_exs)) true
-  fold-again w x m q (truths_listed g b) = folded w g b
-  fold-again w x m q (numbers_listed g b) = cc
-  fold-again w x m q (ones_listed c) = cc
-  fold-again all_hold x m q (items_listed {m = true} l) = of_items of_all l
-  fold-again some_holds x m q (items_listed {m = true} l) = of_items of_some l
-  fold-again w x m q (items_listed {m = false} l) = cc
+  fold-again : {r : Names Bound} {m : Bool} {f : Fun} → FoldWord m f → (x : Ex) → Items cells r x m →
+      Seen cells r (node_ex m (word f) (more_exs x no_exs)) m
+  fold-again w x (gone_through g b) = folded w g b
+  fold-again w x (items_listed l) = of_items w l
 
-  sum-again : {r : Names Bound} (x : Ex) (m : Bool) → m ≡ false → Items cells r x m →
-      Seen cells r (node_ex false (word Fun.Sum) (more_exs x no_exs)) false
-  sum-again x m q (truths_listed g b) = cc
-  sum-again x m q (numbers_listed g b) = added g b
-  sum-again x m q (ones_listed c) = counted c
-  sum-again x m q (items_listed {m = true} l) = cc
-  sum-again x m q (items_listed {m = false} l) = of_items of_sum l
-
-  fold-slots : {r : Names Bound} {f : Fun} {x : Ex} → TruthWord f → Items cells r x true →
-      Slotted r (more_exs x no_exs) (λ fs. Seen cells r (node_ex true (word f) fs) true)
-  fold-slots {r} {f} w i = (
-    list_slot true ∷ [],
+  fold-slots : {r : Names Bound} {m : Bool} {f : Fun} {x : Ex} → FoldWord m f → Items cells r x m →
+      Operands r (more_exs x no_exs) (λ fs. Seen cells r (node_ex m (word f) fs) m)
+  fold-slots {r} {m} {f} w i = slotted (
+    list_slot m ∷ [],
     (i, tt),
-    one-slot r (list_slot true) (λ fs. Seen cells r (node_ex true (word f) fs) true) (λ x h. fold-again w x true refl h),
+    one-slot r (list_slot m) (λ fs. Seen cells r (node_ex m (word f) fs) m) (λ x h. fold-again w x h),
   )
 
-  sum-slots : {r : Names Bound} {x : Ex} → Items cells r x false →
-      Slotted r (more_exs x no_exs) (λ fs. Seen cells r (node_ex false (word Fun.Sum) fs) false)
-  sum-slots {r} i = (
-    list_slot false ∷ [],
-    (i, tt),
-    one-slot r (list_slot false) (λ fs. Seen cells r (node_ex false (word Fun.Sum) fs) false) (λ x h. sum-again x false refl h),
-  )
+  -- What a number of slots is made of.
+  counted-slots : {e : Ex} {k : ℕ} (r : Names Bound) → Counted e k → NodeSlots r e false
+  counted-slots r so_many = tt
+  counted-slots r (from_to q) = all_still (counted-parts r (from_to q))
+  counted-slots r from_0 = all_still (counted-parts r from_0)
+  counted-slots r (subsets c) = all_still (counted-parts r (subsets c))
+  counted-slots r (none_below c) = all_still (counted-parts r (none_below c))
 
-  items-slots : {r : Names Bound} {m : Bool} {f : Fun} {x : Ex} → FoldWord m f → Items cells r x m →
-      Slotted r (more_exs x no_exs) (λ fs. Seen cells r (node_ex m (word f) fs) m)
-  items-slots of_all i = fold-slots all_hold i
-  items-slots of_some i = fold-slots some_holds i
-  items-slots of_sum i = sum-slots i
-
-  -- The operands of a scalar node fill slots.
+  -- The operands of a scalar node are such.
   pub node-slots : {r : Names Bound} {e : Ex} {m : Bool} → Seen cells r e m → NodeSlots r e m
   node-slots number = tt
   node-slots truth = tt
   node-slots (named h k) = tt
-  node-slots (cell h i) = tt
+  node-slots {r} (counted c) = counted-slots r c
+  node-slots (figure h p) = tt
+  node-slots (flag h i) = tt
   node-slots (atom k p) = tt
-  node-slots {r} (one {b = b} {m = k} {o = o} w f) = (
+  node-slots {r} (one {b = b} {m = k} {o = o} w f) = slotted (
     scalar_slot k ∷ [],
     (f, tt),
     one-slot r (scalar_slot k) (λ fs. Seen cells r (node_ex b (unary o) fs) b) (λ x h. one w h),
   )
-  node-slots {r} (two {b = b} {m = i} {k = k} {o = o} w f h) = (
+  node-slots {r} (two {b = b} {m = i} {k = k} {o = o} w f h) = slotted (
     scalar_slot i ∷ scalar_slot k ∷ [],
     (f, (h, tt)),
     two-slots r (scalar_slot i) (scalar_slot k) (λ fs. Seen cells r (node_ex b (binary o) fs) b) (λ x y p q. two w p q),
   )
-  node-slots {r} (power f h) = (
-    scalar_slot false ∷ scalar_slot false ∷ [],
-    (f, (h, tt)),
-    two-slots r (scalar_slot false) (scalar_slot false) (λ fs. Seen cells r (node_ex false (binary Op2.Pow) fs) false)
-        (λ x y p q. power p q),
-  )
-  node-slots {r} (chosen f) = (
+  node-slots {r} (chosen f) = slotted (
     scalar_slot true ∷ [],
     (f, tt),
     one-slot r (scalar_slot true) (λ fs. Seen cells r (node_ex false (word Fun.ToInt) fs) false) (λ x h. chosen h),
   )
-  node-slots (folded v g f) = fold-slots v (truths_listed g f)
-  node-slots (added g f) = sum-slots (numbers_listed g f)
-  node-slots (counted c) = sum-slots (ones_listed c)
-  node-slots (of_items v l) = items-slots v (items_listed l)
-  node-slots {r} (size {k = k} s n) = (
-    whole_slot k ∷ [],
-    ((s, n), tt),
-    one-slot r (whole_slot k) (λ fs. Seen cells r (node_ex false (unary Op1.Bar) fs) false) (λ x h. size h.0 h.1),
+  node-slots (folded v g f) = fold-slots v (gone_through g f)
+  node-slots (of_items v l) = fold-slots v (items_listed l)
+  node-slots {r} (size {k = k} s) = slotted (
+    set_slot k ∷ [],
+    (s, tt),
+    one-slot r (set_slot k) (λ fs. Seen cells r (node_ex false (unary Op1.Bar) fs) false) (λ x h. size h),
   )
-  node-slots {r} (within {m = m} f s) = (
+  node-slots {r} (within {m = m} f s) = slotted (
     scalar_slot m ∷ set_slot (scalars m) ∷ [],
     (f, (s, tt)),
     two-slots r (scalar_slot m) (set_slot (scalars m)) (λ fs. Seen cells r (node_ex true (binary Op2.Member) fs) true)
         (λ x y p q. within p q),
   )
-  node-slots {r} (set_within {k = k} u v) = (
+  node-slots {r} (set_within {k = k} u v) = slotted (
     set_slot k ∷ set_slot (sets_of k) ∷ [],
     (u, (v, tt)),
     two-slots r (set_slot k) (set_slot (sets_of k)) (λ fs. Seen cells r (node_ex true (binary Op2.Member) fs) true)
         (λ x y p q. set_within p q),
   )
-  node-slots {r} (compared {o = o} {k = k} c u v) = (
+  node-slots {r} (compared {o = o} {k = k} c u v) = slotted (
     set_slot k ∷ set_slot k ∷ [],
     (u, (v, tt)),
     two-slots r (set_slot k) (set_slot k) (λ fs. Seen cells r (node_ex true (binary o) fs) true) (λ x y p q. compared c p q),
@@ -192,12 +171,10 @@ module _ (cells : Text → Option (Bool × ℕ)) where
 
   -- So do those of a list of items.
   pub list-slots : {r : Names Bound} {e : Ex} {m : Bool} → Items cells r e m → ListSlots r e m
-  list-slots (truths_listed g f) = tt
-  list-slots (numbers_listed g f) = tt
-  list-slots (ones_listed c) = tt
+  list-slots (gone_through g f) = tt
   list-slots (items_listed l) = slotted-map (λ fs h. items_listed h) (listed-slots l)
 
-  -- ---- indices and bounds
+  -- ---- indices and ranges
 
   indices-again : {r : Names Bound} {k : ℕ} (m : Bool) (ks : List Slot) → ((fs : Exs) → AllFill r ks fs → Indices cells r fs k) →
       (fs : Exs) → AllFill r (scalar_slot m ∷ ks) fs → Indices cells r fs (suc k)
@@ -214,47 +191,54 @@ module _ (cells : Text → Option (Bool × ℕ)) where
   index-slots (one_index {m = m} f i) =
       let v = index-slots i in (scalar_slot m ∷ v.0, (f, v.1), indices-again m v.0 v.2)
 
-  bounds-again : {r : Names Bound} (ks : List Slot) → ((fs : Exs) → AllFill r ks fs → Bounds cells r fs) →
-      (fs : Exs) → AllFill r (scalar_slot false ∷ ks) fs → Bounds cells r fs
-  bounds-again ks f no_exs h = absurd h
-  bounds-again ks f (more_exs x xs) h = one_bound h.0 (f xs h.1)
+  -- The bounds of a range fill slots.
+  abbrev pub RangeSlots : Names Bound → Dom → Bool → Type 0
+  RangeSlots r bool_dom m = Unit {0}
+  RangeSlots r (int_dom rs es) m = Slotted r es (λ fs. Range cells r (int_dom rs fs) m)
+  RangeSlots r d m = ⊥
 
-  no-bounds-again : {r : Names Bound} → (fs : Exs) → AllFill r [] fs → Bounds cells r fs
-  no-bounds-again no_exs h = no_bound
-  no-bounds-again (more_exs x xs) h = absurd h
-
-  -- Bounds fill slots.
-  pub bound-slots : {r : Names Bound} {es : Exs} → Bounds cells r es → Slotted r es (λ fs. Bounds cells r fs)
-  bound-slots no_bound = ([], tt, no-bounds-again)
-  bound-slots (one_bound f i) = let v = bound-slots i in (scalar_slot false ∷ v.0, (f, v.1), bounds-again v.0 v.2)
+  pub range-slots : {r : Names Bound} {d : Dom} {m : Bool} → Range cells r d m → RangeSlots r d m
+  range-slots truths = tt
+  range-slots {r} (numbers f g) = (
+    scalar_slot false ∷ scalar_slot false ∷ [],
+    (f, (g, tt)),
+    two-slots r (scalar_slot false) (scalar_slot false) (λ fs. Range cells r (int_dom (both_ends ∷ []) fs) false)
+        (λ x y p q. numbers p q),
+  )
 
   -- ---- views
 
-  -- The domain of a view is written, and its indices are such.
+  -- The domain of a view is written, and no rule fires at its indices.
   abbrev pub ViewParts : Names Bound → Ex → Type 0
-  ViewParts r (seen_ex s d ns es) = Written d × (k : ℕ) × Places cells r es k
+  ViewParts r (seen_ex s d ns es) = Written d × AreStill r es
   ViewParts r e = Unit {0}
 
+  counted-view : {e : Ex} {k : ℕ} (r : Names Bound) → Counted e k → ViewParts r e
+  counted-view r so_many = tt
+  counted-view r (from_to q) = tt
+  counted-view r from_0 = tt
+  counted-view r (subsets c) = tt
+  counted-view r (none_below c) = tt
+
   pub atom-parts : {r : Names Bound} {e : Ex} {m : Bool} → Seen cells r e m → ViewParts r e
-  atom-parts (atom {k = k} h p) = (keeps-written h, k, p)
+  atom-parts (atom h p) = (keeps-written h, places-are-still p)
   atom-parts number = tt
   atom-parts truth = tt
   atom-parts (named h k) = tt
-  atom-parts (cell h i) = tt
+  atom-parts {r} (counted c) = counted-view r c
+  atom-parts (figure h p) = tt
+  atom-parts (flag h i) = tt
   atom-parts (one w f) = tt
   atom-parts (two w f h) = tt
-  atom-parts (power f h) = tt
   atom-parts (chosen f) = tt
   atom-parts (folded v g f) = tt
-  atom-parts (added g f) = tt
-  atom-parts (counted c) = tt
   atom-parts (of_items v l) = tt
-  atom-parts (size s n) = tt
+  atom-parts (size s) = tt
   atom-parts (within f s) = tt
   atom-parts (set_within u v) = tt
   atom-parts (compared c u v) = tt
 
   pub set-parts : {r : Names Bound} {e : Ex} {k : Kind} → SetTerm cells r e k → ViewParts r e
-  set-parts (view {k = k} n f h p) = (keeps-written h, k, p)
+  set-parts (view n f h p) = (keeps-written h, places-are-still p)
   set-parts (drawn q) = tt
   set-parts (combined c u v) = tt

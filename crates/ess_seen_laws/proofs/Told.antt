@@ -1,11 +1,11 @@
--- Sets are told apart as they are: a view binds no name, and its indices are numbers and names.
+-- Sets are told apart as they are: a view binds no name, and its indices are names.
 use Rattle.std.proofs.Common.{◌≡◌, refl, ap, ◌∙◌, ℕ, Bool, false, List, [], Option}
 use Rattle.ess_semantics.specs.Values.{Text}
 use Rattle.ess_semantics.specs.Names.{Names}
 use Rattle.ess_semantics.specs.declared.words.Op2.{Op2}
-use Rattle.ess_semantics.specs.Trees.{Repr, Ex, Exs, number_ex, name_ex, seen_ex, more_exs, Dom, set_dom, ex2}
+use Rattle.ess_semantics.specs.Trees.{Repr, Ex, Exs, name_ex, seen_ex, more_exs, Dom, set_dom, ex2}
 use Rattle.conjure_model_laws.specs.ToldApart.{told, told_all}
-use Rattle.ess_seen_laws.specs.Seen.{Kind, Bound, Places, no_place, at_a_number, at_a_name, SetTerm, view, drawn, combined}
+use Rattle.ess_seen_laws.specs.Seen.{Kind, Bound, Places, no_place, at_slot, SetTerm, view, drawn, combined}
 
 abbrev with-first : Ex → Exs × ℕ → Exs × ℕ
 with-first e p = (more_exs e p.0, p.1)
@@ -32,12 +32,11 @@ two-told o s t j p q = ap (behind o t) p ∙ ap (in-front o s) q
     in-front : Op2 → Ex → Ex × ℕ → Ex × ℕ
     in-front o s v = (ex2 false o s v.0, v.1)
 
-module _ (cells : Text → Option (Bool × ℕ)) where
+module _ (cells : Text → Option (Bool × List ℕ)) where
   -- Places are told as they are.
-  pub places-told : {r : Names Bound} {es : Exs} {k : ℕ} → Places cells r es k → (j : ℕ) → told_all es [] j ≡ (es, j)
+  pub places-told : {r : Names Bound} {es : Exs} {ks : List ℕ} → Places cells r es ks → (j : ℕ) → told_all es [] j ≡ (es, j)
   places-told no_place j = refl
-  places-told (at_a_number {i = i} {es = es} p) j = one-more (number_ex i) (told_all es [] j) es j (places-told p j)
-  places-told (at_a_name {a = a} {es = es} q p) j = one-more (name_ex a) (told_all es [] j) es j (places-told p j)
+  places-told (at_slot {a = a} {es = es} q p) j = one-more (name_ex a) (told_all es [] j) es j (places-told p j)
 
   -- So are sets.
   pub set-told : {r : Names Bound} {e : Ex} {k : Kind} → SetTerm cells r e k → (j : ℕ) → told e [] j ≡ (e, j)

@@ -1,22 +1,21 @@
 -- Types of trees over views: of scalars those of their marks, of sets those of their kinds.
-use Rattle.std.proofs.Common.{◌≡◌, refl, ap, ◌∙◌, ℕ, Bool, true, false, if◌then◌else◌, List, [], ◌∷◌, pos, Option, Some, option_map}
+use Rattle.std.proofs.Common.{◌≡◌, refl, ap, ◌∙◌, ℕ, Bool, true, false, List, [], ◌∷◌, Option, Some, option_map}
 use Rattle.ess_semantics.specs.declared.words.Op1.{Op1}
 use Rattle.ess_semantics.specs.declared.words.Op2.{Op2}
 use Rattle.ess_semantics.specs.declared.words.Fun.{Fun}
 use Rattle.ess_semantics.specs.Lists.{and_then, all_some}
 use Rattle.ess_semantics.specs.Values.{Text, a_set, a_matrix}
-use Rattle.ess_semantics.specs.Names.{Names, look}
-use Rattle.ess_semantics.specs.Trees.{unary, binary, word, matrix_literal, Ex, Exs, number_ex, comp_ex, Gens, no_gens, cond, Dom}
+use Rattle.ess_semantics.specs.Names.{Names}
+use Rattle.ess_semantics.specs.Trees.{unary, binary, word, matrix_literal, Ex, Exs, comp_ex, Gens, Dom}
 use Rattle.ess_semantics.specs.Types.{Ty, any_ty, bool_ty, int_ty, compound, no_tys, more_tys, compound1, compound2, join, join_all, type_of_dom, or_any}
 use Rattle.ess_semantics.specs.OperatorTypes.{type_of_op, member_ty, subtracted, united as united_ty, included as included_ty}
-use Rattle.ess_semantics.specs.Typing.{type_of, types_of, types_under, number_cell_ty, source_ty}
+use Rattle.ess_semantics.specs.Typing.{type_of, types_of, types_under, source_ty}
 use Rattle.ess_semantics.specs.NamesAt.{names_behind}
 use Rattle.ess_rules_laws.specs.SourceRules.{list_of}
 use Rattle.ess_flat_laws.specs.Flat.{OneOp, denied, negative, absolute, TwoOp, both, either, implied, agreeing, equal, unequal, below, at_most, above, at_least, sum, difference, product}
-use Rattle.ess_bare_laws.specs.Bare.{TruthWord, all_hold, some_holds}
 use Rattle.ess_bare_laws.specs.Lean.{FoldWord, of_all, of_some, of_sum}
-use Rattle.ess_seen_laws.specs.Seen.{Kind, scalars, sets_of, kind_ty, Bound, from_a_set, bound_types, Combines, united, shared, lessened, Compares, alike, apart, included, properly_included, including, properly_including, as_an_atom, SetTerm, view, drawn, combined, Seen, number, truth, named, cell, atom, one, two, power, chosen, folded, added, counted, of_items, size, within, set_within, compared, Listed, last_item, item_before, Going, at_end, through, among, where_holds, Axes, no_axis, along, Counting, members_of, in_use, Range, truths, numbers}
-use Rattle.ess_seen_laws.specs.SeenParts.{Items, truths_listed, numbers_listed, ones_listed, items_listed}
+use Rattle.ess_seen_laws.specs.Seen.{Kind, scalars, sets_of, kind_ty, Bound, from_a_set, bound_types, Combines, united, shared, lessened, Compares, alike, apart, included, properly_included, including, properly_including, Counted, so_many, from_to, from_0, subsets, none_below, as_an_atom, SetTerm, view, drawn, combined, Seen, number, truth, named, counted, figure, flag, atom, one, two, chosen, folded, of_items, size, within, set_within, compared, Listed, last_item, item_before, Going, at_end, through, through_slots, among, where_holds, Range, truths, numbers}
+use Rattle.ess_seen_laws.specs.SeenParts.{Items, gone_through, items_listed}
 use Rattle.ess_seen_laws.proofs.Lookups.{look-bound, number-cell}
 use Rattle.ess_seen_laws.proofs.Written.{keeps-written, written-type, atom-type}
 
@@ -52,11 +51,6 @@ two-type (at_least {m = false}) = refl
 two-type sum = refl
 two-type difference = refl
 two-type product = refl
-
-truth-type : {f : Fun} → TruthWord f →
-    and_then (all_some (Some (compound2 a_matrix int_ty bool_ty) ∷ [])) (type_of_op (word f)) ≡ Some bool_ty
-truth-type all_hold = refl
-truth-type some_holds = refl
 
 fold-type : {m : Bool} {f : Fun} → FoldWord m f →
     and_then (all_some (Some (compound2 a_matrix int_ty (mark m)) ∷ [])) (type_of_op (word f)) ≡ Some (mark m)
@@ -133,10 +127,6 @@ at-two : (f : List Ty → Option Ty) (t : Option Ty) (u : Ty) (v : Option Ty) (w
 at-two f t u v w q p =
     ap (λ o. and_then (all_some (o ∷ v ∷ [])) f) q ∙ ap (λ o. and_then (all_some (Some u ∷ o ∷ [])) f) p
 
-cell-type : (b : Bool) (t : Ty) → t ≡ int_ty → (if b then bool_ty else t) ≡ mark b
-cell-type true t q = refl
-cell-type false t q = q
-
 -- A comprehension, by what its generators bind.
 list-type : (o : Option (Names Ty)) (h : Names Ty) (e : Ex) (t : Ty) → o ≡ Some h → type_of e h ≡ Some t →
     and_then o (λ g. option_map (compound2 a_matrix int_ty) (type_of e g)) ≡ Some (compound2 a_matrix int_ty t)
@@ -157,11 +147,24 @@ where-type : (o : Option Ty) (n : Option (Names Ty)) → o ≡ Some bool_ty →
 where-type o n q = ap (λ v. and_then v (λ t. and_then (join t bool_ty) (λ u. n))) q
 
 -- The type of what a domain of a generator binds.
-pub range-type : {cells : Text → Option (Bool × ℕ)} (r : Names Bound) (d : Dom) (m : Bool) → Range cells r d m → type_of_dom d ≡ mark m
+pub range-type : {cells : Text → Option (Bool × List ℕ)} (r : Names Bound) (d : Dom) (m : Bool) → Range cells r d m → type_of_dom d ≡ mark m
 range-type r d m truths = refl
-range-type r d m (numbers b es) = refl
+range-type r d m (numbers f g) = refl
 
-module _ (cells : Text → Option (Bool × ℕ)) where
+-- A number of slots is a number.
+pub counted-type : {e : Ex} {n : ℕ} → Counted e n → (g : Names Ty) → type_of e g ≡ Some int_ty
+counted-type so_many g = refl
+counted-type (from_to q) g = refl
+counted-type from_0 g = refl
+counted-type (subsets {t = t} c) g =
+    at-two (type_of_op (binary Op2.Pow)) (Some int_ty) int_ty (type_of t g) int_ty refl (counted-type c g)
+counted-type (none_below {t = t} c) g =
+    at-one (type_of_op (word Fun.Max)) (and_then (all_some (type_of t g ∷ Some int_ty ∷ [])) (type_of_op matrix_literal))
+    (compound2 a_matrix int_ty int_ty)
+    (listed-ty (type_of t g ∷ Some int_ty ∷ []) false
+    (before-types (type_of t g) (Some int_ty ∷ []) false (counted-type c g) (last-types (Some int_ty) false refl)))
+
+module _ (cells : Text → Option (Bool × List ℕ)) where
   -- The type of a set is that of sets of its kind.
   pub set-type : {r : Names Bound} {e : Ex} {k : Kind} → SetTerm cells r e k →
       type_of e (bound_types r) ≡ Some (compound1 a_set (kind_ty k))
@@ -177,30 +180,23 @@ module _ (cells : Text → Option (Bool × ℕ)) where
     seen-type number = refl
     seen-type truth = refl
     seen-type {r} (named {a = a} {b = b} q k) = look-bound r a b q ∙ ap (λ j. Some (kind_ty j)) k
-    seen-type {r} (cell {b = b} {n = n} q i) = ap Some (cell-type b (number_cell_ty (look (bound_types r) n)) (number-cell r n))
+    seen-type {r} (counted c) = counted-type c (bound_types r)
+    seen-type {r} (figure {n = n} q p) = ap Some (number-cell r n)
+    seen-type (flag q i) = refl
     seen-type (atom {d = d} (as_an_atom h q) p) = ap Some (atom-type d h)
     seen-type {r} (one {m = k} {o = o} {x = x} w f) =
         at-one (type_of_op (unary o)) (type_of x (bound_types r)) (mark k) (seen-type f) ∙ one-type w
     seen-type {r} (two {m = i} {k = k} {o = o} {x = x} {y = y} w f g) =
         at-two (type_of_op (binary o)) (type_of x (bound_types r)) (mark i) (type_of y (bound_types r)) (mark k) (seen-type f) (seen-type g)
         ∙ two-type w
-    seen-type {r} (power {x = x} {y = y} f g) =
-        at-two (type_of_op (binary Op2.Pow)) (type_of x (bound_types r)) int_ty (type_of y (bound_types r)) int_ty
-        (seen-type f) (seen-type g)
     seen-type {r} (chosen {x = x} f) = at-one (type_of_op (word Fun.ToInt)) (type_of x (bound_types r)) bool_ty (seen-type f)
-    seen-type {r} (folded {t = t} {f = w} {e = e} {gs = gs} v g f) =
-        at-one (type_of_op (word w)) (type_of (comp_ex e gs) (bound_types r)) (compound2 a_matrix int_ty bool_ty)
-        (list-type (types_under gs (bound_types r)) (bound_types t) e bool_ty (going-under g) (seen-type f)) ∙ truth-type v
-    seen-type {r} (added {t = t} {e = e} {gs = gs} g f) =
-        at-one (type_of_op (word Fun.Sum)) (type_of (comp_ex e gs) (bound_types r)) (compound2 a_matrix int_ty int_ty)
-        (list-type (types_under gs (bound_types r)) (bound_types t) e int_ty (axes-under g) (seen-type f))
-    seen-type {r} (counted {gs = gs} c) =
-        at-one (type_of_op (word Fun.Sum)) (type_of (comp_ex (number_ex (pos 1)) gs) (bound_types r)) (compound2 a_matrix int_ty int_ty)
-        (counting-type c)
+    seen-type {r} (folded {t = t} {m = m} {f = w} {e = e} {gs = gs} v g f) =
+        at-one (type_of_op (word w)) (type_of (comp_ex e gs) (bound_types r)) (compound2 a_matrix int_ty (mark m))
+        (list-type (types_under gs (bound_types r)) (bound_types t) e (mark m) (going-under g) (seen-type f)) ∙ fold-type v
     seen-type {r} (of_items {m = m} {f = w} {es = es} v l) =
         at-one (type_of_op (word w)) (type_of (list_of es) (bound_types r)) (compound2 a_matrix int_ty (mark m))
         (listed-ty (types_of es (bound_types r)) m (listed-types l)) ∙ fold-type v
-    seen-type {r} (size {k = k} {s = s} v n) =
+    seen-type {r} (size {k = k} {s = s} v) =
         at-one (type_of_op (unary Op1.Bar)) (type_of s (bound_types r)) (compound1 a_set (kind_ty k)) (set-type v)
     seen-type {r} (within {m = m} {a = a} {s = s} f v) =
         at-two (type_of_op (binary Op2.Member)) (type_of a (bound_types r)) (mark m) (type_of s (bound_types r)) (compound1 a_set (mark m))
@@ -223,34 +219,17 @@ module _ (cells : Text → Option (Bool × ℕ)) where
     going-under at_end = refl
     going-under {r} (through {m = m} {a = a} {d = d} {gs = gs} n g) =
         ap (λ t. types_under gs ((a, t) ∷ bound_types r)) (range-type r d m n) ∙ going-under g
+    going-under (through_slots c g) = going-under g
     going-under {r} (among {k = k} {a = a} {s = s} {gs = gs} v g) =
         under-type (type_of s (bound_types r)) k (λ t. types_under gs ((a, t) ∷ bound_types r)) (set-type v) ∙ going-under g
     going-under {r} (where_holds {c = c} {gs = gs} f g) =
         where-type (type_of c (bound_types r)) (types_under gs (bound_types r)) (seen-type f) ∙ going-under g
 
-    axes-under : {r t : Names Bound} {gs : Gens} → Axes cells r gs t → types_under gs (bound_types r) ≡ Some (bound_types t)
-    axes-under no_axis = refl
-    axes-under {r} (along {m = m} {a = a} {d = d} {gs = gs} n g) =
-        ap (λ t. types_under gs ((a, t) ∷ bound_types r)) (range-type r d m n) ∙ axes-under g
-
-    counting-type : {r : Names Bound} {gs : Gens} → Counting cells r gs →
-        and_then (types_under gs (bound_types r)) (λ h. Some (compound2 a_matrix int_ty int_ty)) ≡ Some (compound2 a_matrix int_ty int_ty)
-    counting-type {r} (members_of {k = k} {a = a} {s = s} v n) =
-        ap (λ o. and_then o (λ h. Some (compound2 a_matrix int_ty int_ty)))
-        (under-type (type_of s (bound_types r)) k (λ t. Some ((a, t) ∷ bound_types r)) (set-type v))
-    counting-type {r} (in_use {m = m} {a = a} {d = d} {c = c} n f) =
-        ap (λ o. and_then o (λ h. Some (compound2 a_matrix int_ty int_ty)))
-        (ap (λ t. types_under (cond c no_gens) ((a, t) ∷ bound_types r)) (range-type r d m n)
-        ∙ where-type (type_of c ((a, mark m) ∷ bound_types r)) (Some ((a, mark m) ∷ bound_types r)) (seen-type f))
-
   -- The type of a list is that of lists of its items.
   pub items-type : {r : Names Bound} {e : Ex} {m : Bool} → Items cells r e m →
       type_of e (bound_types r) ≡ Some (compound2 a_matrix int_ty (mark m))
-  items-type {r} (truths_listed {t = t} {e = e} {gs = gs} g f) =
-      list-type (types_under gs (bound_types r)) (bound_types t) e bool_ty (going-under g) (seen-type f)
-  items-type {r} (numbers_listed {t = t} {e = e} {gs = gs} g f) =
-      list-type (types_under gs (bound_types r)) (bound_types t) e int_ty (axes-under g) (seen-type f)
-  items-type (ones_listed c) = counting-type c
+  items-type {r} (gone_through {t = t} {m = m} {e = e} {gs = gs} g f) =
+      list-type (types_under gs (bound_types r)) (bound_types t) e (mark m) (going-under g) (seen-type f)
   items-type {r} (items_listed {m = m} {es = es} l) = listed-ty (types_of es (bound_types r)) m (listed-types l)
 
   -- So are the types of names behind generators.
@@ -258,14 +237,10 @@ module _ (cells : Text → Option (Bool × ℕ)) where
   going-behind at_end = refl
   going-behind {r} (through {m = m} {a = a} {d = d} {gs = gs} n g) =
       ap (λ t. names_behind gs ((a, t) ∷ bound_types r)) (range-type r d m n) ∙ going-behind g
+  going-behind (through_slots c g) = going-behind g
   going-behind {r} (among {k = k} {a = a} {s = s} {gs = gs} v g) =
       ap (λ t. names_behind gs ((a, t) ∷ bound_types r)) (source-type (type_of s (bound_types r)) k (set-type v)) ∙ going-behind g
   going-behind (where_holds f g) = going-behind g
-
-  -- Axes are generators.
-  pub axes-going : {r t : Names Bound} {gs : Gens} → Axes cells r gs t → Going cells r gs t
-  axes-going no_axis = at_end
-  axes-going (along n g) = through n (axes-going g)
 
   -- What a source gives to a name is of the kind of its members.
   pub source-said : {r : Names Bound} {e : Ex} {k : Kind} → SetTerm cells r e k → source_ty e (bound_types r) ≡ kind_ty k

@@ -15,13 +15,14 @@ pub data Written : Dom → Type 0 where
   set_written : {ms : List Mark} {es : Exs} {d : Dom} → are_written_sizes ms es ≡ true → Written d → Written (set_dom ms es d)
 
 -- What tables keep is such a domain.
-pub keeps-written : {cells : Text → Option (Bool × ℕ)} {k : ℕ} {r : Repr} {d : Dom} {ns : List Text} → Keeps cells k r d ns → Written d
+pub keeps-written : {cells : Text → Option (Bool × List ℕ)} {ks : List ℕ} {r : Repr} {d : Dom} {ns : List Text} → Keeps cells ks r d ns →
+    Written d
 keeps-written (as_an_atom a q) = atom_written a
-keeps-written (by_occurrence s a q) = set_written s (atom_written a)
-keeps-written (with_a_dummy s a b q) = set_written s (atom_written a)
-keeps-written (in_slots s k) = set_written s (keeps-written k)
-keeps-written (with_a_marker s q k) = set_written s (keeps-written k)
-keeps-written (with_flags s q k) = set_written s (keeps-written k)
+keeps-written (by_occurrence k s a q) = set_written s (atom_written a)
+keeps-written (with_a_dummy s a b c q) = set_written s (atom_written a)
+keeps-written (in_slots s c k) = set_written s (keeps-written k)
+keeps-written (with_a_marker s c q k) = set_written s (keeps-written k)
+keeps-written (with_flags s c q k) = set_written s (keeps-written k)
 
 -- ---- types
 

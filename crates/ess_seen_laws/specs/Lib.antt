@@ -10,3 +10,5 @@ pub mod Laws
 pub mod MayFire
 -- Names told apart
 pub mod Apart
+-- Tables with a number at each slot
+pub mod Filled

@@ -1,12 +1,12 @@
 -- A term in the place of a name that was bound over the members of a set.
-use Rattle.std.specs.Prelude.{◌≡◌, ℕ, Bool, true, false, not, Option, Some, IsTrue}
+use Rattle.std.specs.Prelude.{◌≡◌, ℕ, Bool, true, false, not, Option, Some, IsTrue, List}
 use Rattle.ess_semantics.specs.Values.{Text}
 use Rattle.ess_semantics.specs.Order.{same_text}
 use Rattle.ess_semantics.specs.Names.{Names, look}
 use Rattle.ess_semantics.specs.Trees.{Ex, Gens}
 use Rattle.ess_semantics.specs.Substitution.{substitute, substitute_gens, for_name, NamesAre, NamesAreGens}
 use Rattle.ess_rules_laws.specs.SpliceRules.{append_gens}
-use Rattle.ess_seen_laws.specs.Seen.{Kind, scalars, sets_of, Bound, from_a_set, is_combined, SetTerm, Seen, Going}
+use Rattle.ess_seen_laws.specs.Seen.{Kind, scalars, sets_of, Bound, from_a_set, SetTerm, Seen, Going}
 use Rattle.ess_seen_laws.specs.SeenParts.{AllBound}
 
 -- Each name that r binds, t binds so too.
@@ -20,11 +20,11 @@ BindsNone s e = NamesAre (λ a. true) (λ a. not (s a)) e
 abbrev pub BindNone : (Text → Bool) → Gens → Type 0
 BindNone s gs = NamesAreGens (λ a. true) (λ a. not (s a)) gs
 
-module _ (cells : Text → Option (Bool × ℕ)) where
-  -- A scalar, or a set that isn't made of two, as a member of this kind.
+module _ (cells : Text → Option (Bool × List ℕ)) where
+  -- A scalar or a set as a member of this kind.
   abbrev pub IsItem : Names Bound → Ex → Kind → Type 0
   IsItem r h (scalars m) = Seen cells r h m
-  IsItem r h (sets_of k) = SetTerm cells r h k × (is_combined h ≡ false)
+  IsItem r h (sets_of k) = SetTerm cells r h k
 
   -- Among r the name y is bound over members of a kind, and h is such a member where the names `base` are bound. The other names of r, and
   -- those of `base`, are bound among t too; s has y and the names of `base`.

@@ -2,7 +2,7 @@
 
 ghost use Rattle.ess_seen_laws.specs.Laws.{PartsOfSeenTrees, SeenTreesHaveTypes, SeenTreesStayAmongMore, MembersMayBePut, SetsStayAsTheyAre, NamesOfSeenTrees};
 
-/// A part of such a tree is a scalar that may be replaced, a set, a list or an index.
+/// A part of such a tree is a scalar that may be replaced, a set, a list, or one at which no rule fires.
 pub fn parts_of_seen_trees()
     ensures { PartsOfSeenTrees }
 {}

@@ -4,11 +4,12 @@ use Rattle.ess_semantics.specs.declared.words.Op1.{Op1}
 use Rattle.ess_semantics.specs.declared.words.Op2.{Op2}
 use Rattle.ess_semantics.specs.declared.words.Fun.{Fun}
 use Rattle.ess_semantics.specs.declared.words.ReprKind.{ReprKind}
-use Rattle.ess_semantics.specs.Trees.{both_ends, repr, no_reprs, more_reprs, name_pat, Ex, number_ex, name_ex, comp_ex, cell_ex, seen_ex, no_exs, more_exs, no_gens, over, from, cond, Dom, bool_dom, int_dom, set_dom, ex1, ex2, fun1}
-use Rattle.ess_refine_laws.specs.AllRules.{Supply}
+use Rattle.ess_semantics.specs.Trees.{both_ends, repr, no_reprs, more_reprs, name_pat, Ex, number_ex, name_ex, comp_ex, cell_ex, seen_ex, no_exs, more_exs, Gens, no_gens, over, from, cond, Dom, bool_dom, int_dom, set_dom, ex1, ex2, fun1}
+use Rattle.ess_rules_laws.specs.SourceRules.{list_of}
+use Rattle.ess_refine_laws.specs.AllRules.{Supply, condition, rewrite}
 use Rattle.ess_kind_rules_laws.specs.KindRules.{of_one_view, size_at_the_marker, kind_rewrite}
 use Rattle.ess_refine_laws.specs.SpellingEnds.{numbers_of_tree}
-use Rattle.ess_seen_names_laws.specs.Shapes.{no_numeral, of_numbers, no_step, up_to_the_marker, by_a_view, Shape, marker_of, alone}
+use Rattle.ess_seen_names_laws.specs.Shapes.{no_numeral, of_numbers, no_step, up_to_the_marker, by_a_view, Shape, leaving, marker_of, alone}
 
 -- Sets of numbers from 1 to 9, in the tables "m" and "c".
 abbrev members : Dom
@@ -56,3 +57,36 @@ numbers_before = refl
 
 numbers_behind : numbers_of_tree laid_open ≡ pos 1 ∷ pos 9 ∷ pos 5 ∷ pos 1 ∷ pos 9 ∷ []
 numbers_behind = refl
+
+-- `sum([2 ** c[x] | x : int(1..9), x <= m])` becomes `sum([toInt(x <= m) * sum([2 ** max([c[x], 0])]) | x : int(1..9)])`, where c[x] and m
+-- are cells: what is added has a value also where the condition doesn't hold.
+abbrev in_use : Ex
+in_use = ex2 true Op2.Le (name_ex (codes "x")) (cell_ex false (codes "m") no_exs)
+
+abbrev cell : Ex
+cell = cell_ex false (codes "c") (more_exs (name_ex (codes "x")) no_exs)
+
+abbrev slots : Gens
+slots = over (name_pat (codes "x")) members no_gens
+
+abbrev sum_under : Ex
+sum_under = fun1 false Fun.Sum (comp_ex (ex2 false Op2.Pow (number_ex (pos 2)) cell)
+    (over (name_pat (codes "x")) members (cond in_use no_gens)))
+
+abbrev sum_of_choices : Ex
+sum_of_choices = fun1 false Fun.Sum (comp_ex (ex2 false Op2.Times (fun1 false Fun.ToInt in_use)
+    (fun1 false Fun.Sum (comp_ex (ex2 false Op2.Pow (number_ex (pos 2))
+    (fun1 false Fun.Max (list_of (more_exs cell (more_exs (number_ex (pos 0)) no_exs))))) no_gens))) slots)
+
+condition_leaves_sum : rewrite taken [] condition sum_under ≡ Some sum_of_choices
+condition_leaves_sum = refl
+
+leaving_shape : Shape (codes "y") sum_under sum_of_choices
+leaving_shape = leaving slots in_use no_gens
+
+-- It spells 0, as said.
+numbers_of_sum : numbers_of_tree sum_under ≡ pos 2 ∷ pos 1 ∷ pos 9 ∷ []
+numbers_of_sum = refl
+
+numbers_of_choices : numbers_of_tree sum_of_choices ≡ pos 2 ∷ pos 0 ∷ pos 1 ∷ pos 9 ∷ []
+numbers_of_choices = refl

@@ -4,11 +4,13 @@ pub mod SaidOfTrees
 -- Sizes
 pub mod SizeTerms
 -- What rules make: its numbers and names, and scopes
+pub mod ConditionsHave
 pub mod ShapesHave
 pub mod PutScoped
 pub mod NewNames
 pub mod ViewsScoped
 pub mod OffersScoped
+pub mod ConditionsScoped
 pub mod ShapesScoped
 -- Parts
 pub mod AtParts

@@ -1,5 +1,5 @@
 -- What sets in trees over views offer as sources: views their members by their kind, and sets made of two by the members of both. Domains
--- of views are nested and their indices numerals and names.
+-- of views are nested and their indices names.
 use Rattle.std.proofs.Common.{◌≡◌, ℕ, Bool, true, false, if◌then◌else◌, List, [], ◌∷◌, Option, Some, None}
 use Rattle.ess_semantics.specs.declared.words.Op1.{Op1}
 use Rattle.ess_semantics.specs.declared.words.Op2.{Op2}
@@ -16,8 +16,8 @@ use Rattle.ess_kind_rules_laws.specs.ViewListings.{view_listing}
 use Rattle.ess_open_rules_laws.specs.OpenSources.{all_offered}
 use Rattle.ess_nested_laws.specs.NestedDomains.{are_written_sizes, is_written_atom}
 use Rattle.ess_nested_laws.proofs.NestedForms.{no-yes, Sizes, no_sizes, one_size, sizes-form, WrittenAtom, written_truths, written_numbers, atom-form}
-use Rattle.ess_seen_laws.specs.Seen.{Kind, Bound, Keeps, as_an_atom, by_occurrence, with_a_dummy, in_slots, with_a_marker, with_flags, Places, no_place, at_a_number, at_a_name, united, shared, lessened, SetTerm, view, drawn, combined}
-use Rattle.ess_seen_names_laws.specs.Shapes.{Numerals, no_numeral, numeral, Written, of_truths, of_numbers, of_sets, Steps, no_step, to_a_number, to_a_name, Laid, that_occur, but_the_dummy, in_all_slots, up_to_the_marker, where_flagged, of_the_first, else_of_the_second, of_both, of_the_first_alone, by_a_view, by_two, AllOffered}
+use Rattle.ess_seen_laws.specs.Seen.{Kind, Bound, Keeps, as_an_atom, by_occurrence, with_a_dummy, in_slots, with_a_marker, with_flags, Places, no_place, at_slot, united, shared, lessened, SetTerm, view, drawn, combined}
+use Rattle.ess_seen_names_laws.specs.Shapes.{Numerals, no_numeral, numeral, Written, of_truths, of_numbers, of_sets, Steps, no_step, to_a_name, Laid, that_occur, but_the_dummy, in_all_slots, up_to_the_marker, where_flagged, of_the_first, else_of_the_second, of_both, of_the_first_alone, by_a_view, by_two, AllOffered}
 
 -- ---- domains and indices
 
@@ -55,30 +55,29 @@ pub atom-view : {d : Dom} → WrittenAtom d → (p : Repr) (ns : List Text) (js 
 atom-view written_truths p ns js = tt
 atom-view written_numbers p ns js = tt
 
-module _ (cells : Text → Option (Bool × ℕ)) where
-  -- Places are numerals and names.
-  pub places-steps : {r : Names Bound} {es : Exs} {k : ℕ} → Places cells r es k → Steps es
+module _ (cells : Text → Option (Bool × List ℕ)) where
+  -- Places are names.
+  pub places-steps : {r : Names Bound} {es : Exs} {ks : List ℕ} → Places cells r es ks → Steps es
   places-steps no_place = no_step
-  places-steps (at_a_number p) = to_a_number (places-steps p)
-  places-steps (at_a_name h p) = to_a_name (places-steps p)
+  places-steps (at_slot h p) = to_a_name (places-steps p)
 
   -- Domains that are kept are written ones.
-  kept-written : {k : ℕ} {p : Repr} {d : Dom} {ns : List Text} → Keeps cells k p d ns → Written d
+  kept-written : {ks : List ℕ} {p : Repr} {d : Dom} {ns : List Text} → Keeps cells ks p d ns → Written d
   kept-written (as_an_atom {d = d} h c) = written-atom d h
-  kept-written (by_occurrence {ms = ms} {es = es} {d = d} s h c) = of_sets (written-sizes ms es s) (written-atom d h)
-  kept-written (with_a_dummy {ms = ms} {es = es} {d = d} s h b c) = of_sets (written-sizes ms es s) (written-atom d h)
-  kept-written (in_slots {ms = ms} {es = es} s k) = of_sets (written-sizes ms es s) (kept-written k)
-  kept-written (with_a_marker {ms = ms} {es = es} s c k) = of_sets (written-sizes ms es s) (kept-written k)
-  kept-written (with_flags {ms = ms} {es = es} s c k) = of_sets (written-sizes ms es s) (kept-written k)
+  kept-written (by_occurrence n {ms = ms} {es = es} {d = d} s h c) = of_sets (written-sizes ms es s) (written-atom d h)
+  kept-written (with_a_dummy {ms = ms} {es = es} {d = d} s h b n c) = of_sets (written-sizes ms es s) (written-atom d h)
+  kept-written (in_slots {ms = ms} {es = es} s n k) = of_sets (written-sizes ms es s) (kept-written k)
+  kept-written (with_a_marker {ms = ms} {es = es} s n c k) = of_sets (written-sizes ms es s) (kept-written k)
+  kept-written (with_flags {ms = ms} {es = es} s n c k) = of_sets (written-sizes ms es s) (kept-written k)
 
   -- So are their sizes, where the domain is one of sets.
-  pub kept-sets : {k : ℕ} {p : Repr} {d : Dom} {ns : List Text} → Keeps cells k p d ns → OfSets d
+  pub kept-sets : {ks : List ℕ} {p : Repr} {d : Dom} {ns : List Text} → Keeps cells ks p d ns → OfSets d
   kept-sets (as_an_atom {d = d} h c) = atom-sets (atom-form d h)
-  kept-sets (by_occurrence {ms = ms} {es = es} {d = d} s h c) = (written-sizes ms es s, written-atom d h)
-  kept-sets (with_a_dummy {ms = ms} {es = es} {d = d} s h b c) = (written-sizes ms es s, written-atom d h)
-  kept-sets (in_slots {ms = ms} {es = es} s k) = (written-sizes ms es s, kept-written k)
-  kept-sets (with_a_marker {ms = ms} {es = es} s c k) = (written-sizes ms es s, kept-written k)
-  kept-sets (with_flags {ms = ms} {es = es} s c k) = (written-sizes ms es s, kept-written k)
+  kept-sets (by_occurrence n {ms = ms} {es = es} {d = d} s h c) = (written-sizes ms es s, written-atom d h)
+  kept-sets (with_a_dummy {ms = ms} {es = es} {d = d} s h b n c) = (written-sizes ms es s, written-atom d h)
+  kept-sets (in_slots {ms = ms} {es = es} s n k) = (written-sizes ms es s, kept-written k)
+  kept-sets (with_a_marker {ms = ms} {es = es} s n c k) = (written-sizes ms es s, kept-written k)
+  kept-sets (with_flags {ms = ms} {es = es} s n c k) = (written-sizes ms es s, kept-written k)
 
   -- ---- what a source offers
 
@@ -95,16 +94,16 @@ module _ (cells : Text → Option (Bool × ℕ)) where
   -- What a set offers by the kind of a view.
   pub set-laid : {r : Names Bound} {t : Ex} {k : Kind} → SetTerm cells r t k → (x y : Text) (zs : List Text) →
       OneLaid x t (view_listing x y zs t)
-  set-laid (view n f (as_an_atom h c) p) x y zs = absurd (no-yes h)
-  set-laid (view n f (by_occurrence {ms = ms} {es = es} {d = d} s h c) p) x y zs =
+  set-laid (view u f (as_an_atom h c) p) x y zs = absurd (no-yes h)
+  set-laid (view u f (by_occurrence n {ms = ms} {es = es} {d = d} s h c) p) x y zs =
       that_occur (written-sizes ms es s) (written-atom d h) (places-steps p)
-  set-laid (view n f (with_a_dummy {ms = ms} {es = es} {d = d} s h b c) p) x y zs =
+  set-laid (view u f (with_a_dummy {ms = ms} {es = es} {d = d} s h b n c) p) x y zs =
       but_the_dummy (written-sizes ms es s) (written-atom d h) (places-steps p)
-  set-laid (view n f (in_slots {ms = ms} {es = es} s k) p) x y zs =
+  set-laid (view u f (in_slots {ms = ms} {es = es} s n k) p) x y zs =
       in_all_slots (written-sizes ms es s) (kept-written k) (places-steps p)
-  set-laid (view n f (with_a_marker {ms = ms} {es = es} s c k) p) x y zs =
+  set-laid (view u f (with_a_marker {ms = ms} {es = es} s n c k) p) x y zs =
       up_to_the_marker (written-sizes ms es s) (kept-written k) (places-steps p)
-  set-laid (view n f (with_flags {ms = ms} {es = es} s c k) p) x y zs =
+  set-laid (view u f (with_flags {ms = ms} {es = es} s n c k) p) x y zs =
       where_flagged (written-sizes ms es s) (kept-written k) (places-steps p)
   set-laid (drawn h) x y zs = tt
   set-laid (combined united h k) x y zs = tt
@@ -154,16 +153,16 @@ module _ (cells : Text → Option (Bool × ℕ)) where
   -- Whatever tells what it offers.
   pub set-offered : {r : Names Bound} {t : Ex} {k : Kind} → SetTerm cells r t k → (s : Supply) (g : Names Ty) →
       SomeOffered s.one t (all_offered s g t)
-  set-offered (view n f (as_an_atom h c) p) s g = absurd (no-yes h)
-  set-offered (view n f (by_occurrence {ms = ms} {es = es} {d = d} w h c) p) s g =
+  set-offered (view u f (as_an_atom h c) p) s g = absurd (no-yes h)
+  set-offered (view u f (by_occurrence n {ms = ms} {es = es} {d = d} w h c) p) s g =
       (by_a_view (that_occur (written-sizes ms es w) (written-atom d h) (places-steps p)), tt)
-  set-offered (view n f (with_a_dummy {ms = ms} {es = es} {d = d} w h b c) p) s g =
+  set-offered (view u f (with_a_dummy {ms = ms} {es = es} {d = d} w h b n c) p) s g =
       (by_a_view (but_the_dummy (written-sizes ms es w) (written-atom d h) (places-steps p)), tt)
-  set-offered (view n f (in_slots {ms = ms} {es = es} w k) p) s g =
+  set-offered (view u f (in_slots {ms = ms} {es = es} w n k) p) s g =
       (by_a_view (in_all_slots (written-sizes ms es w) (kept-written k) (places-steps p)), tt)
-  set-offered (view n f (with_a_marker {ms = ms} {es = es} w c k) p) s g =
+  set-offered (view u f (with_a_marker {ms = ms} {es = es} w n c k) p) s g =
       (by_a_view (up_to_the_marker (written-sizes ms es w) (kept-written k) (places-steps p)), tt)
-  set-offered (view n f (with_flags {ms = ms} {es = es} w c k) p) s g =
+  set-offered (view u f (with_flags {ms = ms} {es = es} w n c k) p) s g =
       (by_a_view (where_flagged (written-sizes ms es w) (kept-written k) (places-steps p)), tt)
   set-offered (drawn h) s g = tt
   set-offered (combined {s = a} {t = b} united h k) s g =

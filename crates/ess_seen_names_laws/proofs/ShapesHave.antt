@@ -3,17 +3,16 @@ use Rattle.std.proofs.Common.{◌≡◌, Bool, true, List, [], ◌∷◌, ℤ, p
 use Rattle.std.specs.Prelude.{IsTrue}
 use Rattle.ess_semantics.specs.declared.words.Fun.{Fun}
 use Rattle.ess_semantics.specs.Values.{Text}
-use Rattle.ess_semantics.specs.Trees.{Ex, name_ex, comp_ex, no_exs, more_exs, Gens, fun1, set_dom}
+use Rattle.ess_semantics.specs.Trees.{Ex, name_ex, comp_ex, no_exs, more_exs, Gens, cond, fun1, set_dom}
 use Rattle.ess_semantics.specs.Substitution.{substitute, substitute_gens, for_name}
 use Rattle.ess_repr_declare_laws.specs.SizeTerms.{slots_ex}
 use Rattle.ess_rules_laws.specs.SpliceRules.{append_gens}
 use Rattle.ess_rules_laws.specs.SlotListings.{slots_dom}
 use Rattle.ess_rules_laws.specs.Listings.{Alternative}
 use Rattle.ess_rules_laws.specs.ListedSources.{each_put}
-use Rattle.ess_refine_laws.specs.LeavingConditions.{under_condition}
-use Rattle.ess_bare_laws.specs.Bare.{TruthWord, all_hold, some_holds}
-use Rattle.ess_seen_names_laws.specs.Shapes.{Laid, that_occur, but_the_dummy, in_all_slots, up_to_the_marker, where_flagged, Drawn, of_the_first, else_of_the_second, of_both, of_the_first_alone, Offered, by_a_view, by_two, AllOffered, Shape, one_item, one_binding, implied, both, size, member, different, turned_round, turned_strictly, strictly_included, equal, included, in_a_union, in_both, in_the_first_alone, chosen_twice, chosen_once, leaving, counting, cell_of, flag_of, marker_of, slots_of, in_a_list, alone, opened, nested}
+use Rattle.ess_seen_names_laws.specs.Shapes.{Laid, that_occur, but_the_dummy, in_all_slots, up_to_the_marker, where_flagged, Drawn, of_the_first, else_of_the_second, of_both, of_the_first_alone, Offered, by_a_view, by_two, AllOffered, Shape, one_item, one_binding, implied, both, size, member, different, turned_round, turned_strictly, strictly_included, equal, included, in_a_union, in_both, in_the_first_alone, chosen_twice, chosen_once, leaving, cell_of, flag_of, marker_of, slots_of, in_a_list, alone, opened, nested}
 use Rattle.ess_seen_names_laws.proofs.Has.{Has, AllHave, GensHave, DomHas, put-has, put-gens, for-has, append-have, parts-have, last-has, append-all}
+use Rattle.ess_seen_names_laws.proofs.ConditionsHave.{under-has}
 use Rattle.ess_seen_names_laws.proofs.SizeTerms.{Term, one, two, slots-term, dummy-term}
 
 module _ (q : ℤ → Bool) (u : Text → Bool) where
@@ -79,10 +78,6 @@ module _ (q : ℤ → Bool) (u : Text → Bool) where
     each-has m w y i t hs (a ∷ l) o h j k =
         let z = offered-has o.0 h in ((put-in y a.item i a.gens hs z.1 z.0 j k, tt), each-has m w y i t hs l o.1 h j k)
 
-    under-has : {w : Fun} → TruthWord w → (c i : Ex) → Has q u c → Has q u i → Has q u (under_condition w c i)
-    under-has all_hold c i h k = (h, (k, tt))
-    under-has some_holds c i h k = (h, (k, tt))
-
     -- What a rule makes.
     pub shape-has : {e f : Ex} → Shape x e f → Has q u e → Has q u f
     shape-has one_item h = h.0.0
@@ -102,10 +97,9 @@ module _ (q : ℤ → Bool) (u : Text → Bool) where
     shape-has in_the_first_alone h = ((h.0, (h.1.0.0, tt)), (((h.0, (h.1.0.1.0, tt)), tt), tt))
     shape-has chosen_twice h = ((h.0.0, (h.1.0.0, tt)), tt)
     shape-has chosen_once h = h.0
-    shape-has (leaving {w = w} {i = i} before c after t) h =
-        let k = parts-have q u before _ h.0.1 in
-        ((under-has t c (fun1 true w (comp_ex i after)) k.1.0 ((h.0.0, k.1.1), tt), k.0), tt)
-    shape-has counting h = ((((h.0.1.2.0, tt), (((q1, tt), tt), tt)), (h.0.1.0, h.0.1.1, tt)), tt)
+    shape-has (leaving {m = m} {w = w} {i = i} before c after) h =
+        let k = parts-have q u before (cond c after) h.0.1 in
+        ((under-has q u q0 q1 w c (fun1 m w (comp_ex i after)) k.1.0 ((h.0.0, k.1.1), tt), k.0), tt)
     shape-has (cell_of i) h = h.1
     shape-has (flag_of {js = js} {a = a} i) h = append-all q u js (more_exs a no_exs) h.1.0.1 (h.0, tt)
     shape-has (marker_of i) h = h.0.1

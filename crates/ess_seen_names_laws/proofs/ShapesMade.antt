@@ -1,5 +1,5 @@
 -- Which form each rule makes of a tree over views: conditions that leave, rules that read the kind of a view, rules of sources, and all.
-use Rattle.std.proofs.Common.{◌≡◌, refl, sym, subst, ℕ, Bool, true, false, ◌&&◌, if◌then◌else◌, List, [], ◌∷◌, map, pos, Option, Some, None, option_map}
+use Rattle.std.proofs.Common.{◌≡◌, refl, sym, subst, ℕ, Bool, true, false, ◌&&◌, if◌then◌else◌, List, [], ◌∷◌, map, Option, Some, None, option_map}
 use Rattle.ess_semantics.specs.declared.words.Op1.{Op1}
 use Rattle.ess_semantics.specs.declared.words.Op2.{Op2}
 use Rattle.ess_semantics.specs.declared.words.Fun.{Fun}
@@ -8,9 +8,8 @@ use Rattle.ess_semantics.specs.Lists.{and_then}
 use Rattle.ess_semantics.specs.Values.{Text}
 use Rattle.ess_semantics.specs.Names.{Names}
 use Rattle.ess_semantics.specs.NamesAt.{names_behind}
-use Rattle.ess_semantics.specs.Occurrences.{has_cells}
 use Rattle.ess_semantics.specs.Refined.{is_refined, are_refined_gens}
-use Rattle.ess_semantics.specs.Trees.{word, repr, no_reprs, more_reprs, name_pat, Ex, number_ex, comp_ex, seen_ex, Gens, no_gens, over, from, cond, Dom, relation_dom, set_dom, ex1, ex2, fun1}
+use Rattle.ess_semantics.specs.Trees.{word, repr, no_reprs, more_reprs, name_pat, Ex, comp_ex, seen_ex, Gens, from, relation_dom, set_dom, ex1, ex2, fun1}
 use Rattle.ess_semantics.specs.Types.{Ty}
 use Rattle.ess_semantics.specs.ExpressionJudgements.{forgets_order}
 use Rattle.ess_rules_laws.specs.SourceRules.{is_marked}
@@ -24,7 +23,7 @@ use Rattle.ess_rules_laws.specs.SetSizes.{size_by_marker, size_by_slots}
 use Rattle.ess_rules_laws.specs.Listings.{Alternative}
 use Rattle.ess_rules_laws.specs.ListedSources.{laid_out, source_alone, source_parts}
 use Rattle.ess_refine_laws.specs.ExtremeAlternatives.{put_alternative}
-use Rattle.ess_refine_laws.specs.LeavingConditions.{Parted, with_before, at_last_condition, under_condition, condition_leaves}
+use Rattle.ess_refine_laws.specs.LeavingConditions.{Parted, at_last_condition, under_condition, condition_leaves}
 use Rattle.ess_refine_laws.specs.AllRules.{Rule, over_one, over_one_binding, over_a_condition, over_a_source, of_one_source, not_equal, turned, strictly, equal_sets, included_sets, in_two, in_a_term, size as size_rule, choice, condition, Supply, offered, source_listed, source_listed_once, only_one, compares_compound, rewrite}
 use Rattle.ess_refine_laws.proofs.LeavingConditions.{MakesUp, made-up}
 use Rattle.ess_kind_rules_laws.specs.ViewListings.{view_listing, slots_of_operand}
@@ -34,61 +33,32 @@ use Rattle.ess_open_rules_laws.specs.OpenSources.{behind_gens, put_opened, all_o
 use Rattle.ess_open_rules_laws.specs.OpenRules.{OpenRule, over_one_source, fold_of_folds, open_rewrite, KindRuling, of_kind, of_opening, kind_ruled}
 use Rattle.ess_refine_laws.specs.ExtremeRules.{are_none}
 use Rattle.ess_open_kept_laws.proofs.OpenedFolds.{opened-are}
-use Rattle.ess_bare_laws.specs.Bare.{TruthWord}
-use Rattle.ess_seen_laws.specs.Seen.{Bound, bound_types, Seen, members_of, in_use}
+use Rattle.ess_seen_laws.specs.Seen.{Bound, bound_types, Seen}
 use Rattle.ess_seen_laws.specs.MayFire.{may_fire, may_fire_at_views, may_fire_at_sources, may_fire_by_kind}
-use Rattle.ess_seen_names_laws.specs.Shapes.{by_a_view, Shape, leaving, counting, cell_of, flag_of, marker_of, slots_of, in_a_list, alone, opened, nested}
-use Rattle.ess_seen_names_laws.proofs.SeenForms.{FirstSource, OpenedSource, no-condition, Lists, folds, adds, counts, lists-source, lists-opened, Forms, forms}
+use Rattle.ess_seen_names_laws.specs.Shapes.{by_a_view, Shape, leaving, cell_of, flag_of, marker_of, slots_of, in_a_list, alone, opened, nested}
+use Rattle.ess_seen_names_laws.proofs.SeenForms.{FirstSource, OpenedSource, Forms, forms}
 use Rattle.ess_seen_names_laws.proofs.SetsOffer.{ViewOf, OneLaid, SomeOffered, set-laid, set-listed, set-offered}
 use Rattle.ess_seen_names_laws.proofs.PlainShapes.{Shaped, when, under, items, bindings, conditions, sizes, members, differences, turnings, strictnesses, equalities, inclusions, combinations, choices}
 
-module _ (cells : Text → Option (Bool × ℕ)) (x : Text) where
+module _ (cells : Text → Option (Bool × List ℕ)) (x : Text) where
   -- A condition that leaves.
-  leaves-fold : (w : Fun) (i : Ex) (gs : Gens) → TruthWord w → (o : Option Parted) → MakesUp o gs →
-      Shaped x (fun1 true w (comp_ex i gs)) (elim o [
-        | None ↦ None
-        | Some t ↦ if is_marked true w && (is_refined t.condition && (is_refined i && are_refined_gens t.after))
-            then Some (fun1 true w (comp_ex (under_condition w t.condition (fun1 true w (comp_ex i t.after))) t.before)) else None
-      ])
-  leaves-fold w i gs v None m = tt
-  leaves-fold w i gs v (Some t) m =
-      when x (is_marked true w && (is_refined t.condition && (is_refined i && are_refined_gens t.after))) (fun1 true w (comp_ex i gs))
-      (fun1 true w (comp_ex (under_condition w t.condition (fun1 true w (comp_ex i t.after))) t.before))
-      (subst (λ z. Shape x (fun1 true w (comp_ex i z))
-      (fun1 true w (comp_ex (under_condition w t.condition (fun1 true w (comp_ex i t.after))) t.before))) (sym m)
-      (leaving t.before t.condition t.after v))
-
-  leaves-none : (m : Bool) (w : Fun) (i : Ex) (gs : Gens) (o : Option Parted) → o ≡ None →
+  leaves-fold : (m : Bool) (w : Fun) (i : Ex) (gs : Gens) (o : Option Parted) → MakesUp o gs →
       Shaped x (fun1 m w (comp_ex i gs)) (elim o [
         | None ↦ None
         | Some t ↦ if is_marked m w && (is_refined t.condition && (is_refined i && are_refined_gens t.after))
             then Some (fun1 m w (comp_ex (under_condition w t.condition (fun1 m w (comp_ex i t.after))) t.before)) else None
       ])
-  leaves-none m w i gs None q = tt
-  leaves-none m w i gs (Some t) q = cc
+  leaves-fold m w i gs None p = tt
+  leaves-fold m w i gs (Some t) p =
+      when x (is_marked m w && (is_refined t.condition && (is_refined i && are_refined_gens t.after))) (fun1 m w (comp_ex i gs))
+      (fun1 m w (comp_ex (under_condition w t.condition (fun1 m w (comp_ex i t.after))) t.before))
+      (subst (λ z. Shape x (fun1 m w (comp_ex i z))
+      (fun1 m w (comp_ex (under_condition w t.condition (fun1 m w (comp_ex i t.after))) t.before))) (sym p)
+      (leaving t.before t.condition t.after))
 
-  leaves-count : (a : Text) (d : Dom) (c : Ex) (b : Bool) →
-      Shaped x (fun1 false Fun.Sum (comp_ex (number_ex (pos 1)) (over (name_pat a) d (cond c no_gens))))
-      (elim (option_map (with_before (over (name_pat a) d))
-      (if b then Some (record { before = no_gens; condition = c; after = no_gens }) else None)) [
-        | None ↦ None
-        | Some t ↦ if is_marked false Fun.Sum && (is_refined t.condition && (is_refined (number_ex (pos 1)) && are_refined_gens t.after))
-            then Some (fun1 false Fun.Sum (comp_ex (under_condition Fun.Sum t.condition
-            (fun1 false Fun.Sum (comp_ex (number_ex (pos 1)) t.after))) t.before)) else None
-      ])
-  leaves-count a d c true = when x (is_refined c && true) _ _ counting
-  leaves-count a d c false = tt
-
-  leaves-list : (m : Bool) (w : Fun) (i : Ex) (gs : Gens) → Lists cells m w i gs →
-      Shaped x (fun1 m w (comp_ex i gs)) (condition_leaves (fun1 m w (comp_ex i gs)))
-  leaves-list m w i gs (folds v k) = leaves-fold w i gs v (at_last_condition gs) (made-up gs)
-  leaves-list m w i gs (adds k) = leaves-none false Fun.Sum i gs (at_last_condition gs) (no-condition cells k)
-  leaves-list m w i gs (counts (members_of s b)) = tt
-  leaves-list m w i gs (counts (in_use {a = a} {d = d} {c = c} n p)) = leaves-count a d c (has_cells c)
-
-  leaves : (e : Ex) → Forms cells e → Shaped x e (condition_leaves e)
-  leaves (fun1 m w (comp_ex i gs)) h = leaves-list m w i gs h
-  leaves _ h = tt
+  leaves : (e : Ex) → Shaped x e (condition_leaves e)
+  leaves (fun1 m w (comp_ex i gs)) = leaves-fold m w i gs (at_last_condition gs) (made-up gs)
+  leaves _ = tt
 
   -- ---- those that read the kind of a view
 
@@ -148,13 +118,13 @@ module _ (cells : Text → Option (Bool × ℕ)) (x : Text) where
 
     sources-made : (g : Names Ty) (e : Ex) → Forms cells e → Shaped x e (source_listed s g e)
     sources-made g (fun1 m w (comp_ex i (from (name_pat y) t hs))) h =
-        let k = lists-source cells h in
+        let k = h.0 in
         parts-listed m w y i t hs (offered s g t) (offered-at t (offered s g t) (set-listed cells k.2 s g))
     sources-made g _ h = tt
 
     source-made-once : (g : Names Ty) (e : Ex) → Forms cells e → Shaped x e (source_listed_once s g e)
     source-made-once g (fun1 m w (comp_ex i (from (name_pat y) t hs))) h =
-        let k = lists-source cells h in
+        let k = h.0 in
         once-listed m w y i t hs (offered s g t) (offered-at t (offered s g t) (set-listed cells k.2 s g))
     source-made-once g _ h = tt
 
@@ -164,13 +134,13 @@ module _ (cells : Text → Option (Bool × ℕ)) (x : Text) where
 
     lists-made : (e : Ex) → Forms cells e → Shaped x e (view_listed (λ a. source_parts (a ∷ [])) s e)
     lists-made (fun1 m w (comp_ex i (from (name_pat y) t hs))) h =
-        let k = lists-source cells h in
+        let k = h.0 in
         in-a-list m w y i t hs (view_listing s.one s.other s.parts t) (laid-at t (set-laid cells k.2 s.one s.other s.parts))
     lists-made _ h = tt
 
     alone-made : (e : Ex) → Forms cells e → Shaped x e (view_listed source_alone s e)
     alone-made (fun1 m w (comp_ex i (from (name_pat y) t hs))) h =
-        let k = lists-source cells h in
+        let k = h.0 in
         alone-listed m w y i t hs (view_listing s.one s.other s.parts t) (laid-at t (set-laid cells k.2 s.one s.other s.parts))
     alone-made _ h = tt
 
@@ -201,7 +171,7 @@ module _ (cells : Text → Option (Bool × ℕ)) (x : Text) where
 
     openings : (g : Names Ty) (e : Ex) → Forms cells e → Shaped x e (over_one_opened s g e)
     openings g (fun1 m w (comp_ex i gs)) h = under x (forgets_order (word w)) (fun1 m w (comp_ex i gs)) _
-        (opened-list g m w i gs (at_first_open gs) refl (lists-opened cells h))
+        (opened-list g m w i gs (at_first_open gs) refl h.1)
     openings g _ h = tt
 
     nested-at : (m : Bool) (w : Fun) (i : Ex) (gs : Gens) (o : Option Opened) → at_first_open gs ≡ o →
@@ -237,7 +207,7 @@ module _ (cells : Text → Option (Bool × ℕ)) (x : Text) where
     plain-shapes g in_a_term k e h = subst (λ z. Shaped x e (member_term z e)) (sym named) (members x e)
     plain-shapes g size_rule k e h = subst (λ z. Shaped x e (size_term g z e)) (sym named) (sizes x g e)
     plain-shapes g choice k e h = choices x e
-    plain-shapes g condition k e h = leaves e h
+    plain-shapes g condition k e h = leaves e
     plain-shapes g _ k e h = cc
 
     kind-shapes : (g : Names Ty) (u : KindRule) → may_fire_at_views u ≡ true → (e : Ex) → Forms cells e →
@@ -257,12 +227,12 @@ module _ (cells : Text → Option (Bool × ℕ)) (x : Text) where
     open-shapes g _ k e h = cc
 
 -- Each rule that fires makes such a form.
-pub shapes-plainly : (cells : Text → Option (Bool × ℕ)) (s : Supply) (r : Names Bound) (u : Rule) (e f : Ex) (m : Bool) → Seen cells r e m →
-    may_fire u ≡ true → rewrite s (bound_types r) u e ≡ Some f → Shape s.one e f
+pub shapes-plainly : (cells : Text → Option (Bool × List ℕ)) (s : Supply) (r : Names Bound) (u : Rule) (e f : Ex) (m : Bool) →
+    Seen cells r e m → may_fire u ≡ true → rewrite s (bound_types r) u e ≡ Some f → Shape s.one e f
 shapes-plainly cells s r u e f m h k q =
     subst (Shaped s.one e) q (plain-shapes cells s.one s refl (bound_types r) u k e (forms cells h))
 
-pub shapes-by-kind : (cells : Text → Option (Bool × ℕ)) (s : Supply) (r : Names Bound) (u : KindRuling) (e f : Ex) (m : Bool) →
+pub shapes-by-kind : (cells : Text → Option (Bool × List ℕ)) (s : Supply) (r : Names Bound) (u : KindRuling) (e f : Ex) (m : Bool) →
     Seen cells r e m → may_fire_by_kind u ≡ true → kind_ruled s (bound_types r) u e ≡ Some f → Shape s.one e f
 shapes-by-kind cells s r (of_kind u) e f m h k q =
     subst (Shaped s.one e) q (kind-shapes cells s.one s refl (bound_types r) u k e (forms cells h))

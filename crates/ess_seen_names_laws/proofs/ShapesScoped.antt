@@ -13,13 +13,12 @@ use Rattle.ess_rules_laws.specs.SpliceRules.{append_gens}
 use Rattle.ess_rules_laws.specs.Listings.{Alternative}
 use Rattle.ess_rules_laws.specs.ListedSources.{each_put}
 use Rattle.ess_rules_laws.proofs.Agreement.{same_text-equal}
-use Rattle.ess_refine_laws.specs.LeavingConditions.{under_condition}
 use Rattle.ess_refine_laws.specs.ScopesStay.{Scope}
 use Rattle.ess_refine_laws.specs.ScopesOfRules.{IsNew}
-use Rattle.ess_bare_laws.specs.Bare.{TruthWord, all_hold, some_holds}
-use Rattle.ess_seen_names_laws.specs.Shapes.{Offered, AllOffered, Shape, one_item, one_binding, implied, both, size, member, different, turned_round, turned_strictly, strictly_included, equal, included, in_a_union, in_both, in_the_first_alone, chosen_twice, chosen_once, leaving, counting, cell_of, flag_of, marker_of, slots_of, in_a_list, alone, opened, nested}
+use Rattle.ess_seen_names_laws.specs.Shapes.{Offered, AllOffered, Shape, one_item, one_binding, implied, both, size, member, different, turned_round, turned_strictly, strictly_included, equal, included, in_a_union, in_both, in_the_first_alone, chosen_twice, chosen_once, leaving, cell_of, flag_of, marker_of, slots_of, in_a_list, alone, opened, nested}
 use Rattle.ess_seen_names_laws.specs.Laws.{none, Within}
 use Rattle.ess_seen_names_laws.proofs.SizeTerms.{slots-fine}
+use Rattle.ess_seen_names_laws.proofs.ConditionsScoped.{gens-map, under-scoped}
 use Rattle.ess_seen_names_laws.proofs.PutScoped.{left-true, right-true, one-of, second-false, otherwise, absent, bound, Moves, moved, moved-gens, behind}
 use Rattle.ess_seen_names_laws.proofs.NewNames.{new-behind, behind_domain, behind_source, within-domain, within-source}
 use Rattle.ess_seen_names_laws.proofs.ViewsScoped.{term-scoped, steps-scoped, append-scoped}
@@ -42,14 +41,6 @@ parts-bind b no_gens hs h = (tt, h)
 parts-bind b (over p d gs) hs h = let k = parts-bind b gs hs h.2 in ((h.0, h.1, k.0), k.1)
 parts-bind b (from p e gs) hs h = let k = parts-bind b gs hs h.2 in ((h.0, h.1, k.0), k.1)
 parts-bind b (cond e gs) hs h = let k = parts-bind b gs hs h.1 in ((h.0, k.0), k.1)
-
--- What holds behind generators and leads to something else.
-gens-map : (gs : Gens) (K L : (Text → Bool) → (Text → Bool) → Type 0) → ((u i : Text → Bool) → K u i → L u i) → (s o : Text → Bool) →
-    ScopedGens none s o gs K → ScopedGens none s o gs L
-gens-map no_gens K L k s o h = k s o h
-gens-map (over p d gs) K L k s o h = (h.0, h.1, gens-map gs K L k (with_names s p) (with_names o p) h.2)
-gens-map (from p e gs) K L k s o h = (h.0, h.1, gens-map gs K L k (with_names s p) o h.2)
-gens-map (cond c gs) K L k s o h = (h.0, gens-map gs K L k s o h.1)
 
 module _ (x y : Text) (i t : Ex) (hs : Gens) (a : Alternative) (l : Offered x t a)
     (b : NamesAre (λ a. true) (λ a. not (same_text x a)) (comp_ex i hs)) (bt : NamesAre (λ a. true) (λ a. not (same_text x a)) t) where
@@ -109,11 +100,6 @@ module _ (x y : Text) (i t : Ex) (hs : Gens) (a : Alternative) (l : Offered x t 
 
 -- ---- what rules make
 
-under-scoped : {w : Fun} → TruthWord w → (c i : Ex) (s o : Text → Bool) → Scoped none s o c → Scoped none s o i →
-    Scoped none s o (under_condition w c i)
-under-scoped all_hold c i s o h k = (h, (k, tt))
-under-scoped some_holds c i s o h k = (h, (k, tt))
-
 -- `and([x in b | x <- a])`.
 every-scoped : (x : Text) (s : Scope) (a b : Ex) → IsTrue (not (s.all x)) → NamesAre (λ c. true) (λ c. not (same_text x c)) b →
     Scoped none s.all s.over_domains a → Scoped none s.all s.over_domains b →
@@ -150,12 +136,11 @@ shape-scoped x in_both s n w h = ((h.0, (h.1.0.0, tt)), ((h.0, (h.1.0.1.0, tt)),
 shape-scoped x in_the_first_alone s n w h = ((h.0, (h.1.0.0, tt)), (((h.0, (h.1.0.1.0, tt)), tt), tt))
 shape-scoped x chosen_twice s n w h = ((h.0.0, (h.1.0.0, tt)), tt)
 shape-scoped x chosen_once s n w h = h.0
-shape-scoped x (leaving {w = v} {i = i} before c after t) s n w h = (
-  gens-map before _ _ (λ u o k. under-scoped t c (fun1 true v (comp_ex i after)) u o k.0 (k.1, tt)) s.all s.over_domains
+shape-scoped x (leaving {m = m} {w = v} {i = i} before c after) s n w h = (
+  gens-map before _ _ (λ u o k. under-scoped v c (fun1 m v (comp_ex i after)) u o k.0 (k.1, tt)) s.all s.over_domains
       (behind-first before (cond c after) (λ u o. Scoped none u o i) s.all s.over_domains h.0),
   tt,
 )
-shape-scoped x counting s n w h = ((h.0.0, h.0.1, ((h.0.2.0, tt), ((tt, tt), tt))), tt)
 shape-scoped x (cell_of i) s n w h = steps-scoped s w i h.1
 shape-scoped x (flag_of {a = a} i) s n w h = append-scoped s w i h.1.0.1 (more_exs a no_exs) (h.0, tt)
 shape-scoped x (marker_of i) s n w h = steps-scoped s w i h.0.1

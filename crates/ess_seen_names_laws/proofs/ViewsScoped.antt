@@ -12,7 +12,7 @@ use Rattle.ess_rules_laws.specs.SlotListings.{slots_dom}
 use Rattle.ess_rules_laws.specs.FunctionViews.{append_exs}
 use Rattle.ess_rules_laws.specs.Listings.{Alternative}
 use Rattle.ess_refine_laws.specs.ScopesStay.{Scope}
-use Rattle.ess_seen_names_laws.specs.Shapes.{Numerals, no_numeral, numeral, Written, of_truths, of_numbers, of_sets, Steps, no_step, to_a_number, to_a_name, Laid, that_occur, but_the_dummy, in_all_slots, up_to_the_marker, where_flagged}
+use Rattle.ess_seen_names_laws.specs.Shapes.{Numerals, no_numeral, numeral, Written, of_truths, of_numbers, of_sets, Steps, no_step, to_a_name, Laid, that_occur, but_the_dummy, in_all_slots, up_to_the_marker, where_flagged}
 use Rattle.ess_seen_names_laws.specs.Laws.{none, Within}
 use Rattle.ess_seen_names_laws.proofs.SizeTerms.{Term, one, two, slots-fine, dummy-fine}
 use Rattle.ess_seen_names_laws.proofs.PutScoped.{left-true, bound}
@@ -53,27 +53,23 @@ module _ (s : Scope) (within : Within s) where
   -- They are in scope,
   pub steps-scoped : {es : Exs} → Steps es → IsPlainIndex s.over_domains es → ScopedExs none s.all s.over_domains es
   steps-scoped no_step h = tt
-  steps-scoped (to_a_number i) h = (tt, steps-scoped i h)
   steps-scoped (to_a_name {a = a} i) h = (within a h.0, steps-scoped i h.1)
 
   -- also with others behind them,
   pub append-scoped : {es : Exs} → Steps es → IsPlainIndex s.over_domains es → (fs : Exs) → ScopedExs none s.all s.over_domains fs →
       ScopedExs none s.all s.over_domains (append_exs es fs)
   append-scoped no_step h fs k = k
-  append-scoped (to_a_number i) h fs k = (tt, append-scoped i h fs k)
   append-scoped (to_a_name {a = a} i) h fs k = (within a h.0, append-scoped i h.1 fs k)
 
   -- and with a name over a domain behind them.
   last-scoped : (x : Text) → s.all x ≡ true → {es : Exs} → Steps es → IsPlainIndex s.over_domains es →
       ScopedExs none s.all s.over_domains (put_last es (name_ex x))
   last-scoped x n no_step h = (n, tt)
-  last-scoped x n (to_a_number i) h = (tt, last-scoped x n i h)
   last-scoped x n (to_a_name {a = a} i) h = (within a h.0, last-scoped x n i h.1)
 
 last-plain : (o : Text → Bool) (x : Text) → o x ≡ true → {es : Exs} → Steps es → IsPlainIndex o es →
     IsPlainIndex o (put_last es (name_ex x))
 last-plain o x n no_step h = (n, tt)
-last-plain o x n (to_a_number i) h = last-plain o x n i h
 last-plain o x n (to_a_name i) h = (h.0, last-plain o x n i h.1)
 
 -- With more names over domains.

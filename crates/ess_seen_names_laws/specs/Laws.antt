@@ -1,5 +1,5 @@
 -- The laws of names, numbers and scopes along rules in trees over views, each stated at a function that does nothing.
-use Rattle.std.specs.Prelude.{◌≡◌, ℕ, ◌<◌, ◌≤◌, ◌^◌, Bool, true, false, not, ℤ, pos, Option, Some, IsTrue}
+use Rattle.std.specs.Prelude.{◌≡◌, ℕ, ◌<◌, ◌≤◌, ◌^◌, Bool, true, false, not, ℤ, pos, Option, Some, IsTrue, List}
 use Rattle.std.specs.List.{list_all}
 use Rattle.ess_semantics.specs.Values.{Text}
 use Rattle.ess_semantics.specs.Order.{same_text}
@@ -38,9 +38,9 @@ pub record KeepsNames (x : Text) (e f : Ex) : Type 0 where
 
 -- So each rule that fires at the root of a tree over views makes one of these forms, which keep that.
 pub record SeenRulesKeepNames : Type 0 where
-  pub plainly : (cells : Text → Option (Bool × ℕ)) (s : Supply) (r : Names Bound) (u : Rule) (e f : Ex) (m : Bool) → Seen cells r e m →
+  pub plainly : (cells : Text → Option (Bool × List ℕ)) (s : Supply) (r : Names Bound) (u : Rule) (e f : Ex) (m : Bool) → Seen cells r e m →
       may_fire u ≡ true → rewrite s (bound_types r) u e ≡ Some f → Shape s.one e f
-  pub by_kind : (cells : Text → Option (Bool × ℕ)) (s : Supply) (r : Names Bound) (u : KindRuling) (e f : Ex) (m : Bool) →
+  pub by_kind : (cells : Text → Option (Bool × List ℕ)) (s : Supply) (r : Names Bound) (u : KindRuling) (e f : Ex) (m : Bool) →
       Seen cells r e m → may_fire_by_kind u ≡ true → kind_ruled s (bound_types r) u e ≡ Some f → Shape s.one e f
   pub kept : (x : Text) (e f : Ex) → Shape x e f → KeepsNames x e f
 

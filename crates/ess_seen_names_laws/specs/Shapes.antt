@@ -20,7 +20,6 @@ use Rattle.ess_rules_laws.specs.InclusionRules.{every}
 use Rattle.ess_rules_laws.specs.Listings.{Alternative, those}
 use Rattle.ess_rules_laws.specs.ListedSources.{put_listed, each_put}
 use Rattle.ess_refine_laws.specs.LeavingConditions.{under_condition}
-use Rattle.ess_bare_laws.specs.Bare.{TruthWord}
 
 -- ---- views
 
@@ -35,10 +34,9 @@ pub data Written : Dom → Type 0 where
   of_numbers : {i j : ℤ} → Written (int_dom (both_ends ∷ []) (more_exs (number_ex i) (more_exs (number_ex j) no_exs)))
   of_sets : {ms : List Mark} {es : Exs} {d : Dom} → Numerals es → Written d → Written (set_dom ms es d)
 
--- Numerals and names, as the indices of views are.
+-- Names, as the indices of views are.
 pub data Steps : Exs → Type 0 where
   no_step : Steps no_exs
-  to_a_number : {i : ℤ} {es : Exs} → Steps es → Steps (more_exs (number_ex i) es)
   to_a_name : {a : Text} {es : Exs} → Steps es → Steps (more_exs (name_ex a) es)
 
 -- What a view of a nested set offers, with the name x: the members that occur, and those in the slots that are in use.
@@ -125,14 +123,10 @@ pub data Shape (x : Text) : Ex → Ex → Type 0 where
   chosen_twice : {c d : Ex} → Shape x (ex2 false Op2.Times (fun1 false Fun.ToInt c) (fun1 false Fun.ToInt d))
       (fun1 false Fun.ToInt (ex2 true Op2.And c d))
   chosen_once : {c : Ex} → Shape x (ex2 false Op2.Times (fun1 false Fun.ToInt c) (number_ex (pos 1))) (fun1 false Fun.ToInt c)
-  -- A condition that leaves a fold of truth values, or the count of what holds.
-  leaving : {w : Fun} {i : Ex} (before : Gens) (c : Ex) (after : Gens) → TruthWord w →
-      Shape x (fun1 true w (comp_ex i (append_gens before (cond c after))))
-      (fun1 true w (comp_ex (under_condition w c (fun1 true w (comp_ex i after))) before))
-  counting : {a : Text} {d : Dom} {c : Ex} →
-      Shape x (fun1 false Fun.Sum (comp_ex (number_ex (pos 1)) (over (name_pat a) d (cond c no_gens))))
-      (fun1 false Fun.Sum (comp_ex (ex2 false Op2.Times (fun1 false Fun.ToInt c)
-      (fun1 false Fun.Sum (comp_ex (number_ex (pos 1)) no_gens))) (over (name_pat a) d no_gens)))
+  -- A condition that leaves a fold, of truth values or of numbers.
+  leaving : {m : Bool} {w : Fun} {i : Ex} (before : Gens) (c : Ex) (after : Gens) →
+      Shape x (fun1 m w (comp_ex i (append_gens before (cond c after))))
+      (fun1 m w (comp_ex (under_condition w c (fun1 m w (comp_ex i after))) before))
   -- Cells: of an atom, of a member that may occur, and of a marker; and a number of slots.
   cell_of : {d : Dom} {n : Text} {js : Exs} → Steps js →
       Shape x (seen_ex (repr ReprKind.Atom no_reprs) d (n ∷ []) js) (cell_ex (is_bool_dom d) n js)

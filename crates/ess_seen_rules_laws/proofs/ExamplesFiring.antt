@@ -1,5 +1,5 @@
--- Worked examples: which rules may fire, and what they make of `|s|`, of `forAll y in s . y > 0`, of the same over `s union s`, and of
--- `s subsetEq s`, where s is kept by which members occur.
+-- Worked examples: which rules may fire, and what they make of `|s|`, of `forAll y in s . y > 0`, of the same over `s union s`, of
+-- `s subsetEq s`, and of `sum([y | y <- s, y > 0])`, where s is kept by which members occur.
 use Rattle.std.proofs.Common.{◌≡◌, refl, true, false, [], ◌∷◌, pos, Some, None}
 use Rattle.std.specs.Prelude.{codes}
 use Rattle.ess_semantics.specs.declared.words.Op1.{Op1}
@@ -8,7 +8,7 @@ use Rattle.ess_semantics.specs.declared.words.Fun.{Fun}
 use Rattle.ess_semantics.specs.declared.words.ReprKind.{ReprKind}
 use Rattle.ess_semantics.specs.Trees.{repr, no_reprs, both_ends, name_pat, Ex, number_ex, name_ex, comp_ex, cell_ex, seen_ex, no_exs, more_exs, Gens, no_gens, over, from, cond, Dom, bool_dom, int_dom, set_dom, ex1, ex2, fun1}
 use Rattle.ess_rules_laws.specs.SourceRules.{list_of}
-use Rattle.ess_refine_laws.specs.AllRules.{Supply, rewrite, over_one, over_a_literal, over_a_source, included_sets, included_multisets, in_two, choice, size, in_a_term}
+use Rattle.ess_refine_laws.specs.AllRules.{Supply, rewrite, over_one, over_a_literal, over_a_source, included_sets, included_multisets, in_two, choice, condition, condition_behind, list_of_a_term, size, in_a_term}
 use Rattle.ess_kind_rules_laws.specs.KindRules.{over_a_view, member_of_a_multiset}
 use Rattle.ess_open_rules_laws.specs.OpenRules.{of_kind, of_opening, over_one_source, set_of_a_term, kind_ruled}
 use Rattle.ess_seen_laws.specs.MayFire.{may_fire, may_fire_by_kind, CountsMembers}
@@ -124,3 +124,38 @@ by-members = refl
 
 counts-too : CountsMembers [] included_multisets (ex2 true Op2.SubsetEq s s)
 counts-too = record { counts = refl; first = s; second = s; root = refl; sets = refl }
+
+-- ---- sums over members, and the size of a union
+
+abbrev those_above : Ex
+those_above =
+    fun1 false Fun.Sum (comp_ex (name_ex (codes "y")) (from (name_pat (codes "y")) s (cond (above (name_ex (codes "y"))) no_gens)))
+
+abbrev occurs : Ex
+occurs = cell_ex true (codes "s") (more_exs x no_exs)
+
+abbrev summed : Ex
+summed = fun1 false Fun.Sum (comp_ex x (over (name_pat (codes "x")) inner (cond occurs (cond (above x) no_gens))))
+
+-- A sum over members is laid out by the rule of quantifiers, with the condition behind.
+sum-opened : kind_ruled supply [] (of_opening over_one_source) those_above ≡ Some summed
+sum-opened = refl
+
+-- Then the condition that reads a cell leaves, by the one rule, and not by that of the least and the greatest.
+sum-left : rewrite supply [] condition summed ≡ Some (fun1 false Fun.Sum (comp_ex
+    (ex2 false Op2.Times (fun1 false Fun.ToInt occurs) (fun1 false Fun.Sum (comp_ex x (cond (above x) no_gens))))
+    (over (name_pat (codes "x")) inner no_gens)))
+sum-left = refl
+
+no-later : rewrite supply [] condition_behind summed ≡ None
+no-later = refl
+
+-- `|s union s|` is a sum over the union.
+size-of-both : rewrite supply [] size (ex1 false Op1.Bar both) ≡
+    Some (fun1 false Fun.Sum (comp_ex (number_ex (pos 1)) (from (name_pat (codes "x")) both no_gens)))
+size-of-both = refl
+
+-- At `max([2, 0])`, as an exponent is left, no rule of the greatest fires.
+stays-greatest : rewrite supply [] list_of_a_term
+    (fun1 false Fun.Max (list_of (more_exs (number_ex (pos 2)) (more_exs (number_ex (pos 0)) no_exs)))) ≡ None
+stays-greatest = refl

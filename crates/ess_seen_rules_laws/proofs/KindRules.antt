@@ -1,5 +1,5 @@
 -- Of the rules that read the kind of a view only those that are told fire at the root of a tree over views.
-use Rattle.std.proofs.Common.{ℕ, Bool, true, false, Option}
+use Rattle.std.proofs.Common.{ℕ, Bool, true, false, List, Option}
 use Rattle.ess_semantics.specs.declared.words.Op1.{Op1}
 use Rattle.ess_semantics.specs.declared.words.Op2.{Op2}
 use Rattle.ess_semantics.specs.declared.words.Fun.{Fun}
@@ -10,9 +10,8 @@ use Rattle.ess_semantics.specs.Types.{Ty}
 use Rattle.ess_refine_laws.specs.AllRules.{Supply}
 use Rattle.ess_kind_rules_laws.specs.KindRules.{KindRule, kind_rewrite, cell_of_an_atom, of_what_is_picked}
 use Rattle.ess_flat_laws.specs.Flat.{denied, negative, absolute, both, either, implied, agreeing, equal, unequal, below, at_most, above, at_least, sum, difference, product}
-use Rattle.ess_bare_laws.specs.Bare.{all_hold, some_holds}
 use Rattle.ess_bare_laws.specs.Lean.{of_all, of_some, of_sum}
-use Rattle.ess_seen_laws.specs.Seen.{Kind, Bound, alike, apart, included, properly_included, including, properly_including, as_an_atom, by_occurrence, with_a_dummy, in_slots, with_a_marker, with_flags, SetTerm, view, drawn, combined, Seen, number, truth, named, cell, atom, one, two, power, chosen, folded, added, counted, of_items, size, within, set_within, compared}
+use Rattle.ess_seen_laws.specs.Seen.{Kind, Bound, alike, apart, included, properly_included, including, properly_including, so_many, from_to, from_0, subsets, none_below, as_an_atom, by_occurrence, with_a_dummy, in_slots, with_a_marker, with_flags, SetTerm, view, drawn, combined, Seen, number, truth, named, counted, figure, flag, atom, one, two, chosen, folded, of_items, size, within, set_within, compared}
 use Rattle.ess_seen_laws.specs.MayFire.{may_fire_at_views}
 use Rattle.ess_seen_rules_laws.proofs.Allowed.{Allowed, allowed-none}
 use Rattle.ess_seen_rules_laws.proofs.Picks.{operands-pick, picks-no-kind}
@@ -22,7 +21,7 @@ abbrev Told : KindRule → Option Ex → Type 0
 Told of_what_is_picked o = Unit {0}
 Told u o = Allowed (may_fire_at_views u) o
 
-module _ (cells : Text → Option (Bool × ℕ)) (s : Supply) (g : Names Ty) (r : Names Bound) where
+module _ (cells : Text → Option (Bool × List ℕ)) (s : Supply) (g : Names Ty) (r : Names Bound) where
   abbrev F : Ex → Bool → Type 0
   F = Seen cells r
 
@@ -34,7 +33,8 @@ module _ (cells : Text → Option (Bool × ℕ)) (s : Supply) (g : Names Ty) (r 
   at-absolute number cell_of_an_atom = tt
   at-absolute truth cell_of_an_atom = tt
   at-absolute (named h k) cell_of_an_atom = tt
-  at-absolute (cell h i) cell_of_an_atom = tt
+  at-absolute (figure h i) cell_of_an_atom = tt
+  at-absolute (flag h i) cell_of_an_atom = tt
   at-absolute (atom h p) cell_of_an_atom = tt
   at-absolute (one denied f) cell_of_an_atom = tt
   at-absolute (one negative f) cell_of_an_atom = tt
@@ -52,16 +52,19 @@ module _ (cells : Text → Option (Bool × ℕ)) (s : Supply) (g : Names Ty) (r 
   at-absolute (two sum f h) cell_of_an_atom = tt
   at-absolute (two difference f h) cell_of_an_atom = tt
   at-absolute (two product f h) cell_of_an_atom = tt
-  at-absolute (power f h) cell_of_an_atom = tt
   at-absolute (chosen f) cell_of_an_atom = tt
-  at-absolute (folded all_hold k f) cell_of_an_atom = tt
-  at-absolute (folded some_holds k f) cell_of_an_atom = tt
-  at-absolute (added k f) cell_of_an_atom = tt
-  at-absolute (counted k) cell_of_an_atom = tt
+  at-absolute (folded of_all k f) cell_of_an_atom = tt
+  at-absolute (folded of_some k f) cell_of_an_atom = tt
+  at-absolute (folded of_sum k f) cell_of_an_atom = tt
+  at-absolute (counted so_many) cell_of_an_atom = tt
+  at-absolute (counted (from_to q)) cell_of_an_atom = tt
+  at-absolute (counted from_0) cell_of_an_atom = tt
+  at-absolute (counted (subsets t)) cell_of_an_atom = tt
+  at-absolute (counted (none_below t)) cell_of_an_atom = tt
   at-absolute (of_items of_all l) cell_of_an_atom = tt
   at-absolute (of_items of_some l) cell_of_an_atom = tt
   at-absolute (of_items of_sum l) cell_of_an_atom = tt
-  at-absolute (size h q) cell_of_an_atom = tt
+  at-absolute (size h) cell_of_an_atom = tt
   at-absolute (within f h) cell_of_an_atom = tt
   at-absolute (set_within h k) cell_of_an_atom = tt
   at-absolute (compared o h k) cell_of_an_atom = tt
@@ -72,7 +75,8 @@ module _ (cells : Text → Option (Bool × ℕ)) (s : Supply) (g : Names Ty) (r 
   at-chosen number cell_of_an_atom = tt
   at-chosen truth cell_of_an_atom = tt
   at-chosen (named h k) cell_of_an_atom = tt
-  at-chosen (cell h i) cell_of_an_atom = tt
+  at-chosen (figure h i) cell_of_an_atom = tt
+  at-chosen (flag h i) cell_of_an_atom = tt
   at-chosen (atom h p) cell_of_an_atom = tt
   at-chosen (one denied f) cell_of_an_atom = tt
   at-chosen (one negative f) cell_of_an_atom = tt
@@ -90,16 +94,19 @@ module _ (cells : Text → Option (Bool × ℕ)) (s : Supply) (g : Names Ty) (r 
   at-chosen (two sum f h) cell_of_an_atom = tt
   at-chosen (two difference f h) cell_of_an_atom = tt
   at-chosen (two product f h) cell_of_an_atom = tt
-  at-chosen (power f h) cell_of_an_atom = tt
   at-chosen (chosen f) cell_of_an_atom = tt
-  at-chosen (folded all_hold k f) cell_of_an_atom = tt
-  at-chosen (folded some_holds k f) cell_of_an_atom = tt
-  at-chosen (added k f) cell_of_an_atom = tt
-  at-chosen (counted k) cell_of_an_atom = tt
+  at-chosen (folded of_all k f) cell_of_an_atom = tt
+  at-chosen (folded of_some k f) cell_of_an_atom = tt
+  at-chosen (folded of_sum k f) cell_of_an_atom = tt
+  at-chosen (counted so_many) cell_of_an_atom = tt
+  at-chosen (counted (from_to q)) cell_of_an_atom = tt
+  at-chosen (counted from_0) cell_of_an_atom = tt
+  at-chosen (counted (subsets t)) cell_of_an_atom = tt
+  at-chosen (counted (none_below t)) cell_of_an_atom = tt
   at-chosen (of_items of_all l) cell_of_an_atom = tt
   at-chosen (of_items of_some l) cell_of_an_atom = tt
   at-chosen (of_items of_sum l) cell_of_an_atom = tt
-  at-chosen (size h q) cell_of_an_atom = tt
+  at-chosen (size h) cell_of_an_atom = tt
   at-chosen (within f h) cell_of_an_atom = tt
   at-chosen (set_within h k) cell_of_an_atom = tt
   at-chosen (compared o h k) cell_of_an_atom = tt
@@ -108,22 +115,22 @@ module _ (cells : Text → Option (Bool × ℕ)) (s : Supply) (g : Names Ty) (r 
   -- At a size of a set, and at a membership.
   at-size : {e : Ex} {k : Kind} → SetTerm cells r e k → (u : KindRule) → A (ex1 false Op1.Bar e) u
   at-size (view a b (as_an_atom h c) d) cell_of_an_atom = tt
-  at-size (view a b (by_occurrence w h c) d) cell_of_an_atom = tt
-  at-size (view a b (with_a_dummy w h q c) d) cell_of_an_atom = tt
-  at-size (view a b (in_slots w k) d) cell_of_an_atom = tt
-  at-size (view a b (with_a_marker w c k) d) cell_of_an_atom = tt
-  at-size (view a b (with_flags w c k) d) cell_of_an_atom = tt
+  at-size (view a b (by_occurrence n w h c) d) cell_of_an_atom = tt
+  at-size (view a b (with_a_dummy w h q l c) d) cell_of_an_atom = tt
+  at-size (view a b (in_slots w l k) d) cell_of_an_atom = tt
+  at-size (view a b (with_a_marker w l c k) d) cell_of_an_atom = tt
+  at-size (view a b (with_flags w l c k) d) cell_of_an_atom = tt
   at-size (drawn h) cell_of_an_atom = tt
   at-size (combined o h k) cell_of_an_atom = tt
   at-size h u = tt
 
   at-within : {e : Ex} {k : Kind} (x : Ex) → SetTerm cells r e k → (u : KindRule) → A (ex2 true Op2.Member x e) u
   at-within x (view a b (as_an_atom h c) d) cell_of_an_atom = tt
-  at-within x (view a b (by_occurrence w h c) d) cell_of_an_atom = tt
-  at-within x (view a b (with_a_dummy w h q c) d) cell_of_an_atom = tt
-  at-within x (view a b (in_slots w k) d) cell_of_an_atom = tt
-  at-within x (view a b (with_a_marker w c k) d) cell_of_an_atom = tt
-  at-within x (view a b (with_flags w c k) d) cell_of_an_atom = tt
+  at-within x (view a b (by_occurrence n w h c) d) cell_of_an_atom = tt
+  at-within x (view a b (with_a_dummy w h q l c) d) cell_of_an_atom = tt
+  at-within x (view a b (in_slots w l k) d) cell_of_an_atom = tt
+  at-within x (view a b (with_a_marker w l c k) d) cell_of_an_atom = tt
+  at-within x (view a b (with_flags w l c k) d) cell_of_an_atom = tt
   at-within x (drawn h) cell_of_an_atom = tt
   at-within x (combined o h k) cell_of_an_atom = tt
   at-within x h u = tt
@@ -132,7 +139,8 @@ module _ (cells : Text → Option (Bool × ℕ)) (s : Supply) (g : Names Ty) (r 
   at-root number cell_of_an_atom = tt
   at-root truth cell_of_an_atom = tt
   at-root (named h k) cell_of_an_atom = tt
-  at-root (cell h i) cell_of_an_atom = tt
+  at-root (figure h i) cell_of_an_atom = tt
+  at-root (flag h i) cell_of_an_atom = tt
   at-root (atom h p) cell_of_an_atom = tt
   at-root (one denied f) cell_of_an_atom = tt
   at-root (one negative f) cell_of_an_atom = tt
@@ -150,16 +158,19 @@ module _ (cells : Text → Option (Bool × ℕ)) (s : Supply) (g : Names Ty) (r 
   at-root (two sum f h) cell_of_an_atom = tt
   at-root (two difference f h) cell_of_an_atom = tt
   at-root (two product f h) cell_of_an_atom = tt
-  at-root (power f h) cell_of_an_atom = tt
   at-root (chosen f) u = at-chosen f u
-  at-root (folded all_hold k f) cell_of_an_atom = tt
-  at-root (folded some_holds k f) cell_of_an_atom = tt
-  at-root (added k f) cell_of_an_atom = tt
-  at-root (counted k) cell_of_an_atom = tt
+  at-root (folded of_all k f) cell_of_an_atom = tt
+  at-root (folded of_some k f) cell_of_an_atom = tt
+  at-root (folded of_sum k f) cell_of_an_atom = tt
+  at-root (counted so_many) cell_of_an_atom = tt
+  at-root (counted (from_to q)) cell_of_an_atom = tt
+  at-root (counted from_0) cell_of_an_atom = tt
+  at-root (counted (subsets t)) cell_of_an_atom = tt
+  at-root (counted (none_below t)) cell_of_an_atom = tt
   at-root (of_items of_all l) cell_of_an_atom = tt
   at-root (of_items of_some l) cell_of_an_atom = tt
   at-root (of_items of_sum l) cell_of_an_atom = tt
-  at-root (size h q) u = at-size h u
+  at-root (size h) u = at-size h u
   at-root (within {a = a} f h) u = at-within a h u
   at-root (set_within {a = a} h k) u = at-within a k u
   at-root (compared alike h k) cell_of_an_atom = tt

@@ -9,8 +9,9 @@ pub mod PlainRules
 pub mod KindRules
 pub mod OpenRules
 pub mod OrderRules
--- Rules at sets and at lists
+-- Rules at sets, in numbers of slots and at lists
 pub mod SetsRest
+pub mod StillRest
 pub mod ListsRest
 -- All of it
 pub mod Few

@@ -1,11 +1,10 @@
--- No rule fires at a list: of what is folded or counted, or of items.
-use Rattle.std.proofs.Common.{◌≡◌, refl, ap, ℕ, Bool, false, Option, Some, None}
+-- No rule fires at a list: of what generators go through, or of items.
+use Rattle.std.proofs.Common.{◌≡◌, refl, ap, ℕ, Bool, false, List, Option, Some, None}
 use Rattle.ess_semantics.specs.Lists.{and_then}
 use Rattle.ess_semantics.specs.Values.{Text}
 use Rattle.ess_semantics.specs.Names.{Names}
 use Rattle.ess_semantics.specs.NamesAt.{names_behind}
-use Rattle.std.specs.Prelude.{pos}
-use Rattle.ess_semantics.specs.Trees.{matrix_literal, Ex, Exs, number_ex, comp_ex, Gens}
+use Rattle.ess_semantics.specs.Trees.{matrix_literal, Ex, Exs, comp_ex, Gens}
 use Rattle.ess_semantics.specs.Types.{Ty}
 use Rattle.ess_rules_laws.specs.SourceRules.{list_of}
 use Rattle.ess_refine_laws.specs.AllRules.{Supply, Rule, rewrite, over_nothing}
@@ -14,10 +13,8 @@ use Rattle.ess_open_rules_laws.specs.OpenGenerators.{Opened, at_first_open, put_
 use Rattle.ess_open_rules_laws.specs.OpenSources.{kept_behind, kept_in_order}
 use Rattle.ess_open_rules_laws.specs.OpenRules.{KindRuling, of_kind, of_opening, kind_ruled, OpenRule, open_rewrite, step_by_step, of_a_pick, in_order_of_its_source}
 use Rattle.ess_bare_laws.proofs.Picks.{PickNothing, no-kind, no-open}
-use Rattle.ess_seen_laws.specs.Seen.{Bound, Listed, view, drawn, combined, Going, at_end, through, among, where_holds, truths, numbers}
-use Rattle.ess_seen_laws.specs.SeenParts.{Items, truths_listed, numbers_listed, ones_listed, items_listed}
-use Rattle.ess_seen_laws.proofs.Types.{axes-going}
-use Rattle.ess_seen_laws.proofs.Forms.{counting-going}
+use Rattle.ess_seen_laws.specs.Seen.{Bound, Listed, view, drawn, combined, Going, at_end, through, through_slots, among, where_holds, truths, numbers}
+use Rattle.ess_seen_laws.specs.SeenParts.{Items, gone_through, items_listed}
 use Rattle.ess_seen_rules_laws.specs.Laws.{NoneFires}
 use Rattle.ess_seen_rules_laws.proofs.Allowed.{Allowed, allowed-not}
 use Rattle.ess_seen_rules_laws.proofs.Picks.{items-pick}
@@ -26,12 +23,13 @@ use Rattle.ess_seen_rules_laws.proofs.OrderRules.{no-order-list, no-order-items}
 
 -- ---- generators
 
-module _ (cells : Text → Option (Bool × ℕ)) where
+module _ (cells : Text → Option (Bool × List ℕ)) where
   module _ (s : Supply) (g : Names Ty) (r : Names Bound) where
     plain-list : {t : Names Bound} {gs : Gens} (e : Ex) → Going cells r gs t → (u : Rule) → Allowed false (rewrite s g u (comp_ex e gs))
     plain-list e at_end over_nothing = tt
     plain-list e (through truths k) over_nothing = tt
     plain-list e (through (numbers b es) k) over_nothing = tt
+    plain-list e (through_slots c k) over_nothing = tt
     plain-list e (among (view a b c d) k) over_nothing = tt
     plain-list e (among (drawn h) k) over_nothing = tt
     plain-list e (among (combined o h l) k) over_nothing = tt
@@ -97,7 +95,7 @@ module _ (s : Supply) (g : Names Ty) (es : Exs) (p : PickNothing es) where
   kinds-items (of_kind u) = kind-items u
   kinds-items (of_opening u) = open-items u
 
-module _ (cells : Text → Option (Bool × ℕ)) (r : Names Bound) where
+module _ (cells : Text → Option (Bool × List ℕ)) (r : Names Bound) where
   items-rest : {es : Exs} {m : Bool} → Listed cells r es m → NoneFires (list_of es)
   items-rest {es} l = record {
     plainly = λ s g u. allowed-not _ (plain-items s g es (items-pick cells r l) u);
@@ -108,7 +106,5 @@ module _ (cells : Text → Option (Bool × ℕ)) (r : Names Bound) where
 
   -- None fires at a list.
   pub lists-rest : (e : Ex) (m : Bool) → Items cells r e m → NoneFires e
-  lists-rest e m (truths_listed {e = x} k f) = comps-rest cells x k
-  lists-rest e m (numbers_listed {e = x} k f) = comps-rest cells x (axes-going cells k)
-  lists-rest e m (ones_listed k) = comps-rest cells (number_ex (pos 1)) (counting-going cells k).1
+  lists-rest e m (gone_through {e = x} k f) = comps-rest cells x k
   lists-rest e m (items_listed l) = items-rest l

@@ -7,8 +7,8 @@ use Rattle.ess_semantics.specs.NamesAt.{names_behind}
 use Rattle.ess_semantics.specs.declared.words.Op1.{Op1}
 use Rattle.ess_semantics.specs.declared.words.Op2.{Op2}
 use Rattle.ess_semantics.specs.declared.words.Fun.{Fun}
-use Rattle.std.specs.Prelude.{pos}
-use Rattle.ess_semantics.specs.Trees.{Op, unary, binary, word, matrix_literal, Ex, Exs, number_ex, node_ex, comp_ex, no_exs, more_exs, Gens}
+use Rattle.std.specs.Prelude.{ℤ, pos}
+use Rattle.ess_semantics.specs.Trees.{Op, unary, binary, word, matrix_literal, Ex, Exs, number_ex, node_ex, comp_ex, no_exs, more_exs, Gens, ex2}
 use Rattle.ess_semantics.specs.Types.{Ty}
 use Rattle.ess_semantics.specs.Typing.{type_of}
 use Rattle.ess_rules_laws.specs.SourceRules.{list_of}
@@ -19,7 +19,7 @@ use Rattle.ess_open_rules_laws.specs.OpenRules.{gives_scalar, is_compound_ty}
 use Rattle.ess_ordered_laws.specs.NumberedItems.{ordered_lookup}
 use Rattle.ess_ordered_laws.specs.IndexedSources.{indexed_source}
 use Rattle.ess_ordered_laws.specs.OrderedRules.{OrderedRule, an_item, of_an_item, source_by_indices, over_operand, at_operand, ordered_rewrite}
-use Rattle.ess_seen_laws.specs.Seen.{Kind, Bound, SetTerm, view, drawn, combined, Seen, Listed, last_item, item_before, number, truth, named, cell, atom, one, two, power, chosen, folded, added, counted, of_items, size, within, set_within, compared}
+use Rattle.ess_seen_laws.specs.Seen.{Kind, Bound, Counted, so_many, from_to, from_0, subsets, none_below, SetTerm, view, drawn, combined, Seen, Listed, last_item, item_before, number, truth, named, counted, figure, flag, atom, one, two, chosen, folded, of_items, size, within, set_within, compared}
 use Rattle.ess_seen_rules_laws.proofs.Sources.{OpensAtSet, not-indexed}
 
 -- Nothing is looked up.
@@ -37,23 +37,38 @@ item-lookup es z (y ∷ ys) = refl
 neither : (o p : Option Ex) → o ≡ None → p ≡ None → or_else o p ≡ None
 neither o p a b = ap (λ x. or_else x p) a ∙ b
 
-module _ (cells : Text → Option (Bool × ℕ)) (r : Names Bound) where
+number-lookup : (i : ℤ) → NoLookup (number_ex i)
+number-lookup i z [] = refl
+number-lookup i z (y ∷ ys) = refl
+
+counted-lookup : {e : Ex} {n : ℕ} → Counted e n → NoLookup e
+counted-lookup c z [] = refl
+counted-lookup so_many z (y ∷ ys) = refl
+counted-lookup (from_to q) z (y ∷ ys) = refl
+counted-lookup from_0 z (y ∷ ys) = refl
+counted-lookup (subsets t) z (y ∷ ys) = refl
+counted-lookup (none_below t) z (y ∷ ys) = refl
+
+one-less-lookup : (a : ℕ) → NoLookup (ex2 false Op2.Minus (number_ex (pos 1)) (number_ex (pos a)))
+one-less-lookup a z [] = refl
+one-less-lookup a z (y ∷ ys) = refl
+
+module _ (cells : Text → Option (Bool × List ℕ)) (r : Names Bound) where
   seen-lookup : {e : Ex} {m : Bool} → Seen cells r e m → NoLookup e
   seen-lookup f z [] = refl
   seen-lookup number z (y ∷ ys) = refl
   seen-lookup truth z (y ∷ ys) = refl
   seen-lookup (named h k) z (y ∷ ys) = refl
-  seen-lookup (cell h i) z (y ∷ ys) = refl
+  seen-lookup (figure h i) z (y ∷ ys) = refl
+  seen-lookup (flag h i) z (y ∷ ys) = refl
   seen-lookup (atom h p) z (y ∷ ys) = refl
   seen-lookup (one o f) z (y ∷ ys) = refl
   seen-lookup (two o f h) z (y ∷ ys) = refl
-  seen-lookup (power f h) z (y ∷ ys) = refl
   seen-lookup (chosen f) z (y ∷ ys) = refl
   seen-lookup (folded w k f) z (y ∷ ys) = refl
-  seen-lookup (added k f) z (y ∷ ys) = refl
-  seen-lookup (counted k) z (y ∷ ys) = refl
+  seen-lookup (counted c) z (y ∷ ys) = counted-lookup c z (y ∷ ys)
   seen-lookup (of_items w l) z (y ∷ ys) = refl
-  seen-lookup (size h q) z (y ∷ ys) = refl
+  seen-lookup (size h) z (y ∷ ys) = refl
   seen-lookup (within f h) z (y ∷ ys) = refl
   seen-lookup (set_within h k) z (y ∷ ys) = refl
   seen-lookup (compared o h k) z (y ∷ ys) = refl
@@ -105,29 +120,45 @@ module _ (s : Supply) (g : Names Ty) where
   no-order-list e gs h of_an_item = refl
   no-order-list e gs h source_by_indices = by-indices e gs h
 
-  module _ (cells : Text → Option (Bool × ℕ)) (r : Names Bound) where
+  -- Nor is one out of a number of slots.
+  counted-operands : {e : Ex} {n : ℕ} → Counted e n → ordered_rewrite s g of_an_item e ≡ None
+  counted-operands so_many = refl
+  counted-operands (from_to {a = a} {b = b} q) =
+      of-two false (binary Op2.Plus) (ex2 false Op2.Minus (number_ex (pos 1)) (number_ex (pos a))) (number_ex (pos b))
+      (one-less-lookup a) (number-lookup (pos b))
+  counted-operands (from_0 {b = b}) =
+      of-two false (binary Op2.Plus) (number_ex (pos b)) (number_ex (pos 1)) (number-lookup (pos b)) (number-lookup (pos 1))
+  counted-operands (subsets {t = t} c) =
+      of-two false (binary Op2.Pow) (number_ex (pos 2)) t (number-lookup (pos 2)) (counted-lookup c)
+  counted-operands (none_below {t = t} c) =
+      let es = more_exs t (more_exs (number_ex (pos 0)) no_exs) in of-one false (word Fun.Max) (list_of es) (item-lookup es)
+
+  module _ (cells : Text → Option (Bool × List ℕ)) (r : Names Bound) where
     no-operands : {e : Ex} {m : Bool} → Seen cells r e m → ordered_rewrite s g of_an_item e ≡ None
     no-operands number = refl
     no-operands truth = refl
     no-operands (named h k) = refl
-    no-operands (cell h i) = refl
+    no-operands (figure h i) = refl
+    no-operands (flag h i) = refl
     no-operands (atom h p) = refl
     no-operands (one {b = b} {o = o} {x = x} w f) = of-one b (unary o) x (seen-lookup cells r f)
     no-operands (two {b = b} {o = o} {x = x} {y = y} w f h) = of-two b (binary o) x y (seen-lookup cells r f) (seen-lookup cells r h)
-    no-operands (power {x = x} {y = y} f h) = of-two false (binary Op2.Pow) x y (seen-lookup cells r f) (seen-lookup cells r h)
     no-operands (chosen {x = x} f) = of-one false (word Fun.ToInt) x (seen-lookup cells r f)
-    no-operands (folded {f = w} {e = x} {gs = gs} v k f) = of-one true (word w) (comp_ex x gs) (list-lookup x gs)
-    no-operands (added {e = x} {gs = gs} k f) = of-one false (word Fun.Sum) (comp_ex x gs) (list-lookup x gs)
-    no-operands (counted {gs = gs} k) =
-        of-one false (word Fun.Sum) (comp_ex (number_ex (pos 1)) gs) (list-lookup (number_ex (pos 1)) gs)
+    no-operands (folded {m = m} {f = w} {e = x} {gs = gs} v k f) = of-one m (word w) (comp_ex x gs) (list-lookup x gs)
+    no-operands (counted c) = counted-operands c
     no-operands (of_items {m = m} {f = w} {es = es} v l) = of-one m (word w) (list_of es) (item-lookup es)
-    no-operands (size {s = x} h q) = of-one false (unary Op1.Bar) x (set-lookup cells r h)
+    no-operands (size {s = x} h) = of-one false (unary Op1.Bar) x (set-lookup cells r h)
     no-operands (within {a = x} {s = y} f h) = of-two true (binary Op2.Member) x y (seen-lookup cells r f) (set-lookup cells r h)
     no-operands (set_within {a = x} {s = y} h k) = of-two true (binary Op2.Member) x y (set-lookup cells r h) (set-lookup cells r k)
     no-operands (compared {o = o} {s = x} {t = y} w h k) = of-two true (binary o) x y (set-lookup cells r h) (set-lookup cells r k)
 
     no-source : {e : Ex} {m : Bool} → Seen cells r e m → ordered_rewrite s g source_by_indices e ≡ None
     no-source number = refl
+    no-source (counted so_many) = refl
+    no-source (counted (from_to q)) = refl
+    no-source (counted from_0) = refl
+    no-source (counted (subsets t)) = refl
+    no-source (counted (none_below t)) = refl
     no-source f = refl
 
     -- At a tree over views.

@@ -1,34 +1,35 @@
 -- Of the rules that read no kind only those that are told, and the one that counts members, fire at the root of a tree over views.
-use Rattle.std.proofs.Common.{◌≡◌, refl, ap, ◌∙◌, ◌⊎◌, ℕ, Bool, true, false, ◌&&◌, if◌then◌else◌, Option, Some, None, option_map}
+use Rattle.std.proofs.Common.{◌≡◌, refl, ap, ◌∙◌, ◌⊎◌, ℕ, Bool, true, false, ◌&&◌, if◌then◌else◌, List, map, Option, Some, None, option_map}
 use Rattle.ess_semantics.specs.declared.words.Op1.{Op1}
 use Rattle.ess_semantics.specs.declared.words.Op2.{Op2}
 use Rattle.ess_semantics.specs.declared.words.Fun.{Fun}
+use Rattle.ess_semantics.specs.Lists.{and_then}
 use Rattle.ess_semantics.specs.Values.{Text, a_set}
 use Rattle.ess_semantics.specs.Names.{Names}
 use Rattle.ess_semantics.specs.Refined.{is_refined, are_refined_gens}
-use Rattle.ess_semantics.specs.Trees.{name_pat, Ex, Exs, number_ex, comp_ex, ex1, ex2, fun1, Gens, over, cond, no_gens}
-use Rattle.std.specs.Prelude.{pos}
+use Rattle.ess_semantics.specs.Trees.{name_pat, Ex, Exs, comp_ex, ex1, ex2, fun1, Gens, from}
 use Rattle.ess_semantics.specs.Types.{Ty, compound1}
 use Rattle.ess_semantics.specs.Typing.{type_of}
 use Rattle.ess_rules_laws.specs.SpliceRules.{append_gens}
 use Rattle.ess_rules_laws.specs.SourceRules.{list_of}
+use Rattle.ess_rules_laws.specs.Listings.{Alternative}
 use Rattle.ess_rules_laws.specs.ComponentRules.{components, equal_where}
 use Rattle.ess_rules_laws.specs.ShortSizeRules.{size_made}
 use Rattle.ess_refine_laws.specs.Everywhere.{everywhere, everywhere_gens}
 use Rattle.ess_refine_laws.specs.ExtremeRules.{is_extreme, are_none, either_number, extreme_condition}
+use Rattle.ess_refine_laws.specs.ExtremeAlternatives.{put_alternative, extreme_alternatives}
 use Rattle.ess_refine_laws.specs.LeavingConditions.{Parted, at_last_condition}
 use Rattle.ess_refine_laws.specs.MovingConditions.{one_later, condition_later}
-use Rattle.ess_refine_laws.specs.AllRules.{Rule, Supply, rewrite, opposite_copied, over_nothing, equal_tuples, equal_records, equal_multisets, equal_functions, equal_partitions, with_nothing, equal_matrices_at, included_multisets, size_of_one_made_of_another, condition_behind, least_under_a_condition}
+use Rattle.ess_refine_laws.specs.AllRules.{Rule, Supply, offered, rewrite, opposite_copied, over_nothing, equal_tuples, equal_records, equal_multisets, equal_functions, equal_partitions, with_nothing, equal_matrices_at, included_multisets, size_of_one_made_of_another, condition_behind, least_under_a_condition, least_of_alternatives}
 use Rattle.ess_open_rules_laws.specs.OpenRules.{is_compound_ty}
 use Rattle.ess_flat_laws.specs.Flat.{denied, negative, absolute, both, either, implied, agreeing, equal, unequal, below, at_most, above, at_least, sum, difference, product}
 use Rattle.ess_flat_laws.proofs.Asked.{unasked, no-msets, no-functions, no-partitions, no-components, no-fields, no-matrices, no-nothing}
-use Rattle.ess_bare_laws.specs.Bare.{TruthWord, all_hold, some_holds}
 use Rattle.ess_bare_laws.specs.Lean.{FoldWord, of_all, of_some, of_sum}
-use Rattle.ess_seen_laws.specs.Seen.{scalars, kind_ty, Bound, bound_types, Compares, alike, apart, included, properly_included, including, properly_including, Seen, Listed, last_item, item_before, number, truth, named, cell, atom, one, two, power, chosen, folded, added, counted, of_items, size, within, set_within, compared, SetTerm, view, drawn, combined, Going, at_end, through, among, where_holds, Axes, no_axis, along, Counting, members_of, in_use, Kind}
+use Rattle.ess_seen_laws.specs.Seen.{scalars, kind_ty, Bound, bound_types, united, shared, lessened, so_many, from_to, from_0, subsets, none_below, Compares, alike, apart, included, properly_included, including, properly_including, Seen, Listed, last_item, item_before, number, truth, named, counted, figure, flag, atom, one, two, chosen, folded, of_items, size, within, set_within, compared, SetTerm, view, drawn, combined, Going, at_end, through, through_slots, among, where_holds, Kind}
 use Rattle.ess_seen_laws.specs.Laws.{SeenTreesHaveTypes}
 use Rattle.ess_seen_laws.specs.MayFire.{may_fire, CountsMembers}
 use Rattle.ess_seen_rules_laws.proofs.Allowed.{Allowed, allowed-none, Answer, answer-so}
-use Rattle.ess_seen_rules_laws.proofs.SetTypes.{not-combined, no-set-components, no-set-fields, no-set-msets, no-set-functions, no-set-partitions, no-set-nothing, no-set-matrices, are-sets}
+use Rattle.ess_seen_rules_laws.proofs.SetTypes.{no-set-components, no-set-fields, no-set-msets, no-set-functions, no-set-partitions, no-set-nothing, no-set-matrices, are-sets}
 
 -- Scalars aren't of compound values.
 mark-plain : (m : Bool) → is_compound_ty (Some (kind_ty (scalars m))) ≡ false
@@ -59,7 +60,13 @@ sum-is-no-extreme m e gs = go (at_last_condition gs)
     go None = tt
     go (Some t) = tt
 
-module _ (types : SeenTreesHaveTypes) (cells : Text → Option (Bool × ℕ)) (s : Supply) (r : Names Bound) where
+-- Alternatives of a source have a least item under `min` and `max` alone.
+sum-has-no-least : (o : Option (List Alternative)) (y : Text) (e v : Ex) (hs : Gens) → Allowed false
+    (and_then o (λ l. extreme_alternatives (map (put_alternative y e hs) l) (fun1 false Fun.Sum (comp_ex e (from (name_pat y) v hs)))))
+sum-has-no-least None y e v hs = tt
+sum-has-no-least (Some l) y e v hs = tt
+
+module _ (types : SeenTreesHaveTypes) (cells : Text → Option (Bool × List ℕ)) (s : Supply) (r : Names Bound) where
   abbrev F : Ex → Bool → Type 0
   F = Seen cells r
 
@@ -77,7 +84,8 @@ module _ (types : SeenTreesHaveTypes) (cells : Text → Option (Bool × ℕ)) (s
   no-size number = refl
   no-size truth = refl
   no-size (named h k) = refl
-  no-size (cell h i) = refl
+  no-size (figure h i) = refl
+  no-size (flag h i) = refl
   no-size (atom h p) = refl
   no-size (one denied f) = refl
   no-size (one negative f) = refl
@@ -95,16 +103,19 @@ module _ (types : SeenTreesHaveTypes) (cells : Text → Option (Bool × ℕ)) (s
   no-size (two sum f h) = refl
   no-size (two difference f h) = refl
   no-size (two product f h) = refl
-  no-size (power f h) = refl
   no-size (chosen f) = refl
-  no-size (folded all_hold k f) = refl
-  no-size (folded some_holds k f) = refl
-  no-size (added k f) = refl
-  no-size (counted k) = refl
+  no-size (folded of_all k f) = refl
+  no-size (folded of_some k f) = refl
+  no-size (folded of_sum k f) = refl
+  no-size (counted so_many) = refl
+  no-size (counted (from_to q)) = refl
+  no-size (counted from_0) = refl
+  no-size (counted (subsets t)) = refl
+  no-size (counted (none_below t)) = refl
   no-size (of_items of_all l) = refl
   no-size (of_items of_some l) = refl
   no-size (of_items of_sum l) = refl
-  no-size (size h q) = refl
+  no-size (size h) = refl
   no-size (within f h) = refl
   no-size (set_within h k) = refl
   no-size (compared o h k) = refl
@@ -114,38 +125,65 @@ module _ (types : SeenTreesHaveTypes) (cells : Text → Option (Bool × ℕ)) (s
   at-chosen number over_nothing = tt
   at-chosen truth over_nothing = tt
   at-chosen (named h k) over_nothing = tt
-  at-chosen (cell h i) over_nothing = tt
+  at-chosen (figure h i) over_nothing = tt
+  at-chosen (flag h i) over_nothing = tt
   at-chosen (atom h p) over_nothing = tt
   at-chosen (one o f) over_nothing = tt
   at-chosen (two o f h) over_nothing = tt
-  at-chosen (power f h) over_nothing = tt
   at-chosen (chosen f) over_nothing = tt
   at-chosen (folded w k f) over_nothing = tt
-  at-chosen (added k f) over_nothing = tt
-  at-chosen (counted k) over_nothing = tt
+  at-chosen (counted so_many) over_nothing = tt
+  at-chosen (counted (from_to q)) over_nothing = tt
+  at-chosen (counted from_0) over_nothing = tt
+  at-chosen (counted (subsets t)) over_nothing = tt
+  at-chosen (counted (none_below t)) over_nothing = tt
   at-chosen (of_items w l) over_nothing = tt
-  at-chosen (size h q) over_nothing = tt
+  at-chosen (size h) over_nothing = tt
   at-chosen (within f h) over_nothing = tt
   at-chosen (set_within h k) over_nothing = tt
   at-chosen (compared o h k) over_nothing = tt
   at-chosen f u = tt
 
   -- At a fold of truth values.
-  at-truths : {t : Names Bound} {w : Fun} {gs : Gens} (e : Ex) → TruthWord w → Going cells r gs t → (u : Rule) →
+  at-truths : {t : Names Bound} {w : Fun} {gs : Gens} (e : Ex) → FoldWord true w → Going cells r gs t → (u : Rule) →
       A (fun1 true w (comp_ex e gs)) u
-  at-truths e all_hold at_end over_nothing = tt
-  at-truths e all_hold (through n k) over_nothing = tt
-  at-truths e all_hold (among (view a b c d) k) over_nothing = tt
-  at-truths e all_hold (among (drawn h) k) over_nothing = tt
-  at-truths e all_hold (among (combined o h l) k) over_nothing = tt
-  at-truths e all_hold (where_holds f k) over_nothing = tt
-  at-truths e some_holds at_end over_nothing = tt
-  at-truths e some_holds (through n k) over_nothing = tt
-  at-truths e some_holds (among (view a b c d) k) over_nothing = tt
-  at-truths e some_holds (among (drawn h) k) over_nothing = tt
-  at-truths e some_holds (among (combined o h l) k) over_nothing = tt
-  at-truths e some_holds (where_holds f k) over_nothing = tt
+  at-truths e of_all at_end over_nothing = tt
+  at-truths e of_all (through n k) over_nothing = tt
+  at-truths e of_all (through_slots c k) over_nothing = tt
+  at-truths e of_all (among (view a b c d) k) over_nothing = tt
+  at-truths e of_all (among (drawn h) k) over_nothing = tt
+  at-truths e of_all (among (combined o h l) k) over_nothing = tt
+  at-truths e of_all (where_holds f k) over_nothing = tt
+  at-truths e of_some at_end over_nothing = tt
+  at-truths e of_some (through n k) over_nothing = tt
+  at-truths e of_some (through_slots c k) over_nothing = tt
+  at-truths e of_some (among (view a b c d) k) over_nothing = tt
+  at-truths e of_some (among (drawn h) k) over_nothing = tt
+  at-truths e of_some (among (combined o h l) k) over_nothing = tt
+  at-truths e of_some (where_holds f k) over_nothing = tt
   at-truths e w k u = tt
+
+  -- At a sum.
+  at-sum : {t : Names Bound} {gs : Gens} (e : Ex) → Going cells r gs t → (u : Rule) → A (fun1 false Fun.Sum (comp_ex e gs)) u
+  at-sum e at_end over_nothing = tt
+  at-sum e (through n k) over_nothing = tt
+  at-sum e (through_slots c k) over_nothing = tt
+  at-sum e (among (view a b c d) k) over_nothing = tt
+  at-sum e (among (drawn h) k) over_nothing = tt
+  at-sum e (among (combined united h l) k) over_nothing = tt
+  at-sum e (among (combined shared h l) k) over_nothing = tt
+  at-sum e (among (combined lessened h l) k) over_nothing = tt
+  at-sum e (where_holds f k) over_nothing = tt
+  at-sum {gs = gs} e k condition_behind = sum-stays e gs
+  at-sum {gs = gs} e k least_under_a_condition = sum-is-no-extreme (opposite_copied s (fun1 false Fun.Sum (comp_ex e gs))) e gs
+  at-sum e (among {a = y} {s = v} {gs = hs} (combined o h l) k) least_of_alternatives = sum-has-no-least (offered s g v) y e v hs
+  at-sum e k u = tt
+
+  at-fold : {t : Names Bound} {m : Bool} {w : Fun} {gs : Gens} (e : Ex) → FoldWord m w → Going cells r gs t → (u : Rule) →
+      A (fun1 m w (comp_ex e gs)) u
+  at-fold e of_all k u = at-truths e of_all k u
+  at-fold e of_some k u = at-truths e of_some k u
+  at-fold e of_sum k u = at-sum e k u
 
   -- Over one item, or over several.
   at-items : {m : Bool} {w : Fun} {es : Exs} → FoldWord m w → Listed cells r es m → (u : Rule) → A (fun1 m w (list_of es)) u
@@ -156,27 +194,6 @@ module _ (types : SeenTreesHaveTypes) (cells : Text → Option (Bool × ℕ)) (s
   at-items of_sum (last_item f) over_nothing = tt
   at-items of_sum (item_before f l) over_nothing = tt
   at-items w l u = tt
-
-  -- At a sum.
-  at-numbers : {t : Names Bound} {gs : Gens} (e : Ex) → Axes cells r gs t → (u : Rule) → A (fun1 false Fun.Sum (comp_ex e gs)) u
-  at-numbers e no_axis over_nothing = tt
-  at-numbers e (along n k) over_nothing = tt
-  at-numbers e (along {a = a} {d = d} {gs = gs} n k) condition_behind = sum-stays e (over (name_pat a) d gs)
-  at-numbers e (along {a = a} {d = d} {gs = gs} n k) least_under_a_condition =
-      sum-is-no-extreme (opposite_copied s (fun1 false Fun.Sum (comp_ex e (over (name_pat a) d gs)))) e (over (name_pat a) d gs)
-  at-numbers e k u = tt
-
-  at-counted : {gs : Gens} → Counting cells r gs → (u : Rule) → A (fun1 false Fun.Sum (comp_ex (number_ex (pos 1)) gs)) u
-  at-counted (members_of (view a b c d) q) over_nothing = tt
-  at-counted (members_of (drawn h) q) over_nothing = tt
-  at-counted (members_of (combined o h k) q) u = absurd (not-combined q)
-  at-counted (in_use n f) over_nothing = tt
-  at-counted (in_use {a = a} {d = d} {c = c} n f) condition_behind =
-      sum-stays (number_ex (pos 1)) (over (name_pat a) d (cond c no_gens))
-  at-counted (in_use {a = a} {d = d} {c = c} n f) least_under_a_condition =
-      sum-is-no-extreme (opposite_copied s (fun1 false Fun.Sum (comp_ex (number_ex (pos 1)) (over (name_pat a) d (cond c no_gens)))))
-      (number_ex (pos 1)) (over (name_pat a) d (cond c no_gens))
-  at-counted k u = tt
 
   -- At a size of a set, and at a membership.
   at-size : {e : Ex} {k : Kind} → SetTerm cells r e k → (u : Rule) → A (ex1 false Op1.Bar e) u
@@ -236,7 +253,8 @@ module _ (types : SeenTreesHaveTypes) (cells : Text → Option (Bool × ℕ)) (s
   few number over_nothing = tt
   few truth over_nothing = tt
   few (named h k) over_nothing = tt
-  few (cell h i) over_nothing = tt
+  few (figure h i) over_nothing = tt
+  few (flag h i) over_nothing = tt
   few (atom h p) over_nothing = tt
   few (one denied f) over_nothing = tt
   few (one negative f) over_nothing = tt
@@ -263,13 +281,15 @@ module _ (types : SeenTreesHaveTypes) (cells : Text → Option (Bool × ℕ)) (s
   few (two sum f h) over_nothing = tt
   few (two difference f h) over_nothing = tt
   few (two product f h) over_nothing = tt
-  few (power f h) over_nothing = tt
   few (chosen f) u = at-chosen f u
-  few (folded {e = e} w k f) u = at-truths e w k u
-  few (added {e = e} k f) u = at-numbers e k u
-  few (counted k) u = at-counted k u
+  few (folded {e = e} w k f) u = at-fold e w k u
+  few (counted so_many) over_nothing = tt
+  few (counted (from_to q)) over_nothing = tt
+  few (counted from_0) over_nothing = tt
+  few (counted (subsets t)) over_nothing = tt
+  few (counted (none_below t)) over_nothing = tt
   few (of_items w l) u = at-items w l u
-  few (size h q) u = at-size h u
+  few (size h) u = at-size h u
   few (within {a = a} f h) u = at-within a h u
   few (set_within {a = a} h k) u = at-within a k u
   few (compared w h k) u = at-compared w h k u

@@ -14,10 +14,6 @@ use Rattle.ess_rules_laws.specs.PartitionRules.{both_partitions}
 use Rattle.ess_rules_laws.specs.MatrixRules.{both_matrices, is_matrix, equal_to_nothing}
 use Rattle.ess_flat_laws.proofs.Asked.{unasked}
 
--- What is made of two isn't something else.
-pub not-combined : true ≡ false → ⊥
-not-combined q = cc
-
 module _ {k : Ty} where
   -- A set has no components.
   pub no-set-components : (t u : Option Ty) (a b : Ex) → t ≡ Some (compound1 a_set k) →

@@ -1,5 +1,5 @@
--- No rule fires at a set, or at an index of a view.
-use Rattle.std.proofs.Common.{◌≡◌, refl, ℕ, Bool, true, false, Option, None}
+-- No rule fires at a set.
+use Rattle.std.proofs.Common.{◌≡◌, refl, ℕ, Bool, true, false, List, Option, None}
 use Rattle.ess_semantics.specs.Values.{Text}
 use Rattle.ess_semantics.specs.Names.{Names}
 use Rattle.ess_semantics.specs.Trees.{Ex}
@@ -8,24 +8,22 @@ use Rattle.ess_refine_laws.specs.AllRules.{Supply, Rule, rewrite, over_nothing}
 use Rattle.ess_gathered_laws.specs.GatheredConditions.{conditions_gathered}
 use Rattle.ess_kind_rules_laws.specs.KindRules.{KindRule, kind_rewrite, cell_of_an_atom, of_what_is_picked}
 use Rattle.ess_open_rules_laws.specs.OpenRules.{KindRuling, of_kind, of_opening, kind_ruled, OpenRule, open_rewrite, step_by_step, of_a_pick}
-use Rattle.ess_ordered_laws.specs.OrderedRules.{OrderedRule, ordered_rewrite}
-use Rattle.ess_seen_laws.specs.Seen.{Kind, Bound, united, shared, lessened, as_an_atom, by_occurrence, with_a_dummy, in_slots, with_a_marker, with_flags, SetTerm, view, drawn, combined, number, named}
-use Rattle.ess_seen_laws.specs.SeenParts.{IsIndex, numeral, axis}
+use Rattle.ess_seen_laws.specs.Seen.{Kind, Bound, united, shared, lessened, as_an_atom, by_occurrence, with_a_dummy, in_slots, with_a_marker, with_flags, SetTerm, view, drawn, combined}
 use Rattle.ess_seen_rules_laws.specs.Laws.{NoneFires}
 use Rattle.ess_seen_rules_laws.proofs.Allowed.{Allowed, allowed-not}
 use Rattle.ess_seen_rules_laws.proofs.Picks.{set-operands-pick, picks-no-kind, picks-no-open}
-use Rattle.ess_seen_rules_laws.proofs.OrderRules.{no-order, no-order-set}
+use Rattle.ess_seen_rules_laws.proofs.OrderRules.{no-order-set}
 
 -- No answer, but of what operands pick, which is looked at by itself.
-abbrev NoKind : KindRule → Option Ex → Type 0
+abbrev pub NoKind : KindRule → Option Ex → Type 0
 NoKind of_what_is_picked o = Unit {0}
 NoKind u o = Allowed false o
 
-abbrev NoOpen : OpenRule → Option Ex → Type 0
+abbrev pub NoOpen : OpenRule → Option Ex → Type 0
 NoOpen of_a_pick o = Unit {0}
 NoOpen u o = Allowed false o
 
-module _ (cells : Text → Option (Bool × ℕ)) (r : Names Bound) where
+module _ (cells : Text → Option (Bool × List ℕ)) (r : Names Bound) where
   plain-set : (s : Supply) (g : Names Ty) {e : Ex} {k : Kind} → SetTerm cells r e k → (u : Rule) → Allowed false (rewrite s g u e)
   plain-set s g (view a b c d) over_nothing = tt
   plain-set s g (drawn h) over_nothing = tt
@@ -40,11 +38,11 @@ module _ (cells : Text → Option (Bool × ℕ)) (r : Names Bound) where
     where
       no-atom : false ≡ true → ⊥
       no-atom q = cc
-  kind-set s g (view a b (by_occurrence w h c) d) cell_of_an_atom = tt
-  kind-set s g (view a b (with_a_dummy w h q c) d) cell_of_an_atom = tt
-  kind-set s g (view a b (in_slots w k) d) cell_of_an_atom = tt
-  kind-set s g (view a b (with_a_marker w c k) d) cell_of_an_atom = tt
-  kind-set s g (view a b (with_flags w c k) d) cell_of_an_atom = tt
+  kind-set s g (view a b (by_occurrence n w h c) d) cell_of_an_atom = tt
+  kind-set s g (view a b (with_a_dummy w h q l c) d) cell_of_an_atom = tt
+  kind-set s g (view a b (in_slots w l k) d) cell_of_an_atom = tt
+  kind-set s g (view a b (with_a_marker w l c k) d) cell_of_an_atom = tt
+  kind-set s g (view a b (with_flags w l c k) d) cell_of_an_atom = tt
   kind-set s g (drawn h) cell_of_an_atom = tt
   kind-set s g (combined o h k) cell_of_an_atom = tt
   kind-set s g h u = tt
@@ -73,44 +71,4 @@ module _ (cells : Text → Option (Bool × ℕ)) (r : Names Bound) where
     by_kind = λ s g u. kinds-set s g h u;
     gathering = gathers-set h;
     in_order = λ s g u. no-order-set s g cells r h u;
-  }
-
--- ---- indices
-
-module _ (r : Names Bound) where
-  plain-index : (s : Supply) (g : Names Ty) {e : Ex} → IsIndex r e → (u : Rule) → Allowed false (rewrite s g u e)
-  plain-index s g numeral over_nothing = tt
-  plain-index s g (axis h) over_nothing = tt
-  plain-index s g h u = tt
-
-  kind-index : (s : Supply) (g : Names Ty) {e : Ex} → IsIndex r e → (u : KindRule) → Allowed false (kind_rewrite s g u e)
-  kind-index s g numeral cell_of_an_atom = tt
-  kind-index s g (axis h) cell_of_an_atom = tt
-  kind-index s g h u = tt
-
-  open-index : (s : Supply) (g : Names Ty) {e : Ex} → IsIndex r e → (u : OpenRule) → Allowed false (open_rewrite s g u e)
-  open-index s g numeral step_by_step = tt
-  open-index s g (axis h) step_by_step = tt
-  open-index s g h u = tt
-
-  kinds-index : (s : Supply) (g : Names Ty) {e : Ex} → IsIndex r e → (u : KindRuling) → kind_ruled s g u e ≡ None
-  kinds-index s g h (of_kind u) = allowed-not _ (kind-index s g h u)
-  kinds-index s g h (of_opening u) = allowed-not _ (open-index s g h u)
-
-  gathers-index : {e : Ex} → IsIndex r e → conditions_gathered e ≡ None
-  gathers-index numeral = refl
-  gathers-index (axis h) = refl
-
-  -- An index is a tree over views.
-  orders-index : (s : Supply) (g : Names Ty) {e : Ex} → IsIndex r e → (u : OrderedRule) → ordered_rewrite s g u e ≡ None
-  orders-index s g numeral u = no-order s g (λ a. None) r number u
-  orders-index s g (axis h) u = no-order s g (λ a. None) r (named h refl) u
-
-  -- None fires at an index.
-  pub indices-rest : (e : Ex) → IsIndex r e → NoneFires e
-  indices-rest e h = record {
-    plainly = λ s g u. allowed-not _ (plain-index s g h u);
-    by_kind = λ s g u. kinds-index s g h u;
-    gathering = gathers-index h;
-    in_order = λ s g u. orders-index s g h u;
   }

@@ -7,12 +7,13 @@ use Rattle.ess_semantics.specs.Names.{Names}
 use Rattle.ess_semantics.specs.Trees.{Mark, Repr, repr, no_reprs, more_reprs, name_pat, Ex, Exs, name_ex, comp_ex, seen_ex, Gens, over, from, cond, Dom, set_dom, ex2}
 use Rattle.ess_semantics.specs.Types.{Ty}
 use Rattle.ess_rules_laws.specs.ListedSources.{source_in_order}
+use Rattle.ess_rules_laws.specs.SlotListings.{slots_dom}
 use Rattle.ess_refine_laws.specs.AllRules.{Supply}
 use Rattle.ess_kind_rules_laws.specs.ViewListings.{matrix_listing}
 use Rattle.ess_open_rules_laws.specs.OpenGenerators.{Opened, with_first, at_first_open}
 use Rattle.ess_open_rules_laws.specs.OpenSources.{loose_source, kept_in_order}
 use Rattle.ess_ordered_laws.specs.IndexedSources.{indexed_source}
-use Rattle.ess_seen_laws.specs.Seen.{Kind, Bound, SetTerm, view, drawn, combined, Going, at_end, through, among, where_holds, truths, numbers}
+use Rattle.ess_seen_laws.specs.Seen.{Kind, Bound, SetTerm, view, drawn, combined, Going, at_end, through, through_slots, among, where_holds, truths, numbers}
 
 -- A name, a view over a domain of sets, or what is made of two terms.
 abbrev pub IsSetForm : Ex → Type 0
@@ -35,7 +36,7 @@ opens-behind : (f : Gens → Gens) (o : Option Opened) → OpensAtSet o → Open
 opens-behind f None h = tt
 opens-behind f (Some t) h = h
 
-module _ (cells : Text → Option (Bool × ℕ)) where
+module _ (cells : Text → Option (Bool × List ℕ)) where
   -- A set has this form.
   pub set-form : {r : Names Bound} {e : Ex} {k : Kind} → SetTerm cells r e k → IsSetForm e
   set-form (view a b c d) = tt
@@ -48,6 +49,8 @@ module _ (cells : Text → Option (Bool × ℕ)) where
   opens-at-set (through {a = a} {d = d} {gs = gs} truths k) = opens-behind (over (name_pat a) d) (at_first_open gs) (opens-at-set k)
   opens-at-set (through {a = a} {d = d} {gs = gs} (numbers b es) k) =
       opens-behind (over (name_pat a) d) (at_first_open gs) (opens-at-set k)
+  opens-at-set (through_slots {a = a} {e = e} {gs = gs} c k) =
+      opens-behind (over (name_pat a) (slots_dom e)) (at_first_open gs) (opens-at-set k)
   opens-at-set (among h k) = set-form h
   opens-at-set (where_holds {c = c} {gs = gs} f k) = opens-behind (cond c) (at_first_open gs) (opens-at-set k)
 

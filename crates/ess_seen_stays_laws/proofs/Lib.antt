@@ -16,3 +16,4 @@ pub mod Stays
 pub mod Known
 -- Worked examples
 mod ExamplesStays
+mod ExamplesSums

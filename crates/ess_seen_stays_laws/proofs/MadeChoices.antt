@@ -1,5 +1,5 @@
 -- What the rules of products that conditions choose, of sizes and of memberships make of a tree over views is one with the same mark.
-use Rattle.std.proofs.Common.{◌≡◌, refl, ap, ◌∙◌, ℕ, suc, zero, Bool, true, false, ◌∷◌, pos, Option, Some, None}
+use Rattle.std.proofs.Common.{◌≡◌, refl, ap, ◌∙◌, ℕ, suc, zero, Bool, true, false, List, ◌∷◌, pos, Option, Some, None}
 use Rattle.ess_semantics.specs.declared.words.Op2.{Op2}
 use Rattle.ess_semantics.specs.declared.words.Fun.{Fun}
 use Rattle.ess_semantics.specs.Values.{Text}
@@ -11,9 +11,8 @@ use Rattle.ess_rules_laws.specs.MembershipRules.{member_term}
 use Rattle.ess_rules_laws.specs.SizeRules.{is_counted, size_term}
 use Rattle.ess_flat_laws.specs.Flat.{denied, absolute, both, equal, product}
 use Rattle.ess_flat_laws.proofs.Asked.{unasked}
-use Rattle.ess_bare_laws.specs.Bare.{all_hold, some_holds}
-use Rattle.ess_bare_laws.specs.Lean.{of_all}
-use Rattle.ess_seen_laws.specs.Seen.{Kind, scalars, sets_of, kind_ty, Bound, from_a_set, bound_types, alike, drawn, Seen, number, named, one, two, chosen, folded, counted, of_items, size as sized, within, set_within, compared, at_end, among, members_of}
+use Rattle.ess_bare_laws.specs.Lean.{of_all, of_some, of_sum}
+use Rattle.ess_seen_laws.specs.Seen.{Kind, scalars, sets_of, kind_ty, Bound, from_a_set, bound_types, alike, so_many, drawn, Seen, number, named, one, two, counted, chosen, folded, of_items, size as sized, within, set_within, compared, at_end, among}
 use Rattle.ess_seen_laws.specs.Laws.{SeenTreesHaveTypes, SeenTreesStayAmongMore}
 use Rattle.ess_seen_laws.specs.Putting.{Within}
 use Rattle.ess_seen_stays_laws.proofs.Terms.{look-here}
@@ -24,17 +23,18 @@ mark-uncounted : (m : Bool) → is_counted (Some (kind_ty (scalars m))) ≡ fals
 mark-uncounted true = refl
 mark-uncounted false = refl
 
-module _ (cells : Text → Option (Bool × ℕ)) (r : Names Bound) where
+module _ (cells : Text → Option (Bool × List ℕ)) (r : Names Bound) where
   -- ---- products
 
   -- A number that a condition chooses, as often as another one, or once.
   by-second : {c y : Ex} {k : Bool} → Seen cells r c true → Seen cells r y k →
       Made cells r false (choice_shorter (ex2 false Op2.Times (fun1 false Fun.ToInt c) y))
   by-second f (number {i = pos (suc zero)}) = chosen f
+  by-second f (counted (so_many {n = suc zero})) = chosen f
   by-second g (one denied f) = tt
   by-second g (two both f h) = tt
   by-second g (chosen f) = chosen (two both g f)
-  by-second g (folded all_hold k f) = tt
+  by-second g (folded of_all k f) = tt
   by-second g (of_items of_all l) = tt
   by-second g f = tt
 
@@ -42,7 +42,8 @@ module _ (cells : Text → Option (Bool × ℕ)) (r : Names Bound) where
   by-first (one denied f) g = tt
   by-first (two both f h) g = tt
   by-first (chosen f) g = by-second f g
-  by-first (folded all_hold k f) g = tt
+  by-first (counted so_many) g = tt
+  by-first (folded of_all k f) g = tt
   by-first (of_items of_all l) g = tt
   by-first f g = tt
 
@@ -50,6 +51,8 @@ module _ (cells : Text → Option (Bool × ℕ)) (r : Names Bound) where
   pub chosen-shorter : {e : Ex} {m : Bool} → Seen cells r e m → Made cells r m (choice_shorter e)
   chosen-shorter (one denied f) = tt
   chosen-shorter (two product f h) = by-first f h
+  chosen-shorter (counted so_many) = tt
+  chosen-shorter (folded of_all k f) = tt
   chosen-shorter (of_items of_all l) = tt
   chosen-shorter f = tt
 
@@ -61,8 +64,10 @@ module _ (cells : Text → Option (Bool × ℕ)) (r : Names Bound) where
     size-made (one {x = e} absolute f) = made-none cells r false _ (unasked _
         (ap is_counted (types.of_scalars cells r e false f) ∙ mark-uncounted false))
     size-made (two both f h) = tt
+    size-made (counted so_many) = tt
+    size-made (folded of_all k f) = tt
     size-made (of_items of_all l) = tt
-    size-made (sized {s = s} h n) = made-either cells (is_counted (type_of s (bound_types r))) _ (counted (members_of h n))
+    size-made (sized {s = s} h) = made-either cells (is_counted (type_of s (bound_types r))) _ (folded of_sum (among h at_end) number)
     size-made f = tt
 
   module _ (more : SeenTreesStayAmongMore) (x : Text) (new : look r x ≡ None) where
@@ -77,14 +82,16 @@ module _ (cells : Text → Option (Bool × ℕ)) (r : Names Bound) where
     pub member-made : {e : Ex} {m : Bool} → Seen cells r e m → Made cells r m (member_term x e)
     member-made (one denied f) = tt
     member-made (two both f h) = tt
+    member-made (counted so_many) = tt
+    member-made (folded of_all k f) = tt
     member-made (of_items of_all l) = tt
     member-made (within {m = m} {a = a} f h) =
         let k : Kind = scalars m in
-        folded some_holds (among h at_end) (two equal (named (look-here r x (from_a_set k)) refl)
+        folded of_some (among h at_end) (two equal (named (look-here r x (from_a_set k)) refl)
         (more.seen cells r (T k) a m (wider k) f))
     member-made (set_within {k = j} {a = a} f h) =
         let k : Kind = sets_of j in
-        folded some_holds (among h at_end) (compared alike (drawn (look-here r x (from_a_set k)))
+        folded of_some (among h at_end) (compared alike (drawn (look-here r x (from_a_set k)))
         (more.set cells r (T k) a j (wider k) f))
     member-made (compared alike f h) = tt
     member-made f = tt

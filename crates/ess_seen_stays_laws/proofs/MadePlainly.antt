@@ -1,20 +1,31 @@
 -- What the rules that read no kind make of a tree over views is one with the same mark.
-use Rattle.std.proofs.Common.{◌≡◌, refl, sym, ap, subst, ℕ, Bool, true, false, ◌&&◌, if◌then◌else◌, ◌∷◌, pos, Option, Some, None, option_map}
+use Rattle.std.proofs.Common.{◌≡◌, refl, sym, ap, subst, ℕ, Bool, true, false, ◌&&◌, if◌then◌else◌, List, ◌∷◌, Option, Some, None, option_map}
 use Rattle.ess_semantics.specs.declared.words.Fun.{Fun}
 use Rattle.ess_semantics.specs.Values.{Text}
 use Rattle.ess_semantics.specs.Names.{Names}
 use Rattle.ess_semantics.specs.Occurrences.{has_cells}
 use Rattle.ess_semantics.specs.Refined.{is_refined, are_refined_gens}
-use Rattle.ess_semantics.specs.Trees.{name_pat, Ex, Exs, number_ex, comp_ex, fun1, Gens, no_gens, over, from, cond, Dom}
+use Rattle.ess_semantics.specs.Trees.{name_pat, Ex, Exs, comp_ex, fun1, Gens, no_gens, over, from, cond}
+use Rattle.ess_semantics.proofs.Tests.{and-right}
 use Rattle.ess_rules_laws.specs.FoldRules.{fold_alone, fold_bare, fold_one}
 use Rattle.ess_rules_laws.specs.SourceRules.{is_marked, list_of}
+use Rattle.ess_rules_laws.specs.SlotListings.{slots_dom}
+use Rattle.ess_refine_laws.specs.Everywhere.{everywhere}
 use Rattle.ess_refine_laws.specs.LeavingConditions.{Parted, with_before, at_last_condition, under_condition, condition_leaves}
 use Rattle.ess_flat_laws.specs.Flat.{denied, both, implied, product}
-use Rattle.ess_bare_laws.specs.Bare.{TruthWord, all_hold, some_holds}
 use Rattle.ess_bare_laws.specs.Lean.{FoldWord, of_all, of_some, of_sum}
-use Rattle.ess_seen_laws.specs.Seen.{Bound, over_a_range, from_a_set, Seen, number, one, two, chosen, folded, added, counted, of_items, Listed, last_item, item_before, Going, at_end, through, among, where_holds, Axes, no_axis, along, members_of, in_use, Range}
+use Rattle.ess_seen_laws.specs.Seen.{Bound, over_a_range, over_slots, from_a_set, so_many, Seen, number, one, two, counted, chosen, folded, of_items, Listed, last_item, item_before, Going, at_end, through, through_slots, among, where_holds}
 
-module _ (cells : Text → Option (Bool × ℕ)) where
+-- In the place of a refined number the one that is there everywhere is a tree over views.
+abbrev pub StayEverywhere : (Text → Option (Bool × List ℕ)) → Type 0
+StayEverywhere cells =
+    (r : Names Bound) (e : Ex) → Seen cells r e false → is_refined e ≡ true → Seen cells r (everywhere e) false
+
+-- A sum of what is refined is refined.
+refined-sum : (e : Ex) (gs : Gens) → is_refined e && are_refined_gens gs ≡ true → is_refined (fun1 false Fun.Sum (comp_ex e gs)) ≡ true
+refined-sum e gs h = ap (λ b. b && true) h
+
+module _ (cells : Text → Option (Bool × List ℕ)) where
   -- What is made is a tree over views.
   abbrev pub Made : Names Bound → Bool → Option Ex → Type 0
   Made r m None = Unit {0}
@@ -24,6 +35,11 @@ module _ (cells : Text → Option (Bool × ℕ)) where
   pub made-either : {r : Names Bound} {m : Bool} (b : Bool) (f : Ex) → Seen cells r f m → Made r m (if b then Some f else None)
   made-either true f h = h
   made-either false f h = tt
+
+  -- So it is where it is one because of the condition.
+  made-when : {r : Names Bound} {m : Bool} (b : Bool) (f : Ex) → (b ≡ true → Seen cells r f m) → Made r m (if b then Some f else None)
+  made-when true f h = h refl
+  made-when false f h = tt
 
   -- Nothing is made.
   pub made-none : (r : Names Bound) (m : Bool) (o : Option Ex) → o ≡ None → Made r m o
@@ -48,7 +64,8 @@ module _ (cells : Text → Option (Bool × ℕ)) where
   pub of-one : {r : Names Bound} {e : Ex} {m : Bool} → Seen cells r e m → Made r m (fold_one e)
   of-one (one denied f) = tt
   of-one (two both f h) = tt
-  of-one (folded all_hold k f) = tt
+  of-one (counted so_many) = tt
+  of-one (folded of_all k f) = tt
   of-one (of_items w l) = of-items w l
   of-one f = tt
 
@@ -56,11 +73,10 @@ module _ (cells : Text → Option (Bool × ℕ)) where
   pub without : {r : Names Bound} {e : Ex} {m : Bool} → Seen cells r e m → Made r m (fold_bare e)
   without (one denied f) = tt
   without (two both f h) = tt
-  without (folded all_hold at_end f) = f
-  without (folded some_holds at_end f) = f
-  without (added no_axis f) = f
-  without (counted (members_of h n)) = tt
-  without (counted (in_use n f)) = tt
+  without (counted so_many) = tt
+  without (folded of_all at_end f) = f
+  without (folded of_some at_end f) = f
+  without (folded of_sum at_end f) = f
   without (of_items of_all l) = tt
   without f = tt
 
@@ -68,8 +84,9 @@ module _ (cells : Text → Option (Bool × ℕ)) where
   pub alone : {r : Names Bound} {e : Ex} {m : Bool} → Seen cells r e m → Made r m (fold_alone e)
   alone (one denied f) = tt
   alone (two both f h) = tt
-  alone (folded all_hold (where_holds c at_end) f) = two implied c f
-  alone (folded some_holds (where_holds c at_end) f) = two both c f
+  alone (counted so_many) = tt
+  alone (folded of_all (where_holds c at_end) f) = two implied c f
+  alone (folded of_some (where_holds c at_end) f) = two both c f
   alone (of_items of_all l) = tt
   alone f = tt
 
@@ -88,6 +105,12 @@ module _ (cells : Text → Option (Bool × ℕ)) where
       go : (o : Option Parted) → PartsGo ((a, over_a_range m) ∷ r) o t → PartsGo r (option_map (with_before (over (name_pat a) d)) o) t
       go None p = tt
       go (Some q) p = (p.0, through n p.1, p.2, p.3)
+  parts-go {r} {t} (through_slots {k = j} {a = a} {e = e} {gs = gs} c k) = go (at_last_condition gs) (parts-go k)
+    where
+      go : (o : Option Parted) → PartsGo ((a, over_slots j) ∷ r) o t →
+          PartsGo r (option_map (with_before (over (name_pat a) (slots_dom e))) o) t
+      go None p = tt
+      go (Some q) p = (p.0, through_slots c p.1, p.2, p.3)
   parts-go {r} {t} (among {k = k} {a = a} {s = s} {gs = gs} h g) = go (at_last_condition gs) (parts-go g)
     where
       go : (o : Option Parted) → PartsGo ((a, from_a_set k) ∷ r) o t → PartsGo r (option_map (with_before (from (name_pat a) s)) o) t
@@ -106,59 +129,37 @@ module _ (cells : Text → Option (Bool × ℕ)) where
       go None p = here (has_cells c)
       go (Some q) p = (p.0, where_holds f p.1, p.2, p.3)
 
-  leaves-fold : (r t : Names Bound) {w : Fun} (e : Ex) (gs : Gens) → TruthWord w → (o : Option Parted) → PartsGo r o t →
-      Seen cells t e true → Made r true (elim o [
-        | None ↦ None
-        | Some p ↦ if is_marked true w && (is_refined p.condition && (is_refined e && are_refined_gens p.after))
-            then Some (fun1 true w (comp_ex (under_condition w p.condition (fun1 true w (comp_ex e p.after))) p.before)) else None
-      ])
-  leaves-fold r t e gs v None p f = tt
-  leaves-fold r t e gs all_hold (Some q) p f =
-      made-either (is_marked true Fun.And && (is_refined q.condition && (is_refined e && are_refined_gens q.after))) _
-      (folded all_hold p.1 (two implied p.2 (folded all_hold p.3 f)))
-  leaves-fold r t e gs some_holds (Some q) p f =
-      made-either (is_marked true Fun.Or && (is_refined q.condition && (is_refined e && are_refined_gens q.after))) _
-      (folded some_holds p.1 (two both p.2 (folded some_holds p.3 f)))
-
-  -- What is counted in a range: where the condition reads cells it becomes a number.
-  leaves-count : {r : Names Bound} {m : Bool} (a : Text) {d : Dom} {c : Ex} → Range cells r d m →
-      Seen cells ((a, over_a_range m) ∷ r) c true → (b : Bool) → Made r false (elim
-      (option_map (with_before (over (name_pat a) d))
-      (if b then Some (record { before = no_gens; condition = c; after = no_gens }) else None)) [
-        | None ↦ None
-        | Some p ↦ if is_marked false Fun.Sum && (is_refined p.condition && (is_refined (number_ex (pos 1)) && are_refined_gens p.after))
-            then Some (fun1 false Fun.Sum (comp_ex (under_condition Fun.Sum p.condition
-            (fun1 false Fun.Sum (comp_ex (number_ex (pos 1)) p.after))) p.before)) else None
-      ])
-  leaves-count a n f false = tt
-  leaves-count a {d} {c} n f true =
-      made-either (is_marked false Fun.Sum && (is_refined c && (is_refined (number_ex (pos 1)) && are_refined_gens no_gens))) _
-      (added (along n no_axis) (two product (chosen f) (added no_axis number)))
-
-  no-axis-condition : {r t : Names Bound} {gs : Gens} → Axes cells r gs t → at_last_condition gs ≡ None
-  no-axis-condition no_axis = refl
-  no-axis-condition (along {a = a} {d = d} n g) = ap (option_map (with_before (over (name_pat a) d))) (no-axis-condition g)
-
-  leaves-sum : (r : Names Bound) (e : Ex) (o : Option Parted) → o ≡ None → Made r false (elim o [
-    | None ↦ None
-    | Some p ↦ if is_marked false Fun.Sum && (is_refined p.condition && (is_refined e && are_refined_gens p.after))
-        then Some (fun1 false Fun.Sum (comp_ex (under_condition Fun.Sum p.condition (fun1 false Fun.Sum (comp_ex e p.after))) p.before))
-        else None
-  ])
-  leaves-sum r e None q = tt
-  leaves-sum r e (Some p) q = cc
-
   chosen-leaves : {r : Names Bound} {x : Ex} {m : Bool} → Seen cells r x m → Made r false (condition_leaves (fun1 false Fun.ToInt x))
   chosen-leaves number = tt
+  chosen-leaves (counted so_many) = tt
   chosen-leaves f = tt
 
-  -- So a condition leaves a fold, and what is counted.
-  pub leaves : {r : Names Bound} {e : Ex} {m : Bool} → Seen cells r e m → Made r m (condition_leaves e)
-  leaves (one denied f) = tt
-  leaves (two both f h) = tt
-  leaves (chosen f) = chosen-leaves f
-  leaves {r} (folded {t = t} {e = e} {gs = gs} w k f) = leaves-fold r t e gs w (at_last_condition gs) (parts-go k) f
-  leaves {r} (added {e = e} {gs = gs} k f) = leaves-sum r e (at_last_condition gs) (no-axis-condition k)
-  leaves (counted (members_of h n)) = tt
-  leaves (counted (in_use {a = a} {c = c} n f)) = leaves-count a n f (has_cells c)
-  leaves f = tt
+  module _ (stays : StayEverywhere cells) where
+    -- Under `sum` the condition chooses a number that is there everywhere.
+    leaves-fold : (r t : Names Bound) {m : Bool} {w : Fun} (e : Ex) (gs : Gens) → FoldWord m w → (o : Option Parted) → PartsGo r o t →
+        Seen cells t e m → Made r m (elim o [
+          | None ↦ None
+          | Some p ↦ if is_marked m w && (is_refined p.condition && (is_refined e && are_refined_gens p.after))
+              then Some (fun1 m w (comp_ex (under_condition w p.condition (fun1 m w (comp_ex e p.after))) p.before)) else None
+        ])
+    leaves-fold r t e gs v None p f = tt
+    leaves-fold r t e gs of_all (Some q) p f =
+        made-either (is_marked true Fun.And && (is_refined q.condition && (is_refined e && are_refined_gens q.after))) _
+        (folded of_all p.1 (two implied p.2 (folded of_all p.3 f)))
+    leaves-fold r t e gs of_some (Some q) p f =
+        made-either (is_marked true Fun.Or && (is_refined q.condition && (is_refined e && are_refined_gens q.after))) _
+        (folded of_some p.1 (two both p.2 (folded of_some p.3 f)))
+    leaves-fold r t e gs of_sum (Some q) p f =
+        made-when (is_marked false Fun.Sum && (is_refined q.condition && (is_refined e && are_refined_gens q.after))) _
+        (λ h. folded of_sum p.1 (two product (chosen p.2)
+        (stays p.0 (fun1 false Fun.Sum (comp_ex e q.after)) (folded of_sum p.3 f)
+        (refined-sum e q.after (and-right (is_refined q.condition) (is_refined e && are_refined_gens q.after) h)))))
+
+    -- So a condition leaves a fold.
+    pub leaves : {r : Names Bound} {e : Ex} {m : Bool} → Seen cells r e m → Made r m (condition_leaves e)
+    leaves (one denied f) = tt
+    leaves (two both f h) = tt
+    leaves (counted so_many) = tt
+    leaves (chosen f) = chosen-leaves f
+    leaves {r} (folded {t = t} {e = e} {gs = gs} w k f) = leaves-fold r t e gs w (at_last_condition gs) (parts-go k) f
+    leaves f = tt

@@ -21,7 +21,7 @@ use Rattle.ess_seen_laws.specs.Laws.{SeenTreesStayAmongMore}
 use Rattle.ess_seen_stays_laws.proofs.Terms.{look-here}
 use Rattle.ess_seen_stays_laws.proofs.Offered.{Brings, IsListed, view-listed}
 
-module _ (cells : Text → Option (Bool × ℕ)) where
+module _ (cells : Text → Option (Bool × List ℕ)) where
   -- Each alternative brings such an item.
   abbrev pub AllBring : Text → Names Bound → Kind → List Alternative → Type 0
   AllBring x r k [] = Unit {0}
@@ -37,7 +37,7 @@ module _ (cells : Text → Option (Bool × ℕ)) where
   brought-alone : (x : Text) (r : Names Bound) (k : Kind) (o : Option Alternative) → IsListed cells x r k o →
       AreBrought x r k (or_else (option_map (λ a. a ∷ []) o) None)
   brought-alone x r k None h = tt
-  brought-alone x r k (Some a) h = (h.brings, tt)
+  brought-alone x r k (Some a) h = (h, tt)
 
   -- What is offered under a condition.
   brought-if : (x : Text) (r : Names Bound) (k : Kind) (b : Bool) (a : Alternative) (l : List Alternative) → Brings cells x r k a →
@@ -65,7 +65,7 @@ module _ (cells : Text → Option (Bool × ℕ)) where
     -- So x is a member of the kind.
     drawn-item : (k : Kind) → IsItem cells (Drawn k) (name_ex x) k
     drawn-item (scalars m) = named (here (scalars m)) refl
-    drawn-item (sets_of k) = (drawn (here (sets_of k)), refl)
+    drawn-item (sets_of k) = drawn (here (sets_of k))
 
     -- It may be asked whether x is in a set of such members.
     pub drawn-within : (k : Kind) {s : Ex} → SetTerm cells r s k → Seen cells (Drawn k) (ex2 true Op2.Member (name_ex x) s) true

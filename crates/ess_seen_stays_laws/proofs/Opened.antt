@@ -1,5 +1,5 @@
 -- Generators of a tree over views at their first source: what goes before it, the set that it is, and that names there are told apart.
-use Rattle.std.proofs.Common.{◌≡◌, refl, ap, ◌∙◌, ℕ, Bool, true, false, ◌||◌, not, if◌then◌else◌, ◌∷◌, Option, Some, None, option_map}
+use Rattle.std.proofs.Common.{◌≡◌, refl, ap, ◌∙◌, ℕ, Bool, true, false, ◌||◌, not, if◌then◌else◌, List, ◌∷◌, Option, Some, None, option_map}
 use Rattle.std.specs.Prelude.{IsTrue, is_some}
 use Rattle.ess_semantics.specs.declared.words.Fun.{Fun}
 use Rattle.ess_semantics.specs.Values.{Text}
@@ -11,9 +11,10 @@ use Rattle.ess_semantics.specs.Scoped.{with_names, Scoped, ScopedGens}
 use Rattle.ess_semantics.proofs.Texts.{same_text-itself, same_text-either}
 use Rattle.ess_semantics.proofs.Tests.{or-yes, not-true}
 use Rattle.ess_rules_laws.specs.Listings.{Alternative}
+use Rattle.ess_rules_laws.specs.SlotListings.{slots_dom}
 use Rattle.ess_open_rules_laws.specs.OpenGenerators.{Opened, with_first, at_first_open}
-use Rattle.ess_bare_laws.specs.Bare.{all_hold}
-use Rattle.ess_seen_laws.specs.Seen.{Kind, Bound, over_a_range, from_a_set, SetTerm, Seen, folded, Going, at_end, through, among, where_holds, Axes, no_axis, along, truths, numbers}
+use Rattle.ess_bare_laws.specs.Lean.{FoldWord}
+use Rattle.ess_seen_laws.specs.Seen.{Kind, Bound, over_a_range, over_slots, from_a_set, SetTerm, Seen, folded, Going, at_end, through, through_slots, among, where_holds, truths, numbers}
 use Rattle.ess_seen_laws.specs.SeenParts.{AllBound}
 use Rattle.ess_seen_laws.specs.Putting.{BindsNone, ListPut}
 use Rattle.ess_seen_laws.specs.Laws.{SeenTreesStayAmongMore, MembersMayBePut, NamesOfSeenTrees}
@@ -35,7 +36,7 @@ covers-more r s a b c x d h = go (same_text a x) h
 new-behind : (r : Names Bound) (x a : Text) (b : Bound) → IsTrue (not (same_text x a)) → look r x ≡ None → look ((a, b) ∷ r) x ≡ None
 new-behind r x a b q n = ap (λ c. if c then Some b else look r x) (same_text-either a x ∙ not-true (same_text x a) q) ∙ n
 
-module _ (cells : Text → Option (Bool × ℕ)) where
+module _ (cells : Text → Option (Bool × List ℕ)) where
   -- The first generator binds a name over a set.
   pub data SetFirst : Names Bound → Gens → Names Bound → Type 0 where
     set_first : {u t : Names Bound} {k : Kind} {y : Text} {s : Ex} {hs : Gens} → SetTerm cells u s k →
@@ -90,8 +91,11 @@ module _ (cells : Text → Option (Bool × ℕ)) where
   opened-at z x e {r} {t} (through {m = m} {a = a} {d = d} {gs = gs} truths k) n =
       one-before z x e r ((a, over_a_range m) ∷ r) t (over (name_pat a) d) (λ hs v h. through truths h) (at_first_open gs)
       (opened-at z x e k (apart-behind n.scope (with_names n.ranging (name_pat a)) n.scoped.2 n.covers n.new n.unbound.0 n.unbound.2))
-  opened-at z x e {r} {t} (through {m = m} {a = a} {d = d} {gs = gs} (numbers b es) k) n =
-      one-before z x e r ((a, over_a_range m) ∷ r) t (over (name_pat a) d) (λ hs v h. through (numbers b es) h) (at_first_open gs)
+  opened-at z x e {r} {t} (through {m = m} {a = a} {d = d} {gs = gs} (numbers g j) k) n =
+      one-before z x e r ((a, over_a_range m) ∷ r) t (over (name_pat a) d) (λ hs v h. through (numbers g j) h) (at_first_open gs)
+      (opened-at z x e k (apart-behind n.scope (with_names n.ranging (name_pat a)) n.scoped.2 n.covers n.new n.unbound.0 n.unbound.2))
+  opened-at z x e {r} {t} (through_slots {k = j} {a = a} {e = i} {gs = gs} c k) n =
+      one-before z x e r ((a, over_slots j) ∷ r) t (over (name_pat a) (slots_dom i)) (λ hs v h. through_slots c h) (at_first_open gs)
       (opened-at z x e k (apart-behind n.scope (with_names n.ranging (name_pat a)) n.scoped.2 n.covers n.new n.unbound.0 n.unbound.2))
   opened-at z x e {r} (among h k) n = record { around = r; before = at_end; apart = n; first = set_first h k }
   opened-at z x e {r} {t} (where_holds {c = c} {gs = gs} f k) n =
@@ -104,21 +108,15 @@ module _ (cells : Text → Option (Bool × ℕ)) where
         unbound = n.unbound.1;
       }))
 
-  -- Axes aren't opened.
-  pub axes-unopened : {r t : Names Bound} {gs : Gens} → Axes cells r gs t → at_first_open gs ≡ None
-  axes-unopened no_axis = refl
-  axes-unopened (along {a = a} {d = d} truths k) = ap (option_map (with_first (over (name_pat a) d))) (axes-unopened k)
-  axes-unopened (along {a = a} {d = d} (numbers b es) k) = ap (option_map (with_first (over (name_pat a) d))) (axes-unopened k)
-
   -- ---- an alternative in the place of the source
 
   module _ (more : SeenTreesStayAmongMore) (puts : MembersMayBePut) (names : NamesOfSeenTrees) where
     -- The names that the alternative may use are those around the source and its own.
-    pub listed-put : {z : Text → Bool} {x y : Text} {e s : Ex} {u t : Names Bound} {k : Kind} {hs : Gens} (a : Alternative) →
-        Brings cells x u k a → ApartBehind z x e u (from (name_pat y) s hs) → BindsNone (same_text x) e →
-        Going cells ((y, from_a_set k) ∷ u) hs t → Seen cells t e true → ListPut cells u y a.item a.gens hs e true
-    listed-put {z} {x} {y} {e} {s} {u} {t} {k} {hs} a l n b g f =
-        puts.listed cells taken u ((x, l.bound) ∷ u) t y k a.gens hs a.item e true l.going
+    pub listed-put : {z : Text → Bool} {x y : Text} {m : Bool} {w : Fun} {e s : Ex} {u t : Names Bound} {k : Kind} {hs : Gens} →
+        FoldWord m w → (a : Alternative) → Brings cells x u k a → ApartBehind z x e u (from (name_pat y) s hs) →
+        BindsNone (same_text x) e → Going cells ((y, from_a_set k) ∷ u) hs t → Seen cells t e m → ListPut cells u y a.item a.gens hs e m
+    listed-put {z} {x} {y} {m} {w} {e} {s} {u} {t} {k} {hs} v a l n b g f =
+        puts.listed cells taken u ((x, l.bound) ∷ u) t y k a.gens hs a.item e m l.going
         (more.new_name u x l.bound n.new) l.item covered y-taken binds.0.1 binds.0.0 g f
       where
         -- The names in scope behind y, and x.
@@ -140,7 +138,7 @@ module _ (cells : Text → Option (Bool × ℕ)) where
             go None q i = cc
             go (Some d) q i = wide c d q
 
-        binds : BindsNone taken (fun1 true Fun.And (comp_ex e hs))
-        binds = names-both (with_names n.scope (name_pat y)) (same_text x) (fun1 true Fun.And (comp_ex e hs))
-            (names.binds_new cells ((y, from_a_set k) ∷ u) (fun1 true Fun.And (comp_ex e hs)) true (folded all_hold g f) z
+        binds : BindsNone taken (fun1 m w (comp_ex e hs))
+        binds = names-both (with_names n.scope (name_pat y)) (same_text x) (fun1 m w (comp_ex e hs))
+            (names.binds_new cells ((y, from_a_set k) ∷ u) (fun1 m w (comp_ex e hs)) m (folded v g f) z
             (with_names n.scope (name_pat y)) n.ranging (n.scoped.2, tt)) ((b, n.unbound.2), tt)

@@ -1,5 +1,5 @@
 -- Each rule that may fire leaves a tree over views with the same mark.
-use Rattle.std.proofs.Common.{◌≡◌, subst, ℕ, Bool, true, Option}
+use Rattle.std.proofs.Common.{◌≡◌, subst, ℕ, Bool, true, List, Option}
 use Rattle.ess_semantics.specs.Values.{Text}
 use Rattle.ess_semantics.specs.Names.{Names}
 use Rattle.ess_semantics.specs.Trees.{Ex}
@@ -11,8 +11,9 @@ use Rattle.ess_seen_laws.specs.Seen.{Bound, bound_types, Seen}
 use Rattle.ess_seen_laws.specs.MayFire.{may_fire, may_fire_at_views, may_fire_at_sources, may_fire_by_kind}
 use Rattle.ess_seen_laws.specs.Laws.{SeenTreesHaveTypes, SeenTreesStayAmongMore, MembersMayBePut, NamesOfSeenTrees}
 use Rattle.ess_seen_laws.specs.Apart.{Apart}
+use Rattle.ess_seen_everywhere_laws.proofs.Stays.{seen-everywhere}
 use Rattle.ess_seen_stays_laws.specs.Laws.{StaysSeen}
-use Rattle.ess_seen_stays_laws.proofs.MadePlainly.{Made, of-one, without, alone, leaves}
+use Rattle.ess_seen_stays_laws.proofs.MadePlainly.{StayEverywhere, Made, of-one, without, alone, leaves}
 use Rattle.ess_seen_stays_laws.proofs.MadeChoices.{chosen-shorter, size-made, member-made}
 use Rattle.ess_seen_stays_laws.proofs.MadeSigns.{unequal-made, turned-made, strictly-made, equal-made, included-made, in-two-made}
 use Rattle.ess_seen_stays_laws.proofs.MadeAtViews.{member-at-a-cell, size-in-slots, size-at-marker, cell-of-atom}
@@ -21,7 +22,7 @@ use Rattle.ess_seen_stays_laws.proofs.MadeOverSources.{over-a-view, of-one-view,
 use Rattle.ess_seen_stays_laws.proofs.MadeOpened.{over-one-source}
 
 module _ (types : SeenTreesHaveTypes) (more : SeenTreesStayAmongMore) (puts : MembersMayBePut) (names : NamesOfSeenTrees)
-    (cells : Text → Option (Bool × ℕ)) (s : Supply) (r : Names Bound) where
+    (cells : Text → Option (Bool × List ℕ)) (stays : StayEverywhere cells) (s : Supply) (r : Names Bound) where
   made-plainly : (u : Rule) (e : Ex) (m : Bool) → Seen cells r e m → Apart s.one r e → may_fire u ≡ true →
       Made cells r m (rewrite s (bound_types r) u e)
   made-plainly over_one e m f n h = of-one cells f
@@ -38,7 +39,7 @@ module _ (types : SeenTreesHaveTypes) (more : SeenTreesStayAmongMore) (puts : Me
   made-plainly in_a_term e m f n h = member-made cells r more s.one n.new f
   made-plainly size e m f n h = size-made cells r types s.one f
   made-plainly choice e m f n h = chosen-shorter cells r f
-  made-plainly condition e m f n h = leaves cells f
+  made-plainly condition e m f n h = leaves cells stays f
   made-plainly u e m f n h = absurd (no-yes h)
 
   made-at-views : (u : KindRule) (e : Ex) (m : Bool) → Seen cells r e m → Apart s.one r e → may_fire_at_views u ≡ true →
@@ -47,7 +48,7 @@ module _ (types : SeenTreesHaveTypes) (more : SeenTreesStayAmongMore) (puts : Me
   made-at-views over_a_view e m f n h = over-a-view cells r more puts names s f n
   made-at-views of_one_view e m f n h = of-one-view cells r more puts names s f n
   made-at-views member_at_a_cell e m f n h = member-at-a-cell cells r f
-  made-at-views size_at_the_marker e m f n h = size-at-marker cells r more f
+  made-at-views size_at_the_marker e m f n h = size-at-marker cells r f
   made-at-views size_of_slots e m f n h = size-in-slots cells r f
   made-at-views u e m f n h = absurd (no-yes h)
 
@@ -62,9 +63,15 @@ module _ (types : SeenTreesHaveTypes) (more : SeenTreesStayAmongMore) (puts : Me
   made-by-kind (of_kind u) e m f n h = made-at-views u e m f n h
   made-by-kind (of_opening u) e m f n h = made-at-sources u e m f n h
 
+-- The number that is there everywhere in the place of a refined one is such a tree.
+stays : (cells : Text → Option (Bool × List ℕ)) → StayEverywhere cells
+stays cells r e f q = seen-everywhere cells f
+
 -- The law.
 pub stays-seen : SeenTreesHaveTypes → SeenTreesStayAmongMore → MembersMayBePut → NamesOfSeenTrees → StaysSeen
 stays-seen types more puts names = record {
-  plainly = λ cells s r u e f m h n k q. subst (Made cells r m) q (made-plainly types more puts names cells s r u e m h n k);
-  by_kind = λ cells s r u e f m h n k q. subst (Made cells r m) q (made-by-kind types more puts names cells s r u e m h n k);
+  plainly = λ cells s r u e f m h n k q.
+      subst (Made cells r m) q (made-plainly types more puts names cells (stays cells) s r u e m h n k);
+  by_kind = λ cells s r u e f m h n k q.
+      subst (Made cells r m) q (made-by-kind types more puts names cells (stays cells) s r u e m h n k);
 }

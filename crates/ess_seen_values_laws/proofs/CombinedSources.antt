@@ -143,7 +143,7 @@ both-valued united a b env v = (v.1.0, v.1.1.0)
 both-valued shared a b env v = (v.1.0, v.1.1.0)
 both-valued lessened a b env v = (v.1.0, v.1.1.0)
 
-module _ (cells : Text → Option (Bool × ℕ)) where
+module _ (cells : Text → Option (Bool × List ℕ)) where
   -- Sets bind no name.
   pub set-free : {r : Names Bound} {e : Ex} {k : Kind} (b : Text → Bool) → SetTerm cells r e k → NamesAre (λ a. true) b e
   set-free b (view {ms = ms} {es = es} {d = d} n f q p) =

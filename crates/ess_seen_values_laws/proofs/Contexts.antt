@@ -1,4 +1,4 @@
--- Wherever the context of a part holds, names have values of their types, positions stand for the values of named types, and the part is
+-- Wherever the context of a part holds, names have values of their types, and positions stand for the values of named types.
 use Rattle.std.proofs.Common.{◌≡◌, refl, Bool, true, false, List, Option, Some, None}
 use Rattle.ess_semantics.specs.Names.{Names}
 use Rattle.ess_semantics.specs.Trees.{Pat, Ex, Gens, no_gens, over, from, cond}

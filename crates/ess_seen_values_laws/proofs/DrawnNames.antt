@@ -17,7 +17,8 @@ use Rattle.ess_semantics.specs.Meets.{Meets}
 use Rattle.ess_semantics.specs.Contexts.{Each, EachIn}
 use Rattle.ess_semantics.proofs.Tests.{and-left, and-right}
 use Rattle.ess_types_laws.proofs.SoundEnvs.{over-typed}
-use Rattle.ess_seen_laws.specs.Seen.{Kind, kind_ty, Bound, bound_types, SetTerm, view, drawn, combined, Seen, number, truth, named, cell, atom, one, two, power, chosen, folded, added, counted, of_items, size, within, set_within, compared, Listed, last_item, item_before, Indices, no_index, one_index, Going, at_end, through, among, where_holds, Axes, no_axis, along, members_of, in_use, truths, numbers, Bounds, no_bound, one_bound}
+use Rattle.ess_rules_laws.specs.SlotListings.{slots_dom}
+use Rattle.ess_seen_laws.specs.Seen.{Kind, kind_ty, Bound, bound_types, Counted, so_many, from_to, from_0, subsets, none_below, Places, no_place, at_slot, SetTerm, view, drawn, combined, Seen, number, truth, named, counted, figure, flag, atom, one, two, chosen, folded, of_items, size, within, set_within, compared, Listed, last_item, item_before, Indices, no_index, one_index, Going, at_end, through, through_slots, among, where_holds, truths, numbers}
 use Rattle.ess_seen_laws.proofs.Types.{source-said}
 use Rattle.ess_seen_values_laws.proofs.Marks.{IsSet, set-value}
 
@@ -43,7 +44,7 @@ each-member [] P Q f h = tt
 each-member (x ∷ xs) P Q f h =
     (f x (and-left (P x) (list_all P xs) h), each-member xs P Q f (and-right (P x) (list_all P xs) h))
 
-module _ (cells : Text → Option (Bool × ℕ)) where
+module _ (cells : Text → Option (Bool × List ℕ)) where
   -- What is drawn from a set has the type of its kind.
   pub drawn-typed : {r : Names Bound} {e : Ex} {k : Kind} → SetTerm cells r e k → (a : Text) (env : Env) → Typed (bound_types r) env →
       Meets e env → EachIn (meaning e env) (λ v. Typed ((a, kind_ty k) ∷ bound_types r) (with_pat (name_pat a) v env))
@@ -100,7 +101,7 @@ abbrev mutual
   DrawnDom g (int_dom rs es) = DrawnExs g es
   DrawnDom g d = ⊥
 
-module _ (cells : Text → Option (Bool × ℕ)) where
+module _ (cells : Text → Option (Bool × List ℕ)) where
   set-drawn : {r : Names Bound} {e : Ex} {k : Kind} → SetTerm cells r e k → Drawn (bound_types r) e
   set-drawn (view n f q p) = tt
   set-drawn (drawn q) = tt
@@ -116,27 +117,33 @@ module _ (cells : Text → Option (Bool × ℕ)) where
     subst (λ z. DrawnGens ((a, z) ∷ bound_types r) gs K) (sym (source-said cells t)) h,
   )
 
+  counted-drawn : (g : Names Ty) {e : Ex} {n : ℕ} → Counted e n → Drawn g e
+  counted-drawn g so_many = tt
+  counted-drawn g (from_to q) = ((tt, (tt, tt)), (tt, tt))
+  counted-drawn g from_0 = (tt, (tt, tt))
+  counted-drawn g (subsets c) = (tt, (counted-drawn g c, tt))
+  counted-drawn g (none_below c) = ((counted-drawn g c, (tt, tt)), tt)
+
+  places-drawn : {r : Names Bound} {es : Exs} {ks : List ℕ} → Places cells r es ks → DrawnExs (bound_types r) es
+  places-drawn no_place = tt
+  places-drawn (at_slot q p) = (tt, places-drawn p)
+
   mutual
     -- Trees over views are so.
     pub seen-drawn : {r : Names Bound} {e : Ex} {m : Bool} → Seen cells r e m → Drawn (bound_types r) e
     seen-drawn number = tt
     seen-drawn truth = tt
     seen-drawn (named q k) = tt
-    seen-drawn (cell q i) = indices-drawn i
+    seen-drawn {r = r} (counted c) = counted-drawn (bound_types r) c
+    seen-drawn (figure q p) = places-drawn p
+    seen-drawn (flag q i) = indices-drawn i
     seen-drawn (atom q p) = tt
     seen-drawn (one f g) = (seen-drawn g, tt)
     seen-drawn (two f g k) = (seen-drawn g, (seen-drawn k, tt))
-    seen-drawn (power g k) = (seen-drawn g, (seen-drawn k, tt))
     seen-drawn (chosen g) = (seen-drawn g, tt)
     seen-drawn (folded {e = e} v g f) = (going-drawn g e (seen-drawn f), tt)
-    seen-drawn (added {e = e} g f) = (axes-drawn g e (seen-drawn f), tt)
-    seen-drawn (counted (members_of {a = a} t q)) = (among-drawn a no_gens (λ h. Unit {0}) t tt, tt)
-    seen-drawn {r = r} (counted (in_use {a = a} truths c)) =
-        ((over-typed (bound_types r) (name_pat a) bool_dom refl, tt, (seen-drawn c, tt)), tt)
-    seen-drawn {r = r} (counted (in_use {a = a} {d = d} (numbers q b) c)) =
-        ((over-typed (bound_types r) (name_pat a) d refl, bounds-drawn b, (seen-drawn c, tt)), tt)
     seen-drawn (of_items v l) = (listed-drawn l, tt)
-    seen-drawn (size t q) = (set-drawn t, tt)
+    seen-drawn (size t) = (set-drawn t, tt)
     seen-drawn (within f t) = (seen-drawn f, (set-drawn t, tt))
     seen-drawn (set_within s t) = (set-drawn s, (set-drawn t, tt))
     seen-drawn (compared c s t) = (set-drawn s, (set-drawn t, tt))
@@ -154,19 +161,9 @@ module _ (cells : Text → Option (Bool × ℕ)) where
     going-drawn at_end e h = h
     going-drawn {r = r} (through {a = a} truths k) e h =
         (over-typed (bound_types r) (name_pat a) bool_dom refl, tt, going-drawn k e h)
-    going-drawn {r = r} (through {a = a} {d = d} (numbers q b) k) e h =
-        (over-typed (bound_types r) (name_pat a) d refl, bounds-drawn b, going-drawn k e h)
+    going-drawn {r = r} (through {a = a} {d = d} (numbers f g) k) e h =
+        (over-typed (bound_types r) (name_pat a) d refl, (seen-drawn f, (seen-drawn g, tt)), going-drawn k e h)
+    going-drawn {r = r} (through_slots {a = a} {e = n} c k) e h =
+        (over-typed (bound_types r) (name_pat a) (slots_dom n) refl, (tt, (counted-drawn (bound_types r) c, tt)), going-drawn k e h)
     going-drawn (among {a = a} {gs = gs} t k) e h = among-drawn a gs (λ h. Drawn h e) t (going-drawn k e h)
     going-drawn (where_holds c k) e h = (seen-drawn c, going-drawn k e h)
-
-    axes-drawn : {r t : Names Bound} {gs : Gens} → Axes cells r gs t → (e : Ex) → Drawn (bound_types t) e →
-        DrawnGens (bound_types r) gs (λ h. Drawn h e)
-    axes-drawn no_axis e h = h
-    axes-drawn {r = r} (along {a = a} truths k) e h =
-        (over-typed (bound_types r) (name_pat a) bool_dom refl, tt, axes-drawn k e h)
-    axes-drawn {r = r} (along {a = a} {d = d} (numbers q b) k) e h =
-        (over-typed (bound_types r) (name_pat a) d refl, bounds-drawn b, axes-drawn k e h)
-
-    bounds-drawn : {r : Names Bound} {es : Exs} → Bounds cells r es → DrawnExs (bound_types r) es
-    bounds-drawn no_bound = tt
-    bounds-drawn (one_bound f b) = (seen-drawn f, bounds-drawn b)

@@ -15,7 +15,7 @@ use Rattle.ess_semantics.specs.Meaning.{Env, meaning}
 use Rattle.ess_semantics.specs.Meets.{Meets}
 use Rattle.ess_nested_laws.proofs.NestedForms.{nested-form}
 use Rattle.ess_nested_laws.proofs.NestedDenoted.{written_domain}
-use Rattle.ess_bare_laws.specs.Bare.{all_hold, some_holds}
+use Rattle.ess_bare_laws.specs.Lean.{of_all, of_some, of_sum}
 use Rattle.ess_rules_laws.specs.Rules.{Unused}
 use Rattle.ess_rules_laws.specs.SourceRules.{is_marked}
 use Rattle.ess_rules_laws.specs.Listings.{Alternative}
@@ -34,7 +34,7 @@ use Rattle.ess_kinds_kept_laws.specs.KindAsks.{ViewApart, SourceAsks}
 use Rattle.ess_kinds_kept_laws.proofs.KindRulesKeep.{kind-rules-keep}
 use Rattle.ess_kind_steps_laws.proofs.JudgedSets.{slots-are}
 use Rattle.ess_kind_values_laws.proofs.SizesValued.{slots-valued}
-use Rattle.ess_seen_laws.specs.Seen.{Kind, Bound, from_a_set, bound_types, SetTerm, view, Seen, one, chosen, folded, added, counted, size, number, Going, at_end, through, among, where_holds, Axes, no_axis, along, members_of, in_use}
+use Rattle.ess_seen_laws.specs.Seen.{Kind, Bound, from_a_set, bound_types, SetTerm, view, Seen, one, chosen, folded, counted, size, Going, among}
 use Rattle.ess_seen_values_laws.specs.Laws.{IsMet, StaysAlike}
 use Rattle.ess_seen_values_laws.proofs.Names.{put}
 use Rattle.ess_seen_values_laws.proofs.SetViews.{judged, inner-denoted}
@@ -45,7 +45,7 @@ use Rattle.ess_seen_values_laws.proofs.SourceRules.{of-some}
 
 -- ---- words of comprehensions
 
-module _ (cells : Text → Option (Bool × ℕ)) where
+module _ (cells : Text → Option (Bool × List ℕ)) where
   -- A fold of a comprehension over views: its generators, and its item.
   pub record ListRoot (r : Names Bound) (m : Bool) (f : Fun) (e : Ex) (gs : Gens) : Type 0 where
     pub behind : Names Bound
@@ -54,20 +54,14 @@ module _ (cells : Text → Option (Bool × ℕ)) where
     pub seen : Seen cells behind e mark
     pub marked : is_marked m f ≡ true
 
-  axes-going : {r t : Names Bound} {gs : Gens} → Axes cells r gs t → Going cells r gs t
-  axes-going no_axis = at_end
-  axes-going (along g k) = through g (axes-going k)
-
   -- So is each word of one.
   pub list-root : {r : Names Bound} {m k : Bool} {f : Fun} {e : Ex} {gs : Gens} → Seen cells r (fun1 m f (comp_ex e gs)) k →
       ListRoot r m f e gs
-  list-root (folded all_hold g h) = record { behind = _; mark = true; going = g; seen = h; marked = refl }
-  list-root (folded some_holds g h) = record { behind = _; mark = true; going = g; seen = h; marked = refl }
-  list-root (added g h) = record { behind = _; mark = false; going = axes-going g; seen = h; marked = refl }
-  list-root (counted (members_of t n)) = record { behind = _; mark = false; going = among t at_end; seen = number; marked = refl }
-  list-root (counted (in_use g c)) =
-      record { behind = _; mark = false; going = through g (where_holds c at_end); seen = number; marked = refl }
+  list-root (folded of_all g h) = record { behind = _; mark = true; going = g; seen = h; marked = refl }
+  list-root (folded of_some g h) = record { behind = _; mark = true; going = g; seen = h; marked = refl }
+  list-root (folded of_sum g h) = record { behind = _; mark = false; going = g; seen = h; marked = refl }
   list-root (chosen g) = elim g [ ]
+  list-root (counted c) = elim c [ ]
 
   -- ---- sources
 
@@ -138,21 +132,23 @@ module _ (cells : Text → Option (Bool × ℕ)) where
   first-set (among {k = k} t g) = (k, t, g)
 
   pub fold-by-parts : (s : Supply) {r : Names Bound} (e f : Ex) {k : Bool} → Seen cells r e k →
-      ((m : Bool) (w : Fun) (x : Ex) (gs : Gens) → e ≡ fun1 m w (comp_ex x gs) → ListApart s.one r x gs) → (env : Env) → IsMet r e env →
+      ((m : Bool) (w : Fun) (x : Ex) (gs : Gens) → e ≡ fun1 m w (comp_ex x gs) → ListApart s.one r x gs) → (env : Env) →
+      IsMet cells r e env →
       (z : Bool) → Valued z e env → kind_rewrite s (bound_types r) over_a_view e ≡ Some f → StaysAlike z e f env
   fold-by-parts s (fun1 m w (comp_ex e (from (name_pat y) t hs))) f h l env i z v q =
       let o = list-root h in
       let p = first-set o.going in
-      by-parts s m w y t e hs p.1 p.2 o.seen (l m w e (from (name_pat y) t hs) refl) env z i.met v f q i.typed
+      by-parts s m w y t e hs p.1 p.2 o.seen (l m w e (from (name_pat y) t hs) refl) env z i.met v f q i.holds.typed
   fold-by-parts s _ f h l env i z v q = cc
 
   pub fold-by-itself : (s : Supply) {r : Names Bound} (e f : Ex) {k : Bool} → Seen cells r e k →
-      ((m : Bool) (w : Fun) (x : Ex) (gs : Gens) → e ≡ fun1 m w (comp_ex x gs) → ListApart s.one r x gs) → (env : Env) → IsMet r e env →
+      ((m : Bool) (w : Fun) (x : Ex) (gs : Gens) → e ≡ fun1 m w (comp_ex x gs) → ListApart s.one r x gs) → (env : Env) →
+      IsMet cells r e env →
       (z : Bool) → Valued z e env → kind_rewrite s (bound_types r) of_one_view e ≡ Some f → StaysAlike z e f env
   fold-by-itself s (fun1 m w (comp_ex e (from (name_pat y) t hs))) f h l env i z v q =
       let o = list-root h in
       let p = first-set o.going in
-      by-itself s m w y t e hs p.1 p.2 o.seen (l m w e (from (name_pat y) t hs) refl) env z i.met v f q i.typed
+      by-itself s m w y t e hs p.1 p.2 o.seen (l m w e (from (name_pat y) t hs) refl) env z i.met v f q i.holds.typed
   fold-by-itself s _ f h l env i z v q = cc
 
   -- ---- atoms and sizes
@@ -162,27 +158,28 @@ module _ (cells : Text → Option (Bool × ℕ)) where
   positions-count _ env p = tt
 
   pub atoms-by-cells : (s : Supply) (r : Names Bound) (e f : Ex) → kind_rewrite s (bound_types r) cell_of_an_atom e ≡ Some f →
-      (env : Env) → IsMet r e env → (z : Bool) → Valued z e env → StaysAlike z e f env
+      (env : Env) → IsMet cells r e env → (z : Bool) → Valued z e env → StaysAlike z e f env
   atoms-by-cells s r e f q env i z v =
-      let k = kind-rules-keep.each s (bound_types r) cell_of_an_atom e f q env i.typed (positions-count e env i.positions) i.met in
+      let k = kind-rules-keep.each s (bound_types r) cell_of_an_atom e f q env i.holds.typed (positions-count e env i.positions) i.met in
       record { means = k.0; met = k.1; valued = set-views-keep-values.atoms_by_cells e f q env k.0 z v }
 
   pub sizes-by-markers : (s : Supply) (r : Names Bound) (e f : Ex) → kind_rewrite s (bound_types r) size_at_the_marker e ≡ Some f →
-      (env : Env) → IsMet r e env → (z : Bool) → Valued z e env → StaysAlike z e f env
+      (env : Env) → IsMet cells r e env → (z : Bool) → Valued z e env → StaysAlike z e f env
   sizes-by-markers s r e f q env i z v =
-      let k = kind-rules-keep.each s (bound_types r) size_at_the_marker e f q env i.typed tt i.met in
+      let k = kind-rules-keep.each s (bound_types r) size_at_the_marker e f q env i.holds.typed tt i.met in
       record { means = k.0; met = k.1; valued = set-views-keep-values.sizes_by_markers e f q env k.0 z v }
 
   -- A view of a set is no scalar.
   no-scalar : {r : Names Bound} {k : Bool} {p : Reprs} {d : Dom} {ns : List Text} {js : Exs} →
       Seen cells r (seen_ex (repr ReprKind.Explicit p) d ns js) k → ⊥
-  no-scalar h = elim h [ ]
+  no-scalar (counted c) = elim c [ ]
 
   sized-set : {r : Names Bound} {k : Bool} {p : Reprs} {d : Dom} {ns : List Text} {js : Exs} →
       Seen cells r (ex1 false Op1.Bar (seen_ex (repr ReprKind.Explicit p) d ns js)) k →
       (j : Kind) × SetTerm cells r (seen_ex (repr ReprKind.Explicit p) d ns js) j
-  sized-set (size {k = j} t n) = (j, t)
+  sized-set (size {k = j} t) = (j, t)
   sized-set (one w g) = absurd (no-scalar g)
+  sized-set (counted c) = elim c [ ]
 
   module _ (env : Env) (p : Repr) (ms : List Mark) (es : Exs) (d : Dom) (ns : List Text) (js : Exs) where
     slots-asked : {r : Names Bound} {k : Kind} → SetTerm cells r (seen_ex p (set_dom ms es d) ns js) k →
@@ -196,7 +193,7 @@ module _ (cells : Text → Option (Bool × ℕ)) where
     slots-there (view n f q w) v =
         let i = inner-denoted env (nested-form 250 (set_dom ms es d) n) in slots-valued env ms es d (written_domain d) i.0 i.1 v.1
 
-  pub sizes-of-slots : (s : Supply) {r : Names Bound} (e f : Ex) {k : Bool} → Seen cells r e k → (env : Env) → IsMet r e env →
+  pub sizes-of-slots : (s : Supply) {r : Names Bound} (e f : Ex) {k : Bool} → Seen cells r e k → (env : Env) → IsMet cells r e env →
       (z : Bool) → Valued z e env → kind_rewrite s (bound_types r) size_of_slots e ≡ Some f → StaysAlike z e f env
   sizes-of-slots s {r = r} (ex1 false Op1.Bar (seen_ex (repr ReprKind.Explicit (more_reprs c no_reprs)) (set_dom ms es d) ns js)) f h env i
       z v q =
@@ -204,7 +201,7 @@ module _ (cells : Text → Option (Bool × ℕ)) where
       let p = repr ReprKind.Explicit (more_reprs c no_reprs) in
       let e = ex1 false Op1.Bar (seen_ex p (set_dom ms es d) ns js) in
       let m = i.met in
-      let k = kind-rules-keep.each s (bound_types r) size_of_slots e f q env i.typed (slots-asked env p ms es d ns js t.1 m.0) m in
+      let k = kind-rules-keep.each s (bound_types r) size_of_slots e f q env i.holds.typed (slots-asked env p ms es d ns js t.1 m.0) m in
       record {
         means = k.0;
         met = k.1;

@@ -36,6 +36,8 @@ pub mod MemberRules
 pub mod PlainRules
 -- Signs between sets
 pub mod SetSigns
+-- Values behind generators
+pub mod FilledGens
 -- Conditions
 pub mod ConditionRules
 -- Each rule that reads no kind
@@ -46,3 +48,5 @@ pub mod ScopesAt
 pub mod SeenRulesKeep
 -- Worked examples
 mod ExamplesSigns
+-- Worked examples
+mod ExamplesSums

@@ -1,5 +1,6 @@
 -- The value of a tree over views has the mark of the tree, and the value of a set term is a set of members of its kind, where names have
-use Rattle.std.proofs.Common.{◌≡◌, refl, sym, ap, subst, ℕ, Bool, true, false, if◌then◌else◌, List, [], ◌∷◌, ℤ, pos, Option, Some, None, option_map}
+-- values of their types.
+use Rattle.std.proofs.Common.{◌≡◌, refl, sym, ap, subst, ℕ, Bool, true, false, if◌then◌else◌, List, [], ◌∷◌, ℤ, Option, Some, None, option_map}
 use Rattle.std.specs.Prelude.{IsTrue, is_some}
 use Rattle.ess_semantics.specs.declared.words.Op1.{Op1}
 use Rattle.ess_semantics.specs.declared.words.Op2.{Op2}
@@ -8,9 +9,8 @@ use Rattle.ess_semantics.specs.declared.words.ReprKind.{ReprKind}
 use Rattle.ess_semantics.specs.Values.{Text, a_set, Value, number as number_value, truth as truth_value, item, node}
 use Rattle.ess_semantics.specs.Order.{same_text}
 use Rattle.ess_semantics.specs.Names.{Names, look}
-use Rattle.ess_semantics.specs.Numbers.{power_of}
-use Rattle.ess_semantics.specs.Operators.{value_of_node, number_in}
-use Rattle.ess_semantics.specs.Trees.{unary, binary, word, repr, no_reprs, Mark, Ex, Exs, number_ex, comp_ex, seen_ex, Dom, set_dom}
+use Rattle.ess_semantics.specs.Operators.{value_of_node}
+use Rattle.ess_semantics.specs.Trees.{unary, binary, word, repr, no_reprs, Mark, Ex, Exs, comp_ex, seen_ex, Dom, set_dom}
 use Rattle.ess_semantics.specs.Types.{compound1, type_of_dom}
 use Rattle.ess_semantics.specs.Tables.{Table, cell_at}
 use Rattle.ess_semantics.specs.Typed.{Typed}
@@ -25,10 +25,10 @@ use Rattle.ess_rules_laws.specs.SourceRules.{list_of}
 use Rattle.ess_nested_laws.specs.NestedDomains.{is_nested_dom, is_written_atom}
 use Rattle.ess_nested_laws.proofs.NestedForms.{atom-form, WrittenAtom, written_truths, written_numbers, NestedSet, of_atoms, of_sets, nested-form}
 use Rattle.ess_flat_laws.specs.Flat.{denied, negative, absolute, both, either, implied, agreeing, equal, unequal, below, at_most, above, at_least, sum, difference, product}
-use Rattle.ess_bare_laws.specs.Bare.{all_hold, some_holds}
 use Rattle.ess_bare_laws.specs.Lean.{of_all, of_some, of_sum}
 use Rattle.ess_bare_laws.proofs.Scalars.{HasMark}
-use Rattle.ess_seen_laws.specs.Seen.{Kind, scalars, sets_of, kind_of, kind_ty, Bound, bound_kind, bound_types, as_an_atom, united, shared, lessened, SetTerm, view, drawn, combined, Seen, number, truth, named, cell, atom, one, two, power, chosen, folded, added, counted, of_items, size, within, set_within, compared}
+use Rattle.ess_seen_laws.specs.Seen.{Kind, scalars, sets_of, kind_of, kind_ty, Bound, bound_kind, bound_types, Counted, as_an_atom, united, shared, lessened, SetTerm, view, drawn, combined, Seen, number, truth, named, counted, figure, flag, atom, one, two, chosen, folded, of_items, size, within, set_within, compared}
+use Rattle.ess_seen_laws.proofs.Counts.{counted-means}
 pub use Rattle.ess_seen_values_laws.proofs.SetValues.{IsSet}
 use Rattle.ess_seen_values_laws.proofs.SetValues.{a-set, there, at-union, at-intersection, at-difference}
 
@@ -44,10 +44,6 @@ of-mark false env (truth_value b) h = cc
 of-mark false env (number_value n) h = tt
 of-mark false env (item a n) h = cc
 of-mark false env (node k vs) h = cc
-
-number-there : (o : Option ℤ) → HasMark false (option_map number_value o)
-number-there None = tt
-number-there (Some n) = tt
 
 cell-number : (t : Option Table) (is : Option (List ℤ)) → HasMark false (cell_in false t is)
 cell-number None is = tt
@@ -87,11 +83,6 @@ multiplied None p = tt
 multiplied (Some v) None = tt
 multiplied (Some v) (Some w) = tt
 
-raised : (o p : Option Value) → HasMark false (value_of_node (binary Op2.Pow) (o ∷ p ∷ []))
-raised None p = tt
-raised (Some v) None = tt
-raised (Some v) (Some w) = number-there (power_of (number_in v) (number_in w))
-
 chosen-number : (o : Option Value) → HasMark false (value_of_node (word Fun.ToInt) (o ∷ []))
 chosen-number None = tt
 chosen-number (Some v) = tt
@@ -99,6 +90,10 @@ chosen-number (Some v) = tt
 summed : (o : Option Value) → HasMark false (value_of_node (word Fun.Sum) (o ∷ []))
 summed None = tt
 summed (Some v) = tt
+
+-- A number of slots is one.
+pub counted-mark : {e : Ex} {n : ℕ} (env : Env) → Counted e n → HasMark false (meaning e env)
+counted-mark env c = subst (HasMark false) (sym (counted-means c env)) tt
 
 -- ---- types of domains
 
@@ -135,7 +130,7 @@ look-bound (c ∷ r) a b h = go (same_text c.0 a) h (look-bound r a b)
     go true q f = let e : c.1 ≡ b = cc in ap (λ z. Some (kind_ty (bound_kind z))) e
     go false q f = f q
 
-module _ (cells : Text → Option (Bool × ℕ)) (r : Names Bound) (env : Env) (typed : Typed (bound_types r) env) where
+module _ (cells : Text → Option (Bool × List ℕ)) (r : Names Bound) (env : Env) (typed : Typed (bound_types r) env) where
   -- ---- sets
 
   -- The value of a set term is a set, of the type of its kind, where there is one.
@@ -180,8 +175,9 @@ module _ (cells : Text → Option (Bool × ℕ)) (r : Names Bound) (env : Env) (
   seen-mark number n = tt
   seen-mark truth n = tt
   seen-mark (named {a = a} {b = b} {m = m} h k) n = named-mark a b m h k (look env.vals a) refl
-  seen-mark (cell {b = true} h i) n = tt
-  seen-mark (cell {b = false} {n = t} {es = es} h i) n = cell-number (look env.cells t) (indices (meanings es env))
+  seen-mark (counted c) n = counted-mark env c
+  seen-mark (figure {n = t} {es = es} h p) n = cell-number (look env.cells t) (indices (meanings es env))
+  seen-mark (flag h i) n = tt
   seen-mark (atom {d = d} {n = t} {js = js} (as_an_atom w q) p) n = atom-mark d t js w n
   seen-mark (one denied f) n = tt
   seen-mark (one {x = x} negative f) n = negated (meaning x env)
@@ -199,16 +195,14 @@ module _ (cells : Text → Option (Bool × ℕ)) (r : Names Bound) (env : Env) (
   seen-mark (two {x = x} {y = y} sum f h) n = added-up (meaning x env) (meaning y env)
   seen-mark (two {x = x} {y = y} difference f h) n = taken-off (meaning x env) (meaning y env) (seen-mark f n.0)
   seen-mark (two {x = x} {y = y} product f h) n = multiplied (meaning x env) (meaning y env)
-  seen-mark (power {x = x} {y = y} f h) n = raised (meaning x env) (meaning y env)
   seen-mark (chosen {x = x} f) n = chosen-number (meaning x env)
-  seen-mark (folded all_hold g f) n = tt
-  seen-mark (folded some_holds g f) n = tt
-  seen-mark (added {e = x} {gs = gs} g f) n = summed (meaning (comp_ex x gs) env)
-  seen-mark (counted {gs = gs} g) n = summed (meaning (comp_ex (number_ex (pos 1)) gs) env)
+  seen-mark (folded of_all g f) n = tt
+  seen-mark (folded of_some g f) n = tt
+  seen-mark (folded {e = x} {gs = gs} of_sum g f) n = summed (meaning (comp_ex x gs) env)
   seen-mark (of_items of_all l) n = tt
   seen-mark (of_items of_some l) n = tt
   seen-mark (of_items {es = es} of_sum l) n = summed (meaning (list_of es) env)
-  seen-mark (size {s = s} f c) n = sized (meaning s env)
+  seen-mark (size {s = s} f) n = sized (meaning s env)
   seen-mark (within f g) n = tt
   seen-mark (set_within f g) n = tt
   seen-mark (compared o f g) n = tt

@@ -31,12 +31,12 @@ use Rattle.ess_kind_rules_laws.specs.KindRules.{member_at_a_cell, kind_rewrite}
 use Rattle.ess_kinds_kept_laws.proofs.KindRulesKeep.{kind-rules-keep}
 use Rattle.ess_kind_steps_laws.proofs.JudgedSets.{AtomsThere, atoms-there}
 use Rattle.ess_kind_steps_laws.proofs.ToldAtoms.{Agreed, atom-told}
-use Rattle.ess_seen_laws.specs.Seen.{Kind, scalars, sets_of, kind_of, Bound, bound_types, as_an_atom, by_occurrence, with_a_dummy, in_slots, with_a_marker, with_flags, SetTerm, view, drawn, combined, Seen, two, within, set_within, compared}
+use Rattle.ess_seen_laws.specs.Seen.{Kind, scalars, sets_of, kind_of, Bound, bound_types, as_an_atom, by_occurrence, with_a_dummy, in_slots, with_a_marker, with_flags, SetTerm, view, drawn, combined, Seen, counted, two, within, set_within, compared}
 use Rattle.ess_seen_values_laws.specs.Laws.{IsMet, StaysAlike}
 use Rattle.ess_seen_values_laws.proofs.Marks.{seen-mark}
 use Rattle.ess_seen_values_laws.proofs.SetViews.{judged}
 
-module _ (cells : Text → Option (Bool × ℕ)) where
+module _ (cells : Text → Option (Bool × List ℕ)) where
   -- ---- membership
 
   -- A scalar in a set of scalars, or a set in a set of sets.
@@ -49,6 +49,7 @@ module _ (cells : Text → Option (Bool × ℕ)) where
   asked-of (set_within g t) = of_set t
   asked-of (two w g h) = elim w [ ]
   asked-of (compared c g h) = elim c [ ]
+  asked-of (counted c) = elim c [ ]
 
   -- Atoms are no sets.
   atom-no-set : {A : Type 0} {d : Dom} {k : Kind} → WrittenAtom d → kind_of d ≡ sets_of k → A
@@ -92,7 +93,7 @@ module _ (cells : Text → Option (Bool × ℕ)) where
       (n : Text) (js : Exs) (a : Ex) (m : Bool) where
     told : {k : Kind} → Seen cells r a m → Meets a env → IsTrue (is_some (meaning a env)) → k ≡ scalars m →
         SetTerm cells r (seen_ex (repr ReprKind.Occurrence no_reprs) (set_dom ms es d) (n ∷ []) js) k → IsTold (λ v. code v ∷ []) a d env
-    told g me th e (view y f (by_occurrence w u q) p) = go (meaning a env) refl th (seen-mark cells r env i g me)
+    told g me th e (view y f (by_occurrence l w u q) p) = go (meaning a env) refl th (seen-mark cells r env i g me)
       where
         c : AtomsThere d env
         c = atoms-there ms es d env (judged (repr ReprKind.Occurrence no_reprs) ms es d y f env)
@@ -111,38 +112,38 @@ module _ (cells : Text → Option (Bool × ℕ)) where
 
   -- By the cell of a set that is kept by which members occur; there is none of another.
   at-cell : (s : Supply) {r : Names Bound} (a v f : Ex) {m : Bool} {k : Kind} → Seen cells r a m → SetTerm cells r v k → k ≡ scalars m →
-      (env : Env) → IsMet r (ex2 true Op2.Member a v) env → (z : Bool) → Valued z (ex2 true Op2.Member a v) env →
+      (env : Env) → IsMet cells r (ex2 true Op2.Member a v) env → (z : Bool) → Valued z (ex2 true Op2.Member a v) env →
       member_by_cell (ex2 true Op2.Member a v) ≡ Some f → StaysAlike z (ex2 true Op2.Member a v) f env
-  at-cell s {r = r} a v f {m = b} g (view {ms = ms} {es = es} {js = js} {d = d} y fit (by_occurrence {n = n} c u p) w) e env i z h q =
+  at-cell s {r = r} a v f {m = b} g (view {ms = ms} {es = es} {js = js} {d = d} y fit (by_occurrence l {n = n} c u p) w) e env i z h q =
       let t = seen_ex (repr ReprKind.Occurrence no_reprs) (set_dom ms es d) (n ∷ []) js in
       let x = ex2 true Op2.Member a t in
       let m = i.met in
       let th = and-left (is_some (meaning a env)) (list_all is_some (meaning t env ∷ []))
       (values-along.operands z true (binary Op2.Member) (more_exs a (more_exs t no_exs)) env refl refl h) in
-      let k = kind-rules-keep.each s (bound_types r) member_at_a_cell x f q env i.typed
-      (told env i.typed i.positions ms es d n js a b g m.0 th e (view y fit (by_occurrence c u p) w)) m in
+      let k = kind-rules-keep.each s (bound_types r) member_at_a_cell x f q env i.holds.typed
+      (told env i.holds.typed i.positions ms es d n js a b g m.0 th e (view y fit (by_occurrence l c u p) w)) m in
       record { means = k.0; met = k.1; valued = set-views-keep-values.members_by_cells x f q env z h }
   at-cell s a v f g (view y fit (as_an_atom c p) w) e env i z h q = absurd (no-yes c)
-  at-cell s a v f g (view y fit (with_a_dummy c u b p) w) e env i z h q = cc
-  at-cell s a v f g (view y fit (in_slots c p) w) e env i z h q = cc
-  at-cell s a v f g (view y fit (with_a_marker c p l) w) e env i z h q = cc
-  at-cell s a v f g (view y fit (with_flags c p l) w) e env i z h q = cc
+  at-cell s a v f g (view y fit (with_a_dummy c u b j p) w) e env i z h q = cc
+  at-cell s a v f g (view y fit (in_slots c j p) w) e env i z h q = cc
+  at-cell s a v f g (view y fit (with_a_marker c j p l) w) e env i z h q = cc
+  at-cell s a v f g (view y fit (with_flags c j p l) w) e env i z h q = cc
   at-cell s a v f g (drawn p) e env i z h q = cc
   at-cell s a v f g (combined c k l) e env i z h q = cc
 
   -- There is none of a set of sets.
   at-no-cell : {A : Type 0} {r : Names Bound} (a v f : Ex) {j k : Kind} → SetTerm cells r v j → j ≡ sets_of k →
       member_by_cell (ex2 true Op2.Member a v) ≡ Some f → A
-  at-no-cell a v f (view {d = d} y fit (by_occurrence c u p) w) e q = atom-no-set (atom-form d u) e
+  at-no-cell a v f (view {d = d} y fit (by_occurrence l c u p) w) e q = atom-no-set (atom-form d u) e
   at-no-cell a v f (view y fit (as_an_atom c p) w) e q = absurd (no-yes c)
-  at-no-cell a v f (view y fit (with_a_dummy c u b p) w) e q = cc
-  at-no-cell a v f (view y fit (in_slots c p) w) e q = cc
-  at-no-cell a v f (view y fit (with_a_marker c p l) w) e q = cc
-  at-no-cell a v f (view y fit (with_flags c p l) w) e q = cc
+  at-no-cell a v f (view y fit (with_a_dummy c u b j p) w) e q = cc
+  at-no-cell a v f (view y fit (in_slots c j p) w) e q = cc
+  at-no-cell a v f (view y fit (with_a_marker c j p l) w) e q = cc
+  at-no-cell a v f (view y fit (with_flags c j p l) w) e q = cc
   at-no-cell a v f (drawn p) e q = cc
   at-no-cell a v f (combined c k l) e q = cc
 
-  pub members-by-cells : (s : Supply) {r : Names Bound} (e f : Ex) {k : Bool} → Seen cells r e k → (env : Env) → IsMet r e env →
+  pub members-by-cells : (s : Supply) {r : Names Bound} (e f : Ex) {k : Bool} → Seen cells r e k → (env : Env) → IsMet cells r e env →
       (z : Bool) → Valued z e env → kind_rewrite s (bound_types r) member_at_a_cell e ≡ Some f → StaysAlike z e f env
   members-by-cells s {r = r} (ex2 true Op2.Member a v) f h env i z w q = go (asked-of h)
     where

@@ -17,7 +17,8 @@ use Rattle.ess_rules_laws.specs.SpliceRules.{NamesApart}
 use Rattle.ess_kind_rules_laws.specs.ViewListings.{view_listing}
 use Rattle.ess_kind_sizes_laws.proofs.SetListings.{of_occurrences, of_all, of_marked, of_flagged, of_dummies}
 use Rattle.ess_kind_sizes_laws.proofs.ViewsBehind.{last-named}
-use Rattle.ess_seen_laws.specs.Seen.{Bound, over_a_range, Kind, Keeps, as_an_atom, by_occurrence, with_a_dummy, in_slots, with_a_marker, with_flags, Places, no_place, at_a_number, at_a_name, SetTerm, view, drawn, combined, Seen, number, truth, named, cell, atom, one, two, power, chosen, folded, added, counted, of_items, size, within, set_within, compared, Listed, last_item, item_before, Indices, no_index, one_index, Going, at_end, through, among, where_holds, Axes, no_axis, along, members_of, in_use, Range, truths, numbers, Bounds, no_bound, one_bound}
+use Rattle.ess_seen_laws.specs.Seen.{Bound, over_slots, Kind, Keeps, as_an_atom, by_occurrence, with_a_dummy, in_slots, with_a_marker, with_flags, Places, no_place, at_slot, SetTerm, view, drawn, combined, Seen, number, truth, named, counted, figure, flag, atom, one, two, chosen, folded, of_items, size, within, set_within, compared, Listed, last_item, item_before, Indices, no_index, one_index, Going, at_end, through, through_slots, among, where_holds, Range, truths, numbers}
+use Rattle.ess_seen_laws.proofs.Counts.{counted-named}
 use Rattle.ess_seen_values_laws.proofs.SetViews.{dummy-named}
 use Rattle.ess_seen_values_laws.proofs.SizeNames.{atom-named, nested-named, inner-named, slots-named}
 
@@ -27,25 +28,22 @@ use Rattle.ess_seen_values_laws.proofs.SizeNames.{atom-named, nested-named, inne
 abbrev pub Covers : Names Bound → (Text → Bool) → Type 0
 Covers r s = (a : Text) (b : Bound) → look r a ≡ Some b → s a ≡ true
 
--- Indices of a view are numerals and such names.
-pub places-named : {cells : Text → Option (Bool × ℕ)} {r : Names Bound} {js : Exs} {k : ℕ} (s b : Text → Bool) →
-    Covers r s → Places cells r js k → NamesAreExs s b js
+-- Indices of a view are such names.
+pub places-named : {cells : Text → Option (Bool × List ℕ)} {r : Names Bound} {js : Exs} {ks : List ℕ} (s b : Text → Bool) →
+    Covers r s → Places cells r js ks → NamesAreExs s b js
 places-named s b c no_place = tt
-places-named s b c (at_a_number p) = (tt, places-named s b c p)
-places-named s b c (at_a_name {a = a} {m = m} q p) = (c a (over_a_range m) q, places-named s b c p)
+places-named s b c (at_slot {a = a} {k = k} q p) = (c a (over_slots k) q, places-named s b c p)
 
 -- Nothing is bound in them.
-pub places-any : {cells : Text → Option (Bool × ℕ)} {r : Names Bound} {js : Exs} {k : ℕ} (u b : Text → Bool) →
-    Places cells r js k → NamesAreExs u (λ a. true) js → NamesAreExs u b js
+pub places-any : {cells : Text → Option (Bool × List ℕ)} {r : Names Bound} {js : Exs} {ks : List ℕ} (u b : Text → Bool) →
+    Places cells r js ks → NamesAreExs u (λ a. true) js → NamesAreExs u b js
 places-any u b no_place h = tt
-places-any u b (at_a_number p) h = (tt, places-any u b p h.1)
-places-any u b (at_a_name q p) h = (h.0, places-any u b p h.1)
+places-any u b (at_slot q p) h = (h.0, places-any u b p h.1)
 
-pub places-free : {cells : Text → Option (Bool × ℕ)} {r : Names Bound} {js : Exs} {k : ℕ} (b : Text → Bool) →
-    Places cells r js k → NamesAreExs (λ a. true) b js
+pub places-free : {cells : Text → Option (Bool × List ℕ)} {r : Names Bound} {js : Exs} {ks : List ℕ} (b : Text → Bool) →
+    Places cells r js ks → NamesAreExs (λ a. true) b js
 places-free b no_place = tt
-places-free b (at_a_number p) = (tt, places-free b p)
-places-free b (at_a_name q p) = (refl, places-free b p)
+places-free b (at_slot q p) = (refl, places-free b p)
 
 -- ---- tests
 
@@ -64,7 +62,7 @@ or-second false y h = h
 -- ---- bound names
 
 -- The new name x, and names S that are in scope or x.
-module _ (cells : Text → Option (Bool × ℕ)) (z : Text → Bool) (x : Text) (S : Text → Bool) where
+module _ (cells : Text → Option (Bool × List ℕ)) (z : Text → Bool) (x : Text) (S : Text → Bool) where
   abbrev Other : Text → Bool
   Other a = not (same_text x a)
 
@@ -108,27 +106,19 @@ module _ (cells : Text → Option (Bool × ℕ)) (z : Text → Bool) (x : Text) 
     seen-apart number s o h w u b = tt
     seen-apart truth s o h w u b = tt
     seen-apart (named q k) s o h w u b = u
-    seen-apart (cell q i) s o h w u b = indices-apart i s o h w u b
+    seen-apart (counted c) s o h w u b = counted-named Other Free c
+    seen-apart (figure q p) s o h w u b = places-any Other Free p u
+    seen-apart (flag q i) s o h w u b = indices-apart i s o h w u b
     seen-apart (atom {d = d} (as_an_atom v q) p) s o h w u b = (atom-named Other Free (atom-form d v), places-any Other Free p u.1)
     seen-apart (one f g) s o h w u b = (seen-apart g s o h.0 w u.0 b.0, tt)
     seen-apart (two f g k) s o h w u b = (seen-apart g s o h.0 w u.0 b.0, (seen-apart k s o h.1.0 w u.1.0 b.1.0, tt))
-    seen-apart (power g k) s o h w u b = (seen-apart g s o h.0 w u.0 b.0, (seen-apart k s o h.1.0 w u.1.0 b.1.0, tt))
     seen-apart (chosen g) s o h w u b = (seen-apart g s o h.0 w u.0 b.0, tt)
     seen-apart (folded {e = e} v g f) s o h w u b = (
       going-apart g e s o h.0 w u.0.1 b.0.1 (λ p q i n. seen-apart f p q i n u.0.0 b.0.0),
       tt,
     )
-    seen-apart (added {e = e} g f) s o h w u b = (
-      axes-apart g e s o h.0 w u.0.1 b.0.1 (λ p q i n. seen-apart f p q i n u.0.0 b.0.0),
-      tt,
-    )
-    seen-apart (counted (members_of {a = a} t c)) s o h w u b =
-        ((tt, (new-binder s w a h.0.0 b.0.1.0, set-apart t u.0.1.1, tt)), tt)
-    seen-apart (counted (in_use {a = a} g c)) s o h w u b =
-        let i = seen-apart c (with_names s (name_pat a)) (with_names o (name_pat a)) h.0.2.0 (wider s a w) u.0.1.2.0 b.0.1.2.0 in
-        ((tt, (new-binder s w a h.0.0 b.0.1.0, range-apart g s o h.0.1 w u.0.1.1 b.0.1.1, (i, tt))), tt)
     seen-apart (of_items v l) s o h w u b = (items-apart l s o h.0 w u.0 b.0, tt)
-    seen-apart (size t c) s o h w u b = (set-apart t u.0, tt)
+    seen-apart (size t) s o h w u b = (set-apart t u.0, tt)
     seen-apart (within f t) s o h w u b = (seen-apart f s o h.0 w u.0 b.0, (set-apart t u.1.0, tt))
     seen-apart (set_within f t) s o h w u b = (set-apart f u.0, (set-apart t u.1.0, tt))
     seen-apart (compared c f t) s o h w u b = (set-apart f u.0, (set-apart t u.1.0, tt))
@@ -151,29 +141,19 @@ module _ (cells : Text → Option (Bool × ℕ)) (z : Text → Bool) (x : Text) 
     going-apart (through {a = a} g k) e s o h w v c f =
         let i = going-apart k e (with_names s (name_pat a)) (with_names o (name_pat a)) h.2 (wider s a w) v.2 c.2 f in
         (i.0, (new-binder s w a h.0 c.0, range-apart g s o h.1 w v.1 c.1, i.1))
+    going-apart (through_slots {a = a} n k) e s o h w v c f =
+        let i = going-apart k e (with_names s (name_pat a)) (with_names o (name_pat a)) h.2 (wider s a w) v.2 c.2 f in
+        (i.0, (new-binder s w a h.0 c.0, (tt, (counted-named Other Free n, tt)), i.1))
     going-apart (among {a = a} t k) e s o h w v c f =
         let i = going-apart k e (with_names s (name_pat a)) o h.2 (wider s a w) v.2 c.2 f in
         (i.0, (new-binder s w a h.0 c.0, set-apart t v.1, i.1))
     going-apart (where_holds g k) e s o h w v c f =
         let i = going-apart k e s o h.1 w v.1 c.1 f in (i.0, (seen-apart g s o h.0 w v.0 c.0, i.1))
 
-    axes-apart : {r t : Names Bound} {gs : Gens} → Axes cells r gs t → (e : Ex) (s o : Text → Bool) →
-        ScopedGens z s o gs (λ p q. Scoped z p q e) → Within s → NamesAreGens Other Every gs → NamesAreGens Every Other gs →
-        ((p q : Text → Bool) → Scoped z p q e → Within p → NamesAre Other Free e) → NamesAre Other Free e × NamesAreGens Other Free gs
-    axes-apart no_axis e s o h w v c f = (f s o h w, tt)
-    axes-apart (along {a = a} g k) e s o h w v c f =
-        let i = axes-apart k e (with_names s (name_pat a)) (with_names o (name_pat a)) h.2 (wider s a w) v.2 c.2 f in
-        (i.0, (new-binder s w a h.0 c.0, range-apart g s o h.1 w v.1 c.1, i.1))
-
     range-apart : {r : Names Bound} {d : Dom} {m : Bool} → Range cells r d m → (s o : Text → Bool) → ScopedDom z s o d → Within s →
         NamesAreDom Other Every d → NamesAreDom Every Other d → NamesAreDom Other Free d
     range-apart truths s o h w u b = tt
-    range-apart (numbers q f) s o h w u b = bounds-apart f s o h w u b
-
-    bounds-apart : {r : Names Bound} {es : Exs} → Bounds cells r es → (s o : Text → Bool) → ScopedExs z s o es → Within s →
-        NamesAreExs Other Every es → NamesAreExs Every Other es → NamesAreExs Other Free es
-    bounds-apart no_bound s o h w u b = tt
-    bounds-apart (one_bound f i) s o h w u b = (seen-apart f s o h.0 w u.0 b.0, bounds-apart i s o h.1 w u.1 b.1)
+    range-apart (numbers f g) s o h w u b = (seen-apart f s o h.0 w u.0 b.0, (seen-apart g s o h.1.0 w u.1.0 b.1.0, tt))
 
   -- What stands behind generators, with these.
   pub list-apart : {r t : Names Bound} {gs : Gens} {e : Ex} {m : Bool} → Going cells r gs t → Seen cells t e m → (s o : Text → Bool) →
@@ -188,7 +168,7 @@ module _ (cells : Text → Option (Bool × ℕ)) (z : Text → Bool) (x : Text) 
 abbrev pub put : (Text → Bool) → Text → Text → Text → Bool
 put s x y a = (s a || same_text y a) || same_text x a
 
-module _ (cells : Text → Option (Bool × ℕ)) (x z y : Text) (zs : List Text) (s : Text → Bool) (ms : List Mark) (es : Exs) (d : Dom)
+module _ (cells : Text → Option (Bool × List ℕ)) (x z y : Text) (zs : List Text) (s : Text → Bool) (ms : List Mark) (es : Exs) (d : Dom)
     (js : Exs) (e : Ex) (hs : Gens) (nested : NestedSet (set_dom ms es d)) (places : NamesAreExs (put s x y) (λ a. true) js)
     (free : NamesAreExs (λ a. true) (same_text x) js) (gens : NamesAreGens (λ a. not (same_text x a)) (λ a. not (put s x y a)) hs)
     (body : NamesAre (λ a. not (same_text x a)) (λ a. not (put s x y a)) e) where
@@ -214,26 +194,26 @@ module _ (cells : Text → Option (Bool × ℕ)) (x z y : Text) (zs : List Text)
   slots-free = (tt, (slots-named (λ a. true) (same_text x) nested, tt))
 
   -- The listing of a view has names of its own.
-  pub listing-apart : {k : ℕ} {p : Repr} {ns : List Text} → Keeps cells k p (set_dom ms es d) ns → (a : Alternative) →
+  pub listing-apart : {ks : List ℕ} {p : Repr} {ns : List Text} → Keeps cells ks p (set_dom ms es d) ns → (a : Alternative) →
       view_listing x z zs (seen_ex p (set_dom ms es d) ns js) ≡ Some a → Apart a
   listing-apart (as_an_atom w q) a h = absurd (no-yes w)
-  listing-apart (by_occurrence {n = n} t w q) a h = subst Apart (let r : of_occurrences x ms es d js n ≡ a = cc in r)
+  listing-apart (by_occurrence k {n = n} t w q) a h = subst Apart (let r : of_occurrences x ms es d js n ≡ a = cc in r)
       (y-put, x-put, (bound-x, inner-named (λ a. true) (same_text x) nested, (place-free, tt)), gens, body)
-  listing-apart (with_a_dummy {n = n} t w b q) a h = subst Apart (let r : of_dummies x ms es d js n ≡ a = cc in r) (
+  listing-apart (with_a_dummy {n = n} t w b c q) a h = subst Apart (let r : of_dummies x ms es d js n ≡ a = cc in r) (
     y-put,
     (inner-named (put s x y) (λ a. true) nested, item-named),
     (bound-x, slots-free, ((place-free, (dummy-named (λ a. true) (same_text x) (atom-form d w), tt)), tt)),
     gens,
     body,
   )
-  listing-apart (in_slots {r = r} {ns = ns} t g) a h = subst Apart (let q : of_all x ms es d js r ns ≡ a = cc in q)
+  listing-apart (in_slots {r = r} {ns = ns} t c g) a h = subst Apart (let q : of_all x ms es d js r ns ≡ a = cc in q)
       (y-put, (inner-named (put s x y) (λ a. true) nested, item-named), (bound-x, slots-free, tt), gens, body)
-  listing-apart (with_a_marker {r = r} {m = m} {ns = ns} t q g) a h = subst Apart (let q : of_marked x ms es d js r m ns ≡ a = cc in q) (
+  listing-apart (with_a_marker {r = r} {m = m} {ns = ns} t c q g) a h = subst Apart (let q : of_marked x ms es d js r m ns ≡ a = cc in q) (
     y-put,
     (inner-named (put s x y) (λ a. true) nested, item-named),
     (bound-x, slots-free, ((refl, (free, tt)), tt)),
     gens,
     body,
   )
-  listing-apart (with_flags {r = r} {m = m} {ns = ns} t q g) a h = subst Apart (let q : of_flagged x ms es d js r m ns ≡ a = cc in q)
+  listing-apart (with_flags {r = r} {m = m} {ns = ns} t c q g) a h = subst Apart (let q : of_flagged x ms es d js r m ns ≡ a = cc in q)
       (y-put, (inner-named (put s x y) (λ a. true) nested, item-named), (bound-x, slots-free, (place-free, tt)), gens, body)

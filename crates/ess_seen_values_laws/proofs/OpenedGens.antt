@@ -1,5 +1,5 @@
 -- Generators of a tree over views, taken apart at the first that isn't plain: the names behind the plain ones, and their values.
-use Rattle.std.proofs.Common.{◌≡◌, refl, ap, subst, ℕ, Bool, true, false, ◌||◌, if◌then◌else◌, ◌∷◌, Option, Some, None, option_map}
+use Rattle.std.proofs.Common.{◌≡◌, refl, subst, ℕ, Bool, true, false, ◌||◌, if◌then◌else◌, List, ◌∷◌, Option, Some, None, option_map}
 use Rattle.std.specs.Prelude.{IsTrue}
 use Rattle.ess_semantics.specs.Values.{Text}
 use Rattle.ess_semantics.specs.Order.{same_text}
@@ -11,9 +11,10 @@ use Rattle.ess_semantics.specs.Scoped.{with_names}
 use Rattle.ess_semantics.specs.Contexts.{EachOf, AtEach}
 use Rattle.ess_types_laws.proofs.SoundEnvs.{over-typed}
 use Rattle.ess_rules_laws.proofs.Bindings.{each-of-map}
+use Rattle.ess_rules_laws.specs.SlotListings.{slots_dom}
 use Rattle.ess_refine_laws.specs.ScopesStay.{Scope, scope_behind}
 use Rattle.ess_open_rules_laws.specs.OpenGenerators.{Opened, with_first, opened_here, at_first_open}
-use Rattle.ess_seen_laws.specs.Seen.{Bound, over_a_range, bound_types, Going, at_end, through, among, where_holds, Axes, no_axis, along, Range, truths, numbers}
+use Rattle.ess_seen_laws.specs.Seen.{Bound, over_a_range, over_slots, bound_types, Going, at_end, through, through_slots, among, where_holds, Range, truths, numbers}
 use Rattle.ess_seen_values_laws.proofs.Names.{Covers}
 
 -- Names have values of their types, and positions stand for the values of named types.
@@ -36,7 +37,7 @@ covers-more r s a b f c d q = go (same_text a c) q (f c d)
         first true h = refl
         first false h = h
 
-module _ (cells : Text → Option (Bool × ℕ)) where
+module _ (cells : Text → Option (Bool × List ℕ)) where
   -- The names behind the plain generators, what goes on there, the scope, and their values at each binding.
   pub record Open (r : Names Bound) (t : Opened) (u : Names Bound) : Type 0 where
     pub around : Names Bound
@@ -50,16 +51,23 @@ module _ (cells : Text → Option (Bool × ℕ)) where
   range-holds {r = r} a truths env t = over-typed (bound_types r) (name_pat a) bool_dom refl env t
   range-holds {r = r} {d = d} a (numbers q b) env t = over-typed (bound_types r) (name_pat a) d refl env t
 
-  -- A generator over a range before.
-  over-open : {r u : Names Bound} {m : Bool} (a : Text) (d : Dom) → Range cells r d m → (t : Opened) →
-      Open ((a, over_a_range m) ∷ r) t u → Open r (with_first (over (name_pat a) d) t) u
-  over-open {r} {u} {m} a d g t o = record {
+  -- And behind one over slots.
+  pub slots-hold : (r : Names Bound) (k : ℕ) (a : Text) (e : Ex) → (env : Env) → Typed (bound_types r) env →
+      EachOf (members_in (domain_of (slots_dom e) env)) (λ v. Typed (bound_types ((a, over_slots k) ∷ r)) (with_pat (name_pat a) v env))
+  slots-hold r k a e env t = over-typed (bound_types r) (name_pat a) (slots_dom e) refl env t
+
+  -- A generator over a domain before.
+  over-open : {r u : Names Bound} (a : Text) (b : Bound) (d : Dom) →
+      ((env : Env) → Typed (bound_types r) env →
+      EachOf (members_in (domain_of d env)) (λ v. Typed (bound_types ((a, b) ∷ r)) (with_pat (name_pat a) v env))) → (t : Opened) →
+      Open ((a, b) ∷ r) t u → Open r (with_first (over (name_pat a) d) t) u
+  over-open {r} {u} a b d g t o = record {
     around = o.around;
     going = o.going;
     covers = λ s c. o.covers (record { all = with_names s.all (name_pat a); over_domains = with_names s.over_domains (name_pat a) })
-        (covers-more r s.all a (over_a_range m) c);
+        (covers-more r s.all a b c);
     holds = λ env h. each-of-map (members_in (domain_of d env)) _ _ (λ v k. o.holds (with_pat (name_pat a) v env) (k, h.1))
-        (range-holds a g env h.0);
+        (g env h.0);
   }
 
   cond-open : {r u : Names Bound} (c : Ex) (t : Opened) → Open r t u → Open r (with_first (cond c) t) u
@@ -84,14 +92,11 @@ module _ (cells : Text → Option (Bool × ℕ)) where
   pub opened : {r u : Names Bound} {gs : Gens} → Going cells r gs u → (t : Opened) → at_first_open gs ≡ Some t → Open r t u
   opened at_end t q = cc
   opened (through {a = a} {d = d} {gs = gs} truths k) t q =
-      behind (over (name_pat a) d) (at_first_open gs) (over-open a d truths) (opened k) t q
+      behind (over (name_pat a) d) (at_first_open gs) (over-open a _ d (range-holds a truths)) (opened k) t q
   opened (through {a = a} {d = d} {gs = gs} (numbers b e) k) t q =
-      behind (over (name_pat a) d) (at_first_open gs) (over-open a d (numbers b e)) (opened k) t q
+      behind (over (name_pat a) d) (at_first_open gs) (over-open a _ d (range-holds a (numbers b e))) (opened k) t q
+  opened {r} (through_slots {k = n} {a = a} {e = e} {gs = gs} c k) t q =
+      behind (over (name_pat a) (slots_dom e)) (at_first_open gs) (over-open a (over_slots n) (slots_dom e) (slots-hold r n a e))
+      (opened k) t q
   opened {r} {u} (among k g) t q = subst (λ z. Open r z u) (let e : opened_here _ ≡ t = cc in e) (here-open (among k g))
   opened (where_holds {c = c} {gs = gs} f k) t q = behind (cond c) (at_first_open gs) (cond-open c) (opened k) t q
-
-  -- Ranges alone are all plain.
-  pub axes-closed : {r u : Names Bound} {gs : Gens} → Axes cells r gs u → at_first_open gs ≡ None
-  axes-closed no_axis = refl
-  axes-closed (along {a = a} {d = d} truths k) = ap (option_map (with_first (over (name_pat a) d))) (axes-closed k)
-  axes-closed (along {a = a} {d = d} (numbers q b) k) = ap (option_map (with_first (over (name_pat a) d))) (axes-closed k)

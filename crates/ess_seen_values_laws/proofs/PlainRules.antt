@@ -1,5 +1,5 @@
 -- Rules that read no kind keep trees over views.
-use Rattle.std.proofs.Common.{◌≡◌, refl, sym, ap, ◌∙◌, subst, ℕ, zero, suc, Bool, true, false, ◌&&◌, if◌then◌else◌, [], pos, Option, Some, None}
+use Rattle.std.proofs.Common.{◌≡◌, refl, sym, ap, ◌∙◌, subst, ℕ, zero, suc, Bool, true, false, ◌&&◌, if◌then◌else◌, List, [], pos, Option, Some, None}
 use Rattle.std.specs.Prelude.{IsTrue, is_some}
 use Rattle.ess_semantics.specs.declared.words.Op1.{Op1}
 use Rattle.ess_semantics.specs.declared.words.Op2.{Op2}
@@ -28,11 +28,11 @@ use Rattle.ess_values_along_laws.proofs.ValuesAlong.{values-along}
 use Rattle.ess_values_terms_laws.specs.TermsKeepValues.{is_compound, ComparesTerms}
 use Rattle.ess_values_terms_laws.proofs.ValuedForms.{and-no, by-compound, there}
 use Rattle.ess_values_sources_laws.proofs.PutValues.{inner}
-use Rattle.ess_seen_laws.specs.Seen.{Kind, Bound, bound_types, united, shared, lessened, SetTerm, view, drawn, combined, Seen, number, truth, named, cell, atom, one, two, power, chosen, folded, added, counted, of_items, size, within, set_within, compared, last_item, item_before, at_end, no_axis}
+use Rattle.ess_seen_laws.specs.Seen.{Kind, Bound, bound_types, united, shared, lessened, SetTerm, view, drawn, combined, Seen, number, truth, named, counted, figure, flag, atom, one, two, chosen, folded, of_items, size, within, set_within, compared, last_item, item_before, at_end}
 use Rattle.ess_seen_laws.proofs.Types.{seen-type}
 use Rattle.ess_seen_values_laws.proofs.Marks.{IsSet, set-value, seen-mark, truth-said, number-said}
 
-module _ (cells : Text → Option (Bool × ℕ)) where
+module _ (cells : Text → Option (Bool × List ℕ)) where
   -- ---- truth values are there
 
   -- A truth value needs its value in a natural place too.
@@ -40,22 +40,22 @@ module _ (cells : Text → Option (Bool × ℕ)) where
   lacks-none number q = refl
   lacks-none truth q = refl
   lacks-none (named h k) q = refl
-  lacks-none (cell {b = true} h i) q = refl
-  lacks-none (cell {b = false} h i) q = cc
+  lacks-none (counted c) q = cc
+  lacks-none (figure h p) q = cc
+  lacks-none (flag h i) q = refl
   lacks-none (atom h p) q = refl
   lacks-none (one {b = true} f g) q = refl
   lacks-none (one {b = false} f g) q = cc
   lacks-none (two {b = true} f g h) q = refl
   lacks-none (two {b = false} f g h) q = cc
-  lacks-none (power f g) q = cc
   lacks-none (chosen g) q = cc
-  lacks-none (folded v g f) q = refl
-  lacks-none (added g f) q = cc
-  lacks-none (counted c) q = cc
+  lacks-none (folded of_all g f) q = refl
+  lacks-none (folded of_some g f) q = refl
+  lacks-none (folded of_sum g f) q = cc
   lacks-none (of_items of_all l) q = refl
   lacks-none (of_items of_some l) q = refl
   lacks-none (of_items of_sum l) q = cc
-  lacks-none (size t c) q = cc
+  lacks-none (size t) q = cc
   lacks-none (within f t) q = refl
   lacks-none (set_within f t) q = refl
   lacks-none (compared c f t) q = refl
@@ -98,17 +98,24 @@ module _ (cells : Text → Option (Bool × ℕ)) where
     one-fits (fun1 true Fun.And (node_ex false matrix_literal (more_exs a no_exs))) f w q (of_items x (item_before g l)) n v = elim l [ ]
     one-fits (fun1 true Fun.Or (node_ex false matrix_literal (more_exs a no_exs))) f w q (of_items x (item_before g l)) n v = elim l [ ]
     one-fits (fun1 false Fun.Sum (node_ex false matrix_literal (more_exs a no_exs))) f w q (of_items x (item_before g l)) n v = elim l [ ]
+    one-fits (fun1 true Fun.And (node_ex false matrix_literal (more_exs a no_exs))) f w q (counted c) n v = elim c [ ]
+    one-fits (fun1 true Fun.Or (node_ex false matrix_literal (more_exs a no_exs))) f w q (counted c) n v = elim c [ ]
+    one-fits (fun1 false Fun.Sum (node_ex false matrix_literal (more_exs a no_exs))) f w q (counted c) n v = elim c [ ]
     one-fits (fun1 false Fun.Product (node_ex false matrix_literal (more_exs a no_exs))) f w q (of_items x l) n v = elim x [ ]
+    one-fits (fun1 false Fun.Product (node_ex false matrix_literal (more_exs a no_exs))) f w q (counted c) n v = elim c [ ]
     one-fits _ f w q g n v = cc
 
     pub bare-fits : (e f : Ex) {m : Bool} (w : Bool) → fold_bare e ≡ Some f → Seen cells r e m → Meets e env → Valued w e env →
         BareFits e env
     bare-fits (fun1 true Fun.And (comp_ex a no_gens)) f w q (folded x at_end g) n v = truth-there _ g n.0 v.1.0.1
     bare-fits (fun1 true Fun.Or (comp_ex a no_gens)) f w q (folded x at_end g) n v = truth-there _ g n.0 v.1.0.1
-    bare-fits (fun1 false Fun.Sum (comp_ex a no_gens)) f w q (added no_axis g) n v =
+    bare-fits (fun1 false Fun.Sum (comp_ex a no_gens)) f w q (folded x at_end g) n v =
         let i = inner [] a no_gens env false w Fun.Sum (comp_ex a no_gens) v in number-there g n.0 i.1
+    bare-fits (fun1 true Fun.And (comp_ex a no_gens)) f w q (counted c) n v = elim c [ ]
+    bare-fits (fun1 true Fun.Or (comp_ex a no_gens)) f w q (counted c) n v = elim c [ ]
     bare-fits (fun1 false Fun.Sum (comp_ex a no_gens)) f w q (counted c) n v = elim c [ ]
-    bare-fits (fun1 false Fun.Product (comp_ex a no_gens)) f w q g n v = elim g [ ]
+    bare-fits (fun1 false Fun.Product (comp_ex a no_gens)) f w q (folded x l g) n v = elim x [ ]
+    bare-fits (fun1 false Fun.Product (comp_ex a no_gens)) f w q (counted c) n v = elim c [ ]
     bare-fits _ f w q g n v = cc
 
     pub choices-fit : (e f : Ex) {m : Bool} (w : Bool) → choice_shorter e ≡ Some f → Seen cells r e m → Meets e env → Valued w e env →
@@ -117,11 +124,23 @@ module _ (cells : Text → Option (Bool × ℕ)) where
         (truth-there _ g n.0.0 v.1.0.1.0, truth-there _ h n.1.0.0 v.1.1.0.1.0)
     choices-fit (ex2 false Op2.Times (fun1 false Fun.ToInt c) (fun1 false Fun.ToInt d)) f w q (two x (chosen g) (of_items z l)) n v =
         elim z [ ]
+    choices-fit (ex2 false Op2.Times (fun1 false Fun.ToInt c) (fun1 false Fun.ToInt d)) f w q (two x (chosen g) (folded z l k)) n v =
+        elim z [ ]
+    choices-fit (ex2 false Op2.Times (fun1 false Fun.ToInt c) (fun1 false Fun.ToInt d)) f w q (two x (chosen g) (counted z)) n v =
+        elim z [ ]
     choices-fit (ex2 false Op2.Times (fun1 false Fun.ToInt c) (fun1 false Fun.ToInt d)) f w q (two x (of_items z l) h) n v = elim z [ ]
+    choices-fit (ex2 false Op2.Times (fun1 false Fun.ToInt c) (fun1 false Fun.ToInt d)) f w q (two x (folded z l k) h) n v = elim z [ ]
+    choices-fit (ex2 false Op2.Times (fun1 false Fun.ToInt c) (fun1 false Fun.ToInt d)) f w q (two x (counted z) h) n v = elim z [ ]
+    choices-fit (ex2 false Op2.Times (fun1 false Fun.ToInt c) (fun1 false Fun.ToInt d)) f w q (counted z) n v = elim z [ ]
     choices-fit (ex2 false Op2.Times (fun1 false Fun.ToInt c) (number_ex (pos (suc zero)))) f w q (two x (chosen g) h) n v =
         truth-there _ g n.0.0 v.1.0.1.0
     choices-fit (ex2 false Op2.Times (fun1 false Fun.ToInt c) (number_ex (pos (suc zero)))) f w q (two x (of_items z l) h) n v =
         elim z [ ]
+    choices-fit (ex2 false Op2.Times (fun1 false Fun.ToInt c) (number_ex (pos (suc zero)))) f w q (two x (folded z l k) h) n v =
+        elim z [ ]
+    choices-fit (ex2 false Op2.Times (fun1 false Fun.ToInt c) (number_ex (pos (suc zero)))) f w q (two x (counted z) h) n v =
+        elim z [ ]
+    choices-fit (ex2 false Op2.Times (fun1 false Fun.ToInt c) (number_ex (pos (suc zero)))) f w q (counted z) n v = elim z [ ]
     choices-fit _ f w q g n v = cc
 
     -- ---- sizes and membership
@@ -149,7 +168,7 @@ module _ (cells : Text → Option (Bool × ℕ)) where
 
     pub sized : (s : Supply) (e f : Ex) {m : Bool} (w : Bool) → Seen cells r e m → Meets e env → Valued w e env →
         size_term (bound_types r) s.one e ≡ Some f → ((meaning e env ≡ meaning f env) × Meets f env) × ComparesTerms size_rule e
-    sized s (ex1 false Op1.Bar a) f w (size t c) m v q =
+    sized s (ex1 false Op1.Bar a) f w (size t) m v q =
         (size-keeps s (bound_types r) a f _ t m.0 v.1.0 q, and-both (is_compound a) true (set-compound t) refl)
     sized s (ex1 false Op1.Bar a) f w (one absolute h) m v q = no-size
         (subst (λ o. (if is_counted o then Some (fun1 false Fun.Sum (comp_ex (number_ex (pos 1)) (from (name_pat s.one) a no_gens)))
@@ -157,4 +176,5 @@ module _ (cells : Text → Option (Bool × ℕ)) where
       where
         no-size : {A : Type 0} → None ≡ Some f → A
         no-size q = cc
+    sized s (ex1 false Op1.Bar a) f w (counted c) m v q = elim c [ ]
     sized s _ f w h m v q = cc

@@ -1,5 +1,5 @@
 -- Signs between sets, and `in` a set that is made of two, keep trees over views.
-use Rattle.std.proofs.Common.{◌≡◌, refl, sym, ap, ◌∙◌, subst, ℕ, Bool, true, false, ◌&&◌, ◌||◌, not, if◌then◌else◌, [], ◌∷◌, Option, Some, None}
+use Rattle.std.proofs.Common.{◌≡◌, refl, sym, ap, ◌∙◌, subst, ℕ, Bool, true, false, ◌&&◌, ◌||◌, not, if◌then◌else◌, List, [], ◌∷◌, Option, Some, None}
 use Rattle.std.specs.Prelude.{IsTrue, is_some}
 use Rattle.std.specs.List.{list_all}
 use Rattle.ess_semantics.specs.declared.words.Op1.{Op1}
@@ -29,7 +29,7 @@ use Rattle.ess_rules_laws.proofs.InclusionRules.{unequal-keeps, member-body, eve
 use Rattle.ess_refine_laws.specs.AllRules.{equal_sets, compares_compound}
 use Rattle.ess_values_along_laws.specs.Valued.{Valued}
 use Rattle.ess_values_terms_laws.specs.TermsKeepValues.{is_compound, ComparesTerms}
-use Rattle.ess_seen_laws.specs.Seen.{Kind, scalars, sets_of, kind_ty, Bound, bound_types, SetTerm, combined, Seen, two, within, set_within, compared}
+use Rattle.ess_seen_laws.specs.Seen.{Kind, scalars, sets_of, kind_ty, Bound, bound_types, SetTerm, combined, Seen, counted, two, within, set_within, compared}
 use Rattle.ess_seen_laws.proofs.Types.{seen-type}
 use Rattle.ess_seen_values_laws.proofs.SetValues.{IsSet}
 use Rattle.ess_seen_values_laws.proofs.Marks.{set-value}
@@ -82,7 +82,7 @@ strictly-means (Some a) (Some b) h = ap (λ t. Some (truth_value t)) (h a b refl
 abbrev has : Text → Ex → Ex
 has x b = ex2 true Op2.Member (name_ex x) b
 
-module _ (cells : Text → Option (Bool × ℕ)) where
+module _ (cells : Text → Option (Bool × List ℕ)) where
   -- What `in` asks of is a set.
   record AsksOf (r : Names Bound) (s : Ex) : Type 0 where
     kind : Kind
@@ -93,8 +93,9 @@ module _ (cells : Text → Option (Bool × ℕ)) where
   asks-of (set_within {k = k} g t) = record { kind = sets_of k; set = t }
   asks-of (two c g h) = elim c [ ]
   asks-of (compared c g h) = elim c [ ]
+  asks-of (counted c) = elim c [ ]
 
-module _ (cells : Text → Option (Bool × ℕ)) {r : Names Bound} (env : Env) (ty : Typed (bound_types r) env) where
+module _ (cells : Text → Option (Bool × List ℕ)) {r : Names Bound} (env : Env) (ty : Typed (bound_types r) env) where
   -- Two sets that are there rise strictly.
   pair : {a b : Ex} {k : Kind} → SetTerm cells r a k → SetTerm cells r b k → Meets a env → Meets b env → (v w : Value) →
       meaning a env ≡ Some v → meaning b env ≡ Some w → Pair Strictly v w
@@ -117,6 +118,7 @@ module _ (cells : Text → Option (Bool × ℕ)) {r : Names Bound} (env : Env) (
       never (compares_compound (bound_types r) (ex2 true Op2.Ne a b)) (ex1 true Op1.Not (ex2 true Op2.Eq a b)) f
       (ap (λ t. is_parted t && is_parted (type_of b (bound_types r))) (seen-type cells g)
       ∙ scalar-whole k (type_of b (bound_types r))) q
+  differ-kept (ex2 true Op2.Ne a b) f (counted c) q w v = elim c [ ]
   differ-kept _ f h q w v = cc
 
   -- `subset`.
@@ -130,6 +132,7 @@ module _ (cells : Text → Option (Bool × ℕ)) {r : Names Bound} (env : Env) (
         ((m.0, (m.1.0, tt)), λ z. (((m.1.0, (m.0, tt)), tt), tt)),
       ))) q
   strictly-kept x (ex2 true Op2.Subset a b) f (two c g h) q = elim c [ ]
+  strictly-kept x (ex2 true Op2.Subset a b) f (counted c) q = elim c [ ]
   strictly-kept x _ f h q = cc
 
   -- `subsetEq`.
@@ -149,6 +152,7 @@ module _ (cells : Text → Option (Bool × ℕ)) {r : Names Bound} (env : Env) (
         every-met x a (ex2 true Op2.Member (name_ex x) b) env m.0 (λ v. (tt, (meets-behind x v b env u.1.0 m.1.0, tt))),
       ))) q
   included-kept x (ex2 true Op2.SubsetEq a b) f (two c g h) u q w v = elim c [ ]
+  included-kept x (ex2 true Op2.SubsetEq a b) f (counted c) u q w v = elim c [ ]
   included-kept x _ f h u q w v = cc
 
   -- `=` of sets. Of scalars no rule fires.
@@ -180,6 +184,7 @@ module _ (cells : Text → Option (Bool × ℕ)) {r : Names Bound} (env : Env) (
       never (both_sets (type_of a (bound_types r)) (type_of b (bound_types r)))
       (ex2 true Op2.And (every x a (ex2 true Op2.Member (name_ex x) b)) (every x b (ex2 true Op2.Member (name_ex x) a))) f
       (ap (λ t. both_sets t (type_of b (bound_types r))) (seen-type cells g) ∙ scalar-no-set k (type_of b (bound_types r))) q
+  equal-kept x (ex2 true Op2.Eq a b) f (counted c) u q = elim c [ ]
   equal-kept x _ f h u q = cc
 
   -- ---- in a set that is made of two

@@ -1,9 +1,9 @@
--- A set that isn't made of two, as a source: what it offers, with values and with names of its own.
+-- A set, as a source: what its listing offers, with values and with names of its own.
 use Rattle.std.proofs.Common.{◌≡◌, refl, ℕ, Bool, true, false, ◌||◌, not, List, [], ◌∷◌, ◌⊎◌, inl, inr, Option, Some, option_map}
 use Rattle.ess_semantics.specs.Values.{Text}
 use Rattle.ess_semantics.specs.Order.{same_text}
 use Rattle.ess_semantics.specs.Names.{Names}
-use Rattle.ess_semantics.specs.Trees.{name_pat, Ex, comp_ex, seen_ex, Gens, from, set_dom}
+use Rattle.ess_semantics.specs.Trees.{Mark, Repr, name_pat, Ex, Exs, comp_ex, seen_ex, Gens, from, Dom, set_dom}
 use Rattle.ess_semantics.specs.Types.{Ty}
 use Rattle.ess_semantics.specs.Meaning.{Env}
 use Rattle.ess_semantics.specs.Meets.{Meets}
@@ -21,24 +21,24 @@ use Rattle.ess_kind_rules_laws.specs.ViewListings.{view_listing}
 use Rattle.ess_kinds_kept_laws.specs.ViewAsks.{ViewAsks}
 use Rattle.ess_kinds_kept_laws.proofs.ViewsOffer.{views-offer}
 use Rattle.ess_open_rules_laws.specs.OpenSources.{all_offered}
-use Rattle.ess_seen_laws.specs.Seen.{Kind, Bound, from_a_set, as_an_atom, by_occurrence, with_a_dummy, in_slots, with_a_marker, with_flags, is_combined, SetTerm, view, drawn, combined, Seen, Going}
+use Rattle.ess_seen_laws.specs.Seen.{Kind, Bound, from_a_set, Keeps, as_an_atom, by_occurrence, with_a_dummy, in_slots, with_a_marker, with_flags, SetTerm, view, drawn, combined, Seen, Going}
 use Rattle.ess_seen_values_laws.proofs.SetViews.{judged, asked, under}
 use Rattle.ess_seen_values_laws.proofs.Names.{Covers, places-named, places-free, put, list-apart, listing-apart}
 
 -- ---- what is offered
 
-module _ (cells : Text → Option (Bool × ℕ)) where
-  -- Such a set offers nothing but what its view does.
-  pub set-offers : {r : Names Bound} {e : Ex} {k : Kind} → SetTerm cells r e k → is_combined e ≡ false → (s : Supply) (g : Names Ty) →
-      all_offered s g e ≡ option_map (λ a. a ∷ []) (view_listing s.one s.other s.parts e)
-  set-offers (view n f (as_an_atom w q) p) i s g = absurd (no-yes w)
-  set-offers (view n f (by_occurrence t w q) p) i s g = refl
-  set-offers (view n f (with_a_dummy t w b q) p) i s g = refl
-  set-offers (view n f (in_slots t h) p) i s g = refl
-  set-offers (view n f (with_a_marker t q h) p) i s g = refl
-  set-offers (view n f (with_flags t q h) p) i s g = refl
-  set-offers (drawn q) i s g = refl
-  set-offers (combined c a b) i s g = cc
+module _ (cells : Text → Option (Bool × List ℕ)) where
+  -- A view of a set offers nothing but its listing.
+  pub view-offers : {ks : List ℕ} {p : Repr} {ms : List Mark} {es : Exs} {d : Dom} {ns : List Text} (js : Exs) →
+      Keeps cells ks p (set_dom ms es d) ns → (s : Supply) (g : Names Ty) →
+      all_offered s g (seen_ex p (set_dom ms es d) ns js) ≡
+      option_map (λ a. a ∷ []) (view_listing s.one s.other s.parts (seen_ex p (set_dom ms es d) ns js))
+  view-offers js (as_an_atom w q) s g = absurd (no-yes w)
+  view-offers js (by_occurrence k t w q) s g = refl
+  view-offers js (with_a_dummy t w b c q) s g = refl
+  view-offers js (in_slots t c h) s g = refl
+  view-offers js (with_a_marker t c q h) s g = refl
+  view-offers js (with_flags t c q h) s g = refl
 
   -- Its listing has what it asks.
   pub set-asked : {r : Names Bound} {e : Ex} {k : Kind} (x z : Text) (zs : List Text) (env : Env) → SetTerm cells r e k → Unused x e →

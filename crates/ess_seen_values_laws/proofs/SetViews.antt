@@ -58,26 +58,27 @@ dummy-named u b written_numbers = (tt, (tt, tt))
 that-one : {a b : Alternative} → Some a ≡ Some b → a ≡ b
 that-one q = cc
 
-module _ (cells : Text → Option (Bool × ℕ)) (x z : Text) (zs : List Text) (ms : List Mark) (es : Exs) (d : Dom) (js : Exs) (env : Env) where
+module _ (cells : Text → Option (Bool × List ℕ)) (x z : Text) (zs : List Text) (ms : List Mark) (es : Exs) (d : Dom) (js : Exs)
+    (env : Env) where
   abbrev V : Repr → List Text → Ex
   V p ns = seen_ex p (set_dom ms es d) ns js
 
   -- The listing of a view has what it asks.
-  pub asked : {k : ℕ} {p : Repr} {ns : List Text} → Keeps cells k p (set_dom ms es d) ns → JudgedSeen p (set_dom ms es d) env →
+  pub asked : {ks : List ℕ} {p : Repr} {ns : List Text} → Keeps cells ks p (set_dom ms es d) ns → JudgedSeen p (set_dom ms es d) env →
       MeetsDom (set_dom ms es d) env → Unused x (V p ns) → ViewAsks x z zs (V p ns) env
   asked (as_an_atom w q) h m u = absurd (no-yes w)
-  asked (by_occurrence {n = n} s w q) h m u = (u, inner-there ms es d (n ∷ []) js env h)
-  asked (with_a_dummy {n = n} s w b q) h m u = (
+  asked (by_occurrence k {n = n} s w q) h m u = (u, inner-there ms es d (n ∷ []) js env h)
+  asked (with_a_dummy {n = n} s w b c q) h m u = (
     u,
     dummy-named _ _ (atom-form d w),
     slots-are (repr ReprKind.ExplicitVarSizeWithDummy no_reprs) ms es d (n ∷ []) js env h m,
     dummy-is ms es d (n ∷ []) js env h m.1,
   )
-  asked (in_slots {r = r} {ns = ns} s g) h m u =
+  asked (in_slots {r = r} {ns = ns} s c g) h m u =
       (u, slots-are (repr ReprKind.Explicit (more_reprs r no_reprs)) ms es d ns js env h m)
-  asked (with_a_marker {r = r} {m = n} {ns = ns} s q g) h m u =
+  asked (with_a_marker {r = r} {m = n} {ns = ns} s c q g) h m u =
       (u, slots-are (repr ReprKind.ExplicitVarSizeWithMarker (more_reprs r no_reprs)) ms es d (n ∷ ns) js env h m)
-  asked (with_flags {r = r} {m = n} {ns = ns} s q g) h m u =
+  asked (with_flags {r = r} {m = n} {ns = ns} s c q g) h m u =
       (u, slots-are (repr ReprKind.ExplicitVarSizeWithFlags (more_reprs r no_reprs)) ms es d (n ∷ ns) js env h m)
 
   module _ (nested : NestedSet (set_dom ms es d)) where
@@ -85,13 +86,13 @@ module _ (cells : Text → Option (Bool × ℕ)) (x z : Text) (zs : List Text) (
     slots-there p ns v = let i = inner-denoted env nested in let h = v in slots-valued env ms es d (written_domain d) i.0 i.1 h.1
 
     -- What is offered has values where the view has.
-    pub under : {k : ℕ} {p : Repr} {ns : List Text} → Keeps cells k p (set_dom ms es d) ns → JudgedSeen p (set_dom ms es d) env →
+    pub under : {ks : List ℕ} {p : Repr} {ns : List Text} → Keeps cells ks p (set_dom ms es d) ns → JudgedSeen p (set_dom ms es d) env →
         Meets (V p ns) env → Unused x (V p ns) → Valued false (V p ns) env → (a : Alternative) → view_listing x z zs (V p ns) ≡ Some a →
         Under a env
     under (as_an_atom w q) h m u v a e = absurd (no-yes w)
-    under (by_occurrence {n = n} s w q) h m u v a e = subst (λ b. Under b env) (that-one e)
+    under (by_occurrence k {n = n} s w q) h m u v a e = subst (λ b. Under b env) (that-one e)
         (set-views-keep-values.of_occurrences x (V (repr ReprKind.Occurrence no_reprs) (n ∷ [])) env u v)
-    under (with_a_dummy {n = n} s w b q) h m u v a e =
+    under (with_a_dummy {n = n} s w b j q) h m u v a e =
         let p = repr ReprKind.ExplicitVarSizeWithDummy no_reprs in
         let t = V p (n ∷ []) in
         let i = inner-denoted env nested in
@@ -100,22 +101,22 @@ module _ (cells : Text → Option (Bool × ℕ)) (x z : Text) (zs : List Text) (
         (set-views-keep-values.of_slots_with_a_dummy x (slots_ex (set_dom ms es d)) (dummy_ex d) t env u
         (dummy-named _ _ (atom-form d w)) (slots-there p (n ∷ []) v) (dummy-valued env d (written_domain d) i.0 c.1.1) v
         (views-offer x z zs t (of_dummies x ms es d js n) refl env
-        (asked (with_a_dummy {n = n} s w b q) h m.1 u) m))
-    under (in_slots {r = r} {ns = ns} s g) h m u v a e =
+        (asked (with_a_dummy {n = n} s w b j q) h m.1 u) m))
+    under (in_slots {r = r} {ns = ns} s j g) h m u v a e =
         let p = repr ReprKind.Explicit (more_reprs r no_reprs) in
         let t = V p ns in
         subst (λ b. Under b env) (that-one e)
         (set-views-keep-values.of_slots_all_in_use x (slots_ex (set_dom ms es d)) t env u (slots-there p ns v) v
-        (views-offer x z zs t (of_all x ms es d js r ns) refl env (asked (in_slots s g) h m.1 u) m))
-    under (with_a_marker {r = r} {m = n} {ns = ns} s q g) h m u v a e =
+        (views-offer x z zs t (of_all x ms es d js r ns) refl env (asked (in_slots s j g) h m.1 u) m))
+    under (with_a_marker {r = r} {m = n} {ns = ns} s j q g) h m u v a e =
         let p = repr ReprKind.ExplicitVarSizeWithMarker (more_reprs r no_reprs) in
         let t = V p (n ∷ ns) in
         subst (λ b. Under b env) (that-one e)
         (set-views-keep-values.of_slots_up_to_a_marker x (slots_ex (set_dom ms es d)) t env u (slots-there p (n ∷ ns) v) v
-        (views-offer x z zs t (of_marked x ms es d js r n ns) refl env (asked (with_a_marker s q g) h m.1 u) m))
-    under (with_flags {r = r} {m = n} {ns = ns} s q g) h m u v a e =
+        (views-offer x z zs t (of_marked x ms es d js r n ns) refl env (asked (with_a_marker s j q g) h m.1 u) m))
+    under (with_flags {r = r} {m = n} {ns = ns} s j q g) h m u v a e =
         let p = repr ReprKind.ExplicitVarSizeWithFlags (more_reprs r no_reprs) in
         let t = V p (n ∷ ns) in
         subst (λ b. Under b env) (that-one e)
         (set-views-keep-values.of_slots_with_flags x (slots_ex (set_dom ms es d)) t env u (slots-there p (n ∷ ns) v) v
-        (views-offer x z zs t (of_flagged x ms es d js r n ns) refl env (asked (with_flags s q g) h m.1 u) m))
+        (views-offer x z zs t (of_flagged x ms es d js r n ns) refl env (asked (with_flags s j q g) h m.1 u) m))

@@ -18,10 +18,10 @@ use Rattle.ess_values_along_laws.specs.Valued.{Valued}
 use Rattle.ess_values_sources_laws.specs.ListedValues.{AllUnder}
 use Rattle.ess_kind_rules_laws.specs.ViewListings.{view_listing}
 use Rattle.ess_open_rules_laws.specs.OpenSources.{told_by_kind, all_offered}
-use Rattle.ess_seen_laws.specs.Seen.{Kind, Bound, from_a_set, bound_types, is_combined, SetTerm, view, drawn, combined, Seen, Going}
+use Rattle.ess_seen_laws.specs.Seen.{Kind, Bound, from_a_set, bound_types, SetTerm, view, drawn, combined, Seen, Going}
 use Rattle.ess_seen_values_laws.proofs.Names.{put}
 use Rattle.ess_seen_values_laws.proofs.ListsApart.{ListApart}
-use Rattle.ess_seen_values_laws.proofs.SetSources.{set-offers, set-listed, set-under, set-apart, behind-apart}
+use Rattle.ess_seen_values_laws.proofs.SetSources.{view-offers, set-listed, set-under, set-apart, behind-apart}
 use Rattle.ess_seen_values_laws.proofs.CombinedSources.{combined-apart, combined-offers, combined-under}
 
 -- Alternatives l of the source u of `[e | y <- u, hs]`, around which the names r are bound: their names are none of those that stand
@@ -45,7 +45,7 @@ by-form None p l q = cc
 by-form (Some k) p l q = q
 
 -- The alternative of a view has names of its own.
-pub source-apart : (cells : Text → Option (Bool × ℕ)) {r t : Names Bound} {u e : Ex} {k : Kind} {m : Bool} (x z y : Text)
+pub source-apart : (cells : Text → Option (Bool × List ℕ)) {r t : Names Bound} {u e : Ex} {k : Kind} {m : Bool} (x z y : Text)
     (zs : List Text) (hs : Gens) → SetTerm cells r u k → Going cells ((y, from_a_set k) ∷ r) hs t → Seen cells t e m →
     (l : ListApart x r e (from (name_pat y) u hs)) → (a : Alternative) → view_listing x z zs u ≡ Some a →
     NamesApart (same_text x) (put l.scope.all x y) (comp_ex e (from (name_pat y) (laid_out a) hs))
@@ -54,16 +54,17 @@ source-apart cells x z y zs hs w g h l a q =
     let bg = l.gens_bound in
     set-apart cells l.declared l.scope.all l.scope.over_domains x z y zs hs w g h l.covers l.scoped l.body_used l.body_bound ug.2 bg.2 a q
 
-module _ (cells : Text → Option (Bool × ℕ)) (s : Supply) (g : Names Ty) where
-  -- One that isn't made of two offers its listing.
+module _ (cells : Text → Option (Bool × List ℕ)) (s : Supply) (g : Names Ty) where
+  -- One that offers its listing alone.
   plainly : {r t : Names Bound} {y : Text} {u e : Ex} {hs : Gens} {k : Kind} {m : Bool} (set : SetTerm cells r u k) →
-      is_combined u ≡ false → Going cells ((y, from_a_set k) ∷ r) hs t → Seen cells t e m →
+      all_offered s g u ≡ option_map (λ a. a ∷ []) (view_listing s.one s.other s.parts u) →
+      Going cells ((y, from_a_set k) ∷ r) hs t → Seen cells t e m →
       (a : ListApart s.one r e (from (name_pat y) u hs)) → (l : List Alternative) → all_offered s g u ≡ Some l →
       Fits s.one r a.scope.all y u e hs l
   plainly {r = r} {y = y} {u = u} {e = e} {hs = hs} set i going seen a l q =
       let n = a.gens_used in
       let used : Unused s.one u = n.1 in
-      of-one (view_listing s.one s.other s.parts u) l (Fits s.one r a.scope.all y u e hs) (sym (set-offers cells set i s g) ∙ q) (λ b p.
+      of-one (view_listing s.one s.other s.parts u) l (Fits s.one r a.scope.all y u e hs) (sym i ∙ q) (λ b p.
       record {
         apart = (source-apart cells s.one s.other y s.parts hs set going seen a b p, tt);
         offers = λ env ty met v. set-listed cells s.one s.other s.parts env set used met b p;
@@ -74,7 +75,7 @@ module _ (cells : Text → Option (Bool × ℕ)) (s : Supply) (g : Names Ty) whe
   pub all-fits : {r t : Names Bound} {y : Text} {u e : Ex} {hs : Gens} {k : Kind} {m : Bool} → SetTerm cells r u k →
       Going cells ((y, from_a_set k) ∷ r) hs t → Seen cells t e m → (a : ListApart s.one r e (from (name_pat y) u hs)) →
       (l : List Alternative) → all_offered s g u ≡ Some l → Fits s.one r a.scope.all y u e hs l
-  all-fits (view n f q p) going seen a l h = plainly (view n f q p) refl going seen a l h
+  all-fits (view {js = js} n f q p) going seen a l h = plainly (view n f q p) (view-offers cells js q s g) going seen a l h
   all-fits (drawn q) going seen a l h = plainly (drawn q) refl going seen a l h
   all-fits {y = y} {e = e} {hs = hs} (combined {o = o} {s = v} {t = w} c f h) going seen a l q =
       let n = a.gens_used in

@@ -34,7 +34,7 @@ use Rattle.ess_open_rules_laws.specs.OpenSources.{all_offered, behind_gens, put_
 use Rattle.ess_open_kept_laws.specs.OpenedAsks.{OfferedBehind, SourceBehind, OpenedAsks}
 use Rattle.ess_open_kept_laws.proofs.OpenedFolds.{opened-are, nested-keeps}
 use Rattle.ess_open_kept_laws.proofs.OpenedSources.{over_one-keeps}
-use Rattle.ess_seen_laws.specs.Seen.{Kind, Bound, from_a_set, bound_types, SetTerm, Seen, Going, at_end, through, among, where_holds}
+use Rattle.ess_seen_laws.specs.Seen.{Kind, Bound, from_a_set, bound_types, SetTerm, Seen, Going, at_end, through, through_slots, among, where_holds}
 use Rattle.ess_seen_values_laws.specs.Laws.{StaysAlike}
 use Rattle.ess_seen_values_laws.proofs.Tails.{append-none, met-behind, under-behind, Tail, tails-valued}
 use Rattle.ess_seen_values_laws.proofs.Names.{put}
@@ -52,7 +52,7 @@ of-some (Some a) P f = f a refl
 
 -- ---- values behind the plain generators
 
-module _ (cells : Text → Option (Bool × ℕ)) where
+module _ (cells : Text → Option (Bool × List ℕ)) where
   -- What the source offers has values in its place.
   put-tail : {r : Names Bound} (x : Text) (scope : Text → Bool) (y : Text) (u e : Ex) (hs : Gens) (a : Alternative) →
       Fits x r scope y u e hs (a ∷ []) → (env : Env) → Typed (bound_types r) env → Meets u env →
@@ -130,6 +130,7 @@ module _ (cells : Text → Option (Bool × ℕ)) where
         SourceBehind s g before e after env × Valued w F env
     at-first g before after at_end l met v q = cc
     at-first g before after (through x k) l met v q = cc
+    at-first g before after (through_slots x k) l met v q = cc
     at-first g before after (where_holds x k) l met v q = cc
     at-first g before after (among {k = k} {a = y} {s = u} {gs = hs} t go) l met v q =
         at-source g before y u k hs t go l met v q

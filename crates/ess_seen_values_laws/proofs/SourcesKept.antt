@@ -1,5 +1,5 @@
 -- Rules of sources keep trees over views: by the form of the first source, and over one source, at the first generator that isn't plain.
-use Rattle.std.proofs.Common.{◌≡◌, refl, ℕ, Bool, false, [], ◌∷◌, Option, Some}
+use Rattle.std.proofs.Common.{◌≡◌, refl, ℕ, Bool, false, List, [], ◌∷◌, Option, Some}
 use Rattle.std.specs.Prelude.{IsTrue, is_some}
 use Rattle.std.specs.List.{list_all}
 use Rattle.ess_semantics.specs.declared.words.Fun.{Fun}
@@ -28,7 +28,7 @@ use Rattle.ess_seen_values_laws.proofs.SourceOffers.{form-fits}
 use Rattle.ess_seen_values_laws.proofs.SourceRules.{of-some, over-one, fold-of-folds}
 use Rattle.ess_seen_values_laws.proofs.KindRules.{list-root, first-set}
 
-module _ (cells : Text → Option (Bool × ℕ)) where
+module _ (cells : Text → Option (Bool × List ℕ)) where
   -- No set is that of a comprehension.
   set-over-none : {r : Names Bound} {e : Ex} {k : Kind} → SetTerm cells r e k → is_set_over e ≡ false
   set-over-none (view n f q p) = refl
@@ -40,7 +40,7 @@ module _ (cells : Text → Option (Bool × ℕ)) where
   module _ (s : Supply) {r b : Names Bound} (m : Bool) (w : Fun) (y : Text) (t e : Ex) (hs : Gens) {k : Kind} {n : Bool}
       (set : SetTerm cells r t k) (going : Going cells ((y, from_a_set k) ∷ r) hs b) (seen : Seen cells b e n)
       (a : Apart s.one r (fun1 m w (comp_ex e (from (name_pat y) t hs)))) (env : Env) (z : Bool)
-      (met : IsMet r (fun1 m w (comp_ex e (from (name_pat y) t hs))) env)
+      (met : IsMet cells r (fun1 m w (comp_ex e (from (name_pat y) t hs))) env)
       (v : Valued z (fun1 m w (comp_ex e (from (name_pat y) t hs))) env) where
     abbrev Root : Ex
     Root = fun1 m w (comp_ex e (from (name_pat y) t hs))
@@ -61,7 +61,7 @@ module _ (cells : Text → Option (Bool × ℕ)) where
           same_text s.one,
           put c.scope.all s.one y,
           f.apart,
-          (there t env source, f.offers env met.typed met-source source),
+          (there t env source, f.offers env met.holds.typed met-source source),
         ))
 
     operands : IsTrue (list_all is_some (meaning (comp_ex e (from (name_pat y) t hs)) env ∷ []))
@@ -69,7 +69,7 @@ module _ (cells : Text → Option (Bool × ℕ)) where
 
     by-parts : (f : Ex) → source_listed s (bound_types r) Root ≡ Some f → StaysAlike z Root f env
     by-parts f q =
-        let k = all-keep.each s (bound_types r) over_a_source Root f q env met.typed (counted, operands) met.met in
+        let k = all-keep.each s (bound_types r) over_a_source Root f q env met.holds.typed (counted, operands) met.met in
         record {
           means = k.0;
           met = k.1;
@@ -79,7 +79,7 @@ module _ (cells : Text → Option (Bool × ℕ)) where
 
     by-itself : (f : Ex) → source_listed_once s (bound_types r) Root ≡ Some f → StaysAlike z Root f env
     by-itself f q =
-        let k = all-keep.each s (bound_types r) of_one_source Root f q env met.typed counted met.met in
+        let k = all-keep.each s (bound_types r) of_one_source Root f q env met.holds.typed counted met.met in
         record {
           means = k.0;
           met = k.1;
@@ -88,7 +88,7 @@ module _ (cells : Text → Option (Bool × ℕ)) where
 
   -- A fold over the alternatives of its first source.
   pub source-kept : (s : Supply) (r : Names Bound) (e f : Ex) {m : Bool} → Seen cells r e m → Apart s.one r e →
-      source_listed s (bound_types r) e ≡ Some f → (env : Env) → IsMet r e env → (w : Bool) → Valued w e env → StaysAlike w e f env
+      source_listed s (bound_types r) e ≡ Some f → (env : Env) → IsMet cells r e env → (w : Bool) → Valued w e env → StaysAlike w e f env
   source-kept s r (fun1 m w (comp_ex e (from (name_pat y) t hs))) f h a q env i z v =
       let o = list-root cells h in
       let p = first-set cells o.going in
@@ -97,7 +97,8 @@ module _ (cells : Text → Option (Bool × ℕ)) where
 
   -- A word over the only alternative.
   pub source-once-kept : (s : Supply) (r : Names Bound) (e f : Ex) {m : Bool} → Seen cells r e m → Apart s.one r e →
-      source_listed_once s (bound_types r) e ≡ Some f → (env : Env) → IsMet r e env → (w : Bool) → Valued w e env → StaysAlike w e f env
+      source_listed_once s (bound_types r) e ≡ Some f → (env : Env) → IsMet cells r e env → (w : Bool) → Valued w e env →
+      StaysAlike w e f env
   source-once-kept s r (fun1 m w (comp_ex e (from (name_pat y) t hs))) f h a q env i z v =
       let o = list-root cells h in
       let p = first-set cells o.going in
@@ -108,16 +109,17 @@ module _ (cells : Text → Option (Bool × ℕ)) where
 
   -- A word over the only alternative there.
   pub opened-kept : (s : Supply) (r : Names Bound) (e f : Ex) {m : Bool} → Seen cells r e m → Apart s.one r e →
-      over_one_opened s (bound_types r) e ≡ Some f → (env : Env) → IsMet r e env → (w : Bool) → Valued w e env → StaysAlike w e f env
+      over_one_opened s (bound_types r) e ≡ Some f → (env : Env) → IsMet cells r e env → (w : Bool) → Valued w e env → StaysAlike w e f env
   opened-kept s r (fun1 m k (comp_ex e gs)) f h a q env i w v =
       let o = list-root cells h in
-      over-one cells s m k o.marked o.seen env w f (bound_types r) gs o.going (word-apart s.one r m k e gs a) (i.typed, i.positions) i.met v
+      over-one cells s m k o.marked o.seen env w f (bound_types r) gs o.going (word-apart s.one r m k e gs a)
+      (i.holds.typed, i.positions) i.met v
       q
   opened-kept s r _ f h a q env i w v = cc
 
   -- A fold of folds.
   pub folded-kept : (s : Supply) (r : Names Bound) (e f : Ex) {m : Bool} → Seen cells r e m → nested e ≡ Some f → (env : Env) →
-      IsMet r e env → (w : Bool) → Valued w e env → StaysAlike w e f env
+      IsMet cells r e env → (w : Bool) → Valued w e env → StaysAlike w e f env
   folded-kept s r (fun1 m k (comp_ex e gs)) f h q env i w v =
       let o = list-root cells h in fold-of-folds cells m k o.marked e env w f gs i.met v q
   folded-kept s r _ f h q env i w v = cc

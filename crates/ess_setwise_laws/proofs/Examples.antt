@@ -119,12 +119,50 @@ two_differences : is_setwise_truth marks sets
     (ex2 true Op2.Or (ex2 true Op2.Ne r s) (ex2 true Op2.Eq (ex2 false Op2.Minus (size t) (size u)) (number_ex (pos 2)))) ≡ true
 two_differences = refl
 
--- The size of a set that is made of two isn't asked, but that of a difference of numbers is: `|t union u|`, and `| |t| - n |`.
-no_size_of_two : setwise_mark marks sets (size (union t u)) ≡ None
-no_size_of_two = refl
+-- `|t union u|` is a number, and so is `|r - s|`; and of a difference of numbers it is the absolute value: `| |t| - n |`.
+size_of_two : setwise_mark marks sets (size (union t u)) ≡ Some false
+size_of_two = refl
+
+size_of_less : setwise_mark marks sets (size (lessened r s)) ≡ Some false
+size_of_less = refl
 
 size_of_numbers : setwise_mark marks sets (size (ex2 false Op2.Minus (size t) n)) ≡ Some false
 size_of_numbers = refl
+
+-- `sum([i | i <- t]) <= |t union u|`
+abbrev sum_of_all : Ex
+sum_of_all = fun1 false Fun.Sum (comp_ex i (from (name_pat (codes "i")) t no_gens))
+
+sum_of_members : is_setwise_truth marks sets (ex2 true Op2.Le sum_of_all (size (union t u))) ≡ true
+sum_of_members = refl
+
+-- `sum([i * n | i <- t - u, i in v, b])`, and `sum([|x| | x <- r union s, t subsetEq x])`
+sum_with_conditions : setwise_mark marks sets
+    (fun1 false Fun.Sum
+    (comp_ex (ex2 false Op2.Times i n)
+    (from (name_pat (codes "i")) (lessened t u) (cond (is_in i v) (cond (name_ex (codes "b")) no_gens))))) ≡ Some false
+sum_with_conditions = refl
+
+sum_of_sizes : setwise_mark marks sets
+    (fun1 false Fun.Sum
+    (comp_ex (size x) (from (name_pat (codes "x")) (union r s) (cond (ex2 true Op2.SubsetEq t x) no_gens)))) ≡ Some false
+sum_of_sizes = refl
+
+-- `sum([i | x <- s, n in x, i : int(1..|x|), i in x])`, and sums in sums: `sum([sum([i | i <- x]) | x <- s])`
+sum_of_several : setwise_mark marks sets
+    (fun1 false Fun.Sum
+    (comp_ex i
+    (from (name_pat (codes "x")) s
+    (cond (is_in n x)
+    (over (name_pat (codes "i")) (int_dom (both_ends ∷ []) (more_exs (number_ex (pos 1)) (more_exs (size x) no_exs)))
+    (cond (is_in i x) no_gens)))))) ≡ Some false
+sum_of_several = refl
+
+sum_of_sums : setwise_mark marks sets
+    (fun1 false Fun.Sum
+    (comp_ex (fun1 false Fun.Sum (comp_ex i (from (name_pat (codes "i")) x no_gens))) (from (name_pat (codes "x")) s no_gens)))
+    ≡ Some false
+sum_of_sums = refl
 
 -- A truth value isn't asked for in a set of numbers, nor a set in one; sets of other members aren't compared, nor put together, and `<` is
 -- no sign between sets.
@@ -143,9 +181,12 @@ no_other_union = refl
 no_order : setwise_mark marks sets (ex2 true Op2.Lt t u) ≡ None
 no_order = refl
 
--- Members aren't summed; and a set is no constraint.
-no_sum_of_members : setwise_mark marks sets (fun1 false Fun.Sum (comp_ex i (from (name_pat (codes "i")) t no_gens))) ≡ None
-no_sum_of_members = refl
+-- Truth values aren't summed, nor are sets; and a set is no constraint.
+no_sum_of_truths : setwise_mark marks sets (fun1 false Fun.Sum (comp_ex (is_in i u) (from (name_pat (codes "i")) t no_gens))) ≡ None
+no_sum_of_truths = refl
+
+no_sum_of_sets : setwise_mark marks sets (fun1 false Fun.Sum (comp_ex x (from (name_pat (codes "x")) s no_gens))) ≡ None
+no_sum_of_sets = refl
 
 no_set_alone : setwise_mark marks sets t ≡ None
 no_set_alone = refl

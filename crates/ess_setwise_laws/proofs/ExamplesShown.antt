@@ -83,3 +83,22 @@ of_two : constraint_tree sh_two old_three
     (ex2 true Op2.And (is_in (name_ex (reserved 2)) other) (is_in (name_ex (reserved 2)) (ex2 false Op2.Minus view view)))
     (from (name_pat (reserved 2)) (ex2 false Op2.Union view view) no_gens))
 of_two = refl
+
+-- Sums over members and sizes of sets made of two stay as they are too: `sum([|x| | x <- s, x in s]) <= |s union s|`
+abbrev bar : Ex → Ex
+bar e = ex1 false Op1.Bar e
+
+abbrev old_four : Ex
+old_four =
+    ex2 true Op2.Le
+    (fun1 false Fun.Sum
+    (comp_ex (bar (name_ex (codes "x")))
+    (from (name_pat (codes "x")) (name_ex (codes "s")) (cond (is_in (name_ex (codes "x")) (name_ex (codes "s"))) no_gens))))
+    (bar (ex2 false Op2.Union (name_ex (codes "s")) (name_ex (codes "s"))))
+
+sum_of_members : constraint_tree sh_two old_four
+    ≡ ex2 true Op2.Le
+    (fun1 false Fun.Sum
+    (comp_ex (bar (name_ex (reserved 2))) (from (name_pat (reserved 2)) view (cond (is_in (name_ex (reserved 2)) other) no_gens))))
+    (bar (ex2 false Op2.Union view view))
+sum_of_members = refl

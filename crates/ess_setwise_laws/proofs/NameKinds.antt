@@ -1,5 +1,5 @@
 -- Kinds of names in constraints that speak of sets, as names become reserved ones, cells and views.
-use Rattle.std.proofs.Common.{◌≡◌, refl, sym, ap, ◌∙◌, subst, ℕ, zero, suc, ◌≤◌, ◌<◌, Bool, true, false, ◌||◌, if◌then◌else◌, [], ◌∷◌, Option, Some, None, arith}
+use Rattle.std.proofs.Common.{◌≡◌, refl, sym, ap, ◌∙◌, subst, ℕ, zero, suc, ◌≤◌, ◌<◌, Bool, true, false, ◌||◌, if◌then◌else◌, List, [], ◌∷◌, Option, Some, None, arith}
 use Rattle.std.specs.Prelude.{IsTrue}
 use Rattle.ess_semantics.specs.Lists.{or_default}
 use Rattle.ess_semantics.specs.Values.{Text}
@@ -63,7 +63,7 @@ still t a b x o d s = ap (λ c. if c then Some (bound_kind x) else bound_at t b)
 pub in-front : (t : Names Bound) (a : Text) (x : Bound) → bound_at ((a, x) ∷ t) a ≡ Some (bound_kind x)
 in-front t a x = ap (λ c. if c then Some (bound_kind x) else bound_at t a) (same_text-itself a)
 
-module _ (sh : Shows) (names : Text → Option Kind) (cells : Text → Option (Bool × ℕ)) (w : ShowsAll sh names cells) (lim : ℕ)
+module _ (sh : Shows) (names : Text → Option Kind) (cells : Text → Option (Bool × List ℕ)) (w : ShowsAll sh names cells) (lim : ℕ)
     (differ : (i j : ℕ) → i < j → j < lim → same_text (reserved j) (reserved i) ≡ false) where
   -- What is shown of a name: a bound one, or a cell or a view.
   abbrev pub IsAt : Names Bound → Ex → Kind → Type 0

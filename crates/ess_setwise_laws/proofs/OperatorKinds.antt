@@ -49,13 +49,10 @@ decided false o m q = cc
 -- ---- operators
 
 -- An operator on one scalar has its mark.
-pub one-scalar : (c : Bool) (o : Op1) (m : Bool) → one_kind c o (scalars m) ≡ one_mark o m
-one-scalar true Op1.Not m = refl
-one-scalar true Op1.Minus m = refl
-one-scalar true Op1.Bar m = refl
-one-scalar false Op1.Not m = refl
-one-scalar false Op1.Minus m = refl
-one-scalar false Op1.Bar m = refl
+pub one-scalar : (o : Op1) (m : Bool) → one_kind o (scalars m) ≡ one_mark o m
+one-scalar Op1.Not m = refl
+one-scalar Op1.Minus m = refl
+one-scalar Op1.Bar m = refl
 
 -- A mark of an operator on one scalar is one.
 pub one-op : (o : Op1) (i k : Bool) → one_mark o i ≡ Some k → OneOp k o i

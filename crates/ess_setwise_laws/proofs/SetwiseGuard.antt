@@ -10,9 +10,9 @@ use Rattle.ess_guard_laws.specs.Origins.{Origin, with_any, with_over, known_behi
 use Rattle.ess_guard_laws.specs.Conditions.{chained, every, given_that}
 use Rattle.ess_guard_laws.specs.Guard.{guarded, guarded_gens, conditions, conditions_gens}
 use Rattle.ess_flat_laws.specs.Flat.{OneOp, TwoOp, denied, negative, absolute, both, either, implied, agreeing, equal, unequal, below, at_most, above, at_least, sum, difference, product}
-use Rattle.ess_bare_laws.specs.Bare.{TruthWord, all_hold, some_holds}
+use Rattle.ess_bare_laws.specs.Lean.{FoldWord, of_all, of_some, of_sum}
 use Rattle.ess_seen_laws.specs.Seen.{Kind, Bound, Combines, united, shared, lessened, Compares, alike, apart, included, properly_included, including, properly_including}
-use Rattle.ess_setwise_laws.proofs.SetwiseTrees.{Stands, named, as_shown, SetTree, stands, combined, Setwise, number, truth, scalar, one, two, chosen, folded, added, size, within, set_within, compared, Binding, at_end, over_truths, over_numbers, among, where_holds, Form, a_cell, a_view}
+use Rattle.ess_setwise_laws.proofs.SetwiseTrees.{Stands, named, as_shown, SetTree, stands, combined, Setwise, number, truth, scalar, one, two, chosen, folded, size, within, set_within, compared, Binding, at_end, over_truths, over_numbers, among, where_holds, Form, a_cell, a_view}
 
 -- Two operands whose nodes have conditions of their own, and none.
 none-both : (as' bs : List Ex) → as' ≡ [] → bs ≡ [] → (as' ++ (bs ++ [])) ++ [] ≡ []
@@ -55,7 +55,7 @@ range-kept a x y x' y' gs gs' q r w =
 source-kept : (a : Text) (s s' : Ex) (gs gs' : Gens) → s' ≡ s → gs' ≡ gs → from (name_pat a) s' gs' ≡ from (name_pat a) s gs
 source-kept a s s' gs gs' q r = ap (λ z. from (name_pat a) z gs') q ∙ ap (from (name_pat a) s) r
 
-module _ (names : Text → Option Kind) (Shown : Ex → Kind → Type 0) (cells : Text → Option (Bool × ℕ))
+module _ (names : Text → Option Kind) (Shown : Ex → Kind → Type 0) (cells : Text → Option (Bool × List ℕ))
     (form : (e : Ex) (k : Kind) → Shown e k → Form cells e k) (p q : Text) where
   abbrev C : Names Bound → Ex → Bool → Type 0
   C = Setwise names Shown
@@ -132,6 +132,14 @@ module _ (names : Text → Option Kind) (Shown : Ex → Kind → Type 0) (cells 
   two-none x y product f h k true = none-both (conds k true x) (conds k true y) (f k true) (h k true)
   two-none x y product f h k false = none-both (conds k false x) (conds k false y) (f k false) (h k false)
 
+  -- A word on a list without conditions.
+  fold-none : {m : Bool} {f : Fun} (e : Ex) (gs : Gens) → FoldWord m f → (k : Names Origin) (w : Bool) → conds k false (comp_ex e gs) ≡ [] →
+      conds k w (fun1 m f (comp_ex e gs)) ≡ []
+  fold-none e gs of_all k w n = refl
+  fold-none e gs of_some k w n = refl
+  fold-none e gs of_sum k true n = none-one (conds k false (comp_ex e gs)) n
+  fold-none e gs of_sum k false n = none-one (conds k false (comp_ex e gs)) n
+
   mutual
     -- A constraint has a value under no condition.
     pub no-conditions : {r : Names Bound} {e : Ex} {m : Bool} → C r e m → (k : Names Origin) (w : Bool) → conds k w e ≡ []
@@ -142,21 +150,16 @@ module _ (names : Text → Option Kind) (Shown : Ex → Kind → Type 0) (cells 
     no-conditions (two {x = x} {y = y} s f h) k w = two-none x y s (no-conditions f) (no-conditions h) k w
     no-conditions (chosen {x = x} f) k true = none-one (conds k false x) (no-conditions f k false)
     no-conditions (chosen {x = x} f) k false = none-one (conds k false x) (no-conditions f k false)
-    no-conditions (folded w g f) k v = refl
-    no-conditions (added {e = e} {gs = gs} g f) k true =
-        none-one (conds k false (comp_ex e gs))
-        (none-gens g (conds (known_behind gs k) false e) (no-conditions f (known_behind gs k) false) k)
-    no-conditions (added {e = e} {gs = gs} g f) k false =
-        none-one (conds k false (comp_ex e gs))
-        (none-gens g (conds (known_behind gs k) false e) (no-conditions f (known_behind gs k) false) k)
-    no-conditions (size {s = s} h) k true = none-one (conds k true s) (at-none h k true)
-    no-conditions (size {s = s} h) k false = none-one (conds k false s) (at-none h k false)
+    no-conditions (folded {e = e} {gs = gs} v g f) k w =
+        fold-none e gs v k w (none-gens g (conds (known_behind gs k) false e) (no-conditions f (known_behind gs k) false) k)
+    no-conditions (size {s = s} h) k true = none-one (conds k true s) (set-none h k true)
+    no-conditions (size {s = s} h) k false = none-one (conds k false s) (set-none h k false)
     no-conditions (within f h) k w = refl
     no-conditions (set_within f h) k w = refl
     no-conditions (compared c f h) k w = refl
 
     -- Generators neither, where what stands behind them needs none.
-    none-gens : {c : Bool} {r t : Names Bound} {gs : Gens} → Binding names Shown c r gs t → (cs : List Ex) → cs ≡ [] → (k : Names Origin) →
+    none-gens : {r t : Names Bound} {gs : Gens} → Binding names Shown r gs t → (cs : List Ex) → cs ≡ [] → (k : Names Origin) →
         conditions_gens true p q k gs cs ≡ []
     none-gens at_end cs h k = h
     none-gens (over_truths {a = a} {gs = gs} w g) cs h k =
@@ -222,12 +225,14 @@ module _ (names : Text → Option Kind) (Shown : Ex → Kind → Type 0) (cells 
   in-guarded x y f h k c d =
       two-kept Op2.Member x y (kept k x) (kept k y) (conds k false x) (conds k false y) (f k false) (h k false) c d
 
-  fold-guarded : {f : Fun} (e : Ex) (gs : Gens) → TruthWord f → (k : Names Origin) → conds k false (comp_ex e gs) ≡ [] →
-      kept (known_behind gs k) e ≡ e → guarded_gens true p q k gs ≡ gs → kept k (fun1 true f (comp_ex e gs)) ≡ fun1 true f (comp_ex e gs)
-  fold-guarded e gs all_hold k n c d =
+  fold-guarded : {m : Bool} {f : Fun} (e : Ex) (gs : Gens) → FoldWord m f → (k : Names Origin) → conds k false (comp_ex e gs) ≡ [] →
+      kept (known_behind gs k) e ≡ e → guarded_gens true p q k gs ≡ gs → kept k (fun1 m f (comp_ex e gs)) ≡ fun1 m f (comp_ex e gs)
+  fold-guarded e gs of_all k n c d =
       fold-kept Fun.And e (kept (known_behind gs k) e) gs (guarded_gens true p q k gs) (conds k false (comp_ex e gs)) n c d
-  fold-guarded e gs some_holds k n c d =
+  fold-guarded e gs of_some k n c d =
       fold-kept Fun.Or e (kept (known_behind gs k) e) gs (guarded_gens true p q k gs) (conds k false (comp_ex e gs)) n c d
+  fold-guarded e gs of_sum k n c d =
+      ap (λ z. fun1 false Fun.Sum (comp_ex z (guarded_gens true p q k gs))) c ∙ ap (λ z. fun1 false Fun.Sum (comp_ex e z)) d
 
   mutual
     -- So it stays as it is.
@@ -242,17 +247,14 @@ module _ (names : Text → Option Kind) (Shown : Ex → Kind → Type 0) (cells 
     guarded-setwise (folded {e = e} {gs = gs} w g f) k =
         fold-guarded e gs w k (none-gens g (conds (known_behind gs k) false e) (no-conditions f (known_behind gs k) false) k)
         (guarded-setwise f (known_behind gs k)) (guarded-binding g k)
-    guarded-setwise (added {e = e} {gs = gs} g f) k =
-        ap (λ z. fun1 false Fun.Sum (comp_ex z (guarded_gens true p q k gs))) (guarded-setwise f (known_behind gs k))
-        ∙ ap (λ z. fun1 false Fun.Sum (comp_ex e z)) (guarded-binding g k)
-    guarded-setwise (size h) k = ap (ex1 false Op1.Bar) (at-kept h k)
+    guarded-setwise (size h) k = ap (ex1 false Op1.Bar) (set-kept h k)
     guarded-setwise (within {x = x} {s = s} f h) k =
         in-guarded x s (no-conditions f) (set-none h) k (guarded-setwise f k) (set-kept h k)
     guarded-setwise (set_within {a = x} {s = s} f h) k = in-guarded x s (set-none f) (set-none h) k (set-kept f k) (set-kept h k)
     guarded-setwise (compared {s = x} {t = y} c f h) k =
         compared-guarded x y c (set-none f) (set-none h) k (set-kept f k) (set-kept h k)
 
-    guarded-binding : {c : Bool} {r t : Names Bound} {gs : Gens} → Binding names Shown c r gs t → (k : Names Origin) →
+    guarded-binding : {r t : Names Bound} {gs : Gens} → Binding names Shown r gs t → (k : Names Origin) →
         guarded_gens true p q k gs ≡ gs
     guarded-binding at_end k = refl
     guarded-binding (over_truths {a = a} w g) k = ap (over (name_pat a) bool_dom) (guarded-binding g (with_over (name_pat a) bool_dom k))

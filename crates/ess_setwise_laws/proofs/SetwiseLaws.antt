@@ -1,5 +1,5 @@
 -- Over tables a constraint that speaks of nested sets is a tree over views that means what the constraint means, and has values.
-use Rattle.std.proofs.Common.{◌≡◌, refl, sym, ap, ◌∙◌, subst, ℕ, ◌+◌, ◌≤◌, ◌<◌, ◌^◌, Bool, true, false, [], ℤ, Option, Some, None, arith}
+use Rattle.std.proofs.Common.{◌≡◌, refl, sym, ap, ◌∙◌, subst, ℕ, ◌+◌, ◌≤◌, ◌<◌, ◌^◌, Bool, true, false, List, [], ℤ, Option, Some, None, arith}
 use Rattle.std.specs.List.{list_all}
 use Rattle.ess_semantics.specs.Lists.{or_default}
 use Rattle.ess_semantics.specs.Values.{Text, Value}
@@ -51,13 +51,13 @@ set-kind None (Some i) k q = cc
 
 -- ---- what is shown
 
-view-form : (cells : Text → Option (Bool × ℕ)) (e : Ex) (k : Kind) → IsSetView cells e k → Form cells e (sets_of k)
+view-form : (cells : Text → Option (Bool × List ℕ)) (e : Ex) (k : Kind) → IsSetView cells e k → Form cells e (sets_of k)
 view-form cells e k v =
     subst (λ z. Form cells z (sets_of k)) (sym v.is)
     (subst (λ i. Form cells (seen_ex v.way (set_dom v.attributes v.sizes v.inner) v.tables no_exs) (sets_of i)) v.kind
     (a_view v.nested v.fit v.kept))
 
-module _ (sh : Shows) (marks : Text → Option Bool) (sets : Text → Option Kind) (cells : Text → Option (Bool × ℕ))
+module _ (sh : Shows) (marks : Text → Option Bool) (sets : Text → Option Kind) (cells : Text → Option (Bool × List ℕ))
     (w : ShowsSets sh marks sets cells) where
   abbrev names : Text → Option Kind
   names = free_kind marks sets

@@ -9,7 +9,7 @@ use Rattle.ess_semantics.specs.Meets.{Meets, MeetsGens}
 use Rattle.ess_semantics.specs.Contexts.{Each, EachOf, EachIn, Guarded, guards}
 use Rattle.ess_rules_laws.proofs.Simulation.{Vals, E}
 use Rattle.ess_seen_laws.specs.Seen.{Kind, Bound}
-use Rattle.ess_setwise_laws.proofs.SetwiseTrees.{Stands, named, as_shown, SetTree, stands, combined, Setwise, number, truth, scalar, one, two, chosen, folded, added, size, within, set_within, compared, Binding, at_end, over_truths, over_numbers, among, where_holds, no_kind}
+use Rattle.ess_setwise_laws.proofs.SetwiseTrees.{Stands, named, as_shown, SetTree, stands, combined, Setwise, number, truth, scalar, one, two, chosen, folded, size, within, set_within, compared, Binding, at_end, over_truths, over_numbers, among, where_holds, no_kind}
 
 -- What holds of each value holds of those of a list.
 each-any : (vs : List Value) (P : Value → Type 0) → ((v : Value) → P v) → Each vs P
@@ -59,13 +59,12 @@ module _ (Shown : Ex → Kind → Type 0) (pl : Bool) (ts : List TypeEntry) (cs 
     setwise-met (two {b = b} {o = o} {x = x} {y = y} s f h) g = two-met b (binary o) x y g (setwise-met f g) (setwise-met h g)
     setwise-met (chosen f) g = (setwise-met f g, tt)
     setwise-met (folded {e = e} w d f) g = (binding-met d e (λ h. setwise-met f h) g, tt)
-    setwise-met (added {e = e} d f) g = (binding-met d e (λ h. setwise-met f h) g, tt)
-    setwise-met (size h) g = (at-met h g, tt)
+    setwise-met (size h) g = (set-met h g, tt)
     setwise-met (within f h) g = (setwise-met f g, (set-met h g, tt))
     setwise-met (set_within f h) g = (set-met f g, (set-met h g, tt))
     setwise-met (compared {o = o} {s = x} {t = y} c f h) g = two-met true (binary o) x y g (set-met f g) (set-met h g)
 
-    binding-met : {c : Bool} {t s : Names Bound} {gs : Gens} → Binding no_kind Shown c t gs s → (e : Ex) →
+    binding-met : {t s : Names Bound} {gs : Gens} → Binding no_kind Shown t gs s → (e : Ex) →
         ((g : Vals) → Meets e (M g)) → (g : Vals) → MeetsGens gs (M g) (λ here. Meets e here)
     binding-met at_end e f g = f g
     binding-met (over_truths {a = a} {gs = gs} n d) e f g = (

@@ -1,5 +1,5 @@
 -- A constraint of the class over tables is a tree over views, and in scope; and no bound name hides another one.
-use Rattle.std.proofs.Common.{◌≡◌, refl, ap, ◌∙◌, ℕ, Bool, true, false, ◌||◌, not, if◌then◌else◌, [], ◌∷◌, Option, Some, None}
+use Rattle.std.proofs.Common.{◌≡◌, refl, ap, ◌∙◌, ℕ, Bool, true, false, ◌||◌, not, if◌then◌else◌, List, [], ◌∷◌, Option, Some, None}
 use Rattle.std.specs.Prelude.{IsTrue, is_some}
 use Rattle.ess_semantics.specs.Values.{Text}
 use Rattle.ess_semantics.specs.Order.{same_text}
@@ -7,8 +7,8 @@ use Rattle.ess_semantics.specs.Names.{Names, look}
 use Rattle.ess_semantics.specs.Trees.{name_pat, Ex, Gens}
 use Rattle.ess_semantics.specs.Scoped.{with_names, Scoped, ScopedGens}
 use Rattle.ess_seen_laws.specs.Seen as S
-use Rattle.ess_seen_laws.specs.Seen.{Kind, scalars, sets_of, Bound, over_a_range, from_a_set, bound_kind, is_combined}
-use Rattle.ess_setwise_laws.proofs.SetwiseTrees.{Stands, named, as_shown, SetTree, stands, combined, Setwise, number, truth, scalar, one, two, chosen, folded, added, size, within, set_within, compared, Binding, at_end, over_truths, over_numbers, among, where_holds, no_kind, Form, a_cell, a_view}
+use Rattle.ess_seen_laws.specs.Seen.{Kind, scalars, sets_of, Bound, over_a_range, over_slots, from_a_set, bound_kind}
+use Rattle.ess_setwise_laws.proofs.SetwiseTrees.{Stands, named, as_shown, SetTree, stands, combined, Setwise, number, truth, scalar, one, two, chosen, folded, size, within, set_within, compared, Binding, at_end, over_truths, over_numbers, among, where_holds, no_kind, Form, a_cell, a_view}
 use Rattle.ess_setwise_laws.proofs.ShownForms.{form-scoped}
 use Rattle.ess_setwise_laws.proofs.NameKinds.{bound_at}
 
@@ -34,16 +34,19 @@ looked (b ∷ r) a k h = go (same_text b.0 a) refl h (looked r a k)
 -- What has members of a set as values, which are sets, is bound over one.
 from-a-set : (b : Bound) (k : Kind) → bound_kind b ≡ sets_of k → b ≡ from_a_set (sets_of k)
 from-a-set (over_a_range m) k q = cc
+from-a-set (over_slots n) k q = cc
 from-a-set (from_a_set j) k q = ap from_a_set q
 
 -- ---- trees
 
-module _ (Shown : Ex → Kind → Type 0) (cells : Text → Option (Bool × ℕ)) (form : (e : Ex) (k : Kind) → Shown e k → Form cells e k) where
+module _ (Shown : Ex → Kind → Type 0) (cells : Text → Option (Bool × List ℕ))
+    (form : (e : Ex) (k : Kind) → Shown e k → Form cells e k) where
   abbrev C : Names Bound → Ex → Bool → Type 0
   C = Setwise no_kind Shown
 
   form-scalar : {r : Names Bound} {e : Ex} {m : Bool} → Form cells e (scalars m) → S.Seen cells r e m
-  form-scalar (a_cell q) = S.cell q S.no_index
+  form-scalar (a_cell {m = true} q) = S.flag q S.no_index
+  form-scalar (a_cell {m = false} q) = S.figure q S.no_place
 
   form-set : {r : Names Bound} {e : Ex} {k : Kind} → Form cells e (sets_of k) → S.SetTerm cells r e k
   form-set (a_view n f k) = S.view n f k S.no_place
@@ -56,15 +59,6 @@ module _ (Shown : Ex → Kind → Type 0) (cells : Text → Option (Bool × ℕ)
   place-seen {r} {e} {k} (named {a = a} h) =
       let z = looked r a (sets_of k) h in S.drawn (z.found ∙ ap Some (from-a-set z.bound k z.kind))
   place-seen {r} {e} {k} (as_shown h) = form-set (form e (sets_of k) h)
-
-  -- What stands for a name isn't made of two.
-  form-alone : {e : Ex} {k : Kind} → Form cells e k → is_combined e ≡ false
-  form-alone (a_cell q) = refl
-  form-alone (a_view n f k) = refl
-
-  place-alone : {r : Names Bound} {e : Ex} {k : Kind} → Stands no_kind Shown r e k → is_combined e ≡ false
-  place-alone (named h) = refl
-  place-alone (as_shown {e = e} {k = k} h) = form-alone (form e k h)
 
   -- A set is one over views.
   set-seen : {r : Names Bound} {e : Ex} {k : Kind} → SetTree no_kind Shown r e k → S.SetTerm cells r e k
@@ -81,27 +75,17 @@ module _ (Shown : Ex → Kind → Type 0) (cells : Text → Option (Bool × ℕ)
     setwise-seen (two s f g) = S.two s (setwise-seen f) (setwise-seen g)
     setwise-seen (chosen f) = S.chosen (setwise-seen f)
     setwise-seen (folded w g f) = S.folded w (setwise-going g) (setwise-seen f)
-    setwise-seen (added g f) = S.added (setwise-axes g refl) (setwise-seen f)
-    setwise-seen (size h) = S.size (place-seen h) (place-alone h)
+    setwise-seen (size h) = S.size (set-seen h)
     setwise-seen (within f h) = S.within (setwise-seen f) (set-seen h)
     setwise-seen (set_within f h) = S.set_within (set-seen f) (set-seen h)
     setwise-seen (compared c f h) = S.compared c (set-seen f) (set-seen h)
 
-    setwise-going : {c : Bool} {r t : Names Bound} {gs : Gens} → Binding no_kind Shown c r gs t → S.Going cells r gs t
+    setwise-going : {r t : Names Bound} {gs : Gens} → Binding no_kind Shown r gs t → S.Going cells r gs t
     setwise-going at_end = S.at_end
     setwise-going (over_truths n g) = S.through S.truths (setwise-going g)
-    setwise-going (over_numbers n x y g) =
-        S.through (S.numbers refl (S.one_bound (setwise-seen x) (S.one_bound (setwise-seen y) S.no_bound))) (setwise-going g)
+    setwise-going (over_numbers n x y g) = S.through (S.numbers (setwise-seen x) (setwise-seen y)) (setwise-going g)
     setwise-going (among n h g) = S.among (set-seen h) (setwise-going g)
     setwise-going (where_holds h g) = S.where_holds (setwise-seen h) (setwise-going g)
-
-    setwise-axes : {c : Bool} {r t : Names Bound} {gs : Gens} → Binding no_kind Shown c r gs t → c ≡ false → S.Axes cells r gs t
-    setwise-axes at_end q = S.no_axis
-    setwise-axes (over_truths n g) q = S.along S.truths (setwise-axes g q)
-    setwise-axes (over_numbers n x y g) q =
-        S.along (S.numbers refl (S.one_bound (setwise-seen x) (S.one_bound (setwise-seen y) S.no_bound))) (setwise-axes g q)
-    setwise-axes (among n h g) q = cc
-    setwise-axes (where_holds h g) q = cc
 
   -- ---- scopes
 
@@ -140,13 +124,12 @@ module _ (Shown : Ex → Kind → Type 0) (cells : Text → Option (Bool × ℕ)
     setwise-scoped (two w f g) z s o n = (setwise-scoped f z s o n, (setwise-scoped g z s o n, tt))
     setwise-scoped (chosen f) z s o n = (setwise-scoped f z s o n, tt)
     setwise-scoped (folded {e = e} w g f) z s o n = (binding-scoped g e z s o n (λ t p k. setwise-scoped f z t p k), tt)
-    setwise-scoped (added {e = e} g f) z s o n = (binding-scoped g e z s o n (λ t p k. setwise-scoped f z t p k), tt)
-    setwise-scoped (size h) z s o n = (at-scoped h z s o n, tt)
+    setwise-scoped (size h) z s o n = (set-scoped h z s o n, tt)
     setwise-scoped (within f h) z s o n = (setwise-scoped f z s o n, (set-scoped h z s o n, tt))
     setwise-scoped (set_within f h) z s o n = (set-scoped f z s o n, (set-scoped h z s o n, tt))
     setwise-scoped (compared c f h) z s o n = (set-scoped f z s o n, (set-scoped h z s o n, tt))
 
-    binding-scoped : {c : Bool} {r t : Names Bound} {gs : Gens} → Binding no_kind Shown c r gs t → (e : Ex) → (z s o : Text → Bool) →
+    binding-scoped : {r t : Names Bound} {gs : Gens} → Binding no_kind Shown r gs t → (e : Ex) → (z s o : Text → Bool) →
         Names_are r s → ((s' o' : Text → Bool) → Names_are t s' → Scoped z s' o' e) → ScopedGens z s o gs (λ s' o'. Scoped z s' o' e)
     binding-scoped at_end e z s o n k = k s o n
     binding-scoped (over_truths {r = r} {a = a} w g) e z s o n k = (

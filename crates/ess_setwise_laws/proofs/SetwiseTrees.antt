@@ -9,7 +9,7 @@ use Rattle.ess_semantics.specs.Names.{Names}
 use Rattle.ess_semantics.specs.Kinds.{fits}
 use Rattle.ess_semantics.specs.Trees.{Mark, Repr, both_ends, name_pat, Ex, Exs, number_ex, truth_ex, name_ex, comp_ex, cell_ex, seen_ex, no_exs, more_exs, Gens, no_gens, over, from, cond, Dom, bool_dom, int_dom, set_dom, ex1, ex2, fun1}
 use Rattle.ess_flat_laws.specs.Flat.{OneOp, TwoOp}
-use Rattle.ess_bare_laws.specs.Bare.{TruthWord}
+use Rattle.ess_bare_laws.specs.Lean.{FoldWord}
 use Rattle.ess_nested_laws.specs.NestedDomains.{is_nested_dom}
 use Rattle.conjure_model_laws.specs.ToldApart.{reserved}
 use Rattle.conjure_model_laws.specs.Shown.{Shows, in_place}
@@ -40,29 +40,26 @@ module _ (names : Text → Option Kind) (Shown : Ex → Kind → Type 0) where
       two : {r : Names Bound} {b m k : Bool} {o : Op2} {x y : Ex} → TwoOp b o m k → Setwise r x m → Setwise r y k →
           Setwise r (ex2 b o x y) b
       chosen : {r : Names Bound} {x : Ex} → Setwise r x true → Setwise r (fun1 false Fun.ToInt x) false
-      folded : {r t : Names Bound} {f : Fun} {e : Ex} {gs : Gens} → TruthWord f → Binding true r gs t → Setwise t e true →
-          Setwise r (fun1 true f (comp_ex e gs)) true
-      added : {r t : Names Bound} {e : Ex} {gs : Gens} → Binding false r gs t → Setwise t e false →
-          Setwise r (fun1 false Fun.Sum (comp_ex e gs)) false
-      size : {r : Names Bound} {k : Kind} {s : Ex} → Stands r s (sets_of k) → Setwise r (ex1 false Op1.Bar s) false
+      folded : {r t : Names Bound} {m : Bool} {f : Fun} {e : Ex} {gs : Gens} → FoldWord m f → Binding r gs t → Setwise t e m →
+          Setwise r (fun1 m f (comp_ex e gs)) m
+      size : {r : Names Bound} {k : Kind} {s : Ex} → SetTree r s k → Setwise r (ex1 false Op1.Bar s) false
       within : {r : Names Bound} {m : Bool} {x s : Ex} → Setwise r x m → SetTree r s (scalars m) → Setwise r (ex2 true Op2.Member x s) true
       set_within : {r : Names Bound} {k : Kind} {a s : Ex} → SetTree r a k → SetTree r s (sets_of k) →
           Setwise r (ex2 true Op2.Member a s) true
       compared : {r : Names Bound} {o : Op2} {k : Kind} {s t : Ex} → Compares o → SetTree r s k → SetTree r t k →
           Setwise r (ex2 true o s t) true
 
-    -- Generators over truth values and ranges, with conditions and members of sets where c says so; the names behind them. None hides
-    -- another one.
-    pub data Binding : Bool → Names Bound → Gens → Names Bound → Type 0 where
-      at_end : {c : Bool} {r : Names Bound} → Binding c r no_gens r
-      over_truths : {c : Bool} {r t : Names Bound} {a : Text} {gs : Gens} → kind_at names r a ≡ None →
-          Binding c ((a, over_a_range true) ∷ r) gs t → Binding c r (over (name_pat a) bool_dom gs) t
-      over_numbers : {c : Bool} {r t : Names Bound} {a : Text} {x y : Ex} {gs : Gens} → kind_at names r a ≡ None → Setwise r x false →
-          Setwise r y false → Binding c ((a, over_a_range false) ∷ r) gs t →
-          Binding c r (over (name_pat a) (int_dom (both_ends ∷ []) (more_exs x (more_exs y no_exs))) gs) t
+    -- Generators over truth values, ranges and members of sets, with conditions; the names behind them. None hides another one.
+    pub data Binding : Names Bound → Gens → Names Bound → Type 0 where
+      at_end : {r : Names Bound} → Binding r no_gens r
+      over_truths : {r t : Names Bound} {a : Text} {gs : Gens} → kind_at names r a ≡ None → Binding ((a, over_a_range true) ∷ r) gs t →
+          Binding r (over (name_pat a) bool_dom gs) t
+      over_numbers : {r t : Names Bound} {a : Text} {x y : Ex} {gs : Gens} → kind_at names r a ≡ None → Setwise r x false →
+          Setwise r y false → Binding ((a, over_a_range false) ∷ r) gs t →
+          Binding r (over (name_pat a) (int_dom (both_ends ∷ []) (more_exs x (more_exs y no_exs))) gs) t
       among : {r t : Names Bound} {k : Kind} {a : Text} {s : Ex} {gs : Gens} → kind_at names r a ≡ None → SetTree r s k →
-          Binding true ((a, from_a_set k) ∷ r) gs t → Binding true r (from (name_pat a) s gs) t
-      where_holds : {r t : Names Bound} {e : Ex} {gs : Gens} → Setwise r e true → Binding true r gs t → Binding true r (cond e gs) t
+          Binding ((a, from_a_set k) ∷ r) gs t → Binding r (from (name_pat a) s gs) t
+      where_holds : {r t : Names Bound} {e : Ex} {gs : Gens} → Setwise r e true → Binding r gs t → Binding r (cond e gs) t
 
 -- ---- before and behind
 
@@ -75,10 +72,10 @@ abbrev pub no_kind : Text → Option Kind
 no_kind a = None
 
 -- A single cell of a scalar, or a view of a set.
-pub data Form (cells : Text → Option (Bool × ℕ)) : Ex → Kind → Type 0 where
-  a_cell : {m : Bool} {n : Text} → cells n ≡ Some (m, 0) → Form cells (cell_ex m n no_exs) (scalars m)
+pub data Form (cells : Text → Option (Bool × List ℕ)) : Ex → Kind → Type 0 where
+  a_cell : {m : Bool} {n : Text} → cells n ≡ Some (m, []) → Form cells (cell_ex m n no_exs) (scalars m)
   a_view : {p : Repr} {ms : List Mark} {es : Exs} {d : Dom} {ns : List Text} → is_nested_dom (set_dom ms es d) ≡ true →
-      fits p (set_dom ms es d) ≡ true → Keeps cells 0 p (set_dom ms es d) ns →
+      fits p (set_dom ms es d) ≡ true → Keeps cells [] p (set_dom ms es d) ns →
       Form cells (seen_ex p (set_dom ms es d) ns no_exs) (sets_of (kind_of d))
 
 -- Where the shown views of a name are found: scalars have the first one alone.
@@ -87,14 +84,14 @@ pub data IsPlace (sh : Shows) (a : Text) (e : Ex) : Kind → Type 0 where
   in_last : {k : Kind} → in_place sh.last a ≡ e → IsPlace sh a e (sets_of k)
 
 -- What is shown for a name.
-pub record ShownFor (sh : Shows) (names : Text → Option Kind) (cells : Text → Option (Bool × ℕ)) (e : Ex) (k : Kind) : Type 0 where
+pub record ShownFor (sh : Shows) (names : Text → Option Kind) (cells : Text → Option (Bool × List ℕ)) (e : Ex) (k : Kind) : Type 0 where
   pub form : Form cells e k
   pub name : Text
   pub kind : names name ≡ Some k
   pub place : IsPlace sh name e k
 
 -- For each name it is such a form, and for reserved names nothing is shown.
-pub record ShowsAll (sh : Shows) (names : Text → Option Kind) (cells : Text → Option (Bool × ℕ)) : Type 0 where
+pub record ShowsAll (sh : Shows) (names : Text → Option Kind) (cells : Text → Option (Bool × List ℕ)) : Type 0 where
   pub first : (a : Text) (k : Kind) → names a ≡ Some k → Form cells (in_place sh.first a) k
   pub last : (a : Text) (k : Kind) → names a ≡ Some (sets_of k) → Form cells (in_place sh.last a) (sets_of k)
   pub spares_first : (j : ℕ) → in_place sh.first (reserved j) ≡ name_ex (reserved j)

@@ -20,10 +20,10 @@ use Rattle.ess_values_along_laws.specs.Valued.{lacks, Valued}
 use Rattle.ess_types_laws.proofs.SoundEnvs.{members-typed}
 use Rattle.ess_rules_laws.proofs.Simulation.{Vals, E}
 use Rattle.ess_flat_laws.specs.Flat.{OneOp, TwoOp}
-use Rattle.ess_bare_laws.specs.Bare.{TruthWord}
+use Rattle.ess_bare_laws.specs.Lean.{FoldWord, of_all, of_some, of_sum}
 use Rattle.ess_ranged_laws.specs.Laws.{HasMark, a_truth, a_number}
 use Rattle.ess_seen_laws.specs.Seen.{Kind, scalars, sets_of, Bound, over_a_range, from_a_set, bound_kind, Combines}
-use Rattle.ess_setwise_laws.proofs.SetwiseTrees.{Stands, named, as_shown, SetTree, stands, combined, Setwise, number as number_is, truth as truth_is, scalar, one, two, chosen, folded, added, size, within, set_within, compared, Binding, at_end, over_truths, over_numbers, among, where_holds, no_kind, Form}
+use Rattle.ess_setwise_laws.proofs.SetwiseTrees.{Stands, named, as_shown, SetTree, stands, combined, Setwise, number as number_is, truth as truth_is, scalar, one, two, chosen, folded, size, within, set_within, compared, Binding, at_end, over_truths, over_numbers, among, where_holds, no_kind, Form}
 use Rattle.ess_setwise_laws.proofs.ShownForms.{HasKind, number-typed, unless-any, form-still, form-valued}
 use Rattle.ess_setwise_laws.proofs.NameKinds.{bound_at}
 use Rattle.ess_setwise_laws.proofs.OperatorValues.{one-value, two-value, chosen-value, size-value, combined-value}
@@ -42,7 +42,7 @@ each-of o vs P q h = subst (λ z. EachOf z P) q h
 
 -- ---- trees
 
-module _ (Shown : Ex → Kind → Type 0) (cells : Text → Option (Bool × ℕ)) (form : (e : Ex) (k : Kind) → Shown e k → Form cells e k)
+module _ (Shown : Ex → Kind → Type 0) (cells : Text → Option (Bool × List ℕ)) (form : (e : Ex) (k : Kind) → Shown e k → Form cells e k)
     (pl : Bool) (ts : List TypeEntry) (cs : Names Table)
     (holds : (e : Ex) (k : Kind) → Shown e k → (v : Value) × HasKind k v × (meaning e (E pl ts cs []) ≡ Some v)) where
   abbrev C : Names Bound → Ex → Bool → Type 0
@@ -188,10 +188,10 @@ module _ (Shown : Ex → Kind → Type 0) (cells : Text → Option (Bool × ℕ)
   list-valued : (e : Ex) (gs : Gens) (g : Vals) → AllItems gs e g → (w : Bool) → Valued w (comp_ex e gs) (M g)
   list-valued e gs g x w = (ap (λ o. is_some (option_map list_value o)) x.are, x.valued)
 
-  -- A word on one.
-  fold-answer : {f : Fun} (e : Ex) (gs : Gens) (g : Vals) → TruthWord f → AllItems gs e g →
+  -- A word that makes a truth value of one.
+  test-answer : (f : Fun) (e : Ex) (gs : Gens) (g : Vals) → AllItems gs e g →
       Answer (node_ex true (word f) (more_exs (comp_ex e gs) no_exs)) (scalars true) g
-  fold-answer {f} e gs g w x = record {
+  test-answer f e gs g x = record {
     value = truth (as_truth (value_of_node (word f) (meaning (comp_ex e gs) (M g) ∷ [])));
     kind = a_truth;
     is = refl;
@@ -209,6 +209,13 @@ module _ (Shown : Ex → Kind → Type 0) (cells : Text → Option (Bool × ℕ)
         is = q;
         valued = one-valued false (word Fun.Sum) (comp_ex e gs) g (ap is_some q) (list-valued e gs g x);
       }
+
+  -- A word on one.
+  fold-answer : {m : Bool} {f : Fun} (e : Ex) (gs : Gens) (g : Vals) → FoldWord m f → AllItems gs e g →
+      Answer (node_ex m (word f) (more_exs (comp_ex e gs) no_exs)) (scalars m) g
+  fold-answer e gs g of_all x = test-answer Fun.And e gs g x
+  fold-answer e gs g of_some x = test-answer Fun.Or e gs g x
+  fold-answer e gs g of_sum x = sum-answer e gs g x
 
   -- The numbers of a range are there where its bounds are.
   range-members : (x y : Ex) (g : Vals) (v u : Value) → meaning x (M g) ≡ Some v → meaning y (M g) ≡ Some u →
@@ -252,9 +259,7 @@ module _ (Shown : Ex → Kind → Type 0) (cells : Text → Option (Bool × ℕ)
     setwise-answer (chosen {x = x} f) g p = chosen-answer x g (setwise-answer f g p)
     setwise-answer (folded {e = e} {gs = gs} w d f) g p =
         fold-answer e gs g w (binding-items d e g p (λ h y. let a = setwise-answer f h y in (a.value, a.is, a.valued false)))
-    setwise-answer (added {e = e} {gs = gs} d f) g p =
-        sum-answer e gs g (binding-items d e g p (λ h y. let a = setwise-answer f h y in (a.value, a.is, a.valued false)))
-    setwise-answer (size {k = k} {s = s} h) g p = size-answer k s g (at-answer h g p)
+    setwise-answer (size {k = k} {s = s} h) g p = size-answer k s g (set-answer h g p)
     setwise-answer (within {m = m} {x = x} {s = s} f h) g p =
         truth-answer Op2.Member (scalars m) (sets_of (scalars m)) x s g (setwise-answer f g p) (set-answer h g p)
     setwise-answer (set_within {k = k} {a = x} {s = s} f h) g p =
@@ -262,7 +267,7 @@ module _ (Shown : Ex → Kind → Type 0) (cells : Text → Option (Bool × ℕ)
     setwise-answer (compared {o = o} {k = k} {s = x} {t = y} c f h) g p =
         truth-answer o (sets_of k) (sets_of k) x y g (set-answer f g p) (set-answer h g p)
 
-    binding-items : {c : Bool} {t s : Names Bound} {gs : Gens} → Binding no_kind Shown c t gs s → (e : Ex) (g : Vals) → Present t g →
+    binding-items : {t s : Names Bound} {gs : Gens} → Binding no_kind Shown t gs s → (e : Ex) (g : Vals) → Present t g →
         ((h : Vals) → Present s h → (v : Value) × (meaning e (M h) ≡ Some v) × Valued false e (M h)) → AllItems gs e g
     binding-items at_end e g p k =
         let a = k g p in record { values = a.0 ∷ []; are = ap (option_map (λ v. v ∷ [])) a.1; valued = a.2 }

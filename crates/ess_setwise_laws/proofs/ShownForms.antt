@@ -133,7 +133,7 @@ pub unless-any : (b : Bool) (P : Type 0) → P → Unless b P
 unless-any true P p = tt
 unless-any false P p = p
 
-module _ (cells : Text → Option (Bool × ℕ)) where
+module _ (cells : Text → Option (Bool × List ℕ)) where
   -- No name is in one.
   pub form-names : {e : Ex} {k : Kind} (u b : Text → Bool) → Form cells e k → NamesAre u b e
   form-names u b (a_cell q) = tt

@@ -10,11 +10,11 @@ use Rattle.ess_semantics.specs.Names.{Names}
 use Rattle.ess_semantics.specs.Trees.{both_ends, name_pat, Ex, number_ex, truth_ex, name_ex, comp_ex, no_exs, more_exs, Gens, no_gens, over, from, cond, bool_dom, int_dom, ex1, ex2, fun1}
 use Rattle.ess_semantics.proofs.Tests.{and-left, and-right}
 use Rattle.ess_flat_laws.specs.Flat.{as_marked, two_mark}
-use Rattle.ess_bare_laws.specs.Bare.{all_hold, some_holds}
-use Rattle.ess_ranged_laws.specs.Ranged.{takes_conditions, is_mark}
-use Rattle.ess_seen_laws.specs.Seen.{Kind, scalars, sets_of, Bound, over_a_range, from_a_set, is_combined}
+use Rattle.ess_bare_laws.specs.Lean.{of_all, of_some, of_sum}
+use Rattle.ess_ranged_laws.specs.Ranged.{is_mark}
+use Rattle.ess_seen_laws.specs.Seen.{Kind, scalars, sets_of, Bound, over_a_range, from_a_set}
 use Rattle.ess_setwise_laws.specs.Setwise.{mark_of_kind, members_kind, one_kind, two_kind, fold_kind, word_kind, kind_at, is_new, setwise_kind, bound_behind}
-use Rattle.ess_setwise_laws.proofs.SetwiseTrees.{named, as_shown, SetTree, stands, combined, Setwise, number, truth, scalar, one, two, chosen, folded, added, size, within, set_within, compared, Binding, at_end, over_truths, over_numbers, among, where_holds, NoneShown}
+use Rattle.ess_setwise_laws.proofs.SetwiseTrees.{named, SetTree, stands, combined, Setwise, number, truth, scalar, one, two, chosen, folded, size, within, set_within, compared, Binding, at_end, over_truths, over_numbers, among, where_holds, NoneShown}
 use Rattle.ess_setwise_laws.proofs.OperatorKinds.{behind, marked, marks-are, decided, one-scalar, one-op, two-scalars, two-op, SetOp, a_member, a_comparison, a_combination, set-op, no-set-first}
 
 -- ---- tests
@@ -67,21 +67,16 @@ module _ (names : Text → Option Kind) where
       let z = marks-are b k m q in
       subst (IsOf r (e b)) p (a_scalar (subst (λ c. R r (e c) m) (sym z.0) (subst (λ c. R r (e c) c) z.1 h)))
 
-  -- The size of a set that isn't made of two.
+  -- The size of a set.
   size-made : (r : Names Bound) (o : Op1) (x : Ex) (j : Kind) (k : Bool) → SetTree names NoneShown r x j →
-      one_kind (is_combined x) o (sets_of j) ≡ Some k → R r (ex1 k o x) k
-  size-made r Op1.Bar x j false (stands (named h)) q = size (named h)
-  size-made r Op1.Bar x j true (stands (named h)) q = cc
-  size-made r Op1.Not x j k (stands (named h)) q = cc
-  size-made r Op1.Minus x j k (stands (named h)) q = cc
-  size-made r o x j k (stands (as_shown h)) q = absurd h
-  size-made r Op1.Bar x j k (combined c h l) q = cc
-  size-made r Op1.Not x j k (combined c h l) q = cc
-  size-made r Op1.Minus x j k (combined c h l) q = cc
+      one_kind o (sets_of j) ≡ Some k → R r (ex1 k o x) k
+  size-made r Op1.Bar x j false h q = size h
+  size-made r Op1.Bar x j true h q = cc
+  size-made r Op1.Not x j k h q = cc
+  size-made r Op1.Minus x j k h q = cc
 
-  one-made : (r : Names Bound) (o : Op1) (x : Ex) (i : Kind) (k : Bool) → IsOf r x i → one_kind (is_combined x) o i ≡ Some k →
-      R r (ex1 k o x) k
-  one-made r o x (scalars m) k (a_scalar h) q = one (one-op o m k (sym (one-scalar (is_combined x) o m) ∙ q)) h
+  one-made : (r : Names Bound) (o : Op1) (x : Ex) (i : Kind) (k : Bool) → IsOf r x i → one_kind o i ≡ Some k → R r (ex1 k o x) k
+  one-made r o x (scalars m) k (a_scalar h) q = one (one-op o m k (sym (one-scalar o m) ∙ q)) h
   one-made r o x (sets_of j) k (a_set h) q = size-made r o x j k h q
 
   -- An operator on two scalars.
@@ -113,10 +108,10 @@ module _ (names : Text → Option Kind) where
   word-made r f x (sets_of j) k (a_set h) q = cc
 
   fold-made : (r t : Names Bound) (f : Fun) (e : Ex) (gs : Gens) (i : Kind) (k : Bool) →
-      Binding names NoneShown (takes_conditions f) r gs t → IsOf t e i → fold_kind f i ≡ Some k → R r (fun1 k f (comp_ex e gs)) k
-  fold-made r t Fun.And e gs (scalars true) true g (a_scalar h) q = folded all_hold g h
-  fold-made r t Fun.Or e gs (scalars true) true g (a_scalar h) q = folded some_holds g h
-  fold-made r t Fun.Sum e gs (scalars false) false g (a_scalar h) q = added g h
+      Binding names NoneShown r gs t → IsOf t e i → fold_kind f i ≡ Some k → R r (fun1 k f (comp_ex e gs)) k
+  fold-made r t Fun.And e gs (scalars true) true g (a_scalar h) q = folded of_all g h
+  fold-made r t Fun.Or e gs (scalars true) true g (a_scalar h) q = folded of_some g h
+  fold-made r t Fun.Sum e gs (scalars false) false g (a_scalar h) q = folded of_sum g h
   fold-made r t f e gs (scalars m) k g (a_scalar h) q = cc
   fold-made r t f e gs (sets_of j) k g (a_set h) q = cc
 
@@ -127,10 +122,9 @@ module _ (names : Text → Option Kind) where
     tested r (truth_ex b) i q = let z : scalars true ≡ i = cc in subst (IsOf r (truth_ex b)) z (a_scalar truth)
     tested r (name_ex a) i q = name-is r a i q
     tested r (ex1 b o x) i q =
-        let c : Bool = is_combined x in
-        let p = marked (and_then (and_then (setwise_kind names r x) (one_kind c o)) (as_marked b)) i q in
-        let w = behind (and_then (setwise_kind names r x) (one_kind c o)) (as_marked b) p.mark p.there in
-        let v = behind (setwise_kind names r x) (one_kind c o) w.value w.there in
+        let p = marked (and_then (and_then (setwise_kind names r x) (one_kind o)) (as_marked b)) i q in
+        let w = behind (and_then (setwise_kind names r x) (one_kind o)) (as_marked b) p.mark p.there in
+        let v = behind (setwise_kind names r x) (one_kind o) w.value w.there in
         as-marked-one r (λ d. ex1 d o x) b w.value p.mark i (one-made r o x v.value w.value (tested r x v.value v.there) v.gives)
         w.gives p.is
     tested r (ex2 b o x y) i q =
@@ -138,15 +132,15 @@ module _ (names : Text → Option Kind) where
         let u = behind (setwise_kind names r y) (two_kind b o v.value) i v.gives in
         two-made r b o x y v.value u.value i (tested r x v.value v.there) (tested r y u.value u.there) u.gives
     tested r (fun1 b f (comp_ex e gs)) i q =
-        let p = marked (and_then (and_then (and_then (bound_behind names (takes_conditions f) r gs) (λ t. setwise_kind names t e))
+        let p = marked (and_then (and_then (and_then (bound_behind names r gs) (λ t. setwise_kind names t e))
         (fold_kind f)) (as_marked b)) i q in
-        let w = behind (and_then (and_then (bound_behind names (takes_conditions f) r gs) (λ t. setwise_kind names t e)) (fold_kind f))
+        let w = behind (and_then (and_then (bound_behind names r gs) (λ t. setwise_kind names t e)) (fold_kind f))
         (as_marked b) p.mark p.there in
-        let v = behind (and_then (bound_behind names (takes_conditions f) r gs) (λ t. setwise_kind names t e)) (fold_kind f)
+        let v = behind (and_then (bound_behind names r gs) (λ t. setwise_kind names t e)) (fold_kind f)
         w.value w.there in
-        let u = behind (bound_behind names (takes_conditions f) r gs) (λ t. setwise_kind names t e) v.value v.there in
+        let u = behind (bound_behind names r gs) (λ t. setwise_kind names t e) v.value v.there in
         as-marked-one r (λ c. fun1 c f (comp_ex e gs)) b w.value p.mark i
-        (fold-made r u.value f e gs v.value w.value (bound-tested (takes_conditions f) r gs u.value u.there)
+        (fold-made r u.value f e gs v.value w.value (bound-tested r gs u.value u.there)
         (tested u.value e v.value u.gives) v.gives) w.gives p.is
     tested r (fun1 b f x) i q =
         let p = marked (and_then (and_then (setwise_kind names r x) (word_kind f)) (as_marked b)) i q in
@@ -156,33 +150,33 @@ module _ (names : Text → Option Kind) where
         w.gives p.is
     tested r e i q = cc
 
-    bound-tested : (c : Bool) (r : Names Bound) (gs : Gens) (t : Names Bound) → bound_behind names c r gs ≡ Some t →
-        Binding names NoneShown c r gs t
-    bound-tested c r no_gens t q = let z : r ≡ t = cc in subst (λ u. Binding names NoneShown c r no_gens u) z at_end
-    bound-tested c r (over (name_pat a) bool_dom gs) t q =
-        let w = decided (is_new names r a) (bound_behind names c ((a, over_a_range true) ∷ r) gs) t q in
-        over_truths (new-is (kind_at names r a) w.0) (bound-tested c ((a, over_a_range true) ∷ r) gs t w.1)
-    bound-tested c r (over (name_pat a) (int_dom (both_ends ∷ []) (more_exs x (more_exs y no_exs))) gs) t q =
+    bound-tested : (r : Names Bound) (gs : Gens) (t : Names Bound) → bound_behind names r gs ≡ Some t →
+        Binding names NoneShown r gs t
+    bound-tested r no_gens t q = let z : r ≡ t = cc in subst (λ u. Binding names NoneShown r no_gens u) z at_end
+    bound-tested r (over (name_pat a) bool_dom gs) t q =
+        let w = decided (is_new names r a) (bound_behind names ((a, over_a_range true) ∷ r) gs) t q in
+        over_truths (new-is (kind_at names r a) w.0) (bound-tested ((a, over_a_range true) ∷ r) gs t w.1)
+    bound-tested r (over (name_pat a) (int_dom (both_ends ∷ []) (more_exs x (more_exs y no_exs))) gs) t q =
         let i : Bool = is_mark false (mark_of_kind (setwise_kind names r x)) in
         let j : Bool = is_mark false (mark_of_kind (setwise_kind names r y)) in
-        let w = decided (is_new names r a && (i && j)) (bound_behind names c ((a, over_a_range false) ∷ r) gs) t q in
+        let w = decided (is_new names r a && (i && j)) (bound_behind names ((a, over_a_range false) ∷ r) gs) t q in
         let z = and-right (is_new names r a) (i && j) w.0 in
         over_numbers (new-is (kind_at names r a) (and-left (is_new names r a) (i && j) w.0))
         (as-scalar r x false (tested r x (scalars false) (mark-is false (setwise_kind names r x) (and-left i j z))))
         (as-scalar r y false (tested r y (scalars false) (mark-is false (setwise_kind names r y) (and-right i j z))))
-        (bound-tested c ((a, over_a_range false) ∷ r) gs t w.1)
-    bound-tested true r (from (name_pat a) s gs) t q =
+        (bound-tested ((a, over_a_range false) ∷ r) gs t w.1)
+    bound-tested r (from (name_pat a) s gs) t q =
         let w = decided (is_new names r a)
-        (and_then (members_kind (setwise_kind names r s)) (λ k. bound_behind names true ((a, from_a_set k) ∷ r) gs)) t q in
-        let v = behind (members_kind (setwise_kind names r s)) (λ k. bound_behind names true ((a, from_a_set k) ∷ r) gs) t w.1 in
+        (and_then (members_kind (setwise_kind names r s)) (λ k. bound_behind names ((a, from_a_set k) ∷ r) gs)) t q in
+        let v = behind (members_kind (setwise_kind names r s)) (λ k. bound_behind names ((a, from_a_set k) ∷ r) gs) t w.1 in
         among (new-is (kind_at names r a) w.0)
         (as-set r s v.value (tested r s (sets_of v.value) (members-are (setwise_kind names r s) v.value v.there)))
-        (bound-tested true ((a, from_a_set v.value) ∷ r) gs t v.gives)
-    bound-tested true r (cond e gs) t q =
-        let w = decided (is_mark true (mark_of_kind (setwise_kind names r e))) (bound_behind names true r gs) t q in
+        (bound-tested ((a, from_a_set v.value) ∷ r) gs t v.gives)
+    bound-tested r (cond e gs) t q =
+        let w = decided (is_mark true (mark_of_kind (setwise_kind names r e))) (bound_behind names r gs) t q in
         where_holds (as-scalar r e true (tested r e (scalars true) (mark-is true (setwise_kind names r e) w.0)))
-        (bound-tested true r gs t w.1)
-    bound-tested c r gs t q = cc
+        (bound-tested r gs t w.1)
+    bound-tested r gs t q = cc
 
   -- So is a tree with a mark.
   pub tested-mark : (e : Ex) (m : Bool) → mark_of_kind (setwise_kind names [] e) ≡ Some m → R [] e m

@@ -6,7 +6,7 @@ use Rattle.ess_semantics.specs.Trees.{Ex, Gens}
 use Rattle.conjure_model_laws.specs.ToldApart.{reserved, told, told_gens}
 use Rattle.conjure_model_laws.specs.Printed.{binders, binders_of_gens}
 use Rattle.ess_seen_laws.specs.Seen.{Kind, Bound}
-use Rattle.ess_setwise_laws.proofs.SetwiseTrees.{named, as_shown, SetTree, stands, combined, Setwise, number, truth, scalar, one, two, chosen, folded, added, size, within, set_within, compared, Binding, at_end, over_truths, over_numbers, among, where_holds, NoneShown}
+use Rattle.ess_setwise_laws.proofs.SetwiseTrees.{named, as_shown, SetTree, stands, combined, Setwise, number, truth, scalar, one, two, chosen, folded, size, within, set_within, compared, Binding, at_end, over_truths, over_numbers, among, where_holds, NoneShown}
 
 none-on : (k : ℕ) → k ≡ k + 0
 none-on k = omega arith
@@ -54,12 +54,7 @@ module _ (names : Text → Option Kind) where
         let q = told_gens gs u k in
         one-on (binders_of_gens gs + binders e) k (told e q.1 q.2).1
         (two-on (binders_of_gens gs) (binders e) k q.2 (told e q.1 q.2).1 (gens-next g u k) (told-next f q.1 q.2))
-    told-next (added {e = e} {gs = gs} g f) u k =
-        let q = told_gens gs u k in
-        one-on (binders_of_gens gs + binders e) k (told e q.1 q.2).1
-        (two-on (binders_of_gens gs) (binders e) k q.2 (told e q.1 q.2).1 (gens-next g u k) (told-next f q.1 q.2))
-    told-next (size (named h)) u k = one-on 0 k k (none-on k)
-    told-next (size (as_shown h)) u k = absurd h
+    told-next (size {s = e} h) u k = one-on (binders e) k (told e u k).1 (set-next h u k)
     told-next (within {x = e} {s = f} g h) u k =
         both-on (binders e) (binders f) k (told e u k).1 (told f u (told e u k).1).1 (told-next g u k) (set-next h u (told e u k).1)
     told-next (set_within {a = e} {s = f} g h) u k =
@@ -67,7 +62,7 @@ module _ (names : Text → Option Kind) where
     told-next (compared {s = e} {t = f} c g h) u k =
         both-on (binders e) (binders f) k (told e u k).1 (told f u (told e u k).1).1 (set-next g u k) (set-next h u (told e u k).1)
 
-    gens-next : {c : Bool} {r t : Names Bound} {gs : Gens} → Binding names NoneShown c r gs t → (u : Names Text) (k : ℕ) →
+    gens-next : {r t : Names Bound} {gs : Gens} → Binding names NoneShown r gs t → (u : Names Text) (k : ℕ) →
         (told_gens gs u k).2 ≡ k + binders_of_gens gs
     gens-next at_end u k = none-on k
     gens-next (over_truths {a = a} {gs = gs} n g) u k =

@@ -20,12 +20,12 @@ use Rattle.ess_chain_names_laws.proofs.ToldNames.{on, ex-up, gens-up}
 use Rattle.ess_ranged_laws.proofs.ToldRanged.{shown-two}
 use Rattle.ess_seen_laws.specs.Seen.{Kind, scalars, sets_of, Bound, over_a_range, from_a_set, bound_kind}
 use Rattle.ess_setwise_laws.specs.Setwise.{kind_at}
-use Rattle.ess_setwise_laws.proofs.SetwiseTrees.{named, as_shown, SetTree, stands, combined, Setwise, number, truth, scalar, one, two, chosen, folded, added, size, within, set_within, compared, Binding, at_end, over_truths, over_numbers, among, where_holds, NoneShown, ShowsAll}
+use Rattle.ess_setwise_laws.proofs.SetwiseTrees.{named, as_shown, SetTree, stands, combined, Setwise, number, truth, scalar, one, two, chosen, folded, size, within, set_within, compared, Binding, at_end, over_truths, over_numbers, among, where_holds, NoneShown, ShowsAll}
 use Rattle.ess_setwise_laws.proofs.ShownForms.{form-still}
 use Rattle.ess_setwise_laws.proofs.NameKinds.{bound_at, apart, IsAt, Kept, later, bound}
 use Rattle.ess_setwise_laws.proofs.ToldSets.{made, made_gens, made_right, shown-combined, shown-compared, shown-in}
 
-module _ (sh : Shows) (names : Text → Option Kind) (cells : Text → Option (Bool × ℕ)) (w : ShowsAll sh names cells) (lim : ℕ)
+module _ (sh : Shows) (names : Text → Option Kind) (cells : Text → Option (Bool × List ℕ)) (w : ShowsAll sh names cells) (lim : ℕ)
     (differ : (i j : ℕ) → i < j → j < lim → same_text (reserved j) (reserved i) ≡ false)
     (pl pl' : Bool) (ts ts' : List TypeEntry) (cs cs' : Names Table) where
   abbrev R : Names Bound → Ex → Bool → Type 0
@@ -148,21 +148,14 @@ module _ (sh : Shows) (names : Text → Option Kind) (cells : Text → Option (B
         (told-means i t u q g h l (on-later r t u k q g h (ex-up e u k) x))
     told-means (chosen f) t u k g h l x =
         ap (λ p. false_where_undefined false (value_of_node (word Fun.ToInt) (p ∷ []))) (told-means f t u k g h l x)
-    told-means (folded {f = f} {e = e} {gs = gs} v d i) t u k g h l x =
+    told-means (folded {m = m} {f = f} {e = e} {gs = gs} v d i) t u k g h l x =
         let q = told_gens gs u k in
-        ap (λ p. false_where_undefined true (value_of_node (word f) (option_map list_value p ∷ [])))
+        ap (λ p. false_where_undefined m (value_of_node (word f) (option_map list_value p ∷ [])))
         (binding-means d t u k g h (on q.2 (told e q.1 q.2).1 lim (ex-up e q.1 q.2) l) x
         (λ here. option_map (λ z. z ∷ []) (meaning (made sh e q.1 q.2) here)) (λ here. option_map (λ z. z ∷ []) (meaning e here))
         (λ n g' h' y. ap (option_map (λ z. z ∷ [])) (told-means i n q.1 q.2 g' h' l y)))
-    told-means (added {e = e} {gs = gs} d i) t u k g h l x =
-        let q = told_gens gs u k in
-        ap (λ p. false_where_undefined false (value_of_node (word Fun.Sum) (option_map list_value p ∷ [])))
-        (binding-means d t u k g h (on q.2 (told e q.1 q.2).1 lim (ex-up e q.1 q.2) l) x
-        (λ here. option_map (λ z. z ∷ []) (meaning (made sh e q.1 q.2) here)) (λ here. option_map (λ z. z ∷ []) (meaning e here))
-        (λ n g' h' y. ap (option_map (λ z. z ∷ [])) (told-means i n q.1 q.2 g' h' l y)))
-    told-means (size {k = i} (named {a = a} q)) t u k g h l x =
-        ap (λ p. false_where_undefined false (value_of_node (unary Op1.Bar) (p ∷ []))) (x.firsts a (sets_of i) q)
-    told-means (size (as_shown q)) t u k g h l x = absurd q
+    told-means (size d) t u k g h l x =
+        ap (λ p. false_where_undefined false (value_of_node (unary Op1.Bar) (p ∷ []))) (set-means d t u k g h x)
     told-means (within {x = e} {s = s} f d) t u k g h l x =
         let q = (told e u k).1 in
         in-means d e t u k g h x (told-means f t u k g h (on q (told s u q).1 lim (ex-up s u q) l) x)
@@ -173,7 +166,7 @@ module _ (sh : Shows) (names : Text → Option Kind) (cells : Text → Option (B
         ∙ two-same true o (meaning e (M g)) (meaning f (M g)) (meaning (made sh e u k) (T h)) (meaning (made sh f u q) (T h))
         (set-means d t u k g h x) (set-means i t u q g h (on-later r t u k q g h (ex-up e u k) x))
 
-    binding-means : {c : Bool} {r s : Names Bound} {gs : Gens} → Binding names NoneShown c r gs s → (t : Names Bound) (u : Names Text)
+    binding-means : {r s : Names Bound} {gs : Gens} → Binding names NoneShown r gs s → (t : Names Bound) (u : Names Text)
         (k : ℕ) (g h : Vals) → (told_gens gs u k).2 ≤ lim → Related r t u k g h → (F' F : Env → Option (List Value)) →
         ((n : Names Bound) (g' h' : Vals) → Related s n (told_gens gs u k).1 (told_gens gs u k).2 g' h' → F' (T h') ≡ F (M g')) →
         items_under (made_gens sh gs u k) (T h) F' ≡ items_under gs (M g) F

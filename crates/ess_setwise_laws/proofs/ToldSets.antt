@@ -1,5 +1,5 @@
 -- A set whose names are told apart, with views shown in the place of names, is a set again, whether it stands behind `in` or elsewhere.
-use Rattle.std.proofs.Common.{◌≡◌, refl, sym, subst, ℕ, ◌<◌, Bool, true, false, ℤ, Option, Some}
+use Rattle.std.proofs.Common.{◌≡◌, refl, sym, subst, ℕ, ◌<◌, Bool, true, false, List, ℤ, Option, Some}
 use Rattle.std.specs.Prelude.{IsTrue}
 use Rattle.ess_semantics.specs.declared.words.Op2.{Op2}
 use Rattle.ess_semantics.specs.Values.{Text}
@@ -58,7 +58,7 @@ shown-in sh names (combined c g h) e u k = refl
 
 -- ---- sets
 
-module _ (sh : Shows) (names : Text → Option Kind) (cells : Text → Option (Bool × ℕ)) where
+module _ (sh : Shows) (names : Text → Option Kind) (cells : Text → Option (Bool × List ℕ)) where
   -- What is shown spells such numbers alone.
   abbrev pub SpellsShown : (ℤ → Bool) → Type 0
   SpellsShown q = (e : Ex) (k : Kind) → ShownFor sh names cells e k → Spelled q (parts_of e)
@@ -67,7 +67,7 @@ module _ (sh : Shows) (names : Text → Option Kind) (cells : Text → Option (B
   abbrev pub AlikeTrees : Ex → Ex → Type 0
   AlikeTrees e f = Alike SpellsShown (parts_of e) (parts_of f)
 
-module _ (sh : Shows) (names : Text → Option Kind) (cells : Text → Option (Bool × ℕ)) (w : ShowsAll sh names cells) (lim : ℕ)
+module _ (sh : Shows) (names : Text → Option Kind) (cells : Text → Option (Bool × List ℕ)) (w : ShowsAll sh names cells) (lim : ℕ)
     (differ : (i j : ℕ) → i < j → j < lim → same_text (reserved j) (reserved i) ≡ false) where
   abbrev K : Names Bound → Names Bound → Names Text → ℕ → Type 0
   K = Kept sh names cells w lim differ

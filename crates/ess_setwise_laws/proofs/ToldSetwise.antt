@@ -1,6 +1,6 @@
 -- A constraint of the class whose bound names are told apart, with cells and views shown in the place of names, is one of the class; it
 -- spells no other numbers, and its names are reserved ones.
-use Rattle.std.proofs.Common.{◌≡◌, sym, subst, ℕ, suc, ◌≤◌, ◌<◌, Bool, true, false, [], ◌∷◌, ℤ, Option, arith}
+use Rattle.std.proofs.Common.{◌≡◌, sym, subst, ℕ, suc, ◌≤◌, ◌<◌, Bool, true, false, List, [], ◌∷◌, ℤ, Option, arith}
 use Rattle.ess_semantics.specs.declared.words.Op2.{Op2}
 use Rattle.ess_semantics.specs.declared.words.Fun.{Fun}
 use Rattle.ess_semantics.specs.Values.{Text}
@@ -14,13 +14,13 @@ use Rattle.conjure_model_laws.specs.Shown.{Shows, in_place}
 use Rattle.ess_chain_names_laws.proofs.ToldNames.{on, ex-up, gens-up}
 use Rattle.ess_depth_laws.specs.Below.{is_below, HasNamesBelow}
 use Rattle.ess_ranged_laws.proofs.ToldRanged.{shown-two}
-use Rattle.ess_seen_laws.specs.Seen.{Kind, scalars, sets_of, Bound, over_a_range, from_a_set}
-use Rattle.ess_setwise_laws.proofs.SetwiseTrees.{named, as_shown, Setwise, number, truth, scalar, one, two, chosen, folded, added, size, within, set_within, compared, Binding, at_end, over_truths, over_numbers, among, where_holds, NoneShown, no_kind, ShownFor, ShowsAll}
+use Rattle.ess_seen_laws.specs.Seen.{Kind, scalars, Bound, over_a_range, from_a_set}
+use Rattle.ess_setwise_laws.proofs.SetwiseTrees.{named, as_shown, Setwise, number, truth, scalar, one, two, chosen, folded, size, within, set_within, compared, Binding, at_end, over_truths, over_numbers, among, where_holds, NoneShown, no_kind, ShownFor, ShowsAll}
 use Rattle.ess_setwise_laws.proofs.NameKinds.{Kept, later, bound, below-has}
 use Rattle.ess_setwise_laws.proofs.Spellings.{Alike, same-alike, two-alike, alone-alike, node-alike, list-alike}
 use Rattle.ess_setwise_laws.proofs.ToldSets.{made, made_gens, made_right, shown-compared, shown-in, SpellsShown, AlikeTrees, at-alike, at-names, told-set, told-right}
 
-module _ (sh : Shows) (names : Text → Option Kind) (cells : Text → Option (Bool × ℕ)) (w : ShowsAll sh names cells) (lim : ℕ)
+module _ (sh : Shows) (names : Text → Option Kind) (cells : Text → Option (Bool × List ℕ)) (w : ShowsAll sh names cells) (lim : ℕ)
     (differ : (i j : ℕ) → i < j → j < lim → same_text (reserved j) (reserved i) ≡ false) where
   abbrev R : Names Bound → Ex → Bool → Type 0
   R = Setwise names NoneShown
@@ -47,9 +47,9 @@ module _ (sh : Shows) (names : Text → Option Kind) (cells : Text → Option (B
     pub uses : HasNamesBelow lim f
 
   -- Generators made so, and names behind them.
-  pub record MadeGens (c : Bool) (t s : Names Bound) (gs : Gens) (u : Names Text) (k : ℕ) : Type 0 where
+  pub record MadeGens (t s : Names Bound) (gs : Gens) (u : Names Text) (k : ℕ) : Type 0 where
     pub behind : Names Bound
-    pub tree : Binding no_kind (ShownFor sh names cells) c t (made_gens sh gs u k) behind
+    pub tree : Binding no_kind (ShownFor sh names cells) t (made_gens sh gs u k) behind
     pub kept : K s behind (told_gens gs u k).1 (told_gens gs u k).2
     pub alike : Lists gs (made_gens sh gs u k)
     pub uses : NamesAreGens (is_below lim) (is_below lim) (made_gens sh gs u k)
@@ -106,25 +106,17 @@ module _ (sh : Shows) (names : Text → Option Kind) (cells : Text → Option (B
           alike = node-alike N (alone-alike N p.alike);
           uses = (p.uses, tt);
         }
-    told-setwise (folded {f = f} {e = e} {gs = gs} v g h) t u k l x =
+    told-setwise (folded {m = m} {f = f} {e = e} {gs = gs} v g h) t u k l x =
         let q = told_gens gs u k in
         let y = told-binding g t u k (on q.2 (told e q.1 q.2).1 lim (ex-up e q.1 q.2) l) x in
         let z = told-setwise h y.behind q.1 q.2 l y.kept in
-        fold-made t true true f e (made sh e q.1 q.2) gs (made_gens sh gs u k) (folded v y.tree z.tree) z.alike y.alike z.uses y.uses
-    told-setwise (added {e = e} {gs = gs} g h) t u k l x =
-        let q = told_gens gs u k in
-        let y = told-binding g t u k (on q.2 (told e q.1 q.2).1 lim (ex-up e q.1 q.2) l) x in
-        let z = told-setwise h y.behind q.1 q.2 l y.kept in
-        fold-made t false false Fun.Sum e (made sh e q.1 q.2) gs (made_gens sh gs u k) (added y.tree z.tree) z.alike y.alike z.uses
-        y.uses
-    told-setwise (size {k = i} (named {a = a} h)) t u k l x =
-        let z = x.firsts a (sets_of i) h in record {
-          tree = size z;
-          alike = node-alike N (alone-alike N
-              (at-alike sh names cells w lim differ t a (in_place sh.first (renamed u a)) (sets_of i) z));
-          uses = (at-names sh names cells w lim differ t (in_place sh.first (renamed u a)) (sets_of i) x.used z, tt);
+        fold-made t m m f e (made sh e q.1 q.2) gs (made_gens sh gs u k) (folded v y.tree z.tree) z.alike y.alike z.uses y.uses
+    told-setwise (size h) t u k l x =
+        let z = told-set sh names cells w lim differ h t u k x in record {
+          tree = size z.tree;
+          alike = node-alike N (alone-alike N z.alike);
+          uses = (z.uses, tt);
         }
-    told-setwise (size (as_shown h)) t u k l x = absurd h
     told-setwise {r} (within {x = e} {s = s} f h) t u k l x =
         let q = (told e u k).1 in
         let p = told-setwise f t u k (on q (told s u q).1 lim (ex-up s u q) l) x in
@@ -145,8 +137,8 @@ module _ (sh : Shows) (names : Text → Option Kind) (cells : Text → Option (B
         subst (λ v. Made t (ex2 true o e f) v true) (sym (shown-compared sh (told e u k).0 (told f u q).0 c))
         (pair-made t true true o e f (made sh e u k) (made sh f u q) (compared c p.tree z.tree) p.alike z.alike p.uses z.uses)
 
-    told-binding : {c : Bool} {r s : Names Bound} {gs : Gens} → Binding names NoneShown c r gs s → (t : Names Bound) (u : Names Text)
-        (k : ℕ) → (told_gens gs u k).2 ≤ lim → K r t u k → MadeGens c t s gs u k
+    told-binding : {r s : Names Bound} {gs : Gens} → Binding names NoneShown r gs s → (t : Names Bound) (u : Names Text)
+        (k : ℕ) → (told_gens gs u k).2 ≤ lim → K r t u k → MadeGens t s gs u k
     told-binding at_end t u k l x =
         record { behind = t; tree = at_end; kept = x; alike = same-alike N []; uses = tt }
     told-binding (over_truths {r = r} {a = a} {gs = gs} n g) t u k l x =

@@ -23,7 +23,7 @@ use Rattle.ess_setwise_laws.specs.Setwise.{setwise_mark}
 -- ---- what is shown
 
 -- A view of a set, with members of this kind, that is kept by these tables.
-pub record IsSetView (cells : Text → Option (Bool × ℕ)) (e : Ex) (k : Kind) : Type 0 where
+pub record IsSetView (cells : Text → Option (Bool × List ℕ)) (e : Ex) (k : Kind) : Type 0 where
   pub way : Repr
   pub attributes : List Mark
   pub sizes : Exs
@@ -32,13 +32,14 @@ pub record IsSetView (cells : Text → Option (Bool × ℕ)) (e : Ex) (k : Kind)
   pub is : e ≡ seen_ex way (set_dom attributes sizes inner) tables no_exs
   pub nested : is_nested_dom (set_dom attributes sizes inner) ≡ true
   pub fit : fits way (set_dom attributes sizes inner) ≡ true
-  pub kept : Keeps cells 0 way (set_dom attributes sizes inner) tables
+  pub kept : Keeps cells [] way (set_dom attributes sizes inner) tables
   pub kind : kind_of inner ≡ k
 
 -- For each scalar a single cell with its mark is shown, and for each set views; for reserved names nothing is.
-pub record ShowsSets (sh : Shows) (marks : Text → Option Bool) (sets : Text → Option Kind) (cells : Text → Option (Bool × ℕ)) : Type 0 where
+pub record ShowsSets (sh : Shows) (marks : Text → Option Bool) (sets : Text → Option Kind)
+    (cells : Text → Option (Bool × List ℕ)) : Type 0 where
   pub single : (a : Text) (m : Bool) → marks a ≡ Some m →
-      (n : Text) × (in_place sh.first a ≡ cell_ex m n no_exs) × (cells n ≡ Some (m, 0))
+      (n : Text) × (in_place sh.first a ≡ cell_ex m n no_exs) × (cells n ≡ Some (m, []))
   pub first : (a : Text) (k : Kind) → sets a ≡ Some k → IsSetView cells (in_place sh.first a) k
   pub last : (a : Text) (k : Kind) → sets a ≡ Some k → IsSetView cells (in_place sh.last a) k
   pub spares_first : (j : ℕ) → look sh.first (reserved j) ≡ None
@@ -65,11 +66,11 @@ pub record SpellsSets (sh : Shows) (sets : Text → Option Kind) (q : ℤ → Bo
 
 -- ---- the tree over tables
 
--- Over tables the constraint e, with this mark, is a tree over views without free names, in which no bound name hides another one. Its
--- names are reserved ones below the next one. It spells the numbers of e and those of domains of views. It means what e means where cells
--- and views have the values of names. Where tables meet the structures of views it meets its structures; and where cells have values of
--- their marks too, each part of it has a value.
-pub record IsSeenOverTables (sh : Shows) (marks : Text → Option Bool) (sets : Text → Option Kind) (cells : Text → Option (Bool × ℕ))
+-- Over tables the constraint e, with this mark, is a tree over views without free names, in which no bound name hides another one. Its names
+-- are reserved ones below the next one. It spells the numbers of e and those of domains of views. It means what e means where cells and
+-- views have the values of names. Where tables meet the structures of views it meets its structures; and where cells have values of their
+-- marks too, each part of it has a value.
+pub record IsSeenOverTables (sh : Shows) (marks : Text → Option Bool) (sets : Text → Option Kind) (cells : Text → Option (Bool × List ℕ))
     (e : Ex) (m : Bool) : Type 0 where
   pub seen : Seen cells [] (constraint_tree sh e) m
   pub scoped : Scoped none none none (constraint_tree sh e)
@@ -83,6 +84,6 @@ pub record IsSeenOverTables (sh : Shows) (marks : Text → Option Bool) (sets : 
 
 -- So it is of each constraint of the class, as long as there are reserved names.
 abbrev pub SetwiseTreesAreSeen : Type 0
-SetwiseTreesAreSeen = (sh : Shows) (marks : Text → Option Bool) (sets : Text → Option Kind) (cells : Text → Option (Bool × ℕ)) →
+SetwiseTreesAreSeen = (sh : Shows) (marks : Text → Option Bool) (sets : Text → Option Kind) (cells : Text → Option (Bool × List ℕ)) →
     ShowsSets sh marks sets cells → (e : Ex) (m : Bool) → setwise_mark marks sets e ≡ Some m → sh.next + binders e ≤ 2 ^ 64 →
     IsSeenOverTables sh marks sets cells e m

@@ -1,9 +1,9 @@
 -- Constraints that speak of nested sets: numbers, truth values and names of scalars, arithmetic, comparisons and connectives, `toInt`;
--- `and` and `or` of what generators over truth values, over ranges of numbers and over members of sets go through, with conditions; `sum`
--- over truth values and ranges; memberships of scalars and of sets, and comparisons and inclusions of sets; sizes of sets. A set is a name,
--- a free one or one that is bound over members which are sets, or made of two by `union`, `intersect` and `-`. So are
--- `forAll x in s . |x| >= 2`, `a union b = c` and `exists x in t . 3 in x - y /\ i < |t|` in trees. Left out are quotients, powers,
--- conditions under a `sum`, sums over members, sizes of sets that are made of two, ranges of other ends, and names that hide others.
+-- `and`, `or` and `sum` of what generators over truth values, over ranges of numbers and over members of sets go through, with conditions;
+-- memberships of scalars and of sets, comparisons and inclusions of sets, and their sizes. A set is a name, a free one or one that is bound
+-- over members which are sets, or made of two by `union`, `intersect` and `-`. So are `forAll x in s . |x| >= 2`, `a union b = c`,
+-- `sum([x | x <- s]) <= |a union b|` and `exists x in t . 3 in x - y /\ i < |t|` in trees. Left out are quotients, powers, ranges of other
+-- ends, and names that hide others.
 use Rattle.std.specs.Prelude.{Bool, true, false, ◌&&◌, not, if◌then◌else◌, [], ◌∷◌, Option, Some, None, is_some, option_map}
 use Rattle.ess_semantics.specs.declared.words.Op1.{Op1}
 use Rattle.ess_semantics.specs.declared.words.Op2.{Op2}
@@ -14,8 +14,8 @@ use Rattle.ess_semantics.specs.Order.{same_text}
 use Rattle.ess_semantics.specs.Names.{Names}
 use Rattle.ess_semantics.specs.Trees.{both_ends, name_pat, Ex, number_ex, truth_ex, name_ex, comp_ex, no_exs, more_exs, Gens, no_gens, over, from, cond, bool_dom, int_dom, ex1, ex2, fun1}
 use Rattle.ess_flat_laws.specs.Flat.{as_marked, one_mark, two_mark}
-use Rattle.ess_ranged_laws.specs.Ranged.{takes_conditions, fold_mark, word_mark, is_mark}
-use Rattle.ess_seen_laws.specs.Seen.{Kind, scalars, sets_of, Bound, over_a_range, from_a_set, bound_kind, is_combined}
+use Rattle.ess_ranged_laws.specs.Ranged.{fold_mark, word_mark, is_mark}
+use Rattle.ess_seen_laws.specs.Seen.{Kind, scalars, sets_of, Bound, over_a_range, from_a_set, bound_kind}
 
 -- ---- kinds
 
@@ -62,11 +62,11 @@ compares_sets Op2.SupsetEq = true
 compares_sets Op2.Supset = true
 compares_sets o = false
 
--- The mark of an operator on an operand of this kind; c says whether the operand is made of two. Of such a set the size isn't asked.
-abbrev pub one_kind : Bool → Op1 → Kind → Option Bool
-one_kind false Op1.Bar (sets_of k) = Some false
-one_kind c o (scalars m) = one_mark o m
-one_kind c o k = None
+-- The mark of an operator on an operand of this kind.
+abbrev pub one_kind : Op1 → Kind → Option Bool
+one_kind Op1.Bar (sets_of k) = Some false
+one_kind o (scalars m) = one_mark o m
+one_kind o k = None
 
 -- The kind of a tree with this mark, of an operator on two operands of these kinds.
 abbrev pub two_kind : Bool → Op2 → Kind → Kind → Option Kind
@@ -106,26 +106,26 @@ module _ (names : Text → Option Kind) where
     setwise_kind r (truth_ex b) = Some (scalars true)
     setwise_kind r (name_ex a) = kind_at r a
     setwise_kind r (ex1 b o x) =
-        option_map scalars (and_then (and_then (setwise_kind r x) (one_kind (is_combined x) o)) (as_marked b))
+        option_map scalars (and_then (and_then (setwise_kind r x) (one_kind o)) (as_marked b))
     setwise_kind r (ex2 b o x y) = and_then (setwise_kind r x) (λ i. and_then (setwise_kind r y) (two_kind b o i))
     setwise_kind r (fun1 b f (comp_ex e gs)) =
         option_map scalars
-        (and_then (and_then (and_then (bound_behind (takes_conditions f) r gs) (λ t. setwise_kind t e)) (fold_kind f)) (as_marked b))
+        (and_then (and_then (and_then (bound_behind r gs) (λ t. setwise_kind t e)) (fold_kind f)) (as_marked b))
     setwise_kind r (fun1 b f x) = option_map scalars (and_then (and_then (setwise_kind r x) (word_kind f)) (as_marked b))
     setwise_kind r e = None
 
-    -- The names behind generators, where these are of the class; c says whether conditions and members of sets may stand among them.
-    pub bound_behind : Bool → Names Bound → Gens → Option (Names Bound)
-    bound_behind c r no_gens = Some r
-    bound_behind c r (over (name_pat a) bool_dom gs) = if is_new r a then bound_behind c ((a, over_a_range true) ∷ r) gs else None
-    bound_behind c r (over (name_pat a) (int_dom (both_ends ∷ []) (more_exs x (more_exs y no_exs))) gs) =
+    -- The names behind generators, where these are of the class.
+    pub bound_behind : Names Bound → Gens → Option (Names Bound)
+    bound_behind r no_gens = Some r
+    bound_behind r (over (name_pat a) bool_dom gs) = if is_new r a then bound_behind ((a, over_a_range true) ∷ r) gs else None
+    bound_behind r (over (name_pat a) (int_dom (both_ends ∷ []) (more_exs x (more_exs y no_exs))) gs) =
         if is_new r a && (is_mark false (mark_of_kind (setwise_kind r x)) && is_mark false (mark_of_kind (setwise_kind r y))) then
-        bound_behind c ((a, over_a_range false) ∷ r) gs else
+        bound_behind ((a, over_a_range false) ∷ r) gs else
         None
-    bound_behind true r (from (name_pat a) s gs) =
-        if is_new r a then and_then (members_kind (setwise_kind r s)) (λ k. bound_behind true ((a, from_a_set k) ∷ r) gs) else None
-    bound_behind true r (cond e gs) = if is_mark true (mark_of_kind (setwise_kind r e)) then bound_behind true r gs else None
-    bound_behind c r gs = None
+    bound_behind r (from (name_pat a) s gs) =
+        if is_new r a then and_then (members_kind (setwise_kind r s)) (λ k. bound_behind ((a, from_a_set k) ∷ r) gs) else None
+    bound_behind r (cond e gs) = if is_mark true (mark_of_kind (setwise_kind r e)) then bound_behind r gs else None
+    bound_behind r gs = None
 
 -- ---- the test
 

@@ -1,0 +1,4 @@
+//! Numbers in trees over views of nested sets that have a value everywhere.
+#![tactic(auto)]
+
+pub mod laws;
