@@ -1,53 +1,50 @@
 -- What is built of a specification of the class is a model of it, so a right one.
-use Rattle.std.proofs.Common.{◌≡◌, refl, sym, ap, ◌∙◌, subst, ℕ, Bool, true, false, ◌&&◌, ◌||◌, List, [], ◌∷◌, ◌++◌, ◌⊎◌, inl, inr, Option, Some, None, map}
+use Rattle.std.proofs.Common.{◌≡◌, refl, sym, ap, ◌∙◌, subst, Bool, true, false, ◌&&◌, ◌||◌, List, [], ◌∷◌, ◌++◌, ◌⊎◌, inl, inr, Option, Some, None, map}
 use Rattle.std.specs.List.{list_all}
 use Rattle.ess_semantics.specs.declared.words.Op2.{Op2}
 use Rattle.ess_semantics.specs.Lists.{append_all, is_some_and}
 use Rattle.ess_semantics.specs.Values.{Text}
 use Rattle.ess_semantics.specs.Names.{look}
-use Rattle.ess_semantics.specs.Trees.{Ex, truth_ex, name_ex, Dom, Stm, given, given_enum, let_ex, let_dom, let_enum, let_unnamed, needs, find, such_that, minimise, maximise, ex2}
+use Rattle.ess_semantics.specs.Trees.{Ex, name_ex, Dom, Stm, given, given_enum, let_ex, let_dom, let_enum, let_unnamed, needs, find, such_that, minimise, maximise, ex2}
 use Rattle.ess_semantics.specs.Contexts.{Each}
 use Rattle.ess_semantics.specs.DeclaredTables.{TableDecl}
 use Rattle.ess_semantics.specs.Prepared.{prepared}
 use Rattle.ess_semantics.specs.Judgements.{fault}
 use Rattle.ess_semantics.specs.Plans.{Options, givens_side, finds_side, Plan, kept_names, plans, plans_for}
-use Rattle.ess_semantics.specs.ModelTrees.{Header, Goal, no_goal, least, greatest, Model, goal_of}
-use Rattle.ess_semantics.specs.Models.{Models, IsExact, constraint_of, constraints_of, with_cells}
+use Rattle.ess_semantics.specs.ModelTrees.{Header, no_goal, Model, goal_of}
+use Rattle.ess_semantics.specs.Models.{Models, IsExact, constraint_of, constraints_of}
 use Rattle.ess_semantics.proofs.Tests.{and-left, and-right}
 use Rattle.ess_grammar.specs.Models.{Scope}
 use Rattle.conjure_laws.specs.SideBySide.{Along}
 use Rattle.conjure_laws.specs.ModelsOfSets.{table_of}
 use Rattle.conjure_laws.proofs.Lists.{each-append}
 use Rattle.conjure_model_laws.specs.Shown.{Shows, shows_of}
-use Rattle.conjure_model_laws.specs.IsBuiltFrom.{constraint_tree, condition_tree, objective_tree, taken_names}
-use Rattle.ess_flat_laws.specs.Flat.{Flat, none_marked, truth as truth_is}
-use Rattle.ess_flat_models_laws.specs.FlatSpecifications.{scalar_mark, is_flat_truth, has_marks}
-use Rattle.ess_flat_models_laws.specs.FlatModels.{flat_rule, flat_goal, goal_rules}
+use Rattle.conjure_model_laws.specs.IsBuiltFrom.{constraint_tree, taken_names}
+use Rattle.ess_flat_models_laws.specs.FlatSpecifications.{is_flat_truth, has_marks}
+use Rattle.ess_flat_models_laws.specs.FlatModels.{goal_rules}
 use Rattle.ess_flat_models_laws.proofs.PreparedStatements.{truth-flat}
-use Rattle.ess_flat_models_laws.proofs.FlatGoals.{FlatGoal}
 use Rattle.ess_model_trees.specs.Written.{ComesFrom, next_behind}
-use Rattle.ess_model_rules.specs.RulesWritten.{ConstraintComes, BothCome, GoalComes}
+use Rattle.ess_model_rules.specs.RulesWritten.{ConstraintComes}
 use Rattle.ess_models.specs.Parts.{scope_of_tables}
 use Rattle.ess_models.specs.Built.{IsBuilt}
-use Rattle.conjure_flat_laws.proofs.FlatChains.{comes-flat}
 use Rattle.conjure_flat_laws.proofs.BuiltParts.{none-come}
 use Rattle.conjure_member_laws.proofs.MemberChains.{comes-written}
 use Rattle.ess_mixed_models_laws.specs.MixedSpecifications.{is_ranged_constraint, is_setwise_constraint, is_told_constraint, kinds, places, members_of, is_of_kind, has_printed_name, is_kept_by_members, is_membership, is_mixed_statement, are_mixed_statements, types_come_first, have_bounds, is_mixed_specification}
 use Rattle.ess_mixed_models_laws.specs.MixedModels.{mixed_decl, mixed_decls, shown_value, axis_of, IsRuleOf, of_flat, of_membership, IsMixedModel}
 use Rattle.ess_mixed_models_laws.proofs.NamedKinds.{no-yes}
 use Rattle.ess_mixed_models_laws.proofs.MixedPlans.{either-test}
-use Rattle.ess_mixed_models_laws.proofs.ScalarCells.{cells}
-use Rattle.ess_mixed_models_laws.proofs.MixedGoals.{flat-goal}
+use Rattle.ess_mixed_models_laws.proofs.MixedGoals.{goal-asked}
 use Rattle.ess_mixed_models_laws.proofs.MixedHave.{mixed-right}
 use Rattle.ess_mixed_models_laws.proofs.SetValues.{membership-fact}
 use Rattle.conjure_nested_laws.specs.Laws.{NestedRulesStand}
 use Rattle.conjure_ranged_laws.specs.Laws.{RangedRulesStand}
-use Rattle.conjure_setwise_laws.specs.Laws.{SetwiseRulesStand}
+use Rattle.conjure_setwise_laws.specs.Laws.{SetwiseRulesStand, SetwiseObjectivesStand}
 use Rattle.conjure_mixed_laws.specs.Laws.{BuiltMixedModelsAreRight}
 use Rattle.conjure_mixed_laws.proofs.RangedBuilt.{ranged-rule}
 use Rattle.conjure_mixed_laws.proofs.SetwiseBuilt.{setwise-rule}
-use Rattle.conjure_mixed_laws.proofs.MixedTrees.{axis-is, literal-is, simple, over-cells, tree-is, objective-is, condition-is, member-tree, no-channels}
+use Rattle.conjure_mixed_laws.proofs.MixedTrees.{axis-is, literal-is, tree-is, member-tree, no-channels}
 use Rattle.conjure_mixed_laws.proofs.NestedBuilt.{structures-are}
+use Rattle.conjure_mixed_laws.proofs.GoalBuilt.{written-is, goal-is}
 use Rattle.conjure_mixed_laws.proofs.MixedTables.{givens-written, finds-written}
 
 none-after : (xs : List Ex) → xs ++ [] ≡ xs
@@ -74,17 +71,6 @@ module _ (S : List Stm) (o : Options) (h : are_mixed_statements S o ≡ true) (f
   decl P = mixed_decl (kinds S) Ps P
 
   -- ---- rules
-
-  written-is : (s : Scope) (k : ℕ) (t e r : Ex) (m : Bool) → t ≡ with_cells Ps e → Flat (scalar_mark Ps) none_marked e m →
-      ComesFrom s taken k t (Some r) → r ≡ flat_rule Ps e
-  written-is s k t e r m q w v =
-      comes-flat (cells S o h) (simple S o h f ts bs) s taken k (with_cells Ps e) r m (over-cells S o h f ts bs e m w)
-      (subst (λ z. ComesFrom s taken k z (Some r)) q v)
-
-  true-is : (s : Scope) (k : ℕ) (t r : Ex) → t ≡ truth_ex true → ComesFrom s taken k t (Some r) → r ≡ truth_ex true
-  true-is s k t r q v =
-      comes-flat (cells S o h) (simple S o h f ts bs) s taken k (truth_ex true) r true truth_is
-      (subst (λ z. ComesFrom s taken k z (Some r)) q v)
 
   -- The form of a membership.
   member-form : (e : Ex) → is_membership S o e ≡ true → (v : Ex) × (x : Text) × (e ≡ ex2 true Op2.Member v (name_ex x))
@@ -140,8 +126,8 @@ module _ (S : List Stm) (o : Options) (h : are_mixed_statements S o ≡ true) (f
         go : (b : Bool) → is_flat_truth Ps e ≡ b → b || (is_membership S o e || is_told_constraint Ps S e) ≡ true → IsRuleOf S o E e r
         go true t x =
             let k = truth-flat Ps e t in
-            subst (IsRuleOf S o E e) (sym (written-is s (next_behind sh e) (constraint_tree sh e) e r true (tree-is S o h f ts bs e k) k w))
-            (of_flat t)
+            subst (IsRuleOf S o E e)
+            (sym (written-is S o h f ts bs s (next_behind sh e) (constraint_tree sh e) e r true (tree-is S o h f ts bs e k) k w)) (of_flat t)
         go false n x = rest n (either-test (is_membership S o e) (is_told_constraint Ps S e) x)
 
     abbrev AskedOf : Ex → Type 0
@@ -176,40 +162,17 @@ module _ (S : List Stm) (o : Options) (h : are_mixed_statements S o ≡ true) (f
       (stm-asked s (and-left (is_mixed_statement S o s) (list_all (is_mixed_statement S o) T) k))
       (all-asked T (and-right (is_mixed_statement S o s) (list_all (is_mixed_statement S o) T) k))
 
-  both-are : (s : Scope) (e g r : Ex) → Flat (scalar_mark Ps) none_marked e false → BothCome s taken sh e g r →
-      (g ≡ flat_rule Ps e) × (r ∷ [] ≡ truth_ex true ∷ [])
-  both-are s e g r k w = (
-    written-is s (next_behind sh e) (objective_tree sh e) e g false (objective-is S o h f ts bs e k) k w.objective,
-    ap (λ z. z ∷ []) (true-is s (next_behind sh e) (condition_tree sh e) r (condition-is S o h f ts bs e k) w.condition),
-  )
-
-  -- What comes of the objective.
-  goal-is : (s : Scope) (g : Goal) → FlatGoal Ps g → (k : Goal) (rs : List Ex) → GoalComes s taken sh g k rs →
-      (k ≡ flat_goal Ps g) × (rs ≡ goal_rules g)
-  goal-is s no_goal i no_goal rs w = (refl, w)
-  goal-is s no_goal i (least e) rs w = absurd w
-  goal-is s no_goal i (greatest e) rs w = absurd w
-  goal-is s (least e) i (least g) (r ∷ []) w = let z = both-are s e g r i w in (ap least z.0, z.1)
-  goal-is s (least e) i (least g) [] w = absurd w
-  goal-is s (least e) i (least g) (r ∷ q ∷ rs) w = absurd w
-  goal-is s (least e) i no_goal rs w = absurd w
-  goal-is s (least e) i (greatest g) rs w = absurd w
-  goal-is s (greatest e) i (greatest g) (r ∷ []) w = let z = both-are s e g r i w in (ap greatest z.0, z.1)
-  goal-is s (greatest e) i (greatest g) [] w = absurd w
-  goal-is s (greatest e) i (greatest g) (r ∷ q ∷ rs) w = absurd w
-  goal-is s (greatest e) i no_goal rs w = absurd w
-  goal-is s (greatest e) i (least g) rs w = absurd w
-
   -- What is built is a model of the specification.
-  pub built-model : NestedRulesStand → RangedRulesStand → SetwiseRulesStand → (H : Header) (E : Model) → IsBuilt S o H E → IsMixedModel S o E
-  built-model stand ranged setwise H E B =
+  pub built-model : NestedRulesStand → RangedRulesStand → SetwiseRulesStand → SetwiseObjectivesStand → (H : Header) (E : Model) →
+      IsBuilt S o H E → IsMixedModel S o E
+  built-model stand ranged setwise aims H E B =
       let sc : Scope = scope_of_tables E.givens E.finds in
       let R = B.rules in
       let gs = givens-written S o h f ts bs _ _ E.givens B.declared.givens in
       let fs = finds-written S o h f ts bs _ _ E.finds B.declared.finds in
       let st = R.structures_written in
       let ch = none-come _ _ R.channels (no-channels S o h f ts bs) R.channels_written in
-      let go = goal-is sc (goal_of (prepared S)) (flat-goal S o (prepared S) h) E.goal R.goals R.goal_written in
+      let go = goal-is S o h f ts bs aims E gs fs sc (goal_of (prepared S)) (goal-asked S o (prepared S) h) E.goal R.goals R.goal_written in
       record {
         structures = st.rows;
         constraints = R.constraints;
@@ -224,8 +187,8 @@ module _ (S : List Stm) (o : Options) (h : are_mixed_statements S o ≡ true) (f
       }
 
 -- So it is of each specification of the class, and the model is a right one.
-pub built-mixed-right : NestedRulesStand → RangedRulesStand → SetwiseRulesStand → BuiltMixedModelsAreRight
-built-mixed-right stand ranged setwise = record {
+pub built-mixed-right : NestedRulesStand → RangedRulesStand → SetwiseRulesStand → SetwiseObjectivesStand → BuiltMixedModelsAreRight
+built-mixed-right stand ranged setwise aims = record {
   models = λ S o H E f h B. (B.header, model S o H E f h B);
   right = λ S o H E f h B. subst (λ H. Models S o H E × IsExact S o E) (sym B.header) (mixed-right S o E f h (model S o H E f h B));
 }
@@ -238,4 +201,5 @@ built-mixed-right stand ranged setwise = record {
         let b : Bool = have_bounds (plans S o) [] (prepared S) in
         let c : Bool = list_all (has_marks (plans S o)) (constraints_of S) in
         let r = and-right a (t && (b && c)) h in
-        built-model S o (and-left a (t && (b && c)) h) f (and-left t (b && c) r) (and-left b c (and-right t (b && c) r)) stand ranged setwise H E B
+        built-model S o (and-left a (t && (b && c)) h) f (and-left t (b && c) r) (and-left b c (and-right t (b && c) r)) stand ranged
+        setwise aims H E B

@@ -17,6 +17,8 @@ pub mod RangedBuilt
 pub mod FilledTables
 pub mod SetViews
 pub mod SetwiseBuilt
+-- The objective, and the whole
+pub mod GoalBuilt
 pub mod BuiltMixed
 -- The law
 pub mod MixedLaws

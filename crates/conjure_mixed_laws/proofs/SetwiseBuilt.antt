@@ -177,7 +177,8 @@ module _ (S : List Stm) (o : Options) (h : are_mixed_statements S o ≡ true) (f
             );
       }
 
-    have-sets : list_all is_unreserved (keys sh.first) ≡ true → HaveSets S o E (nested_kind Ps) cells
+    -- So the specification has its sets over tables.
+    pub have-sets : list_all is_unreserved (keys sh.first) ≡ true → HaveSets S o E (nested_kind Ps) cells
     have-sets u = record {
       shown = sets-shown u;
       declared = sizes-declared (all_decls E);

@@ -20,10 +20,10 @@ use Rattle.conjure_laws.proofs.SetScopes.{Fine, prepared-itself, fine-later}
 use Rattle.conjure_laws.proofs.SetFacts.{Facts, AtomFact, LitFact}
 use Rattle.conjure_laws.proofs.SetsSettled.{facts}
 use Rattle.conjure_laws.proofs.WellTypedSets.{well-typed-fine}
-use Rattle.ess_flat_models_laws.specs.FlatSpecifications.{given_mark, mark_among, is_scalar_dom, is_atom_alone, is_flat_truth, is_flat_statement, are_flat_statements, are_bounded, has_marks, is_flat_specification}
+use Rattle.ess_flat_models_laws.specs.FlatSpecifications.{given_mark, mark_among, is_scalar_dom, is_atom_alone, is_flat_truth, is_flat_number, is_flat_statement, are_flat_statements, are_bounded, has_marks, is_flat_specification}
 use Rattle.ess_member_shows_laws.proofs.ShownTables.{memberships-shown}
 use Rattle.ess_nested_laws.specs.NestedDomains.{is_nested_dom}
-use Rattle.ess_mixed_models_laws.specs.MixedSpecifications.{is_told_constraint, kinds_by, places_by, known_after, kinds, places, is_set_dom, is_occurrence_alone, members_of, is_of_kind, has_printed_name, is_kept_by_members, is_membership, is_scalar_kept, is_set_kept, is_nested_kept, is_mixed_statement, are_mixed_statements, is_of_sets, types_come_first, have_bounds, is_mixed_specification}
+use Rattle.ess_mixed_models_laws.specs.MixedSpecifications.{is_told_constraint, is_setwise_objective, kinds_by, places_by, known_after, kinds, places, is_set_dom, is_occurrence_alone, members_of, is_of_kind, has_printed_name, is_kept_by_members, is_membership, is_scalar_kept, is_set_kept, is_nested_kept, is_mixed_statement, are_mixed_statements, is_of_sets, types_come_first, have_bounds, is_mixed_specification}
 use Rattle.ess_mixed_models_laws.specs.Laws.{ClassesAreMixed}
 use Rattle.ess_mixed_models_laws.proofs.NamedKinds.{no-yes}
 use Rattle.ess_mixed_models_laws.proofs.SetFinds.{of-all, look-of}
@@ -44,8 +44,8 @@ flat-statement S o (let_ex x e) h = h
 flat-statement S o (let_dom x d) h = refl
 flat-statement S o (needs e) h = h
 flat-statement S o (such_that e) h = or-left (is_flat_truth (plans S o) e) (is_membership S o e || is_told_constraint (plans S o) S e) h
-flat-statement S o (minimise e) h = h
-flat-statement S o (maximise e) h = h
+flat-statement S o (minimise e) h = or-left (is_flat_number (plans S o) e) (is_setwise_objective (plans S o) S e) h
+flat-statement S o (maximise e) h = or-left (is_flat_number (plans S o) e) (is_setwise_objective (plans S o) S e) h
 flat-statement S o s h = absurd (no-yes h)
 
 all-flat : (S : List Stm) (o : Options) (T : List Stm) → list_all (is_flat_statement (plans S o) o) T ≡ true →

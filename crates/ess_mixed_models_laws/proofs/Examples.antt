@@ -14,7 +14,7 @@ use Rattle.std.specs.Prelude.{map}
 use Rattle.ess_member_rules_laws.specs.WrittenForms.{by_number}
 use Rattle.ess_flat_models_laws.specs.FlatSpecifications.{is_flat_specification}
 use Rattle.ess_mixed_models_laws.specs.MixedSpecifications.{kinds, is_mixed_specification}
-use Rattle.ess_mixed_models_laws.specs.MixedModels.{mixed_decl, mixed_decls, IsMixedModel, of_flat, of_membership}
+use Rattle.ess_mixed_models_laws.specs.MixedModels.{mixed_decl, mixed_decls, of_flat, of_membership, of_flat_number, of_least, IsMixedModel}
 
 -- `int(1..k)`
 abbrev upto : Ex → Dom
@@ -95,7 +95,7 @@ is-model = record {
       ∷ cell_ex true (codes "t_Occurrence") (more_exs (number_ex (pos 2)) no_exs) ∷ [];
   givens = refl;
   finds = refl;
-  goal = refl;
+  goal = of_least (of_flat_number refl);
   rules = refl;
   structured = (
     record { none = λ e. refl; means = λ e. absurd (no-yes e); spelled = tt },

@@ -23,6 +23,7 @@ pub mod ScalarValues
 pub mod SetFinds
 pub mod SetValues
 -- The objective
+pub mod SingleObjective
 pub mod MixedGoals
 -- Texts
 pub mod PreparedSets
@@ -38,3 +39,4 @@ pub mod MixedHave
 pub mod ClassesMixed
 -- Worked examples
 mod Examples
+mod ExamplesObjectives

@@ -19,7 +19,7 @@ use Rattle.ess_semantics.specs.Prepared.{prepared}
 use Rattle.ess_semantics.specs.Solutions.{finds}
 use Rattle.ess_semantics.specs.Judgements.{fault}
 use Rattle.ess_semantics.specs.Plans.{Options, givens_side, finds_side, Plan, value_plan, plans, plans_for, value_names}
-use Rattle.ess_semantics.specs.ModelTrees.{Model, Goal, header_of, goal_of}
+use Rattle.ess_semantics.specs.ModelTrees.{Model, Goal, no_goal, least, greatest, header_of, goal_of, same_direction}
 use Rattle.ess_semantics.specs.Occurrences.{parts_of}
 use Rattle.ess_semantics.specs.Constants.{parts_of_decl}
 use Rattle.ess_semantics.specs.Models.{Models, IsExact, constraints_of}
@@ -40,7 +40,7 @@ use Rattle.ess_flat_models_laws.proofs.FlatTexts.{each-mapped, dom-spelled, scal
 use Rattle.ess_flat_models_laws.proofs.PreparedStatements.{truth-flat, prepared-direction}
 use Rattle.ess_flat_models_laws.proofs.ScalarDomains.{Atom}
 use Rattle.ess_mixed_models_laws.specs.MixedSpecifications.{kinds, is_nested_plan, are_mixed_statements, types_come_first, have_bounds}
-use Rattle.ess_mixed_models_laws.specs.MixedModels.{mixed_decl, nested_decls, mixed_decls, AreStructure, IsRuleOf, of_flat, of_membership, of_told, IsMixedModel}
+use Rattle.ess_mixed_models_laws.specs.MixedModels.{mixed_decl, nested_decls, mixed_decls, AreStructure, IsRuleOf, of_flat, of_membership, of_told, IsGoalOf, of_no_goal, of_least, of_greatest, IsMixedModel}
 use Rattle.ess_mixed_models_laws.specs.Laws.{MixedModelsAreRight}
 use Rattle.ess_mixed_models_laws.proofs.MixedPlans.{PlanFact, size_fact, atom_fact, set_fact, nested_fact, all-facts, set-single, atom-single}
 use Rattle.ess_mixed_models_laws.proofs.NestedPlans.{renamed-have}
@@ -50,7 +50,7 @@ use Rattle.ess_mixed_models_laws.proofs.ScalarCells.{cells, given-cells}
 use Rattle.ess_mixed_models_laws.proofs.MixedGivens.{plan-bounds}
 use Rattle.ess_mixed_models_laws.proofs.MixedConstants.{table-spelled, kept-numbers}
 use Rattle.ess_mixed_models_laws.proofs.MixedForms.{forms-stay}
-use Rattle.ess_mixed_models_laws.proofs.MixedGoals.{flat-goal as goal-is-flat, goals-mean}
+use Rattle.ess_mixed_models_laws.proofs.MixedGoals.{goals-mean}
 use Rattle.ess_mixed_models_laws.proofs.MixedLayers.{model_with, givens-single, base, structures-mean, channels-mean}
 use Rattle.ess_mixed_models_laws.proofs.MixedSmall.{none-large}
 use Rattle.ess_mixed_models_laws.proofs.MixedSpelled.{rules-spelled, goal-spelled, goal-rules-spelled}
@@ -61,7 +61,18 @@ no-channels : {A : Type 0} (xs : List A) → append_all (map append_all (map (λ
 no-channels [] = refl
 no-channels (x ∷ xs) = no-channels xs
 
-module _ (S : List Stm) (o : Options) (h : are_mixed_statements S o ≡ true) (f : fault S ≡ None) (cs : List Ex)
+-- The direction is that of a flat objective.
+direction-of : (S : List Stm) (o : Options) (M : Model) (g k z : Goal) → IsGoalOf S o M g k →
+    same_direction (flat_goal (plans S o) g) z ≡ true → same_direction k z ≡ true
+direction-of S o M g k z of_no_goal d = d
+direction-of S o M g k no_goal (of_least w) d = d
+direction-of S o M g k (least e) (of_least w) d = d
+direction-of S o M g k (greatest e) (of_least w) d = d
+direction-of S o M g k no_goal (of_greatest w) d = d
+direction-of S o M g k (least e) (of_greatest w) d = d
+direction-of S o M g k (greatest e) (of_greatest w) d = d
+
+module _ (S : List Stm) (o : Options) (h : are_mixed_statements S o ≡ true) (f : fault S ≡ None) (G : Goal) (cs : List Ex)
     (sss : List (List Ex)) where
   abbrev Ps : List Plan
   Ps = plans S o
@@ -78,14 +89,15 @@ module _ (S : List Stm) (o : Options) (h : are_mixed_statements S o ≡ true) (f
   abbrev decls_of : Plan → List TableDecl
   decls_of P = mixed_decls (kinds S) Ps P
 
-  abbrev G : Goal
-  G = flat_goal Ps (goal_of (prepared S))
-
   abbrev rs : List Ex
   rs = append_all sss ++ goal_rules (goal_of (prepared S)) ++ cs
 
   abbrev E : Model
   E = model_with S o h G rs
+
+  -- The objective.
+  abbrev Aimed : Type 0
+  Aimed = IsGoalOf S o E (goal_of (prepared S)) G
 
   -- The rules of constraints.
   abbrev Written : Type 0
@@ -97,8 +109,8 @@ module _ (S : List Stm) (o : Options) (h : are_mixed_statements S o ≡ true) (f
   rule-means e r (of_told n t m s) = m
 
   -- The layers, without a premise but the judgements.
-  abbrev layers : Along Fs sss (AreStructure S o E) → Written → all_distinct (finds S) ≡ true → Layers S o E
-  layers w written d = record {
+  abbrev layers : Along Fs sss (AreStructure S o E) → Aimed → Written → all_distinct (finds S) ≡ true → Layers S o E
+  layers w aimed written d = record {
     base = base S o h f G rs;
     rules = record {
       structures = sss;
@@ -109,7 +121,7 @@ module _ (S : List Stm) (o : Options) (h : are_mixed_statements S o ≡ true) (f
           ∙ ap (λ l. (l ++ goal_rules (goal_of (prepared S))) ++ cs) (append-nil (append_all sss)));
       structures_mean = structures-mean S o h f G rs sss w;
       channels_mean = channels-mean S o h G rs d;
-      goals_mean = goals-mean S o h f rs;
+      goals_mean = goals-mean S o h f G rs aimed;
       rules_mean = along-map (constraints_of (prepared S)) cs (IsRuleOf S o E) (RuleMeans S o E) rule-means written;
     };
   }
@@ -183,14 +195,14 @@ module _ (S : List Stm) (o : Options) (h : are_mixed_statements S o ≡ true) (f
   structures-spelled M (P ∷ Qs) (u ∷ us) w =
       each-append (λ r. spelled S (parts_of r) ≡ true) u (append_all us) w.0.spelled (structures-spelled M Qs us w.1)
 
-  texts : Along Fs sss (AreStructure S o E) → Written → have_bounds Ps [] (prepared S) ≡ true →
+  texts : Along Fs sss (AreStructure S o E) → Aimed → Written → have_bounds Ps [] (prepared S) ≡ true →
       list_all (has_marks Ps) (constraints_of S) ≡ true →
       Texts S o (header_of S o) E cs
-  texts w written bs marks = record {
+  texts w aimed written bs marks = record {
     header = refl;
-    direction = prepared-direction Ps S;
+    direction = direction-of S o E (goal_of (prepared S)) G (goal_of S) aimed (prepared-direction Ps S);
     decls = decls-spelled;
-    goal = goal-spelled S o h f (goal-is-flat S o (prepared S) h);
+    goal = goal-spelled S o h f E G aimed;
     spells = each-append (λ r. spelled S (parts_of r) ≡ true) (append_all sss ++ goal_rules (goal_of (prepared S))) cs
         (each-append (λ r. spelled S (parts_of r) ≡ true) (append_all sss) (goal_rules (goal_of (prepared S)))
         (structures-spelled E Fs sss w) (goal-rules-spelled S (goal_of (prepared S)))) (rules-spelled S o h f E cs written);
@@ -199,12 +211,12 @@ module _ (S : List Stm) (o : Options) (h : are_mixed_statements S o ≡ true) (f
   }
 
   -- The model stands for the specification, and each solution has exactly one satisfying assignment.
-  pub have : Along Fs sss (AreStructure S o E) → Written → have_bounds Ps [] (prepared S) ≡ true →
+  pub have : Along Fs sss (AreStructure S o E) → Aimed → Written → have_bounds Ps [] (prepared S) ≡ true →
       list_all (has_marks Ps) (constraints_of S) ≡ true →
       Models S o (header_of S o) E × IsExact S o E
-  have w written bs marks =
+  have w aimed written bs marks =
       let d = (typed-is-settled S f).distinct in
-      (models S o E (layers w written d) (header_of S o) (texts w written bs marks), exact S o E (layers w written d))
+      (models S o E (layers w aimed written d) (header_of S o) (texts w aimed written bs marks), exact S o E (layers w aimed written d))
 
 -- So does each model of the class.
 pub mixed-right : MixedModelsAreRight
@@ -216,14 +228,14 @@ mixed-right S o E f h M =
     let k = and-left a (t && (b && c)) h in
     let r = and-right t (b && c) (and-right a (t && (b && c)) h) in
     subst (λ E. Models S o (header_of S o) E × IsExact S o E) (sym (same E M k))
-    (have S o k f M.constraints M.structures
+    (have S o k f E.goal M.constraints M.structures
     (subst (λ E. Along (plans_for finds_side S o) M.structures (AreStructure S o E)) (same E M k) M.structured)
+    (subst (λ z. IsGoalOf S o z (goal_of (prepared S)) E.goal) (same E M k) M.goal)
     (subst (λ E. Along (constraints_of (prepared S)) M.constraints (IsRuleOf S o E)) (same E M k) M.written)
     (and-left b c r) (and-right b c r))
   where
     same : (E : Model) (M : IsMixedModel S o E) (k : are_mixed_statements S o ≡ true) →
-        E ≡ model_with S o k (flat_goal (plans S o) (goal_of (prepared S)))
-        (append_all M.structures ++ goal_rules (goal_of (prepared S)) ++ M.constraints)
+        E ≡ model_with S o k E.goal (append_all M.structures ++ goal_rules (goal_of (prepared S)) ++ M.constraints)
     same E M k =
         ap (λ z. record { givens = z; finds = E.finds; goal = E.goal; rules = E.rules }) M.givens
         ∙ ap (λ z. record {
@@ -236,12 +248,6 @@ mixed-right S o E f h M =
         ∙ ap (λ z. record {
           givens = map (mixed_decl (kinds S) (plans S o)) (plans_for givens_side S o);
           finds = append_all (map (mixed_decls (kinds S) (plans S o)) (plans_for finds_side S o));
-          goal = z;
-          rules = E.rules;
-        }) M.goal
-        ∙ ap (λ z. record {
-          givens = map (mixed_decl (kinds S) (plans S o)) (plans_for givens_side S o);
-          finds = append_all (map (mixed_decls (kinds S) (plans S o)) (plans_for finds_side S o));
-          goal = flat_goal (plans S o) (goal_of (prepared S));
+          goal = E.goal;
           rules = z;
         }) M.rules

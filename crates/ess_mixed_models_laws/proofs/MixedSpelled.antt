@@ -28,18 +28,17 @@ use Rattle.conjure_model_laws.specs.Printed.{printed_name}
 use Rattle.conjure_model_laws.specs.IsBuiltFrom.{taken_names}
 use Rattle.ess_flat_laws.specs.Flat.{Flat, none_marked}
 use Rattle.ess_flat_models_laws.specs.FlatSpecifications.{scalar_mark}
-use Rattle.ess_flat_models_laws.specs.FlatModels.{flat_rule, flat_goal, goal_rules}
-use Rattle.ess_flat_models_laws.proofs.PreparedStatements.{truth-flat}
+use Rattle.ess_flat_models_laws.specs.FlatModels.{flat_rule, goal_rules}
+use Rattle.ess_flat_models_laws.proofs.PreparedStatements.{truth-flat, number-flat}
 use Rattle.ess_flat_models_laws.proofs.ScalarDomains.{Atom}
 use Rattle.ess_flat_models_laws.proofs.SimpleTrees.{is_simple, NumbersAre}
 use Rattle.ess_flat_models_laws.proofs.FlatValues.{Marked, a_truth as truth_marked, a_number as number_marked, AllNumbers}
 use Rattle.ess_flat_models_laws.proofs.FlatSimplified.{simpler}
 use Rattle.ess_flat_models_laws.proofs.FlatCells.{numbers-stay, cells-flat}
-use Rattle.ess_flat_models_laws.proofs.FlatGoals.{FlatGoal}
 use Rattle.ess_flat_models_laws.proofs.FlatTexts.{IsConst, numbers-spelled, statements-spelled, flat-simple}
 use Rattle.ess_member_rules_laws.specs.WrittenForms.{Written, by_number, by_condition, by_conjunction}
 use Rattle.ess_mixed_models_laws.specs.MixedSpecifications.{kinds, places, are_mixed_statements}
-use Rattle.ess_mixed_models_laws.specs.MixedModels.{axis_of, shown_value, IsRuleOf, of_flat, of_membership, of_told}
+use Rattle.ess_mixed_models_laws.specs.MixedModels.{axis_of, shown_value, IsRuleOf, of_flat, of_membership, of_told, IsNumberOf, of_flat_number, of_told_number, IsGoalOf, of_no_goal, of_least, of_greatest}
 use Rattle.ess_mixed_models_laws.proofs.MemberValues.{literal_code}
 use Rattle.ess_mixed_models_laws.proofs.NamedKinds.{MemberDom, of_numbers, of_truths, of_type}
 use Rattle.ess_mixed_models_laws.proofs.MixedPlans.{atom-single}
@@ -197,14 +196,18 @@ module _ (S : List Stm) (o : Options) where
         Each rs (λ r. spelled S (parts_of r) ≡ true)
     rules-spelled M rs w = rules-along M (constraints_of (prepared S)) rs (constraints-constants (prepared S) (statements-spelled S)) w
 
-    goal-at : (g : Goal) → FlatGoal Ps g → GoalConstants g → spelled S (parts_of_goal (flat_goal Ps g)) ≡ true
-    goal-at no_goal w n = refl
-    goal-at (least e) w n = flat-spelled e false w n
-    goal-at (greatest e) w n = flat-spelled e false w n
+    number-spelled : (M : Model) (e y : Ex) → SpellsConstants e → IsNumberOf S o M e y → spelled S (parts_of y) ≡ true
+    number-spelled M e y n (of_flat_number t) = flat-spelled e false (number-flat Ps e t) n
+    number-spelled M e y n (of_told_number t m s) = s
+
+    goal-at : (M : Model) (g k : Goal) → GoalConstants g → IsGoalOf S o M g k → spelled S (parts_of_goal k) ≡ true
+    goal-at M g k n of_no_goal = refl
+    goal-at M g k n (of_least {e = e} {f = y} w) = number-spelled M e y n w
+    goal-at M g k n (of_greatest {e = e} {f = y} w) = number-spelled M e y n w
 
     -- So does the objective.
-    pub goal-spelled : FlatGoal Ps (goal_of (prepared S)) → spelled S (parts_of_goal (flat_goal Ps (goal_of (prepared S)))) ≡ true
-    goal-spelled w = goal-at (goal_of (prepared S)) w (goal-constants (prepared S) (statements-spelled S))
+    pub goal-spelled : (M : Model) (k : Goal) → IsGoalOf S o M (goal_of (prepared S)) k → spelled S (parts_of_goal k) ≡ true
+    goal-spelled M k w = goal-at M (goal_of (prepared S)) k (goal-constants (prepared S) (statements-spelled S)) w
 
 -- `true` spells no number.
 pub goal-rules-spelled : (S : List Stm) (g : Goal) → Each (goal_rules g) (λ r. spelled S (parts_of r) ≡ true)

@@ -1,6 +1,7 @@
 -- Models of specifications of scalars and sets: a scalar is a cell and a set a table of truth values over its members, or what its
 -- representation keeps it as, with a rule that these tables are canonical; and each other rule is that of a flat constraint, or any tree
--- that is written for a membership, or one that says what a constraint over ranges and nested sets says.
+-- that is written for a membership, or one that says what a constraint over ranges and nested sets says. So is the objective that of a flat
+-- one, or one that is worth what one over nested sets is.
 use Rattle.std.specs.Prelude.{◌≡◌, ℕ, true, false, if◌then◌else◌, List, [], ◌∷◌, ◌++◌, map, pos, Some, option_map}
 use Rattle.ess_semantics.specs.declared.words.ReprKind.{ReprKind}
 use Rattle.ess_semantics.specs.declared.words.Op2.{Op2}
@@ -13,7 +14,7 @@ use Rattle.ess_semantics.specs.Contexts.{Each}
 use Rattle.ess_semantics.specs.Occurrences.{parts_of}
 use Rattle.ess_semantics.specs.Prepared.{prepared}
 use Rattle.ess_semantics.specs.Plans.{Options, Plan, size_plan, value_plan, givens_side, finds_side, kept_names, plans, plans_for}
-use Rattle.ess_semantics.specs.ModelTrees.{Model, goal_of}
+use Rattle.ess_semantics.specs.ModelTrees.{Goal, no_goal, least, greatest, Model, goal_of}
 use Rattle.ess_semantics.specs.Models.{constraints_of}
 use Rattle.ess_repr_declare_laws.specs.DeclaredTrees.{axis_dom, trees_below}
 use Rattle.conjure_laws.specs.SideBySide.{Along}
@@ -22,10 +23,11 @@ use Rattle.conjure_laws.specs.SetsOfAtoms.{TypeKind}
 use Rattle.conjure_laws.specs.ModelsOfSets.{first_name, table_of, axis_of_set}
 use Rattle.conjure_model_laws.specs.Printed.{printed_name}
 use Rattle.conjure_model_laws.specs.IsBuiltFrom.{taken_names, with_whole_names}
-use Rattle.ess_flat_models_laws.specs.FlatSpecifications.{is_flat_truth}
-use Rattle.ess_flat_models_laws.specs.FlatModels.{decl_of, flat_rule, flat_goal, goal_rules}
+use Rattle.ess_flat_models_laws.specs.FlatSpecifications.{is_flat_truth, is_flat_number}
+use Rattle.ess_flat_models_laws.specs.FlatModels.{decl_of, flat_rule, goal_rules}
+use Rattle.ess_setwise_laws.specs.Objectives.{NumberMeans}
 use Rattle.ess_member_rules_laws.specs.WrittenForms.{Written}
-use Rattle.ess_mixed_models_laws.specs.MixedSpecifications.{kinds, places, members_of, is_membership, is_nested_plan, is_told_constraint}
+use Rattle.ess_mixed_models_laws.specs.MixedSpecifications.{kinds, places, members_of, is_membership, is_nested_plan, is_told_constraint, is_setwise_objective}
 
 -- What is declared of a plan: at least 1 for the size of a given type, a table of truth values over the members for a set, where an axis of
 -- truth values is one of 0 and 1, and a cell for a scalar.
@@ -75,13 +77,25 @@ module _ (S : List Stm) (o : Options) where
     pub means : is_nested_plan (kinds S) P ≡ true → StructureMeans S o E P rs
     pub spelled : Each rs (λ r. spelled S (parts_of r) ≡ true)
 
+  -- The number is that of an objective in the model E.
+  pub data IsNumberOf (E : Model) : Ex → Ex → Type 0 where
+    of_flat_number : {e : Ex} → is_flat_number (plans S o) e ≡ true → IsNumberOf E e (flat_rule (plans S o) e)
+    of_told_number : {e f : Ex} → is_setwise_objective (plans S o) S e ≡ true → NumberMeans S o E e f → spelled S (parts_of f) ≡ true →
+        IsNumberOf E e f
+
+  -- The second objective is that of the model E where the first one is asked: it has the same direction.
+  pub data IsGoalOf (E : Model) : Goal → Goal → Type 0 where
+    of_no_goal : IsGoalOf E no_goal no_goal
+    of_least : {e f : Ex} → IsNumberOf E e f → IsGoalOf E (least e) (least f)
+    of_greatest : {e f : Ex} → IsNumberOf E e f → IsGoalOf E (greatest e) (greatest f)
+
   -- A model of the specification.
   pub record IsMixedModel (E : Model) : Type 0 where
     pub structures : List (List Ex)
     pub constraints : List Ex
     pub givens : E.givens ≡ map (mixed_decl (kinds S) (plans S o)) (plans_for givens_side S o)
     pub finds : E.finds ≡ append_all (map (mixed_decls (kinds S) (plans S o)) (plans_for finds_side S o))
-    pub goal : E.goal ≡ flat_goal (plans S o) (goal_of (prepared S))
+    pub goal : IsGoalOf E (goal_of (prepared S)) E.goal
     pub rules : E.rules ≡ append_all structures ++ goal_rules (goal_of (prepared S)) ++ constraints
     pub structured : Along (plans_for finds_side S o) structures (AreStructure E)
     pub written : Along (constraints_of (prepared S)) constraints (IsRuleOf E)

@@ -2,9 +2,10 @@
 -- numbers, of truth values or of values of a named type, without attributes, kept as the members that occur; or sets of any nesting over
 -- numbers and truth values, with sizes, kept in any one representation. Each constraint is flat and total over the scalars, or one over
 -- ranges, scalars, and sets of any nesting, with their sizes and members, operators on them and comparisons of them, or says that a number,
--- a truth value or a value of a type is in a set.
--- Conditions on parameters and the objective are flat and total over the scalars. Named types and lettings are declared among them, in any
--- order and number. Lettings are put in before it is asked what a statement is.
+-- a truth value or a value of a type is in a set. The objective is a number that is flat and total over the scalars, or one over ranges,
+-- scalars and sets of any nesting.
+-- Conditions on parameters are flat and total over the scalars. Named types and lettings are declared among them, in any order and number.
+-- Lettings are put in before it is asked what a statement is.
 use Rattle.std.specs.Prelude.{ℕ, ◌+◌, ◌^◌, nat_le, Bool, true, false, ◌&&◌, ◌||◌, not, if◌then◌else◌, List, [], ◌∷◌, ◌++◌, length, pos, Option, Some, None, is_some}
 use Rattle.std.specs.List.{list_all, list_any}
 use Rattle.ess_semantics.specs.declared.words.ReprKind.{ReprKind}
@@ -22,7 +23,7 @@ use Rattle.ess_semantics.specs.Models.{constraints_of}
 use Rattle.ess_refine_laws.specs.SpellingEnds.{numbers_of_tree}
 use Rattle.ess_ranged_laws.specs.Ranged.{is_ranged_truth}
 use Rattle.ess_seen_laws.specs.Seen.{Kind, kind_of}
-use Rattle.ess_setwise_laws.specs.Setwise.{is_setwise_truth}
+use Rattle.ess_setwise_laws.specs.Setwise.{is_setwise_truth, is_setwise_number}
 use Rattle.ess_nested_laws.specs.NestedDomains.{is_nested_dom}
 use Rattle.conjure_laws.specs.SetsOfAtoms.{TypeKind, fixed, sized, enum_values}
 use Rattle.conjure_model_laws.specs.ToldApart.{is_unreserved}
@@ -165,6 +166,12 @@ is_setwise_constraint Ps S e =
     is_setwise_truth (scalar_mark Ps) (nested_kind Ps) e && (spares_reserved Ps S
     && (has_names_left Ps S e && list_all (λ n. list_any (same_int n) (constants_of S)) (numbers_of_tree e)))
 
+-- Whether the objective is a number over ranges, scalars and sets of any nesting, that spells constants of the specification.
+abbrev pub is_setwise_objective : List Plan → List Stm → Ex → Bool
+is_setwise_objective Ps S e =
+    is_setwise_number (scalar_mark Ps) (nested_kind Ps) e && (spares_reserved Ps S
+    && (has_names_left Ps S e && list_all (λ n. list_any (same_int n) (constants_of S)) (numbers_of_tree e)))
+
 -- Whether the constraint is of one of these sorts.
 abbrev pub is_told_constraint : List Plan → List Stm → Ex → Bool
 is_told_constraint Ps S e = is_ranged_constraint Ps S e || is_setwise_constraint Ps S e
@@ -194,8 +201,8 @@ is_mixed_statement S o (let_ex x e) = not (is_some (scalar_mark (plans S o) x))
 is_mixed_statement S o (let_dom x d) = true
 is_mixed_statement S o (needs e) = is_flat_truth (plans S o) e
 is_mixed_statement S o (such_that e) = is_flat_truth (plans S o) e || (is_membership S o e || is_told_constraint (plans S o) S e)
-is_mixed_statement S o (minimise e) = is_flat_number (plans S o) e
-is_mixed_statement S o (maximise e) = is_flat_number (plans S o) e
+is_mixed_statement S o (minimise e) = is_flat_number (plans S o) e || is_setwise_objective (plans S o) S e
+is_mixed_statement S o (maximise e) = is_flat_number (plans S o) e || is_setwise_objective (plans S o) S e
 
 -- Whether all statements are of the class, with lettings put in.
 abbrev pub are_mixed_statements : List Stm → Options → Bool

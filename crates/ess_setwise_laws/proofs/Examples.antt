@@ -8,7 +8,7 @@ use Rattle.ess_semantics.specs.Order.{same_text}
 use Rattle.ess_semantics.specs.Names.{is_among}
 use Rattle.ess_semantics.specs.Trees.{both_ends, name_pat, Ex, number_ex, name_ex, no_exs, more_exs, comp_ex, no_gens, over, from, cond, int_dom, ex1, ex2, fun1}
 use Rattle.ess_seen_laws.specs.Seen.{Kind, scalars, sets_of}
-use Rattle.ess_setwise_laws.specs.Setwise.{setwise_mark, is_setwise_truth}
+use Rattle.ess_setwise_laws.specs.Setwise.{setwise_mark, is_setwise_truth, is_setwise_number}
 
 -- The number n and the truth value b; sets r and s of sets of numbers, and sets t, u and v of numbers.
 abbrev marks : Text → Option Bool
@@ -163,6 +163,22 @@ sum_of_sums : setwise_mark marks sets
     (comp_ex (fun1 false Fun.Sum (comp_ex i (from (name_pat (codes "i")) x no_gens))) (from (name_pat (codes "x")) s no_gens)))
     ≡ Some false
 sum_of_sums = refl
+
+-- Objectives: `|s|`, `sum([i | i <- t])`, and `|t union u| - n`; a truth value is none, nor is a set.
+size_as_objective : is_setwise_number marks sets (size s) ≡ true
+size_as_objective = refl
+
+sum_as_objective : is_setwise_number marks sets sum_of_all ≡ true
+sum_as_objective = refl
+
+difference_as_objective : is_setwise_number marks sets (ex2 false Op2.Minus (size (union t u)) n) ≡ true
+difference_as_objective = refl
+
+no_truth_as_objective : is_setwise_number marks sets (is_in n t) ≡ false
+no_truth_as_objective = refl
+
+no_set_as_objective : is_setwise_number marks sets t ≡ false
+no_set_as_objective = refl
 
 -- A truth value isn't asked for in a set of numbers, nor a set in one; sets of other members aren't compared, nor put together, and `<` is
 -- no sign between sets.

@@ -5,10 +5,10 @@ use Rattle.ess_semantics.specs.declared.words.Op1.{Op1}
 use Rattle.ess_semantics.specs.declared.words.Op2.{Op2}
 use Rattle.ess_semantics.specs.declared.words.Fun.{Fun}
 use Rattle.ess_semantics.specs.declared.words.ReprKind.{ReprKind}
-use Rattle.ess_semantics.specs.Trees.{repr, no_reprs, more_reprs, both_ends, name_pat, Ex, number_ex, name_ex, seen_ex, no_exs, more_exs, comp_ex, no_gens, from, cond, Dom, int_dom, set_dom, ex1, ex2, fun1}
+use Rattle.ess_semantics.specs.Trees.{repr, no_reprs, more_reprs, both_ends, name_pat, Ex, number_ex, truth_ex, name_ex, seen_ex, no_exs, more_exs, comp_ex, no_gens, from, cond, Dom, int_dom, set_dom, ex1, ex2, fun1}
 use Rattle.conjure_model_laws.specs.ToldApart.{reserved, told}
 use Rattle.conjure_model_laws.specs.Shown.{Shows}
-use Rattle.conjure_model_laws.specs.IsBuiltFrom.{constraint_tree}
+use Rattle.conjure_model_laws.specs.IsBuiltFrom.{constraint_tree, condition_tree, objective_tree}
 
 -- The numbers from 1 to 4, sets of these, and sets of such sets.
 abbrev numbers : Dom
@@ -102,3 +102,20 @@ sum_of_members : constraint_tree sh_two old_four
     (comp_ex (bar (name_ex (reserved 2))) (from (name_pat (reserved 2)) view (cond (is_in (name_ex (reserved 2)) other) no_gens))))
     (bar (ex2 false Op2.Union view view))
 sum_of_members = refl
+
+-- So do objectives, and it is `true` that they have a value: `sum([|x| | x <- s, x in s, |x| >= 2])`
+abbrev old_five : Ex
+old_five =
+    fun1 false Fun.Sum
+    (comp_ex (bar (name_ex (codes "x")))
+    (from (name_pat (codes "x")) (name_ex (codes "s"))
+    (cond (is_in (name_ex (codes "x")) (name_ex (codes "s"))) (cond (large (name_ex (codes "x"))) no_gens))))
+
+as_objective : objective_tree sh_two old_five
+    ≡ fun1 false Fun.Sum
+    (comp_ex (bar (name_ex (reserved 2)))
+    (from (name_pat (reserved 2)) view (cond (is_in (name_ex (reserved 2)) other) (cond (large (name_ex (reserved 2))) no_gens))))
+as_objective = refl
+
+always_there : condition_tree sh_two old_five ≡ truth_ex true
+always_there = refl

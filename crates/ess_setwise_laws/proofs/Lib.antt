@@ -11,6 +11,8 @@ pub mod ToldSetwise
 pub mod ToldCounted
 pub mod ToldMeans
 -- Total, over views, in scope, of values
+pub mod GuardLists
+pub mod GuardedNodes
 pub mod SetwiseGuard
 pub mod SetwiseSeen
 pub mod SetwiseMet

@@ -1,70 +1,32 @@
--- A constraint of the class needs no conditions over tables to be total, so it is left as it is.
-use Rattle.std.proofs.Common.{◌≡◌, refl, ap, ◌∙◌, ℕ, Bool, true, false, List, [], ◌∷◌, ◌++◌, Option}
+-- A constraint of the class, and a number of it, needs no conditions over tables to be total. So it is left as it is, whether natural
+-- places count or not.
+use Rattle.std.proofs.Common.{◌≡◌, refl, ap, ◌∙◌, ℕ, Bool, true, false, List, [], ◌∷◌, Option}
 use Rattle.ess_semantics.specs.declared.words.Op1.{Op1}
 use Rattle.ess_semantics.specs.declared.words.Op2.{Op2}
 use Rattle.ess_semantics.specs.declared.words.Fun.{Fun}
 use Rattle.ess_semantics.specs.Values.{Text}
 use Rattle.ess_semantics.specs.Names.{Names}
-use Rattle.ess_semantics.specs.Trees.{both_ends, name_pat, Ex, no_exs, more_exs, comp_ex, Gens, no_gens, over, from, cond, bool_dom, int_dom, ex1, ex2, fun1}
+use Rattle.ess_semantics.specs.Trees.{both_ends, name_pat, Ex, no_exs, more_exs, comp_ex, Gens, no_gens, over, cond, bool_dom, int_dom, ex1, ex2, fun1}
 use Rattle.ess_guard_laws.specs.Origins.{Origin, with_any, with_over, known_behind}
-use Rattle.ess_guard_laws.specs.Conditions.{chained, every, given_that}
+use Rattle.ess_guard_laws.specs.Conditions.{every, given_that}
 use Rattle.ess_guard_laws.specs.Guard.{guarded, guarded_gens, conditions, conditions_gens}
 use Rattle.ess_flat_laws.specs.Flat.{OneOp, TwoOp, denied, negative, absolute, both, either, implied, agreeing, equal, unequal, below, at_most, above, at_least, sum, difference, product}
 use Rattle.ess_bare_laws.specs.Lean.{FoldWord, of_all, of_some, of_sum}
-use Rattle.ess_seen_laws.specs.Seen.{Kind, Bound, Combines, united, shared, lessened, Compares, alike, apart, included, properly_included, including, properly_including}
+use Rattle.ess_seen_laws.specs.Seen.{Kind, Bound, Combines, united, shared, lessened}
 use Rattle.ess_setwise_laws.proofs.SetwiseTrees.{Stands, named, as_shown, SetTree, stands, combined, Setwise, number, truth, scalar, one, two, chosen, folded, size, within, set_within, compared, Binding, at_end, over_truths, over_numbers, among, where_holds, Form, a_cell, a_view}
-
--- Two operands whose nodes have conditions of their own, and none.
-none-both : (as' bs : List Ex) → as' ≡ [] → bs ≡ [] → (as' ++ (bs ++ [])) ++ [] ≡ []
-none-both as' bs a b = ap (λ l. (l ++ (bs ++ [])) ++ []) a ∙ ap (λ l. ([] ++ (l ++ [])) ++ []) b
-
-none-one : (as' : List Ex) → as' ≡ [] → (as' ++ []) ++ [] ≡ []
-none-one as' a = ap (λ l. (l ++ []) ++ []) a
-
-none-range : (as' bs cs : List Ex) (g : Gens) → as' ≡ [] → bs ≡ [] → cs ≡ [] → (as' ++ (bs ++ [])) ++ every g cs ≡ []
-none-range as' bs cs g a b c =
-    ap (λ l. (as' ++ (bs ++ [])) ++ every g l) c ∙ none-both as' bs a b
-
-none-source : (as' cs : List Ex) (g : Gens) → as' ≡ [] → cs ≡ [] → as' ++ every g cs ≡ []
-none-source as' cs g a c = ap (λ l. as' ++ every g l) c ∙ ap (λ l. l ++ []) a
-
--- A Boolean of two terms without conditions.
-two-kept : (o : Op2) (x y z u : Ex) (as' bs : List Ex) → as' ≡ [] → bs ≡ [] → z ≡ x → u ≡ y →
-    chained ((as' ++ (bs ++ [])) ++ []) (ex2 true o z u) ≡ ex2 true o x y
-two-kept o x y z u as' bs a b q r =
-    ap (λ l. chained l (ex2 true o z u)) (none-both as' bs a b) ∙ ap (λ v. ex2 true o v u) q ∙ ap (ex2 true o x) r
-
--- A word on a list without conditions.
-fold-kept : (f : Fun) (e e' : Ex) (gs gs' : Gens) (as' : List Ex) → as' ≡ [] → e' ≡ e → gs' ≡ gs →
-    chained ((as' ++ []) ++ []) (fun1 true f (comp_ex e' gs')) ≡ fun1 true f (comp_ex e gs)
-fold-kept f e e' gs gs' as' a q r =
-    ap (λ l. chained l (fun1 true f (comp_ex e' gs'))) (none-one as' a) ∙ ap (λ z. fun1 true f (comp_ex z gs')) q
-    ∙ ap (λ z. fun1 true f (comp_ex e z)) r
-
-both-kept : (b : Bool) (o : Op2) (x y x' y' : Ex) → x' ≡ x → y' ≡ y → ex2 b o x' y' ≡ ex2 b o x y
-both-kept b o x y x' y' q r = ap (λ z. ex2 b o z y') q ∙ ap (ex2 b o x) r
-
-range-kept : (a : Text) (x y x' y' : Ex) (gs gs' : Gens) → x' ≡ x → y' ≡ y → gs' ≡ gs →
-    over (name_pat a) (int_dom (both_ends ∷ []) (more_exs x' (more_exs y' no_exs))) gs'
-    ≡ over (name_pat a) (int_dom (both_ends ∷ []) (more_exs x (more_exs y no_exs))) gs
-range-kept a x y x' y' gs gs' q r w =
-    ap (λ z. over (name_pat a) (int_dom (both_ends ∷ []) (more_exs z (more_exs y' no_exs))) gs') q
-    ∙ ap (λ z. over (name_pat a) (int_dom (both_ends ∷ []) (more_exs x (more_exs z no_exs))) gs') r
-    ∙ ap (over (name_pat a) (int_dom (both_ends ∷ []) (more_exs x (more_exs y no_exs)))) w
-
-source-kept : (a : Text) (s s' : Ex) (gs gs' : Gens) → s' ≡ s → gs' ≡ gs → from (name_pat a) s' gs' ≡ from (name_pat a) s gs
-source-kept a s s' gs gs' q r = ap (λ z. from (name_pat a) z gs') q ∙ ap (from (name_pat a) s) r
+use Rattle.ess_setwise_laws.proofs.GuardLists.{none-both, none-one, none-range, none-source, both-kept, range-kept, source-kept}
+use Rattle.ess_setwise_laws.proofs.GuardedNodes.{two-guarded, one-guarded, compared-guarded, in-guarded, fold-guarded}
 
 module _ (names : Text → Option Kind) (Shown : Ex → Kind → Type 0) (cells : Text → Option (Bool × List ℕ))
-    (form : (e : Ex) (k : Kind) → Shown e k → Form cells e k) (p q : Text) where
+    (form : (e : Ex) (k : Kind) → Shown e k → Form cells e k) (natural : Bool) (p q : Text) where
   abbrev C : Names Bound → Ex → Bool → Type 0
   C = Setwise names Shown
 
   abbrev conds : Names Origin → Bool → Ex → List Ex
-  conds = conditions true p q
+  conds = conditions natural p q
 
   abbrev kept : Names Origin → Ex → Ex
-  kept = guarded true p q
+  kept = guarded natural p q
 
   -- A cell or a view has a value under no condition, and stays.
   form-none : {e : Ex} {i : Kind} → Form cells e i → (k : Names Origin) (w : Bool) → conds k w e ≡ []
@@ -160,102 +122,43 @@ module _ (names : Text → Option Kind) (Shown : Ex → Kind → Type 0) (cells 
 
     -- Generators neither, where what stands behind them needs none.
     none-gens : {r t : Names Bound} {gs : Gens} → Binding names Shown r gs t → (cs : List Ex) → cs ≡ [] → (k : Names Origin) →
-        conditions_gens true p q k gs cs ≡ []
+        conditions_gens natural p q k gs cs ≡ []
     none-gens at_end cs h k = h
     none-gens (over_truths {a = a} {gs = gs} w g) cs h k =
         ap (every (over (name_pat a) bool_dom no_gens)) (none-gens g cs h (with_over (name_pat a) bool_dom k))
     none-gens (over_numbers {a = a} {x = x} {y = y} {gs = gs} w f v g) cs h k =
         none-range (conds k false x) (conds k false y)
-        (conditions_gens true p q (with_over (name_pat a) (int_dom (both_ends ∷ []) (more_exs x (more_exs y no_exs))) k) gs cs)
+        (conditions_gens natural p q (with_over (name_pat a) (int_dom (both_ends ∷ []) (more_exs x (more_exs y no_exs))) k) gs cs)
         _ (no-conditions f k false) (no-conditions v k false)
         (none-gens g cs h (with_over (name_pat a) (int_dom (both_ends ∷ []) (more_exs x (more_exs y no_exs))) k))
     none-gens (among {a = a} {s = s} {gs = gs} w f g) cs h k =
-        none-source (conds k false s) (conditions_gens true p q (with_any (name_pat a) k) gs cs) _ (set-none f k false)
+        none-source (conds k false s) (conditions_gens natural p q (with_any (name_pat a) k) gs cs) _ (set-none f k false)
         (none-gens g cs h (with_any (name_pat a) k))
-    none-gens (where_holds {e = e} f g) cs h k = ap (given_that (guarded true p q k e)) (none-gens g cs h k)
-
-  two-guarded : {b m i : Bool} {o : Op2} (x y : Ex) → TwoOp b o m i → ((k : Names Origin) (w : Bool) → conds k w x ≡ []) →
-      ((k : Names Origin) (w : Bool) → conds k w y ≡ []) → (k : Names Origin) → kept k x ≡ x → kept k y ≡ y →
-      kept k (ex2 b o x y) ≡ ex2 b o x y
-  two-guarded x y both f h k c d = both-kept true Op2.And x y _ _ c d
-  two-guarded x y either f h k c d = both-kept true Op2.Or x y _ _ c d
-  two-guarded x y implied f h k c d = both-kept true Op2.Implies x y _ _ c d
-  two-guarded x y agreeing f h k c d = both-kept true Op2.Iff x y _ _ c d
-  two-guarded x y equal f h k c d =
-      two-kept Op2.Eq x y (kept k x) (kept k y) (conds k true x) (conds k true y) (f k true) (h k true) c d
-  two-guarded x y unequal f h k c d =
-      two-kept Op2.Ne x y (kept k x) (kept k y) (conds k true x) (conds k true y) (f k true) (h k true) c d
-  two-guarded x y below f h k c d =
-      two-kept Op2.Lt x y (kept k x) (kept k y) (conds k true x) (conds k true y) (f k true) (h k true) c d
-  two-guarded x y at_most f h k c d =
-      two-kept Op2.Le x y (kept k x) (kept k y) (conds k true x) (conds k true y) (f k true) (h k true) c d
-  two-guarded x y above f h k c d =
-      two-kept Op2.Gt x y (kept k x) (kept k y) (conds k true x) (conds k true y) (f k true) (h k true) c d
-  two-guarded x y at_least f h k c d =
-      two-kept Op2.Ge x y (kept k x) (kept k y) (conds k true x) (conds k true y) (f k true) (h k true) c d
-  two-guarded x y sum f h k c d = both-kept false Op2.Plus x y _ _ c d
-  two-guarded x y difference f h k c d = both-kept false Op2.Minus x y _ _ c d
-  two-guarded x y product f h k c d = both-kept false Op2.Times x y _ _ c d
-
-  one-guarded : {b m : Bool} {o : Op1} (x : Ex) → OneOp b o m → (k : Names Origin) → kept k x ≡ x → kept k (ex1 b o x) ≡ ex1 b o x
-  one-guarded x denied k c = ap (ex1 true Op1.Not) c
-  one-guarded x negative k c = ap (ex1 false Op1.Minus) c
-  one-guarded x absolute k c = ap (ex1 false Op1.Bar) c
-
-  -- A comparison of sets stays.
-  compared-guarded : {o : Op2} (x y : Ex) → Compares o → ((k : Names Origin) (w : Bool) → conds k w x ≡ []) →
-      ((k : Names Origin) (w : Bool) → conds k w y ≡ []) → (k : Names Origin) → kept k x ≡ x → kept k y ≡ y →
-      kept k (ex2 true o x y) ≡ ex2 true o x y
-  compared-guarded x y alike f h k c d =
-      two-kept Op2.Eq x y (kept k x) (kept k y) (conds k true x) (conds k true y) (f k true) (h k true) c d
-  compared-guarded x y apart f h k c d =
-      two-kept Op2.Ne x y (kept k x) (kept k y) (conds k true x) (conds k true y) (f k true) (h k true) c d
-  compared-guarded x y included f h k c d =
-      two-kept Op2.SubsetEq x y (kept k x) (kept k y) (conds k false x) (conds k false y) (f k false) (h k false) c d
-  compared-guarded x y properly_included f h k c d =
-      two-kept Op2.Subset x y (kept k x) (kept k y) (conds k false x) (conds k false y) (f k false) (h k false) c d
-  compared-guarded x y including f h k c d =
-      two-kept Op2.SupsetEq x y (kept k x) (kept k y) (conds k false x) (conds k false y) (f k false) (h k false) c d
-  compared-guarded x y properly_including f h k c d =
-      two-kept Op2.Supset x y (kept k x) (kept k y) (conds k false x) (conds k false y) (f k false) (h k false) c d
-
-  -- A membership in a set does.
-  in-guarded : (x y : Ex) → ((k : Names Origin) (w : Bool) → conds k w x ≡ []) → ((k : Names Origin) (w : Bool) → conds k w y ≡ []) →
-      (k : Names Origin) → kept k x ≡ x → kept k y ≡ y → kept k (ex2 true Op2.Member x y) ≡ ex2 true Op2.Member x y
-  in-guarded x y f h k c d =
-      two-kept Op2.Member x y (kept k x) (kept k y) (conds k false x) (conds k false y) (f k false) (h k false) c d
-
-  fold-guarded : {m : Bool} {f : Fun} (e : Ex) (gs : Gens) → FoldWord m f → (k : Names Origin) → conds k false (comp_ex e gs) ≡ [] →
-      kept (known_behind gs k) e ≡ e → guarded_gens true p q k gs ≡ gs → kept k (fun1 m f (comp_ex e gs)) ≡ fun1 m f (comp_ex e gs)
-  fold-guarded e gs of_all k n c d =
-      fold-kept Fun.And e (kept (known_behind gs k) e) gs (guarded_gens true p q k gs) (conds k false (comp_ex e gs)) n c d
-  fold-guarded e gs of_some k n c d =
-      fold-kept Fun.Or e (kept (known_behind gs k) e) gs (guarded_gens true p q k gs) (conds k false (comp_ex e gs)) n c d
-  fold-guarded e gs of_sum k n c d =
-      ap (λ z. fun1 false Fun.Sum (comp_ex z (guarded_gens true p q k gs))) c ∙ ap (λ z. fun1 false Fun.Sum (comp_ex e z)) d
+    none-gens (where_holds {e = e} f g) cs h k = ap (given_that (guarded natural p q k e)) (none-gens g cs h k)
 
   mutual
     -- So it stays as it is.
-    pub guarded-setwise : {r : Names Bound} {e : Ex} {m : Bool} → C r e m → (k : Names Origin) → guarded true p q k e ≡ e
+    pub guarded-setwise : {r : Names Bound} {e : Ex} {m : Bool} → C r e m → (k : Names Origin) → guarded natural p q k e ≡ e
     guarded-setwise number k = refl
     guarded-setwise truth k = refl
     guarded-setwise (scalar h) k = at-kept h k
-    guarded-setwise (one {x = x} s f) k = one-guarded x s k (guarded-setwise f k)
+    guarded-setwise (one {x = x} s f) k = one-guarded p q natural x s k (guarded-setwise f k)
     guarded-setwise (two {x = x} {y = y} s f h) k =
-        two-guarded x y s (no-conditions f) (no-conditions h) k (guarded-setwise f k) (guarded-setwise h k)
+        two-guarded p q natural x y s (no-conditions f) (no-conditions h) k (guarded-setwise f k) (guarded-setwise h k)
     guarded-setwise (chosen f) k = ap (fun1 false Fun.ToInt) (guarded-setwise f k)
     guarded-setwise (folded {e = e} {gs = gs} w g f) k =
-        fold-guarded e gs w k (none-gens g (conds (known_behind gs k) false e) (no-conditions f (known_behind gs k) false) k)
+        fold-guarded p q natural e gs w k (none-gens g (conds (known_behind gs k) false e) (no-conditions f (known_behind gs k) false) k)
         (guarded-setwise f (known_behind gs k)) (guarded-binding g k)
     guarded-setwise (size h) k = ap (ex1 false Op1.Bar) (set-kept h k)
     guarded-setwise (within {x = x} {s = s} f h) k =
-        in-guarded x s (no-conditions f) (set-none h) k (guarded-setwise f k) (set-kept h k)
-    guarded-setwise (set_within {a = x} {s = s} f h) k = in-guarded x s (set-none f) (set-none h) k (set-kept f k) (set-kept h k)
+        in-guarded p q natural x s (no-conditions f) (set-none h) k (guarded-setwise f k) (set-kept h k)
+    guarded-setwise (set_within {a = x} {s = s} f h) k =
+        in-guarded p q natural x s (set-none f) (set-none h) k (set-kept f k) (set-kept h k)
     guarded-setwise (compared {s = x} {t = y} c f h) k =
-        compared-guarded x y c (set-none f) (set-none h) k (set-kept f k) (set-kept h k)
+        compared-guarded p q natural x y c (set-none f) (set-none h) k (set-kept f k) (set-kept h k)
 
     guarded-binding : {r t : Names Bound} {gs : Gens} → Binding names Shown r gs t → (k : Names Origin) →
-        guarded_gens true p q k gs ≡ gs
+        guarded_gens natural p q k gs ≡ gs
     guarded-binding at_end k = refl
     guarded-binding (over_truths {a = a} w g) k = ap (over (name_pat a) bool_dom) (guarded-binding g (with_over (name_pat a) bool_dom k))
     guarded-binding (over_numbers {a = a} {x = x} {y = y} {gs = gs} w f h g) k =
@@ -264,4 +167,4 @@ module _ (names : Text → Option Kind) (Shown : Ex → Kind → Type 0) (cells 
     guarded-binding (among {a = a} {s = s} {gs = gs} w h g) k =
         source-kept a s (kept k s) gs _ (set-kept h k) (guarded-binding g (with_any (name_pat a) k))
     guarded-binding (where_holds {e = e} {gs = gs} f g) k =
-        ap (λ z. cond z (guarded_gens true p q k gs)) (guarded-setwise f k) ∙ ap (cond e) (guarded-binding g k)
+        ap (λ z. cond z (guarded_gens natural p q k gs)) (guarded-setwise f k) ∙ ap (cond e) (guarded-binding g k)

@@ -2,10 +2,10 @@
 use Rattle.std.proofs.Common.{◌≡◌, refl, sym, ap, ◌∙◌, subst, ℕ, ◌+◌, ◌≤◌, ◌<◌, ◌^◌, Bool, true, false, List, [], ℤ, Option, Some, None, arith}
 use Rattle.std.specs.List.{list_all}
 use Rattle.ess_semantics.specs.Lists.{or_default}
-use Rattle.ess_semantics.specs.Values.{Text, Value}
+use Rattle.ess_semantics.specs.Values.{Text, Value, number}
 use Rattle.ess_semantics.specs.Order.{same_text}
 use Rattle.ess_semantics.specs.Names.{look}
-use Rattle.ess_semantics.specs.Trees.{Ex, name_ex, seen_ex, no_exs, set_dom}
+use Rattle.ess_semantics.specs.Trees.{Ex, truth_ex, name_ex, seen_ex, no_exs, set_dom}
 use Rattle.ess_semantics.specs.Scoped.{Scoped}
 use Rattle.ess_semantics.specs.Meaning.{Env, meaning}
 use Rattle.ess_semantics.specs.Meets.{Meets}
@@ -14,14 +14,17 @@ use Rattle.ess_rules_laws.proofs.Simulation.{Vals, E}
 use Rattle.ess_values_along_laws.specs.Valued.{Valued}
 use Rattle.conjure_model_laws.specs.ToldApart.{reserved, told}
 use Rattle.conjure_model_laws.specs.Shown.{Shows, in_place}
-use Rattle.conjure_model_laws.specs.IsBuiltFrom.{tree_of, constraint_tree}
+use Rattle.conjure_model_laws.specs.IsBuiltFrom.{tree_of, constraint_tree, condition_tree, objective_tree}
 use Rattle.conjure_model_laws.specs.Printed.{binders}
 use Rattle.conjure_model_laws.proofs.ToldLaws.{reserved-differ}
 use Rattle.ess_depth_laws.specs.Below.{HasNamesBelow}
-use Rattle.ess_ranged_laws.specs.Laws.{HasMark, HoldsNames, none}
+use Rattle.ess_guard_laws.specs.Conditions.{all_of}
+use Rattle.ess_ranged_laws.specs.Ranged.{is_mark}
+use Rattle.ess_ranged_laws.specs.Laws.{HasMark, a_number, HoldsNames, none}
 use Rattle.ess_seen_laws.specs.Seen.{Kind, scalars, sets_of, Seen}
 use Rattle.ess_setwise_laws.specs.Setwise.{marked_or_set, free_kind, setwise_mark}
 use Rattle.ess_setwise_laws.specs.Laws.{IsSetView, ShowsSets, HoldsSets, HoldsScalars, MeetsSets, SpellsSets, IsSeenOverTables, SetwiseTreesAreSeen}
+use Rattle.ess_setwise_laws.specs.Objectives.{IsNumberOverTables, SetwiseNumbersAreThere}
 use Rattle.ess_setwise_laws.proofs.SetwiseTrees.{Setwise, NoneShown, no_kind, Form, a_cell, a_view, IsPlace, in_first, in_last, ShownFor, ShowsAll}
 use Rattle.ess_setwise_laws.proofs.Tested.{tested-mark}
 use Rattle.ess_setwise_laws.proofs.ShownForms.{HasKind, cell-met, cell-spelled, form-still, form-met, view-value}
@@ -30,7 +33,7 @@ use Rattle.ess_setwise_laws.proofs.ToldSets.{SpellsShown}
 use Rattle.ess_setwise_laws.proofs.ToldSetwise.{Made, told-setwise}
 use Rattle.ess_setwise_laws.proofs.ToldCounted.{told-next}
 use Rattle.ess_setwise_laws.proofs.ToldMeans.{told-means}
-use Rattle.ess_setwise_laws.proofs.SetwiseGuard.{guarded-setwise}
+use Rattle.ess_setwise_laws.proofs.SetwiseGuard.{no-conditions, guarded-setwise}
 use Rattle.ess_setwise_laws.proofs.SetwiseSeen.{setwise-seen, setwise-scoped}
 use Rattle.ess_setwise_laws.proofs.SetwiseMet.{setwise-met}
 use Rattle.ess_setwise_laws.proofs.SetwiseValues.{setwise-answer}
@@ -146,7 +149,7 @@ module _ (sh : Shows) (marks : Text → Option Bool) (sets : Text → Option Kin
 
     -- It needs no conditions.
     is-tree : constraint_tree sh e ≡ T
-    is-tree = guarded-setwise no_kind Shown cells form-of (reserved 0) (reserved 1) made.tree []
+    is-tree = guarded-setwise no_kind Shown cells form-of true (reserved 0) (reserved 1) made.tree []
 
     names-mean : (env there : Env) → HoldsNames sh marks env there → HoldsSets sh sets env there → meaning T there ≡ meaning e env
     names-mean env there v s =
@@ -181,6 +184,38 @@ module _ (sh : Shows) (marks : Text → Option Bool) (sets : Text → Option Kin
       valued = λ env s v. subst (λ z. Valued false z env) (sym is-tree) (has-values env s v);
     }
 
+    -- As an objective it needs none either.
+    is-objective : objective_tree sh e ≡ T
+    is-objective = guarded-setwise no_kind Shown cells form-of false (reserved 0) (reserved 1) made.tree []
+
+    no-condition : condition_tree sh e ≡ truth_ex true
+    no-condition = ap all_of (no-conditions no_kind Shown cells form-of false (reserved 0) (reserved 1) made.tree [] false)
+
+    has-value : (env there : Env) → HoldsNames sh marks env there → HoldsSets sh sets env there → HoldsScalars sh marks there →
+        MeetsSets sh sets there → (v : Value) × HasMark m v × (meaning e env ≡ Some v)
+    has-value env there n h s v =
+        let a = setwise-answer Shown cells form-of there.positions there.types there.cells (shown-value there s v) made.tree there.vals
+        (λ a k q. cc) in (a.value, a.kind, sym (names-mean env there n h) ∙ a.is)
+
+  pub is-number : (e : Ex) → setwise_mark marks sets e ≡ Some false → sh.next + binders e ≤ 2 ^ 64 → IsNumberOverTables sh marks sets e
+  is-number e h few = record {
+    tree = is-objective e false h few ∙ sym (is-tree e false h few);
+    condition = no-condition e false h few;
+    there = λ env there n h' s v. let z = has-value e false h few env there n h' s v in at env z.0 z.1 z.2;
+  }
+    where
+      at : (env : Env) (v : Value) → HasMark false v → meaning e env ≡ Some v → (n : ℤ) × (meaning e env ≡ Some (number n))
+      at env v (a_number {k = k}) q = (k, q)
+
 -- So it is of each one.
 pub setwise-trees-are-seen : SetwiseTreesAreSeen
 setwise-trees-are-seen sh marks sets cells w e m h few = is-seen sh marks sets cells w e m h few
+
+false-is : (o : Option Bool) → is_mark false o ≡ true → o ≡ Some false
+false-is (Some true) q = cc
+false-is (Some false) q = refl
+false-is None q = cc
+
+-- And of each number.
+pub setwise-numbers-are-there : SetwiseNumbersAreThere
+setwise-numbers-are-there sh marks sets cells w e t few = is-number sh marks sets cells w e (false-is (setwise_mark marks sets e) t) few

@@ -136,3 +136,7 @@ setwise_mark marks sets e = mark_of_kind (setwise_kind (free_kind marks sets) []
 -- Whether it is a truth value of the class.
 abbrev pub is_setwise_truth : (Text → Option Bool) → (Text → Option Kind) → Ex → Bool
 is_setwise_truth marks sets e = is_mark true (setwise_mark marks sets e)
+
+-- Whether it is a number of the class, as objectives are.
+abbrev pub is_setwise_number : (Text → Option Bool) → (Text → Option Kind) → Ex → Bool
+is_setwise_number marks sets e = is_mark false (setwise_mark marks sets e)
