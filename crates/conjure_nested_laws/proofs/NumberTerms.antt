@@ -15,7 +15,8 @@ use Rattle.ess_kind_rules_laws.specs.KindRules.{KindRule, kind_rewrite, cell_of_
 use Rattle.ess_open_rules_laws.specs.OpenRules.{OpenRule, open_rewrite, step_by_step, of_a_pick, is_compound_ty, gives_scalar, over_a_pick, first_picked as first_pick}
 use Rattle.ess_gathered_laws.specs.GatheredConditions.{conditions_gathered}
 use Rattle.ess_ordered_laws.specs.NumberedItems.{ordered_lookup}
-use Rattle.ess_ordered_laws.specs.OrderedRules.{OrderedRule, an_item, of_an_item, source_by_indices, over_operand, at_operand, ordered_rewrite}
+use Rattle.ess_ordered_laws.specs.PickedSources.{picked_source}
+use Rattle.ess_ordered_laws.specs.OrderedRules.{OrderedRule, an_item, of_an_item, source_by_indices, keeps_order, operand_lookup, over_operand, at_operand, ordered_rewrite}
 
 -- A term of numerals.
 pub data OfNumerals : Ex → Type 0 where
@@ -67,11 +68,11 @@ mutual
 
 -- ---- rules
 
-either-way : (b : Bool) (o : Option Ex) → o ≡ None → (if b then o else None) ≡ None
+either-way : {A : Type 0} (b : Bool) (o : Option A) → o ≡ None → (if b then o else None) ≡ None
 either-way true o p = p
 either-way false o p = refl
 
-neither : (o p : Option Ex) → o ≡ None → p ≡ None → or_else o p ≡ None
+neither : {A : Type 0} (o p : Option A) → o ≡ None → p ≡ None → or_else o p ≡ None
 neither o p a b = ap (λ x. or_else x p) a ∙ b
 
 module _ (s : Supply) (g : Names Ty) where
@@ -135,9 +136,20 @@ module _ (s : Supply) (g : Names Ty) where
   no-lookup (less w v) z (y ∷ ys) = refl
   no-lookup (power w v) z (y ∷ ys) = refl
 
+  -- Nor is there a comprehension over what is picked.
+  no-comp : {e : Ex} → OfNumerals e → picked_source s g e ≡ None
+  no-comp digits = refl
+  no-comp (plus w v) = refl
+  no-comp (less w v) = refl
+  no-comp (power w v) = refl
+
+  none-looked : (e : Ex) {t : Ex} → OfNumerals t → operand_lookup s g e t ≡ None
+  none-looked e {t} w = neither (ordered_lookup s.third s.parts t) (if keeps_order e then picked_source s g t else None)
+      (no-lookup w s.third s.parts) (either-way (keeps_order e) (picked_source s g t) (no-comp w))
+
   no-operand : (k : ℕ) (e : Ex) {t : Ex} → OfNumerals t → over_operand s g k e t ≡ None
   no-operand k e {t} w = ap (λ o. and_then o
-      (λ l. if gives_scalar g e && is_compound_ty (type_of t g) then select_each s.one k l e else None)) (no-lookup w s.third s.parts)
+      (λ l. if gives_scalar g e && is_compound_ty (type_of t g) then select_each s.one k l e else None)) (none-looked e w)
 
   no-operands : (o : Op2) (x y : Ex) → OfNumerals x → OfNumerals y → ordered_rewrite s g of_an_item (ex2 false o x y) ≡ None
   no-operands o x y w v =

@@ -13,9 +13,13 @@ use Rattle.ess_open_rules_laws.specs.OpenGenerators.{put_before}
 use Rattle.ess_open_rules_laws.specs.OpenRules.{gives_scalar, is_compound_ty}
 use Rattle.ess_ordered_laws.specs.NumberedItems.{ordered_lookup}
 use Rattle.ess_ordered_laws.specs.IndexedSources.{indexed_source}
-use Rattle.ess_ordered_laws.specs.OrderedRules.{OrderedRule, an_item, of_an_item, source_by_indices, over_operand, at_operand, ordered_rewrite}
-use Rattle.ess_bare_laws.specs.Bare.{Bare, number, truth, named, cell, one, two, power, chosen, folded, added, ordered, Row, row, Ranging}
-use Rattle.ess_bare_laws.proofs.Picks.{none-open}
+use Rattle.ess_ordered_laws.specs.PickedSources.{picked_source}
+use Rattle.ess_ordered_laws.specs.OrderedRules.{OrderedRule, an_item, of_an_item, source_by_indices, keeps_order, operand_lookup, over_operand, at_operand, ordered_rewrite}
+use Rattle.ess_bare_laws.specs.Bare.{Bare, number, truth, named, cell, one, two, power, chosen, folded, added, ordered, Row, row, Ranging, at_end, through, where_holds}
+use Rattle.ess_bare_laws.proofs.Picks.{either-way, none-open, axes-ranging}
+
+neither : {A : Type 0} (o p : Option A) → o ≡ None → p ≡ None → or_else o p ≡ None
+neither o p a b = ap (λ x. or_else x p) a ∙ b
 
 module _ (cells : Text → Option (Bool × ℕ)) (s : Supply) (g : Names Ty) (r : Names Bool) where
   abbrev F : Ex → Bool → Type 0
@@ -40,18 +44,39 @@ module _ (cells : Text → Option (Bool × ℕ)) (s : Supply) (g : Names Ty) (r 
   list-lookup e gs z [] = refl
   list-lookup e gs z (y ∷ ys) = refl
 
-  row-lookup : {e : Ex} {m : Bool} → Row cells r e m → (z : Text) (ys : List Text) → ordered_lookup z ys e ≡ None
-  row-lookup (row {e = e} {gs = gs} k f) z ys = list-lookup e gs z ys
+  -- Nor is there a comprehension over what is picked.
+  no-comp : {e : Ex} {m : Bool} → F e m → picked_source s g e ≡ None
+  no-comp number = refl
+  no-comp f = refl
+
+  list-comp : (e : Ex) {t : Names Bool} {gs : Gens} → Ranging cells r gs t → picked_source s g (comp_ex e gs) ≡ None
+  list-comp e at_end = refl
+  list-comp e (through n k) = refl
+  list-comp e (where_holds f k) = refl
+
+  -- So an operand offers nothing, whatever the root is.
+  abbrev NoOffer : Ex → Type 0
+  NoOffer t = (e : Ex) → operand_lookup s g e t ≡ None
+
+  none-offered : (t : Ex) → ordered_lookup s.third s.parts t ≡ None → picked_source s g t ≡ None → NoOffer t
+  none-offered t q p e = neither (ordered_lookup s.third s.parts t) (if keeps_order e then picked_source s g t else None) q
+      (either-way (keeps_order e) (picked_source s g t) p)
+
+  none-looked : {t : Ex} {m : Bool} → F t m → NoOffer t
+  none-looked {t} f = none-offered t (no-lookup f s.third s.parts) (no-comp f)
+
+  list-looked : (x : Ex) {t : Names Bool} {gs : Gens} → Ranging cells r gs t → NoOffer (comp_ex x gs)
+  list-looked x {gs = gs} k = none-offered (comp_ex x gs) (list-lookup x gs s.third s.parts) (list-comp x k)
+
+  row-looked : {x : Ex} {m : Bool} → Row cells r x m → NoOffer x
+  row-looked (row {e = x} k f) = list-looked x (axes-ranging cells k)
 
   alone : (e : Ex) → ordered_lookup s.third s.parts e ≡ None → ordered_rewrite s g an_item e ≡ None
   alone e q = ap (λ o. and_then o (λ l. if gives_scalar g e then select_whole_each s.one l e else None)) q
 
-  operand : (k : ℕ) (e t : Ex) → ordered_lookup s.third s.parts t ≡ None → over_operand s g k e t ≡ None
+  operand : (k : ℕ) (e t : Ex) → NoOffer t → over_operand s g k e t ≡ None
   operand k e t q = ap (λ o. and_then o
-      (λ l. if gives_scalar g e && is_compound_ty (type_of t g) then select_each s.one k l e else None)) q
-
-  neither : (o p : Option Ex) → o ≡ None → p ≡ None → or_else o p ≡ None
-  neither o p a b = ap (λ x. or_else x p) a ∙ b
+      (λ l. if gives_scalar g e && is_compound_ty (type_of t g) then select_each s.one k l e else None)) (q e)
 
   no-operands : {e : Ex} {m : Bool} → F e m → ordered_rewrite s g of_an_item e ≡ None
   no-operands number = refl
@@ -59,19 +84,19 @@ module _ (cells : Text → Option (Bool × ℕ)) (s : Supply) (g : Names Ty) (r 
   no-operands (named h) = refl
   no-operands (cell h i) = refl
   no-operands {e} (one {x = x} o f) = neither (at_operand s g 1 e) (at_operand s g 2 e)
-      (operand 1 e x (no-lookup f s.third s.parts)) refl
+      (operand 1 e x (none-looked f)) refl
   no-operands {e} (two {x = x} {y = y} o f h) = neither (at_operand s g 1 e) (at_operand s g 2 e)
-      (operand 1 e x (no-lookup f s.third s.parts)) (operand 2 e y (no-lookup h s.third s.parts))
+      (operand 1 e x (none-looked f)) (operand 2 e y (none-looked h))
   no-operands {e} (power {x = x} {y = y} f h) = neither (at_operand s g 1 e) (at_operand s g 2 e)
-      (operand 1 e x (no-lookup f s.third s.parts)) (operand 2 e y (no-lookup h s.third s.parts))
+      (operand 1 e x (none-looked f)) (operand 2 e y (none-looked h))
   no-operands {e} (chosen {x = x} f) = neither (at_operand s g 1 e) (at_operand s g 2 e)
-      (operand 1 e x (no-lookup f s.third s.parts)) refl
+      (operand 1 e x (none-looked f)) refl
   no-operands {e} (folded {e = x} {gs = gs} w k f) = neither (at_operand s g 1 e) (at_operand s g 2 e)
-      (operand 1 e (comp_ex x gs) (list-lookup x gs s.third s.parts)) refl
+      (operand 1 e (comp_ex x gs) (list-looked x k)) refl
   no-operands {e} (added {e = x} {gs = gs} k f) = neither (at_operand s g 1 e) (at_operand s g 2 e)
-      (operand 1 e (comp_ex x gs) (list-lookup x gs s.third s.parts)) refl
+      (operand 1 e (comp_ex x gs) (list-looked x (axes-ranging cells k))) refl
   no-operands {e} (ordered {x = x} {y = y} w f h) = neither (at_operand s g 1 e) (at_operand s g 2 e)
-      (operand 1 e x (row-lookup f s.third s.parts)) (operand 2 e y (row-lookup h s.third s.parts))
+      (operand 1 e x (row-looked f)) (operand 2 e y (row-looked h))
 
   no-source : {e : Ex} {m : Bool} → F e m → ordered_rewrite s g source_by_indices e ≡ None
   no-source number = refl

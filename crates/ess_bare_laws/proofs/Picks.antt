@@ -23,7 +23,7 @@ PickNothing no_exs = Unit {0}
 PickNothing (more_exs e es) = (picks e ≡ false) × PickNothing es
 
 -- An answer that isn't there either way.
-pub either-way : (b : Bool) (o : Option Ex) → o ≡ None → (if b then o else None) ≡ None
+pub either-way : {A : Type 0} (b : Bool) (o : Option A) → o ≡ None → (if b then o else None) ≡ None
 either-way true o p = p
 either-way false o p = refl
 

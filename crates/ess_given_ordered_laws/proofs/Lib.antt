@@ -3,7 +3,15 @@ pub mod PartsOfGathering
 -- Items by their numbers
 pub mod PartsOfItems
 pub mod OrderOfItems
+-- The rules of items, and of comprehensions over what is picked
+pub mod PartsOfOperands
+pub mod OrderOfOperands
+-- New names, and what operands offer
+pub mod NamesGiven
+pub mod TermsGiven
 -- Sources by their indices
 pub mod IndexedGiven
+-- Worked examples
+pub mod ExamplesOrderedNames
 -- All of it
 pub mod OrderedStays

@@ -7,29 +7,23 @@ use Rattle.ess_semantics.specs.Trees.{Ex}
 use Rattle.ess_semantics.specs.Types.{Ty}
 use Rattle.ess_refine_laws.specs.AllRules.{Supply}
 use Rattle.ess_gathered_laws.specs.GatheredConditions.{conditions_gathered}
-use Rattle.ess_ordered_laws.specs.OrderedRules.{OrderedRule, an_item, of_an_item, source_by_indices, ordered_rewrite}
+use Rattle.ess_ordered_laws.specs.OrderedRules.{OrderedRule, ordered_rewrite}
 use Rattle.ess_given_laws.specs.Given.{is_fixed, GivenIn}
 use Rattle.ess_given_order_laws.specs.InOrder.{in_order, Ordered}
-use Rattle.ess_given_opened_laws.specs.OpenedStays.{AllAs}
-
--- Which of the names that a rule takes belong to u: all where the root is fixed, else none; an index belongs to u, since it is bound over a
--- domain.
-abbrev pub NewOrdered : (Text → Bool) → Supply → OrderedRule → Ex → Type 0
-NewOrdered u s an_item e = AllAs u (is_fixed u e) s
-NewOrdered u s of_an_item e = AllAs u (is_fixed u e) s
-NewOrdered u s source_by_indices e = u s.one ≡ true
+use Rattle.ess_given_offers_laws.specs.Seen.{Counts}
+use Rattle.ess_given_ordered_laws.specs.OrderedNames.{NewOrdered}
 
 -- So each of these rules keeps what is given, and what is fixed; comprehensions where order counts stay in order, and so does one that
--- stands where order counts itself.
+-- stands where order counts itself. The lookup of what a comprehension runs over may count the members of domains.
 pub record OrderedStays : Type 0 where
-  pub given : (u : Text → Bool) (s : Supply) (g : Names Ty) (r : OrderedRule) (e f : Ex) → ordered_rewrite s g r e ≡ Some f →
-      NewOrdered u s r e → GivenIn u e → GivenIn u f
-  pub fixed : (u : Text → Bool) (s : Supply) (g : Names Ty) (r : OrderedRule) (e f : Ex) → ordered_rewrite s g r e ≡ Some f →
-      NewOrdered u s r e → is_fixed u e ≡ true → is_fixed u f ≡ true
+  pub given : (u : Text → Bool) (s : Supply) (g : Names Ty) (r : OrderedRule) (e f : Ex) → ordered_rewrite s g r e ≡ Some f → Counts u →
+      NewOrdered u s g r e → GivenIn u e → GivenIn u f
+  pub fixed : (u : Text → Bool) (s : Supply) (g : Names Ty) (r : OrderedRule) (e f : Ex) → ordered_rewrite s g r e ≡ Some f → Counts u →
+      NewOrdered u s g r e → is_fixed u e ≡ true → is_fixed u f ≡ true
   pub ordered : (u : Text → Bool) (s : Supply) (g : Names Ty) (r : OrderedRule) (e f : Ex) → ordered_rewrite s g r e ≡ Some f →
-      NewOrdered u s r e → Ordered u e → Ordered u f
+      NewOrdered u s g r e → Ordered u e → Ordered u f
   pub in_its_place : (u : Text → Bool) (s : Supply) (g : Names Ty) (r : OrderedRule) (e f : Ex) → ordered_rewrite s g r e ≡ Some f →
-      NewOrdered u s r e → Ordered u e → in_order u e ≡ true → in_order u f ≡ true
+      NewOrdered u s g r e → Ordered u e → in_order u e ≡ true → in_order u f ≡ true
 
 -- The rule that gathers conditions takes no names.
 pub record GatheringStays : Type 0 where

@@ -41,8 +41,8 @@ each-rule u s g gathering a b q c t = record {
   in_its_place = λ i h p. gathering-stays.in_its_place u a b q h;
 }
 each-rule u s g (by_order r) a b q c t = record {
-  given = λ h. ordered-stays.given u s g r a b q t h;
-  fixed = λ h. ordered-stays.fixed u s g r a b q t h;
+  given = λ h. ordered-stays.given u s g r a b q c t h;
+  fixed = λ h. ordered-stays.fixed u s g r a b q c t h;
   ordered = λ i h. ordered-stays.ordered u s g r a b q t h;
   in_its_place = λ i h p. ordered-stays.in_its_place u s g r a b q t h p;
 }

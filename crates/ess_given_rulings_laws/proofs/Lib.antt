@@ -3,6 +3,7 @@ pub mod GivenRulings
 -- Reserved names by their roles
 pub mod Roles
 pub mod NamesServe
+pub mod OrderedRoles
 -- Steps, and chains of them
 pub mod RulingSteps
 pub mod RulingChains

@@ -18,7 +18,7 @@ use Rattle.ess_open_rules_laws.specs.OpenRules.{OpenRule, over_one_source, over_
 use Rattle.ess_given_laws.specs.Given.{is_fixed}
 use Rattle.ess_given_conditions_laws.proofs.Assigned.{Assigned}
 use Rattle.ess_given_opened_laws.specs.OpenedStays.{EachAs, OutsideAlong}
-use Rattle.ess_given_rulings_laws.specs.OpeningSteps.{OfEither, NamesAlong}
+use Rattle.ess_given_ordered_laws.specs.OrderedNames.{OfEither, NamesAlong}
 
 -- ---- lists of truth values
 
@@ -39,7 +39,7 @@ outs (suc k) e = false ∷ elim (picked_within e) [
   | Some t ↦ outs k t
 ]
 
-outs-length : (k : ℕ) (e : Ex) → length (outs k e) ≡ k
+pub outs-length : (k : ℕ) (e : Ex) → length (outs k e) ≡ k
 outs-length zero e = refl
 outs-length (suc k) e = ap suc (go (picked_within e) (λ t. outs-length k t))
   where

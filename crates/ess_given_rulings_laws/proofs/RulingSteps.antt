@@ -13,7 +13,7 @@ use Rattle.ess_chain_names_laws.specs.Steps.{supply_at}
 use Rattle.ess_open_rules_laws.specs.OpenGenerators.{Opened, at_first_open}
 use Rattle.ess_open_rules_laws.specs.OpenRules.{OpenRule, in_order_of_its_source, open_rewrite}
 use Rattle.ess_gathered_laws.specs.GatheredConditions.{conditions_gathered}
-use Rattle.ess_ordered_laws.specs.OrderedRules.{OrderedRule, an_item, of_an_item, source_by_indices, ordered_rewrite}
+use Rattle.ess_ordered_laws.specs.OrderedRules.{OrderedRule, ordered_rewrite}
 use Rattle.ess_given_laws.specs.PartsHave.{GensHave}
 use Rattle.ess_given_laws.specs.Given.{is_fixed, are_fixed_gens, GivenIn}
 use Rattle.ess_given_laws.specs.GivenStays.{TakesGiven, NewGiven}
@@ -32,12 +32,13 @@ use Rattle.ess_given_kind_steps_laws.specs.GivenKindSteps.{StepOrders}
 use Rattle.ess_given_opened_laws.specs.OpenedStays.{NewOpened}
 use Rattle.ess_given_opened_laws.proofs.OpenedOrder.{opened-stays}
 use Rattle.ess_given_opened_laws.proofs.PartsOfOpenings.{OpenedHas, opened-has}
-use Rattle.ess_given_ordered_laws.specs.OrderedStays.{NewOrdered}
+use Rattle.ess_given_ordered_laws.specs.OrderedNames.{NewOrdered}
 use Rattle.ess_given_ordered_laws.proofs.OrderedStays.{ordered-stays, gathering-stays}
 use Rattle.ess_given_rulings_laws.specs.OpeningSteps.{PickKept, PicksKept}
 use Rattle.ess_given_rulings_laws.specs.RulingChains.{BothCountFixed}
-use Rattle.ess_given_rulings_laws.proofs.Roles.{same, same-length, Roles, role_list, all_alike, roles_of, roles-number, all-names, NamesAs, names-as}
-use Rattle.ess_given_rulings_laws.proofs.NamesServe.{fixed-alike, root-as, names-serve}
+use Rattle.ess_given_rulings_laws.proofs.Roles.{same, same-length, Roles, role_list, roles_of, roles-number, all-names, NamesAs, names-as}
+use Rattle.ess_given_rulings_laws.proofs.NamesServe.{fixed-alike, names-serve}
+use Rattle.ess_given_rulings_laws.proofs.OrderedRoles.{ordered_roles, ordered-number, ordered-serve}
 
 fits : (n k l m : ℕ) → l ≡ k → n + 3 + k ≤ m → n + suc (suc (suc l)) ≤ m
 fits n k l m q h = omega (arith, q, h)
@@ -104,38 +105,29 @@ module _ (z w : Text → Bool) (n k m : ℕ) (g : Names Ty) (d : n + 3 + k ≤ m
 
   -- ---- items that have an order
 
-  abbrev ordered-roles : OrderedRule → Ex → Roles
-  ordered-roles an_item a = all_alike (is_fixed z a) k
-  ordered-roles of_an_item a = all_alike (is_fixed z a) k
-  ordered-roles source_by_indices a = all_alike true k
-
-  ordered-number : (r : OrderedRule) (a : Ex) → length (ordered-roles r a).parts ≡ k
-  ordered-number an_item a = same-length (is_fixed z a) k
-  ordered-number of_an_item a = same-length (is_fixed z a) k
-  ordered-number source_by_indices a = same-length true k
-
   pub ordered-orders : (r : OrderedRule) (a b : Ex) → ordered_rewrite s g r a ≡ Some b → is_fixed w a ≡ true → StepOrders n m z a b
   ordered-orders r a b f q = record {
     names = v;
     grow = t.grow;
     keep = record {
-      given = λ h. ordered-stays.given v s g r a b f (new r t.roles) h;
-      fixed = λ h. ordered-stays.fixed v s g r a b f (new r t.roles) h;
+      given = λ h. ordered-stays.given v s g r a b f counts new h;
+      fixed = λ h. ordered-stays.fixed v s g r a b f counts new h;
     };
-    order = λ i h. ordered-stays.ordered v s g r a b f (new r t.roles) h;
-    place = λ i h j. ordered-stays.in_its_place v s g r a b f (new r t.roles) h j;
+    order = λ i h. ordered-stays.ordered v s g r a b f new h;
+    place = λ i h j. ordered-stays.in_its_place v s g r a b f new h j;
   }
     where
-      t : NamesGrown z w n k m (ordered-roles r a)
-      t = given-names z w n k m (ordered-roles r a) (ordered-number r a) d l y x
+      t : NamesGrown z w n k m (ordered_roles z s k g r a)
+      t = given-names z w n k m (ordered_roles z s k g r a) (ordered-number z s k g r a) d l y x
 
       v : Text → Bool
       v = t.names
 
-      new : (r : OrderedRule) → NamesAs v n k (ordered-roles r a) → NewOrdered v s r a
-      new an_item h = root-as z v w t.grow.more t.alike n k a q h
-      new of_an_item h = root-as z v w t.grow.more t.alike n k a q h
-      new source_by_indices h = h.one
+      counts : Counts v
+      counts = t.grow.more unused_name c
+
+      new : NewOrdered v s g r a
+      new = ordered-serve z v w t.grow.more t.alike n k g r a q t.roles
 
   -- ---- matrices over index domains
 

@@ -16,7 +16,7 @@ use Rattle.ess_given_order_laws.specs.OrderStays.{TakesOrder}
 use Rattle.ess_given_offers_laws.specs.Seen.{Counts}
 use Rattle.ess_given_kinds_laws.specs.GivenKinds.{NewOfKinds}
 use Rattle.ess_given_opened_laws.specs.OpenedStays.{NewOpened}
-use Rattle.ess_given_ordered_laws.specs.OrderedStays.{NewOrdered}
+use Rattle.ess_given_ordered_laws.specs.OrderedNames.{NewOrdered}
 
 -- A rule of each sort.
 pub data GivenRuling : Type 0 where
@@ -40,7 +40,7 @@ Takes u s g (plainly r) e = NewGiven u s r e × TakesOrder u s r e
 Takes u s g (by_kind (of_kind r)) e = NewOfKinds u s r e
 Takes u s g (by_kind (of_opening r)) e = NewOpened u s g r e
 Takes u s g gathering e = Unit {0}
-Takes u s g (by_order r) e = NewOrdered u s r e
+Takes u s g (by_order r) e = NewOrdered u s g r e
 
 -- b is given and fixed where a is, its comprehensions are in order where those of a are, and so is b itself.
 pub record StaysInRule (u : Text → Bool) (a b : Ex) : Type 0 where

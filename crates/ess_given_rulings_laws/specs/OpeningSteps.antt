@@ -1,6 +1,5 @@
 -- Steps of rules of openings with reserved names: what is given stays, for names that grow by those that a step takes.
-use Rattle.std.specs.Prelude.{◌≡◌, Bool, true, false, ℕ, List, [], ◌∷◌, Option, Some, None}
-use Rattle.std.specs.List.{list_all}
+use Rattle.std.specs.Prelude.{◌≡◌, Bool, true, false, ℕ}
 use Rattle.ess_semantics.specs.Values.{Text}
 use Rattle.ess_semantics.specs.Names.{Names}
 use Rattle.ess_semantics.specs.NamesAt.{names_behind}
@@ -8,22 +7,12 @@ use Rattle.ess_semantics.specs.Trees.{name_pat, Ex, comp_ex, Gens, from}
 use Rattle.ess_semantics.specs.Types.{Ty}
 use Rattle.ess_refine_laws.specs.AllRules.{OfSome}
 use Rattle.ess_chain_names_laws.specs.Steps.{supply_at}
-use Rattle.ess_kind_rules_laws.specs.TermLookups.{picked_within}
 use Rattle.ess_open_rules_laws.specs.OpenGenerators.{at_first_open}
 use Rattle.ess_open_rules_laws.specs.OpenSources.{in_order_told}
 use Rattle.ess_open_rules_laws.specs.OpenRules.{OpenRule, in_order_of_its_source}
 use Rattle.ess_given_laws.specs.Given.{is_fixed}
 use Rattle.ess_given_opened_laws.specs.OpenedStays.{GensKept}
-
--- By whether there is something.
-abbrev pub OfEither : Option Ex → Type 0 → (Ex → Type 0) → Type 0
-OfEither None A P = A
-OfEither (Some e) A P = P e
-
--- The names that are bound over what is picked, from within, don't belong to v, the others do.
-abbrev pub NamesAlong : (Text → Bool) → List Text → Ex → Type 0
-NamesAlong v [] e = Unit {0}
-NamesAlong v (y ∷ ys) e = (v y ≡ false) × OfEither (picked_within e) (list_all v ys ≡ true) (NamesAlong v ys)
+use Rattle.ess_given_ordered_laws.specs.OrderedNames.{NamesAlong}
 
 -- Where a source that isn't fixed is picked in order, its conditions are fixed where they read no table, for names v in which the third new
 -- name is, and those for components, and those aren't that are bound over what is picked.

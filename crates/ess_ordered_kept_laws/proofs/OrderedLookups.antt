@@ -18,7 +18,7 @@ use Rattle.ess_kinds_kept_laws.specs.LookupAsks.{FitsWithin}
 use Rattle.ess_kinds_kept_laws.proofs.TermsLookedUp.{unmarked-itself}
 use Rattle.ess_ordered_laws.specs.NumberedItems.{numbered_lookup, ordered_lookup}
 use Rattle.ess_ordered_laws.specs.Laws.{NumberedApart}
-use Rattle.ess_ordered_laws.proofs.NumberedItems.{items-are-numbered}
+use Rattle.ess_ordered_laws.proofs.NumberedGenerators.{items-are-numbered}
 use Rattle.ess_ordered_kept_laws.specs.OrderedAsks.{OrderedLookupAsks}
 
 -- The term within, and that structures are met.
@@ -52,14 +52,14 @@ ordered-looked z [] e l q env c m = cc
 ordered-looked z (y ∷ ys) e l q env c m = go (picked_within e) refl q c (λ u k p c m. ordered-looked z ys u k p env c m)
   where
     go : (o : Option Ex) → picked_within e ≡ o → elim o as (λ z. Option (List Alternative)) [
-      | None ↦ numbered_lookup z e
+      | None ↦ numbered_lookup z ys e
       | Some u ↦ and_then (ordered_lookup z ys u) (λ l. lookup_through_each y 1 l e)
     ] ≡ Some l → elim o as (λ z. Type 0) [
-      | None ↦ NumberedApart z e × FirstOperandThere e env
+      | None ↦ NumberedApart z ys e × FirstOperandThere e env
       | Some u ↦ Unused y e × IsTrue (not (asks_truth u)) × FitsWithin u e env × OrderedLookupAsks z ys u env
     ] → ((u : Ex) (k : List Alternative) → ordered_lookup z ys u ≡ Some k → OrderedLookupAsks z ys u env → Meets u env →
         LookedBy (unmarked u) k env) → LookedBy (unmarked e) l env
-    go None p q c h = items-are-numbered z e l q c.0 env c.1 m
+    go None p q c h = items-are-numbered z ys e l q c.0 env c.1 m
     go (Some u) p q c h = inner (ordered_lookup z ys u) refl q
       where
         inner : (o : Option (List Alternative)) → ordered_lookup z ys u ≡ o → and_then o (λ l. lookup_through_each y 1 l e) ≡ Some l →

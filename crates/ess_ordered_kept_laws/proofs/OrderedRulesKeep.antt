@@ -24,24 +24,18 @@ use Rattle.ess_rules_laws.proofs.Lookups.{unguarded}
 use Rattle.ess_rules_laws.proofs.AlternativeSelections.{nth-met, select_each-keeps, select_whole_each-keeps}
 use Rattle.ess_rules_laws.proofs.Tails.{tails-congruent}
 use Rattle.ess_refine_laws.specs.AllRules.{Supply, OfSome}
-use Rattle.ess_kind_rules_laws.specs.KindRules.{asks_truth}
 use Rattle.ess_kinds_kept_laws.specs.KindAsks.{RootFits}
-use Rattle.ess_kinds_kept_laws.proofs.TermsLookedUp.{unmarked-itself}
 use Rattle.ess_open_rules_laws.specs.OpenGenerators.{Opened, at_first_open, put_before}
 use Rattle.ess_open_rules_laws.specs.OpenRules.{gives_scalar, is_compound_ty}
 use Rattle.ess_open_kept_laws.proofs.OpenedFolds.{opened-are}
 use Rattle.ess_ordered_laws.specs.NumberedItems.{ordered_lookup}
 use Rattle.ess_ordered_laws.specs.IndexedSources.{indexed_source, indexed_behind}
 use Rattle.ess_ordered_laws.specs.Laws.{SourceTold}
-use Rattle.ess_ordered_laws.specs.OrderedRules.{an_item, of_an_item, source_by_indices, item_alone, over_operand, at_operand}
+use Rattle.ess_ordered_laws.specs.OrderedRules.{an_item, of_an_item, source_by_indices, item_alone, operand_lookup, over_operand, at_operand}
 use Rattle.ess_ordered_laws.proofs.IndexedSources.{sources-keep}
-use Rattle.ess_ordered_kept_laws.specs.OrderedAsks.{OrderedLookupAsks, OperandAsks, IndexedBehindAsks, OrderedRulesKeep}
+use Rattle.ess_ordered_kept_laws.specs.OrderedAsks.{OrderedLookupAsks, OperandAsks, AtOperandAsks, IndexedBehindAsks, OrderedRulesKeep}
 use Rattle.ess_ordered_kept_laws.proofs.OrderedLookups.{ordered-looked}
-
--- Where there is something under a test, it is what stands there.
-chosen-is : (b : Bool) (o : Option Ex) (e : Ex) → (if b then o else None) ≡ Some e → o ≡ Some e
-chosen-is true o e h = h
-chosen-is false o e h = cc
+use Rattle.ess_ordered_kept_laws.proofs.OperandLookups.{chosen-is, operand-looked}
 
 -- ---- a picked scalar
 
@@ -84,22 +78,22 @@ module _ (s : Supply) (g : Names Ty) (f : Ex) (env : Env) where
               select_each s.one k l (node_ex b op es) ≡ Some f → B
           no-answer w q = cc
 
-  at-keeps : (k : ℕ) (e : Ex) → at_operand s g k e ≡ Some f → Unused s.one e → RootFits e env → OperandAsks s k e env → Keeps e f env
+  at-keeps : (k : ℕ) (e : Ex) → at_operand s g k e ≡ Some f → Unused s.one e → RootFits e env → AtOperandAsks s g k e env → Keeps e f env
   at-keeps k (node_ex b op es) q u r c = go (nth es k) refl q c
     where
-      inner : (a : Ex) → nth es k ≡ Some a → IsTrue (not (asks_truth a)) → OrderedLookupAsks s.third s.parts a env →
-          (o : Option (List Alternative)) → ordered_lookup s.third s.parts a ≡ o →
+      inner : (a : Ex) → nth es k ≡ Some a → OperandAsks s g a env →
+          (o : Option (List Alternative)) → operand_lookup s g (node_ex b op es) a ≡ o →
           and_then o (λ l. if gives_scalar g (node_ex b op es) && is_compound_ty (type_of a g)
           then select_each s.one k l (node_ex b op es) else None) ≡ Some f → Keeps (node_ex b op es) f env
-      inner a n t c None p q = cc
-      inner a n t c (Some l) p q = operand-keeps k b op es a l n
+      inner a n c None p q = cc
+      inner a n c (Some l) p q = operand-keeps k b op es a l n
           (chosen-is (gives_scalar g (node_ex b op es) && is_compound_ty (type_of a g)) (select_each s.one k l (node_ex b op es)) f q) u r
-          (λ m. subst (λ z. LookedBy z l env) (unmarked-itself a t) (ordered-looked s.third s.parts a l p env c m))
+          (operand-looked s g env (node_ex b op es) a l p c)
 
       go : (o : Option Ex) → nth es k ≡ o → and_then o (over_operand s g k (node_ex b op es)) ≡ Some f →
-          OfSome o (λ t. IsTrue (not (asks_truth t)) × OrderedLookupAsks s.third s.parts t env) → Keeps (node_ex b op es) f env
+          OfSome o (λ t. OperandAsks s g t env) → Keeps (node_ex b op es) f env
       go None n q c = cc
-      go (Some a) n q c = inner a n c.0 c.1 (ordered_lookup s.third s.parts a) refl q
+      go (Some a) n q c = inner a n c (operand_lookup s g (node_ex b op es) a) refl q
   at-keeps k _ q u r c = cc
 
   -- The first of two.

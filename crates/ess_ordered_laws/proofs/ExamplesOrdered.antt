@@ -1,9 +1,10 @@
 -- Worked examples of comprehensions whose items have an order.
-use Rattle.std.specs.Prelude.{◌≡◌, refl, true, false, [], ◌∷◌, codes, Some, None}
+use Rattle.std.specs.Prelude.{◌≡◌, refl, true, false, [], ◌∷◌, codes, Option, Some, None}
 use Rattle.ess_semantics.specs.declared.words.Op2.{Op2}
 use Rattle.ess_semantics.specs.declared.words.Fun.{Fun}
-use Rattle.ess_semantics.specs.Values.{Text}
-use Rattle.ess_semantics.specs.Trees.{to_component, index, tuple_literal, name_pat, Ex, truth_ex, node_ex, matrix_ex, comp_ex, cell_ex, no_exs, Gens, no_gens, over, from, cond, bool_dom, fun1}
+use Rattle.ess_semantics.specs.Lists.{and_then}
+use Rattle.ess_semantics.specs.Values.{Text, Value}
+use Rattle.ess_semantics.specs.Trees.{to_component, index, tuple_literal, name_pat, Ex, node_ex, matrix_ex, comp_ex, cell_ex, no_exs, Gens, no_gens, over, from, cond, bool_dom, fun1}
 use Rattle.ess_semantics.specs.Meaning.{empty_env, meaning}
 use Rattle.ess_semantics.proofs.Shorthands.{N, n, v, es1, es2, bi, fn, range, upto, at}
 use Rattle.ess_rules_laws.specs.SourceRules.{list_of}
@@ -12,21 +13,51 @@ use Rattle.ess_ordered_laws.specs.NumberedItems.{is_from_one, place_in, numbered
 use Rattle.ess_ordered_laws.specs.IndexedSources.{has_open_index, is_by_index, indexed_term, indexed_source}
 use Rattle.ess_ordered_laws.specs.OrderedRules.{an_item, of_an_item, source_by_indices, ordered_rewrite}
 
-abbrev q : Text
+abbrev pub q : Text
 q = codes "q"
 
-abbrev y : Text
+abbrev pub y : Text
 y = codes "y"
 
-abbrev z : Text
+abbrev pub z : Text
 z = codes "z"
 
-abbrev w : Text
+abbrev pub w : Text
 w = codes "w"
 
--- New names, and one more for what is picked within.
-abbrev names : Supply
-names = record { one = w; other = codes "o"; third = z; parts = y ∷ codes "p" ∷ []; index_domain = λ e. bool_dom; copy = λ e. e }
+abbrev pub r : Text
+r = codes "r"
+
+-- New names for generators.
+abbrev pub a : Text
+a = codes "a"
+
+abbrev pub b : Text
+b = codes "b"
+
+abbrev pub c : Text
+c = codes "c"
+
+-- New names, with those for what is picked within and for generators.
+abbrev pub names : Supply
+names = record {
+  one = w;
+  other = codes "o";
+  third = z;
+  parts = y ∷ a ∷ b ∷ c ∷ codes "p" ∷ [];
+  index_domain = λ e. bool_dom;
+  copy = λ e. e;
+}
+
+-- What is made of an item alone, and of an operator on what is in order.
+abbrev pub alone_means : Ex → Option Value
+alone_means e = and_then (ordered_rewrite names [] an_item e) (λ f. meaning f empty_env)
+
+abbrev pub over_item_means : Ex → Option Value
+over_item_means e = and_then (ordered_rewrite names [] of_an_item e) (λ f. meaning f empty_env)
+
+abbrev pub tuple : Ex → Ex → Ex
+tuple t u = node_ex false tuple_literal (es2 t u)
 
 -- ---- items by number
 
@@ -61,25 +92,19 @@ later_means : (meaning (at (squares (over (name_pat q) (range (n 3) (n 5)) no_ge
     × (meaning (the_one (over (name_pat q) (range (n 3) (n 5)) (cond (bi Op2.Eq counted (n 2)) no_gens))) empty_env ≡ Some (v 16))
 later_means = (refl, refl)
 
--- Comprehensions with a condition, of two generators, or over a term have no such lookup yet.
-conditions_stay : numbered_lookup z (at (squares (over_three (cond (truth_ex true) no_gens))) (n 2)) ≡ None
-conditions_stay = refl
-
-several_stay : numbered_lookup z (at (squares (over_three (over (name_pat y) (upto 2) no_gens))) (n 2)) ≡ None
-several_stay = refl
-
-terms_stay : numbered_lookup z (at (squares (from (name_pat q) (list_of (es1 (n 7))) no_gens)) (n 2)) ≡ None
+-- A comprehension over a term has no such lookup.
+terms_stay : numbered_lookup z (a ∷ b ∷ c ∷ []) (at (squares (from (name_pat q) (list_of (es1 (n 7))) no_gens)) (n 2)) ≡ None
 terms_stay = refl
 
 -- `[(q, 7) | q : int(1..3)][2][1]`: a component of an item.
 abbrev pairs : Ex
-pairs = comp_ex (node_ex false tuple_literal (es2 (N q) (n 7))) (over_three no_gens)
+pairs = comp_ex (tuple (N q) (n 7)) (over_three no_gens)
 
 abbrev component : Ex → Ex
 component t = node_ex false (index (to_component 1 ∷ [])) (es1 t)
 
 within : ordered_lookup z (y ∷ codes "p" ∷ []) (component (at pairs (n 2))) ≡ Some (record {
-  gens = from (name_pat y) (comp_ex (node_ex false tuple_literal (es2 (N q) (n 7))) (over_three (cond (bi Op2.Eq (N q) (n 2)) no_gens))) no_gens;
+  gens = from (name_pat y) (comp_ex (tuple (N q) (n 7)) (over_three (cond (bi Op2.Eq (N q) (n 2)) no_gens))) no_gens;
   item = component (N y);
 } ∷ [])
 within = refl
@@ -89,10 +114,10 @@ few_names : ordered_lookup z (y ∷ []) (component (at pairs (n 2))) ≡ None
 few_names = refl
 
 -- `[(q, 7) | q : int(1..3)][2] = (2, 7)`: an operator on a compound item. Of a scalar one the item itself is rewritten.
-compound_item : ordered_rewrite names [] of_an_item (bi Op2.Eq (at pairs (n 2)) (node_ex false tuple_literal (es2 (n 2) (n 7))))
+compound_item : ordered_rewrite names [] of_an_item (bi Op2.Eq (at pairs (n 2)) (tuple (n 2) (n 7)))
     ≡ Some (fun1 true Fun.Or (list_of (es1 (fun1 true Fun.Or (comp_ex
-    (bi Op2.Eq (N w) (node_ex false tuple_literal (es2 (n 2) (n 7))))
-    (from (name_pat w) (comp_ex (node_ex false tuple_literal (es2 (N q) (n 7))) (over_three (cond (bi Op2.Eq (N q) (n 2)) no_gens))) no_gens))))))
+    (bi Op2.Eq (N w) (tuple (n 2) (n 7)))
+    (from (name_pat w) (comp_ex (tuple (N q) (n 7)) (over_three (cond (bi Op2.Eq (N q) (n 2)) no_gens))) no_gens))))))
 compound_item = refl
 
 scalar_item : ordered_rewrite names [] of_an_item (bi Op2.Eq (at (squares (over_three no_gens)) (n 2)) (n 4)) ≡ None

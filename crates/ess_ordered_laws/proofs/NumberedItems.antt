@@ -1,7 +1,6 @@
--- An item of a comprehension by its number: what a condition on the number leaves is that item, or nothing.
+-- An item of a comprehension over one domain by its number: what a condition on the number leaves is that item, or nothing.
 use Rattle.std.proofs.Common.{◌≡◌, refl, sym, ap, ◌∙◌, subst, ℕ, zero, suc, ◌+◌, ◌<◌, Bool, true, false, if◌then◌else◌, List, [], ◌∷◌, ◌++◌, map, pos, ◌+ℤ◌, Option, Some, None, option_map, arith}
 use Rattle.std.proofs.lemmas.Int.{ints}
-use Rattle.std.specs.Prelude.{is_some}
 use Rattle.ess_semantics.specs.declared.words.Op2.{Op2}
 use Rattle.ess_semantics.specs.declared.words.Fun.{Fun}
 use Rattle.ess_semantics.specs.Lists.{and_then}
@@ -9,7 +8,7 @@ use Rattle.ess_semantics.specs.Values.{Text, Value, number, truth, of_list}
 use Rattle.ess_semantics.specs.Order.{same, same_text}
 use Rattle.ess_semantics.specs.Names.{look}
 use Rattle.ess_semantics.specs.Numbers.{run_from}
-use Rattle.ess_semantics.specs.Trees.{binary, word, index, by_value, name_pat, Ex, number_ex, name_ex, node_ex, comp_ex, no_exs, more_exs, ex2, Gens, no_gens, over, cond, Dom}
+use Rattle.ess_semantics.specs.Trees.{binary, word, index, by_value, name_pat, Ex, number_ex, name_ex, node_ex, comp_ex, no_exs, more_exs, ex2, no_gens, over, cond, Dom}
 use Rattle.ess_semantics.specs.Operators.{value_of_node, false_where_undefined, sum_of, list_value, item_at, numbers_from}
 use Rattle.ess_semantics.specs.Meaning.{Env, meaning, domain_of, members_in, collect, where_true}
 use Rattle.ess_semantics.specs.Contexts.{EachOf}
@@ -18,20 +17,17 @@ use Rattle.ess_semantics.proofs.Orders.{to_list-of_list, same-equal}
 use Rattle.ess_rules_laws.specs.Rules.{Unused}
 use Rattle.ess_rules_laws.specs.MatrixRules.{UnusedDom}
 use Rattle.ess_rules_laws.specs.Listings.{Alternative, all_listed}
-use Rattle.ess_rules_laws.specs.FunctionLookups.{unmarked}
 use Rattle.ess_rules_laws.specs.Lookups.{found}
-use Rattle.ess_rules_laws.specs.AlternativeLookups.{LookedBy, FirstOperandThere}
+use Rattle.ess_rules_laws.specs.AlternativeLookups.{LookedBy}
 use Rattle.ess_rules_laws.proofs.Connectives.{binary-means}
 use Rattle.ess_rules_laws.proofs.Simulation.{but}
 use Rattle.ess_rules_laws.proofs.Agreement.{agree-but, domain-agree}
 use Rattle.ess_rules_laws.proofs.MeetsSimulation.{meets-agree-dom}
 use Rattle.ess_rules_laws.proofs.Bindings.{each-of-map}
 use Rattle.ess_rules_laws.proofs.RuleAnswers.{behind, each-any, meaning-behind, meets-behind, name-behind}
-use Rattle.ess_refine_laws.specs.ItemsOnce.{is_atom_dom}
 use Rattle.ess_kind_rules_laws.specs.TermLookups.{count_below}
 use Rattle.ess_kinds_kept_laws.proofs.PlacesBelow.{below_count, ones, ones-sum, collect-ones}
-use Rattle.ess_ordered_laws.specs.NumberedItems.{is_from_one, numbered_item, numbered_over, numbered_lookup}
-use Rattle.ess_ordered_laws.specs.Laws.{NumberedApart, ItemsAreNumbered}
+use Rattle.ess_ordered_laws.specs.NumberedItems.{is_from_one}
 use Rattle.ess_ordered_laws.proofs.Places.{members-rise, Numbered, ranked, from-one}
 
 no : {A : Type 0} → false ≡ true → A
@@ -43,7 +39,7 @@ same-number : (j k : ℕ) → same (number (pos j)) (number (pos k)) ≡ true �
 same-number j k e = ap (λ v. elim v [ number (pos n) ↦ n | _ ↦ j ]) (same-equal (number (pos j)) (number (pos k)) e)
 
 -- An item that is numbered from j on has no number below.
-later-none : (zs : List Value) (j k : ℕ) → k < j → item_at (of_list (numbers_from j zs)) (of_list zs) (number (pos k)) ≡ None
+pub later-none : (zs : List Value) (j k : ℕ) → k < j → item_at (of_list (numbers_from j zs)) (of_list zs) (number (pos k)) ≡ None
 later-none [] j k h = refl
 later-none (z ∷ zs) j k h = go (same (number (pos j)) (number (pos k))) refl (later-none zs (suc j) k (omega (arith, h)))
   where
@@ -54,7 +50,7 @@ later-none (z ∷ zs) j k h = go (same (number (pos j)) (number (pos k))) refl (
     go false e r = r
 
 -- `[e | x : d][i]`.
-abbrev Picked : Text → Dom → Ex → Ex → Ex
+abbrev pub Picked : Text → Dom → Ex → Ex → Ex
 Picked x d e i = node_ex false (index (by_value ∷ [])) (more_exs (comp_ex e (over (name_pat x) d no_gens)) (more_exs i no_exs))
 
 module _ (x : Text) (e i p : Ex) (env : Env) (new-i : Unused x i) where
@@ -62,7 +58,7 @@ module _ (x : Text) (e i p : Ex) (env : Env) (new-i : Unused x i) where
   Q = ex2 true Op2.Eq p i
 
   -- The item at a value, and the same where the number is i.
-  abbrev G : Value → Option (List Value)
+  abbrev pub G : Value → Option (List Value)
   G v = option_map (λ w. w ∷ []) (meaning e (behind x v env))
 
   abbrev F : Value → Option (List Value)
@@ -227,21 +223,6 @@ module _ (x z : Text) (d : Dom) (env : Env) (new-x : UnusedDom x d) (new-z : Unu
 
 -- ---- the lookup
 
--- Values and items of a comprehension that is there.
-there-is : (G : Value → Option (List Value)) (o : Option (List Value)) → is_some (option_map list_value (and_then o (λ vs. collect vs G))) ≡ true
-    → (vs : List Value) × (us : List Value) × (o ≡ Some vs) × (collect vs G ≡ Some us)
-there-is G None h = no h
-there-is G (Some vs) h = go (collect vs G) refl h
-  where
-    go : (r : Option (List Value)) → collect vs G ≡ r → is_some (option_map list_value r) ≡ true
-        → (ws : List Value) × (us : List Value) × (Some vs ≡ Some ws) × (collect ws G ≡ Some us)
-    go None q h = no h
-    go (Some us) q h = (vs, us, refl, q)
-
-abbrev AnswerLookedBy : Option (List Alternative) → Ex → Env → Type 0
-AnswerLookedBy None t env = Unit {0}
-AnswerLookedBy (Some l) t env = LookedBy t l env
-
 module _ (z x : Text) (e i : Ex) (d : Dom) (env : Env) (new-i : Unused x i) (new-x : UnusedDom x d) (new-z : UnusedDom z d)
     (apart : same_text z x ≡ false) (vs us : List Value) (members-are : members_in (domain_of d env) ≡ Some vs)
     (items-are : collect vs (G x e i (name_ex x) env new-i) ≡ Some us)
@@ -261,34 +242,10 @@ module _ (z x : Text) (e i : Ex) (d : Dom) (env : Env) (new-i : Unused x i) (new
   )
 
   -- The number is told by the bound name, or by counting.
-  by-place : (c : Bool) → is_from_one d ≡ c → LookedBy (Picked x d e i)
+  pub by-place : (c : Bool) → is_from_one d ≡ c → LookedBy (Picked x d e i)
       (record { gens = over (name_pat x) d (cond (ex2 true Op2.Eq (if c then name_ex x else Counted) i) no_gens); item = e } ∷ []) env
   by-place true h = let r = from-one d env vs h members-are in looked x e i (name_ex x) env new-i d vs us members-are items-are
       (subst (λ l. Told x e i (name_ex x) env new-i 1 l) (sym r.1) (run-told r.0 1)) (λ v. tt) m
   by-place false h = looked x e i Counted env new-i d vs us members-are items-are
       (counted-told vs 1 (ranked vs (members-rise (domain_of d env) vs members-are) 1))
       (place-met x z d env new-x new-z apart vs members-are m.0.0) m
-
-over-answer : (z : Text) (b : Bool) (e : Ex) (gs : Gens) (i : Ex) (env : Env)
-    → NumberedApart z (node_ex b (index (by_value ∷ [])) (more_exs (comp_ex e gs) (more_exs i no_exs)))
-    → is_some (meaning (comp_ex e gs) env) ≡ true
-    → Meets (node_ex false (index (by_value ∷ [])) (more_exs (comp_ex e gs) (more_exs i no_exs))) env
-    → AnswerLookedBy (numbered_over z e gs i) (node_ex false (index (by_value ∷ [])) (more_exs (comp_ex e gs) (more_exs i no_exs))) env
-over-answer z b e (over (name_pat x) d no_gens) i env a t m =
-    let l = there-is (G x e i (name_ex x) env a.0) (members_in (domain_of d env)) t in
-    go l.0 l.1 l.2 l.3 (is_atom_dom d)
-  where
-    go : (vs us : List Value) → members_in (domain_of d env) ≡ Some vs → collect vs (G x e i (name_ex x) env a.0) ≡ Some us → (c : Bool)
-        → AnswerLookedBy (if c then Some (numbered_item z x d e i ∷ []) else None) (Picked x d e i) env
-    go vs us p q true = by-place z x e i d env a.0 a.1 a.2 a.3 vs us p q m (is_from_one d) refl
-    go vs us p q false = tt
-over-answer z b e _ i env a t m = tt
-
-numbered-answer : (z : Text) (t : Ex) (env : Env) → NumberedApart z t → FirstOperandThere t env → Meets t env
-    → AnswerLookedBy (numbered_lookup z t) (unmarked t) env
-numbered-answer z (node_ex b (index (by_value ∷ [])) (more_exs (comp_ex e gs) (more_exs i no_exs))) env a t m = over-answer z b e gs i env a t m
-numbered-answer z _ env a t m = tt
-
--- So an item is looked up by its number.
-pub items-are-numbered : ItemsAreNumbered
-items-are-numbered z t l q a env h m = subst (λ o. AnswerLookedBy o (unmarked t) env) q (numbered-answer z t env a h m)

@@ -1,10 +1,15 @@
 //! Laws of ordered comprehensions, each the contract of a function that does nothing.
 
-ghost use Rattle.ess_ordered_laws.specs.Laws.{ItemsAreNumbered, SourcesKeep};
+ghost use Rattle.ess_ordered_laws.specs.Laws.{ItemsAreNumbered, SourcesArePicked, SourcesKeep};
 
-/// An item of a comprehension over the domain of an atom is looked up by the number of the bound name among the members of the domain.
+/// An item of a comprehension over the domains of atoms, with conditions or without, is looked up by its number: how many items come before it.
 pub fn items_are_numbered()
     ensures { ItemsAreNumbered }
+{}
+
+/// A comprehension over what is picked is looked up by the alternatives of what that is.
+pub fn sources_are_picked()
+    ensures { SourcesArePicked }
 {}
 
 /// A comprehension over a matrix whose index domain is told keeps its items, in order, where it runs over the indices.

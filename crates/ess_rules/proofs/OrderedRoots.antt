@@ -10,16 +10,16 @@ use Rattle.ess_refine_laws.specs.AllRules.{Supply}
 use Rattle.ess_ordered_laws.specs.IndexedSources.{indexed_behind}
 use Rattle.ess_ordered_laws.specs.OrderedRules.{OrderedRule, source_by_indices, ordered_rewrite}
 use Rattle.ess_rules_ordered.specs.Supplies.{supply_with}
-use Rattle.ess_rules_ordered.proofs.SuppliesAlike.{takes-three}
+use Rattle.ess_rules_ordered.proofs.SuppliesAlike.{takes-four}
 use Rattle.ess_rules.specs.Ruled.{in_order}
 use Rattle.ess_rules.specs.Supplies.{IsRewritten}
 
--- One that takes three parts of the supply.
+-- One that takes four parts of the supply.
 pub ruled_in_order : (s : Supply) (g : Names Ty) (r : OrderedRule) (a : Ex) (o : Option Node) (x : Node)
-    → option_map pure_node o ≡ ordered_rewrite (supply_with s.one s.third s.parts) g r a → o ≡ Some x
+    → option_map pure_node o ≡ ordered_rewrite (supply_with s.one s.other s.third s.parts) g r a → o ≡ Some x
     → IsRewritten s g a (Some (pure_node x))
 ruled_in_order s g r a o x h e =
-    (in_order r, sym (h ∙ takes-three s g r a) ∙ ap (option_map pure_node) e, λ j. refl, tt, refl)
+    (in_order r, sym (h ∙ takes-four s g r a) ∙ ap (option_map pure_node) e, λ j. refl, tt, refl)
 
 -- That of sources, which takes one.
 pub ruled_by_indices : (s : Supply) (g : Names Ty) (a : Ex) (o : Option Node) (x : Node)

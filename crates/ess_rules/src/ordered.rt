@@ -23,6 +23,7 @@ pub(crate) fn ordered(
 {
     let items = ItemNames {
         item: taken.one,
+        other: taken.other,
         counted: taken.third,
         parts: taken.parts,
     };

@@ -42,8 +42,8 @@ pub(crate) fn counted(first: u64, by: u64) -> Result<u64, NoMemory>
     }
 }
 
-/// How many names a rule may take for components at a root: of the first generator that isn't plain exactly as many as its domain has, else
-/// as many as what is listed or picked may want.
+/// How many names a rule may take for components, for what is picked within and for generators, at a root: of the first generator that
+/// isn't plain exactly as many as its domain has, else as many as what is listed or picked may want.
 pub(crate) fn component_count(node: &Node) -> u64 {
     match node {
         Node::Comp(_, gens) => count_in(gens.as_slice()),
@@ -52,25 +52,29 @@ pub(crate) fn component_count(node: &Node) -> u64 {
     }
 }
 
-/// That of a word of a comprehension, else the most that the root or one of its operands wants that picks.
+/// The most that the root wants where it picks, or one of its operands.
 fn count_among(node: &Node, operands: &[Node]) -> u64 {
-    let mut most = if picks(node) {
-        count_picked(node)
-    } else {
-        if let Some(Node::Comp(_, gens)) = operands.first() {
-            return count_in(gens.as_slice());
-        }
-        0
-    };
+    let mut most = count_wanted(node);
     for operand in operands {
-        if picks(operand) {
-            let count = count_picked(operand);
-            if count > most {
-                most = count;
-            }
+        let count = count_operand(operand);
+        if count > most {
+            most = count;
         }
     }
     most
+}
+
+/// That of an operand: of a comprehension that of its generators.
+fn count_operand(operand: &Node) -> u64 {
+    match operand {
+        Node::Comp(_, gens) => count_in(gens.as_slice()),
+        _ => count_wanted(operand),
+    }
+}
+
+/// That of what picks.
+fn count_wanted(node: &Node) -> u64 {
+    if picks(node) { count_picked(node) } else { 0 }
 }
 
 /// That of generators.
@@ -89,17 +93,12 @@ fn count_in(gens: &[Gen]) -> u64 {
 fn count_for(source: &Node) -> u64 {
     match source {
         Node::Seen(seen) => count_of(seen.get().dom.get()),
-        _ => {
-            if picks(source) {
-                count_picked(source)
-            } else {
-                0
-            }
-        }
+        _ => count_wanted(source),
     }
 }
 
-/// A name at each depth of what is picked, and one for each component of an argument.
+/// A name at each depth of what is picked, and one for each component of an argument, or for each generator and condition of the
+/// comprehension within, and for its item.
 fn count_picked(node: &Node) -> u64 {
     let mut at = node;
     for depth in 1..256_u64 {
@@ -109,6 +108,7 @@ fn count_picked(node: &Node) -> u64 {
                 None => return depth,
             },
             Node::Seen(seen) => return depth.saturating_add(count_of(seen.get().dom.get())),
+            Node::Comp(_, gens) => return depth.saturating_add(gens.len() as u64),
             _ => return depth,
         }
     }

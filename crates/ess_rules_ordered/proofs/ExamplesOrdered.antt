@@ -1,10 +1,12 @@
--- Worked examples: generators, operands and types by their parts.
+-- Worked examples: generators, operands and types by their parts, and what is picked in order.
 use Rattle.std.proofs.Common.{◌≡◌, refl, true, false, [], ◌∷◌, pos, Some, None}
 use Rattle.ess_semantics.specs.Values.{a_matrix}
 use Rattle.ess_semantics.specs.Trees.{name_pat, tuple_pat, no_pats, number_ex, name_ex, cell_ex, no_exs, more_exs, no_gens, over, from, cond, bool_dom}
 use Rattle.ess_semantics.specs.Types.{int_ty, bool_ty, compound2}
+use Rattle.ess_core.specs.TreeViews.{over_item, from_item, cond_item}
 use Rattle.ess_rules_ordered.specs.AloneForms.{alone_over}
 use Rattle.ess_rules_ordered.specs.IndexForms.{open_at, item_of_matrix}
+use Rattle.ess_rules_ordered.specs.PickedForms.{is_told, are_decided_items}
 
 -- `x : bool` is a name over a domain, alone; with a condition behind it, over a value, or by a pattern it isn't.
 one_name : alone_over (over (name_pat (120 ∷ [])) bool_dom no_gens) ≡ Some (120 ∷ [], bool_dom)
@@ -36,3 +38,20 @@ truths = refl
 
 no_matrix : item_of_matrix (Some int_ty) ≡ None
 no_matrix = refl
+
+-- Over a domain, alone, items are told; under a condition that reads a cell they aren't, nor by two alternatives.
+told_over_bool : is_told (record { gens = over (name_pat (120 ∷ [])) bool_dom no_gens; item = number_ex (pos 1) } ∷ []) ≡ true
+told_over_bool = refl
+
+by_a_table : is_told (record { gens = cond (cell_ex true (99 ∷ []) no_exs) no_gens; item = number_ex (pos 1) } ∷ []) ≡ false
+by_a_table = refl
+
+by_two : is_told (record { gens = no_gens; item = number_ex (pos 1) } ∷ record { gens = no_gens; item = number_ex (pos 2) } ∷ []) ≡ false
+by_two = refl
+
+-- Over a domain and under a condition on a name no table decides; over what isn't a comprehension one may.
+no_table : are_decided_items (over_item (name_pat (120 ∷ [])) bool_dom ∷ cond_item (name_ex (120 ∷ [])) ∷ []) ≡ true
+no_table = refl
+
+over_a_term : are_decided_items (from_item (name_pat (120 ∷ [])) (name_ex (109 ∷ [])) ∷ []) ≡ false
+over_a_term = refl

@@ -5,11 +5,10 @@ use Rattle.ess_semantics.specs.Trees.{bool_dom}
 use Rattle.ess_refine_laws.specs.AllRules.{Supply}
 use Rattle.ess_rules_ordered.specs.declared.names.ItemNames.{ItemNames}
 
--- A supply with the first name, the third one and those for components. The rules take nothing else of it, so what else stands in it
--- doesn't count.
-abbrev pub supply_with : Text → Text → List Text → Supply
-supply_with x z ys = record { one = x; other = x; third = z; parts = ys; index_domain = λ e. bool_dom; copy = λ e. e }
+-- A supply with three names and those for components. The rules take nothing else of it, so what else stands in it doesn't count.
+abbrev pub supply_with : Text → Text → Text → List Text → Supply
+supply_with x y z ys = record { one = x; other = y; third = z; parts = ys; index_domain = λ e. bool_dom; copy = λ e. e }
 
 -- The supply of the names that are taken.
 abbrev pub item_supply : ItemNames → Supply
-item_supply n = supply_with n.item.now n.counted.now n.parts.now
+item_supply n = supply_with n.item.now n.other.now n.counted.now n.parts.now

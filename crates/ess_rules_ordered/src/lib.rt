@@ -1,10 +1,14 @@
-//! Rules of comprehensions whose items have an order: their items by number, and their sources by indices.
+//! Rules of comprehensions whose items have an order: their items by number, over what is picked, and their sources by indices.
 #![tactic(auto)]
 
+mod decided;
 mod indexed;
 mod items;
 mod lookups;
 mod names;
+mod numbered;
+mod picked;
+mod places;
 mod scalars;
 mod sources;
 

@@ -1,0 +1,50 @@
+-- Which of the names that a rule of comprehensions takes belong to u: those that it binds over domains, also where the root isn't fixed,
+-- since a domain behind may read them; and those that it binds over what is picked, where that is fixed.
+use Rattle.std.specs.Prelude.{◌≡◌, Bool, true, false, List, [], ◌∷◌, Option, Some, None, is_some, if◌then◌else◌}
+use Rattle.std.specs.List.{list_all}
+use Rattle.ess_semantics.specs.Values.{Text}
+use Rattle.ess_semantics.specs.Names.{Names}
+use Rattle.ess_semantics.specs.Trees.{name_pat, Ex, node_ex, comp_ex, from}
+use Rattle.ess_semantics.specs.Types.{Ty}
+use Rattle.ess_rules_laws.specs.LiteralRules.{nth}
+use Rattle.ess_refine_laws.specs.AllRules.{Supply, OfSome}
+use Rattle.ess_kind_rules_laws.specs.TermLookups.{picked_within}
+use Rattle.ess_ordered_laws.specs.OrderedRules.{OrderedRule, an_item, of_an_item, source_by_indices, at_operand}
+use Rattle.ess_given_laws.specs.Given.{is_fixed}
+use Rattle.ess_given_opened_laws.specs.OpenedStays.{EachAs}
+
+-- By whether there is something.
+abbrev pub OfEither : Option Ex → Type 0 → (Ex → Type 0) → Type 0
+OfEither None A P = A
+OfEither (Some e) A P = P e
+
+-- The operand at which the rule rewrites the root, if it does: the first one, else the second one.
+abbrev pub rewritten_operand : Supply → Names Ty → Ex → Option Ex
+rewritten_operand s g (node_ex b op es) = nth es (if is_some (at_operand s g 1 (node_ex b op es)) then 1 else 2)
+rewritten_operand s g e = None
+
+module _ (u : Text → Bool) where
+  -- The names that are bound over what is picked, from within, don't belong to u, the others do: these are bound over domains.
+  abbrev pub NamesAlong : List Text → Ex → Type 0
+  NamesAlong [] e = Unit {0}
+  NamesAlong (y ∷ ys) e = (u y ≡ false) × OfEither (picked_within e) (list_all u ys ≡ true) (NamesAlong ys)
+
+  -- Of what is picked out of an item: where it is fixed all names belong to u. Else those for what is picked within don't, and those behind
+  -- them do, each of which a generator of the comprehension binds over its domain. So does the third one, for members that are counted.
+  pub record ItemNames (s : Supply) (t : Ex) : Type 0 where
+    pub third : u s.third ≡ true
+    pub where_fixed : is_fixed u t ≡ true → list_all u s.parts ≡ true
+    pub else_along : is_fixed u t ≡ false → NamesAlong s.parts t
+
+  -- Of the term at which a root is rewritten: those for a comprehension over what is picked belong to u where its source is fixed, and none
+  -- does where it isn't.
+  abbrev pub TermNames : Supply → Ex → Type 0
+  TermNames s (comp_ex e (from (name_pat y) t hs)) = EachAs u (is_fixed u t) (s.other ∷ s.third ∷ s.parts)
+  TermNames s t = ItemNames s t
+
+  -- Which of the names that a rule takes belong to u: the one that is bound over all that is picked does where the root is fixed. An index
+  -- does, since it is bound over a domain.
+  abbrev pub NewOrdered : Supply → Names Ty → OrderedRule → Ex → Type 0
+  NewOrdered s g an_item e = (u s.one ≡ is_fixed u e) × TermNames s e
+  NewOrdered s g of_an_item e = (u s.one ≡ is_fixed u e) × OfSome (rewritten_operand s g e) (TermNames s)
+  NewOrdered s g source_by_indices e = u s.one ≡ true

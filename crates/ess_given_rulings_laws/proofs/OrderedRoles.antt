@@ -1,0 +1,113 @@
+-- Which of the reserved names that a rule of comprehensions whose items have an order takes are fixed; so assigned they are as it asks.
+use Rattle.std.proofs.Common.{◌≡◌, sym, ◌∙◌, subst, ℕ, ◌+◌, Bool, true, false, if◌then◌else◌, ◌∷◌, length, Option, Some, None}
+use Rattle.ess_semantics.specs.Values.{Text}
+use Rattle.ess_semantics.specs.Names.{Names}
+use Rattle.ess_semantics.specs.Trees.{name_pat, Ex, comp_ex, from}
+use Rattle.ess_semantics.specs.Types.{Ty}
+use Rattle.ess_refine_laws.specs.AllRules.{Supply, OfSome}
+use Rattle.ess_chain_names_laws.specs.Steps.{supply_at}
+use Rattle.ess_ordered_laws.specs.OrderedRules.{OrderedRule, an_item, of_an_item, source_by_indices}
+use Rattle.ess_given_laws.specs.PartsHave.{PartsHave}
+use Rattle.ess_given_laws.specs.Given.{is_fixed}
+use Rattle.ess_given_laws.proofs.FixedTrees.{fixed, fixed-has, has-fixed}
+use Rattle.ess_given_conditions_laws.proofs.Assigned.{Assigned}
+use Rattle.ess_given_opened_laws.specs.OpenedStays.{EachAs}
+use Rattle.ess_given_ordered_laws.specs.OrderedNames.{rewritten_operand, ItemNames, TermNames, NewOrdered}
+use Rattle.ess_given_ordered_laws.proofs.PartsOfOperands.{rewritten-has}
+use Rattle.ess_given_rulings_laws.proofs.Roles.{same, same-length, outs, outs-length, Roles, all_alike, same-names, all-names, along-names, NamesAs}
+use Rattle.ess_given_rulings_laws.proofs.NamesServe.{fixed-alike}
+
+-- ---- roles
+
+module _ (z : Text → Bool) (s : Supply) (k : ℕ) where
+  -- Where a term is picked out of an item, in a root that is fixed or isn't.
+  abbrev pub item_roles : Bool → Ex → Roles
+  item_roles b t = record { one = b; other = true; third = true; parts = if is_fixed z t then same true k else outs k t }
+
+  -- At a term at which a root is rewritten.
+  abbrev pub term_roles : Bool → Ex → Roles
+  term_roles b (comp_ex e (from (name_pat y) t hs)) =
+      record { one = b; other = is_fixed z t; third = is_fixed z t; parts = same (is_fixed z t) k }
+  term_roles b t = item_roles b t
+
+  -- At an operand, if there is one.
+  abbrev pub operand_roles : Bool → Option Ex → Roles
+  operand_roles b None = all_alike b k
+  operand_roles b (Some t) = term_roles b t
+
+  -- Of each rule.
+  abbrev pub ordered_roles : Names Ty → OrderedRule → Ex → Roles
+  ordered_roles g an_item e = term_roles (is_fixed z e) e
+  ordered_roles g of_an_item e = operand_roles (is_fixed z e) (rewritten_operand s g e)
+  ordered_roles g source_by_indices e = all_alike true k
+
+  -- There are as many as names.
+  item-number : (b : Bool) (t : Ex) → length (item_roles b t).parts ≡ k
+  item-number b t = go (is_fixed z t)
+    where
+      go : (c : Bool) → length (if c then same true k else outs k t) ≡ k
+      go true = same-length true k
+      go false = outs-length k t
+
+  term-number : (b : Bool) (t : Ex) → length (term_roles b t).parts ≡ k
+  term-number b (comp_ex e (from (name_pat y) t hs)) = same-length (is_fixed z t) k
+  term-number b t = item-number b t
+
+  operand-number : (b : Bool) (o : Option Ex) → length (operand_roles b o).parts ≡ k
+  operand-number b None = same-length b k
+  operand-number b (Some t) = term-number b t
+
+  pub ordered-number : (g : Names Ty) (r : OrderedRule) (e : Ex) → length (ordered_roles g r e).parts ≡ k
+  ordered-number g an_item e = term-number (is_fixed z e) e
+  ordered-number g of_an_item e = operand-number (is_fixed z e) (rewritten_operand s g e)
+  ordered-number g source_by_indices e = same-length true k
+
+-- ---- names that are assigned
+
+-- z are names that are fixed, v these with new ones, and w has the names of the tree, none of which is new.
+module _ (z v w : Text → Bool) (more : (a : Text) → z a ≡ true → v a ≡ true) (same-there : (a : Text) → w a ≡ true → v a ≡ z a)
+    (n k : ℕ) where
+  abbrev s : Supply
+  s = supply_at n k
+
+  alike : (e : Ex) → is_fixed w e ≡ true → is_fixed v e ≡ is_fixed z e
+  alike e h = fixed-alike z v w more same-there n k e h
+
+  item-serves : (b : Bool) (t : Ex) → is_fixed w t ≡ true → NamesAs v n k (item_roles z s k b t) → ItemNames v s t
+  item-serves b t h a = record {
+    third = a.third;
+    where_fixed = λ f. all-names v (n + 3) k (parts-as true (sym (alike t h) ∙ f));
+    else_along = λ f. along-names v (n + 3) k t (parts-as false (sym (alike t h) ∙ f));
+  }
+    where
+      parts-as : (c : Bool) → is_fixed z t ≡ c → Assigned v (n + 3) (if c then same true k else outs k t)
+      parts-as c f = subst (λ c. Assigned v (n + 3) (if c then same true k else outs k t)) f a.parts
+
+  term-serves : (b : Bool) (t : Ex) → PartsHave (fixed w) t → NamesAs v n k (term_roles z s k b t) → TermNames v s t
+  term-serves b (comp_ex e (from (name_pat y) t hs)) h a =
+      subst (λ c. EachAs v c (s.other ∷ s.third ∷ s.parts)) (sym (alike t (has-fixed w t h.1.1)))
+      (a.other, (a.third, same-names v (is_fixed z t) (n + 3) k a.parts))
+  term-serves b t h a = item-serves b t (has-fixed w t h) a
+
+  operand-serves : (b : Bool) (o : Option Ex) → OfSome o (PartsHave (fixed w)) → NamesAs v n k (operand_roles z s k b o) →
+      OfSome o (TermNames v s)
+  operand-serves b None h a = tt
+  operand-serves b (Some t) h a = term-serves b t h a
+
+  term-one : (b : Bool) (t : Ex) → NamesAs v n k (term_roles z s k b t) → v s.one ≡ b
+  term-one b (comp_ex e (from (name_pat y) t hs)) a = a.one
+  term-one b t a = a.one
+
+  operand-one : (b : Bool) (o : Option Ex) → NamesAs v n k (operand_roles z s k b o) → v s.one ≡ b
+  operand-one b None a = a.one
+  operand-one b (Some t) a = term-one b t a
+
+  pub ordered-serve : (g : Names Ty) (r : OrderedRule) (e : Ex) → is_fixed w e ≡ true → NamesAs v n k (ordered_roles z s k g r e) →
+      NewOrdered v s g r e
+  ordered-serve g an_item e h a =
+      (term-one (is_fixed z e) e a ∙ sym (alike e h), term-serves (is_fixed z e) e (fixed-has w e h) a)
+  ordered-serve g of_an_item e h a = (
+    operand-one (is_fixed z e) (rewritten_operand s g e) a ∙ sym (alike e h),
+    operand-serves (is_fixed z e) (rewritten_operand s g e) (rewritten-has (fixed w) s g e (fixed-has w e h)) a,
+  )
+  ordered-serve g source_by_indices e h a = a.one
