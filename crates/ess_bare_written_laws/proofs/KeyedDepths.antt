@@ -7,13 +7,15 @@ use Rattle.ess_semantics.specs.Lists.{and_then, or_default, when}
 use Rattle.ess_semantics.specs.Values.{Text}
 use Rattle.ess_semantics.specs.Order.{same_text}
 use Rattle.ess_semantics.specs.Names.{Names, look}
-use Rattle.ess_semantics.specs.Trees.{matrix_literal, name_pat, Ex, Exs, number_ex, truth_ex, name_ex, node_ex, comp_ex, no_exs, more_exs, Gens, no_gens, over, from, cond, Dom, bool_dom, int_dom, ex2, fun1}
+use Rattle.ess_semantics.specs.Trees.{binary, matrix_literal, name_pat, Ex, Exs, number_ex, truth_ex, name_ex, node_ex, comp_ex, no_exs, more_exs, Gens, no_gens, over, from, cond, Dom, bool_dom, int_dom, ex2, fun1}
 use Rattle.ess_semantics.proofs.Tests.{and-right}
 use Rattle.ess_guard_laws.specs.Origins.{Origin, is_sure}
 use Rattle.ess_guard_laws.specs.Conditions.{unless}
 use Rattle.ess_keys_laws.specs.KeyForms.{key_of, is_truth, as_index, as_indices, is_settled}
+use Rattle.ess_keys_laws.specs.Chains.{is_of_flat_form, chain, all_under_and, has_many, conjuncts_of}
 use Rattle.ess_keys_laws.specs.Keyed.{Around, key_for, key_now, if_sure, sure_key, entered, laid, is_bare, are_conditions, connected}
-use Rattle.ess_keys_laws.specs.Keyed.{all_of, how_many, joined, connective_of, is_folded, fold_of, conjuncts, conditions_before}
+use Rattle.ess_keys_laws.specs.Keyed.{all_of, conditions_of, how_many, joined, connective_of, is_folded, fold_of, folded, conjuncts}
+use Rattle.ess_keys_laws.specs.Keyed.{all_conjuncts, conditions_before}
 use Rattle.ess_keys_laws.specs.Keyed.{generator_before, keyed, keyed_all, keyed_gens, keyed_behind}
 use Rattle.ess_keys_laws.proofs.Forms.{before-append}
 use Rattle.ess_depth_laws.specs.Depth.{NestsWithin, AllNestWithin, NestBehind, DomNestsWithin}
@@ -42,13 +44,31 @@ all-nest n (from p x gs) e q h = cc
 all-nest n (cond c gs) e q h = (h.0, all-nest n gs e q h.1)
 
 either-nests : (n : ℕ) (gs : Gens) (e : Ex) (b : Bool) → are_conditions gs ≡ true → NestBehind n gs (Item e) →
-    NestsWithin n (if b then fun1 true Fun.And (node_ex false matrix_literal (all_of gs e)) else connected Op2.And gs e)
+    NestsWithin n (if b then all_under_and (all_of gs e) else connected Op2.And gs e)
 either-nests n gs e true q h = (all-nest n gs e q h, tt)
 either-nests n gs e false q h = connected-nests n Op2.And gs e q h
+
+conditions-alone : (n : ℕ) (gs : Gens) (e : Ex) → are_conditions gs ≡ true → NestBehind n gs (Item e) → AllNestWithin n (conditions_of gs)
+conditions-alone n no_gens e q h = tt
+conditions-alone n (over p d gs) e q h = cc
+conditions-alone n (from p x gs) e q h = cc
+conditions-alone n (cond c gs) e q h = (h.0, conditions-alone n gs e q h.1)
+
+body-nests : (n : ℕ) (gs : Gens) (e : Ex) → are_conditions gs ≡ true → NestBehind n gs (Item e) → NestsWithin n e
+body-nests n no_gens e q h = h
+body-nests n (over p d gs) e q h = cc
+body-nests n (from p x gs) e q h = cc
+body-nests n (cond c gs) e q h = body-nests n gs e q h.1
+
+led-nests : (n : ℕ) (gs : Gens) (e : Ex) (b : Bool) → are_conditions gs ≡ true → NestBehind n gs (Item e) →
+    NestsWithin n (if b then ex2 true Op2.Implies (all_under_and (conditions_of gs)) e else connected Op2.Implies gs e)
+led-nests n gs e true q h = ((conditions-alone n gs e q h, tt), (body-nests n gs e q h, tt))
+led-nests n gs e false q h = connected-nests n Op2.Implies gs e q h
 
 joined-nests : (n : ℕ) (o : Op2) (gs : Gens) (e : Ex) → are_conditions gs ≡ true → NestBehind n gs (Item e) →
     NestsWithin n (joined o gs e)
 joined-nests n Op2.And gs e q h = either-nests n gs e (nat_le 16 (how_many gs)) q h
+joined-nests n Op2.Implies gs e q h = led-nests n gs e (nat_le 16 (how_many gs)) q h
 joined-nests n o gs e q h = connected-nests n o gs e q h
 
 conditions-nest : (n : ℕ) (f : Fun) (b : Bool) (gs : Gens) (e : Ex) (p : Option Op2) (c : Bool) → (c ≡ true → are_conditions gs ≡ true) →
@@ -70,6 +90,26 @@ fold-nests n k b f (comp_ex e gs) h =
 fold-nests n k b f (node_ex false matrix_literal (more_exs e no_exs)) h = item-nests n b f e (is_folded k b f e) h.0
 fold-nests n k b f l h = (h, tt)
 
+-- ---- conjunctions
+
+chain-nests : (n : ℕ) (e : Ex) → NestsWithin n e → AllNestWithin n (chain e)
+chain-nests n (ex2 true Op2.And a r) h = (h.0, chain-nests n r h.1.0)
+chain-nests n e h = (h, tt)
+
+conjuncts_of-nest : (n : ℕ) (e : Ex) → NestsWithin n e → AllNestWithin n (conjuncts_of e)
+conjuncts_of-nest n (fun1 true Fun.And (node_ex false matrix_literal es)) h = h.0
+conjuncts_of-nest n e h = chain-nests n e h
+
+listed-nests : (n : ℕ) (b : Bool) (x y : Ex) → NestsWithin n x → NestsWithin n y →
+    NestsWithin n (or_default (when b (all_under_and (more_exs x (conjuncts_of y)))) (ex2 true Op2.And x y))
+listed-nests n true x y h k = ((h, conjuncts_of-nest n y k), tt)
+listed-nests n false x y h k = (h, (k, tt))
+
+binary-nests : (n : ℕ) (k : Names Origin) (b : Bool) (o : Op2) (x y : Ex) → NestsWithin n x → NestsWithin n y →
+    NestsWithin n (folded k b (binary o) (more_exs x (more_exs y no_exs)))
+binary-nests n k true Op2.And x y h g = listed-nests n (has_many y && not (is_of_flat_form x && is_of_flat_form y)) x y h g
+binary-nests n k b o x y h g = (h, (g, tt))
+
 -- ---- indices and conditions
 
 index-nests : (n : ℕ) (k : Names Origin) (e : Ex) → NestsWithin n e → NestsWithin n (as_index k e)
@@ -90,12 +130,21 @@ unless-nests : (n : ℕ) (b : Bool) (c : Ex) (gs : Gens) (K : ℕ → Type 0) �
 unless-nests n true c gs K h s = s
 unless-nests n false c gs K h s = (h, s)
 
-conjuncts-nest : (n : ℕ) (k : Names Origin) (c : Ex) (gs : Gens) (K : ℕ → Type 0) → NestsWithin n c → NestBehind n gs K →
-    NestBehind n (conditions_before (conjuncts k c) gs) K
-conjuncts-nest n k (ex2 true Op2.And a b) gs K h s =
-    subst (λ hs. NestBehind n hs K) (sym (before-append (conjuncts k a) (conjuncts k b) gs))
-    (conjuncts-nest n k a (conditions_before (conjuncts k b) gs) K h.0 (conjuncts-nest n k b gs K h.1.0 s))
-conjuncts-nest n k c gs K h s = unless-nests n (is_settled k c) c gs K h s
+mutual
+  conjuncts-nest : (n : ℕ) (k : Names Origin) (c : Ex) (gs : Gens) (K : ℕ → Type 0) → NestsWithin n c → NestBehind n gs K →
+      NestBehind n (conditions_before (conjuncts k c) gs) K
+  conjuncts-nest n k (ex2 true Op2.And a b) gs K h s =
+      subst (λ hs. NestBehind n hs K) (sym (before-append (conjuncts k a) (conjuncts k b) gs))
+      (conjuncts-nest n k a (conditions_before (conjuncts k b) gs) K h.0 (conjuncts-nest n k b gs K h.1.0 s))
+  conjuncts-nest n k (fun1 true Fun.And (node_ex false matrix_literal es)) gs K h s = all_conjuncts-nest n k es gs K h.0 s
+  conjuncts-nest n k c gs K h s = unless-nests n (is_settled k c) c gs K h s
+
+  all_conjuncts-nest : (n : ℕ) (k : Names Origin) (es : Exs) (gs : Gens) (K : ℕ → Type 0) → AllNestWithin n es → NestBehind n gs K →
+      NestBehind n (conditions_before (all_conjuncts k es) gs) K
+  all_conjuncts-nest n k no_exs gs K h s = s
+  all_conjuncts-nest n k (more_exs e es) gs K h s =
+      subst (λ hs. NestBehind n hs K) (sym (before-append (conjuncts k e) (all_conjuncts k es) gs))
+      (conjuncts-nest n k e (conditions_before (all_conjuncts k es) gs) K h.0 (all_conjuncts-nest n k es gs K h.1 s))
 
 -- ---- keys
 
@@ -171,7 +220,8 @@ module _ (cells : Text → Option (Bool × ℕ)) (ok : ℤ → Bool) (fine : Tex
     keyed-nests (a_name {a = a} q) c h n m l s = key-nests m c.keys h a
     keyed-nests (a_cell {es = es} q t) c h n m l s = indices-nest m c.origins (keyed_all c es) (terms-nest t c h n m l s)
     keyed-nests (by_one w f) c h n m l s = (keyed-nests f c h n m l s.0, tt)
-    keyed-nests (by_two w f g) c h n m l s = (keyed-nests f c h n m l s.0, (keyed-nests g c h n m l s.1.0, tt))
+    keyed-nests (by_two {b = b} {o = o} {x = x} {y = y} w f g) c h n m l s =
+        binary-nests m c.origins b o (keyed c x) (keyed c y) (keyed-nests f c h n m l s.0) (keyed-nests g c h n m l s.1.0)
     keyed-nests (by_power f g) c h n m l s = (keyed-nests f c h n m l s.0, (keyed-nests g c h n m l s.1.0, tt))
     keyed-nests (by_truth {x = x} f) c h n m l s = fold-nests m c.origins false Fun.ToInt (keyed c x) (keyed-nests f c h n m l s.0)
     keyed-nests (by_fold {b = b} {f = f} {e = e} {gs = gs} w t x) c h n m l s =
@@ -181,7 +231,8 @@ module _ (cells : Text → Option (Bool × ℕ)) (ok : ℤ → Bool) (fine : Tex
     keyed-nests (by_items {b = b} {f = f} {es = es} w t) c h n m l s =
         fold-nests m c.origins b f (node_ex false matrix_literal (keyed_all c es)) (leans-nest t c h n m l s.0)
     keyed-nests (by_greatest f g) c h n m l s = ((keyed-nests f c h n m l s.0.0, (keyed-nests g c h n m l s.0.1.0, tt)), tt)
-    keyed-nests (by_order w f g) c h n m l s = (row-nests f c h n m l s.0, (row-nests g c h n m l s.1.0, tt))
+    keyed-nests (by_order {o = o} {x = x} {y = y} w f g) c h n m l s =
+        binary-nests m c.origins true o (keyed c x) (keyed c y) (row-nests f c h n m l s.0) (row-nests g c h n m l s.1.0)
 
     leans-nest : {r : Names Bool} {es : Exs} {i : Bool} → Leans cells ok fine plain r es i → (c : Around) → Unbinding c.keys →
         (n m : ℕ) → n ≤ m → AllNestWithin n es → AllNestWithin m (keyed_all c es)

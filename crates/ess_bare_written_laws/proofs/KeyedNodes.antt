@@ -1,15 +1,17 @@
 -- What becomes of folds, lists and conditions with plain keys is lean.
-use Rattle.std.proofs.Common.{◌≡◌, refl, sym, subst, ℕ, nat_le, Bool, true, false, if◌then◌else◌, ℤ, Option, None}
+use Rattle.std.proofs.Common.{◌≡◌, refl, sym, subst, ℕ, nat_le, Bool, true, false, ◌&&◌, not, if◌then◌else◌, [], ℤ, Option, None}
 use Rattle.ess_semantics.specs.declared.words.Op2.{Op2}
 use Rattle.ess_semantics.specs.declared.words.Fun.{Fun}
 use Rattle.ess_semantics.specs.Lists.{or_default, when}
 use Rattle.ess_semantics.specs.Values.{Text}
 use Rattle.ess_semantics.specs.Names.{Names}
-use Rattle.ess_semantics.specs.Trees.{matrix_literal, Ex, Exs, node_ex, no_exs, more_exs, Gens, cond, fun1}
+use Rattle.ess_semantics.specs.Trees.{matrix_literal, Ex, Exs, node_ex, no_exs, more_exs, Gens, cond, ex2, fun1}
 use Rattle.ess_guard_laws.specs.Origins.{Origin, is_number}
 use Rattle.ess_guard_laws.specs.Conditions.{unless}
 use Rattle.ess_keys_laws.specs.KeyForms.{is_truth, is_settled}
-use Rattle.ess_keys_laws.specs.Keyed.{laid, are_conditions, connected, all_of, how_many, joined, fold_of, conjuncts, conditions_before}
+use Rattle.ess_keys_laws.specs.Chains.{is_of_flat_form, chain, all_under_and, has_many, conjuncts_of, conjunction_fold}
+use Rattle.ess_keys_laws.specs.Keyed.{laid, are_conditions, connected, all_of, conditions_of, how_many, joined, fold_of, conjuncts}
+use Rattle.ess_keys_laws.specs.Keyed.{all_conjuncts, conditions_before}
 use Rattle.ess_keys_laws.proofs.Forms.{before-append}
 use Rattle.ess_flat_laws.specs.Flat.{denied, TwoOp, both, either, implied, agreeing, equal, unequal, below, at_most, above, at_least}
 use Rattle.ess_bare_laws.specs.Bare.{before, not_behind}
@@ -72,13 +74,34 @@ module _ (cells : Text → Option (Bool × ℕ)) (ok : ℤ → Bool) (fine : Tex
 
   -- As a list where there are many.
   joined-lean : {u t : Names Bool} {e : Ex} {gs : Gens} (b : Bool) → G u gs t → T t e true → are_conditions gs ≡ true →
-      T u (if b then fun1 true Fun.And (node_ex false matrix_literal (all_of gs e)) else connected Op2.And gs e) true
+      T u (if b then all_under_and (all_of gs e) else connected Op2.And gs e) true
   joined-lean true s f q = by_items of_all (all-lean s f q)
   joined-lean false s f q = connected-lean both s f q
 
+  -- Conditions alone as a list.
+  conditions-listed : {u t : Names Bool} {c : Ex} {gs : Gens} → T u c true → G u gs t → are_conditions gs ≡ true →
+      Leans cells ok fine true u (conditions_of (cond c gs)) true
+  conditions-listed k behind_all q = last_lean k
+  conditions-listed k (over_truths c s) q = cc
+  conditions-listed k (over_numbers c b l s) q = cc
+  conditions-listed k (under h s) q = more_leans k (conditions-listed h s q)
+
+  -- Conditions bind nothing.
+  body-lean : {u t : Names Bool} {e : Ex} {gs : Gens} → G u gs t → are_conditions gs ≡ true → T t e true → T u e true
+  body-lean behind_all q f = f
+  body-lean (over_truths c s) q f = cc
+  body-lean (over_numbers c b l s) q f = cc
+  body-lean (under k s) q f = body-lean s q f
+
+  -- A truth value under conditions that are a list where there are many.
+  led-lean : {u t : Names Bool} {c e : Ex} {gs : Gens} (b : Bool) → T u c true → G u gs t → T t e true → are_conditions gs ≡ true →
+      T u (if b then ex2 true Op2.Implies (all_under_and (conditions_of (cond c gs))) e else connected Op2.Implies (cond c gs) e) true
+  led-lean true k s f q = by_two implied (by_items of_all (conditions-listed k s q)) (body-lean s q f)
+  led-lean false k s f q = connected-lean implied (under k s) f q
+
   implied-fold : {u t : Names Bool} {c e : Ex} {gs : Gens} → T u c true → G u gs t → T t e true → (b : Bool) → are_conditions gs ≡ b →
-      T u (or_default (when b (connected Op2.Implies (cond c gs) e)) (fun1 true Fun.And (laid e (cond c gs)))) true
-  implied-fold k s f true q = connected-lean implied (under k s) f q
+      T u (or_default (when b (joined Op2.Implies (cond c gs) e)) (fun1 true Fun.And (laid e (cond c gs)))) true
+  implied-fold {c = c} {gs = gs} k s f true q = led-lean (nat_le 16 (how_many (cond c gs))) k s f q
   implied-fold k s f false q = by_fold of_all (under k s) f
 
   joined-fold : {u t : Names Bool} {c e : Ex} {gs : Gens} → T u c true → G u gs t → T t e true → (b : Bool) → are_conditions gs ≡ b →
@@ -110,6 +133,52 @@ module _ (cells : Text → Option (Bool × ℕ)) (ok : ℤ → Bool) (fine : Tex
   items-lean o w (more_leans f (last_lean g)) = by_items w (more_leans f (last_lean g))
   items-lean o w (more_leans f (more_leans g l)) = by_items w (more_leans f (more_leans g l))
 
+  -- ---- conjunctions
+
+  chain-lean : {u : Names Bool} {e : Ex} → T u e true → Leans cells ok fine true u (chain e) true
+  chain-lean (by_two both f h) = more_leans f (chain-lean h)
+  chain-lean a_truth = last_lean a_truth
+  chain-lean (a_name q) = last_lean (a_name q)
+  chain-lean (a_cell q l) = last_lean (a_cell q l)
+  chain-lean (by_one denied f) = last_lean (by_one denied f)
+  chain-lean (by_two either f h) = last_lean (by_two either f h)
+  chain-lean (by_two implied f h) = last_lean (by_two implied f h)
+  chain-lean (by_two agreeing f h) = last_lean (by_two agreeing f h)
+  chain-lean (by_two equal f h) = last_lean (by_two equal f h)
+  chain-lean (by_two unequal f h) = last_lean (by_two unequal f h)
+  chain-lean (by_two below f h) = last_lean (by_two below f h)
+  chain-lean (by_two at_most f h) = last_lean (by_two at_most f h)
+  chain-lean (by_two above f h) = last_lean (by_two above f h)
+  chain-lean (by_two at_least f h) = last_lean (by_two at_least f h)
+  chain-lean (by_fold of_all x f) = last_lean (by_fold of_all x f)
+  chain-lean (by_fold of_some x f) = last_lean (by_fold of_some x f)
+  chain-lean (by_items of_all l) = last_lean (by_items of_all l)
+  chain-lean (by_items of_some l) = last_lean (by_items of_some l)
+  chain-lean (by_order before f h) = last_lean (by_order before f h)
+  chain-lean (by_order not_behind f h) = last_lean (by_order not_behind f h)
+
+  conjuncts-lean : {u : Names Bool} {e : Ex} → T u e true → Leans cells ok fine true u (conjuncts_of e) true
+  conjuncts-lean (by_items of_all l) = l
+  conjuncts-lean (by_items of_some l) = chain-lean (by_items of_some l)
+  conjuncts-lean a_truth = chain-lean a_truth
+  conjuncts-lean (a_name h) = chain-lean (a_name h)
+  conjuncts-lean (a_cell h l) = chain-lean (a_cell h l)
+  conjuncts-lean (by_one w f) = chain-lean (by_one w f)
+  conjuncts-lean (by_two w f h) = chain-lean (by_two w f h)
+  conjuncts-lean (by_fold of_all x f) = chain-lean (by_fold of_all x f)
+  conjuncts-lean (by_fold of_some x f) = chain-lean (by_fold of_some x f)
+  conjuncts-lean (by_order w f h) = chain-lean (by_order w f h)
+
+  listed-lean : {u : Names Bool} {x y : Ex} (b : Bool) → T u x true → T u y true →
+      T u (or_default (when b (all_under_and (more_exs x (conjuncts_of y)))) (ex2 true Op2.And x y)) true
+  listed-lean true f h = by_items of_all (more_leans f (conjuncts-lean h))
+  listed-lean false f h = by_two both f h
+
+  -- What is left of a conjunction.
+  pub conjunction-lean : {u : Names Bool} {x y : Ex} → T u x true → T u y true →
+      T u (or_default (conjunction_fold x y) (ex2 true Op2.And x y)) true
+  conjunction-lean {x = x} {y = y} f h = listed-lean (has_many y && not (is_of_flat_form x && is_of_flat_form y)) f h
+
   -- A list beside a lex sign.
   pub row-lean : {u t : Names Bool} {m : Bool} {e : Ex} {gs : Gens} → G u gs t → T t e m → Row cells ok fine true u (laid e gs) m
   row-lean behind_all f = alone f
@@ -127,28 +196,38 @@ module _ (cells : Text → Option (Bool × ℕ)) (ok : ℤ → Bool) (fine : Tex
       go true = s
       go false = under f s
 
-  -- A condition as its conjuncts.
-  pub conditions-lean : {u t : Names Bool} {c : Ex} {gs : Gens} → (k : Names Origin) → T u c true → G u gs t →
-      G u (conditions_before (conjuncts k c) gs) t
-  conditions-lean {u = u} {t = t} {gs = gs} k (by_two {x = x} {y = y} both f h) s =
-      subst (λ hs. G u hs t) (sym (before-append (conjuncts k x) (conjuncts k y) gs))
-      (conditions-lean k f (conditions-lean k h s))
-  conditions-lean k a_truth s = unless-lean k a_truth s
-  conditions-lean k (a_name q) s = unless-lean k (a_name q) s
-  conditions-lean k (a_cell q l) s = unless-lean k (a_cell q l) s
-  conditions-lean k (by_one denied f) s = unless-lean k (by_one denied f) s
-  conditions-lean k (by_two either f h) s = unless-lean k (by_two either f h) s
-  conditions-lean k (by_two implied f h) s = unless-lean k (by_two implied f h) s
-  conditions-lean k (by_two agreeing f h) s = unless-lean k (by_two agreeing f h) s
-  conditions-lean k (by_two equal f h) s = unless-lean k (by_two equal f h) s
-  conditions-lean k (by_two unequal f h) s = unless-lean k (by_two unequal f h) s
-  conditions-lean k (by_two below f h) s = unless-lean k (by_two below f h) s
-  conditions-lean k (by_two at_most f h) s = unless-lean k (by_two at_most f h) s
-  conditions-lean k (by_two above f h) s = unless-lean k (by_two above f h) s
-  conditions-lean k (by_two at_least f h) s = unless-lean k (by_two at_least f h) s
-  conditions-lean k (by_fold of_all x f) s = unless-lean k (by_fold of_all x f) s
-  conditions-lean k (by_fold of_some x f) s = unless-lean k (by_fold of_some x f) s
-  conditions-lean k (by_items of_all l) s = unless-lean k (by_items of_all l) s
-  conditions-lean k (by_items of_some l) s = unless-lean k (by_items of_some l) s
-  conditions-lean k (by_order before f h) s = unless-lean k (by_order before f h) s
-  conditions-lean k (by_order not_behind f h) s = unless-lean k (by_order not_behind f h) s
+  mutual
+    -- A condition as its conjuncts.
+    pub conditions-lean : {u t : Names Bool} {c : Ex} {gs : Gens} → (k : Names Origin) → T u c true → G u gs t →
+        G u (conditions_before (conjuncts k c) gs) t
+    conditions-lean {u = u} {t = t} {gs = gs} k (by_two {x = x} {y = y} both f h) s =
+        subst (λ hs. G u hs t) (sym (before-append (conjuncts k x) (conjuncts k y) gs))
+        (conditions-lean k f (conditions-lean k h s))
+    conditions-lean k a_truth s = unless-lean k a_truth s
+    conditions-lean k (a_name q) s = unless-lean k (a_name q) s
+    conditions-lean k (a_cell q l) s = unless-lean k (a_cell q l) s
+    conditions-lean k (by_one denied f) s = unless-lean k (by_one denied f) s
+    conditions-lean k (by_two either f h) s = unless-lean k (by_two either f h) s
+    conditions-lean k (by_two implied f h) s = unless-lean k (by_two implied f h) s
+    conditions-lean k (by_two agreeing f h) s = unless-lean k (by_two agreeing f h) s
+    conditions-lean k (by_two equal f h) s = unless-lean k (by_two equal f h) s
+    conditions-lean k (by_two unequal f h) s = unless-lean k (by_two unequal f h) s
+    conditions-lean k (by_two below f h) s = unless-lean k (by_two below f h) s
+    conditions-lean k (by_two at_most f h) s = unless-lean k (by_two at_most f h) s
+    conditions-lean k (by_two above f h) s = unless-lean k (by_two above f h) s
+    conditions-lean k (by_two at_least f h) s = unless-lean k (by_two at_least f h) s
+    conditions-lean k (by_fold of_all x f) s = unless-lean k (by_fold of_all x f) s
+    conditions-lean k (by_fold of_some x f) s = unless-lean k (by_fold of_some x f) s
+    conditions-lean k (by_items of_all l) s = all-conditions k l s
+    conditions-lean k (by_items of_some l) s = unless-lean k (by_items of_some l) s
+    conditions-lean k (by_order before f h) s = unless-lean k (by_order before f h) s
+    conditions-lean k (by_order not_behind f h) s = unless-lean k (by_order not_behind f h) s
+
+    -- So are the conjuncts of several.
+    all-conditions : {u t : Names Bool} {es : Exs} {gs : Gens} → (k : Names Origin) → Leans cells ok fine true u es true → G u gs t →
+        G u (conditions_before (all_conjuncts k es) gs) t
+    all-conditions {u = u} {t = t} {gs = gs} k (last_lean {e = e} f) s =
+        subst (λ hs. G u hs t) (sym (before-append (conjuncts k e) [] gs)) (conditions-lean k f s)
+    all-conditions {u = u} {t = t} {gs = gs} k (more_leans {e = e} {es = es} f l) s =
+        subst (λ hs. G u hs t) (sym (before-append (conjuncts k e) (all_conjuncts k es) gs))
+        (conditions-lean k f (all-conditions k l s))

@@ -10,11 +10,12 @@ use Rattle.ess_semantics.proofs.Tests.{not-true}
 use Rattle.ess_guard_laws.specs.Origins.{is_sure}
 use Rattle.ess_keys_laws.specs.KeyForms.{key_of}
 use Rattle.ess_keys_laws.specs.Keyed.{Around, nothing_around, key_now, if_sure, entered, generator_before, keyed, keyed_all, keyed_gens, keyed_behind}
+use Rattle.ess_flat_laws.specs.Flat.{both}
 use Rattle.ess_bare_laws.specs.Bare.{before, not_behind}
 use Rattle.ess_bare_laws.specs.Lean.{Lean, a_number, a_truth, a_name, a_cell, by_one, by_two, by_power, by_truth, by_fold, by_items, by_greatest, by_order, Leans, last_lean, more_leans, Terms, no_terms, more_terms, Row, listed, alone, Ranging, behind_all, over_truths, over_numbers, under}
 use Rattle.ess_bare_written_laws.proofs.Origins.{MarkOf, of_truths, of_numbers, no_origins, indices-lean}
 use Rattle.ess_bare_written_laws.proofs.Keys.{OkKey, Key, key_number, key_name, key-of-ok, sure-key, Known, known-over, known-key, now-ok}
-use Rattle.ess_bare_written_laws.proofs.KeyedNodes.{no-fold, fold-lean, items-lean, row-lean, conditions-lean}
+use Rattle.ess_bare_written_laws.proofs.KeyedNodes.{no-fold, fold-lean, items-lean, conjunction-lean, row-lean, conditions-lean}
 
 module _ (cells : Text → Option (Bool × ℕ)) (ok : ℤ → Bool) (fine : Text → Bool) (zero_ok : ok (pos 0) ≡ true)
     (one_ok : ok (pos 1) ≡ true) where
@@ -96,6 +97,8 @@ module _ (cells : Text → Option (Bool × ℕ)) (ok : ℤ → Bool) (fine : Tex
       keyed-lean (a_cell q l) s o c u K sc =
           a_cell q (indices-lean cells ok fine K.origins zero_ok one_ok (keyed-terms l s o c u K sc))
       keyed-lean (by_one w f) s o c u K sc = by_one w (keyed-lean f s o c u K sc.0)
+      keyed-lean (by_two both f h) s o c u K sc =
+          conjunction-lean cells ok fine (keyed-lean f s o c u K sc.0) (keyed-lean h s o c u K sc.1.0)
       keyed-lean (by_two w f h) s o c u K sc = by_two w (keyed-lean f s o c u K sc.0) (keyed-lean h s o c u K sc.1.0)
       keyed-lean (by_power f h) s o c u K sc = by_power (keyed-lean f s o c u K sc.0) (keyed-lean h s o c u K sc.1.0)
       keyed-lean (by_truth {x = x} f) s o c u K sc =

@@ -1,23 +1,25 @@
 -- Flat trees on their way to a rule: told apart, made natural, with plain keys and with printed names they are as they were; shown they have
 -- cells in the place of names.
-use Rattle.std.proofs.Common.{◌≡◌, refl, ap, ◌∙◌, ℕ, Bool, true, false, List, [], ◌++◌, Option, Some, None}
+use Rattle.std.proofs.Common.{◌≡◌, refl, ap, ◌∙◌, ℕ, Bool, true, false, ◌&&◌, not, List, [], ◌++◌, Option, Some, None}
 use Rattle.ess_semantics.specs.declared.words.Op1.{Op1}
 use Rattle.ess_semantics.specs.declared.words.Op2.{Op2}
 use Rattle.ess_semantics.specs.declared.words.Fun.{Fun}
-use Rattle.ess_semantics.specs.Lists.{or_default}
+use Rattle.ess_semantics.specs.Lists.{or_default, when}
 use Rattle.ess_semantics.specs.Values.{Text}
 use Rattle.ess_semantics.specs.Names.{Names}
-use Rattle.ess_semantics.specs.Trees.{unary, Ex, truth_ex, node_ex, no_exs, more_exs, ex1, ex2, fun1}
+use Rattle.ess_semantics.specs.Trees.{unary, binary, Ex, truth_ex, node_ex, no_exs, more_exs, ex1, ex2, fun1}
 use Rattle.ess_semantics.specs.Plans.{Plan}
-use Rattle.ess_semantics.specs.Models.{scalar_cell, cell_for, with_cells}
+use Rattle.ess_semantics.specs.Models.{is_flat_op, scalar_cell, cell_for, with_cells}
+use Rattle.ess_semantics.proofs.Tests.{and-both}
 use Rattle.ess_guard_laws.specs.Origins.{Origin}
 use Rattle.ess_guard_laws.specs.Conditions.{chained, all_of}
 use Rattle.ess_guard_laws.specs.Guard.{guarded, conditions, has_value}
-use Rattle.ess_keys_laws.specs.Keyed.{nothing_around, fold_of, keyed}
+use Rattle.ess_keys_laws.specs.Chains.{is_of_flat_form, all_under_and, has_many, conjuncts_of, conjunction_fold}
+use Rattle.ess_keys_laws.specs.Keyed.{nothing_around, fold_of, folded, keyed}
 use Rattle.conjure_model_laws.specs.ToldApart.{told}
 use Rattle.conjure_model_laws.specs.Shown.{Shows, in_place, shown}
 use Rattle.conjure_model_laws.specs.Printed.{printed}
-use Rattle.ess_flat_laws.specs.Flat.{denied, negative, absolute, both, either, implied, agreeing, equal, unequal, below, at_most, above, at_least, sum, difference, product, Flat, number as number_is, truth as truth_is, named, cell, one, two, chosen, none_marked}
+use Rattle.ess_flat_laws.specs.Flat.{TwoOp, denied, negative, absolute, both, either, implied, agreeing, equal, unequal, below, at_most, above, at_least, sum, difference, product, Flat, number as number_is, truth as truth_is, named, cell, one, two, chosen, none_marked}
 use Rattle.ess_flat_models_laws.specs.FlatSpecifications.{scalar_mark}
 
 none : {m : Bool} → None ≡ Some m → ⊥
@@ -84,6 +86,36 @@ compare-kept : (o : Op2) (x y z u : Ex) (as' bs : List Ex) → as' ≡ [] → bs
 compare-kept o x y z u as' bs a b q r =
     ap (λ l. chained ((l ++ (bs ++ [])) ++ []) (ex2 true o z u)) a ∙ ap (λ l. chained (([] ++ (l ++ [])) ++ []) (ex2 true o z u)) b
     ∙ ap (λ v. ex2 true o v u) q ∙ ap (ex2 true o x) r
+
+-- An operator of flat trees is one of flat constraints.
+flat-op : {b m k : Bool} {o : Op2} → TwoOp b o m k → is_flat_op (binary o) ≡ true
+flat-op both = refl
+flat-op either = refl
+flat-op implied = refl
+flat-op agreeing = refl
+flat-op equal = refl
+flat-op unequal = refl
+flat-op below = refl
+flat-op at_most = refl
+flat-op above = refl
+flat-op at_least = refl
+flat-op sum = refl
+flat-op difference = refl
+flat-op product = refl
+
+no-list : (a b c : Bool) (l n : Ex) → a ≡ true → b ≡ true → or_default (when (c && not (a && b)) l) n ≡ n
+no-list true true true l n p q = refl
+no-list true true false l n p q = refl
+no-list true false c l n p q = cc
+no-list false b c l n p q = cc
+
+-- An operator on two operands of flat form stays.
+binary-kept : (k : Names Origin) (b : Bool) (o : Op2) (x y z u : Ex) → z ≡ x → u ≡ y → is_of_flat_form x ≡ true → is_of_flat_form y ≡ true
+    → folded k b (binary o) (more_exs z (more_exs u no_exs)) ≡ ex2 b o x y
+binary-kept k true Op2.And x y z u q r s t =
+    ap (λ v. or_default (conjunction_fold v u) (ex2 true Op2.And v u)) q ∙ ap (λ v. or_default (conjunction_fold x v) (ex2 true Op2.And x v)) r
+    ∙ no-list (is_of_flat_form x) (is_of_flat_form y) (has_many y) (all_under_and (more_exs x (conjuncts_of y))) (ex2 true Op2.And x y) s t
+binary-kept k b o x y z u q r s t = ap (λ v. ex2 b o v u) q ∙ ap (ex2 b o x) r
 
 module _ (cells : Text → Option Bool) where
   abbrev F : Ex → Bool → Type 0
@@ -215,6 +247,18 @@ module _ (cells : Text → Option Bool) where
   no-fold (two {b = false} w f h c) q k = cc
   no-fold (chosen f) q k = cc
 
+  -- Its form is flat.
+  flat-form : {e : Ex} {m : Bool} → F e m → is_of_flat_form e ≡ true
+  flat-form number_is = refl
+  flat-form truth_is = refl
+  flat-form (named h) = absurd (none h)
+  flat-form (cell h) = refl
+  flat-form (one w f) = ap (λ c. c && true) (flat-form f)
+  flat-form (two {o = o} {x = x} {y = y} w f h c) =
+      and-both (is_flat_op (binary o)) (is_of_flat_form x && (is_of_flat_form y && true)) (flat-op w)
+      (and-both (is_of_flat_form x) (is_of_flat_form y && true) (flat-form f) (ap (λ c. c && true) (flat-form h)))
+  flat-form (chosen f) = ap (λ c. c && true) (flat-form f)
+
   -- Its keys are plain.
   pub keyed-flat : {e : Ex} {m : Bool} → F e m → keyed nothing_around e ≡ e
   keyed-flat number_is = refl
@@ -223,7 +267,7 @@ module _ (cells : Text → Option Bool) where
   keyed-flat (cell h) = refl
   keyed-flat (one {b = b} {o = o} w f) = ap (ex1 b o) (keyed-flat f)
   keyed-flat (two {b = b} {o = o} {x = x} {y = y} w f h c) =
-      ap (λ z. ex2 b o z (keyed nothing_around y)) (keyed-flat f) ∙ ap (ex2 b o x) (keyed-flat h)
+      binary-kept [] b o x y (keyed nothing_around x) (keyed nothing_around y) (keyed-flat f) (keyed-flat h) (flat-form f) (flat-form h)
   keyed-flat (chosen {x = x} f) =
       ap (λ z. or_default (fold_of [] false Fun.ToInt z) (fun1 false Fun.ToInt z)) (keyed-flat f)
       ∙ ap (λ o. or_default o (fun1 false Fun.ToInt x)) (no-fold f refl [])

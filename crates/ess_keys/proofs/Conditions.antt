@@ -42,3 +42,11 @@ one_more old more e es q = ap (λ l. trees_before l es) q ∙ before-one old e e
 pub the_last : (old : List Ex) (new : List Node) (e : Ex) → map pure_node new ≡ old ++ e ∷ []
     → pure_nodes new ≡ trees_before old (more_exs e no_exs)
 the_last old new e q = ap exs_of q ∙ before-last old e
+
+-- No more come behind others.
+pub none_more : (ns : List Node) → pure_nodes ns ≡ trees_before (map pure_node ns) no_exs
+none_more ns = go (map pure_node ns)
+  where
+    go : (xs : List Ex) → exs_of xs ≡ trees_before xs no_exs
+    go [] = refl
+    go (x ∷ xs) = ap (more_exs x) (go xs)

@@ -7,3 +7,5 @@ pub mod EachItem
 pub mod Rows
 -- Conditions in a row
 pub mod Conditions
+-- Long conjunctions
+pub mod Conjunctions

@@ -1,8 +1,12 @@
--- Generators with plain keys, one by one, and trees in a row before others.
-use Rattle.std.specs.Prelude.{List, [], ◌∷◌, ◌++◌, map, Option, Some, None}
-use Rattle.ess_semantics.specs.Trees.{Ex, Exs, more_exs, Pat, Dom}
+-- Generators with plain keys, one by one, trees in a row before others, and conjunctions.
+use Rattle.std.specs.Prelude.{true, false, List, [], ◌∷◌, ◌++◌, map, Option, Some, None}
+use Rattle.ess_semantics.specs.declared.words.Op2.{Op2}
+use Rattle.ess_semantics.specs.declared.words.Fun.{Fun}
+use Rattle.ess_semantics.specs.Lists.{and_then}
+use Rattle.ess_semantics.specs.Trees.{binary, word, matrix_literal, Pat, Ex, Exs, node_ex, more_exs, Dom}
 use Rattle.ess_core.specs.TreeViews.{Item, over_item, from_item, cond_item, gens_of}
-use Rattle.ess_keys_laws.specs.Keyed.{Around, sure_key, entered, entered_any, conjuncts, keyed, keyed_dom}
+use Rattle.ess_guard_forms.specs.PartForms.{both_operands}
+use Rattle.ess_keys_laws.specs.Keyed.{Around, sure_key, entered, entered_any, one_operand, conjuncts, keyed, keyed_dom}
 
 -- A generator over d, where its name has no key.
 abbrev pub generator_left : Pat → Dom → Option Ex → List Item
@@ -35,3 +39,20 @@ behind_items c (g ∷ gs) = behind_items (behind_item c g gs) gs
 abbrev pub trees_before : List Ex → Exs → Exs
 trees_before [] es = es
 trees_before (x ∷ xs) es = more_exs x (trees_before xs es)
+
+-- ---- conjunctions
+
+-- Both sides of a conjunction.
+abbrev pub sides : Ex → Option (Ex × Ex)
+sides (node_ex true (binary Op2.And) es) = both_operands es
+sides e = None
+
+-- The items of a list.
+abbrev pub list_items : Ex → Option Exs
+list_items (node_ex false matrix_literal es) = Some es
+list_items e = None
+
+-- The items of a list under `and`.
+abbrev pub items_under_and : Ex → Option Exs
+items_under_and (node_ex true (word Fun.And) es) = and_then (one_operand es) list_items
+items_under_and e = None

@@ -126,7 +126,7 @@ fn is_fixed(node: &Node) -> bool
 }
 
 /// Whether there are no indices.
-fn is_no_index(at: &[Node]) -> bool
+pub(crate) fn is_no_index(at: &[Node]) -> bool
     ensures { result ≡ are_none (pure_nodes at.now) }
 {
     match at.split_first() {

@@ -1,18 +1,19 @@
 //! Comprehensions and folds whose generators are gone.
-ghost use Rattle.std.specs.Prelude.{◌≡◌, ◌++◌, ◌∷◌, [], IfOk, OnOk, map, nat_le, option_map};
+ghost use Rattle.std.specs.Prelude.{◌≡◌, ◌∷◌, [], IfOk, IfSome, option_map};
 ghost use Rattle.std.specs.Option.{option_copied};
 ghost use Rattle.ess_semantics.specs.Lists.{and_then, when};
 ghost use Rattle.ess_core_nodes.specs.NodeViews.{pure_node, pure_nodes, pure_gens, pure_op};
 ghost use Rattle.ess_guard_forms.specs.KnownNames.{pure_known};
-ghost use Rattle.ess_keys_laws.specs.Keyed.{laid, one_operand, is_bare, are_conditions, connected, all_of, how_many, joined};
+ghost use Rattle.ess_keys_laws.specs.Keyed.{laid, one_operand, is_bare, are_conditions};
 ghost use Rattle.ess_keys_laws.specs.Keyed.{connective_of, condition_fold, is_folded, fold_of, fold_left, folded};
-ghost use Rattle.ess_keys.specs.Steps.{trees_before};
 
+use crate::chains::conjunction_fold;
 use crate::forms::is_truth;
+use crate::joining::joined;
 use ess_core::{Fun, Op2};
 use ess_core_nodes::{Gen, Node, Op};
-use ess_guard_forms::{KnownName, is_number};
-use ess_node_building::{binary, comprehension, literal, only, word};
+use ess_guard_forms::{KnownName, is_number, pair_in};
+use ess_node_building::{comprehension, literal, only};
 use ess_node_remaking::operator;
 use ess_rows::{Boxed, NoMemory, Row};
 use std::alloc::Global;
@@ -47,8 +48,9 @@ fn is_bare(gens: &[Gen]) -> bool
 }
 
 /// The only operand.
-fn one_operand(operands: &[Node]) -> Option<&Node>
-    ensures { option_map pure_node (option_copied result) ≡ one_operand (pure_nodes operands.now) }
+pub(crate) fn one_operand(operands: &[Node]) -> Option<&Node>
+    ensures part { option_map pure_node (option_copied result) ≡ one_operand (pure_nodes operands.now) }
+    ensures whole { IfSome result (λ p. operands.now ≡ p.now ∷ []) }
 {
     match operands.split_first() {
         None => None,
@@ -68,83 +70,6 @@ fn are_conditions(gens: &[Gen]) -> bool
         None => true,
         Some((Gen::If(_), rest)) => are_conditions(rest),
         Some(_) => false,
-    }
-}
-
-/// A Boolean under conditions, each before the others.
-#[tactic(auto, using(ess_core_nodes::proofs::NodeEquations::pure_gen_over, ess_core_nodes::proofs::NodeEquations::pure_gen_from, ess_core_nodes::proofs::NodeEquations::pure_gen_if))]
-fn connected(alloc: Global, op: Op2, gens: &[Gen], body: &Node) -> Result<Boxed<Node>, NoMemory>
-    ensures { IfOk result (λ n. pure_node n ≡ connected op (pure_gens gens.now) (pure_node body.now)) }
-{
-    match gens.split_first() {
-        None => body.copy(alloc),
-        Some((Gen::Over(_, _), _)) => body.copy(alloc),
-        Some((Gen::From(_, _), _)) => body.copy(alloc),
-        Some((Gen::If(condition), rest)) => {
-            let behind = connected(alloc, op, rest, body)?;
-            let condition = condition.get().copy(alloc)?;
-            binary(alloc, true, op, condition, behind)
-        }
-    }
-}
-
-/// A copy of a tree comes behind others.
-fn push_copy(alloc: Global, node: &Node, items: &mut Row<Node>) -> Result<(), NoMemory>
-    ensures { OnOk result (map pure_node items.new ≡ map pure_node items.old ++ pure_node node.now ∷ []) }
-{
-    let copy = node.copy(alloc)?;
-    items.push(copy.into_inner())
-}
-
-/// Conditions, and the Boolean under them, come behind other trees.
-#[tactic(auto, using(crate::proofs::Conditions::one_more, crate::proofs::Conditions::the_last, ess_core_nodes::proofs::NodeEquations::pure_gen_over, ess_core_nodes::proofs::NodeEquations::pure_gen_from, ess_core_nodes::proofs::NodeEquations::pure_gen_if))]
-fn put_all(alloc: Global, gens: &[Gen], body: &Node, items: &mut Row<Node>) -> Result<(), NoMemory>
-    ensures { OnOk result (pure_nodes items.new
-        ≡ trees_before (map pure_node items.old) (all_of (pure_gens gens.now) (pure_node body.now))) }
-{
-    match gens.split_first() {
-        None => push_copy(alloc, body, items),
-        Some((Gen::Over(_, _), _)) => push_copy(alloc, body, items),
-        Some((Gen::From(_, _), _)) => push_copy(alloc, body, items),
-        Some((Gen::If(condition), rest)) => {
-            push_copy(alloc, condition.get(), items)?;
-            put_all(alloc, rest, body, items)
-        }
-    }
-}
-
-/// Conditions, and the Boolean under them.
-fn all_of(alloc: Global, gens: &[Gen], body: &Node) -> Result<Row<Node>, NoMemory>
-    ensures { IfOk result (λ ns. pure_nodes ns ≡ all_of (pure_gens gens.now) (pure_node body.now)) }
-{
-    let mut items = Row::new(alloc);
-    put_all(alloc, gens, body, &mut items)?;
-    Ok(items)
-}
-
-/// Whether there are so many conditions that a chain of them would be deep.
-#[tactic(auto, using(crate::proofs::Conditions::as_many))]
-fn are_many(gens: &[Gen]) -> bool
-    ensures { result ≡ nat_le 16 (how_many (pure_gens gens.now)) }
-{
-    16 <= gens.len()
-}
-
-/// A Boolean that holds with its conditions: a list of all under `and`, where these are many.
-fn joined(alloc: Global, op: Op2, gens: &[Gen], body: &Node) -> Result<Boxed<Node>, NoMemory>
-    ensures { IfOk result (λ n. pure_node n ≡ joined op (pure_gens gens.now) (pure_node body.now)) }
-{
-    match op {
-        Op2::And => {
-            if are_many(gens) {
-                let items = all_of(alloc, gens, body)?;
-                let list = literal(alloc, Op::Matrix, items)?;
-                word(alloc, true, Fun::And, list)
-            } else {
-                connected(alloc, op, gens, body)
-            }
-        }
-        _ => connected(alloc, op, gens, body),
     }
 }
 
@@ -234,6 +159,7 @@ fn fold_of(
 }
 
 /// What is left of an operator.
+#[tactic(auto, using(crate::proofs::Conjunctions::no_conjunction))]
 fn fold_left(
     alloc: Global,
     known: &[KnownName],
@@ -248,6 +174,16 @@ fn fold_left(
         Op::Word(fun) => match one_operand(operands) {
             None => Ok(None),
             Some(list) => fold_of(alloc, known, mark, *fun, list),
+        },
+        Op::Binary(Op2::And) => match pair_in(operands) {
+            None => Ok(None),
+            Some((first, second)) => {
+                if mark {
+                    conjunction_fold(alloc, first, second)
+                } else {
+                    Ok(None)
+                }
+            }
         },
         _ => Ok(None),
     }

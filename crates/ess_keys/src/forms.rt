@@ -1,15 +1,16 @@
 //! What the form of a term tells: whether it is a truth value, what it is as an index, and which conditions hold.
 ghost use Rattle.std.specs.Prelude.{◌≡◌, ◌++◌, IfOk, map};
 ghost use Rattle.ess_core.specs.TreeViews.{cond_item};
-ghost use Rattle.ess_core_nodes.specs.NodeViews.{pure_node, pure_gen};
+ghost use Rattle.ess_core_nodes.specs.NodeViews.{pure_node, pure_nodes, pure_gen};
 ghost use Rattle.ess_semantics.specs.Trees.{bool_dom};
 ghost use Rattle.ess_guard_laws.specs.Origins.{is_sure};
 ghost use Rattle.ess_guard_laws.specs.Conditions.{unless};
 ghost use Rattle.ess_guard_forms.specs.KnownNames.{pure_known};
 ghost use Rattle.ess_keys_laws.specs.KeyForms.{is_truth, as_index, is_scalar, same_key, is_settled};
-ghost use Rattle.ess_keys_laws.specs.Keyed.{conjuncts};
+ghost use Rattle.ess_keys_laws.specs.Keyed.{conjuncts, all_conjuncts};
 
 use crate::around::same_name;
+use crate::chains::{items_under_and, sides};
 use ess_core::{Fun, Op2};
 use ess_core_nodes::{Gen, Node, NodeDom, Op};
 use ess_guard_forms::{KnownName, is_number, is_sure, pair_in};
@@ -105,7 +106,7 @@ fn is_settled(known: &[KnownName], node: &Node) -> bool
 
 /// A condition as its conjuncts, without those that hold by their form.
 #[cycle(conjuncts)]
-#[tactic(auto, using(ess_core_nodes::proofs::NodeEquations::pure_seen_is, crate::proofs::Pairs::one_conjunct, crate::proofs::Pairs::two_conjuncts))]
+#[tactic(auto, using(crate::proofs::Pairs::two_conjuncts))]
 pub(crate) fn conjuncts(
     alloc: Global,
     known: &[KnownName],
@@ -113,8 +114,9 @@ pub(crate) fn conjuncts(
 ) -> Result<Row<Gen>, NoMemory>
     ensures { IfOk result (λ gs. map pure_gen gs ≡ map cond_item (conjuncts (pure_known known.now) (pure_node node.now))) }
 {
-    match node {
-        Node::Op(true, Op::Binary(Op2::And), operands) => match pair_in(operands.as_slice()) {
+    match items_under_and(node) {
+        Some(items) => all_conjuncts(alloc, known, items),
+        None => match sides(node) {
             Some((first, second)) => {
                 let first = conjuncts(alloc, known, first)?;
                 let second = conjuncts(alloc, known, second)?;
@@ -122,8 +124,21 @@ pub(crate) fn conjuncts(
             }
             None => unless_settled(alloc, known, node),
         },
-        _ => unless_settled(alloc, known, node),
     }
+}
+
+/// The conjuncts of several conditions.
+#[cycle(conjuncts)]
+#[tactic(auto, using(crate::proofs::Pairs::more_conjuncts, crate::proofs::Pairs::all_the_conjuncts))]
+fn all_conjuncts(alloc: Global, known: &[KnownName], nodes: &[Node]) -> Result<Row<Gen>, NoMemory>
+    ensures { IfOk result (λ gs. map pure_gen gs ≡ map cond_item (all_conjuncts (pure_known known.now) (pure_nodes nodes.now))) }
+{
+    let mut all = Row::new(alloc);
+    for node in nodes {
+        let mut more = conjuncts(alloc, known, node)?;
+        all.append(&mut more)?;
+    }
+    Ok(all)
 }
 
 /// The condition, unless it holds by its form.

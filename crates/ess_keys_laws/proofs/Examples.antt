@@ -6,6 +6,7 @@ use Rattle.ess_semantics.specs.Values.{Text}
 use Rattle.ess_semantics.specs.Trees.{matrix_literal, name_pat, Ex, Exs, truth_ex, node_ex, comp_ex, cell_ex, no_exs, more_exs, Gens}
 use Rattle.ess_semantics.specs.Trees.{no_gens, over, cond, Dom, bool_dom, ex2, fun1}
 use Rattle.ess_semantics.proofs.Shorthands.{N, n, es1, upto, range}
+use Rattle.ess_keys_laws.specs.Chains.{all_under_and}
 use Rattle.ess_keys_laws.specs.Keyed.{nothing_around, keyed}
 
 abbrev x : Ex
@@ -109,23 +110,92 @@ abbrev items_of : ℕ → Exs
 items_of zero = es1 (s (n 0))
 items_of (suc i) = more_exs (s (n (suc i))) (items_of i)
 
+-- The items `s[i + 1]`, .., `s[1]`.
+abbrev conditions_from : ℕ → Exs
+conditions_from zero = es1 (s (n 1))
+conditions_from (suc i) = more_exs (s (n (suc (suc i)))) (conditions_from i)
+
+-- The chain `s[i + 1] /\ (.. /\ s[1])`.
+abbrev chain_from : ℕ → Ex
+chain_from zero = s (n 1)
+chain_from (suc i) = ex2 true Op2.And (s (n (suc (suc i)))) (chain_from i)
+
 -- `or([s[0] | s[15], .., s[1]])` is a chain: fifteen conditions are few.
 fifteen : keyed nothing_around (fun1 true Fun.Or (comp_ex (s (n 0)) (conditions 15))) ≡ chain_of 15
 fifteen = refl
 
 -- `or([s[0] | s[16], .., s[1]])` is `and([s[16], .., s[1], s[0]])`: sixteen are many.
 sixteen : keyed nothing_around (fun1 true Fun.Or (comp_ex (s (n 0)) (conditions 16)))
-    ≡ fun1 true Fun.And (node_ex false matrix_literal (items_of 16))
+    ≡ all_under_and (items_of 16)
 sixteen = refl
 
 -- Conditions that hold by their form don't count: `or([s[0] | true, s[15], .., s[1]])`.
 without_settled : keyed nothing_around (fun1 true Fun.Or (comp_ex (s (n 0)) (cond (truth_ex true) (conditions 15)))) ≡ chain_of 15
 without_settled = refl
 
--- Under `and` many conditions stay a chain of `->`, here `s[16] -> .. `.
+-- Conditions under one `and` are conditions each, and a long conjunction among conditions is taken apart: `or([s[0] | and([s[16], .., s[1]])])`
+-- and `or([s[0] | s[16] /\ (.. /\ s[1])])` are `and([s[16], .., s[0]])`.
+listed_conditions : keyed nothing_around (fun1 true Fun.Or (comp_ex (s (n 0)) (cond (all_under_and (conditions_from 15)) no_gens)))
+    ≡ all_under_and (items_of 16)
+listed_conditions = refl
+
+chained_conditions : keyed nothing_around (fun1 true Fun.Or (comp_ex (s (n 0)) (cond (chain_from 15) no_gens))) ≡ all_under_and (items_of 16)
+chained_conditions = refl
+
+-- Under `and` fifteen conditions are a chain of `->`, here `s[15] -> .. `; sixteen are a list, `and([s[16], .., s[1]]) -> s[0]`.
 abbrev implied_by : ℕ → Ex
 implied_by zero = s (n 0)
 implied_by (suc i) = ex2 true Op2.Implies (s (n (suc i))) (implied_by i)
 
-sixteen_under_and : keyed nothing_around (fun1 true Fun.And (comp_ex (s (n 0)) (conditions 16))) ≡ implied_by 16
+fifteen_under_and : keyed nothing_around (fun1 true Fun.And (comp_ex (s (n 0)) (conditions 15))) ≡ implied_by 15
+fifteen_under_and = refl
+
+sixteen_under_and : keyed nothing_around (fun1 true Fun.And (comp_ex (s (n 0)) (conditions 16)))
+    ≡ ex2 true Op2.Implies (all_under_and (conditions_from 15)) (s (n 0))
 sixteen_under_and = refl
+
+-- ---- many conjuncts
+
+-- A chain of fifteen conjuncts stays.
+fifteen_conjuncts : keyed nothing_around (chain_of 14) ≡ chain_of 14
+fifteen_conjuncts = refl
+
+-- With one more it is a list of sixteen, and each further one goes into the list.
+sixteen_conjuncts : keyed nothing_around (chain_of 15) ≡ all_under_and (items_of 15)
+sixteen_conjuncts = refl
+
+seventeen_conjuncts : keyed nothing_around (chain_of 16) ≡ all_under_and (items_of 16)
+seventeen_conjuncts = refl
+
+-- So does one before a list of sixteen items; fifteen items are left alone.
+before_sixteen : keyed nothing_around (ex2 true Op2.And (s (n 16)) (all_under_and (items_of 15))) ≡ all_under_and (items_of 16)
+before_sixteen = refl
+
+before_fifteen : keyed nothing_around (ex2 true Op2.And (s (n 15)) (all_under_and (items_of 14)))
+    ≡ ex2 true Op2.And (s (n 15)) (all_under_and (items_of 14))
+before_fifteen = refl
+
+-- Before a chain that conditions leave, too: `s[16] /\ or([s[0] | s[15], .., s[1]])`.
+before_conditions : keyed nothing_around (ex2 true Op2.And (s (n 16)) (fun1 true Fun.Or (comp_ex (s (n 0)) (conditions 15))))
+    ≡ all_under_and (items_of 16)
+before_conditions = refl
+
+-- Other connectives stay a chain.
+other_connective : keyed nothing_around (implied_by 16) ≡ implied_by 16
+other_connective = refl
+
+-- A flat constraint keeps its form, however long: `b /\ (.. (b /\ b))`, where b is a single cell.
+abbrev flat_chain : ℕ → Ex
+flat_chain zero = cell_ex true (codes "b") no_exs
+flat_chain (suc i) = ex2 true Op2.And (cell_ex true (codes "b") no_exs) (flat_chain i)
+
+flat_conjuncts : keyed nothing_around (flat_chain 15) ≡ flat_chain 15
+flat_conjuncts = refl
+
+-- Before a chain of sixteen flat ones one that isn't flat makes a list of all.
+abbrev flat_items : ℕ → Exs
+flat_items zero = es1 (cell_ex true (codes "b") no_exs)
+flat_items (suc i) = more_exs (cell_ex true (codes "b") no_exs) (flat_items i)
+
+before_flat : keyed nothing_around (ex2 true Op2.And (s (n 1)) (flat_chain 15)) ≡ all_under_and (more_exs (s (n 1)) (flat_items 15))
+before_flat = refl

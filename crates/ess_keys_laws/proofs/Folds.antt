@@ -5,12 +5,12 @@ use Rattle.std.proofs.Common.{option_map, nat_le, arith}
 use Rattle.std.proofs.lemmas.Int.{ints}
 use Rattle.ess_semantics.specs.declared.words.Op2.{Op2}
 use Rattle.ess_semantics.specs.declared.words.Fun.{Fun}
-use Rattle.ess_semantics.specs.Lists.{and_then, or_default, when, all_some}
+use Rattle.ess_semantics.specs.Lists.{or_default, when}
 use Rattle.ess_semantics.specs.Values.{Value, number, truth, item, node}
 use Rattle.ess_semantics.specs.Names.{Names}
 use Rattle.ess_semantics.specs.Trees.{Op, binary, word, matrix_literal, Ex, Exs, node_ex, comp_ex, no_exs, more_exs, Gens, no_gens, over}
-use Rattle.ess_semantics.specs.Trees.{from, cond, fun1}
-use Rattle.ess_semantics.specs.Operators.{as_truth, list_value, number_in, value_of_op, value_of_node, value_of_word1}
+use Rattle.ess_semantics.specs.Trees.{from, cond, ex2, fun1}
+use Rattle.ess_semantics.specs.Operators.{as_truth, list_value, number_in, value_of_node, value_of_word1}
 use Rattle.ess_semantics.specs.Operators.{false_where_undefined}
 use Rattle.ess_semantics.specs.Tables.{Table}
 use Rattle.ess_semantics.specs.Meaning.{Env, TypeEntry, meaning, meanings, items_under, where_true}
@@ -19,14 +19,13 @@ use Rattle.ess_rules_laws.proofs.Simulation.{Vals, E}
 use Rattle.ess_guard_laws.specs.Origins.{Origin}
 use Rattle.ess_guard_laws.proofs.NumberForms.{number-form}
 use Rattle.ess_guard_laws.proofs.KnownNames as K
-use Rattle.ess_keys_laws.specs.Keyed.{laid, is_bare, are_conditions, connected, all_of, how_many, joined, is_folded, fold_of, folded}
+use Rattle.ess_keys_laws.specs.Chains.{all_under_and}
+use Rattle.ess_keys_laws.specs.Keyed.{laid, is_bare, are_conditions, connected, all_of, conditions_of, how_many, joined, is_folded}
+use Rattle.ess_keys_laws.specs.Keyed.{fold_of, folded}
+use Rattle.ess_keys_laws.proofs.Conjunctions.{single, Fold, Under, and-alone, All, all-alone, all-more, implied-more, conjunction-means}
 use Rattle.ess_keys_laws.proofs.Forms.{truth-there}
 
 -- ---- lists
-
-single : (o : Option Value) → value_of_node matrix_literal (o ∷ []) ≡ option_map list_value (option_map (λ v. v ∷ []) o)
-single None = refl
-single (Some v) = refl
 
 -- A literal of one item is the list of it.
 pub laid-means : (e : Ex) (gs : Gens) (env : Env) → meaning (laid e gs) env ≡ meaning (comp_ex e gs) env
@@ -36,21 +35,6 @@ laid-means e (from p s gs) env = refl
 laid-means e (cond c gs) env = refl
 
 -- ---- conditions
-
--- The fold of a list that is there or not.
-abbrev Fold : Fun → Option (List Value) → Option Value
-Fold f x = false_where_undefined true (value_of_node (word f) (option_map list_value x ∷ []))
-
-abbrev Under : Op2 → Option Value → Option Value → Option Value
-Under o c r = false_where_undefined true (value_of_node (binary o) (c ∷ r ∷ []))
-
-and-alone : (o : Option Value) → Fold Fun.And (option_map (λ v. v ∷ []) o) ≡ Some (truth (as_truth o))
-and-alone None = refl
-and-alone (Some (truth true)) = refl
-and-alone (Some (truth false)) = refl
-and-alone (Some (number n)) = refl
-and-alone (Some (item t k)) = refl
-and-alone (Some (node k xs)) = refl
 
 or-alone : (o : Option Value) → Fold Fun.Or (option_map (λ v. v ∷ []) o) ≡ Some (truth (as_truth o))
 or-alone None = refl
@@ -98,42 +82,24 @@ or-under e (over p d gs) env t = cc
 or-under e (from p s gs) env t = cc
 
 -- Conditions with what stands under them, as a list under `and`.
-abbrev All : List (Option Value) → Option Value
-All os = false_where_undefined true (value_of_node (word Fun.And) (value_of_node matrix_literal os ∷ []))
-
-all-alone : (o : Option Value) → All (o ∷ []) ≡ Some (truth (as_truth o))
-all-alone o = ap (λ x. false_where_undefined true (value_of_node (word Fun.And) (x ∷ []))) (single o) ∙ and-alone o
-
--- The same of their values, where all are there.
-abbrev AllOf : Option (List Value) → Option Value
-AllOf x = false_where_undefined true (value_of_node (word Fun.And) (and_then x (value_of_op matrix_literal) ∷ []))
-
-all-more : (o r : Option Value) (os : List (Option Value)) → All os ≡ Some (truth (as_truth r))
-    → All (o ∷ os) ≡ Some (truth (as_truth (Under Op2.And o r)))
-all-more o r os h = go o (all_some os) h
-  where
-    go : (o : Option Value) (x : Option (List Value)) → AllOf x ≡ Some (truth (as_truth r))
-        → AllOf (and_then o (λ v. option_map (λ vs. v ∷ vs) x)) ≡ Some (truth (as_truth (Under Op2.And o r)))
-    go None x h = refl
-    go (Some (truth true)) None h = h
-    go (Some (truth true)) (Some vs) h = h
-    go (Some (truth false)) None h = refl
-    go (Some (truth false)) (Some vs) h = refl
-    go (Some (number n)) None h = refl
-    go (Some (number n)) (Some vs) h = refl
-    go (Some (item t k)) None h = refl
-    go (Some (item t k)) (Some vs) h = refl
-    go (Some (node k xs)) None h = refl
-    go (Some (node k xs)) (Some vs) h = refl
-
 all-under : (e : Ex) (gs : Gens) (env : Env) → are_conditions gs ≡ true
-    → meaning (fun1 true Fun.And (node_ex false matrix_literal (all_of gs e))) env
-    ≡ Some (truth (as_truth (meaning (connected Op2.And gs e) env)))
+    → meaning (all_under_and (all_of gs e)) env ≡ Some (truth (as_truth (meaning (connected Op2.And gs e) env)))
 all-under e no_gens env t = all-alone (meaning e env)
 all-under e (cond c gs) env t =
     all-more (meaning c env) (meaning (connected Op2.And gs e) env) (meanings (all_of gs e) env) (all-under e gs env t)
 all-under e (over p d gs) env t = cc
 all-under e (from p s gs) env t = cc
+
+-- What stands under conditions that are a list.
+implied-under : (e : Ex) (gs : Gens) (env : Env) → are_conditions gs ≡ true
+    → Under Op2.Implies (All (meanings (conditions_of gs) env)) (meaning e env)
+    ≡ Some (truth (as_truth (meaning (connected Op2.Implies gs e) env)))
+implied-under e no_gens env t = refl
+implied-under e (cond c gs) env t =
+    implied-more (meaning c env) (meaning (connected Op2.Implies gs e) env) (meaning e env) (meanings (conditions_of gs) env)
+    (implied-under e gs env t)
+implied-under e (over p d gs) env t = cc
+implied-under e (from p s gs) env t = cc
 
 -- What stands under conditions is a truth value.
 connected-truth : (o : Op2) (e : Ex) (gs : Gens) (env : Env) → not (is_bare gs) && are_conditions gs ≡ true
@@ -143,16 +109,22 @@ connected-truth o e (cond c gs) env t = refl
 connected-truth o e (over p d gs) env t = cc
 connected-truth o e (from p s gs) env t = cc
 
+-- The same where many of them are a list.
+implied-truth : (e : Ex) (gs : Gens) (env : Env) (b : Bool) → not (is_bare gs) && are_conditions gs ≡ true
+    → meaning (if b then ex2 true Op2.Implies (all_under_and (conditions_of gs)) e else connected Op2.Implies gs e) env
+    ≡ Some (truth (as_truth (meaning (connected Op2.Implies gs e) env)))
+implied-truth e gs env true q = implied-under e gs env (and-right (not (is_bare gs)) (are_conditions gs) q)
+implied-truth e gs env false q = connected-truth Op2.Implies e gs env q
+
 and-folded : (e : Ex) (gs : Gens) (env : Env) (t : Bool) → not (is_bare gs) && are_conditions gs ≡ t
-    → meaning (or_default (when t (connected Op2.Implies gs e)) (fun1 true Fun.And (comp_ex e gs))) env
+    → meaning (or_default (when t (joined Op2.Implies gs e)) (fun1 true Fun.And (comp_ex e gs))) env
     ≡ meaning (fun1 true Fun.And (comp_ex e gs)) env
 and-folded e gs env true q =
-    connected-truth Op2.Implies e gs env q ∙ sym (and-under e gs env (and-right (not (is_bare gs)) (are_conditions gs) q))
+    implied-truth e gs env (nat_le 16 (how_many gs)) q ∙ sym (and-under e gs env (and-right (not (is_bare gs)) (are_conditions gs) q))
 and-folded e gs env false q = refl
 
--- The same where many of them are a list.
 joined-truth : (e : Ex) (gs : Gens) (env : Env) (b : Bool) → not (is_bare gs) && are_conditions gs ≡ true
-    → meaning (if b then fun1 true Fun.And (node_ex false matrix_literal (all_of gs e)) else connected Op2.And gs e) env
+    → meaning (if b then all_under_and (all_of gs e) else connected Op2.And gs e) env
     ≡ Some (truth (as_truth (meaning (connected Op2.And gs e) env)))
 joined-truth e gs env true q = all-under e gs env (and-right (not (is_bare gs)) (are_conditions gs) q)
 joined-truth e gs env false q = connected-truth Op2.And e gs env q
@@ -220,4 +192,5 @@ module _ (pl : Bool) (ts : List TypeEntry) (cs : Names Table) where
   pub folded-means : (k : Names Origin) (b : Bool) (op : Op) (es : Exs) (g : Vals) → Known k g
       → meaning (folded k b op es) (M g) ≡ meaning (node_ex b op es) (M g)
   folded-means k b (word f) (more_exs l no_exs) g h = fold-means k b f l g h
+  folded-means k true (binary Op2.And) (more_exs a (more_exs r no_exs)) g h = conjunction-means a r (M g)
   folded-means k b op es g h = refl

@@ -8,7 +8,7 @@ use Rattle.ess_semantics.specs.Values.{Text, Value, number, truth, item, node}
 use Rattle.ess_semantics.specs.Order.{same_text}
 use Rattle.ess_semantics.specs.Names.{Names, look}
 use Rattle.ess_semantics.specs.Collections.{holds}
-use Rattle.ess_semantics.specs.Trees.{binary, word, Ex, Exs, number_ex, truth_ex, name_ex, node_ex, matrix_ex, comp_ex, cell_ex, seen_ex}
+use Rattle.ess_semantics.specs.Trees.{binary, word, matrix_literal, Ex, Exs, number_ex, truth_ex, name_ex, node_ex, matrix_ex, comp_ex, cell_ex, seen_ex}
 use Rattle.ess_semantics.specs.Trees.{no_exs, more_exs, Gens, cond, bool_dom, ex2, fun1}
 use Rattle.ess_semantics.specs.Operators.{as_truth, value_of_node, false_where_undefined}
 use Rattle.ess_semantics.specs.Domains.{booleans}
@@ -22,7 +22,8 @@ use Rattle.ess_guard_laws.specs.Origins.{Origin, runs_over, anywhere, runs_over_
 use Rattle.ess_guard_laws.specs.Conditions.{unless}
 use Rattle.ess_guard_laws.proofs.KnownNames as K
 use Rattle.ess_keys_laws.specs.KeyForms.{is_truth, as_index, as_indices, is_scalar, same_key, is_settled}
-use Rattle.ess_keys_laws.specs.Keyed.{conjuncts, conditions_before}
+use Rattle.ess_keys_laws.specs.Keyed.{conjuncts, all_conjuncts, conditions_before}
+use Rattle.ess_keys_laws.proofs.Conjunctions.{All, all-more}
 
 bool-value : (is : List Value) (v : Value) → members_in (Some booleans) ≡ Some is → holds is v ≡ true
     → Some v ≡ Some (truth (as_truth (Some v)))
@@ -164,12 +165,27 @@ module _ (pl : Bool) (ts : List TypeEntry) (cs : Names Table) where
   unless-means k c gs g K h false q = refl
   unless-means k c gs g K h true q = ap (λ o. where_true o (λ u. items_under gs (M g) K)) (sym (settled-holds k c g h q))
 
-  -- A condition and its conjuncts hold at once.
-  pub conjuncts-mean : (k : Names Origin) (c : Ex) (gs : Gens) (g : Vals) (K : Env → Option (List Value)) → Known k g
-      → items_under (conditions_before (conjuncts k c) gs) (M g) K ≡ where_true (meaning c (M g)) (λ u. items_under gs (M g) K)
-  conjuncts-mean k (ex2 true Op2.And a b) gs g K h =
-      ap (λ hs. items_under hs (M g) K) (before-append (conjuncts k a) (conjuncts k b) gs)
-      ∙ conjuncts-mean k a (conditions_before (conjuncts k b) gs) g K h
-      ∙ ap (λ o. where_true (meaning a (M g)) (λ u. o)) (conjuncts-mean k b gs g K h)
-      ∙ sym (both-hold (meaning a (M g)) (meaning b (M g)) (items_under gs (M g) K))
-  conjuncts-mean k c gs g K h = unless-means k c gs g K h (is_settled k c) refl
+  mutual
+    -- A condition and its conjuncts hold at once.
+    pub conjuncts-mean : (k : Names Origin) (c : Ex) (gs : Gens) (g : Vals) (K : Env → Option (List Value)) → Known k g
+        → items_under (conditions_before (conjuncts k c) gs) (M g) K ≡ where_true (meaning c (M g)) (λ u. items_under gs (M g) K)
+    conjuncts-mean k (ex2 true Op2.And a b) gs g K h =
+        ap (λ hs. items_under hs (M g) K) (before-append (conjuncts k a) (conjuncts k b) gs)
+        ∙ conjuncts-mean k a (conditions_before (conjuncts k b) gs) g K h
+        ∙ ap (λ o. where_true (meaning a (M g)) (λ u. o)) (conjuncts-mean k b gs g K h)
+        ∙ sym (both-hold (meaning a (M g)) (meaning b (M g)) (items_under gs (M g) K))
+    conjuncts-mean k (fun1 true Fun.And (node_ex false matrix_literal es)) gs g K h = all_conjuncts-mean k es gs g K h
+    conjuncts-mean k c gs g K h = unless-means k c gs g K h (is_settled k c) refl
+
+    -- So do several and theirs.
+    all_conjuncts-mean : (k : Names Origin) (es : Exs) (gs : Gens) (g : Vals) (K : Env → Option (List Value)) → Known k g
+        → items_under (conditions_before (all_conjuncts k es) gs) (M g) K
+        ≡ where_true (All (meanings es (M g))) (λ u. items_under gs (M g) K)
+    all_conjuncts-mean k no_exs gs g K h = refl
+    all_conjuncts-mean k (more_exs e es) gs g K h =
+        ap (λ hs. items_under hs (M g) K) (before-append (conjuncts k e) (all_conjuncts k es) gs)
+        ∙ conjuncts-mean k e (conditions_before (all_conjuncts k es) gs) g K h
+        ∙ ap (λ o. where_true (meaning e (M g)) (λ u. o)) (all_conjuncts-mean k es gs g K h)
+        ∙ sym (both-hold (meaning e (M g)) (All (meanings es (M g))) (items_under gs (M g) K))
+        ∙ ap (λ o. where_true o (λ u. items_under gs (M g) K))
+        (sym (all-more (meaning e (M g)) (All (meanings es (M g))) (meanings es (M g)) refl))

@@ -1,4 +1,5 @@
 -- What forms tell
+pub mod Conjunctions
 pub mod Forms
 pub mod Folds
 -- Keys of generators

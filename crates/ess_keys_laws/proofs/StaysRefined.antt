@@ -18,7 +18,8 @@ use Rattle.ess_semantics.proofs.Tests.{and-left, and-right, and-both}
 use Rattle.ess_guard_laws.specs.Origins.{Origin, is_sure}
 use Rattle.ess_guard_laws.specs.Conditions.{unless}
 use Rattle.ess_keys_laws.specs.KeyForms.{is_truth, as_index, as_indices, is_settled, key_of}
-use Rattle.ess_keys_laws.specs.Keyed.{Around, key_for, key_now, if_sure, sure_key, entered, entered_any, conjuncts, conditions_before}
+use Rattle.ess_keys_laws.specs.Keyed.{Around, key_for, key_now, if_sure, sure_key, entered, entered_any, conjuncts, all_conjuncts}
+use Rattle.ess_keys_laws.specs.Keyed.{conditions_before}
 use Rattle.ess_keys_laws.specs.Keyed.{generator_before, keyed, keyed_all, keyed_gens, keyed_behind, keyed_dom}
 use Rattle.ess_keys_laws.proofs.Forms.{before-append}
 use Rattle.ess_keys_laws.proofs.FoldsRefined.{scalar-node, laid-refined, folded-list, folded-scalar}
@@ -58,13 +59,24 @@ unless-refined : (b : Bool) (c : Ex) (gs : Gens) → is_refined c ≡ true → a
 unless-refined true c gs p q = q
 unless-refined false c gs p q = and-both (is_refined c) (are_refined_gens gs) p q
 
-conjuncts-refined : (k : Names Origin) (c : Ex) (gs : Gens) → is_refined c ≡ true → are_refined_gens gs ≡ true
-    → are_refined_gens (conditions_before (conjuncts k c) gs) ≡ true
-conjuncts-refined k (ex2 true Op2.And a b) gs p q =
-    let r = two-parts (is_refined a) (is_refined b) p in
-    ap are_refined_gens (before-append (conjuncts k a) (conjuncts k b) gs)
-    ∙ conjuncts-refined k a (conditions_before (conjuncts k b) gs) r.0 (conjuncts-refined k b gs r.1 q)
-conjuncts-refined k c gs p q = unless-refined (is_settled k c) c gs p q
+mutual
+  conjuncts-refined : (k : Names Origin) (c : Ex) (gs : Gens) → is_refined c ≡ true → are_refined_gens gs ≡ true
+      → are_refined_gens (conditions_before (conjuncts k c) gs) ≡ true
+  conjuncts-refined k (ex2 true Op2.And a b) gs p q =
+      let r = two-parts (is_refined a) (is_refined b) p in
+      ap are_refined_gens (before-append (conjuncts k a) (conjuncts k b) gs)
+      ∙ conjuncts-refined k a (conditions_before (conjuncts k b) gs) r.0 (conjuncts-refined k b gs r.1 q)
+  conjuncts-refined k (fun1 true Fun.And (node_ex false matrix_literal es)) gs p q =
+      all_conjuncts-refined k es gs (and-left (are_refined es) true p) q
+  conjuncts-refined k c gs p q = unless-refined (is_settled k c) c gs p q
+
+  all_conjuncts-refined : (k : Names Origin) (es : Exs) (gs : Gens) → are_refined es ≡ true → are_refined_gens gs ≡ true
+      → are_refined_gens (conditions_before (all_conjuncts k es) gs) ≡ true
+  all_conjuncts-refined k no_exs gs p q = q
+  all_conjuncts-refined k (more_exs e es) gs p q =
+      ap are_refined_gens (before-append (conjuncts k e) (all_conjuncts k es) gs)
+      ∙ conjuncts-refined k e (conditions_before (all_conjuncts k es) gs) (and-left (is_refined e) (are_refined es) p)
+      (all_conjuncts-refined k es gs (and-right (is_refined e) (are_refined es) p) q)
 
 -- ---- keys
 

@@ -1,18 +1,19 @@
 -- Refined trees with plain keys. Truth values at which cells are taken become numbers. And a rule looks a value up by `[e | .., j : D, ..,
 -- j = t, ..]`: where the form tells that t lies in D, it is `[e | .., ..]` with t in the place of j. A fold whose generators are all gone
--- is its item, under its conditions. What no refined tree has stays as it is.
+-- is its item, under its conditions. A long conjunction is a list. What no refined tree has stays as it is.
 use Rattle.std.specs.Prelude.{ℕ, suc, nat_le, Bool, true, false, ◌&&◌, not, if◌then◌else◌, List, [], ◌∷◌, ◌++◌, Option, Some, None}
 use Rattle.ess_semantics.specs.declared.words.Op2.{Op2}
 use Rattle.ess_semantics.specs.declared.words.Fun.{Fun}
 use Rattle.ess_semantics.specs.Lists.{and_then, or_default, when}
 use Rattle.ess_semantics.specs.Values.{Text}
 use Rattle.ess_semantics.specs.Names.{Names, look}
-use Rattle.ess_semantics.specs.Trees.{Op, word, matrix_literal, Pat, name_pat, tuple_pat, Ex, Exs, number_ex, truth_ex, name_ex, node_ex}
+use Rattle.ess_semantics.specs.Trees.{Op, binary, word, matrix_literal, Pat, name_pat, tuple_pat, Ex, Exs, number_ex, truth_ex, name_ex, node_ex}
 use Rattle.ess_semantics.specs.Trees.{matrix_ex, comp_ex, cell_ex, seen_ex, no_exs, more_exs, Gens, no_gens, over, from, cond, Dom}
 use Rattle.ess_semantics.specs.Trees.{int_dom, ex2, fun1}
 use Rattle.ess_guard_laws.specs.Origins.{Origin, with_any, with_over, is_number, is_sure}
 use Rattle.ess_guard_laws.specs.Conditions.{unless}
 use Rattle.ess_keys_laws.specs.KeyForms.{is_truth, as_indices, key_of, is_settled}
+use Rattle.ess_keys_laws.specs.Chains.{all_under_and, conjunction_fold}
 
 -- ---- what is known around a place
 
@@ -102,11 +103,17 @@ how_many (over p d gs) = suc (how_many gs)
 how_many (from p e gs) = suc (how_many gs)
 how_many (cond c gs) = suc (how_many gs)
 
--- A Boolean that holds with its conditions is a list of all under `and`, where these are many: a chain of `/\` is nested as deep as it is
--- long, and no text may be nested deeper than a bound.
+-- The conditions as a list.
+abbrev pub conditions_of : Gens → Exs
+conditions_of (cond c gs) = more_exs c (conditions_of gs)
+conditions_of gs = no_exs
+
+-- A Boolean under many conditions: these are a list under `and`, with the Boolean where it holds with them. A chain of `/\` or `->` is nested
+-- as deep as it is long, and no text may be nested deeper than a bound.
 abbrev pub joined : Op2 → Gens → Ex → Ex
-joined Op2.And gs e =
-    if nat_le 16 (how_many gs) then fun1 true Fun.And (node_ex false matrix_literal (all_of gs e)) else connected Op2.And gs e
+joined Op2.And gs e = if nat_le 16 (how_many gs) then all_under_and (all_of gs e) else connected Op2.And gs e
+joined Op2.Implies gs e =
+    if nat_le 16 (how_many gs) then ex2 true Op2.Implies (all_under_and (conditions_of gs)) e else connected Op2.Implies gs e
 joined o gs e = connected o gs e
 
 -- What a condition is to the body: `c -> e` is `and([e | c])`, and `c /\ e` is `or([e | c])`.
@@ -136,16 +143,24 @@ fold_of k b f l = None
 -- What is left of an operator.
 abbrev pub fold_left : Names Origin → Bool → Op → Exs → Option Ex
 fold_left k b (word f) es = and_then (one_operand es) (fold_of k b f)
+fold_left k true (binary Op2.And) (more_exs a (more_exs r no_exs)) = conjunction_fold a r
 fold_left k b op es = None
 
 -- An operator's node, if nothing else is left of it.
 abbrev pub folded : Names Origin → Bool → Op → Exs → Ex
 folded k b op es = or_default (fold_left k b op es) (node_ex b op es)
 
--- A condition as its conjuncts. Those that hold by their form are left out.
-abbrev pub conjuncts : Names Origin → Ex → List Ex
-conjuncts k (ex2 true Op2.And a b) = conjuncts k a ++ conjuncts k b
-conjuncts k e = unless (is_settled k e) e
+abbrev mutual
+  -- A condition as its conjuncts. Those that hold by their form are left out.
+  pub conjuncts : Names Origin → Ex → List Ex
+  conjuncts k (ex2 true Op2.And a b) = conjuncts k a ++ conjuncts k b
+  conjuncts k (fun1 true Fun.And (node_ex false matrix_literal es)) = all_conjuncts k es
+  conjuncts k e = unless (is_settled k e) e
+
+  -- The conjuncts of several conditions.
+  pub all_conjuncts : Names Origin → Exs → List Ex
+  all_conjuncts k no_exs = []
+  all_conjuncts k (more_exs e es) = conjuncts k e ++ all_conjuncts k es
 
 -- Conditions before generators.
 abbrev pub conditions_before : List Ex → Gens → Gens

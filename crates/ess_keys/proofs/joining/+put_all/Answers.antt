@@ -5,7 +5,7 @@ use Rattle.ess_core_nodes.specs.NodeViews.{pure_node, pure_gens}
 use Rattle.ess_keys_laws.specs.Keyed.{all_of}
 use Rattle.ess_keys.specs.Steps.{trees_before}
 use Rattle.ess_keys.proofs.Conditions.{the_last}
-use Rattle.ess_keys.proofs.folding.+put_all.Goals as goal
+use Rattle.ess_keys.proofs.joining.+put_all.Goals as goal
 
 pub returns-in-None : goal.returns-in-None
 returns-in-None t c =

@@ -1,5 +1,5 @@
 use Rattle.std.proofs.Common.{length}
-use Rattle.ess_keys.proofs.folding.+connected.Given as goal
+use Rattle.ess_keys.proofs.joining.+connected.Given as goal
 
 abbrev pub decreases-connected : goal.decreases-connected
 decreases-connected l = length l.gens.now
