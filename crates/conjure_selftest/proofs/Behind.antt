@@ -7,7 +7,7 @@ use Rattle.ess_rows.specs.declared.memory.NoMemory.{NoMemory}
 use Rattle.ess_domains.specs.declared.verdicts.Verdict.{Verdict}
 use Rattle.ess_translate.specs.declared.refusal.TransNo.{TransNo}
 use Rattle.ess_translate.specs.Answers.{IsValidated, IsNotValidated}
-use Rattle.ess_translate_texts.specs.Translations.{IsParameterText, IsSolutionText, IsNoSolutionText}
+use Rattle.ess_translate_solutions.specs.Translations.{IsParameterText, IsSolutionText, IsNoSolutionText}
 use Rattle.conjure_modelling.specs.declared.refusal.ModelNo.{ModelNo}
 use Rattle.conjure_modelling.specs.Modelled.{IsTold, IsUnmodelled}
 use Rattle.conjure_selftest.specs.Texts.{specification_text, parameter_text}

@@ -13,7 +13,7 @@ use Rattle.ess_domains.specs.declared.verdicts.Verdict.{Verdict}
 use Rattle.ess_translate.specs.declared.refusal.TransNo.{TransNo}
 use Rattle.ess_translate.specs.Texts.{SpellsLettings}
 use Rattle.ess_translate.specs.Answers.{IsEssence, IsValidated, IsNotValidated}
-use Rattle.ess_translate_texts.specs.Translations.{AreNotGiven, IsParameterText, IsSolutionText, IsNoSolutionText}
+use Rattle.ess_translate_solutions.specs.Translations.{AreNotGiven, IsParameterText, IsSolutionText, IsNoSolutionText}
 use Rattle.ess_models.specs.Modelled.{IsTextOf}
 use Rattle.conjure_modelling.specs.declared.refusal.ModelNo.{ModelNo}
 use Rattle.conjure_modelling.specs.Modelled.{IsTold, IsUnmodelled}

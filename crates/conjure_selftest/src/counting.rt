@@ -12,7 +12,7 @@ use conjure_modelling::ModelNo;
 use ess_core::NoMemory;
 use ess_domains::Verdict;
 use ess_translate::{TransNo, validate};
-use ess_translate_texts::{parameter, solution};
+use ess_translate_solutions::{parameter, solution};
 use std::alloc::Global;
 
 /// The text of the parameter.

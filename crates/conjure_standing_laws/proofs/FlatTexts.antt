@@ -13,7 +13,7 @@ use Rattle.ess_translate_header_laws.specs.WrittenLines.{header_texts}
 use Rattle.ess_flat_models_laws.specs.FlatModels.{flat_model}
 use Rattle.ess_flat_models_laws.proofs.FlatHave.{flat-specifications}
 use Rattle.ess_flat_headers_laws.proofs.ChosenFlat.{chosen-are-of-the-class}
-use Rattle.conjure_flat_laws.proofs.BuiltModels.{built-models-are-right}
+use Rattle.conjure_standing_laws.proofs.BuiltModels.{built-models-are-right}
 use Rattle.conjure_modelling.specs.Modelled.{AreOptionsOf, IsWritten, IsModelFor}
 use Rattle.conjure_standing_laws.specs.Standing.{StandsForListed}
 use Rattle.conjure_standing_laws.specs.Laws.{WrittenModelsOfScalarsStand}

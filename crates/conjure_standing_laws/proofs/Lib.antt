@@ -1,3 +1,80 @@
+-- How many names are bound
+pub mod Binders
+-- One rule at a part, and chains
+pub mod BareChains
+-- What a rule is used at
+pub mod Roots
+pub mod Rulings
+-- Numbers of names
+pub mod Counters
+-- Names in scope
+pub mod BoundNames
+pub mod Covered
+-- What no part is
+pub mod NoMatrices
+-- One rule at a part, and chains
+pub mod SeenChains
+pub mod SeenLaws
+-- The rules of constraints over ranges
+pub mod RangedRules
+pub mod RangedLaws
+-- The rules of constraints that speak of nested sets, and objectives
+pub mod SetwiseRules
+pub mod SetwiseObjectives
+pub mod SetwiseLaws
+-- Terms of numerals, which are written as they are
+pub mod NumberTerms
+pub mod NumberChains
+-- Tables with such bounds
+pub mod NumberTables
+pub mod NestedTables
+-- Domains of finds over tables
+pub mod ShownNested
+-- The tables in a model
+pub mod FoundNested
+-- The rules that are written
+pub mod NestedRules
+pub mod NestedLaws
+-- Worked examples
+mod ExamplesNested
+-- Rules lead from flat trees nowhere
+pub mod FlatChains
+-- What stands in the place of names
+pub mod BuiltShows
+pub mod ShownDomains
+-- What is built, part by part, and as a whole
+pub mod BuiltParts
+pub mod BuiltModels
+-- Chains of rules from memberships
+pub mod MemberChains
+-- What is built
+pub mod BuiltSets
+-- Models that are built with options that choose alike
+pub mod BuiltAlike
+-- What is shown over tables
+pub mod ShownPlans
+pub mod ShownStill
+pub mod ShownPlaces
+pub mod ShownNames
+pub mod ShownNext
+pub mod ShownSets
+-- Plans of nested sets
+pub mod NestedFacts
+-- Trees and declarations
+pub mod MixedTrees
+-- What is built
+pub mod MixedTables
+pub mod NestedBuilt
+pub mod RangedBuilt
+-- Tables that have a number at each slot
+pub mod FilledTables
+pub mod SetViews
+pub mod SetwiseBuilt
+-- The objective, and the whole
+pub mod GoalBuilt
+pub mod BuiltMixed
+-- The law
+pub mod MixedLaws
 -- What is written stands
 pub mod FlatTexts
 -- Worked example

@@ -16,12 +16,12 @@ use Rattle.conjure_laws.specs.ModelsOfSets.{no_options}
 use Rattle.conjure_alike_laws.proofs.AlikeModels.{alike-options-have-the-same-models}
 use Rattle.ess_member_headers_laws.specs.KeptSets.{are_kept_by_occurrence}
 use Rattle.ess_member_headers_laws.proofs.KeptChosen.{kept-are-chosen}
-use Rattle.ess_models.specs.Built.{IsBuilt}
-use Rattle.conjure_member_laws.proofs.BuiltSets.{built-sets-right}
+use Rattle.conjure_modelling.specs.ess_models.Built.{IsBuilt}
+use Rattle.conjure_standing_laws.proofs.BuiltSets.{built-sets-right}
 use Rattle.conjure_modelling.specs.Modelled.{AreOptionsOf, IsWritten, IsModelFor}
 use Rattle.conjure_standing_laws.specs.Standing.{StandsForListed}
 use Rattle.conjure_standing_laws.specs.Laws.{WrittenModelsOfSetsStand}
-use Rattle.conjure_member_laws.proofs.BuiltAlike.{built-alike}
+use Rattle.conjure_standing_laws.proofs.BuiltAlike.{built-alike}
 
 module _ (T : List Line) (o : Options) (text : Text) (is : IsEssence text (spec T)) (k : are_kept_by_occurrence (spec T) o ≡ true)
     (model : Text) (w : IsWritten (spec T) (all_chosen (spec T) o) model) where

@@ -14,7 +14,7 @@ use Rattle.conjure_alike_laws.proofs.AlikeModels.{alike-options-have-the-same-mo
 use Rattle.ess_mixed_models_laws.specs.MixedSpecifications.{is_mixed_specification}
 use Rattle.ess_mixed_models_laws.proofs.ClassesMixed.{classes-mixed}
 use Rattle.ess_mixed_headers_laws.proofs.ChosenMixed.{chosen-mixed}
-use Rattle.conjure_mixed_laws.proofs.MixedLaws.{built-mixed}
+use Rattle.conjure_standing_laws.proofs.MixedLaws.{built-mixed}
 use Rattle.conjure_modelling.specs.Modelled.{AreOptionsOf, IsWritten, IsModelFor}
 use Rattle.conjure_standing_laws.specs.Standing.{StandsForListed}
 use Rattle.conjure_standing_laws.specs.Laws.{FlatTextsAreMixed, WrittenMixedModelsStand}

@@ -1,4 +1,5 @@
-//! What is written for a text of scalars and sets, with constraints that are flat and total or memberships, is right.
+//! From the parts to the headline: rules along chains keep what trees over tables mean, what is written for constraints and objectives says
+//! what they say, the models that are built of specifications of scalars and sets are right ones, and so are the texts of them.
 #![tactic(auto)]
 
 pub mod laws;

@@ -1,3 +1,5 @@
+-- What callers name of libraries below
+pub use Rattle.ess_flat_laws.specs as ess_flat_laws
 -- Bare trees
 pub mod Bare
 -- What rules end in, and what is written for it

@@ -38,7 +38,7 @@ use Rattle.conjure_laws.proofs.SetPlans.{PlanFact, Occ, size_fact, occ_fact, som
 use Rattle.conjure_laws.proofs.SetCells.{only-table, skip-decls, declared-size}
 use Rattle.conjure_laws.proofs.SetDeclarations.{base, sizes-int, named-size, unfound}
 use Rattle.conjure_laws.proofs.SetValues.{planned, one-atom}
-use Rattle.ess_member_trees_laws.specs.Memberships.{at_number, at_cell, Axis, truths, numbers}
+use Rattle.ess_member_rules_laws.specs.ess_member_trees_laws.Memberships.{at_number, at_cell, Axis, truths, numbers}
 use Rattle.ess_member_rules_laws.specs.WrittenForms.{IsNumber, Alike, as_numbers, as_truths, IsTable}
 use Rattle.ess_member_models_laws.proofs.Lines.{each-number, found-line}
 use Rattle.ess_member_models_laws.specs.MemberModels.{shown_literal, axis_at, table_decl}

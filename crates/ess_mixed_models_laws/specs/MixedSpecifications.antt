@@ -21,8 +21,8 @@ use Rattle.ess_semantics.specs.Plans.{Options, Plan, size_plan, value_plan, chos
 use Rattle.ess_semantics.specs.Constants.{constants_of}
 use Rattle.ess_semantics.specs.Models.{constraints_of}
 use Rattle.ess_refine_laws.specs.SpellingEnds.{numbers_of_tree}
-use Rattle.ess_ranged_laws.specs.Ranged.{is_ranged_truth}
-use Rattle.ess_seen_laws.specs.Seen.{Kind, kind_of}
+use Rattle.ess_setwise_laws.specs.ess_ranged_laws.Ranged.{is_ranged_truth}
+use Rattle.ess_setwise_laws.specs.ess_seen_laws.Seen.{Kind, kind_of}
 use Rattle.ess_setwise_laws.specs.Setwise.{is_setwise_truth, is_setwise_number}
 use Rattle.ess_nested_laws.specs.NestedDomains.{is_nested_dom}
 use Rattle.conjure_laws.specs.SetsOfAtoms.{TypeKind, fixed, sized, enum_values}

@@ -12,7 +12,7 @@ use Rattle.ess_keys_laws.specs.Keyed.{nothing_around, keyed}
 use Rattle.eprime_lowering_laws.specs.Lowerable.{is_lowerable}
 use Rattle.eprime_lowering.specs.Lowered.{lowered}
 use Rattle.conjure_model_laws.specs.Printed.{printed}
-use Rattle.ess_rules.specs.Ruled.{IsRuled}
+use Rattle.ess_refine.specs.ess_rules.Ruled.{IsRuled}
 use Rattle.ess_refine.specs.Chains.{Leads}
 use Rattle.ess_model_trees.specs.Written.{written_for, IsWrittenBy, Prints, PrintsFrom, Comes, ComesFrom}
 

@@ -10,7 +10,7 @@ use Rattle.eprime_lowering_laws.specs.Lowerable.{is_lowerable}
 use Rattle.conjure_model_laws.specs.ToldApart.{told}
 use Rattle.conjure_model_laws.specs.Shown.{Shows}
 use Rattle.conjure_model_laws.specs.Printed.{printed}
-use Rattle.ess_rules.specs.Ruled.{IsRuled}
+use Rattle.ess_refine.specs.ess_rules.Ruled.{IsRuled}
 use Rattle.ess_refine.specs.Chains.{Leads}
 
 -- What is written for a tree in which nothing abstract is left: simplified, with plain keys, and simplified again; its bound names are

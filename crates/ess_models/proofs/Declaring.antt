@@ -8,7 +8,7 @@ use Rattle.eprime_tree.specs.Views.{pure_decls}
 use Rattle.eprime_read_convert.specs.Lines.{scope_of}
 use Rattle.eprime_read_convert.specs.declared.lines.Line.{Line}
 use Rattle.conjure_model_laws.specs.Shown.{Shows}
-use Rattle.ess_declared_written.specs.Coming.{DeclsAreWritten, OneDeclFails}
+use Rattle.ess_model_written.specs.Coming.{DeclsAreWritten, OneDeclFails}
 use Rattle.ess_models.specs.declared.declared.Declarations.{Declarations}
 use Rattle.ess_models.specs.Parts.{tables_on, FindsLack}
 use Rattle.ess_models.specs.Coming.{given_tables, GivensKnown, AreKnown}

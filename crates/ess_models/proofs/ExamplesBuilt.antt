@@ -9,9 +9,9 @@ use Rattle.ess_semantics.specs.Models.{constraints_of}
 use Rattle.conjure_laws.specs.SideBySide.{Along}
 use Rattle.conjure_model_laws.specs.Shown.{shows_of}
 use Rattle.conjure_model_laws.specs.IsBuiltFrom.{taken_names}
-use Rattle.ess_refine.specs.Chains.{as_it_was}
-use Rattle.ess_declared_written.specs.Coming.{none_written, one_written}
-use Rattle.ess_model_rules.specs.RulesWritten.{ConstraintComes}
+use Rattle.ess_model_written.specs.ess_refine.Chains.{as_it_was}
+use Rattle.ess_model_written.specs.Coming.{none_written, one_written}
+use Rattle.ess_model_written.specs.RulesWritten.{ConstraintComes}
 use Rattle.ess_models.specs.Parts.{scope_of_tables}
 use Rattle.ess_models.specs.Built.{IsBuilt}
 

@@ -11,8 +11,8 @@ use Rattle.eprime_tree.specs.declared.expressions.PEx.{PEx}
 use Rattle.eprime_tree.specs.declared.models.PGoal.{PGoal}
 use Rattle.eprime_tree.specs.Views.{pure_ex, pure_goal}
 use Rattle.conjure_model_laws.specs.Shown.{Shows}
-use Rattle.ess_model_rules.specs.Answered.{AllCome, AllUsed}
-use Rattle.ess_model_rules.specs.RulesWritten.{TreeComes, ConstraintComes, GoalComes, unless_true}
+use Rattle.ess_model_written.specs.Answered.{AllCome, AllUsed}
+use Rattle.ess_model_written.specs.RulesWritten.{TreeComes, ConstraintComes, GoalComes, unless_true}
 use Rattle.ess_models.specs.declared.rules.Rules.{Rules}
 use Rattle.ess_models.specs.Parts.{all_structures, all_channels, AreRules}
 use Rattle.ess_models.specs.Coming.{AreOnTables, AreBeforeConstraints}

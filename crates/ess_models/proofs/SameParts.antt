@@ -11,11 +11,11 @@ use Rattle.ess_grammar.specs.Models.{Scope, empty_scope, with_given, with_find, 
 use Rattle.conjure_model_laws.specs.Shown.{Shows}
 use Rattle.conjure_model_laws.specs.IsBuiltFrom.{declared_of}
 use Rattle.ess_model_shown.specs.Tables.{SameShows}
-use Rattle.ess_model_trees.specs.Written.{ComesFrom}
+use Rattle.ess_model_written.specs.ess_model_trees.Written.{ComesFrom}
 use Rattle.ess_model_declared.proofs.SameDeclared.{same_declared}
-use Rattle.ess_declared_written.specs.Coming.{DeclsAreWritten, OneDeclFails}
-use Rattle.ess_model_rules.specs.Answered.{AllCome, AllUsed, OneLacks}
-use Rattle.ess_model_rules.specs.RulesWritten.{TreeComes, ConstraintComes, ConditionComes, ObjectiveComes, BothCome, GoalComes, NoneComes, no_condition, no_objective, GoalLacks, unless_true}
+use Rattle.ess_model_written.specs.Coming.{DeclsAreWritten, OneDeclFails}
+use Rattle.ess_model_written.specs.Answered.{AllCome, AllUsed, OneLacks}
+use Rattle.ess_model_written.specs.RulesWritten.{TreeComes, ConstraintComes, ConditionComes, ObjectiveComes, BothCome, GoalComes, NoneComes, no_condition, no_objective, GoalLacks, unless_true}
 use Rattle.ess_models.specs.declared.parts.Part.{Part}
 use Rattle.ess_models.specs.Parts.{plans_on, tables_on, AreDeclared, all_structures, all_channels, AreRules, RuleLacks, RulesLack, PartLacks}
 use Rattle.ess_models.proofs.SameTrees.{map-same, structures-same, all-channels-same, next-same, constraint-same, condition-same, objective-same}

@@ -13,7 +13,7 @@ use Rattle.conjure_model_laws.specs.ToldApart.{reserved, told, told_apart}
 use Rattle.conjure_model_laws.specs.Shown.{Shows, shown, view_by, domain_shown}
 use Rattle.conjure_model_laws.specs.IsBuiltFrom.{tree_of, constraint_tree, condition_tree, objective_tree, structure_tree, channel_trees}
 use Rattle.ess_model_shown.specs.Tables.{SameShows}
-use Rattle.ess_model_finds.specs.Finds.{is_atom, asked_of}
+use Rattle.ess_model_written.specs.ess_model_finds.Finds.{is_atom, asked_of}
 use Rattle.ess_model_shown.proofs.SameShown.{shown-same}
 use Rattle.ess_model_declared.proofs.SameDeclared.{same_domain}
 

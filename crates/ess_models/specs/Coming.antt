@@ -13,8 +13,8 @@ use Rattle.eprime_tree.specs.declared.expressions.PEx.{PEx}
 use Rattle.eprime_read_convert.specs.Lines.{scope_of}
 use Rattle.eprime_read_convert.specs.declared.lines.Line.{Line}
 use Rattle.conjure_model_laws.specs.Shown.{Shows}
-use Rattle.ess_model_rules.specs.Answered.{AllCome, AllUsed}
-use Rattle.ess_model_rules.specs.RulesWritten.{TreeComes, GoalComes, unless_true}
+use Rattle.ess_model_written.specs.Answered.{AllCome, AllUsed}
+use Rattle.ess_model_written.specs.RulesWritten.{TreeComes, GoalComes, unless_true}
 use Rattle.ess_models.specs.declared.parts.Part.{Part}
 use Rattle.ess_models.specs.declared.declared.Declarations.{Declarations}
 use Rattle.ess_models.specs.declared.declared.DeclaredParts.{DeclaredParts}
@@ -22,7 +22,7 @@ use Rattle.ess_models.specs.declared.rules.Rules.{Rules}
 use Rattle.ess_models.specs.declared.rules.RuledParts.{RuledParts}
 use Rattle.ess_models.specs.declared.rules.TableRules.{TableRules}
 use Rattle.ess_models.specs.declared.wholes.Modelled.{Modelled}
-use Rattle.ess_declared_written.specs.Coming.{DeclsAreWritten}
+use Rattle.ess_model_written.specs.Coming.{DeclsAreWritten}
 use Rattle.ess_models.specs.Parts.{tables_on, scope_of_tables, AreDeclared, GivensLack, FindsLack}
 use Rattle.ess_models.specs.Parts.{all_structures, all_channels, AreRules, RuleLacks, PartLacks}
 

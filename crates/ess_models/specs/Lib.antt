@@ -1,3 +1,9 @@
+-- What callers name of libraries below
+pub use Rattle.ess_model_written.specs.ess_model_finds as ess_model_finds
+pub use Rattle.ess_model_written.specs as ess_model_written
+pub use Rattle.ess_model_written.specs.ess_rules as ess_rules
+pub use Rattle.ess_model_written.specs.ess_refine as ess_refine
+pub use Rattle.ess_model_written.specs.ess_model_trees as ess_model_trees
 -- What a specification and its representations are
 pub mod Checked
 -- The parts of a model

@@ -11,10 +11,10 @@ use Rattle.ess_semantics.specs.Models.{constraints_of}
 use Rattle.ess_grammar.specs.Models.{Scope, empty_scope, with_given, with_find, scope_behind}
 use Rattle.conjure_model_laws.specs.Shown.{Shows}
 use Rattle.conjure_model_laws.specs.IsBuiltFrom.{channel_trees, declared_of}
-use Rattle.ess_declared_written.specs.Coming.{DeclsAreWritten, OneDeclFails}
-use Rattle.ess_model_finds.specs.Finds.{asked_of}
-use Rattle.ess_model_rules.specs.Answered.{AllCome, AllUsed, OneLacks}
-use Rattle.ess_model_rules.specs.RulesWritten.{TreeComes, ConstraintComes, GoalComes, GoalLacks, unless_true}
+use Rattle.ess_model_written.specs.Coming.{DeclsAreWritten, OneDeclFails}
+use Rattle.ess_model_written.specs.ess_model_finds.Finds.{asked_of}
+use Rattle.ess_model_written.specs.Answered.{AllCome, AllUsed, OneLacks}
+use Rattle.ess_model_written.specs.RulesWritten.{TreeComes, ConstraintComes, GoalComes, GoalLacks, unless_true}
 use Rattle.ess_models.specs.declared.parts.Part.{Part}
 
 -- What declarations declare, givens first.

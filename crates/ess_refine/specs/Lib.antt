@@ -1,3 +1,5 @@
+-- What callers name of libraries below
+pub use Rattle.ess_rules.specs as ess_rules
 -- Chains of rules at parts, which count the reserved names that they take
 pub mod Chains
 -- What came of refining

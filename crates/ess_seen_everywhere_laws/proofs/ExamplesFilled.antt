@@ -13,7 +13,7 @@ use Rattle.ess_semantics.specs.Meaning.{Env, meaning}
 use Rattle.ess_rules_laws.specs.SlotListings.{slots_dom}
 use Rattle.ess_rules_laws.specs.SourceRules.{list_of}
 use Rattle.ess_refine_laws.specs.Everywhere.{everywhere}
-use Rattle.ess_bare_laws.specs.Lean.{of_sum}
+use Rattle.ess_seen_laws.specs.ess_bare_laws.Lean.{of_sum}
 use Rattle.ess_seen_laws.specs.Seen.{Seen, figure, folded, so_many, at_slot, no_place, through_slots, at_end}
 use Rattle.ess_seen_laws.specs.Filled.{AreSlots, no_slot, more_slots, HasCell, AreFilled}
 use Rattle.ess_seen_everywhere_laws.specs.Laws.{IsFilled}

@@ -13,7 +13,7 @@ use Rattle.ess_rules_laws.specs.SlotListings.{slots_dom}
 use Rattle.ess_rules_laws.specs.SourceRules.{list_of}
 use Rattle.ess_values_along_laws.specs.Valued.{Valued, AllValued, UnderValued, DomValued}
 use Rattle.ess_flat_laws.specs.Flat.{OneOp, TwoOp}
-use Rattle.ess_bare_laws.specs.Lean.{FoldWord}
+use Rattle.ess_seen_laws.specs.ess_bare_laws.Lean.{FoldWord}
 use Rattle.ess_seen_laws.specs.Seen.{Combines, Compares, Counted}
 use Rattle.ess_seen_laws.proofs.Counts.{counted-means, slots-each}
 use Rattle.ess_seen_everywhere_laws.proofs.Operands.{item-there, range-there, over-there, of-any, where-there, list-refined, slots-refined}

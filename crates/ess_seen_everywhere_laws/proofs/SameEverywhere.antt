@@ -15,7 +15,7 @@ use Rattle.ess_rules_laws.proofs.Bindings.{collect-each-of, collect-each-in, whe
 use Rattle.ess_rules_laws.proofs.RuleAnswers.{each-in-any}
 use Rattle.ess_refine_laws.specs.Everywhere.{everywhere, everywhere_exs, everywhere_gens, everywhere_dom}
 use Rattle.ess_flat_laws.specs.Flat.{denied, negative, absolute, sum, difference, product}
-use Rattle.ess_bare_laws.specs.Lean.{of_all, of_some, of_sum}
+use Rattle.ess_seen_laws.specs.ess_bare_laws.Lean.{of_all, of_some, of_sum}
 use Rattle.ess_seen_laws.specs.Seen.{Bound, Counted, Seen, number, truth, named, counted, figure, flag, atom, one, two, chosen, folded, of_items, size, within, set_within, compared, Listed, last_item, item_before, Going, at_end, through, through_slots, among, where_holds, Range, truths, numbers}
 use Rattle.ess_seen_laws.proofs.Counts.{counted-means}
 use Rattle.ess_seen_everywhere_laws.proofs.Operands.{of-any}

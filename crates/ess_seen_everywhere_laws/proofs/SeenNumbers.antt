@@ -18,7 +18,7 @@ use Rattle.ess_refine_laws.specs.Everywhere.{everywhere}
 use Rattle.ess_values_along_laws.specs.Valued.{Valued}
 use Rattle.ess_refine_laws.proofs.RefinedTrees.{everywhere-refined}
 use Rattle.ess_flat_laws.specs.Flat.{denied, negative, absolute, sum, difference, product}
-use Rattle.ess_bare_laws.specs.Lean.{of_all, of_some, of_sum}
+use Rattle.ess_seen_laws.specs.ess_bare_laws.Lean.{of_all, of_some, of_sum}
 use Rattle.ess_seen_laws.specs.Seen.{scalars, kind_ty, Bound, bound_kind, bound_types, Seen, number, truth, named, counted, figure, flag, atom, one, two, chosen, folded, of_items, size, within, set_within, compared}
 use Rattle.ess_seen_laws.proofs.Counts.{counted-means}
 use Rattle.ess_seen_laws.proofs.Lookups.{look-bound}

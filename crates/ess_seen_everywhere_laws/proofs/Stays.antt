@@ -8,7 +8,7 @@ use Rattle.ess_semantics.specs.Names.{Names}
 use Rattle.ess_semantics.specs.Trees.{Ex, Exs, number_ex, ex1, ex2, Gens, Dom}
 use Rattle.ess_refine_laws.specs.Everywhere.{is_positive, base, exponent, raised, everywhere, everywhere_exs, everywhere_gens, everywhere_dom}
 use Rattle.ess_flat_laws.specs.Flat.{denied, negative, absolute, sum, difference, product}
-use Rattle.ess_bare_laws.specs.Lean.{of_all, of_some, of_sum}
+use Rattle.ess_seen_laws.specs.ess_bare_laws.Lean.{of_all, of_some, of_sum}
 use Rattle.ess_seen_laws.specs.Seen.{Kind, Bound, united, shared, lessened, Counted, so_many, from_to, from_0, subsets, none_below, SetTerm, view, drawn, combined, Seen, number, truth, named, counted, figure, flag, atom, one, two, chosen, folded, of_items, size, within, set_within, compared, Listed, last_item, item_before, Going, at_end, through, through_slots, among, where_holds, Range, truths, numbers}
 
 -- ---- numbers of slots

@@ -15,7 +15,7 @@ use Rattle.ess_values_along_laws.specs.Valued.{Valued, AllValued, UnderValued}
 use Rattle.ess_values_along_laws.proofs.ValuesAlong.{values-along}
 use Rattle.ess_values_sources_laws.proofs.CollectedLists.{some-list}
 use Rattle.ess_flat_laws.specs.Flat.{OneOp, denied, negative, absolute, TwoOp, both, either, implied, agreeing, equal, unequal, below, at_most, above, at_least, sum, difference, product}
-use Rattle.ess_bare_laws.specs.Lean.{FoldWord, of_all, of_some, of_sum}
+use Rattle.ess_seen_laws.specs.ess_bare_laws.Lean.{FoldWord, of_all, of_some, of_sum}
 use Rattle.ess_seen_laws.specs.Seen.{Combines, united, shared, lessened, Compares, alike, apart, included, properly_included, including, properly_including, Counted, so_many, from_to, from_0, subsets, none_below}
 use Rattle.ess_seen_laws.proofs.Counts.{counted-means}
 use Rattle.ess_seen_everywhere_laws.proofs.Operands.{one-there, both-there, subtracted, sized, all-there, literal-there, two-valued, one-refined, both-refined, list-refined}

@@ -14,7 +14,7 @@ use Rattle.ess_rules_laws.specs.SourceRules.{list_of}
 use Rattle.ess_rules_laws.specs.ListedSources.{source_parts}
 use Rattle.ess_kind_rules_laws.specs.ViewListings.{view_listing}
 use Rattle.ess_refine_laws.specs.LeavingConditions.{condition_leaves}
-use Rattle.ess_flat_laws.specs.Flat.{product}
+use Rattle.ess_bare_laws.specs.ess_flat_laws.Flat.{product}
 use Rattle.ess_bare_laws.specs.Lean.{of_sum}
 use Rattle.ess_seen_laws.specs.Seen.{Bound, over_a_range, over_slots, Counted, so_many, from_to, subsets, none_below, at_slot, no_place, drawn, Seen, number, named, counted, figure, flag, two, chosen, folded, of_items, size, last_item, one_index, no_index, at_end, through_slots, among, where_holds}
 use Rattle.ess_seen_laws.specs.Filled.{IsSlot, InSlots, HasCell}

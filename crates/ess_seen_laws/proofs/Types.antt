@@ -12,7 +12,7 @@ use Rattle.ess_semantics.specs.OperatorTypes.{type_of_op, member_ty, subtracted,
 use Rattle.ess_semantics.specs.Typing.{type_of, types_of, types_under, source_ty}
 use Rattle.ess_semantics.specs.NamesAt.{names_behind}
 use Rattle.ess_rules_laws.specs.SourceRules.{list_of}
-use Rattle.ess_flat_laws.specs.Flat.{OneOp, denied, negative, absolute, TwoOp, both, either, implied, agreeing, equal, unequal, below, at_most, above, at_least, sum, difference, product}
+use Rattle.ess_bare_laws.specs.ess_flat_laws.Flat.{OneOp, denied, negative, absolute, TwoOp, both, either, implied, agreeing, equal, unequal, below, at_most, above, at_least, sum, difference, product}
 use Rattle.ess_bare_laws.specs.Lean.{FoldWord, of_all, of_some, of_sum}
 use Rattle.ess_seen_laws.specs.Seen.{Kind, scalars, sets_of, kind_ty, Bound, from_a_set, bound_types, Combines, united, shared, lessened, Compares, alike, apart, included, properly_included, including, properly_including, Counted, so_many, from_to, from_0, subsets, none_below, as_an_atom, SetTerm, view, drawn, combined, Seen, number, truth, named, counted, figure, flag, atom, one, two, chosen, folded, of_items, size, within, set_within, compared, Listed, last_item, item_before, Going, at_end, through, through_slots, among, where_holds, Range, truths, numbers}
 use Rattle.ess_seen_laws.specs.SeenParts.{Items, gone_through, items_listed}

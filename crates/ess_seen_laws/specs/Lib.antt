@@ -1,3 +1,5 @@
+-- What callers name of libraries below
+pub use Rattle.ess_bare_laws.specs as ess_bare_laws
 -- Trees over views
 pub mod Seen
 -- Their parts

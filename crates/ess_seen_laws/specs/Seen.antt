@@ -17,7 +17,7 @@ use Rattle.ess_semantics.specs.Trees.{both_ends, Mark, Repr, repr, no_reprs, mor
 use Rattle.ess_rules_laws.specs.SourceRules.{list_of}
 use Rattle.ess_rules_laws.specs.SlotListings.{slots_dom}
 use Rattle.ess_repr_declare_laws.specs.SizeTerms.{slots_ex}
-use Rattle.ess_flat_laws.specs.Flat.{OneOp, TwoOp}
+use Rattle.ess_bare_laws.specs.ess_flat_laws.Flat.{OneOp, TwoOp}
 use Rattle.ess_nested_laws.specs.NestedDomains.{are_written_sizes, is_written_atom, is_nested_dom}
 use Rattle.ess_bare_laws.specs.Lean.{FoldWord}
 

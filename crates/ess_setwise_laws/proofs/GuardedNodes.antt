@@ -9,7 +9,7 @@ use Rattle.ess_semantics.specs.Trees.{Ex, comp_ex, Gens, ex1, ex2, fun1}
 use Rattle.ess_guard_laws.specs.Origins.{Origin, known_behind}
 use Rattle.ess_guard_laws.specs.Guard.{guarded, guarded_gens, conditions}
 use Rattle.ess_flat_laws.specs.Flat.{OneOp, TwoOp, denied, negative, absolute, both, either, implied, agreeing, equal, unequal, below, at_most, above, at_least, sum, difference, product}
-use Rattle.ess_bare_laws.specs.Lean.{FoldWord, of_all, of_some, of_sum}
+use Rattle.ess_seen_laws.specs.ess_bare_laws.Lean.{FoldWord, of_all, of_some, of_sum}
 use Rattle.ess_seen_laws.specs.Seen.{Compares, alike, apart, included, properly_included, including, properly_including}
 use Rattle.ess_setwise_laws.proofs.GuardLists.{two-kept, fold-kept, both-kept}
 

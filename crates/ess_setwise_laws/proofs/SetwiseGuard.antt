@@ -11,7 +11,7 @@ use Rattle.ess_guard_laws.specs.Origins.{Origin, with_any, with_over, known_behi
 use Rattle.ess_guard_laws.specs.Conditions.{every, given_that}
 use Rattle.ess_guard_laws.specs.Guard.{guarded, guarded_gens, conditions, conditions_gens}
 use Rattle.ess_flat_laws.specs.Flat.{OneOp, TwoOp, denied, negative, absolute, both, either, implied, agreeing, equal, unequal, below, at_most, above, at_least, sum, difference, product}
-use Rattle.ess_bare_laws.specs.Lean.{FoldWord, of_all, of_some, of_sum}
+use Rattle.ess_seen_laws.specs.ess_bare_laws.Lean.{FoldWord, of_all, of_some, of_sum}
 use Rattle.ess_seen_laws.specs.Seen.{Kind, Bound, Combines, united, shared, lessened}
 use Rattle.ess_setwise_laws.proofs.SetwiseTrees.{Stands, named, as_shown, SetTree, stands, combined, Setwise, number, truth, scalar, one, two, chosen, folded, size, within, set_within, compared, Binding, at_end, over_truths, over_numbers, among, where_holds, Form, a_cell, a_view}
 use Rattle.ess_setwise_laws.proofs.GuardLists.{none-both, none-one, none-range, none-source, both-kept, range-kept, source-kept}

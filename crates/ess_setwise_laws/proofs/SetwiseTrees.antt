@@ -9,7 +9,7 @@ use Rattle.ess_semantics.specs.Names.{Names}
 use Rattle.ess_semantics.specs.Kinds.{fits}
 use Rattle.ess_semantics.specs.Trees.{Mark, Repr, both_ends, name_pat, Ex, Exs, number_ex, truth_ex, name_ex, comp_ex, cell_ex, seen_ex, no_exs, more_exs, Gens, no_gens, over, from, cond, Dom, bool_dom, int_dom, set_dom, ex1, ex2, fun1}
 use Rattle.ess_flat_laws.specs.Flat.{OneOp, TwoOp}
-use Rattle.ess_bare_laws.specs.Lean.{FoldWord}
+use Rattle.ess_seen_laws.specs.ess_bare_laws.Lean.{FoldWord}
 use Rattle.ess_nested_laws.specs.NestedDomains.{is_nested_dom}
 use Rattle.conjure_model_laws.specs.ToldApart.{reserved}
 use Rattle.conjure_model_laws.specs.Shown.{Shows, in_place}

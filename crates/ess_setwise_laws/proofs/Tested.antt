@@ -10,7 +10,7 @@ use Rattle.ess_semantics.specs.Names.{Names}
 use Rattle.ess_semantics.specs.Trees.{both_ends, name_pat, Ex, number_ex, truth_ex, name_ex, comp_ex, no_exs, more_exs, Gens, no_gens, over, from, cond, bool_dom, int_dom, ex1, ex2, fun1}
 use Rattle.ess_semantics.proofs.Tests.{and-left, and-right}
 use Rattle.ess_flat_laws.specs.Flat.{as_marked, two_mark}
-use Rattle.ess_bare_laws.specs.Lean.{of_all, of_some, of_sum}
+use Rattle.ess_seen_laws.specs.ess_bare_laws.Lean.{of_all, of_some, of_sum}
 use Rattle.ess_ranged_laws.specs.Ranged.{is_mark}
 use Rattle.ess_seen_laws.specs.Seen.{Kind, scalars, sets_of, Bound, over_a_range, from_a_set}
 use Rattle.ess_setwise_laws.specs.Setwise.{mark_of_kind, members_kind, one_kind, two_kind, fold_kind, word_kind, kind_at, is_new, setwise_kind, bound_behind}

@@ -4,3 +4,5 @@ pub mod SolutionLines
 pub mod Cells
 -- Worked examples
 pub mod ExamplesSolutions
+-- The steps of a translation, one after the other
+pub mod Joined

@@ -1,2 +1,0 @@
--- The law of chains in bare trees
-pub mod Laws

@@ -1,4 +1,0 @@
-//! What is built of specifications of scalars with flat and total constraints is a right model.
-#![tactic(auto)]
-
-pub mod laws;

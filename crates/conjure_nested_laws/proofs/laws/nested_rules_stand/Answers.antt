@@ -1,5 +1,0 @@
-use Rattle.conjure_nested_laws.proofs.NestedLaws.{nested-rules-stand}
-use Rattle.conjure_nested_laws.proofs.laws.nested_rules_stand.Goals as goal
-
-pub returns : goal.returns
-returns c = nested-rules-stand

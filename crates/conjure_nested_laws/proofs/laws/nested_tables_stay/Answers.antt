@@ -1,5 +1,0 @@
-use Rattle.conjure_nested_laws.proofs.NestedTables.{nested-tables-stay}
-use Rattle.conjure_nested_laws.proofs.laws.nested_tables_stay.Goals as goal
-
-pub returns : goal.returns
-returns c = nested-tables-stay

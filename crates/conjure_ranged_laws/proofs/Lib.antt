@@ -1,3 +1,0 @@
--- The rules of constraints over ranges
-pub mod RangedRules
-pub mod RangedLaws

@@ -1,2 +1,0 @@
--- The law
-pub mod Laws

@@ -1,4 +1,0 @@
-//! Rules that are written for constraints over ranges.
-#![tactic(auto)]
-
-pub mod laws;

@@ -1,5 +1,0 @@
-use Rattle.conjure_seen_laws.proofs.SeenLaws.{seen-trees-stay-seen}
-use Rattle.conjure_seen_laws.proofs.laws.seen_trees_stay_seen.Goals as goal
-
-pub returns : goal.returns
-returns c = seen-trees-stay-seen

@@ -1,2 +1,0 @@
--- The law of chains
-pub mod Laws

@@ -1,2 +1,0 @@
--- The steps of a translation, one after the other
-pub mod Joined

@@ -1,2 +1,0 @@
--- What is answered on all texts of a translation
-pub mod Translations
