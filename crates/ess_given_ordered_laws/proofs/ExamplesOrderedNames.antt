@@ -101,7 +101,7 @@ picked_operand : (rewritten_operand names types (bi Op2.Eq picked pair) ≡ Some
     × (rewritten_operand names types (bi Op2.Eq pair picked) ≡ Some picked)
 picked_operand = (refl, refl)
 
--- All new names are fixed where the source is, none where it isn't.
+-- All new names are fixed where the source is, none where it isn't and is no item of a comprehension.
 abbrev everything : Text → Bool
 everything c = true
 
@@ -111,3 +111,18 @@ nothing c = false
 picked_names : NewOrdered everything names types of_an_item (bi Op2.Eq picked pair)
     × NewOrdered nothing names types of_an_item (bi Op2.Eq picked pair)
 picked_names = ((refl, (refl, (refl, (refl, (refl, (refl, tt)))))), (refl, (refl, (refl, (refl, (refl, (refl, tt)))))))
+
+-- `[y | y <- [[x, x] | x : int(1..2)][p]] = [1, 2]`: the source is an item of a comprehension, so z, a and b are fixed though it isn't.
+abbrev of_item : Ex
+of_item = comp_ex (N y) (from (name_pat y) (at (comp_ex (list_of (es2 (N x) (N x))) (over (name_pat x) (upto 2) no_gens)) (N (codes "p")))
+    no_gens)
+
+of_item_operand : rewritten_operand names types (bi Op2.Eq of_item pair) ≡ Some of_item
+of_item_operand = refl
+
+of_item_names : NewOrdered with_new names types of_an_item (bi Op2.Eq of_item pair)
+    × NewOrdered everything names types of_an_item (bi Op2.Eq of_item pair)
+of_item_names = (
+  (refl, (refl, record { third = refl; where_fixed = λ q. cc; else_along = λ q. (refl, refl) })),
+  (refl, (refl, record { third = refl; where_fixed = λ q. refl; else_along = λ q. cc })),
+)

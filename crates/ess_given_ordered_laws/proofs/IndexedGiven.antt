@@ -4,7 +4,7 @@ use Rattle.ess_semantics.specs.Lists.{and_then, or_default}
 use Rattle.ess_semantics.specs.Values.{Text, a_matrix}
 use Rattle.ess_semantics.specs.Names.{Names}
 use Rattle.ess_semantics.specs.NamesAt.{names_behind}
-use Rattle.ess_semantics.specs.Trees.{index, name_pat, tuple_pat, Ex, comp_ex, Gens, no_gens, over, from, cond, Dom, bool_dom}
+use Rattle.ess_semantics.specs.Trees.{name_pat, tuple_pat, Ex, comp_ex, Gens, no_gens, over, from, cond, Dom, bool_dom}
 use Rattle.ess_semantics.specs.Types.{Ty, compound2}
 use Rattle.ess_semantics.specs.Typing.{type_of}
 use Rattle.ess_semantics.proofs.Tests.{and-right, and-both}

@@ -13,15 +13,13 @@ use Rattle.ess_rules_laws.specs.LiteralRules.{nth}
 use Rattle.ess_rules_laws.specs.Listings.{Alternative}
 use Rattle.ess_rules_laws.specs.AlternativeLookups.{select_each, select_whole_each}
 use Rattle.ess_refine_laws.specs.AllRules.{Supply, OfSome}
-use Rattle.ess_kind_rules_laws.specs.TermLookups.{looked_up}
 use Rattle.ess_open_rules_laws.specs.OpenRules.{gives_scalar, is_compound_ty}
 use Rattle.ess_ordered_laws.specs.NumberedItems.{ordered_lookup}
-use Rattle.ess_ordered_laws.specs.PickedSources.{is_untold, each_source, picked_source}
+use Rattle.ess_ordered_laws.specs.PickedSources.{is_untold, source_lookup, each_source, picked_source}
 use Rattle.ess_ordered_laws.specs.OrderedRules.{item_alone, keeps_order, operand_lookup, over_operand, at_operand}
 use Rattle.ess_given_order_laws.specs.InOrder.{in_order, gens_in_order, Ordered, AllOrdered, GensOrdered, InOrder}
 use Rattle.ess_given_order_laws.proofs.OrderOfListings.{AllAlternatives, SomeAlternatives}
 use Rattle.ess_given_order_laws.proofs.OrderOfFolds.{Answered, under}
-use Rattle.ess_given_offers_laws.proofs.OrderOfLookups.{picked-order}
 use Rattle.ess_given_offers_laws.proofs.OrderOfPicks.{selected-each, whole-each}
 use Rattle.ess_given_ordered_laws.specs.OrderedNames.{rewritten_operand}
 use Rattle.ess_given_ordered_laws.proofs.PartsOfOperands.{told-operand}
@@ -34,10 +32,14 @@ module _ (u : Text → Bool) where
   each-source-kept x y [] e hs h k p j = tt
   each-source-kept x y (a ∷ l) e hs h k p j = (((p, (k, (tt, j))), (h.0, tt)), each-source-kept x y l e hs h.1 k p j)
 
+  -- What the first source of a comprehension picks is in order where the source is.
+  abbrev pub SourceLooks : Supply → Names Ty → Ex → Type 0
+  SourceLooks s g (comp_ex e (from (name_pat y) t hs)) = Ordered u t → SomeAlternatives u (source_lookup s g t)
+  SourceLooks s g e = Unit {0}
+
   -- The comprehension stands in order itself: so it does as an item.
-  pub picked-kept : (s : Supply) (g : Names Ty) (t : Ex) → InOrder u t → SomeAlternatives u (picked_source s g t)
-  picked-kept s g (comp_ex e (from (name_pat y) t hs)) h =
-      go (is_untold s g t) (looked_up g s.third s.parts t) (picked-order u g s.third s.parts t h.1.1.0)
+  pub picked-kept : (s : Supply) (g : Names Ty) (t : Ex) → SourceLooks s g t → InOrder u t → SomeAlternatives u (picked_source s g t)
+  picked-kept s g (comp_ex e (from (name_pat y) t hs)) j h = go (is_untold s g t) (source_lookup s g t) (j h.1.1.0)
     where
       go : (c : Bool) (r : Option (List Alternative)) → SomeAlternatives u r →
           SomeAlternatives u (if c then option_map (λ l. each_source s.other y l e hs) r else None)
@@ -45,7 +47,7 @@ module _ (u : Text → Bool) where
       go true None k = tt
       go true (Some l) k =
           each-source-kept s.other y l e hs k h.1.0 (and-right (in_order u t) (gens_in_order u hs) h.0) h.1.1.1
-  picked-kept s g _ h = tt
+  picked-kept s g _ j h = tt
 
   -- ---- the rules
 
@@ -65,10 +67,10 @@ module _ (u : Text → Bool) where
         go (Some l) k = under u (gives_scalar g e) _ (whole-each u s.one l e k)
 
     -- An operand is looked up in order, where it stands in order if order counts in the root.
-    operand-kept : (e t : Ex) → SomeAlternatives u (ordered_lookup s.third s.parts t) → (keeps_order e ≡ true → InOrder u t) →
-        SomeAlternatives u (operand_lookup s g e t)
-    operand-kept e t h k = either-kept (ordered_lookup s.third s.parts t) (picked_source s g t) (keeps_order e) h
-        (λ q. picked-kept s g t (k q))
+    operand-kept : (e t : Ex) → SomeAlternatives u (ordered_lookup s.third s.parts t) → SourceLooks s g t →
+        (keeps_order e ≡ true → InOrder u t) → SomeAlternatives u (operand_lookup s g e t)
+    operand-kept e t h j k = either-kept (ordered_lookup s.third s.parts t) (picked_source s g t) (keeps_order e) h
+        (λ q. picked-kept s g t j (k q))
 
     operand-order : (k : ℕ) (e t : Ex) → Ordered u e → SomeAlternatives u (operand_lookup s g e t) → Answered u (over_operand s g k e t)
     operand-order k e t h j = go (operand_lookup s g e t) j
@@ -90,24 +92,21 @@ module _ (u : Text → Bool) where
     nth-placed (more_exs a es) (suc (suc k)) true h = nth-placed es (suc k) true h.1
     nth-placed (more_exs a es) (suc (suc k)) false h = nth-placed es (suc k) false h.1
 
-    -- What an operand is that is picked out of an item.
-    abbrev Looks : Ex → Type 0
-    Looks t = Ordered u t → SomeAlternatives u (ordered_lookup s.third s.parts t)
+    -- What is picked out of an item is in order where the operand is, and so is what its first source picks.
+    abbrev pub Looks : Ex → Type 0
+    Looks t = (Ordered u t → SomeAlternatives u (ordered_lookup s.third s.parts t)) × SourceLooks s g t
 
-    at-order : (k : ℕ) (b : Bool) (op : Op) (es : Exs) → AllOrdered u es (forgets_order op) →
-        OfSome (nth es k) (λ t. Ordered u t → SomeAlternatives u (ordered_lookup s.third s.parts t)) →
+    at-order : (k : ℕ) (b : Bool) (op : Op) (es : Exs) → AllOrdered u es (forgets_order op) → OfSome (nth es k) Looks →
         Answered u (at_operand s g k (node_ex b op es))
     at-order k b op es h j = go (nth es k) (nth-placed es k (forgets_order op) h) j
       where
-        go : (r : Option Ex) → OfSome r (Placed (forgets_order op)) →
-            OfSome r (λ t. Ordered u t → SomeAlternatives u (ordered_lookup s.third s.parts t)) →
+        go : (r : Option Ex) → OfSome r (Placed (forgets_order op)) → OfSome r Looks →
             Answered u (and_then r (over_operand s g k (node_ex b op es)))
         go None i j = tt
-        go (Some t) i j = operand-order k (node_ex b op es) t h (operand-kept (node_ex b op es) t (j i.0) i.1)
+        go (Some t) i j = operand-order k (node_ex b op es) t h (operand-kept (node_ex b op es) t (j.0 i.0) j.1 i.1)
 
     -- By the operand at which the root is rewritten.
-    pub item-order : (e : Ex) → Ordered u e →
-        OfSome (rewritten_operand s g e) (λ t. Ordered u t → SomeAlternatives u (ordered_lookup s.third s.parts t)) →
+    pub item-order : (e : Ex) → Ordered u e → OfSome (rewritten_operand s g e) Looks →
         Answered u (or_else (at_operand s g 1 e) (at_operand s g 2 e))
     item-order (node_ex b op es) h j = go (at_operand s g 1 (node_ex b op es)) (at_operand s g 2 (node_ex b op es))
         (λ q. at-order 1 b op es h (told-operand es (is_some (at_operand s g 1 (node_ex b op es))) true Looks q j))

@@ -6,7 +6,6 @@ use Rattle.ess_semantics.specs.Names.{Names}
 use Rattle.ess_semantics.specs.Trees.{Ex}
 use Rattle.ess_semantics.specs.Types.{Ty}
 use Rattle.ess_refine_laws.specs.AllRules.{Supply, OfSome}
-use Rattle.ess_ordered_laws.specs.NumberedItems.{ordered_lookup}
 use Rattle.ess_ordered_laws.specs.OrderedRules.{OrderedRule, an_item, of_an_item, source_by_indices, operand_lookup, ordered_rewrite}
 use Rattle.ess_given_laws.specs.PartsHave.{PartsHave}
 use Rattle.ess_given_laws.specs.Given.{is_fixed, given, GivenIn}
@@ -14,7 +13,6 @@ use Rattle.ess_given_laws.proofs.FixedTrees.{fixed, fixed-has, has-fixed, given-
 use Rattle.ess_given_laws.proofs.FixedNumbers.{every-dom}
 use Rattle.ess_given_laws.proofs.PartsOfFolds.{Answers, HaveSome}
 use Rattle.ess_given_order_laws.specs.InOrder.{Ordered}
-use Rattle.ess_given_order_laws.proofs.OrderOfListings.{SomeAlternatives}
 use Rattle.ess_given_order_laws.proofs.OrderOfFolds.{Answered, AnsweredFor}
 use Rattle.ess_given_offers_laws.specs.Seen.{Counts}
 use Rattle.ess_given_opened_laws.proofs.SourcesGiven.{free}
@@ -22,9 +20,9 @@ use Rattle.ess_given_ordered_laws.specs.OrderedNames.{rewritten_operand, TermNam
 use Rattle.ess_given_ordered_laws.specs.OrderedStays.{OrderedStays, GatheringStays}
 use Rattle.ess_given_ordered_laws.proofs.PartsOfGathering.{gathered-has, gathered-order}
 use Rattle.ess_given_ordered_laws.proofs.PartsOfOperands.{of-both, alone-has, item-has, rewritten-has}
-use Rattle.ess_given_ordered_laws.proofs.OrderOfOperands.{alone-order, item-order}
+use Rattle.ess_given_ordered_laws.proofs.OrderOfOperands.{Looks, alone-order, item-order}
 use Rattle.ess_given_ordered_laws.proofs.NamesGiven.{by-fixed}
-use Rattle.ess_given_ordered_laws.proofs.TermsGiven.{term-fixed, term-given, term-ordered, operand-fixed, operand-given}
+use Rattle.ess_given_ordered_laws.proofs.TermsGiven.{term-fixed, term-given, term-ordered, source-ordered, operand-fixed, operand-given}
 use Rattle.ess_given_ordered_laws.proofs.IndexedGiven.{indexed-given, indexed-fixed, indexed-order}
 
 module _ (u : Text → Bool) (s : Supply) (g : Names Ty) where
@@ -52,13 +50,12 @@ module _ (u : Text → Bool) (s : Supply) (g : Names Ty) where
       (rewritten-has (given u) s g e h)
 
   looks-ordered : (e : Ex) → NewOrdered u s g of_an_item e →
-      OfSome (rewritten_operand s g e) (λ t. Ordered u t → SomeAlternatives u (ordered_lookup s.third s.parts t))
+      OfSome (rewritten_operand s g e) (Looks u s g)
   looks-ordered e n = each (rewritten_operand s g e) n.1
     where
-      each : (o : Option Ex) → OfSome o (TermNames u s) →
-          OfSome o (λ t. Ordered u t → SomeAlternatives u (ordered_lookup s.third s.parts t))
+      each : (o : Option Ex) → OfSome o (TermNames u s) → OfSome o (Looks u s g)
       each None n = tt
-      each (Some t) n = λ h. term-ordered u s g t n h
+      each (Some t) n = (λ h. term-ordered u s g t n h, source-ordered u s g t n)
 
   -- ---- the rules
 

@@ -1,5 +1,6 @@
 -- What an operand offers in order is given where the operand is, it is fixed where that is, and it is in order where order counts.
-use Rattle.std.proofs.Common.{◌≡◌, refl, subst, Bool, true, false, ◌||◌, not, if◌then◌else◌, List, [], ◌∷◌, Option, Some, None, option_map}
+use Rattle.std.proofs.Common.{◌≡◌, refl, ◌∙◌, Bool, true, false, ◌||◌, not, if◌then◌else◌, List, [], ◌∷◌, Option, Some, None, option_map}
+use Rattle.ess_semantics.specs.Lists.{or_else}
 use Rattle.ess_semantics.specs.Values.{Text}
 use Rattle.ess_semantics.specs.Names.{Names}
 use Rattle.ess_semantics.specs.Trees.{name_pat, Ex, name_ex, comp_ex, from}
@@ -9,7 +10,7 @@ use Rattle.ess_rules_laws.specs.ListedSources.{laid_out}
 use Rattle.ess_refine_laws.specs.AllRules.{Supply}
 use Rattle.ess_kind_rules_laws.specs.TermLookups.{looked_up}
 use Rattle.ess_ordered_laws.specs.NumberedItems.{ordered_lookup}
-use Rattle.ess_ordered_laws.specs.PickedSources.{is_untold, each_source, picked_source}
+use Rattle.ess_ordered_laws.specs.PickedSources.{is_untold, source_lookup, each_source, picked_source}
 use Rattle.ess_ordered_laws.specs.OrderedRules.{keeps_order, operand_lookup}
 use Rattle.ess_given_laws.specs.PartsHave.{PartsHave}
 use Rattle.ess_given_laws.specs.Given.{is_fixed, given, GivenIn}
@@ -19,12 +20,14 @@ use Rattle.ess_given_order_laws.specs.InOrder.{Ordered}
 use Rattle.ess_given_order_laws.proofs.OrderOfListings.{SomeAlternatives}
 use Rattle.ess_given_offers_laws.specs.Seen.{Counts}
 use Rattle.ess_given_offers_laws.proofs.GivenOffers.{picks-given, picks-fixed}
+use Rattle.ess_given_offers_laws.proofs.OrderOfLookups.{picked-order}
 use Rattle.ess_given_opened_laws.specs.OpenedStays.{EachAs}
 use Rattle.ess_given_opened_laws.proofs.SourcesGiven.{each-in, none-in, free, not-of, given-of-fixed}
-use Rattle.ess_given_ordered_laws.specs.OrderedNames.{ItemNames, TermNames}
+use Rattle.ess_given_ordered_laws.specs.OrderedNames.{OfEither, ItemNames, PickedSourceNames, TermNames}
 use Rattle.ess_given_ordered_laws.proofs.PartsOfItems.{ordered-has, no-item}
 use Rattle.ess_given_ordered_laws.proofs.PartsOfOperands.{EachDraws, each-source-has, either-looks}
 use Rattle.ess_given_ordered_laws.proofs.OrderOfItems.{BehindAlong, ordered-kept, no-item-kept}
+use Rattle.ess_given_ordered_laws.proofs.OrderOfOperands.{SourceLooks}
 use Rattle.ess_given_ordered_laws.proofs.NamesGiven.{fixed-along, given-along, all-behind, along-behind, by-fixed}
 
 module _ (u : Text → Bool) where
@@ -64,6 +67,23 @@ module _ (u : Text → Bool) where
 
     -- ---- comprehensions over what is picked
 
+    -- By the lookup that picks from the source.
+    by-lookup : (t : Ex) (P : Option (List Alternative) → Type 0) → PickedSourceNames u s t →
+        (ItemNames u s t → P (ordered_lookup s.third s.parts t)) →
+        (EachAs u (is_fixed u t) (s.third ∷ s.parts) → P (looked_up g s.third s.parts t)) → P (source_lookup s g t)
+    by-lookup t P n h k = go (ordered_lookup s.third s.parts t) n h
+      where
+        go : (o : Option (List Alternative)) →
+            OfEither o (EachAs u (is_fixed u t) (s.third ∷ s.parts)) (λ l. ItemNames u s t) → (ItemNames u s t → P o) →
+            P (or_else o (looked_up g s.third s.parts t))
+        go None n h = k n
+        go (Some l) n h = h n
+
+    pub source-ordered : (t : Ex) → TermNames u s t → SourceLooks u s g t
+    source-ordered (comp_ex e (from (name_pat y) t hs)) n =
+        λ h. by-lookup t (SomeAlternatives u) n.1 (λ i. item-ordered t i h) (λ j. picked-order u g s.third s.parts t h)
+    source-ordered _ n = tt
+
     module _ (c : Counts u) where
       or-right : (a b : Bool) → b ≡ true → a || b ≡ true
       or-right true b q = refl
@@ -82,14 +102,17 @@ module _ (u : Text → Bool) where
       given-draws x (a ∷ l) h =
           (or-right (not (u x)) (is_fixed u (laid_out a)) (has-fixed u (laid_out a) h.0), given-draws x l h.1)
 
-      at-fixed : (y : Text) (t : Ex) → EachAs u (is_fixed u t) (s.other ∷ s.third ∷ s.parts) → is_fixed u t ≡ true →
-          (u s.other ≡ true) × HaveSome (fixed u) (looked_up g s.third s.parts t)
-      at-fixed y t n q = let k = subst (λ b. EachAs u b (s.other ∷ s.third ∷ s.parts)) q n in
-          (k.0, picks-fixed u c g s.third s.parts t (each-in u true (s.third ∷ s.parts) refl k.1) q)
+      at-fixed : (t : Ex) → PickedSourceNames u s t → is_fixed u t ≡ true → HaveSome (fixed u) (source_lookup s g t)
+      at-fixed t n q = by-lookup t (HaveSome (fixed u)) n (λ i. item-fixed t i (fixed-has u t q))
+          (λ j. picks-fixed u c g s.third s.parts t (each-in u (is_fixed u t) (s.third ∷ s.parts) q j) q)
+
+      at-given : (t : Ex) → PickedSourceNames u s t → GivenIn u t → is_fixed u t ≡ false → HaveSome (given u) (source_lookup s g t)
+      at-given t n h q = by-lookup t (HaveSome (given u)) n (λ i. item-given t i h)
+          (λ j. picks-given u c g s.third s.parts t (none-in u (is_fixed u t) (s.third ∷ s.parts) q j) h)
 
       source-fixed : (t : Ex) → TermNames u s t → PartsHave (fixed u) t → HaveSome (fixed u) (picked_source s g t)
       source-fixed (comp_ex e (from (name_pat y) t hs)) n h =
-          let k = at-fixed y t n (has-fixed u t h.1.1) in go (is_untold s g t) (looked_up g s.third s.parts t) k.0 k.1
+          let q = has-fixed u t h.1.1 in go (is_untold s g t) (source_lookup s g t) (n.0 ∙ q) (at-fixed t n.1 q)
         where
           go : (b : Bool) (r : Option (List Alternative)) → u s.other ≡ true → HaveSome (fixed u) r →
               HaveSome (fixed u) (if b then option_map (λ l. each_source s.other y l e hs) r else None)
@@ -101,7 +124,7 @@ module _ (u : Text → Bool) where
       source-given : (t : Ex) → TermNames u s t → GivenIn u t → HaveSome (given u) (picked_source s g t)
       source-given (comp_ex e (from (name_pat y) t hs)) n h =
           by-fixed u t (HaveSome (given u) (picked_source s g (comp_ex e (from (name_pat y) t hs))))
-          (λ q. let k = at-fixed y t n q in of-fixed (is_untold s g t) (looked_up g s.third s.parts t) k.0 k.1) others
+          (λ q. of-fixed (is_untold s g t) (source_lookup s g t) (n.0 ∙ q) (at-fixed t n.1 q)) others
         where
           of-fixed : (b : Bool) (r : Option (List Alternative)) → u s.other ≡ true → HaveSome (fixed u) r →
               HaveSome (given u) (if b then option_map (λ l. each_source s.other y l e hs) r else None)
@@ -118,9 +141,7 @@ module _ (u : Text → Bool) where
               (free u y m (name_ex s.other)) h.0 h.1.2
 
           others : is_fixed u t ≡ false → HaveSome (given u) (picked_source s g (comp_ex e (from (name_pat y) t hs)))
-          others q = let k = subst (λ b. EachAs u b (s.other ∷ s.third ∷ s.parts)) q n in
-              of-others (not-of u y t q h.1.0) k.0 (is_untold s g t) (looked_up g s.third s.parts t)
-              (picks-given u c g s.third s.parts t (none-in u false (s.third ∷ s.parts) refl k.1) h.1.1)
+          others q = of-others (not-of u y t q h.1.0) (n.0 ∙ q) (is_untold s g t) (source_lookup s g t) (at-given t n.1 h.1.1 q)
       source-given _ n h = tt
 
       -- ---- an operand

@@ -9,12 +9,13 @@ use Rattle.ess_semantics.specs.Types.{Ty}
 use Rattle.ess_rules_laws.specs.LiteralRules.{nth}
 use Rattle.ess_refine_laws.specs.AllRules.{Supply, OfSome}
 use Rattle.ess_kind_rules_laws.specs.TermLookups.{picked_within}
+use Rattle.ess_ordered_laws.specs.NumberedItems.{ordered_lookup}
 use Rattle.ess_ordered_laws.specs.OrderedRules.{OrderedRule, an_item, of_an_item, source_by_indices, at_operand}
 use Rattle.ess_given_laws.specs.Given.{is_fixed}
 use Rattle.ess_given_opened_laws.specs.OpenedStays.{EachAs}
 
 -- By whether there is something.
-abbrev pub OfEither : Option Ex → Type 0 → (Ex → Type 0) → Type 0
+abbrev pub OfEither : {X : Type 0} → Option X → Type 0 → (X → Type 0) → Type 0
 OfEither None A P = A
 OfEither (Some e) A P = P e
 
@@ -36,10 +37,15 @@ module _ (u : Text → Bool) where
     pub where_fixed : is_fixed u t ≡ true → list_all u s.parts ≡ true
     pub else_along : is_fixed u t ≡ false → NamesAlong s.parts t
 
-  -- Of the term at which a root is rewritten: those for a comprehension over what is picked belong to u where its source is fixed, and none
-  -- does where it isn't.
+  -- Of a source that is picked: out of an item it is as above. Else the names belong to u where the source is fixed, and none does where it
+  -- isn't.
+  abbrev pub PickedSourceNames : Supply → Ex → Type 0
+  PickedSourceNames s t = OfEither (ordered_lookup s.third s.parts t) (EachAs u (is_fixed u t) (s.third ∷ s.parts)) (λ l. ItemNames s t)
+
+  -- Of the term at which a root is rewritten: of a comprehension over what is picked, the name that takes the place of its source belongs
+  -- to u where that is fixed.
   abbrev pub TermNames : Supply → Ex → Type 0
-  TermNames s (comp_ex e (from (name_pat y) t hs)) = EachAs u (is_fixed u t) (s.other ∷ s.third ∷ s.parts)
+  TermNames s (comp_ex e (from (name_pat y) t hs)) = (u s.other ≡ is_fixed u t) × PickedSourceNames s t
   TermNames s t = ItemNames s t
 
   -- Which of the names that a rule takes belong to u: the one that is bound over all that is picked does where the root is fixed. An index

@@ -6,13 +6,14 @@ use Rattle.ess_semantics.specs.Trees.{name_pat, Ex, comp_ex, from}
 use Rattle.ess_semantics.specs.Types.{Ty}
 use Rattle.ess_refine_laws.specs.AllRules.{Supply, OfSome}
 use Rattle.ess_chain_names_laws.specs.Steps.{supply_at}
+use Rattle.ess_ordered_laws.specs.NumberedItems.{ordered_lookup}
 use Rattle.ess_ordered_laws.specs.OrderedRules.{OrderedRule, an_item, of_an_item, source_by_indices}
 use Rattle.ess_given_laws.specs.PartsHave.{PartsHave}
 use Rattle.ess_given_laws.specs.Given.{is_fixed}
 use Rattle.ess_given_laws.proofs.FixedTrees.{fixed, fixed-has, has-fixed}
 use Rattle.ess_given_conditions_laws.proofs.Assigned.{Assigned}
 use Rattle.ess_given_opened_laws.specs.OpenedStays.{EachAs}
-use Rattle.ess_given_ordered_laws.specs.OrderedNames.{rewritten_operand, ItemNames, TermNames, NewOrdered}
+use Rattle.ess_given_ordered_laws.specs.OrderedNames.{OfEither, rewritten_operand, ItemNames, TermNames, NewOrdered}
 use Rattle.ess_given_ordered_laws.proofs.PartsOfOperands.{rewritten-has}
 use Rattle.ess_given_rulings_laws.proofs.Roles.{same, same-length, outs, outs-length, Roles, all_alike, same-names, all-names, along-names, NamesAs}
 use Rattle.ess_given_rulings_laws.proofs.NamesServe.{fixed-alike}
@@ -24,10 +25,14 @@ module _ (z : Text → Bool) (s : Supply) (k : ℕ) where
   abbrev pub item_roles : Bool → Ex → Roles
   item_roles b t = record { one = b; other = true; third = true; parts = if is_fixed z t then same true k else outs k t }
 
+  -- At a source that is picked, out of an item or not.
+  abbrev pub picked_source_roles : {X : Type 0} → Bool → Ex → Option X → Roles
+  picked_source_roles b t None = record { one = b; other = is_fixed z t; third = is_fixed z t; parts = same (is_fixed z t) k }
+  picked_source_roles b t (Some l) = record (item_roles b t) { other = is_fixed z t }
+
   -- At a term at which a root is rewritten.
   abbrev pub term_roles : Bool → Ex → Roles
-  term_roles b (comp_ex e (from (name_pat y) t hs)) =
-      record { one = b; other = is_fixed z t; third = is_fixed z t; parts = same (is_fixed z t) k }
+  term_roles b (comp_ex e (from (name_pat y) t hs)) = picked_source_roles b t (ordered_lookup s.third s.parts t)
   term_roles b t = item_roles b t
 
   -- At an operand, if there is one.
@@ -49,8 +54,12 @@ module _ (z : Text → Bool) (s : Supply) (k : ℕ) where
       go true = same-length true k
       go false = outs-length k t
 
+  picked-source-number : {X : Type 0} (b : Bool) (t : Ex) (o : Option X) → length (picked_source_roles b t o).parts ≡ k
+  picked-source-number b t None = same-length (is_fixed z t) k
+  picked-source-number b t (Some l) = item-number b t
+
   term-number : (b : Bool) (t : Ex) → length (term_roles b t).parts ≡ k
-  term-number b (comp_ex e (from (name_pat y) t hs)) = same-length (is_fixed z t) k
+  term-number b (comp_ex e (from (name_pat y) t hs)) = picked-source-number b t (ordered_lookup s.third s.parts t)
   term-number b t = item-number b t
 
   operand-number : (b : Bool) (o : Option Ex) → length (operand_roles b o).parts ≡ k
@@ -73,29 +82,42 @@ module _ (z v w : Text → Bool) (more : (a : Text) → z a ≡ true → v a ≡
   alike : (e : Ex) → is_fixed w e ≡ true → is_fixed v e ≡ is_fixed z e
   alike e h = fixed-alike z v w more same-there n k e h
 
-  item-serves : (b : Bool) (t : Ex) → is_fixed w t ≡ true → NamesAs v n k (item_roles z s k b t) → ItemNames v s t
-  item-serves b t h a = record {
-    third = a.third;
+  item-serves : (t : Ex) → is_fixed w t ≡ true → v s.third ≡ true →
+      Assigned v (n + 3) (if is_fixed z t then same true k else outs k t) → ItemNames v s t
+  item-serves t h i a = record {
+    third = i;
     where_fixed = λ f. all-names v (n + 3) k (parts-as true (sym (alike t h) ∙ f));
     else_along = λ f. along-names v (n + 3) k t (parts-as false (sym (alike t h) ∙ f));
   }
     where
       parts-as : (c : Bool) → is_fixed z t ≡ c → Assigned v (n + 3) (if c then same true k else outs k t)
-      parts-as c f = subst (λ c. Assigned v (n + 3) (if c then same true k else outs k t)) f a.parts
+      parts-as c f = subst (λ c. Assigned v (n + 3) (if c then same true k else outs k t)) f a
+
+  picked-source-serves : {X : Type 0} (b : Bool) (t : Ex) → is_fixed w t ≡ true → (o : Option X) →
+      NamesAs v n k (picked_source_roles z s k b t o) →
+      (v s.other ≡ is_fixed v t) × OfEither o (EachAs v (is_fixed v t) (s.third ∷ s.parts)) (λ l. ItemNames v s t)
+  picked-source-serves b t h None a = (
+    a.other ∙ sym (alike t h),
+    subst (λ c. EachAs v c (s.third ∷ s.parts)) (sym (alike t h)) (a.third, same-names v (is_fixed z t) (n + 3) k a.parts),
+  )
+  picked-source-serves b t h (Some l) a = (a.other ∙ sym (alike t h), item-serves t h a.third a.parts)
 
   term-serves : (b : Bool) (t : Ex) → PartsHave (fixed w) t → NamesAs v n k (term_roles z s k b t) → TermNames v s t
   term-serves b (comp_ex e (from (name_pat y) t hs)) h a =
-      subst (λ c. EachAs v c (s.other ∷ s.third ∷ s.parts)) (sym (alike t (has-fixed w t h.1.1)))
-      (a.other, (a.third, same-names v (is_fixed z t) (n + 3) k a.parts))
-  term-serves b t h a = item-serves b t (has-fixed w t h) a
+      picked-source-serves b t (has-fixed w t h.1.1) (ordered_lookup s.third s.parts t) a
+  term-serves b t h a = item-serves t (has-fixed w t h) a.third a.parts
 
   operand-serves : (b : Bool) (o : Option Ex) → OfSome o (PartsHave (fixed w)) → NamesAs v n k (operand_roles z s k b o) →
       OfSome o (TermNames v s)
   operand-serves b None h a = tt
   operand-serves b (Some t) h a = term-serves b t h a
 
+  picked-source-one : {X : Type 0} (b : Bool) (t : Ex) (o : Option X) → NamesAs v n k (picked_source_roles z s k b t o) → v s.one ≡ b
+  picked-source-one b t None a = a.one
+  picked-source-one b t (Some l) a = a.one
+
   term-one : (b : Bool) (t : Ex) → NamesAs v n k (term_roles z s k b t) → v s.one ≡ b
-  term-one b (comp_ex e (from (name_pat y) t hs)) a = a.one
+  term-one b (comp_ex e (from (name_pat y) t hs)) a = picked-source-one b t (ordered_lookup s.third s.parts t) a
   term-one b t a = a.one
 
   operand-one : (b : Bool) (o : Option Ex) → NamesAs v n k (operand_roles z s k b o) → v s.one ≡ b

@@ -5,6 +5,7 @@ use Rattle.ess_semantics.specs.Trees.{name_pat, Ex, comp_ex, no_gens, over, from
 use Rattle.ess_semantics.specs.Typed.{Typed}
 use Rattle.ess_semantics.specs.Meaning.{empty_env}
 use Rattle.ess_semantics.proofs.Shorthands.{N, n, es1, es2, bi, upto, at}
+use Rattle.ess_rules_laws.specs.Rules.{Unused}
 use Rattle.ess_rules_laws.specs.SourceRules.{list_of}
 use Rattle.ess_refine_laws.specs.AllRules.{Supply}
 use Rattle.ess_ordered_kept_laws.specs.OrderedAsks.{OrderedLookupAsks, SourcePickedAsks, OperandAsks, AtOperandAsks}
@@ -55,3 +56,16 @@ counted = comp_ex (N (codes "q")) (over (name_pat (codes "q")) (upto 3) no_gens)
 
 item_has : OrderedLookupAsks (codes "#3") (codes "#4" ∷ []) (at counted (n 2)) empty_env
 item_has = ((tt, (tt, (tt, tt)), (tt, (tt, tt)), refl), refl)
+
+-- `[q | q <- [[r] | r : int(1..3)][2]]`: of its source that is asked, and nothing that another lookup would ask.
+abbrev rows : Ex
+rows = comp_ex (list_of (es1 (N (codes "r")))) (over (name_pat (codes "r")) (upto 3) no_gens)
+
+abbrev of_rows : Ex
+of_rows = comp_ex (N (codes "q")) (from (name_pat (codes "q")) (at rows (n 2)) no_gens)
+
+new_name_unused : Unused (codes "#2") of_rows
+new_name_unused = (refl, (refl, (((refl, tt), (refl, (tt, (tt, tt)), tt)), (tt, tt)), tt))
+
+row_has : SourcePickedAsks names [] of_rows empty_env
+row_has = (no_names_given, new_name_unused, refl, λ h. refl, ((tt, (tt, (tt, tt)), (tt, (tt, tt)), refl), refl))

@@ -33,11 +33,12 @@ OrderedLookupAsks z (y ∷ ys) e env = elim (picked_within e) [
 ]
 
 -- Of a comprehension over what is picked: names have values of their types, the new one doesn't stand in it, its source isn't read as
--- Boolean and has what its lookup asks, and where that has a value so has the comprehension.
+-- Boolean, and where that has a value so has the comprehension. The source has what its lookup asks, as an item by its number or as any
+-- other term.
 abbrev pub SourcePickedAsks : Supply → Names Ty → Ex → Env → Type 0
 SourcePickedAsks s g (comp_ex e (from (name_pat y) t hs)) env = Typed g env × Unused s.other (comp_ex e (from (name_pat y) t hs))
     × IsTrue (not (asks_truth t)) × FitsWhereThere (Some t) false (comp_ex e (from (name_pat y) t hs)) env
-    × LookupAsks g s.third s.parts t env
+    × OrAsks (ordered_lookup s.third s.parts t) (λ l. OrderedLookupAsks s.third s.parts t env) (LookupAsks g s.third s.parts t env)
 SourcePickedAsks s g e env = Unit {0}
 
 -- Of an operand: what is picked out of an item isn't read as Boolean; else it is such a comprehension.

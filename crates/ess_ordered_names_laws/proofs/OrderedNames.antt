@@ -20,7 +20,7 @@ use Rattle.ess_open_rules_laws.specs.OpenGenerators.{Opened, with_first, opened_
 use Rattle.ess_open_rules_laws.specs.OpenRules.{gives_scalar, is_compound_ty}
 use Rattle.ess_ordered_laws.specs.NumberedItems.{ordered_lookup}
 use Rattle.ess_ordered_laws.specs.IndexedSources.{is_by_index, items_at, indexed_term, indexed_source, indexed_behind}
-use Rattle.ess_ordered_laws.specs.PickedSources.{is_untold, each_source, picked_source}
+use Rattle.ess_ordered_laws.specs.PickedSources.{is_untold, source_lookup, each_source, picked_source}
 use Rattle.ess_ordered_laws.specs.OrderedRules.{OrderedRule, an_item, of_an_item, source_by_indices, item_alone, keeps_order, operand_lookup, over_operand, at_operand, ordered_rewrite}
 use Rattle.conjure_model_laws.specs.ToldApart.{reserved}
 use Rattle.ess_chain_names_laws.specs.NamesHave.{NamesHave, GensNamesHave, DomNamesHave, EachHas}
@@ -71,7 +71,8 @@ module _ (u : Text → Bool) where
 
     comp-names : (e : Ex) → NamesHave u e → AtSource (PickHas u s) e → HaveSome u (picked_source s g e)
     comp-names (comp_ex e (from (name_pat y) a hs)) h p =
-        go (is_untold s g a) (looked_up g s.third s.parts a) (picked-names u g s.third s.parts t.third t.parts a h.1.1 p.1)
+        go (is_untold s g a) (source_lookup s g a) (either-picks u (ordered_lookup s.third s.parts a) (looked_up g s.third s.parts a)
+        (looked a h.1.1) (picked-names u g s.third s.parts t.third t.parts a h.1.1 p.1))
       where
         go : (b : Bool) (o : Option (List Alternative)) → HaveSome u o →
             HaveSome u (if b then option_map (λ l. each_source s.other y l e hs) o else None)
