@@ -1,5 +1,5 @@
 -- Items of comprehensions: by what is picked within, by the generators, and domains by their range.
-use Rattle.std.proofs.Common.{◌≡◌, refl, ap, if◌then◌else◌, List, [], ◌∷◌, Option, Some, None, option_map}
+use Rattle.std.proofs.Common.{◌≡◌, refl, ap, if◌then◌else◌, List, [], ◌∷◌, Some, None, option_map}
 use Rattle.ess_semantics.specs.Lists.{and_then, is_some_and}
 use Rattle.ess_semantics.specs.Values.{Text}
 use Rattle.ess_semantics.specs.Trees.{both_ends, Pat, name_pat, tuple_pat, Ex, name_ex, no_exs, more_exs, Gens, no_gens, over, from, cond, Dom, int_dom}

@@ -1,5 +1,6 @@
 -- What is picked where nothing tells how many items it has, by what it looks up; and generators that no table decides, one by one.
-use Rattle.std.specs.Prelude.{Bool, true, false, ◌&&◌, not, if◌then◌else◌, List, [], ◌∷◌, Option, None}
+use Rattle.std.specs.Prelude.{Bool, true, false, ◌&&◌, not, if◌then◌else◌, List, [], ◌∷◌, Option, Some, None}
+use Rattle.ess_semantics.specs.Lists.{and_then, or_else}
 use Rattle.ess_semantics.specs.Names.{Names}
 use Rattle.ess_semantics.specs.Occurrences.{has_cells}
 use Rattle.ess_semantics.specs.Trees.{Ex}
@@ -9,16 +10,22 @@ use Rattle.ess_rules_laws.specs.Listings.{Alternative}
 use Rattle.ess_refine_laws.specs.AllRules.{Supply}
 use Rattle.ess_kind_rules_laws.specs.TermLookups.{looked_up}
 use Rattle.ess_open_rules_laws.specs.OpenSources.{is_decided, are_decided}
-use Rattle.ess_ordered_laws.specs.PickedSources.{is_untold}
+use Rattle.ess_ordered_laws.specs.NumberedItems.{ordered_lookup}
+use Rattle.ess_ordered_laws.specs.PickedSources.{is_untold, source_lookup}
 
 -- What the term picks, where it can't be taken in order as it is.
 abbrev pub untold_lookup : Supply → Names Ty → Ex → Option (List Alternative)
-untold_lookup s g t = if is_untold s g t then looked_up g s.third s.parts t else None
+untold_lookup s g t = if is_untold s g t then source_lookup s g t else None
 
 -- Whether the alternatives are one alone, and no table says which items it has.
 abbrev pub is_told : List Alternative → Bool
 is_told (a ∷ []) = are_decided a.gens
 is_told l = false
+
+-- What a term picks as an item of a comprehension by its number; else as any other term, where that isn't told in order.
+abbrev pub item_or_other : Supply → Names Ty → Ex → Option (List Alternative)
+item_or_other s g t = or_else (ordered_lookup s.third s.parts t)
+    (and_then (looked_up g s.third s.parts t) (λ l. if is_told l then None else Some l))
 
 -- Whether a generator is over a domain or a comprehension that no table decides, or is a condition that reads no table.
 abbrev pub is_decided_item : Item → Bool

@@ -1,16 +1,18 @@
 //! Comprehensions over what is picked, where the order of items counts and nothing tells how many there are.
-ghost use Rattle.std.specs.Prelude.{◌≡◌, map, option_map, IfOk};
+ghost use Rattle.std.specs.Prelude.{◌≡◌, map, option_map, is_some, IfOk};
 ghost use Rattle.ess_semantics.specs.Trees.{name_pat, name_ex, comp_ex, from as from_source};
 ghost use Rattle.ess_core_nodes.specs.NodeViews.{pure_node, pure_gens};
 ghost use Rattle.ess_node_types.specs.TypedNames.{pure_names};
+ghost use Rattle.ess_guard_laws.specs.IndexDomains.{index_dom as index_domain};
 ghost use Rattle.ess_rules_laws.specs.ListedSources.{laid_out as comprehended};
 ghost use Rattle.ess_rules_alternatives.specs.Cases.{put_through as through_one};
 ghost use Rattle.ess_rules_forms.specs.PureAlternatives.{pure_alternative};
 ghost use Rattle.ess_ordered_laws.specs.PickedSources.{picked_source as source_picked};
-ghost use Rattle.ess_rules_ordered.specs.PickedForms.{untold_lookup as untold, is_told as told_alone};
+ghost use Rattle.ess_rules_ordered.specs.PickedForms.{untold_lookup as untold, is_told as told_alone, item_or_other as picked_either};
 ghost use Rattle.ess_rules_ordered.specs.Supplies.{item_supply};
 
 use crate::decided::are_decided;
+use crate::lookups::ordered_lookup;
 use crate::names::ItemNames;
 use ess_core_nodes::{Gen, Node, copy_gens};
 use ess_guard_forms::index_dom;
@@ -63,9 +65,32 @@ fn untold_lookup(
     if !picks(term) {
         return Ok(None);
     }
-    let axis = index_dom(alloc, term)?;
-    if axis.is_some() {
+    if has_axis(alloc, term)? {
         return Ok(None);
+    }
+    item_or_other(alloc, types, names, term)
+}
+
+/// Whether the form of a term tells an index domain.
+fn has_axis(alloc: Global, term: &Node) -> Result<bool, NoMemory>
+    ensures { IfOk result (λ b. b ≡ is_some (index_domain (pure_node term.now))) }
+{
+    let axis = index_dom(alloc, term)?;
+    Ok(axis.is_some())
+}
+
+/// What a term picks as an item of a comprehension by its number; else as any other term, where that isn't told in order.
+fn item_or_other(
+    alloc: Global,
+    types: &NameTypes,
+    names: &ItemNames<'_>,
+    term: &Node,
+) -> Result<Option<Row<Alternative>>, NoMemory>
+    ensures { IfOk result (λ o. option_map (map pure_alternative) o
+        ≡ picked_either (item_supply names.now) (pure_names types.now) (pure_node term.now)) }
+{
+    if let Some(items) = ordered_lookup(alloc, names.counted, names.parts, term)? {
+        return Ok(Some(items));
     }
     let found = looked_up(alloc, types, names.counted, names.parts, term)?;
     match found {
