@@ -29,7 +29,7 @@ use Rattle.conjure_modelling.specs.ess_models.Parts.{scope_of_tables}
 use Rattle.conjure_modelling.specs.ess_models.Built.{IsBuilt}
 use Rattle.conjure_standing_laws.proofs.BuiltParts.{none-come}
 use Rattle.conjure_standing_laws.proofs.MemberChains.{comes-written}
-use Rattle.ess_mixed_models_laws.specs.MixedSpecifications.{is_ranged_constraint, is_setwise_constraint, is_told_constraint, kinds, places, members_of, is_of_kind, has_printed_name, is_kept_by_members, is_membership, is_mixed_statement, are_mixed_statements, types_come_first, have_bounds, is_mixed_specification}
+use Rattle.ess_mixed_models_laws.specs.MixedSpecifications.{is_setwise_constraint, kinds, places, members_of, is_of_kind, has_printed_name, is_kept_by_members, is_membership, is_mixed_statement, are_mixed_statements, types_come_first, have_bounds, is_mixed_specification}
 use Rattle.ess_mixed_models_laws.specs.MixedModels.{mixed_decl, mixed_decls, shown_value, axis_of, IsRuleOf, of_flat, of_membership, IsMixedModel}
 use Rattle.ess_mixed_models_laws.proofs.NamedKinds.{no-yes}
 use Rattle.ess_mixed_models_laws.proofs.MixedPlans.{either-test}
@@ -37,10 +37,8 @@ use Rattle.ess_mixed_models_laws.proofs.MixedGoals.{goal-asked}
 use Rattle.ess_mixed_models_laws.proofs.MixedHave.{mixed-right}
 use Rattle.ess_mixed_models_laws.proofs.SetValues.{membership-fact}
 use Rattle.conjure_standing_laws.specs.NestedLaws.{NestedRulesStand}
-use Rattle.conjure_standing_laws.specs.RangedLaws.{RangedRulesStand}
 use Rattle.conjure_standing_laws.specs.SetwiseLaws.{SetwiseRulesStand, SetwiseObjectivesStand}
 use Rattle.conjure_standing_laws.specs.MixedLaws.{BuiltMixedModelsAreRight}
-use Rattle.conjure_standing_laws.proofs.RangedBuilt.{ranged-rule}
 use Rattle.conjure_standing_laws.proofs.SetwiseBuilt.{setwise-rule}
 use Rattle.conjure_standing_laws.proofs.MixedTrees.{axis-is, literal-is, tree-is, member-tree, no-channels}
 use Rattle.conjure_standing_laws.proofs.NestedBuilt.{structures-are}
@@ -104,34 +102,30 @@ module _ (S : List Stm) (o : Options) (h : are_mixed_statements S o ≡ true) (f
       })
 
   -- What comes of a constraint of the class is a rule of it.
-  module _ (ranged : RangedRulesStand) (setwise : SetwiseRulesStand) (E : Model)
+  module _ (setwise : SetwiseRulesStand) (E : Model)
       (gs : E.givens ≡ map (mixed_decl (kinds S) Ps) (plans_for givens_side S o))
       (fs : E.finds ≡ append_all (map (mixed_decls (kinds S) Ps) (plans_for finds_side S o))) where
-    rule-of : (s : Scope) (e r : Ex) → is_flat_truth Ps e || (is_membership S o e || is_told_constraint Ps S e) ≡ true →
+    rule-of : (s : Scope) (e r : Ex) → is_flat_truth Ps e || (is_membership S o e || is_setwise_constraint Ps S e) ≡ true →
         ConstraintComes s taken sh e (Some r) → IsRuleOf S o E e r
     rule-of s e r t w = go (is_flat_truth Ps e) refl t
       where
-        told : is_flat_truth Ps e ≡ false → (is_ranged_constraint Ps S e ≡ true) ⊎ (is_setwise_constraint Ps S e ≡ true) →
-            IsRuleOf S o E e r
-        told n (inl t) = ranged-rule S o h f ts bs E gs fs ranged s e r n t w
-        told n (inr t) = setwise-rule S o h f ts bs E gs fs setwise s e r n t w
-
-        rest : is_flat_truth Ps e ≡ false → (is_membership S o e ≡ true) ⊎ (is_told_constraint Ps S e ≡ true) → IsRuleOf S o E e r
+        rest : is_flat_truth Ps e ≡ false → (is_membership S o e ≡ true) ⊎ (is_setwise_constraint Ps S e ≡ true) → IsRuleOf S o E e r
         rest n (inl t) =
             let m = member-form e t in
             subst (λ e. is_membership S o e ≡ true → ConstraintComes s taken sh e (Some r) → IsRuleOf S o E e r) (sym m.2)
             (λ t w. member-rule E s m.0 m.1 r t w) t w
-        rest n (inr t) = told n (either-test (is_ranged_constraint Ps S e) (is_setwise_constraint Ps S e) t)
+        rest n (inr t) = setwise-rule S o h f ts bs E gs fs setwise s e r n t w
 
-        go : (b : Bool) → is_flat_truth Ps e ≡ b → b || (is_membership S o e || is_told_constraint Ps S e) ≡ true → IsRuleOf S o E e r
+        go : (b : Bool) → is_flat_truth Ps e ≡ b → b || (is_membership S o e || is_setwise_constraint Ps S e) ≡ true →
+            IsRuleOf S o E e r
         go true t x =
             let k = truth-flat Ps e t in
             subst (IsRuleOf S o E e)
             (sym (written-is S o h f ts bs s (next_behind sh e) (constraint_tree sh e) e r true (tree-is S o h f ts bs e k) k w)) (of_flat t)
-        go false n x = rest n (either-test (is_membership S o e) (is_told_constraint Ps S e) x)
+        go false n x = rest n (either-test (is_membership S o e) (is_setwise_constraint Ps S e) x)
 
     abbrev AskedOf : Ex → Type 0
-    AskedOf e = is_flat_truth Ps e || (is_membership S o e || is_told_constraint Ps S e) ≡ true
+    AskedOf e = is_flat_truth Ps e || (is_membership S o e || is_setwise_constraint Ps S e) ≡ true
 
     rules-are : (s : Scope) (es rs : List Ex) → Each es AskedOf → Along es rs (λ c e. ConstraintComes s taken sh c (Some e)) →
         Along es rs (IsRuleOf S o E)
@@ -141,7 +135,7 @@ module _ (S : List Stm) (o : Options) (h : are_mixed_statements S o ≡ true) (f
     rules-are s (e ∷ es) [] a w = absurd w
 
   abbrev Asked : Ex → Type 0
-  Asked e = is_flat_truth Ps e || (is_membership S o e || is_told_constraint Ps S e) ≡ true
+  Asked e = is_flat_truth Ps e || (is_membership S o e || is_setwise_constraint Ps S e) ≡ true
 
   stm-asked : (s : Stm) → is_mixed_statement S o s ≡ true → Each (constraint_of s) Asked
   stm-asked (such_that e) k = (k, tt)
@@ -163,9 +157,9 @@ module _ (S : List Stm) (o : Options) (h : are_mixed_statements S o ≡ true) (f
       (all-asked T (and-right (is_mixed_statement S o s) (list_all (is_mixed_statement S o) T) k))
 
   -- What is built is a model of the specification.
-  pub built-model : NestedRulesStand → RangedRulesStand → SetwiseRulesStand → SetwiseObjectivesStand → (H : Header) (E : Model) →
-      IsBuilt S o H E → IsMixedModel S o E
-  built-model stand ranged setwise aims H E B =
+  pub built-model : NestedRulesStand → SetwiseRulesStand → SetwiseObjectivesStand → (H : Header) (E : Model) → IsBuilt S o H E →
+      IsMixedModel S o E
+  built-model stand setwise aims H E B =
       let sc : Scope = scope_of_tables E.givens E.finds in
       let R = B.rules in
       let gs = givens-written S o h f ts bs _ _ E.givens B.declared.givens in
@@ -182,13 +176,13 @@ module _ (S : List Stm) (o : Options) (h : are_mixed_statements S o ≡ true) (f
         rules = rules-joined E.rules R.structures (append_all st.rows) R.channels R.goals (goal_rules (goal_of (prepared S))) R.constraints
             R.all st.all ch go.1;
         structured = structures-are stand S o h f ts bs E gs fs sc st.rows st.each;
-        written = rules-are ranged setwise E gs fs sc (constraints_of (prepared S)) R.constraints (all-asked (prepared S) h)
+        written = rules-are setwise E gs fs sc (constraints_of (prepared S)) R.constraints (all-asked (prepared S) h)
             R.constraints_written.each;
       }
 
 -- So it is of each specification of the class, and the model is a right one.
-pub built-mixed-right : NestedRulesStand → RangedRulesStand → SetwiseRulesStand → SetwiseObjectivesStand → BuiltMixedModelsAreRight
-built-mixed-right stand ranged setwise aims = record {
+pub built-mixed-right : NestedRulesStand → SetwiseRulesStand → SetwiseObjectivesStand → BuiltMixedModelsAreRight
+built-mixed-right stand setwise aims = record {
   models = λ S o H E f h B. (B.header, model S o H E f h B);
   right = λ S o H E f h B. subst (λ H. Models S o H E × IsExact S o E) (sym B.header) (mixed-right S o E f h (model S o H E f h B));
 }
@@ -201,5 +195,5 @@ built-mixed-right stand ranged setwise aims = record {
         let b : Bool = have_bounds (plans S o) [] (prepared S) in
         let c : Bool = list_all (has_marks (plans S o)) (constraints_of S) in
         let r = and-right a (t && (b && c)) h in
-        built-model S o (and-left a (t && (b && c)) h) f (and-left t (b && c) r) (and-left b c (and-right t (b && c) r)) stand ranged
+        built-model S o (and-left a (t && (b && c)) h) f (and-left t (b && c) r) (and-left b c (and-right t (b && c) r)) stand
         setwise aims H E B

@@ -27,14 +27,15 @@ use Rattle.ess_setwise_laws.specs.Setwise.{is_setwise_number}
 use Rattle.conjure_modelling.specs.ess_model_trees.Written.{ComesFrom, next_behind}
 use Rattle.conjure_modelling.specs.ess_model_written.RulesWritten.{BothCome, GoalComes}
 use Rattle.conjure_standing_laws.proofs.FlatChains.{comes-flat}
-use Rattle.ess_mixed_models_laws.specs.MixedSpecifications.{kinds, nested_kind, are_mixed_statements, types_come_first, have_bounds, spares_reserved, has_names_left, is_setwise_objective}
-use Rattle.ess_mixed_models_laws.specs.MixedModels.{mixed_decl, mixed_decls, IsNumberOf, of_flat_number, of_told_number, IsGoalOf, of_no_goal, of_least, of_greatest}
+use Rattle.ess_mixed_models_laws.specs.MixedSpecifications.{kinds, are_mixed_statements, types_come_first, have_bounds, spares_reserved, has_names_left, unbound_kind, is_setwise_objective}
+use Rattle.ess_mixed_models_laws.specs.MixedModels.{mixed_decl, mixed_decls, IsNumberOf, of_flat_number, of_setwise_number, IsGoalOf, of_no_goal, of_least, of_greatest}
 use Rattle.ess_mixed_models_laws.proofs.MixedPlans.{either-test}
 use Rattle.ess_mixed_models_laws.proofs.ScalarCells.{cells}
 use Rattle.ess_mixed_models_laws.proofs.MixedGoals.{GoalAsked}
 use Rattle.conjure_standing_laws.specs.SetwiseLaws.{SetwiseObjectivesStand}
 use Rattle.conjure_standing_laws.proofs.MixedTrees.{simple, over-cells, objective-is, condition-is}
 use Rattle.conjure_standing_laws.proofs.FilledTables.{sized_cells}
+use Rattle.conjure_standing_laws.proofs.UnboundSets.{unbound-sets}
 use Rattle.conjure_standing_laws.proofs.SetwiseBuilt.{have-sets}
 
 module _ (S : List Stm) (o : Options) (h : are_mixed_statements S o ≡ true) (f : fault S ≡ None)
@@ -75,9 +76,9 @@ module _ (S : List Stm) (o : Options) (h : are_mixed_statements S o ≡ true) (f
           ap (λ z. z ∷ []) (true-is s (next_behind sh e) (condition_tree sh e) r (condition-is S o h f ts bs e k) w.condition),
         )
 
-    told-number : (s : Scope) (e y r : Ex) → is_setwise_objective Ps S e ≡ true → BothCome s taken sh e y r → Both e y r
-    told-number s e y r t w =
-        let u : Bool = is_setwise_number (scalar_mark Ps) (nested_kind Ps) e in
+    setwise-number : (s : Scope) (e y r : Ex) → is_setwise_objective Ps S e ≡ true → BothCome s taken sh e y r → Both e y r
+    setwise-number s e y r t w =
+        let u : Bool = is_setwise_number (scalar_mark Ps) (unbound_kind Ps e) e in
         let v : Bool = spares_reserved Ps S in
         let n : Bool = has_names_left Ps S e in
         let k : Bool = list_all (λ n. list_any (same_int n) (constants_of S)) (numbers_of_tree e) in
@@ -86,10 +87,11 @@ module _ (S : List Stm) (o : Options) (h : are_mixed_statements S o ≡ true) (f
         let b3 = and-left n k b2 in
         let c1 : Bool = nat_le (sh.next + binders e) (2 ^ 62) in
         let c2 : Bool = nat_le (length taken) (2 ^ 62) in
-        let z = stand S o E (nested_kind Ps) (sized_cells (all_decls E)) (have-sets S o h f ts bs E g l (and-left v (n && k) b1)) e
+        let w1 = have-sets S o h f ts bs E g l (and-left v (n && k) b1) in
+        let z = stand S o E (unbound_kind Ps e) (sized_cells (all_decls E)) (unbound-sets S o E (sized_cells (all_decls E)) e w1) e
         (and-left u (v && (n && k)) t) (leb-true (sh.next + binders e) (2 ^ 62) (and-left c1 c2 b3)) taken
         (leb-true (length taken) (2 ^ 62) (and-right c1 c2 b3)) s y w.objective in (
-          of_told_number t z.0 (z.1 (and-right n k b2)),
+          of_setwise_number t z.0 (z.1 (and-right n k b2)),
           ap (λ x. x ∷ []) (true-is s (next_behind sh e) (condition_tree sh e) r z.2 w.condition),
         )
 
@@ -99,7 +101,7 @@ module _ (S : List Stm) (o : Options) (h : are_mixed_statements S o ≡ true) (f
       where
         go : (is_flat_number Ps e ≡ true) ⊎ (is_setwise_objective Ps S e ≡ true) → Both e y r
         go (inl t) = flat-number s e y r t w
-        go (inr t) = told-number s e y r t w
+        go (inr t) = setwise-number s e y r t w
 
     -- What comes of the objective.
     pub goal-is : (s : Scope) (a : Goal) → GoalAsked S o a → (k : Goal) (rs : List Ex) → GoalComes s taken sh a k rs →

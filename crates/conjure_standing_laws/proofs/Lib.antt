@@ -15,10 +15,7 @@ pub mod NoMatrices
 -- One rule at a part, and chains
 pub mod SeenChains
 pub mod SeenLaws
--- The rules of constraints over ranges
-pub mod RangedRules
-pub mod RangedLaws
--- The rules of constraints that speak of nested sets, and objectives
+-- The rules of constraints over scalars, ranges and nested sets, and objectives
 pub mod SetwiseRules
 pub mod SetwiseObjectives
 pub mod SetwiseLaws
@@ -65,10 +62,12 @@ pub mod MixedTrees
 -- What is built
 pub mod MixedTables
 pub mod NestedBuilt
-pub mod RangedBuilt
+-- Cells of scalars
+pub mod ScalarsHeld
 -- Tables that have a number at each slot
 pub mod FilledTables
 pub mod SetViews
+pub mod UnboundSets
 pub mod SetwiseBuilt
 -- The objective, and the whole
 pub mod GoalBuilt

@@ -36,7 +36,7 @@ use Rattle.ess_mixed_views_laws.proofs.KeptTables.{IsSized, AreSized, tables-kee
 use Rattle.conjure_standing_laws.specs.NestedFinds.{tables_by}
 use Rattle.conjure_standing_laws.proofs.NestedFacts.{nested-declared}
 use Rattle.conjure_standing_laws.proofs.FilledTables.{size_of, sized_cells}
-use Rattle.conjure_standing_laws.proofs.RangedBuilt.{all-same}
+use Rattle.conjure_standing_laws.proofs.ScalarsHeld.{all-same}
 use Rattle.conjure_standing_laws.proofs.ShownSets.{set-is-shown}
 
 -- The domain, representation and tables of a plan.

@@ -1,6 +1,6 @@
 -- The rule that is built of a constraint that speaks of nested sets says what the constraint says: what is shown for the names of such sets
 -- is kept by declared tables, over which it has their values.
-use Rattle.std.proofs.Common.{◌≡◌, refl, sym, ap, ◌∙◌, subst, ℕ, ◌+◌, ◌^◌, Bool, true, false, ◌&&◌, ◌||◌, List, [], ◌∷◌, ◌++◌, map, length, nat_le, ℤ, Option, Some, None, option_map, arith}
+use Rattle.std.proofs.Common.{◌≡◌, refl, sym, ap, ◌∙◌, subst, ℕ, ◌+◌, ◌^◌, Bool, true, false, ◌&&◌, List, [], ◌∷◌, ◌++◌, map, length, nat_le, ℤ, Option, Some, None, option_map, arith}
 use Rattle.std.proofs.lemmas.Bool.{leb-true}
 use Rattle.std.specs.List.{list_all, list_any}
 use Rattle.ess_semantics.specs.Lists.{append_all}
@@ -39,8 +39,8 @@ use Rattle.ess_seen_laws.specs.Filled.{AreFilled}
 use Rattle.ess_setwise_laws.specs.Setwise.{is_setwise_truth}
 use Rattle.ess_setwise_laws.specs.Laws.{ShowsSets, HoldsSets, HoldsScalars, MeetsSets, SpellsSets}
 use Rattle.conjure_modelling.specs.ess_model_written.RulesWritten.{ConstraintComes}
-use Rattle.ess_mixed_models_laws.specs.MixedSpecifications.{kinds, nested_kind, are_mixed_statements, types_come_first, have_bounds, spares_reserved, has_names_left, is_ranged_constraint, is_setwise_constraint}
-use Rattle.ess_mixed_models_laws.specs.MixedModels.{mixed_decl, mixed_decls, IsRuleOf, of_told}
+use Rattle.ess_mixed_models_laws.specs.MixedSpecifications.{kinds, nested_kind, are_mixed_statements, types_come_first, have_bounds, spares_reserved, has_names_left, unbound_kind, is_setwise_constraint}
+use Rattle.ess_mixed_models_laws.specs.MixedModels.{mixed_decl, mixed_decls, IsRuleOf, of_setwise}
 use Rattle.ess_mixed_models_laws.proofs.ScalarCells.{placed-names}
 use Rattle.ess_mixed_views_laws.proofs.AxisSizes.{axis_size}
 use Rattle.ess_mixed_views_laws.proofs.NestedNames.{NestedAmong, nested-name}
@@ -49,8 +49,9 @@ use Rattle.ess_mixed_views_laws.proofs.ViewNumbers.{view-spelled}
 use Rattle.conjure_standing_laws.specs.SetwiseLaws.{HaveSets, SetwiseRulesStand}
 use Rattle.conjure_standing_laws.proofs.ShownNames.{names-shown}
 use Rattle.conjure_standing_laws.proofs.ShownSets.{shown-alike}
-use Rattle.conjure_standing_laws.proofs.RangedBuilt.{none-reserved, names-held, marks-held, all-same, cell-declared}
+use Rattle.conjure_standing_laws.proofs.ScalarsHeld.{none-reserved, names-held, marks-held, all-same, cell-declared}
 use Rattle.conjure_standing_laws.proofs.FilledTables.{size_of, sized_cells, tables-filled}
+use Rattle.conjure_standing_laws.proofs.UnboundSets.{unbound-sets}
 use Rattle.conjure_standing_laws.proofs.SetViews.{view, first-view, last-view, is-set-view}
 
 no-axes : (as' : List Dom) → length as' ≡ 0 → map axis_size as' ≡ []
@@ -82,10 +83,6 @@ sizes-declared ds n b k e = go (declaration_of ds n) refl e
           mark = ap (λ m. m.0) z;
           axes = sym (map-length axis_size t.axes) ∙ ap (λ m. m.1) z;
         }
-
-or-right : (b c : Bool) → c ≡ true → b || c ≡ true
-or-right true c q = refl
-or-right false c q = q
 
 module _ (S : List Stm) (o : Options) (h : are_mixed_statements S o ≡ true) (f : fault S ≡ None)
     (ts : types_come_first [] (prepared S) ≡ true) (bs : have_bounds (plans S o) [] (prepared S) ≡ true) where
@@ -170,7 +167,7 @@ module _ (S : List Stm) (o : Options) (h : are_mixed_statements S o ≡ true) (f
       scalars-held : HoldsScalars sh (scalar_mark Ps) (over_tables S p (q ++ c))
       scalars-held = record {
         holds = λ x m t. let r = placed-names S o h x m t in
-            let v = (marks-held S o h f ts bs p a q c I C).holds r.0 m r.2 in (
+            let v = marks-held S o h f ts bs p a q c I C r.0 m r.2 in (
               v.0,
               v.1,
               ap (λ z. meaning z (over_tables S p (q ++ c))) (names-shown S o h f ts bs x m t ∙ ap (cell_for x) r.1) ∙ v.2,
@@ -195,7 +192,7 @@ module _ (S : List Stm) (o : Options) (h : are_mixed_statements S o ≡ true) (f
     pub setwise-rule : SetwiseRulesStand → (s : Scope) (x r : Ex) → is_flat_truth Ps x ≡ false → is_setwise_constraint Ps S x ≡ true →
         ConstraintComes s (taken_names S o) sh x (Some r) → IsRuleOf S o E x r
     setwise-rule stand s x r n t w =
-        let u : Bool = is_setwise_truth (scalar_mark Ps) (nested_kind Ps) x in
+        let u : Bool = is_setwise_truth (scalar_mark Ps) (unbound_kind Ps x) x in
         let v : Bool = spares_reserved Ps S in
         let l : Bool = has_names_left Ps S x in
         let k : Bool = list_all (λ n. list_any (same_int n) (constants_of S)) (numbers_of_tree x) in
@@ -204,7 +201,8 @@ module _ (S : List Stm) (o : Options) (h : are_mixed_statements S o ≡ true) (f
         let b3 = and-left l k b2 in
         let c1 : Bool = nat_le (sh.next + binders x) (2 ^ 62) in
         let c2 : Bool = nat_le (length (taken_names S o)) (2 ^ 62) in
-        let z = stand S o E (nested_kind Ps) cells (have-sets (and-left v (l && k) b1)) x (and-left u (v && (l && k)) t)
+        let z = stand S o E (unbound_kind Ps x) cells
+        (unbound-sets S o E cells x (have-sets (and-left v (l && k) b1))) x (and-left u (v && (l && k)) t)
         (leb-true (sh.next + binders x) (2 ^ 62) (and-left c1 c2 b3)) (taken_names S o)
         (leb-true (length (taken_names S o)) (2 ^ 62) (and-right c1 c2 b3)) s r w in
-        of_told n (or-right (is_ranged_constraint Ps S x) (is_setwise_constraint Ps S x) t) z.0 (z.1 (and-right l k b2))
+        of_setwise n t z.0 (z.1 (and-right l k b2))

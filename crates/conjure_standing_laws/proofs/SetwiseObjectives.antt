@@ -8,9 +8,8 @@ use Rattle.conjure_model_laws.specs.Shown.{shows_of}
 use Rattle.conjure_model_laws.specs.Printed.{binders}
 use Rattle.ess_flat_models_laws.specs.FlatSpecifications.{scalar_mark}
 use Rattle.ess_bare_written_laws.specs.Laws.{EndedTreesAreWritten}
-use Rattle.ess_ranged_laws.specs.Ranged.{is_mark}
 use Rattle.ess_depth_laws.specs.Laws.{DepthsAreBounded}
-use Rattle.ess_setwise_laws.specs.Setwise.{setwise_mark}
+use Rattle.ess_setwise_laws.specs.Setwise.{is_mark, setwise_mark}
 use Rattle.ess_setwise_laws.specs.Laws.{SetwiseTreesAreSeen}
 use Rattle.ess_setwise_laws.specs.Objectives.{SetwiseNumbersAreThere}
 use Rattle.conjure_modelling.specs.ess_model_trees.Written.{ComesFrom, next_behind}

@@ -20,9 +20,9 @@ WrittenModelsOfSetsStand =
     (text : Text) (list : Option Text) (model : Text) → IsModelled text list model → IsMemberText list text →
     StandsForListed list text model
 
--- What is written for a text of a specification of scalars and sets, each constraint flat and total over the scalars, one over ranges and
--- scalars, a membership, or one that speaks of nested sets, is a model with its header by the rules of models, and stands for it, with the
--- representations that the list names and else the defaults. Nothing else is assumed.
+-- What is written for a text of a specification of scalars and sets, each constraint flat and total over the scalars, one over scalars,
+-- ranges and nested sets, or a membership, is a model with its header by the rules of models, and stands for it, with the representations
+-- that the list names and else the defaults. Nothing else is assumed.
 abbrev pub WrittenMixedModelsStand : Type 0
 WrittenMixedModelsStand =
     (text : Text) (list : Option Text) (model : Text) → IsModelled text list model → IsMixedText list text →

@@ -3,8 +3,6 @@ pub mod BareLaws
 -- The law of chains
 pub mod SeenLaws
 -- The law
-pub mod RangedLaws
--- The law
 pub mod SetwiseLaws
 -- Finds that are sets of any nesting
 pub mod NestedFinds

@@ -7,8 +7,8 @@ use Rattle.ess_grammar.specs.Texts.{ReadsSpecification}
 use Rattle.ess_mixed_models_laws.specs.MixedSpecifications.{is_mixed_specification}
 use Rattle.conjure_modelling.specs.Modelled.{AreOptionsOf}
 
--- The text is a specification of scalars and sets, with the options that the list names: each constraint is flat and total over the scalars,
--- one over ranges and scalars, a membership, or one that speaks of nested sets.
+-- The text is a specification of scalars and sets, with the options that the list names: each constraint is flat and total over the
+-- scalars, one over scalars, ranges and nested sets, or a membership.
 pub record IsMixedText (list : Option Text) (text : Text) : Type 0 where
   pub S : List Stm
   pub specification : ReadsSpecification text S

@@ -1,4 +1,5 @@
--- The laws of rules and objectives that are written for what speaks of nested sets, each stated at a function that does nothing.
+-- The laws of rules and objectives that are written for what is over scalars, ranges and nested sets, each stated at a function that does
+-- nothing.
 use Rattle.std.specs.Prelude.{◌≡◌, ℕ, ◌+◌, ◌≤◌, ◌^◌, Bool, true, List, ◌++◌, length, Option, Some}
 use Rattle.std.specs.List.{list_all, list_any}
 use Rattle.ess_semantics.specs.Order.{same_int}
@@ -21,11 +22,10 @@ use Rattle.conjure_model_laws.specs.Printed.{binders}
 use Rattle.ess_refine_laws.specs.SpellingEnds.{numbers_of_tree}
 use Rattle.ess_flat_models_laws.specs.FlatSpecifications.{scalar_mark}
 use Rattle.ess_bare_written_laws.specs.Laws.{AreDeclared}
-use Rattle.ess_ranged_laws.specs.Laws.{HoldsNames}
 use Rattle.ess_seen_laws.specs.Seen.{Kind, counted_axes}
 use Rattle.ess_seen_laws.specs.Filled.{AreFilled}
 use Rattle.ess_setwise_laws.specs.Setwise.{is_setwise_truth, is_setwise_number}
-use Rattle.ess_setwise_laws.specs.Laws.{ShowsSets, HoldsSets, HoldsScalars, MeetsSets, SpellsSets}
+use Rattle.ess_setwise_laws.specs.Laws.{ShowsSets, HoldsNames, HoldsSets, HoldsScalars, MeetsSets, SpellsSets}
 use Rattle.ess_setwise_laws.specs.Objectives.{NumberMeans}
 use Rattle.conjure_modelling.specs.ess_model_written.RulesWritten.{ConstraintComes, ObjectiveComes}
 
@@ -48,8 +48,8 @@ pub record HaveSets (S : List Stm) (o : Options) (E : Model) (sets : Text → Op
   pub met : (p a : Assignment) (q c : Names Table) → Instance S o p q → Canonical S o p a c →
       MeetsSets (shows_of S o) sets (over_tables S p (q ++ c))
 
--- The rule that comes of a constraint that speaks of nested sets says what the constraint says. It spells constants of the specification
--- alone, where the constraint does. Names are left for bound ones, as in all that a machine holds.
+-- The rule that comes of a constraint over scalars, ranges and nested sets says what the constraint says. It spells constants of the
+-- specification alone, where the constraint does. Names are left for bound ones, as in all that a machine holds.
 abbrev pub SetwiseRulesStand : Type 0
 SetwiseRulesStand = (S : List Stm) (o : Options) (E : Model) (sets : Text → Option Kind) (cells : Text → Option (Bool × List ℕ)) →
     HaveSets S o E sets cells → (e : Ex) → is_setwise_truth (scalar_mark (plans S o)) sets e ≡ true →
@@ -58,8 +58,8 @@ SetwiseRulesStand = (S : List Stm) (o : Options) (E : Model) (sets : Text → Op
     RuleMeans S o E e r
     × (list_all (λ n. list_any (same_int n) (constants_of S)) (numbers_of_tree e) ≡ true → spelled S (parts_of r) ≡ true)
 
--- What comes of an objective that speaks of nested sets is in the model the number that it is. It spells constants of the specification
--- alone, where the objective does. And what is asked beside it is `true`: it always has a value.
+-- What comes of an objective over scalars, ranges and nested sets is in the model the number that it is. It spells constants of the
+-- specification alone, where the objective does. And what is asked beside it is `true`: it always has a value.
 abbrev pub SetwiseObjectivesStand : Type 0
 SetwiseObjectivesStand = (S : List Stm) (o : Options) (E : Model) (sets : Text → Option Kind) (cells : Text → Option (Bool × List ℕ)) →
     HaveSets S o E sets cells → (e : Ex) → is_setwise_number (scalar_mark (plans S o)) sets e ≡ true →

@@ -3,7 +3,6 @@
 
 ghost use Rattle.conjure_standing_laws.specs.BareLaws.{BareTreesStayBare};
 ghost use Rattle.conjure_standing_laws.specs.SeenLaws.{SeenTreesStaySeen};
-ghost use Rattle.conjure_standing_laws.specs.RangedLaws.{RangedRulesStand};
 ghost use Rattle.conjure_standing_laws.specs.SetwiseLaws.{SetwiseRulesStand, SetwiseObjectivesStand};
 ghost use Rattle.conjure_standing_laws.specs.NestedLaws.{NestedTablesStay, NestedDomainsStay, NestedRulesStand};
 ghost use Rattle.conjure_standing_laws.specs.FlatLaws.{BuiltModelsAreRight};
@@ -22,17 +21,12 @@ pub fn seen_trees_stay_seen()
     ensures { SeenTreesStaySeen }
 {}
 
-/// The rule of a constraint over ranges says what the constraint says.
-pub fn ranged_rules_stand()
-    ensures { RangedRulesStand }
-{}
-
-/// The rule of a constraint that speaks of nested sets says what the constraint says.
+/// The rule of a constraint over scalars, ranges and nested sets says what the constraint says.
 pub fn setwise_rules_stand()
     ensures { SetwiseRulesStand }
 {}
 
-/// What is written for an objective that speaks of nested sets is the number that it is.
+/// What is written for an objective over scalars, ranges and nested sets is the number that it is.
 pub fn setwise_objectives_stand()
     ensures { SetwiseObjectivesStand }
 {}

@@ -20,7 +20,7 @@ use Rattle.ess_flat_models_laws.specs.FlatSpecifications.{given_mark, is_scalar_
 use Rattle.conjure_laws.specs.Members.{In}
 use Rattle.conjure_laws.proofs.Lookups.{look-in}
 use Rattle.ess_nested_laws.specs.NestedDomains.{is_nested_dom}
-use Rattle.ess_mixed_models_laws.specs.MixedSpecifications.{is_told_constraint, is_setwise_objective, kinds, places, is_set_dom, is_occurrence_alone, members_of, is_of_kind, has_printed_name, is_kept_by_members, is_membership, is_one_fitting, has_few_tables, is_mixed_statement, are_mixed_statements, types_come_first, have_bounds, is_mixed_specification}
+use Rattle.ess_mixed_models_laws.specs.MixedSpecifications.{is_setwise_constraint, is_setwise_objective, kinds, places, is_set_dom, is_occurrence_alone, members_of, is_of_kind, has_printed_name, is_kept_by_members, is_membership, is_one_fitting, has_few_tables, is_mixed_statement, are_mixed_statements, types_come_first, have_bounds, is_mixed_specification}
 use Rattle.ess_mixed_models_laws.proofs.NamedKinds.{no-yes}
 use Rattle.ess_mixed_headers_laws.specs.Laws.{ChosenOptionsKeepTheClass}
 
@@ -86,10 +86,10 @@ module _ (S : List Stm) (p o : Options) (q : plans S p ≡ plans S o) (kept : Al
   statement-again (let_dom x d) a t = refl
   statement-again (needs e) a t = ap (λ Ps. is_flat_truth Ps e) q ∙ t
   statement-again (such_that e) a t =
-      ap (λ Ps. is_flat_truth Ps e || (is_membership S p e || is_told_constraint Ps S e)) q
-      ∙ either-again (is_flat_truth (plans S o) e) (is_membership S o e || is_told_constraint (plans S o) S e)
-      (is_membership S p e || is_told_constraint (plans S o) S e)
-      (first-again (is_membership S o e) (is_membership S p e) (is_told_constraint (plans S o) S e) (member-again e)) t
+      ap (λ Ps. is_flat_truth Ps e || (is_membership S p e || is_setwise_constraint Ps S e)) q
+      ∙ either-again (is_flat_truth (plans S o) e) (is_membership S o e || is_setwise_constraint (plans S o) S e)
+      (is_membership S p e || is_setwise_constraint (plans S o) S e)
+      (first-again (is_membership S o e) (is_membership S p e) (is_setwise_constraint (plans S o) S e) (member-again e)) t
   statement-again (minimise e) a t = ap (λ Ps. is_flat_number Ps e || is_setwise_objective Ps S e) q ∙ t
   statement-again (maximise e) a t = ap (λ Ps. is_flat_number Ps e || is_setwise_objective Ps S e) q ∙ t
 

@@ -23,7 +23,7 @@ use Rattle.conjure_laws.proofs.WellTypedSets.{well-typed-fine}
 use Rattle.ess_flat_models_laws.specs.FlatSpecifications.{given_mark, mark_among, is_scalar_dom, is_atom_alone, is_flat_truth, is_flat_number, is_flat_statement, are_flat_statements, are_bounded, has_marks, is_flat_specification}
 use Rattle.ess_member_shows_laws.proofs.ShownTables.{memberships-shown}
 use Rattle.ess_nested_laws.specs.NestedDomains.{is_nested_dom}
-use Rattle.ess_mixed_models_laws.specs.MixedSpecifications.{is_told_constraint, is_setwise_objective, kinds_by, places_by, known_after, kinds, places, is_set_dom, is_occurrence_alone, members_of, is_of_kind, has_printed_name, is_kept_by_members, is_membership, is_scalar_kept, is_set_kept, is_nested_kept, is_mixed_statement, are_mixed_statements, is_of_sets, types_come_first, have_bounds, is_mixed_specification}
+use Rattle.ess_mixed_models_laws.specs.MixedSpecifications.{is_setwise_constraint, is_setwise_objective, kinds_by, places_by, known_after, kinds, places, is_set_dom, is_occurrence_alone, members_of, is_of_kind, has_printed_name, is_kept_by_members, is_membership, is_scalar_kept, is_set_kept, is_nested_kept, is_mixed_statement, are_mixed_statements, is_of_sets, types_come_first, have_bounds, is_mixed_specification}
 use Rattle.ess_mixed_models_laws.specs.Laws.{ClassesAreMixed}
 use Rattle.ess_mixed_models_laws.proofs.NamedKinds.{no-yes}
 use Rattle.ess_mixed_models_laws.proofs.SetFinds.{of-all, look-of}
@@ -43,7 +43,7 @@ flat-statement S o (find x d) h = or-left (is_scalar_kept S o x d) (is_set_kept 
 flat-statement S o (let_ex x e) h = h
 flat-statement S o (let_dom x d) h = refl
 flat-statement S o (needs e) h = h
-flat-statement S o (such_that e) h = or-left (is_flat_truth (plans S o) e) (is_membership S o e || is_told_constraint (plans S o) S e) h
+flat-statement S o (such_that e) h = or-left (is_flat_truth (plans S o) e) (is_membership S o e || is_setwise_constraint (plans S o) S e) h
 flat-statement S o (minimise e) h = or-left (is_flat_number (plans S o) e) (is_setwise_objective (plans S o) S e) h
 flat-statement S o (maximise e) h = or-left (is_flat_number (plans S o) e) (is_setwise_objective (plans S o) S e) h
 flat-statement S o s h = absurd (no-yes h)
@@ -208,8 +208,8 @@ module _ (T : List Line) (t : is_well_typed (spec T) ≡ true) where
   all-mixed (holds_lit l x ∷ U) f =
       and-both (is_mixed_statement S' no_options (such_that (membership l x))) (list_all (is_mixed_statement S' no_options) (spec U))
       (or-right (is_flat_truth (plans S' no_options) (membership l x))
-      (is_membership S' no_options (membership l x) || is_told_constraint (plans S' no_options) S' (membership l x))
-      (or-left (is_membership S' no_options (membership l x)) (is_told_constraint (plans S' no_options) S' (membership l x))
+      (is_membership S' no_options (membership l x) || is_setwise_constraint (plans S' no_options) S' (membership l x))
+      (or-left (is_membership S' no_options (membership l x)) (is_setwise_constraint (plans S' no_options) S' (membership l x))
       (is-member l x f.0.0 f.0.1 f.0.2))) (all-mixed U f.1)
 
   all-marked : (U : List Line) → list_all (has_marks (plans S' no_options)) (constraints_of (spec U)) ≡ true

@@ -158,7 +158,7 @@ not-before = refl
 not-bounds : is_mixed_specification (find x (upto (name_ex (codes "n"))) ∷ given (codes "n") (upto (number_ex (pos 4))) ∷ []) [] ≡ false
 not-bounds = refl
 
--- ---- constraints over ranges
+-- ---- constraints over ranges and scalars alone
 
 -- `i : int(1..n)` in front of generators.
 abbrev up_to_n : Gens → Gens
@@ -174,12 +174,28 @@ ranged : is_mixed_specification
     [] ≡ true
 ranged = refl
 
+-- `find x : int(1..9)  such that (sum i : int(1..4), i != x . i * x) <= 30`
+summed-where : is_mixed_specification
+    (find x (upto (number_ex (pos 9)))
+    ∷ such_that (ex2 true Op2.Le (fun1 false Fun.Sum (comp_ex (ex2 false Op2.Times (name_ex (codes "i")) (name_ex x))
+    (over (name_pat (codes "i")) (upto (number_ex (pos 4))) (cond (ex2 true Op2.Ne (name_ex (codes "i")) (name_ex x)) no_gens))))
+    (number_ex (pos 30))) ∷ []) [] ≡ true
+summed-where = refl
+
 -- No bound name is that of a scalar.
 not-hidden : is_mixed_specification
     (given (codes "n") (upto (number_ex (pos 4))) ∷ find (codes "i") (upto (number_ex (pos 9)))
     ∷ such_that (fun1 true Fun.And (comp_ex (ex2 true Op2.Ne (name_ex (codes "n")) (name_ex (codes "i"))) (up_to_n no_gens))) ∷ [])
     [] ≡ false
 not-hidden = refl
+
+-- A bound name may be that of a set that is declared later:
+-- `such that forAll i : int(1..4) . i >= 1  find i : set of int(1..5)`
+not-yet-declared : is_mixed_specification
+    (such_that (fun1 true Fun.And (comp_ex (ex2 true Op2.Ge (name_ex (codes "i")) (number_ex (pos 1)))
+    (over (name_pat (codes "i")) (upto (number_ex (pos 4))) no_gens)))
+    ∷ find (codes "i") (sets (upto (number_ex (pos 5)))) ∷ []) [] ≡ true
+not-yet-declared = refl
 
 -- ---- constraints that speak of nested sets
 
@@ -243,13 +259,14 @@ a-sum : is_mixed_specification (with_sets (ex2 true Op2.Gt (fun1 false Fun.Sum (
     (number_ex (pos 2)))) [] ≡ true
 a-sum = refl
 
--- No number is asked to be in a set of sets, sets of members of different kinds aren't compared, and no bound name is that of a set.
+-- No number is asked to be in a set of sets, sets of members of different kinds aren't compared, and no bound name is that of a
+-- set that the constraint speaks of.
 not-among-sets : is_mixed_specification (with_sets (ex2 true Op2.Member (number_ex (pos 3)) (name_ex s))) [] ≡ false
 not-among-sets = refl
 
 not-compared : is_mixed_specification (with_sets (ex2 true Op2.Eq (name_ex s) (name_ex t))) [] ≡ false
 not-compared = refl
 
-not-hiding : is_mixed_specification (with_sets (fun1 true Fun.And (comp_ex (ex2 true Op2.Ge (ex1 false Op1.Bar (name_ex t))
-    (number_ex (pos 2))) (from (name_pat t) (name_ex s) no_gens)))) [] ≡ false
+not-hiding : is_mixed_specification (with_sets (fun1 true Fun.And (comp_ex (ex2 true Op2.Ge (ex1 false Op1.Bar (name_ex s))
+    (number_ex (pos 2))) (from (name_pat s) (name_ex s) no_gens)))) [] ≡ false
 not-hiding = refl

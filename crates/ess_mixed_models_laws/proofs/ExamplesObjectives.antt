@@ -4,7 +4,7 @@ use Rattle.ess_semantics.specs.declared.words.Op1.{Op1}
 use Rattle.ess_semantics.specs.declared.words.Op2.{Op2}
 use Rattle.ess_semantics.specs.declared.words.Fun.{Fun}
 use Rattle.ess_semantics.specs.declared.words.Key.{Key}
-use Rattle.ess_semantics.specs.Trees.{both_ends, valued, name_pat, Ex, number_ex, name_ex, comp_ex, no_exs, more_exs, no_gens, from, cond, Dom, int_dom, set_dom, Stm, find, such_that, minimise, maximise, ex1, ex2, fun1}
+use Rattle.ess_semantics.specs.Trees.{both_ends, valued, name_pat, Ex, number_ex, name_ex, comp_ex, no_exs, more_exs, no_gens, over, from, cond, Dom, int_dom, set_dom, Stm, find, such_that, minimise, maximise, ex1, ex2, fun1}
 use Rattle.ess_flat_models_laws.specs.FlatSpecifications.{is_flat_specification}
 use Rattle.ess_mixed_models_laws.specs.MixedSpecifications.{is_mixed_specification}
 
@@ -73,7 +73,13 @@ not-a-truth = refl
 not-a-quotient : is_mixed_specification (with_goal (minimise (ex2 false Op2.Div (size t) x))) [] ≡ false
 not-a-quotient = refl
 
--- No bound name is that of a set.
+-- No bound name is that of a set that the objective speaks of.
 not-hiding : is_mixed_specification (with_goal (maximise (fun1 false Fun.Sum (comp_ex t (from (name_pat (codes "t")) t no_gens))))) []
     ≡ false
 not-hiding = refl
+
+-- It may be that of a set that is declared later: `minimising sum([i | i : int(1..4)])  find i : set of int(1..5)`
+not-yet-declared : is_mixed_specification
+    (minimise (fun1 false Fun.Sum (comp_ex i (over (name_pat (codes "i")) (upto (number_ex (pos 4))) no_gens)))
+    ∷ find (codes "i") (set_dom [] no_exs (upto (number_ex (pos 5)))) ∷ []) [] ≡ true
+not-yet-declared = refl

@@ -24,7 +24,7 @@ use Rattle.ess_flat_models_laws.specs.FlatModels.{flat_rule}
 use Rattle.ess_flat_models_laws.proofs.PreparedStatements.{truth-flat, NoLetting, put-flat, resolve-flat}
 use Rattle.ess_flat_models_laws.proofs.FlatCells.{form-stays}
 use Rattle.ess_mixed_models_laws.specs.MixedSpecifications.{is_mixed_statement, are_mixed_statements}
-use Rattle.ess_mixed_models_laws.specs.MixedModels.{IsRuleOf, of_flat, of_membership, of_told}
+use Rattle.ess_mixed_models_laws.specs.MixedModels.{IsRuleOf, of_flat, of_membership, of_setwise}
 use Rattle.ess_mixed_models_laws.proofs.NamedKinds.{no-yes}
 
 -- A membership isn't flat.
@@ -113,7 +113,7 @@ module _ (S : List Stm) (o : Options) where
   rule-form M f r (of_flat t) e q v u =
       let c = truth-flat Ps e v in ap (flat_rule Ps) q ∙ ap simplified (form-stays Ps c u) ∙ form-stays Ps c u
   rule-form M f r (of_membership {e = a} {x = x} t R) e q v u = absurd (no-member Ps a x (ap (is_flat_truth Ps) q ∙ v))
-  rule-form M f r (of_told n t m s) e q v u = absurd (no-yes (sym n ∙ ap (is_flat_truth Ps) q ∙ v))
+  rule-form M f r (of_setwise n t m s) e q v u = absurd (no-yes (sym n ∙ ap (is_flat_truth Ps) q ∙ v))
 
   form-at : (M : Model) (e f r : Ex) → (is_flat_truth Ps e ≡ true → f ≡ e) → has_marks Ps e ≡ true → IsRuleOf S o M f r →
       is_flat Ps e ≡ true → r ≡ with_cells Ps e

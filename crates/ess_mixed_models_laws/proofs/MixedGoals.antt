@@ -28,7 +28,7 @@ use Rattle.ess_flat_models_laws.proofs.PreparedStatements.{number-flat}
 use Rattle.ess_flat_models_laws.proofs.FlatValues.{Marked, a_number, flat-value}
 use Rattle.ess_flat_models_laws.proofs.FlatCells.{cells-flat, cells-mean}
 use Rattle.ess_mixed_models_laws.specs.MixedSpecifications.{is_setwise_objective, is_mixed_statement, are_mixed_statements}
-use Rattle.ess_mixed_models_laws.specs.MixedModels.{IsNumberOf, of_flat_number, of_told_number, IsGoalOf, of_no_goal, of_least, of_greatest}
+use Rattle.ess_mixed_models_laws.specs.MixedModels.{IsNumberOf, of_flat_number, of_setwise_number, IsGoalOf, of_no_goal, of_least, of_greatest}
 use Rattle.ess_mixed_models_laws.proofs.SingleObjective.{have_none, OneObjective, one-objective}
 use Rattle.ess_mixed_models_laws.proofs.ScalarCells.{cells, placed-names}
 use Rattle.ess_mixed_models_laws.proofs.MixedLayers.{model_with, base}
@@ -94,7 +94,7 @@ module _ (S : List Stm) (o : Options) where
       number-value e y (of_flat_number t) =
           let w = number-flat Ps e t in
           let n = flat-number e w in (n.0, n.1, written-value S o h f G rs p a q c I C e false w ∙ n.1)
-      number-value e y (of_told_number t m s) = m p a q c I C
+      number-value e y (of_setwise_number t m s) = m p a q c I C
 
       abbrev GoalThere : Goal → Type 0
       GoalThere no_goal = Unit {0}

@@ -40,7 +40,7 @@ use Rattle.ess_flat_models_laws.proofs.FlatTexts.{each-mapped, dom-spelled, scal
 use Rattle.ess_flat_models_laws.proofs.PreparedStatements.{truth-flat, prepared-direction}
 use Rattle.ess_flat_models_laws.proofs.ScalarDomains.{Atom}
 use Rattle.ess_mixed_models_laws.specs.MixedSpecifications.{kinds, is_nested_plan, are_mixed_statements, types_come_first, have_bounds}
-use Rattle.ess_mixed_models_laws.specs.MixedModels.{mixed_decl, nested_decls, mixed_decls, AreStructure, IsRuleOf, of_flat, of_membership, of_told, IsGoalOf, of_no_goal, of_least, of_greatest, IsMixedModel}
+use Rattle.ess_mixed_models_laws.specs.MixedModels.{mixed_decl, nested_decls, mixed_decls, AreStructure, IsRuleOf, of_flat, of_membership, of_setwise, IsGoalOf, of_no_goal, of_least, of_greatest, IsMixedModel}
 use Rattle.ess_mixed_models_laws.specs.Laws.{MixedModelsAreRight}
 use Rattle.ess_mixed_models_laws.proofs.MixedPlans.{PlanFact, size_fact, atom_fact, set_fact, nested_fact, all-facts, set-single, atom-single}
 use Rattle.ess_mixed_models_laws.proofs.NestedPlans.{renamed-have}
@@ -106,7 +106,7 @@ module _ (S : List Stm) (o : Options) (h : are_mixed_statements S o ≡ true) (f
   rule-means : (e r : Ex) → IsRuleOf S o E e r → RuleMeans S o E e r
   rule-means e r (of_flat t) = flat-means S o h f G rs e (truth-flat Ps e t)
   rule-means e r (of_membership {e = v} {x = x} t R) = set-means S o h f G rs v x r t R
-  rule-means e r (of_told n t m s) = m
+  rule-means e r (of_setwise n t m s) = m
 
   -- The layers, without a premise but the judgements.
   abbrev layers : Along Fs sss (AreStructure S o E) → Aimed → Written → all_distinct (finds S) ≡ true → Layers S o E

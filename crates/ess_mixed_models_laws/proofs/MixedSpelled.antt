@@ -38,7 +38,7 @@ use Rattle.ess_flat_models_laws.proofs.FlatCells.{numbers-stay, cells-flat}
 use Rattle.ess_flat_models_laws.proofs.FlatTexts.{IsConst, numbers-spelled, statements-spelled, flat-simple}
 use Rattle.ess_member_rules_laws.specs.WrittenForms.{Written, by_number, by_condition, by_conjunction}
 use Rattle.ess_mixed_models_laws.specs.MixedSpecifications.{kinds, places, are_mixed_statements}
-use Rattle.ess_mixed_models_laws.specs.MixedModels.{axis_of, shown_value, IsRuleOf, of_flat, of_membership, of_told, IsNumberOf, of_flat_number, of_told_number, IsGoalOf, of_no_goal, of_least, of_greatest}
+use Rattle.ess_mixed_models_laws.specs.MixedModels.{axis_of, shown_value, IsRuleOf, of_flat, of_membership, of_setwise, IsNumberOf, of_flat_number, of_setwise_number, IsGoalOf, of_no_goal, of_least, of_greatest}
 use Rattle.ess_mixed_models_laws.proofs.MemberValues.{literal_code}
 use Rattle.ess_mixed_models_laws.proofs.NamedKinds.{MemberDom, of_numbers, of_truths, of_type}
 use Rattle.ess_mixed_models_laws.proofs.MixedPlans.{atom-single}
@@ -177,7 +177,7 @@ module _ (S : List Stm) (o : Options) where
 
     rule-spelled : (M : Model) (e r : Ex) → SpellsConstants e → IsRuleOf S o M e r → spelled S (parts_of r) ≡ true
     rule-spelled M e r n (of_flat t) = flat-spelled e true (truth-flat Ps e t) n
-    rule-spelled M e r n (of_told k t m s) = s
+    rule-spelled M e r n (of_setwise k t m s) = s
     rule-spelled M e r n (of_membership {e = v} {x = x} t R) =
         let k = membership-fact S o h f no_goal [] v x R.members t R.found in
         member-spelled (table_of Ps x) (printed_name (taken_names S o) 0) k.0.members k.1 r
@@ -198,7 +198,7 @@ module _ (S : List Stm) (o : Options) where
 
     number-spelled : (M : Model) (e y : Ex) → SpellsConstants e → IsNumberOf S o M e y → spelled S (parts_of y) ≡ true
     number-spelled M e y n (of_flat_number t) = flat-spelled e false (number-flat Ps e t) n
-    number-spelled M e y n (of_told_number t m s) = s
+    number-spelled M e y n (of_setwise_number t m s) = s
 
     goal-at : (M : Model) (g k : Goal) → GoalConstants g → IsGoalOf S o M g k → spelled S (parts_of_goal k) ≡ true
     goal-at M g k n of_no_goal = refl

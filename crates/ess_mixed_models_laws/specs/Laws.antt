@@ -11,9 +11,9 @@ use Rattle.ess_flat_models_laws.specs.FlatSpecifications.{is_flat_specification}
 use Rattle.ess_mixed_models_laws.specs.MixedSpecifications.{is_mixed_specification}
 use Rattle.ess_mixed_models_laws.specs.MixedModels.{IsMixedModel}
 
--- Of each well typed specification of scalars and sets whose constraints are flat and total over the scalars, such over ranges and sets of
--- any nesting, or memberships, each model with the declarations of its plans and a rule of each constraint stands for it, and each solution
--- has exactly one satisfying assignment. Nothing else is assumed.
+-- Of each well typed specification of scalars and sets whose constraints are flat and total over the scalars, such over scalars, ranges and
+-- sets of any nesting, or memberships, each model with the declarations of its plans and a rule of each constraint stands for it, and each
+-- solution has exactly one satisfying assignment. Nothing else is assumed.
 abbrev pub MixedModelsAreRight : Type 0
 MixedModelsAreRight =
     (S : List Stm) (o : Options) (E : Model) → fault S ≡ None → is_mixed_specification S o ≡ true → IsMixedModel S o E →

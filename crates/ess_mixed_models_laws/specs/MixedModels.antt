@@ -1,7 +1,7 @@
 -- Models of specifications of scalars and sets: a scalar is a cell and a set a table of truth values over its members, or what its
 -- representation keeps it as, with a rule that these tables are canonical; and each other rule is that of a flat constraint, or any tree
--- that is written for a membership, or one that says what a constraint over ranges and nested sets says. So is the objective that of a flat
--- one, or one that is worth what one over nested sets is.
+-- that is written for a membership, or one that says what a constraint over scalars, ranges and nested sets says. So is the objective that
+-- of a flat one, or one that is worth what one over scalars, ranges and nested sets is.
 use Rattle.std.specs.Prelude.{◌≡◌, ℕ, true, false, if◌then◌else◌, List, [], ◌∷◌, ◌++◌, map, pos, Some, option_map}
 use Rattle.ess_semantics.specs.declared.words.ReprKind.{ReprKind}
 use Rattle.ess_semantics.specs.declared.words.Op2.{Op2}
@@ -27,7 +27,7 @@ use Rattle.ess_flat_models_laws.specs.FlatSpecifications.{is_flat_truth, is_flat
 use Rattle.ess_flat_models_laws.specs.FlatModels.{decl_of, flat_rule, goal_rules}
 use Rattle.ess_setwise_laws.specs.Objectives.{NumberMeans}
 use Rattle.ess_member_rules_laws.specs.WrittenForms.{Written}
-use Rattle.ess_mixed_models_laws.specs.MixedSpecifications.{kinds, places, members_of, is_membership, is_nested_plan, is_told_constraint, is_setwise_objective}
+use Rattle.ess_mixed_models_laws.specs.MixedSpecifications.{kinds, places, members_of, is_membership, is_nested_plan, is_setwise_constraint, is_setwise_objective}
 
 -- What is declared of a plan: at least 1 for the size of a given type, a table of truth values over the members for a set, where an axis of
 -- truth values is one of 0 and 1, and a cell for a scalar.
@@ -67,8 +67,8 @@ module _ (S : List Stm) (o : Options) where
     of_flat : {e : Ex} → is_flat_truth (plans S o) e ≡ true → IsRuleOf E e (flat_rule (plans S o) e)
     of_membership : {e : Ex} {x : Text} {r : Ex} → is_membership S o (ex2 true Op2.Member e (name_ex x)) ≡ true → IsMembershipRule e x r →
         IsRuleOf E (ex2 true Op2.Member e (name_ex x)) r
-    of_told : {e r : Ex} → is_flat_truth (plans S o) e ≡ false → is_told_constraint (plans S o) S e ≡ true → RuleMeans S o E e r →
-        spelled S (parts_of r) ≡ true → IsRuleOf E e r
+    of_setwise : {e r : Ex} → is_flat_truth (plans S o) e ≡ false → is_setwise_constraint (plans S o) S e ≡ true →
+        RuleMeans S o E e r → spelled S (parts_of r) ≡ true → IsRuleOf E e r
 
   -- The rules of a plan: of one of nested sets they say that its tables are canonical, with numbers of the specification alone; of others
   -- there are none.
@@ -80,7 +80,7 @@ module _ (S : List Stm) (o : Options) where
   -- The number is that of an objective in the model E.
   pub data IsNumberOf (E : Model) : Ex → Ex → Type 0 where
     of_flat_number : {e : Ex} → is_flat_number (plans S o) e ≡ true → IsNumberOf E e (flat_rule (plans S o) e)
-    of_told_number : {e f : Ex} → is_setwise_objective (plans S o) S e ≡ true → NumberMeans S o E e f → spelled S (parts_of f) ≡ true →
+    of_setwise_number : {e f : Ex} → is_setwise_objective (plans S o) S e ≡ true → NumberMeans S o E e f → spelled S (parts_of f) ≡ true →
         IsNumberOf E e f
 
   -- The second objective is that of the model E where the first one is asked: it has the same direction.

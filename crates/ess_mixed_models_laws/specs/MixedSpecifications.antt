@@ -1,11 +1,10 @@
 -- A class of specifications: scalars and sets side by side. Givens are scalars kept as atoms; finds are scalars kept as atoms; sets of
 -- numbers, of truth values or of values of a named type, without attributes, kept as the members that occur; or sets of any nesting over
 -- numbers and truth values, with sizes, kept in any one representation. Each constraint is flat and total over the scalars, or one over
--- ranges, scalars, and sets of any nesting, with their sizes and members, operators on them and comparisons of them, or says that a number,
--- a truth value or a value of a type is in a set. The objective is a number that is flat and total over the scalars, or one over ranges,
--- scalars and sets of any nesting.
--- Conditions on parameters are flat and total over the scalars. Named types and lettings are declared among them, in any order and number.
--- Lettings are put in before it is asked what a statement is.
+-- scalars, ranges and sets of any nesting, with their sizes and members, operators on them and comparisons of them, or says that a number,
+-- a truth value or a value of a type is in a set. The objective is a number that is flat and total over the scalars, or one over scalars,
+-- ranges and sets of any nesting. Conditions on parameters are flat and total over the scalars. Named types and lettings are declared among
+-- them, in any order and number. Lettings are put in before it is asked what a statement is.
 use Rattle.std.specs.Prelude.{ℕ, ◌+◌, ◌^◌, nat_le, Bool, true, false, ◌&&◌, ◌||◌, not, if◌then◌else◌, List, [], ◌∷◌, ◌++◌, length, pos, Option, Some, None, is_some}
 use Rattle.std.specs.List.{list_all, list_any}
 use Rattle.ess_semantics.specs.declared.words.ReprKind.{ReprKind}
@@ -13,15 +12,16 @@ use Rattle.ess_semantics.specs.declared.words.Op2.{Op2}
 use Rattle.ess_semantics.specs.Lists.{is_some_and, is_empty}
 use Rattle.ess_semantics.specs.Values.{Text}
 use Rattle.ess_semantics.specs.Order.{same_text, same_int}
-use Rattle.ess_semantics.specs.Names.{Names, look, keys}
+use Rattle.ess_semantics.specs.Names.{Names, look, keys, is_among}
 use Rattle.ess_semantics.specs.Kinds.{fits}
-use Rattle.ess_semantics.specs.Trees.{Repr, repr, no_reprs, both_ends, Ex, number_ex, truth_ex, name_ex, no_exs, more_exs, Dom, bool_dom, int_dom, name_dom, set_dom, Stm, given, given_enum, let_ex, let_dom, let_enum, let_unnamed, needs, find, such_that, minimise, maximise, ex2}
+use Rattle.ess_semantics.specs.Trees.{Repr, repr, no_reprs, both_ends, Ex, number_ex, truth_ex, name_ex, comp_ex, no_exs, more_exs, Gens, no_gens, over, from, cond, Dom, bool_dom, int_dom, name_dom, set_dom, Stm, given, given_enum, let_ex, let_dom, let_enum, let_unnamed, needs, find, such_that, minimise, maximise, ex2}
+use Rattle.ess_semantics.specs.Types.{pattern_names}
+use Rattle.ess_semantics.specs.Occurrences.{parts_of}
 use Rattle.ess_semantics.specs.Prepared.{prepared}
 use Rattle.ess_semantics.specs.Plans.{Options, Plan, size_plan, value_plan, chosen_reprs, kept_names, plans, names_of_plans}
 use Rattle.ess_semantics.specs.Constants.{constants_of}
 use Rattle.ess_semantics.specs.Models.{constraints_of}
 use Rattle.ess_refine_laws.specs.SpellingEnds.{numbers_of_tree}
-use Rattle.ess_setwise_laws.specs.ess_ranged_laws.Ranged.{is_ranged_truth}
 use Rattle.ess_setwise_laws.specs.ess_seen_laws.Seen.{Kind, kind_of}
 use Rattle.ess_setwise_laws.specs.Setwise.{is_setwise_truth, is_setwise_number}
 use Rattle.ess_nested_laws.specs.NestedDomains.{is_nested_dom}
@@ -130,7 +130,7 @@ abbrev pub is_nested_plan : Names TypeKind → Plan → Bool
 is_nested_plan ks (size_plan t n) = false
 is_nested_plan ks (value_plan f x r d ns) = is_nested_dom d && not (is_set_dom ks d && is_occurrence_alone (r ∷ []))
 
--- ---- constraints over ranges
+-- ---- constraints over scalars, ranges and nested sets
 
 -- Whether nothing is shown for a reserved name, as no text has one.
 abbrev pub spares_reserved : List Plan → List Stm → Bool
@@ -140,14 +140,6 @@ spares_reserved Ps S = list_all is_unreserved (keys (shows_from Ps (prepared S) 
 abbrev pub has_names_left : List Plan → List Stm → Ex → Bool
 has_names_left Ps S e =
     nat_le ((shows_from Ps (prepared S) shows_nothing).next + binders e) (2 ^ 62) && nat_le (length (keys (names_of_plans Ps))) (2 ^ 62)
-
--- Whether the constraint is a truth value over ranges and scalars, that spells constants of the specification.
-abbrev pub is_ranged_constraint : List Plan → List Stm → Ex → Bool
-is_ranged_constraint Ps S e =
-    is_ranged_truth (scalar_mark Ps) e && (spares_reserved Ps S
-    && (has_names_left Ps S e && list_all (λ n. list_any (same_int n) (constants_of S)) (numbers_of_tree e)))
-
--- ---- constraints that speak of nested sets
 
 -- The kind of the members of sets with this domain, where these are sets of any nesting over numbers and truth values.
 abbrev pub kind_of_members : Dom → Option Kind
@@ -160,21 +152,37 @@ nested_kind [] a = None
 nested_kind (value_plan f x r d ns ∷ Ps) a = if same_text x a then kind_of_members d else nested_kind Ps a
 nested_kind (P ∷ Ps) a = nested_kind Ps a
 
--- Whether the constraint is a truth value over ranges, scalars and sets of any nesting, that spells constants of the specification.
+-- The names that generators bind.
+abbrev pub names_of_gens : Gens → List Text
+names_of_gens no_gens = []
+names_of_gens (over p d gs) = pattern_names p ++ names_of_gens gs
+names_of_gens (from p e gs) = pattern_names p ++ names_of_gens gs
+names_of_gens (cond e gs) = names_of_gens gs
+
+-- The names that a comprehension binds.
+abbrev pub names_of_comp : Ex → List Text
+names_of_comp (comp_ex e gs) = names_of_gens gs
+names_of_comp e = []
+
+-- Whether the tree or a part of it binds the name.
+abbrev pub binds_name : Ex → Text → Bool
+binds_name e a = list_any (λ x. is_among (names_of_comp x) a) (parts_of e)
+
+-- The kind of the members of the set of this name, in a tree that doesn't bind the name. It may bind it where the set is declared later.
+abbrev pub unbound_kind : List Plan → Ex → Text → Option Kind
+unbound_kind Ps e a = if binds_name e a then None else nested_kind Ps a
+
+-- Whether the constraint is a truth value over scalars, ranges and sets of any nesting, that spells constants of the specification.
 abbrev pub is_setwise_constraint : List Plan → List Stm → Ex → Bool
 is_setwise_constraint Ps S e =
-    is_setwise_truth (scalar_mark Ps) (nested_kind Ps) e && (spares_reserved Ps S
+    is_setwise_truth (scalar_mark Ps) (unbound_kind Ps e) e && (spares_reserved Ps S
     && (has_names_left Ps S e && list_all (λ n. list_any (same_int n) (constants_of S)) (numbers_of_tree e)))
 
--- Whether the objective is a number over ranges, scalars and sets of any nesting, that spells constants of the specification.
+-- Whether the objective is a number over scalars, ranges and sets of any nesting, that spells constants of the specification.
 abbrev pub is_setwise_objective : List Plan → List Stm → Ex → Bool
 is_setwise_objective Ps S e =
-    is_setwise_number (scalar_mark Ps) (nested_kind Ps) e && (spares_reserved Ps S
+    is_setwise_number (scalar_mark Ps) (unbound_kind Ps e) e && (spares_reserved Ps S
     && (has_names_left Ps S e && list_all (λ n. list_any (same_int n) (constants_of S)) (numbers_of_tree e)))
-
--- Whether the constraint is of one of these sorts.
-abbrev pub is_told_constraint : List Plan → List Stm → Ex → Bool
-is_told_constraint Ps S e = is_ranged_constraint Ps S e || is_setwise_constraint Ps S e
 
 -- ---- the class
 
@@ -200,7 +208,7 @@ is_mixed_statement S o (let_unnamed t e) = is_some (written_size e)
 is_mixed_statement S o (let_ex x e) = not (is_some (scalar_mark (plans S o) x))
 is_mixed_statement S o (let_dom x d) = true
 is_mixed_statement S o (needs e) = is_flat_truth (plans S o) e
-is_mixed_statement S o (such_that e) = is_flat_truth (plans S o) e || (is_membership S o e || is_told_constraint (plans S o) S e)
+is_mixed_statement S o (such_that e) = is_flat_truth (plans S o) e || (is_membership S o e || is_setwise_constraint (plans S o) S e)
 is_mixed_statement S o (minimise e) = is_flat_number (plans S o) e || is_setwise_objective (plans S o) S e
 is_mixed_statement S o (maximise e) = is_flat_number (plans S o) e || is_setwise_objective (plans S o) S e
 

@@ -9,7 +9,7 @@ use Rattle.ess_semantics.specs.Meaning.{Env, TypeEntry, with_pat, meaning, items
 use Rattle.ess_semantics.specs.Contexts.{Each, EachOf, EachIn}
 use Rattle.ess_values_along_laws.specs.Valued.{Valued, UnderValued, DomValued}
 use Rattle.ess_rules_laws.proofs.Simulation.{Vals, E}
-use Rattle.ess_ranged_laws.specs.Laws.{HasMark, a_truth}
+use Rattle.ess_setwise_laws.specs.Laws.{HasMark, a_truth}
 
 truth-of : {v : Value} → HasMark true v → (b : Bool) × (v ≡ truth b)
 truth-of (a_truth {b = b}) = (b, refl)

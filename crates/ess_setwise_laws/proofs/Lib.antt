@@ -23,4 +23,5 @@ pub mod SetwiseValues
 pub mod SetwiseLaws
 -- Worked examples
 pub mod Examples
+pub mod ExamplesRanges
 pub mod ExamplesShown

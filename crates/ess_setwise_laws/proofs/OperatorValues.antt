@@ -13,8 +13,8 @@ use Rattle.ess_semantics.specs.Operators.{value_of_node, false_where_undefined}
 use Rattle.ess_semantics.specs.Contexts.{Each}
 use Rattle.ess_semantics.proofs.Orders.{to_list-of_list}
 use Rattle.ess_flat_laws.specs.Flat.{OneOp, denied, negative, absolute, TwoOp, both, either, implied, agreeing, equal, unequal, below, at_most, above, at_least, sum, difference, product}
-use Rattle.ess_ranged_laws.specs.Laws.{HasMark, a_truth, a_number}
 use Rattle.ess_seen_laws.specs.Seen.{Combines, united, shared, lessened}
+use Rattle.ess_setwise_laws.specs.Laws.{HasMark, a_truth, a_number}
 use Rattle.ess_setwise_laws.proofs.ShownForms.{IsSetOf}
 
 -- ---- scalars and sizes

@@ -19,11 +19,9 @@ use Rattle.conjure_model_laws.specs.Printed.{binders}
 use Rattle.conjure_model_laws.proofs.ToldLaws.{reserved-differ}
 use Rattle.ess_depth_laws.specs.Below.{HasNamesBelow}
 use Rattle.ess_guard_laws.specs.Conditions.{all_of}
-use Rattle.ess_ranged_laws.specs.Ranged.{is_mark}
-use Rattle.ess_ranged_laws.specs.Laws.{HasMark, a_number, HoldsNames, none}
 use Rattle.ess_seen_laws.specs.Seen.{Kind, scalars, sets_of, Seen}
-use Rattle.ess_setwise_laws.specs.Setwise.{marked_or_set, free_kind, setwise_mark}
-use Rattle.ess_setwise_laws.specs.Laws.{IsSetView, ShowsSets, HoldsSets, HoldsScalars, MeetsSets, SpellsSets, IsSeenOverTables, SetwiseTreesAreSeen}
+use Rattle.ess_setwise_laws.specs.Setwise.{is_mark, marked_or_set, free_kind, setwise_mark}
+use Rattle.ess_setwise_laws.specs.Laws.{IsSetView, ShowsSets, HoldsNames, HoldsSets, HasMark, a_number, HoldsScalars, MeetsSets, SpellsSets, none, IsSeenOverTables, SetwiseTreesAreSeen}
 use Rattle.ess_setwise_laws.specs.Objectives.{IsNumberOverTables, SetwiseNumbersAreThere}
 use Rattle.ess_setwise_laws.proofs.SetwiseTrees.{Setwise, NoneShown, no_kind, Form, a_cell, a_view, IsPlace, in_first, in_last, ShownFor, ShowsAll}
 use Rattle.ess_setwise_laws.proofs.Tested.{tested-mark}

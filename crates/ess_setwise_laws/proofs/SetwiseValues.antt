@@ -21,8 +21,8 @@ use Rattle.ess_types_laws.proofs.SoundEnvs.{members-typed}
 use Rattle.ess_rules_laws.proofs.Simulation.{Vals, E}
 use Rattle.ess_flat_laws.specs.Flat.{OneOp, TwoOp}
 use Rattle.ess_seen_laws.specs.ess_bare_laws.Lean.{FoldWord, of_all, of_some, of_sum}
-use Rattle.ess_ranged_laws.specs.Laws.{HasMark, a_truth, a_number}
 use Rattle.ess_seen_laws.specs.Seen.{Kind, scalars, sets_of, Bound, over_a_range, from_a_set, bound_kind, Combines}
+use Rattle.ess_setwise_laws.specs.Laws.{HasMark, a_truth, a_number}
 use Rattle.ess_setwise_laws.proofs.SetwiseTrees.{Stands, named, as_shown, SetTree, stands, combined, Setwise, number as number_is, truth as truth_is, scalar, one, two, chosen, folded, size, within, set_within, compared, Binding, at_end, over_truths, over_numbers, among, where_holds, no_kind, Form}
 use Rattle.ess_setwise_laws.proofs.ShownForms.{HasKind, number-typed, unless-any, form-still, form-valued}
 use Rattle.ess_setwise_laws.proofs.NameKinds.{bound_at}

@@ -24,8 +24,8 @@ use Rattle.ess_guard_laws.specs.Supplied.{Unless}
 use Rattle.ess_refine_laws.specs.SpellingEnds.{numbers_of_tree}
 use Rattle.ess_nested_laws.proofs.NestedForms.{Sizes, no_sizes, one_size, WrittenAtom, written_truths, written_numbers, NestedSet, of_atoms, of_sets, nested-form}
 use Rattle.ess_nested_laws.proofs.NestedDenoted.{nested-denoted}
-use Rattle.ess_ranged_laws.specs.Laws.{HasMark, a_truth, a_number}
 use Rattle.ess_seen_laws.specs.Seen.{Kind, scalars, sets_of, kind_of}
+use Rattle.ess_setwise_laws.specs.Laws.{HasMark, a_truth, a_number}
 use Rattle.ess_setwise_laws.proofs.SetwiseTrees.{Form, a_cell, a_view}
 
 -- ---- domains of nested sets

@@ -11,9 +11,8 @@ use Rattle.ess_semantics.specs.Trees.{both_ends, name_pat, Ex, number_ex, truth_
 use Rattle.ess_semantics.proofs.Tests.{and-left, and-right}
 use Rattle.ess_flat_laws.specs.Flat.{as_marked, two_mark}
 use Rattle.ess_seen_laws.specs.ess_bare_laws.Lean.{of_all, of_some, of_sum}
-use Rattle.ess_ranged_laws.specs.Ranged.{is_mark}
 use Rattle.ess_seen_laws.specs.Seen.{Kind, scalars, sets_of, Bound, over_a_range, from_a_set}
-use Rattle.ess_setwise_laws.specs.Setwise.{mark_of_kind, members_kind, one_kind, two_kind, fold_kind, word_kind, kind_at, is_new, setwise_kind, bound_behind}
+use Rattle.ess_setwise_laws.specs.Setwise.{is_mark, mark_of_kind, members_kind, one_kind, two_kind, fold_kind, word_kind, kind_at, is_new, setwise_kind, bound_behind}
 use Rattle.ess_setwise_laws.proofs.SetwiseTrees.{named, SetTree, stands, combined, Setwise, number, truth, scalar, one, two, chosen, folded, size, within, set_within, compared, Binding, at_end, over_truths, over_numbers, among, where_holds, NoneShown}
 use Rattle.ess_setwise_laws.proofs.OperatorKinds.{behind, marked, marks-are, decided, one-scalar, one-op, two-scalars, two-op, SetOp, a_member, a_comparison, a_combination, set-op, no-set-first}
 

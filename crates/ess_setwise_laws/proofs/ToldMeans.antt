@@ -17,13 +17,12 @@ use Rattle.ess_rules_laws.proofs.Simulation.{Vals, E, collect-same, and_then-sam
 use Rattle.conjure_model_laws.specs.ToldApart.{reserved, renamed, told, told_gens}
 use Rattle.conjure_model_laws.specs.Shown.{Shows, in_place}
 use Rattle.ess_chain_names_laws.proofs.ToldNames.{on, ex-up, gens-up}
-use Rattle.ess_ranged_laws.proofs.ToldRanged.{shown-two}
 use Rattle.ess_seen_laws.specs.Seen.{Kind, scalars, sets_of, Bound, over_a_range, from_a_set, bound_kind}
 use Rattle.ess_setwise_laws.specs.Setwise.{kind_at}
 use Rattle.ess_setwise_laws.proofs.SetwiseTrees.{named, as_shown, SetTree, stands, combined, Setwise, number, truth, scalar, one, two, chosen, folded, size, within, set_within, compared, Binding, at_end, over_truths, over_numbers, among, where_holds, NoneShown, ShowsAll}
 use Rattle.ess_setwise_laws.proofs.ShownForms.{form-still}
 use Rattle.ess_setwise_laws.proofs.NameKinds.{bound_at, apart, IsAt, Kept, later, bound}
-use Rattle.ess_setwise_laws.proofs.ToldSets.{made, made_gens, made_right, shown-combined, shown-compared, shown-in}
+use Rattle.ess_setwise_laws.proofs.ToldSets.{made, made_gens, made_right, shown-two, shown-combined, shown-compared, shown-in}
 
 module _ (sh : Shows) (names : Text → Option Kind) (cells : Text → Option (Bool × List ℕ)) (w : ShowsAll sh names cells) (lim : ℕ)
     (differ : (i j : ℕ) → i < j → j < lim → same_text (reserved j) (reserved i) ≡ false)

@@ -7,6 +7,7 @@ use Rattle.ess_semantics.specs.Order.{same_text}
 use Rattle.ess_semantics.specs.Names.{Names}
 use Rattle.ess_semantics.specs.Trees.{Ex, name_ex, Gens, ex2}
 use Rattle.ess_semantics.specs.Occurrences.{parts_of}
+use Rattle.ess_flat_laws.specs.Flat.{TwoOp, both, either, implied, agreeing, equal, unequal, below, at_most, above, at_least, sum, difference, product}
 use Rattle.conjure_model_laws.specs.ToldApart.{reserved, renamed, told, told_gens}
 use Rattle.conjure_model_laws.specs.Shown.{Shows, in_place, shown, shown_gens}
 use Rattle.ess_chain_names_laws.proofs.ToldNames.{ex-up}
@@ -33,6 +34,22 @@ module _ (sh : Shows) where
   abbrev pub made_right : Ex → Names Text → ℕ → Ex
   made_right (name_ex a) u k = in_place sh.last (renamed u a)
   made_right e u k = made e u k
+
+  -- Operators on scalars stay over tables.
+  pub shown-two : {b m k : Bool} {o : Op2} (x y : Ex) → TwoOp b o m k → shown sh (ex2 b o x y) ≡ ex2 b o (shown sh x) (shown sh y)
+  shown-two x y both = refl
+  shown-two x y either = refl
+  shown-two x y implied = refl
+  shown-two x y agreeing = refl
+  shown-two x y equal = refl
+  shown-two x y unequal = refl
+  shown-two x y below = refl
+  shown-two x y at_most = refl
+  shown-two x y above = refl
+  shown-two x y at_least = refl
+  shown-two x y sum = refl
+  shown-two x y difference = refl
+  shown-two x y product = refl
 
   -- Operators on sets stay over tables.
   pub shown-combined : {o : Op2} (x y : Ex) → Combines o → shown sh (ex2 false o x y) ≡ ex2 false o (shown sh x) (shown sh y)

@@ -13,12 +13,11 @@ use Rattle.conjure_model_laws.specs.ToldApart.{reserved, renamed, told, told_gen
 use Rattle.conjure_model_laws.specs.Shown.{Shows, in_place}
 use Rattle.ess_chain_names_laws.proofs.ToldNames.{on, ex-up, gens-up}
 use Rattle.ess_depth_laws.specs.Below.{is_below, HasNamesBelow}
-use Rattle.ess_ranged_laws.proofs.ToldRanged.{shown-two}
 use Rattle.ess_seen_laws.specs.Seen.{Kind, scalars, Bound, over_a_range, from_a_set}
 use Rattle.ess_setwise_laws.proofs.SetwiseTrees.{named, as_shown, Setwise, number, truth, scalar, one, two, chosen, folded, size, within, set_within, compared, Binding, at_end, over_truths, over_numbers, among, where_holds, NoneShown, no_kind, ShownFor, ShowsAll}
 use Rattle.ess_setwise_laws.proofs.NameKinds.{Kept, later, bound, below-has}
 use Rattle.ess_setwise_laws.proofs.Spellings.{Alike, same-alike, two-alike, alone-alike, node-alike, list-alike}
-use Rattle.ess_setwise_laws.proofs.ToldSets.{made, made_gens, made_right, shown-compared, shown-in, SpellsShown, AlikeTrees, at-alike, at-names, told-set, told-right}
+use Rattle.ess_setwise_laws.proofs.ToldSets.{made, made_gens, made_right, shown-two, shown-compared, shown-in, SpellsShown, AlikeTrees, at-alike, at-names, told-set, told-right}
 
 module _ (sh : Shows) (names : Text → Option Kind) (cells : Text → Option (Bool × List ℕ)) (w : ShowsAll sh names cells) (lim : ℕ)
     (differ : (i j : ℕ) → i < j → j < lim → same_text (reserved j) (reserved i) ≡ false) where

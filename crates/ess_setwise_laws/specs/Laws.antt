@@ -1,7 +1,7 @@
--- The law of constraints that speak of nested sets, stated at a function that does nothing.
+-- The law of constraints over scalars, ranges and nested sets, stated at a function that does nothing.
 use Rattle.std.specs.Prelude.{◌≡◌, ℕ, ◌+◌, ◌≤◌, ◌^◌, Bool, true, false, List, [], ℤ, Option, Some, None}
 use Rattle.std.specs.List.{list_all}
-use Rattle.ess_semantics.specs.Values.{Text, Value}
+use Rattle.ess_semantics.specs.Values.{Text, Value, number, truth}
 use Rattle.ess_semantics.specs.Names.{look}
 use Rattle.ess_semantics.specs.Kinds.{fits}
 use Rattle.ess_semantics.specs.Trees.{Mark, Repr, Ex, Exs, cell_ex, seen_ex, no_exs, Dom, set_dom}
@@ -16,7 +16,6 @@ use Rattle.conjure_model_laws.specs.Shown.{Shows, in_place}
 use Rattle.conjure_model_laws.specs.IsBuiltFrom.{constraint_tree}
 use Rattle.conjure_model_laws.specs.Printed.{binders}
 use Rattle.ess_depth_laws.specs.Below.{HasNamesBelow}
-use Rattle.ess_ranged_laws.specs.Laws.{HasMark, HoldsNames, none}
 use Rattle.ess_seen_laws.specs.Seen.{Kind, kind_of, Keeps, Seen}
 use Rattle.ess_setwise_laws.specs.Setwise.{setwise_mark}
 
@@ -45,10 +44,19 @@ pub record ShowsSets (sh : Shows) (marks : Text → Option Bool) (sets : Text �
   pub spares_first : (j : ℕ) → look sh.first (reserved j) ≡ None
   pub spares_last : (j : ℕ) → look sh.last (reserved j) ≡ None
 
+-- Cells have the values of names.
+pub record HoldsNames (sh : Shows) (names : Text → Option Bool) (env there : Env) : Type 0 where
+  pub holds : (a : Text) (m : Bool) → names a ≡ Some m → meaning (in_place sh.first a) there ≡ look env.vals a
+
 -- Views have the values of sets.
 pub record HoldsSets (sh : Shows) (sets : Text → Option Kind) (env there : Env) : Type 0 where
   pub first : (a : Text) (k : Kind) → sets a ≡ Some k → meaning (in_place sh.first a) there ≡ look env.vals a
   pub last : (a : Text) (k : Kind) → sets a ≡ Some k → meaning (in_place sh.last a) there ≡ look env.vals a
+
+-- A value of a mark: a truth value or a number.
+pub data HasMark : Bool → Value → Type 0 where
+  a_truth : {b : Bool} → HasMark true (truth b)
+  a_number : {k : ℤ} → HasMark false (number k)
 
 -- Cells of scalars have values of their marks.
 pub record HoldsScalars (sh : Shows) (marks : Text → Option Bool) (env : Env) : Type 0 where
@@ -66,8 +74,12 @@ pub record SpellsSets (sh : Shows) (sets : Text → Option Kind) (q : ℤ → Bo
 
 -- ---- the tree over tables
 
--- Over tables the constraint e, with this mark, is a tree over views without free names, in which no bound name hides another one. Its names
--- are reserved ones below the next one. It spells the numbers of e and those of domains of views. It means what e means where cells and
+-- No name.
+abbrev pub none : Text → Bool
+none a = false
+
+-- Over tables the constraint e, with this mark, is a tree over views without free names, in which no bound name hides another one. Its
+-- names are reserved ones below the next one. It spells the numbers of e and those of domains of views. It means what e means where cells and
 -- views have the values of names. Where tables meet the structures of views it meets its structures; and where cells have values of their
 -- marks too, each part of it has a value.
 pub record IsSeenOverTables (sh : Shows) (marks : Text → Option Bool) (sets : Text → Option Kind) (cells : Text → Option (Bool × List ℕ))

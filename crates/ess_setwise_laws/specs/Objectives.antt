@@ -1,4 +1,4 @@
--- The law of objectives that speak of nested sets, stated at a function that does nothing.
+-- The law of objectives over scalars, ranges and nested sets, stated at a function that does nothing.
 use Rattle.std.specs.Prelude.{◌≡◌, ℕ, ◌+◌, ◌≤◌, ◌^◌, Bool, true, List, ◌++◌, ℤ, Option, Some}
 use Rattle.ess_semantics.specs.Values.{Text, number}
 use Rattle.ess_semantics.specs.Names.{Names}
@@ -14,10 +14,9 @@ use Rattle.conjure_laws.specs.ModelPremises.{Canonical}
 use Rattle.conjure_model_laws.specs.Shown.{Shows}
 use Rattle.conjure_model_laws.specs.IsBuiltFrom.{constraint_tree, condition_tree, objective_tree}
 use Rattle.conjure_model_laws.specs.Printed.{binders}
-use Rattle.ess_ranged_laws.specs.Laws.{HoldsNames}
 use Rattle.ess_seen_laws.specs.Seen.{Kind}
 use Rattle.ess_setwise_laws.specs.Setwise.{is_setwise_number}
-use Rattle.ess_setwise_laws.specs.Laws.{ShowsSets, HoldsSets, HoldsScalars, MeetsSets}
+use Rattle.ess_setwise_laws.specs.Laws.{ShowsSets, HoldsNames, HoldsSets, HoldsScalars, MeetsSets}
 
 -- Over tables the objective e is the tree that it is as a part of a constraint, and it is `true` that it has a value: nothing in it can be
 -- undefined. It is a number where cells have values of their marks, tables meet the structures of views, and both have the values of names.

@@ -1,9 +1,9 @@
--- Constraints that speak of nested sets: numbers, truth values and names of scalars, arithmetic, comparisons and connectives, `toInt`;
--- `and`, `or` and `sum` of what generators over truth values, over ranges of numbers and over members of sets go through, with conditions;
--- memberships of scalars and of sets, comparisons and inclusions of sets, and their sizes. A set is a name, a free one or one that is bound
--- over members which are sets, or made of two by `union`, `intersect` and `-`. So are `forAll x in s . |x| >= 2`, `a union b = c`,
--- `sum([x | x <- s]) <= |a union b|` and `exists x in t . 3 in x - y /\ i < |t|` in trees. Left out are quotients, powers, ranges of other
--- ends, and names that hide others.
+-- Constraints over scalars, ranges and nested sets: numbers, truth values and names of scalars, arithmetic, comparisons and connectives,
+-- `toInt`; `and`, `or` and `sum` of what generators over truth values, over ranges of numbers and over members of sets go through, with
+-- conditions; memberships of scalars and of sets, comparisons and inclusions of sets, and their sizes. A set is a name, a free one or one
+-- that is bound over members which are sets, or made of two by `union`, `intersect` and `-`. So are `forAll i : int(1..n) . x != i`,
+-- `forAll x in s . |x| >= 2`, `a union b = c`, `sum([x | x <- s]) <= |a union b|` and `exists x in t . 3 in x - y /\ i < |t|` in trees.
+-- Left out are quotients, powers, ranges of other ends, and names that hide others.
 use Rattle.std.specs.Prelude.{Bool, true, false, ◌&&◌, not, if◌then◌else◌, [], ◌∷◌, Option, Some, None, is_some, option_map}
 use Rattle.ess_semantics.specs.declared.words.Op1.{Op1}
 use Rattle.ess_semantics.specs.declared.words.Op2.{Op2}
@@ -13,9 +13,28 @@ use Rattle.ess_semantics.specs.Values.{Text}
 use Rattle.ess_semantics.specs.Order.{same_text}
 use Rattle.ess_semantics.specs.Names.{Names}
 use Rattle.ess_semantics.specs.Trees.{both_ends, name_pat, Ex, number_ex, truth_ex, name_ex, comp_ex, no_exs, more_exs, Gens, no_gens, over, from, cond, bool_dom, int_dom, ex1, ex2, fun1}
-use Rattle.ess_flat_laws.specs.Flat.{as_marked, one_mark, two_mark}
-use Rattle.ess_ranged_laws.specs.Ranged.{fold_mark, word_mark, is_mark}
+use Rattle.ess_flat_laws.specs.Flat.{as_marked, one_mark, two_mark, chosen_mark}
 use Rattle.ess_seen_laws.specs.Seen.{Kind, scalars, sets_of, Bound, over_a_range, from_a_set, bound_kind}
+
+-- ---- marks
+
+-- Whether the mark is this one.
+abbrev pub is_mark : Bool → Option Bool → Bool
+is_mark true (Some true) = true
+is_mark false (Some false) = true
+is_mark b m = false
+
+-- The mark of a word on a list of items with this mark.
+abbrev pub fold_mark : Fun → Bool → Option Bool
+fold_mark Fun.And true = Some true
+fold_mark Fun.Or true = Some true
+fold_mark Fun.Sum false = Some false
+fold_mark f m = None
+
+-- The mark of a word on an operand with this mark.
+abbrev pub word_mark : Fun → Bool → Option Bool
+word_mark Fun.ToInt m = chosen_mark m
+word_mark f m = None
 
 -- ---- kinds
 

@@ -1,4 +1,0 @@
--- Trees over ranges
-pub mod Ranged
--- Their law
-pub mod Laws

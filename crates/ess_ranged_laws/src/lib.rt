@@ -1,4 +1,0 @@
-//! Constraints over ranges: which these are, and what becomes of one over tables.
-#![tactic(auto)]
-
-pub mod laws;
