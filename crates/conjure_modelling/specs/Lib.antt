@@ -1,4 +1,5 @@
 -- What callers name of libraries below
+pub use Rattle.ess_translate.specs as ess_translate
 pub use Rattle.ess_models.specs.ess_model_finds as ess_model_finds
 pub use Rattle.ess_models.specs.ess_model_written as ess_model_written
 pub use Rattle.ess_models.specs.ess_rules as ess_rules

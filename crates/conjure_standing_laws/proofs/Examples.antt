@@ -1,6 +1,6 @@
 -- Worked example: a text of two lines, without a list, is one of the class.
 use Rattle.std.proofs.Common.{◌≡◌, sym, subst, true, None}
-use Rattle.ess_flat_headers_laws.proofs.ExampleText.{text, S, its-statements, its-class}
+use Rattle.ess_member_headers_laws.proofs.ess_flat_headers_laws.ExampleText.{text, S, its-statements, its-class}
 use Rattle.ess_flat_models_laws.specs.FlatSpecifications.{is_flat_specification}
 use Rattle.conjure_standing_laws.specs.Standing.{IsFlatText}
 

@@ -8,11 +8,11 @@ use Rattle.ess_grammar.specs.Texts.{Reads}
 use Rattle.ess_grammar.specs.ModelTexts.{IsModel}
 use Rattle.ess_grammar.specs.HeaderTexts.{IsHeader}
 use Rattle.ess_flat_models_laws.specs.FlatSpecifications.{is_flat_specification}
-use Rattle.ess_translate.specs.Answers.{IsEssence}
+use Rattle.conjure_modelling.specs.ess_translate.Answers.{IsEssence}
 use Rattle.ess_translate_header_laws.specs.WrittenLines.{header_texts}
 use Rattle.ess_flat_models_laws.specs.FlatModels.{flat_model}
 use Rattle.ess_flat_models_laws.proofs.FlatHave.{flat-specifications}
-use Rattle.ess_flat_headers_laws.proofs.ChosenFlat.{chosen-are-of-the-class}
+use Rattle.ess_member_headers_laws.proofs.ess_flat_headers_laws.ChosenFlat.{chosen-are-of-the-class}
 use Rattle.conjure_standing_laws.proofs.BuiltModels.{built-models-are-right}
 use Rattle.conjure_modelling.specs.Modelled.{AreOptionsOf, IsWritten, IsModelFor}
 use Rattle.conjure_standing_laws.specs.Standing.{StandsForListed}

@@ -30,7 +30,7 @@ use Rattle.conjure_laws.proofs.Lookups.{look-key, look-right, tables-lift}
 use Rattle.conjure_laws.proofs.NamedTables.{among-in, in-among, keys-append, same_axes-equal, are-over}
 use Rattle.ess_nested_laws.proofs.NestedForms.{NestedSet}
 use Rattle.ess_nested_laws.proofs.NestedDenoted.{written_domain, nested-denoted, nested-placed}
-use Rattle.ess_bare_structures_laws.specs.Laws.{AreMarked, IsMarked, TablesFound}
+use Rattle.ess_seen_values_laws.specs.ess_bare_structures_laws.Laws.{AreMarked, IsMarked, TablesFound}
 use Rattle.ess_bare_written_laws.specs.Laws.{AreDeclared, IsDeclared}
 use Rattle.conjure_standing_laws.specs.NestedFinds.{tables_by}
 

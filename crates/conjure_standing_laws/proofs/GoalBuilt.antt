@@ -23,7 +23,7 @@ use Rattle.ess_flat_laws.specs.Flat.{Flat, none_marked, truth as truth_is}
 use Rattle.ess_flat_models_laws.specs.FlatSpecifications.{scalar_mark, is_flat_number}
 use Rattle.ess_flat_models_laws.specs.FlatModels.{flat_rule, goal_rules}
 use Rattle.ess_flat_models_laws.proofs.PreparedStatements.{number-flat}
-use Rattle.ess_setwise_laws.specs.Setwise.{is_setwise_number}
+use Rattle.ess_mixed_models_laws.specs.ess_setwise_laws.Setwise.{is_setwise_number}
 use Rattle.conjure_modelling.specs.ess_model_trees.Written.{ComesFrom, next_behind}
 use Rattle.conjure_modelling.specs.ess_model_written.RulesWritten.{BothCome, GoalComes}
 use Rattle.conjure_standing_laws.proofs.FlatChains.{comes-flat}

@@ -9,7 +9,7 @@ use Rattle.ess_semantics.specs.Models.{Models, IsExact}
 use Rattle.ess_grammar.specs.Texts.{Reads}
 use Rattle.ess_grammar.specs.ModelTexts.{IsModel}
 use Rattle.ess_grammar.specs.HeaderTexts.{IsHeader}
-use Rattle.ess_translate.specs.Answers.{IsEssence}
+use Rattle.conjure_modelling.specs.ess_translate.Answers.{IsEssence}
 use Rattle.ess_translate_header_laws.specs.WrittenLines.{header_texts}
 use Rattle.conjure_laws.specs.SetsOfAtoms.{Line, spec}
 use Rattle.conjure_laws.specs.ModelsOfSets.{no_options}

@@ -8,7 +8,7 @@ use Rattle.ess_semantics.specs.Models.{Models, IsExact}
 use Rattle.ess_grammar.specs.Texts.{Reads}
 use Rattle.ess_grammar.specs.ModelTexts.{IsModel}
 use Rattle.ess_grammar.specs.HeaderTexts.{IsHeader}
-use Rattle.ess_translate.specs.Answers.{IsEssence}
+use Rattle.conjure_modelling.specs.ess_translate.Answers.{IsEssence}
 use Rattle.ess_translate_header_laws.specs.WrittenLines.{header_texts}
 use Rattle.conjure_alike_laws.proofs.AlikeModels.{alike-options-have-the-same-models}
 use Rattle.ess_mixed_models_laws.specs.MixedSpecifications.{is_mixed_specification}

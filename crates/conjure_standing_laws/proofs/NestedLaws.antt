@@ -1,5 +1,5 @@
 -- The rules of nested sets stand, by the laws of bare trees.
-use Rattle.ess_bare_structures_laws.proofs.NestedStructures.{nested-structures}
+use Rattle.ess_seen_values_laws.proofs.ess_bare_structures_laws.NestedStructures.{nested-structures}
 use Rattle.ess_bare_written_laws.proofs.Written.{bare-trees-are-written}
 use Rattle.conjure_standing_laws.proofs.BareChains.{bare-trees-stay-bare}
 use Rattle.conjure_standing_laws.specs.NestedLaws.{NestedRulesStand}

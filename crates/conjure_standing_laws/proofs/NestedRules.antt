@@ -33,7 +33,7 @@ use Rattle.conjure_modelling.specs.ess_model_trees.Written.{written_for, ComesFr
 use Rattle.conjure_modelling.specs.ess_model_finds.Finds.{is_atom, asked_of}
 use Rattle.conjure_modelling.specs.ess_model_written.RulesWritten.{TreeComes, is_true, unless_true}
 use Rattle.ess_nested_laws.proofs.NestedForms.{NestedSet, of_atoms, of_sets, KeptAs, as_atom, by_occurrence, with_a_dummy, in_slots, with_a_marker, with_flags, nested-form, kept-form}
-use Rattle.ess_bare_structures_laws.specs.Laws.{structure_from, told_structure, IsNestedView, none, StructureIsBare, NestedStructuresAreBare}
+use Rattle.ess_seen_values_laws.specs.ess_bare_structures_laws.Laws.{structure_from, told_structure, IsNestedView, none, StructureIsBare, NestedStructuresAreBare}
 use Rattle.ess_bare_written_laws.specs.Laws.{IsReady, BareTreesAreWritten}
 use Rattle.conjure_standing_laws.specs.BareLaws.{StaysBare, BareTreesStayBare}
 use Rattle.conjure_standing_laws.specs.NestedFinds.{IsNestedFind, DeclaresNested}

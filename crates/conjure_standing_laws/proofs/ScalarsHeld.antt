@@ -23,7 +23,7 @@ use Rattle.conjure_laws.specs.Views.{over_tables}
 use Rattle.conjure_model_laws.specs.ToldApart.{reserved, is_unreserved}
 use Rattle.conjure_model_laws.specs.Shown.{Shows, shows_of}
 use Rattle.ess_bare_written_laws.specs.Laws.{IsDeclared}
-use Rattle.ess_setwise_laws.specs.Laws.{HasMark, a_truth, a_number, HoldsNames}
+use Rattle.ess_mixed_models_laws.specs.ess_setwise_laws.Laws.{HasMark, a_truth, a_number, HoldsNames}
 use Rattle.ess_flat_models_laws.specs.FlatSpecifications.{scalar_mark}
 use Rattle.ess_flat_models_laws.proofs.FlatValues.{Marked, a_truth as truth_marked, a_number as number_marked}
 use Rattle.ess_flat_models_laws.proofs.FlatDeclared.{bool-stays}

@@ -24,7 +24,7 @@ use Rattle.ess_repr_declare_laws.specs.DeclaredTrees.{axis_dom}
 use Rattle.ess_nested_laws.specs.NestedDomains.{is_nested_dom}
 use Rattle.ess_nested_laws.proofs.NestedForms.{kept-form}
 use Rattle.ess_seen_laws.specs.Seen.{Kind, Keeps}
-use Rattle.ess_setwise_laws.specs.Laws.{IsSetView}
+use Rattle.ess_mixed_models_laws.specs.ess_setwise_laws.Laws.{IsSetView}
 use Rattle.ess_mixed_models_laws.specs.MixedSpecifications.{kinds, is_nested_plan, are_mixed_statements, types_come_first, have_bounds}
 use Rattle.ess_mixed_models_laws.specs.MixedModels.{mixed_decl, mixed_decls}
 use Rattle.ess_mixed_models_laws.proofs.NamedKinds.{no-yes}

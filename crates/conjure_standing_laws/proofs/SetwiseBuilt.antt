@@ -36,8 +36,8 @@ use Rattle.ess_flat_models_laws.specs.FlatSpecifications.{scalar_mark, is_flat_t
 use Rattle.ess_bare_written_laws.specs.Laws.{IsDeclared, AreDeclared}
 use Rattle.ess_seen_laws.specs.Seen.{Kind, counted_axes}
 use Rattle.ess_seen_laws.specs.Filled.{AreFilled}
-use Rattle.ess_setwise_laws.specs.Setwise.{is_setwise_truth}
-use Rattle.ess_setwise_laws.specs.Laws.{ShowsSets, HoldsSets, HoldsScalars, MeetsSets, SpellsSets}
+use Rattle.ess_mixed_models_laws.specs.ess_setwise_laws.Setwise.{is_setwise_truth}
+use Rattle.ess_mixed_models_laws.specs.ess_setwise_laws.Laws.{ShowsSets, HoldsSets, HoldsScalars, MeetsSets, SpellsSets}
 use Rattle.conjure_modelling.specs.ess_model_written.RulesWritten.{ConstraintComes}
 use Rattle.ess_mixed_models_laws.specs.MixedSpecifications.{kinds, nested_kind, are_mixed_statements, types_come_first, have_bounds, spares_reserved, has_names_left, unbound_kind, is_setwise_constraint}
 use Rattle.ess_mixed_models_laws.specs.MixedModels.{mixed_decl, mixed_decls, IsRuleOf, of_setwise}

@@ -1,6 +1,6 @@
 -- The rules of constraints that speak of nested sets stand, and so do objectives, by the laws of trees over views.
 use Rattle.ess_bare_written_laws.proofs.Written.{ended-trees-are-written}
-use Rattle.ess_setwise_laws.proofs.SetwiseLaws.{setwise-trees-are-seen, setwise-numbers-are-there}
+use Rattle.ess_mixed_models_laws.proofs.ess_setwise_laws.SetwiseLaws.{setwise-trees-are-seen, setwise-numbers-are-there}
 use Rattle.conjure_standing_laws.proofs.SeenLaws.{depths-are-bounded, seen-trees-stay-seen}
 use Rattle.conjure_standing_laws.specs.SetwiseLaws.{SetwiseRulesStand, SetwiseObjectivesStand}
 use Rattle.conjure_standing_laws.proofs.SetwiseRules.{setwise-rules-by}

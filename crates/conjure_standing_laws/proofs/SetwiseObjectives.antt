@@ -9,9 +9,9 @@ use Rattle.conjure_model_laws.specs.Printed.{binders}
 use Rattle.ess_flat_models_laws.specs.FlatSpecifications.{scalar_mark}
 use Rattle.ess_bare_written_laws.specs.Laws.{EndedTreesAreWritten}
 use Rattle.ess_depth_laws.specs.Laws.{DepthsAreBounded}
-use Rattle.ess_setwise_laws.specs.Setwise.{is_mark, setwise_mark}
-use Rattle.ess_setwise_laws.specs.Laws.{SetwiseTreesAreSeen}
-use Rattle.ess_setwise_laws.specs.Objectives.{SetwiseNumbersAreThere}
+use Rattle.ess_mixed_models_laws.specs.ess_setwise_laws.Setwise.{is_mark, setwise_mark}
+use Rattle.ess_mixed_models_laws.specs.ess_setwise_laws.Laws.{SetwiseTreesAreSeen}
+use Rattle.ess_mixed_models_laws.specs.ess_setwise_laws.Objectives.{SetwiseNumbersAreThere}
 use Rattle.conjure_modelling.specs.ess_model_trees.Written.{ComesFrom, next_behind}
 use Rattle.conjure_standing_laws.specs.SeenLaws.{SeenTreesStaySeen}
 use Rattle.conjure_standing_laws.specs.SetwiseLaws.{SetwiseObjectivesStand}

@@ -28,8 +28,8 @@ use Rattle.ess_flat_models_laws.specs.FlatSpecifications.{scalar_mark}
 use Rattle.ess_bare_written_laws.specs.Laws.{IsEndedTree, EndedTreesAreWritten}
 use Rattle.ess_seen_laws.specs.Seen.{Kind, counted_axes}
 use Rattle.ess_depth_laws.specs.Laws.{DepthsAreBounded}
-use Rattle.ess_setwise_laws.specs.Setwise.{is_mark, setwise_mark}
-use Rattle.ess_setwise_laws.specs.Laws.{none, IsSeenOverTables, SetwiseTreesAreSeen}
+use Rattle.ess_mixed_models_laws.specs.ess_setwise_laws.Setwise.{is_mark, setwise_mark}
+use Rattle.ess_mixed_models_laws.specs.ess_setwise_laws.Laws.{none, IsSeenOverTables, SetwiseTreesAreSeen}
 use Rattle.conjure_modelling.specs.ess_rules.Ruled.{IsRuled}
 use Rattle.conjure_modelling.specs.ess_refine.Chains.{Leads}
 use Rattle.conjure_modelling.specs.ess_model_trees.Written.{written_for, next_behind}

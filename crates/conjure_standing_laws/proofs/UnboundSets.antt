@@ -7,7 +7,7 @@ use Rattle.ess_semantics.specs.Plans.{Options, Plan, plans}
 use Rattle.ess_semantics.specs.ModelTrees.{Model}
 use Rattle.conjure_model_laws.specs.Shown.{Shows}
 use Rattle.ess_seen_laws.specs.Seen.{Kind}
-use Rattle.ess_setwise_laws.specs.Laws.{ShowsSets, HoldsSets, MeetsSets, SpellsSets}
+use Rattle.ess_mixed_models_laws.specs.ess_setwise_laws.Laws.{ShowsSets, HoldsSets, MeetsSets, SpellsSets}
 use Rattle.ess_mixed_models_laws.specs.MixedSpecifications.{nested_kind, binds_name, unbound_kind}
 use Rattle.conjure_standing_laws.specs.SetwiseLaws.{HaveSets}
 

@@ -24,9 +24,9 @@ use Rattle.ess_flat_models_laws.specs.FlatSpecifications.{scalar_mark}
 use Rattle.ess_bare_written_laws.specs.Laws.{AreDeclared}
 use Rattle.ess_seen_laws.specs.Seen.{Kind, counted_axes}
 use Rattle.ess_seen_laws.specs.Filled.{AreFilled}
-use Rattle.ess_setwise_laws.specs.Setwise.{is_setwise_truth, is_setwise_number}
-use Rattle.ess_setwise_laws.specs.Laws.{ShowsSets, HoldsNames, HoldsSets, HoldsScalars, MeetsSets, SpellsSets}
-use Rattle.ess_setwise_laws.specs.Objectives.{NumberMeans}
+use Rattle.ess_mixed_models_laws.specs.ess_setwise_laws.Setwise.{is_setwise_truth, is_setwise_number}
+use Rattle.ess_mixed_models_laws.specs.ess_setwise_laws.Laws.{ShowsSets, HoldsNames, HoldsSets, HoldsScalars, MeetsSets, SpellsSets}
+use Rattle.ess_mixed_models_laws.specs.ess_setwise_laws.Objectives.{NumberMeans}
 use Rattle.conjure_modelling.specs.ess_model_written.RulesWritten.{ConstraintComes, ObjectiveComes}
 
 -- The scalars of the specification are single cells, and its sets with these kinds of members are views, over tables that the model

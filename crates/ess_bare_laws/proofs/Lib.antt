@@ -1,3 +1,6 @@
+-- What callers name of libraries below
+pub use Rattle.ess_values_bindings_laws.proofs as ess_values_bindings_laws
+pub use Rattle.ess_values_bindings_laws.proofs.ess_values_sources_laws as ess_values_sources_laws
 -- Types of bare trees
 pub mod Types
 -- What operands pick

@@ -3,8 +3,8 @@ use Rattle.std.proofs.Common.{◌≡◌, refl, sym, ap, subst, ◌∙◌, ℕ, s
 use Rattle.ess_semantics.specs.Values.{Text}
 use Rattle.ess_semantics.specs.Order.{same_text}
 use Rattle.ess_semantics.proofs.Texts.{same_text-itself, same_text-equal}
-use Rattle.conjure_model_laws.specs.ToldApart.{reserved}
-use Rattle.conjure_model_laws.proofs.ToldLaws.{reserved-differ}
+use Rattle.ess_given_laws.specs.conjure_model_laws.ToldApart.{reserved}
+use Rattle.ess_given_laws.proofs.conjure_model_laws.ToldLaws.{reserved-differ}
 use Rattle.ess_given_conditions_laws.specs.GrowingNames.{HasNoneFrom, Grows}
 
 -- The set u but that the reserved names from the k-th on are in it or not, as the list says.

@@ -15,7 +15,7 @@ use Rattle.ess_semantics.proofs.Shorthands.{N, n, bi, fn, at, es1, es2, upto}
 use Rattle.ess_refine_laws.specs.LeavingConditions.{condition_leaves}
 use Rattle.ess_refine_laws.specs.AllRules.{Supply}
 use Rattle.ess_open_rules_laws.specs.OpenSources.{counted_apart, kept_behind}
-use Rattle.ess_chain_names_laws.specs.Steps.{told_axis}
+use Rattle.ess_given_laws.specs.ess_chain_names_laws.Steps.{told_axis}
 use Rattle.ess_given_laws.specs.Given.{is_fixed_dom, GivenIn}
 use Rattle.ess_given_conditions_laws.specs.InScope.{is_given_in}
 use Rattle.ess_given_conditions_laws.specs.ConditionsEnd.{own_read_none}

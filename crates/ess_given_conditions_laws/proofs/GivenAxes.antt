@@ -5,7 +5,7 @@ use Rattle.ess_semantics.specs.Values.{Text}
 use Rattle.ess_semantics.specs.Trees.{Step, by_value, to_component, to_field, index, matrix_literal, Ex, Exs, node_ex, matrix_ex, comp_ex, seen_ex, no_exs, more_exs, Dom, bool_dom, int_dom, name_dom, matrix_dom, more_doms}
 use Rattle.ess_semantics.proofs.Tests.{and-left, and-right, and-both}
 use Rattle.ess_guard_laws.specs.IndexDomains.{item_dom, dom_behind, dom_followed, first_index, plain_axis, are_plain_bounds, index_dom}
-use Rattle.ess_chain_names_laws.specs.Steps.{told_axis}
+use Rattle.ess_given_laws.specs.ess_chain_names_laws.Steps.{told_axis}
 use Rattle.ess_given_laws.specs.Given.{is_fixed, are_fixed_gens, is_fixed_dom, are_fixed_doms, GivenIn}
 use Rattle.ess_given_laws.proofs.FixedTrees.{fixed-has, given-has}
 use Rattle.ess_given_conditions_laws.specs.GivenAxes.{counts_items, CountsFixed, IndexDomainsAreGiven}

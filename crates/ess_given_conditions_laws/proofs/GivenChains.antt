@@ -6,9 +6,9 @@ use Rattle.ess_semantics.specs.Trees.{Ex}
 use Rattle.ess_semantics.specs.Types.{Ty}
 use Rattle.ess_semantics.specs.Contexts.{fill}
 use Rattle.ess_semantics.specs.NamesAt.{names_at}
-use Rattle.conjure_model_laws.specs.ToldApart.{told}
-use Rattle.ess_chain_names_laws.specs.Steps.{Chain, at_rest, one_more}
-use Rattle.ess_chain_names_laws.proofs.ToldNames.{ex-up}
+use Rattle.ess_given_laws.specs.conjure_model_laws.ToldApart.{told}
+use Rattle.ess_given_laws.specs.ess_chain_names_laws.Steps.{Chain, at_rest, one_more}
+use Rattle.ess_given_laws.proofs.ess_chain_names_laws.ToldNames.{ex-up}
 use Rattle.ess_given_laws.specs.Given.{GivenIn}
 use Rattle.ess_given_conditions_laws.specs.GivenChains.{IsGivenStep, by_given_rule, by_new_names, SparesAll, StaysGiven, ChainsKeepGiven}
 use Rattle.ess_given_conditions_laws.specs.GrowingNames.{HasNoneFrom, Grows}

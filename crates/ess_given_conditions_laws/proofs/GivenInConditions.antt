@@ -5,9 +5,9 @@ use Rattle.ess_semantics.specs.Names.{Names}
 use Rattle.ess_semantics.specs.Trees.{Ex}
 use Rattle.ess_semantics.specs.Types.{Ty}
 use Rattle.ess_semantics.specs.Refined.{is_refined}
-use Rattle.conjure_model_laws.specs.ToldApart.{told, told_apart}
-use Rattle.ess_chain_names_laws.specs.Steps.{Chain}
-use Rattle.ess_chain_names_laws.proofs.ToldNames.{ex-up}
+use Rattle.ess_given_laws.specs.conjure_model_laws.ToldApart.{told, told_apart}
+use Rattle.ess_given_laws.specs.ess_chain_names_laws.Steps.{Chain}
+use Rattle.ess_given_laws.proofs.ess_chain_names_laws.ToldNames.{ex-up}
 use Rattle.ess_given_laws.specs.Given.{GivenIn}
 use Rattle.ess_given_laws.proofs.GivenEnds.{given-ends}
 use Rattle.ess_given_conditions_laws.specs.InScope.{is_given_in}

@@ -13,8 +13,8 @@ use Rattle.ess_semantics.proofs.Tests.{and-left, and-right, and-both, both-ways}
 use Rattle.ess_refine_laws.specs.LeavingConditions.{Parted, at_last_condition}
 use Rattle.ess_refine_laws.specs.Copies.{opposite_of}
 use Rattle.ess_refine_laws.specs.AllRules.{Rule, over_a_source, of_one_source, equal_matrices_at, least_under_a_condition, least_of_alternatives, opposite_copied, rewrite}
-use Rattle.conjure_model_laws.specs.ToldApart.{reserved, told, told_apart}
-use Rattle.ess_chain_names_laws.specs.Steps.{reserved_from, supply_at, behind_copy, behind_names}
+use Rattle.ess_given_laws.specs.conjure_model_laws.ToldApart.{reserved, told, told_apart}
+use Rattle.ess_given_laws.specs.ess_chain_names_laws.Steps.{reserved_from, supply_at, behind_copy, behind_names}
 use Rattle.ess_given_laws.specs.PartsHave.{PartsHave}
 use Rattle.ess_given_laws.specs.Given.{is_fixed, are_fixed_gens, given, GivenIn}
 use Rattle.ess_given_laws.specs.GivenStays.{KeepsGiven, draws_fixed, binds_fixed, TakesGiven, NewGiven}

@@ -6,7 +6,7 @@ use Rattle.ess_semantics.specs.Order.{same_text}
 use Rattle.ess_semantics.specs.Names.{Names, look}
 use Rattle.ess_semantics.specs.Trees.{Pat, Pats, name_pat, tuple_pat, no_pats, more_pats}
 use Rattle.ess_semantics.proofs.Tests.{and-both}
-use Rattle.conjure_model_laws.specs.ToldApart.{reserved, renamed, told_pat, told_pats, told}
+use Rattle.ess_given_laws.specs.conjure_model_laws.ToldApart.{reserved, renamed, told_pat, told_pats, told}
 use Rattle.ess_given_laws.specs.Given.{all_bound, all_bound_by, none_bound, none_bound_by}
 use Rattle.ess_given_conditions_laws.specs.InScope.{bound_as, all_bound_as}
 use Rattle.ess_given_conditions_laws.proofs.Assigned.{Assigned, at-first, at-later}

@@ -2,7 +2,7 @@
 use Rattle.std.proofs.Common.{◌≡◌, ℕ, ◌+◌, ◌≤◌, ◌^◌, Bool, true, [], length, arith}
 use Rattle.ess_semantics.specs.Values.{Text}
 use Rattle.ess_semantics.specs.Trees.{Ex}
-use Rattle.conjure_model_laws.specs.ToldApart.{told}
+use Rattle.ess_given_laws.specs.conjure_model_laws.ToldApart.{told}
 use Rattle.ess_given_conditions_laws.specs.InScope.{is_given_in}
 use Rattle.ess_given_conditions_laws.specs.GrowingNames.{HasNoneFrom, Grows}
 use Rattle.ess_given_conditions_laws.specs.ToldTrees.{GivenApart, ToldTreesAreGiven}

@@ -2,7 +2,7 @@
 use Rattle.std.specs.Prelude.{◌≡◌, Bool, true, false}
 use Rattle.ess_semantics.specs.Values.{Text}
 use Rattle.ess_semantics.specs.Trees.{Ex, comp_ex}
-use Rattle.ess_chain_names_laws.specs.Steps.{told_axis}
+use Rattle.ess_given_laws.specs.ess_chain_names_laws.Steps.{told_axis}
 use Rattle.ess_given_laws.specs.Given.{are_fixed_gens, is_fixed_dom, GivenIn}
 
 -- Whether the index domain counts items.

@@ -6,8 +6,8 @@ use Rattle.ess_semantics.specs.Trees.{Ex, ex2}
 use Rattle.ess_semantics.specs.Types.{Ty}
 use Rattle.ess_semantics.specs.Contexts.{In, fill}
 use Rattle.ess_refine_laws.specs.AllRules.{Rule, equal_matrices_at, rewrite}
-use Rattle.conjure_model_laws.specs.ToldApart.{told, told_apart}
-use Rattle.ess_chain_names_laws.specs.Steps.{supply_at, behind_names, Chain}
+use Rattle.ess_given_laws.specs.conjure_model_laws.ToldApart.{told, told_apart}
+use Rattle.ess_given_laws.specs.ess_chain_names_laws.Steps.{supply_at, behind_names, Chain}
 use Rattle.ess_given_laws.specs.Given.{is_fixed, GivenIn}
 use Rattle.ess_given_conditions_laws.specs.GivenAxes.{counts_items}
 use Rattle.ess_given_conditions_laws.specs.GrowingNames.{HasNoneFrom, Grows}

@@ -2,7 +2,7 @@
 use Rattle.std.specs.Prelude.{◌≡◌, Bool, true, false, ℕ, ◌≤◌, ◌<◌, ◌^◌}
 use Rattle.ess_semantics.specs.Values.{Text}
 use Rattle.ess_semantics.specs.Order.{same_text}
-use Rattle.conjure_model_laws.specs.ToldApart.{reserved}
+use Rattle.ess_given_laws.specs.conjure_model_laws.ToldApart.{reserved}
 
 -- The set has no reserved name from the n-th on, below the 2 ^ 64-th.
 abbrev pub HasNoneFrom : ℕ → (Text → Bool) → Type 0

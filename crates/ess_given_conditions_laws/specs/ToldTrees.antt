@@ -2,7 +2,7 @@
 use Rattle.std.specs.Prelude.{◌≡◌, Bool, true, [], ℕ, ◌≤◌, ◌^◌}
 use Rattle.ess_semantics.specs.Values.{Text}
 use Rattle.ess_semantics.specs.Trees.{Ex}
-use Rattle.conjure_model_laws.specs.ToldApart.{told, told_apart}
+use Rattle.ess_given_laws.specs.conjure_model_laws.ToldApart.{told, told_apart}
 use Rattle.ess_given_laws.specs.Given.{is_fixed, GivenIn}
 use Rattle.ess_given_conditions_laws.specs.InScope.{is_fixed_in, is_given_in}
 use Rattle.ess_given_conditions_laws.specs.GrowingNames.{HasNoneFrom, Grows}

@@ -11,7 +11,7 @@ use Rattle.ess_given_laws.specs.Given.{is_fixed}
 use Rattle.ess_given_conditions_laws.specs.GrowingNames.{HasNoneFrom}
 use Rattle.ess_given_conditions_laws.specs.GivenChains.{SparesAll}
 use Rattle.ess_given_conditions_laws.proofs.MoreFixed.{fixed-among}
-use Rattle.ess_given_offers_laws.specs.Seen.{Counts}
+use Rattle.ess_given_kinds_laws.specs.ess_given_offers_laws.Seen.{Counts}
 
 -- No reserved name is the one that sizes bind.
 pub unused-differs : (j : ℕ) → j < 2 ^ 64 → same_text unused_name (reserved j) ≡ false

@@ -25,8 +25,8 @@ use Rattle.ess_given_order_laws.specs.InOrder.{Ordered}
 use Rattle.ess_given_order_laws.specs.OrderStays.{StaysOrdered}
 use Rattle.ess_given_order_laws.proofs.OrderedParts.{part-order}
 use Rattle.ess_given_order_laws.proofs.ToldOrder.{order-among}
-use Rattle.ess_given_offers_laws.specs.Seen.{Counts}
-use Rattle.ess_given_offers_laws.specs.GivenOffers.{NoneIn}
+use Rattle.ess_given_kinds_laws.specs.ess_given_offers_laws.Seen.{Counts}
+use Rattle.ess_given_kinds_laws.specs.ess_given_offers_laws.GivenOffers.{NoneIn}
 use Rattle.ess_given_kinds_laws.specs.GivenKinds.{kind_binds, new_names, source_names, NewOfKinds}
 use Rattle.ess_given_kinds_laws.proofs.GivenKinds.{kinds-keep-given}
 use Rattle.ess_given_kind_steps_laws.specs.GivenKindSteps.{IsKindStep, by_a_kind, StepOrders, KindStepsKeepGiven}

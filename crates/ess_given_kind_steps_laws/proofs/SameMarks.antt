@@ -6,7 +6,7 @@ use Rattle.ess_semantics.proofs.Tests.{and-both}
 use Rattle.conjure_model_laws.specs.ToldApart.{reserved}
 use Rattle.ess_chain_names_laws.specs.Steps.{reserved_from, supply_at}
 use Rattle.ess_given_conditions_laws.proofs.Assigned.{Assigned}
-use Rattle.ess_given_offers_laws.specs.GivenOffers.{NoneIn}
+use Rattle.ess_given_kinds_laws.specs.ess_given_offers_laws.GivenOffers.{NoneIn}
 use Rattle.ess_given_kinds_laws.specs.GivenKinds.{new_names}
 
 -- So many that belong to the set, or don't.

@@ -14,7 +14,7 @@ use Rattle.ess_given_conditions_laws.specs.GrowingNames.{HasNoneFrom, Grows}
 use Rattle.ess_given_conditions_laws.specs.GivenChains.{SparesAll}
 use Rattle.ess_given_order_laws.specs.InOrder.{in_order, Ordered}
 use Rattle.ess_given_order_laws.specs.OrderStays.{StaysOrdered}
-use Rattle.ess_given_offers_laws.specs.Seen.{Counts}
+use Rattle.ess_given_kinds_laws.specs.ess_given_offers_laws.Seen.{Counts}
 
 -- A rule fires with names from the n-th reserved one on, of which count serve as those of components, and leaves the m-th behind.
 pub data IsKindStep : ℕ → Names Ty → Ex → Ex → ℕ → Type 0 where

@@ -1,3 +1,6 @@
+-- What callers name of libraries below
+pub use Rattle.ess_chain_names_laws.proofs.conjure_model_laws as conjure_model_laws
+pub use Rattle.ess_chain_names_laws.proofs as ess_chain_names_laws
 pub mod PartsHave
 pub mod FixedTrees
 pub mod PartsOfFolds

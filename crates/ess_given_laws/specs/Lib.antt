@@ -1,3 +1,6 @@
+-- What callers name of libraries below
+pub use Rattle.ess_chain_names_laws.specs.conjure_model_laws as conjure_model_laws
+pub use Rattle.ess_chain_names_laws.specs as ess_chain_names_laws
 -- Trees each part of which has what is wanted of it
 pub mod PartsHave
 -- What is given in domains and conditions

@@ -12,7 +12,7 @@ use Rattle.ess_semantics.specs.ExpressionJudgements.{forgets_order}
 use Rattle.ess_semantics.specs.Occurrences.{parts_of, is_cell_or_view, has_cells}
 use Rattle.ess_semantics.specs.Refined.{is_scalar_op, is_list_op, is_refined, are_refined, is_refined_list, are_refined_lists, are_refined_gens}
 use Rattle.ess_semantics.proofs.Tests.{and-left, and-right, and-both}
-use Rattle.ess_chain_names_laws.specs.Steps.{Chain}
+use Rattle.ess_given_laws.specs.ess_chain_names_laws.Steps.{Chain}
 use Rattle.ess_given_laws.specs.Given.{is_fixed, GivenIn}
 use Rattle.ess_given_laws.specs.GivenEnds.{reads_given, conditions_read_none}
 use Rattle.ess_given_laws.proofs.GivenEnds.{given-ends}

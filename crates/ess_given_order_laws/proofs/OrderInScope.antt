@@ -7,9 +7,9 @@ use Rattle.ess_semantics.specs.Types.{Ty}
 use Rattle.ess_semantics.specs.ExpressionJudgements.{forgets_order}
 use Rattle.ess_semantics.specs.Refined.{is_refined}
 use Rattle.ess_semantics.proofs.Tests.{and-left, and-right, and-both}
-use Rattle.conjure_model_laws.specs.ToldApart.{told_pat, told, told_all, told_gens, told_dom, told_apart}
-use Rattle.ess_chain_names_laws.specs.Steps.{Chain}
-use Rattle.ess_chain_names_laws.proofs.ToldNames.{ex-up}
+use Rattle.ess_given_laws.specs.conjure_model_laws.ToldApart.{told_pat, told, told_all, told_gens, told_dom, told_apart}
+use Rattle.ess_given_laws.specs.ess_chain_names_laws.Steps.{Chain}
+use Rattle.ess_given_laws.proofs.ess_chain_names_laws.ToldNames.{ex-up}
 use Rattle.ess_given_laws.specs.Given.{is_fixed}
 use Rattle.ess_given_conditions_laws.specs.InScope.{bound_as, is_fixed_in, fixed_behind, is_given_in}
 use Rattle.ess_given_conditions_laws.specs.GrowingNames.{HasNoneFrom, Grows}

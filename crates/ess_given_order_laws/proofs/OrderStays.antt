@@ -13,8 +13,8 @@ use Rattle.ess_refine_laws.specs.ExtremeRules.{opposite}
 use Rattle.ess_refine_laws.specs.Everywhere.{everywhere, everywhere_gens}
 use Rattle.ess_refine_laws.specs.Copies.{opposite_of}
 use Rattle.ess_refine_laws.specs.AllRules.{Rule, least_under_a_condition, rewrite}
-use Rattle.conjure_model_laws.specs.ToldApart.{told, told_apart}
-use Rattle.ess_chain_names_laws.specs.Steps.{supply_at, behind_names, Chain, at_rest, one_more}
+use Rattle.ess_given_laws.specs.conjure_model_laws.ToldApart.{told, told_apart}
+use Rattle.ess_given_laws.specs.ess_chain_names_laws.Steps.{supply_at, behind_names, Chain, at_rest, one_more}
 use Rattle.ess_given_laws.specs.PartsHave.{AllHave, GensHave}
 use Rattle.ess_given_laws.specs.Given.{is_fixed, given, GivenIn}
 use Rattle.ess_given_laws.specs.GivenStays.{KeepsGiven}

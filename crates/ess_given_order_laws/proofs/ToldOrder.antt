@@ -6,7 +6,7 @@ use Rattle.ess_semantics.specs.Names.{Names}
 use Rattle.ess_semantics.specs.Trees.{Ex, Exs, number_ex, truth_ex, name_ex, node_ex, matrix_ex, comp_ex, cell_ex, seen_ex, no_exs, more_exs, Gens, no_gens, over, from, cond}
 use Rattle.ess_semantics.specs.ExpressionJudgements.{forgets_order}
 use Rattle.ess_semantics.proofs.Tests.{and-left, and-right, and-both}
-use Rattle.conjure_model_laws.specs.ToldApart.{told_pat, told, told_all, told_gens, told_dom}
+use Rattle.ess_given_laws.specs.conjure_model_laws.ToldApart.{told_pat, told, told_all, told_gens, told_dom}
 use Rattle.ess_given_laws.specs.PartsHave.{AllHave, GensHave}
 use Rattle.ess_given_laws.specs.Given.{all_bound, is_fixed, are_fixed, are_fixed_gens, is_fixed_dom, given, GivenIn}
 use Rattle.ess_given_laws.proofs.FixedTrees.{both-so}

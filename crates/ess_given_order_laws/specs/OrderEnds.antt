@@ -7,7 +7,7 @@ use Rattle.ess_semantics.specs.Trees.{Op, word, binary, Ex, Exs, number_ex, trut
 use Rattle.ess_semantics.specs.Types.{Ty}
 use Rattle.ess_semantics.specs.Occurrences.{parts_of}
 use Rattle.ess_semantics.specs.Refined.{is_refined}
-use Rattle.ess_chain_names_laws.specs.Steps.{Chain}
+use Rattle.ess_given_laws.specs.ess_chain_names_laws.Steps.{Chain}
 use Rattle.ess_given_laws.specs.Given.{GivenIn}
 use Rattle.ess_given_laws.specs.GivenEnds.{reads_given, domains_read_given}
 use Rattle.ess_given_conditions_laws.specs.GrowingNames.{HasNoneFrom, Grows}

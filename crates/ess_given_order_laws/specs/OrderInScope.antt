@@ -6,8 +6,8 @@ use Rattle.ess_semantics.specs.Trees.{Ex, Exs, number_ex, truth_ex, name_ex, nod
 use Rattle.ess_semantics.specs.Types.{Ty}
 use Rattle.ess_semantics.specs.ExpressionJudgements.{forgets_order}
 use Rattle.ess_semantics.specs.Refined.{is_refined}
-use Rattle.conjure_model_laws.specs.ToldApart.{told, told_apart}
-use Rattle.ess_chain_names_laws.specs.Steps.{Chain}
+use Rattle.ess_given_laws.specs.conjure_model_laws.ToldApart.{told, told_apart}
+use Rattle.ess_given_laws.specs.ess_chain_names_laws.Steps.{Chain}
 use Rattle.ess_given_laws.specs.Given.{GivenIn}
 use Rattle.ess_given_conditions_laws.specs.InScope.{bound_as, is_fixed_in, fixed_behind, is_given_in}
 use Rattle.ess_given_conditions_laws.specs.GrowingNames.{HasNoneFrom, Grows}

@@ -6,7 +6,7 @@ use Rattle.ess_semantics.specs.Trees.{Ex, comp_ex, fun1}
 use Rattle.ess_semantics.specs.Types.{Ty}
 use Rattle.ess_semantics.specs.Contexts.{In, fill}
 use Rattle.ess_refine_laws.specs.AllRules.{Rule, least_under_a_condition, Supply, opposite_copied, rewrite}
-use Rattle.ess_chain_names_laws.specs.Steps.{Chain}
+use Rattle.ess_given_laws.specs.ess_chain_names_laws.Steps.{Chain}
 use Rattle.ess_given_laws.specs.Given.{is_fixed, GivenIn}
 use Rattle.ess_given_laws.specs.GivenStays.{NewGiven}
 use Rattle.ess_given_conditions_laws.specs.GrowingNames.{HasNoneFrom, Grows}

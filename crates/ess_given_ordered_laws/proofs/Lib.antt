@@ -1,3 +1,5 @@
+-- What callers name of libraries below
+pub use Rattle.ess_given_opened_laws.proofs as ess_given_opened_laws
 -- Conditions that are gathered
 pub mod PartsOfGathering
 -- Items by their numbers

@@ -9,8 +9,8 @@ use Rattle.ess_open_rules_laws.specs.OpenRules.{of_kind, of_opening}
 use Rattle.ess_given_laws.proofs.GivenStays.{given-stays}
 use Rattle.ess_given_order_laws.proofs.OrderStays.{order-stays}
 use Rattle.ess_given_offers_laws.specs.Seen.{Counts}
-use Rattle.ess_given_kinds_laws.proofs.GivenKinds.{kinds-keep-given}
-use Rattle.ess_given_opened_laws.proofs.OpenedOrder.{opened-stays}
+use Rattle.ess_given_kind_steps_laws.proofs.ess_given_kinds_laws.GivenKinds.{kinds-keep-given}
+use Rattle.ess_given_ordered_laws.proofs.ess_given_opened_laws.OpenedOrder.{opened-stays}
 use Rattle.ess_given_ordered_laws.proofs.OrderedStays.{ordered-stays, gathering-stays}
 use Rattle.ess_given_rulings_laws.specs.GivenRulings.{GivenRuling, plainly, by_kind, gathering, by_order, made_by, Takes, StaysInRule}
 

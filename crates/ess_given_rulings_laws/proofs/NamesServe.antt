@@ -18,8 +18,8 @@ use Rattle.ess_given_laws.specs.Given.{is_fixed}
 use Rattle.ess_given_laws.proofs.FixedTrees.{fixed, fixed-has, has-fixed}
 use Rattle.ess_given_conditions_laws.proofs.Assigned.{Assigned}
 use Rattle.ess_given_conditions_laws.proofs.MoreFixed.{fixed-among}
-use Rattle.ess_given_opened_laws.specs.OpenedStays.{EachAs, AllAs, SourceNames, OpenedNames, PickedNames, PlaceNames, NamesInPlace, NewOpened}
-use Rattle.ess_given_opened_laws.proofs.PartsOfOpenings.{OpenedHas, opened-has}
+use Rattle.ess_given_ordered_laws.specs.ess_given_opened_laws.OpenedStays.{EachAs, AllAs, SourceNames, OpenedNames, PickedNames, PlaceNames, NamesInPlace, NewOpened}
+use Rattle.ess_given_ordered_laws.proofs.ess_given_opened_laws.PartsOfOpenings.{OpenedHas, opened-has}
 use Rattle.ess_given_ordered_laws.specs.OrderedNames.{NamesAlong}
 use Rattle.ess_given_rulings_laws.specs.OpeningSteps.{PickKept, PicksKept}
 use Rattle.ess_given_rulings_laws.proofs.Roles.{same, outs, all_alike, source_roles, place_roles, source_behind, place_behind, opened_roles, in_place_roles, picked_roles, roles_of, same-names, all-names, along-names, outside-of, NamesAs}

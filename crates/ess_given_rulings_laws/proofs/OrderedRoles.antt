@@ -12,7 +12,7 @@ use Rattle.ess_given_laws.specs.PartsHave.{PartsHave}
 use Rattle.ess_given_laws.specs.Given.{is_fixed}
 use Rattle.ess_given_laws.proofs.FixedTrees.{fixed, fixed-has, has-fixed}
 use Rattle.ess_given_conditions_laws.proofs.Assigned.{Assigned}
-use Rattle.ess_given_opened_laws.specs.OpenedStays.{EachAs}
+use Rattle.ess_given_ordered_laws.specs.ess_given_opened_laws.OpenedStays.{EachAs}
 use Rattle.ess_given_ordered_laws.specs.OrderedNames.{OfEither, rewritten_operand, ItemNames, TermNames, NewOrdered}
 use Rattle.ess_given_ordered_laws.proofs.PartsOfOperands.{rewritten-has}
 use Rattle.ess_given_rulings_laws.proofs.Roles.{same, same-length, outs, outs-length, Roles, all_alike, same-names, all-names, along-names, NamesAs}

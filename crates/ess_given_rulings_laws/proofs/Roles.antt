@@ -17,7 +17,7 @@ use Rattle.ess_open_rules_laws.specs.OpenGenerators.{Opened, at_first_open}
 use Rattle.ess_open_rules_laws.specs.OpenRules.{OpenRule, over_one_source, over_what_is_picked, least_over_several, set_over_several, in_order_of_its_source}
 use Rattle.ess_given_laws.specs.Given.{is_fixed}
 use Rattle.ess_given_conditions_laws.proofs.Assigned.{Assigned}
-use Rattle.ess_given_opened_laws.specs.OpenedStays.{EachAs, OutsideAlong}
+use Rattle.ess_given_ordered_laws.specs.ess_given_opened_laws.OpenedStays.{EachAs, OutsideAlong}
 use Rattle.ess_given_ordered_laws.specs.OrderedNames.{OfEither, NamesAlong}
 
 -- ---- lists of truth values

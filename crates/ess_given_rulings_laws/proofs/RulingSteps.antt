@@ -29,9 +29,9 @@ use Rattle.ess_given_conditions_laws.proofs.MoreFixed.{fixed-among, given-among}
 use Rattle.ess_given_order_laws.proofs.OrderStays.{order-stays}
 use Rattle.ess_given_offers_laws.specs.Seen.{Counts}
 use Rattle.ess_given_kind_steps_laws.specs.GivenKindSteps.{StepOrders}
-use Rattle.ess_given_opened_laws.specs.OpenedStays.{NewOpened}
-use Rattle.ess_given_opened_laws.proofs.OpenedOrder.{opened-stays}
-use Rattle.ess_given_opened_laws.proofs.PartsOfOpenings.{OpenedHas, opened-has}
+use Rattle.ess_given_ordered_laws.specs.ess_given_opened_laws.OpenedStays.{NewOpened}
+use Rattle.ess_given_ordered_laws.proofs.ess_given_opened_laws.OpenedOrder.{opened-stays}
+use Rattle.ess_given_ordered_laws.proofs.ess_given_opened_laws.PartsOfOpenings.{OpenedHas, opened-has}
 use Rattle.ess_given_ordered_laws.specs.OrderedNames.{NewOrdered}
 use Rattle.ess_given_ordered_laws.proofs.OrderedStays.{ordered-stays, gathering-stays}
 use Rattle.ess_given_rulings_laws.specs.OpeningSteps.{PickKept, PicksKept}

@@ -14,8 +14,8 @@ use Rattle.ess_given_laws.specs.GivenStays.{NewGiven}
 use Rattle.ess_given_order_laws.specs.InOrder.{in_order, Ordered}
 use Rattle.ess_given_order_laws.specs.OrderStays.{TakesOrder}
 use Rattle.ess_given_offers_laws.specs.Seen.{Counts}
-use Rattle.ess_given_kinds_laws.specs.GivenKinds.{NewOfKinds}
-use Rattle.ess_given_opened_laws.specs.OpenedStays.{NewOpened}
+use Rattle.ess_given_kind_steps_laws.specs.ess_given_kinds_laws.GivenKinds.{NewOfKinds}
+use Rattle.ess_given_ordered_laws.specs.ess_given_opened_laws.OpenedStays.{NewOpened}
 use Rattle.ess_given_ordered_laws.specs.OrderedNames.{NewOrdered}
 
 -- A rule of each sort.

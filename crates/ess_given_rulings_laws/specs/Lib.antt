@@ -1,3 +1,5 @@
+-- What callers name of libraries below
+pub use Rattle.ess_given_ordered_laws.specs.ess_given_opened_laws as ess_given_opened_laws
 -- Rules of all sorts
 pub mod GivenRulings
 -- What steps of openings count on

@@ -11,7 +11,7 @@ use Rattle.ess_open_rules_laws.specs.OpenGenerators.{at_first_open}
 use Rattle.ess_open_rules_laws.specs.OpenSources.{in_order_told}
 use Rattle.ess_open_rules_laws.specs.OpenRules.{OpenRule, in_order_of_its_source}
 use Rattle.ess_given_laws.specs.Given.{is_fixed}
-use Rattle.ess_given_opened_laws.specs.OpenedStays.{GensKept}
+use Rattle.ess_given_ordered_laws.specs.ess_given_opened_laws.OpenedStays.{GensKept}
 use Rattle.ess_given_ordered_laws.specs.OrderedNames.{NamesAlong}
 
 -- Where a source that isn't fixed is picked in order, its conditions are fixed where they read no table, for names v in which the third new

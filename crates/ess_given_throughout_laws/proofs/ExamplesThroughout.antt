@@ -8,7 +8,7 @@ use Rattle.ess_semantics.specs.Order.{same_text}
 use Rattle.ess_semantics.specs.Trees.{repr, no_reprs, more_reprs, name_pat, Ex, comp_ex, cell_ex, seen_ex, no_exs, no_gens, over, from, cond, bool_dom, matrix_dom, no_doms, more_doms, ex2}
 use Rattle.ess_semantics.proofs.Shorthands.{N, n, bi, es1, upto}
 use Rattle.ess_given_laws.specs.Given.{is_fixed}
-use Rattle.ess_given_opened_laws.specs.OpenedStays.{GensKept}
+use Rattle.ess_given_rulings_laws.specs.ess_given_opened_laws.OpenedStays.{GensKept}
 use Rattle.ess_given_rulings_laws.specs.RulingChains.{BothCountFixed}
 
 abbrev i : Text

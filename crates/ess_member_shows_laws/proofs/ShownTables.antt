@@ -35,7 +35,7 @@ use Rattle.conjure_model_laws.specs.ToldApart.{reserved}
 use Rattle.conjure_model_laws.specs.Shown.{Shows, shows_of}
 use Rattle.conjure_model_laws.specs.IsBuiltFrom.{constraint_tree, structure_tree, channel_trees, with_whole_names, declared_of, taken_names}
 use Rattle.conjure_model_laws.specs.Printed.{q_names, printed_name}
-use Rattle.ess_member_trees_laws.specs.Memberships.{Literal, a_number, a_truth, asked}
+use Rattle.ess_member_models_laws.specs.ess_member_trees_laws.Memberships.{Literal, a_number, a_truth, asked}
 use Rattle.ess_member_models_laws.specs.MemberModels.{shown_literal, axis_at, table_decl}
 use Rattle.ess_member_models_laws.proofs.MemberTables.{axis-is}
 use Rattle.ess_member_shows_laws.specs.Laws.{IsShown, MembershipsAreShown}

@@ -11,7 +11,7 @@ use Rattle.conjure_laws.specs.ModelsOfSets.{no_options, table_of}
 use Rattle.conjure_model_laws.specs.Shown.{shows_of}
 use Rattle.conjure_model_laws.specs.IsBuiltFrom.{constraint_tree, structure_tree, channel_trees, declared_of, taken_names}
 use Rattle.conjure_model_laws.specs.Printed.{printed_name}
-use Rattle.ess_member_trees_laws.specs.Memberships.{Literal, Axis, asked}
+use Rattle.ess_member_models_laws.specs.ess_member_trees_laws.Memberships.{Literal, Axis, asked}
 use Rattle.ess_member_models_laws.specs.MemberModels.{shown_literal, places, planned, axis_at, table_decl}
 
 -- The tree of a constraint that a literal is in a find: a membership in a set over an axis.

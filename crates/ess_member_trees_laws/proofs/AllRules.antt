@@ -5,7 +5,7 @@ use Rattle.ess_semantics.specs.Names.{Names}
 use Rattle.ess_semantics.specs.Trees.{Ex, Dom}
 use Rattle.ess_semantics.specs.Types.{Ty}
 use Rattle.ess_refine_laws.specs.AllRules.{Supply, Rule, rewrite}
-use Rattle.ess_open_rules_laws.specs.OpenRules.{KindRuling, of_kind, of_opening, kind_ruled}
+use Rattle.ess_flat_laws.specs.ess_open_rules_laws.OpenRules.{KindRuling, of_kind, of_opening, kind_ruled}
 use Rattle.ess_gathered_laws.specs.GatheredConditions.{conditions_gathered}
 use Rattle.ess_member_trees_laws.specs.Memberships.{Literal, a_number, a_truth, at_number, at_cell, Axis, Part, literal_part, bound_part, name_part, view_part, asked_part, cell_part, named_part, it_part, items_of_set, set_part, items_where, where_part, bare_items, bare_part, bare_both, it_both, items_bare, with_bare_part, items_it, with_it_part, list_part, listed_part, Becomes, Made}
 use Rattle.ess_member_trees_laws.proofs.PlainRules as P

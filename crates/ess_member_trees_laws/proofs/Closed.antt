@@ -8,7 +8,7 @@ use Rattle.ess_semantics.specs.Names.{Names, look}
 use Rattle.ess_semantics.specs.Trees.{binary, word, matrix_literal, name_pat, Ex, name_ex, node_ex, comp_ex, no_exs, more_exs, no_gens, over, Dom}
 use Rattle.ess_semantics.specs.Types.{Ty, type_of_dom, bind_types}
 use Rattle.ess_semantics.proofs.Texts.{same_text-itself}
-use Rattle.ess_open_rules_laws.specs.OpenRules.{is_compound_ty}
+use Rattle.ess_flat_laws.specs.ess_open_rules_laws.OpenRules.{is_compound_ty}
 use Rattle.ess_member_trees_laws.specs.PartSteps.{Step, DomStep}
 use Rattle.ess_member_trees_laws.specs.Memberships.{Literal, a_number, a_truth, Bound, at_number, at_cell, Axis, truths, numbers, view, cell_at, is_it, some_of, OverDomain, a_cell, a_bare, an_it, Family, as_asked, the_cell, of_set, folded, listed, Plainly, Part, literal_part, bound_part, name_part, view_part, asked_part, cell_part, named_part, it_part, items_of_set, set_part, items_where, where_part, bare_items, bare_part, bare_both, it_both, items_bare, with_bare_part, items_it, with_it_part, list_part, listed_part, Becomes}
 

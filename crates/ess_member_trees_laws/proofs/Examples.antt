@@ -5,8 +5,8 @@ use Rattle.ess_semantics.specs.Values.{Text}
 use Rattle.ess_semantics.specs.Trees.{both_ends, Ex, number_ex, name_ex, no_exs, more_exs, no_gens, Dom, bool_dom, int_dom}
 use Rattle.ess_semantics.specs.Refined.{is_refined}
 use Rattle.ess_refine_laws.specs.AllRules.{Supply, rewrite, in_a_term, over_one, over_one_binding, over_a_source, condition}
-use Rattle.ess_kind_rules_laws.specs.KindRules.{kind_rewrite, member_at_a_cell, over_a_view, of_one_view}
-use Rattle.ess_open_rules_laws.specs.OpenRules.{open_rewrite, over_one_source, in_order_of_its_source}
+use Rattle.ess_flat_laws.specs.ess_kind_rules_laws.KindRules.{kind_rewrite, member_at_a_cell, over_a_view, of_one_view}
+use Rattle.ess_flat_laws.specs.ess_open_rules_laws.OpenRules.{open_rewrite, over_one_source, in_order_of_its_source}
 use Rattle.ess_member_trees_laws.specs.Memberships.{asked, cell_at, is_it, some_of, over_set, where_cell, with_bare, with_it, alone}
 
 abbrev n : Text

@@ -8,7 +8,7 @@ use Rattle.ess_semantics.specs.Types.{Ty}
 use Rattle.ess_semantics.specs.Substitution.{for_name}
 use Rattle.ess_semantics.proofs.Texts.{same_text-itself}
 use Rattle.ess_refine_laws.specs.AllRules.{Supply}
-use Rattle.ess_kind_rules_laws.specs.KindRules.{KindRule, kind_rewrite, cell_of_an_atom, over_a_view, of_one_view, member_at_a_cell}
+use Rattle.ess_flat_laws.specs.ess_kind_rules_laws.KindRules.{KindRule, kind_rewrite, cell_of_an_atom, over_a_view, of_one_view, member_at_a_cell}
 use Rattle.ess_member_trees_laws.specs.Memberships.{Literal, a_number, a_truth, Bound, at_number, at_cell, view, asked, cell_at, is_it, some_of, over_set, alone, OverDomain, a_cell, a_bare, an_it, asked_part, set_part, Made}
 
 -- What stands in the place of the name itself.

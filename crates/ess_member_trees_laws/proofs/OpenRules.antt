@@ -7,7 +7,7 @@ use Rattle.ess_semantics.specs.Names.{Names}
 use Rattle.ess_semantics.specs.Trees.{Ex, name_ex, Dom, ex2, matrix_literal, node_ex, more_exs, no_exs, comp_ex, from, over, cond, no_gens, name_pat}
 use Rattle.ess_semantics.specs.Types.{Ty}
 use Rattle.ess_refine_laws.specs.AllRules.{Supply}
-use Rattle.ess_open_rules_laws.specs.OpenRules.{OpenRule, open_rewrite, step_by_step, of_a_pick, over_one_source, gives_scalar}
+use Rattle.ess_flat_laws.specs.ess_open_rules_laws.OpenRules.{OpenRule, open_rewrite, step_by_step, of_a_pick, over_one_source, gives_scalar}
 use Rattle.ess_member_trees_laws.proofs.KindRules.{put-itself}
 use Rattle.ess_member_trees_laws.specs.Memberships.{Literal, a_number, a_truth, Bound, at_number, at_cell, Axis, truths, numbers, view, asked, cell_at, is_it, some_of, over_set, alone, OverDomain, a_cell, a_bare, an_it, set_part, Made}
 

@@ -7,7 +7,7 @@ use Rattle.ess_semantics.specs.Types.{Ty}
 use Rattle.ess_semantics.specs.Contexts.{In, fill}
 use Rattle.ess_semantics.specs.NamesAt.{names_at}
 use Rattle.ess_refine_laws.specs.AllRules.{Supply, Rule, rewrite}
-use Rattle.ess_open_rules_laws.specs.OpenRules.{KindRuling, kind_ruled}
+use Rattle.ess_flat_laws.specs.ess_open_rules_laws.OpenRules.{KindRuling, kind_ruled}
 use Rattle.ess_gathered_laws.specs.GatheredConditions.{conditions_gathered}
 use Rattle.ess_member_trees_laws.specs.Memberships.{Literal, Axis, Family, Part, Made}
 

@@ -9,7 +9,7 @@ use Rattle.ess_semantics.specs.Names.{Names}
 use Rattle.ess_semantics.specs.Trees.{repr, no_reprs, matrix_literal, name_pat, both_ends, Ex, number_ex, truth_ex, name_ex, node_ex, comp_ex, cell_ex, seen_ex, no_exs, more_exs, Gens, no_gens, over, from, cond, Dom, bool_dom, int_dom, set_dom, ex2, fun1}
 use Rattle.ess_semantics.specs.Types.{Ty}
 use Rattle.ess_semantics.specs.Typing.{type_of}
-use Rattle.ess_open_rules_laws.specs.OpenRules.{is_compound_ty}
+use Rattle.ess_flat_laws.specs.ess_open_rules_laws.OpenRules.{is_compound_ty}
 
 -- ---- literals and domains of members
 

@@ -11,7 +11,7 @@ use Rattle.ess_semantics.specs.Trees.{Repr, repr, no_reprs, more_reprs, both_end
 use Rattle.ess_semantics.specs.Plans.{plans, finds_side, plans_for}
 use Rattle.ess_semantics.specs.ModelTrees.{Model, least}
 use Rattle.std.specs.Prelude.{map}
-use Rattle.ess_member_rules_laws.specs.WrittenForms.{by_number}
+use Rattle.ess_member_shows_laws.specs.ess_member_rules_laws.WrittenForms.{by_number}
 use Rattle.ess_flat_models_laws.specs.FlatSpecifications.{is_flat_specification}
 use Rattle.ess_mixed_models_laws.specs.MixedSpecifications.{kinds, is_mixed_specification}
 use Rattle.ess_mixed_models_laws.specs.MixedModels.{mixed_decl, mixed_decls, of_flat, of_membership, of_flat_number, of_least, IsMixedModel}

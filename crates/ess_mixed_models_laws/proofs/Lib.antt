@@ -1,3 +1,6 @@
+-- What callers name of libraries below
+pub use Rattle.ess_setwise_laws.proofs as ess_setwise_laws
+pub use Rattle.ess_setwise_laws.proofs.ess_seen_laws as ess_seen_laws
 -- Values of what is written for memberships
 pub mod MemberTests
 pub mod MemberKinds

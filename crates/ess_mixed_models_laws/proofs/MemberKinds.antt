@@ -10,8 +10,8 @@ use Rattle.ess_semantics.specs.DeclaredTables.{TableDecl}
 use Rattle.ess_semantics.specs.Meaning.{is_bool_dom}
 use Rattle.ess_semantics.specs.ModelMeaning.{Kinded, kinded, kinded_dom, kinded_name, kinded_cell, kinded_node, cell_kind, broken, declaration_of}
 use Rattle.ess_semantics.proofs.Texts.{same_text-itself}
-use Rattle.ess_member_trees_laws.specs.Memberships.{cell_at, is_it, some_of}
-use Rattle.ess_member_rules_laws.specs.WrittenForms.{index_of, at_number, where_index, with_index, Alike, as_numbers, as_truths}
+use Rattle.ess_member_shows_laws.specs.ess_member_trees_laws.Memberships.{cell_at, is_it, some_of}
+use Rattle.ess_member_shows_laws.specs.ess_member_rules_laws.WrittenForms.{index_of, at_number, where_index, with_index, Alike, as_numbers, as_truths}
 
 -- The bound name is not empty.
 module _ (c : ℕ) (cs : Text) where

@@ -16,8 +16,8 @@ use Rattle.ess_semantics.specs.Meaning.{Env, meaning, collect, where_true, cell_
 use Rattle.ess_semantics.specs.ModelMeaning.{kinded_dom, env_of_tables, model_value}
 use Rattle.ess_semantics.proofs.Texts.{same_text-itself}
 use Rattle.ess_semantics.proofs.Connectives.{any-means, and-means, bits, collect-bits, any-bits}
-use Rattle.ess_member_trees_laws.specs.Memberships.{cell_at, is_it, some_of}
-use Rattle.ess_member_rules_laws.specs.WrittenForms.{index_of, at_number, Written, by_number, by_condition, by_conjunction, IsNumber, IsTruth, Alike, as_numbers, as_truths, IsTable}
+use Rattle.ess_member_shows_laws.specs.ess_member_trees_laws.Memberships.{cell_at, is_it, some_of}
+use Rattle.ess_member_shows_laws.specs.ess_member_rules_laws.WrittenForms.{index_of, at_number, Written, by_number, by_condition, by_conjunction, IsNumber, IsTruth, Alike, as_numbers, as_truths, IsTable}
 use Rattle.ess_mixed_models_laws.proofs.MemberTests.{each-map-in, any-one, not-there, kept, any-kept, collect-kept}
 use Rattle.ess_mixed_models_laws.proofs.MemberKinds.{kind-with, kind-where, kind-number}
 

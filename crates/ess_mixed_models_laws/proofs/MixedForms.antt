@@ -18,7 +18,7 @@ use Rattle.ess_semantics.proofs.Tests.{and-left, and-right}
 use Rattle.ess_semantics.proofs.Texts.{same_text-equal}
 use Rattle.ess_simplify_laws.specs.Simplifying.{simplified}
 use Rattle.conjure_laws.specs.SideBySide.{Along}
-use Rattle.ess_flat_laws.specs.Flat.{two_mark, as_marked, flat_mark, none_marked}
+use Rattle.ess_flat_models_laws.specs.ess_flat_laws.Flat.{two_mark, as_marked, flat_mark, none_marked}
 use Rattle.ess_flat_models_laws.specs.FlatSpecifications.{scalar_mark, is_of_truths, is_flat_truth, has_marks}
 use Rattle.ess_flat_models_laws.specs.FlatModels.{flat_rule}
 use Rattle.ess_flat_models_laws.proofs.PreparedStatements.{truth-flat, NoLetting, put-flat, resolve-flat}

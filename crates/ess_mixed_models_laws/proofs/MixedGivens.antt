@@ -26,7 +26,7 @@ use Rattle.conjure_laws.proofs.Statements.{plan-is-found}
 use Rattle.conjure_laws.proofs.Givens.{given-found, given-from}
 use Rattle.conjure_settled_laws.specs.EndValues.{IsInEnv}
 use Rattle.conjure_settled_laws.proofs.EndValues.{typed-has-end-values}
-use Rattle.ess_flat_laws.specs.Flat.{none_marked}
+use Rattle.ess_flat_models_laws.specs.ess_flat_laws.Flat.{none_marked}
 use Rattle.ess_flat_models_laws.specs.FlatSpecifications.{given_mark, is_scalar_dom, is_atom_alone}
 use Rattle.ess_flat_models_laws.specs.FlatModels.{dom_with_cells}
 use Rattle.ess_flat_models_laws.proofs.Reckoned.{Numbered, Held, AllReckoned, reckoned-flat, cells-reckoned, bounds-reckoned}

@@ -21,7 +21,7 @@ use Rattle.ess_semantics.specs.Models.{objective_at}
 use Rattle.ess_semantics.proofs.Tests.{and-left, and-right}
 use Rattle.conjure_laws.specs.Premises.{Instance, IsSettled}
 use Rattle.conjure_laws.specs.ModelPremises.{Canonical, GoalMeans}
-use Rattle.ess_flat_laws.specs.Flat.{Flat, none_marked}
+use Rattle.ess_flat_models_laws.specs.ess_flat_laws.Flat.{Flat, none_marked}
 use Rattle.ess_flat_models_laws.specs.FlatSpecifications.{scalar_mark, is_flat_number}
 use Rattle.ess_flat_models_laws.specs.FlatModels.{goal_rules}
 use Rattle.ess_flat_models_laws.proofs.PreparedStatements.{number-flat}

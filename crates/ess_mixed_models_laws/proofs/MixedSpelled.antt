@@ -26,7 +26,7 @@ use Rattle.conjure_laws.specs.ModelsOfSets.{table_of, axis_for}
 use Rattle.conjure_laws.proofs.Lists.{each-append}
 use Rattle.conjure_model_laws.specs.Printed.{printed_name}
 use Rattle.conjure_model_laws.specs.IsBuiltFrom.{taken_names}
-use Rattle.ess_flat_laws.specs.Flat.{Flat, none_marked}
+use Rattle.ess_flat_models_laws.specs.ess_flat_laws.Flat.{Flat, none_marked}
 use Rattle.ess_flat_models_laws.specs.FlatSpecifications.{scalar_mark}
 use Rattle.ess_flat_models_laws.specs.FlatModels.{flat_rule, goal_rules}
 use Rattle.ess_flat_models_laws.proofs.PreparedStatements.{truth-flat, number-flat}
@@ -36,7 +36,7 @@ use Rattle.ess_flat_models_laws.proofs.FlatValues.{Marked, a_truth as truth_mark
 use Rattle.ess_flat_models_laws.proofs.FlatSimplified.{simpler}
 use Rattle.ess_flat_models_laws.proofs.FlatCells.{numbers-stay, cells-flat}
 use Rattle.ess_flat_models_laws.proofs.FlatTexts.{IsConst, numbers-spelled, statements-spelled, flat-simple}
-use Rattle.ess_member_rules_laws.specs.WrittenForms.{Written, by_number, by_condition, by_conjunction}
+use Rattle.ess_member_shows_laws.specs.ess_member_rules_laws.WrittenForms.{Written, by_number, by_condition, by_conjunction}
 use Rattle.ess_mixed_models_laws.specs.MixedSpecifications.{kinds, places, are_mixed_statements}
 use Rattle.ess_mixed_models_laws.specs.MixedModels.{axis_of, shown_value, IsRuleOf, of_flat, of_membership, of_setwise, IsNumberOf, of_flat_number, of_setwise_number, IsGoalOf, of_no_goal, of_least, of_greatest}
 use Rattle.ess_mixed_models_laws.proofs.MemberValues.{literal_code}

@@ -29,7 +29,7 @@ use Rattle.conjure_laws.proofs.MatchedTables.{Found, matched-found}
 use Rattle.conjure_model_laws.proofs.ViewValues.{views-have-values}
 use Rattle.conjure_settled_laws.specs.EndValues.{IsInEnv}
 use Rattle.conjure_settled_laws.proofs.EndValues.{typed-has-end-values}
-use Rattle.ess_flat_laws.specs.Flat.{Flat, none_marked}
+use Rattle.ess_flat_models_laws.specs.ess_flat_laws.Flat.{Flat, none_marked}
 use Rattle.ess_flat_models_laws.specs.FlatSpecifications.{given_mark, is_scalar_dom, scalar_mark}
 use Rattle.ess_flat_models_laws.specs.FlatModels.{flat_rule, dom_with_cells}
 use Rattle.ess_flat_models_laws.proofs.ScalarDomains.{Atom, is_shape, closed-plain, closed-scalar}

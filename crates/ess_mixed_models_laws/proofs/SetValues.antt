@@ -43,7 +43,7 @@ use Rattle.conjure_laws.proofs.SetPlans.{Occ}
 use Rattle.conjure_laws.proofs.SetScopes.{look-past, count_of}
 use Rattle.conjure_settled_laws.specs.EndValues.{IsInEnv}
 use Rattle.conjure_settled_laws.proofs.EndValues.{typed-has-end-values}
-use Rattle.ess_member_rules_laws.specs.WrittenForms.{Written, IsNumber, Alike, as_numbers, as_truths, IsTable}
+use Rattle.ess_member_shows_laws.specs.ess_member_rules_laws.WrittenForms.{Written, IsNumber, Alike, as_numbers, as_truths, IsTable}
 use Rattle.ess_mixed_models_laws.specs.MixedSpecifications.{kinds, places, members_of, is_of_kind, has_printed_name, is_membership, are_mixed_statements, is_kept_by_members}
 use Rattle.ess_mixed_models_laws.specs.MixedModels.{mixed_decl, shown_value, axis_of, IsMembershipRule}
 use Rattle.ess_mixed_models_laws.proofs.MemberValues.{literal_code, value}

@@ -26,7 +26,7 @@ use Rattle.conjure_model_laws.specs.IsBuiltFrom.{taken_names, with_whole_names}
 use Rattle.ess_flat_models_laws.specs.FlatSpecifications.{is_flat_truth, is_flat_number}
 use Rattle.ess_flat_models_laws.specs.FlatModels.{decl_of, flat_rule, goal_rules}
 use Rattle.ess_setwise_laws.specs.Objectives.{NumberMeans}
-use Rattle.ess_member_rules_laws.specs.WrittenForms.{Written}
+use Rattle.ess_member_shows_laws.specs.ess_member_rules_laws.WrittenForms.{Written}
 use Rattle.ess_mixed_models_laws.specs.MixedSpecifications.{kinds, places, members_of, is_membership, is_nested_plan, is_setwise_constraint, is_setwise_objective}
 
 -- What is declared of a plan: at least 1 for the size of a given type, a table of truth values over the members for a set, where an axis of

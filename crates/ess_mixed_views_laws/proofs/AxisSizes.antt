@@ -12,7 +12,7 @@ use Rattle.ess_semantics.specs.Domains.{same_key}
 use Rattle.ess_semantics.specs.Trees.{both_ends, Mark, Repr, Ex, Exs, number_ex, no_exs, more_exs, Dom, int_dom, set_dom, ex2}
 use Rattle.ess_repr_declare_laws.specs.SizeTerms.{is_numeral, span_ex, span_by, next_ex, number_of, greatest_size_of, bound_ex, slots_ex}
 use Rattle.ess_nested_laws.proofs.NestedForms.{written_range, Sizes, no_sizes, one_size, WrittenAtom, written_truths, written_numbers, KeptAs, as_atom, by_occurrence, with_a_dummy, in_slots, with_a_marker, with_flags}
-use Rattle.ess_seen_laws.specs.Seen.{Counted, so_many, from_to, from_0, subsets}
+use Rattle.ess_mixed_models_laws.specs.ess_seen_laws.Seen.{Counted, so_many, from_to, from_0, subsets}
 
 -- ---- terms of numerals
 

@@ -25,8 +25,8 @@ use Rattle.ess_rules_laws.proofs.SlotNumbers.{slots-members}
 use Rattle.ess_repr_laws.specs.StructureParts.{upto}
 use Rattle.conjure_laws.proofs.NamedTables.{same_axes-equal}
 use Rattle.conjure_laws.proofs.Occurrence.{there-is}
-use Rattle.ess_seen_laws.specs.Filled.{AreSlots, no_slot, more_slots, HasCell}
-use Rattle.ess_seen_laws.proofs.Counts.{counted-means}
+use Rattle.ess_mixed_models_laws.specs.ess_seen_laws.Filled.{AreSlots, no_slot, more_slots, HasCell}
+use Rattle.ess_mixed_models_laws.proofs.ess_seen_laws.Counts.{counted-means}
 use Rattle.ess_mixed_views_laws.proofs.AxisSizes.{SlotTerm, numeral_term, next_term, span_term, power_term, slot-counted, count_of, count-term, axis_size}
 
 -- ---- numbers of a run

@@ -14,8 +14,8 @@ use Rattle.ess_repr_declare_laws.specs.DeclaredTrees.{axis_dom, below_layer, tre
 use Rattle.conjure_model_laws.specs.IsBuiltFrom.{with_whole_names}
 use Rattle.ess_nested_laws.specs.NestedDomains.{is_size_key, are_written_sizes, is_written_atom}
 use Rattle.ess_nested_laws.proofs.NestedForms.{Sizes, no_sizes, one_size, WrittenAtom, written_truths, written_numbers, written_range, KeptAs, as_atom, by_occurrence, with_a_dummy, in_slots, with_a_marker, with_flags}
-use Rattle.ess_seen_laws.specs.Seen as seen
-use Rattle.ess_seen_laws.specs.Seen.{Keeps}
+use Rattle.ess_mixed_models_laws.specs.ess_seen_laws.Seen as seen
+use Rattle.ess_mixed_models_laws.specs.ess_seen_laws.Seen.{Keeps}
 use Rattle.ess_mixed_views_laws.proofs.AxisSizes.{axis_size, kept-slots, slots-counted, dummy-counted}
 
 -- ---- tests

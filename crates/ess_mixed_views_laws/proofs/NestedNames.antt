@@ -18,7 +18,7 @@ use Rattle.conjure_laws.proofs.TableCounts.{names-wide, named-long}
 use Rattle.ess_flat_models_laws.proofs.ScalarDomains.{Atom, is_shape}
 use Rattle.ess_nested_laws.specs.NestedDomains.{is_nested_dom}
 use Rattle.ess_nested_laws.proofs.NestedForms.{WrittenAtom, written_truths, written_numbers, NestedSet, of_atoms, of_sets, nested-form}
-use Rattle.ess_seen_laws.specs.Seen.{Kind, kind_of}
+use Rattle.ess_mixed_models_laws.specs.ess_seen_laws.Seen.{Kind, kind_of}
 use Rattle.ess_mixed_models_laws.specs.MixedSpecifications.{kinds, kind_of_members, nested_kind, are_mixed_statements}
 use Rattle.ess_mixed_models_laws.proofs.NamedKinds.{no-yes, no-some, MemberDom, of_numbers, of_truths, of_type}
 use Rattle.ess_mixed_models_laws.proofs.MixedPlans.{PlanFact, size_fact, atom_fact, set_fact, nested_fact, all-facts}

@@ -6,8 +6,8 @@ use Rattle.ess_semantics.specs.Names.{Names, look}
 use Rattle.ess_semantics.specs.Trees.{Ex, Exs, number_ex, no_exs, more_exs, Gens}
 use Rattle.ess_semantics.specs.Refined.{is_refined, are_refined, are_refined_gens}
 use Rattle.ess_flat_laws.specs.Flat.{sum, difference}
-use Rattle.ess_bare_laws.specs.Lean as lean
-use Rattle.ess_bare_laws.specs.Lean.{FoldWord, as_scalar, as_number, Ended}
+use Rattle.ess_seen_laws.specs.ess_bare_laws.Lean as lean
+use Rattle.ess_seen_laws.specs.ess_bare_laws.Lean.{FoldWord, as_scalar, as_number, Ended}
 use Rattle.ess_seen_laws.specs.Seen.{Kind, scalars, sets_of, Bound, over_a_range, over_slots, from_a_set, bound_kind, Counted, so_many, from_to, from_0, subsets, none_below, counted_axes, Places, no_place, at_slot, SetTerm, view, drawn, combined, Seen, number, truth, named, counted, figure, flag, atom, one, two, chosen, folded, of_items, size, within, set_within, compared, Listed, last_item, item_before, Indices, no_index, one_index, Going, at_end, through, through_slots, among, where_holds, truths, numbers}
 use Rattle.ess_seen_ended_laws.proofs.Tests.{both-of, one-refined, sized-refined, chosen-refined, two-refined, fold-refined, items-refined, combined-refined, compared-refined}
 

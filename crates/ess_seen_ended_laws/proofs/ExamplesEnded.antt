@@ -8,7 +8,7 @@ use Rattle.ess_semantics.specs.Order.{same_text}
 use Rattle.ess_semantics.specs.Trees.{both_ends, name_pat, Ex, number_ex, name_ex, comp_ex, cell_ex, no_exs, more_exs, no_gens, over, cond, int_dom, ex1, ex2, fun1}
 use Rattle.ess_semantics.specs.Refined.{is_refined}
 use Rattle.ess_rules_laws.specs.SourceRules.{list_of}
-use Rattle.ess_bare_laws.specs.Lean.{of_sum, Ended}
+use Rattle.ess_seen_laws.specs.ess_bare_laws.Lean.{of_sum, Ended}
 use Rattle.ess_seen_laws.specs.Seen.{scalars, sets_of, from_a_set, counted_axes, Seen, number, named, drawn, combined, lessened, compared, alike, folded, of_items, last_item, item_before, size, flag, one_index, no_index, through, where_holds, at_end, numbers}
 use Rattle.ess_seen_ended_laws.proofs.Ended.{seen-ends}
 

@@ -6,7 +6,7 @@ use Rattle.ess_semantics.specs.declared.words.Fun.{Fun}
 use Rattle.ess_semantics.specs.Trees.{matrix_literal, Ex, Exs, node_ex, comp_ex, Gens, ex1, ex2, fun1}
 use Rattle.ess_semantics.specs.Refined.{is_refined, are_refined, are_refined_gens}
 use Rattle.ess_flat_laws.specs.Flat.{OneOp, denied, negative, absolute, TwoOp, both, either, implied, agreeing, equal, unequal, below, at_most, above, at_least, sum, difference, product}
-use Rattle.ess_bare_laws.specs.Lean.{FoldWord, of_all, of_some, of_sum}
+use Rattle.ess_seen_laws.specs.ess_bare_laws.Lean.{FoldWord, of_all, of_some, of_sum}
 use Rattle.ess_seen_laws.specs.Seen.{Combines, united, shared, lessened, Compares, alike, apart, included, properly_included, including, properly_including}
 
 one-of : (a : Bool) → (a && true) || false ≡ true → a ≡ true

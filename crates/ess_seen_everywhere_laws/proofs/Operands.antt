@@ -14,7 +14,7 @@ use Rattle.ess_rules_laws.proofs.Kept.{guarded-true}
 use Rattle.ess_rules_laws.proofs.RuleAnswers.{each-any}
 use Rattle.ess_values_along_laws.specs.Valued.{Valued, AllValued}
 use Rattle.ess_values_along_laws.proofs.ValuesAlong.{values-along}
-use Rattle.ess_values_sources_laws.proofs.CollectedLists.{some-each, left-of-both, right-of-both}
+use Rattle.ess_seen_laws.proofs.ess_values_sources_laws.CollectedLists.{some-each, left-of-both, right-of-both}
 
 -- ---- values that are there
 

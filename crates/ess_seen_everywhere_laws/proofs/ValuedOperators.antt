@@ -13,7 +13,7 @@ use Rattle.ess_semantics.specs.Contexts.{guards}
 use Rattle.ess_rules_laws.specs.SourceRules.{list_of}
 use Rattle.ess_values_along_laws.specs.Valued.{Valued, AllValued, UnderValued}
 use Rattle.ess_values_along_laws.proofs.ValuesAlong.{values-along}
-use Rattle.ess_values_sources_laws.proofs.CollectedLists.{some-list}
+use Rattle.ess_seen_laws.proofs.ess_values_sources_laws.CollectedLists.{some-list}
 use Rattle.ess_flat_laws.specs.Flat.{OneOp, denied, negative, absolute, TwoOp, both, either, implied, agreeing, equal, unequal, below, at_most, above, at_least, sum, difference, product}
 use Rattle.ess_seen_laws.specs.ess_bare_laws.Lean.{FoldWord, of_all, of_some, of_sum}
 use Rattle.ess_seen_laws.specs.Seen.{Combines, united, shared, lessened, Compares, alike, apart, included, properly_included, including, properly_including, Counted, so_many, from_to, from_0, subsets, none_below}

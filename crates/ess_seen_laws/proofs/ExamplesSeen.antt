@@ -16,7 +16,7 @@ use Rattle.ess_rules_laws.specs.InclusionRules.{equal_members}
 use Rattle.ess_rules_laws.specs.Listings.{listing}
 use Rattle.ess_rules_laws.specs.SourceRules.{list_of}
 use Rattle.ess_rules_laws.specs.ListedSources.{source_parts}
-use Rattle.ess_kind_rules_laws.specs.ViewListings.{view_listing}
+use Rattle.ess_bare_laws.specs.ess_kind_rules_laws.ViewListings.{view_listing}
 use Rattle.ess_bare_laws.specs.ess_flat_laws.Flat.{denied, both, at_least}
 use Rattle.ess_bare_laws.specs.Lean.{of_all}
 use Rattle.ess_seen_laws.specs.Seen.{scalars, sets_of, kind_of, kind_ty, Bound, from_a_set, over_slots, united, alike, so_many, by_occurrence, with_flags, no_place, at_slot, SetTerm, view, drawn, combined, Seen, number, one, two, folded, of_items, size, within, set_within, compared, last_item, item_before, flag, one_index, named, no_index, at_end, through_slots, among, where_holds}

@@ -12,7 +12,7 @@ use Rattle.ess_rules_laws.specs.SizeRules.{size_term}
 use Rattle.ess_rules_laws.specs.SlotListings.{slots_dom}
 use Rattle.ess_rules_laws.specs.SourceRules.{list_of}
 use Rattle.ess_rules_laws.specs.ListedSources.{source_parts}
-use Rattle.ess_kind_rules_laws.specs.ViewListings.{view_listing}
+use Rattle.ess_bare_laws.specs.ess_kind_rules_laws.ViewListings.{view_listing}
 use Rattle.ess_refine_laws.specs.LeavingConditions.{condition_leaves}
 use Rattle.ess_bare_laws.specs.ess_flat_laws.Flat.{product}
 use Rattle.ess_bare_laws.specs.Lean.{of_sum}

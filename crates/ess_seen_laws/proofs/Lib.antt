@@ -1,3 +1,7 @@
+-- What callers name of libraries below
+pub use Rattle.ess_bare_laws.proofs.ess_values_bindings_laws as ess_values_bindings_laws
+pub use Rattle.ess_bare_laws.proofs.ess_values_sources_laws as ess_values_sources_laws
+pub use Rattle.ess_bare_laws.proofs as ess_bare_laws
 -- Bound names
 pub mod Lookups
 -- Domains

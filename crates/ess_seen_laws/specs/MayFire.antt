@@ -7,8 +7,8 @@ use Rattle.ess_semantics.specs.Types.{Ty}
 use Rattle.ess_semantics.specs.Typing.{type_of}
 use Rattle.ess_rules_laws.specs.InclusionRules.{both_sets}
 use Rattle.ess_refine_laws.specs.AllRules.{Rule, over_one, over_one_binding, over_a_condition, over_a_source, of_one_source, not_equal, turned, strictly, equal_sets, included_sets, in_two, in_a_term, included_multisets, size, choice, condition}
-use Rattle.ess_kind_rules_laws.specs.KindRules.{KindRule, cell_of_an_atom, over_a_view, of_one_view, member_at_a_cell, size_at_the_marker, size_of_slots}
-use Rattle.ess_open_rules_laws.specs.OpenRules.{OpenRule, over_one_source, fold_of_folds, KindRuling, of_kind, of_opening}
+use Rattle.ess_bare_laws.specs.ess_kind_rules_laws.KindRules.{KindRule, cell_of_an_atom, over_a_view, of_one_view, member_at_a_cell, size_at_the_marker, size_of_slots}
+use Rattle.ess_bare_laws.specs.ess_open_rules_laws.OpenRules.{OpenRule, over_one_source, fold_of_folds, KindRuling, of_kind, of_opening}
 
 -- Of those that read no kind: folds over one item, over no generators, over a condition alone, and over a set that is made of two; signs
 -- between sets; `in` of a set that is made of two and of a term; `|..|` of a term; numbers that conditions choose, and a condition that

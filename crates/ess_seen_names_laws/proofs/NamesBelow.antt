@@ -15,7 +15,7 @@ use Rattle.conjure_model_laws.specs.ToldApart.{reserved}
 use Rattle.ess_depth_laws.specs.Below.{is_below, HasNamesBelow}
 use Rattle.ess_depth_laws.proofs.Below.{below-spared}
 use Rattle.ess_chain_names_laws.proofs.SparedNames.{differs}
-use Rattle.ess_bare_laws.proofs.FiredNumbers.{part-spells}
+use Rattle.ess_seen_laws.proofs.ess_bare_laws.FiredNumbers.{part-spells}
 use Rattle.ess_seen_names_laws.specs.Laws.{none, KeepsNames, IsNamed, NamesAtParts}
 use Rattle.ess_seen_names_laws.proofs.PutScoped.{right-true, one-of}
 use Rattle.ess_seen_names_laws.proofs.AtParts.{part-are, of-part, within-at, new-there}

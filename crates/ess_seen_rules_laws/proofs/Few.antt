@@ -9,7 +9,7 @@ use Rattle.ess_gathered_laws.specs.GatheredConditions.{conditions_gathered}
 use Rattle.ess_open_rules_laws.specs.OpenRules.{KindRuling, of_kind, of_opening, kind_ruled, open_rewrite}
 use Rattle.ess_kind_rules_laws.specs.KindRules.{kind_rewrite}
 use Rattle.ess_flat_laws.specs.Flat.{denied, both}
-use Rattle.ess_bare_laws.specs.Lean.{of_all, of_some, of_sum}
+use Rattle.ess_seen_laws.specs.ess_bare_laws.Lean.{of_all, of_some, of_sum}
 use Rattle.ess_seen_laws.specs.Seen.{Bound, bound_types, so_many, from_to, from_0, subsets, none_below, Seen, number, truth, named, counted, figure, flag, atom, one, two, chosen, folded, of_items, size, within, set_within, compared}
 use Rattle.ess_seen_laws.specs.Laws.{SeenTreesHaveTypes}
 use Rattle.ess_seen_laws.specs.MayFire.{may_fire_by_kind, may_fire_at_views, may_fire_at_sources}

@@ -12,7 +12,7 @@ use Rattle.ess_kind_rules_laws.specs.KindRules.{KindRule, kind_rewrite, cell_of_
 use Rattle.ess_open_rules_laws.specs.OpenGenerators.{Opened, at_first_open, put_before}
 use Rattle.ess_open_rules_laws.specs.OpenSources.{kept_behind, kept_in_order}
 use Rattle.ess_open_rules_laws.specs.OpenRules.{KindRuling, of_kind, of_opening, kind_ruled, OpenRule, open_rewrite, step_by_step, of_a_pick, in_order_of_its_source}
-use Rattle.ess_bare_laws.proofs.Picks.{PickNothing, no-kind, no-open}
+use Rattle.ess_seen_laws.proofs.ess_bare_laws.Picks.{PickNothing, no-kind, no-open}
 use Rattle.ess_seen_laws.specs.Seen.{Bound, Listed, view, drawn, combined, Going, at_end, through, through_slots, among, where_holds, truths, numbers}
 use Rattle.ess_seen_laws.specs.SeenParts.{Items, gone_through, items_listed}
 use Rattle.ess_seen_rules_laws.specs.Laws.{NoneFires}

@@ -13,8 +13,8 @@ use Rattle.ess_open_rules_laws.specs.OpenGenerators.{Opened, at_first_open}
 use Rattle.ess_open_rules_laws.specs.OpenSources.{forgets_repeats, loose_source, seen_loosely}
 use Rattle.ess_open_rules_laws.specs.OpenRules.{OpenRule, open_rewrite, step_by_step, of_a_pick, without_repeats}
 use Rattle.ess_flat_laws.specs.Flat.{denied, negative, absolute, both, either, implied, agreeing, equal, unequal, below, at_most, above, at_least, sum, difference, product}
-use Rattle.ess_bare_laws.specs.Lean.{FoldWord, of_all, of_some, of_sum}
-use Rattle.ess_bare_laws.proofs.Picks.{either-way}
+use Rattle.ess_seen_laws.specs.ess_bare_laws.Lean.{FoldWord, of_all, of_some, of_sum}
+use Rattle.ess_seen_laws.proofs.ess_bare_laws.Picks.{either-way}
 use Rattle.ess_seen_laws.specs.Seen.{Bound, alike, apart, included, properly_included, including, properly_including, so_many, from_to, from_0, subsets, none_below, view, drawn, combined, Seen, number, truth, named, counted, figure, flag, atom, one, two, chosen, folded, of_items, size, within, set_within, compared, Going, at_end, through, through_slots, among, where_holds}
 use Rattle.ess_seen_laws.specs.MayFire.{may_fire_at_sources}
 use Rattle.ess_seen_rules_laws.proofs.Allowed.{Allowed, allowed-none}

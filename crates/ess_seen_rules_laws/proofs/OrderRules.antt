@@ -20,7 +20,7 @@ use Rattle.ess_ordered_laws.specs.NumberedItems.{ordered_lookup}
 use Rattle.ess_ordered_laws.specs.IndexedSources.{indexed_source}
 use Rattle.ess_ordered_laws.specs.PickedSources.{picked_source}
 use Rattle.ess_ordered_laws.specs.OrderedRules.{OrderedRule, an_item, of_an_item, source_by_indices, keeps_order, operand_lookup, over_operand, at_operand, ordered_rewrite}
-use Rattle.ess_bare_laws.proofs.Picks.{either-way}
+use Rattle.ess_seen_laws.proofs.ess_bare_laws.Picks.{either-way}
 use Rattle.ess_seen_laws.specs.Seen.{Kind, Bound, Counted, so_many, from_to, from_0, subsets, none_below, SetTerm, view, drawn, combined, Seen, Listed, last_item, item_before, number, truth, named, counted, figure, flag, atom, one, two, chosen, folded, of_items, size, within, set_within, compared, Going, at_end, through, through_slots, among, where_holds}
 use Rattle.ess_seen_rules_laws.proofs.Sources.{OpensAtSet, not-indexed}
 

@@ -8,8 +8,8 @@ use Rattle.ess_refine_laws.specs.AllRules.{Supply}
 use Rattle.ess_kind_rules_laws.specs.TermLookups.{picks}
 use Rattle.ess_kind_rules_laws.specs.KindRules.{over_picked}
 use Rattle.ess_open_rules_laws.specs.OpenRules.{over_a_pick}
-use Rattle.ess_bare_laws.specs.Lean.{of_all, of_some, of_sum}
-use Rattle.ess_bare_laws.proofs.Picks.{PickNothing, no-kind, no-open}
+use Rattle.ess_seen_laws.specs.ess_bare_laws.Lean.{of_all, of_some, of_sum}
+use Rattle.ess_seen_laws.proofs.ess_bare_laws.Picks.{PickNothing, no-kind, no-open}
 use Rattle.ess_seen_laws.specs.Seen.{Kind, Bound, Counted, so_many, from_to, from_0, subsets, none_below, Seen, SetTerm, Listed, last_item, item_before, number, truth, named, counted, figure, flag, atom, one, two, chosen, folded, of_items, size, within, set_within, compared, view, drawn, combined}
 
 -- What stands in a node picks nothing.

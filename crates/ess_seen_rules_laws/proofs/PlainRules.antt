@@ -24,7 +24,7 @@ use Rattle.ess_refine_laws.specs.AllRules.{Rule, Supply, offered, rewrite, oppos
 use Rattle.ess_open_rules_laws.specs.OpenRules.{is_compound_ty}
 use Rattle.ess_flat_laws.specs.Flat.{denied, negative, absolute, both, either, implied, agreeing, equal, unequal, below, at_most, above, at_least, sum, difference, product}
 use Rattle.ess_flat_laws.proofs.Asked.{unasked, no-msets, no-functions, no-partitions, no-components, no-fields, no-matrices, no-nothing}
-use Rattle.ess_bare_laws.specs.Lean.{FoldWord, of_all, of_some, of_sum}
+use Rattle.ess_seen_laws.specs.ess_bare_laws.Lean.{FoldWord, of_all, of_some, of_sum}
 use Rattle.ess_seen_laws.specs.Seen.{scalars, kind_ty, Bound, bound_types, united, shared, lessened, so_many, from_to, from_0, subsets, none_below, Compares, alike, apart, included, properly_included, including, properly_including, Seen, Listed, last_item, item_before, number, truth, named, counted, figure, flag, atom, one, two, chosen, folded, of_items, size, within, set_within, compared, SetTerm, view, drawn, combined, Going, at_end, through, through_slots, among, where_holds, Kind}
 use Rattle.ess_seen_laws.specs.Laws.{SeenTreesHaveTypes}
 use Rattle.ess_seen_laws.specs.MayFire.{may_fire, CountsMembers}

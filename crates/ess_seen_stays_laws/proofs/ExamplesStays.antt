@@ -10,7 +10,7 @@ use Rattle.ess_semantics.specs.Trees.{name_pat, Ex, number_ex, name_ex, comp_ex,
 use Rattle.ess_rules_laws.specs.SourceRules.{list_of}
 use Rattle.ess_refine_laws.specs.AllRules.{Supply, rewrite, over_a_source, of_one_source, equal_sets, in_two}
 use Rattle.ess_flat_laws.specs.Flat.{denied, both, below}
-use Rattle.ess_bare_laws.specs.Lean.{of_all}
+use Rattle.ess_seen_laws.specs.ess_bare_laws.Lean.{of_all}
 use Rattle.ess_seen_laws.specs.Seen.{scalars, sets_of, Bound, over_a_range, from_a_set, bound_types, SetTerm, drawn, Seen, number, named, one, two, folded, of_items, last_item, item_before, within, at_end, among, where_holds}
 
 -- The new names.

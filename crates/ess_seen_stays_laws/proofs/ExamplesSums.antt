@@ -14,7 +14,7 @@ use Rattle.ess_rules_laws.specs.SlotListings.{slots_dom}
 use Rattle.ess_refine_laws.specs.AllRules.{rewrite, over_a_source, size, condition}
 use Rattle.ess_kind_rules_laws.specs.KindRules.{kind_rewrite, of_one_view, cell_of_an_atom}
 use Rattle.ess_flat_laws.specs.Flat.{denied, product}
-use Rattle.ess_bare_laws.specs.Lean.{of_sum}
+use Rattle.ess_seen_laws.specs.ess_bare_laws.Lean.{of_sum}
 use Rattle.ess_seen_laws.specs.Seen.{Bound, over_slots, bound_types, united, so_many, Seen, number, figure, flag, atom, as_an_atom, with_flags, at_slot, no_place, view, drawn, combined, one, two, named, chosen, folded, of_items, last_item, item_before, size as sized, one_index, no_index, at_end, through_slots, among, where_holds}
 use Rattle.ess_seen_stays_laws.proofs.ExamplesStays.{supply, tables, around, p, q, behind, in_it, seen_in}
 

@@ -13,7 +13,7 @@ use Rattle.ess_rules_laws.specs.SetSizes.{size_by_marker, size_by_slots}
 use Rattle.ess_kind_rules_laws.specs.ViewListings.{slots_of_operand}
 use Rattle.ess_flat_laws.specs.Flat.{denied, absolute, both}
 use Rattle.ess_nested_laws.proofs.NestedForms.{atom-form}
-use Rattle.ess_bare_laws.specs.Lean.{of_all}
+use Rattle.ess_seen_laws.specs.ess_bare_laws.Lean.{of_all}
 use Rattle.ess_seen_laws.specs.Seen.{Kind, scalars, sets_of, Bound, alike, so_many, as_an_atom, by_occurrence, with_a_dummy, in_slots, with_a_marker, with_flags, Places, no_place, at_slot, SetTerm, view, drawn, combined, Seen, number, named, counted, figure, flag, atom, one, two, folded, of_items, size, within, set_within, compared, Indices, no_index, one_index}
 use Rattle.ess_seen_laws.specs.Laws.{SeenTreesStayAmongMore}
 use Rattle.ess_seen_stays_laws.proofs.Terms.{atom-kind, cell-seen}

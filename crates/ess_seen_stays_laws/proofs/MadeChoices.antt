@@ -11,7 +11,7 @@ use Rattle.ess_rules_laws.specs.MembershipRules.{member_term}
 use Rattle.ess_rules_laws.specs.SizeRules.{is_counted, size_term}
 use Rattle.ess_flat_laws.specs.Flat.{denied, absolute, both, equal, product}
 use Rattle.ess_flat_laws.proofs.Asked.{unasked}
-use Rattle.ess_bare_laws.specs.Lean.{of_all, of_some, of_sum}
+use Rattle.ess_seen_laws.specs.ess_bare_laws.Lean.{of_all, of_some, of_sum}
 use Rattle.ess_seen_laws.specs.Seen.{Kind, scalars, sets_of, kind_ty, Bound, from_a_set, bound_types, alike, so_many, drawn, Seen, number, named, one, two, counted, chosen, folded, of_items, size as sized, within, set_within, compared, at_end, among}
 use Rattle.ess_seen_laws.specs.Laws.{SeenTreesHaveTypes, SeenTreesStayAmongMore}
 use Rattle.ess_seen_laws.specs.Putting.{Within}

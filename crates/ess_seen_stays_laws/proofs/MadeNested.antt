@@ -8,7 +8,7 @@ use Rattle.ess_semantics.specs.Trees.{Ex, comp_ex, fun1, Gens}
 use Rattle.ess_rules_laws.specs.SourceRules.{is_marked}
 use Rattle.ess_refine_laws.specs.ExtremeRules.{are_none}
 use Rattle.ess_open_rules_laws.specs.OpenGenerators.{Opened, at_first_open, folds_nested, nested}
-use Rattle.ess_bare_laws.specs.Lean.{FoldWord}
+use Rattle.ess_seen_laws.specs.ess_bare_laws.Lean.{FoldWord}
 use Rattle.ess_seen_laws.specs.Seen.{Bound, so_many, Seen, number, counted, chosen, folded, Going, among}
 use Rattle.ess_seen_laws.specs.Apart.{Apart}
 use Rattle.ess_seen_stays_laws.proofs.Opened.{SetFirst, set_first, ApartBehind, IsOpened, opened-at}

@@ -16,7 +16,7 @@ use Rattle.ess_refine_laws.specs.AllRules.{Supply, only_one}
 use Rattle.ess_refine_laws.specs.ExtremeAlternatives.{put_alternative}
 use Rattle.ess_open_rules_laws.specs.OpenGenerators.{Opened, at_first_open}
 use Rattle.ess_open_rules_laws.specs.OpenSources.{all_offered, behind_gens, put_opened, over_one_opened}
-use Rattle.ess_bare_laws.specs.Lean.{FoldWord}
+use Rattle.ess_seen_laws.specs.ess_bare_laws.Lean.{FoldWord}
 use Rattle.ess_seen_laws.specs.Seen.{Bound, so_many, Seen, number, counted, chosen, folded, Going}
 use Rattle.ess_seen_laws.specs.Laws.{SeenTreesStayAmongMore, MembersMayBePut, NamesOfSeenTrees}
 use Rattle.ess_seen_laws.specs.Putting.{BindsNone}

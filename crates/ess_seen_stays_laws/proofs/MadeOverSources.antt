@@ -14,7 +14,7 @@ use Rattle.ess_rules_laws.specs.SourceRules.{is_marked}
 use Rattle.ess_refine_laws.specs.AllRules.{Supply, only_one, source_listed, source_listed_once}
 use Rattle.ess_kind_rules_laws.specs.ViewListings.{view_listing}
 use Rattle.ess_kind_rules_laws.specs.KindRules.{view_listed}
-use Rattle.ess_bare_laws.specs.Lean.{FoldWord}
+use Rattle.ess_seen_laws.specs.ess_bare_laws.Lean.{FoldWord}
 use Rattle.ess_seen_laws.specs.Seen.{Kind, Bound, from_a_set, so_many, SetTerm, Seen, number, counted, chosen, folded, of_items, Listed, last_item, item_before, Going, at_end, through, through_slots, among, where_holds}
 use Rattle.ess_seen_laws.specs.Laws.{SeenTreesStayAmongMore, MembersMayBePut, NamesOfSeenTrees}
 use Rattle.ess_seen_laws.specs.Apart.{Apart}

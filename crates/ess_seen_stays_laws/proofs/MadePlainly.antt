@@ -13,7 +13,7 @@ use Rattle.ess_rules_laws.specs.SlotListings.{slots_dom}
 use Rattle.ess_refine_laws.specs.Everywhere.{everywhere}
 use Rattle.ess_refine_laws.specs.LeavingConditions.{Parted, with_before, at_last_condition, under_condition, condition_leaves}
 use Rattle.ess_flat_laws.specs.Flat.{denied, both, implied, product}
-use Rattle.ess_bare_laws.specs.Lean.{FoldWord, of_all, of_some, of_sum}
+use Rattle.ess_seen_laws.specs.ess_bare_laws.Lean.{FoldWord, of_all, of_some, of_sum}
 use Rattle.ess_seen_laws.specs.Seen.{Bound, over_a_range, over_slots, from_a_set, so_many, Seen, number, one, two, counted, chosen, folded, of_items, Listed, last_item, item_before, Going, at_end, through, through_slots, among, where_holds}
 
 -- In the place of a refined number the one that is there everywhere is a tree over views.

@@ -10,7 +10,7 @@ use Rattle.ess_rules_laws.specs.InclusionRules.{every, both_sets, both_msets, un
 use Rattle.ess_rules_laws.specs.MembershipRules.{member_combined}
 use Rattle.ess_refine_laws.specs.AllRules.{compares_compound}
 use Rattle.ess_flat_laws.specs.Flat.{denied, both, either, equal, unequal as differing}
-use Rattle.ess_bare_laws.specs.Lean.{of_all}
+use Rattle.ess_seen_laws.specs.ess_bare_laws.Lean.{of_all}
 use Rattle.ess_seen_laws.specs.Seen.{Kind, scalars, kind_ty, Bound, bound_types, united, shared, lessened, alike, apart, included, properly_included, including, properly_including, so_many, SetTerm, view, drawn, combined, Seen, one, two, counted, folded, of_items, within, set_within, compared, at_end, among}
 use Rattle.ess_seen_laws.specs.Laws.{SeenTreesHaveTypes, SeenTreesStayAmongMore}
 use Rattle.ess_seen_stays_laws.proofs.OfTwo.{drawn-within}

@@ -13,7 +13,7 @@ use Rattle.ess_semantics.proofs.Tests.{or-yes, not-true}
 use Rattle.ess_rules_laws.specs.Listings.{Alternative}
 use Rattle.ess_rules_laws.specs.SlotListings.{slots_dom}
 use Rattle.ess_open_rules_laws.specs.OpenGenerators.{Opened, with_first, at_first_open}
-use Rattle.ess_bare_laws.specs.Lean.{FoldWord}
+use Rattle.ess_seen_laws.specs.ess_bare_laws.Lean.{FoldWord}
 use Rattle.ess_seen_laws.specs.Seen.{Kind, Bound, over_a_range, over_slots, from_a_set, SetTerm, Seen, folded, Going, at_end, through, through_slots, among, where_holds, truths, numbers}
 use Rattle.ess_seen_laws.specs.SeenParts.{AllBound}
 use Rattle.ess_seen_laws.specs.Putting.{BindsNone, ListPut}

@@ -32,8 +32,8 @@ use Rattle.ess_values_along_laws.specs.Valued.{Valued}
 use Rattle.ess_values_terms_laws.proofs.ValuedForms.{there, node-valued, word-valued}
 use Rattle.ess_values_sources_laws.proofs.CollectedLists.{some-list, list-some}
 use Rattle.ess_values_sources_laws.proofs.PutValues.{fold-valued, inner}
-use Rattle.ess_values_bindings_laws.proofs.BindingsKeepValues.{bindings-keep-values}
-use Rattle.ess_bare_laws.specs.Lean.{of_all, of_some, of_sum}
+use Rattle.ess_seen_laws.proofs.ess_values_bindings_laws.BindingsKeepValues.{bindings-keep-values}
+use Rattle.ess_seen_laws.specs.ess_bare_laws.Lean.{of_all, of_some, of_sum}
 use Rattle.ess_seen_laws.specs.Seen.{Bound, bound_types, Seen, counted, chosen, folded, Going, where_holds}
 use Rattle.ess_seen_everywhere_laws.specs.Laws.{IsFilled, SeenNumbersAreEverywhere}
 use Rattle.ess_seen_values_laws.specs.Laws.{IsMet, StaysAlike}

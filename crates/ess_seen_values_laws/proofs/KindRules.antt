@@ -15,7 +15,7 @@ use Rattle.ess_semantics.specs.Meaning.{Env, meaning}
 use Rattle.ess_semantics.specs.Meets.{Meets}
 use Rattle.ess_nested_laws.proofs.NestedForms.{nested-form}
 use Rattle.ess_nested_laws.proofs.NestedDenoted.{written_domain}
-use Rattle.ess_bare_laws.specs.Lean.{of_all, of_some, of_sum}
+use Rattle.ess_seen_laws.specs.ess_bare_laws.Lean.{of_all, of_some, of_sum}
 use Rattle.ess_rules_laws.specs.Rules.{Unused}
 use Rattle.ess_rules_laws.specs.SourceRules.{is_marked}
 use Rattle.ess_rules_laws.specs.Listings.{Alternative}
@@ -27,12 +27,12 @@ use Rattle.ess_values_along_laws.specs.Valued.{Valued}
 use Rattle.ess_values_terms_laws.proofs.ValuedForms.{there, all-there}
 use Rattle.ess_values_sources_laws.proofs.ListedValues.{listed-sources-keep-values}
 use Rattle.ess_values_sources_laws.proofs.PutValues.{inner}
-use Rattle.ess_values_views_laws.proofs.SetViewsKeepValues.{set-views-keep-values}
+use Rattle.ess_kind_values_laws.proofs.ess_values_views_laws.SetViewsKeepValues.{set-views-keep-values}
 use Rattle.ess_kind_rules_laws.specs.ViewListings.{view_listing, slots_of_operand}
 use Rattle.ess_kind_rules_laws.specs.KindRules.{cell_of_an_atom, over_a_view, of_one_view, size_at_the_marker, size_of_slots, kind_rewrite}
 use Rattle.ess_kinds_kept_laws.specs.KindAsks.{ViewApart, SourceAsks}
 use Rattle.ess_kinds_kept_laws.proofs.KindRulesKeep.{kind-rules-keep}
-use Rattle.ess_kind_steps_laws.proofs.JudgedSets.{slots-are}
+use Rattle.ess_kind_values_laws.proofs.ess_kind_steps_laws.JudgedSets.{slots-are}
 use Rattle.ess_kind_values_laws.proofs.SizesValued.{slots-valued}
 use Rattle.ess_seen_laws.specs.Seen.{Kind, Bound, from_a_set, bound_types, SetTerm, view, Seen, one, chosen, folded, counted, size, Going, among}
 use Rattle.ess_seen_values_laws.specs.Laws.{IsMet, StaysAlike}

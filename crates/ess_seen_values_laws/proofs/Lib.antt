@@ -1,3 +1,5 @@
+-- What callers name of libraries below
+pub use Rattle.ess_bare_structures_laws.proofs as ess_bare_structures_laws
 -- Values of sets
 pub mod SetValues
 -- Marks and sets

@@ -25,8 +25,8 @@ use Rattle.ess_rules_laws.specs.SourceRules.{list_of}
 use Rattle.ess_nested_laws.specs.NestedDomains.{is_nested_dom, is_written_atom}
 use Rattle.ess_nested_laws.proofs.NestedForms.{atom-form, WrittenAtom, written_truths, written_numbers, NestedSet, of_atoms, of_sets, nested-form}
 use Rattle.ess_flat_laws.specs.Flat.{denied, negative, absolute, both, either, implied, agreeing, equal, unequal, below, at_most, above, at_least, sum, difference, product}
-use Rattle.ess_bare_laws.specs.Lean.{of_all, of_some, of_sum}
-use Rattle.ess_bare_laws.proofs.Scalars.{HasMark}
+use Rattle.ess_seen_laws.specs.ess_bare_laws.Lean.{of_all, of_some, of_sum}
+use Rattle.ess_seen_laws.proofs.ess_bare_laws.Scalars.{HasMark}
 use Rattle.ess_seen_laws.specs.Seen.{Kind, scalars, sets_of, kind_of, kind_ty, Bound, bound_kind, bound_types, Counted, as_an_atom, united, shared, lessened, SetTerm, view, drawn, combined, Seen, number, truth, named, counted, figure, flag, atom, one, two, chosen, folded, of_items, size, within, set_within, compared}
 use Rattle.ess_seen_laws.proofs.Counts.{counted-means}
 pub use Rattle.ess_seen_values_laws.proofs.SetValues.{IsSet}

@@ -20,17 +20,17 @@ use Rattle.ess_semantics.specs.Meets.{Meets}
 use Rattle.ess_semantics.proofs.Orders.{same-equal}
 use Rattle.ess_semantics.proofs.Tests.{and-left, and-right}
 use Rattle.ess_nested_laws.proofs.NestedForms.{no-yes, WrittenAtom, written_truths, written_numbers, atom-form}
-use Rattle.ess_bare_laws.proofs.Scalars.{HasMark}
+use Rattle.ess_seen_laws.proofs.ess_bare_laws.Scalars.{HasMark}
 use Rattle.ess_rules_laws.specs.FunctionKeys.{IsTold}
 use Rattle.ess_rules_laws.specs.OccurrenceViews.{member_by_cell}
 use Rattle.ess_refine_laws.specs.AllRules.{Supply}
 use Rattle.ess_values_along_laws.specs.Valued.{Valued}
 use Rattle.ess_values_along_laws.proofs.ValuesAlong.{values-along}
-use Rattle.ess_values_views_laws.proofs.SetViewsKeepValues.{set-views-keep-values}
+use Rattle.ess_kind_values_laws.proofs.ess_values_views_laws.SetViewsKeepValues.{set-views-keep-values}
 use Rattle.ess_kind_rules_laws.specs.KindRules.{member_at_a_cell, kind_rewrite}
 use Rattle.ess_kinds_kept_laws.proofs.KindRulesKeep.{kind-rules-keep}
-use Rattle.ess_kind_steps_laws.proofs.JudgedSets.{AtomsThere, atoms-there}
-use Rattle.ess_kind_steps_laws.proofs.ToldAtoms.{Agreed, atom-told}
+use Rattle.ess_kind_values_laws.proofs.ess_kind_steps_laws.JudgedSets.{AtomsThere, atoms-there}
+use Rattle.ess_kind_values_laws.proofs.ess_kind_steps_laws.ToldAtoms.{Agreed, atom-told}
 use Rattle.ess_seen_laws.specs.Seen.{Kind, scalars, sets_of, kind_of, Bound, bound_types, as_an_atom, by_occurrence, with_a_dummy, in_slots, with_a_marker, with_flags, SetTerm, view, drawn, combined, Seen, counted, two, within, set_within, compared}
 use Rattle.ess_seen_values_laws.specs.Laws.{IsMet, StaysAlike}
 use Rattle.ess_seen_values_laws.proofs.Marks.{seen-mark}

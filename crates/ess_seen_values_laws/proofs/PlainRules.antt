@@ -14,7 +14,7 @@ use Rattle.ess_semantics.specs.Meaning.{Env, meaning}
 use Rattle.ess_semantics.specs.Meets.{Meets}
 use Rattle.ess_semantics.proofs.Tests.{and-both}
 use Rattle.ess_flat_laws.specs.Flat.{absolute}
-use Rattle.ess_bare_laws.specs.Lean.{of_all, of_some, of_sum}
+use Rattle.ess_seen_laws.specs.ess_bare_laws.Lean.{of_all, of_some, of_sum}
 use Rattle.ess_rules_laws.specs.Rules.{IsTruth, IsNumber}
 use Rattle.ess_rules_laws.specs.FoldRules.{fold_one, fold_bare, ItemFits, BareFits}
 use Rattle.ess_rules_laws.specs.ChoiceRules.{choice_shorter, ChoicesFit}

@@ -19,13 +19,13 @@ use Rattle.ess_rules_laws.specs.Rules.{Unused}
 use Rattle.ess_rules_laws.specs.Listings.{Alternative}
 use Rattle.ess_values_along_laws.specs.Valued.{Valued}
 use Rattle.ess_values_sources_laws.specs.ListedValues.{Under}
-use Rattle.ess_values_views_laws.proofs.SetViewsKeepValues.{set-views-keep-values}
+use Rattle.ess_kind_values_laws.proofs.ess_values_views_laws.SetViewsKeepValues.{set-views-keep-values}
 use Rattle.ess_kind_rules_laws.specs.ViewListings.{view_listing}
 use Rattle.ess_kinds_kept_laws.specs.ViewAsks.{ViewAsks}
 use Rattle.ess_kinds_kept_laws.proofs.ViewsOffer.{views-offer}
 use Rattle.ess_kind_sizes_laws.proofs.SetListings.{of_all, of_marked, of_flagged, of_dummies}
-use Rattle.ess_kind_steps_laws.specs.JudgedItems.{JudgedSeen}
-use Rattle.ess_kind_steps_laws.proofs.JudgedSets.{slots-are, inner-there, dummy-is}
+use Rattle.ess_kind_values_laws.specs.ess_kind_steps_laws.JudgedItems.{JudgedSeen}
+use Rattle.ess_kind_values_laws.proofs.ess_kind_steps_laws.JudgedSets.{slots-are, inner-there, dummy-is}
 use Rattle.ess_kind_values_laws.proofs.SizesValued.{slots-valued, dummy-valued}
 use Rattle.ess_seen_laws.specs.Seen.{Keeps, as_an_atom, by_occurrence, with_a_dummy, in_slots, with_a_marker, with_flags}
 

@@ -1,3 +1,5 @@
+-- What callers name of libraries below
+pub use Rattle.ess_seen_laws.proofs as ess_seen_laws
 -- Trees of the class, and what is tested
 pub mod SetwiseTrees
 pub mod OperatorKinds

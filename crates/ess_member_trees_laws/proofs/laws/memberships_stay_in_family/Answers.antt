@@ -5,7 +5,7 @@ use Rattle.ess_semantics.specs.Trees.{Ex, Dom}
 use Rattle.ess_semantics.specs.Types.{Ty}
 use Rattle.ess_semantics.specs.Contexts.{fill}
 use Rattle.ess_refine_laws.specs.AllRules.{rewrite}
-use Rattle.ess_open_rules_laws.specs.OpenRules.{kind_ruled}
+use Rattle.ess_flat_laws.specs.ess_open_rules_laws.OpenRules.{kind_ruled}
 use Rattle.ess_member_trees_laws.specs.Memberships.{Literal, Axis, Part, Becomes}
 use Rattle.ess_member_trees_laws.specs.Laws.{IsMade, plainly, by_kind, gathered}
 use Rattle.ess_member_trees_laws.proofs.AllRules as A
