@@ -1,3 +1,13 @@
+-- Worked examples
+mod ExamplesSelftest
+-- Texts, line by line
+pub mod Upto
+-- The model with its constraints
+pub mod Made
+-- The members of sets
+pub mod Sizes
+-- What is counted behind each call
+pub mod Behind
 mod Examples
 mod ExamplesTasks
 pub mod NameLaws

@@ -2,7 +2,7 @@
 use Rattle.std.proofs.Common.{◌≡◌, refl, ℕ, inl, inr, List, [], arith, Some}
 use Rattle.ess_io.specs.Counts.{Rose}
 use Rattle.ess_io.specs.Sinks.{grown, GrewByPrefix}
-use Rattle.conjure_selftest.specs.Told.{IsTestLine}
+use Rattle.conjure_cli.specs.Told.{IsTestLine}
 use Rattle.conjure_cli.specs.Seen.{SinkSeen}
 use Rattle.conjure_cli.specs.Ending.{LeavesErr}
 use Rattle.conjure_cli.specs.Tasks.{test}

@@ -2,7 +2,7 @@
 use Rattle.std.specs.Prelude.{◌≡◌, ℕ, ◌⊎◌, List, [], Option, Some}
 use Rattle.ess_io.specs.Counts.{Rose}
 use Rattle.ess_io.specs.Sinks.{grown, GrewByPrefix}
-use Rattle.conjure_selftest.specs.Told.{IsTestLine}
+use Rattle.conjure_cli.specs.Told.{IsTestLine}
 use Rattle.conjure_cli.specs.Seen.{SinkSeen}
 use Rattle.conjure_cli.specs.Ending.{LeavesErr}
 use Rattle.conjure_cli.specs.Tasks.{Task, test}

@@ -5,7 +5,7 @@ ghost use Rattle.conjure_cli.specs.Testing.{TestTold};
 use crate::ending::{Ending, report};
 use crate::outcome::Outcome;
 use crate::telling::tell_memory;
-use conjure_selftest::test_line;
+use crate::test_telling::test_line;
 use ess_io::{Sink, put_all};
 use ess_rows::NoMemory;
 use std::alloc::Global;

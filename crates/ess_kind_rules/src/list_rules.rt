@@ -2,13 +2,13 @@
 ghost use Rattle.std.specs.Prelude.{false, IfOk, option_map};
 ghost use Rattle.ess_core_nodes.specs.NodeViews.{pure_node};
 ghost use Rattle.ess_node_types.specs.TypedNames.{pure_names};
-ghost use Rattle.ess_rules_opened.specs.Supplies.{taken_supply};
+ghost use Rattle.ess_kind_rules.specs.Supplies.{taken_supply};
 ghost use Rattle.ess_kind_rules.specs.Kinds.{IsOfKind};
 
+use crate::{Taken, counted_apart, set_of_term};
 use ess_core_nodes::Node;
 use ess_node_types::NameTypes;
 use ess_rows::{Boxed, NoMemory};
-use ess_rules_opened::{Taken, counted_apart, set_of_term};
 use ess_rules_opening::{listed_plainly, nested};
 use std::alloc::Global;
 

@@ -2,14 +2,14 @@
 ghost use Rattle.std.specs.Prelude.{false, IfOk, option_map};
 ghost use Rattle.ess_core_nodes.specs.NodeViews.{pure_node};
 ghost use Rattle.ess_node_types.specs.TypedNames.{pure_names};
-ghost use Rattle.ess_rules_opened.specs.Supplies.{taken_supply};
+ghost use Rattle.ess_kind_rules.specs.Supplies.{taken_supply};
 ghost use Rattle.ess_kind_rules.specs.Kinds.{IsOfKind};
 
 use crate::measures::{frequency_by_cells, lie_together, party_by_number};
+use crate::{Taken, over_picked, picked_scalar};
 use ess_core_nodes::Node;
 use ess_node_types::NameTypes;
 use ess_rows::{Boxed, NoMemory};
-use ess_rules_opened::{Taken, over_picked, picked_scalar};
 use ess_rules_opening::seen_loosely;
 use std::alloc::Global;
 

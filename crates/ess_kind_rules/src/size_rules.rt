@@ -2,14 +2,14 @@
 ghost use Rattle.std.specs.Prelude.{false, IfOk, option_map};
 ghost use Rattle.ess_core_nodes.specs.NodeViews.{pure_node};
 ghost use Rattle.ess_node_types.specs.TypedNames.{pure_names};
-ghost use Rattle.ess_rules_opened.specs.Supplies.{taken_supply};
+ghost use Rattle.ess_kind_rules.specs.Supplies.{taken_supply};
 ghost use Rattle.ess_kind_rules.specs.Kinds.{IsOfKind};
 
 use crate::measures::{size_of_a_multiset, size_of_slots};
+use crate::{Taken, function_size};
 use ess_core_nodes::Node;
 use ess_node_types::NameTypes;
 use ess_rows::{Boxed, NoMemory};
-use ess_rules_opened::{Taken, function_size};
 use ess_rules_partitions::number_of_parts;
 use ess_rules_views::size_by_marker;
 use std::alloc::Global;

@@ -2,15 +2,15 @@
 ghost use Rattle.std.specs.Prelude.{true, IfOk, option_map};
 ghost use Rattle.ess_core_nodes.specs.NodeViews.{pure_node};
 ghost use Rattle.ess_node_types.specs.TypedNames.{pure_names};
-ghost use Rattle.ess_rules_opened.specs.Supplies.{taken_supply};
+ghost use Rattle.ess_kind_rules.specs.Supplies.{taken_supply};
 ghost use Rattle.ess_kind_rules.specs.Kinds.{IsOfKind};
 
+use crate::{
+    Taken, kept_behind, least_of_several, over_each_picked, over_one_opened, set_of_several,
+};
 use ess_core_nodes::Node;
 use ess_node_types::NameTypes;
 use ess_rows::{Boxed, NoMemory};
-use ess_rules_opened::{
-    Taken, kept_behind, least_of_several, over_each_picked, over_one_opened, set_of_several,
-};
 use std::alloc::Global;
 
 /// What the first of these rules that fires makes of the root. `NoMemory` where there is no room for it.

@@ -2,16 +2,16 @@
 ghost use Rattle.std.specs.Prelude.{false, IfOk, option_map};
 ghost use Rattle.ess_core_nodes.specs.NodeViews.{pure_node};
 ghost use Rattle.ess_node_types.specs.TypedNames.{pure_names};
-ghost use Rattle.ess_rules_opened.specs.Supplies.{taken_supply};
+ghost use Rattle.ess_kind_rules.specs.Supplies.{taken_supply};
 ghost use Rattle.ess_kind_rules.specs.Kinds.{IsOfKind};
 
+use crate::Taken;
 use crate::truths::truth_behind_a_flag;
 use ess_core_nodes::Node;
 use ess_node_types::NameTypes;
 use ess_rows::{Boxed, NoMemory};
 use ess_rules_children::asked_of_child;
 use ess_rules_multisets::multiset_member;
-use ess_rules_opened::Taken;
 use ess_rules_partitions::is_participant;
 use ess_rules_views::{defined_where_flagged, member_by_cell};
 use std::alloc::Global;

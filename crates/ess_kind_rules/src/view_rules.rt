@@ -2,15 +2,15 @@
 ghost use Rattle.std.specs.Prelude.{false, IfOk, option_map};
 ghost use Rattle.ess_core_nodes.specs.NodeViews.{pure_node};
 ghost use Rattle.ess_node_types.specs.TypedNames.{pure_names};
-ghost use Rattle.ess_rules_opened.specs.Supplies.{taken_supply};
+ghost use Rattle.ess_kind_rules.specs.Supplies.{taken_supply};
 ghost use Rattle.ess_kind_rules.specs.Kinds.{IsOfKind};
 
 use crate::truths::{truth_at_an_argument, truth_in_a_matrix};
+use crate::{Taken, related};
 use ess_core_nodes::Node;
 use ess_node_types::NameTypes;
 use ess_rows::{Boxed, NoMemory};
 use ess_rules_children::component_view;
-use ess_rules_opened::{Taken, related};
 use ess_rules_picked::step_apart;
 use ess_rules_views::atom_cell;
 use std::alloc::Global;

@@ -13,7 +13,7 @@ use Rattle.ess_open_rules_laws.specs.OpenGenerators.{has_no_source}
 use Rattle.ess_refine_laws.specs.AllRules.{matrices_at}
 use Rattle.ess_rules_forms.specs.Forms.{truth_pair}
 use Rattle.ess_rules_listings.specs.Offered.{supply_of}
-use Rattle.ess_rules_opened.specs.Supplies.{told_axis}
+use Rattle.ess_kind_rules.specs.Supplies.{told_axis}
 use Rattle.ess_rules.specs.Ruled.{axis_asked, both_told}
 
 -- What F makes of the domains that both tell, where these may be asked for.

@@ -16,7 +16,7 @@ use Rattle.ess_refine_laws.specs.AllRules.{Supply, rewrite, least_under_a_condit
 use Rattle.ess_rules_forms.specs.Forms.{plain_word}
 use Rattle.ess_rules_folds.specs.Forms.{comp_parts}
 use Rattle.ess_rules_listings.specs.Offered.{supply_of}
-use Rattle.ess_rules_opened.specs.Supplies.{told_axis}
+use Rattle.ess_kind_rules.specs.Supplies.{told_axis}
 use Rattle.ess_rules.specs.Ruled.{reserved_from, supply_at, plainly, puts_source, ruled, with_new_source, behind_ruling, behind_root, behind_copy, IsRuled}
 use Rattle.ess_rules.specs.Supplies.{IsRewritten, IsSourcedBehind, IsRewrittenBehind}
 use Rattle.ess_chain_names_laws.proofs.ToldNames.{on}

@@ -17,7 +17,7 @@ use Rattle.ess_open_rules_laws.specs.OpenRules.{KindRuling, kind_ruled, puts_in}
 use Rattle.ess_gathered_laws.specs.GatheredConditions.{conditions_gathered}
 use Rattle.ess_ordered_laws.specs.OrderedRules.{OrderedRule, ordered_rewrite}
 use Rattle.conjure_model_laws.specs.ToldApart.{reserved, told_apart, told}
-use Rattle.ess_rules_opened.specs.Supplies.{told_axis}
+use Rattle.ess_kind_rules.specs.Supplies.{told_axis}
 
 -- As many reserved names, from the n-th on.
 abbrev pub reserved_from : ℕ → ℕ → List Text

@@ -2,17 +2,17 @@
 ghost use Rattle.std.specs.Prelude.{◌≡◌, IfOk, option_map};
 ghost use Rattle.ess_core_nodes.specs.NodeViews.{pure_node};
 ghost use Rattle.ess_node_types.specs.TypedNames.{pure_names};
-ghost use Rattle.ess_rules_opened.specs.Supplies.{taken_supply};
+ghost use Rattle.ess_kind_rules.specs.Supplies.{taken_supply};
 ghost use Rattle.ess_rules.specs.Supplies.{IsRewritten};
 
 use crate::settled::{has_open_parts, is_open};
 use ess_core_nodes::Node;
+use ess_kind_rules::Taken;
 use ess_node_types::NameTypes;
 use ess_rows::{Boxed, NoMemory};
 use ess_rules_conditions::{condition_later, condition_leaves};
 use ess_rules_gathered::conditions_gathered;
 use ess_rules_lists::choice_shorter;
-use ess_rules_opened::Taken;
 use std::alloc::Global;
 
 /// What the first of these rules that fires makes of the root. `NoMemory` where there is no room for it.

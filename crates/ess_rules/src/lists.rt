@@ -2,16 +2,16 @@
 ghost use Rattle.std.specs.Prelude.{◌≡◌, IfOk, option_map};
 ghost use Rattle.ess_core_nodes.specs.NodeViews.{pure_node};
 ghost use Rattle.ess_node_types.specs.TypedNames.{pure_names};
-ghost use Rattle.ess_rules_opened.specs.Supplies.{taken_supply};
+ghost use Rattle.ess_kind_rules.specs.Supplies.{taken_supply};
 ghost use Rattle.ess_rules.specs.Supplies.{IsRewritten};
 
 use crate::special::{all_different, different_items};
 use ess_core_nodes::Node;
+use ess_kind_rules::Taken;
 use ess_node_types::NameTypes;
 use ess_rows::{Boxed, NoMemory};
 use ess_rules_listings::range_as_set;
 use ess_rules_lists::{extreme_listed, lex_both, list_term};
-use ess_rules_opened::Taken;
 use std::alloc::Global;
 
 /// What the first of these rules that fires makes of the root. `NoMemory` where there is no room for it.

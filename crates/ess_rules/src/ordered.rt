@@ -2,13 +2,13 @@
 ghost use Rattle.std.specs.Prelude.{◌≡◌, IfOk, option_map};
 ghost use Rattle.ess_core_nodes.specs.NodeViews.{pure_node};
 ghost use Rattle.ess_node_types.specs.TypedNames.{pure_names};
-ghost use Rattle.ess_rules_opened.specs.Supplies.{taken_supply};
+ghost use Rattle.ess_kind_rules.specs.Supplies.{taken_supply};
 ghost use Rattle.ess_rules.specs.Supplies.{IsRewritten};
 
 use ess_core_nodes::Node;
+use ess_kind_rules::Taken;
 use ess_node_types::NameTypes;
 use ess_rows::{Boxed, NoMemory};
-use ess_rules_opened::Taken;
 use ess_rules_ordered::{ItemNames, an_item, of_an_item, source_by_indices};
 use std::alloc::Global;
 

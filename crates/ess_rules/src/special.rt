@@ -7,18 +7,18 @@ ghost use Rattle.ess_rules_laws.specs.LiteralRules.{different_listed as listed_a
 ghost use Rattle.ess_rules_laws.specs.ListRules.{different_term as items_apart};
 ghost use Rattle.ess_refine_laws.specs.AllRules.{compares_compound as is_compound, tells_scalars_apart as are_scalars};
 ghost use Rattle.ess_refine_laws.specs.AllRules.{matrices_at, source_listed as in_source};
-ghost use Rattle.ess_rules_opened.specs.Supplies.{taken_supply};
+ghost use Rattle.ess_kind_rules.specs.Supplies.{taken_supply};
 ghost use Rattle.ess_rules.specs.Ruled.{both_told, axis_asked as told_where_asked};
 
 use ess_core_nodes::{Node, NodeDom};
 use ess_guard_forms::index_dom;
+use ess_kind_rules::{Taken, has_no_source};
 use ess_node_types::NameTypes;
 use ess_rows::{Boxed, NoMemory};
 use ess_rules_comparing::{compares_compound, equal_matrices, unequal};
 use ess_rules_forms::truth_pair;
 use ess_rules_listings::source_listed;
 use ess_rules_lists::{different_listed, different_term};
-use ess_rules_opened::{Taken, has_no_source};
 use ess_rules_sizes::tells_scalars_apart;
 use ess_rules_sources::OnceNames;
 use std::alloc::Global;

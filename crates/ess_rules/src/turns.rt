@@ -3,7 +3,7 @@ ghost use Rattle.std.specs.Prelude.{◌≡◌, ◌+◌, ◌≤◌, IfOk, OnOk, o
 ghost use Rattle.ess_core_nodes.specs.NodeViews.{pure_node};
 ghost use Rattle.ess_node_types.specs.TypedNames.{pure_names};
 ghost use Rattle.ess_rules.specs.Ruled.{IsTurn};
-ghost use Rattle.ess_rules_opened.specs.Supplies.{taken_supply};
+ghost use Rattle.ess_kind_rules.specs.Supplies.{taken_supply};
 ghost use Rattle.ess_rules.specs.Supplies.{IsRewritten, IsSourcedBehind, IsRewrittenBehind};
 
 use crate::comparing::comparing;
@@ -21,13 +21,13 @@ use crate::source_rules::source_rules;
 use crate::sourced::with_new_source;
 use ess_core_nodes::Node;
 use ess_kind_rules as kinds;
+use ess_kind_rules::Taken;
 use ess_model_names::told_apart_from;
 use ess_node_types::NameTypes;
 use ess_rows::{Boxed, NoMemory};
 use ess_rules_conditions::{at_last_condition, extreme_condition, opposite_of};
 use ess_rules_folds::forms::comp_in;
 use ess_rules_forms::plain_word;
-use ess_rules_opened::Taken;
 use std::alloc::Global;
 
 /// What the first rule that fires makes of the root of a tree, where names have these types, or nothing where none fires. Rules take

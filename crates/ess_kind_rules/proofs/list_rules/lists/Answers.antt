@@ -1,6 +1,6 @@
 use Rattle.ess_core_nodes.specs.NodeViews.{pure_node}
 use Rattle.ess_node_types.specs.TypedNames.{pure_names}
-use Rattle.ess_rules_opened.specs.Supplies.{taken_supply}
+use Rattle.ess_kind_rules.specs.Supplies.{taken_supply}
 use Rattle.ess_kind_rules.proofs.KindRoots.{kind_different_by_counts, kind_fold_of_folds, kind_without_its_indices, kind_set_of_a_term}
 use Rattle.ess_kind_rules.proofs.list_rules.lists.Goals as goal
 

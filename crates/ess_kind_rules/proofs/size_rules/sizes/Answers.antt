@@ -1,6 +1,6 @@
 use Rattle.ess_core_nodes.specs.NodeViews.{pure_node}
 use Rattle.ess_node_types.specs.TypedNames.{pure_names}
-use Rattle.ess_rules_opened.specs.Supplies.{taken_supply}
+use Rattle.ess_kind_rules.specs.Supplies.{taken_supply}
 use Rattle.ess_kind_rules.proofs.KindRoots.{
   kind_size_at_the_marker,
   kind_size_of_slots,

@@ -1,7 +1,7 @@
 use Rattle.ess_core_nodes.specs.NodeViews.{pure_node}
 use Rattle.ess_node_types.specs.TypedNames.{pure_names}
 use Rattle.conjure_model_laws.specs.ToldApart.{told_apart}
-use Rattle.ess_rules_opened.specs.Supplies.{told_axis}
+use Rattle.ess_kind_rules.specs.Supplies.{told_axis}
 use Rattle.ess_rules.proofs.RuledRoots.{ruled_not_equal, ruled_turned, ruled_strictly, ruled_equal_tuples, ruled_equal_records, ruled_equal_sets, ruled_equal_multisets, ruled_equal_functions}
 use Rattle.ess_rules.proofs.comparing.comparing.Goals as goal
 

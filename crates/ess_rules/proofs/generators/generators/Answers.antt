@@ -1,7 +1,7 @@
 use Rattle.ess_core_nodes.specs.NodeViews.{pure_node}
 use Rattle.ess_node_types.specs.TypedNames.{pure_names}
 use Rattle.conjure_model_laws.specs.ToldApart.{told_apart}
-use Rattle.ess_rules_opened.specs.Supplies.{told_axis}
+use Rattle.ess_kind_rules.specs.Supplies.{told_axis}
 use Rattle.ess_rules.proofs.RuledRoots.{ruled_over_a_term}
 use Rattle.ess_rules.proofs.generators.generators.Goals as goal
 

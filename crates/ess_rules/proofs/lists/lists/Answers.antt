@@ -1,7 +1,7 @@
 use Rattle.ess_core_nodes.specs.NodeViews.{pure_node}
 use Rattle.ess_node_types.specs.TypedNames.{pure_names}
 use Rattle.conjure_model_laws.specs.ToldApart.{told_apart}
-use Rattle.ess_rules_opened.specs.Supplies.{told_axis}
+use Rattle.ess_kind_rules.specs.Supplies.{told_axis}
 use Rattle.ess_rules.proofs.RuledRoots.{ruled_least_of_a_literal, ruled_different_items, ruled_list_of_a_term, ruled_lists_on_both_sides, ruled_all_different, ruled_results}
 use Rattle.ess_rules.proofs.lists.lists.Goals as goal
 

@@ -1,7 +1,7 @@
 use Rattle.ess_core_nodes.specs.NodeViews.{pure_node}
 use Rattle.ess_node_types.specs.TypedNames.{pure_names}
 use Rattle.conjure_model_laws.specs.ToldApart.{told_apart}
-use Rattle.ess_rules_opened.specs.Supplies.{told_axis}
+use Rattle.ess_kind_rules.specs.Supplies.{told_axis}
 use Rattle.ess_rules.proofs.RuledRoots.{ruled_component_of_a_tuple, ruled_field_of_a_record, ruled_in_two, ruled_in_one_made_of_another, ruled_in_a_literal, ruled_in_what_a_function_has, ruled_in_its_pairs, ruled_in_a_term}
 use Rattle.ess_rules.proofs.membership.membership.Goals as goal
 

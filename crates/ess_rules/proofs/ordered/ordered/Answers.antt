@@ -1,7 +1,7 @@
 use Rattle.ess_core_nodes.specs.NodeViews.{pure_node}
 use Rattle.ess_node_types.specs.TypedNames.{pure_names}
 use Rattle.ess_ordered_laws.specs.OrderedRules.{an_item, of_an_item}
-use Rattle.ess_rules_opened.specs.Supplies.{taken_supply}
+use Rattle.ess_kind_rules.specs.Supplies.{taken_supply}
 use Rattle.ess_rules.proofs.OrderedRoots.{ruled_in_order, ruled_by_indices}
 use Rattle.ess_rules.proofs.ordered.ordered.Goals as goal
 

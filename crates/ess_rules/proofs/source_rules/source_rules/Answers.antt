@@ -1,7 +1,7 @@
 use Rattle.ess_core_nodes.specs.NodeViews.{pure_node}
 use Rattle.ess_node_types.specs.TypedNames.{pure_names}
 use Rattle.conjure_model_laws.specs.ToldApart.{told_apart}
-use Rattle.ess_rules_opened.specs.Supplies.{taken_supply, told_axis}
+use Rattle.ess_kind_rules.specs.Supplies.{taken_supply, told_axis}
 use Rattle.ess_rules.proofs.KindTurns.{of_sources}
 use Rattle.ess_rules.proofs.RuledRoots.{ruled_over_a_source}
 use Rattle.ess_rules.proofs.source_rules.source_rules.Goals as goal

@@ -1,8 +1,0 @@
--- Rules by the parts of a root
-mod WordForms
-mod CompForms
--- Sets united from the back, and operands that pick
-mod SetRows
-mod PickedRows
--- Generators that no table decides
-mod DecidedForms

@@ -1,8 +1,0 @@
-use Rattle.std.proofs.Common.{◌≡◌, map, drop}
-use Rattle.ess_core_nodes.specs.NodeViews.{pure_gen}
-use Rattle.ess_rules_opened.specs.DecidedItems.{are_over_domains_each}
-use Rattle.ess_rules_opened.proofs.domains.are_over_domains_each.Given as goal
-
-abbrev pub invariant-loop-item : goal.invariant-loop-item
-invariant-loop-item l =
-    are_over_domains_each (map pure_gen l.gens) ≡ are_over_domains_each (map pure_gen (drop l.item-index l.gens))
