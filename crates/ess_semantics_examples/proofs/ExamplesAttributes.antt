@@ -7,7 +7,7 @@ use Rattle.ess_semantics.specs.Collections.{sorted_once, set_of, relation_of}
 use Rattle.ess_semantics.specs.Trees.{relation_dom, mset_dom, function_dom, partition_dom, flag, valued, no_exs, find}
 use Rattle.ess_semantics.specs.Assignments.{nothing_given}
 use Rattle.ess_semantics.proofs.Shorthands.{n, es2, ds2, upto, v, v2, v3}
-use Rattle.ess_semantics.proofs.ExamplesSolutions.{solutions, subsets, all_functions, pairs_of, ones_and_twos, s, f}
+use Rattle.ess_semantics_examples.proofs.ExamplesSolutions.{solutions, subsets, all_functions, pairs_of, ones_and_twos, s, f}
 
 abbrev all_pairs : List Value → List Value → List Value
 all_pairs as' bs = map (λ q. pair q.0 q.1) (pairs_of as' bs)

@@ -6,7 +6,7 @@ use Rattle.ess_semantics.specs.declared.words.Fun.{Fun}
 use Rattle.ess_semantics.specs.Values.{truth, of_list, pair, matrix}
 use Rattle.ess_semantics.specs.Collections.{set_of, mset_of}
 use Rattle.ess_semantics.specs.Trees.{application, tuple_literal, set_literal, mset_literal, partition_literal, matrix_literal, one_value, name_pat, tuple_pat, no_pats, more_pats, truth_ex, plain_node, matrix_ex, comp_ex, no_exs, more_exs, no_gens, over, from, cond, int_dom}
-use Rattle.ess_semantics.proofs.ExamplesExpressions.{Row, Means}
+use Rattle.ess_semantics_examples.proofs.ExamplesExpressions.{Row, Means}
 use Rattle.ess_semantics.proofs.Shorthands.{N, n, es1, es2, un, bi, fn, fn2, at, range, upto, v}
 
 abbrev literals_and_partitions : List Row
