@@ -15,6 +15,7 @@ use Rattle.ess_rules_laws.specs.MembershipRules.{is_asked}
 use Rattle.ess_rules_laws.specs.Listings.{Alternative, each_item, none_of, each_first, those, is_strict, listing}
 use Rattle.ess_rules_laws.specs.ListedSources.{laid_out}
 use Rattle.ess_rules_laws.proofs.Agreement.{look-itself}
+use Rattle.ess_rules_laws.proofs.NoneOf.{none_of-more}
 use Rattle.ess_guard_types_laws.proofs.JoinedTypes.{itself}
 use Rattle.ess_refine_laws.specs.AllRules.{OfSome}
 use Rattle.ess_refine_types_laws.specs.TypeNames.{IsUntyped}
@@ -90,8 +91,9 @@ module _ (g : Names Ty) (m : Ty) where
 
   none-under : (bs : List Ex) (a : Ex) → AllOfThem bs → type_of a g ≡ Some m → types_under (none_of bs a) g ≡ Some g
   none-under [] a h q = refl
-  none-under (b ∷ bs) a h q = truth-under g (ex1 true Op1.Not (ex2 true Op2.Eq b a)) (none_of bs a)
-      (not-type g (ex2 true Op2.Eq b a) (equation-type g b a m m h.0 q (itself m))) (none-under bs a h.1 q)
+  none-under (b ∷ bs) a h q = none_of-more (λ gs. types_under gs g ≡ Some g) b a bs (none-under bs a h.1 q)
+      (truth-under g (ex1 true Op1.Not (ex2 true Op2.Eq b a)) (none_of bs a)
+      (not-type g (ex2 true Op2.Eq b a) (equation-type g b a m m h.0 q (itself m))))
 
   pub each-first : (bs : List Ex) (es : Exs) → AllOfThem bs → AllOfType g m es → AllHave (each_first bs es)
   each-first bs no_exs h k = tt

@@ -16,6 +16,7 @@ use Rattle.ess_rules_laws.specs.Listings.{Alternative, each_item, none_of, each_
 use Rattle.ess_rules_laws.specs.InclusionRules.{both_sets}
 use Rattle.ess_rules_laws.specs.ShortSizeRules.{is_partition}
 use Rattle.ess_rules_laws.specs.ContainerListings.{of_function, made_listing}
+use Rattle.ess_rules_laws.proofs.NoneOf.{none_of-more}
 use Rattle.ess_refine_laws.specs.AllRules.{Supply, offered}
 use Rattle.ess_refine_laws.specs.LeavingConditions.{Parted, with_before, at_last_condition}
 use Rattle.ess_refine_laws.specs.Everywhere.{divisor, base, exponent, raised, extreme, is_nonzero, is_positive, everywhere, everywhere_list, everywhere_exs, everywhere_gens, everywhere_dom}
@@ -47,7 +48,7 @@ module _ (u : Text → Bool) where
 
   none-has : (bs : List Ex) (a : Ex) → ListHas bs → NamesHave u a → GensNamesHave u (none_of bs a)
   none-has [] a h k = tt
-  none-has (b ∷ bs) a h k = (((h.0, (k, tt)), tt), none-has bs a h.1 k)
+  none-has (b ∷ bs) a h k = none_of-more (GensNamesHave u) b a bs (none-has bs a h.1 k) (λ r. (((h.0, (k, tt)), tt), r))
 
   firsts-have : (bs : List Ex) (es : Exs) → ListHas bs → AllNamesHave u es → All (each_first bs es)
   firsts-have bs no_exs h k = tt

@@ -11,7 +11,7 @@ use Rattle.ess_semantics.specs.ExpressionJudgements.{forgets_order}
 use Rattle.ess_semantics.proofs.Tests.{and-left, and-right, and-both}
 use Rattle.ess_guard_laws.specs.Origins.{Origin, is_number, is_sure}
 use Rattle.ess_guard_laws.specs.IndexDomains.{item_dom, dom_behind, dom_followed, first_index, are_plain_bounds, plain_axis, index_dom}
-use Rattle.ess_guard_laws.specs.Conditions.{conds, chained, all_of, given_that, unless, nil_ex, as_number, is_not_zero, quotient_conditions, is_above_zero, power_conditions, has_items, has_item, some_item, is_argument, image_conditions, party_conditions, agree, agree_all, function_conditions, have_members, are_disjoint, is_single_set, partition_conditions, has_size, matrix_conditions, members_of, in_dom, at_step, index_conditions, path_conditions, own}
+use Rattle.ess_guard_laws.specs.Conditions.{conds, chained, all_of, given_that, unless, nil_ex, as_number, is_not_zero, quotient_conditions, is_above_zero, power_conditions, has_items, has_item, some_item, is_argument, image_conditions, party_conditions, agree, have_other_arguments, agree_all, function_conditions, have_members, are_disjoint, is_single_set, partition_conditions, has_size, matrix_conditions, members_of, in_dom, at_step, index_conditions, path_conditions, own}
 use Rattle.ess_given_laws.specs.Given.{is_fixed_dom, are_fixed_doms}
 
 -- ---- several expressions
@@ -146,7 +146,9 @@ module _ (t : Text → Bool) (Q R : Ex → Type 0) (D : Dom → Type 0) (B : Bui
 
   agree-all-has : (p : Ex) (qs : Exs) → Q p → EachHas Q qs → L (agree_all p qs)
   agree-all-has p no_exs h k = tt
-  agree-all-has p (more_exs q qs) h k = (agree-has p q h k.0, agree-all-has p qs h k.1)
+  agree-all-has p (more_exs q qs) h k =
+      has-append Q (unless (have_other_arguments p q) (agree p q)) (agree_all p qs)
+      (unless-has (have_other_arguments p q) (agree p q) (agree-has p q h k.0)) (agree-all-has p qs h k.1)
 
   function-has : (ps : Exs) → EachHas Q ps → L (function_conditions ps)
   function-has no_exs h = tt

@@ -15,6 +15,7 @@ use Rattle.ess_rules_laws.specs.Listings.{Alternative, each_item, none_of, each_
 use Rattle.ess_rules_laws.specs.InclusionRules.{both_sets}
 use Rattle.ess_rules_laws.specs.ShortSizeRules.{is_partition}
 use Rattle.ess_rules_laws.specs.ContainerListings.{of_function, made_listing}
+use Rattle.ess_rules_laws.proofs.NoneOf.{none_of-more}
 use Rattle.ess_refine_laws.specs.AllRules.{Supply, offered}
 use Rattle.ess_refine_laws.specs.LeavingConditions.{Parted, with_before, at_last_condition}
 use Rattle.ess_refine_laws.specs.Everywhere.{divisor, base, exponent, raised, extreme, is_nonzero, is_positive, everywhere, everywhere_list, everywhere_exs, everywhere_gens}
@@ -60,7 +61,8 @@ module _ (u : Text → Bool) where
 
   none-has : (bs : List Ex) (a : Ex) → ListHas bs → InOrder u a → GensOrdered u (none_of bs a)
   none-has [] a h k = tt
-  none-has (b ∷ bs) a h k = ((refl, ((refl, (h.0, (k, tt))), tt)), none-has bs a h.1 k)
+  none-has (b ∷ bs) a h k =
+      none_of-more (GensOrdered u) b a bs (none-has bs a h.1 k) (λ r. ((refl, ((refl, (h.0, (k, tt))), tt)), r))
 
   firsts-have : (bs : List Ex) (es : Exs) → ListHas bs → AllOrdered u es false → AllAlternatives (each_first bs es)
   firsts-have bs no_exs h k = tt

@@ -10,7 +10,7 @@ use Rattle.ess_semantics.specs.Contexts.{Each}
 use Rattle.ess_semantics.specs.Constants.{operand_count, drops_items, tree_constants, operand_constants, gens_constants, dom_constants}
 use Rattle.ess_guard_laws.specs.Origins.{Origin, is_number, is_sure}
 use Rattle.ess_guard_laws.specs.IndexDomains.{index_dom}
-use Rattle.ess_guard_laws.specs.Conditions.{unless, nil_ex, as_number, is_not_zero, is_above_zero, power_conditions, has_items, has_item, some_item, is_argument, agree, agree_all, function_conditions, have_members, are_disjoint, is_single_set, partition_conditions, has_size, matrix_conditions, members_of, in_dom, at_step, index_conditions, path_conditions, own}
+use Rattle.ess_guard_laws.specs.Conditions.{unless, nil_ex, as_number, is_not_zero, is_above_zero, power_conditions, has_items, has_item, some_item, is_argument, agree, have_other_arguments, agree_all, function_conditions, have_members, are_disjoint, is_single_set, partition_conditions, has_size, matrix_conditions, members_of, in_dom, at_step, index_conditions, path_conditions, own}
 use Rattle.ess_guard_laws.proofs.ConstantRows as R
 use Rattle.ess_guard_laws.proofs.ConstantRows.{each-append, each-left, each-right}
 
@@ -110,7 +110,10 @@ module _ (P : ℤ → Type 0) (p0 : P (pos 0)) (p1 : P (pos 1)) where
 
   agree-all-in : (p : Ex) (qs : Exs) → Tree false p → Trees false qs → InEach (agree_all p qs)
   agree-all-in p no_exs m l = tt
-  agree-all-in p (more_exs q qs) m l = (agree-in p q m (first false q qs l), agree-all-in p qs m (rest false q qs l))
+  agree-all-in p (more_exs q qs) m l =
+      in-append (unless (have_other_arguments p q) (agree p q)) (agree_all p qs)
+      (in-unless (have_other_arguments p q) (agree p q) (λ t. agree-in p q m (first false q qs l)))
+      (agree-all-in p qs m (rest false q qs l))
 
   function-in : (ps : Exs) → Trees false ps → InEach (function_conditions ps)
   function-in no_exs m = tt

@@ -7,7 +7,7 @@ use Rattle.ess_semantics.specs.declared.words.ReprKind.{ReprKind}
 use Rattle.ess_semantics.specs.Values.{Text, Value, truth}
 use Rattle.ess_semantics.specs.Names.{Names}
 use Rattle.ess_semantics.specs.Choice.{alone, over_child}
-use Rattle.ess_semantics.specs.Trees.{word, tuple_literal, set_literal, function_literal, partition_literal, matrix_literal, Ex, truth_ex, name_ex, node_ex, matrix_ex, comp_ex, cell_ex, seen_ex, no_exs, no_gens, over, from, cond, name_pat, no_doms, more_doms, matrix_dom, function_dom, ex1, ex2, fun1, at1}
+use Rattle.ess_semantics.specs.Trees.{word, tuple_literal, set_literal, function_literal, partition_literal, matrix_literal, Ex, truth_ex, name_ex, node_ex, matrix_ex, comp_ex, cell_ex, seen_ex, no_exs, more_exs, no_gens, over, from, cond, name_pat, no_doms, more_doms, matrix_dom, function_dom, ex1, ex2, fun1, at1}
 use Rattle.ess_semantics.specs.Meaning.{Env, empty_env, meaning}
 use Rattle.ess_semantics.proofs.Shorthands.{N, n, es1, es2, range, upto, v}
 use Rattle.ess_guard_laws.specs.Guard.{there, make_total, make_natural, make_total_term}
@@ -134,6 +134,18 @@ pair_of a b = node_ex false tuple_literal (es2 a b)
 
 functions : there q r (node_ex false function_literal (es2 (pair_of (n 1) c) (pair_of c (n 2)))) ≡ ex2 true Op2.Implies (equal (n 1) c) (equal c (n 2)) ∷ []
 functions = refl
+
+-- numerals that differ are other arguments: function(1 --> c, 2 --> c) asks nothing, a third pair with 1 asks of the first alone
+apart_functions : there q r (node_ex false function_literal (es2 (pair_of (n 1) c) (pair_of (n 2) c))) ≡ []
+apart_functions = refl
+
+double_function : there q r (node_ex false function_literal (more_exs (pair_of (n 1) c) (es2 (pair_of (n 2) c) (pair_of (n 1) x)))) ≡
+    ex2 true Op2.Implies (equal (n 1) (n 1)) (equal c x) ∷ []
+double_function = refl
+
+-- function((1, c) --> 3, (2, c) --> c) asks nothing either: the arguments differ in a component
+apart_tuples : there q r (node_ex false function_literal (es2 (pair_of (pair_of (n 1) c) (n 3)) (pair_of (pair_of (n 2) c) c))) ≡ []
+apart_tuples = refl
 
 -- partition({c}, s)
 parts : there q r (node_ex false partition_literal (es2 (node_ex false set_literal (es1 c)) s)) ≡

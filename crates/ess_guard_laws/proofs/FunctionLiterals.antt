@@ -1,5 +1,5 @@
 -- The conditions of a literal of a function are total, and where they hold it has a value.
-use Rattle.std.proofs.Common.{◌≡◌, refl, sym, ap, ◌∙◌, true, false, not, List, [], ◌∷◌, Option, Some, None, is_some}
+use Rattle.std.proofs.Common.{◌≡◌, refl, sym, ap, ◌∙◌, Bool, true, false, not, List, [], ◌∷◌, Option, Some, None, is_some}
 use Rattle.ess_semantics.specs.declared.words.Op2.{Op2}
 use Rattle.ess_semantics.specs.Lists.{and_then, all_some, when}
 use Rattle.ess_semantics.specs.Values.{a_function, Value, node, of_list, from_of, pair}
@@ -12,13 +12,14 @@ use Rattle.ess_semantics.specs.Totality.{HasValue, Total, TotalAll}
 use Rattle.ess_semantics.proofs.Orders.{same-itself, same-equal}
 use Rattle.ess_semantics.proofs.Sorting.{holds-sorted_once}
 use Rattle.ess_semantics.proofs.Tests.{and-left, and-right, if-so}
-use Rattle.ess_guard_laws.specs.Conditions.{agree, agree_all, function_conditions}
+use Rattle.ess_rules_laws.proofs.Apart.{apart-differ}
+use Rattle.ess_guard_laws.specs.Conditions.{unless, agree, have_other_arguments, agree_all, function_conditions}
 use Rattle.ess_guard_laws.specs.Covered.{is_pair, are_pairs}
 use Rattle.ess_guard_laws.specs.Holds.{Hold}
 use Rattle.ess_guard_laws.proofs.Holding.{hold-left, hold-right, the-value}
 use Rattle.ess_guard_laws.proofs.LiteralRows.{first-value, no-values}
 use Rattle.ess_guard_laws.proofs.Safe.{all-there}
-use Rattle.ess_guard_laws.proofs.Behind.{EachTotal, each-total-append, safe-total}
+use Rattle.ess_guard_laws.proofs.Behind.{EachTotal, each-total-append, each-total-unless, safe-total}
 use Rattle.ess_guard_laws.proofs.Differ.{held-split, distinct-parts, sorted-distinct}
 
 -- ---- the conditions are total
@@ -34,7 +35,9 @@ agree-total p q env t u = tt
 
 agree-all-total : (p : Ex) (qs : Exs) (env : Env) → Total p env → TotalAll qs env → EachTotal (agree_all p qs) env
 agree-all-total p no_exs env t u = tt
-agree-all-total p (more_exs q qs) env t u = (agree-total p q env t u.0, agree-all-total p qs env t u.1)
+agree-all-total p (more_exs q qs) env t u =
+    each-total-append (unless (have_other_arguments p q) (agree p q)) (agree_all p qs) env
+    (each-total-unless (have_other_arguments p q) (agree p q) env (agree-total p q env t u.0)) (agree-all-total p qs env t u.1)
 
 -- That pairs agree is total.
 pub agreement-total : (es : Exs) (env : Env) → TotalAll es env → EachTotal (function_conditions es) env
@@ -71,6 +74,29 @@ agree-tells (node_ex false tuple_literal (more_exs a (more_exs b no_exs)))
         first = ap (λ x. same a (from_of x)) (sym ws) ∙ ap (λ x. same (from_of x) (from_of w)) (sym vs) ∙ z
 agree-tells p q env v w s t e f h z = cc
 
+-- The parts of a pair have values.
+pair-parts : (o p : Option Value) (v : Value) → value_of_node tuple_literal (o ∷ p ∷ []) ≡ Some v →
+    (a : Value) × (b : Value) × (o ≡ Some a) × (p ≡ Some b) × (v ≡ pair a b)
+pair-parts None p v e = cc
+pair-parts (Some a) None v e = cc
+pair-parts (Some a) (Some b) v e = (a, b, refl, refl, ap (λ o. elim o [ None ↦ v | Some z ↦ z ]) (sym e))
+
+-- Pairs whose arguments are others by their form have different arguments.
+other-arguments : (p q : Ex) (env : Env) (v w : Value) → have_other_arguments p q ≡ true → meaning p env ≡ Some v →
+    meaning q env ≡ Some w → same (from_of v) (from_of w) ≡ false
+other-arguments (node_ex false tuple_literal (more_exs a (more_exs b no_exs)))
+    (node_ex false tuple_literal (more_exs c (more_exs d no_exs))) env v w t e f =
+    let r = pair-parts (meaning a env) (meaning b env) v e in
+    let s = pair-parts (meaning c env) (meaning d env) w f in
+    ap (λ x. same (from_of x) (from_of w)) r.4 ∙ ap (λ x. same r.0 (from_of x)) s.4 ∙ apart-differ a c env t r.0 s.0 r.2 s.2
+other-arguments p q env v w t e f = cc
+
+-- Two pairs with one argument are one, where it is asked that they agree, or the form tells that they have others.
+pair-tells : (t : Bool) (p q : Ex) (env : Env) (v w : Value) → have_other_arguments p q ≡ t → is_pair p ≡ true → is_pair q ≡ true →
+    meaning p env ≡ Some v → meaning q env ≡ Some w → Hold (unless t (agree p q)) env → same (from_of v) (from_of w) ≡ true → v ≡ w
+pair-tells true p q env v w o s t e f h z = let d : true ≡ false = sym z ∙ other-arguments p q env v w o e f in cc
+pair-tells false p q env v w o s t e f h z = agree-tells p q env v w s t e f h.0 z
+
 agree-all-tell : (p : Ex) (qs : Exs) (env : Env) (v : Value) (ws : List Value) → is_pair p ≡ true → are_pairs qs ≡ true →
     meaning p env ≡ Some v → all_some (meanings qs env) ≡ Some ws → Hold (agree_all p qs) env →
     (w : Value) → holds ws w ≡ true → same (from_of v) (from_of w) ≡ true → v ≡ w
@@ -78,8 +104,10 @@ agree-all-tell p no_exs env v ws s t e f h w k z = let r : holds [] w ≡ true =
 agree-all-tell p (more_exs q qs) env v ws s t e f h w k z =
     let r = first-value (meaning q env) (all_some (meanings qs env)) ws f in
     held-split r.0 r.1 w (v ≡ w) (ap (λ l. holds l w) (sym r.4) ∙ k)
-    (λ u. agree-tells p q env v r.0 s (and-left (is_pair q) (are_pairs qs) t) e r.2 h.0 (ap (λ x. same (from_of v) (from_of x)) u ∙ z) ∙ u)
-    (λ u. agree-all-tell p qs env v r.1 s (and-right (is_pair q) (are_pairs qs) t) e r.3 h.1 w u z)
+    (λ u. pair-tells (have_other_arguments p q) p q env v r.0 refl s (and-left (is_pair q) (are_pairs qs) t) e r.2
+    (hold-left (unless (have_other_arguments p q) (agree p q)) (agree_all p qs) env h) (ap (λ x. same (from_of v) (from_of x)) u ∙ z) ∙ u)
+    (λ u. agree-all-tell p qs env v r.1 s (and-right (is_pair q) (are_pairs qs) t) e r.3
+    (hold-right (unless (have_other_arguments p q) (agree p q)) (agree_all p qs) env h) w u z)
 
 agreement-tells : (es : Exs) (env : Env) (ws : List Value) → are_pairs es ≡ true → all_some (meanings es env) ≡ Some ws →
     Hold (function_conditions es) env →

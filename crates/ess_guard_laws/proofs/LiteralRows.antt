@@ -16,7 +16,7 @@ use Rattle.ess_semantics.proofs.Orders.{to_list-of_list, same-itself, same-equal
 use Rattle.ess_semantics.proofs.Sorting.{Distinct, holds-sorted_once, twice-distinct}
 use Rattle.ess_semantics.proofs.Tests.{and-left, and-right, and-both, not-true}
 use Rattle.ess_rules_laws.proofs.Agreement.{look-itself}
-use Rattle.ess_guard_laws.specs.Conditions.{some_item, agree, agree_all, function_conditions, have_members, are_disjoint, is_single_set, partition_conditions, has_size, matrix_conditions}
+use Rattle.ess_guard_laws.specs.Conditions.{unless, some_item, agree, have_other_arguments, agree_all, function_conditions, have_members, are_disjoint, is_single_set, partition_conditions, has_size, matrix_conditions}
 use Rattle.ess_guard_laws.specs.Holds.{Hold}
 use Rattle.ess_guard_laws.proofs.Holding.{hold-append, unless-holds}
 use Rattle.ess_guard_laws.proofs.ItemRows.{some-item-holds}
@@ -99,10 +99,11 @@ agree-all-holds : (p : Ex) (qs : Exs) (env : Env) (ps : List Value) (v : Value) 
     ((z : Value) → holds ws z ≡ true → holds ps z ≡ true) → Hold (agree_all p qs) env
 agree-all-holds p no_exs env ps v ws n e f hv hw = tt
 agree-all-holds p (more_exs q qs) env ps v ws n e f hv hw =
-    let r = first-value (meaning q env) (all_some (meanings qs env)) ws f in (
-      agree-holds p q env ps v r.0 n e r.2 hv (hw r.0 (ap (λ l. holds l r.0) r.4 ∙ ap (λ b. b || holds r.1 r.0) (same-itself r.0))),
-      agree-all-holds p qs env ps v r.1 n e r.3 hv (λ z h. hw z (ap (λ l. holds l z) r.4 ∙ later (same r.0 z) (holds r.1 z) h)),
-    )
+    let r = first-value (meaning q env) (all_some (meanings qs env)) ws f in
+    hold-append (unless (have_other_arguments p q) (agree p q)) (agree_all p qs) env
+    (unless-holds (have_other_arguments p q) (agree p q) env
+    (agree-holds p q env ps v r.0 n e r.2 hv (hw r.0 (ap (λ l. holds l r.0) r.4 ∙ ap (λ b. b || holds r.1 r.0) (same-itself r.0)))))
+    (agree-all-holds p qs env ps v r.1 n e r.3 hv (λ z h. hw z (ap (λ l. holds l z) r.4 ∙ later (same r.0 z) (holds r.1 z) h)))
   where
     later : (a b : Bool) → b ≡ true → a || b ≡ true
     later true b e = refl

@@ -13,7 +13,7 @@ use Rattle.ess_semantics.specs.Constants.{operand_count}
 use Rattle.ess_rules_laws.proofs.Bindings.{each-of-map, each-in-map}
 use Rattle.ess_guard_laws.specs.Origins.{Origin, is_number, is_sure}
 use Rattle.ess_guard_laws.specs.IndexDomains.{item_dom, dom_behind, dom_followed, first_index, are_plain_bounds, plain_axis, index_dom}
-use Rattle.ess_guard_laws.specs.Conditions.{conds, chained, all_of, every, given_that, unless, nil_ex, as_number, is_not_zero, is_above_zero, power_conditions, has_items, has_item, some_item, is_argument, agree, agree_all, function_conditions, have_members, are_disjoint, is_single_set, partition_conditions, has_size, matrix_conditions, members_of, in_dom, at_step, index_conditions, path_conditions, own}
+use Rattle.ess_guard_laws.specs.Conditions.{conds, chained, all_of, every, given_that, unless, nil_ex, as_number, is_not_zero, is_above_zero, power_conditions, has_items, has_item, some_item, is_argument, agree, have_other_arguments, agree_all, function_conditions, have_members, are_disjoint, is_single_set, partition_conditions, has_size, matrix_conditions, members_of, in_dom, at_step, index_conditions, path_conditions, own}
 
 -- ---- conditions
 
@@ -149,7 +149,9 @@ agree-met p q env m l = tt
 
 agree-all-met : (p : Ex) (qs : Exs) (env : Env) → Meets p env → MeetsAll false qs env → Met (agree_all p qs) env
 agree-all-met p no_exs env m l = tt
-agree-all-met p (more_exs q qs) env m l = (agree-met p q env m l.0, agree-all-met p qs env m l.1)
+agree-all-met p (more_exs q qs) env m l =
+    met-append (unless (have_other_arguments p q) (agree p q)) (agree_all p qs) env
+    (met-unless (have_other_arguments p q) (agree p q) env (agree-met p q env m l.0)) (agree-all-met p qs env m l.1)
 
 function-met : (ps : Exs) (env : Env) → MeetsAll false ps env → Met (function_conditions ps) env
 function-met no_exs env m = tt

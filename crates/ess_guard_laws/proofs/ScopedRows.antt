@@ -14,7 +14,7 @@ use Rattle.ess_semantics.proofs.Texts.{same_text-itself}
 use Rattle.ess_semantics.proofs.Tests.{and-left, and-right, or-yes}
 use Rattle.ess_guard_laws.specs.Origins.{Origin, is_number, is_sure}
 use Rattle.ess_guard_laws.specs.IndexDomains.{item_dom, dom_behind, dom_followed, first_index, is_plain_bound, are_plain_bounds, plain_axis, index_dom}
-use Rattle.ess_guard_laws.specs.Conditions.{conds, chained, summed, all_of, every, given_that, unless, nil_ex, as_number, is_not_zero, is_above_zero, power_conditions, has_items, has_item, some_item, is_argument, agree, agree_all, function_conditions, have_members, are_disjoint, is_single_set, partition_conditions, has_size, matrix_conditions, in_dom, at_step, index_conditions, path_conditions, own}
+use Rattle.ess_guard_laws.specs.Conditions.{conds, chained, summed, all_of, every, given_that, unless, nil_ex, as_number, is_not_zero, is_above_zero, power_conditions, has_items, has_item, some_item, is_argument, agree, have_other_arguments, agree_all, function_conditions, have_members, are_disjoint, is_single_set, partition_conditions, has_size, matrix_conditions, in_dom, at_step, index_conditions, path_conditions, own}
 
 -- The names of the domains of declarations are in scope.
 abbrev pub Within : (Text → Bool) → (Text → Bool) → Type 0
@@ -209,7 +209,9 @@ module _ (z : Text → Bool) where
 
     agree-all-scoped : (p : Ex) (qs : Exs) → Scoped z s o p → ScopedExs z s o qs → EachScoped s o (agree_all p qs)
     agree-all-scoped p no_exs m l = tt
-    agree-all-scoped p (more_exs q qs) m l = (agree-scoped p q m l.0, agree-all-scoped p qs m l.1)
+    agree-all-scoped p (more_exs q qs) m l =
+        scoped-append s o (unless (have_other_arguments p q) (agree p q)) (agree_all p qs)
+        (scoped-unless s o (have_other_arguments p q) (agree p q) (agree-scoped p q m l.0)) (agree-all-scoped p qs m l.1)
 
     function-scoped : (ps : Exs) → ScopedExs z s o ps → EachScoped s o (function_conditions ps)
     function-scoped no_exs m = tt

@@ -10,7 +10,7 @@ use Rattle.ess_semantics.specs.Operators.{as_truth}
 use Rattle.ess_semantics.specs.Meaning.{Env, meaning}
 use Rattle.ess_guard_laws.specs.Origins.{Origin, is_sure, with_any, with_over, known_behind}
 use Rattle.ess_guard_laws.specs.IndexDomains.{index_dom}
-use Rattle.ess_guard_laws.specs.Conditions.{unless, is_not_zero, is_above_zero, has_items, has_item, some_item, is_argument, agree, agree_all, function_conditions, have_members, are_disjoint, is_single_set, has_size, matrix_conditions, in_dom, at_step, index_conditions, path_conditions, all_of, every, given_that, own}
+use Rattle.ess_guard_laws.specs.Conditions.{unless, is_not_zero, is_above_zero, has_items, has_item, some_item, is_argument, agree, have_other_arguments, agree_all, function_conditions, have_members, are_disjoint, is_single_set, has_size, matrix_conditions, in_dom, at_step, index_conditions, path_conditions, all_of, every, given_that, own}
 use Rattle.ess_guard_laws.specs.Guard.{connects, guarded, guarded_all, guarded_dom, conditions, conditions_all, conditions_gens, conditions_dom, conditions_doms}
 
 -- The expression is true or false.
@@ -70,7 +70,9 @@ agree-truth p q env = refl
 
 agree-all-truths : (p : Ex) (qs : Exs) (env : Env) → AreTruths (agree_all p qs) env
 agree-all-truths p no_exs env = tt
-agree-all-truths p (more_exs q qs) env = (agree-truth p q env, agree-all-truths p qs env)
+agree-all-truths p (more_exs q qs) env =
+    both-truths (unless (have_other_arguments p q) (agree p q)) (agree_all p qs) env
+    (unless-truth (have_other_arguments p q) (agree p q) env (agree-truth p q env)) (agree-all-truths p qs env)
 
 function-truths : (ps : Exs) (env : Env) → AreTruths (function_conditions ps) env
 function-truths no_exs env = tt

@@ -9,6 +9,7 @@ use Rattle.ess_semantics.specs.Order.{same_int}
 use Rattle.ess_semantics.specs.Names.{Names}
 use Rattle.ess_semantics.specs.Trees.{Step, by_value, to_component, to_field, Op, binary, word, index, tuple_literal, set_literal, mset_literal, function_literal, partition_literal, matrix_literal, both_ends, repr, more_reprs, name_pat, Ex, Exs, number_ex, truth_ex, name_ex, node_ex, comp_ex, seen_ex, no_exs, more_exs, Gens, no_gens, over, from, cond, Dom, int_dom, function_dom, ex2, fun1}
 use Rattle.ess_semantics.specs.Constants.{operand_count}
+use Rattle.ess_rules_laws.specs.Apart.{are_apart}
 use Rattle.ess_guard_laws.specs.Origins.{Origin, is_number, is_sure}
 use Rattle.ess_guard_laws.specs.IndexDomains.{index_dom}
 
@@ -122,12 +123,18 @@ agree (node_ex false tuple_literal (more_exs a (more_exs b no_exs))) (node_ex fa
     ex2 true Op2.Implies (ex2 true Op2.Eq a c) (ex2 true Op2.Eq b d)
 agree p q = truth_ex true
 
--- That a pair agrees with each of several others.
+-- Whether two pairs have different arguments, by their form.
+abbrev pub have_other_arguments : Ex → Ex → Bool
+have_other_arguments (node_ex false tuple_literal (more_exs a (more_exs b no_exs)))
+    (node_ex false tuple_literal (more_exs c (more_exs d no_exs))) = are_apart a c
+have_other_arguments p q = false
+
+-- That a pair agrees with each of several others. Nothing is asked of one whose argument is another by its form.
 abbrev pub agree_all : Ex → Exs → List Ex
 agree_all p no_exs = []
-agree_all p (more_exs q qs) = agree p q ∷ agree_all p qs
+agree_all p (more_exs q qs) = unless (have_other_arguments p q) (agree p q) ++ agree_all p qs
 
--- That pairs have one value for each argument: each agrees with those behind it.
+-- That pairs have one value for each argument: each agrees with those behind it that may have its argument.
 abbrev pub function_conditions : Exs → List Ex
 function_conditions no_exs = []
 function_conditions (more_exs p ps) = agree_all p ps ++ function_conditions ps

@@ -11,7 +11,7 @@ use Rattle.ess_semantics.specs.Typing.{types_of, source_ty}
 use Rattle.ess_semantics.specs.NamesAt.{names_behind}
 use Rattle.ess_semantics.specs.Constants.{operand_count}
 use Rattle.ess_guard_laws.specs.Origins.{Origin, is_number}
-use Rattle.ess_guard_laws.specs.Conditions.{conds, chained, summed, all_of, every, given_that, unless, nil_ex, as_number, is_not_zero, quotient_conditions, is_above_zero, power_conditions, has_items, has_item, some_item, is_argument, image_conditions, party_conditions, agree, agree_all, function_conditions, have_members, are_disjoint, is_single_set, partition_conditions, has_size, matrix_conditions}
+use Rattle.ess_guard_laws.specs.Conditions.{conds, chained, summed, all_of, every, given_that, unless, nil_ex, as_number, is_not_zero, quotient_conditions, is_above_zero, power_conditions, has_items, has_item, some_item, is_argument, image_conditions, party_conditions, agree, have_other_arguments, agree_all, function_conditions, have_members, are_disjoint, is_single_set, partition_conditions, has_size, matrix_conditions}
 use Rattle.ess_guard_marks_laws.proofs.FullMarks.{Full, AllFull, GensFull, DomFull, FullConds}
 use Rattle.ess_guard_marks_laws.proofs.NoBooleans.{never, plus-two, sum-of, defined-of, participants-of, list-of}
 
@@ -131,7 +131,9 @@ agree-full p q g f h = tt
 
 agree-all-full : (p : Ex) (qs : Exs) (g : Names Ty) → Full p g → AllFull qs g → FullConds (agree_all p qs) g
 agree-all-full p no_exs g f h = tt
-agree-all-full p (more_exs q qs) g f h = (agree-full p q g f h.0, agree-all-full p qs g f h.1)
+agree-all-full p (more_exs q qs) g f h =
+    full-append (unless (have_other_arguments p q) (agree p q)) (agree_all p qs) g
+    (full-unless (have_other_arguments p q) (agree p q) g (agree-full p q g f h.0)) (agree-all-full p qs g f h.1)
 
 pub function-full : (ps : Exs) (g : Names Ty) → AllFull ps g → FullConds (function_conditions ps) g
 function-full no_exs g f = tt

@@ -2,7 +2,7 @@
 use Rattle.ess_guard_laws.proofs.MetRows.{each-in-always, each-of-always}
 use Rattle.ess_guard_laws.proofs.Safe.{is_safe}
 use Rattle.ess_guard_laws.proofs.TotalMatrices.{matrix-tells}
-use Rattle.ess_guard_laws.specs.Conditions.{agree, agree_all, are_disjoint, as_number, function_conditions, has_item, has_items, has_size, have_members, in_dom, is_above_zero, is_not_zero, is_single_set, matrix_conditions, members_of, nil_ex, partition_conditions, party_conditions, power_conditions, quotient_conditions, some_item, unless}
+use Rattle.ess_guard_laws.specs.Conditions.{agree, agree_all, are_disjoint, as_number, function_conditions, has_item, has_items, has_size, have_members, have_other_arguments, in_dom, is_above_zero, is_not_zero, is_single_set, matrix_conditions, members_of, nil_ex, partition_conditions, party_conditions, power_conditions, quotient_conditions, some_item, unless}
 use Rattle.ess_guard_laws.specs.Origins.{Origin, is_number}
 use Rattle.ess_semantics.specs.Constants.{operand_count}
 use Rattle.ess_semantics.specs.Meaning.{Env, domain_of, meaning, meanings, members_in, with_pat}
@@ -102,7 +102,9 @@ agree-total p q env t u = tt
 
 agree-all-total : (p : Ex) (qs : Exs) (env : Env) → T p env → TA qs env → EachTotal (agree_all p qs) env
 agree-all-total p no_exs env t u = tt
-agree-all-total p (more_exs q qs) env t u = (agree-total p q env t u.0, agree-all-total p qs env t u.1)
+agree-all-total p (more_exs q qs) env t u =
+    each-total-append (unless (have_other_arguments p q) (agree p q)) (agree_all p qs) env
+    (each-total-unless (have_other_arguments p q) (agree p q) env (agree-total p q env t u.0)) (agree-all-total p qs env t u.1)
 
 -- That pairs agree is total.
 pub agreement-total : (es : Exs) (env : Env) → TA es env → EachTotal (function_conditions es) env

@@ -11,7 +11,7 @@ use Rattle.ess_semantics.specs.Types.{Ty, any_ty, bool_ty, int_ty, compound, no_
 use Rattle.ess_semantics.specs.OperatorTypes.{member_ty, partition_ty, type_of_list, type_of_op}
 use Rattle.ess_semantics.specs.Typing.{type_of, types_of, source_ty}
 use Rattle.ess_semantics.proofs.Texts.{same_text-itself}
-use Rattle.ess_guard_laws.specs.Conditions.{unless, some_item, agree, agree_all, function_conditions, have_members, are_disjoint, is_single_set, partition_conditions, has_size, matrix_conditions}
+use Rattle.ess_guard_laws.specs.Conditions.{unless, some_item, agree, have_other_arguments, agree_all, function_conditions, have_members, are_disjoint, is_single_set, partition_conditions, has_size, matrix_conditions}
 use Rattle.ess_guard_types_laws.specs.HasTypes.{HasTypes, HaveTypes, GensHaveTypes, DomHasTypes}
 use Rattle.ess_guard_types_laws.proofs.TypedConditions.{Cond, Conds, both-conds, unless-conds, two-cond, word-cond, its-type, comp-type}
 use Rattle.ess_guard_types_laws.proofs.JoinedTypes.{Agree, EachAgrees, each-agrees}
@@ -79,7 +79,9 @@ agree-conds : (p : Ex) (t : Ty) (qs : Exs) (g : Names Ty) → HasTypes p g → t
     Conds (agree_all p qs) g
 agree-conds p t no_exs g h e k a = tt
 agree-conds p t (more_exs q qs) g h e k a =
-    let b = a.0 in (agree-cond p q t b.0 g h k.0 e b.1 b.2, agree-conds p t qs g h e k.1 a.1)
+    let b = a.0 in
+    both-conds (unless (have_other_arguments p q) (agree p q)) (agree_all p qs) g
+    (unless-conds (have_other_arguments p q) (agree p q) g (agree-cond p q t b.0 g h k.0 e b.1 b.2)) (agree-conds p t qs g h e k.1 a.1)
 
 joined-rest : (o : Option Ty) (t : Ty) → is_some (and_then o (join t)) ≡ true → (j : Ty) × (o ≡ Some j) × Agree t j
 joined-rest None t h = (any_ty, cc, cc)

@@ -17,6 +17,7 @@ use Rattle.ess_rules_laws.specs.ShortSizeRules.{is_partition}
 use Rattle.ess_rules_laws.specs.Listings.{Alternative, each_item, none_of, each_first, those, is_strict, listing}
 use Rattle.ess_rules_laws.specs.ContainerListings.{of_function, arguments_listed, members_of_parts, made_listing}
 use Rattle.ess_rules_laws.specs.ListedSources.{laid_out}
+use Rattle.ess_rules_laws.proofs.NoneOf.{none_of-more}
 use Rattle.ess_refine_laws.specs.AllRules.{OfSome}
 use Rattle.ess_refine_laws.specs.MarksStay.{HasMarks, HaveMarks}
 use Rattle.ess_refine_types_laws.specs.MarksOfContainers.{IsNewTo}
@@ -54,12 +55,12 @@ module _ (g : Names Ty) where
 
   none-behind : (bs : List Ex) (a : Ex) → names_behind (none_of bs a) g ≡ g
   none-behind [] a = refl
-  none-behind (b ∷ bs) a = none-behind bs a
+  none-behind (b ∷ bs) a = none_of-more (λ gs. names_behind gs g ≡ g) b a bs (none-behind bs a) (λ r. r)
 
   none-grows : (bs : List Ex) (a : Ex) → AllMarked bs → HasMarks a g → GensGrow g (none_of bs a)
   none-grows [] a h k = no_gens_grow
-  none-grows (b ∷ bs) a h k = cond_grows (a_node refl (more_grow (a_node refl (more_grow (as_it_is h.0) (more_grow (as_it_is k) none_grow)))
-      none_grow)) (none-grows bs a h.1 k)
+  none-grows (b ∷ bs) a h k = none_of-more (GensGrow g) b a bs (none-grows bs a h.1 k)
+      (cond_grows (a_node refl (more_grow (a_node refl (more_grow (as_it_is h.0) (more_grow (as_it_is k) none_grow))) none_grow)))
 
   each-first : (bs : List Ex) (es : Exs) → AllMarked bs → HaveMarks es g → EachGrown (each_first bs es)
   each-first bs no_exs h k = tt

@@ -26,6 +26,7 @@ use Rattle.ess_rules_laws.specs.Listings.{each_item, none_of, each_first, is_str
 use Rattle.ess_rules_laws.specs.ListedSources.{laid_out}
 use Rattle.ess_rules_laws.specs.ContainerListings.{made_listing}
 use Rattle.ess_rules_laws.proofs.Agreement.{same_text-equal, same_text-itself}
+use Rattle.ess_rules_laws.proofs.NoneOf.{none_of-more}
 use Rattle.ess_refine_laws.specs.ExtremeAlternatives.{has_items}
 use Rattle.ess_refine_laws.specs.AllRules.{OfSome}
 use Rattle.ess_refine_laws.specs.ScopesStay.{Scope}
@@ -68,7 +69,8 @@ module _ (z : Text → Bool) (s : Scope) where
 
   none-scoped : (bs : List Ex) (a : Ex) → ScopedList bs → S a → S (comp_ex a (none_of bs a))
   none-scoped [] a h k = k
-  none-scoped (b ∷ bs) a h k = (((h.0, (k, tt)), tt), none-scoped bs a h.1 k)
+  none-scoped (b ∷ bs) a h k =
+      none_of-more (λ gs. S (comp_ex a gs)) b a bs (none-scoped bs a h.1 k) (λ r. (((h.0, (k, tt)), tt), r))
 
   firsts-scoped : (bs : List Ex) (es : Exs) → ScopedList bs → ScopedExs z s.all s.over_domains es → AllScoped (each_first bs es)
   firsts-scoped bs no_exs h k = tt

@@ -15,6 +15,7 @@ use Rattle.ess_rules_laws.specs.Listings.{Alternative, each_item, none_of, each_
 use Rattle.ess_rules_laws.specs.InclusionRules.{both_sets}
 use Rattle.ess_rules_laws.specs.ShortSizeRules.{is_partition}
 use Rattle.ess_rules_laws.specs.ContainerListings.{of_function, made_listing}
+use Rattle.ess_rules_laws.proofs.NoneOf.{none_of-more}
 use Rattle.ess_refine_laws.specs.AllRules.{Supply, offered}
 use Rattle.ess_refine_laws.specs.LeavingConditions.{Parted, with_before, at_last_condition}
 use Rattle.ess_refine_laws.specs.Everywhere.{divisor, base, exponent, raised, extreme, is_nonzero, is_positive, everywhere, everywhere_list, everywhere_exs, everywhere_gens, everywhere_dom}
@@ -50,7 +51,8 @@ module _ (q : ℤ → Bool) where
 
   none-spells : (bs : List Ex) (a : Ex) → SpellsList bs → Spells q false a → SpellsGens q (none_of bs a)
   none-spells [] a h k = tt
-  none-spells (b ∷ bs) a h k = ((refl, ((refl, (h.0, (k, tt))), tt)), none-spells bs a h.1 k)
+  none-spells (b ∷ bs) a h k =
+      none_of-more (SpellsGens q) b a bs (none-spells bs a h.1 k) (λ r. ((refl, ((refl, (h.0, (k, tt))), tt)), r))
 
   firsts-spell : (bs : List Ex) (es : Exs) → SpellsList bs → SpellsEach q false es → SpellsAll (each_first bs es)
   firsts-spell bs no_exs h k = tt

@@ -1,7 +1,9 @@
 -- Worked examples: alternatives of literals.
-use Rattle.std.proofs.Common.{◌≡◌, refl, false, [], ◌∷◌, Some, None}
-use Rattle.ess_semantics.specs.Trees.{tuple_literal, Ex, name_ex, node_ex, no_exs, more_exs, no_gens, cond}
-use Rattle.ess_rules_alternatives.specs.Cases.{tuple_pair, differs, case_of, results_behind}
+use Rattle.std.proofs.Common.{◌≡◌, refl, true, false, [], ◌∷◌, pos, Some, None}
+use Rattle.ess_semantics.specs.declared.words.Op2.{Op2}
+use Rattle.ess_semantics.specs.Trees.{tuple_literal, Ex, number_ex, name_ex, node_ex, ex2, no_exs, more_exs, no_gens, cond}
+use Rattle.ess_rules_sources.specs.PureAlternatives.{alternative_of}
+use Rattle.ess_rules_alternatives.specs.Cases.{tuple_pair, differs, case_of}
 
 abbrev pub a : Ex
 a = name_ex (97 ∷ [])
@@ -25,11 +27,16 @@ one_item = refl
 pub no_tuple : tuple_pair a ≡ None
 no_tuple = refl
 
--- `function(a --> b, b --> a)` at x: b where x is a, and a where x is b and isn't a.
-pub two_results : results_behind no_gens x (more_exs (pair a b) (more_exs (pair b a) no_exs))
-    ≡ Some (case_of no_gens x a b ∷ case_of (cond (differs a x) no_gens) x b a ∷ [])
-two_results = refl
+-- The result b where x is a, behind a pair with the argument b.
+pub second_result : case_of (b ∷ []) x a b ≡ alternative_of (cond (ex2 true Op2.Eq x a) (cond (differs b x) no_gens)) b
+second_result = refl
 
--- What isn't a pair has no result.
-pub no_results : results_behind no_gens x (more_exs (pair a b) (more_exs a no_exs)) ≡ None
-no_results = refl
+-- Behind one with a numeral at a numeral there is no condition on that.
+abbrev pub one : Ex
+one = number_ex (pos 1)
+
+abbrev pub two : Ex
+two = number_ex (pos 2)
+
+pub another_numeral : case_of (one ∷ []) x two b ≡ alternative_of (cond (ex2 true Op2.Eq x two) no_gens) b
+another_numeral = refl

@@ -1,14 +1,15 @@
 -- Alternatives one by one: those of literals, and what is made of each.
-use Rattle.std.specs.Prelude.{ℕ, Bool, true, false, pos, List, [], ◌∷◌, Option, Some, None, option_map}
+use Rattle.std.specs.Prelude.{ℕ, Bool, true, false, ◌||◌, pos, List, Option, Some, None, if◌then◌else◌}
 use Rattle.ess_semantics.specs.declared.words.Op1.{Op1}
 use Rattle.ess_semantics.specs.declared.words.Op2.{Op2}
-use Rattle.ess_semantics.specs.Lists.{and_then}
 use Rattle.ess_semantics.specs.Values.{Text}
-use Rattle.ess_semantics.specs.Trees.{tuple_literal, name_pat, Ex, Exs, number_ex, name_ex, node_ex, ex1, ex2, no_exs, more_exs, Gens}
+use Rattle.ess_semantics.specs.Trees.{tuple_literal, name_pat, Ex, number_ex, name_ex, node_ex, ex1, ex2, no_exs, more_exs, Gens}
 use Rattle.ess_semantics.specs.Trees.{no_gens, from, cond}
+use Rattle.ess_rules_laws.specs.Apart.{are_apart}
 use Rattle.ess_rules_laws.specs.Listings.{Alternative}
 use Rattle.ess_rules_laws.specs.ListedSources.{laid_out}
 use Rattle.ess_rules_laws.specs.Lookups.{picking}
+use Rattle.ess_rules_laws.specs.AlternativeLookups.{none_at}
 use Rattle.ess_rules_sources.specs.PureAlternatives.{alternative_of}
 
 -- ---- of literals
@@ -26,15 +27,13 @@ tuple_pair e = None
 abbrev pub differs : Ex → Ex → Ex
 differs a x = ex1 true Op1.Not (ex2 true Op2.Eq a x)
 
--- The result b where x is a, under the conditions.
-abbrev pub case_of : Gens → Ex → Ex → Ex → Alternative
-case_of ks x a b = alternative_of (cond (ex2 true Op2.Eq x a) ks) b
+-- That x, where it is a, isn't b, before other conditions. Where b is apart from one of the two the form tells that.
+abbrev pub unless_apart : Ex → Ex → Ex → Gens → Gens
+unless_apart b a x gs = if are_apart b a || are_apart b x then gs else cond (differs b x) gs
 
--- Each result where x is its argument and none of those before it, nor of those that the conditions leave out.
-abbrev pub results_behind : Gens → Ex → Exs → Option (List Alternative)
-results_behind ks x no_exs = Some []
-results_behind ks x (more_exs p ps) =
-    and_then (tuple_pair p) (λ q. option_map (λ l. case_of ks x q.0 q.1 ∷ l) (results_behind (cond (differs q.0 x) ks) x ps))
+-- The result b where x is a and none of those before it.
+abbrev pub case_of : List Ex → Ex → Ex → Ex → Alternative
+case_of bs x a b = alternative_of (cond (ex2 true Op2.Eq x a) (none_at bs a x)) b
 
 -- ---- of others
 

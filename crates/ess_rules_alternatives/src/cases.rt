@@ -1,17 +1,18 @@
 //! The results of a function literal at an argument, case by case.
-ghost use Rattle.std.specs.Prelude.{◌≡◌, true, map, option_map, IfOk};
-ghost use Rattle.ess_semantics.specs.Trees.{ex2, no_gens};
+ghost use Rattle.std.specs.Prelude.{◌≡◌, [], true, map, option_map, reverse, IfOk, OnOk};
+ghost use Rattle.ess_semantics.specs.Trees.{ex2};
 ghost use Rattle.ess_core.specs.TreeViews.{cond_item};
 ghost use Rattle.ess_core_nodes.specs.NodeViews.{pure_node, pure_nodes, pure_gen, pure_gens};
+ghost use Rattle.ess_rules_laws.specs.AlternativeLookups.{first_results as firsts, none_at as is_none_at};
 ghost use Rattle.ess_rules_forms.specs.PureAlternatives.{pure_alternative};
-ghost use Rattle.ess_rules_alternatives.specs.Cases.{tuple_pair as pair_of, differs as unequal, case_of as where_equal, results_behind};
+ghost use Rattle.ess_rules_alternatives.specs.Cases.{tuple_pair as pair_of, differs as unequal, case_of as where_equal, unless_apart};
 
 use ess_core::{Op1, Op2};
-use ess_core_nodes::{Gen, Node, Op, copy_gens};
+use ess_core_nodes::{Gen, Node, Op};
 use ess_node_building::{binary, condition, unary};
 use ess_node_operands::{Operands, by_number};
 use ess_rows::{NoMemory, Row};
-use ess_rules_forms::Alternative;
+use ess_rules_forms::{Alternative, are_apart};
 use std::alloc::Global;
 
 /// Each result where the term is its argument and none of those before it.
@@ -21,19 +22,19 @@ pub(crate) fn results(
     term: &Node,
     pairs: &[Node],
 ) -> Result<Option<Row<Alternative>>, NoMemory>
-    ensures { IfOk result (λ o. option_map (map pure_alternative) o ≡ results_behind no_gens (pure_node term.now) (pure_nodes pairs.now)) }
+    ensures { IfOk result (λ o. option_map (map pure_alternative) o ≡ firsts [] (pure_node term.now) (pure_nodes pairs.now)) }
 {
     let mut all = Row::new(alloc);
-    let mut others = Row::new(alloc);
+    let mut before = Row::new(alloc);
     let mut rest = pairs;
     while let Some((pair, behind)) = rest.split_first() {
         match tuple_pair(pair) {
             None => return Ok(None),
             Some((argument, value)) => {
-                let one = case_of(alloc, others.as_slice(), term, argument, value)?;
+                let one = case_of(alloc, before.as_slice(), term, argument, value)?;
                 all.push(one)?;
-                let other = differs(alloc, argument, term)?;
-                others.insert(0, other)?;
+                let copy = argument.copy(alloc)?;
+                before.push(copy.into_inner())?;
                 rest = behind;
             }
         }
@@ -55,24 +56,60 @@ fn tuple_pair(node: &Node) -> Option<(&Node, &Node)>
     }
 }
 
-/// The result where the term is the argument, under conditions.
+/// The result where the term is the argument and none of those before it.
 #[tactic(auto, using(ess_core_nodes::proofs::NodeEquations::pure_gen_if))]
 fn case_of(
     alloc: Global,
-    others: &[Gen],
+    before: &[Node],
     term: &Node,
     argument: &Node,
     value: &Node,
 ) -> Result<Alternative, NoMemory>
     ensures { IfOk result (λ a. pure_alternative a
-        ≡ where_equal (pure_gens others.now) (pure_node term.now) (pure_node argument.now) (pure_node value.now)) }
+        ≡ where_equal (reverse (map pure_node before.now)) (pure_node term.now) (pure_node argument.now) (pure_node value.now)) }
 {
-    let mut gens = Row::new(alloc);
-    gens.push(equals(alloc, term, argument)?)?;
-    let mut others = copy_gens(alloc, others)?;
-    gens.append(&mut others)?;
+    let mut gens = none_at(alloc, before, argument, term)?;
+    gens.insert(0, equals(alloc, term, argument)?)?;
     let item = value.copy(alloc)?;
     Ok(Alternative { gens, item })
+}
+
+/// That the term, where it is the argument, is none of those before it, the newest first. Of those that are apart from one of the two
+/// the form tells that.
+#[tactic(auto, using(crate::proofs::CaseRows::none_more))]
+fn none_at(
+    alloc: Global,
+    before: &[Node],
+    argument: &Node,
+    term: &Node,
+) -> Result<Row<Gen>, NoMemory>
+    ensures { IfOk result (λ gs. pure_gens gs
+        ≡ is_none_at (reverse (map pure_node before.now)) (pure_node argument.now) (pure_node term.now)) }
+{
+    let mut gens = Row::new(alloc);
+    for other in before {
+        put_other(alloc, other, argument, term, &mut gens)?;
+    }
+    Ok(gens)
+}
+
+/// The condition that the term isn't another comes before the others, where the form doesn't tell it.
+fn put_other(
+    alloc: Global,
+    other: &Node,
+    argument: &Node,
+    term: &Node,
+    gens: &mut Row<Gen>,
+) -> Result<(), NoMemory>
+    ensures { OnOk result (pure_gens gens.new
+        ≡ unless_apart (pure_node other.now) (pure_node argument.now) (pure_node term.now) (pure_gens gens.old)) }
+{
+    if are_apart(other, argument) || are_apart(other, term) {
+        Ok(())
+    } else {
+        let different = differs(alloc, other, term)?;
+        gens.insert(0, different)
+    }
 }
 
 /// The condition that two terms are equal.

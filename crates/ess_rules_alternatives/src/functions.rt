@@ -1,8 +1,7 @@
 //! The lookup of a function literal at an argument.
-ghost use Rattle.std.specs.Prelude.{◌≡◌, [], map, option_map, IfOk};
-ghost use Rattle.ess_core_nodes.specs.NodeViews.{pure_node, pure_nodes};
+ghost use Rattle.std.specs.Prelude.{◌≡◌, map, option_map, IfOk};
+ghost use Rattle.ess_core_nodes.specs.NodeViews.{pure_node};
 ghost use Rattle.ess_rules_laws.specs.AlternativeLookups.{function_literal_lookup as looked_up, pairs_by_cases as by_cases};
-ghost use Rattle.ess_rules_laws.specs.AlternativeLookups.{first_results as firsts};
 ghost use Rattle.ess_rules_forms.specs.PureAlternatives.{pure_alternative};
 
 use crate::cases::results;
@@ -43,20 +42,7 @@ fn pairs_by_cases(
     ensures { IfOk result (λ o. option_map (map pure_alternative) o ≡ by_cases (pure_node function.now) (pure_node term.now)) }
 {
     match function {
-        Node::Op(false, Op::Function, pairs) => first_results(alloc, term, pairs.as_slice()),
+        Node::Op(false, Op::Function, pairs) => results(alloc, term, pairs.as_slice()),
         _ => Ok(None),
     }
-}
-
-/// Each result where the term is its argument and none of those before it.
-#[tactic(auto, using(crate::proofs::CaseRows::results_from))]
-fn first_results(
-    alloc: Global,
-    term: &Node,
-    pairs: &[Node],
-) -> Result<Option<Row<Alternative>>, NoMemory>
-    ensures { IfOk result (λ o. option_map (map pure_alternative) o ≡ firsts [] (pure_node term.now) (pure_nodes pairs.now)) }
-{
-    let found = results(alloc, term, pairs)?;
-    Ok(found)
 }

@@ -10,7 +10,7 @@ mod selecting;
 mod through;
 
 pub use functions::function_literal_lookup;
-pub use numbers::list_lookup;
+pub use numbers::{list_lookup, numbered};
 pub use picked::picking_each;
 pub use selecting::{select_each, select_whole_each};
 pub use through::{as_alternative, lookup_through_each, members_of_each};

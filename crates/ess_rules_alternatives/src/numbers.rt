@@ -62,9 +62,14 @@ fn numbered_items(alloc: Global, index: &Node, items: &[Node]) -> Result<Row<Alt
     Ok(all)
 }
 
-/// An item where the index is the number behind its place.
+/// An item where the index is the number behind its place. `NoMemory` where there is no room for it, or the number is outside 64 bits.
 #[tactic(auto, using(ess_core_nodes::proofs::NodeEquations::pure_gen_if))]
-fn numbered(alloc: Global, place: usize, index: &Node, item: &Node) -> Result<Alternative, NoMemory>
+pub fn numbered(
+    alloc: Global,
+    place: usize,
+    index: &Node,
+    item: &Node,
+) -> Result<Alternative, NoMemory>
     ensures { IfOk result (λ a. pure_alternative a ≡ where_numbered (place + 1) (pure_node index.now) (pure_node item.now)) }
 {
     let at = number_behind(place)?;

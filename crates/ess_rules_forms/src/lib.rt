@@ -2,11 +2,13 @@
 #![tactic(auto)]
 
 mod alternatives;
+mod apart;
 mod building;
 mod forms;
 mod types;
 
 pub use alternatives::Alternative;
+pub use apart::are_apart;
 pub use building::{
     both, compared, every, every_over, frequency, is_in, lie_together, negated, some, some_over,
 };

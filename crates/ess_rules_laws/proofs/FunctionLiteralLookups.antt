@@ -10,14 +10,15 @@ use Rattle.ess_semantics.specs.Collections.{holds, sorted_once, has_double_argum
 use Rattle.ess_semantics.specs.Trees.{Op, word, application, function_literal, tuple_literal, Ex, Exs, node_ex, ex2, no_exs, more_exs, cond}
 use Rattle.ess_semantics.specs.Operators.{value_of_node}
 use Rattle.ess_semantics.specs.Meaning.{Env, meaning, meanings, items_under, where_true}
-use Rattle.ess_semantics.specs.Meets.{Meets, MeetsAll, MeetsGens}
-use Rattle.ess_semantics.proofs.Orders.{to_list-of_list}
-use Rattle.ess_rules_laws.specs.Listings.{Alternative, all_listed, none_of}
+use Rattle.ess_semantics.specs.Meets.{Meets, MeetsAll}
+use Rattle.ess_semantics.proofs.Orders.{to_list-of_list, same-equal}
+use Rattle.ess_rules_laws.specs.Listings.{Alternative, all_listed}
 use Rattle.ess_rules_laws.specs.ListedSources.{AllMet}
 use Rattle.ess_rules_laws.specs.Lookups.{found}
 use Rattle.ess_rules_laws.specs.FunctionLookups.{unmarked}
-use Rattle.ess_rules_laws.specs.AlternativeLookups.{first_results, pairs_by_cases, function_literal_lookup, FirstOperandThere}
-use Rattle.ess_rules_laws.proofs.Connectives.{binary-means, not-means}
+use Rattle.ess_rules_laws.specs.AlternativeLookups.{none_at, first_results, pairs_by_cases, function_literal_lookup, FirstOperandThere}
+use Rattle.ess_rules_laws.proofs.Connectives.{binary-means}
+use Rattle.ess_rules_laws.proofs.NoneOf.{Known, none_at-listed, AllMeet, none_at-met}
 use Rattle.ess_rules_laws.proofs.Lookups.{single}
 use Rattle.ess_rules_laws.proofs.PairResults.{value-sorted}
 use Rattle.ess_rules_laws.proofs.LiteralLookups.{same-swap, equal-none, AnswerCases}
@@ -26,36 +27,6 @@ no : {A : Type 0} → false ≡ true → A
 no h = cc
 
 -- ---- cases
-
--- The expressions have these values.
-abbrev Known : List Ex → List Value → Env → Type 0
-Known [] [] env = Unit {0}
-Known (b ∷ bs) (u ∷ us) env = (meaning b env ≡ Some u) × Known bs us env
-Known bs us env = ⊥
-
-none-listed : (bs : List Ex) (us : List Value) (a : Ex) (v : Value) (env : Env) (k : Env → Option (List Value)) → Known bs us env →
-    meaning a env ≡ Some v → items_under (none_of bs a) env k ≡ (if holds us v then Some [] else k env)
-none-listed [] [] a v env k h q = refl
-none-listed (b ∷ bs) (u ∷ us) a v env k h q =
-    ap (λ o. where_true o (λ z. items_under (none_of bs a) env k))
-    (not-means env (ex2 true Op2.Eq b a) (same u v) (binary-means env true Op2.Eq b a u v h.0 q))
-    ∙ go (same u v) (none-listed bs us a v env k h.1 q)
-  where
-    go : (c : Bool) → items_under (none_of bs a) env k ≡ (if holds us v then Some [] else k env) →
-        where_true (Some (truth (not c))) (λ z. items_under (none_of bs a) env k) ≡ (if c || holds us v then Some [] else k env)
-    go true e = refl
-    go false e = e
-none-listed [] (u ∷ us) a v env k h q = absurd h
-none-listed (b ∷ bs) [] a v env k h q = absurd h
-
--- The structures of the expressions.
-abbrev AllOf : List Ex → Env → Type 0
-AllOf [] env = Unit {0}
-AllOf (b ∷ bs) env = Meets b env × AllOf bs env
-
-none-met : (bs : List Ex) (a : Ex) (env : Env) (P : Env → Type 0) → AllOf bs env → Meets a env → P env → MeetsGens (none_of bs a) env P
-none-met [] a env P k m p = p
-none-met (b ∷ bs) a env P k m p = (((k.0, (m, tt)), tt), λ z. none-met bs a env P k.1 m p)
 
 -- What cases are there, of pairs that are literals.
 abbrev Cased : Option (List Alternative) → (List Alternative → Type 0) → Type 0
@@ -72,7 +43,7 @@ pair-value (Some a) (Some b) q h = (a, b, refl, refl, sym (let e : pair a b ≡ 
 module _ (x : Ex) (env : Env) where
   -- The case of a pair.
   abbrev Case : List Ex → Ex → Ex → Alternative
-  Case bs a b = record { gens = cond (ex2 true Op2.Eq x a) (none_of bs x); item = b }
+  Case bs a b = record { gens = cond (ex2 true Op2.Eq x a) (none_at bs a x); item = b }
 
   -- Without an argument no case has an item.
   no-argument : meaning x env ≡ None → (bs : List Ex) (ps : Exs) → Cased (first_results bs x ps) (λ l. all_listed l env ≡ Some [])
@@ -83,7 +54,7 @@ module _ (x : Ex) (env : Env) where
       go : (o : Option (List Alternative)) → Cased o (λ l. all_listed l env ≡ Some []) →
           Cased (option_map (λ l. Case bs a b ∷ l) o) (λ l. all_listed l env ≡ Some [])
       go None h = tt
-      go (Some l) h = ap (λ o. and_then (where_true o (λ u. items_under (none_of bs x) env (λ here. single (meaning b here))))
+      go (Some l) h = ap (λ o. and_then (where_true o (λ u. items_under (none_at bs a x) env (λ here. single (meaning b here))))
           (λ xs. option_map (λ ys. xs ++ ys) (all_listed l env))) (equal-none (meaning x env) (meaning a env) q)
           ∙ ap (option_map (λ ys. ys)) h
   no-argument q bs _ = tt
@@ -94,10 +65,17 @@ module _ (x : Ex) (env : Env) where
         items_under (Case bs a b).gens env (λ here. single (meaning b here)) ≡
         where_true (Some (truth (same u w))) (λ z. if holds us w then Some [] else Some (v ∷ []))
     case-is bs us a b u v k i j =
-        ap (λ o. where_true o (λ z. items_under (none_of bs x) env (λ here. single (meaning b here))))
+        ap (λ o. where_true o (λ z. items_under (none_at bs a x) env (λ here. single (meaning b here))))
         (binary-means env true Op2.Eq x a w u q i ∙ ap (λ c. Some (truth c)) (same-swap w u))
-        ∙ ap (λ o. where_true (Some (truth (same u w))) (λ z. o))
-        (none-listed bs us x w env (λ here. single (meaning b here)) k q ∙ ap (λ o. if holds us w then Some [] else single o) j)
+        ∙ go (same u w) refl
+      where
+        go : (c : Bool) → same u w ≡ c →
+            where_true (Some (truth c)) (λ z. items_under (none_at bs a x) env (λ here. single (meaning b here))) ≡
+            where_true (Some (truth c)) (λ z. if holds us w then Some [] else Some (v ∷ []))
+        go true e =
+            none_at-listed bs us a x w env (λ here. single (meaning b here)) k (i ∙ ap Some (same-equal u w e) ∙ sym q) q
+            ∙ ap (λ o. if holds us w then Some [] else single o) j
+        go false e = refl
 
     -- The result at the argument, where none of the pairs before has it.
     results-picked : (bs : List Ex) (us : List Value) (ps : Exs) (vs : List Value) → Known bs us env →
@@ -150,7 +128,7 @@ module _ (x : Ex) (env : Env) where
             (first t.0 t.1 ws t.2 t.3 (first_results (a ∷ bs) x ps) (r t.0 ws t.2 c))
     results-picked bs us _ vs k e = tt
 
-  cases-met : (bs : List Ex) (ps : Exs) → AllOf bs env → Meets x env → MeetsAll false ps env →
+  cases-met : (bs : List Ex) (ps : Exs) → AllMeet bs env → Meets x env → MeetsAll false ps env →
       Cased (first_results bs x ps) (λ l. AllMet l env)
   cases-met bs no_exs k m h = tt
   cases-met bs (more_exs (node_ex false tuple_literal (more_exs a (more_exs b no_exs))) ps) k m h =
@@ -158,7 +136,7 @@ module _ (x : Ex) (env : Env) where
     where
       go : (o : Option (List Alternative)) → Cased o (λ l. AllMet l env) → Cased (option_map (λ l. Case bs a b ∷ l) o) (λ l. AllMet l env)
       go None r = tt
-      go (Some l) r = (((m, (h.0.0, tt)), λ z. none-met bs x env (λ here. Meets b here) k m h.0.1.0), r)
+      go (Some l) r = (((m, (h.0.0, tt)), λ z. none_at-met bs a x env (λ here. Meets b here) k m h.0.1.0), r)
   cases-met bs _ k m h = tt
 
 -- ---- the lookup

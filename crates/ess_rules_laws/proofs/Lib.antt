@@ -26,6 +26,9 @@ pub mod MembershipRules
 pub mod ContainerValues
 pub mod InclusionRules
 pub mod SizeRules
+pub mod Apart
+pub mod ExamplesApart
+pub mod NoneOf
 pub mod ListedItems
 pub mod Listings
 pub mod FunctionRules

@@ -2,19 +2,18 @@
 use Rattle.std.proofs.Common.{◌≡◌, refl, sym, ap, ◌∙◌, subst, zero, suc, Bool, true, false, ◌||◌, not, if◌then◌else◌, List, [], ◌∷◌, ◌++◌, filter, Option, Some, None, option_map, arith}
 use Rattle.std.specs.Prelude.{IsTrue, is_some}
 use Rattle.std.specs.List.{list_all}
-use Rattle.ess_semantics.specs.declared.words.Op2.{Op2}
 use Rattle.ess_semantics.specs.Lists.{and_then, all_some}
 use Rattle.ess_semantics.specs.Values.{Text, Value, truth, items_of}
 use Rattle.ess_semantics.specs.Order.{same}
 use Rattle.ess_semantics.specs.Collections.{holds, count, sorted_once}
-use Rattle.ess_semantics.specs.Trees.{Ex, Exs, name_ex, comp_ex, ex2, no_exs, more_exs, Gens, no_gens, cond}
+use Rattle.ess_semantics.specs.Trees.{Ex, Exs, name_ex, comp_ex, no_exs, more_exs, Gens, no_gens, cond}
 use Rattle.ess_semantics.specs.Operators.{list_value}
 use Rattle.ess_semantics.specs.Meaning.{Env, meaning, meanings, items_under, collect, where_true}
 use Rattle.ess_semantics.proofs.Orders.{to_list-of_list, same-equal}
 use Rattle.ess_semantics.proofs.Sorting.{holds-sorted_once, sorted_once-rises, sorted_once-itself}
 use Rattle.ess_rules_laws.specs.Listings.{items_listed, all_listed, SameLists, Lists, each_item, none_of, each_first, those}
 use Rattle.ess_rules_laws.proofs.RuleAnswers.{behind, name-behind, collect-itself}
-use Rattle.ess_rules_laws.proofs.Connectives.{binary-means, not-means}
+use Rattle.ess_rules_laws.proofs.NoneOf.{Known, none_of-listed}
 use Rattle.ess_rules_laws.proofs.ContainerValues.{Strictly, count-absent, count-present, set-count}
 use Rattle.ess_rules_laws.proofs.MembershipRules.{values}
 
@@ -128,30 +127,10 @@ each-listed (more_exs a es) env = go (meaning a env) (each-listed es env)
 
 -- ---- each item once
 
--- The expressions have these values.
-abbrev Known : List Ex → List Value → Env → Type 0
-Known [] [] env = Unit {0}
-Known (b ∷ bs) (u ∷ us) env = (meaning b env ≡ Some u) × Known bs us env
-Known bs us env = ⊥
-
 -- The values that are none of us and none of those before them.
 abbrev firsts : List Value → List Value → List Value
 firsts us [] = []
 firsts us (v ∷ vs) = if holds us v then firsts (v ∷ us) vs else v ∷ firsts (v ∷ us) vs
-
-none-listed : (bs : List Ex) (us : List Value) (a : Ex) (v : Value) (env : Env) (k : Env → Option (List Value)) → Known bs us env → meaning a env ≡ Some v →
-    items_under (none_of bs a) env k ≡ (if holds us v then Some [] else k env)
-none-listed [] [] a v env k h q = refl
-none-listed (b ∷ bs) (u ∷ us) a v env k h q =
-    ap (λ o. where_true o (λ z. items_under (none_of bs a) env k)) (not-means env (ex2 true Op2.Eq b a) (same u v) (binary-means env true Op2.Eq b a u v h.0 q))
-    ∙ go (same u v) (none-listed bs us a v env k h.1 q)
-  where
-    go : (c : Bool) → items_under (none_of bs a) env k ≡ (if holds us v then Some [] else k env) →
-        where_true (Some (truth (not c))) (λ z. items_under (none_of bs a) env k) ≡ (if c || holds us v then Some [] else k env)
-    go true e = refl
-    go false e = e
-none-listed [] (u ∷ us) a v env k h q = absurd h
-none-listed (b ∷ bs) [] a v env k h q = absurd h
 
 first-listed : (bs : List Ex) (us : List Value) (es : Exs) (env : Env) → Known bs us env → IsTrue (list_all is_some (meanings es env)) →
     all_listed (each_first bs es) env ≡ Some (firsts us (values (meanings es env)))
@@ -172,7 +151,7 @@ first-listed bs us (more_exs a es) env h t = go (meaning a env) refl t (λ v q z
     go None q t r = cc
     go (Some v) q t r =
         ap (λ o. and_then o (λ xs. option_map (λ ys. xs ++ ys) (all_listed (each_first (a ∷ bs) es) env)))
-        (none-listed bs us a v env K h q ∙ ap (λ o. if holds us v then Some [] else option_map (λ w. w ∷ []) o) q)
+        (none_of-listed bs us a v env K h q ∙ ap (λ o. if holds us v then Some [] else option_map (λ w. w ∷ []) o) q)
         ∙ ap (λ o. and_then (if holds us v then Some [] else Some (v ∷ [])) (λ xs. option_map (λ ys. xs ++ ys) o)) (r v q t)
         ∙ join (holds us v) v
 

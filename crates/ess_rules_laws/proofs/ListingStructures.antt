@@ -9,30 +9,22 @@ use Rattle.ess_semantics.specs.Trees.{set_literal, mset_literal, relation_litera
 use Rattle.ess_semantics.specs.Types.{Ty}
 use Rattle.ess_semantics.specs.Typing.{type_of}
 use Rattle.ess_semantics.specs.Meaning.{Env, meaning}
-use Rattle.ess_semantics.specs.Meets.{Meets, MeetsAll, MeetsGens}
+use Rattle.ess_semantics.specs.Meets.{Meets, MeetsAll}
 use Rattle.ess_rules_laws.specs.Rules.{Unused}
 use Rattle.ess_rules_laws.specs.InclusionRules.{both_sets}
-use Rattle.ess_rules_laws.specs.Listings.{Alternative, each_item, none_of, each_first, those, is_strict, listing}
+use Rattle.ess_rules_laws.specs.Listings.{Alternative, each_item, each_first, those, is_strict, listing}
 use Rattle.ess_rules_laws.specs.ListedSources.{laid_out, AllMet, ListingsAreMet}
 use Rattle.ess_rules_laws.proofs.RuleAnswers.{behind, meets-behind, each-in-any}
+use Rattle.ess_rules_laws.proofs.NoneOf.{AllMeet, none_of-met}
 
 -- Each item by itself.
 items-met : (es : Exs) (env : Env) → MeetsAll false es env → AllMet (each_item es) env
 items-met no_exs env m = tt
 items-met (more_exs a es) env m = (m.0, items-met es env m.1)
 
--- The structures of several expressions.
-abbrev AllOf : List Ex → Env → Type 0
-AllOf [] env = Unit {0}
-AllOf (b ∷ bs) env = Meets b env × AllOf bs env
-
-none_of-met : (bs : List Ex) (a : Ex) (env : Env) → AllOf bs env → Meets a env → MeetsGens (none_of bs a) env (λ here. Meets a here)
-none_of-met [] a env k m = m
-none_of-met (b ∷ bs) a env k m = (((k.0, (m, tt)), tt), λ z. none_of-met bs a env k.1 m)
-
-firsts-met : (bs : List Ex) (es : Exs) (env : Env) → AllOf bs env → MeetsAll false es env → AllMet (each_first bs es) env
+firsts-met : (bs : List Ex) (es : Exs) (env : Env) → AllMeet bs env → MeetsAll false es env → AllMet (each_first bs es) env
 firsts-met bs no_exs env k m = tt
-firsts-met bs (more_exs a es) env k m = (none_of-met bs a env k m.0, firsts-met (a ∷ bs) es env (m.0, k) m.1)
+firsts-met bs (more_exs a es) env k m = (none_of-met bs a env (λ here. Meets a here) k m.0 m.0, firsts-met (a ∷ bs) es env (m.0, k) m.1)
 
 -- The members of a term.
 all-met : (x : Text) (s : Ex) (env : Env) → Meets s env → Meets (laid_out (those x s no_gens)) env

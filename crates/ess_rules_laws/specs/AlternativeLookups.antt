@@ -1,13 +1,17 @@
 -- Lookups by alternatives: what a picked value is, case by case. Of literals the condition of each case is on the index or on the
 -- argument. An operator on the picked value becomes one on the item of each alternative.
-use Rattle.std.specs.Prelude.{◌≡◌, ℕ, suc, Bool, true, false, ◌&&◌, List, [], ◌∷◌, pos, Option, Some, None, IsTrue, is_some, option_map, if◌then◌else◌}
+use Rattle.std.specs.Prelude.{◌≡◌, ℕ, suc, Bool, true, false, ◌&&◌, ◌||◌, List, [], ◌∷◌, pos, Option, Some, None}
+use Rattle.std.specs.Prelude.{IsTrue, is_some, option_map, if◌then◌else◌}
+use Rattle.ess_semantics.specs.declared.words.Op1.{Op1}
 use Rattle.ess_semantics.specs.declared.words.Op2.{Op2}
 use Rattle.ess_semantics.specs.declared.words.Fun.{Fun}
 use Rattle.ess_semantics.specs.Values.{Text}
-use Rattle.ess_semantics.specs.Trees.{by_value, index, matrix_literal, function_literal, tuple_literal, name_pat, Ex, Exs, number_ex, name_ex, node_ex, ex2, fun1, no_exs, more_exs, no_gens, from, cond}
+use Rattle.ess_semantics.specs.Trees.{by_value, index, matrix_literal, function_literal, tuple_literal, name_pat}
+use Rattle.ess_semantics.specs.Trees.{Ex, Exs, number_ex, name_ex, node_ex, ex1, ex2, fun1, no_exs, more_exs, Gens, no_gens, from, cond}
 use Rattle.ess_semantics.specs.Meaning.{Env, meaning}
 use Rattle.ess_rules_laws.specs.LiteralRules.{nth}
-use Rattle.ess_rules_laws.specs.Listings.{Alternative, all_listed, none_of, those}
+use Rattle.ess_rules_laws.specs.Apart.{are_apart}
+use Rattle.ess_rules_laws.specs.Listings.{Alternative, all_listed, those}
 use Rattle.ess_rules_laws.specs.ListedSources.{laid_out, AllMet}
 use Rattle.ess_rules_laws.specs.SourceRules.{list_of}
 use Rattle.ess_rules_laws.specs.Lookups.{found, put_nth, is_plain, picking, FitsNumber}
@@ -34,11 +38,17 @@ list_lookup (node_ex b (index (by_value ∷ [])) (more_exs (node_ex false matrix
     Some (numbered_items 1 i es)
 list_lookup e = None
 
+-- That x is none of these, where it is a. Of those that are apart from a, or from x, the form tells that.
+abbrev pub none_at : List Ex → Ex → Ex → Gens
+none_at [] a x = no_gens
+none_at (b ∷ bs) a x =
+    if are_apart b a || are_apart b x then none_at bs a x else cond (ex1 true Op1.Not (ex2 true Op2.Eq b x)) (none_at bs a x)
+
 -- Each result where x is its argument and none of those before it.
 abbrev pub first_results : List Ex → Ex → Exs → Option (List Alternative)
 first_results bs x no_exs = Some []
 first_results bs x (more_exs (node_ex false tuple_literal (more_exs a (more_exs b no_exs))) ps) =
-    option_map (λ l. record { gens = cond (ex2 true Op2.Eq x a) (none_of bs x); item = b } ∷ l) (first_results (a ∷ bs) x ps)
+    option_map (λ l. record { gens = cond (ex2 true Op2.Eq x a) (none_at bs a x); item = b } ∷ l) (first_results (a ∷ bs) x ps)
 first_results bs x ps = None
 
 -- The pairs of a function literal at x.

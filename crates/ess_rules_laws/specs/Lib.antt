@@ -6,6 +6,7 @@ pub mod MembershipRules
 pub mod InclusionRules
 pub mod SizeRules
 pub mod RuleLaws
+pub mod Apart
 pub mod Listings
 pub mod ComponentRules
 pub mod SpliceRules

@@ -13,6 +13,7 @@ use Rattle.ess_semantics.specs.Types.{Ty, compound}
 use Rattle.ess_semantics.specs.Typing.{type_of}
 use Rattle.ess_semantics.specs.Meaning.{Env, meaning, items_under}
 use Rattle.ess_rules_laws.specs.InclusionRules.{both_sets}
+use Rattle.ess_rules_laws.specs.Apart.{are_apart}
 
 -- Generators, and the item at each of their bindings.
 pub record Alternative : Type 0 where
@@ -47,10 +48,10 @@ abbrev pub each_item : Exs → List Alternative
 each_item no_exs = []
 each_item (more_exs a es) = record { gens = no_gens; item = a } ∷ each_item es
 
--- That an item is none of these.
+-- That an item is none of these. Of those that are apart from it the form tells that.
 abbrev pub none_of : List Ex → Ex → Gens
 none_of [] a = no_gens
-none_of (b ∷ bs) a = cond (ex1 true Op1.Not (ex2 true Op2.Eq b a)) (none_of bs a)
+none_of (b ∷ bs) a = if are_apart b a then none_of bs a else cond (ex1 true Op1.Not (ex2 true Op2.Eq b a)) (none_of bs a)
 
 -- Each item where it is none of those before it.
 abbrev pub each_first : List Ex → Exs → List Alternative

@@ -8,7 +8,7 @@ use Rattle.ess_semantics.specs.Types.{bool_ty, int_ty, compound2}
 use Rattle.ess_semantics.specs.Trees.{matrix_literal, mset_literal, name_pat, Ex, node_ex, comp_ex, ex1, ex2, fun1, no_gens, from, cond}
 use Rattle.ess_semantics.proofs.Shorthands.{N, n, es1, es2}
 use Rattle.ess_rules_sources.specs.PureAlternatives.{alternative_of}
-use Rattle.ess_rules_listings.specs.ListedTerms.{is_not, comprehended, united, common, difference, one_or_two}
+use Rattle.ess_rules_listings.specs.ListedTerms.{is_not, unless_apart, comprehended, united, common, difference, one_or_two}
 use Rattle.ess_rules_listings.specs.Marks.{marks_of, component_by, has_result}
 use Rattle.ess_rules_listings.specs.Offered.{offered_by, listed_by, listed_once_by, extremes_by}
 
@@ -37,6 +37,13 @@ result = refl
 -- 3 isn't 4.
 different : is_not (n 4) (n 3) ≡ ex1 true Op1.Not (ex2 true Op2.Eq (n 4) (n 3))
 different = refl
+
+-- Of these the form tells it; a name may be any number.
+told : unless_apart (n 4) (n 3) no_gens ≡ no_gens
+told = refl
+
+not_told : unless_apart (N x) (n 3) no_gens ≡ cond (is_not (N x) (n 3)) no_gens
+not_told = refl
 
 -- A union has the members of the first, and those of the second that the first hasn't.
 union : united x (N y) (N z)

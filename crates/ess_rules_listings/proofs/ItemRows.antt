@@ -1,17 +1,17 @@
 -- The items of literals as alternatives, one by one.
 use Rattle.std.proofs.Common.{◌≡◌, refl, sym, ap, ◌∙◌, ℕ, ◌+◌, ◌<◌, List, [], ◌∷◌, ◌++◌, length, map, reverse, take, drop, get_or}
 use Rattle.std.proofs.lemmas.List.{append_assoc, map_push, reverse-append, take_more, drop_more}
-use Rattle.ess_semantics.specs.Trees.{Ex, cond}
-use Rattle.ess_core.specs.TreeViews.{cond_item, exs_of, gens_of}
+use Rattle.ess_semantics.specs.Trees.{Ex}
+use Rattle.ess_core.specs.TreeViews.{exs_of}
 use Rattle.ess_core_nodes.specs.declared.nodes.Node.{Node}
 use Rattle.ess_core_nodes.specs.declared.nodes.Gen.{Gen}
-use Rattle.ess_core_nodes.specs.NodeViews.{pure_node, pure_gen, pure_gens}
+use Rattle.ess_core_nodes.specs.NodeViews.{pure_node, pure_gens}
 use Rattle.ess_rules_laws.specs.Listings as listings
 use Rattle.ess_rules_laws.specs.Listings.{each_item, each_first, none_of}
 use Rattle.ess_rules_forms.specs.declared.alternatives.Alternative.{Alternative}
 use Rattle.ess_rules_forms.specs.PureAlternatives.{pure_alternative}
 use Rattle.ess_rules_sources.specs.PureAlternatives.{alternative_of}
-use Rattle.ess_rules_listings.specs.ListedTerms.{item_alone, is_not}
+use Rattle.ess_rules_listings.specs.ListedTerms.{item_alone, unless_apart}
 
 -- Each item by itself.
 pub items_alone : (es : List Ex) → each_item (exs_of es) ≡ map item_alone es
@@ -27,13 +27,13 @@ before_next ns i x lt is =
     ∙ reverse-append (map pure_node (take i ns)) (pure_node x ∷ [])
 
 -- That an item is none of those before the next place.
-pub none_more : (ns : List Node) (i : ℕ) (x a : Node) (g : Gen) (gs : List Gen) → i < length ns → x ≡ get_or ns i x
-    → pure_gen g ≡ cond_item (is_not (pure_node x) (pure_node a))
+pub none_more : (ns : List Node) (i : ℕ) (x a : Node) (gs hs : List Gen) → i < length ns → x ≡ get_or ns i x
+    → pure_gens hs ≡ unless_apart (pure_node x) (pure_node a) (pure_gens gs)
     → pure_gens gs ≡ none_of (reverse (map pure_node (take i ns))) (pure_node a)
-    → pure_gens (g ∷ gs) ≡ none_of (reverse (map pure_node (take (i + 1) ns))) (pure_node a)
-none_more ns i x a g gs lt is here before =
-    ap (λ l. gens_of (l ∷ map pure_gen gs)) here
-    ∙ ap (λ l. cond (is_not (pure_node x) (pure_node a)) l) before
+    → pure_gens hs ≡ none_of (reverse (map pure_node (take (i + 1) ns))) (pure_node a)
+none_more ns i x a gs hs lt is here before =
+    here
+    ∙ ap (unless_apart (pure_node x) (pure_node a)) before
     ∙ ap (λ l. none_of l (pure_node a)) (sym (before_next ns i x lt is))
 
 -- Each item where it is none of those before it, one more.

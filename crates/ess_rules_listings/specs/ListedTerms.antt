@@ -1,10 +1,11 @@
 -- What terms offer, part by part.
-use Rattle.std.specs.Prelude.{true, List, [], ◌∷◌, Option, Some, None}
+use Rattle.std.specs.Prelude.{true, List, [], ◌∷◌, Option, Some, None, if◌then◌else◌}
 use Rattle.ess_semantics.specs.declared.words.Op1.{Op1}
 use Rattle.ess_semantics.specs.declared.words.Op2.{Op2}
 use Rattle.ess_semantics.specs.Lists.{and_then}
 use Rattle.ess_semantics.specs.Values.{Text}
 use Rattle.ess_semantics.specs.Trees.{Ex, name_ex, ex1, ex2, Gens, no_gens, cond}
+use Rattle.ess_rules_laws.specs.Apart.{are_apart}
 use Rattle.ess_rules_laws.specs.Listings.{Alternative, those}
 
 -- An item by itself.
@@ -14,6 +15,10 @@ item_alone a = record { gens = no_gens; item = a }
 -- That an item isn't another.
 abbrev pub is_not : Ex → Ex → Ex
 is_not b a = ex1 true Op1.Not (ex2 true Op2.Eq b a)
+
+-- That an item isn't another, before other conditions. Where the two are apart the form tells that.
+abbrev pub unless_apart : Ex → Ex → Gens → Gens
+unless_apart b a gs = if are_apart b a then gs else cond (is_not b a) gs
 
 -- The alternative of a comprehension.
 abbrev pub comprehended : Ex → Gens → List Alternative

@@ -19,6 +19,7 @@ use Rattle.ess_rules_laws.specs.ShortSizeRules.{is_partition}
 use Rattle.ess_rules_laws.specs.Listings.{Alternative, each_item, none_of, each_first, those, is_strict, listing}
 use Rattle.ess_rules_laws.specs.ContainerListings.{of_function, arguments_listed, members_of_parts, made_listing}
 use Rattle.ess_rules_laws.proofs.RuleAnswers.{behind}
+use Rattle.ess_rules_laws.proofs.NoneOf.{none_of-more}
 use Rattle.ess_refine_laws.specs.ItemsOnce.{set_of_items, items_once}
 use Rattle.ess_refine_laws.specs.AllRules.{Supply, offered}
 use Rattle.ess_values_along_laws.specs.Valued.{Valued, AllValued, UnderValued}
@@ -59,10 +60,10 @@ module _ (env : Env) where
 
   none-under : (bs : List Ex) (a : Ex) → AllOf bs → Valued false a env → UnderValued (none_of bs a) env (λ here. Valued false a here)
   none-under [] a h k = k
-  none-under (b ∷ bs) a h k = (
+  none-under (b ∷ bs) a h k = none_of-more (λ gs. UnderValued gs env (λ here. Valued false a here)) b a bs (none-under bs a h.1 k) (λ r. (
     (tt, ((tt, (values-along.in_places true b env h.0, (values-along.in_places true a env k, tt))), tt)),
-    λ t. none-under bs a h.1 k,
-  )
+    λ t. r,
+  ))
 
   -- Each item where it is none of those before it.
   firsts-under : (bs : List Ex) (es : Exs) → AllOf bs → AllValued false false es env → AllUnder (each_first bs es) env
