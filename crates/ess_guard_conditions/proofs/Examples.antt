@@ -8,7 +8,7 @@ use Rattle.ess_semantics.specs.Values.{Text}
 use Rattle.ess_semantics.specs.Trees.{repr, no_reprs, more_reprs, tuple_literal, name_pat}
 use Rattle.ess_semantics.specs.Trees.{Ex, number_ex, truth_ex, name_ex, node_ex, comp_ex, cell_ex, no_exs, more_exs, no_gens, over, cond}
 use Rattle.ess_semantics.specs.Trees.{bool_dom, int_dom, function_dom, both_ends, ex2, fun1}
-use Rattle.ess_guard_conditions.specs.ConditionForms.{of_pair, of_only, within_bounds, is_by_argument, is_among_arguments, pair_of, pairs_agree, under_each}
+use Rattle.ess_guard_conditions.specs.ConditionForms.{of_pair, of_only, within_bounds, is_by_argument, is_among_arguments, pair_of, pairs_agree, are_pairs_apart, under_each}
 
 -- Reserved names.
 abbrev q : Text
@@ -93,6 +93,16 @@ agreeing = refl
 
 nothing_agrees : pairs_agree None (Some (c, one)) ≡ truth_ex true
 nothing_agrees = refl
+
+-- 1 and 2 are other arguments, 1 and c may be one.
+numerals_apart : are_pairs_apart (Some (one, c)) (Some (two, c)) ≡ true
+numerals_apart = refl
+
+cell_not_apart : are_pairs_apart (Some (one, two)) (Some (c, one)) ≡ false
+cell_not_apart = refl
+
+nothing_apart : are_pairs_apart None (Some (c, one)) ≡ false
+nothing_apart = refl
 
 -- The last one is asked under those before it.
 under_two : under_each (name_ex i ∷ name_ex j ∷ []) c

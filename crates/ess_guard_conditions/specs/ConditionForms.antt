@@ -5,6 +5,7 @@ use Rattle.ess_semantics.specs.declared.words.ReprKind.{ReprKind}
 use Rattle.ess_semantics.specs.Values.{Text}
 use Rattle.ess_semantics.specs.Names.{Names}
 use Rattle.ess_semantics.specs.Trees.{Repr, repr, more_reprs, tuple_literal, Ex, Exs, truth_ex, node_ex, no_exs, more_exs, Dom, function_dom, ex2}
+use Rattle.ess_rules_laws.specs.Apart.{are_apart}
 use Rattle.ess_guard_laws.specs.Origins.{Origin, is_sure}
 use Rattle.ess_guard_laws.specs.Conditions.{as_number, members_of, chained}
 use Rattle.ess_guard_forms.specs.PartForms.{both_operands}
@@ -43,6 +44,11 @@ pair_of e = None
 abbrev pub pairs_agree : Option (Ex × Ex) → Option (Ex × Ex) → Ex
 pairs_agree (Some (a, b)) (Some (c, d)) = ex2 true Op2.Implies (ex2 true Op2.Eq a c) (ex2 true Op2.Eq b d)
 pairs_agree p q = truth_ex true
+
+-- Whether two pairs have different arguments, by their form.
+abbrev pub are_pairs_apart : Option (Ex × Ex) → Option (Ex × Ex) → Bool
+are_pairs_apart (Some (a, b)) (Some (c, d)) = are_apart a c
+are_pairs_apart p q = false
 
 -- A Boolean under conditions, each asked under those before it.
 abbrev pub under_each : List Ex → Ex → Ex

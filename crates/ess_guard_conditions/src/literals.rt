@@ -5,6 +5,7 @@ ghost use Rattle.ess_semantics.specs.Trees.{from as from_gen, no_gens, ex2, fun1
 ghost use Rattle.ess_semantics.specs.Constants.{operand_count};
 ghost use Rattle.ess_core_nodes.specs.NodeViews.{pure_node, pure_nodes, pure_dom, pure_gens};
 ghost use Rattle.ess_guard_laws.specs.Conditions.{agree as they_agree, agree_all as all_agree, function_conditions as function_asks};
+ghost use Rattle.ess_guard_laws.specs.Conditions.{have_other_arguments as other_arguments, unless as asked_unless};
 ghost use Rattle.ess_guard_laws.specs.Conditions.{have_members as asks_members, are_disjoint as asks_disjoint};
 ghost use Rattle.ess_guard_laws.specs.Conditions.{is_single_set as is_one_set, partition_conditions as partition_asks};
 ghost use Rattle.ess_guard_laws.specs.Conditions.{matrix_conditions as matrix_asks, has_size as has_this_size};
@@ -19,6 +20,7 @@ use ess_node_building::{
     binary, comprehension, from, joined, literal, name, number, only, over, truth, word,
 };
 use ess_rows::{Boxed, NoMemory, Row, Text};
+use ess_rules_forms::are_apart;
 use std::alloc::Global;
 
 /// The two parts of a pair.
@@ -57,19 +59,41 @@ fn equal(alloc: Global, a: &Node, b: &Node) -> Result<Boxed<Node>, NoMemory>
     binary(alloc, true, Op2::Eq, a, b)
 }
 
+/// Whether two pairs have different arguments, by their form.
+#[tactic(auto, using(crate::proofs::Pairs::other_arguments_by_parts))]
+fn have_other_arguments(p: &Node, q: &Node) -> bool
+    ensures { result ≡ other_arguments (pure_node p.now) (pure_node q.now) }
+{
+    match (pair_of(p), pair_of(q)) {
+        (Some((a, _)), Some((c, _))) => are_apart(a, c),
+        (_, _) => false,
+    }
+}
+
+/// That two pairs agree. Nothing is asked where the argument of one is another by its form.
+fn agreement(alloc: Global, p: &Node, q: &Node) -> Result<Row<Node>, NoMemory>
+    ensures { IfOk result (λ ns. map pure_node ns
+        ≡ asked_unless (other_arguments (pure_node p.now) (pure_node q.now)) (they_agree (pure_node p.now) (pure_node q.now))) }
+{
+    if have_other_arguments(p, q) {
+        return Ok(Row::new(alloc));
+    }
+    only(alloc, agree(alloc, p, q)?)
+}
+
 /// That a pair agrees with each of several others.
 fn agree_all(alloc: Global, pair: &Node, others: &[Node]) -> Result<Row<Node>, NoMemory>
     ensures { IfOk result (λ ns. map pure_node ns ≡ all_agree (pure_node pair.now) (pure_nodes others.now)) }
 {
-    let mut conditions = Row::with_capacity(alloc, others.len())?;
+    let mut conditions = Row::new(alloc);
     for other in others {
-        let condition = agree(alloc, pair, other)?;
-        conditions.push(condition.into_inner())?;
+        let mut condition = agreement(alloc, pair, other)?;
+        conditions.append(&mut condition)?;
     }
     Ok(conditions)
 }
 
-/// That pairs have one value for each argument: each agrees with those behind it.
+/// That pairs have one value for each argument: each agrees with those behind it that may have its argument.
 pub(crate) fn function_conditions(alloc: Global, pairs: &[Node]) -> Result<Row<Node>, NoMemory>
     ensures { IfOk result (λ ns. map pure_node ns ≡ function_asks (pure_nodes pairs.now)) }
 {
