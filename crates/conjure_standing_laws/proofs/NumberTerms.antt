@@ -16,7 +16,7 @@ use Rattle.ess_open_rules_laws.specs.OpenRules.{OpenRule, open_rewrite, step_by_
 use Rattle.ess_gathered_laws.specs.GatheredConditions.{conditions_gathered}
 use Rattle.ess_ordered_laws.specs.NumberedItems.{ordered_lookup}
 use Rattle.ess_ordered_laws.specs.PickedSources.{picked_source}
-use Rattle.ess_ordered_laws.specs.OrderedRules.{OrderedRule, an_item, of_an_item, source_by_indices, keeps_order, operand_lookup, over_operand, at_operand, ordered_rewrite}
+use Rattle.ess_ordered_laws.specs.OrderedRules.{OrderedRule, an_item, of_an_item, source_by_indices, source_of_an_item, keeps_order, operand_lookup, over_operand, at_operand, ordered_rewrite}
 
 -- A term of numerals.
 pub data OfNumerals : Ex → Type 0 where
@@ -170,6 +170,10 @@ module _ (s : Supply) (g : Names Ty) where
   no-ordered-rule (plus w v) source_by_indices = refl
   no-ordered-rule (less w v) source_by_indices = refl
   no-ordered-rule (power w v) source_by_indices = refl
+  no-ordered-rule digits source_of_an_item = refl
+  no-ordered-rule (plus w v) source_of_an_item = refl
+  no-ordered-rule (less w v) source_of_an_item = refl
+  no-ordered-rule (power w v) source_of_an_item = refl
 
 -- No conditions are gathered at one.
 pub no-gathering : {e : Ex} → OfNumerals e → conditions_gathered e ≡ None

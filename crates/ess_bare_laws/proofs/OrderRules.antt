@@ -1,12 +1,14 @@
 -- No rule of comprehensions whose items have an order fires at a bare tree, or at a list of bare items.
-use Rattle.std.proofs.Common.{◌≡◌, refl, ap, ◌∙◌, ℕ, Bool, ◌&&◌, if◌then◌else◌, List, [], ◌∷◌, Option, None}
+use Rattle.std.proofs.Common.{◌≡◌, refl, ap, ◌∙◌, ℕ, Bool, true, false, ◌&&◌, if◌then◌else◌, List, [], ◌∷◌, Option, None, option_map}
+use Rattle.ess_semantics.specs.declared.words.Fun.{Fun}
 use Rattle.ess_semantics.specs.Lists.{and_then, or_else}
 use Rattle.ess_semantics.specs.Values.{Text}
 use Rattle.ess_semantics.specs.Names.{Names}
 use Rattle.ess_semantics.specs.NamesAt.{names_behind}
-use Rattle.ess_semantics.specs.Trees.{Ex, comp_ex, Gens}
+use Rattle.ess_semantics.specs.Trees.{word, Ex, comp_ex, fun1, Gens}
 use Rattle.ess_semantics.specs.Types.{Ty}
 use Rattle.ess_semantics.specs.Typing.{type_of}
+use Rattle.ess_semantics.specs.ExpressionJudgements.{forgets_order}
 use Rattle.ess_rules_laws.specs.AlternativeLookups.{select_each, select_whole_each}
 use Rattle.ess_refine_laws.specs.AllRules.{Supply}
 use Rattle.ess_open_rules_laws.specs.OpenGenerators.{put_before}
@@ -14,7 +16,8 @@ use Rattle.ess_open_rules_laws.specs.OpenRules.{gives_scalar, is_compound_ty}
 use Rattle.ess_ordered_laws.specs.NumberedItems.{ordered_lookup}
 use Rattle.ess_ordered_laws.specs.IndexedSources.{indexed_source}
 use Rattle.ess_ordered_laws.specs.PickedSources.{picked_source}
-use Rattle.ess_ordered_laws.specs.OrderedRules.{OrderedRule, an_item, of_an_item, source_by_indices, keeps_order, operand_lookup, over_operand, at_operand, ordered_rewrite}
+use Rattle.ess_ordered_laws.specs.SourcesOfItems.{item_source, item_behind, over_an_item}
+use Rattle.ess_ordered_laws.specs.OrderedRules.{OrderedRule, an_item, of_an_item, source_by_indices, source_of_an_item, keeps_order, operand_lookup, over_operand, at_operand, ordered_rewrite}
 use Rattle.ess_bare_laws.specs.Bare.{Bare, number, truth, named, cell, one, two, power, chosen, folded, added, ordered, Row, row, Ranging, at_end, through, where_holds}
 use Rattle.ess_bare_laws.proofs.Picks.{either-way, none-open, axes-ranging}
 
@@ -102,11 +105,33 @@ module _ (cells : Text → Option (Bool × ℕ)) (s : Supply) (g : Names Ty) (r 
   no-source number = refl
   no-source f = refl
 
-  -- None of the three at a bare tree.
+  -- No source is an item.
+  no-item : (any : Bool) (e : Ex) {t : Names Bool} {gs : Gens} → Ranging cells r gs t → item_behind s any (comp_ex e gs) ≡ None
+  no-item any e k = ap (λ o. and_then o (λ t. and_then (item_source s any (comp_ex e t.after)) (put_before t.before))) (none-open cells k)
+
+  under-word : (b : Bool) (w : Fun) (e : Ex) {t : Names Bool} {gs : Gens} → Ranging cells r gs t →
+      over_an_item s (fun1 b w (comp_ex e gs)) ≡ None
+  under-word b w e {gs = gs} k = either-way (forgets_order (word w)) (option_map (fun1 b w) (item_behind s true (comp_ex e gs)))
+      (ap (option_map (fun1 b w)) (no-item true e k))
+
+  -- `toInt` has no source.
+  of-a-truth : (x : Ex) → over_an_item s (fun1 false Fun.ToInt x) ≡ None
+  of-a-truth (comp_ex e gs) = refl
+  of-a-truth x = refl
+
+  no-item-source : {e : Ex} {m : Bool} → F e m → ordered_rewrite s g source_of_an_item e ≡ None
+  no-item-source number = refl
+  no-item-source (chosen {x = x} f) = of-a-truth x
+  no-item-source (folded {f = w} {e = x} v k f) = under-word true w x k
+  no-item-source (added {e = x} k f) = under-word false Fun.Sum x (axes-ranging cells k)
+  no-item-source f = refl
+
+  -- None of the four at a bare tree.
   pub no-order : (u : OrderedRule) {e : Ex} {m : Bool} → F e m → ordered_rewrite s g u e ≡ None
   no-order an_item {e = e} f = alone e (no-lookup f s.third s.parts)
   no-order of_an_item f = no-operands f
   no-order source_by_indices f = no-source f
+  no-order source_of_an_item f = no-item-source f
 
   -- None at a list.
   pub no-order-list : (u : OrderedRule) {t : Names Bool} {gs : Gens} (e : Ex) → Ranging cells r gs t →
@@ -115,3 +140,4 @@ module _ (cells : Text → Option (Bool × ℕ)) (s : Supply) (g : Names Ty) (r 
   no-order-list of_an_item e k = refl
   no-order-list source_by_indices e k = ap (λ o. and_then o
       (λ t. and_then (indexed_source (names_behind t.before g) s.one (comp_ex e t.after)) (put_before t.before))) (none-open cells k)
+  no-order-list source_of_an_item e k = no-item false e k

@@ -50,7 +50,7 @@ module _ (u : Text → Bool) where
     list-in _ q h = cc
 
     -- Where the conditions that read no table are fixed, what is decided is in order.
-    gens-in : (gs : Gens) → are_decided gs ≡ true → GensKept u gs → gens_in_order u gs ≡ true
+    pub gens-in : (gs : Gens) → are_decided gs ≡ true → GensKept u gs → gens_in_order u gs ≡ true
     gens-in no_gens q h = refl
     gens-in (over p d gs) q h = gens-in gs q h
     gens-in (from p t gs) q h = and-both (in_order u t) (gens_in_order u gs)

@@ -11,9 +11,15 @@ pub mod OrderOfOperands
 -- New names, and what operands offer
 pub mod NamesGiven
 pub mod TermsGiven
+-- Index domains of lists that are picked
+pub mod CountedGiven
+pub mod ToldGiven
 -- Sources by their indices
 pub mod IndexedGiven
+-- Sources that are items
+pub mod SourcesOfItems
 -- Worked examples
 pub mod ExamplesOrderedNames
+pub mod ExamplesSourceNames
 -- All of it
 pub mod OrderedStays

@@ -6,7 +6,7 @@ use Rattle.ess_semantics.specs.Names.{Names}
 use Rattle.ess_semantics.specs.Trees.{Ex}
 use Rattle.ess_semantics.specs.Types.{Ty}
 use Rattle.ess_refine_laws.specs.AllRules.{Supply, OfSome}
-use Rattle.ess_ordered_laws.specs.OrderedRules.{OrderedRule, an_item, of_an_item, source_by_indices, operand_lookup, ordered_rewrite}
+use Rattle.ess_ordered_laws.specs.OrderedRules.{OrderedRule, an_item, of_an_item, source_by_indices, source_of_an_item, operand_lookup, ordered_rewrite}
 use Rattle.ess_given_laws.specs.PartsHave.{PartsHave}
 use Rattle.ess_given_laws.specs.Given.{is_fixed, given, GivenIn}
 use Rattle.ess_given_laws.proofs.FixedTrees.{fixed, fixed-has, has-fixed, given-has}
@@ -24,6 +24,7 @@ use Rattle.ess_given_ordered_laws.proofs.OrderOfOperands.{Looks, alone-order, it
 use Rattle.ess_given_ordered_laws.proofs.NamesGiven.{by-fixed}
 use Rattle.ess_given_ordered_laws.proofs.TermsGiven.{term-fixed, term-given, term-ordered, source-ordered, operand-fixed, operand-given}
 use Rattle.ess_given_ordered_laws.proofs.IndexedGiven.{indexed-given, indexed-fixed, indexed-order}
+use Rattle.ess_given_ordered_laws.proofs.SourcesOfItems.{item-source-given, item-source-fixed, item-source-order}
 
 module _ (u : Text → Bool) (s : Supply) (g : Names Ty) where
   given-none : (o : Option Ex) → Answers (fixed u) o → Answers (given u) o
@@ -65,7 +66,8 @@ module _ (u : Text → Bool) (s : Supply) (g : Names Ty) where
       alone-has (fixed u) s g k (λ z. k) e h (term-fixed u s g e n.1 h)
   fixed-answers c of_an_item e n h = let k = n.0 ∙ has-fixed u e h in
       item-has (fixed u) s g k (λ z. k) e h (looks-fixed c e n h)
-  fixed-answers c source_by_indices e n h = indexed-fixed u s.one n g e h
+  fixed-answers c source_by_indices e n h = indexed-fixed u s.one n.0 g e n.1 h
+  fixed-answers c source_of_an_item e n h = item-source-fixed u s g e n h
 
   given-answers : Counts u → (r : OrderedRule) (e : Ex) → NewOrdered u s g r e → GivenIn u e →
       Answers (given u) (ordered_rewrite s g r e)
@@ -74,7 +76,8 @@ module _ (u : Text → Bool) (s : Supply) (g : Names Ty) where
   given-answers c of_an_item e n h = by-root e (ordered_rewrite s g of_an_item e)
       (λ q. fixed-answers c of_an_item e n (fixed-has u e q))
       (λ q. item-has (given u) s g refl (free u s.one (n.0 ∙ q)) e h (looks-given c e n h))
-  given-answers c source_by_indices e n h = indexed-given u s.one n g e h
+  given-answers c source_by_indices e n h = indexed-given u s.one n.0 g e n.1 h
+  given-answers c source_of_an_item e n h = item-source-given u s g e n h
 
   loosened : (e : Ex) (o : Option Ex) → Answered u o → AnsweredFor u e o
   loosened e None h = tt
@@ -85,7 +88,8 @@ module _ (u : Text → Bool) (s : Supply) (g : Names Ty) where
       loosened e (ordered_rewrite s g an_item e) (alone-order u s g e (term-ordered u s g e n.1 h))
   order-answers of_an_item e n h =
       loosened e (ordered_rewrite s g of_an_item e) (item-order u s g e h (looks-ordered e n))
-  order-answers source_by_indices e n h = indexed-order u s.one n g e h
+  order-answers source_by_indices e n h = indexed-order u s.one n.0 g e n.1 h
+  order-answers source_of_an_item e n h = item-source-order u s g e n h
 
 -- What stays by rules of comprehensions whose items have an order.
 pub ordered-stays : OrderedStays

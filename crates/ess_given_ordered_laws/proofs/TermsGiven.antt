@@ -30,7 +30,30 @@ use Rattle.ess_given_ordered_laws.proofs.OrderOfItems.{BehindAlong, ordered-kept
 use Rattle.ess_given_ordered_laws.proofs.OrderOfOperands.{SourceLooks}
 use Rattle.ess_given_ordered_laws.proofs.NamesGiven.{fixed-along, given-along, all-behind, along-behind, by-fixed}
 
+-- The second of two, where it is true.
+pub or-right : (a b : Bool) → b ≡ true → a || b ≡ true
+or-right true b q = refl
+or-right false b q = q
+
 module _ (u : Text → Bool) where
+  -- ---- a name that is bound over alternatives
+
+  -- It belongs to u.
+  pub fixed-draws : (x : Text) → u x ≡ true → (l : List Alternative) → EachDraws (fixed u) x l
+  fixed-draws x n [] = tt
+  fixed-draws x n (a ∷ l) = (n, fixed-draws x n l)
+
+  -- It doesn't.
+  pub free-draws : (x : Text) → u x ≡ false → (l : List Alternative) → EachDraws (given u) x l
+  free-draws x n [] = tt
+  free-draws x n (a ∷ l) = (free u x n (laid_out a), free-draws x n l)
+
+  -- The alternatives are fixed.
+  pub given-draws : (x : Text) (l : List Alternative) → HaveAll (fixed u) l → EachDraws (given u) x l
+  given-draws x [] h = tt
+  given-draws x (a ∷ l) h =
+      (or-right (not (u x)) (is_fixed u (laid_out a)) (has-fixed u (laid_out a) h.0), given-draws x l h.1)
+
   module _ (s : Supply) (g : Names Ty) where
     -- ---- what is picked out of an item
 
@@ -38,19 +61,21 @@ module _ (u : Text → Bool) where
     behind-of t n = by-fixed u t (BehindAlong u s.parts t) (λ q. all-behind u s.parts t (n.where_fixed q))
         (λ q. along-behind u s.parts t (n.else_along q))
 
-    item-fixed : (t : Ex) → ItemNames u s t → PartsHave (fixed u) t → HaveSome (fixed u) (ordered_lookup s.third s.parts t)
+    -- It is fixed where the term is, given where it is, and in order where it is.
+    pub item-fixed : (t : Ex) → ItemNames u s t → PartsHave (fixed u) t → HaveSome (fixed u) (ordered_lookup s.third s.parts t)
     item-fixed t n h = ordered-has (fixed u) (λ a q. q) s.third (n.third, n.third) s.parts t
         (fixed-along u s.parts t (n.where_fixed (has-fixed u t h))) h
 
-    given-some : (o : Option (List Alternative)) → HaveSome (fixed u) o → HaveSome (given u) o
+    -- What is fixed is given.
+    pub given-some : (o : Option (List Alternative)) → HaveSome (fixed u) o → HaveSome (given u) o
     given-some o h = (given-of-fixed u s.one o h).0
 
-    item-given : (t : Ex) → ItemNames u s t → GivenIn u t → HaveSome (given u) (ordered_lookup s.third s.parts t)
+    pub item-given : (t : Ex) → ItemNames u s t → GivenIn u t → HaveSome (given u) (ordered_lookup s.third s.parts t)
     item-given t n h = by-fixed u t (HaveSome (given u) (ordered_lookup s.third s.parts t))
         (λ q. given-some (ordered_lookup s.third s.parts t) (item-fixed t n (fixed-has u t q)))
         (λ q. ordered-has (given u) (λ a q. refl) s.third (refl, refl) s.parts t (given-along u s.parts t (n.else_along q)) h)
 
-    item-ordered : (t : Ex) → ItemNames u s t → Ordered u t → SomeAlternatives u (ordered_lookup s.third s.parts t)
+    pub item-ordered : (t : Ex) → ItemNames u s t → Ordered u t → SomeAlternatives u (ordered_lookup s.third s.parts t)
     item-ordered t n h = ordered-kept u s.third s.parts t (behind-of t n) h
 
     pub term-ordered : (t : Ex) → TermNames u s t → Ordered u t → SomeAlternatives u (ordered_lookup s.third s.parts t)
@@ -85,23 +110,6 @@ module _ (u : Text → Bool) where
     source-ordered _ n = tt
 
     module _ (c : Counts u) where
-      or-right : (a b : Bool) → b ≡ true → a || b ≡ true
-      or-right true b q = refl
-      or-right false b q = q
-
-      fixed-draws : (x : Text) → u x ≡ true → (l : List Alternative) → EachDraws (fixed u) x l
-      fixed-draws x n [] = tt
-      fixed-draws x n (a ∷ l) = (n, fixed-draws x n l)
-
-      free-draws : (x : Text) → u x ≡ false → (l : List Alternative) → EachDraws (given u) x l
-      free-draws x n [] = tt
-      free-draws x n (a ∷ l) = (free u x n (laid_out a), free-draws x n l)
-
-      given-draws : (x : Text) (l : List Alternative) → HaveAll (fixed u) l → EachDraws (given u) x l
-      given-draws x [] h = tt
-      given-draws x (a ∷ l) h =
-          (or-right (not (u x)) (is_fixed u (laid_out a)) (has-fixed u (laid_out a) h.0), given-draws x l h.1)
-
       at-fixed : (t : Ex) → PickedSourceNames u s t → is_fixed u t ≡ true → HaveSome (fixed u) (source_lookup s g t)
       at-fixed t n q = by-lookup t (HaveSome (fixed u)) n (λ i. item-fixed t i (fixed-has u t q))
           (λ j. picks-fixed u c g s.third s.parts t (each-in u (is_fixed u t) (s.third ∷ s.parts) q j) q)

@@ -7,3 +7,5 @@ pub mod OrderedRoles
 -- Steps, and chains of them
 pub mod RulingSteps
 pub mod RulingChains
+-- Worked examples
+mod ExamplesOrderedSteps

@@ -1,20 +1,24 @@
--- Which of the reserved names that a rule of comprehensions whose items have an order takes are fixed; so assigned they are as it asks.
+-- Which of the reserved names that a rule of comprehensions whose items have an order takes are fixed; so assigned they are as it asks, and
+-- sources are.
 use Rattle.std.proofs.Common.{◌≡◌, sym, ◌∙◌, subst, ℕ, ◌+◌, Bool, true, false, if◌then◌else◌, ◌∷◌, length, Option, Some, None}
 use Rattle.ess_semantics.specs.Values.{Text}
 use Rattle.ess_semantics.specs.Names.{Names}
-use Rattle.ess_semantics.specs.Trees.{name_pat, Ex, comp_ex, from}
+use Rattle.ess_semantics.specs.Trees.{name_pat, tuple_pat, Ex, comp_ex, Gens, no_gens, over, from, cond, fun1}
 use Rattle.ess_semantics.specs.Types.{Ty}
 use Rattle.ess_refine_laws.specs.AllRules.{Supply, OfSome}
 use Rattle.ess_chain_names_laws.specs.Steps.{supply_at}
+use Rattle.ess_open_rules_laws.specs.OpenGenerators.{Opened, at_first_open}
 use Rattle.ess_ordered_laws.specs.NumberedItems.{ordered_lookup}
-use Rattle.ess_ordered_laws.specs.OrderedRules.{OrderedRule, an_item, of_an_item, source_by_indices}
-use Rattle.ess_given_laws.specs.PartsHave.{PartsHave}
+use Rattle.ess_ordered_laws.specs.OrderedRules.{OrderedRule, an_item, of_an_item, source_by_indices, source_of_an_item}
+use Rattle.ess_given_laws.specs.PartsHave.{PartsHave, GensHave}
 use Rattle.ess_given_laws.specs.Given.{is_fixed}
 use Rattle.ess_given_laws.proofs.FixedTrees.{fixed, fixed-has, has-fixed}
 use Rattle.ess_given_conditions_laws.proofs.Assigned.{Assigned}
 use Rattle.ess_given_ordered_laws.specs.ess_given_opened_laws.OpenedStays.{EachAs}
-use Rattle.ess_given_ordered_laws.specs.OrderedNames.{OfEither, rewritten_operand, ItemNames, TermNames, NewOrdered}
+use Rattle.ess_given_ordered_laws.proofs.ess_given_opened_laws.PartsOfOpenings.{OpenedHas, opened-has}
+use Rattle.ess_given_ordered_laws.specs.OrderedNames.{OfEither, rewritten_operand, AtSource, ItemNames, TermNames, CountKept, ItemSourceNames, ItemSourceKept, SourceItemNames, NewOrdered}
 use Rattle.ess_given_ordered_laws.proofs.PartsOfOperands.{rewritten-has}
+use Rattle.ess_given_rulings_laws.specs.OrderedSteps.{CountsKept, ItemKept, SourcesKept}
 use Rattle.ess_given_rulings_laws.proofs.Roles.{same, same-length, outs, outs-length, Roles, all_alike, same-names, all-names, along-names, NamesAs}
 use Rattle.ess_given_rulings_laws.proofs.NamesServe.{fixed-alike}
 
@@ -40,11 +44,26 @@ module _ (z : Text → Bool) (s : Supply) (k : ℕ) where
   operand_roles b None = all_alike b k
   operand_roles b (Some t) = term_roles b t
 
+  -- At a source that is an item, and behind the plain generators.
+  abbrev pub item_source_roles : Gens → Roles
+  item_source_roles (from (name_pat y) t hs) = record (item_roles (is_fixed z t) t) { other = is_fixed z t }
+  item_source_roles gs = all_alike false k
+
+  abbrev pub behind_roles : Option Opened → Roles
+  behind_roles None = all_alike false k
+  behind_roles (Some t) = item_source_roles t.after
+
+  abbrev pub source_item_roles : Ex → Roles
+  source_item_roles (fun1 m f (comp_ex e gs)) = behind_roles (at_first_open gs)
+  source_item_roles (comp_ex e gs) = behind_roles (at_first_open gs)
+  source_item_roles e = all_alike false k
+
   -- Of each rule.
   abbrev pub ordered_roles : Names Ty → OrderedRule → Ex → Roles
   ordered_roles g an_item e = term_roles (is_fixed z e) e
   ordered_roles g of_an_item e = operand_roles (is_fixed z e) (rewritten_operand s g e)
   ordered_roles g source_by_indices e = all_alike true k
+  ordered_roles g source_of_an_item e = source_item_roles e
 
   -- There are as many as names.
   item-number : (b : Bool) (t : Ex) → length (item_roles b t).parts ≡ k
@@ -66,10 +85,27 @@ module _ (z : Text → Bool) (s : Supply) (k : ℕ) where
   operand-number b None = same-length b k
   operand-number b (Some t) = term-number b t
 
+  item-source-number : (gs : Gens) → length (item_source_roles gs).parts ≡ k
+  item-source-number (from (name_pat y) t hs) = item-number (is_fixed z t) t
+  item-source-number (from (tuple_pat ps) t hs) = same-length false k
+  item-source-number no_gens = same-length false k
+  item-source-number (over p d hs) = same-length false k
+  item-source-number (cond c hs) = same-length false k
+
+  behind-number : (o : Option Opened) → length (behind_roles o).parts ≡ k
+  behind-number None = same-length false k
+  behind-number (Some t) = item-source-number t.after
+
+  source-item-number : (e : Ex) → length (source_item_roles e).parts ≡ k
+  source-item-number (fun1 m f (comp_ex e gs)) = behind-number (at_first_open gs)
+  source-item-number (comp_ex e gs) = behind-number (at_first_open gs)
+  source-item-number _ = same-length false k
+
   pub ordered-number : (g : Names Ty) (r : OrderedRule) (e : Ex) → length (ordered_roles g r e).parts ≡ k
   ordered-number g an_item e = term-number (is_fixed z e) e
   ordered-number g of_an_item e = operand-number (is_fixed z e) (rewritten_operand s g e)
   ordered-number g source_by_indices e = same-length true k
+  ordered-number g source_of_an_item e = source-item-number e
 
 -- ---- names that are assigned
 
@@ -82,16 +118,19 @@ module _ (z v w : Text → Bool) (more : (a : Text) → z a ≡ true → v a ≡
   alike : (e : Ex) → is_fixed w e ≡ true → is_fixed v e ≡ is_fixed z e
   alike e h = fixed-alike z v w more same-there n k e h
 
-  item-serves : (t : Ex) → is_fixed w t ≡ true → v s.third ≡ true →
-      Assigned v (n + 3) (if is_fixed z t then same true k else outs k t) → ItemNames v s t
+  -- The truth values of names by whether the term is fixed.
+  abbrev PartsAs : Bool → Ex → Type 0
+  PartsAs c t = Assigned v (n + 3) (if c then same true k else outs k t)
+
+  parts-as : (t : Ex) (c : Bool) → is_fixed z t ≡ c → PartsAs (is_fixed z t) t → PartsAs c t
+  parts-as t c f a = subst (λ c. PartsAs c t) f a
+
+  item-serves : (t : Ex) → is_fixed w t ≡ true → v s.third ≡ true → PartsAs (is_fixed z t) t → ItemNames v s t
   item-serves t h i a = record {
     third = i;
-    where_fixed = λ f. all-names v (n + 3) k (parts-as true (sym (alike t h) ∙ f));
-    else_along = λ f. along-names v (n + 3) k t (parts-as false (sym (alike t h) ∙ f));
+    where_fixed = λ f. all-names v (n + 3) k (parts-as t true (sym (alike t h) ∙ f) a);
+    else_along = λ f. along-names v (n + 3) k t (parts-as t false (sym (alike t h) ∙ f) a);
   }
-    where
-      parts-as : (c : Bool) → is_fixed z t ≡ c → Assigned v (n + 3) (if c then same true k else outs k t)
-      parts-as c f = subst (λ c. Assigned v (n + 3) (if c then same true k else outs k t)) f a
 
   picked-source-serves : {X : Type 0} (b : Bool) (t : Ex) → is_fixed w t ≡ true → (o : Option X) →
       NamesAs v n k (picked_source_roles z s k b t o) →
@@ -124,12 +163,65 @@ module _ (z v w : Text → Bool) (more : (a : Text) → z a ≡ true → v a ≡
   operand-one b None a = a.one
   operand-one b (Some t) a = term-one b t a
 
-  pub ordered-serve : (g : Names Ty) (r : OrderedRule) (e : Ex) → is_fixed w e ≡ true → NamesAs v n k (ordered_roles z s k g r e) →
-      NewOrdered v s g r e
-  ordered-serve g an_item e h a =
+  -- ---- sources
+
+  item-source-serves : (hs : Gens) → GensHave (fixed w) hs → NamesAs v n k (item_source_roles z s k hs) → ItemSourceNames v s hs
+  item-source-serves (from (name_pat y) t hs) h a = let q = has-fixed w t h.1 in
+      (a.other ∙ sym (alike t q), item-serves t q a.third a.parts)
+  item-source-serves (from (tuple_pat ps) t hs) h a = tt
+  item-source-serves no_gens h a = tt
+  item-source-serves (over p d hs) h a = tt
+  item-source-serves (cond c hs) h a = tt
+
+  item-kept-serves : (hs : Gens) → GensHave (fixed w) hs → ItemKept z n k v hs → NamesAs v n k (item_source_roles z s k hs) →
+      ItemSourceKept v s hs
+  item-kept-serves (from (name_pat y) t hs) h p a = λ f. let q = sym (alike t (has-fixed w t h.1)) ∙ f in
+      p q a.third (along-names v (n + 3) k t (parts-as t false q a.parts))
+  item-kept-serves (from (tuple_pat ps) t hs) h p a = tt
+  item-kept-serves no_gens h p a = tt
+  item-kept-serves (over r d hs) h p a = tt
+  item-kept-serves (cond c hs) h p a = tt
+
+  count-serves : (hs : Gens) → GensHave (fixed w) hs → CountsKept z v hs → CountKept v hs
+  count-serves (from (name_pat y) t hs) h p = λ f. p (sym (alike t (has-fixed w t h.1)) ∙ f)
+  count-serves (from (tuple_pat ps) t hs) h p = tt
+  count-serves no_gens h p = tt
+  count-serves (over r d hs) h p = tt
+  count-serves (cond c hs) h p = tt
+
+  names-behind : (o : Option Opened) → OpenedHas (fixed w) o → NamesAs v n k (behind_roles z s k o) →
+      OfSome o (λ t. ItemSourceNames v s t.after)
+  names-behind None h a = tt
+  names-behind (Some t) h a = item-source-serves t.after h.1 a
+
+  kept-behind : (o : Option Opened) → OpenedHas (fixed w) o → OfSome o (λ t. ItemKept z n k v t.after) →
+      NamesAs v n k (behind_roles z s k o) → OfSome o (λ t. ItemSourceKept v s t.after)
+  kept-behind None h p a = tt
+  kept-behind (Some t) h p a = item-kept-serves t.after h.1 p a
+
+  source-item-serves : (e : Ex) → PartsHave (fixed w) e → AtSource (ItemKept z n k v) e → NamesAs v n k (source_item_roles z s k e) →
+      SourceItemNames v s e
+  source-item-serves (fun1 m f (comp_ex e gs)) h p a = names-behind (at_first_open gs) (opened-has (fixed w) gs h.0.1) a
+  source-item-serves (comp_ex e gs) h p a = let o = opened-has (fixed w) gs h.1 in
+      (names-behind (at_first_open gs) o a, kept-behind (at_first_open gs) o p a)
+  source-item-serves _ h p a = tt
+
+  counts-serve : (e : Ex) → PartsHave (fixed w) e → AtSource (CountsKept z v) e → AtSource (CountKept v) e
+  counts-serve (comp_ex e gs) h p = go (at_first_open gs) (opened-has (fixed w) gs h.1) p
+    where
+      go : (o : Option Opened) → OpenedHas (fixed w) o → OfSome o (λ t. CountsKept z v t.after) → OfSome o (λ t. CountKept v t.after)
+      go None h p = tt
+      go (Some t) h p = count-serves t.after h.1 p
+  counts-serve _ h p = tt
+
+  -- Of each rule.
+  pub ordered-serve : (g : Names Ty) (r : OrderedRule) (e : Ex) → is_fixed w e ≡ true → SourcesKept z n k v r e →
+      NamesAs v n k (ordered_roles z s k g r e) → NewOrdered v s g r e
+  ordered-serve g an_item e h p a =
       (term-one (is_fixed z e) e a ∙ sym (alike e h), term-serves (is_fixed z e) e (fixed-has w e h) a)
-  ordered-serve g of_an_item e h a = (
+  ordered-serve g of_an_item e h p a = (
     operand-one (is_fixed z e) (rewritten_operand s g e) a ∙ sym (alike e h),
     operand-serves (is_fixed z e) (rewritten_operand s g e) (rewritten-has (fixed w) s g e (fixed-has w e h)) a,
   )
-  ordered-serve g source_by_indices e h a = a.one
+  ordered-serve g source_by_indices e h p a = (a.one, counts-serve e (fixed-has w e h) p)
+  ordered-serve g source_of_an_item e h p a = source-item-serves e (fixed-has w e h) p a

@@ -27,7 +27,7 @@ use Rattle.ess_given_kind_steps_laws.proofs.CountingNames.{with_unused, unused-c
 use Rattle.ess_given_kind_steps_laws.proofs.PartsGiven.{given-part}
 use Rattle.ess_given_kind_steps_laws.proofs.KindSteps.{kind-steps-keep-given}
 use Rattle.ess_given_rulings_laws.specs.RulingChains.{IsRulingStep, plainly, by_kinds, by_opening, by_gathering, by_order, by_matrices, RulingChain, at_rest, one_more, RulingChainsKeepGiven}
-use Rattle.ess_given_rulings_laws.proofs.RulingSteps.{opening-orders, ordered-orders, matrix-orders, gathering-orders, picks-fixed, both-fixed}
+use Rattle.ess_given_rulings_laws.proofs.RulingSteps.{opening-orders, ordered-orders, matrix-orders, gathering-orders, picks-fixed, sources-fixed, both-fixed}
 
 on : (a b c : ℕ) → a ≤ b → b ≤ c → a ≤ c
 on a b c p q = omega (arith, p, q)
@@ -73,9 +73,9 @@ module _ (u : Text → Bool) (n m : ℕ) (a b : Ex) (c : In) (k : Counts u) (f :
       (λ t x e. opening-orders u t n j m (names_at c g) d l k f x r a b q e p)
       (λ t i x e. opening-orders t t n j m (names_at c g) d l i x x r a b q e (λ v w. picks-fixed t v n j (names_at c g) r a e))
   at-part g (by_gathering q d) l = part-stays (λ t x e. gathering-orders u n m a b q d f) (λ t i x e. gathering-orders t n m a b q d x)
-  at-part g (by_order j r q d) l = part-stays
-      (λ t x e. ordered-orders u t n j m (names_at c g) d l k f x r a b q e)
-      (λ t i x e. ordered-orders t t n j m (names_at c g) d l i x x r a b q e)
+  at-part g (by_order j r q d p) l = part-stays
+      (λ t x e. ordered-orders u t n j m (names_at c g) d l k f x r a b q e p)
+      (λ t i x e. ordered-orders t t n j m (names_at c g) d l i x x r a b q e (λ v w. sources-fixed t v n j r a e))
   at-part g (by_matrices j q d p) l = part-stays
       (λ t x e. matrix-orders u t n j m (names_at c g) d l k f x a b q e p)
       (λ t i x e. matrix-orders t t n j m (names_at c g) d l i x x a b q e (λ v w. both-fixed t v a w.more e))

@@ -13,7 +13,7 @@ use Rattle.ess_chain_names_laws.specs.Steps.{supply_at}
 use Rattle.ess_open_rules_laws.specs.OpenGenerators.{Opened, at_first_open}
 use Rattle.ess_open_rules_laws.specs.OpenRules.{OpenRule, in_order_of_its_source, open_rewrite}
 use Rattle.ess_gathered_laws.specs.GatheredConditions.{conditions_gathered}
-use Rattle.ess_ordered_laws.specs.OrderedRules.{OrderedRule, ordered_rewrite}
+use Rattle.ess_ordered_laws.specs.OrderedRules.{OrderedRule, source_by_indices, source_of_an_item, ordered_rewrite}
 use Rattle.ess_given_laws.specs.PartsHave.{GensHave}
 use Rattle.ess_given_laws.specs.Given.{is_fixed, are_fixed_gens, GivenIn}
 use Rattle.ess_given_laws.specs.GivenStays.{TakesGiven, NewGiven}
@@ -32,9 +32,10 @@ use Rattle.ess_given_kind_steps_laws.specs.GivenKindSteps.{StepOrders}
 use Rattle.ess_given_ordered_laws.specs.ess_given_opened_laws.OpenedStays.{NewOpened}
 use Rattle.ess_given_ordered_laws.proofs.ess_given_opened_laws.OpenedOrder.{opened-stays}
 use Rattle.ess_given_ordered_laws.proofs.ess_given_opened_laws.PartsOfOpenings.{OpenedHas, opened-has}
-use Rattle.ess_given_ordered_laws.specs.OrderedNames.{NewOrdered}
+use Rattle.ess_given_ordered_laws.specs.OrderedNames.{AtSource, NewOrdered}
 use Rattle.ess_given_ordered_laws.proofs.OrderedStays.{ordered-stays, gathering-stays}
 use Rattle.ess_given_rulings_laws.specs.OpeningSteps.{PickKept, PicksKept}
+use Rattle.ess_given_rulings_laws.specs.OrderedSteps.{CountsKept, ItemKept, SourcesKept}
 use Rattle.ess_given_rulings_laws.specs.RulingChains.{BothCountFixed}
 use Rattle.ess_given_rulings_laws.proofs.Roles.{same, same-length, Roles, role_list, roles_of, roles-number, all-names, NamesAs, names-as}
 use Rattle.ess_given_rulings_laws.proofs.NamesServe.{fixed-alike, names-serve}
@@ -105,8 +106,9 @@ module _ (z w : Text → Bool) (n k m : ℕ) (g : Names Ty) (d : n + 3 + k ≤ m
 
   -- ---- items that have an order
 
-  pub ordered-orders : (r : OrderedRule) (a b : Ex) → ordered_rewrite s g r a ≡ Some b → is_fixed w a ≡ true → StepOrders n m z a b
-  ordered-orders r a b f q = record {
+  pub ordered-orders : (r : OrderedRule) (a b : Ex) → ordered_rewrite s g r a ≡ Some b → is_fixed w a ≡ true →
+      ((v : Text → Bool) → Grows n m z v → SourcesKept z n k v r a) → StepOrders n m z a b
+  ordered-orders r a b f q p = record {
     names = v;
     grow = t.grow;
     keep = record {
@@ -127,7 +129,7 @@ module _ (z w : Text → Bool) (n k m : ℕ) (g : Names Ty) (d : n + 3 + k ≤ m
       counts = t.grow.more unused_name c
 
       new : NewOrdered v s g r a
-      new = ordered-serve z v w t.grow.more t.alike n k g r a q t.roles
+      new = ordered-serve z v w t.grow.more t.alike n k g r a q (p v t.grow) t.roles
 
   -- ---- matrices over index domains
 
@@ -199,6 +201,35 @@ picks-fixed z v n k g in_order_of_its_source (comp_ex e gs) h =
     go None i = tt
     go (Some t) i = at (names_behind t.before g) t.after i.1
 picks-fixed z v n k g r a h = tt
+
+-- Nor are the items of a source counted by what isn't.
+at-source : (z : Text → Bool) (P : Gens → Type 0) → ((hs : Gens) → GensHave (fixed z) hs → P hs) → (e : Ex) → is_fixed z e ≡ true →
+    AtSource P e
+at-source z P f (comp_ex e gs) h = go (at_first_open gs) (opened-has (fixed z) gs (fixed-has z (comp_ex e gs) h).1)
+  where
+    go : (o : Option Opened) → OpenedHas (fixed z) o → OfSome o (λ t. P t.after)
+    go None i = tt
+    go (Some t) i = f t.after i.1
+at-source z P f _ h = tt
+
+pub sources-fixed : (z v : Text → Bool) (n k : ℕ) (r : OrderedRule) (a : Ex) → is_fixed z a ≡ true → SourcesKept z n k v r a
+sources-fixed z v n k source_by_indices a h = at-source z (CountsKept z v) counts a h
+  where
+    counts : (hs : Gens) → GensHave (fixed z) hs → CountsKept z v hs
+    counts (from (name_pat y) t hs) i = λ q. let p : true ≡ false = sym (has-fixed z t i.1) ∙ q in cc
+    counts (from (tuple_pat ps) t hs) i = tt
+    counts no_gens i = tt
+    counts (over p d hs) i = tt
+    counts (cond c hs) i = tt
+sources-fixed z v n k source_of_an_item a h = at-source z (ItemKept z n k v) items a h
+  where
+    items : (hs : Gens) → GensHave (fixed z) hs → ItemKept z n k v hs
+    items (from (name_pat y) t hs) i = λ q. let p : true ≡ false = sym (has-fixed z t i.1) ∙ q in cc
+    items (from (tuple_pat ps) t hs) i = tt
+    items no_gens i = tt
+    items (over p d hs) i = tt
+    items (cond c hs) i = tt
+sources-fixed z v n k r a h = tt
 
 counts-fixed : (z v : Text → Bool) (e : Ex) → ((a : Text) → z a ≡ true → v a ≡ true) → is_fixed z e ≡ true → CountsFixed v e
 counts-fixed z v (comp_ex e gs) more h =

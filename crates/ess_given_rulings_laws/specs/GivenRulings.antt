@@ -32,9 +32,11 @@ made_by s g (by_kind r) e = kind_ruled s g r e
 made_by s g gathering e = conditions_gathered e
 made_by s g (by_order r) e = ordered_rewrite s g r e
 
--- Which of the names that it takes belong to u, what index domains and copies it takes, and that a source picked in order is picked by what
--- is fixed. Who uses the rules delivers it: names are reserved ones, of which each belongs to u or not as asked; an index domain is fixed
--- unless it counts the items of a comprehension, and then the domains and conditions of that are fixed, which has no source.
+-- Which of the names that it takes belong to u, what index domains and copies it takes, that a source picked in order is picked by what is
+-- fixed, and that the items of one that is picked out of written lists are counted by what is. Who uses the rules delivers it: names are
+-- reserved ones, of which each belongs to u or not as asked; an index domain is fixed unless it counts the items of a comprehension, and
+-- then the domains and conditions of that are fixed, which has no source; and names of an index are bound over domains, or over what is
+-- fixed.
 abbrev pub Takes : (Text → Bool) → Supply → Names Ty → GivenRuling → Ex → Type 0
 Takes u s g (plainly r) e = NewGiven u s r e × TakesOrder u s r e
 Takes u s g (by_kind (of_kind r)) e = NewOfKinds u s r e

@@ -4,5 +4,7 @@ pub use Rattle.ess_given_ordered_laws.specs.ess_given_opened_laws as ess_given_o
 pub mod GivenRulings
 -- What steps of openings count on
 pub mod OpeningSteps
+-- What steps of comprehensions whose items have an order count on
+pub mod OrderedSteps
 -- Chains of rules of all sorts
 pub mod RulingChains

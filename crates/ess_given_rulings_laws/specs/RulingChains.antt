@@ -20,6 +20,7 @@ use Rattle.ess_given_order_laws.specs.OrderStays.{StaysOrdered}
 use Rattle.ess_given_offers_laws.specs.Seen.{Counts}
 use Rattle.ess_given_kind_steps_laws.specs.GivenKindSteps.{IsKindStep}
 use Rattle.ess_given_rulings_laws.specs.OpeningSteps.{PicksKept}
+use Rattle.ess_given_rulings_laws.specs.OrderedSteps.{SourcesKept}
 
 -- What both operands count, as comprehensions, is fixed.
 abbrev pub BothCountFixed : (Text → Bool) → Ex → Type 0
@@ -28,8 +29,8 @@ BothCountFixed v e = Unit {0}
 
 -- A step of refining with reserved names from the n-th on, which leaves those from the m-th on, where the names of z are fixed: of the
 -- rules that read no kind, or of new bound names; of rules that read the kind of a view; of openings, where what a name picks in order is
--- picked by what is fixed; where conditions are gathered; of comprehensions whose items have an order; and of matrices compared over index
--- domains, where these count nothing but what is fixed.
+-- picked by what is fixed; where conditions are gathered; of comprehensions whose items have an order, where what counts the items of a
+-- source or picks it is fixed; and of matrices compared over index domains, where these count nothing but what is fixed.
 pub data IsRulingStep : (Text → Bool) → ℕ → Names Ty → Ex → Ex → ℕ → Type 0 where
   plainly : {z : Text → Bool} {n m : ℕ} {g : Names Ty} {a b : Ex} → IsGivenStep n g a b m → IsRulingStep z n g a b m
   by_kinds : {z : Text → Bool} {n m : ℕ} {g : Names Ty} {a b : Ex} → IsKindStep n g a b m → IsRulingStep z n g a b m
@@ -38,7 +39,8 @@ pub data IsRulingStep : (Text → Bool) → ℕ → Names Ty → Ex → Ex → �
       ((v : Text → Bool) → Grows n m z v → PicksKept z n count g v rule a) → IsRulingStep z n g a b m
   by_gathering : {z : Text → Bool} {n m : ℕ} {g : Names Ty} {a b : Ex} → conditions_gathered a ≡ Some b → n ≤ m → IsRulingStep z n g a b m
   by_order : {z : Text → Bool} {n m : ℕ} {g : Names Ty} {a b : Ex} (count : ℕ) (rule : OrderedRule) →
-      ordered_rewrite (supply_at n count) g rule a ≡ Some b → n + 3 + count ≤ m → IsRulingStep z n g a b m
+      ordered_rewrite (supply_at n count) g rule a ≡ Some b → n + 3 + count ≤ m →
+      ((v : Text → Bool) → Grows n m z v → SourcesKept z n count v rule a) → IsRulingStep z n g a b m
   by_matrices : {z : Text → Bool} {n m : ℕ} {g : Names Ty} {a b : Ex} (count : ℕ) →
       rewrite (supply_at n count) g equal_matrices_at a ≡ Some b → n + 3 + count ≤ m →
       ((v : Text → Bool) → Grows n m z v → BothCountFixed v a) → IsRulingStep z n g a b m

@@ -16,8 +16,8 @@ use ess_node_building::{number, word};
 use ess_rows::{Boxed, NoMemory, Row};
 use std::alloc::Global;
 
-/// `int(1..n)`
-fn one_up_to(alloc: Global, count: Boxed<Node>) -> Result<Boxed<NodeDom>, NoMemory>
+/// `int(1..n)`. `NoMemory` where there is no room for it.
+pub fn one_up_to(alloc: Global, count: Boxed<Node>) -> Result<Boxed<NodeDom>, NoMemory>
     ensures { IfOk result (λ d. pure_dom d ≡ from_one_to (pure_node count)) }
 {
     let one = number(alloc, 1)?;
@@ -149,7 +149,7 @@ fn is_plain_op(op: &Op) -> bool
 }
 
 /// An index domain with such bounds, which binds no names.
-fn plain_axis(axis: Option<&NodeDom>) -> Option<&NodeDom>
+pub fn plain_axis(axis: Option<&NodeDom>) -> Option<&NodeDom>
     ensures { option_map pure_dom (option_copied result) ≡ the_plain_axis (option_map pure_dom (option_copied axis.entry)) }
 {
     match axis {
@@ -211,8 +211,8 @@ fn number_of(alloc: Global, count: usize) -> Result<Boxed<Node>, NoMemory>
     }
 }
 
-/// How many items a comprehension with these generators has: `sum([1 | gens])`.
-fn items_counted(alloc: Global, gens: &[Gen]) -> Result<Boxed<Node>, NoMemory>
+/// How many items a comprehension with these generators has: `sum([1 | gens])`. `NoMemory` where there is no room for it.
+pub fn items_counted(alloc: Global, gens: &[Gen]) -> Result<Boxed<Node>, NoMemory>
     ensures { IfOk result (λ n. pure_node n ≡ fun1 false Fun.Sum (comp_ex (number_ex (pos 1)) (pure_gens gens.now))) }
 {
     let gens = copy_gens(alloc, gens)?;

@@ -10,7 +10,7 @@ mod operands;
 mod places;
 mod ranges;
 
-pub use index_domains::{counted, index_dom};
+pub use index_domains::{counted, index_dom, items_counted, one_up_to, plain_axis};
 pub use known::{KnownName, bind_any, bind_over, copy_known};
 pub use numbers::is_number;
 pub use operands::pair_in;

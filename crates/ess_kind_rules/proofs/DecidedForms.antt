@@ -1,13 +1,12 @@
--- Generators that no table decides, and those over domains: one by one, as one list, and at the first one.
+-- Generators that no table decides: one by one, as one list, and at the first one.
 use Rattle.std.proofs.Common.{◌≡◌, refl, ap, ◌&&◌, not, List, [], ◌∷◌}
-use Rattle.ess_semantics.specs.Lists.{is_some_and, is_none_or}
+use Rattle.ess_semantics.specs.Lists.{is_some_and}
 use Rattle.ess_semantics.specs.Occurrences.{has_cells}
-use Rattle.ess_semantics.specs.Trees.{Ex, comp_ex, Gens, no_gens, over, from, cond}
+use Rattle.ess_semantics.specs.Trees.{Gens, no_gens, over, from, cond}
 use Rattle.ess_core.specs.TreeViews.{Item, over_item, from_item, cond_item, gens_of}
-use Rattle.ess_rules_folds.specs.Forms.{from_parts, comp_parts}
-use Rattle.ess_open_rules_laws.specs.OpenGenerators.{are_over_domains, has_no_source}
+use Rattle.ess_rules_folds.specs.Forms.{from_parts}
 use Rattle.ess_open_rules_laws.specs.OpenSources.{is_decided, are_decided, is_first_decided}
-use Rattle.ess_kind_rules.specs.DecidedItems.{are_decided_items, are_over_domains_each}
+use Rattle.ess_kind_rules.specs.DecidedItems.{are_decided_items}
 
 -- One by one.
 pub items_decided : (is : List Item) → are_decided (gens_of is) ≡ are_decided_items is
@@ -22,15 +21,3 @@ first_decided no_gens = refl
 first_decided (over p d gs) = refl
 first_decided (from p e gs) = refl
 first_decided (cond c gs) = refl
-
--- Over domains, one by one.
-pub domains_alone : (is : List Item) → are_over_domains (gens_of is) ≡ are_over_domains_each is
-domains_alone [] = refl
-domains_alone (over_item p d ∷ is) = domains_alone is
-domains_alone (from_item p e ∷ is) = refl
-domains_alone (cond_item c ∷ is) = domains_alone is
-
--- By the parts of a comprehension.
-pub sources_by_parts : (e : Ex) → has_no_source e ≡ is_none_or (comp_parts e) (λ c. are_over_domains c.1)
-sources_by_parts (comp_ex e gs) = refl
-sources_by_parts e = refl

@@ -1,4 +1,4 @@
--- Generators that no table decides, and those over domains, one by one.
+-- Generators that no table decides, one by one.
 use Rattle.std.specs.Prelude.{Bool, true, false, ◌&&◌, not, List, [], ◌∷◌}
 use Rattle.ess_semantics.specs.Occurrences.{has_cells}
 use Rattle.ess_core.specs.TreeViews.{Item, over_item, from_item, cond_item}
@@ -14,14 +14,3 @@ is_decided_item (cond_item c) = not (has_cells c)
 abbrev pub are_decided_items : List Item → Bool
 are_decided_items [] = true
 are_decided_items (i ∷ is) = is_decided_item i && are_decided_items is
-
--- Whether it is no generator over a source.
-abbrev pub is_over_domain : Item → Bool
-is_over_domain (over_item p d) = true
-is_over_domain (from_item p e) = false
-is_over_domain (cond_item c) = true
-
--- The same of each.
-abbrev pub are_over_domains_each : List Item → Bool
-are_over_domains_each [] = true
-are_over_domains_each (i ∷ is) = is_over_domain i && are_over_domains_each is

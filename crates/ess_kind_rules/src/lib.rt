@@ -6,7 +6,6 @@
 #![tactic(auto)]
 
 mod decided;
-mod domains;
 mod list_rules;
 mod measures;
 mod offering;
@@ -22,7 +21,6 @@ mod truths;
 mod view_rules;
 mod words;
 
-pub use domains::has_no_source;
 pub use list_rules::lists;
 pub use ordering::kept_behind;
 pub use pick_rules::picks;

@@ -1,9 +1,10 @@
 -- No rule of comprehensions whose items have an order fires at a flat tree over cells.
 use Rattle.std.proofs.Common.{◌≡◌, refl, ap, ◌∙◌, ℕ, Bool, true, false, ◌&&◌, if◌then◌else◌, List, [], ◌∷◌, Option, None}
+use Rattle.ess_semantics.specs.declared.words.Fun.{Fun}
 use Rattle.ess_semantics.specs.Lists.{and_then, or_else}
 use Rattle.ess_semantics.specs.Values.{Text}
 use Rattle.ess_semantics.specs.Names.{Names}
-use Rattle.ess_semantics.specs.Trees.{Ex}
+use Rattle.ess_semantics.specs.Trees.{Ex, fun1}
 use Rattle.ess_semantics.specs.Types.{Ty}
 use Rattle.ess_semantics.specs.Typing.{type_of}
 use Rattle.ess_rules_laws.specs.AlternativeLookups.{select_each, select_whole_each}
@@ -12,7 +13,8 @@ use Rattle.ess_open_rules_laws.specs.OpenRules.{gives_scalar, is_compound_ty}
 use Rattle.ess_flat_laws.specs.Flat.{Flat, number, truth, named, cell, one, two, chosen, none_marked}
 use Rattle.ess_ordered_laws.specs.NumberedItems.{ordered_lookup}
 use Rattle.ess_ordered_laws.specs.PickedSources.{picked_source}
-use Rattle.ess_ordered_laws.specs.OrderedRules.{OrderedRule, an_item, of_an_item, source_by_indices, keeps_order, operand_lookup, over_operand, at_operand, ordered_rewrite}
+use Rattle.ess_ordered_laws.specs.SourcesOfItems.{over_an_item}
+use Rattle.ess_ordered_laws.specs.OrderedRules.{OrderedRule, an_item, of_an_item, source_by_indices, source_of_an_item, keeps_order, operand_lookup, over_operand, at_operand, ordered_rewrite}
 use Rattle.ess_ordered_flat_laws.specs.FlatOrdered.{FlatTreesHaveNoOrder}
 
 either-way : {A : Type 0} (b : Bool) (o : Option A) → o ≡ None → (if b then o else None) ≡ None
@@ -76,11 +78,31 @@ module _ (cells : Text → Option Bool) (s : Supply) (g : Names Ty) where
   no-source (two o f h c) = refl
   no-source (chosen f) = refl
 
-  -- None of the three.
+  -- A word of such a tree runs over no source.
+  no-word : (b : Bool) (w : Fun) {e : Ex} {m : Bool} → F e m → over_an_item s (fun1 b w e) ≡ None
+  no-word b w number = refl
+  no-word b w truth = refl
+  no-word b w (named h) = refl
+  no-word b w (cell h) = refl
+  no-word b w (one o f) = refl
+  no-word b w (two o f h c) = refl
+  no-word b w (chosen f) = refl
+
+  no-item : {e : Ex} {m : Bool} → F e m → ordered_rewrite s g source_of_an_item e ≡ None
+  no-item number = refl
+  no-item truth = refl
+  no-item (named h) = refl
+  no-item (cell h) = refl
+  no-item (one o f) = refl
+  no-item (two o f h c) = refl
+  no-item (chosen f) = no-word false Fun.ToInt f
+
+  -- None of the four.
   pub no-order : (r : OrderedRule) {e : Ex} {m : Bool} → F e m → ordered_rewrite s g r e ≡ None
   no-order an_item f = no-alone f
   no-order of_an_item f = no-operands f
   no-order source_by_indices f = no-source f
+  no-order source_of_an_item f = no-item f
 
 pub flat-trees-have-no-order : FlatTreesHaveNoOrder
 flat-trees-have-no-order cells s g r e m f = no-order cells s g r f

@@ -1,14 +1,15 @@
 -- Worked examples of what rules of comprehensions count on whose items have an order.
 use Rattle.std.specs.Prelude.{◌≡◌, refl, [], ◌∷◌, codes}
 use Rattle.ess_semantics.specs.declared.words.Op2.{Op2}
+use Rattle.ess_semantics.specs.declared.words.Fun.{Fun}
 use Rattle.ess_semantics.specs.Trees.{name_pat, Ex, comp_ex, no_gens, over, from, bool_dom}
 use Rattle.ess_semantics.specs.Typed.{Typed}
 use Rattle.ess_semantics.specs.Meaning.{empty_env}
-use Rattle.ess_semantics.proofs.Shorthands.{N, n, es1, es2, bi, upto, at}
+use Rattle.ess_semantics.proofs.Shorthands.{N, n, es1, es2, bi, fn, upto, at}
 use Rattle.ess_rules_laws.specs.Rules.{Unused}
 use Rattle.ess_rules_laws.specs.SourceRules.{list_of}
 use Rattle.ess_refine_laws.specs.AllRules.{Supply}
-use Rattle.ess_ordered_kept_laws.specs.OrderedAsks.{OrderedLookupAsks, SourcePickedAsks, OperandAsks, AtOperandAsks}
+use Rattle.ess_ordered_kept_laws.specs.OrderedAsks.{OrderedLookupAsks, SourcePickedAsks, OperandAsks, AtOperandAsks, ItemBehindAsks}
 
 abbrev names : Supply
 names = record {
@@ -69,3 +70,20 @@ new_name_unused = (refl, (refl, (((refl, tt), (refl, (tt, (tt, tt)), tt)), (tt, 
 
 row_has : SourcePickedAsks names [] of_rows empty_env
 row_has = (no_names_given, new_name_unused, refl, λ h. refl, ((tt, (tt, (tt, tt)), (tt, (tt, tt)), refl), refl))
+
+-- ---- sources that are items
+
+-- The same is asked where the source is taken as the item that it is, at a word and in any place: also that it has a value.
+item_source_has : ItemBehindAsks names (fn Fun.Sum of_rows) empty_env × ItemBehindAsks names of_rows empty_env
+item_source_has = (
+  (new_name_unused, refl, refl, ((tt, (tt, (tt, tt)), (tt, (tt, tt)), refl), refl)),
+  (new_name_unused, refl, refl, ((tt, (tt, (tt, tt)), (tt, (tt, tt)), refl), refl)),
+)
+
+-- Behind a plain generator it is asked at each of its values: with p over `int(1..2)` twice.
+item_behind_has : ItemBehindAsks names (comp_ex (N (codes "q")) (over (name_pat (codes "p")) (upto 2)
+    (from (name_pat (codes "q")) (at rows (n 2)) no_gens))) empty_env
+item_behind_has = (
+  (new_name_unused, refl, refl, ((tt, (tt, (tt, tt)), (tt, (tt, tt)), refl), refl)),
+  ((new_name_unused, refl, refl, ((tt, (tt, (tt, tt)), (tt, (tt, tt)), refl), refl)), tt),
+)

@@ -2,6 +2,8 @@
 pub mod OrderedLookups
 -- Operands in order are looked up
 pub mod OperandLookups
+-- Sources keep, behind plain generators
+pub mod SourcesBehind
 -- Each rule keeps what it rewrites
 pub mod OrderedRulesKeep
 -- Worked examples

@@ -4,10 +4,10 @@ use Rattle.std.specs.Prelude.{IsTrue, is_some}
 use Rattle.ess_semantics.specs.Lists.{and_then, or_else}
 use Rattle.ess_semantics.specs.Names.{Names}
 use Rattle.ess_semantics.specs.NamesAt.{names_behind}
-use Rattle.ess_semantics.specs.Trees.{Op, Ex, Exs, node_ex, comp_ex}
+use Rattle.ess_semantics.specs.Trees.{Op, Ex, Exs, node_ex}
 use Rattle.ess_semantics.specs.Types.{Ty}
 use Rattle.ess_semantics.specs.Typing.{type_of}
-use Rattle.ess_semantics.specs.Contexts.{AtEach, guards}
+use Rattle.ess_semantics.specs.Contexts.{guards}
 use Rattle.ess_semantics.specs.Meaning.{Env, meaning}
 use Rattle.ess_semantics.specs.Meets.{Meets, MeetsAll}
 use Rattle.ess_semantics.specs.Kept.{Keeps}
@@ -15,26 +15,22 @@ use Rattle.ess_semantics.proofs.Tests.{and-left}
 use Rattle.ess_rules_laws.specs.Rules.{Unused}
 use Rattle.ess_rules_laws.specs.LiteralRules.{nth}
 use Rattle.ess_rules_laws.specs.Listings.{Alternative}
-use Rattle.ess_rules_laws.specs.SpliceRules.{append_gens}
 use Rattle.ess_rules_laws.specs.FunctionLookups.{unmarked}
 use Rattle.ess_rules_laws.specs.Lookups.{is_plain}
 use Rattle.ess_rules_laws.specs.AlternativeLookups.{LookedBy, LooksUpEach, select_each, select_whole_each}
-use Rattle.ess_rules_laws.proofs.Bindings.{at-each-map}
 use Rattle.ess_rules_laws.proofs.Lookups.{unguarded}
 use Rattle.ess_rules_laws.proofs.AlternativeSelections.{nth-met, select_each-keeps, select_whole_each-keeps}
-use Rattle.ess_rules_laws.proofs.Tails.{tails-congruent}
 use Rattle.ess_refine_laws.specs.AllRules.{Supply, OfSome}
 use Rattle.ess_kinds_kept_laws.specs.KindAsks.{RootFits}
-use Rattle.ess_open_rules_laws.specs.OpenGenerators.{Opened, at_first_open, put_before}
 use Rattle.ess_open_rules_laws.specs.OpenRules.{gives_scalar, is_compound_ty}
-use Rattle.ess_open_kept_laws.proofs.OpenedFolds.{opened-are}
 use Rattle.ess_ordered_laws.specs.NumberedItems.{ordered_lookup}
-use Rattle.ess_ordered_laws.specs.IndexedSources.{indexed_source, indexed_behind}
+use Rattle.ess_ordered_laws.specs.IndexedSources.{indexed_source}
 use Rattle.ess_ordered_laws.specs.Laws.{SourceTold}
-use Rattle.ess_ordered_laws.specs.OrderedRules.{an_item, of_an_item, source_by_indices, item_alone, operand_lookup, over_operand, at_operand}
+use Rattle.ess_ordered_laws.specs.OrderedRules.{an_item, of_an_item, source_by_indices, source_of_an_item, item_alone, operand_lookup, over_operand, at_operand}
 use Rattle.ess_ordered_laws.proofs.IndexedSources.{sources-keep}
-use Rattle.ess_ordered_kept_laws.specs.OrderedAsks.{OrderedLookupAsks, OperandAsks, AtOperandAsks, IndexedBehindAsks, OrderedRulesKeep}
+use Rattle.ess_ordered_kept_laws.specs.OrderedAsks.{OrderedLookupAsks, OperandAsks, AtOperandAsks, OrderedRulesKeep}
 use Rattle.ess_ordered_kept_laws.proofs.OrderedLookups.{ordered-looked}
+use Rattle.ess_ordered_kept_laws.proofs.SourcesBehind.{behind-keeps, over-item-keeps}
 use Rattle.ess_ordered_kept_laws.proofs.OperandLookups.{chosen-is, operand-looked}
 
 -- ---- a picked scalar
@@ -106,31 +102,6 @@ there : (o : Option Ex) (f : Ex) → o ≡ Some f → IsTrue (is_some o)
 there None f q = cc
 there (Some x) f q = refl
 
--- ---- a source
-
-behind-keeps : (s : Supply) (g : Names Ty) (e f : Ex) → indexed_behind g s.one e ≡ Some f → (env : Env) → IndexedBehindAsks s g e env →
-    Keeps e f env
-behind-keeps s g (comp_ex e gs) f q env c = go (at_first_open gs) refl q c
-  where
-    put : (t : Opened) → at_first_open gs ≡ Some t → (o : Option Ex) → indexed_source (names_behind t.before g) s.one (comp_ex e t.after) ≡ o →
-        and_then o (put_before t.before) ≡ Some f →
-        AtEach t.before env (SourceTold (names_behind t.before g) s.one (comp_ex e t.after)) → Keeps (comp_ex e gs) f env
-    put t a None k q c = cc
-    put t a (Some (comp_ex x ks)) k q c = subst (λ z. Keeps (comp_ex e z) f env) (sym (opened-are gs t a))
-        (subst (λ z. Keeps (comp_ex e (append_gens t.before t.after)) z env)
-        (let z : comp_ex x (append_gens t.before ks) ≡ f = cc in z)
-        (tails-congruent t.before t.after ks e x env
-        (at-each-map t.before env (SourceTold (names_behind t.before g) s.one (comp_ex e t.after)) _
-        (λ here p. sources-keep (names_behind t.before g) s.one (comp_ex e t.after) (comp_ex x ks) k here p) c)))
-    put t a (Some _) k q c = cc
-
-    go : (o : Option Opened) → at_first_open gs ≡ o →
-        and_then o (λ t. and_then (indexed_source (names_behind t.before g) s.one (comp_ex e t.after)) (put_before t.before)) ≡ Some f →
-        OfSome o (λ t. AtEach t.before env (SourceTold (names_behind t.before g) s.one (comp_ex e t.after))) → Keeps (comp_ex e gs) f env
-    go None a q c = cc
-    go (Some t) a q c = put t a (indexed_source (names_behind t.before g) s.one (comp_ex e t.after)) refl q c
-behind-keeps s g _ f q env c = cc
-
 -- ---- each rule
 
 pub ordered-rules-keep : OrderedRulesKeep
@@ -138,4 +109,6 @@ ordered-rules-keep s g an_item e f q env c = alone-keeps s g e f q env c.0 c.1
 ordered-rules-keep s g of_an_item e f q env c = either-keeps s g f env e (at_operand s g 1 e) (at_operand s g 2 e) q
     (λ p. at-keeps s g f env 1 e p c.0 c.1 (c.2 (there (at_operand s g 1 e) f p)))
     (λ p. at-keeps s g f env 2 e p c.0 c.1 (c.3 (there (at_operand s g 2 e) f p)))
-ordered-rules-keep s g source_by_indices e f q env c = behind-keeps s g e f q env c
+ordered-rules-keep s g source_by_indices e f q env c = behind-keeps (λ gs. indexed_source (names_behind gs g) s.one)
+    (λ gs. SourceTold (names_behind gs g) s.one) (λ gs. sources-keep (names_behind gs g) s.one) e f q env c
+ordered-rules-keep s g source_of_an_item e f q env c = over-item-keeps s e f q env c

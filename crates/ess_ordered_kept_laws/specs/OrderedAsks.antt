@@ -4,11 +4,11 @@ use Rattle.std.specs.Prelude.{◌≡◌, false, not, ℕ, List, [], ◌∷◌, S
 use Rattle.ess_semantics.specs.Values.{Text}
 use Rattle.ess_semantics.specs.Names.{Names}
 use Rattle.ess_semantics.specs.NamesAt.{names_behind}
-use Rattle.ess_semantics.specs.Trees.{name_pat, Ex, node_ex, comp_ex, from}
+use Rattle.ess_semantics.specs.Trees.{name_pat, Ex, node_ex, comp_ex, Gens, from, fun1}
 use Rattle.ess_semantics.specs.Types.{Ty}
 use Rattle.ess_semantics.specs.Typed.{Typed}
 use Rattle.ess_semantics.specs.Contexts.{AtEach}
-use Rattle.ess_semantics.specs.Meaning.{Env}
+use Rattle.ess_semantics.specs.Meaning.{Env, meaning}
 use Rattle.ess_semantics.specs.Kept.{Keeps}
 use Rattle.ess_rules_laws.specs.Rules.{Unused}
 use Rattle.ess_rules_laws.specs.LiteralRules.{nth}
@@ -22,7 +22,7 @@ use Rattle.ess_kinds_kept_laws.specs.KindAsks.{RootFits}
 use Rattle.ess_open_rules_laws.specs.OpenGenerators.{at_first_open}
 use Rattle.ess_ordered_laws.specs.NumberedItems.{ordered_lookup}
 use Rattle.ess_ordered_laws.specs.Laws.{NumberedApart, SourceTold}
-use Rattle.ess_ordered_laws.specs.OrderedRules.{OrderedRule, an_item, of_an_item, source_by_indices, at_operand, ordered_rewrite}
+use Rattle.ess_ordered_laws.specs.OrderedRules.{OrderedRule, an_item, of_an_item, source_by_indices, source_of_an_item, at_operand, ordered_rewrite}
 
 -- At any depth: the comprehension is there, and its names are told apart; what is picked within isn't read as Boolean.
 abbrev pub OrderedLookupAsks : Text → List Text → Ex → Env → Type 0
@@ -51,11 +51,26 @@ abbrev pub AtOperandAsks : Supply → Names Ty → ℕ → Ex → Env → Type 0
 AtOperandAsks s g k (node_ex b op es) env = OfSome (nth es k) (λ t. OperandAsks s g t env)
 AtOperandAsks s g k e env = Unit {0}
 
--- Of a source, at each binding of the plain generators before it.
+-- What a rule at the first generator that isn't plain counts on, at each binding of the plain ones before it; P is told these.
+abbrev pub BehindAsks : (Gens → Ex → Env → Type 0) → Ex → Env → Type 0
+BehindAsks P (comp_ex e gs) env = OfSome (at_first_open gs) (λ t. AtEach t.before env (P t.before (comp_ex e t.after)))
+BehindAsks P e env = Unit {0}
+
+-- Of a source that is taken by its indices.
 abbrev pub IndexedBehindAsks : Supply → Names Ty → Ex → Env → Type 0
-IndexedBehindAsks s g (comp_ex e gs) env = OfSome (at_first_open gs)
-    (λ t. AtEach t.before env (SourceTold (names_behind t.before g) s.one (comp_ex e t.after)))
-IndexedBehindAsks s g e env = Unit {0}
+IndexedBehindAsks s g e env = BehindAsks (λ gs. SourceTold (names_behind gs g) s.one) e env
+
+-- Of a source that is an item: the new name doesn't stand in the comprehension, and the source isn't read as Boolean, has a value, and has
+-- what its lookup asks.
+abbrev pub ItemAsks : Supply → Ex → Env → Type 0
+ItemAsks s (comp_ex e (from (name_pat y) t hs)) env = Unused s.other (comp_ex e (from (name_pat y) t hs)) × IsTrue (not (asks_truth t))
+    × IsTrue (is_some (meaning t env)) × OrderedLookupAsks s.third s.parts t env
+ItemAsks s e env = Unit {0}
+
+-- The same of the operand of a word, or of the comprehension itself.
+abbrev pub ItemBehindAsks : Supply → Ex → Env → Type 0
+ItemBehindAsks s (fun1 m f (comp_ex e gs)) env = BehindAsks (λ ks. ItemAsks s) (comp_ex e gs) env
+ItemBehindAsks s e env = BehindAsks (λ ks. ItemAsks s) e env
 
 -- What the rule counts on at a root.
 abbrev pub OrderedAsks : Supply → Names Ty → OrderedRule → Ex → Env → Type 0
@@ -63,6 +78,7 @@ OrderedAsks s g an_item e env = OrderedLookupAsks s.third s.parts e env × RootF
 OrderedAsks s g of_an_item e env = Unused s.one e × RootFits e env × (IsTrue (is_some (at_operand s g 1 e)) → AtOperandAsks s g 1 e env)
     × (IsTrue (is_some (at_operand s g 2 e)) → AtOperandAsks s g 2 e env)
 OrderedAsks s g source_by_indices e env = IndexedBehindAsks s g e env
+OrderedAsks s g source_of_an_item e env = ItemBehindAsks s e env
 
 -- So each keeps what it rewrites.
 abbrev pub OrderedRulesKeep : Type 0

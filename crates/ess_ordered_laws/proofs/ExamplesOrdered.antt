@@ -152,7 +152,7 @@ over_a_domain : indexed_term [] w (matrix_ex (es2 (n 7) (n 5)) (range (n 3) (n 4
 over_a_domain = refl
 
 -- Items that cells pick are run over by index; those that names pick have the rules of kinds.
-abbrev k : Ex
+abbrev pub k : Ex
 k = cell_ex false (codes "k") no_exs
 
 picked_by_cells : (has_open_index (at (N y) k) ≡ true) × (has_open_index (at (at (N y) k) (n 1)) ≡ true)

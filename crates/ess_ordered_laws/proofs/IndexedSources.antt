@@ -15,7 +15,7 @@ use Rattle.ess_semantics.specs.Contexts.{Each, EachOf, EachIn}
 use Rattle.ess_semantics.specs.Kept.{Keeps}
 use Rattle.ess_semantics.specs.Meets.{Meets, MeetsGens}
 use Rattle.ess_semantics.proofs.Orders.{same-equal, same-itself}
-use Rattle.ess_guard_laws.specs.IndexDomains.{index_dom}
+use Rattle.ess_ordered_laws.specs.ToldAxes.{told_axis}
 use Rattle.ess_repr_laws.proofs.AllMembersListed.{domain-listed}
 use Rattle.ess_rules_laws.specs.Rules.{Unused, IsTruth}
 use Rattle.ess_rules_laws.specs.MatrixRules.{item_of}
@@ -124,7 +124,7 @@ source-answer g x e t y hs env new true (Some d) _ h = tt
 
 comp-answer : (g : Names Ty) (x : Text) (e : Ex) (env : Env) → SourceTold g x e env → AnswerKeeps (indexed_source g x e) e env
 comp-answer g x (comp_ex e (from (name_pat y) t hs)) env h =
-    source-answer g x e t y hs env h.0 (is_by_index t) (index_dom t) (type_of t g) h.1
+    source-answer g x e t y hs env h.0 (is_by_index t) (told_axis t) (type_of t g) h.1
 comp-answer g x _ env h = tt
 
 -- So a source by its indices keeps the comprehension.

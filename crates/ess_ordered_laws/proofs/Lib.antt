@@ -12,9 +12,13 @@ pub mod NumberedGenerators
 pub mod IndexedSources
 -- Comprehensions over what is picked
 pub mod PickedSources
+-- Sources that are items by number
+pub mod SourcesOfItems
 -- Worked examples
 mod ExamplesOrdered
 -- The same over several generators
 mod ExamplesSeveral
 -- The same over what is picked
 mod ExamplesPicked
+-- The same by told indices, and over items
+mod ExamplesTold

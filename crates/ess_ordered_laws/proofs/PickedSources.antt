@@ -61,7 +61,9 @@ module _ (x y : Text) (e : Ex) (hs : Gens) (env : Env) where
   abbrev MetAt : Value → Type 0
   MetAt v = Meets Over (behind x v env)
 
-  laid-met : (a : Alternative) (ws : List Value) → items_listed a env ≡ Some ws → Each ws MetAt → EachIn (meaning (laid_out a) env) MetAt
+  -- Met behind each item, they are met at what the alternative's comprehension runs over.
+  pub laid-met : (a : Alternative) (ws : List Value) → items_listed a env ≡ Some ws → Each ws MetAt →
+      EachIn (meaning (laid_out a) env) MetAt
   laid-met a ws q h = subst (λ o. EachIn (option_map list_value o) MetAt) (sym q) (subst (λ l. Each l MetAt) (sym (to_list-of_list ws)) h)
 
   source-met : (l : List Alternative) (ws : List Value) → all_listed l env ≡ Some ws → AllMet l env → Each ws MetAt →
@@ -77,16 +79,18 @@ module _ (x y : Text) (e : Ex) (hs : Gens) (env : Env) where
     abbrev Whole : Ex
     Whole = comp_ex e (from (name_pat y) t hs)
 
-    -- Where x has the value of the source, the comprehension over x runs over the same.
+    -- Where x has the value of the source, x means the same.
     same-source : (v : Value) → meaning t env ≡ Some v → meaning (name_ex x) (behind x v env) ≡ meaning t (behind x v env)
     same-source v j = name-behind x v env ∙ sym (meaning-behind x v t env new-t ∙ j)
 
-    over-means : (v : Value) → meaning t env ≡ Some v → meaning Over (behind x v env) ≡ meaning Whole env
+    -- So the comprehension over x runs over the same.
+    pub over-means : (v : Value) → meaning t env ≡ Some v → meaning Over (behind x v env) ≡ meaning Whole env
     over-means v j = ap (λ o. option_map list_value (and_then o (λ s. collect (items_of s)
         (λ u. items_under hs (with_pat (name_pat y) u (behind x v env)) (λ here. option_map (λ v. v ∷ []) (meaning e here)))))) (same-source v j)
         ∙ meaning-behind x v Whole env new
 
-    over-met : (v : Value) → meaning t env ≡ Some v → Meets Whole env → MetAt v
+    -- And its structures are met.
+    pub over-met : (v : Value) → meaning t env ≡ Some v → Meets Whole env → MetAt v
     over-met v j m = (
       tt,
       subst (λ o. EachIn o (λ u. MeetsGens hs (with_pat (name_pat y) u (behind x v env)) (λ here. Meets e here))) (sym (same-source v j))

@@ -1,6 +1,7 @@
 -- Sources by their indices, where the order of items counts: a generator over a term t, whose index domain d is told, becomes one over
--- `[t[x] | x : d]`. So it is of literals, and of items of matrices that cells pick: a condition on cells can't stay in such a list.
-use Rattle.std.specs.Prelude.{Bool, true, false, ◌||◌, [], ◌∷◌, Option, None, option_map, if◌then◌else◌}
+-- `[t[x] | x : d]`. So it is of literals, of items of matrices that cells pick, and of lists that are picked out of a term which tells their
+-- index domain: a condition on cells can't stay in such a list.
+use Rattle.std.specs.Prelude.{Bool, true, false, ◌||◌, [], ◌∷◌, Option, None, option_map, is_some, if◌then◌else◌}
 use Rattle.ess_semantics.specs.Lists.{and_then}
 use Rattle.ess_semantics.specs.Values.{Text}
 use Rattle.ess_semantics.specs.Names.{Names}
@@ -9,10 +10,10 @@ use Rattle.ess_semantics.specs.Trees.{by_value, index, matrix_literal, name_pat,
 use Rattle.ess_semantics.specs.Types.{Ty}
 use Rattle.ess_semantics.specs.Typing.{type_of}
 use Rattle.ess_semantics.specs.NamesAt.{names_behind}
-use Rattle.ess_guard_laws.specs.IndexDomains.{index_dom}
 use Rattle.ess_rules_laws.specs.MatrixRules.{item_of}
 use Rattle.ess_refine_laws.specs.IndexedLists.{of_matrix}
 use Rattle.ess_open_rules_laws.specs.OpenGenerators.{behind_plain}
+use Rattle.ess_ordered_laws.specs.ToldAxes.{picked_axis, told_axis}
 
 -- Whether an item of a matrix is picked by what reads cells.
 abbrev pub has_open_index : Ex → Bool
@@ -23,7 +24,7 @@ has_open_index e = false
 abbrev pub is_by_index : Ex → Bool
 is_by_index (node_ex false matrix_literal es) = true
 is_by_index (matrix_ex es d) = true
-is_by_index t = has_open_index t
+is_by_index t = has_open_index t || is_some (picked_axis t)
 
 -- `[t[x] | x : d]`; u is the type of the items.
 abbrev pub items_at : Text → Dom → Ex → Ty → Ex
@@ -32,7 +33,7 @@ items_at x d t u = comp_ex (item_of u t (name_ex x)) (over (name_pat x) d no_gen
 -- The term by its indices, each of which is called x.
 abbrev pub indexed_term : Names Ty → Text → Ex → Option Ex
 indexed_term g x t =
-    if is_by_index t then and_then (index_dom t) (λ d. of_matrix (type_of t g) (items_at x d t)) else None
+    if is_by_index t then and_then (told_axis t) (λ d. of_matrix (type_of t g) (items_at x d t)) else None
 
 -- A comprehension whose first generator runs over such a term.
 abbrev pub indexed_source : Names Ty → Text → Ex → Option Ex

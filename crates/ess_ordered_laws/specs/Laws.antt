@@ -1,5 +1,6 @@
--- What is said of items of comprehensions by their numbers, of comprehensions over what is picked, and of sources by their indices.
-use Rattle.std.specs.Prelude.{◌≡◌, true, false, ◌||◌, not, [], ◌∷◌, List, length, Option, Some}
+-- What is said of items of comprehensions by their numbers, of comprehensions over what is picked or over an item, and of sources by their
+-- indices.
+use Rattle.std.specs.Prelude.{◌≡◌, true, false, ◌||◌, not, [], ◌∷◌, List, length, Option, Some, IsTrue, is_some}
 use Rattle.ess_semantics.specs.Values.{Text, Value, of_list, matrix, a_matrix}
 use Rattle.ess_semantics.specs.Order.{same_text}
 use Rattle.ess_semantics.specs.Names.{Names}
@@ -11,7 +12,6 @@ use Rattle.ess_semantics.specs.Meaning.{Env, meaning, domain_of, members_in}
 use Rattle.ess_semantics.specs.Contexts.{Each}
 use Rattle.ess_semantics.specs.Meets.{Meets, MeetsDom}
 use Rattle.ess_semantics.specs.Kept.{Keeps}
-use Rattle.ess_guard_laws.specs.IndexDomains.{index_dom}
 use Rattle.ess_rules_laws.specs.Rules.{Unused, IsTruth}
 use Rattle.ess_rules_laws.specs.MatrixRules.{UnusedDom}
 use Rattle.ess_rules_laws.specs.Listings.{Alternative}
@@ -20,6 +20,8 @@ use Rattle.ess_rules_laws.specs.PartLookups.{FitsWhereThere}
 use Rattle.ess_rules_laws.specs.AlternativeLookups.{LookedBy, FirstOperandThere}
 use Rattle.ess_ordered_laws.specs.NumberedItems.{number_behind, numbered_lookup}
 use Rattle.ess_ordered_laws.specs.PickedSources.{each_source}
+use Rattle.ess_ordered_laws.specs.SourcesOfItems.{over_the_item}
+use Rattle.ess_ordered_laws.specs.ToldAxes.{told_axis}
 use Rattle.ess_ordered_laws.specs.IndexedSources.{indexed_source}
 
 -- Names are told apart along the generators: a new name stands neither in the number nor in what it is put into; the name that it takes the
@@ -54,6 +56,15 @@ SourcesArePicked = (x y : Text) (t e : Ex) (hs : Gens) (l : List Alternative) �
     FitsWhereThere (Some t) false (comp_ex e (from (name_pat y) t hs)) env → LookedBy t l env →
     Meets (comp_ex e (from (name_pat y) t hs)) env → LookedBy (comp_ex e (from (name_pat y) t hs)) (each_source x y l e hs) env
 
+-- ---- sources that are items
+
+-- A generator over the one value that the alternative picks, and over what that holds, has the items of the source, in order, where that has
+-- a value and the alternative looks it up. The new name doesn't stand in the comprehension.
+abbrev pub ItemsAreSources : Type 0
+ItemsAreSources = (z y : Text) (t e : Ex) (hs : Gens) (a : Alternative) → Unused z (comp_ex e (from (name_pat y) t hs)) → (env : Env) →
+    IsTrue (is_some (meaning t env)) → LookedBy t (a ∷ []) env →
+    Keeps (comp_ex e (from (name_pat y) t hs)) (over_the_item z y e hs a) env
+
 -- ---- sources by their indices
 
 -- The term is a matrix over the domain: its indices are the members, in order, and there is an item at each.
@@ -73,7 +84,7 @@ IndicesTold o p t env = Unit {0}
 
 -- The new name doesn't stand in the first source, and its index domain is told rightly.
 abbrev pub SourceTold : Names Ty → Text → Ex → Env → Type 0
-SourceTold g x (comp_ex e (from (name_pat y) t hs)) env = Unused x t × IndicesTold (index_dom t) (type_of t g) t env
+SourceTold g x (comp_ex e (from (name_pat y) t hs)) env = Unused x t × IndicesTold (told_axis t) (type_of t g) t env
 SourceTold g x e env = Unit {0}
 
 -- So a source by its indices keeps the comprehension, in order.

@@ -14,13 +14,14 @@ use Rattle.ess_open_rules_laws.specs.OpenRules.{gives_scalar, is_compound_ty}
 use Rattle.ess_ordered_laws.specs.NumberedItems.{ordered_lookup}
 use Rattle.ess_ordered_laws.specs.IndexedSources.{indexed_behind}
 use Rattle.ess_ordered_laws.specs.PickedSources.{picked_source}
+use Rattle.ess_ordered_laws.specs.SourcesOfItems.{over_an_item}
 
 -- The rules, by what they rewrite.
 pub data OrderedRule : Type 0 where
   -- A scalar that is an item, or is picked out of one; an operator on a compound one.
   an_item of_an_item : OrderedRule
-  -- A source, by its indices.
-  source_by_indices : OrderedRule
+  -- A source: by its indices, and one that is an item.
+  source_by_indices source_of_an_item : OrderedRule
 
 -- A picked scalar by itself.
 abbrev pub item_alone : Supply → Names Ty → Ex → Option Ex
@@ -51,3 +52,4 @@ abbrev pub ordered_rewrite : Supply → Names Ty → OrderedRule → Ex → Opti
 ordered_rewrite s g an_item e = item_alone s g e
 ordered_rewrite s g of_an_item e = or_else (at_operand s g 1 e) (at_operand s g 2 e)
 ordered_rewrite s g source_by_indices e = indexed_behind g s.one e
+ordered_rewrite s g source_of_an_item e = over_an_item s e

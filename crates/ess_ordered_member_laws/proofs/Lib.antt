@@ -1,2 +1,4 @@
--- Terms that pick nothing, and trees of a membership
+-- Terms that pick nothing
+pub mod PicksNothing
+-- Trees of a membership
 pub mod MembershipOrder

@@ -1,5 +1,5 @@
--- Trees of a membership pick nothing, and run over no source by its indices: so no rule of comprehensions whose items have an order fires
--- at a part of one.
+-- Trees of a membership pick nothing, and run over no source by its indices, nor over an item: so no rule of comprehensions whose items
+-- have an order fires at a part of one.
 use Rattle.std.specs.Prelude.{◌≡◌, None}
 use Rattle.ess_semantics.specs.Values.{Text}
 use Rattle.ess_semantics.specs.Names.{Names}

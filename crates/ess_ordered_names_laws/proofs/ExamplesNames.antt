@@ -1,5 +1,5 @@
 -- Worked examples: `[q | q <- f(1)]`, where f is a view of a partial function with a table of flags and one of values.
-use Rattle.std.specs.Prelude.{◌≡◌, refl, Bool, true, false, [], ◌∷◌, codes, pos, Some}
+use Rattle.std.specs.Prelude.{◌≡◌, refl, Bool, true, false, [], ◌∷◌, codes, pos, Some, IsTrue}
 use Rattle.ess_semantics.specs.declared.words.Op2.{Op2}
 use Rattle.ess_semantics.specs.declared.words.Fun.{Fun}
 use Rattle.ess_semantics.specs.declared.words.ReprKind.{ReprKind}
@@ -8,11 +8,11 @@ use Rattle.ess_semantics.specs.Trees.{both_ends, repr, no_reprs, more_reprs, by_
 use Rattle.ess_rules_laws.specs.Listings.{Alternative}
 use Rattle.ess_refine_laws.specs.AllRules.{Supply}
 use Rattle.ess_ordered_laws.specs.PickedSources.{picked_source}
-use Rattle.ess_ordered_laws.specs.OrderedRules.{of_an_item, keeps_order}
+use Rattle.ess_ordered_laws.specs.OrderedRules.{of_an_item, source_of_an_item, keeps_order}
 use Rattle.conjure_model_laws.specs.ToldApart.{reserved}
 use Rattle.ess_chain_names_laws.specs.NamesHave.{EachHas}
 use Rattle.ess_chain_names_laws.specs.Steps.{supply_at}
-use Rattle.ess_ordered_names_laws.specs.OrderedNames.{AtSource, WherePicked, ViewHas}
+use Rattle.ess_ordered_names_laws.specs.OrderedNames.{OtherHas, AtSource, WherePicked, ViewHas}
 
 abbrev q : Text
 q = codes "q"
@@ -72,3 +72,9 @@ module _ (u : Text → Bool) where
 -- Under a word that forgets order it asks for nothing.
 order_is_forgotten : keeps_order (fun1 false Fun.Sum copied) ≡ false
 order_is_forgotten = refl
+
+-- The name over an item as a source is asked for where a rule binds it so, and of no other rule.
+module _ (u : Text → Bool) where
+  name_over_an_item : (OtherHas u names source_of_an_item ≡ IsTrue (u (reserved 1))) × (OtherHas u names of_an_item ≡ Unit {0})
+      × (WherePicked (ViewHas u) source_of_an_item (node_ex false application (more_exs copied no_exs)) ≡ Unit {0})
+  name_over_an_item = (refl, refl, refl)

@@ -10,7 +10,7 @@ use Rattle.ess_semantics.specs.Trees.{Repr, repr, no_reprs, more_reprs, by_value
 use Rattle.ess_semantics.specs.Types.{Ty, compound2}
 use Rattle.ess_semantics.specs.Typing.{type_of}
 use Rattle.ess_semantics.specs.Substitution.{Binds, BindsAll}
-use Rattle.ess_rules_laws.specs.Listings.{Alternative, none_of}
+use Rattle.ess_rules_laws.specs.Listings.{Alternative}
 use Rattle.ess_rules_laws.specs.SetListings.{put_last}
 use Rattle.ess_rules_laws.specs.FunctionViews.{Run, by_name, by_names, append_exs, name_exs, name_pats, names_fit, total_result, flagged_result, of_application}
 use Rattle.ess_rules_laws.specs.Function1DViews.{function_1d_result, function_1d_lookup}
@@ -18,7 +18,9 @@ use Rattle.ess_rules_laws.specs.Function1DPartialViews.{function_1d_partial_resu
 use Rattle.ess_rules_laws.specs.FunctionNDViews.{function_nd_result, function_nd_lookup}
 use Rattle.ess_rules_laws.specs.FunctionNDPartialViews.{function_nd_partial_result, function_nd_partial_lookup}
 use Rattle.ess_rules_laws.specs.FunctionLookups.{pairs_at, function_lookup}
-use Rattle.ess_rules_laws.specs.AlternativeLookups.{numbered_items, list_lookup, first_results, pairs_by_cases, function_literal_lookup, as_alternative, lookup_through_each}
+use Rattle.ess_rules_laws.specs.AlternativeLookups.{numbered_items, list_lookup, none_at, first_results, pairs_by_cases}
+use Rattle.ess_rules_laws.specs.AlternativeLookups.{function_literal_lookup, as_alternative, lookup_through_each}
+use Rattle.ess_rules_laws.proofs.NoneOf.{none_at-more}
 use Rattle.ess_views_laws.specs.MatrixViews.{behind_index}
 use Rattle.ess_kind_rules_laws.specs.ViewListings.{dom_seen, one_each, names_for}
 use Rattle.ess_kind_rules_laws.specs.TermLookups.{picks, picked_within, view_item_lookup, items_at_places, domain_list_lookup, party_lookup, names_of_argument, function_view_lookup, one_lookup, looked_up_alone, looked_up}
@@ -53,9 +55,9 @@ module _ (u : Text → Bool) where
   ListHas [] = Unit {0}
   ListHas (b ∷ bs) = NamesHave u b × ListHas bs
 
-  none-has : (bs : List Ex) (a : Ex) → ListHas bs → NamesHave u a → GensNamesHave u (none_of bs a)
-  none-has [] a h k = tt
-  none-has (b ∷ bs) a h k = (((h.0, (k, tt)), tt), none-has bs a h.1 k)
+  none-has : (bs : List Ex) (a x : Ex) → ListHas bs → NamesHave u x → GensNamesHave u (none_at bs a x)
+  none-has [] a x h k = tt
+  none-has (b ∷ bs) a x h k = none_at-more (GensNamesHave u) b a x bs (none-has bs a x h.1 k) (λ r. (((h.0, (k, tt)), tt), r))
 
   more-results : (c : Gens) (b : Ex) (o : Option (List Alternative)) → NamesHave u b → GensNamesHave u c → HaveSome u o →
       HaveSome u (option_map (λ l. record { gens = c; item = b } ∷ l) o)
@@ -66,7 +68,7 @@ module _ (u : Text → Bool) where
       HaveSome u (first_results bs x ps)
   results-have bs x no_exs h k j = tt
   results-have bs x (more_exs (node_ex false tuple_literal (more_exs a (more_exs b no_exs))) ps) h k j =
-      more-results _ b (first_results (a ∷ bs) x ps) j.0.1.0 ((k, (j.0.0, tt)), none-has bs x h k)
+      more-results _ b (first_results (a ∷ bs) x ps) j.0.1.0 ((k, (j.0.0, tt)), none-has bs a x h k)
       (results-have (a ∷ bs) x ps (j.0.0, h) k j.1)
   results-have bs x _ h k j = tt
 

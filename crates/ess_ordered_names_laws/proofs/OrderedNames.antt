@@ -1,37 +1,33 @@
 -- The rules of comprehensions whose items have an order bring no names but those that they take.
 use Rattle.std.proofs.Common.{◌≡◌, refl, subst, ℕ, zero, suc, ◌+◌, ◌<◌, ◌≤◌, ◌^◌, Bool, true, false, ◌&&◌, ◌||◌, if◌then◌else◌, List, [], ◌∷◌, Option, Some, None, option_map, arith}
 use Rattle.std.specs.Prelude.{IsTrue}
-use Rattle.ess_semantics.specs.Lists.{and_then, or_else, or_default}
-use Rattle.ess_semantics.specs.Values.{Text, a_matrix}
+use Rattle.ess_semantics.specs.Lists.{and_then, or_else}
+use Rattle.ess_semantics.specs.Values.{Text}
 use Rattle.ess_semantics.specs.Names.{Names}
-use Rattle.ess_semantics.specs.Trees.{name_pat, Ex, Exs, node_ex, comp_ex, seen_ex, no_exs, more_exs, Gens, no_gens, over, from, cond, Dom, bool_dom}
-use Rattle.ess_semantics.specs.Types.{Ty, compound2}
+use Rattle.ess_semantics.specs.Trees.{name_pat, Ex, Exs, node_ex, comp_ex, seen_ex, no_exs, more_exs, Gens, from}
+use Rattle.ess_semantics.specs.Types.{Ty}
 use Rattle.ess_semantics.specs.Typing.{type_of}
-use Rattle.ess_semantics.specs.NamesAt.{names_behind}
 use Rattle.ess_semantics.specs.Contexts.{In, fill}
-use Rattle.ess_guard_laws.specs.IndexDomains.{index_dom}
 use Rattle.ess_rules_laws.specs.Listings.{Alternative}
 use Rattle.ess_rules_laws.specs.LiteralRules.{nth}
 use Rattle.ess_rules_laws.specs.AlternativeLookups.{select_each, select_whole_each}
-use Rattle.ess_refine_laws.specs.IndexedLists.{of_matrix}
 use Rattle.ess_refine_laws.specs.AllRules.{Supply}
 use Rattle.ess_kind_rules_laws.specs.TermLookups.{looked_up}
-use Rattle.ess_open_rules_laws.specs.OpenGenerators.{Opened, with_first, opened_here, is_plain_over, at_first_open, put_before}
 use Rattle.ess_open_rules_laws.specs.OpenRules.{gives_scalar, is_compound_ty}
 use Rattle.ess_ordered_laws.specs.NumberedItems.{ordered_lookup}
-use Rattle.ess_ordered_laws.specs.IndexedSources.{is_by_index, items_at, indexed_term, indexed_source, indexed_behind}
 use Rattle.ess_ordered_laws.specs.PickedSources.{is_untold, source_lookup, each_source, picked_source}
-use Rattle.ess_ordered_laws.specs.OrderedRules.{OrderedRule, an_item, of_an_item, source_by_indices, item_alone, keeps_order, operand_lookup, over_operand, at_operand, ordered_rewrite}
+use Rattle.ess_ordered_laws.specs.OrderedRules.{OrderedRule, an_item, of_an_item, source_by_indices, source_of_an_item, item_alone, keeps_order, operand_lookup, over_operand, at_operand, ordered_rewrite}
 use Rattle.conjure_model_laws.specs.ToldApart.{reserved}
-use Rattle.ess_chain_names_laws.specs.NamesHave.{NamesHave, GensNamesHave, DomNamesHave, EachHas}
+use Rattle.ess_chain_names_laws.specs.NamesHave.{NamesHave, GensNamesHave, EachHas}
 use Rattle.ess_chain_names_laws.specs.Steps.{supply_at}
 use Rattle.ess_chain_names_laws.specs.SparedNames.{Spares}
-use Rattle.ess_chain_names_laws.proofs.NamesHave.{append-names, part-names, names-wider}
+use Rattle.ess_chain_names_laws.proofs.NamesHave.{part-names, names-wider}
 use Rattle.ess_chain_names_laws.proofs.NamesOfFolds.{Answers, HaveAll, HaveSome, under}
-use Rattle.ess_chain_names_laws.proofs.SparedNames.{axis-has, up_to, wider, given, names-given, is_before, both-false, before-none}
-use Rattle.ess_ordered_names_laws.specs.OrderedNames.{TakenHave, AtSource, AtSources, WherePicked, ViewHas, PickHas, OrderedRulesKeepNames}
+use Rattle.ess_chain_names_laws.proofs.SparedNames.{up_to, wider, given, names-given, is_before, both-false, before-none}
+use Rattle.ess_ordered_names_laws.specs.OrderedNames.{OtherHas, TakenHave, AtSource, AtSources, WherePicked, ViewHas, PickHas, OrderedRulesKeepNames}
 use Rattle.ess_ordered_names_laws.proofs.NamesOfLookups.{nth-names, whole-names, operand-names, ordered-names}
 use Rattle.ess_ordered_names_laws.proofs.NamesOfPicks.{either-picks, picked-names}
+use Rattle.ess_ordered_names_laws.proofs.NamesOfSources.{indexed-names, over-item-names}
 
 -- An operand that is there is over such a source.
 abbrev Sourced : (Ex → Type 0) → Option Ex → Type 0
@@ -51,7 +47,7 @@ module _ (u : Text → Bool) where
 
   -- ---- items
 
-  module _ (s : Supply) (g : Names Ty) (t : TakenHave u s) where
+  module _ (s : Supply) (g : Names Ty) (r : OrderedRule) (t : TakenHave u s r) where
     looked : (e : Ex) → NamesHave u e → HaveSome u (ordered_lookup s.third s.parts e)
     looked e h = ordered-names u s.third s.parts e t.third t.parts h
 
@@ -108,87 +104,35 @@ module _ (u : Text → Bool) where
         go (Some a) j q = over-names k (node_ex b op es) a h j q
     at-names k _ h p = tt
 
-  -- ---- sources
-
-  -- Both parts of the generators have such names.
-  abbrev OpenedHas : Option Opened → Type 0
-  OpenedHas None = Unit {0}
-  OpenedHas (Some t) = GensNamesHave u t.before × GensNamesHave u t.after
-
-  opened-behind : (f : Gens → Gens) → ((gs : Gens) → GensNamesHave u gs → GensNamesHave u (f gs)) → (o : Option Opened) → OpenedHas o →
-      OpenedHas (option_map (with_first f) o)
-  opened-behind f k None h = tt
-  opened-behind f k (Some t) h = (k t.before h.0, h.1)
-
-  opened-names : (gs : Gens) → GensNamesHave u gs → OpenedHas (at_first_open gs)
-  opened-names no_gens h = tt
-  opened-names (over p d gs) h =
-      go (is_plain_over p d) (opened-behind (over p d) (λ hs k. (h.0, h.1, k)) (at_first_open gs) (opened-names gs h.2))
-    where
-      go : (b : Bool) → OpenedHas (option_map (with_first (over p d)) (at_first_open gs)) →
-          OpenedHas (if b then option_map (with_first (over p d)) (at_first_open gs) else Some (opened_here (over p d gs)))
-      go true k = k
-      go false k = (tt, h)
-  opened-names (from p e gs) h = (tt, h)
-  opened-names (cond c gs) h = opened-behind (cond c) (λ hs k. (h.0, k)) (at_first_open gs) (opened-names gs h.1)
-
-  module _ (x : Text) (n : IsTrue (u x)) where
-    items-names : (t : Ex) → NamesHave u t → (d : Dom) → DomNamesHave u d → (o : Option Ty) → Answers u (of_matrix o (items_at x d t))
-    items-names t h d k (Some (compound2 a_matrix i ty)) = ((h, (n, tt)), (n, k, tt))
-    items-names t h d k _ = tt
-
-    term-names : (g : Names Ty) (t : Ex) → NamesHave u t → Answers u (indexed_term g x t)
-    term-names g t h = under u (is_by_index t) _ (go (index_dom t) (axis-has u t h))
-      where
-        go : (o : Option Dom) → DomNamesHave u (or_default o bool_dom) →
-            Answers u (and_then o (λ d. of_matrix (type_of t g) (items_at x d t)))
-        go None k = tt
-        go (Some d) k = items-names t h d k (type_of t g)
-
-    source-names : (g : Names Ty) (e : Ex) → NamesHave u e → Answers u (indexed_source g x e)
-    source-names g (comp_ex e (from (name_pat y) t hs)) h = go (indexed_term g x t) (term-names g t h.1.1)
-      where
-        go : (o : Option Ex) → Answers u o → Answers u (option_map (λ l. comp_ex e (from (name_pat y) l hs)) o)
-        go None k = tt
-        go (Some l) k = (h.0, (h.1.0, k, h.1.2))
-    source-names g _ h = tt
-
-    before-names : (gs : Gens) → GensNamesHave u gs → (o : Option Ex) → Answers u o → Answers u (and_then o (put_before gs))
-    before-names gs h None k = tt
-    before-names gs h (Some (comp_ex e ks)) k = (k.0, append-names u gs ks h k.1)
-    before-names gs h (Some _) k = tt
-
-    behind-names : (g : Names Ty) (e : Ex) → NamesHave u e → Answers u (indexed_behind g x e)
-    behind-names g (comp_ex e gs) h = go (at_first_open gs) (opened-names gs h.1)
-      where
-        go : (o : Option Opened) → OpenedHas o → Answers u (and_then o
-            (λ t. and_then (indexed_source (names_behind t.before g) x (comp_ex e t.after)) (put_before t.before)))
-        go None k = tt
-        go (Some t) k = before-names t.before k.0 (indexed_source (names_behind t.before g) x (comp_ex e t.after))
-            (source-names (names_behind t.before g) (comp_ex e t.after) (h.0, k.1))
-    behind-names g _ h = tt
-
   -- ---- each rule
 
-  each-names : (s : Supply) (g : Names Ty) → TakenHave u s → (r : OrderedRule) (e : Ex) → NamesHave u e →
+  each-names : (s : Supply) (g : Names Ty) (r : OrderedRule) → TakenHave u s r → (e : Ex) → NamesHave u e →
       WherePicked (PickHas u s) r e → Answers u (ordered_rewrite s g r e)
-  each-names s g t an_item e h p = alone-names s g t e h
-  each-names s g t of_an_item e h p =
-      either (at_operand s g 1 e) (at_operand s g 2 e) (at-names s g t 1 e h p) (at-names s g t 2 e h p)
-  each-names s g t source_by_indices e h p = behind-names s.one t.one g e h
+  each-names s g an_item t e h p = alone-names s g an_item t e h
+  each-names s g of_an_item t e h p =
+      either (at_operand s g 1 e) (at_operand s g 2 e) (at-names s g of_an_item t 1 e h p) (at-names s g of_an_item t 2 e h p)
+  each-names s g source_by_indices t e h p = indexed-names u s.one t.one g e h
+  each-names s g source_of_an_item t e h p = over-item-names u s t.third t.parts t.other e h
 
-  pub rule-names : (s : Supply) (g : Names Ty) (r : OrderedRule) (e f : Ex) → ordered_rewrite s g r e ≡ Some f → TakenHave u s →
+  pub rule-names : (s : Supply) (g : Names Ty) (r : OrderedRule) (e f : Ex) → ordered_rewrite s g r e ≡ Some f → TakenHave u s r →
       WherePicked (PickHas u s) r e → NamesHave u e → NamesHave u f
-  rule-names s g r e f q t p h = subst (Answers u) q (each-names s g t r e h p)
+  rule-names s g r e f q t p h = subst (Answers u) q (each-names s g r t e h p)
 
 -- ---- spared names
 
-taken-given : (u : Text → Bool) (n k m : ℕ) → n + 3 + k ≤ m → TakenHave (up_to u m) (supply_at n k)
-taken-given u n k m l = record {
+taken-given : (u : Text → Bool) (n k m : ℕ) (r : OrderedRule) → n + 3 + k ≤ m → TakenHave (up_to u m) (supply_at n k) r
+taken-given u n k m r l = record {
   one = given u m n (omega (arith, l));
+  other = over r;
   third = given u m (n + 2) (omega (arith, l));
   parts = names-given u m (n + 3) k (omega (arith, l));
 }
+  where
+    over : (r : OrderedRule) → OtherHas (up_to u m) (supply_at n k) r
+    over an_item = tt
+    over of_an_item = tt
+    over source_by_indices = tt
+    over source_of_an_item = given u m (n + 1) (omega (arith, l))
 
 -- Either of the two.
 abbrev either_of : (Text → Bool) → (Text → Bool) → Text → Bool
@@ -217,6 +161,7 @@ module _ (P Q : Ex → Type 0) (f : (t : Ex) → P t → Q t) where
   picked-wider of_an_item _ h = tt
   picked-wider an_item e h = tt
   picked-wider source_by_indices e h = tt
+  picked-wider source_of_an_item e h = tt
 
 module _ (v w : Text → Bool) (wide : (a : Text) → IsTrue (v a) → IsTrue (w a)) where
   each-wider : (ns : List Text) → EachHas v ns → EachHas w ns
@@ -241,7 +186,7 @@ spares-behind n k m g r a b q l v p t c s =
     record {
       among = up_to u m;
       has = part-names (up_to u m) a b
-          (rule-names (up_to u m) (supply_at n k) g r a b q (taken-given u n k m l) picked) c
+          (rule-names (up_to u m) (supply_at n k) g r a b q (taken-given u n k m r l) picked) c
           (names-wider s.among (up_to u m) (λ y i. wider u m y (or-left (s.among y) (v y) i)) (fill c a) s.has);
       spared = λ j i z. both-false (u (reserved j)) (is_before m (reserved j))
           (both-false (s.among (reserved j)) (v (reserved j)) (s.spared j (omega (arith, l, i)) z) (t j i z)) (before-none m j i z);

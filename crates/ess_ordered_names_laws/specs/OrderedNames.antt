@@ -8,16 +8,22 @@ use Rattle.ess_semantics.specs.Trees.{Ex, Exs, node_ex, comp_ex, seen_ex, no_exs
 use Rattle.ess_semantics.specs.Types.{Ty}
 use Rattle.ess_semantics.specs.Contexts.{In, fill}
 use Rattle.ess_refine_laws.specs.AllRules.{Supply}
-use Rattle.ess_ordered_laws.specs.OrderedRules.{OrderedRule, of_an_item, keeps_order, ordered_rewrite}
+use Rattle.ess_ordered_laws.specs.OrderedRules.{OrderedRule, of_an_item, source_of_an_item, keeps_order, ordered_rewrite}
 use Rattle.conjure_model_laws.specs.ToldApart.{reserved}
 use Rattle.ess_chain_names_laws.specs.NamesHave.{EachHas}
 use Rattle.ess_chain_names_laws.specs.RulesKeepNames.{KeepsNames}
 use Rattle.ess_chain_names_laws.specs.Steps.{supply_at}
 use Rattle.ess_chain_names_laws.specs.SparedNames.{Spares}
 
--- The names that these rules take are such: the first, the third, and those for what is picked within and for generators.
-pub record TakenHave (u : Text → Bool) (s : Supply) : Type 0 where
+-- The name that is bound over an item as a source is such, where that is the rule.
+abbrev pub OtherHas : (Text → Bool) → Supply → OrderedRule → Type 0
+OtherHas u s source_of_an_item = IsTrue (u s.other)
+OtherHas u s r = Unit {0}
+
+-- The names that the rule takes are such: the first, the third, those for what is picked within and for generators, and that one.
+pub record TakenHave (u : Text → Bool) (s : Supply) (r : OrderedRule) : Type 0 where
   pub one : IsTrue (u s.one)
+  pub other : OtherHas u s r
   pub third : IsTrue (u s.third)
   pub parts : EachHas u s.parts
 
@@ -55,7 +61,7 @@ module _ (u : Text → Bool) where
 -- n-th on, it leaves a tree that spares those from the m-th on, where these are no tables of views which are picked from.
 pub record OrderedRulesKeepNames : Type 0 where
   pub by_each_rule : (u : Text → Bool) (s : Supply) (g : Names Ty) (r : OrderedRule) (e f : Ex) → ordered_rewrite s g r e ≡ Some f →
-      TakenHave u s → WherePicked (PickHas u s) r e → KeepsNames u e f
+      TakenHave u s r → WherePicked (PickHas u s) r e → KeepsNames u e f
   pub spared : (n k m : ℕ) (g : Names Ty) (r : OrderedRule) (a b : Ex) → ordered_rewrite (supply_at n k) g r a ≡ Some b → n + 3 + k ≤ m →
       (v : Text → Bool) → WherePicked (ViewHas v) r a → ((j : ℕ) → m ≤ j → j < 2 ^ 64 → v (reserved j) ≡ false) →
       (c : In) → Spares n (fill c a) → Spares m (fill c b)

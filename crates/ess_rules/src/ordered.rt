@@ -1,4 +1,4 @@
-//! Rules of comprehensions whose items have an order: of sources by indices, and of items by numbers.
+//! Rules of comprehensions whose items have an order: of sources by indices, of items by numbers, and of sources that are such items.
 ghost use Rattle.std.specs.Prelude.{◌≡◌, IfOk, option_map};
 ghost use Rattle.ess_core_nodes.specs.NodeViews.{pure_node};
 ghost use Rattle.ess_node_types.specs.TypedNames.{pure_names};
@@ -9,7 +9,7 @@ use ess_core_nodes::Node;
 use ess_kind_rules::Taken;
 use ess_node_types::NameTypes;
 use ess_rows::{Boxed, NoMemory};
-use ess_rules_ordered::{ItemNames, an_item, of_an_item, source_by_indices};
+use ess_rules_ordered::{ItemNames, an_item, of_an_item, source_by_indices, source_of_an_item};
 use std::alloc::Global;
 
 /// What the first of these rules that fires makes of the root. `NoMemory` where there is no room for it.
@@ -34,6 +34,9 @@ pub(crate) fn ordered(
         return Ok(Some(new));
     }
     if let Some(new) = an_item(alloc, names, &items, node)? {
+        return Ok(Some(new));
+    }
+    if let Some(new) = source_of_an_item(alloc, &items, node)? {
         return Ok(Some(new));
     }
     Ok(None)

@@ -12,13 +12,14 @@ ghost use Rattle.ess_rules.specs.Ruled.{both_told, axis_asked as told_where_aske
 
 use ess_core_nodes::{Node, NodeDom};
 use ess_guard_forms::index_dom;
-use ess_kind_rules::{Taken, has_no_source};
+use ess_kind_rules::Taken;
 use ess_node_types::NameTypes;
 use ess_rows::{Boxed, NoMemory};
 use ess_rules_comparing::{compares_compound, equal_matrices, unequal};
 use ess_rules_forms::truth_pair;
 use ess_rules_listings::source_listed;
 use ess_rules_lists::{different_listed, different_term};
+use ess_rules_opening::has_no_source;
 use ess_rules_sizes::tells_scalars_apart;
 use ess_rules_sources::OnceNames;
 use std::alloc::Global;

@@ -4,3 +4,5 @@ mod OpenRows
 mod WordForms
 mod PatternForms
 mod LooseForms
+-- Generators over domains alone
+mod DomainForms

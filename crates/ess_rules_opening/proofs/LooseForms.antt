@@ -1,9 +1,9 @@
 -- Words that see no repeats and no index domain, by the parts of the root.
-use Rattle.std.proofs.Common.{◌≡◌, refl, sym, ap, ◌∙◌, Bool, true, false, if◌then◌else◌, ◌&&◌, ◌||◌, Option, Some, None, option_map}
+use Rattle.std.proofs.Common.{◌≡◌, refl, Bool, true, false, if◌then◌else◌, ◌&&◌, ◌||◌, Some, None, option_map}
 use Rattle.ess_semantics.specs.declared.words.Fun.{Fun}
 use Rattle.ess_semantics.specs.declared.words.Op2.{Op2}
 use Rattle.ess_semantics.specs.Lists.{and_then}
-use Rattle.ess_semantics.specs.Trees.{Op, binary, word, Ex, Exs, node_ex, comp_ex, ex2, fun1, no_exs, more_exs, Gens, from}
+use Rattle.ess_semantics.specs.Trees.{binary, word, Ex, Exs, node_ex, comp_ex, ex2, fun1, no_exs, more_exs, Gens, from}
 use Rattle.ess_rules_laws.specs.FoldRules.{is_fold}
 use Rattle.ess_rules_laws.specs.ListRules.{is_lex, is_of_list}
 use Rattle.ess_rules_laws.specs.SpliceRules.{append_gens}

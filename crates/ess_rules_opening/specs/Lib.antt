@@ -1,2 +1,4 @@
 -- What the code takes apart
 pub mod OpenedViews
+-- Generators over domains
+pub mod OverDomains

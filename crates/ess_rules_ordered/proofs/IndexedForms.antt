@@ -1,19 +1,20 @@
--- Terms by their indices: by the type of the items, the operands of an index, and the parts of a comprehension.
-use Rattle.std.proofs.Common.{◌≡◌, refl, ap, Bool, if◌then◌else◌, [], ◌∷◌, Option, Some, None, option_map}
+-- Terms by their indices: by their forms, the type of the items, the operands of an index, and the parts of a comprehension.
+use Rattle.std.proofs.Common.{◌≡◌, refl, ap, Bool, true, false, ◌||◌, if◌then◌else◌, [], ◌∷◌, Option, Some, None, option_map, is_some}
 use Rattle.ess_semantics.specs.Lists.{and_then}
 use Rattle.ess_semantics.specs.Values.{Text, a_matrix}
 use Rattle.ess_semantics.specs.Names.{Names}
 use Rattle.ess_semantics.specs.NamesAt.{names_behind}
-use Rattle.ess_semantics.specs.Trees.{by_value, index, name_pat, Ex, Exs, node_ex, comp_ex, no_exs, more_exs, Gens, from, Dom}
+use Rattle.ess_semantics.specs.Trees.{by_value, index, matrix_literal, name_pat}
+use Rattle.ess_semantics.specs.Trees.{Ex, Exs, node_ex, matrix_ex, comp_ex, no_exs, more_exs, Gens, from, Dom}
 use Rattle.ess_semantics.specs.Types.{Ty, compound2}
 use Rattle.ess_semantics.specs.Typing.{type_of}
-use Rattle.ess_guard_laws.specs.IndexDomains.{index_dom}
 use Rattle.ess_rules_laws.specs.SpliceRules.{append_gens}
 use Rattle.ess_refine_laws.specs.IndexedLists.{of_matrix}
 use Rattle.ess_open_rules_laws.specs.OpenGenerators.{Opened, at_first_open, put_before}
 use Rattle.ess_rules_folds.specs.Forms.{comp_parts, source_parts}
+use Rattle.ess_ordered_laws.specs.ToldAxes.{picked_axis, told_axis}
 use Rattle.ess_ordered_laws.specs.IndexedSources.{has_open_index, is_by_index, items_at, indexed_term, indexed_source, indexed_behind}
-use Rattle.ess_rules_ordered.specs.IndexForms.{open_at, item_of_matrix}
+use Rattle.ess_rules_ordered.specs.IndexForms.{is_written, open_at, item_of_matrix}
 
 by-items : (o : Option Ty) (f : Ty → Ex) → of_matrix o f ≡ option_map f (item_of_matrix o)
 by-items (Some (compound2 a_matrix i t)) f = refl
@@ -26,8 +27,18 @@ by-axis x t o (Some d) = by-items o (items_at x d t)
 
 -- A term by its indices, by the type of its items.
 pub by_type : (g : Names Ty) (x : Text) (t : Ex) → indexed_term g x t ≡ (if is_by_index t
-    then and_then (index_dom t) (λ d. option_map (items_at x d t) (item_of_matrix (type_of t g))) else None)
-by_type g x t = ap (λ o. if is_by_index t then o else None) (by-axis x t (type_of t g) (index_dom t))
+    then and_then (told_axis t) (λ d. option_map (items_at x d t) (item_of_matrix (type_of t g))) else None)
+by_type g x t = ap (λ o. if is_by_index t then o else None) (by-axis x t (type_of t g) (told_axis t))
+
+or-by-first : (b c : Bool) → (b || c) ≡ (if b then true else c)
+or-by-first true c = refl
+or-by-first false c = refl
+
+-- Whether a term is such a source, by its form.
+pub index_by_form : (t : Ex) → is_by_index t ≡ (if is_written t || has_open_index t then true else is_some (picked_axis t))
+index_by_form (node_ex false matrix_literal es) = refl
+index_by_form (matrix_ex es d) = refl
+index_by_form t = or-by-first (has_open_index t) (is_some (picked_axis t))
 
 -- Indices that read cells, by the operands.
 pub open_by_steps : (b : Bool) (es : Exs) → open_at es ≡ has_open_index (node_ex b (index (by_value ∷ [])) es)

@@ -4,7 +4,15 @@ pub mod NumberedForms
 pub mod IndexedForms
 -- Comprehensions over what is picked
 pub mod PickedForms
+-- The domain that a term follows
+pub mod ToldForms
+-- Items of written lists case by case, and their number
+pub mod CaseForms
+pub mod NumberForms
+-- Sources that are items
+pub mod ItemForms
 -- What counts of a supply
 pub mod SuppliesAlike
 -- Worked examples
 mod ExamplesOrdered
+mod ExamplesSources

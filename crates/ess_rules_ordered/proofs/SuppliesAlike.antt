@@ -4,7 +4,7 @@ use Rattle.ess_semantics.specs.Names.{Names}
 use Rattle.ess_semantics.specs.Trees.{Ex, node_ex}
 use Rattle.ess_semantics.specs.Types.{Ty}
 use Rattle.ess_refine_laws.specs.AllRules.{Supply}
-use Rattle.ess_ordered_laws.specs.OrderedRules.{OrderedRule, an_item, of_an_item, source_by_indices, ordered_rewrite}
+use Rattle.ess_ordered_laws.specs.OrderedRules.{OrderedRule, an_item, of_an_item, source_by_indices, source_of_an_item, ordered_rewrite}
 use Rattle.ess_rules_ordered.specs.Supplies.{supply_with}
 
 -- So it makes the same with whatever else stands in it.
@@ -14,3 +14,4 @@ takes-four s g an_item e = refl
 takes-four s g source_by_indices e = refl
 takes-four s g of_an_item (node_ex b op es) = refl
 takes-four s g of_an_item e = refl
+takes-four s g source_of_an_item e = refl

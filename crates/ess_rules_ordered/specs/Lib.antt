@@ -6,3 +6,9 @@ pub mod AloneForms
 pub mod PickedForms
 -- What the rules take
 pub mod Supplies
+-- Domains that are looked through
+pub mod ToldForms
+-- Items of written lists, case by case
+pub mod CaseForms
+-- Sources that are items
+pub mod ItemForms

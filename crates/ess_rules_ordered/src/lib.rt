@@ -1,17 +1,22 @@
-//! Rules of comprehensions whose items have an order: their items by number, over what is picked, and their sources by indices.
+//! Rules of comprehensions whose items have an order: their items by number, over what is picked, and their sources by indices or items.
 #![tactic(auto)]
 
+mod axes;
+mod cases;
 mod decided;
 mod indexed;
 mod items;
 mod lookups;
 mod names;
 mod numbered;
+mod over_items;
 mod picked;
 mod places;
 mod scalars;
 mod sources;
+mod told;
 
 pub use indexed::source_by_indices;
 pub use items::{an_item, of_an_item};
 pub use names::ItemNames;
+pub use over_items::source_of_an_item;

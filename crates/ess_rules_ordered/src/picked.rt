@@ -173,7 +173,7 @@ fn over_one(
 }
 
 /// The comprehension of an alternative.
-fn laid_out(alloc: Global, offer: &Alternative) -> Result<Boxed<Node>, NoMemory>
+pub(crate) fn laid_out(alloc: Global, offer: &Alternative) -> Result<Boxed<Node>, NoMemory>
     ensures { IfOk result (λ n. pure_node n ≡ comprehended (pure_alternative offer.now)) }
 {
     let item = offer.item.get().copy(alloc)?;

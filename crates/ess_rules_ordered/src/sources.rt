@@ -7,11 +7,11 @@ ghost use Rattle.ess_core_nodes.specs.NodeViews.{pure_node, pure_nodes, pure_dom
 ghost use Rattle.ess_node_types.specs.TypedNames.{pure_names};
 ghost use Rattle.ess_rules_laws.specs.MatrixRules.{item_of};
 ghost use Rattle.ess_ordered_laws.specs.IndexedSources.{has_open_index as index_open, is_by_index as by_index, items_at as at_indices, indexed_term as term_indexed};
-ghost use Rattle.ess_rules_ordered.specs.IndexForms.{open_at, item_of_matrix};
+ghost use Rattle.ess_rules_ordered.specs.IndexForms.{is_written as written, open_at, item_of_matrix};
 
+use crate::axes::{picked_axis, told_axis};
 use ess_core::Ty;
 use ess_core_nodes::{Node, NodeDom, Op, Step};
-use ess_guard_forms::index_dom;
 use ess_node_building::{comprehension, name, over, two};
 use ess_node_types::{NameTypes, type_of};
 use ess_rows::{Boxed, NoMemory, Row, Text};
@@ -19,7 +19,7 @@ use ess_rules_everywhere::has_cells;
 use ess_rules_forms::{is_truth, seen_type};
 use std::alloc::Global;
 
-/// The term by its indices, each of which has the name. Nothing where it isn't such a term, or its form tells no index domain; `NoMemory`
+/// The term by its indices, each of which has the name. Nothing where it isn't such a term, or nothing tells its index domain; `NoMemory`
 /// where there is no room for it.
 #[tactic(auto, using(crate::proofs::IndexedForms::by_type))]
 pub(crate) fn indexed_term(
@@ -30,10 +30,10 @@ pub(crate) fn indexed_term(
 ) -> Result<Option<Boxed<Node>>, NoMemory>
     ensures { IfOk result (λ o. option_map pure_node o ≡ term_indexed (pure_names types.now) one.now (pure_node term.now)) }
 {
-    if !is_by_index(term) {
+    if !is_by_index(alloc, term)? {
         return Ok(None);
     }
-    let axis = index_dom(alloc, term)?;
+    let axis = told_axis(alloc, term)?;
     let Some(axis) = axis else {
         return Ok(None);
     };
@@ -82,15 +82,27 @@ fn item_type(ty: Option<&Ty>) -> Option<&Ty>
     }
 }
 
-/// Whether the term is a literal, or an item of a matrix that cells pick.
+/// Whether the term is a literal, an item of a matrix that cells pick, or a list that is picked and whose index domain is told.
+#[tactic(auto, using(crate::proofs::IndexedForms::index_by_form))]
+fn is_by_index(alloc: Global, node: &Node) -> Result<bool, NoMemory>
+    ensures { IfOk result (λ b. b ≡ by_index (pure_node node.now)) }
+{
+    if is_written(node) || has_open_index(node) {
+        return Ok(true);
+    }
+    let axis = picked_axis(alloc, node)?;
+    Ok(axis.is_some())
+}
+
+/// Whether the term is a literal.
 #[tactic(auto, using(ess_core_nodes::proofs::NodeEquations::pure_seen_is))]
-fn is_by_index(node: &Node) -> bool
-    ensures { result ≡ by_index (pure_node node.now) }
+fn is_written(node: &Node) -> bool
+    ensures { result ≡ written (pure_node node.now) }
 {
     match node {
         Node::Op(false, Op::Matrix, _) => true,
         Node::MatrixOn(_, _) => true,
-        _ => has_open_index(node),
+        _ => false,
     }
 }
 

@@ -1,5 +1,5 @@
 -- No rule of comprehensions whose items have an order fires at a tree over views, at a set or at a list.
-use Rattle.std.proofs.Common.{◌≡◌, refl, ap, ◌∙◌, ℕ, Bool, true, false, ◌&&◌, if◌then◌else◌, List, [], ◌∷◌, Option, Some, None}
+use Rattle.std.proofs.Common.{◌≡◌, refl, ap, ◌∙◌, ℕ, Bool, true, false, ◌&&◌, if◌then◌else◌, List, [], ◌∷◌, Option, Some, None, option_map}
 use Rattle.ess_semantics.specs.Lists.{and_then, or_else}
 use Rattle.ess_semantics.specs.Values.{Text}
 use Rattle.ess_semantics.specs.Names.{Names}
@@ -8,9 +8,10 @@ use Rattle.ess_semantics.specs.declared.words.Op1.{Op1}
 use Rattle.ess_semantics.specs.declared.words.Op2.{Op2}
 use Rattle.ess_semantics.specs.declared.words.Fun.{Fun}
 use Rattle.std.specs.Prelude.{ℤ, pos}
-use Rattle.ess_semantics.specs.Trees.{Op, unary, binary, word, matrix_literal, Ex, Exs, number_ex, node_ex, comp_ex, no_exs, more_exs, Gens, ex2}
+use Rattle.ess_semantics.specs.Trees.{Op, unary, binary, word, matrix_literal, Ex, Exs, number_ex, node_ex, comp_ex, no_exs, more_exs, Gens, ex2, fun1}
 use Rattle.ess_semantics.specs.Types.{Ty}
 use Rattle.ess_semantics.specs.Typing.{type_of}
+use Rattle.ess_semantics.specs.ExpressionJudgements.{forgets_order}
 use Rattle.ess_rules_laws.specs.SourceRules.{list_of}
 use Rattle.ess_rules_laws.specs.AlternativeLookups.{select_each, select_whole_each}
 use Rattle.ess_refine_laws.specs.AllRules.{Supply}
@@ -19,10 +20,11 @@ use Rattle.ess_open_rules_laws.specs.OpenRules.{gives_scalar, is_compound_ty}
 use Rattle.ess_ordered_laws.specs.NumberedItems.{ordered_lookup}
 use Rattle.ess_ordered_laws.specs.IndexedSources.{indexed_source}
 use Rattle.ess_ordered_laws.specs.PickedSources.{picked_source}
-use Rattle.ess_ordered_laws.specs.OrderedRules.{OrderedRule, an_item, of_an_item, source_by_indices, keeps_order, operand_lookup, over_operand, at_operand, ordered_rewrite}
+use Rattle.ess_ordered_laws.specs.SourcesOfItems.{item_source, item_behind, over_an_item}
+use Rattle.ess_ordered_laws.specs.OrderedRules.{OrderedRule, an_item, of_an_item, source_by_indices, source_of_an_item, keeps_order, operand_lookup, over_operand, at_operand, ordered_rewrite}
 use Rattle.ess_seen_laws.proofs.ess_bare_laws.Picks.{either-way}
 use Rattle.ess_seen_laws.specs.Seen.{Kind, Bound, Counted, so_many, from_to, from_0, subsets, none_below, SetTerm, view, drawn, combined, Seen, Listed, last_item, item_before, number, truth, named, counted, figure, flag, atom, one, two, chosen, folded, of_items, size, within, set_within, compared, Going, at_end, through, through_slots, among, where_holds}
-use Rattle.ess_seen_rules_laws.proofs.Sources.{OpensAtSet, not-indexed}
+use Rattle.ess_seen_rules_laws.proofs.Sources.{OpensAtSet, opens-at-set, not-indexed, not-an-item}
 
 -- Nothing is looked up.
 abbrev NoLookup : Ex → Type 0
@@ -173,11 +175,30 @@ module _ (s : Supply) (g : Names Ty) where
       go None h = refl
       go (Some t) h = ap (λ o. and_then o (put_before t.before)) (not-indexed s (names_behind t.before g) e t.after h)
 
+  -- Nor are they items.
+  no-item : (any : Bool) (e : Ex) (gs : Gens) → OpensAtSet (at_first_open gs) → item_behind s any (comp_ex e gs) ≡ None
+  no-item any e gs h = go (at_first_open gs) h
+    where
+      go : (o : Option Opened) → OpensAtSet o →
+          and_then o (λ t. and_then (item_source s any (comp_ex e t.after)) (put_before t.before)) ≡ None
+      go None h = refl
+      go (Some t) h = ap (λ o. and_then o (put_before t.before)) (not-an-item s g e any t.after h)
+
+  under-word : (b : Bool) (w : Fun) (e : Ex) (gs : Gens) → OpensAtSet (at_first_open gs) → over_an_item s (fun1 b w (comp_ex e gs)) ≡ None
+  under-word b w e gs h = either-way (forgets_order (word w)) (option_map (fun1 b w) (item_behind s true (comp_ex e gs)))
+      (ap (option_map (fun1 b w)) (no-item true e gs h))
+
+  -- `toInt` has no source.
+  of-a-truth : (x : Ex) → over_an_item s (fun1 false Fun.ToInt x) ≡ None
+  of-a-truth (comp_ex e gs) = refl
+  of-a-truth x = refl
+
   -- At a list.
   pub no-order-list : (e : Ex) (gs : Gens) → OpensAtSet (at_first_open gs) → (u : OrderedRule) → ordered_rewrite s g u (comp_ex e gs) ≡ None
   no-order-list e gs h an_item = alone (comp_ex e gs) (list-lookup e gs)
   no-order-list e gs h of_an_item = refl
   no-order-list e gs h source_by_indices = by-indices e gs h
+  no-order-list e gs h source_of_an_item = no-item false e gs h
 
   -- Nor is one out of a number of slots.
   counted-operands : {e : Ex} {n : ℕ} → Counted e n → ordered_rewrite s g of_an_item e ≡ None
@@ -220,22 +241,37 @@ module _ (s : Supply) (g : Names Ty) where
     no-source (counted (none_below t)) = refl
     no-source f = refl
 
+    no-item-source : {e : Ex} {m : Bool} → Seen cells r e m → ordered_rewrite s g source_of_an_item e ≡ None
+    no-item-source number = refl
+    no-item-source (chosen {x = x} f) = of-a-truth x
+    no-item-source (folded {m = m} {f = w} {e = x} {gs = gs} v k f) = under-word m w x gs (opens-at-set cells k)
+    no-item-source (counted so_many) = refl
+    no-item-source (counted (from_to q)) = refl
+    no-item-source (counted from_0) = refl
+    no-item-source (counted (subsets t)) = refl
+    no-item-source (counted (none_below t)) = refl
+    no-item-source f = refl
+
     -- At a tree over views.
     pub no-order : {e : Ex} {m : Bool} → Seen cells r e m → (u : OrderedRule) → ordered_rewrite s g u e ≡ None
     no-order {e} f an_item = alone e (seen-lookup cells r f)
     no-order f of_an_item = no-operands f
     no-order f source_by_indices = no-source f
+    no-order f source_of_an_item = no-item-source f
 
     -- At a set.
     pub no-order-set : {e : Ex} {k : Kind} → SetTerm cells r e k → (u : OrderedRule) → ordered_rewrite s g u e ≡ None
     no-order-set {e} h an_item = alone e (set-lookup cells r h)
     no-order-set (view a b c d) of_an_item = refl
     no-order-set (view a b c d) source_by_indices = refl
+    no-order-set (view a b c d) source_of_an_item = refl
     no-order-set (drawn h) of_an_item = refl
     no-order-set (drawn h) source_by_indices = refl
+    no-order-set (drawn h) source_of_an_item = refl
     no-order-set (combined {o = o} {s = x} {t = y} w h k) of_an_item =
         of-two false (binary o) x y (set-operand cells r h) (set-operand cells r k)
     no-order-set (combined w h k) source_by_indices = refl
+    no-order-set (combined w h k) source_of_an_item = refl
 
     -- At a list of items.
     no-order-first : {es : Exs} {m : Bool} → Listed cells r es m → ordered_rewrite s g of_an_item (list_of es) ≡ None
@@ -249,3 +285,4 @@ module _ (s : Supply) (g : Names Ty) where
     no-order-items {es} l an_item = alone (list_of es) (item-lookup es)
     no-order-items l of_an_item = no-order-first l
     no-order-items l source_by_indices = refl
+    no-order-items l source_of_an_item = refl

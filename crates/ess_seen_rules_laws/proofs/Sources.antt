@@ -1,5 +1,5 @@
 -- The first source of generators of a tree over views is a set: it isn't made of another container, no matrix, and nothing is picked.
-use Rattle.std.proofs.Common.{◌≡◌, refl, ap, ℕ, Bool, false, List, Option, Some, None, option_map}
+use Rattle.std.proofs.Common.{◌≡◌, refl, ap, ℕ, Bool, false, if◌then◌else◌, List, [], ◌∷◌, Option, Some, None, option_map}
 use Rattle.ess_semantics.specs.declared.words.ReprKind.{ReprKind}
 use Rattle.ess_semantics.specs.Lists.{and_then, or_else}
 use Rattle.ess_semantics.specs.Values.{Text}
@@ -8,11 +8,13 @@ use Rattle.ess_semantics.specs.Trees.{Mark, Repr, repr, no_reprs, more_reprs, na
 use Rattle.ess_semantics.specs.Types.{Ty}
 use Rattle.ess_rules_laws.specs.ListedSources.{source_in_order}
 use Rattle.ess_rules_laws.specs.SlotListings.{slots_dom}
-use Rattle.ess_refine_laws.specs.AllRules.{Supply}
+use Rattle.ess_refine_laws.specs.AllRules.{Supply, only_one}
 use Rattle.ess_kind_rules_laws.specs.ViewListings.{matrix_listing}
 use Rattle.ess_open_rules_laws.specs.OpenGenerators.{Opened, with_first, at_first_open}
 use Rattle.ess_open_rules_laws.specs.OpenSources.{loose_source, kept_in_order}
+use Rattle.ess_ordered_laws.specs.NumberedItems.{ordered_lookup}
 use Rattle.ess_ordered_laws.specs.IndexedSources.{indexed_source}
+use Rattle.ess_ordered_laws.specs.SourcesOfItems.{may_be_taken, over_the_item, item_source}
 use Rattle.ess_seen_laws.specs.Seen.{Kind, Bound, SetTerm, view, drawn, combined, Going, at_end, through, through_slots, among, where_holds, truths, numbers}
 
 -- A name, a view over a domain of sets, or what is made of two terms.
@@ -72,6 +74,14 @@ not-loose (from (name_pat y) (ex2 false o a b) hs) h = refl
 not-loose (from (name_pat y) t hs) h = absurd h
 not-loose gs h = absurd h
 
+-- It is no item of a comprehension, and isn't picked out of one.
+form-lookup : (t : Ex) → IsSetForm t → (z : Text) (ys : List Text) → ordered_lookup z ys t ≡ None
+form-lookup t h z [] = refl
+form-lookup (name_ex a) h z (y ∷ ys) = refl
+form-lookup (seen_ex p d ns js) h z (y ∷ ys) = refl
+form-lookup (ex2 false o a b) h z (y ∷ ys) = refl
+form-lookup t h z (y ∷ ys) = absurd h
+
 module _ (s : Supply) (g : Names Ty) (e : Ex) where
   -- No rule of comprehensions in any place fires.
   pub not-kept : (gs : Gens) → IsSource gs → kept_in_order s g (comp_ex e gs) ≡ None
@@ -90,3 +100,9 @@ module _ (s : Supply) (g : Names Ty) (e : Ex) where
   not-indexed (from (name_pat y) (ex2 false o a b) hs) h = refl
   not-indexed (from (name_pat y) t hs) h = absurd h
   not-indexed gs h = absurd h
+
+  -- And none of items.
+  pub not-an-item : (any : Bool) (gs : Gens) → IsSource gs → item_source s any (comp_ex e gs) ≡ None
+  not-an-item any (from (name_pat y) t hs) h = ap (λ o. and_then (only_one o)
+      (λ a. if may_be_taken any a then Some (over_the_item s.other y e hs a) else None)) (form-lookup t h s.third s.parts)
+  not-an-item any gs h = absurd h

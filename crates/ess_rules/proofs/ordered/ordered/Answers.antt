@@ -1,6 +1,6 @@
 use Rattle.ess_core_nodes.specs.NodeViews.{pure_node}
 use Rattle.ess_node_types.specs.TypedNames.{pure_names}
-use Rattle.ess_ordered_laws.specs.OrderedRules.{an_item, of_an_item}
+use Rattle.ess_ordered_laws.specs.OrderedRules.{an_item, of_an_item, source_of_an_item}
 use Rattle.ess_kind_rules.specs.Supplies.{taken_supply}
 use Rattle.ess_rules.proofs.OrderedRoots.{ruled_in_order, ruled_by_indices}
 use Rattle.ess_rules.proofs.ordered.ordered.Goals as goal
@@ -19,3 +19,8 @@ pub returns-in-Some-3 : goal.returns-in-Some-3
 returns-in-Some-3 c =
     ruled_in_order (taken_supply c.args.taken.now) (pure_names c.args.names.now) an_item (pure_node c.args.node.now)
     c.in_ok-new-3.field-0 c.in-Some-3.new c.in_ok-new-3.ensures c.in-Some-3.is
+
+pub returns-in-Some-4 : goal.returns-in-Some-4
+returns-in-Some-4 c =
+    ruled_in_order (taken_supply c.args.taken.now) (pure_names c.args.names.now) source_of_an_item (pure_node c.args.node.now)
+    c.in_ok-new-4.field-0 c.in-Some-4.new c.in_ok-new-4.ensures c.in-Some-4.is

@@ -1,7 +1,7 @@
 use Rattle.std.proofs.Common.{◌≡◌, map, drop}
 use Rattle.ess_core_nodes.specs.NodeViews.{pure_gen}
-use Rattle.ess_kind_rules.specs.DecidedItems.{are_over_domains_each}
-use Rattle.ess_kind_rules.proofs.domains.are_over_domains_each.Given as goal
+use Rattle.ess_rules_opening.specs.OverDomains.{are_over_domains_each}
+use Rattle.ess_rules_opening.proofs.domains.are_over_domains_each.Given as goal
 
 abbrev pub invariant-loop-item : goal.invariant-loop-item
 invariant-loop-item l =

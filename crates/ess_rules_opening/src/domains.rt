@@ -1,14 +1,14 @@
-//! Comprehensions over domains alone, whose index domains may be asked for.
+//! Generators over domains alone, and comprehensions over such, whose index domains may be asked for.
 ghost use Rattle.std.specs.Prelude.{◌≡◌, map};
 ghost use Rattle.ess_core_nodes.specs.NodeViews.{pure_node, pure_gen, pure_gens};
 ghost use Rattle.ess_open_rules_laws.specs.OpenGenerators.{are_over_domains, has_no_source};
-ghost use Rattle.ess_kind_rules.specs.DecidedItems.{is_over_domain, are_over_domains_each};
+ghost use Rattle.ess_rules_opening.specs.OverDomains.{is_over_domain, are_over_domains_each};
 
 use ess_core_nodes::{Gen, Node};
 use ess_rules_folds::forms::comp_in;
 
 /// Whether the term is no comprehension with a generator over a source.
-#[tactic(auto, using(crate::proofs::DecidedForms::sources_by_parts))]
+#[tactic(auto, using(crate::proofs::DomainForms::sources_by_parts))]
 pub fn has_no_source(node: &Node) -> bool
     ensures { result ≡ has_no_source (pure_node node.now) }
 {
@@ -18,9 +18,9 @@ pub fn has_no_source(node: &Node) -> bool
     }
 }
 
-/// Whether each generator runs over a domain.
-#[tactic(auto, using(crate::proofs::DecidedForms::domains_alone))]
-fn are_over_domains(gens: &[Gen]) -> bool
+/// Whether each generator runs over a domain; there may be conditions.
+#[tactic(auto, using(crate::proofs::DomainForms::domains_alone))]
+pub fn are_over_domains(gens: &[Gen]) -> bool
     ensures { result ≡ are_over_domains (pure_gens gens.now) }
 {
     are_over_domains_each(gens)
