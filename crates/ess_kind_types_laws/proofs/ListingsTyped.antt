@@ -1,6 +1,7 @@
 -- What views of sets offer has items of the type of the members, and marks.
-use Rattle.std.proofs.Common.{◌≡◌, refl, ap, ◌∙◌, Bool, true, false, ◌||◌, not, List, [], ◌∷◌, Option, Some, None, option_map}
+use Rattle.std.proofs.Common.{◌≡◌, refl, sym, ap, ◌∙◌, Bool, true, false, ◌||◌, not, List, [], ◌∷◌, Option, Some, None, option_map}
 use Rattle.std.specs.List.{list_all}
+use Rattle.std.specs.Prelude.{IsTrue}
 use Rattle.ess_semantics.specs.declared.words.Op2.{Op2}
 use Rattle.ess_semantics.specs.declared.words.ReprKind.{ReprKind}
 use Rattle.ess_semantics.specs.Lists.{and_then}
@@ -22,7 +23,7 @@ use Rattle.ess_refine_laws.specs.AllRules.{Supply, OfSome}
 use Rattle.ess_refine_laws.specs.MarksStay.{HasMarks, HaveMarks, DomHasMarks}
 use Rattle.ess_refine_types_laws.specs.MarksOfContainers.{AllUseNames, DomUsesNames, DomsUseNames, IsNewTo}
 use Rattle.ess_refine_types_laws.proofs.MarksBehind.{fewer, marks-behind}
-use Rattle.ess_refine_types_laws.proofs.TypeNames.{type-behind}
+use Rattle.ess_refine_types_laws.proofs.TypeNames.{Same, type-same}
 use Rattle.ess_refine_types_laws.proofs.TypeParts.{two-to}
 use Rattle.ess_rules_types_laws.specs.PutTypes.{TablesAre, AllTablesAre, IsSteady}
 use Rattle.ess_rules_types_laws.specs.TypesOfSources.{IsAlike, TablesFit, PutFits}
@@ -36,37 +37,49 @@ use Rattle.ess_kind_types_laws.proofs.SizesTyped.{mark-at, slots-marked, dummy-i
 
 -- ---- ints behind a new name
 
-module _ (g : Names Ty) (x : Text) (v : Ty) where
-  each-behind : (es : Exs) → AllUseNames (λ a. not (same_text x a)) es → AllInts g es → AllInts ((x, v) ∷ g) es
-  each-behind no_exs u h = tt
-  each-behind (more_exs e es) u h =
-      (type-behind x v e g (fewer (λ a. not (same_text x a)) e u.0) ∙ h.0, each-behind es u.1 h.1)
+module _ (u : Text → Bool) (g h : Names Ty) (s : Same u g h) where
+  -- Ints stay ints where the names that they use have the same types.
+  pub each-same : (es : Exs) → AllUseNames u es → AllInts g es → AllInts h es
+  each-same no_exs n i = tt
+  each-same (more_exs e es) n i = (sym (type-same u e g h (fewer u e n.0) s) ∙ i.0, each-same es n.1 i.1)
 
   mutual
-    ints-behind : (d : Dom) → DomUsesNames (λ a. not (same_text x a)) d → IntsIn g d → IntsIn ((x, v) ∷ g) d
-    ints-behind bool_dom u h = tt
-    ints-behind (int_dom rs es) u h = each-behind es u h
-    ints-behind (name_dom a) u h = tt
-    ints-behind (tuple_dom ds) u h = all-behind ds u h
-    ints-behind (record_dom fs ds) u h = all-behind ds u h
-    ints-behind (matrix_dom is d) u h = (all-behind is u.0 h.0, ints-behind d u.1 h.1)
-    ints-behind (set_dom ms es d) u h = (each-behind es u.0 h.0, ints-behind d u.1 h.1)
-    ints-behind (mset_dom ms es d) u h = (each-behind es u.0 h.0, ints-behind d u.1 h.1)
-    ints-behind (function_dom ms es d c) u h = (each-behind es u.0 h.0, ints-behind d u.1 h.1, ints-behind c u.2 h.2)
-    ints-behind (relation_dom ms es ds) u h = (each-behind es u.0 h.0, all-behind ds u.1 h.1)
-    ints-behind (partition_dom ms es d) u h = (each-behind es u.0 h.0, ints-behind d u.1 h.1)
+    -- Numbers of domains are ints where the names that they use have the same types.
+    pub ints-same : (d : Dom) → DomUsesNames u d → IntsIn g d → IntsIn h d
+    ints-same bool_dom n i = tt
+    ints-same (int_dom rs es) n i = each-same es n i
+    ints-same (name_dom a) n i = tt
+    ints-same (tuple_dom ds) n i = all-same ds n i
+    ints-same (record_dom fs ds) n i = all-same ds n i
+    ints-same (matrix_dom is d) n i = (all-same is n.0 i.0, ints-same d n.1 i.1)
+    ints-same (set_dom ms es d) n i = (each-same es n.0 i.0, ints-same d n.1 i.1)
+    ints-same (mset_dom ms es d) n i = (each-same es n.0 i.0, ints-same d n.1 i.1)
+    ints-same (function_dom ms es d c) n i = (each-same es n.0 i.0, ints-same d n.1 i.1, ints-same c n.2 i.2)
+    ints-same (relation_dom ms es ds) n i = (each-same es n.0 i.0, all-same ds n.1 i.1)
+    ints-same (partition_dom ms es d) n i = (each-same es n.0 i.0, ints-same d n.1 i.1)
 
-    all-behind : (ds : Doms) → DomsUseNames (λ a. not (same_text x a)) ds → AllIntsIn g ds → AllIntsIn ((x, v) ∷ g) ds
-    all-behind no_doms u h = tt
-    all-behind (more_doms d ds) u h = (ints-behind d u.0 h.0, all-behind ds u.1 h.1)
+    all-same : (ds : Doms) → DomsUseNames u ds → AllIntsIn g ds → AllIntsIn h ds
+    all-same no_doms n i = tt
+    all-same (more_doms d ds) n i = (ints-same d n.0 i.0, all-same ds n.1 i.1)
+
+not-so : (b : Bool) → IsTrue (not b) → b ≡ false
+not-so true h = cc
+not-so false h = refl
+
+ints-behind : (g : Names Ty) (x : Text) (v : Ty) (d : Dom) → DomUsesNames (λ a. not (same_text x a)) d → IntsIn g d →
+    IntsIn ((x, v) ∷ g) d
+ints-behind g x v d n i =
+    ints-same (λ a. not (same_text x a)) g ((x, v) ∷ g) (λ a q. sym (look-past x a v g (not-so (same_text x a) q))) d n i
 
 -- ---- one more operand
 
-last-marked : (js : Exs) (a : Ex) (g : Names Ty) → HaveMarks js g → HasMarks a g → HaveMarks (put_last js a) g
+-- One more operand with marks.
+pub last-marked : (js : Exs) (a : Ex) (g : Names Ty) → HaveMarks js g → HasMarks a g → HaveMarks (put_last js a) g
 last-marked no_exs a g h k = (k, tt)
 last-marked (more_exs e js) a g h k = (h.0, last-marked js a g h.1 k)
 
-last-tables : (w : Text → Bool) (js : Exs) (a : Ex) → AllTablesAre w js → TablesAre w a → AllTablesAre w (put_last js a)
+-- And with such tables.
+pub last-tables : (w : Text → Bool) (js : Exs) (a : Ex) → AllTablesAre w js → TablesAre w a → AllTablesAre w (put_last js a)
 last-tables w no_exs a h k = (k, tt)
 last-tables w (more_exs e js) a h k = (h.0, last-tables w js a h.1 k)
 

@@ -37,13 +37,14 @@ no h = cc
 
 module _ (g : Names Ty) where
   -- Where what a rule rewrites and what it answers have one type, marks stay.
-  abbrev MarksKept : Ex → Option Ex → Type 0
+  abbrev pub MarksKept : Ex → Option Ex → Type 0
   MarksKept e None = Unit {0}
   MarksKept e (Some f) = (t : Ty) → type_of e g ≡ Some t → type_of f g ≡ Some t → HasMarks e g → HasMarks f g
 
   -- ---- cells and sizes
 
-  append-marked : (js ks : Exs) → HaveMarks js g → HaveMarks ks g → HaveMarks (append_exs js ks) g
+  -- Operands behind others have marks.
+  pub append-marked : (js ks : Exs) → HaveMarks js g → HaveMarks ks g → HaveMarks (append_exs js ks) g
   append-marked no_exs ks h k = k
   append-marked (more_exs e js) ks h k = (h.0, append-marked js ks h.1 k)
 
@@ -82,7 +83,8 @@ module _ (g : Names Ty) where
     put-marked : (a : Alternative) → PutFits g y t e hs a → HasMarks (laid_out a) g → HasMarks Root g → HasMarks (put_listed y e hs a) g
     put-marked a h k v = listed-marks g y t e hs a h k v.1.0
 
-    part-marks : (a : Alternative) → PutFits g y t e hs a → (HasMarks Root g → HasMarks (laid_out a) g) →
+    -- The fold over what is offered, as a part and alone.
+    pub part-marks : (a : Alternative) → PutFits g y t e hs a → (HasMarks Root g → HasMarks (laid_out a) g) →
         MarksKept Root (source_parts (a ∷ []) Root)
     part-marks a h k = go (is_marked m f) refl
       where
@@ -94,7 +96,7 @@ module _ (g : Names Ty) where
             (more_grow (as_it_is (put-marked a h (k n) n)) none_grow)) none_grow)) none_grow)) v j
         go false i = tt
 
-    alone-marks : (a : Alternative) → PutFits g y t e hs a → (HasMarks Root g → HasMarks (laid_out a) g) →
+    pub alone-marks : (a : Alternative) → PutFits g y t e hs a → (HasMarks Root g → HasMarks (laid_out a) g) →
         MarksKept Root (source_alone a Root)
     alone-marks a h k = go (forgets_order (word f))
       where
@@ -102,7 +104,8 @@ module _ (g : Names Ty) where
         go true = λ v q j n. (subst (λ o. MarkFits m (word f) o) (q ∙ sym j) n.0, (put-marked a h (k n) n, tt))
         go false = tt
 
-    of-offered : (o : Option Alternative) (F : Alternative → Option Ex) → OfSome o (PutFits g y t e hs) →
+    -- What is offered, if anything is.
+    pub of-offered : (o : Option Alternative) (F : Alternative → Option Ex) → OfSome o (PutFits g y t e hs) →
         (HasMarks Root g → OfSome o (λ a. HasMarks (laid_out a) g)) →
         ((a : Alternative) → PutFits g y t e hs a → (HasMarks Root g → HasMarks (laid_out a) g) → MarksKept Root (F a)) →
         MarksKept Root (and_then o F)

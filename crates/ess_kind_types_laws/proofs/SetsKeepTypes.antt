@@ -90,7 +90,8 @@ module _ (g : Names Ty) where
     pub one-put : (a : Alternative) → PutFits g y t e hs a → KeepsType g Root (fun1 m f (put_listed y e hs a))
     one-put a h = fold-kept m f (comp_ex e (from (name_pat y) t hs)) (put_listed y e hs a) (listed-type g y t e hs a h)
 
-    part-type : (a : Alternative) → PutFits g y t e hs a → TypeKept g Root (source_parts (a ∷ []) Root)
+    -- The fold over what is offered, as a part and alone.
+    pub part-type : (a : Alternative) → PutFits g y t e hs a → TypeKept g Root (source_parts (a ∷ []) Root)
     part-type a h = go (is_marked m f) refl
       where
         go : (c : Bool) → is_marked m f ≡ c →
@@ -100,14 +101,15 @@ module _ (g : Names Ty) where
             ∙ ap Some (sym (root-is i v q))
         go false i = tt
 
-    alone-type : (a : Alternative) → PutFits g y t e hs a → TypeKept g Root (source_alone a Root)
+    pub alone-type : (a : Alternative) → PutFits g y t e hs a → TypeKept g Root (source_alone a Root)
     alone-type a h = go (forgets_order (word f))
       where
         go : (c : Bool) → TypeKept g Root (if c then Some (fun1 m f (put_listed y e hs a)) else None)
         go true = one-put a h
         go false = tt
 
-    of-offered : (o : Option Alternative) (F : Alternative → Option Ex) → OfSome o (PutFits g y t e hs) →
+    -- What is offered, if anything is.
+    pub of-offered : (o : Option Alternative) (F : Alternative → Option Ex) → OfSome o (PutFits g y t e hs) →
         ((a : Alternative) → PutFits g y t e hs a → TypeKept g Root (F a)) → TypeKept g Root (and_then o F)
     of-offered None F h k = tt
     of-offered (Some a) F h k = k a h

@@ -39,7 +39,7 @@ module _ (g : Names Ty) where
       one-to (type_of (node_ex false matrix_literal (more_exs zero_ex (more_exs a no_exs))) g) (type_of_op (word Fun.Max))
       (compound2 a_matrix int_ty int_ty) int_ty (two-listed a h) refl
 
-  sizes-int : SizeParts Int AnyDom
+  pub sizes-int : SizeParts Int AnyDom
   sizes-int = record {
     zero = refl;
     one = refl;
@@ -52,12 +52,12 @@ module _ (g : Names Ty) where
     listed = λ d h. refl;
   }
 
-  each-int : (es : Exs) → AllInts g es → AllHave Int AnyDom es
+  pub each-int : (es : Exs) → AllInts g es → AllHave Int AnyDom es
   each-int no_exs h = tt
   each-int (more_exs e es) h = (h.0, each-int es h.1)
 
   mutual
-    numbers-int : (d : Dom) → IntsIn g d → NumbersHave Int AnyDom d
+    pub numbers-int : (d : Dom) → IntsIn g d → NumbersHave Int AnyDom d
     numbers-int bool_dom h = tt
     numbers-int (int_dom rs es) h = (each-int es h, tt)
     numbers-int (name_dom a) h = tt
@@ -126,7 +126,7 @@ module _ (g : Names Ty) where
     );
   }
 
-  sizes-marked : SizeParts MarkedInt MarkedDom
+  pub sizes-marked : SizeParts MarkedInt MarkedDom
   sizes-marked = record {
     zero = record { int = refl; marks = tt };
     one = record { int = refl; marks = tt };
@@ -139,12 +139,12 @@ module _ (g : Names Ty) where
     listed = λ d h. record { int = refl; marks = (refl, (((h, tt), tt), tt)) };
   }
 
-  each-marked : (es : Exs) → AllInts g es → HaveMarks es g → AllHave MarkedInt MarkedDom es
+  pub each-marked : (es : Exs) → AllInts g es → HaveMarks es g → AllHave MarkedInt MarkedDom es
   each-marked no_exs h k = tt
   each-marked (more_exs e es) h k = (record { int = h.0; marks = k.0 }, each-marked es h.1 k.1)
 
   mutual
-    numbers-marked : (d : Dom) → IntsIn g d → DomHasMarks d g → NumbersHave MarkedInt MarkedDom d
+    pub numbers-marked : (d : Dom) → IntsIn g d → DomHasMarks d g → NumbersHave MarkedInt MarkedDom d
     numbers-marked bool_dom h k = tt
     numbers-marked (int_dom rs es) h k = (each-marked es h k, k)
     numbers-marked (name_dom a) h k = tt

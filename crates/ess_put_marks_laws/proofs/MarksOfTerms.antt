@@ -135,7 +135,8 @@ module _ (g : Names Ty) where
       (a_node refl (more_grow (a_node refl (more_grow (a_node refl (more_grow (a_comp (gens-are g a.gens h.0) (as_it_is tt)) none_grow))
       none_grow)) none_grow)) (more_grow k none_grow))) none_grow))
 
-  each-least : (f : Fun) → is_extreme f ≡ true → (m : Ex) → Grows g m → (l : List Alternative) → EachMarked g l →
+  -- The least of each alternative.
+  pub each-least : (f : Fun) → is_extreme f ≡ true → (m : Ex) → Grows g m → (l : List Alternative) → EachMarked g l →
       EachGrows g (each_extreme f m l)
   each-least f i m k [] h = none_grow
   each-least f i m k (a ∷ l) h = more_grow (number-grows f i m k a h.0) (each-least f i m k l h.1)
@@ -149,7 +150,8 @@ module _ (g : Names Ty) where
   sizes-grow : (l : List Alternative) → EachMarked g l → Grows g (fun1 false Fun.Sum (list_of (each_size l)))
   sizes-grow l h = a_node refl (more_grow (a_node refl (each-sized l h)) none_grow)
 
-  past-grows : (f : Fun) → is_extreme f ≡ true → (l : List Alternative) → EachMarked g l → Grows g (past_all f l)
+  -- The number past all items.
+  pub past-grows : (f : Fun) → is_extreme f ≡ true → (l : List Alternative) → EachMarked g l → Grows g (past_all f l)
   past-grows Fun.Min i l h = sizes-grow l h
   past-grows Fun.Max i l h = a_node refl (more_grow (sizes-grow l h) none_grow)
   past-grows _ i l h = cc

@@ -84,7 +84,8 @@ module _ (g : Names Ty) where
 
   -- ---- several alternatives
 
-  abbrev EachOfNumbers : List Alternative → Type 0
+  -- The same of each alternative.
+  abbrev pub EachOfNumbers : List Alternative → Type 0
   EachOfNumbers [] = Unit {0}
   EachOfNumbers (a ∷ l) = OfNumbers a × EachOfNumbers l
 
@@ -103,13 +104,15 @@ module _ (g : Names Ty) where
     each-sized l n.1,
   )
 
-  past-number : (f : Fun) → is_extreme f ≡ true → (l : List Alternative) → EachOfNumbers l → type_of (past_all f l) g ≡ Some int_ty
+  -- The number past all items.
+  pub past-number : (f : Fun) → is_extreme f ≡ true → (l : List Alternative) → EachOfNumbers l → type_of (past_all f l) g ≡ Some int_ty
   past-number Fun.Min i l n = sum-type g (each_size l) (each-sized l n)
   past-number Fun.Max i l n = one-to (type_of (fun1 false Fun.Sum (list_of (each_size l))) g) (type_of_op (unary Op1.Minus)) int_ty int_ty
       (sum-type g (each_size l) (each-sized l n)) refl
   past-number _ i l n = cc
 
-  least-of : (f : Fun) → is_extreme f ≡ true → (m : Ex) → type_of m g ≡ Some int_ty → (l : List Alternative) → are_some l ≡ true →
+  -- The least of the alternatives, with a number for those that have no item.
+  pub least-of : (f : Fun) → is_extreme f ≡ true → (m : Ex) → type_of m g ≡ Some int_ty → (l : List Alternative) → are_some l ≡ true →
       EachOfNumbers l → type_of (fun1 false f (list_of (each_extreme f m l))) g ≡ Some int_ty
   least-of f i m q [] s n = cc
   least-of f i m q (a ∷ l) s n =

@@ -1,0 +1,4 @@
+//! Types and marks of rules of openings.
+#![tactic(auto)]
+
+pub mod laws;
