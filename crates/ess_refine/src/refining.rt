@@ -14,10 +14,10 @@ use std::alloc::Global;
 use std::mem;
 
 /// How many passes there are at most.
-const PASSES: u64 = 1_024;
+const PASSES: u64 = 65_536;
 
 /// How many rules fire at most.
-const RULES: u64 = 200_000;
+const RULES: u64 = 2_000_000;
 
 /// What came of refining.
 #[derive(Clone, Copy, Debug, PartialEq, Eq)]
@@ -29,7 +29,7 @@ pub enum Refinement {
 }
 
 /// Refines a tree in place, under no names: rules are used at its root and at its parts until none fires. There are rules that could lead
-/// on for ever, so refining is given up after 1,024 passes, and no rule is asked any more once 200,000 have fired: the tree then is what
+/// on for ever, so refining is given up after 65,536 passes, and no rule is asked any more once 2,000,000 have fired: the tree then is what
 /// the rules have led to. `Refined` where nothing abstract is left, else `Stuck`. Reserved names are taken from `next` on, and the number
 /// of the one behind them is left there. `NoMemory` where there is no room for it, or the reserved names can't be counted; the tree is
 /// then any.
