@@ -11,6 +11,7 @@ use Rattle.ess_semantics.specs.Names.{Names}
 use Rattle.ess_semantics.specs.Trees.{Repr, repr, no_reprs, Stm}
 use Rattle.ess_semantics.specs.Trees as tree
 use Rattle.ess_semantics.specs.Plans.{domain_of_stm, chosen_reprs, all_chosen}
+use Rattle.ess_semantics.specs.Contexts.{Each}
 use Rattle.ess_semantics.specs.ModelTrees.{in_header, header_of}
 use Rattle.ess_semantics.proofs.Tests.{and-left, and-right, and-both}
 use Rattle.ess_grammar.specs.Words.{Token, name}
@@ -131,13 +132,13 @@ reprs-are ss = ap (λ S. map (λ x. (x.0, chosen_reprs no_options x.0 x.1)) (app
 
 repr-lines : (ss : List small.Statement) → Spelled ss → RepresentationLines (kept ss) (each_find head_repr ss ++ (codes "end-header" ∷ []))
 repr-lines [] s = end_line
-repr-lines (find x a b ∷ ss) s = let l = repr-line x a b s.0 in next_representation_line l.0 l.1 (repr-lines ss s.3)
+repr-lines (find x a b ∷ ss) s = next_representation_line (repr-line x a b s.0).0 (repr-lines ss s.3)
 repr-lines (such_that k x ∷ ss) s = repr-lines ss s.2
 
 stm-lines : (ss all : List small.Statement) → Spelled ss → Spelled all →
     StatementLines (each_find find_stm ss) (kept all) (each_find head_find ss ++ (each_find head_repr all ++ (codes "end-header" ∷ [])))
 stm-lines [] all s t = no_more_statements (repr-lines all t)
-stm-lines (find x a b ∷ ss) all s t = let l = find-line x a b s.0 s.1 s.2 in next_statement_line l.0 l.1 (stm-lines ss all s.3 t)
+stm-lines (find x a b ∷ ss) all s t = next_statement_line (find-line x a b s.0 s.1 s.2).0 (stm-lines ss all s.3 t)
 stm-lines (such_that k x ∷ ss) all s t = stm-lines ss all s.2 t
 
 -- The lines are the header of the specification.
@@ -146,6 +147,21 @@ small-header ss s =
     subst (λ l. IsHeader (record { statements = l; reprs = all_chosen (specification ss) no_options }) (small_head ss)) (sym (stms-are ss))
     (subst (λ c. IsHeader (record { statements = each_find find_stm ss; reprs = c }) (small_head ss)) (sym (reprs-are ss))
     (header (stm-lines ss ss s s)))
+
+reprs-within : (ss : List small.Statement) → Spelled ss → Each (each_find head_repr ss ++ (codes "end-header" ∷ [])) IsWithinLimits
+reprs-within [] s = ((refl, refl), tt)
+reprs-within (find x a b ∷ ss) s = ((repr-line x a b s.0).1, reprs-within ss s.3)
+reprs-within (such_that k x ∷ ss) s = reprs-within ss s.2
+
+stms-within : (ss all : List small.Statement) → Spelled ss → Spelled all →
+    Each (each_find head_find ss ++ (each_find head_repr all ++ (codes "end-header" ∷ []))) IsWithinLimits
+stms-within [] all s t = reprs-within all t
+stms-within (find x a b ∷ ss) all s t = ((find-line x a b s.0 s.1 s.2).1, stms-within ss all s.3 t)
+stms-within (such_that k x ∷ ss) all s t = stms-within ss all s.2 t
+
+-- Each of them is within the limits.
+pub small-within : (ss : List small.Statement) → Spelled ss → Each (small_head ss) IsWithinLimits
+small-within ss s = ((refl, refl), stms-within ss ss s s)
 
 -- ---- bytes of the lines
 

@@ -1,17 +1,16 @@
 -- Worked examples of the definitions.
-use Rattle.std.proofs.Common.{◌≡◌, refl, inr, List, [], ◌∷◌, Some, None, codes}
+use Rattle.std.proofs.Common.{◌≡◌, refl, true, false, List, [], ◌∷◌, Some, None, negsuc, codes}
+use Rattle.ess_semantics.specs.declared.words.ReprKind.{ReprKind}
 use Rattle.ess_semantics.specs.Values.{Text}
-use Rattle.ess_semantics.specs.Trees.{Repr}
+use Rattle.ess_semantics.specs.Trees.{Repr, repr, no_reprs, number_ex}
 use Rattle.ess_semantics.specs.Plans.{Options}
-use Rattle.ess_semantics.specs.ModelTrees.{Model}
-use Rattle.ess_grammar.specs.Places.{end_place}
-use Rattle.ess_parse.specs.declared.refusal.ReadNo.{ReadNo}
-use Rattle.ess_translate_header.specs.declared.headers.HeadNo.{HeadNo}
+use Rattle.ess_semantics.specs.ModelTrees.{no_goal, least, Model}
 use Rattle.ess_translate.specs.declared.refusal.TransNo.{TransNo}
 use Rattle.conjure_options.specs.declared.options.OptionsNo.{OptionsNo}
 use Rattle.conjure_modelling.specs.declared.refusal.ModelNo.{ModelNo}
-use Rattle.conjure_modelling.specs.Refusals.{of_specification, of_options, of_reading, of_header}
-use Rattle.conjure_modelling.specs.Modelled.{AreOptionsOf, IsNoOptionOf, TakesList, IsNoModelText, IsUnheaded, IsNotRead}
+use Rattle.conjure_modelling.specs.Refusals.{of_specification, of_options}
+use Rattle.conjure_modelling.specs.Modelled.{AreOptionsOf, IsNoOptionOf, TakesList, IsUnreadable}
+use Rattle.conjure_modelling.specs.Represented.{have_reprs}
 
 -- the second item is refused
 second_item : of_options (OptionsNo.BadItem 2) ≡ ModelNo.BadRepresentation 2
@@ -43,30 +42,24 @@ taken_without_a_list = ([], refl)
 empty_list : AreOptionsOf [] (Some []) [] → ⊥
 empty_list h = h
 
--- what would be written isn't read
-no_model_yet : of_reading (ReadNo.Syntax (end_place [])) ≡ ModelNo.NotYet
-no_model_yet = refl
+-- a model with a number below 0 as one number is none that a text has: there it is `-` before a number
+abbrev below_zero : Model
+below_zero = record { givens = []; finds = []; goal = least (number_ex (negsuc 0)); rules = [] }
 
-no_room_for_the_model : of_reading ReadNo.NoMemory ≡ ModelNo.NoMemory
-no_room_for_the_model = refl
+not_written : IsUnreadable below_zero ModelNo.NotYet
+not_written = refl
 
-no_header_yet : of_header HeadNo.HeaderBad ≡ ModelNo.NotYet
-no_header_yet = refl
+-- the empty model is one
+written : IsUnreadable (record { givens = []; finds = []; goal = no_goal; rules = [] }) ModelNo.NotYet → ⊥
+written h = cc
 
-no_room_for_the_header : of_header HeadNo.NoMemory ≡ ModelNo.NoMemory
-no_room_for_the_header = refl
-
--- a text with a byte that begins no token is no model
-bad_byte : IsNoModelText (codes "?")
-bad_byte = (ReadNo.BadByte (record { line = 1; col = 1 }), record { reason = tt; first = refl; unread = tt; placed = tt })
-
--- without a language line there is no header
-no_header : IsUnheaded []
-no_header H h = h.0.language
-
-not_written : (E : Model) → IsNotRead E [] ModelNo.NotYet
-not_written E = inr (inr no_header)
-
--- what is read again isn't a list
-not_told : (E : Model) → IsNotRead E [] (ModelNo.BadRepresentation 1) → ⊥
+-- that a model is none isn't told of a list
+not_told : (E : Model) → IsUnreadable E (ModelNo.BadRepresentation 1) → ⊥
 not_told E h = h
+
+-- each name has a representation, or one has none
+all_have : have_reprs ((codes "x", repr ReprKind.Atom no_reprs ∷ []) ∷ []) ≡ true
+all_have = refl
+
+one_has_none : have_reprs ((codes "x", repr ReprKind.Atom no_reprs ∷ []) ∷ (codes "y", []) ∷ []) ≡ false
+one_has_none = refl

@@ -4,7 +4,7 @@ mod InlineParts
 mod Inline
 mod PlainBytes
 pub mod HeaderLines
-mod BareLines
-mod HeaderAgain
-pub mod ReadAgain
+mod HeaderOurs
+pub mod DerivedAgain
+pub mod Represented
 pub mod WhatIsWritten

@@ -8,5 +8,7 @@ pub use Rattle.ess_models.specs.ess_model_trees as ess_model_trees
 pub use Rattle.ess_models.specs as ess_models
 -- The refusals of parts
 pub mod Refusals
+-- Names that each have a representation
+pub mod Represented
 -- What is written for a text, and why nothing is
 pub mod Modelled

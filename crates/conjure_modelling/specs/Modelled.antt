@@ -4,17 +4,20 @@ use Rattle.ess_semantics.specs.Values.{Text}
 use Rattle.ess_semantics.specs.Names.{Names}
 use Rattle.ess_semantics.specs.Trees.{Repr, Dom, Stm}
 use Rattle.ess_semantics.specs.Plans.{Options, kept_names, all_chosen}
-use Rattle.ess_semantics.specs.ModelTrees.{Header, Model, header_of}
+use Rattle.ess_semantics.specs.ModelTrees.{Model, header_of}
+use Rattle.ess_grammar.specs.Tokens.{lexed}
+use Rattle.ess_grammar.specs.Load.{too_deep}
+use Rattle.ess_grammar.specs.Models.{is_readable_model}
 use Rattle.ess_grammar.specs.ModelTexts.{IsModel, header_lines}
 use Rattle.ess_grammar.specs.HeaderTexts.{IsHeader}
-use Rattle.ess_parse.specs.declared.refusal.ReadNo.{ReadNo}
+use Rattle.eprime_read.specs.Derived.{IsModelText}
 use Rattle.ess_translate.specs.declared.refusal.TransNo.{TransNo}
-use Rattle.ess_translate.specs.Texts.{Spells, IsRefusedFor}
+use Rattle.ess_translate.specs.Texts.{Spells}
 use Rattle.ess_translate.specs.Answers.{IsEssence, IsNoEssence}
-use Rattle.ess_translate_header_laws.specs.Headers.{HasHeader, are_reprs_of}
-use Rattle.ess_translate_header_laws.specs.WrittenLines.{header_texts}
+use Rattle.ess_translate_header_laws.specs.Headers.{HasHeader, IsOurs, are_reprs_of}
+use Rattle.ess_translate_header_laws.specs.WrittenLines.{header_texts, AreShallow}
 use Rattle.ess_models.specs.declared.parts.Part.{Part}
-use Rattle.ess_models.specs.Built.{NoneIsBuilt}
+use Rattle.ess_models.specs.Built.{IsBuilt, NoneIsBuilt}
 use Rattle.ess_models.specs.Modelled.{IsTextOf}
 use Rattle.conjure_options.specs.Pieces.{pieces}
 use Rattle.conjure_options.specs.Items.{AreItems}
@@ -32,67 +35,37 @@ abbrev pub IsNoOptionOf : Names Dom → Option Text → OptionsNo → Type 0
 IsNoOptionOf ds None why = ⊥
 IsNoOptionOf ds (Some list) why = IsRefusedAt ds (pieces 47 list) why
 
--- The text is a model by the rules of models: they derive this one for it and no other, no word of it stands outside the subset, and its
--- load is within the limit.
-pub record IsModelText (text : Text) : Type 0 where
-  pub model : Model
-  pub spells : Spells IsModel text model
-
--- The text is no model by the rules of models: it is refused before its grammar is looked at, or they derive none for it.
-abbrev pub IsNoModelText : Text → Type 0
-IsNoModelText text = (why : ReadNo) × IsRefusedFor IsModel text why
-
--- The text begins with a header of this tool.
-abbrev pub IsHeaded : Text → Type 0
-IsHeaded text = (H : Header) × HasHeader text H
-
--- It begins with none.
-abbrev pub IsUnheaded : Text → Type 0
-IsUnheaded text = (H : Header) → HasHeader text H → ⊥
-
--- The text is a model by the rules of models, but another one than E.
-pub record IsOtherModelText (E : Model) (text : Text) : Type 0 where
-  pub model : Model
-  pub spells : Spells IsModel text model
-  pub differs : model ≡ E → ⊥
-
--- The text is read again as E, and begins with a header of this tool.
-pub record IsReadAgain (E : Model) (text : Text) : Type 0 where
-  pub spells : Spells IsModel text E
-  pub headed : IsHeaded text
-
--- The text isn't read again as E: it is no model by the rules of models, or another one, or begins with no header of this tool.
-abbrev pub IsNotReadAgain : Model → Text → Type 0
-IsNotReadAgain E text = IsNoModelText text ⊎ (IsOtherModelText E text ⊎ IsUnheaded text)
-
--- The text spells a model that is built from the specification S with these representations, and is this model by the rules of models,
--- and no other. Under its language line stand the lines of the header of S with these representations, and no others. They are that
--- header by the rules, and it is the one that is read of the text.
+-- The text spells a model that is built from the specification S with these representations, and is this model by the rules of models, and
+-- no other. Under its language line stand the lines of the header of S with these representations, and no others. They are that header by
+-- the rules, and it is one of this tool. Where the load of the text is within the limit it is read as this model, and where that of each
+-- line of its header is, this header is read of it.
 pub record IsWritten (S : List Stm) (rs : Names (List Repr)) (text : Text) : Type 0 where
   pub spelled : IsTextOf S rs text
-  pub read : IsModelText text
-  pub same : read.model ≡ spelled.model
+  pub derived : IsModelText text spelled.model
   pub head : header_lines text ≡ header_texts (header_of S rs)
   pub header : IsHeader (header_of S rs) (header_lines text)
-  pub begins : HasHeader text (header_of S rs)
+  pub ours : IsOurs (header_of S rs)
+  pub read : too_deep (lexed text) ≡ None → Spells IsModel text spelled.model
+  pub begins : AreShallow (header_lines text) → HasHeader text (header_of S rs)
 
--- The model can't be written: a part of it can't, or the text that it would have isn't read again as this model.
+-- A model is built from the specification with these representations, but no text has it: a name or a number of it is no token of its own, or
+-- something stands where the rules of models have it not.
+pub record IsTextless (S : List Stm) (rs : Names (List Repr)) : Type 0 where
+  pub model : Model
+  pub built : IsBuilt S rs (header_of S rs) model
+  pub unreadable : is_readable_model model ≡ false
+
+-- The model can't be written: a part of it can't, or no text has it.
 abbrev pub IsLacking : List Stm → Names (List Repr) → Type 0
-IsLacking S rs = ((p : Part) × NoneIsBuilt S rs p) ⊎ ((text : Text) × (t : IsTextOf S rs text) × IsNotReadAgain t.model text)
+IsLacking S rs = ((p : Part) × NoneIsBuilt S rs p) ⊎ IsTextless S rs
 
--- Why no header is read of a text: it has none, or for want of memory.
-abbrev pub HasNoHeader : Text → ModelNo → Type 0
-HasNoHeader text ModelNo.NotYet = IsUnheaded text
-HasNoHeader text ModelNo.NoMemory = Unit {0}
-HasNoHeader text _ = ⊥
+-- Why the text of the model E isn't written: no text has it, or for want of memory.
+abbrev pub IsUnreadable : Model → ModelNo → Type 0
+IsUnreadable E ModelNo.NotYet = is_readable_model E ≡ false
+IsUnreadable E ModelNo.NoMemory = Unit {0}
+IsUnreadable E _ = ⊥
 
--- Why what would be written isn't read as E: it is no model, or another one, or has no header, or for want of memory.
-abbrev pub IsNotRead : Model → Text → ModelNo → Type 0
-IsNotRead E text ModelNo.NotYet = IsNotReadAgain E text
-IsNotRead E text ModelNo.NoMemory = Unit {0}
-IsNotRead E text _ = ⊥
-
--- Why it isn't written: it can't be yet, the representations don't fit, or for want of memory.
+-- Why nothing is written for S with these representations: the model can't be written, they don't fit, or for want of memory.
 abbrev pub IsUnwritten : List Stm → Names (List Repr) → ModelNo → Type 0
 IsUnwritten S rs ModelNo.NotYet = IsLacking S rs ⊎ (are_reprs_of (kept_names S) rs ≡ false)
 IsUnwritten S rs ModelNo.NoMemory = Unit {0}

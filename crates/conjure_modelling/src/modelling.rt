@@ -29,7 +29,7 @@ fn options_in(alloc: Global, stms: &[Stm], list: Option<&str>) -> Result<Row<Nam
 }
 
 /// The text of the model of a well typed specification.
-#[tactic(auto, using(crate::proofs::WhatIsWritten::unlisted, crate::proofs::WhatIsWritten::unwritten, crate::proofs::WhatIsWritten::written))]
+#[tactic(auto, using(crate::proofs::WhatIsWritten::unlisted, crate::proofs::WhatIsWritten::unwritten, crate::proofs::WhatIsWritten::written, crate::proofs::Represented::all_have))]
 fn model_for(alloc: Global, typed: &Typed, list: Option<&str>) -> Result<Vec<u8>, ModelNo>
     requires typed { IsTyped typed.now }
     requires readable { ReadableStms (pure_spec typed.now.spec) }
@@ -48,9 +48,8 @@ fn model_for(alloc: Global, typed: &Typed, list: Option<&str>) -> Result<Vec<u8>
 /// The text of the model of the specification that a text is, with the representations that a list names, and else the defaults.
 ///
 /// `Specification` comes exactly where the text is no well typed specification, else `BadRepresentation` exactly where an item of the
-/// list isn't taken, else `NotYet` where a part of the model can't be written yet, or the text that would be written is no model by the
-/// rules of models, or begins with no header of this tool: what is answered is a model, and its header is read of it again. `NoMemory`
-/// for want of memory.
+/// list isn't taken, else `NotYet` where a part of the model can't be written yet, or no text has the model that is built: what is answered
+/// is this model by the rules of models, behind its header, however deeply either is nested. `NoMemory` for want of memory.
 #[tactic(auto, using(crate::proofs::WhatIsWritten::readable, crate::proofs::WhatIsWritten::modelled, crate::proofs::WhatIsWritten::unmodelled, crate::proofs::WhatIsWritten::refused))]
 pub fn model_of(alloc: Global, text: &[u8], list: Option<&str>) -> Result<Vec<u8>, ModelNo>
     ensures ok { IfOk result (λ model. IsModelled text.now (option_map (λ l. l.now) list.entry) model.items) }

@@ -28,10 +28,6 @@ module _ (S : List Stm) (o : Options) (text : Text) (is : IsEssence text S) (f :
       (b.one S (all_chosen S o) (header_of S (all_chosen S o)) w.spelled.model is.typed (c.flat S o is.typed f) w.spelled.built).1
       ∙ c.model S o is.typed
 
-  -- The text is read as it.
-  read-is : w.read.model ≡ flat_model S o
-  read-is = w.same ∙ built-is
-
   -- So it stands.
   pub flat-stands : (list : Option Text) → AreOptionsOf (kept_names S) list o → StandsForListed list text model
   flat-stands list listed = let c = chosen-are-of-the-class in let r = flat-specifications S o is.typed f in record {
@@ -47,7 +43,7 @@ module _ (S : List Stm) (o : Options) (text : Text) (is : IsEssence text S) (f :
           (subst (IsHeader (header_of S (all_chosen S o))) w.head w.header),
       (
         w.head ∙ ap header_texts (c.header S o is.typed),
-        subst (λ E. Reads model (IsModel E)) read-is w.read.spells.reads,
+        subst (λ E. Reads model (IsModel E)) built-is w.derived.reads,
       ),
     );
     models = r.0;

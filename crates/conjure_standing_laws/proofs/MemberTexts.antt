@@ -6,8 +6,6 @@ use Rattle.ess_semantics.specs.Judgements.{is_well_typed}
 use Rattle.ess_semantics.specs.Plans.{Options, kept_names, all_chosen, plans}
 use Rattle.ess_semantics.specs.ModelTrees.{Model, header_of}
 use Rattle.ess_semantics.specs.Models.{Models, IsExact}
-use Rattle.ess_grammar.specs.Texts.{Reads}
-use Rattle.ess_grammar.specs.ModelTexts.{IsModel}
 use Rattle.ess_grammar.specs.HeaderTexts.{IsHeader}
 use Rattle.conjure_modelling.specs.ess_translate.Answers.{IsEssence}
 use Rattle.ess_translate_header_laws.specs.WrittenLines.{header_texts}
@@ -66,10 +64,7 @@ module _ (T : List Line) (o : Options) (text : Text) (is : IsEssence text (spec 
         is_model = (
           header_texts (header_of S o),
           subst (λ H. IsHeader H (header_texts H)) header-is (subst (IsHeader (header_of S A)) w.head w.header),
-          (
-            w.head ∙ ap header_texts header-is,
-            subst (λ F. Reads model (IsModel F)) w.same w.read.spells.reads,
-          ),
+          (w.head ∙ ap header_texts header-is, w.derived.reads),
         );
         models = a.models S o no_options (header_of S o) E e (kept-are-chosen.same_header T o k) right.0;
         exact = a.exact S o no_options E e right.1;

@@ -5,8 +5,6 @@ use Rattle.ess_semantics.specs.Trees.{Stm}
 use Rattle.ess_semantics.specs.Plans.{Options, kept_names, all_chosen, plans}
 use Rattle.ess_semantics.specs.ModelTrees.{Model, header_of}
 use Rattle.ess_semantics.specs.Models.{Models, IsExact}
-use Rattle.ess_grammar.specs.Texts.{Reads}
-use Rattle.ess_grammar.specs.ModelTexts.{IsModel}
 use Rattle.ess_grammar.specs.HeaderTexts.{IsHeader}
 use Rattle.conjure_modelling.specs.ess_translate.Answers.{IsEssence}
 use Rattle.ess_translate_header_laws.specs.WrittenLines.{header_texts}
@@ -52,10 +50,7 @@ module _ (S : List Stm) (o : Options) (text : Text) (is : IsEssence text S) (f :
         is_model = (
           header_texts (header_of S o),
           subst (λ H. IsHeader H (header_texts H)) header-is (subst (IsHeader (header_of S A)) w.head w.header),
-          (
-            w.head ∙ ap header_texts header-is,
-            subst (λ F. Reads model (IsModel F)) w.same w.read.spells.reads,
-          ),
+          (w.head ∙ ap header_texts header-is, w.derived.reads),
         );
         models = a.models S o A (header_of S o) E e (sym header-is) right.0;
         exact = a.exact S o A E e right.1;

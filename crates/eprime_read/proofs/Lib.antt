@@ -6,3 +6,4 @@ pub mod PartTokens
 pub mod PartStatements
 pub mod ModelLaws
 pub mod FitTokens
+pub mod DerivedModels

@@ -2,3 +2,4 @@ pub mod Openings
 pub mod Drafts
 pub mod Statements
 pub mod Views
+pub mod Derived

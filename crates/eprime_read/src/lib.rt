@@ -19,4 +19,4 @@ mod statements;
 mod steps;
 
 pub use ess_parse::ReadNo;
-pub use models::read_model;
+pub use models::{derived_model, read_model};

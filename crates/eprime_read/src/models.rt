@@ -1,19 +1,24 @@
-ghost use Rattle.std.specs.Prelude.{◌≡◌, IfOk, IsTrue};
+ghost use Rattle.std.specs.Prelude.{◌≡◌, true, false, None, IfOk, OnOk, IfSome, MatchOption, IsTrue};
 ghost use Rattle.std.specs.List.{list_all};
+ghost use Rattle.ess_grammar.specs.Places.{end_place};
+ghost use Rattle.ess_grammar.specs.Tokens.{lexed, first_outside};
 ghost use Rattle.ess_grammar.specs.ModelTexts.{IsModel, header_lines};
 ghost use Rattle.ess_grammar.specs.Models.{is_readable_model};
 ghost use Rattle.ess_parse.specs.Readers.{IsRefusedFirst, IsDerived, IsAnswered, IsUnread, IsPlaced, IsReadable};
-ghost use Rattle.ess_parse.specs.Runs.{IsReading};
+ghost use Rattle.ess_lex.specs.Lexing.{refusal};
+ghost use Rattle.ess_parse.specs.declared.refusal.ReadNo.{ReadNo};
+ghost use Rattle.ess_parse.specs.Runs.{IsAnswer, IsReading, run_over};
 ghost use Rattle.eprime_read_laws.specs.ModelMachine.{at_begin, model_step, model_finish};
 ghost use Rattle.eprime_tree.specs.Views.{pure_model};
 ghost use Rattle.eprime_tree.specs.ModelText.{is_head_line};
+ghost use Rattle.eprime_read.specs.Derived.{IsModelText, IsNoModelText};
 
 use crate::machine::Machine;
 use eprime_read_headers::header_lines;
 use eprime_tree::PModel;
 use ess_lex::{Lexer, end_place};
 use ess_parse::{ReadNo, pass_first};
-use ess_rows::{Row, Text};
+use ess_rows::{NoMemory, Row, Text};
 use std::alloc::Global;
 
 /// Reads a model in Essence Prime: the language line, the lines of its header, and its parts (the Conjure manual, chapter
@@ -38,13 +43,65 @@ pub fn read_model(alloc: Global, text: &[u8]) -> Result<PModel, ReadNo>
     run(alloc, text)
 }
 
-/// Runs the machine over the tokens of a text.
-#[tactic(auto, using(crate::proofs::FitTokens::unrefused_front))]
+/// The model that the rules derive for a text, however deeply it is nested. None where they derive none, or a word of the text stands
+/// outside the subset. `NoMemory` for want of memory. Its header has the lines that `read_model` finds.
+#[tactic(auto, using(crate::proofs::DerivedModels::is_derived))]
+pub fn derived_model(alloc: Global, text: &[u8]) -> Result<Option<PModel>, NoMemory>
+    ensures derived { IfOk result (λ o. MatchOption o (IsNoModelText text.now) (λ m. IsModelText text.now (pure_model m))) }
+    ensures head { IfOk result (λ o. IfSome o (λ m. m.head ≡ header_lines text.now)) }
+{
+    if !is_inside(text) {
+        return Ok(None);
+    }
+    match over_tokens(alloc, text) {
+        Ok(model) => Ok(Some(model)),
+        Err(why) => {
+            of_text(why)?;
+            Ok(None)
+        }
+    }
+}
+
+/// Whether a refusal is one of the text: `NoMemory` where it isn't.
+fn of_text(why: ReadNo) -> Result<(), NoMemory>
+    ensures { OnOk result (why ≡ ReadNo.NoMemory → ⊥) }
+{
+    match why {
+        ReadNo::NoMemory => Err(NoMemory),
+        _ => Ok(()),
+    }
+}
+
+/// Whether the lexer refuses nothing of a text, and no word of it stands outside the subset.
+fn is_inside(text: &[u8]) -> bool
+    ensures yes { result ≡ true → (refusal (lexed text.now) ≡ None) × (first_outside (lexed text.now) ≡ None) }
+    ensures no { result ≡ false → refusal (lexed text.now) ≡ None → first_outside (lexed text.now) ≡ None → ⊥ }
+{
+    match ess_lex::first_outside(text) {
+        Ok(None) => true,
+        Ok(Some(_)) => false,
+        Err(_) => false,
+    }
+}
+
+/// Runs the machine over a text that isn't refused before its grammar is looked at.
+#[tactic(auto, using(crate::proofs::FitTokens::unrefused, crate::proofs::FitTokens::without_outside))]
 fn run(alloc: Global, text: &[u8]) -> Result<PModel, ReadNo>
     ensures reading { IsReading model_step model_finish at_begin pure_model text.now result }
     ensures head { IfOk result (λ m. m.head ≡ header_lines text.now) }
 {
     pass_first(text)?;
+    over_tokens(alloc, text)
+}
+
+/// Runs the machine over the tokens of a text.
+#[tactic(auto, using(crate::proofs::FitTokens::unrefused_front))]
+fn over_tokens(alloc: Global, text: &[u8]) -> Result<PModel, ReadNo>
+    requires unrefused { refusal (lexed text.now) ≡ None }
+    requires inside { first_outside (lexed text.now) ≡ None }
+    ensures reading { IsAnswer pure_model (run_over model_step model_finish (end_place text.now) (lexed text.now) at_begin) result }
+    ensures head { IfOk result (λ m. m.head ≡ header_lines text.now) }
+{
     let mut lexer = Lexer::new(text);
     let mut machine = Machine::new();
     while let Some(token) = lexer.next()? {

@@ -1,4 +1,4 @@
--- Worked example: a text of two lines is a specification of the class, and its header is within the limit.
+-- Worked example: a text of two lines is a specification of the class, and the lines of its header are that header.
 use Rattle.std.proofs.Common.{◌≡◌, refl, true, lit≤, [], ◌∷◌, ◌++◌, List, pos, codes}
 use Rattle.ess_semantics.specs.declared.words.Op2.{Op2}
 use Rattle.ess_semantics.specs.Values.{Text}
@@ -9,9 +9,10 @@ use Rattle.ess_grammar.specs.Statements.{last_name, find_part, such_that_part, l
 use Rattle.ess_grammar.specs.Readable.{ReadableStms}
 use Rattle.ess_grammar.specs.Texts.{ReadsSpecification}
 use Rattle.ess_grammar.proofs.ProperTokens.{specification-text-readable}
-use Rattle.ess_translate_header_laws.specs.WrittenLines.{header_texts, AreShallow}
+use Rattle.ess_grammar.specs.HeaderTexts.{IsHeader}
+use Rattle.ess_translate_header_laws.specs.WrittenLines.{header_texts}
 use Rattle.ess_flat_models_laws.specs.FlatSpecifications.{is_flat_specification}
-use Rattle.ess_flat_headers_laws.proofs.ShallowLines.{flat-headers-are-shallow}
+use Rattle.ess_flat_headers_laws.proofs.FlatHeaders.{flat-headers-are-read}
 
 abbrev pub text : Text
 text = codes "find x : int(1..3)" ++ (10 ∷ codes "such that x + 1 = 3")
@@ -43,6 +44,6 @@ its-readable = specification-text-readable text S its-statements refl
 pub its-class : is_flat_specification S [] ≡ true
 its-class = refl
 
--- The lines of its header are within the limit.
-pub its-header : AreShallow (header_texts (header_of S []))
-its-header = flat-headers-are-shallow S [] its-readable its-class refl
+-- The lines of its header are it.
+pub its-header : IsHeader (header_of S []) (header_texts (header_of S []))
+its-header = flat-headers-are-read S [] its-readable its-class

@@ -1,4 +1,4 @@
--- The lines of the header of a model of the class are read as that header, where each is within the limit of load.
+-- The lines of the header of a model of the class are that header by the rules.
 use Rattle.std.proofs.Common.{◌≡◌, refl, Bool, true, ◌&&◌, List, [], ◌∷◌, map, filter}
 use Rattle.std.specs.List.{list_all}
 use Rattle.ess_semantics.specs.Lists.{append_all}
@@ -84,6 +84,6 @@ flat-header S o r h = record {
   reprs = names-named (plans S o) o (prepared S) (flat-statements S o h) (prepared-named S r);
 }
 
--- So its lines are read as it.
+-- So its lines are it.
 pub flat-headers-are-read : FlatHeadersAreRead
-flat-headers-are-read S o r h s = written_headers (header_of S o) (flat-header S o r h) s
+flat-headers-are-read S o r h = written_headers (header_of S o) (flat-header S o r h)

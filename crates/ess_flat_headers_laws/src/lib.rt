@@ -1,4 +1,4 @@
-//! Headers of models of specifications of scalars are read as what they are, and representations that are chosen choose themselves.
+//! The lines of headers of models of specifications of scalars are those headers, and representations that are chosen choose themselves.
 #![tactic(auto)]
 
 pub mod laws;

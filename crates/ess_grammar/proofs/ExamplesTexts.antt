@@ -68,8 +68,7 @@ is_its_header = header (next_statement_line (
   parts_statement begins_find (last_part (find_part last_name
       (set_domain no_attributes (ranges_domain (last_range (both_range (atom_expression number_atom) (atom_expression number_atom))))))),
 )
-    (refl, refl)
-    (no_more_statements (next_representation_line (_, refl, representation_line (last_choice (childless refl))) (refl, refl) end_line)))
+    (no_more_statements (next_representation_line (_, refl, representation_line (last_choice (childless refl))) end_line)))
 
 -- a file without statements has a model of three lines
 least_model : Text

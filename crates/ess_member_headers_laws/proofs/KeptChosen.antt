@@ -18,7 +18,7 @@ use Rattle.conjure_laws.specs.SetsOfAtoms.{Atom, range, boolean, typed, Line, en
 use Rattle.conjure_laws.specs.ModelsOfSets.{no_options}
 use Rattle.ess_member_headers_laws.specs.KeptSets.{is_occurrence_alone, are_kept_by_occurrence}
 use Rattle.ess_member_headers_laws.specs.Laws.{KeptAreChosen}
-use Rattle.ess_member_headers_laws.proofs.ShallowLines.{Occ, alone-is, chosen_of, found_in}
+use Rattle.ess_member_headers_laws.proofs.ChosenSets.{Occ, alone-is, chosen_of, found_in}
 
 -- Options that choose alike have the same representations.
 alike-all : (p o : Options) (xs : Names Dom) → Alike p o xs → chosen_of p xs ≡ chosen_of o xs

@@ -1,4 +1,4 @@
--- The lines of the header of a model of sets are read as that header.
+-- The lines of the header of a model of sets are that header by the rules.
 use Rattle.std.proofs.Common.{◌≡◌, refl, sym, subst, Bool, true, List, [], ◌∷◌, map, filter}
 use Rattle.std.specs.List.{list_all}
 use Rattle.ess_semantics.specs.Lists.{append_all}
@@ -14,7 +14,7 @@ use Rattle.conjure_laws.proofs.SetScopes.{prepared-itself}
 use Rattle.conjure_laws.specs.SetsOfAtoms.{Line, enum, given_type, unnamed, set_find, holds_lit, sets_of, spec}
 use Rattle.ess_member_headers_laws.specs.KeptSets.{is_occurrence_alone, are_kept_by_occurrence}
 use Rattle.ess_member_headers_laws.specs.Laws.{MemberHeadersAreRead}
-use Rattle.ess_member_headers_laws.proofs.ShallowLines.{chosen_of, found_in, member-headers-are-shallow}
+use Rattle.ess_member_headers_laws.proofs.ChosenSets.{chosen_of, found_in}
 
 header-readable : (T : List Line) → ReadableStms (spec T) → ReadableStms (filter in_header (spec T))
 header-readable [] r = tt
@@ -56,7 +56,6 @@ member-header T o r h =
           (names-named o T r xs);
     }
 
--- So its lines are read as it.
+-- So its lines are it.
 pub member-headers-are-read : MemberHeadersAreRead
-member-headers-are-read T o r h =
-    written_headers (header_of (spec T) o) (member-header T o r h) (member-headers-are-shallow T o r h)
+member-headers-are-read T o r h = written_headers (header_of (spec T) o) (member-header T o r h)

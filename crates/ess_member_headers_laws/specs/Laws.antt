@@ -5,18 +5,13 @@ use Rattle.ess_semantics.specs.Plans.{Options, plans, all_chosen}
 use Rattle.ess_semantics.specs.ModelTrees.{header_of}
 use Rattle.ess_grammar.specs.Readable.{ReadableStms}
 use Rattle.ess_grammar.specs.HeaderTexts.{IsHeader}
-use Rattle.ess_translate_header_laws.specs.WrittenLines.{header_texts, AreShallow}
+use Rattle.ess_translate_header_laws.specs.WrittenLines.{header_texts}
 use Rattle.conjure_laws.specs.SetsOfAtoms.{Line, spec}
 use Rattle.conjure_laws.specs.ModelsOfSets.{no_options}
 use Rattle.ess_member_headers_laws.specs.KeptSets.{are_kept_by_occurrence}
 
--- Each line of the header of a specification of sets whose statements some text has is within the limit of load, where each set is kept by
+-- The lines of the header of a specification of sets whose statements some text has are that header by the rules, where each set is kept by
 -- which members occur.
-abbrev pub MemberHeadersAreShallow : Type 0
-MemberHeadersAreShallow = (T : List Line) (o : Options) → ReadableStms (spec T) → are_kept_by_occurrence (spec T) o ≡ true →
-    AreShallow (header_texts (header_of (spec T) o))
-
--- So the lines are read as that header.
 abbrev pub MemberHeadersAreRead : Type 0
 MemberHeadersAreRead = (T : List Line) (o : Options) → ReadableStms (spec T) → are_kept_by_occurrence (spec T) o ≡ true →
     IsHeader (header_of (spec T) o) (header_texts (header_of (spec T) o))

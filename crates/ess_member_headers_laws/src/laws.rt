@@ -1,13 +1,8 @@
 //! Laws of headers of models of sets of atoms, each the contract of a function that does nothing.
 
-ghost use Rattle.ess_member_headers_laws.specs.Laws.{MemberHeadersAreShallow, MemberHeadersAreRead, KeptAreChosen};
+ghost use Rattle.ess_member_headers_laws.specs.Laws.{MemberHeadersAreRead, KeptAreChosen};
 
-/// Each line of the header is within the limit of load.
-pub fn member_headers_are_shallow()
-    ensures { MemberHeadersAreShallow }
-{}
-
-/// The lines of the header are read as that header.
+/// The lines of the header are that header by the rules.
 pub fn member_headers_are_read()
     ensures { MemberHeadersAreRead }
 {}

@@ -1,4 +1,4 @@
-//! Headers of models of sets of atoms are read as what they are, and representations that are chosen choose themselves.
+//! The lines of headers of models of sets of atoms are those headers, and representations that are chosen choose themselves.
 #![tactic(auto)]
 
 pub mod laws;

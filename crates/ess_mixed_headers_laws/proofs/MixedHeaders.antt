@@ -1,4 +1,4 @@
--- The lines of the header of a model of the class are read as that header, where each is within the limit of load.
+-- The lines of the header of a model of the class are that header by the rules.
 use Rattle.std.proofs.Common.{◌≡◌, refl, Bool, true, false, ◌&&◌, ◌||◌, List, [], ◌∷◌, map, filter}
 use Rattle.std.specs.List.{list_all}
 use Rattle.ess_semantics.specs.Lists.{append_all}
@@ -108,6 +108,6 @@ mixed-header S o r h = record {
       && (have_bounds (plans S o) [] (prepared S) && list_all (has_marks (plans S o)) (constraints_of S))) h) (prepared-named S r);
 }
 
--- So its lines are read as it.
+-- So its lines are it.
 pub mixed-headers-are-read : MixedHeadersAreRead
-mixed-headers-are-read S o r h s = written_headers (header_of S o) (mixed-header S o r h) s
+mixed-headers-are-read S o r h = written_headers (header_of S o) (mixed-header S o r h)

@@ -6,14 +6,14 @@ use Rattle.ess_semantics.specs.Plans.{Options, all_chosen, plans}
 use Rattle.ess_semantics.specs.ModelTrees.{header_of}
 use Rattle.ess_grammar.specs.Readable.{ReadableStms}
 use Rattle.ess_grammar.specs.HeaderTexts.{IsHeader}
-use Rattle.ess_translate_header_laws.specs.WrittenLines.{header_texts, AreShallow}
+use Rattle.ess_translate_header_laws.specs.WrittenLines.{header_texts}
 use Rattle.ess_mixed_models_laws.specs.MixedSpecifications.{is_mixed_specification}
 
--- Of a specification of the class whose statements some text has, the lines of the header are read as that header, where each is within the
--- limit of load.
+-- Of a specification of the class whose statements some text has, the lines of the header are that header by the rules, however deeply they
+-- are nested.
 abbrev pub MixedHeadersAreRead : Type 0
 MixedHeadersAreRead = (S : List Stm) (o : Options) → ReadableStms S → is_mixed_specification S o ≡ true →
-    AreShallow (header_texts (header_of S o)) → IsHeader (header_of S o) (header_texts (header_of S o))
+    IsHeader (header_of S o) (header_texts (header_of S o))
 
 -- The representations of all givens and finds, as options, choose themselves: with them the specification is of the class too, and has the
 -- same plans and the same header.

@@ -2,7 +2,7 @@
 
 ghost use Rattle.ess_mixed_headers_laws.specs.Laws.{ChosenOptionsKeepTheClass, MixedHeadersAreRead};
 
-/// The lines of the header of a specification of the class are read as that header, where each is within the limit of load.
+/// The lines of the header of a specification of the class are that header by the rules, however deeply they are nested.
 pub fn mixed_headers_are_read()
     ensures { MixedHeadersAreRead }
 {}

@@ -1,4 +1,4 @@
-//! Headers of models of scalars and sets side by side are read as they were written, and specifications stay of their class with the
+//! The lines of headers of models of scalars and sets side by side are those headers, and specifications stay of their class with the
 //! representations of all givens and finds as options.
 #![tactic(auto)]
 

@@ -12,7 +12,7 @@ use Rattle.ess_grammar.proofs.ExamplesGrammar.{num}
 use Rattle.ess_translate_header_laws.specs.Headers.{language_line, BeginsWithTokens, BeginsWith, are_reprs_of, IsOurs}
 use Rattle.ess_translate_header_laws.specs.HeadLines.{begins_with_language}
 use Rattle.ess_translate_header_laws.specs.WrittenLines.{reprs_line_text, header_texts, ReadableHeader, AreShallow}
-use Rattle.ess_translate_header_laws.proofs.WrittenLines.{written_headers}
+use Rattle.ess_translate_header_laws.proofs.WrittenLines.{written_headers, written_within}
 
 abbrev feed : Text
 feed = 10 ∷ []
@@ -85,7 +85,8 @@ begins lines_are = record {
     own = header_texts head;
     others = codes "more" ∷ [];
     all = lines_are;
-    header = written_headers head readable shallow;
+    header = written_headers head readable;
+    limits = written_within head readable shallow;
   };
 }
 

@@ -10,7 +10,7 @@ use Rattle.ess_grammar.specs.Tokens.{Lexed, the_end, bad_byte, wide_number, next
 use Rattle.ess_grammar.specs.Statements.{IsSpecification}
 use Rattle.ess_grammar.specs.HeaderTexts.{RepresentationLine, representation_line}
 use Rattle.ess_parse_laws.proofs.Uniqueness.{one_specification}
-use Rattle.ess_translate_header_laws.specs.HeadLines.{other_line, IsStatementLine, IsReprsLine, IsNoStatementLine, IsNoReprsLine}
+use Rattle.ess_translate_header_laws.specs.HeadLines.{other_line, DerivesStatement, DerivesReprs, IsNoStatementLine, IsNoReprsLine}
 use Rattle.ess_translate_header_laws.specs.HeadLines.{IsHeadLine, begins_with_language}
 use Rattle.ess_translate_header_laws.proofs.Choices.{one-line}
 use Rattle.ess_translate_header_laws.proofs.Statements.{begins_other, statement-begins, begins_language, alone-specification}
@@ -24,16 +24,16 @@ first-same : (s t : Stm) → s ∷ [] ≡ t ∷ [] → s ≡ t
 first-same s t h = cc
 
 -- A line is at most one statement.
-pub one-statement : (l : Text) (s t : Stm) → IsStatementLine l s → IsStatementLine l t → s ≡ t
+pub one-statement : (l : Text) (s t : Stm) → DerivesStatement l s → DerivesStatement l t → s ≡ t
 one-statement l s t d g =
-    let e = same-tokens l g.0.0 d.0.0 g.0.1 d.0.1 in
-    first-same s t (one_specification (alone-specification d.0.2) (subst (λ ts. IsSpecification (t ∷ []) ts) e (alone-specification g.0.2)))
+    let e = same-tokens l g.0 d.0 g.1 d.1 in
+    first-same s t (one_specification (alone-specification d.2) (subst (λ ts. IsSpecification (t ∷ []) ts) e (alone-specification g.2)))
 
 -- It has the representations of at most one name.
-pub one-named : (l : Text) (a b : Text) (rs qs : List Repr) → IsReprsLine l a rs → IsReprsLine l b qs →
+pub one-named : (l : Text) (a b : Text) (rs qs : List Repr) → DerivesReprs l a rs → DerivesReprs l b qs →
     ◌≡◌ {A = Text × List Repr} (a, rs) (b, qs)
 one-named l a b rs qs d g =
-    one-line d.0.2 (subst (λ ts. RepresentationLine b qs ts) (same-tokens l g.0.0 d.0.0 g.0.1 d.0.1) g.0.2)
+    one-line d.2 (subst (λ ts. RepresentationLine b qs ts) (same-tokens l g.0 d.0 g.1 d.1) g.2)
 
 -- ---- one thing
 
@@ -41,16 +41,16 @@ line-begins : {a : Text} {rs : List Repr} {ts : List Token} → RepresentationLi
 line-begins (representation_line d) = refl
 
 -- A line of representations is no statement.
-pub no-statement : (l a : Text) (s : Stm) (rs : List Repr) → IsReprsLine l a rs → IsStatementLine l s → ⊥
+pub no-statement : (l a : Text) (s : Stm) (rs : List Repr) → DerivesReprs l a rs → DerivesStatement l s → ⊥
 no-statement l a s rs d g =
-    let e = same-tokens l g.0.0 d.0.0 g.0.1 d.0.1 in
-    let k : false ≡ true = sym (line-begins d.0.2) ∙ sym (ap begins_other e) ∙ statement-begins g.0.2 in cc
+    let e = same-tokens l g.0 d.0 g.1 d.1 in
+    let k : false ≡ true = sym (line-begins d.2) ∙ sym (ap begins_other e) ∙ statement-begins g.2 in cc
 
 -- Neither is the last line, and it has no representations.
-pub last-no-statement : (l : Text) (s : Stm) → l ≡ codes "end-header" → IsStatementLine l s → ⊥
+pub last-no-statement : (l : Text) (s : Stm) → l ≡ codes "end-header" → DerivesStatement l s → ⊥
 last-no-statement l s e g =
-    let h : tokens (codes "end-header") ≡ Some g.0.0 = subst (λ m. tokens m ≡ Some g.0.0) e g.0.1 in
-    let k : false ≡ true = ap begins_other (same_Some _ g.0.0 h) ∙ statement-begins g.0.2 in cc
+    let h : tokens (codes "end-header") ≡ Some g.0 = subst (λ m. tokens m ≡ Some g.0) e g.1 in
+    let k : false ≡ true = ap begins_other (same_Some _ g.0 h) ∙ statement-begins g.2 in cc
 
 -- Whether the first token is the name `repr`, and whether the last line's is.
 abbrev begins_repr : List Token → Bool
@@ -60,10 +60,10 @@ begins_repr _ = false
 line-repr : {a : Text} {rs : List Repr} {ts : List Token} → RepresentationLine a rs ts → begins_repr ts ≡ true
 line-repr (representation_line d) = refl
 
-pub last-no-reprs : (l a : Text) (rs : List Repr) → l ≡ codes "end-header" → IsReprsLine l a rs → ⊥
+pub last-no-reprs : (l a : Text) (rs : List Repr) → l ≡ codes "end-header" → DerivesReprs l a rs → ⊥
 last-no-reprs l a rs e g =
-    let h : tokens (codes "end-header") ≡ Some g.0.0 = subst (λ m. tokens m ≡ Some g.0.0) e g.0.1 in
-    let k : false ≡ true = ap begins_repr (same_Some _ g.0.0 h) ∙ line-repr g.0.2 in cc
+    let h : tokens (codes "end-header") ≡ Some g.0 = subst (λ m. tokens m ≡ Some g.0) e g.1 in
+    let k : false ≡ true = ap begins_repr (same_Some _ g.0 h) ∙ line-repr g.2 in cc
 
 -- A line that is none of the three.
 pub neither : (l : Text) → IsNoStatementLine l → IsNoReprsLine l → (l ≡ codes "end-header" → ⊥) → IsHeadLine l other_line

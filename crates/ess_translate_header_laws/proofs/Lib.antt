@@ -7,4 +7,6 @@ pub mod WholeHeaders
 pub mod OneHeader
 pub mod ModelHeaders
 pub mod WrittenLines
+mod UnseenObjectives
+mod HeadersTyped
 mod ExamplesHeaders

@@ -5,7 +5,7 @@ use Rattle.ess_semantics.specs.ModelTrees.{Header}
 use Rattle.ess_grammar.specs.Tokens.{lexed}
 use Rattle.ess_grammar.specs.ModelTexts.{header_lines}
 use Rattle.ess_grammar.specs.HeaderTexts.{StatementLines, IsHeader, header}
-use Rattle.ess_translate_header_laws.specs.Headers.{language_line, BeginsWithTokens, StandsFirst, BeginsWith}
+use Rattle.ess_translate_header_laws.specs.Headers.{language_line, BeginsWithTokens, AreWithinLimits, StandsFirst, BeginsWith}
 use Rattle.ess_translate_header_laws.specs.Reading.{AreLinesOf, AreNoLines}
 
 -- A header's lines behind the first one.
@@ -26,23 +26,24 @@ stands_first H first rest f d = record {
   others = d.others;
   all = ap (λ k. k ∷ rest) f ∙ ap (λ ls. codes "conjure-header 1" ∷ ls) d.all;
   header = header d.read;
+  limits = ((refl, refl), d.limits);
 }
 
 behind-lines : (first : Text) (rest own others : List Text) (H : Header) → first ∷ rest ≡ own ++ others → Behind H own →
-    (first ≡ codes "conjure-header 1") × AreLinesOf H.statements H.reprs rest
-behind-lines first rest own others H e b =
+    AreWithinLimits own → (first ≡ codes "conjure-header 1") × AreLinesOf H.statements H.reprs rest
+behind-lines first rest own others H e b w =
     let k : first ∷ rest ≡ codes "conjure-header 1" ∷ (b.rest ++ others) = e ∙ ap (λ ls. ls ++ others) b.is in
-    (cc, record { own = b.rest; others = others; all = cc; read = b.read })
+    (cc, record { own = b.rest; others = others; all = cc; read = b.read; limits = (subst AreWithinLimits b.is w).1 })
 
 -- Where another line stands first, no header does.
 pub other_version : (H : Header) (first : Text) (rest : List Text) → (first ≡ codes "conjure-header 1" → ⊥) → StandsFirst H
     (first ∷ rest) → ⊥
-other_version H first rest n h = n (behind-lines first rest h.own h.others H h.all (behind-first h.header)).0
+other_version H first rest n h = n (behind-lines first rest h.own h.others H h.all (behind-first h.header) h.limits).0
 
 -- Where the lines behind it are those of no header, none stands first.
 pub no_lines_behind : (H : Header) (first : Text) (rest : List Text) → AreNoLines rest → StandsFirst H (first ∷ rest) → ⊥
 no_lines_behind H first rest n h =
-    n H.statements H.reprs (behind-lines first rest h.own h.others H h.all (behind-first h.header)).1
+    n H.statements H.reprs (behind-lines first rest h.own h.others H h.all (behind-first h.header) h.limits).1
 
 -- No header stands where no line does.
 pub no_lines : (H : Header) → StandsFirst H [] → ⊥

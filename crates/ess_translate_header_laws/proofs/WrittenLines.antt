@@ -1,4 +1,4 @@
--- The lines of a header that are written are read as that header.
+-- The lines of a header that are written are that header, and are read as it where none is nested too deeply.
 use Rattle.std.proofs.Common.{◌≡◌, refl, sym, ap, ◌∙◌, subst, true, List, [], ◌∷◌, ◌++◌, append_assoc, append-nil, map, None, codes}
 use Rattle.std.specs.List.{flat_map, list_all}
 use Rattle.std.proofs.lemmas.Bool.{and_parts}
@@ -6,12 +6,13 @@ use Rattle.ess_semantics.specs.declared.words.Op2.{Op2}
 use Rattle.ess_semantics.specs.Values.{Text}
 use Rattle.ess_semantics.specs.Names.{Names}
 use Rattle.ess_semantics.specs.Trees.{Repr, Stm}
+use Rattle.ess_semantics.specs.Contexts.{Each}
+use Rattle.ess_semantics.specs.ModelTrees.{Header}
 use Rattle.ess_grammar.specs.Words.{Token, name, operator}
 use Rattle.ess_grammar.specs.Tokens.{lexed, first_outside}
-use Rattle.ess_grammar.specs.Load.{too_deep}
 use Rattle.ess_grammar.specs.Readable.{is_name_token, ReadableStm, ReadableStms}
 use Rattle.ess_grammar.specs.Statements.{Statement}
-use Rattle.ess_grammar.specs.Texts.{Reads, IsWithinLimits}
+use Rattle.ess_grammar.specs.Texts.{Reads}
 use Rattle.ess_grammar.specs.HeaderTexts.{Choices, last_choice, next_choice, RepresentationLine, representation_line, RepresentationLines}
 use Rattle.ess_grammar.specs.HeaderTexts.{end_line, next_representation_line, StatementLines, no_more_statements, next_statement_line}
 use Rattle.ess_grammar.specs.HeaderTexts.{header}
@@ -25,8 +26,10 @@ use Rattle.ess_print_laws.proofs.Statements.{stm-derived}
 use Rattle.ess_print_laws.proofs.Representations.{repr-derived}
 use Rattle.ess_print_laws.proofs.Appended.{text-behind, repr-appends}
 use Rattle.ess_translate_header_laws.specs.WrittenLines.{next_repr_text, reprs_text, reprs_line_text, reprs_line_texts, is_named}
-use Rattle.ess_translate_header_laws.specs.WrittenLines.{AreShallow}
-use Rattle.ess_translate_header_laws.specs.Laws.{WrittenHeadersAreRead}
+use Rattle.ess_translate_header_laws.specs.WrittenLines.{header_texts, ReadableHeader, AreShallow}
+use Rattle.ess_translate_header_laws.specs.HeadLines.{DerivesStatement, DerivesReprs}
+use Rattle.ess_translate_header_laws.specs.Headers.{AreWithinLimits}
+use Rattle.ess_translate_header_laws.specs.Laws.{WrittenHeadersAreRead, WrittenHeadersAreFound}
 
 -- ---- the pieces of a line
 
@@ -68,47 +71,65 @@ line-text a r rs = ap (λ t. codes "repr " ++ (a ++ (codes " " ++ t))) (reprs-te
 
 -- ---- lines
 
+-- No word of the line stands outside the subset.
+abbrev IsInside : Text → Type 0
+IsInside l = first_outside (lexed l) ≡ None
+
 -- What separate pieces spell is read.
 reads-pieces : (p : Printer) (P : List Token → Type 0) → Safe p → P (tokens_of (p [])) →
-    Reads (text_of (p [])) P × (first_outside (lexed (text_of (p []))) ≡ None)
+    Reads (text_of (p [])) P × IsInside (text_of (p []))
 reads-pieces p P s d = let q = s.law [] refl tt in ((tokens_of (p []), printed-tokens (p []) q, d), printed-inside (p []) q)
 
 -- The line of a statement.
-statement-line : (s : Stm) → ReadableStm s → too_deep (lexed (stm_text s)) ≡ None →
-    Reads (stm_text s) (λ ts. Statement (s ∷ []) ts []) × IsWithinLimits (stm_text s)
-statement-line s r d =
-    let x = reads-pieces (stm_pieces s) (λ ts. Statement (s ∷ []) ts []) (stm-safe s r) (stm-derived s r []) in (x.0, (x.1, d))
+statement-line : (s : Stm) → ReadableStm s → DerivesStatement (stm_text s) s × IsInside (stm_text s)
+statement-line s r = reads-pieces (stm_pieces s) (λ ts. Statement (s ∷ []) ts []) (stm-safe s r) (stm-derived s r [])
 
-named-line : (a : Text) (r : Repr) (rs : List Repr) → is_name_token a ≡ true → too_deep (lexed (reprs_line_text a (r ∷ rs))) ≡ None →
-    Reads (reprs_line_text a (r ∷ rs)) (RepresentationLine a (r ∷ rs)) × IsWithinLimits (reprs_line_text a (r ∷ rs))
-named-line a r rs h d =
+named-line : (a : Text) (r : Repr) (rs : List Repr) → is_name_token a ≡ true →
+    DerivesReprs (reprs_line_text a (r ∷ rs)) a (r ∷ rs) × IsInside (reprs_line_text a (r ∷ rs))
+named-line a r rs h =
     let x = reads-pieces (line_pieces a r rs) (RepresentationLine a (r ∷ rs)) (line-safe a r rs h)
     (representation_line (choices-derived r rs)) in
-    let e = line-text a r rs in
-    (subst (λ t. Reads t (RepresentationLine a (r ∷ rs))) e x.0, (subst (λ t. first_outside (lexed t) ≡ None) e x.1, d))
+    let e = line-text a r rs in (subst (λ t. DerivesReprs t a (r ∷ rs)) e x.0, subst IsInside e x.1)
 
 -- The line of a name.
-reprs-line : (a : Text) (rs : List Repr) → is_named a rs ≡ true → too_deep (lexed (reprs_line_text a rs)) ≡ None →
-    Reads (reprs_line_text a rs) (RepresentationLine a rs) × IsWithinLimits (reprs_line_text a rs)
-reprs-line a [] h d = cc
-reprs-line a (r ∷ rs) h d = named-line a r rs h d
+reprs-line : (a : Text) (rs : List Repr) → is_named a rs ≡ true → DerivesReprs (reprs_line_text a rs) a rs × IsInside (reprs_line_text a rs)
+reprs-line a [] h = cc
+reprs-line a (r ∷ rs) h = named-line a r rs h
 
 -- ---- all lines
 
 reprs-lines : (cs : Names (List Repr)) → list_all (λ c. is_named c.0 c.1) cs ≡ true →
-    AreShallow (reprs_line_texts cs ++ codes "end-header" ∷ []) →
-    RepresentationLines cs (reprs_line_texts cs ++ codes "end-header" ∷ [])
-reprs-lines [] h d = end_line
-reprs-lines (c ∷ cs) h d =
+    RepresentationLines cs (reprs_line_texts cs ++ codes "end-header" ∷ []) × Each (reprs_line_texts cs ++ codes "end-header" ∷ []) IsInside
+reprs-lines [] h = (end_line, (refl, tt))
+reprs-lines (c ∷ cs) h =
     let p = and_parts (is_named c.0 c.1) (list_all (λ c. is_named c.0 c.1) cs) h in
-    let x = reprs-line c.0 c.1 p.0 d.0 in next_representation_line x.0 x.1 (reprs-lines cs p.1 d.1)
+    let x = reprs-line c.0 c.1 p.0 in let more = reprs-lines cs p.1 in (next_representation_line x.0 more.0, (x.1, more.1))
 
 statement-lines : (ss : List Stm) (cs : Names (List Repr)) → ReadableStms ss → list_all (λ c. is_named c.0 c.1) cs ≡ true →
-    AreShallow (map stm_text ss ++ (reprs_line_texts cs ++ codes "end-header" ∷ [])) →
-    StatementLines ss cs (map stm_text ss ++ (reprs_line_texts cs ++ codes "end-header" ∷ []))
-statement-lines [] cs r h d = no_more_statements (reprs-lines cs h d)
-statement-lines (s ∷ ss) cs r h d = let x = statement-line s r.0 d.0 in next_statement_line x.0 x.1 (statement-lines ss cs r.1 h d.1)
+    StatementLines ss cs (map stm_text ss ++ (reprs_line_texts cs ++ codes "end-header" ∷ [])) ×
+    Each (map stm_text ss ++ (reprs_line_texts cs ++ codes "end-header" ∷ [])) IsInside
+statement-lines [] cs r h = let more = reprs-lines cs h in (no_more_statements more.0, more.1)
+statement-lines (s ∷ ss) cs r h =
+    let x = statement-line s r.0 in let more = statement-lines ss cs r.1 h in (next_statement_line x.0 more.0, (x.1, more.1))
 
--- Written lines of a header that can be read are read as that header.
+-- Written lines of a header that can be read are that header.
 pub written_headers : WrittenHeadersAreRead
-written_headers H r d = header (statement-lines H.statements H.reprs r.statements r.reprs d.1)
+written_headers H r = header (statement-lines H.statements H.reprs r.statements r.reprs).0
+
+within-limits : (ls : List Text) → Each ls IsInside → AreShallow ls → AreWithinLimits ls
+within-limits [] i d = tt
+within-limits (l ∷ ls) i d = ((i.0, d.0), within-limits ls i.1 d.1)
+
+-- They are within the limits where none of them is nested too deeply.
+pub written_within : (H : Header) → ReadableHeader H → AreShallow (header_texts H) → AreWithinLimits (header_texts H)
+written_within H r d = within-limits (header_texts H) (refl, (statement-lines H.statements H.reprs r.statements r.reprs).1) d
+
+-- So they stand first among themselves.
+pub written_found : WrittenHeadersAreFound
+written_found H r d = record {
+  own = header_texts H;
+  others = [];
+  all = sym (append-nil (header_texts H));
+  header = written_headers H r;
+  limits = written_within H r d;
+}

@@ -15,19 +15,27 @@ pub data HeadLine : Type 0 where
   reprs_line : Text → List Repr → HeadLine
   last_line other_line : HeadLine
 
--- The line is this statement.
+-- The rules derive this statement for the line.
+abbrev pub DerivesStatement : Text → Stm → Type 0
+DerivesStatement l s = Reads l (λ ts. Statement (s ∷ []) ts [])
+
+-- They derive the representations of this name for it.
+abbrev pub DerivesReprs : Text → Text → List Repr → Type 0
+DerivesReprs l a rs = Reads l (RepresentationLine a rs)
+
+-- The line is read as this statement: the rules derive it, and the line is within the limits.
 abbrev pub IsStatementLine : Text → Stm → Type 0
-IsStatementLine l s = Reads l (λ ts. Statement (s ∷ []) ts []) × IsWithinLimits l
+IsStatementLine l s = DerivesStatement l s × IsWithinLimits l
 
--- The line has the representations of this name.
+-- It is read as the representations of this name.
 abbrev pub IsReprsLine : Text → Text → List Repr → Type 0
-IsReprsLine l a rs = Reads l (RepresentationLine a rs) × IsWithinLimits l
+IsReprsLine l a rs = DerivesReprs l a rs × IsWithinLimits l
 
--- It is no statement.
+-- It isn't read as a statement.
 abbrev pub IsNoStatementLine : Text → Type 0
 IsNoStatementLine l = (s : Stm) → IsStatementLine l s → ⊥
 
--- It has the representations of no name.
+-- It isn't read as the representations of a name.
 abbrev pub IsNoReprsLine : Text → Type 0
 IsNoReprsLine l = (a : Text) (rs : List Repr) → IsReprsLine l a rs → ⊥
 
@@ -49,7 +57,7 @@ begins_with_language _ = false
 pub data Wanted : Type 0 where
   statements_wanted reprs_wanted : Wanted
 
--- The lines from a place of the header on, where these are wanted.
+-- The lines from a place of the header on, where these are wanted, however deeply they are nested.
 abbrev pub LinesFrom : Wanted → List Stm → Names (List Repr) → List Text → Type 0
 LinesFrom statements_wanted ss cs ls = StatementLines ss cs ls
 LinesFrom reprs_wanted ss cs ls = (ss ≡ []) × RepresentationLines cs ls

@@ -7,12 +7,14 @@ use Rattle.ess_semantics.specs.Order.{same_text}
 use Rattle.ess_semantics.specs.Names.{Names}
 use Rattle.ess_semantics.specs.Trees.{Repr, Dom}
 use Rattle.ess_semantics.specs.Kinds.{fits}
+use Rattle.ess_semantics.specs.Contexts.{Each}
 use Rattle.ess_semantics.specs.Judgements.{fault}
 use Rattle.ess_semantics.specs.Plans.{kept_names}
 use Rattle.ess_semantics.specs.ModelTrees.{Header, in_header}
 use Rattle.ess_grammar.specs.Words.{Token, number, prime_word, word, symbol, language_word, dot}
 use Rattle.ess_grammar.specs.Tokens.{Lexed, next_token, lexed}
 use Rattle.ess_grammar.specs.ModelTexts.{header_lines}
+use Rattle.ess_grammar.specs.Texts.{IsWithinLimits}
 use Rattle.ess_grammar.specs.HeaderTexts.{IsHeader}
 
 -- The tokens of a model's language line.
@@ -25,12 +27,17 @@ BeginsWithTokens [] l = Unit {0}
 BeginsWithTokens (t ∷ ts) (next_token u bytes p more) = (u ≡ t) × BeginsWithTokens ts more
 BeginsWithTokens (t ∷ ts) l = ⊥
 
--- The lines of this header stand first among these; other lines may stand behind them.
+-- Each line is within the limits of readers.
+abbrev pub AreWithinLimits : List Text → Type 0
+AreWithinLimits ls = Each ls IsWithinLimits
+
+-- The lines of this header stand first among these, each within the limits; other lines may stand behind them.
 pub record StandsFirst (H : Header) (lines : List Text) : Type 0 where
   pub own : List Text
   pub others : List Text
   pub all : lines ≡ own ++ others
   pub header : IsHeader H own
+  pub limits : AreWithinLimits own
 
 -- The text begins with the language line, and the comments under it with the lines of this header.
 pub record BeginsWith (text : Text) (H : Header) : Type 0 where

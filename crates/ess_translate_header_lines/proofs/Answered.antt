@@ -13,7 +13,7 @@ use Rattle.ess_translate_header_laws.specs.Headers.{language_line, BeginsWithTok
 use Rattle.ess_translate_header_laws.specs.Reading.{AreLinesOf, AreNoLines}
 use Rattle.ess_translate_header_laws.specs.WrittenLines.{header_texts, ReadableHeader, AreShallow}
 use Rattle.ess_translate_header_laws.proofs.WholeHeaders.{stands_first, other_version, no_lines_behind, no_lines, begins_with, no_header}
-use Rattle.ess_translate_header_laws.proofs.WrittenLines.{written_headers}
+use Rattle.ess_translate_header_laws.proofs.WrittenLines.{written_headers, written_found}
 use Rattle.ess_translate_header_lines.specs.declared.reading.HeaderLines.{HeaderLines}
 use Rattle.ess_translate_header_lines.specs.Views.{header_with}
 
@@ -37,11 +37,17 @@ language_first text lines (Err why) d e h = tt
 language_first text lines (Ok None) d e h = no_header text lines e h
 language_first text lines (Ok (Some l)) d e h = begins_with text (header_with l.statements l.reprs) lines d e h
 
--- Written lines of a header that can be read are read again as it.
+-- Written lines of a header that can be read are that header.
+pub written_header : (H : Header) (r : Result (List Text) NoMemory) → IfOk r (λ ls. ls ≡ header_texts H) → ReadableHeader H →
+    IfOk r (λ ls. IsHeader H ls)
+written_header H (Err why) e r = tt
+written_header H (Ok ls) e r = subst (λ ms. IsHeader H ms) (sym e) (written_headers H r)
+
+-- A reader finds it in them where none is nested too deeply.
 pub written_again : (H : Header) (r : Result (List Text) NoMemory) → IfOk r (λ ls. ls ≡ header_texts H) → ReadableHeader H →
-    IfOk r (λ ls. AreShallow ls → IsHeader H ls)
+    IfOk r (λ ls. AreShallow ls → StandsFirst H ls)
 written_again H (Err why) e r = tt
-written_again H (Ok ls) e r = λ d. subst (λ ms. IsHeader H ms) (sym e) (written_headers H r (subst (λ ms. AreShallow ms) e d))
+written_again H (Ok ls) e r = λ d. subst (λ ms. StandsFirst H ms) (sym e) (written_found H r (subst (λ ms. AreShallow ms) e d))
 
 -- Where no header's lines stand first.
 pub ruleset no_header_first = (other_version, no_lines)

@@ -7,6 +7,7 @@ ghost use Rattle.ess_grammar.specs.HeaderTexts.{IsHeader};
 ghost use Rattle.ess_print_laws.specs.Texts.{stm_text};
 ghost use Rattle.ess_parse.specs.NamedReprViews.{pure_named_reprs};
 ghost use Rattle.ess_translate_header_lines.specs.Views.{header_with};
+ghost use Rattle.ess_translate_header_laws.specs.Headers.{StandsFirst};
 ghost use Rattle.ess_translate_header_laws.specs.WrittenLines.{header_texts, ReadableHeader, AreShallow};
 ghost use Rattle.ess_translate_header_laws.specs.WrittenLines.{reprs_line_text, reprs_line_texts, reprs_text, next_repr_text};
 
@@ -17,16 +18,18 @@ use std::alloc::Global;
 
 /// The lines of the header with these statements and representations, each without the `$ ` at its begin in a model: its
 /// version, each statement as it is printed, each name with its representations, and the end. Where the header is one that can be
-/// read, its lines are read again as it, where none of them is nested too deeply. `NoMemory` where there is no room for them.
-#[tactic(auto, using(crate::proofs::Answered::written_again))]
+/// read, its lines are that header by the rules, and a reader finds it in them where none of them is nested too deeply. `NoMemory`
+/// where there is no room for them.
+#[tactic(auto, using(crate::proofs::Answered::written_header, crate::proofs::Answered::written_again))]
 pub fn write_header_lines(
     alloc: Global,
     stms: &[Stm],
     reprs: &[NamedReprs],
 ) -> Result<Row<Text>, NoMemory>
     ensures lines { IfOk result (λ ls. ls ≡ header_texts (header_with stms.now reprs.now)) }
-    ensures header { ReadableHeader (header_with stms.now reprs.now) →
-        IfOk result (λ ls. AreShallow ls → IsHeader (header_with stms.now reprs.now) ls) }
+    ensures header { ReadableHeader (header_with stms.now reprs.now) → IfOk result (λ ls. IsHeader (header_with stms.now reprs.now) ls) }
+    ensures found { ReadableHeader (header_with stms.now reprs.now) →
+        IfOk result (λ ls. AreShallow ls → StandsFirst (header_with stms.now reprs.now) ls) }
 {
     all_lines(alloc, stms, reprs)
 }

@@ -129,7 +129,7 @@ statement-whole (maximising_statement r) = ((tt, tt), tt)
 
 lines-whole : {ss : List Stm} {cs : Names (List Repr)} {ls : List Text} → StatementLines ss cs ls → Each ss IsWholeStm
 lines-whole (no_more_statements r) = tt
-lines-whole (next_statement_line r l more) = ((statement-whole r.2).0, lines-whole more)
+lines-whole (next_statement_line r more) = ((statement-whole r.2).0, lines-whole more)
 
 -- The domains of a header's statements are whole.
 pub header-whole : {H : Header} {ls : List Text} → IsHeader H ls → Each H.statements IsWholeStm

@@ -3,7 +3,7 @@ use Rattle.ess_core.specs.StatementViews.{pure_spec}
 use Rattle.ess_parse.specs.NamedReprViews.{pure_named_reprs}
 use Rattle.ess_models.specs.Modelled.{IsModelOf, IsModelled}
 use Rattle.conjure_modelling.proofs.WhatIsWritten.{checked}
-use Rattle.conjure_modelling.proofs.ReadAgain.{built_lines, all_written, all_unwritten}
+use Rattle.conjure_modelling.proofs.DerivedAgain.{built_lines, all_written, all_unwritten}
 use Rattle.conjure_modelling.proofs.written.written.Goals as goal
 
 -- src/written.rt
@@ -21,10 +21,10 @@ pub returns-in-Model-clause-ok : goal.returns-in-Model-clause-ok
 returns-in-Model-clause-ok c =
     let S = pure_spec c.args.typed.now.spec in
     let rs = map pure_named_reprs c.args.reprs.now in
-    all_written (λ text. text.items) S rs c.get.result.now c.printed-text.result c.requires.readable
+    all_written c.headers_stay_typed.ensures S rs c.get.result.now c.requires.readable c.requires.typed.well c.requires.represented
     (subst (IsModelOf S rs) (sym c.get.ensures)
     (subst (IsModelled S rs) c.in-Model.is (c.in_ok-model.ensures (checked c.args.typed.now c.requires.typed))))
-    c.printed-text.ensures.text c.printed-text.ensures.read
+    (λ text. text.items) c.printed-text.result c.printed-text.ensures.text c.printed-text.ensures.derived
 
 -- src/written.rt
 pub returns-in-Model-clause-refused : goal.returns-in-Model-clause-refused

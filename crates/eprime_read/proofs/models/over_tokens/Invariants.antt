@@ -7,7 +7,7 @@ use Rattle.ess_parse.proofs.AsciiTokens.{AreAscii}
 use Rattle.eprime_read_laws.specs.ModelMachine.{at_begin, model_step, model_finish}
 use Rattle.eprime_read.specs.Views.{view_machine, IsMachine}
 use Rattle.eprime_read.proofs.FitTokens.{AreFitTokens}
-use Rattle.eprime_read.proofs.models.run.Given as goal
+use Rattle.eprime_read.proofs.models.over_tokens.Given as goal
 
 abbrev pub invariant-loop-machine : goal.invariant-loop-machine
 invariant-loop-machine l =

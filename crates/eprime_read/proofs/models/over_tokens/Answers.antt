@@ -10,7 +10,7 @@ use Rattle.ess_parse.proofs.Turns.{turn}
 use Rattle.eprime_read_laws.specs.ModelMachine.{at_begin, model_step, model_finish}
 use Rattle.eprime_read.specs.Views.{view_machine, IsMachine}
 use Rattle.eprime_read.proofs.FitTokens.{AreFitTokens, lexed_fit, front_fit}
-use Rattle.eprime_read.proofs.models.run.Goals as goal
+use Rattle.eprime_read.proofs.models.over_tokens.Goals as goal
 
 pub loop-machine-init : goal.loop-machine-init
 loop-machine-init c =
@@ -20,7 +20,7 @@ loop-machine-init c =
           ∙ ap (λ s. run_over model_step model_finish (end_place c.args.text.now) (left c.new-lexer.result) s) (sym c.new-machine.ensures.stage);
       holds = c.new-machine.ensures.holds;
       ascii = subst AreAscii (sym c.new-lexer.ensures) (lexed-ascii c.args.text.now);
-      fit = subst AreFitTokens (sym c.new-lexer.ensures) (lexed_fit c.args.text.now (cc (c.in_ok-pass_first.ensures)));
+      fit = subst AreFitTokens (sym c.new-lexer.ensures) (lexed_fit c.args.text.now c.requires.unrefused c.requires.inside);
     }
 
 pub step-requires-clause-natural : goal.step-requires-clause-natural
