@@ -28,12 +28,13 @@ use Rattle.ess_bare_laws.proofs.PlainRules.{fires, no-list}
 use Rattle.ess_bare_laws.proofs.Rulings.{no-ruling, no-ruling-list}
 use Rattle.ess_bare_laws.proofs.Gathering.{no-gathering}
 use Rattle.ess_bare_laws.proofs.OrderRules.{no-order, no-order-list}
+use Rattle.ess_bare_laws.proofs.NumberRules.{no-number-rule, no-number-list}
 use Rattle.ess_bare_laws.proofs.Parts.{bare-part}
 use Rattle.ess_bare_laws.proofs.Fired.{stays-bare}
 use Rattle.ess_bare_laws.proofs.FiredKeep.{fired-keeps}
 use Rattle.ess_bare_laws.proofs.FiredScopes.{fired-scoped}
 use Rattle.ess_bare_laws.proofs.FiredNumbers.{fired-spells, part-spells}
-use Rattle.conjure_modelling.specs.ess_rules.Ruled.{IsRuled, Ruling, plainly, by_kind, gathering, in_order, supply_at, puts_source, ruled, new_source, with_new_source}
+use Rattle.conjure_modelling.specs.ess_rules.Ruled.{IsRuled, Ruling, plainly, by_kind, gathering, in_order, by_number, supply_at, puts_source, ruled, new_source, with_new_source}
 use Rattle.conjure_modelling.specs.ess_refine.Chains.{as_it_was, led_at, Leads}
 use Rattle.conjure_standing_laws.specs.BareLaws.{StaysBare, BareTreesStayBare}
 use Rattle.conjure_standing_laws.proofs.Binders.{at-part, fired-binds}
@@ -105,6 +106,7 @@ module _ (cells : Text → Option (Bool × ℕ)) where
   by-ruling s r (by_kind u) a b m f q = absurd (no-tree (sym (no-ruling cells s (marked_types r) r f u) ∙ q))
   by-ruling s r gathering a b m f q = absurd (no-tree (sym (no-gathering cells r f) ∙ q))
   by-ruling s r (in_order u) a b m f q = absurd (no-tree (sym (no-order cells s (marked_types r) r u f) ∙ q))
+  by-ruling s r (by_number u) a b m f q = absurd (no-tree (sym (no-number-rule cells r s (marked_types r) u f) ∙ q))
 
   at-list : (s : Supply) (g : Names Ty) (r t : Names Bool) (u : Ruling) (e b : Ex) (gs : Gens) → Ranging cells r gs t →
       ruled s g u (comp_ex e gs) ≡ Some b → ⊥
@@ -112,6 +114,7 @@ module _ (cells : Text → Option (Bool × ℕ)) where
   at-list s g r t (by_kind u) e b gs k q = no-tree (sym (no-ruling-list cells s g r e k u) ∙ q)
   at-list s g r t gathering e b gs k q = no-tree q
   at-list s g r t (in_order u) e b gs k q = no-tree (sym (no-order-list cells s g r u e k) ∙ q)
+  at-list s g r t (by_number u) e b gs k q = no-tree (sym (no-number-list s g u e gs) ∙ q)
 
   -- The rule at the tree itself.
   at-itself : (n : ℕ) (g : Names Ty) (a b : Ex) (k : ℕ) (i : IsRuled n g a b k) → ((j : ℕ) → (with_new_source j a).0 ≡ a) →

@@ -10,7 +10,7 @@ use Rattle.ess_refine_laws.specs.Copies.{opposite_of}
 use Rattle.ess_refine_laws.specs.AllRules.{Rule, least_under_a_condition}
 use Rattle.conjure_model_laws.specs.ToldApart.{told}
 use Rattle.ess_chain_names_laws.proofs.ToldNames.{ex-up}
-use Rattle.conjure_modelling.specs.ess_rules.Ruled.{Ruling, plainly, by_kind, gathering, in_order, behind_copy, behind_names, behind_ruling, IsRuled}
+use Rattle.conjure_modelling.specs.ess_rules.Ruled.{Ruling, plainly, by_kind, gathering, in_order, by_number, behind_copy, behind_names, behind_ruling, IsRuled}
 use Rattle.conjure_modelling.specs.ess_refine.Chains.{as_it_was, led_at, Leads}
 
 copy-up : (j : ℕ) (e : Ex) → j ≤ behind_copy j e
@@ -30,6 +30,7 @@ ruling-up j (plainly u) e = names-up j u e
 ruling-up j (by_kind u) e = le_refl j
 ruling-up j gathering e = le_refl j
 ruling-up j (in_order u) e = le_refl j
+ruling-up j (by_number u) e = le_refl j
 
 further : (n k b m : ℕ) → n + 3 + k ≤ b → b ≤ m → suc n ≤ m
 further n k b m p q = omega (arith, p, q)

@@ -9,7 +9,7 @@ use Rattle.ess_semantics.specs.Types.{Ty}
 use Rattle.ess_semantics.specs.NamesAt.{names_at}
 use Rattle.ess_grammar.specs.Models.{Scope}
 use Rattle.conjure_modelling.specs.ess_refine.Chains.{as_it_was, led_at, Leads}
-use Rattle.conjure_modelling.specs.ess_rules.Ruled.{IsRuled, Ruling, plainly, by_kind, gathering, in_order, supply_at, puts_source, ruled, with_new_source, root_of}
+use Rattle.conjure_modelling.specs.ess_rules.Ruled.{IsRuled, Ruling, plainly, by_kind, gathering, in_order, by_number, supply_at, puts_source, ruled, with_new_source, root_of}
 use Rattle.conjure_modelling.specs.ess_model_trees.Written.{written_for, ComesFrom}
 use Rattle.ess_simplify_laws.specs.Simplifying.{simplified}
 use Rattle.conjure_model_laws.specs.Printed.{printed}
@@ -21,6 +21,7 @@ use Rattle.ess_flat_laws.proofs.OpenRules as O
 use Rattle.ess_open_rules_laws.specs.OpenRules.{of_kind, of_opening}
 use Rattle.ess_gathered_laws.specs.GatheredConditions.{conditions_gathered}
 use Rattle.ess_ordered_flat_laws.proofs.FlatOrdered as R
+use Rattle.ess_ordered_flat_laws.proofs.FlatNumbered as N
 use Rattle.ess_flat_trees_laws.proofs.FlatTrees.{keyed-flat, printed-flat}
 
 no-tree : {e : Ex} → None ≡ Some e → ⊥
@@ -85,6 +86,7 @@ module _ (cells : Text → Option Bool) where
       by (by_kind (of_opening u)) = O.no-rule cells (supply_at n r.count) g f u
       by gathering = no-gathering f
       by (in_order u) = R.no-order cells (supply_at n r.count) g u f
+      by (by_number u) = N.no-number-rule cells (supply_at n r.count) g u f
 
   -- So a chain of rules leads to the tree itself.
   leads-nowhere : (n : ℕ) (g : Names Ty) (old last : Ex) (k : ℕ) (m : Bool) → F old m → Leads IsRuled n g old last k → last ≡ old

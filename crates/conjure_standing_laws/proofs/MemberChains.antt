@@ -10,7 +10,7 @@ use Rattle.ess_refine_laws.specs.AllRules.{rewrite}
 use Rattle.ess_open_rules_laws.specs.OpenRules.{kind_ruled}
 use Rattle.ess_grammar.specs.Models.{Scope}
 use Rattle.conjure_modelling.specs.ess_refine.Chains.{as_it_was, led_at, Leads}
-use Rattle.conjure_modelling.specs.ess_rules.Ruled.{IsRuled, Ruling, plainly, by_kind, gathering, in_order, supply_at, puts_source, ruled, with_new_source, root_of}
+use Rattle.conjure_modelling.specs.ess_rules.Ruled.{IsRuled, Ruling, plainly, by_kind, gathering, in_order, by_number, supply_at, puts_source, ruled, with_new_source, root_of}
 use Rattle.conjure_modelling.specs.ess_model_trees.Written.{written_for, ComesFrom}
 use Rattle.ess_member_trees_laws.specs.PartSteps.{Step}
 use Rattle.ess_member_trees_laws.specs.Memberships.{Literal, a_number, a_truth, Bound, at_number, at_cell, Axis, truths, numbers, OverDomain, a_cell, a_bare, an_it, Family, as_asked, asked, Part, literal_part, bound_part, name_part, view_part, asked_part, cell_part, named_part, it_part, items_of_set, set_part, items_where, where_part, bare_items, bare_part, bare_both, it_both, items_bare, with_bare_part, items_it, with_it_part, list_part, listed_part, Becomes}
@@ -18,6 +18,7 @@ use Rattle.ess_member_trees_laws.proofs.AllRules as A
 use Rattle.ess_member_trees_laws.proofs.PartSteps.{part-step}
 use Rattle.ess_member_trees_laws.proofs.Closed.{family-step}
 use Rattle.ess_ordered_member_laws.proofs.MembershipOrder as R
+use Rattle.ess_ordered_member_laws.proofs.MembershipNumbers as N
 use Rattle.ess_member_rules_laws.specs.WrittenForms.{Written}
 use Rattle.ess_member_rules_laws.proofs.Forms.{forms}
 use Rattle.conjure_model_laws.specs.Printed.{printed_name}
@@ -83,6 +84,7 @@ module _ (n : Text) (D : Dom) (L : Ex) (ax : Axis D) (l : Literal L) where
           (A.by-kind n D L ax l (supply_at r.n r.ruled.count) g u a p) e
       by gathering e = absurd (no-tree (sym (A.gathered n D L ax l g a p) ∙ e))
       by (in_order u) e = absurd (no-tree (sym (R.no-order n D L l (supply_at r.n r.ruled.count) g ax u p) ∙ e))
+      by (by_number u) e = absurd (no-tree (sym (N.no-number-rule n D L l (supply_at r.n r.ruled.count) g u p) ∙ e))
 
   -- A chain leads from a tree of the membership to one.
   leads-family : (k : ℕ) (g : Names Ty) (old last : Ex) (m : ℕ) → Family n D L old → Leads IsRuled k g old last m → Family n D L last

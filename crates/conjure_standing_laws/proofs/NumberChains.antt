@@ -12,11 +12,12 @@ use Rattle.ess_keys_laws.specs.Keyed.{nothing_around, keyed}
 use Rattle.ess_open_rules_laws.specs.OpenRules.{of_kind, of_opening}
 use Rattle.conjure_model_laws.specs.ToldApart.{told}
 use Rattle.conjure_model_laws.specs.Printed.{printed}
-use Rattle.conjure_modelling.specs.ess_rules.Ruled.{IsRuled, Ruling, plainly, by_kind, gathering, in_order, supply_at, puts_source, ruled, with_new_source, root_of}
+use Rattle.ess_number_rest_laws.proofs.Uncounted.{uncounted-operands-rest}
+use Rattle.conjure_modelling.specs.ess_rules.Ruled.{IsRuled, Ruling, plainly, by_kind, gathering, in_order, by_number, supply_at, puts_source, ruled, with_new_source, root_of}
 use Rattle.conjure_modelling.specs.ess_refine.Chains.{as_it_was, led_at, Leads}
 use Rattle.conjure_modelling.specs.ess_model_trees.Written.{written_for, ComesFrom}
 use Rattle.conjure_modelling.specs.ess_model_written.DeclarationsWritten.{BoundComes}
-use Rattle.conjure_standing_laws.proofs.NumberTerms.{OfNumerals, digits, plus, less, power, part-of-numerals, no-plain-rule, no-kind-rule, no-open-rule, no-ordered-rule, no-gathering}
+use Rattle.conjure_standing_laws.proofs.NumberTerms.{OfNumerals, digits, plus, less, power, part-of-numerals, no-plain-rule, no-kind-rule, no-open-rule, no-ordered-rule, operands-uncounted, no-gathering}
 
 -- ---- rules
 
@@ -46,6 +47,7 @@ not-ruled {a} w n g b k r = no-tree (sym (by r.rule) ∙ sym (ap (ruled (supply_
     by (by_kind (of_opening u)) = no-open-rule (supply_at n r.count) g w u
     by gathering = no-gathering w
     by (in_order u) = no-ordered-rule (supply_at n r.count) g w u
+    by (by_number u) = uncounted-operands-rest (supply_at n r.count) g u a (operands-uncounted w)
 
 -- A chain of rules leads to the term itself.
 pub leads-nowhere : (n : ℕ) (g : Names Ty) (old last : Ex) (k : ℕ) → OfNumerals old → Leads IsRuled n g old last k → last ≡ old

@@ -17,6 +17,7 @@ use Rattle.ess_gathered_laws.specs.GatheredConditions.{conditions_gathered}
 use Rattle.ess_ordered_laws.specs.NumberedItems.{ordered_lookup}
 use Rattle.ess_ordered_laws.specs.PickedSources.{picked_source}
 use Rattle.ess_ordered_laws.specs.OrderedRules.{OrderedRule, an_item, of_an_item, source_by_indices, source_of_an_item, keeps_order, operand_lookup, over_operand, at_operand, ordered_rewrite}
+use Rattle.ess_number_rest_laws.specs.Uncounted.{Uncounted, OperandsUncounted}
 
 -- A term of numerals.
 pub data OfNumerals : Ex → Type 0 where
@@ -174,6 +175,20 @@ module _ (s : Supply) (g : Names Ty) where
   no-ordered-rule (plus w v) source_of_an_item = refl
   no-ordered-rule (less w v) source_of_an_item = refl
   no-ordered-rule (power w v) source_of_an_item = refl
+
+-- One is no comprehension.
+isnt-counted : {e : Ex} → OfNumerals e → Uncounted e
+isnt-counted digits = tt
+isnt-counted (plus w v) = tt
+isnt-counted (less w v) = tt
+isnt-counted (power w v) = tt
+
+-- Nor is an operand of one, so that none of sources whose items are counted fires.
+pub operands-uncounted : {e : Ex} → OfNumerals e → OperandsUncounted e
+operands-uncounted digits = tt
+operands-uncounted (plus w v) = (isnt-counted w, isnt-counted v)
+operands-uncounted (less w v) = (isnt-counted w, isnt-counted v)
+operands-uncounted (power w v) = (isnt-counted w, isnt-counted v)
 
 -- No conditions are gathered at one.
 pub no-gathering : {e : Ex} → OfNumerals e → conditions_gathered e ≡ None

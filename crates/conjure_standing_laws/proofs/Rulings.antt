@@ -6,7 +6,7 @@ use Rattle.ess_semantics.specs.Types.{Ty}
 use Rattle.ess_refine_laws.specs.AllRules.{Rule, Supply}
 use Rattle.ess_seen_laws.specs.MayFire.{CountsMembers}
 use Rattle.ess_seen_rules_laws.specs.Laws.{NoneFires}
-use Rattle.conjure_modelling.specs.ess_rules.Ruled.{IsRuled, Ruling, plainly, by_kind, gathering, in_order, compares_sets, MayRule, supply_at, puts_source, ruled, with_new_source}
+use Rattle.conjure_modelling.specs.ess_rules.Ruled.{IsRuled, Ruling, plainly, by_kind, gathering, in_order, by_number, compares_sets, MayRule, supply_at, puts_source, ruled, with_new_source}
 use Rattle.conjure_standing_laws.proofs.Roots.{StaysItself}
 
 no-both : true ≡ false → ⊥
@@ -28,6 +28,7 @@ none-ruled e n s g (plainly u) = n.plainly s g u
 none-ruled e n s g (by_kind u) = n.by_kind s g u
 none-ruled e n s g gathering = n.gathering
 none-ruled e n s g (in_order u) = n.in_order s g u
+none-ruled e n s g (by_number u) = n.by_number s g u
 
 -- The rule at the tree itself.
 pub at-itself : (n : ℕ) (g : Names Ty) (a b : Ex) (k : ℕ) (i : IsRuled n g a b k) → StaysItself a →

@@ -36,7 +36,7 @@ use Rattle.ess_seen_rules_laws.specs.Laws.{FewRulesFire}
 use Rattle.ess_seen_stays_laws.specs.Laws.{StaysSeen as RulesLeaveSeen}
 use Rattle.ess_seen_values_laws.specs.Laws.{IsMet, StaysAlike, SeenRulesKeep, PartsOfSeenTrees as PartsAreTyped}
 use Rattle.ess_seen_names_laws.specs.Laws.{none, KeepsNames, SeenRulesKeepNames, NamesAtParts}
-use Rattle.conjure_modelling.specs.ess_rules.Ruled.{IsRuled, Ruling, plainly, by_kind, gathering, in_order, MayRule, supply_at, ruled}
+use Rattle.conjure_modelling.specs.ess_rules.Ruled.{IsRuled, Ruling, plainly, by_kind, gathering, in_order, by_number, MayRule, supply_at, ruled}
 use Rattle.conjure_modelling.specs.ess_refine.Chains.{as_it_was, led_at, Leads}
 use Rattle.conjure_standing_laws.specs.SeenLaws.{IsSeenWhole, StaysSeen, SeenTreesStaySeen}
 use Rattle.conjure_standing_laws.proofs.Roots.{scalar-stays, set-stays, list-stays, still-stays}
@@ -172,6 +172,7 @@ module _ (K : Known) (cells : Text → Option (Bool × List ℕ)) where
         }
     made i gathering p q = absurd (no-tree (sym (K.few.gathering cells t a k h) ∙ q))
     made i (in_order u) p q = absurd (no-tree (sym (K.few.in_order cells (supply_at s i) t u a k h) ∙ q))
+    made i (by_number u) p q = absurd (no-tree (sym (K.few.by_number cells (supply_at s i) t u a k h) ∙ q))
 
     module _ (M : Made) where
       -- Wherever the context of the part holds.

@@ -10,6 +10,7 @@ pub mod PlainRules
 pub mod KindRules
 pub mod OpenRules
 pub mod OrderRules
+pub mod NumberRules
 pub mod Rulings
 pub mod Gathering
 -- Their parts

@@ -18,6 +18,7 @@ use Rattle.ess_refine_laws.specs.SpellingEnds.{numbers_of_tree}
 use Rattle.ess_gathered_laws.specs.GatheredConditions.{conditions_gathered}
 use Rattle.ess_open_rules_laws.specs.OpenRules.{KindRuling, kind_ruled}
 use Rattle.ess_ordered_laws.specs.OrderedRules.{OrderedRule, ordered_rewrite}
+use Rattle.ess_numbered_laws.specs.NumberRules.{NumberRule, number_rewrite}
 use Rattle.ess_values_along_laws.specs.Valued.{Valued}
 use Rattle.ess_bare_laws.specs.Bare.{Bare, Ranging}
 use Rattle.ess_bare_laws.specs.BareParts.{marked_types, StandsIn}
@@ -30,7 +31,7 @@ PartsOfBareTrees = (cells : Text → Option (Bool × ℕ)) (r : Names Bool) (c :
     StandsIn cells c r e m
 
 -- At the root of a bare tree only four rules fire, whatever they take: of those that read no kind. None fires that reads the kind of a
--- view, opens a source, gathers conditions or asks for an order. At a list of bare items none fires at all.
+-- view, opens a source, gathers conditions, asks for an order or counts the items of a source. At a list of bare items none fires at all.
 pub record FewRulesFire : Type 0 where
   pub plainly : (cells : Text → Option (Bool × ℕ)) (s : Supply) (r : Names Bool) (u : Rule) (e f : Ex) (m : Bool) → Bare cells r e m →
       rewrite s (marked_types r) u e ≡ Some f → Fires e f m
@@ -40,10 +41,13 @@ pub record FewRulesFire : Type 0 where
       conditions_gathered e ≡ None
   pub in_order : (cells : Text → Option (Bool × ℕ)) (s : Supply) (r : Names Bool) (u : OrderedRule) (e : Ex) (m : Bool) →
       Bare cells r e m → ordered_rewrite s (marked_types r) u e ≡ None
+  pub by_number : (cells : Text → Option (Bool × ℕ)) (s : Supply) (r : Names Bool) (u : NumberRule) (e : Ex) (m : Bool) →
+      Bare cells r e m → number_rewrite s (marked_types r) u e ≡ None
   pub at_a_list : (cells : Text → Option (Bool × ℕ)) (s : Supply) (g : Names Ty) (r t : Names Bool) (e : Ex) (gs : Gens) →
       Ranging cells r gs t → ((u : Rule) → rewrite s g u (comp_ex e gs) ≡ None)
       × ((u : KindRuling) → kind_ruled s g u (comp_ex e gs) ≡ None)
       × (conditions_gathered (comp_ex e gs) ≡ None) × ((u : OrderedRule) → ordered_rewrite s g u (comp_ex e gs) ≡ None)
+      × ((u : NumberRule) → number_rewrite s g u (comp_ex e gs) ≡ None)
 
 -- What such a rule makes of a bare tree is bare and has the same mark; it keeps the meaning and that parts have values, where names have
 -- values of their marks; it keeps scopes, and spells no other numbers. A part that spells no others leaves those of the

@@ -1,4 +1,4 @@
--- Rules of each sort keep what is given, and comprehensions in order where order counts.
+-- Rules of each sort but that of counted sources keep what is given, and comprehensions in order where order counts.
 use Rattle.std.proofs.Common.{◌≡◌, Bool, Some}
 use Rattle.ess_semantics.specs.Values.{Text}
 use Rattle.ess_semantics.specs.Names.{Names}

@@ -1,4 +1,4 @@
--- Rules of all sorts
+-- Rules of all sorts but that of counted sources
 pub mod GivenRulings
 -- Reserved names by their roles
 pub mod Roles

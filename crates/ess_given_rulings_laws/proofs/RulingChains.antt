@@ -1,4 +1,5 @@
--- Chains of all rules with reserved names keep what is given, and comprehensions in order where order counts.
+-- Chains of all rules but those of counted sources, with reserved names, keep what is given, and comprehensions in order where order
+-- counts.
 use Rattle.std.proofs.Common.{◌≡◌, refl, ◌∙◌, ℕ, suc, zero, ◌≤◌, ◌^◌, Bool, true, arith}
 use Rattle.ess_semantics.specs.Values.{Text}
 use Rattle.ess_semantics.specs.Names.{Names}

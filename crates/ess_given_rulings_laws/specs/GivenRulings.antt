@@ -1,5 +1,6 @@
--- What is given in domains, and comprehensions in order where order counts, stay along chains of all rules: those that read no kind, those
--- that do, those of openings, the one that gathers conditions, and those of comprehensions whose items have an order.
+-- What is given in domains, and comprehensions in order where order counts, stay along chains of all rules but those of counted sources:
+-- those that read no kind, those that do, those of openings, the one that gathers conditions, and those of comprehensions whose items have
+-- an order.
 use Rattle.std.specs.Prelude.{◌≡◌, Bool, true, Option, Some}
 use Rattle.ess_semantics.specs.Values.{Text}
 use Rattle.ess_semantics.specs.Names.{Names}
@@ -18,7 +19,7 @@ use Rattle.ess_given_kind_steps_laws.specs.ess_given_kinds_laws.GivenKinds.{NewO
 use Rattle.ess_given_ordered_laws.specs.ess_given_opened_laws.OpenedStays.{NewOpened}
 use Rattle.ess_given_ordered_laws.specs.OrderedNames.{NewOrdered}
 
--- A rule of each sort.
+-- A rule of each sort but that of counted sources.
 pub data GivenRuling : Type 0 where
   plainly : Rule → GivenRuling
   by_kind : KindRuling → GivenRuling
@@ -51,7 +52,7 @@ pub record StaysInRule (u : Text → Bool) (a b : Ex) : Type 0 where
   pub ordered : GivenIn u a → Ordered u a → Ordered u b
   pub in_its_place : GivenIn u a → Ordered u a → in_order u a ≡ true → in_order u b ≡ true
 
--- So a rule of any sort does with the root that it rewrites.
+-- So a rule of any of these sorts does with the root that it rewrites.
 abbrev pub RulingsKeepGiven : Type 0
 RulingsKeepGiven = (u : Text → Bool) (s : Supply) (g : Names Ty) (r : GivenRuling) (a b : Ex) → made_by s g r a ≡ Some b → Counts u →
     Takes u s g r a → StaysInRule u a b

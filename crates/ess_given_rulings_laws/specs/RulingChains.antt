@@ -1,4 +1,5 @@
--- What is given in domains, and comprehensions where order counts, stay along chains of all rules with reserved names.
+-- What is given in domains, and comprehensions where order counts, stay along chains of all rules but those of counted
+-- sources, with reserved names.
 use Rattle.std.specs.Prelude.{◌≡◌, Bool, ℕ, suc, ◌+◌, ◌≤◌, ◌^◌, Some}
 use Rattle.ess_semantics.specs.Values.{Text}
 use Rattle.ess_semantics.specs.Names.{Names}

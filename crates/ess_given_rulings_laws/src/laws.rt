@@ -1,9 +1,9 @@
-//! Laws of what is given, by rules of all sorts, each the contract of a function that does nothing.
+//! Laws of what is given, by rules of all sorts but that of counted sources, each the contract of a function that does nothing.
 
 ghost use Rattle.ess_given_rulings_laws.specs.GivenRulings.{RulingsKeepGiven};
 ghost use Rattle.ess_given_rulings_laws.specs.RulingChains.{RulingChainsKeepGiven};
 
-/// What is given in domains stays by each rule of any sort, and so do comprehensions in order where order counts.
+/// What is given in domains stays by each rule of any of these sorts, and so do comprehensions in order where order counts.
 pub fn rulings_keep_given()
     ensures { RulingsKeepGiven }
 {}

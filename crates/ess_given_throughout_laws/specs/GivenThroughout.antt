@@ -1,4 +1,5 @@
--- What is given in conditions stays along chains of all rules, from judged trees of a specification to refined trees over tables.
+-- What is given in conditions stays along chains of all rules but those of counted sources, from judged trees of a specification to refined
+-- trees over tables.
 use Rattle.std.specs.Prelude.{◌≡◌, Bool, true, [], ℕ, ◌≤◌, ◌^◌}
 use Rattle.ess_semantics.specs.Values.{Text}
 use Rattle.ess_semantics.specs.Names.{Names}
@@ -23,11 +24,11 @@ use Rattle.ess_given_specifications_laws.specs.JudgedOrder.{ShowsOrdered}
 use Rattle.ess_given_rulings_laws.specs.RulingChains.{RulingChain}
 
 -- For each set t of names, with the one that sizes bind: each cell in a domain or a condition of a refined tree in which no condition can
--- leave is one of t, or has a reserved name, which no table has. So it is where a chain of rules of all sorts ends that begins with a tree
--- in which what is given is given, for t, and comprehensions are in order where order counts; with the tree told apart whose numbers in
--- domains, and conditions where order counts, are fixed at their places, where t are the names that are fixed; and with a judged tree of a
--- specification, resolved, told apart and shown over its views, where t has the tables of givens. The chain is one for whatever names grow
--- from t by reserved ones.
+-- leave is one of t, or has a reserved name, which no table has. So it is where a chain of rules of all sorts, but of those of counted
+-- sources, ends that begins with a tree in which what is given is given, for t, and comprehensions are in order where order counts; with
+-- the tree told apart whose numbers in domains, and conditions where order counts, are fixed at their places, where t are the names that
+-- are fixed; and with a judged tree of a specification, resolved, told apart and shown over its views, where t has the tables of givens.
+-- The chain is one for whatever names grow from t by reserved ones.
 pub record GivenThroughout : Type 0 where
   pub along : (t : Text → Bool) (j n m : ℕ) (g : Names Ty) (old new : Ex) → Counts t → HasNoneFrom n t → SparesAll n old → GivenIn t old →
       Ordered t old → RulingChain j t n g old new m → m ≤ 2 ^ 64 → is_refined new ≡ true → SettledIn new → AllGiven n m t new

@@ -1,10 +1,10 @@
-//! Laws of what is given, for all rules together, each the contract of a function that does nothing.
+//! Laws of what is given, for all rules but those of counted sources together, each the contract of a function that does nothing.
 
 ghost use Rattle.ess_given_throughout_laws.specs.GivenThroughout.{GivenThroughout};
 ghost use Rattle.ess_given_throughout_laws.specs.CountedAxes.{AxesCountFixed};
 
-/// What is given in conditions stays: from each judged tree of a specification chains of rules of all sorts end with cells of givens alone
-/// in conditions and domains.
+/// What is given in conditions stays: from each judged tree of a specification chains of rules of all sorts, but of those of counted
+/// sources, end with cells of givens alone in conditions and domains.
 pub fn given_stays_throughout()
     ensures { GivenThroughout }
 {}

@@ -1,4 +1,6 @@
 -- Terms that pick nothing
 pub mod PicksNothing
--- Trees of a membership
+-- Trees of a membership and rules of comprehensions in order
 pub mod MembershipOrder
+-- Trees of a membership and rules of counted sources
+pub mod MembershipNumbers

@@ -1,2 +1,4 @@
--- Trees of a membership
+-- Trees of a membership have no comprehension in order
 pub mod MembershipOrder
+-- Nor one over a source whose items are counted
+pub mod MembershipNumbers

@@ -25,7 +25,7 @@ use Rattle.ess_ordered_names_laws.proofs.NamesOfAxes.{told-axis-has}
 
 module _ (u : Text → Bool) where
   -- Both parts of the generators have such names.
-  abbrev OpenedHas : Option Opened → Type 0
+  abbrev pub OpenedHas : Option Opened → Type 0
   OpenedHas None = Unit {0}
   OpenedHas (Some t) = GensNamesHave u t.before × GensNamesHave u t.after
 
@@ -34,7 +34,8 @@ module _ (u : Text → Bool) where
   opened-behind f k None h = tt
   opened-behind f k (Some t) h = (k t.before h.0, h.1)
 
-  opened-names : (gs : Gens) → GensNamesHave u gs → OpenedHas (at_first_open gs)
+  -- So have both parts of generators that have them.
+  pub opened-names : (gs : Gens) → GensNamesHave u gs → OpenedHas (at_first_open gs)
   opened-names no_gens h = tt
   opened-names (over p d gs) h =
       go (is_plain_over p d) (opened-behind (over p d) (λ hs k. (h.0, h.1, k)) (at_first_open gs) (opened-names gs h.2))
@@ -74,7 +75,8 @@ module _ (u : Text → Bool) where
   before-names gs h (Some (comp_ex e ks)) k = (k.0, append-names u gs ks h k.1)
   before-names gs h (Some _) k = tt
 
-  behind-names : (r : Gens → Ex → Option Ex) → ((gs : Gens) (e : Ex) → NamesHave u e → Answers u (r gs e)) → (e : Ex) → NamesHave u e →
+  -- What a rule makes at the first generator that isn't plain has them, where it does so at any.
+  pub behind-names : (r : Gens → Ex → Option Ex) → ((gs : Gens) (e : Ex) → NamesHave u e → Answers u (r gs e)) → (e : Ex) → NamesHave u e →
       Answers u (behind_plain r e)
   behind-names r f (comp_ex e gs) h = go (at_first_open gs) (opened-names gs h.1)
     where

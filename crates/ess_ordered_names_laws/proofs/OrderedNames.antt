@@ -41,7 +41,8 @@ nth-source P (more_exs a es) (suc zero) h = h.0
 nth-source P (more_exs a es) (suc (suc k)) h = nth-source P es (suc k) h.1
 
 module _ (u : Text → Bool) where
-  either : (o p : Option Ex) → Answers u o → Answers u p → Answers u (or_else o p)
+  -- Of two answers, the first that is there.
+  pub either : (o p : Option Ex) → Answers u o → Answers u p → Answers u (or_else o p)
   either None p h k = k
   either (Some e) p h k = h
 

@@ -1,4 +1,4 @@
--- Each rule of comprehensions whose items have an order that fires is one of all rules.
+-- Each rule of comprehensions whose items have an order, or are counted, that fires is one of all rules.
 use Rattle.std.proofs.Common.{◌≡◌, refl, sym, ap, ◌∙◌, Option, Some}
 use Rattle.std.specs.Prelude.{option_map}
 use Rattle.ess_semantics.specs.Names.{Names}
@@ -9,9 +9,11 @@ use Rattle.ess_core_nodes.specs.NodeViews.{pure_node}
 use Rattle.ess_refine_laws.specs.AllRules.{Supply}
 use Rattle.ess_ordered_laws.specs.IndexedSources.{indexed_behind}
 use Rattle.ess_ordered_laws.specs.OrderedRules.{OrderedRule, source_by_indices, ordered_rewrite}
+use Rattle.ess_numbered_laws.specs.NumberRules.{NumberRule, number_rewrite}
 use Rattle.ess_rules_ordered.specs.Supplies.{supply_with}
 use Rattle.ess_rules_ordered.proofs.SuppliesAlike.{takes-four}
-use Rattle.ess_rules.specs.Ruled.{in_order}
+use Rattle.ess_rules_numbered.proofs.NumbersAlike.{numbers-take_four}
+use Rattle.ess_rules.specs.Ruled.{in_order, by_number}
 use Rattle.ess_rules.specs.Supplies.{IsRewritten}
 
 -- One that takes four parts of the supply.
@@ -25,3 +27,10 @@ ruled_in_order s g r a o x h e =
 pub ruled_by_indices : (s : Supply) (g : Names Ty) (a : Ex) (o : Option Node) (x : Node)
     → option_map pure_node o ≡ indexed_behind g s.one a → o ≡ Some x → IsRewritten s g a (Some (pure_node x))
 ruled_by_indices s g a o x h e = (in_order source_by_indices, sym h ∙ ap (option_map pure_node) e, λ j. refl, tt, refl)
+
+-- One by the numbers of items, which takes four.
+pub ruled_by_number : (s : Supply) (g : Names Ty) (r : NumberRule) (a : Ex) (o : Option Node) (x : Node)
+    → option_map pure_node o ≡ number_rewrite (supply_with s.one s.other s.third s.parts) g r a → o ≡ Some x
+    → IsRewritten s g a (Some (pure_node x))
+ruled_by_number s g r a o x h e =
+    (by_number r, sym (h ∙ numbers-take_four s g r a) ∙ ap (option_map pure_node) e, λ j. refl, tt, refl)

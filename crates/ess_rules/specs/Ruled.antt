@@ -1,6 +1,6 @@
 -- The rules as the program uses them: with reserved names from a number on, index domains as the form of a matrix tells them, and the
 -- source told apart whose term a rule puts in. Beside those of the two lists there is one that gathers conditions, and there are those of
--- comprehensions whose items have an order.
+-- comprehensions whose items have an order, and of sources whose items are counted.
 use Rattle.std.specs.Prelude.{◌≡◌, ◌&&◌, Bool, true, false, if◌then◌else◌, ℕ, zero, suc, ◌+◌, ◌≤◌, List, [], ◌∷◌, Option, Some, None, is_some}
 use Rattle.ess_semantics.specs.Values.{Text}
 use Rattle.ess_semantics.specs.Names.{Names}
@@ -16,6 +16,7 @@ use Rattle.ess_open_rules_laws.specs.OpenGenerators.{is_plain_over, has_no_sourc
 use Rattle.ess_open_rules_laws.specs.OpenRules.{KindRuling, kind_ruled, puts_in}
 use Rattle.ess_gathered_laws.specs.GatheredConditions.{conditions_gathered}
 use Rattle.ess_ordered_laws.specs.OrderedRules.{OrderedRule, ordered_rewrite}
+use Rattle.ess_numbered_laws.specs.NumberRules.{NumberRule, number_rewrite}
 use Rattle.conjure_model_laws.specs.ToldApart.{reserved, told_apart, told}
 use Rattle.ess_kind_rules.specs.Supplies.{told_axis}
 
@@ -67,14 +68,16 @@ with_new_source j (node_ex m (word f) (more_exs (comp_ex e gs) no_exs)) =
 with_new_source j (comp_ex e gs) = (comp_ex e (new_source j gs).0, (new_source j gs).1)
 with_new_source j e = (e, j)
 
--- ---- rules of both sorts
+-- ---- rules of all sorts
 
--- A rule that reads no kind, one that does, the one that gathers conditions, or one of comprehensions whose items have an order.
+-- A rule that reads no kind, one that does, the one that gathers conditions, one of comprehensions whose items have an order, or one of those
+-- whose items are counted.
 pub data Ruling : Type 0 where
   plainly : Rule → Ruling
   by_kind : KindRuling → Ruling
   gathering : Ruling
   in_order : OrderedRule → Ruling
+  by_number : NumberRule → Ruling
 
 -- Whether the rule puts the term of a source, or what it is made of, in the place of a name.
 abbrev pub puts_source : Ruling → Bool
@@ -87,6 +90,7 @@ puts_source (plainly r) = false
 puts_source (by_kind r) = puts_in r
 puts_source gathering = false
 puts_source (in_order r) = false
+puts_source (by_number r) = false
 
 -- The index domain that the form of an expression tells, where it may be asked for: not before sources are opened.
 abbrev pub axis_asked : Ex → Option Dom
@@ -115,6 +119,7 @@ ruled s g (plainly r) a = rewrite s g r a
 ruled s g (by_kind r) a = kind_ruled s g r a
 ruled s g gathering a = conditions_gathered a
 ruled s g (in_order r) a = ordered_rewrite s g r a
+ruled s g (by_number r) a = number_rewrite s g r a
 
 -- What the rule is used at, and the number behind the names that are taken for it.
 abbrev pub root_of : ℕ → Ruling → Ex → Ex
@@ -129,6 +134,7 @@ behind_ruling j (plainly r) a = behind_names j r a
 behind_ruling j (by_kind r) a = j
 behind_ruling j gathering a = j
 behind_ruling j (in_order r) a = j
+behind_ruling j (by_number r) a = j
 
 -- One of the rules makes b of a, where names have the types g, with reserved names from the n-th on and none from the m-th on.
 pub record IsRuled (n : ℕ) (g : Names Ty) (a b : Ex) (m : ℕ) : Type 0 where

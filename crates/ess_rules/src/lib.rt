@@ -9,6 +9,7 @@ mod folds;
 mod generators;
 mod lists;
 mod membership;
+mod numbered;
 mod ordered;
 mod reserving;
 mod settled;

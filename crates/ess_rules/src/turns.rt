@@ -13,6 +13,7 @@ use crate::folds::folds;
 use crate::generators::generators;
 use crate::lists::lists;
 use crate::membership::membership;
+use crate::numbered::numbered;
 use crate::ordered::ordered;
 use crate::reserving::{component_count, counted, reserved_name, reserved_names};
 use crate::settled::{has_open_parts, is_open};
@@ -77,7 +78,8 @@ pub fn rule_at(
     Ok(None)
 }
 
-/// The rules of the forms of kinds, of what is picked, the shortest of folds, and those of comprehensions whose items have an order.
+/// The rules of the forms of kinds, of what is picked, the shortest of folds, those of comprehensions whose items have an order, and those
+/// of comprehensions whose items are counted.
 fn first_rules(
     alloc: Global,
     names: &NameTypes,
@@ -102,6 +104,9 @@ fn first_rules(
         return Ok(Some(new));
     }
     if let Some(new) = ordered(alloc, names, taken, node)? {
+        return Ok(Some(new));
+    }
+    if let Some(new) = numbered(alloc, names, taken, node)? {
         return Ok(Some(new));
     }
     Ok(None)

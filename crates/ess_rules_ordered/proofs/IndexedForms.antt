@@ -16,14 +16,15 @@ use Rattle.ess_ordered_laws.specs.ToldAxes.{picked_axis, told_axis}
 use Rattle.ess_ordered_laws.specs.IndexedSources.{has_open_index, is_by_index, items_at, indexed_term, indexed_source, indexed_behind}
 use Rattle.ess_rules_ordered.specs.IndexForms.{is_written, open_at, item_of_matrix}
 
-by-items : (o : Option Ty) (f : Ty → Ex) → of_matrix o f ≡ option_map f (item_of_matrix o)
-by-items (Some (compound2 a_matrix i t)) f = refl
-by-items o f = refl
+-- What is made of the type of a matrix is made of that of its items.
+pub of_matrix-items : (o : Option Ty) (f : Ty → Ex) → of_matrix o f ≡ option_map f (item_of_matrix o)
+of_matrix-items (Some (compound2 a_matrix i t)) f = refl
+of_matrix-items o f = refl
 
 by-axis : (x : Text) (t : Ex) (o : Option Ty) (p : Option Dom) → and_then p (λ d. of_matrix o (items_at x d t))
     ≡ and_then p (λ d. option_map (items_at x d t) (item_of_matrix o))
 by-axis x t o None = refl
-by-axis x t o (Some d) = by-items o (items_at x d t)
+by-axis x t o (Some d) = of_matrix-items o (items_at x d t)
 
 -- A term by its indices, by the type of its items.
 pub by_type : (g : Names Ty) (x : Text) (t : Ex) → indexed_term g x t ≡ (if is_by_index t
@@ -47,8 +48,10 @@ open_by_steps b no_exs = refl
 open_by_steps b (more_exs m no_exs) = refl
 open_by_steps b (more_exs m (more_exs i (more_exs u us))) = refl
 
--- A comprehension whose source is by its indices, by its parts.
-put-over : (e : Ex) (gs : Gens) (y : Text) (hs : Gens) (o : Option Ex)
+-- ---- a comprehension whose source is by its indices, by its parts
+
+-- A comprehension over a value that may be there, behind generators.
+pub put-over : (e : Ex) (gs : Gens) (y : Text) (hs : Gens) (o : Option Ex)
     → and_then (option_map (λ l. comp_ex e (from (name_pat y) l hs)) o) (put_before gs)
     ≡ option_map (λ l. comp_ex e (append_gens gs (from (name_pat y) l hs))) o
 put-over e gs y hs None = refl

@@ -31,7 +31,8 @@ number_by_form e = refl
 
 -- ---- one behind others
 
-nothing-behind : (es : Exs) → es ≡ append_exs es no_exs
+-- Nothing behind expressions leaves these.
+pub nothing-behind : (es : Exs) → es ≡ append_exs es no_exs
 nothing-behind no_exs = refl
 nothing-behind (more_exs e es) = ap (more_exs e) (nothing-behind es)
 
@@ -43,7 +44,8 @@ one-behind (a ∷ l) e es = ap (more_exs a) (one-behind l e es)
 abbrev pub numbers_before : List Node → Option Exs → Option Exs
 numbers_before all o = option_map (append_exs (pure_nodes all)) o
 
-put-before : (all : List Node) (n : Node) (o : Option Exs)
+-- One more behind those that are there.
+pub put-before : (all : List Node) (n : Node) (o : Option Exs)
     → numbers_before (all ++ n ∷ []) o ≡ numbers_before all (option_map (more_exs (pure_node n)) o)
 put-before all n None = refl
 put-before all n (Some es) = ap (λ l. Some (append_exs (exs_of l) es)) (map_push pure_node all n)

@@ -18,7 +18,7 @@ use Rattle.ess_rules_folds.specs.Forms.{comp_parts, source_parts}
 use Rattle.ess_rules_alternatives.specs.Cases.{put_through}
 use Rattle.ess_ordered_laws.specs.NumberedItems.{numbered_lookup, ordered_lookup}
 use Rattle.ess_ordered_laws.specs.PickedSources.{is_untold, source_lookup, each_source, picked_source}
-use Rattle.ess_rules_ordered.specs.PickedForms.{untold_lookup, is_told, item_or_other, are_decided_items}
+use Rattle.ess_rules_ordered.specs.PickedForms.{untold_lookup, is_told, is_not_told, item_or_other, are_decided_items}
 
 -- ---- by parts
 
@@ -131,6 +131,27 @@ untold_by_lookup s g t = go (picks t) refl
         ap (λ c. if not (is_some (index_dom t) || c) then source_lookup s g t else None) (told-in-order s g t p)
         ∙ by-cases (is_some (index_dom t)) (ordered_lookup s.third s.parts t) (looked_up g s.third s.parts t)
         (no-other g s.third s.parts t)
+
+open-by-lookup : (o : Option (List Alternative)) → not (is_some_and o is_told) ≡ is_not_told o
+open-by-lookup None = refl
+open-by-lookup (Some l) = refl
+
+-- Whether that can't be taken in order, by what it looks up.
+pub untold_by_axis : (s : Supply) (g : Names Ty) (t : Ex) → is_untold s g t ≡ (if picks t
+    then (if is_some (index_dom t) then false else is_not_told (looked_up g s.third s.parts t)) else false)
+untold_by_axis s g t = go (picks t) refl
+  where
+    by-axis : (a : Bool) (o : Option (List Alternative))
+        → not (a || is_some_and o is_told) ≡ (if a then false else is_not_told o)
+    by-axis true o = refl
+    by-axis false o = open-by-lookup o
+
+    go : (b : Bool) → picks t ≡ b → (b && not (is_some (index_dom t) || is_some (in_order_told s g t)))
+        ≡ (if b then (if is_some (index_dom t) then false else is_not_told (looked_up g s.third s.parts t)) else false)
+    go false p = refl
+    go true p =
+        ap (λ c. not (is_some (index_dom t) || c)) (told-in-order s g t p)
+        ∙ by-axis (is_some (index_dom t)) (looked_up g s.third s.parts t)
 
 -- So it is both where it is picked and has no index domain.
 pub untold-open : (s : Supply) (g : Names Ty) (t : Ex) → picks t ≡ true → is_some (index_dom t) ≡ false

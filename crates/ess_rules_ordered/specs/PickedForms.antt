@@ -22,6 +22,11 @@ abbrev pub is_told : List Alternative → Bool
 is_told (a ∷ []) = are_decided a.gens
 is_told l = false
 
+-- Whether there isn't one alone so.
+abbrev pub is_not_told : Option (List Alternative) → Bool
+is_not_told None = true
+is_not_told (Some l) = not (is_told l)
+
 -- What a term picks as an item of a comprehension by its number; else as any other term, where that isn't told in order.
 abbrev pub item_or_other : Supply → Names Ty → Ex → Option (List Alternative)
 item_or_other s g t = or_else (ordered_lookup s.third s.parts t)

@@ -22,7 +22,7 @@ use ess_rules_picked::picks;
 use std::alloc::Global;
 
 /// The index domain of a list, where something tells it. `NoMemory` where there is no room for it.
-pub(crate) fn told_axis(alloc: Global, list: &Node) -> Result<Option<Boxed<NodeDom>>, NoMemory>
+pub fn told_axis(alloc: Global, list: &Node) -> Result<Option<Boxed<NodeDom>>, NoMemory>
     ensures { IfOk result (λ o. option_map pure_dom o ≡ axis_told (pure_node list.now)) }
 {
     let axis = index_dom(alloc, list)?;
@@ -33,7 +33,7 @@ pub(crate) fn told_axis(alloc: Global, list: &Node) -> Result<Option<Boxed<NodeD
 }
 
 /// That of a list that is picked.
-pub(crate) fn picked_axis(alloc: Global, list: &Node) -> Result<Option<Boxed<NodeDom>>, NoMemory>
+pub fn picked_axis(alloc: Global, list: &Node) -> Result<Option<Boxed<NodeDom>>, NoMemory>
     ensures { IfOk result (λ o. option_map pure_dom o ≡ axis_picked (pure_node list.now)) }
 {
     if !picks(list) {

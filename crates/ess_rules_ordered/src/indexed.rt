@@ -47,7 +47,7 @@ pub fn source_by_indices(
 }
 
 /// Generators with a name over a value behind the first ones.
-fn bound_behind(
+pub fn bound_behind(
     alloc: Global,
     first: &[Gen],
     name: &Text,

@@ -14,9 +14,13 @@ mod picked;
 mod places;
 mod scalars;
 mod sources;
-mod told;
+pub mod told;
 
-pub use indexed::source_by_indices;
+pub use axes::{picked_axis, told_axis};
+pub use indexed::{bound_behind, source_by_indices};
 pub use items::{an_item, of_an_item};
 pub use names::ItemNames;
 pub use over_items::source_of_an_item;
+pub use picked::is_untold;
+pub use places::is_from_one;
+pub use sources::{item_at, item_type};

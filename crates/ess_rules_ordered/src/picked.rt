@@ -7,8 +7,9 @@ ghost use Rattle.ess_guard_laws.specs.IndexDomains.{index_dom as index_domain};
 ghost use Rattle.ess_rules_laws.specs.ListedSources.{laid_out as comprehended};
 ghost use Rattle.ess_rules_alternatives.specs.Cases.{put_through as through_one};
 ghost use Rattle.ess_rules_forms.specs.PureAlternatives.{pure_alternative};
-ghost use Rattle.ess_ordered_laws.specs.PickedSources.{picked_source as source_picked};
-ghost use Rattle.ess_rules_ordered.specs.PickedForms.{untold_lookup as untold, is_told as told_alone, item_or_other as picked_either};
+ghost use Rattle.ess_kind_rules_laws.specs.TermLookups.{looked_up as looked_up_in};
+ghost use Rattle.ess_ordered_laws.specs.PickedSources.{picked_source as source_picked, is_untold as untold_term};
+ghost use Rattle.ess_rules_ordered.specs.PickedForms.{untold_lookup as untold, is_told as told_alone, is_not_told, item_or_other as picked_either};
 ghost use Rattle.ess_rules_ordered.specs.Supplies.{item_supply};
 
 use crate::decided::are_decided;
@@ -69,6 +70,43 @@ fn untold_lookup(
         return Ok(None);
     }
     item_or_other(alloc, types, names, term)
+}
+
+/// Whether the term is picked, with no index domain that its form tells, and can't be taken in order as it is. `NoMemory` where there is
+/// no room to tell.
+#[tactic(auto, using(crate::proofs::PickedForms::untold_by_axis))]
+pub fn is_untold(
+    alloc: Global,
+    types: &NameTypes,
+    names: &ItemNames<'_>,
+    term: &Node,
+) -> Result<bool, NoMemory>
+    ensures { IfOk result (λ b. b ≡ untold_term (item_supply names.now) (pure_names types.now) (pure_node term.now)) }
+{
+    if !picks(term) {
+        return Ok(false);
+    }
+    if has_axis(alloc, term)? {
+        return Ok(false);
+    }
+    is_picked_untold(alloc, types, names, term)
+}
+
+/// Whether what a term picks isn't told in order.
+fn is_picked_untold(
+    alloc: Global,
+    types: &NameTypes,
+    names: &ItemNames<'_>,
+    term: &Node,
+) -> Result<bool, NoMemory>
+    ensures { IfOk result (λ b. b
+        ≡ is_not_told (looked_up_in (pure_names types.now) names.now.counted.now names.now.parts.now (pure_node term.now))) }
+{
+    let found = looked_up(alloc, types, names.counted, names.parts, term)?;
+    match found {
+        Some(found) => Ok(!is_told(found.as_slice())),
+        None => Ok(true),
+    }
 }
 
 /// Whether the form of a term tells an index domain.

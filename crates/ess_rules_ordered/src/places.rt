@@ -81,7 +81,7 @@ pub(crate) fn is_atom_dom(dom: &NodeDom) -> bool
 
 /// Whether the domain is one range of numbers from 1.
 #[tactic(auto, using(crate::proofs::NumberedForms::from_one_by_range))]
-fn is_from_one(dom: &NodeDom) -> bool
+pub fn is_from_one(dom: &NodeDom) -> bool
     ensures { result ≡ from_one (pure_dom dom.now) }
 {
     match one_range(dom) {

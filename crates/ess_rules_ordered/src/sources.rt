@@ -62,7 +62,7 @@ fn items_at(
 }
 
 /// The item of a matrix, which is of this type, at the index of this name.
-fn item_at(alloc: Global, ty: &Ty, matrix: &Node, index: &Text) -> Result<Boxed<Node>, NoMemory>
+pub fn item_at(alloc: Global, ty: &Ty, matrix: &Node, index: &Text) -> Result<Boxed<Node>, NoMemory>
     ensures { IfOk result (λ n. pure_node n ≡ item_of (pure_ty ty.now) (pure_node matrix.now) (name_ex index.now)) }
 {
     let matrix = matrix.copy(alloc)?;
@@ -73,7 +73,7 @@ fn item_at(alloc: Global, ty: &Ty, matrix: &Node, index: &Text) -> Result<Boxed<
 }
 
 /// The type of the items of a matrix.
-fn item_type(ty: Option<&Ty>) -> Option<&Ty>
+pub fn item_type(ty: Option<&Ty>) -> Option<&Ty>
     ensures { option_map pure_ty (option_copied result) ≡ item_of_matrix (option_map pure_ty (option_copied ty.entry)) }
 {
     match ty {

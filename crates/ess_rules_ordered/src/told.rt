@@ -17,7 +17,7 @@ use std::cmp::Ordering;
 
 /// A domain that is looked through.
 #[derive(Clone, Copy)]
-pub(crate) enum Told<'a> {
+pub enum Told<'a> {
     /// The domain as it stands.
     Whole(&'a NodeDom),
     /// One of matrices, by the index domains that are left and the domain of the items.
@@ -27,7 +27,7 @@ pub(crate) enum Told<'a> {
 /// The domain that the values of a term follow.
 #[cycle(told)]
 #[tactic(auto, using(ess_core_nodes::proofs::NodeEquations::pure_seen_is, crate::proofs::ToldForms::told_by_operands))]
-pub(crate) fn dom_told(node: &Node) -> Option<Told<'_>>
+pub fn dom_told(node: &Node) -> Option<Told<'_>>
     ensures { option_map pure_told result ≡ domain_told (pure_node node.now) }
 {
     match node {
@@ -96,7 +96,7 @@ fn told_of_two(operands: &[Node]) -> Option<Told<'_>>
 }
 
 /// The only step.
-fn only_step(steps: &[Step]) -> Option<&Step>
+pub fn only_step(steps: &[Step]) -> Option<&Step>
     ensures { option_map (λ s. pure_step s.now) result ≡ the_step (map pure_step steps.now) }
 {
     match steps.split_first() {
@@ -109,7 +109,7 @@ fn only_step(steps: &[Step]) -> Option<&Step>
 }
 
 /// The domain of the results of functions.
-fn results_of(told: Option<Told<'_>>) -> Option<Told<'_>>
+pub fn results_of(told: Option<Told<'_>>) -> Option<Told<'_>>
     ensures { option_map pure_told result ≡ domain_of_results (option_map pure_told told.entry) }
 {
     match told {
@@ -119,7 +119,7 @@ fn results_of(told: Option<Told<'_>>) -> Option<Told<'_>>
 }
 
 /// The domain of a component of tuples.
-fn component_dom(number: u64, told: Option<Told<'_>>) -> Option<Told<'_>>
+pub fn component_dom(number: u64, told: Option<Told<'_>>) -> Option<Told<'_>>
     ensures { option_map pure_told result ≡ domain_of_component number (option_map pure_told told.entry) }
 {
     match told {
@@ -151,7 +151,7 @@ fn dom_at(number: u64, doms: &[NodeDom]) -> Option<&NodeDom>
 }
 
 /// The domain of a field of records.
-fn field_dom<'a>(name: &Text, told: Option<Told<'a>>) -> Option<Told<'a>>
+pub fn field_dom<'a>(name: &Text, told: Option<Told<'a>>) -> Option<Told<'a>>
     ensures { option_map pure_told result ≡ domain_under name.now (option_map pure_told told.entry) }
 {
     match told {
@@ -185,14 +185,14 @@ fn dom_of_field<'a>(name: &Text, fields: &[Text], doms: &'a [NodeDom]) -> Option
 }
 
 /// Whether two names are equal.
-fn same_name(a: &Text, b: &Text) -> bool
+pub fn same_name(a: &Text, b: &Text) -> bool
     ensures { result ≡ same_text a.now b.now }
 {
     a.cmp(b) == Ordering::Equal
 }
 
 /// The domain of what an index picks out of matrices.
-fn items_dom(told: Option<Told<'_>>) -> Option<Told<'_>>
+pub fn items_dom(told: Option<Told<'_>>) -> Option<Told<'_>>
     ensures { option_map pure_told result ≡ domain_of_items (option_map pure_told told.entry) }
 {
     match matrix_in(told) {
@@ -208,7 +208,7 @@ fn items_dom(told: Option<Told<'_>>) -> Option<Told<'_>>
 }
 
 /// The first index domain of a domain of matrices.
-pub(crate) fn first_index(told: Option<Told<'_>>) -> Option<&NodeDom>
+pub fn first_index(told: Option<Told<'_>>) -> Option<&NodeDom>
     ensures { option_map pure_dom (option_copied result) ≡ index_before (option_map pure_told told.entry) }
 {
     match matrix_in(told) {

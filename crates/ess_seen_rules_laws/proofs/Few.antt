@@ -19,6 +19,7 @@ use Rattle.ess_seen_rules_laws.proofs.PlainRules.{fires}
 use Rattle.ess_seen_rules_laws.proofs.KindRules.{kind-allowed}
 use Rattle.ess_seen_rules_laws.proofs.OpenRules.{open-allowed}
 use Rattle.ess_seen_rules_laws.proofs.OrderRules.{no-order}
+use Rattle.ess_seen_rules_laws.proofs.NumberRules.{no-number}
 use Rattle.ess_seen_rules_laws.proofs.SetsRest.{sets-rest}
 use Rattle.ess_seen_rules_laws.proofs.ListsRest.{lists-rest}
 use Rattle.ess_seen_rules_laws.proofs.StillRest.{still-rest}
@@ -75,6 +76,7 @@ few-rules-fire types = record {
   by_kind = kinds-fire;
   gathering = λ cells r e m h. no-gathering cells h;
   in_order = λ cells s r u e m h. no-order s (bound_types r) cells r h u;
+  by_number = λ cells s r u e m h. no-number cells r s (bound_types r) h u;
   at_a_set = λ cells r e k h. sets-rest cells r e k h;
   at_a_list = λ cells r e m h. lists-rest cells r e m h;
   at_a_still_part = λ r e h. still-rest r e h;

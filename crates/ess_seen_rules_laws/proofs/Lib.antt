@@ -9,6 +9,7 @@ pub mod PlainRules
 pub mod KindRules
 pub mod OpenRules
 pub mod OrderRules
+pub mod NumberRules
 -- Rules at sets, in numbers of slots and at lists
 pub mod SetsRest
 pub mod StillRest

@@ -20,6 +20,7 @@ use Rattle.ess_seen_rules_laws.proofs.Allowed.{Allowed, allowed-not}
 use Rattle.ess_seen_rules_laws.proofs.Picks.{items-pick}
 use Rattle.ess_seen_rules_laws.proofs.Sources.{OpensAtSet, opens-at-set, not-kept}
 use Rattle.ess_seen_rules_laws.proofs.OrderRules.{no-order-list, no-order-items}
+use Rattle.ess_seen_rules_laws.proofs.NumberRules.{no-number-list, no-number-items}
 
 -- ---- generators
 
@@ -74,6 +75,7 @@ module _ (cells : Text → Option (Bool × List ℕ)) where
     by_kind = λ s g u. kinds-list s g r e k u;
     gathering = refl;
     in_order = λ s g u. no-order-list s g e gs (opens-at-set cells k) u;
+    by_number = λ s g u. no-number-list s g e gs u;
   }
 
 -- ---- items
@@ -102,6 +104,7 @@ module _ (cells : Text → Option (Bool × List ℕ)) (r : Names Bound) where
     by_kind = λ s g u. kinds-items s g es (items-pick cells r l) u;
     gathering = refl;
     in_order = λ s g u. no-order-items s g cells r l u;
+    by_number = λ s g u. no-number-items cells r s g l u;
   }
 
   -- None fires at a list.

@@ -13,6 +13,7 @@ use Rattle.ess_seen_rules_laws.specs.Laws.{NoneFires}
 use Rattle.ess_seen_rules_laws.proofs.Allowed.{Allowed, allowed-not}
 use Rattle.ess_seen_rules_laws.proofs.Picks.{set-operands-pick, picks-no-kind, picks-no-open}
 use Rattle.ess_seen_rules_laws.proofs.OrderRules.{no-order-set}
+use Rattle.ess_seen_rules_laws.proofs.NumberRules.{no-number-set}
 
 -- No answer, but of what operands pick, which is looked at by itself.
 abbrev pub NoKind : KindRule → Option Ex → Type 0
@@ -71,4 +72,5 @@ module _ (cells : Text → Option (Bool × List ℕ)) (r : Names Bound) where
     by_kind = λ s g u. kinds-set s g h u;
     gathering = gathers-set h;
     in_order = λ s g u. no-order-set s g cells r h u;
+    by_number = λ s g u. no-number-set cells r s g h u;
   }

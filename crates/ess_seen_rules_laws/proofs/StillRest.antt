@@ -17,6 +17,7 @@ use Rattle.ess_seen_rules_laws.proofs.Allowed.{Allowed, allowed-not}
 use Rattle.ess_seen_rules_laws.proofs.Picks.{NodePicksNothing, counted-picks, operands-pick, picks-no-kind, picks-no-open}
 use Rattle.ess_seen_rules_laws.proofs.SetsRest.{NoKind, NoOpen}
 use Rattle.ess_seen_rules_laws.proofs.OrderRules.{no-order, no-order-items}
+use Rattle.ess_seen_rules_laws.proofs.NumberRules.{no-number-still}
 
 -- No table.
 abbrev no_tables : Text → Option (Bool × List ℕ)
@@ -99,4 +100,5 @@ module _ (r : Names Bound) where
     by_kind = λ s g u. kinds-still s g h u;
     gathering = gathers-still h;
     in_order = λ s g u. orders-still s g h u;
+    by_number = λ s g u. no-number-still s g h u;
   }

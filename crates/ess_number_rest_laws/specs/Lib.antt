@@ -1,0 +1,2 @@
+-- Expressions at whose root no rule of counted sources fires
+pub mod Uncounted

@@ -1,0 +1,6 @@
+-- The names of how many items a list has at most
+pub mod NamesOfMost
+-- The names of the rules
+pub mod NumberedNames
+-- Worked examples
+mod ExamplesNames

@@ -1,0 +1,2 @@
+-- The names of what rules of counted sources make
+pub mod NumberedNames

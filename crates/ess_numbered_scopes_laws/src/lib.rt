@@ -1,0 +1,4 @@
+//! Scopes of rules of comprehensions over sources whose items are counted.
+#![tactic(auto)]
+
+pub mod laws;

@@ -1,0 +1,15 @@
+-- The domain that steps reach
+pub mod PickForms
+-- How many items lists have at most
+pub mod MostForms
+pub mod MostWeights
+-- Where names stand
+pub mod NamedParts
+-- Counted terms and lists over them
+pub mod CountedForms
+-- Two sides
+pub mod SideForms
+-- What counts of a supply
+pub mod NumbersAlike
+-- Worked examples
+mod ExamplesNumbered

@@ -1,0 +1,18 @@
+//! Rules of comprehensions over sources whose items are counted: an item of such a list by its number, and equality of lists and signs
+//! between them by the numbers of their items.
+#![tactic(auto)]
+
+mod comparing;
+mod equality;
+mod items;
+mod lists;
+mod mentions;
+mod most;
+mod order;
+mod picks;
+mod sources;
+mod sums;
+
+pub use equality::equal_by_number;
+pub use items::{within_a_pair, within_an_item};
+pub use order::order_by_number;
