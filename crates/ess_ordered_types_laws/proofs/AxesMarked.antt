@@ -1,5 +1,5 @@
 -- Index domains that are told have marks, where the term has them; of one by the number of items that is asked.
-use Rattle.std.proofs.Common.{◌≡◌, ℕ, zero, suc, Bool, true, false, if◌then◌else◌, List, [], ◌∷◌, Option, Some, None}
+use Rattle.std.proofs.Common.{◌≡◌, refl, ℕ, zero, suc, Bool, true, false, if◌then◌else◌, List, [], ◌∷◌, Option, Some, None}
 use Rattle.std.specs.Prelude.{is_some}
 use Rattle.ess_semantics.specs.declared.words.Fun.{Fun}
 use Rattle.ess_semantics.specs.Lists.{or_else}
@@ -18,6 +18,15 @@ use Rattle.ess_ordered_types_laws.specs.OrderedTyped.{axis_by_count}
 
 no : {A : Type 0} → false ≡ true → A
 no h = cc
+
+-- Whether the expression is no comprehension. Such a source isn't told by its indices.
+abbrev pub isnt_comprehension : Ex → Bool
+isnt_comprehension (comp_ex e gs) = false
+isnt_comprehension e = true
+
+by-index-isnt : (e : Ex) → is_by_index e ≡ true → isnt_comprehension e ≡ true
+by-index-isnt (comp_ex e gs) h = h
+by-index-isnt _ h = refl
 
 module _ (g : Names Ty) where
   -- The domain has marks, where there is one.
@@ -97,8 +106,8 @@ module _ (g : Names Ty) where
   told-marked (node_ex b (index (by_value ∷ [])) (more_exs m (more_exs i no_exs))) h = items-marked (dom_told m) (told-marked m h.1.0)
   told-marked _ h = tt
 
-  -- That of a comprehension isn't asked for: such a source isn't told by its indices.
-  index-marked : (e : Ex) → is_by_index e ≡ true → HasMarks e g → DomMarked (index_dom e)
+  -- That of a comprehension isn't asked for.
+  index-marked : (e : Ex) → isnt_comprehension e ≡ true → HasMarks e g → DomMarked (index_dom e)
   index-marked (node_ex false matrix_literal es) i h = (tt, (tt, tt))
   index-marked (matrix_ex es d) i h = h.1
   index-marked (comp_ex e gs) i h = no i
@@ -111,6 +120,12 @@ module _ (g : Names Ty) where
   either-marked None (Some d) c true h k l = k
   either-marked None None c true h k l = l
 
-  pub axis-marked : (e : Ex) → is_by_index e ≡ true → DomMarked (axis_by_count e) → HasMarks e g → DomMarked (told_axis e)
-  axis-marked e i k h = either-marked (index_dom e) (plain_axis (first_index (dom_told e))) (counted_axis e) (picks e) (index-marked e i h)
+  -- The index domain that is told of what is no comprehension.
+  pub told-axis-marked : (e : Ex) → isnt_comprehension e ≡ true → DomMarked (axis_by_count e) → HasMarks e g → DomMarked (told_axis e)
+  told-axis-marked e i k h =
+      either-marked (index_dom e) (plain_axis (first_index (dom_told e))) (counted_axis e) (picks e) (index-marked e i h)
       (plain-marked (first_index (dom_told e)) (first-marked (dom_told e) (told-marked e h))) k
+
+  -- That of a source by its indices.
+  pub axis-marked : (e : Ex) → is_by_index e ≡ true → DomMarked (axis_by_count e) → HasMarks e g → DomMarked (told_axis e)
+  axis-marked e i k h = told-axis-marked e (by-index-isnt e i) k h

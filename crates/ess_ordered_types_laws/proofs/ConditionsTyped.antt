@@ -54,13 +54,13 @@ without-behind (cond c gs) g = go (has_cells c) (without-behind gs g)
 -- ---- types of the parts
 
 -- A condition and what is behind it.
-record Condition (o : Option Ty) (p : Option (Names Ty)) (h : Names Ty) : Type 0 where
-  truth : Ty
-  typed : o ≡ Some truth
-  is_truth : Agree truth bool_ty
-  rest : p ≡ Some h
+pub record Condition (o : Option Ty) (p : Option (Names Ty)) (h : Names Ty) : Type 0 where
+  pub truth : Ty
+  pub typed : o ≡ Some truth
+  pub is_truth : Agree truth bool_ty
+  pub rest : p ≡ Some h
 
-condition-is : (o : Option Ty) (p : Option (Names Ty)) (h : Names Ty) →
+pub condition-is : (o : Option Ty) (p : Option (Names Ty)) (h : Names Ty) →
     and_then o (λ t. and_then (join t bool_ty) (λ u. p)) ≡ Some h → Condition o p h
 condition-is None p h q = cc
 condition-is (Some t) p h q = go (join t bool_ty) refl q
@@ -70,7 +70,7 @@ condition-is (Some t) p h q = go (join t bool_ty) refl q
     go (Some u) i q = record { truth = t; typed = refl; is_truth = ap is_some i; rest = q }
 
 -- A source and what is behind it.
-behind-source : (o : Option Ty) (F : Ty → Option (Names Ty)) (h : Names Ty) → and_then o F ≡ Some h →
+pub behind-source : (o : Option Ty) (F : Ty → Option (Names Ty)) (h : Names Ty) → and_then o F ≡ Some h →
     (m : Ty) × (o ≡ Some m) × (F m ≡ Some h)
 behind-source None F h q = (any_ty, cc, cc)
 behind-source (Some m) F h q = (m, refl, q)

@@ -73,7 +73,8 @@ module _ (s : Supply) (g : Names Ty) where
           (operand_lookup s g (node_ex b op es) t) refl
   at-operand k _ new sc h = tt
 
-  either : (P Q : Type 0) (e : Ex) (o p : Option Ex) → BothKept g P e o → BothKept g Q e p → BothKept g (P × Q) e (or_else o p)
+  -- Of two answers, the first that is there.
+  pub either : (P Q : Type 0) (e : Ex) (o p : Option Ex) → BothKept g P e o → BothKept g Q e p → BothKept g (P × Q) e (or_else o p)
   either P Q e (Some f) p h k = (h.0, λ r. h.1 r.0)
   either P Q e None (Some f) h k = (k.0, λ r. k.1 r.1)
   either P Q e None None h k = tt

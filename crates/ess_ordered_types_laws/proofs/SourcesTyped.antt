@@ -46,7 +46,7 @@ use Rattle.ess_ordered_types_laws.proofs.AxesMarked.{DomMarked, axis-marked}
 -- ---- another source
 
 -- A source whose members have the type of those of the one in whose place it stands, and which has marks where that has them.
-other-source : (g : Names Ty) (P : Type 0) (y : Text) (e u l : Ex) (hs : Gens) →
+pub other-source : (g : Names Ty) (P : Type 0) (y : Text) (e u l : Ex) (hs : Gens) →
     ((m : Ty) → and_then (type_of u g) member_ty ≡ Some m → and_then (type_of l g) member_ty ≡ Some m) →
     (P → HasMarks u g → HasMarks l g) → KeepsBoth g P (comp_ex e (from (name_pat y) u hs)) (comp_ex e (from (name_pat y) l hs))
 other-source g P y e u l hs k n = (typed, marked)
@@ -71,7 +71,7 @@ other-source g P y e u l hs k n = (typed, marked)
         )
 
 -- What keeps both at the first generator that isn't plain does so behind the plain ones.
-at-open : (g : Names Ty) (R : Gens → Ex → Option Ex) (T M : Names Ty → Gens → Type 0) (e : Ex) (gs : Gens) →
+pub at-open : (g : Names Ty) (R : Gens → Ex → Option Ex) (T M : Names Ty → Gens → Type 0) (e : Ex) (gs : Gens) →
     ((before after : Gens) → T (names_behind before g) after →
     BothKept (names_behind before g) (M (names_behind before g) after) (comp_ex e after) (R before (comp_ex e after))) →
     OfSome (at_first_open gs) (λ t. T (names_behind t.before g) t.after) →
@@ -93,24 +93,27 @@ at-open g R T M e gs each h = go (at_first_open gs) refl h
 
 -- ---- by indices
 
+-- The item at a new name for indices has the type of items, and marks.
+module _ (h : Names Ty) (x : Text) (u : Ex) (new : IsNewTo x u) (i v w : Ty) (q : type_of u h ≡ Some (compound2 a_matrix i v))
+    (k : Agree i w) where
+  pub item-is : type_of (item_of v u (name_ex x)) ((x, w) ∷ h) ≡ Some v
+  item-is = item-type ((x, w) ∷ h) i v w u x
+      (term-behind h x w u (compound2 a_matrix i v) (fewer (λ c. not (same_text x c)) u new) q) (new-name h x w) k
+
+  -- And it has marks.
+  pub item-marks : HasMarks u h → HasMarks (item_of v u (name_ex x)) ((x, w) ∷ h)
+  item-marks n = (
+    subst (λ o. MarkFits (is_bool (Some v)) (index (by_value ∷ [])) o) (sym item-is) refl,
+    (marks-behind x w u h new n, (tt, tt)),
+  )
+
 module _ (h : Names Ty) (x : Text) (u : Ex) (new : IsNewTo x u) (d : Dom) (i v : Ty) (q : type_of u h ≡ Some (compound2 a_matrix i v))
     (k : Agree i (type_of_dom d)) where
-  item-is : type_of (item_of v u (name_ex x)) ((x, type_of_dom d) ∷ h) ≡ Some v
-  item-is = item-type ((x, type_of_dom d) ∷ h) i v (type_of_dom d) u x
-      (term-behind h x (type_of_dom d) u (compound2 a_matrix i v) (fewer (λ c. not (same_text x c)) u new) q)
-      (new-name h x (type_of_dom d)) k
-
   items-type : type_of (items_at x d u v) h ≡ Some (compound2 a_matrix int_ty v)
-  items-type = ap (option_map (compound2 a_matrix int_ty)) item-is
+  items-type = ap (option_map (compound2 a_matrix int_ty)) (item-is h x u new i v (type_of_dom d) q k)
 
   items-marks : DomHasMarks d h → HasMarks u h → HasMarks (items_at x d u v) h
-  items-marks p n = (
-    (p, tt),
-    (
-      subst (λ o. MarkFits (is_bool (Some v)) (index (by_value ∷ [])) o) (sym item-is) refl,
-      (marks-behind x (type_of_dom d) u h new n, (tt, tt)),
-    ),
-  )
+  items-marks p n = ((p, tt), item-marks h x u new i v (type_of_dom d) q k n)
 
   by-items : (P : Type 0) → (P → HasMarks u h → DomHasMarks d h) → (y : Text) (e : Ex) (hs : Gens) →
       KeepsBoth h P (comp_ex e (from (name_pat y) u hs)) (comp_ex e (from (name_pat y) (items_at x d u v) hs))

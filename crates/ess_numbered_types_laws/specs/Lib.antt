@@ -1,0 +1,2 @@
+-- What rules of counted sources ask so as to keep types and marks
+pub mod NumberedTyped
