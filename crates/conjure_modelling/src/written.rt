@@ -19,7 +19,6 @@ use eprime_tree::{PModel, print_model};
 use ess_core::NoMemory;
 use ess_models::{Modelled, model_of};
 use ess_parse::NamedReprs;
-use ess_translate_header_laws::laws::headers_stay_typed;
 use ess_types::Typed;
 use std::alloc::Global;
 
@@ -72,7 +71,6 @@ pub(crate) fn written(
     ensures ok { IfOk result (λ text. IsWritten (pure_spec typed.now.spec) (map pure_named_reprs reprs.now) text.items) }
     ensures refused { IfErr result (IsUnwritten (pure_spec typed.now.spec) (map pure_named_reprs reprs.now)) }
 {
-    headers_stay_typed();
     match model_of(alloc, typed, reprs)? {
         Modelled::Model(model) => {
             let text = printed(alloc, model.get());

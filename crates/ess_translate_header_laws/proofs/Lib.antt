@@ -8,5 +8,5 @@ pub mod OneHeader
 pub mod ModelHeaders
 pub mod WrittenLines
 mod UnseenObjectives
-mod HeadersTyped
+pub mod HeadersTyped
 mod ExamplesHeaders
