@@ -15,7 +15,7 @@ use Rattle.ess_rules_laws.proofs.KeptUnder.{where-under}
 use Rattle.ess_refine_laws.specs.AllRules.{Supply}
 use Rattle.ess_refine_laws.specs.ScopesStay.{is_outside_views}
 use Rattle.ess_refine_laws.proofs.ScopesStay.{scopes-stay}
-use Rattle.ess_values_along_laws.specs.Valued.{Valued, is_matrix_view}
+use Rattle.ess_values_along_laws.specs.Valued.{Valued}
 use Rattle.ess_values_along_laws.specs.ValuesAlong.{natural_at, KeepsValues}
 use Rattle.ess_values_along_laws.proofs.ValuesAlong.{values-along}
 use Rattle.ess_valued_chains_laws.proofs.Parts.{valued-part}
@@ -84,20 +84,6 @@ module _ (cells : Text → Option (Bool × ℕ)) where
   bare-root (added {e = e} k h) j = ap (λ z. fun1 false Fun.Sum (comp_ex e z)) (no-source (axes-ranging cells k) j)
   bare-root (ordered w f h) j = refl
 
-  -- A bare tree is no view.
-  no-view : {r : Names Bool} {e : Ex} {m : Bool} → Bare cells r e m → is_matrix_view e ≡ false
-  no-view number = refl
-  no-view truth = refl
-  no-view (named h) = refl
-  no-view (cell h i) = refl
-  no-view (one o f) = refl
-  no-view (two o f h) = refl
-  no-view (power f h) = refl
-  no-view (chosen f) = refl
-  no-view (folded w k f) = refl
-  no-view (added k f) = refl
-  no-view (ordered w f h) = refl
-
   -- ---- which rules fire
 
   by-ruling : (s : Supply) (r : Names Bool) (u : Ruling) (a b : Ex) (m : Bool) → Bare cells r a m →
@@ -159,7 +145,7 @@ module _ (cells : Text → Option (Bool × ℕ)) where
       there env = subst (λ g. Where c env (Typed g)) y (where-under Typed c [] env x (no-typed env))
 
       at-whole : (env : Env) → Valued false (fill c a) env → KeepsValues false (fill c a) (fill c b) env
-      at-whole env v = values-along.at_a_part c false a b env o (no-view h) (no-view (stays-bare cells t a b k h u))
+      at-whole env v = values-along.at_a_part c false a b env o
           (where-join (Typed (marked_types t)) (Valued (natural_at a c false) a) (KeepsValues (natural_at a c false) a b)
           (λ here p q. let w = fired-keeps cells t here p a b k h u (natural_at a c false) q in (w.0, λ z. w.1)) c env (there env)
           (valued-part a c false env o v))

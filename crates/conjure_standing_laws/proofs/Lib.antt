@@ -10,8 +10,6 @@ pub mod Counters
 -- Names in scope
 pub mod BoundNames
 pub mod Covered
--- What no part is
-pub mod NoMatrices
 -- One rule at a part, and chains
 pub mod SeenChains
 pub mod SeenLaws

@@ -44,7 +44,6 @@ use Rattle.conjure_standing_laws.proofs.Rulings.{counts-none, none-ruled, at-its
 use Rattle.conjure_standing_laws.proofs.BoundNames.{bound-type, absurd-both, isnt-bound}
 use Rattle.conjure_standing_laws.proofs.Counters.{rule-up, chain-up}
 use Rattle.conjure_standing_laws.proofs.Covered.{known-at}
-use Rattle.conjure_standing_laws.proofs.NoMatrices.{no-view}
 
 no-tree : {e : Ex} → None ≡ Some e → ⊥
 no-tree q = cc
@@ -207,7 +206,7 @@ module _ (K : Known) (cells : Text → Option (Bool × List ℕ)) where
             (valued-part a c false env outside valued)
 
         values : KeepsValues false (fill c a) (fill c b) env
-        values = values-along.at_a_part c false a b env outside (no-view cells h) (no-view cells M.seen)
+        values = values-along.at_a_part c false a b env outside
             (where-map c env (StaysAlike w a b) (KeepsValues w a b) (λ e p. (p.means, λ v. p.valued)) alike-there)
 
         still-met : Meets (fill c b) env

@@ -121,7 +121,7 @@ node-answer : (b : Bool) (op : Op) (es : Exs) (env : Env) → HasValue (value_of
     Answers es env → Answer (node_ex b op es) env
 node-answer b op es env t a = record {
   there = node-there b op es env t a;
-  valued = λ w. (unless-any (lacks w b op es) _ (node-there b op es env t a), a.valued (guards op) (opens_places w b op es));
+  valued = λ w. (unless-any (lacks w b op) _ (node-there b op es env t a), a.valued (guards op) (opens_places w b op));
 }
 
 cell-answer : (b : Bool) (n : Text) (es : Exs) (env : Env) → IsTrue (is_some (meaning (cell_ex b n es) env)) → Answers es env →

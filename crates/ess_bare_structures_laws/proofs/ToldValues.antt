@@ -1,5 +1,5 @@
 -- A tree over ranges whose parts have values wherever their contexts hold is so once its bound names are told apart.
-use Rattle.std.proofs.Common.{◌≡◌, refl, sym, ap, subst, ◌∙◌, ℕ, ◌<◌, ◌≤◌, ◌^◌, Bool, true, false, ◌&&◌, ◌||◌, List, [], ◌∷◌, Option}
+use Rattle.std.proofs.Common.{◌≡◌, refl, sym, ap, subst, ◌∙◌, ℕ, ◌<◌, ◌≤◌, ◌^◌, Bool, true, false, ◌||◌, List, [], ◌∷◌, Option}
 use Rattle.std.specs.Prelude.{IsTrue, is_some}
 use Rattle.ess_semantics.specs.Values.{Text, Value}
 use Rattle.ess_semantics.specs.Order.{same_text}
@@ -9,11 +9,11 @@ use Rattle.ess_semantics.specs.Tables.{Table}
 use Rattle.ess_semantics.specs.Scoped.{with_names, Scoped, ScopedExs, ScopedGens, ScopedDom}
 use Rattle.ess_semantics.specs.Meaning.{Env, TypeEntry, bind, with_pat, meaning, domain_of, members_in}
 use Rattle.ess_semantics.specs.Contexts.{EachOf, WhenTrue, guards}
-use Rattle.ess_guard_laws.specs.Guard.{compares, counts}
 use Rattle.ess_guard_laws.specs.Supplied.{Unless}
+use Rattle.ess_guard_natural_laws.specs.TotalButNatural.{opens_places}
 use Rattle.ess_rules_laws.proofs.Simulation.{Vals, E}
 use Rattle.ess_rules_laws.proofs.Bindings.{each-of-map, guarded-map}
-use Rattle.ess_values_along_laws.specs.Valued.{Valued, AllValued, UnderValued, DomValued}
+use Rattle.ess_values_along_laws.specs.Valued.{lacks, Valued, AllValued, UnderValued, DomValued}
 use Rattle.conjure_model_laws.specs.ToldApart.{reserved, told, told_all, told_gens, told_pat, told_dom, told_apart}
 use Rattle.conjure_model_laws.proofs.ToldLaws.{reserved-differ}
 use Rattle.ess_chain_names_laws.proofs.ToldNames.{on, pat-up, ex-up, all-up, gens-up, dom-up}
@@ -50,13 +50,12 @@ module _ (lim : ℕ) (differ : (i j : ℕ) → i < j → j < lim → same_text (
   when-map o o' P Q q f y = guarded-map true o o' P Q q f y
 
   -- A node, where its operands do.
-  node-valued : (lk gd wd b : Bool) (op : Op) (es : Exs) (s o : Text → Bool) (r : Names Text) (k : ℕ) (g h : Vals) →
-      ScopedExs none s o es → (told_all es r k).1 ≤ lim → H s o r k g h →
-      (AllValued gd wd es (M g) → AllValued gd wd (told_all es r k).0 (M h)) →
-      Unless lk (IsTrue (is_some (meaning (node_ex b op es) (M g)))) × AllValued gd wd es (M g) →
-      Unless lk (IsTrue (is_some (meaning (node_ex b op (told_all es r k).0) (M h)))) × AllValued gd wd (told_all es r k).0 (M h)
-  node-valued lk gd wd b op es s o r k g h w l x f v =
-      (unless-map lk _ _ (there (node_ex b op es) s o r k g h w l x) v.0, f v.1)
+  node-valued : (z b : Bool) (op : Op) (es : Exs) (s o : Text → Bool) (r : Names Text) (k : ℕ) (g h : Vals) → ScopedExs none s o es →
+      (told_all es r k).1 ≤ lim → H s o r k g h →
+      (AllValued (guards op) (opens_places z b op) es (M g) → AllValued (guards op) (opens_places z b op) (told_all es r k).0 (M h)) →
+      Valued z (node_ex b op es) (M g) → Valued z (node_ex b op (told_all es r k).0) (M h)
+  node-valued z b op es s o r k g h w l x f v =
+      (unless-map (lacks z b op) _ _ (there (node_ex b op es) s o r k g h w l x) v.0, f v.1)
 
   mutual
     pub told-valued : (e : Ex) → Ranged e → (z : Bool) (s o : Text → Bool) (r : Names Text) (k : ℕ) (g h : Vals) → Scoped none s o e →
@@ -64,27 +63,15 @@ module _ (lim : ℕ) (differ : (i j : ℕ) → i < j → j < lim → same_text (
     told-valued (number_ex m) y z s o r k g h w l x v = tt
     told-valued (truth_ex m) y z s o r k g h w l x v = tt
     told-valued (name_ex a) y z s o r k g h w l x v = there (name_ex a) s o r k g h w l x v
-    told-valued (node_ex true (unary p) es) y z s o r k g h w l x v =
-        node-valued true (guards (unary p)) (compares (unary p) || false) true (unary p) es s o r k g h w l x
-        (all-valued (guards (unary p)) (compares (unary p) || false) es y s o r k g h w l x) v
-    told-valued (node_ex false (unary p) es) y z s o r k g h w l x v =
-        let c : Bool = z && (counts (unary p) || false) in
-        let f = all-valued (guards (unary p)) c es y s o r k g h w l x in
-        node-valued c (guards (unary p)) c false (unary p) es s o r k g h w l x f v
-    told-valued (node_ex true (binary p) es) y z s o r k g h w l x v =
-        node-valued true (guards (binary p)) (compares (binary p) || false) true (binary p) es s o r k g h w l x
-        (all-valued (guards (binary p)) (compares (binary p) || false) es y s o r k g h w l x) v
-    told-valued (node_ex false (binary p) es) y z s o r k g h w l x v =
-        let c : Bool = z && (counts (binary p) || false) in
-        let f = all-valued (guards (binary p)) c es y s o r k g h w l x in
-        node-valued c (guards (binary p)) c false (binary p) es s o r k g h w l x f v
-    told-valued (node_ex true (word p) es) y z s o r k g h w l x v =
-        node-valued true (guards (word p)) (compares (word p) || false) true (word p) es s o r k g h w l x
-        (all-valued (guards (word p)) (compares (word p) || false) es y s o r k g h w l x) v
-    told-valued (node_ex false (word p) es) y z s o r k g h w l x v =
-        let c : Bool = z && (counts (word p) || false) in
-        let f = all-valued (guards (word p)) c es y s o r k g h w l x in
-        node-valued c (guards (word p)) c false (word p) es s o r k g h w l x f v
+    told-valued (node_ex b (unary p) es) y z s o r k g h w l x v =
+        node-valued z b (unary p) es s o r k g h w l x
+        (all-valued (guards (unary p)) (opens_places z b (unary p)) es y s o r k g h w l x) v
+    told-valued (node_ex b (binary p) es) y z s o r k g h w l x v =
+        node-valued z b (binary p) es s o r k g h w l x
+        (all-valued (guards (binary p)) (opens_places z b (binary p)) es y s o r k g h w l x) v
+    told-valued (node_ex b (word p) es) y z s o r k g h w l x v =
+        node-valued z b (word p) es s o r k g h w l x
+        (all-valued (guards (word p)) (opens_places z b (word p)) es y s o r k g h w l x) v
     told-valued (node_ex b op es) y z s o r k g h w l x v = absurd y
     told-valued (matrix_ex es d) y z s o r k g h w l x v = absurd y
     told-valued (comp_ex e gs) y z s o r k g h w l x v =

@@ -42,7 +42,7 @@ module _ (g : Names Ty) (env : Env) (typed : Typed g env) where
   -- ---- what is picked or folded
 
   -- What a word stands on.
-  on : (m w : Bool) (f : Fun) (l : Ex) → Valued w (fun1 m f l) env → Valued false l env
+  pub on : (m w : Bool) (f : Fun) (l : Ex) → Valued w (fun1 m f l) env → Valued false l env
   on true w f l h = h.1.0
   on false w f l h = subst (λ z. Valued z l env) (and-no w) h.1.0
 
@@ -130,7 +130,7 @@ module _ (g : Names Ty) (env : Env) (typed : Typed g env) where
   listed-operands x t l q h = cc
 
   -- What a term offers it offers, where it has values.
-  offers : (s : Supply) (t : Ex) (l : List Alternative) → offered s g t ≡ Some l → Unused s.one t → SoundOperands g t →
+  pub offers : (s : Supply) (t : Ex) (l : List Alternative) → offered s g t ≡ Some l → Unused s.one t → SoundOperands g t →
       is_some (or_else (listing g s.one t) (made_listing g s.one s.other t)) ≡ true → Meets t env → Valued false t env → Offers t l env
   offers s t l q n p a m h = first (listing g s.one t) refl a q
     where
@@ -165,21 +165,26 @@ module _ (g : Names Ty) (env : Env) (typed : Typed g env) where
   word-there m w f l h = and-both (is_some (meaning l env)) true (there l env (on m w f l h)) refl
 
   literal : (w : Bool) (e : Ex) (s : Supply) (f : Ex) → rewrite s g over_a_literal e ≡ Some f → Valued w e env → OperandsThere e env
-  literal w (fun1 m f (comp_ex e (from (name_pat y) (node_ex false matrix_literal es) hs))) s k q h = word-there m w f _ h
-  literal w (fun1 m f (comp_ex e (from (name_pat y) (node_ex false mset_literal es) hs))) s k q h = word-there m w f _ h
+  literal w (fun1 m f (comp_ex e (from (name_pat y) (node_ex false matrix_literal es) hs))) s k q h =
+      word-there m w f (comp_ex e (from (name_pat y) (node_ex false matrix_literal es) hs)) h
+  literal w (fun1 m f (comp_ex e (from (name_pat y) (node_ex false mset_literal es) hs))) s k q h =
+      word-there m w f (comp_ex e (from (name_pat y) (node_ex false mset_literal es) hs)) h
   literal w e s f q h = cc
 
   sourced : (w : Bool) (e : Ex) (s : Supply) (f : Ex) → rewrite s g over_a_source e ≡ Some f → Valued w e env → OperandsThere e env
-  sourced w (fun1 m f (comp_ex e (from (name_pat y) t hs))) s k q h = word-there m w f _ h
+  sourced w (fun1 m f (comp_ex e (from (name_pat y) t hs))) s k q h =
+      word-there m w f (comp_ex e (from (name_pat y) t hs)) h
   sourced w e s f q h = cc
 
-  spliced : (w : Bool) (e : Ex) → Valued w e env → SourceThere e env
+  -- The first source is there.
+  pub spliced : (w : Bool) (e : Ex) → Valued w e env → SourceThere e env
   spliced w (comp_ex e (from p t hs)) h = there t env h.1.0
   spliced w _ h = tt
 
   -- ---- domains and conditions
 
-  domain : (w : Bool) (e : Ex) → Valued w e env → DomainThere e env
+  -- And the members of the first domain are.
+  pub domain : (w : Bool) (e : Ex) → Valued w e env → DomainThere e env
   domain w (comp_ex e (over p d hs)) h = go (members_in (domain_of d env)) _ h.0
     where
       go : (o : Option (List Value)) (F : Value → Option (List Value)) →

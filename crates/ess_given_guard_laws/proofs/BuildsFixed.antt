@@ -135,7 +135,7 @@ module _ (u : Text → Bool) where
     -- The own conditions of an operator.
     pub own-fixed : (k : Names Origin) (c : Bool) (op : Op) (es : Exs) (s : Text → Bool) → Within u s → EachHas (F s) es →
         ListHas (F s) (own_at natural x y k c op es)
-    own-fixed k c op es s f h = go (c && is_plain op es) (operands (forgets_order op))
+    own-fixed k c op es s f h = go (c && is_plain op) (operands (forgets_order op))
       where
         operands : (b : Bool) → Operands u (F s) (F s) (DF s) (builds-fixed s f) b es
         operands true = h

@@ -5,7 +5,6 @@ use Rattle.ess_semantics.specs.Names.{Names}
 use Rattle.ess_semantics.specs.Trees.{Ex, Exs, number_ex, truth_ex, name_ex, node_ex, matrix_ex, comp_ex, cell_ex, seen_ex, no_exs, more_exs, Gens, no_gens, over, from, cond, Dom, Doms, bool_dom, int_dom, name_dom, tuple_dom, record_dom, matrix_dom, set_dom, mset_dom, function_dom, relation_dom, partition_dom, no_doms, more_doms}
 use Rattle.ess_semantics.proofs.Tests.{and-left, and-right, and-both}
 use Rattle.ess_guard_laws.specs.Origins.{Origin, with_any, with_over, known_behind}
-use Rattle.ess_guard_laws.specs.IndexDomains.{is_cell_index}
 use Rattle.ess_guard_laws.specs.Conditions.{matrix_conditions}
 use Rattle.ess_guard_laws.specs.Guard.{connects, own_at, opens, passes, guarded, guarded_all, guarded_gens, guarded_dom, guarded_doms, conditions, conditions_all, conditions_gens, conditions_dom, conditions_doms}
 use Rattle.ess_given_laws.specs.Given.{all_bound, is_fixed, are_fixed, are_fixed_gens, is_fixed_dom, are_fixed_doms}
@@ -23,11 +22,11 @@ module _ (u : Text → Bool) (natural : Bool) (x y : Text) where
     guard-fixed (truth_ex b) s k f h = refl
     guard-fixed (name_ex a) s k f h = f a h
     guard-fixed (node_ex b op es) s k f h =
-        let w = opens natural x y op es in let all = guard-all es s k f h in
+        let w = opens natural x y op in let all = guard-all es s k f h in
         node-fixed u natural x y (b && not (connects op)) b op (guarded_all natural x y k es) s _ f
         (has-append (F u s) (conditions_all natural x y k w es)
-        (own_at natural x y k (w && is_cell_index op es) op (guarded_all natural x y k es)) (all-conditions es s k w f h)
-        (own-fixed u natural x y k (w && is_cell_index op es) op (guarded_all natural x y k es) s f
+        (own_at natural x y k false op (guarded_all natural x y k es)) (all-conditions es s k w f h)
+        (own-fixed u natural x y k false op (guarded_all natural x y k es) s f
         (fixed-each u (guarded_all natural x y k es) s all))) all
     guard-fixed (matrix_ex es d) s k f h = and-both (are_fixed_in u s (guarded_all natural x y k es))
         (is_dom_fixed_in u s (guarded_dom natural x y k d)) (guard-all es s k f (and-left (are_fixed u es) (is_fixed_dom u d) h))
@@ -122,7 +121,7 @@ module _ (u : Text → Bool) (natural : Bool) (x y : Text) where
     fixed-conditions (truth_ex b) s k c f h = tt
     fixed-conditions (name_ex a) s k c f h = tt
     fixed-conditions (node_ex b op es) s k c f h =
-        let w = passes natural x y c op es in
+        let w = passes natural x y c op in
         unless-so u natural x y s (b || connects op) _ (has-append (F u s) (conditions_all natural x y k w es)
         (own_at natural x y k c op (guarded_all natural x y k es)) (all-conditions es s k w f h)
         (own-fixed u natural x y k c op (guarded_all natural x y k es) s f

@@ -6,7 +6,6 @@ use Rattle.ess_semantics.specs.Trees.{Op, Pat, Ex, Exs, number_ex, truth_ex, nam
 use Rattle.ess_semantics.specs.ExpressionJudgements.{forgets_order}
 use Rattle.ess_semantics.proofs.Tests.{and-both}
 use Rattle.ess_guard_laws.specs.Origins.{Origin, with_any, with_over, known_behind}
-use Rattle.ess_guard_laws.specs.IndexDomains.{is_cell_index}
 use Rattle.ess_guard_laws.specs.Conditions.{chained, matrix_conditions, own}
 use Rattle.ess_guard_laws.specs.Guard.{is_plain, connects, own_at, opens, passes, guarded, guarded_all, guarded_gens, guarded_dom, conditions, conditions_all, conditions_gens, conditions_dom}
 use Rattle.ess_given_laws.specs.PartsHave.{AllHave, GensHave}
@@ -59,7 +58,7 @@ module _ (u : Text → Bool) (natural : Bool) (x y : Text) where
 
   own-given : (k : Names Origin) (c : Bool) (op : Op) (es : Exs) (s : Text → Bool) → Within u s → are_given_in u s es ≡ true →
       are_ordered_in u s es (forgets_order op) ≡ true → ListHas (K u s) (own_at natural x y k c op es)
-  own-given k c op es s f i o = go (c && is_plain op es)
+  own-given k c op es s f i o = go (c && is_plain op)
     where
       go : (b : Bool) → ListHas (K u s) (if b then [] else own k x y op es)
       go true = tt
@@ -99,9 +98,9 @@ module _ (u : Text → Bool) (natural : Bool) (x y : Text) where
     guard-place (number_ex n) s k f i h = refl
     guard-place (truth_ex b) s k f i h = refl
     guard-place (name_ex a) s k f i h = refl
-    guard-place (node_ex b op es) s k f i h = let w = opens natural x y op es in
+    guard-place (node_ex b op es) s k f i h = let w = opens natural x y op in
         node-place (b && not (connects op)) b op (guarded_all natural x y k es) s (conditions_all natural x y k w es
-        ++ own_at natural x y k (w && is_cell_index op es) op (guarded_all natural x y k es))
+        ++ own_at natural x y k false op (guarded_all natural x y k es))
     guard-place (matrix_ex es d) s k f i h = refl
     guard-place (cell_ex b n es) s k f i h = cell-place b n (guarded_all natural x y k es) s (conditions_all natural x y k false es)
     guard-place (seen_ex r d ns es) s k f i h = refl
@@ -127,12 +126,12 @@ module _ (u : Text → Bool) (natural : Bool) (x y : Text) where
     guard-given (truth_ex b) s k f i h = (refl, refl)
     guard-given (name_ex a) s k f i h = (refl, refl)
     guard-given (node_ex b op es) s k f i h =
-        let w = opens natural x y op es in let all = guard-all es (forgets_order op) s k f i h in
+        let w = opens natural x y op in let all = guard-all es (forgets_order op) s k f i h in
         node-given (b && not (connects op)) b op (guarded_all natural x y k es) s _ f
         (has-append (K u s) (conditions_all natural x y k w es)
-        (own_at natural x y k (w && is_cell_index op es) op (guarded_all natural x y k es))
+        (own_at natural x y k false op (guarded_all natural x y k es))
         (all-conditions es (forgets_order op) s k w f i h)
-        (own-given k (w && is_cell_index op es) op (guarded_all natural x y k es) s f all.0 all.1)) all.0 all.1
+        (own-given k false op (guarded_all natural x y k es) s f all.0 all.1)) all.0 all.1
     guard-given (matrix_ex es d) s k f i h = let all = guard-all es false s k f i.0 h in (
       and-both (are_given_in u s (guarded_all natural x y k es)) (is_dom_fixed_in u s (guarded_dom natural x y k d)) all.0
           (guard-dom u natural x y d s k f i.1),
@@ -199,7 +198,7 @@ module _ (u : Text → Bool) (natural : Bool) (x y : Text) where
     given-conditions (truth_ex b) s k c f i h = tt
     given-conditions (name_ex a) s k c f i h = tt
     given-conditions (node_ex b op es) s k c f i h =
-        let w = passes natural x y c op es in let all = guard-all es (forgets_order op) s k f i h in
+        let w = passes natural x y c op in let all = guard-all es (forgets_order op) s k f i h in
         unless-so s (b || connects op) _ (has-append (K u s) (conditions_all natural x y k w es)
         (own_at natural x y k c op (guarded_all natural x y k es)) (all-conditions es (forgets_order op) s k w f i h)
         (own-given k c op (guarded_all natural x y k es) s f all.0 all.1))

@@ -1,19 +1,18 @@
 //! A guarded tree with its conditions, from its guarded parts with theirs.
-ghost use Rattle.std.specs.Prelude.{◌≡◌, ◌++◌, [], true, false, ◌&&◌, if◌then◌else◌, IfOk, map};
+ghost use Rattle.std.specs.Prelude.{◌≡◌, ◌++◌, [], true, false, if◌then◌else◌, IfOk, map};
 ghost use Rattle.ess_semantics.specs.Trees.{node_ex, cell_ex, matrix_ex, comp_ex};
 ghost use Rattle.ess_core_nodes.specs.NodeViews.{pure_node, pure_nodes, pure_gens, pure_dom, pure_op};
-ghost use Rattle.ess_guard_laws.specs.IndexDomains.{is_cell_index as is_index_of_cell};
-ghost use Rattle.ess_guard_laws.specs.Conditions.{chained as chained_under, matrix_conditions as matrix_asks};
-ghost use Rattle.ess_guard_laws.specs.Guard.{opens as are_opened, own_at as own_asked};
+ghost use Rattle.ess_guard_laws.specs.Conditions.{chained as chained_under, matrix_conditions as matrix_asks, own as own_asks};
+ghost use Rattle.ess_guard_laws.specs.Guard.{own_at as own_asked};
 ghost use Rattle.ess_guard_forms.specs.KnownNames.{pure_known};
 ghost use Rattle.ess_guard.specs.Steps.{around as asked_around, around_all as asked_around_all};
 ghost use Rattle.ess_guard.specs.StepViews.{pure_step};
 
 use ess_core_nodes::{Gen, Node, NodeDom, Op};
 use ess_guard_conditions::{
-    Rules, chained, every, given_that, matrix_conditions, one_gen, opens, own_at,
+    Rules, chained, every, given_that, matrix_conditions, one_gen, own, own_at,
 };
-use ess_guard_forms::{KnownName, is_cell_index};
+use ess_guard_forms::KnownName;
 use ess_node_building::{comprehension, joined};
 use ess_rows::{Boxed, NoMemory, Row, Text};
 use std::alloc::Global;
@@ -44,20 +43,23 @@ pub(crate) fn guarded_truth(
     rules: &Rules,
     known: &[KnownName],
     op: &Op,
-    operands: &[Node],
     parts: Row<Node>,
     asked: Row<Node>,
 ) -> Result<Boxed<Node>, NoMemory>
     ensures { IfOk result (λ n. pure_node n ≡ chained_under
-        (map pure_node asked ++ own_asked rules.now.natural rules.now.first rules.now.second (pure_known known.now)
-        (are_opened rules.now.natural rules.now.first rules.now.second (pure_op op.now) (pure_nodes operands.now)
-        && is_index_of_cell (pure_op op.now) (pure_nodes operands.now))
+        (map pure_node asked ++ own_asks (pure_known known.now) rules.now.first rules.now.second
         (pure_op op.now) (pure_nodes parts))
         (node_ex true (pure_op op.now) (pure_nodes parts))) }
 {
-    let there = opens(rules, op, operands) && is_cell_index(op, operands);
-    let own = own_at(alloc, rules, known, there, op, parts.as_slice())?;
-    let conditions = joined(asked, own)?;
+    let by_itself = own(
+        alloc,
+        known,
+        &rules.first,
+        &rules.second,
+        op,
+        parts.as_slice(),
+    )?;
+    let conditions = joined(asked, by_itself)?;
     let node = op_node(alloc, true, op, parts)?;
     chained(alloc, conditions, node)
 }
@@ -77,8 +79,8 @@ pub(crate) fn guarded_term(
         ≡ map pure_node asked ++ own_asked rules.now.natural rules.now.first rules.now.second (pure_known known.now) there
         (pure_op op.now) (pure_nodes parts)) }
 {
-    let own = own_at(alloc, rules, known, there, op, parts.as_slice())?;
-    let conditions = joined(asked, own)?;
+    let by_itself = own_at(alloc, rules, known, there, op, parts.as_slice())?;
+    let conditions = joined(asked, by_itself)?;
     let node = op_node(alloc, false, op, parts)?;
     Ok((node, conditions))
 }
@@ -119,8 +121,8 @@ pub(crate) fn guarded_matrix(
 {
     let (parts, asked) = parts;
     let (axis, asked_of_axis) = axis;
-    let own = matrix_conditions(alloc, &rules.first, items, axis.get())?;
-    let asked_of_axis = joined(asked_of_axis, own)?;
+    let by_itself = matrix_conditions(alloc, &rules.first, items, axis.get())?;
+    let asked_of_axis = joined(asked_of_axis, by_itself)?;
     let asked = joined(asked, asked_of_axis)?;
     let node = Boxed::new(alloc, Node::MatrixOn(parts, axis))?;
     Ok((node, asked))

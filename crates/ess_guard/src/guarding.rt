@@ -80,9 +80,9 @@ fn guard_truth(
         drop(asked);
         op_node(alloc, true, op, parts)
     } else {
-        let opened = opens(rules, op, operands);
+        let opened = opens(rules, op);
         let (parts, asked) = guard_nodes(alloc, rules, known, opened, operands)?;
-        guarded_truth(alloc, rules, known, op, operands, parts, asked)
+        guarded_truth(alloc, rules, known, op, parts, asked)
     }
 }
 
@@ -108,7 +108,7 @@ fn guard_term(
         drop(asked);
         Ok((op_node(alloc, false, op, parts)?, Row::new(alloc)))
     } else {
-        let passed = passes(rules, there, op, operands);
+        let passed = passes(rules, there, op);
         let (parts, asked) = guard_nodes(alloc, rules, known, passed, operands)?;
         guarded_term(alloc, rules, known, there, op, parts, asked)
     }

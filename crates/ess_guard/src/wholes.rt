@@ -42,7 +42,7 @@ pub fn make_total(
     Ok(node)
 }
 
-/// The same where quotients, remainders, powers and cells of declared matrices may have nothing in natural places.
+/// The same where quotients, remainders and powers may have nothing in natural places.
 /// `NoMemory` where there is no room for it.
 pub fn make_natural(
     alloc: Global,

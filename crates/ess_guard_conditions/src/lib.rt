@@ -10,4 +10,5 @@ mod places;
 
 pub use joining::{all_of, chained, every, given_that, one_gen, summed};
 pub use literals::matrix_conditions;
+pub use operators::own;
 pub use places::{Rules, opens, own_at, passes};

@@ -22,7 +22,7 @@ use ess_rows::{NoMemory, Row, Text};
 use std::alloc::Global;
 
 /// The conditions of an operator itself; x and y are reserved names. `NoMemory` where there is no room for them.
-pub(crate) fn own(
+pub fn own(
     alloc: Global,
     known: &[KnownName],
     x: &Text,

@@ -6,7 +6,7 @@ ghost use Rattle.ess_guard_forms.specs.KnownNames.{pure_known};
 
 use crate::operators::own;
 use ess_core_nodes::{Node, Op};
-use ess_guard_forms::{KnownName, compares, counts, is_cell_index, is_plain};
+use ess_guard_forms::{KnownName, compares, counts, is_plain};
 use ess_rows::{NoMemory, Row, Text};
 use std::alloc::Global;
 
@@ -19,17 +19,17 @@ pub struct Rules {
 }
 
 /// Whether the operands of a Boolean stand in natural places.
-pub fn opens(rules: &Rules, op: &Op, operands: &[Node]) -> bool
-    ensures { result ≡ are_opened rules.now.natural rules.now.first rules.now.second (pure_op op.now) (pure_nodes operands.now) }
+pub fn opens(rules: &Rules, op: &Op) -> bool
+    ensures { result ≡ are_opened rules.now.natural rules.now.first rules.now.second (pure_op op.now) }
 {
-    rules.natural && (compares(op) || is_cell_index(op, operands))
+    rules.natural && compares(op)
 }
 
 /// Whether the operands of a term do, which itself stands in one where that is said.
-pub fn passes(rules: &Rules, there: bool, op: &Op, operands: &[Node]) -> bool
-    ensures { result ≡ are_passed rules.now.natural rules.now.first rules.now.second there (pure_op op.now) (pure_nodes operands.now) }
+pub fn passes(rules: &Rules, there: bool, op: &Op) -> bool
+    ensures { result ≡ are_passed rules.now.natural rules.now.first rules.now.second there (pure_op op.now) }
 {
-    there && (counts(op) || is_cell_index(op, operands))
+    there && counts(op)
 }
 
 /// The conditions of an operator itself, where it is said whether it stands in a natural place. `NoMemory` where there is no room
@@ -46,7 +46,7 @@ pub fn own_at(
         ≡ own_asked rules.now.natural rules.now.first rules.now.second (pure_known known.now) there
         (pure_op op.now) (pure_nodes operands.now)) }
 {
-    if there && is_plain(op, operands) {
+    if there && is_plain(op) {
         Ok(Row::new(alloc))
     } else {
         own(alloc, known, &rules.first, &rules.second, op, operands)

@@ -2,11 +2,10 @@
 use Rattle.std.proofs.Common.{◌≡◌, refl, true, false, [], ◌∷◌, pos, Some, None}
 use Rattle.ess_semantics.specs.declared.words.Op1.{Op1}
 use Rattle.ess_semantics.specs.declared.words.Op2.{Op2}
-use Rattle.ess_semantics.specs.declared.words.ReprKind.{ReprKind}
-use Rattle.ess_semantics.specs.Trees.{repr, no_reprs, more_reprs, by_value, to_component, unary, binary, one_value, both_ends, low_end}
-use Rattle.ess_semantics.specs.Trees.{number_ex, name_ex, no_exs, more_exs, seen_ex, bool_dom, int_dom, matrix_dom, no_doms, more_doms}
+use Rattle.ess_semantics.specs.Trees.{by_value, to_component, unary, binary, one_value, both_ends, low_end}
+use Rattle.ess_semantics.specs.Trees.{number_ex, name_ex, no_exs, more_exs, bool_dom, int_dom, matrix_dom, no_doms, more_doms}
 use Rattle.ess_guard_forms.specs.PartForms.{both_operands, two_bounds, one_range, two_numbers, range_within, number_within, size_is, axes_of}
-use Rattle.ess_guard_forms.specs.PartForms.{first_axis, inner_axes, axes_behind, is_plain_operator, is_by_item, is_reached, is_seen_cell}
+use Rattle.ess_guard_forms.specs.PartForms.{first_axis, inner_axes, axes_behind, is_plain_operator}
 
 -- ---- operands: two, and no others
 
@@ -97,24 +96,3 @@ minus-is-plain = refl
 
 quotient-is-not : is_plain_operator (binary Op2.Div) ≡ false
 quotient-is-not = refl
-
-matrix-of-atoms : is_by_item (repr ReprKind.Matrix (more_reprs (repr ReprKind.Atom no_reprs) no_reprs)) ≡ true
-matrix-of-atoms = refl
-
-atom-alone : is_by_item (repr ReprKind.Atom no_reprs) ≡ false
-atom-alone = refl
-
--- As many steps as index domains.
-reached : is_reached (by_value ∷ []) (matrix_dom (more_doms bool_dom no_doms) bool_dom) ≡ true
-reached = refl
-
-reached-too-short : is_reached [] (matrix_dom (more_doms bool_dom no_doms) bool_dom) ≡ false
-reached-too-short = refl
-
-cell-there : is_seen_cell (by_value ∷ [])
-    (seen_ex (repr ReprKind.Matrix (more_reprs (repr ReprKind.Atom no_reprs) no_reprs)) (matrix_dom (more_doms bool_dom no_doms) bool_dom) [] no_exs)
-    ≡ true
-cell-there = refl
-
-cell-of-name : is_seen_cell (by_value ∷ []) (name_ex (109 ∷ [])) ≡ false
-cell-of-name = refl

@@ -1,10 +1,9 @@
 -- What the row of names has for a name
 pub mod Lookups
--- Bounds, ranges, index domains, cells
+-- Bounds, ranges, index domains
 pub mod SumForms
 pub mod RangeForms
 pub mod AxesFollowed
-pub mod CellIndices
 -- Numbers of operands, and what is left of a tree
 pub mod OperandCounts
 pub mod Weights

@@ -1,14 +1,12 @@
 -- Parts of trees that have one form, where they have it.
-use Rattle.std.specs.Prelude.{ℕ, suc, Bool, true, false, ◌&&◌, List, [], ◌∷◌, ℤ, pos, ◌+ℤ◌, Option, Some, None}
+use Rattle.std.specs.Prelude.{ℕ, suc, Bool, true, false, List, [], ◌∷◌, ℤ, pos, ◌+ℤ◌, Option, Some, None}
 use Rattle.ess_semantics.specs.declared.words.Op1.{Op1}
 use Rattle.ess_semantics.specs.declared.words.Op2.{Op2}
-use Rattle.ess_semantics.specs.declared.words.ReprKind.{ReprKind}
 use Rattle.ess_semantics.specs.Order.{same_int}
-use Rattle.ess_semantics.specs.Trees.{Repr, repr, no_reprs, more_reprs, Step, by_value, Op, unary, binary, Ends, both_ends}
-use Rattle.ess_semantics.specs.Trees.{Ex, Exs, number_ex, no_exs, more_exs, seen_ex}
+use Rattle.ess_semantics.specs.Trees.{Step, by_value, Op, unary, binary, Ends, both_ends}
+use Rattle.ess_semantics.specs.Trees.{Ex, Exs, number_ex, no_exs, more_exs}
 use Rattle.ess_semantics.specs.Trees.{Dom, Doms, more_doms, int_dom, matrix_dom}
 use Rattle.ess_guard_laws.specs.Origins.{holds_range}
-use Rattle.ess_guard_laws.specs.IndexDomains.{is_whole_index}
 
 -- Two operands, where they are the only ones.
 abbrev pub both_operands : Exs → Option (Ex × Ex)
@@ -73,18 +71,3 @@ is_plain_operator (binary Op2.Plus) = true
 is_plain_operator (binary Op2.Minus) = true
 is_plain_operator (binary Op2.Times) = true
 is_plain_operator op = false
-
--- Whether it is that of a matrix of atoms.
-abbrev pub is_by_item : Repr → Bool
-is_by_item (repr ReprKind.Matrix (more_reprs (repr ReprKind.Atom rs) no_reprs)) = true
-is_by_item r = false
-
--- Whether it is a domain of matrices with as many index domains as there are steps, each by a value.
-abbrev pub is_reached : List Step → Dom → Bool
-is_reached qs (matrix_dom ds d) = is_whole_index qs ds
-is_reached qs d = false
-
--- Whether a tree is a declared matrix of atoms, and the path reaches a cell of it.
-abbrev pub is_seen_cell : List Step → Ex → Bool
-is_seen_cell qs (seen_ex r d ns js) = is_by_item r && is_reached qs d
-is_seen_cell qs e = false

@@ -1,5 +1,5 @@
 //! What the form of a tree tells of it: which terms are numbers, which are sure to lie in a domain, which index domain a matrix has,
-//! which index is a cell, under what is known of bound names. Conditions that the form tells needn't be asked.
+//! under what is known of bound names. Conditions that the form tells needn't be asked.
 #![tactic(auto)]
 
 mod bounds;
@@ -14,5 +14,5 @@ pub use index_domains::{counted, index_dom, items_counted, one_up_to, plain_axis
 pub use known::{KnownName, bind_any, bind_over, copy_known};
 pub use numbers::is_number;
 pub use operands::pair_in;
-pub use places::{compares, connects, counts, is_cell_index, is_plain};
+pub use places::{compares, connects, counts, is_plain};
 pub use ranges::{has_size, is_sure, one_range};

@@ -8,7 +8,6 @@ use Rattle.ess_semantics.specs.Contexts.{Each}
 use Rattle.ess_semantics.specs.Constants.{operand_count, counted_op, drops_items, tree_constants, operand_constants, gens_constants, dom_constants, doms_constants}
 use Rattle.ess_semantics.proofs.Tests.{and-left, not-true}
 use Rattle.ess_guard_laws.specs.Origins.{Origin, with_any, with_over, known_behind}
-use Rattle.ess_guard_laws.specs.IndexDomains.{is_cell_index}
 use Rattle.ess_guard_laws.specs.Conditions.{own}
 use Rattle.ess_guard_laws.specs.Guard.{is_plain, connects, own_at, opens, passes, guarded, guarded_all, guarded_gens, guarded_dom, guarded_doms, conditions, conditions_all, conditions_gens, conditions_dom, conditions_doms}
 use Rattle.ess_guard_laws.specs.LiteralsFit.{is_literal, may_stand, LiteralsFit, AllLiteralsFit, GensLiteralsFit, DomLiteralsFit, DomsLiteralsFit}
@@ -91,7 +90,7 @@ module _ (natural : Bool) (x y : Text) (P : ℤ → Type 0) (p0 : P (pos 0)) (p1
       Trees (drops_items op) (Gs k es) → O.AllOutside P p0 p1 (Gs k es) → Tree i (node_ex b op (Gs k es)) →
       InEach (Cs k w es ++ own_at natural x y k u op (Gs k es))
   node-asked w u i b op es k f p q r t = in-append (Cs k w es) (own_at natural x y k u op (Gs k es)) p
-      (R.in-choose P p0 p1 (u && is_plain op (Gs k es)) (own k x y op (Gs k es))
+      (R.in-choose P p0 p1 (u && is_plain op) (own k x y op (Gs k es))
       (O.own-in P p0 p1 k x y op (Gs k es) q r (parts-count i b op (Gs k es) f t)))
 
   -- A node whose operands are guarded.
@@ -116,10 +115,10 @@ module _ (natural : Bool) (x y : Text) (P : ℤ → Type 0) (p0 : P (pos 0)) (p1
         let q : Trees (drops_items op) (Gs k es) = kept-all es k (drops_items op) f.1 (operands i b op es p) in
         let n : Tree i (node_ex b op (Gs k es)) = node-kept i b op es k (kept-all es k (drops_items op) f.1) p in
         R.chained-in P p0 p1 i
-        (Cs k (opens natural x y op es) es ++ own_at natural x y k (opens natural x y op es && is_cell_index op es) op (Gs k es))
+        (Cs k (opens natural x y op) es ++ own_at natural x y k false op (Gs k es))
         (node_ex true op (Gs k es))
-        (node-asked (opens natural x y op es) (opens natural x y op es && is_cell_index op es) i b op es k f.0
-        (asked-all es k (opens natural x y op es) (drops_items op) f.1 (operands i b op es p)) q
+        (node-asked (opens natural x y op) false i b op es k f.0
+        (asked-all es k (opens natural x y op) (drops_items op) f.1 (operands i b op es p)) q
         (outside-all es k (drops_items op) f.1 (operands i b op es p)) n)
         (node-outside op (Gs k es) (no-literal i b op r f.0) q) n)
         (node-kept i b op es k (kept-all es k (drops_items op) f.1) p)
@@ -199,8 +198,8 @@ module _ (natural : Bool) (x y : Text) (P : ℤ → Type 0) (p0 : P (pos 0)) (p1
     asked (truth_ex b) k w i f p = tt
     asked (name_ex a) k w i f p = tt
     asked (node_ex b op es) k w i f p = R.in-choose P p0 p1 (b || connects op) _
-        (node-asked (passes natural x y w op es) w i b op es k f.0
-        (asked-all es k (passes natural x y w op es) (drops_items op) f.1 (operands i b op es p))
+        (node-asked (passes natural x y w op) w i b op es k f.0
+        (asked-all es k (passes natural x y w op) (drops_items op) f.1 (operands i b op es p))
         (kept-all es k (drops_items op) f.1 (operands i b op es p)) (outside-all es k (drops_items op) f.1 (operands i b op es p))
         (node-kept i b op es k (kept-all es k (drops_items op) f.1) p))
     asked (matrix_ex es d) k w i f p =

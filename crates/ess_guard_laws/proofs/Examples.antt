@@ -10,6 +10,7 @@ use Rattle.ess_semantics.specs.Choice.{alone, over_child}
 use Rattle.ess_semantics.specs.Trees.{word, tuple_literal, set_literal, function_literal, partition_literal, matrix_literal, Ex, truth_ex, name_ex, node_ex, matrix_ex, comp_ex, cell_ex, seen_ex, no_exs, more_exs, no_gens, over, from, cond, name_pat, no_doms, more_doms, matrix_dom, function_dom, ex1, ex2, fun1, at1}
 use Rattle.ess_semantics.specs.Meaning.{Env, empty_env, meaning}
 use Rattle.ess_semantics.proofs.Shorthands.{N, n, es1, es2, range, upto, v}
+use Rattle.ess_guard_laws.specs.Conditions.{chained}
 use Rattle.ess_guard_laws.specs.Guard.{there, make_total, make_natural, make_total_term}
 
 -- Reserved names.
@@ -172,8 +173,15 @@ item = refl
 sure_item : there q r (at1 false m (n 2)) ≡ []
 sure_item = refl
 
-natural_item : make_natural q r (equal (at1 false m c) (n 2)) ≡ equal (at1 false m c) (n 2)
+-- in a natural place too
+natural_item : make_natural q r (equal (at1 false m c) (n 2)) ≡
+    chained (ex2 true Op2.And (ex2 true Op2.Le (n 1) c) (ex2 true Op2.Le c (n 3)) ∷ []) (equal (at1 false m c) (n 2))
 natural_item = refl
+
+natural_sum : make_natural q r (ex2 true Op2.Lt (ex2 false Op2.Plus (at1 false m (n 1)) (at1 false m c)) (n 5)) ≡
+    chained (ex2 true Op2.And (ex2 true Op2.Le (n 1) c) (ex2 true Op2.Le c (n 3)) ∷ [])
+    (ex2 true Op2.Lt (ex2 false Op2.Plus (at1 false m (n 1)) (at1 false m c)) (n 5))
+natural_sum = refl
 
 item_of_list : there q r (at1 false (node_ex false matrix_literal (es2 (n 5) (n 6))) c) ≡ ex2 true Op2.And (ex2 true Op2.Le (n 1) c) (ex2 true Op2.Le c (n 2)) ∷ []
 item_of_list = refl

@@ -9,7 +9,6 @@ use Rattle.ess_semantics.specs.Plans.{Plan}
 use Rattle.ess_semantics.specs.Models.{is_flat_op, is_not, begins_with_not, is_flat, are_flat, scalar_cell, cell_for, with_cells, all_with_cells}
 use Rattle.ess_semantics.proofs.Tests.{and-left, and-right, and-both}
 use Rattle.ess_guard_laws.specs.Origins.{Origin}
-use Rattle.ess_guard_laws.specs.IndexDomains.{is_cell_index}
 use Rattle.ess_guard_laws.specs.Conditions.{chained, own}
 use Rattle.ess_guard_laws.specs.Guard.{is_plain, connects, own_at, opens, passes, guarded, guarded_all, conditions, conditions_all}
 use Rattle.ess_guard_laws.specs.Covered.{is_boolean}
@@ -106,10 +105,10 @@ module _ (natural : Bool) (x y : Text) where
     flat-stays (cell_ex false n no_exs) k t = refl
     flat-stays (cell_ex b n (more_exs e es)) k t = cc
     flat-stays (node_ex b op es) k t =
-        ap (λ fs. if b && not (connects op) then chained (conditions_all natural x y k (opens natural x y op es) es ++ own_at natural x y k (opens natural x y op es && is_cell_index op es) op fs) (node_ex true op fs) else node_ex b op fs) (all-stay es k (and-right (is_flat_op op) (are_flat_trees es) t))
+        ap (λ fs. if b && not (connects op) then chained (conditions_all natural x y k (opens natural x y op) es ++ own k x y op fs) (node_ex true op fs) else node_ex b op fs) (all-stay es k (and-right (is_flat_op op) (are_flat_trees es) t))
         ∙ chosen-node b (connects op) _ op es
-        (none-asked _ _ (all-ask es k (opens natural x y op es) (and-right (is_flat_op op) (are_flat_trees es) t))
-        (choose-none ((opens natural x y op es && is_cell_index op es) && is_plain op es) (own k x y op es) (own-flat k op es (and-left (is_flat_op op) (are_flat_trees es) t))))
+        (none-asked _ _ (all-ask es k (opens natural x y op) (and-right (is_flat_op op) (are_flat_trees es) t))
+        (own-flat k op es (and-left (is_flat_op op) (are_flat_trees es) t)))
     flat-stays (truth_ex b) k t = cc
     flat-stays (matrix_ex es d) k t = cc
     flat-stays (comp_ex e gs) k t = cc
@@ -126,8 +125,8 @@ module _ (natural : Bool) (x y : Text) where
     flat-asks (cell_ex false n no_exs) k w t = refl
     flat-asks (cell_ex b n (more_exs e es)) k w t = cc
     flat-asks (node_ex b op es) k w t = choose-none (b || connects op) _
-        (none-asked _ _ (all-ask es k (passes natural x y w op es) (and-right (is_flat_op op) (are_flat_trees es) t))
-        (choose-none (w && is_plain op (guarded_all natural x y k es)) (own k x y op (guarded_all natural x y k es)) (own-flat k op (guarded_all natural x y k es) (and-left (is_flat_op op) (are_flat_trees es) t))))
+        (none-asked _ _ (all-ask es k (passes natural x y w op) (and-right (is_flat_op op) (are_flat_trees es) t))
+        (choose-none (w && is_plain op) (own k x y op (guarded_all natural x y k es)) (own-flat k op (guarded_all natural x y k es) (and-left (is_flat_op op) (are_flat_trees es) t))))
     flat-asks (truth_ex b) k w t = cc
     flat-asks (matrix_ex es d) k w t = cc
     flat-asks (comp_ex e gs) k w t = cc

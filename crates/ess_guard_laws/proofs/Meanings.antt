@@ -10,7 +10,6 @@ use Rattle.ess_semantics.specs.Domains.{members, integers, tuples, records, matr
 use Rattle.ess_semantics.specs.Meaning.{Env, meaning, meanings, items_under, domain_of, domains_of, members_in, with_pat, collect, where_true, matrix_value, cell_in, indices, spans_of, attributes_of}
 use Rattle.ess_semantics.proofs.Tests.{and-left, and-right, not-true}
 use Rattle.ess_guard_laws.specs.Origins.{Origin, with_any, with_over, known_behind}
-use Rattle.ess_guard_laws.specs.IndexDomains.{is_cell_index}
 use Rattle.ess_guard_laws.specs.Conditions.{matrix_conditions, own}
 use Rattle.ess_guard_laws.specs.Guard.{is_plain, connects, own_at, opens, passes, guarded, guarded_all, guarded_gens, guarded_dom, guarded_doms, conditions, conditions_all, conditions_gens, conditions_dom, conditions_doms}
 use Rattle.ess_guard_laws.specs.Holds.{Hold}
@@ -40,7 +39,7 @@ module _ (natural : Bool) (x y : Text) (own-holds : RowsHold x y) (matrix-holds 
   -- An operator that has a value, at operands that mean the same.
   own-at-holds : (k : Names Origin) (w : Bool) (op : Op) (es fs : Exs) (env : Env) → meanings fs env ≡ meanings es env →
       is_some (and_then (all_some (meanings es env)) (value_of_op op)) ≡ true → Hold (own_at natural x y k w op fs) env
-  own-at-holds k w op es fs env e h = choose-holds (w && is_plain op fs) (own k x y op fs) env
+  own-at-holds k w op es fs env e h = choose-holds (w && is_plain op) (own k x y op fs) env
       (λ q. own-holds k op fs env (ap (λ os. is_some (and_then (all_some os) (value_of_op op))) e ∙ h))
 
   -- The conditions of a node's operands and its own hold where it has a value.
@@ -59,9 +58,9 @@ module _ (natural : Bool) (x y : Text) (own-holds : RowsHold x y) (matrix-holds 
     same (node_ex b op es) k env = choose-same (b && not (connects op)) _ _ env (meaning (node_ex b op es) env)
         (λ t. let c : connects op ≡ false = not-true (connects op) (and-right b (not (connects op)) t) in
         let r : b ≡ true = and-left b (not (connects op)) t in
-        chained-means (Cs k (opens natural x y op es) es ++ own_at natural x y k (opens natural x y op es && is_cell_index op es) op (Gs k es)) (node_ex true op (Gs k es)) env
+        chained-means (Cs k (opens natural x y op) es ++ own_at natural x y k false op (Gs k es)) (node_ex true op (Gs k es)) env
         (as_truth (value_of_node op (meanings es env))) (ap (λ os. Some (truth (as_truth (value_of_node op os)))) (same-all es k env))
-        (λ h. node-holds (opens natural x y op es) (opens natural x y op es && is_cell_index op es) op es k env (same-all es k env) (all-hold es k (opens natural x y op es) env) c (true-some (value_of_node op (meanings es env)) h))
+        (λ h. node-holds (opens natural x y op) false op es k env (same-all es k env) (all-hold es k (opens natural x y op) env) c (true-some (value_of_node op (meanings es env)) h))
         ∙ ap (λ z. false_where_undefined z (value_of_node op (meanings es env))) (sym r))
         (λ t. ap (λ os. false_where_undefined b (value_of_node op os)) (same-all es k env))
     same (matrix_ex es d) k env =
@@ -122,7 +121,7 @@ module _ (natural : Bool) (x y : Text) (own-holds : RowsHold x y) (matrix-holds 
     hold (truth_ex b) k w env h = tt
     hold (name_ex a) k w env h = tt
     hold (node_ex true op es) k w env h = tt
-    hold (node_ex false op es) k w env h = choose-holds (connects op) _ env (λ c. node-holds (passes natural x y w op es) w op es k env (same-all es k env) (all-hold es k (passes natural x y w op es) env) c h)
+    hold (node_ex false op es) k w env h = choose-holds (connects op) _ env (λ c. node-holds (passes natural x y w op) w op es k env (same-all es k env) (all-hold es k (passes natural x y w op) env) c h)
     hold (matrix_ex es d) k w env h =
         let s : is_some (all_some (meanings es env)) ≡ true = then-first (all_some (meanings es env)) (matrix_value (members_in (domain_of d env))) h in
         hold-append (Cs k false es) _ env (all-hold es k false env s)

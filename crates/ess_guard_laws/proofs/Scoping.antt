@@ -8,7 +8,6 @@ use Rattle.ess_semantics.specs.Substitution.{Binds, BindsAll, NamesAre, NamesAre
 use Rattle.ess_semantics.specs.Scoped.{is_bound, is_bound_by_some, with_names, Scoped, ScopedExs, ScopedGens, ScopedDom, ScopedDoms}
 use Rattle.ess_semantics.proofs.Tests.{and-left, and-right, not-true}
 use Rattle.ess_guard_laws.specs.Origins.{Origin, with_any, with_over, known_behind}
-use Rattle.ess_guard_laws.specs.IndexDomains.{is_cell_index}
 use Rattle.ess_guard_laws.specs.Conditions.{own}
 use Rattle.ess_guard_laws.specs.Guard.{is_plain, connects, own_at, opens, passes, guarded, guarded_all, guarded_gens, guarded_dom, guarded_doms, conditions, conditions_all, conditions_gens, conditions_dom, conditions_doms}
 use Rattle.ess_guard_laws.specs.Reserved.{is_other}
@@ -72,7 +71,7 @@ module _ (natural : Bool) (x y : Text) (z : Text → Bool) (differ : same_text y
       ScopedExs z s o (Gs k es) →
       Each s o (Cs k w es ++ own_at natural x y k u op (Gs k es))
   node-scoped w u op es k s o c v p q = scoped-append z s o (Cs k w es) (own_at natural x y k u op (Gs k es)) p
-      (scoped-choose z s o (u && is_plain op (Gs k es)) (own k x y op (Gs k es)) (R.own-scoped z x y differ s o c v k op (Gs k es) q))
+      (scoped-choose z s o (u && is_plain op) (own k x y op (Gs k es)) (R.own-scoped z x y differ s o c v k op (Gs k es) q))
 
   mutual
     -- A tree with its Booleans guarded.
@@ -82,10 +81,10 @@ module _ (natural : Bool) (x y : Text) (z : Text → Bool) (differ : same_text y
     scoped (name_ex a) k s o c v f m = m
     scoped (node_ex b op es) k s o c v f m = choose-scoped z s o (b && not (connects op)) _ _
         (chained-scoped z s o
-        (Cs k (opens natural x y op es) es ++ own_at natural x y k (opens natural x y op es && is_cell_index op es) op (Gs k es))
+        (Cs k (opens natural x y op) es ++ own_at natural x y k false op (Gs k es))
         (node_ex true op (Gs k es))
-        (node-scoped (opens natural x y op es) (opens natural x y op es && is_cell_index op es) op es k s o c v
-        (asked-all es k (opens natural x y op es) s o c v f m) (scoped-all es k s o c v f m))
+        (node-scoped (opens natural x y op) false op es k s o c v
+        (asked-all es k (opens natural x y op) s o c v f m) (scoped-all es k s o c v f m))
         (scoped-all es k s o c v f m))
         (scoped-all es k s o c v f m)
     scoped (matrix_ex es d) k s o c v f m = (scoped-all es k s o c v f.0 m.0, scoped-dom d k s o c v f.1 m.1)
@@ -150,7 +149,7 @@ module _ (natural : Bool) (x y : Text) (z : Text → Bool) (differ : same_text y
     asked (truth_ex b) k w s o c v f m = tt
     asked (name_ex a) k w s o c v f m = tt
     asked (node_ex b op es) k w s o c v f m = scoped-choose z s o (b || connects op) _
-        (node-scoped (passes natural x y w op es) w op es k s o c v (asked-all es k (passes natural x y w op es) s o c v f m)
+        (node-scoped (passes natural x y w op) w op es k s o c v (asked-all es k (passes natural x y w op) s o c v f m)
         (scoped-all es k s o c v f m))
     asked (matrix_ex es d) k w s o c v f m = scoped-append z s o (Cs k false es) _ (asked-all es k false s o c v f.0 m.0)
         (scoped-append z s o (conditions_dom natural x y k d) _ (asked-dom d k s o c v f.1 m.1)

@@ -11,7 +11,6 @@ use Rattle.ess_semantics.specs.Meets.{Meets, MeetsAll, MeetsGens, MeetsDom, Meet
 use Rattle.ess_semantics.proofs.Tests.{and-right, not-true}
 use Rattle.ess_rules_laws.proofs.Bindings.{each-of-map, each-in-map, guarded-map}
 use Rattle.ess_guard_laws.specs.Origins.{Origin, with_any, with_over, known_behind}
-use Rattle.ess_guard_laws.specs.IndexDomains.{is_cell_index}
 use Rattle.ess_guard_laws.specs.Conditions.{own}
 use Rattle.ess_guard_laws.specs.Guard.{is_plain, connects, own_at, opens, passes, guarded, guarded_all, guarded_gens, guarded_dom, guarded_doms, conditions, conditions_all, conditions_gens, conditions_dom, conditions_doms}
 use Rattle.ess_guard_laws.proofs.MetRows.{Met, met-append, met-choose, chained-met, over-met, from-met, given-met, matrix-met, own-met}
@@ -59,7 +58,7 @@ module _ (natural : Bool) (x y : Text) where
       MeetsAll (guards op) es env → Met (Cs k w es ++ own_at natural x y k u op fs) env
   node-met w u op es fs k env f g c m =
       let s : MeetsAll false es env = subst (λ z. MeetsAll z es env) (guards-none op c) m in
-      met-append (Cs k w es) (own_at natural x y k u op fs) env (f s) (met-choose (u && is_plain op fs) (own k x y op fs) env (λ t. own-met k x y op fs env (g s)))
+      met-append (Cs k w es) (own_at natural x y k u op fs) env (f s) (met-choose (u && is_plain op) (own k x y op fs) env (λ t. own-met k x y op fs env (g s)))
 
   mutual
     -- A tree with its Booleans guarded.
@@ -69,8 +68,8 @@ module _ (natural : Bool) (x y : Text) where
     met (name_ex a) k env m = tt
     met (node_ex b op es) k env m = choose-met (b && not (connects op)) _ _ env
         (λ t. let c : connects op ≡ false = not-true (connects op) (and-right b (not (connects op)) t) in
-        chained-met (Cs k (opens natural x y op es) es ++ own_at natural x y k (opens natural x y op es && is_cell_index op es) op (Gs k es)) (node_ex true op (Gs k es)) env
-        (node-met (opens natural x y op es) (opens natural x y op es && is_cell_index op es) op es (Gs k es) k env (asked-all es k (opens natural x y op es) env) (met-all es k false env) c m) (met-all es k (guards op) env m))
+        chained-met (Cs k (opens natural x y op) es ++ own_at natural x y k false op (Gs k es)) (node_ex true op (Gs k es)) env
+        (node-met (opens natural x y op) false op es (Gs k es) k env (asked-all es k (opens natural x y op) env) (met-all es k false env) c m) (met-all es k (guards op) env m))
         (λ t. met-all es k (guards op) env m)
     met (matrix_ex es d) k env m = (met-all es k false env m.0, met-dom d k env m.1)
     met (comp_ex e gs) k env m = met-gens gs k env e (G (known_behind gs k) e) (λ here q. met e (known_behind gs k) here q) m
@@ -124,7 +123,7 @@ module _ (natural : Bool) (x y : Text) where
     asked (name_ex a) k w env m = tt
     asked (node_ex true op es) k w env m = tt
     asked (node_ex false op es) k w env m = met-choose (connects op) _ env
-        (λ c. node-met (passes natural x y w op es) w op es (Gs k es) k env (asked-all es k (passes natural x y w op es) env) (met-all es k false env) c m)
+        (λ c. node-met (passes natural x y w op) w op es (Gs k es) k env (asked-all es k (passes natural x y w op) env) (met-all es k false env) c m)
     asked (matrix_ex es d) k w env m = met-append (Cs k false es) _ env (asked-all es k false env m.0)
         (met-append (conditions_dom natural x y k d) _ env (asked-dom d k env m.1) (matrix-met x es (guarded_dom natural x y k d) env (met-dom d k env m.1)))
     asked (comp_ex e gs) k w env m = asked-gens gs k env (C (known_behind gs k) false e) e (λ here q. asked e (known_behind gs k) false here q) m

@@ -9,7 +9,6 @@ use Rattle.ess_semantics.specs.Names.{Names}
 use Rattle.ess_semantics.specs.Trees.{Op, unary, binary, Ex, Exs, number_ex, truth_ex, name_ex, node_ex, matrix_ex, comp_ex, cell_ex, seen_ex, no_exs, more_exs, Gens, no_gens, over, from, cond, Dom, Doms, bool_dom, int_dom, name_dom, tuple_dom, record_dom, matrix_dom, set_dom, mset_dom, function_dom, relation_dom, partition_dom, no_doms, more_doms}
 use Rattle.ess_semantics.specs.Operators.{connective}
 use Rattle.ess_guard_laws.specs.Origins.{Origin, with_any, with_over, known_behind}
-use Rattle.ess_guard_laws.specs.IndexDomains.{is_cell_index}
 use Rattle.ess_guard_laws.specs.Conditions.{chained, summed, all_of, every, given_that, matrix_conditions, own}
 
 -- ---- natural places
@@ -36,12 +35,12 @@ counts (binary Op2.Mod) = true
 counts (binary Op2.Pow) = true
 counts op = false
 
--- Whether the operator may have nothing in a natural place: a quotient, a remainder, a power, a cell of a declared matrix.
-abbrev pub is_plain : Op → Exs → Bool
-is_plain (binary Op2.Div) es = true
-is_plain (binary Op2.Mod) es = true
-is_plain (binary Op2.Pow) es = true
-is_plain op es = is_cell_index op es
+-- Whether the operator may have nothing in a natural place: a quotient, a remainder, a power.
+abbrev pub is_plain : Op → Bool
+is_plain (binary Op2.Div) = true
+is_plain (binary Op2.Mod) = true
+is_plain (binary Op2.Pow) = true
+is_plain op = false
 
 -- Whether an operator treats its operands one by one, or reads what they are.
 abbrev pub connects : Op → Bool
@@ -53,15 +52,15 @@ connects op = is_some (connective op)
 module _ (natural : Bool) (x y : Text) where
   -- An operator's own conditions, where w says that it stands in a natural place.
   abbrev pub own_at : Names Origin → Bool → Op → Exs → List Ex
-  own_at k w op es = if w && is_plain op es then [] else own k x y op es
+  own_at k w op es = if w && is_plain op then [] else own k x y op es
 
   -- Whether the operands of a Boolean stand in natural places.
-  abbrev pub opens : Op → Exs → Bool
-  opens op es = natural && (compares op || is_cell_index op es)
+  abbrev pub opens : Op → Bool
+  opens op = natural && compares op
 
   -- Whether the operands of a term do that stands in one.
-  abbrev pub passes : Bool → Op → Exs → Bool
-  passes w op es = w && (counts op || is_cell_index op es)
+  abbrev pub passes : Bool → Op → Bool
+  passes w op = w && counts op
 
   abbrev mutual
     -- The tree with each Boolean in it made total, under what is known of names.
@@ -71,7 +70,7 @@ module _ (natural : Bool) (x y : Text) where
     guarded k (name_ex a) = name_ex a
     guarded k (node_ex b op es) =
         if b && not (connects op) then
-        chained (conditions_all k (opens op es) es ++ own_at k (opens op es && is_cell_index op es) op (guarded_all k es))
+        chained (conditions_all k (opens op) es ++ own k x y op (guarded_all k es))
         (node_ex true op (guarded_all k es)) else
         node_ex b op (guarded_all k es)
     guarded k (matrix_ex es d) = matrix_ex (guarded_all k es) (guarded_dom k d)
@@ -119,7 +118,7 @@ module _ (natural : Bool) (x y : Text) where
     conditions k w (name_ex a) = []
     conditions k w (node_ex b op es) =
         if b || connects op then [] else
-        conditions_all k (passes w op es) es ++ own_at k w op (guarded_all k es)
+        conditions_all k (passes w op) es ++ own_at k w op (guarded_all k es)
     conditions k w (matrix_ex es d) = conditions_all k false es ++ (conditions_dom k d ++ matrix_conditions x es (guarded_dom k d))
     conditions k w (comp_ex e gs) = conditions_gens k gs (conditions (known_behind gs k) false e)
     conditions k w (cell_ex b n es) = if b then [] else conditions_all k false es
@@ -169,7 +168,7 @@ module _ (x y : Text) where
   abbrev pub make_total : Ex → Ex
   make_total b = guarded false x y [] b
 
-  -- The same where quotients, remainders, powers and cells of declared matrices may have nothing in natural places.
+  -- The same where quotients, remainders and powers may have nothing in natural places.
   abbrev pub make_natural : Ex → Ex
   make_natural b = guarded true x y [] b
 

@@ -1,11 +1,10 @@
 -- The index domain of a matrix term, as its form tells it: of a literal, a comprehension, a declared matrix, and of what an
 -- index picks out of one.
 use Rattle.std.specs.Prelude.{Bool, true, false, ◌&&◌, if◌then◌else◌, List, [], ◌∷◌, pos, Option, Some, None}
-use Rattle.ess_semantics.specs.declared.words.ReprKind.{ReprKind}
 use Rattle.ess_semantics.specs.declared.words.Op1.{Op1}
 use Rattle.ess_semantics.specs.declared.words.Op2.{Op2}
 use Rattle.ess_semantics.specs.declared.words.Fun.{Fun}
-use Rattle.ess_semantics.specs.Trees.{Step, by_value, Op, unary, binary, index, matrix_literal, both_ends, repr, no_reprs, more_reprs, Ex, Exs, number_ex, name_ex, node_ex, matrix_ex, comp_ex, cell_ex, seen_ex, no_exs, more_exs, Dom, Doms, bool_dom, int_dom, name_dom, matrix_dom, no_doms, more_doms, fun1}
+use Rattle.ess_semantics.specs.Trees.{Step, by_value, Op, unary, binary, index, matrix_literal, both_ends, Ex, Exs, number_ex, name_ex, node_ex, matrix_ex, comp_ex, cell_ex, seen_ex, no_exs, more_exs, Dom, Doms, bool_dom, int_dom, name_dom, matrix_dom, no_doms, more_doms, fun1}
 use Rattle.ess_semantics.specs.Constants.{operand_count}
 
 -- `int(1..n)`
@@ -68,18 +67,3 @@ index_dom (node_ex false matrix_literal es) = Some (one_up_to (number_ex (pos (o
 index_dom (matrix_ex es d) = Some d
 index_dom (comp_ex e gs) = Some (one_up_to (fun1 false Fun.Sum (comp_ex (number_ex (pos 1)) gs)))
 index_dom m = plain_axis (first_index (dom_followed m))
-
--- ---- declared matrices of atoms
-
--- Whether there are as many steps as index domains, each by a value.
-abbrev pub is_whole_index : List Step → Doms → Bool
-is_whole_index [] no_doms = true
-is_whole_index (by_value ∷ qs) (more_doms d ds) = is_whole_index qs ds
-is_whole_index qs ds = false
-
--- Whether it is a declared matrix of atoms at an index: a cell.
-abbrev pub is_cell_index : Op → Exs → Bool
-is_cell_index (index qs)
-    (more_exs (seen_ex (repr ReprKind.Matrix (more_reprs (repr ReprKind.Atom rs) no_reprs)) (matrix_dom ds d) ns js) is) =
-    is_whole_index qs ds
-is_cell_index op es = false

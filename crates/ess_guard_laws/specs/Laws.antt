@@ -39,7 +39,7 @@ GuardingKeepsMeanings = (x y : Text) (e : Ex) (env : Env) → meaning (make_tota
 abbrev pub GuardedIsKept : Type 0
 GuardedIsKept = (x y : Text) (g : Names Ty) (e : Ex) → Kept g e (make_total x y e)
 
--- So it is where quotients, remainders, powers and cells stand as they are in natural places.
+-- So it is where quotients, remainders and powers stand as they are in natural places.
 abbrev pub NaturalIsKept : Type 0
 NaturalIsKept = (x y : Text) (g : Names Ty) (e : Ex) → Kept g e (make_natural x y e)
 

@@ -22,7 +22,7 @@ pub fn guarded_is_kept()
     ensures { GuardedIsKept }
 {}
 
-/// So it is where quotients, remainders, powers and cells stand as they are in natural places.
+/// So it is where quotients, remainders and powers stand as they are in natural places.
 pub fn natural_is_kept()
     ensures { NaturalIsKept }
 {}

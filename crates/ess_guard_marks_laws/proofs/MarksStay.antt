@@ -9,7 +9,6 @@ use Rattle.ess_semantics.specs.OperatorTypes.{member_ty}
 use Rattle.ess_semantics.specs.Typing.{type_of, source_ty}
 use Rattle.ess_semantics.specs.NamesAt.{names_behind}
 use Rattle.ess_guard_laws.specs.Origins.{Origin, with_any, with_over, known_behind}
-use Rattle.ess_guard_laws.specs.IndexDomains.{is_cell_index}
 use Rattle.ess_guard_laws.specs.Conditions.{chained, matrix_conditions, own}
 use Rattle.ess_guard_laws.specs.Guard.{is_plain, connects, own_at, opens, passes, guarded, guarded_all, guarded_gens, guarded_dom, guarded_doms, conditions, conditions_all, conditions_gens, conditions_dom, conditions_doms}
 use Rattle.ess_guard_laws.specs.Covered.{covers, Covered, CoveredAll, CoveredGens, CoveredDom, CoveredDoms}
@@ -65,7 +64,7 @@ module _ (natural : Bool) (x y : Text) (law : P.TypesLaw natural x y) where
   node-asked : (k : Names Origin) (op : Op) (es : Exs) (g : Names Ty) → covers op es ≡ true → BothAll k es g → (v w : Bool) →
       FullConds (Cs k v es ++ own_at natural x y k w op (Gs k es)) g
   node-asked k op es g c b v w = full-append (Cs k v es) (own_at natural x y k w op (Gs k es)) g (b.1 v)
-      (full-if (w && is_plain op (Gs k es)) (own k x y op (Gs k es)) g
+      (full-if (w && is_plain op) (own k x y op (Gs k es)) g
       (own-full k x y op (Gs k es) g (covers-kept natural x y op es k c) b.0))
 
   choose-full : (t : Bool) (cs : List Ex) (n : Ex) (g : Names Ty) → FullConds cs g → Full n g → Full (if t then chained cs n else n) g
@@ -75,7 +74,7 @@ module _ (natural : Bool) (x y : Text) (law : P.TypesLaw natural x y) where
   truth-node : (k : Names Origin) (op : Op) (es : Exs) (g : Names Ty) → covers op es ≡ true → BothAll k es g → Both k (node_ex true op es) g
   truth-node k op es g c b = (
     choose-full (not (connects op)) _ (node_ex true op (Gs k es)) g
-        (node-asked k op es g c b (opens natural x y op es) (opens natural x y op es && is_cell_index op es)) (tt, b.0),
+        (node-asked k op es g c b (opens natural x y op) false) (tt, b.0),
     λ w. tt,
   )
 
@@ -85,8 +84,8 @@ module _ (natural : Bool) (x y : Text) (law : P.TypesLaw natural x y) where
       let s : type_of (node_ex false op (Gs k es)) g ≡ type_of (node_ex false op es) g =
       P.place-same natural x y law k g (node_ex false op es) l h in (
         (ap (λ o. is_truth_op op || is_bool o) s ∙ f, b.0),
-        λ w. full-if (connects op) (Cs k (passes natural x y w op es) es ++ own_at natural x y k w op (Gs k es)) g
-            (node-asked k op es g c b (passes natural x y w op es) w),
+        λ w. full-if (connects op) (Cs k (passes natural x y w op) es ++ own_at natural x y k w op (Gs k es)) g
+            (node-asked k op es g c b (passes natural x y w op) w),
       )
 
   -- The type of what a generator takes stays.

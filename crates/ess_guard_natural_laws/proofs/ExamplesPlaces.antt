@@ -1,13 +1,13 @@
 -- Worked examples: what may have nothing in natural places, and what may not.
-use Rattle.std.proofs.Common.{◌≡◌, refl, true, false, pos}
+use Rattle.std.proofs.Common.{◌≡◌, refl, true, false, [], ◌∷◌, pos}
 use Rattle.std.specs.Prelude.{codes}
 use Rattle.ess_semantics.specs.declared.words.Op2.{Op2}
 use Rattle.ess_semantics.specs.declared.words.Fun.{Fun}
-use Rattle.ess_semantics.specs.Trees.{set_literal, Ex, number_ex, node_ex, no_exs, more_exs, ex2, fun1}
+use Rattle.ess_semantics.specs.Trees.{by_value, index, binary, set_literal, Ex, number_ex, node_ex, no_exs, more_exs, ex2, fun1}
 use Rattle.ess_semantics.specs.Meaning.{empty_env}
 use Rattle.ess_semantics.specs.Totality.{Total}
 use Rattle.ess_guard_laws.specs.Guard.{make_natural}
-use Rattle.ess_guard_natural_laws.specs.TotalButNatural.{TotalButNatural}
+use Rattle.ess_guard_natural_laws.specs.TotalButNatural.{opens_places, may_lack, TotalButNatural}
 
 -- `1 / 0`
 abbrev nothing : Ex
@@ -40,3 +40,9 @@ least = ex2 true Op2.Eq (fun1 false Fun.Min (node_ex false set_literal (more_exs
 
 pub least-partial : TotalButNatural false least empty_env → ⊥
 least-partial t = let r = t.1.0.1.0.1.0.0 refl in cc
+
+-- A quotient may have nothing in a natural place, and a sum may not: it has a value where its operands have. An item of a matrix may
+-- not either, and its index stands in no natural place.
+pub lacking : (may_lack true false (binary Op2.Div) ≡ true) × (may_lack true false (binary Op2.Plus) ≡ false)
+    × (may_lack true false (index (by_value ∷ [])) ≡ false) × (opens_places true false (index (by_value ∷ [])) ≡ false)
+lacking = (refl, refl, refl, refl)

@@ -5,7 +5,6 @@ use Rattle.ess_semantics.specs.Operators.{value_of_node}
 use Rattle.ess_semantics.specs.Meaning.{Env, meaning, meanings, domain_of, members_in, with_pat}
 use Rattle.ess_semantics.specs.Totality.{HasValue, Total, TotalAll, TotalUnder, TotalDom, TotalDoms}
 use Rattle.ess_rules_laws.proofs.Bindings.{each-of-map, each-in-map}
-use Rattle.ess_guard_laws.specs.IndexDomains.{is_cell_index}
 use Rattle.ess_guard_laws.specs.Guard.{counts, is_plain}
 use Rattle.ess_guard_laws.specs.Supplied.{Unless}
 use Rattle.ess_guard_laws.proofs.Safe.{is_safe, node-some}
@@ -32,7 +31,7 @@ mutual
   placed w (name_ex a) env t = tt
   placed w (node_ex true op es) env t = t
   placed w (node_ex false op es) env t =
-      (unless-there (w && is_plain op es) _ t.0, all-placed (w && (counts op || is_cell_index op es)) es env t.1)
+      (unless-there (w && is_plain op) _ t.0, all-placed (w && counts op) es env t.1)
   placed w (matrix_ex es d) env t = t
   placed w (comp_ex e gs) env t = t
   placed w (cell_ex b n es) env t = t
@@ -46,7 +45,7 @@ mutual
 -- A node that has a value where its operands have values.
 pub node-total : (w b : Bool) (op : Op) (es : Exs) (env : Env) → HasValue (value_of_node op (meanings es env)) (meanings es env) →
     TA es env → TotalButNatural w (node_ex b op es) env
-node-total w b op es env h t = (unless-there (may_lack w b op es) _ h, all-placed (opens_places w b op es) es env t)
+node-total w b op es env h t = (unless-there (may_lack w b op) _ h, all-placed (opens_places w b op) es env t)
 
 -- A node of an operator that asks for nothing.
 pub safe-total : (b : Bool) (op : Op) (es : Exs) (env : Env) → is_safe op ≡ true → TA es env → T (node_ex b op es) env

@@ -10,7 +10,6 @@ use Rattle.ess_semantics.specs.Totality.{HasValue}
 use Rattle.ess_semantics.specs.Constants.{operand_count}
 use Rattle.ess_rules_laws.proofs.Simulation.{Vals, E}
 use Rattle.ess_guard_laws.specs.Origins.{Origin, with_any, with_over, known_behind}
-use Rattle.ess_guard_laws.specs.IndexDomains.{is_cell_index}
 use Rattle.ess_guard_laws.specs.Conditions.{chained, matrix_conditions, own}
 use Rattle.ess_guard_laws.specs.Guard.{compares, counts, connects, own_at, opens, passes, guarded, guarded_all, guarded_gens, guarded_dom, guarded_doms, conditions, conditions_all, conditions_gens, conditions_dom, conditions_doms}
 use Rattle.ess_guard_laws.specs.Covered.{covers, asks_nothing, AskNothing, Covered, CoveredAll, CoveredGens, CoveredDom, CoveredDoms}
@@ -26,7 +25,7 @@ use Rattle.ess_guard_natural_laws.specs.TotalButNatural.{opens_places, may_lack,
 use Rattle.ess_guard_natural_laws.proofs.Places.{T, TA, unless-there, placed}
 use Rattle.ess_guard_natural_laws.proofs.Behind.{Behind, behind-append, chained-total, over-behind, from-behind, given-behind}
 use Rattle.ess_guard_natural_laws.proofs.ConditionRows.{matrix-total}
-use Rattle.ess_guard_natural_laws.proofs.PlainOperators.{cell-kept, lack-same, quiet}
+use Rattle.ess_guard_natural_laws.proofs.PlainOperators.{quiet}
 use Rattle.ess_guard_natural_laws.proofs.OwnTotals as O
 use Rattle.ess_guard_natural_laws.proofs.OwnTotals.{behind-map}
 
@@ -68,20 +67,20 @@ module _ (x y : Text) (pl : Bool) (ts : List TypeEntry) (cs : Names Table) where
 
   -- An operator under its own conditions, in a natural place or not.
   row-behind : (w b : Bool) (k : Names Origin) (op : Op) (es : Exs) (g : Vals) → Known k g → covers op es ≡ true →
-      AllTotalButNatural (opens_places w b op es) es (M g) →
-      Behind (if may_lack w b op es then [] else own k x y op es) (M g) (TotalButNatural w (node_ex b op es) (M g))
-  row-behind w b k op es g h v t = go (may_lack w b op es) refl (opens_places w b op es) refl
+      AllTotalButNatural (opens_places w b op) es (M g) →
+      Behind (if may_lack w b op then [] else own k x y op es) (M g) (TotalButNatural w (node_ex b op es) (M g))
+  row-behind w b k op es g h v t = go (may_lack w b op) refl (opens_places w b op) refl
     where
-      go : (l : Bool) → may_lack w b op es ≡ l → (o : Bool) → opens_places w b op es ≡ o →
+      go : (l : Bool) → may_lack w b op ≡ l → (o : Bool) → opens_places w b op ≡ o →
           Behind (if l then [] else own k x y op es) (M g)
           (Unless l (HasValue (value_of_node op (meanings es (M g))) (meanings es (M g)))
-          × AllTotalButNatural (opens_places w b op es) es (M g))
+          × AllTotalButNatural (opens_places w b op) es (M g))
       go true e o q = (tt, t)
       go false e false q = behind-map (own k x y op es) (M g) _ _ (λ u. (u, t))
           (O.own-total x y pl ts cs k op es g h v (subst (λ z. AllTotalButNatural z es (M g)) q t))
       go false e true q = let r = quiet w b k x y op es e q in
           subst (λ l. Behind l (M g) (HasValue (value_of_node op (meanings es (M g))) (meanings es (M g))
-          × AllTotalButNatural (opens_places w b op es) es (M g))) (sym r.1) ((λ u. node-some op (meanings es (M g)) r.0 u), t)
+          × AllTotalButNatural (opens_places w b op) es (M g))) (sym r.1) ((λ u. node-some op (meanings es (M g)) r.0 u), t)
 
   -- ---- whole trees
 
@@ -90,7 +89,7 @@ module _ (x y : Text) (pl : Bool) (ts : List TypeEntry) (cs : Names Table) where
   asks-none (truth_ex b) k w t = refl
   asks-none (name_ex a) k w t = refl
   asks-none (node_ex b op es) k w t =
-      ap (λ z. if z then [] else Cs k (passes true x y w op es) es ++ own_at true x y k w op (Gs k es)) t
+      ap (λ z. if z then [] else Cs k (passes true x y w op) es ++ own_at true x y k w op (Gs k es)) t
   asks-none (matrix_ex es d) k w t = cc
   asks-none (comp_ex e gs) k w t = cc
   asks-none (cell_ex b n es) k w t = ap (λ z. if z then [] else Cs k false es) t
@@ -107,8 +106,8 @@ module _ (x y : Text) (pl : Bool) (ts : List TypeEntry) (cs : Names Table) where
 
   -- A connective at total operands.
   connective-total : (w b : Bool) (op : Op) (es : Exs) (g : Vals) → connects op ≡ true →
-      AllTotalButNatural (opens_places w b op es) es (M g) → TotalButNatural w (node_ex b op es) (M g)
-  connective-total w b op es g c t = (unless-there (may_lack w b op es) _ (λ q. connects-some op (meanings es (M g)) c), t)
+      AllTotalButNatural (opens_places w b op) es (M g) → TotalButNatural w (node_ex b op es) (M g)
+  connective-total w b op es g c t = (unless-there (may_lack w b op) _ (λ q. connects-some op (meanings es (M g)) c), t)
 
   mutual
     -- Under its conditions a covered tree is total but for plain operators in natural places.
@@ -119,27 +118,23 @@ module _ (x y : Text) (pl : Bool) (ts : List TypeEntry) (cs : Names Table) where
     total (name_ex a) k w g h v = tt
     total (node_ex true op es) k w g h v =
         truth-choice w (connects op)
-        (Cs k (opens true x y op es) es ++ own_at true x y k (opens true x y op es && is_cell_index op es) op (Gs k es))
+        (Cs k (opens true x y op) es ++ own_at true x y k false op (Gs k es))
         (node_ex true op (Gs k es)) (node_ex true op (Gs k es)) (M g)
         (λ c. connective-total w true op (Gs k es) g c
-        (total-truths es k (opens_places w true op (Gs k es)) g h (subst (λ z. AskNothing z es) c v.1) v.2))
-        (λ c. behind-append (Cs k (opens true x y op es) es) _ (M g)
-        (AllTotalButNatural (opens_places false true op es) (Gs k es) (M g)) (T (node_ex true op (Gs k es)) (M g))
-        (λ t. subst (λ z. Behind (if z then [] else own k x y op (Gs k es)) (M g) (T (node_ex true op (Gs k es)) (M g)))
-        (sym (lack-same op es (Gs k es) (cell-kept x y op es k)))
-        (row-behind false true k op (Gs k es) g h (covers-kept true x y op es k v.0)
-        (subst (λ z. AllTotalButNatural (compares op || z) (Gs k es) (M g)) (sym (cell-kept x y op es k)) t)))
-        (total-all es k (opens true x y op es) g h v.2))
+        (total-truths es k (opens_places w true op) g h (subst (λ z. AskNothing z es) c v.1) v.2))
+        (λ c. behind-append (Cs k (opens true x y op) es) _ (M g)
+        (AllTotalButNatural (opens_places false true op) (Gs k es) (M g)) (T (node_ex true op (Gs k es)) (M g))
+        (λ t. row-behind false true k op (Gs k es) g h (covers-kept true x y op es k v.0) t)
+        (total-all es k (opens true x y op) g h v.2))
     total (node_ex false op es) k w g h v =
-        term-choice (connects op) (Cs k (passes true x y w op es) es ++ own_at true x y k w op (Gs k es)) (M g)
+        term-choice (connects op) (Cs k (passes true x y w op) es ++ own_at true x y k w op (Gs k es)) (M g)
         (TotalButNatural w (node_ex false op (Gs k es)) (M g))
         (λ c. connective-total w false op (Gs k es) g c
-        (total-truths es k (opens_places w false op (Gs k es)) g h (subst (λ z. AskNothing z es) c v.1) v.2))
-        (λ c. behind-append (Cs k (passes true x y w op es) es) (own_at true x y k w op (Gs k es)) (M g)
-        (AllTotalButNatural (opens_places w false op es) (Gs k es) (M g)) (TotalButNatural w (node_ex false op (Gs k es)) (M g))
-        (λ t. row-behind w false k op (Gs k es) g h (covers-kept true x y op es k v.0)
-        (subst (λ z. AllTotalButNatural (w && (counts op || z)) (Gs k es) (M g)) (sym (cell-kept x y op es k)) t))
-        (total-all es k (passes true x y w op es) g h v.2))
+        (total-truths es k (opens_places w false op) g h (subst (λ z. AskNothing z es) c v.1) v.2))
+        (λ c. behind-append (Cs k (passes true x y w op) es) (own_at true x y k w op (Gs k es)) (M g)
+        (AllTotalButNatural (opens_places w false op) (Gs k es) (M g)) (TotalButNatural w (node_ex false op (Gs k es)) (M g))
+        (λ t. row-behind w false k op (Gs k es) g h (covers-kept true x y op es k v.0) t)
+        (total-all es k (passes true x y w op) g h v.2))
     total (matrix_ex es d) k w g h v = behind-append (Cs k false es) _ (M g) (TA (Gs k es) (M g)) _
         (λ t. behind-append (conditions_dom true x y k d) _ (M g) (DomTotalButNatural (guarded_dom true x y k d) (M g)) _
         (λ u. behind-map (matrix_conditions x es (guarded_dom true x y k d)) (M g) _ _ (λ f. ((λ m. f), t, u))

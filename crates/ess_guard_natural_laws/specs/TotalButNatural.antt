@@ -1,27 +1,25 @@
--- Trees that are total but for plain operators in natural places. Natural places are the operands of comparisons and the indices of
--- declared matrices of atoms, seen through operators on numbers and through such indices. Plain operators are quotients,
--- remainders, powers and these indices, which are cells. There alone an operator may have nothing where its operands have values: the
--- comparison above it is false there. Everything else is total as in `Total`.
-use Rattle.std.specs.Prelude.{Bool, true, false, ◌&&◌, ◌||◌, IsTrue}
+-- Trees that are total but for plain operators in natural places. Natural places are the operands of comparisons, seen through
+-- operators on numbers. Plain operators are quotients, remainders and powers. There alone an operator may have nothing where its
+-- operands have values: the comparison above it is false there. Everything else is total as in `Total`.
+use Rattle.std.specs.Prelude.{Bool, true, false, ◌&&◌, IsTrue}
 use Rattle.ess_semantics.specs.Trees.{Op, Ex, Exs, number_ex, truth_ex, name_ex, node_ex, matrix_ex, comp_ex, cell_ex, seen_ex, no_exs, more_exs, Gens, no_gens, over, from, cond, Dom, Doms, bool_dom, int_dom, name_dom, tuple_dom, record_dom, matrix_dom, set_dom, mset_dom, function_dom, relation_dom, partition_dom, no_doms, more_doms}
 use Rattle.ess_semantics.specs.Operators.{value_of_node}
 use Rattle.ess_semantics.specs.Meaning.{Env, meaning, meanings, domain_of, members_in, with_pat, has_meaning}
 use Rattle.ess_semantics.specs.Contexts.{EachOf, EachIn, WhenTrue}
 use Rattle.ess_semantics.specs.Totality.{HasValue}
-use Rattle.ess_guard_laws.specs.IndexDomains.{is_cell_index}
 use Rattle.ess_guard_laws.specs.Guard.{compares, counts, is_plain}
 use Rattle.ess_guard_laws.specs.Supplied.{Unless}
 
 -- Whether the operands of a node stand in natural places, where w says that it stands in one itself. A Boolean's do where it
--- compares, or is a cell; a term's where it stands in one and is an operator on numbers, or a cell.
-abbrev pub opens_places : Bool → Bool → Op → Exs → Bool
-opens_places w true op es = compares op || is_cell_index op es
-opens_places w false op es = w && (counts op || is_cell_index op es)
+-- compares; a term's where it stands in one and is an operator on numbers.
+abbrev pub opens_places : Bool → Bool → Op → Bool
+opens_places w true op = compares op
+opens_places w false op = w && counts op
 
--- Whether a node may have nothing though its operands have values: a plain term in a natural place, and a cell that is a Boolean.
-abbrev pub may_lack : Bool → Bool → Op → Exs → Bool
-may_lack w true op es = is_cell_index op es
-may_lack w false op es = w && is_plain op es
+-- Whether a node may have nothing though its operands have values: a plain term in a natural place.
+abbrev pub may_lack : Bool → Bool → Op → Bool
+may_lack w true op = false
+may_lack w false op = w && is_plain op
 
 abbrev mutual
   -- Each operator of the expression is total but for plain ones in natural places, at each binding of generators whose conditions hold.
@@ -31,8 +29,8 @@ abbrev mutual
   TotalButNatural w (truth_ex b) env = Unit {0}
   TotalButNatural w (name_ex a) env = Unit {0}
   TotalButNatural w (node_ex b op es) env =
-      Unless (may_lack w b op es) (HasValue (value_of_node op (meanings es env)) (meanings es env))
-      × AllTotalButNatural (opens_places w b op es) es env
+      Unless (may_lack w b op) (HasValue (value_of_node op (meanings es env)) (meanings es env))
+      × AllTotalButNatural (opens_places w b op) es env
   TotalButNatural w (matrix_ex es d) env =
       (IsTrue (has_meaning d env) → HasValue (meaning (matrix_ex es d) env) (meanings es env)) × AllTotalButNatural false es env
       × DomTotalButNatural d env

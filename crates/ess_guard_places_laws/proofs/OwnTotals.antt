@@ -55,7 +55,7 @@ module _ (x y : Text) (pl : Bool) (ts : List TypeEntry) (cs : Names Table) where
       let parts : Exs = more_exs m (more_exs i no_exs) in
       let side : TotalInPlaces true (IsTest true (binary Op2.Eq) sides) (item_of m i) (M g) = (
         inr test,
-        all-placed (opens_places true false (index (by_value ∷ [])) parts) (IsTest false (index (by_value ∷ [])) parts) parts (M g)
+        all-placed (opens_places true false (index (by_value ∷ []))) (IsTest false (index (by_value ∷ [])) parts) parts (M g)
             (tm, (ti, tt)),
       ) in
       (inl (λ h. node-some (binary Op2.Eq) (meanings sides (M g)) refl h), (side, (side, tt)))

@@ -9,7 +9,6 @@ use Rattle.ess_rules_laws.proofs.Bindings.{each-of-map, each-in-map}
 use Rattle.ess_guard_laws.proofs.Safe.{is_safe, node-some}
 use Rattle.ess_guard_tests_laws.specs.TotalButTests.{IsTest, HasItsValue}
 use Rattle.ess_guard_natural_laws.specs.TotalButNatural.{opens_places, may_lack}
-use Rattle.ess_guard_laws.specs.IndexDomains.{is_cell_index}
 use Rattle.ess_guard_laws.specs.Guard.{counts, is_plain}
 use Rattle.ess_guard_laws.specs.Supplied.{Unless}
 use Rattle.ess_guard_places_laws.specs.TotalInPlaces.{TotalInPlaces, AllTotalInPlaces, UnderTotalInPlaces}
@@ -52,7 +51,7 @@ sides : (w : Bool) (W : Type 0) (e : Ex) (env : Env) → TotalInPlaces w ⊥ e e
 sides w W (number_ex n) env t = tt
 sides w W (truth_ex b) env t = tt
 sides w W (name_ex a) env t = tt
-sides w W (node_ex b op es) env t = (value-or W (Unless (may_lack w b op es) (HasItsValue op (meanings es env))) t.0, t.1)
+sides w W (node_ex b op es) env t = (value-or W (Unless (may_lack w b op) (HasItsValue op (meanings es env))) t.0, t.1)
 sides w W (matrix_ex es d) env t = t
 sides w W (comp_ex e gs) env t = t
 sides w W (cell_ex b n es) env t = t
@@ -70,8 +69,8 @@ mutual
   places w W (name_ex a) env t = tt
   places w W (node_ex true op es) env t = t
   places w W (node_ex false op es) env t = (
-    less (w && is_plain op es) W (HasItsValue op (meanings es env)) t.0,
-    all-places (w && (counts op || is_cell_index op es)) (IsTest false op es) es env t.1,
+    less (w && is_plain op) W (HasItsValue op (meanings es env)) t.0,
+    all-places (w && counts op) (IsTest false op es) es env t.1,
   )
   places w W (matrix_ex es d) env t = t
   places w W (comp_ex e gs) env t = t
@@ -96,7 +95,7 @@ pub unplaced : (W : Type 0) → (W → ⊥) → (e : Ex) (env : Env) → TotalIn
 unplaced W n (number_ex k) env t = tt
 unplaced W n (truth_ex b) env t = tt
 unplaced W n (name_ex a) env t = tt
-unplaced W n (node_ex b op es) env t = (value-so W (Unless (may_lack false b op es) (HasItsValue op (meanings es env))) n t.0, t.1)
+unplaced W n (node_ex b op es) env t = (value-so W (Unless (may_lack false b op) (HasItsValue op (meanings es env))) n t.0, t.1)
 unplaced W n (matrix_ex es d) env t = t
 unplaced W n (comp_ex e gs) env t = t
 unplaced W n (cell_ex b k es) env t = t
@@ -110,8 +109,8 @@ no-test op es t = let e : false ≡ true = t.marked in cc
 pub node-total : (w b : Bool) (op : Op) (es : Exs) (env : Env) → HasItsValue op (meanings es env) → TA es env →
     TotalInPlaces w ⊥ (node_ex b op es) env
 node-total w b op es env h t = (
-  inl (unless-there (may_lack w b op es) (HasItsValue op (meanings es env)) h),
-  all-placed (opens_places w b op es) (IsTest b op es) es env t,
+  inl (unless-there (may_lack w b op) (HasItsValue op (meanings es env)) h),
+  all-placed (opens_places w b op) (IsTest b op es) es env t,
 )
 
 -- A node of an operator that asks for nothing.

@@ -8,7 +8,6 @@ use Rattle.ess_semantics.specs.Meaning.{Env, TypeEntry, bind, meaning, meanings,
 use Rattle.ess_semantics.specs.Constants.{operand_count}
 use Rattle.ess_rules_laws.proofs.Simulation.{Vals, E}
 use Rattle.ess_guard_laws.specs.Origins.{Origin, with_any, with_over, known_behind}
-use Rattle.ess_guard_laws.specs.IndexDomains.{is_cell_index}
 use Rattle.ess_guard_laws.specs.Conditions.{chained, matrix_conditions, own}
 use Rattle.ess_guard_laws.specs.Guard.{compares, counts, connects, own_at, opens, passes, guarded, guarded_all, guarded_gens, guarded_dom, guarded_doms, conditions, conditions_all, conditions_gens, conditions_dom, conditions_doms}
 use Rattle.ess_guard_laws.specs.Covered.{asks_nothing, AskNothing}
@@ -27,7 +26,7 @@ use Rattle.ess_guard_places_laws.specs.TotalInPlaces.{TotalInPlaces, AllTotalInP
 use Rattle.ess_guard_places_laws.proofs.Places.{T, TA, unless-there, its-value, placed, all-sides}
 use Rattle.ess_guard_places_laws.proofs.Behind.{Behind, behind-append, chained-total, over-behind, from-behind, given-behind}
 use Rattle.ess_guard_places_laws.proofs.ConditionRows.{matrix-total}
-use Rattle.ess_guard_places_laws.proofs.PlainOperators.{cell-kept, lack-same, quiet}
+use Rattle.ess_guard_places_laws.proofs.PlainOperators.{quiet}
 use Rattle.ess_guard_places_laws.proofs.OwnTotals as O
 use Rattle.ess_guard_places_laws.proofs.OwnTotals.{behind-map}
 
@@ -69,22 +68,22 @@ module _ (x y : Text) (pl : Bool) (ts : List TypeEntry) (cs : Names Table) where
 
   -- An operator under its own conditions, in a natural place or not.
   row-behind : (w b : Bool) (k : Names Origin) (op : Op) (es : Exs) (g : Vals) → Known k g → holds_pairs op es ≡ true →
-      AllTotalInPlaces (opens_places w b op es) ⊥ es (M g) →
-      Behind (if may_lack w b op es then [] else own k x y op es) (M g) (TotalInPlaces w ⊥ (node_ex b op es) (M g))
-  row-behind w b k op es g h v t = go (may_lack w b op es) refl (opens_places w b op es) refl
+      AllTotalInPlaces (opens_places w b op) ⊥ es (M g) →
+      Behind (if may_lack w b op then [] else own k x y op es) (M g) (TotalInPlaces w ⊥ (node_ex b op es) (M g))
+  row-behind w b k op es g h v t = go (may_lack w b op) refl (opens_places w b op) refl
     where
-      up : AllTotalInPlaces (opens_places w b op es) (IsTest b op es) es (M g)
-      up = all-sides (opens_places w b op es) (IsTest b op es) es (M g) t
+      up : AllTotalInPlaces (opens_places w b op) (IsTest b op es) es (M g)
+      up = all-sides (opens_places w b op) (IsTest b op es) es (M g) t
 
-      go : (l : Bool) → may_lack w b op es ≡ l → (o : Bool) → opens_places w b op es ≡ o →
+      go : (l : Bool) → may_lack w b op ≡ l → (o : Bool) → opens_places w b op ≡ o →
           Behind (if l then [] else own k x y op es) (M g)
-          ((Unless l (HasItsValue op (meanings es (M g))) ⊎ ⊥) × AllTotalInPlaces (opens_places w b op es) (IsTest b op es) es (M g))
+          ((Unless l (HasItsValue op (meanings es (M g))) ⊎ ⊥) × AllTotalInPlaces (opens_places w b op) (IsTest b op es) es (M g))
       go true e o q = (inl tt, up)
       go false e false q = behind-map (own k x y op es) (M g) _ _ (λ u. (inl u, up))
           (O.own-total x y pl ts cs k op es g h v (subst (λ z. AllTotalInPlaces z ⊥ es (M g)) q t))
       go false e true q = let r = quiet w b k x y op es e q in
           subst (λ l. Behind l (M g) ((HasItsValue op (meanings es (M g)) ⊎ ⊥)
-          × AllTotalInPlaces (opens_places w b op es) (IsTest b op es) es (M g))) (sym r.1)
+          × AllTotalInPlaces (opens_places w b op) (IsTest b op es) es (M g))) (sym r.1)
           (inl (its-value op (meanings es (M g)) (λ u. node-some op (meanings es (M g)) r.0 u)), up)
 
   -- ---- whole trees
@@ -94,7 +93,7 @@ module _ (x y : Text) (pl : Bool) (ts : List TypeEntry) (cs : Names Table) where
   asks-none (truth_ex b) k w t = refl
   asks-none (name_ex a) k w t = refl
   asks-none (node_ex b op es) k w t =
-      ap (λ z. if z then [] else Cs k (passes true x y w op es) es ++ own_at true x y k w op (Gs k es)) t
+      ap (λ z. if z then [] else Cs k (passes true x y w op) es ++ own_at true x y k w op (Gs k es)) t
   asks-none (matrix_ex es d) k w t = cc
   asks-none (comp_ex e gs) k w t = cc
   asks-none (cell_ex b n es) k w t = ap (λ z. if z then [] else Cs k false es) t
@@ -111,10 +110,10 @@ module _ (x y : Text) (pl : Bool) (ts : List TypeEntry) (cs : Names Table) where
 
   -- A connective at total operands.
   connective-total : (w b : Bool) (op : Op) (es : Exs) (g : Vals) → connects op ≡ true →
-      AllTotalInPlaces (opens_places w b op es) ⊥ es (M g) → TotalInPlaces w ⊥ (node_ex b op es) (M g)
+      AllTotalInPlaces (opens_places w b op) ⊥ es (M g) → TotalInPlaces w ⊥ (node_ex b op es) (M g)
   connective-total w b op es g c t = (
-    inl (unless-there (may_lack w b op es) _ (its-value op (meanings es (M g)) (λ q. connects-some op (meanings es (M g)) c))),
-    all-sides (opens_places w b op es) (IsTest b op es) es (M g) t,
+    inl (unless-there (may_lack w b op) _ (its-value op (meanings es (M g)) (λ q. connects-some op (meanings es (M g)) c))),
+    all-sides (opens_places w b op) (IsTest b op es) es (M g) t,
   )
 
   kept : (op : Op) (es : Exs) (k : Names Origin) → holds_pairs op es ≡ true → holds_pairs op (Gs k es) ≡ true
@@ -130,27 +129,23 @@ module _ (x y : Text) (pl : Bool) (ts : List TypeEntry) (cs : Names Table) where
     total (name_ex a) k w g h v = tt
     total (node_ex true op es) k w g h v =
         truth-choice w (connects op)
-        (Cs k (opens true x y op es) es ++ own_at true x y k (opens true x y op es && is_cell_index op es) op (Gs k es))
+        (Cs k (opens true x y op) es ++ own_at true x y k false op (Gs k es))
         (node_ex true op (Gs k es)) (node_ex true op (Gs k es)) (M g)
         (λ c. connective-total w true op (Gs k es) g c
-        (total-truths es k (opens_places w true op (Gs k es)) g h (subst (λ z. AskNothing z es) c v.1) v.2))
-        (λ c. behind-append (Cs k (opens true x y op es) es) _ (M g)
-        (AllTotalInPlaces (opens_places false true op es) ⊥ (Gs k es) (M g)) (T (node_ex true op (Gs k es)) (M g))
-        (λ t. subst (λ z. Behind (if z then [] else own k x y op (Gs k es)) (M g) (T (node_ex true op (Gs k es)) (M g)))
-        (sym (lack-same op es (Gs k es) (cell-kept x y op es k)))
-        (row-behind false true k op (Gs k es) g h (kept op es k v.0)
-        (subst (λ z. AllTotalInPlaces (compares op || z) ⊥ (Gs k es) (M g)) (sym (cell-kept x y op es k)) t)))
-        (total-all es k (opens true x y op es) g h v.2))
+        (total-truths es k (opens_places w true op) g h (subst (λ z. AskNothing z es) c v.1) v.2))
+        (λ c. behind-append (Cs k (opens true x y op) es) _ (M g)
+        (AllTotalInPlaces (opens_places false true op) ⊥ (Gs k es) (M g)) (T (node_ex true op (Gs k es)) (M g))
+        (λ t. row-behind false true k op (Gs k es) g h (kept op es k v.0) t)
+        (total-all es k (opens true x y op) g h v.2))
     total (node_ex false op es) k w g h v =
-        term-choice (connects op) (Cs k (passes true x y w op es) es ++ own_at true x y k w op (Gs k es)) (M g)
+        term-choice (connects op) (Cs k (passes true x y w op) es ++ own_at true x y k w op (Gs k es)) (M g)
         (TotalInPlaces w ⊥ (node_ex false op (Gs k es)) (M g))
         (λ c. connective-total w false op (Gs k es) g c
-        (total-truths es k (opens_places w false op (Gs k es)) g h (subst (λ z. AskNothing z es) c v.1) v.2))
-        (λ c. behind-append (Cs k (passes true x y w op es) es) (own_at true x y k w op (Gs k es)) (M g)
-        (AllTotalInPlaces (opens_places w false op es) ⊥ (Gs k es) (M g)) (TotalInPlaces w ⊥ (node_ex false op (Gs k es)) (M g))
-        (λ t. row-behind w false k op (Gs k es) g h (kept op es k v.0)
-        (subst (λ z. AllTotalInPlaces (w && (counts op || z)) ⊥ (Gs k es) (M g)) (sym (cell-kept x y op es k)) t))
-        (total-all es k (passes true x y w op es) g h v.2))
+        (total-truths es k (opens_places w false op) g h (subst (λ z. AskNothing z es) c v.1) v.2))
+        (λ c. behind-append (Cs k (passes true x y w op) es) (own_at true x y k w op (Gs k es)) (M g)
+        (AllTotalInPlaces (opens_places w false op) ⊥ (Gs k es) (M g)) (TotalInPlaces w ⊥ (node_ex false op (Gs k es)) (M g))
+        (λ t. row-behind w false k op (Gs k es) g h (kept op es k v.0) t)
+        (total-all es k (passes true x y w op) g h v.2))
     total (matrix_ex es d) k w g h v = behind-append (Cs k false es) _ (M g) (TA (Gs k es) (M g)) _
         (λ t. behind-append (conditions_dom true x y k d) _ (M g) (DomTotalInPlaces (guarded_dom true x y k d) (M g)) _
         (λ u. behind-map (matrix_conditions x es (guarded_dom true x y k d)) (M g) _ _ (λ f. ((λ m. f), t, u))

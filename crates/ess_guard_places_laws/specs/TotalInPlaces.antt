@@ -17,8 +17,8 @@ abbrev mutual
   TotalInPlaces w W (truth_ex b) env = Unit {0}
   TotalInPlaces w W (name_ex a) env = Unit {0}
   TotalInPlaces w W (node_ex b op es) env =
-      (Unless (may_lack w b op es) (HasItsValue op (meanings es env)) ⊎ W)
-      × AllTotalInPlaces (opens_places w b op es) (IsTest b op es) es env
+      (Unless (may_lack w b op) (HasItsValue op (meanings es env)) ⊎ W)
+      × AllTotalInPlaces (opens_places w b op) (IsTest b op es) es env
   TotalInPlaces w W (matrix_ex es d) env =
       (IsTrue (has_meaning d env) → HasValue (meaning (matrix_ex es d) env) (meanings es env)) × AllTotalInPlaces false ⊥ es env
       × DomTotalInPlaces d env

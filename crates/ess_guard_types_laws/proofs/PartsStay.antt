@@ -11,7 +11,6 @@ use Rattle.ess_semantics.specs.NamesAt.{names_behind}
 use Rattle.ess_guard_laws.specs.Origins.{Origin, with_any, with_over, known_behind}
 use Rattle.ess_guard_laws.specs.Conditions.{chained, matrix_conditions, own}
 use Rattle.ess_guard_laws.specs.Guard.{is_plain, connects, own_at, opens, passes, guarded, guarded_all, guarded_gens, guarded_dom, guarded_doms, conditions, conditions_all, conditions_gens, conditions_dom, conditions_doms}
-use Rattle.ess_guard_laws.specs.IndexDomains.{is_cell_index}
 use Rattle.ess_guard_types_laws.specs.HasTypes.{agrees, fits_mark, indexes_items, HasTypes, HaveTypes, GensHaveTypes, AreNumbers, DomHasTypes, DomsHaveTypes}
 use Rattle.ess_guard_types_laws.proofs.TypedConditions.{Cond, Conds, both-conds, its-type, comp-type, chained-cond, over-conds, from-conds, given-conds}
 use Rattle.ess_guard_types_laws.proofs.TypedLiterals.{matrix-conds}
@@ -83,7 +82,7 @@ module _ (natural : Bool) (x y : Text) where
         (type_of_node op (statics es)) a.same
 
     asked-at : (w : Bool) → is_some (type_of (node_ex false op es) g) ≡ true → Conds (own_at natural x y k w op (Gs k es)) g
-    asked-at w i = if-conds (w && is_plain op (Gs k es)) (own k x y op (Gs k es)) g
+    asked-at w i = if-conds (w && is_plain op) (own k x y op (Gs k es)) g
         (own-conds k x y op (Gs k es) g a.typed (F.indexes-kept natural x y op es k n) (ap is_some (node-same false) ∙ i))
 
     all-asked : (v w : Bool) → is_some (type_of (node_ex false op es) g) ≡ true → Conds (Cs k v es ++ own_at natural x y k w op (Gs k es)) g
@@ -99,8 +98,8 @@ module _ (natural : Bool) (x y : Text) where
     node-stays false h = record {
       typed = node-typed false h;
       same = node-same false;
-      asked = λ w. if-conds (connects op) (Cs k (passes natural x y w op es) es ++ own_at natural x y k w op (Gs k es)) g
-          (all-asked (passes natural x y w op es) w h);
+      asked = λ w. if-conds (connects op) (Cs k (passes natural x y w op) es ++ own_at natural x y k w op (Gs k es)) g
+          (all-asked (passes natural x y w op) w h);
     }
     node-stays true h = record {
       typed = (let c = chosen (not (connects op)) in c.0);
@@ -112,14 +111,14 @@ module _ (natural : Bool) (x y : Text) where
         e = bool-of (type_of (node_ex true op es) g) h
 
         cs : List Ex
-        cs = Cs k (opens natural x y op es) es ++ own_at natural x y k (opens natural x y op es && is_cell_index op es) op (Gs k es)
+        cs = Cs k (opens natural x y op) es ++ own_at natural x y k false op (Gs k es)
 
         chosen : (t : Bool) → HasTypes (if t then chained cs (node_ex true op (Gs k es)) else node_ex true op (Gs k es)) g
             × (type_of (if t then chained cs (node_ex true op (Gs k es)) else node_ex true op (Gs k es)) g ≡ type_of (node_ex true op es) g)
         chosen false = (node-typed true h, node-same true)
         chosen true =
             let q : Cond (chained cs (node_ex true op (Gs k es))) g = chained-cond cs (node_ex true op (Gs k es)) g
-            (all-asked (opens natural x y op es) (opens natural x y op es && is_cell_index op es) (some-bool _ e))
+            (all-asked (opens natural x y op) false (some-bool _ e))
             (record { typed = node-typed true h; bool = node-same true ∙ e }) in (q.typed, q.bool ∙ sym e)
 
   -- ---- cells

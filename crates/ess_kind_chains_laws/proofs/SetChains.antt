@@ -1,9 +1,9 @@
 -- Chains of rules of views of sets keep meanings, structures met and values.
-use Rattle.std.proofs.Common.{◌≡◌, refl, ◌∙◌, Bool, true, false}
+use Rattle.std.proofs.Common.{◌≡◌, refl, ◌∙◌, Bool, true}
 use Rattle.ess_semantics.specs.Names.{Names}
 use Rattle.ess_semantics.specs.Trees.{Ex}
 use Rattle.ess_semantics.specs.Types.{Ty}
-use Rattle.ess_semantics.specs.Meaning.{Env, meaning}
+use Rattle.ess_semantics.specs.Meaning.{Env}
 use Rattle.ess_semantics.specs.Meets.{Meets}
 use Rattle.ess_semantics.specs.Contexts.{In, fill, Where}
 use Rattle.ess_semantics.specs.NamesAt.{names_at}
@@ -20,7 +20,7 @@ use Rattle.ess_valued_chains_laws.proofs.Parts.{valued-part, met-part}
 use Rattle.ess_kind_steps_laws.specs.SetsAtHand.{AtHand}
 use Rattle.ess_kind_steps_laws.proofs.SetsAsked.{set-rules-have}
 use Rattle.ess_kind_values_laws.proofs.SetsKeepValues.{set-rules-keep-values}
-use Rattle.ess_kind_chains_laws.specs.SetChains.{IsSetStep, SetChain, at_rest, set_at, otherwise, SetChainsKeep}
+use Rattle.ess_kind_chains_laws.specs.SetChains.{IsSetStep, at_rest, set_at, otherwise, SetChainsKeep}
 
 -- ---- one step at a part
 
@@ -45,7 +45,7 @@ module _ (s : Supply) (g : Names Ty) (a b : Ex) (i : IsSetStep s g a b) where
       let given = where-join (AtHand s g i.rule a) (Meets a) Given (λ here p q. (p, q)) c env h (met-part a c env x) in
       let turned = where-join Given (Keeps a b) (KeepsValues z a b) (λ here p q. turns z here p q) c env given kept in
       let whole = step-here c a b env kept x in
-      record { means = whole.0; met = whole.1; valued = (values-along.at_a_part c w a b env o i.old_view i.new_view turned).1 v }
+      record { means = whole.0; met = whole.1; valued = (values-along.at_a_part c w a b env o turned).1 v }
 
 -- ---- a chain
 

@@ -1,6 +1,6 @@
 -- Chains of rules of views of sets, with other steps between them, keep meanings, structures met and values, from a tree on each part of
 -- which has a value wherever its context holds, but for numbers in natural places. So they lay open views of sets of any nesting.
-use Rattle.std.specs.Prelude.{◌≡◌, Bool, true, false, Some}
+use Rattle.std.specs.Prelude.{◌≡◌, Bool, true, Some}
 use Rattle.ess_semantics.specs.Names.{Names}
 use Rattle.ess_semantics.specs.Trees.{Ex}
 use Rattle.ess_semantics.specs.Types.{Ty}
@@ -10,19 +10,17 @@ use Rattle.ess_semantics.specs.Contexts.{In, fill, Where}
 use Rattle.ess_semantics.specs.NamesAt.{names_at}
 use Rattle.ess_refine_laws.specs.ScopesStay.{is_outside_views}
 use Rattle.ess_refine_laws.specs.AllRules.{Supply}
-use Rattle.ess_values_along_laws.specs.Valued.{Valued, is_matrix_view}
+use Rattle.ess_values_along_laws.specs.Valued.{Valued}
 use Rattle.ess_valued_chains_laws.specs.ValuedChains.{StaysValued}
 use Rattle.ess_kind_rules_laws.specs.KindRules.{KindRule, kind_rewrite}
 use Rattle.ess_kind_sizes_laws.specs.SetRules.{is_of_sets}
 use Rattle.ess_kind_steps_laws.specs.SetsAtHand.{AtHand}
 
--- A rule of views of sets makes b of a, where names have the types g; neither is a view of a matrix.
+-- A rule of views of sets makes b of a, where names have the types g.
 pub record IsSetStep (s : Supply) (g : Names Ty) (a b : Ex) : Type 0 where
   pub rule : KindRule
   pub of_sets : is_of_sets rule ≡ true
   pub fires : kind_rewrite s g rule a ≡ Some b
-  pub old_view : is_matrix_view a ≡ false
-  pub new_view : is_matrix_view b ≡ false
 
 -- Such rules one after the other, each at a part outside of views, where the rule has at hand what its view has wherever the context of
 -- the part holds under this env; and between them other steps that keep meanings, structures met and values, as chains of other rules do

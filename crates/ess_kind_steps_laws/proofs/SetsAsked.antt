@@ -205,20 +205,20 @@ size-asked s g (ex1 false Op1.Bar v) f q env h m = no h.views.0
 size-asked s g _ f q env h m = cc
 
 -- The operand of a word on a comprehension stands in no natural place.
-word-opens : (w m : Bool) (f : Fun) (es : Exs) → opens_places w m (word f) es ≡ false
-word-opens w true f es = refl
-word-opens true false f es = refl
-word-opens false false f es = refl
+word-opens : (w m : Bool) (f : Fun) → opens_places w m (word f) ≡ false
+word-opens w true f = refl
+word-opens true false f = refl
+word-opens false false f = refl
 
 source-there : (w m : Bool) (f : Fun) (y : Text) (t e : Ex) (hs : Gens) (env : Env) →
     Valued w (fun1 m f (comp_ex e (from (name_pat y) t hs))) env → IsTrue (is_some (meaning t env))
 source-there w m f y t e hs env h =
-    values-along.source (opens_places w m (word f) (more_exs (comp_ex e (from (name_pat y) t hs)) no_exs)) e (from (name_pat y) t hs) env
+    values-along.source (opens_places w m (word f)) e (from (name_pat y) t hs) env
     h.1.0
 
 operands-there : (w m : Bool) (f : Fun) (l : Ex) (env : Env) → Valued w (fun1 m f l) env → OperandsThere (fun1 m f l) env
 operands-there w m f l env h =
-    values-along.operands w m (word f) (more_exs l no_exs) env refl (word-opens w m f (more_exs l no_exs)) h
+    values-along.operands w m (word f) (more_exs l no_exs) env refl (word-opens w m f) h
 
 parts-asked : (s : Supply) (g : Names Ty) (e f : Ex) → kind_rewrite s g over_a_view e ≡ Some f → (env : Env) →
     AtHand s g over_a_view e env → (w : Bool) → Valued w e env → Meets e env → KindAsks s g over_a_view e env

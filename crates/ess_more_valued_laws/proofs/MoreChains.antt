@@ -117,7 +117,7 @@ along env w n m g old e (one_more {s = t} {k = k} {a = a} {b = b} c l i o typed 
     (KeepsValues (natural_at a c w) a b)
     (λ here p q. turns t k (names_at c g) a b i top z (natural_at a c w) here p q) c env counts met in
     let whole = step-here c a b env kept x in
-    let values = (values-along.at_a_part c w a b env o i.old_view i.new_view turned).1 v in
+    let values = (values-along.at_a_part c w a b env o turned).1 v in
     let rest = along env w k m g (fill c b) e u bound
     (spares-step t k (names_at c g) a b
     (by_a_rule i.ruled.count i.ruled.rule i.ruled.fires i.ruled.takes i.ruled.passes) c s') whole.1 values in

@@ -1,6 +1,6 @@
 -- Chains of more rules that keep meanings and values, from a tree on each part of which has a value wherever its context holds, but for
 -- numbers in natural places. What a step asks it asks of names, of types and of the form of its tree, under no values.
-use Rattle.std.specs.Prelude.{◌≡◌, ℕ, ◌≤◌, ◌^◌, Bool, true, false}
+use Rattle.std.specs.Prelude.{◌≡◌, ℕ, ◌≤◌, ◌^◌, Bool, true}
 use Rattle.ess_semantics.specs.Names.{Names}
 use Rattle.ess_semantics.specs.Trees.{Ex}
 use Rattle.ess_semantics.specs.Types.{Ty}
@@ -16,7 +16,7 @@ use Rattle.ess_refine_laws.specs.ScopesStay.{is_outside_views}
 use Rattle.ess_chain_names_laws.specs.Steps.{supply_at}
 use Rattle.ess_chain_names_laws.specs.SparedNames.{Spares}
 use Rattle.ess_chain_kept_laws.specs.KeptChains.{IsRuled}
-use Rattle.ess_values_along_laws.specs.Valued.{Valued, is_matrix_view}
+use Rattle.ess_values_along_laws.specs.Valued.{Valued}
 use Rattle.ess_rules_values_laws.specs.RulesKeepValues.{is_shown, ComparesContainers}
 use Rattle.ess_values_terms_laws.specs.TermsKeepValues.{is_of_terms, ComparesTerms}
 use Rattle.ess_values_sources_laws.specs.SourcesKeepValues.{is_of_sources, OverNoSuchSet}
@@ -38,13 +38,11 @@ pub data CountedAt (s : Supply) (g : Names Ty) (r : Rule) (e : Ex) : Type 0 wher
   on_values : counts_on_values r ≡ true → ComparesCompound r e → SoundOperands g e → SoundWithin g e → CountedAt s g r e
   on_types : counts_more r ≡ true → RuleAsks s g r e → CountedAt s g r e
 
--- A rule makes b of a, one that keeps values there and has what it counts on; neither tree is a view of a matrix.
+-- A rule makes b of a, one that keeps values there and has what it counts on.
 pub record IsKeptStep (n : ℕ) (g : Names Ty) (a b : Ex) (m : ℕ) : Type 0 where
   pub ruled : IsRuled n g a b m
   pub keeps_values : KeepsValuesAt ruled.rule a
   pub counted : CountedAt (supply_at n ruled.count) g ruled.rule a
-  pub old_view : is_matrix_view a ≡ false
-  pub new_view : is_matrix_view b ≡ false
 
 -- Such rules one after the other, each at a part outside of views, where names have values of their types wherever the context of the part
 -- holds.

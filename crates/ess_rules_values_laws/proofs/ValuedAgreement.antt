@@ -42,8 +42,8 @@ module _ (pl : Bool) (ts : List TypeEntry) (cs : Names Table) (n : Text → Bool
     valued-agree (truth_ex m) w g h o s v = tt
     valued-agree (name_ex a) w g h o s v = some-agree (name_ex a) g h o s v
     valued-agree (node_ex q op es) w g h o s v = (
-      unless-map (lacks w q op es) _ _ (some-agree (node_ex q op es) g h o s) v.0,
-      all-agree es (guards op) (opens_places w q op es) g h o s v.1,
+      unless-map (lacks w q op) _ _ (some-agree (node_ex q op es) g h o s) v.0,
+      all-agree es (guards op) (opens_places w q op) g h o s v.1,
     )
     valued-agree (matrix_ex es d) w g h o s v =
         (some-agree (matrix_ex es d) g h o s v.0, all-agree es false false g h o.0 s v.1, dom-agrees d g h o.1 s v.2)

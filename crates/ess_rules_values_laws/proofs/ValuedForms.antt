@@ -1,5 +1,5 @@
 -- Forms that rules answer have their values: in any place, in lists, and in comprehensions over a source.
-use Rattle.std.proofs.Common.{◌≡◌, refl, sym, subst, Bool, true, false, ◌&&◌, ◌||◌, if◌then◌else◌, List, [], ◌∷◌, ◌++◌, Option, Some, None, option_map}
+use Rattle.std.proofs.Common.{◌≡◌, refl, sym, subst, Bool, true, false, ◌&&◌, if◌then◌else◌, List, [], ◌∷◌, ◌++◌, Option, Some, None, option_map}
 use Rattle.std.specs.Prelude.{IsTrue, is_some}
 use Rattle.std.specs.List.{list_all}
 use Rattle.ess_semantics.specs.Lists.{and_then, all_some}
@@ -9,7 +9,6 @@ use Rattle.ess_semantics.specs.Operators.{list_value}
 use Rattle.ess_semantics.specs.Meaning.{Env, collect, meaning, meanings}
 use Rattle.ess_semantics.specs.Contexts.{EachIn, Each, guards}
 use Rattle.ess_guard_laws.specs.Guard.{counts}
-use Rattle.ess_guard_laws.specs.IndexDomains.{is_cell_index}
 use Rattle.ess_guard_laws.specs.Supplied.{Unless}
 use Rattle.ess_rules_laws.specs.InclusionRules.{every}
 use Rattle.ess_rules_laws.proofs.RuleAnswers.{behind, name-behind}
@@ -45,7 +44,7 @@ by-form (truth_ex b) env true q v = tt
 by-form (name_ex a) env true q v = v
 by-form (node_ex true op es) env true q v = v
 by-form (node_ex false op es) env true q v = (
-  said (counts op || is_cell_index op es) (IsTrue (is_some (meaning (node_ex false op es) env))) q v.0,
+  said (counts op) (IsTrue (is_some (meaning (node_ex false op es) env))) q v.0,
   subst (λ z. AllValued (guards op) z es env) q v.1,
 )
 by-form (matrix_ex es d) env true q v = v

@@ -81,8 +81,8 @@ module _ (Shown : Ex → Kind → Type 0) (cells : Text → Option (Bool × List
   one-valued : (b : Bool) (op : Op) (x : Ex) (g : Vals) → IsTrue (is_some (meaning (node_ex b op (more_exs x no_exs)) (M g))) →
       ((w : Bool) → Valued w x (M g)) → (w : Bool) → Valued w (node_ex b op (more_exs x no_exs)) (M g)
   one-valued b op x g h f w = (
-    unless-any (lacks w b op (more_exs x no_exs)) _ h,
-    (f (opens_places w b op (more_exs x no_exs)), guarded-any (guards op) (meaning x (M g)) _ tt),
+    unless-any (lacks w b op) _ h,
+    (f (opens_places w b op), guarded-any (guards op) (meaning x (M g)) _ tt),
   )
 
   two-valued : (b : Bool) (op : Op) (x y : Ex) (g : Vals) →
@@ -90,10 +90,10 @@ module _ (Shown : Ex → Kind → Type 0) (cells : Text → Option (Bool × List
       ((w : Bool) → Valued w x (M g)) → ((w : Bool) → Valued w y (M g)) → (w : Bool) →
       Valued w (node_ex b op (more_exs x (more_exs y no_exs))) (M g)
   two-valued b op x y g h f k w = (
-    unless-any (lacks w b op (more_exs x (more_exs y no_exs))) _ h,
+    unless-any (lacks w b op) _ h,
     (
-      f (opens_places w b op (more_exs x (more_exs y no_exs))),
-      guarded-any (guards op) (meaning x (M g)) _ (k (opens_places w b op (more_exs x (more_exs y no_exs))), tt),
+      f (opens_places w b op),
+      guarded-any (guards op) (meaning x (M g)) _ (k (opens_places w b op), tt),
     ),
   )
 

@@ -28,7 +28,7 @@ module _ (a : Ex) where
     pub valued-part : (c : In) (w : Bool) (env : Env) → is_outside_views c ≡ true → Valued w (fill c a) env →
         Where c env (Valued (natural_at a c w) a)
     valued-part hole w env o v = v
-    valued-part (in_operand b op c) w env o v = valued-exs c (guards op) (opens_places w b op (fill_exs c a)) env o v.1
+    valued-part (in_operand b op c) w env o v = valued-exs c (guards op) (opens_places w b op) env o v.1
     valued-part (in_item c d) w env o v = valued-exs c false false env o v.1
     valued-part (in_index_domain es c) w env o v = valued-dom c env o v.2
     valued-part (in_body c gs) w env o v = under-each gs env _ _ (λ h n. valued-part c false h o n) v.1

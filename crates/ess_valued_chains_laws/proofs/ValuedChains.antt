@@ -1,24 +1,22 @@
 -- Chains of rules that keep, from a tree with values on.
-use Rattle.std.proofs.Common.{◌≡◌, refl, ◌∙◌, ℕ, ◌+◌, ◌<◌, ◌≤◌, ◌^◌, Bool, arith}
+use Rattle.std.proofs.Common.{refl, ◌∙◌, ℕ, ◌+◌, ◌<◌, ◌≤◌, ◌^◌, Bool, arith}
 use Rattle.ess_semantics.specs.Names.{Names}
 use Rattle.ess_semantics.specs.Trees.{Ex}
 use Rattle.ess_semantics.specs.Types.{Ty}
 use Rattle.ess_semantics.specs.Typed.{Typed}
-use Rattle.ess_semantics.specs.Meaning.{Env, meaning}
+use Rattle.ess_semantics.specs.Meaning.{Env}
 use Rattle.ess_semantics.specs.Meets.{Meets}
-use Rattle.ess_semantics.specs.Contexts.{In, fill, Where}
+use Rattle.ess_semantics.specs.Contexts.{In, fill}
 use Rattle.ess_semantics.specs.NamesAt.{names_at}
 use Rattle.ess_semantics.specs.Kept.{Keeps}
 use Rattle.ess_rules_laws.specs.Rules.{Unused}
 use Rattle.ess_rules_laws.proofs.KeptUnder.{step-here}
 use Rattle.ess_rules_laws.proofs.Places.{where-join}
 use Rattle.conjure_model_laws.specs.ToldApart.{reserved}
-use Rattle.ess_chain_names_laws.specs.Steps.{supply_at, IsStep, by_a_rule}
+use Rattle.ess_chain_names_laws.specs.Steps.{supply_at, by_a_rule}
 use Rattle.ess_chain_names_laws.specs.SparedNames.{Spares}
 use Rattle.ess_chain_names_laws.proofs.NamesHave.{of-part}
 use Rattle.ess_chain_names_laws.proofs.SparedNames.{chains-spare-names, spares-later, spares-step}
-use Rattle.ess_chain_kept_laws.specs.CountsBeside.{CountsBeside}
-use Rattle.ess_chain_kept_laws.specs.KeptChains.{IsRuled}
 use Rattle.ess_chain_kept_laws.proofs.KeptChains.{chains-keep}
 use Rattle.ess_values_along_laws.specs.Valued.{Valued}
 use Rattle.ess_values_along_laws.specs.ValuesAlong.{natural_at, KeepsValues}
@@ -76,7 +74,7 @@ along env w n m g old e (one_more {s = t} {k = k} {a = a} {b = b} c l i o typed 
     let turned = where-join (Keeps a b) (Meets a) (KeepsValues (natural_at a c w) a b)
     (λ here p q. turns t k (names_at c g) a b i top (part-spares t c a s') (natural_at a c w) here p q) c env kept (met-part a c env x) in
     let whole = step-here c a b env kept x in
-    let values = (values-along.at_a_part c w a b env o i.old_view i.new_view turned).1 v in
+    let values = (values-along.at_a_part c w a b env o turned).1 v in
     let rest = along env w k m g (fill c b) e u bound
     (spares-step t k (names_at c g) a b
     (by_a_rule i.ruled.count i.ruled.rule i.ruled.fires i.ruled.takes i.ruled.passes) c s') whole.1 values in

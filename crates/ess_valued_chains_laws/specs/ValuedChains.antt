@@ -1,6 +1,6 @@
 -- Chains of rules that keep meanings and values, from a tree on each part of which has a value wherever its context holds, but for numbers
 -- in natural places.
-use Rattle.std.specs.Prelude.{◌≡◌, ℕ, ◌≤◌, ◌^◌, Bool, true, false}
+use Rattle.std.specs.Prelude.{◌≡◌, ℕ, ◌≤◌, ◌^◌, Bool, true}
 use Rattle.ess_semantics.specs.Names.{Names}
 use Rattle.ess_semantics.specs.Trees.{Ex}
 use Rattle.ess_semantics.specs.Types.{Ty}
@@ -14,20 +14,18 @@ use Rattle.ess_rules_laws.specs.ShortSizeRules.{SoundWithin}
 use Rattle.ess_refine_laws.specs.ScopesStay.{is_outside_views}
 use Rattle.ess_chain_names_laws.specs.SparedNames.{Spares}
 use Rattle.ess_chain_kept_laws.specs.KeptChains.{IsRuled}
-use Rattle.ess_values_along_laws.specs.Valued.{Valued, is_matrix_view}
+use Rattle.ess_values_along_laws.specs.Valued.{Valued}
 use Rattle.ess_rules_values_laws.specs.RulesKeepValues.{is_shown, ComparesContainers}
 use Rattle.ess_counted_values_laws.specs.CountedValues.{counts_on_values, ComparesCompound}
 
 -- A rule makes b of a, one that keeps values and counts on nothing but new names, types and values; what it compares are containers by
--- their form, and neither tree is a view of a matrix. Operands, and what stands directly in them, have values of their types.
+-- their form. Operands, and what stands directly in them, have values of their types.
 pub record IsValuedStep (n : ℕ) (g : Names Ty) (a b : Ex) (m : ℕ) : Type 0 where
   pub ruled : IsRuled n g a b m
   pub keeps_values : is_shown ruled.rule ≡ true
   pub counts : counts_on_values ruled.rule ≡ true
   pub containers : ComparesContainers ruled.rule a
   pub compound : ComparesCompound ruled.rule a
-  pub old_view : is_matrix_view a ≡ false
-  pub new_view : is_matrix_view b ≡ false
   pub sound : SoundOperands g a
   pub sound_within : SoundWithin g a
 

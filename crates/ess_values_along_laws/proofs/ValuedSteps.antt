@@ -1,45 +1,19 @@
 -- A rule that keeps at its root that each part has a value keeps it in the whole.
-use Rattle.std.proofs.Common.{◌≡◌, refl, sym, ap, ◌∙◌, subst, Bool, true, false, ◌&&◌, ◌||◌, Option}
+use Rattle.std.proofs.Common.{◌≡◌, refl, ap, ◌∙◌, subst, Bool, true, false, ◌||◌, Option}
 use Rattle.std.specs.Prelude.{IsTrue, is_some}
-use Rattle.ess_semantics.specs.declared.words.ReprKind.{ReprKind}
 use Rattle.ess_semantics.specs.Values.{Value}
-use Rattle.ess_semantics.specs.Trees.{Op, index, repr, no_reprs, more_reprs, Ex, Exs, seen_ex, no_exs, more_exs, Gens, no_gens, over, from, cond, matrix_dom}
+use Rattle.ess_semantics.specs.Trees.{Ex, no_exs, Gens, no_gens, over, from, cond}
 use Rattle.ess_semantics.specs.Operators.{as_truth}
 use Rattle.ess_semantics.specs.Meaning.{Env, with_pat, meaning, domain_of, members_in}
 use Rattle.ess_semantics.specs.Contexts.{In, Ins, InGens, InDom, InDoms, hole, in_operand, in_item, in_index_domain, in_body, in_generators, in_cell_index, in_view_domain, in_view_index, in_first, in_later, in_generator_domain, behind_over, in_source, behind_from, in_condition, behind_condition, in_bound, in_component, in_field, in_index, in_element, in_set_number, in_set_member, in_mset_number, in_mset_member, in_function_number, in_argument, in_result, in_relation_number, in_relation_component, in_partition_number, in_partition_member, in_first_domain, in_later_domain, fill, fill_exs, fill_gens, fill_dom, fill_doms, guards, Guarded, EachOf, EachIn, AtEach, Where, WhereIn, WhereGens, WhereDom, WhereDoms}
-use Rattle.ess_guard_laws.specs.IndexDomains.{is_cell_index}
-use Rattle.ess_guard_laws.specs.Guard.{compares, counts}
 use Rattle.ess_guard_laws.specs.Supplied.{Unless}
 use Rattle.ess_guard_natural_laws.specs.TotalButNatural.{opens_places}
 use Rattle.ess_rules_laws.proofs.Bindings.{each-of-join, each-in-join}
 use Rattle.ess_rules_laws.proofs.Places.{where-map}
 use Rattle.ess_rules_laws.proofs.Replacement.{filled, filled-dom}
 use Rattle.ess_refine_laws.specs.ScopesStay.{is_outside_views, are_outside_views, gens_outside_views, dom_outside_views, doms_outside_views}
-use Rattle.ess_values_along_laws.specs.Valued.{lacks, Valued, AllValued, UnderValued, DomValued, DomsValued, is_matrix_view}
+use Rattle.ess_values_along_laws.specs.Valued.{lacks, Valued, AllValued, UnderValued, DomValued, DomsValued}
 use Rattle.ess_values_along_laws.specs.ValuesAlong.{natural_at, natural_in, natural_in_gens, natural_in_dom, natural_in_doms, KeepsValues}
-
--- ---- cells by their form
-
--- What is no view of a matrix is no declared matrix at an index.
-no-cell : (op : Op) (x : Ex) (es : Exs) → is_matrix_view x ≡ false → is_cell_index op (more_exs x es) ≡ false
-no-cell (index qs) (seen_ex (repr ReprKind.Matrix (more_reprs (repr ReprKind.Atom rs) no_reprs)) (matrix_dom ds d) ns js) es h = cc
-no-cell op x es h = refl
-
--- Whether it is one doesn't depend on what stands behind the first operand.
-later-same : (op : Op) (x : Ex) (es fs : Exs) → is_cell_index op (more_exs x es) ≡ is_cell_index op (more_exs x fs)
-later-same (index qs) (seen_ex (repr ReprKind.Matrix (more_reprs (repr ReprKind.Atom rs) no_reprs)) (matrix_dom ds d) ns js) es fs = refl
-later-same op x es fs = refl
-
-no-view : (c : In) (x : Ex) → is_outside_views c ≡ true → is_matrix_view x ≡ false → is_matrix_view (fill c x) ≡ false
-no-view hole x o h = h
-no-view (in_operand b op c) x o h = refl
-no-view (in_item c d) x o h = refl
-no-view (in_index_domain es c) x o h = refl
-no-view (in_body c gs) x o h = refl
-no-view (in_generators e c) x o h = refl
-no-view (in_cell_index b n c) x o h = refl
-no-view (in_view_domain r c ns es) x o h = cc
-no-view (in_view_index r d ns c) x o h = cc
 
 -- ---- generators
 
@@ -54,20 +28,7 @@ under-join (cond e gs) env P Q R f p q = (q.0, λ t. under-join gs env P Q R f (
 
 -- ---- one step
 
-module _ (a b : Ex) (na : is_matrix_view a ≡ false) (nb : is_matrix_view b ≡ false) where
-  cells-same : (op : Op) (c : Ins) → are_outside_views c ≡ true → is_cell_index op (fill_exs c a) ≡ is_cell_index op (fill_exs c b)
-  cells-same op (in_first c es) o = no-cell op (fill c a) es (no-view c a o na) ∙ sym (no-cell op (fill c b) es (no-view c b o nb))
-  cells-same op (in_later x c) o = later-same op x (fill_exs c a) (fill_exs c b)
-
-  opens-same : (w t : Bool) (op : Op) (c : Ins) → are_outside_views c ≡ true → opens_places w t op (fill_exs c a) ≡ opens_places w t op
-      (fill_exs c b)
-  opens-same w true op c o = ap (λ x. compares op || x) (cells-same op c o)
-  opens-same w false op c o = ap (λ x. w && (counts op || x)) (cells-same op c o)
-
-  lacks-same : (w t : Bool) (op : Op) (c : Ins) → are_outside_views c ≡ true → lacks w t op (fill_exs c a) ≡ lacks w t op (fill_exs c b)
-  lacks-same w true op c o = refl
-  lacks-same w false op c o = ap (λ x. w && (counts op || x)) (cells-same op c o)
-
+module _ (a b : Ex) where
   -- What is said at the open part, without values.
   pub same : (c : In) (w : Bool) (env : Env) → Where c env (KeepsValues w a b) → meaning (fill c a) env ≡ meaning (fill c b) env
   same c w env p = filled a b c env (where-map c env (KeepsValues w a b) (λ here. meaning a here ≡ meaning b here) (λ h k. k.0) p)
@@ -88,10 +49,9 @@ module _ (a b : Ex) (na : is_matrix_view a ≡ false) (nb : is_matrix_view b ≡
         Valued w (fill c a) env → Valued w (fill c b) env
     step-valued hole w env o p v = p.1 v
     step-valued (in_operand t op c) w env o p v = (
-      unless-there (lacks w t op (fill_exs c a)) (lacks w t op (fill_exs c b)) _ _ (lacks-same w t op c o)
+      unless-there (lacks w t op) (lacks w t op) _ _ refl
           (same (in_operand t op c) (natural_at a (in_operand t op c) w) env p) v.0,
-      subst (λ z. AllValued (guards op) z (fill_exs c b) env) (opens-same w t op c o)
-          (step-all c (guards op) (opens_places w t op (fill_exs c a)) env o p v.1),
+      step-all c (guards op) (opens_places w t op) env o p v.1,
     )
     step-valued (in_item c d) w env o p v =
         (there _ _ (same (in_item c d) (natural_at a (in_item c d) w) env p) v.0, step-all c false false env o p v.1, v.2)

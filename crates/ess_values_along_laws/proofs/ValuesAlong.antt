@@ -1,5 +1,5 @@
 -- Values along chains, and what rules count on that follows.
-use Rattle.std.proofs.Common.{◌≡◌, refl, ◌∙◌, subst, Bool, true, false, ◌&&◌, ◌||◌, not, Option}
+use Rattle.std.proofs.Common.{◌≡◌, refl, ◌∙◌, subst, Bool, true, false, ◌&&◌, not, Option}
 use Rattle.std.specs.Prelude.{IsTrue, is_some}
 use Rattle.std.specs.List.{list_all}
 use Rattle.ess_semantics.specs.Values.{Value}
@@ -7,26 +7,25 @@ use Rattle.ess_semantics.specs.Trees.{Ex, Exs, number_ex, truth_ex, name_ex, nod
 use Rattle.ess_semantics.specs.Meaning.{Env, meaning, meanings}
 use Rattle.ess_semantics.specs.Contexts.{In, fill, guards, Guarded, Where}
 use Rattle.ess_semantics.proofs.Tests.{and-left, and-right, and-both}
-use Rattle.ess_guard_laws.specs.IndexDomains.{is_cell_index}
 use Rattle.ess_guard_laws.specs.Guard.{counts}
 use Rattle.ess_guard_laws.specs.Supplied.{Unless}
 use Rattle.ess_guard_natural_laws.specs.TotalButNatural.{opens_places}
 use Rattle.ess_rules_laws.specs.SpliceRules.{SourceThere}
 use Rattle.ess_refine_laws.specs.ScopesStay.{is_outside_views}
-use Rattle.ess_values_along_laws.specs.Valued.{lacks, Valued, AllValued, is_matrix_view}
+use Rattle.ess_values_along_laws.specs.Valued.{lacks, Valued, AllValued}
 use Rattle.ess_values_along_laws.specs.ValuesAlong.{natural_at, KeepsValues, ValuedChain, as_valued, valued_at, may_lack_there, none_may_lack, ValuesAlong}
 use Rattle.ess_values_along_laws.proofs.ValuedSteps.{same, step-valued}
 
 -- ---- at a part, and along a chain
 
-at-part : (c : In) (w : Bool) (a b : Ex) (env : Env) → is_outside_views c ≡ true → is_matrix_view a ≡ false → is_matrix_view b ≡ false →
+at-part : (c : In) (w : Bool) (a b : Ex) (env : Env) → is_outside_views c ≡ true →
     Where c env (KeepsValues (natural_at a c w) a b) → KeepsValues w (fill c a) (fill c b) env
-at-part c w a b env o m n p = (same a b m n c (natural_at a c w) env p, λ v. step-valued a b m n c w env o p v)
+at-part c w a b env o p = (same a b c (natural_at a c w) env p, λ v. step-valued a b c w env o p v)
 
 along-chain : (env : Env) (w : Bool) (old new : Ex) → ValuedChain env w old new → KeepsValues w old new env
 along-chain env w old new as_valued = (refl, λ v. v)
-along-chain env w old new (valued_at a b c o m n p r) =
-    let k = at-part c w a b env o m n p in let l = along-chain env w (fill c b) new r in (k.0 ∙ l.0, λ v. l.1 (k.1 v))
+along-chain env w old new (valued_at a b c o p r) =
+    let k = at-part c w a b env o p in let l = along-chain env w (fill c b) new r in (k.0 ∙ l.0, λ v. l.1 (k.1 v))
 
 -- ---- what has values in no natural place has them in one
 
@@ -45,8 +44,8 @@ mutual
   in-places w (name_ex a) env v = v
   in-places w (node_ex true op es) env v = v
   in-places w (node_ex false op es) env v = (
-    unless-more (lacks w false op es) (IsTrue (is_some (meaning (node_ex false op es) env))) v.0,
-    all-places (guards op) (opens_places w false op es) es env v.1,
+    unless-more (lacks w false op) (IsTrue (is_some (meaning (node_ex false op es) env))) v.0,
+    all-places (guards op) (opens_places w false op) es env v.1,
   )
   in-places w (matrix_ex es d) env v = v
   in-places w (comp_ex e gs) env v = v
@@ -75,7 +74,7 @@ value-there w (truth_ex b) env q v = refl
 value-there w (name_ex a) env q v = v
 value-there w (node_ex true op es) env q v = refl
 value-there w (node_ex false op es) env q v =
-    said (w && (counts op || is_cell_index op es)) (IsTrue (is_some (meaning (node_ex false op es) env))) q v.0
+    said (w && counts op) (IsTrue (is_some (meaning (node_ex false op es) env))) q v.0
 value-there w (matrix_ex es d) env q v = v.0
 value-there w (comp_ex e gs) env q v = v.0
 value-there w (cell_ex true n es) env q v = refl
@@ -107,9 +106,9 @@ values-along = record {
   along = along-chain;
   value = value-there;
   operands = λ w b op es env g o v. outside-there es env
-      (subst (λ z. AllValued false z es env) o (unguarded (guards op) (opens_places w b op es) es env g v.1));
-  compared = λ w b op es env g n v. compared-there (opens_places w b op es) es env n
-      (unguarded (guards op) (opens_places w b op es) es env g v.1);
+      (subst (λ z. AllValued false z es env) o (unguarded (guards op) (opens_places w b op) es env g v.1));
+  compared = λ w b op es env g n v. compared-there (opens_places w b op) es env n
+      (unguarded (guards op) (opens_places w b op) es env g v.1);
   source = first-source;
   in_places = in-places;
 }

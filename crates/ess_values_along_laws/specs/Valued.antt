@@ -1,21 +1,19 @@
 -- Trees each part of which has a value wherever its context holds, but for numbers in natural places. Natural places are the operands of
--- comparisons and the indices of declared matrices of atoms, seen through operators on numbers and through such indices. There an operator
--- on numbers and a cell may have nothing: the comparison above them is false then.
+-- comparisons, seen through operators on numbers. There an operator on numbers and a cell may have nothing: the comparison above them is
+-- false then.
 use Rattle.std.specs.Prelude.{Bool, true, false, ◌&&◌, ◌||◌, IsTrue, is_some}
-use Rattle.ess_semantics.specs.declared.words.ReprKind.{ReprKind}
 use Rattle.ess_semantics.specs.Names.{look}
-use Rattle.ess_semantics.specs.Trees.{Op, repr, Ex, Exs, number_ex, truth_ex, name_ex, node_ex, matrix_ex, comp_ex, cell_ex, seen_ex, no_exs, more_exs, Gens, no_gens, over, from, cond, Dom, Doms, bool_dom, int_dom, name_dom, tuple_dom, record_dom, matrix_dom, set_dom, mset_dom, function_dom, relation_dom, partition_dom, no_doms, more_doms}
+use Rattle.ess_semantics.specs.Trees.{Op, Ex, Exs, number_ex, truth_ex, name_ex, node_ex, matrix_ex, comp_ex, cell_ex, seen_ex, no_exs, more_exs, Gens, no_gens, over, from, cond, Dom, Doms, bool_dom, int_dom, name_dom, tuple_dom, record_dom, matrix_dom, set_dom, mset_dom, function_dom, relation_dom, partition_dom, no_doms, more_doms}
 use Rattle.ess_semantics.specs.Meaning.{Env, meaning, domain_of, members_in, with_pat}
 use Rattle.ess_semantics.specs.Contexts.{EachOf, EachIn, WhenTrue, Guarded, guards}
-use Rattle.ess_guard_laws.specs.IndexDomains.{is_cell_index}
 use Rattle.ess_guard_laws.specs.Guard.{counts}
 use Rattle.ess_guard_laws.specs.Supplied.{Unless}
 use Rattle.ess_guard_natural_laws.specs.TotalButNatural.{opens_places}
 
--- Whether a node may have nothing: an operator on numbers or a cell in a natural place. A Boolean never has.
-abbrev pub lacks : Bool → Bool → Op → Exs → Bool
-lacks w true op es = true
-lacks w false op es = w && (counts op || is_cell_index op es)
+-- Whether a node may have nothing: an operator on numbers in a natural place. A Boolean never has.
+abbrev pub lacks : Bool → Bool → Op → Bool
+lacks w true op = true
+lacks w false op = w && counts op
 
 abbrev mutual
   -- Each part of the expression has a value wherever its context holds. w says that the expression stands in a natural place.
@@ -24,7 +22,7 @@ abbrev mutual
   Valued w (truth_ex b) env = Unit {0}
   Valued w (name_ex a) env = IsTrue (is_some (look env.vals a))
   Valued w (node_ex b op es) env =
-      Unless (lacks w b op es) (IsTrue (is_some (meaning (node_ex b op es) env))) × AllValued (guards op) (opens_places w b op es) es env
+      Unless (lacks w b op) (IsTrue (is_some (meaning (node_ex b op es) env))) × AllValued (guards op) (opens_places w b op) es env
   Valued w (matrix_ex es d) env = IsTrue (is_some (meaning (matrix_ex es d) env)) × AllValued false false es env × DomValued d env
   Valued w (comp_ex e gs) env = IsTrue (is_some (meaning (comp_ex e gs) env)) × UnderValued gs env (λ here. Valued false e here)
   Valued w (cell_ex b n es) env = Unless (b || w) (IsTrue (is_some (meaning (cell_ex b n es) env))) × AllValued false false es env
@@ -60,8 +58,3 @@ abbrev mutual
   pub DomsValued : Doms → Env → Type 0
   DomsValued no_doms env = Unit {0}
   DomsValued (more_doms d ds) env = DomValued d env × DomsValued ds env
-
--- Whether the expression is a view of a matrix.
-abbrev pub is_matrix_view : Ex → Bool
-is_matrix_view (seen_ex (repr ReprKind.Matrix rs) d ns es) = true
-is_matrix_view e = false

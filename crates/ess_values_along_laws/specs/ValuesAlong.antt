@@ -1,16 +1,15 @@
 -- Values along chains of rules: where each rule keeps at its root that each part has a value, the whole keeps it; and what rules count on
 -- that operands, sources and comprehensions have values follows.
-use Rattle.std.specs.Prelude.{◌≡◌, Bool, true, false, ◌&&◌, ◌||◌, not, IsTrue, is_some}
+use Rattle.std.specs.Prelude.{◌≡◌, Bool, true, false, ◌&&◌, not, IsTrue, is_some}
 use Rattle.ess_semantics.specs.Trees.{Op, Ex, Exs, node_ex, comp_ex, cell_ex, no_exs, more_exs, Gens}
 use Rattle.ess_semantics.specs.Meaning.{Env, meaning}
-use Rattle.ess_semantics.specs.Contexts.{In, Ins, InGens, InDom, InDoms, hole, in_operand, in_item, in_index_domain, in_body, in_generators, in_cell_index, in_view_domain, in_view_index, in_first, in_later, in_generator_domain, behind_over, in_source, behind_from, in_condition, behind_condition, in_bound, in_component, in_field, in_index, in_element, in_set_number, in_set_member, in_mset_number, in_mset_member, in_function_number, in_argument, in_result, in_relation_number, in_relation_component, in_partition_number, in_partition_member, in_first_domain, in_later_domain, fill, fill_exs, guards, Where}
-use Rattle.ess_guard_laws.specs.IndexDomains.{is_cell_index}
+use Rattle.ess_semantics.specs.Contexts.{In, Ins, InGens, InDom, InDoms, hole, in_operand, in_item, in_index_domain, in_body, in_generators, in_cell_index, in_view_domain, in_view_index, in_first, in_later, in_generator_domain, behind_over, in_source, behind_from, in_condition, behind_condition, in_bound, in_component, in_field, in_index, in_element, in_set_number, in_set_member, in_mset_number, in_mset_member, in_function_number, in_argument, in_result, in_relation_number, in_relation_component, in_partition_number, in_partition_member, in_first_domain, in_later_domain, fill, guards, Where}
 use Rattle.ess_guard_laws.specs.Guard.{counts}
 use Rattle.ess_guard_natural_laws.specs.TotalButNatural.{opens_places}
 use Rattle.ess_rules_laws.specs.Rules.{OperandsThere}
 use Rattle.ess_rules_laws.specs.SpliceRules.{SourceThere}
 use Rattle.ess_refine_laws.specs.ScopesStay.{is_outside_views}
-use Rattle.ess_values_along_laws.specs.Valued.{Valued, is_matrix_view}
+use Rattle.ess_values_along_laws.specs.Valued.{Valued}
 
 -- ---- the open part
 
@@ -20,7 +19,7 @@ module _ (a : Ex) where
     -- Whether the open part stands in a natural place, where w says so of the whole.
     pub natural_at : In → Bool → Bool
     natural_at hole w = w
-    natural_at (in_operand b op c) w = natural_in c (opens_places w b op (fill_exs c a))
+    natural_at (in_operand b op c) w = natural_in c (opens_places w b op)
     natural_at (in_item c d) w = natural_in c false
     natural_at (in_index_domain es c) w = natural_in_dom c
     natural_at (in_body c gs) w = natural_at c false
@@ -73,18 +72,18 @@ module _ (a : Ex) where
 abbrev pub KeepsValues : Bool → Ex → Ex → Env → Type 0
 KeepsValues w a b env = (meaning a env ≡ meaning b env) × (Valued w a env → Valued w b env)
 
--- The second tree comes from the first one by rules, each at some part outside of views, none of a view of a matrix, where it keeps
--- values wherever the context of the part holds under the env; w says that the trees stand in a natural place.
+-- The second tree comes from the first one by rules, each at some part outside of views, where it keeps values wherever the
+-- context of the part holds under the env; w says that the trees stand in a natural place.
 pub data ValuedChain (env : Env) (w : Bool) : Ex → Ex → Type 0 where
   as_valued : {e : Ex} → ValuedChain env w e e
-  valued_at : {e : Ex} (a b : Ex) (c : In) → is_outside_views c ≡ true → is_matrix_view a ≡ false → is_matrix_view b ≡ false →
+  valued_at : {e : Ex} (a b : Ex) (c : In) → is_outside_views c ≡ true →
       Where c env (KeepsValues (natural_at a c w) a b) → ValuedChain env w (fill c b) e → ValuedChain env w (fill c a) e
 
 -- ---- operands
 
 -- Whether an operand may have nothing in a natural place: an operator on numbers, or a cell.
 abbrev pub may_lack_there : Ex → Bool
-may_lack_there (node_ex false op es) = counts op || is_cell_index op es
+may_lack_there (node_ex false op es) = counts op
 may_lack_there (cell_ex false n es) = true
 may_lack_there e = false
 
@@ -100,11 +99,11 @@ none_may_lack (more_exs e es) = not (may_lack_there e) && none_may_lack es
 -- them, where by their form none may lack one; the first source of a comprehension; and the comprehension. What has values in no natural
 -- place has them in one.
 pub record ValuesAlong : Type 0 where
-  pub at_a_part : (c : In) (w : Bool) (a b : Ex) (env : Env) → is_outside_views c ≡ true → is_matrix_view a ≡ false →
-      is_matrix_view b ≡ false → Where c env (KeepsValues (natural_at a c w) a b) → KeepsValues w (fill c a) (fill c b) env
+  pub at_a_part : (c : In) (w : Bool) (a b : Ex) (env : Env) → is_outside_views c ≡ true →
+      Where c env (KeepsValues (natural_at a c w) a b) → KeepsValues w (fill c a) (fill c b) env
   pub along : (env : Env) (w : Bool) (old new : Ex) → ValuedChain env w old new → KeepsValues w old new env
   pub value : (w : Bool) (e : Ex) (env : Env) → w && may_lack_there e ≡ false → Valued w e env → IsTrue (is_some (meaning e env))
-  pub operands : (w b : Bool) (op : Op) (es : Exs) (env : Env) → guards op ≡ false → opens_places w b op es ≡ false →
+  pub operands : (w b : Bool) (op : Op) (es : Exs) (env : Env) → guards op ≡ false → opens_places w b op ≡ false →
       Valued w (node_ex b op es) env → OperandsThere (node_ex b op es) env
   pub compared : (w b : Bool) (op : Op) (es : Exs) (env : Env) → guards op ≡ false → none_may_lack es ≡ true →
       Valued w (node_ex b op es) env → OperandsThere (node_ex b op es) env

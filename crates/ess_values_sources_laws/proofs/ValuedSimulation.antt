@@ -1,18 +1,15 @@
 -- Weakening and substitution keep values: where each part of a tree has a value, so has each part of the tree with expressions that have
--- values put in for its names. An index of a name may become a cell, of which less is asked.
-use Rattle.std.proofs.Common.{◌≡◌, refl, sym, ap, ◌∙◌, subst, Bool, true, false, ◌&&◌, ◌||◌, List, [], ◌∷◌}
+-- values put in for its names.
+use Rattle.std.proofs.Common.{◌≡◌, sym, ap, ◌∙◌, subst, Bool, true, false, ◌||◌, List, ◌∷◌}
 use Rattle.std.specs.Prelude.{IsTrue, is_some}
-use Rattle.ess_semantics.specs.declared.words.ReprKind.{ReprKind}
 use Rattle.ess_semantics.specs.Values.{Text, Value}
 use Rattle.ess_semantics.specs.Names.{Names, look}
-use Rattle.ess_semantics.specs.Trees.{Step, by_value, to_component, to_field, Op, index, repr, no_reprs, more_reprs, Ex, Exs, number_ex, truth_ex, name_ex, node_ex, matrix_ex, comp_ex, cell_ex, seen_ex, no_exs, more_exs, Gens, no_gens, over, from, cond, Dom, Doms, bool_dom, int_dom, name_dom, tuple_dom, record_dom, matrix_dom, set_dom, mset_dom, function_dom, relation_dom, partition_dom, no_doms, more_doms}
+use Rattle.ess_semantics.specs.Trees.{Ex, Exs, number_ex, truth_ex, name_ex, node_ex, matrix_ex, comp_ex, cell_ex, seen_ex, no_exs, more_exs, Gens, no_gens, over, from, cond, Dom, Doms, bool_dom, int_dom, name_dom, tuple_dom, record_dom, matrix_dom, set_dom, mset_dom, function_dom, relation_dom, partition_dom, no_doms, more_doms}
 use Rattle.ess_semantics.specs.Operators.{as_truth}
 use Rattle.ess_semantics.specs.Tables.{Table}
 use Rattle.ess_semantics.specs.Meaning.{Env, TypeEntry, bind, with_pat, meaning, domain_of, members_in}
 use Rattle.ess_semantics.specs.Contexts.{EachOf, EachIn, guards}
 use Rattle.ess_semantics.specs.Substitution.{substitute, substitute_exs, substitute_gens, substitute_dom, substitute_doms, NamesAre, NamesAreExs, NamesAreGens, NamesAreDom, NamesAreDoms}
-use Rattle.ess_guard_laws.specs.Guard.{compares, counts}
-use Rattle.ess_guard_laws.specs.IndexDomains.{is_whole_index, is_cell_index}
 use Rattle.ess_guard_laws.specs.Supplied.{Unless}
 use Rattle.ess_guard_natural_laws.specs.TotalButNatural.{opens_places}
 use Rattle.ess_rules_laws.proofs.Simulation.{Vals, E, any, bind-r, meaning-sim, domain-sim, substitute-itself, dom-itself}
@@ -20,70 +17,6 @@ use Rattle.ess_rules_laws.proofs.Bindings.{each-of-map, each-in-map, guarded-map
 use Rattle.ess_rules_laws.proofs.Agreement.{AgreeOn, itself-named, itself-bound}
 use Rattle.ess_values_along_laws.specs.Valued.{lacks, Valued, AllValued, UnderValued, DomValued, DomsValued}
 use Rattle.ess_values_along_laws.proofs.ValuesAlong.{values-along}
-
--- ---- less may be asked
-
--- The second test holds where the first one does.
-abbrev Leads : Bool → Bool → Type 0
-Leads a b = a ≡ true → b ≡ true
-
-or-leads : (a b c : Bool) → Leads b c → Leads (a || b) (a || c)
-or-leads true b c l = λ q. refl
-or-leads false b c l = l
-
-and-leads : (a b c : Bool) → Leads b c → Leads (a && b) (a && c)
-and-leads true b c l = l
-and-leads false b c l = λ q. q
-
-unless-leads : (a b : Bool) (P : Type 0) → Leads a b → Unless a P → Unless b P
-unless-leads true true P l h = tt
-unless-leads true false P l h = absurd (no (l refl))
-  where
-    no : false ≡ true → ⊥
-    no q = cc
-unless-leads false true P l h = tt
-unless-leads false false P l h = h
-
--- Operands in no natural place have values in any.
-all-anywhere : (g z : Bool) (es : Exs) (env : Env) → AllValued g false es env → AllValued g z es env
-all-anywhere g z no_exs env v = tt
-all-anywhere true z (more_exs e es) env v = (values-along.in_places z e env v.0, λ t. all-anywhere false z es env (v.1 t))
-all-anywhere false z (more_exs e es) env v = (values-along.in_places z e env v.0, all-anywhere false z es env v.1)
-
-all-leads : (a b g : Bool) (es : Exs) (env : Env) → Leads a b → AllValued g a es env → AllValued g b es env
-all-leads true true g es env l v = v
-all-leads true false g es env l v = absurd (no (l refl))
-  where
-    no : false ≡ true → ⊥
-    no q = cc
-all-leads false b g es env l v = all-anywhere g b es env v
-
--- ---- cells by their form
-
-module _ (f : Text → Ex) where
-  whole-put : (qs : List Step) (ds : Doms) → is_whole_index qs (substitute_doms f ds) ≡ is_whole_index qs ds
-  whole-put [] no_doms = refl
-  whole-put [] (more_doms d ds) = refl
-  whole-put (by_value ∷ qs) no_doms = refl
-  whole-put (by_value ∷ qs) (more_doms d ds) = whole-put qs ds
-  whole-put (to_component k ∷ qs) no_doms = refl
-  whole-put (to_component k ∷ qs) (more_doms d ds) = refl
-  whole-put (to_field a ∷ qs) no_doms = refl
-  whole-put (to_field a ∷ qs) (more_doms d ds) = refl
-
-  -- A cell stays one.
-  cell-put : (op : Op) (es : Exs) → Leads (is_cell_index op es) (is_cell_index op (substitute_exs f es))
-  cell-put (index qs) (more_exs (seen_ex (repr ReprKind.Matrix (more_reprs (repr ReprKind.Atom rs) no_reprs)) (matrix_dom ds d) ns js) is) =
-      λ q. whole-put qs ds ∙ q
-  cell-put op es = λ q. cc
-
-  lacks-put : (w q : Bool) (op : Op) (es : Exs) → Leads (lacks w q op es) (lacks w q op (substitute_exs f es))
-  lacks-put w true op es = λ q. refl
-  lacks-put w false op es = and-leads w _ _ (or-leads (counts op) _ _ (cell-put op es))
-
-  opens-put : (w q : Bool) (op : Op) (es : Exs) → Leads (opens_places w q op es) (opens_places w q op (substitute_exs f es))
-  opens-put w true op es = or-leads (compares op) _ _ (cell-put op es)
-  opens-put w false op es = and-leads w _ _ (or-leads (counts op) _ _ (cell-put op es))
 
 -- ---- substitution
 
@@ -117,10 +50,8 @@ module _ (pl : Bool) (ts : List TypeEntry) (cs : Names Table) (f : Text → Ex) 
     valued-sim (truth_ex m) w g h o s v = tt
     valued-sim (name_ex a) w g h o s v = values-along.in_places w (f a) (M h) (at-value a g h o s v)
     valued-sim (node_ex q op es) w g h o s v = (
-      unless-leads (lacks w q op es) (lacks w q op (substitute_exs f es)) _ (lacks-put f w q op es)
-          (unless-map (lacks w q op es) _ _ (some-put (node_ex q op es) g h o s) v.0),
-      all-leads (opens_places w q op es) (opens_places w q op (substitute_exs f es)) (guards op) (substitute_exs f es) (M h)
-          (opens-put f w q op es) (valued-sim-all es (guards op) (opens_places w q op es) g h o s v.1),
+      unless-map (lacks w q op) _ _ (some-put (node_ex q op es) g h o s) v.0,
+      valued-sim-all es (guards op) (opens_places w q op) g h o s v.1,
     )
     valued-sim (matrix_ex es d) w g h o s v =
         (some-put (matrix_ex es d) g h o s v.0, valued-sim-all es false false g h o.0 s v.1, valued-sim-dom d g h o.1 s v.2)

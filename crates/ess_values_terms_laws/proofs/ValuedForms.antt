@@ -1,5 +1,5 @@
 -- Forms of trees that have values: what stands in no natural place, and words and indices that are never without a value.
-use Rattle.std.proofs.Common.{◌≡◌, refl, sym, subst, Bool, true, false, ◌&&◌, ◌||◌, not, ℕ, [], ◌∷◌, Option, Some, None}
+use Rattle.std.proofs.Common.{◌≡◌, refl, sym, subst, Bool, true, false, ◌&&◌, not, ℕ, [], ◌∷◌, Option, Some, None}
 use Rattle.std.specs.Prelude.{IsTrue, is_some}
 use Rattle.std.specs.List.{list_all}
 use Rattle.ess_semantics.specs.declared.words.Op1.{Op1}
@@ -12,7 +12,6 @@ use Rattle.ess_semantics.specs.Meaning.{Env, meaning, meanings}
 use Rattle.ess_semantics.specs.Contexts.{guards}
 use Rattle.ess_semantics.proofs.Tests.{and-left, and-right, and-both}
 use Rattle.ess_guard_laws.specs.Guard.{counts}
-use Rattle.ess_guard_laws.specs.IndexDomains.{is_cell_index}
 use Rattle.ess_guard_laws.specs.Supplied.{Unless}
 use Rattle.ess_guard_natural_laws.specs.TotalButNatural.{opens_places}
 use Rattle.ess_rules_laws.specs.InclusionRules.{frequency}
@@ -72,7 +71,7 @@ by-form (truth_ex b) env true q v = tt
 by-form (name_ex a) env true q v = v
 by-form (node_ex true op es) env true q v = v
 by-form (node_ex false op es) env true q v = (
-  said (counts op || is_cell_index op es) (IsTrue (is_some (meaning (node_ex false op es) env))) q v.0,
+  said (counts op) (IsTrue (is_some (meaning (node_ex false op es) env))) q v.0,
   subst (λ z. AllValued (guards op) z es env) q v.1,
 )
 by-form (matrix_ex es d) env true q v = v
@@ -157,8 +156,8 @@ part-there false q a env t h = go (meaning a env) h
 pub node-valued : (b w : Bool) (op : Op) (es : Exs) (env : Env) → guards op ≡ false → IsTrue (is_some (meaning (node_ex b op es) env)) →
     AllValued false false es env → Valued w (node_ex b op es) env
 node-valued b w op es env g h v = (
-  unless-more (lacks w b op es) (IsTrue (is_some (meaning (node_ex b op es) env))) h,
-  subst (λ z. AllValued z (opens_places w b op es) es env) (sym g) (in-any es (opens_places w b op es) v),
+  unless-more (lacks w b op) (IsTrue (is_some (meaning (node_ex b op es) env))) h,
+  subst (λ z. AllValued z (opens_places w b op) es env) (sym g) (in-any es (opens_places w b op) v),
 )
   where
     in-any : (es : Exs) (z : Bool) → AllValued false false es env → AllValued false z es env
