@@ -18,6 +18,7 @@ use Rattle.ess_semantics.specs.Meets.{Meets, MeetsGens}
 use Rattle.ess_semantics.proofs.Orders.{to_list-of_list}
 use Rattle.ess_rules_laws.specs.Rules.{Unused}
 use Rattle.ess_rules_laws.proofs.RuleAnswers.{meaning-behind}
+use Rattle.ess_numbered_laws.specs.ThereByForm.{is_there}
 use Rattle.ess_numbered_laws.specs.MostItems.{Pick, sum_at, so_often, behind_condition}
 use Rattle.ess_numbered_laws.specs.BoundLaws.{reach_at_most, PartFits}
 use Rattle.ess_numbered_laws.proofs.Answered.{Answered, answered-under}
@@ -137,35 +138,45 @@ module _ (base : Env) where
             s.2))
     behind-from _ t gs l n nat-l nat-n b h = tt
 
-    -- Under a condition.
-    pub behind-cond : (c : Ex) (gs : Gens) (n : Ex) → IsNatural n → Behind e gs m n → Behind e (cond c gs) m (behind_condition c n)
-    behind-cond c gs n nat h f adds leaf good g met k q xs i =
+    -- The value of n, where the condition is true.
+    behind-true : (c n : Ex) → IsNatural n → (g : Names Value) (k : ℕ) → meaning c (Here g) ≡ Some (truth true) →
+        meaning (sum_at n (cond c no_gens)) (Here g) ≡ Some (number (pos k)) → meaning n (Here g) ≡ Some (number (pos k))
+    behind-true c n nat g k t q =
+        let s = sum-there (option_map (λ w. w ∷ []) (meaning n (Here g))) k
+        (sym (ap (λ o. value_of_node (word Fun.Sum) (option_map list_value
+        (where_true o (λ u. option_map (λ w. w ∷ []) (meaning n (Here g)))) ∷ [])) t) ∙ q) in
+        one (meaning n (Here g)) s.0 s.1 s.2 (λ v y. nat (Here g) v y)
+      where
+        one : (o : Option Value) (ws : List Value) → option_map (λ w. w ∷ []) o ≡ Some ws → sum_of ws ≡ pos k →
+            ((v : Value) → o ≡ Some v → Natural v) →
+            o ≡ Some (number (pos k))
+        one None ws a b l = cc
+        one (Some w) ws a b l = let r = l w refl in
+            let z : w ∷ [] ≡ ws = cc in
+            let y : pos r.0 +ℤ pos 0 ≡ pos k = sym (ap (λ v. number_in v +ℤ pos 0) r.1) ∙ ap sum_of z ∙ b in
+            let x : r.0 ≡ k = omega (arith, ints) in ap Some r.1 ∙ ap (λ j. Some (number (pos j))) x
+
+    -- A number that says no more than n where the condition is true.
+    under-cond : (c : Ex) (gs : Gens) (n w : Ex) → Behind e gs m n →
+        ((g : Names Value) (k : ℕ) → meaning c (Here g) ≡ Some (truth true) → meaning w (Here g) ≡ Some (number (pos k)) →
+        meaning n (Here g) ≡ Some (number (pos k))) → Behind e (cond c gs) m w
+    under-cond c gs n w h bare f adds leaf good g met k q xs i =
         go (meaning c (Here g)) refl i
       where
-        -- The value of n, where the condition is true.
-        bare : (b : Bool) → meaning c (Here g) ≡ Some (truth true) → meaning (if b then n else sum_at n (cond c no_gens)) (Here g)
-            ≡ Some (number (pos k)) →
-            meaning n (Here g) ≡ Some (number (pos k))
-        bare true t q = q
-        bare false t q =
-            let s = sum-there (option_map (λ w. w ∷ []) (meaning n (Here g))) k
-            (sym (ap (λ o. value_of_node (word Fun.Sum) (option_map list_value
-            (where_true o (λ u. option_map (λ w. w ∷ []) (meaning n (Here g)))) ∷ [])) t) ∙ q) in
-            one (meaning n (Here g)) s.0 s.1 s.2 (λ v y. nat (Here g) v y)
-          where
-            one : (o : Option Value) (ws : List Value) → option_map (λ w. w ∷ []) o ≡ Some ws → sum_of ws ≡ pos k →
-                ((v : Value) → o ≡ Some v → Natural v) →
-                o ≡ Some (number (pos k))
-            one None ws a b l = cc
-            one (Some w) ws a b l = let r = l w refl in
-                let z : w ∷ [] ≡ ws = cc in
-                let y : pos r.0 +ℤ pos 0 ≡ pos k = sym (ap (λ v. number_in v +ℤ pos 0) r.1) ∙ ap sum_of z ∙ b in
-                let x : r.0 ≡ k = omega (arith, ints) in ap Some r.1 ∙ ap (λ j. Some (number (pos j))) x
-
         none : Some [] ≡ Some xs → f k xs ≡ true
         none j = subst (λ l. f k l ≡ true) (let z : [] ≡ xs = cc in z) (adds.nothing k)
 
         go : (o : Option Value) → meaning c (Here g) ≡ o → where_true o (λ u. items_under gs (Here g) (OneItem e)) ≡ Some xs → f k xs ≡ true
         go (Some (truth true)) t j = h f adds leaf (each-right Good (parts_of c) (parts_of_gens gs) good) g (met.1 (ap as_truth t)) k
-            (bare (has_cells c) t q) xs j
+            (bare g k t q) xs j
         go _ t j = none j
+
+    -- Under a condition.
+    pub behind-cond : (c : Ex) (gs : Gens) (n : Ex) → IsNatural n → Behind e gs m n →
+        Answered (behind_condition c n) (Behind e (cond c gs) m)
+    behind-cond c gs n nat h = by (has_cells c)
+      where
+        by : (b : Bool) →
+            Answered (if b then (if is_there n then Some n else None) else Some (sum_at n (cond c no_gens))) (Behind e (cond c gs) m)
+        by true = answered-under (Behind e (cond c gs) m) (is_there n) n (λ q. under-cond c gs n n h (λ g k t r. r))
+        by false = under-cond c gs n (sum_at n (cond c no_gens)) h (λ g k t r. behind-true c n nat g k t r)

@@ -82,7 +82,7 @@ module _ (base : Env) where
         (answered-both IsNatural (Behind base e gs m) (most_behind z gs m) (behind-natural z gs m nat) (behind-bound z gs e m nat))
         (λ n h. behind-from base e m p t gs l n i.0 h.0 i.1 h.1))
     behind-bound z (cond c gs) e m nat =
-        answered-map (Behind base e (cond c gs) m) (most_behind z gs m) (behind_condition c)
+        answered-then (Behind base e (cond c gs) m) (most_behind z gs m) (behind_condition c)
         (answered-both IsNatural (Behind base e gs m) (most_behind z gs m) (behind-natural z gs m nat) (behind-bound z gs e m nat))
         (λ n h. behind-cond base e m c gs n h.0 h.1)
 

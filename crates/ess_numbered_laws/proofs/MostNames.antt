@@ -9,6 +9,7 @@ use Rattle.ess_semantics.specs.Trees.{index, application, word, tuple_literal, m
 use Rattle.ess_guard_laws.specs.IndexDomains.{first_index, plain_axis, are_plain_bounds}
 use Rattle.ess_ordered_laws.specs.ToldAxes.{dom_at, dom_of_field, results_of, component_dom, field_dom, items_dom}
 use Rattle.ess_rules_laws.proofs.Simulation.{any}
+use Rattle.ess_numbered_laws.specs.ThereByForm.{is_there}
 use Rattle.ess_numbered_laws.specs.MostItems.{Pick, an_item, a_result, a_component, a_field, pick_of, dom_along, all_summed, behind_condition, so_often, members_counted, sum_at, most, most_behind, most_of_each, most_at, most_of_field, most_items, list_axis}
 use Rattle.ess_numbered_laws.proofs.Answered.{Answered, answered-map, answered-then, answered-under}
 use Rattle.ess_numbered_laws.proofs.ListAxes.{list-plain}
@@ -82,11 +83,11 @@ module _ (u : Text → Bool) where
   often-names (name_pat y) k n h l = answered-under (NamesAre u any) (free_of (y ∷ []) (more_exs n no_exs)) _ (λ q. (h, (l, tt)))
   often-names _ k n h l = tt
 
-  condition-names : (c n : Ex) → NamesAre u any c → NamesAre u any n → NamesAre u any (behind_condition c n)
+  condition-names : (c n : Ex) → NamesAre u any c → NamesAre u any n → InEx (behind_condition c n)
   condition-names c n h l = go (has_cells c)
     where
-      go : (b : Bool) → NamesAre u any (if b then n else sum_at n (cond c no_gens))
-      go true = l
+      go : (b : Bool) → InEx (if b then (if is_there n then Some n else None) else Some (sum_at n (cond c no_gens)))
+      go true = answered-under (NamesAre u any) (is_there n) n (λ q. l)
       go false = ((l, (h, tt)), tt)
 
   mutual
@@ -123,7 +124,7 @@ module _ (u : Text → Bool) where
         answered-then (NamesAre u any) (most z [] t) _ (most-names z [] t h.1)
         (λ k i. answered-then (NamesAre u any) (most_behind z gs n) (so_often p k) (behind-names z gs n h.2 l)
         (λ m j. often-names p k m i j))
-    behind-names z (cond c gs) n h l = answered-map (NamesAre u any) (most_behind z gs n) (behind_condition c) (behind-names z gs n h.1 l)
+    behind-names z (cond c gs) n h l = answered-then (NamesAre u any) (most_behind z gs n) (behind_condition c) (behind-names z gs n h.1 l)
         (λ m k. condition-names c m h.0 k)
 
     each-names : (z : Text) (ps : List Pick) (es : Exs) → NamesAreExs u any es → Answered (most_of_each z ps es) (NamesAreExs u any)

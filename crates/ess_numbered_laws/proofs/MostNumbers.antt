@@ -15,6 +15,7 @@ use Rattle.ess_semantics.specs.Meaning.{Env, meaning, meanings, domain_of, membe
 use Rattle.ess_semantics.specs.Contexts.{Each}
 use Rattle.ess_semantics.proofs.Orders.{to_list-of_list}
 use Rattle.ess_guard_laws.specs.IndexDomains.{first_index}
+use Rattle.ess_numbered_laws.specs.ThereByForm.{is_there}
 use Rattle.ess_numbered_laws.specs.MostItems.{Pick, an_item, a_result, a_component, a_field, pick_of, dom_along, sum_at, all_summed, behind_condition, so_often, members_counted, most, most_behind, most_of_each, most_at, most_of_field, list_axis}
 use Rattle.ess_numbered_laws.proofs.Answered.{Answered, answered-map, answered-then, answered-under}
 use Rattle.ess_ordered_laws.specs.NumberedItems.{is_from_one}
@@ -151,11 +152,11 @@ often-natural : (p : Pat) (k n : Ex) → IsNatural k → IsNatural n → Answere
 often-natural (name_pat y) k n h l = answered-under IsNatural (free_of (y ∷ []) (more_exs n no_exs)) _ (λ q. times-natural k n h l)
 often-natural _ k n h l = tt
 
-condition-natural : (c n : Ex) → IsNatural n → IsNatural (behind_condition c n)
+condition-natural : (c n : Ex) → IsNatural n → Answered (behind_condition c n) IsNatural
 condition-natural c n l = go (has_cells c)
   where
-    go : (b : Bool) → IsNatural (if b then n else sum_at n (cond c no_gens))
-    go true = l
+    go : (b : Bool) → Answered (if b then (if is_there n then Some n else None) else Some (sum_at n (cond c no_gens))) IsNatural
+    go true = answered-under IsNatural (is_there n) n (λ q. l)
     go false = cond-natural n c l
 
 mutual
@@ -192,7 +193,7 @@ mutual
   behind-natural z (from p t gs) n l =
       answered-then IsNatural (most z [] t) _ (most-natural z [] t)
       (λ k i. answered-then IsNatural (most_behind z gs n) (so_often p k) (behind-natural z gs n l) (λ m j. often-natural p k m i j))
-  behind-natural z (cond c gs) n l = answered-map IsNatural (most_behind z gs n) (behind_condition c) (behind-natural z gs n l)
+  behind-natural z (cond c gs) n l = answered-then IsNatural (most_behind z gs n) (behind_condition c) (behind-natural z gs n l)
       (λ m k. condition-natural c m k)
 
   -- What is said of each of several terms.

@@ -1,3 +1,5 @@
+-- Numbers that have a value by their form
+pub mod ThereByForm
 -- How many items a list may have at most
 pub mod MostItems
 -- Comprehensions over sources whose items are counted

@@ -1,5 +1,6 @@
 -- How many items a list has at most, whatever picks it: by the forms of all lists that may be picked, and by the domain that a view follows.
--- What picks a list is left out, and so is each condition that reads a table. Each of the lists is numbered from 1.
+-- What picks a list is left out, and so is each condition that reads a table, where what stands behind it has a value without it. Each of
+-- the lists is numbered from 1.
 use Rattle.std.specs.Prelude.{ℕ, zero, suc, false, List, [], ◌∷◌, pos, Option, Some, None, option_map, if◌then◌else◌}
 use Rattle.ess_semantics.specs.declared.words.Op2.{Op2}
 use Rattle.ess_semantics.specs.declared.words.Fun.{Fun}
@@ -12,6 +13,7 @@ use Rattle.ess_semantics.specs.Trees.{Step, by_value, to_component, to_field, in
 use Rattle.ess_guard_laws.specs.IndexDomains.{first_index, plain_axis}
 use Rattle.ess_rules_laws.specs.SourceRules.{list_of}
 use Rattle.ess_ordered_laws.specs.NumberedItems.{is_from_one}
+use Rattle.ess_numbered_laws.specs.ThereByForm.{is_there}
 use Rattle.ess_ordered_laws.specs.ToldAxes.{results_of, component_dom, field_dom, items_dom}
 
 -- ---- what is picked out of a term
@@ -55,9 +57,9 @@ members_counted z d = sum_at (number_ex (pos 1)) (over (name_pat z) d no_gens)
 abbrev pub all_summed : Exs → Ex
 all_summed ns = fun1 false Fun.Sum (list_of ns)
 
--- Behind a condition: n, where it reads a table, else `sum([n | c])`.
-abbrev pub behind_condition : Ex → Ex → Ex
-behind_condition c n = if has_cells c then n else sum_at n (cond c no_gens)
+-- Behind a condition: `sum([n | c])`, where it reads no table, else n, if that has a value without the condition.
+abbrev pub behind_condition : Ex → Ex → Option Ex
+behind_condition c n = if has_cells c then (if is_there n then Some n else None) else Some (sum_at n (cond c no_gens))
 
 -- Behind a name that runs over k items: `k * n`, where n doesn't speak of it.
 abbrev pub so_often : Pat → Ex → Ex → Option Ex
@@ -90,7 +92,7 @@ abbrev mutual
   most_behind z no_gens n = Some n
   most_behind z (over p d gs) n = option_map (λ m. sum_at m (over p d no_gens)) (most_behind z gs n)
   most_behind z (from p t gs) n = and_then (most z [] t) (λ k. and_then (most_behind z gs n) (so_often p k))
-  most_behind z (cond c gs) n = option_map (behind_condition c) (most_behind z gs n)
+  most_behind z (cond c gs) n = and_then (most_behind z gs n) (behind_condition c)
 
   -- Of each of these.
   pub most_of_each : Text → List Pick → Exs → Option Exs

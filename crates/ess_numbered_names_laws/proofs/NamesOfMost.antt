@@ -9,6 +9,7 @@ use Rattle.ess_semantics.specs.Occurrences.{free_of, has_cells}
 use Rattle.ess_semantics.specs.Trees.{index, application, word, tuple_literal, matrix_literal, function_literal, record_literal, Pat, name_pat, tuple_pat, Ex, Exs, number_ex, node_ex, matrix_ex, comp_ex, seen_ex, no_exs, more_exs, Gens, no_gens, over, from, cond, Dom, fun1}
 use Rattle.ess_guard_laws.specs.IndexDomains.{first_index, plain_axis}
 use Rattle.ess_refine_laws.specs.AllRules.{OfSome}
+use Rattle.ess_numbered_laws.specs.ThereByForm.{is_there}
 use Rattle.ess_numbered_laws.specs.MostItems.{Pick, an_item, a_result, a_component, a_field, pick_of, dom_along, sum_at, members_counted, all_summed, behind_condition, so_often, most, most_behind, most_of_each, most_at, most_of_field, list_axis}
 use Rattle.ess_numbered_laws.proofs.ReachedDomains.{PassesOn, axis-passed}
 use Rattle.ess_chain_names_laws.specs.NamesHave.{NamesHave, AllNamesHave, GensNamesHave, DomNamesHave, DomsNamesHave}
@@ -42,12 +43,12 @@ module _ (u : Text → Bool) where
   more-names (Some n) None h k = tt
   more-names (Some n) (Some es) h k = (h, k)
 
-  condition-names : (c : Ex) → NamesHave u c → (o : Option Ex) → Answers u o → Answers u (option_map (behind_condition c) o)
+  condition-names : (c : Ex) → NamesHave u c → (o : Option Ex) → Answers u o → Answers u (and_then o (behind_condition c))
   condition-names c h None k = tt
   condition-names c h (Some n) k = go (has_cells c)
     where
-      go : (b : Bool) → NamesHave u (if b then n else fun1 false Fun.Sum (comp_ex n (cond c no_gens)))
-      go true = k
+      go : (b : Bool) → Answers u (if b then (if is_there n then Some n else None) else Some (fun1 false Fun.Sum (comp_ex n (cond c no_gens))))
+      go true = when u (is_there n) n k
       go false = ((k, (h, tt)), tt)
 
   often-names : (p : Pat) (k n : Ex) → NamesHave u k → NamesHave u n → Answers u (so_often p k n)

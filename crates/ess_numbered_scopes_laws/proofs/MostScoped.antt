@@ -14,6 +14,7 @@ use Rattle.ess_guard_laws.specs.IndexDomains.{first_index, plain_axis}
 use Rattle.ess_guard_laws.proofs.ScopedRows.{DomScoped, index-dom-scoped, gens-scoped-map}
 use Rattle.ess_refine_laws.specs.AllRules.{OfSome}
 use Rattle.ess_refine_laws.specs.ScopesOfRules.{BindsNone}
+use Rattle.ess_numbered_laws.specs.ThereByForm.{is_there}
 use Rattle.ess_numbered_laws.specs.MostItems.{Pick, an_item, a_result, a_component, a_field, pick_of, dom_along, sum_at, members_counted, all_summed, behind_condition, so_often, most, most_behind, most_of_each, most_at, most_of_field, list_axis}
 use Rattle.ess_numbered_laws.proofs.UnnamedParts.{free-unnamed}
 use Rattle.ess_numbered_laws.proofs.ReachedDomains.{PassesOn, along-passed}
@@ -41,12 +42,16 @@ module _ (z : Text → Bool) where
     over-domain p d b h None k = tt
     over-domain p d b h (Some n) k = ((b, h, k), tt)
 
-    under-a-condition : (c : Ex) → Scoped z s o c → (r : Option Ex) → InScope z s o r → InScope z s o (option_map (behind_condition c) r)
+    under-a-condition : (c : Ex) → Scoped z s o c → (r : Option Ex) → InScope z s o r → InScope z s o (and_then r (behind_condition c))
     under-a-condition c h None k = tt
     under-a-condition c h (Some n) k = go (has_cells c)
       where
-        go : (b : Bool) → Scoped z s o (if b then n else sum_at n (cond c no_gens))
-        go true = k
+        there : (b : Bool) → InScope z s o (if b then Some n else None)
+        there true = k
+        there false = tt
+
+        go : (b : Bool) → InScope z s o (if b then (if is_there n then Some n else None) else Some (sum_at n (cond c no_gens)))
+        go true = there (is_there n)
         go false = ((h, k), tt)
 
     often : (p : Pat) (k n : Ex) → Scoped z s o k → Scoped z (with_names s p) o n → InScope z s o (so_often p k n)

@@ -27,6 +27,7 @@ use Rattle.ess_rules_types_laws.specs.PutTypes.{TablesAre, AllTablesAre, GensTab
 use Rattle.ess_rules_marks_laws.proofs.Grows.{as_it_is, a_node, a_comp, none_grow, more_grow, GensGrow, no_gens_grow, over_grows, cond_grows, grown, all-are}
 use Rattle.ess_ordered_types_laws.proofs.ConditionsTyped.{under-condition}
 use Rattle.ess_ordered_laws.specs.NumberedItems.{is_from_one}
+use Rattle.ess_numbered_laws.specs.ThereByForm.{is_there}
 use Rattle.ess_numbered_laws.specs.MostItems.{list_axis, sum_at, members_counted, all_summed, behind_condition, so_often}
 use Rattle.ess_numbered_types_laws.proofs.FreeNames.{free-new}
 use Rattle.ess_numbered_laws.proofs.ReachedDomains.{PassesOn}
@@ -84,12 +85,16 @@ module _ (w : Text → Bool) where
 
     -- Under a condition.
     pub under-a-condition : (c : Ex) (t : Ty) → type_of c g ≡ Some t → Agree t bool_ty → HasMarks c g → TablesAre w c → (o : Option Ex) →
-        OfSome o (IsNumber g) → OfSome (option_map (behind_condition c) o) (IsNumber g)
+        OfSome o (IsNumber g) → OfSome (and_then o (behind_condition c)) (IsNumber g)
     under-a-condition c t q i m k None h = tt
     under-a-condition c t q i m k (Some n) h = go (has_cells c)
       where
-        go : (b : Bool) → IsNumber g (if b then n else sum_at n (cond c no_gens))
-        go true = h
+        there : (b : Bool) → OfSome (if b then Some n else None) (IsNumber g)
+        there true = h
+        there false = tt
+
+        go : (b : Bool) → OfSome (if b then (if is_there n then Some n else None) else Some (sum_at n (cond c no_gens))) (IsNumber g)
+        go true = there (is_there n)
         go false = sum-number n (cond c no_gens) g (under-condition g c t q i) (cond_grows (as_it_is m) no_gens_grow) (k, tt) h
 
     times : (k n : Ex) → IsNumber g k → IsNumber g n → IsNumber g (ex2 false Op2.Times k n)

@@ -3,6 +3,8 @@ pub mod PickForms
 -- How many items lists have at most
 pub mod MostForms
 pub mod MostWeights
+-- Bounds that are there by their form
+pub mod ThereForms
 -- Where names stand
 pub mod NamedParts
 -- Counted terms and lists over them

@@ -15,7 +15,7 @@ use Rattle.ess_core_nodes.specs.declared.nodes.Gen.TheFolds.{fold-roll-Node}
 use Rattle.ess_core_nodes.specs.NodeViews.{gen_step, node_step, dom_step, seen_step, pure_node, pure_nodes, pure_op}
 use Rattle.ess_rules_ordered.specs.ToldForms.{only_step}
 use Rattle.ess_rules_ordered.proofs.NumberForms.{numbers_before, put-before, nothing-behind}
-use Rattle.ess_numbered_laws.specs.MostItems.{Pick, an_item, a_result, a_component, a_field, pick_of, sum_at, behind_condition, so_often, most, most_behind, most_of_each, most_at}
+use Rattle.ess_numbered_laws.specs.MostItems.{Pick, an_item, a_result, a_component, a_field, pick_of, sum_at, so_often, most, most_behind, most_of_each, most_at}
 use Rattle.ess_rules_numbered.specs.MostForms.{most_of_first, most_of_matrix, most_of_op, most_of_comp, most_before}
 
 -- ---- by the form
@@ -126,16 +126,12 @@ before-source p None (Some n) = refl
 before-source p (Some k) None = refl
 before-source p (Some k) (Some n) = refl
 
-before-condition : (c : Ex) (o : Option Ex) → option_map (behind_condition c) o ≡ and_then o (λ n. Some (behind_condition c n))
-before-condition c None = refl
-before-condition c (Some n) = refl
-
 -- A number behind one generator or condition, and others.
 pub behind_one_more : (z : Text) (i : Item) (is : List Item) (n : Ex)
     → most_behind z (gens_of (i ∷ is)) n ≡ and_then (most_behind z (gens_of is) n) (most_before z i)
 behind_one_more z (over_item p d) is n = before-dom p d (most_behind z (gens_of is) n)
 behind_one_more z (from_item p t) is n = before-source p (most z [] t) (most_behind z (gens_of is) n)
-behind_one_more z (cond_item c) is n = before-condition c (most_behind z (gens_of is) n)
+behind_one_more z (cond_item c) is n = refl
 
 -- ---- one number behind others
 

@@ -67,4 +67,4 @@ most_told z ps d = option_map (members_counted z) (list_axis (first_index (dom_a
 abbrev pub most_before : Text → Item → Ex → Option Ex
 most_before z (over_item p d) n = Some (sum_at n (over p d no_gens))
 most_before z (from_item p t) n = and_then (most z [] t) (λ k. so_often p k n)
-most_before z (cond_item c) n = Some (behind_condition c n)
+most_before z (cond_item c) n = behind_condition c n

@@ -12,6 +12,7 @@ mod order;
 mod picks;
 mod sources;
 mod sums;
+mod there;
 
 pub use equality::equal_by_number;
 pub use items::{within_a_pair, within_an_item};

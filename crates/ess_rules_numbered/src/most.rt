@@ -388,7 +388,7 @@ fn most_before(
 {
     match item {
         Gen::Over(_, _) => Ok(Some(sum_behind_one(alloc, number, item)?)),
-        Gen::If(test) => Ok(Some(behind_condition(alloc, test.get(), number)?)),
+        Gen::If(test) => behind_condition(alloc, test.get(), number),
         Gen::From(pat, source) => {
             let path = Row::new(alloc);
             let count = most(alloc, one, path.as_slice(), source.get())?;

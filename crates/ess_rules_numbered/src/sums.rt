@@ -5,6 +5,7 @@ ghost use Rattle.ess_core_nodes.specs.NodeViews.{pure_node, pure_nodes, pure_gen
 ghost use Rattle.ess_numbered_laws.specs.MostItems.{sum_at as sum_behind, members_counted as members_of, all_summed as sum_of, behind_condition as under_condition, so_often as often};
 
 use crate::mentions::mentions;
+use crate::there::is_there;
 use ess_core::{Fun, Op2, Pat};
 use ess_core_nodes::{Gen, Node, NodeDom, Op};
 use ess_node_building::{binary, comprehension, condition, literal, number, over, word};
@@ -67,19 +68,24 @@ pub(crate) fn all_summed(alloc: Global, numbers: Row<Node>) -> Result<Boxed<Node
     word(alloc, false, Fun::Sum, all)
 }
 
-/// A number behind a condition: as it is, where the condition reads a table.
+/// A number behind a condition. Where the condition reads a table it is left out, or nothing is answered, if the number may have no value
+/// without it.
 pub(crate) fn behind_condition(
     alloc: Global,
     test: &Node,
     number: Boxed<Node>,
-) -> Result<Boxed<Node>, NoMemory>
-    ensures { IfOk result (λ n. pure_node n ≡ under_condition (pure_node test.now) (pure_node number)) }
+) -> Result<Option<Boxed<Node>>, NoMemory>
+    ensures { IfOk result (λ o. option_map pure_node o ≡ under_condition (pure_node test.now) (pure_node number)) }
 {
     if has_cells(test) {
-        return Ok(number);
+        return if is_there(number.get()) {
+            Ok(Some(number))
+        } else {
+            Ok(None)
+        };
     }
     let test = test.copy(alloc)?;
-    sum_at_one(alloc, number, condition(test))
+    Ok(Some(sum_at_one(alloc, number, condition(test))?))
 }
 
 /// A number behind a name that runs over so many items, where the number doesn't speak of the name.
