@@ -1,5 +1,5 @@
 -- Rules of views of functions have what they count on, and keep what they rewrite.
-use Rattle.std.proofs.Common.{◌≡◌, refl, sym, ap, ◌∙◌, subst, Bool, true, false, ◌&&◌, if◌then◌else◌, List, [], ◌∷◌, Option, Some, None, option_map}
+use Rattle.std.proofs.Common.{◌≡◌, refl, Bool, true, false, [], ◌∷◌, Option, Some, None, option_map}
 use Rattle.std.specs.Prelude.{IsTrue, is_some}
 use Rattle.std.specs.List.{list_all}
 use Rattle.ess_semantics.specs.declared.words.Op1.{Op1}
@@ -7,15 +7,14 @@ use Rattle.ess_semantics.specs.declared.words.Op2.{Op2}
 use Rattle.ess_semantics.specs.declared.words.Fun.{Fun}
 use Rattle.ess_semantics.specs.declared.words.ReprKind.{ReprKind}
 use Rattle.ess_semantics.specs.Lists.{and_then, all_some}
-use Rattle.ess_semantics.specs.Values.{Text, Value, a_function}
+use Rattle.ess_semantics.specs.Values.{a_function}
 use Rattle.ess_semantics.specs.Kinds.{fits}
 use Rattle.ess_semantics.specs.Names.{Names}
-use Rattle.ess_semantics.specs.Trees.{binary, word, application, Op, Mark, Repr, Reprs, repr, no_reprs, more_reprs, Ex, Exs, node_ex, seen_ex, ex1, ex2, fun1, no_exs, more_exs, Dom, function_dom}
+use Rattle.ess_semantics.specs.Trees.{binary, word, application, Op, Repr, Reprs, repr, no_reprs, more_reprs, Ex, Exs, node_ex, seen_ex, ex1, ex2, fun1, no_exs, more_exs, function_dom}
 use Rattle.ess_semantics.specs.Types.{Ty, Tys, any_ty, compound, no_tys, more_tys, compound2, join, joins, type_of_dom}
 use Rattle.ess_semantics.specs.OperatorTypes.{type_of_op, value_ty}
 use Rattle.ess_semantics.specs.Typing.{type_of}
 use Rattle.ess_semantics.specs.Typed.{Typed}
-use Rattle.ess_semantics.specs.Tables.{code}
 use Rattle.ess_semantics.specs.Meaning.{Env, meaning}
 use Rattle.ess_semantics.specs.Meets.{Meets}
 use Rattle.ess_semantics.proofs.Tests.{and-left, and-right}
@@ -91,12 +90,12 @@ image-agrees (Some u) d c t q = (u, refl, turned d u (go (join d u) (joins (more
     go (Some v) rest q = refl
 
 -- The second of two operands has a value.
-second-there : (f a : Ex) (env : Env) → IsTrue (list_all is_some (meaning f env ∷ meaning a env ∷ [])) → IsTrue (is_some (meaning a env))
+pub second-there : (f a : Ex) (env : Env) → IsTrue (list_all is_some (meaning f env ∷ meaning a env ∷ [])) → IsTrue (is_some (meaning a env))
 second-there f a env h =
     and-left (is_some (meaning a env)) true (and-right (is_some (meaning f env)) (list_all is_some (meaning a env ∷ [])) h)
 
 -- The type of an operand of a function of the first domain of the view.
-abbrev AgreesWith : Names Ty → Ex → Ex → Type 0
+abbrev pub AgreesWith : Names Ty → Ex → Ex → Type 0
 AgreesWith g (seen_ex r (function_dom ms es d c) ns js) a = (u : Ty) × (type_of a g ≡ Some u) × Agreed u (type_of_dom d)
 AgreesWith g v a = Unit {0}
 
@@ -108,18 +107,20 @@ behind-at g (seen_ex (repr ReprKind.Function1DPartial (more_reprs r no_reprs)) (
 behind-at g (seen_ex (repr ReprKind.FunctionNDPartial rs) d ns js) a l q env k j o h p i u = no k
 behind-at g _ a l q env k j o h p i u = absent l q
 
-applied : (g : Names Ty) (v a : Ex) (t : Ty) → type_of (node_ex true application (more_exs v (more_exs a no_exs))) g ≡ Some t →
+-- In an application it agrees.
+pub applied : (g : Names Ty) (v a : Ex) (t : Ty) → type_of (node_ex true application (more_exs v (more_exs a no_exs))) g ≡ Some t →
     AgreesWith g v a
 applied g (seen_ex r (function_dom ms es d c) ns js) a t q = applied-agrees (type_of a g) (type_of_dom d) (type_of_dom c) t q
 applied g _ a t q = tt
 
-imaged : (g : Names Ty) (v a : Ex) (t : Ty) → type_of (node_ex true (word Fun.Image) (more_exs v (more_exs a no_exs))) g ≡ Some t →
+-- And in `image`.
+pub imaged : (g : Names Ty) (v a : Ex) (t : Ty) → type_of (node_ex true (word Fun.Image) (more_exs v (more_exs a no_exs))) g ≡ Some t →
     AgreesWith g v a
 imaged g (seen_ex r (function_dom ms es d c) ns js) a t q = image-agrees (type_of a g) (type_of_dom d) (type_of_dom c) t q
 imaged g _ a t q = tt
 
 -- A rule that fires has a lookup.
-looked : (o : Option Ex) (F : Ex → Option Ex) (f : Ex) → and_then o F ≡ Some f → (l : Ex) × (o ≡ Some l)
+pub looked : (o : Option Ex) (F : Ex → Option Ex) (f : Ex) → and_then o F ≡ Some f → (l : Ex) × (o ≡ Some l)
 looked None F f q = (f, cc)
 looked (Some l) F f q = (l, refl)
 

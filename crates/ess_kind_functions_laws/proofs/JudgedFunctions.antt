@@ -1,24 +1,21 @@
 -- What a view of a function of a judged domain has whose arguments are atoms: they can be listed, and the bound says how many there are.
-use Rattle.std.proofs.Common.{◌≡◌, refl, sym, ap, ◌∙◌, subst, ℕ, Bool, true, false, ◌&&◌, if◌then◌else◌, List, [], ◌∷◌, length, pos, Option, Some, None}
-use Rattle.std.specs.Prelude.{IsTrue, is_some}
+use Rattle.std.proofs.Common.{◌≡◌, refl, sym, ap, ◌∙◌, subst, Bool, true, false, ◌&&◌, if◌then◌else◌, List, [], ◌∷◌, pos, Option, Some, None}
 use Rattle.ess_semantics.specs.declared.words.Key.{Key}
 use Rattle.ess_semantics.specs.declared.words.ReprKind.{ReprKind}
-use Rattle.ess_semantics.specs.Values.{Text, number}
+use Rattle.ess_semantics.specs.Values.{number}
 use Rattle.ess_semantics.specs.Kinds.{is_atom, has_key, fits, all_fit}
 use Rattle.ess_semantics.specs.Atoms.{Listed}
-use Rattle.ess_semantics.specs.Domains.{Domain, functions, members, member_list}
+use Rattle.ess_semantics.specs.Domains.{Domain, member_list}
 use Rattle.ess_semantics.specs.Membership.{no_negative_attribute}
 use Rattle.ess_semantics.specs.Sizes.{bound}
 use Rattle.ess_semantics.specs.Trees.{Mark, Repr, Reprs, repr, no_reprs, more_reprs, Exs, Dom, function_dom}
-use Rattle.ess_semantics.specs.Meaning.{Env, meaning, domain_of, members_in}
+use Rattle.ess_semantics.specs.Meaning.{Env, domain_of, members_in}
 use Rattle.ess_semantics.specs.Meets.{MeetsDom}
 use Rattle.ess_semantics.proofs.MemberLists.{atom-listed}
 use Rattle.ess_semantics.proofs.Tests.{and-left, and-right}
 use Rattle.ess_repr_laws.specs.Finite.{FiniteAtom, Enumerated}
 use Rattle.ess_repr_laws.specs.Rooms.{Roomy}
 use Rattle.ess_repr_laws.proofs.Enumerables.{IsEnumerated, atom-enumerable}
-use Rattle.ess_repr_declare_laws.specs.SizeTerms.{bound_ex}
-use Rattle.ess_repr_declare_laws.proofs.Readings.{Reads}
 use Rattle.ess_repr_declare_laws.proofs.SizeNumbers.{not_below}
 use Rattle.ess_repr_declare_laws.proofs.SizeMeaning.{bound-is}
 use Rattle.ess_repr_declare_laws.proofs.ChildDomainsDenoted.{FunctionOf, function-of}

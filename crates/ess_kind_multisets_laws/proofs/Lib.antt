@@ -1,0 +1,3 @@
+pub mod JudgedMultisets
+pub mod MultisetSources
+pub mod MultisetsAsked

@@ -1,0 +1,2 @@
+-- What rules of views of multisets have at hand
+pub mod MultisetsAtHand

@@ -1,0 +1,4 @@
+pub mod JudgedPartitions
+pub mod PartitionSources
+pub mod ToldMembers
+pub mod PartitionsAsked

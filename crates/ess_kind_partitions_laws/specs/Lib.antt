@@ -1,0 +1,2 @@
+-- What rules of views of partitions have at hand
+pub mod PartitionsAtHand

@@ -1,0 +1,3 @@
+pub mod BoundsCounted
+pub mod NumbersCounted
+mod ExamplesThere

@@ -1,0 +1,4 @@
+//! What rules of counted lists count on, from values.
+#![tactic(auto)]
+
+pub mod laws;

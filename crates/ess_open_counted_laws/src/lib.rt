@@ -1,0 +1,4 @@
+//! What rules of openings count on, from values.
+#![tactic(auto)]
+
+pub mod laws;

@@ -1,0 +1,3 @@
+pub mod OrderedLookupsCounted
+pub mod ItemsCounted
+pub mod OrderedCounted

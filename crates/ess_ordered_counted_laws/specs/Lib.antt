@@ -1,0 +1,2 @@
+-- What the rules count on beside values
+pub mod OrderedCounted
