@@ -102,12 +102,13 @@ fn gives_scalar(alloc: Global, types: &NameTypes, node: &Node) -> Result<bool, N
     Ok(is_counted_ty(seen_type(&ty)))
 }
 
-/// Whether the type is of numbers; values of named types count as such.
+/// Whether the type is of numbers; values of named types count as such, and so does what is picked out of a literal without items.
 #[tactic(auto, using(ess_core::proofs::TypeEquations::pure_rec))]
 fn is_counted_ty(ty: Option<&Ty>) -> bool
     ensures { result ≡ counted_type (option_map pure_ty (option_copied ty.entry)) }
 {
     match ty {
+        Some(Ty::Any) => true,
         Some(Ty::Int) => true,
         Some(Ty::Named(_)) => true,
         _ => false,

@@ -6,7 +6,7 @@ use Rattle.ess_semantics.specs.Lists.{and_then, or_else}
 use Rattle.ess_semantics.specs.Values.{a_relation}
 use Rattle.ess_semantics.specs.Names.{Names}
 use Rattle.ess_semantics.specs.Trees.{Op, binary, application, tuple_literal, Ex, Exs, node_ex, no_exs, more_exs, ex2}
-use Rattle.ess_semantics.specs.Types.{Ty, int_ty, named_ty, compound}
+use Rattle.ess_semantics.specs.Types.{Ty, any_ty, int_ty, named_ty, compound}
 use Rattle.ess_semantics.specs.Typing.{type_of}
 use Rattle.ess_rules_laws.specs.IndexSteps.{step_apart}
 use Rattle.ess_rules_laws.specs.AlternativeLookups.{select_each, select_whole_each}
@@ -45,8 +45,10 @@ related g e = None
 
 -- ---- what is picked out of a term
 
--- Whether the type is of numbers; values of named types count as such.
+-- Whether the type is of numbers. Values of named types count as such, and so does what is picked out of a literal without items: it has no
+-- value, so it may stand wherever its type is asked for.
 abbrev pub is_counted_ty : Option Ty → Bool
+is_counted_ty (Some any_ty) = true
 is_counted_ty (Some int_ty) = true
 is_counted_ty (Some (named_ty t)) = true
 is_counted_ty t = false
