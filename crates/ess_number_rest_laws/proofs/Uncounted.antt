@@ -1,5 +1,5 @@
 -- No rule of counted sources fires where no operand of the root is a comprehension over what is picked.
-use Rattle.std.proofs.Common.{◌≡◌, refl, ap, ◌∙◌, Bool, true, false, ◌&&◌, ◌||◌, not, if◌then◌else◌, [], ◌∷◌, Option, Some, None, option_map}
+use Rattle.std.proofs.Common.{◌≡◌, refl, ap, ◌∙◌, zero, Bool, true, false, ◌&&◌, ◌||◌, not, if◌then◌else◌, [], ◌∷◌, Option, Some, None, option_map}
 use Rattle.std.specs.Prelude.{is_some}
 use Rattle.ess_semantics.specs.declared.words.Op2.{Op2}
 use Rattle.ess_semantics.specs.Lists.{and_then, or_else}
@@ -14,19 +14,30 @@ use Rattle.ess_rules_laws.specs.MatrixRules.{both_matrices}
 use Rattle.ess_refine_laws.specs.AllRules.{Supply}
 use Rattle.ess_refine_laws.specs.IndexedLists.{of_matrix}
 use Rattle.ess_kind_rules_laws.specs.TermLookups.{picks}
-use Rattle.ess_open_rules_laws.specs.OpenGenerators.{Opened, at_first_open, put_before}
+use Rattle.ess_open_rules_laws.specs.OpenGenerators.{Opened, at_first_open, put_before, behind_plain}
 use Rattle.ess_open_rules_laws.specs.OpenSources.{in_order_told}
 use Rattle.ess_ordered_laws.specs.ToldAxes.{picked_axis}
 use Rattle.ess_numbered_laws.specs.MostItems.{most_items}
 use Rattle.ess_numbered_laws.specs.CountedSources.{is_counted, numbered_items, numbered_term, numbered_source, numbered_behind, numbered_side, within_an_item, sees_order, within_a_pair, begins_counted, is_over_counted, counted_list}
 use Rattle.ess_numbered_laws.specs.EqualByNumber.{other_side, equal_as, equal_counted, equal_by_number}
 use Rattle.ess_numbered_laws.specs.OrderByNumber.{ordered_lists, with_items, counted_operand, order_by_number}
-use Rattle.ess_numbered_laws.specs.NumberRules.{equality_of_lists, sign_between_lists, item_of_a_list, side_of_a_pair}
+use Rattle.ess_numbered_laws.specs.ListedPicks.{with_lists, listed_source, listed_behind, lists_picked}
+use Rattle.ess_numbered_laws.specs.NumberRules.{equality_of_lists, sign_between_lists, item_of_a_list, side_of_a_pair, lists_of_what_is_picked}
 use Rattle.ess_number_rest_laws.specs.Uncounted.{BeginsUnpicked, OpensUnpicked, Uncounted, OperandsUncounted, UncountedOperandsRest}
 
 either-way : {A : Type 0} (b : Bool) (o : Option A) → o ≡ None → (if b then o else None) ≡ None
 either-way true o p = p
 either-way false o p = refl
+
+-- What makes nothing at the first generator makes nothing behind plain ones.
+no-plain : (r : Gens → Ex → Option Ex) → ((before : Gens) (e : Ex) (gs : Gens) → BeginsUnpicked gs → r before (comp_ex e gs) ≡ None) →
+    (e : Ex) → Uncounted e → behind_plain r e ≡ None
+no-plain r h (comp_ex e gs) p = go (at_first_open gs) p
+  where
+    go : (o : Option Opened) → OpensUnpicked o → and_then o (λ t. and_then (r t.before (comp_ex e t.after)) (put_before t.before)) ≡ None
+    go None p = refl
+    go (Some t) p = ap (λ q. and_then q (put_before t.before)) (h t.before e t.after p)
+no-plain r h e p = refl
 
 module _ (s : Supply) where
   -- What isn't picked isn't counted.
@@ -47,6 +58,12 @@ module _ (s : Supply) where
   no-source g e (from (name_pat y) t hs) p = ap (option_map (λ l. comp_ex e (from (name_pat y) l hs))) (no-term g t p)
   no-source g e gs p = refl
 
+  nothing-listed : (g : Names Ty) (e : Ex) (gs : Gens) → BeginsUnpicked gs → listed_source s g (comp_ex e gs) ≡ None
+  nothing-listed g e (from (name_pat y) t hs) p = ap (λ b. option_map (λ l. comp_ex e (from (name_pat y) l hs))
+      (if b && (not (is_some (most_items s.third t)) && is_some (most_items s.third (with_lists s.one zero t)))
+      then Some (with_lists s.one zero t) else None)) (not-counted g t p)
+  nothing-listed g e gs p = refl
+
   module _ (g : Names Ty) where
     over-not : (o : Option Opened) → OpensUnpicked o → is_over_counted s g o ≡ false
     over-not None p = refl
@@ -58,13 +75,15 @@ module _ (s : Supply) where
     no-list e p = refl
 
     no-numbers : (e : Ex) → Uncounted e → numbered_behind s g e ≡ None
-    no-numbers (comp_ex e gs) p = go (at_first_open gs) p
-      where
-        go : (o : Option Opened) → OpensUnpicked o →
-            and_then o (λ t. and_then (numbered_source s (names_behind t.before g) (comp_ex e t.after)) (put_before t.before)) ≡ None
-        go None p = refl
-        go (Some t) p = ap (λ q. and_then q (put_before t.before)) (no-source (names_behind t.before g) e t.after p)
+    no-numbers (comp_ex e gs) p =
+        no-plain (λ ks. numbered_source s (names_behind ks g)) (λ ks. no-source (names_behind ks g)) (comp_ex e gs) p
     no-numbers e p = refl
+
+    -- Nor are lists put in place.
+    no-lists : (e : Ex) → Uncounted e → listed_behind s g e ≡ None
+    no-lists (comp_ex e gs) p =
+        no-plain (λ ks. listed_source s (names_behind ks g)) (λ ks. nothing-listed (names_behind ks g)) (comp_ex e gs) p
+    no-lists e p = refl
 
     no-side : (e : Ex) → Uncounted e → numbered_side s g e ≡ None
     no-side e p = go (is_some (most_items s.third e))
@@ -106,9 +125,20 @@ module _ (s : Supply) where
         ∙ ap (option_map (λ c. ex2 true o a c)) (no-side b p.1))
     by-side e p = refl
 
+    by-list : (e : Ex) → OperandsUncounted e → lists_picked s g e ≡ None
+    by-list (node_ex b (index (by_value ∷ [])) (more_exs a (more_exs i no_exs))) p =
+        ap (option_map (λ c. node_ex b (index (by_value ∷ [])) (more_exs c (more_exs i no_exs)))) (no-lists a p.0)
+    by-list (ex2 true o a b) p = either-way (sees_order o)
+        (or_else (option_map (λ c. ex2 true o c b) (listed_behind s g a)) (option_map (λ c. ex2 true o a c) (listed_behind s g b)))
+        (ap (λ q. or_else (option_map (λ c. ex2 true o c b) q) (option_map (λ c. ex2 true o a c) (listed_behind s g b)))
+        (no-lists a p.0)
+        ∙ ap (option_map (λ c. ex2 true o a c)) (no-lists b p.1))
+    by-list e p = refl
+
 -- None of them.
 pub uncounted-operands-rest : UncountedOperandsRest
 uncounted-operands-rest s g equality_of_lists e p = by-equality s g e p
 uncounted-operands-rest s g sign_between_lists e p = by-sign s g e p
 uncounted-operands-rest s g item_of_a_list e p = by-item s g e p
 uncounted-operands-rest s g side_of_a_pair e p = by-side s g e p
+uncounted-operands-rest s g lists_of_what_is_picked e p = by-list s g e p

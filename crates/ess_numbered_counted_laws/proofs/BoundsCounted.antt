@@ -12,7 +12,7 @@ use Rattle.ess_semantics.specs.Meaning.{Env}
 use Rattle.ess_semantics.specs.Meets.{Meets, MeetsGens}
 use Rattle.ess_rules_laws.proofs.Places.{at-each-join}
 use Rattle.ess_refine_laws.specs.AllRules.{Supply, OfSome}
-use Rattle.ess_values_along_laws.specs.Valued.{Valued}
+use Rattle.ess_values_along_laws.specs.Valued.{Valued, UnderValued}
 use Rattle.ess_open_rules_laws.specs.OpenGenerators.{Opened, at_first_open}
 use Rattle.ess_open_counted_laws.proofs.PlainBindings.{Here, at-plain}
 use Rattle.ess_numbered_laws.specs.MostItems.{most_items}
@@ -45,10 +45,14 @@ source-asked s g e (from (name_pat y) t hs) env m c =
     (c.0, λ i. items-bounded s t env (most_items s.third t) (type_of t g) refl m.0 (c.1 i))
 source-asked s g e _ env m c = tt
 
--- At each binding of plain generators.
-pub list-asked : (s : Supply) (g : Names Ty) (env : Env) → Typed g env → (w : Bool) (a : Ex) → Valued w a env → Meets a env →
-    ListBeside s g a env → ListAsks s g a env
-list-asked s g env typed w (comp_ex e gs) v m c = go (at_first_open gs) refl c
+-- What is asked at the first generator that isn't plain follows from what is known there, at each binding of plain generators.
+pub asked-behind : (g : Names Ty) (env : Env) → Typed g env → (w : Bool) (e : Ex) (gs : Gens) → Valued w (comp_ex e gs) env →
+    Meets (comp_ex e gs) env → (B A : Gens → Ex → Env → Type 0) → ((before after : Gens) (here : Env) →
+    UnderValued after here (λ there. Valued false e there) → MeetsGens after here (λ there. Meets e there) →
+    B before (comp_ex e after) here → A before (comp_ex e after) here) →
+    OfSome (at_first_open gs) (λ t. AtEach t.before env (B t.before (comp_ex e t.after))) →
+    OfSome (at_first_open gs) (λ t. AtEach t.before env (A t.before (comp_ex e t.after)))
+asked-behind g env typed w e gs v m B A f c = go (at_first_open gs) refl c
   where
     V : Env → Type 0
     V here = Valued false e here
@@ -56,11 +60,15 @@ list-asked s g env typed w (comp_ex e gs) v m c = go (at_first_open gs) refl c
     M : Env → Type 0
     M here = Meets e here
 
-    go : (o : Option Opened) → at_first_open gs ≡ o →
-        OfSome o (λ t. AtEach t.before env (SourceBeside s (names_behind t.before g) (comp_ex e t.after))) →
-        OfSome o (λ t. AtEach t.before env (SourceAsks s (names_behind t.before g) (comp_ex e t.after)))
+    go : (o : Option Opened) → at_first_open gs ≡ o → OfSome o (λ t. AtEach t.before env (B t.before (comp_ex e t.after))) →
+        OfSome o (λ t. AtEach t.before env (A t.before (comp_ex e t.after)))
     go None q c = tt
-    go (Some t) q c = at-each-join t.before env (Here t.after (names_behind t.before g) V M)
-        (SourceBeside s (names_behind t.before g) (comp_ex e t.after)) (SourceAsks s (names_behind t.before g) (comp_ex e t.after))
-        (λ here h k. source-asked s (names_behind t.before g) e t.after here h.met k) (at-plain gs t q g env typed V M v.1 m) c
+    go (Some t) q c = at-each-join t.before env (Here t.after (names_behind t.before g) V M) (B t.before (comp_ex e t.after))
+        (A t.before (comp_ex e t.after)) (λ here h k. f t.before t.after here h.under h.met k) (at-plain gs t q g env typed V M v.1 m) c
+
+-- So of comprehensions over counted terms.
+pub list-asked : (s : Supply) (g : Names Ty) (env : Env) → Typed g env → (w : Bool) (a : Ex) → Valued w a env → Meets a env →
+    ListBeside s g a env → ListAsks s g a env
+list-asked s g env typed w (comp_ex e gs) v m c = asked-behind g env typed w e gs v m (λ ks. SourceBeside s (names_behind ks g))
+    (λ ks. SourceAsks s (names_behind ks g)) (λ before after here u k b. source-asked s (names_behind before g) e after here k b) c
 list-asked s g env typed w _ v m c = tt

@@ -1,3 +1,4 @@
 pub mod BoundsCounted
+pub mod ListedCounted
 pub mod NumbersCounted
 mod ExamplesThere

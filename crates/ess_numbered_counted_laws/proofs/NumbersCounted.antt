@@ -24,12 +24,14 @@ use Rattle.ess_numbered_laws.specs.CountedLaws.{OtherAsks, CountedAsks}
 use Rattle.ess_numbered_laws.specs.OrderByNumber.{with_items, counted_operand, order_by_number}
 use Rattle.ess_numbered_laws.specs.EqualByNumber.{other_side}
 use Rattle.ess_numbered_laws.specs.OrderLaws.{BoundedWhereCounted}
-use Rattle.ess_numbered_laws.specs.NumberRules.{equality_of_lists, sign_between_lists, item_of_a_list, side_of_a_pair, number_rewrite}
+use Rattle.ess_numbered_laws.specs.NumberRules.{equality_of_lists, sign_between_lists, item_of_a_list, side_of_a_pair, lists_of_what_is_picked, number_rewrite}
 use Rattle.ess_numbered_laws.proofs.EqualitiesKept.{equalities-keep}
 use Rattle.ess_numbered_laws.proofs.NumberedSources.{items-keep, pairs-keep}
 use Rattle.ess_numbered_laws.proofs.OrderKeeps.{order-keeps}
+use Rattle.ess_numbered_laws.proofs.ListedSources.{picked-lists-keep}
 use Rattle.ess_numbered_counted_laws.specs.NumbersCounted.{BoundThere, CountedBeside, EqualBeside, OrderBeside, NumberBeside, NumbersAreCountedOn}
 use Rattle.ess_numbered_counted_laws.proofs.BoundsCounted.{list-bound, list-asked}
+use Rattle.ess_numbered_counted_laws.proofs.ListedCounted.{picks-asked}
 
 -- ---- operators
 
@@ -135,6 +137,24 @@ module _ (s : Supply) (g : Names Ty) (env : Env) (typed : Typed g env) (w : Bool
   ) m
   pair _ f q c v m = cc
 
+  -- ---- lists in place of other matrices
+
+  placed : (e f : Ex) → number_rewrite s g lists_of_what_is_picked e ≡ Some f → NumberBeside s g lists_of_what_is_picked e env →
+      Valued w e env → Keeps e f env
+  placed (node_ex b (index (by_value ∷ [])) (more_exs a (more_exs i no_exs))) f q c v m =
+      let h = operands-plain env w b (index (by_value ∷ [])) (more_exs a (more_exs i no_exs))
+      (record { behind = refl; beside = refl; within = refl }) v in
+      picked-lists-keep s g (node_ex b (index (by_value ∷ [])) (more_exs a (more_exs i no_exs))) f q env
+      (picks-asked s g env typed false a h.0 m.0 c) m
+  placed (ex2 true o a b) f q c v m = let k = seen o (tested (sees_order o) _ f q) in
+      picked-lists-keep s g (ex2 true o a b) f q env (
+        picks-asked s g env typed (opens_places w true (binary o)) a v.1.0 m.0 c.0,
+        picks-asked s g env typed (opens_places w true (binary o)) b
+            (second-valued env (guards (binary o)) (opens_places w true (binary o)) a b k v.1) (second-met env (guards (binary o)) a b k m)
+            c.1,
+      ) m
+  placed _ f q c v m = cc
+
 -- ---- each rule
 
 -- What is proved of these rules.
@@ -143,3 +163,4 @@ numbers-are-counted-on s g equality_of_lists e f q env t c w v = equal s g env t
 numbers-are-counted-on s g sign_between_lists e f q env t c w v = ordered s g env t w e f q c v
 numbers-are-counted-on s g item_of_a_list e f q env t c w v = item s g env t w e f q c v
 numbers-are-counted-on s g side_of_a_pair e f q env t c w v = pair s g env t w e f q c v
+numbers-are-counted-on s g lists_of_what_is_picked e f q env t c w v = placed s g env t w e f q c v

@@ -1,13 +1,13 @@
 -- What each rule of counted lists counts on beside values, and that it keeps what it rewrites where each part of the tree has a value
 -- wherever its context holds, but for numbers in natural places. The number of items that is said of a list is no part of the tree: that it
 -- has a value is asked.
-use Rattle.std.specs.Prelude.{◌≡◌, Bool, true, false, [], ◌∷◌, Option, Some, IsTrue, is_some}
+use Rattle.std.specs.Prelude.{◌≡◌, ℕ, zero, suc, Bool, true, false, [], ◌∷◌, Option, Some, IsTrue, is_some}
 use Rattle.ess_semantics.specs.declared.words.Op2.{Op2}
-use Rattle.ess_semantics.specs.Values.{a_matrix}
+use Rattle.ess_semantics.specs.Values.{Text, a_matrix}
 use Rattle.ess_semantics.specs.Order.{same_text}
 use Rattle.ess_semantics.specs.Names.{Names}
 use Rattle.ess_semantics.specs.NamesAt.{names_behind}
-use Rattle.ess_semantics.specs.Trees.{by_value, index, name_pat, Ex, node_ex, comp_ex, no_exs, more_exs, from, ex2}
+use Rattle.ess_semantics.specs.Trees.{by_value, index, matrix_literal, name_pat, Ex, Exs, node_ex, matrix_ex, comp_ex, seen_ex, no_exs, more_exs, from, ex2}
 use Rattle.ess_semantics.specs.Types.{Ty, compound2, is_bool}
 use Rattle.ess_semantics.specs.Typing.{type_of}
 use Rattle.ess_semantics.specs.Typed.{Typed}
@@ -23,9 +23,11 @@ use Rattle.ess_open_rules_laws.specs.OpenGenerators.{at_first_open}
 use Rattle.ess_numbered_laws.specs.MostItems.{most_items}
 use Rattle.ess_numbered_laws.specs.CountedSources.{is_counted, counted_list}
 use Rattle.ess_numbered_laws.specs.EqualByNumber.{other_side}
+use Rattle.ess_numbered_laws.specs.ListedPicks.{listed_term}
+use Rattle.ess_numbered_laws.specs.ListedLaws.{ViewTold}
 use Rattle.ess_numbered_laws.specs.BoundLaws.{PartsFit}
 use Rattle.ess_numbered_laws.specs.CountedLaws.{IsList, OtherAsks}
-use Rattle.ess_numbered_laws.specs.NumberRules.{NumberRule, equality_of_lists, sign_between_lists, item_of_a_list, side_of_a_pair, number_rewrite}
+use Rattle.ess_numbered_laws.specs.NumberRules.{NumberRule, equality_of_lists, sign_between_lists, item_of_a_list, side_of_a_pair, lists_of_what_is_picked, number_rewrite}
 
 -- ---- the number of items
 
@@ -57,6 +59,33 @@ ListBeside s g (comp_ex e gs) env =
     OfSome (at_first_open gs) (λ t. AtEach t.before env (SourceBeside s (names_behind t.before g) (comp_ex e t.after)))
 ListBeside s g e env = Unit {0}
 
+-- ---- lists in place of other matrices
+
+abbrev mutual
+  -- Of what as many indices reach: views are matrices over their index domains, in which the new name doesn't stand.
+  pub PicksBeside : Text → ℕ → Ex → Env → Type 0
+  PicksBeside z k (node_ex false (index (by_value ∷ [])) (more_exs t (more_exs i no_exs))) env = PicksBeside z (suc k) t env
+  PicksBeside z (suc k) (node_ex false matrix_literal es) env = EachBeside z k es env
+  PicksBeside z (suc k) (matrix_ex es d) env = EachBeside z k es env
+  PicksBeside z zero (seen_ex r d ns es) env = ViewTold z (seen_ex r d ns es) d env
+  PicksBeside z k e env = Unit {0}
+
+  -- The same of several.
+  pub EachBeside : Text → ℕ → Exs → Env → Type 0
+  EachBeside z k no_exs env = Unit {0}
+  EachBeside z k (more_exs e es) env = PicksBeside z k e env × EachBeside z k es env
+
+-- Of a comprehension over a term in which lists are put.
+abbrev pub SourcePicksBeside : Supply → Names Ty → Ex → Env → Type 0
+SourcePicksBeside s g (comp_ex e (from (name_pat y) t hs)) env = OfSome (listed_term s g t) (λ l. PicksBeside s.one zero t env)
+SourcePicksBeside s g e env = Unit {0}
+
+-- The same behind plain generators.
+abbrev pub ListPicksBeside : Supply → Names Ty → Ex → Env → Type 0
+ListPicksBeside s g (comp_ex e gs) env =
+    OfSome (at_first_open gs) (λ t. AtEach t.before env (SourcePicksBeside s (names_behind t.before g) (comp_ex e t.after)))
+ListPicksBeside s g e env = Unit {0}
+
 -- ---- each rule
 
 -- Of a side of an equality, where it is such a comprehension.
@@ -83,6 +112,9 @@ NumberBeside s g equality_of_lists e env = EqualBeside s g e env
 NumberBeside s g sign_between_lists e env = OrderBeside s g e env
 NumberBeside s g item_of_a_list (node_ex b (index (by_value ∷ [])) (more_exs a (more_exs i no_exs))) env = ListBeside s g a env
 NumberBeside s g side_of_a_pair (ex2 true o a b) env = ListBeside s g a env × ListBeside s g b env
+NumberBeside s g lists_of_what_is_picked (node_ex b (index (by_value ∷ [])) (more_exs a (more_exs i no_exs))) env =
+    ListPicksBeside s g a env
+NumberBeside s g lists_of_what_is_picked (ex2 true o a b) env = ListPicksBeside s g a env × ListPicksBeside s g b env
 NumberBeside s g r e env = Unit {0}
 
 -- So each that fires keeps what it rewrites. w says that the tree stands in a natural place.

@@ -56,3 +56,13 @@ pub mod OperandsThere
 pub mod BoundedTerms
 -- Bounds of all lists
 pub mod MostBound
+-- Worked examples of lists in place of other matrices
+mod ExamplesListed
+-- Values that indices lead alike into
+pub mod AlikeValues
+-- The items of a matrix in the order of its indices
+pub mod ItemsInOrder
+-- Lists in place of matrices have the same items
+pub mod ListedTerms
+-- Comprehensions over lists in place of matrices
+pub mod ListedSources

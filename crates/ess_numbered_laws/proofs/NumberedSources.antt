@@ -16,7 +16,7 @@ use Rattle.ess_rules_laws.proofs.KeptUnder.{step-here}
 use Rattle.ess_rules_laws.proofs.RuleAnswers.{AnswerKeeps, fires}
 use Rattle.ess_rules_laws.proofs.Tails.{tails-congruent}
 use Rattle.ess_refine_laws.specs.AllRules.{Supply, OfSome}
-use Rattle.ess_open_rules_laws.specs.OpenGenerators.{Opened, with_first, opened_here, is_plain_over, at_first_open, put_before}
+use Rattle.ess_open_rules_laws.specs.OpenGenerators.{Opened, with_first, opened_here, is_plain_over, at_first_open, put_before, behind_plain}
 use Rattle.ess_numbered_laws.specs.CountedSources.{numbered_term, numbered_source, numbered_behind, within_an_item, sees_order, numbered_side, within_a_pair}
 use Rattle.ess_numbered_laws.specs.CountedLaws.{SourceAsks, ListAsks, NumberedListsKeep, WithinAsks, ItemsOfListsKeep, PairAsks, PairsKeep}
 use Rattle.ess_numbered_laws.proofs.NumberedTerms.{terms-keep}
@@ -58,25 +58,36 @@ parts-are (cond c gs) = go (at_first_open gs) (parts-are gs)
     go None h = tt
     go (Some t) h = ap (cond c) h
 
-behind-answer : (s : Supply) (g : Names Ty) (e : Ex) (env : Env) → ListAsks s g e env → AnswerKeeps (numbered_behind s g e) e env
-behind-answer s g (comp_ex e gs) env c = go (at_first_open gs) (parts-are gs) c
-  where
-    put : (t : Opened) → append_gens t.before t.after ≡ gs → (o : Option Ex)
-        → numbered_source s (names_behind t.before g) (comp_ex e t.after) ≡ o
-        → AtEach t.before env (SourceAsks s (names_behind t.before g) (comp_ex e t.after))
-        → AnswerKeeps (and_then o (put_before t.before)) (comp_ex e gs) env
-    put t a None q c = tt
-    put t a (Some (comp_ex x ks)) q c = subst (λ z. Keeps (comp_ex e z) (comp_ex x (append_gens t.before ks)) env) a
-        (tails-congruent t.before t.after ks e x env (at-each-map t.before env _ _
-        (λ here p. sources-keep s (names_behind t.before g) (comp_ex e t.after) (comp_ex x ks) q here p) c))
-    put t a (Some _) q c = tt
+-- What keeps the comprehension at its first generator that isn't plain keeps it behind the plain ones. P is what that counts on.
+module _ (r : Gens → Ex → Option Ex) (P : Gens → Ex → Env → Type 0)
+    (keeps : (before : Gens) (e f : Ex) → r before e ≡ Some f → (env : Env) → P before e env → Keeps e f env) where
+  -- At each binding of plain generators.
+  abbrev pub Behind : Ex → Env → Type 0
+  Behind (comp_ex e gs) env = OfSome (at_first_open gs) (λ t. AtEach t.before env (P t.before (comp_ex e t.after)))
+  Behind e env = Unit {0}
 
-    go : (o : Option Opened) → OfSome o (λ t. append_gens t.before t.after ≡ gs)
-        → OfSome o (λ t. AtEach t.before env (SourceAsks s (names_behind t.before g) (comp_ex e t.after)))
-        → AnswerKeeps (and_then o (λ t. and_then (numbered_source s (names_behind t.before g) (comp_ex e t.after)) (put_before t.before)))
-        (comp_ex e gs) env
-    go None a c = tt
-    go (Some t) a c = put t a (numbered_source s (names_behind t.before g) (comp_ex e t.after)) refl c
+  -- So the comprehension is kept.
+  pub plain-answer : (e : Ex) (env : Env) → Behind e env → AnswerKeeps (behind_plain r e) e env
+  plain-answer (comp_ex e gs) env c = go (at_first_open gs) (parts-are gs) c
+    where
+      put : (t : Opened) → append_gens t.before t.after ≡ gs → (o : Option Ex) → r t.before (comp_ex e t.after) ≡ o
+          → AtEach t.before env (P t.before (comp_ex e t.after)) → AnswerKeeps (and_then o (put_before t.before)) (comp_ex e gs) env
+      put t a None q c = tt
+      put t a (Some (comp_ex x ks)) q c = subst (λ z. Keeps (comp_ex e z) (comp_ex x (append_gens t.before ks)) env) a
+          (tails-congruent t.before t.after ks e x env (at-each-map t.before env _ _
+          (λ here p. keeps t.before (comp_ex e t.after) (comp_ex x ks) q here p) c))
+      put t a (Some _) q c = tt
+
+      go : (o : Option Opened) → OfSome o (λ t. append_gens t.before t.after ≡ gs)
+          → OfSome o (λ t. AtEach t.before env (P t.before (comp_ex e t.after)))
+          → AnswerKeeps (and_then o (λ t. and_then (r t.before (comp_ex e t.after)) (put_before t.before))) (comp_ex e gs) env
+      go None a c = tt
+      go (Some t) a c = put t a (r t.before (comp_ex e t.after)) refl c
+  plain-answer _ env c = tt
+
+behind-answer : (s : Supply) (g : Names Ty) (e : Ex) (env : Env) → ListAsks s g e env → AnswerKeeps (numbered_behind s g e) e env
+behind-answer s g (comp_ex e gs) env c = plain-answer (λ gs. numbered_source s (names_behind gs g)) (λ gs. SourceAsks s (names_behind gs g))
+    (λ gs. sources-keep s (names_behind gs g)) (comp_ex e gs) env c
 behind-answer s g _ env c = tt
 
 -- So it keeps the comprehension.
@@ -85,15 +96,16 @@ lists-keep s g e f q env c = fires (numbered_behind s g e) e f env (behind-answe
 
 -- ---- an item by its number
 
+-- What keeps a list keeps its item.
+pub item-answer : (b : Bool) (a i : Ex) (env : Env) (o : Option Ex) → AnswerKeeps o a env
+    → AnswerKeeps (option_map (λ c. node_ex b (index (by_value ∷ [])) (more_exs c (more_exs i no_exs))) o)
+    (node_ex b (index (by_value ∷ [])) (more_exs a (more_exs i no_exs))) env
+item-answer b a i env None k = tt
+item-answer b a i env (Some c) k = step-here (in_operand b (index (by_value ∷ [])) (in_first hole (more_exs i no_exs))) a c env k
+
 within-answer : (s : Supply) (g : Names Ty) (e : Ex) (env : Env) → WithinAsks s g e env → AnswerKeeps (within_an_item s g e) e env
 within-answer s g (node_ex b (index (by_value ∷ [])) (more_exs a (more_exs i no_exs))) env h =
-    go (numbered_behind s g a) (behind-answer s g a env h)
-  where
-    go : (o : Option Ex) → AnswerKeeps o a env
-        → AnswerKeeps (option_map (λ c. node_ex b (index (by_value ∷ [])) (more_exs c (more_exs i no_exs))) o)
-        (node_ex b (index (by_value ∷ [])) (more_exs a (more_exs i no_exs))) env
-    go None k = tt
-    go (Some c) k = step-here (in_operand b (index (by_value ∷ [])) (in_first hole (more_exs i no_exs))) a c env k
+    item-answer b a i env (numbered_behind s g a) (behind-answer s g a env h)
 within-answer s g _ env h = tt
 
 -- So an item of such a comprehension is kept.
@@ -103,7 +115,7 @@ items-keep s g e f q env h = fires (within_an_item s g e) e f env (within-answer
 -- ---- a side of a pair
 
 -- What keeps one side keeps the pair.
-side-answer : (o : Op2) (a b : Ex) (env : Env) (p q : Option Ex) → AnswerKeeps p a env → AnswerKeeps q b env
+pub side-answer : (o : Op2) (a b : Ex) (env : Env) (p q : Option Ex) → AnswerKeeps p a env → AnswerKeeps q b env
     → AnswerKeeps (or_else (option_map (λ c. ex2 true o c b) p) (option_map (λ c. ex2 true o a c) q)) (ex2 true o a b) env
 side-answer o a b env None None k h = tt
 side-answer o a b env None (Some c) k h = step-here (in_operand true (binary o) (in_later a (in_first hole no_exs))) b c env

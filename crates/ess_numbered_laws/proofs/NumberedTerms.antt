@@ -56,6 +56,21 @@ collect-numbered P f s k (x ∷ xs) e G h =
     ∙ ap (λ b. option_map (λ v. v ∷ []) (f (if b then Some x else At (suc k) xs j)))
     (not-later k j (omega arith))))
 
+-- ---- items and their marks
+
+-- Items of which something is known under a test: it is so of each.
+pub each-stays : (c : Bool) (xs : List Value) → (c ≡ true → Each xs (λ v. IsTruth (Some v))) → Each xs (λ v. c ≡ true → IsTruth (Some v))
+each-stays c [] h = tt
+each-stays c (y ∷ ys) h = ((λ q. (h q).0), each-stays c ys (λ q. (h q).1))
+
+-- A truth value stays what it is where it is marked.
+pub marked : (x : Text) (env : Env) (c : Bool) (v : Value) → (c ≡ true → IsTruth (Some v)) → false_where_undefined c (Some v) ≡ Some v
+marked x env true v h = read-mark true (name_ex x) (behind x v env) v (subst-fits (name-behind x v env) (h refl)) (name-behind x v env)
+  where
+    subst-fits : {o p : Option Value} → o ≡ p → IsTruth p → IsTruth o
+    subst-fits e t = subst IsTruth (sym e) t
+marked x env false v h = refl
+
 -- ---- the term
 
 module _ (x z : Text) (n t : Ex) (u : Ty) (env : Env) (new : Unused x t) (l : IsList t env) (b : IsBound n t env)
@@ -67,24 +82,13 @@ module _ (x z : Text) (n t : Ex) (u : Ty) (env : Env) (new : Unused x t) (l : Is
   abbrev Stays : Value → Type 0
   Stays v = is_bool (Some u) ≡ true → IsTruth (Some v)
 
-  each-stays : (c : Bool) (xs : List Value) → (c ≡ true → Each xs (λ v. IsTruth (Some v))) → Each xs (λ v. c ≡ true → IsTruth (Some v))
-  each-stays c [] h = tt
-  each-stays c (y ∷ ys) h = ((λ q. (h q).0), each-stays c ys (λ q. (h q).1))
-
-  marked : (c : Bool) (v : Value) → (c ≡ true → IsTruth (Some v)) → false_where_undefined c (Some v) ≡ Some v
-  marked true v h = read-mark true (name_ex x) (behind x v env) v (subst-fits (name-behind x v env) (h refl)) (name-behind x v env)
-    where
-      subst-fits : {o p : Option Value} → o ≡ p → IsTruth p → IsTruth o
-      subst-fits e t = subst IsTruth (sym e) t
-  marked false v h = refl
-
   -- It has the same items.
   numbered-means : meaning (numbered_items x z t n u) env ≡ Some (list_value l.items)
   numbered-means = ap (option_map list_value)
       (numbers-collect x z n t env new (list_value l.items) l.value b
       (λ here. option_map (λ w. w ∷ []) (meaning (item_of u t (name_ex x)) here))
       ∙ ap (λ ys. collect (map number (one_to (length ys))) G) (to_list-of_list l.items)
-      ∙ collect-numbered Stays (false_where_undefined (is_bool (Some u))) (marked (is_bool (Some u))) 1 l.items
+      ∙ collect-numbered Stays (false_where_undefined (is_bool (Some u))) (marked x env (is_bool (Some u))) 1 l.items
       (each-stays (is_bool (Some u)) l.items truths) G
       (λ j q. ap (option_map (λ w. w ∷ [])) (item-behind x u t env (list_value l.items) new l.value (number (pos j)))))
 

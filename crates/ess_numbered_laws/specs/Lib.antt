@@ -8,6 +8,8 @@ pub mod CountedSources
 pub mod EqualByNumber
 -- Signs between lists by the numbers of their items
 pub mod OrderByNumber
+-- Lists in place of matrices that aren't numbered from 1
+pub mod ListedPicks
 -- All these rules
 pub mod NumberRules
 -- What it is to be a bound of how many items there are
@@ -18,3 +20,5 @@ pub mod CountedLaws
 pub mod OrderLaws
 -- That bounds are right
 pub mod BoundLaws
+-- What is said of lists in place of matrices that aren't numbered from 1
+pub mod ListedLaws

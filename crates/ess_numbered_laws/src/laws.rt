@@ -2,6 +2,7 @@
 
 ghost use Rattle.ess_numbered_laws.specs.BoundLaws.{MostItemsBound};
 ghost use Rattle.ess_numbered_laws.specs.CountedLaws.{EqualitiesKeep, ItemsOfListsKeep, NumberedListsKeep, NumberedTermsKeep, PairsKeep};
+ghost use Rattle.ess_numbered_laws.specs.ListedLaws.{ListsHaveTheItems, PickedListsKeep};
 ghost use Rattle.ess_numbered_laws.specs.OrderLaws.{LowerByNumber, OrderKeeps};
 
 /// A list with no more items than a bound says is the list of its items by their numbers.
@@ -42,4 +43,14 @@ pub fn signs_between_lists_keep()
 /// A list has no more items than is said of it, where that has a value.
 pub fn lists_are_bounded()
     ensures { MostItemsBound }
+{}
+
+/// What is picked has the same items, in order, where lists take the place of matrices that aren't numbered from 1.
+pub fn lists_have_the_items()
+    ensures { ListsHaveTheItems }
+{}
+
+/// So a comprehension over it stays what it is, where order counts.
+pub fn picked_lists_keep()
+    ensures { PickedListsKeep }
 {}

@@ -18,7 +18,8 @@ use Rattle.ess_ordered_laws.specs.NumberedItems.{is_from_one}
 use Rattle.ess_semantics.specs.Constants.{operand_count}
 
 module _ (u : Text → Bool) where
-  passes : PassesOn (DomNamesHave u) (DomsNamesHave u)
+  -- What names of domains have those of their parts have.
+  pub passes : PassesOn (DomNamesHave u) (DomsNamesHave u)
   passes = record {
     of_several = λ d ds h. h;
     of_tuple = λ ds h. h;

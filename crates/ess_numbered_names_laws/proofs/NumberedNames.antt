@@ -18,7 +18,7 @@ use Rattle.ess_numbered_laws.specs.MostItems.{most_items}
 use Rattle.ess_numbered_laws.specs.CountedSources.{is_counted, items_counted, is_number_of, numbers_of, numbered_items, numbered_term, numbered_source, numbered_behind, within_an_item, counted_list, numbered_side, sees_order, within_a_pair}
 use Rattle.ess_numbered_laws.specs.EqualByNumber.{at_each_number, items_compared, equal_as, other_side, equal_counted, equal_by_number}
 use Rattle.ess_numbered_laws.specs.OrderByNumber.{equal_before, lower_list, ordered_lists, with_items, counted_operand, order_by_number}
-use Rattle.ess_numbered_laws.specs.NumberRules.{NumberRule, equality_of_lists, sign_between_lists, item_of_a_list, number_rewrite, side_of_a_pair}
+use Rattle.ess_numbered_laws.specs.NumberRules.{NumberRule, equality_of_lists, sign_between_lists, item_of_a_list, number_rewrite, side_of_a_pair, lists_of_what_is_picked}
 use Rattle.conjure_model_laws.specs.ToldApart.{reserved}
 use Rattle.ess_chain_names_laws.specs.NamesHave.{NamesHave, GensNamesHave, DomNamesHave}
 use Rattle.ess_chain_names_laws.specs.Steps.{supply_at}
@@ -31,6 +31,7 @@ use Rattle.ess_ordered_names_laws.proofs.NamesOfSources.{behind-names}
 use Rattle.ess_ordered_names_laws.proofs.OrderedNames.{either}
 use Rattle.ess_numbered_names_laws.specs.NumberedNames.{ThreeHave, NumberRulesKeepNames}
 use Rattle.ess_numbered_names_laws.proofs.NamesOfMost.{most-names}
+use Rattle.ess_numbered_names_laws.proofs.ListedNames.{picked-names}
 
 module _ (u : Text → Bool) where
   -- The other side's index domain has such names, where it is told.
@@ -218,6 +219,7 @@ module _ (u : Text → Bool) where
     each-rule-names sign_between_lists e h = order-names e h
     each-rule-names item_of_a_list e h = within-names e h
     each-rule-names side_of_a_pair e h = pair-names e h
+    each-rule-names lists_of_what_is_picked e h = picked-names u s t.one g e h
 
   pub rule-names : (s : Supply) (g : Names Ty) (r : NumberRule) (e f : Ex) → number_rewrite s g r e ≡ Some f → ThreeHave u s →
       NamesHave u e → NamesHave u f

@@ -6,6 +6,10 @@ pub mod ScopesBehind
 pub mod MostScoped
 -- Lists by the numbers of their items
 pub mod ListsScoped
+-- What rules make behind plain generators
+pub mod PlainScoped
+-- Lists in place of other matrices
+pub mod ListedScopes
 -- All rules
 pub mod NumberedScopes
 -- Worked examples

@@ -1,32 +1,33 @@
 -- Rules of comprehensions over sources whose items are counted keep scopes.
-use Rattle.std.proofs.Common.{◌≡◌, refl, subst, Bool, true, false, ◌&&◌, not, if◌then◌else◌, [], ◌∷◌, Option, Some, None, option_map, is_some}
+use Rattle.std.proofs.Common.{◌≡◌, subst, Bool, true, false, ◌&&◌, not, if◌then◌else◌, [], ◌∷◌, Option, Some, None, option_map, is_some}
 use Rattle.ess_semantics.specs.declared.words.Op2.{Op2}
 use Rattle.ess_semantics.specs.Lists.{and_then, or_else}
 use Rattle.ess_semantics.specs.Values.{Text, a_matrix}
 use Rattle.ess_semantics.specs.Order.{same_text}
 use Rattle.ess_semantics.specs.Names.{Names}
-use Rattle.ess_semantics.specs.Trees.{by_value, index, Pat, name_pat, tuple_pat, Ex, node_ex, comp_ex, no_exs, more_exs, Gens, no_gens, over, from, cond, Dom, ex2}
+use Rattle.ess_semantics.specs.Trees.{by_value, index, name_pat, tuple_pat, Ex, node_ex, comp_ex, no_exs, more_exs, Gens, no_gens, over, from, cond, Dom, ex2}
 use Rattle.ess_semantics.specs.Types.{Ty, compound2}
 use Rattle.ess_semantics.specs.Typing.{type_of}
 use Rattle.ess_semantics.specs.NamesAt.{names_behind}
-use Rattle.ess_semantics.specs.Scoped.{with_names, Scoped, ScopedGens, ScopedDom}
-use Rattle.ess_semantics.specs.Substitution.{Binds, NamesAreGens, NamesAreDom}
+use Rattle.ess_semantics.specs.Scoped.{with_names, Scoped, ScopedDom}
+use Rattle.ess_semantics.specs.Substitution.{NamesAreDom}
 use Rattle.ess_rules_laws.specs.FoldRules.{is_laid_open}
 use Rattle.ess_rules_laws.specs.MatrixRules.{both_matrices}
 use Rattle.ess_refine_laws.specs.AllRules.{Supply, OfSome}
 use Rattle.ess_refine_laws.specs.IndexedLists.{of_matrix}
 use Rattle.ess_refine_laws.specs.ScopesStay.{Scope}
 use Rattle.ess_refine_laws.specs.ScopesOfRules.{BindsNone}
-use Rattle.ess_open_rules_laws.specs.OpenGenerators.{Opened, at_first_open, put_before}
 use Rattle.ess_numbered_laws.specs.MostItems.{most_items}
 use Rattle.ess_numbered_laws.specs.CountedSources.{is_counted, numbered_items, numbered_source, numbered_behind, within_an_item, counted_list, numbered_side, sees_order, within_a_pair}
 use Rattle.ess_numbered_laws.specs.EqualByNumber.{other_side, equal_as, equal_counted, equal_by_number}
 use Rattle.ess_numbered_laws.specs.OrderByNumber.{lower_list, ordered_lists, with_items, counted_operand, order_by_number}
-use Rattle.ess_numbered_laws.specs.NumberRules.{NumberRule, equality_of_lists, sign_between_lists, item_of_a_list, number_rewrite, side_of_a_pair}
+use Rattle.ess_numbered_laws.specs.NumberRules.{NumberRule, equality_of_lists, sign_between_lists, item_of_a_list, number_rewrite, side_of_a_pair, lists_of_what_is_picked}
 use Rattle.ess_numbered_scopes_laws.specs.NumberedScopes.{ThreeNew, SideScoped, NumberScoped, DeclaredInScope, NumberRulesKeepScopes}
-use Rattle.ess_numbered_scopes_laws.proofs.ScopesBehind.{InScope, under, append-scoped, IsClear, clear-with, clear-behind, each-binds, each-both, clear-map, both-bind, OpenedScoped, both-scoped}
+use Rattle.ess_numbered_scopes_laws.proofs.ScopesBehind.{InScope, under, IsClear, clear-behind}
 use Rattle.ess_numbered_scopes_laws.proofs.ScopesMoved.{dom-behind}
 use Rattle.ess_numbered_scopes_laws.proofs.MostScoped.{most-scoped}
+use Rattle.ess_numbered_scopes_laws.proofs.PlainScoped.{Clear, NoneBound, plain-scoped}
+use Rattle.ess_numbered_scopes_laws.proofs.ListedScopes.{picked-scoped}
 use Rattle.ess_numbered_scopes_laws.proofs.ListsScoped.{within, items, lists-scoped, over-scoped, lower-scoped}
 
 module _ (z : Text → Bool) (t : Supply) (g : Names Ty) where
@@ -39,14 +40,9 @@ module _ (z : Text → Bool) (t : Supply) (g : Names Ty) where
 
   -- ---- an item of a list
 
-  -- None of the three names is in scope.
-  abbrev Clear : (Text → Bool) → Type 0
-  Clear u = IsClear t.one z u × IsClear t.other z u × IsClear t.third z u
-
   module _ (apart : same_text t.one t.other ≡ false) where
-    at-source : (k : Names Ty) (e : Ex) (gs : Gens) → NamesAreGens (λ a. true) (λ a. not (same_text t.one a)) gs →
-        NamesAreGens (λ a. true) (λ a. not (same_text t.third a)) gs → (u o : Text → Bool) → Clear u → Scoped z u o (comp_ex e gs) →
-        InScope z u o (numbered_source t k (comp_ex e gs))
+    at-source : (k : Names Ty) (e : Ex) (gs : Gens) → NoneBound z t t.one gs → NoneBound z t t.third gs → (u o : Text → Bool) →
+        Clear z t u → Scoped z u o (comp_ex e gs) → InScope z u o (numbered_source t k (comp_ex e gs))
     at-source k e (from (name_pat y) a hs) b d u o c h = go (is_counted t k a) (most_items t.third a)
         (most-scoped z t.third [] a u o c.2 d.1 h.1)
       where
@@ -69,50 +65,13 @@ module _ (z : Text → Bool) (t : Supply) (g : Names Ty) where
     at-source k e (over p a hs) b d u o c h = tt
     at-source k e (cond a hs) b d u o c h = tt
 
-    -- Behind plain generators.
-    put-scoped : (before : Gens) (u o : Text → Bool) (r : Option Ex) →
-        ((f : Ex) → r ≡ Some f → ScopedGens z u o before (λ s i. Scoped z s i f)) →
-        InScope z u o (and_then r (put_before before))
-    put-scoped before u o None k = tt
-    put-scoped before u o (Some (comp_ex f ks)) k = append-scoped z before ks (λ s i. Scoped z s i f) u o (k (comp_ex f ks) refl)
-    put-scoped before u o (Some _) k = tt
-
-    -- A pattern binds none of them.
-    abbrev Apart : Pat → Type 0
-    Apart p = Binds (λ c. not (same_text t.one c)) p
-        × (Binds (λ c. not (same_text t.other c)) p × Binds (λ c. not (same_text t.third c)) p)
-
-    step : (p : Pat) (s : Text → Bool) → Apart p → Clear s → Clear (with_names s p)
-    step p s b j = (clear-with t.one z s p b.0 j.0, clear-with t.other z s p b.1.0 j.1, clear-with t.third z s p b.1.1 j.2)
-
-    behind-scoped : (u o : Text → Bool) → Clear u → (a : Ex) → BindsNone (same_text t.one) a → BindsNone (same_text t.other) a →
+    behind-scoped : (u o : Text → Bool) → Clear z t u → (a : Ex) → BindsNone (same_text t.one) a → BindsNone (same_text t.other) a →
         BindsNone (same_text t.third) a → Scoped z u o a → InScope z u o (numbered_behind t g a)
-    behind-scoped u o c (comp_ex e gs) b l d h = go (at_first_open gs) (both-bind (λ a. not (same_text t.one a)) gs b.1)
-        (both-bind (λ a. not (same_text t.other a)) gs l.1) (both-bind (λ a. not (same_text t.third a)) gs d.1)
-        (both-scoped z (λ s i. Scoped z s i e) gs u o h)
-      where
-        go : (r : Option Opened) → OfSome r (λ p. NamesAreGens (λ a. true) (λ a. not (same_text t.one a)) p.before
-            × NamesAreGens (λ a. true) (λ a. not (same_text t.one a)) p.after) →
-            OfSome r (λ p. NamesAreGens (λ a. true) (λ a. not (same_text t.other a)) p.before
-            × NamesAreGens (λ a. true) (λ a. not (same_text t.other a)) p.after) →
-            OfSome r (λ p. NamesAreGens (λ a. true) (λ a. not (same_text t.third a)) p.before
-            × NamesAreGens (λ a. true) (λ a. not (same_text t.third a)) p.after) →
-            OfSome r (OpenedScoped z (λ s i. Scoped z s i e) u o) →
-            InScope z u o
-            (and_then r (λ p. and_then (numbered_source t (names_behind p.before g) (comp_ex e p.after)) (put_before p.before)))
-        go None b l d k = tt
-        go (Some p) b l d k = put-scoped p.before u o (numbered_source t (names_behind p.before g) (comp_ex e p.after)) (λ f q.
-            clear-map z Clear Apart step p.before (λ s i. Scoped z s i (comp_ex e p.after)) (λ s i. Scoped z s i f)
-            (λ s i j m. subst (λ w. InScope z s i w) q (at-source (names_behind p.before g) e p.after b.1 d.1 s i j m))
-            (each-both (λ a. Binds (λ c. not (same_text t.one c)) a)
-            (λ a. Binds (λ c. not (same_text t.other c)) a × Binds (λ c. not (same_text t.third c)) a) p.before
-            (each-binds (λ c. not (same_text t.one c)) p.before b.0)
-            (each-both (λ a. Binds (λ c. not (same_text t.other c)) a) (λ a. Binds (λ c. not (same_text t.third c)) a) p.before
-            (each-binds (λ c. not (same_text t.other c)) p.before l.0) (each-binds (λ c. not (same_text t.third c)) p.before d.0)))
-            u o c k)
+    behind-scoped u o c (comp_ex e gs) b l d h = plain-scoped z t (λ ks. numbered_source t (names_behind ks g))
+        (λ ks e gs b d. at-source (names_behind ks g) e gs b d) u o c (comp_ex e gs) b l d h
     behind-scoped u o c _ b l d h = tt
 
-    item-scoped : (u o : Text → Bool) → Clear u → (e : Ex) → BindsNone (same_text t.one) e → BindsNone (same_text t.other) e →
+    item-scoped : (u o : Text → Bool) → Clear z t u → (e : Ex) → BindsNone (same_text t.one) e → BindsNone (same_text t.other) e →
         BindsNone (same_text t.third) e → Scoped z u o e → InScope z u o (within_an_item t g e)
     item-scoped u o c (node_ex b (index (by_value ∷ [])) (more_exs a (more_exs i no_exs))) p l d h =
         go (numbered_behind t g a) (behind-scoped u o c a p.0 l.0 d.0 h.0)
@@ -125,7 +84,7 @@ module _ (z : Text → Bool) (t : Supply) (g : Names Ty) where
 
     -- ---- a side
 
-    side-scoped : (u o : Text → Bool) → Clear u → (a : Ex) → BindsNone (same_text t.one) a → BindsNone (same_text t.other) a →
+    side-scoped : (u o : Text → Bool) → Clear z t u → (a : Ex) → BindsNone (same_text t.one) a → BindsNone (same_text t.other) a →
         BindsNone (same_text t.third) a → Scoped z u o a → InScope z u o (numbered_side t g a)
     side-scoped u o c a p l d h = go (is_some (most_items t.third a))
       where
@@ -133,7 +92,7 @@ module _ (z : Text → Bool) (t : Supply) (g : Names Ty) where
         go true = tt
         go false = behind-scoped u o c a p l d h
 
-    pair-scoped : (u o : Text → Bool) → Clear u → (e : Ex) → BindsNone (same_text t.one) e → BindsNone (same_text t.other) e →
+    pair-scoped : (u o : Text → Bool) → Clear z t u → (e : Ex) → BindsNone (same_text t.one) e → BindsNone (same_text t.other) e →
         BindsNone (same_text t.third) e → Scoped z u o e → InScope z u o (within_a_pair t g e)
     pair-scoped u o c (ex2 true w a b) p l d h = go (sees_order w) (numbered_side t g a) (numbered_side t g b)
         (side-scoped u o c a p.0 l.0 d.0 h.0) (side-scoped u o c b p.1.0 l.1.0 d.1.0 h.1.0)
@@ -254,6 +213,8 @@ module _ (z : Text → Bool) (t : Supply) (g : Names Ty) where
       item-scoped n.3 s.all s.over_domains ((n.0.0, w), (n.1.0, w), (n.2.0, w)) e n.0.1 n.1.1 n.2.1 h
   each-scoped side_of_a_pair s e w n f h =
       pair-scoped n.3 s.all s.over_domains ((n.0.0, w), (n.1.0, w), (n.2.0, w)) e n.0.1 n.1.1 n.2.1 h
+  each-scoped lists_of_what_is_picked s e w n f h =
+      picked-scoped z t g s.all s.over_domains ((n.0.0, w), (n.1.0, w), (n.2.0, w)) e n.0.1 n.1.1 n.2.1 h
 
 pub number-rules-keep-scopes : NumberRulesKeepScopes
 number-rules-keep-scopes z t g r s e f q w n k h =

@@ -2,12 +2,13 @@
 use Rattle.std.specs.Prelude.{◌≡◌, refl, true, false, [], ◌∷◌, codes, pos, Some, None}
 use Rattle.ess_semantics.specs.declared.words.Op2.{Op2}
 use Rattle.ess_semantics.specs.Values.{Text, a_matrix}
-use Rattle.ess_semantics.specs.Trees.{by_value, index, matrix_literal, name_pat, Ex, number_ex, name_ex, node_ex, comp_ex, cell_ex, ex2, no_exs, more_exs, no_gens, from}
-use Rattle.ess_semantics.specs.Types.{bool_ty, int_ty, named_ty, compound2}
+use Rattle.ess_semantics.specs.Trees.{by_value, index, matrix_literal, both_ends, name_pat, Ex, number_ex, name_ex, node_ex, matrix_ex, comp_ex, cell_ex, ex2, no_exs, more_exs, no_gens, from, Dom, int_dom}
+use Rattle.ess_semantics.specs.Types.{any_ty, bool_ty, int_ty, named_ty, compound2}
 use Rattle.ess_semantics.specs.Typing.{type_of}
 use Rattle.ess_numbered_laws.specs.MostItems.{so_often}
 use Rattle.ess_numbered_laws.specs.CountedSources.{numbered_items}
 use Rattle.ess_numbered_laws.specs.EqualByNumber.{items_compared}
+use Rattle.ess_numbered_laws.specs.ListedPicks.{literal_as_list}
 
 abbrev x : Text
 x = codes "x"
@@ -57,6 +58,23 @@ against_two u = ex2 true Op2.Eq (comp_ex (name_ex y) (from (name_pat y) u no_gen
 of_a_side : (type_of (against_two picked) [] ≡ Some bool_ty)
     × (type_of (against_two (numbered_items x z picked two int_ty)) [] ≡ Some bool_ty)
 of_a_side = (refl, refl)
+
+-- ---- lists in place of other matrices
+
+-- `int(0..1)`.
+abbrev nought_or_one : Dom
+nought_or_one = int_dom (both_ends ∷ []) (more_exs (number_ex (pos 0)) (more_exs (number_ex (pos 1)) no_exs))
+
+-- `[2, 2]` has the type of `[2, 2; int(0..1)]`.
+of_a_list : (type_of (matrix_ex (more_exs two (more_exs two no_exs)) nought_or_one) [] ≡ Some (compound2 a_matrix int_ty int_ty))
+    × (type_of (literal_as_list (more_exs two (more_exs two no_exs)) nought_or_one) [] ≡ Some (compound2 a_matrix int_ty int_ty))
+of_a_list = (refl, refl)
+
+-- `[]` hasn't that of a matrix over numbers without items: so that stays.
+of_no_items : (type_of (matrix_ex no_exs nought_or_one) [] ≡ Some (compound2 a_matrix int_ty any_ty))
+    × (type_of (node_ex false matrix_literal no_exs) [] ≡ Some (compound2 a_matrix any_ty any_ty))
+    × (literal_as_list no_exs nought_or_one ≡ matrix_ex no_exs nought_or_one)
+of_no_items = (refl, refl, refl)
 
 -- ---- names of tables
 

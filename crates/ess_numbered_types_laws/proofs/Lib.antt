@@ -16,6 +16,10 @@ pub mod EqualTyped
 pub mod ComparedTypes
 -- Signs between lists
 pub mod OrderTyped
+-- Lists in place of other matrices
+pub mod ListedTyped
+-- Comprehensions over these
+pub mod ListedKeep
 -- All rules
 pub mod NumberedKeep
 -- Worked examples

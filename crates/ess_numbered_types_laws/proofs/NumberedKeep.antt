@@ -4,11 +4,12 @@ use Rattle.ess_semantics.specs.Names.{Names}
 use Rattle.ess_semantics.specs.Trees.{Ex}
 use Rattle.ess_semantics.specs.Types.{Ty}
 use Rattle.ess_refine_laws.specs.AllRules.{Supply}
-use Rattle.ess_numbered_laws.specs.NumberRules.{NumberRule, equality_of_lists, sign_between_lists, item_of_a_list, side_of_a_pair, number_rewrite}
+use Rattle.ess_numbered_laws.specs.NumberRules.{NumberRule, equality_of_lists, sign_between_lists, item_of_a_list, side_of_a_pair, lists_of_what_is_picked, number_rewrite}
 use Rattle.ess_open_types_laws.proofs.TypesBehind.{KeepsBoth, BothKept}
 use Rattle.ess_numbered_types_laws.specs.NumberedTyped.{NumberTyped, NumberMarked, NumberRulesKeepTypes, NumberRulesKeepMarks}
 use Rattle.ess_numbered_types_laws.proofs.SourcesNumbered.{an-item}
 use Rattle.ess_numbered_types_laws.proofs.PairsNumbered.{a-side}
+use Rattle.ess_numbered_types_laws.proofs.ListedKeep.{lists-in-place}
 use Rattle.ess_numbered_types_laws.proofs.EqualTyped.{equality}
 use Rattle.ess_numbered_types_laws.proofs.OrderTyped.{sign}
 
@@ -18,6 +19,7 @@ each-keeps s g equality_of_lists e h = equality s g e h
 each-keeps s g sign_between_lists e h = sign s g e h
 each-keeps s g item_of_a_list e h = an-item s g e h
 each-keeps s g side_of_a_pair e h = a-side s g e h
+each-keeps s g lists_of_what_is_picked e h = lists-in-place s g e h
 
 answered : (s : Supply) (g : Names Ty) (r : NumberRule) (e f : Ex) → number_rewrite s g r e ≡ Some f → NumberTyped s g r e →
     KeepsBoth g (NumberMarked s g r e) e f

@@ -24,7 +24,7 @@ use Rattle.ess_numbered_types_laws.proofs.SourcesNumbered.{by-numbers-behind}
 
 -- A pair whose first side keeps its type and marks, and one whose second side does.
 module _ (g : Names Ty) (P : Type 0) (o : Op2) (a b c : Ex) where
-  at-first : KeepsBoth g P a c → KeepsBoth g P (ex2 true o a b) (ex2 true o c b)
+  pub at-first : KeepsBoth g P a c → KeepsBoth g P (ex2 true o a b) (ex2 true o c b)
   at-first k = (typed, marked)
     where
       typed : KeepsType g (ex2 true o a b) (ex2 true o c b)
@@ -37,7 +37,7 @@ module _ (g : Names Ty) (P : Type 0) (o : Op2) (a b c : Ex) where
           let r = two-is (type_of a g) (type_of b g) (type_of_op (binary o)) v q in
           (subst (λ z. MarkFits true (binary o) z) (q ∙ sym (typed v q)) m.0, (k.1 p r.0 r.2 m.1.0, m.1.1))
 
-  at-second : KeepsBoth g P b c → KeepsBoth g P (ex2 true o a b) (ex2 true o a c)
+  pub at-second : KeepsBoth g P b c → KeepsBoth g P (ex2 true o a b) (ex2 true o a c)
   at-second k = (typed, marked)
     where
       typed : KeepsType g (ex2 true o a b) (ex2 true o a c)
@@ -51,8 +51,8 @@ module _ (g : Names Ty) (P : Type 0) (o : Op2) (a b c : Ex) where
           (subst (λ z. MarkFits true (binary o) z) (q ∙ sym (typed v q)) m.0, (m.1.0, (k.1 p r.1 r.3 m.1.1.0, tt)))
 
 -- What is made of an answer that keeps both.
-kept-map : (g : Names Ty) (P : Type 0) (a e : Ex) (f : Ex → Ex) → ((c : Ex) → KeepsBoth g P a c → KeepsBoth g P e (f c)) → (o : Option Ex) →
-    BothKept g P a o → BothKept g P e (option_map f o)
+pub kept-map : (g : Names Ty) (P : Type 0) (a e : Ex) (f : Ex → Ex) → ((c : Ex) → KeepsBoth g P a c → KeepsBoth g P e (f c)) →
+    (o : Option Ex) → BothKept g P a o → BothKept g P e (option_map f o)
 kept-map g P a e f k None h = tt
 kept-map g P a e f k (Some c) h = k c h
 

@@ -108,7 +108,8 @@ module _ (g : Names Ty) (P : Type 0) (b : Bool) (i : Ex) where
           let r = indexed (type_of a g) (static a) v q in
           (subst (λ o. MarkFits b (index (by_value ∷ [])) o) (q ∙ sym (typed v q)) m.0, (k.1 p r.0 r.1 m.1.0, m.1.1))
 
-  at-index-of : (a : Ex) (o : Option Ex) → BothKept g P a o →
+  -- So it is with an answer.
+  pub at-index-of : (a : Ex) (o : Option Ex) → BothKept g P a o →
       BothKept g P (node_ex b (index (by_value ∷ [])) (more_exs a (more_exs i no_exs)))
       (option_map (λ c. node_ex b (index (by_value ∷ [])) (more_exs c (more_exs i no_exs))) o)
   at-index-of a None k = tt

@@ -1,10 +1,10 @@
 -- Rules of comprehensions over sources whose items are counted: what they ask of types, and of names, so as to keep types and marks at
 -- their root.
-use Rattle.std.specs.Prelude.{◌≡◌, Bool, true, false, not, Some, is_some}
+use Rattle.std.specs.Prelude.{◌≡◌, Bool, true, false, not, [], ◌∷◌, Some, is_some}
 use Rattle.ess_semantics.specs.Values.{Text}
 use Rattle.ess_semantics.specs.Order.{same_text}
 use Rattle.ess_semantics.specs.Names.{Names}
-use Rattle.ess_semantics.specs.Trees.{name_pat, Ex, node_ex, comp_ex, ex2, more_exs, Gens, from}
+use Rattle.ess_semantics.specs.Trees.{by_value, index, name_pat, Ex, node_ex, comp_ex, ex2, no_exs, more_exs, Gens, from}
 use Rattle.ess_semantics.specs.Types.{Ty, int_ty, join, type_of_dom}
 use Rattle.ess_semantics.specs.Typing.{type_of}
 use Rattle.ess_semantics.specs.NamesAt.{names_behind}
@@ -19,7 +19,7 @@ use Rattle.ess_open_rules_laws.specs.OpenGenerators.{at_first_open}
 use Rattle.ess_ordered_types_laws.specs.OrderedTyped.{axis_by_count}
 use Rattle.ess_numbered_laws.specs.CountedSources.{counted_list}
 use Rattle.ess_numbered_laws.specs.EqualByNumber.{other_side}
-use Rattle.ess_numbered_laws.specs.NumberRules.{NumberRule, equality_of_lists, sign_between_lists, item_of_a_list, side_of_a_pair, number_rewrite}
+use Rattle.ess_numbered_laws.specs.NumberRules.{NumberRule, equality_of_lists, sign_between_lists, item_of_a_list, side_of_a_pair, lists_of_what_is_picked, number_rewrite}
 
 -- ---- an item of a list
 
@@ -48,6 +48,18 @@ abbrev pub FirstOpenBindsNone : Ex → Type 0
 FirstOpenBindsNone (comp_ex e gs) = OfSome (at_first_open gs) (λ t. SourceBindsNone t.after)
 FirstOpenBindsNone e = Unit {0}
 
+-- ---- lists in place of other matrices
+
+-- The term of the first generator doesn't use the new name.
+abbrev pub SourceIsNew : Supply → Gens → Type 0
+SourceIsNew s (from (name_pat y) u hs) = IsNewTo s.one u
+SourceIsNew s hs = Unit {0}
+
+-- Nor does that of the first that isn't plain.
+abbrev pub FirstOpenIsNew : Supply → Ex → Type 0
+FirstOpenIsNew s (comp_ex e gs) = OfSome (at_first_open gs) (λ t. SourceIsNew s t.after)
+FirstOpenIsNew s e = Unit {0}
+
 -- ---- comparisons
 
 -- Of a matrix whose index domain is told numbers are indices, and they may be compared with members of the domain.
@@ -72,6 +84,8 @@ NumberTyped s g sign_between_lists (ex2 m o a b) =
     (same_text s.other s.one ≡ false) × IsNewTo s.one a × IsNewTo s.one b × IsNewTo s.other a × IsNewTo s.other b
 NumberTyped s g item_of_a_list (node_ex m op (more_exs a is)) = FirstOpenFits s g a
 NumberTyped s g side_of_a_pair (ex2 m o a b) = FirstOpenFits s g a × FirstOpenFits s g b
+NumberTyped s g lists_of_what_is_picked (node_ex m (index (by_value ∷ [])) (more_exs a (more_exs i no_exs))) = FirstOpenIsNew s a
+NumberTyped s g lists_of_what_is_picked (ex2 m o a b) = FirstOpenIsNew s a × FirstOpenIsNew s b
 NumberTyped s g r e = Unit {0}
 
 -- What is asked beside that for marks: what is counted binds no name of a table, and a domain that is told by a number of items has marks.

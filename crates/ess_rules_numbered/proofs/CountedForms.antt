@@ -6,20 +6,21 @@ use Rattle.ess_semantics.specs.Values.{Text}
 use Rattle.ess_semantics.specs.Names.{Names}
 use Rattle.ess_semantics.specs.NamesAt.{names_behind}
 use Rattle.ess_semantics.specs.Occurrences.{free_of}
-use Rattle.ess_semantics.specs.Trees.{by_value, index, name_pat, Ex, Exs, node_ex, comp_ex, no_exs, more_exs, Gens, from, ex2}
+use Rattle.ess_semantics.specs.Trees.{by_value, index, name_pat, Ex, node_ex, comp_ex, no_exs, more_exs, Gens, from, ex2}
 use Rattle.ess_semantics.specs.Types.{Ty}
 use Rattle.ess_semantics.specs.Typing.{type_of}
-use Rattle.ess_rules_laws.specs.SpliceRules.{append_gens}
 use Rattle.ess_refine_laws.specs.AllRules.{Supply}
 use Rattle.ess_refine_laws.specs.IndexedLists.{of_matrix}
-use Rattle.ess_open_rules_laws.specs.OpenGenerators.{Opened, at_first_open, put_before}
+use Rattle.ess_open_rules_laws.specs.OpenGenerators.{at_first_open}
 use Rattle.ess_rules_folds.specs.Forms.{comp_parts, source_parts}
 use Rattle.ess_rules_forms.specs.Forms.{truth_pair, of_pair}
 use Rattle.ess_rules_ordered.specs.IndexForms.{item_of_matrix}
-use Rattle.ess_rules_ordered.proofs.IndexedForms.{of_matrix-items, put-over}
+use Rattle.ess_rules_ordered.proofs.IndexedForms.{of_matrix-items}
 use Rattle.ess_numbered_laws.specs.MostItems.{most_items, so_often}
 use Rattle.ess_numbered_laws.specs.CountedSources.{is_counted, numbered_items, numbered_term, numbered_source, numbered_behind, within_an_item, within_a_pair, begins_counted, is_over_counted, counted_list}
-use Rattle.ess_rules_numbered.specs.CountedForms.{within_operands}
+use Rattle.ess_rules_numbered.specs.CountedForms.{item_at}
+use Rattle.ess_rules_numbered.specs.BehindForms.{behind_parts, with_source, item_parts}
+use Rattle.ess_rules_numbered.proofs.BehindForms.{of-source, source_by_parts}
 
 -- ---- a source
 
@@ -33,35 +34,22 @@ pub term_by_type : (s : Supply) (g : Names Ty) (t : Ex) → numbered_term s g t 
     then and_then (most_items s.third t) (λ n. option_map (numbered_items s.one s.other t n) (item_of_matrix (type_of t g))) else None)
 term_by_type s g t = ap (λ o. if is_counted s g t then o else None) (by-items s.one s.other t (type_of t g) (most_items s.third t))
 
-at-source : (s : Supply) (g : Names Ty) (e : Ex) (gs hs : Gens) → and_then (numbered_source s g (comp_ex e hs)) (put_before gs)
-    ≡ and_then (source_parts hs) (λ q. option_map (λ l. comp_ex e (append_gens gs (from (name_pat q.0) l q.2))) (numbered_term s g q.1))
-at-source s g e gs (from (name_pat y) t hs) = put-over e gs y hs (numbered_term s g t)
-at-source s g e gs hs = refl
-
-at-open : (s : Supply) (g : Names Ty) (e : Ex) (o : Option Opened)
-    → and_then o (λ t. and_then (numbered_source s (names_behind t.before g) (comp_ex e t.after)) (put_before t.before))
-    ≡ and_then o (λ t. and_then (source_parts t.after)
-    (λ q. option_map (λ l. comp_ex e (append_gens t.before (from (name_pat q.0) l q.2))) (numbered_term s (names_behind t.before g) q.1)))
-at-open s g e None = refl
-at-open s g e (Some t) = at-source s (names_behind t.before g) e t.before t.after
+first-numbered : (s : Supply) (g : Names Ty) (e : Ex) (hs : Gens) → numbered_source s g (comp_ex e hs) ≡ of-source (numbered_term s g) e hs
+first-numbered s g e (from (name_pat y) t hs) = refl
+first-numbered s g e hs = refl
 
 -- At the first generator that isn't plain.
 pub behind_by_parts : (s : Supply) (g : Names Ty) (e : Ex) → numbered_behind s g e
-    ≡ and_then (comp_parts e) (λ c. and_then (at_first_open c.1) (λ t. and_then (source_parts t.after)
-    (λ q. option_map (λ l. comp_ex c.0 (append_gens t.before (from (name_pat q.0) l q.2)))
-    (numbered_term s (names_behind t.before g) q.1))))
-behind_by_parts s g (comp_ex e gs) = at-open s g e (at_first_open gs)
-behind_by_parts s g e = refl
+    ≡ and_then (behind_parts e) (λ p. option_map (with_source p) (numbered_term s (names_behind p.before g) p.source))
+behind_by_parts s g e = source_by_parts g (numbered_term s) (numbered_source s) (first-numbered s) e
 
 -- ---- where such a list stands
 
--- An item by its number, by the operands.
-pub item_by_steps : (s : Supply) (g : Names Ty) (b : Bool) (es : Exs)
-    → within_operands s g b es ≡ within_an_item s g (node_ex b (index (by_value ∷ [])) es)
-item_by_steps s g b no_exs = refl
-item_by_steps s g b (more_exs a no_exs) = refl
-item_by_steps s g b (more_exs a (more_exs i no_exs)) = refl
-item_by_steps s g b (more_exs a (more_exs i (more_exs j es))) = refl
+-- An item by its number, by its parts.
+pub item_by_parts : (s : Supply) (g : Names Ty) (e : Ex) → within_an_item s g e
+    ≡ and_then (item_parts e) (λ p. option_map (λ c. item_at p.0 c p.1.1) (numbered_behind s g p.1.0))
+item_by_parts s g (node_ex b (index (by_value ∷ [])) (more_exs a (more_exs i no_exs))) = refl
+item_by_parts s g e = refl
 
 -- A side of an equality or a sign, by both.
 pub pair_by_sides : (s : Supply) (g : Names Ty) (e : Ex) → within_a_pair s g e ≡ of_pair (within_a_pair s g) (truth_pair e)

@@ -5,7 +5,7 @@ use Rattle.ess_semantics.specs.Trees.{Ex}
 use Rattle.ess_semantics.specs.Types.{Ty}
 use Rattle.ess_refine_laws.specs.AllRules.{Supply}
 use Rattle.ess_rules_ordered.specs.Supplies.{supply_with}
-use Rattle.ess_numbered_laws.specs.NumberRules.{NumberRule, equality_of_lists, sign_between_lists, item_of_a_list, side_of_a_pair, number_rewrite}
+use Rattle.ess_numbered_laws.specs.NumberRules.{NumberRule, equality_of_lists, sign_between_lists, item_of_a_list, side_of_a_pair, lists_of_what_is_picked, number_rewrite}
 
 -- So it makes the same with whatever else stands in it.
 pub numbers-take_four : (s : Supply) (g : Names Ty) (r : NumberRule) (e : Ex)
@@ -14,3 +14,4 @@ numbers-take_four s g equality_of_lists e = refl
 numbers-take_four s g sign_between_lists e = refl
 numbers-take_four s g item_of_a_list e = refl
 numbers-take_four s g side_of_a_pair e = refl
+numbers-take_four s g lists_of_what_is_picked e = refl

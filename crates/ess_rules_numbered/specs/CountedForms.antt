@@ -1,21 +1,16 @@
--- An item of a list by its number, by the operands of an index.
-use Rattle.std.specs.Prelude.{Bool, true, [], ◌∷◌, Option, None, option_map}
+-- An item of a list by its number, and a sign between two sides.
+use Rattle.std.specs.Prelude.{Bool, true, [], ◌∷◌, Option, option_map}
 use Rattle.ess_semantics.specs.declared.words.Op2.{Op2}
 use Rattle.ess_semantics.specs.Lists.{or_else}
 use Rattle.ess_semantics.specs.Names.{Names}
-use Rattle.ess_semantics.specs.Trees.{by_value, index, Ex, Exs, node_ex, no_exs, more_exs, ex2}
+use Rattle.ess_semantics.specs.Trees.{by_value, index, Ex, node_ex, no_exs, more_exs, ex2}
 use Rattle.ess_semantics.specs.Types.{Ty}
 use Rattle.ess_refine_laws.specs.AllRules.{Supply}
-use Rattle.ess_numbered_laws.specs.CountedSources.{numbered_behind, numbered_side}
+use Rattle.ess_numbered_laws.specs.CountedSources.{numbered_side}
 
 -- The item of a list at an index.
 abbrev pub item_at : Bool → Ex → Ex → Ex
 item_at b c i = node_ex b (index (by_value ∷ [])) (more_exs c (more_exs i no_exs))
-
--- By the list and the index.
-abbrev pub within_operands : Supply → Names Ty → Bool → Exs → Option Ex
-within_operands s g b (more_exs a (more_exs i no_exs)) = option_map (λ c. item_at b c i) (numbered_behind s g a)
-within_operands s g b es = None
 
 -- A sign between two sides, the first of which is put by its numbers, else the second.
 abbrev pub within_sides : Supply → Names Ty → Op2 → Ex → Ex → Option Ex

@@ -2,9 +2,12 @@
 //! between them by the numbers of their items.
 #![tactic(auto)]
 
+mod as_lists;
+mod behind;
 mod comparing;
 mod equality;
 mod items;
+mod listed;
 mod lists;
 mod mentions;
 mod most;
@@ -16,4 +19,5 @@ mod there;
 
 pub use equality::equal_by_number;
 pub use items::{within_a_pair, within_an_item};
+pub use listed::lists_picked;
 pub use order::order_by_number;
