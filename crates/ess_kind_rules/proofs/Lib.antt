@@ -8,3 +8,5 @@ mod PickedRows
 mod DecidedForms
 -- Each rule that fires is one of the rules of kinds
 mod KindRoots
+-- Where the code answers nothing the rule doesn't fire
+pub mod NoneOfKinds

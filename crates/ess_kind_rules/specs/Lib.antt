@@ -8,3 +8,5 @@ pub mod WordParts
 pub mod DecidedItems
 -- What a rule of kinds makes of a root
 pub mod Kinds
+-- The rules of kinds that are asked
+pub mod AskedKinds

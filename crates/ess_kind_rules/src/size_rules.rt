@@ -4,6 +4,7 @@ ghost use Rattle.ess_core_nodes.specs.NodeViews.{pure_node};
 ghost use Rattle.ess_node_types.specs.TypedNames.{pure_names};
 ghost use Rattle.ess_kind_rules.specs.Supplies.{taken_supply};
 ghost use Rattle.ess_kind_rules.specs.Kinds.{IsOfKind};
+ghost use Rattle.ess_kind_rules.specs.AskedKinds.{view_sizes_asked};
 
 use crate::measures::{size_of_a_multiset, size_of_slots};
 use crate::{Taken, function_size};
@@ -14,14 +15,15 @@ use ess_rules_partitions::number_of_parts;
 use ess_rules_views::size_by_marker;
 use std::alloc::Global;
 
-/// What the first of these rules that fires makes of the root. `NoMemory` where there is no room for it.
+/// What the first of these rules that fires makes of the root, or nothing where none of them fires. `NoMemory` where there is no room for
+/// it.
 pub fn sizes(
     alloc: Global,
     _names: &NameTypes,
     taken: &Taken<'_>,
     node: &Node,
 ) -> Result<Option<Boxed<Node>>, NoMemory>
-    ensures { IfOk result (λ o. IsOfKind false (taken_supply taken.now) (pure_names _names.now) (pure_node node.now)
+    ensures { IfOk result (λ o. IsOfKind false view_sizes_asked (taken_supply taken.now) (pure_names _names.now) (pure_node node.now)
         (option_map pure_node o)) }
 {
     if let Some(new) = size_by_marker(alloc, node)? {

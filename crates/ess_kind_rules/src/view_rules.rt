@@ -4,6 +4,7 @@ ghost use Rattle.ess_core_nodes.specs.NodeViews.{pure_node};
 ghost use Rattle.ess_node_types.specs.TypedNames.{pure_names};
 ghost use Rattle.ess_kind_rules.specs.Supplies.{taken_supply};
 ghost use Rattle.ess_kind_rules.specs.Kinds.{IsOfKind};
+ghost use Rattle.ess_kind_rules.specs.AskedKinds.{views_asked};
 
 use crate::truths::{truth_at_an_argument, truth_in_a_matrix};
 use crate::{Taken, related};
@@ -15,14 +16,15 @@ use ess_rules_picked::step_apart;
 use ess_rules_views::atom_cell;
 use std::alloc::Global;
 
-/// What the first of these rules that fires makes of the root. `NoMemory` where there is no room for it.
+/// What the first of these rules that fires makes of the root, or nothing where none of them fires. `NoMemory` where there is no room for
+/// it.
 pub fn views(
     alloc: Global,
     names: &NameTypes,
     _taken: &Taken<'_>,
     node: &Node,
 ) -> Result<Option<Boxed<Node>>, NoMemory>
-    ensures { IfOk result (λ o. IsOfKind false (taken_supply _taken.now) (pure_names names.now) (pure_node node.now)
+    ensures { IfOk result (λ o. IsOfKind false views_asked (taken_supply _taken.now) (pure_names names.now) (pure_node node.now)
         (option_map pure_node o)) }
 {
     if let Some(new) = step_apart(alloc, node)? {

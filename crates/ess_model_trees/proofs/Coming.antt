@@ -1,5 +1,5 @@
 -- What comes of writing, from what each pass does.
-use Rattle.std.proofs.Common.{◌≡◌, refl, sym, ap, ◌∙◌, subst, ℕ, ◌<◌, ◌^◌, Bool, true, false, ◌&&◌, List, [], Option, Some, None}
+use Rattle.std.proofs.Common.{◌≡◌, refl, sym, ap, ◌∙◌, subst, ℕ, ◌<◌, ◌^◌, Bool, true, false, List, [], Option, Some, None}
 use Rattle.std.specs.Prelude.{IfOk, Result}
 use Rattle.std.proofs.lemmas.Result.{IfOk-weaker}
 use Rattle.ess_semantics.specs.Lists.{when}
@@ -14,13 +14,14 @@ use Rattle.eprime_lowering.specs.Lowered.{lowered}
 use Rattle.conjure_model_laws.specs.Printed.{printed}
 use Rattle.ess_refine.specs.ess_rules.Ruled.{IsRuled}
 use Rattle.ess_refine.specs.Chains.{Leads}
-use Rattle.ess_model_trees.specs.Written.{written_for, IsWrittenBy, Prints, PrintsFrom, Comes, ComesFrom}
+use Rattle.ess_refine.specs.Refinements.{IsGivenUp}
+use Rattle.ess_model_trees.specs.Written.{IsWrittenBy, Prints, PrintsFrom, given_up, not_lowered, Comes, ComesFrom}
 
 -- ---- printing
 
 module _ (taken : List Text) (n m : ℕ) (old : Ex) where
-  -- Nothing comes of a tree in which something abstract is left.
-  pub prints_nothing : (last : Ex) → Leads IsRuled n [] old last m → is_refined last ≡ false → Prints taken n old None m
+  -- Nothing comes of a tree whose refining was given up.
+  pub prints_nothing : (last : Ex) → Leads IsRuled n [] old last m → IsGivenUp n old last m → Prints taken n old None m
   prints_nothing last w h = (last, w, h)
 
   -- Of a tree in which nothing abstract is left, what each pass makes.
@@ -38,27 +39,14 @@ module _ (taken : List Text) (n m : ℕ) (old : Ex) where
 -- ---- writing
 
 module _ (s : Scope) (taken : List Text) (n m : ℕ) (old : Ex) where
-  -- Nothing comes of a tree in which something abstract is left.
-  pub comes_stuck : (last : Ex) → Leads IsRuled n [] old last m → is_refined last ≡ false → Comes s taken n old None m
-  comes_stuck last w h = record {
-    last = last;
-    leads = w;
-    fails = subst (λ b. (b && is_lowerable s (written_for taken last)) ≡ false) (sym h) refl;
-  }
-
-  -- So where nothing is printed.
+  -- Nothing comes of a tree whose refining was given up: nothing is printed for it.
   pub comes_nothing : Prints taken n old None m → Comes s taken n old None m
-  comes_nothing p = comes_stuck p.0 p.1 p.2
+  comes_nothing p = given_up p.0 p.1 p.2
 
   -- Of what is printed, that, where it is an expression of a model.
   pub comes_when : (new : Ex) (b : Bool) → IsWrittenBy taken n old new m → b ≡ is_lowerable s new → Comes s taken n old (when b new) m
   comes_when new true w t = (w, sym t)
-  comes_when new false w t = record {
-    last = w.last;
-    leads = w.leads;
-    fails = subst (λ b. (b && is_lowerable s (written_for taken w.last)) ≡ false) (sym w.refined)
-        (subst (λ x. is_lowerable s x ≡ false) w.writes (sym t));
-  }
+  comes_when new false w t = not_lowered w.last w.leads w.refined (subst (λ x. is_lowerable s x ≡ false) w.writes (sym t))
 
   -- The same from what is lowered.
   pub comes_lowered : (new : Ex) (o : Option Ex) → Prints taken n old (Some new) m → o ≡ lowered s new → Comes s taken n old o m

@@ -1,16 +1,19 @@
 -- Worked examples: trees that are written with printed names and plain keys, and two for which nothing is.
 use Rattle.std.proofs.Common.{◌≡◌, refl, true, Some, None, List, [], ◌∷◌, codes, arith}
 use Rattle.std.specs.Fmt.{digits}
+use Rattle.ess_semantics.specs.declared.words.Op1.{Op1}
 use Rattle.ess_semantics.specs.declared.words.Op2.{Op2}
 use Rattle.ess_semantics.specs.declared.words.Fun.{Fun}
 use Rattle.ess_semantics.specs.Values.{Text}
 use Rattle.ess_semantics.specs.Trees.{name_pat, Ex, truth_ex, comp_ex, cell_ex, no_exs, no_gens, over, cond}
-use Rattle.ess_semantics.proofs.Shorthands.{N, n, es1, bi, fn, upto}
+use Rattle.ess_semantics.proofs.Shorthands.{N, n, es1, un, bi, fn, upto}
 use Rattle.ess_grammar.specs.Models.{empty_scope}
 use Rattle.conjure_model_laws.specs.ToldApart.{reserved}
 use Rattle.conjure_model_laws.specs.Shown.{shows_nothing}
 use Rattle.ess_refine.specs.Chains.{as_it_was}
-use Rattle.ess_model_trees.specs.Written.{written_for, IsWrittenBy, Prints, Comes, ComesFrom, PrintsFrom, next_behind}
+use Rattle.ess_refine.specs.Refinements.{IsGivenUp, where_none_fires}
+use Rattle.ess_model_trees.specs.Written.{written_for, IsWrittenBy, Prints, given_up, not_lowered, Comes, ComesFrom, PrintsFrom, next_behind}
+use Rattle.ess_model_trees.proofs.Rests.{rests-settled}
 
 -- sum([x | x : int(1..3)]) = 6
 abbrev six : Text → Ex
@@ -58,14 +61,23 @@ plain_keys : written_for one_taken (bi Op2.And (s (truth_ex true)) (fn Fun.Or (c
 unfolding digits
 plain_keys = refl
 
--- nothing is written for `x in s`, which no rule changes where `s` is only a name
-abstract_left : Comes empty_scope one_taken 2 (bi Op2.Member (N (codes "x")) (N (codes "s"))) None 2
-abstract_left = record { last = bi Op2.Member (N (codes "x")) (N (codes "s")); leads = as_it_was (omega arith); fails = refl }
+-- |s union t| = k
+abbrev counted : Ex
+counted = bi Op2.Eq (un Op1.Bar (bi Op2.Union (N (codes "s")) (N (codes "t")))) (N (codes "k"))
 
--- and nothing is printed
-sticks : Prints one_taken 2 (bi Op2.Member (N (codes "x")) (N (codes "s"))) None 2
-sticks = (bi Op2.Member (N (codes "x")) (N (codes "s")), as_it_was (omega arith), refl)
+-- no rule fires at any part of it where s and t are only names: nothing tells what their members are
+none_fires : IsGivenUp 2 counted counted 2
+unfolding digits
+none_fires = where_none_fires refl (rests-settled 2 counted refl)
+
+-- so nothing is printed for it
+sticks : Prints one_taken 2 counted None 2
+sticks = (counted, as_it_was (omega arith), none_fires)
+
+-- and nothing is written
+abstract_left : Comes empty_scope one_taken 2 counted None 2
+abstract_left = given_up counted (as_it_was (omega arith)) none_fires
 
 -- nor is anything written for a cell that is a truth value where no line declares one
 undeclared : Comes empty_scope one_taken 2 (cell_ex true (codes "c") no_exs) None 2
-undeclared = record { last = cell_ex true (codes "c") no_exs; leads = as_it_was (omega arith); fails = refl }
+undeclared = not_lowered (cell_ex true (codes "c") no_exs) (as_it_was (omega arith)) refl refl

@@ -1,4 +1,6 @@
 -- What comes of writing
 pub mod Coming
+-- Trees at which no rule fires, by a test
+pub mod Rests
 -- Worked examples
 pub mod ExamplesWritten

@@ -1,5 +1,5 @@
 -- What is written for a tree over tables. The rules that lead to it count the reserved names.
-use Rattle.std.specs.Prelude.{◌≡◌, ℕ, ◌<◌, ◌^◌, true, false, ◌&&◌, List, [], Option, Some, None}
+use Rattle.std.specs.Prelude.{◌≡◌, ℕ, ◌<◌, ◌^◌, true, false, List, [], Option, Some, None}
 use Rattle.ess_semantics.specs.Values.{Text}
 use Rattle.ess_semantics.specs.Trees.{Ex}
 use Rattle.ess_semantics.specs.Refined.{is_refined}
@@ -12,6 +12,7 @@ use Rattle.conjure_model_laws.specs.Shown.{Shows}
 use Rattle.conjure_model_laws.specs.Printed.{printed}
 use Rattle.ess_refine.specs.ess_rules.Ruled.{IsRuled}
 use Rattle.ess_refine.specs.Chains.{Leads}
+use Rattle.ess_refine.specs.Refinements.{IsGivenUp}
 
 -- What is written for a tree in which nothing abstract is left: simplified, with plain keys, and simplified again; its bound names are
 -- printed, none as a name that is taken.
@@ -27,21 +28,21 @@ pub record IsWrittenBy (taken : List Text) (n : ℕ) (old new : Ex) (m : ℕ) : 
   pub refined : is_refined last ≡ true
   pub writes : new ≡ written_for taken last
 
--- What comes of printing: what is written for `old`, or nothing, where something abstract is left.
+-- What comes of printing: what is written for `old`, or nothing, where refining was given up.
 abbrev pub Prints : List Text → ℕ → Ex → Option Ex → ℕ → Type 0
 Prints taken n old (Some new) m = IsWrittenBy taken n old new m
-Prints taken n old None m = (last : Ex) × Leads IsRuled n [] old last m × (is_refined last ≡ false)
+Prints taken n old None m = (last : Ex) × Leads IsRuled n [] old last m × IsGivenUp n old last m
 
 -- The same with reserved names from the n-th on, however many.
 abbrev pub PrintsFrom : List Text → ℕ → Ex → Option Ex → Type 0
 PrintsFrom taken n old new = (m : ℕ) × Prints taken n old new m
 
--- Nothing is written for `old`: the tree to which rules lead has something abstract left, or what is written for it is no expression of
--- a model where earlier lines declare s.
-pub record IsNotWrittenBy (s : Scope) (taken : List Text) (n : ℕ) (old : Ex) (m : ℕ) : Type 0 where
-  pub last : Ex
-  pub leads : Leads IsRuled n [] old last m
-  pub fails : (is_refined last && is_lowerable s (written_for taken last)) ≡ false
+-- Nothing is written for `old`: refining it was given up, or nothing abstract is left of it, and what is written for that is no expression
+-- of a model where earlier lines declare s.
+pub data IsNotWrittenBy (s : Scope) (taken : List Text) (n : ℕ) (old : Ex) (m : ℕ) : Type 0 where
+  given_up : (last : Ex) → Leads IsRuled n [] old last m → IsGivenUp n old last m → IsNotWrittenBy s taken n old m
+  not_lowered : (last : Ex) → Leads IsRuled n [] old last m → is_refined last ≡ true → is_lowerable s (written_for taken last) ≡ false
+      → IsNotWrittenBy s taken n old m
 
 -- What comes of writing: an expression of a model, or nothing.
 abbrev pub Comes : Scope → List Text → ℕ → Ex → Option Ex → ℕ → Type 0

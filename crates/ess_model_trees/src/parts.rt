@@ -16,9 +16,10 @@ use ess_rows::{Boxed, NoMemory};
 use std::alloc::Global;
 
 /// What is written for a tree over tables, where these lines declare names; no bound name is printed as one that is taken. Its bound
-/// names are told apart first: they become reserved names from the one with this number on. `None` where it can't be written: something
-/// abstract is left of it when no rule fires any more, or no tree of a model stands for what is left. `NoMemory` where there is no room
-/// for it, or the reserved names can't be counted.
+/// names are told apart first: they become reserved names from the one with this number on. `None` where it can't be written: refining
+/// was given up, since something abstract is left and none of the rules that are asked fires any more, or 2,000,000 have fired; or
+/// nothing abstract is left, and no tree of a model stands for what is left. `NoMemory` where there is no room for it, or the reserved
+/// names can't be counted.
 pub fn tree_written(
     alloc: Global,
     number: u64,
@@ -34,8 +35,7 @@ pub fn tree_written(
     written(alloc, tree, taken, lines, &mut next)
 }
 
-/// The same without the last step: the tree with printed names. `None` where something abstract is left of it when no rule fires any
-/// more. `NoMemory` as above.
+/// The same without the last step: the tree with printed names. `None` where refining was given up, and `NoMemory`, as above.
 pub fn tree_printed(
     alloc: Global,
     number: u64,

@@ -21,10 +21,11 @@ const MOST_NAMES: u64 = 4_611_686_018_427_387_904;
 
 /// The expression of a model that is written for a tree over tables, where these lines declare names: the tree is refined under no
 /// names and simplified, gets plain keys, is simplified again, its bound names are printed, none as a name that is taken, and it becomes
-/// the tree of a model. `None` where something abstract is left when no rule fires any more, or no tree of a model stands for what is
-/// left. Reserved names are taken from `next` on, and the number of the one behind them is left there. `NoMemory` where there is no room
-/// for it, or the reserved names can't be counted.
-#[tactic(auto, using(crate::proofs::Coming::comes_nothing, crate::proofs::Coming::comes_lowered))]
+/// the tree of a model. `None` where it can't be written: refining was given up, since something abstract is left and none of the rules
+/// that are asked fires any more, or 2,000,000 have fired; or nothing abstract is left, and no tree of a model stands for what is left.
+/// Reserved names are taken from `next` on, and the number of the one behind them is left there. `NoMemory` where there is no room for
+/// it, or the reserved names can't be counted.
+#[tactic(auto, using(crate::proofs::Coming::comes_lowered))]
 pub fn written(
     alloc: Global,
     node: Boxed<Node>,
@@ -41,7 +42,7 @@ pub fn written(
     }
 }
 
-/// The same without the last step: the tree with printed names. `None` where something abstract is left when no rule fires any more.
+/// The same without the last step: the tree with printed names. `None` where refining was given up, as above.
 #[tactic(auto, using(crate::proofs::Coming::prints_nothing, crate::proofs::Coming::prints_last))]
 pub(crate) fn printing(
     alloc: Global,

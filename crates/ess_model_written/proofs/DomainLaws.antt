@@ -3,12 +3,11 @@ use Rattle.std.proofs.Common.{◌≡◌, refl, sym, ap, ◌∙◌, subst, ℕ, B
 use Rattle.ess_semantics.specs.Lists.{when}
 use Rattle.ess_semantics.specs.Values.{Text}
 use Rattle.ess_semantics.specs.Trees.{Ends, one_value, both_ends, low_end, high_end, Ex, Exs, no_exs, more_exs, Dom, int_dom}
-use Rattle.ess_semantics.specs.Refined.{is_refined}
 use Rattle.ess_grammar.specs.Models.{Scope}
 use Rattle.ess_grammar.specs.Readable.{fit_ranges}
 use Rattle.eprime_lowering_laws.specs.Lowerable.{is_lowerable, are_lowerable}
 use Rattle.eprime_lowering.specs.Lowered.{lowered_dom}
-use Rattle.ess_model_trees.specs.Written.{written_for}
+use Rattle.ess_model_trees.specs.Written.{given_up, not_lowered}
 use Rattle.ess_model_written.specs.Bounds.{BoundPrints, EachPrints, OneSticks}
 use Rattle.ess_model_written.specs.DeclarationsWritten.{BoundComes, BoundsAreWritten, OneBoundFails, DomComes}
 
@@ -33,28 +32,10 @@ module _ (s : Scope) (taken : List Text) (k : ℕ) where
   written e f p h = (p.0, (p.1, h))
 
   stuck : (e : Ex) → BoundPrints taken k e None → BoundComes s taken k e None
-  stuck e p = (
-    p.0,
-    record {
-      last = p.1.0;
-      leads = p.1.1;
-      fails = subst (λ b. (b && is_lowerable s (written_for taken p.1.0)) ≡ false) (sym p.1.2) refl;
-    },
-  )
-
-  none-lowered : (b c : Bool) → c ≡ false → (b && c) ≡ false
-  none-lowered true c h = h
-  none-lowered false c h = refl
+  stuck e p = (p.0, given_up p.1.0 p.1.1 p.1.2)
 
   refused : (e f : Ex) → BoundPrints taken k e (Some f) → is_lowerable s f ≡ false → BoundComes s taken k e None
-  refused e f p h = (
-    p.0,
-    record {
-      last = p.1.last;
-      leads = p.1.leads;
-      fails = none-lowered (is_refined p.1.last) (is_lowerable s (written_for taken p.1.last)) (ap (is_lowerable s) (sym p.1.writes) ∙ h);
-    },
-  )
+  refused e f p h = (p.0, not_lowered p.1.last p.1.leads p.1.refined (ap (is_lowerable s) (sym p.1.writes) ∙ h))
 
   -- ---- several bounds
 

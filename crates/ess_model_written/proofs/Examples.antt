@@ -1,14 +1,15 @@
 -- Worked examples: what is written for domains and declared tables, and for which nothing is.
-use Rattle.std.proofs.Common.{◌≡◌, refl, sym, subst, ◌<◌, ◌^◌, true, false, ◌&&◌, inl, inr, [], ◌∷◌, Some, None, codes, arith}
+use Rattle.std.proofs.Common.{◌≡◌, refl, sym, subst, ◌<◌, ◌^◌, true, false, inl, inr, [], ◌∷◌, Some, None, codes, arith}
 use Rattle.std.proofs.Math.Nat.{le_refl}
 use Rattle.std.specs.Fmt.{digits}
+use Rattle.ess_semantics.specs.declared.words.Op1.{Op1}
 use Rattle.ess_semantics.specs.declared.words.Op2.{Op2}
 use Rattle.ess_semantics.specs.declared.words.Fun.{Fun}
 use Rattle.ess_semantics.specs.Values.{Text}
 use Rattle.ess_semantics.specs.Trees.{name_pat, both_ends, Ex, comp_ex, cell_ex, no_exs, more_exs, no_gens, over, bool_dom, int_dom}
 use Rattle.ess_semantics.specs.DeclaredTables.{TableDecl}
 use Rattle.ess_semantics.specs.Refined.{is_refined}
-use Rattle.ess_semantics.proofs.Shorthands.{N, n, es1, bi, fn, range, upto, set}
+use Rattle.ess_semantics.proofs.Shorthands.{N, n, es1, un, bi, fn, range, upto, set}
 use Rattle.ess_grammar.specs.Models.{Scope, empty_scope, with_given}
 use Rattle.eprime_tree.specs.declared.models.PDecl.{PDecl}
 use Rattle.eprime_tree.specs.Views.{pure_decl}
@@ -17,7 +18,9 @@ use Rattle.eprime_read_convert.specs.Lines.{scope_of}
 use Rattle.eprime_lowering_laws.specs.Lowerable.{is_lowerable}
 use Rattle.conjure_model_laws.specs.ToldApart.{told, told_apart}
 use Rattle.ess_model_trees.specs.ess_refine.Chains.{as_it_was}
-use Rattle.ess_model_trees.specs.Written.{written_for}
+use Rattle.ess_model_trees.specs.ess_refine.Refinements.{IsGivenUp, where_none_fires}
+use Rattle.ess_model_trees.specs.Written.{written_for, given_up, not_lowered}
+use Rattle.ess_model_trees.proofs.Rests.{rests-settled}
 use Rattle.ess_model_written.specs.Bounds.{BoundPrints, BoundsPrint}
 use Rattle.ess_model_written.specs.DeclarationsWritten.{BoundComes, DomIsWritten, DomComes, DeclComes, adding}
 use Rattle.ess_model_written.specs.Coming.{DeclsAreWritten, none_written, one_written, OneDeclFails, DeclsCome}
@@ -38,18 +41,22 @@ as_written : (s : Scope) (e new : Ex) → (told e [] 2).1 < 2 ^ 62 → is_refine
 as_written s e new f h w l = ((as_printed e new f h w).0, ((as_printed e new f h w).1, l))
 
 -- Else nothing is.
-not_written : (s : Scope) (e : Ex) → (is_refined (told_apart 2 e) && is_lowerable s (written_for [] (told_apart 2 e))) ≡ false
+not_written : (s : Scope) (e : Ex) → is_refined (told_apart 2 e) ≡ true → is_lowerable s (written_for [] (told_apart 2 e)) ≡ false
     → BoundComes s [] 2 e None
-not_written s e h =
-    ((told e [] 2).1, record { last = told_apart 2 e; leads = as_it_was (le_refl (told e [] 2).1); fails = h })
+not_written s e r h = ((told e [] 2).1, not_lowered (told_apart 2 e) (as_it_was (le_refl (told e [] 2).1)) r h)
 
 -- sum([x | x : int(1..3)])
 abbrev total : Text → Ex
 total x = fn Fun.Sum (comp_ex (N x) (over (name_pat x) (upto 3) no_gens))
 
--- x in s, as a number
+-- |s union t|
 abbrev abstract : Ex
-abstract = fn Fun.ToInt (bi Op2.Member (N (codes "x")) (N (codes "s")))
+abstract = un Op1.Bar (bi Op2.Union (N (codes "s")) (N (codes "t")))
+
+-- no rule fires at any part of it where s and t are only names
+none_fires : IsGivenUp 2 abstract abstract 2
+unfolding digits
+none_fires = where_none_fires refl (rests-settled 2 abstract refl)
 
 -- 1 and sum([x | x : int(1..3)]) are printed as 1 and sum([q1 | q1 : int(1..3)])
 bounds_print : BoundsPrint [] 2 (more_exs (n 1) (es1 (total (codes "x")))) (Some (more_exs (n 1) (es1 (total (codes "q1")))))
@@ -59,9 +66,9 @@ bounds_print = (
   (as_printed (total (codes "x")) (total (codes "q1")) (omega arith) refl refl, tt),
 )
 
--- nothing is, where `x in s` is left of one
+-- nothing is, where no rule fires at one in which something abstract is left
 bounds_stick : BoundsPrint [] 2 (more_exs (n 1) (es1 abstract)) None
-bounds_stick = inr (inl (2, (abstract, as_it_was (le_refl 2), refl)))
+bounds_stick = inr (inl (2, (abstract, as_it_was (le_refl 2), none_fires)))
 
 -- ---- domains
 
@@ -80,7 +87,7 @@ ranges_stay = (
   ),
 )
 
--- nothing is written for a range without one of its bounds, for a domain of sets, and where something abstract is left of a bound
+-- nothing is written for a range without one of its bounds, for a domain of sets, and where refining a bound was given up
 bound_lacks : DomComes empty_scope [] 2 (int_dom (both_ends ∷ []) (es1 (n 1))) None
 bound_lacks = inl refl
 
@@ -88,7 +95,7 @@ sets_fail : DomComes empty_scope [] 2 (set (upto 3)) None
 sets_fail = tt
 
 abstract_fails : DomComes empty_scope [] 2 (range (n 1) abstract) None
-abstract_fails = inr (inr (inl (not_written empty_scope abstract refl)))
+abstract_fails = inr (inr (inl (2, given_up abstract (as_it_was (le_refl 2)) none_fires)))
 
 -- ---- tables
 
@@ -135,7 +142,7 @@ both_written = one_written p_written (one_written m_written none_written)
 
 -- but not before it, since no line declares p there
 m_fails : DeclComes empty_scope [] 2 m None
-m_fails = inr (inr (inr (inl (not_written empty_scope p_as_number refl))))
+m_fails = inr (inr (inr (inl (not_written empty_scope p_as_number refl refl))))
 
 first_fails : OneDeclFails (adding false) [] 2 empty_scope (m ∷ p ∷ [])
 first_fails =

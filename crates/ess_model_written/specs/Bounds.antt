@@ -17,7 +17,7 @@ module _ (taken : List Text) (k : ℕ) where
   EachPrints (more_exs e es) (more_exs f fs) = BoundPrints e (Some f) × EachPrints es fs
   EachPrints es fs = ⊥
 
-  -- Something abstract is left of one of them.
+  -- Refining one of them was given up.
   abbrev pub OneSticks : Exs → Type 0
   OneSticks no_exs = ⊥
   OneSticks (more_exs e es) = BoundPrints e None ⊎ OneSticks es

@@ -9,8 +9,8 @@ use ess_model_trees::tree_printed;
 use ess_rows::{NoMemory, Row};
 use std::alloc::Global;
 
-/// What each of the bounds becomes: rules lead to it, and it is printed. `None` where something abstract is left of one of them when
-/// no rule fires any more. `NoMemory` where there is no room for them, or the reserved names or the turns of refining can't be counted.
+/// What each of the bounds becomes: rules lead to it, and it is printed. `None` where refining one of them was given up, as
+/// `tree_printed` says. `NoMemory` where there is no room for them, or the reserved names can't be counted.
 #[tactic(auto, using(crate::proofs::BoundSteps::bound_steps))]
 pub(crate) fn bounds_printed(
     alloc: Global,

@@ -22,9 +22,9 @@ use ess_model_trees::constraint_written;
 use ess_rows::{NoMemory, Row};
 use std::alloc::Global;
 
-/// The constraints of these statements, in order. None where one can't be written: something abstract is left of it when no rule
-/// fires any more, or no tree of a model stands for what is left. `NoMemory` where there is no room for them, or the reserved names
-/// or the turns of refining can't be counted.
+/// The constraints of these statements, in order. None where one can't be written: refining it was given up, as `constraint_written`
+/// says, or no tree of a model stands for what is left of it. `NoMemory` where there is no room for them, or the reserved names can't
+/// be counted.
 #[tactic(auto, using(crate::proofs::Written::answered_for))]
 pub fn constraints_of(
     alloc: Global,
@@ -41,7 +41,7 @@ pub fn constraints_of(
 }
 
 /// What is written for constraints.
-#[tactic(auto, using(crate::proofs::Rows::none_come, crate::proofs::Rows::all_come, crate::proofs::Rows::one_lacks))]
+#[tactic(auto, using(crate::proofs::Rows::none_come, crate::proofs::Rows::all_come))]
 fn nodes_written(
     alloc: Global,
     shows: &Shows,

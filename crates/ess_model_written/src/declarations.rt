@@ -19,9 +19,8 @@ use std::alloc::Global;
 
 /// The declaration of a model that is written for a declared table, where these stand over tables in the place of names, and these
 /// lines declare names; no bound name is printed as one that is taken. Each bound of a domain is refined. `None` where nothing is
-/// written for it: its axes and cells aren't all of truth values or numbers, something abstract is left of a bound when no rule fires
-/// any more, or no tree of a model stands for what is left. `NoMemory` where there is no room for it, or the reserved names or the
-/// turns of refining can't be counted.
+/// written for it: its axes and cells aren't all of truth values or numbers, refining a bound was given up, as `tree_printed` says, or
+/// no tree of a model stands for what is left of one. `NoMemory` where there is no room for it, or the reserved names can't be counted.
 pub fn decl_written(
     alloc: Global,
     shows: &Shows,

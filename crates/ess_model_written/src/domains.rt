@@ -18,7 +18,7 @@ use std::alloc::Global;
 
 /// What is written for a domain, where these lines declare names: `bool` stays, and each bound of a domain of numbers is refined, with
 /// its bound names told apart from the reserved name of this number on. `None` where nothing is. `NoMemory` where there is no room for
-/// it, or the reserved names or the turns of refining can't be counted.
+/// it, or the reserved names can't be counted.
 pub(crate) fn dom_written(
     alloc: Global,
     number: u64,

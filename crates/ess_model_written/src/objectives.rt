@@ -31,9 +31,9 @@ struct Both {
     condition: Boxed<PEx>,
 }
 
-/// The objective of these statements, with the rule that it has a value. None where one of them can't be written: something abstract is
-/// left of it when no rule fires any more, or no tree of a model stands for what is left. `NoMemory` where there is no room for them, or
-/// the reserved names or the turns of refining can't be counted.
+/// The objective of these statements, with the rule that it has a value. None where one of them can't be written: refining it was given
+/// up, as `constraint_written` says, or no tree of a model stands for what is left of it. `NoMemory` where there is no room for them, or
+/// the reserved names can't be counted.
 pub fn objective_of(
     alloc: Global,
     shows: &Shows,

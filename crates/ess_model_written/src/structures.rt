@@ -22,8 +22,8 @@ use ess_translate_plans::Plan;
 use std::alloc::Global;
 
 /// The rules that the tables of the finds are canonical, plan by plan, but for those that are `true`. None where one can't be written:
-/// something abstract is left of it when no rule fires any more, or no tree of a model stands for what is left. `NoMemory` where there
-/// is no room for them, or the reserved names or the turns of refining can't be counted.
+/// refining it was given up, as `tree_written` says, or no tree of a model stands for what is left of it. `NoMemory` where there is no
+/// room for them, or the reserved names can't be counted.
 pub fn structures_of(
     alloc: Global,
     shows: &Shows,

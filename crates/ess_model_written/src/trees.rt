@@ -17,7 +17,7 @@ use std::alloc::Global;
 
 /// What is written for these trees, whose bound names are told apart first, with reserved names from a number on. None where one can't
 /// be written.
-#[tactic(auto, using(crate::proofs::Rows::none_come, crate::proofs::Rows::all_come, crate::proofs::Rows::one_lacks))]
+#[tactic(auto, using(crate::proofs::Rows::none_come, crate::proofs::Rows::all_come))]
 pub(crate) fn all_written(
     alloc: Global,
     number: u64,
@@ -39,7 +39,7 @@ pub(crate) fn all_written(
 }
 
 /// The same, but that `true` isn't written.
-#[tactic(auto, using(crate::proofs::Rows::none_used, crate::proofs::Rows::all_used, crate::proofs::Rows::one_lacks))]
+#[tactic(auto, using(crate::proofs::Rows::none_used, crate::proofs::Rows::all_used))]
 pub(crate) fn all_used(
     alloc: Global,
     number: u64,

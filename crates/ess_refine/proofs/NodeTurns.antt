@@ -1,138 +1,119 @@
 -- What a pass makes of a node, by its form.
-use Rattle.std.proofs.Common.{◌≡◌, refl, sym, ap, ◌∙◌, subst, ℕ, ◌≤◌, Bool, List, [], map, Option, Some, None, arith}
+use Rattle.std.proofs.Common.{◌≡◌, refl, sym, ap, ap₂, ◌∙◌, subst, Bool, List, [], Option, Some, None}
 use Rattle.std.specs.Prelude.{option_map}
 use Rattle.ess_semantics.specs.Values.{Text}
 use Rattle.ess_semantics.specs.Names.{Names}
-use Rattle.ess_semantics.specs.Trees.{Ex, Dom}
+use Rattle.ess_semantics.specs.Trees.{Ex, seen_ex}
 use Rattle.ess_semantics.specs.Types.{Ty}
-use Rattle.ess_semantics.specs.Contexts.{hole, fill_exs, fill_gens}
-use Rattle.ess_semantics.specs.NamesAt.{names_behind, names_at_exs, names_at_gens}
-use Rattle.ess_core.specs.TreeViews.{Item}
-use Rattle.ess_core.specs.declared.expressions.Pat.{Pat}
+use Rattle.ess_semantics.specs.Contexts.{hole, fill}
+use Rattle.ess_semantics.specs.NamesAt.{names_behind, names_at}
+use Rattle.ess_core.specs.TreeViews.{pure_repr}
+use Rattle.ess_core.specs.declared.representations.Repr.{Repr}
 use Rattle.ess_core_nodes.specs.declared.words.Op.{Op}
-use Rattle.ess_core_nodes.specs.declared.words.Ends.{Ends}
 use Rattle.ess_core_nodes.specs.declared.nodes.Node.TheVariants as node
 use Rattle.ess_core_nodes.specs.declared.nodes.Node.{Node}
-use Rattle.ess_core_nodes.specs.declared.nodes.Gen.TheVariants as gen
 use Rattle.ess_core_nodes.specs.declared.nodes.Gen.{Gen}
-use Rattle.ess_core_nodes.specs.declared.nodes.NodeDom.TheVariants as dom
+use Rattle.ess_core_nodes.specs.declared.nodes.Gen.TheViews.{out-Seen}
+use Rattle.ess_core_nodes.specs.declared.nodes.Seen.{Seen, roll-Seen}
 use Rattle.ess_core_nodes.specs.declared.nodes.NodeDom.{NodeDom}
-use Rattle.ess_core_nodes.specs.NodeViews.{pure_node, pure_nodes, pure_gen, pure_gens, pure_dom, pure_doms, pure_op, pure_ends}
-use Rattle.ess_rules.specs.Ruled.{IsRuled, IsTurn}
-use Rattle.ess_refine.specs.Chains.{as_it_was, led_at, Leads, AllLead, GensLead, DomLeads, DomsLead, ItemLeads}
-use Rattle.ess_core_nodes.proofs.NodeEquations.{pure_gen_over, pure_gen_from, pure_gen_if}
-use Rattle.ess_refine.proofs.NodeForms.{pure_operator, pure_matrix_on, pure_comprehension, pure_cell, pure_int, pure_tuple, pure_record, pure_matrix}
-use Rattle.ess_refine.proofs.Chains.{leads-lower, operands_lead, index_leads, matrix_leads, comprehension_leads, bounds_lead, components_lead, fields_lead, matrices_lead, passes_lead}
+use Rattle.ess_core_nodes.specs.NodeViews.{pure_node, pure_nodes, pure_gens, pure_dom, pure_seen, pure_op}
+use Rattle.ess_core_nodes.proofs.NodeEquations.{pure_seen_is}
+use Rattle.ess_refine.specs.Passes.{IsTaken, Passes, AllPass, GensPass, DomPasses}
+use Rattle.ess_refine.specs.declared.passing.Turns.{Turns}
+use Rattle.ess_refine.proofs.NodeForms.{pure_operator, pure_matrix_on, pure_comprehension, pure_cell, pure_view, pure_made}
+use Rattle.ess_refine.proofs.Chains.{passes-none, passes-once, passes-then, passes-from}
+use Rattle.ess_refine.proofs.Parts.{operands_pass, index_passes, matrix_passes, comprehension_passes, view_passes}
+
+-- Nothing was counted.
+abbrev pub Stays : Turns → Turns → Type 0
+Stays o n = (n.next ≡ o.next) × (n.left ≡ o.left)
 
 -- A rule at the root.
-pub turn_leads : (n m : ℕ) (g : Names Ty) (a : Ex) (o : Option Node) (x y : Node) → IsTurn n g a (option_map pure_node o) m → o ≡ Some x
-    → y ≡ x → Leads IsRuled n g a (pure_node y) m
-turn_leads n m g a o x y h e d = subst (λ z. Leads IsRuled n g a (pure_node z) m) (sym d)
-    (led_at hole (omega arith) (subst (λ p. IsTurn n g a (option_map pure_node p) m) e h) (as_it_was (omega arith)))
+pub turn_passes : (o n : Turns) (g : Names Ty) (a : Ex) (f : Option Node) (x y : Node) → IsTaken o g a (option_map pure_node f) n
+    → f ≡ Some x → y ≡ x → Passes o g a (pure_node y) n
+turn_passes o n g a f x y h e d = subst (λ z. Passes o g a (pure_node z) n) (sym d)
+    (let t : IsTaken o g a (Some (pure_node x)) n = subst (λ p. IsTaken o g a (option_map pure_node p) n) e h in
+    passes-once fill names_at o n g hole a (pure_node x) t.0 t.1)
 
 -- None there.
-pub none_turn : (n m : ℕ) (g : Names Ty) (a : Ex) (o : Option Node) → IsTurn n g a (option_map pure_node o) m → o ≡ None → n ≤ m
-none_turn n m g a o h e = subst (λ p. IsTurn n g a (option_map pure_node p) m) e h
+pub none_turn : (o n : Turns) (g : Names Ty) (a : Ex) (f : Option Node) → IsTaken o g a (option_map pure_node f) n → f ≡ None → Stays o n
+none_turn o n g a f h e = subst (λ p. IsTaken o g a (option_map pure_node p) n) e h
 
-pub stays_turn : (n m : ℕ) (g : Names Ty) (x y : Node) → n ≤ m → x ≡ y → Leads IsRuled n g (pure_node x) (pure_node y) m
-stays_turn n m g x y h e = subst (λ z. Leads IsRuled n g (pure_node x) (pure_node z) m) e (as_it_was h)
+pub stays_turn : (o n : Turns) (g : Names Ty) (x y : Node) → Stays o n → x ≡ y → Passes o g (pure_node x) (pure_node y) n
+stays_turn o n g x y h e =
+    subst (λ z. Passes o g (pure_node x) (pure_node z) n) e (passes-none fill names_at o n g (pure_node x) h.0 h.1)
 
--- Equal trees lead to equal trees.
-leads-as : (n m : ℕ) (g : Names Ty) (x y : Node) (a b : Ex) → pure_node x ≡ a → pure_node y ≡ b → Leads IsRuled n g a b m
-    → Leads IsRuled n g (pure_node x) (pure_node y) m
-leads-as n m g x y a b e q w =
-    subst (λ z. Leads IsRuled n g z (pure_node y) m) (sym e) (subst (λ z. Leads IsRuled n g a z m) (sym q) w)
+-- Equal trees.
+passes-as : (o n : Turns) (g : Names Ty) (x y : Node) (a b : Ex) → pure_node x ≡ a → pure_node y ≡ b → Passes o g a b n
+    → Passes o g (pure_node x) (pure_node y) n
+passes-as o n g x y a b e q w =
+    subst (λ z. Passes o g z (pure_node y) n) (sym e) (subst (λ z. Passes o g a z n) (sym q) w)
 
-dom-as : (n m : ℕ) (g : Names Ty) (x y : NodeDom) (a b : Dom) → pure_dom x ≡ a → pure_dom y ≡ b → DomLeads IsRuled n g a b m
-    → DomLeads IsRuled n g (pure_dom x) (pure_dom y) m
-dom-as n m g x y a b e q w =
-    subst (λ z. DomLeads IsRuled n g z (pure_dom y) m) (sym e) (subst (λ z. DomLeads IsRuled n g a z m) (sym q) w)
+-- ---- by the form
 
-item-as : (n m : ℕ) (g : Names Ty) (x y : Gen) (a b : Item) → pure_gen x ≡ a → pure_gen y ≡ b → ItemLeads IsRuled n g a b m
-    → ItemLeads IsRuled n g (pure_gen x) (pure_gen y) m
-item-as n m g x y a b e q w =
-    subst (λ z. ItemLeads IsRuled n g z (pure_gen y) m) (sym e) (subst (λ z. ItemLeads IsRuled n g a z m) (sym q) w)
+pub op_turn : (o k n : Turns) (g : Names Ty) (x : Node) (b : Bool) (op : Op) (es fs : List Node) → Stays o k → x ≡ node.Op b op es
+    → AllPass k g (pure_nodes es) (pure_nodes fs) n → Passes o g (pure_node x) (pure_node (node.Op b op fs)) n
+op_turn o k n g x b op es fs h e w =
+    passes-as o n g x (node.Op b op fs) _ _ (ap pure_node e ∙ pure_operator b op es) (pure_operator b op fs)
+    (passes-from fill names_at o k n g _ _ h (operands_pass k n g b (pure_op op) (pure_nodes es) (pure_nodes fs) w))
 
--- ---- nodes
+pub cell_turn : (o k n : Turns) (g : Names Ty) (x : Node) (b : Bool) (a : Text) (es fs : List Node) → Stays o k → x ≡ node.Cell b a es
+    → AllPass k g (pure_nodes es) (pure_nodes fs) n → Passes o g (pure_node x) (pure_node (node.Cell b a fs)) n
+cell_turn o k n g x b a es fs h e w = passes-as o n g x (node.Cell b a fs) _ _ (ap pure_node e ∙ pure_cell b a es) (pure_cell b a fs)
+    (passes-from fill names_at o k n g _ _ h (index_passes k n g b a (pure_nodes es) (pure_nodes fs) w))
 
-pub op_turn : (n k m : ℕ) (g : Names Ty) (x : Node) (b : Bool) (op : Op) (es fs : List Node) → n ≤ k → x ≡ node.Op b op es
-    → AllLead IsRuled k g (pure_nodes es) (pure_nodes fs) m → Leads IsRuled n g (pure_node x) (pure_node (node.Op b op fs)) m
-op_turn n k m g x b op es fs h e w = leads-as n m g x (node.Op b op fs) _ _ (ap pure_node e ∙ pure_operator b op es) (pure_operator b op fs)
-    (operands_lead IsRuled n m g b (pure_op op) (pure_nodes es) (pure_nodes fs)
-    (leads-lower IsRuled fill_exs names_at_exs n k m g (pure_nodes es) (pure_nodes fs) h w))
+pub matrix_turn : (o k l n : Turns) (g : Names Ty) (x : Node) (es fs : List Node) (d e : NodeDom) → Stays o k → x ≡ node.MatrixOn es d
+    → AllPass k g (pure_nodes es) (pure_nodes fs) l → DomPasses l g (pure_dom d) (pure_dom e) n
+    → Passes o g (pure_node x) (pure_node (node.MatrixOn fs e)) n
+matrix_turn o k l n g x es fs d e h q w z =
+    passes-as o n g x (node.MatrixOn fs e) _ _ (ap pure_node q ∙ pure_matrix_on es d) (pure_matrix_on fs e)
+    (passes-from fill names_at o k n g _ _ h
+    (matrix_passes k l n g (pure_nodes es) (pure_nodes fs) (pure_dom d) (pure_dom e) w z))
 
-pub cell_turn : (n k m : ℕ) (g : Names Ty) (x : Node) (b : Bool) (a : Text) (es fs : List Node) → n ≤ k → x ≡ node.Cell b a es
-    → AllLead IsRuled k g (pure_nodes es) (pure_nodes fs) m → Leads IsRuled n g (pure_node x) (pure_node (node.Cell b a fs)) m
-cell_turn n k m g x b a es fs h e w = leads-as n m g x (node.Cell b a fs) _ _ (ap pure_node e ∙ pure_cell b a es) (pure_cell b a fs)
-    (index_leads IsRuled n m g b a (pure_nodes es) (pure_nodes fs)
-    (leads-lower IsRuled fill_exs names_at_exs n k m g (pure_nodes es) (pure_nodes fs) h w))
+pub comp_turn : (o k l n : Turns) (g u : Names Ty) (x e f : Node) (gs hs is : List Gen) → Stays o k → x ≡ node.Comp e gs
+    → GensPass k g (pure_gens gs) (pure_gens hs) l → is ≡ hs → u ≡ names_behind (pure_gens is) g
+    → Passes l u (pure_node e) (pure_node f) n → Passes o g (pure_node x) (pure_node (node.Comp f hs)) n
+comp_turn o k l n g u x e f gs hs is h q w i b z =
+    passes-as o n g x (node.Comp f hs) _ _ (ap pure_node q ∙ pure_comprehension e gs) (pure_comprehension f hs)
+    (passes-from fill names_at o k n g _ _ h
+    (comprehension_passes k l n g (pure_node e) (pure_node f) (pure_gens gs) (pure_gens hs) w
+    (subst (λ v. Passes l (names_behind (pure_gens v) g) (pure_node e) (pure_node f) n) i
+    (subst (λ v. Passes l v (pure_node e) (pure_node f) n) b z))))
 
-pub matrix_turn : (n k l m : ℕ) (g : Names Ty) (x : Node) (es fs : List Node) (d e : NodeDom) → n ≤ k → x ≡ node.MatrixOn es d
-    → AllLead IsRuled k g (pure_nodes es) (pure_nodes fs) l → DomLeads IsRuled l g (pure_dom d) (pure_dom e) m
-    → Leads IsRuled n g (pure_node x) (pure_node (node.MatrixOn fs e)) m
-matrix_turn n k l m g x es fs d e h q w z =
-    leads-as n m g x (node.MatrixOn fs e) _ _ (ap pure_node q ∙ pure_matrix_on es d) (pure_matrix_on fs e)
-    (matrix_leads IsRuled n l m g (pure_nodes es) (pure_nodes fs) (pure_dom d) (pure_dom e)
-    (leads-lower IsRuled fill_exs names_at_exs n k l g (pure_nodes es) (pure_nodes fs) h w) z)
+-- The parts of a view.
+pub parts_turn : (o k n : Turns) (g : Names Ty) (v : Seen) (r : Repr) (xs : List Text) (e : NodeDom) (fs : List Node)
+    → r ≡ (out-Seen v).repr → xs ≡ (out-Seen v).cells → DomPasses o g (pure_dom (out-Seen v).dom) (pure_dom e) k
+    → AllPass k g (pure_nodes (out-Seen v).at) (pure_nodes fs) n
+    → Passes o g (pure_seen v) (pure_seen (roll-Seen record { repr = r; dom = e; cells = xs; at = fs })) n
+parts_turn o k n g v r xs e fs p q w z =
+    subst (λ a. Passes o g a (pure_seen (roll-Seen record { repr = r; dom = e; cells = xs; at = fs })) n) (sym (pure_seen_is v))
+    (subst (λ b. Passes o g (seen_ex (pure_repr (out-Seen v).repr) (pure_dom (out-Seen v).dom) (out-Seen v).cells
+    (pure_nodes (out-Seen v).at)) b n)
+    (ap₂ (λ r xs. seen_ex (pure_repr r) (pure_dom e) xs (pure_nodes fs)) (sym p) (sym q) ∙ sym (pure_made r e xs fs))
+    (view_passes o k n g (pure_repr (out-Seen v).repr) (pure_dom (out-Seen v).dom) (pure_dom e) (out-Seen v).cells
+    (pure_nodes (out-Seen v).at) (pure_nodes fs) w z))
 
-pub comp_turn : (n k l m : ℕ) (g u : Names Ty) (x e f : Node) (gs hs is : List Gen) → n ≤ k → x ≡ node.Comp e gs
-    → GensLead IsRuled k g (pure_gens gs) (pure_gens hs) l → is ≡ hs → u ≡ names_behind (pure_gens is) g
-    → Leads IsRuled l u (pure_node e) (pure_node f) m → Leads IsRuled n g (pure_node x) (pure_node (node.Comp f hs)) m
-comp_turn n k l m g u x e f gs hs is h q w i b z =
-    leads-as n m g x (node.Comp f hs) _ _ (ap pure_node q ∙ pure_comprehension e gs) (pure_comprehension f hs)
-    (comprehension_leads IsRuled n l m g (pure_node e) (pure_node f) (pure_gens gs) (pure_gens hs)
-    (leads-lower IsRuled fill_gens names_at_gens n k l g (pure_gens gs) (pure_gens hs) h w)
-    (subst (λ v. Leads IsRuled l (names_behind (pure_gens v) g) (pure_node e) (pure_node f) m) i
-    (subst (λ v. Leads IsRuled l v (pure_node e) (pure_node f) m) b z)))
+pub view_stays : (o : Turns) (g : Names Ty) (v : Seen) → Passes o g (pure_seen v) (pure_seen v) o
+view_stays o g v = passes-none fill names_at o o g (pure_seen v) refl refl
 
--- ---- domains
+pub view_turn : (o k n : Turns) (g : Names Ty) (x : Node) (v u w : Seen) → Stays o k → x ≡ node.Seen v → u ≡ v
+    → Passes k g (pure_seen u) (pure_seen w) n → Passes o g (pure_node x) (pure_node (node.Seen w)) n
+view_turn o k n g x v u w h e q z =
+    passes-as o n g x (node.Seen w) _ _ (ap pure_node (e ∙ ap node.Seen (sym q)) ∙ pure_view u) (pure_view w)
+    (passes-from fill names_at o k n g _ _ h z)
 
-pub bounds_turn : (n m : ℕ) (g : Names Ty) (x : NodeDom) (rs : List Ends) (es fs : List Node) → x ≡ dom.Int rs es
-    → AllLead IsRuled n g (pure_nodes es) (pure_nodes fs) m → DomLeads IsRuled n g (pure_dom x) (pure_dom (dom.Int rs fs)) m
-bounds_turn n m g x rs es fs e w = dom-as n m g x (dom.Int rs fs) _ _ (ap pure_dom e ∙ pure_int rs es) (pure_int rs fs)
-    (bounds_lead IsRuled n m g (map pure_ends rs) (pure_nodes es) (pure_nodes fs) w)
-
-pub tuple_turn : (n m : ℕ) (g : Names Ty) (x : NodeDom) (ds es : List NodeDom) → x ≡ dom.Tuple ds
-    → DomsLead IsRuled n g (pure_doms ds) (pure_doms es) m → DomLeads IsRuled n g (pure_dom x) (pure_dom (dom.Tuple es)) m
-tuple_turn n m g x ds es e w = dom-as n m g x (dom.Tuple es) _ _ (ap pure_dom e ∙ pure_tuple ds) (pure_tuple es)
-    (components_lead IsRuled n m g (pure_doms ds) (pure_doms es) w)
-
-pub record_turn : (n m : ℕ) (g : Names Ty) (x : NodeDom) (fs : List Text) (ds es : List NodeDom) → x ≡ dom.Record fs ds
-    → DomsLead IsRuled n g (pure_doms ds) (pure_doms es) m → DomLeads IsRuled n g (pure_dom x) (pure_dom (dom.Record fs es)) m
-record_turn n m g x fs ds es e w = dom-as n m g x (dom.Record fs es) _ _ (ap pure_dom e ∙ pure_record fs ds) (pure_record fs es)
-    (fields_lead IsRuled n m g fs (pure_doms ds) (pure_doms es) w)
-
-pub axes_turn : (n k m : ℕ) (g : Names Ty) (x : NodeDom) (is js : List NodeDom) (d e : NodeDom) → x ≡ dom.Matrix is d
-    → DomsLead IsRuled n g (pure_doms is) (pure_doms js) k → DomLeads IsRuled k g (pure_dom d) (pure_dom e) m
-    → DomLeads IsRuled n g (pure_dom x) (pure_dom (dom.Matrix js e)) m
-axes_turn n k m g x is js d e q w z = dom-as n m g x (dom.Matrix js e) _ _ (ap pure_dom q ∙ pure_matrix is d) (pure_matrix js e)
-    (matrices_lead IsRuled n k m g (pure_doms is) (pure_doms js) (pure_dom d) (pure_dom e) w z)
-
-pub dom_stays : (n : ℕ) (g : Names Ty) (x y : NodeDom) → x ≡ y → DomLeads IsRuled n g (pure_dom x) (pure_dom y) n
-dom_stays n g x y e = subst (λ z. DomLeads IsRuled n g (pure_dom x) (pure_dom z) n) e (as_it_was (omega arith))
-
--- ---- generators
-
-pub over_turn : (n m : ℕ) (g : Names Ty) (x : Gen) (p : Pat) (d e : NodeDom) → x ≡ gen.Over p d
-    → DomLeads IsRuled n g (pure_dom d) (pure_dom e) m → ItemLeads IsRuled n g (pure_gen x) (pure_gen (gen.Over p e)) m
-over_turn n m g x p d e q w =
-    item-as n m g x (gen.Over p e) _ _ (ap pure_gen q ∙ pure_gen_over p d) (pure_gen_over p e) (refl, w)
-
-pub from_turn : (n m : ℕ) (g : Names Ty) (x : Gen) (p : Pat) (d e : Node) → x ≡ gen.From p d
-    → Leads IsRuled n g (pure_node d) (pure_node e) m → ItemLeads IsRuled n g (pure_gen x) (pure_gen (gen.From p e)) m
-from_turn n m g x p d e q w =
-    item-as n m g x (gen.From p e) _ _ (ap pure_gen q ∙ pure_gen_from p d) (pure_gen_from p e) (refl, w)
-
-pub if_turn : (n m : ℕ) (g : Names Ty) (x : Gen) (d e : Node) → x ≡ gen.If d
-    → Leads IsRuled n g (pure_node d) (pure_node e) m → ItemLeads IsRuled n g (pure_gen x) (pure_gen (gen.If e)) m
-if_turn n m g x d e q w = item-as n m g x (gen.If e) _ _ (ap pure_gen q ∙ pure_gen_if d) (pure_gen_if e) w
+-- In a box.
+pub boxed_turn : (o n : Turns) (g : Names Ty) (x a b y : Node) → a ≡ x → Passes o g (pure_node a) (pure_node b) n → y ≡ b
+    → Passes o g (pure_node x) (pure_node y) n
+boxed_turn o n g x a b y q w e =
+    subst (λ z. Passes o g (pure_node z) (pure_node y) n) q (subst (λ z. Passes o g (pure_node a) (pure_node z) n) (sym e) w)
 
 -- ---- passes
 
 -- One pass more, under no names.
-pub pass_more : (n k m : ℕ) (g : Names Ty) (a x old new y : Node) → Leads IsRuled n [] (pure_node a) (pure_node x) k → g ≡ []
-    → old ≡ x → Leads IsRuled k g (pure_node old) (pure_node new) m → y ≡ new → Leads IsRuled n [] (pure_node a) (pure_node y) m
-pass_more n k m g a x old new y w e o z q = passes_lead IsRuled n k m [] (pure_node a) (pure_node x) (pure_node y) w
-    (subst (λ v. Leads IsRuled k [] (pure_node x) (pure_node v) m) (sym q)
-    (subst (λ v. Leads IsRuled k [] (pure_node v) (pure_node new) m) o
-    (subst (λ v. Leads IsRuled k v (pure_node old) (pure_node new) m) e z)))
+pub pass_more : (o k n : Turns) (g : Names Ty) (a x old new y : Node) → Passes o [] (pure_node a) (pure_node x) k → g ≡ []
+    → old ≡ x → Passes k g (pure_node old) (pure_node new) n → y ≡ new → Passes o [] (pure_node a) (pure_node y) n
+pass_more o k n g a x old new y w e q z d = passes-then fill names_at o k n [] (pure_node a) (pure_node x) (pure_node y) w
+    (subst (λ v. Passes k [] (pure_node x) (pure_node v) n) (sym d)
+    (subst (λ v. Passes k [] (pure_node v) (pure_node new) n) q
+    (subst (λ v. Passes k v (pure_node old) (pure_node new) n) e z)))

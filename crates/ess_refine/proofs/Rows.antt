@@ -12,65 +12,65 @@ use Rattle.ess_core_nodes.specs.declared.nodes.Node.{Node}
 use Rattle.ess_core_nodes.specs.declared.nodes.Gen.{Gen}
 use Rattle.ess_core_nodes.specs.declared.nodes.NodeDom.{NodeDom}
 use Rattle.ess_core_nodes.specs.NodeViews.{pure_node, pure_nodes, pure_gen, pure_gens, pure_dom, pure_doms}
-use Rattle.ess_refine.specs.Chains.{Leads, AllLead, GensLead, DomLeads, DomsLead, ItemLeads}
-use Rattle.ess_refine.proofs.Chains.{leads-inside, leads-then}
+use Rattle.ess_refine.specs.Passes.{Passes, AllPass, GensPass, DomPasses, DomsPass, ItemPasses}
+use Rattle.ess_refine.specs.declared.passing.Turns.{Turns}
+use Rattle.ess_refine.proofs.Chains.{passes-inside, passes-then}
 
 got : {A : Type 0} (x y : A) → Some x ≡ Some y → x ≡ y
 got x y h = ap (λ o. elim o [ Some z ↦ z | None ↦ x ]) h
 
-module _ (R : ℕ → Names Ty → Ex → Ex → ℕ → Type 0) where
-  set-exs : (n m : ℕ) (g : Names Ty) (xs : List Ex) (i : ℕ) (x y : Ex) → slice_get xs i ≡ Some x → Leads R n g x y m
-      → AllLead R n g (exs_of xs) (exs_of (set xs i y)) m
-  set-exs n m g [] i x y h w = cc
-  set-exs n m g (z ∷ zs) zero x y h w = subst (λ u. AllLead R n g (more_exs u (exs_of zs)) (more_exs y (exs_of zs)) m) (sym (got z x h))
-      (leads-inside R fill names_at fill_exs names_at_exs (λ c. in_first c (exs_of zs)) (λ u. more_exs u (exs_of zs)) g g (λ c u. refl)
-      (λ c. refl) n m x y w)
-  set-exs n m g (z ∷ zs) (suc i) x y h w =
-      leads-inside R fill_exs names_at_exs fill_exs names_at_exs (in_later z) (more_exs z) g g (λ c u. refl) (λ c. refl) n m
-      (exs_of zs) (exs_of (set zs i y)) (set-exs n m g zs i x y h w)
+set-exs : (o n : Turns) (g : Names Ty) (xs : List Ex) (i : ℕ) (x y : Ex) → slice_get xs i ≡ Some x → Passes o g x y n
+    → AllPass o g (exs_of xs) (exs_of (set xs i y)) n
+set-exs o n g [] i x y h w = cc
+set-exs o n g (z ∷ zs) zero x y h w = subst (λ u. AllPass o g (more_exs u (exs_of zs)) (more_exs y (exs_of zs)) n) (sym (got z x h))
+    (passes-inside fill names_at fill_exs names_at_exs (λ c. in_first c (exs_of zs)) (λ u. more_exs u (exs_of zs)) g g (λ c u. refl)
+    (λ c. refl) o n x y w)
+set-exs o n g (z ∷ zs) (suc i) x y h w =
+    passes-inside fill_exs names_at_exs fill_exs names_at_exs (in_later z) (more_exs z) g g (λ c u. refl) (λ c. refl) o n
+    (exs_of zs) (exs_of (set zs i y)) (set-exs o n g zs i x y h w)
 
-  set-doms : (n m : ℕ) (g : Names Ty) (xs : List Dom) (i : ℕ) (x y : Dom) → slice_get xs i ≡ Some x → DomLeads R n g x y m
-      → DomsLead R n g (doms_of xs) (doms_of (set xs i y)) m
-  set-doms n m g [] i x y h w = cc
-  set-doms n m g (z ∷ zs) zero x y h w = subst (λ u. DomsLead R n g (more_doms u (doms_of zs)) (more_doms y (doms_of zs)) m) (sym (got z x h))
-      (leads-inside R fill_dom names_at_dom fill_doms names_at_doms (λ c. in_first_domain c (doms_of zs)) (λ u. more_doms u (doms_of zs))
-      g g (λ c u. refl) (λ c. refl) n m x y w)
-  set-doms n m g (z ∷ zs) (suc i) x y h w =
-      leads-inside R fill_doms names_at_doms fill_doms names_at_doms (in_later_domain z) (more_doms z) g g (λ c u. refl) (λ c. refl) n m
-      (doms_of zs) (doms_of (set zs i y)) (set-doms n m g zs i x y h w)
+set-doms : (o n : Turns) (g : Names Ty) (xs : List Dom) (i : ℕ) (x y : Dom) → slice_get xs i ≡ Some x → DomPasses o g x y n
+    → DomsPass o g (doms_of xs) (doms_of (set xs i y)) n
+set-doms o n g [] i x y h w = cc
+set-doms o n g (z ∷ zs) zero x y h w = subst (λ u. DomsPass o g (more_doms u (doms_of zs)) (more_doms y (doms_of zs)) n) (sym (got z x h))
+    (passes-inside fill_dom names_at_dom fill_doms names_at_doms (λ c. in_first_domain c (doms_of zs)) (λ u. more_doms u (doms_of zs))
+    g g (λ c u. refl) (λ c. refl) o n x y w)
+set-doms o n g (z ∷ zs) (suc i) x y h w =
+    passes-inside fill_doms names_at_doms fill_doms names_at_doms (in_later_domain z) (more_doms z) g g (λ c u. refl) (λ c. refl) o n
+    (doms_of zs) (doms_of (set zs i y)) (set-doms o n g zs i x y h w)
 
-  item-first : (n m : ℕ) (g : Names Ty) (gs : List Item) (i j : Item) → ItemLeads R n g i j m
-      → GensLead R n g (gens_of (i ∷ gs)) (gens_of (j ∷ gs)) m
-  item-first n m g gs (over_item p d) (over_item q e) w = subst (λ r. GensLead R n g (over p d (gens_of gs)) (over r e (gens_of gs)) m) w.0
-      (leads-inside R fill_dom names_at_dom fill_gens names_at_gens (λ c. in_generator_domain p c (gens_of gs))
-      (λ u. over p u (gens_of gs)) g g (λ c u. refl) (λ c. refl) n m d e w.1)
-  item-first n m g gs (from_item p d) (from_item q e) w = subst (λ r. GensLead R n g (from p d (gens_of gs)) (from r e (gens_of gs)) m) w.0
-      (leads-inside R fill names_at fill_gens names_at_gens (λ c. in_source p c (gens_of gs)) (λ u. from p u (gens_of gs)) g g
-      (λ c u. refl) (λ c. refl) n m d e w.1)
-  item-first n m g gs (cond_item d) (cond_item e) w =
-      leads-inside R fill names_at fill_gens names_at_gens (λ c. in_condition c (gens_of gs)) (λ u. cond u (gens_of gs)) g g (λ c u. refl)
-      (λ c. refl) n m d e w
-  item-first n m g gs (over_item p d) (from_item q e) w = absurd w
-  item-first n m g gs (over_item p d) (cond_item e) w = absurd w
-  item-first n m g gs (from_item p d) (over_item q e) w = absurd w
-  item-first n m g gs (from_item p d) (cond_item e) w = absurd w
-  item-first n m g gs (cond_item d) (over_item q e) w = absurd w
-  item-first n m g gs (cond_item d) (from_item q e) w = absurd w
+item-first : (o n : Turns) (g : Names Ty) (gs : List Item) (i j : Item) → ItemPasses o g i j n
+    → GensPass o g (gens_of (i ∷ gs)) (gens_of (j ∷ gs)) n
+item-first o n g gs (over_item p d) (over_item q e) w = subst (λ r. GensPass o g (over p d (gens_of gs)) (over r e (gens_of gs)) n) w.0
+    (passes-inside fill_dom names_at_dom fill_gens names_at_gens (λ c. in_generator_domain p c (gens_of gs))
+    (λ u. over p u (gens_of gs)) g g (λ c u. refl) (λ c. refl) o n d e w.1)
+item-first o n g gs (from_item p d) (from_item q e) w = subst (λ r. GensPass o g (from p d (gens_of gs)) (from r e (gens_of gs)) n) w.0
+    (passes-inside fill names_at fill_gens names_at_gens (λ c. in_source p c (gens_of gs)) (λ u. from p u (gens_of gs)) g g
+    (λ c u. refl) (λ c. refl) o n d e w.1)
+item-first o n g gs (cond_item d) (cond_item e) w =
+    passes-inside fill names_at fill_gens names_at_gens (λ c. in_condition c (gens_of gs)) (λ u. cond u (gens_of gs)) g g (λ c u. refl)
+    (λ c. refl) o n d e w
+item-first o n g gs (over_item p d) (from_item q e) w = absurd w
+item-first o n g gs (over_item p d) (cond_item e) w = absurd w
+item-first o n g gs (from_item p d) (over_item q e) w = absurd w
+item-first o n g gs (from_item p d) (cond_item e) w = absurd w
+item-first o n g gs (cond_item d) (over_item q e) w = absurd w
+item-first o n g gs (cond_item d) (from_item q e) w = absurd w
 
-  set-gens : (n m : ℕ) (g : Names Ty) (gs : List Item) (i : ℕ) (x y : Item) → slice_get gs i ≡ Some x
-      → ItemLeads R n (names_behind (gens_of (take i gs)) g) x y m → GensLead R n g (gens_of gs) (gens_of (set gs i y)) m
-  set-gens n m g [] i x y h w = cc
-  set-gens n m g (z ∷ zs) zero x y h w = subst (λ u. GensLead R n g (gens_of (u ∷ zs)) (gens_of (y ∷ zs)) m) (sym (got z x h))
-      (item-first n m g zs x y w)
-  set-gens n m g (over_item p d ∷ zs) (suc i) x y h w =
-      leads-inside R fill_gens names_at_gens fill_gens names_at_gens (behind_over p d) (over p d) g (bind_types p (type_of_dom d) g)
-      (λ c u. refl) (λ c. refl) n m (gens_of zs) (gens_of (set zs i y)) (set-gens n m (bind_types p (type_of_dom d) g) zs i x y h w)
-  set-gens n m g (from_item p e ∷ zs) (suc i) x y h w =
-      leads-inside R fill_gens names_at_gens fill_gens names_at_gens (behind_from p e) (from p e) g (bind_types p (source_ty e g) g)
-      (λ c u. refl) (λ c. refl) n m (gens_of zs) (gens_of (set zs i y)) (set-gens n m (bind_types p (source_ty e g) g) zs i x y h w)
-  set-gens n m g (cond_item e ∷ zs) (suc i) x y h w =
-      leads-inside R fill_gens names_at_gens fill_gens names_at_gens (behind_condition e) (cond e) g g (λ c u. refl) (λ c. refl) n m
-      (gens_of zs) (gens_of (set zs i y)) (set-gens n m g zs i x y h w)
+set-gens : (o n : Turns) (g : Names Ty) (gs : List Item) (i : ℕ) (x y : Item) → slice_get gs i ≡ Some x
+    → ItemPasses o (names_behind (gens_of (take i gs)) g) x y n → GensPass o g (gens_of gs) (gens_of (set gs i y)) n
+set-gens o n g [] i x y h w = cc
+set-gens o n g (z ∷ zs) zero x y h w = subst (λ u. GensPass o g (gens_of (u ∷ zs)) (gens_of (y ∷ zs)) n) (sym (got z x h))
+    (item-first o n g zs x y w)
+set-gens o n g (over_item p d ∷ zs) (suc i) x y h w =
+    passes-inside fill_gens names_at_gens fill_gens names_at_gens (behind_over p d) (over p d) g (bind_types p (type_of_dom d) g)
+    (λ c u. refl) (λ c. refl) o n (gens_of zs) (gens_of (set zs i y)) (set-gens o n (bind_types p (type_of_dom d) g) zs i x y h w)
+set-gens o n g (from_item p e ∷ zs) (suc i) x y h w =
+    passes-inside fill_gens names_at_gens fill_gens names_at_gens (behind_from p e) (from p e) g (bind_types p (source_ty e g) g)
+    (λ c u. refl) (λ c. refl) o n (gens_of zs) (gens_of (set zs i y)) (set-gens o n (bind_types p (source_ty e g) g) zs i x y h w)
+set-gens o n g (cond_item e ∷ zs) (suc i) x y h w =
+    passes-inside fill_gens names_at_gens fill_gens names_at_gens (behind_condition e) (cond e) g g (λ c u. refl) (λ c. refl) o n
+    (gens_of zs) (gens_of (set zs i y)) (set-gens o n g zs i x y h w)
 
 -- ---- rows of trees
 
@@ -86,61 +86,61 @@ module _ {A P : Type 0} (v : A → P) where
   map-get (z ∷ zs) zero x h = ap (λ w. Some (v w)) (got z x h)
   map-get (z ∷ zs) (suc i) x h = map-get zs i x h
 
-module _ (R : ℕ → Names Ty → Ex → Ex → ℕ → Type 0) where
-  -- A turn of the loop over trees.
-  pub nodes_turn : (n k m : ℕ) (g : Names Ty) (zs xs ys : List Node) (i : ℕ) (x y : Node) → AllLead R n g (pure_nodes zs) (pure_nodes xs) k
-      → slice_get xs i ≡ Some x → Leads R k g (pure_node x) (pure_node y) m → ys ≡ set xs i y
-      → AllLead R n g (pure_nodes zs) (pure_nodes ys) m
-  nodes_turn n k m g zs xs ys i x y w h l e =
-      leads-then R fill_exs names_at_exs n k m g (pure_nodes zs) (pure_nodes xs) (pure_nodes ys) w
-      (subst (λ u. AllLead R k g (pure_nodes xs) (exs_of u) m) (sym (ap (map pure_node) e ∙ map-set pure_node xs i y))
-      (set-exs R k m g (map pure_node xs) i (pure_node x) (pure_node y) (map-get pure_node xs i x h) l))
+-- A turn of the loop over trees.
+pub nodes_turn : (o k n : Turns) (g : Names Ty) (zs xs ys : List Node) (i : ℕ) (x y : Node) → AllPass o g (pure_nodes zs) (pure_nodes xs) k
+    → slice_get xs i ≡ Some x → Passes k g (pure_node x) (pure_node y) n → ys ≡ set xs i y
+    → AllPass o g (pure_nodes zs) (pure_nodes ys) n
+nodes_turn o k n g zs xs ys i x y w h l e =
+    passes-then fill_exs names_at_exs o k n g (pure_nodes zs) (pure_nodes xs) (pure_nodes ys) w
+    (subst (λ u. AllPass k g (pure_nodes xs) (exs_of u) n) (sym (ap (map pure_node) e ∙ map-set pure_node xs i y))
+    (set-exs k n g (map pure_node xs) i (pure_node x) (pure_node y) (map-get pure_node xs i x h) l))
 
-  -- The same, as the loop has it.
-  pub nodes_step : (n k m j : ℕ) (g : Names Ty) (zs xs ys : List Node) (i : ℕ) (x old new y : Node)
-      → AllLead R n g (pure_nodes zs) (pure_nodes xs) k → Some x ≡ slice_get xs i → old ≡ x → Leads R k g (pure_node old) (pure_node new) m
-      → y ≡ new → ys ≡ set xs i y → j ≡ m → AllLead R n g (pure_nodes zs) (pure_nodes ys) j
-  nodes_step n k m j g zs xs ys i x old new y w h a l b e q = nodes_turn n k j g zs xs ys i x y w (sym h)
-      (subst (λ v. Leads R k g (pure_node x) (pure_node v) j) (sym b)
-      (subst (λ v. Leads R k g (pure_node v) (pure_node new) j) a
-      (subst (λ v. Leads R k g (pure_node old) (pure_node new) v) (sym q) l))) e
+-- The same, as the loop has it.
+pub nodes_step : (o k n j : Turns) (g : Names Ty) (zs xs ys : List Node) (i : ℕ) (x old new y : Node)
+    → AllPass o g (pure_nodes zs) (pure_nodes xs) k → Some x ≡ slice_get xs i → old ≡ x → Passes k g (pure_node old) (pure_node new) n
+    → y ≡ new → ys ≡ set xs i y → j ≡ n → AllPass o g (pure_nodes zs) (pure_nodes ys) j
+nodes_step o k n j g zs xs ys i x old new y w h a l b e q = nodes_turn o k j g zs xs ys i x y w (sym h)
+    (subst (λ v. Passes k g (pure_node x) (pure_node v) j) (sym b)
+    (subst (λ v. Passes k g (pure_node v) (pure_node new) j) a
+    (subst (λ v. Passes k g (pure_node old) (pure_node new) v) (sym q) l))) e
 
-  -- The same of domains.
-  pub doms_turn : (n k m : ℕ) (g : Names Ty) (zs xs ys : List NodeDom) (i : ℕ) (x y : NodeDom) → DomsLead R n g (pure_doms zs) (pure_doms xs) k
-      → slice_get xs i ≡ Some x → DomLeads R k g (pure_dom x) (pure_dom y) m → ys ≡ set xs i y
-      → DomsLead R n g (pure_doms zs) (pure_doms ys) m
-  doms_turn n k m g zs xs ys i x y w h l e =
-      leads-then R fill_doms names_at_doms n k m g (pure_doms zs) (pure_doms xs) (pure_doms ys) w
-      (subst (λ u. DomsLead R k g (pure_doms xs) (doms_of u) m) (sym (ap (map pure_dom) e ∙ map-set pure_dom xs i y))
-      (set-doms R k m g (map pure_dom xs) i (pure_dom x) (pure_dom y) (map-get pure_dom xs i x h) l))
+-- The same of domains.
+pub doms_turn : (o k n : Turns) (g : Names Ty) (zs xs ys : List NodeDom) (i : ℕ) (x y : NodeDom)
+    → DomsPass o g (pure_doms zs) (pure_doms xs) k
+    → slice_get xs i ≡ Some x → DomPasses k g (pure_dom x) (pure_dom y) n → ys ≡ set xs i y
+    → DomsPass o g (pure_doms zs) (pure_doms ys) n
+doms_turn o k n g zs xs ys i x y w h l e =
+    passes-then fill_doms names_at_doms o k n g (pure_doms zs) (pure_doms xs) (pure_doms ys) w
+    (subst (λ u. DomsPass k g (pure_doms xs) (doms_of u) n) (sym (ap (map pure_dom) e ∙ map-set pure_dom xs i y))
+    (set-doms k n g (map pure_dom xs) i (pure_dom x) (pure_dom y) (map-get pure_dom xs i x h) l))
 
-  pub doms_step : (n k m j : ℕ) (g : Names Ty) (zs xs ys : List NodeDom) (i : ℕ) (x old new y : NodeDom)
-      → DomsLead R n g (pure_doms zs) (pure_doms xs) k → Some x ≡ slice_get xs i → old ≡ x → DomLeads R k g (pure_dom old) (pure_dom new) m
-      → y ≡ new → ys ≡ set xs i y → j ≡ m → DomsLead R n g (pure_doms zs) (pure_doms ys) j
-  doms_step n k m j g zs xs ys i x old new y w h a l b e q = doms_turn n k j g zs xs ys i x y w (sym h)
-      (subst (λ v. DomLeads R k g (pure_dom x) (pure_dom v) j) (sym b)
-      (subst (λ v. DomLeads R k g (pure_dom v) (pure_dom new) j) a
-      (subst (λ v. DomLeads R k g (pure_dom old) (pure_dom new) v) (sym q) l))) e
+pub doms_step : (o k n j : Turns) (g : Names Ty) (zs xs ys : List NodeDom) (i : ℕ) (x old new y : NodeDom)
+    → DomsPass o g (pure_doms zs) (pure_doms xs) k → Some x ≡ slice_get xs i → old ≡ x → DomPasses k g (pure_dom old) (pure_dom new) n
+    → y ≡ new → ys ≡ set xs i y → j ≡ n → DomsPass o g (pure_doms zs) (pure_doms ys) j
+doms_step o k n j g zs xs ys i x old new y w h a l b e q = doms_turn o k j g zs xs ys i x y w (sym h)
+    (subst (λ v. DomPasses k g (pure_dom x) (pure_dom v) j) (sym b)
+    (subst (λ v. DomPasses k g (pure_dom v) (pure_dom new) j) a
+    (subst (λ v. DomPasses k g (pure_dom old) (pure_dom new) v) (sym q) l))) e
 
-  -- The same of generators, under the names of those before.
-  pub gens_turn : (n k m : ℕ) (g u : Names Ty) (zs xs ys : List Gen) (i : ℕ) (x y : Gen) → GensLead R n g (pure_gens zs) (pure_gens xs) k
-      → u ≡ names_behind (gens_of (take i (map pure_gen xs))) g
-      → slice_get xs i ≡ Some x → ItemLeads R k u (pure_gen x) (pure_gen y) m → ys ≡ set xs i y
-      → GensLead R n g (pure_gens zs) (pure_gens ys) m
-  gens_turn n k m g u zs xs ys i x y w q h l e =
-      leads-then R fill_gens names_at_gens n k m g (pure_gens zs) (pure_gens xs) (pure_gens ys) w
-      (subst (λ v. GensLead R k g (pure_gens xs) (gens_of v) m) (sym (ap (map pure_gen) e ∙ map-set pure_gen xs i y))
-      (set-gens R k m g (map pure_gen xs) i (pure_gen x) (pure_gen y) (map-get pure_gen xs i x h)
-      (subst (λ v. ItemLeads R k v (pure_gen x) (pure_gen y) m) q l)))
+-- The same of generators, under the names of those before.
+pub gens_turn : (o k n : Turns) (g u : Names Ty) (zs xs ys : List Gen) (i : ℕ) (x y : Gen) → GensPass o g (pure_gens zs) (pure_gens xs) k
+    → u ≡ names_behind (gens_of (take i (map pure_gen xs))) g
+    → slice_get xs i ≡ Some x → ItemPasses k u (pure_gen x) (pure_gen y) n → ys ≡ set xs i y
+    → GensPass o g (pure_gens zs) (pure_gens ys) n
+gens_turn o k n g u zs xs ys i x y w q h l e =
+    passes-then fill_gens names_at_gens o k n g (pure_gens zs) (pure_gens xs) (pure_gens ys) w
+    (subst (λ v. GensPass k g (pure_gens xs) (gens_of v) n) (sym (ap (map pure_gen) e ∙ map-set pure_gen xs i y))
+    (set-gens k n g (map pure_gen xs) i (pure_gen x) (pure_gen y) (map-get pure_gen xs i x h)
+    (subst (λ v. ItemPasses k v (pure_gen x) (pure_gen y) n) q l)))
 
-  pub gens_step : (n k m j : ℕ) (g u : Names Ty) (zs xs ys : List Gen) (i : ℕ) (x old new y : Gen)
-      → GensLead R n g (pure_gens zs) (pure_gens xs) k → u ≡ names_behind (gens_of (take i (map pure_gen xs))) g → Some x ≡ slice_get xs i
-      → old ≡ x → ItemLeads R k u (pure_gen old) (pure_gen new) m → y ≡ new → ys ≡ set xs i y → j ≡ m
-      → GensLead R n g (pure_gens zs) (pure_gens ys) j
-  gens_step n k m j g u zs xs ys i x old new y w p h a l b e q = gens_turn n k j g u zs xs ys i x y w p (sym h)
-      (subst (λ v. ItemLeads R k u (pure_gen x) (pure_gen v) j) (sym b)
-      (subst (λ v. ItemLeads R k u (pure_gen v) (pure_gen new) j) a
-      (subst (λ v. ItemLeads R k u (pure_gen old) (pure_gen new) v) (sym q) l))) e
+pub gens_step : (o k n j : Turns) (g u : Names Ty) (zs xs ys : List Gen) (i : ℕ) (x old new y : Gen)
+    → GensPass o g (pure_gens zs) (pure_gens xs) k → u ≡ names_behind (gens_of (take i (map pure_gen xs))) g → Some x ≡ slice_get xs i
+    → old ≡ x → ItemPasses k u (pure_gen old) (pure_gen new) n → y ≡ new → ys ≡ set xs i y → j ≡ n
+    → GensPass o g (pure_gens zs) (pure_gens ys) j
+gens_step o k n j g u zs xs ys i x old new y w p h a l b e q = gens_turn o k j g u zs xs ys i x y w p (sym h)
+    (subst (λ v. ItemPasses k u (pure_gen x) (pure_gen v) j) (sym b)
+    (subst (λ v. ItemPasses k u (pure_gen v) (pure_gen new) j) a
+    (subst (λ v. ItemPasses k u (pure_gen old) (pure_gen new) v) (sym q) l))) e
 
 -- ---- names behind generators
 

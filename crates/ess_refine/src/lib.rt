@@ -5,5 +5,8 @@ mod passing;
 mod passing_domains;
 mod passing_generators;
 mod refining;
+mod resting;
+mod resting_domains;
+mod resting_generators;
 
 pub use refining::{Refinement, refine};

@@ -1,13 +1,12 @@
 //! One pass over a tree: the rules at the root, and where none fires there at the parts.
 ghost use Rattle.std.specs.Prelude.{IfOk, OnOk, option_map};
-ghost use Rattle.ess_core_nodes.specs.NodeViews.{pure_node, pure_nodes};
+ghost use Rattle.ess_core_nodes.specs.NodeViews.{pure_node, pure_nodes, pure_seen};
 ghost use Rattle.ess_node_types.specs.TypedNames.{pure_names};
-ghost use Rattle.ess_rules.specs.Ruled.{IsRuled, IsTurn};
-ghost use Rattle.ess_refine.specs.Chains.{Leads, AllLead};
+ghost use Rattle.ess_refine.specs.Passes.{IsTaken, Passes, AllPass};
 
 use crate::passing_domains::pass_boxed_dom;
 use crate::passing_generators::pass_gens;
-use ess_core_nodes::Node;
+use ess_core_nodes::{Node, Seen};
 use ess_node_types::{NameTypes, names_behind};
 use ess_rows::{Boxed, NoMemory, Row};
 use ess_rules::rule_at;
@@ -19,13 +18,13 @@ use std::mem;
 pub(crate) struct Turns {
     /// The number of the next reserved name.
     pub(crate) next: u64,
-    /// Whether a rule has fired.
-    pub(crate) any: bool,
     /// How many rules may still fire.
     pub(crate) left: u64,
+    /// Whether the parts of views and of domains of compound values are gone through, too.
+    pub(crate) everywhere: bool,
 }
 
-/// What the first rule that fires makes of the root of a tree, or nothing where none fires, or as many have fired as may. It is noted
+/// What the first rule that fires makes of the root of a tree, or nothing where none fires, or as many have fired as may. It is counted
 /// where one fires. `NoMemory` where there is no room for it, or the reserved names can't be counted.
 fn turn_at(
     alloc: Global,
@@ -33,22 +32,21 @@ fn turn_at(
     names: &NameTypes,
     turns: &mut Turns,
 ) -> Result<Option<Boxed<Node>>, NoMemory>
-    ensures { IfOk result (λ o. IsTurn turns.old.next (pure_names names.now) (pure_node node.now) (option_map pure_node o) turns.new.next) }
+    ensures { IfOk result (λ o. IsTaken turns.old (pure_names names.now) (pure_node node.now) (option_map pure_node o) turns.new) }
 {
     if turns.left == 0 {
         return Ok(None);
     }
     let found = rule_at(alloc, node, names, &mut turns.next)?;
     if found.is_some() {
-        turns.any = true;
         turns.left = turns.left.saturating_sub(1);
     }
     Ok(found)
 }
 
 /// The tree rewritten by the rules, where names have these types: once at its root or, where no rule fires there, at its parts.
-/// Reserved names and rules are counted on, and it is noted where a rule fires; once as many have fired as may, the tree stays. `NoMemory`
-/// where there is no room for it, or the reserved names can't be counted.
+/// Reserved names and rules are counted on; once as many rules have fired as may, the tree stays. `NoMemory` where there is no room for
+/// it, or the reserved names can't be counted.
 #[cycle(pass)]
 pub(crate) fn pass(
     alloc: Global,
@@ -56,7 +54,7 @@ pub(crate) fn pass(
     names: &NameTypes,
     turns: &mut Turns,
 ) -> Result<Node, NoMemory>
-    ensures { IfOk result (λ n. Leads IsRuled turns.old.next (pure_names names.now) (pure_node node) (pure_node n) turns.new.next) }
+    ensures { IfOk result (λ n. Passes turns.old (pure_names names.now) (pure_node node) (pure_node n) turns.new) }
 {
     let found = match turn_at(alloc, &node, names, turns) {
         Ok(found) => found,
@@ -92,7 +90,10 @@ pub(crate) fn pass(
         Node::Number(number) => Ok(Node::Number(number)),
         Node::Truth(value) => Ok(Node::Truth(value)),
         Node::Name(name) => Ok(Node::Name(name)),
-        Node::Seen(seen) => Ok(Node::Seen(seen)),
+        Node::Seen(mut seen) => {
+            pass_view(alloc, seen.get_mut(), names, turns)?;
+            Ok(Node::Seen(seen))
+        }
     }
 }
 
@@ -104,7 +105,7 @@ pub(crate) fn pass_boxed(
     names: &NameTypes,
     turns: &mut Turns,
 ) -> Result<(), NoMemory>
-    ensures { OnOk result (Leads IsRuled turns.old.next (pure_names names.now) (pure_node node.old) (pure_node node.new) turns.new.next) }
+    ensures { OnOk result (Passes turns.old (pure_names names.now) (pure_node node.old) (pure_node node.new) turns.new) }
 {
     let old = node.replace(Node::Truth(false));
     let new = pass(alloc, old, names, turns)?;
@@ -120,7 +121,7 @@ pub(crate) fn pass_all(
     names: &NameTypes,
     turns: &mut Turns,
 ) -> Result<(), NoMemory>
-    ensures { OnOk result (AllLead IsRuled turns.old.next (pure_names names.now) (pure_nodes nodes.old) (pure_nodes nodes.new) turns.new.next) }
+    ensures { OnOk result (AllPass turns.old (pure_names names.now) (pure_nodes nodes.old) (pure_nodes nodes.new) turns.new) }
 {
     for i in 0..nodes.len() {
         if let Some(node) = nodes.get_mut(i) {
@@ -130,4 +131,21 @@ pub(crate) fn pass_all(
         }
     }
     Ok(())
+}
+
+/// The same of the parts of a view, where they are gone through.
+#[cycle(pass)]
+fn pass_view(
+    alloc: Global,
+    seen: &mut Seen,
+    names: &NameTypes,
+    turns: &mut Turns,
+) -> Result<(), NoMemory>
+    ensures { OnOk result (Passes turns.old (pure_names names.now) (pure_seen seen.old) (pure_seen seen.new) turns.new) }
+{
+    if !turns.everywhere {
+        return Ok(());
+    }
+    pass_boxed_dom(alloc, &mut seen.dom, names, turns)?;
+    pass_all(alloc, &mut seen.at, names, turns)
 }

@@ -2,8 +2,7 @@
 ghost use Rattle.std.specs.Prelude.{IfOk, OnOk};
 ghost use Rattle.ess_core_nodes.specs.NodeViews.{pure_gen, pure_gens};
 ghost use Rattle.ess_node_types.specs.TypedNames.{pure_names};
-ghost use Rattle.ess_rules.specs.Ruled.{IsRuled};
-ghost use Rattle.ess_refine.specs.Chains.{GensLead, ItemLeads};
+ghost use Rattle.ess_refine.specs.Passes.{GensPass, ItemPasses};
 
 use crate::passing::{Turns, pass_boxed};
 use crate::passing_domains::pass_boxed_dom;
@@ -21,7 +20,7 @@ pub(crate) fn pass_gens(
     names: &NameTypes,
     turns: &mut Turns,
 ) -> Result<(), NoMemory>
-    ensures { OnOk result (GensLead IsRuled turns.old.next (pure_names names.now) (pure_gens gens.old) (pure_gens gens.new) turns.new.next) }
+    ensures { OnOk result (GensPass turns.old (pure_names names.now) (pure_gens gens.old) (pure_gens gens.new) turns.new) }
 {
     let mut under = names.copy(alloc)?;
     for i in 0..gens.len() {
@@ -43,7 +42,7 @@ fn spare(alloc: Global) -> Result<Gen, NoMemory> {
 /// A generator or condition.
 #[cycle(pass)]
 fn pass_gen(alloc: Global, item: Gen, names: &NameTypes, turns: &mut Turns) -> Result<Gen, NoMemory>
-    ensures { IfOk result (λ i. ItemLeads IsRuled turns.old.next (pure_names names.now) (pure_gen item) (pure_gen i) turns.new.next) }
+    ensures { IfOk result (λ i. ItemPasses turns.old (pure_names names.now) (pure_gen item) (pure_gen i) turns.new) }
 {
     match item {
         Gen::Over(pat, mut dom) => {

@@ -1,20 +1,18 @@
-//! Passes over a tree until no rule fires, or there were as many as may be.
+//! Passes over a tree until no rule fires, or as many have fired as may.
 ghost use Rattle.std.specs.Prelude.{◌≡◌, [], IfOk, OnOk};
 ghost use Rattle.ess_core_nodes.specs.NodeViews.{pure_node};
 ghost use Rattle.ess_rules.specs.Ruled.{IsRuled};
 ghost use Rattle.ess_refine.specs.Chains.{Leads};
-ghost use Rattle.ess_refine.specs.Refinements.{Says};
+ghost use Rattle.ess_refine.specs.Refinements.{Says, IsEnded};
 
 use crate::passing::{Turns, pass};
+use crate::resting::rests;
 use ess_core_nodes::Node;
 use ess_node_forms::is_refined;
 use ess_node_types::NameTypes;
 use ess_rows::NoMemory;
 use std::alloc::Global;
 use std::mem;
-
-/// How many passes there are at most.
-const PASSES: u64 = 65_536;
 
 /// How many rules fire at most.
 const RULES: u64 = 2_000_000;
@@ -24,18 +22,19 @@ const RULES: u64 = 2_000_000;
 pub enum Refinement {
     /// Nothing abstract is left.
     Refined,
-    /// Something abstract is left, and no rule fires, or so many have fired that refining was given up.
+    /// Something abstract is left, and none of the rules that are asked fires at any part, or 2,000,000 have fired.
     Stuck,
 }
 
 /// Refines a tree in place, under no names: rules are used at its root and at its parts until none fires. There are rules that could lead
-/// on for ever, so refining is given up after 65,536 passes, and no rule is asked any more once 2,000,000 have fired: the tree then is what
-/// the rules have led to. `Refined` where nothing abstract is left, else `Stuck`. Reserved names are taken from `next` on, and the number
-/// of the one behind them is left there. `NoMemory` where there is no room for it, or the reserved names can't be counted; the tree is
-/// then any.
+/// on for ever, so no rule is asked any more once 2,000,000 have fired: the tree then is what the rules have led to. `Refined` where
+/// nothing abstract is left. `Stuck` where something abstract is left, and none of the rules that are asked fires at any part, or 2,000,000
+/// have fired. Reserved names are taken from `next` on, and the number of the one behind them is left there. `NoMemory` where there is no
+/// room for it, or the reserved names can't be counted; the tree is then any.
+#[tactic(auto, using(crate::proofs::Endings::ended_leads))]
 pub fn refine(alloc: Global, node: &mut Node, next: &mut u64) -> Result<Refinement, NoMemory>
     ensures led { OnOk result (Leads IsRuled next.old [] (pure_node node.old) (pure_node node.new) next.new) }
-    ensures says { IfOk result (Says (pure_node node.new)) }
+    ensures says { IfOk result (Says next.old (pure_node node.old) (pure_node node.new) next.new) }
 {
     passed(alloc, node, next)?;
     if is_refined(node) {
@@ -45,26 +44,33 @@ pub fn refine(alloc: Global, node: &mut Node, next: &mut u64) -> Result<Refineme
     }
 }
 
-/// Passes over a tree until no rule fires, or refining is given up. `NoMemory` as above.
+/// Passes over a tree until no rule fires, or as many have fired as may. Where a pass fires none, the next one goes through the parts of
+/// views and of domains of compound values, too. `NoMemory` as above.
 fn passed(alloc: Global, node: &mut Node, next: &mut u64) -> Result<(), NoMemory>
-    ensures { OnOk result (Leads IsRuled next.old [] (pure_node node.old) (pure_node node.new) next.new) }
+    ensures { OnOk result (IsEnded next.old (pure_node node.old) (pure_node node.new) next.new) }
 {
     let names = NameTypes::new(alloc);
     let mut turns = Turns {
         next: *next,
-        any: false,
         left: RULES,
+        everywhere: false,
     };
-    for _turn in 0..PASSES {
-        turns.any = false;
+    for _pass in 0..u64::MAX {
+        let before = turns.left;
         let old = mem::replace(node, Node::Truth(false));
         let new = pass(alloc, old, &names, &mut turns)?;
         drop(mem::replace(node, new));
-        if !turns.any {
+        if turns.left == 0 {
             *next = turns.next;
             return Ok(());
         }
+        let idle = turns.left == before;
+        if idle && rests(alloc, node, &names, turns.next)? {
+            *next = turns.next;
+            return Ok(());
+        }
+        turns.everywhere = idle;
     }
-    *next = turns.next;
-    Ok(())
+    // Of two passes one fires a rule, so they never end here.
+    Err(NoMemory)
 }

@@ -1,5 +1,8 @@
--- Worked examples: a root with its source told apart, the names that rules take, and the matrices that are compared.
-use Rattle.std.proofs.Common.{◌≡◌, refl, true, false, [], ◌∷◌, codes}
+-- Worked examples: a root with its source told apart, the names that rules take, the matrices that are compared, and the rules that are
+-- asked.
+use Rattle.std.proofs.Common.{◌≡◌, refl, true, false, List, [], ◌∷◌, length, Option, Some, None, pos, codes}
+use Rattle.std.specs.Prelude.{is_some}
+use Rattle.std.specs.List.{list_any}
 use Rattle.std.specs.Fmt.{digits}
 use Rattle.ess_semantics.specs.declared.words.Fun.{Fun}
 use Rattle.ess_semantics.specs.declared.words.Op2.{Op2}
@@ -7,6 +10,7 @@ use Rattle.ess_semantics.specs.Trees.{
   name_pat,
   matrix_literal,
   Ex,
+  number_ex,
   name_ex,
   node_ex,
   comp_ex,
@@ -23,10 +27,33 @@ use Rattle.ess_semantics.specs.Trees.{
   ex2,
   fun1,
 }
+use Rattle.ess_semantics.specs.Names.{Names}
+use Rattle.ess_semantics.specs.Types.{Ty}
+use Rattle.ess_semantics.proofs.Tests.{or-left-no, or-right-no}
 use Rattle.ess_refine_laws.specs.AllRules.{over_a_source, over_a_term, least_under_a_condition}
 use Rattle.conjure_model_laws.specs.ToldApart.{reserved}
 use Rattle.ess_ordered_laws.specs.OrderedRules.{source_by_indices}
-use Rattle.ess_rules.specs.Ruled.{reserved_from, behind_names, new_source, with_new_source, plainly, gathering, in_order, root_of, behind_root, behind_ruling, both_told}
+use Rattle.ess_rules.specs.Ruled.{
+  Ruling,
+  reserved_from,
+  supply_at,
+  behind_names,
+  new_source,
+  with_new_source,
+  plainly,
+  gathering,
+  in_order,
+  ruled,
+  root_of,
+  behind_root,
+  behind_ruling,
+  both_told,
+  folds_asked,
+  source_rules_asked,
+  rules_asked,
+  NoneOf,
+  NoneFires,
+}
 
 abbrev x : Ex
 x = name_ex (codes "x")
@@ -113,3 +140,40 @@ gathered_here = (refl, refl)
 -- So it is with those of comprehensions whose items have an order: they put no source in.
 ordered_here : (root_of 7 (in_order source_by_indices) source ≡ source) × (behind_ruling 7 (in_order source_by_indices) source ≡ 7)
 ordered_here = (refl, refl)
+
+-- ---- what is asked
+
+-- So many rules are asked of every root, those that put a source in among them.
+asked : (length rules_asked ≡ 86) × (length source_rules_asked ≡ 6)
+asked = (refl, refl)
+
+-- Where a test says of each rule that it makes nothing, none fires.
+none_tested : (f : Ruling → Ex → Option Ex) (g : Names Ty) (a : Ex) (rs : List Ruling) → list_any (λ r. is_some (f r a)) rs ≡ false
+    → NoneOf f g rs a
+none_tested f g a [] h = tt
+none_tested f g a (r ∷ rs) h = (
+  λ m. nothing (f r a) (or-left-no (is_some (f r a)) (list_any (λ r. is_some (f r a)) rs) h),
+  none_tested f g a rs (or-right-no (is_some (f r a)) (list_any (λ r. is_some (f r a)) rs) h),
+)
+  where
+    nothing : (o : Option Ex) → is_some o ≡ false → o ≡ None
+    nothing None k = refl
+    nothing (Some b) k = cc
+
+-- None of them fires at a name, at a number, or at a sum of both.
+at_a_name : NoneFires 5 [] x
+at_a_name = record {
+  count = 0;
+  none = none_tested (λ r e. ruled (supply_at 5 0) [] r (root_of 8 r e)) [] x rules_asked refl;
+}
+
+at_a_sum : NoneFires 5 [] (ex2 false Op2.Plus x (number_ex (pos 3)))
+at_a_sum = record {
+  count = 0;
+  none = none_tested (λ r e. ruled (supply_at 5 0) [] r (root_of 8 r e)) [] (ex2 false Op2.Plus x (number_ex (pos 3))) rules_asked refl;
+}
+
+-- One fires at `and([])`.
+one_fires : list_any (λ r. is_some (ruled (supply_at 5 0) [] r (fun1 true Fun.And (node_ex false matrix_literal no_exs)))) folds_asked
+    ≡ true
+one_fires = refl

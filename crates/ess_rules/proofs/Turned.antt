@@ -1,29 +1,58 @@
 -- What the rules together make of a root, with the reserved names that they take.
-use Rattle.std.proofs.Common.{◌≡◌, refl, sym, ap, ◌∙◌, subst, ℕ, zero, suc, ◌+◌, ◌≤◌, Bool, true, false, if◌then◌else◌, List, [], ◌∷◌, ◌++◌, Option, Some, None, arith}
+use Rattle.std.proofs.Common.{
+  ◌≡◌,
+  refl,
+  sym,
+  ap,
+  ◌∙◌,
+  subst,
+  ℕ,
+  zero,
+  suc,
+  ◌+◌,
+  ◌≤◌,
+  Bool,
+  true,
+  false,
+  if◌then◌else◌,
+  List,
+  [],
+  ◌∷◌,
+  ◌++◌,
+  Option,
+  Some,
+  arith,
+}
 use Rattle.std.specs.Prelude.{option_map}
-use Rattle.ess_semantics.specs.declared.words.Fun.{Fun}
 use Rattle.ess_semantics.specs.Values.{Text}
 use Rattle.ess_semantics.specs.Names.{Names}
-use Rattle.ess_semantics.specs.Trees.{Ex, Dom, Gens, comp_ex, fun1}
+use Rattle.ess_semantics.specs.Trees.{Ex}
 use Rattle.ess_semantics.specs.Types.{Ty}
 use Rattle.ess_core_nodes.specs.declared.nodes.Node.{Node}
 use Rattle.ess_core_nodes.specs.NodeViews.{pure_node}
-use Rattle.conjure_model_laws.specs.ToldApart.{reserved, told_apart, told}
-use Rattle.ess_refine_laws.specs.LeavingConditions.{Parted, at_last_condition}
-use Rattle.ess_refine_laws.specs.Copies.{opposite_of}
-use Rattle.ess_refine_laws.specs.ExtremeRules.{extreme_condition}
-use Rattle.ess_refine_laws.specs.AllRules.{Supply, rewrite, least_under_a_condition, opposite_copied}
-use Rattle.ess_rules_forms.specs.Forms.{plain_word}
-use Rattle.ess_rules_folds.specs.Forms.{comp_parts}
+use Rattle.conjure_model_laws.specs.ToldApart.{reserved, told_apart}
+use Rattle.ess_refine_laws.specs.AllRules.{rewrite, least_under_a_condition}
 use Rattle.ess_rules_listings.specs.Offered.{supply_of}
 use Rattle.ess_kind_rules.specs.Supplies.{told_axis}
-use Rattle.ess_rules.specs.Ruled.{reserved_from, supply_at, plainly, puts_source, ruled, with_new_source, behind_ruling, behind_root, behind_copy, IsRuled}
+use Rattle.ess_rules.specs.Ruled.{
+  Ruling,
+  reserved_from,
+  supply_at,
+  plainly,
+  puts_source,
+  ruled,
+  with_new_source,
+  behind_ruling,
+  behind_root,
+  behind_copy,
+  IsRuled,
+}
 use Rattle.ess_rules.specs.Supplies.{IsRewritten, IsSourcedBehind, IsRewrittenBehind}
 use Rattle.ess_chain_names_laws.proofs.ToldNames.{on}
 use Rattle.ess_rules.proofs.SourcedRoots.{root_up, copy_up}
 
 -- The names that are taken are those of the supply at a number.
-same-supply : (n k j : ℕ) (y z w : Text) (ys : List Text) → y ≡ reserved n → z ≡ reserved (n + 1) → w ≡ reserved (n + 2)
+pub same-supply : (n k j : ℕ) (y z w : Text) (ys : List Text) → y ≡ reserved n → z ≡ reserved (n + 1) → w ≡ reserved (n + 2)
     → ys ≡ reserved_from (n + 3) k → j ≡ n + 3 + k → supply_of y z w ys told_axis (told_apart j) ≡ supply_at n k
 same-supply n k j y z w ys p q r s e =
     ap (λ u. supply_of u z w ys told_axis (told_apart j)) p ∙ ap (λ u. supply_of (reserved n) u w ys told_axis (told_apart j)) q
@@ -32,22 +61,22 @@ same-supply n k j y z w ys p q r s e =
     ∙ ap (λ u. supply_of (reserved n) (reserved (n + 1)) (reserved (n + 2)) (reserved_from (n + 3) k) told_axis (told_apart u)) e
 
 -- What a rule is used at that puts no source in, or one.
-unless : {A : Type 0} (b : Bool) (x y : A) → b ≡ false → y ≡ (if b then x else y)
+pub unless : {A : Type 0} (b : Bool) (x y : A) → b ≡ false → y ≡ (if b then x else y)
 unless true x y h = cc
 unless false x y h = refl
 
-when : {A : Type 0} (b : Bool) (x y : A) → b ≡ true → x ≡ (if b then x else y)
+pub when : {A : Type 0} (b : Bool) (x y : A) → b ≡ true → x ≡ (if b then x else y)
 when true x y h = refl
 when false x y h = cc
 
 -- A rule that takes no copy and puts no source in.
-pub turned_by : (n k j m : ℕ) (g : Names Ty) (a : Ex) (y z w : Text) (ys : List Text) (o : Option Node) (x : Node) → y ≡ reserved n
-    → z ≡ reserved (n + 1) → w ≡ reserved (n + 2) → ys ≡ reserved_from (n + 3) k → j ≡ n + 3 + k
-    → IsRewritten (supply_of y z w ys told_axis (told_apart j)) g a (option_map pure_node o) → o ≡ Some x → m ≡ j
+pub turned_by : (asked : List Ruling) (n k j m : ℕ) (g : Names Ty) (a : Ex) (y z w : Text) (ys : List Text) (o : Option Node) (x : Node)
+    → y ≡ reserved n → z ≡ reserved (n + 1) → w ≡ reserved (n + 2) → ys ≡ reserved_from (n + 3) k → j ≡ n + 3 + k
+    → IsRewritten asked (supply_of y z w ys told_axis (told_apart j)) g a (option_map pure_node o) → o ≡ Some x → m ≡ j
     → IsRuled n g a (pure_node x) m
-turned_by n k j m g a y z w ys o x p q r s e h i l =
-    let u : IsRewritten (supply_of y z w ys told_axis (told_apart j)) g a (Some (pure_node x)) =
-    subst (λ v. IsRewritten (supply_of y z w ys told_axis (told_apart j)) g a (option_map pure_node v)) i h in
+turned_by asked n k j m g a y z w ys o x p q r s e h i l =
+    let u : IsRewritten asked (supply_of y z w ys told_axis (told_apart j)) g a (Some (pure_node x)) =
+    subst (λ v. IsRewritten asked (supply_of y z w ys told_axis (told_apart j)) g a (option_map pure_node v)) i h in
     let b : behind_ruling (n + 3 + k) u.0 a ≡ n + 3 + k = u.2 (n + 3 + k) in
     let d : n + 3 + k ≡ behind_root (n + 3 + k) u.0 a = unless (puts_source u.0) (with_new_source (n + 3 + k) a).1 (n + 3 + k) u.4 in
     record {
@@ -61,8 +90,8 @@ turned_by n k j m g a y z w ys o x p q r s e h i l =
     }
 
 -- A rule that puts one in.
-pub turned_sourced : (n k j m : ℕ) (g : Names Ty) (a : Ex) (y z w : Text) (ys : List Text) (o : Option Node) (x : Node) → y ≡ reserved n
-    → z ≡ reserved (n + 1) → w ≡ reserved (n + 2) → ys ≡ reserved_from (n + 3) k → j ≡ n + 3 + k
+pub turned_sourced : (n k j m : ℕ) (g : Names Ty) (a : Ex) (y z w : Text) (ys : List Text) (o : Option Node) (x : Node)
+    → y ≡ reserved n → z ≡ reserved (n + 1) → w ≡ reserved (n + 2) → ys ≡ reserved_from (n + 3) k → j ≡ n + 3 + k
     → IsSourcedBehind (supply_of y z w ys told_axis (told_apart j)) g a (option_map pure_node o) j m → o ≡ Some x
     → IsRuled n g a (pure_node x) m
 turned_sourced n k j m g a y z w ys o x p q r s e h i =
@@ -84,8 +113,8 @@ turned_sourced n k j m g a y z w ys o x p q r s e h i =
     }
 
 -- The rule that takes a copy.
-pub turned_behind : (n k j m : ℕ) (g : Names Ty) (a : Ex) (y z w : Text) (ys : List Text) (o : Option Node) (x : Node) → y ≡ reserved n
-    → z ≡ reserved (n + 1) → w ≡ reserved (n + 2) → ys ≡ reserved_from (n + 3) k → j ≡ n + 3 + k
+pub turned_behind : (n k j m : ℕ) (g : Names Ty) (a : Ex) (y z w : Text) (ys : List Text) (o : Option Node) (x : Node)
+    → y ≡ reserved n → z ≡ reserved (n + 1) → w ≡ reserved (n + 2) → ys ≡ reserved_from (n + 3) k → j ≡ n + 3 + k
     → IsRewrittenBehind (supply_of y z w ys told_axis (told_apart j)) a (option_map pure_node o) j m → o ≡ Some x
     → IsRuled n g a (pure_node x) m
 turned_behind n k j m g a y z w ys o x p q r s e h i =
@@ -94,48 +123,11 @@ turned_behind n k j m g a y z w ys o x p q r s e h i =
     record {
       count = k;
       rule = plainly least_under_a_condition;
-      may = tt;
+      may = u.2;
       fires = ap (λ v. rewrite v g least_under_a_condition a) (sym (same-supply n k j y z w ys p q r s e)) ∙ u.0;
       passes = subst (λ v. behind_copy v a ≤ m) e u.1;
       passes_root = subst (λ v. v ≤ m) e (on j (behind_copy j a) m (copy_up j a) u.1);
     }
-
--- ---- the least and the greatest under a condition
-
-word-is : (a : Ex) (f : Fun) (l : Ex) → plain_word a ≡ Some (f, l) → a ≡ fun1 false f l
-word-is (fun1 false f l) h k e =
-    ap (λ u. elim u [ Some v ↦ fun1 false v.0 l | None ↦ fun1 false f l ]) e ∙ ap (λ u. elim u [ Some v ↦ fun1 false h v.1 | None ↦ fun1 false f l ]) e
-word-is a h k e = cc
-
-comp-is : (a e : Ex) (gs : Gens) → comp_parts a ≡ Some (e, gs) → a ≡ comp_ex e gs
-comp-is (comp_ex e gs) f hs h =
-    ap (λ u. elim u [ Some v ↦ comp_ex v.0 gs | None ↦ comp_ex e gs ]) h ∙ ap (λ u. elim u [ Some v ↦ comp_ex f v.1 | None ↦ comp_ex e gs ]) h
-comp-is a f hs h = cc
-
--- The copy that is taken, and the number behind its names.
-copied : (s : Supply) (f : Fun) (e : Ex) (gs : Gens) (t : Parted) → at_last_condition gs ≡ Some t
-    → opposite_copied s (fun1 false f (comp_ex e gs)) ≡ s.copy (opposite_of f e t)
-copied s f e gs t h = ap (λ u. elim u [ None ↦ fun1 false f (comp_ex e gs) | Some v ↦ s.copy (opposite_of f e v) ]) h
-
-behind : (j : ℕ) (f : Fun) (e : Ex) (gs : Gens) (t : Parted) → at_last_condition gs ≡ Some t
-    → behind_copy j (fun1 false f (comp_ex e gs)) ≡ (told (opposite_of f e t) [] j).1
-behind j f e gs t h = ap (λ u. elim u [ None ↦ j | Some v ↦ (told (opposite_of f e v) [] j).1 ]) h
-
-least-of : (s : Supply) (a m : Ex) (j k : ℕ) (o : Option Node) → opposite_copied s a ≡ m → behind_copy j a ≡ k
-    → option_map pure_node o ≡ extreme_condition m a → IsRewrittenBehind s a (option_map pure_node o) j k
-least-of s a m j k None p q h = tt
-least-of s a m j k (Some x) p q h = (ap (λ v. extreme_condition v a) p ∙ sym h, subst (λ v. v ≤ k) (sym q) (omega arith))
-
-pub least_ruled : (y z w : Text) (ys : List Text) (d : Ex → Dom) (a : Ex) (j k : ℕ) (f : Fun) (l e p m : Ex) (gs : Gens) (t : Parted)
-    (o : Option Node) → plain_word a ≡ Some (f, l) → comp_parts l ≡ Some (e, gs) → at_last_condition gs ≡ Some t → p ≡ opposite_of f e t
-    → m ≡ (told p [] j).0 → k ≡ (told p [] j).1 → option_map pure_node o ≡ extreme_condition m a
-    → IsRewrittenBehind (supply_of y z w ys d (told_apart j)) a (option_map pure_node o) j k
-least_ruled y z w ys d a j k f l e p m gs t o q r u v b c h =
-    let i : a ≡ fun1 false f (comp_ex e gs) = word-is a f l q ∙ ap (fun1 false f) (comp-is l e gs r) in
-    least-of (supply_of y z w ys d (told_apart j)) a m j k o
-    (ap (opposite_copied (supply_of y z w ys d (told_apart j))) i ∙ copied (supply_of y z w ys d (told_apart j)) f e gs t u
-    ∙ ap (told_apart j) (sym v) ∙ sym b)
-    (ap (behind_copy j) i ∙ behind j f e gs t u ∙ ap (λ x. (told x [] j).1) (sym v) ∙ sym c) h
 
 -- ---- reserved names
 

@@ -1,24 +1,80 @@
 -- The rules as the program uses them: with reserved names from a number on, index domains as the form of a matrix tells them, and the
 -- source told apart whose term a rule puts in. Beside those of the two lists there is one that gathers conditions, and there are those of
 -- comprehensions whose items have an order, and of sources whose items are counted.
-use Rattle.std.specs.Prelude.{◌≡◌, ◌&&◌, Bool, true, false, if◌then◌else◌, ℕ, zero, suc, ◌+◌, ◌≤◌, List, [], ◌∷◌, Option, Some, None, is_some}
+use Rattle.std.specs.Prelude.{
+  ◌≡◌,
+  ◌&&◌,
+  Bool,
+  true,
+  false,
+  if◌then◌else◌,
+  ℕ,
+  zero,
+  suc,
+  ◌+◌,
+  ◌≤◌,
+  List,
+  [],
+  ◌∷◌,
+  ◌++◌,
+  map,
+  Option,
+  Some,
+  None,
+  is_some,
+}
 use Rattle.ess_semantics.specs.Values.{Text}
 use Rattle.ess_semantics.specs.Names.{Names}
-use Rattle.ess_semantics.specs.Trees.{name_pat, Ex, comp_ex, node_ex, word, no_exs, more_exs, fun1, ex2, Gens, no_gens, over, from, cond, Dom}
+use Rattle.ess_semantics.specs.Trees.{
+  name_pat,
+  Ex,
+  comp_ex,
+  node_ex,
+  word,
+  no_exs,
+  more_exs,
+  fun1,
+  ex2,
+  Gens,
+  no_gens,
+  over,
+  from,
+  cond,
+  Dom,
+}
 use Rattle.ess_semantics.specs.Types.{Ty}
 use Rattle.ess_semantics.specs.Typing.{type_of}
 use Rattle.ess_rules_laws.specs.InclusionRules.{both_sets}
 use Rattle.ess_refine_laws.specs.LeavingConditions.{at_last_condition}
 use Rattle.ess_refine_laws.specs.Copies.{opposite_of}
-use Rattle.ess_refine_laws.specs.AllRules.{Rule, Supply, rewrite, over_a_comprehension, over_a_literal, over_a_source, of_one_source, least_of_alternatives, least_under_a_condition, equal_matrices_at, included_multisets}
+use Rattle.ess_refine_laws.specs.AllRules as rules
+use Rattle.ess_refine_laws.specs.AllRules.{
+  Rule,
+  Supply,
+  rewrite,
+  over_a_comprehension,
+  over_a_literal,
+  over_a_source,
+  of_one_source,
+  least_of_alternatives,
+  least_under_a_condition,
+  equal_matrices_at,
+  included_multisets,
+  condition,
+  condition_behind,
+}
 use Rattle.ess_guard_laws.specs.IndexDomains.{index_dom}
 use Rattle.ess_open_rules_laws.specs.OpenGenerators.{is_plain_over, has_no_source}
 use Rattle.ess_open_rules_laws.specs.OpenRules.{KindRuling, kind_ruled, puts_in}
 use Rattle.ess_gathered_laws.specs.GatheredConditions.{conditions_gathered}
+use Rattle.ess_ordered_laws.specs.OrderedRules as orders
 use Rattle.ess_ordered_laws.specs.OrderedRules.{OrderedRule, ordered_rewrite}
+use Rattle.ess_numbered_laws.specs.NumberRules as numbers
 use Rattle.ess_numbered_laws.specs.NumberRules.{NumberRule, number_rewrite}
 use Rattle.conjure_model_laws.specs.ToldApart.{reserved, told_apart, told}
 use Rattle.ess_kind_rules.specs.Supplies.{told_axis}
+use Rattle.ess_rules.specs.WaitingConditions.{may_leave}
+use Rattle.ess_kind_rules.specs.AskedKinds.{views_asked, tests_asked, view_sizes_asked, picks_asked, sources_asked, folds_behind_asked}
 
 -- As many reserved names, from the n-th on.
 abbrev pub reserved_from : ℕ → ℕ → List Text
@@ -70,8 +126,8 @@ with_new_source j e = (e, j)
 
 -- ---- rules of all sorts
 
--- A rule that reads no kind, one that does, the one that gathers conditions, one of comprehensions whose items have an order, or one of those
--- whose items are counted.
+-- A rule that reads no kind, one that does, the one that gathers conditions, one of comprehensions whose items have an order, or one of
+-- those whose items are counted.
 pub data Ruling : Type 0 where
   plainly : Rule → Ruling
   by_kind : KindRuling → Ruling
@@ -106,11 +162,15 @@ abbrev pub compares_sets : Names Ty → Ex → Bool
 compares_sets g (ex2 m o a b) = both_sets (type_of a g) (type_of b g)
 compares_sets g e = false
 
--- The rule may be used at the root: matrices are compared by index domains only where their forms tell them, and how often members are there
--- isn't counted of sets.
+-- The rule may be used at the root: matrices are compared by index domains only where their forms tell them, how often members are there
+-- isn't counted of sets, and conditions that read cells wait for those of the parts.
 abbrev pub MayRule : Names Ty → Ruling → Ex → Type 0
 MayRule g (plainly equal_matrices_at) a = both_told a ≡ true
 MayRule g (plainly included_multisets) a = compares_sets g a ≡ false
+MayRule g (plainly condition) a = may_leave a ≡ true
+MayRule g (plainly condition_behind) a = may_leave a ≡ true
+MayRule g (plainly least_under_a_condition) a = may_leave a ≡ true
+MayRule g gathering a = may_leave a ≡ true
 MayRule g r a = Unit {0}
 
 -- What the rule makes of the root.
@@ -145,7 +205,100 @@ pub record IsRuled (n : ℕ) (g : Names Ty) (a b : Ex) (m : ℕ) : Type 0 where
   pub passes : behind_ruling (n + 3 + count) rule a ≤ m
   pub passes_root : behind_root (n + 3 + count) rule a ≤ m
 
--- What the rules make of a, where one fires.
+-- ---- what is asked
+
+-- The rules that are asked of every root, in groups, in the order in which they are asked. The rules of sources that only know listings
+-- aren't asked: those of openings do the same for more roots.
+
+-- Folds: over nothing, one item, no generator, a condition alone, a set made of another container.
+abbrev pub folds_asked : List Ruling
+folds_asked =
+    plainly rules.over_nothing ∷ plainly rules.over_one ∷ plainly rules.over_one_binding ∷ plainly rules.over_a_condition
+    ∷ plainly rules.over_a_made_set ∷ []
+
+-- Comprehensions whose items have an order.
+abbrev pub ordered_asked : List Ruling
+ordered_asked =
+    in_order orders.source_by_indices ∷ in_order orders.of_an_item ∷ in_order orders.an_item ∷ in_order orders.source_of_an_item ∷ []
+
+-- Comprehensions whose items are counted.
+abbrev pub numbered_asked : List Ruling
+numbered_asked =
+    by_number numbers.equality_of_lists ∷ by_number numbers.sign_between_lists ∷ by_number numbers.item_of_a_list
+    ∷ by_number numbers.side_of_a_pair ∷ by_number numbers.lists_of_what_is_picked ∷ []
+
+-- Rules that put a source in.
+abbrev pub source_rules_asked : List Ruling
+source_rules_asked = map by_kind sources_asked ++ (plainly rules.over_a_source ∷ [])
+
+-- Folds over a term that isn't laid open.
+abbrev pub terms_asked : List Ruling
+terms_asked = plainly rules.over_a_term ∷ []
+
+-- Comparisons of compound values.
+abbrev pub comparing_asked : List Ruling
+comparing_asked =
+    plainly rules.not_equal ∷ plainly rules.turned ∷ plainly rules.strictly ∷ plainly rules.equal_tuples ∷ plainly rules.equal_records
+    ∷ plainly rules.equal_sets ∷ plainly rules.equal_multisets ∷ plainly rules.equal_functions ∷ []
+
+-- Equality of partitions and matrices, and inclusion.
+abbrev pub equality_asked : List Ruling
+equality_asked =
+    plainly rules.equal_partitions ∷ plainly rules.with_nothing ∷ plainly rules.equal_matrices_at ∷ plainly rules.included_sets
+    ∷ plainly rules.included_multisets ∷ []
+
+-- Components and fields of literals, and membership.
+abbrev pub membership_asked : List Ruling
+membership_asked =
+    plainly rules.component_of_a_tuple ∷ plainly rules.field_of_a_record ∷ plainly rules.in_two ∷ plainly rules.in_one_made_of_another
+    ∷ plainly rules.in_a_literal ∷ plainly rules.in_what_a_function_has ∷ plainly rules.in_its_pairs ∷ plainly rules.in_a_term ∷ []
+
+-- Sizes, frequencies and `together`.
+abbrev pub sizes_asked : List Ruling
+sizes_asked =
+    plainly rules.size_of_one_made_of_another ∷ plainly rules.size ∷ plainly rules.frequency_in_one_made_of_another
+    ∷ plainly rules.frequency_in_a_literal ∷ plainly rules.frequency ∷ plainly rules.together ∷ []
+
+-- Lists, and sets of results.
+abbrev pub lists_asked : List Ruling
+lists_asked =
+    plainly rules.least_of_a_literal ∷ plainly rules.different_items ∷ plainly rules.list_of_a_term ∷ plainly rules.lists_on_both_sides
+    ∷ plainly rules.all_different ∷ plainly rules.results ∷ []
+
+-- Numbers that conditions choose, and conditions that read cells: several under `min` or `max` become one first.
+abbrev pub conditions_asked : List Ruling
+conditions_asked = plainly rules.choice ∷ gathering ∷ plainly rules.condition ∷ plainly rules.condition_behind ∷ []
+
+-- The least and the greatest under such a condition.
+abbrev pub extremes_asked : List Ruling
+extremes_asked = plainly rules.least_under_a_condition ∷ []
+
+-- Those before the rules that put a source in, and those behind them.
+abbrev pub first_asked : List Ruling
+first_asked =
+    map by_kind views_asked ++ (map by_kind tests_asked ++ (map by_kind view_sizes_asked ++ (map by_kind picks_asked
+    ++ (folds_asked ++ (ordered_asked ++ numbered_asked)))))
+
+abbrev pub later_asked : List Ruling
+later_asked =
+    map by_kind folds_behind_asked ++ (terms_asked ++ (comparing_asked ++ (equality_asked ++ (membership_asked ++ (sizes_asked
+    ++ (lists_asked ++ conditions_asked))))))
+
+-- All of them.
+abbrev pub rules_asked : List Ruling
+rules_asked = first_asked ++ (source_rules_asked ++ (later_asked ++ extremes_asked))
+
+-- None of the rules makes anything of the root by f, where it may be used.
+abbrev pub NoneOf : (Ruling → Ex → Option Ex) → Names Ty → List Ruling → Ex → Type 0
+NoneOf f g [] a = Unit {0}
+NoneOf f g (r ∷ rs) a = (MayRule g r a → f r a ≡ None) × NoneOf f g rs a
+
+-- None of the rules that are asked fires at a, where names have the types g, with reserved names from the n-th on.
+pub record NoneFires (n : ℕ) (g : Names Ty) (a : Ex) : Type 0 where
+  pub count : ℕ
+  pub none : NoneOf (λ r e. ruled (supply_at n count) g r (root_of (n + 3 + count) r e)) g rules_asked a
+
+-- What the rules make of a: where one fires what it makes, else nothing, and no name is taken.
 abbrev pub IsTurn : ℕ → Names Ty → Ex → Option Ex → ℕ → Type 0
-IsTurn n g a None m = n ≤ m
+IsTurn n g a None m = (m ≡ n) × NoneFires n g a
 IsTurn n g a (Some b) m = IsRuled n g a b m

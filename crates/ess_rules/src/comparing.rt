@@ -3,6 +3,7 @@ ghost use Rattle.std.specs.Prelude.{◌≡◌, IfOk, option_map};
 ghost use Rattle.ess_core_nodes.specs.NodeViews.{pure_node};
 ghost use Rattle.ess_node_types.specs.TypedNames.{pure_names};
 ghost use Rattle.ess_kind_rules.specs.Supplies.{taken_supply};
+ghost use Rattle.ess_rules.specs.Ruled.{comparing_asked};
 ghost use Rattle.ess_rules.specs.Supplies.{IsRewritten};
 
 use crate::special::not_equal;
@@ -16,14 +17,16 @@ use ess_rules_comparing::{
 };
 use std::alloc::Global;
 
-/// What the first of these rules that fires makes of the root. `NoMemory` where there is no room for it.
+/// What the first of these rules that fires makes of the root, or nothing where none of them fires. `NoMemory` where there is no room for
+/// it.
 pub(crate) fn comparing(
     alloc: Global,
     names: &NameTypes,
     taken: &Taken<'_>,
     node: &Node,
 ) -> Result<Option<Boxed<Node>>, NoMemory>
-    ensures { IfOk result (λ o. IsRewritten (taken_supply taken.now) (pure_names names.now) (pure_node node.now) (option_map pure_node o)) }
+    ensures { IfOk result (λ o. IsRewritten comparing_asked (taken_supply taken.now) (pure_names names.now) (pure_node node.now)
+        (option_map pure_node o)) }
 {
     if let Some(new) = not_equal(alloc, names, taken, node)? {
         return Ok(Some(new));

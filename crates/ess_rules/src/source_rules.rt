@@ -12,7 +12,8 @@ use ess_node_types::NameTypes;
 use ess_rows::{Boxed, NoMemory};
 use std::alloc::Global;
 
-/// What the first of these rules that fires makes of the root. `NoMemory` where there is no room for it.
+/// What the first of these rules that fires makes of the root, or nothing where none of them fires. `NoMemory` where there is no room for
+/// it.
 pub(crate) fn source_rules(
     alloc: Global,
     names: &NameTypes,

@@ -2,7 +2,7 @@
 ghost use Rattle.std.specs.Prelude.{◌≡◌, ◌+◌, ◌≤◌, IfOk, OnOk, option_map};
 ghost use Rattle.ess_core_nodes.specs.NodeViews.{pure_node};
 ghost use Rattle.ess_node_types.specs.TypedNames.{pure_names};
-ghost use Rattle.ess_rules.specs.Ruled.{IsTurn};
+ghost use Rattle.ess_rules.specs.Ruled.{IsTurn, first_asked, later_asked};
 ghost use Rattle.ess_kind_rules.specs.Supplies.{taken_supply};
 ghost use Rattle.ess_rules.specs.Supplies.{IsRewritten, IsSourcedBehind, IsRewrittenBehind};
 
@@ -16,7 +16,7 @@ use crate::membership::membership;
 use crate::numbered::numbered;
 use crate::ordered::ordered;
 use crate::reserving::{component_count, counted, reserved_name, reserved_names};
-use crate::settled::{has_open_parts, is_open};
+use crate::settled::may_leave;
 use crate::sizes::sizes;
 use crate::source_rules::source_rules;
 use crate::sourced::with_new_source;
@@ -31,9 +31,9 @@ use ess_rules_folds::forms::comp_in;
 use ess_rules_forms::plain_word;
 use std::alloc::Global;
 
-/// What the first rule that fires makes of the root of a tree, where names have these types, or nothing where none fires. Rules take
-/// reserved names from `next` on, and where one fires the number of the name behind them is left there. `NoMemory` where there is no
-/// room for it, or the reserved names can't be counted.
+/// What the first rule that fires makes of the root of a tree, where names have these types. Where that is nothing, none of the rules that
+/// are asked of every root fires. Rules take reserved names from `next` on, and where one fires the number of the name behind them is left
+/// there; else `next` stays. `NoMemory` where there is no room for it, or the reserved names can't be counted.
 pub fn rule_at(
     alloc: Global,
     node: &Node,
@@ -86,7 +86,8 @@ fn first_rules(
     taken: &Taken<'_>,
     node: &Node,
 ) -> Result<Option<Boxed<Node>>, NoMemory>
-    ensures { IfOk result (λ o. IsRewritten (taken_supply taken.now) (pure_names names.now) (pure_node node.now) (option_map pure_node o)) }
+    ensures { IfOk result (λ o. IsRewritten first_asked (taken_supply taken.now) (pure_names names.now) (pure_node node.now)
+        (option_map pure_node o)) }
 {
     if let Some(new) = kinds::views(alloc, names, taken, node)? {
         return Ok(Some(new));
@@ -137,7 +138,8 @@ fn later_rules(
     taken: &Taken<'_>,
     node: &Node,
 ) -> Result<Option<Boxed<Node>>, NoMemory>
-    ensures { IfOk result (λ o. IsRewritten (taken_supply taken.now) (pure_names names.now) (pure_node node.now) (option_map pure_node o)) }
+    ensures { IfOk result (λ o. IsRewritten later_asked (taken_supply taken.now) (pure_names names.now) (pure_node node.now)
+        (option_map pure_node o)) }
 {
     if let Some(new) = kinds::lists(alloc, names, taken, node)? {
         return Ok(Some(new));
@@ -168,6 +170,7 @@ fn later_rules(
 
 /// The least or the greatest under a condition that reads cells. The copy of its opposite takes reserved names from `end` on, and the
 /// number of the name behind them is left there.
+#[tactic(auto, using(crate::proofs::LeastUnderACondition::no_word, crate::proofs::LeastUnderACondition::no_list, crate::proofs::LeastUnderACondition::no_condition, crate::proofs::LeastUnderACondition::not_yet, crate::proofs::LeastUnderACondition::least_ruled))]
 fn least_under_a_condition(
     alloc: Global,
     taken: &Taken<'_>,
@@ -186,7 +189,7 @@ fn least_under_a_condition(
     let Some(parts) = at_last_condition(gens) else {
         return Ok(None);
     };
-    if !is_open(node) || has_open_parts(node) {
+    if !may_leave(node) {
         return Ok(None);
     }
     let opposite = opposite_of(alloc, word, body, &parts)?;

@@ -1,6 +1,7 @@
 use Rattle.ess_core_nodes.specs.NodeViews.{pure_node}
 use Rattle.ess_node_types.specs.TypedNames.{pure_names}
 use Rattle.ess_kind_rules.specs.Supplies.{taken_supply}
+use Rattle.ess_kind_rules.specs.AskedKinds.{views_asked}
 use Rattle.ess_kind_rules.proofs.KindRoots.{
   kind_step_by_step,
   kind_applied_relation,
@@ -9,34 +10,44 @@ use Rattle.ess_kind_rules.proofs.KindRoots.{
   kind_truth_in_a_matrix,
   kind_truth_at_an_argument,
 }
+use Rattle.ess_kind_rules.proofs.NoneOfKinds.{none_more}
 use Rattle.ess_kind_rules.proofs.view_rules.views.Goals as goal
 
 pub returns-in-Some : goal.returns-in-Some
 returns-in-Some c =
-    kind_step_by_step (taken_supply c.args._taken.now) (pure_names c.args.names.now) (pure_node c.args.node.now)
+    kind_step_by_step views_asked (taken_supply c.args._taken.now) (pure_names c.args.names.now) (pure_node c.args.node.now)
     c.in_ok-new.field-0 c.in-Some.new c.in_ok-new.ensures c.in-Some.is
 
 pub returns-in-Some-2 : goal.returns-in-Some-2
 returns-in-Some-2 c =
-    kind_applied_relation (taken_supply c.args._taken.now) (pure_names c.args.names.now) (pure_node c.args.node.now)
+    kind_applied_relation views_asked (taken_supply c.args._taken.now) (pure_names c.args.names.now) (pure_node c.args.node.now)
     c.in_ok-new-2.field-0 c.in-Some-2.new c.in_ok-new-2.ensures c.in-Some-2.is
 
 pub returns-in-Some-3 : goal.returns-in-Some-3
 returns-in-Some-3 c =
-    kind_cell_of_an_atom (taken_supply c.args._taken.now) (pure_names c.args.names.now) (pure_node c.args.node.now)
+    kind_cell_of_an_atom views_asked (taken_supply c.args._taken.now) (pure_names c.args.names.now) (pure_node c.args.node.now)
     c.in_ok-new-3.field-0 c.in-Some-3.new c.in_ok-new-3.ensures c.in-Some-3.is
 
 pub returns-in-Some-4 : goal.returns-in-Some-4
 returns-in-Some-4 c =
-    kind_component_of_a_view (taken_supply c.args._taken.now) (pure_names c.args.names.now) (pure_node c.args.node.now)
+    kind_component_of_a_view views_asked (taken_supply c.args._taken.now) (pure_names c.args.names.now) (pure_node c.args.node.now)
     c.in_ok-new-4.field-0 c.in-Some-4.new c.in_ok-new-4.ensures c.in-Some-4.is
 
 pub returns-in-Some-5 : goal.returns-in-Some-5
 returns-in-Some-5 c =
-    kind_truth_in_a_matrix (taken_supply c.args._taken.now) (pure_names c.args.names.now) (pure_node c.args.node.now)
+    kind_truth_in_a_matrix views_asked (taken_supply c.args._taken.now) (pure_names c.args.names.now) (pure_node c.args.node.now)
     c.in_ok-new-5.field-0 c.in-Some-5.new c.in_ok-new-5.ensures c.in-Some-5.is
 
 pub returns-in-Some-6 : goal.returns-in-Some-6
 returns-in-Some-6 c =
-    kind_truth_at_an_argument (taken_supply c.args._taken.now) (pure_names c.args.names.now) (pure_node c.args.node.now)
+    kind_truth_at_an_argument views_asked (taken_supply c.args._taken.now) (pure_names c.args.names.now) (pure_node c.args.node.now)
     c.in_ok-new-6.field-0 c.in-Some-6.new c.in_ok-new-6.ensures c.in-Some-6.is
+
+pub returns : goal.returns
+returns c =
+    none_more c.in_ok-new.field-0 c.in_ok-new.ensures c.in_default.is
+    (none_more c.in_ok-new-2.field-0 c.in_ok-new-2.ensures c.in_default-2.is
+    (none_more c.in_ok-new-3.field-0 c.in_ok-new-3.ensures c.in_default-3.is
+    (none_more c.in_ok-new-4.field-0 c.in_ok-new-4.ensures c.in_default-4.is
+    (none_more c.in_ok-new-5.field-0 c.in_ok-new-5.ensures c.in_default-5.is
+    (none_more c.in_ok-new-6.field-0 c.in_ok-new-6.ensures c.in_default-6.is tt)))))

@@ -1,10 +1,10 @@
-use Rattle.std.proofs.Common.{rules, ◌≡◌, ◌++◌, [], ◌∷◌, subst, Some}
+use Rattle.std.proofs.Common.{rules, ◌≡◌, ◌++◌, [], ◌∷◌, subst, Some, None}
 use Rattle.std.specs.Prelude.{option_map}
 use Rattle.ess_core_nodes.specs.NodeViews.{pure_node}
 use Rattle.eprime_tree.specs.Views.{pure_ex}
 use Rattle.eprime_read_convert.specs.Lines.{scope_of}
 use Rattle.ess_model_written.specs.RulesWritten.{TreeComes}
-use Rattle.ess_model_written.proofs.Rows.{one_comes}
+use Rattle.ess_model_written.proofs.Rows.{one_comes, one_lacks}
 use Rattle.ess_model_written.proofs.trees.all_written.Goals as goal
 
 pub loop-tree-preserved : goal.loop-tree-preserved
@@ -17,3 +17,11 @@ loop-tree-preserved c =
     let pushed : c.push.new.self ≡ c.loop-tree.rules ++ c.in-Some.rule ∷ [] = search rules in
     one_comes (TreeComes s c.args.taken.now c.args.number) pure_node c.args.trees.now c.loop-tree.tree-index (pure_ex s) t c.loop-tree.rules
     c.push.new.self c.in-Some.rule c.loop-tree-test.true c.tree-item.is pushed came c.loop-tree.invariant
+
+pub returns-in-None : goal.returns-in-None
+returns-in-None c =
+    let s = scope_of c.args.lines.now in
+    let C = TreeComes s c.args.taken.now c.args.number in
+    let t = c.tree-item.result in
+    let none : C (pure_node t) None = subst (λ o. C (pure_node t) (option_map (pure_ex s) o)) c.in-None.is c.in_ok-rule.ensures in
+    one_lacks C pure_node c.args.trees.now c.loop-tree.tree-index t c.loop-tree-test.true c.tree-item.is none

@@ -1,37 +1,56 @@
 use Rattle.ess_core_nodes.specs.NodeViews.{pure_node}
 use Rattle.ess_node_types.specs.TypedNames.{pure_names}
+use Rattle.ess_refine_laws.specs.AllRules.{matrices_at}
 use Rattle.conjure_model_laws.specs.ToldApart.{told_apart}
-use Rattle.ess_kind_rules.specs.Supplies.{told_axis}
-use Rattle.ess_rules.proofs.RuledRoots.{ruled_equal_partitions, ruled_with_nothing, ruled_equal_matrices_at, ruled_included_sets, ruled_included_multisets}
+use Rattle.ess_kind_rules.specs.Supplies.{told_axis, taken_supply}
+use Rattle.ess_rules.specs.Ruled.{both_told, equality_asked}
+use Rattle.ess_rules.proofs.RuledRoots.{
+  ruled_equal_partitions,
+  ruled_with_nothing,
+  ruled_equal_matrices_at,
+  ruled_included_sets,
+  ruled_included_multisets,
+}
+use Rattle.ess_rules.proofs.NoneOfRules.{none_may, none_told}
 use Rattle.ess_rules.proofs.equality.equality.Goals as goal
 
 pub returns-in-Some : goal.returns-in-Some
 returns-in-Some c =
-    ruled_equal_partitions c.args.taken.now.one.now c.args.taken.now.other.now c.args.taken.now.third.now c.args.taken.now.parts.now
-    told_axis (told_apart c.args.taken.now.next)
+    ruled_equal_partitions equality_asked c.args.taken.now.one.now c.args.taken.now.other.now c.args.taken.now.third.now
+    c.args.taken.now.parts.now told_axis (told_apart c.args.taken.now.next)
     (pure_names c.args.names.now) (pure_node c.args.node.now) c.in_ok-new.field-0 c.in-Some.new c.in_ok-new.ensures c.in-Some.is
 
 pub returns-in-Some-2 : goal.returns-in-Some-2
 returns-in-Some-2 c =
-    ruled_with_nothing c.args.taken.now.one.now c.args.taken.now.other.now c.args.taken.now.third.now c.args.taken.now.parts.now
-    told_axis (told_apart c.args.taken.now.next)
+    ruled_with_nothing equality_asked c.args.taken.now.one.now c.args.taken.now.other.now c.args.taken.now.third.now
+    c.args.taken.now.parts.now told_axis (told_apart c.args.taken.now.next)
     (pure_names c.args.names.now) (pure_node c.args.node.now) c.in_ok-new-2.field-0 c.in-Some-2.new c.in_ok-new-2.ensures c.in-Some-2.is
 
 pub returns-in-Some-3 : goal.returns-in-Some-3
 returns-in-Some-3 c =
-    ruled_equal_matrices_at c.args.taken.now.one.now c.args.taken.now.other.now c.args.taken.now.third.now c.args.taken.now.parts.now
-    told_axis (told_apart c.args.taken.now.next)
+    ruled_equal_matrices_at equality_asked c.args.taken.now.one.now c.args.taken.now.other.now c.args.taken.now.third.now
+    c.args.taken.now.parts.now told_axis (told_apart c.args.taken.now.next)
     (pure_names c.args.names.now) (pure_node c.args.node.now) c.in_ok-new-3.field-0 c.in-Some-3.new c.in_ok-new-3.ensures c.in-Some-3.is
 
 pub returns-in-Some-4 : goal.returns-in-Some-4
 returns-in-Some-4 c =
-    ruled_included_sets c.args.taken.now.one.now c.args.taken.now.other.now c.args.taken.now.third.now c.args.taken.now.parts.now
-    told_axis (told_apart c.args.taken.now.next)
+    ruled_included_sets equality_asked c.args.taken.now.one.now c.args.taken.now.other.now c.args.taken.now.third.now
+    c.args.taken.now.parts.now told_axis (told_apart c.args.taken.now.next)
     (pure_names c.args.names.now) (pure_node c.args.node.now) c.in_ok-new-4.field-0 c.in-Some-4.new c.in_ok-new-4.ensures c.in-Some-4.is
 
 pub returns-in-Some-5 : goal.returns-in-Some-5
 returns-in-Some-5 c =
-    ruled_included_multisets c.args.taken.now.one.now c.args.taken.now.other.now c.args.taken.now.third.now c.args.taken.now.parts.now
-    told_axis (told_apart c.args.taken.now.next)
+    ruled_included_multisets equality_asked c.args.taken.now.one.now c.args.taken.now.other.now c.args.taken.now.third.now
+    c.args.taken.now.parts.now told_axis (told_apart c.args.taken.now.next)
     (pure_names c.args.names.now) (pure_node c.args.node.now) c.in_ok-new-5.field-0 c.in-Some-5.new
     c.in_ok-new-4.field-0 c.in_ok-new-4.ensures c.in_default-4.is c.in_ok-new-5.ensures c.in-Some-5.is
+
+pub returns : goal.returns
+returns c =
+    none_may c.in_ok-new.field-0 c.in_ok-new.ensures c.in_default.is
+    (none_may c.in_ok-new-2.field-0 c.in_ok-new-2.ensures c.in_default-2.is
+    (none_told (both_told (pure_node c.args.node.now))
+    (matrices_at (taken_supply c.args.taken.now) (pure_names c.args.names.now) (pure_node c.args.node.now))
+    c.in_ok-new-3.field-0 c.in_ok-new-3.ensures c.in_default-3.is
+    (none_may c.in_ok-new-4.field-0 c.in_ok-new-4.ensures c.in_default-4.is
+    (none_may c.in_ok-new-5.field-0 c.in_ok-new-5.ensures c.in_default-5.is tt))))

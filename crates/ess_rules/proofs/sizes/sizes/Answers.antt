@@ -2,41 +2,59 @@ use Rattle.ess_core_nodes.specs.NodeViews.{pure_node}
 use Rattle.ess_node_types.specs.TypedNames.{pure_names}
 use Rattle.conjure_model_laws.specs.ToldApart.{told_apart}
 use Rattle.ess_kind_rules.specs.Supplies.{told_axis}
-use Rattle.ess_rules.proofs.RuledRoots.{ruled_size_of_one_made_of_another, ruled_size, ruled_frequency_in_one_made_of_another, ruled_frequency_in_a_literal, ruled_frequency, ruled_together}
+use Rattle.ess_rules.specs.Ruled.{sizes_asked}
+use Rattle.ess_rules.proofs.RuledRoots.{
+  ruled_size_of_one_made_of_another,
+  ruled_size,
+  ruled_frequency_in_one_made_of_another,
+  ruled_frequency_in_a_literal,
+  ruled_frequency,
+  ruled_together,
+}
+use Rattle.ess_rules.proofs.NoneOfRules.{none_may}
 use Rattle.ess_rules.proofs.sizes.sizes.Goals as goal
 
 pub returns-in-Some : goal.returns-in-Some
 returns-in-Some c =
-    ruled_size_of_one_made_of_another c.args.taken.now.one.now c.args.taken.now.other.now c.args.taken.now.third.now c.args.taken.now.parts.now
-    told_axis (told_apart c.args.taken.now.next)
+    ruled_size_of_one_made_of_another sizes_asked c.args.taken.now.one.now c.args.taken.now.other.now c.args.taken.now.third.now
+    c.args.taken.now.parts.now told_axis (told_apart c.args.taken.now.next)
     (pure_names c.args.names.now) (pure_node c.args.node.now) c.in_ok-new.field-0 c.in-Some.new c.in_ok-new.ensures c.in-Some.is
 
 pub returns-in-Some-2 : goal.returns-in-Some-2
 returns-in-Some-2 c =
-    ruled_size c.args.taken.now.one.now c.args.taken.now.other.now c.args.taken.now.third.now c.args.taken.now.parts.now
-    told_axis (told_apart c.args.taken.now.next)
+    ruled_size sizes_asked c.args.taken.now.one.now c.args.taken.now.other.now c.args.taken.now.third.now
+    c.args.taken.now.parts.now told_axis (told_apart c.args.taken.now.next)
     (pure_names c.args.names.now) (pure_node c.args.node.now) c.in_ok-new-2.field-0 c.in-Some-2.new c.in_ok-new-2.ensures c.in-Some-2.is
 
 pub returns-in-Some-3 : goal.returns-in-Some-3
 returns-in-Some-3 c =
-    ruled_frequency_in_one_made_of_another c.args.taken.now.one.now c.args.taken.now.other.now c.args.taken.now.third.now c.args.taken.now.parts.now
-    told_axis (told_apart c.args.taken.now.next)
+    ruled_frequency_in_one_made_of_another sizes_asked c.args.taken.now.one.now c.args.taken.now.other.now c.args.taken.now.third.now
+    c.args.taken.now.parts.now told_axis (told_apart c.args.taken.now.next)
     (pure_names c.args.names.now) (pure_node c.args.node.now) c.in_ok-new-3.field-0 c.in-Some-3.new c.in_ok-new-3.ensures c.in-Some-3.is
 
 pub returns-in-Some-4 : goal.returns-in-Some-4
 returns-in-Some-4 c =
-    ruled_frequency_in_a_literal c.args.taken.now.one.now c.args.taken.now.other.now c.args.taken.now.third.now c.args.taken.now.parts.now
-    told_axis (told_apart c.args.taken.now.next)
+    ruled_frequency_in_a_literal sizes_asked c.args.taken.now.one.now c.args.taken.now.other.now c.args.taken.now.third.now
+    c.args.taken.now.parts.now told_axis (told_apart c.args.taken.now.next)
     (pure_names c.args.names.now) (pure_node c.args.node.now) c.in_ok-new-4.field-0 c.in-Some-4.new c.in_ok-new-4.ensures c.in-Some-4.is
 
 pub returns-in-Some-5 : goal.returns-in-Some-5
 returns-in-Some-5 c =
-    ruled_frequency c.args.taken.now.one.now c.args.taken.now.other.now c.args.taken.now.third.now c.args.taken.now.parts.now
-    told_axis (told_apart c.args.taken.now.next)
+    ruled_frequency sizes_asked c.args.taken.now.one.now c.args.taken.now.other.now c.args.taken.now.third.now
+    c.args.taken.now.parts.now told_axis (told_apart c.args.taken.now.next)
     (pure_names c.args.names.now) (pure_node c.args.node.now) c.in_ok-new-5.field-0 c.in-Some-5.new c.in_ok-new-5.ensures c.in-Some-5.is
 
 pub returns-in-Some-6 : goal.returns-in-Some-6
 returns-in-Some-6 c =
-    ruled_together c.args.taken.now.one.now c.args.taken.now.other.now c.args.taken.now.third.now c.args.taken.now.parts.now
-    told_axis (told_apart c.args.taken.now.next)
+    ruled_together sizes_asked c.args.taken.now.one.now c.args.taken.now.other.now c.args.taken.now.third.now
+    c.args.taken.now.parts.now told_axis (told_apart c.args.taken.now.next)
     (pure_names c.args.names.now) (pure_node c.args.node.now) c.in_ok-new-6.field-0 c.in-Some-6.new c.in_ok-new-6.ensures c.in-Some-6.is
+
+pub returns : goal.returns
+returns c =
+    none_may c.in_ok-new.field-0 c.in_ok-new.ensures c.in_default.is
+    (none_may c.in_ok-new-2.field-0 c.in_ok-new-2.ensures c.in_default-2.is
+    (none_may c.in_ok-new-3.field-0 c.in_ok-new-3.ensures c.in_default-3.is
+    (none_may c.in_ok-new-4.field-0 c.in_ok-new-4.ensures c.in_default-4.is
+    (none_may c.in_ok-new-5.field-0 c.in_ok-new-5.ensures c.in_default-5.is
+    (none_may c.in_ok-new-6.field-0 c.in_ok-new-6.ensures c.in_default-6.is tt)))))
