@@ -6,7 +6,7 @@ use Rattle.ess_semantics.specs.Values.{Text}
 use Rattle.ess_semantics.specs.Names.{Names, keys, is_among}
 use Rattle.ess_semantics.specs.Trees.{Step, by_value, to_component, to_field, Pat, Pats, name_pat, tuple_pat, no_pats, more_pats, Ex, Exs, more_exs, no_exs}
 use Rattle.ess_semantics.specs.Types.{Ty, Tys, any_ty, no_tys, more_tys, parts_of_ty, bind_types, bind_all_types}
-use Rattle.ess_semantics.specs.Typing.{a_number, a_name, static, statics, type_behind, path_ty, type_of, types_of}
+use Rattle.ess_semantics.specs.Typing.{a_number, a_name, static, statics, type_behind, part_behind, path_ty, type_of, types_of}
 use Rattle.ess_semantics.specs.Lettings.{is_record, field_steps}
 use Rattle.ess_semantics.specs.Scopes.{Scope, names_in_scope, Asked, nothing_asked, every, every_operand}
 use Rattle.ess_semantics.specs.Scoped.{is_bound, is_bound_by_some, with_names}
@@ -144,6 +144,6 @@ module _ (v : Text → Bool) (q : Asked) (s : Scope) (ms ns : List Text) (u : Te
       (tail-asked q (is_some_and t is_record) bs e es (depending ms s) a)
       (tail-asked known_parts (is_some_and t is_record) bs e es (depending ns s) f))
   steps-use t (to_component n ∷ qs) es i k a f =
-      steps-use (type_behind t (a_number n) None) qs es (component-leads s.tys t n qs es i) k a f
+      steps-use (part_behind t (a_number n)) qs es (component-leads s.tys t n qs es i) k a f
   steps-use t (to_field x ∷ qs) es i k a f =
-      steps-use (type_behind t (a_name x) None) qs es (field-leads s.tys t x qs es i) k a f
+      steps-use (part_behind t (a_name x)) qs es (field-leads s.tys t x qs es i) k a f

@@ -7,7 +7,7 @@ use Rattle.ess_semantics.specs.Order.{same_text}
 use Rattle.ess_semantics.specs.Names.{Names, is_among}
 use Rattle.ess_semantics.specs.Trees.{Step, by_value, to_component, to_field, index, Pat, Ex, Exs, number_ex, truth_ex, name_ex, node_ex, matrix_ex, comp_ex, cell_ex, seen_ex, no_exs, more_exs, Gens, no_gens, over, from, cond}
 use Rattle.ess_semantics.specs.Types.{Ty, pattern_names, type_of_dom}
-use Rattle.ess_semantics.specs.Typing.{a_number, a_name, static, statics, type_of, types_of, source_ty, type_behind, path_ty}
+use Rattle.ess_semantics.specs.Typing.{a_number, a_name, static, statics, type_of, types_of, source_ty, type_behind, part_behind, path_ty}
 use Rattle.ess_semantics.specs.Lettings.{is_record, field_steps}
 use Rattle.ess_semantics.specs.NamesAt.{names_behind}
 use Rattle.ess_semantics.specs.Scoped.{is_bound}
@@ -132,9 +132,9 @@ module _ (t w : Text → Bool) where
       (steps-given s u v qs es (value-leads s.tys T qs e es i) g.1 (tail-asked fit (is_some_and T is_record) bs e es s a)
       (tail-asked listed (is_some_and T is_record) bs e es s f)) n p
   steps-given s u T (to_component c ∷ qs) es i g a f n p =
-      steps-given s u (type_behind T (a_number c) None) qs es (component-leads s.tys T c qs es i) g a f n p
+      steps-given s u (part_behind T (a_number c)) qs es (component-leads s.tys T c qs es i) g a f n p
   steps-given s u T (to_field c ∷ qs) es i g a f n p =
-      steps-given s u (type_behind T (a_name c) None) qs es (field-leads s.tys T c qs es i) g a f n p
+      steps-given s u (part_behind T (a_name c)) qs es (field-leads s.tys T c qs es i) g a f n p
 
   mutual
     judged-given : (e : Ex) (s : Scope) (u : Text → Bool) → HasGivens w s u → every fit e s ≡ true → every listed e s ≡ true →

@@ -7,7 +7,7 @@ use Rattle.ess_semantics.specs.Lists.{and_then, or_else}
 use Rattle.ess_semantics.specs.Values.{Text, a_function}
 use Rattle.ess_semantics.specs.Names.{Names}
 use Rattle.ess_semantics.specs.Trees.{name_pat, Mark, Repr, repr, no_reprs, more_reprs, by_value, index, application, word, tuple_literal, matrix_literal, function_literal, Ex, Exs, name_ex, node_ex, matrix_ex, seen_ex, no_exs, more_exs, Gens, Dom, function_dom, tuple_dom, matrix_dom, more_doms}
-use Rattle.ess_semantics.specs.Types.{Ty, compound2}
+use Rattle.ess_semantics.specs.Types.{Ty, any_ty, compound2}
 use Rattle.ess_semantics.specs.Typing.{type_of}
 use Rattle.ess_rules_laws.specs.Listings.{Alternative}
 use Rattle.ess_rules_laws.specs.FunctionViews.{by_name, by_names, names_fit, total_result, flagged_result, of_application, Run}
@@ -219,6 +219,7 @@ module _ (w : Wanted) where
 
       pairs : (t : Option Ty) (f a : Ex) → PartsHave w f → PartsHave w a → A (pairs_at t x f a)
       pairs (Some (compound2 a_function t v)) f a h k = ((o.0.0, tt), (o.1 f, h, (((o.0.0, tt), (k, tt)), tt)))
+      pairs (Some any_ty) f a h k = ((o.0.0, tt), (o.1 f, h, (((o.0.0, tt), (k, tt)), tt)))
       pairs _ f a h k = tt
 
       of-function : (g : Names Ty) (e : Ex) → PartsHave w e → A (function_lookup g x e)

@@ -7,7 +7,7 @@ use Rattle.ess_semantics.specs.Lists.{and_then, or_else}
 use Rattle.ess_semantics.specs.Values.{Text, a_matrix, a_function}
 use Rattle.ess_semantics.specs.Names.{Names}
 use Rattle.ess_semantics.specs.Trees.{word, application, Ex, name_ex, node_ex, comp_ex, no_exs, more_exs}
-use Rattle.ess_semantics.specs.Types.{Ty, int_ty, compound2}
+use Rattle.ess_semantics.specs.Types.{Ty, any_ty, int_ty, compound2}
 use Rattle.ess_semantics.specs.Typing.{type_of, types_under}
 use Rattle.ess_semantics.proofs.Tests.{and-left}
 use Rattle.ess_rules_laws.specs.Listings.{Alternative}
@@ -67,22 +67,24 @@ module _ (u : Text → Bool) (c : Counts u) where
   of-party x (node_ex b (word Fun.Party) (more_exs a (more_exs p no_exs))) = λ q. cc
   of-party x _ = tt
 
-  -- A comprehension is no function.
-  no-function : {A : Type 0} (g : Names Ty) (f : Ex) (t v : Ty) → type_of f g ≡ Some (compound2 a_function t v) → is_decided f ≡ true → A
-  no-function g (comp_ex e gs) t v q d = go (types_under gs g) q
+  -- What is decided is a comprehension, and so a matrix.
+  no-other : {A : Type 0} (g : Names Ty) (f : Ex) (w : Ty) → type_of f g ≡ Some w → ((t : Ty) → compound2 a_matrix int_ty t ≡ w → A) →
+      is_decided f ≡ true → A
+  no-other {A = A} g (comp_ex e gs) w q k d = go (types_under gs g) q
     where
-      at : {A : Type 0} (o : Option Ty) → option_map (compound2 a_matrix int_ty) o ≡ Some (compound2 a_function t v) → A
+      at : (o : Option Ty) → option_map (compound2 a_matrix int_ty) o ≡ Some w → A
       at None q = cc
-      at (Some z) q = cc
+      at (Some z) q = k z cc
 
-      go : {A : Type 0} (o : Option (Names Ty)) → and_then o (λ h. option_map (compound2 a_matrix int_ty) (type_of e h))
-          ≡ Some (compound2 a_function t v) → A
+      go : (o : Option (Names Ty)) → and_then o (λ h. option_map (compound2 a_matrix int_ty) (type_of e h)) ≡ Some w → A
       go None q = cc
       go (Some h) q = at (type_of e h) q
-  no-function g _ t v q d = cc
+  no-other g _ w q k d = cc
 
   pairs : (g : Names Ty) (x : Text) (f a : Ex) (t : Option Ty) → type_of f g ≡ t → LooksDecided (pairs_at t x f a)
-  pairs g x f a (Some (compound2 a_function t v)) q = λ d. no-function g f t v q (and-left (is_decided f) _ d)
+  pairs g x f a (Some (compound2 a_function t v)) q =
+      λ d. no-other g f (compound2 a_function t v) q (λ z e. cc) (and-left (is_decided f) _ d)
+  pairs g x f a (Some any_ty) q = λ d. no-other g f any_ty q (λ z e. cc) (and-left (is_decided f) _ d)
   pairs g x f a _ q = tt
 
   of-function : (g : Names Ty) (x : Text) (e : Ex) → LooksDecided (function_lookup g x e)

@@ -5,7 +5,7 @@ use Rattle.ess_semantics.specs.Values.{Text, a_function}
 use Rattle.ess_semantics.specs.Names.{Names}
 use Rattle.ess_semantics.specs.Trees.{Step, by_value, to_component, to_field, Op, index, application, Ex, Exs, number_ex, truth_ex, name_ex, node_ex, matrix_ex, comp_ex, cell_ex, seen_ex, no_exs, more_exs, Gens, no_gens, over, from, cond}
 use Rattle.ess_semantics.specs.Types.{Ty, compound2, type_of_dom}
-use Rattle.ess_semantics.specs.Typing.{Static, a_number, a_name, static, statics, type_of, types_of, source_ty, type_behind, path_ty}
+use Rattle.ess_semantics.specs.Typing.{Static, a_number, a_name, static, statics, type_of, types_of, source_ty, type_behind, part_behind, path_ty}
 use Rattle.ess_semantics.specs.Lettings.{is_record, field_steps}
 use Rattle.ess_semantics.specs.NamesAt.{names_behind}
 use Rattle.ess_semantics.specs.Scopes.{Scope, Asked, with_bound, every, every_operand, every_under, every_dom, is_fixed, mentions_finds}
@@ -193,9 +193,9 @@ module _ (t w : Text → Bool) where
       (steps-ordered s u h v qs es (value-leads s.tys T qs e es i) g.1 (tail-asked fit (is_some_and T is_record) bs e es s a)
       (tail-fits true (is_some_and T is_record) bs e es s o)) n p
   steps-ordered s u h T (to_component c ∷ qs) es i g a o n p =
-      steps-ordered s u h (type_behind T (a_number c) None) qs es (component-leads s.tys T c qs es i) g a o n p
+      steps-ordered s u h (part_behind T (a_number c)) qs es (component-leads s.tys T c qs es i) g a o n p
   steps-ordered s u h T (to_field c ∷ qs) es i g a o n p =
-      steps-ordered s u h (type_behind T (a_name c) None) qs es (field-leads s.tys T c qs es i) g a o n p
+      steps-ordered s u h (part_behind T (a_name c)) qs es (field-leads s.tys T c qs es i) g a o n p
 
   -- ---- the tree
 

@@ -8,7 +8,7 @@ use Rattle.ess_semantics.specs.Names.{Names, look}
 use Rattle.ess_semantics.specs.Trees.{Step, by_value, to_component, to_field, index, both_ends, name_pat, matrix_literal, Ex, Exs, number_ex, name_ex, node_ex, matrix_ex, comp_ex, seen_ex, no_exs, more_exs, no_gens, over, Dom, bool_dom, int_dom, name_dom, matrix_dom, more_doms, ex2}
 use Rattle.ess_semantics.specs.Types.{Ty, any_ty, bool_ty, int_ty, compound1, compound2, join, join_all, type_of_dom, nested_ty}
 use Rattle.ess_semantics.specs.OperatorTypes.{type_of_list}
-use Rattle.ess_semantics.specs.Typing.{Static, a_number, a_name, static, statics, step_ty, path_ty, type_of_node, type_of, types_of, types_under}
+use Rattle.ess_semantics.specs.Typing.{Static, a_number, a_name, static, statics, step_ty, part_ty, path_ty, type_of_node, type_of, types_of, types_under}
 use Rattle.ess_semantics.proofs.Texts.{same_text-itself}
 use Rattle.ess_guard_laws.specs.Origins.{Origin, is_sure}
 use Rattle.ess_guard_laws.specs.IndexDomains.{item_dom, dom_behind, dom_followed, first_index, are_plain_bounds, plain_axis, index_dom}
@@ -197,12 +197,12 @@ path-conds k x m (by_value ∷ qs) (more_exs i is) t g h n p hs v e =
     (one-index k x (index_dom m) m i t u.0 w.0 g (axis-of m g h n t p) hs.0 u.1 w.1 y s)
     (path-conds k x (at_step by_value m (more_exs i no_exs)) qs is w.0 g y refl s hs.1 v w.2)
 path-conds k x m (to_component c ∷ qs) is t g h n p hs v e =
-    let w = then-there (step_ty t (a_number c) None) (λ w. path_ty w qs (statics is) (types_of is g)) v e in
+    let w = then-there (part_ty t (a_number c)) (λ w. path_ty w qs (statics is) (types_of is g)) v e in
     let s : type_of (at_step (to_component c) m no_exs) g ≡ Some w.0 = step-type (to_component c) (type_of m g) (static m) [] [] t w.0 p
     (ap (λ o. and_then o (λ z. Some z)) w.1) in
     path-conds k x (at_step (to_component c) m no_exs) qs is w.0 g (ap is_some s, ap not n, (h, tt)) refl s hs v w.2
 path-conds k x m (to_field a ∷ qs) is t g h n p hs v e =
-    let w = then-there (step_ty t (a_name a) None) (λ w. path_ty w qs (statics is) (types_of is g)) v e in
+    let w = then-there (part_ty t (a_name a)) (λ w. path_ty w qs (statics is) (types_of is g)) v e in
     let s : type_of (at_step (to_field a) m no_exs) g ≡ Some w.0 = step-type (to_field a) (type_of m g) (static m) [] [] t w.0 p
     (ap (λ o. and_then o (λ z. Some z)) w.1) in
     path-conds k x (at_step (to_field a) m no_exs) qs is w.0 g (ap is_some s, ap not n, (h, tt)) refl s hs v w.2

@@ -6,7 +6,7 @@ use Rattle.ess_semantics.specs.Names.{Names}
 use Rattle.ess_semantics.specs.Trees.{Step, by_value, to_component, to_field, index, Op, Ex, Exs, node_ex, no_exs, more_exs}
 use Rattle.ess_semantics.specs.Types.{Ty, any_ty, bool_ty, int_ty, named_ty, compound, compound1, compound2, no_tys, more_tys}
 use Rattle.ess_semantics.specs.OperatorTypes.{type_of_op}
-use Rattle.ess_semantics.specs.Typing.{a_number, a_name, other, static, statics, step_ty, path_ty, type_of_node, type_of, types_of}
+use Rattle.ess_semantics.specs.Typing.{a_number, a_name, other, static, statics, step_ty, part_ty, path_ty, type_of_node, type_of, types_of}
 use Rattle.ess_rules_laws.specs.LiteralRules.{nth}
 use Rattle.ess_refine_types_laws.proofs.TypesOfListed.{heads, all-is}
 
@@ -67,8 +67,8 @@ module _ (g : Names Ty) where
           (subst (λ z. static z ≡ other) (sym c) s) r)
   path-typed (Some p) (by_value ∷ qs) (more_exs a es) (suc (suc k)) t n s v q =
       path-typed (step_ty p (static a) (type_of a g)) qs es (suc k) t n s v q
-  path-typed (Some p) (to_component j ∷ qs) es k t n s v q = path-typed (step_ty p (a_number j) None) qs es k t n s v q
-  path-typed (Some p) (to_field a ∷ qs) es k t n s v q = path-typed (step_ty p (a_name a) None) qs es k t n s v q
+  path-typed (Some p) (to_component j ∷ qs) es k t n s v q = path-typed (part_ty p (a_number j)) qs es k t n s v q
+  path-typed (Some p) (to_field a ∷ qs) es k t n s v q = path-typed (part_ty p (a_name a)) qs es k t n s v q
   path-typed (Some p) [] (more_exs a es) k t n s v q = no (let i : false ≡ true = cc in i)
   path-typed (Some p) (by_value ∷ qs) (more_exs a es) zero t n s v q = no (let i : false ≡ true = cc in i)
   path-typed (Some p) [] no_exs k t n s v q = no (let i : false ≡ true = cc in i)

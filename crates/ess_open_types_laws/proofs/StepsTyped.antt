@@ -8,7 +8,7 @@ use Rattle.ess_semantics.specs.Names.{Names}
 use Rattle.ess_semantics.specs.Trees.{Step, by_value, to_component, to_field, binary, application, index, tuple_literal, Ex, Exs, node_ex, no_exs, more_exs, ex2, from}
 use Rattle.ess_semantics.specs.Types.{Ty, Tys, any_ty, bool_ty, int_ty, named_ty, compound, no_tys, more_tys, tys_of, is_bool, join, joins, fit}
 use Rattle.ess_semantics.specs.OperatorTypes.{type_of_op, type_of_application, asked_ty}
-use Rattle.ess_semantics.specs.Typing.{Static, a_number, a_name, other, static, statics, step_ty, path_ty, type_of_node, type_of, types_of}
+use Rattle.ess_semantics.specs.Typing.{Static, a_number, a_name, other, static, statics, step_ty, part_ty, path_ty, type_of_node, type_of, types_of}
 use Rattle.ess_rules_laws.specs.IndexSteps.{step_apart}
 use Rattle.ess_guard_types_laws.proofs.JoinedTypes.{turned}
 use Rattle.ess_refine_laws.specs.TypesStay.{KeepsType}
@@ -57,13 +57,13 @@ module _ (q : Step) (qs : List Step) (ss : List Static) (us : List (Option Ty)) 
       type_of_node (index (to_component k ∷ q ∷ qs)) (sm ∷ ss) (o ∷ us) ≡ Some t →
       StepsOn (type_of_node (index (to_component k ∷ [])) (sm ∷ []) (o ∷ []))
   component-on None sm k r = (cc, λ ps. cc)
-  component-on (Some p) sm k r = steps-on (step_ty p (a_number k) None) r
+  component-on (Some p) sm k r = steps-on (part_ty p (a_number k)) r
 
   field-on : (o : Option Ty) (sm : Static) (a : _) →
       type_of_node (index (to_field a ∷ q ∷ qs)) (sm ∷ ss) (o ∷ us) ≡ Some t →
       StepsOn (type_of_node (index (to_field a ∷ [])) (sm ∷ []) (o ∷ []))
   field-on None sm a r = (cc, λ ps. cc)
-  field-on (Some p) sm a r = steps-on (step_ty p (a_name a) None) r
+  field-on (Some p) sm a r = steps-on (part_ty p (a_name a)) r
 
 module _ (g : Names Ty) where
   -- A node of an index whose type stays.

@@ -7,7 +7,7 @@ use Rattle.ess_semantics.specs.Lists.{and_then, or_else}
 use Rattle.ess_semantics.specs.Values.{Text, a_function}
 use Rattle.ess_semantics.specs.Names.{Names}
 use Rattle.ess_semantics.specs.Trees.{Repr, repr, no_reprs, more_reprs, by_value, index, application, word, tuple_literal, matrix_literal, function_literal, Ex, Exs, name_ex, node_ex, matrix_ex, seen_ex, no_exs, more_exs, Gens, Dom, Doms, no_doms, more_doms, function_dom, relation_dom, tuple_dom, matrix_dom}
-use Rattle.ess_semantics.specs.Types.{Ty, compound2}
+use Rattle.ess_semantics.specs.Types.{Ty, any_ty, compound2}
 use Rattle.ess_semantics.specs.Typing.{type_of}
 use Rattle.ess_semantics.specs.Substitution.{Binds, BindsAll}
 use Rattle.ess_rules_laws.specs.Listings.{Alternative}
@@ -221,6 +221,7 @@ module _ (u : Text → Bool) where
 
     pairs : (t : Option Ty) (f a : Ex) → NamesHave u f → NamesHave u a → Answers u (pairs_at t x f a)
     pairs (Some (compound2 a_function t v)) f a h k = ((n, tt), (n, h, (((n, tt), (k, tt)), tt)))
+    pairs (Some any_ty) f a h k = ((n, tt), (n, h, (((n, tt), (k, tt)), tt)))
     pairs _ f a h k = tt
 
     of-function : (g : Names Ty) (e : Ex) → NamesHave u e → Answers u (function_lookup g x e)

@@ -7,7 +7,7 @@ use Rattle.ess_semantics.specs.Values.{Text, a_matrix, a_tuple}
 use Rattle.ess_semantics.specs.Names.{Names}
 use Rattle.ess_semantics.specs.Trees.{word, mset_literal, Pats, more_pats, no_pats, tuple_pat, Ex, Exs, node_ex, comp_ex, ex2, fun1, no_exs, more_exs, Gens, over, Doms, no_doms, more_doms, tuple_dom, binary, set_literal, number_ex}
 use Rattle.ess_semantics.specs.Types.{Ty, compound, compound2}
-use Rattle.ess_semantics.specs.Typing.{type_of}
+use Rattle.ess_semantics.specs.Typing.{type_of, part_ty}
 use Rattle.ess_rules_laws.specs.FoldRules.{is_laid_open}
 use Rattle.ess_rules_laws.specs.SplitRules.{as_many, each_over, split}
 use Rattle.ess_rules_laws.specs.LiteralRules.{nth, extreme_listed}
@@ -22,7 +22,7 @@ use Rattle.ess_semantics.specs.Values.{a_set, a_mset, a_relation}
 use Rattle.ess_semantics.specs.Trees.{unary}
 use Rattle.ess_semantics.specs.Types.{any_ty, bool_ty, int_ty, named_ty, compound1, tys_of, join, join_all, type_of_dom, bind_types}
 use Rattle.ess_semantics.specs.OperatorTypes.{member_ty, included, type_of_list}
-use Rattle.ess_semantics.specs.Typing.{a_number, step_ty, component_ty, types_of, types_under}
+use Rattle.ess_semantics.specs.Typing.{a_number, part_ty, component_ty, types_of, types_under}
 use Rattle.ess_rules_laws.specs.ListRules.{members_list}
 use Rattle.ess_semantics.specs.Types.{types_of_doms, bind_all_types}
 use Rattle.ess_refine_laws.proofs.TypeJoins.{join-swap}
@@ -210,7 +210,7 @@ module _ (g : Names Ty) where
   least-listed _ = tt
 
   pub nth-type : (es : Exs) (k : ℕ) (a : Ex) (t : Ty) (o : Option (List Ty)) → all_some (types_of es g) ≡ o → nth es k ≡ Some a →
-      and_then (and_then o (λ ts. Some (compound a_tuple (tys_of ts)))) (λ u. and_then (step_ty u (a_number k) None)
+      and_then (and_then o (λ ts. Some (compound a_tuple (tys_of ts)))) (λ u. and_then (part_ty u (a_number k))
       (λ v. Some v)) ≡ Some t →
       type_of a g ≡ Some t
   nth-type es k a t None p n q = cc

@@ -7,7 +7,7 @@ use Rattle.ess_semantics.specs.Values.{Text, a_function, a_matrix, a_tuple}
 use Rattle.ess_semantics.specs.Names.{Names}
 use Rattle.ess_semantics.specs.Trees.{to_component, word, index, tuple_literal, matrix_literal, name_pat, Ex, name_ex, node_ex, comp_ex, ex2, fun1, no_exs, more_exs, no_gens, from, binary, number_ex, truth_ex, ex1}
 use Rattle.ess_semantics.specs.Types.{Ty, no_tys, more_tys, compound, compound2}
-use Rattle.ess_semantics.specs.Typing.{type_of}
+use Rattle.ess_semantics.specs.Typing.{type_of, part_ty}
 use Rattle.ess_rules_laws.specs.LiteralRules.{nth, component_listed}
 use Rattle.ess_rules_laws.specs.InclusionRules.{both_sets, unequal}
 use Rattle.ess_rules_laws.specs.ComponentRules.{component_of}
@@ -24,7 +24,7 @@ use Rattle.ess_semantics.specs.Values.{a_set, a_mset, a_relation, a_partition}
 use Rattle.ess_semantics.specs.Trees.{unary}
 use Rattle.ess_semantics.specs.Types.{any_ty, bool_ty, int_ty, named_ty, compound1, tys_of, join}
 use Rattle.ess_semantics.specs.OperatorTypes.{member_ty}
-use Rattle.ess_semantics.specs.Typing.{a_number, a_name, other, type_of_node, step_ty, types_of}
+use Rattle.ess_semantics.specs.Typing.{a_number, a_name, other, type_of_node, part_ty, types_of}
 use Rattle.ess_rules_laws.proofs.Agreement.{look-itself}
 use Rattle.ess_refine_laws.proofs.TypesOfFolds.{one_type, two_type, list_of_type, Stays, TypeKept}
 use Rattle.ess_refine_laws.specs.AllRules.{Rule, over_nothing, over_one, over_one_binding, over_a_term, over_a_made_set, over_a_condition, over_tuples, component_of_a_tuple, not_equal, turned, strictly, with_nothing, size, size_of_one_made_of_another, frequency_in_one_made_of_another, least_of_a_literal, list_of_a_term, results, choice, compares_compound, rewrite}
@@ -41,7 +41,7 @@ module _ (g : Names Ty) where
     where
       parts : (t : Ty) (o : Option (List Ty)) →
           type_of_node (index (to_component k ∷ [])) (other ∷ []) (and_then o (λ ts. Some (compound a_tuple (tys_of ts))) ∷ []) ≡ Some t →
-          and_then (and_then o (λ ts. Some (compound a_tuple (tys_of ts)))) (λ u. and_then (step_ty u (a_number k) None)
+          and_then (and_then o (λ ts. Some (compound a_tuple (tys_of ts)))) (λ u. and_then (part_ty u (a_number k))
           (λ v. Some v)) ≡ Some t
       parts t None q = cc
       parts t (Some ts) q = q

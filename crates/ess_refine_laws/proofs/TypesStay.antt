@@ -6,7 +6,7 @@ use Rattle.ess_semantics.specs.Names.{Names}
 use Rattle.ess_semantics.specs.Trees.{Step, by_value, to_component, to_field, Op, unary, binary, word, index, application, tuple_literal, set_literal, mset_literal, function_literal, relation_literal, partition_literal, matrix_literal, record_literal, Ex, Exs, no_exs, more_exs}
 use Rattle.ess_semantics.specs.Types.{Ty, any_ty, bool_ty, int_ty, compound, compound2, no_tys, more_tys, join, join_all, or_any, type_of_dom, types_of_doms, nested_ty, bind_types}
 use Rattle.ess_semantics.specs.OperatorTypes.{type_of_op, member_ty}
-use Rattle.ess_semantics.specs.Typing.{Static, a_number, a_name, other, static, statics, step_ty, path_ty, type_of_node, type_of, types_of, types_under, source_ty}
+use Rattle.ess_semantics.specs.Typing.{Static, a_number, a_name, other, static, statics, step_ty, part_ty, path_ty, type_of_node, type_of, types_of, types_under, source_ty}
 use Rattle.ess_semantics.specs.Typed.{Typed}
 use Rattle.ess_semantics.specs.Contexts.{In, Ins, InGens, InDom, InDoms, hole, in_operand, in_item, in_index_domain, in_body, in_generators, in_cell_index, in_view_domain, in_view_index, in_first, in_later, in_generator_domain, behind_over, in_source, behind_from, in_condition, behind_condition, in_bound, in_component, in_field, in_index, in_element, in_set_number, in_set_member, in_mset_number, in_mset_member, in_function_number, in_argument, in_result, in_relation_number, in_relation_component, in_partition_number, in_partition_member, in_first_domain, in_later_domain, fill, fill_exs, fill_gens, fill_dom, fill_doms}
 use Rattle.ess_semantics.specs.NamesAt.{names_behind, names_at, names_at_exs, names_at_gens}
@@ -90,10 +90,10 @@ path-stays p (by_value ∷ qs) (s ∷ ss) (v ∷ vs) (u ∷ us) (w ∷ ws) f =
     then-stays (step_ty p s u) (step_ty p v w) (λ z. path_ty z qs ss us) (λ z. path_ty z qs vs ws) (step-stays p s v u w f.0 f.1)
     (λ z. path-stays z qs ss vs us ws f.2)
 path-stays p (to_component k ∷ qs) ss vs us ws f =
-    then-stays (step_ty p (a_number k) None) (step_ty p (a_number k) None) (λ z. path_ty z qs ss us) (λ z. path_ty z qs vs ws) (λ t e. e)
+    then-stays (part_ty p (a_number k)) (part_ty p (a_number k)) (λ z. path_ty z qs ss us) (λ z. path_ty z qs vs ws) (λ t e. e)
     (λ z. path-stays z qs ss vs us ws f)
 path-stays p (to_field a ∷ qs) ss vs us ws f =
-    then-stays (step_ty p (a_name a) None) (step_ty p (a_name a) None) (λ z. path_ty z qs ss us) (λ z. path_ty z qs vs ws) (λ t e. e)
+    then-stays (part_ty p (a_name a)) (part_ty p (a_name a)) (λ z. path_ty z qs ss us) (λ z. path_ty z qs vs ws) (λ t e. e)
     (λ z. path-stays z qs ss vs us ws f)
 path-stays p (by_value ∷ qs) [] [] [] [] f = λ t e. cc
 path-stays p [] (s ∷ ss) (v ∷ vs) (u ∷ us) (w ∷ ws) f = λ t e. cc

@@ -7,7 +7,7 @@ use Rattle.ess_semantics.specs.Names.{Names}
 use Rattle.ess_semantics.specs.Trees.{Step, by_value, to_component, to_field, Op, index, application, is_truth_op, Ex, Exs, number_ex, truth_ex, name_ex, node_ex, matrix_ex, comp_ex, cell_ex, seen_ex, no_exs, more_exs, Gens, no_gens, over, from, cond, Dom, Doms, bool_dom, int_dom, name_dom, tuple_dom, record_dom, matrix_dom, set_dom, mset_dom, function_dom, relation_dom, partition_dom, no_doms, more_doms}
 use Rattle.ess_semantics.specs.Types.{Ty, bool_ty, int_ty, compound2, is_bool, join, or_any, type_of_dom, bind_types}
 use Rattle.ess_semantics.specs.OperatorTypes.{member_ty}
-use Rattle.ess_semantics.specs.Typing.{a_number, a_name, static, statics, type_behind, path_ty, type_of, types_of, types_under, source_ty}
+use Rattle.ess_semantics.specs.Typing.{a_number, a_name, static, statics, type_behind, part_behind, path_ty, type_of, types_of, types_under, source_ty}
 use Rattle.ess_semantics.specs.Lettings.{is_record, field_steps}
 use Rattle.ess_semantics.specs.Scopes.{Scope, with_bound, Asked, every, every_operand, every_under, every_dom, every_doms}
 use Rattle.ess_semantics.specs.ExpressionJudgements.{ex_fits, part_fits}
@@ -99,8 +99,8 @@ module _ (q : Asked) (s : Scope) where
       (some-there v (λ p. path_ty p qs (statics es) (types_of es s.tys)) (value-leads s.tys t qs e es i))
       (λ n. k.0 (head-asked q (is_some_and t is_record) bs e es s n a)) (step_at t (static e)) refl
       (steps-marks v qs es (value-leads s.tys t qs e es i) k.1 (tail-asked q (is_some_and t is_record) bs e es s a))
-  steps-marks t (to_component n ∷ qs) es i k a = steps-marks (type_behind t (a_number n) None) qs es (component-leads s.tys t n qs es i) k a
-  steps-marks t (to_field x ∷ qs) es i k a = steps-marks (type_behind t (a_name x) None) qs es (field-leads s.tys t x qs es i) k a
+  steps-marks t (to_component n ∷ qs) es i k a = steps-marks (part_behind t (a_number n)) qs es (component-leads s.tys t n qs es i) k a
+  steps-marks t (to_field x ∷ qs) es i k a = steps-marks (part_behind t (a_name x)) qs es (field-leads s.tys t x qs es i) k a
 
 -- ---- trees
 

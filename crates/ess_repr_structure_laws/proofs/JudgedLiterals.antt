@@ -6,7 +6,7 @@ use Rattle.ess_semantics.specs.Constants.{drops_items}
 use Rattle.ess_semantics.specs.Names.{Names}
 use Rattle.ess_semantics.specs.Trees.{Step, by_value, to_component, to_field, index, Ex, Exs, number_ex, truth_ex, name_ex, node_ex, matrix_ex, comp_ex, cell_ex, seen_ex, no_exs, more_exs, Gens, no_gens, over, from, cond, Dom, Doms, bool_dom, int_dom, name_dom, tuple_dom, record_dom, matrix_dom, set_dom, mset_dom, function_dom, relation_dom, partition_dom, no_doms, more_doms, Stm}
 use Rattle.ess_semantics.specs.Types.{Ty, is_bool, type_of_dom}
-use Rattle.ess_semantics.specs.Typing.{a_number, a_name, static, statics, type_behind, path_ty, type_of, types_of, source_ty}
+use Rattle.ess_semantics.specs.Typing.{a_number, a_name, static, statics, type_behind, part_behind, path_ty, type_of, types_of, source_ty}
 use Rattle.ess_semantics.specs.Lettings.{is_record, field_steps}
 use Rattle.ess_semantics.specs.NamesAt.{names_behind}
 use Rattle.ess_semantics.specs.Scopes.{Scope, with_bound, every, every_operand, every_under, every_dom, every_doms}
@@ -71,8 +71,8 @@ steps-fit s t (by_value ∷ qs) (more_exs e es) i k a =
     (some-there v (λ p. path_ty p qs (statics es) (types_of es s.tys)) (value-leads s.tys t qs e es i))
     (λ n. k.0 (head-asked (is_some_and t is_record) bs e es s n a)) (step_at t (static e)) refl
     (steps-fit s v qs es (value-leads s.tys t qs e es i) k.1 (tail-asked (is_some_and t is_record) bs e es s a))
-steps-fit s t (to_component n ∷ qs) es i k a = steps-fit s (type_behind t (a_number n) None) qs es (component-leads s.tys t n qs es i) k a
-steps-fit s t (to_field x ∷ qs) es i k a = steps-fit s (type_behind t (a_name x) None) qs es (field-leads s.tys t x qs es i) k a
+steps-fit s t (to_component n ∷ qs) es i k a = steps-fit s (part_behind t (a_number n)) qs es (component-leads s.tys t n qs es i) k a
+steps-fit s t (to_field x ∷ qs) es i k a = steps-fit s (part_behind t (a_name x)) qs es (field-leads s.tys t x qs es i) k a
 
 -- ---- trees
 

@@ -5,12 +5,12 @@ use Rattle.ess_semantics.specs.declared.words.Fun.{Fun}
 use Rattle.ess_semantics.specs.Values.{Text, Value, items_of, pair}
 use Rattle.ess_semantics.specs.Names.{Names}
 use Rattle.ess_semantics.specs.Trees.{name_pat, Ex, comp_ex, ex2, fun1, no_gens, from}
-use Rattle.ess_semantics.specs.Types.{Ty, int_ty, compound2}
+use Rattle.ess_semantics.specs.Types.{Ty, any_ty, int_ty, compound2}
 use Rattle.ess_semantics.specs.Values.{a_function}
 use Rattle.ess_semantics.specs.Meaning.{Env, empty_env, meaning}
 use Rattle.ess_semantics.proofs.Shorthands.{N, n, v, es2, app, function}
 use Rattle.ess_rules_laws.specs.Lookups.{found, put_nth, select, select_whole}
-use Rattle.ess_rules_laws.specs.FunctionLookups.{function_lookup}
+use Rattle.ess_rules_laws.specs.FunctionLookups.{seconds_at, function_lookup}
 
 abbrev pub x : Text
 x = codes "x"
@@ -70,3 +70,7 @@ nothing_at_2 = refl
 
 of_a_number : function_lookup types x (app (n 1) (n 2)) ≡ None
 of_a_number = refl
+
+-- What is picked out of an empty list is applied as a function of any type.
+of_nothing : function_lookup ((l, any_ty) ∷ []) x (app (N l) (n 1)) ≡ Some (seconds_at any_ty any_ty x (N l) (n 1))
+of_nothing = refl

@@ -9,7 +9,7 @@ use Rattle.ess_semantics.specs.Order.{same, below}
 use Rattle.ess_semantics.specs.Collections.{holds, value_at, rises}
 use Rattle.ess_semantics.specs.Names.{Names}
 use Rattle.ess_semantics.specs.Trees.{word, application, name_pat, Ex, name_ex, node_ex, comp_ex, ex2, no_exs, more_exs, no_gens, from, cond}
-use Rattle.ess_semantics.specs.Types.{Ty, compound2}
+use Rattle.ess_semantics.specs.Types.{Ty, any_ty, compound2}
 use Rattle.ess_semantics.specs.Typing.{type_of}
 use Rattle.ess_semantics.specs.Typed.{Typed}
 use Rattle.ess_semantics.specs.TypeMembers.{is_of_type}
@@ -130,12 +130,17 @@ AnswerLooks (Some l) t env = Looked t l env
 pub looks : (o : Option Ex) (t l : Ex) (env : Env) → AnswerLooks o t env → o ≡ Some l → Looked t l env
 looks o t l env h q = subst (λ z. AnswerLooks z t env) q h
 
+-- No value has the type of what has none.
+no-value : {A : Type 0} (env : Env) (v : Value) → IsTrue (is_of_type any_ty env v) → A
+no-value env v h = cc
+
 applied : (o : Option Ty) (y : Text) (f a : Ex) (env : Env) (v w : Value) → Unused y a → meaning f env ≡ Some v → meaning a env ≡ Some w →
     ((s : Ty) → o ≡ Some s → IsTrue (is_of_type s env v)) → Meets f env → Meets a env → AnswerLooks (pairs_at o y f a) (node_ex false application (more_exs f (more_exs a no_exs))) env
 applied (Some (compound2 a_function t u)) y f a env v w new j k h m n = let c = h (compound2 a_function t u) refl in record {
   items = pairs-looked y t u f a env v w new j k c ∙ ap (λ z. Some (found z)) (sym (application-means y t u f a env v w new j k c));
   met = lookup-met y t u f a env v w new j k c m n;
 }
+applied (Some any_ty) y f a env v w new j k h m n = no-value env v (h any_ty refl)
 applied _ y f a env v w new j k h m n = tt
 
 imaged : (o : Option Ty) (y : Text) (f a : Ex) (env : Env) (v w : Value) → Unused y a → meaning f env ≡ Some v → meaning a env ≡ Some w →
@@ -144,6 +149,7 @@ imaged (Some (compound2 a_function t u)) y f a env v w new j k h m n = let c = h
   items = pairs-looked y t u f a env v w new j k c ∙ ap (λ z. Some (found z)) (sym (image-means y t u f a env v w new j k c));
   met = lookup-met y t u f a env v w new j k c m n;
 }
+imaged (Some any_ty) y f a env v w new j k h m n = no-value env v (h any_ty refl)
 imaged _ y f a env v w new j k h m n = tt
 
 lookup-answer : (g : Names Ty) (y : Text) (e : Ex) → Unused y e → SoundOperands g e → (env : Env) → Typed g env → OperandsThere e env → Meets e env →

@@ -2,11 +2,11 @@
 use Rattle.std.proofs.Common.{◌≡◌, refl, sym, ap, ◌∙◌, subst, ℕ, zero, suc, Bool, true, false, ◌&&◌, if◌then◌else◌, List, [], ◌∷◌, Option, Some, None, option_map}
 use Rattle.std.specs.Prelude.{IsTrue, is_some}
 use Rattle.ess_semantics.specs.Lists.{or_default}
-use Rattle.ess_semantics.specs.Values.{Text, a_tuple, a_record, Value, truth, Values, nil, cons, to_list, items_of}
+use Rattle.ess_semantics.specs.Values.{Text, a_tuple, a_record, a_matrix, Value, truth, Values, nil, cons, to_list, items_of}
 use Rattle.ess_semantics.specs.Order.{same_text}
 use Rattle.ess_semantics.specs.Names.{Names}
 use Rattle.ess_semantics.specs.Trees.{Op, to_component, to_field, index, name_pat, Ex, Exs, name_ex, node_ex, comp_ex, no_exs, more_exs, no_gens, from}
-use Rattle.ess_semantics.specs.Types.{Ty, Tys, bool_ty, no_tys, more_tys, compound}
+use Rattle.ess_semantics.specs.Types.{Ty, Tys, any_ty, bool_ty, no_tys, more_tys, compound}
 use Rattle.ess_semantics.specs.Typing.{type_of, component_ty, field_ty}
 use Rattle.ess_semantics.specs.Typed.{Typed}
 use Rattle.ess_semantics.specs.TypeMembers.{is_of, are_of}
@@ -124,12 +124,22 @@ module _ (b : Bool) (p : Bool) (es : List TypeEntry) where
   component-there (Some (compound a_tuple ts)) k w v q h f = let r = tuple-value p es ts v (f (compound a_tuple ts) refl) in
       subst (λ z. FitsPlace b (value_of_node (index (to_component k ∷ [])) (z ∷ []))) (sym (q ∙ ap Some r.1))
       (component-fits ts k r.0 h r.2)
+  component-there (Some any_ty) k w v q h f = no (f any_ty refl)
+  component-there (Some (compound a_matrix no_tys)) k w v q h f = no-place b h
+  component-there (Some (compound a_matrix (more_tys t no_tys))) k w v q h f = no-place b h
+  component-there (Some (compound a_matrix (more_tys t (more_tys u no_tys)))) k w v q h f = no-place b h
+  component-there (Some (compound a_matrix (more_tys t (more_tys u (more_tys x ts))))) k w v q h f = no-place b h
   component-there _ k w v q h f = no-place b h
 
   field-there : (o : Option Ty) (a : Text) (w : Option Value) (v : Value) → w ≡ Some v → fits_place b (field_type_of o a) ≡ true →
       ((t : Ty) → o ≡ Some t → is_of p es t v ≡ true) → FitsPlace b (value_of_node (index (to_field a ∷ [])) (w ∷ []))
   field-there (Some (compound (a_record fs) ts)) a w v q h f = let r = record-value p es fs ts v (f (compound (a_record fs) ts) refl) in
       subst (λ z. FitsPlace b (value_of_node (index (to_field a ∷ [])) (z ∷ []))) (sym (q ∙ ap Some r.1)) (field-fits fs ts a r.0 h r.2)
+  field-there (Some any_ty) a w v q h f = no (f any_ty refl)
+  field-there (Some (compound a_matrix no_tys)) a w v q h f = no-place b h
+  field-there (Some (compound a_matrix (more_tys t no_tys))) a w v q h f = no-place b h
+  field-there (Some (compound a_matrix (more_tys t (more_tys u no_tys)))) a w v q h f = no-place b h
+  field-there (Some (compound a_matrix (more_tys t (more_tys u (more_tys x ts))))) a w v q h f = no-place b h
   field-there _ a w v q h f = no-place b h
 
 -- A value that is there.

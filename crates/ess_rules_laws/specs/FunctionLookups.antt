@@ -6,7 +6,7 @@ use Rattle.ess_semantics.specs.declared.words.Fun.{Fun}
 use Rattle.ess_semantics.specs.Values.{Text, a_function}
 use Rattle.ess_semantics.specs.Names.{Names}
 use Rattle.ess_semantics.specs.Trees.{word, application, name_pat, Ex, name_ex, node_ex, comp_ex, ex2, no_exs, more_exs, no_gens, from, cond}
-use Rattle.ess_semantics.specs.Types.{Ty, compound2}
+use Rattle.ess_semantics.specs.Types.{Ty, any_ty, compound2}
 use Rattle.ess_semantics.specs.Typing.{type_of}
 use Rattle.ess_semantics.specs.Typed.{Typed}
 use Rattle.ess_semantics.specs.Meaning.{Env}
@@ -15,10 +15,15 @@ use Rattle.ess_rules_laws.specs.Rules.{Unused, SoundOperands, OperandsThere}
 use Rattle.ess_rules_laws.specs.ComponentRules.{component_of}
 use Rattle.ess_rules_laws.specs.Lookups.{Looked}
 
--- Where f is a function, `[y[2] | y <- f, y[1] = a]`.
+-- `[y[2] | y <- f, y[1] = a]`, where the pairs have components of these types.
+abbrev pub seconds_at : Ty → Ty → Text → Ex → Ex → Ex
+seconds_at t u y f a =
+    comp_ex (component_of u 2 (name_ex y)) (from (name_pat y) f (cond (ex2 true Op2.Eq (component_of t 1 (name_ex y)) a) no_gens))
+
+-- These where f is a function, or has a type without values.
 abbrev pub pairs_at : Option Ty → Text → Ex → Ex → Option Ex
-pairs_at (Some (compound2 a_function t u)) y f a =
-    Some (comp_ex (component_of u 2 (name_ex y)) (from (name_pat y) f (cond (ex2 true Op2.Eq (component_of t 1 (name_ex y)) a) no_gens)))
+pairs_at (Some (compound2 a_function t u)) y f a = Some (seconds_at t u y f a)
+pairs_at (Some any_ty) y f a = Some (seconds_at any_ty any_ty y f a)
 pairs_at t y f a = None
 
 -- The lookup of `f(a)` and of `image(f, a)`; y is a new name.

@@ -3,11 +3,11 @@
 use Rattle.std.specs.Prelude.{◌≡◌, Bool, true, false, ◌&&◌, ℕ, [], ◌∷◌, List, Option, Some, None, option_map, IsTrue, is_some, if◌then◌else◌}
 use Rattle.ess_semantics.specs.declared.words.Op2.{Op2}
 use Rattle.ess_semantics.specs.declared.words.ReprKind.{ReprKind}
-use Rattle.ess_semantics.specs.Values.{Text, a_tuple, a_record, a_matrix, Value, matrix, to_list}
+use Rattle.ess_semantics.specs.Values.{Text, a_matrix, Value, matrix, to_list}
 use Rattle.ess_semantics.specs.Names.{Names}
 use Rattle.ess_semantics.specs.Trees.{by_value, to_component, to_field, index, name_pat, Ex, Exs, name_ex, node_ex, matrix_ex, comp_ex, ex2, no_exs, more_exs, no_gens, over, from, cond, Dom, Reprs, repr, seen_ex, Doms, more_doms, matrix_dom}
-use Rattle.ess_semantics.specs.Types.{Ty, compound, compound2, is_bool}
-use Rattle.ess_semantics.specs.Typing.{type_of, component_ty, field_ty}
+use Rattle.ess_semantics.specs.Types.{Ty, compound2, is_bool}
+use Rattle.ess_semantics.specs.Typing.{a_number, a_name, part_behind, type_of}
 use Rattle.ess_semantics.specs.Typed.{Typed}
 use Rattle.ess_semantics.specs.Meaning.{Env, meaning, domain_of, members_in}
 use Rattle.ess_semantics.specs.Meets.{Meets, MeetsDom}
@@ -44,13 +44,11 @@ LooksThrough k l e env = Unit {0}
 
 -- The type of a component.
 abbrev pub component_type_of : Option Ty → ℕ → Option Ty
-component_type_of (Some (compound a_tuple ts)) k = component_ty ts k
-component_type_of t k = None
+component_type_of t k = part_behind t (a_number k)
 
 -- The type of a field.
 abbrev pub field_type_of : Option Ty → Text → Option Ty
-field_type_of (Some (compound (a_record fs) ts)) a = field_ty fs ts a
-field_type_of t a = None
+field_type_of t a = part_behind t (a_name a)
 
 -- Whether there is a type, that of truth values where the place is Boolean.
 abbrev pub fits_place : Bool → Option Ty → Bool

@@ -18,8 +18,8 @@ use ess_node_types::{NameTypes, type_of};
 use ess_rows::{Boxed, NoMemory, Row, Text};
 use std::alloc::Global;
 
-/// The lookup of `f(a)` and of `image(f, a)`, where f is a function: `[y[2] | y <- f, y[1] = a]`. `NoMemory` where there is no room
-/// for it.
+/// The lookup of `f(a)` and of `image(f, a)`, where f is a function, or of a type without values: `[y[2] | y <- f, y[1] = a]`.
+/// `NoMemory` where there is no room for it.
 #[tactic(auto, using(ess_core_nodes::proofs::NodeEquations::pure_seen_is))]
 pub fn function_lookup(
     alloc: Global,
@@ -58,7 +58,7 @@ fn looked_up_at(
     pairs_at(alloc, &ty, bound, function, argument)
 }
 
-/// The same where the type is that of a function.
+/// The same where the type is that of a function, or one without values.
 fn pairs_at(
     alloc: Global,
     ty: &Option<Boxed<Ty>>,
@@ -80,6 +80,7 @@ fn pairs_at(
                 function,
                 argument,
             )?)),
+            Ty::Any => Ok(Some(pairs(alloc, &Ty::Any, &Ty::Any, bound, function, argument)?)),
             _ => Ok(None),
         },
     }

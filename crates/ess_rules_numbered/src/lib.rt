@@ -1,5 +1,6 @@
-//! Rules of comprehensions over sources whose items are counted: an item of such a list by its number, and equality of lists and signs
-//! between them by the numbers of their items.
+//! Rules of comprehensions over sources whose items are counted: an item of such a list by its number, equality of lists and signs between
+//! them by the numbers of their items, a list that is a side of such a pair, and lists in the place of picked matrices that aren't numbered
+//! from 1.
 #![tactic(auto)]
 
 mod as_lists;

@@ -14,15 +14,15 @@ x = codes "x"
 abbrev f : Text
 f = codes "f"
 
--- `x[1]` has a type where x is a tuple, and none where it is a member of an empty literal: so the items of alternatives are to have the
--- type of the members.
+-- `x[1]` is a number where x is a tuple of one, and has no values where it is a member of an empty literal: so the items of alternatives
+-- are to have the type of the members.
 components : (type_of (node_ex false (index (to_component 1 ∷ [])) (more_exs (name_ex x) no_exs)) ((
   x,
   compound a_tuple
       (more_tys int_ty no_tys),
 ) ∷ [])
     ≡ Some int_ty)
-    × (type_of (node_ex false (index (to_component 1 ∷ [])) (more_exs (name_ex x) no_exs)) ((x, any_ty) ∷ []) ≡ None)
+    × (type_of (node_ex false (index (to_component 1 ∷ [])) (more_exs (name_ex x) no_exs)) ((x, any_ty) ∷ []) ≡ Some any_ty)
 components = (refl, refl)
 
 -- An index by value into a record says the field's name: with a term for the name there is no type.

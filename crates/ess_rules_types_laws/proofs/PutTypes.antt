@@ -8,7 +8,7 @@ use Rattle.ess_semantics.specs.Names.{Names, look}
 use Rattle.ess_semantics.specs.Trees.{Step, by_value, to_component, to_field, Op, index, Pat, Pats, name_pat, tuple_pat, no_pats, more_pats, Ex, Exs, number_ex, truth_ex, name_ex, node_ex, matrix_ex, comp_ex, cell_ex, seen_ex, no_exs, more_exs, Gens, no_gens, over, from, cond, Dom, Doms, bool_dom, int_dom, name_dom, tuple_dom, record_dom, matrix_dom, set_dom, mset_dom, function_dom, relation_dom, partition_dom, no_doms, more_doms}
 use Rattle.ess_semantics.specs.Types.{Ty, Tys, any_ty, bool_ty, int_ty, named_ty, no_tys, more_tys, compound, compound1, compound2, join, join_all, or_any, parts_of_ty, type_of_dom, types_of_doms, nested_ty, bind_types, bind_all_types}
 use Rattle.ess_semantics.specs.OperatorTypes.{member_ty}
-use Rattle.ess_semantics.specs.Typing.{Static, a_number, a_name, static, statics, step_ty, path_ty, type_of_node, number_cell_ty, type_of, types_of, types_under, source_ty}
+use Rattle.ess_semantics.specs.Typing.{Static, a_number, a_name, static, statics, step_ty, part_ty, path_ty, type_of_node, number_cell_ty, type_of, types_of, types_under, source_ty}
 use Rattle.ess_semantics.specs.NamesAt.{names_behind}
 use Rattle.ess_semantics.specs.Substitution.{substitute, substitute_exs, substitute_gens, substitute_dom, substitute_doms, for_name, Binds, BindsAll, NamesAre, NamesAreExs, NamesAreGens}
 use Rattle.ess_semantics.proofs.Tests.{and-left, and-right}
@@ -87,8 +87,8 @@ module _ (f : Text → Ex) where
       (no-step (is_stepped (Some t)) (and-left (not (is_stepped (Some t))) (by_values (step_ty t (static e) u) qs (statics es) us) h)))
       ∙ path-put (step_ty t (static e) u) qs es us
       (and-right (not (is_stepped (Some t))) (by_values (step_ty t (static e) u) qs (statics es) us) h)
-  path-put (Some t) (to_component k ∷ qs) es us h = path-put (step_ty t (a_number k) None) qs es us h
-  path-put (Some t) (to_field a ∷ qs) es us h = path-put (step_ty t (a_name a) None) qs es us h
+  path-put (Some t) (to_component k ∷ qs) es us h = path-put (part_ty t (a_number k)) qs es us h
+  path-put (Some t) (to_field a ∷ qs) es us h = path-put (part_ty t (a_name a)) qs es us h
 
   node-put : (op : Op) (es : Exs) (us : List (Option Ty)) → is_by_values op (statics es) us ≡ true →
       type_of_node op (statics (substitute_exs f es)) us ≡ type_of_node op (statics es) us

@@ -5,7 +5,7 @@ use Rattle.ess_semantics.specs.Values.{Text, a_tuple, a_record}
 use Rattle.ess_semantics.specs.Names.{Names}
 use Rattle.ess_semantics.specs.Trees.{Step, by_value, to_component, to_field, Op, index, Ex, Exs, number_ex, truth_ex, name_ex, node_ex, matrix_ex, comp_ex, cell_ex, seen_ex, no_exs, more_exs, Gens, no_gens, over, from, cond, Dom, Doms, bool_dom, int_dom, name_dom, tuple_dom, record_dom, matrix_dom, set_dom, mset_dom, function_dom, relation_dom, partition_dom, no_doms, more_doms}
 use Rattle.ess_semantics.specs.Types.{Ty, compound, type_of_dom, bind_types}
-use Rattle.ess_semantics.specs.Typing.{Static, a_number, a_name, statics, type_behind, types_of, source_ty}
+use Rattle.ess_semantics.specs.Typing.{Static, a_number, a_name, statics, type_behind, part_behind, types_of, source_ty}
 use Rattle.ess_semantics.specs.NamesAt.{names_behind}
 
 -- ---- tables
@@ -64,8 +64,8 @@ is_stepped t = false
 -- Whether no step by value reads so, from a place of this type on.
 abbrev pub by_values : Option Ty → List Step → List Static → List (Option Ty) → Bool
 by_values t (by_value ∷ qs) (s ∷ ss) (u ∷ us) = not (is_stepped t) && by_values (type_behind t s u) qs ss us
-by_values t (to_component k ∷ qs) ss us = by_values (type_behind t (a_number k) None) qs ss us
-by_values t (to_field a ∷ qs) ss us = by_values (type_behind t (a_name a) None) qs ss us
+by_values t (to_component k ∷ qs) ss us = by_values (part_behind t (a_number k)) qs ss us
+by_values t (to_field a ∷ qs) ss us = by_values (part_behind t (a_name a)) qs ss us
 by_values t qs ss us = true
 
 -- The same of a node whose operands say this and have these types.

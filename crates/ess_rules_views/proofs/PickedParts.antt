@@ -1,11 +1,11 @@
 -- Lookups of what one step of an index picks.
 use Rattle.std.proofs.Common.{◌≡◌, refl, ℕ, Bool, [], ◌∷◌, List, Some, None, option_map}
 use Rattle.ess_semantics.specs.Lists.{and_then, only_of}
-use Rattle.ess_semantics.specs.Values.{Text, a_tuple, a_matrix, a_record}
+use Rattle.ess_semantics.specs.Values.{Text}
 use Rattle.ess_semantics.specs.Names.{Names}
 use Rattle.ess_semantics.specs.Trees.{Step, by_value, to_component, to_field, index, Ex, Exs, node_ex, no_exs, more_exs, Dom}
-use Rattle.ess_semantics.specs.Types.{Ty, compound, compound2}
-use Rattle.ess_semantics.specs.Typing.{a_number, a_name, step_ty}
+use Rattle.ess_semantics.specs.Types.{Ty}
+use Rattle.ess_semantics.specs.Typing.{a_number, a_name, part_ty}
 use Rattle.ess_rules_laws.specs.PartLookups.{component_type_of, field_type_of, part_lookup, matrix_lookup}
 use Rattle.ess_rules_views.specs.Picked.{stepped, part_from, item_from}
 
@@ -16,15 +16,11 @@ stepped_of_only b (q ∷ []) es = refl
 stepped_of_only b qs es = refl
 
 -- The type of a component is that which a step reaches.
-pub component_typed : (t : Ty) (k : ℕ) → component_type_of (Some t) k ≡ step_ty t (a_number k) None
-component_typed (compound a_tuple ts) k = refl
-component_typed (compound2 a_matrix t u) k = refl
+pub component_typed : (t : Ty) (k : ℕ) → component_type_of (Some t) k ≡ part_ty t (a_number k)
 component_typed t k = refl
 
 -- So is that of a field.
-pub field_typed : (t : Ty) (a : Text) → field_type_of (Some t) a ≡ step_ty t (a_name a) None
-field_typed (compound (a_record fs) ts) a = refl
-field_typed (compound2 a_matrix t u) a = refl
+pub field_typed : (t : Ty) (a : Text) → field_type_of (Some t) a ≡ part_ty t (a_name a)
 field_typed t a = refl
 
 -- The lookup of a component or field, from the step.

@@ -6,7 +6,7 @@ use Rattle.ess_semantics.specs.Values.{Text, a_tuple, a_record}
 use Rattle.ess_semantics.specs.Names.{Names, look}
 use Rattle.ess_semantics.specs.Trees.{Step, by_value, to_component, to_field, Op, index, Ex, Exs, number_ex, truth_ex, name_ex, node_ex, matrix_ex, comp_ex, cell_ex, seen_ex, no_exs, more_exs, Gens, no_gens, over, from, cond, Dom, Doms, bool_dom, int_dom, name_dom, tuple_dom, record_dom, matrix_dom, set_dom, mset_dom, function_dom, relation_dom, partition_dom, no_doms, more_doms, Stm, given, given_enum, let_ex, let_dom, let_enum, let_unnamed, needs, find, such_that, minimise, maximise}
 use Rattle.ess_semantics.specs.Types.{Ty, named_ty, compound, or_any, type_of_dom, bind_types}
-use Rattle.ess_semantics.specs.Typing.{Static, static, a_number, a_name, statics, type_behind, type_of, types_of, source_ty}
+use Rattle.ess_semantics.specs.Typing.{Static, static, a_number, a_name, statics, type_behind, part_behind, type_of, types_of, source_ty}
 
 -- Lettings of expressions and of domains, with the lettings before them put in.
 pub record Lettings : Type 0 where
@@ -32,8 +32,8 @@ is_record_or_tuple t = is_record t
 -- Of each index by value whether the type reached is one of records: whether the value is a field.
 abbrev pub field_steps : Option Ty → List Step → List Static → List (Option Ty) → List Bool
 field_steps t (by_value ∷ qs) (s ∷ ss) (u ∷ us) = is_some_and t is_record ∷ field_steps (type_behind t s u) qs ss us
-field_steps t (to_component k ∷ qs) ss us = field_steps (type_behind t (a_number k) None) qs ss us
-field_steps t (to_field a ∷ qs) ss us = field_steps (type_behind t (a_name a) None) qs ss us
+field_steps t (to_component k ∷ qs) ss us = field_steps (part_behind t (a_number k)) qs ss us
+field_steps t (to_field a ∷ qs) ss us = field_steps (part_behind t (a_name a)) qs ss us
 field_steps t _ _ _ = []
 
 -- Of each operand of a node whether it is a field; the first operand of an index is none.
@@ -53,8 +53,8 @@ kept_or t e f = if is_some_and t is_record_or_tuple then e else f
 abbrev pub put_steps : Option Ty → List Step → Exs → Exs → Names Ty → Exs
 put_steps t (by_value ∷ qs) (more_exs e es) (more_exs f fs) g =
     let o : Ex = kept_or t e f in more_exs o (put_steps (type_behind t (static o) (type_of o g)) qs es fs g)
-put_steps t (to_component k ∷ qs) es fs g = put_steps (type_behind t (a_number k) None) qs es fs g
-put_steps t (to_field a ∷ qs) es fs g = put_steps (type_behind t (a_name a) None) qs es fs g
+put_steps t (to_component k ∷ qs) es fs g = put_steps (part_behind t (a_number k)) qs es fs g
+put_steps t (to_field a ∷ qs) es fs g = put_steps (part_behind t (a_name a)) qs es fs g
 put_steps t qs es fs g = fs
 
 -- The operands of a node: es are they as they were, fs with lettings put in.

@@ -9,7 +9,7 @@ use Rattle.ess_semantics.specs.Names.{Names}
 use Rattle.ess_semantics.specs.Trees.{Step, by_value, to_component, to_field, Op, word, index, application, is_truth_op, Ex, Exs, number_ex, truth_ex, name_ex, node_ex, matrix_ex, comp_ex, cell_ex, seen_ex, no_exs, more_exs, Gens, no_gens, over, from, cond, Dom, Doms, bool_dom, int_dom, name_dom, tuple_dom, record_dom, matrix_dom, set_dom, mset_dom, function_dom, relation_dom, partition_dom, no_doms, more_doms}
 use Rattle.ess_semantics.specs.Types.{Ty, compound, compound2, is_bool, type_of_dom, bind_types}
 use Rattle.ess_semantics.specs.Lists.{tail_of}
-use Rattle.ess_semantics.specs.Typing.{Static, a_number, a_name, statics, type_behind, type_of, types_of, source_ty}
+use Rattle.ess_semantics.specs.Typing.{Static, a_number, a_name, statics, type_behind, part_behind, type_of, types_of, source_ty}
 
 -- The step that an index is which says this, at a place of this type.
 abbrev pub step_at : Option Ty → Static → Step
@@ -20,8 +20,8 @@ step_at t s = by_value
 -- The steps of an index from a place of this type on.
 abbrev pub steps_from : Option Ty → List Step → List Static → List (Option Ty) → List Step
 steps_from t (by_value ∷ qs) (s ∷ ss) (u ∷ us) = step_at t s ∷ steps_from (type_behind t s u) qs ss us
-steps_from t (to_component k ∷ qs) ss us = to_component k ∷ steps_from (type_behind t (a_number k) None) qs ss us
-steps_from t (to_field a ∷ qs) ss us = to_field a ∷ steps_from (type_behind t (a_name a) None) qs ss us
+steps_from t (to_component k ∷ qs) ss us = to_component k ∷ steps_from (part_behind t (a_number k)) qs ss us
+steps_from t (to_field a ∷ qs) ss us = to_field a ∷ steps_from (part_behind t (a_name a)) qs ss us
 steps_from t qs ss us = qs
 
 -- The steps of an index whose operands say this and have these types.

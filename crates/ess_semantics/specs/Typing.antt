@@ -46,16 +46,25 @@ step_ty (compound (a_record fs) ts) (a_name a) t = field_ty fs ts a
 step_ty any_ty s (Some t) = Some any_ty
 step_ty _ s t = None
 
+-- The type of a component or a field, by its number or name. A part of what has no values has none either.
+abbrev pub part_ty : Ty → Static → Option Ty
+part_ty any_ty s = Some any_ty
+part_ty t s = step_ty t s None
+
 -- The type that a step reaches from a place of this type, where `s` and `u` are what the index says and its type.
 abbrev pub type_behind : Option Ty → Static → Option Ty → Option Ty
 type_behind t s u = and_then t (λ p. step_ty p s u)
+
+-- The type of a component or a field of what has this type.
+abbrev pub part_behind : Option Ty → Static → Option Ty
+part_behind t s = and_then t (λ p. part_ty p s)
 
 -- The type behind a list of steps, from what the indices by value say and from their types.
 abbrev pub path_ty : Ty → List Step → List Static → List (Option Ty) → Option Ty
 path_ty t [] [] [] = Some t
 path_ty t (by_value ∷ qs) (s ∷ ss) (u ∷ us) = and_then (step_ty t s u) (λ v. path_ty v qs ss us)
-path_ty t (to_component k ∷ qs) ss us = and_then (step_ty t (a_number k) None) (λ v. path_ty v qs ss us)
-path_ty t (to_field a ∷ qs) ss us = and_then (step_ty t (a_name a) None) (λ v. path_ty v qs ss us)
+path_ty t (to_component k ∷ qs) ss us = and_then (part_ty t (a_number k)) (λ v. path_ty v qs ss us)
+path_ty t (to_field a ∷ qs) ss us = and_then (part_ty t (a_name a)) (λ v. path_ty v qs ss us)
 path_ty t _ _ _ = None
 
 -- The type of a node, from what its operands say and from their types.

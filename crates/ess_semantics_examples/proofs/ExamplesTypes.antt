@@ -4,11 +4,11 @@ use Rattle.ess_semantics.specs.declared.words.Op1.{Op1}
 use Rattle.ess_semantics.specs.declared.words.Op2.{Op2}
 use Rattle.ess_semantics.specs.declared.words.Fun.{Fun}
 use Rattle.ess_semantics.specs.declared.words.Key.{Key}
-use Rattle.ess_semantics.specs.Trees.{by_value, index, application, tuple_literal, set_literal, mset_literal, function_literal, relation_literal, partition_literal, matrix_literal, valued, name_pat, Ex, truth_ex, plain_node, comp_ex, cell_ex, no_exs, more_exs, no_gens, over, from, cond, bool_dom, tuple_dom, record_dom, matrix_dom, set_dom, mset_dom, function_dom, relation_dom, partition_dom, no_doms, more_doms}
+use Rattle.ess_semantics.specs.Trees.{by_value, to_component, to_field, index, application, tuple_literal, set_literal, mset_literal, function_literal, relation_literal, partition_literal, matrix_literal, valued, name_pat, Ex, truth_ex, node_ex, plain_node, comp_ex, cell_ex, no_exs, more_exs, no_gens, over, from, cond, bool_dom, tuple_dom, record_dom, matrix_dom, set_dom, mset_dom, function_dom, relation_dom, partition_dom, no_doms, more_doms}
 use Rattle.std.specs.List.{list_all}
 use Rattle.ess_semantics.specs.Values.{a_tuple, a_set, a_relation, a_record}
 use Rattle.ess_semantics.specs.Names.{Names}
-use Rattle.ess_semantics.specs.Types.{Ty, bool_ty, int_ty, named_ty, compound, no_tys, compound1, compound2, join, type_of_dom}
+use Rattle.ess_semantics.specs.Types.{Ty, any_ty, bool_ty, int_ty, named_ty, compound, no_tys, compound1, compound2, join, type_of_dom}
 use Rattle.ess_semantics.specs.Typing.{type_of}
 use Rattle.ess_semantics.proofs.Shorthands.{N, n, es1, es2, un, bi, fn, fn2, at, app, upto, range}
 
@@ -279,3 +279,11 @@ cells_fit : map fits (
     bi Op2.Plus (cell_ex false (codes "x") no_exs) (n 1) ∷ bi Op2.And (cell_ex false (codes "x") no_exs) (truth_ex true) ∷
     bi Op2.Eq (cell_ex false (codes "x") no_exs) (N (codes "s")) ∷ []) ≡ true ∷ false ∷ false ∷ []
 cells_fit = refl
+
+-- ---- components and fields
+
+-- A part of what has no values has none either; a number has no parts.
+parts : map (λ t. map (λ q. type_of (node_ex false (index (q ∷ [])) (es1 (N (codes "a")))) ((codes "a", t) ∷ []))
+    (to_component 2 ∷ to_field (codes "b") ∷ []))
+    (any_ty ∷ int_ty ∷ []) ≡ (Some any_ty ∷ Some any_ty ∷ []) ∷ (None ∷ None ∷ []) ∷ []
+parts = refl

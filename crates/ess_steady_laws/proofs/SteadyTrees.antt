@@ -5,7 +5,7 @@ use Rattle.ess_semantics.specs.Values.{a_tuple, a_record}
 use Rattle.ess_semantics.specs.Names.{Names}
 use Rattle.ess_semantics.specs.Trees.{Step, by_value, to_component, to_field, Op, index, Ex, Exs, number_ex, truth_ex, name_ex, node_ex, matrix_ex, comp_ex, cell_ex, seen_ex, no_exs, more_exs, Gens, no_gens, over, from, cond, Dom, Doms, bool_dom, int_dom, name_dom, tuple_dom, record_dom, matrix_dom, set_dom, mset_dom, function_dom, relation_dom, partition_dom, no_doms, more_doms}
 use Rattle.ess_semantics.specs.Types.{Ty, compound, type_of_dom, bind_types}
-use Rattle.ess_semantics.specs.Typing.{Static, a_number, a_name, other, static, statics, step_ty, path_ty, type_of_node, type_of, types_of, source_ty}
+use Rattle.ess_semantics.specs.Typing.{Static, a_number, a_name, other, static, statics, step_ty, part_ty, path_ty, type_of_node, type_of, types_of, source_ty}
 use Rattle.ess_semantics.specs.Resolving.{step_at, steps_from, resolved_steps, kept_indices, kept_operands, resolve, resolve_exs, resolve_dom, resolve_doms}
 use Rattle.ess_semantics.specs.NamesAt.{names_behind}
 use Rattle.ess_semantics.proofs.Tests.{and-both}
@@ -42,11 +42,11 @@ steady-steps (Some t) (by_value ∷ qs) (s ∷ ss) (u ∷ us) v h q =
     and-both (not (is_stepped (Some t))) (by_values (step_ty t s u) qs ss us)
     (ap not (not-stepped t s u (λ p. path_ty p qs ss us) v f.0 q)) (steady-steps (step_ty t s u) qs ss us v f.1 q)
 steady-steps (Some t) (to_component k ∷ qs) ss us v h q =
-    let f = first-step (to_component k) (to_component k) (steps_from (step_ty t (a_number k) None) qs ss us) qs h in
-    steady-steps (step_ty t (a_number k) None) qs ss us v f.1 q
+    let f = first-step (to_component k) (to_component k) (steps_from (part_ty t (a_number k)) qs ss us) qs h in
+    steady-steps (part_ty t (a_number k)) qs ss us v f.1 q
 steady-steps (Some t) (to_field a ∷ qs) ss us v h q =
-    let f = first-step (to_field a) (to_field a) (steps_from (step_ty t (a_name a) None) qs ss us) qs h in
-    steady-steps (step_ty t (a_name a) None) qs ss us v f.1 q
+    let f = first-step (to_field a) (to_field a) (steps_from (part_ty t (a_name a)) qs ss us) qs h in
+    steady-steps (part_ty t (a_name a)) qs ss us v f.1 q
 
 index-steady : (o : Option Ty) (qs : List Step) (s : Static) (ss : List Static) (us : List (Option Ty)) (v : Ty) →
     steps_from o qs ss us ≡ qs →

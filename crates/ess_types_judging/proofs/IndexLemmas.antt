@@ -6,7 +6,7 @@ use Rattle.ess_semantics.specs.Values.{Text}
 use Rattle.ess_semantics.specs.Trees as pure
 use Rattle.ess_semantics.specs.Trees.{by_value, to_component, to_field, index, node_ex, more_exs}
 use Rattle.ess_semantics.specs.Types.{Ty}
-use Rattle.ess_semantics.specs.Typing.{Static, static, statics, a_number, a_name, step_ty, type_behind, path_ty, type_of_node}
+use Rattle.ess_semantics.specs.Typing.{Static, static, statics, a_number, a_name, step_ty, part_ty, type_behind, part_behind, path_ty, type_of_node}
 use Rattle.ess_semantics.specs.Lettings.{is_record, field_steps}
 use Rattle.ess_semantics.specs.Scopes.{Scope}
 use Rattle.ess_core.specs.TreeViews.{With, words_of, within, exs_of, pure_step}
@@ -84,18 +84,18 @@ index_value p e ws s =
 
 -- Behind a step to a component.
 pub index_component : (p : Reached) (k : ℕ) (ws : List (With pure.Step)) (s : Scope) →
-    index_on p ((to_component k, []) ∷ ws) s ≡ index_on (record p { ty = type_behind p.ty (a_number k) None }) ws s
+    index_on p ((to_component k, []) ∷ ws) s ≡ index_on (record p { ty = part_behind p.ty (a_number k) }) ws s
 index_component p k ws s =
-    ap (λ t. over t (both p.found (rest (type_behind p.ty (a_number k) None) ws s)))
-    (steps-type p.ty (type_behind p.ty (a_number k) None) (λ x. step_ty x (a_number k) None)
+    ap (λ t. over t (both p.found (rest (part_behind p.ty (a_number k)) ws s)))
+    (steps-type p.ty (part_behind p.ty (a_number k)) (λ x. part_ty x (a_number k))
     (λ v. path_ty v (words_of ws) (statics (exs_of (within ws))) (types_in (judged_all (exs_of (within ws)) s))) refl)
 
 -- Behind a step to a field.
 pub index_field : (p : Reached) (a : Text) (ws : List (With pure.Step)) (s : Scope) →
-    index_on p ((to_field a, []) ∷ ws) s ≡ index_on (record p { ty = type_behind p.ty (a_name a) None }) ws s
+    index_on p ((to_field a, []) ∷ ws) s ≡ index_on (record p { ty = part_behind p.ty (a_name a) }) ws s
 index_field p a ws s =
-    ap (λ t. over t (both p.found (rest (type_behind p.ty (a_name a) None) ws s)))
-    (steps-type p.ty (type_behind p.ty (a_name a) None) (λ x. step_ty x (a_name a) None)
+    ap (λ t. over t (both p.found (rest (part_behind p.ty (a_name a)) ws s)))
+    (steps-type p.ty (part_behind p.ty (a_name a)) (λ x. part_ty x (a_name a))
     (λ v. path_ty v (words_of ws) (statics (exs_of (within ws))) (types_in (judged_all (exs_of (within ws)) s))) refl)
 
 -- ---- the steps of a row

@@ -4,7 +4,7 @@ ghost use Rattle.ess_semantics.specs.Values.{a_matrix};
 ghost use Rattle.ess_semantics.specs.Types.{compound2, int_ty};
 ghost use Rattle.ess_semantics.specs.OperatorTypes.{type_of_op};
 ghost use Rattle.ess_semantics.specs.Trees.{unary, binary, application};
-ghost use Rattle.ess_semantics.specs.Typing.{static, type_behind, a_number, a_name};
+ghost use Rattle.ess_semantics.specs.Typing.{static, type_behind, part_behind, a_number, a_name};
 ghost use Rattle.ess_core.specs.TypeViews.{pure_ty};
 ghost use Rattle.ess_core.specs.TreeViews.{pure_ex};
 ghost use Rattle.ess_types_judging.specs.Findings.{pure_node};
@@ -110,7 +110,7 @@ pub(crate) fn type_behind_component(
     place: &Option<Boxed<Ty>>,
     number: u64,
 ) -> Result<Option<Boxed<Ty>>, NoMemory>
-    ensures { IfOk result (λ o. option_map pure_ty o ≡ type_behind (option_map pure_ty place.now) (a_number number) None) }
+    ensures { IfOk result (λ o. option_map pure_ty o ≡ part_behind (option_map pure_ty place.now) (a_number number)) }
 {
     match place {
         Some(place) => component_type(alloc, place.get(), number),
@@ -124,7 +124,7 @@ pub(crate) fn type_behind_field(
     place: &Option<Boxed<Ty>>,
     name: &Text,
 ) -> Result<Option<Boxed<Ty>>, NoMemory>
-    ensures { IfOk result (λ o. option_map pure_ty o ≡ type_behind (option_map pure_ty place.now) (a_name name.now) None) }
+    ensures { IfOk result (λ o. option_map pure_ty o ≡ part_behind (option_map pure_ty place.now) (a_name name.now)) }
 {
     match place {
         Some(place) => field_type(alloc, place.get(), name),

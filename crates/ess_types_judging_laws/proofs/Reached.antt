@@ -4,7 +4,7 @@ use Rattle.std.specs.Prelude.{is_some}
 use Rattle.ess_semantics.specs.Lists.{and_then, is_some_and}
 use Rattle.ess_semantics.specs.Trees.{Step, index, Ex, Exs, node_ex, more_exs}
 use Rattle.ess_semantics.specs.Types.{Ty}
-use Rattle.ess_semantics.specs.Typing.{Static, static, statics, a_number, a_name, step_ty, type_behind, path_ty, type_of_node}
+use Rattle.ess_semantics.specs.Typing.{Static, static, statics, a_number, a_name, step_ty, part_ty, type_behind, part_behind, path_ty, type_of_node}
 use Rattle.ess_semantics.specs.Lettings.{is_record, field_steps}
 use Rattle.ess_semantics.specs.Scopes.{Scope}
 use Rattle.ess_types_judging_laws.specs.Found.{Found, both, at_place}
@@ -43,15 +43,15 @@ reached-type (at_value e ∷ ps) p s = go p.ty ∙ reached-type ps (behind_value
 reached-type (at_component k ∷ ps) p s = go p.ty ∙ reached-type ps (behind_step (at_component k) p s) s
   where
     go : (o : Option Ty) →
-        and_then o (λ t. and_then (step_ty t (a_number k) None) (λ v. path_ty v (steps_of ps) (statics (values_in ps)) (value_tys ps s)))
-        ≡ and_then (type_behind o (a_number k) None) (λ t. path_ty t (steps_of ps) (statics (values_in ps)) (value_tys ps s))
+        and_then o (λ t. and_then (part_ty t (a_number k)) (λ v. path_ty v (steps_of ps) (statics (values_in ps)) (value_tys ps s)))
+        ≡ and_then (part_behind o (a_number k)) (λ t. path_ty t (steps_of ps) (statics (values_in ps)) (value_tys ps s))
     go None = refl
     go (Some t) = refl
 reached-type (at_field a ∷ ps) p s = go p.ty ∙ reached-type ps (behind_step (at_field a) p s) s
   where
     go : (o : Option Ty) →
-        and_then o (λ t. and_then (step_ty t (a_name a) None) (λ v. path_ty v (steps_of ps) (statics (values_in ps)) (value_tys ps s)))
-        ≡ and_then (type_behind o (a_name a) None) (λ t. path_ty t (steps_of ps) (statics (values_in ps)) (value_tys ps s))
+        and_then o (λ t. and_then (part_ty t (a_name a)) (λ v. path_ty v (steps_of ps) (statics (values_in ps)) (value_tys ps s)))
+        ≡ and_then (part_behind o (a_name a)) (λ t. path_ty t (steps_of ps) (statics (values_in ps)) (value_tys ps s))
     go None = refl
     go (Some t) = refl
 

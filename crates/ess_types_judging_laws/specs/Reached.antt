@@ -4,7 +4,7 @@ use Rattle.ess_semantics.specs.Lists.{is_some_and}
 use Rattle.ess_semantics.specs.Values.{Text}
 use Rattle.ess_semantics.specs.Trees.{Step, by_value, to_component, to_field, Ex, Exs, no_exs, more_exs}
 use Rattle.ess_semantics.specs.Types.{Ty}
-use Rattle.ess_semantics.specs.Typing.{static, a_number, a_name, type_behind}
+use Rattle.ess_semantics.specs.Typing.{static, a_number, a_name, type_behind, part_behind}
 use Rattle.ess_semantics.specs.Lettings.{is_record}
 use Rattle.ess_semantics.specs.Scopes.{Scope}
 use Rattle.ess_types_judging_laws.specs.Found.{Found, both, at_place}
@@ -46,8 +46,8 @@ behind_value e j p =
 -- Behind a step.
 abbrev pub behind_step : Stepping → Reached → Scope → Reached
 behind_step (at_value e) p s = behind_value e (judged e s) p
-behind_step (at_component k) p s = record p { ty = type_behind p.ty (a_number k) None }
-behind_step (at_field a) p s = record p { ty = type_behind p.ty (a_name a) None }
+behind_step (at_component k) p s = record p { ty = part_behind p.ty (a_number k) }
+behind_step (at_field a) p s = record p { ty = part_behind p.ty (a_name a) }
 
 -- Behind steps.
 abbrev pub behind_steps : List Stepping → Reached → Scope → Reached

@@ -8,7 +8,7 @@ use Rattle.ess_semantics.specs.Order.{same_text}
 use Rattle.ess_semantics.specs.Names.{Names, is_among}
 use Rattle.ess_semantics.specs.Trees.{Step, by_value, to_component, to_field, index, Pat, Pats, name_pat, tuple_pat, no_pats, more_pats, Ex, Exs, more_exs, no_exs}
 use Rattle.ess_semantics.specs.Types.{Ty, Tys, compound, pattern_names, all_pattern_names}
-use Rattle.ess_semantics.specs.Typing.{Static, a_number, a_name, other, static, statics, step_ty, type_behind, path_ty, type_of_node, type_of, types_of}
+use Rattle.ess_semantics.specs.Typing.{Static, a_number, a_name, other, static, statics, step_ty, type_behind, part_behind, path_ty, type_of_node, type_of, types_of}
 use Rattle.ess_semantics.specs.Lettings.{is_record, field_steps}
 use Rattle.ess_semantics.specs.Scopes.{names_but, Scope, Asked, nothing_asked, every, every_operand, depends_on_no_find}
 use Rattle.ess_semantics.specs.Scoped.{is_bound, is_bound_by_some, with_names}
@@ -79,12 +79,12 @@ value-leads g None qs e es h = h
 value-leads g (Some t) qs e es h = h
 
 pub component-leads : (g : Names Ty) (t : Option Ty) (k : ℕ) (qs : List Step) (es : Exs) → Leads g t (to_component k ∷ qs) es →
-    Leads g (type_behind t (a_number k) None) qs es
+    Leads g (part_behind t (a_number k)) qs es
 component-leads g None k qs es h = h
 component-leads g (Some t) k qs es h = h
 
 pub field-leads : (g : Names Ty) (t : Option Ty) (a : Text) (qs : List Step) (es : Exs) → Leads g t (to_field a ∷ qs) es →
-    Leads g (type_behind t (a_name a) None) qs es
+    Leads g (part_behind t (a_name a)) qs es
 field-leads g None a qs es h = h
 field-leads g (Some t) a qs es h = h
 
@@ -183,6 +183,6 @@ module _ (q : Asked) (s : Scope) (ms ns : List Text) (u : Text → Bool) where
       (tail-asked q (is_some_and t is_record) bs e es (depending ms s) a)
       (tail-asked fixed_parts (is_some_and t is_record) bs e es (depending ns s) f))
   steps-free t (to_component n ∷ qs) es i k a f =
-      steps-free (type_behind t (a_number n) None) qs es (component-leads s.tys t n qs es i) k a f
+      steps-free (part_behind t (a_number n)) qs es (component-leads s.tys t n qs es i) k a f
   steps-free t (to_field x ∷ qs) es i k a f =
-      steps-free (type_behind t (a_name x) None) qs es (field-leads s.tys t x qs es i) k a f
+      steps-free (part_behind t (a_name x)) qs es (field-leads s.tys t x qs es i) k a f

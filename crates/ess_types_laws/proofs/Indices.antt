@@ -7,7 +7,7 @@ use Rattle.ess_semantics.specs.Values.{Text, a_tuple, a_matrix, a_record, Value,
 use Rattle.ess_semantics.specs.Order.{order_texts, same, same_text, same_texts}
 use Rattle.ess_semantics.specs.Trees.{Step, by_value, to_component, to_field}
 use Rattle.ess_semantics.specs.Types.{Ty, Tys, any_ty, compound, no_tys, more_tys}
-use Rattle.ess_semantics.specs.Typing.{Static, a_number, a_name, other, component_ty, field_ty, step_ty, path_ty}
+use Rattle.ess_semantics.specs.Typing.{Static, a_number, a_name, other, component_ty, field_ty, step_ty, part_ty, path_ty}
 use Rattle.ess_semantics.specs.Operators.{misfit, item_at, component, field_at, at_index, at_component, at_field, path_value}
 use Rattle.ess_semantics.specs.Resolving.{step_at, steps_from}
 use Rattle.ess_semantics.specs.Meaning.{TypeEntry}
@@ -73,7 +73,7 @@ module _ (p : Bool) (es : List TypeEntry) where
   value-step any_ty u s w v i x q r o h = cc
   value-step _ u s w v i x q r o h = cc
 
-  component-step : (t u : Ty) (k : ℕ) (v : Value) → step_ty t (a_number k) None ≡ Some u → Of p es t v → Of p es u (at_component v k)
+  component-step : (t u : Ty) (k : ℕ) (v : Value) → part_ty t (a_number k) ≡ Some u → Of p es t v → Of p es u (at_component v k)
   component-step (compound a_tuple ts) u k (tuple vs) r o = component-fits ts vs k u o r
   component-step (compound a_tuple ts) u k _ r o = cc
   component-step (compound a_matrix no_tys) u k v r o = cc
@@ -83,7 +83,7 @@ module _ (p : Bool) (es : List TypeEntry) where
   component-step any_ty u k v r o = cc
   component-step _ u k v r o = cc
 
-  field-step : (t u : Ty) (a : Text) (v : Value) → step_ty t (a_name a) None ≡ Some u → Of p es t v → Of p es u (at_field v a)
+  field-step : (t u : Ty) (a : Text) (v : Value) → part_ty t (a_name a) ≡ Some u → Of p es t v → Of p es u (at_field v a)
   field-step (compound (a_record fs) ts) u a (node (a_record gs) vs) r o =
       let z : fs ≡ gs = texts_exact fs gs (equal-of (order_texts fs gs) (and-left (same_texts fs gs) (are_of p es ts (to_list vs)) o)) in
       subst (λ hs. Of p es u (or_default (field_at hs vs a) misfit)) z
@@ -130,11 +130,11 @@ module _ (p : Bool) (es : List TypeEntry) where
   path-fits t u (by_value ∷ qs) [] us v is x n q r o h = cc
   path-fits t u (by_value ∷ qs) (s ∷ ss) [] v is x n q r o h = cc
   path-fits t u (to_component k ∷ qs) ss us v is x n q r o h =
-      let f : steps_from (step_ty t (a_number k) None) qs ss us ≡ qs = cc in
-      let a = some-behind (step_ty t (a_number k) None) (λ j. path_ty j qs ss us) u r in
+      let f : steps_from (part_ty t (a_number k)) qs ss us ≡ qs = cc in
+      let a = some-behind (part_ty t (a_number k)) (λ j. path_ty j qs ss us) u r in
       path-fits a.0 u qs ss us (at_component v k) is x n (ap (λ c. steps_from c qs ss us) (sym a.1)
       ∙ f) a.2 (component-step t a.0 k v a.1 o) h
   path-fits t u (to_field a' ∷ qs) ss us v is x n q r o h =
-      let f : steps_from (step_ty t (a_name a') None) qs ss us ≡ qs = cc in
-      let a = some-behind (step_ty t (a_name a') None) (λ j. path_ty j qs ss us) u r in
+      let f : steps_from (part_ty t (a_name a')) qs ss us ≡ qs = cc in
+      let a = some-behind (part_ty t (a_name a')) (λ j. path_ty j qs ss us) u r in
       path-fits a.0 u qs ss us (at_field v a') is x n (ap (λ c. steps_from c qs ss us) (sym a.1) ∙ f) a.2 (field-step t a.0 a' v a.1 o) h

@@ -5,7 +5,7 @@ use Rattle.ess_semantics.specs.Values.{Text, a_tuple, a_record}
 use Rattle.ess_semantics.specs.Names.{Names}
 use Rattle.ess_semantics.specs.Trees.{Step, by_value, to_component, to_field, Ex, Exs, no_exs, more_exs}
 use Rattle.ess_semantics.specs.Types.{Ty, compound}
-use Rattle.ess_semantics.specs.Typing.{Static, a_number, a_name, other, statics, static, step_ty, type_behind, path_ty, type_of, types_of}
+use Rattle.ess_semantics.specs.Typing.{Static, a_number, a_name, other, statics, static, step_ty, part_ty, type_behind, part_behind, path_ty, type_of, types_of}
 use Rattle.ess_semantics.specs.Resolving.{step_at, steps_from, kept_indices}
 
 -- ---- operands that are kept
@@ -33,17 +33,17 @@ kept-same (to_field a ∷ qs) es = kept-same qs es
 -- ---- one step
 
 component-step : (t : Ty) (s : Static) (k : ℕ) (u : Option Ty) → step_at (Some t) s ≡ to_component k →
-    step_ty t (a_number k) None ≡ step_ty t s u
+    part_ty t (a_number k) ≡ step_ty t s u
 component-step (compound a_tuple ts) (a_number m) k u e = let f : m ≡ k = cc in
-    ap (λ i. step_ty (compound a_tuple ts) (a_number i) None) (sym f)
+    ap (λ i. part_ty (compound a_tuple ts) (a_number i)) (sym f)
 component-step (compound (a_record fs) ts) (a_number m) k u e = cc
 component-step (compound (a_record fs) ts) (a_name b) k u e = cc
 component-step (compound (a_record fs) ts) other k u e = cc
 component-step _ s k u e = cc
 
-field-step : (t : Ty) (s : Static) (a : Text) (u : Option Ty) → step_at (Some t) s ≡ to_field a → step_ty t (a_name a) None ≡ step_ty t s u
+field-step : (t : Ty) (s : Static) (a : Text) (u : Option Ty) → step_at (Some t) s ≡ to_field a → part_ty t (a_name a) ≡ step_ty t s u
 field-step (compound (a_record fs) ts) (a_name b) a u e = let f : b ≡ a = cc in
-    ap (λ i. step_ty (compound (a_record fs) ts) (a_name i) None) (sym f)
+    ap (λ i. part_ty (compound (a_record fs) ts) (a_name i)) (sym f)
 field-step (compound a_tuple ts) (a_number m) a u e = cc
 field-step (compound a_tuple ts) (a_name b) a u e = cc
 field-step (compound a_tuple ts) other a u e = cc
@@ -51,12 +51,12 @@ field-step _ s a u e = cc
 
 -- No step leads to a component or a field that doesn't do so again.
 component-again : (t : Option Ty) (s : Static) (k : ℕ) (u : Option Ty) → step_at t s ≡ to_component k →
-    type_behind t (a_number k) None ≡ type_behind t s u
+    part_behind t (a_number k) ≡ type_behind t s u
 component-again None s k u e = cc
 component-again (Some t) s k u e = component-step t s k u e
 
 field-again : (t : Option Ty) (s : Static) (a : Text) (u : Option Ty) → step_at t s ≡ to_field a →
-    type_behind t (a_name a) None ≡ type_behind t s u
+    part_behind t (a_name a) ≡ type_behind t s u
 field-again None s a u e = cc
 field-again (Some t) s a u e = field-step t s a u e
 
@@ -77,12 +77,12 @@ module _ (g : Names Ty) where
   value-type (Some t) qs e es = refl
 
   component-type : (t : Option Ty) (k : ℕ) (qs : List Step) (es : Exs) →
-      type_at t (to_component k ∷ qs) es ≡ type_at (type_behind t (a_number k) None) qs es
+      type_at t (to_component k ∷ qs) es ≡ type_at (part_behind t (a_number k)) qs es
   component-type None k qs es = refl
   component-type (Some t) k qs es = refl
 
   field-type : (t : Option Ty) (a : Text) (qs : List Step) (es : Exs) →
-      type_at t (to_field a ∷ qs) es ≡ type_at (type_behind t (a_name a) None) qs es
+      type_at t (to_field a ∷ qs) es ≡ type_at (part_behind t (a_name a)) qs es
   field-type None a qs es = refl
   field-type (Some t) a qs es = refl
 
@@ -116,13 +116,13 @@ module _ (g : Names Ty) where
   steps-type t (by_value ∷ qs) no_exs = ap (type_at t (by_value ∷ qs)) (kept-none qs qs)
   steps-type t (by_value ∷ qs) (more_exs e es) = one-type t qs e es (steps-type (Behind t e) qs es) (step_at t (static e)) refl
   steps-type t (to_component k ∷ qs) es =
-      component-type t k (resolved_from (type_behind t (a_number k) None) qs es)
-      (kept_indices qs (resolved_from (type_behind t (a_number k) None) qs es) es)
-      ∙ steps-type (type_behind t (a_number k) None) qs es ∙ sym (component-type t k qs es)
+      component-type t k (resolved_from (part_behind t (a_number k)) qs es)
+      (kept_indices qs (resolved_from (part_behind t (a_number k)) qs es) es)
+      ∙ steps-type (part_behind t (a_number k)) qs es ∙ sym (component-type t k qs es)
   steps-type t (to_field a ∷ qs) es =
-      field-type t a (resolved_from (type_behind t (a_name a) None) qs es)
-      (kept_indices qs (resolved_from (type_behind t (a_name a) None) qs es) es)
-      ∙ steps-type (type_behind t (a_name a) None) qs es ∙ sym (field-type t a qs es)
+      field-type t a (resolved_from (part_behind t (a_name a)) qs es)
+      (kept_indices qs (resolved_from (part_behind t (a_name a)) qs es) es)
+      ∙ steps-type (part_behind t (a_name a)) qs es ∙ sym (field-type t a qs es)
 
   one-again : (t : Option Ty) (qs : List Step) (e : Ex) (es : Exs) →
       resolved_from (Behind t e) (rest_of t qs e es) (kept_indices qs (rest_of t qs e es) es) ≡ rest_of t qs e es →
@@ -146,5 +146,5 @@ module _ (g : Names Ty) where
   steps-again t [] es = refl
   steps-again t (by_value ∷ qs) no_exs = ap (resolved_from t (by_value ∷ qs)) (kept-none qs qs)
   steps-again t (by_value ∷ qs) (more_exs e es) = one-again t qs e es (steps-again (Behind t e) qs es) (step_at t (static e)) refl
-  steps-again t (to_component k ∷ qs) es = ap (λ rs. to_component k ∷ rs) (steps-again (type_behind t (a_number k) None) qs es)
-  steps-again t (to_field a ∷ qs) es = ap (λ rs. to_field a ∷ rs) (steps-again (type_behind t (a_name a) None) qs es)
+  steps-again t (to_component k ∷ qs) es = ap (λ rs. to_component k ∷ rs) (steps-again (part_behind t (a_number k)) qs es)
+  steps-again t (to_field a ∷ qs) es = ap (λ rs. to_field a ∷ rs) (steps-again (part_behind t (a_name a)) qs es)

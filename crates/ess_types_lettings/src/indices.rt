@@ -1,7 +1,7 @@
 //! Lettings put into the steps of an index.
 ghost use Rattle.std.specs.Prelude.{◌≡◌, ◌≤◌, ◌<◌, ◌+◌, ◌∷◌, [], true, false, length, List, None, map, option_map, IfOk, OnOk};
 ghost use Rattle.ess_semantics.specs.Trees.{by_value, index, node_ex, more_exs, Step as PureStep};
-ghost use Rattle.ess_semantics.specs.Typing.{a_number, a_name, static, type_behind, type_of};
+ghost use Rattle.ess_semantics.specs.Typing.{a_number, a_name, static, type_behind, part_behind, type_of};
 ghost use Rattle.ess_semantics.specs.Lettings.{kept_or, put_ex};
 ghost use Rattle.ess_core.specs.TypeViews.{pure_ty};
 ghost use Rattle.ess_core.specs.TreeViews.{With, words_of, within, exs_of, pure_ex, pure_step};
@@ -184,7 +184,7 @@ fn component_behind(
     place: &Option<Boxed<Ty>>,
     number: u64,
 ) -> Result<Option<Boxed<Ty>>, NoMemory>
-    ensures { IfOk result (λ o. option_map pure_ty o ≡ type_behind (option_map pure_ty place.now) (a_number number) None) }
+    ensures { IfOk result (λ o. option_map pure_ty o ≡ part_behind (option_map pure_ty place.now) (a_number number)) }
 {
     match place {
         Some(place) => component_type(alloc, place.get(), number),
@@ -198,7 +198,7 @@ fn field_behind(
     place: &Option<Boxed<Ty>>,
     name: &Text,
 ) -> Result<Option<Boxed<Ty>>, NoMemory>
-    ensures { IfOk result (λ o. option_map pure_ty o ≡ type_behind (option_map pure_ty place.now) (a_name name.now) None) }
+    ensures { IfOk result (λ o. option_map pure_ty o ≡ part_behind (option_map pure_ty place.now) (a_name name.now)) }
 {
     match place {
         Some(place) => field_type(alloc, place.get(), name),

@@ -3,7 +3,7 @@ ghost use Rattle.std.specs.Prelude.{◌≡◌, None, map, option_map, IfOk};
 ghost use Rattle.std.specs.Option.{option_copied};
 ghost use Rattle.ess_semantics.specs.Lists.{and_then};
 ghost use Rattle.ess_semantics.specs.Types.{fit, any_ty};
-ghost use Rattle.ess_semantics.specs.Typing.{a_number, a_name, static, step_ty, component_ty, number_cell_ty};
+ghost use Rattle.ess_semantics.specs.Typing.{a_number, a_name, static, step_ty, part_ty, component_ty, number_cell_ty};
 ghost use Rattle.ess_core.specs.TypeViews.{pure_ty, pure_tys, pure_field_ty};
 ghost use Rattle.ess_core.specs.TreeViews.{pure_ex};
 ghost use Rattle.ess_semantics.specs.Trees.{number_ex};
@@ -139,22 +139,26 @@ fn field(alloc: Global, fields: &[FieldTy], name: &Text) -> Result<Option<Boxed<
     Ok(None)
 }
 
-/// The type that a step to a component reaches from a place of this type. `NoMemory` where there is no room for it.
+/// The type that a step to a component reaches from a place of this type, what has no values being its own component.
+/// `NoMemory` where there is no room for it.
 pub fn component_type(alloc: Global, place: &Ty, number: u64) -> Result<Option<Boxed<Ty>>, NoMemory>
-    ensures { IfOk result (λ o. option_map pure_ty o ≡ step_ty (pure_ty place.now) (a_number number) None) }
+    ensures { IfOk result (λ o. option_map pure_ty o ≡ part_ty (pure_ty place.now) (a_number number)) }
 {
     match place {
         Ty::Tuple(parts) => component(alloc, parts.as_slice(), number),
+        Ty::Any => made(alloc, Ty::Any),
         _ => Ok(None),
     }
 }
 
-/// The type that a step to a field reaches from a place of this type. `NoMemory` where there is no room for it.
+/// The type that a step to a field reaches from a place of this type, what has no values being its own field. `NoMemory` where there
+/// is no room for it.
 pub fn field_type(alloc: Global, place: &Ty, name: &Text) -> Result<Option<Boxed<Ty>>, NoMemory>
-    ensures { IfOk result (λ o. option_map pure_ty o ≡ step_ty (pure_ty place.now) (a_name name.now) None) }
+    ensures { IfOk result (λ o. option_map pure_ty o ≡ part_ty (pure_ty place.now) (a_name name.now)) }
 {
     match place {
         Ty::Rec(fields) => field(alloc, fields.as_slice(), name),
+        Ty::Any => made(alloc, Ty::Any),
         _ => Ok(None),
     }
 }

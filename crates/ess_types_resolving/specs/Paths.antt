@@ -3,7 +3,7 @@ use Rattle.std.specs.Prelude.{List, [], ◌∷◌, Option, Some, None}
 use Rattle.ess_semantics.specs.Names.{Names}
 use Rattle.ess_semantics.specs.Types.{Ty, is_bool}
 use Rattle.ess_semantics.specs.Trees.{Step, by_value, to_component, to_field, index, Ex, node_ex, more_exs}
-use Rattle.ess_semantics.specs.Typing.{a_number, a_name, static, statics, type_behind, type_of, types_of}
+use Rattle.ess_semantics.specs.Typing.{a_number, a_name, static, statics, type_behind, part_behind, type_of, types_of}
 use Rattle.ess_semantics.specs.Resolving.{resolve, resolve_exs, step_at, steps_from, kept_indices}
 use Rattle.ess_core.specs.TreeViews.{With, words_of, within, exs_of}
 
@@ -25,8 +25,8 @@ resolved_step t w g = w
 -- The type that it reaches.
 abbrev pub step_behind : Option Ty → With Step → Names Ty → Option Ty
 step_behind t (by_value, e ∷ es) g = type_behind t (static e) (type_of e g)
-step_behind t (to_component k, es) g = type_behind t (a_number k) None
-step_behind t (to_field a, es) g = type_behind t (a_name a) None
+step_behind t (to_component k, es) g = part_behind t (a_number k)
+step_behind t (to_field a, es) g = part_behind t (a_name a)
 step_behind t w g = None
 
 -- Several steps, each from the type that those before it reach.

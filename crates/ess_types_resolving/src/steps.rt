@@ -1,7 +1,7 @@
 //! What a step of an index is, and the type that it reaches.
 ghost use Rattle.std.specs.Prelude.{◌≡◌, [], None, option_map, IfOk};
 ghost use Rattle.ess_semantics.specs.Trees.{to_component, to_field, number_ex};
-ghost use Rattle.ess_semantics.specs.Typing.{a_number, a_name, static, type_behind};
+ghost use Rattle.ess_semantics.specs.Typing.{a_number, a_name, static, type_behind, part_behind};
 ghost use Rattle.ess_semantics.specs.Resolving.{step_at};
 ghost use Rattle.ess_core.specs.TypeViews.{pure_ty};
 ghost use Rattle.ess_core.specs.TreeViews.{pure_ex, pure_step};
@@ -124,7 +124,7 @@ pub(crate) fn component_step(
     place: &Option<Boxed<Ty>>,
 ) -> Result<(Boxed<Step>, Option<Boxed<Ty>>), NoMemory>
     ensures tree { IfOk result (λ r. pure_step r.0 ≡ (to_component number, [])) }
-    ensures types { IfOk result (λ r. option_map pure_ty r.1 ≡ type_behind (option_map pure_ty place.now) (a_number number) None) }
+    ensures types { IfOk result (λ r. option_map pure_ty r.1 ≡ part_behind (option_map pure_ty place.now) (a_number number)) }
 {
     let next = component_behind(alloc, number, place)?;
     let step = Boxed::new(alloc, Step::Component(number))?;
@@ -137,7 +137,7 @@ fn component_behind(
     number: u64,
     place: &Option<Boxed<Ty>>,
 ) -> Result<Option<Boxed<Ty>>, NoMemory>
-    ensures { IfOk result (λ o. option_map pure_ty o ≡ type_behind (option_map pure_ty place.now) (a_number number) None) }
+    ensures { IfOk result (λ o. option_map pure_ty o ≡ part_behind (option_map pure_ty place.now) (a_number number)) }
 {
     match place {
         Some(place) => component_type(alloc, place.get(), number),
@@ -153,7 +153,7 @@ pub(crate) fn field_step(
     place: &Option<Boxed<Ty>>,
 ) -> Result<(Boxed<Step>, Option<Boxed<Ty>>), NoMemory>
     ensures tree { IfOk result (λ r. pure_step r.0 ≡ (to_field name.now, [])) }
-    ensures types { IfOk result (λ r. option_map pure_ty r.1 ≡ type_behind (option_map pure_ty place.now) (a_name name.now) None) }
+    ensures types { IfOk result (λ r. option_map pure_ty r.1 ≡ part_behind (option_map pure_ty place.now) (a_name name.now)) }
 {
     let next = field_behind(alloc, name, place)?;
     let name = name.copy(alloc)?;
@@ -167,7 +167,7 @@ fn field_behind(
     name: &Text,
     place: &Option<Boxed<Ty>>,
 ) -> Result<Option<Boxed<Ty>>, NoMemory>
-    ensures { IfOk result (λ o. option_map pure_ty o ≡ type_behind (option_map pure_ty place.now) (a_name name.now) None) }
+    ensures { IfOk result (λ o. option_map pure_ty o ≡ part_behind (option_map pure_ty place.now) (a_name name.now)) }
 {
     match place {
         Some(place) => field_type(alloc, place.get(), name),
