@@ -90,7 +90,7 @@ module _ (S : List Stm) (o : Options) (h : are_flat_statements S o ≡ true) (b 
   abbrev env0 : Env
   env0 = env_of_tables (zero_tables (all_decls E0))
 
-  -- Each declared cell holds 0, or false; so simplifying leaves flat trees flat.
+  -- Each declared cell holds 0, or false.
   zero-valued : (n : Text) (b : Bool) → cells S o h n ≡ Some b →
       (v : Value) × Marked b v × (meaning (cell_ex b n no_exs) env0 ≡ Some v)
   zero-valued n b e = go (declaration_of (all_decls E0) n) refl e
@@ -108,7 +108,8 @@ module _ (S : List Stm) (o : Options) (h : are_flat_statements S o ≡ true) (b 
       go None q e = absurd (no e)
       go (Some D) q e = at b (zero-look (all_decls E0) n ∙ ap (option_map (λ d. one_cell (pos 0))) q)
 
-  simple : (e : Ex) (m : Bool) → Flat none_marked (cells S o h) e m → Flat none_marked (cells S o h) (simplified e) m
+  -- So simplifying leaves flat trees flat.
+  pub simple : (e : Ex) (m : Bool) → Flat none_marked (cells S o h) e m → Flat none_marked (cells S o h) (simplified e) m
   simple e m f = (simpler (cells S o h) env0 zero-valued f).flat
 
   -- The statement of each plan.
@@ -136,12 +137,13 @@ module _ (S : List Stm) (o : Options) (h : are_flat_statements S o ≡ true) (b 
       (shows-doms Ps o (all-atoms S o h) (prepared S) [] shows_nothing w.x w.d h b (record { seen = λ a i m. absurd (no-yes i) }) distinct
       (inr (planned-kept w.f w.x w.d w.n (subst (λ P. In P Ps) w.is i)))))
 
-  all-declared : (f : Side) → Each (plans_for f S o) (λ P. declared_of sh P ≡ decl_of Ps P ∷ [])
+  -- So it is of the plans of a side.
+  pub all-declared : (f : Side) → Each (plans_for f S o) (λ P. declared_of sh P ≡ decl_of Ps P ∷ [])
   all-declared f = all-items (λ P. declared_of sh P ≡ decl_of Ps P ∷ []) (plans_for f S o)
       (λ P i. let j = (in-filter (is_on f) P Ps i).0 in declared P (at-item AtomPlan Ps P (all-atoms S o h) j) j)
 
   -- The declarations that are written for a side.
-  side-written : (f : Side) (add : Scope → TableDecl → Scope) (s : Scope) (gs : List TableDecl) →
+  pub side-written : (f : Side) (add : Scope → TableDecl → Scope) (s : Scope) (gs : List TableDecl) →
       DeclsAreWritten add (taken_names S o) sh.next s (append_all (map (declared_of sh) (plans_for f S o))) gs →
       gs ≡ map (decl_of Ps) (plans_for f S o)
   side-written f add s gs w =
@@ -154,21 +156,24 @@ module _ (S : List Stm) (o : Options) (h : are_flat_statements S o ≡ true) (b 
   over-tables : (e : Ex) (m : Bool) → Flat (scalar_mark Ps) none_marked e m → tree_of sh e ≡ with_cells Ps e
   over-tables e m f = ap (λ q. shown sh q.0) (told-flat (scalar_mark Ps) f sh.next) ∙ shown-flat Ps sh names-shown f
 
-  over-cells : (e : Ex) (m : Bool) → Flat (scalar_mark Ps) none_marked e m → Flat none_marked (cells S o h) (with_cells Ps e) m
+  -- With cells in the place of names it is flat.
+  pub over-cells : (e : Ex) (m : Bool) → Flat (scalar_mark Ps) none_marked e m → Flat none_marked (cells S o h) (with_cells Ps e) m
   over-cells e m f = cells-flat Ps (cells S o h) (placed-names S o h) f
 
-  -- The tree of a constraint, that of an objective, and that of the rule that it has a value.
-  tree-is : (e : Ex) → Flat (scalar_mark Ps) none_marked e true → constraint_tree sh e ≡ with_cells Ps e
+  -- The tree of a constraint is the constraint with cells.
+  pub tree-is : (e : Ex) → Flat (scalar_mark Ps) none_marked e true → constraint_tree sh e ≡ with_cells Ps e
   tree-is e f =
       ap (make_natural (reserved 0) (reserved 1)) (over-tables e true f)
       ∙ guarded-flat (cells S o h) (reserved 0) (reserved 1) true (over-cells e true f) []
 
-  objective-is : (e : Ex) → Flat (scalar_mark Ps) none_marked e false → objective_tree sh e ≡ with_cells Ps e
+  -- So is that of an objective.
+  pub objective-is : (e : Ex) → Flat (scalar_mark Ps) none_marked e false → objective_tree sh e ≡ with_cells Ps e
   objective-is e f =
       ap (make_total (reserved 0) (reserved 1)) (over-tables e false f)
       ∙ guarded-flat (cells S o h) (reserved 0) (reserved 1) false (over-cells e false f) []
 
-  condition-is : (e : Ex) → Flat (scalar_mark Ps) none_marked e false → condition_tree sh e ≡ truth_ex true
+  -- That of the rule that it has a value is `true`.
+  pub condition-is : (e : Ex) → Flat (scalar_mark Ps) none_marked e false → condition_tree sh e ≡ truth_ex true
   condition-is e f =
       ap (has_value (reserved 0) (reserved 1)) (over-tables e false f)
       ∙ has-value-flat (cells S o h) (reserved 0) (reserved 1) (over-cells e false f)
@@ -234,14 +239,16 @@ module _ (S : List Stm) (o : Options) (h : are_flat_statements S o ≡ true) (b 
   goal-is s (greatest e) i no_goal rs w = absurd w
   goal-is s (greatest e) i (least f) rs w = absurd w
 
-  no-channels : (xs : List Text) → ((x : Text) → In x xs → (P : Plan) × (filter (is_plan_of x) Ps ≡ P ∷ [])) →
+  -- Where each find has one plan there are no channels.
+  pub no-channels : (xs : List Text) → ((x : Text) → In x xs → (P : Plan) × (filter (is_plan_of x) Ps ≡ P ∷ [])) →
       append_all (map (λ x. channel_trees sh (filter (is_plan_of x) Ps)) xs) ≡ []
   no-channels [] g = refl
   no-channels (x ∷ xs) g =
       ap (λ l. channel_trees sh l ++ append_all (map (λ x. channel_trees sh (filter (is_plan_of x) Ps)) xs)) (g x (inl refl)).1
       ∙ no-channels xs (λ y i. g y (inr i))
 
-  nothing-asked : (Qs : List Plan) → Each Qs AtomPlan → Each (map (asked_of sh) Qs) (λ c. c ≡ truth_ex true)
+  -- Nothing is asked of tables of scalars.
+  pub nothing-asked : (Qs : List Plan) → Each Qs AtomPlan → Each (map (asked_of sh) Qs) (λ c. c ≡ truth_ex true)
   nothing-asked [] w = tt
   nothing-asked (P ∷ Qs) w = (subst (λ P. asked_of sh P ≡ truth_ex true) (sym w.0.is) refl, nothing-asked Qs w.1)
 

@@ -46,7 +46,7 @@ bare-simple e m f = (simpler none_marked empty_env (λ n b h. absurd (no h)) f).
 -- ---- bounds over cells
 
 -- Nothing is bound in what is built of numbers and cells.
-told-reckoned : (g c : Text → Option Bool) {e : Ex} → Reckoned g c e → (k : ℕ) → told e [] k ≡ (e, k)
+pub told-reckoned : (g c : Text → Option Bool) {e : Ex} → Reckoned g c e → (k : ℕ) → told e [] k ≡ (e, k)
 told-reckoned g c digits k = refl
 told-reckoned g c (of_name h) k = refl
 told-reckoned g c (of_cell h) k = refl
@@ -102,7 +102,7 @@ module _ (Ps : List Plan) (cells : Text → Option Bool)
   no-axes s taken k (a ∷ as') w = absurd w
 
   -- So is the declaration of a cell.
-  decl-written : (s : Scope) (taken : List Text) (k : ℕ) (n : Text) (d : Dom) (u : TableDecl) → is_scalar_dom (given_mark Ps) d ≡ true →
+  pub decl-written : (s : Scope) (taken : List Text) (k : ℕ) (n : Text) (d : Dom) (u : TableDecl) → is_scalar_dom (given_mark Ps) d ≡ true →
       DeclIsWritten s taken k (record { name = n; axes = []; cell = dom_with_cells Ps d }) u →
       u ≡ record { name = n; axes = []; cell = dom_with_cells Ps d }
   decl-written s taken k n d u h w =

@@ -89,7 +89,7 @@ module _ (cells : Text → Option Bool) where
       by (by_number u) = N.no-number-rule cells (supply_at n r.count) g u f
 
   -- So a chain of rules leads to the tree itself.
-  leads-nowhere : (n : ℕ) (g : Names Ty) (old last : Ex) (k : ℕ) (m : Bool) → F old m → Leads IsRuled n g old last k → last ≡ old
+  pub leads-nowhere : (n : ℕ) (g : Names Ty) (old last : Ex) (k : ℕ) (m : Bool) → F old m → Leads IsRuled n g old last k → last ≡ old
   leads-nowhere n g old last k m f (as_it_was p) = refl
   leads-nowhere n g old last k m f (led_at {s = s} {k = j} {a = a} {b = b} c p r w) =
       let q = part-flat none_marked cells c a m f in

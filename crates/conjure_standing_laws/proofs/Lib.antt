@@ -3,7 +3,6 @@ pub mod Binders
 -- One rule at a part, and chains
 pub mod BareChains
 -- What a rule is used at
-pub mod Roots
 pub mod Rulings
 -- Numbers of names
 pub mod Counters
@@ -16,6 +15,7 @@ pub mod SeenLaws
 -- The rules of constraints over scalars, ranges and nested sets, and objectives
 pub mod SetwiseRules
 pub mod SetwiseObjectives
+pub mod SetwiseComes
 pub mod SetwiseLaws
 -- Terms of numerals, which are written as they are
 pub mod NumberTerms
@@ -34,12 +34,18 @@ pub mod NestedLaws
 mod ExamplesNested
 -- Rules lead from flat trees nowhere
 pub mod FlatChains
+-- Something comes of a flat tree
+pub mod FlatComes
 -- What stands in the place of names
 pub mod BuiltShows
 pub mod ShownDomains
 -- What is built, part by part, and as a whole
 pub mod BuiltParts
 pub mod BuiltModels
+-- Nothing lacks of a specification of scalars
+pub mod DeclaredScopes
+pub mod FlatDeclarations
+pub mod FlatLacks
 -- Chains of rules from memberships
 pub mod MemberChains
 -- What is built
@@ -74,6 +80,8 @@ pub mod BuiltMixed
 pub mod MixedLaws
 -- What is written stands
 pub mod FlatTexts
+-- A model is written
+pub mod FlatTextsCome
 -- Worked example
 mod Examples
 -- What is written for texts of sets stands

@@ -7,7 +7,7 @@ use Rattle.ess_refine_laws.specs.AllRules.{Rule, Supply}
 use Rattle.ess_seen_laws.specs.MayFire.{CountsMembers}
 use Rattle.ess_seen_rules_laws.specs.Laws.{NoneFires}
 use Rattle.conjure_modelling.specs.ess_rules.Ruled.{IsRuled, Ruling, plainly, by_kind, gathering, in_order, by_number, compares_sets, MayRule, supply_at, puts_source, ruled, with_new_source}
-use Rattle.conjure_standing_laws.proofs.Roots.{StaysItself}
+use Rattle.ess_seen_settled_laws.proofs.Roots.{StaysItself}
 
 no-both : true ≡ false → ⊥
 no-both q = cc

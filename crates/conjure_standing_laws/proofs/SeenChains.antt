@@ -39,7 +39,7 @@ use Rattle.ess_seen_names_laws.specs.Laws.{none, KeepsNames, SeenRulesKeepNames,
 use Rattle.conjure_modelling.specs.ess_rules.Ruled.{IsRuled, Ruling, plainly, by_kind, gathering, in_order, by_number, MayRule, supply_at, ruled}
 use Rattle.conjure_modelling.specs.ess_refine.Chains.{as_it_was, led_at, Leads}
 use Rattle.conjure_standing_laws.specs.SeenLaws.{IsSeenWhole, StaysSeen, SeenTreesStaySeen}
-use Rattle.conjure_standing_laws.proofs.Roots.{scalar-stays, set-stays, list-stays, still-stays}
+use Rattle.ess_seen_settled_laws.proofs.Roots.{scalar-stays, set-stays, list-stays, still-stays}
 use Rattle.conjure_standing_laws.proofs.Rulings.{counts-none, none-ruled, at-itself}
 use Rattle.conjure_standing_laws.proofs.BoundNames.{bound-type, absurd-both, isnt-bound}
 use Rattle.conjure_standing_laws.proofs.Counters.{rule-up, chain-up}

@@ -17,7 +17,8 @@ use Rattle.conjure_standing_laws.specs.SeenLaws.{SeenTreesStaySeen}
 use Rattle.conjure_standing_laws.specs.SetwiseLaws.{SetwiseObjectivesStand}
 use Rattle.conjure_standing_laws.proofs.SetwiseRules.{enough, worth-of, spells-of}
 
-mark-is : (o : Option Bool) → is_mark false o ≡ true → o ≡ Some false
+-- The mark of a number.
+pub mark-is : (o : Option Bool) → is_mark false o ≡ true → o ≡ Some false
 mark-is (Some false) q = refl
 mark-is (Some true) q = cc
 mark-is None q = cc

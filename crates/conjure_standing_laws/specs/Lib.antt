@@ -4,12 +4,16 @@ pub mod BareLaws
 pub mod SeenLaws
 -- The law
 pub mod SetwiseLaws
+-- The law
+pub mod SetwiseComing
 -- Finds that are sets of any nesting
 pub mod NestedFinds
 -- The laws
 pub mod NestedLaws
 -- The laws
 pub mod FlatLaws
+-- The laws that a model is written
+pub mod ComingLaws
 -- The laws
 pub mod MemberLaws
 -- The laws

@@ -1,15 +1,17 @@
 //! The laws that lead from what the parts of the program answer to the headline, each the contract of a function that does nothing: chains of
-//! rules, rules and objectives that are written, models that are built, and texts of them.
+//! rules, rules and objectives that are written, models that are built, texts of them, and that a model is written at all.
 
 ghost use Rattle.conjure_standing_laws.specs.BareLaws.{BareTreesStayBare};
 ghost use Rattle.conjure_standing_laws.specs.SeenLaws.{SeenTreesStaySeen};
 ghost use Rattle.conjure_standing_laws.specs.SetwiseLaws.{SetwiseRulesStand, SetwiseObjectivesStand};
+ghost use Rattle.conjure_standing_laws.specs.SetwiseComing.{SetwiseTreesCome};
 ghost use Rattle.conjure_standing_laws.specs.NestedLaws.{NestedTablesStay, NestedDomainsStay, NestedRulesStand};
 ghost use Rattle.conjure_standing_laws.specs.FlatLaws.{BuiltModelsAreRight};
 ghost use Rattle.conjure_standing_laws.specs.MemberLaws.{BuiltModelsOfSetsAreRight};
 ghost use Rattle.conjure_standing_laws.specs.MixedLaws.{BuiltMixedModelsAreRight};
 ghost use Rattle.conjure_standing_laws.specs.Laws.{FlatTextsAreMixed, WrittenMixedModelsStand};
 ghost use Rattle.conjure_standing_laws.specs.Laws.{WrittenModelsOfScalarsStand, WrittenModelsOfSetsStand};
+ghost use Rattle.conjure_standing_laws.specs.ComingLaws.{FlatSpecificationsLackNothing, FlatTextsHaveModels};
 
 /// Rules lead from bare trees to bare trees that mean the same.
 pub fn bare_trees_stay_bare()
@@ -29,6 +31,11 @@ pub fn setwise_rules_stand()
 /// What is written for an objective over scalars, ranges and nested sets is the number that it is.
 pub fn setwise_objectives_stand()
     ensures { SetwiseObjectivesStand }
+{}
+
+/// Something comes of each constraint and each objective over scalars, ranges and nested sets, unless 2,000,000 rules fire for its tree.
+pub fn setwise_trees_come()
+    ensures { SetwiseTreesCome }
 {}
 
 /// The tables of nested sets are written as they are declared.
@@ -74,6 +81,16 @@ pub fn written_models_of_sets_stand()
 /// What is written for a text of scalars and sets with flat constraints and memberships stands for it.
 pub fn written_mixed_models_stand()
     ensures { WrittenMixedModelsStand }
+{}
+
+/// Each part of the model of a specification of scalars with flat and total constraints can be written, and some text has it.
+pub fn flat_specifications_lack_nothing()
+    ensures { FlatSpecificationsLackNothing }
+{}
+
+/// A model is written for each text of a specification of scalars with flat and total constraints: none is answered as not supported yet.
+pub fn flat_texts_have_models()
+    ensures { FlatTextsHaveModels }
 {}
 
 /// Texts of specifications of scalars are texts of scalars and sets.

@@ -11,7 +11,7 @@ use Rattle.ess_seen_laws.specs.Seen.{chosen, folded, of_items, size, within, set
 use Rattle.ess_seen_laws.specs.Seen.{Going, at_end, through, through_slots, among, where_holds, truths, numbers}
 use Rattle.ess_seen_laws.specs.SeenParts.{IsStill, numeral, slot, count, start, pair, Items, gone_through, items_listed}
 use Rattle.ess_seen_laws.specs.Laws.{SetsStayAsTheyAre}
-use Rattle.conjure_modelling.specs.ess_rules.Ruled.{new_source, with_new_source}
+use Rattle.ess_refine.specs.ess_rules.Ruled.{new_source, with_new_source}
 
 -- Where the source is told apart nothing changes.
 abbrev pub StaysItself : Ex → Type 0
