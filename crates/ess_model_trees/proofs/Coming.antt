@@ -15,14 +15,14 @@ use Rattle.conjure_model_laws.specs.Printed.{printed}
 use Rattle.ess_refine.specs.ess_rules.Ruled.{IsRuled}
 use Rattle.ess_refine.specs.Chains.{Leads}
 use Rattle.ess_refine.specs.Refinements.{IsGivenUp}
-use Rattle.ess_model_trees.specs.Written.{IsWrittenBy, Prints, PrintsFrom, given_up, not_lowered, Comes, ComesFrom}
+use Rattle.ess_model_trees.specs.Written.{IsWrittenBy, Prints, PrintsFrom, stuck, unlowered, Comes, ComesFrom}
 
 -- ---- printing
 
 module _ (taken : List Text) (n m : ℕ) (old : Ex) where
   -- Nothing comes of a tree whose refining was given up.
-  pub prints_nothing : (last : Ex) → Leads IsRuled n [] old last m → IsGivenUp n old last m → Prints taken n old None m
-  prints_nothing last w h = (last, w, h)
+  pub prints_nothing : (last : Ex) → Leads IsRuled n [] old last m → m < 2 ^ 62 → IsGivenUp last m → Prints taken n old None m
+  prints_nothing last w f h = record { last = last; leads = w; few = f; given_up = h }
 
   -- Of a tree in which nothing abstract is left, what each pass makes.
   pub prints_last : (last simple plain again new : Ex) → Leads IsRuled n [] old last m → m < 2 ^ 62 → is_refined last ≡ true
@@ -41,12 +41,12 @@ module _ (taken : List Text) (n m : ℕ) (old : Ex) where
 module _ (s : Scope) (taken : List Text) (n m : ℕ) (old : Ex) where
   -- Nothing comes of a tree whose refining was given up: nothing is printed for it.
   pub comes_nothing : Prints taken n old None m → Comes s taken n old None m
-  comes_nothing p = given_up p.0 p.1 p.2
+  comes_nothing p = stuck p
 
   -- Of what is printed, that, where it is an expression of a model.
   pub comes_when : (new : Ex) (b : Bool) → IsWrittenBy taken n old new m → b ≡ is_lowerable s new → Comes s taken n old (when b new) m
   comes_when new true w t = (w, sym t)
-  comes_when new false w t = not_lowered w.last w.leads w.refined (subst (λ x. is_lowerable s x ≡ false) w.writes (sym t))
+  comes_when new false w t = unlowered record { new = new; written = w; not_lowerable = sym t }
 
   -- The same from what is lowered.
   pub comes_lowered : (new : Ex) (o : Option Ex) → Prints taken n old (Some new) m → o ≡ lowered s new → Comes s taken n old o m

@@ -11,8 +11,8 @@ use Rattle.ess_grammar.specs.Models.{empty_scope}
 use Rattle.conjure_model_laws.specs.ToldApart.{reserved}
 use Rattle.conjure_model_laws.specs.Shown.{shows_nothing}
 use Rattle.ess_refine.specs.Chains.{as_it_was}
-use Rattle.ess_refine.specs.Refinements.{IsGivenUp, where_none_fires}
-use Rattle.ess_model_trees.specs.Written.{written_for, IsWrittenBy, Prints, given_up, not_lowered, Comes, ComesFrom, PrintsFrom, next_behind}
+use Rattle.ess_refine.specs.Refinements.{IsGivenUp}
+use Rattle.ess_model_trees.specs.Written.{written_for, IsWrittenBy, Prints, stuck, unlowered, Comes, ComesFrom, PrintsFrom, next_behind}
 use Rattle.ess_model_trees.proofs.Rests.{rests-settled}
 
 -- sum([x | x : int(1..3)]) = 6
@@ -66,18 +66,28 @@ abbrev counted : Ex
 counted = bi Op2.Eq (un Op1.Bar (bi Op2.Union (N (codes "s")) (N (codes "t")))) (N (codes "k"))
 
 -- no rule fires at any part of it where s and t are only names: nothing tells what their members are
-none_fires : IsGivenUp 2 counted counted 2
+none_fires : IsGivenUp counted 2
 unfolding digits
-none_fires = where_none_fires refl (rests-settled 2 counted refl)
+none_fires = record { abstract_left = refl; settled = rests-settled 2 counted refl }
 
 -- so nothing is printed for it
 sticks : Prints one_taken 2 counted None 2
-sticks = (counted, as_it_was (omega arith), none_fires)
+sticks = record { last = counted; leads = as_it_was (omega arith); few = omega arith; given_up = none_fires }
 
 -- and nothing is written
 abstract_left : Comes empty_scope one_taken 2 counted None 2
-abstract_left = given_up counted (as_it_was (omega arith)) none_fires
+abstract_left = stuck sticks
 
 -- nor is anything written for a cell that is a truth value where no line declares one
 undeclared : Comes empty_scope one_taken 2 (cell_ex true (codes "c") no_exs) None 2
-undeclared = not_lowered (cell_ex true (codes "c") no_exs) (as_it_was (omega arith)) refl refl
+undeclared = unlowered record {
+  new = cell_ex true (codes "c") no_exs;
+  written = record {
+    last = cell_ex true (codes "c") no_exs;
+    leads = as_it_was (omega arith);
+    few = omega arith;
+    refined = refl;
+    writes = refl;
+  };
+  not_lowerable = refl;
+}

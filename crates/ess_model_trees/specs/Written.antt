@@ -28,21 +28,33 @@ pub record IsWrittenBy (taken : List Text) (n : ℕ) (old new : Ex) (m : ℕ) : 
   pub refined : is_refined last ≡ true
   pub writes : new ≡ written_for taken last
 
+-- Rules lead from `old` to a tree at which refining was given up. Fewer than 2^62 reserved names are taken.
+pub record IsStuckBy (n : ℕ) (old : Ex) (m : ℕ) : Type 0 where
+  pub last : Ex
+  pub leads : Leads IsRuled n [] old last m
+  pub few : m < 2 ^ 62
+  pub given_up : IsGivenUp last m
+
 -- What comes of printing: what is written for `old`, or nothing, where refining was given up.
 abbrev pub Prints : List Text → ℕ → Ex → Option Ex → ℕ → Type 0
 Prints taken n old (Some new) m = IsWrittenBy taken n old new m
-Prints taken n old None m = (last : Ex) × Leads IsRuled n [] old last m × IsGivenUp n old last m
+Prints taken n old None m = IsStuckBy n old m
 
 -- The same with reserved names from the n-th on, however many.
 abbrev pub PrintsFrom : List Text → ℕ → Ex → Option Ex → Type 0
 PrintsFrom taken n old new = (m : ℕ) × Prints taken n old new m
 
+-- What is written for `old` is no expression of a model where earlier lines declare s.
+pub record IsUnlowered (s : Scope) (taken : List Text) (n : ℕ) (old : Ex) (m : ℕ) : Type 0 where
+  pub new : Ex
+  pub written : IsWrittenBy taken n old new m
+  pub not_lowerable : is_lowerable s new ≡ false
+
 -- Nothing is written for `old`: refining it was given up, or nothing abstract is left of it, and what is written for that is no expression
 -- of a model where earlier lines declare s.
 pub data IsNotWrittenBy (s : Scope) (taken : List Text) (n : ℕ) (old : Ex) (m : ℕ) : Type 0 where
-  given_up : (last : Ex) → Leads IsRuled n [] old last m → IsGivenUp n old last m → IsNotWrittenBy s taken n old m
-  not_lowered : (last : Ex) → Leads IsRuled n [] old last m → is_refined last ≡ true → is_lowerable s (written_for taken last) ≡ false
-      → IsNotWrittenBy s taken n old m
+  stuck : IsStuckBy n old m → IsNotWrittenBy s taken n old m
+  unlowered : IsUnlowered s taken n old m → IsNotWrittenBy s taken n old m
 
 -- What comes of writing: an expression of a model, or nothing.
 abbrev pub Comes : Scope → List Text → ℕ → Ex → Option Ex → ℕ → Type 0

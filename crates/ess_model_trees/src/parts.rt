@@ -17,9 +17,8 @@ use std::alloc::Global;
 
 /// What is written for a tree over tables, where these lines declare names; no bound name is printed as one that is taken. Its bound
 /// names are told apart first: they become reserved names from the one with this number on. `None` where it can't be written: refining
-/// was given up, since something abstract is left and none of the rules that are asked fires any more, or 2,000,000 have fired; or
-/// nothing abstract is left, and no tree of a model stands for what is left. `NoMemory` where there is no room for it, or the reserved
-/// names can't be counted.
+/// was given up, since something abstract is left and none of the rules that are asked fires any more; or nothing abstract is left, and no
+/// tree of a model stands for what is left. `NoMemory` where there is no room for it, or the reserved names can't be counted.
 pub fn tree_written(
     alloc: Global,
     number: u64,

@@ -19,9 +19,9 @@ use std::alloc::Global;
 
 /// The constraint of a model that is written for one of its specification, where these stand over tables in the place of names, and
 /// these lines declare names; no bound name is printed as one that is taken. Its undefined terms are done away with. `None` where it
-/// can't be written: refining was given up, since something abstract is left and none of the rules that are asked fires any more, or
-/// 2,000,000 have fired; or nothing abstract is left, and no tree of a model stands for what is left. `NoMemory` where there is no room
-/// for it, or the reserved names can't be counted.
+/// can't be written: refining was given up, since something abstract is left and none of the rules that are asked fires any more; or
+/// nothing abstract is left, and no tree of a model stands for what is left. `NoMemory` where there is no room for it, or the reserved
+/// names can't be counted.
 pub fn constraint_written(
     alloc: Global,
     shows: &Shows,

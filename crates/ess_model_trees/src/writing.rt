@@ -22,7 +22,7 @@ const MOST_NAMES: u64 = 4_611_686_018_427_387_904;
 /// The expression of a model that is written for a tree over tables, where these lines declare names: the tree is refined under no
 /// names and simplified, gets plain keys, is simplified again, its bound names are printed, none as a name that is taken, and it becomes
 /// the tree of a model. `None` where it can't be written: refining was given up, since something abstract is left and none of the rules
-/// that are asked fires any more, or 2,000,000 have fired; or nothing abstract is left, and no tree of a model stands for what is left.
+/// that are asked fires any more; or nothing abstract is left, and no tree of a model stands for what is left.
 /// Reserved names are taken from `next` on, and the number of the one behind them is left there. `NoMemory` where there is no room for
 /// it, or the reserved names can't be counted.
 #[tactic(auto, using(crate::proofs::Coming::comes_lowered))]

@@ -1,5 +1,5 @@
 -- What is written for a domain of numbers, of what its bounds become.
-use Rattle.std.proofs.Common.{◌≡◌, refl, sym, ap, ◌∙◌, subst, ℕ, Bool, true, false, ◌&&◌, ◌⊎◌, inl, inr, List, [], ◌∷◌, Option, Some, None, ⊎_elim, true≢false}
+use Rattle.std.proofs.Common.{◌≡◌, refl, sym, ◌∙◌, subst, ℕ, Bool, true, false, ◌&&◌, ◌⊎◌, inl, inr, List, [], ◌∷◌, Option, Some, None, ⊎_elim, true≢false}
 use Rattle.ess_semantics.specs.Lists.{when}
 use Rattle.ess_semantics.specs.Values.{Text}
 use Rattle.ess_semantics.specs.Trees.{Ends, one_value, both_ends, low_end, high_end, Ex, Exs, no_exs, more_exs, Dom, int_dom}
@@ -7,7 +7,7 @@ use Rattle.ess_grammar.specs.Models.{Scope}
 use Rattle.ess_grammar.specs.Readable.{fit_ranges}
 use Rattle.eprime_lowering_laws.specs.Lowerable.{is_lowerable, are_lowerable}
 use Rattle.eprime_lowering.specs.Lowered.{lowered_dom}
-use Rattle.ess_model_trees.specs.Written.{given_up, not_lowered}
+use Rattle.ess_model_trees.specs.Written as trees
 use Rattle.ess_model_written.specs.Bounds.{BoundPrints, EachPrints, OneSticks}
 use Rattle.ess_model_written.specs.DeclarationsWritten.{BoundComes, BoundsAreWritten, OneBoundFails, DomComes}
 
@@ -32,10 +32,10 @@ module _ (s : Scope) (taken : List Text) (k : ℕ) where
   written e f p h = (p.0, (p.1, h))
 
   stuck : (e : Ex) → BoundPrints taken k e None → BoundComes s taken k e None
-  stuck e p = (p.0, given_up p.1.0 p.1.1 p.1.2)
+  stuck e p = (p.0, trees.stuck p.1)
 
   refused : (e f : Ex) → BoundPrints taken k e (Some f) → is_lowerable s f ≡ false → BoundComes s taken k e None
-  refused e f p h = (p.0, not_lowered p.1.last p.1.leads p.1.refined (ap (is_lowerable s) (sym p.1.writes) ∙ h))
+  refused e f p h = (p.0, trees.unlowered record { new = f; written = p.1; not_lowerable = h })
 
   -- ---- several bounds
 

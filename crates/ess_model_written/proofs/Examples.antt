@@ -18,8 +18,8 @@ use Rattle.eprime_read_convert.specs.Lines.{scope_of}
 use Rattle.eprime_lowering_laws.specs.Lowerable.{is_lowerable}
 use Rattle.conjure_model_laws.specs.ToldApart.{told, told_apart}
 use Rattle.ess_model_trees.specs.ess_refine.Chains.{as_it_was}
-use Rattle.ess_model_trees.specs.ess_refine.Refinements.{IsGivenUp, where_none_fires}
-use Rattle.ess_model_trees.specs.Written.{written_for, given_up, not_lowered}
+use Rattle.ess_model_trees.specs.ess_refine.Refinements.{IsGivenUp}
+use Rattle.ess_model_trees.specs.Written.{written_for, IsStuckBy, stuck, unlowered}
 use Rattle.ess_model_trees.proofs.Rests.{rests-settled}
 use Rattle.ess_model_written.specs.Bounds.{BoundPrints, BoundsPrint}
 use Rattle.ess_model_written.specs.DeclarationsWritten.{BoundComes, DomIsWritten, DomComes, DeclComes, adding}
@@ -41,9 +41,22 @@ as_written : (s : Scope) (e new : Ex) → (told e [] 2).1 < 2 ^ 62 → is_refine
 as_written s e new f h w l = ((as_printed e new f h w).0, ((as_printed e new f h w).1, l))
 
 -- Else nothing is.
-not_written : (s : Scope) (e : Ex) → is_refined (told_apart 2 e) ≡ true → is_lowerable s (written_for [] (told_apart 2 e)) ≡ false
+not_written : (s : Scope) (e : Ex) → (told e [] 2).1 < 2 ^ 62 → is_refined (told_apart 2 e) ≡ true → is_lowerable s (written_for [] (told_apart 2 e)) ≡ false
     → BoundComes s [] 2 e None
-not_written s e r h = ((told e [] 2).1, not_lowered (told_apart 2 e) (as_it_was (le_refl (told e [] 2).1)) r h)
+not_written s e f r h = (
+  (told e [] 2).1,
+  unlowered record {
+    new = written_for [] (told_apart 2 e);
+    written = record {
+      last = told_apart 2 e;
+      leads = as_it_was (le_refl (told e [] 2).1);
+      few = f;
+      refined = r;
+      writes = refl;
+    };
+    not_lowerable = h;
+  },
+)
 
 -- sum([x | x : int(1..3)])
 abbrev total : Text → Ex
@@ -54,9 +67,13 @@ abbrev abstract : Ex
 abstract = un Op1.Bar (bi Op2.Union (N (codes "s")) (N (codes "t")))
 
 -- no rule fires at any part of it where s and t are only names
-none_fires : IsGivenUp 2 abstract abstract 2
+none_fires : IsGivenUp abstract 2
 unfolding digits
-none_fires = where_none_fires refl (rests-settled 2 abstract refl)
+none_fires = record { abstract_left = refl; settled = rests-settled 2 abstract refl }
+
+-- so refining it sticks
+sticks : IsStuckBy 2 abstract 2
+sticks = record { last = abstract; leads = as_it_was (le_refl 2); few = omega arith; given_up = none_fires }
 
 -- 1 and sum([x | x : int(1..3)]) are printed as 1 and sum([q1 | q1 : int(1..3)])
 bounds_print : BoundsPrint [] 2 (more_exs (n 1) (es1 (total (codes "x")))) (Some (more_exs (n 1) (es1 (total (codes "q1")))))
@@ -68,7 +85,7 @@ bounds_print = (
 
 -- nothing is, where no rule fires at one in which something abstract is left
 bounds_stick : BoundsPrint [] 2 (more_exs (n 1) (es1 abstract)) None
-bounds_stick = inr (inl (2, (abstract, as_it_was (le_refl 2), none_fires)))
+bounds_stick = inr (inl (2, sticks))
 
 -- ---- domains
 
@@ -95,7 +112,7 @@ sets_fail : DomComes empty_scope [] 2 (set (upto 3)) None
 sets_fail = tt
 
 abstract_fails : DomComes empty_scope [] 2 (range (n 1) abstract) None
-abstract_fails = inr (inr (inl (2, given_up abstract (as_it_was (le_refl 2)) none_fires)))
+abstract_fails = inr (inr (inl (2, stuck sticks)))
 
 -- ---- tables
 
@@ -142,7 +159,7 @@ both_written = one_written p_written (one_written m_written none_written)
 
 -- but not before it, since no line declares p there
 m_fails : DeclComes empty_scope [] 2 m None
-m_fails = inr (inr (inr (inl (not_written empty_scope p_as_number refl refl))))
+m_fails = inr (inr (inr (inl (not_written empty_scope p_as_number (omega arith) refl refl))))
 
 first_fails : OneDeclFails (adding false) [] 2 empty_scope (m ∷ p ∷ [])
 first_fails =

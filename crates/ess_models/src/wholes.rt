@@ -37,9 +37,8 @@ pub enum Modelled {
 
 /// The model of a well typed specification with these representations of its givens and finds. `Misfit` where these aren't of exactly
 /// the givens and finds with a domain, in order, or one doesn't fit. `Lacks` where something of the named part can't be written:
-/// refining it was given up, since something abstract is left and none of the rules that are asked fires any more, or 2,000,000 have
-/// fired; or no tree of a model stands for what is left. `NoMemory` where there is no room for it, or the reserved names can't be
-/// counted.
+/// refining it was given up, since something abstract is left and none of the rules that are asked fires any more; or no tree of a model
+/// stands for what is left. `NoMemory` where there is no room for it, or the reserved names can't be counted.
 pub fn model_of(alloc: Global, spec: &Typed, reprs: &[NamedReprs]) -> Result<Modelled, NoMemory>
     ensures { IsChecked spec.now → IfOk result (IsModelled (pure_spec spec.now.spec) (map pure_named_reprs reprs.now)) }
 {

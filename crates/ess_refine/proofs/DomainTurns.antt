@@ -82,7 +82,7 @@ function_turn o j k n g x ms es fs a b d e q w y z =
 
 pub dom_stays : (o : Turns) (g : Names Ty) (x y : NodeDom) → x ≡ y → DomPasses o g (pure_dom x) (pure_dom y) o
 dom_stays o g x y e =
-    subst (λ z. DomPasses o g (pure_dom x) (pure_dom z) o) e (passes-none fill_dom names_at_dom o o g (pure_dom x) refl refl)
+    subst (λ z. DomPasses o g (pure_dom x) (pure_dom z) o) e (passes-none fill_dom names_at_dom o o g (pure_dom x) refl)
 
 -- In a box.
 pub boxed_dom_turn : (o n : Turns) (g : Names Ty) (x a b y : NodeDom) → a ≡ x → DomPasses o g (pure_dom a) (pure_dom b) n → y ≡ b

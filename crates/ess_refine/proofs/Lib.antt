@@ -13,5 +13,3 @@ pub mod SettledNodes
 pub mod SettledRows
 -- Why there are no more passes
 pub mod Endings
--- Worked examples
-mod ExamplesChains

@@ -24,16 +24,16 @@ use Rattle.ess_refine.proofs.NodeForms.{pure_operator, pure_matrix_on, pure_comp
 use Rattle.ess_refine.proofs.Chains.{passes-none, passes-once, passes-then, passes-from}
 use Rattle.ess_refine.proofs.Parts.{operands_pass, index_passes, matrix_passes, comprehension_passes, view_passes}
 
--- Nothing was counted.
+-- No name was taken.
 abbrev pub Stays : Turns → Turns → Type 0
-Stays o n = (n.next ≡ o.next) × (n.left ≡ o.left)
+Stays o n = n.next ≡ o.next
 
 -- A rule at the root.
 pub turn_passes : (o n : Turns) (g : Names Ty) (a : Ex) (f : Option Node) (x y : Node) → IsTaken o g a (option_map pure_node f) n
     → f ≡ Some x → y ≡ x → Passes o g a (pure_node y) n
 turn_passes o n g a f x y h e d = subst (λ z. Passes o g a (pure_node z) n) (sym d)
     (let t : IsTaken o g a (Some (pure_node x)) n = subst (λ p. IsTaken o g a (option_map pure_node p) n) e h in
-    passes-once fill names_at o n g hole a (pure_node x) t.0 t.1)
+    passes-once fill names_at o n g hole a (pure_node x) t)
 
 -- None there.
 pub none_turn : (o n : Turns) (g : Names Ty) (a : Ex) (f : Option Node) → IsTaken o g a (option_map pure_node f) n → f ≡ None → Stays o n
@@ -41,7 +41,7 @@ none_turn o n g a f h e = subst (λ p. IsTaken o g a (option_map pure_node p) n)
 
 pub stays_turn : (o n : Turns) (g : Names Ty) (x y : Node) → Stays o n → x ≡ y → Passes o g (pure_node x) (pure_node y) n
 stays_turn o n g x y h e =
-    subst (λ z. Passes o g (pure_node x) (pure_node z) n) e (passes-none fill names_at o n g (pure_node x) h.0 h.1)
+    subst (λ z. Passes o g (pure_node x) (pure_node z) n) e (passes-none fill names_at o n g (pure_node x) h)
 
 -- Equal trees.
 passes-as : (o n : Turns) (g : Names Ty) (x y : Node) (a b : Ex) → pure_node x ≡ a → pure_node y ≡ b → Passes o g a b n
@@ -94,7 +94,7 @@ parts_turn o k n g v r xs e fs p q w z =
     (pure_nodes (out-Seen v).at) (pure_nodes fs) w z))
 
 pub view_stays : (o : Turns) (g : Names Ty) (v : Seen) → Passes o g (pure_seen v) (pure_seen v) o
-view_stays o g v = passes-none fill names_at o o g (pure_seen v) refl refl
+view_stays o g v = passes-none fill names_at o o g (pure_seen v) refl
 
 pub view_turn : (o k n : Turns) (g : Names Ty) (x : Node) (v u w : Seen) → Stays o k → x ≡ node.Seen v → u ≡ v
     → Passes k g (pure_seen u) (pure_seen w) n → Passes o g (pure_node x) (pure_node (node.Seen w)) n

@@ -1,6 +1,6 @@
 -- Chains of rules, each at a part of what the ones before left. They count the reserved names: a rule takes its names from a number on
 -- that no rule before it has passed.
-use Rattle.std.specs.Prelude.{◌≡◌, ℕ, zero, suc, ◌≤◌}
+use Rattle.std.specs.Prelude.{◌≡◌, ℕ, ◌≤◌}
 use Rattle.ess_semantics.specs.Names.{Names}
 use Rattle.ess_semantics.specs.Trees.{Ex, Exs, Gens, Dom, Doms}
 use Rattle.ess_semantics.specs.Types.{Ty}
@@ -18,11 +18,6 @@ module _ (R : ℕ → Names Ty → Ex → Ex → ℕ → Type 0) where
       as_it_was : {n m : ℕ} {g : Names Ty} {t : T} → n ≤ m → LeadsIn n g t t m
       led_at : {n s k m : ℕ} {g : Names Ty} {a b : Ex} {t : T} (c : C) → n ≤ s → R s (types_at c g) a b k
           → LeadsIn k g (filled c b) t m → LeadsIn n g (filled c a) t m
-
-    -- How many rules fire along the chain.
-    abbrev pub steps : {n m : ℕ} {g : Names Ty} {t u : T} → LeadsIn n g t u m → ℕ
-    steps (as_it_was h) = zero
-    steps (led_at c h r w) = suc (steps w)
 
   -- From one expression to another.
   abbrev pub Leads : ℕ → Names Ty → Ex → Ex → ℕ → Type 0

@@ -1,5 +1,5 @@
--- What passes lead to: chains of rules, each of which takes one of those that may still fire.
-use Rattle.std.specs.Prelude.{◌≡◌, suc, ◌+◌, Option, Some, None}
+-- What passes lead to: chains of rules, which count the reserved names on.
+use Rattle.std.specs.Prelude.{◌≡◌, Option, Some, None}
 use Rattle.ess_semantics.specs.Names.{Names}
 use Rattle.ess_semantics.specs.Trees.{Ex, Exs, Gens, Dom, Doms}
 use Rattle.ess_semantics.specs.Types.{Ty}
@@ -7,19 +7,19 @@ use Rattle.ess_semantics.specs.Contexts.{fill, fill_exs, fill_gens, fill_dom, fi
 use Rattle.ess_semantics.specs.NamesAt.{names_at, names_at_exs, names_at_gens, names_at_dom, names_at_doms}
 use Rattle.ess_core.specs.TreeViews.{Item, over_item, from_item, cond_item}
 use Rattle.ess_rules.specs.Ruled.{IsRuled}
-use Rattle.ess_refine.specs.Chains.{LeadsIn, steps}
+use Rattle.ess_refine.specs.Chains.{LeadsIn}
 use Rattle.ess_refine.specs.declared.passing.Turns.{Turns}
 
--- What the rules make of the root of a tree: where one fires what it makes, and one less may fire; else nothing, and nothing is counted.
+-- What the rules make of the root of a tree: where one fires what it makes, else nothing, and no name is taken.
 abbrev pub IsTaken : Turns → Names Ty → Ex → Option Ex → Turns → Type 0
-IsTaken o g a None n = (n.next ≡ o.next) × (n.left ≡ o.left)
-IsTaken o g a (Some b) n = IsRuled o.next g a b n.next × (suc n.left ≡ o.left)
+IsTaken o g a None n = n.next ≡ o.next
+IsTaken o g a (Some b) n = IsRuled o.next g a b n.next
 
 -- Trees of one sort, those of them with an open part, and the types of the names at that part.
 module _ {C T : Type 0} (filled : C → Ex → T) (types_at : C → Names Ty → Names Ty) where
-  -- Rules lead from one tree to another, where names have the types g; as many fire as are taken of those that may.
+  -- Rules lead from one tree to another, where names have the types g.
   abbrev pub PassesIn : Turns → Names Ty → T → T → Turns → Type 0
-  PassesIn o g t u n = (w : LeadsIn IsRuled filled types_at o.next g t u n.next) × (steps IsRuled filled types_at w + n.left ≡ o.left)
+  PassesIn o g t u n = LeadsIn IsRuled filled types_at o.next g t u n.next
 
 -- From one expression to another.
 abbrev pub Passes : Turns → Names Ty → Ex → Ex → Turns → Type 0

@@ -13,19 +13,19 @@ use ess_rules::rule_at;
 use std::alloc::Global;
 use std::mem;
 
-/// What passes count.
+/// What passes count and tell.
 #[derive(Clone, Copy)]
 pub(crate) struct Turns {
     /// The number of the next reserved name.
     pub(crate) next: u64,
-    /// How many rules may still fire.
-    pub(crate) left: u64,
+    /// Whether a rule fired.
+    pub(crate) fired: bool,
     /// Whether the parts of views and of domains of compound values are gone through, too.
     pub(crate) everywhere: bool,
 }
 
-/// What the first rule that fires makes of the root of a tree, or nothing where none fires, or as many have fired as may. It is counted
-/// where one fires. `NoMemory` where there is no room for it, or the reserved names can't be counted.
+/// What the first rule that fires makes of the root of a tree, or nothing where none fires. It is noted where one fires. `NoMemory` where
+/// there is no room for it, or the reserved names can't be counted.
 fn turn_at(
     alloc: Global,
     node: &Node,
@@ -34,19 +34,15 @@ fn turn_at(
 ) -> Result<Option<Boxed<Node>>, NoMemory>
     ensures { IfOk result (λ o. IsTaken turns.old (pure_names names.now) (pure_node node.now) (option_map pure_node o) turns.new) }
 {
-    if turns.left == 0 {
-        return Ok(None);
-    }
     let found = rule_at(alloc, node, names, &mut turns.next)?;
     if found.is_some() {
-        turns.left = turns.left.saturating_sub(1);
+        turns.fired = true;
     }
     Ok(found)
 }
 
 /// The tree rewritten by the rules, where names have these types: once at its root or, where no rule fires there, at its parts.
-/// Reserved names and rules are counted on; once as many rules have fired as may, the tree stays. `NoMemory` where there is no room for
-/// it, or the reserved names can't be counted.
+/// Reserved names are counted on. `NoMemory` where there is no room for it, or the reserved names can't be counted.
 #[cycle(pass)]
 pub(crate) fn pass(
     alloc: Global,

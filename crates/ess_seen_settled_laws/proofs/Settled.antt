@@ -7,10 +7,9 @@ use Rattle.ess_seen_laws.specs.Seen.{bound_types, Seen}
 use Rattle.ess_seen_laws.specs.Laws.{SetsStayAsTheyAre}
 use Rattle.ess_refine.specs.ess_rules.Ruled.{NoneFires}
 use Rattle.ess_refine.specs.Settled as parts
-use Rattle.ess_refine.specs.Refinements.{IsGivenUp, where_none_fires, after_too_many}
+use Rattle.ess_refine.specs.Refinements.{IsGivenUp}
 use Rattle.ess_seen_progress_laws.specs.MovesOn.{MovesWithin}
 use Rattle.ess_seen_progress_laws.specs.Laws.{SeenTreesMoveOn}
-use Rattle.ess_seen_settled_laws.specs.ManyRules.{FiresMany}
 use Rattle.ess_seen_settled_laws.specs.Laws.{SettledTreesAreRefined}
 use Rattle.ess_seen_settled_laws.proofs.Roots.{scalar-stays}
 use Rattle.ess_seen_settled_laws.proofs.Asked.{all-quiet}
@@ -28,13 +27,12 @@ module _ (move : SeenTreesMoveOn) (same : SetsStayAsTheyAre) (cells : Text → O
       go (inl h) = h
       go (inr w) = stopped n e s w
 
-  only-many : (n k : ℕ) (old last : Ex) (m : Bool) → Seen cells [] last m → IsGivenUp n old last k → FiresMany n old
-  only-many n k old last m f (where_none_fires h s) = absurd (both h (settled-refined k last m f s))
+  not-given-up : (k : ℕ) (last : Ex) (m : Bool) → Seen cells [] last m → IsGivenUp last k → ⊥
+  not-given-up k last m f w = both w.abstract_left (settled-refined k last m f w.settled)
     where
       both : is_refined last ≡ false → is_refined last ≡ true → ⊥
       both h q = cc
-  only-many n k old last m f (after_too_many h w i) = record { last = last; end = k; leads = w; many = i }
 
 -- So it is of each.
 pub settled-by : SeenTreesMoveOn → SetsStayAsTheyAre → SettledTreesAreRefined
-settled-by move same = record { refined = settled-refined move same; given_up = only-many move same }
+settled-by move same = record { refined = settled-refined move same; not_given_up = not-given-up move same }

@@ -1,4 +1,2 @@
--- Chains of very many rules
-pub mod ManyRules
--- The law of settled trees over views
+-- The law of trees over views
 pub mod Laws

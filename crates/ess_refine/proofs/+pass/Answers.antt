@@ -51,7 +51,7 @@ passing::pass-returns-in_ok-pass_all-in-Cell t c =
 
 pub passing::pass_all-loop-i-init : goal.passing::pass_all-loop-i-init
 passing::pass_all-loop-i-init t c = (
-  passes-none fill_exs names_at_exs c.args.turns.now c.args.turns.now (pure_names c.args.names.now) (pure_nodes c.args.nodes.now) refl refl,
+  passes-none fill_exs names_at_exs c.args.turns.now c.args.turns.now (pure_names c.args.names.now) (pure_nodes c.args.nodes.now) refl,
   λ k d h. refl,
 )
 
@@ -112,7 +112,7 @@ passing_domains::pass_dom-returns-in_ok-pass_boxed_dom-in-Matrix t c =
 
 pub passing_domains::pass_doms-loop-i-init : goal.passing_domains::pass_doms-loop-i-init
 passing_domains::pass_doms-loop-i-init t c = (
-  passes-none fill_doms names_at_doms c.args.turns.now c.args.turns.now (pure_names c.args.names.now) (pure_doms c.args.doms.now) refl refl,
+  passes-none fill_doms names_at_doms c.args.turns.now c.args.turns.now (pure_names c.args.names.now) (pure_doms c.args.doms.now) refl,
   λ k d h. refl,
 )
 
@@ -137,7 +137,7 @@ passing_domains::pass_doms-loop-i-preserved t c =
 
 pub passing_generators::pass_gens-loop-i-init : goal.passing_generators::pass_gens-loop-i-init
 passing_generators::pass_gens-loop-i-init t c = (
-  passes-none fill_gens names_at_gens c.args.turns.now c.args.turns.now (pure_names c.args.names.now) (pure_gens c.args.gens.now) refl refl,
+  passes-none fill_gens names_at_gens c.args.turns.now c.args.turns.now (pure_names c.args.names.now) (pure_gens c.args.gens.now) refl,
   ap pure_names c.in_ok-under.ensures,
   λ k d h. refl,
 )
