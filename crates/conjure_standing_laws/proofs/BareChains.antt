@@ -34,10 +34,12 @@ use Rattle.ess_bare_laws.proofs.Fired.{stays-bare}
 use Rattle.ess_bare_laws.proofs.FiredKeep.{fired-keeps}
 use Rattle.ess_bare_laws.proofs.FiredScopes.{fired-scoped}
 use Rattle.ess_bare_laws.proofs.FiredNumbers.{fired-spells, part-spells}
+use Rattle.ess_lowered_laws.proofs.PartRanges.{part-fits}
 use Rattle.conjure_modelling.specs.ess_rules.Ruled.{IsRuled, Ruling, plainly, by_kind, gathering, in_order, by_number, supply_at, puts_source, ruled, new_source, with_new_source}
 use Rattle.conjure_modelling.specs.ess_refine.Chains.{as_it_was, led_at, Leads}
 use Rattle.conjure_standing_laws.specs.BareLaws.{StaysBare, BareTreesStayBare}
 use Rattle.conjure_standing_laws.proofs.Binders.{at-part, fired-binds}
+use Rattle.conjure_standing_laws.proofs.FiredRanges.{fired-fits}
 
 no-tree : {e : Ex} → None ≡ Some e → ⊥
 no-tree q = cc
@@ -117,6 +119,7 @@ module _ (cells : Text → Option (Bool × ℕ)) where
     scoped = λ z s o h. h;
     spells = λ q h. h;
     binds = le_refl (binders e);
+    fits = λ h. h;
   }
 
   chained : (a b c : Ex) (m : Bool) → StaysBare cells a b m → StaysBare cells b c m → StaysBare cells a c m
@@ -126,6 +129,7 @@ module _ (cells : Text → Option (Bool × ℕ)) where
     scoped = λ z s o h. y.scoped z s o (x.scoped z s o h);
     spells = λ q h. y.spells q (x.spells q h);
     binds = less (binders c) (binders b) (binders a) y.binds x.binds;
+    fits = λ h. y.fits (x.fits h);
   }
 
   -- What one of the four rules makes of a part, around which the names t are bound.
@@ -139,6 +143,7 @@ module _ (cells : Text → Option (Bool × ℕ)) where
         (λ w. fired-scoped cells t a b k h u z _ _ w) q;
     spells = λ q n. part-spells q c a b (fired-spells cells t a b k h u q) n;
     binds = at-part a b (fired-binds cells t a b k h u) c;
+    fits = part-fits a b (fired-fits cells t a b k h u) c;
   }
     where
       there : (env : Env) → Where c env (Typed (marked_types t))

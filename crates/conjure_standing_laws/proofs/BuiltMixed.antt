@@ -71,11 +71,11 @@ module _ (S : List Stm) (o : Options) (h : are_mixed_statements S o ≡ true) (f
   -- ---- rules
 
   -- The form of a membership.
-  member-form : (e : Ex) → is_membership S o e ≡ true → (v : Ex) × (x : Text) × (e ≡ ex2 true Op2.Member v (name_ex x))
+  pub member-form : (e : Ex) → is_membership S o e ≡ true → (v : Ex) × (x : Text) × (e ≡ ex2 true Op2.Member v (name_ex x))
   member-form (ex2 true Op2.Member v (name_ex x)) t = (v, x, refl)
   member-form e t = absurd (no-yes t)
 
-  some-members : (x : Text) (v : Ex) → is_membership S o (ex2 true Op2.Member v (name_ex x)) ≡ true →
+  pub some-members : (x : Text) (v : Ex) → is_membership S o (ex2 true Op2.Member v (name_ex x)) ≡ true →
       (A : Dom) × (members_of (look (kept_names S) x) ≡ Some A)
   some-members x v t = go (members_of (look (kept_names S) x))
       (and-left (is_some_and (members_of (look (kept_names S) x)) (is_of_kind (places S) v))
@@ -134,7 +134,7 @@ module _ (S : List Stm) (o : Options) (h : are_mixed_statements S o ≡ true) (f
     rules-are s [] (r ∷ rs) a w = absurd w
     rules-are s (e ∷ es) [] a w = absurd w
 
-  abbrev Asked : Ex → Type 0
+  abbrev pub Asked : Ex → Type 0
   Asked e = is_flat_truth Ps e || (is_membership S o e || is_setwise_constraint Ps S e) ≡ true
 
   stm-asked : (s : Stm) → is_mixed_statement S o s ≡ true → Each (constraint_of s) Asked
@@ -150,7 +150,7 @@ module _ (S : List Stm) (o : Options) (h : are_mixed_statements S o ≡ true) (f
   stm-asked (minimise e) k = tt
   stm-asked (maximise e) k = tt
 
-  all-asked : (T : List Stm) → list_all (is_mixed_statement S o) T ≡ true → Each (constraints_of T) Asked
+  pub all-asked : (T : List Stm) → list_all (is_mixed_statement S o) T ≡ true → Each (constraints_of T) Asked
   all-asked [] k = tt
   all-asked (s ∷ T) k = each-append Asked (constraint_of s) (constraints_of T)
       (stm-asked s (and-left (is_mixed_statement S o s) (list_all (is_mixed_statement S o) T) k))

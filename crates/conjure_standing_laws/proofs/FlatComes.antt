@@ -1,6 +1,6 @@
 -- Something comes of each flat tree over cells that earlier lines declare with their marks: rules lead from it to itself, nothing abstract
 -- is left in it, and what is written for it is an expression of a model.
-use Rattle.std.proofs.Common.{◌≡◌, sym, ap, ◌∙◌, subst, true≢false, ℕ, Bool, true, [], List, Option, None, option_map}
+use Rattle.std.proofs.Common.{◌≡◌, sym, ap, ◌∙◌, subst, true≢false, ℕ, Bool, true, false, [], List, Option, None, option_map}
 use Rattle.ess_semantics.specs.Values.{Text}
 use Rattle.ess_semantics.specs.Trees.{Ex}
 use Rattle.ess_semantics.specs.Refined.{is_refined}
@@ -12,8 +12,7 @@ use Rattle.ess_bare_laws.specs.Bare.{Bare}
 use Rattle.ess_bare_laws.proofs.Refined.{bare-refined}
 use Rattle.ess_lowered_laws.specs.Laws.{DeclaresSingle}
 use Rattle.ess_lowered_laws.proofs.Flat.{flat-lowered}
-use Rattle.conjure_modelling.specs.ess_refine.Refinements.{IsGivenUp, where_none_fires, after_too_many}
-use Rattle.conjure_modelling.specs.ess_model_trees.Written.{written_for, IsNotWrittenBy, given_up, not_lowered, ComesFrom}
+use Rattle.conjure_modelling.specs.ess_model_trees.Written.{written_for, IsNotWrittenBy, stuck, unlowered, ComesFrom}
 use Rattle.conjure_standing_laws.proofs.FlatChains.{leads-nowhere}
 
 module _ (cells : Text → Option Bool) where
@@ -37,19 +36,17 @@ module _ (cells : Text → Option Bool) where
   pub flat-refined : {e : Ex} {m : Bool} → F e m → is_refined e ≡ true
   flat-refined f = bare-refined tables (flat-bare f)
 
-  -- Refining isn't given up where nothing abstract is left.
-  not-given-up : (n k : ℕ) (old last : Ex) → is_refined last ≡ true → IsGivenUp n old last k → ⊥
-  not-given-up n k old last r (where_none_fires h s) = true≢false (sym r ∙ h)
-  not-given-up n k old last r (after_too_many h w i) = true≢false (sym r ∙ h)
-
   module _ (s : Scope) (taken : List Text) (d : DeclaresSingle s cells) where
     written-on : (n k : ℕ) (old : Ex) (m : Bool) → F old m → IsNotWrittenBy s taken n old k → ⊥
-    written-on n k old m f (given_up last w g) =
-        not-given-up n k old last
-        (subst (λ e. is_refined e ≡ true) (sym (leads-nowhere cells n [] old last k m f w)) (flat-refined f)) g
-    written-on n k old m f (not_lowered last w r l) =
-        true≢false (sym (subst (λ e. is_lowerable s (written_for taken e) ≡ true) (sym (leads-nowhere cells n [] old last k m f w))
-        (flat-lowered cells taken old m f s d)) ∙ l)
+    written-on n k old m f (stuck v) =
+        true≢false (sym (subst (λ e. is_refined e ≡ true) (sym (leads-nowhere cells n [] old v.last k m f v.leads)) (flat-refined f))
+        ∙ v.given_up.abstract_left)
+    written-on n k old m f (unlowered v) =
+        let u = v.written in
+        let l : is_lowerable s (written_for taken u.last) ≡ true =
+        subst (λ e. is_lowerable s (written_for taken e) ≡ true) (sym (leads-nowhere cells n [] old u.last k m f u.leads))
+        (flat-lowered cells taken old m f s d) in
+        true≢false (sym l ∙ subst (λ e. is_lowerable s e ≡ false) u.writes v.not_lowerable)
 
     -- So something comes of it.
     pub flat-comes : (n : ℕ) (old : Ex) (m : Bool) → F old m → ComesFrom s taken n old None → ⊥

@@ -46,10 +46,11 @@ use Rattle.conjure_modelling.specs.ess_models.Built.{NoneIsBuilt}
 use Rattle.conjure_standing_laws.proofs.FlatComes.{flat-comes}
 use Rattle.conjure_standing_laws.proofs.BuiltModels.{simple, all-declared, side-written, over-cells, tree-is, objective-is, condition-is, no-channels, nothing-asked}
 use Rattle.conjure_standing_laws.proofs.DeclaredScopes.{HasMarks, empty-marks, still-there, found-there, marked-table}
-use Rattle.conjure_standing_laws.proofs.FlatDeclarations.{ScalarDecl, written-marks, decls-come}
+use Rattle.conjure_standing_laws.proofs.StandingDeclarations.{DeclStands, written-marks, decls-come}
+use Rattle.conjure_standing_laws.proofs.FlatDeclarations.{scalar-stands}
 
 -- Of one that is among several trees something comes, where of each of them something does.
-none-lacks : (C : Ex → Option Ex → Type 0) (cs : List Ex) → Each cs (λ c. C c None → ⊥) → OneLacks C cs → ⊥
+pub none-lacks : (C : Ex → Option Ex → Type 0) (cs : List Ex) → Each cs (λ c. C c None → ⊥) → OneLacks C cs → ⊥
 none-lacks C cs h v =
     at-item (λ c. C c None → ⊥) (v.before ++ v.item ∷ v.behind) v.item (subst (λ l. Each l (λ c. C c None → ⊥)) v.is h)
     (in-right v.item v.before (v.item ∷ v.behind) (inl refl)) v.nothing
@@ -86,19 +87,20 @@ module _ (S : List Stm) (o : Options) (h : are_flat_statements S o ≡ true) (b 
   Cells = cells S o h
 
   abbrev Scalar : TableDecl → Type 0
-  Scalar = ScalarDecl Ps Cells (given-cells S o h) (simple S o h b t)
+  Scalar = DeclStands Cells taken sh.next
 
   -- ---- declarations
 
   decl-scalar : (P : Plan) → AtomPlan P → In P Ps → Scalar (decl_of Ps P)
   decl-scalar P w i =
-      let j : In (value_plan w.f w.x Atom w.d ((w.n, 0) ∷ [])) Ps = subst (λ P. In P Ps) w.is i in record {
+      let j : In (value_plan w.f w.x Atom w.d ((w.n, 0) ∷ [])) Ps = subst (λ P. In P Ps) w.is i in
+      scalar-stands Ps Cells (given-cells S o h) taken sh.next (simple S o h b t) (decl_of Ps P) (record {
         n = w.n;
         d = w.d;
         is = ap (decl_of Ps) w.is;
         scalar = plan-bounds S o h w.f w.x w.d w.n j;
         mark = ap (option_map (λ d. is_bool_dom d.cell)) (declared-cell S o h w.f w.x w.d w.n j) ∙ ap (λ c. Some c) (bool-stays Ps w.d);
-      }
+      })
 
   decls-scalar : (f : Side) → Each (map (decl_of Ps) (plans_for f S o)) Scalar
   decls-scalar f = each-mapped (decl_of Ps) Scalar (plans_for f S o)
@@ -121,7 +123,7 @@ module _ (S : List Stm) (o : Options) (h : are_flat_statements S o ≡ true) (b 
   given-marks : (gs : List TableDecl) → DeclsAreWritten with_given taken sh.next empty_scope (tables_on taken sh Ps givens_side) gs →
       HasMarks Cells (scope_behind with_given empty_scope gs)
   given-marks gs w =
-      written-marks Ps Cells (given-cells S o h) (simple S o h b t) taken sh.next with_given (λ s D a. refl)
+      written-marks Cells taken sh.next with_given (λ s D a. refl)
       (tables_on taken sh Ps givens_side) gs empty_scope (empty-marks Cells) (side-scalar givens_side) w
 
   -- ---- what is declared behind all of them
@@ -135,7 +137,7 @@ module _ (S : List Stm) (o : Options) (h : are_flat_statements S o ≡ true) (b 
 
     whole-marks : HasMarks Cells whole_scope
     whole-marks =
-        written-marks Ps Cells (given-cells S o h) (simple S o h b t) taken sh.next with_find (λ s D a. refl)
+        written-marks Cells taken sh.next with_find (λ s D a. refl)
         (tables_on taken sh Ps finds_side) fs given_scope (given-marks gs d.givens) (side-scalar finds_side) d.finds
 
     -- The cell of a plan is.
@@ -214,10 +216,10 @@ module _ (S : List Stm) (o : Options) (h : are_flat_statements S o ≡ true) (b 
   -- So no part lacks.
   pub no-part-lacks : (p : Part) → NoneIsBuilt S o p → ⊥
   no-part-lacks Part.Givens v =
-      decls-come Ps Cells (given-cells S o h) (simple S o h b t) taken sh.next with_given (λ s D a. refl)
+      decls-come Cells taken sh.next with_given (λ s D a. refl)
       (tables_on taken sh Ps givens_side) empty_scope (empty-marks Cells) (side-scalar givens_side) v
   no-part-lacks Part.Finds v =
-      decls-come Ps Cells (given-cells S o h) (simple S o h b t) taken sh.next with_find (λ s D a. refl)
+      decls-come Cells taken sh.next with_find (λ s D a. refl)
       (tables_on taken sh Ps finds_side) (scope_behind with_given empty_scope v.givens) (given-marks v.givens v.declared)
       (side-scalar finds_side) v.lacks
   no-part-lacks Part.Structures v = rules-come Part.Structures v

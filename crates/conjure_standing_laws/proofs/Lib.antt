@@ -1,5 +1,7 @@
 -- How many names are bound
 pub mod Binders
+-- Whether ranges have their bounds
+pub mod FiredRanges
 -- One rule at a part, and chains
 pub mod BareChains
 -- What a rule is used at
@@ -20,6 +22,7 @@ pub mod SetwiseLaws
 -- Terms of numerals, which are written as they are
 pub mod NumberTerms
 pub mod NumberChains
+pub mod NumberComes
 -- Tables with such bounds
 pub mod NumberTables
 pub mod NestedTables
@@ -30,6 +33,9 @@ pub mod FoundNested
 -- The rules that are written
 pub mod NestedRules
 pub mod NestedLaws
+-- Something comes of what is asked of the tables
+pub mod NestedRanges
+pub mod NestedComes
 -- Worked examples
 mod ExamplesNested
 -- Rules lead from flat trees nowhere
@@ -42,12 +48,15 @@ pub mod ShownDomains
 -- What is built, part by part, and as a whole
 pub mod BuiltParts
 pub mod BuiltModels
--- Nothing lacks of a specification of scalars
+-- Declarations stand, and nothing lacks of a specification of scalars
 pub mod DeclaredScopes
+pub mod StandingDeclarations
 pub mod FlatDeclarations
 pub mod FlatLacks
 -- Chains of rules from memberships
 pub mod MemberChains
+-- Something comes of memberships and of bounds
+pub mod MemberComes
 -- What is built
 pub mod BuiltSets
 -- Models that are built with options that choose alike
@@ -73,6 +82,10 @@ pub mod FilledTables
 pub mod SetViews
 pub mod UnboundSets
 pub mod SetwiseBuilt
+-- Declarations of the class stand, and each table is declared with its mark
+pub mod NumberDeclarations
+pub mod MixedDeclarations
+pub mod MixedScopes
 -- The objective, and the whole
 pub mod GoalBuilt
 pub mod BuiltMixed
@@ -82,6 +95,8 @@ pub mod MixedLaws
 pub mod FlatTexts
 -- A model is written
 pub mod FlatTextsCome
+pub mod MixedRules
+pub mod MixedPartsCome
 -- Worked example
 mod Examples
 -- What is written for texts of sets stands

@@ -1,19 +1,18 @@
 -- Chains of rules from a membership lead to a tree of the membership, and those from a bound or `true` nowhere.
-use Rattle.std.proofs.Common.{◌≡◌, refl, sym, ap, ◌∙◌, subst, ℕ, ◌+◌, Bool, true, false, if◌then◌else◌, List, [], inl, inr, pos, Option, Some, None}
+use Rattle.std.proofs.Common.{◌≡◌, refl, sym, ap, ◌∙◌, subst, ℕ, ◌+◌, Bool, true, false, if◌then◌else◌, List, [], inl, inr, Some, None}
 use Rattle.ess_semantics.specs.Values.{Text}
 use Rattle.ess_semantics.specs.Names.{Names}
 use Rattle.ess_semantics.specs.Trees.{Ex, truth_ex, Dom, bool_dom}
 use Rattle.ess_semantics.specs.Types.{Ty}
 use Rattle.ess_semantics.specs.Contexts.{fill}
-use Rattle.ess_semantics.specs.NamesAt.{names_at}
 use Rattle.ess_refine_laws.specs.AllRules.{rewrite}
 use Rattle.ess_open_rules_laws.specs.OpenRules.{kind_ruled}
 use Rattle.ess_grammar.specs.Models.{Scope}
 use Rattle.conjure_modelling.specs.ess_refine.Chains.{as_it_was, led_at, Leads}
 use Rattle.conjure_modelling.specs.ess_rules.Ruled.{IsRuled, Ruling, plainly, by_kind, gathering, in_order, by_number, supply_at, puts_source, ruled, with_new_source, root_of}
-use Rattle.conjure_modelling.specs.ess_model_trees.Written.{written_for, ComesFrom}
+use Rattle.conjure_modelling.specs.ess_model_trees.Written.{written_for, IsWrittenBy, ComesFrom}
 use Rattle.ess_member_trees_laws.specs.PartSteps.{Step}
-use Rattle.ess_member_trees_laws.specs.Memberships.{Literal, a_number, a_truth, Bound, at_number, at_cell, Axis, truths, numbers, OverDomain, a_cell, a_bare, an_it, Family, as_asked, asked, Part, literal_part, bound_part, name_part, view_part, asked_part, cell_part, named_part, it_part, items_of_set, set_part, items_where, where_part, bare_items, bare_part, bare_both, it_both, items_bare, with_bare_part, items_it, with_it_part, list_part, listed_part, Becomes}
+use Rattle.ess_member_trees_laws.specs.Memberships.{Literal, a_number, a_truth, Bound, at_number, at_cell, Axis, truths, numbers, Family, as_asked, asked, Part, literal_part, bound_part, name_part, view_part, asked_part, cell_part, named_part, it_part, items_of_set, set_part, items_where, where_part, bare_items, bare_part, bare_both, it_both, items_bare, with_bare_part, items_it, with_it_part, list_part, listed_part, Becomes}
 use Rattle.ess_member_trees_laws.proofs.AllRules as A
 use Rattle.ess_member_trees_laws.proofs.PartSteps.{part-step}
 use Rattle.ess_member_trees_laws.proofs.Closed.{family-step}
@@ -87,19 +86,23 @@ module _ (n : Text) (D : Dom) (L : Ex) (ax : Axis D) (l : Literal L) where
       by (by_number u) e = absurd (no-tree (sym (N.no-number-rule n D L l (supply_at r.n r.ruled.count) g u p) ∙ e))
 
   -- A chain leads from a tree of the membership to one.
-  leads-family : (k : ℕ) (g : Names Ty) (old last : Ex) (m : ℕ) → Family n D L old → Leads IsRuled k g old last m → Family n D L last
+  pub leads-family : (k : ℕ) (g : Names Ty) (old last : Ex) (m : ℕ) → Family n D L old → Leads IsRuled k g old last m → Family n D L last
   leads-family k g old last m f (as_it_was p) = f
   leads-family k g old last m f (led_at {s = s} {k = j} {a = a} {b = b} c p r w) =
       leads-family j g (fill c b) last m
       (family-step n D L ax l IsRule makes g (fill c a) (fill c b) f (part-step IsRule c g a b (record { n = s; m = j; ruled = r }))) w
 
+  -- What is written for the membership has one of its forms.
+  pub written-form : (taken : List Text) (k m : ℕ) (new : Ex) → IsWrittenBy taken k (asked n D L) new m →
+      Written n D L (printed_name taken 0) new
+  written-form taken k m new w =
+      subst (Written n D L (printed_name taken 0)) (sym w.writes)
+      (forms n D L ax l taken w.last (leads-family k [] (asked n D L) w.last m as_asked w.leads) w.refined)
+
   -- What comes of the membership is written for it.
   pub comes-written : (s : Scope) (taken : List Text) (k : ℕ) (new : Ex) → ComesFrom s taken k (asked n D L) (Some new) →
       Written n D L (printed_name taken 0) new
-  comes-written s taken k new c =
-      let w = c.1.0 in
-      subst (Written n D L (printed_name taken 0)) (sym w.writes)
-      (forms n D L ax l taken w.last (leads-family k [] (asked n D L) w.last c.0 as_asked w.leads) w.refined)
+  comes-written s taken k new c = written-form taken k c.0 new c.1.0
 
   -- ---- bounds and truth values
 
@@ -108,18 +111,20 @@ module _ (n : Text) (D : Dom) (L : Ex) (ax : Axis D) (l : Literal L) where
   bound-still g e f at_cell (inl r) = makes g e f (bound_part at_cell) r
   bound-still g e f at_cell (inr (fs, q, w)) = absurd w
 
-  bound-leads : (k : ℕ) (g : Names Ty) (old last : Ex) (m : ℕ) → Bound old → Leads IsRuled k g old last m → last ≡ old
+  -- A chain from a bound, or from a truth value, leads to itself.
+  pub bound-leads : (k : ℕ) (g : Names Ty) (old last : Ex) (m : ℕ) → Bound old → Leads IsRuled k g old last m → last ≡ old
   bound-leads k g old last m b (as_it_was p) = refl
   bound-leads k g old last m b (led_at {s = s} {k = j} {a = a} {b = e} c p r w) =
       absurd (bound-still g (fill c a) (fill c e) b (part-step IsRule c g a e (record { n = s; m = j; ruled = r })))
 
-  truth-leads : (k : ℕ) (g : Names Ty) (v : Bool) (old last : Ex) (m : ℕ) → old ≡ truth_ex v → Leads IsRuled k g old last m → last ≡ old
+  pub truth-leads : (k : ℕ) (g : Names Ty) (v : Bool) (old last : Ex) (m : ℕ) → old ≡ truth_ex v → Leads IsRuled k g old last m → last ≡ old
   truth-leads k g v old last m q (as_it_was p) = refl
   truth-leads k g v old last m q (led_at {s = s} {k = j} {a = a} {b = e} c p r w) =
       absurd (subst (λ t. Step IsRule g t (fill c e) → ⊥) (sym q) (λ r. makes g (truth_ex v) (fill c e) (literal_part a_truth) r)
       (part-step IsRule c g a e (record { n = s; m = j; ruled = r })))
 
-written-bound : (taken : List Text) {e : Ex} → Bound e → written_for taken e ≡ e
+-- A bound is written as it is.
+pub written-bound : (taken : List Text) {e : Ex} → Bound e → written_for taken e ≡ e
 written-bound taken at_number = refl
 written-bound taken at_cell = refl
 

@@ -130,7 +130,7 @@ module _ (S : List Stm) (o : Options) (h : are_mixed_statements S o ≡ true) (f
         shape g x c n (inr e) = absurd e
 
     -- So is each table.
-    table-written : (s : Scope) (P : Plan) → In P Ps → PlanFact S o P → is_nested_plan (kinds S) P ≡ false → declared_of sh P ≡ decl P ∷ [] →
+    pub table-written : (s : Scope) (P : Plan) → In P Ps → PlanFact S o P → is_nested_plan (kinds S) P ≡ false → declared_of sh P ≡ decl P ∷ [] →
         (u : TableDecl) → DeclIsWritten s taken sh.next (decl P) u → u ≡ decl P
     table-written s P i (size_fact y n e) k d u w = subst (λ P. DeclIsWritten s taken sh.next (decl P) u → u ≡ decl P) (sym e)
         (λ w. ap (λ z. record { name = z; axes = u.axes; cell = u.cell }) (sym w.0)

@@ -58,7 +58,7 @@ not-atom (of_sets s n) (with_a_marker u w) = refl
 not-atom (of_sets s n) (with_flags u w) = refl
 
 -- What is asked of the tables of a nested set.
-asked-is : (S : List Stm) (o : Options) (x : Text) (r : Repr) (d : Dom) (ns : List Named) → fault S ≡ None → IsNestedFind S o x r d ns →
+pub asked-is : (S : List Stm) (o : Options) (x : Text) (r : Repr) (d : Dom) (ns : List Named) → fault S ≡ None → IsNestedFind S o x r d ns →
     asked_of (shows_of S o) (value_plan finds_side x r d ns) ≡ structure_from r d (keys ns) (shows_of S o).next
 asked-is S o x r d ns f w =
     let n = nested-form 250 d w.nested in

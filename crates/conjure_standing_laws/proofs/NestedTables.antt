@@ -1,5 +1,5 @@
 -- The tables of a representation of nested sets have terms of numerals as bounds.
-use Rattle.std.proofs.Common.{ℕ, Bool, true, false, ◌||◌, if◌then◌else◌, List, [], ◌∷◌, ◌++◌, map, ℤ, pos, codes, Option, Some, None}
+use Rattle.std.proofs.Common.{refl, ℕ, Bool, true, false, ◌||◌, if◌then◌else◌, List, [], ◌∷◌, ◌++◌, map, ℤ, pos, codes, Option, Some, None}
 use Rattle.std.specs.Ordering.{int_cmp}
 use Rattle.std.specs.declared.cmp.Ordering.{Ordering}
 use Rattle.std.specs.declared.cmp.Ordering.TheVariants.{Less, Equal, Greater}
@@ -84,18 +84,18 @@ slots-numerals {ms} {es} d s w =
 -- ---- tables
 
 axis-numerals : {d : Dom} → WrittenAtom d → NumberDom (axis_dom d)
-axis-numerals written_truths = ranges (digits, (digits, tt))
-axis-numerals written_numbers = ranges (digits, (digits, tt))
+axis-numerals written_truths = ranges refl (digits, (digits, tt))
+axis-numerals written_numbers = ranges refl (digits, (digits, tt))
 
 atom-cell : (out : Bool) {d : Dom} → WrittenAtom d → Each (trees_below out (repr ReprKind.Atom no_reprs) d) NumberTable
 atom-cell true written_truths = (record { axes = tt; cell = truths }, tt)
 atom-cell false written_truths = (record { axes = tt; cell = truths }, tt)
-atom-cell true written_numbers = (record { axes = tt; cell = ranges (digits, (digits, (digits, tt))) }, tt)
-atom-cell false written_numbers = (record { axes = tt; cell = ranges (digits, (digits, tt)) }, tt)
+atom-cell true written_numbers = (record { axes = tt; cell = ranges refl (digits, (digits, (digits, tt))) }, tt)
+atom-cell false written_numbers = (record { axes = tt; cell = ranges refl (digits, (digits, tt)) }, tt)
 
 slots-axis : {ms : List Mark} {es : Exs} (d : Dom) → Sizes ms es → OfNumerals (bound_ex d) →
     NumberDom (from_to one_ex (slots_ex (set_dom ms es d)))
-slots-axis d s w = ranges (digits, (slots-numerals d s w, tt))
+slots-axis d s w = ranges refl (digits, (slots-numerals d s w, tt))
 
 -- Tables below a layer.
 below-numerals : (n : Text) (a : Dom) (ts : List TableDecl) → NumberDom a → Each ts NumberTable →
@@ -108,14 +108,14 @@ dummy-cell : (out : Bool) {ms : List Mark} {es : Exs} (a b : ℕ) → Sizes ms e
 dummy-cell true a b s = (
   record {
     axes = (slots-axis (written_range a b) s (atom-bound (written_numbers {a = a} {b = b})), tt);
-    cell = ranges (digits, (digits, (digits, (plus digits digits, tt))));
+    cell = ranges refl (digits, (digits, (digits, (plus digits digits, tt))));
   },
   tt,
 )
 dummy-cell false a b s = (
   record {
     axes = (slots-axis (written_range a b) s (atom-bound (written_numbers {a = a} {b = b})), tt);
-    cell = ranges (digits, (digits, (plus digits digits, tt)));
+    cell = ranges refl (digits, (digits, (plus digits digits, tt)));
   },
   tt,
 )
@@ -129,7 +129,7 @@ kept-tables out (in_slots {ms = ms} {es = es} {r = r} {d = d} s k w) =
     below-numerals (codes "_Explicit") (from_to one_ex (slots_ex (set_dom ms es d))) (trees_below (out || false) r d)
     (slots-axis d s (kept-bound w)) (kept-tables (out || false) w)
 kept-tables out (with_a_marker {ms = ms} {es = es} {r = r} {d = d} s w) = (
-  record { axes = tt; cell = ranges (digits, (slots-numerals d s (kept-bound w), tt)) },
+  record { axes = tt; cell = ranges refl (digits, (slots-numerals d s (kept-bound w), tt)) },
   below-numerals (codes "_ExplicitVarSizeWithMarker_Values") (from_to one_ex (slots_ex (set_dom ms es d))) (trees_below (out || true) r d)
       (slots-axis d s (kept-bound w)) (kept-tables (out || true) w),
 )

@@ -58,7 +58,7 @@ leads-nowhere n g old last k w (led_at {s = s} {k = j} {a = a} {b = b} c p r v) 
 -- ---- what is written
 
 -- Nothing is bound in it.
-told-number : {e : Ex} → OfNumerals e → (k : ℕ) → told e [] k ≡ (e, k)
+pub told-number : {e : Ex} → OfNumerals e → (k : ℕ) → told e [] k ≡ (e, k)
 told-number digits k = refl
 told-number (plus {x = x} {y = y} w v) k =
     ap (λ q. let u : Ex × ℕ = told y [] q.1 in (ex2 false Op2.Plus q.0 u.0, u.1)) (told-number w k)
@@ -114,7 +114,7 @@ printed-number taken (power {x = x} {y = y} w v) =
     ap (λ z. ex2 false Op2.Pow z (printed taken y [])) (printed-number taken w) ∙ ap (ex2 false Op2.Pow x) (printed-number taken v)
 
 -- It is written for itself.
-written-number : (taken : List Text) {e : Ex} → OfNumerals e → written_for taken e ≡ e
+pub written-number : (taken : List Text) {e : Ex} → OfNumerals e → written_for taken e ≡ e
 written-number taken w =
     ap (λ z. printed taken (simplified (keyed nothing_around z)) []) (simple-number w)
     ∙ ap (λ z. printed taken (simplified z) []) (keyed-number w) ∙ ap (λ z. printed taken z []) (simple-number w)

@@ -1,20 +1,21 @@
 -- Tables whose bounds are terms of numerals are declared as they are.
-use Rattle.std.proofs.Common.{◌≡◌, refl, sym, ap, ◌∙◌, ℕ, List, [], ◌∷◌, ◌++◌}
+use Rattle.std.proofs.Common.{◌≡◌, refl, sym, ap, ◌∙◌, ℕ, true, List, [], ◌∷◌, ◌++◌}
 use Rattle.ess_semantics.specs.Values.{Text}
 use Rattle.ess_semantics.specs.Trees.{Ends, Exs, no_exs, more_exs, Dom, bool_dom, int_dom}
 use Rattle.ess_semantics.specs.Contexts.{Each}
 use Rattle.ess_semantics.specs.DeclaredTables.{TableDecl}
 use Rattle.ess_grammar.specs.Models.{Scope}
+use Rattle.ess_grammar.specs.Readable.{fit_ranges}
 use Rattle.conjure_laws.specs.SideBySide.{Along}
 use Rattle.conjure_modelling.specs.ess_model_written.DeclarationsWritten.{BoundsAreWritten, DomIsWritten, DeclIsWritten}
 use Rattle.conjure_modelling.specs.ess_model_written.Coming.{DeclsAreWritten, one_written}
 use Rattle.conjure_standing_laws.proofs.NumberTerms.{AllOfNumerals}
 use Rattle.conjure_standing_laws.proofs.NumberChains.{bound-comes}
 
--- Truth values, or ranges whose bounds are terms of numerals.
+-- Truth values, or ranges with the bounds that they ask for, which are terms of numerals.
 pub data NumberDom : Dom → Type 0 where
   truths : NumberDom bool_dom
-  ranges : {rs : List Ends} {es : Exs} → AllOfNumerals es → NumberDom (int_dom rs es)
+  ranges : {rs : List Ends} {es : Exs} → fit_ranges rs es ≡ true → AllOfNumerals es → NumberDom (int_dom rs es)
 
 -- Each domain of the table is such.
 pub record NumberTable (t : TableDecl) : Type 0 where
@@ -32,10 +33,10 @@ module _ (s : Scope) (taken : List Text) (k : ℕ) where
   -- Such a domain is written for itself.
   pub dom-written : {d : Dom} (e : Dom) → NumberDom d → DomIsWritten s taken k d e → e ≡ d
   dom-written bool_dom truths v = refl
-  dom-written (int_dom ss fs) (ranges {rs = rs} {es = es} w) v =
+  dom-written (int_dom ss fs) (ranges {rs = rs} {es = es} r w) v =
       ap (λ z. int_dom z fs) (sym v.0) ∙ ap (int_dom rs) (bounds-written es fs w v.1)
   dom-written e truths v = absurd v
-  dom-written e (ranges w) v = absurd v
+  dom-written e (ranges r w) v = absurd v
 
   axes-written : (ds es : List Dom) → Each ds NumberDom → Along ds es (DomIsWritten s taken k) → es ≡ ds
   axes-written [] [] w v = refl

@@ -1,18 +1,20 @@
--- Something comes of each constraint and each objective over scalars, ranges and nested sets, unless 2,000,000 rules fire: over tables it
--- is a tree over views, rules lead to such trees alone, and where none fires any more nothing abstract is left.
-use Rattle.std.proofs.Common.{◌≡◌, sym, subst, ℕ, ◌≤◌, ◌^◌, Bool, true, false, List, Option}
+-- Something comes of each constraint and each objective over scalars, ranges and nested sets: over tables it is a tree over views, rules
+-- lead to such trees alone, and where none fires any more nothing abstract is left.
+use Rattle.std.proofs.Common.{◌≡◌, subst, ℕ, ◌<◌, ◌^◌, Bool, true, false, List, [], Option, arith}
 use Rattle.ess_semantics.specs.Values.{Text}
 use Rattle.ess_semantics.specs.Trees.{Ex, truth_ex}
 use Rattle.ess_grammar.specs.Models.{Scope}
-use Rattle.ess_seen_laws.specs.Seen.{Kind, counted_axes, truth}
+use Rattle.eprime_lowering_laws.specs.Lowerable.{is_lowerable}
+use Rattle.ess_seen_laws.specs.Seen.{Kind, counted_axes, Seen, truth}
 use Rattle.ess_lowered_laws.specs.Laws.{Declares, SeenTreesAreLowered}
 use Rattle.ess_mixed_models_laws.specs.ess_setwise_laws.Setwise.{setwise_mark}
 use Rattle.ess_mixed_models_laws.specs.ess_setwise_laws.Laws.{IsSeenOverTables, SetwiseTreesAreSeen}
 use Rattle.ess_mixed_models_laws.specs.ess_setwise_laws.Objectives.{SetwiseNumbersAreThere}
 use Rattle.conjure_model_laws.specs.Shown.{Shows}
 use Rattle.conjure_model_laws.specs.IsBuiltFrom.{constraint_tree}
-use Rattle.conjure_modelling.specs.ess_model_trees.Written.{next_behind, IsNotWrittenBy, given_up, not_lowered}
-use Rattle.ess_seen_settled_laws.specs.ManyRules.{FiresMany}
+use Rattle.conjure_modelling.specs.ess_rules.Ruled.{IsRuled}
+use Rattle.conjure_modelling.specs.ess_refine.Chains.{Leads}
+use Rattle.conjure_modelling.specs.ess_model_trees.Written.{next_behind, IsNotWrittenBy, stuck, unlowered}
 use Rattle.ess_seen_settled_laws.specs.Laws.{SettledTreesAreRefined}
 use Rattle.conjure_standing_laws.specs.SeenLaws.{IsSeenWhole, SeenTreesStaySeen}
 use Rattle.conjure_standing_laws.proofs.SetwiseObjectives.{mark-is}
@@ -23,13 +25,20 @@ no-both {b = true} h k = cc
 no-both {b = false} h k = cc
 
 module _ (stay : SeenTreesStaySeen) (settled : SettledTreesAreRefined) (lowered : SeenTreesAreLowered) where
-  -- Nothing comes of a tree over views only after very many rules.
-  many-fire : (cells : Text → Option (Bool × List ℕ)) (taken : List Text) (s : Scope) (n k : ℕ) (old : Ex) (m : Bool) →
-      IsSeenWhole cells n old m → Declares s (counted_axes cells) → k ≤ 2 ^ 64 → IsNotWrittenBy s taken n old k → FiresMany n old
-  many-fire cells taken s n k old m w d top (given_up last leads g) =
-      settled.given_up cells n k old last m (stay cells n k old last m w leads top).whole.seen g
-  many-fire cells taken s n k old m w d top (not_lowered last leads r h) =
-      absurd (no-both (lowered.lowered cells taken last m (stay cells n k old last m w leads top).whole.seen r s d) h)
+  -- Where rules lead from a tree over views, with few names, is such a tree.
+  last-seen : (cells : Text → Option (Bool × List ℕ)) (n k : ℕ) (old last : Ex) (m : Bool) → IsSeenWhole cells n old m →
+      Leads IsRuled n [] old last k → k < 2 ^ 62 → Seen cells [] last m
+  last-seen cells n k old last m w leads few = (stay cells n k old last m w leads (omega (arith, few))).whole.seen
+
+  -- So something comes of it.
+  comes : (cells : Text → Option (Bool × List ℕ)) (taken : List Text) (s : Scope) (n k : ℕ) (old : Ex) (m : Bool) →
+      IsSeenWhole cells n old m → Declares s (counted_axes cells) → IsNotWrittenBy s taken n old k → ⊥
+  comes cells taken s n k old m w d (stuck v) =
+      settled.not_given_up cells k v.last m (last-seen cells n k old v.last m w v.leads v.few) v.given_up
+  comes cells taken s n k old m w d (unlowered v) =
+      let u = v.written in
+      no-both (lowered.lowered cells taken u.last m (last-seen cells n k old u.last m w u.leads u.few) u.refined s d)
+      (subst (λ x. is_lowerable s x ≡ false) u.writes v.not_lowerable)
 
   -- The tree of a constraint, or of an objective, over tables.
   whole-of : (sh : Shows) (marks : Text → Option Bool) (sets : Text → Option Kind) (cells : Text → Option (Bool × List ℕ)) (e : Ex)
@@ -42,19 +51,17 @@ module _ (stay : SeenTreesStaySeen) (settled : SettledTreesAreRefined) (lowered 
 
   pub setwise-comes-by : SetwiseTreesAreSeen → SetwiseNumbersAreThere → SetwiseTreesCome
   setwise-comes-by seen there = record {
-    of_constraints = λ sh marks sets cells h e m t low taken s d c top.
-        many-fire cells taken s (next_behind sh e) c.0 (constraint_tree sh e) m
-        (whole-of sh marks sets cells e m (seen sh marks sets cells h e m t low)) d top c.1;
-    of_objectives = λ sh marks sets cells h e t low taken s d c top.
+    of_constraints = λ sh marks sets cells h e m t low taken s d c.
+        comes cells taken s (next_behind sh e) c.0 (constraint_tree sh e) m
+        (whole-of sh marks sets cells e m (seen sh marks sets cells h e m t low)) d c.1;
+    of_objectives = λ sh marks sets cells h e t low taken s d c.
         let z = there sh marks sets cells h e t low in
         let u = mark-is (setwise_mark marks sets e) t in
-        subst (FiresMany (next_behind sh e)) (sym z.tree)
-        (many-fire cells taken s (next_behind sh e) c.0 (constraint_tree sh e) false
-        (whole-of sh marks sets cells e false (seen sh marks sets cells h e false u low)) d top
-        (subst (λ x. IsNotWrittenBy s taken (next_behind sh e) x c.0) z.tree c.1));
-    of_conditions = λ sh marks sets cells h e t low taken s d c top.
+        comes cells taken s (next_behind sh e) c.0 (constraint_tree sh e) false
+        (whole-of sh marks sets cells e false (seen sh marks sets cells h e false u low)) d
+        (subst (λ x. IsNotWrittenBy s taken (next_behind sh e) x c.0) z.tree c.1);
+    of_conditions = λ sh marks sets cells h e t low taken s d c.
         let z = there sh marks sets cells h e t low in
-        subst (FiresMany (next_behind sh e)) (sym z.condition)
-        (many-fire cells taken s (next_behind sh e) c.0 (truth_ex true) true (truth-whole cells (next_behind sh e)) d top
-        (subst (λ x. IsNotWrittenBy s taken (next_behind sh e) x c.0) z.condition c.1));
+        comes cells taken s (next_behind sh e) c.0 (truth_ex true) true (truth-whole cells (next_behind sh e)) d
+        (subst (λ x. IsNotWrittenBy s taken (next_behind sh e) x c.0) z.condition c.1);
   }

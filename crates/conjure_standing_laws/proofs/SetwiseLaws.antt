@@ -21,7 +21,7 @@ pub setwise-objectives-stand : SetwiseObjectivesStand
 setwise-objectives-stand =
     setwise-objectives-by seen-trees-stay-seen ended-trees-are-written setwise-trees-are-seen setwise-numbers-are-there depths-are-bounded
 
--- Something comes of each constraint, and of each objective, unless very many rules fire.
+-- Something comes of each constraint, and of each objective.
 pub setwise-trees-come : SetwiseTreesCome
 setwise-trees-come =
     setwise-comes-by seen-trees-stay-seen

@@ -37,7 +37,7 @@ use Rattle.conjure_modelling.specs.ess_model_written.RulesWritten.{ConstraintCom
 use Rattle.conjure_standing_laws.specs.SeenLaws.{IsSeenWhole, StaysSeen, SeenTreesStaySeen}
 use Rattle.conjure_standing_laws.specs.SetwiseLaws.{HaveSets, SetwiseRulesStand}
 
-mark-is : (o : Option Bool) → is_mark true o ≡ true → o ≡ Some true
+pub mark-is : (o : Option Bool) → is_mark true o ≡ true → o ≡ Some true
 mark-is (Some true) q = refl
 mark-is (Some false) q = cc
 mark-is None q = cc

@@ -11,7 +11,7 @@ ghost use Rattle.conjure_standing_laws.specs.MemberLaws.{BuiltModelsOfSetsAreRig
 ghost use Rattle.conjure_standing_laws.specs.MixedLaws.{BuiltMixedModelsAreRight};
 ghost use Rattle.conjure_standing_laws.specs.Laws.{FlatTextsAreMixed, WrittenMixedModelsStand};
 ghost use Rattle.conjure_standing_laws.specs.Laws.{WrittenModelsOfScalarsStand, WrittenModelsOfSetsStand};
-ghost use Rattle.conjure_standing_laws.specs.ComingLaws.{FlatSpecificationsLackNothing, FlatTextsHaveModels};
+ghost use Rattle.conjure_standing_laws.specs.ComingLaws.{FlatSpecificationsLackNothing, FlatTextsHaveModels, MixedPartsCome};
 
 /// Rules lead from bare trees to bare trees that mean the same.
 pub fn bare_trees_stay_bare()
@@ -33,7 +33,7 @@ pub fn setwise_objectives_stand()
     ensures { SetwiseObjectivesStand }
 {}
 
-/// Something comes of each constraint and each objective over scalars, ranges and nested sets, unless 2,000,000 rules fire for its tree.
+/// Something comes of each constraint and each objective over scalars, ranges and nested sets.
 pub fn setwise_trees_come()
     ensures { SetwiseTreesCome }
 {}
@@ -91,6 +91,11 @@ pub fn flat_specifications_lack_nothing()
 /// A model is written for each text of a specification of scalars with flat and total constraints: none is answered as not supported yet.
 pub fn flat_texts_have_models()
     ensures { FlatTextsHaveModels }
+{}
+
+/// Each part of the model of a specification of scalars and sets can be written.
+pub fn mixed_parts_come()
+    ensures { MixedPartsCome }
 {}
 
 /// Texts of specifications of scalars are texts of scalars and sets.

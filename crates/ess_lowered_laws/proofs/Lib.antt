@@ -16,5 +16,8 @@ pub mod Written
 pub mod Ended
 pub mod Flat
 pub mod Seen
+-- Ranges of parts, and of trees whose names are told apart
+pub mod PartRanges
+pub mod ToldRanges
 -- Worked examples
 mod ExamplesLowered

@@ -1,0 +1,4 @@
+-- Folds over the domain are refined
+pub mod Folds
+-- Settled trees
+pub mod Settled

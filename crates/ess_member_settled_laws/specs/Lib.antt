@@ -1,0 +1,2 @@
+-- The law of trees of a membership
+pub mod Laws
