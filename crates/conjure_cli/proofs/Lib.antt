@@ -26,6 +26,7 @@ pub mod TranslatingLaws
 pub mod TranslationTexts
 pub mod TranslationLaws
 pub mod RefiningLaws
+pub mod TakenLists
 pub mod TextLaws
 pub mod WholeLaws
 pub mod TestingLaws

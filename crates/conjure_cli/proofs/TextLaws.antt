@@ -23,7 +23,9 @@ use Rattle.conjure_cli.specs.Runs.{outcome_status}
 use Rattle.conjure_cli.specs.declared.ending.Ending.{Ending}
 use Rattle.conjure_cli.specs.declared.ending.Ending.TheVariants.{Done, Usage, Missing, Unreadable, TooLong, NotYet, Unwritable, OutputFailed, NoMemory}
 use Rattle.conjure_cli.specs.declared.outcome.Outcome.{Outcome}
+use Rattle.conjure_standing_laws.proofs.FlatTextsCome.{flat-texts-have-models}
 use Rattle.conjure_cli.proofs.DecidedLaws.{good_essence}
+use Rattle.conjure_cli.proofs.TakenLists.{list-not-taken}
 
 -- what is read of a told tree
 of_read : (tree : Option Tree) (file : List ℕ) (P Q : List ℕ → Type 0) → ReadGives tree file P → ((text : List ℕ) → P text → Q text)
@@ -117,6 +119,7 @@ done_decides list status text is given = record {
       let m = not_small list text given.1.0 small given.1.1 in
       absurd (none (subst (λ T. TakesList T list) (one_essence text m.0 S m.1 ess) (m.2.o, m.2.options)));
   taken = λ short small S ess. inl is;
+  has_model = λ short flat S ess list. inl is;
 }
 
 not_yet_decides : (list : Option (List ℕ)) (status : ℕ) (text : List ℕ) → status ≡ 3 → IsUnreadable list ModelNo.NotYet text
@@ -127,6 +130,7 @@ not_yet_decides list status text is given = record {
   refused = λ short small none. inl is;
   unlisted = λ short small S ess none. inl is;
   taken = λ short small S ess. inr (inl is);
+  has_model = λ short flat S ess takes. absurd (flat-texts-have-models text list flat given.1.1);
 }
 
 item_decides : (list : Option (List ℕ)) (k status : ℕ) (text : List ℕ) → status ≡ 3 → IsUnreadable list (ModelNo.BadRepresentation k) text
@@ -137,6 +141,9 @@ item_decides list k status text is given = record {
   refused = λ short small none. inl is;
   unlisted = λ short small S ess none. inl is;
   taken = λ short small S ess. inr (inl is);
+  has_model = λ short flat S ess takes.
+      let bad = given.1.1 in
+      absurd (list-not-taken bad.0 list k (subst (λ T. TakesList T list) (one_essence text S bad.0 ess bad.1) takes) bad.2);
 }
 
 refused_decides : (list : Option (List ℕ)) (why : TransNo) (status : ℕ) (text : List ℕ) → status ≡ refusal_status why
@@ -148,6 +155,7 @@ refused_decides list why status text is given = record {
       elim (three_five text why given.1.1.0 given.1.1.1) [ inl h ↦ inl (is ∙ h) | inr h ↦ inr (inl (is ∙ h)) ];
   unlisted = λ short small S ess none. absurd (good_essence text S why ess (told why given.1.1.1) given.1.1.0);
   taken = λ short small S ess. absurd (good_essence text S why ess (told why given.1.1.1) given.1.1.0);
+  has_model = λ short flat S ess takes. absurd (good_essence text S why ess (told why given.1.1.1) given.1.1.0);
 }
 
 long_decides : (list : Option (List ℕ)) (status : ℕ) (text : List ℕ) → status ≡ 5 → length text ≡ limit + 1 → IsDecided list status text
@@ -157,6 +165,7 @@ long_decides list status text is long = record {
   refused = λ short small none. absurd (omega (arith, long, short));
   unlisted = λ short small S ess none. absurd (omega (arith, long, short));
   taken = λ short small S ess. absurd (omega (arith, long, short));
+  has_model = λ short flat S ess takes. absurd (omega (arith, long, short));
 }
 
 six_decides_text : (list : Option (List ℕ)) (status : ℕ) (text : List ℕ) → status ≡ 6 → IsDecided list status text
@@ -166,6 +175,7 @@ six_decides_text list status text is = record {
   refused = λ _ _ _. inr (inr is);
   unlisted = λ _ _ _ _ _. inr is;
   taken = λ _ _ _ _. inr (inr is);
+  has_model = λ _ _ _ _ _. inr is;
 }
 
 -- ---- what a run says

@@ -7,6 +7,7 @@ use Rattle.ess_semantics.specs.Trees.{Stm}
 use Rattle.ess_translate.specs.Answers.{IsEssence}
 use Rattle.conjure_modelling.specs.declared.refusal.ModelNo.{ModelNo}
 use Rattle.conjure_modelling.specs.Modelled.{TakesList}
+use Rattle.conjure_standing_laws.specs.Standing.{IsFlatText}
 use Rattle.conjure_cli.specs.Whole.{IsSmallWay, IsModelFor, IsUnmodelledFor}
 use Rattle.conjure_cli.specs.Seen.{FilesSeen, SinkSeen, limit, ReadGives, IsAbsent, LeavesLine}
 use Rattle.conjure_cli.specs.declared.ending.Ending.{Ending}
@@ -117,7 +118,8 @@ MissingIsFour status file before after =
 
 -- Where a told tree has the file and no fault came: the status is 5 where more is read than the limit; 0 where the text is one of the
 -- small grammar and no list of representations is given; else 3 or 5 where it is no well typed specification; else 3 where the list
--- isn't taken; else 0, or 3 where a part of the model can't be written yet. In place of each, 6 may come.
+-- isn't taken; else 0, or 3 where a part of the model can't be written yet, which is never so of a text of scalars with flat and
+-- total constraints. In place of each, 6 may come.
 pub record IsDecided (list : Option (List ℕ)) (status : ℕ) (text : List ℕ) : Type 0 where
   pub long : length text ≡ limit + 1 → (status ≡ 5) ⊎ (status ≡ 6)
   pub small : length text ≤ limit → IsSmallWay list text → (status ≡ 0) ⊎ (status ≡ 6)
@@ -127,6 +129,8 @@ pub record IsDecided (list : Option (List ℕ)) (status : ℕ) (text : List ℕ)
       → (status ≡ 3) ⊎ (status ≡ 6)
   pub taken : length text ≤ limit → (¬ IsSmallWay list text) → (S : List Stm) → IsEssence text S
       → (status ≡ 0) ⊎ (status ≡ 3) ⊎ (status ≡ 6)
+  pub has_model : length text ≤ limit → IsFlatText list text → (S : List Stm) → IsEssence text S → TakesList S list
+      → (status ≡ 0) ⊎ (status ≡ 6)
 
 abbrev pub TextDecides : ℕ → Option (List ℕ) → List ℕ → FilesSeen → FilesSeen → SinkSeen → SinkSeen → Type 0
 TextDecides status list file before after out_before out_after =
